@@ -1,0 +1,5 @@
+pub mod Outside
+pub mod Stored
+pub mod Faults
+pub mod Memory
+pub mod Real

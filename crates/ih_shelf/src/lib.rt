@@ -1,0 +1,21 @@
+//! The outside: files by name, a sink of bytes, and a gate that workers pass.
+#![tactic(auto)]
+
+mod faults;
+mod gate;
+mod memory;
+mod never_fails;
+mod outside;
+mod real;
+mod sink;
+mod stored;
+#[cfg(test)]
+mod tests;
+mod transfer;
+
+pub use gate::OpenGate;
+pub use memory::MemShelf;
+pub use never_fails::NeverFails;
+pub use outside::{Gate, ReadError, Shelf, Sink, WriteError};
+pub use real::{FileShelf, OutSink};
+pub use sink::MemSink;

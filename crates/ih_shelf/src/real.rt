@@ -1,0 +1,145 @@
+//! Real files and standard output: the edges that are trusted.
+
+ghost use Rattle.std.specs.Prelude.{◌≤◌, IfOk, vec_len};
+
+use crate::outside::{ReadError, Shelf, Sink, WriteError};
+use crate::transfer::{read_within, write_whole};
+use std::alloc::Global;
+use std::marker::Model;
+use std::rt::Files;
+use std::{fs, io};
+
+fn read_file<R: Files>(rt: &R, alloc: Global, name: &str, limit: u64) -> Result<Vec<u8>, ReadError>
+    ensures { IfOk result (λ v. vec_len v ≤ limit) }
+{
+    let mut file = fs::open(rt, name).map_err(|_| ReadError::Fault)?;
+    read_within(&mut file, alloc, limit)
+}
+
+fn write_file<R: Files>(rt: &R, name: &str, bytes: &[u8]) -> Result<(), WriteError> {
+    let mut file = fs::create(rt, name).map_err(|_| WriteError::Fault)?;
+    write_whole(&mut file, bytes)
+}
+
+/// Real files. It tells nothing of what they hold, and counts each failure of the file system.
+#[derive(Drop)]
+pub struct FileShelf {
+    read_faults: u64,
+    write_faults: u64,
+}
+
+impl Model for FileShelf {
+    ghost use Rattle.ih_shelf.specs.Real.{FaultCounts};
+
+    ghost Value = { FaultCounts };
+
+    ghost view = { λ s. record { reads = s.read_faults; writes = s.write_faults } };
+}
+
+impl FileShelf {
+    ghost use Rattle.std.specs.Prelude.{◌≡◌};
+
+    pub fn new() -> FileShelf
+        ensures { result ≡ record { reads = 0; writes = 0 } }
+    {
+        FileShelf {
+            read_faults: 0,
+            write_faults: 0,
+        }
+    }
+}
+
+impl Shelf for FileShelf {
+    ghost use Rattle.std.specs.Prelude.{◌≡◌, ◌≢◌, ◌≤◌, None, IfOk, OnErr, OnOk, vec_len};
+    ghost use Rattle.ih_shelf.specs.Outside.{raised};
+
+    ghost names = { λ s. None };
+
+    ghost read_faults = { λ s. s.reads };
+
+    ghost write_faults = { λ s. s.writes };
+
+    fn read<R: Files>(
+        &mut self,
+        rt: &R,
+        alloc: Global,
+        name: &str,
+        limit: u64,
+    ) -> Result<Vec<u8>, ReadError>
+        ensures fault { result ≡ Err ReadError.Fault →
+            self.new ≡ record self.old { reads = raised self.old.reads } }
+        ensures other { result ≢ Err ReadError.Fault → self.new ≡ self.old }
+
+        // What every shelf promises.
+        ensures limit { IfOk result (λ v. vec_len v ≤ limit) }
+        ensures count { self.old.reads ≤ self.new.reads }
+    {
+        let result = read_file(rt, alloc, name, limit);
+        if let Err(ReadError::Fault) = result {
+            self.read_faults = self.read_faults.saturating_add(1);
+        }
+        result
+    }
+
+    fn write<R: Files>(&mut self, rt: &R, name: &str, bytes: &[u8]) -> Result<(), WriteError>
+        ensures ok { OnOk result (self.new ≡ self.old) }
+        ensures err { OnErr result
+            (self.new ≡ record self.old { writes = raised self.old.writes }) }
+
+        // What every shelf promises.
+        ensures count { self.old.writes ≤ self.new.writes }
+    {
+        let result = write_file(rt, name, bytes);
+        if result.is_err() {
+            self.write_faults = self.write_faults.saturating_add(1);
+        }
+        result
+    }
+}
+
+/// Standard output. It tells nothing of what it was given, and counts each failure.
+#[derive(Drop)]
+pub struct OutSink {
+    faults: u64,
+}
+
+impl Model for OutSink {
+    ghost use Rattle.std.specs.Prelude.{ℕ};
+
+    ghost Value = { ℕ };
+
+    ghost view = { λ s. s.faults };
+}
+
+impl OutSink {
+    ghost use Rattle.std.specs.Prelude.{◌≡◌};
+
+    pub fn new() -> OutSink
+        ensures { result ≡ 0 }
+    {
+        OutSink { faults: 0 }
+    }
+}
+
+impl Sink for OutSink {
+    ghost use Rattle.std.specs.Prelude.{◌≡◌, ◌≤◌, None, OnErr, OnOk};
+    ghost use Rattle.ih_shelf.specs.Outside.{raised};
+
+    ghost text = { λ s. None };
+
+    ghost faults = { λ s. s };
+
+    fn put<R: Print>(&mut self, rt: &R, bytes: &[u8]) -> Result<(), WriteError>
+        ensures ok { OnOk result (self.new ≡ self.old) }
+        ensures err { OnErr result (self.new ≡ raised self.old) }
+
+        // What every sink promises.
+        ensures count { self.old ≤ self.new }
+    {
+        let result = write_whole(&mut io::writer(rt), bytes);
+        if result.is_err() {
+            self.faults = self.faults.saturating_add(1);
+        }
+        result
+    }
+}
