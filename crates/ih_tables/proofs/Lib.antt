@@ -1,0 +1,4 @@
+pub mod BillLemmas
+pub mod DistinctLemmas
+pub mod IndexLemmas
+pub mod LoadLemmas

@@ -1,0 +1,6 @@
+pub mod Bills
+pub mod Lookups
+pub mod Places
+pub mod Sizes
+pub mod Valid
+pub mod Works

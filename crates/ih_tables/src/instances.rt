@@ -1,0 +1,246 @@
+//! A valid instance, with the tables by which its names and loads are found.
+
+ghost use Rattle.std.specs.Prelude.{◌≡◌, map};
+ghost use Rattle.ih_tables.specs.declared.drafts.Room.{Room};
+ghost use Rattle.ih_tables.specs.declared.drafts.Nurse.{Nurse};
+ghost use Rattle.ih_tables.specs.declared.drafts.Patient.{Patient};
+ghost use Rattle.ih_tables.specs.declared.drafts.Theatre.{Theatre};
+ghost use Rattle.ih_tables.specs.Lookups.{IsIndexOf};
+ghost use Rattle.ih_tables.specs.Valid.{IsValid};
+ghost use Rattle.ih_tables.specs.Works.{load_table};
+
+use crate::bills::Weights;
+use crate::drafts::{Draft, Nurse, Occupant, Patient, Room, Surgeon, Theatre};
+use crate::ids::{NurseNo, PatientNo, RoomNo, Shift, SurgeonNo, TheatreNo};
+use crate::lists::List;
+use crate::loads::load_table;
+use crate::lookups::{Names, numbers_of};
+use crate::names::Name;
+use std::alloc::{AllocError, Global};
+
+/// An instance whose data is valid. It never changes, and threads share it.
+#[derive(Drop)]
+pub struct Instance {
+    pub draft: Draft,
+    patient_numbers: Names,
+    room_numbers: Names,
+    nurse_numbers: Names,
+    theatre_numbers: Names,
+    shift_type_numbers: Names,
+    loads: List<Option<u32>>,
+    pub ghost valid: { IsValid draft },
+    ghost patients_found: { IsIndexOf patient_numbers (map (λ (p : Patient). p.id) draft.patients) },
+    ghost rooms_found: { IsIndexOf room_numbers (map (λ (r : Room). r.id) draft.rooms) },
+    ghost nurses_found: { IsIndexOf nurse_numbers (map (λ (n : Nurse). n.id) draft.nurses) },
+    ghost theatres_found: { IsIndexOf theatre_numbers (map (λ (t : Theatre). t.id) draft.operating_theaters) },
+    ghost shift_types_found: { IsIndexOf shift_type_numbers draft.shift_types },
+    ghost loads_listed: { loads ≡ load_table draft },
+}
+
+impl Instance {
+    ghost use Rattle.std.specs.Prelude.{◌≡◌, ◌<◌, ◌*◌, ◌+◌, Some, IfOk, slice_get};
+    ghost use Rattle.ih_tables.specs.Sizes.{patient_count, occupant_count, room_count, nurse_count, surgeon_count, theatre_count, person_count, shift_count};
+    ghost use Rattle.ih_tables.specs.Works.{max_load};
+    ghost use Rattle.std.specs.Prelude.{option_map, map};
+    ghost use Rattle.ih_tables.specs.Lookups.{number_in};
+    ghost use Rattle.ih_tables.specs.declared.drafts.Room.{Room};
+    ghost use Rattle.ih_tables.specs.declared.drafts.Nurse.{Nurse};
+    ghost use Rattle.ih_tables.specs.declared.drafts.Patient.{Patient};
+    ghost use Rattle.ih_tables.specs.declared.drafts.Theatre.{Theatre};
+
+    /// The instance with the data of a valid draft.
+    pub fn seal(alloc: Global, draft: Draft) -> Result<Instance, AllocError>
+        requires { IsValid draft }
+        ensures { IfOk result (λ i. i.draft ≡ draft) }
+    {
+        let patient_numbers = numbers_of(alloc, draft.patients.as_slice())?;
+        let room_numbers = numbers_of(alloc, draft.rooms.as_slice())?;
+        let nurse_numbers = numbers_of(alloc, draft.nurses.as_slice())?;
+        let theatre_numbers = numbers_of(alloc, draft.operating_theaters.as_slice())?;
+        let shift_type_numbers = numbers_of(alloc, draft.shift_types.as_slice())?;
+        let loads = load_table(alloc, &draft)?;
+        Ok(Instance {
+            draft,
+            patient_numbers,
+            room_numbers,
+            nurse_numbers,
+            theatre_numbers,
+            shift_type_numbers,
+            loads,
+        })
+    }
+
+    /// The number of the patient of this id, if there is one.
+    pub fn find_patient(&self, id: &str) -> Option<PatientNo>
+        ensures { option_map (λ p. p.0) result
+            ≡ number_in (map (λ (p : Patient). p.id) self.now.draft.patients) id.now }
+    {
+        self.patient_numbers.find(id).map(PatientNo)
+    }
+
+    /// The number of the room of this id, if there is one.
+    pub fn find_room(&self, id: &str) -> Option<RoomNo>
+        ensures { option_map (λ r. r.0) result
+            ≡ number_in (map (λ (r : Room). r.id) self.now.draft.rooms) id.now }
+    {
+        self.room_numbers.find(id).map(RoomNo)
+    }
+
+    /// The number of the operating theatre of this id, if there is one.
+    pub fn find_theatre(&self, id: &str) -> Option<TheatreNo>
+        ensures { option_map (λ t. t.0) result
+            ≡ number_in (map (λ (t : Theatre). t.id) self.now.draft.operating_theaters) id.now }
+    {
+        self.theatre_numbers.find(id).map(TheatreNo)
+    }
+
+    /// The number of the nurse of this id, if there is one.
+    pub fn find_nurse(&self, id: &str) -> Option<NurseNo>
+        ensures { option_map (λ n. n.0) result
+            ≡ number_in (map (λ (n : Nurse). n.id) self.now.draft.nurses) id.now }
+    {
+        self.nurse_numbers.find(id).map(NurseNo)
+    }
+
+    /// The number of the shift type of this name, if there is one: 0 to 2.
+    pub fn find_shift_type(&self, id: &str) -> Option<u32>
+        ensures { result ≡ number_in self.now.draft.shift_types id.now }
+    {
+        self.shift_type_numbers.find(id)
+    }
+
+    /// The name of a shift type.
+    pub fn shift_type(&self, number: u32) -> &Name
+        requires { number < 3 }
+        ensures { slice_get self.now.draft.shift_types number ≡ Some result.now }
+    {
+        &self.draft.shift_types.as_slice()[number as usize]
+    }
+
+    /// The days of the horizon.
+    pub fn days(&self) -> u32
+        ensures { result ≡ self.now.draft.days }
+    {
+        self.draft.days
+    }
+
+    /// How many patients there are.
+    pub fn patients(&self) -> u32
+        ensures { result ≡ patient_count self.now.draft }
+    {
+        self.draft.patients.as_slice().len() as u32
+    }
+
+    /// How many occupants there are.
+    pub fn occupants(&self) -> u32
+        ensures { result ≡ occupant_count self.now.draft }
+    {
+        self.draft.occupants.as_slice().len() as u32
+    }
+
+    /// How many patients and occupants there are.
+    pub fn persons(&self) -> u32
+        ensures { result ≡ person_count self.now.draft }
+    {
+        (self.draft.patients.as_slice().len() + self.draft.occupants.as_slice().len()) as u32
+    }
+
+    /// The shifts of the horizon: three a day.
+    pub fn shifts(&self) -> u32
+        ensures { result ≡ shift_count self.now.draft }
+    {
+        3 * self.draft.days
+    }
+
+    /// The weights of the costs.
+    pub fn weights(&self) -> &Weights
+        ensures { result.now ≡ self.now.draft.weights }
+    {
+        &self.draft.weights
+    }
+
+    /// A patient's data.
+    pub fn patient(&self, p: PatientNo) -> &Patient
+        requires { p.0 < patient_count self.now.draft }
+        ensures { slice_get self.now.draft.patients p.0 ≡ Some result.now }
+    {
+        &self.draft.patients.as_slice()[p.0 as usize]
+    }
+
+    /// An occupant's data; occupants are numbered from 0 among themselves.
+    pub fn occupant(&self, o: u32) -> &Occupant
+        requires { o < occupant_count self.now.draft }
+        ensures { slice_get self.now.draft.occupants o ≡ Some result.now }
+    {
+        &self.draft.occupants.as_slice()[o as usize]
+    }
+
+    /// How many rooms there are.
+    pub fn rooms(&self) -> u32
+        ensures { result ≡ room_count self.now.draft }
+    {
+        self.draft.rooms.as_slice().len() as u32
+    }
+
+    /// A room's data.
+    pub fn room(&self, r: RoomNo) -> &Room
+        requires { r.0 < room_count self.now.draft }
+        ensures { slice_get self.now.draft.rooms r.0 ≡ Some result.now }
+    {
+        &self.draft.rooms.as_slice()[r.0 as usize]
+    }
+
+    /// A nurse's data.
+    pub fn nurse(&self, n: NurseNo) -> &Nurse
+        requires { n.0 < nurse_count self.now.draft }
+        ensures { slice_get self.now.draft.nurses n.0 ≡ Some result.now }
+    {
+        &self.draft.nurses.as_slice()[n.0 as usize]
+    }
+
+    /// How many nurses there are.
+    pub fn nurses(&self) -> u32
+        ensures { result ≡ nurse_count self.now.draft }
+    {
+        self.draft.nurses.as_slice().len() as u32
+    }
+
+    /// How many surgeons there are.
+    pub fn surgeons(&self) -> u32
+        ensures { result ≡ surgeon_count self.now.draft }
+    {
+        self.draft.surgeons.as_slice().len() as u32
+    }
+
+    /// How many operating theatres there are.
+    pub fn theatres(&self) -> u32
+        ensures { result ≡ theatre_count self.now.draft }
+    {
+        self.draft.operating_theaters.as_slice().len() as u32
+    }
+
+    /// A surgeon's data.
+    pub fn surgeon(&self, s: SurgeonNo) -> &Surgeon
+        requires { s.0 < surgeon_count self.now.draft }
+        ensures { slice_get self.now.draft.surgeons s.0 ≡ Some result.now }
+    {
+        &self.draft.surgeons.as_slice()[s.0 as usize]
+    }
+
+    /// An operating theatre's data.
+    pub fn theatre(&self, t: TheatreNo) -> &Theatre
+        requires { t.0 < theatre_count self.now.draft }
+        ensures { slice_get self.now.draft.operating_theaters t.0 ≡ Some result.now }
+    {
+        &self.draft.operating_theaters.as_slice()[t.0 as usize]
+    }
+
+    /// The maximum load of a nurse in a shift; none exactly where the nurse doesn't work it.
+    pub fn works(&self, n: NurseNo, k: Shift) -> Option<u32>
+        requires nurse { n.0 < nurse_count self.now.draft }
+        requires shift { k.0 < shift_count self.now.draft }
+        ensures { result ≡ max_load self.now.draft n.0 k.0 }
+    {
+        self.loads.as_slice()[n.0 as usize * self.shifts() as usize + k.0 as usize]
+    }
+}

@@ -1,0 +1,29 @@
+//! The tables of an instance: ids, the instance itself, bills, cells and refusals.
+#![tactic(auto)]
+
+mod bills;
+mod cells;
+mod checks;
+mod drafts;
+mod ids;
+mod instances;
+mod listed;
+mod lists;
+mod loads;
+mod lookups;
+mod names;
+mod places;
+mod refusals;
+#[cfg(test)]
+mod tests;
+mod validity;
+
+pub use bills::{Bill, Weights};
+pub use cells::Cell;
+pub use drafts::{Draft, Nurse, Occupant, Patient, Room, Surgeon, Theatre, WorkedShift};
+pub use ids::{Day, NurseNo, PatientNo, PersonNo, RoomNo, Shift, SurgeonNo, TheatreNo};
+pub use instances::Instance;
+pub use lists::List;
+pub use lookups::Names;
+pub use names::Name;
+pub use refusals::{Fault, Key, Place, Refusal, Step};

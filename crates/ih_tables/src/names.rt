@@ -1,0 +1,35 @@
+//! A text that contracts see as its bytes.
+
+use std::marker::Model;
+
+/// A `String` that contracts see as its bytes.
+#[derive(Drop)]
+pub struct Name {
+    text: String,
+}
+
+impl Model for Name {
+    ghost use Rattle.std.specs.Prelude.{List, ℕ, string_bytes};
+
+    ghost Value = { List ℕ };
+
+    ghost view = { λ n. string_bytes n.text };
+}
+
+impl Name {
+    ghost use Rattle.std.specs.Prelude.{◌≡◌, string_bytes};
+
+    /// The name of this text; takes no memory.
+    pub fn new(text: String) -> Name
+        ensures { result ≡ string_bytes text }
+    {
+        Name { text }
+    }
+
+    /// The text.
+    pub fn as_str(&self) -> &str
+        ensures { result.now ≡ self.now }
+    {
+        self.text.as_str()
+    }
+}
