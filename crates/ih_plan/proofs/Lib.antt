@@ -1,0 +1,14 @@
+pub mod Base
+pub mod BillBounds
+pub mod ContentLemmas
+pub mod Entries
+pub mod FilledExample
+pub mod ListSteps
+pub mod Lists
+pub mod Loads
+pub mod Overtime
+pub mod PlanRanges
+pub mod Prices
+pub mod Rows
+pub mod SumBounds
+pub mod SumLemmas

@@ -1,0 +1,10 @@
+//! Timetables, moves and writes, and the definitions that the contracts of all other crates cite.
+#![tactic(auto)]
+
+mod moves;
+mod plans;
+#[cfg(test)]
+mod tests;
+
+pub use moves::{Move, Placement, Write};
+pub use plans::Plan;
