@@ -1,0 +1,36 @@
+-- Choices of days before the freeze day, which no accepted move changes.
+use Rattle.std.specs.Prelude.{◌≡◌, ℕ, ◌<◌, nat_lt, Bool, true, false, ◌||◌, Option, Some, None}
+use Rattle.std.specs.List.{list_any}
+use Rattle.ih_tables.specs.Sizes.{room_count, shift_count}
+use Rattle.ih_plan.specs.declared.moves.Placement.{Placement}
+use Rattle.ih_plan.specs.declared.moves.Write.{Write}
+use Rattle.ih_plan.specs.declared.moves.Write.TheVariants.{SetStay, SetCare}
+use Rattle.ih_plan.specs.declared.moves.Move.{Move}
+use Rattle.ih_plan.specs.Timetable.{Timetable, stay_of, choice_of}
+use Rattle.ih_plan.specs.Presence.{day_of}
+use Rattle.ih_plan.specs.Expand.{expand}
+use Rattle.ih_journal.specs.Base.{Base}
+
+-- a stay that begins before the freeze day
+abbrev pub is_before : ℕ → Option Placement → Bool
+is_before freeze None = false
+is_before freeze (Some at) = nat_lt at.day.0 freeze
+
+-- the write changes a choice of a day before the freeze day, or makes one
+abbrev pub is_frozen_write : Timetable → ℕ → Write → Bool
+is_frozen_write start freeze (SetStay p new) = is_before freeze (stay_of start p.0) || is_before freeze new
+is_frozen_write start freeze (SetCare r k n) = nat_lt (day_of k.0) freeze
+
+-- one of the move's writes at a timetable is frozen
+unfoldable pub is_frozen : Base → Timetable → Move → Bool
+is_frozen b P m = list_any (is_frozen_write b.start b.freeze) (expand b.instance P m)
+
+-- The timetable agrees with the start on the frozen choices.
+pub record AgreesBefore (b : Base) (P : Timetable) : Type 0 where
+  -- who is admitted before the freeze day in the start stays as there
+  pub admitted : (p : ℕ) → is_before b.freeze (stay_of b.start p) ≡ true → stay_of P p ≡ stay_of b.start p
+  -- nobody else is admitted before the freeze day
+  pub others : (p : ℕ) → is_before b.freeze (stay_of b.start p) ≡ false → is_before b.freeze (stay_of P p) ≡ false
+  -- the nurses of the days before the freeze day are those of the start
+  pub nurses : (r k : ℕ) → r < room_count b.instance → k < shift_count b.instance → day_of k < b.freeze
+      → choice_of P r k ≡ choice_of b.start r k

@@ -1,0 +1,11 @@
+pub mod Attempts
+pub mod Base
+pub mod Best
+pub mod Frozen
+pub mod Grammar
+pub mod History
+pub mod Legal
+pub mod Names
+pub mod Pieces
+pub mod Settings
+pub mod Texts

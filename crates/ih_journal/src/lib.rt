@@ -1,0 +1,26 @@
+//! Options, entries and verdicts of a search, and the texts of its journal.
+#![tactic(auto)]
+
+mod entries;
+mod freeze;
+mod headings;
+mod lines;
+mod named;
+mod numerals;
+mod parse;
+mod reading;
+mod refusals;
+mod settings;
+#[cfg(test)]
+mod tests;
+mod texts;
+
+pub use entries::{Entry, Verdict};
+pub use freeze::frozen;
+pub use headings::parse_head;
+pub use lines::{head_line, line};
+pub use parse::{BadLine, journals_differ, parse_line};
+pub use reading::parse_move;
+pub use refusals::{JournalRefusal, Reason};
+pub use settings::{MAX_ENTRIES, MAX_HARD, MAX_HEAT, MAX_MOVES, MAX_RETRIES, MAX_WORKERS, Options};
+pub use texts::text;

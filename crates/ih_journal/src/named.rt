@@ -1,0 +1,172 @@
+//! Moves and cells by their names and numbers, and whether they are in range of an instance.
+
+ghost use Rattle.std.specs.Prelude.{◌≡◌, ◌↔◌, IsTrue};
+ghost use Rattle.std.specs.Str.{bytes_eq};
+ghost use Rattle.ih_plan.specs.Expand.{IsMoveOf};
+ghost use Rattle.ih_plan.specs.Cells.{IsCellOf};
+ghost use Rattle.ih_journal.specs.Names.{move_of_one, move_of_two, move_of_three, move_of_four, move_named, cell_of_one, cell_of_two, cell_named};
+
+use ih_plan::{Move, Placement};
+use ih_tables::{
+    Cell, Day, Instance, NurseNo, PatientNo, PersonNo, RoomNo, Shift, SurgeonNo, TheatreNo,
+};
+
+/// Whether a name is this text.
+pub fn is(name: &[u8], text: &str) -> bool
+    ensures { result ≡ bytes_eq name.now text.now }
+{
+    name == text.as_bytes()
+}
+
+fn move_of_one(name: &[u8], a: u32) -> Option<Move>
+    ensures { result ≡ move_of_one name.now a }
+{
+    if is(name, "withdraw") {
+        Some(Move::Withdraw(PatientNo(a)))
+    } else {
+        None
+    }
+}
+
+fn move_of_two(name: &[u8], a: u32, b: u32) -> Option<Move>
+    ensures { result ≡ move_of_two name.now a b }
+{
+    if is(name, "setday") {
+        Some(Move::SetDay(PatientNo(a), Day(b)))
+    } else if is(name, "setroom") {
+        Some(Move::SetRoom(PatientNo(a), RoomNo(b)))
+    } else if is(name, "settheatre") {
+        Some(Move::SetTheatre(PatientNo(a), TheatreNo(b)))
+    } else if is(name, "swaprooms") {
+        Some(Move::SwapRooms(PatientNo(a), PatientNo(b)))
+    } else {
+        None
+    }
+}
+
+fn move_of_three(name: &[u8], a: u32, b: u32, c: u32) -> Option<Move>
+    ensures { result ≡ move_of_three name.now a b c }
+{
+    if is(name, "nurse") {
+        Some(Move::Nurse(RoomNo(a), Shift(b), NurseNo(c)))
+    } else if is(name, "swapnurses") {
+        Some(Move::SwapNurses(Shift(a), RoomNo(b), RoomNo(c)))
+    } else {
+        None
+    }
+}
+
+fn move_of_four(name: &[u8], a: u32, b: u32, c: u32, d: u32) -> Option<Move>
+    ensures { result ≡ move_of_four name.now a b c d }
+{
+    if is(name, "place") {
+        let at = Placement {
+            day: Day(b),
+            room: RoomNo(c),
+            theatre: TheatreNo(d),
+        };
+        Some(Move::Place(PatientNo(a), at))
+    } else if is(name, "nurserun") {
+        Some(Move::NurseRun(NurseNo(a), RoomNo(b), Day(c), d))
+    } else {
+        None
+    }
+}
+
+/// The move with a name and numbers.
+#[tactic(auto, unfolding(crate::specs::Names::move_named))]
+pub fn move_named(name: &[u8], ns: &[u32]) -> Option<Move>
+    ensures { result ≡ move_named name.now ns.now }
+{
+    match ns.len() {
+        1 => move_of_one(name, ns[0]),
+        2 => move_of_two(name, ns[0], ns[1]),
+        3 => move_of_three(name, ns[0], ns[1], ns[2]),
+        4 => move_of_four(name, ns[0], ns[1], ns[2], ns[3]),
+        _ => None,
+    }
+}
+
+fn cell_of_one(name: &[u8], a: u32) -> Option<Cell>
+    ensures { result ≡ cell_of_one name.now a }
+{
+    if is(name, "stay") {
+        Some(Cell::Stay(PatientNo(a)))
+    } else if is(name, "care") {
+        Some(Cell::Care(PersonNo(a)))
+    } else {
+        None
+    }
+}
+
+fn cell_of_two(name: &[u8], a: u32, b: u32) -> Option<Cell>
+    ensures { result ≡ cell_of_two name.now a b }
+{
+    if is(name, "roomday") {
+        Some(Cell::RoomDay(RoomNo(a), Day(b)))
+    } else if is(name, "theatreday") {
+        Some(Cell::TheatreDay(TheatreNo(a), Day(b)))
+    } else if is(name, "surgeonday") {
+        Some(Cell::SurgeonDay(SurgeonNo(a), Day(b)))
+    } else if is(name, "roomshift") {
+        Some(Cell::RoomShift(RoomNo(a), Shift(b)))
+    } else if is(name, "nurseshift") {
+        Some(Cell::NurseShift(NurseNo(a), Shift(b)))
+    } else {
+        None
+    }
+}
+
+/// The cell with a name and numbers.
+#[tactic(auto, unfolding(crate::specs::Names::cell_named))]
+pub fn cell_named(name: &[u8], ns: &[u32]) -> Option<Cell>
+    ensures { result ≡ cell_named name.now ns.now }
+{
+    match ns.len() {
+        1 => cell_of_one(name, ns[0]),
+        2 => cell_of_two(name, ns[0], ns[1]),
+        _ => None,
+    }
+}
+
+/// Whether each number of a move is in range of the instance.
+pub fn has_move(inst: &Instance, mv: &Move) -> bool
+    ensures { IsTrue result ↔ IsMoveOf inst.now.draft mv.now }
+{
+    match *mv {
+        Move::Idle => true,
+        Move::Place(p, at) => {
+            p.0 < inst.patients()
+                && at.day.0 < inst.days()
+                && at.room.0 < inst.rooms()
+                && at.theatre.0 < inst.theatres()
+        }
+        Move::Withdraw(p) => p.0 < inst.patients(),
+        Move::SetDay(p, d) => p.0 < inst.patients() && d.0 < inst.days(),
+        Move::SetRoom(p, r) => p.0 < inst.patients() && r.0 < inst.rooms(),
+        Move::SetTheatre(p, t) => p.0 < inst.patients() && t.0 < inst.theatres(),
+        Move::SwapRooms(p, q) => p.0 < inst.patients() && q.0 < inst.patients(),
+        Move::Nurse(r, k, n) => r.0 < inst.rooms() && k.0 < inst.shifts() && n.0 < inst.nurses(),
+        Move::NurseRun(n, r, d, len) => {
+            n.0 < inst.nurses() && r.0 < inst.rooms() && d.0 < inst.days() && 1 <= len && len <= 7
+        }
+        Move::SwapNurses(k, a, b) => k.0 < inst.shifts()
+            && a.0 < inst.rooms()
+            && b.0 < inst.rooms(),
+    }
+}
+
+/// Whether a cell is one of the instance.
+pub fn has_cell(inst: &Instance, cell: &Cell) -> bool
+    ensures { IsTrue result ↔ IsCellOf inst.now.draft cell.now }
+{
+    match *cell {
+        Cell::Stay(p) => p.0 < inst.patients(),
+        Cell::RoomDay(r, d) => r.0 < inst.rooms() && d.0 < inst.days(),
+        Cell::TheatreDay(t, d) => t.0 < inst.theatres() && d.0 < inst.days(),
+        Cell::SurgeonDay(s, d) => s.0 < inst.surgeons() && d.0 < inst.days(),
+        Cell::RoomShift(r, k) => r.0 < inst.rooms() && k.0 < inst.shifts(),
+        Cell::NurseShift(n, k) => n.0 < inst.nurses() && k.0 < inst.shifts(),
+        Cell::Care(x) => x.0 < inst.persons(),
+    }
+}
