@@ -1,0 +1,294 @@
+//! A worker's stream of moves.
+
+ghost use Rattle.std.specs.Prelude.{◌≡◌, ◌<◌, ◌≤◌, ◌+◌, ◌*◌, ◌%◌, ℕ, Some, IfSome, is_some, slice_get, length, option_map};
+ghost use Rattle.rand_xoshiro.specs.Xoshiro256.{plus_plus};
+ghost use Rattle.ih_tables.specs.Sizes.{patient_count, room_count, shift_count, nurse_count, theatre_count};
+ghost use Rattle.ih_tables.specs.Works.{max_load};
+ghost use Rattle.ih_plan.specs.Draws.{choose, last_day, window_len, choose_day, choose_nurse, drawn, drawn_place, drawn_withdrawal, drawn_day, drawn_room, drawn_theatre, drawn_room_swap, drawn_nurse_swap, drawn_nurse, drawn_run, draw};
+ghost use Rattle.ih_plan.specs.Sums.{which_below, count_below};
+ghost use Rattle.ih_plan.specs.Expand.{IsMoveOf};
+
+use ih_plan::{Move, Placement};
+use ih_tables::{Day, Instance, NurseNo, Patient, PatientNo, RoomNo, Shift, TheatreNo};
+use rand_core::SeedableRng;
+use rand_core::utils::NextWord;
+use rand_xoshiro::Xoshiro256PlusPlus;
+use std::marker::Model;
+
+/// The random words of one worker, of which each draw takes six: those of Xoshiro256++, seeded by the sum of seed and
+/// worker.
+#[derive(Drop)]
+pub struct Stream {
+    words: Xoshiro256PlusPlus,
+}
+
+impl Model for Stream {
+    ghost use Rattle.std.specs.Prelude.{List, ℕ};
+
+    ghost Value = { List ℕ };
+
+    ghost view = { λ s. s.words };
+}
+
+impl Stream {
+    ghost use Rattle.ih_plan.specs.Draws.{stream_state, state_after, draw_at, move_of, stream_at};
+
+    /// The stream of a worker, from its first word on. The sum of seed and worker wraps.
+    #[tactic(auto, unfolding(ih_plan::specs::Draws::stream_state))]
+    pub fn new(seed: u64, worker: u32) -> Stream
+        ensures { result ≡ stream_state seed worker }
+    {
+        Stream {
+            words: Xoshiro256PlusPlus::seed_from_u64(seed.wrapping_add(worker as u64)),
+        }
+    }
+
+    fn word(&mut self) -> u64
+        ensures { (result, self.new) ≡ plus_plus self.old }
+    {
+        self.words.next_word()
+    }
+
+    /// The next draw: a move in range of the instance, and `Idle` where its kind has nothing to choose from. Draw after
+    /// draw, these are the worker's moves 0, 1, 2 ...
+    pub fn draw(&mut self, inst: &Instance) -> Move
+        ensures move_drawn { result ≡ draw_at inst.now.draft self.old }
+        ensures rest { self.new ≡ state_after 6 self.old }
+        ensures inside { IsMoveOf inst.now.draft result }
+        ensures numbered { (seed w i : ℕ) → self.old ≡ stream_at seed w i → (result ≡ move_of inst.now.draft seed w i) × (self.new ≡ stream_at seed w (i + 1)) }
+    {
+        self.draw_six(inst)
+    }
+
+    #[tactic(auto, unfolding(ih_plan::specs::Draws::state_after))]
+    fn draw_six(&mut self, inst: &Instance) -> Move
+        ensures move_drawn { result ≡ draw_at inst.now.draft self.old }
+        ensures rest { self.new ≡ state_after 6 self.old }
+        ensures inside { IsMoveOf inst.now.draft result }
+    {
+        let kind = self.word();
+        let first = self.word();
+        let second = self.word();
+        let third = self.word();
+        let fourth = self.word();
+        let _last = self.word();
+        draw(inst, kind, first, second, third, fourth)
+    }
+}
+
+// The word modulo n.
+fn choose(u: u64, n: u32) -> Option<u32>
+    ensures value { result ≡ choose u n }
+    ensures below { IfSome result (λ i. i < n) }
+{
+    if n == 0 {
+        None
+    } else {
+        Some((u % n as u64) as u32)
+    }
+}
+
+fn last_day(inst: &Instance, a: &Patient) -> u32
+    ensures value { result ≡ last_day inst.now.draft a.now }
+    ensures below { result < inst.now.draft.days }
+{
+    let last = inst.days() - 1;
+    if a.mandatory {
+        a.surgery_due_day.unwrap_or(0).min(last)
+    } else {
+        last
+    }
+}
+
+fn window_len(inst: &Instance, a: &Patient) -> u32
+    ensures value { result ≡ window_len inst.now.draft a.now }
+    ensures inside { 0 < result → a.now.surgery_release_day + result ≤ inst.now.draft.days }
+{
+    (last_day(inst, a) + 1).saturating_sub(a.surgery_release_day)
+}
+
+fn choose_day(inst: &Instance, u: u64, p: u32) -> Option<u32>
+    requires { p < patient_count inst.now.draft }
+    ensures value { result ≡ choose_day inst.now.draft u p }
+    ensures below { IfSome result (λ d. d < inst.now.draft.days) }
+{
+    let a = inst.patient(PatientNo(p));
+    match choose(u, window_len(inst, a)) {
+        None => None,
+        Some(j) => Some(a.surgery_release_day + j),
+    }
+}
+
+fn draw_place(inst: &Instance, u1: u64, u2: u64, u3: u64, u4: u64) -> Option<Move>
+    ensures value { result ≡ drawn_place inst.now.draft u1 u2 u3 u4 }
+    ensures inside { IfSome result (IsMoveOf inst.now.draft) }
+{
+    let p = choose(u1, inst.patients())?;
+    let d = choose_day(inst, u2, p)?;
+    let r = choose(u3, inst.rooms())?;
+    let t = choose(u4, inst.theatres())?;
+    Some(Move::Place(
+        PatientNo(p),
+        Placement {
+            day: Day(d),
+            room: RoomNo(r),
+            theatre: TheatreNo(t),
+        },
+    ))
+}
+
+fn draw_withdrawal(inst: &Instance, u1: u64) -> Option<Move>
+    ensures value { result ≡ drawn_withdrawal inst.now.draft u1 }
+    ensures inside { IfSome result (IsMoveOf inst.now.draft) }
+{
+    let p = choose(u1, inst.patients())?;
+    Some(Move::Withdraw(PatientNo(p)))
+}
+
+fn draw_day(inst: &Instance, u1: u64, u2: u64) -> Option<Move>
+    ensures value { result ≡ drawn_day inst.now.draft u1 u2 }
+    ensures inside { IfSome result (IsMoveOf inst.now.draft) }
+{
+    let p = choose(u1, inst.patients())?;
+    let d = choose_day(inst, u2, p)?;
+    Some(Move::SetDay(PatientNo(p), Day(d)))
+}
+
+fn draw_room(inst: &Instance, u1: u64, u2: u64) -> Option<Move>
+    ensures value { result ≡ drawn_room inst.now.draft u1 u2 }
+    ensures inside { IfSome result (IsMoveOf inst.now.draft) }
+{
+    let p = choose(u1, inst.patients())?;
+    let r = choose(u2, inst.rooms())?;
+    Some(Move::SetRoom(PatientNo(p), RoomNo(r)))
+}
+
+fn draw_theatre(inst: &Instance, u1: u64, u2: u64) -> Option<Move>
+    ensures value { result ≡ drawn_theatre inst.now.draft u1 u2 }
+    ensures inside { IfSome result (IsMoveOf inst.now.draft) }
+{
+    let p = choose(u1, inst.patients())?;
+    let t = choose(u2, inst.theatres())?;
+    Some(Move::SetTheatre(PatientNo(p), TheatreNo(t)))
+}
+
+fn draw_room_swap(inst: &Instance, u1: u64, u2: u64) -> Option<Move>
+    ensures value { result ≡ drawn_room_swap inst.now.draft u1 u2 }
+    ensures inside { IfSome result (IsMoveOf inst.now.draft) }
+{
+    let p = choose(u1, inst.patients())?;
+    let q = choose(u2, inst.patients())?;
+    Some(Move::SwapRooms(PatientNo(p), PatientNo(q)))
+}
+
+fn draw_nurse_swap(inst: &Instance, u1: u64, u2: u64, u3: u64) -> Option<Move>
+    ensures value { result ≡ drawn_nurse_swap inst.now.draft u1 u2 u3 }
+    ensures inside { IfSome result (IsMoveOf inst.now.draft) }
+{
+    let k = choose(u1, inst.shifts())?;
+    let a = choose(u2, inst.rooms())?;
+    let b = choose(u3, inst.rooms())?;
+    Some(Move::SwapNurses(Shift(k), RoomNo(a), RoomNo(b)))
+}
+
+fn draw_nurse(inst: &Instance, u1: u64, u2: u64, u3: u64) -> Option<Move>
+    ensures value { result ≡ drawn_nurse inst.now.draft u1 u2 u3 }
+    ensures inside { IfSome result (IsMoveOf inst.now.draft) }
+{
+    let r = choose(u1, inst.rooms())?;
+    let k = choose(u2, inst.shifts())?;
+    let n = choose_nurse(inst, u3, k)?;
+    Some(Move::Nurse(RoomNo(r), Shift(k), NurseNo(n)))
+}
+
+fn draw_run(inst: &Instance, u1: u64, u2: u64, u3: u64, u4: u64) -> Option<Move>
+    ensures value { result ≡ drawn_run inst.now.draft u1 u2 u3 u4 }
+    ensures inside { IfSome result (IsMoveOf inst.now.draft) }
+{
+    let n = choose(u1, inst.nurses())?;
+    let r = choose(u2, inst.rooms())?;
+    let d = choose(u3, inst.days())?;
+    Some(Move::NurseRun(NurseNo(n), RoomNo(r), Day(d), (1 + u4 % 7) as u32))
+}
+
+#[tactic(auto, unfolding(ih_plan::specs::Draws::drawn))]
+fn drawn(inst: &Instance, kind: u64, u1: u64, u2: u64, u3: u64, u4: u64) -> Option<Move>
+    ensures value { result ≡ drawn inst.now.draft kind u1 u2 u3 u4 }
+    ensures inside { IfSome result (IsMoveOf inst.now.draft) }
+{
+    if kind < 3 {
+        draw_place(inst, u1, u2, u3, u4)
+    } else if kind == 3 {
+        draw_withdrawal(inst, u1)
+    } else if kind < 6 {
+        draw_day(inst, u1, u2)
+    } else if kind < 8 {
+        draw_room(inst, u1, u2)
+    } else if kind == 8 {
+        draw_theatre(inst, u1, u2)
+    } else if kind == 9 {
+        draw_room_swap(inst, u1, u2)
+    } else if kind < 12 {
+        draw_nurse_swap(inst, u1, u2, u3)
+    } else if kind < 15 {
+        draw_nurse(inst, u1, u2, u3)
+    } else {
+        draw_run(inst, u1, u2, u3, u4)
+    }
+}
+
+fn draw(inst: &Instance, u0: u64, u1: u64, u2: u64, u3: u64, u4: u64) -> Move
+    ensures value { result ≡ draw inst.now.draft u0 u1 u2 u3 u4 }
+    ensures inside { IsMoveOf inst.now.draft result }
+{
+    match drawn(inst, u0 % 16, u1, u2, u3, u4) {
+        None => Move::Idle,
+        Some(mv) => mv,
+    }
+}
+
+#[tactic(auto, using(ih_plan::proofs::SumLemmas::sum_steps))]
+fn working_count(inst: &Instance, k: u32) -> u32
+    requires { k < shift_count inst.now.draft }
+    ensures { result ≡ count_below (nurse_count inst.now.draft) (λ n. is_some (max_load inst.now.draft n k)) }
+{
+    let mut count = 0;
+    for n in 0..inst.nurses() {
+        if inst.works(NurseNo(n), Shift(k)).is_some() {
+            count += 1;
+        }
+    }
+    count
+}
+
+// The nurse with that many before it among those who work the shift.
+#[tactic(auto, using(crate::proofs::Working::working_steps))]
+fn nth_working(inst: &Instance, k: u32, place: u32) -> Option<u32>
+    requires shift { k < shift_count inst.now.draft }
+    requires place { place < count_below (nurse_count inst.now.draft) (λ n. is_some (max_load inst.now.draft n k)) }
+    ensures value { result ≡ slice_get (which_below (nurse_count inst.now.draft) (λ n. is_some (max_load inst.now.draft n k))) place }
+    ensures below { IfSome result (λ n. n < nurse_count inst.now.draft) }
+{
+    let mut passed = 0;
+    for n in 0..inst.nurses() {
+        if inst.works(NurseNo(n), Shift(k)).is_some() {
+            if passed == place {
+                return Some(n);
+            }
+            passed += 1;
+        }
+    }
+    None
+}
+
+#[tactic(auto, using(ih_plan::proofs::SumLemmas::sum_steps))]
+fn choose_nurse(inst: &Instance, u: u64, k: u32) -> Option<u32>
+    requires { k < shift_count inst.now.draft }
+    ensures value { result ≡ choose_nurse inst.now.draft u k }
+    ensures below { IfSome result (λ n. n < nurse_count inst.now.draft) }
+{
+    match choose(u, working_count(inst, k)) {
+        None => None,
+        Some(place) => nth_working(inst, k, place),
+    }
+}

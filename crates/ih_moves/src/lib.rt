@@ -1,0 +1,10 @@
+//! What a move writes, and the moves that a worker draws.
+#![tactic(auto)]
+
+mod draws;
+#[cfg(test)]
+mod tests;
+mod writes;
+
+pub use draws::Stream;
+pub use writes::{Writes, expand};

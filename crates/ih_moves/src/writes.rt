@@ -1,0 +1,199 @@
+//! The writes of a move at a timetable.
+
+ghost use Rattle.std.specs.Prelude.{◌≡◌, ◌<◌, ◌≤◌, ◌+◌, ◌++◌, ◌∷◌, [], length, if◌then◌else◌};
+ghost use Rattle.ih_tables.specs.Sizes.{patient_count, room_count, shift_count, nurse_count};
+ghost use Rattle.ih_plan.specs.Timetable.{IsPlanOf, choice_of, stay_of};
+ghost use Rattle.ih_plan.specs.Expand.{expand, IsMoveOf, swap_stays};
+ghost use Rattle.ih_moves.specs.Runs.{in_run, run_below};
+
+use ih_plan::{Move, Placement, Plan, Write};
+use ih_tables::{Day, Instance, NurseNo, PatientNo, RoomNo, Shift};
+use std::marker::Model;
+
+/// Up to 64 writes, in the order in which they are made. It takes no memory.
+#[derive(Drop)]
+pub struct Writes {
+    items: [Write; 64],
+    len: usize,
+}
+
+impl Model for Writes {
+    ghost use Rattle.std.specs.Prelude.{List as Items, take, ◌≤◌};
+    ghost use Rattle.ih_plan.specs.declared.moves.Write.{Write as One};
+
+    ghost Value = { Items One };
+
+    ghost view = { λ w. take w.len w.items };
+
+    ghost invariant = { λ w. w.len ≤ 64 };
+}
+
+impl Writes {
+    ghost use Rattle.std.specs.Prelude.{◌≡◌, ◌<◌, ◌++◌, ◌∷◌, [], length};
+
+    /// No writes yet.
+    pub fn new() -> Writes
+        ensures { result ≡ [] }
+    {
+        Writes {
+            items: [Write::SetStay(PatientNo(0), None); 64],
+            len: 0,
+        }
+    }
+
+    /// The writes, in order.
+    pub fn as_slice(&self) -> &[Write]
+        ensures { result.now ≡ self.now }
+    {
+        &self.items[..self.len]
+    }
+
+    fn clear(&mut self)
+        ensures { self.new ≡ [] }
+    {
+        self.len = 0;
+    }
+
+    fn push(&mut self, w: Write)
+        requires { length self.old < 64 }
+        ensures { self.new ≡ self.old ++ w ∷ [] }
+    {
+        self.items[self.len] = w;
+        self.len += 1;
+    }
+}
+
+fn nurse_at(inst: &Instance, plan: &Plan, r: RoomNo, k: Shift) -> Option<NurseNo>
+    requires plan { IsPlanOf inst.now.draft plan.now }
+    requires room { r.0 < room_count inst.now.draft }
+    requires shift { k.0 < shift_count inst.now.draft }
+    ensures { result ≡ choice_of plan.now r.0 k.0 }
+{
+    plan.care(r, k)
+}
+
+fn is_in_run(inst: &Instance, n: NurseNo, d: Day, len: u32, k: u32) -> bool
+    requires nurse { n.0 < nurse_count inst.now.draft }
+    requires day { d.0 < inst.now.draft.days }
+    requires len { len ≤ 7 }
+    requires shift { k < shift_count inst.now.draft }
+    ensures { result ≡ in_run inst.now.draft n.0 d.0 len k }
+{
+    inst.works(n, Shift(k)).is_some() && d.0 <= k / 3 && k / 3 < d.0 + len
+}
+
+#[tactic(auto, using(crate::proofs::RunLemmas::run_steps))]
+fn put_run(inst: &Instance, n: NurseNo, r: RoomNo, d: Day, len: u32, out: &mut Writes)
+    requires nurse { n.0 < nurse_count inst.now.draft }
+    requires day { d.0 < inst.now.draft.days }
+    requires len { len ≤ 7 }
+    requires empty { out.old ≡ [] }
+    ensures made { out.new ≡ run_below inst.now.draft n r d.0 len (shift_count inst.now.draft) }
+    ensures few { length out.new ≤ 21 }
+{
+    let end = (3 * (d.0 + len)).min(inst.shifts());
+    for k in 3 * d.0..end {
+        put_where(
+            is_in_run(inst, n, d, len, k),
+            Write::SetCare(r, Shift(k), Some(n)),
+            out,
+        );
+    }
+}
+
+fn put_where(b: bool, w: Write, out: &mut Writes)
+    requires { length out.old < 64 }
+    ensures made { out.new ≡ (if b then out.old ++ w ∷ [] else out.old) }
+    ensures few { length out.new ≤ length out.old + 1 }
+{
+    if b {
+        out.push(w);
+    }
+}
+
+fn put_swapped_rooms(plan: &Plan, p: PatientNo, q: PatientNo, out: &mut Writes)
+    requires first { p.0 < length plan.now.stays }
+    requires second { q.0 < length plan.now.stays }
+    requires empty { out.old ≡ [] }
+    ensures made { out.new ≡ swap_stays p q (stay_of plan.now p.0) (stay_of plan.now q.0) }
+    ensures few { length out.new ≤ 2 }
+{
+    match (plan.stay(p), plan.stay(q)) {
+        (Some(a), Some(b)) => {
+            out.push(Write::SetStay(p, Some(in_room(a, b.room))));
+            out.push(Write::SetStay(q, Some(in_room(b, a.room))));
+        }
+        _ => {}
+    }
+}
+
+fn in_room(at: Placement, room: RoomNo) -> Placement
+    ensures { result ≡ record at { room = room } }
+{
+    Placement {
+        day: at.day,
+        room,
+        theatre: at.theatre,
+    }
+}
+
+/// The writes of a move at a timetable, in place of what `out` held. A run of seven days has the most: 21. A move of a
+/// patient who is not admitted, other than a placement, has none. The plan and the move are in range of the instance.
+#[tactic(auto, unfolding(ih_plan::specs::Expand::expand, crate::specs::Runs::run_below))]
+pub fn expand(inst: &Instance, plan: &Plan, mv: &Move, out: &mut Writes)
+    requires plan { IsPlanOf inst.now.draft plan.now }
+    requires move_in { IsMoveOf inst.now.draft mv.now }
+    ensures made { out.new ≡ expand inst.now.draft plan.now mv.now }
+    ensures few { length out.new ≤ 21 }
+{
+    out.clear();
+    match *mv {
+        Move::Idle => {}
+        Move::Place(p, at) => out.push(Write::SetStay(p, Some(at))),
+        Move::Withdraw(p) => match plan.stay(p) {
+            None => {}
+            Some(_) => out.push(Write::SetStay(p, None)),
+        },
+        Move::SetDay(p, day) => match plan.stay(p) {
+            None => {}
+            Some(at) => out.push(Write::SetStay(
+                p,
+                Some(Placement {
+                    day,
+                    room: at.room,
+                    theatre: at.theatre,
+                }),
+            )),
+        },
+        Move::SetRoom(p, room) => match plan.stay(p) {
+            None => {}
+            Some(at) => out.push(Write::SetStay(p, Some(in_room(at, room)))),
+        },
+        Move::SetTheatre(p, theatre) => match plan.stay(p) {
+            None => {}
+            Some(at) => out.push(Write::SetStay(
+                p,
+                Some(Placement {
+                    day: at.day,
+                    room: at.room,
+                    theatre,
+                }),
+            )),
+        },
+        Move::SwapRooms(p, q) => {
+            if p.0 != q.0 {
+                put_swapped_rooms(plan, p, q, out)
+            }
+        }
+        Move::Nurse(r, k, n) => out.push(Write::SetCare(r, k, Some(n))),
+        Move::NurseRun(n, r, d, len) => put_run(inst, n, r, d, len, out),
+        Move::SwapNurses(k, a, b) => {
+            if a.0 != b.0 {
+                let first = nurse_at(inst, plan, b, k);
+                let second = nurse_at(inst, plan, a, k);
+                out.push(Write::SetCare(a, k, first));
+                out.push(Write::SetCare(b, k, second));
+            }
+        }
+    }
+}
