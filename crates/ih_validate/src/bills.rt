@@ -1,0 +1,57 @@
+//! The bill: all seventeen numbers, each summed over the whole timetable.
+
+ghost use Rattle.std.specs.Prelude.{◌≡◌, ◌<◌, ◌^◌, pos};
+ghost use Rattle.ih_plan.specs.Timetable.{IsPlanOf};
+ghost use Rattle.ih_plan.specs.BillOf.{bill_of};
+ghost use Rattle.ih_tables.specs.Bills.{IsWithin};
+
+use crate::{loads, nurses, patients, rooms, shifts, surgery};
+use ih_plan::Plan;
+use ih_tables::{Bill, Instance};
+
+fn signed(n: u64) -> i64
+    requires { n < 2 ^ 63 }
+    ensures { result ≡ pos n }
+{
+    n as i64
+}
+
+#[tactic(auto, unfolding(ih_plan::specs::BillOf::bill_of))]
+fn all_counts(inst: &Instance, plan: &Plan) -> Bill
+    requires { IsPlanOf inst.now.draft plan.now }
+    ensures { result ≡ bill_of inst.now.draft plan.now }
+{
+    Bill {
+        v: [
+            signed(rooms::gender_mixes(inst, plan)),
+            signed(patients::bad_rooms(inst, plan)),
+            signed(surgery::surgeon_overtime(inst, plan)),
+            signed(surgery::theatre_overtime(inst, plan)),
+            signed(patients::mandatory_left_out(inst, plan)),
+            signed(patients::outside_windows(inst, plan)),
+            signed(rooms::over_capacity(inst, plan)),
+            signed(shifts::nurses_off(inst, plan)),
+            signed(shifts::uncovered(inst, plan)),
+        ],
+        s: [
+            signed(rooms::mixed_ages(inst, plan)),
+            signed(shifts::missing_skill(inst, plan)),
+            signed(nurses::nurses_seen(inst, plan)),
+            signed(loads::overloads(inst, plan)),
+            signed(surgery::open_theatres(inst, plan)),
+            signed(surgery::transfers(inst, plan)),
+            signed(patients::delays(inst, plan)),
+            signed(patients::optional_left_out(inst, plan)),
+        ],
+    }
+}
+
+/// The bill of a timetable, by plain loops over all of it: how often each hard rule is broken, and the eight costs,
+/// unweighted. Each number is at most 10^11. The timetable has the sizes and the ranges of the instance. It takes no memory.
+pub fn bill(inst: &Instance, plan: &Plan) -> Bill
+    requires { IsPlanOf inst.now.draft plan.now }
+    ensures value { result ≡ bill_of inst.now.draft plan.now }
+    ensures within { IsWithin (10 ^ 11) result }
+{
+    all_counts(inst, plan)
+}

@@ -1,0 +1,92 @@
+//! How many distinct nurses each person has over its stay.
+
+ghost use Rattle.std.specs.Prelude.{◌≡◌, ◌<◌, ◌≤◌, ◌-◌, ◌+◌, ◌*◌, ℕ, map, min};
+ghost use Rattle.std.specs.List.{list_any, range_with_len};
+ghost use Rattle.ih_tables.specs.Sizes.{person_count, room_count, shift_count};
+ghost use Rattle.ih_plan.specs.Timetable.{IsPlanOf, care_of};
+ghost use Rattle.ih_plan.specs.Presence.{shifts_of, room_of};
+ghost use Rattle.ih_plan.specs.Costs.{is_number, nurse_for, distinct_nurses};
+ghost use Rattle.ih_plan.specs.BillOf.{nurses_seen};
+
+use crate::loads::is_nurse_at;
+use crate::patients::bit;
+use ih_plan::Plan;
+use ih_tables::{Instance, NurseNo, PatientNo, RoomNo};
+
+#[tactic(auto, using(ih_plan::proofs::ListSteps::range_steps))]
+fn is_seen(inst: &Instance, plan: &Plan, r: RoomNo, from: u32, count: u32, n: u32) -> bool
+    requires plan { IsPlanOf inst.now.draft plan.now }
+    requires room { r.0 < room_count inst.now.draft }
+    requires shifts { from + count ≤ shift_count inst.now.draft }
+    ensures { result ≡ list_any (λ o. is_number o n) (map (care_of plan.now r.0) (range_with_len from count)) }
+{
+    let mut seen = false;
+    for j in 0..count {
+        if is_nurse_at(inst, plan, NurseNo(n), r, from + j) {
+            seen = true;
+        }
+    }
+    seen
+}
+
+#[tactic(auto, using(ih_plan::proofs::SumLemmas::sum_steps))]
+fn seen_in(inst: &Instance, plan: &Plan, r: RoomNo, from: u32, count_of: u32) -> u64
+    requires plan { IsPlanOf inst.now.draft plan.now }
+    requires room { r.0 < room_count inst.now.draft }
+    requires shifts { from + count_of ≤ shift_count inst.now.draft }
+    ensures count { result ≡ distinct_nurses inst.now.draft (map (care_of plan.now r.0) (range_with_len from count_of)) }
+    ensures bound { result ≤ 512 }
+{
+    let mut count = 0;
+    for n in 0..inst.nurses() {
+        count += bit(is_seen(inst, plan, r, from, count_of, n));
+    }
+    count
+}
+
+fn counted(inst: &Instance, day: u32, len: u32) -> u32
+    requires day { day < inst.now.draft.days }
+    requires len { len ≤ 100 }
+    ensures count { result ≡ 3 * (min (day + len) inst.now.draft.days - day) }
+    ensures inside { 3 * day + result ≤ shift_count inst.now.draft }
+{
+    let days = inst.days();
+    3 * ((day + len).min(days) - day)
+}
+
+#[tactic(auto, using(ih_plan::proofs::ListSteps::none_steps), unfolding(ih_plan::specs::Presence::admission_of, ih_plan::specs::Presence::shifts_of, ih_plan::specs::Persons::person_of))]
+fn nurses_of(inst: &Instance, plan: &Plan, x: u32) -> u64
+    requires plan { IsPlanOf inst.now.draft plan.now }
+    requires person { x < person_count inst.now.draft }
+    ensures value { result ≡ distinct_nurses inst.now.draft (map (nurse_for plan.now (room_of inst.now.draft plan.now x)) (shifts_of inst.now.draft plan.now x)) }
+    ensures bound { result ≤ 512 }
+{
+    let patients = inst.patients();
+    if x < patients {
+        let a = inst.patient(PatientNo(x));
+        match plan.stay(PatientNo(x)) {
+            None => 0,
+            Some(at) => {
+                let count = counted(inst, at.day.0, a.length_of_stay);
+                seen_in(inst, plan, at.room, 3 * at.day.0, count)
+            }
+        }
+    } else {
+        let o = inst.occupant(x - patients);
+        let count = counted(inst, 0, o.length_of_stay);
+        seen_in(inst, plan, o.room_id, 0, count)
+    }
+}
+
+#[tactic(auto, using(ih_plan::proofs::SumLemmas::sum_steps), unfolding(ih_plan::specs::BillOf::nurses_seen))]
+pub fn nurses_seen(inst: &Instance, plan: &Plan) -> u64
+    requires { IsPlanOf inst.now.draft plan.now }
+    ensures value { result ≡ nurses_seen inst.now.draft plan.now }
+    ensures bound { result ≤ 512 * 2560 }
+{
+    let mut sum = 0;
+    for x in 0..inst.persons() {
+        sum += nurses_of(inst, plan, x);
+    }
+    sum
+}
