@@ -1,0 +1,94 @@
+//! The whole instance file: one JSON value, whose keys are read in the order of the competition's format.
+//! The first check that fails is the refusal.
+
+ghost use Rattle.std.specs.Prelude.{◌≡◌};
+ghost use Rattle.serde_json.specs.View.{view};
+ghost use Rattle.ih_tables.specs.Places.{whole};
+ghost use Rattle.ih_tables.specs.declared.refusals.Fault.TheVariants.{NotJson};
+ghost use Rattle.ih_instance.specs.Gives.{Gives};
+ghost use Rattle.ih_instance.specs.Checks.{or_else};
+ghost use Rattle.ih_instance.specs.Instance.{draft, value_of, instance};
+
+use crate::errors::InstanceError;
+use crate::rooms::Rooms;
+use crate::surgery::{Surgeons, Theatres};
+use crate::words::Words;
+use crate::{keys, kinds, people, reads, weights};
+use ih_tables::{Draft, Fault, Instance, Key, Place};
+use serde_json::Value;
+use std::alloc::Global;
+
+/// The one JSON value that the bytes are; else NotJson.
+#[tactic(auto, using(std::proofs::lemmas::Grind::common_steps))]
+fn value_of(alloc: Global, bytes: &[u8]) -> Result<Value, InstanceError>
+    ensures { Gives view result (or_else NotJson whole (value_of bytes.now)) }
+{
+    match Value::from_slice(alloc, bytes) {
+        Ok(value) => Ok(value),
+        Err(e) => {
+            if e.is_memory() {
+                return Err(InstanceError::OutOfMemory);
+            }
+            Err(InstanceError::Refused(kinds::refusal(Fault::NotJson, Place::whole())))
+        }
+    }
+}
+
+/// The data of a value, key by key.
+#[tactic(auto, unfolding(crate::specs::Instance::draft))]
+fn draft(alloc: Global, value: &Value, at: Place) -> Result<Draft, InstanceError>
+    ensures { Gives (λ d. d) result (draft at (view value.now)) }
+{
+    let _ = kinds::object(value, at)?;
+    let days = keys::number(value, Key::Days, 1, 56, at)?;
+    let skill_levels = keys::number(value, Key::SkillLevels, 1, 1000, at)?;
+    let types = reads::under(alloc, &Words, value, Key::ShiftTypes, 3, 3, at)?;
+    let groups = reads::under(alloc, &Words, value, Key::AgeGroups, 0, 64, at)?;
+    let weights = weights::under(value, at)?;
+    let surgeons = reads::under(alloc, &Surgeons { days }, value, Key::Surgeons, 0, 128, at)?;
+    let theatres = reads::items_under(
+        alloc,
+        &Theatres { days },
+        value,
+        Key::OperatingTheaters,
+        64,
+        at,
+    )?;
+    let rooms = reads::under(alloc, &Rooms, value, Key::Rooms, 1, 128, at)?;
+    let nurses = people::nurses(alloc, value, days, &types, at)?;
+    let occupants = people::occupants(alloc, value, days, &groups, &rooms, at)?;
+    let patients = people::patients(alloc, value, days, &groups, &surgeons, &rooms, at)?;
+    Ok(Draft {
+        days,
+        skill_levels,
+        shift_types: types.0,
+        age_groups: groups.0,
+        weights,
+        surgeons: surgeons.0,
+        operating_theaters: theatres,
+        rooms: rooms.0,
+        nurses,
+        occupants,
+        patients,
+    })
+}
+
+/// The data of an instance file, or its first refusal.
+fn read_draft(alloc: Global, bytes: &[u8]) -> Result<Draft, InstanceError>
+    ensures { Gives (λ d. d) result (instance bytes.now) }
+{
+    let value = value_of(alloc, bytes)?;
+    draft(alloc, &value, Place::whole())
+}
+
+/// The instance of a file, or its first refusal: bytes that aren't one JSON value are NotJson at `$`; then the
+/// keys are checked in the format's order, and of each key in this order that it is there (Missing), its kind
+/// (Kind), its limits (Range or Length), that its id is new (Duplicate) and that its reference is known (Unknown).
+/// Memory may run out at any time.
+pub fn read_instance(alloc: Global, bytes: &[u8]) -> Result<Instance, InstanceError>
+    ensures { Gives (λ i. i.draft) result (instance bytes.now) }
+{
+    let draft = read_draft(alloc, bytes)?;
+    let instance = Instance::seal(alloc, draft)?;
+    Ok(instance)
+}

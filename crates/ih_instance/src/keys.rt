@@ -1,0 +1,58 @@
+//! The keys of an object, each read with its kind. A key that isn't there is Missing at the key.
+
+ghost use Rattle.std.specs.Prelude.{◌≡◌, ◌≤◌, IfOk, None};
+ghost use Rattle.serde_json.specs.View.{view};
+ghost use Rattle.ih_tables.specs.Lookups.{finds};
+ghost use Rattle.ih_instance.specs.Gives.{Gives};
+ghost use Rattle.ih_instance.specs.Checks.{number, text, truth, new_name, reference, under};
+
+use crate::errors::InstanceError;
+use crate::kinds;
+use ih_tables::{Key, Name, Names, Place, Refusal};
+use serde_json::Value;
+use std::alloc::Global;
+
+/// A whole number from low to high.
+pub fn number(object: &Value, key: Key, low: u32, high: u32, at: Place) -> Result<u32, Refusal>
+    ensures least { IfOk result (λ n. low ≤ n) }
+    ensures most { IfOk result (λ n. n ≤ high) }
+    ensures gives { result ≡ under at (view object.now) key (number low high) }
+{
+    let value = kinds::value_of(object, key, at)?;
+    kinds::number(value, low, high, at.key(key))
+}
+
+/// A truth value.
+pub fn truth(object: &Value, key: Key, at: Place) -> Result<bool, Refusal>
+    ensures { result ≡ under at (view object.now) key truth }
+{
+    let value = kinds::value_of(object, key, at)?;
+    kinds::truth(value, at.key(key))
+}
+
+/// The number of the listed name that a key gives.
+pub fn reference(object: &Value, key: Key, numbers: &Names, at: Place) -> Result<u32, Refusal>
+    ensures { result ≡ under at (view object.now) key (reference (finds numbers.now)) }
+{
+    let value = kinds::value_of(object, key, at)?;
+    kinds::reference(value, numbers, at.key(key))
+}
+
+/// A text of 1 to 100 bytes.
+pub fn text(alloc: Global, object: &Value, key: Key, at: Place) -> Result<Name, InstanceError>
+    ensures { Gives (λ s. s) result (under at (view object.now) key text) }
+{
+    let value = kinds::value_of(object, key, at)?;
+    let text = kinds::text(value, at.key(key))?;
+    Ok(Name::new(String::from_str(alloc, text)?))
+}
+
+/// The id of an object, which no earlier one has.
+pub fn id(alloc: Global, object: &Value, earlier: &Names, at: Place) -> Result<Name, InstanceError>
+    ensures new { IfOk result (λ s. finds earlier.now s ≡ None) }
+    ensures gives { Gives (λ s. s) result (under at (view object.now) Key.Id (new_name (finds earlier.now))) }
+{
+    let value = kinds::value_of(object, Key::Id, at)?;
+    let text = kinds::new_name(value, earlier, at.key(Key::Id))?;
+    Ok(Name::new(String::from_str(alloc, text)?))
+}

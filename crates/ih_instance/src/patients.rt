@@ -1,0 +1,151 @@
+//! Patients.
+
+ghost use Rattle.std.specs.Prelude.{◌≡◌, ◌<◌, ◌≤◌, ◌^◌, IfOk, None, map, length};
+ghost use Rattle.serde_json.specs.View.{view};
+ghost use Rattle.ih_tables.specs.Lookups.{finds};
+ghost use Rattle.ih_instance.specs.Gives.{Gives};
+ghost use Rattle.ih_instance.specs.Checks.{each, under};
+ghost use Rattle.ih_instance.specs.Instance.{patient, due_day, room_number, room_numbers};
+
+use crate::errors::InstanceError;
+use crate::reads::Reads;
+use crate::{keys, kinds, vectors};
+use ih_tables::{Key, List, Names, Patient, Place, Refusal, RoomNo, SurgeonNo};
+use serde_json::Value;
+use std::alloc::Global;
+
+/// The due day, which only a mandatory patient has.
+fn due_day(object: &Value, mandatory: bool, at: Place) -> Result<Option<u32>, Refusal>
+    ensures { result ≡ due_day mandatory at (view object.now) }
+{
+    if !mandatory {
+        return Ok(None);
+    }
+    let day = keys::number(object, Key::SurgeryDueDay, 0, 1000, at)?;
+    Ok(Some(day))
+}
+
+fn room_number(value: &Value, rooms: &Names, at: Place) -> Result<RoomNo, Refusal>
+    ensures { result ≡ room_number (finds rooms.now) at (view value.now) }
+{
+    let n = kinds::reference(value, rooms, at)?;
+    Ok(RoomNo(n))
+}
+
+#[tactic(auto, using(crate::proofs::Items::reading))]
+fn each_number(
+    alloc: Global,
+    values: &[Value],
+    rooms: &Names,
+    at: Place,
+) -> Result<List<RoomNo>, InstanceError>
+    requires { length values.now < 2 ^ 32 }
+    ensures { Gives (λ xs. xs) result (each (λ _. room_number (finds rooms.now)) at (map view values.now)) }
+{
+    let mut read = Vec::new(alloc);
+    let mut i = 0;
+    for value in values {
+        read.push(room_number(value, rooms, at.item(i))?)?;
+        i += 1;
+    }
+    Ok(List::new(read))
+}
+
+fn room_numbers(
+    alloc: Global,
+    value: &Value,
+    rooms: &Names,
+    at: Place,
+) -> Result<List<RoomNo>, InstanceError>
+    ensures { Gives (λ xs. xs) result (room_numbers (finds rooms.now) at (view value.now)) }
+{
+    let values = kinds::list_of(value, 0, 1024, at)?;
+    each_number(alloc, values, rooms, at)
+}
+
+fn closed_rooms(
+    alloc: Global,
+    object: &Value,
+    rooms: &Names,
+    at: Place,
+) -> Result<List<RoomNo>, InstanceError>
+    ensures { Gives (λ xs. xs) result
+        (under at (view object.now) Key.IncompatibleRoomIds (room_numbers (finds rooms.now))) }
+{
+    let value = kinds::value_of(object, Key::IncompatibleRoomIds, at)?;
+    room_numbers(alloc, value, rooms, at.key(Key::IncompatibleRoomIds))
+}
+
+/// The reader of patients.
+#[derive(Drop)]
+pub struct Patients<'a> {
+    pub days: u32,
+    pub groups: &'a Names,
+    pub surgeons: &'a Names,
+    pub rooms: &'a Names,
+    pub ghost most: { days ≤ 56 },
+}
+
+impl<'a> Reads for Patients<'a> {
+    type Item = Patient;
+
+    ghost name = { λ p. p.id };
+
+    ghost reading = { λ r. patient r.days (finds r.groups.now) (finds r.surgeons.now) (finds r.rooms.now) };
+
+    fn name<'b>(&self, item: &'b Patient) -> &'b str {
+        item.id.as_str()
+    }
+
+    #[tactic(auto, unfolding(crate::specs::Instance::patient))]
+    fn read(
+        &self,
+        alloc: Global,
+        value: &Value,
+        earlier: &Names,
+        at: Place,
+    ) -> Result<Patient, InstanceError> {
+        let _ = kinds::object(value, at)?;
+        let id = keys::id(alloc, value, earlier, at)?;
+        let mandatory = keys::truth(value, Key::Mandatory, at)?;
+        let gender = keys::text(alloc, value, Key::Gender, at)?;
+        let age_group = keys::reference(value, Key::AgeGroup, self.groups, at)?;
+        let length_of_stay = keys::number(value, Key::LengthOfStay, 1, 100, at)?;
+        let surgery_release_day = keys::number(value, Key::SurgeryReleaseDay, 0, 1000, at)?;
+        let surgery_due_day = due_day(value, mandatory, at)?;
+        let surgery_duration = keys::number(value, Key::SurgeryDuration, 0, 100_000, at)?;
+        let surgeon = keys::reference(value, Key::SurgeonId, self.surgeons, at)?;
+        let incompatible_room_ids = closed_rooms(alloc, value, self.rooms, at)?;
+        let entries = 3 * length_of_stay.min(self.days) as usize;
+        let workload_produced = vectors::under(
+            alloc,
+            value,
+            Key::WorkloadProduced,
+            entries,
+            100_000,
+            at,
+        )?;
+        let skill_level_required = vectors::under(
+            alloc,
+            value,
+            Key::SkillLevelRequired,
+            entries,
+            1000,
+            at,
+        )?;
+        Ok(Patient {
+            id,
+            mandatory,
+            gender,
+            age_group,
+            length_of_stay,
+            surgery_release_day,
+            surgery_due_day,
+            surgery_duration,
+            surgeon_id: SurgeonNo(surgeon),
+            incompatible_room_ids,
+            workload_produced,
+            skill_level_required,
+        })
+    }
+}

@@ -1,0 +1,119 @@
+//! Lists of items with distinct ids. One loop reads them all, by the reader of their kind, and makes the
+//! table in which later references are looked up.
+
+ghost use Rattle.std.specs.Prelude.{◌≡◌, ◌<◌, ◌≤◌, ◌^◌, ℕ, List as Items, Option, Result, IfOk, None, map, length};
+ghost use Rattle.serde_json.specs.View.{view};
+ghost use Rattle.serde_json.specs.Data.{Data};
+ghost use Rattle.ih_tables.specs.Lookups.{finds, IsIndexOf};
+ghost use Rattle.ih_tables.specs.declared.refusals.Place.{Place as PlaceOf};
+ghost use Rattle.ih_instance.specs.Gives.{Gives};
+ghost use Rattle.ih_instance.specs.Checks.{Check, each_named, named, under};
+
+use crate::errors::InstanceError;
+use crate::kinds;
+use ih_tables::{Key, List, Names, Place};
+use serde_json::Value;
+use std::alloc::Global;
+
+/// The reader of one kind of item.
+pub trait Reads {
+    type Item: Drop;
+
+    // An item's id.
+    ghost name: { Self.Item → Items ℕ };
+
+    // How an item is read, where the ids of earlier items have these numbers.
+    ghost reading: { Self → (Items ℕ → Option ℕ) → Check Self.Item };
+
+    fn name<'a>(&self, item: &'a Self::Item) -> &'a str
+        ensures { result.now ≡ name item.now };
+
+    fn read(
+        &self,
+        alloc: Global,
+        value: &Value,
+        earlier: &Names,
+        at: Place,
+    ) -> Result<Self::Item, InstanceError>
+        ensures new { IfOk result (λ x. finds earlier.now (name x) ≡ None) }
+        ensures gives { Gives (λ x. x) result (reading self.now (finds earlier.now) at (view value.now)) };
+}
+
+/// Items in their order, each whole before the next, and the numbers of their ids.
+#[tactic(auto, using(crate::proofs::Named::naming))]
+pub fn each<R: Reads>(
+    alloc: Global,
+    reader: &R,
+    values: &[Value],
+    at: Place,
+) -> Result<(List<R::Item>, Names), InstanceError>
+    requires { length values.now < 2 ^ 32 }
+    ensures few { IfOk result (λ x. length x.0 ≤ length values.now) }
+    ensures numbers { IfOk result (λ x. IsIndexOf x.1 (map R.name x.0)) }
+    ensures gives { Gives (λ x. x.0) result (each_named R.name (R.reading reader.now) at (map view values.now)) }
+{
+    let mut items = Vec::new(alloc);
+    let mut numbers = Names::new(alloc);
+    let mut i = 0;
+    for value in values {
+        let item = reader.read(alloc, value, &numbers, at.item(i))?;
+        numbers.add(alloc, reader.name(&item), i)?;
+        items.push(item)?;
+        i += 1;
+    }
+    Ok((List::new(items), numbers))
+}
+
+/// A list of low to high such items.
+pub fn list<R: Reads>(
+    alloc: Global,
+    reader: &R,
+    value: &Value,
+    low: usize,
+    high: usize,
+    at: Place,
+) -> Result<(List<R::Item>, Names), InstanceError>
+    requires { high < 2 ^ 32 }
+    ensures few { IfOk result (λ x. length x.0 ≤ high) }
+    ensures numbers { IfOk result (λ x. IsIndexOf x.1 (map R.name x.0)) }
+    ensures gives { Gives (λ x. x.0) result (named low high R.name (R.reading reader.now) at (view value.now)) }
+{
+    let values = kinds::list_of(value, low, high, at)?;
+    each(alloc, reader, values, at)
+}
+
+/// The list under a key.
+pub fn under<R: Reads>(
+    alloc: Global,
+    reader: &R,
+    object: &Value,
+    key: Key,
+    low: usize,
+    high: usize,
+    at: Place,
+) -> Result<(List<R::Item>, Names), InstanceError>
+    requires { high < 2 ^ 32 }
+    ensures few { IfOk result (λ x. length x.0 ≤ high) }
+    ensures numbers { IfOk result (λ x. IsIndexOf x.1 (map R.name x.0)) }
+    ensures gives { Gives (λ x. x.0) result
+        (under at (view object.now) key (named low high R.name (R.reading reader.now))) }
+{
+    let value = kinds::value_of(object, key, at)?;
+    list(alloc, reader, value, low, high, at.key(key))
+}
+
+/// The items of the list under a key, without their numbers.
+pub fn items_under<R: Reads>(
+    alloc: Global,
+    reader: &R,
+    object: &Value,
+    key: Key,
+    high: usize,
+    at: Place,
+) -> Result<List<R::Item>, InstanceError>
+    requires { high < 2 ^ 32 }
+    ensures { Gives (λ x. x) result (under at (view object.now) key (named 0 high R.name (R.reading reader.now))) }
+{
+    let (items, _) = under(alloc, reader, object, key, 0, high, at)?;
+    Ok(items)
+}

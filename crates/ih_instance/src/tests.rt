@@ -1,0 +1,173 @@
+//! Two small files, and what is answered for each after one change.
+
+use crate::{InstanceError, read_instance};
+use ih_tables::{Fault, Place, Refusal};
+use std::alloc::Global;
+use std::test::Fail;
+
+/// One day, one room, one nurse, one occupant and no patients.
+const SMALL: &str = r#"{"days":1,"skill_levels":3,"shift_types":["early","late","night"],
+"age_groups":["child","adult","old"],
+"weights":{"room_mixed_age":5,"room_nurse_skill":10,"continuity_of_care":2,
+"nurse_eccessive_workload":1,"open_operating_theater":30,"surgeon_transfer":7,
+"patient_delay":4,"unscheduled_optional":100},
+"occupants":[{"id":"a0","gender":"A","age_group":"adult","length_of_stay":1,
+"workload_produced":[2,1,1],"skill_level_required":[1,0,2],"room_id":"r0"}],
+"patients":[],"surgeons":[],"operating_theaters":[],
+"rooms":[{"id":"r0","capacity":2}],
+"nurses":[{"id":"n0","skill_level":1,"working_shifts":[
+{"day":0,"shift":"early","max_load":2},{"day":0,"shift":"late","max_load":2},
+{"day":0,"shift":"night","max_load":2}]}]}"#;
+
+/// Two days, with a mandatory patient who stays past the horizon and an optional one.
+const LARGER: &str = r#"{"days":2,"skill_levels":3,"shift_types":["early","late","night"],
+"age_groups":["child","adult","old"],
+"weights":{"room_mixed_age":5,"room_nurse_skill":10,"continuity_of_care":2,
+"nurse_eccessive_workload":1,"open_operating_theater":30,"surgeon_transfer":7,
+"patient_delay":4,"unscheduled_optional":100},
+"occupants":[{"id":"a0","gender":"A","age_group":"adult","length_of_stay":1,
+"workload_produced":[1,1,1],"skill_level_required":[0,0,2],"room_id":"r0"}],
+"patients":[{"id":"p0","mandatory":true,"gender":"A","age_group":"old","length_of_stay":5,
+"surgery_release_day":0,"surgery_due_day":1,"surgery_duration":60,"surgeon_id":"s0",
+"incompatible_room_ids":["r1"],"workload_produced":[2,2,2,2,2,2],
+"skill_level_required":[0,0,0,0,0,0]},
+{"id":"p1","mandatory":false,"gender":"B","age_group":"child","length_of_stay":1,
+"surgery_release_day":0,"surgery_duration":40,"surgeon_id":"s0",
+"incompatible_room_ids":[],"workload_produced":[1,1,1],"skill_level_required":[2,2,2]}],
+"surgeons":[{"id":"s0","max_surgery_time":[100,100]}],
+"operating_theaters":[{"id":"t0","availability":[60,60]},{"id":"t1","availability":[60,60]}],
+"rooms":[{"id":"r0","capacity":2},{"id":"r1","capacity":1}],
+"nurses":[{"id":"n0","skill_level":0,"working_shifts":[
+{"day":0,"shift":"early","max_load":3},{"day":0,"shift":"late","max_load":3},
+{"day":0,"shift":"night","max_load":3},{"day":1,"shift":"early","max_load":3},
+{"day":1,"shift":"late","max_load":3},{"day":1,"shift":"night","max_load":3}]}]}"#;
+
+/// What is answered for a text in which one part is replaced.
+fn answer(alloc: Global, text: &str, old: &str, new: &str) -> Result<String, Fail> {
+    let Some((before, after)) = text.split_once(old) else {
+        return Err(Fail::from("no such part"));
+    };
+    let changed = format!(in alloc; "{before}{new}{after}")?;
+    match read_instance(alloc, changed.as_bytes()) {
+        Ok(_) => Ok(String::from_str(alloc, "accepted")?),
+        Err(e) => Ok(format!(in alloc; "{e}")?),
+    }
+}
+
+#[test]
+fn each_change_has_its_answer(rt: HostRuntime) -> Result<(), Fail> {
+    let alloc = rt.alloc();
+    let rows = [
+        (SMALL, r#""days":1"#, r#""days":1"#, "accepted"),
+        (SMALL, "}]}]}", "}]}]", "NotJson at $"),
+        (
+            SMALL,
+            r#""rooms":[{"id":"r0","capacity":2}],"#,
+            "",
+            "Missing at $.rooms",
+        ),
+        (
+            SMALL,
+            r#""rooms":[{"id":"r0","capacity":2}],"#,
+            r#""rooms":[],"#,
+            "Length at $.rooms",
+        ),
+        (SMALL, r#""days":1"#, r#""days":0"#, "Range at $.days"),
+        (SMALL, r#""days":1"#, r#""days":1.0"#, "Kind at $.days"),
+        (
+            SMALL,
+            r#""length_of_stay":1"#,
+            r#""length_of_stay":0"#,
+            "Range at $.occupants[0].length_of_stay",
+        ),
+        (
+            SMALL,
+            r#""child","adult""#,
+            r#""child","child""#,
+            "Duplicate at $.age_groups[1]",
+        ),
+        (
+            SMALL,
+            r#""nurse_eccessive_workload":1,"#,
+            r#""nurse_excessive_workload":1,"#,
+            "accepted",
+        ),
+        (
+            SMALL,
+            r#""nurse_eccessive_workload":1,"#,
+            r#""nurse_excessive_workload":1,"nurse_eccessive_workload":1,"#,
+            "TwoWeights at $.weights",
+        ),
+        (
+            SMALL,
+            r#""nurse_eccessive_workload":1,"#,
+            "",
+            "Missing at $.weights.nurse_eccessive_workload",
+        ),
+        (
+            SMALL,
+            r#""room_id":"r0""#,
+            r#""room_id":"""#,
+            "Range at $.occupants[0].room_id",
+        ),
+        (
+            SMALL,
+            r#""shift":"night""#,
+            r#""shift":"late""#,
+            "Duplicate at $.nurses[0].working_shifts[2]",
+        ),
+        (LARGER, "[2,2,2,2,2,2]", r#"[2,2,2,2,2,2,"x"]"#, "accepted"),
+        (
+            LARGER,
+            "[2,2,2,2,2,2]",
+            "[2,2,2,2,2]",
+            "Length at $.patients[0].workload_produced",
+        ),
+        (
+            LARGER,
+            r#""surgery_due_day":1,"#,
+            "",
+            "Missing at $.patients[0].surgery_due_day",
+        ),
+        (
+            LARGER,
+            r#""surgery_duration":40,"#,
+            r#""surgery_due_day":"x","surgery_duration":40,"#,
+            "accepted",
+        ),
+        (
+            LARGER,
+            r#"40,"surgeon_id":"s0""#,
+            r#"40,"surgeon_id":"s1""#,
+            "Unknown at $.patients[1].surgeon_id",
+        ),
+    ];
+    for (text, old, new, wanted) in rows {
+        let given = answer(alloc, text, old, new)?;
+        assert_eq!(rt; given.as_str(), wanted);
+    }
+    Ok(())
+}
+
+#[test]
+fn an_instance_is_read(rt: HostRuntime) -> Result<(), Fail> {
+    let alloc = rt.alloc();
+    let Ok(inst) = read_instance(alloc, LARGER.as_bytes()) else {
+        return Err(Fail::from("refused"));
+    };
+    assert_eq!(rt;
+        [inst.patients(), inst.persons(), inst.rooms(), inst.shifts()],
+        [2, 3, 2, 6]
+    );
+    let Err(error) = read_instance(alloc, b"") else {
+        return Err(Fail::from("accepted"));
+    };
+    assert_eq!(rt;
+        error,
+        InstanceError::Refused(Refusal {
+            fault: Fault::NotJson,
+            at: Place::whole()
+        })
+    );
+    Ok(())
+}

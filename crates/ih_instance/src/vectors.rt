@@ -1,0 +1,61 @@
+//! Vectors: lists of at least so many numbers, of which the first count.
+
+ghost use Rattle.std.specs.Prelude.{◌≡◌, ◌<◌, ◌^◌, ◌≤◌, map, length};
+ghost use Rattle.serde_json.specs.View.{view};
+ghost use Rattle.ih_instance.specs.Gives.{Gives};
+ghost use Rattle.ih_instance.specs.Checks.{number, vector, each, under};
+
+use crate::errors::InstanceError;
+use crate::kinds;
+use ih_tables::{Key, List, Place};
+use serde_json::Value;
+use std::alloc::Global;
+
+#[tactic(auto, using(crate::proofs::Items::reading))]
+fn numbers(
+    alloc: Global,
+    values: &[Value],
+    high: u32,
+    at: Place,
+) -> Result<List<u32>, InstanceError>
+    requires { length values.now < 2 ^ 32 }
+    ensures { Gives (λ xs. xs) result (each (λ _. number 0 high) at (map view values.now)) }
+{
+    let mut read = Vec::new(alloc);
+    let mut i = 0;
+    for value in values {
+        read.push(kinds::number(value, 0, high, at.item(i))?)?;
+        i += 1;
+    }
+    Ok(List::new(read))
+}
+
+fn vector(
+    alloc: Global,
+    value: &Value,
+    n: usize,
+    high: u32,
+    at: Place,
+) -> Result<List<u32>, InstanceError>
+    requires { n < 2 ^ 32 }
+    ensures { Gives (λ xs. xs) result (vector n high at (view value.now)) }
+{
+    let values = kinds::first_items(value, n, at)?;
+    numbers(alloc, values, high, at)
+}
+
+/// The first numbers of a list under a key.
+pub fn under(
+    alloc: Global,
+    object: &Value,
+    key: Key,
+    n: usize,
+    high: u32,
+    at: Place,
+) -> Result<List<u32>, InstanceError>
+    requires { n < 2 ^ 32 }
+    ensures { Gives (λ xs. xs) result (under at (view object.now) key (vector n high)) }
+{
+    let value = kinds::value_of(object, key, at)?;
+    vector(alloc, value, n, high, at.key(key))
+}
