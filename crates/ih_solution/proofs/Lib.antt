@@ -1,0 +1,4 @@
+pub mod Examples
+pub mod ListedValues
+pub mod SolutionReads
+pub mod WholeNumbers

@@ -1,0 +1,9 @@
+use Rattle.std.proofs.Common.{◌≡◌, map}
+use Rattle.serde_json.specs.View.{view}
+use Rattle.ih_plan.specs.Sums.{listed}
+use Rattle.ih_plan.specs.Timetable.{stay_of}
+use Rattle.ih_solution.specs.Solution.{stay_data}
+use Rattle.ih_solution.proofs.patients.patient_values.Given as goal
+
+abbrev pub invariant-loop-p : goal.invariant-loop-p
+invariant-loop-p l = map view l.values.items ≡ listed l.p (λ p. stay_data l.inst.draft p (stay_of l.plan p))
