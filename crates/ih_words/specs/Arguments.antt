@@ -1,0 +1,28 @@
+-- The rules of the commands' arguments, for `clap`. What `clap`'s contracts call an app is a command's name
+-- with the rules of its arguments, in the order in which they were added.
+use Rattle.std.specs.Prelude.{ℕ, Some, true, codes}
+use Rattle.clap.specs.Words.{App, Rule, Text, new_rule, with_rule}
+use Rattle.clap.specs.declared.builder.action.ArgAction.TheVariants.{Set}
+use Rattle.clap.specs.declared.builder.value_parser.ValueParser.TheVariants.{Unsigned}
+use Rattle.ih_journal.specs.declared.settings.TheConstants.{MAX_HARD, MAX_HEAT, MAX_MOVES, MAX_WORKERS}
+
+-- a required argument with one value, by its place
+abbrev pub named : Text → Rule
+named id = record (new_rule id) { required = true; action = Some Set }
+
+-- a required `--id N`, where N is a number from low to high
+abbrev pub numbered_option : Text → ℕ → ℕ → Rule
+numbered_option id low high = record (named id) { long = Some id; parser = Some (Unsigned low high) }
+
+-- `--seed N`, where N is any number of 64 bits
+abbrev pub seed_option : Rule
+seed_option = numbered_option (codes "seed") 0 18446744073709551615
+
+-- the app with the options of a search
+abbrev pub with_options : App → App
+with_options app = with_rule (with_rule (with_rule (with_rule (with_rule app
+    seed_option)
+    (numbered_option (codes "workers") 1 MAX_WORKERS))
+    (numbered_option (codes "moves") 0 MAX_MOVES))
+    (numbered_option (codes "heat") 0 MAX_HEAT))
+    (numbered_option (codes "hard") 0 MAX_HARD)

@@ -1,0 +1,6 @@
+pub mod Arguments
+pub mod Distinct
+pub mod Matches
+pub mod Rules
+pub mod Solve
+pub mod Words

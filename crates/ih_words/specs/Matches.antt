@@ -1,0 +1,56 @@
+-- What `clap` reads of the words of a command, and the values that it gives to the arguments, by their ids.
+use Rattle.std.specs.Prelude.{◌≡◌, ℕ, Bool, List, [], Option, Some, None, unwrap_or, codes, if◌then◌else◌}
+use Rattle.std.specs.Str.Parse.{digits_value, without_leading_plus}
+use Rattle.clap.specs.Walk.{is_empty}
+use Rattle.clap.specs.Words.{App, IsUnsignedIn, Row, Text, fault_of, first_of, matches_of, one_of}
+use Rattle.ih_journal.specs.declared.settings.Options.{Options}
+use Rattle.ih_journal.specs.declared.settings.TheConstants.{MAX_HARD, MAX_HEAT, MAX_MOVES, MAX_WORKERS}
+
+-- `clap` finds no fault in the words, by the description of their command
+unfoldable pub has_no_fault : App → List Text → Bool
+has_no_fault app words = is_empty (fault_of app words)
+
+-- what the words ask of a command: `clap` finds no fault in them, and the values that its matches give are lawful
+abbrev pub call_by : {A : Type 0} → App → (List Row → Option A) → List Text → Option A
+call_by app lawful words = if has_no_fault app words then lawful (matches_of app words) else None
+
+-- the text of an argument
+abbrev pub text_at : Text → List Row → Text
+text_at id rows = unwrap_or (first_of id rows) []
+
+-- the number of an argument
+abbrev pub number_at : Text → List Row → ℕ
+number_at id rows = digits_value 10 (without_leading_plus (unwrap_or (one_of id rows) []))
+
+-- the argument has a text
+abbrev pub HasText : Text → List Row → Type 0
+HasText id rows = (t : Text) × (first_of id rows ≡ Some t)
+
+-- the argument has a number from low to high
+abbrev pub HasNumber : ℕ → ℕ → Text → List Row → Type 0
+HasNumber low high id rows = (t : Text) × (one_of id rows ≡ Some t) × IsUnsignedIn low high t
+
+-- each of three file names is there
+pub record HasNames (rows : List Row) (a b c : Text) : Type 0 where
+  pub first : HasText a rows
+  pub second : HasText b rows
+  pub third : HasText c rows
+
+-- each option of a search is there, and within its own limits
+pub record HasOptions (rows : List Row) : Type 0 where
+  pub seed : HasNumber 0 18446744073709551615 (codes "seed") rows
+  pub workers : HasNumber 1 MAX_WORKERS (codes "workers") rows
+  pub moves : HasNumber 0 MAX_MOVES (codes "moves") rows
+  pub heat : HasNumber 0 MAX_HEAT (codes "heat") rows
+  pub hard : HasNumber 0 MAX_HARD (codes "hard") rows
+
+-- the options of a search, by `clap`'s matches; a stale move isn't tried again
+abbrev pub options_in : List Row → Options
+options_in rows = record {
+  seed = number_at (codes "seed") rows;
+  workers = number_at (codes "workers") rows;
+  moves = number_at (codes "moves") rows;
+  heat = number_at (codes "heat") rows;
+  hard = number_at (codes "hard") rows;
+  retries = 0;
+}

@@ -1,0 +1,39 @@
+//! The commands, as callers see them, and how they are read.
+ghost use Rattle.std.specs.Prelude.{◌≡◌, IfErr, IfOk, None, Some, map, string_bytes};
+ghost use Rattle.ih_words.specs.Words.{HasLawfulOptions, call_of, command_call};
+
+use crate::solve::read_solve;
+use crate::{Solve, WordsError};
+use std::alloc::Global;
+
+/// A lawful command with its values.
+#[derive(Clone, Copy, Debug)]
+pub enum Command<'a> {
+    /// Searches, and writes the journal and the best solution.
+    Solve(Solve<'a>),
+}
+
+/// The command that the words give, with its values. The words are those after the program's name.
+/// The first is the command's name, and `clap` reads them all. A number is written in digits, with
+/// or without leading zeros and a plus sign.
+///
+/// # Errors
+///
+/// - `Unlawful` where no command has these words: the first word is no command's name, `clap` finds
+///   a fault (a call for help is one), two file names are equal, or a journal could come to more
+///   than `MAX_ENTRIES` entries.
+/// - `OutOfMemory` where memory ran out.
+#[tactic(auto, unfolding(crate::specs::Words::call_of))]
+pub fn read_words<'a>(alloc: Global, words: &'a [String]) -> Result<Command<'a>, WordsError>
+    ensures ok { IfOk result (λ c. call_of (map string_bytes words.entry.now) ≡ Some (command_call c)) }
+    ensures lawful { IfOk result HasLawfulOptions }
+    ensures unlawful { IfErr result (λ e. e ≡ WordsError.Unlawful → call_of (map string_bytes words.entry.now) ≡ None) }
+{
+    let Some(name) = words.first() else {
+        return Err(WordsError::Unlawful);
+    };
+    match name.as_str() {
+        "solve" => Ok(Command::Solve(read_solve(alloc, words)?)),
+        _ => Err(WordsError::Unlawful),
+    }
+}

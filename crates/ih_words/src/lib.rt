@@ -1,0 +1,17 @@
+//! The words of a command line: the command that they give, with its values, or that they give none.
+//! Each command has a description for `clap`, which reads the words, and conditions of its own on what was read.
+#![tactic(auto)]
+
+mod arguments;
+mod command;
+mod error;
+mod file_names;
+mod matches;
+mod solve;
+
+pub use command::{Command, read_words};
+pub use error::WordsError;
+pub use solve::Solve;
+
+#[cfg(test)]
+mod tests;

@@ -1,0 +1,67 @@
+//! What `clap` reads of the words of a command, and the values that it gives to the arguments.
+ghost use Rattle.std.specs.Prelude.{◌≡◌, ◌≤◌, ℕ, IfErr, IfOk, true, false, map, string_bytes};
+ghost use Rattle.clap.specs.Words.{Rule, app_of, found_of, is_simple_and_free, matches_of, rows_of};
+ghost use Rattle.ih_words.specs.Matches.{HasNumber, HasOptions, HasText, has_no_fault, number_at, options_in, text_at};
+ghost use Rattle.ih_journal.specs.Settings.{IsLawful, most_entries};
+ghost use Rattle.ih_words.specs.Rules.{Requires, RequiresNumber, has_independent_rules};
+
+use crate::WordsError;
+use clap::ArgMatches;
+use ih_journal::{MAX_ENTRIES, Options};
+
+// What `clap` reads of the words of a command.
+pub(crate) fn matches_in<'a>(
+    description: clap::Command<'a>,
+    words: &'a [String],
+) -> Result<ArgMatches<'a>, WordsError>
+    requires simple { is_simple_and_free (app_of description) ≡ true }
+    requires independent { has_independent_rules (app_of description) ≡ true }
+    ensures no_fault { IfOk result (λ m. has_no_fault (app_of description.entry) (map string_bytes words.entry.now) ≡ true) }
+    ensures rows { IfOk result (λ m. rows_of (found_of m) ≡ matches_of (app_of description.entry) (map string_bytes words.entry.now)) }
+    ensures texts { IfOk result (λ m. (k : ℕ) (rule : Rule) → Requires (app_of description.entry) k rule → HasText rule.id (rows_of (found_of m))) }
+    ensures numbers { IfOk result (λ m. (k : ℕ) (rule : Rule) (low high : ℕ) → RequiresNumber (app_of description.entry) k rule low high → HasNumber low high rule.id (rows_of (found_of m))) }
+    ensures unlawful { IfErr result (λ e. e ≡ WordsError.Unlawful → has_no_fault (app_of description.entry) (map string_bytes words.entry.now) ≡ false) }
+{
+    let matches = description.try_get_matches_from(words)?;
+    Ok(matches)
+}
+
+// The text of an argument that has one.
+pub(crate) fn text_of<'a>(matches: &ArgMatches<'a>, id: &str) -> &'a str
+    requires { HasText id.now (rows_of (found_of matches.now)) }
+    ensures { result.now ≡ text_at id.now (rows_of (found_of matches.now)) }
+{
+    matches.get_str(id).unwrap()
+}
+
+// The number of an argument that has one.
+pub(crate) fn u64_of(matches: &ArgMatches, id: &str) -> u64
+    requires { HasNumber 0 18446744073709551615 id.now (rows_of (found_of matches.now)) }
+    ensures { result ≡ number_at id.now (rows_of (found_of matches.now)) }
+{
+    matches.get_one::<u64>(id).unwrap()
+}
+
+// The same, of a number that fits 32 bits.
+pub(crate) fn u32_of(matches: &ArgMatches, id: &str) -> u32
+    requires { HasNumber 0 4294967295 id.now (rows_of (found_of matches.now)) }
+    ensures { result ≡ number_at id.now (rows_of (found_of matches.now)) }
+{
+    matches.get_one::<u32>(id).unwrap()
+}
+
+// The options of a search. They are lawful where they come to no more entries than a journal may have.
+pub(crate) fn options_in(matches: &ArgMatches) -> Options
+    requires { HasOptions (rows_of (found_of matches.now)) }
+    ensures value { result ≡ options_in (rows_of (found_of matches.now)) }
+    ensures limits { most_entries result ≤ MAX_ENTRIES → IsLawful result }
+{
+    Options {
+        seed: u64_of(matches, "seed"),
+        workers: u32_of(matches, "workers"),
+        moves: u32_of(matches, "moves"),
+        heat: u32_of(matches, "heat"),
+        hard: u32_of(matches, "hard"),
+        retries: 0,
+    }
+}

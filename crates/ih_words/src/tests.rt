@@ -1,0 +1,73 @@
+//! Examples of the public calls, with ample memory.
+use crate::{Command, WordsError, read_words};
+use ih_journal::Options;
+use std::alloc::{AllocError, Global};
+use std::test::Fail;
+
+fn owned(alloc: Global, words: &[&str]) -> Result<Vec<String>, AllocError> {
+    let mut all = Vec::new(alloc);
+    for word in words {
+        all.push(format!(in alloc; "{word}")?)?;
+    }
+    Ok(all)
+}
+
+#[test]
+fn solve_has_its_values(rt: HostRuntime) -> Result<(), Fail> {
+    let alloc = rt.alloc();
+    let words = owned(
+        alloc,
+        [
+            "solve",
+            "i",
+            "--seed=+007",
+            "o",
+            "j",
+            "--workers",
+            "64",
+            "--moves",
+            "15625",
+            "--heat",
+            "50",
+            "--hard",
+            "1000000",
+        ]
+        .as_slice(),
+    )?;
+    let wanted = Options {
+        seed: 7,
+        workers: 64,
+        moves: 15625,
+        heat: 50,
+        hard: 1_000_000,
+        retries: 0,
+    };
+    assert!(rt; wanted.lawful());
+    let read = read_words(alloc, words.as_slice());
+    match read {
+        Ok(Command::Solve(solve)) => {
+            assert!(rt; solve.instance == "i" && solve.out == "o" && solve.journal == "j");
+            assert!(rt; solve.options == wanted);
+        }
+        Err(_) => assert!(rt; false),
+    }
+    Ok(())
+}
+
+fn is_unlawful(alloc: Global, list: &[&str]) -> Result<bool, AllocError> {
+    let words = owned(alloc, list)?;
+    let read = read_words(alloc, words.as_slice());
+    Ok(matches!(&read, Err(WordsError::Unlawful)))
+}
+
+#[test]
+fn other_words_are_unlawful(rt: HostRuntime) -> Result<(), Fail> {
+    let alloc = rt.alloc();
+    assert!(rt; is_unlawful(alloc, [].as_slice())?);
+    assert!(rt; is_unlawful(alloc, ["check", "i", "s"].as_slice())?);
+    assert!(rt; is_unlawful(alloc, ["solve", "--help"].as_slice())?);
+    assert!(rt; is_unlawful(alloc, ["solve", "i", "o", "j"].as_slice())?);
+    let text = format!(in alloc; "{}", WordsError::Unlawful)?;
+    assert!(rt; text.as_str() == "no command has these words");
+    Ok(())
+}
