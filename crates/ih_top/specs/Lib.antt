@@ -1,0 +1,6 @@
+pub mod Answers
+pub mod Codes
+pub mod Ends
+pub mod Outputs
+pub mod Searching
+pub mod Texts

@@ -1,0 +1,71 @@
+-- A search whose workers take turns: what it is given, and how far it has come.
+use Rattle.std.specs.Prelude.{◌≡◌, ℕ, Bool, length, ◌+◌, ◌<◌, ◌≤◌, List, [], ◌∷◌, ◌++◌, slice_get, Some, false, if◌then◌else◌, int_lt}
+use Rattle.std.specs.List.{list_any}
+use Rattle.ih_tables.specs.declared.bills.Bill.{Bill}
+use Rattle.ih_tables.specs.Bills.{score, feasible, cost}
+use Rattle.ih_plan.specs.declared.moves.Write.{Write}
+use Rattle.ih_plan.specs.Timetable.{IsPlanOf}
+use Rattle.ih_plan.specs.BillOf.{bill_of}
+use Rattle.ih_plan.specs.Draws.{stream_at}
+use Rattle.ih_journal.specs.declared.entries.Entry.{Entry}
+use Rattle.ih_journal.specs.Base.{Base}
+use Rattle.ih_journal.specs.declared.entries.Verdict.{Verdict}
+use Rattle.ih_journal.specs.declared.entries.Verdict.TheVariants.{Accepted, Declined, Frozen}
+use Rattle.ih_journal.specs.Settings.{IsLawful, theta}
+use Rattle.ih_journal.specs.Frozen.{is_frozen_write}
+use Rattle.ih_journal.specs.Attempts.{HasMade, is_stale}
+use Rattle.ih_journal.specs.History.{plan_after, is_accepted}
+use Rattle.ih_journal.specs.Legal.{AreLegal}
+use Rattle.ih_journal.specs.Best.{BestIs, best_with}
+use Rattle.ih_top.specs.declared.search.Given.{Given}
+use Rattle.ih_top.specs.declared.search.Standing.{Standing}
+
+abbrev pub base_of : Given → Base
+base_of g = record { instance = g.inst.now.draft; start = g.start.now; options = g.options; freeze = g.freeze }
+
+pub record IsGiven (b : Base) : Type 0 where
+  pub start : IsPlanOf b.instance b.start
+  pub lawful : IsLawful b.options
+
+-- the verdict on writes that nobody came before: frozen, too dear, or else accepted
+abbrev pub judged : Base → List Write → ℕ → Bill → Verdict
+judged b ws number price =
+    if list_any (is_frozen_write b.start b.freeze) ws then Frozen
+    else if int_lt (theta b.options number) (score b.options.hard b.instance.weights price) then Declined
+    else Accepted
+
+-- what follows from the entries is kept beside them
+pub record IsStanding (b : Base) (s : Standing) : Type 0 where
+  pub legal : AreLegal b s.entries.items
+  pub plan : s.plan ≡ plan_after b s.entries.items
+  pub fits : IsPlanOf b.instance s.plan
+  pub room : IsPlanOf b.instance s.moved
+  pub bill : s.bill ≡ bill_of b.instance s.plan
+  pub best : BestIs b s.entries.items s.best
+
+-- one entry of a worker's move was added
+pub record HasGrown (old new : List Entry) (worker number : ℕ) : Type 0 where
+  pub entry : Entry
+  pub joins : new ≡ old ++ entry ∷ []
+  pub own : entry.worker ≡ worker
+  pub move : entry.number ≡ number
+  pub fresh : is_stale entry.verdict ≡ false
+
+-- the workers below v have made their moves below i + 1, and the others theirs below i
+pub record AreAt (b : Base) (H : List Entry) (streams : List (List ℕ)) (v i : ℕ) : Type 0 where
+  pub before : (w : ℕ) → w < v → HasMade b.options H w (i + 1)
+  pub behind : (w : ℕ) → v ≤ w → w < b.options.workers → HasMade b.options H w i
+  pub drawn : (w : ℕ) → w < v → slice_get streams w ≡ Some (stream_at b.options.seed w (i + 1))
+  pub waiting : (w : ℕ) → v ≤ w → w < b.options.workers → slice_get streams w ≡ Some (stream_at b.options.seed w i)
+
+-- the move under trial made, where it is accepted
+abbrev pub settled : Standing → Bool → Bill → Standing
+settled s accepted bill = record s { plan = if accepted then s.moved else s.plan; bill = if accepted then bill else s.bill }
+
+-- The entry was added, its move made where it is accepted, and the timetable noted that is then there.
+pub record IsTaken (b : Base) (old new : Standing) (e : Entry) (after : Bill) : Type 0 where
+  pub entries : new.entries.items ≡ old.entries.items ++ e ∷ []
+  pub plan : new.plan ≡ (if is_accepted e.verdict then old.moved else old.plan)
+  pub room : new.moved ≡ old.moved
+  pub bill : new.bill ≡ (if is_accepted e.verdict then after else old.bill)
+  pub best : new.best ≡ best_with old.best (length old.entries.items + 1) (feasible new.bill) (cost b.instance.weights new.bill)

@@ -1,0 +1,56 @@
+//! A command's answer, and how it is said.
+
+ghost use Rattle.std.specs.Prelude.{◌≡◌, ◌≤◌};
+ghost use Rattle.ih_top.specs.Texts.{memory_text};
+ghost use Rattle.ih_top.specs.Ends.{Gained, GainedPart};
+ghost use Rattle.ih_top.specs.Answers.{unsaid, IsConcluded, HasPutCause};
+
+use crate::status::Status;
+use ih_shelf::{Sink, WriteError};
+
+/// How a command ended, and the text that says so. Where memory ran out, the text doesn't count.
+#[derive(Drop)]
+pub struct Answer {
+    pub status: Status,
+    pub text: Vec<u8>,
+}
+
+// The status of an answer whose text couldn't be put out: where all else was done, this is the fault.
+fn unsaid(status: Status) -> Status
+    ensures { result ≡ unsaid status }
+{
+    match status {
+        Status::Done => Status::WriteFault(None),
+        status => status,
+    }
+}
+
+/// Says that memory ran out, as far as that goes.
+pub fn conclude_memory<R: Print, O: Sink>(rt: &R, out: &mut O) -> Status
+    ensures status { result ≡ Status.OutOfMemory }
+    ensures said { GainedPart (O.text out.old) (O.text out.new) memory_text }
+    ensures count { O.faults out.old ≤ O.faults out.new }
+{
+    match out.put(rt, b"out of memory\n") {
+        Ok(()) => Status::OutOfMemory,
+        Err(_) => Status::OutOfMemory,
+    }
+}
+
+/// Puts the answer's text, in one put, and gives the status of the call.
+pub fn conclude<R: Print, O: Sink>(rt: &R, out: &mut O, answer: &Answer) -> Status
+    ensures said { IsConcluded answer.now.status
+        (Gained result (O.text out.old) (O.text out.new) (O.faults out.old) (O.faults out.new) answer.now.text.items)
+        (GainedPart (O.text out.old) (O.text out.new) answer.now.text.items)
+        (GainedPart (O.text out.old) (O.text out.new) memory_text) result }
+    ensures cause { HasPutCause answer.now.status (O.faults out.old) (O.faults out.new) result }
+{
+    if let Status::OutOfMemory = answer.status {
+        return conclude_memory(rt, out);
+    }
+    match out.put(rt, answer.text.as_slice()) {
+        Ok(()) => answer.status,
+        Err(WriteError::Fault) => unsaid(answer.status),
+        Err(WriteError::OutOfMemory) => Status::OutOfMemory,
+    }
+}

@@ -1,0 +1,18 @@
+//! The program: one call that reads, searches, writes and says what it did.
+#![tactic(auto)]
+
+mod answer;
+mod files;
+mod history;
+mod output;
+mod running;
+mod search;
+mod solving;
+mod status;
+#[cfg(test)]
+mod tests;
+mod texts;
+
+pub use files::MAX_FILE;
+pub use running::run;
+pub use status::{Role, Status};

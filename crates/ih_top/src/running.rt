@@ -1,0 +1,71 @@
+//! The one call that does all that the program does.
+
+ghost use Rattle.std.specs.Prelude.{◌≡◌, map, string_bytes};
+ghost use Rattle.ih_journal.specs.Settings.{IsLawful};
+ghost use Rattle.ih_words.specs.Solve.{solve_call};
+ghost use Rattle.ih_words.specs.Words.{HasLawfulOptions, call_of, command_call, solve};
+ghost use Rattle.ih_top.specs.Ends.{Gained, GainedPart, HasCause, IsComplete, LeavesWhereTold, Speaks};
+ghost use Rattle.ih_shelf.specs.Outside.{Rose};
+
+use crate::answer::{Answer, conclude, conclude_memory};
+use crate::solving::solve;
+use crate::status::Status;
+use crate::texts::usage;
+use ih_shelf::{Gate, Shelf, Sink};
+use ih_words::{Command, Solve, WordsError, read_words};
+use std::alloc::Global;
+use std::rt::Files;
+use std::sync::Wait;
+use std::thread::Threads;
+
+// The values of the only command that there is.
+fn solve_of<'a>(command: Command<'a>) -> Solve<'a>
+    ensures call { command_call command.entry ≡ solve (solve_call result) }
+    ensures lawful { HasLawfulOptions command.entry → IsLawful result.options }
+{
+    let Command::Solve(call) = command;
+    call
+}
+
+/// Does all that the program does, by the words after its name.
+///
+/// The words are read first, then the files, then the search is made; the journal is written, then the solution of the
+/// best, and at last one text is put out. Where one of these fails, nothing later is done but to say so.
+pub fn run<R: Files + Print + Threads + Wait + Sync, S: Shelf, O: Sink, G: Gate>(
+    rt: &R,
+    alloc: Global,
+    words: &[String],
+    shelf: &mut S,
+    out: &mut O,
+    _gate: &G,
+) -> Status
+    // What the files then hold, and the text that was put out, by the call that the words name and the status.
+    ensures leaves { LeavesWhereTold (call_of (map string_bytes words.now)) (S.names shelf.old) (S.names shelf.new)
+        (Gained result (O.text out.old) (O.text out.new) (O.faults out.old) (O.faults out.new))
+        (GainedPart (O.text out.old) (O.text out.new)) result }
+
+    // What was put out, also where the shelf doesn't tell what it holds.
+    ensures speaks { Speaks (call_of (map string_bytes words.now))
+        (Gained result (O.text out.old) (O.text out.new) (O.faults out.old) (O.faults out.new))
+        (GainedPart (O.text out.old) (O.text out.new)) result }
+
+    // A fault is answered only where its count rose in this call.
+    ensures cause { HasCause (S.read_faults shelf.old) (S.read_faults shelf.new) (S.write_faults shelf.old)
+        (S.write_faults shelf.new) (O.faults out.old) (O.faults out.new) result }
+
+    // Where the words are lawful, the instance is accepted and no count rose, a search ends with its best, or with none.
+    ensures complete { IsComplete (call_of (map string_bytes words.now)) (S.names shelf.old)
+        (Rose (S.read_faults shelf.old) (S.read_faults shelf.new))
+        (Rose (S.write_faults shelf.old) (S.write_faults shelf.new))
+        (Rose (O.faults out.old) (O.faults out.new)) result }
+{
+    match read_words(alloc, words) {
+        Ok(command) => {
+            let call = solve_of(command);
+            let answer = solve(rt, alloc, &call, shelf);
+            conclude(rt, out, &answer)
+        }
+        Err(WordsError::Unlawful) => conclude(rt, out, &usage(alloc)),
+        Err(WordsError::OutOfMemory) => conclude_memory(rt, out),
+    }
+}

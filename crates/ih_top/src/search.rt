@@ -1,0 +1,296 @@
+//! The search: workers that take turns, one move each, on one timetable.
+
+ghost use Rattle.std.specs.Prelude.{◌≡◌, ◌<◌, ◌≤◌, ◌+◌, ◌*◌, ◌^◌, ℕ, OnOk, IfOk, length, slice_get, Some, []};
+ghost use Rattle.std.specs.List.{list_any};
+ghost use Rattle.ih_tables.specs.Bills.{IsWithin, feasible, cost};
+ghost use Rattle.ih_plan.specs.Timetable.{IsPlanOf};
+ghost use Rattle.ih_plan.specs.Writes.{put_all, AreWritesOf};
+ghost use Rattle.ih_plan.specs.BillOf.{bill_of, change_of_bill};
+ghost use Rattle.ih_plan.specs.Expand.{after, expand, IsMoveOf};
+ghost use Rattle.ih_plan.specs.Draws.{stream_at, move_of};
+ghost use Rattle.ih_journal.specs.Frozen.{is_frozen, is_frozen_write};
+ghost use Rattle.ih_journal.specs.Attempts.{HasMade};
+ghost use Rattle.ih_journal.specs.History.{is_accepted};
+ghost use Rattle.ih_journal.specs.Legal.{IsFull};
+ghost use Rattle.ih_journal.specs.Best.{BestIs, best_with};
+ghost use Rattle.ih_top.specs.Searching.{base_of, IsGiven, IsStanding, HasGrown, AreAt, judged, settled, IsTaken};
+
+use ih_journal::{Entry, Options, Verdict, frozen};
+use ih_moves::{Stream, Writes, expand};
+use ih_plan::{Move, Plan, Write};
+use ih_tables::{Bill, Instance};
+use ih_validate::bill;
+use std::alloc::{AllocError, Global};
+
+/// What a search is given.
+#[derive(Drop)]
+pub struct Given<'a> {
+    pub inst: &'a Instance,
+    pub start: &'a Plan,
+    pub options: Options,
+    pub freeze: u32,
+}
+
+/// A history, with what follows from it.
+#[derive(Drop)]
+pub struct Standing {
+    /// The timetable after the entries.
+    pub plan: Plan,
+    /// Room for the timetable after the move under trial.
+    pub moved: Plan,
+    /// The bill of the timetable after the entries.
+    pub bill: Bill,
+    pub entries: Vec<Entry>,
+    /// The place and the cost of the first cheapest feasible timetable.
+    pub best: Option<(u32, i64)>,
+}
+
+// Makes the writes in order.
+pub fn put_all(inst: &Instance, plan: &mut Plan, writes: &[Write])
+    requires plan { IsPlanOf inst.now.draft plan.old }
+    requires writes { AreWritesOf inst.now.draft writes.now }
+    ensures { plan.new ≡ put_all writes.now plan.old }
+{
+    for w in writes {
+        plan.put(w);
+    }
+}
+
+// Whether one of the writes changes a choice before the freeze day.
+fn is_frozen(given: &Given<'_>, writes: &[Write]) -> bool
+    requires plan { IsPlanOf given.now.inst.now.draft given.now.start.now }
+    requires writes { AreWritesOf given.now.inst.now.draft writes.now }
+    ensures { result ≡ list_any (is_frozen_write given.now.start.now given.now.freeze) writes.now }
+{
+    for w in writes {
+        if frozen(given.start, given.freeze, w) {
+            return true;
+        }
+    }
+    false
+}
+
+// What becomes of a move that is offered right after it was priced.
+fn judge(given: &Given<'_>, writes: &[Write], number: u32, price: &Bill) -> Verdict
+    requires given { IsGiven (base_of given.now) }
+    requires writes { AreWritesOf given.now.inst.now.draft writes.now }
+    requires below { number < given.now.options.moves }
+    requires within { IsWithin (10 ^ 11) price.now }
+    ensures { result ≡ judged (base_of given.now) writes.now number price.now }
+{
+    let weights = given.inst.weights();
+    if is_frozen(given, writes) {
+        Verdict::Frozen
+    } else if price.score(given.options.hard, weights) > given.options.theta(number) {
+        Verdict::Declined
+    } else {
+        Verdict::Accepted
+    }
+}
+
+// The best so far, and one timetable more.
+fn with_place(
+    best: Option<(u32, i64)>,
+    place: u32,
+    now: &Bill,
+    inst: &Instance,
+) -> Option<(u32, i64)>
+    requires { IsWithin (10 ^ 11) now.now }
+    ensures { result ≡ best_with best place (feasible now.now) (cost inst.now.draft.weights now.now) }
+{
+    if !now.feasible() {
+        return best;
+    }
+    let cost = now.cost(inst.weights());
+    match best {
+        Some((_, least)) if cost >= least => best,
+        _ => Some((place, cost)),
+    }
+}
+
+// The bill after the move, of which `moved` then is the timetable.
+fn try_writes(given: &Given<'_>, standing: &mut Standing, writes: &[Write]) -> Bill
+    requires given { IsGiven (base_of given.now) }
+    requires plan { IsPlanOf given.now.inst.now.draft standing.old.plan }
+    requires room { IsPlanOf given.now.inst.now.draft standing.old.moved }
+    requires writes { AreWritesOf given.now.inst.now.draft writes.now }
+    ensures moved { standing.new ≡ record standing.old { moved = put_all writes.now standing.old.plan } }
+    ensures bill { result ≡ bill_of given.now.inst.now.draft (put_all writes.now standing.old.plan) }
+{
+    standing.moved.copy_from(&standing.plan);
+    put_all(given.inst, &mut standing.moved, writes);
+    bill(given.inst, &standing.moved)
+}
+
+// Makes the move under trial, where it is accepted.
+fn settle(standing: &mut Standing, verdict: &Verdict, after: &Bill)
+    requires stays { length standing.old.plan.stays ≡ length standing.old.moved.stays }
+    requires cares { length standing.old.plan.cares ≡ length standing.old.moved.cares }
+    requires shifts { standing.old.plan.shifts ≡ standing.old.moved.shifts }
+    ensures { standing.new ≡ settled standing.old (is_accepted verdict.now) after.now }
+{
+    if let Verdict::Accepted = *verdict {
+        standing.plan.copy_from(&standing.moved);
+        standing.bill = *after;
+    }
+}
+
+// Adds the entry, makes its move where it is accepted, and notes the timetable that is then there.
+fn take_in(
+    given: &Given<'_>,
+    standing: &mut Standing,
+    entry: Entry,
+    after: &Bill,
+) -> Result<(), AllocError>
+    requires plan { IsPlanOf given.now.inst.now.draft standing.old.plan }
+    requires room { IsPlanOf given.now.inst.now.draft standing.old.moved }
+    requires bill { IsWithin (10 ^ 11) standing.old.bill }
+    requires after { IsWithin (10 ^ 11) after.now }
+    requires few { length standing.old.entries.items < 2 ^ 31 }
+    ensures { OnOk result (IsTaken (base_of given.now) standing.old standing.new entry after.now) }
+{
+    standing.entries.push(entry)?;
+    settle(standing, &entry.verdict, after);
+    let place = standing.entries.len() as u32;
+    standing.best = with_place(standing.best, place, &standing.bill, given.inst);
+    Ok(())
+}
+
+// One worker's next move: priced and judged at the timetable that is there.
+fn attempt(
+    given: &Given<'_>,
+    standing: &mut Standing,
+    writes: &mut Writes,
+    worker: u32,
+    number: u32,
+    mv: Move,
+) -> Result<(), AllocError>
+    requires given { IsGiven (base_of given.now) }
+    requires standing { IsStanding (base_of given.now) standing.old }
+    requires move_in { IsMoveOf given.now.inst.now.draft mv }
+    requires drawn { mv ≡ move_of given.now.inst.now.draft given.now.options.seed worker number }
+    requires worker { worker < given.now.options.workers }
+    requires below { number < given.now.options.moves }
+    requires turn { HasMade given.now.options standing.old.entries.items worker number }
+    requires few { length standing.old.entries.items < 2 ^ 31 }
+    ensures standing { OnOk result (IsStanding (base_of given.now) standing.new) }
+    ensures grown { OnOk result (HasGrown standing.old.entries.items standing.new.entries.items worker number) }
+{
+    expand(given.inst, &standing.plan, &mv, writes);
+    let after = try_writes(given, standing, writes.as_slice());
+    let price = after.sub(&standing.bill);
+    let verdict = judge(given, writes.as_slice(), number, &price);
+    let entry = Entry {
+        worker,
+        number,
+        again: 0,
+        seen: standing.entries.len() as u32,
+        mv,
+        price,
+        verdict,
+    };
+    take_in(given, standing, entry, &after)
+}
+
+// One worker's turn: its next draw, offered at once.
+fn turn(
+    given: &Given<'_>,
+    standing: &mut Standing,
+    writes: &mut Writes,
+    stream: &mut Stream,
+    worker: u32,
+    number: u32,
+) -> Result<(), AllocError>
+    requires given { IsGiven (base_of given.now) }
+    requires standing { IsStanding (base_of given.now) standing.old }
+    requires drawn { stream.old ≡ stream_at given.now.options.seed worker number }
+    requires worker { worker < given.now.options.workers }
+    requires below { number < given.now.options.moves }
+    requires turn { HasMade given.now.options standing.old.entries.items worker number }
+    requires few { length standing.old.entries.items < 2 ^ 31 }
+    ensures standing { OnOk result (IsStanding (base_of given.now) standing.new) }
+    ensures grown { OnOk result (HasGrown standing.old.entries.items standing.new.entries.items worker number) }
+    ensures drawn { stream.new ≡ stream_at given.now.options.seed worker (number + 1) }
+{
+    let mv = stream.draw(given.inst);
+    attempt(given, standing, writes, worker, number, mv)
+}
+
+// One turn of each worker.
+fn round(
+    given: &Given<'_>,
+    standing: &mut Standing,
+    writes: &mut Writes,
+    streams: &mut [Stream],
+    number: u32,
+) -> Result<(), AllocError>
+    requires given { IsGiven (base_of given.now) }
+    requires standing { IsStanding (base_of given.now) standing.old }
+    requires below { number < given.now.options.moves }
+    requires at { AreAt (base_of given.now) standing.old.entries.items streams.old 0 number }
+    requires many { length streams.old ≡ given.now.options.workers }
+    requires count { length standing.old.entries.items ≡ number * given.now.options.workers }
+    ensures standing { OnOk result (IsStanding (base_of given.now) standing.new) }
+    ensures at { OnOk result (AreAt (base_of given.now) standing.new.entries.items streams.new 0 (number + 1)) }
+    ensures many { length streams.new ≡ length streams.old }
+    ensures count { OnOk result (length standing.new.entries.items ≡ (number + 1) * given.now.options.workers) }
+{
+    for worker in 0..given.options.workers {
+        turn(
+            given,
+            standing,
+            writes,
+            &mut streams[worker as usize],
+            worker,
+            number,
+        )?;
+    }
+    Ok(())
+}
+
+fn new_streams(alloc: Global, options: &Options) -> Result<Vec<Stream>, AllocError>
+    ensures many { IfOk result (λ s. length s.items ≡ options.now.workers) }
+    ensures start { IfOk result (λ s. (w : ℕ) → w < options.now.workers → slice_get s.items w ≡ Some (stream_at options.now.seed w 0)) }
+{
+    let mut streams = Vec::with_capacity(alloc, options.workers as usize)?;
+    for worker in 0..options.workers {
+        streams.push(Stream::new(options.seed, worker))?;
+    }
+    Ok(streams)
+}
+
+fn opening(alloc: Global, given: &Given<'_>) -> Result<Standing, AllocError>
+    requires given { IsGiven (base_of given.now) }
+    ensures standing { IfOk result (IsStanding (base_of given.now)) }
+    ensures empty { IfOk result (λ s. s.entries.items ≡ []) }
+{
+    let plan = given.start.try_clone(alloc)?;
+    let moved = given.start.try_clone(alloc)?;
+    let first = bill(given.inst, given.start);
+    let best = with_place(None, 0, &first, given.inst);
+    let count = given.options.workers as usize * given.options.moves as usize;
+    Ok(Standing {
+        plan,
+        moved,
+        bill: first,
+        entries: Vec::with_capacity(alloc, count)?,
+        best,
+    })
+}
+
+/// The whole search: a full history, with the place and the cost of its first cheapest feasible timetable.
+pub fn search(alloc: Global, given: &Given<'_>) -> Result<Standing, AllocError>
+    requires given { IsGiven (base_of given.now) }
+    ensures full { IfOk result (λ s. IsFull (base_of given.now) s.entries.items) }
+    ensures few { IfOk result (λ s. length s.entries.items < 2 ^ 31) }
+    ensures best { IfOk result (λ s. BestIs (base_of given.now) s.entries.items s.best) }
+{
+    let mut standing = opening(alloc, given)?;
+    let mut streams = new_streams(alloc, &given.options)?;
+    let streams = streams.as_mut_slice();
+    let mut writes = Writes::new();
+    for number in 0..given.options.moves {
+        round(given, &mut standing, &mut writes, streams, number)?;
+    }
+    Ok(standing)
+}

@@ -1,0 +1,65 @@
+//! How a call of the program ends.
+
+ghost use Rattle.std.specs.Prelude.{◌≡◌};
+ghost use Rattle.ih_top.specs.Codes.{code_of};
+
+use ih_journal::JournalRefusal;
+use ih_tables::Refusal;
+
+/// What a file is to the command that reads or writes it.
+#[derive(Clone, Copy, Debug, PartialEq, Eq)]
+pub enum Role {
+    Instance,
+    /// A start, or a solution that is to be checked.
+    Solution,
+    Journal,
+    Out,
+}
+
+/// How a call of the program ends.
+#[derive(Clone, Copy, Debug, PartialEq, Eq)]
+pub enum Status {
+    /// All was written and said.
+    Done,
+    /// The words name no call.
+    Usage,
+    /// A file couldn't be read.
+    ReadFault(Role),
+    /// The instance's first refusal.
+    InstanceRefused(Refusal),
+    /// The first refusal of the start, or of the solution to be checked.
+    StartRefused(Refusal),
+    /// No timetable of the history is feasible.
+    NoneFound,
+    /// A file couldn't be written; without a role, the text couldn't be put out.
+    WriteFault(Option<Role>),
+    /// Memory ran out.
+    OutOfMemory,
+    /// The journal's first line that isn't the legal next one, and why.
+    JournalRefused(JournalRefusal),
+    /// The checked solution breaks a hard rule.
+    Infeasible,
+    /// A file is longer than its limit.
+    TooLong(Role),
+}
+
+impl Status {
+    /// The exit code: one for each status, whatever it carries.
+    pub fn code(&self) -> u8
+        ensures { result ≡ code_of self.now }
+    {
+        match self {
+            Status::Done => 0,
+            Status::Usage => 1,
+            Status::ReadFault(_) => 2,
+            Status::InstanceRefused(_) => 3,
+            Status::StartRefused(_) => 4,
+            Status::NoneFound => 5,
+            Status::WriteFault(_) => 6,
+            Status::OutOfMemory => 7,
+            Status::JournalRefused(_) => 8,
+            Status::Infeasible => 9,
+            Status::TooLong(_) => 10,
+        }
+    }
+}
