@@ -19,8 +19,9 @@ use Rattle.ih_tables.specs.declared.refusals.Fault.TheVariants.{NotJson}
 use Rattle.ih_tables.specs.Lookups.{number_in}
 use Rattle.ih_tables.specs.Places.{at_key, whole}
 use Rattle.ih_tables.specs.Valid.{IsListed, IsVector, IsNurse, IsOccupant, IsPatient, IsValid}
-use Rattle.ih_instance.specs.Checks.{Check, or_else, number, object, new_name, under, named}
-use Rattle.ih_instance.specs.Instance.{Numbers, room, surgeon, theatre, nurse, occupant, patient, one_spelling, weight, weights, names, surgeons, theatres, rooms, nurses, occupants, patients, names_of_rooms, names_of_surgeons, draft, value_of, instance}
+use Rattle.ih_format.specs.Checks.{Check, or_else, number, object, new_name, under, named}
+use Rattle.ih_instance.specs.Instance.{Numbers, room, surgeon, theatre, nurse, occupant, patient, one_spelling, weight, weights, names, surgeons, theatres, rooms, nurses, occupants, patients, names_of_rooms, names_of_surgeons, draft, instance}
+use Rattle.ih_format.specs.Documents.{value_of}
 use Rattle.ih_instance.proofs.Sound.{ok_is, bind_with, key_ok, new_name_sound, named_sound, Rows}
 use Rattle.ih_instance.proofs.Rows.{key_number, room_sound, surgeon_sound, theatre_sound, nurse_sound, occupant_sound, patient_sound}
 

@@ -9,7 +9,7 @@ use Rattle.ih_tables.specs.declared.refusals.Key.TheVariants as keys
 use Rattle.ih_tables.specs.declared.refusals.Fault.TheVariants as faults
 use Rattle.ih_tables.specs.Places.{whole, at_key, at_item, place_text}
 use Rattle.ih_tables.specs.Lookups.{number_in}
-use Rattle.ih_instance.specs.Checks.{refuse, each_after}
+use Rattle.ih_format.specs.Checks.{refuse, each_after}
 use Rattle.ih_instance.specs.Instance.{instance, draft, weights, surgeon, theatre, room, worked, nurse, occupant, patient}
 
 unfoldable pub instance_on_literals : ⊤

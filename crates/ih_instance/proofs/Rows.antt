@@ -24,7 +24,7 @@ use Rattle.ih_tables.specs.Lookups.{number_in}
 use Rattle.ih_tables.specs.Works.{load_in, shift_of}
 use Rattle.ih_tables.specs.Places.{at_key}
 use Rattle.ih_tables.specs.Valid.{Between, IsName, IsVector, IsWorked, IsNurse, IsOccupant, IsPatient}
-use Rattle.ih_instance.specs.Checks.{number, text, truth, object, list, list_of, vector, new_name, reference, under}
+use Rattle.ih_format.specs.Checks.{number, text, truth, object, list, list_of, vector, new_name, reference, under}
 use Rattle.ih_instance.specs.Instance.{Numbers, room, surgeon, theatre, is_worked, worked, worked_shifts, nurse, occupant, patient, due_day, room_number, room_numbers, names_of_rooms, names_of_surgeons}
 use Rattle.ih_instance.proofs.Sound.{ok_is, bind_ok, bind_with, where_so_ok, key_ok, number_sound, text_sound, new_name_sound, reference_sound, vector_sound, each_sound, keeps, Rows, list_of_sound}
 

@@ -17,7 +17,7 @@ use Rattle.ih_tables.specs.Lookups.{number_in}
 use Rattle.ih_tables.specs.Places.{key_name, at_key, at_item}
 use Rattle.ih_tables.specs.Valid.{Between, IsName, IsVector, IsListed}
 use Rattle.ih_tables.proofs.IndexLemmas.{number_in-below}
-use Rattle.ih_instance.specs.Checks.{Checked, Check, ◌>>=◌, or_else, where_so, between, number, text, list, list_of, first_items, vector, new_name, reference, under, each, each_after, named}
+use Rattle.ih_format.specs.Checks.{Checked, Check, ◌>>=◌, or_else, where_so, between, number, text, list, list_of, first_items, vector, new_name, reference, under, each, each_after, named}
 use Rattle.ih_instance.specs.Instance.{Numbers}
 
 abbrev pub ok_of : {A : Type 0} → A → Checked A

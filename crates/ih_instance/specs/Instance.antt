@@ -1,8 +1,6 @@
 -- The tables of an instance file, key by key.
 use Rattle.std.specs.Prelude.{ℕ, ◌+◌, ◌-◌, ◌*◌, ◌&&◌, min, Bool, List, [], ◌∷◌, map, pos, not, is_some, Option, Some, None, Ok, if◌then◌else◌}
-use Rattle.std.specs.Str.{is_utf8}
 use Rattle.serde_json.specs.Data.{Data}
-use Rattle.serde_json.specs.Read.{read}
 use Rattle.serde_json.specs.Find.{get}
 use Rattle.ih_tables.specs.declared.drafts.Draft.{Draft}
 use Rattle.ih_tables.specs.declared.drafts.Surgeon.{Surgeon}
@@ -17,11 +15,12 @@ use Rattle.ih_tables.specs.declared.bills.Weights.{Weights}
 use Rattle.ih_tables.specs.declared.refusals.Place.{Place}
 use Rattle.ih_tables.specs.declared.refusals.Key.{Key}
 use Rattle.ih_tables.specs.declared.refusals.Key.TheVariants as keys
-use Rattle.ih_tables.specs.declared.refusals.Fault.TheVariants.{NotJson, Duplicate, TwoWeights}
-use Rattle.ih_tables.specs.Places.{whole, key_name}
+use Rattle.ih_tables.specs.declared.refusals.Fault.TheVariants.{Duplicate, TwoWeights}
+use Rattle.ih_tables.specs.Places.{key_name}
 use Rattle.ih_tables.specs.Lookups.{number_in}
 use Rattle.ih_tables.specs.Works.{load_in}
-use Rattle.ih_instance.specs.Checks.{Checked, Check, ◌>>=◌, or_else, where_so, number, text, truth, object, list, list_of, new_name, reference, under, each, vector, named}
+use Rattle.ih_format.specs.Checks.{Checked, Check, ◌>>=◌, where_so, number, text, truth, object, list, list_of, new_name, reference, under, each, vector, named}
+use Rattle.ih_format.specs.Documents.{document}
 
 -- how the numbers of names are looked up
 abbrev pub Numbers : Type 0
@@ -217,10 +216,6 @@ draft p d = do
     patients = ps;
   })
 
--- the one value in UTF-8 that the bytes are
-abbrev pub value_of : List ℕ → Option Data
-value_of bytes = if is_utf8 bytes then read bytes else None
-
 -- the data of an instance file, or its first refusal
 abbrev pub instance : List ℕ → Checked Draft
-instance bytes = or_else NotJson whole (value_of bytes) >>= draft whole
+instance bytes = document draft bytes

@@ -3,40 +3,21 @@
 
 ghost use Rattle.std.specs.Prelude.{◌≡◌};
 ghost use Rattle.serde_json.specs.View.{view};
-ghost use Rattle.ih_tables.specs.Places.{whole};
-ghost use Rattle.ih_tables.specs.declared.refusals.Fault.TheVariants.{NotJson};
-ghost use Rattle.ih_instance.specs.Gives.{Gives};
-ghost use Rattle.ih_instance.specs.Checks.{or_else};
-ghost use Rattle.ih_instance.specs.Instance.{draft, value_of, instance};
+ghost use Rattle.ih_format.specs.Gives.{Gives};
+ghost use Rattle.ih_instance.specs.Instance.{draft, instance};
 
-use crate::errors::InstanceError;
 use crate::rooms::Rooms;
 use crate::surgery::{Surgeons, Theatres};
 use crate::words::Words;
-use crate::{keys, kinds, people, reads, weights};
-use ih_tables::{Draft, Fault, Instance, Key, Place};
+use crate::{people, weights};
+use ih_format::{FormatError, documents, keys, kinds, reads};
+use ih_tables::{Draft, Instance, Key, Place};
 use serde_json::Value;
 use std::alloc::Global;
 
-/// The one JSON value that the bytes are; else NotJson.
-#[tactic(auto, using(std::proofs::lemmas::Grind::common_steps))]
-fn value_of(alloc: Global, bytes: &[u8]) -> Result<Value, InstanceError>
-    ensures { Gives view result (or_else NotJson whole (value_of bytes.now)) }
-{
-    match Value::from_slice(alloc, bytes) {
-        Ok(value) => Ok(value),
-        Err(e) => {
-            if e.is_memory() {
-                return Err(InstanceError::OutOfMemory);
-            }
-            Err(InstanceError::Refused(kinds::refusal(Fault::NotJson, Place::whole())))
-        }
-    }
-}
-
 /// The data of a value, key by key.
 #[tactic(auto, unfolding(crate::specs::Instance::draft))]
-fn draft(alloc: Global, value: &Value, at: Place) -> Result<Draft, InstanceError>
+fn draft(alloc: Global, value: &Value, at: Place) -> Result<Draft, FormatError>
     ensures { Gives (λ d. d) result (draft at (view value.now)) }
 {
     let _ = kinds::object(value, at)?;
@@ -74,10 +55,10 @@ fn draft(alloc: Global, value: &Value, at: Place) -> Result<Draft, InstanceError
 }
 
 /// The data of an instance file, or its first refusal.
-fn read_draft(alloc: Global, bytes: &[u8]) -> Result<Draft, InstanceError>
+fn read_draft(alloc: Global, bytes: &[u8]) -> Result<Draft, FormatError>
     ensures { Gives (λ d. d) result (instance bytes.now) }
 {
-    let value = value_of(alloc, bytes)?;
+    let value = documents::value_of(alloc, bytes)?;
     draft(alloc, &value, Place::whole())
 }
 
@@ -85,7 +66,7 @@ fn read_draft(alloc: Global, bytes: &[u8]) -> Result<Draft, InstanceError>
 /// keys are checked in the format's order, and of each key in this order that it is there (Missing), its kind
 /// (Kind), its limits (Range or Length), that its id is new (Duplicate) and that its reference is known (Unknown).
 /// Memory may run out at any time.
-pub fn read_instance(alloc: Global, bytes: &[u8]) -> Result<Instance, InstanceError>
+pub fn read_instance(alloc: Global, bytes: &[u8]) -> Result<Instance, FormatError>
     ensures { Gives (λ i. i.draft) result (instance bytes.now) }
 {
     let draft = read_draft(alloc, bytes)?;

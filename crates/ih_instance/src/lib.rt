@@ -2,21 +2,16 @@
 #![tactic(auto)]
 
 mod drafts;
-mod errors;
-mod keys;
-mod kinds;
 mod nurses;
 mod occupants;
 mod patients;
 mod people;
-mod reads;
 mod rooms;
 mod surgery;
 #[cfg(test)]
 mod tests;
-mod vectors;
 mod weights;
 mod words;
 
 pub use drafts::read_instance;
-pub use errors::InstanceError;
+pub use ih_format::FormatError as InstanceError;

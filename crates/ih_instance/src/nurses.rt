@@ -4,14 +4,13 @@ ghost use Rattle.std.specs.Prelude.{◌≡◌, ◌<◌, ◌≤◌, ◌+◌, ◌*
 ghost use Rattle.serde_json.specs.View.{view};
 ghost use Rattle.ih_tables.specs.Lookups.{finds};
 ghost use Rattle.ih_tables.specs.Works.{shift_of};
-ghost use Rattle.ih_instance.specs.Gives.{Gives};
+ghost use Rattle.ih_format.specs.Gives.{Gives};
 ghost use Rattle.ih_instance.specs.Flags.{is_taken};
 ghost use Rattle.ih_instance.specs.Instance.{worked, each_worked, worked_shifts, nurse};
-ghost use Rattle.ih_instance.specs.Checks.{under};
+ghost use Rattle.ih_format.specs.Checks.{under};
 
-use crate::errors::InstanceError;
-use crate::reads::Reads;
-use crate::{keys, kinds};
+use ih_format::reads::Reads;
+use ih_format::{FormatError, keys, kinds};
 use ih_tables::{Day, Fault, Key, List, Names, Nurse, Place, Refusal, WorkedShift};
 use serde_json::Value;
 use std::alloc::Global;
@@ -53,7 +52,7 @@ fn each_worked(
     days: u32,
     types: &Names,
     at: Place,
-) -> Result<List<WorkedShift>, InstanceError>
+) -> Result<List<WorkedShift>, FormatError>
     requires least { 1 ≤ days }
     requires most { days ≤ 56 }
     requires types { (s : Items ℕ) (k : ℕ) → finds types.now s ≡ Some k → k < 3 }
@@ -78,7 +77,7 @@ fn worked_shifts(
     days: u32,
     types: &Names,
     at: Place,
-) -> Result<List<WorkedShift>, InstanceError>
+) -> Result<List<WorkedShift>, FormatError>
     requires least { 1 ≤ days }
     requires most { days ≤ 56 }
     requires types { (s : Items ℕ) (k : ℕ) → finds types.now s ≡ Some k → k < 3 }
@@ -94,7 +93,7 @@ fn shifts_under(
     days: u32,
     types: &Names,
     at: Place,
-) -> Result<List<WorkedShift>, InstanceError>
+) -> Result<List<WorkedShift>, FormatError>
     requires least { 1 ≤ days }
     requires most { days ≤ 56 }
     requires types { (s : Items ℕ) (k : ℕ) → finds types.now s ≡ Some k → k < 3 }
@@ -133,7 +132,7 @@ impl<'a> Reads for Nurses<'a> {
         value: &Value,
         earlier: &Names,
         at: Place,
-    ) -> Result<Nurse, InstanceError> {
+    ) -> Result<Nurse, FormatError> {
         let _ = kinds::object(value, at)?;
         let id = keys::id(alloc, value, earlier, at)?;
         let skill_level = keys::number(value, Key::SkillLevel, 0, 1000, at)?;

@@ -3,13 +3,12 @@
 ghost use Rattle.std.specs.Prelude.{◌≡◌, ◌<◌, ◌≤◌, ◌^◌, IfOk, None, map, length};
 ghost use Rattle.serde_json.specs.View.{view};
 ghost use Rattle.ih_tables.specs.Lookups.{finds};
-ghost use Rattle.ih_instance.specs.Gives.{Gives};
-ghost use Rattle.ih_instance.specs.Checks.{each, under};
+ghost use Rattle.ih_format.specs.Gives.{Gives};
+ghost use Rattle.ih_format.specs.Checks.{each, under};
 ghost use Rattle.ih_instance.specs.Instance.{patient, due_day, room_number, room_numbers};
 
-use crate::errors::InstanceError;
-use crate::reads::Reads;
-use crate::{keys, kinds, vectors};
+use ih_format::reads::Reads;
+use ih_format::{FormatError, keys, kinds, vectors};
 use ih_tables::{Key, List, Names, Patient, Place, Refusal, RoomNo, SurgeonNo};
 use serde_json::Value;
 use std::alloc::Global;
@@ -32,13 +31,13 @@ fn room_number(value: &Value, rooms: &Names, at: Place) -> Result<RoomNo, Refusa
     Ok(RoomNo(n))
 }
 
-#[tactic(auto, using(crate::proofs::Items::reading))]
+#[tactic(auto, using(ih_format::proofs::Items::reading))]
 fn each_number(
     alloc: Global,
     values: &[Value],
     rooms: &Names,
     at: Place,
-) -> Result<List<RoomNo>, InstanceError>
+) -> Result<List<RoomNo>, FormatError>
     requires { length values.now < 2 ^ 32 }
     ensures { Gives (λ xs. xs) result (each (λ _. room_number (finds rooms.now)) at (map view values.now)) }
 {
@@ -56,7 +55,7 @@ fn room_numbers(
     value: &Value,
     rooms: &Names,
     at: Place,
-) -> Result<List<RoomNo>, InstanceError>
+) -> Result<List<RoomNo>, FormatError>
     ensures { Gives (λ xs. xs) result (room_numbers (finds rooms.now) at (view value.now)) }
 {
     let values = kinds::list_of(value, 0, 1024, at)?;
@@ -68,7 +67,7 @@ fn closed_rooms(
     object: &Value,
     rooms: &Names,
     at: Place,
-) -> Result<List<RoomNo>, InstanceError>
+) -> Result<List<RoomNo>, FormatError>
     ensures { Gives (λ xs. xs) result
         (under at (view object.now) Key.IncompatibleRoomIds (room_numbers (finds rooms.now))) }
 {
@@ -104,7 +103,7 @@ impl<'a> Reads for Patients<'a> {
         value: &Value,
         earlier: &Names,
         at: Place,
-    ) -> Result<Patient, InstanceError> {
+    ) -> Result<Patient, FormatError> {
         let _ = kinds::object(value, at)?;
         let id = keys::id(alloc, value, earlier, at)?;
         let mandatory = keys::truth(value, Key::Mandatory, at)?;

@@ -3,15 +3,14 @@
 ghost use Rattle.std.specs.Prelude.{◌≡◌, ◌<◌, ◌≤◌, ℕ, List as Items, map, length};
 ghost use Rattle.serde_json.specs.View.{view};
 ghost use Rattle.ih_tables.specs.Lookups.{IsIndexOf};
-ghost use Rattle.ih_instance.specs.Gives.{Gives};
-ghost use Rattle.ih_instance.specs.Checks.{under};
+ghost use Rattle.ih_format.specs.Gives.{Gives};
+ghost use Rattle.ih_format.specs.Checks.{under};
 ghost use Rattle.ih_instance.specs.Instance.{nurses, occupants, patients, names_of_rooms, names_of_surgeons};
 
-use crate::errors::InstanceError;
 use crate::nurses::Nurses;
 use crate::occupants::Occupants;
 use crate::patients::Patients;
-use crate::reads;
+use ih_format::{FormatError, reads};
 use ih_tables::{Key, List, Name, Names, Nurse, Occupant, Patient, Place, Room, Surgeon};
 use serde_json::Value;
 use std::alloc::Global;
@@ -23,7 +22,7 @@ pub fn nurses(
     days: u32,
     types: &(List<Name>, Names),
     at: Place,
-) -> Result<List<Nurse>, InstanceError>
+) -> Result<List<Nurse>, FormatError>
     requires least { 1 ≤ days }
     requires most { days ≤ 56 }
     requires few { length types.now.0 ≤ 3 }
@@ -45,7 +44,7 @@ pub fn occupants(
     groups: &(List<Name>, Names),
     rooms: &(List<Room>, Names),
     at: Place,
-) -> Result<List<Occupant>, InstanceError>
+) -> Result<List<Occupant>, FormatError>
     requires most { days ≤ 56 }
     requires groups { IsIndexOf groups.now.1 groups.now.0 }
     requires rooms { IsIndexOf rooms.now.1 (names_of_rooms rooms.now.0) }
@@ -69,7 +68,7 @@ pub fn patients(
     surgeons: &(List<Surgeon>, Names),
     rooms: &(List<Room>, Names),
     at: Place,
-) -> Result<List<Patient>, InstanceError>
+) -> Result<List<Patient>, FormatError>
     requires most { days ≤ 56 }
     requires groups { IsIndexOf groups.now.1 groups.now.0 }
     requires surgeons { IsIndexOf surgeons.now.1 (names_of_surgeons surgeons.now.0) }

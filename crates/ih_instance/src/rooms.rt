@@ -3,12 +3,11 @@
 ghost use Rattle.std.specs.Prelude.{◌≡◌, IfOk, None};
 ghost use Rattle.serde_json.specs.View.{view};
 ghost use Rattle.ih_tables.specs.Lookups.{finds};
-ghost use Rattle.ih_instance.specs.Gives.{Gives};
+ghost use Rattle.ih_format.specs.Gives.{Gives};
 ghost use Rattle.ih_instance.specs.Instance.{room};
 
-use crate::errors::InstanceError;
-use crate::reads::Reads;
-use crate::{keys, kinds};
+use ih_format::reads::Reads;
+use ih_format::{FormatError, keys, kinds};
 use ih_tables::{Key, Names, Place, Room};
 use serde_json::Value;
 use std::alloc::Global;
@@ -35,7 +34,7 @@ impl Reads for Rooms {
         value: &Value,
         earlier: &Names,
         at: Place,
-    ) -> Result<Room, InstanceError> {
+    ) -> Result<Room, FormatError> {
         let _ = kinds::object(value, at)?;
         let id = keys::id(alloc, value, earlier, at)?;
         let capacity = keys::number(value, Key::Capacity, 0, 1000, at)?;

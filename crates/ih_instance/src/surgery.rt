@@ -3,12 +3,11 @@
 ghost use Rattle.std.specs.Prelude.{◌≡◌, ◌<◌, ◌≤◌, IfOk, None};
 ghost use Rattle.serde_json.specs.View.{view};
 ghost use Rattle.ih_tables.specs.Lookups.{finds};
-ghost use Rattle.ih_instance.specs.Gives.{Gives};
+ghost use Rattle.ih_format.specs.Gives.{Gives};
 ghost use Rattle.ih_instance.specs.Instance.{surgeon, theatre};
 
-use crate::errors::InstanceError;
-use crate::reads::Reads;
-use crate::{keys, kinds, vectors};
+use ih_format::reads::Reads;
+use ih_format::{FormatError, keys, kinds, vectors};
 use ih_tables::{Key, Names, Place, Surgeon, Theatre};
 use serde_json::Value;
 use std::alloc::Global;
@@ -37,7 +36,7 @@ impl Reads for Surgeons {
         value: &Value,
         earlier: &Names,
         at: Place,
-    ) -> Result<Surgeon, InstanceError> {
+    ) -> Result<Surgeon, FormatError> {
         let _ = kinds::object(value, at)?;
         let id = keys::id(alloc, value, earlier, at)?;
         let days = self.days as usize;
@@ -80,7 +79,7 @@ impl Reads for Theatres {
         value: &Value,
         earlier: &Names,
         at: Place,
-    ) -> Result<Theatre, InstanceError> {
+    ) -> Result<Theatre, FormatError> {
         let _ = kinds::object(value, at)?;
         let id = keys::id(alloc, value, earlier, at)?;
         let days = self.days as usize;

@@ -2,10 +2,10 @@
 
 ghost use Rattle.std.specs.Prelude.{◌≡◌};
 ghost use Rattle.serde_json.specs.View.{view};
-ghost use Rattle.ih_instance.specs.Checks.{under};
+ghost use Rattle.ih_format.specs.Checks.{under};
 ghost use Rattle.ih_instance.specs.Instance.{has, one_spelling, weight, weights};
 
-use crate::{keys, kinds};
+use ih_format::{keys, kinds};
 use ih_tables::{Fault, Key, Place, Refusal, Weights};
 use serde_json::Value;
 

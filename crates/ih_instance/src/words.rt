@@ -3,12 +3,11 @@
 ghost use Rattle.std.specs.Prelude.{◌≡◌, ◌<◌, ◌≤◌, IfOk, None};
 ghost use Rattle.serde_json.specs.View.{view};
 ghost use Rattle.ih_tables.specs.Lookups.{finds};
-ghost use Rattle.ih_instance.specs.Gives.{Gives};
-ghost use Rattle.ih_instance.specs.Checks.{new_name};
+ghost use Rattle.ih_format.specs.Gives.{Gives};
+ghost use Rattle.ih_format.specs.Checks.{new_name};
 
-use crate::errors::InstanceError;
-use crate::kinds;
-use crate::reads::Reads;
+use ih_format::reads::Reads;
+use ih_format::{FormatError, kinds};
 use ih_tables::{Name, Names, Place};
 use serde_json::Value;
 use std::alloc::Global;
@@ -34,7 +33,7 @@ impl Reads for Words {
         value: &Value,
         earlier: &Names,
         at: Place,
-    ) -> Result<Name, InstanceError> {
+    ) -> Result<Name, FormatError> {
         let text = kinds::new_name(value, earlier, at)?;
         Ok(Name::new(String::from_str(alloc, text)?))
     }

@@ -6,10 +6,10 @@ ghost use Rattle.serde_json.specs.View.{view};
 ghost use Rattle.serde_json.specs.Data.{Data};
 ghost use Rattle.ih_tables.specs.Lookups.{finds, IsIndexOf};
 ghost use Rattle.ih_tables.specs.declared.refusals.Place.{Place as PlaceOf};
-ghost use Rattle.ih_instance.specs.Gives.{Gives};
-ghost use Rattle.ih_instance.specs.Checks.{Check, each_named, named, under};
+ghost use Rattle.ih_format.specs.Gives.{Gives};
+ghost use Rattle.ih_format.specs.Checks.{Check, each_named, named, under};
 
-use crate::errors::InstanceError;
+use crate::errors::FormatError;
 use crate::kinds;
 use ih_tables::{Key, List, Names, Place};
 use serde_json::Value;
@@ -34,7 +34,7 @@ pub trait Reads {
         value: &Value,
         earlier: &Names,
         at: Place,
-    ) -> Result<Self::Item, InstanceError>
+    ) -> Result<Self::Item, FormatError>
         ensures new { IfOk result (λ x. finds earlier.now (name x) ≡ None) }
         ensures gives { Gives (λ x. x) result (reading self.now (finds earlier.now) at (view value.now)) };
 }
@@ -46,7 +46,7 @@ pub fn each<R: Reads>(
     reader: &R,
     values: &[Value],
     at: Place,
-) -> Result<(List<R::Item>, Names), InstanceError>
+) -> Result<(List<R::Item>, Names), FormatError>
     requires { length values.now < 2 ^ 32 }
     ensures few { IfOk result (λ x. length x.0 ≤ length values.now) }
     ensures numbers { IfOk result (λ x. IsIndexOf x.1 (map R.name x.0)) }
@@ -72,7 +72,7 @@ pub fn list<R: Reads>(
     low: usize,
     high: usize,
     at: Place,
-) -> Result<(List<R::Item>, Names), InstanceError>
+) -> Result<(List<R::Item>, Names), FormatError>
     requires { high < 2 ^ 32 }
     ensures few { IfOk result (λ x. length x.0 ≤ high) }
     ensures numbers { IfOk result (λ x. IsIndexOf x.1 (map R.name x.0)) }
@@ -91,7 +91,7 @@ pub fn under<R: Reads>(
     low: usize,
     high: usize,
     at: Place,
-) -> Result<(List<R::Item>, Names), InstanceError>
+) -> Result<(List<R::Item>, Names), FormatError>
     requires { high < 2 ^ 32 }
     ensures few { IfOk result (λ x. length x.0 ≤ high) }
     ensures numbers { IfOk result (λ x. IsIndexOf x.1 (map R.name x.0)) }
@@ -110,7 +110,7 @@ pub fn items_under<R: Reads>(
     key: Key,
     high: usize,
     at: Place,
-) -> Result<List<R::Item>, InstanceError>
+) -> Result<List<R::Item>, FormatError>
     requires { high < 2 ^ 32 }
     ensures { Gives (λ x. x) result (under at (view object.now) key (named 0 high R.name (R.reading reader.now))) }
 {

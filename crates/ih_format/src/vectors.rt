@@ -2,22 +2,17 @@
 
 ghost use Rattle.std.specs.Prelude.{◌≡◌, ◌<◌, ◌^◌, ◌≤◌, map, length};
 ghost use Rattle.serde_json.specs.View.{view};
-ghost use Rattle.ih_instance.specs.Gives.{Gives};
-ghost use Rattle.ih_instance.specs.Checks.{number, vector, each, under};
+ghost use Rattle.ih_format.specs.Gives.{Gives};
+ghost use Rattle.ih_format.specs.Checks.{number, vector, each, under};
 
-use crate::errors::InstanceError;
+use crate::errors::FormatError;
 use crate::kinds;
 use ih_tables::{Key, List, Place};
 use serde_json::Value;
 use std::alloc::Global;
 
 #[tactic(auto, using(crate::proofs::Items::reading))]
-fn numbers(
-    alloc: Global,
-    values: &[Value],
-    high: u32,
-    at: Place,
-) -> Result<List<u32>, InstanceError>
+fn numbers(alloc: Global, values: &[Value], high: u32, at: Place) -> Result<List<u32>, FormatError>
     requires { length values.now < 2 ^ 32 }
     ensures { Gives (λ xs. xs) result (each (λ _. number 0 high) at (map view values.now)) }
 {
@@ -36,7 +31,7 @@ fn vector(
     n: usize,
     high: u32,
     at: Place,
-) -> Result<List<u32>, InstanceError>
+) -> Result<List<u32>, FormatError>
     requires { n < 2 ^ 32 }
     ensures { Gives (λ xs. xs) result (vector n high at (view value.now)) }
 {
@@ -52,7 +47,7 @@ pub fn under(
     n: usize,
     high: u32,
     at: Place,
-) -> Result<List<u32>, InstanceError>
+) -> Result<List<u32>, FormatError>
     requires { n < 2 ^ 32 }
     ensures { Gives (λ xs. xs) result (under at (view object.now) key (vector n high)) }
 {

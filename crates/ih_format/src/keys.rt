@@ -3,10 +3,10 @@
 ghost use Rattle.std.specs.Prelude.{◌≡◌, ◌≤◌, IfOk, None};
 ghost use Rattle.serde_json.specs.View.{view};
 ghost use Rattle.ih_tables.specs.Lookups.{finds};
-ghost use Rattle.ih_instance.specs.Gives.{Gives};
-ghost use Rattle.ih_instance.specs.Checks.{number, text, truth, new_name, reference, under};
+ghost use Rattle.ih_format.specs.Gives.{Gives};
+ghost use Rattle.ih_format.specs.Checks.{number, text, truth, new_name, reference, under};
 
-use crate::errors::InstanceError;
+use crate::errors::FormatError;
 use crate::kinds;
 use ih_tables::{Key, Name, Names, Place, Refusal};
 use serde_json::Value;
@@ -39,7 +39,7 @@ pub fn reference(object: &Value, key: Key, numbers: &Names, at: Place) -> Result
 }
 
 /// A text of 1 to 100 bytes.
-pub fn text(alloc: Global, object: &Value, key: Key, at: Place) -> Result<Name, InstanceError>
+pub fn text(alloc: Global, object: &Value, key: Key, at: Place) -> Result<Name, FormatError>
     ensures { Gives (λ s. s) result (under at (view object.now) key text) }
 {
     let value = kinds::value_of(object, key, at)?;
@@ -48,7 +48,7 @@ pub fn text(alloc: Global, object: &Value, key: Key, at: Place) -> Result<Name, 
 }
 
 /// The id of an object, which no earlier one has.
-pub fn id(alloc: Global, object: &Value, earlier: &Names, at: Place) -> Result<Name, InstanceError>
+pub fn id(alloc: Global, object: &Value, earlier: &Names, at: Place) -> Result<Name, FormatError>
     ensures new { IfOk result (λ s. finds earlier.now s ≡ None) }
     ensures gives { Gives (λ s. s) result (under at (view object.now) Key.Id (new_name (finds earlier.now))) }
 {

@@ -1,0 +1,4 @@
+pub mod Flags
+pub mod Items
+pub mod Listing
+pub mod Named

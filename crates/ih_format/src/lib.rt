@@ -1,0 +1,11 @@
+//! Checked reading of JSON files: each value is read at its place, and the first check that fails is the refusal.
+#![tactic(auto)]
+
+pub mod documents;
+mod errors;
+pub mod keys;
+pub mod kinds;
+pub mod reads;
+pub mod vectors;
+
+pub use errors::FormatError;
