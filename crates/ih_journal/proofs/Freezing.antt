@@ -1,0 +1,106 @@
+-- What a move off the frozen choices leaves: the timetable agrees with the start on them as before.
+use Rattle.std.proofs.Common.{◌≡◌, ℕ, ◌<◌, ◌≤◌, refl, sym, ap, ◌∙◌, subst, arith, inl, inr, Bool, true, false, List, [], ◌∷◌, ◌++◌, length, Option, Some, None}
+use Rattle.std.specs.Prelude.{◌||◌, ◌⊎◌, ◌≢◌, if◌then◌else◌, option_map, nat_lt, nat_le, ◌==◌}
+use Rattle.std.specs.List.{list_any}
+use Rattle.std.proofs.lemmas.Bool.{lt-ltb}
+use Rattle.std.proofs.lemmas.Bool.Decides.{eqb_tells, leb_tells}
+use Rattle.ih_tables.specs.declared.ids.NurseNo.{NurseNo}
+use Rattle.ih_tables.specs.declared.ids.PatientNo.{PatientNo}
+use Rattle.ih_tables.specs.declared.ids.RoomNo.{RoomNo}
+use Rattle.ih_tables.specs.declared.ids.Shift.{Shift}
+use Rattle.ih_plan.specs.declared.moves.Move.{Move}
+use Rattle.ih_plan.specs.declared.moves.Placement.{Placement}
+use Rattle.ih_plan.specs.declared.moves.Write.{Write}
+use Rattle.ih_plan.specs.declared.moves.Write.TheVariants.{SetStay, SetCare}
+use Rattle.ih_plan.specs.Timetable.{Timetable, IsPlanOf, stay_of}
+use Rattle.ih_plan.specs.Presence.{day_of}
+use Rattle.ih_plan.specs.Writes.{put, put_all, IsWriteOf, AreWritesOf}
+use Rattle.ih_plan.specs.Expand.{after, expand, IsMoveOf}
+use Rattle.ih_plan.proofs.Entries.{stay_of-other, stay_of-same, care_of-other}
+use Rattle.ih_plan.proofs.PlanRanges.{expand-writes, put-plan}
+use Rattle.ih_journal.specs.declared.entries.Entry.{Entry}
+use Rattle.ih_journal.specs.Base.{Base}
+use Rattle.ih_journal.specs.Frozen.{AgreesBefore, is_before, is_frozen, is_frozen_write}
+use Rattle.ih_journal.specs.History.{after_entries, after_entry, plan_after, plan_at, is_accepted}
+use Rattle.ih_journal.proofs.Growth.{plan_after-more, plan_at-earlier, plan_at-end, length-more}
+
+neither : (a b : Bool) → (a || b) ≡ false → (a ≡ false) × (b ≡ false)
+neither true b h = absurd (let no : true ≡ false = h in cc)
+neither false b h = (refl, h)
+
+clash : (a : Bool) → a ≡ true → a ≡ false → ⊥
+clash a t f = let no : true ≡ false = sym t ∙ f in cc
+
+-- a nurse is known by the number
+same-choice : (a b : Option NurseNo) → option_map (λ (n : NurseNo). n.0) a ≡ option_map (λ (n : NurseNo). n.0) b → a ≡ b
+same-choice None None h = refl
+same-choice None (Some m) h = absurd (let no : None ≡ Some m.0 = h in cc)
+same-choice (Some n) None h = absurd (let no : Some n.0 ≡ None = h in cc)
+same-choice (Some n) (Some m) h = ap (option_map (λ i. record { 0 = i })) h
+
+pub agrees-start : (b : Base) → AgreesBefore b b.start
+agrees-start b = record { admitted = λ p h. refl; others = λ p h. h; nurses = λ r k rh kh before. refl }
+
+module _ (b : Base) (P : Timetable) (plan : IsPlanOf b.instance P) (agrees : AgreesBefore b P) where
+  -- a stay that isn't frozen is written
+  agrees-stay : (p : PatientNo) (s : Option Placement) → IsWriteOf b.instance (SetStay p s) → is_before b.freeze (stay_of b.start p.0) ≡ false → is_before b.freeze s ≡ false → AgreesBefore b (put (SetStay p s) P)
+  agrees-stay p s fits free new =
+      let sizes = plan.stays in
+      let here : stay_of (put (SetStay p s) P) p.0 ≡ s = stay_of-same P p s (omega (arith, fits.0)) in
+      record {
+        admitted = λ x h. stay_of-other P p s x (λ e. clash (is_before b.freeze (stay_of b.start x)) h (ap (λ y. is_before b.freeze (stay_of b.start y)) e ∙ free)) ∙ agrees.admitted x h;
+        others = λ x h. by_place x h here (eqb_tells x p.0);
+        nurses = agrees.nurses;
+      }
+    where
+      by_place : (x : ℕ) → is_before b.freeze (stay_of b.start x) ≡ false → stay_of (put (SetStay p s) P) p.0 ≡ s → (((x == p.0) ≡ true) × (x ≡ p.0)) ⊎ (((x == p.0) ≡ false) × (x ≢ p.0)) → is_before b.freeze (stay_of (put (SetStay p s) P) x) ≡ false
+      by_place x h here (inl (test, e)) = ap (λ y. is_before b.freeze (stay_of (put (SetStay p s) P) y)) e ∙ ap (is_before b.freeze) here ∙ new
+      by_place x h here (inr (test, ne)) = ap (is_before b.freeze) (stay_of-other P p s x ne) ∙ agrees.others x h
+
+  -- a nurse of a day that isn't frozen is written
+  agrees-care : (r : RoomNo) (k : Shift) (n : Option NurseNo) → IsWriteOf b.instance (SetCare r k n) → nat_lt (day_of k.0) b.freeze ≡ false → AgreesBefore b (put (SetCare r k n) P)
+  agrees-care r k n fits late = record {
+    admitted = agrees.admitted;
+    others = agrees.others;
+    nurses = λ s l sh lh before. same-choice _ _ (care_of-other b.instance P r k n s l plan fits.1 lh
+        (λ es el. clash (nat_lt (day_of k.0) b.freeze) (ap (λ y. nat_lt (day_of y) b.freeze) (sym el) ∙ lt-ltb (day_of l) b.freeze before) late)) ∙ agrees.nurses s l sh lh before;
+  }
+
+pub agrees-put : (b : Base) (P : Timetable) (w : Write) → IsPlanOf b.instance P → IsWriteOf b.instance w → AgreesBefore b P → is_frozen_write b.start b.freeze w ≡ false → AgreesBefore b (put w P)
+agrees-put b P (SetStay p s) plan fits agrees free =
+    let parts = neither (is_before b.freeze (stay_of b.start p.0)) (is_before b.freeze s) free in
+    agrees-stay b P plan agrees p s fits parts.0 parts.1
+agrees-put b P (SetCare r k n) plan fits agrees free = agrees-care b P plan agrees r k n fits free
+
+pub agrees-put_all : (b : Base) (P : Timetable) (ws : List Write) → IsPlanOf b.instance P → AreWritesOf b.instance ws → AgreesBefore b P → list_any (is_frozen_write b.start b.freeze) ws ≡ false → AgreesBefore b (put_all ws P)
+agrees-put_all b P [] plan fits agrees free = agrees
+agrees-put_all b P (w ∷ ws) plan fits agrees free =
+    let parts = neither (is_frozen_write b.start b.freeze w) (list_any (is_frozen_write b.start b.freeze) ws) free in
+    agrees-put_all b (put w P) ws (put-plan b.instance P w plan fits.0) fits.1 (agrees-put b P w plan fits.0 agrees parts.0) parts.1
+
+-- a move that isn't frozen keeps the frozen choices
+pub agrees-move : (b : Base) (P : Timetable) (m : Move) → IsPlanOf b.instance P → IsMoveOf b.instance m → AgreesBefore b P → is_frozen b P m ≡ false → AgreesBefore b (after b.instance P m)
+unfolding is_frozen
+agrees-move b P m plan fits agrees free = agrees-put_all b P (expand b.instance P m) plan (expand-writes b.instance P m plan fits) agrees free
+
+-- an entry whose move is accepted only where it isn't frozen
+pub agrees-entry : (b : Base) (P : Timetable) (e : Entry) → IsPlanOf b.instance P → IsMoveOf b.instance e.mv → AgreesBefore b P → (is_accepted e.verdict ≡ true → is_frozen b P e.mv ≡ false) → AgreesBefore b (after_entry b.instance P e)
+agrees-entry b P e plan fits agrees free = by_case (is_accepted e.verdict) free
+  where
+    by_case : (c : Bool) → (c ≡ true → is_frozen b P e.mv ≡ false) → AgreesBefore b (if c then after b.instance P e.mv else P)
+    by_case true free = agrees-move b P e.mv plan fits agrees (free refl)
+    by_case false free = agrees
+
+-- ---- histories
+
+-- each timetable of the history agrees with the start on the frozen choices
+pub agree-none : (b : Base) (k : ℕ) → AgreesBefore b (plan_at b [] k)
+unfolding after_entries
+agree-none b k = subst (AgreesBefore b) (sym (plan_at-end b [] k (omega arith))) (agrees-start b)
+
+pub agree-more : (b : Base) (H : List Entry) (e : Entry) → ((k : ℕ) → AgreesBefore b (plan_at b H k)) → AgreesBefore b (after_entry b.instance (plan_after b H) e) → (k : ℕ) → AgreesBefore b (plan_at b (H ++ e ∷ []) k)
+agree-more b H e before here k = by_place (leb_tells k (length H))
+  where
+    by_place : ((nat_le k (length H) ≡ true) × (k ≤ length H)) ⊎ ((nat_le k (length H) ≡ false) × (length H < k)) → AgreesBefore b (plan_at b (H ++ e ∷ []) k)
+    by_place (inl (test, le)) = subst (AgreesBefore b) (sym (plan_at-earlier b H (e ∷ []) k le)) (before k)
+    by_place (inr (test, lt)) = subst (AgreesBefore b) (sym (plan_at-end b (H ++ e ∷ []) k (let n = length-more H e in omega arith) ∙ plan_after-more b H e)) here
