@@ -1,4 +1,15 @@
+pub mod Assigned
+pub mod EachReads
 pub mod Examples
+pub mod Grids
 pub mod ListedValues
-pub mod SolutionReads
+pub mod NamesRead
+pub mod Nesting
+pub mod NurseReadings
+pub mod PatientReadings
+pub mod References
+pub mod RoundTrip
+pub mod RowsRead
+pub mod Timetables
 pub mod WholeNumbers
+pub mod WrittenPlan

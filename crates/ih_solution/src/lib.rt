@@ -3,8 +3,11 @@
 
 mod nurses;
 mod patients;
+mod reader;
 #[cfg(test)]
 mod tests;
 mod writer;
 
+pub use ih_format::FormatError as SolutionError;
+pub use reader::read_solution;
 pub use writer::write_solution;

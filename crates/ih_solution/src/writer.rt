@@ -1,8 +1,9 @@
 //! A timetable's solution file.
 
-ghost use Rattle.std.specs.Prelude.{◌≡◌, IfOk};
+ghost use Rattle.std.specs.Prelude.{◌≡◌, IfOk, Ok};
 ghost use Rattle.serde_json.specs.View.{view};
 ghost use Rattle.ih_plan.specs.Timetable.{IsPlanOf};
+ghost use Rattle.ih_solution.specs.Reading.{plan_in};
 ghost use Rattle.ih_solution.specs.Solution.{solution, solution_data};
 
 use crate::nurses::nurse_values;
@@ -24,11 +25,12 @@ fn solution_value(alloc: Global, inst: &Instance, plan: &Plan) -> Result<Value, 
 }
 
 /// The solution file of a timetable of the instance: compact JSON with sorted keys and no line feed at its
-/// end, which lists every patient and every nurse in number order.
+/// end, which lists every patient and every nurse in number order. It reads back as the timetable.
 #[tactic(auto, using(crate::proofs::WholeNumbers::whole_numbers))]
 pub fn write_solution(alloc: Global, inst: &Instance, plan: &Plan) -> Result<Vec<u8>, AllocError>
     requires { IsPlanOf inst.now.draft plan.now }
-    ensures { IfOk result (λ v. v.items ≡ solution inst.now.draft plan.now) }
+    ensures written { IfOk result (λ v. v.items ≡ solution inst.now.draft plan.now) }
+    ensures read_back { IfOk result (λ v. plan_in inst.now.draft v.items ≡ Ok plan.now) }
 {
     solution_value(alloc, inst, plan)?.to_vec(alloc)
 }

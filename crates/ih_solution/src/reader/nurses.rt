@@ -1,0 +1,236 @@
+//! The nurses' items, each with its assignments.
+
+ghost use Rattle.std.specs.Prelude.{◌≡◌, ◌<◌, ◌^◌, false, IfOk, All, [], map, length};
+ghost use Rattle.serde_json.specs.View.{view};
+ghost use Rattle.ih_tables.specs.Sizes.{nurse_count, room_count, shift_count};
+ghost use Rattle.ih_plan.specs.Timetable.{IsPlanOf};
+ghost use Rattle.ih_format.specs.Gives.{Gives, seen};
+ghost use Rattle.ih_format.specs.Flags.{is_set};
+ghost use Rattle.ih_format.specs.Checks.{each, under};
+ghost use Rattle.ih_solution.specs.Assigned.{IsFree, IsAssignment, IsListedNurse};
+ghost use Rattle.ih_solution.specs.Reading.{has_nurse, free_room, free_rooms, assignment, assignments, new_one, nurse_named, nurse_row, nurse_rows, nurses, cares_of};
+
+use crate::reader::assigned::assign_all;
+use crate::reader::rows::{Assignment, ListedNurse};
+use crate::reader::{lists, references};
+use ih_format::{FormatError, keys, kinds};
+use ih_plan::Plan;
+use ih_tables::{Fault, Instance, Key, List, NurseNo, Place, Refusal, RoomNo, Shift};
+use serde_json::Value;
+use std::alloc::Global;
+
+/// A room that no nurse has in the shift; else TwoNurses.
+#[tactic(auto, using(crate::proofs::ListedValues::place_steps))]
+fn free_room(
+    inst: &Instance,
+    plan: &Plan,
+    k: Shift,
+    value: &Value,
+    at: Place,
+) -> Result<RoomNo, Refusal>
+    requires plan { IsPlanOf inst.now.draft plan.now }
+    requires shift { k.0 < shift_count inst.now.draft }
+    ensures free { IfOk result (IsFree inst.now.draft plan.now k.0) }
+    ensures gives { result ≡ free_room inst.now.draft (has_nurse plan.now) k.0 at (view value.now) }
+{
+    let room = references::room(inst, value, at)?;
+    if plan.care(room, k).is_some() {
+        return Err(kinds::refusal(Fault::TwoNurses, at));
+    }
+    Ok(room)
+}
+
+#[tactic(auto, using(crate::proofs::References::reading_all))]
+fn each_room(
+    alloc: Global,
+    inst: &Instance,
+    plan: &Plan,
+    k: Shift,
+    values: &[Value],
+    at: Place,
+) -> Result<List<RoomNo>, FormatError>
+    requires few { length values.now < 2 ^ 32 }
+    requires plan { IsPlanOf inst.now.draft plan.now }
+    requires shift { k.0 < shift_count inst.now.draft }
+    ensures free { IfOk result (All (IsFree inst.now.draft plan.now k.0)) }
+    ensures gives { Gives (λ xs. xs) result
+        (each (λ _. free_room inst.now.draft (has_nurse plan.now) k.0) at (map view values.now)) }
+{
+    let mut rooms = Vec::new(alloc);
+    let mut i = 0;
+    for value in values {
+        rooms.push(free_room(inst, plan, k, value, at.item(i))?)?;
+        i += 1;
+    }
+    Ok(List::new(rooms))
+}
+
+fn rooms(
+    alloc: Global,
+    inst: &Instance,
+    plan: &Plan,
+    k: Shift,
+    object: &Value,
+    at: Place,
+) -> Result<List<RoomNo>, FormatError>
+    requires plan { IsPlanOf inst.now.draft plan.now }
+    requires shift { k.0 < shift_count inst.now.draft }
+    ensures free { IfOk result (All (IsFree inst.now.draft plan.now k.0)) }
+    ensures gives { Gives (λ xs. xs) result
+        (under at (view object.now) Key.Rooms (free_rooms inst.now.draft (has_nurse plan.now) k.0)) }
+{
+    let value = kinds::value_of(object, Key::Rooms, at)?;
+    let at = at.key(Key::Rooms);
+    each_room(alloc, inst, plan, k, lists::items(value, at)?, at)
+}
+
+#[tactic(auto, unfolding(crate::specs::Reading::assignment))]
+fn assignment(
+    alloc: Global,
+    inst: &Instance,
+    plan: &Plan,
+    value: &Value,
+    at: Place,
+) -> Result<Assignment, FormatError>
+    requires plan { IsPlanOf inst.now.draft plan.now }
+    ensures fits { IfOk result (IsAssignment inst.now.draft plan.now) }
+    ensures gives { Gives (λ a. a) result (assignment inst.now.draft (has_nurse plan.now) at (view value.now)) }
+{
+    let _ = kinds::object(value, at)?;
+    let day = keys::number(value, Key::Day, 0, inst.days() - 1, at)?;
+    let shift = kinds::value_of(value, Key::Shift, at)?;
+    let shift = references::shift_type(inst, shift, at.key(Key::Shift))?;
+    let shift = Shift(3 * day + shift);
+    let rooms = rooms(alloc, inst, plan, shift, value, at)?;
+    Ok(Assignment { shift, rooms })
+}
+
+#[tactic(auto, using(crate::proofs::References::reading_all))]
+fn each_assignment(
+    alloc: Global,
+    inst: &Instance,
+    plan: &Plan,
+    values: &[Value],
+    at: Place,
+) -> Result<List<Assignment>, FormatError>
+    requires few { length values.now < 2 ^ 32 }
+    requires plan { IsPlanOf inst.now.draft plan.now }
+    ensures fits { IfOk result (All (IsAssignment inst.now.draft plan.now)) }
+    ensures gives { Gives (λ xs. xs) result
+        (each (λ _. assignment inst.now.draft (has_nurse plan.now)) at (map view values.now)) }
+{
+    let mut given = Vec::new(alloc);
+    let mut i = 0;
+    for value in values {
+        given.push(assignment(alloc, inst, plan, value, at.item(i))?)?;
+        i += 1;
+    }
+    Ok(List::new(given))
+}
+
+fn assignments(
+    alloc: Global,
+    inst: &Instance,
+    plan: &Plan,
+    object: &Value,
+    at: Place,
+) -> Result<List<Assignment>, FormatError>
+    requires plan { IsPlanOf inst.now.draft plan.now }
+    ensures fits { IfOk result (All (IsAssignment inst.now.draft plan.now)) }
+    ensures gives { Gives (λ xs. xs) result
+        (under at (view object.now) Key.Assignments (assignments inst.now.draft (has_nurse plan.now))) }
+{
+    let value = kinds::value_of(object, Key::Assignments, at)?;
+    let at = at.key(Key::Assignments);
+    each_assignment(alloc, inst, plan, lists::items(value, at)?, at)
+}
+
+/// A nurse whom no earlier item has.
+fn new_nurse(
+    inst: &Instance,
+    value: &Value,
+    earlier: &[bool],
+    at: Place,
+) -> Result<NurseNo, Refusal>
+    requires { length earlier.now ≡ nurse_count inst.now.draft }
+    ensures inside { IfOk result (λ n. n.0 < nurse_count inst.now.draft) }
+    ensures new { IfOk result (λ n. is_set earlier.now n.0 ≡ false) }
+    ensures gives { seen (λ n. n.0) result
+        ≡ new_one (nurse_named inst.now.draft) (is_set earlier.now) at (view value.now) }
+{
+    let nurse = references::nurse(inst, value, at)?;
+    if earlier[nurse.0 as usize] {
+        return Err(kinds::refusal(Fault::Duplicate, at));
+    }
+    Ok(nurse)
+}
+
+#[tactic(auto, unfolding(crate::specs::Reading::nurse_row))]
+fn nurse_row(
+    alloc: Global,
+    inst: &Instance,
+    plan: &Plan,
+    value: &Value,
+    earlier: &[bool],
+    at: Place,
+) -> Result<ListedNurse, FormatError>
+    requires plan { IsPlanOf inst.now.draft plan.now }
+    requires earlier { length earlier.now ≡ nurse_count inst.now.draft }
+    ensures new { IfOk result (λ row. is_set earlier.now row.nurse.0 ≡ false) }
+    ensures fits { IfOk result (IsListedNurse inst.now.draft plan.now) }
+    ensures gives { Gives (λ row. row) result
+        (nurse_row inst.now.draft (is_set earlier.now) (has_nurse plan.now) at (view value.now)) }
+{
+    let _ = kinds::object(value, at)?;
+    let id = kinds::value_of(value, Key::Id, at)?;
+    let nurse = new_nurse(inst, id, earlier, at.key(Key::Id))?;
+    let assignments = assignments(alloc, inst, plan, value, at)?;
+    Ok(ListedNurse { nurse, assignments })
+}
+
+/// The timetable with the assignments of the nurses' items.
+fn each_nurse(
+    alloc: Global,
+    inst: &Instance,
+    mut plan: Plan,
+    values: &[Value],
+    at: Place,
+) -> Result<Plan, FormatError>
+    requires few { length values.now < 2 ^ 32 }
+    requires plan { IsPlanOf inst.now.draft plan }
+    requires empty { plan.cares ≡ cares_of inst.now.draft [] }
+    ensures plan { IfOk result (IsPlanOf inst.now.draft) }
+    ensures gives { Gives (λ p. p) result
+        (seen (λ rows. record plan { cares = cares_of inst.now.draft rows })
+        (nurse_rows inst.now.draft at (map view values.now))) }
+{
+    let mut listed = lists::no_flags(alloc, inst.nurses())?;
+    let mut i = 0;
+    for value in values {
+        let row = nurse_row(alloc, inst, &plan, value, listed.as_slice(), at.item(i))?;
+        listed[row.nurse.0 as usize] = true;
+        assign_all(inst, &mut plan, &row);
+        i += 1;
+    }
+    Ok(plan)
+}
+
+/// The timetable with the assignments of an object's nurses.
+pub fn cares(
+    alloc: Global,
+    inst: &Instance,
+    plan: Plan,
+    object: &Value,
+    at: Place,
+) -> Result<Plan, FormatError>
+    requires plan { IsPlanOf inst.now.draft plan }
+    requires empty { plan.cares ≡ cares_of inst.now.draft [] }
+    ensures plan { IfOk result (IsPlanOf inst.now.draft) }
+    ensures gives { Gives (λ p. p) result
+        (seen (λ rows. record plan { cares = cares_of inst.now.draft rows })
+        (under at (view object.now) Key.Nurses (nurses inst.now.draft))) }
+{
+    let value = kinds::value_of(object, Key::Nurses, at)?;
+    let at = at.key(Key::Nurses);
+    each_nurse(alloc, inst, plan, lists::items(value, at)?, at)
+}
