@@ -1,1 +1,4 @@
 pub mod Report
+pub mod Marks
+pub mod Rolls
+pub mod Rooms

@@ -5,7 +5,7 @@ ghost use Rattle.ih_plan.specs.Timetable.{IsPlanOf};
 ghost use Rattle.ih_plan.specs.BillOf.{bill_of};
 ghost use Rattle.ih_tables.specs.Bills.{IsWithin};
 
-use crate::{loads, nurses, patients, rooms, shifts, surgery};
+use crate::{loads, nurses, patients, rooms, shifts, surgeons, theatres};
 use ih_plan::Plan;
 use ih_tables::{Bill, Instance};
 
@@ -21,25 +21,26 @@ fn all_counts(inst: &Instance, plan: &Plan) -> Bill
     requires { IsPlanOf inst.now.draft plan.now }
     ensures { result ≡ bill_of inst.now.draft plan.now }
 {
+    let rooms = rooms::room_costs(inst, plan);
     Bill {
         v: [
-            signed(rooms::gender_mixes(inst, plan)),
+            signed(rooms.gender_mixes),
             signed(patients::bad_rooms(inst, plan)),
-            signed(surgery::surgeon_overtime(inst, plan)),
-            signed(surgery::theatre_overtime(inst, plan)),
+            signed(surgeons::surgeon_overtime(inst, plan)),
+            signed(theatres::theatre_overtime(inst, plan)),
             signed(patients::mandatory_left_out(inst, plan)),
             signed(patients::outside_windows(inst, plan)),
-            signed(rooms::over_capacity(inst, plan)),
+            signed(rooms.over_capacity),
             signed(shifts::nurses_off(inst, plan)),
-            signed(shifts::uncovered(inst, plan)),
+            signed(rooms.uncovered),
         ],
         s: [
-            signed(rooms::mixed_ages(inst, plan)),
-            signed(shifts::missing_skill(inst, plan)),
+            signed(rooms.mixed_ages),
+            signed(rooms.missing_skill),
             signed(nurses::nurses_seen(inst, plan)),
             signed(loads::overloads(inst, plan)),
-            signed(surgery::open_theatres(inst, plan)),
-            signed(surgery::transfers(inst, plan)),
+            signed(theatres::open_theatres(inst, plan)),
+            signed(surgeons::transfers(inst, plan)),
             signed(patients::delays(inst, plan)),
             signed(patients::optional_left_out(inst, plan)),
         ],

@@ -1,47 +1,31 @@
 //! How many distinct nurses each person has over its stay.
 
 ghost use Rattle.std.specs.Prelude.{◌≡◌, ◌<◌, ◌≤◌, ◌-◌, ◌+◌, ◌*◌, ℕ, map, min};
-ghost use Rattle.std.specs.List.{list_any, range_with_len};
+ghost use Rattle.std.specs.List.{range_with_len};
 ghost use Rattle.ih_tables.specs.Sizes.{person_count, room_count, shift_count};
 ghost use Rattle.ih_plan.specs.Timetable.{IsPlanOf, care_of};
 ghost use Rattle.ih_plan.specs.Presence.{shifts_of, room_of};
-ghost use Rattle.ih_plan.specs.Costs.{is_number, nurse_for, distinct_nurses};
+ghost use Rattle.ih_plan.specs.Costs.{nurse_for, distinct_nurses};
 ghost use Rattle.ih_plan.specs.BillOf.{nurses_seen};
 
-use crate::loads::is_nurse_at;
-use crate::patients::bit;
+use crate::marks::{count_marked, mark};
+use crate::shifts::nurse_at;
 use ih_plan::Plan;
-use ih_tables::{Instance, NurseNo, PatientNo, RoomNo};
+use ih_tables::{Instance, PatientNo, RoomNo};
 
 #[tactic(auto, using(ih_plan::proofs::ListSteps::range_steps))]
-fn is_seen(inst: &Instance, plan: &Plan, r: RoomNo, from: u32, count: u32, n: u32) -> bool
+fn seen_in(inst: &Instance, plan: &Plan, r: RoomNo, from: u32, len: u32) -> u64
     requires plan { IsPlanOf inst.now.draft plan.now }
     requires room { r.0 < room_count inst.now.draft }
-    requires shifts { from + count ≤ shift_count inst.now.draft }
-    ensures { result ≡ list_any (λ o. is_number o n) (map (care_of plan.now r.0) (range_with_len from count)) }
-{
-    let mut seen = false;
-    for j in 0..count {
-        if is_nurse_at(inst, plan, NurseNo(n), r, from + j) {
-            seen = true;
-        }
-    }
-    seen
-}
-
-#[tactic(auto, using(ih_plan::proofs::SumLemmas::sum_steps))]
-fn seen_in(inst: &Instance, plan: &Plan, r: RoomNo, from: u32, count_of: u32) -> u64
-    requires plan { IsPlanOf inst.now.draft plan.now }
-    requires room { r.0 < room_count inst.now.draft }
-    requires shifts { from + count_of ≤ shift_count inst.now.draft }
-    ensures count { result ≡ distinct_nurses inst.now.draft (map (care_of plan.now r.0) (range_with_len from count_of)) }
+    requires shifts { from + len ≤ shift_count inst.now.draft }
+    ensures count { result ≡ distinct_nurses inst.now.draft (map (care_of plan.now r.0) (range_with_len from len)) }
     ensures bound { result ≤ 512 }
 {
-    let mut count = 0;
-    for n in 0..inst.nurses() {
-        count += bit(is_seen(inst, plan, r, from, count_of, n));
+    let mut seen = [false; 512];
+    for j in 0..len {
+        mark(&mut seen, nurse_at(inst, plan, r, from + j));
     }
-    count
+    count_marked(&seen, inst.nurses())
 }
 
 fn counted(inst: &Instance, day: u32, len: u32) -> u32

@@ -1,27 +1,31 @@
-//! What the rooms and shifts cost: nurses off duty, occupied rooms without a nurse, and missing skill.
+//! What the rooms cost, shift by shift: nurses off duty, occupied rooms without a nurse, and missing skill.
 
-ghost use Rattle.std.specs.Prelude.{◌≡◌, ◌<◌, ◌≤◌, ◌-◌, ◌*◌, ◌&&◌, ℕ, not, map, is_none, sum_by, IfSome};
+ghost use Rattle.std.specs.Prelude.{◌≡◌, ◌<◌, ◌≤◌, ◌-◌, ◌+◌, ◌*◌, ◌&&◌, ℕ, not, map, is_none, sum_by, IfSome, All, length};
 ghost use Rattle.ih_tables.specs.Sizes.{person_count, room_count, shift_count, nurse_count};
-ghost use Rattle.ih_plan.specs.Timetable.{IsPlanOf, care_of, choice_of};
-ghost use Rattle.ih_plan.specs.Presence.{present, skill_of, day_of};
+ghost use Rattle.ih_plan.specs.Timetable.{IsPlanOf, care_of};
+ghost use Rattle.ih_plan.specs.Presence.{present, skill_of};
 ghost use Rattle.ih_plan.specs.Costs.{not_working, skill_missing, skill_level, is_empty};
-ghost use Rattle.ih_plan.specs.BillOf.{nurses_off, uncovered, missing_skill};
+ghost use Rattle.ih_plan.specs.BillOf.{nurses_off};
 ghost use Rattle.ih_plan.specs.Sums.{sum_below, bit};
+ghost use Rattle.ih_validate.specs.Rooms.{bare_shift, skill_gap};
 
-use crate::loads::entry_of;
 use crate::patients::bit;
-use crate::rooms::{is_present, occupied};
+use crate::persons::skill_of;
 use ih_plan::Plan;
-use ih_tables::{Instance, NurseNo, PatientNo, RoomNo, Shift};
+use ih_tables::{Instance, NurseNo, RoomNo, Shift};
 
-pub fn nurse_at(inst: &Instance, plan: &Plan, r: RoomNo, k: u32) -> Option<NurseNo>
+/// The number of the room's nurse in the shift, where it has one.
+pub fn nurse_at(inst: &Instance, plan: &Plan, r: RoomNo, k: u32) -> Option<u32>
     requires plan { IsPlanOf inst.now.draft plan.now }
     requires room { r.0 < room_count inst.now.draft }
     requires shift { k < shift_count inst.now.draft }
-    ensures choice { result ≡ choice_of plan.now r.0 k }
-    ensures nurse { IfSome result (λ n. n.0 < nurse_count inst.now.draft) }
+    ensures care { result ≡ care_of plan.now r.0 k }
+    ensures nurse { IfSome result (λ n. n < nurse_count inst.now.draft) }
 {
-    plan.care(r, Shift(k))
+    match plan.care(r, Shift(k)) {
+        None => None,
+        Some(n) => Some(n.0),
+    }
 }
 
 fn is_off(inst: &Instance, plan: &Plan, r: RoomNo, k: u32) -> bool
@@ -32,59 +36,29 @@ fn is_off(inst: &Instance, plan: &Plan, r: RoomNo, k: u32) -> bool
 {
     match nurse_at(inst, plan, r, k) {
         None => false,
-        Some(n) => inst.works(n, Shift(k)).is_none(),
+        Some(n) => inst.works(NurseNo(n), Shift(k)).is_none(),
     }
 }
 
-fn is_uncovered(inst: &Instance, plan: &Plan, r: RoomNo, k: u32) -> bool
+fn is_uncovered(inst: &Instance, plan: &Plan, r: RoomNo, k: u32, here: &[u32]) -> bool
     requires plan { IsPlanOf inst.now.draft plan.now }
     requires room { r.0 < room_count inst.now.draft }
     requires shift { k < shift_count inst.now.draft }
-    ensures { result ≡ (is_none (care_of plan.now r.0 k) && not (is_empty (present inst.now.draft plan.now r.0 (day_of k)))) }
+    ensures { result ≡ (is_none (care_of plan.now r.0 k) && not (is_empty here.now)) }
 {
-    match nurse_at(inst, plan, r, k) {
-        None => occupied(inst, plan, r, k / 3),
-        Some(_) => false,
-    }
+    nurse_at(inst, plan, r, k).is_none() && !here.is_empty()
 }
 
-#[tactic(auto, unfolding(ih_plan::specs::Persons::person_of))]
-fn skill_of(inst: &Instance, plan: &Plan, x: u32, k: u32) -> u32
+fn skill_below(inst: &Instance, plan: &Plan, here: &[u32], k: u32, level: u32) -> u64
     requires plan { IsPlanOf inst.now.draft plan.now }
-    requires person { x < person_count inst.now.draft }
-    ensures value { result ≡ skill_of inst.now.draft plan.now k x }
-    ensures bound { result ≤ 1000 }
-{
-    let at = entry_of(inst, plan, x, k) as usize;
-    let patients = inst.patients();
-    if x < patients {
-        let a = inst.patient(PatientNo(x));
-        a.skill_level_required
-            .as_slice()
-            .get(at)
-            .copied()
-            .unwrap_or(0)
-    } else {
-        let o = inst.occupant(x - patients);
-        o.skill_level_required
-            .as_slice()
-            .get(at)
-            .copied()
-            .unwrap_or(0)
-    }
-}
-
-#[tactic(auto, using(ih_plan::proofs::ListSteps::skill_steps), unfolding(ih_plan::specs::Presence::present))]
-fn skill_below(inst: &Instance, plan: &Plan, r: RoomNo, k: u32, level: u32) -> u64
-    requires { IsPlanOf inst.now.draft plan.now }
-    ensures sum { result ≡ sum_by (λ s. s - level) (map (skill_of inst.now.draft plan.now k) (present inst.now.draft plan.now r.0 (day_of k))) }
+    requires persons { All (λ x. x < person_count inst.now.draft) here.now }
+    requires few { length here.now ≤ 2560 }
+    ensures sum { result ≡ sum_by (λ s. s - level) (map (skill_of inst.now.draft plan.now k) here.now) }
     ensures bound { result ≤ 2560000 }
 {
     let mut sum = 0;
-    for x in 0..inst.persons() {
-        if is_present(inst, plan, r, k / 3, x) {
-            sum += skill_of(inst, plan, x, k).saturating_sub(level) as u64;
-        }
+    for x in here {
+        sum += skill_of(inst, plan, *x, k).saturating_sub(level) as u64;
     }
     sum
 }
@@ -96,16 +70,18 @@ fn skill_level(inst: &Instance, n: NurseNo) -> u32
     inst.nurse(n).skill_level
 }
 
-fn skill_missing(inst: &Instance, plan: &Plan, r: RoomNo, k: u32) -> u64
+fn skill_missing(inst: &Instance, plan: &Plan, r: RoomNo, k: u32, here: &[u32]) -> u64
     requires plan { IsPlanOf inst.now.draft plan.now }
     requires room { r.0 < room_count inst.now.draft }
     requires shift { k < shift_count inst.now.draft }
-    ensures sum { result ≡ skill_missing inst.now.draft (care_of plan.now r.0 k) (map (skill_of inst.now.draft plan.now k) (present inst.now.draft plan.now r.0 (day_of k))) }
+    requires persons { All (λ x. x < person_count inst.now.draft) here.now }
+    requires few { length here.now ≤ 2560 }
+    ensures sum { result ≡ skill_missing inst.now.draft (care_of plan.now r.0 k) (map (skill_of inst.now.draft plan.now k) here.now) }
     ensures bound { result ≤ 2560000 }
 {
     match nurse_at(inst, plan, r, k) {
         None => 0,
-        Some(n) => skill_below(inst, plan, r, k, skill_level(inst, n)),
+        Some(n) => skill_below(inst, plan, here, k, skill_level(inst, NurseNo(n))),
     }
 }
 
@@ -136,56 +112,37 @@ pub fn nurses_off(inst: &Instance, plan: &Plan) -> u64
     sum
 }
 
+/// The shifts of a day in which the room is occupied and has no nurse.
 #[tactic(auto, using(ih_plan::proofs::SumLemmas::sum_steps))]
-fn uncovered_in(inst: &Instance, plan: &Plan, r: RoomNo) -> u64
+pub fn uncovered_on(inst: &Instance, plan: &Plan, r: RoomNo, d: u32, here: &[u32]) -> u64
     requires plan { IsPlanOf inst.now.draft plan.now }
     requires room { r.0 < room_count inst.now.draft }
-    ensures sum { result ≡ sum_below (shift_count inst.now.draft) (λ k. bit (is_none (care_of plan.now r.0 k) && not (is_empty (present inst.now.draft plan.now r.0 (day_of k))))) }
-    ensures bound { result ≤ 168 }
+    requires day { d < inst.now.draft.days }
+    requires here { here.now ≡ present inst.now.draft plan.now r.0 d }
+    ensures sum { result ≡ sum_below 3 (λ j. bare_shift inst.now.draft plan.now r.0 (3 * d + j)) }
+    ensures bound { result ≤ 3 }
 {
     let mut sum = 0;
-    for k in 0..inst.shifts() {
-        sum += bit(is_uncovered(inst, plan, r, k));
+    for j in 0..3 {
+        sum += bit(is_uncovered(inst, plan, r, 3 * d + j, here));
     }
     sum
 }
 
-#[tactic(auto, using(ih_plan::proofs::SumLemmas::sum_steps), unfolding(ih_plan::specs::BillOf::uncovered))]
-pub fn uncovered(inst: &Instance, plan: &Plan) -> u64
-    requires { IsPlanOf inst.now.draft plan.now }
-    ensures value { result ≡ uncovered inst.now.draft plan.now }
-    ensures bound { result ≤ 21504 }
-{
-    let mut sum = 0;
-    for r in 0..inst.rooms() {
-        sum += uncovered_in(inst, plan, RoomNo(r));
-    }
-    sum
-}
-
+/// The required skill above the nurses', for each person who is here in each shift of the day.
 #[tactic(auto, using(ih_plan::proofs::SumLemmas::sum_steps))]
-fn missing_skill_in(inst: &Instance, plan: &Plan, r: RoomNo) -> u64
+pub fn missing_skill_on(inst: &Instance, plan: &Plan, r: RoomNo, d: u32, here: &[u32]) -> u64
     requires plan { IsPlanOf inst.now.draft plan.now }
     requires room { r.0 < room_count inst.now.draft }
-    ensures sum { result ≡ sum_below (shift_count inst.now.draft) (λ k. skill_missing inst.now.draft (care_of plan.now r.0 k) (map (skill_of inst.now.draft plan.now k) (present inst.now.draft plan.now r.0 (day_of k)))) }
-    ensures bound { result ≤ 430080000 }
+    requires day { d < inst.now.draft.days }
+    requires here { here.now ≡ present inst.now.draft plan.now r.0 d }
+    requires few { length here.now ≤ 2560 }
+    ensures sum { result ≡ sum_below 3 (λ j. skill_gap inst.now.draft plan.now r.0 (3 * d + j)) }
+    ensures bound { result ≤ 7680000 }
 {
     let mut sum = 0;
-    for k in 0..inst.shifts() {
-        sum += skill_missing(inst, plan, r, k);
-    }
-    sum
-}
-
-#[tactic(auto, using(ih_plan::proofs::SumLemmas::sum_steps), unfolding(ih_plan::specs::BillOf::missing_skill))]
-pub fn missing_skill(inst: &Instance, plan: &Plan) -> u64
-    requires { IsPlanOf inst.now.draft plan.now }
-    ensures value { result ≡ missing_skill inst.now.draft plan.now }
-    ensures bound { result ≤ 55050240000 }
-{
-    let mut sum = 0;
-    for r in 0..inst.rooms() {
-        sum += missing_skill_in(inst, plan, RoomNo(r));
+    for j in 0..3 {
+        sum += skill_missing(inst, plan, r, 3 * d + j, here);
     }
     sum
 }

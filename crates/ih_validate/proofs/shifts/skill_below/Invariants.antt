@@ -1,8 +1,10 @@
-use Rattle.std.proofs.Common.{◌≡◌, ◌≤◌, ◌-◌, ◌*◌}
-use Rattle.std.specs.Prelude.{if◌then◌else◌}
-use Rattle.ih_plan.specs.Sums.{sum_below}
-use Rattle.ih_plan.specs.Presence.{is_present, day_of, skill_of}
+use Rattle.std.proofs.Common.{◌≡◌, ◌≤◌, ◌-◌, ◌*◌, take, map}
+use Rattle.std.specs.Prelude.{sum_by}
+use Rattle.ih_plan.specs.Presence.{skill_of}
 use Rattle.ih_validate.proofs.shifts.skill_below.Given as goal
 
 abbrev pub invariant-loop-x : goal.invariant-loop-x
-invariant-loop-x l = (l.sum ≡ sum_below l.x (λ x. if is_present l.inst.draft l.plan l.r.0 (day_of l.k) x then skill_of l.inst.draft l.plan l.k x - l.level else 0)) × (l.sum ≤ 1000 * l.x)
+invariant-loop-x l = record {
+  sum : l.sum ≡ sum_by (λ s. s - l.level) (map (skill_of l.inst.draft l.plan l.k) (take l.x-index l.here));
+  small : l.sum ≤ 1000 * l.x-index;
+}

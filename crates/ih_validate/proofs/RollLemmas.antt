@@ -1,0 +1,130 @@
+-- Lists of the numbers below n that pass, and what more tests leave of them.
+use Rattle.std.proofs.Common.{◌≡◌, ℕ, zero, suc, ◌+◌, ◌<◌, ◌≤◌, refl, arith, sym, ◌∙◌, Bool, true, false, List, [], ◌∷◌, ◌++◌, length, take, length-append}
+use Rattle.std.specs.Prelude.{if◌then◌else◌, All, ◌&&◌, ◌==◌, Option, Some, None, option_map}
+use Rattle.std.specs.List.{filter}
+use Rattle.std.proofs.lemmas.List.Elements.{filter-append, All-push, All-nil, All-weaker}
+use Rattle.std.proofs.lemmas.List.{append-nil, take_all}
+use Rattle.ih_tables.specs.declared.drafts.Draft.{Draft}
+use Rattle.ih_tables.specs.Sizes.{patient_count, person_count}
+use Rattle.ih_tables.specs.Valid.{IsValid}
+use Rattle.ih_plan.specs.declared.moves.Placement.{Placement}
+use Rattle.ih_plan.specs.Timetable.{Timetable, stay_of}
+use Rattle.ih_plan.specs.Persons.{person_of}
+use Rattle.ih_plan.specs.Presence.{Admission, admission_of, is_in, covers, is_present, present}
+use Rattle.ih_plan.specs.Costs.{is_number, operated, operated_by, operated_in, theatre_of, surgeon_of, admitted_on}
+use Rattle.ih_plan.specs.Sums.{which_below}
+use Rattle.ih_plan.proofs.SumLemmas.{which_below-zero, which_below-more}
+use Rattle.ih_validate.specs.Rolls.{guests_of, theatre_patients, surgeon_patients}
+
+-- xs are the numbers below n that pass
+pub record IsRoll (p : ℕ → Bool) (n : ℕ) (xs : List ℕ) : Type 0 where
+  pub listed : xs ≡ which_below n p
+  pub few : length xs ≤ n
+
+pub is_roll-none : (p : ℕ → Bool) → IsRoll p 0 []
+is_roll-none p = record { listed = sym (which_below-zero p); few = omega arith }
+
+pub is_roll-yes : {p : ℕ → Bool} {n : ℕ} {xs : List ℕ} → IsRoll p n xs → true ≡ p n → IsRoll p (n + 1) (xs ++ n ∷ [])
+is_roll-yes {p} {n} {xs} so_far e = record {
+  listed = rw (which_below-more n p, ← e, so_far.listed) refl;
+  few = omega (arith, length-append xs (n ∷ []), so_far.few);
+}
+
+pub is_roll-no : {p : ℕ → Bool} {n : ℕ} {xs : List ℕ} → IsRoll p n xs → false ≡ p n → IsRoll p (n + 1) xs
+is_roll-no {p} {n} {xs} so_far e = record {
+  listed = rw (which_below-more n p, ← e) so_far.listed;
+  few = omega (arith, so_far.few);
+}
+
+-- each is below n, and there are at most n
+pub which_below-All : (n : ℕ) (p : ℕ → Bool) → All (λ x. x < n) (which_below n p)
+unfolding which_below
+which_below-All zero p = All-nil (λ x. x < 0)
+which_below-All (suc n) p = by_case (p n) (All-weaker (λ x. x < n) (λ x. x < suc n) (λ x h. omega arith) (which_below n p) (which_below-All n p))
+  where
+    by_case : (b : Bool) → All (λ x. x < suc n) (which_below n p) → All (λ x. x < suc n) (if b then which_below n p ++ n ∷ [] else which_below n p)
+    by_case true rest = All-push (λ x. x < suc n) (which_below n p) n rest (omega arith)
+    by_case false rest = rest
+
+pub which_below-short : (n : ℕ) (p : ℕ → Bool) → length (which_below n p) ≤ n
+unfolding which_below
+which_below-short zero p = omega arith
+which_below-short (suc n) p = by_case (p n) (which_below-short n p)
+  where
+    by_case : (b : Bool) → length (which_below n p) ≤ n → length (if b then which_below n p ++ n ∷ [] else which_below n p) ≤ suc n
+    by_case true rest = omega (arith, length-append (which_below n p) (n ∷ []))
+    by_case false rest = omega arith
+
+-- of the numbers that pass p, those that pass a stronger test
+pub filter-which_below : (n : ℕ) (p q : ℕ → Bool) → ((i : ℕ) → q i ≡ true → p i ≡ true) → filter q (which_below n p) ≡ which_below n q
+unfolding which_below
+filter-which_below zero p q h = refl
+filter-which_below (suc n) p q h = by_case (p n) (q n) refl (h n) (filter-which_below n p q h)
+  where
+    last : (c : Bool) → which_below n q ++ (if c then n ∷ [] else []) ≡ (if c then which_below n q ++ n ∷ [] else which_below n q)
+    last true = refl
+    last false = append-nil (which_below n q)
+
+    by_case : (b c : Bool) → q n ≡ c → (c ≡ true → b ≡ true) → filter q (which_below n p) ≡ which_below n q
+        → filter q (if b then which_below n p ++ n ∷ [] else which_below n p) ≡ (if c then which_below n q ++ n ∷ [] else which_below n q)
+    by_case true c e k rest = filter-append q (which_below n p) (n ∷ []) ∙ rw (rest, e) (last c)
+    by_case false true e k rest = absurd (let no : false ≡ true = k refl in cc)
+    by_case false false e k rest = rest
+
+pub all-among : (n : ℕ) (p : ℕ → Bool) (xs : List ℕ) → xs ≡ which_below n p → All (λ x. x < n) xs
+all-among n p xs e = rw e (which_below-All n p)
+
+pub few-among : (n : ℕ) (p : ℕ → Bool) (xs : List ℕ) → xs ≡ which_below n p → n ≤ 2560 → length xs ≤ 2560
+few-among n p xs e h = rw e (omega (arith, which_below-short n p))
+
+-- a loop over a list ends with all of it
+pub filter-whole : (q : ℕ → Bool) (xs ys : List ℕ) (i : ℕ) → length xs ≤ i → xs ≡ ys → filter q (take i xs) ≡ filter q ys
+filter-whole q xs ys i h e = rw (take_all i xs h, e) refl
+
+pub few-persons : (I : Draft) → IsValid I → person_count I ≤ 2560
+few-persons I valid = let one = valid.patients.len.most in let two = valid.occupants.len.most in omega arith
+
+pub few-patients : (I : Draft) → IsValid I → patient_count I ≤ 2560
+few-patients I valid = let one = valid.patients.len.most in omega arith
+
+first_passes : (a b : Bool) → (a && b) ≡ true → a ≡ true
+first_passes true b h = refl
+first_passes false b h = h
+
+-- those of a room's persons who are there on a day are all who are
+pub present-guests : (I : Draft) (P : Timetable) (r d : ℕ) → filter (is_present I P r d) (guests_of I P r) ≡ present I P r d
+unfolding present
+present-guests I P r d =
+    filter-which_below (person_count I) (λ x. is_number (option_map (λ (a : Admission). a.room) (admission_of I P x)) r) (is_present I P r d) (λ x h. in_room (admission_of I P x) (person_of I x).length_of_stay h)
+  where
+    in_room : (o : Option Admission) (n : ℕ) → is_in o n r d ≡ true → is_number (option_map (λ (a : Admission). a.room) o) r ≡ true
+    in_room None n h = h
+    in_room (Some a) n h = first_passes (a.room == r) (covers a.day n d) h
+
+-- the same of a theatre's patients and of a surgeon's
+pub operated-among : (I : Draft) (P : Timetable) (t d : ℕ) → filter (λ p. operated_in t d (stay_of P p)) (theatre_patients I P t) ≡ operated I P t d
+unfolding operated
+operated-among I P t d =
+    filter-which_below (patient_count I) (λ p. is_number (theatre_of P p) t) (λ p. operated_in t d (stay_of P p)) (λ p h. in_theatre (stay_of P p) h)
+  where
+    in_theatre : (o : Option Placement) → operated_in t d o ≡ true → is_number (option_map (λ (at : Placement). at.theatre.0) o) t ≡ true
+    in_theatre None h = h
+    in_theatre (Some at) h = first_passes (at.theatre.0 == t) (at.day.0 == d) h
+
+pub operated_by-among : (I : Draft) (P : Timetable) (s d : ℕ)
+    → filter (λ p. is_number (surgeon_of I p) s && admitted_on d (stay_of P p)) (surgeon_patients I s) ≡ operated_by I P s d
+unfolding operated_by
+operated_by-among I P s d =
+    filter-which_below (patient_count I) (λ p. is_number (surgeon_of I p) s) (λ p. is_number (surgeon_of I p) s && admitted_on d (stay_of P p)) (λ p h. first_passes (is_number (surgeon_of I p) s) (admitted_on d (stay_of P p)) h)
+
+pub present-persons : (I : Draft) (P : Timetable) (r d : ℕ) → All (λ x. x < person_count I) (present I P r d)
+unfolding present
+present-persons I P r d = which_below-All (person_count I) (is_present I P r d)
+
+pub operated-patients : (I : Draft) (P : Timetable) (t d : ℕ) → All (λ p. p < patient_count I) (operated I P t d)
+unfolding operated
+operated-patients I P t d = which_below-All (patient_count I) (λ p. operated_in t d (stay_of P p))
+
+pub operated_by-patients : (I : Draft) (P : Timetable) (s d : ℕ) → All (λ p. p < patient_count I) (operated_by I P s d)
+unfolding operated_by
+operated_by-patients I P s d = which_below-All (patient_count I) (λ p. is_number (surgeon_of I p) s && admitted_on d (stay_of P p))

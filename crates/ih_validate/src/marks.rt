@@ -1,0 +1,34 @@
+//! Marks on numbers, by which distinct ones are counted.
+
+ghost use Rattle.std.specs.Prelude.{◌≡◌, ◌<◌, ◌≤◌, ◌||◌, ℕ, length, IfSome};
+ghost use Rattle.ih_plan.specs.Costs.{is_number};
+ghost use Rattle.ih_plan.specs.Sums.{count_below};
+ghost use Rattle.ih_validate.specs.Marks.{is_marked};
+
+use crate::patients::bit;
+
+/// Marks the number, where there is one.
+pub fn mark(marks: &mut [bool], n: Option<u32>)
+    requires { IfSome n (λ m. m < length marks.old) }
+    ensures len { length marks.new ≡ length marks.old }
+    ensures each { (i : ℕ) → is_marked marks.new i ≡ (is_marked marks.old i || is_number n i) }
+{
+    match n {
+        None => {}
+        Some(m) => marks[m as usize] = true,
+    }
+}
+
+/// How many numbers below `n` are marked.
+#[tactic(auto, using(ih_plan::proofs::SumLemmas::sum_steps))]
+pub fn count_marked(marks: &[bool], n: u32) -> u64
+    requires { n ≤ length marks.now }
+    ensures count { result ≡ count_below n (is_marked marks.now) }
+    ensures bound { result ≤ n }
+{
+    let mut count = 0;
+    for i in 0..n {
+        count += bit(marks[i as usize]);
+    }
+    count
+}

@@ -1,0 +1,38 @@
+//! Who is in a room: those who are there on some day, and those of them who are there on a given day.
+
+ghost use Rattle.std.specs.Prelude.{◌≡◌};
+ghost use Rattle.ih_plan.specs.Timetable.{IsPlanOf};
+ghost use Rattle.ih_plan.specs.Presence.{present};
+ghost use Rattle.ih_validate.specs.Rolls.{guests_of};
+
+use crate::persons::{is_guest, is_present};
+use crate::rolls::Roll;
+use ih_plan::Plan;
+use ih_tables::{Instance, RoomNo};
+
+/// Lists the persons whose room it is.
+pub fn list_guests(inst: &Instance, plan: &Plan, r: RoomNo, out: &mut Roll)
+    requires { IsPlanOf inst.now.draft plan.now }
+    ensures { out.new ≡ guests_of inst.now.draft plan.now r.0 }
+{
+    out.clear();
+    for x in 0..inst.persons() {
+        if is_guest(inst, plan, r, x) {
+            out.push(x);
+        }
+    }
+}
+
+/// Lists those of a room's persons who are there on the day.
+pub fn list_present(inst: &Instance, plan: &Plan, guests: &[u32], r: RoomNo, d: u32, out: &mut Roll)
+    requires plan { IsPlanOf inst.now.draft plan.now }
+    requires guests { guests.now ≡ guests_of inst.now.draft plan.now r.0 }
+    ensures { out.new ≡ present inst.now.draft plan.now r.0 d }
+{
+    out.clear();
+    for x in guests {
+        if is_present(inst, plan, r, d, *x) {
+            out.push(*x);
+        }
+    }
+}
