@@ -14,6 +14,7 @@ other s t differs = go (bytes_eq s t) refl
     go false is = refl
 
 -- words whose first is no command's name name no call
-pub other_name : (words : List Text) (name : Text) → slice_get words 0 ≡ Some name → (name ≡ codes "solve" → ⊥) → call_of words ≡ None
+pub other_name : (words : List Text) (name : Text) → slice_get words 0 ≡ Some name → (name ≡ codes "solve" → ⊥) → (name ≡ codes "check" → ⊥)
+    → call_of words ≡ None
 unfolding call_of
-other_name words name first not_solve = rw (first, other name _ not_solve) refl
+other_name words name first not_solve not_check = rw (first, other name _ not_solve, other name _ not_check) refl

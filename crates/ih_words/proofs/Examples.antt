@@ -2,10 +2,11 @@
 use Rattle.std.proofs.Common.{◌≡◌, ℕ, [], ◌∷◌, ◌++◌, List, refl, Option, Some, None, codes}
 use Rattle.clap.specs.Words.{Text}
 use Rattle.clap.proofs.OnLiterals.{clap_on_literals}
+use Rattle.ih_words.specs.Check.{check_app}
 use Rattle.ih_words.specs.Distinct.{all_differ}
 use Rattle.ih_words.specs.Matches.{has_no_fault}
 use Rattle.ih_words.specs.Solve.{solve_app}
-use Rattle.ih_words.specs.Words.{Call, call_of, solve}
+use Rattle.ih_words.specs.Words.{Call, call_of, check, solve}
 
 -- solve i OUT j, the words of the seed, and the other options
 abbrev words_of : Text → List Text → Text → Text → List Text
@@ -21,13 +22,19 @@ abbrev small_search : List Text
 small_search = words_of (codes "o") (seed_words (codes "0")) (codes "1") (codes "2")
 
 -- the call of solve with files i, o and j, heat 0 and hard 1,000
-abbrev call_with : ℕ → ℕ → ℕ → Option Call
-call_with seed workers moves = Some (solve (record {
+abbrev search_call : ℕ → ℕ → ℕ → ℕ → Option Text → ℕ → Option Call
+search_call seed workers moves retries start freeze = Some (solve (record {
   instance = codes "i";
   out = codes "o";
   journal = codes "j";
-  options = record { seed = seed; workers = workers; moves = moves; heat = 0; hard = 1000; retries = 0 };
+  options = record { seed = seed; workers = workers; moves = moves; heat = 0; hard = 1000; retries = retries };
+  start = start;
+  freeze = freeze;
 }))
+
+-- the same, from the empty timetable
+abbrev call_with : ℕ → ℕ → ℕ → Option Call
+call_with seed workers moves = search_call seed workers moves 0 None 0
 
 lawful : call_of small_search ≡ call_with 0 1 2
 unfolding clap_on_literals call_of has_no_fault solve_app all_differ
@@ -86,10 +93,66 @@ version : call_of (small_search ++ codes "--version" ∷ []) ≡ None
 unfolding clap_on_literals call_of has_no_fault solve_app all_differ
 version = refl
 
-start : call_of (small_search ++ codes "--start" ∷ codes "s" ∷ []) ≡ None
+with_start : call_of (small_search ++ codes "--start" ∷ codes "s" ∷ []) ≡ search_call 0 1 2 0 (Some (codes "s")) 0
 unfolding clap_on_literals call_of has_no_fault solve_app all_differ
-start = refl
+with_start = refl
 
-other_command : call_of (codes "check" ∷ codes "i" ∷ codes "s" ∷ []) ≡ None
+start_is_journal : call_of (small_search ++ codes "--start" ∷ codes "j" ∷ []) ≡ None
+unfolding clap_on_literals call_of has_no_fault solve_app all_differ
+start_is_journal = refl
+
+empty_start : call_of (small_search ++ codes "--start=" ∷ []) ≡ search_call 0 1 2 0 (Some []) 0
+unfolding clap_on_literals call_of has_no_fault solve_app all_differ
+empty_start = refl
+
+two_starts : call_of (small_search ++ codes "--start" ∷ codes "s" ∷ codes "--start" ∷ codes "t" ∷ []) ≡ None
+unfolding clap_on_literals call_of has_no_fault solve_app all_differ
+two_starts = refl
+
+frozen_start : call_of (small_search ++ codes "--freeze" ∷ codes "56" ∷ codes "--start" ∷ codes "s" ∷ []) ≡ search_call 0 1 2 0 (Some (codes "s")) 56
+unfolding clap_on_literals call_of has_no_fault solve_app all_differ
+frozen_start = refl
+
+freeze_without_start : call_of (small_search ++ codes "--freeze" ∷ codes "0" ∷ []) ≡ None
+unfolding clap_on_literals call_of has_no_fault solve_app all_differ
+freeze_without_start = refl
+
+freeze_too_late : call_of (small_search ++ codes "--start" ∷ codes "s" ∷ codes "--freeze" ∷ codes "57" ∷ []) ≡ None
+unfolding clap_on_literals call_of has_no_fault solve_app all_differ
+freeze_too_late = refl
+
+with_retries : call_of (small_search ++ codes "--retries" ∷ codes "7" ∷ []) ≡ search_call 0 1 2 7 None 0
+unfolding clap_on_literals call_of has_no_fault solve_app all_differ
+with_retries = refl
+
+too_many_retries : call_of (small_search ++ codes "--retries" ∷ codes "8" ∷ []) ≡ None
+unfolding clap_on_literals call_of has_no_fault solve_app all_differ
+too_many_retries = refl
+
+retries_make_too_many_entries : call_of (words_of (codes "o") (seed_words (codes "0")) (codes "64") (codes "15625") ++ codes "--retries" ∷ codes "1" ∷ []) ≡ None
+unfolding clap_on_literals call_of has_no_fault solve_app all_differ
+retries_make_too_many_entries = refl
+
+fill : call_of (small_search ++ codes "--start" ∷ codes "s" ∷ codes "--fill" ∷ []) ≡ None
+unfolding clap_on_literals call_of has_no_fault solve_app all_differ
+fill = refl
+
+checked : call_of (codes "check" ∷ codes "i" ∷ codes "s" ∷ []) ≡ Some (check (record { instance = codes "i"; solution = codes "s" }))
+unfolding clap_on_literals call_of has_no_fault check_app all_differ
+checked = refl
+
+check_of_one_file : call_of (codes "check" ∷ codes "i" ∷ codes "i" ∷ []) ≡ None
+unfolding clap_on_literals call_of has_no_fault check_app all_differ
+check_of_one_file = refl
+
+no_solution : call_of (codes "check" ∷ codes "i" ∷ []) ≡ None
+unfolding clap_on_literals call_of has_no_fault check_app all_differ
+no_solution = refl
+
+option_of_another_command : call_of (codes "check" ∷ codes "i" ∷ codes "s" ∷ codes "--start" ∷ codes "t" ∷ []) ≡ None
+unfolding clap_on_literals call_of has_no_fault check_app all_differ
+option_of_another_command = refl
+
+other_command : call_of (codes "demo" ∷ codes "0" ∷ []) ≡ None
 unfolding call_of
 other_command = refl

@@ -2,12 +2,13 @@
 use Rattle.std.proofs.Common.{◌≡◌, ◌∙◌, ◌<◌, ◌≤◌, ◌^◌, ap, sym, ℕ, List, [], refl, arith, Option, Some, None, Result, Ok, Err, option_map}
 use Rattle.std.specs.Prelude.{IsSome, unwrap_or}
 use Rattle.std.specs.Borrow.{Bor}
+use Rattle.std.specs.Option.{option_map_or}
 use Rattle.std.specs.Str.Parse.{ParsesUnsigned, digits_value, without_leading_plus}
 use Rattle.clap.specs.Words.{Row, Text, IsUnsignedIn, first_of, first_value, one_of, one_text, rows_of}
 use Rattle.clap.specs.Matches.{ReadsOne}
 use Rattle.clap.specs.declared.parser.matches.Found.{Found}
 use Rattle.clap.proofs.WalkLemmas.{first_value-rows, one_text-rows}
-use Rattle.ih_words.specs.Matches.{HasNumber, number_at, text_at}
+use Rattle.ih_words.specs.Matches.{HasNumber, IsNumberIfGiven, number_at, number_of, text_at}
 
 -- the text that `get_str` gives
 pub text_read : (o : Option (Bor Text)) (f : Found) (id t : Text) → option_map (λ s. s.now) o ≡ first_value f id
@@ -23,13 +24,13 @@ text_read o f id t same found = (there o (same ∙ first_value-rows f id ∙ fou
     text s is = ap (λ w. unwrap_or w []) (ap (option_map (λ (b : Bor Text). b.now)) (sym is) ∙ same ∙ first_value-rows f id)
 
 -- the number that a text in the range is read as
-number_of : (E : Type 0) (G : List ℕ → Result ℕ E → Type 0) (k low high : ℕ) (t : Text) (o : Option ℕ) → IsUnsignedIn low high t → high < 2 ^ k
+reads_number : (E : Type 0) (G : List ℕ → Result ℕ E → Type 0) (k low high : ℕ) (t : Text) (o : Option ℕ) → IsUnsignedIn low high t → high < 2 ^ k
     → ((u : List ℕ) (x : Result ℕ E) → G u x → ParsesUnsigned k 10 u x) → ReadsOne G t o
-    → o ≡ Some (digits_value 10 (without_leading_plus t))
-number_of E G k low high t None passed fits only read =
+    → o ≡ Some (number_of t)
+reads_number E G k low high t None passed fits only read =
     let small : digits_value 10 (without_leading_plus t) < 2 ^ k = omega (arith, passed.3) in
     absurd (only t (Err read.0) read.1 (passed.0, small))
-number_of E G k low high t (Some v) passed fits only read = ap Some ((only t (Ok v) read).1)
+reads_number E G k low high t (Some v) passed fits only read = ap Some ((only t (Ok v) read).1)
 
 -- the number that `get_one` gives
 pub number_read : (E : Type 0) (G : List ℕ → Result ℕ E → Type 0) (k low high : ℕ) (f : Found) (id t : Text) (o : Option ℕ)
@@ -38,10 +39,30 @@ pub number_read : (E : Type 0) (G : List ℕ → Result ℕ E → Type 0) (k low
     → ((u : List ℕ) → one_text f id ≡ Some u → ReadsOne G u o)
     → o ≡ Some (number_at id (rows_of f))
 number_read E G k low high f id t o found passed fits only read =
-    number_of E G k low high t o passed fits only (read t (one_text-rows f id ∙ found))
-    ∙ ap (λ w. Some (digits_value 10 (without_leading_plus (unwrap_or w [])))) (sym found)
+    reads_number E G k low high t o passed fits only (read t (one_text-rows f id ∙ found))
+    ∙ ap (λ w. Some (option_map_or number_of w 0)) (sym found)
+
+-- the number that `get_one` gives of an argument that may be left out
+pub optional_number_read : (E : Type 0) (G : List ℕ → Result ℕ E → Type 0) (k low high : ℕ) (f : Found) (id : Text) (o : Option ℕ)
+    → IsNumberIfGiven low high id (rows_of f) → high < 2 ^ k
+    → ((u : List ℕ) (x : Result ℕ E) → G u x → ParsesUnsigned k 10 u x)
+    → (one_text f id ≡ None → o ≡ None) → ((u : List ℕ) → one_text f id ≡ Some u → ReadsOne G u o)
+    → unwrap_or o 0 ≡ number_at id (rows_of f)
+optional_number_read E G k low high f id o given fits only none value = go (one_of id (rows_of f)) refl
+  where
+    go : (w : Option Text) → one_of id (rows_of f) ≡ w → unwrap_or o 0 ≡ option_map_or number_of w 0
+    go None is = ap (λ x. unwrap_or x 0) (none (one_text-rows f id ∙ is))
+    go (Some t) is = ap (λ x. unwrap_or x 0) (reads_number E G k low high t o (given t is) fits only (value t (one_text-rows f id ∙ is)))
 
 -- the number of an argument lies in its range
 pub number_within : (low high : ℕ) (id : Text) (rows : List Row) → HasNumber low high id rows
     → (low ≤ number_at id rows) × (number_at id rows ≤ high)
 number_within low high id rows has = rw has.1 (has.2.2, has.2.3)
+
+-- and so does that of an argument that may be left out
+pub optional_number_within : (high : ℕ) (id : Text) (rows : List Row) → IsNumberIfGiven 0 high id rows → number_at id rows ≤ high
+optional_number_within high id rows given = go (one_of id rows) refl
+  where
+    go : (w : Option Text) → one_of id rows ≡ w → option_map_or number_of w 0 ≤ high
+    go None is = omega arith
+    go (Some t) is = (given t is).3

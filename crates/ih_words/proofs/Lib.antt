@@ -1,8 +1,10 @@
+mod ArgumentFacts
 mod CommandNames
+mod DescriptionRules
 mod Distinct
 mod Examples
 mod Faults
 mod Getters
+mod GivenValues
 mod RequiredValues
-mod SolveRules
 pub mod CallNames

@@ -18,7 +18,15 @@ numbered_option id low high = record (named id) { long = Some id; parser = Some 
 abbrev pub seed_option : Rule
 seed_option = numbered_option (codes "seed") 0 18446744073709551615
 
--- the app with the options of a search
+-- `--id VALUE`, which may be left out
+abbrev pub optional : Text → Rule
+optional id = record (new_rule id) { long = Some id; action = Some Set }
+
+-- `--id N`, which may be left out, where N is at most high
+abbrev pub optional_number : Text → ℕ → Rule
+optional_number id high = record (optional id) { parser = Some (Unsigned 0 high) }
+
+-- the app with the options that a search needs
 abbrev pub with_options : App → App
 with_options app = with_rule (with_rule (with_rule (with_rule (with_rule app
     seed_option)

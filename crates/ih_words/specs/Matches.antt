@@ -1,10 +1,11 @@
 -- What `clap` reads of the words of a command, and the values that it gives to the arguments, by their ids.
-use Rattle.std.specs.Prelude.{◌≡◌, ℕ, Bool, List, [], Option, Some, None, unwrap_or, codes, if◌then◌else◌}
+use Rattle.std.specs.Prelude.{◌≡◌, ℕ, Bool, List, [], Option, Some, None, is_some, unwrap_or, codes, if◌then◌else◌}
+use Rattle.std.specs.Option.{option_map_or}
 use Rattle.std.specs.Str.Parse.{digits_value, without_leading_plus}
 use Rattle.clap.specs.Walk.{is_empty}
 use Rattle.clap.specs.Words.{App, IsUnsignedIn, Row, Text, fault_of, first_of, matches_of, one_of}
 use Rattle.ih_journal.specs.declared.settings.Options.{Options}
-use Rattle.ih_journal.specs.declared.settings.TheConstants.{MAX_HARD, MAX_HEAT, MAX_MOVES, MAX_WORKERS}
+use Rattle.ih_journal.specs.declared.settings.TheConstants.{MAX_HARD, MAX_HEAT, MAX_MOVES, MAX_RETRIES, MAX_WORKERS}
 
 -- `clap` finds no fault in the words, by the description of their command
 unfoldable pub has_no_fault : App → List Text → Bool
@@ -18,9 +19,17 @@ call_by app lawful words = if has_no_fault app words then lawful (matches_of app
 abbrev pub text_at : Text → List Row → Text
 text_at id rows = unwrap_or (first_of id rows) []
 
--- the number of an argument
+-- the argument was given
+abbrev pub is_given : Text → List Row → Bool
+is_given id rows = is_some (first_of id rows)
+
+-- the number that digits are, with or without a plus sign before them
+abbrev pub number_of : Text → ℕ
+number_of text = digits_value 10 (without_leading_plus text)
+
+-- the number of an argument, and 0 where none was given
 abbrev pub number_at : Text → List Row → ℕ
-number_at id rows = digits_value 10 (without_leading_plus (unwrap_or (one_of id rows) []))
+number_at id rows = option_map_or number_of (one_of id rows) 0
 
 -- the argument has a text
 abbrev pub HasText : Text → List Row → Type 0
@@ -30,21 +39,26 @@ HasText id rows = (t : Text) × (first_of id rows ≡ Some t)
 abbrev pub HasNumber : ℕ → ℕ → Text → List Row → Type 0
 HasNumber low high id rows = (t : Text) × (one_of id rows ≡ Some t) × IsUnsignedIn low high t
 
+-- the number of an argument, where one was given, is from low to high
+abbrev pub IsNumberIfGiven : ℕ → ℕ → Text → List Row → Type 0
+IsNumberIfGiven low high id rows = (t : Text) → one_of id rows ≡ Some t → IsUnsignedIn low high t
+
 -- each of three file names is there
 pub record HasNames (rows : List Row) (a b c : Text) : Type 0 where
   pub first : HasText a rows
   pub second : HasText b rows
   pub third : HasText c rows
 
--- each option of a search is there, and within its own limits
+-- each option of a search is within its own limits, and there where it may not be left out
 pub record HasOptions (rows : List Row) : Type 0 where
   pub seed : HasNumber 0 18446744073709551615 (codes "seed") rows
   pub workers : HasNumber 1 MAX_WORKERS (codes "workers") rows
   pub moves : HasNumber 0 MAX_MOVES (codes "moves") rows
   pub heat : HasNumber 0 MAX_HEAT (codes "heat") rows
   pub hard : HasNumber 0 MAX_HARD (codes "hard") rows
+  pub retries : IsNumberIfGiven 0 MAX_RETRIES (codes "retries") rows
 
--- the options of a search, by `clap`'s matches; a stale move isn't tried again
+-- the options of a search, by `clap`'s matches; without `--retries` a stale move isn't tried again
 abbrev pub options_in : List Row → Options
 options_in rows = record {
   seed = number_at (codes "seed") rows;
@@ -52,5 +66,5 @@ options_in rows = record {
   moves = number_at (codes "moves") rows;
   heat = number_at (codes "heat") rows;
   hard = number_at (codes "hard") rows;
-  retries = 0;
+  retries = number_at (codes "retries") rows;
 }

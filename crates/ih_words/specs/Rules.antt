@@ -25,7 +25,13 @@ pub record Requires (a : App) (k : ℕ) (rule : Rule) : Type 0 where
   pub action : rule.action ≡ Some Set
   pub range : rule.range ≡ None
 
--- and the value is a number from low to high
+-- the same, and the value is a number from low to high
 pub record RequiresNumber (a : App) (k : ℕ) (rule : Rule) (low high : ℕ) : Type 0 where
   pub value : Requires a k rule
+  pub parser : rule.parser ≡ Some (Unsigned low high)
+
+-- the argument at place k has this rule, by which each value that is given is a number from low to high
+pub record TakesNumber (a : App) (k : ℕ) (rule : Rule) (low high : ℕ) : Type 0 where
+  pub place : slice_get a.top.rules k ≡ Some rule
+  pub range : rule.range ≡ None
   pub parser : rule.parser ≡ Some (Unsigned low high)

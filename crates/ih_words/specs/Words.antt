@@ -2,28 +2,33 @@
 use Rattle.std.specs.Prelude.{List, Option, None, codes, if◌then◌else◌, option_and_then, option_map, slice_get}
 use Rattle.std.specs.Str.{bytes_eq}
 use Rattle.clap.specs.Words.{Text}
-use Rattle.ih_words.specs.Matches.{call_by}
 use Rattle.ih_journal.specs.Settings.{IsLawful}
+use Rattle.ih_words.specs.Check.{CheckCall, check_app, check_call, lawful_check}
+use Rattle.ih_words.specs.Matches.{call_by}
 use Rattle.ih_words.specs.Solve.{SolveCall, lawful_solve, solve_app, solve_call}
 use Rattle.ih_words.specs.declared.command.Command.{Command}
-use Rattle.ih_words.specs.declared.command.Command.TheVariants.{Solve as SolveCommand}
+use Rattle.ih_words.specs.declared.command.Command.TheVariants.{Check as CheckCommand, Solve as SolveCommand}
 
 -- a call of one of the commands
 pub data Call : Type 0 where
   solve : SolveCall → Call
+  check : CheckCall → Call
 
 -- the call that a command's values stand for
 abbrev pub command_call : Command → Call
 command_call (SolveCommand s) = solve (solve_call s)
+command_call (CheckCommand c) = check (check_call c)
 
 -- the options of a search, where the command has them, are within their limits
 abbrev pub HasLawfulOptions : Command → Type 0
 HasLawfulOptions (SolveCommand s) = IsLawful s.options
+HasLawfulOptions (CheckCommand c) = Unit {0}
 
 -- the call of the command with this name
 abbrev pub call_named : Text → List Text → Option Call
 call_named name words = if bytes_eq name (codes "solve") then option_map solve (call_by solve_app lawful_solve words)
-    else None
+    else (if bytes_eq name (codes "check") then option_map check (call_by check_app lawful_check words)
+    else None)
 
 -- the call that the words name, where they are lawful: the first word is the command's name
 unfoldable pub call_of : List Text → Option Call

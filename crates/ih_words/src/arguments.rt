@@ -1,10 +1,11 @@
 //! The rules of the commands' arguments, for `clap`.
-ghost use Rattle.std.specs.Prelude.{◌≡◌, false};
-ghost use Rattle.clap.specs.Words.{rule_of};
-ghost use Rattle.ih_words.specs.Arguments.{named, numbered_option, seed_option};
+ghost use Rattle.std.specs.Prelude.{◌≡◌, IfOk, false};
+ghost use Rattle.clap.specs.Words.{app_of, rule_of};
+ghost use Rattle.ih_words.specs.Arguments.{named, numbered_option, optional, optional_number, seed_option, with_options};
 
-use clap::{Arg, ArgAction, value_parser};
-use std::alloc::Global;
+use clap::{Arg, ArgAction, Command, value_parser};
+use ih_journal::{MAX_HARD, MAX_HEAT, MAX_MOVES, MAX_WORKERS};
+use std::alloc::{AllocError, Global};
 
 // A required argument with one value, by its place.
 pub(crate) fn named<'a>(alloc: Global, id: &'a str) -> Arg<'a>
@@ -32,4 +33,35 @@ pub(crate) fn seed_option<'a>(alloc: Global) -> Arg<'a>
     named(alloc, "seed")
         .long("seed")
         .value_parser(value_parser!(u64))
+}
+
+// `--id VALUE`, which may be left out.
+pub(crate) fn optional<'a>(alloc: Global, id: &'a str) -> Arg<'a>
+    ensures rule { rule_of result ≡ optional id.entry.now }
+    ensures local { result.global ≡ false }
+{
+    Arg::new(alloc, id).long(id).action(ArgAction::Set)
+}
+
+// `--id N`, which may be left out, where N is at most `high`.
+pub(crate) fn optional_number<'a>(alloc: Global, id: &'a str, high: u32) -> Arg<'a>
+    ensures rule { rule_of result ≡ optional_number id.entry.now high }
+    ensures local { result.global ≡ false }
+{
+    optional(alloc, id).value_parser(value_parser!(u64).range(0..=i64::from(high)))
+}
+
+// The command with the options that a search needs.
+pub(crate) fn with_options<'a>(
+    alloc: Global,
+    command: Command<'a>,
+) -> Result<Command<'a>, AllocError>
+    ensures { IfOk result (λ c. app_of c ≡ with_options (app_of command.entry)) }
+{
+    command
+        .arg(seed_option(alloc))?
+        .arg(numbered_option(alloc, "workers", 1, MAX_WORKERS))?
+        .arg(numbered_option(alloc, "moves", 0, MAX_MOVES))?
+        .arg(numbered_option(alloc, "heat", 0, MAX_HEAT))?
+        .arg(numbered_option(alloc, "hard", 0, MAX_HARD))
 }

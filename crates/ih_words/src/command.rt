@@ -2,8 +2,9 @@
 ghost use Rattle.std.specs.Prelude.{◌≡◌, IfErr, IfOk, None, Some, map, string_bytes};
 ghost use Rattle.ih_words.specs.Words.{HasLawfulOptions, call_of, command_call};
 
+use crate::check::read_check;
 use crate::solve::read_solve;
-use crate::{Solve, WordsError};
+use crate::{Check, Solve, WordsError};
 use std::alloc::Global;
 
 /// A lawful command with its values.
@@ -11,6 +12,8 @@ use std::alloc::Global;
 pub enum Command<'a> {
     /// Searches, and writes the journal and the best solution.
     Solve(Solve<'a>),
+    /// Tells the costs of a solution.
+    Check(Check<'a>),
 }
 
 /// The command that the words give, with its values. The words are those after the program's name.
@@ -20,8 +23,8 @@ pub enum Command<'a> {
 /// # Errors
 ///
 /// - `Unlawful` where no command has these words: the first word is no command's name, `clap` finds
-///   a fault (a call for help is one), two file names are equal, or a journal could come to more
-///   than `MAX_ENTRIES` entries.
+///   a fault (a call for help is one), two file names are equal, a freeze day comes without a
+///   start, or a journal could come to more than `MAX_ENTRIES` entries.
 /// - `OutOfMemory` where memory ran out.
 #[tactic(auto, unfolding(crate::specs::Words::call_of))]
 pub fn read_words<'a>(alloc: Global, words: &'a [String]) -> Result<Command<'a>, WordsError>
@@ -34,6 +37,7 @@ pub fn read_words<'a>(alloc: Global, words: &'a [String]) -> Result<Command<'a>,
     };
     match name.as_str() {
         "solve" => Ok(Command::Solve(read_solve(alloc, words)?)),
+        "check" => Ok(Command::Check(read_check(alloc, words)?)),
         _ => Err(WordsError::Unlawful),
     }
 }

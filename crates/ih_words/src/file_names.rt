@@ -1,5 +1,5 @@
 //! File names of one call, which have to differ.
-ghost use Rattle.std.specs.Prelude.{◌≡◌, map};
+ghost use Rattle.std.specs.Prelude.{◌∷◌, ◌≡◌, map, option_map, option_to_list};
 ghost use Rattle.std.specs.List.{list_any};
 ghost use Rattle.std.specs.Str.{bytes_eq};
 ghost use Rattle.ih_words.specs.Distinct.{all_differ};
@@ -19,5 +19,26 @@ pub(crate) fn all_differ(names: &[&str]) -> bool
     match names {
         [] => true,
         [name, rest @ ..] => !is_among(name, rest) && all_differ(rest),
+    }
+}
+
+// No two of the names are equal, and none is the start's.
+pub(crate) fn names_differ<'a>(
+    first: &'a str,
+    second: &'a str,
+    third: &'a str,
+    start: Option<&'a str>,
+) -> bool
+    ensures { result ≡ all_differ (first.entry.now ∷ second.entry.now ∷ third.entry.now ∷ option_to_list (option_map (λ t. t.now) start.entry)) }
+{
+    match start {
+        Some(start) => {
+            let names = [first, second, third, start];
+            all_differ(names.as_slice())
+        }
+        None => {
+            let names = [first, second, third];
+            all_differ(names.as_slice())
+        }
     }
 }

@@ -3,15 +3,19 @@
 #![tactic(auto)]
 
 mod arguments;
+mod check;
 mod command;
 mod error;
 mod file_names;
 mod matches;
 mod solve;
+mod start;
 
+pub use check::Check;
 pub use command::{Command, read_words};
 pub use error::WordsError;
 pub use solve::Solve;
+pub use start::MAX_FREEZE;
 
 #[cfg(test)]
 mod tests;

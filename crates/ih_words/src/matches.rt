@@ -1,9 +1,9 @@
 //! What `clap` reads of the words of a command, and the values that it gives to the arguments.
-ghost use Rattle.std.specs.Prelude.{◌≡◌, ◌≤◌, ℕ, IfErr, IfOk, true, false, map, string_bytes};
-ghost use Rattle.clap.specs.Words.{Rule, app_of, found_of, is_simple_and_free, matches_of, rows_of};
-ghost use Rattle.ih_words.specs.Matches.{HasNumber, HasOptions, HasText, has_no_fault, number_at, options_in, text_at};
+ghost use Rattle.std.specs.Prelude.{◌≡◌, ◌≤◌, ℕ, IfErr, IfOk, true, false, map, option_map, string_bytes};
+ghost use Rattle.clap.specs.Words.{Rule, app_of, first_of, found_of, is_simple_and_free, matches_of, rows_of};
+ghost use Rattle.ih_words.specs.Matches.{HasNumber, HasOptions, HasText, IsNumberIfGiven, has_no_fault, is_given, number_at, options_in, text_at};
 ghost use Rattle.ih_journal.specs.Settings.{IsLawful, most_entries};
-ghost use Rattle.ih_words.specs.Rules.{Requires, RequiresNumber, has_independent_rules};
+ghost use Rattle.ih_words.specs.Rules.{Requires, RequiresNumber, TakesNumber, has_independent_rules};
 
 use crate::WordsError;
 use clap::ArgMatches;
@@ -20,6 +20,7 @@ pub(crate) fn matches_in<'a>(
     ensures rows { IfOk result (λ m. rows_of (found_of m) ≡ matches_of (app_of description.entry) (map string_bytes words.entry.now)) }
     ensures texts { IfOk result (λ m. (k : ℕ) (rule : Rule) → Requires (app_of description.entry) k rule → HasText rule.id (rows_of (found_of m))) }
     ensures numbers { IfOk result (λ m. (k : ℕ) (rule : Rule) (low high : ℕ) → RequiresNumber (app_of description.entry) k rule low high → HasNumber low high rule.id (rows_of (found_of m))) }
+    ensures optional { IfOk result (λ m. (k : ℕ) (rule : Rule) (low high : ℕ) → TakesNumber (app_of description.entry) k rule low high → IsNumberIfGiven low high rule.id (rows_of (found_of m))) }
     ensures unlawful { IfErr result (λ e. e ≡ WordsError.Unlawful → has_no_fault (app_of description.entry) (map string_bytes words.entry.now) ≡ false) }
 {
     let matches = description.try_get_matches_from(words)?;
@@ -32,6 +33,20 @@ pub(crate) fn text_of<'a>(matches: &ArgMatches<'a>, id: &str) -> &'a str
     ensures { result.now ≡ text_at id.now (rows_of (found_of matches.now)) }
 {
     matches.get_str(id).unwrap()
+}
+
+// The text of an argument that may be left out.
+pub(crate) fn optional_text_of<'a>(matches: &ArgMatches<'a>, id: &str) -> Option<&'a str>
+    ensures { option_map (λ t. t.now) result ≡ first_of id.now (rows_of (found_of matches.now)) }
+{
+    matches.get_str(id)
+}
+
+// The argument was given.
+pub(crate) fn is_given(matches: &ArgMatches, id: &str) -> bool
+    ensures { result ≡ is_given id.now (rows_of (found_of matches.now)) }
+{
+    optional_text_of(matches, id).is_some()
 }
 
 // The number of an argument that has one.
@@ -50,6 +65,14 @@ pub(crate) fn u32_of(matches: &ArgMatches, id: &str) -> u32
     matches.get_one::<u32>(id).unwrap()
 }
 
+// The number of an argument that may be left out, and 0 then.
+pub(crate) fn optional_u32_of(matches: &ArgMatches, id: &str) -> u32
+    requires { IsNumberIfGiven 0 4294967295 id.now (rows_of (found_of matches.now)) }
+    ensures { result ≡ number_at id.now (rows_of (found_of matches.now)) }
+{
+    matches.get_one::<u32>(id).unwrap_or(0)
+}
+
 // The options of a search. They are lawful where they come to no more entries than a journal may have.
 pub(crate) fn options_in(matches: &ArgMatches) -> Options
     requires { HasOptions (rows_of (found_of matches.now)) }
@@ -62,6 +85,6 @@ pub(crate) fn options_in(matches: &ArgMatches) -> Options
         moves: u32_of(matches, "moves"),
         heat: u32_of(matches, "heat"),
         hard: u32_of(matches, "hard"),
-        retries: 0,
+        retries: optional_u32_of(matches, "retries"),
     }
 }

@@ -1,16 +1,17 @@
 //! The command `solve`: its description for `clap`, its values and when they are lawful.
 ghost use Rattle.std.specs.Prelude.{◌≡◌, ◌≤◌, IfSome, IfErr, IfOk, None, Some, true, codes, map, option_map, string_bytes};
 ghost use Rattle.clap.specs.Words.{app_of, found_of, rows_of};
-ghost use Rattle.ih_words.specs.Matches.{HasNames, HasOptions, call_by};
+ghost use Rattle.ih_words.specs.Matches.{HasNames, HasOptions, IsNumberIfGiven, call_by};
 ghost use Rattle.ih_journal.specs.Settings.{IsLawful, most_entries};
 ghost use Rattle.ih_words.specs.Solve.{is_lawful_solve, lawful_solve, solve_app, solve_call, solve_in};
 
 use crate::WordsError;
-use crate::arguments::{named, numbered_option, seed_option};
-use crate::file_names::all_differ;
-use crate::matches::{matches_in, options_in, text_of};
+use crate::arguments::{named, optional_number, with_options};
+use crate::file_names::names_differ;
+use crate::matches::{matches_in, optional_text_of, optional_u32_of, options_in, text_of};
+use crate::start::{MAX_FREEZE, freezes_a_start, with_start};
 use clap::{ArgMatches, Command};
-use ih_journal::{MAX_ENTRIES, MAX_HARD, MAX_HEAT, MAX_MOVES, MAX_WORKERS, Options};
+use ih_journal::{MAX_ENTRIES, MAX_RETRIES, Options};
 use std::alloc::{AllocError, Global};
 
 /// `solve INSTANCE OUT JOURNAL` with its options.
@@ -24,27 +25,29 @@ pub struct Solve<'a> {
     pub journal: &'a str,
     /// The options of the search.
     pub options: Options,
+    /// The name of the file that the search starts from, where one is given.
+    pub start: Option<&'a str>,
+    /// The first day whose choices may change; 0 where none is given.
+    pub freeze: u32,
 }
 
-// `solve INSTANCE OUT JOURNAL` and the options of a search, each required.
+// `solve INSTANCE OUT JOURNAL` and the options of a search, of which only the last three may be left out.
 fn solve_description<'a>(alloc: Global) -> Result<Command<'a>, AllocError>
     ensures { IfOk result (λ c. app_of c ≡ solve_app) }
 {
-    Command::new(alloc, "solve")
+    let files = Command::new(alloc, "solve")
         .arg(named(alloc, "INSTANCE"))?
         .arg(named(alloc, "OUT"))?
-        .arg(named(alloc, "JOURNAL"))?
-        .arg(seed_option(alloc))?
-        .arg(numbered_option(alloc, "workers", 1, MAX_WORKERS))?
-        .arg(numbered_option(alloc, "moves", 0, MAX_MOVES))?
-        .arg(numbered_option(alloc, "heat", 0, MAX_HEAT))?
-        .arg(numbered_option(alloc, "hard", 0, MAX_HARD))
+        .arg(named(alloc, "JOURNAL"))?;
+    let search = with_options(alloc, files)?.arg(optional_number(alloc, "retries", MAX_RETRIES))?;
+    with_start(alloc, search)
 }
 
 // The values of `solve`.
 fn solve_in<'a>(matches: &ArgMatches<'a>) -> Solve<'a>
     requires names { HasNames (rows_of (found_of matches.now)) (codes "INSTANCE") (codes "OUT") (codes "JOURNAL") }
     requires options { HasOptions (rows_of (found_of matches.now)) }
+    requires freeze { IsNumberIfGiven 0 MAX_FREEZE (codes "freeze") (rows_of (found_of matches.now)) }
     ensures value { solve_call result ≡ solve_in (rows_of (found_of matches.now)) }
     ensures limits { most_entries result.options ≤ MAX_ENTRIES → IsLawful result.options }
 {
@@ -53,6 +56,8 @@ fn solve_in<'a>(matches: &ArgMatches<'a>) -> Solve<'a>
         out: text_of(matches, "OUT"),
         journal: text_of(matches, "JOURNAL"),
         options: options_in(matches),
+        start: optional_text_of(matches, "start"),
+        freeze: optional_u32_of(matches, "freeze"),
     }
 }
 
@@ -62,19 +67,19 @@ fn is_lawful_solve(solve: &Solve) -> bool
     ensures value { result ≡ is_lawful_solve (solve_call solve.now) }
     ensures lawful { result ≡ true → IsLawful solve.now.options }
 {
-    let files = [solve.instance, solve.out, solve.journal];
-    all_differ(files.as_slice()) && solve.options.lawful()
+    names_differ(solve.instance, solve.out, solve.journal, solve.start) && solve.options.lawful()
 }
 
-// The values of `solve`, where they are lawful.
+// The values of `solve`, where they are lawful and a freeze day, if one is given, comes with a start.
 fn lawful_solve<'a>(matches: &ArgMatches<'a>) -> Option<Solve<'a>>
     requires names { HasNames (rows_of (found_of matches.now)) (codes "INSTANCE") (codes "OUT") (codes "JOURNAL") }
     requires options { HasOptions (rows_of (found_of matches.now)) }
+    requires freeze { IsNumberIfGiven 0 MAX_FREEZE (codes "freeze") (rows_of (found_of matches.now)) }
     ensures value { option_map solve_call result ≡ lawful_solve (rows_of (found_of matches.now)) }
     ensures lawful { IfSome result (λ s. IsLawful s.options) }
 {
     let solve = solve_in(matches);
-    if is_lawful_solve(&solve) {
+    if freezes_a_start(matches) && is_lawful_solve(&solve) {
         Some(solve)
     } else {
         None

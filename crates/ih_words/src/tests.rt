@@ -26,21 +26,26 @@ fn solve_has_its_values(rt: HostRuntime) -> Result<(), Fail> {
             "--workers",
             "64",
             "--moves",
-            "15625",
+            "1953",
             "--heat",
             "50",
             "--hard",
             "1000000",
+            "--start",
+            "s",
+            "--freeze=56",
+            "--retries",
+            "7",
         ]
         .as_slice(),
     )?;
     let wanted = Options {
         seed: 7,
         workers: 64,
-        moves: 15625,
+        moves: 1953,
         heat: 50,
         hard: 1_000_000,
-        retries: 0,
+        retries: 7,
     };
     assert!(rt; wanted.lawful());
     let read = read_words(alloc, words.as_slice());
@@ -48,8 +53,23 @@ fn solve_has_its_values(rt: HostRuntime) -> Result<(), Fail> {
         Ok(Command::Solve(solve)) => {
             assert!(rt; solve.instance == "i" && solve.out == "o" && solve.journal == "j");
             assert!(rt; solve.options == wanted);
+            assert!(rt; solve.start == Some("s") && solve.freeze == 56);
         }
-        Err(_) => assert!(rt; false),
+        _ => assert!(rt; false),
+    }
+    Ok(())
+}
+
+#[test]
+fn check_has_its_values(rt: HostRuntime) -> Result<(), Fail> {
+    let alloc = rt.alloc();
+    let words = owned(alloc, ["check", "i", "s"].as_slice())?;
+    let read = read_words(alloc, words.as_slice());
+    match read {
+        Ok(Command::Check(check)) => {
+            assert!(rt; check.instance == "i" && check.solution == "s");
+        }
+        _ => assert!(rt; false),
     }
     Ok(())
 }
@@ -64,7 +84,7 @@ fn is_unlawful(alloc: Global, list: &[&str]) -> Result<bool, AllocError> {
 fn other_words_are_unlawful(rt: HostRuntime) -> Result<(), Fail> {
     let alloc = rt.alloc();
     assert!(rt; is_unlawful(alloc, [].as_slice())?);
-    assert!(rt; is_unlawful(alloc, ["check", "i", "s"].as_slice())?);
+    assert!(rt; is_unlawful(alloc, ["check", "i", "i"].as_slice())?);
     assert!(rt; is_unlawful(alloc, ["solve", "--help"].as_slice())?);
     assert!(rt; is_unlawful(alloc, ["solve", "i", "o", "j"].as_slice())?);
     let text = format!(in alloc; "{}", WordsError::Unlawful)?;

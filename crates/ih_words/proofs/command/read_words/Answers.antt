@@ -8,4 +8,4 @@ pub returns-in_default-as_str-clause-unlawful : goal.returns-in_default-as_str-c
 returns-in_default-as_str-clause-unlawful c = λ e. other_name _ c.as_str.result.now
     (slice_get-map string_bytes c.args.words.now 0 ∙ ap (option_map string_bytes) (sym c.first.ensures.value ∙ ap option_copied c.in-Some.is)
     ∙ ap Some (sym c.as_str.ensures.value))
-    c.in_default-as_str.not-solve
+    c.in_default-as_str.not-solve c.in_default-as_str.not-check

@@ -1,6 +1,7 @@
 use Rattle.clap.specs.Words.{app_of}
 use Rattle.ih_words.proofs.Faults.{no_fault_at, unlawful_at, simple_of}
-use Rattle.ih_words.proofs.RequiredValues.{required_number, required_text}
+use Rattle.ih_words.proofs.GivenValues.{given_number, required_number}
+use Rattle.ih_words.proofs.RequiredValues.{required_text}
 use Rattle.ih_words.proofs.matches.matches_in.Goals as goal
 
 pub returns-in_err-matches-clause-unlawful : goal.returns-in_err-matches-clause-unlawful
@@ -20,3 +21,7 @@ returns-clause-texts c = λ k rule requires. required_text c.args.description c.
 pub returns-clause-numbers : goal.returns-clause-numbers
 returns-clause-numbers c = λ k rule low high requires. required_number c.args.description c.in_ok-matches.matches c.in_ok-matches.ensures.parsed
     c.requires.independent k rule low high requires
+
+pub returns-clause-optional : goal.returns-clause-optional
+returns-clause-optional c = λ k rule low high takes. given_number c.args.description c.in_ok-matches.matches c.in_ok-matches.ensures.parsed
+    c.requires.independent k rule low high takes
