@@ -1,7 +1,10 @@
 pub mod AttemptLemmas
+pub mod Checks
+pub mod CommandEnds
+pub mod Completeness
 pub mod EntrySteps
 pub mod LegalEntries
 pub mod Rounds
-pub mod Speaking
+pub mod Saying
 pub mod Steps
 pub mod Writing

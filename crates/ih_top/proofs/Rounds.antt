@@ -15,10 +15,11 @@ use Rattle.ih_journal.proofs.Growth.{legal-none, has_made-none, has_made-own, ha
 use Rattle.ih_journal.specs.History.{after_entries}
 use Rattle.ih_journal.specs.Best.{best_with}
 use Rattle.ih_journal.proofs.BestLemmas.{best-start}
+use Rattle.ih_journal.proofs.Freezing.{agree-none}
 use Rattle.ih_tables.specs.Bills.{feasible, cost}
 use Rattle.ih_plan.specs.BillOf.{bill_of}
-use Rattle.ih_top.specs.declared.search.Standing.{Standing}
-use Rattle.ih_top.specs.Searching.{HasGrown, AreAt, IsGiven, IsStanding}
+use Rattle.ih_top.specs.declared.search.Progress.{Progress}
+use Rattle.ih_top.specs.Searching.{HasGrown, AreAt, IsGiven, IsProgress}
 
 -- an opened stream has drawn nothing
 pub stream-start : (seed w : ℕ) → stream_at seed w 0 ≡ stream_state seed w
@@ -106,14 +107,15 @@ streams-more seed ss w len before v h = elim (cases_eq v w) [
 ]
 
 -- nothing was tried yet
-pub opened : (b : Base) (s : Standing) → IsGiven b → s.entries.items ≡ [] → s.plan ≡ b.start → s.moved ≡ b.start → s.bill ≡ bill_of b.instance b.start
-    → s.best ≡ best_with None 0 (feasible s.bill) (cost b.instance.weights s.bill) → IsStanding b s
+pub opened : (b : Base) (s : Progress) → IsGiven b → s.entries.items ≡ [] → s.plan ≡ b.start → s.moved ≡ b.start → s.bill ≡ bill_of b.instance b.start
+    → s.best ≡ best_with None 0 (feasible s.bill) (cost b.instance.weights s.bill) → IsProgress b s
 unfolding after_entries
 opened b s given none plan room bill best = record {
   legal = rw none (legal-none b);
   plan = rw none plan;
   fits = rw plan given.start;
-  room = rw room given.start;
+  scratch = rw room given.start;
   bill = rw plan bill;
   best = rw (none, best) (best-start b (feasible s.bill) (cost b.instance.weights s.bill) (ap feasible (sym bill)) (ap (cost b.instance.weights) (sym bill)));
+  agrees = rw none (agree-none b);
 }

@@ -1,100 +1,140 @@
 -- What the two writes of a search leave.
-use Rattle.std.proofs.Common.{◌≡◌, ℕ, refl, sym, ap, ◌∙◌, subst, arith, inr, List, length, Option, Some, None}
-use Rattle.std.specs.Prelude.{◌≢◌, IfSome}
+use Rattle.std.proofs.Common.{◌≡◌, ℕ, sym, ap, ◌∙◌, subst, arith, inr, List, length, Option, Some, None}
+use Rattle.std.specs.Prelude.{◌≢◌}
 use Rattle.std.proofs.lemmas.List.{take_all}
-use Rattle.ih_tables.specs.declared.drafts.Draft.{Draft}
-use Rattle.ih_shelf.specs.declared.outside.WriteError.{WriteError}
-use Rattle.ih_shelf.specs.declared.outside.WriteError.TheVariants.{Fault, OutOfMemory as NoMemory}
 use Rattle.ih_shelf.specs.Outside.{Names, Told, PartOr, IsWritten, MayBeWritten}
+use Rattle.ih_journal.specs.Base.{Base}
 use Rattle.ih_journal.specs.Best.{HasNone}
+use Rattle.ih_journal.specs.Texts.{journal}
 use Rattle.ih_words.specs.Solve.{SolveCall}
-use Rattle.ih_top.specs.declared.answer.Answer.{Answer}
 use Rattle.ih_top.specs.declared.output.Output.{Output}
 use Rattle.ih_top.specs.declared.output.BestOutput.{BestOutput}
-use Rattle.ih_top.specs.declared.status.Status.{Status}
-use Rattle.ih_top.specs.declared.status.Status.TheVariants.{Done, NoneFound, WriteFault}
-use Rattle.ih_top.specs.declared.status.Role.TheVariants.{Journal, Out}
-use Rattle.ih_top.specs.Texts.{none_found_text, unwritten_text}
-use Rattle.ih_top.specs.Ends.{Reaches, HasInstance, IsSearch, HasBegun, HasJournal, HasFound}
-use Rattle.ih_top.specs.Answers.{IsSaid, IsUnwritten}
-use Rattle.ih_top.specs.Outputs.{AnswersWhereTold, IsOutput, IsBestOutput, HasBestOutput, solve_base}
-use Rattle.ih_top.proofs.Speaking.{answer-ends, ends-somewhere}
+use Rattle.ih_top.specs.Outputs.{IsOutput, IsBestOutput, HasBestOutput}
+use Rattle.ih_top.specs.Solving.{HasBase, IsSearch, BeginsJournal, WritesJournal, BeginsSolution, WritesBoth, HasBegun, HasFoundNone, HasFound, IsDone, solution_at}
 
--- a write that failed, or at which memory ran out
-failed-ends : (s : SolveCall) (old new : Names) (status : Status) (text : List ℕ) (error : WriteError) (a : Answer)
-    → Reaches s old new (λ t. t ≡ text) status → IsUnwritten status text error a → Reaches s old new (λ t. t ≡ a.text.items) a.status
-failed-ends s old new status text Fault a ends unwritten = answer-ends s old new status text a ends unwritten
-failed-ends s old new status text NoMemory a ends memory =
-    subst (Reaches s old new (λ t. t ≡ a.text.items)) (sym memory) (ends-somewhere s old new (λ t. t ≡ text) status ends)
+-- ---- what is told of two states
 
-module _ (s : SolveCall) (I : Draft) (o : Output) (differ : s.out ≢ s.journal) (output : IsOutput (solve_base I s.options) o) where
-  searched : (old : Names) → HasInstance old s I → IsSearch old s (solve_base I s.options) output.history
-  searched old instance = record { base = record { instance = instance; start = refl; options = refl; freeze = refl }; full = output.full }
+pub told-weaker : {X : Type 0} (P Q : X → X → Type 0) (old new : Option X) → ((x y : X) → P x y → Q x y) → Told P old new → Told Q old new
+told-weaker P Q None new f h = tt
+told-weaker P Q (Some x) None f h = h
+told-weaker P Q (Some x) (Some y) f h = f x y h
 
-  whole-part : (text : List ℕ) (old new : Option (List ℕ)) → new ≡ Some text → PartOr text old new
-  whole-part text old new h = inr (length text, h ∙ ap (λ t. Some t) (sym (take_all (length text) text (omega arith))))
+pub told-then : {X : Type 0} (P Q R : X → X → Type 0) (old mid new : Option X) → ((x y z : X) → P x y → Q y z → R x z)
+    → Told P old mid → Told Q mid new → Told R old new
+told-then P Q R None mid new f h k = tt
+told-then P Q R (Some x) None new f h k = absurd h
+told-then P Q R (Some x) (Some y) None f h k = k
+told-then P Q R (Some x) (Some y) (Some z) f h k = f x y z h k
 
-  begun : (old new : Names) → HasInstance old s I → MayBeWritten s.journal o.journal.items old new → HasBegun s old new (solve_base I s.options) output.history
-  begun old new instance written = record {
-    search = searched old instance;
-    journal = subst (λ text. PartOr text (old s.journal) (new s.journal)) output.journal written.part;
-    out = written.others s.out differ;
-    others = λ n apart away. written.others n away;
+-- ---- weaker ends
+
+pub whole-text : (text : List ℕ) (old new : Option (List ℕ)) → new ≡ Some text → PartOr text old new
+whole-text text old new h = inr (length text, h ∙ ap (λ t. Some t) (sym (take_all (length text) text (omega arith))))
+
+pub done-found : (s : SolveCall) (old new : Option Names) (text : List ℕ) → IsDone s old new text → HasFound s old new
+done-found s old new text done = record {
+  base = done.base;
+  history = done.history;
+  place = done.place;
+  search = done.search;
+  best = done.best;
+  written = told-weaker (WritesBoth s (journal done.base.options done.history) (solution_at done.base done.history done.place))
+      (BeginsSolution s (journal done.base.options done.history) (solution_at done.base done.history done.place)) old new
+      (λ x y w. record { journal = w.journal; out = whole-text (solution_at done.base done.history done.place) (x s.out) (y s.out) w.out; others = w.others }) done.written;
+}
+
+pub none-begun : (s : SolveCall) (old new : Option Names) → HasFoundNone s old new → HasBegun s old new
+none-begun s old new found = record {
+  base = found.base;
+  history = found.history;
+  search = found.search;
+  written = told-weaker (WritesJournal s (journal found.base.options found.history)) (BeginsJournal s (journal found.base.options found.history)) old new
+      (λ x y w. record { journal = whole-text (journal found.base.options found.history) (x s.journal) (y s.journal) w.journal; out = w.out; others = w.others }) found.written;
+}
+
+-- ---- the writes of a search
+
+module _ (s : SolveCall) (b : Base) (o : Output) (differ : s.out ≢ s.journal) (output : IsOutput b o) where
+  abbrev text : List ℕ
+  text = journal b.options output.history
+
+  begins : (x y : Names) → MayBeWritten s.journal o.journal.items x y → BeginsJournal s text x y
+  begins x y w = record {
+    journal = subst (λ t. PartOr t (x s.journal) (y s.journal)) output.journal w.part;
+    out = w.others s.out differ;
+    others = λ n apart away. w.others n away;
   }
 
-  whole-journal : (old new : Names) → HasInstance old s I → IsWritten s.journal o.journal.items old new → HasJournal s old new (solve_base I s.options) output.history
-  whole-journal old new instance written = record {
-    search = searched old instance;
-    journal = written.whole ∙ ap (λ t. Some t) output.journal;
-    out = written.others s.out differ;
-    others = λ n apart away. written.others n away;
+  writes : (x y : Names) → IsWritten s.journal o.journal.items x y → WritesJournal s text x y
+  writes x y w = record {
+    journal = w.whole ∙ ap (λ t. Some t) output.journal;
+    out = w.others s.out differ;
+    others = λ n apart away. w.others n away;
   }
 
-  found : (old mid new : Names) (best : BestOutput) (is : IsBestOutput (solve_base I s.options) output.history best) → HasInstance old s I
-      → IsWritten s.journal o.journal.items old mid → MayBeWritten s.out best.solution.items mid new → HasFound s old new (solve_base I s.options) output.history is.place
-  found old mid new best is instance first second = record {
-    search = searched old instance;
-    best = is.best;
-    journal = second.others s.journal (λ e. differ (sym e)) ∙ first.whole ∙ ap (λ t. Some t) output.journal;
-    out = subst (λ text. PartOr text (old s.out) (new s.out)) is.solution (subst (λ held. PartOr best.solution.items held (new s.out)) (first.others s.out differ) second.part);
-    others = λ n apart away. second.others n apart ∙ first.others n away;
-  }
+  module _ (best : BestOutput) (is : IsBestOutput b output.history best) where
+    begins-out : (x y z : Names) → IsWritten s.journal o.journal.items x y → MayBeWritten s.out best.solution.items y z
+        → BeginsSolution s text (solution_at b output.history is.place) x z
+    begins-out x y z first second = record {
+      journal = second.others s.journal (λ e. differ (sym e)) ∙ first.whole ∙ ap (λ t. Some t) output.journal;
+      out = subst (λ t. PartOr t (x s.out) (z s.out)) is.solution (subst (λ held. PartOr best.solution.items held (z s.out)) (first.others s.out differ) second.part);
+      others = λ n apart away. second.others n apart ∙ first.others n away;
+    }
 
-  pub journal-failed : (old new : Option Names) (error : WriteError) (a : Answer) → IfSome old (λ files. HasInstance files s I)
-      → Told (MayBeWritten s.journal o.journal.items) old new → IsUnwritten (WriteFault (Some Journal)) (unwritten_text s.journal) error a → AnswersWhereTold s old new a
-  journal-failed None new error a instance written unwritten = tt
-  journal-failed (Some old) None error a instance written unwritten = written
-  journal-failed (Some old) (Some new) error a instance written unwritten =
-      failed-ends s old new (WriteFault (Some Journal)) (unwritten_text s.journal) error a (solve_base I s.options, output.history, begun old new instance written, refl) unwritten
+    writes-out : (x y z : Names) → IsWritten s.journal o.journal.items x y → IsWritten s.out best.solution.items y z
+        → WritesBoth s text (solution_at b output.history is.place) x z
+    writes-out x y z first second = record {
+      journal = second.others s.journal (λ e. differ (sym e)) ∙ first.whole ∙ ap (λ t. Some t) output.journal;
+      out = second.whole ∙ ap (λ t. Some t) is.solution;
+      others = λ n apart away. second.others n apart ∙ first.others n away;
+    }
 
-  pub none-said : (old new : Option Names) (a : Answer) → o.best ≡ None → IfSome old (λ files. HasInstance files s I)
-      → Told (IsWritten s.journal o.journal.items) old new → IsSaid NoneFound none_found_text a → AnswersWhereTold s old new a
-  none-said None new a none instance written said = tt
-  none-said (Some old) None a none instance written said = written
-  none-said (Some old) (Some new) a none instance written said =
-      let no-best : HasNone (solve_base I s.options) output.history = subst (HasBestOutput (solve_base I s.options) output.history) none output.best in
-      answer-ends s old new NoneFound none_found_text a (solve_base I s.options, output.history, whole-journal old new instance written, no-best, refl) said
+  module _ (old : Option Names) (base : HasBase old s b) where
+    searched : IsSearch old s b output.history
+    searched = record { base = base; full = output.full; agrees = output.agrees }
 
-  module _ (best : BestOutput) (some : o.best ≡ Some best) where
-    is : IsBestOutput (solve_base I s.options) output.history best
-    is = subst (HasBestOutput (solve_base I s.options) output.history) some output.best
+    pub journal-begun : (new : Option Names) → Told (MayBeWritten s.journal o.journal.items) old new → HasBegun s old new
+    journal-begun new written = record {
+      base = b;
+      history = output.history;
+      search = searched;
+      written = told-weaker (MayBeWritten s.journal o.journal.items) (BeginsJournal s text) old new begins written;
+    }
 
-    pub out-failed : (old mid new : Option Names) (error : WriteError) (a : Answer) → IfSome old (λ files. HasInstance files s I)
-        → Told (IsWritten s.journal o.journal.items) old mid → Told (MayBeWritten s.out best.solution.items) mid new
-        → IsUnwritten (WriteFault (Some Out)) (unwritten_text s.out) error a → AnswersWhereTold s old new a
-    out-failed None mid new error a instance first second unwritten = tt
-    out-failed (Some old) None new error a instance first second unwritten = absurd first
-    out-failed (Some old) (Some mid) None error a instance first second unwritten = second
-    out-failed (Some old) (Some mid) (Some new) error a instance first second unwritten =
-        failed-ends s old new (WriteFault (Some Out)) (unwritten_text s.out) error a
-        (solve_base I s.options, output.history, is.place, found old mid new best is instance first second, refl) unwritten
+    pub found-none : (new : Option Names) → o.best ≡ None → Told (IsWritten s.journal o.journal.items) old new → HasFoundNone s old new
+    found-none new none written = record {
+      base = b;
+      history = output.history;
+      search = searched;
+      none = let no-best : HasNone b output.history = subst (HasBestOutput b output.history) none output.best in no-best;
+      written = told-weaker (IsWritten s.journal o.journal.items) (WritesJournal s text) old new writes written;
+    }
 
-    pub done-said : (old mid new : Option Names) → IfSome old (λ files. HasInstance files s I)
-        → Told (IsWritten s.journal o.journal.items) old mid → Told (IsWritten s.out best.solution.items) mid new
-        → AnswersWhereTold s old new (record { status = Done; text = best.text })
-    done-said None mid new instance first second = tt
-    done-said (Some old) None new instance first second = absurd first
-    done-said (Some old) (Some mid) None instance first second = second
-    done-said (Some old) (Some mid) (Some new) instance first second =
-        let part : MayBeWritten s.out best.solution.items mid new = record { part = whole-part best.solution.items (mid s.out) (new s.out) second.whole; others = second.others } in
-        (solve_base I s.options, output.history, is.place, found old mid new best is instance first part, second.whole ∙ ap (λ t. Some t) is.solution, sym is.text)
+    module _ (best : BestOutput) (some : o.best ≡ Some best) where
+      is : IsBestOutput b output.history best
+      is = subst (HasBestOutput b output.history) some output.best
+
+      pub out-begun : (mid new : Option Names) → Told (IsWritten s.journal o.journal.items) old mid
+          → Told (MayBeWritten s.out best.solution.items) mid new → HasFound s old new
+      out-begun mid new first second = record {
+        base = b;
+        history = output.history;
+        place = is.place;
+        search = searched;
+        best = is.best;
+        written = told-then (IsWritten s.journal o.journal.items) (MayBeWritten s.out best.solution.items)
+            (BeginsSolution s text (solution_at b output.history is.place)) old mid new (begins-out best is) first second;
+      }
+
+      pub all-done : (mid new : Option Names) → Told (IsWritten s.journal o.journal.items) old mid
+          → Told (IsWritten s.out best.solution.items) mid new → IsDone s old new best.text.items
+      all-done mid new first second = record {
+        base = b;
+        history = output.history;
+        place = is.place;
+        search = searched;
+        best = is.best;
+        written = told-then (IsWritten s.journal o.journal.items) (IsWritten s.out best.solution.items)
+            (WritesBoth s text (solution_at b output.history is.place)) old mid new (writes-out best is) first second;
+        said = is.text;
+      }

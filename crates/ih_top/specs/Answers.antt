@@ -1,16 +1,30 @@
--- How an answer's text is put out, and what the status then is.
-use Rattle.std.specs.Prelude.{◌≡◌, ◌≢◌, ℕ, ◌⊎◌, List, None}
+-- A command's answer, and what its status becomes as its text is put out.
+use Rattle.std.specs.Prelude.{◌≡◌, ◌≢◌, ℕ, ◌⊎◌, Bool, true, false, List, Some, None, Result, Ok, Err}
 use Rattle.ih_shelf.specs.Outside.{Rose}
 use Rattle.ih_shelf.specs.declared.outside.WriteError.{WriteError}
 use Rattle.ih_shelf.specs.declared.outside.WriteError.TheVariants.{Fault, OutOfMemory as NoMemory}
+use Rattle.ih_shelf.specs.declared.outside.ReadError.{ReadError}
+use Rattle.ih_shelf.specs.declared.outside.ReadError.TheVariants.{Fault as Unreadable, TooLong as Long, OutOfMemory as NoRoom}
 use Rattle.ih_top.specs.declared.answer.Answer.{Answer}
 use Rattle.ih_top.specs.declared.status.Status.{Status}
-use Rattle.ih_top.specs.declared.status.Status.TheVariants.{Done, WriteFault, OutOfMemory}
+use Rattle.ih_top.specs.declared.status.Status.TheVariants.{Done, ReadFault, WriteFault, OutOfMemory, Infeasible, TooLong}
+use Rattle.ih_top.specs.declared.status.Role.{Role}
+use Rattle.ih_top.specs.Texts.{memory_text, unread_text, too_long_text}
 
 -- a status whose text couldn't be put out
 abbrev pub unsaid : Status → Status
 unsaid Done = WriteFault None
+unsaid Infeasible = WriteFault None
 unsaid status = status
+
+-- the status of a check whose report is made
+abbrev pub checked_status : Bool → Status
+checked_status true = Done
+checked_status false = Infeasible
+
+-- The answer has a status and a text of which this holds; where memory ran out, the text is the one that says so.
+abbrev pub Answers : (Status → List ℕ → Type 0) → Answer → Type 0
+Answers ends a = ((a.status ≡ OutOfMemory) × ends OutOfMemory memory_text) ⊎ ends a.status a.text.items
 
 -- The sink gained the text, whole or as far as its fault let it, or a part where memory ran out.
 abbrev pub IsConcluded : Status → Type 0 → Type 0 → Type 0 → Status → Type 0
@@ -22,11 +36,29 @@ IsConcluded status gained part memory result =
 abbrev pub HasPutCause : Status → ℕ → ℕ → Status → Type 0
 HasPutCause status before now result = (result ≡ status) ⊎ (result ≡ OutOfMemory) ⊎ ((result ≡ unsaid status) × Rose before now)
 
+-- a fault of a file is answered only where its count rose; the text isn't put out yet
+abbrev pub HasFileCause : ℕ → ℕ → ℕ → ℕ → Status → Type 0
+HasFileCause reads reads' writes writes' (ReadFault role) = Rose reads reads'
+HasFileCause reads reads' writes writes' (WriteFault (Some role)) = Rose writes writes'
+HasFileCause reads reads' writes writes' (WriteFault None) = ⊥
+HasFileCause reads reads' writes writes' status = Unit {0}
+
 -- the answer has this status and this text, or memory ran out
 abbrev pub IsSaid : Status → List ℕ → Answer → Type 0
 IsSaid status text a = (a.status ≡ OutOfMemory) ⊎ ((a.status ≡ status) × (a.text.items ≡ text))
+
+-- the same of a text that was to be made
+abbrev pub IsSaidOf : {S E : Type 0} → (S → List ℕ) → Status → Result S E → Answer → Type 0
+IsSaidOf view status (Ok text) a = (a.status ≡ status) × (a.text.items ≡ view text)
+IsSaidOf view status (Err e) a = a.status ≡ OutOfMemory
 
 -- the same of a write that failed
 abbrev pub IsUnwritten : Status → List ℕ → WriteError → Answer → Type 0
 IsUnwritten status text Fault a = IsSaid status text a
 IsUnwritten status text NoMemory a = a.status ≡ OutOfMemory
+
+-- a file that couldn't be read
+abbrev pub IsUnreadFile : Role → List ℕ → ReadError → Answer → Type 0
+IsUnreadFile role name Unreadable a = IsSaid (ReadFault role) (unread_text name) a
+IsUnreadFile role name Long a = IsSaid (TooLong role) (too_long_text name) a
+IsUnreadFile role name NoRoom a = a.status ≡ OutOfMemory

@@ -1,6 +1,9 @@
 pub mod Answers
+pub mod Checking
 pub mod Codes
 pub mod Ends
+pub mod Inputs
 pub mod Outputs
 pub mod Searching
+pub mod Solving
 pub mod Texts

@@ -12,13 +12,13 @@ use Rattle.ih_journal.specs.Base.{Base}
 use Rattle.ih_journal.specs.declared.entries.Verdict.{Verdict}
 use Rattle.ih_journal.specs.declared.entries.Verdict.TheVariants.{Accepted, Declined, Frozen}
 use Rattle.ih_journal.specs.Settings.{IsLawful, theta}
-use Rattle.ih_journal.specs.Frozen.{is_frozen_write}
+use Rattle.ih_journal.specs.Frozen.{AgreesBefore, is_frozen_write}
 use Rattle.ih_journal.specs.Attempts.{HasMade, is_stale}
-use Rattle.ih_journal.specs.History.{plan_after, is_accepted}
+use Rattle.ih_journal.specs.History.{plan_after, plan_at, is_accepted}
 use Rattle.ih_journal.specs.Legal.{AreLegal}
 use Rattle.ih_journal.specs.Best.{BestIs, best_with}
 use Rattle.ih_top.specs.declared.search.Given.{Given}
-use Rattle.ih_top.specs.declared.search.Standing.{Standing}
+use Rattle.ih_top.specs.declared.search.Progress.{Progress}
 
 abbrev pub base_of : Given → Base
 base_of g = record { instance = g.inst.now.draft; start = g.start.now; options = g.options; freeze = g.freeze }
@@ -35,13 +35,14 @@ judged b ws number price =
     else Accepted
 
 -- what follows from the entries is kept beside them
-pub record IsStanding (b : Base) (s : Standing) : Type 0 where
+pub record IsProgress (b : Base) (s : Progress) : Type 0 where
   pub legal : AreLegal b s.entries.items
   pub plan : s.plan ≡ plan_after b s.entries.items
   pub fits : IsPlanOf b.instance s.plan
-  pub room : IsPlanOf b.instance s.moved
+  pub scratch : IsPlanOf b.instance s.moved
   pub bill : s.bill ≡ bill_of b.instance s.plan
   pub best : BestIs b s.entries.items s.best
+  pub agrees : (k : ℕ) → AgreesBefore b (plan_at b s.entries.items k)
 
 -- one entry of a worker's move was added
 pub record HasGrown (old new : List Entry) (worker number : ℕ) : Type 0 where
@@ -59,13 +60,13 @@ pub record AreAt (b : Base) (H : List Entry) (streams : List (List ℕ)) (v i : 
   pub waiting : (w : ℕ) → v ≤ w → w < b.options.workers → slice_get streams w ≡ Some (stream_at b.options.seed w i)
 
 -- the move under trial made, where it is accepted
-abbrev pub settled : Standing → Bool → Bill → Standing
-settled s accepted bill = record s { plan = if accepted then s.moved else s.plan; bill = if accepted then bill else s.bill }
+abbrev pub applied : Progress → Bool → Bill → Progress
+applied s accepted bill = record s { plan = if accepted then s.moved else s.plan; bill = if accepted then bill else s.bill }
 
 -- The entry was added, its move made where it is accepted, and the timetable noted that is then there.
-pub record IsTaken (b : Base) (old new : Standing) (e : Entry) (after : Bill) : Type 0 where
+pub record IsTaken (b : Base) (old new : Progress) (e : Entry) (after : Bill) : Type 0 where
   pub entries : new.entries.items ≡ old.entries.items ++ e ∷ []
   pub plan : new.plan ≡ (if is_accepted e.verdict then old.moved else old.plan)
-  pub room : new.moved ≡ old.moved
+  pub scratch : new.moved ≡ old.moved
   pub bill : new.bill ≡ (if is_accepted e.verdict then after else old.bill)
   pub best : new.best ≡ best_with old.best (length old.entries.items + 1) (feasible new.bill) (cost b.instance.weights new.bill)

@@ -30,8 +30,12 @@ abbrev pub too_long_text : List ℕ → List ℕ
 too_long_text name = codes "too long: " ++ (name ++ codes "\n")
 
 -- an instance's fault, and its place
-abbrev pub refused_text : Refusal → List ℕ
-refused_text r = codes "instance refused: " ++ (refusal_text r ++ codes "\n")
+abbrev pub instance_refused_text : Refusal → List ℕ
+instance_refused_text r = codes "instance refused: " ++ (refusal_text r ++ codes "\n")
+
+-- a solution's fault, and its place
+abbrev pub solution_refused_text : Refusal → List ℕ
+solution_refused_text r = codes "solution refused: " ++ (refusal_text r ++ codes "\n")
 
 -- the place of the best among so many entries
 abbrev pub best_line : ℕ → ℕ → List ℕ

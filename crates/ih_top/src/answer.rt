@@ -15,12 +15,12 @@ pub struct Answer {
     pub text: Vec<u8>,
 }
 
-// The status of an answer whose text couldn't be put out: where all else was done, this is the fault.
+// The status of an answer whose text couldn't be put out: where the text was all that was left to do, this is the fault.
 fn unsaid(status: Status) -> Status
     ensures { result ≡ unsaid status }
 {
     match status {
-        Status::Done => Status::WriteFault(None),
+        Status::Done | Status::Infeasible => Status::WriteFault(None),
         status => status,
     }
 }

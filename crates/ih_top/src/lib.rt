@@ -2,8 +2,13 @@
 #![tactic(auto)]
 
 mod answer;
+mod checking;
+mod commands;
+#[cfg(test)]
+mod examples;
 mod files;
 mod history;
+mod inputs;
 mod output;
 mod running;
 mod search;
@@ -12,6 +17,8 @@ mod status;
 #[cfg(test)]
 mod tests;
 mod texts;
+#[cfg(test)]
+mod trials;
 
 pub use files::MAX_FILE;
 pub use running::run;

@@ -1,31 +1,20 @@
 //! The one call that does all that the program does.
 
-ghost use Rattle.std.specs.Prelude.{◌≡◌, map, string_bytes};
-ghost use Rattle.ih_journal.specs.Settings.{IsLawful};
-ghost use Rattle.ih_words.specs.Solve.{solve_call};
-ghost use Rattle.ih_words.specs.Words.{HasLawfulOptions, call_of, command_call, solve};
-ghost use Rattle.ih_top.specs.Ends.{Gained, GainedPart, HasCause, IsComplete, LeavesWhereTold, Speaks};
+ghost use Rattle.std.specs.Prelude.{map, string_bytes};
+ghost use Rattle.ih_words.specs.Words.{call_of};
+ghost use Rattle.ih_top.specs.Ends.{Gained, GainedPart, HasCause, IsComplete, Leaves};
 ghost use Rattle.ih_shelf.specs.Outside.{Rose};
 
-use crate::answer::{Answer, conclude, conclude_memory};
-use crate::solving::solve;
+use crate::answer::{conclude, conclude_memory};
+use crate::commands::perform;
 use crate::status::Status;
 use crate::texts::usage;
 use ih_shelf::{Gate, Shelf, Sink};
-use ih_words::{Command, Solve, WordsError, read_words};
+use ih_words::{WordsError, read_words};
 use std::alloc::Global;
 use std::rt::Files;
 use std::sync::Wait;
 use std::thread::Threads;
-
-// The values of the only command that there is.
-fn solve_of<'a>(command: Command<'a>) -> Solve<'a>
-    ensures call { command_call command.entry ≡ solve (solve_call result) }
-    ensures lawful { HasLawfulOptions command.entry → IsLawful result.options }
-{
-    let Command::Solve(call) = command;
-    call
-}
 
 /// Does all that the program does, by the words after its name.
 ///
@@ -39,13 +28,9 @@ pub fn run<R: Files + Print + Threads + Wait + Sync, S: Shelf, O: Sink, G: Gate>
     out: &mut O,
     _gate: &G,
 ) -> Status
-    // What the files then hold, and the text that was put out, by the call that the words name and the status.
-    ensures leaves { LeavesWhereTold (call_of (map string_bytes words.now)) (S.names shelf.old) (S.names shelf.new)
-        (Gained result (O.text out.old) (O.text out.new) (O.faults out.old) (O.faults out.new))
-        (GainedPart (O.text out.old) (O.text out.new)) result }
-
-    // What was put out, also where the shelf doesn't tell what it holds.
-    ensures speaks { Speaks (call_of (map string_bytes words.now))
+    // What the files then hold, and the text that was put out, by the call that the words name and the status. Where the shelf or
+    // the sink doesn't tell what it holds, nothing is claimed of that.
+    ensures leaves { Leaves (call_of (map string_bytes words.now)) (S.names shelf.old) (S.names shelf.new)
         (Gained result (O.text out.old) (O.text out.new) (O.faults out.old) (O.faults out.new))
         (GainedPart (O.text out.old) (O.text out.new)) result }
 
@@ -53,7 +38,8 @@ pub fn run<R: Files + Print + Threads + Wait + Sync, S: Shelf, O: Sink, G: Gate>
     ensures cause { HasCause (S.read_faults shelf.old) (S.read_faults shelf.new) (S.write_faults shelf.old)
         (S.write_faults shelf.new) (O.faults out.old) (O.faults out.new) result }
 
-    // Where the words are lawful, the instance is accepted and no count rose, a search ends with its best, or with none.
+    // Where the words are lawful, the files are accepted and no count rose, a search ends with its best or with none, and a check
+    // with its report, or memory runs out.
     ensures complete { IsComplete (call_of (map string_bytes words.now)) (S.names shelf.old)
         (Rose (S.read_faults shelf.old) (S.read_faults shelf.new))
         (Rose (S.write_faults shelf.old) (S.write_faults shelf.new))
@@ -61,8 +47,7 @@ pub fn run<R: Files + Print + Threads + Wait + Sync, S: Shelf, O: Sink, G: Gate>
 {
     match read_words(alloc, words) {
         Ok(command) => {
-            let call = solve_of(command);
-            let answer = solve(rt, alloc, &call, shelf);
+            let answer = perform(rt, alloc, &command, shelf);
             conclude(rt, out, &answer)
         }
         Err(WordsError::Unlawful) => conclude(rt, out, &usage(alloc)),

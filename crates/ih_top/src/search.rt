@@ -8,12 +8,12 @@ ghost use Rattle.ih_plan.specs.Writes.{put_all, AreWritesOf};
 ghost use Rattle.ih_plan.specs.BillOf.{bill_of, change_of_bill};
 ghost use Rattle.ih_plan.specs.Expand.{after, expand, IsMoveOf};
 ghost use Rattle.ih_plan.specs.Draws.{stream_at, move_of};
-ghost use Rattle.ih_journal.specs.Frozen.{is_frozen, is_frozen_write};
+ghost use Rattle.ih_journal.specs.Frozen.{AgreesBefore, is_frozen, is_frozen_write};
 ghost use Rattle.ih_journal.specs.Attempts.{HasMade};
-ghost use Rattle.ih_journal.specs.History.{is_accepted};
+ghost use Rattle.ih_journal.specs.History.{is_accepted, plan_at};
 ghost use Rattle.ih_journal.specs.Legal.{IsFull};
 ghost use Rattle.ih_journal.specs.Best.{BestIs, best_with};
-ghost use Rattle.ih_top.specs.Searching.{base_of, IsGiven, IsStanding, HasGrown, AreAt, judged, settled, IsTaken};
+ghost use Rattle.ih_top.specs.Searching.{base_of, IsGiven, IsProgress, HasGrown, AreAt, judged, applied, IsTaken};
 
 use ih_journal::{Entry, Options, Verdict, frozen};
 use ih_moves::{Stream, Writes, expand};
@@ -33,7 +33,7 @@ pub struct Given<'a> {
 
 /// A history, with what follows from it.
 #[derive(Drop)]
-pub struct Standing {
+pub struct Progress {
     /// The timetable after the entries.
     pub plan: Plan,
     /// Room for the timetable after the move under trial.
@@ -109,136 +109,136 @@ fn with_place(
 }
 
 // The bill after the move, of which `moved` then is the timetable.
-fn try_writes(given: &Given<'_>, standing: &mut Standing, writes: &[Write]) -> Bill
+fn try_writes(given: &Given<'_>, progress: &mut Progress, writes: &[Write]) -> Bill
     requires given { IsGiven (base_of given.now) }
-    requires plan { IsPlanOf given.now.inst.now.draft standing.old.plan }
-    requires room { IsPlanOf given.now.inst.now.draft standing.old.moved }
+    requires plan { IsPlanOf given.now.inst.now.draft progress.old.plan }
+    requires scratch { IsPlanOf given.now.inst.now.draft progress.old.moved }
     requires writes { AreWritesOf given.now.inst.now.draft writes.now }
-    ensures moved { standing.new ≡ record standing.old { moved = put_all writes.now standing.old.plan } }
-    ensures bill { result ≡ bill_of given.now.inst.now.draft (put_all writes.now standing.old.plan) }
+    ensures moved { progress.new ≡ record progress.old { moved = put_all writes.now progress.old.plan } }
+    ensures bill { result ≡ bill_of given.now.inst.now.draft (put_all writes.now progress.old.plan) }
 {
-    standing.moved.copy_from(&standing.plan);
-    put_all(given.inst, &mut standing.moved, writes);
-    bill(given.inst, &standing.moved)
+    progress.moved.copy_from(&progress.plan);
+    put_all(given.inst, &mut progress.moved, writes);
+    bill(given.inst, &progress.moved)
 }
 
 // Makes the move under trial, where it is accepted.
-fn settle(standing: &mut Standing, verdict: &Verdict, after: &Bill)
-    requires stays { length standing.old.plan.stays ≡ length standing.old.moved.stays }
-    requires cares { length standing.old.plan.cares ≡ length standing.old.moved.cares }
-    requires shifts { standing.old.plan.shifts ≡ standing.old.moved.shifts }
-    ensures { standing.new ≡ settled standing.old (is_accepted verdict.now) after.now }
+fn apply(progress: &mut Progress, verdict: &Verdict, after: &Bill)
+    requires stays { length progress.old.plan.stays ≡ length progress.old.moved.stays }
+    requires cares { length progress.old.plan.cares ≡ length progress.old.moved.cares }
+    requires shifts { progress.old.plan.shifts ≡ progress.old.moved.shifts }
+    ensures { progress.new ≡ applied progress.old (is_accepted verdict.now) after.now }
 {
     if let Verdict::Accepted = *verdict {
-        standing.plan.copy_from(&standing.moved);
-        standing.bill = *after;
+        progress.plan.copy_from(&progress.moved);
+        progress.bill = *after;
     }
 }
 
 // Adds the entry, makes its move where it is accepted, and notes the timetable that is then there.
 fn take_in(
     given: &Given<'_>,
-    standing: &mut Standing,
+    progress: &mut Progress,
     entry: Entry,
     after: &Bill,
 ) -> Result<(), AllocError>
-    requires plan { IsPlanOf given.now.inst.now.draft standing.old.plan }
-    requires room { IsPlanOf given.now.inst.now.draft standing.old.moved }
-    requires bill { IsWithin (10 ^ 11) standing.old.bill }
+    requires plan { IsPlanOf given.now.inst.now.draft progress.old.plan }
+    requires scratch { IsPlanOf given.now.inst.now.draft progress.old.moved }
+    requires bill { IsWithin (10 ^ 11) progress.old.bill }
     requires after { IsWithin (10 ^ 11) after.now }
-    requires few { length standing.old.entries.items < 2 ^ 31 }
-    ensures { OnOk result (IsTaken (base_of given.now) standing.old standing.new entry after.now) }
+    requires few { length progress.old.entries.items < 2 ^ 31 }
+    ensures { OnOk result (IsTaken (base_of given.now) progress.old progress.new entry after.now) }
 {
-    standing.entries.push(entry)?;
-    settle(standing, &entry.verdict, after);
-    let place = standing.entries.len() as u32;
-    standing.best = with_place(standing.best, place, &standing.bill, given.inst);
+    progress.entries.push(entry)?;
+    apply(progress, &entry.verdict, after);
+    let place = progress.entries.len() as u32;
+    progress.best = with_place(progress.best, place, &progress.bill, given.inst);
     Ok(())
 }
 
 // One worker's next move: priced and judged at the timetable that is there.
 fn attempt(
     given: &Given<'_>,
-    standing: &mut Standing,
+    progress: &mut Progress,
     writes: &mut Writes,
     worker: u32,
     number: u32,
     mv: Move,
 ) -> Result<(), AllocError>
     requires given { IsGiven (base_of given.now) }
-    requires standing { IsStanding (base_of given.now) standing.old }
+    requires progress { IsProgress (base_of given.now) progress.old }
     requires move_in { IsMoveOf given.now.inst.now.draft mv }
     requires drawn { mv ≡ move_of given.now.inst.now.draft given.now.options.seed worker number }
     requires worker { worker < given.now.options.workers }
     requires below { number < given.now.options.moves }
-    requires turn { HasMade given.now.options standing.old.entries.items worker number }
-    requires few { length standing.old.entries.items < 2 ^ 31 }
-    ensures standing { OnOk result (IsStanding (base_of given.now) standing.new) }
-    ensures grown { OnOk result (HasGrown standing.old.entries.items standing.new.entries.items worker number) }
+    requires turn { HasMade given.now.options progress.old.entries.items worker number }
+    requires few { length progress.old.entries.items < 2 ^ 31 }
+    ensures progress { OnOk result (IsProgress (base_of given.now) progress.new) }
+    ensures grown { OnOk result (HasGrown progress.old.entries.items progress.new.entries.items worker number) }
 {
-    expand(given.inst, &standing.plan, &mv, writes);
-    let after = try_writes(given, standing, writes.as_slice());
-    let price = after.sub(&standing.bill);
+    expand(given.inst, &progress.plan, &mv, writes);
+    let after = try_writes(given, progress, writes.as_slice());
+    let price = after.sub(&progress.bill);
     let verdict = judge(given, writes.as_slice(), number, &price);
     let entry = Entry {
         worker,
         number,
         again: 0,
-        seen: standing.entries.len() as u32,
+        seen: progress.entries.len() as u32,
         mv,
         price,
         verdict,
     };
-    take_in(given, standing, entry, &after)
+    take_in(given, progress, entry, &after)
 }
 
 // One worker's turn: its next draw, offered at once.
 fn turn(
     given: &Given<'_>,
-    standing: &mut Standing,
+    progress: &mut Progress,
     writes: &mut Writes,
     stream: &mut Stream,
     worker: u32,
     number: u32,
 ) -> Result<(), AllocError>
     requires given { IsGiven (base_of given.now) }
-    requires standing { IsStanding (base_of given.now) standing.old }
+    requires progress { IsProgress (base_of given.now) progress.old }
     requires drawn { stream.old ≡ stream_at given.now.options.seed worker number }
     requires worker { worker < given.now.options.workers }
     requires below { number < given.now.options.moves }
-    requires turn { HasMade given.now.options standing.old.entries.items worker number }
-    requires few { length standing.old.entries.items < 2 ^ 31 }
-    ensures standing { OnOk result (IsStanding (base_of given.now) standing.new) }
-    ensures grown { OnOk result (HasGrown standing.old.entries.items standing.new.entries.items worker number) }
+    requires turn { HasMade given.now.options progress.old.entries.items worker number }
+    requires few { length progress.old.entries.items < 2 ^ 31 }
+    ensures progress { OnOk result (IsProgress (base_of given.now) progress.new) }
+    ensures grown { OnOk result (HasGrown progress.old.entries.items progress.new.entries.items worker number) }
     ensures drawn { stream.new ≡ stream_at given.now.options.seed worker (number + 1) }
 {
     let mv = stream.draw(given.inst);
-    attempt(given, standing, writes, worker, number, mv)
+    attempt(given, progress, writes, worker, number, mv)
 }
 
 // One turn of each worker.
 fn round(
     given: &Given<'_>,
-    standing: &mut Standing,
+    progress: &mut Progress,
     writes: &mut Writes,
     streams: &mut [Stream],
     number: u32,
 ) -> Result<(), AllocError>
     requires given { IsGiven (base_of given.now) }
-    requires standing { IsStanding (base_of given.now) standing.old }
+    requires progress { IsProgress (base_of given.now) progress.old }
     requires below { number < given.now.options.moves }
-    requires at { AreAt (base_of given.now) standing.old.entries.items streams.old 0 number }
+    requires at { AreAt (base_of given.now) progress.old.entries.items streams.old 0 number }
     requires many { length streams.old ≡ given.now.options.workers }
-    requires count { length standing.old.entries.items ≡ number * given.now.options.workers }
-    ensures standing { OnOk result (IsStanding (base_of given.now) standing.new) }
-    ensures at { OnOk result (AreAt (base_of given.now) standing.new.entries.items streams.new 0 (number + 1)) }
+    requires count { length progress.old.entries.items ≡ number * given.now.options.workers }
+    ensures progress { OnOk result (IsProgress (base_of given.now) progress.new) }
+    ensures at { OnOk result (AreAt (base_of given.now) progress.new.entries.items streams.new 0 (number + 1)) }
     ensures many { length streams.new ≡ length streams.old }
-    ensures count { OnOk result (length standing.new.entries.items ≡ (number + 1) * given.now.options.workers) }
+    ensures count { OnOk result (length progress.new.entries.items ≡ (number + 1) * given.now.options.workers) }
 {
     for worker in 0..given.options.workers {
         turn(
             given,
-            standing,
+            progress,
             writes,
             &mut streams[worker as usize],
             worker,
@@ -259,9 +259,9 @@ fn new_streams(alloc: Global, options: &Options) -> Result<Vec<Stream>, AllocErr
     Ok(streams)
 }
 
-fn opening(alloc: Global, given: &Given<'_>) -> Result<Standing, AllocError>
+fn opening(alloc: Global, given: &Given<'_>) -> Result<Progress, AllocError>
     requires given { IsGiven (base_of given.now) }
-    ensures standing { IfOk result (IsStanding (base_of given.now)) }
+    ensures progress { IfOk result (IsProgress (base_of given.now)) }
     ensures empty { IfOk result (λ s. s.entries.items ≡ []) }
 {
     let plan = given.start.try_clone(alloc)?;
@@ -269,7 +269,7 @@ fn opening(alloc: Global, given: &Given<'_>) -> Result<Standing, AllocError>
     let first = bill(given.inst, given.start);
     let best = with_place(None, 0, &first, given.inst);
     let count = given.options.workers as usize * given.options.moves as usize;
-    Ok(Standing {
+    Ok(Progress {
         plan,
         moved,
         bill: first,
@@ -279,18 +279,19 @@ fn opening(alloc: Global, given: &Given<'_>) -> Result<Standing, AllocError>
 }
 
 /// The whole search: a full history, with the place and the cost of its first cheapest feasible timetable.
-pub fn search(alloc: Global, given: &Given<'_>) -> Result<Standing, AllocError>
+pub fn search(alloc: Global, given: &Given<'_>) -> Result<Progress, AllocError>
     requires given { IsGiven (base_of given.now) }
     ensures full { IfOk result (λ s. IsFull (base_of given.now) s.entries.items) }
     ensures few { IfOk result (λ s. length s.entries.items < 2 ^ 31) }
     ensures best { IfOk result (λ s. BestIs (base_of given.now) s.entries.items s.best) }
+    ensures agrees { IfOk result (λ s. (k : ℕ) → AgreesBefore (base_of given.now) (plan_at (base_of given.now) s.entries.items k)) }
 {
-    let mut standing = opening(alloc, given)?;
+    let mut progress = opening(alloc, given)?;
     let mut streams = new_streams(alloc, &given.options)?;
     let streams = streams.as_mut_slice();
     let mut writes = Writes::new();
     for number in 0..given.options.moves {
-        round(given, &mut standing, &mut writes, streams, number)?;
+        round(given, &mut progress, &mut writes, streams, number)?;
     }
-    Ok(standing)
+    Ok(progress)
 }

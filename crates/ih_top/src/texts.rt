@@ -1,8 +1,8 @@
 //! The answers that carry a text of one line.
 
-ghost use Rattle.std.specs.Prelude.{◌≡◌, Some, None};
-ghost use Rattle.ih_top.specs.Texts.{none_found_text, refused_text, too_long_text, unread_text, unwritten_text, usage_text};
-ghost use Rattle.ih_top.specs.Answers.{IsSaid, IsUnwritten};
+ghost use Rattle.std.specs.Prelude.{◌≡◌, Some, string_bytes};
+ghost use Rattle.ih_top.specs.Texts.{none_found_text, instance_refused_text, solution_refused_text, too_long_text, unread_text, unwritten_text, usage_text};
+ghost use Rattle.ih_top.specs.Answers.{IsSaid, IsSaidOf, IsUnwritten};
 
 use crate::answer::Answer;
 use crate::status::{Role, Status};
@@ -20,87 +20,86 @@ pub fn out_of_memory(alloc: Global) -> Answer
     }
 }
 
+// A status with its text, where there was memory to make that.
+fn said(alloc: Global, status: Status, text: Result<String, AllocError>) -> Answer
+    ensures { IsSaidOf string_bytes status text result }
+{
+    match text {
+        Ok(text) => Answer {
+            status,
+            text: text.into_bytes(),
+        },
+        Err(_) => out_of_memory(alloc),
+    }
+}
+
 /// The words name no call.
-#[tactic(auto, unfolding(crate::specs::Texts::usage_text))]
+#[tactic(auto, using(crate::proofs::Saying::said_by), unfolding(crate::specs::Texts::usage_text))]
 pub fn usage(alloc: Global) -> Answer
     ensures { IsSaid Status.Usage usage_text result }
 {
-    match String::from_str(
+    let text = String::from_str(
         alloc,
         "usage: solve INSTANCE OUT JOURNAL, replay INSTANCE JOURNAL OUT, salvage INSTANCE JOURNAL OUT, check INSTANCE SOLUTION, gen NUMBER OUT or demo NUMBER\n",
-    ) {
-        Ok(text) => Answer {
-            status: Status::Usage,
-            text: text.into_bytes(),
-        },
-        Err(_) => out_of_memory(alloc),
-    }
+    );
+    said(alloc, Status::Usage, text)
 }
 
 /// A file couldn't be read.
+#[tactic(auto, using(crate::proofs::Saying::said_by))]
 pub fn unread(alloc: Global, role: Role, name: &str) -> Answer
     ensures { IsSaid (Status.ReadFault role) (unread_text name.now) result }
 {
-    match format!(in alloc; "cannot read {name}\n") {
-        Ok(text) => Answer {
-            status: Status::ReadFault(role),
-            text: text.into_bytes(),
-        },
-        Err(_) => out_of_memory(alloc),
-    }
+    let text = format!(in alloc; "cannot read {name}\n");
+    said(alloc, Status::ReadFault(role), text)
 }
 
 /// A file is longer than its limit.
+#[tactic(auto, using(crate::proofs::Saying::said_by))]
 pub fn too_long(alloc: Global, role: Role, name: &str) -> Answer
     ensures { IsSaid (Status.TooLong role) (too_long_text name.now) result }
 {
-    match format!(in alloc; "too long: {name}\n") {
-        Ok(text) => Answer {
-            status: Status::TooLong(role),
-            text: text.into_bytes(),
-        },
-        Err(_) => out_of_memory(alloc),
-    }
+    let text = format!(in alloc; "too long: {name}\n");
+    said(alloc, Status::TooLong(role), text)
 }
 
 /// The instance is refused.
-pub fn refused(alloc: Global, refusal: Refusal) -> Answer
-    ensures { IsSaid (Status.InstanceRefused refusal) (refused_text refusal) result }
+#[tactic(auto, using(crate::proofs::Saying::said_by))]
+pub fn instance_refused(alloc: Global, refusal: Refusal) -> Answer
+    ensures { IsSaid (Status.InstanceRefused refusal) (instance_refused_text refusal) result }
 {
-    match format!(in alloc; "instance refused: {refusal}\n") {
-        Ok(text) => Answer {
-            status: Status::InstanceRefused(refusal),
-            text: text.into_bytes(),
-        },
-        Err(_) => out_of_memory(alloc),
-    }
+    let text = format!(in alloc; "instance refused: {refusal}\n");
+    said(alloc, Status::InstanceRefused(refusal), text)
+}
+
+/// The start is refused, or the solution that is to be checked.
+#[tactic(auto, using(crate::proofs::Saying::said_by))]
+pub fn solution_refused(alloc: Global, refusal: Refusal) -> Answer
+    ensures { IsSaid (Status.StartRefused refusal) (solution_refused_text refusal) result }
+{
+    let text = format!(in alloc; "solution refused: {refusal}\n");
+    said(alloc, Status::StartRefused(refusal), text)
 }
 
 /// No timetable of the history is feasible.
+#[tactic(auto, using(crate::proofs::Saying::said_by))]
 pub fn none_found(alloc: Global) -> Answer
     ensures { IsSaid Status.NoneFound none_found_text result }
 {
-    match String::from_str(alloc, "none found\n") {
-        Ok(text) => Answer {
-            status: Status::NoneFound,
-            text: text.into_bytes(),
-        },
-        Err(_) => out_of_memory(alloc),
-    }
+    let text = String::from_str(alloc, "none found\n");
+    said(alloc, Status::NoneFound, text)
 }
 
 /// A file couldn't be written, or memory ran out at it.
+#[tactic(auto, using(crate::proofs::Saying::said_by))]
 pub fn unwritten(alloc: Global, role: Role, name: &str, error: WriteError) -> Answer
     ensures { IsUnwritten (Status.WriteFault (Some role)) (unwritten_text name.now) error result }
 {
     match error {
-        WriteError::Fault => match format!(in alloc; "cannot write {name}\n") {
-            Ok(text) => Answer {
-                status: Status::WriteFault(Some(role)),
-                text: text.into_bytes(),
-            },
-            Err(_) => out_of_memory(alloc),
-        },
+        WriteError::Fault => {
+            let text = format!(in alloc; "cannot write {name}\n");
+            said(alloc, Status::WriteFault(Some(role)), text)
+        }
         WriteError::OutOfMemory => out_of_memory(alloc),
     }
 }

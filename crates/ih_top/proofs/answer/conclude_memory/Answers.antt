@@ -1,5 +1,5 @@
 use Rattle.ih_top.specs.Texts.{memory_text}
-use Rattle.ih_top.proofs.Speaking.{whole-part}
+use Rattle.ih_top.proofs.Saying.{whole-part}
 use Rattle.ih_top.proofs.answer.conclude_memory.Goals as goal
 
 pub returns-in-Ok-clause-said : goal.returns-in-Ok-clause-said

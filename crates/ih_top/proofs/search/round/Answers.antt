@@ -12,12 +12,12 @@ loop-worker-preserved c =
     let many = c.loop-worker.invariant.many in
     let count = c.loop-worker.invariant.count in
     let inside : c.loop-worker.worker < length c.loop-worker.streams = omega (arith, known, many) in
-    let moved = at-turn (base_of c.args.given.now) c.loop-worker.standing.entries.items c.turn.new.standing.entries.items c.loop-worker.streams
+    let moved = at-turn (base_of c.args.given.now) c.loop-worker.progress.entries.items c.turn.new.progress.entries.items c.loop-worker.streams
     c.loop-worker.worker c.args.number inside c.requires.below c.loop-worker.invariant.at grown in
-    let longer : length c.turn.new.standing.entries.items ≡ length c.loop-worker.standing.entries.items + 1 =
-    ap length grown.joins ∙ length-more c.loop-worker.standing.entries.items grown.entry in
+    let longer : length c.turn.new.progress.entries.items ≡ length c.loop-worker.progress.entries.items + 1 =
+    ap length grown.joins ∙ length-more c.loop-worker.progress.entries.items grown.entry in
     record {
-      standing = c.in_ok-turn.ensures.standing;
+      progress = c.in_ok-turn.ensures.progress;
       at = rw c.turn.ensures.drawn moved;
       many = length-set c.loop-worker.streams c.loop-worker.worker c.turn.new.stream ∙ many;
       count = omega (arith, longer, count);

@@ -1,0 +1,128 @@
+-- How an answer with its text becomes the end of the call.
+use Rattle.std.proofs.Common.{◌≡◌, ℕ, refl, sym, ap, ◌∙◌, subst, arith, inl, inr, List, ◌++◌, length, Option, Some, None}
+use Rattle.std.specs.Prelude.{◌≢◌, Result, Ok, Err, IfOk}
+use Rattle.std.proofs.lemmas.List.{take_all}
+use Rattle.ih_shelf.specs.declared.outside.WriteError.{WriteError}
+use Rattle.ih_shelf.specs.declared.outside.WriteError.TheVariants.{Fault, OutOfMemory as NoMemory}
+use Rattle.ih_shelf.specs.Outside.{Told, IsAppended}
+use Rattle.ih_top.specs.declared.answer.Answer.{Answer}
+use Rattle.ih_top.specs.declared.status.Status.{Status}
+use Rattle.ih_top.specs.declared.status.Status.TheVariants.{Done, Usage, ReadFault, InstanceRefused, StartRefused, NoneFound, WriteFault, OutOfMemory, JournalRefused, Infeasible, TooLong}
+use Rattle.ih_top.specs.Texts.{memory_text}
+use Rattle.ih_top.specs.Ends.{Ends, GainedPart, HasCause}
+use Rattle.ih_top.specs.Answers.{unsaid, Answers, IsConcluded, HasPutCause, HasFileCause, IsSaid, IsSaidOf, IsUnwritten}
+
+-- ---- the making of a text
+
+-- the answer has the text that was made, or memory ran out
+pub said_by : {S E : Type 0} (view : S → List ℕ) (status : Status) (text : List ℕ) (r : Result S E) (a : Answer)
+    → IfOk r (λ s. view s ≡ text) → IsSaidOf view status r a → IsSaid status text a
+said_by view status text (Ok s) a made (same, here) = inr (same, here ∙ made)
+said_by view status text (Err e) a made memory = inl memory
+
+-- ---- families of ends
+
+-- Of each end whose text couldn't be put out, and of each at which memory ran out as its text was made, the family has that end too.
+pub record IsAnswerable (ends : Status → List ℕ → Type 0) : Type 0 where
+  pub unsaid : (status : Status) (text : List ℕ) → ends status text → ends (unsaid status) text
+  pub memory : (status : Status) (text : List ℕ) → ends status text → ends OutOfMemory memory_text
+
+module _ (ends : Status → List ℕ → Type 0) (able : IsAnswerable ends) where
+  -- the answer is the end that was reached, or memory ran out
+  pub said-answer : (status : Status) (text : List ℕ) (a : Answer) → ends status text → IsSaid status text a → Answers ends a
+  said-answer status text a h (inl memory) = inl (memory, able.memory status text h)
+  said-answer status text a h (inr (same, here)) = inr (subst (λ s. ends s a.text.items) (sym same) (subst (ends status) (sym here) h))
+
+  pub unwritten-answer : (status : Status) (text : List ℕ) (error : WriteError) (a : Answer) → ends status text → IsUnwritten status text error a → Answers ends a
+  unwritten-answer status text Fault a h said = said-answer status text a h said
+  unwritten-answer status text NoMemory a h memory = inl (memory, able.memory status text h)
+
+  -- memory ran out before anything was done
+  pub memory-answer : (a : Answer) → ends OutOfMemory memory_text → a.status ≡ OutOfMemory → Answers ends a
+  memory-answer a h memory = inl (memory, h)
+
+-- ---- what is put out
+
+pub whole-part : (old new : Option (List ℕ)) (text : List ℕ) → Told (IsAppended text) old new → GainedPart old new text
+whole-part None new text h = tt
+whole-part (Some old) None text h = h
+whole-part (Some old) (Some new) text h = (length text, h ∙ ap (λ t. old ++ t) (sym (take_all (length text) text (omega arith))))
+
+unsaid-other : (status : Status) → status ≢ OutOfMemory → unsaid status ≢ OutOfMemory
+unsaid-other Done other e = absurd (let clash : WriteFault None ≡ OutOfMemory = e in cc)
+unsaid-other Usage other e = other e
+unsaid-other (ReadFault role) other e = other e
+unsaid-other (InstanceRefused r) other e = other e
+unsaid-other (StartRefused r) other e = other e
+unsaid-other NoneFound other e = other e
+unsaid-other (WriteFault role) other e = other e
+unsaid-other OutOfMemory other e = other e
+unsaid-other (JournalRefused r) other e = other e
+unsaid-other Infeasible other e = absurd (let clash : WriteFault None ≡ OutOfMemory = e in cc)
+unsaid-other (TooLong role) other e = other e
+
+-- a status other than want of memory
+at-status : (ends : Status → List ℕ → Type 0) (gained part : List ℕ → Type 0) (status : Status) (text : List ℕ)
+    → status ≢ OutOfMemory → ends status text → gained text → Ends ends gained part status
+at-status ends gained part Done text other h g = (text, h, g)
+at-status ends gained part Usage text other h g = (text, h, g)
+at-status ends gained part (ReadFault role) text other h g = (text, h, g)
+at-status ends gained part (InstanceRefused r) text other h g = (text, h, g)
+at-status ends gained part (StartRefused r) text other h g = (text, h, g)
+at-status ends gained part NoneFound text other h g = (text, h, g)
+at-status ends gained part (WriteFault role) text other h g = (text, h, g)
+at-status ends gained part OutOfMemory text other h g = absurd (other refl)
+at-status ends gained part (JournalRefused r) text other h g = (text, h, g)
+at-status ends gained part Infeasible text other h g = (text, h, g)
+at-status ends gained part (TooLong role) text other h g = (text, h, g)
+
+-- the answer's text was put out, as far as that went
+pub ended : (ends : Status → List ℕ → Type 0) (able : IsAnswerable ends) (gained part : List ℕ → Type 0) (a : Answer) (result : Status)
+    → Answers ends a → IsConcluded a.status (gained a.text.items) (part a.text.items) (part memory_text) result → Ends ends gained part result
+ended ends able gained part a result (inl (memory, h)) (inl (here, there, rest)) = subst (Ends ends gained part) (sym there) (OutOfMemory, memory_text, h, rest)
+ended ends able gained part a result (inl (memory, h)) (inr (other, rest)) = absurd (other memory)
+ended ends able gained part a result (inr h) (inl (here, there, rest)) =
+    subst (Ends ends gained part) (sym there) (OutOfMemory, memory_text, able.memory a.status a.text.items h, rest)
+ended ends able gained part a result (inr h) (inr (other, inl (there, g))) =
+    subst (Ends ends gained part) (sym there) (at-status ends gained part a.status a.text.items other h g)
+ended ends able gained part a result (inr h) (inr (other, inr (inl (there, g)))) =
+    subst (Ends ends gained part) (sym there)
+    (at-status ends gained part (unsaid a.status) a.text.items (unsaid-other a.status other) (able.unsaid a.status a.text.items h) g)
+ended ends able gained part a result (inr h) (inr (other, inr (inr (there, p)))) = subst (Ends ends gained part) (sym there) (a.status, a.text.items, h, p)
+
+-- ---- causes
+
+module _ (reads reads' writes writes' puts puts' : ℕ) where
+  file-cause : (status : Status) → HasFileCause reads reads' writes writes' status → HasCause reads reads' writes writes' puts puts' status
+  file-cause Done file = tt
+  file-cause Usage file = tt
+  file-cause (ReadFault role) file = file
+  file-cause (InstanceRefused r) file = tt
+  file-cause (StartRefused r) file = tt
+  file-cause NoneFound file = tt
+  file-cause (WriteFault None) file = absurd file
+  file-cause (WriteFault (Some role)) file = file
+  file-cause OutOfMemory file = tt
+  file-cause (JournalRefused r) file = tt
+  file-cause Infeasible file = tt
+  file-cause (TooLong role) file = tt
+
+  pub has-cause : (status result : Status) → HasFileCause reads reads' writes writes' status → HasPutCause status puts puts' result
+      → HasCause reads reads' writes writes' puts puts' result
+  has-cause status result file (inl same) = subst (HasCause reads reads' writes writes' puts puts') (sym same) (file-cause status file)
+  has-cause status result file (inr (inl memory)) = subst (HasCause reads reads' writes writes' puts puts') (sym memory) tt
+  has-cause status result file (inr (inr (there, rose))) = subst (HasCause reads reads' writes writes' puts puts') (sym there) (by_status status file)
+    where
+      by_status : (status : Status) → HasFileCause reads reads' writes writes' status → HasCause reads reads' writes writes' puts puts' (unsaid status)
+      by_status Done file = rose
+      by_status Usage file = tt
+      by_status (ReadFault role) file = file
+      by_status (InstanceRefused r) file = tt
+      by_status (StartRefused r) file = tt
+      by_status NoneFound file = tt
+      by_status (WriteFault None) file = rose
+      by_status (WriteFault (Some role)) file = file
+      by_status OutOfMemory file = tt
+      by_status (JournalRefused r) file = tt
+      by_status Infeasible file = rose
+      by_status (TooLong role) file = tt

@@ -1,0 +1,124 @@
+-- How a call of solve ends: what it then has read and written, and what it had to say, by its status. What the shelf doesn't tell
+-- isn't claimed.
+use Rattle.std.specs.Prelude.{◌≡◌, ◌≢◌, ℕ, ◌⊎◌, List, Option, Some, None}
+use Rattle.ih_journal.specs.declared.entries.Entry.{Entry}
+use Rattle.ih_journal.specs.Base.{Base}
+use Rattle.ih_journal.specs.Frozen.{AgreesBefore}
+use Rattle.ih_journal.specs.History.{plan_at}
+use Rattle.ih_journal.specs.Legal.{IsFull}
+use Rattle.ih_journal.specs.Best.{IsBest, HasNone}
+use Rattle.ih_journal.specs.Texts.{journal}
+use Rattle.ih_solution.specs.Solution.{solution}
+use Rattle.ih_words.specs.Solve.{SolveCall}
+use Rattle.ih_shelf.specs.Outside.{Names, Told, PartOr}
+use Rattle.ih_top.specs.declared.status.Status.{Status}
+use Rattle.ih_top.specs.declared.status.Status.TheVariants.{Done, NoneFound, WriteFault, OutOfMemory}
+use Rattle.ih_top.specs.declared.status.Role.TheVariants.{Journal, Out}
+use Rattle.ih_top.specs.Inputs.{solve_reading, HasInputs, EndsUnread}
+use Rattle.ih_top.specs.Texts.{none_found_text, memory_text, unwritten_text, done_text}
+
+-- ---- what a search is given, and what it makes
+
+-- what the files and the words give a search
+pub record HasBase (files : Option Names) (s : SolveCall) (b : Base) : Type 0 where
+  pub inputs : HasInputs files (solve_reading s) b.instance b.start
+  pub options : b.options ≡ s.options
+  pub freeze : b.freeze ≡ s.freeze
+
+-- A full history over what the files and the words give. Each of its timetables agrees with the start on the choices before the
+-- freeze day.
+pub record IsSearch (files : Option Names) (s : SolveCall) (b : Base) (H : List Entry) : Type 0 where
+  pub base : HasBase files s b
+  pub full : IsFull b H
+  pub agrees : (k : ℕ) → AgreesBefore b (plan_at b H k)
+
+-- the solution file of the timetable at a place
+abbrev pub solution_at : Base → List Entry → ℕ → List ℕ
+solution_at b H k = solution b.instance (plan_at b H k)
+
+-- ---- what it writes
+
+abbrev pub Unchanged : Names → Names → Type 0
+Unchanged old new = (n : List ℕ) → new n ≡ old n
+
+abbrev pub OthersUnchanged : SolveCall → Names → Names → Type 0
+OthersUnchanged s old new = (n : List ℕ) → n ≢ s.out → n ≢ s.journal → new n ≡ old n
+
+-- the journal is written or begun, and nothing else
+pub record BeginsJournal (s : SolveCall) (text : List ℕ) (old new : Names) : Type 0 where
+  pub journal : PartOr text (old s.journal) (new s.journal)
+  pub out : new s.out ≡ old s.out
+  pub others : OthersUnchanged s old new
+
+-- the journal is written whole, and nothing else
+pub record WritesJournal (s : SolveCall) (text : List ℕ) (old new : Names) : Type 0 where
+  pub journal : new s.journal ≡ Some text
+  pub out : new s.out ≡ old s.out
+  pub others : OthersUnchanged s old new
+
+-- the journal is written whole, and the solution may be or may be begun
+pub record BeginsSolution (s : SolveCall) (text solution : List ℕ) (old new : Names) : Type 0 where
+  pub journal : new s.journal ≡ Some text
+  pub out : PartOr solution (old s.out) (new s.out)
+  pub others : OthersUnchanged s old new
+
+-- the journal and the solution are written whole
+pub record WritesBoth (s : SolveCall) (text solution : List ℕ) (old new : Names) : Type 0 where
+  pub journal : new s.journal ≡ Some text
+  pub out : new s.out ≡ Some solution
+  pub others : OthersUnchanged s old new
+
+-- the journal of a full history is written or begun
+pub record HasBegun (s : SolveCall) (old new : Option Names) : Type 0 where
+  pub base : Base
+  pub history : List Entry
+  pub search : IsSearch old s base history
+  pub written : Told (BeginsJournal s (journal base.options history)) old new
+
+-- the journal of a full history is written, in which no timetable is feasible
+pub record HasFoundNone (s : SolveCall) (old new : Option Names) : Type 0 where
+  pub base : Base
+  pub history : List Entry
+  pub search : IsSearch old s base history
+  pub none : HasNone base history
+  pub written : Told (WritesJournal s (journal base.options history)) old new
+
+-- the journal of a full history is written, and the solution of its first cheapest feasible timetable may be begun
+pub record HasFound (s : SolveCall) (old new : Option Names) : Type 0 where
+  pub base : Base
+  pub history : List Entry
+  pub place : ℕ
+  pub search : IsSearch old s base history
+  pub best : IsBest base history place
+  pub written : Told (BeginsSolution s (journal base.options history) (solution_at base history place)) old new
+
+-- the journal of a full history and the solution of its first cheapest feasible timetable are written, and this is what is said of it
+pub record IsDone (s : SolveCall) (old new : Option Names) (text : List ℕ) : Type 0 where
+  pub base : Base
+  pub history : List Entry
+  pub place : ℕ
+  pub search : IsSearch old s base history
+  pub best : IsBest base history place
+  pub written : Told (WritesBoth s (journal base.options history) (solution_at base history place)) old new
+  pub said : text ≡ done_text base history place
+
+-- where memory ran out, the files are as far as the call had come
+abbrev pub IsSomewhere : SolveCall → Option Names → Option Names → Type 0
+IsSomewhere s old new = Told Unchanged old new ⊎ HasBegun s old new ⊎ HasFound s old new
+
+-- ---- how it ends
+
+-- Each case has the whole condition of its status. Where the shelf tells what it holds, no two of them hold of one call, but for
+-- faults and for want of memory.
+abbrev pub SolveEnds : SolveCall → Option Names → Option Names → Status → List ℕ → Type 0
+-- the journal, the first cheapest feasible timetable and its report are out
+SolveEnds s old new Done text = IsDone s old new text
+-- the journal is out, and no timetable of its history is feasible
+SolveEnds s old new NoneFound text = HasFoundNone s old new × (text ≡ none_found_text)
+SolveEnds s old new (WriteFault (Some Journal)) text = HasBegun s old new × (text ≡ unwritten_text s.journal)
+SolveEnds s old new (WriteFault (Some Out)) text = HasFound s old new × (text ≡ unwritten_text s.out)
+-- all is done but that the text couldn't be put out
+SolveEnds s old new (WriteFault None) text = IsDone s old new text
+SolveEnds s old new OutOfMemory text = IsSomewhere s old new × (text ≡ memory_text)
+-- the files aren't as they ought to be
+SolveEnds s old new status text = Told Unchanged old new × EndsUnread old (solve_reading s) status text
