@@ -1,0 +1,178 @@
+-- What the calls of links need and leave, over what their code reads.
+use Rattle.std.proofs.Common.{◌≡◌, ℕ, ◌+◌, ◌-◌, ◌^◌, ◌<◌, ◌≤◌, refl, arith, sym, ap, ◌∙◌, subst, true, false, List, [], ◌∷◌, ◌++◌, inl, inr, Option, Some, None, length}
+use Rattle.std.specs.Prelude.{map, slice_index, slice_index_or, slice_set}
+use Rattle.std.proofs.lemmas.List.{get_or_default}
+use Rattle.std.proofs.lemmas.Bool.{eq-eqb, lt-ltb, le-ltb, both_ways}
+use Rattle.ih_links.specs.Lists.{AreNodes, Linked, list_of, has, without, is_at, following, first_of}
+use Rattle.ih_links.specs.Ring.{Tied, lists_of, node_in}
+use Rattle.ih_links.proofs.Ties.{tied-lists, node-below, tied-first, tied-following, last-below, room, tied-pushed, before-below, after-below, filled, tied-passed, head-known}
+
+node_in-node : (n place : ℕ) → place < n → node_in n place ≡ Some place
+node_in-node n place h = let e = lt-ltb place n h in rw e refl
+
+node_in-gate : (n place : ℕ) → n ≤ place → node_in n place ≡ None
+node_in-gate n place h = let e = le-ltb place n h in rw e refl
+
+module _ {next prev : List ℕ} {home : List (Option ℕ)} {len : List ℕ} {v : Linked} (tied : Tied next prev home len (lists_of next home len))
+    (view_is : ◌≡◌ {A = Linked} (record { lists = lists_of next home len; nodes = length home }) v) where
+  abbrev ls : List (List ℕ)
+  ls = v.lists
+
+  t : Tied next prev home len ls
+  t = subst (Tied next prev home len) (ap (λ (w : Linked). w.lists) view_is) tied
+
+  nodes_are : length home ≡ v.nodes
+  nodes_are = ap (λ (w : Linked). w.nodes) view_is
+
+  module _ (head node gate last : ℕ) (head_below : head < length ls) (node_below : node < v.nodes) (free : (h : ℕ) → has node (list_of v h) ≡ false)
+      (gate_is : gate ≡ v.nodes + head) (last_is : last ≡ slice_index_or prev gate last) where
+    head_in : head < length len
+    head_in = let c = t.count in omega arith
+
+    node_inside : node < length home
+    node_inside = let n = nodes_are in omega arith
+
+    gate_read : gate ≡ length home + head
+    gate_read = gate_is ∙ ap (λ k. k + head) (sym nodes_are)
+
+    last_read : last ≡ slice_index prev (length home + head)
+    last_read = last_is ∙ (get_or_default prev gate last 0 (let p = t.prevs in let b = head_in in let n = nodes_are in omega arith) ∙ ap (slice_index prev) gate_read)
+
+    pub push-last : last < length next
+    push-last = rw last_read (last-below next prev home len ls t head node head_in node_inside free)
+
+    module _ (count : ℕ) (count_is : count ≡ slice_index_or len head count) where
+      count_read : count ≡ slice_index len head
+      count_read = count_is ∙ get_or_default len head count 0 head_in
+
+      pub push-room : count + 1 < 2 ^ 32
+      push-room = let r = room next prev home len ls t head node head_in node_inside free in let f = t.few in let e = count_read in let b = head_in in omega arith
+
+      abbrev next' : List ℕ
+      next' = slice_set (slice_set next last node) node gate
+
+      abbrev prev' : List ℕ
+      prev' = slice_set (slice_set prev node last) gate node
+
+      abbrev home' : List (Option ℕ)
+      home' = slice_set home node (Some head)
+
+      abbrev len' : List ℕ
+      len' = slice_set len head (count + 1)
+
+      abbrev ls' : List (List ℕ)
+      ls' = slice_set ls head (list_of v head ++ node ∷ [])
+
+      pushed : Tied next' prev' home' len' ls'
+      pushed = rw (gate_read, last_read, count_read) (tied-pushed next prev home len ls t head node head_in node_inside free)
+
+      pub push-lists : lists_of next' home' len' ≡ ls'
+      push-lists = tied-lists next' prev' home' len' ls' pushed
+
+      pub push-tied : Tied next' prev' home' len' (lists_of next' home' len')
+      push-tied = subst (Tied next' prev' home' len') (sym push-lists) pushed
+
+  module _ (head node before after : ℕ) (place : Option ℕ) (linked : (h : ℕ) × (has node (list_of v h) ≡ true)) (place_is : place ≡ slice_index_or home node place)
+      (some : place ≡ Some head) (before_is : before ≡ slice_index_or prev node before) (after_is : after ≡ slice_index_or next node after) where
+    inside : node < length home
+    inside = node-below next prev home len ls t linked.0 node linked.1
+
+    at : slice_index_or home node None ≡ Some head
+    at = sym (get_or_default home node place None inside) ∙ (sym place_is ∙ some)
+
+    before_read : before ≡ slice_index prev node
+    before_read = before_is ∙ get_or_default prev node before 0 (let p = t.prevs in let i = inside in omega arith)
+
+    after_read : after ≡ slice_index next node
+    after_read = after_is ∙ get_or_default next node after 0 (let n = t.nexts in let i = inside in omega arith)
+
+    pub remove-before : before < length next
+    remove-before = rw before_read (before-below next prev home len ls t head node at)
+
+    pub remove-after : after < length prev
+    remove-after = rw after_read (after-below next prev home len ls t head node at)
+
+    module _ (count : ℕ) (count_is : count ≡ slice_index_or len head count) where
+      taken : count ≡ slice_index len head
+      taken = count_is ∙ get_or_default len head count 0 (head-known next prev home len ls t head node at)
+
+      pub remove-room : 1 ≤ count
+      remove-room = let f = filled next prev home len ls t head node at in let e = taken in omega arith
+
+      abbrev next- : List ℕ
+      next- = slice_set next before after
+
+      abbrev prev- : List ℕ
+      prev- = slice_set prev after before
+
+      abbrev home- : List (Option ℕ)
+      home- = slice_set home node None
+
+      abbrev len- : List ℕ
+      len- = slice_set len head (count - 1)
+
+      abbrev ls- : List (List ℕ)
+      ls- = map (without node) ls
+
+      passed : Tied next- prev- home- len- ls-
+      passed = rw (before_read, after_read, taken) (tied-passed next prev home len ls t head node at)
+
+      pub remove-lists : lists_of next- home- len- ≡ ls-
+      remove-lists = tied-lists next- prev- home- len- ls- passed
+
+      pub remove-tied : Tied next- prev- home- len- (lists_of next- home- len-)
+      remove-tied = subst (Tied next- prev- home- len-) (sym remove-lists) passed
+
+  module _ (head first : ℕ) (head_below : head < length ls) (first_is : first ≡ slice_index_or next (v.nodes + head) first) where
+    head_inside : head < length len
+    head_inside = let c = t.count in omega arith
+
+    first_read : first ≡ slice_index next (length home + head)
+    first_read =
+        first_is ∙ get_or_default next (v.nodes + head) first 0 (let n = t.nexts in let b = head_inside in let e = nodes_are in omega arith)
+        ∙ ap (λ k. slice_index next (k + head)) (sym nodes_are)
+
+    pub first-answer : node_in v.nodes first ≡ first_of (list_of v head)
+    first-answer = rw (← nodes_are, first_read) (elim (tied-first next prev home len ls t head head_inside) [
+      | inl q ↦ node_in-gate (length home) (slice_index next (length home + head)) q.0 ∙ sym q.1
+      | inr q ↦ node_in-node (length home) (slice_index next (length home + head)) q.0 ∙ sym q.1
+    ])
+
+  module _ (node after : ℕ) (node_below : node < v.nodes) (after_is : after ≡ slice_index_or next node after) where
+    behind_read : after ≡ slice_index next node
+    behind_read = after_is ∙ get_or_default next node after 0 (let n = t.nexts in let e = nodes_are in omega arith)
+
+    pub next-answer : (h : ℕ) → has node (list_of v h) ≡ true → node_in v.nodes after ≡ following node (list_of v h)
+    next-answer h m = rw (← nodes_are, behind_read) (elim (tied-following next prev home len ls t h node m) [
+      | inl q ↦ node_in-gate (length home) (slice_index next node) q.0 ∙ sym q.1
+      | inr q ↦ node_in-node (length home) (slice_index next node) q.0 ∙ sym q.1
+    ])
+
+  -- a node that has a home is in a list
+  pub home-linked : (node : ℕ) (place : Option ℕ) (h : ℕ) → node < v.nodes → place ≡ slice_index_or home node place → place ≡ Some h → has node (list_of v h) ≡ true
+  home-linked node place h below is some =
+      let in_home : node < length home = let n = nodes_are in omega arith in
+      t.homes h node ∙ (ap (is_at h) (sym (get_or_default home node place None in_home) ∙ (sym is ∙ some)) ∙ same h)
+    where
+      same : (k : ℕ) → is_at k (Some k) ≡ true
+      same k = eq-eqb k k refl
+
+  -- a node that is in no list has no home
+  pub free-home : (node h : ℕ) (place : Option ℕ) → node < v.nodes → place ≡ slice_index_or home node place → place ≡ Some h
+      → ((h : ℕ) → has node (list_of v h) ≡ false) → ⊥
+  free-home node h place below is some free = both_ways (has node (list_of v h)) (free h) (home-linked node place h below is some)
+
+  -- a node that has no home is in no list
+  pub homeless : (node h : ℕ) (place : Option ℕ) → node < v.nodes → place ≡ slice_index_or home node place → place ≡ None
+      → has node (list_of v h) ≡ true → ⊥
+  homeless node h place below is none m =
+      let in_home : node < length home = let n = nodes_are in omega arith in
+      let read : slice_index_or home node None ≡ None = sym (get_or_default home node place None in_home) ∙ (sym is ∙ none) in
+      both_ways (has node (list_of v h)) (t.homes h node ∙ ap (is_at h) read) m
+
+  -- each list has nodes, each once
+  pub nodes-of : (head : ℕ) → AreNodes v.nodes (list_of v head)
+  nodes-of head = record {
+    below = λ x m. rw (← nodes_are) (node-below next prev home len ls t head x m);
+    once = t.once head;
+  }

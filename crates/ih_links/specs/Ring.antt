@@ -1,0 +1,33 @@
+-- How vectors of links stand for lists: each list is a ring with the gate of its head.
+use Rattle.std.specs.Prelude.{◌≡◌, ℕ, zero, suc, ◌+◌, ◌^◌, ◌<◌, ◌≤◌, nat_lt, if◌then◌else◌, List, [], ◌∷◌, length, map, Option, Some, None, slice_index, slice_index_or}
+use Rattle.std.specs.List.{range_with_len}
+use Rattle.ih_links.specs.Lists.{has, is_at, IsOnce}
+
+-- the n numbers from a on
+abbrev pub walk : (ℕ → ℕ) → ℕ → ℕ → List ℕ
+walk f zero a = []
+walk f (suc n) a = a ∷ walk f n (f a)
+
+-- the lists that the links give
+abbrev pub lists_of : List ℕ → List (Option ℕ) → List ℕ → List (List ℕ)
+lists_of next home len = map (λ h. walk (slice_index next) (slice_index len h) (slice_index next (length home + h))) (range_with_len 0 (length len))
+
+-- xs stand between a and b, forwards and backwards
+abbrev pub IsPath : (ℕ → ℕ) → (ℕ → ℕ) → ℕ → List ℕ → ℕ → Type 0
+IsPath f g a [] b = (f a ≡ b) × (g b ≡ a)
+IsPath f g a (x ∷ xs) b = (f a ≡ x) × ((g x ≡ a) × IsPath f g x xs b)
+
+-- the node at a place: the places below n are the nodes', those from n on are the gates'
+abbrev pub node_in : ℕ → ℕ → Option ℕ
+node_in n place = if nat_lt place n then Some place else None
+
+-- The links are those of the lists: nodes and gates have one place each, each list is a ring through its head's gate, and each node's home is the head of its list.
+pub record Tied (next prev : List ℕ) (home : List (Option ℕ)) (len : List ℕ) (lists : List (List ℕ)) : Type 0 where
+  pub nexts : length next ≡ length home + length len
+  pub prevs : length prev ≡ length home + length len
+  pub count : length lists ≡ length len
+  pub path : (h : ℕ) → h < length len → IsPath (slice_index next) (slice_index prev) (length home + h) (slice_index_or lists h []) (length home + h)
+  pub lens : (h : ℕ) → h < length len → slice_index len h ≡ length (slice_index_or lists h [])
+  pub homes : (h x : ℕ) → has x (slice_index_or lists h []) ≡ is_at h (slice_index_or home x None)
+  pub once : (h : ℕ) → IsOnce (slice_index_or lists h [])
+  pub few : length home + length len ≤ 2 ^ 32

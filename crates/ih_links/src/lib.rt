@@ -1,0 +1,8 @@
+//! Lists of numbered nodes, each headed by a number: a node stands in at most one list, and leaves it in a fixed number of steps.
+#![tactic(auto)]
+
+mod links;
+#[cfg(test)]
+mod tests;
+
+pub use links::Links;
