@@ -1,0 +1,246 @@
+-- The pieces of a footprint, joined.
+use Rattle.std.proofs.Common.{◌≡◌, ℕ, ◌+◌, ◌-◌, ◌*◌, ◌/◌, ◌<◌, ◌≤◌, refl, arith, sym, ap, ◌∙◌, Bool, true, false, List, [], ◌∷◌, ◌++◌, inl, inr, Option, Some, None, length, take}
+use Rattle.std.specs.Prelude.{◌||◌, ◌==◌, ◌&&◌, nat_eq, nat_le, min, option_map, slice_get, slice_index}
+use Rattle.std.proofs.lemmas.Bool.{cases_eq, cases_lt, cases_order, eq-eqb, ne_eqb, and_right, le-leb, lt-leb, lt-ltb, le-ltb}
+use Rattle.std.proofs.lemmas.List.Folds.{list_any-append, list_any_at}
+use Rattle.std.proofs.lemmas.List.{take_more}
+use Rattle.std.proofs.lemmas.Option.{slice_get_past}
+use Rattle.std.proofs.lemmas.Cmp.{nat_eq_equiv}
+use Rattle.ih_tables.specs.declared.drafts.Draft.{Draft}
+use Rattle.ih_tables.specs.declared.drafts.Patient.{Patient}
+use Rattle.ih_tables.specs.declared.cells.Cell.{Cell}
+use Rattle.ih_tables.specs.declared.cells.Cell.TheVariants.{Stay, RoomDay, TheatreDay, SurgeonDay, RoomShift, NurseShift, Care}
+use Rattle.ih_tables.specs.declared.ids.RoomNo.{RoomNo}
+use Rattle.ih_tables.specs.declared.ids.Shift.{Shift}
+use Rattle.ih_tables.specs.declared.ids.NurseNo.{NurseNo}
+use Rattle.ih_tables.specs.declared.ids.PatientNo.{PatientNo}
+use Rattle.ih_tables.specs.declared.ids.PersonNo.{PersonNo}
+use Rattle.ih_tables.specs.Sizes.{Sizes, sizes_of, patient_count, person_count, room_count, shift_count}
+use Rattle.ih_plan.specs.declared.moves.Placement.{Placement}
+use Rattle.ih_plan.specs.declared.moves.Write.TheVariants.{SetStay}
+use Rattle.ih_plan.specs.Timetable.{Timetable, IsPlanOf, care_of, choice_of, stay_of}
+use Rattle.ih_plan.specs.Persons.{person_of}
+use Rattle.ih_plan.specs.Presence.{admission_of, is_in, is_present, day_of, covers}
+use Rattle.ih_plan.specs.Costs.{is_number}
+use Rattle.ih_plan.specs.Cells.{IsCellIn, IsCellOf}
+use Rattle.ih_plan.specs.Footprint.{in_placement, in_stay, in_choice, is_own, write_touches}
+use Rattle.ih_footprint.specs.Gathered.{same_cell, is_listed}
+use Rattle.ih_footprint.specs.Pieces.{in_shift, in_day, in_days, in_span, in_nurse, in_cares}
+use Rattle.ih_footprint.specs.Present.{ArePresent}
+use Rattle.ih_footprint.proofs.GatherLemmas.{or-none}
+
+-- ---- a room in a shift
+
+pub shift-none : (P : Timetable) (r : RoomNo) (k : Shift) → choice_of P r.0 k.0 ≡ None → (e : Cell) → same_cell (RoomShift r k) e ≡ in_shift P r.0 k.0 e
+unfolding same_cell in_shift
+shift-none P r k h (RoomShift s l) = refl
+shift-none P r k h (NurseShift m l) = rw h refl
+shift-none P r k h _ = refl
+
+pub shift-some : (P : Timetable) (r : RoomNo) (k : Shift) (n : NurseNo) → choice_of P r.0 k.0 ≡ Some n → (e : Cell)
+    → (same_cell (RoomShift r k) e || same_cell (NurseShift n k) e) ≡ in_shift P r.0 k.0 e
+unfolding same_cell in_shift
+shift-some P r k n h (RoomShift s l) = or-none ((r.0 == s.0) && (k.0 == l.0))
+shift-some P r k n h (NurseShift m l) = rw h refl
+shift-some P r k n h _ = refl
+
+-- the shift of a nurse
+pub nurse-some : (n : NurseNo) (k : Shift) (o : Option NurseNo) → o ≡ Some n → (e : Cell) → same_cell (NurseShift n k) e ≡ in_nurse (option_map (λ (m : NurseNo). m.0) o) k.0 e
+unfolding same_cell in_nurse
+nurse-some n k o h (NurseShift m l) = rw h refl
+nurse-some n k o h _ = refl
+
+pub nurse-none : (k : Shift) (o : Option NurseNo) → o ≡ None → (e : Cell) → in_nurse (option_map (λ (m : NurseNo). m.0) o) k.0 e ≡ false
+unfolding in_nurse
+nurse-none k o h (NurseShift m l) = rw h refl
+nurse-none k o h _ = refl
+
+-- the nurse who is chosen has a cell
+pub chosen-in : (I : Draft) (P : Timetable) (r : ℕ) (k : Shift) (n : NurseNo) (z : Sizes) → IsPlanOf I P → z ≡ sizes_of I → k.0 < shift_count I → choice_of P r k.0 ≡ Some n
+    → IsCellIn z (NurseShift n k)
+chosen-in I P r k n z plan sizes inside e =
+    rw sizes (plan.nursed r k.0 n.0 (ap (option_map (λ (m : NurseNo). m.0)) e), inside)
+
+-- ---- a room on a day
+
+day-shifts : (d k : ℕ) → (((3 * d == k) || (3 * d + 1 == k)) || (3 * d + 2 == k)) ≡ (d == k / 3)
+day-shifts d k = elim (cases_eq d (k / 3)) [
+  | inl same ↦ rw (eq-eqb d (k / 3) same) (elim (cases_eq (3 * d) k) [
+    | inl zeroth ↦ rw (eq-eqb (3 * d) k zeroth) refl
+    | inr a ↦ elim (cases_eq (3 * d + 1) k) [
+      | inl first ↦ rw (ne_eqb (3 * d) k a, eq-eqb (3 * d + 1) k first) refl
+      | inr b ↦ rw (ne_eqb (3 * d) k a, ne_eqb (3 * d + 1) k b, eq-eqb (3 * d + 2) k (omega arith)) refl
+    ]
+  ])
+  | inr other ↦ rw (ne_eqb d (k / 3) other, ne_eqb (3 * d) k (λ e. other (omega arith)), ne_eqb (3 * d + 1) k (λ e. other (omega arith)), ne_eqb (3 * d + 2) k (λ e. other (omega arith))) refl
+]
+
+gather : (g x y z t : Bool) → ((x || y) || z) ≡ t → (((false || (g && x)) || (g && y)) || (g && z)) ≡ (g && t)
+gather true x y z t e = e
+gather false x y z t e = refl
+
+at-shift : (P : Timetable) (r k l n : ℕ) → (is_number (care_of P r l) n && (l == k)) ≡ (is_number (care_of P r k) n && (l == k))
+at-shift P r k l n = elim (cases_eq l k) [
+  | inl same ↦ rw same refl
+  | inr other ↦ rw (ne_eqb l k other) (none (is_number (care_of P r l) n) (is_number (care_of P r k) n))
+]
+  where
+    none : (b c : Bool) → (b && false) ≡ (c && false)
+    none true true = refl
+    none true false = refl
+    none false true = refl
+    none false false = refl
+
+-- a day is its room and its three shifts
+pub day-pieces : (P : Timetable) (r : RoomNo) (d : ℕ) (e : Cell)
+    → (((same_cell (RoomDay r (record { 0 = d })) e || in_shift P r.0 (3 * d) e) || in_shift P r.0 (3 * d + 1) e) || in_shift P r.0 (3 * d + 2) e) ≡ in_day P r.0 d e
+unfolding in_day in_shift same_cell
+day-pieces P r d (RoomDay s f) = or-none _ ∙ (or-none _ ∙ or-none ((r.0 == s.0) && (d == f.0)))
+day-pieces P r d (RoomShift s k) = gather (r.0 == s.0) (3 * d == k.0) (3 * d + 1 == k.0) (3 * d + 2 == k.0) (d == k.0 / 3) (day-shifts d k.0)
+day-pieces P r d (NurseShift n k) =
+    rw (at-shift P r.0 k.0 (3 * d) n.0, at-shift P r.0 k.0 (3 * d + 1) n.0, at-shift P r.0 k.0 (3 * d + 2) n.0)
+    (gather (is_number (care_of P r.0 k.0) n.0) (3 * d == k.0) (3 * d + 1 == k.0) (3 * d + 2 == k.0) (d == k.0 / 3) (day-shifts d k.0))
+day-pieces P r d _ = refl
+
+-- ---- days in a row
+
+span-more : (a b d : ℕ) → a ≤ b → (in_span a b d || (b == d)) ≡ in_span a (b + 1) d
+span-more a b d h = elim (cases_order b d) [
+  | inl same ↦ rw (same, le-leb a d (omega arith), lt-ltb d (d + 1) (omega arith), le-ltb d d (omega arith), eq-eqb d d refl) refl
+  | inr apart ↦ rw (ne_eqb b d (λ e. elim apart [ inl l ↦ omega arith | inr l ↦ omega arith ])) (elim apart [
+    | inl above ↦ rw (le-ltb d (b + 1) (omega arith), le-ltb d b (omega arith)) (or-none (nat_le a d && false))
+    | inr below ↦ rw (lt-ltb d (b + 1) (omega arith), lt-ltb d b (omega arith)) (or-none (nat_le a d && true))
+  ])
+]
+
+share : (g s t u : Bool) → (s || t) ≡ u → ((g && s) || (g && t)) ≡ (g && u)
+share true s t u e = e
+share false s t u e = refl
+
+-- one more day
+pub days-more : (P : Timetable) (r a d : ℕ) → a ≤ d → (e : Cell) → (in_days P r a d e || in_day P r d e) ≡ in_days P r a (d + 1) e
+unfolding in_days in_day
+days-more P r a d h (RoomDay s f) = share (r == s.0) (in_span a d f.0) (d == f.0) (in_span a (d + 1) f.0) (span-more a d f.0 h)
+days-more P r a d h (RoomShift s k) = share (r == s.0) (in_span a d (day_of k.0)) (d == day_of k.0) (in_span a (d + 1) (day_of k.0)) (span-more a d (day_of k.0) h)
+days-more P r a d h (NurseShift n k) =
+    share (is_number (care_of P r k.0) n.0) (in_span a d (day_of k.0)) (d == day_of k.0) (in_span a (d + 1) (day_of k.0)) (span-more a d (day_of k.0) h)
+days-more P r a d h _ = refl
+
+span-none : (a d : ℕ) → in_span a a d ≡ false
+span-none a d = elim (cases_lt d a) [
+  | inl below ↦ rw (lt-leb a d below) refl
+  | inr above ↦ rw (le-ltb d a above) (and_right (nat_le a d) false refl)
+]
+
+-- no day yet
+pub days-none : (P : Timetable) (r a : ℕ) (e : Cell) → in_days P r a a e ≡ false
+unfolding in_days
+days-none P r a (RoomDay s f) = and_right (r == s.0) (in_span a a f.0) (span-none a f.0)
+days-none P r a (RoomShift s k) = and_right (r == s.0) (in_span a a (day_of k.0)) (span-none a (day_of k.0))
+days-none P r a (NurseShift n k) = and_right (is_number (care_of P r k.0) n.0) (in_span a a (day_of k.0)) (span-none a (day_of k.0))
+days-none P r a _ = refl
+
+-- ---- a placement
+
+-- within the horizon the days of a stay are those before its end or the horizon's
+span-covers : (a n days d : ℕ) → d < days → in_span a (min (a + n) days) d ≡ covers a n d
+span-covers a n days d h = elim (cases_lt d (a + n)) [
+  | inl below ↦ rw (lt-ltb d (a + n) below, lt-ltb d (min (a + n) days) (omega arith)) refl
+  | inr past ↦ rw (le-ltb d (a + n) past, le-ltb d (min (a + n) days) (omega arith)) refl
+]
+
+pub placement-pieces : (I : Draft) (P : Timetable) (p : ℕ) (at : Placement) (a : Patient) → slice_get I.patients p ≡ Some a → (person_of I p).length_of_stay ≡ a.length_of_stay
+    → (e : Cell) → IsCellOf I e
+    → ((in_days P at.room.0 at.day.0 (min (at.day.0 + a.length_of_stay) I.days) e || same_cell (TheatreDay at.theatre at.day) e) || same_cell (SurgeonDay a.surgeon_id at.day) e)
+    ≡ in_placement I P p at e
+unfolding in_placement in_days same_cell
+placement-pieces I P p at a known stay (Stay q) range = refl
+placement-pieces I P p at a known stay (RoomDay r d) range = rw (stay, span-covers at.day.0 a.length_of_stay I.days d.0 range.1) (or-none _ ∙ or-none _)
+placement-pieces I P p at a known stay (TheatreDay t d) range = or-none ((at.theatre.0 == t.0) && (at.day.0 == d.0))
+placement-pieces I P p at a known stay (SurgeonDay s d) range = rw known refl
+placement-pieces I P p at a known stay (RoomShift r k) range =
+    let day : day_of k.0 < I.days = (let within = range.1 in omega arith) in
+    rw (stay, span-covers at.day.0 a.length_of_stay I.days (day_of k.0) day) (or-none _ ∙ or-none _)
+placement-pieces I P p at a known stay (NurseShift n k) range =
+    let day : day_of k.0 < I.days = (let within = range.1 in omega arith) in
+    rw (stay, span-covers at.day.0 a.length_of_stay I.days (day_of k.0) day) (or-none _ ∙ or-none _)
+placement-pieces I P p at a known stay (Care x) range = refl
+
+-- a patient's length of stay is that of the person
+pub person-stay : (I : Draft) (p : ℕ) (a : Patient) → p < patient_count I → slice_get I.patients p ≡ Some a → (person_of I p).length_of_stay ≡ a.length_of_stay
+unfolding person_of
+person-stay I p a h e = rw (lt-ltb p (patient_count I) h, e) refl
+
+-- ---- a patient's own cells
+
+own-pieces : (p : PatientNo) (x : PersonNo) → x.0 ≡ p.0 → (e : Cell) → (same_cell (Stay p) e || same_cell (Care x) e) ≡ is_own p.0 e
+unfolding same_cell
+own-pieces p x h (Stay q) = or-none (p.0 == q.0)
+own-pieces p x h (Care y) = ap (λ i. i == y.0) h
+own-pieces p x h _ = refl
+
+-- the footprint of a patient's write is the own cells, those of the placement before and those of the one after
+pub set_stay-pieces : (I : Draft) (P : Timetable) (p : PatientNo) (x : PersonNo) (old new : Option Placement) → x.0 ≡ p.0 → old ≡ stay_of P p.0 → (e : Cell)
+    → (((same_cell (Stay p) e || same_cell (Care x) e) || in_stay I P p.0 old e) || in_stay I P p.0 new e) ≡ write_touches I P (SetStay p new) e
+set_stay-pieces I P p x old new same is e =
+    ap (λ b. (b || in_stay I P p.0 old e) || in_stay I P p.0 new e) (own-pieces p x same e) ∙ ap (λ s. (is_own p.0 e || in_stay I P p.0 s e) || in_stay I P p.0 new e) is
+
+-- ---- the persons present
+
+pub cares-none : (e : Cell) → in_cares [] e ≡ false
+unfolding in_cares
+cares-none (Care x) = refl
+cares-none _ = refl
+
+-- one more person
+cares-more : (xs : List ℕ) (x : PersonNo) (e : Cell) → (in_cares xs e || same_cell (Care x) e) ≡ in_cares (xs ++ x.0 ∷ []) e
+unfolding in_cares same_cell
+cares-more xs x (Care y) = sym (list_any-append (nat_eq y.0) xs (x.0 ∷ []) ∙ ap (λ b. is_listed y.0 xs || b) (or-none (y.0 == x.0) ∙ nat_eq_equiv.symm y.0 x.0))
+cares-more xs x _ = refl
+
+-- the next person of a list
+pub cares-next : (xs : List ℕ) (i : ℕ) (x : PersonNo) → i < length xs → x.0 ≡ slice_index xs i → (e : Cell)
+    → (in_cares (take i xs) e || same_cell (Care x) e) ≡ in_cares (take (i + 1) xs) e
+cares-next xs i x inside is e =
+    cares-more (take i xs) x e ∙ ap (λ ys. in_cares ys e) (ap (λ y. take i xs ++ y ∷ []) is ∙ sym (take_more xs i 0 inside))
+
+-- only persons are present
+present-below : (I : Draft) (P : Timetable) (r d x : ℕ) → is_present I P r d x ≡ true → x < person_count I
+unfolding admission_of
+present-below I P r d x h = elim (cases_lt x (person_count I)) [
+  | inl below ↦ below
+  | inr past ↦
+      let none : slice_get I.occupants (x - patient_count I) ≡ None = slice_get_past I.occupants (x - patient_count I) (omega arith) in
+      let nobody : admission_of I P x ≡ None = rw (le-ltb x (patient_count I) (omega arith), none) refl in
+      absurd (let no : false ≡ true = ap (λ o. is_in o (person_of I x).length_of_stay r d) (sym nobody) ∙ h in cc)
+]
+
+module _ (I : Draft) (P : Timetable) {rooms days : ℕ} {persons : ℕ → ℕ → List ℕ} (present : ArePresent I P rooms days persons) (r d : ℕ) (r_in : r < room_count I) (d_in : d < I.days) where
+  -- who is told is who is present
+  pub told-present : (x : ℕ) → is_listed x (persons r d) ≡ is_present I P r d x
+  told-present x = present.each r d x (rw present.rooms_are r_in) (rw present.days_are d_in)
+
+  -- so each who is told has a cell
+  pub member-in : (i x : ℕ) (z : Sizes) → z ≡ sizes_of I → i < length (persons r d) → x ≡ slice_index (persons r d) i → x < z.patients + z.occupants
+  member-in i x z sizes inside is =
+      let listed = list_any_at (nat_eq x) (persons r d) i 0 inside (eq-eqb x (slice_index (persons r d) i) is) in
+      rw sizes (present-below I P r d x (sym (told-present x) ∙ listed))
+
+-- ---- a choice
+
+both-nurses : (b c t : Bool) → (((b && t) || (c && t)) || false) ≡ (t && (b || c))
+both-nurses true c true = refl
+both-nurses true true false = refl
+both-nurses true false false = refl
+both-nurses false true true = refl
+both-nurses false true false = refl
+both-nurses false false true = refl
+both-nurses false false false = refl
+
+pub choice-pieces : (I : Draft) (P : Timetable) (r k : ℕ) (n : Option ℕ) (xs : List ℕ) → ((x : ℕ) → is_listed x xs ≡ is_present I P r (day_of k) x) → (e : Cell)
+    → ((in_shift P r k e || in_nurse n k e) || in_cares xs e) ≡ in_choice I P r k n e
+unfolding in_choice in_shift in_nurse in_cares
+choice-pieces I P r k n xs h (RoomShift s l) = or-none _ ∙ or-none ((r == s.0) && (k == l.0))
+choice-pieces I P r k n xs h (NurseShift m l) = both-nurses (is_number (care_of P r k) m.0) (is_number n m.0) (k == l.0)
+choice-pieces I P r k n xs h (Care x) = h x.0
+choice-pieces I P r k n xs h _ = refl

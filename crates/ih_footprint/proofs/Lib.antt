@@ -1,0 +1,15 @@
+pub mod FrameStay
+pub mod FrameCare
+pub mod LocalStay
+pub mod LocalCare
+pub mod Locality
+pub mod Ranges
+pub mod Numbers
+pub mod Ranked
+pub mod Parts
+pub mod Prices
+pub mod Rising
+pub mod MarkLemmas
+pub mod GatherLemmas
+pub mod FootLemmas
+pub mod LookLemmas

@@ -1,0 +1,6 @@
+pub mod Gathered
+pub mod Laws
+pub mod Limits
+pub mod Marks
+pub mod Pieces
+pub mod Present

@@ -1,0 +1,223 @@
+//! The footprint of a write, and the cells that a move looks at, gathered into a list of cells.
+
+ghost use Rattle.std.specs.Prelude.{◌≡◌, ◌<◌, ◌≤◌, ℕ, option_map, Some, true};
+ghost use Rattle.ih_tables.specs.declared.cells.Cell.{Cell};
+ghost use Rattle.ih_tables.specs.declared.ids.NurseNo.{NurseNo};
+ghost use Rattle.ih_tables.specs.Sizes.{patient_count, room_count, shift_count, nurse_count, sizes_of};
+ghost use Rattle.ih_plan.specs.Timetable.{IsPlanOf, IsPlacement};
+ghost use Rattle.ih_plan.specs.declared.moves.Placement.{Placement};
+ghost use Rattle.ih_plan.specs.declared.moves.Write.TheVariants.{SetStay, SetCare};
+ghost use Rattle.ih_plan.specs.declared.moves.Move.TheVariants.{SwapRooms, SwapNurses};
+ghost use Rattle.ih_plan.specs.Writes.{IsWriteOf};
+ghost use Rattle.ih_plan.specs.Cells.{IsCellIn};
+ghost use Rattle.ih_plan.specs.Presence.{day_of};
+ghost use Rattle.ih_plan.specs.Footprint.{write_touches, in_placement, in_stay, in_choice, looks_at, is_own};
+ghost use Rattle.ih_footprint.specs.Gathered.{Gathers};
+ghost use Rattle.ih_footprint.specs.Pieces.{in_shift, in_day, in_days, in_nurse, in_cares};
+ghost use Rattle.ih_footprint.specs.Present.{ArePresent};
+
+use crate::cell_lists::CellList;
+use crate::members::Members;
+use ih_plan::{Move, Placement, Plan, Write};
+use ih_tables::{Cell, Day, Instance, NurseNo, PatientNo, PersonNo, RoomNo, Shift};
+
+// A room in a shift, and the shift of its nurse.
+fn add_shift(inst: &Instance, plan: &Plan, r: RoomNo, k: Shift, out: &mut CellList)
+    requires plan { IsPlanOf inst.now.draft plan.now }
+    requires room { r.0 < room_count inst.now.draft }
+    requires shift { k.0 < shift_count inst.now.draft }
+    requires sizes { out.old.sizes ≡ sizes_of inst.now.draft }
+    ensures { Gathers out.old out.new (in_shift plan.now r.0 k.0) }
+{
+    out.add_cell(Cell::RoomShift(r, k));
+    match plan.care(r, k) {
+        Some(n) => out.add_cell(Cell::NurseShift(n, k)),
+        None => {}
+    }
+}
+
+// A room on a day and in its shifts, and the shifts of its nurses.
+fn add_day(inst: &Instance, plan: &Plan, r: RoomNo, d: u32, out: &mut CellList)
+    requires plan { IsPlanOf inst.now.draft plan.now }
+    requires room { r.0 < room_count inst.now.draft }
+    requires day { d < inst.now.draft.days }
+    requires days { inst.now.draft.days ≤ 56 }
+    requires sizes { out.old.sizes ≡ sizes_of inst.now.draft }
+    ensures { Gathers out.old out.new (in_day plan.now r.0 d) }
+{
+    out.add_cell(Cell::RoomDay(r, Day(d)));
+    add_shift(inst, plan, r, Shift(3 * d), out);
+    add_shift(inst, plan, r, Shift(3 * d + 1), out);
+    add_shift(inst, plan, r, Shift(3 * d + 2), out);
+}
+
+// The same of the days from `from` on and before `to`.
+fn add_days(inst: &Instance, plan: &Plan, r: RoomNo, from: u32, to: u32, out: &mut CellList)
+    requires plan { IsPlanOf inst.now.draft plan.now }
+    requires room { r.0 < room_count inst.now.draft }
+    requires order { from ≤ to }
+    requires day { to ≤ inst.now.draft.days }
+    requires days { inst.now.draft.days ≤ 56 }
+    requires sizes { out.old.sizes ≡ sizes_of inst.now.draft }
+    ensures { Gathers out.old out.new (in_days plan.now r.0 from to) }
+{
+    for d in from..to {
+        add_day(inst, plan, r, d, out);
+    }
+}
+
+// The cells of a patient's placement.
+fn add_placement(inst: &Instance, plan: &Plan, p: PatientNo, at: Placement, out: &mut CellList)
+    requires plan { IsPlanOf inst.now.draft plan.now }
+    requires patient { p.0 < patient_count inst.now.draft }
+    requires placement { IsPlacement inst.now.draft at }
+    requires sizes { out.old.sizes ≡ sizes_of inst.now.draft }
+    ensures { Gathers out.old out.new (in_placement inst.now.draft plan.now p.0 at) }
+{
+    let patient = inst.patient(p);
+    let end = (at.day.0 + patient.length_of_stay).min(inst.days());
+    add_days(inst, plan, at.room, at.day.0, end, out);
+    out.add_cell(Cell::TheatreDay(at.theatre, at.day));
+    out.add_cell(Cell::SurgeonDay(patient.surgeon_id, at.day));
+}
+
+// The cells of a patient's placement, where there is one.
+fn add_stay(inst: &Instance, plan: &Plan, p: PatientNo, stay: Option<Placement>, out: &mut CellList)
+    requires plan { IsPlanOf inst.now.draft plan.now }
+    requires patient { p.0 < patient_count inst.now.draft }
+    requires placement { (at : Placement) → stay ≡ Some at → IsPlacement inst.now.draft at }
+    requires sizes { out.old.sizes ≡ sizes_of inst.now.draft }
+    ensures { Gathers out.old out.new (in_stay inst.now.draft plan.now p.0 stay) }
+{
+    match stay {
+        Some(at) => add_placement(inst, plan, p, at, out),
+        None => {}
+    }
+}
+
+// The nurses of all who are in a room on a day.
+fn add_cares<M: Members>(
+    inst: &Instance,
+    plan: &Plan,
+    members: &M,
+    r: RoomNo,
+    d: Day,
+    out: &mut CellList,
+)
+    requires members { ArePresent inst.now.draft plan.now (M.rooms members.now) (M.days members.now) (M.persons members.now) }
+    requires room { r.0 < room_count inst.now.draft }
+    requires day { d.0 < inst.now.draft.days }
+    requires sizes { out.old.sizes ≡ sizes_of inst.now.draft }
+    ensures { Gathers out.old out.new (in_cares (M.persons members.now r.0 d.0)) }
+{
+    for i in 0..members.count(r, d) {
+        out.add_cell(Cell::Care(members.member(r, d, i)));
+    }
+}
+
+fn add_nurse(inst: &Instance, n: Option<NurseNo>, k: Shift, out: &mut CellList)
+    requires nurse { (m : NurseNo) → n ≡ Some m → m.0 < nurse_count inst.now.draft }
+    requires shift { k.0 < shift_count inst.now.draft }
+    requires sizes { out.old.sizes ≡ sizes_of inst.now.draft }
+    ensures { Gathers out.old out.new (in_nurse (option_map (λ (m : NurseNo). m.0) n) k.0) }
+{
+    match n {
+        Some(m) => out.add_cell(Cell::NurseShift(m, k)),
+        None => {}
+    }
+}
+
+// The cells of a patient's own, and of the placements before and after.
+fn add_set_stay(
+    inst: &Instance,
+    plan: &Plan,
+    p: PatientNo,
+    new: Option<Placement>,
+    out: &mut CellList,
+)
+    requires plan { IsPlanOf inst.now.draft plan.now }
+    requires write { IsWriteOf inst.now.draft (SetStay p new) }
+    requires sizes { out.old.sizes ≡ sizes_of inst.now.draft }
+    ensures { Gathers out.old out.new (write_touches inst.now.draft plan.now (SetStay p new)) }
+{
+    out.add_cell(Cell::Stay(p));
+    out.add_cell(Cell::Care(PersonNo(p.0)));
+    add_stay(inst, plan, p, plan.stay(p), out);
+    add_stay(inst, plan, p, new, out);
+}
+
+// The cells of a room's nurse in a shift, before and after.
+fn add_set_care<M: Members>(
+    inst: &Instance,
+    plan: &Plan,
+    members: &M,
+    r: RoomNo,
+    k: Shift,
+    new: Option<NurseNo>,
+    out: &mut CellList,
+)
+    requires plan { IsPlanOf inst.now.draft plan.now }
+    requires write { IsWriteOf inst.now.draft (SetCare r k new) }
+    requires members { ArePresent inst.now.draft plan.now (M.rooms members.now) (M.days members.now) (M.persons members.now) }
+    requires sizes { out.old.sizes ≡ sizes_of inst.now.draft }
+    ensures { Gathers out.old out.new (write_touches inst.now.draft plan.now (SetCare r k new)) }
+{
+    add_shift(inst, plan, r, k, out);
+    add_nurse(inst, new, k, out);
+    add_cares(inst, plan, members, r, Day(k.0 / 3), out);
+}
+
+/// Adds the footprint of a write at a timetable, whose present persons the members tell.
+pub fn foot<M: Members>(inst: &Instance, plan: &Plan, members: &M, w: &Write, out: &mut CellList)
+    requires plan { IsPlanOf inst.now.draft plan.now }
+    requires write { IsWriteOf inst.now.draft w.now }
+    requires members { ArePresent inst.now.draft plan.now (M.rooms members.now) (M.days members.now) (M.persons members.now) }
+    requires sizes { out.old.sizes ≡ sizes_of inst.now.draft }
+    ensures { Gathers out.old out.new (write_touches inst.now.draft plan.now w.now) }
+{
+    match *w {
+        Write::SetStay(p, new) => add_set_stay(inst, plan, p, new, out),
+        Write::SetCare(r, k, new) => add_set_care(inst, plan, members, r, k, new, out),
+    }
+}
+
+// The stays of two patients, where they are two.
+fn add_stays(p: PatientNo, q: PatientNo, out: &mut CellList)
+    requires { (c : Cell) → looks_at (SwapRooms p q) c ≡ true → IsCellIn out.old.sizes c }
+    ensures { Gathers out.old out.new (looks_at (SwapRooms p q)) }
+{
+    if p.0 != q.0 {
+        out.add_cell(Cell::Stay(p));
+        out.add_cell(Cell::Stay(q));
+    }
+}
+
+// Two rooms in a shift, where they are two.
+fn add_room_shifts(k: Shift, a: RoomNo, b: RoomNo, out: &mut CellList)
+    requires { (c : Cell) → looks_at (SwapNurses k a b) c ≡ true → IsCellIn out.old.sizes c }
+    ensures { Gathers out.old out.new (looks_at (SwapNurses k a b)) }
+{
+    if a.0 != b.0 {
+        out.add_cell(Cell::RoomShift(a, k));
+        out.add_cell(Cell::RoomShift(b, k));
+    }
+}
+
+/// Adds the cells that the writes of a move are chosen by.
+pub fn looks(mv: &Move, out: &mut CellList)
+    requires { (c : Cell) → looks_at mv.now c ≡ true → IsCellIn out.old.sizes c }
+    ensures { Gathers out.old out.new (looks_at mv.now) }
+{
+    match *mv {
+        Move::Withdraw(p) => out.add_cell(Cell::Stay(p)),
+        Move::SetDay(p, _) => out.add_cell(Cell::Stay(p)),
+        Move::SetRoom(p, _) => out.add_cell(Cell::Stay(p)),
+        Move::SetTheatre(p, _) => out.add_cell(Cell::Stay(p)),
+        Move::SwapRooms(p, q) => add_stays(p, q, out),
+        Move::SwapNurses(k, a, b) => add_room_shifts(k, a, b, out),
+        Move::Idle => {}
+        Move::Place(_, _) => {}
+        Move::Nurse(_, _, _) => {}
+        Move::NurseRun(_, _, _, _) => {}
+    }
+}

@@ -1,0 +1,19 @@
+//! The numbers of cells, the footprints of writes and moves, and the laws that tie contents, footprints and bills.
+#![tactic(auto)]
+
+mod cell_lists;
+mod footprints;
+mod laws;
+mod members;
+mod numbering;
+#[cfg(test)]
+mod tests;
+
+pub use cell_lists::CellList;
+pub use footprints::{foot, looks};
+pub use laws::{
+    bills_have_parts, moves_are_local, moves_keep_the_rest, writes_are_local,
+    writes_in_a_row_are_local, writes_in_a_row_keep_the_rest, writes_keep_the_rest,
+};
+pub use members::Members;
+pub use numbering::Numbering;
