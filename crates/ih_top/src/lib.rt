@@ -4,8 +4,6 @@
 mod answer;
 mod checking;
 mod commands;
-#[cfg(test)]
-mod examples;
 mod files;
 mod history;
 mod inputs;
@@ -14,11 +12,7 @@ mod running;
 mod search;
 mod solving;
 mod status;
-#[cfg(test)]
-mod tests;
 mod texts;
-#[cfg(test)]
-mod trials;
 
 pub use files::MAX_FILE;
 pub use running::run;

@@ -1,0 +1,8 @@
+//! Whole calls of the program over files in memory, and the files and texts of the worked examples.
+#![tactic(auto)]
+
+pub mod examples;
+#[cfg(test)]
+mod tests;
+#[cfg(test)]
+mod trials;
