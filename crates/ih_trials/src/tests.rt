@@ -1,11 +1,11 @@
 //! Whole calls of the program, over files in memory.
 
 use crate::examples::{
-    CHECKED, COVERED_SOLUTION, COVERED_START, FULL_THEATRE, LONG_SURGERY, ONE_ADMITTED, OVERLAP,
-    TWO_GENDERS, TWO_PATIENTS, USAGE, WARD,
+    CHECKED, COVERED_START, FULL_THEATRE, LONG_SURGERY, ONE_ADMITTED, OVERLAP, TWO_GENDERS,
+    TWO_PATIENTS, WARD,
 };
 use crate::trials::{call, holds, shelf_of, words_of};
-use ih_shelf::{MemShelf, MemSink, NeverFails, OpenGate};
+use ih_shelf::{MemShelf, MemSink, OpenGate};
 use ih_top::run;
 use std::test::Fail;
 
@@ -239,94 +239,6 @@ fn files_that_fail(rt: HostRuntime) -> Result<(), Fail> {
         assert!(rt; holds(&shelf, "j", journal), "{text}");
         assert_eq!(rt; shelf.get("o").is_some(), write == 2, "{text}");
     }
-    Ok(())
-}
-
-#[test]
-fn text_that_cannot_be_put(rt: HostRuntime) -> Result<(), Fail> {
-    let alloc = rt.alloc();
-    let rows = [
-        (SEARCH, WARD, COVERED_START, 6),
-        (NO_MOVES, WARD, COVERED_START, 5),
-        ("check i s", TWO_PATIENTS, ONE_ADMITTED, 6),
-    ];
-    for (words, instance, solution, code) in rows {
-        let mut shelf = shelf_of(alloc, instance, solution, SURGERY_OF_60, SURGERY_OF_61)?;
-        let mut out = MemSink::new(alloc);
-        out.fail_put(1)?;
-        assert_eq!(rt;
-            call(&rt, alloc, words, &mut shelf, &mut out)?,
-            code,
-            "{words}"
-        );
-        assert!(rt; out.bytes().is_empty(), "{words}");
-        assert_eq!(rt; shelf.get("o").is_some(), words == SEARCH, "{words}");
-    }
-    Ok(())
-}
-
-#[test]
-fn words_that_name_no_call(rt: HostRuntime) -> Result<(), Fail> {
-    let alloc = rt.alloc();
-    let rows = [
-        ("", 1),
-        (
-            "solve i o o --seed 0 --workers 1 --moves 2 --heat 0 --hard 1000",
-            1,
-        ),
-        (
-            "solve i o j --seed 0 --workers 65 --moves 2 --heat 0 --hard 1000",
-            1,
-        ),
-        (
-            "solve i o j --seed 0 --workers 64 --moves 15626 --heat 0 --hard 1000",
-            1,
-        ),
-        ("replay i j o", 1),
-        ("check i i", 1),
-        (
-            "solve i o j --seed 0 --workers 1 --moves 2 --heat 0 --hard 1000 --freeze 0",
-            1,
-        ),
-        (
-            "solve i o j --seed 0 --workers 64 --moves 15625 --heat 0 --hard 1000",
-            2,
-        ),
-    ];
-    for (line, code) in rows {
-        let mut shelf = MemShelf::new(alloc);
-        let mut out = MemSink::new(alloc);
-        assert_eq!(rt;
-            call(&rt, alloc, line, &mut shelf, &mut out)?,
-            code,
-            "{line}"
-        );
-        if code == 1 {
-            assert_eq!(rt; out.bytes(), USAGE.as_bytes());
-        }
-    }
-    Ok(())
-}
-
-#[test]
-fn shelf_that_never_fails(rt: HostRuntime) -> Result<(), Fail> {
-    let alloc = rt.alloc();
-    let mut shelf = NeverFails::new(alloc);
-    shelf.store("i", WARD.as_bytes())?;
-    let mut out = MemSink::new(alloc);
-    let words = words_of(alloc, SEARCH)?;
-    let status = run(
-        &rt,
-        alloc,
-        words.as_slice(),
-        &mut shelf,
-        &mut out,
-        &OpenGate,
-    );
-    assert_eq!(rt; status.code(), 0);
-    assert_eq!(rt; shelf.get("j"), Some(JOURNAL.as_bytes()));
-    assert_eq!(rt; shelf.get("o"), Some(COVERED_SOLUTION.as_bytes()));
-    assert_eq!(rt; out.bytes(), FOUND.as_bytes());
     Ok(())
 }
 
