@@ -20,13 +20,14 @@ use Rattle.ih_plan.specs.declared.moves.Placement.{Placement}
 use Rattle.ih_plan.specs.declared.moves.Write.TheVariants.{SetStay}
 use Rattle.ih_plan.specs.Timetable.{Timetable, IsPlanOf, care_of, choice_of, stay_of}
 use Rattle.ih_plan.specs.Persons.{person_of}
-use Rattle.ih_plan.specs.Presence.{admission_of, is_in, is_present, day_of, covers}
+use Rattle.ih_plan.specs.Presence.{admission_of, is_in, is_present, day_of, covers, in_span}
 use Rattle.ih_plan.specs.Costs.{is_number}
 use Rattle.ih_plan.specs.Cells.{IsCellIn, IsCellOf}
 use Rattle.ih_plan.specs.Footprint.{in_placement, in_stay, in_choice, is_own, write_touches}
-use Rattle.ih_footprint.specs.Gathered.{same_cell, is_listed}
-use Rattle.ih_footprint.specs.Pieces.{in_shift, in_day, in_days, in_span, in_nurse, in_cares}
-use Rattle.ih_footprint.specs.Present.{ArePresent}
+use Rattle.ih_footprint.specs.Gathered.{same_cell}
+use Rattle.ih_footprint.specs.Pieces.{in_shift, in_day, in_days, in_nurse, in_cares}
+use Rattle.ih_plan.specs.Present.{ArePresent}
+use Rattle.ih_plan.specs.Sums.{is_listed}
 use Rattle.ih_footprint.proofs.GatherLemmas.{or-none}
 
 -- ---- a room in a shift

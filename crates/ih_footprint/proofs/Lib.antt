@@ -3,10 +3,7 @@ pub mod FrameCare
 pub mod LocalStay
 pub mod LocalCare
 pub mod Locality
-pub mod Ranges
-pub mod Numbers
 pub mod Ranked
-pub mod Parts
 pub mod Prices
 pub mod Rising
 pub mod MarkLemmas

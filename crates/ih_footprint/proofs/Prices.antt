@@ -25,25 +25,25 @@ use Rattle.ih_plan.proofs.Lists.{has, which_below-same}
 use Rattle.ih_plan.proofs.PlanRanges.{has-range}
 use Rattle.ih_footprint.proofs.Locality.{local_move, frame_move}
 use Rattle.ih_footprint.proofs.Ranked.{cell_in-in}
-use Rattle.ih_footprint.proofs.Parts.{total, has_parts}
+use Rattle.ih_plan.proofs.Parts.{total, has_parts}
 
 difference-same : (a b c d : ℕ) → a + d ≡ b + c → pos a -ℤ pos b ≡ pos c -ℤ pos d
 difference-same a b c d e = omega (arith, ints)
 
-map-same : {A : Type 0} (f g : ℕ → A) (xs : List ℕ) → ((i : ℕ) → has i xs ≡ true → f i ≡ g i) → map f xs ≡ map g xs
+pub map-same : {A : Type 0} (f g : ℕ → A) (xs : List ℕ) → ((i : ℕ) → has i xs ≡ true → f i ≡ g i) → map f xs ≡ map g xs
 map-same f g [] e = refl
 map-same f g (x ∷ xs) e =
     let first : f x ≡ g x = e x (or_left _ (has x xs) (eq-eqb x x refl)) in
     let rest = map-same f g xs (λ i h. e i (or_right _ (has i xs) h)) in
     cc
 
-at-listed : (m : ℕ) (f : ℕ → ℕ) (k : ℕ) → k < m → at (map pos (listed m f)) k ≡ pos (f k)
+pub at-listed : (m : ℕ) (f : ℕ → ℕ) (k : ℕ) → k < m → at (map pos (listed m f)) k ≡ pos (f k)
 at-listed m f k h =
     let inside : k < length (listed m f) = rw (length-map-range_with_len f 0 m) h in
     get_or-map pos (listed m f) k 0 (pos 0) inside ∙ ap pos (get_or-map-range_with_len f 0 m k k 0 h (omega arith))
 
 -- lists of differences, number by number
-differences-same : (m : ℕ) (a b c d : ℕ → ℕ) → ((k : ℕ) → a k + d k ≡ b k + c k)
+pub differences-same : (m : ℕ) (a b c d : ℕ → ℕ) → ((k : ℕ) → a k + d k ≡ b k + c k)
     → by_place m (λ k. at (map pos (listed m a)) k -ℤ at (map pos (listed m b)) k) ≡ by_place m (λ k. at (map pos (listed m c)) k -ℤ at (map pos (listed m d)) k)
 differences-same m a b c d e =
     map-same (λ k. at (map pos (listed m a)) k -ℤ at (map pos (listed m b)) k) (λ k. at (map pos (listed m c)) k -ℤ at (map pos (listed m d)) k) (range_with_len 0 m)

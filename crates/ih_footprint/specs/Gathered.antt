@@ -1,20 +1,15 @@
 -- A list in which the numbers of cells are gathered.
-use Rattle.std.specs.Prelude.{◌≡◌, ℕ, ◌==◌, ◌&&◌, ◌||◌, Bool, false, nat_eq, List}
-use Rattle.std.specs.List.{list_any}
+use Rattle.std.specs.Prelude.{◌≡◌, ℕ, ◌==◌, ◌&&◌, ◌||◌, Bool, false, List}
 use Rattle.ih_tables.specs.declared.cells.Cell.{Cell}
 use Rattle.ih_tables.specs.declared.cells.Cell.TheVariants.{Stay, RoomDay, TheatreDay, SurgeonDay, RoomShift, NurseShift, Care}
 use Rattle.ih_tables.specs.Sizes.{Sizes}
 use Rattle.ih_plan.specs.Cells.{number_in, count_in, IsCellIn}
-use Rattle.ih_plan.specs.Sums.{which_below}
+use Rattle.ih_plan.specs.Sums.{which_below, is_listed}
 
 -- The numbers of cells that were gathered, and the sizes by which the cells are numbered.
 pub record Gathered : Type 0 where
   pub sizes : Sizes
   pub cells : List ℕ
-
--- n is in the list
-abbrev pub is_listed : ℕ → List ℕ → Bool
-is_listed n xs = list_any (nat_eq n) xs
 
 -- the cell is in the list
 abbrev pub holds : Gathered → Cell → Bool

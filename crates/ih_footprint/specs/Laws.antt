@@ -1,4 +1,4 @@
--- The laws of footprints, and of the parts of the bill.
+-- The laws of footprints.
 use Rattle.std.specs.Prelude.{◌≡◌, Bool, true, false, List}
 use Rattle.ih_tables.specs.declared.drafts.Draft.{Draft}
 use Rattle.ih_tables.specs.declared.cells.Cell.{Cell}
@@ -8,7 +8,7 @@ use Rattle.ih_plan.specs.Timetable.{Timetable, IsPlanOf}
 use Rattle.ih_plan.specs.Writes.{put, put_all, IsWriteOf, AreWritesOf}
 use Rattle.ih_plan.specs.Expand.{expand, after, IsMoveOf}
 use Rattle.ih_plan.specs.BillOf.{change_of_bill}
-use Rattle.ih_plan.specs.Cells.{IsCellOf, content_of, HasParts}
+use Rattle.ih_plan.specs.Cells.{IsCellOf, content_of}
 use Rattle.ih_plan.specs.Footprint.{write_touches, writes_touch, touches, footprint}
 
 -- ---- what is outside a footprint stays
@@ -64,9 +64,3 @@ pub record IsLocal (I : Draft) (P Q : Timetable) (m : Move) : Type 0 where
 -- So it is where both have the same contents on the move's footprint.
 abbrev pub MovesAreLocal : Draft → Type 0
 MovesAreLocal I = (P Q : Timetable) (m : Move) → IsPlanOf I P → IsPlanOf I Q → IsMoveOf I m → AreSameOn I (touches I P m) P Q → IsLocal I P Q m
-
--- ---- parts
-
--- Each timetable's bill is the sum of the parts of all its cells.
-abbrev pub BillsHaveParts : Draft → Type 0
-BillsHaveParts I = (P : Timetable) → HasParts I P

@@ -3,4 +3,3 @@ pub mod Laws
 pub mod Limits
 pub mod Marks
 pub mod Pieces
-pub mod Present

@@ -1,7 +1,7 @@
 -- How marks tell which cells are in a list: those that bear the mark of the present.
 use Rattle.std.specs.Prelude.{◌≡◌, ℕ, ◌^◌, ◌<◌, ◌≤◌, ◌==◌, true, nat_eq, List, length, take, slice_index}
 use Rattle.std.specs.List.{IsDistinct}
-use Rattle.ih_footprint.specs.Gathered.{is_listed}
+use Rattle.ih_plan.specs.Sums.{is_listed}
 
 -- Of the numbers below n the first len in the room are listed, each once; they bear the present mark, and no mark is later.
 pub record AreMarked (n : ℕ) (marks : List ℕ) (present : ℕ) (room : List ℕ) (len : ℕ) : Type 0 where

@@ -1,11 +1,11 @@
 -- The cells of a footprint, piece by piece.
-use Rattle.std.specs.Prelude.{ℕ, ◌==◌, ◌&&◌, Bool, false, nat_le, nat_lt, List, Option}
+use Rattle.std.specs.Prelude.{ℕ, ◌==◌, ◌&&◌, Bool, false, List, Option}
 use Rattle.ih_tables.specs.declared.cells.Cell.{Cell}
 use Rattle.ih_tables.specs.declared.cells.Cell.TheVariants.{RoomDay, RoomShift, NurseShift, Care}
 use Rattle.ih_plan.specs.Timetable.{Timetable, care_of}
-use Rattle.ih_plan.specs.Presence.{day_of}
+use Rattle.ih_plan.specs.Presence.{day_of, in_span}
 use Rattle.ih_plan.specs.Costs.{is_number}
-use Rattle.ih_footprint.specs.Gathered.{is_listed}
+use Rattle.ih_plan.specs.Sums.{is_listed}
 
 -- room r in shift k, and the shift of its nurse
 unfoldable pub in_shift : Timetable → ℕ → ℕ → Cell → Bool
@@ -19,10 +19,6 @@ in_day P r d (RoomDay s e) = (r == s.0) && (d == e.0)
 in_day P r d (RoomShift s k) = (r == s.0) && (d == day_of k.0)
 in_day P r d (NurseShift n k) = is_number (care_of P r k.0) n.0 && (d == day_of k.0)
 in_day P r d c = false
-
--- from day a on and before day b
-abbrev pub in_span : ℕ → ℕ → ℕ → Bool
-in_span a b d = nat_le a d && nat_lt d b
 
 -- the same of the days from a on and before b
 unfoldable pub in_days : Timetable → ℕ → ℕ → ℕ → Cell → Bool

@@ -14,11 +14,10 @@ ghost use Rattle.ih_plan.specs.Presence.{day_of};
 ghost use Rattle.ih_plan.specs.Footprint.{write_touches, in_placement, in_stay, in_choice, looks_at, is_own};
 ghost use Rattle.ih_footprint.specs.Gathered.{Gathers};
 ghost use Rattle.ih_footprint.specs.Pieces.{in_shift, in_day, in_days, in_nurse, in_cares};
-ghost use Rattle.ih_footprint.specs.Present.{ArePresent};
+ghost use Rattle.ih_plan.specs.Present.{ArePresent};
 
 use crate::cell_lists::CellList;
-use crate::members::Members;
-use ih_plan::{Move, Placement, Plan, Write};
+use ih_plan::{Members, Move, Placement, Plan, Write};
 use ih_tables::{Cell, Day, Instance, NurseNo, PatientNo, PersonNo, RoomNo, Shift};
 
 // A room in a shift, and the shift of its nurse.

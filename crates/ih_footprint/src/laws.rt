@@ -1,7 +1,7 @@
-//! The laws, each on a function that does nothing: what is outside a footprint stays, what is done rests on the
-//! footprint's contents alone, and a bill is the sum of its parts.
+//! The laws, each on a function that does nothing: what is outside a footprint stays, and what is done rests on the
+//! footprint's contents alone.
 
-ghost use Rattle.ih_footprint.specs.Laws.{WritesKeepTheRest, WritesInARowKeepTheRest, MovesKeepTheRest, WritesAreLocal, WritesInARowAreLocal, MovesAreLocal, BillsHaveParts};
+ghost use Rattle.ih_footprint.specs.Laws.{WritesKeepTheRest, WritesInARowKeepTheRest, MovesKeepTheRest, WritesAreLocal, WritesInARowAreLocal, MovesAreLocal};
 
 use ih_tables::Instance;
 
@@ -33,9 +33,4 @@ pub fn writes_in_a_row_are_local(_inst: &Instance)
 /// What a move writes, touches, leaves and costs rests on the contents of its footprint alone.
 pub fn moves_are_local(_inst: &Instance)
     ensures { MovesAreLocal _inst.now.draft }
-{}
-
-/// A bill is the sum of the parts of all cells' contents.
-pub fn bills_have_parts(_inst: &Instance)
-    ensures { BillsHaveParts _inst.now.draft }
 {}

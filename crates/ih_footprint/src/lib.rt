@@ -4,7 +4,6 @@
 mod cell_lists;
 mod footprints;
 mod laws;
-mod members;
 mod numbering;
 #[cfg(test)]
 mod tests;
@@ -12,8 +11,7 @@ mod tests;
 pub use cell_lists::CellList;
 pub use footprints::{foot, looks};
 pub use laws::{
-    bills_have_parts, moves_are_local, moves_keep_the_rest, writes_are_local,
-    writes_in_a_row_are_local, writes_in_a_row_keep_the_rest, writes_keep_the_rest,
+    moves_are_local, moves_keep_the_rest, writes_are_local, writes_in_a_row_are_local,
+    writes_in_a_row_keep_the_rest, writes_keep_the_rest,
 };
-pub use members::Members;
 pub use numbering::Numbering;

@@ -1,14 +1,16 @@
 pub mod Base
 pub mod BillBounds
-pub mod ContentLemmas
 pub mod Entries
 pub mod FilledExample
 pub mod ListSteps
 pub mod Lists
+pub mod Numbers
+pub mod Parts
 pub mod Loads
 pub mod Overtime
 pub mod PlanRanges
 pub mod Prices
+pub mod Ranges
 pub mod Rows
 pub mod SumBounds
 pub mod SumLemmas

@@ -37,6 +37,10 @@ admission_of I P x =
 abbrev pub covers : ℕ → ℕ → ℕ → Bool
 covers a n d = nat_le a d && nat_lt d (a + n)
 
+-- day d is from day a on and before day b
+abbrev pub in_span : ℕ → ℕ → ℕ → Bool
+in_span a b d = nat_le a d && nat_lt d b
+
 -- a person who stays n days is in room r on day d
 abbrev pub is_in : Option Admission → ℕ → ℕ → ℕ → Bool
 is_in None n r d = false

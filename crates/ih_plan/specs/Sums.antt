@@ -1,6 +1,6 @@
 -- Sums, counts and lists over the numbers below n.
-use Rattle.std.specs.List.{range_with_len}
-use Rattle.std.specs.Prelude.{ℕ, map, zero, suc, ◌+◌, Bool, true, false, ◌||◌, List, [], ◌∷◌, ◌++◌, max, min, if◌then◌else◌}
+use Rattle.std.specs.List.{list_any, range_with_len}
+use Rattle.std.specs.Prelude.{ℕ, map, zero, suc, ◌+◌, nat_eq, Bool, true, false, ◌||◌, List, [], ◌∷◌, ◌++◌, max, min, if◌then◌else◌}
 
 -- f 0 + .. + f (n - 1)
 unfoldable pub sum_below : ℕ → (ℕ → ℕ) → ℕ
@@ -25,6 +25,10 @@ any_below (suc n) p = any_below n p || p n
 unfoldable pub which_below : ℕ → (ℕ → Bool) → List ℕ
 which_below zero p = []
 which_below (suc n) p = if p n then which_below n p ++ n ∷ [] else which_below n p
+
+-- n is in the list
+abbrev pub is_listed : ℕ → List ℕ → Bool
+is_listed n xs = list_any (nat_eq n) xs
 
 -- the greatest number of a list, and 0 of an empty one
 unfoldable pub greatest : List ℕ → ℕ

@@ -1,8 +1,9 @@
-//! The plain bill of a timetable, number by number, and the report on it.
+//! The plain bill of a timetable, number by number, the law of its parts, and the report on it.
 #![tactic(auto)]
 
 mod bills;
 mod days;
+mod laws;
 mod loads;
 mod marks;
 mod nurses;
@@ -20,4 +21,6 @@ mod tests;
 mod theatres;
 
 pub use bills::bill;
+pub use laws::bills_have_parts;
+pub use patients::{delay, in_bad_room, outside_window};
 pub use reports::report;

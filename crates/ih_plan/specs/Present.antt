@@ -5,7 +5,7 @@ use Rattle.ih_tables.specs.declared.drafts.Draft.{Draft}
 use Rattle.ih_tables.specs.Sizes.{room_count}
 use Rattle.ih_plan.specs.Timetable.{Timetable}
 use Rattle.ih_plan.specs.Presence.{is_present}
-use Rattle.ih_footprint.specs.Gathered.{is_listed}
+use Rattle.ih_plan.specs.Sums.{is_listed}
 
 -- For each room and day of the instance these are the persons who are present at the timetable, each once, in any order.
 pub record ArePresent (I : Draft) (P : Timetable) (rooms days : ℕ) (persons : ℕ → ℕ → List ℕ) : Type 0 where

@@ -12,7 +12,7 @@ use Rattle.ih_plan.specs.BillOf.{bill_of, gender_mixes, bad_rooms, surgeon_overt
 use Rattle.ih_plan.specs.Cells.{cell_at, cell_count, content_of, part_of, part_at, HasParts}
 use Rattle.ih_plan.proofs.SumLemmas.{sum_below-same}
 use Rattle.ih_plan.proofs.SumBounds.{sum_below-none}
-use Rattle.ih_footprint.proofs.Numbers.{sum_by_kind, stay_cell, room_day_cell, theatre_day_cell, surgeon_day_cell, room_shift_cell, nurse_shift_cell, care_cell}
+use Rattle.ih_plan.proofs.Numbers.{sum_by_kind, stay_cell, room_day_cell, theatre_day_cell, surgeon_day_cell, room_shift_cell, nurse_shift_cell, care_cell}
 use Rattle.ih_plan.proofs.Lists.{tagged-keys, tagged-values, tagged-both}
 
 is_empty-tagged : {A : Type 0} (f : ℕ → A) (xs : List ℕ) → is_empty (tagged f xs) ≡ is_empty xs

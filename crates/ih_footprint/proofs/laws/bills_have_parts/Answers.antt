@@ -1,5 +1,0 @@
-use Rattle.ih_footprint.proofs.Parts.{has_parts}
-use Rattle.ih_footprint.proofs.laws.bills_have_parts.Goals as goal
-
-pub returns : goal.returns
-returns c = has_parts c.args._inst.now.draft
