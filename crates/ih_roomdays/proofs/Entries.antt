@@ -1,0 +1,110 @@
+-- A person comes into a room, day by day.
+use Rattle.std.proofs.Common.{◌≡◌, ℕ, ◌+◌, ◌*◌, ◌%◌, ◌<◌, ◌≤◌, refl, sym, ap, subst, ◌∙◌, Bool, true, false, List, [], ◌∷◌, ◌++◌, length, mul_comm, inl, inr}
+use Rattle.std.specs.Prelude.{◌||◌, ◌&&◌, ◌==◌, slice_index_or, slice_set}
+use Rattle.std.proofs.lemmas.Bool.{cases_eq, eq-eqb, ne_eqb, eqb-true, or_cases}
+use Rattle.std.proofs.lemmas.List.{get_or-set_same, get_or-set_other, length-set}
+use Rattle.std.proofs.lemmas.Nat.{mod-mul-add, mul-add-lt, same_from_place}
+use Rattle.ih_links.specs.Lists.{Linked, has, IsOnce}
+use Rattle.ih_links.proofs.Members.{has-append, once-append}
+use Rattle.ih_roomdays.specs.declared.rows.Rows.{Rows}
+use Rattle.ih_roomdays.specs.Rows.{AreRows, IsEntered, nodes_at, is_at}
+use Rattle.ih_roomdays.proofs.Nodes.{or-false, and-false, same-node, span-none, span-past, span-more}
+use Rattle.ih_plan.specs.Presence.{in_span}
+
+-- before the first day nothing is changed
+pub entered-begin : (v : Rows) (room x a : ℕ) → AreRows v → IsEntered v v room x a a
+entered-begin v room x a rows = record {
+  rows = rows;
+  rooms = refl;
+  days = refl;
+  persons = refl;
+  each = λ r d y below. rw (span-none a d, and-false (y == x), and-false (room == r), or-false (is_at v r d y)) refl;
+}
+
+-- Person x's node of day k is put behind the last of room's list of that day.
+module _ (v : Rows) (rows : AreRows v) (l : Linked) (room x k : ℕ) (room_below : room < v.rooms) (k_below : k < v.days)
+    (nowhere : (r : ℕ) → is_at v r k x ≡ false)
+    (lists_are : l.lists ≡ slice_set v.links.lists (room * v.days + k) (nodes_at v room k ++ (x * v.days + k) ∷ [])) (nodes_are : l.nodes ≡ v.links.nodes) where
+  abbrev after : Rows
+  after = record v { links = l }
+
+  abbrev longer : List ℕ
+  longer = nodes_at v room k ++ (x * v.days + k) ∷ []
+
+  inside : room * v.days + k < length v.links.lists
+  inside = rw (rows.heads, mul_comm v.rooms v.days) (mul-add-lt room v.days k v.rooms room_below k_below)
+
+  here : nodes_at after room k ≡ longer
+  here = ap (λ ls. slice_index_or ls (room * v.days + k) []) lists_are
+      ∙ get_or-set_same v.links.lists (room * v.days + k) longer [] inside
+
+  elsewhere : (r d : ℕ) → d < v.days → (r ≡ room → d ≡ k → ⊥) → nodes_at after r d ≡ nodes_at v r d
+  elsewhere r d below ne = ap (λ ls. slice_index_or ls (r * v.days + d) []) lists_are
+      ∙ get_or-set_other v.links.lists (room * v.days + k) (r * v.days + d) longer [] (λ e. let same = same_from_place r d room k v.days below k_below e in ne same.0 same.1)
+
+  -- what holds of the longer list and of each other one
+  everywhere : (A : ℕ → ℕ → Type 0) → A room k → ((r d : ℕ) → d < v.days → (r ≡ room → d ≡ k → ⊥) → A r d) → (r d : ℕ) → d < v.days → A r d
+  everywhere A this others r d below = elim (cases_eq r room) [
+    | inl er ↦ elim (cases_eq d k) [
+      | inl ed ↦ subst (λ s. A s d) (sym er) (subst (λ e. A room e) (sym ed) this)
+      | inr nd ↦ others r d below (λ e f. nd f)
+    ]
+    | inr nr ↦ others r d below (λ e f. nr e)
+  ]
+
+  rows-after : AreRows after
+  rows-after = record {
+    some_day = rows.some_day;
+    heads = ap length lists_are ∙ (length-set v.links.lists (room * v.days + k) longer ∙ rows.heads);
+    nodes = nodes_are ∙ rows.nodes;
+    few_heads = rows.few_heads;
+    few_nodes = rows.few_nodes;
+    same_day = λ r d n below. everywhere (λ s e. has n (nodes_at after s e) ≡ true → n % v.days ≡ e)
+        (λ m. elim (or_cases (has n (nodes_at v room k)) ((x * v.days + k) == n) (sym (ap (has n) here ∙ has-append n (nodes_at v room k) (x * v.days + k)) ∙ m)) [
+          | inl before ↦ rows.same_day room k n k_below before
+          | inr now ↦ ap (λ i. i % v.days) (sym (eqb-true (x * v.days + k) n now)) ∙ mod-mul-add x v.days k k_below
+        ])
+        (λ s e known ne m. rows.same_day s e n known (sym (ap (has n) (elsewhere s e known ne)) ∙ m)) r d below;
+    once = everywhere (λ s e. IsOnce (nodes_at after s e))
+        (rw here (once-append (nodes_at v room k) (x * v.days + k) (rows.once room k k_below) (nowhere room)))
+        (λ s e known ne. rw (elsewhere s e known ne) (rows.once s e known));
+  }
+
+  each-after : (r d y : ℕ) → d < v.days → is_at after r d y ≡ (is_at v r d y || ((room == r) && ((y == x) && (k == d))))
+  each-after r d y = everywhere (λ s e. is_at after s e y ≡ (is_at v s e y || ((room == s) && ((y == x) && (k == e)))))
+      (ap (has (y * v.days + k)) here ∙ (has-append (y * v.days + k) (nodes_at v room k) (x * v.days + k)
+      ∙ ap (λ b. is_at v room k y || b) (same-node v.days x y k k_below ∙ rw (eq-eqb room room refl, eq-eqb k k refl) (sym (all-true (y == x))))))
+      (λ s e known ne. ap (has (y * v.days + e)) (elsewhere s e known ne) ∙ sym (ap (λ b. is_at v s e y || b) (apart s e ne) ∙ or-false (is_at v s e y))) r d
+    where
+      all-true : (b : Bool) → (true && (b && true)) ≡ b
+      all-true true = refl
+      all-true false = refl
+
+      apart : (s e : ℕ) → (s ≡ room → e ≡ k → ⊥) → ((room == s) && ((y == x) && (k == e))) ≡ false
+      apart s e ne = elim (cases_eq s room) [
+        | inl same ↦ rw (ne_eqb k e (λ f. ne same (sym f)), and-false (y == x)) (and-false (room == s))
+        | inr other ↦ rw (ne_eqb room s (λ f. other (sym f))) refl
+      ]
+
+  -- so the person is there one day longer
+  pub entered-more : (old : Rows) (a : ℕ) → a ≤ k → IsEntered old v room x a k → IsEntered old after room x a (k + 1)
+  entered-more old a order so_far = record {
+    rows = rows-after;
+    rooms = so_far.rooms;
+    days = so_far.days;
+    persons = so_far.persons;
+    each = λ r d y below.
+        each-after r d y (rw so_far.days below) ∙ (ap (λ b. b || ((room == r) && ((y == x) && (k == d)))) (so_far.each r d y below)
+        ∙ (grown (is_at old r d y) (room == r) (y == x) (in_span a k d) (k == d) ∙ sym (ap (λ b. is_at old r d y || ((room == r) && ((y == x) && b))) (span-more a k d order))));
+  }
+    where
+      grown : (f p q s e : Bool) → ((f || (p && (q && s))) || (p && (q && e))) ≡ (f || (p && (q && (s || e))))
+      grown true p q s e = refl
+      grown false false q s e = refl
+      grown false true false s e = refl
+      grown false true true s e = refl
+
+-- a person who was nowhere is still nowhere on the days to come
+pub nowhere-yet : (old v : Rows) (room x a k : ℕ) → IsEntered old v room x a k → k < old.days → ((r d : ℕ) → d < old.days → is_at old r d x ≡ false) → (r : ℕ) → is_at v r k x ≡ false
+nowhere-yet old v room x a k so_far below nowhere r =
+    so_far.each r k x below ∙ rw (nowhere r k below, span-past a k, and-false (x == x), and-false (room == r)) refl

@@ -1,0 +1,105 @@
+-- The occupants come into their rooms, one after the other.
+use Rattle.std.proofs.Common.{◌≡◌, ℕ, zero, suc, ◌+◌, ◌-◌, ◌<◌, refl, arith, sym, ap, subst, ◌∙◌, false, Option, Some, None, inl, inr, min, replicate}
+use Rattle.std.specs.Prelude.{◌||◌, ◌&&◌, ◌==◌, nat_lt, slice_get, option_and_then}
+use Rattle.std.proofs.lemmas.Bool.{cases_eq, cases_lt, eq-eqb, ne_eqb, lt-ltb, le-ltb}
+use Rattle.ih_tables.specs.declared.drafts.Draft.{Draft}
+use Rattle.ih_tables.specs.declared.drafts.Occupant.{Occupant}
+use Rattle.ih_tables.specs.Sizes.{patient_count, occupant_count, person_count, room_count}
+use Rattle.ih_plan.specs.declared.moves.Placement.{Placement}
+use Rattle.ih_plan.specs.Timetable.{Timetable, empty, stay_of}
+use Rattle.ih_plan.specs.Presence.{admission_of, covers, is_present}
+use Rattle.ih_plan.specs.Persons.{person_of}
+use Rattle.ih_plan.proofs.PlanRanges.{empty-plan}
+use Rattle.ih_roomdays.specs.declared.rows.Rows.{Rows}
+use Rattle.ih_roomdays.specs.Rows.{AreRows, AreVacant, IsEntered, is_at, of_stay}
+use Rattle.ih_roomdays.specs.Ledger.{IsLedgerOf}
+use Rattle.ih_roomdays.proofs.Nodes.{or-false, and-false}
+use Rattle.ih_roomdays.proofs.Standing.{nobody-past}
+use Rattle.ih_roomdays.proofs.Changes.{nowhere, span-covers}
+
+-- The first k occupants are in their rooms, and nobody else is in any.
+pub record IsFilled (I : Draft) (v : Rows) (k : ℕ) : Type 0 where
+  pub rows : AreRows v
+  pub rooms : v.rooms ≡ room_count I
+  pub days : v.days ≡ I.days
+  pub persons : v.persons ≡ person_count I
+  pub each : (r d x : ℕ) → d < I.days → is_at v r d x ≡ (nat_lt x (patient_count I + k) && is_present I (empty I) r d x)
+
+pub no-stay : (I : Draft) (p : ℕ) → stay_of (empty I) p ≡ None
+no-stay I p = none (patient_count I) p
+  where
+    none : (n i : ℕ) → option_and_then (λ (o : Option Placement). o) (slice_get (replicate n None) i) ≡ None
+    none zero i = refl
+    none (suc n) zero = refl
+    none (suc n) (suc i) = none n i
+
+pub filled-none : (I : Draft) (v : Rows) → AreVacant (room_count I) I.days (person_count I) v → IsFilled I v 0
+filled-none I v vacant = record {
+  rows = vacant.rows;
+  rooms = vacant.rooms_are;
+  days = vacant.days_are;
+  persons = vacant.persons_are;
+  each = λ r d x below. vacant.nobody r d x ∙ elim (cases_lt x (patient_count I)) [
+    | inl patient ↦ rw (nowhere I (empty I) x r d patient (no-stay I x)) (sym (and-false (nat_lt x (patient_count I + 0))))
+    | inr past ↦ rw (le-ltb x (patient_count I + 0) (omega arith)) refl
+  ];
+}
+
+-- an occupant is in its room from day 0 on
+occupant-there : (I : Draft) (P : Timetable) (r d k : ℕ) (o : Occupant) → slice_get I.occupants k ≡ Some o
+    → is_present I P r d (patient_count I + k) ≡ ((o.room_id.0 == r) && covers 0 o.length_of_stay d)
+unfolding admission_of person_of
+occupant-there I P r d k o e =
+    let no_patient = le-ltb (patient_count I + k) (patient_count I) (omega arith) in
+    let place : patient_count I + k - patient_count I ≡ k = omega arith in
+    rw (no_patient, place, e) refl
+
+pub next-nowhere : (I : Draft) (v : Rows) (k : ℕ) → IsFilled I v k → (r d : ℕ) → d < I.days → is_at v r d (patient_count I + k) ≡ false
+next-nowhere I v k filled r d below =
+    filled.each r d (patient_count I + k) below ∙ rw (le-ltb (patient_count I + k) (patient_count I + k) (omega arith)) refl
+
+pub filled-more : (I : Draft) (v new : Rows) (k : ℕ) (o : Occupant) → IsFilled I v k → slice_get I.occupants k ≡ Some o
+    → IsEntered v new o.room_id.0 (patient_count I + k) 0 (min (0 + o.length_of_stay) I.days) → IsFilled I new (k + 1)
+filled-more I v new k o filled is entered = record {
+  rows = entered.rows;
+  rooms = entered.rooms ∙ filled.rooms;
+  days = entered.days ∙ filled.days;
+  persons = entered.persons ∙ filled.persons;
+  each = λ r d x below. entered.each r d x (rw filled.days below)
+      ∙ (ap (λ b. b || ((o.room_id.0 == r) && of_stay (patient_count I + k) 0 (min (0 + o.length_of_stay) I.days) d x)) (filled.each r d x below) ∙ each r d x below);
+}
+  where
+    more : (r d x : ℕ) → Type 0
+    more r d x = ((nat_lt x (patient_count I + k) && is_present I (empty I) r d x) || ((o.room_id.0 == r) && of_stay (patient_count I + k) 0 (min (0 + o.length_of_stay) I.days) d x))
+        ≡ (nat_lt x (patient_count I + (k + 1)) && is_present I (empty I) r d x)
+
+    own : (r d : ℕ) → d < I.days → more r d (patient_count I + k)
+    own r d below =
+        let before = le-ltb (patient_count I + k) (patient_count I + k) (omega arith) in
+        let now = lt-ltb (patient_count I + k) (patient_count I + (k + 1)) (omega arith) in
+        rw (before, now, eq-eqb (patient_count I + k) (patient_count I + k) refl, span-covers 0 o.length_of_stay I.days d below) (sym (occupant-there I (empty I) r d k o is))
+
+    each : (r d x : ℕ) → d < I.days → more r d x
+    each r d x below = elim (cases_eq x (patient_count I + k)) [
+      | inl same ↦ subst (more r d) (sym same) (own r d below)
+      | inr other ↦
+          let still : nat_lt x (patient_count I + (k + 1)) ≡ nat_lt x (patient_count I + k) = elim (cases_lt x (patient_count I + k)) [
+            | inl early ↦ lt-ltb x (patient_count I + (k + 1)) (omega arith) ∙ sym (lt-ltb x (patient_count I + k) early)
+            | inr late ↦ le-ltb x (patient_count I + (k + 1)) (omega arith) ∙ sym (le-ltb x (patient_count I + k) late)
+          ] in
+          rw (ne_eqb x (patient_count I + k) other, still, and-false (o.room_id.0 == r)) (or-false (nat_lt x (patient_count I + k) && is_present I (empty I) r d x))
+    ]
+
+-- with all occupants the ledger stands for the empty timetable
+pub filled-all : (I : Draft) (v : Rows) → IsFilled I v (occupant_count I) → IsLedgerOf I (empty I) v
+filled-all I v filled = record {
+  plan = empty-plan I;
+  rows = filled.rows;
+  rooms = filled.rooms;
+  days = filled.days;
+  persons = filled.persons;
+  each = λ r d x below. filled.each r d x below ∙ elim (cases_lt x (person_count I)) [
+    | inl inside ↦ rw (lt-ltb x (person_count I) inside) refl
+    | inr past ↦ rw (le-ltb x (person_count I) past) (sym (nobody-past I (empty I) r d x past))
+  ];
+}

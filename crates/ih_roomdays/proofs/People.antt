@@ -1,0 +1,90 @@
+-- The persons of the nodes of a day.
+use Rattle.std.proofs.Common.{◌≡◌, ℕ, zero, suc, ◌+◌, ◌*◌, ◌/◌, ◌%◌, ◌<◌, refl, arith, sym, ap, ◌∙◌, Bool, true, false, List, [], ◌∷◌, ◌++◌, map, inl, inr}
+use Rattle.std.specs.Prelude.{◌||◌, ◌==◌, nat_eq, if◌then◌else◌}
+use Rattle.std.specs.List.{IsDistinct, AllByRecursion}
+use Rattle.std.proofs.lemmas.Bool.{cases_eq, cases_lt, eq-eqb, ne_eqb, false_from_ne_true}
+use Rattle.std.proofs.lemmas.Nat.{div-mul-add}
+use Rattle.ih_links.specs.Lists.{has, IsOnce}
+use Rattle.ih_links.proofs.Members.{has-here, has-there, lacks, once-append}
+use Rattle.ih_plan.proofs.Lists.{has as has_number, has-which_below, which_below-has, has-listed}
+use Rattle.ih_plan.specs.Sums.{which_below, is_listed}
+use Rattle.ih_roomdays.specs.declared.rows.Rows.{Rows}
+use Rattle.ih_roomdays.specs.Rows.{AreRows, nodes_at, persons_at, is_at}
+
+-- two tests of what is in a list agree
+has-number : (x : ℕ) (xs : List ℕ) → has x xs ≡ has_number x xs
+has-number x [] = refl
+has-number x (y ∷ ys) = ap (λ b. (y == x) || b) (has-number x ys)
+
+pub has-is_listed : (x : ℕ) (xs : List ℕ) → has x xs ≡ is_listed x xs
+has-is_listed x xs = has-number x xs ∙ has-listed x xs
+
+module _ (days d : ℕ) (below : d < days) where
+  abbrev AreOfDay : List ℕ → Type 0
+  AreOfDay ns = (n : ℕ) → has n ns ≡ true → n % days ≡ d
+
+  later : (n : ℕ) (ns : List ℕ) → AreOfDay (n ∷ ns) → AreOfDay ns
+  later n ns of_day m there = of_day m (has-there m n ns there)
+
+  -- the node is that of its person
+  node-is : (n : ℕ) (ns : List ℕ) → AreOfDay (n ∷ ns) → n ≡ (n / days) * days + d
+  node-is n ns of_day =
+      let day = of_day n (has-here n n ns refl) in
+      let some : 0 < days = omega arith in
+      let split : n ≡ (n / days) * days + n % days = omega arith in
+      split ∙ ap (λ e. (n / days) * days + e) day
+
+  has-person : (x : ℕ) (ns : List ℕ) → AreOfDay ns → has x (map (λ n. n / days) ns) ≡ has (x * days + d) ns
+  has-person x [] of_day = refl
+  has-person x (n ∷ ns) of_day =
+      let rest = has-person x ns (later n ns of_day) in
+      elim (cases_eq n (x * days + d)) [
+        | inl e ↦
+            let own : n / days ≡ x = ap (λ m. m / days) e ∙ div-mul-add x days d below in
+            rw (eq-eqb n (x * days + d) e, eq-eqb (n / days) x own) refl
+        | inr ne ↦
+            let apart : n / days ≡ x → ⊥ = λ own. ne (node-is n ns of_day ∙ ap (λ y. y * days + d) own) in
+            rw (ne_eqb n (x * days + d) ne, ne_eqb (n / days) x apart) rest
+      ]
+
+  once-persons : (ns : List ℕ) → AreOfDay ns → IsOnce ns → IsOnce (map (λ n. n / days) ns)
+  once-persons [] of_day once = tt
+  once-persons (n ∷ ns) of_day once = (
+    has-person (n / days) ns (later n ns of_day) ∙ (ap (λ m. has m ns) (sym (node-is n ns of_day)) ∙ once.0),
+    once-persons ns (later n ns of_day) once.1,
+  )
+
+pub has-persons : (v : Rows) (r d x : ℕ) → AreRows v → d < v.days → has x (persons_at v r d) ≡ is_at v r d x
+has-persons v r d x rows below = has-person v.days d below x (nodes_at v r d) (λ n m. rows.same_day r d n below m)
+
+pub persons-once : (v : Rows) (r d : ℕ) → AreRows v → d < v.days → IsOnce (persons_at v r d)
+persons-once v r d rows below = once-persons v.days d below (nodes_at v r d) (λ n m. rows.same_day r d n below m) (rows.once r d below)
+
+all-apart : (x : ℕ) (xs : List ℕ) → has x xs ≡ false → AllByRecursion (λ y. nat_eq x y ≡ false) xs
+all-apart x [] free = tt
+all-apart x (y ∷ ys) free = let p = lacks x y ys free in (ne_eqb x y (λ e. p.0 (sym e)), all-apart x ys p.1)
+
+pub once-distinct : (xs : List ℕ) → IsOnce xs → IsDistinct nat_eq xs
+unfolding IsDistinct
+once-distinct [] once = tt
+once-distinct (x ∷ xs) once = (all-apart x xs once.0, once-distinct xs once.1)
+
+-- ---- the numbers below n that pass
+
+pub has-passing : (n x : ℕ) (p : ℕ → Bool) → (p x ≡ true → x < n) → has x (which_below n p) ≡ p x
+has-passing n x p inside = has-number x (which_below n p) ∙ elim (cases_lt x n) [
+  | inl below ↦ has-which_below n x p below
+  | inr past ↦ false_from_ne_true (has_number x (which_below n p)) (λ m. let q = which_below-has n x p m in omega (arith, q.0)) ∙ sym (false_from_ne_true (p x) (λ m. let q = inside m in omega (arith, q)))
+]
+
+pub once-passing : (n : ℕ) (p : ℕ → Bool) → IsOnce (which_below n p)
+unfolding which_below
+once-passing zero p = tt
+once-passing (suc n) p = by_case (p n) (once-passing n p)
+  where
+    past : has n (which_below n p) ≡ false
+    past = false_from_ne_true (has n (which_below n p)) (λ m. let q = which_below-has n n p (sym (has-number n (which_below n p)) ∙ m) in omega (arith, q.0))
+
+    by_case : (b : Bool) → IsOnce (which_below n p) → IsOnce (if b then which_below n p ++ n ∷ [] else which_below n p)
+    by_case true once = once-append (which_below n p) n once past
+    by_case false once = once

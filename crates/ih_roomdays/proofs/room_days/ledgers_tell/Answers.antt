@@ -1,0 +1,5 @@
+use Rattle.ih_roomdays.proofs.Standing.{tells}
+use Rattle.ih_roomdays.proofs.room_days.ledgers_tell.Goals as goal
+
+pub returns : goal.returns
+returns c = tells c.args._inst.now.draft

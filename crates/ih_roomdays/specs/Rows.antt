@@ -1,0 +1,55 @@
+-- Lists of who is in which room on which day: node x * days + d is person x on day d.
+use Rattle.std.specs.Prelude.{◌≡◌, ℕ, ◌+◌, ◌*◌, ◌/◌, ◌%◌, ◌^◌, ◌<◌, Bool, true, false, ◌==◌, ◌&&◌, ◌||◌, not, List, length, map}
+use Rattle.ih_links.specs.Lists.{has, list_of, IsOnce}
+use Rattle.ih_roomdays.specs.declared.rows.Rows.{Rows}
+use Rattle.ih_plan.specs.Presence.{in_span}
+
+-- the nodes of room r on day d
+abbrev pub nodes_at : Rows → ℕ → ℕ → List ℕ
+nodes_at v r d = list_of v.links (r * v.days + d)
+
+-- the persons in room r on day d
+abbrev pub persons_at : Rows → ℕ → ℕ → List ℕ
+persons_at v r d = map (λ n. n / v.days) (nodes_at v r d)
+
+-- person x is in room r on day d
+abbrev pub is_at : Rows → ℕ → ℕ → ℕ → Bool
+is_at v r d x = has (x * v.days + d) (nodes_at v r d)
+
+-- There is a list for each room and day and a node for each person and day, and a list has nodes of its own day, each once.
+pub record AreRows (v : Rows) : Type 0 where
+  pub some_day : 0 < v.days
+  pub heads : length v.links.lists ≡ v.rooms * v.days
+  pub nodes : v.links.nodes ≡ v.persons * v.days
+  pub few_heads : v.rooms * v.days < 2 ^ 32
+  pub few_nodes : v.persons * v.days < 2 ^ 32
+  pub same_day : (r d n : ℕ) → d < v.days → has n (nodes_at v r d) ≡ true → n % v.days ≡ d
+  pub once : (r d : ℕ) → d < v.days → IsOnce (nodes_at v r d)
+
+-- Nobody is in any room.
+pub record AreVacant (rooms days persons : ℕ) (v : Rows) : Type 0 where
+  pub rows : AreRows v
+  pub rooms_are : v.rooms ≡ rooms
+  pub days_are : v.days ≡ days
+  pub persons_are : v.persons ≡ persons
+  pub nobody : (r d x : ℕ) → is_at v r d x ≡ false
+
+-- y is x, and day d is from day a on and before day b
+abbrev pub of_stay : ℕ → ℕ → ℕ → ℕ → ℕ → Bool
+of_stay x a b d y = (y == x) && in_span a b d
+
+-- Afterwards person x is in the room too, from day a on and before day b.
+pub record IsEntered (before after : Rows) (room x a b : ℕ) : Type 0 where
+  pub rows : AreRows after
+  pub rooms : after.rooms ≡ before.rooms
+  pub days : after.days ≡ before.days
+  pub persons : after.persons ≡ before.persons
+  pub each : (r d y : ℕ) → d < before.days → is_at after r d y ≡ (is_at before r d y || ((room == r) && of_stay x a b d y))
+
+-- Afterwards person x is in no room from day a on and before day b.
+pub record IsLeft (before after : Rows) (x a b : ℕ) : Type 0 where
+  pub rows : AreRows after
+  pub rooms : after.rooms ≡ before.rooms
+  pub days : after.days ≡ before.days
+  pub persons : after.persons ≡ before.persons
+  pub each : (r d y : ℕ) → d < before.days → is_at after r d y ≡ (is_at before r d y && not (of_stay x a b d y))

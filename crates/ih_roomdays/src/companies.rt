@@ -1,0 +1,86 @@
+//! What is seen of the persons in a room on a day, one after the other.
+
+ghost use Rattle.std.specs.Prelude.{◌≡◌, ℕ, ◌/◌, ◌*◌, ◌<◌, ◌∷◌, ◌++◌, [], List, length, map, not, ◌||◌, IfSome};
+ghost use Rattle.std.specs.Str.{bytes_eq};
+ghost use Rattle.ih_tables.specs.declared.drafts.Draft.{Draft};
+ghost use Rattle.ih_tables.specs.Sizes.{person_count};
+ghost use Rattle.ih_plan.specs.Persons.{person_of};
+ghost use Rattle.ih_links.specs.Lists.{list_of};
+ghost use Rattle.ih_roomdays.specs.Company.{IsSeen};
+
+use crate::persons::{age_group, same_gender};
+use ih_links::Links;
+use ih_tables::Instance;
+
+/// What is seen of persons.
+#[derive(Clone, Copy)]
+pub struct Company {
+    /// The first of them.
+    pub first: Option<u32>,
+    /// Two of them have different genders.
+    pub mixed: bool,
+    /// The least and the greatest of their age groups; 0 where nobody is seen.
+    pub low: u32,
+    pub high: u32,
+}
+
+// Of nobody.
+fn nobody() -> Company
+    ensures { (I : Draft) → IsSeen I [] result }
+{
+    Company {
+        first: None,
+        mixed: false,
+        low: 0,
+        high: 0,
+    }
+}
+
+// Two genders were met, or person x has another than y.
+fn mixed_with(inst: &Instance, mixed: bool, y: u32, x: u32) -> bool
+    requires first { y < person_count inst.now.draft }
+    requires second { x < person_count inst.now.draft }
+    ensures { result ≡ (mixed || not (bytes_eq (person_of inst.now.draft y).gender (person_of inst.now.draft x).gender)) }
+{
+    mixed || !same_gender(inst, y, x)
+}
+
+// With one person more.
+fn with(inst: &Instance, seen: Company, x: u32) -> Company
+    requires first { IfSome seen.first (λ y. y < person_count inst.now.draft) }
+    requires person { x < person_count inst.now.draft }
+    ensures first { IfSome result.first (λ y. y < person_count inst.now.draft) }
+    ensures seen { (xs : List ℕ) → IsSeen inst.now.draft xs seen → IsSeen inst.now.draft (xs ++ x ∷ []) result }
+{
+    let age = age_group(inst, x);
+    match seen.first {
+        None => Company {
+            first: Some(x),
+            mixed: false,
+            low: age,
+            high: age,
+        },
+        Some(y) => Company {
+            first: Some(y),
+            mixed: mixed_with(inst, seen.mixed, y, x),
+            low: seen.low.min(age),
+            high: seen.high.max(age),
+        },
+    }
+}
+
+/// What is seen of the persons of a list of nodes, so many a person.
+pub fn company_of(inst: &Instance, links: &Links, head: u32, days: u32) -> Company
+    requires some_day { 0 < days }
+    requires head { head < length links.now.lists }
+    requires nodes { links.now.nodes ≡ person_count inst.now.draft * days }
+    ensures { IsSeen inst.now.draft (map (λ n. n / days) (list_of links.now head)) result }
+{
+    let mut seen = nobody();
+    let mut at = links.first(head);
+    while let Some(node) = at {
+        seen = with(inst, seen, node / days);
+        at = links.next(node);
+    }
+    seen
+}

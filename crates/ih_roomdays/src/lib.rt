@@ -1,0 +1,12 @@
+//! The ledger of room days: who is in each room on each day of a timetable, and what that costs.
+#![tactic(auto)]
+
+mod bills;
+mod companies;
+mod persons;
+mod room_days;
+mod rows;
+#[cfg(test)]
+mod tests;
+
+pub use room_days::{RoomDays, ledgers_tell};

@@ -1,0 +1,132 @@
+//! The ledger of room days.
+
+ghost use Rattle.std.specs.Prelude.{◌≡◌, ℕ, ◌<◌, ◌^◌, ◌+◌, min, Some, None, IfOk};
+ghost use Rattle.ih_tables.specs.Bills.{IsWithin};
+ghost use Rattle.ih_tables.specs.Sizes.{patient_count, room_count};
+ghost use Rattle.ih_tables.specs.declared.cells.Cell.TheVariants.{RoomDay};
+ghost use Rattle.ih_plan.specs.declared.moves.Write.TheVariants.{SetStay};
+ghost use Rattle.ih_plan.specs.Timetable.{Timetable, IsPlacement, empty, stay_of};
+ghost use Rattle.ih_plan.specs.Writes.{put};
+ghost use Rattle.ih_plan.specs.Cells.{part_at};
+ghost use Rattle.ih_plan.specs.BillOf.{as_bill};
+ghost use Rattle.ih_roomdays.specs.Ledger.{IsLedgerOf, LedgersTell};
+
+use crate::bills::room_day_bill;
+use crate::companies::company_of;
+use crate::rows::Rows;
+use ih_plan::{Members, Placement};
+use ih_tables::{Bill, Day, Instance, PatientNo, PersonNo, RoomNo};
+use std::alloc::{AllocError, Global};
+use std::marker::Model;
+
+/// Who is in each room on each day of a timetable. After `new` it takes no memory.
+#[derive(Drop)]
+pub struct RoomDays {
+    rows: Rows,
+}
+
+impl Model for RoomDays {
+    ghost use Rattle.ih_roomdays.specs.declared.rows.Rows.{Rows};
+    ghost use Rattle.ih_roomdays.specs.Rows.{AreRows};
+
+    ghost Value = { Rows };
+
+    ghost view = { λ a. a.rows };
+
+    ghost invariant = { λ a. AreRows a.rows };
+}
+
+// The day after the last counted one of a stay: days past the horizon aren't counted.
+fn end_of(inst: &Instance, from: u32, length: u32) -> u32
+    ensures { result ≡ min (from + length) inst.now.draft.days }
+{
+    (from as u64 + length as u64).min(inst.days() as u64) as u32
+}
+
+impl RoomDays {
+    /// The ledger of the empty timetable: the occupants alone are in rooms.
+    pub fn new(alloc: Global, inst: &Instance) -> Result<RoomDays, AllocError>
+        ensures { IfOk result (λ ledger. IsLedgerOf inst.now.draft (empty inst.now.draft) ledger) }
+    {
+        let patients = inst.patients();
+        let mut rows = Rows::new(alloc, inst.rooms(), inst.days(), inst.persons())?;
+        for o in 0..inst.occupants() {
+            let occupant = inst.occupant(o);
+            let to = end_of(inst, 0, occupant.length_of_stay);
+            rows.enter(occupant.room_id.0, patients + o, 0, to);
+        }
+        Ok(RoomDays { rows })
+    }
+
+    /// The patient is admitted; nobody else's stay changes.
+    pub fn enter(&mut self, inst: &Instance, p: PatientNo, at: Placement)
+        requires patient { p.0 < patient_count inst.now.draft }
+        requires placement { IsPlacement inst.now.draft at }
+        requires stands { (P : Timetable) × IsLedgerOf inst.now.draft P self.old × (stay_of P p.0 ≡ None) }
+        ensures { (P : Timetable) → IsLedgerOf inst.now.draft P self.old → stay_of P p.0 ≡ None → IsLedgerOf inst.now.draft (put (SetStay p (Some at)) P) self.new }
+    {
+        let to = end_of(inst, at.day.0, inst.patient(p).length_of_stay);
+        self.rows.enter(at.room.0, p.0, at.day.0, to);
+    }
+
+    /// The patient isn't admitted any more; nobody else's stay changes.
+    pub fn leave(&mut self, inst: &Instance, p: PatientNo, at: Placement)
+        requires patient { p.0 < patient_count inst.now.draft }
+        requires stands { (P : Timetable) × IsLedgerOf inst.now.draft P self.old × (stay_of P p.0 ≡ Some at) }
+        ensures { (P : Timetable) → IsLedgerOf inst.now.draft P self.old → stay_of P p.0 ≡ Some at → IsLedgerOf inst.now.draft (put (SetStay p None) P) self.new }
+    {
+        let to = end_of(inst, at.day.0, inst.patient(p).length_of_stay);
+        self.rows.leave(p.0, at.day.0, to);
+    }
+
+    /// The part of the bill that the room has on the day: mixed genders, persons above the capacity, and the spread of ages.
+    pub fn cell_bill(&self, inst: &Instance, r: RoomNo, d: Day) -> Bill
+        requires room { r.0 < room_count inst.now.draft }
+        requires day { d.0 < inst.now.draft.days }
+        requires stands { (P : Timetable) × IsLedgerOf inst.now.draft P self.now }
+        ensures value { (P : Timetable) → IsLedgerOf inst.now.draft P self.now → result ≡ as_bill (part_at inst.now.draft P (RoomDay r d)) }
+        ensures within { IsWithin (10 ^ 11) result }
+    {
+        let head = r.0 * self.rows.days + d.0;
+        let seen = company_of(inst, &self.rows.links, head, self.rows.days);
+        let count = self.rows.links.len(head);
+        room_day_bill(
+            seen.mixed,
+            count.saturating_sub(inst.room(r).capacity),
+            seen.high.saturating_sub(seen.low),
+        )
+    }
+}
+
+impl Members for RoomDays {
+    ghost use Rattle.ih_roomdays.specs.Rows.{persons_at};
+
+    ghost rooms = { λ v. v.rooms };
+
+    ghost days = { λ v. v.days };
+
+    ghost persons = { λ v. persons_at v };
+
+    fn count(&self, r: RoomNo, d: Day) -> u32 {
+        self.rows.links.len(r.0 * self.rows.days + d.0)
+    }
+
+    fn member(&self, r: RoomNo, d: Day, i: u32) -> PersonNo {
+        let mut at = self.rows.links.first(r.0 * self.rows.days + d.0);
+        for _ in 0..i {
+            at = match at {
+                Some(node) => self.rows.links.next(node),
+                None => None,
+            };
+        }
+        match at {
+            None => PersonNo(0),
+            Some(node) => PersonNo(node / self.rows.days),
+        }
+    }
+}
+
+/// A ledger that stands for a timetable tells who is present in each room on each day.
+pub fn ledgers_tell(_inst: &Instance)
+    ensures { LedgersTell _inst.now.draft }
+{}
