@@ -1,0 +1,6 @@
+pub mod Told
+pub mod MarkLemmas
+pub mod DayLemmas
+pub mod PartLemmas
+pub mod LedgerLemmas
+pub mod TestLemmas

@@ -1,0 +1,11 @@
+use Rattle.std.proofs.Common.{◌≡◌, length}
+use Rattle.ih_links.specs.Lists.{list_of, rest_from}
+use Rattle.ih_plan.specs.Costs.{minutes}
+use Rattle.ih_theatres.proofs.Told.{Told}
+use Rattle.ih_theatres.proofs.days.minutes.Given as goal
+
+abbrev pub invariant-loop-at : goal.invariant-loop-at
+invariant-loop-at l = Told l.fn.links.nodes (list_of l.fn.links l.fn.head) l.at (λ told. l.sum ≡ minutes l.fn.inst.draft told)
+
+abbrev pub decreases-loop-at : goal.decreases-loop-at
+decreases-loop-at l = length (rest_from l.at (list_of l.fn.links l.fn.head))

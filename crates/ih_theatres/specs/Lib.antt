@@ -1,0 +1,4 @@
+pub mod Days
+pub mod Ledger
+pub mod Marks
+pub mod Parts

@@ -1,0 +1,11 @@
+//! Who has surgery in each operating theatre and by each surgeon on each day, kept while patients enter and leave.
+#![tactic(auto)]
+
+mod days;
+mod marks;
+mod parts;
+#[cfg(test)]
+mod tests;
+mod theatres;
+
+pub use theatres::Theatres;

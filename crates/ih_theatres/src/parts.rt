@@ -1,0 +1,30 @@
+//! The parts of a bill that theatres and surgeons have.
+
+ghost use Rattle.std.specs.Prelude.{◌≡◌, ◌^◌};
+ghost use Rattle.ih_tables.specs.Bills.{IsWithin};
+ghost use Rattle.ih_plan.specs.BillOf.{as_bill};
+ghost use Rattle.ih_theatres.specs.Parts.{theatre_part, surgeon_part};
+
+use ih_tables::Bill;
+
+/// The bill of a theatre's day: minutes above its availability, and 1 where it is used.
+pub fn theatre_part(over: u32, used: u32) -> Bill
+    ensures value { result ≡ as_bill (theatre_part over used) }
+    ensures within { IsWithin (10 ^ 11) result }
+{
+    Bill {
+        v: [0, 0, 0, over as i64, 0, 0, 0, 0, 0],
+        s: [0, 0, 0, 0, used as i64, 0, 0, 0],
+    }
+}
+
+/// The bill of a surgeon's day: minutes above the surgeon's maximum, and transfers between theatres.
+pub fn surgeon_part(over: u32, transfers: u32) -> Bill
+    ensures value { result ≡ as_bill (surgeon_part over transfers) }
+    ensures within { IsWithin (10 ^ 11) result }
+{
+    Bill {
+        v: [0, 0, over as i64, 0, 0, 0, 0, 0, 0],
+        s: [0, 0, 0, 0, 0, transfers as i64, 0, 0],
+    }
+}
