@@ -1,0 +1,169 @@
+-- What entering and leaving make of the lists of persons.
+use Rattle.std.proofs.Common.{◌≡◌, ℕ, ◌+◌, ◌<◌, ◌≤◌, refl, arith, sym, ap, ◌∙◌, Bool, true, false, inl, inr, List, [], ◌∷◌, ◌++◌, length}
+use Rattle.std.specs.Prelude.{◌||◌, ◌&&◌, ◌==◌, not, map, nat_le, nat_lt, slice_index_or, slice_set}
+use Rattle.std.proofs.lemmas.Bool.{cases_eq, cases_lt, eq-eqb, ne_eqb, and_right, lt-ltb, le-ltb, le-leb, lt-leb}
+use Rattle.std.proofs.lemmas.List.{get_or-set_other, get_or_default, get_or_past}
+use Rattle.std.proofs.lemmas.Grind.{get_or-set_at}
+use Rattle.std.proofs.Math.ListN.{get_or-map}
+use Rattle.ih_tables.specs.declared.drafts.Draft.{Draft}
+use Rattle.ih_tables.specs.Sizes.{room_count}
+use Rattle.ih_links.specs.Lists.{Linked, list_of, has, without}
+use Rattle.ih_links.proofs.Members.{has-append, has-without_self, has-without_other}
+use Rattle.ih_plan.specs.Presence.{in_span}
+use Rattle.ih_nurses.specs.Here.{on_day, is_here, AreSized}
+
+abbrev no_lists : Linked
+no_lists = record { lists = []; nodes = 0 }
+
+pub or-none : (b c : Bool) → c ≡ false → (b || c) ≡ b
+or-none true c e = refl
+or-none false c e = e
+
+pub and-all : (b c : Bool) → c ≡ true → (b && c) ≡ b
+and-all true c e = e
+and-all false c e = refl
+
+-- a room that isn't there has nobody
+past-lists : (day : Linked) (s x : ℕ) → length day.lists ≤ s → has x (list_of day s) ≡ false
+past-lists day s x h = rw (get_or_past day.lists s [] h) refl
+
+-- one day is written
+module _ (here : List Linked) (d : ℕ) (past old new : Linked) (inside : d < length here) (old_is : old ≡ slice_index_or here d past) where
+  written-here : (e : ℕ) → e ≡ d → on_day (slice_set here d new) e ≡ new
+  written-here e same = get_or-set_at here d e new no_lists same inside
+
+  written-there : (e : ℕ) → (e ≡ d → ⊥) → on_day (slice_set here d new) e ≡ on_day here e
+  written-there e other = get_or-set_other here d e new no_lists other
+
+  pub read-here : on_day here d ≡ old
+  read-here = get_or_default here d no_lists past inside ∙ sym old_is
+
+  pub free-lists : (I : Draft) (x : ℕ) → AreSized I here → d < I.days → ((s : ℕ) → s < room_count I → is_here here s d x ≡ false) → (s : ℕ) → has x (list_of old s) ≡ false
+  free-lists I x sized day free s = elim (cases_lt s (room_count I)) [
+    | inl below ↦ ap (λ (l : Linked). has x (list_of l s)) (sym read-here) ∙ free s below
+    | inr past ↦ past-lists old s x (let n = sized.rooms d day in let m = ap (λ (l : Linked). length l.lists) read-here in omega (arith, n, m))
+  ]
+
+  module _ (r x : ℕ) (room : r < length old.lists) (lists : new.lists ≡ slice_set old.lists r (list_of old r ++ x ∷ [])) where
+    pushed-here : (s y : ℕ) → has y (list_of new s) ≡ (has y (list_of old s) || ((r == s) && (x == y)))
+    pushed-here s y = elim (cases_eq s r) [
+      | inl same ↦
+          rw (lists, get_or-set_at old.lists r s (list_of old r ++ x ∷ []) [] same room, has-append y (list_of old r) x, same, eq-eqb r r refl) refl
+      | inr other ↦
+          rw (lists, get_or-set_other old.lists r s (list_of old r ++ x ∷ []) [] other, ne_eqb r s (λ e. other (sym e)))
+          (sym (or-none (has y (list_of old s)) false refl))
+    ]
+
+    pub entered : (s e y : ℕ) → is_here (slice_set here d new) s e y ≡ (is_here here s e y || ((r == s) && ((d == e) && (x == y))))
+    entered s e y = elim (cases_eq e d) [
+      | inl same ↦ rw (written-here e same, same, read-here, eq-eqb d d refl) (pushed-here s y)
+      | inr other ↦
+          rw (written-there e other, ne_eqb d e (λ f. other (sym f)))
+          (sym (or-none (is_here here s e y) ((r == s) && false) (and_right (r == s) false refl)))
+    ]
+
+  module _ (x : ℕ) (lists : new.lists ≡ map (without x) old.lists) where
+    taken-here : (s y : ℕ) → has y (list_of new s) ≡ (has y (list_of old s) && not (x == y))
+    taken-here s y = elim (cases_eq y x) [
+      | inl same ↦
+          rw (lists, get_or-map (without x) old.lists s [], same, has-without_self x (list_of old s), eq-eqb x x refl)
+          (sym (and_right (has x (list_of old s)) false refl))
+      | inr other ↦
+          rw (lists, get_or-map (without x) old.lists s [], has-without_other y x (list_of old s) other, ne_eqb x y (λ e. other (sym e)))
+          (sym (and-all (has y (list_of old s)) true refl))
+    ]
+
+    pub left : (s e y : ℕ) → is_here (slice_set here d new) s e y ≡ (is_here here s e y && not ((d == e) && (x == y)))
+    left s e y = elim (cases_eq e d) [
+      | inl same ↦ rw (written-here e same, same, read-here, eq-eqb d d refl) (taken-here s y)
+      | inr other ↦
+          rw (written-there e other, ne_eqb d e (λ f. other (sym f)))
+          (sym (and-all (is_here here s e y) true refl))
+    ]
+
+-- ---- days in a row
+
+-- no day comes before the first
+pub span-none : (a e : ℕ) → in_span a a e ≡ false
+span-none a e = elim (cases_lt e a) [
+  | inl below ↦ rw (lt-leb a e below) refl
+  | inr above ↦ rw (le-leb a e above, le-ltb e a above) refl
+]
+
+-- one day more
+pub span-more : (a d e : ℕ) → a ≤ d → in_span a (d + 1) e ≡ (in_span a d e || (d == e))
+span-more a d e h = elim (cases_eq d e) [
+  | inl same ↦
+      rw (← same, le-leb a d h, lt-ltb d (d + 1) (omega arith), eq-eqb d d refl) (by_case (nat_lt d d))
+  | inr other ↦ rw (ne_eqb d e other) (elim (cases_lt e d) [
+    | inl below ↦ rw (lt-ltb e d below, lt-ltb e (d + 1) (omega arith)) (sym (or-none (nat_le a e && true) false refl))
+    | inr above ↦ rw (le-ltb e d above, le-ltb e (d + 1) (omega arith)) (sym (or-none (nat_le a e && false) false refl))
+  ])
+]
+  where
+    by_case : (b : Bool) → true ≡ (b || true)
+    by_case true = refl
+    by_case false = refl
+
+pub enter-more : (b s m e y : Bool) → ((b || (s && (m && y))) || (s && (e && y))) ≡ (b || (s && ((m || e) && y)))
+enter-more true s m e y = refl
+enter-more false false m e y = refl
+enter-more false true true e true = refl
+enter-more false true true true false = refl
+enter-more false true true false false = refl
+enter-more false true false e y = refl
+
+pub leave-more : (b m e y : Bool) → ((b && not (m && y)) && not (e && y)) ≡ (b && not ((m || e) && y))
+leave-more false m e y = refl
+leave-more true true e true = refl
+leave-more true true true false = refl
+leave-more true true false false = refl
+leave-more true false e y = refl
+
+-- entered on the days so far
+pub record AreEntered (I : Draft) (old here : List Linked) (r from to x : ℕ) : Type 0 where
+  pub sized : AreSized I here
+  pub each : (s e y : ℕ) → is_here here s e y ≡ (is_here old s e y || ((r == s) && (in_span from to e && (x == y))))
+
+pub entered-none : (I : Draft) (old : List Linked) (r from x : ℕ) → AreSized I old → AreEntered I old old r from from x
+entered-none I old r from x sized = record {
+  sized = sized;
+  each = λ s e y. rw (span-none from e) (sym (or-none (is_here old s e y) ((r == s) && false) (and_right (r == s) false refl)));
+}
+
+pub entered-more : (I : Draft) (old here new : List Linked) (r from d x : ℕ) → from ≤ d → AreEntered I old here r from d x → AreSized I new
+    → ((s e y : ℕ) → is_here new s e y ≡ (is_here here s e y || ((r == s) && ((d == e) && (x == y))))) → AreEntered I old new r from (d + 1) x
+entered-more I old here new r from d x h so_far sized each = record {
+  sized = sized;
+  each = λ s e y. each s e y ∙ rw (so_far.each s e y, span-more from d e h) (enter-more (is_here old s e y) (r == s) (in_span from d e) (d == e) (x == y));
+}
+
+-- who wasn't there on a day isn't there before the day is entered
+pub entered-free : (I : Draft) (old here : List Linked) (r from d x s : ℕ) → AreEntered I old here r from d x → is_here old s d x ≡ false → is_here here s d x ≡ false
+entered-free I old here r from d x s so_far free =
+    so_far.each s d x ∙ rw (free, le-ltb d d (omega arith), and_right (nat_le from d) false refl) (and_right (r == s) false refl)
+
+-- left on the days so far
+pub record AreLeft (I : Draft) (old here : List Linked) (from to x : ℕ) : Type 0 where
+  pub sized : AreSized I here
+  pub each : (s e y : ℕ) → is_here here s e y ≡ (is_here old s e y && not (in_span from to e && (x == y)))
+
+pub left-none : (I : Draft) (old : List Linked) (from x : ℕ) → AreSized I old → AreLeft I old old from from x
+left-none I old from x sized = record {
+  sized = sized;
+  each = λ s e y. rw (span-none from e) (sym (and-all (is_here old s e y) true refl));
+}
+
+pub left-more : (I : Draft) (old here new : List Linked) (from d x : ℕ) → from ≤ d → AreLeft I old here from d x → AreSized I new
+    → ((s e y : ℕ) → is_here new s e y ≡ (is_here here s e y && not ((d == e) && (x == y)))) → AreLeft I old new from (d + 1) x
+left-more I old here new from d x h so_far sized each = record {
+  sized = sized;
+  each = λ s e y. each s e y ∙ rw (so_far.each s e y, span-more from d e h) (leave-more (is_here old s e y) (in_span from d e) (d == e) (x == y));
+}
+
+pub left-there : (I : Draft) (old here : List Linked) (from d x s : ℕ) → AreLeft I old here from d x → is_here old s d x ≡ true → is_here here s d x ≡ true
+left-there I old here from d x s so_far there =
+    so_far.each s d x ∙ rw (there, le-ltb d d (omega arith), and_right (nat_le from d) false refl) refl
+
+pub span-in : (from to d : ℕ) → from ≤ d → d < to → in_span from to d ≡ true
+span-in from to d h l = rw (le-leb from d h, lt-ltb d to l) refl

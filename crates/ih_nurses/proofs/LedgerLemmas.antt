@@ -1,0 +1,135 @@
+-- What a ledger stands for after a patient enters or leaves.
+use Rattle.std.proofs.Common.{◌≡◌, ℕ, ◌+◌, ◌*◌, ◌<◌, ◌≤◌, refl, arith, sym, subst, ◌∙◌, Bool, true, false, inl, inr, List, length, Some, None}
+use Rattle.std.specs.Prelude.{◌&&◌, ◌||◌, ◌==◌, not, min, nat_le, nat_lt}
+use Rattle.std.proofs.lemmas.Bool.{cases_lt, lt-ltb, le-ltb, and_parts, eq-eqb, eqb-true, ltb-true}
+use Rattle.ih_tables.specs.declared.drafts.Draft.{Draft}
+use Rattle.ih_tables.specs.declared.ids.PatientNo.{PatientNo}
+use Rattle.ih_tables.specs.Sizes.{patient_count, room_count, nurse_count, shift_count}
+use Rattle.ih_links.specs.Lists.{Linked}
+use Rattle.ih_plan.specs.declared.moves.Placement.{Placement}
+use Rattle.ih_plan.specs.declared.moves.Write.{Write}
+use Rattle.ih_plan.specs.declared.moves.Write.TheVariants.{SetStay}
+use Rattle.ih_plan.specs.Timetable.{Timetable, IsPlanOf, IsPlacement, stay_of}
+use Rattle.ih_plan.specs.Writes.{put}
+use Rattle.ih_plan.specs.Persons.{person_of}
+use Rattle.ih_plan.specs.Presence.{is_present, covers, in_span}
+use Rattle.ih_plan.proofs.Entries.{stay_of-other, stay_of-same, admission-patient}
+use Rattle.ih_tables.specs.Valid.{IsValid}
+use Rattle.ih_nurses.specs.Ledger.{IsTied}
+use Rattle.ih_nurses.specs.Here.{AreSized, AreHere, is_here}
+use Rattle.ih_nurses.specs.Loads.{AreLoads, load_at, stay_load}
+use Rattle.ih_nurses.proofs.AdmitLemmas.{IsAdmission, present-more, load-more, load-most}
+
+-- within the horizon a stay covers the days until it is over
+pub span-covers : (a n days d : ℕ) → d < days → in_span a (min (a + n) days) d ≡ covers a n d
+span-covers a n days d h = elim (cases_lt d (a + n)) [
+  | inl below ↦ rw (lt-ltb d (a + n) below, lt-ltb d (min (a + n) days) (omega arith)) refl
+  | inr above ↦ rw (le-ltb d (a + n) above, le-ltb d (min (a + n) days) (omega arith)) refl
+]
+
+pub admits : (I : Draft) (P : Timetable) (p : PatientNo) (at : Placement) → IsPlanOf I P → p.0 < patient_count I → IsPlacement I at → stay_of P p.0 ≡ None
+    → IsAdmission I P (put (SetStay p (Some at)) P) p.0 at
+admits I P p at plan patient placed free = record {
+  patient = patient;
+  placed = placed;
+  before = free;
+  after = stay_of-same P p (Some at) (let sizes = plan.stays in omega arith);
+  others = λ x ne. stay_of-other P p (Some at) x ne;
+  cares = λ r k. refl;
+}
+
+pub leaves : (I : Draft) (P : Timetable) (p : PatientNo) (at : Placement) → IsPlanOf I P → p.0 < patient_count I → IsPlacement I at → stay_of P p.0 ≡ Some at
+    → IsAdmission I (put (SetStay p None) P) P p.0 at
+leaves I P p at plan patient placed there = record {
+  patient = patient;
+  placed = placed;
+  before = stay_of-same P p None (let sizes = plan.stays in omega arith);
+  after = there;
+  others = λ x ne. sym (stay_of-other P p None x ne);
+  cares = λ r k. refl;
+}
+
+pub absent-from : (I : Draft) (P : Timetable) (p r d : ℕ) → p < patient_count I → stay_of P p ≡ None → is_present I P r d p ≡ false
+absent-from I P p r d patient free = rw (admission-patient I P p patient, free) refl
+
+-- out of b || s a list without s is b, where b and s don't meet
+without-own : (b s m : Bool) → (m ≡ true → b ≡ false) → ((b || (s && m)) && not m) ≡ b
+without-own true s true e = absurd (let no : true ≡ false = e refl in cc)
+without-own true s false e = refl
+without-own false true true e = refl
+without-own false true false e = refl
+without-own false false m e = refl
+
+module _ {I : Draft} {P Q : Timetable} {p : ℕ} {at : Placement} (a : IsAdmission I P Q p at) where
+  pub here-entered : (old new : List Linked) → AreHere I P old → AreSized I new
+      → ((s e y : ℕ) → is_here new s e y ≡ (is_here old s e y || ((at.room.0 == s) && (in_span at.day.0 (min (at.day.0 + (person_of I p).length_of_stay) I.days) e && (p == y)))))
+      → AreHere I Q new
+  here-entered old new known sized each = record {
+    sized = sized;
+    each = λ r d x rh dh xh.
+        each r d x ∙ rw (known.each r d x rh dh xh, span-covers at.day.0 (person_of I p).length_of_stay I.days d dh) (sym (present-more a r d x));
+  }
+
+  pub loads-added : (old new : List ℕ) → AreLoads I P old → length new ≡ nurse_count I * shift_count I
+      → ((m j : ℕ) → m < nurse_count I → j < shift_count I → load_at I new m j ≡ load_at I old m j + stay_load I P p at m j) → AreLoads I Q new
+  loads-added old new known len each = record {
+    len = len;
+    each = λ n k nh kh. each n k nh kh ∙ rw (known.each n k nh kh) (sym (load-more a n k));
+  }
+
+  pub here-left : (old new : List Linked) → AreHere I Q old → AreSized I new
+      → ((s e y : ℕ) → is_here new s e y ≡ (is_here old s e y && not (in_span at.day.0 (min (at.day.0 + (person_of I p).length_of_stay) I.days) e && (p == y))))
+      → AreHere I P new
+  here-left old new known sized each = record {
+    sized = sized;
+    each = λ r d x rh dh xh.
+        each r d x ∙ rw (known.each r d x rh dh xh, span-covers at.day.0 (person_of I p).length_of_stay I.days d dh, present-more a r d x)
+        (without-own (is_present I P r d x) (at.room.0 == r) (covers at.day.0 (person_of I p).length_of_stay d && (p == x))
+        (λ both. let same : p ≡ x = eqb-true p x (and_parts (covers at.day.0 (person_of I p).length_of_stay d) (p == x) both).1 in rw (← same) (absent-from I P p r d a.patient a.before)));
+  }
+
+  pub loads-taken : (old new : List ℕ) → AreLoads I Q old → length new ≡ nurse_count I * shift_count I
+      → ((m j : ℕ) → m < nurse_count I → j < shift_count I → load_at I new m j + stay_load I P p at m j ≡ load_at I old m j) → AreLoads I P new
+  loads-taken old new known len each = record {
+    len = len;
+    each = λ n k nh kh.
+        let step = each n k nh kh in
+        let before = known.each n k nh kh in
+        let more = load-more a n k in
+        omega arith;
+  }
+
+  -- the stay is in the loads
+  pub loads-enough : (old : List ℕ) → AreLoads I Q old → (m j : ℕ) → m < nurse_count I → j < shift_count I → stay_load I P p at m j ≤ load_at I old m j
+  loads-enough old known m j mh jh =
+      let before = known.each m j mh jh in
+      let more = load-more a m j in
+      omega arith
+
+  -- on the days of the stay the patient is in the room
+  pub here-there : (old : List Linked) → AreHere I Q old → (e : ℕ) → in_span at.day.0 (min (at.day.0 + (person_of I p).length_of_stay) I.days) e ≡ true → is_here old at.room.0 e p ≡ true
+  here-there old known e h =
+      let parts = and_parts (nat_le at.day.0 e) (nat_lt e (min (at.day.0 + (person_of I p).length_of_stay) I.days)) h in
+      let below = ltb-true e (min (at.day.0 + (person_of I p).length_of_stay) I.days) parts.1 in
+      let day : e < I.days = omega arith in
+      let patient = a.patient in
+      let covered = sym (span-covers at.day.0 (person_of I p).length_of_stay I.days e day) ∙ h in
+      known.each at.room.0 e p a.placed.room day (omega arith) ∙ rw (admission-patient I Q p a.patient, a.after, eq-eqb at.room.0 at.room.0 refl) covered
+
+module _ {I : Draft} {P plan : Timetable} {here : List Linked} {loads : List ℕ} (known : IsTied I P plan here loads) where
+  -- a ledger stands for its own timetable
+  pub stands-own : IsTied I plan plan here loads
+  stands-own = subst (λ (S : Timetable). IsTied I S plan here loads) (sym known.plan_is) known
+
+  -- what is shown for its own timetable holds for each for which it stands
+  pub stands-for : (w : Write) {next : Timetable} {new_here : List Linked} {new_loads : List ℕ} → IsTied I (put w plan) next new_here new_loads → IsTied I (put w P) next new_here new_loads
+  stands-for w {next} {new_here} {new_loads} after = subst (λ (S : Timetable). IsTied I (put w S) next new_here new_loads) known.plan_is after
+
+  -- who isn't admitted is in no list
+  pub not-here : (p : ℕ) → p < patient_count I → stay_of P p ≡ None → (s e : ℕ) → s < room_count I → e < I.days → is_here here s e p ≡ false
+  not-here p patient free s e sh eh = known.here_are.each s e p sh eh (omega arith) ∙ absent-from I P p s e patient free
+
+  pub loads-small : IsValid I → (m j : ℕ) → m < nurse_count I → j < shift_count I → load_at I loads m j ≤ 256000000
+  loads-small valid m j mh jh =
+      let each = known.loads_are.each m j mh jh in
+      omega (arith, each, load-most I P m j valid)

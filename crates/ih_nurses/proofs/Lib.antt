@@ -1,0 +1,13 @@
+pub mod HereLemmas
+pub mod LoadSteps
+pub mod WalkLemmas
+pub mod SeenLemmas
+pub mod AdmitLemmas
+pub mod CareLemmas
+pub mod StayLemmas
+pub mod LedgerLemmas
+pub mod ShiftLemmas
+pub mod BillLemmas
+pub mod RoomLemmas
+pub mod StartLemmas
+pub mod TestLemmas

@@ -1,0 +1,160 @@
+-- The empty timetable's lists and loads.
+use Rattle.std.proofs.Common.{◌≡◌, ℕ, zero, suc, ◌+◌, ◌-◌, ◌*◌, ◌<◌, refl, arith, sym, subst, ◌∙◌, Bool, true, false, inl, inr, List, [], ◌∷◌, ◌++◌, replicate, Option, Some, None, min, Result, Ok, Err, IfOk}
+use Rattle.std.specs.Prelude.{◌||◌, ◌&&◌, ◌==◌, nat_lt, slice_get, slice_index_or, option_and_then}
+use Rattle.std.proofs.lemmas.Bool.{cases_eq, cases_lt, eq-eqb, ne_eqb, lt-ltb, le-ltb, and_right}
+use Rattle.std.proofs.lemmas.List.{get_or-replicate, replicate-append-replicate}
+use Rattle.std.proofs.Math.ListN.{length-replicate}
+use Rattle.ih_tables.specs.declared.drafts.Draft.{Draft}
+use Rattle.ih_tables.specs.declared.drafts.Occupant.{Occupant}
+use Rattle.ih_tables.specs.Sizes.{patient_count, occupant_count, person_count, room_count, nurse_count, shift_count}
+use Rattle.ih_links.specs.Lists.{Linked, has}
+use Rattle.ih_plan.specs.Timetable.{Timetable, empty, stay_of, care_of}
+use Rattle.ih_plan.specs.Presence.{admission_of, covers, in_span, is_present}
+use Rattle.ih_plan.specs.Persons.{person_of}
+use Rattle.ih_plan.specs.Costs.{load_of}
+use Rattle.ih_plan.proofs.SumLemmas.{sum_below-same}
+use Rattle.ih_plan.proofs.SumBounds.{sum_below-none}
+use Rattle.ih_plan.proofs.Loads.{nurse_load}
+use Rattle.ih_nurses.specs.Here.{is_here, AreSized, AreVacant, AreFilled, AreHere}
+use Rattle.ih_nurses.specs.Loads.{AreLoads}
+use Rattle.ih_nurses.proofs.HereLemmas.{or-none}
+use Rattle.ih_nurses.proofs.LoadSteps.{place-inside}
+use Rattle.ih_nurses.proofs.LedgerLemmas.{span-covers, absent-from}
+
+-- what holds of the value, where there is one, gives what follows from it
+pub if-ok : {T E : Type 0} (r : Result T E) {A B : T → Type 0} → IfOk r A → ((x : T) → A x → B x) → IfOk r B
+if-ok (Ok x) holds follows = follows x holds
+if-ok (Err e) holds follows = holds
+
+-- nothing is read from a list of nothing
+none-read : {X : Type 0} (n i : ℕ) → option_and_then (λ (o : Option X). o) (slice_get (replicate n None) i) ≡ None
+none-read zero i = refl
+none-read (suc n) zero = refl
+none-read (suc n) (suc i) = none-read n i
+
+-- ---- loads
+
+no_nurse : (I : Draft) (r k : ℕ) → care_of (empty I) r k ≡ None
+no_nurse I r k = rw (none-read (shift_count I * room_count I) (shift_count I * r + k)) refl
+
+pub no-load : (I : Draft) (n k : ℕ) → load_of I (empty I) n k ≡ 0
+unfolding load_of
+no-load I n k = sum_below-same (room_count I) (nurse_load I (empty I) n k) (λ r. 0) (λ r h. rw (no_nurse I r k) refl) ∙ sum_below-none (room_count I)
+
+pub loads-none : (I : Draft) (loads : List ℕ) → loads ≡ replicate (nurse_count I * shift_count I) 0 → AreLoads I (empty I) loads
+loads-none I loads e = record {
+  len = rw e (length-replicate (nurse_count I * shift_count I) 0);
+  each = λ n k nh kh.
+      rw (e, get_or-replicate {A = ℕ} (nurse_count I * shift_count I) (n * shift_count I + k) 0 0 (place-inside I n k nh kh)) (sym (no-load I n k));
+}
+
+-- ---- days with nobody
+
+-- one list for each room, all empty
+abbrev pub no_persons : Draft → Linked
+no_persons I = record { lists = replicate (room_count I) []; nodes = person_count I }
+
+pub vacant-more : (I : Draft) (here new : List Linked) (d : ℕ) (day : Linked) → here ≡ replicate d (no_persons I) → day.lists ≡ replicate (room_count I) [] → day.nodes ≡ person_count I
+    → new ≡ here ++ day ∷ [] → new ≡ replicate (d + 1) (no_persons I)
+vacant-more I here new d day before lists nodes pushed =
+    let is : day ≡ no_persons I = rw (← lists, ← nodes) refl in
+    rw (pushed, before, is) (replicate-append-replicate d 1 (no_persons I))
+
+nobody-listed : (n r x : ℕ) → has x (slice_index_or (replicate n []) r []) ≡ false
+nobody-listed zero r x = refl
+nobody-listed (suc n) zero x = refl
+nobody-listed (suc n) (suc r) x = nobody-listed n r x
+
+nobody-here : (I : Draft) (n r d x : ℕ) → is_here (replicate n (no_persons I)) r d x ≡ false
+nobody-here I zero r d x = refl
+nobody-here I (suc n) r zero x = nobody-listed (room_count I) r x
+nobody-here I (suc n) r (suc d) x = nobody-here I n r d x
+
+pub vacant-all : (I : Draft) (here : List Linked) → here ≡ replicate I.days (no_persons I) → AreVacant I here
+vacant-all I here e =
+    let day = λ (d : ℕ) (h : d < I.days). get_or-replicate I.days d (no_persons I) (record { lists = []; nodes = 0 }) h in
+    record {
+      sized = record {
+        days = rw e (length-replicate I.days (no_persons I));
+        rooms = λ d h. rw (e, day d h) (length-replicate (room_count I) []);
+        persons = λ d h. rw (e, day d h) refl;
+      };
+      nobody = λ r d x. rw e (nobody-here I I.days r d x);
+    }
+
+-- ---- the occupants, one after the other
+
+pub no-stay : (I : Draft) (p : ℕ) → stay_of (empty I) p ≡ None
+no-stay I p = none-read (patient_count I) p
+
+pub filled-none : (I : Draft) (here : List Linked) → AreVacant I here → AreFilled I here 0
+filled-none I here vacant = record {
+  sized = vacant.sized;
+  each = λ r d x rh dh xh. vacant.nobody r d x ∙ elim (cases_lt x (patient_count I)) [
+    | inl patient ↦ rw (absent-from I (empty I) x r d patient (no-stay I x)) (sym (and_right (nat_lt x (patient_count I + 0)) false refl))
+    | inr past ↦ rw (le-ltb x (patient_count I + 0) (omega arith)) refl
+  ];
+}
+
+-- an occupant is in its room from day 0 on
+occupant-there : (I : Draft) (P : Timetable) (r d k : ℕ) (o : Occupant) → slice_get I.occupants k ≡ Some o
+    → is_present I P r d (patient_count I + k) ≡ ((o.room_id.0 == r) && covers 0 o.length_of_stay d)
+unfolding admission_of person_of
+occupant-there I P r d k o e =
+    let no_patient = le-ltb (patient_count I + k) (patient_count I) (omega arith) in
+    let place : patient_count I + k - patient_count I ≡ k = omega arith in
+    rw (no_patient, place, e) refl
+
+-- who is the next isn't listed yet
+pub next-free : (I : Draft) (here : List Linked) (k : ℕ) → AreFilled I here k → k < occupant_count I → (r d : ℕ) → r < room_count I → d < I.days
+    → is_here here r d (patient_count I + k) ≡ false
+next-free I here k filled kh r d rh dh =
+    filled.each r d (patient_count I + k) rh dh (omega arith) ∙ rw (le-ltb (patient_count I + k) (patient_count I + k) (omega arith)) refl
+
+module _ (I : Draft) (k : ℕ) (o : Occupant) (is : slice_get I.occupants k ≡ Some o) where
+  -- listed before, or now
+  abbrev both : ℕ → ℕ → ℕ → Bool
+  both r d x = ((nat_lt x (patient_count I + k) && is_present I (empty I) r d x) || ((o.room_id.0 == r) && (in_span 0 (min o.length_of_stay I.days) d && ((patient_count I + k) == x))))
+
+  own : (r d : ℕ) → d < I.days → both r d (patient_count I + k) ≡ (nat_lt (patient_count I + k) (patient_count I + (k + 1)) && is_present I (empty I) r d (patient_count I + k))
+  own r d dh =
+      let before = le-ltb (patient_count I + k) (patient_count I + k) (omega arith) in
+      let now = lt-ltb (patient_count I + k) (patient_count I + (k + 1)) (omega arith) in
+      let whole : 0 + o.length_of_stay ≡ o.length_of_stay = omega arith in
+      let covered : in_span 0 (min o.length_of_stay I.days) d ≡ covers 0 o.length_of_stay d =
+      subst (λ n. in_span 0 (min n I.days) d ≡ covers 0 o.length_of_stay d) whole (span-covers 0 o.length_of_stay I.days d dh) in
+      rw (before, now, eq-eqb (patient_count I + k) (patient_count I + k) refl, covered, occupant-there I (empty I) r d k o is)
+      (by_case (o.room_id.0 == r) (covers 0 o.length_of_stay d))
+    where
+      by_case : (b c : Bool) → (false || (b && (c && true))) ≡ (true && (b && c))
+      by_case false c = refl
+      by_case true false = refl
+      by_case true true = refl
+
+  other : (r d x : ℕ) → (x ≡ patient_count I + k → ⊥) → both r d x ≡ (nat_lt x (patient_count I + (k + 1)) && is_present I (empty I) r d x)
+  other r d x ne =
+      let still : nat_lt x (patient_count I + (k + 1)) ≡ nat_lt x (patient_count I + k) = elim (cases_lt x (patient_count I + k)) [
+        | inl early ↦ lt-ltb x (patient_count I + (k + 1)) (omega arith) ∙ sym (lt-ltb x (patient_count I + k) early)
+        | inr late ↦ le-ltb x (patient_count I + (k + 1)) (omega arith) ∙ sym (le-ltb x (patient_count I + k) late)
+      ] in
+      rw (ne_eqb (patient_count I + k) x (λ e. ne (sym e)), still)
+      (or-none (nat_lt x (patient_count I + k) && is_present I (empty I) r d x) ((o.room_id.0 == r) && (in_span 0 (min o.length_of_stay I.days) d && false))
+      (and_right (o.room_id.0 == r) (in_span 0 (min o.length_of_stay I.days) d && false) (and_right (in_span 0 (min o.length_of_stay I.days) d) false refl)))
+
+  -- with the next occupant
+  pub filled-more : (here new : List Linked) → AreFilled I here k → AreSized I new
+      → ((r d x : ℕ) → is_here new r d x ≡ (is_here here r d x || ((o.room_id.0 == r) && (in_span 0 (min o.length_of_stay I.days) d && ((patient_count I + k) == x))))) → AreFilled I new (k + 1)
+  filled-more here new filled sized each = record {
+    sized = sized;
+    each = λ r d x rh dh xh. each r d x ∙ rw (filled.each r d x rh dh xh) (elim (cases_eq x (patient_count I + k)) [
+      | inl same ↦ rw same (own r d dh)
+      | inr ne ↦ other r d x ne
+    ]);
+  }
+
+-- with all occupants the lists are those of the empty timetable
+pub filled-all : (I : Draft) (here : List Linked) → AreFilled I here (occupant_count I) → AreHere I (empty I) here
+filled-all I here filled = record {
+  sized = filled.sized;
+  each = λ r d x rh dh xh. filled.each r d x rh dh xh ∙ rw (lt-ltb x (person_count I) xh) refl;
+}

@@ -1,0 +1,37 @@
+use Rattle.std.proofs.Common.{subst, sym, ◌∙◌, ◌≡◌, Some, None}
+use Rattle.std.proofs.lemmas.List.{with_items_is}
+use Rattle.ih_plan.specs.declared.moves.Write.TheVariants.{SetStay}
+use Rattle.ih_plan.specs.Timetable.{stay_of}
+use Rattle.ih_plan.proofs.PlanRanges.{put-plan}
+use Rattle.ih_nurses.proofs.LedgerLemmas.{leaves, here-left, loads-taken, here-there, loads-enough, stands-own, stands-for}
+use Rattle.ih_nurses.proofs.nurses.Nurses.leave.Goals as goal
+
+pub leave_days-requires-clause-there : goal.leave_days-requires-clause-there
+leave_days-requires-clause-there c =
+    let known = c.requires.stands.1 in
+    let admission = leaves c.args.inst.now.draft c.requires.stands.0 c.args.p c.args.at known.fits c.requires.patient c.requires.placement c.requires.stands.2 in
+    rw (c.as_mut_slice.ensures.value, c.end_of-end.ensures.value) (here-there admission c.args.self.now.here.items known.here_are)
+
+pub take_stay-requires-clause-enough : goal.take_stay-requires-clause-enough
+take_stay-requires-clause-enough c =
+    let own = stands-own c.requires.stands.1 in
+    let there = subst (λ S. stay_of S c.args.p.0 ≡ Some c.args.at) (sym c.requires.stands.1.plan_is) c.requires.stands.2 in
+    let admission = leaves c.args.inst.now.draft c.args.self.now.plan c.args.p c.args.at own.fits c.requires.patient c.requires.placement there in
+    rw c.as_mut_slice-2.ensures.value (loads-enough admission c.args.self.now.loads.items own.loads_are)
+
+pub returns : goal.returns
+returns c = λ P known.
+    let own = stands-own known in
+    let there = subst (λ S. stay_of S c.args.p.0 ≡ Some c.args.at) (sym c.requires.stands.1.plan_is) c.requires.stands.2 in
+    let admission = leaves c.args.inst.now.draft c.args.self.now.plan c.args.p c.args.at own.fits c.requires.patient c.requires.placement there in
+    let days = c.leave_days.ensures.sized.days in
+    let days_before = own.here_are.sized.days in
+    rw (with_items_is c.args.self.now.here c.leave_days.new.here (days ∙ (sym days_before ∙ sym c.args.self.now.here.ok.0)), with_items_is c.args.self.now.loads c.take_stay.new.loads (c.take_stay.ensures.len ∙ (sym own.loads_are.len ∙ sym c.args.self.now.loads.ok.0)))
+    (stands-for known (SetStay c.args.p None) (record {
+      plan_is = c.put.ensures;
+      fits = put-plan c.args.inst.now.draft c.args.self.now.plan (SetStay c.args.p None) own.fits (c.requires.patient, λ at e. absurd (let no : None ≡ Some at = e in cc));
+      here_are = here-left admission c.args.self.now.here.items c.leave_days.new.here own.here_are c.leave_days.ensures.sized
+          (rw (← c.as_mut_slice.ensures.value, ← c.end_of-end.ensures.value) c.leave_days.ensures.each);
+      loads_are = loads-taken admission c.args.self.now.loads.items c.take_stay.new.loads own.loads_are c.take_stay.ensures.len
+          (rw (← c.as_mut_slice-2.ensures.value) c.take_stay.ensures.each);
+    }))

@@ -1,0 +1,43 @@
+use Rattle.std.proofs.Common.{◌≡◌, ◌∙◌, sym}
+use Rattle.std.proofs.lemmas.List.{with_items_is}
+use Rattle.ih_plan.specs.declared.moves.Write.TheVariants.{SetCare}
+use Rattle.ih_plan.specs.Presence.{workload_of}
+use Rattle.ih_plan.proofs.Loads.{room_load}
+use Rattle.ih_plan.proofs.PlanRanges.{put-plan, choice-inside}
+use Rattle.ih_nurses.proofs.LedgerLemmas.{stands-own, stands-for, loads-small}
+use Rattle.ih_nurses.proofs.ShiftLemmas.{sum-in_list, load-enough, loads-moved, here-kept}
+use Rattle.ih_nurses.proofs.nurses.Nurses.set_care.Goals as goal
+
+pub move_load-requires-clause-small : goal.move_load-requires-clause-small
+move_load-requires-clause-small c = λ m mh. rw c.as_mut_slice.ensures.value (loads-small c.requires.stands.1 c.args.inst.now.valid m c.args.k.0 mh c.requires.shift)
+
+pub move_load-requires-clause-enough : goal.move_load-requires-clause-enough
+move_load-requires-clause-enough c =
+    let own = stands-own c.requires.stands.1 in
+    let total : c.workload_in-load.result ≡ room_load c.args.inst.now.draft c.args.self.now.plan c.args.k.0 c.args.r.0 =
+    c.workload_in-load.ensures.sum ∙ sum-in_list c.args.inst.now.draft c.args.self.now.plan c.args.self.now.here.items c.index-persons.result.now c.args.r.0 c.args.k.0
+    (workload_of c.args.inst.now.draft c.args.self.now.plan c.args.k.0) own.here_are c.requires.room c.requires.shift c.index-persons.ensures c.workload_in-load.ensures.nodes in
+    rw c.as_mut_slice.ensures.value
+    (load-enough c.args.inst.now.draft c.args.self.now.plan c.args.r c.args.k c.nurse_at-old.result c.workload_in-load.result c.args.self.now.loads.items own.fits c.requires.room c.requires.shift
+    c.nurse_at-old.ensures.choice total own.loads_are)
+
+pub put-requires : goal.put-requires
+put-requires c =
+    let own = stands-own c.requires.stands.1 in
+    choice-inside c.args.inst.now.draft c.args.self.now.plan c.args.r.0 c.args.k.0 own.fits c.requires.room c.requires.shift
+
+pub returns : goal.returns
+returns c = λ P known.
+    let own = stands-own known in
+    let total : c.workload_in-load.result ≡ room_load c.args.inst.now.draft c.args.self.now.plan c.args.k.0 c.args.r.0 =
+    c.workload_in-load.ensures.sum ∙ sum-in_list c.args.inst.now.draft c.args.self.now.plan c.args.self.now.here.items c.index-persons.result.now c.args.r.0 c.args.k.0
+    (workload_of c.args.inst.now.draft c.args.self.now.plan c.args.k.0) own.here_are c.requires.room c.requires.shift c.index-persons.ensures c.workload_in-load.ensures.nodes in
+    rw (with_items_is c.args.self.now.loads c.move_load.new.loads (c.move_load.ensures.len ∙ (sym own.loads_are.len ∙ sym c.args.self.now.loads.ok.0)))
+    (stands-for known (SetCare c.args.r c.args.k c.args.n) (record {
+      plan_is = c.put.ensures;
+      fits = put-plan c.args.inst.now.draft c.args.self.now.plan (SetCare c.args.r c.args.k c.args.n) own.fits (c.requires.room, c.requires.shift, c.requires.nurse);
+      here_are = here-kept c.args.inst.now.draft c.args.self.now.plan c.args.r c.args.k c.args.n c.args.self.now.here.items own.here_are;
+      loads_are = loads-moved c.args.inst.now.draft c.args.self.now.plan c.args.r c.args.k c.args.n c.nurse_at-old.result own.fits c.requires.room c.requires.shift
+          c.nurse_at-old.ensures.choice c.workload_in-load.result total c.args.self.now.loads.items own.loads_are c.move_load.new.loads c.move_load.ensures.len
+          (rw (← c.as_mut_slice.ensures.value) c.move_load.ensures.each);
+    }))

@@ -1,0 +1,19 @@
+use Rattle.std.proofs.Common.{arith, refl, ◌<◌, length, slice_index_or}
+use Rattle.ih_links.specs.Lists.{Linked}
+use Rattle.ih_nurses.proofs.HereLemmas.{free-lists, entered, read-here}
+use Rattle.ih_nurses.proofs.presence.enter_day.Goals as goal
+
+pub push_back-requires-clause-free : goal.push_back-requires-clause-free
+push_back-requires-clause-free c =
+    let days = c.requires.sized.days in
+    free-lists c.args.here.now c.args.d c.index-here-d.result (slice_index_or c.args.here.now c.args.d c.index-here-d.result) c.index-here-d.result (omega arith) refl
+    c.args.inst.now.draft c.args.x c.requires.sized c.requires.day c.requires.free
+
+pub returns-clause-each : goal.returns-clause-each
+returns-clause-each c =
+    let days = c.requires.sized.days in
+    let old : Linked = slice_index_or c.args.here.now c.args.d c.index-here-d.result in
+    let inside : c.args.d < length c.args.here.now = omega arith in
+    let rooms = c.requires.sized.rooms c.args.d c.requires.day in
+    let room : c.args.r.0 < length old.lists = rw (← read-here c.args.here.now c.args.d c.index-here-d.result old old inside refl, rooms) c.requires.room in
+    entered c.args.here.now c.args.d c.index-here-d.result old c.push_back.new.self inside refl c.args.r.0 c.args.x room c.push_back.ensures.lists

@@ -1,0 +1,8 @@
+use Rattle.std.proofs.Common.{arith, refl, slice_index_or}
+use Rattle.ih_nurses.proofs.HereLemmas.{left}
+use Rattle.ih_nurses.proofs.presence.leave_day.Goals as goal
+
+pub returns-clause-each : goal.returns-clause-each
+returns-clause-each c =
+    let days = c.requires.sized.days in
+    left c.args.here.now c.args.d c.index-here-d.result (slice_index_or c.args.here.now c.args.d c.index-here-d.result) c.remove.new.self (omega arith) refl c.args.x c.remove.ensures.lists

@@ -1,0 +1,25 @@
+use Rattle.std.proofs.Common.{arith, ◌≡◌, ◌+◌, ◌*◌, ◌<◌, min}
+use Rattle.ih_tables.specs.Sizes.{shift_count}
+use Rattle.ih_plan.specs.Persons.{person_of}
+use Rattle.ih_nurses.proofs.StayLemmas.{added-none, added-more, added-all, added-fits}
+use Rattle.ih_nurses.proofs.stays.add_stay.Goals as goal
+
+pub loop-k-init : goal.loop-k-init
+loop-k-init c = added-none c.requires.len
+
+pub add_load-requires-clause-fits : goal.add_load-requires-clause-fits
+add_load-requires-clause-fits c = λ m mh.
+    let shift : c.loop-k.k < shift_count c.args.inst.now.draft = omega arith in
+    let small = c.requires.small m c.loop-k.k mh shift in
+    omega (arith, small, added-fits c.loop-k.invariant shift m mh, c.workload-load.ensures.bound)
+
+pub loop-k-preserved : goal.loop-k-preserved
+loop-k-preserved c =
+    added-more c.loop-k.invariant
+    (record { low = omega arith; high = omega (arith, c.end_of-end.ensures.value); nurse_is = c.nurse_at-nurse.ensures.choice; load_is = c.workload-load.ensures.value })
+    c.add_load.new.loads c.add_load.ensures.len c.add_load.ensures.each
+
+pub returns-clause-each : goal.returns-clause-each
+returns-clause-each c =
+    let whole : c.loop-k.k ≡ 3 * min (c.args.at.day.0 + (person_of c.args.inst.now.draft c.args.p.0).length_of_stay) c.args.inst.now.draft.days = omega (arith, c.end_of-end.ensures.value) in
+    added-all (rw whole at c.loop-k.invariant)

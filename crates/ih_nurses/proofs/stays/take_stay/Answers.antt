@@ -1,0 +1,24 @@
+use Rattle.std.proofs.Common.{arith, ◌≡◌, ◌+◌, ◌*◌, min}
+use Rattle.ih_plan.specs.Persons.{person_of}
+use Rattle.ih_nurses.proofs.StayLemmas.{taken-none, taken-more, taken-all, taken-enough}
+use Rattle.ih_nurses.proofs.stays.take_stay.Goals as goal
+
+pub loop-k-init : goal.loop-k-init
+loop-k-init c = taken-none c.requires.len
+
+pub take_load-requires-clause-enough : goal.take_load-requires-clause-enough
+take_load-requires-clause-enough c =
+    taken-enough c.loop-k.invariant
+    (record { low = omega arith; high = omega (arith, c.end_of-end.ensures.value); nurse_is = c.nurse_at-nurse.ensures.choice; load_is = c.workload-load.ensures.value })
+    (omega arith) c.requires.enough
+
+pub loop-k-preserved : goal.loop-k-preserved
+loop-k-preserved c =
+    taken-more c.loop-k.invariant
+    (record { low = omega arith; high = omega (arith, c.end_of-end.ensures.value); nurse_is = c.nurse_at-nurse.ensures.choice; load_is = c.workload-load.ensures.value })
+    c.take_load.new.loads c.take_load.ensures.len c.take_load.ensures.each
+
+pub returns-clause-each : goal.returns-clause-each
+returns-clause-each c =
+    let whole : c.loop-k.k ≡ 3 * min (c.args.at.day.0 + (person_of c.args.inst.now.draft c.args.p.0).length_of_stay) c.args.inst.now.draft.days = omega (arith, c.end_of-end.ensures.value) in
+    taken-all (rw whole at c.loop-k.invariant)

@@ -1,0 +1,4 @@
+pub mod Here
+pub mod Loads
+pub mod Ledger
+pub mod Marks

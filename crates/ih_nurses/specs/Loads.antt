@@ -1,0 +1,30 @@
+-- The workload of each nurse in each shift, as a table.
+use Rattle.std.specs.Prelude.{◌≡◌, ◌<◌, ℕ, ◌+◌, ◌-◌, ◌*◌, ◌==◌, ◌&&◌, if◌then◌else◌, List, length, Option, slice_index, slice_index_or, option_map}
+use Rattle.ih_tables.specs.declared.drafts.Draft.{Draft}
+use Rattle.ih_tables.specs.declared.ids.NurseNo.{NurseNo}
+use Rattle.ih_tables.specs.Sizes.{nurse_count, shift_count}
+use Rattle.ih_plan.specs.declared.moves.Placement.{Placement}
+use Rattle.ih_plan.specs.Timetable.{Timetable, care_of}
+use Rattle.ih_plan.specs.Persons.{person_of}
+use Rattle.ih_plan.specs.Presence.{covers, day_of}
+use Rattle.ih_plan.specs.Costs.{load_of, is_number}
+
+-- the table's number for nurse n and shift k
+abbrev pub load_at : Draft → List ℕ → ℕ → ℕ → ℕ
+load_at I loads n k = slice_index_or loads (n * shift_count I + k) 0
+
+-- what nurse m has in shift j of a load that nurse n, where there is one, has in shift k
+abbrev pub share : Option NurseNo → ℕ → ℕ → ℕ → ℕ → ℕ
+share n k load m j = if (j == k) && is_number (option_map (λ (a : NurseNo). a.0) n) m then load else 0
+
+-- what a stay of patient p gives to nurse n in shift k
+abbrev pub stay_load : Draft → Timetable → ℕ → Placement → ℕ → ℕ → ℕ
+stay_load I P p at n k =
+    if is_number (care_of P at.room.0 k) n
+    then (if covers at.day.0 (person_of I p).length_of_stay (day_of k) then slice_index (person_of I p).workload (k - 3 * at.day.0) else 0)
+    else 0
+
+-- The table has the workload of each nurse in each shift.
+pub record AreLoads (I : Draft) (P : Timetable) (loads : List ℕ) : Type 0 where
+  pub len : length loads ≡ nurse_count I * shift_count I
+  pub each : (n k : ℕ) → n < nurse_count I → k < shift_count I → load_at I loads n k ≡ load_of I P n k

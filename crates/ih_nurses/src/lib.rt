@@ -1,0 +1,19 @@
+//! The ledger of nurses: what nurses cost in a room's shift, in a nurse's shift and over a person's stay, without looking through the timetable.
+#![tactic(auto)]
+
+mod bills;
+mod choices;
+#[cfg(test)]
+mod example;
+mod loads;
+mod nurses;
+mod persons;
+mod presence;
+mod rooms;
+mod seen;
+mod start;
+mod stays;
+#[cfg(test)]
+mod tests;
+
+pub use nurses::Nurses;

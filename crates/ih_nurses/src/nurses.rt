@@ -1,0 +1,152 @@
+//! The ledger of nurses.
+
+ghost use Rattle.std.specs.Prelude.{◌≡◌, ◌<◌, ◌≤◌, ◌^◌, None, Some, IfOk};
+ghost use Rattle.ih_tables.specs.declared.drafts.Draft.{Draft};
+ghost use Rattle.ih_tables.specs.declared.ids.NurseNo.{NurseNo};
+ghost use Rattle.ih_tables.specs.declared.cells.Cell.TheVariants.{RoomShift, NurseShift, Care};
+ghost use Rattle.ih_tables.specs.Sizes.{patient_count, person_count, room_count, shift_count, nurse_count};
+ghost use Rattle.ih_tables.specs.Bills.{IsWithin};
+ghost use Rattle.ih_plan.specs.declared.moves.Write.TheVariants.{SetStay, SetCare};
+ghost use Rattle.ih_plan.specs.Timetable.{Timetable, IsPlacement, stay_of, empty};
+ghost use Rattle.ih_plan.specs.Writes.{put};
+ghost use Rattle.ih_plan.specs.BillOf.{as_bill};
+ghost use Rattle.ih_plan.specs.Cells.{part_at};
+ghost use Rattle.ih_nurses.specs.Ledger.{IsLedgerOf, plan_of};
+
+use crate::bills::{NursingCosts, bill_of};
+use crate::choices::nurse_at;
+use crate::loads::{load, move_load, overload};
+use crate::presence::{enter_days, leave_days};
+use crate::rooms::{missing_skill, nurse_off, uncovered, workload_in};
+use crate::seen::nurses_of;
+use crate::start::{no_loads, occupants_here};
+use crate::stays::{add_stay, end_of, take_stay};
+use ih_links::Links;
+use ih_plan::{Placement, Plan, Write};
+use ih_tables::{Bill, Instance, NurseNo, PatientNo, PersonNo, RoomNo, Shift};
+use std::alloc::{AllocError, Global};
+
+/// The ledger of nurses: it stands for a timetable, and tells each cell's part of the bill of nursing.
+#[derive(Drop)]
+pub struct Nurses {
+    // The timetable itself.
+    plan: Plan,
+    // For each day, the persons in each room.
+    here: Vec<Links>,
+    // The workload of each nurse in each shift: those of nurse 0 first, rising by shift.
+    loads: Vec<u32>,
+}
+
+impl Nurses {
+    /// The ledger of the empty timetable: the occupants alone are in rooms, and no room has a nurse. All later calls take no memory.
+    pub fn new(alloc: Global, inst: &Instance) -> Result<Nurses, AllocError>
+        ensures { IfOk result (λ ledger. IsLedgerOf inst.now.draft (empty inst.now.draft) ledger) }
+    {
+        let plan = Plan::empty(alloc, inst)?;
+        let here = occupants_here(alloc, inst)?;
+        let loads = no_loads(alloc, inst)?;
+        Ok(Nurses { plan, here, loads })
+    }
+
+    /// The timetable for which the ledger stands.
+    pub fn plan(&self) -> &Plan
+        ensures value { result.now ≡ plan_of self.now }
+        ensures stands { (I : Draft) (P : Timetable) → IsLedgerOf I P self.now → result.now ≡ P }
+    {
+        &self.plan
+    }
+
+    /// Enters a patient who isn't admitted. It takes no memory.
+    pub fn enter(&mut self, inst: &Instance, p: PatientNo, at: Placement)
+        requires patient { p.0 < patient_count inst.now.draft }
+        requires placement { IsPlacement inst.now.draft at }
+        requires stands { (P : Timetable) × IsLedgerOf inst.now.draft P self.old × (stay_of P p.0 ≡ None) }
+        ensures { (P : Timetable) → IsLedgerOf inst.now.draft P self.old → IsLedgerOf inst.now.draft (put (SetStay p (Some at)) P) self.new }
+    {
+        let end = end_of(inst, p, at);
+        enter_days(inst, self.here.as_mut_slice(), at.room, at.day.0, end, p.0);
+        add_stay(inst, &self.plan, self.loads.as_mut_slice(), p, at);
+        self.plan.put(&Write::SetStay(p, Some(at)));
+    }
+
+    /// Takes out a patient who is admitted there. It takes no memory.
+    pub fn leave(&mut self, inst: &Instance, p: PatientNo, at: Placement)
+        requires patient { p.0 < patient_count inst.now.draft }
+        requires placement { IsPlacement inst.now.draft at }
+        requires stands { (P : Timetable) × IsLedgerOf inst.now.draft P self.old × (stay_of P p.0 ≡ Some at) }
+        ensures { (P : Timetable) → IsLedgerOf inst.now.draft P self.old → IsLedgerOf inst.now.draft (put (SetStay p None) P) self.new }
+    {
+        let end = end_of(inst, p, at);
+        leave_days(inst, self.here.as_mut_slice(), at.room, at.day.0, end, p.0);
+        take_stay(inst, &self.plan, self.loads.as_mut_slice(), p, at);
+        self.plan.put(&Write::SetStay(p, None));
+    }
+
+    /// Replaces the nurse of a room in a shift. It goes over the persons who are in the room on that day, and takes no memory.
+    pub fn set_care(&mut self, inst: &Instance, r: RoomNo, k: Shift, n: Option<NurseNo>)
+        requires room { r.0 < room_count inst.now.draft }
+        requires shift { k.0 < shift_count inst.now.draft }
+        requires nurse { (a : NurseNo) → n ≡ Some a → a.0 < nurse_count inst.now.draft }
+        requires stands { (P : Timetable) × IsLedgerOf inst.now.draft P self.old }
+        ensures { (P : Timetable) → IsLedgerOf inst.now.draft P self.old → IsLedgerOf inst.now.draft (put (SetCare r k n) P) self.new }
+    {
+        let persons = &self.here[(k.0 / 3) as usize];
+        let load = workload_in(inst, &self.plan, persons, r, k);
+        let old = nurse_at(inst, &self.plan, r, k);
+        move_load(inst, self.loads.as_mut_slice(), old, n, k, load);
+        self.plan.put(&Write::SetCare(r, k, n));
+    }
+
+    /// A room's part of the bill in a shift: whether its nurse doesn't work the shift, whether persons are present without a nurse, and the required skill above the nurse's. Each number is at most 10^11.
+    pub fn room_shift_bill(&self, inst: &Instance, r: RoomNo, k: Shift) -> Bill
+        requires room { r.0 < room_count inst.now.draft }
+        requires shift { k.0 < shift_count inst.now.draft }
+        requires stands { (P : Timetable) × IsLedgerOf inst.now.draft P self.now }
+        ensures part { (P : Timetable) → IsLedgerOf inst.now.draft P self.now → result ≡ as_bill (part_at inst.now.draft P (RoomShift r k)) }
+        ensures within { IsWithin (10 ^ 11) result }
+    {
+        let persons = &self.here[(k.0 / 3) as usize];
+        let nurse = nurse_at(inst, &self.plan, r, k);
+        bill_of(NursingCosts {
+            off: nurse_off(inst, nurse, k),
+            uncovered: uncovered(persons, r, nurse),
+            missing_skill: missing_skill(inst, &self.plan, persons, r, k, nurse),
+            nurses_seen: 0,
+            overload: 0,
+        })
+    }
+
+    /// A nurse's part of the bill in a shift: the workload above the maximum, where the shift is worked. Each number is at most 10^11.
+    pub fn nurse_shift_bill(&self, inst: &Instance, n: NurseNo, k: Shift) -> Bill
+        requires nurse { n.0 < nurse_count inst.now.draft }
+        requires shift { k.0 < shift_count inst.now.draft }
+        requires stands { (P : Timetable) × IsLedgerOf inst.now.draft P self.now }
+        ensures part { (P : Timetable) → IsLedgerOf inst.now.draft P self.now → result ≡ as_bill (part_at inst.now.draft P (NurseShift n k)) }
+        ensures within { IsWithin (10 ^ 11) result }
+    {
+        let load = load(inst, self.loads.as_slice(), n, k);
+        bill_of(NursingCosts {
+            off: 0,
+            uncovered: 0,
+            missing_skill: 0,
+            nurses_seen: 0,
+            overload: overload(inst, n, k, load),
+        })
+    }
+
+    /// A person's part of the bill: the distinct nurses of its stay. Each number is at most 10^11.
+    pub fn care_bill(&self, inst: &Instance, x: PersonNo) -> Bill
+        requires person { x.0 < person_count inst.now.draft }
+        requires stands { (P : Timetable) × IsLedgerOf inst.now.draft P self.now }
+        ensures part { (P : Timetable) → IsLedgerOf inst.now.draft P self.now → result ≡ as_bill (part_at inst.now.draft P (Care x)) }
+        ensures within { IsWithin (10 ^ 11) result }
+    {
+        bill_of(NursingCosts {
+            off: 0,
+            uncovered: 0,
+            missing_skill: 0,
+            nurses_seen: nurses_of(inst, &self.plan, x.0),
+            overload: 0,
+        })
+    }
+}

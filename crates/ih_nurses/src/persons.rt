@@ -1,0 +1,75 @@
+//! What is asked of a person in a shift, by its number: patients come first, then occupants.
+
+ghost use Rattle.std.specs.Prelude.{◌≡◌, ◌<◌, ◌≤◌};
+ghost use Rattle.ih_tables.specs.Sizes.{person_count};
+ghost use Rattle.ih_plan.specs.Timetable.{IsPlanOf};
+ghost use Rattle.ih_plan.specs.Persons.{person_of};
+ghost use Rattle.ih_plan.specs.Presence.{entry_of, workload_of, skill_of};
+
+use ih_plan::Plan;
+use ih_tables::{Instance, PatientNo};
+
+/// Which entry of the person's vectors is the shift's.
+#[tactic(auto, unfolding(ih_plan::specs::Presence::admission_of, ih_plan::specs::Presence::entry_of))]
+fn entry_of(inst: &Instance, plan: &Plan, x: u32, k: u32) -> u32
+    requires plan { IsPlanOf inst.now.draft plan.now }
+    requires person { x < person_count inst.now.draft }
+    ensures { result ≡ entry_of inst.now.draft plan.now x k }
+{
+    let patients = inst.patients();
+    if x < patients {
+        match plan.stay(PatientNo(x)) {
+            None => 0,
+            Some(at) => (k as u64).saturating_sub(3 * at.day.0 as u64) as u32,
+        }
+    } else {
+        let _occupant = inst.occupant(x - patients);
+        k
+    }
+}
+
+/// The workload that the person makes in the shift.
+#[tactic(auto, unfolding(ih_plan::specs::Persons::person_of))]
+pub fn workload_of(inst: &Instance, plan: &Plan, x: u32, k: u32) -> u32
+    requires plan { IsPlanOf inst.now.draft plan.now }
+    requires person { x < person_count inst.now.draft }
+    ensures value { result ≡ workload_of inst.now.draft plan.now k x }
+    ensures bound { result ≤ 100000 }
+{
+    let at = entry_of(inst, plan, x, k) as usize;
+    let patients = inst.patients();
+    if x < patients {
+        let a = inst.patient(PatientNo(x));
+        a.workload_produced.as_slice().get(at).copied().unwrap_or(0)
+    } else {
+        let o = inst.occupant(x - patients);
+        o.workload_produced.as_slice().get(at).copied().unwrap_or(0)
+    }
+}
+
+/// The skill that the person requires in the shift.
+#[tactic(auto, unfolding(ih_plan::specs::Persons::person_of))]
+pub fn skill_of(inst: &Instance, plan: &Plan, x: u32, k: u32) -> u32
+    requires plan { IsPlanOf inst.now.draft plan.now }
+    requires person { x < person_count inst.now.draft }
+    ensures value { result ≡ skill_of inst.now.draft plan.now k x }
+    ensures bound { result ≤ 1000 }
+{
+    let at = entry_of(inst, plan, x, k) as usize;
+    let patients = inst.patients();
+    if x < patients {
+        let a = inst.patient(PatientNo(x));
+        a.skill_level_required
+            .as_slice()
+            .get(at)
+            .copied()
+            .unwrap_or(0)
+    } else {
+        let o = inst.occupant(x - patients);
+        o.skill_level_required
+            .as_slice()
+            .get(at)
+            .copied()
+            .unwrap_or(0)
+    }
+}

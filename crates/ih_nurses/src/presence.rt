@@ -1,0 +1,65 @@
+//! Who is in each room on each day: lists of persons, entered and left day by day.
+
+ghost use Rattle.std.specs.Prelude.{◌≡◌, ◌<◌, ◌≤◌, ℕ, ◌||◌, ◌&&◌, ◌==◌, not, true, false};
+ghost use Rattle.ih_tables.specs.Sizes.{person_count, room_count};
+ghost use Rattle.ih_plan.specs.Presence.{in_span};
+ghost use Rattle.ih_nurses.specs.Here.{AreSized, is_here};
+
+use ih_links::Links;
+use ih_tables::{Instance, RoomNo};
+
+// Lists a person in a room on a day.
+fn enter_day(inst: &Instance, here: &mut [Links], r: RoomNo, d: u32, x: u32)
+    requires sized { AreSized inst.now.draft here.old }
+    requires room { r.0 < room_count inst.now.draft }
+    requires day { d < inst.now.draft.days }
+    requires person { x < person_count inst.now.draft }
+    requires free { (s : ℕ) → s < room_count inst.now.draft → is_here here.old s d x ≡ false }
+    ensures sized { AreSized inst.now.draft here.new }
+    ensures each { (s e y : ℕ) → is_here here.new s e y ≡ (is_here here.old s e y || ((r.0 == s) && ((d == e) && (x == y)))) }
+{
+    here[d as usize].push_back(r.0, x);
+}
+
+/// Lists a person in a room from day `from` on and before day `to`.
+pub fn enter_days(inst: &Instance, here: &mut [Links], r: RoomNo, from: u32, to: u32, x: u32)
+    requires sized { AreSized inst.now.draft here.old }
+    requires room { r.0 < room_count inst.now.draft }
+    requires order { from ≤ to }
+    requires days { to ≤ inst.now.draft.days }
+    requires person { x < person_count inst.now.draft }
+    requires free { (s e : ℕ) → s < room_count inst.now.draft → e < inst.now.draft.days → is_here here.old s e x ≡ false }
+    ensures sized { AreSized inst.now.draft here.new }
+    ensures each { (s e y : ℕ) → is_here here.new s e y ≡ (is_here here.old s e y || ((r.0 == s) && (in_span from to e && (x == y)))) }
+{
+    for d in from..to {
+        enter_day(inst, here, r, d, x);
+    }
+}
+
+// Takes a person out of the lists of a day.
+fn leave_day(inst: &Instance, here: &mut [Links], r: RoomNo, d: u32, x: u32)
+    requires sized { AreSized inst.now.draft here.old }
+    requires day { d < inst.now.draft.days }
+    requires person { x < person_count inst.now.draft }
+    requires there { is_here here.old r.0 d x ≡ true }
+    ensures sized { AreSized inst.now.draft here.new }
+    ensures each { (s e y : ℕ) → is_here here.new s e y ≡ (is_here here.old s e y && not ((d == e) && (x == y))) }
+{
+    here[d as usize].remove(x);
+}
+
+/// Takes a person, who is in a room on these days, out of their lists.
+pub fn leave_days(inst: &Instance, here: &mut [Links], r: RoomNo, from: u32, to: u32, x: u32)
+    requires sized { AreSized inst.now.draft here.old }
+    requires order { from ≤ to }
+    requires days { to ≤ inst.now.draft.days }
+    requires person { x < person_count inst.now.draft }
+    requires there { (e : ℕ) → in_span from to e ≡ true → is_here here.old r.0 e x ≡ true }
+    ensures sized { AreSized inst.now.draft here.new }
+    ensures each { (s e y : ℕ) → is_here here.new s e y ≡ (is_here here.old s e y && not (in_span from to e && (x == y))) }
+{
+    for d in from..to {
+        leave_day(inst, here, r, d, x);
+    }
+}

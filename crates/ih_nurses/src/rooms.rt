@@ -1,0 +1,104 @@
+//! What the persons in a room and its nurse give, by a walk over the persons' list.
+
+ghost use Rattle.std.specs.Prelude.{◌≡◌, ◌<◌, ◌≤◌, ◌-◌, ◌*◌, ℕ, length, sum_by, map, option_map, is_none, not, ◌&&◌, IfSome};
+ghost use Rattle.ih_tables.specs.declared.ids.NurseNo.{NurseNo};
+ghost use Rattle.ih_tables.specs.Sizes.{person_count, nurse_count, shift_count};
+ghost use Rattle.ih_links.specs.Lists.{list_of, AreNodes};
+ghost use Rattle.ih_plan.specs.Timetable.{IsPlanOf};
+ghost use Rattle.ih_plan.specs.Presence.{workload_of, skill_of};
+ghost use Rattle.ih_plan.specs.Costs.{skill_missing, not_working, is_empty};
+ghost use Rattle.ih_plan.specs.Sums.{bit};
+
+use crate::persons::{skill_of, workload_of};
+use ih_links::Links;
+use ih_plan::Plan;
+use ih_tables::{Instance, NurseNo, RoomNo, Shift};
+
+/// The workload of the persons in a room's list in a shift.
+pub fn workload_in(inst: &Instance, plan: &Plan, persons: &Links, r: RoomNo, k: Shift) -> u32
+    requires plan { IsPlanOf inst.now.draft plan.now }
+    requires room { r.0 < length persons.now.lists }
+    requires persons { persons.now.nodes ≡ person_count inst.now.draft }
+    ensures sum { result ≡ sum_by (workload_of inst.now.draft plan.now k.0) (list_of persons.now r.0) }
+    ensures bound { result ≤ 256000000 }
+    ensures nodes { AreNodes (person_count inst.now.draft) (list_of persons.now r.0) }
+{
+    let mut sum = 0;
+    let mut at = persons.first(r.0);
+    while let Some(x) = at {
+        sum += workload_of(inst, plan, x, k.0);
+        at = persons.next(x);
+    }
+    sum
+}
+
+/// The required skills above a level of the persons in a room's list in a shift.
+pub fn skill_above(
+    inst: &Instance,
+    plan: &Plan,
+    persons: &Links,
+    r: RoomNo,
+    k: Shift,
+    level: u32,
+) -> u32
+    requires plan { IsPlanOf inst.now.draft plan.now }
+    requires room { r.0 < length persons.now.lists }
+    requires persons { persons.now.nodes ≡ person_count inst.now.draft }
+    ensures sum { result ≡ sum_by (λ x. skill_of inst.now.draft plan.now k.0 x - level) (list_of persons.now r.0) }
+    ensures bound { result ≤ 2560000 }
+    ensures nodes { AreNodes (person_count inst.now.draft) (list_of persons.now r.0) }
+{
+    let mut sum = 0;
+    let mut at = persons.first(r.0);
+    while let Some(x) = at {
+        sum += skill_of(inst, plan, x, k.0).saturating_sub(level);
+        at = persons.next(x);
+    }
+    sum
+}
+
+/// The required skills above the nurse's of the persons in a room's list in a shift, and 0 where there is no nurse.
+pub fn missing_skill(
+    inst: &Instance,
+    plan: &Plan,
+    persons: &Links,
+    r: RoomNo,
+    k: Shift,
+    n: Option<NurseNo>,
+) -> u32
+    requires plan { IsPlanOf inst.now.draft plan.now }
+    requires room { r.0 < length persons.now.lists }
+    requires persons { persons.now.nodes ≡ person_count inst.now.draft }
+    requires nurse { IfSome n (λ a. a.0 < nurse_count inst.now.draft) }
+    ensures { result ≡ skill_missing inst.now.draft (option_map (λ (a : NurseNo). a.0) n) (map (skill_of inst.now.draft plan.now k.0) (list_of persons.now r.0)) }
+{
+    match n {
+        None => 0,
+        Some(a) => skill_above(inst, plan, persons, r, k, inst.nurse(a).skill_level),
+    }
+}
+
+/// 1 where persons are in a room's list and there is no nurse, and 0 where not.
+pub fn uncovered(persons: &Links, r: RoomNo, n: Option<NurseNo>) -> u32
+    requires room { r.0 < length persons.now.lists }
+    ensures value { result ≡ bit (is_none (option_map (λ (a : NurseNo). a.0) n) && not (is_empty (list_of persons.now r.0))) }
+    ensures nodes { AreNodes persons.now.nodes (list_of persons.now r.0) }
+{
+    let occupied = persons.first(r.0).is_some();
+    if n.is_none() && occupied { 1 } else { 0 }
+}
+
+/// 1 where there is a nurse, who doesn't work the shift, and 0 where not.
+pub fn nurse_off(inst: &Instance, n: Option<NurseNo>, k: Shift) -> u32
+    requires nurse { IfSome n (λ a. a.0 < nurse_count inst.now.draft) }
+    requires shift { k.0 < shift_count inst.now.draft }
+    ensures { result ≡ bit (not_working inst.now.draft k.0 (option_map (λ (a : NurseNo). a.0) n)) }
+{
+    match n {
+        None => 0,
+        Some(a) => match inst.works(a, k) {
+            None => 1,
+            Some(_) => 0,
+        },
+    }
+}

@@ -1,0 +1,61 @@
+//! The ledger's tables at the empty timetable: the occupants are in their rooms, and no room has a nurse.
+
+ghost use Rattle.std.specs.Prelude.{◌<◌, ◌+◌, IfOk};
+ghost use Rattle.ih_tables.specs.Sizes.{occupant_count};
+ghost use Rattle.ih_plan.specs.Timetable.{empty};
+ghost use Rattle.ih_nurses.specs.Here.{AreVacant, AreFilled, AreHere};
+ghost use Rattle.ih_nurses.specs.Loads.{AreLoads};
+
+use crate::presence::enter_days;
+use ih_links::Links;
+use ih_tables::Instance;
+use std::alloc::{AllocError, Global};
+
+/// The load 0 for each nurse and shift.
+pub fn no_loads(alloc: Global, inst: &Instance) -> Result<Vec<u32>, AllocError>
+    ensures { IfOk result (λ loads. AreLoads inst.now.draft (empty inst.now.draft) loads.items) }
+{
+    vec![in alloc; 0; inst.nurses() as usize * inst.shifts() as usize]
+}
+
+// Lists for each day and room, with nobody in any.
+fn vacant(alloc: Global, inst: &Instance) -> Result<Vec<Links>, AllocError>
+    ensures { IfOk result (λ here. AreVacant inst.now.draft here.items) }
+{
+    let days = inst.days();
+    let mut here = Vec::with_capacity(alloc, days as usize)?;
+    for _ in 0..days {
+        here.push(Links::new(alloc, inst.rooms(), inst.persons())?)?;
+    }
+    Ok(here)
+}
+
+// Lists an occupant in its room from day 0 on, within the horizon.
+fn enter_occupant(inst: &Instance, here: &mut [Links], o: u32)
+    requires occupant { o < occupant_count inst.now.draft }
+    requires so_far { AreFilled inst.now.draft here.old o }
+    ensures { AreFilled inst.now.draft here.new (o + 1) }
+{
+    let occupant = inst.occupant(o);
+    let end = occupant.length_of_stay.min(inst.days());
+    enter_days(inst, here, occupant.room_id, 0, end, inst.patients() + o);
+}
+
+// Lists each occupant.
+fn enter_occupants(inst: &Instance, here: &mut [Links])
+    requires { AreVacant inst.now.draft here.old }
+    ensures { AreHere inst.now.draft (empty inst.now.draft) here.new }
+{
+    for o in 0..inst.occupants() {
+        enter_occupant(inst, here, o);
+    }
+}
+
+/// For each day, the occupants in each room.
+pub fn occupants_here(alloc: Global, inst: &Instance) -> Result<Vec<Links>, AllocError>
+    ensures { IfOk result (λ here. AreHere inst.now.draft (empty inst.now.draft) here.items) }
+{
+    let mut here = vacant(alloc, inst)?;
+    enter_occupants(inst, here.as_mut_slice());
+    Ok(here)
+}

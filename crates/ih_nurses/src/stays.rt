@@ -1,0 +1,80 @@
+//! What a patient's stay adds to the loads of its room's nurses.
+
+ghost use Rattle.std.specs.Prelude.{◌≡◌, ◌<◌, ◌≤◌, ◌+◌, ◌-◌, ◌*◌, ℕ, length, slice_index, min};
+ghost use Rattle.ih_tables.specs.Sizes.{patient_count, nurse_count, shift_count};
+ghost use Rattle.ih_plan.specs.Timetable.{IsPlanOf, IsPlacement};
+ghost use Rattle.ih_plan.specs.Persons.{person_of};
+ghost use Rattle.ih_nurses.specs.Loads.{load_at, stay_load};
+
+use crate::choices::nurse_at;
+use crate::loads::{add_load, take_load};
+use ih_plan::{Placement, Plan};
+use ih_tables::{Instance, PatientNo, Shift};
+
+/// The day on which a patient's stay is over, or the horizon where that comes first.
+#[tactic(auto, unfolding(ih_plan::specs::Persons::person_of))]
+pub fn end_of(inst: &Instance, p: PatientNo, at: Placement) -> u32
+    requires patient { p.0 < patient_count inst.now.draft }
+    requires placement { IsPlacement inst.now.draft at }
+    ensures value { result ≡ min (at.day.0 + (person_of inst.now.draft p.0).length_of_stay) inst.now.draft.days }
+    ensures order { at.day.0 ≤ result }
+    ensures days { result ≤ inst.now.draft.days }
+{
+    (at.day.0 + inst.patient(p).length_of_stay).min(inst.days())
+}
+
+// The workload that a patient makes in a shift of its stay.
+#[tactic(auto, unfolding(ih_plan::specs::Persons::person_of))]
+fn workload(inst: &Instance, p: PatientNo, at: Placement, k: u32) -> u32
+    requires patient { p.0 < patient_count inst.now.draft }
+    requires begun { 3 * at.day.0 ≤ k }
+    ensures value { result ≡ slice_index (person_of inst.now.draft p.0).workload (k - 3 * at.day.0) }
+    ensures bound { result ≤ 100000 }
+{
+    let place = (k - 3 * at.day.0) as usize;
+    let a = inst.patient(p);
+    a.workload_produced
+        .as_slice()
+        .get(place)
+        .copied()
+        .unwrap_or(0)
+}
+
+/// Adds a stay to the loads of its room's nurses.
+pub fn add_stay(inst: &Instance, plan: &Plan, loads: &mut [u32], p: PatientNo, at: Placement)
+    requires plan { IsPlanOf inst.now.draft plan.now }
+    requires patient { p.0 < patient_count inst.now.draft }
+    requires placement { IsPlacement inst.now.draft at }
+    requires len { length loads.old ≡ nurse_count inst.now.draft * shift_count inst.now.draft }
+    requires small { (m j : ℕ) → m < nurse_count inst.now.draft → j < shift_count inst.now.draft → load_at inst.now.draft loads.old m j ≤ 256000000 }
+    ensures len { length loads.new ≡ nurse_count inst.now.draft * shift_count inst.now.draft }
+    ensures each { (m j : ℕ) → m < nurse_count inst.now.draft → j < shift_count inst.now.draft
+        → load_at inst.now.draft loads.new m j ≡ load_at inst.now.draft loads.old m j + stay_load inst.now.draft plan.now p.0 at m j }
+{
+    let end = end_of(inst, p, at);
+    for k in 3 * at.day.0..3 * end {
+        let load = workload(inst, p, at, k);
+        let nurse = nurse_at(inst, plan, at.room, Shift(k));
+        add_load(inst, loads, nurse, Shift(k), load);
+    }
+}
+
+/// Takes a stay from the loads of its room's nurses.
+pub fn take_stay(inst: &Instance, plan: &Plan, loads: &mut [u32], p: PatientNo, at: Placement)
+    requires plan { IsPlanOf inst.now.draft plan.now }
+    requires patient { p.0 < patient_count inst.now.draft }
+    requires placement { IsPlacement inst.now.draft at }
+    requires len { length loads.old ≡ nurse_count inst.now.draft * shift_count inst.now.draft }
+    requires enough { (m j : ℕ) → m < nurse_count inst.now.draft → j < shift_count inst.now.draft
+        → stay_load inst.now.draft plan.now p.0 at m j ≤ load_at inst.now.draft loads.old m j }
+    ensures len { length loads.new ≡ nurse_count inst.now.draft * shift_count inst.now.draft }
+    ensures each { (m j : ℕ) → m < nurse_count inst.now.draft → j < shift_count inst.now.draft
+        → load_at inst.now.draft loads.new m j + stay_load inst.now.draft plan.now p.0 at m j ≡ load_at inst.now.draft loads.old m j }
+{
+    let end = end_of(inst, p, at);
+    for k in 3 * at.day.0..3 * end {
+        let load = workload(inst, p, at, k);
+        let nurse = nurse_at(inst, plan, at.room, Shift(k));
+        take_load(inst, loads, nurse, Shift(k), load);
+    }
+}

@@ -1,0 +1,129 @@
+//! A patient joins an occupant under a nurse, and another comes and goes.
+
+ghost use Rattle.std.specs.Prelude.{◌≡◌};
+ghost use Rattle.ih_tables.specs.Sizes.{patient_count, room_count, theatre_count, nurse_count};
+ghost use Rattle.ih_plan.specs.Timetable.{empty};
+ghost use Rattle.ih_nurses.specs.Ledger.{IsLedgerOf};
+
+use crate::Nurses;
+use crate::example::example;
+use ih_plan::Placement;
+use ih_tables::{Bill, Day, Instance, NurseNo, PatientNo, PersonNo, RoomNo, Shift, TheatreNo};
+use std::test::Fail;
+
+/// Threads share a ledger.
+fn share<T: Send + Sync>(_x: &T) {}
+
+// The first room and this theatre on the first day.
+fn first_day(theatre: TheatreNo) -> Placement
+    ensures { result ≡ record { day = record { 0 = 0 }; room = record { 0 = 0 }; theatre = theatre } }
+{
+    Placement {
+        day: Day(0),
+        room: RoomNo(0),
+        theatre,
+    }
+}
+
+// Whether the bill has these numbers: broken rules, then costs.
+fn is(bill: &Bill, broken: [i64; 9], costs: [i64; 8]) -> bool {
+    bill.v == broken && bill.s == costs
+}
+
+const KEPT: [i64; 9] = [0; 9];
+
+const UNCOVERED: [i64; 9] = [0, 0, 0, 0, 0, 0, 0, 0, 1];
+
+const NONE: [i64; 8] = [0; 8];
+
+const SKILL_OF_2: [i64; 8] = [0, 2, 0, 0, 0, 0, 0, 0];
+
+const SKILL_OF_4: [i64; 8] = [0, 4, 0, 0, 0, 0, 0, 0];
+
+const ONE_NURSE: [i64; 8] = [0, 0, 1, 0, 0, 0, 0, 0];
+
+const LOAD_OF_1: [i64; 8] = [0, 0, 0, 1, 0, 0, 0, 0];
+
+// Whether each bill is right after the first patient joins the occupant, and the unskilled nurse has the room in the night.
+fn one_is_right(inst: &Instance, ledger: &mut Nurses) -> bool
+    requires new { IsLedgerOf inst.now.draft (empty inst.now.draft) ledger.old }
+    requires days { inst.now.draft.days ≡ 2 }
+    requires patients { patient_count inst.now.draft ≡ 2 }
+    requires rooms { room_count inst.now.draft ≡ 2 }
+    requires theatres { theatre_count inst.now.draft ≡ 2 }
+    requires nurses { nurse_count inst.now.draft ≡ 2 }
+{
+    let at = first_day(TheatreNo(0));
+    ledger.enter(inst, PatientNo(0), at);
+    ledger.set_care(inst, RoomNo(0), Shift(2), Some(NurseNo(0)));
+    let night = ledger.room_shift_bill(inst, RoomNo(0), Shift(2));
+    let early = ledger.room_shift_bill(inst, RoomNo(0), Shift(0));
+    let elsewhere = ledger.room_shift_bill(inst, RoomNo(1), Shift(0));
+    let care = ledger.care_bill(inst, PersonNo(0));
+    let load = ledger.nurse_shift_bill(inst, NurseNo(0), Shift(2));
+    is(&night, KEPT, SKILL_OF_2)
+        && is(&early, UNCOVERED, NONE)
+        && is(&elsewhere, KEPT, NONE)
+        && is(&care, KEPT, ONE_NURSE)
+        && is(&load, KEPT, NONE)
+        && ledger.plan().stay(PatientNo(0)) == Some(at)
+}
+
+// Whether each bill is right while the second patient comes and goes under that nurse.
+fn coming_is_right(inst: &Instance, ledger: &mut Nurses) -> bool
+    requires new { IsLedgerOf inst.now.draft (empty inst.now.draft) ledger.old }
+    requires days { inst.now.draft.days ≡ 2 }
+    requires patients { patient_count inst.now.draft ≡ 2 }
+    requires rooms { room_count inst.now.draft ≡ 2 }
+    requires theatres { theatre_count inst.now.draft ≡ 2 }
+    requires nurses { nurse_count inst.now.draft ≡ 2 }
+{
+    let at = first_day(TheatreNo(1));
+    ledger.set_care(inst, RoomNo(0), Shift(2), Some(NurseNo(0)));
+    ledger.enter(inst, PatientNo(0), first_day(TheatreNo(0)));
+    ledger.enter(inst, PatientNo(1), at);
+    let night = ledger.room_shift_bill(inst, RoomNo(0), Shift(2));
+    let load = ledger.nurse_shift_bill(inst, NurseNo(0), Shift(2));
+    ledger.leave(inst, PatientNo(1), at);
+    let after = ledger.nurse_shift_bill(inst, NurseNo(0), Shift(2));
+    let care = ledger.care_bill(inst, PersonNo(1));
+    is(&night, KEPT, SKILL_OF_4)
+        && is(&load, KEPT, LOAD_OF_1)
+        && is(&after, KEPT, NONE)
+        && is(&care, KEPT, NONE)
+}
+
+#[test]
+fn a_nurse_lacks_skill_in_the_night_and_the_early_shift_has_none(
+    rt: HostRuntime,
+) -> Result<(), Fail> {
+    let alloc = rt.alloc();
+    let draft = example(alloc)?;
+    assert!(rt; draft.is_valid());
+    let inst = Instance::seal(alloc, draft)?;
+    assert!(rt; inst.days() == 2);
+    assert!(rt; inst.patients() == 2);
+    assert!(rt; inst.rooms() == 2);
+    assert!(rt; inst.theatres() == 2);
+    assert!(rt; inst.nurses() == 2);
+    let mut ledger = Nurses::new(alloc, &inst)?;
+    share(&ledger);
+    assert!(rt; one_is_right(&inst, &mut ledger));
+    Ok(())
+}
+
+#[test]
+fn a_second_patient_overloads_the_nurse_while_there(rt: HostRuntime) -> Result<(), Fail> {
+    let alloc = rt.alloc();
+    let draft = example(alloc)?;
+    assert!(rt; draft.is_valid());
+    let inst = Instance::seal(alloc, draft)?;
+    assert!(rt; inst.days() == 2);
+    assert!(rt; inst.patients() == 2);
+    assert!(rt; inst.rooms() == 2);
+    assert!(rt; inst.theatres() == 2);
+    assert!(rt; inst.nurses() == 2);
+    let mut ledger = Nurses::new(alloc, &inst)?;
+    assert!(rt; coming_is_right(&inst, &mut ledger));
+    Ok(())
+}
