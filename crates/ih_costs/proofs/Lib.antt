@@ -1,0 +1,5 @@
+pub mod PartLemmas
+pub mod CopyLemmas
+pub mod UndoLemmas
+pub mod StandLemmas
+pub mod TouchLemmas

@@ -1,0 +1,5 @@
+pub mod CellLedgers
+pub mod PartSums
+pub mod Standing
+pub mod Touched
+pub mod Undo

@@ -1,0 +1,104 @@
+//! Ledgers that price moves.
+
+use crate::cell_ledgers::CellLedgers;
+use crate::copies::copy_plan;
+use crate::pricing::{price_of, put_all};
+use ih_footprint::CellList;
+use ih_moves::{Writes, expand};
+use ih_plan::{Move, Plan, Write};
+use ih_tables::{Bill, Instance};
+use ih_validate::bill;
+use std::alloc::{AllocError, Global};
+use std::marker::Model;
+
+/// Ledgers that stand for a timetable of an instance. After `new` no call takes memory.
+#[derive(Drop)]
+pub struct Ledgers<'a> {
+    inst: &'a Instance,
+    cells: CellLedgers,
+    // Room for the writes of a move.
+    writes: Writes,
+}
+
+impl<'a> Model for Ledgers<'a> {
+    ghost use Rattle.ih_costs.specs.Standing.{Standing};
+    ghost use Rattle.ih_costs.specs.CellLedgers.{AreLedgers, timetable_of};
+
+    ghost Value = { Standing };
+
+    ghost view = { λ l. record { instance = l.inst.now.draft; plan = timetable_of l.cells } };
+
+    ghost invariant = { λ l. AreLedgers l.inst.now.draft l.cells };
+}
+
+impl<'a> Ledgers<'a> {
+    ghost use Rattle.std.specs.Prelude.{◌≡◌, ◌^◌, IfOk};
+    ghost use Rattle.ih_tables.specs.Sizes.{sizes_of};
+    ghost use Rattle.ih_tables.specs.Bills.{IsWithin};
+    ghost use Rattle.ih_plan.specs.Timetable.{IsPlanOf};
+    ghost use Rattle.ih_plan.specs.Writes.{put, IsWriteOf};
+    ghost use Rattle.ih_plan.specs.Expand.{after, IsMoveOf};
+    ghost use Rattle.ih_plan.specs.BillOf.{bill_of, change_of_bill};
+    ghost use Rattle.ih_plan.specs.Footprint.{footprint};
+
+    /// Ledgers that stand for a timetable, which fits the instance.
+    pub fn new(alloc: Global, inst: &'a Instance, plan: &Plan) -> Result<Ledgers<'a>, AllocError>
+        requires { IsPlanOf inst.now.draft plan.now }
+        ensures { IfOk result (λ l. l ≡ record { instance = inst.entry.now.draft; plan = plan.now }) }
+    {
+        let mut cells = CellLedgers::new(alloc, inst)?;
+        copy_plan(inst, &mut cells, plan);
+        Ok(Ledgers {
+            inst,
+            cells,
+            writes: Writes::new(),
+        })
+    }
+
+    /// The timetable that the ledgers stand for, which fits the instance.
+    pub fn plan(&self) -> &Plan
+        ensures value { result.now ≡ self.now.plan }
+        ensures fits { IsPlanOf self.now.instance self.now.plan }
+    {
+        self.cells.plan()
+    }
+
+    /// The bill of the whole timetable, summed over all of it. Each number is at most 10^11.
+    pub fn total(&self) -> Bill
+        ensures value { result ≡ bill_of self.now.instance self.now.plan }
+        ensures within { IsWithin (10 ^ 11) result }
+    {
+        bill(self.inst, self.cells.plan())
+    }
+
+    /// Makes a write.
+    pub fn put(&mut self, w: &Write)
+        requires { IsWriteOf self.old.instance w.now }
+        ensures { self.new ≡ record self.old { plan = put w.now self.old.plan } }
+    {
+        self.cells.put(self.inst, w);
+    }
+
+    /// Makes a move.
+    pub fn play(&mut self, mv: &Move)
+        requires { IsMoveOf self.old.instance mv.now }
+        ensures { self.new ≡ record self.old { plan = after self.old.instance self.old.plan mv.now } }
+    {
+        expand(self.inst, self.cells.plan(), mv, &mut self.writes);
+        put_all(self.inst, &mut self.cells, self.writes.as_slice());
+    }
+
+    /// What a move would add to the bill, number by number: each is at most 10^11 in magnitude. In place of what was listed
+    /// there, `foot` has the cells of the move's footprint, rising. The ledgers stand for the same timetable as before.
+    pub fn price(&mut self, mv: &Move, foot: &mut CellList) -> Bill
+        requires move_in { IsMoveOf self.old.instance mv.now }
+        requires sizes { foot.old.sizes ≡ sizes_of self.old.instance }
+        ensures price { result ≡ change_of_bill self.old.instance self.old.plan (after self.old.instance self.old.plan mv.now) }
+        ensures within { IsWithin (10 ^ 11) result }
+        ensures cells { foot.new.cells ≡ footprint self.old.instance self.old.plan mv.now }
+        ensures sizes { foot.new.sizes ≡ foot.old.sizes }
+        ensures same { self.new ≡ self.old }
+    {
+        price_of(self.inst, &mut self.cells, &mut self.writes, mv, foot)
+    }
+}
