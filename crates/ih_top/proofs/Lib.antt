@@ -3,6 +3,7 @@ pub mod Checks
 pub mod CommandEnds
 pub mod Completeness
 pub mod EntrySteps
+pub mod FreezeLemmas
 pub mod LegalEntries
 pub mod Rounds
 pub mod Saying

@@ -18,6 +18,7 @@ use Rattle.ih_journal.proofs.BestLemmas.{best-start}
 use Rattle.ih_journal.proofs.Freezing.{agree-none}
 use Rattle.ih_tables.specs.Bills.{feasible, cost}
 use Rattle.ih_plan.specs.BillOf.{bill_of}
+use Rattle.ih_tables.specs.Sizes.{sizes_of}
 use Rattle.ih_top.specs.declared.search.Progress.{Progress}
 use Rattle.ih_top.specs.Searching.{HasGrown, AreAt, IsGiven, IsProgress}
 
@@ -107,14 +108,15 @@ streams-more seed ss w len before v h = elim (cases_eq v w) [
 ]
 
 -- nothing was tried yet
-pub opened : (b : Base) (s : Progress) → IsGiven b → s.entries.items ≡ [] → s.plan ≡ b.start → s.moved ≡ b.start → s.bill ≡ bill_of b.instance b.start
-    → s.best ≡ best_with None 0 (feasible s.bill) (cost b.instance.weights s.bill) → IsProgress b s
+pub opened : (b : Base) (s : Progress) → IsGiven b → s.entries.items ≡ [] → s.ledgers.instance ≡ b.instance → s.ledgers.plan ≡ b.start → s.touched.sizes ≡ sizes_of b.instance
+    → s.bill ≡ bill_of b.instance b.start → s.best ≡ best_with None 0 (feasible s.bill) (cost b.instance.weights s.bill) → IsProgress b s
 unfolding after_entries
-opened b s given none plan room bill best = record {
+opened b s given none instance plan touched bill best = record {
   legal = rw none (legal-none b);
+  instance = instance;
   plan = rw none plan;
   fits = rw plan given.start;
-  scratch = rw room given.start;
+  touched = touched;
   bill = rw plan bill;
   best = rw (none, best) (best-start b (feasible s.bill) (cost b.instance.weights s.bill) (ap feasible (sym bill)) (ap (cost b.instance.weights) (sym bill)));
   agrees = rw none (agree-none b);

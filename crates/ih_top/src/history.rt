@@ -3,15 +3,16 @@
 ghost use Rattle.std.specs.Prelude.{◌≡◌, ◌<◌, ◌≤◌, ◌^◌, ℕ, All, IfOk, OnOk, length, take, ◌++◌};
 ghost use Rattle.ih_tables.specs.Bills.{IsWithin};
 ghost use Rattle.ih_plan.specs.Timetable.{IsPlanOf};
+ghost use Rattle.ih_plan.specs.Writes.{put_all, AreWritesOf};
 ghost use Rattle.ih_plan.specs.Expand.{IsMoveOf};
 ghost use Rattle.ih_journal.specs.History.{after_entry, plan_at};
 ghost use Rattle.ih_journal.specs.Texts.{journal, lines_from};
 ghost use Rattle.ih_top.specs.Searching.{base_of, IsGiven};
 
-use crate::search::{Given, put_all};
+use crate::search::Given;
 use ih_journal::{Entry, Options, Verdict, head_line, line};
 use ih_moves::{Writes, expand};
-use ih_plan::Plan;
+use ih_plan::{Plan, Write};
 use ih_tables::Instance;
 use std::alloc::{AllocError, Global};
 
@@ -42,6 +43,17 @@ pub fn journal_text(
     head_line(options, &mut out)?;
     put_lines(options, entries, &mut out)?;
     Ok(out)
+}
+
+// Makes the writes in order.
+fn put_all(inst: &Instance, plan: &mut Plan, writes: &[Write])
+    requires plan { IsPlanOf inst.now.draft plan.old }
+    requires writes { AreWritesOf inst.now.draft writes.now }
+    ensures { plan.new ≡ put_all writes.now plan.old }
+{
+    for w in writes {
+        plan.put(w);
+    }
 }
 
 // Makes the entry's move, where it was accepted.

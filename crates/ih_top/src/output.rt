@@ -90,9 +90,10 @@ pub fn make_output(alloc: Global, given: &Given<'_>) -> Result<Output, AllocErro
     ensures { IfOk result (IsOutput (base_of given.now)) }
 {
     let found = search(alloc, given)?;
+    let first_best = found.best;
     let entries = found.entries.as_slice();
     let journal = journal_text(alloc, &given.options, entries)?;
-    let best = match found.best {
+    let best = match first_best {
         Some((place, _)) => Some(best_output(alloc, given, entries, place)?),
         None => None,
     };

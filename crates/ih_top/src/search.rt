@@ -1,20 +1,22 @@
 //! The search: workers that take turns, one move each, on one timetable.
 
-ghost use Rattle.std.specs.Prelude.{◌≡◌, ◌<◌, ◌≤◌, ◌+◌, ◌*◌, ◌^◌, ℕ, OnOk, IfOk, length, slice_get, Some, []};
+ghost use Rattle.std.specs.Prelude.{◌≡◌, ◌<◌, ◌≤◌, ◌+◌, ◌*◌, ◌^◌, ℕ, OnOk, IfOk, length, slice_get, Some, [], ◌∷◌, ◌++◌};
 ghost use Rattle.std.specs.List.{list_any};
 ghost use Rattle.ih_tables.specs.Bills.{IsWithin, feasible, cost};
 ghost use Rattle.ih_plan.specs.Timetable.{IsPlanOf};
-ghost use Rattle.ih_plan.specs.Writes.{put_all, AreWritesOf};
-ghost use Rattle.ih_plan.specs.BillOf.{bill_of, change_of_bill};
-ghost use Rattle.ih_plan.specs.Expand.{after, expand, IsMoveOf};
+ghost use Rattle.ih_plan.specs.Writes.{AreWritesOf};
+ghost use Rattle.ih_plan.specs.BillOf.{bill_of};
+ghost use Rattle.ih_plan.specs.Expand.{IsMoveOf};
 ghost use Rattle.ih_plan.specs.Draws.{stream_at, move_of};
 ghost use Rattle.ih_journal.specs.Frozen.{AgreesBefore, is_frozen, is_frozen_write};
 ghost use Rattle.ih_journal.specs.Attempts.{HasMade};
-ghost use Rattle.ih_journal.specs.History.{is_accepted, plan_at};
-ghost use Rattle.ih_journal.specs.Legal.{IsFull};
+ghost use Rattle.ih_journal.specs.History.{plan_at};
+ghost use Rattle.ih_journal.specs.Legal.{IsFull, IsLegal, price_of};
 ghost use Rattle.ih_journal.specs.Best.{BestIs, best_with};
-ghost use Rattle.ih_top.specs.Searching.{base_of, IsGiven, IsProgress, HasGrown, AreAt, judged, applied, IsTaken};
+ghost use Rattle.ih_top.specs.Searching.{base_of, IsGiven, IsProgress, HasGrown, AreAt, judged, applied, bill_with, IsTaken};
 
+use ih_costs::Ledgers;
+use ih_footprint::{CellList, Numbering};
 use ih_journal::{Entry, Options, Verdict, frozen};
 use ih_moves::{Stream, Writes, expand};
 use ih_plan::{Move, Plan, Write};
@@ -33,27 +35,16 @@ pub struct Given<'a> {
 
 /// A history, with what follows from it.
 #[derive(Drop)]
-pub struct Progress {
-    /// The timetable after the entries.
-    pub plan: Plan,
-    /// Room for the timetable after the move under trial.
-    pub moved: Plan,
+pub struct Progress<'a> {
+    /// The ledgers of the timetable after the entries.
+    pub ledgers: Ledgers<'a>,
+    /// Room for the cells that the move under trial touches.
+    pub touched: CellList,
     /// The bill of the timetable after the entries.
     pub bill: Bill,
     pub entries: Vec<Entry>,
     /// The place and the cost of the first cheapest feasible timetable.
     pub best: Option<(u32, i64)>,
-}
-
-// Makes the writes in order.
-pub fn put_all(inst: &Instance, plan: &mut Plan, writes: &[Write])
-    requires plan { IsPlanOf inst.now.draft plan.old }
-    requires writes { AreWritesOf inst.now.draft writes.now }
-    ensures { plan.new ≡ put_all writes.now plan.old }
-{
-    for w in writes {
-        plan.put(w);
-    }
 }
 
 // Whether one of the writes changes a choice before the freeze day.
@@ -70,16 +61,38 @@ fn is_frozen(given: &Given<'_>, writes: &[Write]) -> bool
     false
 }
 
-// What becomes of a move that is offered right after it was priced.
-fn judge(given: &Given<'_>, writes: &[Write], number: u32, price: &Bill) -> Verdict
+// Whether the move changes a choice before the freeze day at a timetable. Before day 0 there is none.
+fn is_frozen_move(given: &Given<'_>, plan: &Plan, mv: &Move, writes: &mut Writes) -> bool
     requires given { IsGiven (base_of given.now) }
-    requires writes { AreWritesOf given.now.inst.now.draft writes.now }
+    requires plan { IsPlanOf given.now.inst.now.draft plan.now }
+    requires move_in { IsMoveOf given.now.inst.now.draft mv.now }
+    ensures { result ≡ is_frozen (base_of given.now) plan.now mv.now }
+{
+    if given.freeze == 0 {
+        return false;
+    }
+    expand(given.inst, plan, mv, writes);
+    is_frozen(given, writes.as_slice())
+}
+
+// What becomes of a move that is offered right after it was priced.
+fn judge(
+    given: &Given<'_>,
+    plan: &Plan,
+    mv: &Move,
+    writes: &mut Writes,
+    number: u32,
+    price: &Bill,
+) -> Verdict
+    requires given { IsGiven (base_of given.now) }
+    requires plan { IsPlanOf given.now.inst.now.draft plan.now }
+    requires move_in { IsMoveOf given.now.inst.now.draft mv.now }
     requires below { number < given.now.options.moves }
     requires within { IsWithin (10 ^ 11) price.now }
-    ensures { result ≡ judged (base_of given.now) writes.now number price.now }
+    ensures { result ≡ judged (base_of given.now) plan.now mv.now number price.now }
 {
     let weights = given.inst.weights();
-    if is_frozen(given, writes) {
+    if is_frozen_move(given, plan, mv, writes) {
         Verdict::Frozen
     } else if price.score(given.options.hard, weights) > given.options.theta(number) {
         Verdict::Declined
@@ -108,58 +121,61 @@ fn with_place(
     }
 }
 
-// The bill after the move, of which `moved` then is the timetable.
-fn try_writes(given: &Given<'_>, progress: &mut Progress, writes: &[Write]) -> Bill
-    requires given { IsGiven (base_of given.now) }
-    requires plan { IsPlanOf given.now.inst.now.draft progress.old.plan }
-    requires scratch { IsPlanOf given.now.inst.now.draft progress.old.moved }
-    requires writes { AreWritesOf given.now.inst.now.draft writes.now }
-    ensures moved { progress.new ≡ record progress.old { moved = put_all writes.now progress.old.plan } }
-    ensures bill { result ≡ bill_of given.now.inst.now.draft (put_all writes.now progress.old.plan) }
+// Makes the entry's move, where it is accepted.
+fn apply(progress: &mut Progress<'_>, entry: &Entry)
+    requires move_in { IsMoveOf progress.old.ledgers.instance entry.now.mv }
+    requires afterwards { IsWithin (10 ^ 11) (bill_with progress.old.bill entry.now) }
+    ensures { progress.new ≡ applied progress.old entry.now }
 {
-    progress.moved.copy_from(&progress.plan);
-    put_all(given.inst, &mut progress.moved, writes);
-    bill(given.inst, &progress.moved)
-}
-
-// Makes the move under trial, where it is accepted.
-fn apply(progress: &mut Progress, verdict: &Verdict, after: &Bill)
-    requires stays { length progress.old.plan.stays ≡ length progress.old.moved.stays }
-    requires cares { length progress.old.plan.cares ≡ length progress.old.moved.cares }
-    requires shifts { progress.old.plan.shifts ≡ progress.old.moved.shifts }
-    ensures { progress.new ≡ applied progress.old (is_accepted verdict.now) after.now }
-{
-    if let Verdict::Accepted = *verdict {
-        progress.plan.copy_from(&progress.moved);
-        progress.bill = *after;
+    if let Verdict::Accepted = entry.verdict {
+        progress.ledgers.play(&entry.mv);
+        progress.bill = progress.bill.add(&entry.price);
     }
 }
 
 // Adds the entry, makes its move where it is accepted, and notes the timetable that is then there.
-fn take_in(
-    given: &Given<'_>,
-    progress: &mut Progress,
-    entry: Entry,
-    after: &Bill,
-) -> Result<(), AllocError>
-    requires plan { IsPlanOf given.now.inst.now.draft progress.old.plan }
-    requires scratch { IsPlanOf given.now.inst.now.draft progress.old.moved }
-    requires bill { IsWithin (10 ^ 11) progress.old.bill }
-    requires after { IsWithin (10 ^ 11) after.now }
+fn add_entry(given: &Given<'_>, progress: &mut Progress<'_>, entry: Entry) -> Result<(), AllocError>
+    requires move_in { IsMoveOf progress.old.ledgers.instance entry.mv }
+    requires afterwards { IsWithin (10 ^ 11) (bill_with progress.old.bill entry) }
     requires few { length progress.old.entries.items < 2 ^ 31 }
-    ensures { OnOk result (IsTaken (base_of given.now) progress.old progress.new entry after.now) }
+    ensures { OnOk result (IsTaken (base_of given.now) progress.old progress.new entry) }
 {
     progress.entries.push(entry)?;
-    apply(progress, &entry.verdict, after);
+    apply(progress, &entry);
     let place = progress.entries.len() as u32;
     progress.best = with_place(progress.best, place, &progress.bill, given.inst);
     Ok(())
 }
 
+// The same of an entry that may come next and was priced just now.
+fn take_in(given: &Given<'_>, progress: &mut Progress<'_>, entry: Entry) -> Result<(), AllocError>
+    requires given { IsGiven (base_of given.now) }
+    requires progress { IsProgress (base_of given.now) progress.old }
+    requires legal { IsLegal (base_of given.now) progress.old.entries.items entry }
+    requires last { entry.seen ≡ length progress.old.entries.items }
+    requires few { length progress.old.entries.items < 2 ^ 31 }
+    ensures progress { OnOk result (IsProgress (base_of given.now) progress.new) }
+    ensures entries { OnOk result (progress.new.entries.items ≡ progress.old.entries.items ++ entry ∷ []) }
+{
+    add_entry(given, progress, entry)
+}
+
+// What the move would add to the bill.
+fn price_of(given: &Given<'_>, progress: &mut Progress<'_>, mv: &Move) -> Bill
+    requires progress { IsProgress (base_of given.now) progress.old }
+    requires move_in { IsMoveOf given.now.inst.now.draft mv.now }
+    ensures progress { IsProgress (base_of given.now) progress.new }
+    ensures entries { progress.new.entries.items ≡ progress.old.entries.items }
+    ensures price { result ≡ price_of given.now.inst.now.draft progress.new.ledgers.plan mv.now }
+    ensures within { IsWithin (10 ^ 11) result }
+{
+    progress.ledgers.price(mv, &mut progress.touched)
+}
+
 // One worker's next move: priced and judged at the timetable that is there.
 fn attempt(
     given: &Given<'_>,
-    progress: &mut Progress,
+    progress: &mut Progress<'_>,
     writes: &mut Writes,
     worker: u32,
     number: u32,
@@ -176,10 +192,8 @@ fn attempt(
     ensures progress { OnOk result (IsProgress (base_of given.now) progress.new) }
     ensures grown { OnOk result (HasGrown progress.old.entries.items progress.new.entries.items worker number) }
 {
-    expand(given.inst, &progress.plan, &mv, writes);
-    let after = try_writes(given, progress, writes.as_slice());
-    let price = after.sub(&progress.bill);
-    let verdict = judge(given, writes.as_slice(), number, &price);
+    let price = price_of(given, progress, &mv);
+    let verdict = judge(given, progress.ledgers.plan(), &mv, writes, number, &price);
     let entry = Entry {
         worker,
         number,
@@ -189,13 +203,13 @@ fn attempt(
         price,
         verdict,
     };
-    take_in(given, progress, entry, &after)
+    take_in(given, progress, entry)
 }
 
 // One worker's turn: its next draw, offered at once.
 fn turn(
     given: &Given<'_>,
-    progress: &mut Progress,
+    progress: &mut Progress<'_>,
     writes: &mut Writes,
     stream: &mut Stream,
     worker: u32,
@@ -219,7 +233,7 @@ fn turn(
 // One turn of each worker.
 fn round(
     given: &Given<'_>,
-    progress: &mut Progress,
+    progress: &mut Progress<'_>,
     writes: &mut Writes,
     streams: &mut [Stream],
     number: u32,
@@ -259,19 +273,19 @@ fn new_streams(alloc: Global, options: &Options) -> Result<Vec<Stream>, AllocErr
     Ok(streams)
 }
 
-fn opening(alloc: Global, given: &Given<'_>) -> Result<Progress, AllocError>
+fn opening<'a>(alloc: Global, given: &Given<'a>) -> Result<Progress<'a>, AllocError>
     requires given { IsGiven (base_of given.now) }
     ensures progress { IfOk result (IsProgress (base_of given.now)) }
     ensures empty { IfOk result (λ s. s.entries.items ≡ []) }
 {
-    let plan = given.start.try_clone(alloc)?;
-    let moved = given.start.try_clone(alloc)?;
+    let ledgers = Ledgers::new(alloc, given.inst, given.start)?;
+    let touched = CellList::new(alloc, Numbering::of(given.inst))?;
     let first = bill(given.inst, given.start);
     let best = with_place(None, 0, &first, given.inst);
     let count = given.options.workers as usize * given.options.moves as usize;
     Ok(Progress {
-        plan,
-        moved,
+        ledgers,
+        touched,
         bill: first,
         entries: Vec::with_capacity(alloc, count)?,
         best,
@@ -279,7 +293,7 @@ fn opening(alloc: Global, given: &Given<'_>) -> Result<Progress, AllocError>
 }
 
 /// The whole search: a full history, with the place and the cost of its first cheapest feasible timetable.
-pub fn search(alloc: Global, given: &Given<'_>) -> Result<Progress, AllocError>
+pub fn search<'a>(alloc: Global, given: &Given<'a>) -> Result<Progress<'a>, AllocError>
     requires given { IsGiven (base_of given.now) }
     ensures full { IfOk result (λ s. IsFull (base_of given.now) s.entries.items) }
     ensures few { IfOk result (λ s. length s.entries.items < 2 ^ 31) }

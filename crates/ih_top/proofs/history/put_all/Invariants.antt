@@ -1,7 +1,7 @@
 use Rattle.std.proofs.Common.{◌≡◌, drop}
 use Rattle.ih_plan.specs.Timetable.{IsPlanOf}
 use Rattle.ih_plan.specs.Writes.{put_all, AreWritesOf}
-use Rattle.ih_top.proofs.search.put_all.Given as goal
+use Rattle.ih_top.proofs.history.put_all.Given as goal
 
 abbrev pub invariant-loop-w : goal.invariant-loop-w
 invariant-loop-w l = record {

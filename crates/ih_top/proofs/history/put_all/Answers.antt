@@ -1,7 +1,7 @@
 use Rattle.std.proofs.Common.{◌∙◌}
 use Rattle.ih_plan.proofs.PlanRanges.{put-plan, write-inside}
 use Rattle.ih_top.proofs.Steps.{next-write, next-put}
-use Rattle.ih_top.proofs.search.put_all.Goals as goal
+use Rattle.ih_top.proofs.history.put_all.Goals as goal
 
 pub put-requires : goal.put-requires
 put-requires c =
