@@ -1,0 +1,155 @@
+-- One entry more: its verdict by counters is the one by entries, it is legal, and the counters stay the versions.
+use Rattle.std.proofs.Common.{◌≡◌, ℕ, ◌+◌, ◌<◌, ◌≤◌, refl, arith, sym, ap, ◌∙◌, subst, Bool, true, false, List, [], ◌∷◌, ◌++◌, length, take, drop, inl, inr, Option, Some, None}
+use Rattle.std.specs.Prelude.{if◌then◌else◌, ◌&&◌, ◌==◌, not, map, option_map}
+use Rattle.std.proofs.lemmas.List.{take-append-le, take_all}
+use Rattle.ih_tables.specs.declared.drafts.Draft.{Draft}
+use Rattle.ih_tables.specs.Sizes.{sizes_of}
+use Rattle.ih_plan.specs.declared.moves.Move.{Move}
+use Rattle.ih_plan.specs.Timetable.{Timetable, IsPlanOf}
+use Rattle.ih_plan.specs.Sums.{bit, is_listed, which_below}
+use Rattle.ih_plan.specs.Cells.{cell_at, cell_count}
+use Rattle.ih_plan.specs.Footprint.{touches, footprint}
+use Rattle.ih_plan.proofs.Lists.{has, has-listed, has-which_below, which_below-has, tagged-keys}
+use Rattle.ih_journal.specs.declared.entries.Entry.{Entry}
+use Rattle.ih_journal.specs.declared.entries.Verdict.{Verdict}
+use Rattle.ih_journal.specs.declared.entries.Verdict.TheVariants.{Accepted, Declined, Stale, Frozen}
+use Rattle.ih_journal.specs.declared.settings.Options.{Options}
+use Rattle.ih_journal.specs.Attempts.{Attempt, attempt_after, last_by, is_done, next_attempt}
+use Rattle.ih_journal.specs.Base.{Base}
+use Rattle.ih_journal.specs.History.{is_accepted, plan_at, plan_after, version}
+use Rattle.ih_journal.specs.Legal.{IsLegalButDraw, verdict_on, stale_or_accepted, first_changed}
+use Rattle.ih_journal.proofs.Growth.{AreMovesOf, get-more}
+use Rattle.ih_footprint.proofs.Ranked.{cell_in-in}
+use Rattle.ih_cellbook.specs.declared.offers.Offer.{Offer}
+use Rattle.ih_cellbook.specs.Counters.{first_differing, stale_by, verdict_by_counters, risen_where}
+use Rattle.ih_cellbook.specs.Legal.{AreLegalButDraws}
+use Rattle.ih_cellbook.specs.Offers.{IsRightOffer, entry_of, next_number, reads_after}
+use Rattle.ih_cellbook.proofs.Exact.{accepted-local}
+use Rattle.ih_cellbook.proofs.Finds.{find-pairs, find-same_listed, find-listed}
+use Rattle.ih_cellbook.proofs.Versions.{rose, first_risen, version-more}
+
+-- each counter is the version of its cell
+abbrev pub AreVersionsBy : Base → List Entry → (ℕ → ℕ) → Type 0
+AreVersionsBy b H counter = (n : ℕ) → n < cell_count b.instance → counter n ≡ version b H (cell_at b.instance n)
+
+-- the footprint's numbers are below the count, and it has just the cells touched
+pub footprint-below : (I : Draft) (P : Timetable) (m : Move) (n : ℕ) → has n (footprint I P m) ≡ true → n < cell_count I
+unfolding footprint
+footprint-below I P m n h = (which_below-has (cell_count I) n (λ i. touches I P m (cell_at I i)) h).0
+
+pub footprint-touches : (I : Draft) (P : Timetable) (m : Move) (n : ℕ) → n < cell_count I → is_listed n (footprint I P m) ≡ touches I P m (cell_at I n)
+unfolding footprint
+footprint-touches I P m n h =
+    sym (has-listed n (which_below (cell_count I) (λ i. touches I P m (cell_at I i)))) ∙ has-which_below (cell_count I) n (λ i. touches I P m (cell_at I i)) h
+
+-- the cells that were read
+pub reads-cells : (b : Base) (H : List Entry) (m : Move) → map (λ (r : ℕ × ℕ). r.0) (reads_after b H m) ≡ footprint b.instance (plan_after b H) m
+reads-cells b H m = tagged-keys (λ n. version b H (cell_at b.instance n)) (footprint b.instance (plan_after b H) m)
+
+-- ---- verdicts
+
+module _ (b : Base) (H : List Entry) (counter : ℕ → ℕ) (seen : ℕ) (m : Move) (versions : AreVersionsBy b H counter) where
+  first-is : first_differing counter (reads_after b (take seen H) m)
+      ≡ option_map (λ n. (n, version b (take seen H) (cell_at b.instance n))) (first_changed b.instance (plan_at b H seen) (drop seen H) m)
+  first-is =
+      let foot = footprint b.instance (plan_at b H seen) m in
+      find-pairs (λ (r : ℕ × ℕ). not (counter r.0 == r.1)) (λ n. version b (take seen H) (cell_at b.instance n)) (footprint b.instance (plan_at b H seen) m)
+      ∙ ap (option_map (λ n. (n, version b (take seen H) (cell_at b.instance n))))
+      (find-same_listed (λ n. not (counter n == version b (take seen H) (cell_at b.instance n))) (λ n. rose b H seen (cell_at b.instance n)) (footprint b.instance (plan_at b H seen) m)
+      (λ n h. ap (λ k. not (k == version b (take seen H) (cell_at b.instance n))) (versions n (footprint-below b.instance (plan_at b H seen) m n h)))
+      ∙ first_risen b H seen m)
+
+  first-below : (n : ℕ) → first_changed b.instance (plan_at b H seen) (drop seen H) m ≡ Some n → n < cell_count b.instance
+  first-below n e =
+      footprint-below b.instance (plan_at b H seen) m n
+      (find-listed (λ i. rose b H seen (cell_at b.instance i)) (footprint b.instance (plan_at b H seen) m) n (first_risen b H seen m ∙ e))
+
+  stale-same : stale_by b.instance counter (first_differing counter (reads_after b (take seen H) m))
+      ≡ stale_or_accepted b H seen (first_changed b.instance (plan_at b H seen) (drop seen H) m)
+  stale-same = ap (stale_by b.instance counter) first-is ∙ by_case (first_changed b.instance (plan_at b H seen) (drop seen H) m) refl
+    where
+      by_case : (o : Option ℕ) → first_changed b.instance (plan_at b H seen) (drop seen H) m ≡ o
+          → stale_by b.instance counter (option_map (λ n. (n, version b (take seen H) (cell_at b.instance n))) o) ≡ stale_or_accepted b H seen o
+      by_case None e = refl
+      by_case (Some n) e = ap (Stale (cell_at b.instance n) (version b (take seen H) (cell_at b.instance n))) (versions n (first-below n e))
+
+-- Comparing counters with the versions read gives the verdict that looking through the entries gives.
+pub verdict-same : (b : Base) (H : List Entry) (counter : ℕ → ℕ) (o : Offer) → AreVersionsBy b H counter → IsRightOffer b H o
+    → verdict_by_counters b.instance b.options counter o ≡ verdict_on b H o.number o.seen o.mv o.price
+unfolding verdict_by_counters verdict_on
+verdict-same b H counter o versions right =
+    rw (right.frozen, right.reads, stale-same b H counter o.seen o.mv versions) refl
+
+-- ---- the entry
+
+pub attempt-is : (o : Options) (H : List Entry) (w n : ℕ) → next_number o H w ≡ Some n
+    → next_attempt o H w ≡ Some (record { number = n; again = (attempt_after o (last_by w H)).again })
+unfolding next_attempt
+attempt-is o H w n = by_case (is_done o H w)
+  where
+    by_case : (t : Bool) → option_map (λ (a : Attempt). a.number) (if t then None else Some (attempt_after o (last_by w H))) ≡ Some n
+        → (if t then None else Some (attempt_after o (last_by w H))) ≡ Some (record { number = n; again = (attempt_after o (last_by w H)).again })
+    by_case true h = absurd (let no : None ≡ Some n = h in cc)
+    by_case false h =
+        let same : (attempt_after o (last_by w H)).number ≡ n = (let e : Some (attempt_after o (last_by w H)).number ≡ Some n = h in cc) in
+        ap (λ k. let a : Attempt = record { number = k; again = (attempt_after o (last_by w H)).again } in Some a) same
+
+pub entry-legal : (b : Base) (H : List Entry) (o : Offer) (v : Verdict) → IsRightOffer b H o → v ≡ verdict_on b H o.number o.seen o.mv o.price
+    → IsLegalButDraw b H (entry_of b H o v)
+entry-legal b H o v right verdict = record {
+  worker = right.worker;
+  attempt = attempt-is b.options H o.worker o.number right.number;
+  move = right.move;
+  seen = right.seen;
+  after_own = right.after_own;
+  price = right.price;
+  verdict = verdict;
+}
+
+pub legal_but-none : (b : Base) → AreLegalButDraws b []
+legal_but-none b k e h = absurd (let no : None ≡ Some e = h in cc)
+
+pub legal_but-more : (b : Base) (H : List Entry) (e : Entry) → AreLegalButDraws b H → IsLegalButDraw b H e → AreLegalButDraws b (H ++ e ∷ [])
+legal_but-more b H e legal one k f h = elim (get-more H e f k h) [
+  | inl earlier ↦
+      let short : k ≤ length H = (let less = earlier.0 in omega arith) in
+      subst (λ G. IsLegalButDraw b G f) (sym (take-append-le k H (e ∷ []) short)) (legal k f earlier.1)
+  | inr last ↦
+      let here : length H ≡ k = sym last.0 in
+      let whole : take k (H ++ e ∷ []) ≡ H = take-append-le k H (e ∷ []) (omega arith) ∙ take_all k H (omega arith) in
+      subst (λ G. IsLegalButDraw b G f) (sym whole) (subst (IsLegalButDraw b H) last.1 one)
+]
+
+pub legal_but-moves : (b : Base) (H : List Entry) → AreLegalButDraws b H → AreMovesOf b.instance H
+legal_but-moves b H legal k e h = (legal k e h).move
+
+-- ---- the counters
+
+pub accepted-is : (v : Verdict) → is_accepted v ≡ true → v ≡ Accepted
+accepted-is Accepted h = refl
+accepted-is Declined h = absurd (let no : false ≡ true = h in cc)
+accepted-is (Stale c k n) h = absurd (let no : false ≡ true = h in cc)
+accepted-is Frozen h = absurd (let no : false ≡ true = h in cc)
+
+-- what an accepted move touches at its place it touched where it was priced
+touched-there : (b : Base) (H : List Entry) (e : Entry) → IsPlanOf b.instance b.start → AreMovesOf b.instance H → IsLegalButDraw b H e → e.verdict ≡ Accepted
+    → (n : ℕ) → n < cell_count b.instance
+    → is_listed n (map (λ (r : ℕ × ℕ). r.0) (reads_after b (take e.seen H) e.mv)) ≡ touches b.instance (plan_after b H) e.mv (cell_at b.instance n)
+touched-there b H e start moves legal accepted n h =
+    let verdict = legal.verdict in
+    let local = accepted-local b H e.number e.seen e.mv e.price start moves legal.move (sym verdict ∙ accepted) in
+    ap (is_listed n) (reads-cells b (take e.seen H) e.mv)
+    ∙ footprint-touches b.instance (plan_at b H e.seen) e.mv n h
+    ∙ sym (local.touched (cell_at b.instance n) (cell_in-in (sizes_of b.instance) n h))
+
+pub versions-more : (b : Base) (H : List Entry) (e : Entry) (counter : ℕ → ℕ) → IsPlanOf b.instance b.start → AreMovesOf b.instance H → IsLegalButDraw b H e
+    → AreVersionsBy b H counter → AreVersionsBy b (H ++ e ∷ []) (risen_where (is_accepted e.verdict) counter (reads_after b (take e.seen H) e.mv))
+versions-more b H e counter start moves legal versions n h = by_case (is_accepted e.verdict) refl ∙ sym (version-more b H e (cell_at b.instance n))
+  where
+    by_case : (t : Bool) → is_accepted e.verdict ≡ t
+        → risen_where t counter (reads_after b (take e.seen H) e.mv) n ≡ version b H (cell_at b.instance n) + bit (is_accepted e.verdict && touches b.instance (plan_after b H) e.mv (cell_at b.instance n))
+    by_case false off = let same = versions n h in rw off (omega (arith, same))
+    by_case true on =
+        let same = versions n h in
+        let touched = touched-there b H e start moves legal (accepted-is e.verdict on) n h in
+        rw (on, touched, same) refl

@@ -1,0 +1,291 @@
+-- What a book keeps beside its entries, as it is opened and as an entry is added.
+use Rattle.std.proofs.Common.{◌≡◌, ℕ, zero, suc, ◌+◌, ◌<◌, ◌≤◌, ◌^◌, refl, arith, sym, ap, ◌∙◌, subst, Bool, true, false, List, [], ◌∷◌, ◌++◌, length, take, inl, inr, Option, Some, None, ℤ, pos}
+use Rattle.std.specs.Prelude.{if◌then◌else◌, ◌==◌, map, All, slice_set, slice_index, replicate, ◌+ℤ◌, ◌-ℤ◌, ◌≤ℤ◌, neg_ℤ}
+use Rattle.std.proofs.lemmas.Bool.{cases_eq, cases_lt, eq-eqb, or_left, or_right}
+use Rattle.std.proofs.lemmas.Int.{ints}
+use Rattle.std.proofs.lemmas.Nat.{mul-le}
+use Rattle.std.proofs.lemmas.List.{get_or_past, get_or-set_same, get_or-set_other, length-set, length-map}
+use Rattle.std.proofs.lemmas.List.FromFn.{get_or-map-range_with_len}
+use Rattle.std.proofs.lemmas.List.Elements.{All-nil, All-cons}
+use Rattle.ih_tables.specs.declared.drafts.Draft.{Draft}
+use Rattle.ih_tables.specs.declared.bills.Bill.{Bill}
+use Rattle.ih_tables.specs.Bills.{at, by_place, IsWithin, add_bills, feasible, cost}
+use Rattle.ih_tables.specs.Sizes.{shift_count, room_count, theatre_count, surgeon_count, nurse_count}
+use Rattle.ih_tables.specs.Valid.{IsValid}
+use Rattle.ih_plan.specs.Timetable.{Timetable, IsPlanOf}
+use Rattle.ih_plan.specs.Expand.{after}
+use Rattle.ih_plan.specs.BillOf.{bill_of, change_of_bill}
+use Rattle.ih_plan.specs.Sums.{bit}
+use Rattle.ih_plan.specs.Cells.{cell_at, cell_count}
+use Rattle.ih_plan.specs.Footprint.{touches, footprint}
+use Rattle.ih_plan.proofs.BillBounds.{bill-within, change-within}
+use Rattle.ih_plan.proofs.Lists.{has}
+use Rattle.ih_plan.proofs.SumLemmas.{sum_below-le, length-which_below}
+use Rattle.ih_plan.proofs.PlanRanges.{after-plan}
+use Rattle.ih_journal.specs.declared.entries.Entry.{Entry}
+use Rattle.ih_journal.specs.declared.entries.Verdict.{Verdict}
+use Rattle.ih_journal.specs.Settings.{IsLawful, most_entries}
+use Rattle.ih_journal.specs.Attempts.{attempt_after, last_by, next_attempt}
+use Rattle.ih_journal.specs.Base.{Base}
+use Rattle.ih_journal.specs.Best.{best_with}
+use Rattle.ih_journal.specs.History.{after_entries, changes_since, is_accepted, after_entry, plan_after, plan_at, version}
+use Rattle.ih_journal.specs.Legal.{IsLegalButDraw, verdict_on}
+use Rattle.ih_journal.proofs.BestLemmas.{best-start, best-more}
+use Rattle.ih_journal.proofs.Growth.{after_entries-plan, last_by-own, last_by-other, plan_after-more, plan_at-plan}
+use Rattle.ih_cellbook.specs.declared.offers.Offer.{Offer}
+use Rattle.ih_cellbook.specs.Counters.{times_read, risen_where, verdict_by_counters}
+use Rattle.ih_cellbook.specs.Keeping.{IsBase, AreVersions, AreTries, IsKept}
+use Rattle.ih_cellbook.specs.Laws.{AreFew}
+use Rattle.ih_cellbook.specs.Offers.{IsRightOffer, entry_of, reads_after}
+use Rattle.ih_cellbook.proofs.Committing.{accepted-is, attempt-is, entry-legal, footprint-below, legal_but-moves, legal_but-more, legal_but-none, reads-cells, verdict-same, versions-more}
+use Rattle.ih_cellbook.proofs.Exact.{accepted-exact}
+use Rattle.ih_cellbook.proofs.Few.{again-few, legal-few, next-below}
+use Rattle.ih_cellbook.proofs.Times.{times-once}
+use Rattle.ih_cellbook.proofs.Versions.{version-most}
+
+-- ---- how many cells there are
+
+pub few-cells : (I : Draft) → IsValid I → cell_count I ≤ 2 ^ 20
+few-cells I valid =
+    let days = valid.days.most in
+    let shifts : shift_count I ≤ 168 = omega (arith, days) in
+    let room_days = mul-le (room_count I) I.days 128 56 valid.rooms.len.most days in
+    let theatre_days = mul-le (theatre_count I) I.days 64 56 valid.theatres.len.most days in
+    let surgeon_days = mul-le (surgeon_count I) I.days 128 56 valid.surgeons.len.most days in
+    let room_shifts = mul-le (room_count I) (shift_count I) 128 168 valid.rooms.len.most shifts in
+    let nurse_shifts = mul-le (nurse_count I) (shift_count I) 512 168 valid.nurses.len.most shifts in
+    let patients = valid.patients.len.most in
+    let occupants = valid.occupants.len.most in
+    omega (arith, room_days, theatre_days, surgeon_days, room_shifts, nurse_shifts, patients, occupants)
+
+-- ---- sums of bills
+
+by_place-at : (n : ℕ) (f : ℕ → ℤ) (k : ℕ) → k < n → at (by_place n f) k ≡ f k
+by_place-at n f k h = get_or-map-range_with_len f 0 n k k (pos 0) h (omega arith)
+
+sum-in : (x y : ℤ) → (neg_ℤ (pos (10 ^ 11)) ≤ℤ x) × (x ≤ℤ pos (10 ^ 11)) → (neg_ℤ (pos (10 ^ 11)) ≤ℤ y) × (y ≤ℤ pos (10 ^ 11)) → (neg_ℤ (pos (10 ^ 12)) ≤ℤ (x +ℤ y)) × ((x +ℤ y) ≤ℤ pos (10 ^ 12))
+sum-in x y hx hy =
+    let a = hx.0 in
+    let b = hx.1 in
+    let c = hy.0 in
+    let d = hy.1 in
+    (omega (arith, ints), omega (arith, ints))
+
+sum-within : (a b : Bill) → IsWithin (10 ^ 11) a → IsWithin (10 ^ 11) b → IsWithin (10 ^ 12) (add_bills a b)
+sum-within a b ha hb = record {
+  v = λ k l. rw (by_place-at 9 (λ k. at a.v k +ℤ at b.v k) k l) (sum-in (at a.v k) (at b.v k) (ha.v k l) (hb.v k l));
+  s = λ k l. rw (by_place-at 8 (λ k. at a.s k +ℤ at b.s k) k l) (sum-in (at a.s k) (at b.s k) (ha.s k l) (hb.s k l));
+}
+
+back : (x y : ℤ) → x +ℤ (y -ℤ x) ≡ y
+back x y = omega (arith, ints)
+
+-- a bill has nine counts and eight costs
+whole-bill : (I : Draft) (P : Timetable) → (let b : Bill = record { v = by_place 9 (at (bill_of I P).v); s = by_place 8 (at (bill_of I P).s) } in b) ≡ bill_of I P
+unfolding bill_of
+whole-bill I P = refl
+
+-- a bill and the change from it to another make the other
+add-change : (I : Draft) (P Q : Timetable) → add_bills (bill_of I P) (change_of_bill I P Q) ≡ bill_of I Q
+add-change I P Q = simp back (whole-bill I Q)
+
+-- ---- opening
+
+pub base-lawful : (b : Base) (H : List Entry) (cs ts : List ℕ) (now : Bill) (found : Option (ℕ × ℤ)) → IsKept b H cs ts now found → IsLawful b.options
+base-lawful b H cs ts now found kept = kept.base.lawful
+
+length-zeros : (n : ℕ) → length {A = ℕ} (replicate n 0) ≡ n
+length-zeros zero = refl
+length-zeros (suc n) = let rest = length-zeros n in omega (arith, rest)
+
+zeros : (n count : ℕ) → slice_index (replicate count 0) n ≡ 0
+zeros n zero = refl
+zeros zero (suc count) = refl
+zeros (suc n) (suc count) = zeros n count
+
+pub kept-none : (b : Base) (cs ts : List ℕ) (now : Bill) (found : Option (ℕ × ℤ)) → IsBase b → cs ≡ replicate (cell_count b.instance) 0 → ts ≡ replicate b.options.workers 0
+    → now ≡ bill_of b.instance b.start → found ≡ best_with None 0 (feasible now) (cost b.instance.weights now) → IsKept b [] cs ts now found
+unfolding after_entries changes_since last_by
+kept-none b cs ts now found base counters tries bill best =
+    record {
+      base = base;
+      legal = legal_but-none b;
+      versions = record { len = rw counters (length-zeros (cell_count b.instance)); each = λ n h. rw counters (zeros n (cell_count b.instance)) };
+      tries = record { len = rw tries (length-zeros b.options.workers); each = λ w h. rw tries (zeros w b.options.workers) };
+      bill = bill;
+      best = rw best (best-start b (feasible now) (cost b.instance.weights now) (ap feasible (sym bill)) (ap (cost b.instance.weights) (sym bill)));
+    }
+
+-- ---- an offer that is right, before it is judged
+
+module _ (b : Base) (H : List Entry) (cs ts : List ℕ) (now : Bill) (found : Option (ℕ × ℤ)) (valid : IsValid b.instance) (kept : IsKept b H cs ts now found) where
+  plan-now : IsPlanOf b.instance (plan_after b H)
+  plan-now = after_entries-plan b.instance b.start H kept.base.start (legal_but-moves b H kept.legal)
+
+  plan-seen : (k : ℕ) → IsPlanOf b.instance (plan_at b H k)
+  plan-seen k = plan_at-plan b H k kept.base.start (legal_but-moves b H kept.legal)
+
+  pub bill-in : IsWithin (10 ^ 11) now
+  bill-in = rw kept.bill (bill-within b.instance (plan_after b H) valid plan-now)
+
+  pub history-few : AreFew b H
+  history-few = legal-few b H kept.legal
+
+  pub history-short : length H ≤ 10 ^ 6
+  history-short = let few = history-few.most in let most = kept.base.lawful.entries in omega (arith, few, most)
+
+  pub counters-small : (n : ℕ) → slice_index cs n ≤ 10 ^ 6
+  counters-small n =
+      let len = kept.versions.len in
+      let short = history-short in
+      elim (cases_lt n (cell_count b.instance)) [
+        | inl below ↦ let same = kept.versions.each n below in let most = version-most b H (cell_at b.instance n) in omega (arith, same, most, short)
+        | inr past ↦ let none = get_or_past cs n 0 (omega arith) in omega (arith, none)
+      ]
+
+  pub tries-small : (w : ℕ) → w < b.options.workers → slice_index ts w ≤ 7
+  tries-small w known =
+      let same = kept.tries.each w known in
+      let few = again-few b H w kept.legal in
+      let most = kept.base.lawful.retries in
+      omega (arith, same, few, most)
+
+  module _ (o : Offer) (right : IsRightOffer b H o) where
+    next : next_attempt b.options H o.worker ≡ Some (record { number = o.number; again = (attempt_after b.options (last_by o.worker H)).again })
+    next = attempt-is b.options H o.worker o.number right.number
+
+    pub number-below : o.number < b.options.moves
+    number-below = (next-below b H o.worker (record { number = o.number; again = (attempt_after b.options (last_by o.worker H)).again }) kept.legal next).0
+
+    pub has-room : length H < most_entries b.options
+    has-room = history-few.fewer o.worker right.worker (next-below b H o.worker (record { number = o.number; again = (attempt_after b.options (last_by o.worker H)).again }) kept.legal next).2
+
+    pub price-in : IsWithin (10 ^ 11) o.price
+    price-in = rw right.price (change-within b.instance (plan_at b H o.seen) (after b.instance (plan_at b H o.seen) o.mv) valid (plan-seen o.seen)
+        (after-plan b.instance (plan_at b H o.seen) o.mv (plan-seen o.seen) right.move))
+
+    pub sum-small : IsWithin (10 ^ 12) (add_bills now o.price)
+    sum-small = sum-within now o.price bill-in price-in
+
+    all-below : (f : ℕ → ℕ) (n : ℕ) (xs : List ℕ) → ((i : ℕ) → has i xs ≡ true → i < n) → All (λ (r : ℕ × ℕ). r.0 < n) (map (λ i. (i, f i)) xs)
+    all-below f n [] h = All-nil (λ (r : ℕ × ℕ). r.0 < n)
+    all-below f n (x ∷ xs) h =
+        All-cons (λ (r : ℕ × ℕ). r.0 < n) (x, f x) (map (λ i. (i, f i)) xs) (h x (or_left (x == x) (has x xs) (eq-eqb x x refl)))
+        (all-below f n xs (λ i there. h i (or_right (x == i) (has i xs) there)))
+
+    pub reads-in : All (λ (r : ℕ × ℕ). r.0 < length cs) o.reads.pairs
+    reads-in = rw (right.reads, kept.versions.len) (all-below (λ n. version b (take o.seen H) (cell_at b.instance n)) (cell_count b.instance) (footprint b.instance (plan_at b H o.seen) o.mv)
+        (footprint-below b.instance (plan_at b H o.seen) o.mv))
+
+    foot-short : length (footprint b.instance (plan_at b H o.seen) o.mv) ≤ cell_count b.instance
+    unfolding footprint
+    foot-short =
+        let len = length-which_below (cell_count b.instance) (λ n. touches b.instance (plan_at b H o.seen) o.mv (cell_at b.instance n)) in
+        let most = sum_below-le (cell_count b.instance) 1 (λ n. bit (touches b.instance (plan_at b H o.seen) o.mv (cell_at b.instance n))) (λ n h. bit-most (touches b.instance (plan_at b H o.seen) o.mv (cell_at b.instance n))) in
+        omega (arith, len, most)
+      where
+        bit-most : (t : Bool) → bit t ≤ 1
+        bit-most true = omega arith
+        bit-most false = omega arith
+
+    pub counters-rise : (n : ℕ) → slice_index cs n + length o.reads.pairs < 2 ^ 32
+    counters-rise n =
+        let small = counters-small n in
+        let few = few-cells b.instance valid in
+        let short = foot-short in
+        let len = length-map {B = ℕ × ℕ} (footprint b.instance (plan_at b H o.seen) o.mv) (λ n. (n, version b (take o.seen H) (cell_at b.instance n))) in
+        let pairs = ap length right.reads in
+        omega (arith, small, few, short, len, pairs)
+
+-- ---- the offer's entry added
+
+-- the entry as the code makes it, with the try that it keeps
+abbrev pub entry_with : Offer → ℕ → Verdict → Entry
+entry_with o again v = record { worker = o.worker; number = o.number; again = again; seen = o.seen; mv = o.mv; price = o.price; verdict = v }
+
+abbrev pub bill_next : Verdict → Bill → Bill → Bill
+bill_next v now price = if is_accepted v then add_bills now price else now
+
+-- the numbers after an entry are those that the code makes
+pub record AreNext (b : Base) (H : List Entry) (o : Offer) (v : Verdict) (cs ts : List ℕ) (found : Option (ℕ × ℤ)) (cs' ts' : List ℕ) (now' : Bill) (found' : Option (ℕ × ℤ)) : Type 0 where
+  pub len : length cs' ≡ length cs
+  pub counters : (n : ℕ) → slice_index cs' n ≡ slice_index cs n + (if is_accepted v then times_read n o.reads.pairs else 0)
+  pub again : ts' ≡ slice_set ts o.worker (attempt_after b.options (Some (entry_with o (slice_index ts o.worker) v))).again
+  pub chosen : found' ≡ best_with found (length H + 1) (feasible now') (cost b.instance.weights now')
+
+module _ (b : Base) (H : List Entry) (cs ts : List ℕ) (now : Bill) (found : Option (ℕ × ℤ)) (valid : IsValid b.instance) (kept : IsKept b H cs ts now found)
+    (o : Offer) (right : IsRightOffer b H o) (v : Verdict) (judged : v ≡ verdict_by_counters b.instance b.options (slice_index cs) o) where
+  pub verdict-is : v ≡ verdict_on b H o.number o.seen o.mv o.price
+  verdict-is = judged ∙ verdict-same b H (slice_index cs) o kept.versions.each right
+
+  pub legal-next : IsLegalButDraw b H (entry_of b H o v)
+  legal-next = entry-legal b H o v right verdict-is
+
+  pub entry-is : entry_with o (slice_index ts o.worker) v ≡ entry_of b H o v
+  entry-is = ap (λ again. entry_with o again v) (kept.tries.each o.worker right.worker)
+
+  plan-next : plan_after b (H ++ entry_of b H o v ∷ []) ≡ after_entry b.instance (plan_after b H) (entry_of b H o v)
+  plan-next = plan_after-more b H (entry_of b H o v)
+
+  pub bill-next : bill_next v now o.price ≡ bill_of b.instance (plan_after b (H ++ entry_of b H o v ∷ []))
+  bill-next = rw plan-next (by_case (is_accepted v) refl)
+    where
+      by_case : (t : Bool) → is_accepted v ≡ t → (if t then add_bills now o.price else now) ≡ bill_of b.instance (if t then after b.instance (plan_after b H) o.mv else plan_after b H)
+      by_case true on =
+          let exact = accepted-exact b H o.number o.seen o.mv o.price kept.base.start (legal_but-moves b H kept.legal) right.move (sym verdict-is ∙ accepted-is v on) right.price in
+          rw (kept.bill, exact) (add-change b.instance (plan_after b H) (after b.instance (plan_after b H) o.mv))
+      by_case false off = kept.bill
+
+  pub bill-next-in : IsWithin (10 ^ 11) (bill_next v now o.price)
+  bill-next-in =
+      let moves = legal_but-moves b (H ++ entry_of b H o v ∷ []) (legal_but-more b H (entry_of b H o v) kept.legal legal-next) in
+      subst (IsWithin (10 ^ 11)) (sym bill-next) (bill-within b.instance (plan_after b (H ++ entry_of b H o v ∷ [])) valid (after_entries-plan b.instance b.start (H ++ entry_of b H o v ∷ []) kept.base.start moves))
+
+  module _ (cs' ts' : List ℕ) (now' : Bill) (found' : Option (ℕ × ℤ)) (next : AreNext b H o v cs ts found cs' ts' now' found') (billed : now' ≡ bill_next v now o.price) where
+    -- each cell of the footprint is read once
+    rises : (n : ℕ) → n < cell_count b.instance → (t : Bool) → slice_index cs n + (if t then times_read n o.reads.pairs else 0) ≡ risen_where t (slice_index cs) (reads_after b (take o.seen H) o.mv) n
+    unfolding footprint
+    rises n below false = omega arith
+    rises n below true =
+        let once = times-once (cell_count b.instance) n (λ n. version b (take o.seen H) (cell_at b.instance n)) (λ n. touches b.instance (plan_at b H o.seen) o.mv (cell_at b.instance n)) below in
+        let keys = reads-cells b (take o.seen H) o.mv in
+        rw (right.reads, keys) (ap (λ k. slice_index cs n + k) once)
+
+    versions-next : AreVersions b (H ++ entry_of b H o v ∷ []) cs'
+    versions-next = record {
+      len = next.len ∙ kept.versions.len;
+      each = λ n below. next.counters n ∙ rises n below (is_accepted v)
+          ∙ versions-more b H (entry_of b H o v) (slice_index cs) kept.base.start (legal_but-moves b H kept.legal) legal-next kept.versions.each n below;
+    }
+
+    tries-at : (w : ℕ) → w < b.options.workers → slice_index (slice_set ts o.worker (attempt_after b.options (Some (entry_of b H o v))).again) w
+        ≡ (attempt_after b.options (last_by w (H ++ entry_of b H o v ∷ []))).again
+    tries-at w known = elim (cases_eq w o.worker) [
+      | inl own ↦
+          let inside : o.worker < length ts = (let len = kept.tries.len in let is = right.worker in omega (arith, len, is)) in
+          rw (own, last_by-own H (entry_of b H o v) o.worker refl) (get_or-set_same ts o.worker (attempt_after b.options (Some (entry_of b H o v))).again 0 inside)
+      | inr other ↦
+          rw (last_by-other H (entry_of b H o v) w (λ e. other (sym e)))
+          (get_or-set_other ts o.worker w (attempt_after b.options (Some (entry_of b H o v))).again 0 other ∙ kept.tries.each w known)
+    ]
+
+    tries-next : AreTries b (H ++ entry_of b H o v ∷ []) ts'
+    tries-next =
+        let is : ts' ≡ slice_set ts o.worker (attempt_after b.options (Some (entry_of b H o v))).again =
+        next.again ∙ ap (λ e. slice_set ts o.worker (attempt_after b.options (Some e)).again) entry-is in
+        record {
+          len = rw is (length-set ts o.worker (attempt_after b.options (Some (entry_of b H o v))).again ∙ kept.tries.len);
+          each = rw is tries-at;
+        }
+
+    pub kept-more : IsKept b (H ++ entry_of b H o v ∷ []) cs' ts' now' found'
+    kept-more =
+        let bill = billed ∙ bill-next in
+        record {
+          base = kept.base;
+          legal = legal_but-more b H (entry_of b H o v) kept.legal legal-next;
+          versions = versions-next;
+          tries = tries-next;
+          bill = bill;
+          best = rw next.chosen (best-more b H (entry_of b H o v) (feasible now') (cost b.instance.weights now') (ap feasible (sym bill)) (ap (cost b.instance.weights) (sym bill)) found kept.best);
+        }

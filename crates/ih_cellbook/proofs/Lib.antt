@@ -1,0 +1,13 @@
+pub mod Agreeing
+pub mod Committing
+pub mod Copies
+pub mod Exact
+pub mod Examples
+pub mod Few
+pub mod Finds
+pub mod IdleOffers
+pub mod Kept
+pub mod Machine
+pub mod Staying
+pub mod Times
+pub mod Versions

@@ -1,0 +1,171 @@
+-- The machine of workers that look and offer: each event keeps the history legal, the counters right and the prices exact.
+use Rattle.std.proofs.Common.{subst, ◌≡◌, ℕ, ◌+◌, ◌≤◌, refl, arith, sym, ap, ◌∙◌, Bool, true, false, List, [], ◌∷◌, ◌++◌, length, inl, inr, Some, None}
+use Rattle.std.specs.Prelude.{option_map, if◌then◌else◌, ◌==◌, slice_get}
+use Rattle.ih_plan.specs.declared.moves.Move.{Move}
+use Rattle.ih_plan.specs.Timetable.{IsPlanOf}
+use Rattle.ih_plan.specs.Expand.{after}
+use Rattle.ih_plan.specs.BillOf.{change_of_bill}
+use Rattle.ih_journal.specs.declared.entries.Entry.{Entry}
+use Rattle.ih_journal.specs.declared.entries.Verdict.TheVariants.{Accepted}
+use Rattle.ih_journal.specs.Attempts.{is_done, Attempt, attempt_after, last_by, next_attempt}
+use Rattle.ih_journal.specs.Base.{Base}
+use Rattle.ih_journal.specs.History.{changes_since, plan_after, plan_at}
+use Rattle.ih_journal.specs.Legal.{price_of, IsLegalButDraw}
+use Rattle.ih_journal.proofs.Growth.{get-more, length-more, plan_after-more, plan_at-earlier, plan_at-end}
+use Rattle.ih_journal.specs.declared.entries.Verdict.{Verdict}
+use Rattle.ih_journal.specs.Legal.{verdict_on}
+use Rattle.ih_cellbook.specs.declared.offers.Offer.{Offer}
+use Rattle.ih_cellbook.specs.Counters.{verdict_by_counters}
+use Rattle.ih_cellbook.specs.Offers.{entry_of}
+use Rattle.ih_cellbook.proofs.Committing.{AreVersionsBy}
+use Rattle.ih_cellbook.specs.Core.{State, Event, looks, offers, opening, MayOffer, MayCome, step, run_from, IsScheduleFrom, IsLegalState, entry_in, verdict_in, front_at}
+use Rattle.ih_cellbook.specs.Keeping.{IsBase}
+use Rattle.ih_cellbook.specs.Legal.{AreLegalButDraws}
+use Rattle.ih_cellbook.specs.Offers.{IsRightOffer, offer_at}
+use Rattle.ih_cellbook.proofs.Committing.{entry-legal, legal_but-moves, legal_but-more, legal_but-none, verdict-same, versions-more}
+use Rattle.ih_cellbook.proofs.Exact.{accepted-exact}
+
+-- ---- accepted prices
+
+-- each accepted price is the change of the bill at its place
+abbrev pub AreExact : Base → List Entry → Type 0
+AreExact b H = (k : ℕ) (e : Entry) → slice_get H k ≡ Some e → e.verdict ≡ Accepted
+    → e.price ≡ change_of_bill b.instance (plan_at b H k) (plan_at b H (k + 1))
+
+-- the timetable after an accepted entry
+after-accepted : (b : Base) (H : List Entry) (e : Entry) → e.verdict ≡ Accepted → plan_after b (H ++ e ∷ []) ≡ after b.instance (plan_after b H) e.mv
+after-accepted b H e accepted = plan_after-more b H e ∙ rw accepted refl
+
+pub exact-last : (b : Base) (H : List Entry) (e : Entry) → IsPlanOf b.instance b.start → AreLegalButDraws b H → IsLegalButDraw b H e → e.verdict ≡ Accepted
+    → e.price ≡ change_of_bill b.instance (plan_after b H) (plan_after b (H ++ e ∷ []))
+exact-last b H e start legal one accepted =
+    let verdict = one.verdict in
+    accepted-exact b H e.number e.seen e.mv e.price start (legal_but-moves b H legal) one.move (sym verdict ∙ accepted) one.price
+    ∙ sym (ap (change_of_bill b.instance (plan_after b H)) (after-accepted b H e accepted))
+
+pub exact-more : (b : Base) (H : List Entry) (e : Entry) → IsPlanOf b.instance b.start → AreLegalButDraws b H → IsLegalButDraw b H e → AreExact b H → AreExact b (H ++ e ∷ [])
+exact-more b H e start legal one exact k f h accepted = elim (get-more H e f k h) [
+  | inl earlier ↦
+      let less = earlier.0 in
+      let here = plan_at-earlier b H (e ∷ []) k (omega arith) in
+      let next = plan_at-earlier b H (e ∷ []) (k + 1) (omega arith) in
+      rw (here, next) (exact k f earlier.1 accepted)
+  | inr last ↦
+      let same : e ≡ f = last.1 in
+      let place : k ≡ length H = last.0 in
+      let len = length-more H e in
+      let here : plan_at b (H ++ e ∷ []) k ≡ plan_after b H = plan_at-earlier b H (e ∷ []) k (omega arith) ∙ plan_at-end b H k (omega arith) in
+      let next : plan_at b (H ++ e ∷ []) (k + 1) ≡ plan_after b (H ++ e ∷ []) = plan_at-end b (H ++ e ∷ []) (k + 1) (omega arith) in
+      rw (here, next, ← same) (exact-last b H e start legal one (ap (λ (x : Entry). x.verdict) same ∙ accepted))
+]
+
+-- ---- events
+
+-- what a worker of the machine offers is right for the history
+pub offer_at-right : (b : Base) (s : State) (w n : ℕ) (m : Move) → MayOffer b s w n m → ((v : ℕ) → s.fronts v ≤ length s.history) → IsRightOffer b s.history (offer_at b s.history w n m)
+unfolding next_attempt
+offer_at-right b s w n m may fronts =
+    let known = may.seen in
+    let most = fronts w in
+    record {
+      worker = may.worker;
+      number = rw may.not_done refl;
+      move = may.move;
+      seen = omega (arith, known, most);
+      after_own = may.after_own;
+      price = refl;
+      reads = refl;
+      frozen = refl;
+    }
+
+front-most : (fronts : ℕ → ℕ) (w front most : ℕ) → ((v : ℕ) → fronts v ≤ most) → front ≤ most → (v : ℕ) → front_at fronts w front v ≤ most
+front-most fronts w front most h new v = by_case (v == w)
+  where
+    by_case : (t : Bool) → (if t then front else fronts v) ≤ most
+    by_case true = new
+    by_case false = h v
+
+module _ (b : Base) (base : IsBase b) (s : State) (legal : IsLegalState b s) where
+  look-legal : (w : ℕ) → IsLegalState b (step b s (looks w))
+  look-legal w = record {
+    legal = legal.legal;
+    versions = legal.versions;
+    exact = legal.exact;
+    fronts = front-most s.fronts w (length s.history) (length s.history) legal.fronts (omega arith);
+  }
+
+  offer-legal : (w n : ℕ) (m : Move) → MayOffer b s w n m → IsLegalState b (step b s (offers w n m))
+  offer-legal w n m may =
+      let right = offer_at-right b s w n m may legal.fronts in
+      let one : IsLegalButDraw b s.history (entry_in b s w n m) =
+      entry-legal b s.history (offer_at b s.history w n m) (verdict_in b s w n m) right (verdict-same b s.history s.counters (offer_at b s.history w n m) legal.versions right) in
+      let len = length-more s.history (entry_in b s w n m) in
+      record {
+        legal = legal_but-more b s.history (entry_in b s w n m) legal.legal one;
+        versions = versions-more b s.history (entry_in b s w n m) s.counters base.start (legal_but-moves b s.history legal.legal) one legal.versions;
+        exact = exact-more b s.history (entry_in b s w n m) base.start legal.legal one legal.exact;
+        fronts = front-most s.fronts w (length s.history + 1) (length (s.history ++ entry_in b s w n m ∷ [])) (λ v. let most = legal.fronts v in omega (arith, len, most)) (omega (arith, len));
+      }
+
+  step-legal : (v : Event) → MayCome b s v → IsLegalState b (step b s v)
+  step-legal (looks w) may = look-legal w
+  step-legal (offers w n m) may = offer-legal w n m may
+
+opening-legal : (b : Base) → IsLegalState b opening
+unfolding changes_since
+opening-legal b = record {
+  legal = legal_but-none b;
+  versions = λ n h. refl;
+  exact = λ k e h accepted. absurd (let no : None ≡ Some e = h in cc);
+  fronts = λ w. omega arith;
+}
+
+run-legal : (b : Base) (base : IsBase b) (events : List Event) (s : State) → IsLegalState b s → IsScheduleFrom b s events → IsLegalState b (run_from b s events)
+unfolding run_from IsScheduleFrom
+run-legal b base [] s legal may = legal
+run-legal b base (v ∷ vs) s legal may = run-legal b base vs (step b s v) (step-legal b base s legal v may.0) may.1
+
+pub schedule-legal : (b : Base) (base : IsBase b) (events : List Event) → IsScheduleFrom b opening events → IsLegalState b (run_from b opening events)
+schedule-legal b base events may = run-legal b base events opening (opening-legal b) may
+
+-- ---- what a book commits is the machine's event
+
+-- an offer that is right is what the worker of the machine makes
+module _ (b : Base) (H : List Entry) (o : Offer) (right : IsRightOffer b H o) where
+  number-is : (attempt_after b.options (last_by o.worker H)).number ≡ o.number
+  unfolding next_attempt
+  number-is = by_case (is_done b.options H o.worker) right.number
+    where
+      by_case : (t : Bool) → option_map (λ (a : Attempt). a.number) (if t then None else Some (attempt_after b.options (last_by o.worker H))) ≡ Some o.number
+          → (attempt_after b.options (last_by o.worker H)).number ≡ o.number
+      by_case true h = absurd (let no : None ≡ Some o.number = h in cc)
+      by_case false h = let e : Some (attempt_after b.options (last_by o.worker H)).number ≡ Some o.number = h in cc
+
+  made-right : IsRightOffer b H (offer_at b H o.worker o.seen o.mv)
+  made-right = record {
+    worker = right.worker;
+    number = right.number ∙ ap (λ n. Some n) (sym number-is);
+    move = right.move;
+    seen = right.seen;
+    after_own = right.after_own;
+    price = refl;
+    reads = refl;
+    frozen = refl;
+  }
+
+  pub event-same : (s : State) (v : Verdict) → s.history ≡ H → AreVersionsBy b s.history s.counters → v ≡ verdict_on b H o.number o.seen o.mv o.price
+      → (step b s (offers o.worker o.seen o.mv)).history ≡ H ++ entry_of b H o v ∷ []
+  event-same s v same versions judged =
+      let here : AreVersionsBy b H s.counters = subst (λ G. AreVersionsBy b G s.counters) same versions in
+      let made = verdict-same b H s.counters (offer_at b H o.worker o.seen o.mv) here made-right in
+      let number = number-is in
+      let price = right.price in
+      let verdict : verdict_by_counters b.instance b.options s.counters (offer_at b H o.worker o.seen o.mv) ≡ v =
+      made ∙ ap (λ n. verdict_on b H n o.seen o.mv (price_of b.instance (plan_at b H o.seen) o.mv)) number
+      ∙ ap (verdict_on b H o.number o.seen o.mv) (sym price) ∙ sym judged in
+      let entry : entry_of b H (offer_at b H o.worker o.seen o.mv) (verdict_by_counters b.instance b.options s.counters (offer_at b H o.worker o.seen o.mv)) ≡ entry_of b H o v =
+      ap (entry_of b H (offer_at b H o.worker o.seen o.mv)) verdict
+      ∙ ap (λ n. let e : Entry = record (entry_of b H o v) { number = n; price = price_of b.instance (plan_at b H o.seen) o.mv } in e) number
+      ∙ ap (λ p. let e : Entry = record (entry_of b H o v) { price = p } in e) (sym price) in
+      ap (λ G. G ++ entry_of b G (offer_at b G o.worker o.seen o.mv) (verdict_by_counters b.instance b.options s.counters (offer_at b G o.worker o.seen o.mv)) ∷ []) same
+      ∙ ap (λ e. H ++ e ∷ []) entry

@@ -1,0 +1,66 @@
+-- An offer that is right stays right while others add entries.
+use Rattle.std.proofs.Common.{◌≡◌, ℕ, zero, suc, refl, arith, sym, ap, ◌∙◌, false, List, [], ◌∷◌, ◌++◌, length-append, inl, inr, Option, Some, None}
+use Rattle.std.specs.Prelude.{◌⊎◌, if◌then◌else◌, ◌==◌, option_map, slice_get}
+use Rattle.std.proofs.lemmas.List.{take-append-le}
+use Rattle.std.proofs.lemmas.Bool.{ne_eqb}
+use Rattle.ih_journal.specs.declared.settings.Options.{Options}
+use Rattle.ih_journal.specs.declared.entries.Entry.{Entry}
+use Rattle.ih_journal.specs.Attempts.{Attempt, attempt_after, last_by, else_last, is_done, is_done_after, next_attempt}
+use Rattle.ih_journal.specs.Base.{Base}
+use Rattle.ih_journal.specs.Frozen.{is_frozen}
+use Rattle.ih_journal.specs.Legal.{price_of}
+use Rattle.ih_journal.proofs.Growth.{plan_at-earlier}
+use Rattle.ih_cellbook.specs.declared.offers.Offer.{Offer}
+use Rattle.ih_cellbook.specs.Laws.{HasNoneBy}
+use Rattle.ih_cellbook.specs.Offers.{IsRightOffer, HasSeenOwn, next_number, reads_after}
+
+else_last-none : (o : Option Entry) → else_last None o ≡ o
+else_last-none o = refl
+
+last_by-none : (w : ℕ) (es : List Entry) → HasNoneBy w es → last_by w es ≡ None
+unfolding last_by
+last_by-none w [] none = refl
+last_by-none w (e ∷ es) none =
+    let rest = last_by-none w es (λ k f h own. none (suc k) f h own) in
+    let here : (e.worker == w) ≡ false = ne_eqb e.worker w (λ own. none 0 e refl own) in
+    rw (rest, here) refl
+
+-- others' entries don't change a worker's last one
+pub last_by-others : (w : ℕ) (H es : List Entry) → HasNoneBy w es → last_by w (H ++ es) ≡ last_by w H
+unfolding last_by
+last_by-others w [] es none = last_by-none w es none
+last_by-others w (x ∷ xs) es none = rw (last_by-others w xs es none) refl
+
+-- an entry of the longer history is an earlier one, or one of the others
+get-append : (H es : List Entry) (j : ℕ) (e : Entry) → slice_get (H ++ es) j ≡ Some e
+    → (slice_get H j ≡ Some e) ⊎ ((k : ℕ) × (slice_get es k ≡ Some e))
+get-append [] es j e h = inr (j, h)
+get-append (x ∷ xs) es zero e h = inl h
+get-append (x ∷ xs) es (suc j) e h = get-append xs es j e h
+
+pub seen_own-others : (w seen : ℕ) (H es : List Entry) → HasNoneBy w es → HasSeenOwn H w seen → HasSeenOwn (H ++ es) w seen
+seen_own-others w seen H es none own j e h by = elim (get-append H es j e h) [
+  | inl earlier ↦ own j e earlier by
+  | inr other ↦ absurd (none other.0 e other.1 by)
+]
+
+number-same : (o : Options) (H G : List Entry) (w : ℕ) → last_by w G ≡ last_by w H → next_number o G w ≡ next_number o H w
+unfolding next_attempt is_done
+number-same o H G w e = ap (λ l. option_map (λ (a : Attempt). a.number) (if is_done_after o l then None else Some (attempt_after o l))) e
+
+pub right-stays : (b : Base) (H es : List Entry) (o : Offer) → IsRightOffer b H o → HasNoneBy o.worker es → IsRightOffer b (H ++ es) o
+right-stays b H es o right none =
+    let seen = right.seen in
+    let front = take-append-le o.seen H es seen in
+    let there = plan_at-earlier b H es o.seen seen in
+    let len = length-append H es in
+    record {
+      worker = right.worker;
+      number = number-same b.options H (H ++ es) o.worker (last_by-others o.worker H es none) ∙ right.number;
+      move = right.move;
+      seen = omega (arith, len, seen);
+      after_own = seen_own-others o.worker o.seen H es none right.after_own;
+      price = right.price ∙ sym (ap (λ P. price_of b.instance P o.mv) there);
+      reads = right.reads ∙ sym (ap (λ G. reads_after b G o.mv) front);
+      frozen = right.frozen ∙ sym (ap (λ P. is_frozen b P o.mv) there);
+    }

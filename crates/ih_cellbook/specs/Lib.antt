@@ -1,0 +1,9 @@
+pub mod Copied
+pub mod Core
+pub mod Counters
+pub mod Keeping
+pub mod Laws
+pub mod Legal
+pub mod Noted
+pub mod Offers
+pub mod Recorded

@@ -1,0 +1,88 @@
+//! Verdicts by counters, and which counters rise.
+
+ghost use Rattle.std.specs.Prelude.{◌≡◌, ℕ, ◌+◌, ◌<◌, ◌≤◌, ◌^◌, ◌==◌, length, slice_index, option_map, map, if◌then◌else◌, All, IfSome};
+ghost use Rattle.ih_tables.specs.Bills.{IsWithin};
+ghost use Rattle.ih_plan.specs.Cells.{cell_count};
+ghost use Rattle.ih_journal.specs.Settings.{IsLawful};
+ghost use Rattle.ih_journal.specs.History.{is_accepted};
+ghost use Rattle.ih_cellbook.specs.Counters.{first_differing, stale_by, times_read, verdict_by_counters};
+
+use crate::offers::Offer;
+use crate::reads::Reads;
+use ih_footprint::Numbering;
+use ih_journal::{Options, Verdict};
+use ih_tables::Instance;
+
+// The first cell read whose counter isn't the version read, with that version.
+fn first_differing(counters: &[u32], reads: &[(u32, u32)]) -> Option<(u32, u32)>
+    requires { All (λ r. r.0 < length counters.now) reads.now }
+    ensures first { result ≡ first_differing (slice_index counters.now) reads.now }
+    ensures inside { IfSome result (λ r. r.0 < length counters.now) }
+{
+    for &(cell, version) in reads {
+        if counters[cell as usize] != version {
+            return Some((cell, version));
+        }
+    }
+    None
+}
+
+// Stale by that cell, or accepted where there is none.
+fn compare(inst: &Instance, counters: &[u32], reads: &[(u32, u32)]) -> Verdict
+    requires count { length counters.now ≡ cell_count inst.now.draft }
+    requires reads { All (λ r. r.0 < length counters.now) reads.now }
+    ensures { result ≡ stale_by inst.now.draft (slice_index counters.now) (first_differing (slice_index counters.now) reads.now) }
+{
+    match first_differing(counters, reads) {
+        Some((cell, version)) => Verdict::Stale {
+            cell: Numbering::of(inst).cell(cell),
+            at_seen: version,
+            at_place: counters[cell as usize],
+        },
+        None => Verdict::Accepted,
+    }
+}
+
+/// The verdict on an offer.
+#[tactic(auto, unfolding(crate::specs::Counters::verdict_by_counters))]
+pub(crate) fn judge(inst: &Instance, options: &Options, counters: &[u32], offer: &Offer) -> Verdict
+    requires lawful { IsLawful options.now }
+    requires number { offer.now.number < options.now.moves }
+    requires price { IsWithin (10 ^ 11) offer.now.price }
+    requires count { length counters.now ≡ cell_count inst.now.draft }
+    requires reads { All (λ r. r.0 < length counters.now) offer.now.reads.pairs }
+    ensures { result ≡ verdict_by_counters inst.now.draft options.now (slice_index counters.now) offer.now }
+{
+    if offer.frozen {
+        Verdict::Frozen
+    } else if offer.price.score(options.hard, inst.weights()) > options.theta(offer.number) {
+        Verdict::Declined
+    } else {
+        compare(inst, counters, offer.reads.as_slice())
+    }
+}
+
+// Each counter rises by how often its cell was read.
+fn raise(counters: &mut [u32], reads: &[(u32, u32)])
+    requires reads { All (λ r. r.0 < length counters.old) reads.now }
+    requires small { (n : ℕ) → slice_index counters.old n + length reads.now < 2 ^ 32 }
+    ensures len { length counters.new ≡ length counters.old }
+    ensures each { (n : ℕ) → slice_index counters.new n ≡ slice_index counters.old n + times_read n reads.now }
+{
+    for &(cell, _) in reads {
+        counters[cell as usize] += 1;
+    }
+}
+
+/// Where the move was accepted, each counter rises by how often its cell was read.
+pub(crate) fn raise_where(verdict: &Verdict, counters: &mut Vec<u32>, reads: &Reads)
+    requires reads { All (λ r. r.0 < length counters.old.items) reads.now.pairs }
+    requires small { (n : ℕ) → slice_index counters.old.items n + length reads.now.pairs < 2 ^ 32 }
+    ensures len { length counters.new.items ≡ length counters.old.items }
+    ensures each { (n : ℕ) → slice_index counters.new.items n
+        ≡ slice_index counters.old.items n + (if is_accepted verdict.now then times_read n reads.now.pairs else 0) }
+{
+    if let Verdict::Accepted = *verdict {
+        raise(counters.as_mut_slice(), reads.as_slice());
+    }
+}

@@ -1,0 +1,57 @@
+//! What a price was read from.
+
+use crate::reserved::append;
+use std::alloc::{AllocError, Global};
+use std::marker::Model;
+
+/// Cells, each with the version that it had when a price was read from it.
+#[derive(Drop)]
+pub struct Reads {
+    pairs: Vec<(u32, u32)>,
+    room: u32,
+}
+
+impl Model for Reads {
+    ghost use Rattle.std.specs.Prelude.{◌≤◌, vec_len, vec_capacity};
+    ghost use Rattle.ih_cellbook.specs.Noted.{Noted};
+
+    ghost Value = { Noted };
+
+    ghost view = { λ r. record { pairs = r.pairs.items; room = r.room } };
+
+    ghost invariant = { λ r. r.room ≤ vec_capacity r.pairs };
+}
+
+impl Reads {
+    ghost use Rattle.std.specs.Prelude.{◌≡◌, ◌<◌, ◌++◌, ◌∷◌, [], length, IfOk};
+
+    /// No cells, and room for some number of them.
+    pub fn new(alloc: Global, room: u32) -> Result<Reads, AllocError>
+        ensures { IfOk result (λ r. r ≡ record { pairs = []; room = room }) }
+    {
+        let pairs = Vec::with_capacity(alloc, room as usize)?;
+        Ok(Reads { pairs, room })
+    }
+
+    /// Puts a cell by number, with its version, behind the others. It takes no memory.
+    pub fn push(&mut self, cell: u32, version: u32)
+        requires { length self.old.pairs < self.old.room }
+        ensures { self.new ≡ record self.old { pairs = self.old.pairs ++ (cell, version) ∷ [] } }
+    {
+        append(&mut self.pairs, (cell, version));
+    }
+
+    /// Takes all cells out, and keeps the room.
+    pub fn clear(&mut self)
+        ensures { self.new ≡ record self.old { pairs = [] } }
+    {
+        self.pairs.clear();
+    }
+
+    /// The cells with their versions, in the order in which they came.
+    pub fn as_slice(&self) -> &[(u32, u32)]
+        ensures { result.now ≡ self.now.pairs }
+    {
+        self.pairs.as_slice()
+    }
+}
