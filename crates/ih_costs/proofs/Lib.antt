@@ -3,3 +3,5 @@ pub mod CopyLemmas
 pub mod UndoLemmas
 pub mod StandLemmas
 pub mod TouchLemmas
+pub mod ChangeLemmas
+pub mod ChangeSums

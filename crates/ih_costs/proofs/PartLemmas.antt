@@ -144,10 +144,3 @@ price-of_footprint I P m plan fits =
     (λ j. total I (λ c. slice_index (part_at I Q c).s j)) (λ j. total I (λ c. slice_index (part_at I P c).s j))
     (λ j. let whole = change_by_footprint I P m plan fits (λ c. slice_index c.s j) in omega (arith, whole)) in
     rw (has_parts I P, has_parts I Q) (rw (v, s) refl)
-
--- the same, of bills that are those sums
-pub price-of_sums : (I : Draft) (P R : Timetable) (m : Move) (ns : List ℕ) (new old : Bill) → IsPlanOf I P → IsMoveOf I m → R ≡ P → ns ≡ footprint I P m
-    → new ≡ as_bill (sum_of I (after I P m) (footprint I P m)) → old ≡ as_bill (sum_of I R ns) → sub_bills new old ≡ change_of_bill I P (after I P m)
-price-of_sums I P R m ns new old plan fits same listed later before =
-    let before_that : old ≡ as_bill (sum_of I P (footprint I P m)) = before ∙ (ap (λ T. as_bill (sum_of I T ns)) same ∙ ap (λ ks. as_bill (sum_of I P ks)) listed) in
-    rw (later, before_that) (price-of_footprint I P m plan fits)

@@ -38,6 +38,7 @@ room_days-care I P v r k n fits stands = record {
   rooms = stands.rooms;
   days = stands.days;
   persons = stands.persons;
+  genders = stands.genders;
   each = stands.each;
 }
 

@@ -56,6 +56,17 @@ touched-more I P u v w ws sizes g =
     (λ n h. ap (λ b. b || writes_touch I (put w P) ws (cell_at I n)) (gathered-at I u v (write_touches I P w) sizes g n h)
     ∙ or-assoc (is_listed n u.cells) (write_touches I P w (cell_at I n)) (writes_touch I (put w P) ws (cell_at I n)))
 
+-- with a single write's footprint listed
+pub touched-one : (I : Draft) (P : Timetable) (u v : Gathered) (w : Write) → u.sizes ≡ sizes_of I → Gathers u v (write_touches I P w)
+    → settled v ≡ listed_or_touched I P u.cells (w ∷ [])
+touched-one I P u v w sizes g = touched-none I (put w P) v (g.sizes ∙ sizes) ∙ touched-more I P u v w [] sizes g
+
+-- which pass a test of the numbers of all cells
+pub listed-passing : (I : Draft) (P : Timetable) (ns : List ℕ) (ws : List Write)
+    → listed_or_touched I P ns ws ≡ which_below (cell_count I) (λ n. is_listed n ns || writes_touch I P ws (cell_at I n))
+unfolding listed_or_touched
+listed-passing I P ns ws = refl
+
 -- with the cells that a move looks at listed alone
 pub touched-all : (I : Draft) (P : Timetable) (m : Move) (u v : Gathered) → u.sizes ≡ sizes_of I → u.cells ≡ [] → Gathers u v (looks_at m)
     → listed_or_touched I P v.cells (expand I P m) ≡ footprint I P m

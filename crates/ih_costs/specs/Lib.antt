@@ -1,3 +1,4 @@
+pub mod Changes
 pub mod CellLedgers
 pub mod PartSums
 pub mod Standing

@@ -2,6 +2,7 @@
 
 use crate::cell_ledgers::CellLedgers;
 use crate::copies::copy_plan;
+use crate::noting::play_noting;
 use crate::pricing::{price_of, put_all};
 use ih_footprint::CellList;
 use ih_moves::{Writes, expand};
@@ -86,6 +87,18 @@ impl<'a> Ledgers<'a> {
     {
         expand(self.inst, self.cells.plan(), mv, &mut self.writes);
         put_all(self.inst, &mut self.cells, self.writes.as_slice());
+    }
+
+    /// Makes a move. In place of what was listed there, `foot` has the cells that the move touched, rising: those of its
+    /// footprint at the timetable before it. It sums no costs.
+    pub fn play_noting(&mut self, mv: &Move, foot: &mut CellList)
+        requires move_in { IsMoveOf self.old.instance mv.now }
+        requires sizes { foot.old.sizes ≡ sizes_of self.old.instance }
+        ensures made { self.new ≡ record self.old { plan = after self.old.instance self.old.plan mv.now } }
+        ensures cells { foot.new.cells ≡ footprint self.old.instance self.old.plan mv.now }
+        ensures sizes { foot.new.sizes ≡ foot.old.sizes }
+    {
+        play_noting(self.inst, &mut self.cells, &mut self.writes, mv, foot);
     }
 
     /// What a move would add to the bill, number by number: each is at most 10^11 in magnitude. In place of what was listed

@@ -2,10 +2,12 @@
 #![tactic(auto)]
 
 mod cell_ledgers;
+mod changes;
 mod copies;
 #[cfg(test)]
 mod example;
 mod ledgers;
+mod noting;
 mod pricing;
 mod stays;
 #[cfg(test)]

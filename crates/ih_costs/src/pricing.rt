@@ -1,6 +1,6 @@
 //! Writes that are tried and taken back.
 
-ghost use Rattle.std.specs.Prelude.{◌≡◌, ◌^◌, []};
+ghost use Rattle.std.specs.Prelude.{◌≡◌, ◌^◌, [], ◌∷◌, IfSome};
 ghost use Rattle.ih_tables.specs.Bills.{IsWithin};
 ghost use Rattle.ih_tables.specs.Sizes.{sizes_of};
 ghost use Rattle.ih_plan.specs.Timetable.{IsPlanOf};
@@ -9,6 +9,7 @@ ghost use Rattle.ih_plan.specs.Expand.{after, IsMoveOf};
 ghost use Rattle.ih_plan.specs.BillOf.{as_bill, change_of_bill};
 ghost use Rattle.ih_plan.specs.Footprint.{footprint};
 ghost use Rattle.ih_costs.specs.CellLedgers.{AreLedgers, AreLedgersOf, timetable_of};
+ghost use Rattle.ih_costs.specs.Changes.{sum_change, sums_change};
 ghost use Rattle.ih_costs.specs.PartSums.{sum_of};
 ghost use Rattle.ih_costs.specs.Touched.{listed_or_touched};
 ghost use Rattle.ih_costs.specs.Undo.{undo_of};
@@ -74,9 +75,75 @@ pub fn sum_after(
     }
 }
 
-// The sum of the parts that the cells of a move's footprint have after the move. `foot`, empty before, then has those
-// cells, rising.
-fn sum_after_move(
+// The write, where there is one alone.
+fn single(writes: &[Write]) -> Option<&Write>
+    ensures { IfSome result (λ w. writes.now ≡ w.now ∷ []) }
+{
+    match writes.split_first() {
+        None => None,
+        Some((w, rest)) => { if rest.len() == 0 { Some(w) } else { None } }
+    }
+}
+
+// What a write would change in the cells: those listed, and those that it touches, which are listed too. It isn't made.
+fn change_by_write(inst: &Instance, ledgers: &CellLedgers, w: &Write, cells: &mut CellList) -> Bill
+    requires stands { AreLedgers inst.now.draft ledgers.now }
+    requires write { IsWriteOf inst.now.draft w.now }
+    requires sizes { cells.old.sizes ≡ sizes_of inst.now.draft }
+    ensures cells { cells.new.cells ≡ listed_or_touched inst.now.draft (timetable_of ledgers.now) cells.old.cells (w.now ∷ []) }
+    ensures sizes { cells.new.sizes ≡ cells.old.sizes }
+    ensures change { result ≡ sum_change inst.now.draft (timetable_of ledgers.now) w.now cells.new.cells }
+{
+    foot(inst, ledgers.plan(), &ledgers.room_days, w, cells);
+    cells.settle();
+    ledgers.sum_changes(inst, w, cells.cells())
+}
+
+// What writes would change in the cells: those listed, and those that the writes touch, which are listed too. The writes
+// are made one by one, and taken back.
+fn change_by_trial(
+    inst: &Instance,
+    ledgers: &mut CellLedgers,
+    writes: &[Write],
+    cells: &mut CellList,
+) -> Bill
+    requires stands { AreLedgers inst.now.draft ledgers.old }
+    requires writes { AreWritesOf inst.now.draft writes.now }
+    requires sizes { cells.old.sizes ≡ sizes_of inst.now.draft }
+    ensures stands { AreLedgersOf inst.now.draft (timetable_of ledgers.old) ledgers.new }
+    ensures cells { cells.new.cells ≡ listed_or_touched inst.now.draft (timetable_of ledgers.old) cells.old.cells writes.now }
+    ensures sizes { cells.new.sizes ≡ cells.old.sizes }
+    ensures change { result ≡ sums_change inst.now.draft (timetable_of ledgers.old) (put_all writes.now (timetable_of ledgers.old)) cells.new.cells }
+{
+    let after = sum_after(inst, ledgers, writes, cells);
+    let before = ledgers.sum(inst, cells.cells());
+    after.sub(&before)
+}
+
+// What writes would change in the cells: those listed, and those that the writes touch, which are listed too. A single
+// write isn't made.
+fn change_after(
+    inst: &Instance,
+    ledgers: &mut CellLedgers,
+    writes: &[Write],
+    cells: &mut CellList,
+) -> Bill
+    requires stands { AreLedgers inst.now.draft ledgers.old }
+    requires writes { AreWritesOf inst.now.draft writes.now }
+    requires sizes { cells.old.sizes ≡ sizes_of inst.now.draft }
+    ensures stands { AreLedgersOf inst.now.draft (timetable_of ledgers.old) ledgers.new }
+    ensures cells { cells.new.cells ≡ listed_or_touched inst.now.draft (timetable_of ledgers.old) cells.old.cells writes.now }
+    ensures sizes { cells.new.sizes ≡ cells.old.sizes }
+    ensures change { result ≡ sums_change inst.now.draft (timetable_of ledgers.old) (put_all writes.now (timetable_of ledgers.old)) cells.new.cells }
+{
+    match single(writes) {
+        Some(w) => change_by_write(inst, ledgers, w, cells),
+        None => change_by_trial(inst, ledgers, writes, cells),
+    }
+}
+
+// What a move changes in the bill. `foot`, empty before, then has the cells of its footprint, rising.
+fn change_after_move(
     inst: &Instance,
     ledgers: &mut CellLedgers,
     writes: &mut Writes,
@@ -87,14 +154,14 @@ fn sum_after_move(
     requires move_in { IsMoveOf inst.now.draft mv.now }
     requires sizes { foot.old.sizes ≡ sizes_of inst.now.draft }
     requires empty { foot.old.cells ≡ [] }
-    ensures sum { result ≡ as_bill (sum_of inst.now.draft (after inst.now.draft (timetable_of ledgers.old) mv.now) (footprint inst.now.draft (timetable_of ledgers.old) mv.now)) }
+    ensures change { result ≡ change_of_bill inst.now.draft (timetable_of ledgers.old) (after inst.now.draft (timetable_of ledgers.old) mv.now) }
     ensures cells { foot.new.cells ≡ footprint inst.now.draft (timetable_of ledgers.old) mv.now }
     ensures sizes { foot.new.sizes ≡ foot.old.sizes }
     ensures stands { AreLedgersOf inst.now.draft (timetable_of ledgers.old) ledgers.new }
 {
     looks(mv, foot);
     expand(inst, ledgers.plan(), mv, writes);
-    sum_after(inst, ledgers, writes.as_slice(), foot)
+    change_after(inst, ledgers, writes.as_slice(), foot)
 }
 
 /// What a move adds to the bill, number by number. `foot` then has the cells of its footprint, rising, and the ledgers
@@ -116,7 +183,5 @@ pub fn price_of(
     ensures stands { AreLedgersOf inst.now.draft (timetable_of ledgers.old) ledgers.new }
 {
     foot.clear();
-    let after = sum_after_move(inst, ledgers, writes, mv, foot);
-    let before = ledgers.sum(inst, foot.cells());
-    after.sub(&before)
+    change_after_move(inst, ledgers, writes, mv, foot)
 }

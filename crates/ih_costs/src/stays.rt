@@ -1,13 +1,14 @@
 //! What a patient's stay costs by itself.
 
-ghost use Rattle.std.specs.Prelude.{◌≡◌, ◌<◌, ◌&&◌, not, is_none, pos, [], ◌∷◌, IfSome};
+ghost use Rattle.std.specs.Prelude.{◌≡◌, ◌<◌, ◌&&◌, not, is_none, pos, ◌-ℤ◌, IfSome};
 ghost use Rattle.ih_tables.specs.Sizes.{patient_count};
 ghost use Rattle.ih_tables.specs.declared.cells.Cell.TheVariants.{Stay};
+ghost use Rattle.ih_tables.specs.Bills.{sub_bills};
 ghost use Rattle.ih_plan.specs.Timetable.{IsPlanOf};
 ghost use Rattle.ih_plan.specs.Sums.{bit};
-ghost use Rattle.ih_plan.specs.Costs.{in_bad_room, outside_window, delay};
 ghost use Rattle.ih_plan.specs.BillOf.{as_bill};
 ghost use Rattle.ih_plan.specs.Cells.{part_at};
+ghost use Rattle.ih_costs.specs.Changes.{stay_part};
 
 use ih_plan::{Placement, Plan};
 use ih_tables::{Bill, Instance, Patient, PatientNo};
@@ -22,16 +23,64 @@ fn bit(b: bool) -> i64
 // The bill of a stay alone: whether it breaks a rule, the delay, and whether an optional patient is left out.
 fn stay_costs(a: &Patient, stay: Option<Placement>) -> Bill
     requires { IfSome stay (λ at. at.day.0 < 56) }
-    ensures { result ≡ as_bill (record {
-      v = 0 ∷ bit (in_bad_room a.now stay) ∷ 0 ∷ 0 ∷ bit (a.now.mandatory && is_none stay) ∷ bit (outside_window a.now stay) ∷ 0 ∷ 0 ∷ 0 ∷ [];
-      s = 0 ∷ 0 ∷ 0 ∷ 0 ∷ 0 ∷ 0 ∷ delay a.now stay ∷ bit (not a.now.mandatory && is_none stay) ∷ [];
-    }) }
+    ensures { result ≡ as_bill (stay_part a.now stay) }
 {
     let bad = bit(in_bad_room(a, stay));
     let out = bit(a.mandatory && stay.is_none());
     let outside = bit(outside_window(a, stay));
     let late = delay(a, stay) as i64;
     let left = bit(!a.mandatory && stay.is_none());
+    Bill {
+        v: [0, bad, 0, 0, out, outside, 0, 0, 0],
+        s: [0, 0, 0, 0, 0, 0, late, left],
+    }
+}
+
+// How much more the new mark counts than the old one.
+fn rise(new: bool, old: bool) -> i64
+    ensures { result ≡ pos (bit new) -ℤ pos (bit old) }
+{
+    match (new, old) {
+        (true, false) => 1,
+        (false, true) => -1,
+        _ => 0,
+    }
+}
+
+// How many days more the new delay has than the old one.
+fn days_more(new: u64, old: u64) -> i64
+    requires new { new < 56 }
+    requires old { old < 56 }
+    ensures { result ≡ pos new -ℤ pos old }
+{
+    new as i64 - old as i64
+}
+
+// Whether a mandatory patient is left out.
+fn is_out(a: &Patient, stay: Option<Placement>) -> bool
+    ensures { result ≡ (a.now.mandatory && is_none stay) }
+{
+    a.mandatory && stay.is_none()
+}
+
+// Whether an optional patient is left out.
+fn is_left(a: &Patient, stay: Option<Placement>) -> bool
+    ensures { result ≡ (not a.now.mandatory && is_none stay) }
+{
+    !a.mandatory && stay.is_none()
+}
+
+/// What another stay of a patient, or none, changes in what the stay costs by itself.
+pub fn stay_change(a: &Patient, new: Option<Placement>, old: Option<Placement>) -> Bill
+    requires new { IfSome new (λ at. at.day.0 < 56) }
+    requires old { IfSome old (λ at. at.day.0 < 56) }
+    ensures { result ≡ sub_bills (as_bill (stay_part a.now new)) (as_bill (stay_part a.now old)) }
+{
+    let bad = rise(in_bad_room(a, new), in_bad_room(a, old));
+    let out = rise(is_out(a, new), is_out(a, old));
+    let outside = rise(outside_window(a, new), outside_window(a, old));
+    let late = days_more(delay(a, new), delay(a, old));
+    let left = rise(is_left(a, new), is_left(a, old));
     Bill {
         v: [0, bad, 0, 0, out, outside, 0, 0, 0],
         s: [0, 0, 0, 0, 0, 0, late, left],

@@ -6,7 +6,8 @@ pub mod Locality
 pub mod Ranked
 pub mod Prices
 pub mod Rising
-pub mod MarkLemmas
+pub mod StampLemmas
 pub mod GatherLemmas
 pub mod FootLemmas
 pub mod LookLemmas
+pub mod TestLemmas

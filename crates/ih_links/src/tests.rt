@@ -21,9 +21,13 @@ fn nodes_of(alloc: Global, links: &Links, head: u32) -> Result<Vec<u32>, AllocEr
     Ok(nodes)
 }
 
+/// Threads share lists.
+fn share<T: Send + Sync>(_x: &T) {}
+
 #[test]
 fn a_node_leaves_and_the_list_closes_up(rt: HostRuntime) -> Result<(), Fail> {
     let mut links = Links::new(rt.alloc(), 2, 3)?;
+    share(&links);
     links.push_back(0, 2);
     links.push_back(0, 0);
     links.push_back(1, 1);

@@ -1,6 +1,6 @@
 -- What a ledger stands for after a patient enters or leaves.
-use Rattle.std.proofs.Common.{◌≡◌, ℕ, ◌+◌, ◌*◌, ◌<◌, ◌≤◌, refl, arith, sym, subst, ◌∙◌, Bool, true, false, inl, inr, List, length, Some, None}
-use Rattle.std.specs.Prelude.{◌&&◌, ◌||◌, ◌==◌, not, min, nat_le, nat_lt}
+use Rattle.std.proofs.Common.{◌≡◌, ℕ, ◌+◌, ◌*◌, ◌<◌, ◌≤◌, refl, arith, sym, subst, ◌∙◌, Bool, true, false, inl, inr, List, length, Option, Some, None}
+use Rattle.std.specs.Prelude.{◌&&◌, ◌||◌, ◌==◌, not, min, nat_le, nat_lt, IfSome}
 use Rattle.std.proofs.lemmas.Bool.{cases_lt, lt-ltb, le-ltb, and_parts, eq-eqb, eqb-true, ltb-true}
 use Rattle.ih_tables.specs.declared.drafts.Draft.{Draft}
 use Rattle.ih_tables.specs.declared.ids.PatientNo.{PatientNo}
@@ -133,3 +133,7 @@ module _ {I : Draft} {P plan : Timetable} {here : List Linked} {loads : List ℕ
   loads-small valid m j mh jh =
       let each = known.loads_are.each m j mh jh in
       omega (arith, each, load-most I P m j valid)
+
+pub all-some : {X : Type 0} (T : X → Type 0) (o : Option X) → ((x : X) → o ≡ Some x → T x) → IfSome o T
+all-some T None h = tt
+all-some T (Some x) h = h x refl

@@ -10,4 +10,11 @@ pub mod ShiftLemmas
 pub mod BillLemmas
 pub mod RoomLemmas
 pub mod StartLemmas
+pub mod WithinLemmas
+pub mod StretchLemmas
+pub mod DifferenceLemmas
+pub mod OwnLemmas
+pub mod GivenLemmas
+pub mod NewlyLemmas
+pub mod RoomChangeLemmas
 pub mod TestLemmas

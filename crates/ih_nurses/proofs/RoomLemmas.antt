@@ -39,18 +39,18 @@ empty-tagged f [] = refl
 empty-tagged f (x ∷ xs) = refl
 
 -- the lists give the same sums
-abbrev AreAlike : List ℕ → List ℕ → Type 0
+abbrev pub AreAlike : List ℕ → List ℕ → Type 0
 AreAlike xs ys = (f : ℕ → ℕ) → sum_by f xs ≡ sum_by f ys
 
-alike-empty : (xs ys : List ℕ) → AreAlike xs ys → is_empty xs ≡ is_empty ys
+pub alike-empty : (xs ys : List ℕ) → AreAlike xs ys → is_empty xs ≡ is_empty ys
 alike-empty xs ys alike = empty-same xs ys (omega (arith, alike (λ x. 1), sum-even 1 xs, sum-even 1 ys))
 
-alike-missing : (I : Draft) (n : Option ℕ) (skill : ℕ → ℕ) (xs ys : List ℕ) → AreAlike xs ys → skill_missing I n (map skill xs) ≡ skill_missing I n (map skill ys)
+pub alike-missing : (I : Draft) (n : Option ℕ) (skill : ℕ → ℕ) (xs ys : List ℕ) → AreAlike xs ys → skill_missing I n (map skill xs) ≡ skill_missing I n (map skill ys)
 alike-missing I None skill xs ys alike = refl
 alike-missing I (Some n) skill xs ys alike =
     sum-values (λ s. s - skill_level I n) skill xs ∙ (alike (λ x. skill x - skill_level I n) ∙ sym (sum-values (λ s. s - skill_level I n) skill ys))
 
-room-part : (I : Draft) (P : Timetable) (r : RoomNo) (k : Shift) (off uncovered missing : ℕ) → off ≡ bit (not_working I k.0 (care_of P r.0 k.0))
+pub room-part : (I : Draft) (P : Timetable) (r : RoomNo) (k : Shift) (off uncovered missing : ℕ) → off ≡ bit (not_working I k.0 (care_of P r.0 k.0))
     → uncovered ≡ bit (is_none (care_of P r.0 k.0) && not (is_empty (present I P r.0 (day_of k.0))))
     → missing ≡ skill_missing I (care_of P r.0 k.0) (map (skill_of I P k.0) (present I P r.0 (day_of k.0)))
     → nursing off uncovered missing 0 0 ≡ as_bill (part_at I P (RoomShift r k))

@@ -1,5 +1,5 @@
 -- The workload of each nurse in each shift, as a table.
-use Rattle.std.specs.Prelude.{◌≡◌, ◌<◌, ℕ, ◌+◌, ◌-◌, ◌*◌, ◌==◌, ◌&&◌, if◌then◌else◌, List, length, Option, slice_index, slice_index_or, option_map}
+use Rattle.std.specs.Prelude.{◌≡◌, ◌<◌, ℕ, ◌+◌, ◌-◌, ◌*◌, ◌==◌, ◌&&◌, if◌then◌else◌, List, length, Option, Some, None, slice_index, slice_index_or, option_map}
 use Rattle.ih_tables.specs.declared.drafts.Draft.{Draft}
 use Rattle.ih_tables.specs.declared.ids.NurseNo.{NurseNo}
 use Rattle.ih_tables.specs.Sizes.{nurse_count, shift_count}
@@ -23,6 +23,11 @@ stay_load I P p at n k =
     if is_number (care_of P at.room.0 k) n
     then (if covers at.day.0 (person_of I p).length_of_stay (day_of k) then slice_index (person_of I p).workload (k - 3 * at.day.0) else 0)
     else 0
+
+-- the same of a stay where there is one
+abbrev pub given : Draft → Timetable → ℕ → Option Placement → ℕ → ℕ → ℕ
+given I P p None n k = 0
+given I P p (Some at) n k = stay_load I P p at n k
 
 -- The table has the workload of each nurse in each shift.
 pub record AreLoads (I : Draft) (P : Timetable) (loads : List ℕ) : Type 0 where

@@ -1,11 +1,11 @@
 //! A bill that has the numbers of nursing alone.
 
-ghost use Rattle.std.specs.Prelude.{◌≡◌, ◌^◌, pos, [], ◌∷◌};
+ghost use Rattle.std.specs.Prelude.{◌≡◌, ◌^◌, ◌-ℤ◌, ◌≤ℤ◌, neg_ℤ, pos, [], ◌∷◌};
 ghost use Rattle.ih_tables.specs.Bills.{IsWithin};
 
 use ih_tables::Bill;
 
-/// What nursing gives to a bill.
+/// What nursing gives to a bill, or one part of it.
 #[derive(Clone, Copy, Drop)]
 pub struct NursingCosts {
     /// Nurses who don't work the shift.
@@ -45,6 +45,49 @@ pub fn bill_of(costs: NursingCosts) -> Bill
             costs.missing_skill as i64,
             costs.nurses_seen as i64,
             costs.overload as i64,
+            0,
+            0,
+            0,
+            0,
+        ],
+    }
+}
+
+// A number less another.
+fn minus(a: u32, b: u32) -> i64
+    ensures value { result ≡ pos a -ℤ pos b }
+    ensures low { neg_ℤ (pos (10 ^ 11)) ≤ℤ result }
+    ensures high { result ≤ℤ pos (10 ^ 11) }
+{
+    a as i64 - b as i64
+}
+
+/// The bill of some costs less that of others. Each of its numbers is at most 10^11 in magnitude.
+pub fn difference(after: NursingCosts, before: NursingCosts) -> Bill
+    ensures value { result ≡ record {
+      v = pos 0 ∷ pos 0 ∷ pos 0 ∷ pos 0 ∷ pos 0 ∷ pos 0 ∷ pos 0 ∷ (pos after.off -ℤ pos before.off) ∷ (pos after.uncovered -ℤ pos before.uncovered) ∷ [];
+      s = pos 0 ∷ (pos after.missing_skill -ℤ pos before.missing_skill) ∷ (pos after.nurses_seen -ℤ pos before.nurses_seen) ∷ (pos after.overload -ℤ pos before.overload)
+          ∷ pos 0 ∷ pos 0 ∷ pos 0 ∷ pos 0 ∷ [];
+    } }
+    ensures within { IsWithin (10 ^ 11) result }
+{
+    Bill {
+        v: [
+            0,
+            0,
+            0,
+            0,
+            0,
+            0,
+            0,
+            minus(after.off, before.off),
+            minus(after.uncovered, before.uncovered),
+        ],
+        s: [
+            0,
+            minus(after.missing_skill, before.missing_skill),
+            minus(after.nurses_seen, before.nurses_seen),
+            minus(after.overload, before.overload),
             0,
             0,
             0,

@@ -1,8 +1,10 @@
 //! The nurse of a room in a shift.
 
-ghost use Rattle.std.specs.Prelude.{◌≡◌, ◌<◌, IfSome};
+ghost use Rattle.std.specs.Prelude.{◌≡◌, ◌<◌, IfSome, option_map};
+ghost use Rattle.ih_tables.specs.declared.ids.NurseNo.{NurseNo};
 ghost use Rattle.ih_tables.specs.Sizes.{room_count, shift_count, nurse_count};
 ghost use Rattle.ih_plan.specs.Timetable.{IsPlanOf, choice_of};
+ghost use Rattle.ih_plan.specs.Costs.{is_number};
 
 use ih_plan::Plan;
 use ih_tables::{Instance, NurseNo, RoomNo, Shift};
@@ -16,4 +18,14 @@ pub fn nurse_at(inst: &Instance, plan: &Plan, r: RoomNo, k: Shift) -> Option<Nur
     ensures nurse { IfSome result (λ a. a.0 < nurse_count inst.now.draft) }
 {
     plan.care(r, k)
+}
+
+/// Whether the choice is this nurse.
+pub fn is_nurse(choice: Option<NurseNo>, n: NurseNo) -> bool
+    ensures { result ≡ is_number (option_map (λ (a : NurseNo). a.0) choice) n.0 }
+{
+    match choice {
+        None => false,
+        Some(a) => a.0 == n.0,
+    }
 }

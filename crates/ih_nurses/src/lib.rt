@@ -2,17 +2,20 @@
 #![tactic(auto)]
 
 mod bills;
+mod changes;
 mod choices;
 #[cfg(test)]
 mod example;
 mod loads;
 mod nurses;
+mod own;
 mod persons;
 mod presence;
 mod rooms;
 mod seen;
 mod start;
 mod stays;
+mod stretches;
 #[cfg(test)]
 mod tests;
 

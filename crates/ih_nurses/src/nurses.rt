@@ -17,10 +17,11 @@ use crate::bills::{NursingCosts, bill_of};
 use crate::choices::nurse_at;
 use crate::loads::{load, move_load, overload};
 use crate::presence::{enter_days, leave_days};
-use crate::rooms::{missing_skill, nurse_off, uncovered, workload_in};
-use crate::seen::nurses_of;
+use crate::rooms::{choice_costs, workload_in};
+use crate::seen::nurses_over;
 use crate::start::{no_loads, occupants_here};
 use crate::stays::{add_stay, end_of, take_stay};
+use crate::stretches::stretch_of;
 use ih_links::Links;
 use ih_plan::{Placement, Plan, Write};
 use ih_tables::{Bill, Instance, NurseNo, PatientNo, PersonNo, RoomNo, Shift};
@@ -30,11 +31,11 @@ use std::alloc::{AllocError, Global};
 #[derive(Drop)]
 pub struct Nurses {
     // The timetable itself.
-    plan: Plan,
+    pub(crate) plan: Plan,
     // For each day, the persons in each room.
-    here: Vec<Links>,
+    pub(crate) here: Vec<Links>,
     // The workload of each nurse in each shift: those of nurse 0 first, rising by shift.
-    loads: Vec<u32>,
+    pub(crate) loads: Vec<u32>,
 }
 
 impl Nurses {
@@ -107,13 +108,7 @@ impl Nurses {
     {
         let persons = &self.here[(k.0 / 3) as usize];
         let nurse = nurse_at(inst, &self.plan, r, k);
-        bill_of(NursingCosts {
-            off: nurse_off(inst, nurse, k),
-            uncovered: uncovered(persons, r, nurse),
-            missing_skill: missing_skill(inst, &self.plan, persons, r, k, nurse),
-            nurses_seen: 0,
-            overload: 0,
-        })
+        bill_of(choice_costs(inst, &self.plan, persons, r, k, nurse))
     }
 
     /// A nurse's part of the bill in a shift: the workload above the maximum, where the shift is worked. Each number is at most 10^11.
@@ -145,7 +140,7 @@ impl Nurses {
             off: 0,
             uncovered: 0,
             missing_skill: 0,
-            nurses_seen: nurses_of(inst, &self.plan, x.0),
+            nurses_seen: nurses_over(inst, &self.plan, stretch_of(inst, &self.plan, x.0)),
             overload: 0,
         })
     }

@@ -3,12 +3,13 @@
 ghost use Rattle.std.specs.Prelude.{◌≡◌, ◌<◌, ◌≤◌, ◌-◌, ◌*◌, ℕ, length, sum_by, map, option_map, is_none, not, ◌&&◌, IfSome};
 ghost use Rattle.ih_tables.specs.declared.ids.NurseNo.{NurseNo};
 ghost use Rattle.ih_tables.specs.Sizes.{person_count, nurse_count, shift_count};
-ghost use Rattle.ih_links.specs.Lists.{list_of, AreNodes};
+ghost use Rattle.ih_links.specs.Lists.{list_of, without, AreNodes};
 ghost use Rattle.ih_plan.specs.Timetable.{IsPlanOf};
 ghost use Rattle.ih_plan.specs.Presence.{workload_of, skill_of};
 ghost use Rattle.ih_plan.specs.Costs.{skill_missing, not_working, is_empty};
 ghost use Rattle.ih_plan.specs.Sums.{bit};
 
+use crate::bills::NursingCosts;
 use crate::persons::{skill_of, workload_of};
 use ih_links::Links;
 use ih_plan::Plan;
@@ -88,6 +89,24 @@ pub fn uncovered(persons: &Links, r: RoomNo, n: Option<NurseNo>) -> u32
     if n.is_none() && occupied { 1 } else { 0 }
 }
 
+/// Whether anybody but person x is in a room's list.
+pub fn has_others(persons: &Links, r: RoomNo, x: u32) -> bool
+    requires room { r.0 < length persons.now.lists }
+    ensures value { result ≡ not (is_empty (without x (list_of persons.now r.0))) }
+    ensures nodes { AreNodes persons.now.nodes (list_of persons.now r.0) }
+{
+    match persons.first(r.0) {
+        None => false,
+        Some(y) => {
+            if y == x {
+                persons.next(y).is_some()
+            } else {
+                true
+            }
+        }
+    }
+}
+
 /// 1 where there is a nurse, who doesn't work the shift, and 0 where not.
 pub fn nurse_off(inst: &Instance, n: Option<NurseNo>, k: Shift) -> u32
     requires nurse { IfSome n (λ a. a.0 < nurse_count inst.now.draft) }
@@ -100,5 +119,35 @@ pub fn nurse_off(inst: &Instance, n: Option<NurseNo>, k: Shift) -> u32
             None => 1,
             Some(_) => 0,
         },
+    }
+}
+
+/// What a room costs in a shift with a choice of nurse.
+pub fn choice_costs(
+    inst: &Instance,
+    plan: &Plan,
+    persons: &Links,
+    r: RoomNo,
+    k: Shift,
+    n: Option<NurseNo>,
+) -> NursingCosts
+    requires plan { IsPlanOf inst.now.draft plan.now }
+    requires room { r.0 < length persons.now.lists }
+    requires persons { persons.now.nodes ≡ person_count inst.now.draft }
+    requires nurse { IfSome n (λ a. a.0 < nurse_count inst.now.draft) }
+    requires shift { k.0 < shift_count inst.now.draft }
+    ensures off { result.off ≡ bit (not_working inst.now.draft k.0 (option_map (λ (a : NurseNo). a.0) n)) }
+    ensures uncovered { result.uncovered ≡ bit (is_none (option_map (λ (a : NurseNo). a.0) n) && not (is_empty (list_of persons.now r.0))) }
+    ensures missing_skill { result.missing_skill ≡ skill_missing inst.now.draft (option_map (λ (a : NurseNo). a.0) n) (map (skill_of inst.now.draft plan.now k.0) (list_of persons.now r.0)) }
+    ensures seen { result.nurses_seen ≡ 0 }
+    ensures overload { result.overload ≡ 0 }
+    ensures nodes { AreNodes persons.now.nodes (list_of persons.now r.0) }
+{
+    NursingCosts {
+        off: nurse_off(inst, n, k),
+        uncovered: uncovered(persons, r, n),
+        missing_skill: missing_skill(inst, plan, persons, r, k, n),
+        nurses_seen: 0,
+        overload: 0,
     }
 }

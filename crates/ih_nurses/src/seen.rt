@@ -1,18 +1,19 @@
 //! How many distinct nurses a person has over its stay.
 
-ghost use Rattle.std.specs.Prelude.{◌≡◌, ◌<◌, ◌≤◌, ◌-◌, ◌+◌, ◌*◌, ◌||◌, ℕ, length, map, min, IfSome, option_map};
+ghost use Rattle.std.specs.Prelude.{◌≡◌, ◌<◌, ◌≤◌, ◌+◌, ◌==◌, ◌&&◌, ◌||◌, not, ℕ, length, map, IfSome, option_map};
 ghost use Rattle.std.specs.List.{range_with_len};
 ghost use Rattle.ih_tables.specs.declared.ids.NurseNo.{NurseNo};
-ghost use Rattle.ih_tables.specs.Sizes.{person_count, room_count, shift_count, nurse_count};
+ghost use Rattle.ih_tables.specs.Sizes.{room_count, shift_count, nurse_count};
 ghost use Rattle.ih_plan.specs.Timetable.{IsPlanOf, care_of};
-ghost use Rattle.ih_plan.specs.Presence.{shifts_of, room_of};
-ghost use Rattle.ih_plan.specs.Costs.{nurse_for, distinct_nurses, is_number};
+ghost use Rattle.ih_plan.specs.Costs.{distinct_nurses, is_number};
 ghost use Rattle.ih_plan.specs.Sums.{count_below};
 ghost use Rattle.ih_nurses.specs.Marks.{is_marked};
+ghost use Rattle.ih_nurses.specs.Stretches.{IsStretch, nurses_over, has_other, newly_seen};
 
-use crate::choices::nurse_at;
+use crate::choices::{is_nurse, nurse_at};
+use crate::stretches::Stretch;
 use ih_plan::Plan;
-use ih_tables::{Instance, NurseNo, PatientNo, RoomNo, Shift};
+use ih_tables::{Instance, NurseNo, RoomNo, Shift};
 
 // Marks a nurse, where there is one, and tells how many are new: 1 or 0.
 fn meet(seen: &mut [bool], n: Option<NurseNo>) -> u32
@@ -47,37 +48,66 @@ fn seen_in(inst: &Instance, plan: &Plan, r: RoomNo, from: u32, len: u32) -> u32
     count
 }
 
-// The shifts of a stay of so many days, as far as the horizon goes.
-fn counted(inst: &Instance, day: u32, len: u32) -> u32
-    requires day { day < inst.now.draft.days }
-    requires len { len ≤ 100 }
-    ensures count { result ≡ 3 * (min (day + len) inst.now.draft.days - day) }
-    ensures inside { 3 * day + result ≤ shift_count inst.now.draft }
+/// The distinct nurses over the shifts of a stay, and 0 where there is none.
+#[tactic(auto, using(ih_plan::proofs::ListSteps::none_steps))]
+pub fn nurses_over(inst: &Instance, plan: &Plan, stretch: Option<Stretch>) -> u32
+    requires plan { IsPlanOf inst.now.draft plan.now }
+    requires stretch { IfSome stretch (IsStretch inst.now.draft) }
+    ensures { result ≡ distinct_nurses inst.now.draft (nurses_over plan.now stretch) }
 {
-    let days = inst.days();
-    3 * ((day + len).min(days) - day)
+    match stretch {
+        None => 0,
+        Some(s) => seen_in(inst, plan, s.room, s.from, s.len),
+    }
 }
 
-/// The distinct nurses of a person over its stay, and 0 where the person isn't admitted.
-#[tactic(auto, using(ih_plan::proofs::ListSteps::none_steps), unfolding(ih_plan::specs::Presence::admission_of, ih_plan::specs::Presence::shifts_of, ih_plan::specs::Persons::person_of))]
-pub fn nurses_of(inst: &Instance, plan: &Plan, x: u32) -> u32
+// Whether the nurse has a room in a shift, which is another than k.
+fn has_but(inst: &Instance, plan: &Plan, r: RoomNo, l: Shift, k: Shift, n: NurseNo) -> bool
     requires plan { IsPlanOf inst.now.draft plan.now }
-    requires person { x < person_count inst.now.draft }
-    ensures { result ≡ distinct_nurses inst.now.draft (map (nurse_for plan.now (room_of inst.now.draft plan.now x)) (shifts_of inst.now.draft plan.now x)) }
+    requires room { r.0 < room_count inst.now.draft }
+    requires shift { l.0 < shift_count inst.now.draft }
+    ensures { result ≡ (not (l.0 == k.0) && is_number (care_of plan.now r.0 l.0) n.0) }
 {
-    let patients = inst.patients();
-    if x < patients {
-        let a = inst.patient(PatientNo(x));
-        match plan.stay(PatientNo(x)) {
-            None => 0,
-            Some(at) => {
-                let count = counted(inst, at.day.0, a.length_of_stay);
-                seen_in(inst, plan, at.room, 3 * at.day.0, count)
-            }
+    l.0 != k.0 && is_nurse(nurse_at(inst, plan, r, l), n)
+}
+
+// Whether the nurse has another shift of these than k.
+fn has_other(inst: &Instance, plan: &Plan, s: Stretch, k: Shift, n: NurseNo) -> bool
+    requires plan { IsPlanOf inst.now.draft plan.now }
+    requires stretch { IsStretch inst.now.draft s }
+    ensures { result ≡ has_other plan.now s k.0 n.0 }
+{
+    for j in 0..s.len {
+        if has_but(inst, plan, s.room, Shift(s.from + j), k, n) {
+            return true;
         }
+    }
+    false
+}
+
+/// 1 where the choice for a room and a shift is a nurse who has no other shift of a stay that has this one, and 0 where not.
+pub fn newly_seen(
+    inst: &Instance,
+    plan: &Plan,
+    stretch: Option<Stretch>,
+    r: RoomNo,
+    k: Shift,
+    n: Option<NurseNo>,
+) -> u32
+    requires plan { IsPlanOf inst.now.draft plan.now }
+    requires stretch { IfSome stretch (IsStretch inst.now.draft) }
+    ensures { result ≡ newly_seen plan.now stretch r.0 k.0 n }
+{
+    let Some(s) = stretch else {
+        return 0;
+    };
+    let Some(a) = n else {
+        return 0;
+    };
+    let among = s.room.0 == r.0 && (s.from <= k.0 && k.0 < s.from + s.len);
+    if among && !has_other(inst, plan, s, k, a) {
+        1
     } else {
-        let o = inst.occupant(x - patients);
-        let count = counted(inst, 0, o.length_of_stay);
-        seen_in(inst, plan, o.room_id, 0, count)
+        0
     }
 }

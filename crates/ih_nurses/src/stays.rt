@@ -23,9 +23,9 @@ pub fn end_of(inst: &Instance, p: PatientNo, at: Placement) -> u32
     (at.day.0 + inst.patient(p).length_of_stay).min(inst.days())
 }
 
-// The workload that a patient makes in a shift of its stay.
+/// The workload that a patient makes in a shift of its stay.
 #[tactic(auto, unfolding(ih_plan::specs::Persons::person_of))]
-fn workload(inst: &Instance, p: PatientNo, at: Placement, k: u32) -> u32
+pub fn workload(inst: &Instance, p: PatientNo, at: Placement, k: u32) -> u32
     requires patient { p.0 < patient_count inst.now.draft }
     requires begun { 3 * at.day.0 ≤ k }
     ensures value { result ≡ slice_index (person_of inst.now.draft p.0).workload (k - 3 * at.day.0) }

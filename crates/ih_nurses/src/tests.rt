@@ -2,7 +2,7 @@
 
 ghost use Rattle.std.specs.Prelude.{◌≡◌};
 ghost use Rattle.ih_tables.specs.Sizes.{patient_count, room_count, theatre_count, nurse_count};
-ghost use Rattle.ih_plan.specs.Timetable.{empty};
+ghost use Rattle.ih_plan.specs.Timetable.{Timetable, empty};
 ghost use Rattle.ih_nurses.specs.Ledger.{IsLedgerOf};
 
 use crate::Nurses;
@@ -44,6 +44,14 @@ const ONE_NURSE: [i64; 8] = [0, 0, 1, 0, 0, 0, 0, 0];
 
 const LOAD_OF_1: [i64; 8] = [0, 0, 0, 1, 0, 0, 0, 0];
 
+const ONE_COVERED: [i64; 9] = [0, 0, 0, 0, 0, 0, 0, 0, -1];
+
+const SKILL_LESS_2: [i64; 8] = [0, -2, 0, 0, 0, 0, 0, 0];
+
+const ONE_NURSE_LESS: [i64; 8] = [0, 0, -1, 0, 0, 0, 0, 0];
+
+const LOAD_LESS_1: [i64; 8] = [0, 0, 0, -1, 0, 0, 0, 0];
+
 // Whether each bill is right after the first patient joins the occupant, and the unskilled nurse has the room in the night.
 fn one_is_right(inst: &Instance, ledger: &mut Nurses) -> bool
     requires new { IsLedgerOf inst.now.draft (empty inst.now.draft) ledger.old }
@@ -84,13 +92,71 @@ fn coming_is_right(inst: &Instance, ledger: &mut Nurses) -> bool
     ledger.enter(inst, PatientNo(1), at);
     let night = ledger.room_shift_bill(inst, RoomNo(0), Shift(2));
     let load = ledger.nurse_shift_bill(inst, NurseNo(0), Shift(2));
+    let relief = ledger.load_change(inst, NurseNo(0), Shift(2), RoomNo(0), Some(NurseNo(1)));
     ledger.leave(inst, PatientNo(1), at);
     let after = ledger.nurse_shift_bill(inst, NurseNo(0), Shift(2));
     let care = ledger.care_bill(inst, PersonNo(1));
     is(&night, KEPT, SKILL_OF_4)
         && is(&load, KEPT, LOAD_OF_1)
+        && is(&relief, KEPT, LOAD_LESS_1)
         && is(&after, KEPT, NONE)
         && is(&care, KEPT, NONE)
+}
+
+// Whether each change by a stay is right where the first patient and the occupant are there, under the unskilled nurse in the night.
+fn stay_changes_are_right(inst: &Instance, ledger: &Nurses) -> bool
+    requires stands { (P : Timetable) × IsLedgerOf inst.now.draft P ledger.now }
+    requires days { inst.now.draft.days ≡ 2 }
+    requires patients { patient_count inst.now.draft ≡ 2 }
+    requires rooms { room_count inst.now.draft ≡ 2 }
+    requires theatres { theatre_count inst.now.draft ≡ 2 }
+    requires nurses { nurse_count inst.now.draft ≡ 2 }
+{
+    let at = Some(first_day(TheatreNo(1)));
+    let room = ledger.room_shift_change(inst, RoomNo(0), Shift(2), PatientNo(1), at);
+    let load = ledger.nurse_shift_change(inst, NurseNo(0), Shift(2), PatientNo(1), at);
+    let care = ledger.care_change(inst, PatientNo(1), at);
+    let shared = ledger.room_shift_change(inst, RoomNo(0), Shift(0), PatientNo(0), None);
+    let alone = ledger.room_shift_change(inst, RoomNo(0), Shift(3), PatientNo(0), None);
+    is(&room, KEPT, SKILL_OF_2)
+        && is(&load, KEPT, LOAD_OF_1)
+        && is(&care, KEPT, ONE_NURSE)
+        && is(&shared, KEPT, NONE)
+        && is(&alone, ONE_COVERED, NONE)
+}
+
+// Whether each change by a choice is right there.
+fn choice_changes_are_right(inst: &Instance, ledger: &Nurses) -> bool
+    requires stands { (P : Timetable) × IsLedgerOf inst.now.draft P ledger.now }
+    requires days { inst.now.draft.days ≡ 2 }
+    requires patients { patient_count inst.now.draft ≡ 2 }
+    requires rooms { room_count inst.now.draft ≡ 2 }
+    requires nurses { nurse_count inst.now.draft ≡ 2 }
+{
+    let skilled = ledger.choice_change(inst, RoomNo(0), Shift(2), Some(NurseNo(1)));
+    let covered = ledger.choice_change(inst, RoomNo(0), Shift(0), Some(NurseNo(0)));
+    let same = ledger.seen_change(inst, PersonNo(0), RoomNo(0), Shift(0), Some(NurseNo(0)));
+    let second = ledger.seen_change(inst, PersonNo(0), RoomNo(0), Shift(0), Some(NurseNo(1)));
+    let nobody = ledger.seen_change(inst, PersonNo(0), RoomNo(0), Shift(2), None);
+    is(&skilled, KEPT, SKILL_LESS_2)
+        && is(&covered, ONE_COVERED, NONE)
+        && is(&same, KEPT, NONE)
+        && is(&second, KEPT, ONE_NURSE)
+        && is(&nobody, KEPT, ONE_NURSE_LESS)
+}
+
+// Whether each change is right there.
+fn changes_are_right(inst: &Instance, ledger: &mut Nurses) -> bool
+    requires new { IsLedgerOf inst.now.draft (empty inst.now.draft) ledger.old }
+    requires days { inst.now.draft.days ≡ 2 }
+    requires patients { patient_count inst.now.draft ≡ 2 }
+    requires rooms { room_count inst.now.draft ≡ 2 }
+    requires theatres { theatre_count inst.now.draft ≡ 2 }
+    requires nurses { nurse_count inst.now.draft ≡ 2 }
+{
+    ledger.set_care(inst, RoomNo(0), Shift(2), Some(NurseNo(0)));
+    ledger.enter(inst, PatientNo(0), first_day(TheatreNo(0)));
+    stay_changes_are_right(inst, ledger) && choice_changes_are_right(inst, ledger)
 }
 
 #[test]
@@ -125,5 +191,21 @@ fn a_second_patient_overloads_the_nurse_while_there(rt: HostRuntime) -> Result<(
     assert!(rt; inst.nurses() == 2);
     let mut ledger = Nurses::new(alloc, &inst)?;
     assert!(rt; coming_is_right(&inst, &mut ledger));
+    Ok(())
+}
+
+#[test]
+fn changes_are_told_without_the_write(rt: HostRuntime) -> Result<(), Fail> {
+    let alloc = rt.alloc();
+    let draft = example(alloc)?;
+    assert!(rt; draft.is_valid());
+    let inst = Instance::seal(alloc, draft)?;
+    assert!(rt; inst.days() == 2);
+    assert!(rt; inst.patients() == 2);
+    assert!(rt; inst.rooms() == 2);
+    assert!(rt; inst.theatres() == 2);
+    assert!(rt; inst.nurses() == 2);
+    let mut ledger = Nurses::new(alloc, &inst)?;
+    assert!(rt; changes_are_right(&inst, &mut ledger));
     Ok(())
 }

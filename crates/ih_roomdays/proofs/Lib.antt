@@ -4,8 +4,10 @@ pub mod Leavings
 pub mod Sights
 pub mod Orders
 pub mod People
+pub mod GenderLemmas
 pub mod Standing
-pub mod Changes
+pub mod StayLemmas
+pub mod Others
 pub mod Occupants
 pub mod Places
 mod TestLemmas

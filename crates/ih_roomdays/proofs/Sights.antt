@@ -1,5 +1,5 @@
 -- What one more person makes of what is seen of persons, and of a walk over their nodes.
-use Rattle.std.proofs.Common.{◌≡◌, ℕ, ◌/◌, ◌<◌, refl, arith, sym, ap, subst, ◌∙◌, Bool, true, false, List, [], ◌∷◌, ◌++◌, Option, Some, None, map, min}
+use Rattle.std.proofs.Common.{◌≡◌, ℕ, ◌/◌, ◌<◌, refl, arith, sym, ap, subst, ◌∙◌, Bool, true, false, List, [], ◌∷◌, ◌++◌, Option, Some, None, map, min, inl, inr}
 use Rattle.std.specs.Prelude.{◌||◌, not, max, IfSome}
 use Rattle.std.specs.List.{list_any}
 use Rattle.std.specs.Str.{bytes_eq}
@@ -8,7 +8,9 @@ use Rattle.ih_tables.specs.Sizes.{person_count}
 use Rattle.ih_plan.specs.Persons.{person_of}
 use Rattle.ih_plan.specs.Costs.{ages, genders_differ}
 use Rattle.ih_plan.specs.Sums.{greatest, least}
-use Rattle.ih_links.specs.Lists.{AreNodes, first_of, following}
+use Rattle.ih_links.specs.Lists.{AreNodes, first_of, following, without}
+use Rattle.ih_links.proofs.Members.{without-here, without-there}
+use Rattle.std.proofs.lemmas.Bool.{cases_eq}
 use Rattle.ih_links.proofs.Walks.{IsWalk, walk-begins, walk-goes_on, walk-ends}
 use Rattle.ih_roomdays.specs.declared.companies.Company.{Company}
 use Rattle.ih_roomdays.specs.Company.{IsSeen}
@@ -69,29 +71,45 @@ map-end : (f : ℕ → ℕ) (xs : List ℕ) (x : ℕ) → map f (xs ++ x ∷ [])
 map-end f [] x = refl
 map-end f (y ∷ ys) x = ap (λ zs. f y ∷ zs) (map-end f ys x)
 
--- A walk over nodes, and what it has seen of the persons of those that it told.
-pub record IsTour (I : Draft) (nodes days : ℕ) (xs : List ℕ) (at : Option ℕ) (c : Company) : Type 0 where
+-- A walk over nodes, and what it has seen of those persons of the nodes told that are kept.
+pub record IsTour (I : Draft) (kept : List ℕ → List ℕ) (nodes days : ℕ) (xs : List ℕ) (at : Option ℕ) (c : Company) : Type 0 where
   pub told : List ℕ
   pub walk : IsWalk nodes xs told at
   pub first : IfSome c.first (λ y. y < person_count I)
-  pub seen : IsSeen I (map (λ n. n / days) told) c
+  pub seen : IsSeen I (kept (map (λ n. n / days) told)) c
 
-pub tour-begins : (I : Draft) (nodes days : ℕ) (xs : List ℕ) (at : Option ℕ) (c : Company) → AreNodes nodes xs → at ≡ first_of xs → IsSeen I [] c → IsTour I nodes days xs at c
-tour-begins I nodes days xs at c known here seen = record {
+pub tour-begins : (I : Draft) (kept : List ℕ → List ℕ) (nodes days : ℕ) (xs : List ℕ) (at : Option ℕ) (c : Company) → AreNodes nodes xs → at ≡ first_of xs → kept [] ≡ [] → IsSeen I [] c
+    → IsTour I kept nodes days xs at c
+tour-begins I kept nodes days xs at c known here none seen = record {
   told = [];
   walk = rw here (walk-begins nodes xs known);
   first = subst (λ f. IfSome f (λ y. y < person_count I)) (sym seen.first) tt;
-  seen = seen;
+  seen = subst (λ ps. IsSeen I ps c) (sym none) seen;
 }
 
-pub tour-goes_on : {I : Draft} {nodes days : ℕ} {xs : List ℕ} {at next : Option ℕ} {c : Company} (n : ℕ) (new : Company) (tour : IsTour I nodes days xs at c) → at ≡ Some n → next ≡ following n xs
-    → IfSome new.first (λ y. y < person_count I) → ((ps : List ℕ) → IsSeen I ps c → IsSeen I (ps ++ (n / days) ∷ []) new) → IsTour I nodes days xs next new
-tour-goes_on {I} {nodes} {days} n new tour here next_is first more = record {
+pub tour-goes_on : {I : Draft} {kept : List ℕ → List ℕ} {nodes days : ℕ} {xs : List ℕ} {at next : Option ℕ} {c : Company} (n : ℕ) (new : Company) (tour : IsTour I kept nodes days xs at c) → at ≡ Some n → next ≡ following n xs
+    → IfSome new.first (λ y. y < person_count I) → ((ps : List ℕ) → IsSeen I (kept ps) c → IsSeen I (kept (ps ++ (n / days) ∷ [])) new) → IsTour I kept nodes days xs next new
+tour-goes_on {I} {kept} {nodes} {days} n new tour here next_is first more = record {
   told = tour.told ++ n ∷ [];
   walk = walk-goes_on tour.walk here next_is;
   first = first;
-  seen = rw (map-end (λ m. m / days) tour.told n) (more (map (λ m. m / days) tour.told) tour.seen);
+  seen = subst (λ ps. IsSeen I (kept ps) new) (sym (map-end (λ m. m / days) tour.told n)) (more (map (λ m. m / days) tour.told) tour.seen);
 }
 
-pub tour-ends : (I : Draft) (nodes days : ℕ) (xs : List ℕ) (c : Company) → IsTour I nodes days xs None c → IsSeen I (map (λ n. n / days) xs) c
-tour-ends I nodes days xs c tour = subst (λ ns. IsSeen I (map (λ n. n / days) ns) c) (walk-ends nodes xs tour.told tour.walk) tour.seen
+pub tour-ends : (I : Draft) (kept : List ℕ → List ℕ) (nodes days : ℕ) (xs : List ℕ) (c : Company) → IsTour I kept nodes days xs None c → IsSeen I (kept (map (λ n. n / days) xs)) c
+tour-ends I kept nodes days xs c tour = subst (λ ns. IsSeen I (kept (map (λ n. n / days) ns)) c) (walk-ends nodes xs tour.told tour.walk) tour.seen
+
+-- a list without one person that isn't its last, and without one that is
+pub without-other : (but x : ℕ) (xs : List ℕ) → (x ≡ but → ⊥) → without but (xs ++ x ∷ []) ≡ without but xs ++ x ∷ []
+without-other but x [] ne = without-there but x [] ne
+without-other but x (y ∷ ys) ne = elim (cases_eq y but) [
+  | inl e ↦ without-here but y (ys ++ x ∷ []) e ∙ (without-other but x ys ne ∙ ap (λ zs. zs ++ x ∷ []) (sym (without-here but y ys e)))
+  | inr apart ↦ without-there but y (ys ++ x ∷ []) apart ∙ (ap (λ zs. y ∷ zs) (without-other but x ys ne) ∙ ap (λ zs. zs ++ x ∷ []) (sym (without-there but y ys apart)))
+]
+
+pub without-itself : (but x : ℕ) (xs : List ℕ) → x ≡ but → without but (xs ++ x ∷ []) ≡ without but xs
+without-itself but x [] e = without-here but x [] e
+without-itself but x (y ∷ ys) e = elim (cases_eq y but) [
+  | inl same ↦ without-here but y (ys ++ x ∷ []) same ∙ (without-itself but x ys e ∙ sym (without-here but y ys same))
+  | inr apart ↦ without-there but y (ys ++ x ∷ []) apart ∙ (ap (λ zs. y ∷ zs) (without-itself but x ys e) ∙ sym (without-there but y ys apart))
+]

@@ -1,5 +1,5 @@
 -- What the bill needs to know of the persons in a room: whether genders are mixed, and their least and greatest age group.
-use Rattle.std.specs.Prelude.{◌≡◌, ℕ, List}
+use Rattle.std.specs.Prelude.{◌≡◌, ℕ, Bool, true, false, List, [], ◌∷◌, ◌++◌}
 use Rattle.ih_tables.specs.declared.drafts.Draft.{Draft}
 use Rattle.ih_plan.specs.Costs.{genders_differ, ages}
 use Rattle.ih_plan.specs.Sums.{greatest, least}
@@ -12,3 +12,8 @@ pub record IsSeen (I : Draft) (xs : List ℕ) (c : Company) : Type 0 where
   pub mixed : c.mixed ≡ genders_differ I xs
   pub low : c.low ≡ least (ages I xs)
   pub high : c.high ≡ greatest (ages I xs)
+
+-- the persons xs, and person x too where it is there
+abbrev pub with_if : Bool → ℕ → List ℕ → List ℕ
+with_if true x xs = xs ++ x ∷ []
+with_if false x xs = xs

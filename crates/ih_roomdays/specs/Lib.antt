@@ -1,3 +1,5 @@
 pub mod Rows
 pub mod Company
+pub mod Parts
+pub mod Genders
 pub mod Ledger

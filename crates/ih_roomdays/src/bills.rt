@@ -1,20 +1,69 @@
-//! The part of the bill of a room on a day.
+//! The part of the bill of a room on a day, and its change.
 
-ghost use Rattle.std.specs.Prelude.{◌≡◌, ◌^◌, [], ◌∷◌};
-ghost use Rattle.ih_tables.specs.Bills.{IsWithin};
+ghost use Rattle.std.specs.Prelude.{◌≡◌, ◌^◌, ◌≤ℤ◌, ◌-ℤ◌, neg_ℤ, pos};
+ghost use Rattle.ih_tables.specs.Bills.{IsWithin, sub_bills};
 ghost use Rattle.ih_plan.specs.BillOf.{as_bill};
 ghost use Rattle.ih_plan.specs.Sums.{bit};
+ghost use Rattle.ih_roomdays.specs.Parts.{room_day_part};
 
 use ih_tables::Bill;
 
-/// The bill with these numbers alone: whether genders are mixed, persons above the capacity, and the spread of ages.
-pub fn room_day_bill(mixed: bool, over: u32, spread: u32) -> Bill
-    ensures value { result ≡ as_bill (record { v = bit mixed ∷ 0 ∷ 0 ∷ 0 ∷ 0 ∷ 0 ∷ over ∷ 0 ∷ 0 ∷ []; s = spread ∷ 0 ∷ 0 ∷ 0 ∷ 0 ∷ 0 ∷ 0 ∷ 0 ∷ [] }) }
+/// What a room breaks and costs on a day.
+#[derive(Clone, Copy)]
+pub struct RoomDayCounts {
+    /// Two genders are in the room.
+    pub mixed: bool,
+    /// Persons above the room's capacity.
+    pub over: u32,
+    /// The greatest age group less the least.
+    pub spread: u32,
+}
+
+// 1 for true and 0 for false.
+fn bit(yes: bool) -> u32
+    ensures { result ≡ bit yes }
+{
+    if yes { 1 } else { 0 }
+}
+
+// How much more the new number is than the old one.
+fn rise(new: u32, old: u32) -> i64
+    ensures value { result ≡ pos new -ℤ pos old }
+    ensures low { neg_ℤ (pos (10 ^ 11)) ≤ℤ result }
+    ensures high { result ≤ℤ pos (10 ^ 11) }
+{
+    new as i64 - old as i64
+}
+
+/// The bill with these numbers alone.
+pub fn room_day_bill(counts: RoomDayCounts) -> Bill
+    ensures value { result ≡ as_bill (room_day_part counts) }
     ensures within { IsWithin (10 ^ 11) result }
 {
-    let mixes = if mixed { 1 } else { 0 };
     Bill {
-        v: [mixes, 0, 0, 0, 0, 0, over as i64, 0, 0],
-        s: [spread as i64, 0, 0, 0, 0, 0, 0, 0],
+        v: [
+            bit(counts.mixed) as i64,
+            0,
+            0,
+            0,
+            0,
+            0,
+            counts.over as i64,
+            0,
+            0,
+        ],
+        s: [counts.spread as i64, 0, 0, 0, 0, 0, 0, 0],
+    }
+}
+
+/// The bill of the new numbers less that of the old ones.
+pub fn room_day_change(new: RoomDayCounts, old: RoomDayCounts) -> Bill
+    ensures value { result ≡ sub_bills (as_bill (room_day_part new)) (as_bill (room_day_part old)) }
+    ensures within { IsWithin (10 ^ 11) result }
+{
+    let mixed = rise(bit(new.mixed), bit(old.mixed));
+    Bill {
+        v: [mixed, 0, 0, 0, 0, 0, rise(new.over, old.over), 0, 0],
+        s: [rise(new.spread, old.spread), 0, 0, 0, 0, 0, 0, 0],
     }
 }

@@ -5,10 +5,13 @@ ghost use Rattle.std.specs.Str.{bytes_eq};
 ghost use Rattle.ih_tables.specs.declared.drafts.Draft.{Draft};
 ghost use Rattle.ih_tables.specs.Sizes.{person_count};
 ghost use Rattle.ih_plan.specs.Persons.{person_of};
-ghost use Rattle.ih_links.specs.Lists.{list_of};
+ghost use Rattle.ih_links.specs.Lists.{AreNodes, list_of};
 ghost use Rattle.ih_roomdays.specs.Company.{IsSeen};
+ghost use Rattle.ih_roomdays.specs.Genders.{AreGenders};
+ghost use Rattle.ih_links.specs.Lists.{without};
 
-use crate::persons::{age_group, same_gender};
+use crate::genders::have_one_gender;
+use crate::persons::age_group;
 use ih_links::Links;
 use ih_tables::Instance;
 
@@ -37,16 +40,18 @@ fn nobody() -> Company
 }
 
 // Two genders were met, or person x has another than y.
-fn mixed_with(inst: &Instance, mixed: bool, y: u32, x: u32) -> bool
+fn mixed_with(inst: &Instance, genders: &[u32], mixed: bool, y: u32, x: u32) -> bool
+    requires genders { AreGenders inst.now.draft genders.now }
     requires first { y < person_count inst.now.draft }
     requires second { x < person_count inst.now.draft }
     ensures { result ≡ (mixed || not (bytes_eq (person_of inst.now.draft y).gender (person_of inst.now.draft x).gender)) }
 {
-    mixed || !same_gender(inst, y, x)
+    mixed || !have_one_gender(inst, genders, y, x)
 }
 
-// With one person more.
-fn with(inst: &Instance, seen: Company, x: u32) -> Company
+/// With one person more.
+pub fn with(inst: &Instance, genders: &[u32], seen: Company, x: u32) -> Company
+    requires genders { AreGenders inst.now.draft genders.now }
     requires first { IfSome seen.first (λ y. y < person_count inst.now.draft) }
     requires person { x < person_count inst.now.draft }
     ensures first { IfSome result.first (λ y. y < person_count inst.now.draft) }
@@ -62,15 +67,31 @@ fn with(inst: &Instance, seen: Company, x: u32) -> Company
         },
         Some(y) => Company {
             first: Some(y),
-            mixed: mixed_with(inst, seen.mixed, y, x),
+            mixed: mixed_with(inst, genders, seen.mixed, y, x),
             low: seen.low.min(age),
             high: seen.high.max(age),
         },
     }
 }
 
+// With one person more, unless it is this one.
+fn with_other(inst: &Instance, genders: &[u32], seen: Company, x: u32, but: u32) -> Company
+    requires genders { AreGenders inst.now.draft genders.now }
+    requires first { IfSome seen.first (λ y. y < person_count inst.now.draft) }
+    requires person { x < person_count inst.now.draft }
+    ensures first { IfSome result.first (λ y. y < person_count inst.now.draft) }
+    ensures seen { (xs : List ℕ) → IsSeen inst.now.draft (without but xs) seen → IsSeen inst.now.draft (without but (xs ++ x ∷ [])) result }
+{
+    if x == but {
+        seen
+    } else {
+        with(inst, genders, seen, x)
+    }
+}
+
 /// What is seen of the persons of a list of nodes, so many a person.
-pub fn company_of(inst: &Instance, links: &Links, head: u32, days: u32) -> Company
+pub fn company_of(inst: &Instance, genders: &[u32], links: &Links, head: u32, days: u32) -> Company
+    requires genders { AreGenders inst.now.draft genders.now }
     requires some_day { 0 < days }
     requires head { head < length links.now.lists }
     requires nodes { links.now.nodes ≡ person_count inst.now.draft * days }
@@ -79,7 +100,33 @@ pub fn company_of(inst: &Instance, links: &Links, head: u32, days: u32) -> Compa
     let mut seen = nobody();
     let mut at = links.first(head);
     while let Some(node) = at {
-        seen = with(inst, seen, node / days);
+        seen = with(inst, genders, seen, node / days);
+        at = links.next(node);
+    }
+    seen
+}
+
+/// The same without one of them.
+pub fn company_but(
+    inst: &Instance,
+    genders: &[u32],
+    links: &Links,
+    head: u32,
+    days: u32,
+    but: u32,
+) -> Company
+    requires genders { AreGenders inst.now.draft genders.now }
+    requires some_day { 0 < days }
+    requires head { head < length links.now.lists }
+    requires nodes { links.now.nodes ≡ person_count inst.now.draft * days }
+    ensures nodes { AreNodes links.now.nodes (list_of links.now head) }
+    ensures first { IfSome result.first (λ y. y < person_count inst.now.draft) }
+    ensures seen { IsSeen inst.now.draft (without but (map (λ n. n / days) (list_of links.now head))) result }
+{
+    let mut seen = nobody();
+    let mut at = links.first(head);
+    while let Some(node) = at {
+        seen = with_other(inst, genders, seen, node / days, but);
         at = links.next(node);
     }
     seen

@@ -2,7 +2,9 @@
 #![tactic(auto)]
 
 mod bills;
+mod changes;
 mod companies;
+mod genders;
 mod persons;
 mod room_days;
 mod rows;

@@ -1,7 +1,7 @@
 //! The ledger of room days.
 
 ghost use Rattle.std.specs.Prelude.{◌≡◌, ℕ, ◌<◌, ◌^◌, ◌+◌, min, Some, None, IfOk};
-ghost use Rattle.ih_tables.specs.Bills.{IsWithin};
+ghost use Rattle.ih_tables.specs.Bills.{IsWithin, sub_bills};
 ghost use Rattle.ih_tables.specs.Sizes.{patient_count, room_count};
 ghost use Rattle.ih_tables.specs.declared.cells.Cell.TheVariants.{RoomDay};
 ghost use Rattle.ih_plan.specs.declared.moves.Write.TheVariants.{SetStay};
@@ -11,8 +11,10 @@ ghost use Rattle.ih_plan.specs.Cells.{part_at};
 ghost use Rattle.ih_plan.specs.BillOf.{as_bill};
 ghost use Rattle.ih_roomdays.specs.Ledger.{IsLedgerOf, LedgersTell};
 
-use crate::bills::room_day_bill;
+use crate::bills::{room_day_bill, room_day_change};
+use crate::changes::{before_and_after, is_there, room_counts};
 use crate::companies::company_of;
+use crate::genders::gender_numbers;
 use crate::rows::Rows;
 use ih_plan::{Members, Placement};
 use ih_tables::{Bill, Day, Instance, PatientNo, PersonNo, RoomNo};
@@ -49,7 +51,8 @@ impl RoomDays {
         ensures { IfOk result (λ ledger. IsLedgerOf inst.now.draft (empty inst.now.draft) ledger) }
     {
         let patients = inst.patients();
-        let mut rows = Rows::new(alloc, inst.rooms(), inst.days(), inst.persons())?;
+        let genders = gender_numbers(alloc, inst)?;
+        let mut rows = Rows::new(alloc, inst.rooms(), inst.days(), inst.persons(), genders)?;
         for o in 0..inst.occupants() {
             let occupant = inst.occupant(o);
             let to = end_of(inst, 0, occupant.length_of_stay);
@@ -88,13 +91,43 @@ impl RoomDays {
         ensures within { IsWithin (10 ^ 11) result }
     {
         let head = r.0 * self.rows.days + d.0;
-        let seen = company_of(inst, &self.rows.links, head, self.rows.days);
+        let seen = company_of(
+            inst,
+            self.rows.genders.as_slice(),
+            &self.rows.links,
+            head,
+            self.rows.days,
+        );
         let count = self.rows.links.len(head);
-        room_day_bill(
-            seen.mixed,
-            count.saturating_sub(inst.room(r).capacity),
-            seen.high.saturating_sub(seen.low),
-        )
+        room_day_bill(room_counts(inst, r, seen, count))
+    }
+
+    /// What the part of the bill that the room has on the day would be more, were the patient's stay `new` in place of
+    /// `old`: the part afterwards less the part now.
+    pub fn cell_change(
+        &self,
+        inst: &Instance,
+        r: RoomNo,
+        d: Day,
+        p: PatientNo,
+        old: Option<Placement>,
+        new: Option<Placement>,
+    ) -> Bill
+        requires room { r.0 < room_count inst.now.draft }
+        requires day { d.0 < inst.now.draft.days }
+        requires patient { p.0 < patient_count inst.now.draft }
+        requires stands { (P : Timetable) × IsLedgerOf inst.now.draft P self.now × (stay_of P p.0 ≡ old) }
+        ensures change { (P : Timetable) → IsLedgerOf inst.now.draft P self.now → stay_of P p.0 ≡ old
+            → result ≡ sub_bills (as_bill (part_at inst.now.draft (put (SetStay p new) P) (RoomDay r d))) (as_bill (part_at inst.now.draft P (RoomDay r d))) }
+        ensures within { IsWithin (10 ^ 11) result }
+    {
+        let was = is_there(inst, p, old, r, d);
+        let will = is_there(inst, p, new, r, d);
+        if was == will {
+            return Bill::zero();
+        }
+        let (before, after) = before_and_after(inst, &self.rows, r, d, p, was, will);
+        room_day_change(after, before)
     }
 }
 

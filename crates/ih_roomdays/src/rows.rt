@@ -13,15 +13,23 @@ pub struct Rows {
     pub rooms: u32,
     pub days: u32,
     pub persons: u32,
+    /// A number of each person's gender: persons who are together are of one gender where they have one number.
+    pub genders: Vec<u32>,
 }
 
 impl Rows {
     /// Nobody is in any room.
-    pub fn new(alloc: Global, rooms: u32, days: u32, persons: u32) -> Result<Rows, AllocError>
+    pub fn new(
+        alloc: Global,
+        rooms: u32,
+        days: u32,
+        persons: u32,
+        genders: Vec<u32>,
+    ) -> Result<Rows, AllocError>
         requires some_day { 0 < days }
         requires heads { rooms * days < 2 ^ 32 }
         requires nodes { persons * days < 2 ^ 32 }
-        ensures { IfOk result (λ rows. AreVacant rooms days persons rows) }
+        ensures { IfOk result (λ rows. AreVacant rooms days persons genders.items rows) }
     {
         let links = Links::new(alloc, rooms * days, persons * days)?;
         Ok(Rows {
@@ -29,6 +37,7 @@ impl Rows {
             rooms,
             days,
             persons,
+            genders,
         })
     }
 

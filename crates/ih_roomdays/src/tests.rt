@@ -175,11 +175,23 @@ fn is_right(inst: &Instance, ledger: &mut RoomDays) -> bool
     let later = ledger.count(RoomNo(0), Day(1));
     let bill = ledger.cell_bill(inst, RoomNo(0), Day(0));
     let there = first_day(TheatreNo(1));
+    let comes = ledger.cell_change(inst, RoomNo(0), Day(0), PatientNo(1), None, Some(there));
     ledger.enter(inst, PatientNo(1), there);
     let full = ledger.cell_bill(inst, RoomNo(0), Day(0));
+    let stays = ledger.cell_change(
+        inst,
+        RoomNo(0),
+        Day(0),
+        PatientNo(0),
+        Some(here),
+        Some(there),
+    );
+    let goes = ledger.cell_change(inst, RoomNo(0), Day(0), PatientNo(0), Some(here), None);
     ledger.leave(inst, PatientNo(0), here);
     let left = are_there(ledger, 1, 2);
-    both && later == 1 && is(&bill, 0, 0, 1) && is(&full, 1, 1, 2) && left
+    let bills = is(&bill, 0, 0, 1) && is(&full, 1, 1, 2);
+    let changes = is(&comes, 1, 1, 1) && is(&stays, 0, 0, 0) && is(&goes, 0, -1, -1);
+    both && later == 1 && bills && changes && left
 }
 
 #[test]

@@ -3,4 +3,6 @@ pub mod MarkLemmas
 pub mod DayLemmas
 pub mod PartLemmas
 pub mod LedgerLemmas
+pub mod OtherLemmas
+pub mod ChangeLemmas
 pub mod TestLemmas

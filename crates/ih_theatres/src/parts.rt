@@ -1,7 +1,7 @@
-//! The parts of a bill that theatres and surgeons have.
+//! The parts of a bill that theatres and surgeons have, and their changes.
 
-ghost use Rattle.std.specs.Prelude.{◌≡◌, ◌^◌};
-ghost use Rattle.ih_tables.specs.Bills.{IsWithin};
+ghost use Rattle.std.specs.Prelude.{◌≡◌, ◌^◌, ◌≤ℤ◌, ◌-ℤ◌, neg_ℤ, pos};
+ghost use Rattle.ih_tables.specs.Bills.{IsWithin, sub_bills};
 ghost use Rattle.ih_plan.specs.BillOf.{as_bill};
 ghost use Rattle.ih_theatres.specs.Parts.{theatre_part, surgeon_part};
 
@@ -26,5 +26,45 @@ pub fn surgeon_part(over: u32, transfers: u32) -> Bill
     Bill {
         v: [0, 0, over as i64, 0, 0, 0, 0, 0, 0],
         s: [0, 0, 0, 0, 0, transfers as i64, 0, 0],
+    }
+}
+
+// How much more the new number is than the old one.
+fn rise(new: u32, old: u32) -> i64
+    ensures value { result ≡ pos new -ℤ pos old }
+    ensures low { neg_ℤ (pos (10 ^ 11)) ≤ℤ result }
+    ensures high { result ≤ℤ pos (10 ^ 11) }
+{
+    new as i64 - old as i64
+}
+
+/// What a day of a theatre, or of a surgeon, breaks and costs.
+#[derive(Clone, Copy)]
+pub struct DayCounts {
+    /// Minutes above the theatre's availability, or the surgeon's maximum.
+    pub over: u32,
+    /// 1 where the theatre is used; the surgeon's transfers.
+    pub cost: u32,
+}
+
+/// The bill of a theatre's new numbers less that of the old ones.
+pub fn theatre_change(new: DayCounts, old: DayCounts) -> Bill
+    ensures value { result ≡ sub_bills (as_bill (theatre_part new.over new.cost)) (as_bill (theatre_part old.over old.cost)) }
+    ensures within { IsWithin (10 ^ 11) result }
+{
+    Bill {
+        v: [0, 0, 0, rise(new.over, old.over), 0, 0, 0, 0, 0],
+        s: [0, 0, 0, 0, rise(new.cost, old.cost), 0, 0, 0],
+    }
+}
+
+/// The bill of a surgeon's new numbers less that of the old ones.
+pub fn surgeon_change(new: DayCounts, old: DayCounts) -> Bill
+    ensures value { result ≡ sub_bills (as_bill (surgeon_part new.over new.cost)) (as_bill (surgeon_part old.over old.cost)) }
+    ensures within { IsWithin (10 ^ 11) result }
+{
+    Bill {
+        v: [0, 0, rise(new.over, old.over), 0, 0, 0, 0, 0, 0],
+        s: [0, 0, 0, 0, 0, rise(new.cost, old.cost), 0, 0],
     }
 }

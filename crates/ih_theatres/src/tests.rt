@@ -1,8 +1,8 @@
 //! The surgeries of two patients of one surgeon in two theatres, who come and go.
 
-ghost use Rattle.std.specs.Prelude.{◌≡◌};
+ghost use Rattle.std.specs.Prelude.{◌≡◌, ◌<◌, Some, None};
 ghost use Rattle.ih_tables.specs.Sizes.{patient_count, room_count, theatre_count, surgeon_count};
-ghost use Rattle.ih_plan.specs.Timetable.{empty};
+ghost use Rattle.ih_plan.specs.Timetable.{Timetable, IsPlanOf, IsPlacement, empty, stay_of};
 ghost use Rattle.ih_theatres.specs.Ledger.{IsLedgerOf};
 
 use crate::Theatres;
@@ -122,6 +122,56 @@ fn is(bill: &Bill, costs: [i64; 8]) -> bool {
     bill.v == [0; 9] && bill.s == costs
 }
 
+fn is_over(bill: &Bill, theatre_minutes: i64) -> bool {
+    bill.v == [0, 0, 0, theatre_minutes, 0, 0, 0, 0, 0] && bill.s == NONE
+}
+
+// Whether each change is right where the first patient alone is admitted.
+fn are_changes_right_of_one(
+    inst: &Instance,
+    ledger: &Theatres,
+    p: PatientNo,
+    here: Placement,
+    there: Placement,
+) -> bool
+    requires days { inst.now.draft.days ≡ 2 }
+    requires patients { patient_count inst.now.draft ≡ 2 }
+    requires theatres { theatre_count inst.now.draft ≡ 2 }
+    requires surgeons { surgeon_count inst.now.draft ≡ 1 }
+    requires patient { p.0 < 2 }
+    requires placement { IsPlacement inst.now.draft there }
+    requires stands { (P : Timetable) × IsPlanOf inst.now.draft P × IsLedgerOf inst.now.draft P ledger.now × (stay_of P p.0 ≡ None) }
+{
+    let over = ledger.theatre_change(inst, TheatreNo(0), Day(0), p, None, Some(here));
+    let open = ledger.theatre_change(inst, TheatreNo(1), Day(0), p, None, Some(there));
+    let transfer = ledger.surgeon_change(inst, SurgeonNo(0), Day(0), p, None, Some(there));
+    is_over(&over, 40) && is(&open, OPEN) && is(&transfer, TRANSFER)
+}
+
+// Whether each change is right where both are admitted, in two theatres.
+fn are_changes_right_of_two(
+    inst: &Instance,
+    ledger: &Theatres,
+    p: PatientNo,
+    here: Placement,
+    there: Placement,
+) -> bool
+    requires days { inst.now.draft.days ≡ 2 }
+    requires patients { patient_count inst.now.draft ≡ 2 }
+    requires theatres { theatre_count inst.now.draft ≡ 2 }
+    requires surgeons { surgeon_count inst.now.draft ≡ 1 }
+    requires patient { p.0 < 2 }
+    requires placement { IsPlacement inst.now.draft there }
+    requires stands { (P : Timetable) × IsPlanOf inst.now.draft P × IsLedgerOf inst.now.draft P ledger.now × (stay_of P p.0 ≡ Some here) }
+{
+    let closed = ledger.theatre_change(inst, TheatreNo(0), Day(0), p, Some(here), None);
+    let over = ledger.theatre_change(inst, TheatreNo(1), Day(0), p, Some(here), Some(there));
+    let together = ledger.surgeon_change(inst, SurgeonNo(0), Day(0), p, Some(here), Some(there));
+    is(&closed, [0, 0, 0, 0, -1, 0, 0, 0])
+        && is_over(&over, 40)
+        && is(&together, [0, 0, 0, 0, 0, -1, 0, 0])
+}
+
 // Whether each bill is right while the first patient enters, the second enters in the other theatre, and the first leaves.
 fn are_right(inst: &Instance, ledger: &mut Theatres) -> bool
     requires new { IsLedgerOf inst.now.draft (empty inst.now.draft) ledger.old }
@@ -136,12 +186,15 @@ fn are_right(inst: &Instance, ledger: &mut Theatres) -> bool
     let used = ledger.theatre_bill(inst, TheatreNo(0), Day(0));
     let alone = ledger.surgeon_bill(inst, SurgeonNo(0), Day(0));
     let there = first_day(TheatreNo(1));
+    let one = are_changes_right_of_one(inst, ledger, PatientNo(1), here, there);
     ledger.enter(inst, PatientNo(1), there);
     let both = ledger.surgeon_bill(inst, SurgeonNo(0), Day(0));
+    let two = are_changes_right_of_two(inst, ledger, PatientNo(0), here, there);
     ledger.leave(inst, PatientNo(0), here);
     let left = ledger.theatre_bill(inst, TheatreNo(0), Day(0));
     let other = ledger.theatre_bill(inst, TheatreNo(1), Day(0));
-    is(&used, OPEN)
+    one && two
+        && is(&used, OPEN)
         && is(&alone, NONE)
         && is(&both, TRANSFER)
         && is(&left, NONE)

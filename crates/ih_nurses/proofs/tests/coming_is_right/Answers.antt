@@ -17,6 +17,9 @@ room_shift_bill-night-requires-clause-stands c = (_, c.enter-2.ensures _ (c.ente
 pub nurse_shift_bill-load-requires-clause-stands : goal.nurse_shift_bill-load-requires-clause-stands
 nurse_shift_bill-load-requires-clause-stands c = (_, c.enter-2.ensures _ (c.enter.ensures _ (c.set_care.ensures _ c.requires.new)))
 
+pub load_change-relief-requires-clause-stands : goal.load_change-relief-requires-clause-stands
+load_change-relief-requires-clause-stands c = (_, c.enter-2.ensures _ (c.enter.ensures _ (c.set_care.ensures _ c.requires.new)))
+
 pub leave-requires-clause-stands : goal.leave-requires-clause-stands
 leave-requires-clause-stands c =
     let before = c.enter.ensures _ (c.set_care.ensures _ c.requires.new) in

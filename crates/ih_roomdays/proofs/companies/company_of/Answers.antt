@@ -1,3 +1,4 @@
+use Rattle.std.proofs.Common.{refl}
 use Rattle.ih_links.specs.Lists.{list_of}
 use Rattle.ih_links.proofs.Walks.{walk-inside, walk-below, walk-shrinks}
 use Rattle.ih_roomdays.proofs.Nodes.{person-below}
@@ -6,8 +7,8 @@ use Rattle.ih_roomdays.proofs.companies.company_of.Goals as goal
 
 pub loop-at-init : goal.loop-at-init
 loop-at-init c =
-    tour-begins c.args.inst.now.draft c.args.links.now.nodes c.args.days (list_of c.args.links.now c.args.head) c.first-at.result c.nobody-seen.result
-    c.first-at.ensures.nodes c.first-at.ensures.first (c.nobody-seen.ensures c.args.inst.now.draft)
+    tour-begins c.args.inst.now.draft (λ ps. ps) c.args.links.now.nodes c.args.days (list_of c.args.links.now c.args.head) c.first-at.result c.nobody-seen.result
+    c.first-at.ensures.nodes c.first-at.ensures.first refl (c.nobody-seen.ensures c.args.inst.now.draft)
 
 pub with-seen-requires-clause-person : goal.with-seen-requires-clause-person
 with-seen-requires-clause-person c =

@@ -63,3 +63,29 @@ are_there-left-requires-clause-days c =
     let I = c.args.inst.now.draft in
     let stands = first-gone I c.requires.patients c.first_day-here.result c.requires.new c.enter.ensures c.first_day-there.result c.enter-2.ensures c.leave.ensures in
     day-there I _ _ 0 c.requires.days (omega arith) stands
+
+pub cell_change-comes-requires-clause-stands : goal.cell_change-comes-requires-clause-stands
+cell_change-comes-requires-clause-stands c =
+    let I = c.args.inst.now.draft in
+    let here = c.first_day-here.result in
+    (_, first-in I c.requires.patients here c.requires.new c.enter.ensures, second-out I c.requires.patients here c.requires.new c.enter.ensures)
+
+pub cell_change-stays-requires-clause-stands : goal.cell_change-stays-requires-clause-stands
+cell_change-stays-requires-clause-stands c =
+    let I = c.args.inst.now.draft in
+    let here = c.first_day-here.result in
+    let there = c.first_day-there.result in (
+      _,
+      both-in I c.requires.patients here c.requires.new c.enter.ensures there c.enter-2.ensures,
+      first-stays I c.requires.patients here c.requires.new c.enter.ensures there c.enter-2.ensures,
+    )
+
+pub cell_change-goes-requires-clause-stands : goal.cell_change-goes-requires-clause-stands
+cell_change-goes-requires-clause-stands c =
+    let I = c.args.inst.now.draft in
+    let here = c.first_day-here.result in
+    let there = c.first_day-there.result in (
+      _,
+      both-in I c.requires.patients here c.requires.new c.enter.ensures there c.enter-2.ensures,
+      first-stays I c.requires.patients here c.requires.new c.enter.ensures there c.enter-2.ensures,
+    )

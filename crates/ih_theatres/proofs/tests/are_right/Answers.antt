@@ -81,3 +81,32 @@ theatre_bill-other-requires-clause-stands c =
     let two_in = c.enter-2.ensures _ (first-plan I two here here_in) one (one-out I two here here_in) in
     let left = c.leave.ensures _ (both-plan I two here here_in there there_in) two_in (zero-in I two here here_in there there_in) in
     (_, second-plan I two here here_in there there_in, left)
+
+pub are_changes_right_of_one-one-requires-clause-placement : goal.are_changes_right_of_one-one-requires-clause-placement
+are_changes_right_of_one-one-requires-clause-placement c =
+    first-day c.args.inst.now.draft 1 c.first_day-there.result c.requires.days c.requires.rooms c.requires.theatres (omega arith) c.first_day-there.ensures
+
+pub are_changes_right_of_one-one-requires-clause-stands : goal.are_changes_right_of_one-one-requires-clause-stands
+are_changes_right_of_one-one-requires-clause-stands c =
+    let I = c.args.inst.now.draft in
+    let two = c.requires.patients in
+    let here = c.first_day-here.result in
+    let here_in = first-day I 0 here c.requires.days c.requires.rooms c.requires.theatres (omega arith) c.first_day-here.ensures in
+    let one = c.enter.ensures (empty I) (empty-plan I) c.requires.new (nobody I 0) in
+    (_, first-plan I two here here_in, one, one-out I two here here_in)
+
+pub are_changes_right_of_two-two-requires-clause-placement : goal.are_changes_right_of_two-two-requires-clause-placement
+are_changes_right_of_two-two-requires-clause-placement c =
+    first-day c.args.inst.now.draft 1 c.first_day-there.result c.requires.days c.requires.rooms c.requires.theatres (omega arith) c.first_day-there.ensures
+
+pub are_changes_right_of_two-two-requires-clause-stands : goal.are_changes_right_of_two-two-requires-clause-stands
+are_changes_right_of_two-two-requires-clause-stands c =
+    let I = c.args.inst.now.draft in
+    let two = c.requires.patients in
+    let here = c.first_day-here.result in
+    let here_in = first-day I 0 here c.requires.days c.requires.rooms c.requires.theatres (omega arith) c.first_day-here.ensures in
+    let one = c.enter.ensures (empty I) (empty-plan I) c.requires.new (nobody I 0) in
+    let there = c.first_day-there.result in
+    let there_in = first-day I 1 there c.requires.days c.requires.rooms c.requires.theatres (omega arith) c.first_day-there.ensures in
+    let two_in = c.enter-2.ensures _ (first-plan I two here here_in) one (one-out I two here here_in) in
+    (_, both-plan I two here here_in there there_in, two_in, zero-in I two here here_in there there_in)

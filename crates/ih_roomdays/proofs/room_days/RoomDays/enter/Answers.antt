@@ -1,7 +1,7 @@
 use Rattle.std.proofs.Common.{◌∙◌, sym, subst}
 use Rattle.ih_roomdays.specs.Ledger.{IsLedgerOf}
 use Rattle.ih_roomdays.specs.Rows.{IsEntered}
-use Rattle.ih_roomdays.proofs.Changes.{nowhere, entered-stands}
+use Rattle.ih_roomdays.proofs.StayLemmas.{nowhere, entered-stands}
 use Rattle.ih_roomdays.proofs.room_days.RoomDays.enter.Goals as goal
 
 pub enter-requires-clause-nowhere : goal.enter-requires-clause-nowhere

@@ -1,0 +1,34 @@
+use Rattle.std.proofs.Common.{◌∷◌, [], ◌∙◌, subst}
+use Rattle.std.specs.Prelude.{◌||◌}
+use Rattle.ih_plan.specs.Cells.{cell_at}
+use Rattle.ih_plan.specs.Sums.{is_listed}
+use Rattle.ih_plan.specs.Footprint.{write_touches, writes_touch}
+use Rattle.ih_roomdays.proofs.Standing.{tells}
+use Rattle.ih_footprint.specs.Gathered.{Gathers}
+use Rattle.ih_costs.specs.CellLedgers.{timetable_of}
+use Rattle.ih_costs.proofs.TouchLemmas.{touched-one, listed-passing}
+use Rattle.ih_costs.proofs.pricing.change_by_write.Goals as goal
+
+pub foot-requires-clause-members : goal.foot-requires-clause-members
+foot-requires-clause-members c =
+    rw c.plan.ensures (tells c.args.inst.now.draft (timetable_of c.args.ledgers.now) c.args.ledgers.now.room_days c.requires.stands.room_days)
+
+pub sum_changes-requires-clause-cells : goal.sum_changes-requires-clause-cells
+sum_changes-requires-clause-cells c =
+    let I = c.args.inst.now.draft in
+    let P = timetable_of c.args.ledgers.now in
+    let u = c.args.cells.now in
+    let w = c.args.w.now in
+    let gathers : Gathers u c.foot.new.out (write_touches I P w) = subst (λ Q. Gathers u c.foot.new.out (write_touches I Q w)) c.plan.ensures c.foot.ensures in (
+      λ n. is_listed n u.cells || writes_touch I P (w ∷ []) (cell_at I n),
+      c.cells.ensures.cells ∙ (c.settle.ensures.cells ∙ (touched-one I P u c.foot.new.out w c.requires.sizes gathers ∙ listed-passing I P u.cells (w ∷ []))),
+    )
+
+pub returns-clause-cells : goal.returns-clause-cells
+returns-clause-cells c =
+    let I = c.args.inst.now.draft in
+    let P = timetable_of c.args.ledgers.now in
+    let u = c.args.cells.now in
+    let w = c.args.w.now in
+    let gathers : Gathers u c.foot.new.out (write_touches I P w) = subst (λ Q. Gathers u c.foot.new.out (write_touches I Q w)) c.plan.ensures c.foot.ensures in
+    c.settle.ensures.cells ∙ touched-one I P u c.foot.new.out w c.requires.sizes gathers

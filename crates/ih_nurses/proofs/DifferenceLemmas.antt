@@ -1,0 +1,98 @@
+-- The differences of two bills of nursing.
+use Rattle.std.proofs.Common.{◌≡◌, ℕ, ◌+◌, refl, arith, ap, ◌∙◌, [], ◌∷◌, pos}
+use Rattle.std.specs.Prelude.{◌-ℤ◌}
+use Rattle.std.proofs.lemmas.Int.{ints}
+use Rattle.ih_tables.specs.declared.drafts.Draft.{Draft}
+use Rattle.ih_tables.specs.declared.ids.NurseNo.{NurseNo}
+use Rattle.ih_tables.specs.declared.ids.PersonNo.{PersonNo}
+use Rattle.ih_tables.specs.declared.ids.Shift.{Shift}
+use Rattle.ih_tables.specs.declared.bills.Bill.{Bill}
+use Rattle.ih_tables.specs.declared.cells.Cell.TheVariants.{NurseShift, Care}
+use Rattle.ih_tables.specs.Bills.{sub_bills}
+use Rattle.ih_tables.specs.Works.{max_load}
+use Rattle.ih_plan.specs.Timetable.{Timetable}
+use Rattle.ih_plan.specs.Presence.{admission_of}
+use Rattle.ih_plan.specs.Persons.{person_of}
+use Rattle.ih_plan.specs.Costs.{overload, load_of, distinct_nurses}
+use Rattle.ih_plan.specs.BillOf.{as_bill}
+use Rattle.ih_plan.specs.Cells.{part_at}
+use Rattle.ih_nurses.specs.declared.bills.NursingCosts.{NursingCosts}
+use Rattle.ih_nurses.specs.Stretches.{stretch_in, nurses_over}
+use Rattle.ih_nurses.proofs.BillLemmas.{nursing, nurse-part}
+use Rattle.ih_nurses.proofs.StretchLemmas.{stretch-part}
+
+-- the bill of these costs
+abbrev pub bill_in : NursingCosts → Bill
+bill_in a = nursing a.off a.uncovered a.missing_skill a.nurses_seen a.overload
+
+-- their difference, number by number
+abbrev pub less : NursingCosts → NursingCosts → Bill
+less a b = record {
+  v = pos 0 ∷ pos 0 ∷ pos 0 ∷ pos 0 ∷ pos 0 ∷ pos 0 ∷ pos 0 ∷ (pos a.off -ℤ pos b.off) ∷ (pos a.uncovered -ℤ pos b.uncovered) ∷ [];
+  s = pos 0 ∷ (pos a.missing_skill -ℤ pos b.missing_skill) ∷ (pos a.nurses_seen -ℤ pos b.nurses_seen) ∷ (pos a.overload -ℤ pos b.overload)
+      ∷ pos 0 ∷ pos 0 ∷ pos 0 ∷ pos 0 ∷ [];
+}
+
+pub less-bills : (a b : NursingCosts) → less a b ≡ sub_bills (bill_in a) (bill_in b)
+less-bills a b = refl
+
+pub less-parts : (a b : NursingCosts) {x y : Bill} → bill_in a ≡ x → bill_in b ≡ y → less a b ≡ sub_bills x y
+less-parts a b {x} {y} e f = less-bills a b ∙ (ap (λ c. sub_bills c (bill_in b)) e ∙ ap (sub_bills x) f)
+
+pub less-by : {a b x y : NursingCosts} → a ≡ x → b ≡ y → less a b ≡ less x y
+less-by {a} {b} {x} {y} e f = ap (λ c. less c b) e ∙ ap (less x) f
+
+apart-same : (a b x y : ℕ) → a + y ≡ x + b → (pos a -ℤ pos b) ≡ (pos x -ℤ pos y)
+apart-same a b x y e = omega (arith, ints, e)
+
+-- two differences are one where each number rises by as much
+pub record AreApart (a b x y : NursingCosts) : Type 0 where
+  pub off : a.off + y.off ≡ x.off + b.off
+  pub uncovered : a.uncovered + y.uncovered ≡ x.uncovered + b.uncovered
+  pub missing_skill : a.missing_skill + y.missing_skill ≡ x.missing_skill + b.missing_skill
+  pub nurses_seen : a.nurses_seen + y.nurses_seen ≡ x.nurses_seen + b.nurses_seen
+  pub overload : a.overload + y.overload ≡ x.overload + b.overload
+
+pub less-same : (a b x y : NursingCosts) → AreApart a b x y → less a b ≡ less x y
+less-same a b x y e =
+    let o = apart-same a.off b.off x.off y.off e.off in
+    let u = apart-same a.uncovered b.uncovered x.uncovered y.uncovered e.uncovered in
+    let m = apart-same a.missing_skill b.missing_skill x.missing_skill y.missing_skill e.missing_skill in
+    let s = apart-same a.nurses_seen b.nurses_seen x.nurses_seen y.nurses_seen e.nurses_seen in
+    let v = apart-same a.overload b.overload x.overload y.overload e.overload in
+    rw (o, u, m, s, v) refl
+
+-- the costs of overload alone, and of distinct nurses alone
+abbrev pub overloaded : ℕ → NursingCosts
+overloaded n = record { off = 0; uncovered = 0; missing_skill = 0; nurses_seen = 0; overload = n }
+
+abbrev pub nursed : ℕ → NursingCosts
+nursed n = record { off = 0; uncovered = 0; missing_skill = 0; nurses_seen = n; overload = 0 }
+
+pub nurse-change : (I : Draft) (P Q : Timetable) (n : NurseNo) (k : Shift) (after before : ℕ) → after ≡ overload (max_load I n.0 k.0) (load_of I Q n.0 k.0)
+    → before ≡ overload (max_load I n.0 k.0) (load_of I P n.0 k.0)
+    → less (overloaded after) (overloaded before) ≡ sub_bills (as_bill (part_at I Q (NurseShift n k))) (as_bill (part_at I P (NurseShift n k)))
+nurse-change I P Q n k after before e f =
+    less-parts (overloaded after) (overloaded before) (nurse-part I Q n k after e) (nurse-part I P n k before f)
+
+-- where the load stays, so does the part
+pub nurse-unchanged : (I : Draft) (P Q : Timetable) (n : NurseNo) (k : Shift) → load_of I Q n.0 k.0 ≡ load_of I P n.0 k.0
+    → less (overloaded 0) (overloaded 0) ≡ sub_bills (as_bill (part_at I Q (NurseShift n k))) (as_bill (part_at I P (NurseShift n k)))
+nurse-unchanged I P Q n k e =
+    let after = overload (max_load I n.0 k.0) (load_of I Q n.0 k.0) in
+    let before = overload (max_load I n.0 k.0) (load_of I P n.0 k.0) in
+    let same : after ≡ before = ap (overload (max_load I n.0 k.0)) e in
+    less-same (overloaded 0) (overloaded 0) (overloaded after) (overloaded before)
+    (record { off = refl; uncovered = refl; missing_skill = refl; nurses_seen = refl; overload = omega (arith, same) })
+    ∙ nurse-change I P Q n k after before refl refl
+
+-- the same of care, where some nurses are the distinct ones but for as many on both sides
+pub care-change : (I : Draft) (P Q : Timetable) (x : PersonNo) (after before : ℕ)
+    → after + distinct_nurses I (nurses_over P (stretch_in I (admission_of I P x.0) (person_of I x.0).length_of_stay))
+    ≡ distinct_nurses I (nurses_over Q (stretch_in I (admission_of I Q x.0) (person_of I x.0).length_of_stay)) + before
+    → less (nursed after) (nursed before) ≡ sub_bills (as_bill (part_at I Q (Care x))) (as_bill (part_at I P (Care x)))
+care-change I P Q x after before e =
+    let q = distinct_nurses I (nurses_over Q (stretch_in I (admission_of I Q x.0) (person_of I x.0).length_of_stay)) in
+    let p = distinct_nurses I (nurses_over P (stretch_in I (admission_of I P x.0) (person_of I x.0).length_of_stay)) in
+    less-same (nursed after) (nursed before) (nursed q) (nursed p) (record { off = refl; uncovered = refl; missing_skill = refl; nurses_seen = e; overload = refl })
+    ∙ less-parts (nursed q) (nursed p) (stretch-part I Q x q refl) (stretch-part I P x p refl)

@@ -1,0 +1,61 @@
+-- The nurses over the counted shifts of a stay.
+use Rattle.std.proofs.Common.{◌≡◌, ℕ, ◌+◌, ◌<◌, refl, arith, ap, ◌∙◌, map, Option, Some, None}
+use Rattle.std.specs.Prelude.{option_map}
+use Rattle.ih_tables.specs.declared.drafts.Draft.{Draft}
+use Rattle.ih_tables.specs.declared.ids.PersonNo.{PersonNo}
+use Rattle.ih_tables.specs.declared.ids.PatientNo.{PatientNo}
+use Rattle.ih_tables.specs.declared.ids.RoomNo.{RoomNo}
+use Rattle.ih_tables.specs.declared.ids.Shift.{Shift}
+use Rattle.ih_tables.specs.declared.ids.NurseNo.{NurseNo}
+use Rattle.ih_tables.specs.Sizes.{patient_count}
+use Rattle.ih_plan.specs.declared.moves.Placement.{Placement}
+use Rattle.ih_plan.specs.declared.moves.Write.TheVariants.{SetStay, SetCare}
+use Rattle.ih_plan.specs.Writes.{put}
+use Rattle.ih_plan.proofs.Entries.{admission-patient, admission-set}
+use Rattle.ih_nurses.specs.declared.stretches.Stretch.{Stretch}
+use Rattle.ih_tables.specs.declared.cells.Cell.TheVariants.{Care}
+use Rattle.ih_plan.specs.Timetable.{Timetable, IsPlanOf, stay_of}
+use Rattle.ih_plan.specs.Persons.{person_of}
+use Rattle.ih_plan.specs.Presence.{Admission, placed_at, admission_of, shifts_in, shifts_of}
+use Rattle.ih_plan.specs.Costs.{nurse_for, distinct_nurses}
+use Rattle.ih_plan.specs.BillOf.{as_bill}
+use Rattle.ih_plan.specs.Cells.{part_at}
+use Rattle.ih_nurses.specs.Stretches.{stretch_in, nurses_over}
+use Rattle.ih_nurses.proofs.BillLemmas.{nursing, care-part}
+
+nurses-alike : (I : Draft) (P : Timetable) (o : Option Admission) (n : ℕ)
+    → map (nurse_for P (option_map (λ (a : Admission). a.room) o)) (shifts_in I o n) ≡ nurses_over P (stretch_in I o n)
+nurses-alike I P None n = refl
+nurses-alike I P (Some a) n = refl
+
+-- the distinct nurses over a person's counted shifts are its part of the bill
+pub stretch-part : (I : Draft) (P : Timetable) (x : PersonNo) (seen : ℕ)
+    → seen ≡ distinct_nurses I (nurses_over P (stretch_in I (admission_of I P x.0) (person_of I x.0).length_of_stay))
+    → nursing 0 0 0 seen 0 ≡ as_bill (part_at I P (Care x))
+unfolding shifts_of
+stretch-part I P x seen e =
+    care-part I P x seen (e ∙ rw (← nurses-alike I P (admission_of I P x.0) (person_of I x.0).length_of_stay) refl)
+
+nurses-kept : (P : Timetable) (p : PatientNo) (s : Option Placement) (o : Option Stretch) → nurses_over (put (SetStay p s) P) o ≡ nurses_over P o
+nurses-kept P p s None = refl
+nurses-kept P p s (Some a) = refl
+
+-- another stay has its own nurses
+pub care-moves : (I : Draft) (P : Timetable) (p : PatientNo) (new : Option Placement) → IsPlanOf I P → p.0 < patient_count I → (after before : ℕ)
+    → after ≡ distinct_nurses I (nurses_over P (stretch_in I (option_map placed_at new) (person_of I p.0).length_of_stay))
+    → before ≡ distinct_nurses I (nurses_over P (stretch_in I (option_map placed_at (stay_of P p.0)) (person_of I p.0).length_of_stay))
+    → after + distinct_nurses I (nurses_over P (stretch_in I (admission_of I P p.0) (person_of I p.0).length_of_stay))
+    ≡ distinct_nurses I (nurses_over (put (SetStay p new) P) (stretch_in I (admission_of I (put (SetStay p new) P) p.0) (person_of I p.0).length_of_stay)) + before
+care-moves I P p new plan patient after before e f =
+    let n = (person_of I p.0).length_of_stay in
+    let now : distinct_nurses I (nurses_over (put (SetStay p new) P) (stretch_in I (admission_of I (put (SetStay p new) P) p.0) n)) ≡ distinct_nurses I (nurses_over P (stretch_in I (option_map placed_at new) n)) =
+    ap (λ a. distinct_nurses I (nurses_over (put (SetStay p new) P) (stretch_in I a n))) (admission-set I P p new plan patient)
+    ∙ ap (distinct_nurses I) (nurses-kept P p new (stretch_in I (option_map placed_at new) n)) in
+    let then : distinct_nurses I (nurses_over P (stretch_in I (admission_of I P p.0) n)) ≡ distinct_nurses I (nurses_over P (stretch_in I (option_map placed_at (stay_of P p.0)) n)) =
+    ap (λ a. distinct_nurses I (nurses_over P (stretch_in I a n))) (admission-patient I P p.0 patient) in
+    omega (arith, e, f, now, then)
+
+-- a choice leaves each person's stay
+pub stretch-kept : (I : Draft) (P : Timetable) (r : RoomNo) (k : Shift) (n : Option NurseNo) (x : ℕ) → admission_of I (put (SetCare r k n) P) x ≡ admission_of I P x
+unfolding admission_of
+stretch-kept I P r k n x = refl

@@ -1,0 +1,204 @@
+//! What a write would change in each cell's part of the bill of nursing, told without making it.
+
+ghost use Rattle.std.specs.Prelude.{◌≡◌, ◌<◌, ◌^◌, Some};
+ghost use Rattle.ih_tables.specs.declared.ids.NurseNo.{NurseNo};
+ghost use Rattle.ih_tables.specs.declared.ids.PersonNo.{PersonNo};
+ghost use Rattle.ih_tables.specs.declared.cells.Cell.TheVariants.{RoomShift, NurseShift, Care};
+ghost use Rattle.ih_tables.specs.Sizes.{patient_count, person_count, room_count, shift_count, nurse_count};
+ghost use Rattle.ih_tables.specs.Bills.{IsWithin, sub_bills};
+ghost use Rattle.ih_plan.specs.declared.moves.Placement.{Placement};
+ghost use Rattle.ih_plan.specs.declared.moves.Write.TheVariants.{SetStay, SetCare};
+ghost use Rattle.ih_plan.specs.Timetable.{Timetable, IsPlacement};
+ghost use Rattle.ih_plan.specs.Writes.{put};
+ghost use Rattle.ih_plan.specs.BillOf.{as_bill};
+ghost use Rattle.ih_plan.specs.Cells.{part_at};
+ghost use Rattle.ih_nurses.specs.Ledger.{IsLedgerOf};
+
+use crate::Nurses;
+use crate::bills::{NursingCosts, difference};
+use crate::choices::{is_nurse, nurse_at};
+use crate::loads::{load, load_after, overload};
+use crate::own::{given, room_costs};
+use crate::rooms::{choice_costs, has_others, workload_in};
+use crate::seen::{newly_seen, nurses_over};
+use crate::stretches::{stay_stretch, stretch_of};
+use ih_plan::Placement;
+use ih_tables::{Bill, Instance, NurseNo, PatientNo, PersonNo, RoomNo, Shift};
+
+// The costs of a nurse's overload alone.
+fn overloaded(overload: u32) -> NursingCosts
+    ensures { result ≡ record { off = 0; uncovered = 0; missing_skill = 0; nurses_seen = 0; overload = overload } }
+{
+    NursingCosts {
+        off: 0,
+        uncovered: 0,
+        missing_skill: 0,
+        nurses_seen: 0,
+        overload,
+    }
+}
+
+// The costs of the distinct nurses of a stay alone.
+fn nursed(nurses_seen: u32) -> NursingCosts
+    ensures { result ≡ record { off = 0; uncovered = 0; missing_skill = 0; nurses_seen = nurses_seen; overload = 0 } }
+{
+    NursingCosts {
+        off: 0,
+        uncovered: 0,
+        missing_skill: 0,
+        nurses_seen,
+        overload: 0,
+    }
+}
+
+impl Nurses {
+    /// What another stay of a patient, or none, would change in a room's shift: the skill that the patient lacks there, and whether the room has persons and no nurse. Each number is at most 10^11 in magnitude.
+    pub fn room_shift_change(
+        &self,
+        inst: &Instance,
+        r: RoomNo,
+        k: Shift,
+        p: PatientNo,
+        new: Option<Placement>,
+    ) -> Bill
+        requires room { r.0 < room_count inst.now.draft }
+        requires shift { k.0 < shift_count inst.now.draft }
+        requires patient { p.0 < patient_count inst.now.draft }
+        requires placement { (at : Placement) → new ≡ Some at → IsPlacement inst.now.draft at }
+        requires stands { (P : Timetable) × IsLedgerOf inst.now.draft P self.now }
+        ensures change { (P : Timetable) → IsLedgerOf inst.now.draft P self.now
+            → result ≡ sub_bills (as_bill (part_at inst.now.draft (put (SetStay p new) P) (RoomShift r k))) (as_bill (part_at inst.now.draft P (RoomShift r k))) }
+        ensures within { IsWithin (10 ^ 11) result }
+    {
+        let persons = &self.here[(k.0 / 3) as usize];
+        let others = has_others(persons, r, p.0);
+        let nurse = nurse_at(inst, &self.plan, r, k);
+        let old = self.plan.stay(p);
+        difference(
+            room_costs(inst, r, k, nurse, others, p, new),
+            room_costs(inst, r, k, nurse, others, p, old),
+        )
+    }
+
+    /// What another stay of a patient, or none, would change in a nurse's shift: the workload above the maximum. Each number is at most 10^11 in magnitude.
+    pub fn nurse_shift_change(
+        &self,
+        inst: &Instance,
+        n: NurseNo,
+        k: Shift,
+        p: PatientNo,
+        new: Option<Placement>,
+    ) -> Bill
+        requires nurse { n.0 < nurse_count inst.now.draft }
+        requires shift { k.0 < shift_count inst.now.draft }
+        requires patient { p.0 < patient_count inst.now.draft }
+        requires placement { (at : Placement) → new ≡ Some at → IsPlacement inst.now.draft at }
+        requires stands { (P : Timetable) × IsLedgerOf inst.now.draft P self.now }
+        ensures change { (P : Timetable) → IsLedgerOf inst.now.draft P self.now
+            → result ≡ sub_bills (as_bill (part_at inst.now.draft (put (SetStay p new) P) (NurseShift n k))) (as_bill (part_at inst.now.draft P (NurseShift n k))) }
+        ensures within { IsWithin (10 ^ 11) result }
+    {
+        let before = load(inst, self.loads.as_slice(), n, k);
+        let gone = given(inst, &self.plan, p, self.plan.stay(p), n, k);
+        let come = given(inst, &self.plan, p, new, n, k);
+        let after = before - gone + come;
+        difference(
+            overloaded(overload(inst, n, k, after)),
+            overloaded(overload(inst, n, k, before)),
+        )
+    }
+
+    /// What another stay of a patient, or none, would change in the patient's care: the distinct nurses. Each number is at most 10^11 in magnitude.
+    pub fn care_change(&self, inst: &Instance, p: PatientNo, new: Option<Placement>) -> Bill
+        requires patient { p.0 < patient_count inst.now.draft }
+        requires placement { (at : Placement) → new ≡ Some at → IsPlacement inst.now.draft at }
+        requires stands { (P : Timetable) × IsLedgerOf inst.now.draft P self.now }
+        ensures change { (P : Timetable) → IsLedgerOf inst.now.draft P self.now
+            → result ≡ sub_bills (as_bill (part_at inst.now.draft (put (SetStay p new) P) (Care (record { 0 = p.0 })))) (as_bill (part_at inst.now.draft P (Care (record { 0 = p.0 })))) }
+        ensures within { IsWithin (10 ^ 11) result }
+    {
+        let after = stay_stretch(inst, p, new);
+        let before = stay_stretch(inst, p, self.plan.stay(p));
+        difference(
+            nursed(nurses_over(inst, &self.plan, after)),
+            nursed(nurses_over(inst, &self.plan, before)),
+        )
+    }
+
+    /// What another choice of nurse, or none, for a room's shift would change in that shift. It goes over the persons who are in the room on that day. Each number is at most 10^11 in magnitude.
+    pub fn choice_change(&self, inst: &Instance, r: RoomNo, k: Shift, new: Option<NurseNo>) -> Bill
+        requires room { r.0 < room_count inst.now.draft }
+        requires shift { k.0 < shift_count inst.now.draft }
+        requires nurse { (a : NurseNo) → new ≡ Some a → a.0 < nurse_count inst.now.draft }
+        requires stands { (P : Timetable) × IsLedgerOf inst.now.draft P self.now }
+        ensures change { (P : Timetable) → IsLedgerOf inst.now.draft P self.now
+            → result ≡ sub_bills (as_bill (part_at inst.now.draft (put (SetCare r k new) P) (RoomShift r k))) (as_bill (part_at inst.now.draft P (RoomShift r k))) }
+        ensures within { IsWithin (10 ^ 11) result }
+    {
+        let persons = &self.here[(k.0 / 3) as usize];
+        let old = nurse_at(inst, &self.plan, r, k);
+        difference(
+            choice_costs(inst, &self.plan, persons, r, k, new),
+            choice_costs(inst, &self.plan, persons, r, k, old),
+        )
+    }
+
+    /// What another choice of nurse, or none, for a room would change in a nurse's shift: the workload above the maximum, where the nurse has the room before or after. Each number is at most 10^11 in magnitude.
+    pub fn load_change(
+        &self,
+        inst: &Instance,
+        n: NurseNo,
+        k: Shift,
+        r: RoomNo,
+        new: Option<NurseNo>,
+    ) -> Bill
+        requires nurse { n.0 < nurse_count inst.now.draft }
+        requires shift { k.0 < shift_count inst.now.draft }
+        requires room { r.0 < room_count inst.now.draft }
+        requires choice { (a : NurseNo) → new ≡ Some a → a.0 < nurse_count inst.now.draft }
+        requires stands { (P : Timetable) × IsLedgerOf inst.now.draft P self.now }
+        ensures change { (P : Timetable) → IsLedgerOf inst.now.draft P self.now
+            → result ≡ sub_bills (as_bill (part_at inst.now.draft (put (SetCare r k new) P) (NurseShift n k))) (as_bill (part_at inst.now.draft P (NurseShift n k))) }
+        ensures within { IsWithin (10 ^ 11) result }
+    {
+        let gives = is_nurse(nurse_at(inst, &self.plan, r, k), n);
+        let takes = is_nurse(new, n);
+        if gives == takes {
+            return difference(overloaded(0), overloaded(0));
+        }
+        let persons = &self.here[(k.0 / 3) as usize];
+        let change = workload_in(inst, &self.plan, persons, r, k);
+        let before = load(inst, self.loads.as_slice(), n, k);
+        let after = load_after(before, change, takes);
+        difference(
+            overloaded(overload(inst, n, k, after)),
+            overloaded(overload(inst, n, k, before)),
+        )
+    }
+
+    /// What another choice of nurse, or none, for a room's shift would change in a person's care: the distinct nurses. Each number is at most 10^11 in magnitude.
+    pub fn seen_change(
+        &self,
+        inst: &Instance,
+        x: PersonNo,
+        r: RoomNo,
+        k: Shift,
+        new: Option<NurseNo>,
+    ) -> Bill
+        requires person { x.0 < person_count inst.now.draft }
+        requires room { r.0 < room_count inst.now.draft }
+        requires shift { k.0 < shift_count inst.now.draft }
+        requires nurse { (a : NurseNo) → new ≡ Some a → a.0 < nurse_count inst.now.draft }
+        requires stands { (P : Timetable) × IsLedgerOf inst.now.draft P self.now }
+        ensures change { (P : Timetable) → IsLedgerOf inst.now.draft P self.now
+            → result ≡ sub_bills (as_bill (part_at inst.now.draft (put (SetCare r k new) P) (Care x))) (as_bill (part_at inst.now.draft P (Care x))) }
+        ensures within { IsWithin (10 ^ 11) result }
+    {
+        let stretch = stretch_of(inst, &self.plan, x.0);
+        let old = nurse_at(inst, &self.plan, r, k);
+        difference(
+            nursed(newly_seen(inst, &self.plan, stretch, r, k, new)),
+            nursed(newly_seen(inst, &self.plan, stretch, r, k, old)),
+        )
+    }
+}

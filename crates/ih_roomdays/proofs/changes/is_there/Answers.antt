@@ -1,0 +1,10 @@
+use Rattle.std.proofs.Common.{◌∙◌, refl, sym}
+use Rattle.std.proofs.lemmas.Bool.{eq-eqb}
+use Rattle.ih_roomdays.proofs.StayLemmas.{stay-length}
+use Rattle.ih_roomdays.proofs.changes.is_there.Goals as goal
+
+pub returns-then-at-r : goal.returns-then-at-r
+returns-then-at-r c =
+    let long = stay-length c.args.inst.now.draft c.args.p.0 c.patient.result.now c.patient.ensures in
+    let here = eq-eqb c.in-Some.at.room.0 c.args.r.0 c.if-at-r.true in
+    c.covers.ensures ∙ sym (rw (c.in-Some.is, long, here) refl)

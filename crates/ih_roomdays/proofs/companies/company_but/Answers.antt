@@ -1,0 +1,23 @@
+use Rattle.std.proofs.Common.{refl}
+use Rattle.ih_links.specs.Lists.{list_of, without}
+use Rattle.ih_links.proofs.Walks.{walk-inside, walk-below, walk-shrinks}
+use Rattle.ih_roomdays.proofs.Nodes.{person-below}
+use Rattle.ih_roomdays.proofs.Sights.{tour-begins, tour-goes_on}
+use Rattle.ih_roomdays.proofs.companies.company_but.Goals as goal
+
+pub loop-at-init : goal.loop-at-init
+loop-at-init c =
+    tour-begins c.args.inst.now.draft (without c.args.but) c.args.links.now.nodes c.args.days (list_of c.args.links.now c.args.head) c.first-at.result c.nobody-seen.result
+    c.first-at.ensures.nodes c.first-at.ensures.first refl (c.nobody-seen.ensures c.args.inst.now.draft)
+
+pub with_other-seen-requires-clause-person : goal.with_other-seen-requires-clause-person
+with_other-seen-requires-clause-person c =
+    person-below (walk-below c.loop-at.invariant.walk c.in-Some.is) c.requires.some_day c.requires.nodes
+
+pub loop-at-smaller : goal.loop-at-smaller
+loop-at-smaller c = walk-shrinks c.loop-at.invariant.walk c.in-Some.is (c.next-at.ensures.linked c.args.head (walk-inside c.loop-at.invariant.walk c.in-Some.is))
+
+pub loop-at-preserved : goal.loop-at-preserved
+loop-at-preserved c =
+    tour-goes_on c.in-Some.node c.with_other-seen.result c.loop-at.invariant c.in-Some.is
+    (c.next-at.ensures.linked c.args.head (walk-inside c.loop-at.invariant.walk c.in-Some.is)) c.with_other-seen.ensures.first c.with_other-seen.ensures.seen

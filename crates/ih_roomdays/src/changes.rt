@@ -1,0 +1,123 @@
+//! What a patient's stay makes of the bill of a room on a day, without the change being made.
+
+ghost use Rattle.std.specs.Prelude.{◌≡◌, ◌<◌, ◌+◌, ◌^◌, ◌&&◌, ℕ, nat_le, nat_lt, List, length, option_map, IfSome};
+ghost use Rattle.ih_tables.specs.Sizes.{patient_count, person_count, room_count};
+ghost use Rattle.ih_plan.specs.Presence.{is_in, placed_at, covers};
+ghost use Rattle.ih_plan.specs.Persons.{person_of};
+ghost use Rattle.ih_links.specs.Lists.{AreNodes, without};
+ghost use Rattle.ih_roomdays.specs.Rows.{AreRows, nodes_at, persons_at, is_at};
+ghost use Rattle.ih_roomdays.specs.Company.{IsSeen, with_if};
+ghost use Rattle.ih_roomdays.specs.Genders.{AreGenders};
+ghost use Rattle.ih_roomdays.specs.Parts.{room_counts};
+
+use crate::bills::RoomDayCounts;
+use crate::companies::{Company, company_but, with};
+use crate::rows::Rows;
+use ih_plan::Placement;
+use ih_tables::{Day, Instance, PatientNo, RoomNo};
+
+// A stay of `length` days from day `from` on has the day.
+fn covers(from: u32, length: u32, d: u32) -> bool
+    ensures { result ≡ covers from length d }
+{
+    from <= d && (d as u64) < from as u64 + length as u64
+}
+
+/// The patient, with this stay, is in the room on the day.
+pub fn is_there(inst: &Instance, p: PatientNo, stay: Option<Placement>, r: RoomNo, d: Day) -> bool
+    requires { p.0 < patient_count inst.now.draft }
+    ensures { result ≡ is_in (option_map placed_at stay) (person_of inst.now.draft p.0).length_of_stay r.0 d.0 }
+{
+    match stay {
+        None => false,
+        Some(at) => at.room.0 == r.0 && covers(at.day.0, inst.patient(p).length_of_stay, d.0),
+    }
+}
+
+/// What so many persons, of whom this is seen, break and cost in a room.
+pub fn room_counts(inst: &Instance, r: RoomNo, seen: Company, count: u32) -> RoomDayCounts
+    requires room { r.0 < room_count inst.now.draft }
+    ensures { (xs : List ℕ) → IsSeen inst.now.draft xs seen → count ≡ length xs → result ≡ room_counts inst.now.draft r.0 xs }
+{
+    RoomDayCounts {
+        mixed: seen.mixed,
+        over: count.saturating_sub(inst.room(r).capacity),
+        spread: seen.high.saturating_sub(seen.low),
+    }
+}
+
+// The same with one person more, where that one is there too.
+fn room_counts_with(
+    inst: &Instance,
+    genders: &[u32],
+    r: RoomNo,
+    seen: Company,
+    count: u32,
+    x: u32,
+    there: bool,
+) -> RoomDayCounts
+    requires genders { AreGenders inst.now.draft genders.now }
+    requires room { r.0 < room_count inst.now.draft }
+    requires first { IfSome seen.first (λ y. y < person_count inst.now.draft) }
+    requires person { x < person_count inst.now.draft }
+    requires few { count + 1 < 2 ^ 32 }
+    ensures { (xs : List ℕ) → IsSeen inst.now.draft xs seen → count ≡ length xs → result ≡ room_counts inst.now.draft r.0 (with_if there x xs) }
+{
+    if there {
+        room_counts(inst, r, with(inst, genders, seen, x), count + 1)
+    } else {
+        room_counts(inst, r, seen, count)
+    }
+}
+
+// How many of the persons in a room on a day are others than x, who is there or not.
+fn others(rows: &Rows, r: RoomNo, d: Day, x: u32, there: bool) -> u32
+    requires rows { AreRows rows.now }
+    requires room { r.0 < rows.now.rooms }
+    requires day { d.0 < rows.now.days }
+    requires person { x < rows.now.persons }
+    requires there { there ≡ is_at rows.now r.0 d.0 x }
+    requires nodes { AreNodes rows.now.links.nodes (nodes_at rows.now r.0 d.0) }
+    ensures count { result ≡ length (without x (persons_at rows.now r.0 d.0)) }
+    ensures few { result + 1 < 2 ^ 32 }
+{
+    let count = rows.links.len(r.0 * rows.days + d.0);
+    if there { count - 1 } else { count }
+}
+
+/// What the room's day breaks and costs with the patient there or not: before, where the patient `was` there, and
+/// after, where the patient `will` be.
+pub fn before_and_after(
+    inst: &Instance,
+    rows: &Rows,
+    r: RoomNo,
+    d: Day,
+    p: PatientNo,
+    was: bool,
+    will: bool,
+) -> (RoomDayCounts, RoomDayCounts)
+    requires rows { AreRows rows.now }
+    requires genders { AreGenders inst.now.draft rows.now.genders.items }
+    requires rooms { rows.now.rooms ≡ room_count inst.now.draft }
+    requires persons { rows.now.persons ≡ person_count inst.now.draft }
+    requires room { r.0 < room_count inst.now.draft }
+    requires day { d.0 < rows.now.days }
+    requires patient { p.0 < patient_count inst.now.draft }
+    requires was { was ≡ is_at rows.now r.0 d.0 p.0 }
+    ensures before { result.0 ≡ room_counts inst.now.draft r.0 (with_if was p.0 (without p.0 (persons_at rows.now r.0 d.0))) }
+    ensures after { result.1 ≡ room_counts inst.now.draft r.0 (with_if will p.0 (without p.0 (persons_at rows.now r.0 d.0))) }
+{
+    let genders = rows.genders.as_slice();
+    let seen = company_but(
+        inst,
+        genders,
+        &rows.links,
+        r.0 * rows.days + d.0,
+        rows.days,
+        p.0,
+    );
+    let count = others(rows, r, d, p.0, was);
+    let before = room_counts_with(inst, genders, r, seen, count, p.0, was);
+    let after = room_counts_with(inst, genders, r, seen, count, p.0, will);
+    (before, after)
+}

@@ -1,0 +1,46 @@
+//! Genders as numbers, so that no texts are compared where persons are.
+
+ghost use Rattle.std.specs.Prelude.{◌≡◌, ◌<◌, ◌==◌, ℕ, true, false, slice_index, IfOk};
+ghost use Rattle.std.specs.Str.{bytes_eq};
+ghost use Rattle.ih_tables.specs.Sizes.{person_count};
+ghost use Rattle.ih_plan.specs.Persons.{person_of};
+ghost use Rattle.ih_roomdays.specs.Genders.{AreGenders};
+
+use crate::persons::same_gender;
+use ih_tables::Instance;
+use std::alloc::{AllocError, Global};
+
+// The first person of x's gender.
+fn first_alike(inst: &Instance, x: u32) -> u32
+    requires { x < person_count inst.now.draft }
+    ensures same { bytes_eq (person_of inst.now.draft x).gender (person_of inst.now.draft result).gender ≡ true }
+    ensures first { (y : ℕ) → y < result → bytes_eq (person_of inst.now.draft x).gender (person_of inst.now.draft y).gender ≡ false }
+{
+    for y in 0..x {
+        if same_gender(inst, x, y) {
+            return y;
+        }
+    }
+    x
+}
+
+/// A number of each person's gender: that of the first person who has it.
+pub fn gender_numbers(alloc: Global, inst: &Instance) -> Result<Vec<u32>, AllocError>
+    ensures { IfOk result (λ numbers. AreGenders inst.now.draft numbers.items) }
+{
+    let mut numbers = Vec::new(alloc);
+    for x in 0..inst.persons() {
+        numbers.push(first_alike(inst, x))?;
+    }
+    Ok(numbers)
+}
+
+/// Whether two persons have one gender.
+pub fn have_one_gender(inst: &Instance, genders: &[u32], x: u32, y: u32) -> bool
+    requires genders { AreGenders inst.now.draft genders.now }
+    requires first { x < person_count inst.now.draft }
+    requires second { y < person_count inst.now.draft }
+    ensures { result ≡ bytes_eq (person_of inst.now.draft x).gender (person_of inst.now.draft y).gender }
+{
+    genders[x as usize] == genders[y as usize]
+}

@@ -1,0 +1,112 @@
+-- An offer read off a replica is that after the history that the replica stands for.
+use Rattle.std.proofs.Common.{◌≡◌, ℕ, ◌<◌, arith, refl, sym, ap, ◌∙◌, subst, Bool, false, List, [], ◌∷◌, take, Option, Some, None}
+use Rattle.std.specs.Prelude.{slice_index}
+use Rattle.std.specs.List.{list_any}
+use Rattle.std.proofs.lemmas.Bool.{le-ltb}
+use Rattle.std.proofs.lemmas.List.{take_all}
+use Rattle.std.proofs.lemmas.Option.{slice_get_within}
+use Rattle.ih_tables.specs.declared.bills.Bill.{Bill}
+use Rattle.ih_plan.specs.declared.moves.Move.{Move}
+use Rattle.ih_plan.specs.declared.moves.Placement.{Placement}
+use Rattle.ih_plan.specs.declared.moves.Write.{Write}
+use Rattle.ih_plan.specs.declared.moves.Write.TheVariants.{SetStay, SetCare}
+use Rattle.ih_plan.specs.Timetable.{Timetable, stay_of}
+use Rattle.ih_plan.specs.Presence.{day_of}
+use Rattle.ih_plan.specs.Expand.{expand, IsMoveOf}
+use Rattle.ih_plan.specs.Sums.{tagged}
+use Rattle.ih_plan.specs.Cells.{cell_at}
+use Rattle.ih_plan.specs.Footprint.{footprint}
+use Rattle.ih_plan.proofs.Lists.{tagged-same}
+use Rattle.ih_journal.specs.declared.entries.Entry.{Entry}
+use Rattle.ih_journal.specs.Base.{Base}
+use Rattle.ih_journal.specs.Frozen.{is_before, is_frozen, is_frozen_write}
+use Rattle.ih_journal.specs.History.{plan_after, version}
+use Rattle.ih_journal.specs.Legal.{price_of}
+use Rattle.ih_cellbook.specs.Noted.{Noted}
+use Rattle.ih_cellbook.specs.Offers.{IsRightOffer, next_number, reads_after}
+use Rattle.ih_cellbook.proofs.Committing.{footprint-below}
+use Rattle.ih_snapshot.specs.Noting.{offer_of}
+use Rattle.ih_snapshot.specs.Replicas.{IsReplicaOf, IsOfferAfter}
+use Rattle.ih_snapshot.specs.Snapshot.{Snapshot}
+
+module _ (b : Base) (H : List Entry) (r : Snapshot) (n : ℕ) (m : Move) (stands : IsReplicaOf b H r) where
+  reads-are : tagged (slice_index r.versions) (footprint r.base.instance r.plan m) ≡ reads_after b H m
+  reads-are =
+      ap (λ c. tagged (slice_index r.versions) (footprint c.instance r.plan m)) stands.base
+      ∙ ap (λ P. tagged (slice_index r.versions) (footprint b.instance P m)) stands.plan
+      ∙ tagged-same (slice_index r.versions) (λ i. version b H (cell_at b.instance i)) (footprint b.instance (plan_after b H) m)
+      (λ i there. stands.versions.each i (footprint-below b.instance (plan_after b H) m i there))
+
+  price-is : price_of r.base.instance r.plan m ≡ price_of b.instance (plan_after b H) m
+  price-is = ap (λ c. price_of c.instance r.plan m) stands.base ∙ ap (λ P. price_of b.instance P m) stands.plan
+
+  frozen-is : is_frozen r.base r.plan m ≡ is_frozen b (plan_after b H) m
+  frozen-is = ap (λ c. is_frozen c r.plan m) stands.base ∙ ap (λ P. is_frozen b P m) stands.plan
+
+  pub offer-after : IsOfferAfter b H r.worker n m (offer_of r n m)
+  offer-after = record {
+    worker = refl;
+    number = refl;
+    move = refl;
+    seen = stands.seen;
+    price = price-is;
+    reads = reads-are;
+    frozen = frozen-is;
+  }
+
+  whole : take r.seen H ≡ H
+  whole = let same = stands.seen in take_all r.seen H (omega (arith, same))
+
+  pub stands-priced : IsReplicaOf b H (record r { last = offer_of r n m })
+  stands-priced = record {
+    base = stands.base;
+    lawful = stands.lawful;
+    legal = stands.legal;
+    seen = stands.seen;
+    plan = stands.plan;
+    versions = stands.versions;
+    last = record {
+      seen = (let same = stands.seen in omega (arith, same));
+      reads = reads-are ∙ ap (λ G. reads_after b G m) (sym whole);
+    };
+  }
+
+  pub offer-right : IsMoveOf r.base.instance m → r.worker < b.options.workers → next_number b.options H r.worker ≡ Some n → IsRightOffer b H (offer_of r n m)
+  offer-right fits worker number =
+      let same = stands.seen in
+      let here : plan_after b (take r.seen H) ≡ plan_after b H = ap (plan_after b) whole in
+      record {
+        worker = worker;
+        number = number;
+        move = subst (λ c. IsMoveOf c.instance m) stands.base fits;
+        seen = omega (arith, same);
+        after_own = λ j e there own. let below = slice_get_within H j e there in omega (arith, below, same);
+        price = price-is ∙ ap (λ P. price_of b.instance P m) (sym here);
+        reads = reads-are ∙ ap (λ G. reads_after b G m) (sym whole);
+        frozen = frozen-is ∙ ap (λ P. is_frozen b P m) (sym here);
+      }
+
+-- ---- how it is read off
+
+-- no day lies before day 0
+none-before : (stay : Option Placement) → is_before 0 stay ≡ false
+none-before None = refl
+none-before (Some at) = le-ltb at.day.0 0 (omega arith)
+
+free-write : (start : Timetable) (w : Write) → is_frozen_write start 0 w ≡ false
+free-write start (SetStay p new) = rw (none-before (stay_of start p.0), none-before new) refl
+free-write start (SetCare r k n) = le-ltb (day_of k.0) 0 (omega arith)
+
+pub none-frozen : (start : Timetable) (ws : List Write) → list_any (is_frozen_write start 0) ws ≡ false
+none-frozen start [] = refl
+none-frozen start (w ∷ ws) = rw (free-write start w, none-frozen start ws) refl
+
+-- a replica whose last offer has these parts
+pub filled : (r : Snapshot) (n : ℕ) (m : Move) (P : Timetable) (price : Bill) (reads : Noted) (frozen : Bool) → P ≡ r.plan → price ≡ price_of r.base.instance r.plan m
+    → reads ≡ record r.last.reads { pairs = tagged (slice_index r.versions) (footprint r.base.instance r.plan m) } → frozen ≡ is_frozen r.base r.plan m
+    → record r { plan = P; last = record { worker = r.worker; number = n; seen = r.seen; mv = m; price = price; reads = reads; frozen = frozen } } ≡ record r { last = offer_of r n m }
+filled r n m P price reads frozen plan priced read free = rw (plan, priced, read, free) refl
+
+pub frozen-here : (b : Base) (Q P : Timetable) (m : Move) (frozen : Bool) → frozen ≡ list_any (is_frozen_write b.start b.freeze) (expand b.instance Q m) → Q ≡ P → frozen ≡ is_frozen b P m
+unfolding is_frozen
+frozen-here b Q P m frozen tested same = tested ∙ ap (λ R. list_any (is_frozen_write b.start b.freeze) (expand b.instance R m)) same

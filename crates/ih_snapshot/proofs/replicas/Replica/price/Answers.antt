@@ -1,0 +1,29 @@
+use Rattle.std.proofs.Common.{◌≡◌, ◌∙◌, refl, ap, sym, subst}
+use Rattle.ih_cellbook.specs.Offers.{IsRightOffer}
+use Rattle.ih_snapshot.specs.Noting.{offer_of}
+use Rattle.ih_snapshot.specs.Replicas.{IsReplicaOf, IsOfferAfter}
+use Rattle.ih_snapshot.specs.Snapshot.{Snapshot}
+use Rattle.ih_snapshot.proofs.Pricing.{offer-after, offer-right, stands-priced}
+use Rattle.ih_snapshot.proofs.replicas.Replica.price.Goals as goal
+
+pub returns : goal.returns
+returns c =
+    let r = c.args.self.now in
+    let n = c.args.number in
+    let m = c.args.mv.now in
+    let made : c.last.result.now ≡ offer_of r n m = c.last.ensures ∙ ap (λ (s : Snapshot). s.last) c.fill.ensures in (
+      (
+        refl,
+        λ x. tt,
+        (
+          ap (λ (s : Snapshot). s.base) c.fill.ensures,
+          ap (λ (s : Snapshot). s.worker) c.fill.ensures,
+          λ b H stands. subst (IsReplicaOf b H) (sym c.fill.ensures) (stands-priced b H r n m stands),
+        ),
+      ),
+      record {
+        offer = λ b H stands. subst (IsOfferAfter b H r.worker n m) (sym made) (offer-after b H r n m stands);
+        right = λ b H stands worker number. subst (IsRightOffer b H) (sym made) (offer-right b H r n m stands c.requires worker number);
+        same = tt;
+      },
+    )

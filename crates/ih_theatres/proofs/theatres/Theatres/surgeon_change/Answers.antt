@@ -1,0 +1,32 @@
+use Rattle.std.proofs.Common.{◌∙◌}
+use Rattle.ih_links.specs.Lists.{list_of, without}
+use Rattle.ih_theatres.proofs.ChangeLemmas.{surgeon-was, surgeon-none, surgeon-change}
+use Rattle.ih_theatres.proofs.LedgerLemmas.{theatres-few}
+use Rattle.ih_theatres.proofs.theatres.Theatres.surgeon_change.Goals as goal
+
+pub returns-then-is_kept-clause-change : goal.returns-then-is_kept-clause-change
+returns-then-is_kept-clause-change c = λ P plan stands stay.
+    c.zero.ensures
+    ∙ surgeon-none plan stands c.args.p c.requires.patient c.args.old c.args.new stay c.args.s c.args.d c.is_operated_by-was.result c.is_operated_by-will.result
+    c.is_operated_by-was.ensures c.is_operated_by-will.ensures (c.is_kept.ensures.presence c.if-is_kept.true) (c.is_kept.ensures.theatre c.if-is_kept.true)
+
+pub minutes_but-others-requires-clause-there : goal.minutes_but-others-requires-clause-there
+minutes_but-others-requires-clause-there c =
+    let s = c.requires.stands in
+    surgeon-was s.1 s.2 c.args.p c.requires.patient c.args.old c.args.new s.3 c.args.s c.args.d c.is_operated_by-was.result c.day_number-today.result c.requires.day
+    c.is_operated_by-was.ensures c.day_number-today.ensures
+
+pub theatres_but-used-requires-clause-known : goal.theatres_but-used-requires-clause-known
+theatres_but-used-requires-clause-known c =
+    let s = c.requires.stands in
+    rw c.as_slice.ensures.value (theatres-few c.args.inst.now.valid s.1 s.2)
+
+pub returns-clause-change : goal.returns-clause-change
+returns-clause-change c = λ P plan stands stay.
+    let others = without c.args.p.0 (list_of c.args.self.now.surgeon_days c.day_number-today.result) in
+    c.surgeon_change.ensures.value
+    ∙ surgeon-change plan stands c.args.p c.requires.patient c.args.old c.args.new stay c.args.s c.args.d c.requires.day c.is_operated_by-was.result c.is_operated_by-will.result
+    c.is_operated_by-was.ensures c.is_operated_by-will.ensures c.day_number-today.result c.surgeon_minutes-most.result c.day_number-today.ensures c.surgeon_minutes-most.ensures
+    c.minutes_but-others.ensures.nodes c.theatres_but-used.result (rw c.as_slice.ensures.value at c.theatres_but-used.ensures.each) _ _ _ _
+    (c.surgeon_counts-before.ensures.over others c.minutes_but-others.ensures.sum) c.surgeon_counts-before.ensures.cost
+    (c.surgeon_counts-after.ensures.over others c.minutes_but-others.ensures.sum) c.surgeon_counts-after.ensures.cost

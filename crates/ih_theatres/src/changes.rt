@@ -1,0 +1,224 @@
+//! What a patient's stay makes of the bill of a day of a theatre or a surgeon, without the change being made.
+
+ghost use Rattle.std.specs.Prelude.{◌≡◌, ◌<◌, ◌≤◌, ◌+◌, ◌-◌, ◌&&◌, ◌||◌, ℕ, List, not, map, length, slice_index_or, ◌==◌, option_map, IfSome, All, if◌then◌else◌, None, true, false};
+ghost use Rattle.std.specs.List.{list_any};
+ghost use Rattle.ih_links.specs.Lists.{list_of, has, without, AreNodes, IsOnce};
+ghost use Rattle.ih_tables.specs.declared.ids.TheatreNo.{TheatreNo};
+ghost use Rattle.ih_tables.specs.Sizes.{patient_count, theatre_count};
+ghost use Rattle.ih_plan.specs.Costs.{minutes, is_empty, is_number, operated_in, admitted_on, surgeon_of};
+ghost use Rattle.ih_plan.specs.Sums.{bit, count_below};
+ghost use Rattle.ih_plan.specs.declared.moves.Placement.{Placement};
+ghost use Rattle.ih_plan.specs.Timetable.{IsPlacement};
+ghost use Rattle.ih_theatres.specs.Days.{theatre_at, with_if};
+ghost use Rattle.ih_theatres.specs.Marks.{is_marked, is_unmarked};
+
+use crate::days::minutes;
+use crate::marks::{bit, count_marked, mark};
+use crate::parts::DayCounts;
+use ih_links::Links;
+use ih_plan::Placement;
+use ih_tables::{Day, Instance, PatientNo, SurgeonNo, TheatreNo};
+
+/// A patient with this stay has surgery in the theatre on the day.
+pub fn is_operated_in(stay: Option<Placement>, t: TheatreNo, d: Day) -> bool
+    ensures { result ≡ operated_in t.0 d.0 stay }
+{
+    match stay {
+        None => false,
+        Some(at) => at.theatre.0 == t.0 && at.day.0 == d.0,
+    }
+}
+
+fn is_admitted_on(stay: Option<Placement>, d: Day) -> bool
+    ensures { result ≡ admitted_on d.0 stay }
+{
+    match stay {
+        None => false,
+        Some(at) => at.day.0 == d.0,
+    }
+}
+
+/// The patient is the surgeon's, and with this stay has surgery on the day.
+pub fn is_operated_by(
+    inst: &Instance,
+    p: PatientNo,
+    stay: Option<Placement>,
+    s: SurgeonNo,
+    d: Day,
+) -> bool
+    requires { p.0 < patient_count inst.now.draft }
+    ensures { result ≡ (is_number (surgeon_of inst.now.draft p.0) s.0 && admitted_on d.0 stay) }
+{
+    inst.patient(p).surgeon_id.0 == s.0 && is_admitted_on(stay, d)
+}
+
+// The theatre of two stays is one, or neither has any.
+fn are_in_one_theatre(old: Option<Placement>, new: Option<Placement>) -> bool
+    ensures { result ≡ true → option_map (λ (at : Placement). at.theatre.0) old ≡ option_map (λ (at : Placement). at.theatre.0) new }
+{
+    match old {
+        None => new.is_none(),
+        Some(a) => match new {
+            None => false,
+            Some(b) => a.theatre.0 == b.theatre.0,
+        },
+    }
+}
+
+/// A surgeon's day stays as it is: the patient was there where it will be, and in the same theatre.
+pub fn is_kept(was: bool, will: bool, old: Option<Placement>, new: Option<Placement>) -> bool
+    ensures away { was ≡ false → will ≡ false → result ≡ true }
+    ensures presence { result ≡ true → was ≡ will }
+    ensures theatre { result ≡ true → was ≡ true → option_map (λ (at : Placement). at.theatre.0) old ≡ option_map (λ (at : Placement). at.theatre.0) new }
+{
+    if was && will {
+        are_in_one_theatre(old, new)
+    } else {
+        !was && !will
+    }
+}
+
+/// The minutes of surgery of the patients in a list but p, who is there or not.
+pub fn minutes_but(inst: &Instance, links: &Links, head: u32, p: PatientNo, there: bool) -> u32
+    requires head { head < length links.now.lists }
+    requires patients { links.now.nodes ≡ patient_count inst.now.draft }
+    requires patient { p.0 < patient_count inst.now.draft }
+    requires there { there ≡ has p.0 (list_of links.now head) }
+    ensures sum { result ≡ minutes inst.now.draft (without p.0 (list_of links.now head)) }
+    ensures bound { result ≤ 204800000 }
+    ensures nodes { AreNodes links.now.nodes (list_of links.now head) }
+{
+    let all = minutes(inst, links, head);
+    if there {
+        all - inst.patient(p).surgery_duration
+    } else {
+        all
+    }
+}
+
+/// The minutes above a maximum of patients with so many minutes, and of p too where p is there.
+pub fn minutes_above(inst: &Instance, others: u32, p: PatientNo, there: bool, most: u32) -> u32
+    requires patient { p.0 < patient_count inst.now.draft }
+    requires bound { others ≤ 204800000 }
+    ensures { (xs : List ℕ) → others ≡ minutes inst.now.draft xs → result ≡ minutes inst.now.draft (with_if there p.0 xs) - most }
+{
+    if there {
+        (others + inst.patient(p).surgery_duration).saturating_sub(most)
+    } else {
+        others.saturating_sub(most)
+    }
+}
+
+/// Whether anyone but p, who is there or not, is in the list.
+pub fn is_used_by_others(links: &Links, head: u32, p: PatientNo, there: bool) -> bool
+    requires head { head < length links.now.lists }
+    requires once { IsOnce (list_of links.now head) }
+    requires there { there ≡ has p.0 (list_of links.now head) }
+    ensures { result ≡ not (is_empty (without p.0 (list_of links.now head))) }
+{
+    bit(there) < links.len(head)
+}
+
+// The patient's theatre, and none of p.
+fn theatre_but(theatres: &[Option<TheatreNo>], x: u32, p: u32) -> Option<TheatreNo>
+    requires { x < length theatres.now }
+    ensures { result ≡ (if x == p then None else slice_index_or theatres.now x None) }
+{
+    if x == p { None } else { theatres[x as usize] }
+}
+
+/// Marks on the theatres of the patients in a list but p.
+pub fn theatres_but(
+    links: &Links,
+    head: u32,
+    theatres: &[Option<TheatreNo>],
+    p: PatientNo,
+) -> [bool; 64]
+    requires head { head < length links.now.lists }
+    requires patients { links.now.nodes ≡ length theatres.now }
+    requires known { All (λ t. IfSome t (λ m. m.0 < 64)) theatres.now }
+    ensures len { length result ≡ 64 }
+    ensures each { (t : ℕ) → is_marked result t ≡ list_any (λ o. is_number o t) (map (theatre_at theatres.now) (without p.0 (list_of links.now head))) }
+{
+    let mut used = [false; 64];
+    let mut at = links.first(head);
+    while let Some(x) = at {
+        mark(&mut used, theatre_but(theatres, x, p.0));
+        at = links.next(x);
+    }
+    used
+}
+
+// Whether the theatre of the stay, where there is one, isn't marked.
+fn is_unmarked(marks: &[bool], stay: Option<Placement>) -> bool
+    requires { IfSome stay (λ at. at.theatre.0 < length marks.now) }
+    ensures { result ≡ is_unmarked marks.now (option_map (λ (at : Placement). at.theatre.0) stay) }
+{
+    match stay {
+        None => false,
+        Some(at) => !marks[at.theatre.0 as usize],
+    }
+}
+
+// The same where the stay counts, and no otherwise.
+fn is_one_more(marks: &[bool], there: bool, stay: Option<Placement>) -> bool
+    requires { IfSome stay (λ at. at.theatre.0 < length marks.now) }
+    ensures { result ≡ (there && is_unmarked marks.now (option_map (λ (at : Placement). at.theatre.0) stay)) }
+{
+    there && is_unmarked(marks, stay)
+}
+
+/// How many theatres are marked, and the one of the stay too, where the stay counts.
+pub fn theatres_with(inst: &Instance, marks: &[bool], there: bool, stay: Option<Placement>) -> u32
+    requires len { length marks.now ≡ 64 }
+    requires placement { IfSome stay (IsPlacement inst.now.draft) }
+    ensures count { result ≡ count_below (theatre_count inst.now.draft) (λ t. is_marked marks.now t || (there && is_number (option_map (λ (at : Placement). at.theatre.0) stay) t)) }
+    ensures bound { result ≤ 65 }
+{
+    count_marked(marks, inst.theatres()) + bit(is_one_more(marks, there, stay))
+}
+
+/// What a theatre's day breaks and costs with patients of so many minutes, if any, and p too where p is there.
+pub fn theatre_counts(
+    inst: &Instance,
+    others: u32,
+    used: bool,
+    p: PatientNo,
+    there: bool,
+    most: u32,
+) -> DayCounts
+    requires patient { p.0 < patient_count inst.now.draft }
+    requires bound { others ≤ 204800000 }
+    ensures over { (xs : List ℕ) → others ≡ minutes inst.now.draft xs → result.over ≡ minutes inst.now.draft (with_if there p.0 xs) - most }
+    ensures cost { (xs : List ℕ) → used ≡ not (is_empty xs) → result.cost ≡ bit (not (is_empty (with_if there p.0 xs))) }
+{
+    DayCounts {
+        over: minutes_above(inst, others, p, there, most),
+        cost: bit(there || used),
+    }
+}
+
+/// What a surgeon's day breaks and costs with patients of so many minutes in the marked theatres, and p too, by this
+/// stay, where p is there.
+pub fn surgeon_counts(
+    inst: &Instance,
+    others: u32,
+    marks: &[bool],
+    p: PatientNo,
+    there: bool,
+    stay: Option<Placement>,
+    most: u32,
+) -> DayCounts
+    requires patient { p.0 < patient_count inst.now.draft }
+    requires bound { others ≤ 204800000 }
+    requires len { length marks.now ≡ 64 }
+    requires placement { IfSome stay (IsPlacement inst.now.draft) }
+    ensures over { (xs : List ℕ) → others ≡ minutes inst.now.draft xs → result.over ≡ minutes inst.now.draft (with_if there p.0 xs) - most }
+    ensures cost { result.cost ≡ count_below (theatre_count inst.now.draft) (λ t. is_marked marks.now t || (there && is_number (option_map (λ (at : Placement). at.theatre.0) stay) t)) - 1 }
+{
+    let theatres = theatres_with(inst, marks, there, stay);
+    DayCounts {
+        over: minutes_above(inst, others, p, there, most),
+        cost: theatres.saturating_sub(1),
+    }
+}
