@@ -6,8 +6,8 @@ use crate::noting::play_noting;
 use crate::pricing::{price_of, put_all};
 use ih_footprint::CellList;
 use ih_moves::{Writes, expand};
-use ih_plan::{Move, Plan, Write};
-use ih_tables::{Bill, Instance};
+use ih_plan::{Members, Move, Plan, Write};
+use ih_tables::{Bill, Day, Instance, RoomNo};
 use ih_validate::bill;
 use std::alloc::{AllocError, Global};
 use std::marker::Model;
@@ -33,14 +33,16 @@ impl<'a> Model for Ledgers<'a> {
 }
 
 impl<'a> Ledgers<'a> {
-    ghost use Rattle.std.specs.Prelude.{◌≡◌, ◌^◌, IfOk};
-    ghost use Rattle.ih_tables.specs.Sizes.{sizes_of};
+    ghost use Rattle.std.specs.Prelude.{◌≡◌, ◌<◌, ◌^◌, not, IfOk};
+    ghost use Rattle.ih_tables.specs.Sizes.{room_count, sizes_of};
     ghost use Rattle.ih_tables.specs.Bills.{IsWithin};
     ghost use Rattle.ih_plan.specs.Timetable.{IsPlanOf};
     ghost use Rattle.ih_plan.specs.Writes.{put, IsWriteOf};
     ghost use Rattle.ih_plan.specs.Expand.{after, IsMoveOf};
     ghost use Rattle.ih_plan.specs.BillOf.{bill_of, change_of_bill};
+    ghost use Rattle.ih_plan.specs.Costs.{is_empty};
     ghost use Rattle.ih_plan.specs.Footprint.{footprint};
+    ghost use Rattle.ih_plan.specs.Presence.{present};
 
     /// Ledgers that stand for a timetable, which fits the instance.
     pub fn new(alloc: Global, inst: &'a Instance, plan: &Plan) -> Result<Ledgers<'a>, AllocError>
@@ -64,12 +66,29 @@ impl<'a> Ledgers<'a> {
         self.cells.plan()
     }
 
+    /// Whether somebody is in a room on a day.
+    pub fn is_occupied(&self, r: RoomNo, d: Day) -> bool
+        requires room { r.0 < room_count self.now.instance }
+        requires day { d.0 < self.now.instance.days }
+        ensures { result ≡ not (is_empty (present self.now.instance self.now.plan r.0 d.0)) }
+    {
+        self.cells.room_days.count(r, d) > 0
+    }
+
     /// The bill of the whole timetable, summed over all of it. Each number is at most 10^11.
     pub fn total(&self) -> Bill
         ensures value { result ≡ bill_of self.now.instance self.now.plan }
         ensures within { IsWithin (10 ^ 11) result }
     {
         bill(self.inst, self.cells.plan())
+    }
+
+    /// Makes the ledgers stand for a timetable, which fits the instance, in place of theirs. In time of the whole timetable.
+    pub fn copy_from(&mut self, plan: &Plan)
+        requires { IsPlanOf self.old.instance plan.now }
+        ensures { self.new ≡ record self.old { plan = plan.now } }
+    {
+        copy_plan(self.inst, &mut self.cells, plan);
     }
 
     /// Makes a write.
