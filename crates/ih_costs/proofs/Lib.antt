@@ -5,3 +5,4 @@ pub mod StandLemmas
 pub mod TouchLemmas
 pub mod ChangeLemmas
 pub mod ChangeSums
+pub mod Occupied
