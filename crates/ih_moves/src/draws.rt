@@ -100,7 +100,9 @@ fn last_day(inst: &Instance, a: &Patient) -> u32
     }
 }
 
-fn window_len(inst: &Instance, a: &Patient) -> u32
+/// How many days, from the release day on, a patient may be admitted on: up to the due day of a mandatory one, cut at the
+/// horizon's end.
+pub fn window_len(inst: &Instance, a: &Patient) -> u32
     ensures value { result ≡ window_len inst.now.draft a.now }
     ensures inside { 0 < result → a.now.surgery_release_day + result ≤ inst.now.draft.days }
 {

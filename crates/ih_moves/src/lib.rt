@@ -6,5 +6,5 @@ mod draws;
 mod tests;
 mod writes;
 
-pub use draws::Stream;
+pub use draws::{Stream, window_len};
 pub use writes::{Writes, expand};
