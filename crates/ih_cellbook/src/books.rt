@@ -187,6 +187,14 @@ impl<'a> Book<'a> {
         verdict
     }
 
+    /// The verdict that `commit` would give on the offer. It changes nothing.
+    pub fn judge(&self, offer: &Offer) -> Verdict
+        requires { IsRightOffer self.now.base self.now.entries offer.now }
+        ensures { result ≡ verdict_on self.now.base self.now.entries offer.now.number offer.now.seen offer.now.mv offer.now.price }
+    {
+        judge(self.inst, &self.options, self.counters.as_slice(), offer)
+    }
+
     /// Replaces the buffer's entries by those from place `from` on, or by the first 256 of them where there are more. Its
     /// front is then the number of all entries. Answers how many were put; takes no memory.
     pub fn copy_since(&self, from: u32, buffer: &mut Buffer) -> u32

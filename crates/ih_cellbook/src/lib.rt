@@ -9,6 +9,7 @@ mod laws;
 mod offers;
 mod reads;
 mod reserved;
+mod sharing;
 #[cfg(test)]
 mod tests;
 
@@ -17,3 +18,4 @@ pub use buffers::Buffer;
 pub use laws::{legal_histories_are_few, right_offers_stay_right, schedules_are_legal};
 pub use offers::Offer;
 pub use reads::Reads;
+pub use sharing::Basis;

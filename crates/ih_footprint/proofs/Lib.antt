@@ -10,4 +10,3 @@ pub mod StampLemmas
 pub mod GatherLemmas
 pub mod FootLemmas
 pub mod LookLemmas
-pub mod TestLemmas

@@ -2,12 +2,11 @@
 //! days: their numbers, lists of them, and which of them moves look at.
 
 ghost use Rattle.std.specs.Prelude.{◌≡◌, ◌<◌};
-ghost use Rattle.ih_tables.specs.Sizes.{patient_count, occupant_count, room_count, theatre_count, nurse_count, shift_count, sizes_of};
+ghost use Rattle.ih_tables.specs.Sizes.{patient_count, room_count, nurse_count, sizes_of};
 ghost use Rattle.ih_plan.specs.Cells.{count_in};
-ghost use Rattle.ih_plan.specs.Timetable.{empty, IsPlanOf};
 
-use crate::{CellList, Numbering, foot, looks};
-use ih_plan::{Members, Move, Placement, Plan, Write};
+use crate::{CellList, Numbering, looks};
+use ih_plan::Move;
 use ih_tables::{
     Cell, Day, Draft, Instance, List, Name, Nurse, NurseNo, Occupant, Patient, PatientNo, PersonNo,
     Room, RoomNo, Shift, Surgeon, SurgeonNo, Theatre, TheatreNo, Weights,
@@ -109,7 +108,7 @@ fn nurses(alloc: Global) -> Result<List<Nurse>, AllocError> {
     Ok(List::new(items))
 }
 
-fn example(alloc: Global, occupants: List<Occupant>) -> Result<Draft, AllocError> {
+fn example(alloc: Global) -> Result<Draft, AllocError> {
     Ok(Draft {
         days: 2,
         skill_levels: 3,
@@ -120,7 +119,7 @@ fn example(alloc: Global, occupants: List<Occupant>) -> Result<Draft, AllocError
         operating_theaters: theatres(alloc)?,
         rooms: rooms(alloc)?,
         nurses: nurses(alloc)?,
-        occupants,
+        occupants: occupants(alloc)?,
         patients: patients(alloc)?,
     })
 }
@@ -167,85 +166,13 @@ fn are_looked_at(inst: &Instance, list: &mut CellList) -> bool
     list.cells() == [1, 14, 20].as_slice()
 }
 
-/// Nobody is in any room.
-#[derive(Drop)]
-struct Nobody {
-    rooms: u32,
-    days: u32,
-}
-
-impl Members for Nobody {
-    ghost use Rattle.std.specs.Prelude.{[]};
-
-    ghost rooms = { λ v. v.rooms };
-
-    ghost days = { λ v. v.days };
-
-    ghost persons = { λ v r d. [] };
-
-    fn count(&self, _r: RoomNo, _d: Day) -> u32 {
-        0
-    }
-
-    fn member(&self, _r: RoomNo, _d: Day, _i: u32) -> PersonNo {
-        PersonNo(0)
-    }
-}
-
-// The first nurse takes the first room in a shift.
-fn nurse_first_room(inst: &Instance, plan: &mut Plan, k: Shift)
-    requires plan { IsPlanOf inst.now.draft plan.old }
-    requires room { 0 < room_count inst.now.draft }
-    requires shift { k.0 < shift_count inst.now.draft }
-    requires nurse { 0 < nurse_count inst.now.draft }
-    ensures plan { IsPlanOf inst.now.draft plan.new }
-    ensures stays { plan.new.stays ≡ plan.old.stays }
-{
-    plan.put(&Write::SetCare(RoomNo(0), k, Some(NurseNo(0))));
-}
-
-// What the second patient's coming touches, and the choice of the second nurse in the last shift of the first day, where
-// the first nurse has the room on that day and nobody is there yet.
-fn are_touched(inst: &Instance, plan: &mut Plan, list: &mut CellList) -> bool
-    requires nobody { plan.old ≡ empty inst.now.draft }
-    requires sizes { list.old.sizes ≡ sizes_of inst.now.draft }
-    requires days { inst.now.draft.days ≡ 2 }
-    requires patients { patient_count inst.now.draft ≡ 2 }
-    requires occupants { occupant_count inst.now.draft ≡ 0 }
-    requires rooms { room_count inst.now.draft ≡ 2 }
-    requires theatres { theatre_count inst.now.draft ≡ 2 }
-    requires nurses { nurse_count inst.now.draft ≡ 2 }
-{
-    nurse_first_room(inst, plan, Shift(0));
-    nurse_first_room(inst, plan, Shift(1));
-    nurse_first_room(inst, plan, Shift(2));
-    let nobody = Nobody {
-        rooms: inst.rooms(),
-        days: inst.days(),
-    };
-    let at = Placement {
-        day: Day(0),
-        room: RoomNo(0),
-        theatre: TheatreNo(1),
-    };
-    let coming = Write::SetStay(PatientNo(1), Some(at));
-    foot(inst, plan, &nobody, &coming, list);
-    list.settle();
-    let come = list.cells() == [1, 2, 8, 10, 12, 13, 14, 24, 25, 26, 37].as_slice();
-    list.clear();
-    let choice = Write::SetCare(RoomNo(0), Shift(2), Some(NurseNo(1)));
-    foot(inst, plan, &nobody, &choice, list);
-    list.settle();
-    come && list.cells() == [14, 26, 32].as_slice()
-}
-
 /// Threads share a list.
 fn share<T: Send + Sync>(_x: &T) {}
 
 #[test]
 fn cells_are_numbered_by_kind(rt: HostRuntime) -> Result<(), Fail> {
     let alloc = rt.alloc();
-    let draft = example(alloc, occupants(alloc)?)?;
+    let draft = example(alloc)?;
     assert!(rt; draft.is_valid());
     let inst = Instance::seal(alloc, draft)?;
     let numbering = Numbering::of(&inst);
@@ -259,7 +186,7 @@ fn cells_are_numbered_by_kind(rt: HostRuntime) -> Result<(), Fail> {
 #[test]
 fn cells_are_listed_once(rt: HostRuntime) -> Result<(), Fail> {
     let alloc = rt.alloc();
-    let draft = example(alloc, occupants(alloc)?)?;
+    let draft = example(alloc)?;
     assert!(rt; draft.is_valid());
     let inst = Instance::seal(alloc, draft)?;
     assert!(rt; inst.days() == 2);
@@ -273,23 +200,5 @@ fn cells_are_listed_once(rt: HostRuntime) -> Result<(), Fail> {
     assert!(rt; are_gathered(&mut gathered));
     let mut looked_at = CellList::new(alloc, numbering)?;
     assert!(rt; are_looked_at(&inst, &mut looked_at));
-    Ok(())
-}
-
-#[test]
-fn writes_touch_their_cells(rt: HostRuntime) -> Result<(), Fail> {
-    let alloc = rt.alloc();
-    let draft = example(alloc, List::new(Vec::new(alloc)))?;
-    assert!(rt; draft.is_valid());
-    let inst = Instance::seal(alloc, draft)?;
-    assert!(rt; inst.days() == 2);
-    assert!(rt; inst.patients() == 2);
-    assert!(rt; inst.occupants() == 0);
-    assert!(rt; inst.rooms() == 2);
-    assert!(rt; inst.theatres() == 2);
-    assert!(rt; inst.nurses() == 2);
-    let mut plan = Plan::empty(alloc, &inst)?;
-    let mut list = CellList::new(alloc, Numbering::of(&inst))?;
-    assert!(rt; are_touched(&inst, &mut plan, &mut list));
     Ok(())
 }

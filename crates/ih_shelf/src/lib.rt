@@ -3,6 +3,7 @@
 
 mod faults;
 mod gate;
+mod hold;
 mod memory;
 mod never_fails;
 mod outside;
@@ -14,6 +15,7 @@ mod tests;
 mod transfer;
 
 pub use gate::OpenGate;
+pub use hold::HoldGate;
 pub use memory::MemShelf;
 pub use never_fails::NeverFails;
 pub use outside::{Gate, ReadError, Shelf, Sink, WriteError};

@@ -118,3 +118,32 @@ fn pass<R: Wait, G: Gate>(rt: &R, gate: &G) {
 fn open_gate(rt: HostRuntime) {
     pass(&rt, &OpenGate);
 }
+
+#[test]
+fn hold_gate_holds_until_the_other_worker_came(rt: HostRuntime) {
+    let gate = HoldGate::new(10, 2);
+    gate.after(&rt, 1, 0);
+    gate.before(&rt, 0, 0);
+    gate.before(&rt, 1, 0);
+    assert!(rt; !gate.ran_out());
+    gate.before(&rt, 0, 2);
+    gate.before(&rt, 1, 1);
+    gate.before(&rt, 2, 1);
+    assert!(rt; !gate.ran_out());
+    gate.before(&rt, 0, 1);
+    assert!(rt; gate.ran_out());
+    gate.after(&rt, 1, 1);
+    gate.before(&rt, 0, 1);
+    assert!(rt; gate.ran_out());
+}
+
+#[test]
+fn hold_gate_holds_each_number_for_itself(rt: HostRuntime) {
+    let gate = HoldGate::new(10, 3);
+    gate.after(&rt, 1, 1);
+    gate.before(&rt, 0, 1);
+    gate.before(&rt, 1, 1);
+    assert!(rt; !gate.ran_out());
+    gate.before(&rt, 1, 2);
+    assert!(rt; gate.ran_out());
+}

@@ -131,6 +131,19 @@ impl<'a> Replica<'a> {
         }
     }
 
+    /// Goes back to the empty history, in time of the whole timetable.
+    pub fn restart(&mut self)
+        ensures replica { IsReplicaOf self.old.base [] self.new }
+        ensures worker { self.new.worker ≡ self.old.worker }
+    {
+        self.ledgers.copy_from(&self.start);
+        self.versions.as_mut_slice().fill(0);
+        self.seen = 0;
+        self.last.seen = 0;
+        self.last.mv = Move::Idle;
+        self.last.reads.clear();
+    }
+
     // Takes over one entry.
     fn take_over(&mut self, entry: &Entry)
         requires { CanTake self.old entry.now }

@@ -12,7 +12,7 @@ use Rattle.ih_plan.specs.Timetable.{Timetable, stay_of}
 use Rattle.ih_solution.specs.Solution.{room_id, rooms_of, rooms_data, shifts_with_rooms, assignment_data, nurse_data, stay_data, solution_data}
 
 -- what holds of each value of a list
-no_floats : (f : ℕ → Data) (xs : List ℕ) → ((x : ℕ) → has_float (f x) ≡ false) → items_have_float (items_of (map f xs)) ≡ false
+pub no_floats : (f : ℕ → Data) (xs : List ℕ) → ((x : ℕ) → has_float (f x) ≡ false) → items_have_float (items_of (map f xs)) ≡ false
 no_floats f [] h = refl
 no_floats f (x ∷ xs) h = rw (h x) (no_floats f xs h)
 

@@ -13,8 +13,17 @@ other s t differs = go (bytes_eq s t) refl
     go true is = absurd (differs ((bytes_eq-Decides s t).0 is))
     go false is = refl
 
+-- the name is no command's
+pub record IsOther (name : Text) : Type 0 where
+  pub solve : name ≡ codes "solve" → ⊥
+  pub replay : name ≡ codes "replay" → ⊥
+  pub salvage : name ≡ codes "salvage" → ⊥
+  pub check : name ≡ codes "check" → ⊥
+  pub gen : name ≡ codes "gen" → ⊥
+  pub demo : name ≡ codes "demo" → ⊥
+
 -- words whose first is no command's name name no call
-pub other_name : (words : List Text) (name : Text) → slice_get words 0 ≡ Some name → (name ≡ codes "solve" → ⊥) → (name ≡ codes "check" → ⊥)
-    → call_of words ≡ None
+pub other_name : (words : List Text) (name : Text) → slice_get words 0 ≡ Some name → IsOther name → call_of words ≡ None
 unfolding call_of
-other_name words name first not_solve not_check = rw (first, other name _ not_solve, other name _ not_check) refl
+other_name words name first apart = rw (first, other name _ apart.solve, other name _ apart.replay, other name _ apart.salvage, other name _ apart.check,
+    other name _ apart.gen, other name _ apart.demo) refl

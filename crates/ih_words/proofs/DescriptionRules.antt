@@ -5,7 +5,7 @@ use Rattle.clap.specs.Built.{AddsArg}
 use Rattle.clap.specs.Words.{App, Rule, Text, app_of, rule_of, with_rule}
 use Rattle.clap.specs.declared.builder.arg.Arg.{Arg}
 use Rattle.clap.specs.declared.builder.command.Command.{Command}
-use Rattle.ih_words.specs.Arguments.{named, numbered_option, optional_number}
+use Rattle.ih_words.specs.Arguments.{named, named_number, numbered_option, optional_number}
 use Rattle.ih_words.specs.Rules.{Requires, RequiresNumber, TakesNumber}
 
 -- an argument adds its rule
@@ -20,6 +20,13 @@ same_place k is place = ap (λ (a : App). slice_get a.top.rules k) is ∙ place
 pub requires_name : {app it : App} {k : ℕ} {id : Text} → app ≡ it → slice_get it.top.rules k ≡ Some (named id)
     → Requires app k (named id)
 requires_name is place = record { place = same_place _ is place; required = refl; action = refl; range = refl }
+
+pub requires_named_number : {app it : App} {k : ℕ} {id : Text} → app ≡ it → slice_get it.top.rules k ≡ Some (named_number id)
+    → RequiresNumber app k (named_number id) 0 18446744073709551615
+requires_named_number is place = record {
+  value = record { place = same_place _ is place; required = refl; action = refl; range = refl };
+  parser = refl;
+}
 
 pub requires_number : {app it : App} {k : ℕ} {id : Text} {low high : ℕ} → app ≡ it → slice_get it.top.rules k ≡ Some (numbered_option id low high)
     → RequiresNumber app k (numbered_option id low high) low high

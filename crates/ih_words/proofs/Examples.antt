@@ -1,12 +1,15 @@
 -- Words that are written out, and the calls that they name, computed.
-use Rattle.std.proofs.Common.{◌≡◌, ℕ, [], ◌∷◌, ◌++◌, List, refl, Option, Some, None, codes}
+use Rattle.std.proofs.Common.{◌≡◌, ℕ, [], ◌∷◌, ◌++◌, List, refl, Bool, true, false, Option, Some, None, codes}
 use Rattle.clap.specs.Words.{Text}
 use Rattle.clap.proofs.OnLiterals.{clap_on_literals}
 use Rattle.ih_words.specs.Check.{check_app}
+use Rattle.ih_words.specs.Demo.{demo_app}
 use Rattle.ih_words.specs.Distinct.{all_differ}
+use Rattle.ih_words.specs.Generate.{gen_app}
 use Rattle.ih_words.specs.Matches.{has_no_fault}
+use Rattle.ih_words.specs.Replay.{replay_app}
 use Rattle.ih_words.specs.Solve.{solve_app}
-use Rattle.ih_words.specs.Words.{Call, call_of, check, solve}
+use Rattle.ih_words.specs.Words.{Call, call_of, check, demo, gen, replay, salvage, solve}
 
 -- solve i OUT j, the words of the seed, and the other options
 abbrev words_of : Text → List Text → Text → Text → List Text
@@ -28,8 +31,7 @@ search_call seed workers moves retries start freeze = Some (solve (record {
   out = codes "o";
   journal = codes "j";
   options = record { seed = seed; workers = workers; moves = moves; heat = 0; hard = 1000; retries = retries };
-  start = start;
-  freeze = freeze;
+  start = record { file = start; fill = false; freeze = freeze };
 }))
 
 -- the same, from the empty timetable
@@ -133,9 +135,49 @@ retries_make_too_many_entries : call_of (words_of (codes "o") (seed_words (codes
 unfolding clap_on_literals call_of has_no_fault solve_app all_differ
 retries_make_too_many_entries = refl
 
-fill : call_of (small_search ++ codes "--start" ∷ codes "s" ∷ codes "--fill" ∷ []) ≡ None
+filled : call_of (small_search ++ codes "--start" ∷ codes "s" ∷ codes "--fill" ∷ []) ≡ Some (solve (record {
+  instance = codes "i";
+  out = codes "o";
+  journal = codes "j";
+  options = record { seed = 0; workers = 1; moves = 2; heat = 0; hard = 1000; retries = 0 };
+  start = record { file = Some (codes "s"); fill = true; freeze = 0 };
+}))
 unfolding clap_on_literals call_of has_no_fault solve_app all_differ
-fill = refl
+filled = refl
+
+filled_and_frozen : call_of (small_search ++ codes "--start" ∷ codes "s" ∷ codes "--fill" ∷ codes "--freeze" ∷ codes "0" ∷ []) ≡ None
+unfolding clap_on_literals call_of has_no_fault solve_app all_differ
+filled_and_frozen = refl
+
+fill_with_a_value : call_of (small_search ++ codes "--fill=true" ∷ []) ≡ None
+unfolding clap_on_literals call_of has_no_fault solve_app all_differ
+fill_with_a_value = refl
+
+replayed : call_of (codes "replay" ∷ codes "i" ∷ codes "j" ∷ codes "o" ∷ codes "--start" ∷ codes "s" ∷ codes "--freeze" ∷ codes "1" ∷ [])
+    ≡ Some (replay (record { instance = codes "i"; journal = codes "j"; out = codes "o"; start = record { file = Some (codes "s"); fill = false; freeze = 1 } }))
+unfolding clap_on_literals call_of has_no_fault replay_app all_differ
+replayed = refl
+
+salvaged : call_of (codes "salvage" ∷ codes "--fill" ∷ codes "i" ∷ codes "j" ∷ codes "o" ∷ [])
+    ≡ Some (salvage (record { instance = codes "i"; journal = codes "j"; out = codes "o"; start = record { file = None; fill = true; freeze = 0 } }))
+unfolding clap_on_literals call_of has_no_fault replay_app all_differ
+salvaged = refl
+
+salvaged_into_the_journal : call_of (codes "salvage" ∷ codes "i" ∷ codes "j" ∷ codes "j" ∷ []) ≡ None
+unfolding clap_on_literals call_of has_no_fault replay_app all_differ
+salvaged_into_the_journal = refl
+
+generated : call_of (codes "gen" ∷ codes "+007" ∷ codes "o" ∷ []) ≡ Some (gen (record { number = 7; out = codes "o" }))
+unfolding clap_on_literals call_of has_no_fault gen_app all_differ
+generated = refl
+
+shown : call_of (codes "demo" ∷ codes "7" ∷ []) ≡ Some (demo 7)
+unfolding clap_on_literals call_of has_no_fault demo_app all_differ
+shown = refl
+
+too_large_a_number : call_of (codes "demo" ∷ codes "18446744073709551616" ∷ []) ≡ None
+unfolding clap_on_literals call_of has_no_fault demo_app all_differ
+too_large_a_number = refl
 
 checked : call_of (codes "check" ∷ codes "i" ∷ codes "s" ∷ []) ≡ Some (check (record { instance = codes "i"; solution = codes "s" }))
 unfolding clap_on_literals call_of has_no_fault check_app all_differ
@@ -153,6 +195,6 @@ option_of_another_command : call_of (codes "check" ∷ codes "i" ∷ codes "s" �
 unfolding clap_on_literals call_of has_no_fault check_app all_differ
 option_of_another_command = refl
 
-other_command : call_of (codes "demo" ∷ codes "0" ∷ []) ≡ None
+other_command : call_of (codes "chain" ∷ codes "0" ∷ []) ≡ None
 unfolding call_of
 other_command = refl

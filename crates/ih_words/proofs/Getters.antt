@@ -1,14 +1,16 @@
 -- What the getters of clap's matches read, by the rows of the matches.
-use Rattle.std.proofs.Common.{◌≡◌, ◌∙◌, ◌<◌, ◌≤◌, ◌^◌, ap, sym, ℕ, List, [], refl, arith, Option, Some, None, Result, Ok, Err, option_map}
+use Rattle.std.proofs.Common.{◌≡◌, ◌∙◌, ◌<◌, ◌≤◌, ◌^◌, ap, sym, ℕ, Bool, true, false, List, [], refl, arith, Option, Some, None, Result, Ok, Err, option_map, codes}
 use Rattle.std.specs.Prelude.{IsSome, unwrap_or}
 use Rattle.std.specs.Borrow.{Bor}
 use Rattle.std.specs.Option.{option_map_or}
-use Rattle.std.specs.Str.Parse.{ParsesUnsigned, digits_value, without_leading_plus}
+use Rattle.std.specs.Str.{bytes_eq}
+use Rattle.std.specs.Str.Parse.{ParsesBool, ParsesUnsigned, digits_value, without_leading_plus}
+use Rattle.std.proofs.lemmas.Slice.Eq.{bytes_eq-Decides}
 use Rattle.clap.specs.Words.{Row, Text, IsUnsignedIn, first_of, first_value, one_of, one_text, rows_of}
 use Rattle.clap.specs.Matches.{ReadsOne}
 use Rattle.clap.specs.declared.parser.matches.Found.{Found}
 use Rattle.clap.proofs.WalkLemmas.{first_value-rows, one_text-rows}
-use Rattle.ih_words.specs.Matches.{HasNumber, IsNumberIfGiven, number_at, number_of, text_at}
+use Rattle.ih_words.specs.Matches.{HasNumber, IsNumberIfGiven, flag_at, number_at, number_of, text_at}
 
 -- the text that `get_str` gives
 pub text_read : (o : Option (Bor Text)) (f : Found) (id t : Text) → option_map (λ s. s.now) o ≡ first_value f id
@@ -53,6 +55,26 @@ optional_number_read E G k low high f id o given fits only none value = go (one_
     go : (w : Option Text) → one_of id (rows_of f) ≡ w → unwrap_or o 0 ≡ option_map_or number_of w 0
     go None is = ap (λ x. unwrap_or x 0) (none (one_text-rows f id ∙ is))
     go (Some t) is = ap (λ x. unwrap_or x 0) (reads_number E G k low high t o (given t is) fits only (value t (one_text-rows f id ∙ is)))
+
+-- a text that `bool` reads as true, or doesn't
+flag_is : (E : Type 0) (t : Text) (o : Option Bool) → ReadsOne {T = Bool} {E = E} ParsesBool t o → unwrap_or o false ≡ bytes_eq t (codes "true")
+flag_is E t (Some true) read = sym ((bytes_eq-Decides t (codes "true")).1 read)
+flag_is E t (Some false) read = sym (rw read refl)
+flag_is E t None read = go (bytes_eq t (codes "true")) refl
+  where
+    go : (b : Bool) → bytes_eq t (codes "true") ≡ b → false ≡ b
+    go true is = absurd (read.1.0 ((bytes_eq-Decides t (codes "true")).0 is))
+    go false is = refl
+
+-- whether a flag was given, by `get_one`
+pub flag_read : (E : Type 0) (f : Found) (id : Text) (o : Option Bool) → (one_text f id ≡ None → o ≡ None)
+    → ((u : List ℕ) → one_text f id ≡ Some u → ReadsOne {T = Bool} {E = E} ParsesBool u o)
+    → unwrap_or o false ≡ flag_at id (rows_of f)
+flag_read E f id o none value = go (one_of id (rows_of f)) refl
+  where
+    go : (w : Option Text) → one_of id (rows_of f) ≡ w → unwrap_or o false ≡ option_map_or (λ t. bytes_eq t (codes "true")) w false
+    go None is = ap (λ x. unwrap_or x false) (none (one_text-rows f id ∙ is))
+    go (Some t) is = flag_is E t o (value t (one_text-rows f id ∙ is))
 
 -- the number of an argument lies in its range
 pub number_within : (low high : ℕ) (id : Text) (rows : List Row) → HasNumber low high id rows

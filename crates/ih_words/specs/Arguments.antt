@@ -2,13 +2,17 @@
 -- with the rules of its arguments, in the order in which they were added.
 use Rattle.std.specs.Prelude.{ℕ, Some, true, codes}
 use Rattle.clap.specs.Words.{App, Rule, Text, new_rule, with_rule}
-use Rattle.clap.specs.declared.builder.action.ArgAction.TheVariants.{Set}
+use Rattle.clap.specs.declared.builder.action.ArgAction.TheVariants.{Set, SetTrue}
 use Rattle.clap.specs.declared.builder.value_parser.ValueParser.TheVariants.{Unsigned}
 use Rattle.ih_journal.specs.declared.settings.TheConstants.{MAX_HARD, MAX_HEAT, MAX_MOVES, MAX_WORKERS}
 
 -- a required argument with one value, by its place
 abbrev pub named : Text → Rule
 named id = record (new_rule id) { required = true; action = Some Set }
+
+-- a required number of 64 bits, by its place
+abbrev pub named_number : Text → Rule
+named_number id = record (named id) { parser = Some (Unsigned 0 18446744073709551615) }
 
 -- a required `--id N`, where N is a number from low to high
 abbrev pub numbered_option : Text → ℕ → ℕ → Rule
@@ -25,6 +29,10 @@ optional id = record (new_rule id) { long = Some id; action = Some Set }
 -- `--id N`, which may be left out, where N is at most high
 abbrev pub optional_number : Text → ℕ → Rule
 optional_number id high = record (optional id) { parser = Some (Unsigned 0 high) }
+
+-- the flag `--id`
+abbrev pub flag : Text → Rule
+flag id = record (new_rule id) { long = Some id; action = Some SetTrue }
 
 -- the app with the options that a search needs
 abbrev pub with_options : App → App

@@ -1,7 +1,10 @@
 pub mod Arguments
 pub mod Check
+pub mod Demo
 pub mod Distinct
+pub mod Generate
 pub mod Matches
+pub mod Replay
 pub mod Rules
 pub mod Solve
 pub mod Start

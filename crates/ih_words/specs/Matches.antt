@@ -1,6 +1,7 @@
 -- What `clap` reads of the words of a command, and the values that it gives to the arguments, by their ids.
-use Rattle.std.specs.Prelude.{◌≡◌, ℕ, Bool, List, [], Option, Some, None, is_some, unwrap_or, codes, if◌then◌else◌}
+use Rattle.std.specs.Prelude.{◌≡◌, ℕ, Bool, false, List, [], Option, Some, None, is_some, unwrap_or, codes, if◌then◌else◌}
 use Rattle.std.specs.Option.{option_map_or}
+use Rattle.std.specs.Str.{bytes_eq}
 use Rattle.std.specs.Str.Parse.{digits_value, without_leading_plus}
 use Rattle.clap.specs.Walk.{is_empty}
 use Rattle.clap.specs.Words.{App, IsUnsignedIn, Row, Text, fault_of, first_of, matches_of, one_of}
@@ -22,6 +23,10 @@ text_at id rows = unwrap_or (first_of id rows) []
 -- the argument was given
 abbrev pub is_given : Text → List Row → Bool
 is_given id rows = is_some (first_of id rows)
+
+-- a flag was given
+abbrev pub flag_at : Text → List Row → Bool
+flag_at id rows = option_map_or (λ t. bytes_eq t (codes "true")) (one_of id rows) false
 
 -- the number that digits are, with or without a plus sign before them
 abbrev pub number_of : Text → ℕ

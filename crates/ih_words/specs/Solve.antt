@@ -1,16 +1,16 @@
 -- The command `solve`: its description for `clap`, its values and when they are lawful.
-use Rattle.std.specs.Prelude.{◌&&◌, nat_le, Bool, List, ◌∷◌, ℕ, Option, Some, None, option_map, option_to_list, codes, if◌then◌else◌}
-use Rattle.clap.specs.Words.{App, Row, Text, first_of, new_app, with_rule}
+use Rattle.std.specs.Prelude.{◌&&◌, nat_le, Bool, List, ◌∷◌, Option, Some, None, codes, if◌then◌else◌}
+use Rattle.clap.specs.Words.{App, Row, Text, new_app, with_rule}
 use Rattle.ih_words.specs.Arguments.{named, optional_number, with_options}
 use Rattle.ih_words.specs.Distinct.{all_differ}
-use Rattle.ih_words.specs.Matches.{number_at, options_in, text_at}
-use Rattle.ih_words.specs.Start.{freezes_a_start, with_start}
+use Rattle.ih_words.specs.Matches.{options_in, text_at}
+use Rattle.ih_words.specs.Start.{StartCall, freezes_a_file, start_call, start_files, start_in, with_start}
 use Rattle.ih_journal.specs.Settings.{most_entries}
 use Rattle.ih_journal.specs.declared.settings.Options.{Options}
 use Rattle.ih_journal.specs.declared.settings.TheConstants.{MAX_ENTRIES, MAX_RETRIES}
 use Rattle.ih_words.specs.declared.solve.Solve.{Solve}
 
--- solve INSTANCE OUT JOURNAL --seed N --workers N --moves N --heat N --hard N [--retries N] [--start F] [--freeze DAY]
+-- solve INSTANCE OUT JOURNAL --seed N --workers N --moves N --heat N --hard N [--retries N] [--start F] [--freeze DAY] [--fill]
 unfoldable pub solve_app : App
 solve_app = with_start (with_rule (with_options (with_rule (with_rule (with_rule (new_app (codes "solve"))
     (named (codes "INSTANCE"))) (named (codes "OUT"))) (named (codes "JOURNAL"))))
@@ -22,10 +22,7 @@ pub record SolveCall : Type 0 where
   pub out : Text
   pub journal : Text
   pub options : Options
-  -- the file that the search starts from; without one it starts from the empty timetable
-  pub start : Option Text
-  -- the first day whose choices may change; 0 where none is given
-  pub freeze : ℕ
+  pub start : StartCall
 
 -- the call that the values of solve stand for
 abbrev pub solve_call : Solve → SolveCall
@@ -34,8 +31,7 @@ solve_call s = record {
   out = s.out.now;
   journal = s.journal.now;
   options = s.options;
-  start = option_map (λ t. t.now) s.start;
-  freeze = s.freeze;
+  start = start_call s.start;
 }
 
 -- the call of solve, by `clap`'s matches
@@ -45,18 +41,17 @@ solve_in rows = record {
   out = text_at (codes "OUT") rows;
   journal = text_at (codes "JOURNAL") rows;
   options = options_in rows;
-  start = first_of (codes "start") rows;
-  freeze = number_at (codes "freeze") rows;
+  start = start_in rows;
 }
 
 -- the files that a call of solve reads or writes
 abbrev pub solve_files : SolveCall → List Text
-solve_files s = s.instance ∷ s.out ∷ s.journal ∷ option_to_list s.start
+solve_files s = s.instance ∷ s.out ∷ s.journal ∷ start_files s.start
 
 -- the file names of the call differ, and its journal has at most a million entries
 abbrev pub is_lawful_solve : SolveCall → Bool
 is_lawful_solve s = all_differ (solve_files s) && nat_le (most_entries s.options) MAX_ENTRIES
 
--- the call of solve, by `clap`'s matches, where it is lawful and its freeze day, where one is given, comes with a start
+-- the call of solve, by `clap`'s matches, where it is lawful, and so is its freeze day
 abbrev pub lawful_solve : List Row → Option SolveCall
-lawful_solve rows = if freezes_a_start rows && is_lawful_solve (solve_in rows) then Some (solve_in rows) else None
+lawful_solve rows = if freezes_a_file rows && is_lawful_solve (solve_in rows) then Some (solve_in rows) else None

@@ -1,34 +1,49 @@
 -- Which call the words of a command line name. The words are those after the program's name.
-use Rattle.std.specs.Prelude.{List, Option, None, codes, if◌then◌else◌, option_and_then, option_map, slice_get}
+use Rattle.std.specs.Prelude.{ℕ, List, Option, None, codes, if◌then◌else◌, option_and_then, option_map, slice_get}
 use Rattle.std.specs.Str.{bytes_eq}
 use Rattle.clap.specs.Words.{Text}
 use Rattle.ih_journal.specs.Settings.{IsLawful}
 use Rattle.ih_words.specs.Check.{CheckCall, check_app, check_call, lawful_check}
+use Rattle.ih_words.specs.Demo.{demo_app, lawful_demo}
+use Rattle.ih_words.specs.Generate.{GenCall, gen_app, gen_call, lawful_gen}
 use Rattle.ih_words.specs.Matches.{call_by}
+use Rattle.ih_words.specs.Replay.{ReplayCall, lawful_replay, replay_app, replay_call}
 use Rattle.ih_words.specs.Solve.{SolveCall, lawful_solve, solve_app, solve_call}
 use Rattle.ih_words.specs.declared.command.Command.{Command}
-use Rattle.ih_words.specs.declared.command.Command.TheVariants.{Check as CheckCommand, Solve as SolveCommand}
+use Rattle.ih_words.specs.declared.command.Command.TheVariants.{Check as CheckCommand, Demo as DemoCommand, Gen as GenCommand, Replay as ReplayCommand, Salvage as SalvageCommand, Solve as SolveCommand}
 
 -- a call of one of the commands
 pub data Call : Type 0 where
   solve : SolveCall → Call
+  replay : ReplayCall → Call
+  salvage : ReplayCall → Call
   check : CheckCall → Call
+  gen : GenCall → Call
+  demo : ℕ → Call
 
 -- the call that a command's values stand for
 abbrev pub command_call : Command → Call
 command_call (SolveCommand s) = solve (solve_call s)
+command_call (ReplayCommand r) = replay (replay_call r)
+command_call (SalvageCommand r) = salvage (replay_call r)
 command_call (CheckCommand c) = check (check_call c)
+command_call (GenCommand g) = gen (gen_call g)
+command_call (DemoCommand number) = demo number
 
 -- the options of a search, where the command has them, are within their limits
 abbrev pub HasLawfulOptions : Command → Type 0
 HasLawfulOptions (SolveCommand s) = IsLawful s.options
-HasLawfulOptions (CheckCommand c) = Unit {0}
+HasLawfulOptions command = Unit {0}
 
 -- the call of the command with this name
 abbrev pub call_named : Text → List Text → Option Call
 call_named name words = if bytes_eq name (codes "solve") then option_map solve (call_by solve_app lawful_solve words)
+    else (if bytes_eq name (codes "replay") then option_map replay (call_by (replay_app (codes "replay")) lawful_replay words)
+    else (if bytes_eq name (codes "salvage") then option_map salvage (call_by (replay_app (codes "salvage")) lawful_replay words)
     else (if bytes_eq name (codes "check") then option_map check (call_by check_app lawful_check words)
-    else None)
+    else (if bytes_eq name (codes "gen") then option_map gen (call_by gen_app lawful_gen words)
+    else (if bytes_eq name (codes "demo") then option_map demo (call_by demo_app lawful_demo words)
+    else None)))))
 
 -- the call that the words name, where they are lawful: the first word is the command's name
 unfoldable pub call_of : List Text → Option Call

@@ -1,7 +1,7 @@
 //! The rules of the commands' arguments, for `clap`.
 ghost use Rattle.std.specs.Prelude.{◌≡◌, IfOk, false};
 ghost use Rattle.clap.specs.Words.{app_of, rule_of};
-ghost use Rattle.ih_words.specs.Arguments.{named, numbered_option, optional, optional_number, seed_option, with_options};
+ghost use Rattle.ih_words.specs.Arguments.{flag, named, named_number, numbered_option, optional, optional_number, seed_option, with_options};
 
 use clap::{Arg, ArgAction, Command, value_parser};
 use ih_journal::{MAX_HARD, MAX_HEAT, MAX_MOVES, MAX_WORKERS};
@@ -13,6 +13,14 @@ pub(crate) fn named<'a>(alloc: Global, id: &'a str) -> Arg<'a>
     ensures local { result.global ≡ false }
 {
     Arg::new(alloc, id).required(true).action(ArgAction::Set)
+}
+
+// A required number of 64 bits, by its place.
+pub(crate) fn named_number<'a>(alloc: Global, id: &'a str) -> Arg<'a>
+    ensures rule { rule_of result ≡ named_number id.entry.now }
+    ensures local { result.global ≡ false }
+{
+    named(alloc, id).value_parser(value_parser!(u64))
 }
 
 // A required `--id N`, where N is a number from `low` to `high`.
@@ -49,6 +57,14 @@ pub(crate) fn optional_number<'a>(alloc: Global, id: &'a str, high: u32) -> Arg<
     ensures local { result.global ≡ false }
 {
     optional(alloc, id).value_parser(value_parser!(u64).range(0..=i64::from(high)))
+}
+
+// The flag `--id`.
+pub(crate) fn flag<'a>(alloc: Global, id: &'a str) -> Arg<'a>
+    ensures rule { rule_of result ≡ flag id.entry.now }
+    ensures local { result.global ≡ false }
+{
+    Arg::new(alloc, id).long(id).action(ArgAction::SetTrue)
 }
 
 // The command with the options that a search needs.

@@ -3,8 +3,11 @@ ghost use Rattle.std.specs.Prelude.{◌≡◌, IfErr, IfOk, None, Some, map, str
 ghost use Rattle.ih_words.specs.Words.{HasLawfulOptions, call_of, command_call};
 
 use crate::check::read_check;
+use crate::demo::read_demo;
+use crate::generate::read_gen;
+use crate::replay::read_replay;
 use crate::solve::read_solve;
-use crate::{Check, Solve, WordsError};
+use crate::{Check, Gen, Replay, Solve, WordsError};
 use std::alloc::Global;
 
 /// A lawful command with its values.
@@ -12,8 +15,16 @@ use std::alloc::Global;
 pub enum Command<'a> {
     /// Searches, and writes the journal and the best solution.
     Solve(Solve<'a>),
+    /// Checks a journal, and writes the best solution.
+    Replay(Replay<'a>),
+    /// Takes what a damaged journal still tells, and writes the best solution of that.
+    Salvage(Replay<'a>),
     /// Tells the costs of a solution.
     Check(Check<'a>),
+    /// Writes the instance that is made from a number.
+    Gen(Gen<'a>),
+    /// Searches on the instance that is made from this number, without files.
+    Demo(u64),
 }
 
 /// The command that the words give, with its values. The words are those after the program's name.
@@ -23,8 +34,8 @@ pub enum Command<'a> {
 /// # Errors
 ///
 /// - `Unlawful` where no command has these words: the first word is no command's name, `clap` finds
-///   a fault (a call for help is one), two file names are equal, a freeze day comes without a
-///   start, or a journal could come to more than `MAX_ENTRIES` entries.
+///   a fault (a call for help is one), two file names are equal, a freeze day comes without the
+///   file of a start or with `--fill`, or a journal could come to more than `MAX_ENTRIES` entries.
 /// - `OutOfMemory` where memory ran out.
 #[tactic(auto, unfolding(crate::specs::Words::call_of))]
 pub fn read_words<'a>(alloc: Global, words: &'a [String]) -> Result<Command<'a>, WordsError>
@@ -37,7 +48,11 @@ pub fn read_words<'a>(alloc: Global, words: &'a [String]) -> Result<Command<'a>,
     };
     match name.as_str() {
         "solve" => Ok(Command::Solve(read_solve(alloc, words)?)),
+        "replay" => Ok(Command::Replay(read_replay(alloc, "replay", words)?)),
+        "salvage" => Ok(Command::Salvage(read_replay(alloc, "salvage", words)?)),
         "check" => Ok(Command::Check(read_check(alloc, words)?)),
+        "gen" => Ok(Command::Gen(read_gen(alloc, words)?)),
+        "demo" => Ok(Command::Demo(read_demo(alloc, words)?)),
         _ => Err(WordsError::Unlawful),
     }
 }

@@ -5,17 +5,22 @@
 mod arguments;
 mod check;
 mod command;
+mod demo;
 mod error;
 mod file_names;
+mod generate;
 mod matches;
+mod replay;
 mod solve;
 mod start;
 
 pub use check::Check;
 pub use command::{Command, read_words};
 pub use error::WordsError;
+pub use generate::Gen;
+pub use replay::Replay;
 pub use solve::Solve;
-pub use start::MAX_FREEZE;
+pub use start::{MAX_FREEZE, Start};
 
 #[cfg(test)]
 mod tests;

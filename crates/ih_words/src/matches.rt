@@ -1,7 +1,7 @@
 //! What `clap` reads of the words of a command, and the values that it gives to the arguments.
 ghost use Rattle.std.specs.Prelude.{◌≡◌, ◌≤◌, ℕ, IfErr, IfOk, true, false, map, option_map, string_bytes};
 ghost use Rattle.clap.specs.Words.{Rule, app_of, first_of, found_of, is_simple_and_free, matches_of, rows_of};
-ghost use Rattle.ih_words.specs.Matches.{HasNumber, HasOptions, HasText, IsNumberIfGiven, has_no_fault, is_given, number_at, options_in, text_at};
+ghost use Rattle.ih_words.specs.Matches.{HasNumber, HasOptions, HasText, IsNumberIfGiven, flag_at, has_no_fault, is_given, number_at, options_in, text_at};
 ghost use Rattle.ih_journal.specs.Settings.{IsLawful, most_entries};
 ghost use Rattle.ih_words.specs.Rules.{Requires, RequiresNumber, TakesNumber, has_independent_rules};
 
@@ -47,6 +47,13 @@ pub(crate) fn is_given(matches: &ArgMatches, id: &str) -> bool
     ensures { result ≡ is_given id.now (rows_of (found_of matches.now)) }
 {
     optional_text_of(matches, id).is_some()
+}
+
+// Whether the flag was given.
+pub(crate) fn flag_of(matches: &ArgMatches, id: &str) -> bool
+    ensures { result ≡ flag_at id.now (rows_of (found_of matches.now)) }
+{
+    matches.get_one::<bool>(id).unwrap_or(false)
 }
 
 // The number of an argument that has one.

@@ -8,8 +8,8 @@ ghost use Rattle.ih_words.specs.Solve.{is_lawful_solve, lawful_solve, solve_app,
 use crate::WordsError;
 use crate::arguments::{named, optional_number, with_options};
 use crate::file_names::names_differ;
-use crate::matches::{matches_in, optional_text_of, optional_u32_of, options_in, text_of};
-use crate::start::{MAX_FREEZE, freezes_a_start, with_start};
+use crate::matches::{matches_in, options_in, text_of};
+use crate::start::{MAX_FREEZE, Start, freezes_a_file, start_in, with_start};
 use clap::{ArgMatches, Command};
 use ih_journal::{MAX_ENTRIES, MAX_RETRIES, Options};
 use std::alloc::{AllocError, Global};
@@ -25,13 +25,11 @@ pub struct Solve<'a> {
     pub journal: &'a str,
     /// The options of the search.
     pub options: Options,
-    /// The name of the file that the search starts from, where one is given.
-    pub start: Option<&'a str>,
-    /// The first day whose choices may change; 0 where none is given.
-    pub freeze: u32,
+    /// What the search starts from.
+    pub start: Start<'a>,
 }
 
-// `solve INSTANCE OUT JOURNAL` and the options of a search, of which only the last three may be left out.
+// `solve INSTANCE OUT JOURNAL` and the options of a search, of which only the last four may be left out.
 fn solve_description<'a>(alloc: Global) -> Result<Command<'a>, AllocError>
     ensures { IfOk result (λ c. app_of c ≡ solve_app) }
 {
@@ -56,8 +54,7 @@ fn solve_in<'a>(matches: &ArgMatches<'a>) -> Solve<'a>
         out: text_of(matches, "OUT"),
         journal: text_of(matches, "JOURNAL"),
         options: options_in(matches),
-        start: optional_text_of(matches, "start"),
-        freeze: optional_u32_of(matches, "freeze"),
+        start: start_in(matches),
     }
 }
 
@@ -67,10 +64,10 @@ fn is_lawful_solve(solve: &Solve) -> bool
     ensures value { result ≡ is_lawful_solve (solve_call solve.now) }
     ensures lawful { result ≡ true → IsLawful solve.now.options }
 {
-    names_differ(solve.instance, solve.out, solve.journal, solve.start) && solve.options.lawful()
+    names_differ(solve.instance, solve.out, solve.journal, solve.start.file) && solve.options.lawful()
 }
 
-// The values of `solve`, where they are lawful and a freeze day, if one is given, comes with a start.
+// The values of `solve`, where they are lawful, and so is the freeze day.
 fn lawful_solve<'a>(matches: &ArgMatches<'a>) -> Option<Solve<'a>>
     requires names { HasNames (rows_of (found_of matches.now)) (codes "INSTANCE") (codes "OUT") (codes "JOURNAL") }
     requires options { HasOptions (rows_of (found_of matches.now)) }
@@ -79,7 +76,7 @@ fn lawful_solve<'a>(matches: &ArgMatches<'a>) -> Option<Solve<'a>>
     ensures lawful { IfSome result (λ s. IsLawful s.options) }
 {
     let solve = solve_in(matches);
-    if freezes_a_start(matches) && is_lawful_solve(&solve) {
+    if freezes_a_file(matches) && is_lawful_solve(&solve) {
         Some(solve)
     } else {
         None

@@ -1,28 +1,53 @@
-//! What a search starts from, and the first day whose choices it may change: `--start F` and `--freeze DAY`.
-ghost use Rattle.std.specs.Prelude.{◌≡◌, IfOk};
+//! What a search starts from, and the first day whose choices it may change: `--start F`, `--freeze DAY` and `--fill`.
+ghost use Rattle.std.specs.Prelude.{◌≡◌, IfOk, codes};
 ghost use Rattle.clap.specs.Words.{app_of, found_of, rows_of};
-ghost use Rattle.ih_words.specs.Start.{freezes_a_start, with_start};
+ghost use Rattle.ih_words.specs.Matches.{IsNumberIfGiven};
+ghost use Rattle.ih_words.specs.Start.{freezes_a_file, start_call, start_in, with_start};
 
-use crate::arguments::{optional, optional_number};
-use crate::matches::is_given;
+use crate::arguments::{flag, optional, optional_number};
+use crate::matches::{flag_of, is_given, optional_text_of, optional_u32_of};
 use clap::{ArgMatches, Command};
 use std::alloc::{AllocError, Global};
 
 /// The last freeze day. With it no choice may change, since no horizon is longer.
 pub const MAX_FREEZE: u32 = 56;
 
-// The command with `--start F` and `--freeze DAY`.
+/// What a search starts from.
+#[derive(Clone, Copy, Debug)]
+pub struct Start<'a> {
+    /// The name of the file with the timetable, where one is given; else it is the empty timetable.
+    pub file: Option<&'a str>,
+    /// Whether the timetable is filled before the search.
+    pub fill: bool,
+    /// The first day whose choices may change; 0 where none is given.
+    pub freeze: u32,
+}
+
+// The command with `--start F`, `--freeze DAY` and `--fill`.
 pub(crate) fn with_start<'a>(alloc: Global, command: Command<'a>) -> Result<Command<'a>, AllocError>
     ensures { IfOk result (λ c. app_of c ≡ with_start (app_of command.entry)) }
 {
     command
         .arg(optional(alloc, "start"))?
-        .arg(optional_number(alloc, "freeze", MAX_FREEZE))
+        .arg(optional_number(alloc, "freeze", MAX_FREEZE))?
+        .arg(flag(alloc, "fill"))
 }
 
-// A freeze day is given only where a start is.
-pub(crate) fn freezes_a_start(matches: &ArgMatches) -> bool
-    ensures { result ≡ freezes_a_start (rows_of (found_of matches.now)) }
+// What the search starts from.
+pub(crate) fn start_in<'a>(matches: &ArgMatches<'a>) -> Start<'a>
+    requires { IsNumberIfGiven 0 MAX_FREEZE (codes "freeze") (rows_of (found_of matches.now)) }
+    ensures { start_call result ≡ start_in (rows_of (found_of matches.now)) }
 {
-    !is_given(matches, "freeze") || is_given(matches, "start")
+    Start {
+        file: optional_text_of(matches, "start"),
+        fill: flag_of(matches, "fill"),
+        freeze: optional_u32_of(matches, "freeze"),
+    }
+}
+
+// A freeze day is given only where the timetable of a file is taken as it is.
+pub(crate) fn freezes_a_file(matches: &ArgMatches) -> bool
+    ensures { result ≡ freezes_a_file (rows_of (found_of matches.now)) }
+{
+    !is_given(matches, "freeze") || is_given(matches, "start") && !flag_of(matches, "fill")
 }

@@ -53,7 +53,7 @@ fn solve_has_its_values(rt: HostRuntime) -> Result<(), Fail> {
         Ok(Command::Solve(solve)) => {
             assert!(rt; solve.instance == "i" && solve.out == "o" && solve.journal == "j");
             assert!(rt; solve.options == wanted);
-            assert!(rt; solve.start == Some("s") && solve.freeze == 56);
+            assert!(rt; solve.start.file == Some("s") && solve.start.freeze == 56 && !solve.start.fill);
         }
         _ => assert!(rt; false),
     }
@@ -74,6 +74,53 @@ fn check_has_its_values(rt: HostRuntime) -> Result<(), Fail> {
     Ok(())
 }
 
+#[test]
+fn replay_has_its_values(rt: HostRuntime) -> Result<(), Fail> {
+    let alloc = rt.alloc();
+    let words = owned(alloc, ["replay", "i", "--fill", "j", "o"].as_slice())?;
+    let read = read_words(alloc, words.as_slice());
+    match read {
+        Ok(Command::Replay(replay)) => {
+            assert!(rt; replay.instance == "i" && replay.journal == "j" && replay.out == "o");
+            assert!(rt; replay.start.fill && replay.start.file.is_none() && replay.start.freeze == 0);
+        }
+        _ => assert!(rt; false),
+    }
+    Ok(())
+}
+
+#[test]
+fn salvage_has_its_values(rt: HostRuntime) -> Result<(), Fail> {
+    let alloc = rt.alloc();
+    let words = owned(alloc, ["salvage", "i", "j", "o", "--start=s"].as_slice())?;
+    let read = read_words(alloc, words.as_slice());
+    match read {
+        Ok(Command::Salvage(salvage)) => {
+            assert!(rt; salvage.instance == "i" && salvage.journal == "j" && salvage.out == "o");
+            assert!(rt; salvage.start.file == Some("s") && !salvage.start.fill);
+        }
+        _ => assert!(rt; false),
+    }
+    Ok(())
+}
+
+#[test]
+fn gen_and_demo_have_their_values(rt: HostRuntime) -> Result<(), Fail> {
+    let alloc = rt.alloc();
+    let words = owned(alloc, ["gen", "7", "o"].as_slice())?;
+    let read = read_words(alloc, words.as_slice());
+    match read {
+        Ok(Command::Gen(generated)) => {
+            assert!(rt; generated.number == 7 && generated.out == "o");
+        }
+        _ => assert!(rt; false),
+    }
+    let words = owned(alloc, ["demo", "18446744073709551615"].as_slice())?;
+    let read = read_words(alloc, words.as_slice());
+    assert!(rt; matches!(&read, Ok(Command::Demo(18_446_744_073_709_551_615))));
+    Ok(())
+}
+
 fn is_unlawful(alloc: Global, list: &[&str]) -> Result<bool, AllocError> {
     let words = owned(alloc, list)?;
     let read = read_words(alloc, words.as_slice());
@@ -87,6 +134,7 @@ fn other_words_are_unlawful(rt: HostRuntime) -> Result<(), Fail> {
     assert!(rt; is_unlawful(alloc, ["check", "i", "i"].as_slice())?);
     assert!(rt; is_unlawful(alloc, ["solve", "--help"].as_slice())?);
     assert!(rt; is_unlawful(alloc, ["solve", "i", "o", "j"].as_slice())?);
+    assert!(rt; is_unlawful(alloc, ["replay", "i", "j", "o", "--freeze=0"].as_slice())?);
     let text = format!(in alloc; "{}", WordsError::Unlawful)?;
     assert!(rt; text.as_str() == "no command has these words");
     Ok(())

@@ -14,11 +14,10 @@ returns-then-is_next c on =
     let H = c.args.book.now.entries in
     elim c.if-offer-options.branch [
       | then-offer-options w ↦
-          let next = w.is_next.ensures (sym w.value-is ∙ c.if-is_next.true) in
-          (
+          let next = w.is_next.ensures (sym w.value-is ∙ c.if-is_next.true) in (
             subst (λ (s : Options). o.worker < s.workers) c.requires.options w.if-offer-options.true,
             subst (λ (s : Options). next_number s H o.worker ≡ Some o.number) c.requires.options
-            (next-is c.args.options.now H o.worker o.number w.last_by.result (w.last_by.ensures ∙ ap (last_by o.worker) c.entries-entries.ensures.entries) next.0 next.1),
+                (next-is c.args.options.now H o.worker o.number w.last_by.result (w.last_by.ensures ∙ ap (last_by o.worker) c.entries-entries.ensures.entries) next.0 next.1),
             subst (HasNoneBy o.worker) (take_rest c.entries-entries.result.now o.seen ∙ ap (drop o.seen) c.entries-entries.ensures.entries) (c.none_by.ensures on),
           )
       | else-offer-options w ↦ absurd (let no : false ≡ true = sym w.value-is ∙ c.if-is_next.true in cc)

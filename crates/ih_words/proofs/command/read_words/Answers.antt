@@ -8,4 +8,11 @@ pub returns-in_default-as_str-clause-unlawful : goal.returns-in_default-as_str-c
 returns-in_default-as_str-clause-unlawful c = λ e. other_name _ c.as_str.result.now
     (slice_get-map string_bytes c.args.words.now 0 ∙ ap (option_map string_bytes) (sym c.first.ensures.value ∙ ap option_copied c.in-Some.is)
     ∙ ap Some (sym c.as_str.ensures.value))
-    c.in_default-as_str.not-solve c.in_default-as_str.not-check
+    (record {
+      solve = c.in_default-as_str.not-solve;
+      replay = c.in_default-as_str.not-replay;
+      salvage = c.in_default-as_str.not-salvage;
+      check = c.in_default-as_str.not-check;
+      gen = c.in_default-as_str.not-gen;
+      demo = c.in_default-as_str.not-demo;
+    })

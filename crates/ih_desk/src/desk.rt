@@ -1,0 +1,142 @@
+//! The desk: it keeps the book behind a turn, and hands it out to nobody.
+
+ghost use Rattle.std.specs.Prelude.{◌≡◌, ◌≤◌, [], ◌∷◌, ◌++◌, length, take, drop};
+ghost use Rattle.ih_cellbook.specs.Copied.{most_copied};
+ghost use Rattle.ih_cellbook.specs.Legal.{AreLegalButDraws};
+ghost use Rattle.ih_cellbook.specs.Offers.{IsRightOffer, entry_of};
+
+use ih_cellbook::{Book, Buffer, Offer, right_offers_stay_right};
+use ih_journal::Verdict;
+use ih_turn::{Seat, Turn};
+use std::alloc::Global;
+use std::sync::Wait;
+
+/// A book that workers share. Each has a seat, which carries the history that it has seen.
+#[derive(Drop)]
+pub struct Desk<'a> {
+    turn: Turn<Book<'a>>,
+    ghost opened: { turn.table.shared.key.opening.value.entries ≡ [] },
+    ghost workers: { turn.table.shared.key.seats ≡ turn.table.shared.key.opening.value.base.options.workers },
+}
+
+impl<'a> Desk<'a> {
+    ghost use Rattle.std.specs.Prelude.{ℕ, ◌+◌, ◌*◌, ◌^◌, ◌<◌, ◌==◌, IfOk, IfErr, map, slice_index, All, Contains, count_by};
+    ghost use Rattle.ih_turn.specs.Seats.{history, number_of, made_count, turns_left};
+    ghost use Rattle.ih_desk.specs.Desks.{base_of, worker_count, IsSeatAt};
+    ghost use Rattle.ih_desk.specs.Histories.{GoesOn, EndsWith};
+
+    /// Opens a desk over a book without entries, with a seat for each worker of its options. Each seat may look or offer
+    /// `turns` times in all.
+    ///
+    /// # Errors
+    /// The book, where memory runs out.
+    pub fn open(
+        alloc: Global,
+        book: Book<'a>,
+        workers: u32,
+        turns: u64,
+    ) -> Result<(Desk<'a>, Vec<Seat<Book<'a>>>), Book<'a>>
+        requires some { 1 ≤ workers }
+        requires workers { workers ≡ book.base.options.workers }
+        requires empty { book.entries ≡ [] }
+        requires fits { workers * turns + 1 < 2 ^ 64 }
+        ensures desk { IfOk result (λ t. (base_of t.0 ≡ book.entry.base) × (worker_count t.0 ≡ workers)) }
+        ensures numbers { IfOk result (λ t. (length t.1.items ≡ workers) × ((k : ℕ) → k < workers → slice_index (map number_of t.1.items) k ≡ k)) }
+        ensures fresh { IfOk result (λ t. All (λ s. IsSeatAt t.0 s × (history s ≡ []) × (made_count s ≡ 0) × (turns_left s ≡ turns)) t.1.items) }
+        ensures refused { IfErr result (λ b. b ≡ book.entry) }
+    {
+        match Turn::new(alloc, book, workers, turns) {
+            Ok((turn, seats)) => Ok((Desk { turn }, seats)),
+            Err(book) => Err(book),
+        }
+    }
+
+    /// Looks at the history, which the seat has then seen whole. The buffer's entries are those from its place
+    /// `from` on, or the first 256 of them where there are more, and its front is the number of all entries. It uses one
+    /// of the seat's turns, waits for it, and takes no memory.
+    pub fn look<R: Wait>(
+        &self,
+        rt: &R,
+        seat: Seat<Book<'a>>,
+        buffer: &mut Buffer,
+    ) -> Seat<Book<'a>>
+        requires own { IsSeatAt self.now seat }
+        requires left { 0 < turns_left seat }
+        requires from { buffer.old.from ≤ length (history seat) }
+        ensures own { IsSeatAt self.now result }
+        ensures number { number_of result ≡ number_of seat.entry }
+        ensures history { GoesOn (number_of seat.entry) (history seat.entry) (history result) }
+        ensures copied { buffer.new ≡ record { from = buffer.old.from; entries = take most_copied (drop buffer.old.from (history result)); front = length (history result) } }
+        ensures made { made_count result ≡ made_count seat.entry }
+        ensures left { turns_left result + 1 ≡ turns_left seat.entry }
+    {
+        let held = self.turn.take(rt, seat);
+        copy(held.get(), buffer);
+        held.give()
+    }
+
+    /// Offers the next move of the seat's worker, and answers its verdict. The history that the seat has then seen ends
+    /// with this entry. It uses one of the seat's turns, waits for it, and takes no memory.
+    pub fn offer<R: Wait>(
+        &self,
+        rt: &R,
+        seat: Seat<Book<'a>>,
+        offer: &Offer,
+    ) -> (Seat<Book<'a>>, Verdict)
+        requires own { IsSeatAt self.now seat }
+        requires left { 0 < turns_left seat }
+        requires worker { offer.now.worker ≡ number_of seat }
+        requires right { IsRightOffer (base_of self.now) (history seat) offer.now }
+        ensures own { IsSeatAt self.now result.0 }
+        ensures number { number_of result.0 ≡ number_of seat.entry }
+        ensures history { EndsWith (base_of self.now) offer.now result.1 (history seat.entry) (history result.0) }
+        ensures made { made_count result.0 ≡ made_count seat.entry + 1 }
+        ensures left { turns_left result.0 + 1 ≡ turns_left seat.entry }
+    {
+        right_offers_stay_right();
+        let mut held = self.turn.take(rt, seat);
+        let verdict = commit(held.get_mut(), offer);
+        (held.give(), verdict)
+    }
+
+    /// Gives the book back, once all seats have come back. It has just the entries that they made.
+    pub fn close(self, seats: Vec<Seat<Book<'a>>>) -> Book<'a>
+        requires own { All (IsSeatAt self) seats.items }
+        requires all { (n : ℕ) → n < worker_count self → Contains (map number_of seats.items) n }
+        ensures base { result.base ≡ base_of self.entry }
+        ensures legal { AreLegalButDraws result.base result.entries }
+        // each seat's history begins it, and past that nothing is by the seat's worker
+        ensures seen { All (λ s. GoesOn (number_of s) (history s) result.entries) seats.entry.items }
+        // each entry is by the worker of a seat, and each seat's worker has as many as the seat made
+        ensures makers { All (λ e. e.worker < worker_count self.entry) result.entries }
+        ensures made { All (λ s. count_by (λ e. e.worker == number_of s) result.entries ≡ made_count s) seats.entry.items }
+    {
+        let Desk { turn } = self;
+        let book = turn.close(seats);
+        book.entries();
+        book
+    }
+}
+
+// Copies what a book has from the buffer's place on.
+fn copy(book: &Book<'_>, buffer: &mut Buffer)
+    requires { buffer.old.from ≤ length book.now.entries }
+    ensures copied { buffer.new ≡ record { from = buffer.old.from; entries = take most_copied (drop buffer.old.from book.now.entries); front = length book.now.entries } }
+    ensures legal { AreLegalButDraws book.now.base book.now.entries }
+{
+    let from = buffer.from();
+    book.entries();
+    book.copy_since(from, buffer);
+}
+
+// Commits an offer to a book.
+fn commit(book: &mut Book<'_>, offer: &Offer) -> Verdict
+    requires { IsRightOffer book.old.base book.old.entries offer.now }
+    ensures base { book.new.base ≡ book.old.base }
+    ensures entries { book.new.entries ≡ book.old.entries ++ entry_of book.old.base book.old.entries offer.now result ∷ [] }
+    ensures legal { AreLegalButDraws book.new.base book.new.entries }
+{
+    let verdict = book.commit(offer);
+    book.entries();
+    verdict
+}

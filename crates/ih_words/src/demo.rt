@@ -1,0 +1,27 @@
+//! The command `demo`: its description for `clap` and its value.
+ghost use Rattle.std.specs.Prelude.{◌≡◌, IfErr, IfOk, None, Some, map, string_bytes};
+ghost use Rattle.clap.specs.Words.{app_of};
+ghost use Rattle.ih_words.specs.Demo.{demo_app, lawful_demo};
+ghost use Rattle.ih_words.specs.Matches.{call_by};
+
+use crate::WordsError;
+use crate::arguments::named_number;
+use crate::matches::{matches_in, u64_of};
+use clap::Command;
+use std::alloc::{AllocError, Global};
+
+// `demo NUMBER`.
+fn demo_description<'a>(alloc: Global) -> Result<Command<'a>, AllocError>
+    ensures { IfOk result (λ c. app_of c ≡ demo_app) }
+{
+    Command::new(alloc, "demo").arg(named_number(alloc, "NUMBER"))
+}
+
+// Reads the words of `demo`: its number.
+pub(crate) fn read_demo(alloc: Global, words: &[String]) -> Result<u64, WordsError>
+    ensures ok { IfOk result (λ number. call_by demo_app lawful_demo (map string_bytes words.now) ≡ Some number) }
+    ensures unlawful { IfErr result (λ e. e ≡ WordsError.Unlawful → call_by demo_app lawful_demo (map string_bytes words.now) ≡ None) }
+{
+    let matches = matches_in(demo_description(alloc)?, words)?;
+    Ok(u64_of(&matches, "NUMBER"))
+}

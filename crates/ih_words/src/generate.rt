@@ -1,0 +1,50 @@
+//! The command `gen`: its description for `clap` and its values.
+ghost use Rattle.std.specs.Prelude.{◌≡◌, IfErr, IfOk, None, Some, codes, map, string_bytes};
+ghost use Rattle.clap.specs.Words.{app_of, found_of, rows_of};
+ghost use Rattle.ih_words.specs.Generate.{gen_app, gen_call, gen_in, lawful_gen};
+ghost use Rattle.ih_words.specs.Matches.{HasNumber, HasText, call_by};
+
+use crate::WordsError;
+use crate::arguments::{named, named_number};
+use crate::matches::{matches_in, text_of, u64_of};
+use clap::{ArgMatches, Command};
+use std::alloc::{AllocError, Global};
+
+/// `gen NUMBER OUT`.
+#[derive(Clone, Copy, Debug)]
+pub struct Gen<'a> {
+    /// The number that the instance is made from.
+    pub number: u64,
+    /// The name of the file that the instance goes to.
+    pub out: &'a str,
+}
+
+// `gen NUMBER OUT`.
+fn gen_description<'a>(alloc: Global) -> Result<Command<'a>, AllocError>
+    ensures { IfOk result (λ c. app_of c ≡ gen_app) }
+{
+    Command::new(alloc, "gen")
+        .arg(named_number(alloc, "NUMBER"))?
+        .arg(named(alloc, "OUT"))
+}
+
+// The values of `gen`.
+fn gen_in<'a>(matches: &ArgMatches<'a>) -> Gen<'a>
+    requires number { HasNumber 0 18446744073709551615 (codes "NUMBER") (rows_of (found_of matches.now)) }
+    requires out { HasText (codes "OUT") (rows_of (found_of matches.now)) }
+    ensures { gen_call result ≡ gen_in (rows_of (found_of matches.now)) }
+{
+    Gen {
+        number: u64_of(matches, "NUMBER"),
+        out: text_of(matches, "OUT"),
+    }
+}
+
+// Reads the words of `gen`.
+pub(crate) fn read_gen<'a>(alloc: Global, words: &'a [String]) -> Result<Gen<'a>, WordsError>
+    ensures ok { IfOk result (λ g. call_by gen_app lawful_gen (map string_bytes words.entry.now) ≡ Some (gen_call g)) }
+    ensures unlawful { IfErr result (λ e. e ≡ WordsError.Unlawful → call_by gen_app lawful_gen (map string_bytes words.entry.now) ≡ None) }
+{
+    let matches = matches_in(gen_description(alloc)?, words)?;
+    Ok(gen_in(&matches))
+}
