@@ -1,0 +1,8 @@
+use Rattle.std.proofs.Common.{◌≡◌}
+use Rattle.ih_plan.specs.Fill.{with_stays}
+use Rattle.ih_plan.specs.Sums.{which_below}
+use Rattle.ih_fill.specs.Filling.{is_waiting}
+use Rattle.ih_fill.proofs.patients.place_all.Given as goal
+
+abbrev pub invariant-loop-p : goal.invariant-loop-p
+invariant-loop-p l = l.filler ≡ record l.fn.filler { plan = with_stays l.inst.draft l.fn.filler.hard l.fn.filler.plan (which_below l.p (is_waiting l.inst.draft l.plan l.mandatory)) }

@@ -1,0 +1,4 @@
+pub mod Assembly
+pub mod Rows
+pub mod Streams
+pub mod WholeNumbers

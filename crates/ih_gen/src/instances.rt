@@ -1,0 +1,43 @@
+//! The text of a generated instance.
+
+ghost use Rattle.std.specs.Prelude.{◌≡◌, IfOk};
+ghost use Rattle.serde_json.specs.View.{view};
+ghost use Rattle.ih_gen.specs.Generated.{generated_data, generated};
+
+use crate::fixed::fixed_value;
+use crate::members::with_member;
+use crate::nurses::nurse_values;
+use crate::occupants::occupant_values;
+use crate::patients::patient_values;
+use crate::picks::Picks;
+use crate::rooms::room_values;
+use serde_json::Value;
+use std::alloc::{AllocError, Global};
+
+const DAYS: u32 = 28;
+
+// The whole instance as a JSON value.
+fn generated_value(alloc: Global, number: u64) -> Result<Value, AllocError>
+    ensures { IfOk result (λ v. view v ≡ generated_data number) }
+{
+    let mut picks = Picks::of(number);
+    let rooms = room_values(alloc, &mut picks, 25)?;
+    let nurses = nurse_values(alloc, &mut picks, DAYS, 50)?;
+    let occupants = occupant_values(alloc, &mut picks, 3)?;
+    let patients = patient_values(alloc, &mut picks, DAYS, 400)?;
+    let fixed = fixed_value(alloc, DAYS)?;
+    let housed = with_member(alloc, fixed, "rooms", Value::Array(rooms))?;
+    let staffed = with_member(alloc, housed, "nurses", Value::Array(nurses))?;
+    let occupied = with_member(alloc, staffed, "occupants", Value::Array(occupants))?;
+    with_member(alloc, occupied, "patients", Value::Array(patients))
+}
+
+/// The instance that a number generates, as compact JSON with sorted keys and no line feed at its end: 28 days, 25 rooms,
+/// 50 nurses, 3 occupants, 400 patients, 10 surgeons and 5 operating theatres. All else is picked by the words of one stream
+/// that the number seeds.
+#[tactic(auto, using(crate::proofs::WholeNumbers::whole_numbers))]
+pub fn generate(alloc: Global, number: u64) -> Result<Vec<u8>, AllocError>
+    ensures { IfOk result (λ text. text.items ≡ generated number) }
+{
+    generated_value(alloc, number)?.to_vec(alloc)
+}

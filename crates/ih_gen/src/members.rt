@@ -1,0 +1,26 @@
+//! Objects that are made member by member.
+
+ghost use Rattle.std.specs.Prelude.{◌≡◌, IfOk};
+ghost use Rattle.serde_json.specs.View.{view};
+ghost use Rattle.ih_gen.specs.Members.{with_member};
+
+use serde_json::{Value, put};
+use std::alloc::{AllocError, Global};
+
+/// The object with one member more. Any other value stays as it is.
+pub fn with_member(
+    alloc: Global,
+    value: Value,
+    key: &str,
+    member: Value,
+) -> Result<Value, AllocError>
+    ensures { IfOk result (λ v. view v ≡ with_member key.now (view member) (view value)) }
+{
+    match value {
+        Value::Object(mut members) => {
+            put(&mut members, alloc, key, member)?;
+            Ok(Value::Object(members))
+        }
+        other => Ok(other),
+    }
+}

@@ -1,0 +1,75 @@
+//! The nurses and their worked shifts.
+
+ghost use Rattle.std.specs.Prelude.{◌≡◌, ◌+◌, ◌<◌, ◌≤◌, ◌^◌, ◌==◌, IfOk, OnOk, map};
+ghost use Rattle.serde_json.specs.View.{view};
+ghost use Rattle.ih_plan.specs.Draws.{state_after};
+ghost use Rattle.ih_plan.specs.Sums.{which_below, count_below};
+ghost use Rattle.ih_gen.specs.Words.{begins, in_a_row, pick};
+ghost use Rattle.ih_gen.specs.Generated.{turn_of, works, shift_data, worked_data, nurse_data, nurse_words};
+
+use crate::names::{id_value, shift_name};
+use crate::picks::Picks;
+use serde_json::{Value, json};
+use std::alloc::{AllocError, Global};
+
+// A shift of a type on a day, with the maximum load.
+fn shift_value(alloc: Global, day: u32, turn: u32, load: u32) -> Result<Value, AllocError>
+    ensures { IfOk result (λ v. view v ≡ shift_data day turn load) }
+{
+    let shift = shift_name(turn);
+    json!(in alloc; {"day": day, "max_load": load, "shift": shift})
+}
+
+// The worked shifts of a nurse: early, late, night, then a day off, and so on.
+#[tactic(auto, using(crate::proofs::Rows::worked_steps))]
+fn worked_values(
+    alloc: Global,
+    picks: &mut Picks,
+    days: u32,
+    n: u32,
+) -> Result<Vec<Value>, AllocError>
+    requires { days + n < 2 ^ 32 }
+    ensures values { IfOk result (λ v. map view v.items ≡ map (worked_data n picks.old) (which_below days (works n))) }
+    ensures rest { OnOk result (picks.new ≡ state_after (count_below days (works n)) picks.old) }
+{
+    let mut values = Vec::new(alloc);
+    for day in 0..days {
+        let turn = (n + day) % 4;
+        if turn < 3 {
+            let load = 5 + picks.pick(11);
+            values.push(shift_value(alloc, day, turn, load)?)?;
+        }
+    }
+    Ok(values)
+}
+
+#[tactic(auto, using(crate::proofs::Streams::stream_steps))]
+fn nurse_value(alloc: Global, picks: &mut Picks, days: u32, n: u32) -> Result<Value, AllocError>
+    requires { days + n < 2 ^ 32 }
+    ensures value { IfOk result (λ v. view v ≡ nurse_data days n picks.old) }
+    ensures rest { OnOk result (picks.new ≡ state_after (nurse_words days n picks.old) picks.old) }
+{
+    let skill = picks.pick(3);
+    let shifts = worked_values(alloc, picks, days, n)?;
+    let id = id_value(alloc, "n", n)?;
+    json!(in alloc; {"id": id, "skill_level": skill, "working_shifts": shifts})
+}
+
+/// The first `count` nurses.
+#[tactic(auto, using(crate::proofs::Rows::row_steps))]
+pub fn nurse_values(
+    alloc: Global,
+    picks: &mut Picks,
+    days: u32,
+    count: u32,
+) -> Result<Vec<Value>, AllocError>
+    requires { days + count < 2 ^ 32 }
+    ensures values { IfOk result (λ v. map view v.items ≡ in_a_row (nurse_data days) (nurse_words days) count picks.old) }
+    ensures rest { OnOk result (picks.new ≡ begins (nurse_words days) count picks.old) }
+{
+    let mut values = Vec::new(alloc);
+    for n in 0..count {
+        values.push(nurse_value(alloc, picks, days, n)?)?;
+    }
+    Ok(values)
+}

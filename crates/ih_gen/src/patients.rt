@@ -1,0 +1,101 @@
+//! The patients.
+
+ghost use Rattle.std.specs.Prelude.{◌≡◌, ◌<◌, ◌≤◌, None, IfOk, OnOk, map};
+ghost use Rattle.serde_json.specs.Data.{object};
+ghost use Rattle.serde_json.specs.View.{view};
+ghost use Rattle.ih_plan.specs.Draws.{state_after};
+ghost use Rattle.ih_gen.specs.Words.{begins, in_a_row};
+ghost use Rattle.ih_gen.specs.Generated.{patient_picks, patient_members, patient_data, patient_words};
+
+use crate::members::with_member;
+use crate::names::id_value;
+use crate::persons::{Needs, PersonPicks, person_value, pick_needs, pick_person};
+use crate::picks::Picks;
+use serde_json::{Value, json};
+use std::alloc::{AllocError, Global};
+
+/// What is picked for a patient before the needs of the stay.
+#[derive(Clone, Copy)]
+pub struct PatientPicks {
+    pub person: PersonPicks,
+    pub release_day: u32,
+    /// Days from the release day to the due day of a mandatory patient.
+    pub slack: u32,
+    pub duration: u32,
+    pub incompatible_room: u32,
+}
+
+#[tactic(auto, using(crate::proofs::Streams::stream_steps))]
+fn patient_picks(picks: &mut Picks) -> PatientPicks
+    ensures picks { result ≡ patient_picks picks.old }
+    ensures rest { picks.new ≡ state_after 7 picks.old }
+    ensures stay { result.person.length_of_stay ≤ 6 }
+    ensures release { result.release_day < 28 }
+    ensures slack { result.slack < 8 }
+{
+    PatientPicks {
+        person: pick_person(picks, 6),
+        release_day: picks.pick(28),
+        slack: picks.pick(8),
+        duration: 30 + 30 * picks.pick(4),
+        incompatible_room: picks.pick(25),
+    }
+}
+
+// The patient with these picks, without a due day.
+fn picked_value(
+    alloc: Global,
+    p: u32,
+    picked: &PatientPicks,
+    needs: Needs,
+) -> Result<Value, AllocError>
+    ensures { IfOk result (λ v. view v ≡ object (patient_members p picked.now None (map view needs.skills.items) (map view needs.workloads.items))) }
+{
+    let person = person_value(alloc, "p", p, &picked.person, needs)?;
+    let room = id_value(alloc, "r", picked.incompatible_room)?;
+    let rooms = json!(in alloc; [room])?;
+    let surgeon = id_value(alloc, "s", (p / 20 + p % 20) % 10)?;
+    let duration = Value::from(picked.duration);
+    let release = Value::from(picked.release_day);
+    let barred = with_member(alloc, person, "incompatible_room_ids", rooms)?;
+    let graded = with_member(alloc, barred, "mandatory", Value::Bool(p % 20 == 0))?;
+    let assigned = with_member(alloc, graded, "surgeon_id", surgeon)?;
+    let timed = with_member(alloc, assigned, "surgery_duration", duration)?;
+    with_member(alloc, timed, "surgery_release_day", release)
+}
+
+#[tactic(auto, using(crate::proofs::Streams::stream_steps))]
+fn patient_value(alloc: Global, picks: &mut Picks, days: u32, p: u32) -> Result<Value, AllocError>
+    requires { 0 < days }
+    ensures value { IfOk result (λ v. view v ≡ patient_data days p picks.old) }
+    ensures rest { OnOk result (picks.new ≡ state_after (patient_words p picks.old) picks.old) }
+{
+    let picked = patient_picks(picks);
+    let needs = pick_needs(alloc, picks, 3 * picked.person.length_of_stay)?;
+    let value = picked_value(alloc, p, &picked, needs)?;
+    if p % 20 == 0 {
+        let due = (picked.release_day + picked.slack).min(days - 1);
+        with_member(alloc, value, "surgery_due_day", Value::from(due))
+    } else {
+        Ok(value)
+    }
+}
+
+/// The first `count` patients.
+#[tactic(auto, using(crate::proofs::Rows::row_steps))]
+pub fn patient_values(
+    alloc: Global,
+    picks: &mut Picks,
+    days: u32,
+    count: u32,
+) -> Result<Vec<Value>, AllocError>
+    requires { 0 < days }
+    ensures values { IfOk result (λ v. map view v.items ≡ in_a_row (patient_data days) patient_words count picks.old) }
+    ensures rest { OnOk result (picks.new ≡ begins patient_words count picks.old) }
+{
+    let mut values = Vec::new(alloc);
+    for p in 0..count {
+        values.push(patient_value(alloc, picks, days, p)?)?;
+    }
+    Ok(values)
+}

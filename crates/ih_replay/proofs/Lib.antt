@@ -1,0 +1,11 @@
+mod Attempts
+mod Checking
+mod EntrySteps
+mod Firsts
+mod Going
+mod Journals
+mod Lines
+mod Offering
+mod Passing
+mod Reaching
+mod Refusing

@@ -1,0 +1,197 @@
+-- What is kept of workers once an entry is added.
+use Rattle.std.proofs.Common.{◌≡◌, ℕ, zero, suc, ◌+◌, ◌<◌, ◌≤◌, refl, arith, sym, ap, ◌∙◌, subst, inl, inr, Bool, true, false, List, [], ◌∷◌, ◌++◌, length, take, Some, None}
+use Rattle.std.specs.Prelude.{if◌then◌else◌, slice_get, slice_set, ◌↔◌, ◌⊎◌, Result, Ok, Err, OnOk, OnErr}
+use Rattle.std.proofs.lemmas.Bool.{cases_eq}
+use Rattle.std.proofs.lemmas.List.{length-set}
+use Rattle.ih_tables.specs.declared.drafts.Draft.{Draft}
+use Rattle.ih_plan.specs.Draws.{draw_at, move_of, state_after, stream_at, stream_state}
+use Rattle.ih_plan.proofs.Entries.{slice_get-set_other, slice_get-set_same}
+use Rattle.ih_moves.proofs.Streams.{stream-next}
+use Rattle.ih_journal.specs.declared.entries.Entry.{Entry}
+use Rattle.ih_journal.specs.declared.settings.Options.{Options}
+use Rattle.ih_journal.specs.declared.refusals.Reason.{Reason}
+use Rattle.ih_journal.specs.Attempts.{attempt_after, is_retried, last_by}
+use Rattle.ih_journal.specs.Base.{Base}
+use Rattle.ih_journal.specs.Legal.{AreLegal, IsLegal}
+use Rattle.ih_journal.proofs.Growth.{get-more, last_by-other, last_by-own, legal-more, length-more}
+use Rattle.ih_cellbook.specs.Offers.{HasSeenOwn}
+use Rattle.ih_snapshot.specs.Replicas.{IsReplicaIn, IsReplicaOf}
+use Rattle.ih_snapshot.specs.Snapshot.{Snapshot}
+use Rattle.ih_snapshot.proofs.Within.{stands-behind}
+use Rattle.ih_replay.specs.declared.workers.Worker.{Worker}
+use Rattle.ih_replay.specs.Keeping.{IsReplayed, IsWorkerIn, passed}
+
+-- ---- what a worker must have seen
+
+get-last : (H : List Entry) (e : Entry) → slice_get (H ++ e ∷ []) (length H) ≡ Some e
+get-last [] e = refl
+get-last (x ∷ xs) e = get-last xs e
+
+get-front : (H : List Entry) (e f : Entry) (k : ℕ) → slice_get H k ≡ Some f → slice_get (H ++ e ∷ []) k ≡ Some f
+get-front [] e f k h = absurd (let no : None ≡ Some f = h in cc)
+get-front (x ∷ xs) e f zero h = h
+get-front (x ∷ xs) e f (suc k) h = get-front xs e f k h
+
+seen-other : (H : List Entry) (e : Entry) (w n : ℕ) → (e.worker ≡ w → ⊥) → HasSeenOwn H w n ↔ HasSeenOwn (H ++ e ∷ []) w n
+seen-other H e w n other = (
+  λ seen j f there own. elim (get-more H e f j there) [
+    | inl earlier ↦ seen j f earlier.1 own
+    | inr last ↦ absurd (other (ap (λ (g : Entry). g.worker) last.1 ∙ own))
+  ],
+  λ seen j f there own. seen j f (get-front H e f j there) own,
+)
+
+seen-own : (H : List Entry) (e : Entry) (n : ℕ) → (length H + 1 ≤ n) ↔ HasSeenOwn (H ++ e ∷ []) e.worker n
+seen-own H e n = (
+  λ most j f there own. elim (get-more H e f j there) [
+    | inl earlier ↦ (let less = earlier.0 in omega (arith, less, most))
+    | inr last ↦ (let here = last.0 in omega (arith, here, most))
+  ],
+  λ seen. (let last = seen (length H) e (get-last H e) refl in omega (arith, last)),
+)
+
+pub seen-none : (w n : ℕ) → (0 ≤ n) ↔ HasSeenOwn [] w n
+seen-none w n = (λ h j f there own. absurd (let no : None ≡ Some f = there in cc), λ h. omega arith)
+
+-- ---- one worker
+
+-- a replica that stands for the empty history stands for the beginning of any
+pub empty-in : (b : Base) (H : List Entry) (s : Snapshot) → IsReplicaOf b [] s → IsReplicaIn b H s
+empty-in b H s stands = subst (λ n. IsReplicaOf b (take n H) s) (sym stands.seen) stands
+
+-- an opened stream has drawn nothing
+pub stream-start : (seed w : ℕ) → stream_at seed w 0 ≡ stream_state seed w
+unfolding state_after
+stream-start seed w = refl
+
+pub worker-none : (b : Base) (w : ℕ) (x : Worker) → IsReplicaOf b [] x.replica → x.replica.worker ≡ w → x.number ≡ 0 → x.again ≡ 0 → x.front ≡ 0
+    → x.draw ≡ move_of b.instance b.options.seed w 0 → x.stream ≡ stream_at b.options.seed w 1 → IsWorkerIn b [] w x
+unfolding last_by
+worker-none b w x stands own number again front draw stream = record {
+  replica = empty-in b [] x.replica stands;
+  own = own;
+  attempt = rw (number, again) refl;
+  draw = rw number draw;
+  stream = rw number stream;
+  front = λ n. rw front (seen-none w n);
+}
+
+pub worker-other : (b : Base) (H : List Entry) (e : Entry) (w : ℕ) (x : Worker) → (e.worker ≡ w → ⊥) → IsWorkerIn b H w x → IsWorkerIn b (H ++ e ∷ []) w x
+worker-other b H e w x other kept = record {
+  replica = stands-behind b H x.replica kept.replica (e ∷ []);
+  own = kept.own;
+  attempt = rw (last_by-other H e w other) kept.attempt;
+  draw = kept.draw;
+  stream = kept.stream;
+  front = λ n. (
+    λ most. (seen-other H e w n other).0 ((kept.front n).0 most),
+    λ seen. (kept.front n).1 ((seen-other H e w n other).1 seen),
+  );
+}
+
+-- another replica that stands in the same history, or in one that is equal
+pub worker-moved : (b c : Base) (H G : List Entry) (w : ℕ) (x : Worker) (s : Snapshot) → IsWorkerIn b H w x → c ≡ b → G ≡ H → IsReplicaIn c G s → s.worker ≡ w
+    → IsWorkerIn c G w (record x { replica = s })
+worker-moved b c H G w x s kept base same stands own =
+    let y : Worker = record x { replica = s } in
+    let here : IsReplicaIn b H s = subst (λ F. IsReplicaIn b F s) same (subst (λ d. IsReplicaIn d G s) base stands) in
+    let moved : IsWorkerIn b H w y = record { replica = here; own = own; attempt = kept.attempt; draw = kept.draw; stream = kept.stream; front = kept.front } in
+    subst (λ d. IsWorkerIn d G w y) (sym base) (subst (λ F. IsWorkerIn b F w y) (sym same) moved)
+
+move-next : (I : Draft) (seed w i : ℕ) (s : List ℕ) → s ≡ stream_at seed w i → draw_at I s ≡ move_of I seed w i
+unfolding move_of
+move-next I seed w i s e = ap (draw_at I) e
+
+-- the worker whose entry it is goes on to what follows
+module _ (b : Base) (H : List Entry) (e : Entry) (x : Worker) (number : e.number ≡ x.number) (again : e.again ≡ x.again)
+    (draw : x.draw ≡ move_of b.instance b.options.seed e.worker x.number) (stream : x.stream ≡ stream_at b.options.seed e.worker (x.number + 1))
+    (replica : IsReplicaIn b (H ++ e ∷ []) x.replica) (own : x.replica.worker ≡ e.worker) where
+  attempt-passed : (t : Bool) → is_retried b.options e ≡ t
+      → attempt_after b.options (Some e) ≡ (let y : Worker = (if t then record x { again = x.again + 1; front = length H + 1 }
+      else record x { number = x.number + 1; again = 0; draw = draw_at b.instance x.stream; stream = state_after 6 x.stream; front = length H + 1 }) in record { number = y.number; again = y.again })
+  attempt-passed true on = rw (on, number, again) refl
+  attempt-passed false off = rw (off, number) refl
+
+  worker-by : (t : Bool) → is_retried b.options e ≡ t
+      → IsWorkerIn b (H ++ e ∷ []) e.worker (if t then record x { again = x.again + 1; front = length H + 1 }
+      else record x { number = x.number + 1; again = 0; draw = draw_at b.instance x.stream; stream = state_after 6 x.stream; front = length H + 1 })
+  worker-by true on = record {
+    replica = replica;
+    own = own;
+    attempt = ap (attempt_after b.options) (last_by-own H e e.worker refl) ∙ attempt-passed true on;
+    draw = draw;
+    stream = stream;
+    front = seen-own H e;
+  }
+  worker-by false off = record {
+    replica = replica;
+    own = own;
+    attempt = ap (attempt_after b.options) (last_by-own H e e.worker refl) ∙ attempt-passed false off;
+    draw = move-next b.instance b.options.seed e.worker (x.number + 1) x.stream stream;
+    stream = ap (state_after 6) stream ∙ sym (stream-next b.options.seed e.worker (x.number + 1));
+    front = seen-own H e;
+  }
+
+  pub worker-passed : IsWorkerIn b (H ++ e ∷ []) e.worker (passed b.instance b.options x e (length H + 1))
+  worker-passed = worker-by (is_retried b.options e) refl
+
+-- the worker as the code leaves it
+pub worker-went : (b c : Base) (H G : List Entry) (e : Entry) (x y : Worker) (I : Draft) (o : Options) (front : ℕ) → c ≡ b → G ≡ H ++ e ∷ [] → e.number ≡ x.number → e.again ≡ x.again
+    → x.draw ≡ move_of b.instance b.options.seed e.worker x.number → x.stream ≡ stream_at b.options.seed e.worker (x.number + 1) → IsReplicaIn c G x.replica → x.replica.worker ≡ e.worker
+    → I ≡ b.instance → o ≡ b.options → front ≡ length G → y ≡ passed I o x e front → IsWorkerIn c G e.worker y
+worker-went b c H G e x y I o front base same number again draw stream stands own inst opts at made =
+    let here : IsReplicaIn b (H ++ e ∷ []) x.replica = subst (λ F. IsReplicaIn b F x.replica) same (subst (λ d. IsReplicaIn d G x.replica) base stands) in
+    let went = worker-passed b H e x number again draw stream here own in
+    let is : y ≡ passed b.instance b.options x e (length H + 1) =
+    made ∙ ap (λ J. passed J o x e front) inst ∙ ap (λ p. passed b.instance p x e front) opts ∙ ap (passed b.instance b.options x e) (at ∙ ap length same ∙ length-more H e) in
+    subst (λ d. IsWorkerIn d G e.worker y) (sym base) (subst (λ F. IsWorkerIn b F e.worker y) (sym same) (subst (IsWorkerIn b (H ++ e ∷ []) e.worker) (sym is) went))
+
+-- ---- all workers
+
+get-behind : (xs : List Worker) (y x : Worker) (k : ℕ) → slice_get (xs ++ y ∷ []) k ≡ Some x → (slice_get xs k ≡ Some x) ⊎ ((k ≡ length xs) × (y ≡ x))
+get-behind [] y x zero h = inr (refl, let same : y ≡ x = cc in same)
+get-behind [] y x (suc k) h = absurd (let no : None ≡ Some x = h in cc)
+get-behind (z ∷ zs) y x zero h = inl h
+get-behind (z ∷ zs) y x (suc k) h = elim (get-behind zs y x k h) [
+  | inl earlier ↦ inl earlier
+  | inr last ↦ inr (ap suc last.0, last.1)
+]
+
+-- the workers of a search that has no entry yet, one more of them
+pub workers-more : (b : Base) (xs : List Worker) (w : ℕ) (y : Worker) → length xs ≡ w → ((v : ℕ) (x : Worker) → slice_get xs v ≡ Some x → IsWorkerIn b [] v x) → IsWorkerIn b [] w y
+    → (v : ℕ) (x : Worker) → slice_get (xs ++ y ∷ []) v ≡ Some x → IsWorkerIn b [] v x
+workers-more b xs w y len before own v x there = elim (get-behind xs y x v there) [
+  | inl earlier ↦ before v x earlier
+  | inr last ↦ subst (λ u. IsWorkerIn b [] u x) (sym (last.0 ∙ len)) (subst (IsWorkerIn b [] w) last.1 own)
+]
+
+-- one worker is replaced, and each other stays in the longer history
+replayed-set : (b : Base) (H G : List Entry) (xs : List Worker) (v : ℕ) (y : Worker) → IsReplayed b H xs → v < b.options.workers → AreLegal b G
+    → ((w : ℕ) (x : Worker) → (v ≡ w → ⊥) → IsWorkerIn b H w x → IsWorkerIn b G w x) → IsWorkerIn b G v y → IsReplayed b G (slice_set xs v y)
+replayed-set b H G xs v y kept known legal others own = record {
+  base = kept.base;
+  legal = legal;
+  many = length-set xs v y ∙ kept.many;
+  each = λ w x there. elim (cases_eq w v) [
+    | inl same ↦
+        let many = kept.many in
+        let here : Some y ≡ Some x = sym (slice_get-set_same xs v y (omega (arith, many, known))) ∙ ap (slice_get (slice_set xs v y)) (sym same) ∙ there in
+        let is : y ≡ x = cc in
+        subst (λ u. IsWorkerIn b G u x) (sym same) (subst (IsWorkerIn b G v) is own)
+    | inr other ↦ others w x (λ is. other (sym is)) (kept.each w x (sym (slice_get-set_other xs v w y other) ∙ there))
+  ];
+}
+
+-- the worker's entry was added, or nothing was
+pub replayed-by : (b c : Base) (H G : List Entry) (xs : List Worker) (e : Entry) (y : Worker) (result : Result (Unit {0}) Reason) → IsReplayed b H xs → e.worker < b.options.workers → c ≡ b
+    → IsWorkerIn c G e.worker y → OnOk result (IsLegal b H e) → OnOk result (G ≡ H ++ e ∷ []) → OnErr result (G ≡ H) → IsReplayed c G (slice_set xs e.worker y)
+replayed-by b c H G xs e y (Ok done) kept known base own legal added same =
+    let ys = slice_set xs e.worker y in
+    let here : IsWorkerIn b (H ++ e ∷ []) e.worker y = subst (λ F. IsWorkerIn b F e.worker y) added (subst (λ d. IsWorkerIn d G e.worker y) base own) in
+    let all = replayed-set b H (H ++ e ∷ []) xs e.worker y kept known (legal-more b H e kept.legal legal) (λ w x other one. worker-other b H e w x other one) here in
+    subst (λ d. IsReplayed d G ys) (sym base) (subst (λ F. IsReplayed b F ys) (sym added) all)
+replayed-by b c H G xs e y (Err reason) kept known base own legal added same =
+    let ys = slice_set xs e.worker y in
+    let here : IsWorkerIn b H e.worker y = subst (λ F. IsWorkerIn b F e.worker y) same (subst (λ d. IsWorkerIn d G e.worker y) base own) in
+    let all = replayed-set b H H xs e.worker y kept known kept.legal (λ w x other one. one) here in
+    subst (λ d. IsReplayed d G ys) (sym base) (subst (λ F. IsReplayed b F ys) (sym same) all)

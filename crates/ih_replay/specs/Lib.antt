@@ -1,0 +1,4 @@
+pub mod Bests
+pub mod Keeping
+pub mod Laws
+pub mod Refusals

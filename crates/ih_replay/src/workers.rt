@@ -1,0 +1,105 @@
+//! One worker of a journal: its next attempt, and a replica that stands where the worker last looked.
+
+ghost use Rattle.std.specs.Prelude.{◌≡◌, ◌<◌, ◌^◌, [], IfOk};
+ghost use Rattle.ih_plan.specs.Timetable.{IsPlanOf};
+ghost use Rattle.ih_journal.specs.Attempts.{is_retried};
+ghost use Rattle.ih_journal.specs.Settings.{IsLawful};
+ghost use Rattle.ih_cellbook.specs.Keeping.{base_with};
+ghost use Rattle.ih_replay.specs.Keeping.{IsReplayed, IsWorkerIn, passed};
+
+use ih_journal::{Entry, Options, Verdict};
+use ih_moves::Stream;
+use ih_plan::{Move, Plan};
+use ih_snapshot::Replica;
+use ih_tables::Instance;
+use std::alloc::{AllocError, Global};
+
+/// What is kept of a worker beside the history.
+#[derive(Drop)]
+pub struct Worker<'a> {
+    /// It stands for the entries that the worker had seen at its last one, or for more after a refusal.
+    pub replica: Replica<'a>,
+    /// The draws that follow `draw`.
+    pub stream: Stream,
+    /// The move of the next attempt.
+    pub draw: Move,
+    /// The number of the next attempt among the worker's draws.
+    pub number: u32,
+    /// How often that draw was tried before.
+    pub again: u32,
+    /// The place behind the worker's last entry, or 0 where it has none.
+    pub front: u32,
+}
+
+// Whether the entry's move is to be tried again.
+fn is_retried(options: &Options, entry: &Entry) -> bool
+    ensures { result ≡ is_retried options.now entry.now }
+{
+    match entry.verdict {
+        Verdict::Stale { .. } => entry.again < options.retries,
+        _ => false,
+    }
+}
+
+impl<'a> Worker<'a> {
+    /// A worker that has made no attempt.
+    pub fn new(
+        alloc: Global,
+        inst: &'a Instance,
+        start: &Plan,
+        options: &Options,
+        freeze: u32,
+        worker: u32,
+    ) -> Result<Worker<'a>, AllocError>
+        requires start { IsPlanOf inst.now.draft start.now }
+        requires lawful { IsLawful options.now }
+        ensures { IfOk result (IsWorkerIn (base_with inst.entry.now.draft start.now options.now freeze) [] worker) }
+    {
+        let replica = Replica::new(alloc, inst, start, options, freeze, worker)?;
+        let mut stream = Stream::new(options.seed, worker);
+        let draw = stream.draw(inst);
+        Ok(Worker {
+            replica,
+            stream,
+            draw,
+            number: 0,
+            again: 0,
+            front: 0,
+        })
+    }
+
+    /// Goes on to the attempt that follows an entry of the worker at the place before `front`.
+    pub fn pass(&mut self, inst: &Instance, options: &Options, entry: &Entry, front: u32)
+        requires number { self.old.number < 2 ^ 31 }
+        requires again { self.old.again < 2 ^ 31 }
+        ensures { self.new ≡ passed inst.now.draft options.now self.old entry.now front }
+    {
+        if is_retried(options, entry) {
+            self.again += 1;
+        } else {
+            self.number += 1;
+            self.again = 0;
+            self.draw = self.stream.draw(inst);
+        }
+        self.front = front;
+    }
+}
+
+/// All workers of a search, by number.
+pub fn new_workers<'a>(
+    alloc: Global,
+    inst: &'a Instance,
+    start: &Plan,
+    options: &Options,
+    freeze: u32,
+) -> Result<Vec<Worker<'a>>, AllocError>
+    requires start { IsPlanOf inst.now.draft start.now }
+    requires lawful { IsLawful options.now }
+    ensures { IfOk result (λ xs. IsReplayed (base_with inst.entry.now.draft start.now options.now freeze) [] xs.items) }
+{
+    let mut workers = Vec::with_capacity(alloc, options.workers as usize)?;
+    for worker in 0..options.workers {
+        workers.push(Worker::new(alloc, inst, start, options, freeze, worker)?)?;
+    }
+    Ok(workers)
+}
