@@ -81,7 +81,7 @@ generated-float number =
       theatres-float 28 5,
       row-float (patient_data 28) patient_words 400 patients (patient-float 28),
       row-float room_data room_words 25 rooms (λ r s. refl),
-      surgeons-float 28 10
+      surgeons-float 28 10,
     ) refl
 
 pub ruleset whole_numbers = generated-float

@@ -32,6 +32,6 @@ returns c =
     (list-known c.in_ok-occupants.occupants occupants (c.in_ok-occupants.ensures.values ∙ ap (in_a_row occupant_data occupant_words 3) second)) staffed in
     IfOk-weaker c.with_member-4.result _ _
     (λ v e. put-known (codes "patients") _ _ _ (list_data patients) _ e
-        (list-known c.in_ok-patients.patients patients (c.in_ok-patients.ensures.values ∙ ap (in_a_row (patient_data 28) patient_words 400) third)) occupied
-        ∙ whole number)
+    (list-known c.in_ok-patients.patients patients (c.in_ok-patients.ensures.values ∙ ap (in_a_row (patient_data 28) patient_words 400) third)) occupied
+    ∙ whole number)
     c.with_member-4.ensures

@@ -1,0 +1,4 @@
+pub mod Attempting
+pub mod CatchingUp
+pub mod Full
+pub mod Turns
