@@ -38,8 +38,7 @@ impl<'a> Kept for Book<'a> {
 
     ghost maker = { λ e. e.worker };
 
-    fn len(&self) -> u64
-    {
+    fn len(&self) -> u64 {
         self.entries().len() as u64
     }
 }

@@ -54,12 +54,7 @@ impl<'a> Desk<'a> {
     /// Looks at the history, which the seat has then seen whole. The buffer's entries are those from its place
     /// `from` on, or the first 256 of them where there are more, and its front is the number of all entries. It uses one
     /// of the seat's turns, waits for it, and takes no memory.
-    pub fn look<R: Wait>(
-        &self,
-        rt: &R,
-        seat: Seat<Book<'a>>,
-        buffer: &mut Buffer,
-    ) -> Seat<Book<'a>>
+    pub fn look<R: Wait>(&self, rt: &R, seat: Seat<Book<'a>>, buffer: &mut Buffer) -> Seat<Book<'a>>
         requires own { IsSeatAt self.now seat }
         requires left { 0 < turns_left seat }
         requires from { buffer.old.from ≤ length (history seat) }

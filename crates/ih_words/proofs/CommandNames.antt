@@ -25,5 +25,12 @@ pub record IsOther (name : Text) : Type 0 where
 -- words whose first is no command's name name no call
 pub other_name : (words : List Text) (name : Text) → slice_get words 0 ≡ Some name → IsOther name → call_of words ≡ None
 unfolding call_of
-other_name words name first apart = rw (first, other name _ apart.solve, other name _ apart.replay, other name _ apart.salvage, other name _ apart.check,
-    other name _ apart.gen, other name _ apart.demo) refl
+other_name words name first apart = rw (
+  first,
+  other name _ apart.solve,
+  other name _ apart.replay,
+  other name _ apart.salvage,
+  other name _ apart.check,
+  other name _ apart.gen,
+  other name _ apart.demo,
+) refl

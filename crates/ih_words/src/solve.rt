@@ -64,7 +64,8 @@ fn is_lawful_solve(solve: &Solve) -> bool
     ensures value { result ≡ is_lawful_solve (solve_call solve.now) }
     ensures lawful { result ≡ true → IsLawful solve.now.options }
 {
-    names_differ(solve.instance, solve.out, solve.journal, solve.start.file) && solve.options.lawful()
+    names_differ(solve.instance, solve.out, solve.journal, solve.start.file)
+        && solve.options.lawful()
 }
 
 // The values of `solve`, where they are lawful, and so is the freeze day.

@@ -53,7 +53,9 @@ fn solve_has_its_values(rt: HostRuntime) -> Result<(), Fail> {
         Ok(Command::Solve(solve)) => {
             assert!(rt; solve.instance == "i" && solve.out == "o" && solve.journal == "j");
             assert!(rt; solve.options == wanted);
-            assert!(rt; solve.start.file == Some("s") && solve.start.freeze == 56 && !solve.start.fill);
+            assert!(rt;
+                solve.start.file == Some("s") && solve.start.freeze == 56 && !solve.start.fill
+            );
         }
         _ => assert!(rt; false),
     }
@@ -82,7 +84,9 @@ fn replay_has_its_values(rt: HostRuntime) -> Result<(), Fail> {
     match read {
         Ok(Command::Replay(replay)) => {
             assert!(rt; replay.instance == "i" && replay.journal == "j" && replay.out == "o");
-            assert!(rt; replay.start.fill && replay.start.file.is_none() && replay.start.freeze == 0);
+            assert!(rt;
+                replay.start.fill && replay.start.file.is_none() && replay.start.freeze == 0
+            );
         }
         _ => assert!(rt; false),
     }

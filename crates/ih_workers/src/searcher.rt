@@ -193,12 +193,7 @@ impl<'a> Searcher<'a> {
     }
 
     // Takes over at least all entries that there are when it first looks, its own among them.
-    fn catch_up<R: Wait>(
-        &mut self,
-        rt: &R,
-        desk: &Desk<'a>,
-        seat: Seat<Book<'a>>,
-    ) -> Seat<Book<'a>>
+    fn catch_up<R: Wait>(&mut self, rt: &R, desk: &Desk<'a>, seat: Seat<Book<'a>>) -> Seat<Book<'a>>
         requires own { IsSeatAt desk.now seat }
         requires within { IsWithin (base_of desk.now) (number_of seat) (history seat) self.old }
         requires turns { most_entries (base_of desk.now).options + 512 ≤ credit (turns_left seat) self.old }

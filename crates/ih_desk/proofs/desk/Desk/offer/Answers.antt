@@ -17,7 +17,7 @@ commit-verdict-requires g c =
     right-further c.right_offers_stay_right.ensures _ _ c.args.offer.now (history c.args.seat) _
     (ap (λ (k : Recorded). k.base) value ∙ c.take-held.ensures.base)
     (subst (λ (k : Recorded). Follows (λ e. e.worker) c.args.offer.now.worker k.entries (history c.args.seat)) (sym value)
-      (subst (λ n. Follows (λ e. e.worker) n (value_of c.take-held.result).entries (history c.args.seat)) (sym c.requires.worker) c.take-held.ensures.begins))
+    (subst (λ n. Follows (λ e. e.worker) n (value_of c.take-held.result).entries (history c.args.seat)) (sym c.requires.worker) c.take-held.ensures.begins))
     c.requires.right
 
 pub returns-clause-history : goal.returns-clause-history
@@ -26,5 +26,5 @@ returns-clause-history g c =
     ends_with _ _ c.args.offer.now c.commit-verdict.result (history c.args.seat) c.get_mut.result.now.entries (history c.give.result)
     (ap (λ (k : Recorded). k.base) value ∙ c.take-held.ensures.base)
     (subst (λ (k : Recorded). Follows (λ e. e.worker) c.args.offer.now.worker k.entries (history c.args.seat)) (sym value)
-      (subst (λ n. Follows (λ e. e.worker) n (value_of c.take-held.result).entries (history c.args.seat)) (sym c.requires.worker) c.take-held.ensures.begins))
+    (subst (λ n. Follows (λ e. e.worker) n (value_of c.take-held.result).entries (history c.args.seat)) (sym c.requires.worker) c.take-held.ensures.begins))
     (c.give.ensures.list ∙ c.commit-verdict.ensures.entries)

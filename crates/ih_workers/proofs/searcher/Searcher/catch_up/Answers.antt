@@ -54,6 +54,6 @@ loop-self-preserved g c =
       few = seen-few (base_of c.args.desk.now) H r within.replica;
       reached = omega (arith, longer, reached);
       turns = spent (credit (turns_left c.args.seat) c.args.self.now) (turns_left c.loop-self.next) c.loop-self.self.replica.seen (turns_left c.look-next-in-loop-self.result) r.seen c.front-goal.result (length H)
-      (unspent (credit (turns_left c.args.seat) c.args.self.now) (turns_left c.loop-self.next) c.loop-self.self.replica.seen c.front-goal.result short before.turns) look.turns (omega (arith, longer, reached)) look.seen;
+          (unspent (credit (turns_left c.args.seat) c.args.self.now) (turns_left c.loop-self.next) c.loop-self.self.replica.seen c.front-goal.result short before.turns) look.turns (omega (arith, longer, reached)) look.seen;
       stream = look.stream ∙ before.stream;
     }
