@@ -4,6 +4,3 @@
 mod desk;
 
 pub use desk::Desk;
-
-#[cfg(test)]
-mod tests;

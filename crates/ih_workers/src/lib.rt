@@ -1,14 +1,10 @@
 //! The workers of a search: each prices its draws on a replica of its own and offers them at a desk, all side by side.
 #![tactic(auto)]
 
-#[cfg(test)]
-mod example;
 mod laws;
 mod passing;
 mod running;
 mod searcher;
-#[cfg(test)]
-mod tests;
 mod worker;
 
 pub use laws::finished_searches_are_full;
