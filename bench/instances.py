@@ -1,0 +1,34 @@
+"""Instances for the benchmarks."""
+import random
+
+
+def generated(patients):
+    """An instance of so many patients, with as many rooms, nurses, surgeons and theatres for each of them as the generated one of 400."""
+    pick = random.Random(patients).randrange
+    scale = lambda n: max(1, round(n * patients / 400))
+    rooms, nurses, surgeons, theatres = scale(25), scale(50), scale(10), scale(5)
+    types = ["early", "late", "night"]
+    def needs(stay):
+        return [1 + pick(3) for _ in range(3 * stay)], [pick(3) for _ in range(3 * stay)]
+    def patient(i):
+        stay = 1 + pick(6)
+        work_, skill = needs(stay)
+        release = pick(28)
+        one = {"id": "p%d" % i, "mandatory": i % 20 == 0, "gender": "AB"[pick(2)], "age_group": "g%d" % pick(4), "length_of_stay": stay,
+               "surgery_release_day": release, "surgery_duration": 30 + 30 * pick(4), "surgeon_id": "s%d" % pick(surgeons),
+               "incompatible_room_ids": ["r%d" % pick(rooms)], "workload_produced": work_, "skill_level_required": skill}
+        if one["mandatory"]:
+            one["surgery_due_day"] = min(27, release + pick(8))
+        return one
+    return {
+        "days": 28, "skill_levels": 3, "shift_types": types, "age_groups": ["g%d" % i for i in range(4)],
+        "weights": {"room_mixed_age": 5, "room_nurse_skill": 10, "continuity_of_care": 5, "nurse_eccessive_workload": 1, "open_operating_theater": 30,
+                    "surgeon_transfer": 10, "patient_delay": 10, "unscheduled_optional": 300},
+        "surgeons": [{"id": "s%d" % i, "max_surgery_time": [480] * 28} for i in range(surgeons)],
+        "operating_theaters": [{"id": "t%d" % i, "availability": [600] * 28} for i in range(theatres)],
+        "rooms": [{"id": "r%d" % i, "capacity": 1 + pick(3)} for i in range(rooms)],
+        "nurses": [{"id": "n%d" % n, "skill_level": pick(3),
+                    "working_shifts": [{"day": d, "shift": types[(n + d) % 4], "max_load": 5 + pick(11)} for d in range(28) if (n + d) % 4 < 3]}
+                   for n in range(nurses)],
+        "occupants": [], "patients": [patient(i) for i in range(patients)],
+    }
