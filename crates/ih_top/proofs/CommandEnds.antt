@@ -1,21 +1,30 @@
 -- What the ends of the commands have in common: each may fail to be said, and at each memory may run out.
-use Rattle.std.proofs.Common.{◌≡◌, refl, inl, inr, List, ℕ, Option, Some, None}
+use Rattle.std.proofs.Common.{◌≡◌, refl, inl, inr, List, [], ℕ, Option, Some, None}
+use Rattle.std.specs.Prelude.{◌≢◌}
+use Rattle.ih_journal.specs.declared.entries.Entry.{Entry}
+use Rattle.ih_journal.specs.declared.refusals.JournalRefusal.{JournalRefusal}
+use Rattle.ih_journal.specs.Base.{Base}
 use Rattle.ih_words.specs.Solve.{SolveCall}
 use Rattle.ih_words.specs.Check.{CheckCall}
-use Rattle.ih_words.specs.Words.{Call, call_of, solve, check}
+use Rattle.ih_words.specs.Generate.{GenCall}
+use Rattle.ih_words.specs.Replay.{ReplayCall}
+use Rattle.ih_words.specs.Words.{Call, call_of, solve, replay, salvage, check, gen, demo}
 use Rattle.ih_words.proofs.CallNames.{out-differs}
-use Rattle.ih_shelf.specs.Outside.{Names, Told}
+use Rattle.ih_shelf.specs.Outside.{IsWritten, MayBeWritten, Names, Told}
 use Rattle.ih_top.specs.declared.status.Status.{Status}
 use Rattle.ih_top.specs.declared.status.Status.TheVariants.{Done, Usage, ReadFault, InstanceRefused, StartRefused, NoneFound, WriteFault, OutOfMemory, JournalRefused, Infeasible, TooLong}
 use Rattle.ih_top.specs.declared.status.Role.TheVariants.{Instance, Solution, Journal, Out}
 use Rattle.ih_top.specs.Answers.{unsaid}
-use Rattle.ih_top.specs.Texts.{memory_text}
+use Rattle.ih_top.specs.Texts.{done_text, memory_text, salvaged_text}
 use Rattle.ih_top.specs.Inputs.{Reading, EndsUnread}
 use Rattle.ih_top.specs.Solving.{SolveEnds, Unchanged}
 use Rattle.ih_top.specs.Checking.{CheckEnds}
+use Rattle.ih_top.specs.Demo.{DemoEnds}
+use Rattle.ih_top.specs.Generating.{GenEnds}
+use Rattle.ih_top.specs.Replaying.{EndsUnreadJournal, HasBest, IsHeadless, IsRefusedJournal, IsReplay, IsSalvage, JournalEnds, JournalRead}
 use Rattle.ih_top.specs.Ends.{CallEnds, OutDiffers}
 use Rattle.ih_top.proofs.Saying.{IsAnswerable}
-use Rattle.ih_top.proofs.Writing.{done-found, none-begun}
+use Rattle.ih_top.proofs.Writing.{begun, done-found, none-begun}
 
 -- nothing changes where the names are those that were there
 pub told-same : (old new : Option Names) → new ≡ old → Told Unchanged old new
@@ -39,7 +48,24 @@ unread-unsaid files r Infeasible text h = absurd h
 unread-unsaid files r (TooLong role) text h = h
 
 pub unread-answerable : (files : Option Names) (r : Reading) → IsAnswerable (EndsUnread files r)
-unread-answerable files r = record { unsaid = unread-unsaid files r; memory = λ status text h. refl }
+unread-answerable files r = record { unsaid = λ status text some h. unread-unsaid files r status text h; memory = λ status text h. refl }
+
+unread_journal-unsaid : (files : Option Names) (r : ReplayCall) (status : Status) (text : List ℕ) → EndsUnreadJournal files r status text
+    → EndsUnreadJournal files r (unsaid status) text
+unread_journal-unsaid files r Done text h = absurd h
+unread_journal-unsaid files r Usage text h = h
+unread_journal-unsaid files r (ReadFault role) text h = h
+unread_journal-unsaid files r (InstanceRefused e) text h = h
+unread_journal-unsaid files r (StartRefused e) text h = h
+unread_journal-unsaid files r NoneFound text h = h
+unread_journal-unsaid files r (WriteFault role) text h = h
+unread_journal-unsaid files r OutOfMemory text h = h
+unread_journal-unsaid files r (JournalRefused e) text h = h
+unread_journal-unsaid files r Infeasible text h = absurd h
+unread_journal-unsaid files r (TooLong role) text h = h
+
+pub unread_journal-answerable : (files : Option Names) (r : ReplayCall) → IsAnswerable (EndsUnreadJournal files r)
+unread_journal-answerable files r = record { unsaid = λ status text some h. unread_journal-unsaid files r status text h; memory = λ status text h. refl }
 
 -- ---- solve
 
@@ -75,7 +101,7 @@ module _ (s : SolveCall) (old new : Option Names) where
   solve-memory (TooLong role) text h = (inl h.0, refl)
 
   pub solve-answerable : IsAnswerable (SolveEnds s old new)
-  solve-answerable = record { unsaid = solve-unsaid; memory = solve-memory }
+  solve-answerable = record { unsaid = λ status text some h. solve-unsaid status text h; memory = solve-memory }
 
 -- ---- check
 
@@ -94,18 +120,151 @@ module _ (c : CheckCall) (files : Option Names) where
   check-unsaid (TooLong role) text h = h
 
   pub check-answerable : IsAnswerable (CheckEnds c files)
-  check-answerable = record { unsaid = check-unsaid; memory = λ status text h. refl }
+  check-answerable = record { unsaid = λ status text some h. check-unsaid status text h; memory = λ status text h. refl }
+
+-- ---- replay and salvage
+
+module _ (taken : JournalRead → Base → List Entry → Type 0) (refused : JournalRead → JournalRefusal → Type 0) (said : Base → List Entry → ℕ → List ℕ)
+    (r : ReplayCall) (old new : Option Names) where
+  abbrev OfJournal : Status → List ℕ → Type 0
+  OfJournal status text = JournalEnds taken refused said r old new status text
+
+  journal-unsaid : (status : Status) (text : List ℕ) → OfJournal status text → OfJournal (unsaid status) text
+  journal-unsaid Done text h = h
+  journal-unsaid Usage text h = h
+  journal-unsaid (ReadFault role) text h = h
+  journal-unsaid (InstanceRefused e) text h = h
+  journal-unsaid (StartRefused e) text h = h
+  journal-unsaid NoneFound text h = h
+  journal-unsaid (WriteFault role) text h = h
+  journal-unsaid OutOfMemory text h = h
+  journal-unsaid (JournalRefused e) text h = h
+  journal-unsaid Infeasible text h = absurd h.1
+  journal-unsaid (TooLong role) text h = h
+
+  best-begun : HasBest taken IsWritten r old new → HasBest taken MayBeWritten r old new
+  best-begun d = record {
+    read = d.read;
+    base = d.base;
+    history = d.history;
+    place = d.place;
+    given = d.given;
+    taken_is = d.taken_is;
+    best = d.best;
+    written = begun r.out _ old new d.written;
+  }
+
+  journal-memory : (status : Status) (text : List ℕ) → OfJournal status text → OfJournal OutOfMemory memory_text
+  journal-memory Done text h = (inr (best-begun h.0), refl)
+  journal-memory Usage text h = (inl h.0, refl)
+  journal-memory (ReadFault role) text h = (inl h.0, refl)
+  journal-memory (InstanceRefused e) text h = (inl h.0, refl)
+  journal-memory (StartRefused e) text h = (inl h.0, refl)
+  journal-memory NoneFound text h = (inl h.0, refl)
+  journal-memory (WriteFault None) text h = (inr (best-begun h.0), refl)
+  journal-memory (WriteFault (Some Instance)) text h = (inl h.0, refl)
+  journal-memory (WriteFault (Some Solution)) text h = (inl h.0, refl)
+  journal-memory (WriteFault (Some Journal)) text h = (inl h.0, refl)
+  journal-memory (WriteFault (Some Out)) text h = (inr h.0, refl)
+  journal-memory OutOfMemory text h = (h.0, refl)
+  journal-memory (JournalRefused e) text h = (inl h.0, refl)
+  journal-memory Infeasible text h = (inl h.0, refl)
+  journal-memory (TooLong role) text h = (inl h.0, refl)
+
+  pub journal-answerable : IsAnswerable (JournalEnds taken refused said r old new)
+  journal-answerable = record { unsaid = λ status text some h. journal-unsaid status text h; memory = journal-memory }
+
+  -- a call that comes no further than its files changes none
+  pub unread-journal : Told Unchanged old new → (status : Status) (text : List ℕ) → EndsUnreadJournal old r status text → OfJournal status text
+  unread-journal same Done text h = absurd h
+  unread-journal same Usage text h = (same, h)
+  unread-journal same (ReadFault role) text h = (same, h)
+  unread-journal same (InstanceRefused e) text h = (same, h)
+  unread-journal same (StartRefused e) text h = (same, h)
+  unread-journal same NoneFound text h = absurd h
+  unread-journal same (WriteFault role) text h = absurd h
+  unread-journal same OutOfMemory text h = (inl same, h)
+  unread-journal same (JournalRefused e) text h = absurd h
+  unread-journal same Infeasible text h = (same, h)
+  unread-journal same (TooLong role) text h = (same, h)
+
+-- ---- gen
+
+module _ (g : GenCall) (old new : Option Names) where
+  gen-unsaid : (status : Status) (text : List ℕ) → text ≢ [] → GenEnds g old new status text → GenEnds g old new (unsaid status) text
+  gen-unsaid Done text some h = absurd (some h.1)
+  gen-unsaid Usage text some h = h
+  gen-unsaid (ReadFault role) text some h = h
+  gen-unsaid (InstanceRefused e) text some h = h
+  gen-unsaid (StartRefused e) text some h = h
+  gen-unsaid NoneFound text some h = h
+  gen-unsaid (WriteFault role) text some h = h
+  gen-unsaid OutOfMemory text some h = h
+  gen-unsaid (JournalRefused e) text some h = h
+  gen-unsaid Infeasible text some h = absurd h
+  gen-unsaid (TooLong role) text some h = h
+
+  gen-memory : (status : Status) (text : List ℕ) → GenEnds g old new status text → GenEnds g old new OutOfMemory memory_text
+  gen-memory Done text h = (begun g.out _ old new h.0, refl)
+  gen-memory Usage text h = absurd h
+  gen-memory (ReadFault role) text h = absurd h
+  gen-memory (InstanceRefused e) text h = absurd h
+  gen-memory (StartRefused e) text h = absurd h
+  gen-memory NoneFound text h = absurd h
+  gen-memory (WriteFault None) text h = absurd h
+  gen-memory (WriteFault (Some Instance)) text h = absurd h
+  gen-memory (WriteFault (Some Solution)) text h = absurd h
+  gen-memory (WriteFault (Some Journal)) text h = absurd h
+  gen-memory (WriteFault (Some Out)) text h = (h.0, refl)
+  gen-memory OutOfMemory text h = (h.0, refl)
+  gen-memory (JournalRefused e) text h = absurd h
+  gen-memory Infeasible text h = absurd h
+  gen-memory (TooLong role) text h = absurd h
+
+  pub gen-answerable : IsAnswerable (GenEnds g old new)
+  gen-answerable = record { unsaid = gen-unsaid; memory = gen-memory }
+
+-- ---- demo
+
+module _ (number : ℕ) where
+  demo-unsaid : (status : Status) (text : List ℕ) → DemoEnds number status text → DemoEnds number (unsaid status) text
+  demo-unsaid Done text h = h
+  demo-unsaid Usage text h = h
+  demo-unsaid (ReadFault role) text h = h
+  demo-unsaid (InstanceRefused e) text h = h
+  demo-unsaid (StartRefused e) text h = h
+  demo-unsaid NoneFound text h = h
+  demo-unsaid (WriteFault role) text h = h
+  demo-unsaid OutOfMemory text h = h
+  demo-unsaid (JournalRefused e) text h = h
+  demo-unsaid Infeasible text h = absurd h
+  demo-unsaid (TooLong role) text h = h
+
+  pub demo-answerable : IsAnswerable (DemoEnds number)
+  demo-answerable = record { unsaid = λ status text some h. demo-unsaid status text h; memory = λ status text h. refl }
 
 -- ---- any command
 
+-- a call that leaves the files as they are, and has an end of a family beside
+beside : (kept : Type 0) (ends : Status → List ℕ → Type 0) → IsAnswerable ends → IsAnswerable (λ status text. kept × ends status text)
+beside kept ends able = record {
+  unsaid = λ status text some h. (h.0, able.unsaid status text some h.1);
+  memory = λ status text h. (h.0, able.memory status text h.1);
+}
+
 pub call-answerable : (call : Call) (old new : Option Names) → IsAnswerable (CallEnds call old new)
 call-answerable (solve s) old new = solve-answerable s old new
-call-answerable (check c) old new = record {
-  unsaid = λ status text h. (h.0, (check-answerable c old).unsaid status text h.1);
-  memory = λ status text h. (h.0, refl);
-}
+call-answerable (replay r) old new = journal-answerable (IsReplay r.start) (IsRefusedJournal r.start) done_text r old new
+call-answerable (salvage r) old new = journal-answerable (IsSalvage r.start) IsHeadless salvaged_text r old new
+call-answerable (check c) old new = beside (Told Unchanged old new) (CheckEnds c old) (check-answerable c old)
+call-answerable (gen g) old new = gen-answerable g old new
+call-answerable (demo number) old new = beside (Told Unchanged old new) (DemoEnds number) (demo-answerable number)
 
 -- the words that name a call keep its solution apart from its journal
 pub out-apart : (words : List (List ℕ)) (call : Call) → call_of words ≡ Some call → OutDiffers call
 out-apart words (solve s) h = out-differs words s h
+out-apart words (replay r) h = tt
+out-apart words (salvage r) h = tt
 out-apart words (check c) h = tt
+out-apart words (gen g) h = tt
+out-apart words (demo number) h = tt

@@ -1,21 +1,37 @@
 -- A call whose files are accepted, and in which no count rose, comes to its end.
-use Rattle.std.proofs.Common.{◌≡◌, ℕ, refl, sym, ◌∙◌, subst, arith, inl, inr, List, Option, Some, None}
-use Rattle.std.specs.Prelude.{◌⊎◌, Result, Ok, Err}
+use Rattle.std.proofs.Common.{◌≡◌, ℕ, refl, sym, ◌∙◌, ap, ap₂, subst, arith, inl, inr, List, length, Option, Some, None}
+use Rattle.std.specs.Prelude.{◌⊎◌, Result, Ok, Err, IfSome}
 use Rattle.ih_tables.specs.declared.drafts.Draft.{Draft}
 use Rattle.ih_tables.specs.declared.refusals.Refusal.{Refusal}
 use Rattle.ih_plan.specs.Timetable.{Timetable}
+use Rattle.ih_journal.specs.declared.entries.Entry.{Entry}
+use Rattle.ih_journal.specs.declared.refusals.JournalRefusal.{JournalRefusal}
+use Rattle.ih_journal.specs.declared.settings.Options.{Options}
+use Rattle.ih_journal.specs.Base.{Base}
+use Rattle.ih_journal.specs.Legal.{IsFull}
+use Rattle.ih_journal.specs.Texts.{heading, lines_from}
+use Rattle.ih_journal.proofs.HeadTexts.{heading_lacks, headings_differ, lawful_short}
+use Rattle.ih_gen.specs.Generated.{generated}
 use Rattle.ih_instance.specs.Instance.{instance}
 use Rattle.ih_solution.specs.Reading.{plan_in}
 use Rattle.ih_words.specs.Solve.{SolveCall}
 use Rattle.ih_words.specs.Check.{CheckCall}
-use Rattle.ih_words.specs.Words.{Call, solve, check}
+use Rattle.ih_words.specs.Generate.{GenCall}
+use Rattle.ih_words.specs.Replay.{ReplayCall}
+use Rattle.ih_words.specs.Words.{Call, solve, replay, salvage, check, gen, demo}
 use Rattle.ih_shelf.specs.Outside.{Names, Rose, bytes_at}
+use Rattle.ih_top.specs.declared.files.TheConstants.{MAX_JOURNAL}
 use Rattle.ih_top.specs.declared.status.Status.{Status}
 use Rattle.ih_top.specs.declared.status.Role.{Role}
 use Rattle.ih_top.specs.declared.status.Status.TheVariants.{Done, Usage, ReadFault, InstanceRefused, StartRefused, NoneFound, WriteFault, OutOfMemory, JournalRefused, Infeasible, TooLong}
 use Rattle.ih_top.specs.declared.status.Role.TheVariants.{Instance, Solution, Journal, Out}
-use Rattle.ih_top.specs.Inputs.{Reading, EndsUnread, HasInputs, HasPlan, HasSolution, IsNext, solve_reading, check_reading}
+use Rattle.ih_top.specs.Inputs.{Reading, EndsUnread, HasInputs, HasPlan, HasSolution, IsLongerThan, IsNext, solve_reading, check_reading, replay_reading}
+use Rattle.ih_top.specs.Starts.{started}
+use Rattle.ih_top.specs.Texts.{done_text, salvaged_text}
+use Rattle.ih_top.specs.Generating.{GenEnds}
+use Rattle.ih_top.specs.Replaying.{EndsUnreadJournal, HasRead, IsHeadedBy, IsHeadless, IsRefused, IsRefusedJournal, IsReplay, IsSalvage, JournalEnds, JournalRead}
 use Rattle.ih_top.specs.Ends.{Ends, CallEnds, Leaves, HasCause, IsAnswered, IsComplete}
+use Rattle.ih_top.proofs.FirstLines.{first-apart}
 
 -- ---- files that are accepted
 
@@ -46,6 +62,79 @@ module _ (files : Names) (r : Reading) (I : Draft) (P : Timetable) (has : HasInp
   accepted (TooLong Solution) text (J, name, next, long, said) = absurd (let short = (given J name next).short in omega arith)
   accepted (TooLong Journal) text h = absurd h
   accepted (TooLong Out) text h = absurd h
+
+-- ---- journals that are accepted
+
+-- a timetable is read from its file in one way
+same-plan : (files : Names) (o : Option (List ℕ)) (I : Draft) (P Q : Timetable) → HasPlan (Some files) o I P → HasPlan (Some files) o I Q → P ≡ Q
+same-plan files None I P Q first second = first ∙ sym second
+same-plan files (Some name) I P Q first second = let same : Ok P ≡ Ok Q = sym first.read ∙ second.read in cc
+
+base-same : (b c : Base) → b.instance ≡ c.instance → b.start ≡ c.start → b.options ≡ c.options → b.freeze ≡ c.freeze → b ≡ c
+base-same b c i s o f =
+    ap (λ (t : Draft × Timetable × Options × ℕ). let base : Base = record { instance = t.0; start = t.1; options = t.2; freeze = t.3 } in base)
+    (let all : (b.instance, b.start, b.options, b.freeze) ≡ (c.instance, c.start, c.options, c.freeze) = rw (i, s, o, f) refl in all)
+
+module _ (files : Names) (r : ReplayCall) (x : JournalRead) (has : HasRead (Some files) r x) where
+  same-instance : (y : JournalRead) → HasRead (Some files) r y → y.instance ≡ x.instance
+  same-instance y other = let same : Ok y.instance ≡ Ok x.instance = sym other.inputs.instance.read ∙ has.inputs.instance.read in cc
+
+  same-start : (y : JournalRead) → HasRead (Some files) r y → y.plan ≡ x.plan
+  same-start y other = same-plan files r.start.file x.instance y.plan x.plan
+      (subst (λ (J : Draft). HasPlan (Some files) r.start.file J y.plan) (same-instance y other) other.inputs.plan) has.inputs.plan
+
+  same-bytes : (y : JournalRead) → HasRead (Some files) r y → y.bytes ≡ x.bytes
+  same-bytes y other = sym other.journal.held ∙ has.journal.held
+
+  module _ (b : Base) (lines : List ℕ) (headed : IsHeadedBy r.start x b lines) where
+    -- a journal with a heading isn't refused for it
+    not-headless : (e : JournalRefusal) → IsRefused IsHeadless r (Some files) e → ⊥
+    not-headless e h = h.why.none b.options lines headed.lawful headed.seed (same-bytes h.read h.given ∙ headed.joins)
+
+    -- the heading and the lines are found in one way
+    same-search : (y : JournalRead) (c : Base) (more : List ℕ) → HasRead (Some files) r y → IsHeadedBy r.start y c more → (c ≡ b) × (more ≡ lines)
+    same-search y c more other found =
+        let short_b = lawful_short b.options headed.lawful headed.seed in
+        let short_c = lawful_short c.options found.lawful found.seed in
+        let cut = first-apart (heading c.options) (heading b.options) more lines (heading_lacks c.options short_c) (heading_lacks b.options short_b)
+        (sym found.joins ∙ (same-bytes y other ∙ headed.joins)) in
+        let options = headings_differ c.options b.options short_c short_b cut.0 in
+        let instance = found.started.instance ∙ (same-instance y other ∙ sym headed.started.instance) in
+        let start : c.start ≡ b.start = found.started.start
+        ∙ (ap₂ (λ (o : Options) (t : Draft × Timetable). started r.start.fill o.hard t.0 t.1) options
+        (let both : (y.instance, y.plan) ≡ (x.instance, x.plan) = rw (same-instance y other, same-start y other) refl in both)
+        ∙ sym headed.started.start) in
+        (base-same c b instance start options (found.started.freeze ∙ sym headed.started.freeze), cut.1)
+
+  -- the journal of a full history isn't refused
+  not-refused : (b : Base) (H : List Entry) → IsReplay r.start x b H → (e : JournalRefusal) → IsRefused (IsRefusedJournal r.start) r (Some files) e → ⊥
+  not-refused b H is e h = elim h.why [
+    | inl headless ↦ not-headless b (lines_from b.options 0 H) is.headed e (record { read = h.read; given = h.given; why = headless })
+    | inr line ↦
+        let same = same-search b (lines_from b.options 0 H) is.headed h.read line.base line.bytes h.given line.headed in
+        line.none H (subst (λ (c : Base). IsFull c H) (sym same.0) is.full)
+        (same.1 ∙ ap (λ (c : Base). lines_from c.options 0 H) (sym same.0))
+  ]
+
+  -- nor is it too long
+  not-long : IfSome (Some files) (IsLongerThan MAX_JOURNAL r.journal) → ⊥
+  not-long long = let short = has.journal.short in let held = ap length has.journal.held in omega (arith, short, long, held)
+
+  journal-accepted : (status : Status) (text : List ℕ) → EndsUnreadJournal (Some files) r status text → ((role : Role) × (status ≡ ReadFault role)) ⊎ (status ≡ OutOfMemory)
+  journal-accepted Done text h = absurd h
+  journal-accepted Usage text h = absurd h
+  journal-accepted (ReadFault role) text h = inl (role, refl)
+  journal-accepted (InstanceRefused e) text h = accepted files (replay_reading r) x.instance x.plan has.inputs (InstanceRefused e) text h
+  journal-accepted (StartRefused e) text h = accepted files (replay_reading r) x.instance x.plan has.inputs (StartRefused e) text h
+  journal-accepted NoneFound text h = absurd h
+  journal-accepted (WriteFault role) text h = absurd h
+  journal-accepted OutOfMemory text h = inr refl
+  journal-accepted (JournalRefused e) text h = absurd h
+  journal-accepted Infeasible text h = absurd h
+  journal-accepted (TooLong Instance) text h = accepted files (replay_reading r) x.instance x.plan has.inputs (TooLong Instance) text h
+  journal-accepted (TooLong Solution) text h = accepted files (replay_reading r) x.instance x.plan has.inputs (TooLong Solution) text h
+  journal-accepted (TooLong Journal) text h = absurd (not-long h.1)
+  journal-accepted (TooLong Out) text h = absurd h
 
 -- ---- answers
 
@@ -88,11 +177,73 @@ module _ (reads reads' writes writes' puts puts' : ℕ) (calm : (Rose reads read
     check-answered c I P has Infeasible cause ends = inr (inl refl)
     check-answered c I P has (TooLong role) cause (text, h, g) = unread-answered (IsAnswered (check c) (TooLong role)) (TooLong role) cause (accepted files (check_reading c) I P has (TooLong role) text h.1) (λ m. inr (inr m))
 
+    module _ (r : ReplayCall) (x : JournalRead) (has : HasRead (Some files) r x) where
+      abbrev Answered : Status → Type 0
+      Answered status = (status ≡ Done) ⊎ (status ≡ NoneFound) ⊎ (status ≡ OutOfMemory)
+
+      journal-unread : (status : Status) (text : List ℕ) → Caused status → EndsUnreadJournal (Some files) r status text → Answered status
+      journal-unread status text cause h = unread-answered (Answered status) status cause (journal-accepted files r x has status text h) (λ m. inr (inr m))
+
+      journal-answered : (taken : JournalRead → Base → List Entry → Type 0) (refused : JournalRead → JournalRefusal → Type 0) (said : Base → List Entry → ℕ → List ℕ)
+          → ((e : JournalRefusal) → IsRefused refused r (Some files) e → ⊥) → (status : Status) → Caused status
+          → Ends (JournalEnds taken refused said r (Some files) new) gained part status → Answered status
+      journal-answered taken refused said never Done cause ends = inl refl
+      journal-answered taken refused said never Usage cause (text, h, g) = absurd h.1
+      journal-answered taken refused said never (ReadFault role) cause (text, h, g) = absurd (calm cause)
+      journal-answered taken refused said never (InstanceRefused e) cause (text, h, g) = journal-unread (InstanceRefused e) text cause h.1
+      journal-answered taken refused said never (StartRefused e) cause (text, h, g) = journal-unread (StartRefused e) text cause h.1
+      journal-answered taken refused said never NoneFound cause ends = inr (inl refl)
+      journal-answered taken refused said never (WriteFault None) cause ends = absurd (heard cause)
+      journal-answered taken refused said never (WriteFault (Some role)) cause ends = absurd (kept cause)
+      journal-answered taken refused said never OutOfMemory cause ends = inr (inr refl)
+      journal-answered taken refused said never (JournalRefused e) cause (text, h, g) = absurd (never e h.1)
+      journal-answered taken refused said never Infeasible cause (text, h, g) = absurd h.1
+      journal-answered taken refused said never (TooLong role) cause (text, h, g) = journal-unread (TooLong role) text cause h.1
+
+    gen-answered : (g : GenCall) (status : Status) → Caused status → Ends (GenEnds g (Some files) new) gained part status → IsAnswered (gen g) status
+    gen-answered g Done cause ends = inl refl
+    gen-answered g Usage cause (text, h, s) = absurd h
+    gen-answered g (ReadFault role) cause (text, h, s) = absurd h
+    gen-answered g (InstanceRefused e) cause (text, h, s) = absurd h
+    gen-answered g (StartRefused e) cause (text, h, s) = absurd h
+    gen-answered g NoneFound cause (text, h, s) = absurd h
+    gen-answered g (WriteFault None) cause ends = absurd (heard cause)
+    gen-answered g (WriteFault (Some role)) cause ends = absurd (kept cause)
+    gen-answered g OutOfMemory cause ends = inr refl
+    gen-answered g (JournalRefused e) cause (text, h, s) = absurd h
+    gen-answered g Infeasible cause (text, h, s) = absurd h
+    gen-answered g (TooLong role) cause (text, h, s) = absurd h
+
+    demo-answered : (number : ℕ) (I : Draft) → instance (generated number) ≡ Ok I → (status : Status) → Caused status
+        → Ends (CallEnds (demo number) (Some files) new) gained part status → IsAnswered (demo number) status
+    demo-answered number I is Done cause ends = inl refl
+    demo-answered number I is Usage cause (text, h, g) = absurd h.1
+    demo-answered number I is (ReadFault role) cause (text, h, g) = absurd h.1
+    demo-answered number I is (InstanceRefused e) cause (text, h, g) = absurd (not-both (instance (generated number)) I e is h.1.0)
+    demo-answered number I is (StartRefused e) cause (text, h, g) = absurd h.1
+    demo-answered number I is NoneFound cause ends = inr (inl refl)
+    demo-answered number I is (WriteFault None) cause ends = absurd (heard cause)
+    demo-answered number I is (WriteFault (Some role)) cause ends = absurd (kept cause)
+    demo-answered number I is OutOfMemory cause ends = inr (inr refl)
+    demo-answered number I is (JournalRefused e) cause (text, h, g) = absurd h.1
+    demo-answered number I is Infeasible cause (text, h, g) = absurd h.1
+    demo-answered number I is (TooLong role) cause (text, h, g) = absurd h.1
+
 pub complete : (call : Call) (old new : Option Names) (gained part : List ℕ → Type 0) (reads reads' writes writes' puts puts' : ℕ) (status : Status)
     → Leaves (Some call) old new gained part status → HasCause reads reads' writes writes' puts puts' status
     → IsComplete (Some call) old (Rose reads reads') (Rose writes writes') (Rose puts puts') status
 complete call None new gained part reads reads' writes writes' puts puts' status ends cause = tt
 complete (solve s) (Some files) new gained part reads reads' writes writes' puts puts' status ends cause = λ (I, P, has) calm kept heard.
     solve-answered reads reads' writes writes' puts puts' calm kept heard files new gained part s I P has status cause ends
+complete (replay r) (Some files) new gained part reads reads' writes writes' puts puts' status ends cause = λ (x, b, H, has, is) calm kept heard.
+    journal-answered reads reads' writes writes' puts puts' calm kept heard files new gained part r x has (IsReplay r.start) (IsRefusedJournal r.start) done_text
+    (not-refused files r x has b H is) status cause ends
+complete (salvage r) (Some files) new gained part reads reads' writes writes' puts puts' status ends cause = λ (x, b, lines, has, headed) calm kept heard.
+    journal-answered reads reads' writes writes' puts puts' calm kept heard files new gained part r x has (IsSalvage r.start) IsHeadless salvaged_text
+    (not-headless files r x has b lines headed) status cause ends
+complete (gen g) (Some files) new gained part reads reads' writes writes' puts puts' status ends cause = λ has calm kept heard.
+    gen-answered reads reads' writes writes' puts puts' calm kept heard files new gained part g status cause ends
+complete (demo number) (Some files) new gained part reads reads' writes writes' puts puts' status ends cause = λ (I, is) calm kept heard.
+    demo-answered reads reads' writes writes' puts puts' calm kept heard files new gained part number I is status cause ends
 complete (check c) (Some files) new gained part reads reads' writes writes' puts puts' status ends cause = λ (I, P, has) calm kept heard.
     check-answered reads reads' writes writes' puts puts' calm kept heard files new gained part c I P has status cause ends

@@ -1,11 +1,14 @@
-pub mod AttemptLemmas
 pub mod Checks
 pub mod CommandEnds
 pub mod Completeness
 pub mod EntrySteps
-pub mod FreezeLemmas
+pub mod FirstLines
+pub mod JournalLaws
+pub mod JournalOutcomes
 pub mod LegalEntries
-pub mod Rounds
 pub mod Saying
+pub mod SeatLemmas
 pub mod Steps
+pub mod TakenHistories
+pub mod TakenLines
 pub mod Writing

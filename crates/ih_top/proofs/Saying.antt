@@ -1,7 +1,7 @@
 -- How an answer with its text becomes the end of the call.
-use Rattle.std.proofs.Common.{◌≡◌, ℕ, refl, sym, ap, ◌∙◌, subst, arith, inl, inr, List, ◌++◌, length, Option, Some, None}
+use Rattle.std.proofs.Common.{◌≡◌, ℕ, refl, sym, ap, ◌∙◌, subst, arith, inl, inr, List, [], ◌++◌, length, Option, Some, None}
 use Rattle.std.specs.Prelude.{◌≢◌, Result, Ok, Err, IfOk}
-use Rattle.std.proofs.lemmas.List.{take_all}
+use Rattle.std.proofs.lemmas.List.{append-nil, take_all}
 use Rattle.ih_shelf.specs.declared.outside.WriteError.{WriteError}
 use Rattle.ih_shelf.specs.declared.outside.WriteError.TheVariants.{Fault, OutOfMemory as NoMemory}
 use Rattle.ih_shelf.specs.Outside.{Told, IsAppended}
@@ -24,7 +24,7 @@ said_by view status text (Err e) a made memory = inl memory
 
 -- Of each end whose text couldn't be put out, and of each at which memory ran out as its text was made, the family has that end too.
 pub record IsAnswerable (ends : Status → List ℕ → Type 0) : Type 0 where
-  pub unsaid : (status : Status) (text : List ℕ) → ends status text → ends (unsaid status) text
+  pub unsaid : (status : Status) (text : List ℕ) → text ≢ [] → ends status text → ends (unsaid status) text
   pub memory : (status : Status) (text : List ℕ) → ends status text → ends OutOfMemory memory_text
 
 module _ (ends : Status → List ℕ → Type 0) (able : IsAnswerable ends) where
@@ -41,7 +41,25 @@ module _ (ends : Status → List ℕ → Type 0) (able : IsAnswerable ends) wher
   pub memory-answer : (a : Answer) → ends OutOfMemory memory_text → a.status ≡ OutOfMemory → Answers ends a
   memory-answer a h memory = inl (memory, h)
 
+-- an answer whose ends all are ends of another family
+pub answers-weaker : (small large : Status → List ℕ → Type 0) → ((status : Status) (text : List ℕ) → small status text → large status text)
+    → (a : Answer) → Answers small a → Answers large a
+answers-weaker small large f a (inl (memory, h)) = inl (memory, f OutOfMemory memory_text h)
+answers-weaker small large f a (inr h) = inr (f a.status a.text.items h)
+
+-- what is said of a status comes for the same cause
+pub said-cause : (reads reads' writes writes' : ℕ) (status : Status) (text : List ℕ) (a : Answer) → IsSaid status text a → HasFileCause reads reads' writes writes' status
+    → HasFileCause reads reads' writes writes' a.status
+said-cause reads reads' writes writes' status text a (inl memory) cause = subst (HasFileCause reads reads' writes writes') (sym memory) tt
+said-cause reads reads' writes writes' status text a (inr h) cause = subst (HasFileCause reads reads' writes writes') (sym h.0) cause
+
 -- ---- what is put out
+
+-- an empty text is put out where nothing changes
+pub nothing-appended : (old new : Option (List ℕ)) (text : List ℕ) → text ≡ [] → new ≡ old → Told (IsAppended text) old new
+nothing-appended None new text none same = tt
+nothing-appended (Some old) None text none same = absurd (let clash : None ≡ Some old = same in cc)
+nothing-appended (Some old) (Some new) text none same = let here : new ≡ old = cc in here ∙ sym (ap (λ t. old ++ t) none ∙ append-nil old)
 
 pub whole-part : (old new : Option (List ℕ)) (text : List ℕ) → Told (IsAppended text) old new → GainedPart old new text
 whole-part None new text h = tt
@@ -78,16 +96,16 @@ at-status ends gained part (TooLong role) text other h g = (text, h, g)
 
 -- the answer's text was put out, as far as that went
 pub ended : (ends : Status → List ℕ → Type 0) (able : IsAnswerable ends) (gained part : List ℕ → Type 0) (a : Answer) (result : Status)
-    → Answers ends a → IsConcluded a.status (gained a.text.items) (part a.text.items) (part memory_text) result → Ends ends gained part result
+    → Answers ends a → IsConcluded a.status a.text.items (gained a.text.items) (part a.text.items) (part memory_text) result → Ends ends gained part result
 ended ends able gained part a result (inl (memory, h)) (inl (here, there, rest)) = subst (Ends ends gained part) (sym there) (OutOfMemory, memory_text, h, rest)
 ended ends able gained part a result (inl (memory, h)) (inr (other, rest)) = absurd (other memory)
 ended ends able gained part a result (inr h) (inl (here, there, rest)) =
     subst (Ends ends gained part) (sym there) (OutOfMemory, memory_text, able.memory a.status a.text.items h, rest)
 ended ends able gained part a result (inr h) (inr (other, inl (there, g))) =
     subst (Ends ends gained part) (sym there) (at-status ends gained part a.status a.text.items other h g)
-ended ends able gained part a result (inr h) (inr (other, inr (inl (there, g)))) =
+ended ends able gained part a result (inr h) (inr (other, inr (inl (there, some, g)))) =
     subst (Ends ends gained part) (sym there)
-    (at-status ends gained part (unsaid a.status) a.text.items (unsaid-other a.status other) (able.unsaid a.status a.text.items h) g)
+    (at-status ends gained part (unsaid a.status) a.text.items (unsaid-other a.status other) (able.unsaid a.status a.text.items some h) g)
 ended ends able gained part a result (inr h) (inr (other, inr (inr (there, p)))) = subst (Ends ends gained part) (sym there) (a.status, a.text.items, h, p)
 
 -- ---- causes

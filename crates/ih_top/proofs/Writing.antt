@@ -1,5 +1,5 @@
 -- What the two writes of a search leave.
-use Rattle.std.proofs.Common.{◌≡◌, ℕ, sym, ap, ◌∙◌, subst, arith, inr, List, length, Option, Some, None}
+use Rattle.std.proofs.Common.{◌≡◌, ℕ, sym, ap, ◌∙◌, subst, arith, inl, inr, List, length, Option, Some, None}
 use Rattle.std.specs.Prelude.{◌≢◌}
 use Rattle.std.proofs.lemmas.List.{take_all}
 use Rattle.ih_shelf.specs.Outside.{Names, Told, PartOr, IsWritten, MayBeWritten}
@@ -10,7 +10,7 @@ use Rattle.ih_words.specs.Solve.{SolveCall}
 use Rattle.ih_top.specs.declared.output.Output.{Output}
 use Rattle.ih_top.specs.declared.output.BestOutput.{BestOutput}
 use Rattle.ih_top.specs.Outputs.{IsOutput, IsBestOutput, HasBestOutput}
-use Rattle.ih_top.specs.Solving.{HasBase, IsSearch, BeginsJournal, WritesJournal, BeginsSolution, WritesBoth, HasBegun, HasFoundNone, HasFound, IsDone, solution_at}
+use Rattle.ih_top.specs.Solving.{Unchanged, HasBase, IsSearch, BeginsJournal, WritesJournal, BeginsSolution, WritesBoth, HasBegun, HasFoundNone, HasFound, IsDone, solution_at}
 
 -- ---- what is told of two states
 
@@ -30,6 +30,16 @@ told-then P Q R (Some x) (Some y) (Some z) f h k = f x y z h k
 
 pub whole-text : (text : List ℕ) (old new : Option (List ℕ)) → new ≡ Some text → PartOr text old new
 whole-text text old new h = inr (length text, h ∙ ap (λ t. Some t) (sym (take_all (length text) text (omega arith))))
+
+-- what is written whole is begun
+pub begun : (name bytes : List ℕ) (old new : Option Names) → Told (IsWritten name bytes) old new → Told (MayBeWritten name bytes) old new
+begun name bytes old new h = told-weaker (IsWritten name bytes) (MayBeWritten name bytes) old new
+    (λ x y w. record { part = whole-text bytes (x name) (y name) w.whole; others = w.others }) h
+
+-- what isn't touched is begun nowhere
+pub untouched : (name bytes : List ℕ) (old new : Option Names) → Told Unchanged old new → Told (MayBeWritten name bytes) old new
+untouched name bytes old new h = told-weaker Unchanged (MayBeWritten name bytes) old new
+    (λ x y same. record { part = inl (same name); others = λ n apart. same n }) h
 
 pub done-found : (s : SolveCall) (old new : Option Names) (text : List ℕ) → IsDone s old new text → HasFound s old new
 done-found s old new text done = record {

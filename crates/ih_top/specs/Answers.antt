@@ -1,5 +1,5 @@
 -- A command's answer, and what its status becomes as its text is put out.
-use Rattle.std.specs.Prelude.{◌≡◌, ◌≢◌, ℕ, ◌⊎◌, Bool, true, false, List, Some, None, Result, Ok, Err}
+use Rattle.std.specs.Prelude.{◌≡◌, ◌≢◌, ℕ, ◌⊎◌, Bool, true, false, List, [], Some, None, Result, Ok, Err}
 use Rattle.ih_shelf.specs.Outside.{Rose}
 use Rattle.ih_shelf.specs.declared.outside.WriteError.{WriteError}
 use Rattle.ih_shelf.specs.declared.outside.WriteError.TheVariants.{Fault, OutOfMemory as NoMemory}
@@ -26,11 +26,11 @@ checked_status false = Infeasible
 abbrev pub Answers : (Status → List ℕ → Type 0) → Answer → Type 0
 Answers ends a = ((a.status ≡ OutOfMemory) × ends OutOfMemory memory_text) ⊎ ends a.status a.text.items
 
--- The sink gained the text, whole or as far as its fault let it, or a part where memory ran out.
-abbrev pub IsConcluded : Status → Type 0 → Type 0 → Type 0 → Status → Type 0
-IsConcluded status gained part memory result =
+-- The sink gained the text, whole or as far as its fault let it, or a part where memory ran out. An empty text isn't put out.
+abbrev pub IsConcluded : Status → List ℕ → Type 0 → Type 0 → Type 0 → Status → Type 0
+IsConcluded status text gained part memory result =
     ((status ≡ OutOfMemory) × (result ≡ OutOfMemory) × memory)
-    ⊎ ((status ≢ OutOfMemory) × (((result ≡ status) × gained) ⊎ ((result ≡ unsaid status) × gained) ⊎ ((result ≡ OutOfMemory) × part)))
+    ⊎ ((status ≢ OutOfMemory) × (((result ≡ status) × gained) ⊎ ((result ≡ unsaid status) × (text ≢ []) × gained) ⊎ ((result ≡ OutOfMemory) × part)))
 
 -- the status is that of an unsaid text only where the sink's count rose
 abbrev pub HasPutCause : Status → ℕ → ℕ → Status → Type 0

@@ -1,15 +1,22 @@
 -- How a call of the program ends: what it then has read, written and said, by its status.
-use Rattle.std.specs.Prelude.{◌≡◌, ◌≢◌, ℕ, ◌⊎◌, List, ◌++◌, take, Option, Some, None}
+use Rattle.std.specs.Prelude.{◌≡◌, ◌≢◌, ℕ, ◌⊎◌, List, ◌++◌, take, Option, Some, None, Ok}
 use Rattle.ih_tables.specs.declared.drafts.Draft.{Draft}
 use Rattle.ih_plan.specs.Timetable.{Timetable}
-use Rattle.ih_words.specs.Words.{Call, solve, check}
+use Rattle.ih_journal.specs.declared.entries.Entry.{Entry}
+use Rattle.ih_journal.specs.Base.{Base}
+use Rattle.ih_gen.specs.Generated.{generated}
+use Rattle.ih_instance.specs.Instance.{instance}
+use Rattle.ih_words.specs.Words.{Call, solve, replay, salvage, check, gen, demo}
 use Rattle.ih_shelf.specs.Outside.{Names, Rose, Told}
 use Rattle.ih_top.specs.declared.status.Status.{Status}
 use Rattle.ih_top.specs.declared.status.Status.TheVariants.{Done, Usage, ReadFault, NoneFound, WriteFault, OutOfMemory, Infeasible}
 use Rattle.ih_top.specs.Answers.{unsaid}
 use Rattle.ih_top.specs.Inputs.{solve_reading, check_reading, HasInputs}
 use Rattle.ih_top.specs.Solving.{Unchanged, SolveEnds}
+use Rattle.ih_top.specs.Replaying.{HasRead, IsHeadedBy, IsReplay, JournalRead, ReplayEnds, SalvageEnds}
 use Rattle.ih_top.specs.Checking.{CheckEnds}
+use Rattle.ih_top.specs.Generating.{GenEnds}
+use Rattle.ih_top.specs.Demo.{DemoEnds}
 use Rattle.ih_top.specs.Texts.{usage_text, memory_text}
 
 -- ---- the sink
@@ -29,15 +36,19 @@ GainedPart (Some old) (Some new) text = (k : ℕ) × (new ≡ old ++ take k text
 
 -- ---- a call with lawful words
 
--- What a call has read and written, and the text that it had to say, by its status. A check writes nothing.
+-- What a call has read and written, and the text that it had to say, by its status. A check and a demo write nothing.
 abbrev pub CallEnds : Call → Option Names → Option Names → Status → List ℕ → Type 0
 CallEnds (solve s) old new status text = SolveEnds s old new status text
+CallEnds (replay r) old new status text = ReplayEnds r old new status text
+CallEnds (salvage r) old new status text = SalvageEnds r old new status text
 CallEnds (check c) old new status text = Told Unchanged old new × CheckEnds c old status text
+CallEnds (gen g) old new status text = GenEnds g old new status text
+CallEnds (demo number) old new status text = Told Unchanged old new × DemoEnds number status text
 
 -- the file of the solution isn't that of the journal
 abbrev pub OutDiffers : Call → Type 0
 OutDiffers (solve s) = s.out ≢ s.journal
-OutDiffers (check c) = Unit {0}
+OutDiffers call = Unit {0}
 
 -- At each status the sink gained the text that the call had to say there. Where memory ran out, it gained a prefix of the text that
 -- says so, or of the text of a status that the call had reached.
@@ -68,14 +79,23 @@ HasCause reads reads' writes writes' puts puts' status = Unit {0}
 -- the answers of a call that has all that it needs
 abbrev pub IsAnswered : Call → Status → Type 0
 IsAnswered (solve s) status = (status ≡ Done) ⊎ (status ≡ NoneFound) ⊎ (status ≡ OutOfMemory)
+IsAnswered (replay r) status = (status ≡ Done) ⊎ (status ≡ NoneFound) ⊎ (status ≡ OutOfMemory)
+IsAnswered (salvage r) status = (status ≡ Done) ⊎ (status ≡ NoneFound) ⊎ (status ≡ OutOfMemory)
 IsAnswered (check c) status = (status ≡ Done) ⊎ (status ≡ Infeasible) ⊎ (status ≡ OutOfMemory)
+IsAnswered (gen g) status = (status ≡ Done) ⊎ (status ≡ OutOfMemory)
+IsAnswered (demo number) status = (status ≡ Done) ⊎ (status ≡ NoneFound) ⊎ (status ≡ OutOfMemory)
 
--- the files that a call reads are as they ought to be
+-- The files that a call reads are as they ought to be: the journal of replay is that of a full history, and that of salvage has
+-- its heading. A gen and a demo read none, but the instance that a demo generates has to be one.
 abbrev pub HasFiles : Call → Names → Type 0
 HasFiles (solve s) files = (I : Draft) × (P : Timetable) × HasInputs (Some files) (solve_reading s) I P
+HasFiles (replay r) files = (x : JournalRead) × (b : Base) × (H : List Entry) × HasRead (Some files) r x × IsReplay r.start x b H
+HasFiles (salvage r) files = (x : JournalRead) × (b : Base) × (bytes : List ℕ) × HasRead (Some files) r x × IsHeadedBy r.start x b bytes
 HasFiles (check c) files = (I : Draft) × (P : Timetable) × HasInputs (Some files) (check_reading c) I P
+HasFiles (gen g) files = Unit {0}
+HasFiles (demo number) files = (I : Draft) × (instance (generated number) ≡ Ok I)
 
--- Where the words are lawful, the files are accepted and no count rose, there are three answers.
+-- Where the words are lawful, the files are accepted and no count rose, there are two or three answers.
 abbrev pub IsComplete : Option Call → Option Names → Type 0 → Type 0 → Type 0 → Status → Type 0
 IsComplete None files read wrote put status = Unit {0}
 IsComplete (Some call) None read wrote put status = Unit {0}

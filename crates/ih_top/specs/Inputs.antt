@@ -7,6 +7,8 @@ use Rattle.ih_instance.specs.Instance.{instance}
 use Rattle.ih_solution.specs.Reading.{plan_in}
 use Rattle.ih_words.specs.Solve.{SolveCall}
 use Rattle.ih_words.specs.Check.{CheckCall}
+use Rattle.ih_words.specs.Replay.{ReplayCall}
+use Rattle.ih_words.specs.Start.{StartCall}
 use Rattle.ih_shelf.specs.Outside.{Names, bytes_at}
 use Rattle.ih_top.specs.declared.inputs.InputNames.{InputNames}
 use Rattle.ih_top.specs.declared.status.Status.{Status}
@@ -23,17 +25,28 @@ pub record Reading : Type 0 where
 abbrev pub reading_of : InputNames → Reading
 reading_of n = record { instance = n.instance.now; solution = option_map (λ t. t.now) n.solution }
 
+-- an instance, and the file of a start
+abbrev pub start_reading : List ℕ → StartCall → Reading
+start_reading instance s = record { instance = instance; solution = s.file }
+
 abbrev pub solve_reading : SolveCall → Reading
-solve_reading s = record { instance = s.instance; solution = s.start }
+solve_reading s = start_reading s.instance s.start
+
+abbrev pub replay_reading : ReplayCall → Reading
+replay_reading r = start_reading r.instance r.start
 
 abbrev pub check_reading : CheckCall → Reading
 check_reading c = record { instance = c.instance; solution = Some c.solution }
 
 -- ---- where a shelf tells what it holds
 
--- the file has more bytes than it may
+-- the file has more bytes than so many
+abbrev pub IsLongerThan : ℕ → List ℕ → Names → Type 0
+IsLongerThan limit name files = limit < length (bytes_at files name)
+
+-- the file of an instance or of a timetable has more bytes than it may
 abbrev pub IsLong : List ℕ → Names → Type 0
-IsLong name files = MAX_FILE < length (bytes_at files name)
+IsLong name files = IsLongerThan MAX_FILE name files
 
 -- the file is within its limit, and is an instance with this data
 pub record HasInstance (name : List ℕ) (I : Draft) (files : Names) : Type 0 where

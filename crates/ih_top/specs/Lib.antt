@@ -1,9 +1,16 @@
 pub mod Answers
 pub mod Checking
 pub mod Codes
+pub mod Demo
 pub mod Ends
+pub mod Generating
 pub mod Inputs
+pub mod Journals
+pub mod Laws
+pub mod Outcomes
 pub mod Outputs
+pub mod Replaying
 pub mod Searching
 pub mod Solving
+pub mod Starts
 pub mod Texts

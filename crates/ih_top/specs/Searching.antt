@@ -1,25 +1,15 @@
--- A search whose workers take turns: what it is given, and how far it has come.
-use Rattle.std.specs.Prelude.{◌≡◌, ℕ, length, ◌+◌, ◌<◌, ◌≤◌, List, [], ◌∷◌, ◌++◌, slice_get, Some, false, if◌then◌else◌, int_lt}
-use Rattle.ih_tables.specs.declared.bills.Bill.{Bill}
-use Rattle.ih_tables.specs.Bills.{score, feasible, cost, add_bills}
-use Rattle.ih_tables.specs.Sizes.{sizes_of}
-use Rattle.ih_plan.specs.declared.moves.Move.{Move}
-use Rattle.ih_plan.specs.Timetable.{Timetable, IsPlanOf}
-use Rattle.ih_plan.specs.BillOf.{bill_of}
-use Rattle.ih_plan.specs.Draws.{stream_at}
-use Rattle.ih_journal.specs.declared.entries.Entry.{Entry}
+-- A search of workers at one desk: what it is given, and who sits where.
+use Rattle.std.specs.Prelude.{◌≡◌, ℕ, ◌+◌, ◌*◌, ◌<◌, List, [], ◌++◌, length, map, slice_index, slice_index_or, All}
+use Rattle.std.specs.List.{AllZip}
+use Rattle.ih_plan.specs.Timetable.{IsPlanOf}
 use Rattle.ih_journal.specs.Base.{Base}
-use Rattle.ih_journal.specs.declared.entries.Verdict.{Verdict}
-use Rattle.ih_journal.specs.declared.entries.Verdict.TheVariants.{Accepted, Declined, Frozen}
-use Rattle.ih_journal.specs.Settings.{IsLawful, theta}
-use Rattle.ih_journal.specs.Frozen.{AgreesBefore, is_frozen}
-use Rattle.ih_journal.specs.Attempts.{HasMade, is_stale}
-use Rattle.ih_journal.specs.History.{after_entry, plan_after, plan_at, is_accepted}
-use Rattle.ih_journal.specs.Legal.{AreLegal}
-use Rattle.ih_journal.specs.Best.{BestIs, best_with}
-use Rattle.ih_costs.specs.Standing.{Standing}
+use Rattle.ih_journal.specs.Settings.{IsLawful, most_entries}
+use Rattle.ih_turn.specs.Seats.{history, number_of, made_count, turns_left}
+use Rattle.ih_desk.specs.declared.desk.Desk.{Desk}
+use Rattle.ih_desk.specs.Desks.{base_of as opened_base, worker_count, DeskSeat, IsSeatAt}
+use Rattle.ih_workers.specs.declared.worker.Worker.{Worker}
+use Rattle.ih_workers.specs.Workers.{Finishes, Holds, IsNewWorker}
 use Rattle.ih_top.specs.declared.search.Given.{Given}
-use Rattle.ih_top.specs.declared.search.Progress.{Progress}
 
 abbrev pub base_of : Given → Base
 base_of g = record { instance = g.inst.now.draft; start = g.start.now; options = g.options; freeze = g.freeze }
@@ -28,55 +18,34 @@ pub record IsGiven (b : Base) : Type 0 where
   pub start : IsPlanOf b.instance b.start
   pub lawful : IsLawful b.options
 
--- the verdict on a move that nobody came before: frozen, too dear, or else accepted
-abbrev pub judged : Base → Timetable → Move → ℕ → Bill → Verdict
-judged b P m number price =
-    if is_frozen b P m then Frozen
-    else if int_lt (theta b.options number) (score b.options.hard b.instance.weights price) then Declined
-    else Accepted
+-- a seat of the desk that has seen and made nothing, with all its turns left
+pub record IsFresh (desk : Desk) (s : DeskSeat) : Type 0 where
+  pub own : IsSeatAt desk s
+  pub history : history s ≡ []
+  pub made : made_count s ≡ 0
+  pub turns : turns_left s ≡ 4 * most_entries (opened_base desk).options + 16
 
--- what follows from the entries is kept beside them
-pub record IsProgress (b : Base) (s : Progress) : Type 0 where
-  pub legal : AreLegal b s.entries.items
-  pub instance : s.ledgers.instance ≡ b.instance
-  pub plan : s.ledgers.plan ≡ plan_after b s.entries.items
-  pub fits : IsPlanOf b.instance s.ledgers.plan
-  pub touched : s.touched.sizes ≡ sizes_of b.instance
-  pub bill : s.bill ≡ bill_of b.instance s.ledgers.plan
-  pub best : BestIs b s.entries.items s.best
-  pub agrees : (k : ℕ) → AgreesBefore b (plan_at b s.entries.items k)
+-- The desk was opened for a search over b, and these are its seats, by number.
+pub record IsOpened (b : Base) (desk : Desk) (seats : List DeskSeat) : Type 0 where
+  pub base : opened_base desk ≡ b
+  pub count : worker_count desk ≡ b.options.workers
+  pub many : length seats ≡ b.options.workers
+  pub numbers : (k : ℕ) → k < b.options.workers → slice_index (map number_of seats) k ≡ k
+  pub fresh : All (IsFresh desk) seats
 
--- one entry of a worker's move was added
-pub record HasGrown (old new : List Entry) (worker number : ℕ) : Type 0 where
-  pub entry : Entry
-  pub joins : new ≡ old ++ entry ∷ []
-  pub own : entry.worker ≡ worker
-  pub move : entry.number ≡ number
-  pub fresh : is_stale entry.verdict ≡ false
+-- For each of the seats a new worker came behind those who were there, in the order of the seats.
+pub record AreSeated (b : Base) (seats : List DeskSeat) (old new : List Worker) : Type 0 where
+  pub added : List Worker
+  pub joins : new ≡ old ++ added
+  pub each : AllZip (IsNewWorker b) added seats
 
--- the workers below v have made their moves below i + 1, and the others theirs below i
-pub record AreAt (b : Base) (H : List Entry) (streams : List (List ℕ)) (v i : ℕ) : Type 0 where
-  pub before : (w : ℕ) → w < v → HasMade b.options H w (i + 1)
-  pub behind : (w : ℕ) → v ≤ w → w < b.options.workers → HasMade b.options H w i
-  pub drawn : (w : ℕ) → w < v → slice_get streams w ≡ Some (stream_at b.options.seed w (i + 1))
-  pub waiting : (w : ℕ) → v ≤ w → w < b.options.workers → slice_get streams w ≡ Some (stream_at b.options.seed w i)
+-- Each worker has done its search.
+pub record HaveFinished (desk : Desk) (old new : List Worker) : Type 0 where
+  pub len : length new ≡ length old
+  pub each : (k : ℕ) (d : Worker) → k < length old → Finishes desk (slice_index_or old k d) (slice_index_or new k d)
 
--- the ledgers with the entry's move made, where it is accepted
-abbrev pub ledgers_with : Standing → Entry → Standing
-ledgers_with l e = record l { plan = after_entry l.instance l.plan e }
-
--- the bill with the entry's price added, where it is accepted
-abbrev pub bill_with : Bill → Entry → Bill
-bill_with bill e = if is_accepted e.verdict then add_bills bill e.price else bill
-
--- the entry's move made, where it is accepted
-abbrev pub applied : Progress → Entry → Progress
-applied s e = record s { ledgers = ledgers_with s.ledgers e; bill = bill_with s.bill e }
-
--- The entry was added, its move made where it is accepted, and the timetable noted that is then there.
-pub record IsTaken (b : Base) (old new : Progress) (e : Entry) : Type 0 where
-  pub entries : new.entries.items ≡ old.entries.items ++ e ∷ []
-  pub ledgers : new.ledgers ≡ ledgers_with old.ledgers e
-  pub touched : new.touched ≡ old.touched
-  pub bill : new.bill ≡ bill_with old.bill e
-  pub best : new.best ≡ best_with old.best (length old.entries.items + 1) (feasible new.bill) (cost b.instance.weights new.bill)
+-- The seats of the workers came behind those that were there, in the order of the workers.
+pub record HaveLeft (workers : List Worker) (old new : List DeskSeat) : Type 0 where
+  pub added : List DeskSeat
+  pub joins : new ≡ old ++ added
+  pub each : AllZip Holds workers added

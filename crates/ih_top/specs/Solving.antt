@@ -14,16 +14,16 @@ use Rattle.ih_shelf.specs.Outside.{Names, Told, PartOr}
 use Rattle.ih_top.specs.declared.status.Status.{Status}
 use Rattle.ih_top.specs.declared.status.Status.TheVariants.{Done, NoneFound, WriteFault, OutOfMemory}
 use Rattle.ih_top.specs.declared.status.Role.TheVariants.{Journal, Out}
-use Rattle.ih_top.specs.Inputs.{solve_reading, HasInputs, EndsUnread}
+use Rattle.ih_top.specs.Inputs.{solve_reading, EndsUnread}
+use Rattle.ih_top.specs.Starts.{HasStart}
 use Rattle.ih_top.specs.Texts.{none_found_text, memory_text, unwritten_text, done_text}
 
 -- ---- what a search is given, and what it makes
 
 -- what the files and the words give a search
 pub record HasBase (files : Option Names) (s : SolveCall) (b : Base) : Type 0 where
-  pub inputs : HasInputs files (solve_reading s) b.instance b.start
+  pub start : HasStart files s.instance s.start b
   pub options : b.options ≡ s.options
-  pub freeze : b.freeze ≡ s.freeze
 
 -- A full history over what the files and the words give. Each of its timetables agrees with the start on the choices before the
 -- freeze day.

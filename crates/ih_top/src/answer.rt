@@ -37,9 +37,9 @@ pub fn conclude_memory<R: Print, O: Sink>(rt: &R, out: &mut O) -> Status
     }
 }
 
-/// Puts the answer's text, in one put, and gives the status of the call.
+/// Puts the answer's text, in one put, and gives the status of the call. An empty text isn't put.
 pub fn conclude<R: Print, O: Sink>(rt: &R, out: &mut O, answer: &Answer) -> Status
-    ensures said { IsConcluded answer.now.status
+    ensures said { IsConcluded answer.now.status answer.now.text.items
         (Gained result (O.text out.old) (O.text out.new) (O.faults out.old) (O.faults out.new) answer.now.text.items)
         (GainedPart (O.text out.old) (O.text out.new) answer.now.text.items)
         (GainedPart (O.text out.old) (O.text out.new) memory_text) result }
@@ -47,6 +47,9 @@ pub fn conclude<R: Print, O: Sink>(rt: &R, out: &mut O, answer: &Answer) -> Stat
 {
     if let Status::OutOfMemory = answer.status {
         return conclude_memory(rt, out);
+    }
+    if answer.text.is_empty() {
+        return answer.status;
     }
     match out.put(rt, answer.text.as_slice()) {
         Ok(()) => answer.status,

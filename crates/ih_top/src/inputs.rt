@@ -31,7 +31,8 @@ pub struct Inputs {
     pub plan: Plan,
 }
 
-fn unread_file(alloc: Global, role: Role, name: &str, error: ReadError) -> Answer
+/// Says why a file gave no bytes.
+pub fn unread_file(alloc: Global, role: Role, name: &str, error: ReadError) -> Answer
     ensures { IsUnreadFile role name.now error result }
 {
     match error {

@@ -1,24 +1,27 @@
 //! What a search makes to be written and said.
 
-ghost use Rattle.std.specs.Prelude.{◌≡◌, ◌≤◌, ◌<◌, ◌^◌, IfOk, IfSome, length, string_bytes};
+ghost use Rattle.std.specs.Prelude.{◌≡◌, ◌≤◌, ◌<◌, ◌^◌, ◌++◌, IfOk, IfSome, length, string_bytes};
 ghost use Rattle.ih_tables.specs.Bills.{IsWithin};
 ghost use Rattle.ih_plan.specs.Timetable.{IsPlanOf};
 ghost use Rattle.ih_plan.specs.BillOf.{bill_of};
-ghost use Rattle.ih_journal.specs.Legal.{IsFull};
-ghost use Rattle.ih_journal.specs.Best.{IsBest};
+ghost use Rattle.ih_journal.specs.Legal.{AreLegal};
+ghost use Rattle.ih_journal.specs.Best.{BestIs, IsBest};
 ghost use Rattle.ih_top.specs.Searching.{base_of, IsGiven};
-ghost use Rattle.ih_top.specs.Texts.{best_line, found_text};
-ghost use Rattle.ih_top.specs.Outputs.{IsBestOutput, IsOutput};
+ghost use Rattle.ih_top.specs.Texts.{best_line, found_text, salvaged_line};
+ghost use Rattle.ih_top.specs.Outputs.{HasBestOutput, IsBestOutput, IsOutput};
 
 use crate::history::{journal_text, plan_at};
 use crate::search::{Given, search};
 use ih_journal::Entry;
 use ih_plan::Plan;
+use ih_shelf::Gate;
 use ih_solution::write_solution;
 use ih_tables::Instance;
 use ih_validate::{bill, report};
 use itoa::Buffer;
 use std::alloc::{AllocError, Global};
+use std::sync::Wait;
+use std::thread::Threads;
 
 /// The best of a history.
 #[derive(Drop)]
@@ -72,7 +75,7 @@ fn best_output(
     place: u32,
 ) -> Result<BestOutput, AllocError>
     requires given { IsGiven (base_of given.now) }
-    requires full { IsFull (base_of given.now) entries.now }
+    requires legal { AreLegal (base_of given.now) entries.now }
     requires few { length entries.now < 2 ^ 31 }
     requires best { IsBest (base_of given.now) entries.now place }
     ensures { IfOk result (IsBestOutput (base_of given.now) entries.now) }
@@ -84,18 +87,60 @@ fn best_output(
     })
 }
 
+/// The solution and the report of a history's best, where it has one.
+pub fn best_of(
+    alloc: Global,
+    given: &Given<'_>,
+    entries: &[Entry],
+    best: Option<(u32, i64)>,
+) -> Result<Option<BestOutput>, AllocError>
+    requires given { IsGiven (base_of given.now) }
+    requires legal { AreLegal (base_of given.now) entries.now }
+    requires few { length entries.now < 2 ^ 31 }
+    requires best { BestIs (base_of given.now) entries.now best }
+    ensures { IfOk result (HasBestOutput (base_of given.now) entries.now) }
+{
+    match best {
+        Some((place, _)) => Ok(Some(best_output(alloc, given, entries, place)?)),
+        None => Ok(None),
+    }
+}
+
+fn salvaged_line(alloc: Global, lines: u32) -> Result<String, AllocError>
+    ensures { IfOk result (λ s. string_bytes s ≡ salvaged_line lines) }
+{
+    let mut buffer = Buffer::new();
+    let lines = buffer.format(lines);
+    format!(in alloc; "salvaged {lines}\n")
+}
+
+/// The same best, said to be that of so many lines of a journal.
+pub fn salvaged(alloc: Global, best: BestOutput, lines: u32) -> Result<BestOutput, AllocError>
+    ensures solution { IfOk result (λ o. o.solution.items ≡ best.solution.items) }
+    ensures text { IfOk result (λ o. o.text.items ≡ salvaged_line lines ++ best.text.items) }
+{
+    let BestOutput { solution, text } = best;
+    let mut said = salvaged_line(alloc, lines)?.into_bytes();
+    said.extend_from_slice(text.as_slice())?;
+    Ok(BestOutput {
+        solution,
+        text: said,
+    })
+}
+
 /// Searches, and makes the journal, and the solution and the report of the best.
-pub fn make_output(alloc: Global, given: &Given<'_>) -> Result<Output, AllocError>
+pub fn make_output<R: Threads + Wait + Sync, G: Gate>(
+    rt: &R,
+    alloc: Global,
+    given: &Given<'_>,
+    gate: &G,
+) -> Result<Output, AllocError>
     requires { IsGiven (base_of given.now) }
     ensures { IfOk result (IsOutput (base_of given.now)) }
 {
-    let found = search(alloc, given)?;
-    let first_best = found.best;
-    let entries = found.entries.as_slice();
+    let book = search(rt, alloc, given, gate)?;
+    let entries = book.entries();
     let journal = journal_text(alloc, &given.options, entries)?;
-    let best = match first_best {
-        Some((place, _)) => Some(best_output(alloc, given, entries, place)?),
-        None => None,
-    };
+    let best = best_of(alloc, given, entries, book.best())?;
     Ok(Output { journal, best })
 }

@@ -26,7 +26,7 @@ pub fn run<R: Files + Print + Threads + Wait + Sync, S: Shelf, O: Sink, G: Gate>
     words: &[String],
     shelf: &mut S,
     out: &mut O,
-    _gate: &G,
+    gate: &G,
 ) -> Status
     // What the files then hold, and the text that was put out, by the call that the words name and the status. Where the shelf or
     // the sink doesn't tell what it holds, nothing is claimed of that.
@@ -47,7 +47,7 @@ pub fn run<R: Files + Print + Threads + Wait + Sync, S: Shelf, O: Sink, G: Gate>
 {
     match read_words(alloc, words) {
         Ok(command) => {
-            let answer = perform(rt, alloc, &command, shelf);
+            let answer = perform(rt, alloc, &command, shelf, gate);
             conclude(rt, out, &answer)
         }
         Err(WordsError::Unlawful) => conclude(rt, out, &usage(alloc)),

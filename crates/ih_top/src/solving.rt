@@ -13,12 +13,15 @@ use crate::answer::Answer;
 use crate::inputs::{InputNames, Inputs, read_inputs};
 use crate::output::{Output, make_output};
 use crate::search::Given;
+use crate::starts::begin;
 use crate::status::{Role, Status};
 use crate::texts::{none_found, out_of_memory, unwritten};
-use ih_shelf::Shelf;
+use ih_shelf::{Gate, Shelf};
 use ih_words::Solve;
 use std::alloc::{AllocError, Global};
 use std::rt::Files;
+use std::sync::Wait;
+use std::thread::Threads;
 
 // Writes the journal, then the solution of the best where there is one.
 fn write_output<R: Files, S: Shelf>(
@@ -50,42 +53,56 @@ fn write_output<R: Files, S: Shelf>(
 }
 
 // All that a search from what was read makes.
-fn prepare(alloc: Global, call: &Solve<'_>, inputs: &Inputs) -> Result<Output, AllocError>
-    requires plan { IsPlanOf inputs.now.inst.draft inputs.now.plan }
-    requires lawful { IsLawful call.now.options }
-    ensures { IfOk result (IsOutput (base_from (solve_call call.now) inputs.now)) }
-{
-    let given = Given {
-        inst: &inputs.inst,
-        start: &inputs.plan,
-        options: call.options,
-        freeze: call.freeze,
-    };
-    make_output(alloc, &given)
-}
-
-fn solve_inputs<R: Files, S: Shelf>(
+fn prepare<R: Threads + Wait + Sync, G: Gate>(
     rt: &R,
     alloc: Global,
     call: &Solve<'_>,
-    inputs: &Inputs,
+    inputs: Inputs,
+    gate: &G,
+) -> Result<Output, AllocError>
+    requires plan { IsPlanOf inputs.inst.draft inputs.plan }
+    requires lawful { IsLawful call.now.options }
+    ensures { IfOk result (IsOutput (base_from (solve_call call.now) inputs)) }
+{
+    let begun = begin(alloc, inputs, call.start.fill, call.options.hard)?;
+    let given = Given {
+        inst: &begun.inst,
+        start: &begun.plan,
+        options: call.options,
+        freeze: call.start.freeze,
+    };
+    make_output(rt, alloc, &given, gate)
+}
+
+fn solve_inputs<R: Files + Threads + Wait + Sync, S: Shelf, G: Gate>(
+    rt: &R,
+    alloc: Global,
+    call: &Solve<'_>,
+    inputs: Inputs,
     shelf: &mut S,
+    gate: &G,
 ) -> Answer
-    requires inputs { HasInputs (S.names shelf.old) (solve_reading (solve_call call.now)) inputs.now.inst.draft inputs.now.plan }
-    requires plan { IsPlanOf inputs.now.inst.draft inputs.now.plan }
+    requires inputs { HasInputs (S.names shelf.old) (solve_reading (solve_call call.now)) inputs.inst.draft inputs.plan }
+    requires plan { IsPlanOf inputs.inst.draft inputs.plan }
     requires differ { call.now.out.now ≢ call.now.journal.now }
     requires lawful { IsLawful call.now.options }
     ensures ends { Answers (SolveEnds (solve_call call.now) (S.names shelf.old) (S.names shelf.new)) result }
     ensures cause { HasFileCause (S.read_faults shelf.old) (S.read_faults shelf.new) (S.write_faults shelf.old) (S.write_faults shelf.new) result.status }
 {
-    match prepare(alloc, call, inputs) {
+    match prepare(rt, alloc, call, inputs, gate) {
         Ok(output) => write_output(rt, alloc, call, output, shelf),
         Err(_) => out_of_memory(alloc),
     }
 }
 
 /// Reads the instance and the start, searches, and writes the journal and the solution of the best.
-pub fn solve<R: Files, S: Shelf>(rt: &R, alloc: Global, call: &Solve<'_>, shelf: &mut S) -> Answer
+pub fn solve<R: Files + Threads + Wait + Sync, S: Shelf, G: Gate>(
+    rt: &R,
+    alloc: Global,
+    call: &Solve<'_>,
+    shelf: &mut S,
+    gate: &G,
+) -> Answer
     requires differ { call.now.out.now ≢ call.now.journal.now }
     requires lawful { IsLawful call.now.options }
     ensures ends { Answers (SolveEnds (solve_call call.now) (S.names shelf.old) (S.names shelf.new)) result }
@@ -93,10 +110,10 @@ pub fn solve<R: Files, S: Shelf>(rt: &R, alloc: Global, call: &Solve<'_>, shelf:
 {
     let names = InputNames {
         instance: call.instance,
-        solution: call.start,
+        solution: call.start.file,
     };
     match read_inputs(rt, alloc, &names, shelf) {
-        Ok(inputs) => solve_inputs(rt, alloc, call, &inputs, shelf),
+        Ok(inputs) => solve_inputs(rt, alloc, call, inputs, shelf, gate),
         Err(answer) => answer,
     }
 }

@@ -1,11 +1,12 @@
 //! The answers that carry a text of one line.
 
 ghost use Rattle.std.specs.Prelude.{◌≡◌, Some, string_bytes};
-ghost use Rattle.ih_top.specs.Texts.{none_found_text, instance_refused_text, solution_refused_text, too_long_text, unread_text, unwritten_text, usage_text};
+ghost use Rattle.ih_top.specs.Texts.{none_found_text, instance_refused_text, journal_refused_text, reason_text, solution_refused_text, too_long_text, unread_text, unwritten_text, usage_text};
 ghost use Rattle.ih_top.specs.Answers.{IsSaid, IsSaidOf, IsUnwritten};
 
 use crate::answer::Answer;
 use crate::status::{Role, Status};
+use ih_journal::{JournalRefusal, Reason};
 use ih_shelf::WriteError;
 use ih_tables::Refusal;
 use std::alloc::{AllocError, Global};
@@ -79,6 +80,36 @@ pub fn solution_refused(alloc: Global, refusal: Refusal) -> Answer
 {
     let text = format!(in alloc; "solution refused: {refusal}\n");
     said(alloc, Status::StartRefused(refusal), text)
+}
+
+fn reason_name(reason: Reason) -> &'static str
+    ensures { result.now ≡ reason_text reason }
+{
+    match reason {
+        Reason::Heading => "Heading",
+        Reason::Extra => "Extra",
+        Reason::Grammar => "Grammar",
+        Reason::Place => "Place",
+        Reason::Worker => "Worker",
+        Reason::Number => "Number",
+        Reason::Try => "Try",
+        Reason::Seen => "Seen",
+        Reason::Move => "Move",
+        Reason::Price => "Price",
+        Reason::Verdict => "Verdict",
+        Reason::Early => "Early",
+    }
+}
+
+/// The journal is refused.
+#[tactic(auto, using(crate::proofs::Saying::said_by))]
+pub fn journal_refused(alloc: Global, refusal: JournalRefusal) -> Answer
+    ensures { IsSaid (Status.JournalRefused refusal) (journal_refused_text refusal) result }
+{
+    let line = refusal.line;
+    let reason = reason_name(refusal.reason);
+    let text = format!(in alloc; "journal refused: line {line}: {reason}\n");
+    said(alloc, Status::JournalRefused(refusal), text)
 }
 
 /// No timetable of the history is feasible.

@@ -76,3 +76,34 @@ pub const OVERLAP: &str =
 /// Both patients in one theatre on one day.
 pub const FULL_THEATRE: &str =
     "V1 0\nV2 0\nV3 0\nV4 40\nV5 0\nV6 0\nV7 0\nV8 0\nV9 3\nS1 1 x 5 = 5\nS2 2 x 10 = 20\nS3 2 x 2 = 4\nS4 0 x 1 = 0\nS5 1 x 30 = 30\nS6 0 x 7 = 0\nS7 0 x 4 = 0\nS8 0 x 100 = 0\ncost 59\n";
+
+/// A search on the ward.
+pub const SEARCH: &str = "solve i o j --seed 0 --workers 1 --moves 2 --heat 0 --hard 1000";
+
+/// The same without a move.
+pub const NO_MOVES: &str = "solve i o j --seed 0 --workers 1 --moves 0 --heat 0 --hard 1000";
+
+/// The journal of the search on the ward.
+pub const JOURNAL: &str = "ihjournal 1 seed=0 workers=1 moves=2 heat=0 hard=1000
+0 0 0 0 nurserun:0,0,0,5 0,0,0,0,0,0,0,0,-3,0,1,1,0,0,0,0,0 accepted
+1 0 1 1 nurse:0,2,0 0,0,0,0,0,0,0,0,0,0,0,0,0,0,0,0,0 accepted
+";
+
+/// What is said of it.
+pub const FOUND: &str =
+    "best 1 of 2\nV1 0\nV2 0\nV3 0\nV4 0\nV5 0\nV6 0\nV7 0\nV8 0\nV9 0\nS1 0 x 5 = 0\nS2 1 x 10 = 10\nS3 1 x 2 = 2\nS4 0 x 1 = 0\nS5 0 x 30 = 0\nS6 0 x 7 = 0\nS7 0 x 4 = 0\nS8 0 x 100 = 0\ncost 12\n";
+
+/// A text that stands in no file.
+pub const NOTHING: &str = "~";
+
+/// What is said of a search on the instance that the number 7 generates.
+pub const DEMO: &str =
+    "demo 7\naccepted 904 declined 1096 stale 0\nbest 0 of 2000\nV1 0\nV2 0\nV3 0\nV4 0\nV5 0\nV6 0\nV7 0\nV8 0\nV9 0\nS1 132 x 5 = 660\nS2 20 x 10 = 200\nS3 1448 x 5 = 7240\nS4 1334 x 1 = 1334\nS5 52 x 30 = 1560\nS6 45 x 10 = 450\nS7 317 x 10 = 3170\nS8 75 x 300 = 22500\ncost 37114\n";
+
+/// The best of the two patients' greedy first timetable, with no move.
+pub const FILLED: &str =
+    "best 0 of 0\nV1 0\nV2 0\nV3 0\nV4 0\nV5 0\nV6 0\nV7 0\nV8 0\nV9 0\nS1 0 x 5 = 0\nS2 0 x 10 = 0\nS3 4 x 2 = 8\nS4 0 x 1 = 0\nS5 2 x 30 = 60\nS6 0 x 7 = 0\nS7 1 x 4 = 4\nS8 0 x 100 = 0\ncost 72\n";
+
+/// What is said of the search on the ward, where its journal is cut off inside its third line.
+pub const SALVAGED: &str =
+    "salvaged 1\nbest 1 of 1\nV1 0\nV2 0\nV3 0\nV4 0\nV5 0\nV6 0\nV7 0\nV8 0\nV9 0\nS1 0 x 5 = 0\nS2 1 x 10 = 10\nS3 1 x 2 = 2\nS4 0 x 1 = 0\nS5 0 x 30 = 0\nS6 0 x 7 = 0\nS7 0 x 4 = 0\nS8 0 x 100 = 0\ncost 12\n";

@@ -1,35 +1,15 @@
 //! Whole calls of the program, over files in memory.
 
 use crate::examples::{
-    CHECKED, COVERED_START, FULL_THEATRE, LONG_SURGERY, ONE_ADMITTED, OVERLAP, TWO_GENDERS,
-    TWO_PATIENTS, WARD,
+    CHECKED, COVERED_START, FOUND, FULL_THEATRE, JOURNAL, LONG_SURGERY, NO_MOVES, NOTHING,
+    ONE_ADMITTED, OVERLAP, SEARCH, TWO_GENDERS, TWO_PATIENTS, WARD,
 };
 use crate::trials::{call, holds, shelf_of, words_of};
 use ih_shelf::{MemShelf, MemSink, OpenGate};
 use ih_top::run;
 use std::test::Fail;
 
-const SEARCH: &str = "solve i o j --seed 0 --workers 1 --moves 2 --heat 0 --hard 1000";
-
-const NO_MOVES: &str = "solve i o j --seed 0 --workers 1 --moves 0 --heat 0 --hard 1000";
-
 const HEADING_ALONE: &str = "ihjournal 1 seed=0 workers=1 moves=0 heat=0 hard=1000\n";
-
-const JOURNAL: &str = "ihjournal 1 seed=0 workers=1 moves=2 heat=0 hard=1000
-0 0 0 0 nurserun:0,0,0,5 0,0,0,0,0,0,0,0,-3,0,1,1,0,0,0,0,0 accepted
-1 0 1 1 nurse:0,2,0 0,0,0,0,0,0,0,0,0,0,0,0,0,0,0,0,0 accepted
-";
-
-const TWO_WORKERS: &str = "solve i o j --seed 0 --workers 2 --moves 3 --heat 1000000 --hard 1000";
-
-const TURNS: &str = "ihjournal 1 seed=0 workers=2 moves=3 heat=1000000 hard=1000
-0 0 0 0 nurserun:1,0,0,5 0,0,0,0,0,0,0,0,-3,0,0,1,0,0,0,0,0 accepted
-1 1 0 1 swapnurses:5,0,0 0,0,0,0,0,0,0,0,0,0,0,0,0,0,0,0,0 accepted
-2 0 1 2 nurse:1,5,0 0,0,0,0,0,0,0,0,0,0,0,0,0,0,0,0,0 accepted
-3 1 1 3 setroom:1,0 0,0,0,0,0,0,0,0,0,0,0,0,0,0,0,0,0 accepted
-4 0 2 4 place:0,0,1,0 0,1,0,0,-1,0,0,0,5,0,0,1,0,1,0,0,0 accepted
-5 1 2 5 setroom:1,0 0,0,0,0,0,0,0,0,0,0,0,0,0,0,0,0,0 accepted
-";
 
 const FROM_START: &str =
     "solve i o j --seed 0 --workers 1 --moves 2 --heat 0 --hard 1000 --start s";
@@ -48,9 +28,6 @@ const RETRYING: &str = "ihjournal 2 seed=0 workers=1 moves=2 heat=0 hard=1000 re
 0 0 0 0 0 nurserun:1,0,0,5 0,0,0,0,0,0,0,0,0,0,-2,0,0,0,0,0,0 accepted
 1 0 1 0 1 nurse:1,5,0 0,0,0,0,0,0,0,0,0,0,0,0,0,0,0,0,0 accepted
 ";
-
-const FOUND: &str =
-    "best 1 of 2\nV1 0\nV2 0\nV3 0\nV4 0\nV5 0\nV6 0\nV7 0\nV8 0\nV9 0\nS1 0 x 5 = 0\nS2 1 x 10 = 10\nS3 1 x 2 = 2\nS4 0 x 1 = 0\nS5 0 x 30 = 0\nS6 0 x 7 = 0\nS7 0 x 4 = 0\nS8 0 x 100 = 0\ncost 12\n";
 
 const STAYED: &str =
     "best 0 of 0\nV1 0\nV2 0\nV3 0\nV4 0\nV5 0\nV6 0\nV7 0\nV8 0\nV9 0\nS1 0 x 5 = 0\nS2 1 x 10 = 10\nS3 1 x 2 = 2\nS4 0 x 1 = 0\nS5 0 x 30 = 0\nS6 0 x 7 = 0\nS7 0 x 4 = 0\nS8 0 x 100 = 0\ncost 12\n";
@@ -86,16 +63,12 @@ const LAST_ASSIGNMENT: &str = "\"night\",\"rooms\":[\"r0\"]}]}]}";
 const ANOTHER_NURSE: &str =
     "\"night\",\"rooms\":[\"r0\"]}]},{\"id\":\"n1\",\"assignments\":[{\"day\":0,\"shift\":\"early\",\"rooms\":[\"r0\"]}]}]}";
 
-/// A text that stands in no file.
-const NOTHING: &str = "~";
-
 #[test]
 fn searches(rt: HostRuntime) -> Result<(), Fail> {
     let alloc = rt.alloc();
     let rows = [
         (SEARCH, WARD, "", 0, FOUND, JOURNAL),
         (NO_MOVES, WARD, "", 5, "none found\n", HEADING_ALONE),
-        (TWO_WORKERS, TWO_PATIENTS, "", 5, "none found\n", TURNS),
         (STAYING, WARD, COVERED_START, 0, STAYED, HEADING_ALONE),
         (
             FROM_START,

@@ -29,8 +29,8 @@ pub fn call<R: Files + Print + Threads + Wait + Sync>(
     Ok(status.code())
 }
 
-// The text, in which `to` stands where `from` stood.
-fn changed(alloc: Global, text: &str, from: &str, to: &str) -> Result<String, Fail> {
+/// The text, in which `to` stands where `from` stood.
+pub fn changed(alloc: Global, text: &str, from: &str, to: &str) -> Result<String, Fail> {
     let mut made = String::new(alloc);
     match text.split_once(from) {
         None => made.push_str(text)?,

@@ -1,0 +1,142 @@
+-- What a journal comes to, and how the call ends then.
+use Rattle.std.proofs.Common.{◌≡◌, ◌∙◌, ℕ, refl, sym, ap, subst, inl, inr, List, [], ◌++◌, Option, Some, None}
+use Rattle.std.proofs.lemmas.List.{append-nil}
+use Rattle.ih_journal.specs.declared.entries.Entry.{Entry}
+use Rattle.ih_journal.specs.declared.refusals.JournalRefusal.{JournalRefusal}
+use Rattle.ih_journal.specs.Base.{Base}
+use Rattle.ih_words.specs.Replay.{ReplayCall}
+use Rattle.ih_words.specs.Start.{StartCall}
+use Rattle.ih_shelf.specs.Outside.{IsWritten, MayBeWritten, Names, Told}
+use Rattle.ih_top.specs.declared.answer.Answer.{Answer}
+use Rattle.ih_top.specs.declared.output.BestOutput.{BestOutput}
+use Rattle.ih_top.specs.declared.replaying.Outcome.{Outcome}
+use Rattle.ih_top.specs.declared.replaying.Outcome.TheVariants.{Refused, Taken}
+use Rattle.ih_top.specs.declared.status.Status.{Status}
+use Rattle.ih_top.specs.declared.status.Status.TheVariants.{Done, Usage, ReadFault, InstanceRefused, StartRefused, NoneFound, WriteFault, OutOfMemory, JournalRefused, Infeasible, TooLong}
+use Rattle.ih_top.specs.declared.status.Role.TheVariants.{Instance, Solution, Journal, Out}
+use Rattle.ih_top.specs.Answers.{Answers, unsaid}
+use Rattle.ih_top.specs.Outcomes.{AreFullLines, AreLines, IsLinesOutcome, IsOutcome, IsTaken, OutcomeEnds, WritesBest}
+use Rattle.ih_top.specs.Outputs.{HasBestSaid, IsBestSaid}
+use Rattle.ih_top.specs.Replaying.{HasBest, HasNoBest, HasRead, HasRefusedLine, IsHeadedBy, IsHeadless, IsRefused, IsRefusedJournal, IsReplay, IsSalvage, JournalEnds, JournalRead}
+use Rattle.ih_top.specs.Solving.{Unchanged, solution_at}
+use Rattle.ih_top.specs.Texts.{done_text, memory_text, salvaged_text}
+use Rattle.ih_top.proofs.Saying.{IsAnswerable, answers-weaker}
+use Rattle.ih_top.proofs.Writing.{begun, told-weaker}
+
+-- ---- the ends of an outcome
+
+module _ (o : Outcome) (out : List ℕ) (old new : Option Names) where
+  writes-begun : WritesBest IsWritten o out old new → WritesBest MayBeWritten o out old new
+  writes-begun w = record { best = w.best; is = w.is; written = begun out _ old new w.written }
+
+  outcome-unsaid : (status : Status) (text : List ℕ) → OutcomeEnds o out old new status text → OutcomeEnds o out old new (unsaid status) text
+  outcome-unsaid Done text h = h
+  outcome-unsaid Usage text h = h
+  outcome-unsaid (ReadFault role) text h = h
+  outcome-unsaid (InstanceRefused e) text h = h
+  outcome-unsaid (StartRefused e) text h = h
+  outcome-unsaid NoneFound text h = h
+  outcome-unsaid (WriteFault role) text h = h
+  outcome-unsaid OutOfMemory text h = h
+  outcome-unsaid (JournalRefused e) text h = h
+  outcome-unsaid Infeasible text h = absurd h
+  outcome-unsaid (TooLong role) text h = h
+
+  outcome-memory : (status : Status) (text : List ℕ) → OutcomeEnds o out old new status text → OutcomeEnds o out old new OutOfMemory memory_text
+  outcome-memory Done text h = (inr (writes-begun h.0), refl)
+  outcome-memory Usage text h = absurd h
+  outcome-memory (ReadFault role) text h = absurd h
+  outcome-memory (InstanceRefused e) text h = absurd h
+  outcome-memory (StartRefused e) text h = absurd h
+  outcome-memory NoneFound text h = (inl h.0, refl)
+  outcome-memory (WriteFault None) text h = (inr (writes-begun h.0), refl)
+  outcome-memory (WriteFault (Some Instance)) text h = absurd h
+  outcome-memory (WriteFault (Some Solution)) text h = absurd h
+  outcome-memory (WriteFault (Some Journal)) text h = absurd h
+  outcome-memory (WriteFault (Some Out)) text h = (inr h.0, refl)
+  outcome-memory OutOfMemory text h = (h.0, refl)
+  outcome-memory (JournalRefused e) text h = (inl h.0, refl)
+  outcome-memory Infeasible text h = absurd h
+  outcome-memory (TooLong role) text h = absurd h
+
+  pub outcome-answerable : IsAnswerable (OutcomeEnds o out old new)
+  outcome-answerable = record { unsaid = λ status text some h. outcome-unsaid status text h; memory = outcome-memory }
+
+-- ---- they are those of the call
+
+module _ (taken : JournalRead → Base → List Entry → Type 0) (refused : JournalRead → JournalRefusal → Type 0) (said : Base → List Entry → ℕ → List ℕ)
+    (r : ReplayCall) (old new : Option Names) (x : JournalRead) (given : HasRead old r x) where
+  abbrev OfCall : Status → List ℕ → Type 0
+  OfCall status text = JournalEnds taken refused said r old new status text
+
+  module _ (o : Outcome) (comes : IsOutcome (taken x) (refused x) said o) where
+    -- the best was taken from the journal
+    best-is : (best : BestOutput) → o ≡ Taken (Some best) → IsTaken (taken x) said (Some best)
+    best-is best is = subst (IsOutcome (taken x) (refused x) said) is comes
+
+    writes-best : (writes : List ℕ → List ℕ → Names → Names → Type 0) → (w : WritesBest writes o r.out old new)
+        → (d : HasBest taken writes r old new) × (w.best.text.items ≡ said d.base d.history d.place)
+    writes-best writes w =
+        let t = best-is w.best w.is in
+        let saved : IsBestSaid said t.base t.history w.best = t.output in (
+          record {
+            read = x;
+            base = t.base;
+            history = t.history;
+            place = saved.place;
+            given = given;
+            taken_is = t.taken_is;
+            best = saved.best;
+            written = subst (λ bytes. Told (writes r.out bytes) old new) saved.solution w.written;
+          },
+          saved.text,
+        )
+
+    finds-none : o ≡ Taken None → HasNoBest taken r old
+    finds-none is =
+        let t : IsTaken (taken x) said None = subst (IsOutcome (taken x) (refused x) said) is comes in
+        record { read = x; base = t.base; history = t.history; given = given; taken_is = t.taken_is; none = t.output }
+
+    is-refused : (e : JournalRefusal) → o ≡ Refused e → IsRefused refused r old e
+    is-refused e is = record { read = x; given = given; why = subst (IsOutcome (taken x) (refused x) said) is comes }
+
+    pub outcome-ends : (status : Status) (text : List ℕ) → OutcomeEnds o r.out old new status text → OfCall status text
+    outcome-ends Done text h = let d = writes-best IsWritten h.0 in (d.0, h.1 ∙ d.1)
+    outcome-ends Usage text h = absurd h
+    outcome-ends (ReadFault role) text h = absurd h
+    outcome-ends (InstanceRefused e) text h = absurd h
+    outcome-ends (StartRefused e) text h = absurd h
+    outcome-ends NoneFound text h = (h.0, finds-none h.1, h.2)
+    outcome-ends (WriteFault None) text h = let d = writes-best IsWritten h.0 in (d.0, h.1 ∙ d.1)
+    outcome-ends (WriteFault (Some Instance)) text h = absurd h
+    outcome-ends (WriteFault (Some Solution)) text h = absurd h
+    outcome-ends (WriteFault (Some Journal)) text h = absurd h
+    outcome-ends (WriteFault (Some Out)) text h = ((writes-best MayBeWritten h.0).0, h.1)
+    outcome-ends OutOfMemory text (inl same, said_is) = (inl same, said_is)
+    outcome-ends OutOfMemory text (inr w, said_is) = (inr (writes-best MayBeWritten w).0, said_is)
+    outcome-ends (JournalRefused e) text h = (h.0, is-refused e h.1, h.2)
+    outcome-ends Infeasible text h = absurd h
+    outcome-ends (TooLong role) text h = absurd h
+
+    pub outcome-answer : (a : Answer) → Answers (OutcomeEnds o r.out old new) a → Answers (JournalEnds taken refused said r old new) a
+    outcome-answer a h = answers-weaker (OutcomeEnds o r.out old new) OfCall outcome-ends a h
+
+-- ---- what the lines come to is what the journal comes to
+
+module _ (s : StartCall) (x : JournalRead) (b : Base) (lines : List ℕ) (headed : IsHeadedBy s x b lines) where
+  pub replay-outcome : (o : Outcome) → IsLinesOutcome b lines o → IsOutcome (IsReplay s x) (IsRefusedJournal s x) done_text o
+  replay-outcome (Refused e) t = inr (record { base = b; history = t.history; bytes = lines; headed = headed; refused = t.refused; none = t.none })
+  replay-outcome (Taken best) t = record {
+    base = b;
+    history = t.history;
+    taken_is = record { headed = subst (IsHeadedBy s x b) t.whole headed; full = t.full; agrees = t.agrees };
+    output = t.output;
+  }
+
+  pub salvage-outcome : (best : Option BestOutput) → AreLines b lines best → IsOutcome (IsSalvage s x) (IsHeadless x) salvaged_text (Taken best)
+  salvage-outcome best t = record {
+    base = b;
+    history = t.history;
+    taken_is = record { bytes = lines; rest = t.rest; headed = headed; begins = t.begins; agrees = t.agrees };
+    output = t.output;
+  }

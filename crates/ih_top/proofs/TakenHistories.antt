@@ -1,0 +1,58 @@
+-- A replay's history, said of the search that it is given.
+use Rattle.std.proofs.Common.{◌≡◌, ◌∙◌, ℕ, ◌<◌, ◌≤◌, ◌^◌, ◌*◌, ◌+◌, subst, sym, ap, ap₂, arith, List, ◌++◌, length, Option}
+use Rattle.ih_tables.specs.Valid.{IsValid}
+use Rattle.ih_journal.specs.declared.entries.Entry.{Entry}
+use Rattle.ih_journal.specs.declared.refusals.JournalRefusal.{JournalRefusal}
+use Rattle.ih_journal.specs.Base.{Base}
+use Rattle.ih_journal.specs.Frozen.{AgreesBefore}
+use Rattle.ih_journal.specs.History.{plan_at}
+use Rattle.ih_journal.specs.Legal.{IsFull}
+use Rattle.ih_journal.specs.Texts.{lines_from}
+use Rattle.ih_cellbook.specs.Keeping.{IsBase}
+use Rattle.ih_cellbook.specs.Laws.{AreFew}
+use Rattle.ih_top.specs.declared.output.BestOutput.{BestOutput}
+use Rattle.ih_top.specs.Journals.{Begins, IsRefusedAt}
+use Rattle.ih_top.specs.Laws.{RefusedLinesAreNotFull}
+use Rattle.ih_top.specs.Outcomes.{AreFullLines, AreLines, AreRefusedLines}
+use Rattle.ih_top.specs.Outputs.{HasBestOutput, HasBestSaid, IsBestSaid}
+use Rattle.ih_top.specs.Texts.{done_text, salvaged_line, salvaged_text}
+
+-- a journal has few entries
+pub few-small : (b : Base) (H : List Entry) → IsBase b → AreFew b H → length H < 2 ^ 31
+few-small b H base few = let most = few.most in let all = base.lawful.entries in omega (arith, most, all)
+
+-- a best that is said to be that of so many lines
+pub salvaged-best : (b : Base) (H : List Entry) (n : ℕ) (o s : BestOutput) → n ≡ length H → IsBestSaid done_text b H o → s.solution.items ≡ o.solution.items
+    → s.text.items ≡ salvaged_line n ++ o.text.items → IsBestSaid salvaged_text b H s
+salvaged-best b H n o s count best solution text = record {
+  place = best.place;
+  best = best.best;
+  solution = solution ∙ best.solution;
+  text = text ∙ ap₂ (λ k t. salvaged_line k ++ t) count best.text;
+}
+
+module _ (b c : Base) (same : b ≡ c) (bytes : List ℕ) (H : List Entry) where
+  pub full-lines : IsFull b H → ((k : ℕ) → AgreesBefore b (plan_at b H k)) → bytes ≡ lines_from b.options 0 H → (best : Option BestOutput)
+      → HasBestOutput c H best → AreFullLines c bytes best
+  full-lines full agrees whole best output = record {
+    history = H;
+    full = subst (λ (x : Base). IsFull x H) same full;
+    agrees = λ k. subst (λ (x : Base). AgreesBefore x (plan_at x H k)) same (agrees k);
+    whole = subst (λ (x : Base). bytes ≡ lines_from x.options 0 H) same whole;
+    output = output;
+  }
+
+  pub refused-lines : (e : JournalRefusal) → RefusedLinesAreNotFull → IsValid c.instance → IsBase c → IsRefusedAt b bytes H e → AreRefusedLines c bytes e
+  refused-lines e law valid base refused =
+      let here = subst (λ (x : Base). IsRefusedAt x bytes H e) same refused in
+      record { history = H; refused = here; none = law c bytes H e valid base here }
+
+  pub salvaged-lines : (rest : List ℕ) → Begins b bytes H rest → ((k : ℕ) → AgreesBefore b (plan_at b H k)) → (best : Option BestOutput)
+      → HasBestSaid salvaged_text c H best → AreLines c bytes best
+  salvaged-lines rest begins agrees best output = record {
+    history = H;
+    rest = rest;
+    begins = subst (λ (x : Base). Begins x bytes H rest) same begins;
+    agrees = λ k. subst (λ (x : Base). AgreesBefore x (plan_at x H k)) same (agrees k);
+    output = output;
+  }

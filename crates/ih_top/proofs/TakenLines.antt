@@ -1,0 +1,74 @@
+-- Lines of a journal, taken one by one.
+use Rattle.std.proofs.Common.{◌≡◌, ◌∙◌, ℕ, ◌+◌, refl, sym, ap, ap₂, subst, inl, inr, arith, List, [], ◌∷◌, ◌++◌, append_assoc, length}
+use Rattle.std.specs.Prelude.{Result, Ok, Err, IfErr}
+use Rattle.std.proofs.lemmas.List.{append-nil}
+use Rattle.ih_journal.specs.declared.entries.Entry.{Entry}
+use Rattle.ih_journal.specs.declared.refusals.JournalRefusal.{JournalRefusal}
+use Rattle.ih_journal.specs.declared.settings.Options.{Options}
+use Rattle.ih_journal.specs.Base.{Base}
+use Rattle.ih_journal.specs.Legal.{AreLegal}
+use Rattle.ih_journal.specs.Texts.{ended, line_text, lines_from}
+use Rattle.ih_journal.proofs.Growth.{legal-none}
+use Rattle.ih_replay.specs.Refusals.{IsNextLine, IsRefusedFor}
+use Rattle.ih_top.specs.Journals.{Begins, HasLine, HasNoFeed, IsRefusedAt, IsRestRefused}
+use Rattle.ih_top.proofs.FirstLines.{no-line-in, one-line}
+
+-- the lines of one entry more
+pub lines-more : (o : Options) (k : ℕ) (H : List Entry) (e : Entry) → lines_from o k (H ++ e ∷ []) ≡ lines_from o k H ++ ended (line_text o (k + length H) e)
+unfolding lines_from
+lines-more o k [] e = append-nil (ended (line_text o k e)) ∙ ap (λ n. ended (line_text o n e)) (omega arith)
+lines-more o k (d ∷ H) e =
+    ap (λ rest. ended (line_text o k d) ++ rest) (lines-more o (k + 1) H e ∙ ap (λ n. lines_from o (k + 1) H ++ ended (line_text o n e)) (omega arith))
+    ∙ sym (append_assoc (ended (line_text o k d)) (lines_from o (k + 1) H) (ended (line_text o (k + length (d ∷ H)) e)))
+
+-- the next line is taken
+pub joins-more : (b : Base) (H : List Entry) (bytes rest line more : List ℕ) (e : Entry) → bytes ≡ lines_from b.options 0 H ++ rest → HasLine rest line more
+    → IsNextLine b H line e → bytes ≡ lines_from b.options 0 (H ++ e ∷ []) ++ more
+joins-more b H bytes rest line more e joins has next =
+    let place : length H ≡ 0 + length H = omega arith in
+    let text : line ≡ line_text b.options (0 + length H) e = next.text ∙ ap (λ n. line_text b.options n e) place in
+    joins
+    ∙ (ap (λ r. lines_from b.options 0 H ++ r) (has.joins ∙ ap (λ l. ended l ++ more) text)
+    ∙ (sym (append_assoc (lines_from b.options 0 H) (ended (line_text b.options (0 + length H) e)) more)
+    ∙ ap (λ l. l ++ more) (sym (lines-more b.options 0 H e))))
+
+-- nothing more is taken of bytes without a line feed
+pub begins-unended : (b : Base) (H : List Entry) (bytes rest : List ℕ) → AreLegal b H → bytes ≡ lines_from b.options 0 H ++ rest → HasNoFeed rest
+    → Begins b bytes H rest
+begins-unended b H bytes rest legal joins lacks = record {
+  legal = legal;
+  joins = joins;
+  longest = λ line more e has next. no-line-in rest line more lacks has;
+}
+
+-- nothing more is taken where the next line isn't that of an entry that may come next
+pub begins-refused : (b : Base) (H : List Entry) (bytes rest line more : List ℕ) → AreLegal b H → bytes ≡ lines_from b.options 0 H ++ rest → HasLine rest line more
+    → ((e : Entry) → IsNextLine b H line e → ⊥) → Begins b bytes H rest
+begins-refused b H bytes rest line more legal joins has never = record {
+  legal = legal;
+  joins = joins;
+  longest = λ other left e also next. never e (subst (λ l. IsNextLine b H l e) (one-line rest other line left more also has).0 next);
+}
+
+-- where a line is refused, the journal is
+pub refused-line : (b : Base) (H : List Entry) (bytes rest line more : List ℕ) (e : JournalRefusal) → Begins b bytes H rest → HasLine rest line more
+    → e.line ≡ length H + 2 → IsRefusedFor b H line e.reason → IsRefusedAt b bytes H e
+refused-line b H bytes rest line more e begins has number why = record { rest = rest; begins = begins; line = number; reason = inl (line, more, has, why) }
+
+-- where the lines end too early or too late, the journal is refused
+pub refused-end : {S : Type 0} (b : Base) (H : List Entry) (bytes rest : List ℕ) (r : Result S JournalRefusal) → Begins b bytes H rest
+    → IfErr r (λ e. e.line ≡ length H + 2) → IfErr r (λ e. IsRestRefused b H rest e.reason) → IfErr r (IsRefusedAt b bytes H)
+refused-end b H bytes rest (Ok s) begins number why = tt
+refused-end b H bytes rest (Err e) begins number why = record { rest = rest; begins = begins; line = number; reason = why }
+
+-- before any line
+pub joins-none : (o : Options) (H : List Entry) (bytes : List ℕ) → H ≡ [] → bytes ≡ lines_from o 0 H ++ bytes
+unfolding lines_from
+joins-none o H bytes none = ap (λ es. lines_from o 0 es ++ bytes) (sym none)
+
+pub legal-nothing : (b : Base) (H : List Entry) → H ≡ [] → AreLegal b H
+legal-nothing b H none = subst (AreLegal b) (sym none) (legal-none b)
+
+-- all lines were taken
+pub joins-whole : (o : Options) (H : List Entry) (bytes rest : List ℕ) → bytes ≡ lines_from o 0 H ++ rest → rest ≡ [] → bytes ≡ lines_from o 0 H
+joins-whole o H bytes rest joins none = joins ∙ (ap (λ r. lines_from o 0 H ++ r) none ∙ append-nil (lines_from o 0 H))

@@ -1,0 +1,53 @@
+-- How a call of demo ends: what it had to say, by its status. It touches no file.
+use Rattle.std.specs.Prelude.{◌≡◌, ℕ, List, Option, Some, None, Ok, Err}
+use Rattle.ih_plan.specs.Fill.{fill}
+use Rattle.ih_plan.specs.Timetable.{empty}
+use Rattle.ih_journal.specs.declared.entries.Entry.{Entry}
+use Rattle.ih_journal.specs.declared.settings.Options.{Options}
+use Rattle.ih_journal.specs.Base.{Base}
+use Rattle.ih_journal.specs.Best.{HasNone, IsBest}
+use Rattle.ih_journal.specs.Legal.{IsFull}
+use Rattle.ih_gen.specs.Generated.{generated}
+use Rattle.ih_instance.specs.Instance.{instance}
+use Rattle.ih_top.specs.declared.status.Status.{Status}
+use Rattle.ih_top.specs.declared.status.Status.TheVariants.{Done, InstanceRefused, NoneFound, WriteFault, OutOfMemory}
+use Rattle.ih_top.specs.Texts.{demo_text, instance_refused_text, memory_text, none_found_text}
+
+-- one worker with the number as its seed
+abbrev pub demo_options : ℕ → Options
+demo_options number = record { seed = number; workers = 1; moves = 2000; heat = 50; hard = 100000; retries = 0 }
+
+-- the search begins with the fill of the empty timetable of the instance that the number generates, and nothing is frozen
+pub record IsDemoBase (number : ℕ) (b : Base) : Type 0 where
+  pub instance : instance (generated number) ≡ Ok b.instance
+  pub start : b.start ≡ fill b.instance 100000 (empty b.instance)
+  pub options : b.options ≡ demo_options number
+  pub freeze : b.freeze ≡ 0
+
+-- a full history over that
+pub record IsDemo (number : ℕ) (b : Base) (H : List Entry) : Type 0 where
+  pub base : IsDemoBase number b
+  pub full : IsFull b H
+
+-- this is what is said of the history's first cheapest feasible timetable, where it has one
+abbrev pub HasSaid : ℕ → Base → List Entry → Option (List ℕ) → Type 0
+HasSaid number b H None = HasNone b H
+HasSaid number b H (Some text) = (k : ℕ) × IsBest b H k × (text ≡ demo_text number b H k)
+
+-- the search was made, and this is what is said of it
+pub record IsShown (number : ℕ) (said : Option (List ℕ)) : Type 0 where
+  pub base : Base
+  pub history : List Entry
+  pub demo : IsDemo number base history
+  pub said_is : HasSaid number base history said
+
+abbrev pub DemoEnds : ℕ → Status → List ℕ → Type 0
+DemoEnds number Done text = IsShown number (Some text)
+-- no timetable of the history is feasible
+DemoEnds number NoneFound text = IsShown number None × (text ≡ none_found_text)
+-- the text couldn't be put out
+DemoEnds number (WriteFault None) text = IsShown number (Some text)
+DemoEnds number OutOfMemory text = text ≡ memory_text
+-- what the number generates is no instance
+DemoEnds number (InstanceRefused e) text = (instance (generated number) ≡ Err e) × (text ≡ instance_refused_text e)
+DemoEnds number status text = ⊥

@@ -1,0 +1,92 @@
+-- What a journal comes to, before it is written and said.
+use Rattle.std.specs.Prelude.{◌≡◌, ℕ, ◌⊎◌, List, Option, Some, None}
+use Rattle.ih_journal.specs.declared.entries.Entry.{Entry}
+use Rattle.ih_journal.specs.declared.refusals.JournalRefusal.{JournalRefusal}
+use Rattle.ih_journal.specs.Base.{Base}
+use Rattle.ih_journal.specs.Frozen.{AgreesBefore}
+use Rattle.ih_journal.specs.History.{plan_at}
+use Rattle.ih_journal.specs.Legal.{IsFull}
+use Rattle.ih_journal.specs.Texts.{lines_from}
+use Rattle.ih_words.specs.Start.{StartCall}
+use Rattle.ih_shelf.specs.Outside.{IsWritten, MayBeWritten, Names, Told}
+use Rattle.ih_top.specs.declared.inputs.Inputs.{Inputs}
+use Rattle.ih_top.specs.declared.output.BestOutput.{BestOutput}
+use Rattle.ih_top.specs.declared.replaying.Outcome.{Outcome}
+use Rattle.ih_top.specs.declared.replaying.Outcome.TheVariants.{Refused, Taken}
+use Rattle.ih_top.specs.declared.status.Status.{Status}
+use Rattle.ih_top.specs.declared.status.Status.TheVariants.{Done, NoneFound, WriteFault, OutOfMemory, JournalRefused}
+use Rattle.ih_top.specs.declared.status.Role.TheVariants.{Out}
+use Rattle.ih_top.specs.Journals.{Begins, IsRefusedAt}
+use Rattle.ih_top.specs.Outputs.{HasBestOutput, HasBestSaid}
+use Rattle.ih_top.specs.Replaying.{AreNotFull, IsHeadless, IsRefusedJournal, IsReplay, IsSalvage, JournalRead}
+use Rattle.ih_top.specs.Solving.{Unchanged}
+use Rattle.ih_top.specs.Texts.{done_text, journal_refused_text, memory_text, none_found_text, salvaged_text, unwritten_text}
+
+-- ---- the lines of a journal
+
+-- the bytes are the lines of a full history
+pub record AreFullLines (b : Base) (bytes : List ℕ) (best : Option BestOutput) : Type 0 where
+  pub history : List Entry
+  pub full : IsFull b history
+  pub agrees : (k : ℕ) → AgreesBefore b (plan_at b history k)
+  pub whole : bytes ≡ lines_from b.options 0 history
+  pub output : HasBestOutput b history best
+
+-- the bytes begin with the lines of this longest legal history
+pub record AreLines (b : Base) (bytes : List ℕ) (best : Option BestOutput) : Type 0 where
+  pub history : List Entry
+  pub rest : List ℕ
+  pub begins : Begins b bytes history rest
+  pub agrees : (k : ℕ) → AgreesBefore b (plan_at b history k)
+  pub output : HasBestSaid salvaged_text b history best
+
+-- the bytes are refused at the line behind those of this history
+pub record AreRefusedLines (b : Base) (bytes : List ℕ) (e : JournalRefusal) : Type 0 where
+  pub history : List Entry
+  pub refused : IsRefusedAt b bytes history e
+  pub none : AreNotFull b bytes
+
+-- what the lines behind a heading come to, where they have to be those of a full history
+abbrev pub IsLinesOutcome : Base → List ℕ → Outcome → Type 0
+IsLinesOutcome b bytes (Refused e) = AreRefusedLines b bytes e
+IsLinesOutcome b bytes (Taken best) = AreFullLines b bytes best
+
+-- ---- the whole journal
+
+abbrev pub read_from : Inputs → List ℕ → JournalRead
+read_from i bytes = record { instance = i.inst.draft; plan = i.plan; bytes = bytes }
+
+-- a history was taken, and its best was made ready where there is one
+pub record IsTaken (taken : Base → List Entry → Type 0) (said : Base → List Entry → ℕ → List ℕ) (best : Option BestOutput) : Type 0 where
+  pub base : Base
+  pub history : List Entry
+  pub taken_is : taken base history
+  pub output : HasBestSaid said base history best
+
+abbrev pub IsOutcome : (Base → List Entry → Type 0) → (JournalRefusal → Type 0) → (Base → List Entry → ℕ → List ℕ) → Outcome → Type 0
+IsOutcome taken refused said (Refused e) = refused e
+IsOutcome taken refused said (Taken best) = IsTaken taken said best
+
+abbrev pub IsReplayOutcome : StartCall → JournalRead → Outcome → Type 0
+IsReplayOutcome s x o = IsOutcome (IsReplay s x) (IsRefusedJournal s x) done_text o
+
+abbrev pub IsSalvageOutcome : StartCall → JournalRead → Outcome → Type 0
+IsSalvageOutcome s x o = IsOutcome (IsSalvage s x) (IsHeadless x) salvaged_text o
+
+-- ---- what is written
+
+-- the solution of the outcome's best is written as far as `writes` says
+pub record WritesBest (writes : List ℕ → List ℕ → Names → Names → Type 0) (o : Outcome) (out : List ℕ) (old new : Option Names) : Type 0 where
+  pub best : BestOutput
+  pub is : o ≡ Taken (Some best)
+  pub written : Told (writes out best.solution.items) old new
+
+-- how a call ends that has this outcome, and writes its best under a name
+abbrev pub OutcomeEnds : Outcome → List ℕ → Option Names → Option Names → Status → List ℕ → Type 0
+OutcomeEnds o out old new Done text = (w : WritesBest IsWritten o out old new) × (text ≡ w.best.text.items)
+OutcomeEnds o out old new NoneFound text = Told Unchanged old new × (o ≡ Taken None) × (text ≡ none_found_text)
+OutcomeEnds o out old new (JournalRefused e) text = Told Unchanged old new × (o ≡ Refused e) × (text ≡ journal_refused_text e)
+OutcomeEnds o out old new (WriteFault (Some Out)) text = WritesBest MayBeWritten o out old new × (text ≡ unwritten_text out)
+OutcomeEnds o out old new (WriteFault None) text = (w : WritesBest IsWritten o out old new) × (text ≡ w.best.text.items)
+OutcomeEnds o out old new OutOfMemory text = (Told Unchanged old new ⊎ WritesBest MayBeWritten o out old new) × (text ≡ memory_text)
+OutcomeEnds o out old new status text = ⊥

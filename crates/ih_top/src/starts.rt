@@ -1,0 +1,31 @@
+//! What a search starts from.
+
+ghost use Rattle.std.specs.Prelude.{◌≡◌, ◌≤◌, IfOk};
+ghost use Rattle.ih_plan.specs.Timetable.{IsPlanOf};
+ghost use Rattle.ih_top.specs.Starts.{started};
+
+use crate::inputs::Inputs;
+use ih_fill::fill;
+use std::alloc::{AllocError, Global};
+
+/// The inputs with the timetable that a search starts from: their own, or its greedy fill. `hard` is the weight of a broken
+/// hard rule in a score.
+pub fn begin(
+    alloc: Global,
+    inputs: Inputs,
+    is_filled: bool,
+    hard: u32,
+) -> Result<Inputs, AllocError>
+    requires plan { IsPlanOf inputs.inst.draft inputs.plan }
+    requires hard { hard ≤ 1000000 }
+    ensures instance { IfOk result (λ i. i.inst.draft ≡ inputs.inst.draft) }
+    ensures start { IfOk result (λ i. i.plan ≡ started is_filled hard inputs.inst.draft inputs.plan) }
+    ensures plan { IfOk result (λ i. IsPlanOf i.inst.draft i.plan) }
+{
+    if !is_filled {
+        return Ok(inputs);
+    }
+    let Inputs { inst, plan } = inputs;
+    let plan = fill(alloc, &inst, hard, &plan)?;
+    Ok(Inputs { inst, plan })
+}
