@@ -132,7 +132,7 @@ impl<'a> Filler<'a> {
     }
 
     /// That a patient is out, as a candidate.
-    pub fn out(&mut self, p: PatientNo) -> Candidate
+    pub fn left_out(&mut self, p: PatientNo) -> Candidate
         requires { p.0 < patient_count self.old.instance }
         ensures candidate { result ≡ valued (stay_value self.old) (SetStay p None) }
         ensures same { self.new ≡ self.old }

@@ -162,7 +162,7 @@ fn place(inst: &Instance, filler: &mut Filler<'_>, p: PatientNo)
     requires patient { p.0 < patient_count inst.now.draft }
     ensures { filler.new ≡ record filler.old { plan = with_stay inst.now.draft filler.old.hard filler.old.plan p.0 } }
 {
-    let out = filler.out(p);
+    let out = filler.left_out(p);
     let best = cheapest_stay(inst, filler, p, inst.patient(p), out);
     filler.put(&best.write);
 }
