@@ -4,7 +4,7 @@ use crate::examples::{
     COVERED_SOLUTION, DEMO, FILLED, FOUND, JOURNAL, NO_MOVES, NOTHING, SALVAGED, SEARCH,
     TWO_PATIENTS, USAGE, WARD,
 };
-use crate::trials::{call, changed, holds, shelf_of};
+use crate::trials::{are_same, call, changed, holds, shelf_of};
 use ih_shelf::{MemShelf, MemSink};
 use std::alloc::Global;
 use std::test::Fail;
@@ -207,7 +207,7 @@ fn fills(rt: HostRuntime) -> Result<(), Fail> {
         0
     );
     assert_eq!(rt; out.bytes(), FILLED.as_bytes());
-    assert!(rt; shelf.get("p") == shelf.get("o"));
+    assert!(rt; are_same(&shelf, "p", "o"));
     let mut out = MemSink::new(alloc);
     assert_eq!(rt; call(&rt, alloc, "replay i j p", &mut shelf, &mut out)?, 5);
     Ok(())

@@ -64,3 +64,11 @@ pub fn holds(shelf: &MemShelf, name: &str, text: &str) -> bool {
         Some(bytes) => bytes == text.as_bytes(),
     }
 }
+
+/// Whether the two names have the same bytes.
+pub fn are_same(shelf: &MemShelf, name: &str, other: &str) -> bool {
+    match (shelf.get(name), shelf.get(other)) {
+        (Some(bytes), Some(others)) => bytes == others,
+        _ => false,
+    }
+}

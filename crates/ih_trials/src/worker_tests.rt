@@ -1,7 +1,7 @@
 //! Whole calls of several workers, over files in memory.
 
 use crate::examples::{NOTHING, ONE_ADMITTED, TWO_PATIENTS};
-use crate::trials::{call, holds, shelf_of, words_of};
+use crate::trials::{are_same, call, holds, shelf_of, words_of};
 use ih_shelf::{HoldGate, MemSink};
 use ih_top::run;
 use std::alloc::{AllocError, Global};
@@ -79,8 +79,8 @@ fn every_attempt_beside_another(rt: HostRuntime) -> Result<(), Fail> {
         call(&rt, alloc, "replay i j p --start s", &mut shelf, &mut said)?,
         0
     );
-    assert_eq!(rt; said.bytes(), out.bytes());
-    assert_eq!(rt; shelf.get("p"), shelf.get("o"));
+    assert!(rt; said.bytes() == out.bytes());
+    assert!(rt; are_same(&shelf, "p", "o"));
     Ok(())
 }
 
@@ -112,8 +112,8 @@ fn any_number_of_workers(rt: HostRuntime) -> Result<(), Fail> {
         let line = format!(in alloc; "replay i j p --start s {frozen}")?;
         let mut said = MemSink::new(alloc);
         assert_eq!(rt; call(&rt, alloc, line.as_str(), &mut shelf, &mut said)?, 0);
-        assert_eq!(rt; said.bytes(), out.bytes());
-        assert_eq!(rt; shelf.get("p"), shelf.get("o"));
+        assert!(rt; said.bytes() == out.bytes());
+        assert!(rt; are_same(&shelf, "p", "o"));
     }
     Ok(())
 }
