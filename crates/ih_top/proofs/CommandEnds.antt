@@ -22,7 +22,7 @@ use Rattle.ih_top.specs.Checking.{CheckEnds}
 use Rattle.ih_top.specs.Demo.{DemoEnds}
 use Rattle.ih_top.specs.Generating.{GenEnds}
 use Rattle.ih_top.specs.Replaying.{EndsUnreadJournal, HasBest, IsHeadless, IsRefusedJournal, IsReplay, IsSalvage, JournalEnds, JournalRead}
-use Rattle.ih_top.specs.Ends.{CallEnds, OutDiffers}
+use Rattle.ih_top.specs.Ends.{CallEnds, Leaves, OutDiffers}
 use Rattle.ih_top.proofs.Saying.{IsAnswerable}
 use Rattle.ih_top.proofs.Writing.{begun, done-found, none-begun}
 
@@ -268,3 +268,22 @@ out-apart words (salvage r) h = tt
 out-apart words (check c) h = tt
 out-apart words (gen g) h = tt
 out-apart words (demo number) h = tt
+
+-- ---- want of memory before anything is done
+
+unwritten : (name bytes : List ℕ) (files : Option Names) → Told (MayBeWritten name bytes) files files
+unwritten name bytes None = tt
+unwritten name bytes (Some names) = record { part = inl refl; others = λ n other. refl }
+
+call-memory : (call : Call) (files : Option Names) → CallEnds call files files OutOfMemory memory_text
+call-memory (solve s) files = (inl (told-same files files refl), refl)
+call-memory (replay r) files = (inl (told-same files files refl), refl)
+call-memory (salvage r) files = (inl (told-same files files refl), refl)
+call-memory (check c) files = (told-same files files refl, refl)
+call-memory (gen g) files = (unwritten g.out _ files, refl)
+call-memory (demo number) files = (told-same files files refl, refl)
+
+-- whatever call the words name, and also where they name none
+pub memory-leaves : (call : Option Call) (files : Option Names) (gained part : List ℕ → Type 0) → part memory_text → Leaves call files files gained part OutOfMemory
+memory-leaves None files gained part h = (told-same files files refl, inr h)
+memory-leaves (Some call) files gained part h = (OutOfMemory, memory_text, call-memory call files, h)

@@ -1,13 +1,14 @@
+use Rattle.std.proofs.Common.{subst, sym}
 use Rattle.std.specs.Prelude.{map, string_bytes}
-use Rattle.ih_words.specs.Words.{Call, command_call}
-use Rattle.ih_top.specs.Ends.{CallEnds, Gained, GainedPart}
-use Rattle.ih_top.proofs.CommandEnds.{call-answerable, out-apart}
+use Rattle.ih_words.specs.Words.{Call, call_of, command_call}
+use Rattle.ih_top.specs.Ends.{CallEnds, Gained, GainedPart, Leaves}
+use Rattle.ih_top.proofs.CommandEnds.{call-answerable, memory-leaves, out-apart}
 use Rattle.ih_top.proofs.Saying.{ended, has-cause}
 use Rattle.ih_top.proofs.Completeness.{complete}
 use Rattle.ih_top.proofs.running.run.Goals as goal
 
 pub perform-answer-requires-clause-differ : goal.perform-answer-requires-clause-differ
-perform-answer-requires-clause-differ g c = out-apart (map string_bytes c.args.words.now) (command_call c.in-Ok.command) c.in-Ok.ensures.ok
+perform-answer-requires-clause-differ g c κs within = out-apart (map string_bytes c.args.words.now) (command_call c.in-Ok.command) c.in-Ok.ensures.ok
 
 pub returns-in-Ok-clause-leaves : goal.returns-in-Ok-clause-leaves
 returns-in-Ok-clause-leaves g c =
@@ -26,3 +27,11 @@ returns-in-Ok-clause-complete g c =
     (GainedPart (g.O.Sink.text c.args.out.now) (g.O.Sink.text c.conclude.new.out)) _ _ _ _ _ _ c.conclude.result
     (ended (CallEnds call (g.S.Shelf.names c.args.shelf.now) (g.S.Shelf.names c.perform-answer.new.shelf)) (call-answerable call _ _) _ _ c.perform-answer.result c.conclude.result c.perform-answer.ensures.ends c.conclude.ensures.said)
     (has-cause _ _ _ _ _ _ c.perform-answer.result.status c.conclude.result c.perform-answer.ensures.cause c.conclude.ensures.cause))
+
+pub returns-in-Err-OutOfMemory-clause-leaves : goal.returns-in-Err-OutOfMemory-clause-leaves
+returns-in-Err-OutOfMemory-clause-leaves g c =
+    let files = g.S.Shelf.names c.args.shelf.now in
+    let gained = Gained c.conclude_memory.result (g.O.Sink.text c.args.out.now) (g.O.Sink.text c.conclude_memory.new.out) (g.O.Sink.faults c.args.out.now) (g.O.Sink.faults c.conclude_memory.new.out) in
+    let part = GainedPart (g.O.Sink.text c.args.out.now) (g.O.Sink.text c.conclude_memory.new.out) in
+    subst (Leaves (call_of (map string_bytes c.args.words.now)) files files gained part) (sym c.conclude_memory.ensures.status)
+    (memory-leaves (call_of (map string_bytes c.args.words.now)) files gained part c.conclude_memory.ensures.said)
