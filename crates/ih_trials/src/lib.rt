@@ -5,8 +5,6 @@ pub mod examples;
 #[cfg(test)]
 mod journal_tests;
 #[cfg(test)]
-mod tests;
-#[cfg(test)]
 mod trials;
 #[cfg(test)]
 mod worker_tests;
