@@ -1,10 +1,4 @@
-//! Whole calls of the program over files in memory, and the files and texts of the worked examples.
+//! The files and texts of the worked examples, for whole calls of the program over files in memory.
 #![tactic(auto)]
 
 pub mod examples;
-#[cfg(test)]
-mod journal_tests;
-#[cfg(test)]
-mod trials;
-#[cfg(test)]
-mod worker_tests;
