@@ -1,7 +1,8 @@
--- Sums of what a write changes: a cell more, and their bounds.
-use Rattle.std.proofs.Common.{◌≡◌, ℕ, ◌+◌, ◌<◌, ◌^◌, refl, arith, ap, ◌∙◌, sym, subst, Bool, List, [], length}
-use Rattle.std.specs.Prelude.{pos, ℤ, ◌+ℤ◌, ◌-ℤ◌, ◌≤ℤ◌, neg_ℤ, take, slice_index}
+-- Sums of what a write changes: a cell more, their bounds, and what the bill changes by.
+use Rattle.std.proofs.Common.{◌≡◌, ℕ, ◌+◌, ◌<◌, ◌^◌, refl, arith, ap, ◌∙◌, sym, subst, Bool, false, List, [], ◌∷◌, length}
+use Rattle.std.specs.Prelude.{pos, ℤ, ◌+ℤ◌, ◌-ℤ◌, ◌≤ℤ◌, neg_ℤ, take, slice_index, ◌||◌}
 use Rattle.std.specs.List.{range_with_len}
+use Rattle.std.proofs.lemmas.Bool.{or_parts}
 use Rattle.std.proofs.lemmas.Int.{ints}
 use Rattle.std.proofs.lemmas.List.{take_all}
 use Rattle.std.proofs.lemmas.List.FromFn.{get_or-map-range_with_len}
@@ -14,14 +15,18 @@ use Rattle.ih_tables.specs.Valid.{IsValid}
 use Rattle.ih_plan.specs.declared.moves.Write.{Write}
 use Rattle.ih_plan.specs.Timetable.{Timetable, IsPlanOf}
 use Rattle.ih_plan.specs.Writes.{put, IsWriteOf}
-use Rattle.ih_plan.specs.Sums.{which_below}
-use Rattle.ih_plan.specs.BillOf.{as_bill}
-use Rattle.ih_plan.specs.Cells.{cell_in, cell_count, part_at}
+use Rattle.ih_plan.specs.Sums.{which_below, is_listed}
+use Rattle.ih_plan.specs.BillOf.{as_bill, bill_of, change_of_bill}
+use Rattle.ih_plan.specs.Cells.{cell_at, cell_in, cell_count, part_at, part_of}
+use Rattle.ih_plan.specs.Footprint.{write_touches, writes_touch}
 use Rattle.ih_plan.proofs.PlanRanges.{has-range, put-plan}
+use Rattle.ih_footprint.proofs.Locality.{frame}
 use Rattle.ih_footprint.proofs.Prices.{map-same}
+use Rattle.ih_footprint.proofs.Ranked.{cell_in-in}
 use Rattle.ih_costs.specs.PartSums.{sum_of}
-use Rattle.ih_costs.specs.Changes.{part_change, sum_change, sums_change}
-use Rattle.ih_costs.proofs.PartLemmas.{sum_of-none, sum-step, sum_of-within}
+use Rattle.ih_costs.specs.Changes.{part_change, sum_change}
+use Rattle.ih_costs.specs.Touched.{listed_or_touched}
+use Rattle.ih_costs.proofs.PartLemmas.{sum_of-none, sum-step, sum_of-within, change-of-passing}
 use Rattle.ih_costs.proofs.ChangeLemmas.{less-itself}
 
 at-by_place : (n : ℕ) (f : ℕ → ℤ) (k : ℕ) → k < n → at (by_place n f) k ≡ f k
@@ -87,19 +92,38 @@ pub sum_change-within : (I : Draft) (P : Timetable) (w : Write) → IsValid I �
 sum_change-within I P w valid plan fits k p =
     less-within _ _ (sum_of-within I (put w P) valid (put-plan I P w plan fits) k p) (sum_of-within I P valid plan k p)
 
--- ---- writes that are tried
+-- ---- what a write changes in the bill
 
-sum-within : (I : Draft) (P : Timetable) → IsValid I → IsPlanOf I P → (p : ℕ → Bool) (ns : List ℕ) → ns ≡ which_below (cell_count I) p → IsWithin (10 ^ 11) (as_bill (sum_of I P ns))
-sum-within I P valid plan p ns e =
-    let all = which_below (cell_count I) p in
-    subst (λ ms. IsWithin (10 ^ 11) (as_bill (sum_of I P ms))) (take_all (length all) all (omega arith) ∙ sym e) (sum_of-within I P valid plan (length all) p)
+-- The cells that are listed or that the write touches change by what the bill changes.
+pub write-change : (I : Draft) (P : Timetable) (w : Write) (ns : List ℕ) → IsPlanOf I P → IsWriteOf I w
+    → sum_change I P w (listed_or_touched I P ns (w ∷ [])) ≡ change_of_bill I P (put w P)
+unfolding listed_or_touched writes_touch
+write-change I P w ns plan fits =
+    change-of-passing I P (put w P) (λ n. is_listed n ns || (write_touches I P w (cell_at I n) || false))
+    (λ n h e.
+    let free = (or_parts (write_touches I P w (cell_at I n)) false ((or_parts (is_listed n ns) (write_touches I P w (cell_at I n) || false) e).1)).0 in
+    ap (part_of I (cell_at I n)) (frame I P w (cell_at I n) plan fits (cell_in-in (sizes_of I) n h) free))
 
-pub trial-within : (I : Draft) (P Q : Timetable) → IsValid I → IsPlanOf I P → IsPlanOf I Q → (p : ℕ → Bool) (ns : List ℕ) → ns ≡ which_below (cell_count I) p
-    → IsWithin (10 ^ 12) (sums_change I P Q ns)
-trial-within I P Q valid planP planQ p ns e = less-within _ _ (sum-within I Q valid planQ p ns e) (sum-within I P valid planP p ns e)
+-- ---- one change behind another
 
-pub trial-is : (I : Draft) (P Q R : Timetable) (ns ms : List ℕ) (new old : Bill) → R ≡ P → ms ≡ ns → new ≡ as_bill (sum_of I Q ns) → old ≡ as_bill (sum_of I R ms)
-    → sub_bills new old ≡ sums_change I P Q ns
-trial-is I P Q R ns ms new old same listed later before =
-    let before_that : old ≡ as_bill (sum_of I P ns) = before ∙ (ap (λ T. as_bill (sum_of I T ms)) same ∙ ap (λ ks. as_bill (sum_of I P ks)) listed) in
-    ap (λ b. sub_bills b old) later ∙ ap (sub_bills (as_bill (sum_of I Q ns))) before_that
+then-less : (a b c : ℤ) → (b -ℤ a) +ℤ (c -ℤ b) ≡ c -ℤ a
+then-less a b c = omega (arith, ints)
+
+places-then-less : (m : ℕ) (a b c : ℕ → ℤ) → by_place m (λ k. at (by_place m (λ k. b k -ℤ a k)) k +ℤ at (by_place m (λ k. c k -ℤ b k)) k) ≡ by_place m (λ k. c k -ℤ a k)
+places-then-less m a b c =
+    map-same (λ k. at (by_place m (λ k. b k -ℤ a k)) k +ℤ at (by_place m (λ k. c k -ℤ b k)) k) (λ k. c k -ℤ a k) (range_with_len 0 m)
+    (λ k h. let range = has-range 0 m k h in
+    let inside : k < m = omega arith in
+    rw (at-by_place m (λ k. b k -ℤ a k) k inside, at-by_place m (λ k. c k -ℤ b k) k inside) (then-less (a k) (b k) (c k)))
+
+pub change-then : (I : Draft) (P Q R : Timetable) → add_bills (change_of_bill I P Q) (change_of_bill I Q R) ≡ change_of_bill I P R
+change-then I P Q R =
+    let a = bill_of I P in
+    let b = bill_of I Q in
+    let c = bill_of I R in
+    let v = places-then-less 9 (λ k. at a.v k) (λ k. at b.v k) (λ k. at c.v k) in
+    let s = places-then-less 8 (λ k. at a.s k) (λ k. at b.s k) (λ k. at c.s k) in
+    cc
+
+pub change-same : (I : Draft) (P : Timetable) → zero_bill ≡ change_of_bill I P P
+change-same I P = sym (less-itself (bill_of I P))

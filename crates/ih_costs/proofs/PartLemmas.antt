@@ -1,4 +1,4 @@
--- Sums of the parts of some cells: a cell more, their bounds, and what they say of the price of a move.
+-- Sums of the parts of some cells: a cell more, their bounds, and what they say of what a bill changes by.
 use Rattle.std.proofs.Common.{◌≡◌, ℕ, zero, suc, ◌+◌, ◌<◌, ◌≤◌, ◌^◌, refl, arith, sym, ap, ◌∙◌, Bool, true, false, List, [], ◌∷◌, ◌++◌, length, subst, pos}
 use Rattle.std.specs.Prelude.{map, take, sum_by, slice_index, ◌+ℤ◌, ◌≤ℤ◌, ◌==◌, if◌then◌else◌}
 use Rattle.std.proofs.lemmas.Bool.{eq-eqb, or_left, or_right}
@@ -11,20 +11,17 @@ use Rattle.ih_tables.specs.declared.bills.Bill.{Bill}
 use Rattle.ih_tables.specs.Sizes.{Sizes, sizes_of}
 use Rattle.ih_tables.specs.Bills.{at, by_place, add_bills, sub_bills, zero_bill, IsWithin}
 use Rattle.ih_tables.specs.Valid.{IsValid}
-use Rattle.ih_plan.specs.declared.moves.Move.{Move}
 use Rattle.ih_plan.specs.Timetable.{Timetable, IsPlanOf}
-use Rattle.ih_plan.specs.Expand.{IsMoveOf, after}
 use Rattle.ih_plan.specs.Sums.{sum_below, which_below, listed}
-use Rattle.ih_plan.specs.BillOf.{as_bill, bill_of, change_of_bill}
+use Rattle.ih_plan.specs.BillOf.{Counts, as_bill, bill_of, change_of_bill}
 use Rattle.ih_plan.specs.Cells.{cell_at, cell_in, cell_count, part_at}
-use Rattle.ih_plan.specs.Footprint.{footprint}
 use Rattle.ih_plan.proofs.Lists.{has, which_below-has}
-use Rattle.ih_plan.proofs.SumLemmas.{sum_by-which_below}
-use Rattle.ih_plan.proofs.SumBounds.{sum_below-le_each}
+use Rattle.ih_plan.proofs.SumLemmas.{sum_below-same, sum_by-which_below}
+use Rattle.ih_plan.proofs.SumBounds.{sum_below-add, sum_below-le_each}
 use Rattle.ih_plan.proofs.Parts.{total, has_parts}
 use Rattle.ih_plan.proofs.BillBounds.{bill-counts, counts-within}
 use Rattle.ih_plan.proofs.PlanRanges.{has-range}
-use Rattle.ih_footprint.proofs.Prices.{map-same, at-listed, differences-same, change_by_footprint}
+use Rattle.ih_footprint.proofs.Prices.{map-same, at-listed, differences-same}
 use Rattle.ih_costs.specs.PartSums.{sum_of}
 
 -- ---- a cell more
@@ -128,19 +125,35 @@ module _ (I : Draft) (P : Timetable) (valid : IsValid I) (plan : IsPlanOf I P) w
         (count-in _ _ (some-most (λ n. slice_index (part_at I P (cell_at I n)).s j) (cell_count I) k p) (costs-most j h));
   })
 
--- ---- the price of a move
+-- ---- what a bill changes by
 
--- What the footprint's cells cost after the move, less what they cost before it, is what the bill changes.
-pub price-of_footprint : (I : Draft) (P : Timetable) (m : Move) → IsPlanOf I P → IsMoveOf I m
-    → sub_bills (as_bill (sum_of I (after I P m) (footprint I P m))) (as_bill (sum_of I P (footprint I P m))) ≡ change_of_bill I P (after I P m)
-unfolding sum_of
-price-of_footprint I P m plan fits =
-    let foot = footprint I P m in
-    let Q = after I P m in
-    let v = differences-same 9 (λ j. sum_by (λ n. slice_index (part_at I Q (cell_at I n)).v j) foot) (λ j. sum_by (λ n. slice_index (part_at I P (cell_at I n)).v j) foot)
-    (λ j. total I (λ c. slice_index (part_at I Q c).v j)) (λ j. total I (λ c. slice_index (part_at I P c).v j))
-    (λ j. let whole = change_by_footprint I P m plan fits (λ c. slice_index c.v j) in omega (arith, whole)) in
-    let s = differences-same 8 (λ j. sum_by (λ n. slice_index (part_at I Q (cell_at I n)).s j) foot) (λ j. sum_by (λ n. slice_index (part_at I P (cell_at I n)).s j) foot)
-    (λ j. total I (λ c. slice_index (part_at I Q c).s j)) (λ j. total I (λ c. slice_index (part_at I P c).s j))
-    (λ j. let whole = change_by_footprint I P m plan fits (λ c. slice_index c.s j) in omega (arith, whole)) in
-    rw (has_parts I P, has_parts I Q) (rw (v, s) refl)
+module _ (I : Draft) (P Q : Timetable) (test : ℕ → Bool) (apart : (n : ℕ) → n < cell_count I → test n ≡ false → part_at I Q (cell_at I n) ≡ part_at I P (cell_at I n)) where
+  apart-step : (b : Bool) (x y : ℕ) → (b ≡ false → x ≡ y) → x + (if b then y else 0) ≡ y + (if b then x else 0)
+  apart-step true x y e = omega arith
+  apart-step false x y e = rw (e refl) refl
+
+  change-by-passing : (g : Counts → ℕ) → total I (λ c. g (part_at I Q c)) + sum_by (λ n. g (part_at I P (cell_at I n))) (which_below (cell_count I) test)
+      ≡ total I (λ c. g (part_at I P c)) + sum_by (λ n. g (part_at I Q (cell_at I n))) (which_below (cell_count I) test)
+  change-by-passing g =
+      let new = λ (n : ℕ). g (part_at I Q (cell_at I n)) in
+      let old = λ (n : ℕ). g (part_at I P (cell_at I n)) in
+      let one = sum_by-which_below old (cell_count I) test in
+      let two = sum_by-which_below new (cell_count I) test in
+      rw (one, two)
+      (sym (sum_below-add (cell_count I) new (λ n. if test n then old n else 0))
+      ∙ sum_below-same (cell_count I) (λ n. new n + (if test n then old n else 0)) (λ n. old n + (if test n then new n else 0))
+      (λ n h. apart-step (test n) (new n) (old n) (λ e. ap g (apart n h e)))
+      ∙ sum_below-add (cell_count I) old (λ n. if test n then new n else 0))
+
+  -- Where all other cells cost what they cost, what the cells that pass change is what the bill changes.
+  pub change-of-passing : sub_bills (as_bill (sum_of I Q (which_below (cell_count I) test))) (as_bill (sum_of I P (which_below (cell_count I) test))) ≡ change_of_bill I P Q
+  unfolding sum_of
+  change-of-passing =
+      let ns = which_below (cell_count I) test in
+      let v = differences-same 9 (λ j. sum_by (λ n. slice_index (part_at I Q (cell_at I n)).v j) ns) (λ j. sum_by (λ n. slice_index (part_at I P (cell_at I n)).v j) ns)
+      (λ j. total I (λ c. slice_index (part_at I Q c).v j)) (λ j. total I (λ c. slice_index (part_at I P c).v j))
+      (λ j. let whole = change-by-passing (λ c. slice_index c.v j) in omega (arith, whole)) in
+      let s = differences-same 8 (λ j. sum_by (λ n. slice_index (part_at I Q (cell_at I n)).s j) ns) (λ j. sum_by (λ n. slice_index (part_at I P (cell_at I n)).s j) ns)
+      (λ j. total I (λ c. slice_index (part_at I Q c).s j)) (λ j. total I (λ c. slice_index (part_at I P c).s j))
+      (λ j. let whole = change-by-passing (λ c. slice_index c.s j) in omega (arith, whole)) in
+      rw (has_parts I P, has_parts I Q) (rw (v, s) refl)

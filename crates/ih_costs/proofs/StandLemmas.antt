@@ -1,6 +1,9 @@
 -- Ledgers that stand for a timetable stand for it after writes too.
-use Rattle.std.proofs.Common.{◌≡◌, sym, subst, Option}
+use Rattle.std.proofs.Common.{◌≡◌, ℕ, ◌<◌, ◌∙◌, sym, ap, subst, arith, List, length, Option}
+use Rattle.std.specs.Prelude.{slice_index_or}
+use Rattle.std.proofs.lemmas.List.FromFn.{get_or-map-range_with_len, length-map-range_with_len}
 use Rattle.ih_tables.specs.declared.drafts.Draft.{Draft}
+use Rattle.ih_tables.specs.declared.cells.Cell.{Cell}
 use Rattle.ih_tables.specs.declared.ids.RoomNo.{RoomNo}
 use Rattle.ih_tables.specs.declared.ids.Shift.{Shift}
 use Rattle.ih_tables.specs.declared.ids.NurseNo.{NurseNo}
@@ -8,6 +11,8 @@ use Rattle.ih_plan.specs.declared.moves.Write.TheVariants.{SetCare}
 use Rattle.ih_plan.specs.Timetable.{Timetable, IsPlanOf}
 use Rattle.ih_plan.specs.Writes.{put, IsWriteOf}
 use Rattle.ih_plan.specs.Presence.{admission_of}
+use Rattle.ih_plan.specs.Sums.{listed}
+use Rattle.ih_plan.specs.Cells.{cell_at, cell_count}
 use Rattle.ih_plan.proofs.PlanRanges.{put-plan}
 use Rattle.ih_roomdays.specs.declared.rows.Rows.{Rows}
 use Rattle.ih_roomdays.specs.Ledger.{IsLedgerOf as Has_room_days}
@@ -38,9 +43,17 @@ room_days-care I P v r k n fits stands = record {
   rooms = stands.rooms;
   days = stands.days;
   persons = stands.persons;
-  genders = stands.genders;
+  profiles = stands.profiles;
   each = stands.each;
 }
 
 pub theatres-care : (I : Draft) (P : Timetable) (l : Theatres) (r : RoomNo) (k : Shift) (n : Option NurseNo) → Has_theatres I P l → Has_theatres I (put (SetCare r k n) P) l
 theatres-care I P l r k n stands = record { theatres = stands.theatres; theatre_days = stands.theatre_days; surgeon_days = stands.surgeon_days }
+
+-- ---- the cells by number
+
+pub cell-known : (I : Draft) (cells : List Cell) (n : ℕ) (c : Cell) → cells ≡ listed (cell_count I) (cell_at I) → n < cell_count I → c ≡ slice_index_or cells n c → c ≡ cell_at I n
+cell-known I cells n c all below here = here ∙ (ap (λ cs. slice_index_or cs n c) all ∙ get_or-map-range_with_len (cell_at I) 0 (cell_count I) n n c below (omega arith))
+
+pub cell-there : (I : Draft) (cells : List Cell) (n : ℕ) → cells ≡ listed (cell_count I) (cell_at I) → n < cell_count I → n < length cells
+cell-there I cells n all below = subst (λ m. n < m) (sym (ap length all ∙ length-map-range_with_len (cell_at I) 0 (cell_count I))) below

@@ -26,10 +26,6 @@ stay_part a stay = record {
   s = 0 ∷ 0 ∷ 0 ∷ 0 ∷ 0 ∷ 0 ∷ delay a stay ∷ bit (not a.mandatory && is_none stay) ∷ [];
 }
 
--- what cells of these numbers cost together at the timetable Q, less what they cost at P
-abbrev pub sums_change : Draft → Timetable → Timetable → List ℕ → Bill
-sums_change I P Q ns = sub_bills (as_bill (sum_of I Q ns)) (as_bill (sum_of I P ns))
-
--- the same of the timetable after a write
+-- what cells of these numbers cost together after the write, less what they cost before it
 abbrev pub sum_change : Draft → Timetable → Write → List ℕ → Bill
-sum_change I P w ns = sums_change I P (put w P) ns
+sum_change I P w ns = sub_bills (as_bill (sum_of I (put w P) ns)) (as_bill (sum_of I P ns))

@@ -1,34 +1,44 @@
-//! Three ledgers that stand for one timetable, and give each cell's part of its bill.
+//! Three ledgers that stand for one timetable.
 
-ghost use Rattle.std.specs.Prelude.{◌≡◌, ◌<◌, ℕ, Bool, None, Some, IfOk};
+ghost use Rattle.std.specs.Prelude.{◌≡◌, ◌<◌, None, Some, IfOk};
 ghost use Rattle.ih_tables.specs.Sizes.{patient_count, room_count, shift_count, nurse_count};
 ghost use Rattle.ih_tables.specs.declared.ids.NurseNo.{NurseNo};
 ghost use Rattle.ih_plan.specs.declared.moves.Placement.{Placement};
 ghost use Rattle.ih_plan.specs.declared.moves.Write.TheVariants.{SetStay, SetCare};
 ghost use Rattle.ih_plan.specs.Timetable.{empty, stay_of, IsPlacement};
 ghost use Rattle.ih_plan.specs.Writes.{put, IsWriteOf};
-ghost use Rattle.ih_plan.specs.Sums.{which_below};
-ghost use Rattle.ih_plan.specs.BillOf.{as_bill};
-ghost use Rattle.ih_plan.specs.Cells.{cell_at, cell_count, part_at, IsCellOf};
+ghost use Rattle.ih_plan.specs.Sums.{listed};
+ghost use Rattle.ih_plan.specs.Cells.{cell_at, cell_count};
 ghost use Rattle.ih_costs.specs.CellLedgers.{AreLedgers, AreLedgersOf, timetable_of};
-ghost use Rattle.ih_costs.specs.PartSums.{sum_of};
 
-use crate::stays::stay_bill;
 use ih_footprint::Numbering;
 use ih_nurses::Nurses;
 use ih_plan::{Placement, Plan, Write};
 use ih_roomdays::RoomDays;
-use ih_tables::{Bill, Cell, Instance, NurseNo, PatientNo, RoomNo, Shift};
+use ih_tables::{Cell, Instance, NurseNo, PatientNo, RoomNo, Shift};
 use ih_theatres::Theatres;
 use std::alloc::{AllocError, Global};
 
-/// The ledgers of one timetable, which the ledger of nurses keeps, and the numbering of its cells.
+/// The ledgers of one timetable, which the ledger of nurses keeps, and its cells by number, so that no number is divided
+/// while moves are priced.
 #[derive(Drop)]
 pub struct CellLedgers {
-    pub numbering: Numbering,
+    pub cells: Vec<Cell>,
     pub room_days: RoomDays,
     pub theatres: Theatres,
     pub nurses: Nurses,
+}
+
+// All cells of an instance, by number.
+fn all_cells(alloc: Global, inst: &Instance) -> Result<Vec<Cell>, AllocError>
+    ensures { IfOk result (λ cells. cells.items ≡ listed (cell_count inst.now.draft) (cell_at inst.now.draft)) }
+{
+    let numbering = Numbering::of(inst);
+    let mut cells = Vec::new(alloc);
+    for n in 0..numbering.count() {
+        cells.push(numbering.cell(n))?;
+    }
+    Ok(cells)
 }
 
 impl CellLedgers {
@@ -36,11 +46,12 @@ impl CellLedgers {
     pub fn new(alloc: Global, inst: &Instance) -> Result<CellLedgers, AllocError>
         ensures { IfOk result (λ l. AreLedgersOf inst.now.draft (empty inst.now.draft) l) }
     {
+        let cells = all_cells(alloc, inst)?;
         let room_days = RoomDays::new(alloc, inst)?;
         let theatres = Theatres::new(alloc, inst)?;
         let nurses = Nurses::new(alloc, inst)?;
         Ok(CellLedgers {
-            numbering: Numbering::of(inst),
+            cells,
             room_days,
             theatres,
             nurses,
@@ -115,35 +126,5 @@ impl CellLedgers {
             Write::SetStay(p, stay) => self.set_stay(inst, p, stay),
             Write::SetCare(r, k, n) => self.set_care(inst, r, k, n),
         }
-    }
-
-    // The part of the bill that a cell has.
-    fn part(&self, inst: &Instance, c: Cell) -> Bill
-        requires stands { AreLedgers inst.now.draft self.now }
-        requires cell { IsCellOf inst.now.draft c }
-        ensures { result ≡ as_bill (part_at inst.now.draft (timetable_of self.now) c) }
-    {
-        match c {
-            Cell::Stay(p) => stay_bill(inst, self.plan(), p),
-            Cell::RoomDay(r, d) => self.room_days.cell_bill(inst, r, d),
-            Cell::TheatreDay(t, d) => self.theatres.theatre_bill(inst, t, d),
-            Cell::SurgeonDay(s, d) => self.theatres.surgeon_bill(inst, s, d),
-            Cell::RoomShift(r, k) => self.nurses.room_shift_bill(inst, r, k),
-            Cell::NurseShift(n, k) => self.nurses.nurse_shift_bill(inst, n, k),
-            Cell::Care(x) => self.nurses.care_bill(inst, x),
-        }
-    }
-
-    /// The sum of the parts of cells, which rise.
-    pub fn sum(&self, inst: &Instance, cells: &[u32]) -> Bill
-        requires stands { AreLedgers inst.now.draft self.now }
-        requires cells { (p : ℕ → Bool) × (cells.now ≡ which_below (cell_count inst.now.draft) p) }
-        ensures { result ≡ as_bill (sum_of inst.now.draft (timetable_of self.now) cells.now) }
-    {
-        let mut sum = Bill::zero();
-        for n in cells {
-            sum = sum.add(&self.part(inst, self.numbering.cell(*n)));
-        }
-        sum
     }
 }

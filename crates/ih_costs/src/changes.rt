@@ -1,8 +1,9 @@
 //! What a write would change in a cell's part of the bill, told without making it.
 
-ghost use Rattle.std.specs.Prelude.{◌≡◌, ◌<◌, ℕ, Bool};
+ghost use Rattle.std.specs.Prelude.{◌≡◌, ◌<◌, ◌^◌, ℕ, Bool};
 ghost use Rattle.ih_tables.specs.declared.cells.Cell.TheVariants.{Stay, RoomShift, NurseShift, Care};
 ghost use Rattle.ih_tables.specs.Sizes.{patient_count, person_count};
+ghost use Rattle.ih_tables.specs.Bills.{IsWithin, add_bills};
 ghost use Rattle.ih_plan.specs.declared.moves.Write.TheVariants.{SetStay, SetCare};
 ghost use Rattle.ih_plan.specs.Timetable.{IsPlanOf};
 ghost use Rattle.ih_plan.specs.Writes.{IsWriteOf};
@@ -55,22 +56,35 @@ impl CellLedgers {
         self.nurses.care_change(inst, p, new)
     }
 
-    // What another stay of a patient, or none, would change in a cell's part.
-    fn change_by_stay(&self, inst: &Instance, p: PatientNo, new: Option<Placement>, c: Cell) -> Bill
+    // Adds what another stay of a patient, or none, would change in a cell's part. Each kind of cell has an addition of
+    // its own, so that only the numbers that it may change are added.
+    fn add_by_stay(
+        &self,
+        inst: &Instance,
+        p: PatientNo,
+        new: Option<Placement>,
+        c: Cell,
+        sum: &Bill,
+    ) -> Bill
         requires stands { AreLedgers inst.now.draft self.now }
         requires write { IsWriteOf inst.now.draft (SetStay p new) }
         requires cell { IsCellOf inst.now.draft c }
-        ensures { result ≡ part_change inst.now.draft (timetable_of self.now) (SetStay p new) c }
+        requires fits { IsWithin (10 ^ 12) (add_bills sum.now (part_change inst.now.draft (timetable_of self.now) (SetStay p new) c)) }
+        ensures { result ≡ add_bills sum.now (part_change inst.now.draft (timetable_of self.now) (SetStay p new) c) }
     {
         let old = self.plan().stay(p);
         match c {
-            Cell::Stay(q) => change_in_stay(inst, self.plan(), p, new, q),
-            Cell::RoomDay(r, d) => self.room_days.cell_change(inst, r, d, p, old, new),
-            Cell::TheatreDay(t, d) => self.theatres.theatre_change(inst, t, d, p, old, new),
-            Cell::SurgeonDay(s, d) => self.theatres.surgeon_change(inst, s, d, p, old, new),
-            Cell::RoomShift(r, k) => self.nurses.room_shift_change(inst, r, k, p, new),
-            Cell::NurseShift(n, k) => self.nurses.nurse_shift_change(inst, n, k, p, new),
-            Cell::Care(x) => self.change_in_care(inst, p, new, x),
+            Cell::Stay(q) => sum.add(&change_in_stay(inst, self.plan(), p, new, q)),
+            Cell::RoomDay(r, d) => sum.add(&self.room_days.cell_change(inst, r, d, p, old, new)),
+            Cell::TheatreDay(t, d) => {
+                sum.add(&self.theatres.theatre_change(inst, t, d, p, old, new))
+            }
+            Cell::SurgeonDay(s, d) => {
+                sum.add(&self.theatres.surgeon_change(inst, s, d, p, old, new))
+            }
+            Cell::RoomShift(r, k) => sum.add(&self.nurses.room_shift_change(inst, r, k, p, new)),
+            Cell::NurseShift(n, k) => sum.add(&self.nurses.nurse_shift_change(inst, n, k, p, new)),
+            Cell::Care(x) => sum.add(&self.change_in_care(inst, p, new, x)),
         }
     }
 
@@ -119,41 +133,44 @@ impl CellLedgers {
         self.nurses.load_change(inst, n, k, r, new)
     }
 
-    // What another choice of nurse, or none, would change in a cell's part.
-    fn change_by_care(
+    // Adds what another choice of nurse, or none, would change in a cell's part.
+    fn add_by_care(
         &self,
         inst: &Instance,
         r: RoomNo,
         k: Shift,
         new: Option<NurseNo>,
         c: Cell,
+        sum: &Bill,
     ) -> Bill
         requires stands { AreLedgers inst.now.draft self.now }
         requires write { IsWriteOf inst.now.draft (SetCare r k new) }
         requires cell { IsCellOf inst.now.draft c }
-        ensures { result ≡ part_change inst.now.draft (timetable_of self.now) (SetCare r k new) c }
+        requires fits { IsWithin (10 ^ 12) (add_bills sum.now (part_change inst.now.draft (timetable_of self.now) (SetCare r k new) c)) }
+        ensures { result ≡ add_bills sum.now (part_change inst.now.draft (timetable_of self.now) (SetCare r k new) c) }
     {
         match c {
-            Cell::RoomShift(s, l) => self.change_in_room_shift(inst, r, k, new, s, l),
-            Cell::NurseShift(n, l) => self.change_in_nurse_shift(inst, r, k, new, n, l),
-            Cell::Care(x) => self.nurses.seen_change(inst, x, r, k, new),
-            Cell::Stay(_) => Bill::zero(),
-            Cell::RoomDay(_, _) => Bill::zero(),
-            Cell::TheatreDay(_, _) => Bill::zero(),
-            Cell::SurgeonDay(_, _) => Bill::zero(),
+            Cell::RoomShift(s, l) => sum.add(&self.change_in_room_shift(inst, r, k, new, s, l)),
+            Cell::NurseShift(n, l) => sum.add(&self.change_in_nurse_shift(inst, r, k, new, n, l)),
+            Cell::Care(x) => sum.add(&self.nurses.seen_change(inst, x, r, k, new)),
+            Cell::Stay(_) => sum.add(&Bill::zero()),
+            Cell::RoomDay(_, _) => sum.add(&Bill::zero()),
+            Cell::TheatreDay(_, _) => sum.add(&Bill::zero()),
+            Cell::SurgeonDay(_, _) => sum.add(&Bill::zero()),
         }
     }
 
-    /// What a write would change in the part of the bill that a cell has.
-    pub fn change(&self, inst: &Instance, w: &Write, c: Cell) -> Bill
+    // Adds what a write would change in the part of the bill that a cell has.
+    fn add_change(&self, inst: &Instance, w: &Write, c: Cell, sum: &Bill) -> Bill
         requires stands { AreLedgers inst.now.draft self.now }
         requires write { IsWriteOf inst.now.draft w.now }
         requires cell { IsCellOf inst.now.draft c }
-        ensures { result ≡ part_change inst.now.draft (timetable_of self.now) w.now c }
+        requires fits { IsWithin (10 ^ 12) (add_bills sum.now (part_change inst.now.draft (timetable_of self.now) w.now c)) }
+        ensures { result ≡ add_bills sum.now (part_change inst.now.draft (timetable_of self.now) w.now c) }
     {
         match *w {
-            Write::SetStay(p, new) => self.change_by_stay(inst, p, new, c),
-            Write::SetCare(r, k, new) => self.change_by_care(inst, r, k, new, c),
+            Write::SetStay(p, new) => self.add_by_stay(inst, p, new, c, sum),
+            Write::SetCare(r, k, new) => self.add_by_care(inst, r, k, new, c, sum),
         }
     }
 
@@ -166,7 +183,7 @@ impl CellLedgers {
     {
         let mut sum = Bill::zero();
         for n in cells {
-            sum = sum.add(&self.change(inst, w, self.numbering.cell(*n)));
+            sum = self.add_change(inst, w, self.cells[*n as usize], &sum);
         }
         sum
     }

@@ -4,7 +4,7 @@ use crate::cell_ledgers::CellLedgers;
 use crate::copies::copy_plan;
 use crate::noting::play_noting;
 use crate::pricing::{price_of, put_all};
-use ih_footprint::CellList;
+use ih_footprint::{CellList, Numbering};
 use ih_moves::{Writes, expand};
 use ih_plan::{Members, Move, Plan, Write};
 use ih_tables::{Bill, Day, Instance, RoomNo};
@@ -19,9 +19,13 @@ pub struct Ledgers<'a> {
     cells: CellLedgers,
     // Room for the writes of a move.
     writes: Writes,
+    // Room for the cells that one write touches.
+    one: CellList,
 }
 
 impl<'a> Model for Ledgers<'a> {
+    ghost use Rattle.std.specs.Prelude.{◌≡◌};
+    ghost use Rattle.ih_tables.specs.Sizes.{sizes_of};
     ghost use Rattle.ih_costs.specs.Standing.{Standing};
     ghost use Rattle.ih_costs.specs.CellLedgers.{AreLedgers, timetable_of};
 
@@ -29,7 +33,7 @@ impl<'a> Model for Ledgers<'a> {
 
     ghost view = { λ l. record { instance = l.inst.now.draft; plan = timetable_of l.cells } };
 
-    ghost invariant = { λ l. AreLedgers l.inst.now.draft l.cells };
+    ghost invariant = { λ l. AreLedgers l.inst.now.draft l.cells × (l.one.sizes ≡ sizes_of l.inst.now.draft) };
 }
 
 impl<'a> Ledgers<'a> {
@@ -55,6 +59,7 @@ impl<'a> Ledgers<'a> {
             inst,
             cells,
             writes: Writes::new(),
+            one: CellList::new(alloc, Numbering::of(inst))?,
         })
     }
 
@@ -131,6 +136,16 @@ impl<'a> Ledgers<'a> {
         ensures sizes { foot.new.sizes ≡ foot.old.sizes }
         ensures same { self.new ≡ self.old }
     {
-        price_of(self.inst, &mut self.cells, &mut self.writes, mv, foot)
+        let mut price = Bill::zero();
+        price_of(
+            self.inst,
+            &mut self.cells,
+            &mut self.writes,
+            &mut self.one,
+            mv,
+            foot,
+            &mut price,
+        );
+        price
     }
 }

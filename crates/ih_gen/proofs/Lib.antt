@@ -1,4 +1,9 @@
+pub mod Accepted
 pub mod Assembly
+pub mod Nesting
+pub mod Readings
 pub mod Rows
+pub mod RowsRead
+pub mod ShiftsRead
 pub mod Streams
 pub mod WholeNumbers

@@ -1,7 +1,9 @@
 //! The text of a generated instance.
 
-ghost use Rattle.std.specs.Prelude.{◌≡◌, IfOk};
+ghost use Rattle.std.specs.Prelude.{◌≡◌, IfOk, Ok};
 ghost use Rattle.serde_json.specs.View.{view};
+ghost use Rattle.ih_tables.specs.declared.drafts.Draft.{Draft};
+ghost use Rattle.ih_instance.specs.Instance.{instance};
 ghost use Rattle.ih_gen.specs.Generated.{generated_data, generated};
 
 use crate::fixed::fixed_value;
@@ -34,10 +36,11 @@ fn generated_value(alloc: Global, number: u64) -> Result<Value, AllocError>
 
 /// The instance that a number generates, as compact JSON with sorted keys and no line feed at its end: 28 days, 25 rooms,
 /// 50 nurses, 3 occupants, 400 patients, 10 surgeons and 5 operating theatres. All else is picked by the words of one stream
-/// that the number seeds.
+/// that the number seeds. The reader of instance files takes it, whatever the number.
 #[tactic(auto, using(crate::proofs::WholeNumbers::whole_numbers))]
 pub fn generate(alloc: Global, number: u64) -> Result<Vec<u8>, AllocError>
-    ensures { IfOk result (λ text. text.items ≡ generated number) }
+    ensures written { IfOk result (λ text. text.items ≡ generated number) }
+    ensures read { IfOk result (λ text. (I : Draft) × (instance text.items ≡ Ok I)) }
 {
     generated_value(alloc, number)?.to_vec(alloc)
 }

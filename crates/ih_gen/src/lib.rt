@@ -11,5 +11,7 @@ mod patients;
 mod persons;
 mod picks;
 mod rooms;
+#[cfg(test)]
+mod tests;
 
 pub use instances::generate;

@@ -58,6 +58,10 @@ length-but p (x ∷ xs) = elim (cases_eq x p) [
       rw (without-there p x xs ne) (omega (arith, one, length-but p xs, sum_by-cons (but p) x xs))
 ]
 
+-- two lists with the same persons have the same others than p
+pub others-alike : (p : ℕ) (xs ys : List ℕ) → AreAlike xs ys → not (is_empty (without p xs)) ≡ not (is_empty (without p ys))
+others-alike p xs ys alike = more-empty (without p xs) (without p ys) false (omega (arith, length-but p xs, length-but p ys, alike (but p)))
+
 if-bit : (b : Bool) → (if b then 1 else 0) ≡ bit b
 if-bit true = refl
 if-bit false = refl
@@ -85,15 +89,15 @@ module _ {I : Draft} {P Q : Timetable} {p : ℕ} (a : IsElse I P Q p) where
   present-own r k = rw (admission-patient I Q p a.patient) refl
 
   -- a room is occupied by p, or by others
-  pub occupied-own : (r k : ℕ) (xs : List ℕ) → AreAlike xs (present I P r (day_of k))
-      → not (is_empty (present I Q r (day_of k))) ≡ (is_housed I p (stay_of Q p) r k || not (is_empty (without p xs)))
-  occupied-own r k xs alike =
+  pub occupied-own : (r k : ℕ) → not (is_empty (present I Q r (day_of k))) ≡ (is_housed I p (stay_of Q p) r k || not (is_empty (without p (present I P r (day_of k)))))
+  occupied-own r k =
       let own = sum-own (λ x. 1) (but p) r (day_of k) (λ x ne. sym (rw (ne_eqb x p ne) refl)) in
       let none : (if is_present I P r (day_of k) p then but p p else 0) ≡ 0 = rw (eq-eqb p p refl) (if-none (is_present I P r (day_of k) p)) in
       let here = if-bit (is_present I Q r (day_of k) p) in
-      let longer : length (present I Q r (day_of k)) ≡ length (without p xs) + bit (is_present I Q r (day_of k) p) =
-      omega (arith, own, none, here, sum-even 1 (present I Q r (day_of k)), length-but p xs, alike (but p)) in
-      rw (← present-own r k) (more-empty (present I Q r (day_of k)) (without p xs) (is_present I Q r (day_of k) p) longer)
+      let rest = without p (present I P r (day_of k)) in
+      let longer : length (present I Q r (day_of k)) ≡ length rest + bit (is_present I Q r (day_of k) p) =
+      omega (arith, own, none, here, sum-even 1 (present I Q r (day_of k)), length-but p (present I P r (day_of k))) in
+      rw (← present-own r k) (more-empty (present I Q r (day_of k)) rest (is_present I Q r (day_of k) p) longer)
 
   own-skill : (r k level : ℕ) → (if is_present I Q r (day_of k) p then skill_of I Q k p - level else 0) ≡ own_skill_above I p (stay_of Q p) r k level
   unfolding entry_of

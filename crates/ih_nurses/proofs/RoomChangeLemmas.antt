@@ -1,20 +1,20 @@
 -- What another stay of one patient changes in the part of a room's shift.
-use Rattle.std.proofs.Common.{◌≡◌, ℕ, ◌<◌, refl, arith, sym, ap, subst, ◌∙◌, List, length, map, Option}
-use Rattle.std.specs.Prelude.{◌&&◌, ◌||◌, not, is_none, slice_index_or}
+use Rattle.std.proofs.Common.{◌≡◌, ℕ, ◌<◌, refl, arith, sym, ap, subst, ◌∙◌, Bool, true, false, List, length, map, Option, Some, None}
+use Rattle.std.specs.Prelude.{◌&&◌, ◌||◌, not, is_none, slice_index_or, option_map}
 use Rattle.ih_tables.specs.declared.drafts.Draft.{Draft}
 use Rattle.ih_tables.specs.declared.ids.PatientNo.{PatientNo}
 use Rattle.ih_tables.specs.declared.ids.NurseNo.{NurseNo}
 use Rattle.ih_tables.specs.declared.ids.RoomNo.{RoomNo}
 use Rattle.ih_tables.specs.declared.ids.Shift.{Shift}
 use Rattle.ih_tables.specs.declared.cells.Cell.TheVariants.{RoomShift}
-use Rattle.ih_tables.specs.Bills.{sub_bills}
+use Rattle.ih_tables.specs.Bills.{sub_bills, zero_bill}
 use Rattle.ih_tables.specs.Sizes.{patient_count, person_count, room_count, shift_count}
 use Rattle.ih_links.specs.Lists.{Linked, list_of, AreNodes, without}
 use Rattle.ih_plan.specs.declared.moves.Placement.{Placement}
 use Rattle.ih_plan.specs.declared.moves.Write.TheVariants.{SetStay, SetCare}
 use Rattle.ih_plan.specs.Timetable.{Timetable, IsPlanOf, care_of, stay_of}
 use Rattle.ih_plan.specs.Writes.{put}
-use Rattle.ih_plan.specs.Presence.{admission_of, entry_of, present, day_of, skill_of}
+use Rattle.ih_plan.specs.Presence.{admission_of, entry_of, present, placed_at, day_of, skill_of}
 use Rattle.ih_plan.specs.Costs.{not_working, is_empty, skill_missing}
 use Rattle.ih_plan.specs.BillOf.{as_bill}
 use Rattle.ih_plan.specs.Cells.{part_at}
@@ -23,9 +23,9 @@ use Rattle.ih_plan.proofs.Entries.{stay_of-same}
 use Rattle.ih_nurses.specs.declared.bills.NursingCosts.{NursingCosts}
 use Rattle.ih_nurses.specs.Here.{AreHere, on_day}
 use Rattle.ih_nurses.specs.Own.{is_housed, own_missing}
-use Rattle.ih_nurses.proofs.DifferenceLemmas.{bill_in, less, less-same, less-parts}
+use Rattle.ih_nurses.proofs.DifferenceLemmas.{bill_in, less, less-same, less-none, less-parts}
 use Rattle.ih_nurses.proofs.HereLemmas.{read-here}
-use Rattle.ih_nurses.proofs.OwnLemmas.{else-put, else-self, occupied-own, missing-own}
+use Rattle.ih_nurses.proofs.OwnLemmas.{else-put, else-self, occupied-own, missing-own, others-alike}
 use Rattle.ih_nurses.proofs.RoomLemmas.{AreAlike, room-part, room_list-part}
 use Rattle.ih_nurses.proofs.ShiftLemmas.{sum-in_list, here-kept}
 
@@ -37,10 +37,14 @@ pub record AreChoiceCosts (I : Draft) (P : Timetable) (xs : List ℕ) (k : ℕ) 
   pub seen : a.nurses_seen ≡ 0
   pub overload : a.overload ≡ 0
 
--- These are the costs of patient p's stay in room r and shift k, with the other persons in a list.
-pub record AreOwnCosts (I : Draft) (xs : List ℕ) (p : ℕ) (stay : Option Placement) (r k : ℕ) (n : Option ℕ) (a : NursingCosts) : Type 0 where
+-- others than patient p are in room r in shift k
+abbrev pub has_others : Draft → Timetable → ℕ → ℕ → ℕ → Bool
+has_others I P p r k = not (is_empty (without p (present I P r (day_of k))))
+
+-- These are the costs of patient p's stay in room r and shift k, beside the other persons of the timetable P.
+pub record AreOwnCosts (I : Draft) (P : Timetable) (p : ℕ) (stay : Option Placement) (r k : ℕ) (n : Option ℕ) (a : NursingCosts) : Type 0 where
   pub off : a.off ≡ 0
-  pub uncovered : a.uncovered ≡ bit (is_none n && (is_housed I p stay r k || not (is_empty (without p xs))))
+  pub uncovered : a.uncovered ≡ bit (is_none n && (is_housed I p stay r k || has_others I P p r k))
   pub missing_skill : a.missing_skill ≡ own_missing I p stay r k n
   pub seen : a.nurses_seen ≡ 0
   pub overload : a.overload ≡ 0
@@ -88,18 +92,30 @@ whole I P r k = record {
 whole-part : (I : Draft) (P : Timetable) (r : RoomNo) (k : Shift) → bill_in (whole I P r.0 k.0) ≡ as_bill (part_at I P (RoomShift r k))
 whole-part I P r k = room-part I P r k _ _ _ refl refl refl
 
-pub own-change : (I : Draft) (P : Timetable) (here : List Linked) (day : Linked) (r : RoomNo) (k : Shift) (p : PatientNo) (new : Option Placement) (a b : NursingCosts)
-    → IsRoomList I P here day r.0 k.0 → IsPlanOf I P → p.0 < patient_count I
-    → AreOwnCosts I (list_of day r.0) p.0 new r.0 k.0 (care_of P r.0 k.0) a
-    → AreOwnCosts I (list_of day r.0) p.0 (stay_of P p.0) r.0 k.0 (care_of P r.0 k.0) b
+-- the others in the list of a room and a day are those of the timetable
+pub others-in : {I : Draft} {P : Timetable} {here : List Linked} {day : Linked} {r k : ℕ} (p : ℕ) → IsRoomList I P here day r k → not (is_empty (without p (list_of day r))) ≡ has_others I P p r k
+others-in {I} {P} {here} {day} {r} {k} p l = others-alike p (list_of day r) (present I P r (day_of k)) (list-alike I P here day r k l)
+
+-- there is no nurse just where there is no nurse's number
+pub none-number : (n : Option NurseNo) → is_none (option_map (λ (a : NurseNo). a.0) n) ≡ is_none n
+none-number None = refl
+none-number (Some a) = refl
+
+-- whether there are others matters only where there is no nurse
+pub others-alone : (none housed others : Bool) → (none && (housed || (none && others))) ≡ (none && (housed || others))
+others-alone true housed others = refl
+others-alone false housed others = refl
+
+pub own-change : (I : Draft) (P : Timetable) (r : RoomNo) (k : Shift) (p : PatientNo) (new : Option Placement) (a b : NursingCosts) → IsPlanOf I P → p.0 < patient_count I
+    → AreOwnCosts I P p.0 new r.0 k.0 (care_of P r.0 k.0) a
+    → AreOwnCosts I P p.0 (stay_of P p.0) r.0 k.0 (care_of P r.0 k.0) b
     → less a b ≡ sub_bills (as_bill (part_at I (put (SetStay p new) P) (RoomShift r k))) (as_bill (part_at I P (RoomShift r k)))
-own-change I P here day r k p new a b l plan patient ca cb =
+own-change I P r k p new a b plan patient ca cb =
     let Q : Timetable = put (SetStay p new) P in
     let sizes = plan.stays in
     let now : stay_of Q p.0 ≡ new = stay_of-same P p new (omega arith) in
-    let alike = list-alike I P here day r.0 k.0 l in
-    let after = rw now at (occupied-own (else-put I P p new patient) r.0 k.0 (list_of day r.0) alike) in
-    let before = occupied-own (else-self I P p.0 patient) r.0 k.0 (list_of day r.0) alike in
+    let after = rw now at (occupied-own (else-put I P p new patient) r.0 k.0) in
+    let before = occupied-own (else-self I P p.0 patient) r.0 k.0 in
     let missing = rw now at (missing-own (else-put I P p new patient) (care_of P r.0 k.0) r.0 k.0) in
     let covered_after : a.uncovered ≡ bit (is_none (care_of P r.0 k.0) && not (is_empty (present I Q r.0 (day_of k.0)))) = ca.uncovered ∙ rw after refl in
     let covered_before : b.uncovered ≡ bit (is_none (care_of P r.0 k.0) && not (is_empty (present I P r.0 (day_of k.0)))) = cb.uncovered ∙ rw before refl in
@@ -111,6 +127,28 @@ own-change I P here day r k p new a b l plan patient ca cb =
       overload = omega (arith, ca.overload, cb.overload);
     })
     ∙ less-parts (whole I Q r.0 k.0) (whole I P r.0 k.0) (whole-part I Q r k) (whole-part I P r k)
+
+-- where the patient is at the same place before and after, the part stays
+missing-alike : (I : Draft) (p : ℕ) (s t : Option Placement) (r k : ℕ) (n : Option ℕ) → option_map placed_at s ≡ option_map placed_at t → own_missing I p s r k n ≡ own_missing I p t r k n
+missing-alike I p s t r k None e = refl
+missing-alike I p s t r k (Some n) e = rw e refl
+
+pub own-unchanged : (I : Draft) (P : Timetable) (r : RoomNo) (k : Shift) (p : PatientNo) (new : Option Placement) → IsPlanOf I P → p.0 < patient_count I
+    → option_map placed_at (stay_of P p.0) ≡ option_map placed_at new
+    → zero_bill ≡ sub_bills (as_bill (part_at I (put (SetStay p new) P) (RoomShift r k))) (as_bill (part_at I P (RoomShift r k)))
+own-unchanged I P r k p new plan patient e =
+    let n = care_of P r.0 k.0 in
+    let a : NursingCosts = record {
+      off = 0;
+      uncovered = bit (is_none n && (is_housed I p.0 new r.0 k.0 || has_others I P p.0 r.0 k.0));
+      missing_skill = own_missing I p.0 new r.0 k.0 n;
+      nurses_seen = 0;
+      overload = 0;
+    } in
+    less-none a
+    ∙ own-change I P r k p new a a plan patient
+    (record { off = refl; uncovered = refl; missing_skill = refl; seen = refl; overload = refl })
+    (record { off = refl; uncovered = rw e refl; missing_skill = missing-alike I p.0 new (stay_of P p.0) r.0 k.0 n (sym e); seen = refl; overload = refl })
 
 -- a choice leaves the skills that persons require
 pub costs-kept : (I : Draft) (P : Timetable) (r : RoomNo) (l : Shift) (m : Option NurseNo) (xs : List ℕ) (k : ℕ) (n : Option ℕ) (a : NursingCosts)

@@ -1,15 +1,18 @@
 //! What a write would change in each cell's part of the bill of nursing, told without making it.
 
-ghost use Rattle.std.specs.Prelude.{◌≡◌, ◌<◌, ◌^◌, Some};
+ghost use Rattle.std.specs.Prelude.{◌≡◌, ◌<◌, ◌^◌, ◌&&◌, not, Some, is_none, option_map};
 ghost use Rattle.ih_tables.specs.declared.ids.NurseNo.{NurseNo};
 ghost use Rattle.ih_tables.specs.declared.ids.PersonNo.{PersonNo};
 ghost use Rattle.ih_tables.specs.declared.cells.Cell.TheVariants.{RoomShift, NurseShift, Care};
 ghost use Rattle.ih_tables.specs.Sizes.{patient_count, person_count, room_count, shift_count, nurse_count};
 ghost use Rattle.ih_tables.specs.Bills.{IsWithin, sub_bills};
+ghost use Rattle.ih_links.specs.Lists.{without};
 ghost use Rattle.ih_plan.specs.declared.moves.Placement.{Placement};
 ghost use Rattle.ih_plan.specs.declared.moves.Write.TheVariants.{SetStay, SetCare};
 ghost use Rattle.ih_plan.specs.Timetable.{Timetable, IsPlacement};
 ghost use Rattle.ih_plan.specs.Writes.{put};
+ghost use Rattle.ih_plan.specs.Presence.{present, day_of};
+ghost use Rattle.ih_plan.specs.Costs.{is_empty};
 ghost use Rattle.ih_plan.specs.BillOf.{as_bill};
 ghost use Rattle.ih_plan.specs.Cells.{part_at};
 ghost use Rattle.ih_nurses.specs.Ledger.{IsLedgerOf};
@@ -18,7 +21,7 @@ use crate::Nurses;
 use crate::bills::{NursingCosts, difference};
 use crate::choices::{is_nurse, nurse_at};
 use crate::loads::{load, load_after, overload};
-use crate::own::{given, room_costs};
+use crate::own::{given, have_one_place, room_costs};
 use crate::rooms::{choice_costs, has_others, workload_in};
 use crate::seen::{newly_seen, nurses_over};
 use crate::stretches::{stay_stretch, stretch_of};
@@ -52,6 +55,24 @@ fn nursed(nurses_seen: u32) -> NursingCosts
 }
 
 impl Nurses {
+    // Whether the room has no nurse in the shift, and anybody but the patient. Where it has a nurse, nobody looks for them.
+    fn leaves_others(
+        &self,
+        inst: &Instance,
+        r: RoomNo,
+        k: Shift,
+        p: PatientNo,
+        nurse: Option<NurseNo>,
+    ) -> bool
+        requires room { r.0 < room_count inst.now.draft }
+        requires shift { k.0 < shift_count inst.now.draft }
+        requires stands { (P : Timetable) × IsLedgerOf inst.now.draft P self.now }
+        ensures { (P : Timetable) → IsLedgerOf inst.now.draft P self.now
+            → result ≡ (is_none (option_map (λ (a : NurseNo). a.0) nurse) && not (is_empty (without p.0 (present inst.now.draft P r.0 (day_of k.0))))) }
+    {
+        nurse.is_none() && has_others(&self.here[(k.0 / 3) as usize], r, p.0)
+    }
+
     /// What another stay of a patient, or none, would change in a room's shift: the skill that the patient lacks there, and whether the room has persons and no nurse. Each number is at most 10^11 in magnitude.
     pub fn room_shift_change(
         &self,
@@ -70,10 +91,12 @@ impl Nurses {
             → result ≡ sub_bills (as_bill (part_at inst.now.draft (put (SetStay p new) P) (RoomShift r k))) (as_bill (part_at inst.now.draft P (RoomShift r k))) }
         ensures within { IsWithin (10 ^ 11) result }
     {
-        let persons = &self.here[(k.0 / 3) as usize];
-        let others = has_others(persons, r, p.0);
-        let nurse = nurse_at(inst, &self.plan, r, k);
         let old = self.plan.stay(p);
+        if have_one_place(old, new) {
+            return Bill::zero();
+        }
+        let nurse = nurse_at(inst, &self.plan, r, k);
+        let others = self.leaves_others(inst, r, k, p, nurse);
         difference(
             room_costs(inst, r, k, nurse, others, p, new),
             room_costs(inst, r, k, nurse, others, p, old),

@@ -1,11 +1,11 @@
 //! What one patient's stay gives to a room and to a nurse in a shift.
 
-ghost use Rattle.std.specs.Prelude.{◌≡◌, ◌<◌, ◌≤◌, ◌-◌, ◌*◌, ◌&&◌, ◌||◌, is_none, slice_index, IfSome, option_map};
+ghost use Rattle.std.specs.Prelude.{◌≡◌, ◌<◌, ◌≤◌, ◌-◌, ◌*◌, ◌&&◌, ◌||◌, is_none, slice_index, true, IfSome, option_map};
 ghost use Rattle.ih_tables.specs.declared.ids.NurseNo.{NurseNo};
 ghost use Rattle.ih_tables.specs.Sizes.{patient_count, nurse_count, shift_count};
 ghost use Rattle.ih_plan.specs.Timetable.{IsPlanOf, IsPlacement};
 ghost use Rattle.ih_plan.specs.Persons.{person_of};
-ghost use Rattle.ih_plan.specs.Presence.{covers, day_of};
+ghost use Rattle.ih_plan.specs.Presence.{covers, day_of, placed_at};
 ghost use Rattle.ih_plan.specs.Sums.{bit};
 ghost use Rattle.ih_nurses.specs.Loads.{given};
 ghost use Rattle.ih_nurses.specs.Own.{is_housed, own_skill_above, own_missing};
@@ -25,6 +25,19 @@ fn is_covered(inst: &Instance, p: PatientNo, at: Placement, k: Shift) -> bool
 {
     let day = k.0 / 3;
     at.day.0 <= day && day < at.day.0 + inst.patient(p).length_of_stay
+}
+
+/// Whether two stays have one room and one day, so that only their theatres may differ.
+pub fn have_one_place(a: Option<Placement>, b: Option<Placement>) -> bool
+    ensures { result ≡ true → option_map placed_at a ≡ option_map placed_at b }
+{
+    match a {
+        None => b.is_none(),
+        Some(at) => match b {
+            None => false,
+            Some(to) => at.room.0 == to.room.0 && at.day.0 == to.day.0,
+        },
+    }
 }
 
 // Whether the patient is in the room in the shift.

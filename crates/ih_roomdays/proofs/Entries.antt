@@ -18,7 +18,7 @@ entered-begin v room x a rows = record {
   rooms = refl;
   days = refl;
   persons = refl;
-  genders = refl;
+  profiles = refl;
   each = λ r d y below. rw (span-none a d, and-false (y == x), and-false (room == r), or-false (is_at v r d y)) refl;
 }
 
@@ -94,7 +94,7 @@ module _ (v : Rows) (rows : AreRows v) (l : Linked) (room x k : ℕ) (room_below
     rooms = so_far.rooms;
     days = so_far.days;
     persons = so_far.persons;
-    genders = so_far.genders;
+    profiles = so_far.profiles;
     each = λ r d y below.
         each-after r d y (rw so_far.days below) ∙ (ap (λ b. b || ((room == r) && ((y == x) && (k == d)))) (so_far.each r d y below)
         ∙ (grown (is_at old r d y) (room == r) (y == x) (in_span a k d) (k == d) ∙ sym (ap (λ b. is_at old r d y || ((room == r) && ((y == x) && b))) (span-more a k d order))));

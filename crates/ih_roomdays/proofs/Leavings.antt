@@ -19,7 +19,7 @@ left-begin v x a rows = record {
   rooms = refl;
   days = refl;
   persons = refl;
-  genders = refl;
+  profiles = refl;
   each = λ r d y below. rw (span-none a d, and-false (y == x)) (sym (and-true (is_at v r d y)));
 }
 
@@ -73,7 +73,7 @@ module _ (v : Rows) (rows : AreRows v) (l : Linked) (x k : ℕ) (k_below : k < v
     rooms = so_far.rooms;
     days = so_far.days;
     persons = so_far.persons;
-    genders = so_far.genders;
+    profiles = so_far.profiles;
     each = λ r d y below.
         each-after r d y (rw so_far.days below) ∙ (ap (λ b. b && not ((y == x) && (k == d))) (so_far.each r d y below)
         ∙ (shrunk (is_at old r d y) (y == x) (in_span a k d) (k == d) ∙ sym (ap (λ b. is_at old r d y && not ((y == x) && b)) (span-more a k d order))));

@@ -5,6 +5,7 @@ pub mod Sights
 pub mod Orders
 pub mod People
 pub mod GenderLemmas
+pub mod AgeLemmas
 pub mod Standing
 pub mod StayLemmas
 pub mod Others

@@ -1,5 +1,5 @@
 -- The occupants come into their rooms, one after the other.
-use Rattle.std.proofs.Common.{◌≡◌, ℕ, zero, suc, ◌+◌, ◌-◌, ◌<◌, refl, arith, sym, ap, subst, ◌∙◌, false, List, Option, Some, None, inl, inr, min, replicate}
+use Rattle.std.proofs.Common.{◌≡◌, ℕ, zero, suc, ◌+◌, ◌-◌, ◌<◌, refl, arith, sym, ap, subst, ◌∙◌, false, Option, Some, None, inl, inr, min, replicate}
 use Rattle.std.specs.Prelude.{◌||◌, ◌&&◌, ◌==◌, nat_lt, slice_get, option_and_then}
 use Rattle.std.proofs.lemmas.Bool.{cases_eq, cases_lt, eq-eqb, ne_eqb, lt-ltb, le-ltb}
 use Rattle.ih_tables.specs.declared.drafts.Draft.{Draft}
@@ -10,9 +10,10 @@ use Rattle.ih_plan.specs.Timetable.{Timetable, empty, stay_of}
 use Rattle.ih_plan.specs.Presence.{admission_of, covers, is_present}
 use Rattle.ih_plan.specs.Persons.{person_of}
 use Rattle.ih_plan.proofs.PlanRanges.{empty-plan}
+use Rattle.ih_roomdays.specs.declared.profiles.Profiles.{Profiles}
 use Rattle.ih_roomdays.specs.declared.rows.Rows.{Rows}
 use Rattle.ih_roomdays.specs.Rows.{AreRows, AreVacant, IsEntered, is_at, of_stay}
-use Rattle.ih_roomdays.specs.Genders.{AreGenders}
+use Rattle.ih_roomdays.specs.Profiles.{AreProfiles}
 use Rattle.ih_roomdays.specs.Ledger.{IsLedgerOf}
 use Rattle.ih_roomdays.proofs.Nodes.{or-false, and-false}
 use Rattle.ih_roomdays.proofs.Standing.{nobody-past}
@@ -24,7 +25,7 @@ pub record IsFilled (I : Draft) (v : Rows) (k : ℕ) : Type 0 where
   pub rooms : v.rooms ≡ room_count I
   pub days : v.days ≡ I.days
   pub persons : v.persons ≡ person_count I
-  pub genders : AreGenders I v.genders.items
+  pub profiles : AreProfiles I v.profiles
   pub each : (r d x : ℕ) → d < I.days → is_at v r d x ≡ (nat_lt x (patient_count I + k) && is_present I (empty I) r d x)
 
 pub no-stay : (I : Draft) (p : ℕ) → stay_of (empty I) p ≡ None
@@ -35,13 +36,13 @@ no-stay I p = none (patient_count I) p
     none (suc n) zero = refl
     none (suc n) (suc i) = none n i
 
-pub filled-none : (I : Draft) (v : Rows) (genders : List ℕ) → AreGenders I genders → AreVacant (room_count I) I.days (person_count I) genders v → IsFilled I v 0
-filled-none I v genders known vacant = record {
+pub filled-none : (I : Draft) (v : Rows) (profiles : Profiles) → AreProfiles I profiles → AreVacant (room_count I) I.days (person_count I) profiles v → IsFilled I v 0
+filled-none I v profiles known vacant = record {
   rows = vacant.rows;
   rooms = vacant.rooms_are;
   days = vacant.days_are;
   persons = vacant.persons_are;
-  genders = rw vacant.genders_are known;
+  profiles = rw vacant.profiles_are known;
   each = λ r d x below. vacant.nobody r d x ∙ elim (cases_lt x (patient_count I)) [
     | inl patient ↦ rw (nowhere I (empty I) x r d patient (no-stay I x)) (sym (and-false (nat_lt x (patient_count I + 0))))
     | inr past ↦ rw (le-ltb x (patient_count I + 0) (omega arith)) refl
@@ -68,7 +69,7 @@ filled-more I v new k o filled is entered = record {
   rooms = entered.rooms ∙ filled.rooms;
   days = entered.days ∙ filled.days;
   persons = entered.persons ∙ filled.persons;
-  genders = subst (λ g. AreGenders I g.items) (sym entered.genders) filled.genders;
+  profiles = subst (AreProfiles I) (sym entered.profiles) filled.profiles;
   each = λ r d x below. entered.each r d x (rw filled.days below)
       ∙ (ap (λ b. b || ((o.room_id.0 == r) && of_stay (patient_count I + k) 0 (min (0 + o.length_of_stay) I.days) d x)) (filled.each r d x below) ∙ each r d x below);
 }
@@ -102,7 +103,7 @@ filled-all I v filled = record {
   rooms = filled.rooms;
   days = filled.days;
   persons = filled.persons;
-  genders = filled.genders;
+  profiles = filled.profiles;
   each = λ r d x below. filled.each r d x below ∙ elim (cases_lt x (person_count I)) [
     | inl inside ↦ rw (lt-ltb x (person_count I) inside) refl
     | inr past ↦ rw (le-ltb x (person_count I) past) (sym (nobody-past I (empty I) r d x past))

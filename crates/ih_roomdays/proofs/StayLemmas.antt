@@ -17,7 +17,7 @@ use Rattle.ih_plan.proofs.Entries.{admission-patient, admission-other, admission
 use Rattle.ih_plan.proofs.PlanRanges.{put-plan, stay-plan}
 use Rattle.ih_roomdays.specs.declared.rows.Rows.{Rows}
 use Rattle.ih_roomdays.specs.Rows.{IsEntered, IsLeft, is_at, of_stay}
-use Rattle.ih_roomdays.specs.Genders.{AreGenders}
+use Rattle.ih_roomdays.specs.Profiles.{AreProfiles}
 use Rattle.ih_roomdays.specs.Ledger.{IsLedgerOf}
 use Rattle.ih_roomdays.proofs.Nodes.{or-false, and-true, and-false}
 
@@ -60,7 +60,7 @@ module _ (I : Draft) (P : Timetable) (old new : Rows) (p : PatientNo) (a : Patie
     rooms = entered.rooms ∙ stands.rooms;
     days = entered.days ∙ stands.days;
     persons = entered.persons ∙ stands.persons;
-    genders = subst (λ g. AreGenders I g.items) (sym entered.genders) stands.genders;
+    profiles = subst (AreProfiles I) (sym entered.profiles) stands.profiles;
     each = λ r d x below. entered.each r d x (rw stands.days below) ∙ (ap (λ b. b || ((at.room.0 == r) && of_stay p.0 at.day.0 (min (at.day.0 + a.length_of_stay) I.days) d x)) (stands.each r d x below) ∙ each r d x below);
   }
     where
@@ -78,7 +78,7 @@ module _ (I : Draft) (P : Timetable) (old new : Rows) (p : PatientNo) (a : Patie
     rooms = gone.rooms ∙ stands.rooms;
     days = gone.days ∙ stands.days;
     persons = gone.persons ∙ stands.persons;
-    genders = subst (λ g. AreGenders I g.items) (sym gone.genders) stands.genders;
+    profiles = subst (AreProfiles I) (sym gone.profiles) stands.profiles;
     each = λ r d x below. gone.each r d x (rw stands.days below) ∙ (ap (λ b. b && not (of_stay p.0 at.day.0 (min (at.day.0 + a.length_of_stay) I.days) d x)) (stands.each r d x below) ∙ each r d x below);
   }
     where

@@ -7,16 +7,16 @@ use Rattle.ih_plan.specs.Presence.{is_present}
 use Rattle.ih_plan.specs.Present.{ArePresent}
 use Rattle.ih_roomdays.specs.declared.rows.Rows.{Rows}
 use Rattle.ih_roomdays.specs.Rows.{AreRows, is_at, persons_at}
-use Rattle.ih_roomdays.specs.Genders.{AreGenders}
+use Rattle.ih_roomdays.specs.Profiles.{AreProfiles}
 
--- The ledger stands for the timetable P: it has the instance's rooms, days, persons and genders, and a person is in a room on a day in the ledger exactly where the timetable has it so.
+-- The ledger stands for the timetable P: it has the instance's rooms, days and persons with their genders and ages, and a person is in a room on a day in the ledger exactly where the timetable has it so.
 pub record IsLedgerOf (I : Draft) (P : Timetable) (v : Rows) : Type 0 where
   pub plan : IsPlanOf I P
   pub rows : AreRows v
   pub rooms : v.rooms ≡ room_count I
   pub days : v.days ≡ I.days
   pub persons : v.persons ≡ person_count I
-  pub genders : AreGenders I v.genders.items
+  pub profiles : AreProfiles I v.profiles
   pub each : (r d x : ℕ) → d < I.days → is_at v r d x ≡ is_present I P r d x
 
 -- A ledger that stands for a timetable tells who is present.

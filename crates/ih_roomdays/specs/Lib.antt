@@ -2,4 +2,5 @@ pub mod Rows
 pub mod Company
 pub mod Parts
 pub mod Genders
+pub mod Profiles
 pub mod Ledger

@@ -1,6 +1,7 @@
 -- Lists of who is in which room on which day: node x * days + d is person x on day d.
 use Rattle.std.specs.Prelude.{◌≡◌, ℕ, ◌+◌, ◌*◌, ◌/◌, ◌%◌, ◌^◌, ◌<◌, Bool, true, false, ◌==◌, ◌&&◌, ◌||◌, not, List, length, map}
 use Rattle.ih_links.specs.Lists.{has, list_of, IsOnce}
+use Rattle.ih_roomdays.specs.declared.profiles.Profiles.{Profiles}
 use Rattle.ih_roomdays.specs.declared.rows.Rows.{Rows}
 use Rattle.ih_plan.specs.Presence.{in_span}
 
@@ -27,12 +28,12 @@ pub record AreRows (v : Rows) : Type 0 where
   pub once : (r d : ℕ) → d < v.days → IsOnce (nodes_at v r d)
 
 -- Nobody is in any room.
-pub record AreVacant (rooms days persons : ℕ) (genders : List ℕ) (v : Rows) : Type 0 where
+pub record AreVacant (rooms days persons : ℕ) (profiles : Profiles) (v : Rows) : Type 0 where
   pub rows : AreRows v
   pub rooms_are : v.rooms ≡ rooms
   pub days_are : v.days ≡ days
   pub persons_are : v.persons ≡ persons
-  pub genders_are : v.genders.items ≡ genders
+  pub profiles_are : v.profiles ≡ profiles
   pub nobody : (r d x : ℕ) → is_at v r d x ≡ false
 
 -- y is x, and day d is from day a on and before day b
@@ -45,7 +46,7 @@ pub record IsEntered (before after : Rows) (room x a b : ℕ) : Type 0 where
   pub rooms : after.rooms ≡ before.rooms
   pub days : after.days ≡ before.days
   pub persons : after.persons ≡ before.persons
-  pub genders : after.genders ≡ before.genders
+  pub profiles : after.profiles ≡ before.profiles
   pub each : (r d y : ℕ) → d < before.days → is_at after r d y ≡ (is_at before r d y || ((room == r) && of_stay x a b d y))
 
 -- Afterwards person x is in no room from day a on and before day b.
@@ -54,5 +55,5 @@ pub record IsLeft (before after : Rows) (x a b : ℕ) : Type 0 where
   pub rooms : after.rooms ≡ before.rooms
   pub days : after.days ≡ before.days
   pub persons : after.persons ≡ before.persons
-  pub genders : after.genders ≡ before.genders
+  pub profiles : after.profiles ≡ before.profiles
   pub each : (r d y : ℕ) → d < before.days → is_at after r d y ≡ (is_at before r d y && not (of_stay x a b d y))

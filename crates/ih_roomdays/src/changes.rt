@@ -7,11 +7,12 @@ ghost use Rattle.ih_plan.specs.Persons.{person_of};
 ghost use Rattle.ih_links.specs.Lists.{AreNodes, without};
 ghost use Rattle.ih_roomdays.specs.Rows.{AreRows, nodes_at, persons_at, is_at};
 ghost use Rattle.ih_roomdays.specs.Company.{IsSeen, with_if};
-ghost use Rattle.ih_roomdays.specs.Genders.{AreGenders};
+ghost use Rattle.ih_roomdays.specs.Profiles.{AreProfiles};
 ghost use Rattle.ih_roomdays.specs.Parts.{room_counts};
 
 use crate::bills::RoomDayCounts;
 use crate::companies::{Company, company_but, with};
+use crate::profiles::Profiles;
 use crate::rows::Rows;
 use ih_plan::Placement;
 use ih_tables::{Day, Instance, PatientNo, RoomNo};
@@ -49,14 +50,14 @@ pub fn room_counts(inst: &Instance, r: RoomNo, seen: Company, count: u32) -> Roo
 // The same with one person more, where that one is there too.
 fn room_counts_with(
     inst: &Instance,
-    genders: &[u32],
+    profiles: &Profiles,
     r: RoomNo,
     seen: Company,
     count: u32,
     x: u32,
     there: bool,
 ) -> RoomDayCounts
-    requires genders { AreGenders inst.now.draft genders.now }
+    requires profiles { AreProfiles inst.now.draft profiles.now }
     requires room { r.0 < room_count inst.now.draft }
     requires first { IfSome seen.first (λ y. y < person_count inst.now.draft) }
     requires person { x < person_count inst.now.draft }
@@ -64,7 +65,7 @@ fn room_counts_with(
     ensures { (xs : List ℕ) → IsSeen inst.now.draft xs seen → count ≡ length xs → result ≡ room_counts inst.now.draft r.0 (with_if there x xs) }
 {
     if there {
-        room_counts(inst, r, with(inst, genders, seen, x), count + 1)
+        room_counts(inst, r, with(inst, profiles, seen, x), count + 1)
     } else {
         room_counts(inst, r, seen, count)
     }
@@ -97,7 +98,7 @@ pub fn before_and_after(
     will: bool,
 ) -> (RoomDayCounts, RoomDayCounts)
     requires rows { AreRows rows.now }
-    requires genders { AreGenders inst.now.draft rows.now.genders.items }
+    requires profiles { AreProfiles inst.now.draft rows.now.profiles }
     requires rooms { rows.now.rooms ≡ room_count inst.now.draft }
     requires persons { rows.now.persons ≡ person_count inst.now.draft }
     requires room { r.0 < room_count inst.now.draft }
@@ -107,17 +108,16 @@ pub fn before_and_after(
     ensures before { result.0 ≡ room_counts inst.now.draft r.0 (with_if was p.0 (without p.0 (persons_at rows.now r.0 d.0))) }
     ensures after { result.1 ≡ room_counts inst.now.draft r.0 (with_if will p.0 (without p.0 (persons_at rows.now r.0 d.0))) }
 {
-    let genders = rows.genders.as_slice();
     let seen = company_but(
         inst,
-        genders,
+        &rows.profiles,
         &rows.links,
         r.0 * rows.days + d.0,
         rows.days,
         p.0,
     );
     let count = others(rows, r, d, p.0, was);
-    let before = room_counts_with(inst, genders, r, seen, count, p.0, was);
-    let after = room_counts_with(inst, genders, r, seen, count, p.0, will);
+    let before = room_counts_with(inst, &rows.profiles, r, seen, count, p.0, was);
+    let after = room_counts_with(inst, &rows.profiles, r, seen, count, p.0, will);
     (before, after)
 }

@@ -8,10 +8,11 @@ ghost use Rattle.ih_plan.specs.Persons.{person_of};
 ghost use Rattle.ih_links.specs.Lists.{AreNodes, list_of};
 ghost use Rattle.ih_roomdays.specs.Company.{IsSeen};
 ghost use Rattle.ih_roomdays.specs.Genders.{AreGenders};
+ghost use Rattle.ih_roomdays.specs.Profiles.{AreProfiles};
 ghost use Rattle.ih_links.specs.Lists.{without};
 
 use crate::genders::have_one_gender;
-use crate::persons::age_group;
+use crate::profiles::{Profiles, age_of};
 use ih_links::Links;
 use ih_tables::Instance;
 
@@ -50,14 +51,14 @@ fn mixed_with(inst: &Instance, genders: &[u32], mixed: bool, y: u32, x: u32) -> 
 }
 
 /// With one person more.
-pub fn with(inst: &Instance, genders: &[u32], seen: Company, x: u32) -> Company
-    requires genders { AreGenders inst.now.draft genders.now }
+pub fn with(inst: &Instance, profiles: &Profiles, seen: Company, x: u32) -> Company
+    requires profiles { AreProfiles inst.now.draft profiles.now }
     requires first { IfSome seen.first (λ y. y < person_count inst.now.draft) }
     requires person { x < person_count inst.now.draft }
     ensures first { IfSome result.first (λ y. y < person_count inst.now.draft) }
     ensures seen { (xs : List ℕ) → IsSeen inst.now.draft xs seen → IsSeen inst.now.draft (xs ++ x ∷ []) result }
 {
-    let age = age_group(inst, x);
+    let age = age_of(inst, profiles.ages.as_slice(), x);
     match seen.first {
         None => Company {
             first: Some(x),
@@ -67,7 +68,7 @@ pub fn with(inst: &Instance, genders: &[u32], seen: Company, x: u32) -> Company
         },
         Some(y) => Company {
             first: Some(y),
-            mixed: mixed_with(inst, genders, seen.mixed, y, x),
+            mixed: mixed_with(inst, profiles.genders.as_slice(), seen.mixed, y, x),
             low: seen.low.min(age),
             high: seen.high.max(age),
         },
@@ -75,8 +76,8 @@ pub fn with(inst: &Instance, genders: &[u32], seen: Company, x: u32) -> Company
 }
 
 // With one person more, unless it is this one.
-fn with_other(inst: &Instance, genders: &[u32], seen: Company, x: u32, but: u32) -> Company
-    requires genders { AreGenders inst.now.draft genders.now }
+fn with_other(inst: &Instance, profiles: &Profiles, seen: Company, x: u32, but: u32) -> Company
+    requires profiles { AreProfiles inst.now.draft profiles.now }
     requires first { IfSome seen.first (λ y. y < person_count inst.now.draft) }
     requires person { x < person_count inst.now.draft }
     ensures first { IfSome result.first (λ y. y < person_count inst.now.draft) }
@@ -85,13 +86,19 @@ fn with_other(inst: &Instance, genders: &[u32], seen: Company, x: u32, but: u32)
     if x == but {
         seen
     } else {
-        with(inst, genders, seen, x)
+        with(inst, profiles, seen, x)
     }
 }
 
 /// What is seen of the persons of a list of nodes, so many a person.
-pub fn company_of(inst: &Instance, genders: &[u32], links: &Links, head: u32, days: u32) -> Company
-    requires genders { AreGenders inst.now.draft genders.now }
+pub fn company_of(
+    inst: &Instance,
+    profiles: &Profiles,
+    links: &Links,
+    head: u32,
+    days: u32,
+) -> Company
+    requires profiles { AreProfiles inst.now.draft profiles.now }
     requires some_day { 0 < days }
     requires head { head < length links.now.lists }
     requires nodes { links.now.nodes ≡ person_count inst.now.draft * days }
@@ -100,7 +107,7 @@ pub fn company_of(inst: &Instance, genders: &[u32], links: &Links, head: u32, da
     let mut seen = nobody();
     let mut at = links.first(head);
     while let Some(node) = at {
-        seen = with(inst, genders, seen, node / days);
+        seen = with(inst, profiles, seen, node / days);
         at = links.next(node);
     }
     seen
@@ -109,13 +116,13 @@ pub fn company_of(inst: &Instance, genders: &[u32], links: &Links, head: u32, da
 /// The same without one of them.
 pub fn company_but(
     inst: &Instance,
-    genders: &[u32],
+    profiles: &Profiles,
     links: &Links,
     head: u32,
     days: u32,
     but: u32,
 ) -> Company
-    requires genders { AreGenders inst.now.draft genders.now }
+    requires profiles { AreProfiles inst.now.draft profiles.now }
     requires some_day { 0 < days }
     requires head { head < length links.now.lists }
     requires nodes { links.now.nodes ≡ person_count inst.now.draft * days }
@@ -126,7 +133,7 @@ pub fn company_but(
     let mut seen = nobody();
     let mut at = links.first(head);
     while let Some(node) = at {
-        seen = with_other(inst, genders, seen, node / days, but);
+        seen = with_other(inst, profiles, seen, node / days, but);
         at = links.next(node);
     }
     seen

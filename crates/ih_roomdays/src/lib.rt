@@ -6,6 +6,7 @@ mod changes;
 mod companies;
 mod genders;
 mod persons;
+mod profiles;
 mod room_days;
 mod rows;
 #[cfg(test)]

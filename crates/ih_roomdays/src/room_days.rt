@@ -14,7 +14,7 @@ ghost use Rattle.ih_roomdays.specs.Ledger.{IsLedgerOf, LedgersTell};
 use crate::bills::{room_day_bill, room_day_change};
 use crate::changes::{before_and_after, is_there, room_counts};
 use crate::companies::company_of;
-use crate::genders::gender_numbers;
+use crate::profiles::profiles_of;
 use crate::rows::Rows;
 use ih_plan::{Members, Placement};
 use ih_tables::{Bill, Day, Instance, PatientNo, PersonNo, RoomNo};
@@ -51,8 +51,8 @@ impl RoomDays {
         ensures { IfOk result (λ ledger. IsLedgerOf inst.now.draft (empty inst.now.draft) ledger) }
     {
         let patients = inst.patients();
-        let genders = gender_numbers(alloc, inst)?;
-        let mut rows = Rows::new(alloc, inst.rooms(), inst.days(), inst.persons(), genders)?;
+        let profiles = profiles_of(alloc, inst)?;
+        let mut rows = Rows::new(alloc, inst.rooms(), inst.days(), inst.persons(), profiles)?;
         for o in 0..inst.occupants() {
             let occupant = inst.occupant(o);
             let to = end_of(inst, 0, occupant.length_of_stay);
@@ -93,7 +93,7 @@ impl RoomDays {
         let head = r.0 * self.rows.days + d.0;
         let seen = company_of(
             inst,
-            self.rows.genders.as_slice(),
+            &self.rows.profiles,
             &self.rows.links,
             head,
             self.rows.days,

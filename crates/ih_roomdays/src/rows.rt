@@ -3,6 +3,7 @@
 ghost use Rattle.std.specs.Prelude.{◌≡◌, ℕ, ◌*◌, ◌^◌, ◌<◌, ◌≤◌, true, false, IfOk};
 ghost use Rattle.ih_roomdays.specs.Rows.{AreRows, AreVacant, IsEntered, IsLeft, is_at};
 
+use crate::profiles::Profiles;
 use ih_links::Links;
 use std::alloc::{AllocError, Global};
 
@@ -13,8 +14,7 @@ pub struct Rows {
     pub rooms: u32,
     pub days: u32,
     pub persons: u32,
-    /// A number of each person's gender: persons who are together are of one gender where they have one number.
-    pub genders: Vec<u32>,
+    pub profiles: Profiles,
 }
 
 impl Rows {
@@ -24,12 +24,12 @@ impl Rows {
         rooms: u32,
         days: u32,
         persons: u32,
-        genders: Vec<u32>,
+        profiles: Profiles,
     ) -> Result<Rows, AllocError>
         requires some_day { 0 < days }
         requires heads { rooms * days < 2 ^ 32 }
         requires nodes { persons * days < 2 ^ 32 }
-        ensures { IfOk result (λ rows. AreVacant rooms days persons genders.items rows) }
+        ensures { IfOk result (λ rows. AreVacant rooms days persons profiles rows) }
     {
         let links = Links::new(alloc, rooms * days, persons * days)?;
         Ok(Rows {
@@ -37,7 +37,7 @@ impl Rows {
             rooms,
             days,
             persons,
-            genders,
+            profiles,
         })
     }
 

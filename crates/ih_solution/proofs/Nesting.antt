@@ -9,7 +9,7 @@ use Rattle.ih_plan.specs.declared.moves.Placement.{Placement}
 use Rattle.ih_plan.specs.Timetable.{Timetable, stay_of}
 use Rattle.ih_solution.specs.Solution.{room_id, rooms_of, rooms_data, shifts_with_rooms, assignment_data, nurse_data, stay_data, solution_data}
 
-nested : (n : ℕ) (f : ℕ → Data) (xs : List ℕ) → ((x : ℕ) → depth (f x) ≤ n) → items_depth (items_of (map f xs)) ≤ n
+pub nested : (n : ℕ) (f : ℕ → Data) (xs : List ℕ) → ((x : ℕ) → depth (f x) ≤ n) → items_depth (items_of (map f xs)) ≤ n
 nested n f [] h = omega arith
 nested n f (x ∷ xs) h = omega (arith, h x, nested n f xs h)
 

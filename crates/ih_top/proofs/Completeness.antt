@@ -11,7 +11,6 @@ use Rattle.ih_journal.specs.Base.{Base}
 use Rattle.ih_journal.specs.Legal.{IsFull}
 use Rattle.ih_journal.specs.Texts.{heading, lines_from}
 use Rattle.ih_journal.proofs.HeadTexts.{heading_lacks, headings_differ, lawful_short}
-use Rattle.ih_gen.specs.Generated.{generated}
 use Rattle.ih_instance.specs.Instance.{instance}
 use Rattle.ih_solution.specs.Reading.{plan_in}
 use Rattle.ih_words.specs.Solve.{SolveCall}
@@ -214,20 +213,19 @@ module _ (reads reads' writes writes' puts puts' : ℕ) (calm : (Rose reads read
     gen-answered g Infeasible cause (text, h, s) = absurd h
     gen-answered g (TooLong role) cause (text, h, s) = absurd h
 
-    demo-answered : (number : ℕ) (I : Draft) → instance (generated number) ≡ Ok I → (status : Status) → Caused status
-        → Ends (CallEnds (demo number) (Some files) new) gained part status → IsAnswered (demo number) status
-    demo-answered number I is Done cause ends = inl refl
-    demo-answered number I is Usage cause (text, h, g) = absurd h.1
-    demo-answered number I is (ReadFault role) cause (text, h, g) = absurd h.1
-    demo-answered number I is (InstanceRefused e) cause (text, h, g) = absurd (not-both (instance (generated number)) I e is h.1.0)
-    demo-answered number I is (StartRefused e) cause (text, h, g) = absurd h.1
-    demo-answered number I is NoneFound cause ends = inr (inl refl)
-    demo-answered number I is (WriteFault None) cause ends = absurd (heard cause)
-    demo-answered number I is (WriteFault (Some role)) cause ends = absurd (kept cause)
-    demo-answered number I is OutOfMemory cause ends = inr (inr refl)
-    demo-answered number I is (JournalRefused e) cause (text, h, g) = absurd h.1
-    demo-answered number I is Infeasible cause (text, h, g) = absurd h.1
-    demo-answered number I is (TooLong role) cause (text, h, g) = absurd h.1
+    demo-answered : (number : ℕ) (status : Status) → Caused status → Ends (CallEnds (demo number) (Some files) new) gained part status → IsAnswered (demo number) status
+    demo-answered number Done cause ends = inl refl
+    demo-answered number Usage cause (text, h, g) = absurd h.1
+    demo-answered number (ReadFault role) cause (text, h, g) = absurd h.1
+    demo-answered number (InstanceRefused e) cause (text, h, g) = absurd h.1
+    demo-answered number (StartRefused e) cause (text, h, g) = absurd h.1
+    demo-answered number NoneFound cause ends = inr (inl refl)
+    demo-answered number (WriteFault None) cause ends = absurd (heard cause)
+    demo-answered number (WriteFault (Some role)) cause ends = absurd (kept cause)
+    demo-answered number OutOfMemory cause ends = inr (inr refl)
+    demo-answered number (JournalRefused e) cause (text, h, g) = absurd h.1
+    demo-answered number Infeasible cause (text, h, g) = absurd h.1
+    demo-answered number (TooLong role) cause (text, h, g) = absurd h.1
 
 pub complete : (call : Call) (old new : Option Names) (gained part : List ℕ → Type 0) (reads reads' writes writes' puts puts' : ℕ) (status : Status)
     → Leaves (Some call) old new gained part status → HasCause reads reads' writes writes' puts puts' status
@@ -243,7 +241,7 @@ complete (salvage r) (Some files) new gained part reads reads' writes writes' pu
     (not-headless files r x has b lines headed) status cause ends
 complete (gen g) (Some files) new gained part reads reads' writes writes' puts puts' status ends cause = λ has calm kept heard.
     gen-answered reads reads' writes writes' puts puts' calm kept heard files new gained part g status cause ends
-complete (demo number) (Some files) new gained part reads reads' writes writes' puts puts' status ends cause = λ (I, is) calm kept heard.
-    demo-answered reads reads' writes writes' puts puts' calm kept heard files new gained part number I is status cause ends
+complete (demo number) (Some files) new gained part reads reads' writes writes' puts puts' status ends cause = λ has calm kept heard.
+    demo-answered reads reads' writes writes' puts puts' calm kept heard files new gained part number status cause ends
 complete (check c) (Some files) new gained part reads reads' writes writes' puts puts' status ends cause = λ (I, P, has) calm kept heard.
     check-answered reads reads' writes writes' puts puts' calm kept heard files new gained part c I P has status cause ends

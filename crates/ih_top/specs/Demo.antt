@@ -1,5 +1,5 @@
 -- How a call of demo ends: what it had to say, by its status. It touches no file.
-use Rattle.std.specs.Prelude.{◌≡◌, ℕ, List, Option, Some, None, Ok, Err}
+use Rattle.std.specs.Prelude.{◌≡◌, ℕ, List, Option, Some, None, Ok}
 use Rattle.ih_plan.specs.Fill.{fill}
 use Rattle.ih_plan.specs.Timetable.{empty}
 use Rattle.ih_journal.specs.declared.entries.Entry.{Entry}
@@ -10,8 +10,8 @@ use Rattle.ih_journal.specs.Legal.{IsFull}
 use Rattle.ih_gen.specs.Generated.{generated}
 use Rattle.ih_instance.specs.Instance.{instance}
 use Rattle.ih_top.specs.declared.status.Status.{Status}
-use Rattle.ih_top.specs.declared.status.Status.TheVariants.{Done, InstanceRefused, NoneFound, WriteFault, OutOfMemory}
-use Rattle.ih_top.specs.Texts.{demo_text, instance_refused_text, memory_text, none_found_text}
+use Rattle.ih_top.specs.declared.status.Status.TheVariants.{Done, NoneFound, WriteFault, OutOfMemory}
+use Rattle.ih_top.specs.Texts.{demo_text, memory_text, none_found_text}
 
 -- one worker with the number as its seed
 abbrev pub demo_options : ℕ → Options
@@ -48,6 +48,4 @@ DemoEnds number NoneFound text = IsShown number None × (text ≡ none_found_tex
 -- the text couldn't be put out
 DemoEnds number (WriteFault None) text = IsShown number (Some text)
 DemoEnds number OutOfMemory text = text ≡ memory_text
--- what the number generates is no instance
-DemoEnds number (InstanceRefused e) text = (instance (generated number) ≡ Err e) × (text ≡ instance_refused_text e)
 DemoEnds number status text = ⊥

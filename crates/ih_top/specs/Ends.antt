@@ -1,11 +1,9 @@
 -- How a call of the program ends: what it then has read, written and said, by its status.
-use Rattle.std.specs.Prelude.{◌≡◌, ◌≢◌, ℕ, ◌⊎◌, List, ◌++◌, take, Option, Some, None, Ok}
+use Rattle.std.specs.Prelude.{◌≡◌, ◌≢◌, ℕ, ◌⊎◌, List, ◌++◌, take, Option, Some, None}
 use Rattle.ih_tables.specs.declared.drafts.Draft.{Draft}
 use Rattle.ih_plan.specs.Timetable.{Timetable}
 use Rattle.ih_journal.specs.declared.entries.Entry.{Entry}
 use Rattle.ih_journal.specs.Base.{Base}
-use Rattle.ih_gen.specs.Generated.{generated}
-use Rattle.ih_instance.specs.Instance.{instance}
 use Rattle.ih_words.specs.Words.{Call, solve, replay, salvage, check, gen, demo}
 use Rattle.ih_shelf.specs.Outside.{Names, Rose, Told}
 use Rattle.ih_top.specs.declared.status.Status.{Status}
@@ -86,14 +84,14 @@ IsAnswered (gen g) status = (status ≡ Done) ⊎ (status ≡ OutOfMemory)
 IsAnswered (demo number) status = (status ≡ Done) ⊎ (status ≡ NoneFound) ⊎ (status ≡ OutOfMemory)
 
 -- The files that a call reads are as they ought to be: the journal of replay is that of a full history, and that of salvage has
--- its heading. A gen and a demo read none, but the instance that a demo generates has to be one.
+-- its heading. A gen and a demo read none.
 abbrev pub HasFiles : Call → Names → Type 0
 HasFiles (solve s) files = (I : Draft) × (P : Timetable) × HasInputs (Some files) (solve_reading s) I P
 HasFiles (replay r) files = (x : JournalRead) × (b : Base) × (H : List Entry) × HasRead (Some files) r x × IsReplay r.start x b H
 HasFiles (salvage r) files = (x : JournalRead) × (b : Base) × (bytes : List ℕ) × HasRead (Some files) r x × IsHeadedBy r.start x b bytes
 HasFiles (check c) files = (I : Draft) × (P : Timetable) × HasInputs (Some files) (check_reading c) I P
 HasFiles (gen g) files = Unit {0}
-HasFiles (demo number) files = (I : Draft) × (instance (generated number) ≡ Ok I)
+HasFiles (demo number) files = Unit {0}
 
 -- Where the words are lawful, the files are accepted and no count rose, there are two or three answers.
 abbrev pub IsComplete : Option Call → Option Names → Type 0 → Type 0 → Type 0 → Status → Type 0

@@ -1,6 +1,6 @@
 //! The command `demo`: a search on a generated instance, without files.
 
-ghost use Rattle.std.specs.Prelude.{◌≡◌, ◌++◌, ℕ, IfErr, IfOk, Ok, option_map, string_bytes};
+ghost use Rattle.std.specs.Prelude.{◌≡◌, ◌++◌, ℕ, IfOk, Ok, option_map, string_bytes};
 ghost use Rattle.ih_journal.specs.Attempts.{is_stale};
 ghost use Rattle.ih_journal.specs.History.{is_accepted};
 ghost use Rattle.ih_gen.specs.Generated.{generated};
@@ -13,7 +13,7 @@ use crate::answer::Answer;
 use crate::output::best_of;
 use crate::search::{Given, search};
 use crate::status::Status;
-use crate::texts::{instance_refused, none_found, out_of_memory};
+use crate::texts::{none_found, out_of_memory};
 use ih_fill::fill;
 use ih_gen::generate;
 use ih_instance::{InstanceError, read_instance};
@@ -101,19 +101,15 @@ fn demo_head(alloc: Global, number: u64, entries: &[Entry]) -> Result<Vec<u8>, A
     Ok(text)
 }
 
-// The instance that the number generates.
-fn demo_instance(alloc: Global, number: u64) -> Result<Instance, Answer>
-    ensures instance { IfOk result (λ i. instance (generated number) ≡ Ok i.draft) }
-    ensures refused { IfErr result (Answers (DemoEnds number)) }
-    ensures cause { IfErr result (λ a. (reads writes : ℕ) → HasFileCause reads reads writes writes a.status) }
+// The instance that the number generates. The reader never refuses what is generated.
+fn demo_instance(alloc: Global, number: u64) -> Result<Instance, AllocError>
+    ensures { IfOk result (λ i. instance (generated number) ≡ Ok i.draft) }
 {
-    let Ok(text) = generate(alloc, number) else {
-        return Err(out_of_memory(alloc));
-    };
+    let text = generate(alloc, number)?;
     match read_instance(alloc, text.as_slice()) {
         Ok(inst) => Ok(inst),
-        Err(InstanceError::Refused(refusal)) => Err(instance_refused(alloc, refusal)),
-        Err(InstanceError::OutOfMemory) => Err(out_of_memory(alloc)),
+        Err(InstanceError::Refused(_)) => unreachable!(),
+        Err(InstanceError::OutOfMemory) => Err(AllocError),
     }
 }
 
@@ -159,9 +155,8 @@ pub fn demo<R: Threads + Wait + Sync, G: Gate>(
     // it reads and writes no file
     ensures cause { (reads writes : ℕ) → HasFileCause reads reads writes writes result.status }
 {
-    let inst = match demo_instance(alloc, number) {
-        Ok(inst) => inst,
-        Err(answer) => return answer,
+    let Ok(inst) = demo_instance(alloc, number) else {
+        return out_of_memory(alloc);
     };
     match search_from_fill(rt, alloc, number, &inst, gate) {
         Ok(Some(text)) => Answer {

@@ -1,4 +1,12 @@
-//! The files and texts of the worked examples, for whole calls of the program over files in memory.
+//! Whole calls of the program over files in memory, and the files and texts of the worked examples.
 #![tactic(auto)]
 
 pub mod examples;
+#[cfg(test)]
+mod journal_tests;
+#[cfg(test)]
+mod tests;
+#[cfg(test)]
+mod trials;
+#[cfg(test)]
+mod worker_tests;

@@ -1,12 +1,11 @@
 use Rattle.std.proofs.Common.{◌∙◌, sym, ap, subst}
 use Rattle.ih_plan.specs.Writes.{put_all}
-use Rattle.ih_plan.specs.Expand.{after, expand}
+use Rattle.ih_plan.specs.Expand.{expand}
+use Rattle.ih_plan.specs.BillOf.{change_of_bill}
 use Rattle.ih_plan.specs.Cells.{IsCellIn}
 use Rattle.ih_plan.proofs.PlanRanges.{expand-writes}
 use Rattle.ih_footprint.proofs.LookLemmas.{looks-inside}
 use Rattle.ih_costs.specs.CellLedgers.{timetable_of}
-use Rattle.ih_costs.specs.Changes.{sums_change}
-use Rattle.ih_costs.proofs.PartLemmas.{price-of_footprint}
 use Rattle.ih_costs.proofs.StandLemmas.{plan-fits}
 use Rattle.ih_costs.proofs.TouchLemmas.{listed-footprint}
 use Rattle.ih_costs.proofs.pricing.change_after_move.Goals as goal
@@ -26,13 +25,8 @@ returns-clause-change c =
     let I = c.args.inst.now.draft in
     let P = timetable_of c.args.ledgers.now in
     let m = c.args.mv.now in
-    let made = c.as_slice.ensures ∙ c.expand.ensures.made in
-    let listed = listed-footprint I P c.plan.result.now m c.args.foot.now c.looks.new.out c.as_slice.result.now c.change_after.new.cells.cells
-    c.requires.sizes c.requires.empty c.looks.ensures c.plan.ensures made c.change_after.ensures.cells in
-    let later = ap (λ ws. put_all ws P) (made ∙ ap (λ Q. expand I Q m) c.plan.ensures) in
     c.change_after.ensures.change
-    ∙ (ap (λ Q. sums_change I P Q c.change_after.new.cells.cells) later
-    ∙ (ap (λ ns. sums_change I P (after I P m) ns) listed ∙ price-of_footprint I P m (plan-fits I P c.args.ledgers.now c.requires.stands) c.requires.move_in))
+    ∙ ap (λ ws. change_of_bill I P (put_all ws P)) (c.as_slice.ensures ∙ (c.expand.ensures.made ∙ ap (λ Q. expand I Q m) c.plan.ensures))
 
 pub returns-clause-cells : goal.returns-clause-cells
 returns-clause-cells c =

@@ -1,4 +1,4 @@
-use Rattle.std.proofs.Common.{◌∷◌, [], ◌∙◌, subst}
+use Rattle.std.proofs.Common.{◌∷◌, [], ◌∙◌, ap, subst}
 use Rattle.std.specs.Prelude.{◌||◌}
 use Rattle.ih_plan.specs.Cells.{cell_at}
 use Rattle.ih_plan.specs.Sums.{is_listed}
@@ -6,6 +6,9 @@ use Rattle.ih_plan.specs.Footprint.{write_touches, writes_touch}
 use Rattle.ih_roomdays.proofs.Standing.{tells}
 use Rattle.ih_footprint.specs.Gathered.{Gathers}
 use Rattle.ih_costs.specs.CellLedgers.{timetable_of}
+use Rattle.ih_costs.specs.Changes.{sum_change}
+use Rattle.ih_costs.proofs.ChangeSums.{write-change}
+use Rattle.ih_costs.proofs.StandLemmas.{plan-fits}
 use Rattle.ih_costs.proofs.TouchLemmas.{touched-one, listed-passing}
 use Rattle.ih_costs.proofs.pricing.change_by_write.Goals as goal
 
@@ -32,3 +35,13 @@ returns-clause-cells c =
     let w = c.args.w.now in
     let gathers : Gathers u c.foot.new.out (write_touches I P w) = subst (λ Q. Gathers u c.foot.new.out (write_touches I Q w)) c.plan.ensures c.foot.ensures in
     c.settle.ensures.cells ∙ touched-one I P u c.foot.new.out w c.requires.sizes gathers
+
+pub returns-clause-change : goal.returns-clause-change
+returns-clause-change c =
+    let I = c.args.inst.now.draft in
+    let P = timetable_of c.args.ledgers.now in
+    let u = c.args.cells.now in
+    let w = c.args.w.now in
+    let gathers : Gathers u c.foot.new.out (write_touches I P w) = subst (λ Q. Gathers u c.foot.new.out (write_touches I Q w)) c.plan.ensures c.foot.ensures in
+    let listed = c.cells.ensures.cells ∙ (c.settle.ensures.cells ∙ touched-one I P u c.foot.new.out w c.requires.sizes gathers) in
+    c.sum_changes.ensures ∙ (ap (λ ns. sum_change I P w ns) listed ∙ write-change I P w u.cells (plan-fits I P c.args.ledgers.now c.requires.stands) c.requires.write)

@@ -17,5 +17,5 @@ returns c =
     let room : r < room_count I = subst (λ (s : Standing). r < room_count s.instance) (sym c.self.view_is) c.requires.room in
     let day : d < I.days = subst (λ (s : Standing). d < s.instance.days) (sym c.self.view_is) c.requires.day in
     ap (λ n. nat_lt 0 n) c.count.ensures
-    ∙ occupied I P c.self.inside.cells.room_days r d c.self.invariant.room_days room day
+    ∙ occupied I P c.self.inside.cells.room_days r d c.self.invariant.0.room_days room day
     ∙ ap (λ (s : Standing). not (is_empty (present s.instance s.plan r d))) c.self.view_is

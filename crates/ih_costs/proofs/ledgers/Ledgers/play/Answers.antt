@@ -11,4 +11,4 @@ put_all-requires-clause-writes c =
     let I = c.self.inside.inst.now.draft in
     let P = timetable_of c.self.inside.cells in
     let fits : IsMoveOf I c.args.mv.now = subst (λ (s : Standing). IsMoveOf s.instance c.args.mv.now) (sym c.self.view_is) c.requires in
-    rw (c.as_slice.ensures, c.expand.ensures.made, c.plan.ensures) (expand-writes I P c.args.mv.now (plan-fits I P c.self.inside.cells c.self.invariant) fits)
+    rw (c.as_slice.ensures, c.expand.ensures.made, c.plan.ensures) (expand-writes I P c.args.mv.now (plan-fits I P c.self.inside.cells c.self.invariant.0) fits)

@@ -6,7 +6,7 @@ use Rattle.ih_roomdays.proofs.Occupants.{IsFilled, filled-none, filled-more, fil
 use Rattle.ih_roomdays.proofs.room_days.RoomDays.new.Goals as goal
 
 pub loop-o-init : goal.loop-o-init
-loop-o-init c = filled-none c.args.inst.now.draft c.in_ok-rows.rows c.in_ok-genders.genders.items c.in_ok-genders.ensures (rw (c.rooms.ensures, c.days.ensures, c.persons.ensures) at c.in_ok-rows.ensures)
+loop-o-init c = filled-none c.args.inst.now.draft c.in_ok-rows.rows c.in_ok-profiles.profiles c.in_ok-profiles.ensures (rw (c.rooms.ensures, c.days.ensures, c.persons.ensures) at c.in_ok-rows.ensures)
 
 pub enter-requires-clause-room : goal.enter-requires-clause-room
 enter-requires-clause-room c =

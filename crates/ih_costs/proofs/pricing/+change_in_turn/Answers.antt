@@ -1,0 +1,101 @@
+use Rattle.std.proofs.Common.{◌≡◌, ◌∷◌, [], ◌^◌, ◌∙◌, sym, ap, subst, arith}
+use Rattle.std.proofs.lemmas.List.{nil_from_length}
+use Rattle.ih_tables.specs.Bills.{add_bills, IsWithin}
+use Rattle.ih_tables.specs.declared.bills.Bill.{Bill}
+use Rattle.ih_plan.specs.Writes.{put, put_all, AreWritesOf}
+use Rattle.ih_plan.specs.BillOf.{change_of_bill}
+use Rattle.ih_plan.specs.Footprint.{write_touches}
+use Rattle.ih_plan.proofs.BillBounds.{change-within, within-more}
+use Rattle.ih_plan.proofs.PlanRanges.{put_all-plan}
+use Rattle.ih_roomdays.proofs.Standing.{tells}
+use Rattle.ih_footprint.specs.Gathered.{Gathers}
+use Rattle.ih_costs.specs.CellLedgers.{AreLedgersOf, timetable_of}
+use Rattle.ih_costs.specs.Touched.{listed_or_touched}
+use Rattle.ih_costs.specs.Undo.{undo_of}
+use Rattle.ih_costs.proofs.ChangeSums.{change-then}
+use Rattle.ih_costs.proofs.StandLemmas.{kept, plan-fits}
+use Rattle.ih_costs.proofs.TouchLemmas.{touched-one, touched-more}
+use Rattle.ih_costs.proofs.UndoLemmas.{undone, undo-write}
+use Rattle.ih_costs.proofs.pricing.+change_in_turn.Goals as goal
+
+pub foot-requires-clause-members : goal.foot-requires-clause-members
+foot-requires-clause-members t c =
+    let I = c.args.inst.now.draft in
+    rw c.plan.ensures (tells I (timetable_of c.args.ledgers.now) c.args.ledgers.now.room_days c.requires.stands.room_days)
+
+pub put-requires-in-Some-clause-write : goal.put-requires-in-Some-clause-write
+put-requires-in-Some-clause-write t c =
+    let I = c.args.inst.now.draft in
+    let P = timetable_of c.args.ledgers.now in
+    rw (c.undo_of-undo.ensures, c.plan-in-Some.ensures) (undo-write I P c.args.w.now (plan-fits I P c.args.ledgers.now c.requires.stands) c.requires.write)
+
+-- the change of the first write, and of the others behind it
+pub add-requires : goal.add-requires
+add-requires t c =
+    let I = c.args.inst.now.draft in
+    let P = timetable_of c.args.ledgers.now in
+    let Q = put c.args.w.now P in
+    let ws = c.in-Some.next.now ∷ c.in-Some.later.now in
+    let R = put_all ws Q in
+    let valid = c.args.inst.now.valid in
+    let plan = plan-fits I P c.args.ledgers.now c.requires.stands in
+    let made = kept I Q c.put.new.self c.put.ensures in
+    let further = c.change_in_turn-further.ensures.change ∙ ap (λ T. change_of_bill I T (put_all ws T)) made in
+    let writes : AreWritesOf I (c.args.w.now ∷ ws) = (c.requires.write, subst (AreWritesOf I) c.in-Some.ensures.cases.0 c.requires.writes) in
+    rw (c.change_alone-here.ensures.change, further, change-then I P Q R)
+    (within-more (10 ^ 11) (10 ^ 12) (change_of_bill I P R) (omega arith) (change-within I P R valid plan (put_all-plan I P (c.args.w.now ∷ ws) plan writes)))
+
+pub returns-in-None-clause-cells : goal.returns-in-None-clause-cells
+returns-in-None-clause-cells t c =
+    let I = c.args.inst.now.draft in
+    let P = timetable_of c.args.ledgers.now in
+    let w = c.args.w.now in
+    let u = c.args.cells.now in
+    let none : c.args.rest.now ≡ [] = nil_from_length c.args.rest.now c.in-None.ensures.cases in
+    let gathers : Gathers u c.foot.new.out (write_touches I P w) = subst (λ Q. Gathers u c.foot.new.out (write_touches I Q w)) c.plan.ensures c.foot.ensures in
+    c.settle.ensures.cells ∙ (touched-one I P u c.foot.new.out w c.requires.sizes gathers ∙ ap (λ ws. listed_or_touched I P u.cells (w ∷ ws)) (sym none))
+
+pub returns-in-None-clause-change : goal.returns-in-None-clause-change
+returns-in-None-clause-change t c =
+    let I = c.args.inst.now.draft in
+    let P = timetable_of c.args.ledgers.now in
+    let w = c.args.w.now in
+    let none : c.args.rest.now ≡ [] = nil_from_length c.args.rest.now c.in-None.ensures.cases in
+    c.change_alone-here.ensures.change ∙ ap (λ ws. change_of_bill I P (put_all (w ∷ ws) P)) (sym none)
+
+pub returns-in-Some-clause-stands : goal.returns-in-Some-clause-stands
+returns-in-Some-clause-stands t c =
+    let I = c.args.inst.now.draft in
+    let P = timetable_of c.args.ledgers.now in
+    let w = c.args.w.now in
+    let made : timetable_of c.change_in_turn-further.new.ledgers ≡ put w P =
+    kept I (timetable_of c.put.new.self) c.change_in_turn-further.new.ledgers c.change_in_turn-further.ensures.stands ∙ kept I (put w P) c.put.new.self c.put.ensures in
+    let undo : c.undo_of-undo.result ≡ undo_of P w = c.undo_of-undo.ensures ∙ ap (λ Q. undo_of Q w) c.plan-in-Some.ensures in
+    subst (λ Q. AreLedgersOf I Q c.put-in-Some.new.self) (ap (put c.undo_of-undo.result) made ∙ (ap (λ u. put u (put w P)) undo ∙ undone P w)) c.put-in-Some.ensures
+
+pub returns-in-Some-clause-cells : goal.returns-in-Some-clause-cells
+returns-in-Some-clause-cells t c =
+    let I = c.args.inst.now.draft in
+    let P = timetable_of c.args.ledgers.now in
+    let w = c.args.w.now in
+    let u = c.args.cells.now in
+    let ws = c.in-Some.next.now ∷ c.in-Some.later.now in
+    let gathers : Gathers u c.foot.new.out (write_touches I P w) = subst (λ Q. Gathers u c.foot.new.out (write_touches I Q w)) c.plan.ensures c.foot.ensures in
+    c.change_in_turn-further.ensures.cells
+    ∙ (ap (λ Q. listed_or_touched I Q c.foot.new.out.cells ws) (kept I (put w P) c.put.new.self c.put.ensures)
+    ∙ (touched-more I P u c.foot.new.out w ws c.requires.sizes gathers
+    ∙ ap (λ ws. listed_or_touched I P u.cells (w ∷ ws)) (sym c.in-Some.ensures.cases.0)))
+
+pub returns-in-Some-clause-change : goal.returns-in-Some-clause-change
+returns-in-Some-clause-change t c =
+    let I = c.args.inst.now.draft in
+    let P = timetable_of c.args.ledgers.now in
+    let w = c.args.w.now in
+    let ws = c.in-Some.next.now ∷ c.in-Some.later.now in
+    let made = kept I (put w P) c.put.new.self c.put.ensures in
+    let further = c.change_in_turn-further.ensures.change ∙ ap (λ T. change_of_bill I T (put_all ws T)) made in
+    c.add.ensures
+    ∙ (ap (λ b. add_bills b c.change_in_turn-further.result) c.change_alone-here.ensures.change
+    ∙ (ap (add_bills (change_of_bill I P (put w P))) further
+    ∙ (change-then I P (put w P) (put_all ws (put w P))
+    ∙ ap (λ ws. change_of_bill I P (put_all (w ∷ ws) P)) (sym c.in-Some.ensures.cases.0))))

@@ -1,0 +1,114 @@
+//! Workers that take turns over one book, each on its own replica, on the ward of two patients.
+
+ghost use Rattle.std.specs.Prelude.{◌≡◌, ◌<◌, ◌≤◌, IsTrue, Some, false, length, drop};
+ghost use Rattle.ih_plan.specs.Expand.{IsMoveOf};
+ghost use Rattle.ih_journal.specs.Attempts.{attempt_after, is_done_after, is_retried, last_by};
+ghost use Rattle.ih_cellbook.specs.Laws.{HasNoneBy};
+ghost use Rattle.ih_cellbook.specs.Offers.{next_number};
+ghost use Rattle.ih_snapshot.specs.Replicas.{IsReplicaIn};
+ghost use Rattle.ih_snapshot.specs.Snapshot.{Snapshot};
+
+use crate::Replica;
+use ih_cellbook::{Book, Buffer, Offer};
+use ih_journal::{Entry, Options, Verdict};
+use ih_plan::Move;
+
+// The last entry of a worker.
+fn last_by(entries: &[Entry], worker: u32) -> Option<Entry>
+    ensures { result ≡ last_by worker entries.now }
+{
+    let mut last = None;
+    for entry in entries {
+        if entry.worker == worker {
+            last = Some(*entry);
+        }
+    }
+    last
+}
+
+// Whether the entry's move is to be tried again.
+fn is_retried(options: &Options, entry: &Entry) -> bool
+    ensures { result ≡ is_retried options.now entry.now }
+{
+    match entry.verdict {
+        Verdict::Stale { .. } => entry.again < options.retries,
+        _ => false,
+    }
+}
+
+// Whether a worker with this last entry isn't done, and its next move has this number.
+fn is_next(options: &Options, last: &Option<Entry>, number: u32) -> bool
+    ensures { IsTrue result → (is_done_after options.now last.now ≡ false) × ((attempt_after options.now last.now).number ≡ number) }
+{
+    match last {
+        None => options.moves > 0 && number == 0,
+        Some(last) if is_retried(options, last) => options.moves > 0 && number == last.number,
+        Some(last) => number > 0 && last.number == number - 1 && number < options.moves,
+    }
+}
+
+// Whether none of the entries is by the worker.
+fn none_by(entries: &[Entry], worker: u32) -> bool
+    ensures { IsTrue result → HasNoneBy worker entries.now }
+{
+    for entry in entries {
+        if entry.worker == worker {
+            return false;
+        }
+    }
+    true
+}
+
+// Whether the offer's worker isn't done, this is its next move, and the offer has seen all entries of its worker.
+fn may_come(book: &Book<'_>, options: &Options, offer: &Offer) -> bool
+    requires options { options.now ≡ book.now.base.options }
+    requires seen { offer.now.seen ≤ length book.now.entries }
+    ensures { IsTrue result → (offer.now.worker < book.now.base.options.workers)
+        × (next_number book.now.base.options book.now.entries offer.now.worker ≡ Some offer.now.number)
+        × HasNoneBy offer.now.worker (drop offer.now.seen book.now.entries) }
+{
+    let entries = book.entries();
+    offer.worker < options.workers
+        && is_next(options, &last_by(entries, offer.worker), offer.number)
+        && none_by(&entries[offer.seen as usize..], offer.worker)
+}
+
+/// Offers the next move of a replica's worker to the book, and answers the verdict. Answers none where it isn't the next,
+/// or where the replica hasn't seen its worker's last entry.
+pub(crate) fn offer(
+    book: &mut Book<'_>,
+    replica: &mut Replica<'_>,
+    options: &Options,
+    mv: &Move,
+    number: u32,
+) -> Option<Verdict>
+    requires replica { IsReplicaIn book.old.base book.old.entries replica.old }
+    requires options { options.now ≡ book.old.base.options }
+    requires move_in { IsMoveOf book.old.base.instance mv.now }
+    ensures base { book.new.base ≡ book.old.base }
+    ensures replica { IsReplicaIn book.old.base book.new.entries replica.new }
+    ensures others { (r : Snapshot) → IsReplicaIn book.old.base book.old.entries r → IsReplicaIn book.old.base book.new.entries r }
+{
+    let offer = replica.price(mv, number);
+    if may_come(book, options, offer) {
+        Some(book.commit(offer))
+    } else {
+        None
+    }
+}
+
+/// The replica takes over what the book has past it, or the first 256 entries of that. Answers how many it has then seen,
+/// and how many it hasn't.
+pub(crate) fn catch_up(
+    book: &Book<'_>,
+    replica: &mut Replica<'_>,
+    buffer: &mut Buffer,
+) -> (u32, usize)
+    requires replica { IsReplicaIn book.now.base book.now.entries replica.old }
+    ensures { IsReplicaIn book.now.base book.now.entries replica.new }
+{
+    let all = book.entries().len();
+    book.copy_since(replica.seen(), buffer);
+    replica.advance(buffer.entries());
+    (replica.seen(), all.saturating_sub(replica.seen() as usize))
+}

@@ -1,0 +1,139 @@
+//! What the tests of whole calls share: files in memory, and calls by the words of a line. Where memory runs out, what a test
+//! asks for is not so.
+
+use ih_shelf::{Gate, MemShelf, MemSink, OpenGate};
+use ih_top::run;
+use std::alloc::{AllocError, Global};
+use std::rt::Files;
+use std::sync::Wait;
+use std::thread::Threads;
+
+fn words_of(alloc: Global, line: &str) -> Result<Vec<String>, AllocError> {
+    let mut words = Vec::new(alloc);
+    for word in line.split_whitespace() {
+        words.push(String::from_str(alloc, word)?)?;
+    }
+    Ok(words)
+}
+
+/// The exit code of a call by the words of a line, over this shelf and this sink, past this gate.
+fn code_of<R: Files + Print + Threads + Wait + Sync, G: Gate>(
+    rt: &R,
+    alloc: Global,
+    line: &str,
+    shelf: &mut MemShelf,
+    out: &mut MemSink,
+    gate: &G,
+) -> Result<u8, AllocError> {
+    let words = words_of(alloc, line)?;
+    let status = run(rt, alloc, words.as_slice(), shelf, out, gate);
+    Ok(status.code())
+}
+
+/// Whether such a call ends with this exit code.
+pub fn exits_past<R: Files + Print + Threads + Wait + Sync, G: Gate>(
+    rt: &R,
+    alloc: Global,
+    line: &str,
+    shelf: &mut MemShelf,
+    out: &mut MemSink,
+    gate: &G,
+    code: u8,
+) -> bool {
+    match code_of(rt, alloc, line, shelf, out, gate) {
+        Ok(found) => found == code,
+        Err(_) => false,
+    }
+}
+
+/// The same past a gate that does nothing.
+pub fn exits<R: Files + Print + Threads + Wait + Sync>(
+    rt: &R,
+    alloc: Global,
+    line: &str,
+    shelf: &mut MemShelf,
+    out: &mut MemSink,
+    code: u8,
+) -> bool {
+    exits_past(rt, alloc, line, shelf, out, &OpenGate, code)
+}
+
+/// Whether a call ends with this exit code and says these bytes.
+pub fn ends_saying<R: Files + Print + Threads + Wait + Sync>(
+    rt: &R,
+    alloc: Global,
+    line: &str,
+    shelf: &mut MemShelf,
+    code: u8,
+    bytes: &[u8],
+) -> bool {
+    let mut out = MemSink::new(alloc);
+    let ended = exits(rt, alloc, line, shelf, &mut out, code);
+    let said = out.bytes() == bytes;
+    ended && said
+}
+
+/// Whether a call ends with this exit code and says this text.
+pub fn ends<R: Files + Print + Threads + Wait + Sync>(
+    rt: &R,
+    alloc: Global,
+    line: &str,
+    shelf: &mut MemShelf,
+    code: u8,
+    text: &str,
+) -> bool {
+    ends_saying(rt, alloc, line, shelf, code, text.as_bytes())
+}
+
+fn changed(alloc: Global, text: &str, from: &str, to: &str) -> Result<String, AllocError> {
+    let mut made = String::new(alloc);
+    match text.split_once(from) {
+        None => made.push_str(text)?,
+        Some((before, after)) => {
+            made.push_str(before)?;
+            made.push_str(to)?;
+            made.push_str(after)?;
+        }
+    }
+    Ok(made)
+}
+
+/// Stores the text under the name, in which `to` stands where `from` stood.
+pub fn store_changed(
+    alloc: Global,
+    shelf: &mut MemShelf,
+    name: &str,
+    text: &str,
+    from: &str,
+    to: &str,
+) -> Result<(), AllocError> {
+    let made = changed(alloc, text, from, to)?;
+    shelf.store(name, made.as_bytes())
+}
+
+/// Stores an instance under `i` and a solution under `s`.
+pub fn lay(
+    alloc: Global,
+    shelf: &mut MemShelf,
+    instance: &str,
+    solution: &str,
+) -> Result<(), AllocError> {
+    shelf.store("i", instance.as_bytes())?;
+    shelf.store("s", solution.as_bytes())
+}
+
+/// Whether the name has this text; it isn't there where the text is empty.
+pub fn holds(shelf: &MemShelf, name: &str, text: &str) -> bool {
+    match shelf.get(name) {
+        None => text.is_empty(),
+        Some(bytes) => bytes == text.as_bytes(),
+    }
+}
+
+/// Whether the two names have the same bytes.
+pub fn are_same(shelf: &MemShelf, name: &str, other: &str) -> bool {
+    match (shelf.get(name), shelf.get(other)) {
+        (Some(bytes), Some(others)) => bytes == others,
+        _ => false,
+    }
+}

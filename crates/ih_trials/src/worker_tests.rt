@@ -1,0 +1,196 @@
+//! Whole calls of several workers, over files in memory.
+
+use crate::examples::{ONE_ADMITTED, TWO_PATIENTS};
+use crate::trials::{are_same, ends_saying, exits, exits_past, holds, lay};
+use ih_shelf::{HoldGate, MemShelf, MemSink};
+use std::alloc::Global;
+use std::rt::Files;
+use std::sync::Wait;
+use std::thread::Threads;
+
+const TURNS: u64 = 100_000_000;
+
+const ONE_EACH: &str =
+    "solve i o j --seed 18446744073709551615 --workers 2 --moves 1 --heat 1000000 --hard 1000 --start s";
+
+const HUNDRED_EACH: &str =
+    "solve i o j --seed 18446744073709551615 --workers 2 --moves 100 --heat 1000000 --hard 1000 --start s";
+
+const STALE: &str = "ihjournal 1 seed=18446744073709551615 workers=2 moves=1 heat=1000000 hard=1000
+0 1 0 0 nurserun:1,0,0,5 0,0,0,0,0,0,0,0,0,0,-2,0,0,0,0,0,0 accepted
+1 0 0 0 place:0,1,1,1 0,1,0,0,0,0,0,0,3,-1,0,-1,0,0,0,1,0 stale:roomshift.0.0:0:1
+";
+
+const ONE: &str = "solve i o j --seed 5 --workers 1 --moves 30 --heat 300 --hard 1000 --start s";
+
+const TWO_WITH_RETRIES: &str =
+    "solve i o j --seed 5 --workers 2 --moves 30 --heat 300 --hard 1000 --start s --retries 1";
+
+const THREE_FROZEN: &str =
+    "solve i o j --seed 5 --workers 3 --moves 30 --heat 300 --hard 1000 --start s --freeze 1";
+
+const EIGHT: &str = "solve i o j --seed 5 --workers 8 --moves 30 --heat 300 --hard 1000 --start s";
+
+const EIGHT_WITH_RETRIES: &str =
+    "solve i o j --seed 5 --workers 8 --moves 30 --heat 300 --hard 1000 --start s --retries 3";
+
+const MOST_WITH_RETRIES_FROZEN: &str =
+    "solve i o j --seed 5 --workers 64 --moves 30 --heat 300 --hard 1000 --start s --retries 1 --freeze 1";
+
+const MOST: &str = "solve i o j --seed 5 --workers 64 --moves 30 --heat 300 --hard 1000 --start s";
+
+const STARTED: &str = "replay i j p --start s";
+
+const FROZEN: &str = "replay i j p --start s --freeze 1";
+
+// Whether a search of the two patients is done past this gate, and no wait there ended in vain.
+fn is_done_past<R: Files + Print + Threads + Wait + Sync>(
+    rt: &R,
+    alloc: Global,
+    line: &str,
+    shelf: &mut MemShelf,
+    out: &mut MemSink,
+    gate: &HoldGate,
+) -> bool {
+    lay(alloc, shelf, TWO_PATIENTS, ONE_ADMITTED).is_ok()
+        && exits_past(rt, alloc, line, shelf, out, gate, 0)
+        && !gate.ran_out()
+}
+
+// The same past a gate that holds worker 0's attempts of the numbers below this one.
+fn is_held<R: Files + Print + Threads + Wait + Sync>(
+    rt: &R,
+    alloc: Global,
+    line: &str,
+    numbers: u32,
+    shelf: &mut MemShelf,
+    out: &mut MemSink,
+) -> bool {
+    let gate = HoldGate::new(TURNS, numbers);
+    is_done_past(rt, alloc, line, shelf, out, &gate)
+}
+
+// Whether the text begins and ends so.
+fn reads(out: &MemSink, start: &str, end: &str) -> bool {
+    out.bytes().starts_with(start.as_bytes()) && out.bytes().ends_with(end.as_bytes())
+}
+
+// Worker 0 has priced its move before worker 1 offers its own, and offers it afterwards.
+#[test]
+fn a_price_that_another_made_stale(rt: HostRuntime) {
+    let alloc = rt.alloc();
+    let mut shelf = MemShelf::new(alloc);
+    let mut out = MemSink::new(alloc);
+    assert!(rt; is_held(&rt, alloc, ONE_EACH, 1, &mut shelf, &mut out));
+    assert!(rt; holds(&shelf, "j", STALE));
+    assert!(rt; reads(&out, "best 1 of 2\n", "cost 139\n"));
+}
+
+// Whether the word is there and is this number.
+fn is_number(word: Option<&str>, number: u32) -> bool {
+    match word {
+        Some(text) => match text.parse::<u32>() {
+            Ok(found) => found == number,
+            Err(_) => false,
+        },
+        None => false,
+    }
+}
+
+// Whether the line begins as that of the attempt at this place: worker 1's at even places, and worker 0's at odd ones, priced
+// before that of worker 1.
+fn is_in_turn(line: &str, place: u32) -> bool {
+    let number = place / 2;
+    let worker = 1 - place % 2;
+    let mut words = line.split(' ');
+    is_number(words.next(), place)
+        && is_number(words.next(), worker)
+        && is_number(words.next(), number)
+        && (worker == 1 || is_number(words.next(), number * 2))
+}
+
+// Whether each of a hundred attempts of worker 0 stands right behind that of worker 1, and was priced before it.
+fn stand_side_by_side(journal: &str) -> bool {
+    let mut place: u32 = 0;
+    for line in journal.split('\n').skip(1) {
+        if line.is_empty() {
+            return place == 200;
+        }
+        if !is_in_turn(line, place) {
+            return false;
+        }
+        place = place.saturating_add(1);
+    }
+    false
+}
+
+// Whether the name has such a journal.
+fn has_pairs(shelf: &MemShelf, name: &str) -> bool {
+    match shelf.get(name) {
+        Some(bytes) => match str::from_utf8(bytes) {
+            Ok(journal) => stand_side_by_side(journal),
+            Err(_) => false,
+        },
+        None => false,
+    }
+}
+
+// Whether a replay is done, says the text that the sink has, and writes under `p` the bytes of `o`.
+fn replays_alike<R: Files + Print + Threads + Wait + Sync>(
+    rt: &R,
+    alloc: Global,
+    line: &str,
+    shelf: &mut MemShelf,
+    out: &MemSink,
+) -> bool {
+    ends_saying(rt, alloc, line, shelf, 0, out.bytes()) && are_same(shelf, "p", "o")
+}
+
+#[test]
+fn every_attempt_beside_another(rt: HostRuntime) {
+    let alloc = rt.alloc();
+    let mut shelf = MemShelf::new(alloc);
+    let mut out = MemSink::new(alloc);
+    assert!(rt; is_held(&rt, alloc, HUNDRED_EACH, 100, &mut shelf, &mut out));
+    assert!(rt; has_pairs(&shelf, "j"));
+    assert!(rt; replays_alike(&rt, alloc, STARTED, &mut shelf, &out));
+}
+
+// Whether a search of the two patients is done, and its replay ends alike.
+fn is_replayed<R: Files + Print + Threads + Wait + Sync>(
+    rt: &R,
+    alloc: Global,
+    search: &str,
+    replay: &str,
+    shelf: &mut MemShelf,
+    out: &mut MemSink,
+) -> bool {
+    lay(alloc, shelf, TWO_PATIENTS, ONE_ADMITTED).is_ok()
+        && exits(rt, alloc, search, shelf, out, 0)
+        && replays_alike(rt, alloc, replay, shelf, out)
+}
+
+// The same over a shelf and a sink of its own.
+fn agree<R: Files + Print + Threads + Wait + Sync>(
+    rt: &R,
+    alloc: Global,
+    search: &str,
+    replay: &str,
+) -> bool {
+    let mut shelf = MemShelf::new(alloc);
+    let mut out = MemSink::new(alloc);
+    is_replayed(rt, alloc, search, replay, &mut shelf, &mut out)
+}
+
+// Journals of many workers are replayed to the same solution.
+#[test]
+fn any_number_of_workers(rt: HostRuntime) {
+    let alloc = rt.alloc();
+    assert!(rt; agree(&rt, alloc, ONE, STARTED));
+    assert!(rt; agree(&rt, alloc, TWO_WITH_RETRIES, STARTED));
+    assert!(rt; agree(&rt, alloc, THREE_FROZEN, FROZEN));
+    assert!(rt; agree(&rt, alloc, EIGHT, STARTED));
+    assert!(rt; agree(&rt, alloc, EIGHT_WITH_RETRIES, STARTED));
+    assert!(rt; agree(&rt, alloc, MOST_WITH_RETRIES_FROZEN, FROZEN));
+    assert!(rt; agree(&rt, alloc, MOST, STARTED));
+}
