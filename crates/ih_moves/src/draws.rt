@@ -1,11 +1,9 @@
 //! A worker's stream of moves.
 
-ghost use Rattle.std.specs.Prelude.{◌≡◌, ◌<◌, ◌≤◌, ◌+◌, ◌*◌, ◌%◌, ℕ, Some, IfSome, is_some, slice_get, length, option_map};
+ghost use Rattle.std.specs.Prelude.{◌≡◌, ◌<◌, ◌≤◌, ◌+◌, ◌*◌, ◌%◌, ℕ, Some, IfSome, length, option_map};
 ghost use Rattle.rand_xoshiro.specs.Xoshiro256.{plus_plus};
 ghost use Rattle.ih_tables.specs.Sizes.{patient_count, room_count, shift_count, nurse_count, theatre_count};
-ghost use Rattle.ih_tables.specs.Works.{max_load};
 ghost use Rattle.ih_plan.specs.Draws.{choose, last_day, window_len, choose_day, choose_nurse, drawn, drawn_place, drawn_withdrawal, drawn_day, drawn_room, drawn_theatre, drawn_room_swap, drawn_nurse_swap, drawn_nurse, drawn_run, draw};
-ghost use Rattle.ih_plan.specs.Sums.{which_below, count_below};
 ghost use Rattle.ih_plan.specs.Expand.{IsMoveOf};
 
 use ih_plan::{Move, Placement};
@@ -249,48 +247,12 @@ fn draw(inst: &Instance, u0: u64, u1: u64, u2: u64, u3: u64, u4: u64) -> Move
     }
 }
 
-#[tactic(auto, using(ih_plan::proofs::SumLemmas::sum_steps))]
-fn working_count(inst: &Instance, k: u32) -> u32
-    requires { k < shift_count inst.now.draft }
-    ensures { result ≡ count_below (nurse_count inst.now.draft) (λ n. is_some (max_load inst.now.draft n k)) }
-{
-    let mut count = 0;
-    for n in 0..inst.nurses() {
-        if inst.works(NurseNo(n), Shift(k)).is_some() {
-            count += 1;
-        }
-    }
-    count
-}
-
-// The nurse with that many before it among those who work the shift.
-#[tactic(auto, using(crate::proofs::Working::working_steps))]
-fn nth_working(inst: &Instance, k: u32, place: u32) -> Option<u32>
-    requires shift { k < shift_count inst.now.draft }
-    requires place { place < count_below (nurse_count inst.now.draft) (λ n. is_some (max_load inst.now.draft n k)) }
-    ensures value { result ≡ slice_get (which_below (nurse_count inst.now.draft) (λ n. is_some (max_load inst.now.draft n k))) place }
-    ensures below { IfSome result (λ n. n < nurse_count inst.now.draft) }
-{
-    let mut passed = 0;
-    for n in 0..inst.nurses() {
-        if inst.works(NurseNo(n), Shift(k)).is_some() {
-            if passed == place {
-                return Some(n);
-            }
-            passed += 1;
-        }
-    }
-    None
-}
-
-#[tactic(auto, using(ih_plan::proofs::SumLemmas::sum_steps))]
 fn choose_nurse(inst: &Instance, u: u64, k: u32) -> Option<u32>
     requires { k < shift_count inst.now.draft }
     ensures value { result ≡ choose_nurse inst.now.draft u k }
     ensures below { IfSome result (λ n. n < nurse_count inst.now.draft) }
 {
-    match choose(u, working_count(inst, k)) {
-        None => None,
-        Some(place) => nth_working(inst, k, place),
-    }
+    let working = inst.working(Shift(k));
+    let place = choose(u, working.len() as u32)?;
+    Some(working[place as usize].0)
 }

@@ -2,3 +2,4 @@ pub mod BillLemmas
 pub mod DistinctLemmas
 pub mod IndexLemmas
 pub mod LoadLemmas
+pub mod RosterLemmas

@@ -24,14 +24,13 @@ pub struct Bill {
     pub s: [i64; 8],
 }
 
-fn add_each(a: &[i64], b: &[i64], out: &mut [i64])
-    requires first { length a.now ≡ length out.old }
-    requires second { length b.now ≡ length out.old }
-    requires fits { (k : ℕ) → k < length out.old → FitsSigned w64 (at a.now k +ℤ at b.now k) }
-    ensures { out.new ≡ by_place (length out.old) (λ k. at a.now k +ℤ at b.now k) }
+fn add_each(a: &mut [i64], b: &[i64])
+    requires same { length b.now ≡ length a.old }
+    requires fits { (k : ℕ) → k < length a.old → FitsSigned w64 (at a.old k +ℤ at b.now k) }
+    ensures { a.new ≡ by_place (length a.old) (λ k. at a.old k +ℤ at b.now k) }
 {
-    for i in 0..out.len() {
-        out[i] = a[i] + b[i];
+    for i in 0..a.len() {
+        a[i] += b[i];
     }
 }
 
@@ -127,10 +126,18 @@ impl Bill {
         requires { IsWithin (10 ^ 12) (add_bills self.now other.now) }
         ensures { result ≡ add_bills self.now other.now }
     {
-        let mut sum = Bill::zero();
-        add_each(&self.v, &other.v, &mut sum.v);
-        add_each(&self.s, &other.s, &mut sum.s);
+        let mut sum = *self;
+        sum.take_in(other);
         sum
+    }
+
+    /// Adds the other bill, number by number, in place; each sum is at most 10^12 in magnitude.
+    pub fn take_in(&mut self, other: &Bill)
+        requires { IsWithin (10 ^ 12) (add_bills self.old other.now) }
+        ensures { self.new ≡ add_bills self.old other.now }
+    {
+        add_each(&mut self.v, &other.v);
+        add_each(&mut self.s, &other.s);
     }
 
     /// The difference, number by number; each is at most 10^12 in magnitude.

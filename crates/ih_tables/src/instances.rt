@@ -7,7 +7,7 @@ ghost use Rattle.ih_tables.specs.declared.drafts.Patient.{Patient};
 ghost use Rattle.ih_tables.specs.declared.drafts.Theatre.{Theatre};
 ghost use Rattle.ih_tables.specs.Lookups.{IsIndexOf};
 ghost use Rattle.ih_tables.specs.Valid.{IsValid};
-ghost use Rattle.ih_tables.specs.Works.{load_table};
+ghost use Rattle.ih_tables.specs.Works.{load_table, roster_table};
 
 use crate::bills::Weights;
 use crate::drafts::{Draft, Nurse, Occupant, Patient, Room, Surgeon, Theatre};
@@ -16,6 +16,7 @@ use crate::lists::List;
 use crate::loads::load_table;
 use crate::lookups::{Names, numbers_of};
 use crate::names::Name;
+use crate::rosters::roster_table;
 use std::alloc::{AllocError, Global};
 
 /// An instance whose data is valid. It never changes, and threads share it.
@@ -28,6 +29,7 @@ pub struct Instance {
     theatre_numbers: Names,
     shift_type_numbers: Names,
     loads: List<Option<u32>>,
+    rosters: List<List<NurseNo>>,
     pub ghost valid: { IsValid draft },
     ghost patients_found: { IsIndexOf patient_numbers (map (λ (p : Patient). p.id) draft.patients) },
     ghost rooms_found: { IsIndexOf room_numbers (map (λ (r : Room). r.id) draft.rooms) },
@@ -35,12 +37,13 @@ pub struct Instance {
     ghost theatres_found: { IsIndexOf theatre_numbers (map (λ (t : Theatre). t.id) draft.operating_theaters) },
     ghost shift_types_found: { IsIndexOf shift_type_numbers draft.shift_types },
     ghost loads_listed: { loads ≡ load_table draft },
+    ghost working_listed: { rosters ≡ roster_table draft },
 }
 
 impl Instance {
     ghost use Rattle.std.specs.Prelude.{◌≡◌, ◌<◌, ◌*◌, ◌+◌, Some, IfOk, slice_get};
     ghost use Rattle.ih_tables.specs.Sizes.{patient_count, occupant_count, room_count, nurse_count, surgeon_count, theatre_count, person_count, shift_count};
-    ghost use Rattle.ih_tables.specs.Works.{max_load};
+    ghost use Rattle.ih_tables.specs.Works.{max_load, working};
     ghost use Rattle.std.specs.Prelude.{option_map, map};
     ghost use Rattle.ih_tables.specs.Lookups.{number_in};
     ghost use Rattle.ih_tables.specs.declared.drafts.Room.{Room};
@@ -59,6 +62,7 @@ impl Instance {
         let theatre_numbers = numbers_of(alloc, draft.operating_theaters.as_slice())?;
         let shift_type_numbers = numbers_of(alloc, draft.shift_types.as_slice())?;
         let loads = load_table(alloc, &draft)?;
+        let rosters = roster_table(alloc, &draft)?;
         Ok(Instance {
             draft,
             patient_numbers,
@@ -67,6 +71,7 @@ impl Instance {
             theatre_numbers,
             shift_type_numbers,
             loads,
+            rosters,
         })
     }
 
@@ -242,5 +247,13 @@ impl Instance {
         ensures { result ≡ max_load self.now.draft n.0 k.0 }
     {
         self.loads.as_slice()[n.0 as usize * self.shifts() as usize + k.0 as usize]
+    }
+
+    /// The nurses who work a shift, rising.
+    pub fn working(&self, k: Shift) -> &[NurseNo]
+        requires { k.0 < shift_count self.now.draft }
+        ensures { result.now ≡ working self.now.draft k.0 }
+    {
+        self.rosters.as_slice()[k.0 as usize].as_slice()
     }
 }

@@ -14,6 +14,7 @@ mod lookups;
 mod names;
 mod places;
 mod refusals;
+mod rosters;
 #[cfg(test)]
 mod tests;
 mod validity;

@@ -20,6 +20,14 @@ fn load_in(worked: &[WorkedShift], shift: usize) -> Option<u32>
     None
 }
 
+/// A nurse's maximum load in a shift; none where the nurse doesn't work it.
+pub fn max_load(draft: &Draft, n: usize, shift: usize) -> Option<u32>
+    requires { n < nurse_count draft.now }
+    ensures { result ≡ max_load draft.now n shift }
+{
+    load_in(draft.nurses.as_slice()[n].working_shifts.as_slice(), shift)
+}
+
 /// The maximum load at a place of the table.
 fn load_at(draft: &Draft, place: usize) -> Option<u32>
     requires valid { IsValid draft.now }
@@ -27,8 +35,7 @@ fn load_at(draft: &Draft, place: usize) -> Option<u32>
     ensures { result ≡ max_load draft.now (place / shift_count draft.now) (place % shift_count draft.now) }
 {
     let shifts = 3 * draft.days as usize;
-    let nurse = &draft.nurses.as_slice()[place / shifts];
-    load_in(nurse.working_shifts.as_slice(), place % shifts)
+    max_load(draft, place / shifts, place % shifts)
 }
 
 pub fn load_table(alloc: Global, draft: &Draft) -> Result<List<Option<u32>>, AllocError>

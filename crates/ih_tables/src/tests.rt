@@ -169,6 +169,7 @@ fn names_are_found(rt: HostRuntime) -> Result<(), Fail> {
     assert_eq!(rt; inst.find_room("p1"), None);
     assert!(rt; inst.nurses() == 2 && inst.shifts() == 6);
     assert_eq!(rt; inst.works(NurseNo(1), Shift(4)), Some(10));
+    assert!(rt; inst.working(Shift(4)).len() == 2);
     assert_eq!(rt; inst.shift_type(2).as_str(), "night");
     Ok(())
 }

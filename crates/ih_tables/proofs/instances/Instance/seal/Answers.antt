@@ -10,4 +10,5 @@ invariant_of-result c = record {
   theatres_found = rw (← c.as_slice-4.ensures) c.in_ok-theatre_numbers.ensures;
   shift_types_found = rw (← c.as_slice-5.ensures) (rw map-id at c.in_ok-shift_type_numbers.ensures);
   loads_listed = c.in_ok-loads.ensures;
+  working_listed = c.in_ok-rosters.ensures;
 }
