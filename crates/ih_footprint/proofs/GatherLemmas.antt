@@ -92,7 +92,7 @@ or-none true = refl
 or-none false = refl
 
 -- a number is added
-listed-added : (n i : ℕ) (xs : List ℕ) → is_listed i (if is_listed n xs then xs else xs ++ n ∷ []) ≡ (is_listed i xs || (i == n))
+pub listed-added : (n i : ℕ) (xs : List ℕ) → is_listed i (if is_listed n xs then xs else xs ++ n ∷ []) ≡ (is_listed i xs || (i == n))
 listed-added n i xs = elim (cases_Bool (is_listed n xs)) [
   | inl there ↦ rw there (elim (cases_eq i n) [
     | inl same ↦ rw (same, there) refl

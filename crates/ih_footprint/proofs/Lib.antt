@@ -5,8 +5,9 @@ pub mod LocalCare
 pub mod Locality
 pub mod Ranked
 pub mod Prices
-pub mod Rising
-pub mod StampLemmas
+pub mod BitLemmas
+pub mod WrittenLemmas
+pub mod MarkLemmas
 pub mod GatherLemmas
 pub mod FootLemmas
 pub mod LookLemmas

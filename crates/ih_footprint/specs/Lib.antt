@@ -1,5 +1,5 @@
 pub mod Gathered
 pub mod Laws
 pub mod Limits
-pub mod Stamps
+pub mod Bits
 pub mod Pieces

@@ -1,6 +1,7 @@
--- The greatest sizes of an instance, by which the number of a cell stays small.
-use Rattle.std.specs.Prelude.{◌≤◌}
+-- The greatest sizes of an instance, by which the number of a cell stays small, and where the numbers of each kind begin.
+use Rattle.std.specs.Prelude.{◌≡◌, ℕ, ◌≤◌}
 use Rattle.ih_tables.specs.Sizes.{Sizes}
+use Rattle.ih_plan.specs.Cells.{theatre_days_from, surgeon_days_from, room_shifts_from, nurse_shifts_from, cares_from}
 
 pub record AreLimited (z : Sizes) : Type 0 where
   pub some_day : 1 ≤ z.days
@@ -11,3 +12,11 @@ pub record AreLimited (z : Sizes) : Type 0 where
   pub theatres : z.theatres ≤ 64
   pub surgeons : z.surgeons ≤ 128
   pub nurses : z.nurses ≤ 512
+
+-- where the numbers of each kind of cell but the first two begin
+pub record AreFirsts (z : Sizes) (first_theatre_day first_surgeon_day first_room_shift first_nurse_shift first_care : ℕ) : Type 0 where
+  pub theatre_days : first_theatre_day ≡ theatre_days_from z
+  pub surgeon_days : first_surgeon_day ≡ surgeon_days_from z
+  pub room_shifts : first_room_shift ≡ room_shifts_from z
+  pub nurse_shifts : first_nurse_shift ≡ nurse_shifts_from z
+  pub cares : first_care ≡ cares_from z

@@ -1,6 +1,7 @@
 //! The numbers of cells, the footprints of writes and moves, and the laws that tie contents, footprints and bills.
 #![tactic(auto)]
 
+mod bits;
 mod cell_lists;
 mod footprints;
 mod laws;

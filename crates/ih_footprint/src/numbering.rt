@@ -16,11 +16,19 @@ pub struct Numbering {
     theatres: u32,
     surgeons: u32,
     nurses: u32,
+    // Where the numbers of the later kinds begin, so that this isn't worked out for each cell.
+    first_theatre_day: u32,
+    first_surgeon_day: u32,
+    first_room_shift: u32,
+    first_nurse_shift: u32,
+    first_care: u32,
 }
 
 impl Model for Numbering {
+    ghost use Rattle.std.proofs.Common.{refl};
     ghost use Rattle.ih_tables.specs.Sizes.{Sizes};
-    ghost use Rattle.ih_footprint.specs.Limits.{AreLimited};
+    ghost use Rattle.ih_plan.specs.Cells.{theatre_days_from, surgeon_days_from, room_shifts_from, nurse_shifts_from, cares_from};
+    ghost use Rattle.ih_footprint.specs.Limits.{AreLimited, AreFirsts};
 
     ghost Value = { Sizes };
 
@@ -42,6 +50,11 @@ impl Model for Numbering {
       theatres = z.theatres;
       surgeons = z.surgeons;
       nurses = z.nurses;
+      first_theatre_day = theatre_days_from z;
+      first_surgeon_day = surgeon_days_from z;
+      first_room_shift = room_shifts_from z;
+      first_nurse_shift = nurse_shifts_from z;
+      first_care = cares_from z;
     } };
 
     ghost invariant = { λ n. AreLimited (record {
@@ -52,58 +65,49 @@ impl Model for Numbering {
       theatres = n.theatres;
       surgeons = n.surgeons;
       nurses = n.nurses;
-    }) };
+    }) × AreFirsts (record {
+      days = n.days;
+      patients = n.patients;
+      occupants = n.occupants;
+      rooms = n.rooms;
+      theatres = n.theatres;
+      surgeons = n.surgeons;
+      nurses = n.nurses;
+    }) n.first_theatre_day n.first_surgeon_day n.first_room_shift n.first_nurse_shift n.first_care };
+
+    ghost inverse_ok = { λ a h. rw (h.1.theatre_days, h.1.surgeon_days, h.1.room_shifts, h.1.nurse_shifts, h.1.cares) refl };
 }
 
 impl Numbering {
     ghost use Rattle.std.specs.Prelude.{◌≡◌, ◌<◌, ◌≤◌};
     ghost use Rattle.ih_tables.specs.Sizes.{sizes_of};
-    ghost use Rattle.ih_plan.specs.Cells.{theatre_days_from, surgeon_days_from, room_shifts_from, nurse_shifts_from, cares_from, count_in, number_in, cell_in, IsCellIn};
+    ghost use Rattle.ih_plan.specs.Cells.{count_in, number_in, cell_in, IsCellIn};
     ghost use Rattle.ih_footprint.specs.Limits.{AreLimited};
 
     /// The numbering of an instance's cells.
     pub fn of(inst: &Instance) -> Numbering
         ensures { result ≡ sizes_of inst.now.draft }
     {
+        let days = inst.draft.days;
+        let first_theatre_day = inst.patients() + inst.rooms() * days;
+        let first_surgeon_day = first_theatre_day + inst.theatres() * days;
+        let first_room_shift = first_surgeon_day + inst.surgeons() * days;
+        let first_nurse_shift = first_room_shift + inst.rooms() * (3 * days);
+        let first_care = first_nurse_shift + inst.nurses() * (3 * days);
         Numbering {
-            days: inst.draft.days,
+            days,
             patients: inst.patients(),
             occupants: inst.occupants(),
             rooms: inst.rooms(),
             theatres: inst.theatres(),
             surgeons: inst.surgeons(),
             nurses: inst.nurses(),
+            first_theatre_day,
+            first_surgeon_day,
+            first_room_shift,
+            first_nurse_shift,
+            first_care,
         }
-    }
-
-    fn theatre_days(&self) -> u32
-        ensures { result ≡ theatre_days_from self.now }
-    {
-        self.patients + self.rooms * self.days
-    }
-
-    fn surgeon_days(&self) -> u32
-        ensures { result ≡ surgeon_days_from self.now }
-    {
-        self.theatre_days() + self.theatres * self.days
-    }
-
-    fn room_shifts(&self) -> u32
-        ensures { result ≡ room_shifts_from self.now }
-    {
-        self.surgeon_days() + self.surgeons * self.days
-    }
-
-    fn nurse_shifts(&self) -> u32
-        ensures { result ≡ nurse_shifts_from self.now }
-    {
-        self.room_shifts() + self.rooms * (3 * self.days)
-    }
-
-    fn cares(&self) -> u32
-        ensures { result ≡ cares_from self.now }
-    {
-        self.nurse_shifts() + self.nurses * (3 * self.days)
     }
 
     /// How many cells there are.
@@ -111,7 +115,7 @@ impl Numbering {
         ensures count { result ≡ count_in self.now }
         ensures sizes { AreLimited self.now }
     {
-        self.cares() + (self.patients + self.occupants)
+        self.first_care + (self.patients + self.occupants)
     }
 
     /// The number of a cell, from which `cell` gives the cell back.
@@ -131,11 +135,11 @@ impl Numbering {
         match c {
             Cell::Stay(p) => p.0,
             Cell::RoomDay(r, d) => self.patients + r.0 * self.days + d.0,
-            Cell::TheatreDay(t, d) => self.theatre_days() + t.0 * self.days + d.0,
-            Cell::SurgeonDay(s, d) => self.surgeon_days() + s.0 * self.days + d.0,
-            Cell::RoomShift(r, k) => self.room_shifts() + r.0 * (3 * self.days) + k.0,
-            Cell::NurseShift(n, k) => self.nurse_shifts() + n.0 * (3 * self.days) + k.0,
-            Cell::Care(x) => self.cares() + x.0,
+            Cell::TheatreDay(t, d) => self.first_theatre_day + t.0 * self.days + d.0,
+            Cell::SurgeonDay(s, d) => self.first_surgeon_day + s.0 * self.days + d.0,
+            Cell::RoomShift(r, k) => self.first_room_shift + r.0 * (3 * self.days) + k.0,
+            Cell::NurseShift(n, k) => self.first_nurse_shift + n.0 * (3 * self.days) + k.0,
+            Cell::Care(x) => self.first_care + x.0,
         }
     }
 
@@ -157,27 +161,27 @@ impl Numbering {
         if n < self.patients {
             return Cell::Stay(PatientNo(n));
         }
-        if n < self.theatre_days() {
+        if n < self.first_theatre_day {
             let m = n - self.patients;
             return Cell::RoomDay(RoomNo(m / self.days), Day(m % self.days));
         }
-        if n < self.surgeon_days() {
-            let m = n - self.theatre_days();
+        if n < self.first_surgeon_day {
+            let m = n - self.first_theatre_day;
             return Cell::TheatreDay(TheatreNo(m / self.days), Day(m % self.days));
         }
-        if n < self.room_shifts() {
-            let m = n - self.surgeon_days();
+        if n < self.first_room_shift {
+            let m = n - self.first_surgeon_day;
             return Cell::SurgeonDay(SurgeonNo(m / self.days), Day(m % self.days));
         }
         let shifts = 3 * self.days;
-        if n < self.nurse_shifts() {
-            let m = n - self.room_shifts();
+        if n < self.first_nurse_shift {
+            let m = n - self.first_room_shift;
             return Cell::RoomShift(RoomNo(m / shifts), Shift(m % shifts));
         }
-        if n < self.cares() {
-            let m = n - self.nurse_shifts();
+        if n < self.first_care {
+            let m = n - self.first_nurse_shift;
             return Cell::NurseShift(NurseNo(m / shifts), Shift(m % shifts));
         }
-        Cell::Care(PersonNo(n - self.cares()))
+        Cell::Care(PersonNo(n - self.first_care))
     }
 }
