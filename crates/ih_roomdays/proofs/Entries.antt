@@ -7,8 +7,9 @@ use Rattle.std.proofs.lemmas.Nat.{mod-mul-add, mul-add-lt, same_from_place}
 use Rattle.ih_links.specs.Lists.{Linked, has, IsOnce}
 use Rattle.ih_links.proofs.Members.{has-append, once-append}
 use Rattle.ih_roomdays.specs.declared.rows.Rows.{Rows}
-use Rattle.ih_roomdays.specs.Rows.{AreRows, IsEntered, nodes_at, is_at}
+use Rattle.ih_roomdays.specs.Rows.{AreRows, IsEntered, nodes_each, nodes_at, is_at}
 use Rattle.ih_roomdays.proofs.Nodes.{or-false, and-false, same-node, span-none, span-past, span-more}
+use Rattle.ih_roomdays.proofs.People.{day-few}
 use Rattle.ih_plan.specs.Presence.{in_span}
 
 -- before the first day nothing is changed
@@ -25,12 +26,15 @@ entered-begin v room x a rows = record {
 -- Person x's node of day k is put behind the last of room's list of that day.
 module _ (v : Rows) (rows : AreRows v) (l : Linked) (room x k : ℕ) (room_below : room < v.rooms) (k_below : k < v.days)
     (nowhere : (r : ℕ) → is_at v r k x ≡ false)
-    (lists_are : l.lists ≡ slice_set v.links.lists (room * v.days + k) (nodes_at v room k ++ (x * v.days + k) ∷ [])) (nodes_are : l.nodes ≡ v.links.nodes) where
+    (lists_are : l.lists ≡ slice_set v.links.lists (room * v.days + k) (nodes_at v room k ++ (x * nodes_each + k) ∷ [])) (nodes_are : l.nodes ≡ v.links.nodes) where
   abbrev after : Rows
   after = record v { links = l }
 
   abbrev longer : List ℕ
-  longer = nodes_at v room k ++ (x * v.days + k) ∷ []
+  longer = nodes_at v room k ++ (x * nodes_each + k) ∷ []
+
+  few : k < nodes_each
+  few = day-few v k rows k_below
 
   inside : room * v.days + k < length v.links.lists
   inside = rw (rows.heads, mul_comm v.rooms v.days) (mul-add-lt room v.days k v.rooms room_below k_below)
@@ -56,26 +60,27 @@ module _ (v : Rows) (rows : AreRows v) (l : Linked) (room x k : ℕ) (room_below
   rows-after : AreRows after
   rows-after = record {
     some_day = rows.some_day;
+    few_days = rows.few_days;
     heads = ap length lists_are ∙ (length-set v.links.lists (room * v.days + k) longer ∙ rows.heads);
     nodes = nodes_are ∙ rows.nodes;
     few_heads = rows.few_heads;
     few_nodes = rows.few_nodes;
-    same_day = λ r d n below. everywhere (λ s e. has n (nodes_at after s e) ≡ true → n % v.days ≡ e)
-        (λ m. elim (or_cases (has n (nodes_at v room k)) ((x * v.days + k) == n) (sym (ap (has n) here ∙ has-append n (nodes_at v room k) (x * v.days + k)) ∙ m)) [
+    same_day = λ r d n below. everywhere (λ s e. has n (nodes_at after s e) ≡ true → n % nodes_each ≡ e)
+        (λ m. elim (or_cases (has n (nodes_at v room k)) ((x * nodes_each + k) == n) (sym (ap (has n) here ∙ has-append n (nodes_at v room k) (x * nodes_each + k)) ∙ m)) [
           | inl before ↦ rows.same_day room k n k_below before
-          | inr now ↦ ap (λ i. i % v.days) (sym (eqb-true (x * v.days + k) n now)) ∙ mod-mul-add x v.days k k_below
+          | inr now ↦ ap (λ i. i % nodes_each) (sym (eqb-true (x * nodes_each + k) n now)) ∙ mod-mul-add x nodes_each k few
         ])
         (λ s e known ne m. rows.same_day s e n known (sym (ap (has n) (elsewhere s e known ne)) ∙ m)) r d below;
     once = everywhere (λ s e. IsOnce (nodes_at after s e))
-        (rw here (once-append (nodes_at v room k) (x * v.days + k) (rows.once room k k_below) (nowhere room)))
+        (rw here (once-append (nodes_at v room k) (x * nodes_each + k) (rows.once room k k_below) (nowhere room)))
         (λ s e known ne. rw (elsewhere s e known ne) (rows.once s e known));
   }
 
   each-after : (r d y : ℕ) → d < v.days → is_at after r d y ≡ (is_at v r d y || ((room == r) && ((y == x) && (k == d))))
   each-after r d y = everywhere (λ s e. is_at after s e y ≡ (is_at v s e y || ((room == s) && ((y == x) && (k == e)))))
-      (ap (has (y * v.days + k)) here ∙ (has-append (y * v.days + k) (nodes_at v room k) (x * v.days + k)
-      ∙ ap (λ b. is_at v room k y || b) (same-node v.days x y k k_below ∙ rw (eq-eqb room room refl, eq-eqb k k refl) (sym (all-true (y == x))))))
-      (λ s e known ne. ap (has (y * v.days + e)) (elsewhere s e known ne) ∙ sym (ap (λ b. is_at v s e y || b) (apart s e ne) ∙ or-false (is_at v s e y))) r d
+      (ap (has (y * nodes_each + k)) here ∙ (has-append (y * nodes_each + k) (nodes_at v room k) (x * nodes_each + k)
+      ∙ ap (λ b. is_at v room k y || b) (same-node nodes_each x y k few ∙ rw (eq-eqb room room refl, eq-eqb k k refl) (sym (all-true (y == x))))))
+      (λ s e known ne. ap (has (y * nodes_each + e)) (elsewhere s e known ne) ∙ sym (ap (λ b. is_at v s e y || b) (apart s e ne) ∙ or-false (is_at v s e y))) r d
     where
       all-true : (b : Bool) → (true && (b && true)) ≡ b
       all-true true = refl

@@ -5,7 +5,7 @@ use Rattle.std.proofs.lemmas.Bool.{cases_eq, cases_lt, eq-eqb, ne_eqb, lt-ltb, l
 use Rattle.std.proofs.lemmas.Nat.{div_below, mod-mul-add, same_from_place}
 use Rattle.ih_links.specs.Lists.{has, list_of}
 use Rattle.ih_roomdays.specs.declared.rows.Rows.{Rows}
-use Rattle.ih_roomdays.specs.Rows.{AreRows, nodes_at, is_at}
+use Rattle.ih_roomdays.specs.Rows.{AreRows, nodes_each, nodes_at, is_at}
 use Rattle.ih_plan.specs.Presence.{in_span}
 
 pub or-false : (b : Bool) → (b || false) ≡ b
@@ -28,16 +28,18 @@ same-node days x y d below = elim (cases_eq y x) [
 ]
 
 -- a person who is nowhere on a day has no list with its node of that day
-pub free : (v : Rows) (x k : ℕ) → AreRows v → k < v.days → ((r : ℕ) → is_at v r k x ≡ false) → (h : ℕ) → has (x * v.days + k) (list_of v.links h) ≡ false
+pub free : (v : Rows) (x k : ℕ) → AreRows v → k < v.days → ((r : ℕ) → is_at v r k x ≡ false) → (h : ℕ) → has (x * nodes_each + k) (list_of v.links h) ≡ false
 free v x k rows below nowhere h =
     let some = rows.some_day in
+    let most = rows.few_days in
+    let few : k < nodes_each = omega arith in
     let inside : h % v.days < v.days = omega arith in
     let split : h ≡ (h / v.days) * v.days + h % v.days = omega arith in
-    false_from_ne_true (has (x * v.days + k) (list_of v.links h)) (λ m.
-    let there : has (x * v.days + k) (nodes_at v (h / v.days) (h % v.days)) ≡ true = subst (λ g. has (x * v.days + k) (list_of v.links g) ≡ true) split m in
-    let day = rows.same_day (h / v.days) (h % v.days) (x * v.days + k) inside there in
-    let today : k ≡ h % v.days = sym (mod-mul-add x v.days k below) ∙ day in
-    let met : is_at v (h / v.days) k x ≡ true = subst (λ g. has (x * v.days + k) (nodes_at v (h / v.days) g) ≡ true) (sym today) there in
+    false_from_ne_true (has (x * nodes_each + k) (list_of v.links h)) (λ m.
+    let there : has (x * nodes_each + k) (nodes_at v (h / v.days) (h % v.days)) ≡ true = subst (λ g. has (x * nodes_each + k) (list_of v.links g) ≡ true) split m in
+    let day = rows.same_day (h / v.days) (h % v.days) (x * nodes_each + k) inside there in
+    let today : k ≡ h % v.days = sym (mod-mul-add x nodes_each k few) ∙ day in
+    let met : is_at v (h / v.days) k x ≡ true = subst (λ g. has (x * nodes_each + k) (nodes_at v (h / v.days) g) ≡ true) (sym today) there in
     both_ways (is_at v (h / v.days) k x) (nowhere (h / v.days)) met)
 
 -- no day is from a day on and before it
@@ -76,5 +78,5 @@ span-more a k d order = elim (cases_eq k d) [
     or-true false = refl
 
 -- a node is of one of the persons
-pub person-below : {n nodes persons days : ℕ} → n < nodes → 0 < days → nodes ≡ persons * days → n / days < persons
-person-below {n} {nodes} {persons} {days} below some e = div_below n days persons some (rw e at below)
+pub person-below : {n nodes persons : ℕ} → n < nodes → nodes ≡ persons * nodes_each → n / nodes_each < persons
+person-below {n} {nodes} {persons} below e = div_below n nodes_each persons (omega arith) (rw e at below)

@@ -1,11 +1,10 @@
 -- The part of a room and a day with a person there or not, from the list of the others.
-use Rattle.std.proofs.Common.{◌≡◌, ℕ, ◌+◌, ◌*◌, ◌/◌, ◌<◌, ◌≤◌, ◌^◌, refl, arith, sym, ap, subst, ◌∙◌, Bool, true, false, List, [], ◌∷◌, ◌++◌, length, length-append, Option, inl, inr}
+use Rattle.std.proofs.Common.{◌≡◌, ℕ, ◌+◌, ◌*◌, ◌/◌, ◌<◌, ◌^◌, refl, arith, sym, ap, subst, ◌∙◌, Bool, true, false, List, [], ◌∷◌, ◌++◌, length, length-append, Option, inl, inr}
 use Rattle.std.specs.Prelude.{◌||◌, ◌==◌, ◌-ℤ◌, pos, option_map}
 use Rattle.std.proofs.lemmas.Bool.{cases_eq, eq-eqb, ne_eqb, eqb-true, or_cases, or_right}
 use Rattle.std.proofs.lemmas.Int.{ints}
 use Rattle.std.proofs.lemmas.List.{length-map}
 use Rattle.std.proofs.lemmas.Nat.{div-mul-add}
-use Rattle.std.proofs.Math.Nat.{le-mul_of_pos_right}
 use Rattle.ih_tables.specs.declared.bills.Bill.{Bill}
 use Rattle.ih_tables.specs.declared.drafts.Draft.{Draft}
 use Rattle.ih_tables.specs.declared.ids.PatientNo.{PatientNo}
@@ -31,11 +30,11 @@ use Rattle.ih_roomdays.specs.declared.rows.Rows.{Rows}
 use Rattle.ih_roomdays.specs.Company.{with_if}
 use Rattle.ih_roomdays.specs.Ledger.{IsLedgerOf}
 use Rattle.ih_roomdays.specs.Parts.{room_day_part, room_counts}
-use Rattle.ih_roomdays.specs.Rows.{AreRows, is_at, nodes_at, persons_at}
+use Rattle.ih_roomdays.specs.Rows.{AreRows, is_at, nodes_each, nodes_at, persons_at}
 use Rattle.ih_roomdays.proofs.StayLemmas.{others}
 use Rattle.ih_roomdays.proofs.Nodes.{or-false, person-below}
 use Rattle.ih_roomdays.proofs.Orders.{AreAlike}
-use Rattle.ih_roomdays.proofs.People.{has-persons, persons-once}
+use Rattle.ih_roomdays.proofs.People.{day-few, has-persons, persons-once}
 use Rattle.ih_roomdays.proofs.Standing.{has-present, part-alike}
 
 -- ---- how many others there are
@@ -69,16 +68,16 @@ module _ (v : Rows) (rows : AreRows v) (r d x : ℕ) (day : d < v.days) where
 
   pub count-there : is_at v r d x ≡ true → length rest + 1 ≡ length (nodes_at v r d)
   count-there there =
-      length-without x (persons_at v r d) (persons-once v r d rows day) (has-persons v r d x rows day ∙ there) ∙ length-map (nodes_at v r d) (λ n. n / v.days)
+      length-without x (persons_at v r d) (persons-once v r d rows day) (has-persons v r d x rows day ∙ there) ∙ length-map (nodes_at v r d) (λ n. n / nodes_each)
 
   pub count-away : is_at v r d x ≡ false → length rest ≡ length (nodes_at v r d)
   count-away away =
-      ap length (without-none x (persons_at v r d) (has-persons v r d x rows day ∙ away)) ∙ length-map (nodes_at v r d) (λ n. n / v.days)
+      ap length (without-none x (persons_at v r d) (has-persons v r d x rows day ∙ away)) ∙ length-map (nodes_at v r d) (λ n. n / nodes_each)
 
   -- the nodes of persons are those of persons of the instance
   person-few : AreNodes v.links.nodes (nodes_at v r d) → (y : ℕ) → is_at v r d y ≡ true → y < v.persons
   person-few known y there =
-      subst (λ z. z < v.persons) (div-mul-add y v.days d day) (person-below (known.below (y * v.days + d) there) rows.some_day rows.nodes)
+      subst (λ z. z < v.persons) (div-mul-add y nodes_each d (day-few v d rows day)) (person-below (known.below (y * nodes_each + d) there) rows.nodes)
 
   pub others-few : x < v.persons → AreNodes v.links.nodes (nodes_at v r d) → length rest + 1 < 2 ^ 32
   others-few below known =
@@ -87,9 +86,7 @@ module _ (v : Rows) (rows : AreRows v) (r d x : ℕ) (day : d < v.days) where
         | inr now ↦ subst (λ z. z < v.persons) (eqb-true x y now) below
       ]) in
       let whole = length-append rest (x ∷ []) in
-      let some = rows.some_day in
       let nodes = rows.few_nodes in
-      let most : v.persons ≤ v.persons * v.days = le-mul_of_pos_right v.persons some in
       omega arith
 
 -- ---- the parts before and after

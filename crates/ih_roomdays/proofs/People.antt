@@ -9,7 +9,7 @@ use Rattle.ih_links.proofs.Members.{has-here, has-there, lacks, once-append}
 use Rattle.ih_plan.proofs.Lists.{has as has_number, has-which_below, which_below-has, has-listed}
 use Rattle.ih_plan.specs.Sums.{which_below, is_listed}
 use Rattle.ih_roomdays.specs.declared.rows.Rows.{Rows}
-use Rattle.ih_roomdays.specs.Rows.{AreRows, nodes_at, persons_at, is_at}
+use Rattle.ih_roomdays.specs.Rows.{AreRows, nodes_each, nodes_at, persons_at, is_at}
 
 -- two tests of what is in a list agree
 has-number : (x : ℕ) (xs : List ℕ) → has x xs ≡ has_number x xs
@@ -54,11 +54,14 @@ module _ (days d : ℕ) (below : d < days) where
     once-persons ns (later n ns of_day) once.1,
   )
 
+pub day-few : (v : Rows) (d : ℕ) → AreRows v → d < v.days → d < nodes_each
+day-few v d rows below = let few = rows.few_days in omega arith
+
 pub has-persons : (v : Rows) (r d x : ℕ) → AreRows v → d < v.days → has x (persons_at v r d) ≡ is_at v r d x
-has-persons v r d x rows below = has-person v.days d below x (nodes_at v r d) (λ n m. rows.same_day r d n below m)
+has-persons v r d x rows below = has-person nodes_each d (day-few v d rows below) x (nodes_at v r d) (λ n m. rows.same_day r d n below m)
 
 pub persons-once : (v : Rows) (r d : ℕ) → AreRows v → d < v.days → IsOnce (persons_at v r d)
-persons-once v r d rows below = once-persons v.days d below (nodes_at v r d) (λ n m. rows.same_day r d n below m) (rows.once r d below)
+persons-once v r d rows below = once-persons nodes_each d (day-few v d rows below) (nodes_at v r d) (λ n m. rows.same_day r d n below m) (rows.once r d below)
 
 all-apart : (x : ℕ) (xs : List ℕ) → has x xs ≡ false → AllByRecursion (λ y. nat_eq x y ≡ false) xs
 all-apart x [] free = tt

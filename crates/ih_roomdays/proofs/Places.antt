@@ -6,7 +6,7 @@ use Rattle.ih_links.specs.Lists.{has, following, first_of, IsOnce}
 use Rattle.ih_links.proofs.Members.{has-here, has-there}
 use Rattle.ih_links.proofs.Walks.{following-index}
 use Rattle.ih_roomdays.specs.declared.rows.Rows.{Rows}
-use Rattle.ih_roomdays.specs.Rows.{nodes_at, persons_at}
+use Rattle.ih_roomdays.specs.Rows.{nodes_each, nodes_at, persons_at}
 
 -- what is met after k steps is the k-th
 met : (xs : List ℕ) (k n : ℕ) → first_of (drop k xs) ≡ Some n → (k < length xs) × (n ≡ get_or xs k 0)
@@ -42,10 +42,10 @@ step-past xs k e = rw add-one (past xs k e)
     past (x ∷ xs) (suc k) e = past xs k e
 
 -- so the person of the node that is met after i steps is the i-th
-pub told-person : (v : Rows) (r d i n : ℕ) → first_of (drop i (nodes_at v r d)) ≡ Some n → n / v.days ≡ slice_index (persons_at v r d) i
+pub told-person : (v : Rows) (r d i n : ℕ) → first_of (drop i (nodes_at v r d)) ≡ Some n → n / nodes_each ≡ slice_index (persons_at v r d) i
 told-person v r d i n e =
     let here = met (nodes_at v r d) i n e in
-    ap (λ m. m / v.days) here.1 ∙ sym (get_or-map (λ m. m / v.days) (nodes_at v r d) i 0 0 here.0)
+    ap (λ m. m / nodes_each) here.1 ∙ sym (get_or-map (λ m. m / nodes_each) (nodes_at v r d) i 0 0 here.0)
 
 pub told-someone : (v : Rows) (r d i : ℕ) → i < length (persons_at v r d) → first_of (drop i (nodes_at v r d)) ≡ None → ⊥
-told-someone v r d i below none = none-past (nodes_at v r d) i (rw (length-map (nodes_at v r d) (λ n. n / v.days)) at below) none
+told-someone v r d i below none = none-past (nodes_at v r d) i (rw (length-map (nodes_at v r d) (λ n. n / nodes_each)) at below) none

@@ -14,6 +14,7 @@ use Rattle.std.proofs.lemmas.Bool.{cases_eq}
 use Rattle.ih_links.proofs.Walks.{IsWalk, walk-begins, walk-goes_on, walk-ends}
 use Rattle.ih_roomdays.specs.declared.companies.Company.{Company}
 use Rattle.ih_roomdays.specs.Company.{IsSeen}
+use Rattle.ih_roomdays.specs.Rows.{nodes_each}
 use Rattle.ih_roomdays.proofs.Nodes.{or-false}
 
 abbrev age_of : Draft → ℕ → ℕ
@@ -72,32 +73,32 @@ map-end f [] x = refl
 map-end f (y ∷ ys) x = ap (λ zs. f y ∷ zs) (map-end f ys x)
 
 -- A walk over nodes, and what it has seen of those persons of the nodes told that are kept.
-pub record IsTour (I : Draft) (kept : List ℕ → List ℕ) (nodes days : ℕ) (xs : List ℕ) (at : Option ℕ) (c : Company) : Type 0 where
+pub record IsTour (I : Draft) (kept : List ℕ → List ℕ) (nodes : ℕ) (xs : List ℕ) (at : Option ℕ) (c : Company) : Type 0 where
   pub told : List ℕ
   pub walk : IsWalk nodes xs told at
   pub first : IfSome c.first (λ y. y < person_count I)
-  pub seen : IsSeen I (kept (map (λ n. n / days) told)) c
+  pub seen : IsSeen I (kept (map (λ n. n / nodes_each) told)) c
 
-pub tour-begins : (I : Draft) (kept : List ℕ → List ℕ) (nodes days : ℕ) (xs : List ℕ) (at : Option ℕ) (c : Company) → AreNodes nodes xs → at ≡ first_of xs → kept [] ≡ [] → IsSeen I [] c
-    → IsTour I kept nodes days xs at c
-tour-begins I kept nodes days xs at c known here none seen = record {
+pub tour-begins : (I : Draft) (kept : List ℕ → List ℕ) (nodes : ℕ) (xs : List ℕ) (at : Option ℕ) (c : Company) → AreNodes nodes xs → at ≡ first_of xs → kept [] ≡ [] → IsSeen I [] c
+    → IsTour I kept nodes xs at c
+tour-begins I kept nodes xs at c known here none seen = record {
   told = [];
   walk = rw here (walk-begins nodes xs known);
   first = subst (λ f. IfSome f (λ y. y < person_count I)) (sym seen.first) tt;
   seen = subst (λ ps. IsSeen I ps c) (sym none) seen;
 }
 
-pub tour-goes_on : {I : Draft} {kept : List ℕ → List ℕ} {nodes days : ℕ} {xs : List ℕ} {at next : Option ℕ} {c : Company} (n : ℕ) (new : Company) (tour : IsTour I kept nodes days xs at c) → at ≡ Some n → next ≡ following n xs
-    → IfSome new.first (λ y. y < person_count I) → ((ps : List ℕ) → IsSeen I (kept ps) c → IsSeen I (kept (ps ++ (n / days) ∷ [])) new) → IsTour I kept nodes days xs next new
-tour-goes_on {I} {kept} {nodes} {days} n new tour here next_is first more = record {
+pub tour-goes_on : {I : Draft} {kept : List ℕ → List ℕ} {nodes : ℕ} {xs : List ℕ} {at next : Option ℕ} {c : Company} (n : ℕ) (new : Company) (tour : IsTour I kept nodes xs at c) → at ≡ Some n → next ≡ following n xs
+    → IfSome new.first (λ y. y < person_count I) → ((ps : List ℕ) → IsSeen I (kept ps) c → IsSeen I (kept (ps ++ (n / nodes_each) ∷ [])) new) → IsTour I kept nodes xs next new
+tour-goes_on {I} {kept} {nodes} n new tour here next_is first more = record {
   told = tour.told ++ n ∷ [];
   walk = walk-goes_on tour.walk here next_is;
   first = first;
-  seen = subst (λ ps. IsSeen I (kept ps) new) (sym (map-end (λ m. m / days) tour.told n)) (more (map (λ m. m / days) tour.told) tour.seen);
+  seen = subst (λ ps. IsSeen I (kept ps) new) (sym (map-end (λ m. m / nodes_each) tour.told n)) (more (map (λ m. m / nodes_each) tour.told) tour.seen);
 }
 
-pub tour-ends : (I : Draft) (kept : List ℕ → List ℕ) (nodes days : ℕ) (xs : List ℕ) (c : Company) → IsTour I kept nodes days xs None c → IsSeen I (kept (map (λ n. n / days) xs)) c
-tour-ends I kept nodes days xs c tour = subst (λ ns. IsSeen I (kept (map (λ n. n / days) ns)) c) (walk-ends nodes xs tour.told tour.walk) tour.seen
+pub tour-ends : (I : Draft) (kept : List ℕ → List ℕ) (nodes : ℕ) (xs : List ℕ) (c : Company) → IsTour I kept nodes xs None c → IsSeen I (kept (map (λ n. n / nodes_each) xs)) c
+tour-ends I kept nodes xs c tour = subst (λ ns. IsSeen I (kept (map (λ n. n / nodes_each) ns)) c) (walk-ends nodes xs tour.told tour.walk) tour.seen
 
 -- a list without one person that isn't its last, and without one that is
 pub without-other : (but x : ℕ) (xs : List ℕ) → (x ≡ but → ⊥) → without but (xs ++ x ∷ []) ≡ without but xs ++ x ∷ []

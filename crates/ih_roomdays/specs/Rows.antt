@@ -1,9 +1,13 @@
--- Lists of who is in which room on which day: node x * days + d is person x on day d.
-use Rattle.std.specs.Prelude.{◌≡◌, ℕ, ◌+◌, ◌*◌, ◌/◌, ◌%◌, ◌^◌, ◌<◌, Bool, true, false, ◌==◌, ◌&&◌, ◌||◌, not, List, length, map}
+-- Lists of who is in which room on which day: node x * nodes_each + d is person x on day d.
+use Rattle.std.specs.Prelude.{◌≡◌, ℕ, ◌+◌, ◌*◌, ◌/◌, ◌%◌, ◌^◌, ◌<◌, ◌≤◌, Bool, true, false, ◌==◌, ◌&&◌, ◌||◌, not, List, length, map}
 use Rattle.ih_links.specs.Lists.{has, list_of, IsOnce}
 use Rattle.ih_roomdays.specs.declared.profiles.Profiles.{Profiles}
 use Rattle.ih_roomdays.specs.declared.rows.Rows.{Rows}
 use Rattle.ih_plan.specs.Presence.{in_span}
+
+-- how many nodes a person has: one for each day, and some for none, so that a node's person is told by a shift
+abbrev pub nodes_each : ℕ
+nodes_each = 64
 
 -- the nodes of room r on day d
 abbrev pub nodes_at : Rows → ℕ → ℕ → List ℕ
@@ -11,20 +15,21 @@ nodes_at v r d = list_of v.links (r * v.days + d)
 
 -- the persons in room r on day d
 abbrev pub persons_at : Rows → ℕ → ℕ → List ℕ
-persons_at v r d = map (λ n. n / v.days) (nodes_at v r d)
+persons_at v r d = map (λ n. n / nodes_each) (nodes_at v r d)
 
 -- person x is in room r on day d
 abbrev pub is_at : Rows → ℕ → ℕ → ℕ → Bool
-is_at v r d x = has (x * v.days + d) (nodes_at v r d)
+is_at v r d x = has (x * nodes_each + d) (nodes_at v r d)
 
--- There is a list for each room and day and a node for each person and day, and a list has nodes of its own day, each once.
+-- There is a list for each room and day, and each person has its nodes; a list has nodes of its own day, each once.
 pub record AreRows (v : Rows) : Type 0 where
   pub some_day : 0 < v.days
+  pub few_days : v.days ≤ nodes_each
   pub heads : length v.links.lists ≡ v.rooms * v.days
-  pub nodes : v.links.nodes ≡ v.persons * v.days
+  pub nodes : v.links.nodes ≡ v.persons * nodes_each
   pub few_heads : v.rooms * v.days < 2 ^ 32
-  pub few_nodes : v.persons * v.days < 2 ^ 32
-  pub same_day : (r d n : ℕ) → d < v.days → has n (nodes_at v r d) ≡ true → n % v.days ≡ d
+  pub few_nodes : v.persons * nodes_each < 2 ^ 32
+  pub same_day : (r d n : ℕ) → d < v.days → has n (nodes_at v r d) ≡ true → n % nodes_each ≡ d
   pub once : (r d : ℕ) → d < v.days → IsOnce (nodes_at v r d)
 
 -- Nobody is in any room.

@@ -113,7 +113,6 @@ pub fn before_and_after(
         &rows.profiles,
         &rows.links,
         r.0 * rows.days + d.0,
-        rows.days,
         p.0,
     );
     let count = others(rows, r, d, p.0, was);

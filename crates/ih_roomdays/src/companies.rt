@@ -9,10 +9,12 @@ ghost use Rattle.ih_links.specs.Lists.{AreNodes, list_of};
 ghost use Rattle.ih_roomdays.specs.Company.{IsSeen};
 ghost use Rattle.ih_roomdays.specs.Genders.{AreGenders};
 ghost use Rattle.ih_roomdays.specs.Profiles.{AreProfiles};
+ghost use Rattle.ih_roomdays.specs.Rows.{nodes_each};
 ghost use Rattle.ih_links.specs.Lists.{without};
 
 use crate::genders::have_one_gender;
 use crate::profiles::{Profiles, age_of};
+use crate::rows::NODES_EACH;
 use ih_links::Links;
 use ih_tables::Instance;
 
@@ -90,24 +92,17 @@ fn with_other(inst: &Instance, profiles: &Profiles, seen: Company, x: u32, but: 
     }
 }
 
-/// What is seen of the persons of a list of nodes, so many a person.
-pub fn company_of(
-    inst: &Instance,
-    profiles: &Profiles,
-    links: &Links,
-    head: u32,
-    days: u32,
-) -> Company
+/// What is seen of the persons of a list of nodes.
+pub fn company_of(inst: &Instance, profiles: &Profiles, links: &Links, head: u32) -> Company
     requires profiles { AreProfiles inst.now.draft profiles.now }
-    requires some_day { 0 < days }
     requires head { head < length links.now.lists }
-    requires nodes { links.now.nodes ≡ person_count inst.now.draft * days }
-    ensures { IsSeen inst.now.draft (map (λ n. n / days) (list_of links.now head)) result }
+    requires nodes { links.now.nodes ≡ person_count inst.now.draft * nodes_each }
+    ensures { IsSeen inst.now.draft (map (λ n. n / nodes_each) (list_of links.now head)) result }
 {
     let mut seen = nobody();
     let mut at = links.first(head);
     while let Some(node) = at {
-        seen = with(inst, profiles, seen, node / days);
+        seen = with(inst, profiles, seen, node / NODES_EACH);
         at = links.next(node);
     }
     seen
@@ -119,21 +114,19 @@ pub fn company_but(
     profiles: &Profiles,
     links: &Links,
     head: u32,
-    days: u32,
     but: u32,
 ) -> Company
     requires profiles { AreProfiles inst.now.draft profiles.now }
-    requires some_day { 0 < days }
     requires head { head < length links.now.lists }
-    requires nodes { links.now.nodes ≡ person_count inst.now.draft * days }
+    requires nodes { links.now.nodes ≡ person_count inst.now.draft * nodes_each }
     ensures nodes { AreNodes links.now.nodes (list_of links.now head) }
     ensures first { IfSome result.first (λ y. y < person_count inst.now.draft) }
-    ensures seen { IsSeen inst.now.draft (without but (map (λ n. n / days) (list_of links.now head))) result }
+    ensures seen { IsSeen inst.now.draft (without but (map (λ n. n / nodes_each) (list_of links.now head))) result }
 {
     let mut seen = nobody();
     let mut at = links.first(head);
     while let Some(node) = at {
-        seen = with_other(inst, profiles, seen, node / days, but);
+        seen = with_other(inst, profiles, seen, node / NODES_EACH, but);
         at = links.next(node);
     }
     seen

@@ -15,7 +15,7 @@ use crate::bills::{room_day_bill, room_day_change};
 use crate::changes::{before_and_after, is_there, room_counts};
 use crate::companies::company_of;
 use crate::profiles::profiles_of;
-use crate::rows::Rows;
+use crate::rows::{NODES_EACH, Rows};
 use ih_plan::{Members, Placement};
 use ih_tables::{Bill, Day, Instance, PatientNo, PersonNo, RoomNo};
 use std::alloc::{AllocError, Global};
@@ -91,13 +91,7 @@ impl RoomDays {
         ensures within { IsWithin (10 ^ 11) result }
     {
         let head = r.0 * self.rows.days + d.0;
-        let seen = company_of(
-            inst,
-            &self.rows.profiles,
-            &self.rows.links,
-            head,
-            self.rows.days,
-        );
+        let seen = company_of(inst, &self.rows.profiles, &self.rows.links, head);
         let count = self.rows.links.len(head);
         room_day_bill(room_counts(inst, r, seen, count))
     }
@@ -154,7 +148,7 @@ impl Members for RoomDays {
         }
         match at {
             None => PersonNo(0),
-            Some(node) => PersonNo(node / self.rows.days),
+            Some(node) => PersonNo(node / NODES_EACH),
         }
     }
 }

@@ -1,13 +1,17 @@
 //! Lists of who is in which room on which day.
 
 ghost use Rattle.std.specs.Prelude.{◌≡◌, ℕ, ◌*◌, ◌^◌, ◌<◌, ◌≤◌, true, false, IfOk};
-ghost use Rattle.ih_roomdays.specs.Rows.{AreRows, AreVacant, IsEntered, IsLeft, is_at};
+ghost use Rattle.ih_roomdays.specs.Rows.{AreRows, AreVacant, IsEntered, IsLeft, is_at, nodes_each};
 
 use crate::profiles::Profiles;
 use ih_links::Links;
 use std::alloc::{AllocError, Global};
 
-/// One list for each room and day, and for each person and day one node that can stand in it.
+/// How many nodes each person has. There are fewer days, but a person is told from a node by a shift, and not by a
+/// division.
+pub const NODES_EACH: u32 = 64;
+
+/// One list for each room and day, and nodes of each person: one for each day, which can stand in a list of that day.
 #[derive(Drop)]
 pub struct Rows {
     pub links: Links,
@@ -27,11 +31,12 @@ impl Rows {
         profiles: Profiles,
     ) -> Result<Rows, AllocError>
         requires some_day { 0 < days }
+        requires few_days { days ≤ nodes_each }
         requires heads { rooms * days < 2 ^ 32 }
-        requires nodes { persons * days < 2 ^ 32 }
+        requires nodes { persons * nodes_each < 2 ^ 32 }
         ensures { IfOk result (λ rows. AreVacant rooms days persons profiles rows) }
     {
-        let links = Links::new(alloc, rooms * days, persons * days)?;
+        let links = Links::new(alloc, rooms * days, persons * NODES_EACH)?;
         Ok(Rows {
             links,
             rooms,
@@ -53,7 +58,7 @@ impl Rows {
     {
         for d in from..to {
             self.links
-                .push_back(room * self.days + d, x * self.days + d);
+                .push_back(room * self.days + d, x * NODES_EACH + d);
         }
     }
 
@@ -67,7 +72,7 @@ impl Rows {
         ensures { IsLeft self.old self.new x from to }
     {
         for d in from..to {
-            self.links.remove(x * self.days + d);
+            self.links.remove(x * NODES_EACH + d);
         }
     }
 }

@@ -7,12 +7,12 @@ use Rattle.ih_roomdays.proofs.companies.company_but.Goals as goal
 
 pub loop-at-init : goal.loop-at-init
 loop-at-init c =
-    tour-begins c.args.inst.now.draft (without c.args.but) c.args.links.now.nodes c.args.days (list_of c.args.links.now c.args.head) c.first-at.result c.nobody-seen.result
+    tour-begins c.args.inst.now.draft (without c.args.but) c.args.links.now.nodes (list_of c.args.links.now c.args.head) c.first-at.result c.nobody-seen.result
     c.first-at.ensures.nodes c.first-at.ensures.first refl (c.nobody-seen.ensures c.args.inst.now.draft)
 
 pub with_other-seen-requires-clause-person : goal.with_other-seen-requires-clause-person
 with_other-seen-requires-clause-person c =
-    person-below (walk-below c.loop-at.invariant.walk c.in-Some.is) c.requires.some_day c.requires.nodes
+    person-below (walk-below c.loop-at.invariant.walk c.in-Some.is) c.requires.nodes
 
 pub loop-at-smaller : goal.loop-at-smaller
 loop-at-smaller c = walk-shrinks c.loop-at.invariant.walk c.in-Some.is (c.next-at.ensures.linked c.args.head (walk-inside c.loop-at.invariant.walk c.in-Some.is))

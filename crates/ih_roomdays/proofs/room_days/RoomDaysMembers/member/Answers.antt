@@ -1,7 +1,7 @@
 use Rattle.std.proofs.Common.{◌≡◌, ◌<◌, ◌/◌, ◌∙◌, ◌*◌, ◌+◌, arith, sym, ap, subst, length, drop}
 use Rattle.std.specs.Prelude.{slice_index}
 use Rattle.ih_links.specs.Lists.{first_of}
-use Rattle.ih_roomdays.specs.Rows.{nodes_at, persons_at}
+use Rattle.ih_roomdays.specs.Rows.{nodes_each, nodes_at, persons_at}
 use Rattle.ih_roomdays.proofs.Places.{met-inside, step-on, step-past, told-person, told-someone}
 use Rattle.ih_roomdays.proofs.room_days.RoomDaysMembers.member.Goals.{in-Some, in-None}
 use Rattle.ih_roomdays.proofs.room_days.RoomDaysMembers.member.Goals as goal
@@ -35,6 +35,6 @@ returns-in-None-at c =
 pub returns-in-Some-at : goal.returns-in-Some-at
 returns-in-Some-at c =
     let last : c.loop.counter ≡ c.args.i = omega arith in
-    subst (λ w. c.in-Some-at.node / c.self.inside.rows.days ≡ slice_index (persons_at w c.args.r.0 c.args.d.0) c.args.i) c.self.view_is
+    subst (λ w. c.in-Some-at.node / nodes_each ≡ slice_index (persons_at w c.args.r.0 c.args.d.0) c.args.i) c.self.view_is
     (told-person c.self.inside.rows c.args.r.0 c.args.d.0 c.args.i c.in-Some-at.node
     (ap (λ k. first_of (drop k (nodes_at c.self.inside.rows c.args.r.0 c.args.d.0))) (sym last) ∙ (sym c.loop.invariant.at ∙ c.in-Some-at.is)))
