@@ -12,13 +12,13 @@ use Rattle.ih_plan.specs.Expand.{expand}
 use Rattle.ih_plan.specs.Sums.{which_below, is_listed}
 use Rattle.ih_plan.specs.Cells.{cell_at, cell_count, count_in, number_in, IsCellIn}
 use Rattle.ih_plan.specs.Footprint.{write_touches, writes_touch, looks_at, touches, footprint}
-use Rattle.ih_plan.proofs.Lists.{which_below-same}
+use Rattle.ih_plan.proofs.Lists.{has-listed, has-which_below, which_below-same}
 use Rattle.ih_footprint.specs.Gathered.{Gathered, Gathers, settled}
 use Rattle.ih_footprint.proofs.GatherLemmas.{or-none}
-use Rattle.ih_footprint.proofs.Ranked.{cell_in-in, number_in-cell_in}
+use Rattle.ih_footprint.proofs.Ranked.{cell_in-in, cell_in-number_in, number_in-cell_in, number_in-in}
 use Rattle.ih_costs.specs.Touched.{listed_or_touched}
 
-or-assoc : (a b c : Bool) → ((a || b) || c) ≡ (a || (b || c))
+pub or-assoc : (a b c : Bool) → ((a || b) || c) ≡ (a || (b || c))
 or-assoc true b c = refl
 or-assoc false b c = refl
 
@@ -60,6 +60,24 @@ touched-more I P u v w ws sizes g =
 pub touched-one : (I : Draft) (P : Timetable) (u v : Gathered) (w : Write) → u.sizes ≡ sizes_of I → Gathers u v (write_touches I P w)
     → settled v ≡ listed_or_touched I P u.cells (w ∷ [])
 touched-one I P u v w sizes g = touched-none I (put w P) v (g.sizes ∙ sizes) ∙ touched-more I P u v w [] sizes g
+
+-- a list that has what another has, the cells that a write touches
+pub gathers-touched : (I : Draft) (P : Timetable) (u v : Gathered) (w : Write) (ns : List ℕ) → u.sizes ≡ sizes_of I → v.sizes ≡ u.sizes → ns ≡ listed_or_touched I P [] (w ∷ [])
+    → ((n : ℕ) → is_listed n v.cells ≡ (is_listed n u.cells || is_listed n ns)) → Gathers u v (write_touches I P w)
+unfolding listed_or_touched writes_touch
+gathers-touched I P u v w ns sizes same touched each = record {
+  sizes = same;
+  cells = λ c inside.
+      let n = number_in u.sizes c in
+      let known : n ≡ number_in (sizes_of I) c = ap (λ z. number_in z c) sizes in
+      let here = subst (λ z. IsCellIn z c) sizes inside in
+      let below : n < cell_count I = subst (λ k. k < cell_count I) (sym known) (number_in-in (sizes_of I) c here) in
+      let back : cell_at I n ≡ c = ap (cell_at I) known ∙ cell_in-number_in (sizes_of I) c here in
+      let listed : is_listed n ns ≡ write_touches I P w c =
+      ap (is_listed n) touched ∙ (sym (has-listed n _) ∙ (has-which_below (cell_count I) n (λ m. is_listed m [] || (write_touches I P w (cell_at I m) || false)) below
+      ∙ (or-none (write_touches I P w (cell_at I n)) ∙ ap (write_touches I P w) back))) in
+      ap (λ z. is_listed (number_in z c) v.cells) same ∙ (each n ∙ ap (λ b. is_listed n u.cells || b) listed);
+}
 
 -- which pass a test of the numbers of all cells
 pub listed-passing : (I : Draft) (P : Timetable) (ns : List ℕ) (ws : List Write)

@@ -64,27 +64,33 @@ impl CellLedgers {
         p: PatientNo,
         new: Option<Placement>,
         c: Cell,
-        sum: &Bill,
-    ) -> Bill
+        sum: &mut Bill,
+    )
         requires stands { AreLedgers inst.now.draft self.now }
         requires write { IsWriteOf inst.now.draft (SetStay p new) }
         requires cell { IsCellOf inst.now.draft c }
-        requires fits { IsWithin (10 ^ 12) (add_bills sum.now (part_change inst.now.draft (timetable_of self.now) (SetStay p new) c)) }
-        ensures { result ≡ add_bills sum.now (part_change inst.now.draft (timetable_of self.now) (SetStay p new) c) }
+        requires fits { IsWithin (10 ^ 12) (add_bills sum.old (part_change inst.now.draft (timetable_of self.now) (SetStay p new) c)) }
+        ensures { sum.new ≡ add_bills sum.old (part_change inst.now.draft (timetable_of self.now) (SetStay p new) c) }
     {
         let old = self.plan().stay(p);
         match c {
-            Cell::Stay(q) => sum.add(&change_in_stay(inst, self.plan(), p, new, q)),
-            Cell::RoomDay(r, d) => sum.add(&self.room_days.cell_change(inst, r, d, p, old, new)),
+            Cell::Stay(q) => sum.take_in(&change_in_stay(inst, self.plan(), p, new, q)),
+            Cell::RoomDay(r, d) => sum.take_in(
+                &self.room_days.cell_change(inst, r, d, p, old, new),
+            ),
             Cell::TheatreDay(t, d) => {
-                sum.add(&self.theatres.theatre_change(inst, t, d, p, old, new))
+                sum.take_in(&self.theatres.theatre_change(inst, t, d, p, old, new))
             }
             Cell::SurgeonDay(s, d) => {
-                sum.add(&self.theatres.surgeon_change(inst, s, d, p, old, new))
+                sum.take_in(&self.theatres.surgeon_change(inst, s, d, p, old, new))
             }
-            Cell::RoomShift(r, k) => sum.add(&self.nurses.room_shift_change(inst, r, k, p, new)),
-            Cell::NurseShift(n, k) => sum.add(&self.nurses.nurse_shift_change(inst, n, k, p, new)),
-            Cell::Care(x) => sum.add(&self.change_in_care(inst, p, new, x)),
+            Cell::RoomShift(r, k) => sum.take_in(
+                &self.nurses.room_shift_change(inst, r, k, p, new),
+            ),
+            Cell::NurseShift(n, k) => sum.take_in(
+                &self.nurses.nurse_shift_change(inst, n, k, p, new),
+            ),
+            Cell::Care(x) => sum.take_in(&self.change_in_care(inst, p, new, x)),
         }
     }
 
@@ -141,32 +147,34 @@ impl CellLedgers {
         k: Shift,
         new: Option<NurseNo>,
         c: Cell,
-        sum: &Bill,
-    ) -> Bill
+        sum: &mut Bill,
+    )
         requires stands { AreLedgers inst.now.draft self.now }
         requires write { IsWriteOf inst.now.draft (SetCare r k new) }
         requires cell { IsCellOf inst.now.draft c }
-        requires fits { IsWithin (10 ^ 12) (add_bills sum.now (part_change inst.now.draft (timetable_of self.now) (SetCare r k new) c)) }
-        ensures { result ≡ add_bills sum.now (part_change inst.now.draft (timetable_of self.now) (SetCare r k new) c) }
+        requires fits { IsWithin (10 ^ 12) (add_bills sum.old (part_change inst.now.draft (timetable_of self.now) (SetCare r k new) c)) }
+        ensures { sum.new ≡ add_bills sum.old (part_change inst.now.draft (timetable_of self.now) (SetCare r k new) c) }
     {
         match c {
-            Cell::RoomShift(s, l) => sum.add(&self.change_in_room_shift(inst, r, k, new, s, l)),
-            Cell::NurseShift(n, l) => sum.add(&self.change_in_nurse_shift(inst, r, k, new, n, l)),
-            Cell::Care(x) => sum.add(&self.nurses.seen_change(inst, x, r, k, new)),
-            Cell::Stay(_) => sum.add(&Bill::zero()),
-            Cell::RoomDay(_, _) => sum.add(&Bill::zero()),
-            Cell::TheatreDay(_, _) => sum.add(&Bill::zero()),
-            Cell::SurgeonDay(_, _) => sum.add(&Bill::zero()),
+            Cell::RoomShift(s, l) => sum.take_in(&self.change_in_room_shift(inst, r, k, new, s, l)),
+            Cell::NurseShift(n, l) => sum.take_in(&self.change_in_nurse_shift(
+                inst, r, k, new, n, l,
+            )),
+            Cell::Care(x) => sum.take_in(&self.nurses.seen_change(inst, x, r, k, new)),
+            Cell::Stay(_) => sum.take_in(&Bill::zero()),
+            Cell::RoomDay(_, _) => sum.take_in(&Bill::zero()),
+            Cell::TheatreDay(_, _) => sum.take_in(&Bill::zero()),
+            Cell::SurgeonDay(_, _) => sum.take_in(&Bill::zero()),
         }
     }
 
     // Adds what a write would change in the part of the bill that a cell has.
-    fn add_change(&self, inst: &Instance, w: &Write, c: Cell, sum: &Bill) -> Bill
+    fn add_change(&self, inst: &Instance, w: &Write, c: Cell, sum: &mut Bill)
         requires stands { AreLedgers inst.now.draft self.now }
         requires write { IsWriteOf inst.now.draft w.now }
         requires cell { IsCellOf inst.now.draft c }
-        requires fits { IsWithin (10 ^ 12) (add_bills sum.now (part_change inst.now.draft (timetable_of self.now) w.now c)) }
-        ensures { result ≡ add_bills sum.now (part_change inst.now.draft (timetable_of self.now) w.now c) }
+        requires fits { IsWithin (10 ^ 12) (add_bills sum.old (part_change inst.now.draft (timetable_of self.now) w.now c)) }
+        ensures { sum.new ≡ add_bills sum.old (part_change inst.now.draft (timetable_of self.now) w.now c) }
     {
         match *w {
             Write::SetStay(p, new) => self.add_by_stay(inst, p, new, c, sum),
@@ -183,7 +191,7 @@ impl CellLedgers {
     {
         let mut sum = Bill::zero();
         for n in cells {
-            sum = self.add_change(inst, w, self.cells[*n as usize], &sum);
+            self.add_change(inst, w, self.cells[*n as usize], &mut sum);
         }
         sum
     }

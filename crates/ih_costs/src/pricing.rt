@@ -1,13 +1,15 @@
 //! What a move changes in the bill: each of its writes is priced where it would be made.
 
-ghost use Rattle.std.specs.Prelude.{◌≡◌, ◌^◌, [], ◌∷◌};
+ghost use Rattle.std.specs.Prelude.{◌≡◌, ◌^◌, ◌||◌, ℕ, [], ◌∷◌};
 ghost use Rattle.ih_tables.specs.Bills.{IsWithin};
 ghost use Rattle.ih_tables.specs.Sizes.{sizes_of};
 ghost use Rattle.ih_plan.specs.Timetable.{IsPlanOf};
 ghost use Rattle.ih_plan.specs.Writes.{put, put_all, IsWriteOf, AreWritesOf};
 ghost use Rattle.ih_plan.specs.Expand.{after, IsMoveOf};
 ghost use Rattle.ih_plan.specs.BillOf.{change_of_bill};
-ghost use Rattle.ih_plan.specs.Footprint.{footprint};
+ghost use Rattle.ih_plan.specs.Footprint.{footprint, write_touches};
+ghost use Rattle.ih_plan.specs.Sums.{is_listed};
+ghost use Rattle.ih_footprint.specs.Gathered.{Gathers};
 ghost use Rattle.ih_costs.specs.CellLedgers.{AreLedgers, AreLedgersOf, timetable_of};
 ghost use Rattle.ih_costs.specs.Touched.{listed_or_touched};
 ghost use Rattle.ih_costs.specs.Undo.{undo_of};
@@ -55,16 +57,37 @@ fn change_by_write(inst: &Instance, ledgers: &CellLedgers, w: &Write, cells: &mu
     ledgers.sum_changes(inst, w, cells.cells())
 }
 
-// What a write changes in the bill. `one` then has the cells that it touches. It isn't made.
-fn change_alone(inst: &Instance, ledgers: &CellLedgers, w: &Write, one: &mut CellList) -> Bill
+// Lists the cells of a list in another too.
+fn add_all(from: &CellList, to: &mut CellList)
+    requires { from.now.sizes ≡ to.old.sizes }
+    ensures cells { (n : ℕ) → is_listed n to.new.cells ≡ (is_listed n to.old.cells || is_listed n from.now.cells) }
+    ensures sizes { to.new.sizes ≡ to.old.sizes }
+{
+    for &n in from.cells() {
+        to.add(n);
+    }
+}
+
+// What a write changes in the bill. The cells that it touches are listed too. `one` then has just these. It isn't made.
+fn change_alone(
+    inst: &Instance,
+    ledgers: &CellLedgers,
+    w: &Write,
+    one: &mut CellList,
+    cells: &mut CellList,
+) -> Bill
     requires stands { AreLedgers inst.now.draft ledgers.now }
     requires write { IsWriteOf inst.now.draft w.now }
-    requires sizes { one.old.sizes ≡ sizes_of inst.now.draft }
-    ensures sizes { one.new.sizes ≡ one.old.sizes }
+    requires one { one.old.sizes ≡ sizes_of inst.now.draft }
+    requires sizes { cells.old.sizes ≡ sizes_of inst.now.draft }
+    ensures one { one.new.sizes ≡ one.old.sizes }
+    ensures cells { Gathers cells.old cells.new (write_touches inst.now.draft (timetable_of ledgers.now) w.now) }
     ensures change { result ≡ change_of_bill inst.now.draft (timetable_of ledgers.now) (put w.now (timetable_of ledgers.now)) }
 {
     one.clear();
-    change_by_write(inst, ledgers, w, one)
+    let change = change_by_write(inst, ledgers, w, one);
+    add_all(one, cells);
+    change
 }
 
 // What writes change in the bill, the first of them and the rest. The cells that they touch are listed too. Each but the
@@ -88,8 +111,7 @@ fn change_in_turn(
     ensures sizes { cells.new.sizes ≡ cells.old.sizes }
     ensures change { result ≡ change_of_bill inst.now.draft (timetable_of ledgers.old) (put_all (w.now ∷ rest.now) (timetable_of ledgers.old)) }
 {
-    let here = change_alone(inst, ledgers, w, one);
-    foot(inst, ledgers.plan(), &ledgers.room_days, w, cells);
+    let here = change_alone(inst, ledgers, w, one, cells);
     match rest.split_first() {
         None => {
             cells.settle();

@@ -92,6 +92,7 @@ fn prices_are_right(inst: &Instance, ledgers: &mut Ledgers<'_>, foot: &mut CellL
     requires rooms { room_count inst.now.draft ≡ 2 }
     requires theatres { theatre_count inst.now.draft ≡ 2 }
     requires nurses { nurse_count inst.now.draft ≡ 2 }
+    ensures { ledgers.new ≡ ledgers.old }
 {
     let join = Move::Place(PatientNo(1), first_day(TheatreNo(1)));
     let night = Move::Nurse(RoomNo(0), Shift(2), NurseNo(1));
@@ -143,7 +144,7 @@ fn bills_follow(inst: &Instance, ledgers: &mut Ledgers<'_>) -> bool
 }
 
 #[test]
-fn moves_are_priced_by_what_they_touch(rt: HostRuntime) -> Result<(), Fail> {
+fn moves_are_priced_by_what_they_touch_and_bills_follow(rt: HostRuntime) -> Result<(), Fail> {
     let alloc = rt.alloc();
     let draft = example(alloc)?;
     assert!(rt; draft.is_valid());
@@ -158,22 +159,6 @@ fn moves_are_priced_by_what_they_touch(rt: HostRuntime) -> Result<(), Fail> {
     share(&ledgers);
     let mut foot = CellList::new(alloc, Numbering::of(&inst))?;
     assert!(rt; prices_are_right(&inst, &mut ledgers, &mut foot));
-    Ok(())
-}
-
-#[test]
-fn bills_follow_the_moves(rt: HostRuntime) -> Result<(), Fail> {
-    let alloc = rt.alloc();
-    let draft = example(alloc)?;
-    assert!(rt; draft.is_valid());
-    let inst = Instance::seal(alloc, draft)?;
-    assert!(rt; inst.days() == 2);
-    assert!(rt; inst.patients() == 2);
-    assert!(rt; inst.rooms() == 2);
-    assert!(rt; inst.theatres() == 2);
-    assert!(rt; inst.nurses() == 2);
-    let plan = start(alloc, &inst)?;
-    let mut ledgers = Ledgers::new(alloc, &inst, &plan)?;
     assert!(rt; bills_follow(&inst, &mut ledgers));
     Ok(())
 }

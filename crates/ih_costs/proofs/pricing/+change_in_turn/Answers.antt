@@ -1,14 +1,10 @@
 use Rattle.std.proofs.Common.{◌≡◌, ◌∷◌, [], ◌^◌, ◌∙◌, sym, ap, subst, arith}
 use Rattle.std.proofs.lemmas.List.{nil_from_length}
-use Rattle.ih_tables.specs.Bills.{add_bills, IsWithin}
-use Rattle.ih_tables.specs.declared.bills.Bill.{Bill}
+use Rattle.ih_tables.specs.Bills.{add_bills}
 use Rattle.ih_plan.specs.Writes.{put, put_all, AreWritesOf}
 use Rattle.ih_plan.specs.BillOf.{change_of_bill}
-use Rattle.ih_plan.specs.Footprint.{write_touches}
 use Rattle.ih_plan.proofs.BillBounds.{change-within, within-more}
 use Rattle.ih_plan.proofs.PlanRanges.{put_all-plan}
-use Rattle.ih_roomdays.proofs.Standing.{tells}
-use Rattle.ih_footprint.specs.Gathered.{Gathers}
 use Rattle.ih_costs.specs.CellLedgers.{AreLedgersOf, timetable_of}
 use Rattle.ih_costs.specs.Touched.{listed_or_touched}
 use Rattle.ih_costs.specs.Undo.{undo_of}
@@ -18,16 +14,11 @@ use Rattle.ih_costs.proofs.TouchLemmas.{touched-one, touched-more}
 use Rattle.ih_costs.proofs.UndoLemmas.{undone, undo-write}
 use Rattle.ih_costs.proofs.pricing.+change_in_turn.Goals as goal
 
-pub foot-requires-clause-members : goal.foot-requires-clause-members
-foot-requires-clause-members t c =
-    let I = c.args.inst.now.draft in
-    rw c.plan.ensures (tells I (timetable_of c.args.ledgers.now) c.args.ledgers.now.room_days c.requires.stands.room_days)
-
 pub put-requires-in-Some-clause-write : goal.put-requires-in-Some-clause-write
 put-requires-in-Some-clause-write t c =
     let I = c.args.inst.now.draft in
     let P = timetable_of c.args.ledgers.now in
-    rw (c.undo_of-undo.ensures, c.plan-in-Some.ensures) (undo-write I P c.args.w.now (plan-fits I P c.args.ledgers.now c.requires.stands) c.requires.write)
+    rw (c.undo_of-undo.ensures, c.plan.ensures) (undo-write I P c.args.w.now (plan-fits I P c.args.ledgers.now c.requires.stands) c.requires.write)
 
 -- the change of the first write, and of the others behind it
 pub add-requires : goal.add-requires
@@ -52,8 +43,7 @@ returns-in-None-clause-cells t c =
     let w = c.args.w.now in
     let u = c.args.cells.now in
     let none : c.args.rest.now ≡ [] = nil_from_length c.args.rest.now c.in-None.ensures.cases in
-    let gathers : Gathers u c.foot.new.out (write_touches I P w) = subst (λ Q. Gathers u c.foot.new.out (write_touches I Q w)) c.plan.ensures c.foot.ensures in
-    c.settle.ensures.cells ∙ (touched-one I P u c.foot.new.out w c.requires.sizes gathers ∙ ap (λ ws. listed_or_touched I P u.cells (w ∷ ws)) (sym none))
+    c.settle.ensures.cells ∙ (touched-one I P u c.change_alone-here.new.cells w c.requires.sizes c.change_alone-here.ensures.cells ∙ ap (λ ws. listed_or_touched I P u.cells (w ∷ ws)) (sym none))
 
 pub returns-in-None-clause-change : goal.returns-in-None-clause-change
 returns-in-None-clause-change t c =
@@ -70,7 +60,7 @@ returns-in-Some-clause-stands t c =
     let w = c.args.w.now in
     let made : timetable_of c.change_in_turn-further.new.ledgers ≡ put w P =
     kept I (timetable_of c.put.new.self) c.change_in_turn-further.new.ledgers c.change_in_turn-further.ensures.stands ∙ kept I (put w P) c.put.new.self c.put.ensures in
-    let undo : c.undo_of-undo.result ≡ undo_of P w = c.undo_of-undo.ensures ∙ ap (λ Q. undo_of Q w) c.plan-in-Some.ensures in
+    let undo : c.undo_of-undo.result ≡ undo_of P w = c.undo_of-undo.ensures ∙ ap (λ Q. undo_of Q w) c.plan.ensures in
     subst (λ Q. AreLedgersOf I Q c.put-in-Some.new.self) (ap (put c.undo_of-undo.result) made ∙ (ap (λ u. put u (put w P)) undo ∙ undone P w)) c.put-in-Some.ensures
 
 pub returns-in-Some-clause-cells : goal.returns-in-Some-clause-cells
@@ -80,10 +70,9 @@ returns-in-Some-clause-cells t c =
     let w = c.args.w.now in
     let u = c.args.cells.now in
     let ws = c.in-Some.next.now ∷ c.in-Some.later.now in
-    let gathers : Gathers u c.foot.new.out (write_touches I P w) = subst (λ Q. Gathers u c.foot.new.out (write_touches I Q w)) c.plan.ensures c.foot.ensures in
     c.change_in_turn-further.ensures.cells
-    ∙ (ap (λ Q. listed_or_touched I Q c.foot.new.out.cells ws) (kept I (put w P) c.put.new.self c.put.ensures)
-    ∙ (touched-more I P u c.foot.new.out w ws c.requires.sizes gathers
+    ∙ (ap (λ Q. listed_or_touched I Q c.change_alone-here.new.cells.cells ws) (kept I (put w P) c.put.new.self c.put.ensures)
+    ∙ (touched-more I P u c.change_alone-here.new.cells w ws c.requires.sizes c.change_alone-here.ensures.cells
     ∙ ap (λ ws. listed_or_touched I P u.cells (w ∷ ws)) (sym c.in-Some.ensures.cases.0)))
 
 pub returns-in-Some-clause-change : goal.returns-in-Some-clause-change

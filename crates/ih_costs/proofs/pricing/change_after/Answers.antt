@@ -1,6 +1,6 @@
-use Rattle.std.proofs.Common.{◌≡◌, ◌∷◌, [], ◌∙◌, sym, ap, subst}
+use Rattle.std.proofs.Common.{◌≡◌, [], ◌∙◌, sym, ap}
 use Rattle.std.proofs.lemmas.List.{nil_from_length}
-use Rattle.ih_plan.specs.Writes.{put_all, AreWritesOf}
+use Rattle.ih_plan.specs.Writes.{put_all}
 use Rattle.ih_plan.specs.BillOf.{change_of_bill}
 use Rattle.ih_costs.specs.CellLedgers.{timetable_of}
 use Rattle.ih_costs.specs.Touched.{listed_or_touched}

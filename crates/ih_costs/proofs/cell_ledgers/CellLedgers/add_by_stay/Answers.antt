@@ -11,8 +11,8 @@ use Rattle.ih_costs.proofs.cell_ledgers.CellLedgers.add_by_stay.Goals as goal
 pub surgeon_change-requires-clause-placement : goal.surgeon_change-requires-clause-placement
 surgeon_change-requires-clause-placement c = all-some (IsPlacement c.args.inst.now.draft) c.args.new c.requires.write.1
 
-pub add-requires-in-RoomDay : goal.add-requires-in-RoomDay
-add-requires-in-RoomDay c =
+pub take_in-requires-in-RoomDay : goal.take_in-requires-in-RoomDay
+take_in-requires-in-RoomDay c =
     let I = c.args.inst.now.draft in
     let P = timetable_of c.args.self.now in
     let stands = c.requires.stands in
@@ -29,10 +29,10 @@ returns-in-RoomDay c =
     let kept : stay_of P c.args.p.0 ≡ c.stay-old.result = sym (c.stay-old.ensures ∙ ap (λ Q. stay_of Q c.args.p.0) c.plan.ensures) in
     let known : c.cell_change.result ≡ part_change I P (SetStay c.args.p c.args.new) c.args.c =
     c.cell_change.ensures.change P stands.room_days kept ∙ ap (part_change I P (SetStay c.args.p c.args.new)) (sym c.in-RoomDay.is) in
-    c.add-in-RoomDay.ensures ∙ ap (add_bills c.args.sum.now) known
+    c.take_in-in-RoomDay.ensures ∙ ap (add_bills c.args.sum.now) known
 
-pub add-requires-in-TheatreDay : goal.add-requires-in-TheatreDay
-add-requires-in-TheatreDay c =
+pub take_in-requires-in-TheatreDay : goal.take_in-requires-in-TheatreDay
+take_in-requires-in-TheatreDay c =
     let I = c.args.inst.now.draft in
     let P = timetable_of c.args.self.now in
     let stands = c.requires.stands in
@@ -51,10 +51,10 @@ returns-in-TheatreDay c =
     let kept : stay_of P c.args.p.0 ≡ c.stay-old.result = sym (c.stay-old.ensures ∙ ap (λ Q. stay_of Q c.args.p.0) c.plan.ensures) in
     let known : c.theatre_change.result ≡ part_change I P (SetStay c.args.p c.args.new) c.args.c =
     c.theatre_change.ensures.change P plan stands.theatres kept ∙ ap (part_change I P (SetStay c.args.p c.args.new)) (sym c.in-TheatreDay.is) in
-    c.add-in-TheatreDay.ensures ∙ ap (add_bills c.args.sum.now) known
+    c.take_in-in-TheatreDay.ensures ∙ ap (add_bills c.args.sum.now) known
 
-pub add-requires-in-SurgeonDay : goal.add-requires-in-SurgeonDay
-add-requires-in-SurgeonDay c =
+pub take_in-requires-in-SurgeonDay : goal.take_in-requires-in-SurgeonDay
+take_in-requires-in-SurgeonDay c =
     let I = c.args.inst.now.draft in
     let P = timetable_of c.args.self.now in
     let stands = c.requires.stands in
@@ -73,10 +73,10 @@ returns-in-SurgeonDay c =
     let kept : stay_of P c.args.p.0 ≡ c.stay-old.result = sym (c.stay-old.ensures ∙ ap (λ Q. stay_of Q c.args.p.0) c.plan.ensures) in
     let known : c.surgeon_change.result ≡ part_change I P (SetStay c.args.p c.args.new) c.args.c =
     c.surgeon_change.ensures.change P plan stands.theatres kept ∙ ap (part_change I P (SetStay c.args.p c.args.new)) (sym c.in-SurgeonDay.is) in
-    c.add-in-SurgeonDay.ensures ∙ ap (add_bills c.args.sum.now) known
+    c.take_in-in-SurgeonDay.ensures ∙ ap (add_bills c.args.sum.now) known
 
-pub add-requires-in-RoomShift : goal.add-requires-in-RoomShift
-add-requires-in-RoomShift c =
+pub take_in-requires-in-RoomShift : goal.take_in-requires-in-RoomShift
+take_in-requires-in-RoomShift c =
     let I = c.args.inst.now.draft in
     let P = timetable_of c.args.self.now in
     let stands = c.requires.stands in
@@ -91,10 +91,10 @@ returns-in-RoomShift c =
     let stands = c.requires.stands in
     let known : c.room_shift_change.result ≡ part_change I P (SetStay c.args.p c.args.new) c.args.c =
     c.room_shift_change.ensures.change P stands.nurses ∙ ap (part_change I P (SetStay c.args.p c.args.new)) (sym c.in-RoomShift.is) in
-    c.add-in-RoomShift.ensures ∙ ap (add_bills c.args.sum.now) known
+    c.take_in-in-RoomShift.ensures ∙ ap (add_bills c.args.sum.now) known
 
-pub add-requires-in-NurseShift : goal.add-requires-in-NurseShift
-add-requires-in-NurseShift c =
+pub take_in-requires-in-NurseShift : goal.take_in-requires-in-NurseShift
+take_in-requires-in-NurseShift c =
     let I = c.args.inst.now.draft in
     let P = timetable_of c.args.self.now in
     let stands = c.requires.stands in
@@ -109,4 +109,4 @@ returns-in-NurseShift c =
     let stands = c.requires.stands in
     let known : c.nurse_shift_change.result ≡ part_change I P (SetStay c.args.p c.args.new) c.args.c =
     c.nurse_shift_change.ensures.change P stands.nurses ∙ ap (part_change I P (SetStay c.args.p c.args.new)) (sym c.in-NurseShift.is) in
-    c.add-in-NurseShift.ensures ∙ ap (add_bills c.args.sum.now) known
+    c.take_in-in-NurseShift.ensures ∙ ap (add_bills c.args.sum.now) known

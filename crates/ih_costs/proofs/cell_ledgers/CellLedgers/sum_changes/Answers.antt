@@ -22,8 +22,8 @@ index-requires c =
     (cell-there I c.args.self.now.cells.items (slice_index c.args.cells.now k) c.requires.stands.cells
     (passing-below (cell_count I) c.requires.cells.0 c.args.cells.now c.requires.cells.1 k c.loop-n-test.true))
 
-pub add_change-sum-requires-clause-cell : goal.add_change-sum-requires-clause-cell
-add_change-sum-requires-clause-cell c =
+pub add_change-requires-clause-cell : goal.add_change-requires-clause-cell
+add_change-requires-clause-cell c =
     let I = c.args.inst.now.draft in
     let k = c.loop-n.n-index in
     let n = slice_index c.args.cells.now k in
@@ -31,8 +31,8 @@ add_change-sum-requires-clause-cell c =
     let known = cell-known I c.args.self.now.cells.items n c.index.result.now c.requires.stands.cells below c.index.ensures in
     rw known (cell_in-in (sizes_of I) n below)
 
-pub add_change-sum-requires-clause-fits : goal.add_change-sum-requires-clause-fits
-add_change-sum-requires-clause-fits c =
+pub add_change-requires-clause-fits : goal.add_change-requires-clause-fits
+add_change-requires-clause-fits c =
     let I = c.args.inst.now.draft in
     let P = timetable_of c.args.self.now in
     let k = c.loop-n.n-index in
@@ -53,7 +53,7 @@ loop-n-preserved c =
     let below : n < cell_count I = passing-below (cell_count I) c.requires.cells.0 c.args.cells.now c.requires.cells.1 k c.loop-n-test.true in
     let known = cell-known I c.args.self.now.cells.items n c.index.result.now c.requires.stands.cells below c.index.ensures in
     let cell = c.index.result.now in
-    c.add_change-sum.ensures
+    c.add_change.ensures
     ∙ change-step I P c.args.w.now c.args.cells.now k (sizes_of I) cell c.loop-n.sum (part_change I P c.args.w.now cell) c.loop-n-test.true refl known c.loop-n.invariant refl
 
 pub returns : goal.returns

@@ -1,4 +1,4 @@
-use Rattle.std.proofs.Common.{◌≡◌, ◌<◌, ◌∙◌, sym, subst, ap, length, not}
+use Rattle.std.proofs.Common.{◌<◌, ◌∙◌, sym, subst, ap, not}
 use Rattle.std.specs.Prelude.{nat_lt}
 use Rattle.ih_tables.specs.Sizes.{room_count}
 use Rattle.ih_plan.specs.Costs.{is_empty}
