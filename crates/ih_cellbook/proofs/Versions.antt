@@ -11,12 +11,13 @@ use Rattle.ih_plan.specs.Timetable.{Timetable}
 use Rattle.ih_plan.specs.Sums.{bit}
 use Rattle.ih_plan.specs.Cells.{cell_at, cell_count}
 use Rattle.ih_plan.specs.Footprint.{touches, footprint}
+use Rattle.ih_plan.proofs.Lists.{which_below-filter}
 use Rattle.ih_journal.specs.declared.entries.Entry.{Entry}
 use Rattle.ih_journal.specs.Base.{Base}
 use Rattle.ih_journal.specs.History.{after_entry, changes, changed_since, changes_since, version, plan_at, plan_after}
 use Rattle.ih_journal.specs.Legal.{first_changed}
 use Rattle.ih_journal.proofs.HistoryLemmas.{changes_since-append, changes_since-none, changes_since-some}
-use Rattle.ih_cellbook.proofs.Finds.{which_below-filter, find-filter, find-same}
+use Rattle.ih_cellbook.proofs.Finds.{find-filter, find-same}
 
 -- the version now isn't that after the first `seen` entries
 abbrev pub rose : Base → List Entry → ℕ → Cell → Bool

@@ -1,16 +1,10 @@
-//! The book: the entries of all workers, and what is needed to judge the next one.
+//! The book: what workers share.
 
-ghost use Rattle.std.specs.Prelude.{◌≡◌, ℕ, ◌^◌, ◌<◌, ◌≤◌, if◌then◌else◌, length, slice_index, Some};
-ghost use Rattle.ih_tables.specs.Bills.{IsWithin, add_bills, feasible, cost};
-ghost use Rattle.ih_journal.specs.Attempts.{attempt_after};
-ghost use Rattle.ih_journal.specs.Best.{best_with};
-ghost use Rattle.ih_journal.specs.History.{is_accepted};
+ghost use Rattle.std.specs.Prelude.{◌≡◌, ℕ, ◌<◌, ◌≤◌, length};
 
 use crate::buffers::Buffer;
-use crate::counters::{judge, raise_where};
 use crate::offers::Offer;
-use crate::reserved::append;
-use ih_footprint::Numbering;
+use crate::records::Records;
 use ih_journal::{Entry, Options, Verdict};
 use ih_plan::Plan;
 use ih_tables::{Bill, Instance};
@@ -21,84 +15,16 @@ use std::marker::Model;
 /// start, and takes no memory after it is opened.
 #[derive(Drop)]
 pub struct Book<'a> {
-    inst: &'a Instance,
-    start: &'a Plan,
-    options: Options,
-    freeze: u32,
-    // Room is reserved for all entries of the search.
-    entries: Vec<Entry>,
-    // Each cell's version, by number.
-    counters: Vec<u32>,
-    // How often each worker's next move was tried before.
-    tries: Vec<u32>,
-    // The bill of the timetable after all entries.
-    bill: Bill,
-    // The place and the cost of the first cheapest feasible timetable.
-    best: Option<(u32, i64)>,
+    // In a place of their own: who hands the book over, as a turn does, moves their address alone.
+    records: Box<Records<'a>>,
 }
 
 impl<'a> Model for Book<'a> {
-    ghost use Rattle.std.specs.Prelude.{◌≤◌, vec_capacity};
-    ghost use Rattle.ih_journal.specs.Settings.{most_entries};
     ghost use Rattle.ih_cellbook.specs.Recorded.{Recorded};
-    ghost use Rattle.ih_cellbook.specs.Keeping.{IsKept, base_with};
 
     ghost Value = { Recorded };
 
-    ghost view = { λ k. record { base = base_with k.inst.now.draft k.start.now k.options k.freeze; entries = k.entries.items } };
-
-    ghost invariant = { λ k. IsKept (base_with k.inst.now.draft k.start.now k.options k.freeze) k.entries.items k.counters.items k.tries.items k.bill k.best
-        × (most_entries k.options ≤ vec_capacity k.entries) };
-}
-
-// How often a worker's next move was tried before.
-fn tried(tries: &[u32], worker: u32) -> u32
-    requires { worker < length tries.now }
-    ensures { result ≡ slice_index tries.now worker }
-{
-    tries[worker as usize]
-}
-
-// How often the worker's next move was tried before, once this entry stands.
-fn tries_after(options: &Options, entry: &Entry) -> u32
-    requires { entry.now.again ≤ 7 }
-    ensures { result ≡ (attempt_after options.now (Some entry.now)).again }
-{
-    match entry.verdict {
-        Verdict::Stale { .. } if entry.again < options.retries => entry.again + 1,
-        _ => 0,
-    }
-}
-
-// The bill after an entry.
-fn bill_after(verdict: &Verdict, bill: &Bill, price: &Bill) -> Bill
-    requires { IsWithin (10 ^ 12) (add_bills bill.now price.now) }
-    ensures { result ≡ (if is_accepted verdict.now then add_bills bill.now price.now else bill.now) }
-{
-    match *verdict {
-        Verdict::Accepted => bill.add(price),
-        _ => *bill,
-    }
-}
-
-// The best so far, and one timetable more.
-fn with_place(
-    best: Option<(u32, i64)>,
-    place: u32,
-    now: &Bill,
-    inst: &Instance,
-) -> Option<(u32, i64)>
-    requires { IsWithin (10 ^ 11) now.now }
-    ensures { result ≡ best_with best place (feasible now.now) (cost inst.now.draft.weights now.now) }
-{
-    if !now.feasible() {
-        return best;
-    }
-    let cost = now.cost(inst.weights());
-    match best {
-        Some((_, least)) if cost >= least => best,
-        _ => Some((place, cost)),
-    }
+    ghost view = { λ k. k.records.value };
 }
 
 impl<'a> Book<'a> {
@@ -133,22 +59,9 @@ impl<'a> Book<'a> {
         requires lawful { IsLawful options.now }
         ensures { IfOk result (λ k. k ≡ record { base = base_with inst.now.draft start.now options.now freeze; entries = [] }) }
     {
-        let most = options.workers as usize
-            * options.moves as usize
-            * (options.retries as usize + 1);
-        let entries = Vec::with_capacity(alloc, most)?;
-        let counters = vec![in alloc; 0; Numbering::of(inst).count() as usize]?;
-        let tries = vec![in alloc; 0; options.workers as usize]?;
+        let records = Records::new(alloc, inst, start, first, options, freeze)?;
         Ok(Book {
-            inst,
-            start,
-            options: *options,
-            freeze,
-            entries,
-            counters,
-            tries,
-            bill: *first,
-            best: with_place(None, 0, first, inst),
+            records: Box::new(alloc, records)?,
         })
     }
 
@@ -169,22 +82,7 @@ impl<'a> Book<'a> {
         ensures event { (s : State) → s.history ≡ self.old.entries → IsLegalState self.old.base s
             → self.new.entries ≡ (step self.old.base s (offers offer.now.worker offer.now.seen offer.now.mv)).history }
     {
-        let verdict = judge(self.inst, &self.options, self.counters.as_slice(), offer);
-        let entry = Entry {
-            worker: offer.worker,
-            number: offer.number,
-            again: tried(self.tries.as_slice(), offer.worker),
-            seen: offer.seen,
-            mv: offer.mv,
-            price: offer.price,
-            verdict,
-        };
-        raise_where(&verdict, &mut self.counters, &offer.reads);
-        self.tries[offer.worker as usize] = tries_after(&self.options, &entry);
-        self.bill = bill_after(&verdict, &self.bill, &offer.price);
-        append(&mut self.entries, entry);
-        self.best = with_place(self.best, self.entries.len() as u32, &self.bill, self.inst);
-        verdict
+        self.records.commit(offer)
     }
 
     /// The verdict that `commit` would give on the offer. It changes nothing.
@@ -192,7 +90,7 @@ impl<'a> Book<'a> {
         requires { IsRightOffer self.now.base self.now.entries offer.now }
         ensures { result ≡ verdict_on self.now.base self.now.entries offer.now.number offer.now.seen offer.now.mv offer.now.price }
     {
-        judge(self.inst, &self.options, self.counters.as_slice(), offer)
+        self.records.judge(offer)
     }
 
     /// Replaces the buffer's entries by those from place `from` on, or by the first 256 of them where there are more. Its
@@ -202,7 +100,7 @@ impl<'a> Book<'a> {
         ensures copied { buffer.new ≡ record { from = from; entries = take most_copied (drop from self.now.entries); front = length self.now.entries } }
         ensures count { result ≡ length buffer.new.entries }
     {
-        buffer.fill(self.entries.as_slice(), from, self.entries.len() as u32)
+        self.records.copy_since(from, buffer)
     }
 
     /// The place and the cost of the first of the cheapest feasible timetables: place k is that after k entries. None
@@ -210,7 +108,7 @@ impl<'a> Book<'a> {
     pub fn best(&self) -> Option<(u32, i64)>
         ensures { BestIs self.now.base self.now.entries result }
     {
-        self.best
+        self.records.best()
     }
 
     /// The entries so far, each legal but for its draw after those before it.
@@ -221,7 +119,7 @@ impl<'a> Book<'a> {
         ensures few { AreFew self.now.base self.now.entries }
         ensures agrees { (k : ℕ) → AgreesBefore self.now.base (plan_at self.now.base self.now.entries k) }
     {
-        self.entries.as_slice()
+        self.records.entries()
     }
 
     /// A cell's version: how many of the entries were accepted and touched it.
@@ -229,6 +127,6 @@ impl<'a> Book<'a> {
         requires { cell < cell_count self.now.base.instance }
         ensures { result ≡ version self.now.base self.now.entries (cell_at self.now.base.instance cell) }
     {
-        self.counters[cell as usize]
+        self.records.versions(cell)
     }
 }

@@ -8,7 +8,7 @@ mod counters;
 mod laws;
 mod offers;
 mod reads;
-mod reserved;
+mod records;
 mod sharing;
 #[cfg(test)]
 mod tests;

@@ -1,6 +1,5 @@
 //! What a price was read from.
 
-use crate::reserved::append;
 use std::alloc::{AllocError, Global};
 use std::marker::Model;
 
@@ -38,7 +37,7 @@ impl Reads {
         requires { length self.old.pairs < self.old.room }
         ensures { self.new ≡ record self.old { pairs = self.old.pairs ++ (cell, version) ∷ [] } }
     {
-        append(&mut self.pairs, (cell, version));
+        self.pairs.push_reserved((cell, version));
     }
 
     /// Takes all cells out, and keeps the room.

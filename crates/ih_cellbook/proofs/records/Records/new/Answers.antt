@@ -5,7 +5,7 @@ use Rattle.ih_plan.proofs.BillBounds.{bill-within}
 use Rattle.ih_plan.specs.Cells.{count_in}
 use Rattle.ih_cellbook.specs.Keeping.{base_with}
 use Rattle.ih_cellbook.proofs.Kept.{kept-none}
-use Rattle.ih_cellbook.proofs.books.Book.new.Goals as goal
+use Rattle.ih_cellbook.proofs.records.Records.new.Goals as goal
 
 pub with_place-requires : goal.with_place-requires
 with_place-requires c = subst (IsWithin (10 ^ 11)) (sym c.requires.first) (bill-within c.args.inst.now.draft c.args.start.now c.args.inst.now.valid c.requires.start)

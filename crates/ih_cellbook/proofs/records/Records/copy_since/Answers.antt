@@ -1,6 +1,6 @@
 use Rattle.std.proofs.Common.{arith, ap, length}
 use Rattle.ih_cellbook.proofs.Kept.{history-short}
-use Rattle.ih_cellbook.proofs.books.Book.copy_since.Goals as goal
+use Rattle.ih_cellbook.proofs.records.Records.copy_since.Goals as goal
 
 pub overflow_cast-len : goal.overflow_cast-len
 overflow_cast-len c =

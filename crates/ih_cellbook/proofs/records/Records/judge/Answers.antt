@@ -6,7 +6,7 @@ use Rattle.ih_cellbook.specs.Recorded.{Recorded}
 use Rattle.ih_cellbook.specs.Keeping.{base_with}
 use Rattle.ih_cellbook.specs.Offers.{IsRightOffer}
 use Rattle.ih_cellbook.proofs.Kept.{number-below, price-in, reads-in, verdict-is}
-use Rattle.ih_cellbook.proofs.books.Book.judge.Goals as goal
+use Rattle.ih_cellbook.proofs.records.Records.judge.Goals as goal
 
 pub judge-requires-clause-number : goal.judge-requires-clause-number
 judge-requires-clause-number c =

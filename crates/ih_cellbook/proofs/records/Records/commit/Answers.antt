@@ -1,0 +1,175 @@
+use Rattle.std.proofs.Common.{◌≡◌, ◌≤◌, ◌+◌, ◌∙◌, ◌++◌, ◌∷◌, [], arith, ap, sym, subst, length, Some}
+use Rattle.std.specs.Prelude.{slice_index, slice_set, vec_len, vec_capacity}
+use Rattle.ih_tables.specs.Bills.{feasible, cost}
+use Rattle.ih_journal.specs.Attempts.{attempt_after}
+use Rattle.ih_journal.specs.Best.{best_with}
+use Rattle.ih_journal.specs.Legal.{IsLegalButDraw, verdict_on}
+use Rattle.ih_cellbook.specs.Counters.{verdict_by_counters}
+use Rattle.ih_cellbook.specs.Recorded.{Recorded}
+use Rattle.ih_cellbook.specs.Keeping.{base_with}
+use Rattle.ih_cellbook.specs.Offers.{IsRightOffer, entry_of}
+use Rattle.ih_plan.specs.BillOf.{change_of_bill}
+use Rattle.ih_journal.specs.History.{plan_after}
+use Rattle.ih_cellbook.specs.Core.{State, IsLegalState, step, offers}
+use Rattle.ih_cellbook.proofs.Machine.{event-same, exact-last}
+use Rattle.ih_cellbook.proofs.Kept.{number-below, price-in, reads-in, counters-rise, tries-small, sum-small, has-room, history-short, bill_next, bill-next-in, kept-more, legal-next, verdict-is, entry-is, entry_with}
+use Rattle.ih_cellbook.proofs.records.Records.commit.Goals as goal
+
+pub judge-verdict-requires-clause-number : goal.judge-verdict-requires-clause-number
+judge-verdict-requires-clause-number c =
+    let right = subst (λ (v : Recorded). IsRightOffer v.base v.entries c.args.offer.now) (sym c.self.view_is) c.requires in
+    number-below _ _ _ _ _ _ c.self.inside.inst.now.valid c.self.invariant.0 c.args.offer.now right
+
+pub judge-verdict-requires-clause-price : goal.judge-verdict-requires-clause-price
+judge-verdict-requires-clause-price c =
+    let right = subst (λ (v : Recorded). IsRightOffer v.base v.entries c.args.offer.now) (sym c.self.view_is) c.requires in
+    price-in _ _ _ _ _ _ c.self.inside.inst.now.valid c.self.invariant.0 c.args.offer.now right
+
+pub judge-verdict-requires-clause-reads : goal.judge-verdict-requires-clause-reads
+judge-verdict-requires-clause-reads c =
+    let right = subst (λ (v : Recorded). IsRightOffer v.base v.entries c.args.offer.now) (sym c.self.view_is) c.requires in
+    rw c.as_slice.ensures.value (reads-in _ _ _ _ _ _ c.self.inside.inst.now.valid c.self.invariant.0 c.args.offer.now right)
+
+pub tried-requires : goal.tried-requires
+tried-requires c =
+    let right = subst (λ (v : Recorded). IsRightOffer v.base v.entries c.args.offer.now) (sym c.self.view_is) c.requires in
+    let known = right.worker in
+    let len = c.self.invariant.0.tries.len in
+    let value = ap length c.as_slice-2.ensures.value in
+    omega (arith, known, len, value)
+
+pub raise_where-requires-clause-reads : goal.raise_where-requires-clause-reads
+raise_where-requires-clause-reads c =
+    let right = subst (λ (v : Recorded). IsRightOffer v.base v.entries c.args.offer.now) (sym c.self.view_is) c.requires in
+    reads-in _ _ _ _ _ _ c.self.inside.inst.now.valid c.self.invariant.0 c.args.offer.now right
+
+pub raise_where-requires-clause-small : goal.raise_where-requires-clause-small
+raise_where-requires-clause-small c =
+    let right = subst (λ (v : Recorded). IsRightOffer v.base v.entries c.args.offer.now) (sym c.self.view_is) c.requires in
+    counters-rise _ _ _ _ _ _ c.self.inside.inst.now.valid c.self.invariant.0 c.args.offer.now right
+
+pub tries_after-requires : goal.tries_after-requires
+tries_after-requires c =
+    let right = subst (λ (v : Recorded). IsRightOffer v.base v.entries c.args.offer.now) (sym c.self.view_is) c.requires in
+    let small = tries-small _ _ _ _ _ _ c.self.inside.inst.now.valid c.self.invariant.0 c.args.offer.now.worker right.worker in
+    let value : c.tried.result ≡ slice_index c.self.inside.tries.items c.args.offer.now.worker = c.tried.ensures ∙ ap (λ xs. slice_index xs c.args.offer.now.worker) c.as_slice-2.ensures.value in
+    omega (arith, small, value)
+
+pub bill_after-self-inside-requires : goal.bill_after-self-inside-requires
+bill_after-self-inside-requires c =
+    let right = subst (λ (v : Recorded). IsRightOffer v.base v.entries c.args.offer.now) (sym c.self.view_is) c.requires in
+    sum-small _ _ _ _ _ _ c.self.inside.inst.now.valid c.self.invariant.0 c.args.offer.now right
+
+pub push_reserved-requires : goal.push_reserved-requires
+push_reserved-requires c =
+    let right = subst (λ (v : Recorded). IsRightOffer v.base v.entries c.args.offer.now) (sym c.self.view_is) c.requires in
+    let room = has-room _ _ _ _ _ _ c.self.inside.inst.now.valid c.self.invariant.0 c.args.offer.now right in
+    let most = c.self.invariant.1 in
+    let len = c.self.inside.entries.ok.0 in
+    omega (arith, room, most, len)
+
+pub overflow_cast-len : goal.overflow_cast-len
+overflow_cast-len c =
+    let short = history-short _ _ _ _ _ _ c.self.inside.inst.now.valid c.self.invariant.0 in
+    let old = c.self.inside.entries.ok.0 in
+    let more : vec_len c.push_reserved.new.self ≡ vec_len c.self.inside.entries + 1 = c.push_reserved.ensures.len in
+    let len : c.len.result ≡ vec_len c.push_reserved.new.self = c.len.ensures in
+    omega (arith, short, old, more, len)
+
+pub with_place-self-inside-requires : goal.with_place-self-inside-requires
+with_place-self-inside-requires c =
+    let right = subst (λ (v : Recorded). IsRightOffer v.base v.entries c.args.offer.now) (sym c.self.view_is) c.requires in
+    let judged : c.judge-verdict.result ≡ verdict_by_counters c.self.inside.inst.now.draft c.self.inside.options (slice_index c.self.inside.counters.items) c.args.offer.now =
+    c.judge-verdict.ensures ∙ ap (λ xs. verdict_by_counters c.self.inside.inst.now.draft c.self.inside.options (slice_index xs) c.args.offer.now) c.as_slice.ensures.value in
+    let bill : c.bill_after-self-inside.result ≡ bill_next c.judge-verdict.result c.self.inside.bill c.args.offer.now.price = c.bill_after-self-inside.ensures in
+    rw bill (bill-next-in _ _ _ _ _ _ c.self.inside.inst.now.valid c.self.invariant.0 c.args.offer.now right c.judge-verdict.result judged)
+
+pub invariant_of-self : goal.invariant_of-self
+invariant_of-self c =
+    let right = subst (λ (v : Recorded). IsRightOffer v.base v.entries c.args.offer.now) (sym c.self.view_is) c.requires in
+    let judged : c.judge-verdict.result ≡ verdict_by_counters c.self.inside.inst.now.draft c.self.inside.options (slice_index c.self.inside.counters.items) c.args.offer.now =
+    c.judge-verdict.ensures ∙ ap (λ xs. verdict_by_counters c.self.inside.inst.now.draft c.self.inside.options (slice_index xs) c.args.offer.now) c.as_slice.ensures.value in
+    let tried : c.tried.result ≡ slice_index c.self.inside.tries.items c.args.offer.now.worker = c.tried.ensures ∙ ap (λ xs. slice_index xs c.args.offer.now.worker) c.as_slice-2.ensures.value in
+    let own : entry_with c.args.offer.now c.tried.result c.judge-verdict.result ≡ entry_of (base_with c.self.inside.inst.now.draft c.self.inside.start.now c.self.inside.options c.self.inside.freeze) c.self.inside.entries.items c.args.offer.now c.judge-verdict.result =
+    ap (λ n. entry_with c.args.offer.now n c.judge-verdict.result) tried ∙ entry-is (base_with c.self.inside.inst.now.draft c.self.inside.start.now c.self.inside.options c.self.inside.freeze) c.self.inside.entries.items c.self.inside.counters.items c.self.inside.tries.items c.self.inside.bill c.self.inside.best c.self.inside.inst.now.valid c.self.invariant.0 c.args.offer.now right c.judge-verdict.result judged in
+    let appended : c.push_reserved.new.self.items ≡ c.self.inside.entries.items ++ entry_with c.args.offer.now c.tried.result c.judge-verdict.result ∷ [] = c.push_reserved.ensures.items in
+    let grown = appended ∙ ap (λ e. c.self.inside.entries.items ++ e ∷ []) own in
+    let bill : c.bill_after-self-inside.result ≡ bill_next c.judge-verdict.result c.self.inside.bill c.args.offer.now.price = c.bill_after-self-inside.ensures in
+    let old = c.self.inside.entries.ok.0 in
+    let longer : vec_len c.push_reserved.new.self ≡ vec_len c.self.inside.entries + 1 = c.push_reserved.ensures.len in
+    let len : c.len.result ≡ vec_len c.push_reserved.new.self = c.len.ensures in
+    let place : c.len.result ≡ length c.self.inside.entries.items + 1 = omega (arith, old, longer, len) in
+    let again : c.tries_after.result ≡ (attempt_after c.self.inside.options (Some (entry_with c.args.offer.now c.tried.result c.judge-verdict.result))).again = c.tries_after.ensures in
+    let best : c.with_place-self-inside.result ≡ best_with c.self.inside.best c.len.result (feasible c.bill_after-self-inside.result) (cost c.self.inside.inst.now.draft.weights c.bill_after-self-inside.result) =
+    c.with_place-self-inside.ensures in
+    let room : vec_capacity c.push_reserved.new.self ≡ vec_capacity c.self.inside.entries = c.push_reserved.ensures.capacity in
+    let most = c.self.invariant.1 in (
+      rw grown (kept-more (base_with c.self.inside.inst.now.draft c.self.inside.start.now c.self.inside.options c.self.inside.freeze) c.self.inside.entries.items c.self.inside.counters.items c.self.inside.tries.items c.self.inside.bill c.self.inside.best c.self.inside.inst.now.valid c.self.invariant.0 c.args.offer.now right c.judge-verdict.result judged
+          c.raise_where.new.counters.items _ c.bill_after-self-inside.result c.with_place-self-inside.result
+          (record {
+            len = c.raise_where.ensures.len;
+            counters = c.raise_where.ensures.each;
+            again = ap (slice_set c.self.inside.tries.items c.args.offer.now.worker)
+                (again ∙ ap (λ n. (attempt_after c.self.inside.options (Some (entry_with c.args.offer.now n c.judge-verdict.result))).again) tried);
+            chosen = best ∙ ap (λ k. best_with c.self.inside.best k (feasible c.bill_after-self-inside.result) (cost c.self.inside.inst.now.draft.weights c.bill_after-self-inside.result)) place;
+          })
+          bill),
+      omega (arith, room, most),
+    )
+
+pub returns-clause-entries : goal.returns-clause-entries
+returns-clause-entries c =
+    let right = subst (λ (v : Recorded). IsRightOffer v.base v.entries c.args.offer.now) (sym c.self.view_is) c.requires in
+    let judged : c.judge-verdict.result ≡ verdict_by_counters c.self.inside.inst.now.draft c.self.inside.options (slice_index c.self.inside.counters.items) c.args.offer.now =
+    c.judge-verdict.ensures ∙ ap (λ xs. verdict_by_counters c.self.inside.inst.now.draft c.self.inside.options (slice_index xs) c.args.offer.now) c.as_slice.ensures.value in
+    let tried : c.tried.result ≡ slice_index c.self.inside.tries.items c.args.offer.now.worker = c.tried.ensures ∙ ap (λ xs. slice_index xs c.args.offer.now.worker) c.as_slice-2.ensures.value in
+    let own : entry_with c.args.offer.now c.tried.result c.judge-verdict.result ≡ entry_of (base_with c.self.inside.inst.now.draft c.self.inside.start.now c.self.inside.options c.self.inside.freeze) c.self.inside.entries.items c.args.offer.now c.judge-verdict.result =
+    ap (λ n. entry_with c.args.offer.now n c.judge-verdict.result) tried ∙ entry-is (base_with c.self.inside.inst.now.draft c.self.inside.start.now c.self.inside.options c.self.inside.freeze) c.self.inside.entries.items c.self.inside.counters.items c.self.inside.tries.items c.self.inside.bill c.self.inside.best c.self.inside.inst.now.valid c.self.invariant.0 c.args.offer.now right c.judge-verdict.result judged in
+    let appended : c.push_reserved.new.self.items ≡ c.self.inside.entries.items ++ entry_with c.args.offer.now c.tried.result c.judge-verdict.result ∷ [] = c.push_reserved.ensures.items in
+    let grown = appended ∙ ap (λ e. c.self.inside.entries.items ++ e ∷ []) own in
+    subst (λ (v : Recorded). c.push_reserved.new.self.items ≡ v.entries ++ entry_of v.base v.entries c.args.offer.now c.judge-verdict.result ∷ []) c.self.view_is grown
+
+pub returns-clause-verdict : goal.returns-clause-verdict
+returns-clause-verdict c =
+    let right = subst (λ (v : Recorded). IsRightOffer v.base v.entries c.args.offer.now) (sym c.self.view_is) c.requires in
+    let judged : c.judge-verdict.result ≡ verdict_by_counters c.self.inside.inst.now.draft c.self.inside.options (slice_index c.self.inside.counters.items) c.args.offer.now =
+    c.judge-verdict.ensures ∙ ap (λ xs. verdict_by_counters c.self.inside.inst.now.draft c.self.inside.options (slice_index xs) c.args.offer.now) c.as_slice.ensures.value in
+    subst (λ (v : Recorded). c.judge-verdict.result ≡ verdict_on v.base v.entries c.args.offer.now.number c.args.offer.now.seen c.args.offer.now.mv c.args.offer.now.price) c.self.view_is
+    (verdict-is (base_with c.self.inside.inst.now.draft c.self.inside.start.now c.self.inside.options c.self.inside.freeze) c.self.inside.entries.items c.self.inside.counters.items c.self.inside.tries.items c.self.inside.bill c.self.inside.best c.self.inside.inst.now.valid c.self.invariant.0 c.args.offer.now right c.judge-verdict.result judged)
+
+pub returns-clause-legal : goal.returns-clause-legal
+returns-clause-legal c =
+    let right = subst (λ (v : Recorded). IsRightOffer v.base v.entries c.args.offer.now) (sym c.self.view_is) c.requires in
+    let judged : c.judge-verdict.result ≡ verdict_by_counters c.self.inside.inst.now.draft c.self.inside.options (slice_index c.self.inside.counters.items) c.args.offer.now =
+    c.judge-verdict.ensures ∙ ap (λ xs. verdict_by_counters c.self.inside.inst.now.draft c.self.inside.options (slice_index xs) c.args.offer.now) c.as_slice.ensures.value in
+    subst (λ (v : Recorded). IsLegalButDraw v.base v.entries (entry_of v.base v.entries c.args.offer.now c.judge-verdict.result)) c.self.view_is
+    (legal-next (base_with c.self.inside.inst.now.draft c.self.inside.start.now c.self.inside.options c.self.inside.freeze) c.self.inside.entries.items c.self.inside.counters.items c.self.inside.tries.items c.self.inside.bill c.self.inside.best c.self.inside.inst.now.valid c.self.invariant.0 c.args.offer.now right c.judge-verdict.result judged)
+
+pub returns-clause-exact : goal.returns-clause-exact
+returns-clause-exact c accepted =
+    let right = subst (λ (v : Recorded). IsRightOffer v.base v.entries c.args.offer.now) (sym c.self.view_is) c.requires in
+    let judged : c.judge-verdict.result ≡ verdict_by_counters c.self.inside.inst.now.draft c.self.inside.options (slice_index c.self.inside.counters.items) c.args.offer.now =
+    c.judge-verdict.ensures ∙ ap (λ xs. verdict_by_counters c.self.inside.inst.now.draft c.self.inside.options (slice_index xs) c.args.offer.now) c.as_slice.ensures.value in
+    let tried : c.tried.result ≡ slice_index c.self.inside.tries.items c.args.offer.now.worker = c.tried.ensures ∙ ap (λ xs. slice_index xs c.args.offer.now.worker) c.as_slice-2.ensures.value in
+    let own : entry_with c.args.offer.now c.tried.result c.judge-verdict.result ≡ entry_of (base_with c.self.inside.inst.now.draft c.self.inside.start.now c.self.inside.options c.self.inside.freeze) c.self.inside.entries.items c.args.offer.now c.judge-verdict.result =
+    ap (λ n. entry_with c.args.offer.now n c.judge-verdict.result) tried ∙ entry-is (base_with c.self.inside.inst.now.draft c.self.inside.start.now c.self.inside.options c.self.inside.freeze) c.self.inside.entries.items c.self.inside.counters.items c.self.inside.tries.items c.self.inside.bill c.self.inside.best c.self.inside.inst.now.valid c.self.invariant.0 c.args.offer.now right c.judge-verdict.result judged in
+    let appended : c.push_reserved.new.self.items ≡ c.self.inside.entries.items ++ entry_with c.args.offer.now c.tried.result c.judge-verdict.result ∷ [] = c.push_reserved.ensures.items in
+    let grown = appended ∙ ap (λ e. c.self.inside.entries.items ++ e ∷ []) own in
+    subst (λ (v : Recorded). c.args.offer.now.price ≡ change_of_bill v.base.instance (plan_after v.base v.entries) (plan_after v.base c.push_reserved.new.self.items)) c.self.view_is
+    (rw grown (exact-last (base_with c.self.inside.inst.now.draft c.self.inside.start.now c.self.inside.options c.self.inside.freeze) c.self.inside.entries.items (entry_of (base_with c.self.inside.inst.now.draft c.self.inside.start.now c.self.inside.options c.self.inside.freeze) c.self.inside.entries.items c.args.offer.now c.judge-verdict.result)
+    c.self.invariant.0.base.start c.self.invariant.0.legal (legal-next (base_with c.self.inside.inst.now.draft c.self.inside.start.now c.self.inside.options c.self.inside.freeze) c.self.inside.entries.items c.self.inside.counters.items c.self.inside.tries.items c.self.inside.bill c.self.inside.best c.self.inside.inst.now.valid c.self.invariant.0 c.args.offer.now right c.judge-verdict.result judged) accepted))
+
+pub returns-clause-event : goal.returns-clause-event
+returns-clause-event c s same legal =
+    let right = subst (λ (v : Recorded). IsRightOffer v.base v.entries c.args.offer.now) (sym c.self.view_is) c.requires in
+    let judged : c.judge-verdict.result ≡ verdict_by_counters c.self.inside.inst.now.draft c.self.inside.options (slice_index c.self.inside.counters.items) c.args.offer.now =
+    c.judge-verdict.ensures ∙ ap (λ xs. verdict_by_counters c.self.inside.inst.now.draft c.self.inside.options (slice_index xs) c.args.offer.now) c.as_slice.ensures.value in
+    let tried : c.tried.result ≡ slice_index c.self.inside.tries.items c.args.offer.now.worker = c.tried.ensures ∙ ap (λ xs. slice_index xs c.args.offer.now.worker) c.as_slice-2.ensures.value in
+    let own : entry_with c.args.offer.now c.tried.result c.judge-verdict.result ≡ entry_of (base_with c.self.inside.inst.now.draft c.self.inside.start.now c.self.inside.options c.self.inside.freeze) c.self.inside.entries.items c.args.offer.now c.judge-verdict.result =
+    ap (λ n. entry_with c.args.offer.now n c.judge-verdict.result) tried ∙ entry-is (base_with c.self.inside.inst.now.draft c.self.inside.start.now c.self.inside.options c.self.inside.freeze) c.self.inside.entries.items c.self.inside.counters.items c.self.inside.tries.items c.self.inside.bill c.self.inside.best c.self.inside.inst.now.valid c.self.invariant.0 c.args.offer.now right c.judge-verdict.result judged in
+    let appended : c.push_reserved.new.self.items ≡ c.self.inside.entries.items ++ entry_with c.args.offer.now c.tried.result c.judge-verdict.result ∷ [] = c.push_reserved.ensures.items in
+    let grown = appended ∙ ap (λ e. c.self.inside.entries.items ++ e ∷ []) own in
+    let event : (s : State) → s.history ≡ c.self.inside.entries.items → IsLegalState (base_with c.self.inside.inst.now.draft c.self.inside.start.now c.self.inside.options c.self.inside.freeze) s → c.push_reserved.new.self.items ≡ (step (base_with c.self.inside.inst.now.draft c.self.inside.start.now c.self.inside.options c.self.inside.freeze) s (offers c.args.offer.now.worker c.args.offer.now.seen c.args.offer.now.mv)).history =
+    λ s same legal. grown ∙ sym (event-same (base_with c.self.inside.inst.now.draft c.self.inside.start.now c.self.inside.options c.self.inside.freeze) c.self.inside.entries.items c.args.offer.now right s c.judge-verdict.result same legal.versions (verdict-is (base_with c.self.inside.inst.now.draft c.self.inside.start.now c.self.inside.options c.self.inside.freeze) c.self.inside.entries.items c.self.inside.counters.items c.self.inside.tries.items c.self.inside.bill c.self.inside.best c.self.inside.inst.now.valid c.self.invariant.0 c.args.offer.now right c.judge-verdict.result judged)) in
+    subst (λ (v : Recorded). (s : State) → s.history ≡ v.entries → IsLegalState v.base s → c.push_reserved.new.self.items ≡ (step v.base s (offers c.args.offer.now.worker c.args.offer.now.seen c.args.offer.now.mv)).history)
+    c.self.view_is event s same legal

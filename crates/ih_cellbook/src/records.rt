@@ -1,0 +1,228 @@
+//! What a book keeps: the entries of all workers, and what is needed to judge the next one.
+
+ghost use Rattle.std.specs.Prelude.{◌≡◌, ℕ, ◌^◌, ◌<◌, ◌≤◌, if◌then◌else◌, length, slice_index, Some};
+ghost use Rattle.ih_tables.specs.Bills.{IsWithin, add_bills, feasible, cost};
+ghost use Rattle.ih_journal.specs.Attempts.{attempt_after};
+ghost use Rattle.ih_journal.specs.Best.{best_with};
+ghost use Rattle.ih_journal.specs.History.{is_accepted};
+
+use crate::buffers::Buffer;
+use crate::counters::{judge, raise_where};
+use crate::offers::Offer;
+use ih_footprint::Numbering;
+use ih_journal::{Entry, Options, Verdict};
+use ih_plan::Plan;
+use ih_tables::{Bill, Instance};
+use std::alloc::{AllocError, Global};
+use std::marker::Model;
+
+/// A history of entries that is legal but for its draws, over a start. It keeps no timetable but the reference to the
+/// start, and takes no memory after it is opened.
+#[derive(Drop)]
+pub(crate) struct Records<'a> {
+    inst: &'a Instance,
+    start: &'a Plan,
+    options: Options,
+    freeze: u32,
+    // Room is reserved for all entries of the search.
+    entries: Vec<Entry>,
+    // Each cell's version, by number.
+    counters: Vec<u32>,
+    // How often each worker's next move was tried before.
+    tries: Vec<u32>,
+    // The bill of the timetable after all entries.
+    bill: Bill,
+    // The place and the cost of the first cheapest feasible timetable.
+    best: Option<(u32, i64)>,
+}
+
+impl<'a> Model for Records<'a> {
+    ghost use Rattle.std.specs.Prelude.{◌≤◌, vec_capacity};
+    ghost use Rattle.ih_journal.specs.Settings.{most_entries};
+    ghost use Rattle.ih_cellbook.specs.Recorded.{Recorded};
+    ghost use Rattle.ih_cellbook.specs.Keeping.{IsKept, base_with};
+
+    ghost Value = { Recorded };
+
+    ghost view = { λ k. record { base = base_with k.inst.now.draft k.start.now k.options k.freeze; entries = k.entries.items } };
+
+    ghost invariant = { λ k. IsKept (base_with k.inst.now.draft k.start.now k.options k.freeze) k.entries.items k.counters.items k.tries.items k.bill k.best
+        × (most_entries k.options ≤ vec_capacity k.entries) };
+}
+
+// How often a worker's next move was tried before.
+fn tried(tries: &[u32], worker: u32) -> u32
+    requires { worker < length tries.now }
+    ensures { result ≡ slice_index tries.now worker }
+{
+    tries[worker as usize]
+}
+
+// How often the worker's next move was tried before, once this entry stands.
+fn tries_after(options: &Options, entry: &Entry) -> u32
+    requires { entry.now.again ≤ 7 }
+    ensures { result ≡ (attempt_after options.now (Some entry.now)).again }
+{
+    match entry.verdict {
+        Verdict::Stale { .. } if entry.again < options.retries => entry.again + 1,
+        _ => 0,
+    }
+}
+
+// The bill after an entry.
+fn bill_after(verdict: &Verdict, bill: &Bill, price: &Bill) -> Bill
+    requires { IsWithin (10 ^ 12) (add_bills bill.now price.now) }
+    ensures { result ≡ (if is_accepted verdict.now then add_bills bill.now price.now else bill.now) }
+{
+    match *verdict {
+        Verdict::Accepted => bill.add(price),
+        _ => *bill,
+    }
+}
+
+// The best so far, and one timetable more.
+fn with_place(
+    best: Option<(u32, i64)>,
+    place: u32,
+    now: &Bill,
+    inst: &Instance,
+) -> Option<(u32, i64)>
+    requires { IsWithin (10 ^ 11) now.now }
+    ensures { result ≡ best_with best place (feasible now.now) (cost inst.now.draft.weights now.now) }
+{
+    if !now.feasible() {
+        return best;
+    }
+    let cost = now.cost(inst.weights());
+    match best {
+        Some((_, least)) if cost >= least => best,
+        _ => Some((place, cost)),
+    }
+}
+
+impl<'a> Records<'a> {
+    ghost use Rattle.std.specs.Prelude.{◌+◌, ◌++◌, ◌∷◌, [], take, drop, IfOk};
+    ghost use Rattle.ih_plan.specs.BillOf.{bill_of, change_of_bill};
+    ghost use Rattle.ih_plan.specs.Timetable.{IsPlanOf};
+    ghost use Rattle.ih_plan.specs.Cells.{cell_at, cell_count};
+    ghost use Rattle.ih_journal.specs.Settings.{IsLawful};
+    ghost use Rattle.ih_journal.specs.Best.{BestIs};
+    ghost use Rattle.ih_journal.specs.declared.entries.Verdict.TheVariants.{Accepted};
+    ghost use Rattle.ih_journal.specs.Frozen.{AgreesBefore};
+    ghost use Rattle.ih_journal.specs.History.{plan_after, plan_at, version};
+    ghost use Rattle.ih_journal.specs.Legal.{IsLegalButDraw, verdict_on};
+    ghost use Rattle.ih_cellbook.specs.Copied.{most_copied};
+    ghost use Rattle.ih_cellbook.specs.Core.{State, IsLegalState, step, offers};
+    ghost use Rattle.ih_cellbook.specs.Keeping.{base_with, IsBase};
+    ghost use Rattle.ih_cellbook.specs.Legal.{AreLegalButDraws};
+    ghost use Rattle.ih_cellbook.specs.Laws.{AreFew};
+    ghost use Rattle.ih_cellbook.specs.Offers.{IsRightOffer, entry_of};
+
+    /// Those of a book without entries over a start, whose bill is `first`. Room for all entries is reserved.
+    pub(crate) fn new(
+        alloc: Global,
+        inst: &'a Instance,
+        start: &'a Plan,
+        first: &Bill,
+        options: &Options,
+        freeze: u32,
+    ) -> Result<Records<'a>, AllocError>
+        requires start { IsPlanOf inst.now.draft start.now }
+        requires first { first.now ≡ bill_of inst.now.draft start.now }
+        requires lawful { IsLawful options.now }
+        ensures { IfOk result (λ k. k ≡ record { base = base_with inst.now.draft start.now options.now freeze; entries = [] }) }
+    {
+        let most = options.workers as usize
+            * options.moves as usize
+            * (options.retries as usize + 1);
+        let entries = Vec::with_capacity(alloc, most)?;
+        let counters = vec![in alloc; 0; Numbering::of(inst).count() as usize]?;
+        let tries = vec![in alloc; 0; options.workers as usize]?;
+        Ok(Records {
+            inst,
+            start,
+            options: *options,
+            freeze,
+            entries,
+            counters,
+            tries,
+            bill: *first,
+            best: with_place(None, 0, first, inst),
+        })
+    }
+
+    /// Adds the entry of a right offer, and answers its verdict: `Book::commit` says more.
+    pub(crate) fn commit(&mut self, offer: &Offer) -> Verdict
+        requires { IsRightOffer self.old.base self.old.entries offer.now }
+        ensures base { self.new.base ≡ self.old.base }
+        ensures entries { self.new.entries ≡ self.old.entries ++ entry_of self.old.base self.old.entries offer.now result ∷ [] }
+        ensures verdict { result ≡ verdict_on self.old.base self.old.entries offer.now.number offer.now.seen offer.now.mv offer.now.price }
+        ensures legal { IsLegalButDraw self.old.base self.old.entries (entry_of self.old.base self.old.entries offer.now result) }
+        // an accepted price, however old, is the change of the bill at this place
+        ensures exact { result ≡ Accepted
+            → offer.now.price ≡ change_of_bill self.old.base.instance (plan_after self.old.base self.old.entries) (plan_after self.old.base self.new.entries) }
+        // in every legal state of the machine with this history, the worker's offer of this move adds the same entry
+        ensures event { (s : State) → s.history ≡ self.old.entries → IsLegalState self.old.base s
+            → self.new.entries ≡ (step self.old.base s (offers offer.now.worker offer.now.seen offer.now.mv)).history }
+    {
+        let verdict = judge(self.inst, &self.options, self.counters.as_slice(), offer);
+        let entry = Entry {
+            worker: offer.worker,
+            number: offer.number,
+            again: tried(self.tries.as_slice(), offer.worker),
+            seen: offer.seen,
+            mv: offer.mv,
+            price: offer.price,
+            verdict,
+        };
+        raise_where(&verdict, &mut self.counters, &offer.reads);
+        self.tries[offer.worker as usize] = tries_after(&self.options, &entry);
+        self.bill = bill_after(&verdict, &self.bill, &offer.price);
+        self.entries.push_reserved(entry);
+        self.best = with_place(self.best, self.entries.len() as u32, &self.bill, self.inst);
+        verdict
+    }
+
+    /// The verdict that `commit` would give.
+    pub(crate) fn judge(&self, offer: &Offer) -> Verdict
+        requires { IsRightOffer self.now.base self.now.entries offer.now }
+        ensures { result ≡ verdict_on self.now.base self.now.entries offer.now.number offer.now.seen offer.now.mv offer.now.price }
+    {
+        judge(self.inst, &self.options, self.counters.as_slice(), offer)
+    }
+
+    /// Copies entries from a place on: `Book::copy_since` says more.
+    pub(crate) fn copy_since(&self, from: u32, buffer: &mut Buffer) -> u32
+        requires { from ≤ length self.now.entries }
+        ensures copied { buffer.new ≡ record { from = from; entries = take most_copied (drop from self.now.entries); front = length self.now.entries } }
+        ensures count { result ≡ length buffer.new.entries }
+    {
+        buffer.fill(self.entries.as_slice(), from, self.entries.len() as u32)
+    }
+
+    /// The place and the cost of the first cheapest feasible timetable.
+    pub(crate) fn best(&self) -> Option<(u32, i64)>
+        ensures { BestIs self.now.base self.now.entries result }
+    {
+        self.best
+    }
+
+    /// The entries so far.
+    pub(crate) fn entries(&self) -> &[Entry]
+        ensures entries { result.now ≡ self.now.entries }
+        ensures base { IsBase self.now.base }
+        ensures legal { AreLegalButDraws self.now.base self.now.entries }
+        ensures few { AreFew self.now.base self.now.entries }
+        ensures agrees { (k : ℕ) → AgreesBefore self.now.base (plan_at self.now.base self.now.entries k) }
+    {
+        self.entries.as_slice()
+    }
+
+    /// A cell's version.
+    pub(crate) fn versions(&self, cell: u32) -> u32
+        requires { cell < cell_count self.now.base.instance }
+        ensures { result ≡ version self.now.base self.now.entries (cell_at self.now.base.instance cell) }
+    {
+        self.counters[cell as usize]
+    }
+}
