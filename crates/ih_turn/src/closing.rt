@@ -66,7 +66,7 @@ impl<B: Kept> Turn<B> {
         requires all { Covers self.table.shared.key.seats token.me.0 }
         ensures { Closes B.entries B.base B.maker self.table.shared.key.opening.value self.table.shared.key.seats token.me.0 result }
     {
-        let RuledTurn { table } = self;
+        let RuledTurn { table, asleep: _ } = self;
         let mut closed = table.close_with(token);
         let slot = closed.take(0);
         closed.free();

@@ -11,12 +11,26 @@ use crate::view::View;
 use atomic_table::{Seat as Token, TableRule};
 use std::hint::spin_loop;
 use std::sync::Wait;
+use std::sync::atomic::Ordering;
 use std::thread::yield_now;
+use std::time::Duration;
 
-// How often a waiting seat spins, and then yields, before it sleeps.
+// How often a waiting seat looks in vain and spins, and then yields, before it sleeps.
 const SPINS: u32 = 100;
 
 const YIELDS: u32 = 100;
+
+// How many turns of others a seat without a ticket lets pass before it sleeps.
+const PASSES: u64 = 4;
+
+// How often such a seat sleeps before it draws a ticket all the same.
+const NAPS: u32 = 8;
+
+// The microseconds of a sleep, for each seat that sleeps or stands before this one.
+const NAP: u64 = 100;
+
+// How many seats a sleep is lengthened for at most.
+const MOST_SEATS: u64 = 64;
 
 /// The value, in the hands of a seat.
 pub type Held<'a, B> = Guard<Holder<'a, B, TurnRule<B>>, B>;
@@ -64,6 +78,7 @@ impl<B: Kept> Turn<B> {
             made,
             left,
         } = seat;
+        self.keep_away(rt);
         let ticket = self
             .table
             .shared
@@ -105,33 +120,67 @@ impl<B: Kept> Turn<B> {
                 };
                 return value;
             }
-            self.pause(rt, looks, serving);
+            self.pause(rt, looks, ticket.wrapping_sub(serving), serving);
             looks = u32::saturating_add(looks, 1);
         }
         unreachable!()
     }
 
-    // Waits a little, after so many looks at `serving` in vain. A value is held for a short time, so a thread with a core of its own
-    // sees the turn pass while it spins. Where threads share cores the one that has the turn needs a core, so the seat yields its own.
-    // After that it sleeps until the turn is passed on, and burns no core.
-    fn pause<R: Wait>(&self, rt: &R, looks: u32, serving: u64) {
-        if looks < SPINS {
+    // Waits a little, after so many looks at `serving` in vain, where this seat is so many turns behind. A value is
+    // held for a short time, so the next seat sees the turn pass while it spins. Any other gives its core to those
+    // before it, and so does the next where the one that has the turn seems to have none.
+    fn pause<R: Wait>(&self, rt: &R, looks: u32, ahead: u64, serving: u64) {
+        if ahead == 1 && looks < SPINS {
             spin_loop();
         } else if looks < SPINS + YIELDS {
             yield_now();
         } else {
-            self.table
-                .shared
-                .park(rt, 1, (serving % 4_294_967_296) as u32);
+            let nap = Duration::from_micros(NAP * ahead.min(MOST_SEATS));
+            let low = (serving % 4_294_967_296) as u32;
+            self.table.shared.park_timeout(rt, 1, low, nap);
         }
     }
 
-    // Wakes the seats that sleep, after the ticket was served. A seat that takes a ticket later finds the turn passed on before it sleeps.
-    fn wake(&self, served: u64) {
-        let shared = &self.table.shared;
-        if shared.peek(0) != served.wrapping_add(1) {
-            shared.wake_all(1);
+    // Waits without a ticket while another seat has the turn or waits for it with one. A queue of tickets is served
+    // in its order alone, and where threads share cores each turn would wait for its thread to get one: so few seats
+    // are to have tickets, and the others sleep.
+    fn keep_away<R: Wait>(&self, rt: &R) {
+        for _ in 0..NAPS {
+            if self.comes_free() {
+                return;
+            }
+            self.nap(rt);
         }
+    }
+
+    // Whether a look finds no seat with a ticket, before others had too many turns or all looks were in vain.
+    fn comes_free(&self) -> bool {
+        let shared = &self.table.shared;
+        let first = shared.peek(1);
+        for looks in 0..SPINS + YIELDS {
+            let serving = shared.peek(1);
+            if shared.peek(0) == serving {
+                return true;
+            }
+            if serving.wrapping_sub(first) >= PASSES {
+                return false;
+            }
+            if looks < SPINS {
+                spin_loop();
+            } else {
+                yield_now();
+            }
+        }
+        false
+    }
+
+    // Sleeps, the longer the more seats do, so that not many wake in any time. Nobody wakes it.
+    fn nap<R: Wait>(&self, rt: &R) {
+        let asleep = self.asleep.fetch_add(1, Ordering::SeqCst).wrapping_add(1);
+        let nap = Duration::from_micros(NAP * asleep.min(MOST_SEATS));
+        let low = (asleep % 4_294_967_296) as u32;
+        self.asleep.park_timeout(rt, low, nap);
+        self.asleep.fetch_sub(1, Ordering::SeqCst);
     }
 }
 
@@ -171,8 +220,7 @@ impl<'a, B: Kept> Held<'a, B> {
         let now = value.len();
         let gone = shared.exchange(&mut token, 0, Some(value));
         let None = gone else { unreachable!() };
-        let served = shared.fetch_add::<PassTurn<B>>(&mut token, 1, 1);
-        turn.wake(served);
+        shared.fetch_add::<PassTurn<B>>(&mut token, 1, 1);
         Seat {
             token,
             number,

@@ -9,6 +9,7 @@ use crate::view::View;
 use atomic_table::{Refused, Seat as Token, Table, TableRule};
 use std::alloc::{AllocFailed, Global};
 use std::snapshot::Snapshot;
+use std::sync::atomic::AtomicU64;
 
 /// A value that seats take in turns.
 pub type Turn<B> = RuledTurn<B, TurnRule<B>>;
@@ -17,6 +18,8 @@ pub type Turn<B> = RuledTurn<B, TurnRule<B>>;
 #[derive(Drop)]
 pub struct RuledTurn<B: Kept, P: TableRule<Option<B>, View<B::Entry, B::Base>, Setup<B>>> {
     pub(crate) table: Table<Option<B>, View<B::Entry, B::Base>, Setup<B>, P, Global>,
+    // How many seats sleep that have no ticket.
+    pub(crate) asleep: AtomicU64,
     ghost shape: { (table.shared.table_id.words ≡ 2) × (table.shared.table_id.slots ≡ 1) },
     ghost some: { 0 < table.shared.key.seats },
 }
@@ -52,7 +55,10 @@ impl<B: Kept> Turn<B> {
         };
         match table_of(alloc, value, &setup) {
             Ok((table, mut token)) => {
-                let turn = RuledTurn { table };
+                let turn = RuledTurn {
+                    table,
+                    asleep: AtomicU64::new(0),
+                };
                 turn.split_all(&mut token, seats, seen, turns, &mut row);
                 let root = Seat {
                     token,
