@@ -1,6 +1,6 @@
 -- What a seat of a desk made: the book was opened without entries, so nothing of its history stood there before.
-use Rattle.std.proofs.Common.{◌≡◌, ℕ, zero, suc, ◌+◌, ◌<◌, ◌∙◌, ap, sym, subst, refl, arith, true, cond, List, [], ◌∷◌, length, drop, Option, Some, None}
-use Rattle.std.specs.Prelude.{◌==◌, count_by, slice_get}
+use Rattle.std.proofs.Common.{◌≡◌, ℕ, zero, suc, ◌<◌, ◌∙◌, ap, sym, subst, refl, arith, true, cond, List, [], ◌∷◌, length, drop, Some, None}
+use Rattle.std.specs.Prelude.{◌==◌, count_by}
 use Rattle.std.proofs.lemmas.Bool.{eq-eqb}
 use Rattle.std.proofs.lemmas.List.Sums.{sum_by-cons}
 use Rattle.ih_turn.specs.declared.rule.TurnRule.{TurnRule}

@@ -4,3 +4,6 @@
 mod desk;
 
 pub use desk::Desk;
+
+#[cfg(test)]
+mod tests;

@@ -2,9 +2,13 @@
 #![tactic(auto)]
 
 mod candidates;
+#[cfg(test)]
+mod example;
 mod filler;
 mod filling;
 mod nurses;
 mod patients;
+#[cfg(test)]
+mod tests;
 
 pub use filling::fill;

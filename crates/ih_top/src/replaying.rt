@@ -14,7 +14,7 @@ use crate::answer::Answer;
 use crate::files::MAX_JOURNAL;
 use crate::inputs::{InputNames, Inputs, read_inputs, unread_file};
 use crate::journals::{heading_of, take_lines};
-use crate::laws::refused_lines_are_not_full;
+use crate::laws::{refused_lines_are_not_full, whole_lines_are_salvaged};
 use crate::output::{BestOutput, best_of, salvaged};
 use crate::search::Given;
 use crate::starts::begin;
@@ -84,6 +84,7 @@ fn salvage_lines(
     let mut replay = Replay::new(alloc, given.inst, given.start, &given.options, given.freeze)?;
     // Why no further line is taken doesn't count.
     let _ = take_lines(&mut replay, bytes);
+    whole_lines_are_salvaged();
     let entries = replay.entries();
     match best_of(alloc, given, entries, replay.best())? {
         Some(best) => Ok(Some(salvaged(alloc, best, entries.len() as u32)?)),

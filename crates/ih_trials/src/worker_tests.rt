@@ -16,6 +16,9 @@ const ONE_EACH: &str =
 const HUNDRED_EACH: &str =
     "solve i o j --seed 18446744073709551615 --workers 2 --moves 100 --heat 1000000 --hard 1000 --start s";
 
+const FIVE_HUNDRED_EACH: &str =
+    "solve i o j --seed 5 --workers 2 --moves 500 --heat 300 --hard 1000 --start s";
+
 const STALE: &str = "ihjournal 1 seed=18446744073709551615 workers=2 moves=1 heat=1000000 hard=1000
 0 1 0 0 nurserun:1,0,0,5 0,0,0,0,0,0,0,0,0,0,-2,0,0,0,0,0,0 accepted
 1 0 0 0 place:0,1,1,1 0,1,0,0,0,0,0,0,3,-1,0,-1,0,0,0,1,0 stale:roomshift.0.0:0:1
@@ -193,4 +196,28 @@ fn any_number_of_workers(rt: HostRuntime) {
     assert!(rt; agree(&rt, alloc, EIGHT_WITH_RETRIES, STARTED));
     assert!(rt; agree(&rt, alloc, MOST_WITH_RETRIES_FROZEN, FROZEN));
     assert!(rt; agree(&rt, alloc, MOST, STARTED));
+}
+
+// Whether the name has a text of so many lines.
+fn has_lines(shelf: &MemShelf, name: &str, count: u32) -> bool {
+    let Some(bytes) = shelf.get(name) else {
+        return false;
+    };
+    let mut lines: u32 = 0;
+    for byte in bytes {
+        if *byte == b'\n' {
+            lines = lines.saturating_add(1);
+        }
+    }
+    lines == count
+}
+
+// Two workers with 500 moves each, which no gate holds, leave 1,000 entries, whose replay comes to the same end.
+#[test]
+fn a_thousand_moves_of_two_workers(rt: HostRuntime) {
+    let alloc = rt.alloc();
+    let mut shelf = MemShelf::new(alloc);
+    let mut out = MemSink::new(alloc);
+    assert!(rt; is_replayed(&rt, alloc, FIVE_HUNDRED_EACH, STARTED, &mut shelf, &mut out));
+    assert!(rt; has_lines(&shelf, "j", 1001));
 }

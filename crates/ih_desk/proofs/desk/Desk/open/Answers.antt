@@ -1,4 +1,4 @@
-use Rattle.std.proofs.Common.{◌≡◌, ◌<◌, ◌∙◌, ap, arith, sym}
+use Rattle.std.proofs.Common.{◌∙◌, ap, arith, sym}
 use Rattle.ih_cellbook.specs.Recorded.{Recorded}
 use Rattle.ih_turn.specs.Seats.{number_of}
 use Rattle.ih_desk.proofs.HistoryLemmas.{index-map, legal-none}

@@ -1,0 +1,333 @@
+//! Journals taken line by line, on a ward of two patients of whom the first is admitted, with one nurse in all shifts.
+
+ghost use Rattle.std.specs.Prelude.{◌≡◌, IfOk};
+ghost use Rattle.ih_tables.specs.Sizes.{patient_count, room_count, theatre_count, nurse_count};
+ghost use Rattle.ih_plan.specs.Timetable.{IsPlanOf};
+
+use crate::Replay;
+use crate::example::example;
+use ih_journal::{JournalRefusal, Options, Reason};
+use ih_plan::{Placement, Plan, Write};
+use ih_tables::{Day, Instance, NurseNo, PatientNo, RoomNo, Shift, TheatreNo};
+use std::alloc::{AllocError, Global};
+use std::process::Abort;
+use std::test::Fail;
+
+/// Threads share replays.
+fn share<T: Send + Sync>(_x: &T) {}
+
+// The example, once it is known to be valid and to have two of each.
+fn ward(rt: &impl Abort, alloc: Global) -> Result<Instance, AllocError>
+    ensures days { IfOk result (λ i. i.draft.days ≡ 2) }
+    ensures patients { IfOk result (λ i. patient_count i.draft ≡ 2) }
+    ensures rooms { IfOk result (λ i. room_count i.draft ≡ 2) }
+    ensures theatres { IfOk result (λ i. theatre_count i.draft ≡ 2) }
+    ensures nurses { IfOk result (λ i. nurse_count i.draft ≡ 2) }
+{
+    let draft = example(alloc)?;
+    assert!(rt; draft.is_valid());
+    let inst = Instance::seal(alloc, draft)?;
+    assert!(rt; inst.days() == 2);
+    assert!(rt; inst.patients() == 2);
+    assert!(rt; inst.rooms() == 2);
+    assert!(rt; inst.theatres() == 2);
+    assert!(rt; inst.nurses() == 2);
+    Ok(inst)
+}
+
+// The first room and the first theatre on the first day.
+fn first_day() -> Placement
+    ensures { result ≡ record { day = record { 0 = 0 }; room = record { 0 = 0 }; theatre = record { 0 = 0 } } }
+{
+    Placement {
+        day: Day(0),
+        room: RoomNo(0),
+        theatre: TheatreNo(0),
+    }
+}
+
+// The first patient is admitted, and the first room has the first nurse in all shifts.
+#[tactic(auto, using(ih_plan::proofs::PlanRanges::plan_steps))]
+fn begin(alloc: Global, inst: &Instance) -> Result<Plan, AllocError>
+    requires days { inst.now.draft.days ≡ 2 }
+    requires patients { patient_count inst.now.draft ≡ 2 }
+    requires rooms { room_count inst.now.draft ≡ 2 }
+    requires theatres { theatre_count inst.now.draft ≡ 2 }
+    requires nurses { nurse_count inst.now.draft ≡ 2 }
+    ensures { IfOk result (IsPlanOf inst.now.draft) }
+{
+    let mut plan = Plan::empty(alloc, inst)?;
+    plan.put(&Write::SetStay(PatientNo(0), Some(first_day())));
+    for k in 0..6 {
+        plan.put(&Write::SetCare(RoomNo(0), Shift(k), Some(NurseNo(0))));
+    }
+    Ok(plan)
+}
+
+// The options of a search in which each worker has two moves. No price is too high where the heat is great.
+fn search(seed: u64, workers: u32, heat: u32, retries: u32) -> Options
+    ensures { result ≡ record { seed = seed; workers = workers; moves = 2; heat = heat; hard = 1000; retries = retries } }
+{
+    Options {
+        seed,
+        workers,
+        moves: 2,
+        heat,
+        hard: 1_000,
+        retries,
+    }
+}
+
+// Whether a line is taken.
+fn takes(replay: &mut Replay<'_>, line: &str) -> bool
+    ensures { replay.new.base ≡ replay.old.base }
+{
+    replay.step(line.as_bytes()).is_ok()
+}
+
+// Whether so many lines were taken, and the best is at this place and costs so much.
+fn stands(replay: &Replay<'_>, taken: usize, place: u32, cost: i64) -> bool {
+    replay.entries().len() == taken && replay.best() == Some((place, cost))
+}
+
+// Whether a line is refused for this reason where so many were taken, and changes nothing. The start is the best until then.
+fn refuses(replay: &mut Replay<'_>, taken: u32, reason: Reason, line: &str) -> bool
+    ensures { replay.new.base ≡ replay.old.base }
+{
+    let expected = JournalRefusal {
+        line: taken as u64 + 2,
+        reason,
+    };
+    let refused = replay.step(line.as_bytes()) == Err(expected);
+    refused && stands(replay, taken as usize, 0, 159)
+}
+
+// Whether the next line is missing where so many were taken.
+fn lacks(replay: &Replay<'_>, taken: u32) -> bool {
+    let expected = JournalRefusal {
+        line: taken as u64 + 2,
+        reason: Reason::Early,
+    };
+    replay.finish() == Err(expected)
+}
+
+// Whether the first patient is where it was at first, and the first room has this nurse in all shifts.
+fn is_nursed(inst: &Instance, plan: &Plan, nurse: NurseNo) -> bool
+    requires plan { IsPlanOf inst.now.draft plan.now }
+    requires patients { patient_count inst.now.draft ≡ 2 }
+    requires rooms { room_count inst.now.draft ≡ 2 }
+{
+    if plan.stay(PatientNo(0)) != Some(first_day()) {
+        return false;
+    }
+    for k in 0..inst.shifts() {
+        if plan.care(RoomNo(0), Shift(k)) != Some(nurse) {
+            return false;
+        }
+    }
+    true
+}
+
+// Whether the best timetable is there, and is so.
+fn finds(alloc: Global, inst: &Instance, replay: &Replay<'_>, nurse: NurseNo) -> bool
+    requires instance { replay.now.base.instance ≡ inst.now.draft }
+    requires patients { patient_count inst.now.draft ≡ 2 }
+    requires rooms { room_count inst.now.draft ≡ 2 }
+{
+    match replay.best_plan(alloc) {
+        Ok(Some(plan)) => is_nursed(inst, &plan, nurse),
+        _ => false,
+    }
+}
+
+// A search of seed 7 in which worker 1 looked before worker 0's second entry, and tried its move again.
+const FIRST: &str = "0 0 0 0 0 nurse:0,2,0 0,0,0,0,0,0,0,0,0,0,0,0,0,0,0,0,0 accepted";
+
+const SECOND: &str = "1 0 1 0 1 place:0,1,1,1 0,1,0,0,0,0,0,0,3,-1,0,-1,0,0,0,1,0 accepted";
+
+const STALE: &str =
+    "2 1 0 0 0 swapnurses:5,1,0 0,0,0,0,0,0,0,0,1,0,0,0,0,0,0,0,0 stale:roomshift.0.5:0:1";
+
+const AGAIN: &str = "3 1 0 1 3 swapnurses:5,1,0 0,0,0,0,0,0,0,0,-1,0,0,1,0,0,0,0,0 accepted";
+
+const LAST: &str = "4 1 1 0 4 swapnurses:5,1,1 0,0,0,0,0,0,0,0,0,0,0,0,0,0,0,0,0 accepted";
+
+// Whether all lines but the last are taken, and the journal is short at first and before the last.
+fn takes_all_but_last(replay: &mut Replay<'_>) -> bool
+    ensures { replay.new.base ≡ replay.old.base }
+{
+    lacks(replay, 0)
+        && takes(replay, FIRST)
+        && takes(replay, SECOND)
+        && takes(replay, STALE)
+        && takes(replay, AGAIN)
+        && lacks(replay, 4)
+}
+
+#[test]
+fn a_journal_of_two_workers_is_taken(rt: HostRuntime) -> Result<(), Fail> {
+    let alloc = rt.alloc();
+    let inst = ward(&rt, alloc)?;
+    let start = begin(alloc, &inst)?;
+    let mut replay = Replay::new(alloc, &inst, &start, &search(7, 2, 1_000_000, 1), 0)?;
+    share(&replay);
+    assert!(rt; takes_all_but_last(&mut replay));
+    assert!(rt; takes(&mut replay, LAST));
+    assert!(rt; replay.finish().is_ok());
+    assert!(rt; stands(&replay, 5, 0, 159));
+    assert!(rt; finds(alloc, &inst, &replay, NurseNo(0)));
+    Ok(())
+}
+
+// A search of seed 0 by one worker without heat, whose first move makes the timetable cheaper.
+const CHEAPER: &str = "0 0 0 0 nurserun:1,0,0,5 0,0,0,0,0,0,0,0,0,0,-2,0,0,0,0,0,0 accepted";
+
+const AS_CHEAP: &str = "1 0 1 1 nurse:1,5,0 0,0,0,0,0,0,0,0,0,0,0,0,0,0,0,0,0 accepted";
+
+#[test]
+fn the_best_is_made_anew(rt: HostRuntime) -> Result<(), Fail> {
+    let alloc = rt.alloc();
+    let inst = ward(&rt, alloc)?;
+    let start = begin(alloc, &inst)?;
+    let mut replay = Replay::new(alloc, &inst, &start, &search(0, 1, 0, 0), 0)?;
+    assert!(rt; stands(&replay, 0, 0, 159));
+    assert!(rt; takes(&mut replay, CHEAPER));
+    assert!(rt; takes(&mut replay, AS_CHEAP));
+    assert!(rt; stands(&replay, 2, 1, 139));
+    assert!(rt; finds(alloc, &inst, &replay, NurseNo(1)));
+    Ok(())
+}
+
+// Lines that are refused where none was taken.
+fn refuses_at_first(replay: &mut Replay<'_>) -> bool {
+    refuses(replay, 0, Reason::Grammar, "0 0 0 0 0 nurse:0,2,0 accepted")
+        && refuses(
+            replay,
+            0,
+            Reason::Place,
+            "1 0 0 0 0 nurse:0,2,0 0,0,0,0,0,0,0,0,0,0,0,0,0,0,0,0,0 accepted",
+        )
+        && refuses(
+            replay,
+            0,
+            Reason::Worker,
+            "0 2 0 0 0 nurse:0,2,0 0,0,0,0,0,0,0,0,0,0,0,0,0,0,0,0,0 accepted",
+        )
+        && refuses(
+            replay,
+            0,
+            Reason::Number,
+            "0 0 1 0 0 nurse:0,2,0 0,0,0,0,0,0,0,0,0,0,0,0,0,0,0,0,0 accepted",
+        )
+        && refuses(
+            replay,
+            0,
+            Reason::Try,
+            "0 0 0 1 0 nurse:0,2,0 0,0,0,0,0,0,0,0,0,0,0,0,0,0,0,0,0 accepted",
+        )
+        && refuses(
+            replay,
+            0,
+            Reason::Seen,
+            "0 0 0 0 1 nurse:0,2,0 0,0,0,0,0,0,0,0,0,0,0,0,0,0,0,0,0 accepted",
+        )
+        && refuses(
+            replay,
+            0,
+            Reason::Move,
+            "0 0 0 0 0 nurse:0,2,1 0,0,0,0,0,0,0,0,0,0,0,0,0,0,0,0,0 accepted",
+        )
+}
+
+// A line of worker 0 that hasn't seen its own last entry, and one with a wrong price.
+fn refuses_second(replay: &mut Replay<'_>) -> bool {
+    refuses(
+        replay,
+        1,
+        Reason::Seen,
+        "1 0 1 0 0 place:0,1,1,1 0,1,0,0,0,0,0,0,3,-1,0,-1,0,0,0,1,0 accepted",
+    ) && refuses(
+        replay,
+        1,
+        Reason::Price,
+        "1 0 1 0 1 place:0,1,1,1 0,1,0,0,0,0,0,0,4,-1,0,-1,0,0,0,1,0 accepted",
+    )
+}
+
+// A line of worker 0, which is done, and two with a wrong verdict.
+fn refuses_third(replay: &mut Replay<'_>) -> bool {
+    refuses(
+        replay,
+        2,
+        Reason::Worker,
+        "2 0 2 0 2 nurse:0,2,0 0,0,0,0,0,0,0,0,0,0,0,0,0,0,0,0,0 accepted",
+    ) && refuses(
+        replay,
+        2,
+        Reason::Verdict,
+        "2 1 0 0 0 swapnurses:5,1,0 0,0,0,0,0,0,0,0,1,0,0,0,0,0,0,0,0 accepted",
+    ) && refuses(
+        replay,
+        2,
+        Reason::Verdict,
+        "2 1 0 0 0 swapnurses:5,1,0 0,0,0,0,0,0,0,0,1,0,0,0,0,0,0,0,0 stale:roomshift.0.5:0:2",
+    )
+}
+
+// Lines of worker 1, which tries its move again: one says that it wasn't tried before, and one hasn't seen that try.
+fn refuses_fourth(replay: &mut Replay<'_>) -> bool {
+    refuses(
+        replay,
+        3,
+        Reason::Try,
+        "3 1 0 0 3 swapnurses:5,1,0 0,0,0,0,0,0,0,0,-1,0,0,1,0,0,0,0,0 accepted",
+    ) && refuses(
+        replay,
+        3,
+        Reason::Seen,
+        "3 1 0 1 2 swapnurses:5,1,0 0,0,0,0,0,0,0,0,-1,0,0,1,0,0,0,0,0 accepted",
+    )
+}
+
+#[test]
+fn the_first_reason_is_given(rt: HostRuntime) -> Result<(), Fail> {
+    let alloc = rt.alloc();
+    let inst = ward(&rt, alloc)?;
+    let start = begin(alloc, &inst)?;
+    let mut replay = Replay::new(alloc, &inst, &start, &search(7, 2, 1_000_000, 1), 0)?;
+    assert!(rt; refuses_at_first(&mut replay));
+    assert!(rt; takes(&mut replay, FIRST));
+    assert!(rt; refuses_second(&mut replay));
+    assert!(rt; takes(&mut replay, SECOND));
+    assert!(rt; refuses_third(&mut replay));
+    assert!(rt; takes(&mut replay, STALE));
+    assert!(rt; refuses_fourth(&mut replay));
+    assert!(rt; takes(&mut replay, AGAIN));
+    assert!(rt; takes(&mut replay, LAST));
+    let beyond = "5 0 2 0 5 idle 0,0,0,0,0,0,0,0,0,0,0,0,0,0,0,0,0 accepted";
+    assert!(rt; refuses(&mut replay, 5, Reason::Extra, beyond));
+    Ok(())
+}
+
+// The first lines of a search of seed 4 without retries, in which worker 1 saw nothing at first.
+const ADMITTED: &str = "0 0 0 0 place:0,0,0,0 0,0,0,0,0,0,0,0,0,0,0,0,0,0,0,0,0 accepted";
+
+const SAME_DAY: &str = "1 0 1 1 setday:1,0 0,0,0,0,0,0,0,0,0,0,0,0,0,0,0,0,0 accepted";
+
+const SEEN_ALL: &str = "2 1 0 2 nurse:0,5,0 0,0,0,0,0,0,0,0,0,0,0,0,0,0,0,0,1 accepted";
+
+const SEEN_NOTHING: &str =
+    "2 1 0 0 nurse:0,5,0 0,0,0,0,0,0,0,0,0,0,0,0,0,0,0,0,0 stale:roomshift.0.5:0:1";
+
+#[test]
+fn a_line_that_had_seen_less_is_taken_after_a_refused_one(rt: HostRuntime) -> Result<(), Fail> {
+    let alloc = rt.alloc();
+    let inst = ward(&rt, alloc)?;
+    let start = begin(alloc, &inst)?;
+    let mut replay = Replay::new(alloc, &inst, &start, &search(4, 2, 1_000_000, 0), 0)?;
+    assert!(rt; takes(&mut replay, ADMITTED));
+    assert!(rt; takes(&mut replay, SAME_DAY));
+    assert!(rt; refuses(&mut replay, 2, Reason::Price, SEEN_ALL));
+    assert!(rt; takes(&mut replay, SEEN_NOTHING));
+    Ok(())
+}
