@@ -5,7 +5,6 @@ pub mod Exact
 pub mod Examples
 pub mod Few
 pub mod Finds
-pub mod IdleOffers
 pub mod Kept
 pub mod Machine
 pub mod Staying

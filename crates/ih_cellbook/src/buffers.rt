@@ -29,7 +29,7 @@ impl Model for Buffer {
 }
 
 impl Buffer {
-    ghost use Rattle.std.specs.Prelude.{◌++◌, take, drop};
+    ghost use Rattle.std.specs.Prelude.{take, drop};
     ghost use Rattle.ih_cellbook.specs.Copied.{most_copied};
 
     /// An empty buffer, from place 0, with room for 256 entries.

@@ -1,6 +1,6 @@
 //! Verdicts by counters, and which counters rise.
 
-ghost use Rattle.std.specs.Prelude.{◌≡◌, ℕ, ◌+◌, ◌<◌, ◌≤◌, ◌^◌, ◌==◌, length, slice_index, option_map, map, if◌then◌else◌, All, IfSome};
+ghost use Rattle.std.specs.Prelude.{◌≡◌, ℕ, ◌+◌, ◌<◌, ◌^◌, length, slice_index, if◌then◌else◌, All, IfSome};
 ghost use Rattle.ih_tables.specs.Bills.{IsWithin};
 ghost use Rattle.ih_plan.specs.Cells.{cell_count};
 ghost use Rattle.ih_journal.specs.Settings.{IsLawful};

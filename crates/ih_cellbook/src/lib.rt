@@ -10,8 +10,6 @@ mod offers;
 mod reads;
 mod records;
 mod sharing;
-#[cfg(test)]
-mod tests;
 
 pub use books::Book;
 pub use buffers::Buffer;

@@ -11,7 +11,7 @@ pub struct Reads {
 }
 
 impl Model for Reads {
-    ghost use Rattle.std.specs.Prelude.{◌≤◌, vec_len, vec_capacity};
+    ghost use Rattle.std.specs.Prelude.{◌≤◌, vec_capacity};
     ghost use Rattle.ih_cellbook.specs.Noted.{Noted};
 
     ghost Value = { Noted };

@@ -1,7 +1,7 @@
 //! Three ledgers that stand for one timetable.
 
 ghost use Rattle.std.specs.Prelude.{◌≡◌, ◌<◌, None, Some, IfOk};
-ghost use Rattle.ih_tables.specs.Sizes.{patient_count, room_count, shift_count, nurse_count};
+ghost use Rattle.ih_tables.specs.Sizes.{patient_count};
 ghost use Rattle.ih_tables.specs.declared.ids.NurseNo.{NurseNo};
 ghost use Rattle.ih_plan.specs.declared.moves.Placement.{Placement};
 ghost use Rattle.ih_plan.specs.declared.moves.Write.TheVariants.{SetStay, SetCare};

@@ -4,13 +4,9 @@
 mod cell_ledgers;
 mod changes;
 mod copies;
-#[cfg(test)]
-mod example;
 mod ledgers;
 mod noting;
 mod pricing;
 mod stays;
-#[cfg(test)]
-mod tests;
 
 pub use ledgers::Ledgers;

@@ -5,5 +5,3 @@ mod desk;
 
 pub use desk::Desk;
 
-#[cfg(test)]
-mod tests;

@@ -2,13 +2,9 @@
 #![tactic(auto)]
 
 mod candidates;
-#[cfg(test)]
-mod example;
 mod filler;
 mod filling;
 mod nurses;
 mod patients;
-#[cfg(test)]
-mod tests;
 
 pub use filling::fill;

@@ -1,6 +1,6 @@
 //! The footprint of a write, and the cells that a move looks at, gathered into a list of cells.
 
-ghost use Rattle.std.specs.Prelude.{◌≡◌, ◌<◌, ◌≤◌, ℕ, option_map, Some, true};
+ghost use Rattle.std.specs.Prelude.{◌≡◌, ◌<◌, ◌≤◌, option_map, Some, true};
 ghost use Rattle.ih_tables.specs.declared.cells.Cell.{Cell};
 ghost use Rattle.ih_tables.specs.declared.ids.NurseNo.{NurseNo};
 ghost use Rattle.ih_tables.specs.Sizes.{patient_count, room_count, shift_count, nurse_count, sizes_of};
@@ -10,8 +10,7 @@ ghost use Rattle.ih_plan.specs.declared.moves.Write.TheVariants.{SetStay, SetCar
 ghost use Rattle.ih_plan.specs.declared.moves.Move.TheVariants.{SwapRooms, SwapNurses};
 ghost use Rattle.ih_plan.specs.Writes.{IsWriteOf};
 ghost use Rattle.ih_plan.specs.Cells.{IsCellIn};
-ghost use Rattle.ih_plan.specs.Presence.{day_of};
-ghost use Rattle.ih_plan.specs.Footprint.{write_touches, in_placement, in_stay, in_choice, looks_at, is_own};
+ghost use Rattle.ih_plan.specs.Footprint.{write_touches, in_placement, in_stay, looks_at};
 ghost use Rattle.ih_footprint.specs.Gathered.{Gathers};
 ghost use Rattle.ih_footprint.specs.Pieces.{in_shift, in_day, in_days, in_nurse, in_cares};
 ghost use Rattle.ih_plan.specs.Present.{ArePresent};

@@ -6,8 +6,6 @@ mod cell_lists;
 mod footprints;
 mod laws;
 mod numbering;
-#[cfg(test)]
-mod tests;
 
 pub use cell_lists::CellList;
 pub use footprints::{foot, looks};

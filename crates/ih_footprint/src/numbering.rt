@@ -79,7 +79,7 @@ impl Model for Numbering {
 }
 
 impl Numbering {
-    ghost use Rattle.std.specs.Prelude.{◌≡◌, ◌<◌, ◌≤◌};
+    ghost use Rattle.std.specs.Prelude.{◌≡◌, ◌<◌};
     ghost use Rattle.ih_tables.specs.Sizes.{sizes_of};
     ghost use Rattle.ih_plan.specs.Cells.{count_in, number_in, cell_in, IsCellIn};
     ghost use Rattle.ih_footprint.specs.Limits.{AreLimited};

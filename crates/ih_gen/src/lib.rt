@@ -11,7 +11,5 @@ mod patients;
 mod persons;
 mod picks;
 mod rooms;
-#[cfg(test)]
-mod tests;
 
 pub use instances::generate;

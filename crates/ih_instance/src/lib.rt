@@ -8,8 +8,6 @@ mod patients;
 mod people;
 mod rooms;
 mod surgery;
-#[cfg(test)]
-mod tests;
 mod weights;
 mod words;
 

@@ -11,8 +11,6 @@ mod parse;
 mod reading;
 mod refusals;
 mod settings;
-#[cfg(test)]
-mod tests;
 mod texts;
 
 pub use entries::{Entry, Verdict};

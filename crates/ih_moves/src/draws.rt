@@ -1,8 +1,8 @@
 //! A worker's stream of moves.
 
-ghost use Rattle.std.specs.Prelude.{◌≡◌, ◌<◌, ◌≤◌, ◌+◌, ◌*◌, ◌%◌, ℕ, Some, IfSome, length, option_map};
+ghost use Rattle.std.specs.Prelude.{◌≡◌, ◌<◌, ◌≤◌, ◌+◌, ◌%◌, ℕ, Some, IfSome};
 ghost use Rattle.rand_xoshiro.specs.Xoshiro256.{plus_plus};
-ghost use Rattle.ih_tables.specs.Sizes.{patient_count, room_count, shift_count, nurse_count, theatre_count};
+ghost use Rattle.ih_tables.specs.Sizes.{patient_count, shift_count, nurse_count};
 ghost use Rattle.ih_plan.specs.Draws.{choose, last_day, window_len, choose_day, choose_nurse, drawn, drawn_place, drawn_withdrawal, drawn_day, drawn_room, drawn_theatre, drawn_room_swap, drawn_nurse_swap, drawn_nurse, drawn_run, draw};
 ghost use Rattle.ih_plan.specs.Expand.{IsMoveOf};
 

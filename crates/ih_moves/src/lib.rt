@@ -2,8 +2,6 @@
 #![tactic(auto)]
 
 mod draws;
-#[cfg(test)]
-mod tests;
 mod writes;
 
 pub use draws::{Stream, window_len};

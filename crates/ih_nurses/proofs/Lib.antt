@@ -17,4 +17,3 @@ pub mod OwnLemmas
 pub mod GivenLemmas
 pub mod NewlyLemmas
 pub mod RoomChangeLemmas
-pub mod TestLemmas

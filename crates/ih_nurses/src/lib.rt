@@ -4,8 +4,6 @@
 mod bills;
 mod changes;
 mod choices;
-#[cfg(test)]
-mod example;
 mod loads;
 mod nurses;
 mod own;
@@ -16,7 +14,5 @@ mod seen;
 mod start;
 mod stays;
 mod stretches;
-#[cfg(test)]
-mod tests;
 
 pub use nurses::Nurses;

@@ -1,10 +1,10 @@
 //! The table of loads: the workload of each nurse in each shift.
 
-ghost use Rattle.std.specs.Prelude.{◌≡◌, ◌<◌, ◌≤◌, ◌+◌, ◌*◌, ◌^◌, ℕ, length, IfSome, true, false, if◌then◌else◌, option_map};
+ghost use Rattle.std.specs.Prelude.{◌≡◌, ◌<◌, ◌≤◌, ◌+◌, ◌*◌, ◌^◌, ℕ, length, IfSome, false, if◌then◌else◌};
 ghost use Rattle.ih_tables.specs.declared.ids.NurseNo.{NurseNo};
 ghost use Rattle.ih_tables.specs.Sizes.{nurse_count, shift_count};
 ghost use Rattle.ih_tables.specs.Works.{max_load};
-ghost use Rattle.ih_plan.specs.Costs.{is_number, overload};
+ghost use Rattle.ih_plan.specs.Costs.{overload};
 ghost use Rattle.ih_nurses.specs.Loads.{load_at, share};
 
 use ih_tables::{Instance, NurseNo, Shift};

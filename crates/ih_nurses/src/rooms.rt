@@ -1,6 +1,6 @@
 //! What the persons in a room and its nurse give, by a walk over the persons' list.
 
-ghost use Rattle.std.specs.Prelude.{◌≡◌, ◌<◌, ◌≤◌, ◌-◌, ◌*◌, ℕ, length, sum_by, map, option_map, is_none, not, ◌&&◌, IfSome};
+ghost use Rattle.std.specs.Prelude.{◌≡◌, ◌<◌, ◌≤◌, ◌-◌, length, sum_by, map, option_map, is_none, not, ◌&&◌, IfSome};
 ghost use Rattle.ih_tables.specs.declared.ids.NurseNo.{NurseNo};
 ghost use Rattle.ih_tables.specs.Sizes.{person_count, nurse_count, shift_count};
 ghost use Rattle.ih_links.specs.Lists.{list_of, without, AreNodes};

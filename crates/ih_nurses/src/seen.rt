@@ -3,7 +3,7 @@
 ghost use Rattle.std.specs.Prelude.{◌≡◌, ◌<◌, ◌≤◌, ◌+◌, ◌==◌, ◌&&◌, ◌||◌, not, ℕ, length, map, IfSome, option_map};
 ghost use Rattle.std.specs.List.{range_with_len};
 ghost use Rattle.ih_tables.specs.declared.ids.NurseNo.{NurseNo};
-ghost use Rattle.ih_tables.specs.Sizes.{room_count, shift_count, nurse_count};
+ghost use Rattle.ih_tables.specs.Sizes.{room_count, shift_count};
 ghost use Rattle.ih_plan.specs.Timetable.{IsPlanOf, care_of};
 ghost use Rattle.ih_plan.specs.Costs.{distinct_nurses, is_number};
 ghost use Rattle.ih_plan.specs.Sums.{count_below};

@@ -4,8 +4,6 @@
 mod members;
 mod moves;
 mod plans;
-#[cfg(test)]
-mod tests;
 
 pub use members::Members;
 pub use moves::{Move, Placement, Write};

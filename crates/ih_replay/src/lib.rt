@@ -1,14 +1,10 @@
 //! A check of journals: each line is taken where it is the legal next one, and else the first reason is given.
 #![tactic(auto)]
 
-#[cfg(test)]
-mod example;
 mod laws;
 mod rebuilding;
 mod replays;
 mod taking;
-#[cfg(test)]
-mod tests;
 mod workers;
 
 pub use laws::{

@@ -11,4 +11,3 @@ pub mod StayLemmas
 pub mod Others
 pub mod Occupants
 pub mod Places
-mod TestLemmas

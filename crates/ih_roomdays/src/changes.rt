@@ -1,6 +1,6 @@
 //! What a patient's stay makes of the bill of a room on a day, without the change being made.
 
-ghost use Rattle.std.specs.Prelude.{◌≡◌, ◌<◌, ◌+◌, ◌^◌, ◌&&◌, ℕ, nat_le, nat_lt, List, length, option_map, IfSome};
+ghost use Rattle.std.specs.Prelude.{◌≡◌, ◌<◌, ◌+◌, ◌^◌, ◌&&◌, ℕ, List, length, option_map, IfSome};
 ghost use Rattle.ih_tables.specs.Sizes.{patient_count, person_count, room_count};
 ghost use Rattle.ih_plan.specs.Presence.{is_in, placed_at, covers};
 ghost use Rattle.ih_plan.specs.Persons.{person_of};

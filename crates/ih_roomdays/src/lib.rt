@@ -9,7 +9,5 @@ mod persons;
 mod profiles;
 mod room_days;
 mod rows;
-#[cfg(test)]
-mod tests;
 
 pub use room_days::{RoomDays, ledgers_tell};

@@ -10,8 +10,6 @@ mod outside;
 mod real;
 mod sink;
 mod stored;
-#[cfg(test)]
-mod tests;
 mod transfer;
 
 pub use gate::OpenGate;

@@ -1,6 +1,6 @@
 //! Moves on a replica: which are frozen, and how an accepted one is made.
 
-ghost use Rattle.std.specs.Prelude.{◌≡◌, ℕ, ◌+◌, ◌<◌, ◌^◌, ◌↔◌, IsTrue, length, slice_index};
+ghost use Rattle.std.specs.Prelude.{◌≡◌, ℕ, ◌+◌, ◌<◌, ◌^◌, IsTrue, length, slice_index};
 ghost use Rattle.std.specs.List.{list_any};
 ghost use Rattle.ih_tables.specs.Sizes.{sizes_of};
 ghost use Rattle.ih_plan.specs.Cells.{cell_at, cell_count};

@@ -76,7 +76,7 @@ fn first_offer(alloc: Global, worker: u32, cells: u32) -> Result<Offer, AllocErr
 }
 
 impl<'a> Replica<'a> {
-    ghost use Rattle.std.specs.Prelude.{◌≡◌, ◌∷◌, [], IfOk};
+    ghost use Rattle.std.specs.Prelude.{◌≡◌, [], IfOk};
     ghost use Rattle.std.specs.Borrow.{sem};
     ghost use Rattle.ih_plan.specs.Timetable.{IsPlanOf};
     ghost use Rattle.ih_plan.specs.Expand.{IsMoveOf};

@@ -4,8 +4,6 @@
 mod nurses;
 mod patients;
 mod reader;
-#[cfg(test)]
-mod tests;
 mod writer;
 
 pub use ih_format::FormatError as SolutionError;

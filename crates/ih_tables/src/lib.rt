@@ -15,8 +15,6 @@ mod names;
 mod places;
 mod refusals;
 mod rosters;
-#[cfg(test)]
-mod tests;
 mod validity;
 
 pub use bills::{Bill, Weights};

@@ -9,6 +9,7 @@ use crate::drafts::{Draft, WorkedShift};
 use crate::lists::List;
 use std::alloc::{AllocError, Global};
 
+// The maximum load among worked shifts for a shift of the horizon, if it is among them.
 fn load_in(worked: &[WorkedShift], shift: usize) -> Option<u32>
     ensures { result ≡ load_in worked.now shift }
 {
@@ -38,6 +39,7 @@ fn load_at(draft: &Draft, place: usize) -> Option<u32>
     max_load(draft, place / shifts, place % shifts)
 }
 
+/// Each nurse's maximum load in each shift: those of nurse 0 first, rising by shift.
 pub fn load_table(alloc: Global, draft: &Draft) -> Result<List<Option<u32>>, AllocError>
     requires { IsValid draft.now }
     ensures { IfOk result (λ loads. loads ≡ load_table draft.now) }

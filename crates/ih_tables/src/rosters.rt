@@ -10,6 +10,7 @@ use crate::lists::List;
 use crate::loads::max_load;
 use std::alloc::{AllocError, Global};
 
+// The nurses who work a shift, rising.
 fn working(alloc: Global, draft: &Draft, shift: usize) -> Result<List<NurseNo>, AllocError>
     requires { IsValid draft.now }
     ensures { IfOk result (λ nurses. nurses ≡ working draft.now shift) }
@@ -23,6 +24,7 @@ fn working(alloc: Global, draft: &Draft, shift: usize) -> Result<List<NurseNo>, 
     Ok(List::new(nurses))
 }
 
+/// For each shift of the horizon, the nurses who work it, rising.
 pub fn roster_table(alloc: Global, draft: &Draft) -> Result<List<List<NurseNo>>, AllocError>
     requires { IsValid draft.now }
     ensures { IfOk result (λ rosters. rosters ≡ roster_table draft.now) }

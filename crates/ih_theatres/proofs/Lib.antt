@@ -5,4 +5,3 @@ pub mod PartLemmas
 pub mod LedgerLemmas
 pub mod OtherLemmas
 pub mod ChangeLemmas
-pub mod TestLemmas

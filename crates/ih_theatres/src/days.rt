@@ -1,9 +1,9 @@
 //! Walks over the patients of a day.
 
-ghost use Rattle.std.specs.Prelude.{◌≡◌, ◌<◌, ◌≤◌, ◌*◌, not, map, length, option_map, slice_index_or, None, All, IfSome, ℕ};
+ghost use Rattle.std.specs.Prelude.{◌≡◌, ◌<◌, ◌≤◌, ◌*◌, not, map, length, All, IfSome};
 ghost use Rattle.ih_links.specs.Lists.{list_of, AreNodes};
 ghost use Rattle.ih_tables.specs.declared.ids.TheatreNo.{TheatreNo};
-ghost use Rattle.ih_tables.specs.Sizes.{patient_count, theatre_count};
+ghost use Rattle.ih_tables.specs.Sizes.{patient_count};
 ghost use Rattle.ih_plan.specs.Costs.{minutes, is_empty, theatres_used};
 ghost use Rattle.ih_theatres.specs.Days.{day_number, theatre_at};
 

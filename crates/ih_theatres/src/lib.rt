@@ -5,8 +5,6 @@ mod changes;
 mod days;
 mod marks;
 mod parts;
-#[cfg(test)]
-mod tests;
 mod theatres;
 
 pub use theatres::Theatres;

@@ -1,6 +1,6 @@
 //! The ledger of theatres and surgeons: it stands for a timetable, and gives what each of their days costs.
 
-ghost use Rattle.std.specs.Prelude.{◌≡◌, ◌<◌, ◌≤◌, ◌-◌, ◌^◌, pos, Some, None, IfOk, IsTrue, IfSome, [], ◌∷◌, not};
+ghost use Rattle.std.specs.Prelude.{◌≡◌, ◌<◌, ◌-◌, ◌^◌, Some, None, IfOk, IfSome, not};
 ghost use Rattle.ih_tables.specs.Sizes.{patient_count, theatre_count, surgeon_count};
 ghost use Rattle.ih_tables.specs.Bills.{IsWithin, sub_bills};
 ghost use Rattle.ih_tables.specs.declared.cells.Cell.TheVariants.{TheatreDay, SurgeonDay};

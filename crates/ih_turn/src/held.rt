@@ -1,6 +1,6 @@
 // The value in the hands of a seat: how the seat takes it, and how it passes the turn on.
 // Word 0 of the table is `ticket`, word 1 is `serving`, and slot 0 is the value's.
-ghost use Rattle.std.specs.Prelude.{◌≡◌, ℕ, ◌+◌, ◌<◌, ◌≤◌, true, false, [], ◌∷◌, None, Some, length};
+ghost use Rattle.std.specs.Prelude.{◌≡◌, ◌+◌, ◌<◌, ◌≤◌, true, false, [], ◌∷◌, None, Some, length};
 ghost use Rattle.ih_turn.specs.Rule.{Follows, Serves, IsOf, AddsAtMostOne, made_by, served};
 
 use crate::kept::Kept;

@@ -15,5 +15,3 @@ pub use kept::Kept;
 pub use seat::Seat;
 pub use turn::Turn;
 
-#[cfg(test)]
-mod tests;

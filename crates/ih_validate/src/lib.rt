@@ -16,8 +16,6 @@ mod rooms;
 mod shifts;
 mod surgeons;
 mod surgery;
-#[cfg(test)]
-mod tests;
 mod theatres;
 
 pub use bills::bill;

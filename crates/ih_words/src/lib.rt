@@ -22,5 +22,3 @@ pub use replay::Replay;
 pub use solve::Solve;
 pub use start::{MAX_FREEZE, Start};
 
-#[cfg(test)]
-mod tests;
