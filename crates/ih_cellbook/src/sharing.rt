@@ -1,7 +1,6 @@
 //! The book as what workers take in turns: its entries are kept, each by its worker, and no turn changes what it was
 //! opened with.
 
-
 use crate::books::Book;
 use ih_journal::{Entry, Options};
 use ih_plan::Plan;

@@ -4,4 +4,3 @@
 mod desk;
 
 pub use desk::Desk;
-

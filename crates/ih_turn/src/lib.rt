@@ -14,4 +14,3 @@ pub use held::Held;
 pub use kept::Kept;
 pub use seat::Seat;
 pub use turn::Turn;
-

@@ -21,4 +21,3 @@ pub use generate::Gen;
 pub use replay::Replay;
 pub use solve::Solve;
 pub use start::{MAX_FREEZE, Start};
-
