@@ -56,6 +56,7 @@ fn nursed(nurses_seen: u32) -> NursingCosts
 
 impl Nurses {
     // Whether the room has no nurse in the shift, and anybody but the patient. Where it has a nurse, nobody looks for them.
+    #[inline(always)]
     fn leaves_others(
         &self,
         inst: &Instance,
@@ -74,6 +75,7 @@ impl Nurses {
     }
 
     /// What another stay of a patient, or none, would change in a room's shift: the skill that the patient lacks there, and whether the room has persons and no nurse. Each number is at most 10^11 in magnitude.
+    #[inline(always)]
     pub fn room_shift_change(
         &self,
         inst: &Instance,
@@ -104,6 +106,7 @@ impl Nurses {
     }
 
     /// What another stay of a patient, or none, would change in a nurse's shift: the workload above the maximum. Each number is at most 10^11 in magnitude.
+    #[inline(always)]
     pub fn nurse_shift_change(
         &self,
         inst: &Instance,

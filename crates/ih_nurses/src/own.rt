@@ -18,6 +18,7 @@ use ih_tables::{Instance, NurseNo, PatientNo, RoomNo, Shift};
 
 // Whether the stay has the shift's day.
 #[tactic(auto, unfolding(ih_plan::specs::Persons::person_of))]
+#[inline(always)]
 fn is_covered(inst: &Instance, p: PatientNo, at: Placement, k: Shift) -> bool
     requires patient { p.0 < patient_count inst.now.draft }
     requires placement { IsPlacement inst.now.draft at }
@@ -28,6 +29,7 @@ fn is_covered(inst: &Instance, p: PatientNo, at: Placement, k: Shift) -> bool
 }
 
 /// Whether two stays have one room and one day, so that only their theatres may differ.
+#[inline(always)]
 pub fn have_one_place(a: Option<Placement>, b: Option<Placement>) -> bool
     ensures { result ≡ true → option_map placed_at a ≡ option_map placed_at b }
 {
@@ -41,6 +43,7 @@ pub fn have_one_place(a: Option<Placement>, b: Option<Placement>) -> bool
 }
 
 // Whether the patient is in the room in the shift.
+#[inline(always)]
 fn is_housed(inst: &Instance, p: PatientNo, stay: Option<Placement>, r: RoomNo, k: Shift) -> bool
     requires patient { p.0 < patient_count inst.now.draft }
     requires stay { IfSome stay (IsPlacement inst.now.draft) }
@@ -54,6 +57,7 @@ fn is_housed(inst: &Instance, p: PatientNo, stay: Option<Placement>, r: RoomNo, 
 
 // The skill that a patient requires in a shift of its stay.
 #[tactic(auto, unfolding(ih_plan::specs::Persons::person_of))]
+#[inline(always)]
 fn skill(inst: &Instance, p: PatientNo, at: Placement, k: Shift) -> u32
     requires patient { p.0 < patient_count inst.now.draft }
     requires begun { 3 * at.day.0 ≤ k.0 }
@@ -69,6 +73,7 @@ fn skill(inst: &Instance, p: PatientNo, at: Placement, k: Shift) -> u32
 }
 
 // The skill above a level that the patient requires in the room in the shift.
+#[inline(always)]
 fn skill_above(
     inst: &Instance,
     p: PatientNo,
@@ -94,6 +99,7 @@ fn skill_above(
 }
 
 // The skill above the nurse's, and 0 where there is no nurse.
+#[inline(always)]
 fn missing(
     inst: &Instance,
     p: PatientNo,
@@ -114,6 +120,7 @@ fn missing(
 }
 
 /// What a patient's stay costs in a room's shift: the skill above the nurse's that the patient requires, and 1 where the patient or others are there without a nurse. Whether others are there is told by the caller.
+#[inline(always)]
 pub fn room_costs(
     inst: &Instance,
     r: RoomNo,
@@ -143,6 +150,7 @@ pub fn room_costs(
 }
 
 /// The workload that a stay gives to a nurse in a shift.
+#[inline(always)]
 pub fn given(
     inst: &Instance,
     plan: &Plan,

@@ -11,6 +11,7 @@ use ih_tables::{Instance, PatientNo};
 
 /// Which entry of the person's vectors is the shift's.
 #[tactic(auto, unfolding(ih_plan::specs::Presence::admission_of, ih_plan::specs::Presence::entry_of))]
+#[inline(always)]
 fn entry_of(inst: &Instance, plan: &Plan, x: u32, k: u32) -> u32
     requires plan { IsPlanOf inst.now.draft plan.now }
     requires person { x < person_count inst.now.draft }
@@ -30,6 +31,7 @@ fn entry_of(inst: &Instance, plan: &Plan, x: u32, k: u32) -> u32
 
 /// The workload that the person makes in the shift.
 #[tactic(auto, unfolding(ih_plan::specs::Persons::person_of))]
+#[inline(always)]
 pub fn workload_of(inst: &Instance, plan: &Plan, x: u32, k: u32) -> u32
     requires plan { IsPlanOf inst.now.draft plan.now }
     requires person { x < person_count inst.now.draft }
@@ -49,6 +51,7 @@ pub fn workload_of(inst: &Instance, plan: &Plan, x: u32, k: u32) -> u32
 
 /// The skill that the person requires in the shift.
 #[tactic(auto, unfolding(ih_plan::specs::Persons::person_of))]
+#[inline(always)]
 pub fn skill_of(inst: &Instance, plan: &Plan, x: u32, k: u32) -> u32
     requires plan { IsPlanOf inst.now.draft plan.now }
     requires person { x < person_count inst.now.draft }

@@ -16,6 +16,7 @@ use ih_plan::Plan;
 use ih_tables::{Instance, NurseNo, RoomNo, Shift};
 
 /// The workload of the persons in a room's list in a shift.
+#[inline(always)]
 pub fn workload_in(inst: &Instance, plan: &Plan, persons: &Links, r: RoomNo, k: Shift) -> u32
     requires plan { IsPlanOf inst.now.draft plan.now }
     requires room { r.0 < length persons.now.lists }
@@ -90,6 +91,7 @@ pub fn uncovered(persons: &Links, r: RoomNo, n: Option<NurseNo>) -> u32
 }
 
 /// Whether anybody but person x is in a room's list.
+#[inline(always)]
 pub fn has_others(persons: &Links, r: RoomNo, x: u32) -> bool
     requires room { r.0 < length persons.now.lists }
     ensures value { result ≡ not (is_empty (without x (list_of persons.now r.0))) }
@@ -123,6 +125,7 @@ pub fn nurse_off(inst: &Instance, n: Option<NurseNo>, k: Shift) -> u32
 }
 
 /// What a room costs in a shift with a choice of nurse.
+#[inline(always)]
 pub fn choice_costs(
     inst: &Instance,
     plan: &Plan,
