@@ -22,7 +22,7 @@ use crate::bills::{NursingCosts, difference};
 use crate::choices::{is_nurse, nurse_at};
 use crate::loads::{load, load_after, overload};
 use crate::own::{given, have_one_place, room_costs};
-use crate::rooms::{choice_costs, has_others, workload_in};
+use crate::rooms::{choice_costs, has_others, missing_skills, workload_in};
 use crate::seen::{newly_seen, nurses_over};
 use crate::stretches::{stay_stretch, stretch_of};
 use ih_plan::Placement;
@@ -163,9 +163,10 @@ impl Nurses {
     {
         let persons = &self.here[(k.0 / 3) as usize];
         let old = nurse_at(inst, &self.plan, r, k);
+        let (after, before) = missing_skills(inst, &self.plan, persons, r, k, new, old);
         difference(
-            choice_costs(inst, &self.plan, persons, r, k, new),
-            choice_costs(inst, &self.plan, persons, r, k, old),
+            choice_costs(inst, persons, r, k, new, after),
+            choice_costs(inst, persons, r, k, old, before),
         )
     }
 

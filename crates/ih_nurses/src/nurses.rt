@@ -17,7 +17,7 @@ use crate::bills::{NursingCosts, bill_of};
 use crate::choices::nurse_at;
 use crate::loads::{load, move_load, overload};
 use crate::presence::{enter_days, leave_days};
-use crate::rooms::{choice_costs, workload_in};
+use crate::rooms::{choice_costs, missing_skills, workload_in};
 use crate::seen::nurses_over;
 use crate::start::{no_loads, occupants_here};
 use crate::stays::{add_stay, end_of, take_stay};
@@ -108,7 +108,8 @@ impl Nurses {
     {
         let persons = &self.here[(k.0 / 3) as usize];
         let nurse = nurse_at(inst, &self.plan, r, k);
-        bill_of(choice_costs(inst, &self.plan, persons, r, k, nurse))
+        let (missing, _) = missing_skills(inst, &self.plan, persons, r, k, nurse, nurse);
+        bill_of(choice_costs(inst, persons, r, k, nurse, missing))
     }
 
     /// A nurse's part of the bill in a shift: the workload above the maximum, where the shift is worked. Each number is at most 10^11.

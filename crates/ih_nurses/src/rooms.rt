@@ -59,8 +59,38 @@ pub fn skill_above(
     sum
 }
 
+/// The required skills above each of two levels of the persons in a room's list in a shift, by one walk.
+#[inline(always)]
+fn skills_above(
+    inst: &Instance,
+    plan: &Plan,
+    persons: &Links,
+    r: RoomNo,
+    k: Shift,
+    one: u32,
+    other: u32,
+) -> (u32, u32)
+    requires plan { IsPlanOf inst.now.draft plan.now }
+    requires room { r.0 < length persons.now.lists }
+    requires persons { persons.now.nodes ≡ person_count inst.now.draft }
+    ensures one { result.0 ≡ sum_by (λ x. skill_of inst.now.draft plan.now k.0 x - one) (list_of persons.now r.0) }
+    ensures other { result.1 ≡ sum_by (λ x. skill_of inst.now.draft plan.now k.0 x - other) (list_of persons.now r.0) }
+{
+    let mut first = 0;
+    let mut second = 0;
+    let mut at = persons.first(r.0);
+    while let Some(x) = at {
+        let skill = skill_of(inst, plan, x, k.0);
+        first += skill.saturating_sub(one);
+        second += skill.saturating_sub(other);
+        at = persons.next(x);
+    }
+    (first, second)
+}
+
 /// The required skills above the nurse's of the persons in a room's list in a shift, and 0 where there is no nurse.
-pub fn missing_skill(
+#[inline(always)]
+fn missing_skill(
     inst: &Instance,
     plan: &Plan,
     persons: &Links,
@@ -77,6 +107,42 @@ pub fn missing_skill(
     match n {
         None => 0,
         Some(a) => skill_above(inst, plan, persons, r, k, inst.nurse(a).skill_level),
+    }
+}
+
+/// The same for each of two choices, by one walk.
+#[inline(always)]
+pub fn missing_skills(
+    inst: &Instance,
+    plan: &Plan,
+    persons: &Links,
+    r: RoomNo,
+    k: Shift,
+    one: Option<NurseNo>,
+    other: Option<NurseNo>,
+) -> (u32, u32)
+    requires plan { IsPlanOf inst.now.draft plan.now }
+    requires room { r.0 < length persons.now.lists }
+    requires persons { persons.now.nodes ≡ person_count inst.now.draft }
+    requires one { IfSome one (λ a. a.0 < nurse_count inst.now.draft) }
+    requires other { IfSome other (λ a. a.0 < nurse_count inst.now.draft) }
+    ensures one { result.0 ≡ skill_missing inst.now.draft (option_map (λ (a : NurseNo). a.0) one) (map (skill_of inst.now.draft plan.now k.0) (list_of persons.now r.0)) }
+    ensures other { result.1 ≡ skill_missing inst.now.draft (option_map (λ (a : NurseNo). a.0) other) (map (skill_of inst.now.draft plan.now k.0) (list_of persons.now r.0)) }
+{
+    match one {
+        None => (0, missing_skill(inst, plan, persons, r, k, other)),
+        Some(a) => match other {
+            None => (missing_skill(inst, plan, persons, r, k, one), 0),
+            Some(b) => skills_above(
+                inst,
+                plan,
+                persons,
+                r,
+                k,
+                inst.nurse(a).skill_level,
+                inst.nurse(b).skill_level,
+            ),
+        },
     }
 }
 
@@ -124,24 +190,22 @@ pub fn nurse_off(inst: &Instance, n: Option<NurseNo>, k: Shift) -> u32
     }
 }
 
-/// What a room costs in a shift with a choice of nurse.
+/// What a room costs in a shift with a choice of nurse, whose persons lack so much skill of that nurse.
 #[inline(always)]
 pub fn choice_costs(
     inst: &Instance,
-    plan: &Plan,
     persons: &Links,
     r: RoomNo,
     k: Shift,
     n: Option<NurseNo>,
+    missing_skill: u32,
 ) -> NursingCosts
-    requires plan { IsPlanOf inst.now.draft plan.now }
     requires room { r.0 < length persons.now.lists }
-    requires persons { persons.now.nodes ≡ person_count inst.now.draft }
     requires nurse { IfSome n (λ a. a.0 < nurse_count inst.now.draft) }
     requires shift { k.0 < shift_count inst.now.draft }
     ensures off { result.off ≡ bit (not_working inst.now.draft k.0 (option_map (λ (a : NurseNo). a.0) n)) }
     ensures uncovered { result.uncovered ≡ bit (is_none (option_map (λ (a : NurseNo). a.0) n) && not (is_empty (list_of persons.now r.0))) }
-    ensures missing_skill { result.missing_skill ≡ skill_missing inst.now.draft (option_map (λ (a : NurseNo). a.0) n) (map (skill_of inst.now.draft plan.now k.0) (list_of persons.now r.0)) }
+    ensures missing_skill { result.missing_skill ≡ missing_skill }
     ensures seen { result.nurses_seen ≡ 0 }
     ensures overload { result.overload ≡ 0 }
     ensures nodes { AreNodes persons.now.nodes (list_of persons.now r.0) }
@@ -149,7 +213,7 @@ pub fn choice_costs(
     NursingCosts {
         off: nurse_off(inst, n, k),
         uncovered: uncovered(persons, r, n),
-        missing_skill: missing_skill(inst, plan, persons, r, k, n),
+        missing_skill,
         nurses_seen: 0,
         overload: 0,
     }

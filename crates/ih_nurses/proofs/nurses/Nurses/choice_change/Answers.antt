@@ -24,7 +24,7 @@ returns-clause-change c = λ P known.
     record {
       off = c.choice_costs.ensures.off;
       uncovered = c.choice_costs.ensures.uncovered;
-      missing_skill = c.choice_costs.ensures.missing_skill;
+      missing_skill = c.choice_costs.ensures.missing_skill ∙ c.missing_skills-after.ensures.one;
       seen = c.choice_costs.ensures.seen;
       overload = c.choice_costs.ensures.overload;
     } in
@@ -32,7 +32,7 @@ returns-clause-change c = λ P known.
     record {
       off = c.choice_costs-2.ensures.off;
       uncovered = c.choice_costs-2.ensures.uncovered;
-      missing_skill = c.choice_costs-2.ensures.missing_skill;
+      missing_skill = c.choice_costs-2.ensures.missing_skill ∙ c.missing_skills-after.ensures.other;
       seen = c.choice_costs-2.ensures.seen;
       overload = c.choice_costs-2.ensures.overload;
     } in
