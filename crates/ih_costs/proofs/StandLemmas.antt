@@ -48,7 +48,13 @@ room_days-care I P v r k n fits stands = record {
 }
 
 pub theatres-care : (I : Draft) (P : Timetable) (l : Theatres) (r : RoomNo) (k : Shift) (n : Option NurseNo) → Has_theatres I P l → Has_theatres I (put (SetCare r k n) P) l
-theatres-care I P l r k n stands = record { theatres = stands.theatres; theatre_days = stands.theatre_days; surgeon_days = stands.surgeon_days }
+theatres-care I P l r k n stands = record {
+  theatres = stands.theatres;
+  theatre_days = stands.theatre_days;
+  surgeon_days = stands.surgeon_days;
+  theatre_minutes = stands.theatre_minutes;
+  surgeon_minutes = stands.surgeon_minutes;
+}
 
 -- ---- the cells by number
 

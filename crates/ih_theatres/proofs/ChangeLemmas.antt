@@ -14,7 +14,7 @@ use Rattle.ih_tables.specs.declared.cells.Cell.{Cell}
 use Rattle.ih_tables.specs.declared.cells.Cell.TheVariants.{TheatreDay, SurgeonDay}
 use Rattle.ih_tables.specs.Bills.{sub_bills, zero_bill}
 use Rattle.ih_tables.specs.Sizes.{patient_count, theatre_count}
-use Rattle.ih_links.specs.Lists.{AreNodes, has, without, list_of}
+use Rattle.ih_links.specs.Lists.{has, without, list_of}
 use Rattle.ih_plan.specs.declared.moves.Placement.{Placement}
 use Rattle.ih_plan.specs.declared.moves.Write.TheVariants.{SetStay}
 use Rattle.ih_plan.specs.Timetable.{Timetable, IsPlanOf, stay_of}
@@ -96,14 +96,14 @@ module _ {I : Draft} {P : Timetable} {l : Theatres} (plan : IsPlanOf I P) (stand
       ]
 
   module _ (t : TheatreNo) (d : Day) (day : d.0 < I.days) (was will : Bool) (was_is : was ≡ operated_in t.0 d.0 old) (will_is : will ≡ operated_in t.0 d.0 new)
-      (today most : ℕ) (today_is : today ≡ day_number I t.0 d.0) (most_is : most ≡ theatre_minutes I t.0 d.0) (nodes : AreNodes l.theatre_days.nodes (list_of l.theatre_days today)) where
+      (today most : ℕ) (today_is : today ≡ day_number I t.0 d.0) (most_is : most ≡ theatre_minutes I t.0 d.0) where
     abbrev patients : Bool → List ℕ
     patients b = with_if b p.0 (without p.0 (list_of l.theatre_days today))
 
     at-day : (Q : Timetable) → ((x : ℕ) → (x ≡ p.0 → ⊥) → stay_of Q x ≡ stay_of P x) → (b : Bool) → operated_in t.0 d.0 (stay_of Q p.0) ≡ b
         → (over used : ℕ) → over ≡ minutes I (patients b) - most → used ≡ bit (not (is_empty (patients b))) → theatre_part over used ≡ part_at I Q (TheatreDay t d)
     at-day Q same b now over used over_is used_is =
-        theatre-at plan stands p known Q same t d b over used day (rw (stands.theatre_days.nodes, today_is) at nodes) now (rw (today_is, most_is) at over_is) (rw today_is at used_is)
+        theatre-at plan stands p known Q same t d b over used day now (rw (today_is, most_is) at over_is) (rw today_is at used_is)
 
     pub theatre-change : (over_before used_before over_after used_after : ℕ)
         → over_before ≡ minutes I (patients was) - most → used_before ≡ bit (not (is_empty (patients was)))
@@ -157,7 +157,7 @@ module _ {I : Draft} {P : Timetable} {l : Theatres} (plan : IsPlanOf I P) (stand
       ]
 
   module _ (s : SurgeonNo) (d : Day) (day : d.0 < I.days) (was will : Bool) (was_is : was ≡ of_surgeon s d old) (will_is : will ≡ of_surgeon s d new)
-      (today most : ℕ) (today_is : today ≡ day_number I s.0 d.0) (most_is : most ≡ surgeon_minutes I s.0 d.0) (nodes : AreNodes l.surgeon_days.nodes (list_of l.surgeon_days today))
+      (today most : ℕ) (today_is : today ≡ day_number I s.0 d.0) (most_is : most ≡ surgeon_minutes I s.0 d.0)
       (marks : List Bool) (marked : (t : ℕ) → is_marked marks t ≡ list_any (λ o. is_number o t) (map (theatre_at l.theatres.items) (without p.0 (list_of l.surgeon_days today)))) where
     abbrev operated_then : Bool → List ℕ
     operated_then b = with_if b p.0 (without p.0 (list_of l.surgeon_days today))
@@ -168,7 +168,7 @@ module _ {I : Draft} {P : Timetable} {l : Theatres} (plan : IsPlanOf I P) (stand
     on-day : (Q : Timetable) → ((x : ℕ) → (x ≡ p.0 → ⊥) → stay_of Q x ≡ stay_of P x) → (b : Bool) (o : Option Placement) → stay_of Q p.0 ≡ o → b ≡ of_surgeon s d o
         → (over transfers : ℕ) → over ≡ minutes I (operated_then b) - most → transfers ≡ theatres_then b o - 1 → surgeon_part over transfers ≡ part_at I Q (SurgeonDay s d)
     on-day Q same b o now is over transfers over_is transfers_is =
-        surgeon-at plan stands p known Q same s d b o marks over transfers day (rw (stands.surgeon_days.nodes, today_is) at nodes) now (sym is)
+        surgeon-at plan stands p known Q same s d b o marks over transfers day now (sym is)
         (rw today_is at marked) (rw (today_is, most_is) at over_is) transfers_is
 
     pub surgeon-change : (over_before transfers_before over_after transfers_after : ℕ)

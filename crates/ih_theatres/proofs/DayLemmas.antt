@@ -1,15 +1,16 @@
 -- Lists of patients by day: what entering and leaving make of them, and what their sums and tests are.
-use Rattle.std.proofs.Common.{◌≡◌, ℕ, ◌*◌, ◌<◌, refl, arith, sym, ap, ◌∙◌, Bool, true, false, List, [], ◌∷◌, ◌++◌, inl, inr, Option, Some, None, length}
+use Rattle.std.proofs.Common.{◌≡◌, ℕ, ◌*◌, ◌<◌, refl, arith, sym, ap, subst, ◌∙◌, Bool, true, false, List, [], ◌∷◌, ◌++◌, inl, inr, Option, Some, None, length}
 use Rattle.std.specs.Prelude.{◌||◌, ◌==◌, map, slice_set, slice_index_or, sum_by, if◌then◌else◌}
 use Rattle.std.specs.List.{list_any}
 use Rattle.std.specs.Cmp.{both_ways}
 use Rattle.std.proofs.Math.ListN.{get_or-map}
 use Rattle.std.proofs.lemmas.List.{length-set, length-map, get_or-set_same, get_or-set_other}
-use Rattle.std.proofs.lemmas.Bool.{cases_eq, eq-eqb, ne_eqb, or_cases, or_left, or_right}
+use Rattle.std.proofs.lemmas.Bool.{cases_eq, eq-eqb, eqb-true, ne_eqb, or_cases, or_left, or_right}
 use Rattle.std.proofs.lemmas.List.Sums.{sum_by-cons}
 use Rattle.ih_tables.specs.declared.drafts.Draft.{Draft}
+use Rattle.ih_tables.specs.Sizes.{patient_count}
 use Rattle.ih_links.specs.Lists.{Linked, AreNodes, IsOnce, list_of, has, without, is_at}
-use Rattle.ih_links.proofs.Members.{has-append, has-here, has-there, has-cases, has-without_self, has-without_other}
+use Rattle.ih_links.proofs.Members.{has-append, has-here, has-there, has-cases, has-without_self, has-without_other, once-append, once-without, apart}
 use Rattle.ih_plan.specs.Sums.{sum_below, which_below}
 use Rattle.ih_plan.specs.Costs.{is_empty}
 use Rattle.ih_plan.proofs.Lists.{has-which_below, which_below-has}
@@ -18,29 +19,64 @@ use Rattle.ih_plan.proofs.SumLemmas.{sum_below-same, sum_below-but, sum_by-which
 use Rattle.ih_plan.proofs.SumBounds.{sum_below-none}
 use Rattle.ih_theatres.specs.Days.{AreDays}
 
+-- ---- patients of a list, each once
+
+pub nodes-append : {n : ℕ} {xs : List ℕ} (p : ℕ) → AreNodes n xs → p < n → has p xs ≡ false → AreNodes n (xs ++ p ∷ [])
+nodes-append {n} {xs} p known inside free = record {
+  below = λ x there. elim (or_cases (has x xs) (p == x) (sym (has-append x xs p) ∙ there)) [
+    | inl h ↦ known.below x h
+    | inr e ↦ subst (λ y. y < n) (eqb-true p x e) inside
+  ];
+  once = once-append xs p known.once free;
+}
+
+pub nodes-without : {n : ℕ} {xs : List ℕ} (p : ℕ) → AreNodes n xs → AreNodes n (without p xs)
+nodes-without {n} {xs} p known = record {
+  below = λ x there. known.below x (sym (has-without_other x p xs (apart x p (without p xs) there (has-without_self p xs))) ∙ there);
+  once = once-without p xs known.once;
+}
+
+-- ---- the lists of all days
+
 module _ {I : Draft} {n : ℕ} {day : ℕ → Option ℕ} {v : Linked} (a : AreDays I n day v) where
   -- who has no day is in no list
   pub days-free : (p : ℕ) → day p ≡ None → (h : ℕ) → has p (list_of v h) ≡ false
   days-free p none h = a.each h p ∙ ap (is_at h) none
 
-  -- who has a day is in a list
+  -- who has a day is in its list
+  pub days-there : (p h : ℕ) → day p ≡ Some h → has p (list_of v h) ≡ true
+  days-there p h some = a.each h p ∙ ap (is_at h) some ∙ eq-eqb h h refl
+
+  -- and in no other
+  pub days-away : (p h g : ℕ) → day p ≡ Some h → (g ≡ h → ⊥) → has p (list_of v g) ≡ false
+  days-away p h g some other = a.each g p ∙ ap (is_at g) some ∙ ne_eqb h g (λ e. other (sym e))
+
+  -- so in a list
   pub days-linked : (p h : ℕ) → day p ≡ Some h → (g : ℕ) × (has p (list_of v g) ≡ true)
-  days-linked p h some = (h, a.each h p ∙ ap (is_at h) some ∙ eq-eqb h h refl)
+  days-linked p h some = (h, days-there p h some)
 
   module _ {later : ℕ → Option ℕ} {w : Linked} (p : ℕ) (others : (x : ℕ) → (x ≡ p → ⊥) → later x ≡ day x) (nodes : w.nodes ≡ v.nodes) where
     -- a patient enters one of the days
-    pub days-entered : (h : ℕ) → h < n * I.days → day p ≡ None → later p ≡ Some h → w.lists ≡ slice_set v.lists h (list_of v h ++ p ∷ []) → AreDays I n later w
-    days-entered h below none some lists = record {
+    pub days-entered : (h : ℕ) → p < patient_count I → h < n * I.days → day p ≡ None → later p ≡ Some h → w.lists ≡ slice_set v.lists h (list_of v h ++ p ∷ []) → AreDays I n later w
+    days-entered h inside below none some lists = record {
       heads = ap length lists ∙ (length-set v.lists h (list_of v h ++ p ∷ []) ∙ a.heads);
       nodes = nodes ∙ a.nodes;
-      each = λ g x. ap (λ ls. has x (slice_index_or ls g [])) lists ∙ elim (cases_eq g h) [
-        | inl same ↦ rw same (
-            ap (has x) (get_or-set_same v.lists h (list_of v h ++ p ∷ []) [] (let e = a.heads in omega arith))
-            ∙ (has-append x (list_of v h) p ∙ here x))
-        | inr other ↦ ap (has x) (get_or-set_other v.lists h g (list_of v h ++ p ∷ []) [] other) ∙ elsewhere g x other
+      each = λ g x. elim (cases_eq g h) [
+        | inl same ↦ rw same (ap (has x) now ∙ (has-append x (list_of v h) p ∙ here x))
+        | inr other ↦ ap (has x) (still g other) ∙ elsewhere g x other
+      ];
+      known = λ g. elim (cases_eq g h) [
+        | inl same ↦ rw (same, now) (nodes-append p (a.known h) inside (days-free p none h))
+        | inr other ↦ rw (still g other) (a.known g)
       ];
     }
       where
+        now : list_of w h ≡ list_of v h ++ p ∷ []
+        now = ap (λ ls. slice_index_or ls h []) lists ∙ get_or-set_same v.lists h (list_of v h ++ p ∷ []) [] (let e = a.heads in omega arith)
+
+        still : (g : ℕ) → (g ≡ h → ⊥) → list_of w g ≡ list_of v g
+        still g other = ap (λ ls. slice_index_or ls g []) lists ∙ get_or-set_other v.lists h g (list_of v h ++ p ∷ []) [] other
+
         here : (x : ℕ) → (has x (list_of v h) || (p == x)) ≡ is_at h (later x)
         here x = elim (cases_eq x p) [
           | inl e ↦ rw (e, eq-eqb p p refl, some, eq-eqb h h refl) (any (has p (list_of v h)))
@@ -66,11 +102,15 @@ module _ {I : Draft} {n : ℕ} {day : ℕ → Option ℕ} {v : Linked} (a : AreD
     days-left none lists = record {
       heads = ap length lists ∙ (length-map v.lists (without p) ∙ a.heads);
       nodes = nodes ∙ a.nodes;
-      each = λ g x. ap (λ ls. has x (slice_index_or ls g [])) lists ∙ (ap (has x) (get_or-map (without p) v.lists g []) ∙ elim (cases_eq x p) [
+      each = λ g x. ap (has x) (still g) ∙ elim (cases_eq x p) [
         | inl e ↦ rw (e, none) (has-without_self p (list_of v g))
         | inr ne ↦ has-without_other x p (list_of v g) ne ∙ (a.each g x ∙ ap (is_at g) (sym (others x ne)))
-      ]);
+      ];
+      known = λ g. rw (still g) (nodes-without p (a.known g));
     }
+      where
+        still : (g : ℕ) → list_of w g ≡ without p (list_of v g)
+        still g = ap (λ ls. slice_index_or ls g []) lists ∙ get_or-map (without p) v.lists g []
 
 -- ---- lists of the same numbers, in any order
 

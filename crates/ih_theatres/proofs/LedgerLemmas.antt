@@ -1,10 +1,9 @@
 -- What an empty timetable, a patient's coming and a patient's going leave of a ledger.
-use Rattle.std.proofs.Common.{◌≡◌, ℕ, zero, suc, ◌*◌, ◌<◌, refl, arith, sym, ap, ◌∙◌, true, [], ◌∷◌, ◌++◌, inl, inr, Option, Some, None, length, replicate, mul_comm}
+use Rattle.std.proofs.Common.{◌≡◌, ℕ, zero, suc, ◌+◌, ◌-◌, ◌*◌, ◌≤◌, ◌<◌, refl, arith, sym, ap, ◌∙◌, true, [], ◌∷◌, ◌++◌, List, Option, Some, None, length, replicate, mul_comm}
 use Rattle.std.specs.Prelude.{map, option_map, slice_get, slice_set, slice_index_or, All, IfSome}
 use Rattle.std.proofs.Math.ListN.{get_or-map}
 use Rattle.std.proofs.lemmas.List.{map-set, length-map, length-replicate}
 use Rattle.std.proofs.lemmas.List.Elements.{All-from_get_or}
-use Rattle.std.proofs.lemmas.Option.{slice_get_cases}
 use Rattle.std.proofs.lemmas.Nat.{mul-add-lt}
 use Rattle.ih_tables.specs.declared.drafts.Draft.{Draft}
 use Rattle.ih_tables.specs.declared.drafts.Patient.{Patient}
@@ -17,13 +16,15 @@ use Rattle.ih_plan.specs.declared.moves.Placement.{Placement}
 use Rattle.ih_plan.specs.declared.moves.Write.TheVariants.{SetStay}
 use Rattle.ih_plan.specs.Timetable.{Timetable, empty, stay_of, IsPlanOf, IsPlacement}
 use Rattle.ih_plan.specs.Writes.{put}
-use Rattle.ih_plan.specs.Costs.{surgeon_of}
+use Rattle.ih_plan.specs.Costs.{surgeon_of, duration_of, minutes}
 use Rattle.ih_plan.proofs.Entries.{stay_of-other, stay_of-same}
 use Rattle.ih_plan.proofs.Overtime.{from-all}
 use Rattle.ih_theatres.specs.declared.theatres.Theatres.{Theatres}
 use Rattle.ih_theatres.specs.Days.{AreDays, day_number, theatre_day, surgeon_day}
 use Rattle.ih_theatres.specs.Ledger.{IsLedgerOf, theatre_in}
+use Rattle.ih_theatres.proofs.Told.{duration-is}
 use Rattle.ih_theatres.proofs.DayLemmas.{days-linked, days-entered, days-left}
+use Rattle.ih_theatres.proofs.MinuteLemmas.{blank, kept-below, kept-is, kept-most, kept-room, kept-enough, minutes-none, minutes-entered, minutes-left}
 use Rattle.ih_theatres.proofs.PartLemmas.{stay-read}
 
 -- ---- days
@@ -41,11 +42,6 @@ surgeon-known I p a is = ap (option_map (λ (a : Patient). a.surgeon_id.0)) is
 
 -- ---- the empty timetable
 
-blank : {A : Type 0} (n i : ℕ) (d : A) → slice_index_or (replicate n d) i d ≡ d
-blank zero i d = refl
-blank (suc n) zero d = refl
-blank (suc n) (suc i) d = blank n i d
-
 pub nobody : (I : Draft) (p : ℕ) → stay_of (empty I) p ≡ None
 nobody I p = stay-read (replicate (patient_count I) None) p ∙ blank (patient_count I) p None
 
@@ -58,16 +54,20 @@ days-none I n day v none lists nodes = record {
   heads = ap length lists ∙ length-replicate (n * I.days) [];
   nodes = nodes;
   each = λ h x. ap (λ ls. has x (slice_index_or ls h [])) lists ∙ (ap (has x) (blank (n * I.days) h []) ∙ ap (is_at h) (sym (none x)));
+  known = λ h. rw (lists, blank {A = List ℕ} (n * I.days) h []) record { below = λ x there. absurd (cc); once = tt };
 }
 
 pub ledger-new : (I : Draft) (l : Theatres) → l.theatres.items ≡ replicate (patient_count I) None
     → l.theatre_days.lists ≡ replicate (theatre_count I * I.days) [] → l.theatre_days.nodes ≡ patient_count I
-    → l.surgeon_days.lists ≡ replicate (surgeon_count I * I.days) [] → l.surgeon_days.nodes ≡ patient_count I → IsLedgerOf I (empty I) l
-ledger-new I l theatres t_lists t_nodes s_lists s_nodes = record {
+    → l.surgeon_days.lists ≡ replicate (surgeon_count I * I.days) [] → l.surgeon_days.nodes ≡ patient_count I
+    → l.theatre_minutes.items ≡ replicate (theatre_count I * I.days) 0 → l.surgeon_minutes.items ≡ replicate (surgeon_count I * I.days) 0 → IsLedgerOf I (empty I) l
+ledger-new I l theatres t_lists t_nodes s_lists s_nodes t_minutes s_minutes = record {
   theatres = theatres ∙ nowhere (patient_count I);
   theatre_days = days-none I (theatre_count I) (λ p. theatre_day I (stay_of (empty I) p)) l.theatre_days (λ x. ap (theatre_day I) (nobody I x)) t_lists t_nodes;
   surgeon_days = days-none I (surgeon_count I) (λ p. surgeon_day I (surgeon_of I p) (stay_of (empty I) p)) l.surgeon_days
       (λ x. ap (surgeon_day I (surgeon_of I x)) (nobody I x) ∙ no-stay I (surgeon_of I x)) s_lists s_nodes;
+  theatre_minutes = minutes-none I (theatre_count I * I.days) l.theatre_days l.theatre_minutes.items t_lists t_minutes;
+  surgeon_minutes = minutes-none I (surgeon_count I * I.days) l.surgeon_days l.surgeon_minutes.items s_lists s_minutes;
 }
 
 -- ---- theatres
@@ -85,6 +85,39 @@ module _ {I : Draft} {P : Timetable} {l : Theatres} (valid : IsValid I) (plan : 
       by_case : (i : ℕ) (o : Option Placement) → stay_of P i ≡ o → IfSome (theatre_in o) (λ (m : TheatreNo). m.0 < 64)
       by_case i None e = tt
       by_case i (Some at) e = let few = valid.theatres.len.most in let below = (plan.placed i at e).theatre in omega arith
+
+-- ---- what is kept for a day
+
+module _ {I : Draft} {P : Timetable} {l : Theatres} (stands : IsLedgerOf I P l) (d h : ℕ) (day : d < I.days) where
+  -- of theatre t
+  module _ (t : ℕ) (inside : t < theatre_count I) (today : h ≡ day_number I t d) where
+    t_here : h < theatre_count I * I.days
+    t_here = rw today (day-below I (theatre_count I) t d inside day)
+
+    pub theatre-kept : h < length l.theatre_minutes.items
+    theatre-kept = kept-below stands.theatre_days stands.theatre_minutes h t_here
+
+    module _ (x : ℕ) (read : x ≡ slice_index_or l.theatre_minutes.items h x) where
+      pub theatre-is : x ≡ minutes I (list_of l.theatre_days h)
+      theatre-is = kept-is stands.theatre_days stands.theatre_minutes h t_here x read
+
+      pub theatre-most : IsValid I → x ≤ 204800000
+      theatre-most = kept-most stands.theatre_days stands.theatre_minutes h t_here x read
+
+  -- of surgeon s
+  module _ (s : ℕ) (inside : s < surgeon_count I) (today : h ≡ day_number I s d) where
+    s_here : h < surgeon_count I * I.days
+    s_here = rw today (day-below I (surgeon_count I) s d inside day)
+
+    pub surgeon-kept : h < length l.surgeon_minutes.items
+    surgeon-kept = kept-below stands.surgeon_days stands.surgeon_minutes h s_here
+
+    module _ (x : ℕ) (read : x ≡ slice_index_or l.surgeon_minutes.items h x) where
+      pub surgeon-is : x ≡ minutes I (list_of l.surgeon_days h)
+      surgeon-is = kept-is stands.surgeon_days stands.surgeon_minutes h s_here x read
+
+      pub surgeon-most : IsValid I → x ≤ 204800000
+      surgeon-most = kept-most stands.surgeon_days stands.surgeon_minutes h s_here x read
 
 -- ---- a patient comes or goes
 
@@ -111,42 +144,93 @@ module _ {I : Draft} {P : Timetable} {l : Theatres} (valid : IsValid I) (plan : 
     theatres-later : slice_set l.theatres.items p.0 (theatre_in stay) ≡ map theatre_in later.stays
     theatres-later = ap (λ ts. slice_set ts p.0 (theatre_in stay)) stands.theatres ∙ sym (map-set theatre_in P.stays p.0 stay)
 
-  -- a patient comes
-  pub ledger-entered : (at : Placement) (a : Patient) (m : Theatres) → IsPlacement I at → stay_of P p.0 ≡ None → slice_get I.patients p.0 ≡ Some a
-      → m.theatres.items ≡ slice_set l.theatres.items p.0 (Some at.theatre)
-      → m.theatre_days.lists ≡ slice_set l.theatre_days.lists (day_number I at.theatre.0 at.day.0) (list_of l.theatre_days (day_number I at.theatre.0 at.day.0) ++ p.0 ∷ [])
-      → m.theatre_days.nodes ≡ l.theatre_days.nodes
-      → m.surgeon_days.lists ≡ slice_set l.surgeon_days.lists (day_number I a.surgeon_id.0 at.day.0) (list_of l.surgeon_days (day_number I a.surgeon_id.0 at.day.0) ++ p.0 ∷ [])
-      → m.surgeon_days.nodes ≡ l.surgeon_days.nodes
-      → IsLedgerOf I (put (SetStay p (Some at)) P) m
-  ledger-entered at a m fits out is theatres t_lists t_nodes s_lists s_nodes = record {
-    theatres = theatres ∙ theatres-later (Some at);
-    theatre_days = days-entered stands.theatre_days p.0 (t_others (Some at)) t_nodes (day_number I at.theatre.0 at.day.0)
-        (day-below I (theatre_count I) at.theatre.0 at.day.0 fits.theatre fits.day) (ap (theatre_day I) out) (t_own (Some at)) t_lists;
-    surgeon_days = days-entered stands.surgeon_days p.0 (s_others (Some at)) s_nodes (day_number I a.surgeon_id.0 at.day.0)
-        (day-below I (surgeon_count I) a.surgeon_id.0 at.day.0 (from-all (IsPatient I) I.patients p.0 a valid.each_patient is).surgeon fits.day)
-        (ap (surgeon_day I (surgeon_of I p.0)) out ∙ no-stay I (surgeon_of I p.0))
-        (s_own (Some at) ∙ ap (λ s. surgeon_day I s (Some at)) (surgeon-known I p.0 a is)) s_lists;
-  }
+  -- who isn't admitted has no day
+  no-theatre : stay_of P p.0 ≡ None → theatre_day I (stay_of P p.0) ≡ None
+  no-theatre out = ap (theatre_day I) out
 
-  -- a patient goes
-  pub ledger-left : (m : Theatres) → m.theatres.items ≡ slice_set l.theatres.items p.0 None
-      → m.theatre_days.lists ≡ map (without p.0) l.theatre_days.lists → m.theatre_days.nodes ≡ l.theatre_days.nodes
-      → m.surgeon_days.lists ≡ map (without p.0) l.surgeon_days.lists → m.surgeon_days.nodes ≡ l.surgeon_days.nodes
-      → IsLedgerOf I (put (SetStay p None) P) m
-  ledger-left m theatres t_lists t_nodes s_lists s_nodes = record {
-    theatres = theatres ∙ theatres-later None;
-    theatre_days = days-left stands.theatre_days p.0 (t_others None) t_nodes (t_own None) t_lists;
-    surgeon_days = days-left stands.surgeon_days p.0 (s_others None) s_nodes (s_own None ∙ no-stay I (surgeon_of I p.0)) s_lists;
-  }
+  no-surgeon : stay_of P p.0 ≡ None → surgeon_day I (surgeon_of I p.0) (stay_of P p.0) ≡ None
+  no-surgeon out = ap (surgeon_day I (surgeon_of I p.0)) out ∙ no-stay I (surgeon_of I p.0)
 
-  -- who is admitted is in a list of each kind
+  -- who is admitted has a day of each kind, so is in a list of each kind
+  in-theatre : (at : Placement) → stay_of P p.0 ≡ Some at → theatre_day I (stay_of P p.0) ≡ Some (day_number I at.theatre.0 at.day.0)
+  in-theatre at there = ap (theatre_day I) there
+
+  with-surgeon : (at : Placement) (a : Patient) → slice_get I.patients p.0 ≡ Some a → stay_of P p.0 ≡ Some at
+      → surgeon_day I (surgeon_of I p.0) (stay_of P p.0) ≡ Some (day_number I a.surgeon_id.0 at.day.0)
+  with-surgeon at a is there = ap (surgeon_day I (surgeon_of I p.0)) there ∙ ap (λ s. surgeon_day I s (Some at)) (surgeon-known I p.0 a is)
+
   pub in-theatres : (at : Placement) → stay_of P p.0 ≡ Some at → (h : ℕ) × (has p.0 (list_of l.theatre_days h) ≡ true)
-  in-theatres at there = days-linked stands.theatre_days p.0 (day_number I at.theatre.0 at.day.0) (ap (theatre_day I) there)
+  in-theatres at there = days-linked stands.theatre_days p.0 (day_number I at.theatre.0 at.day.0) (in-theatre at there)
 
-  pub in-surgeons : (at : Placement) → stay_of P p.0 ≡ Some at → (h : ℕ) × (has p.0 (list_of l.surgeon_days h) ≡ true)
-  in-surgeons at there = elim (slice_get_cases I.patients p.0).1 [
-    | inl w ↦ days-linked stands.surgeon_days p.0 (day_number I w.0.surgeon_id.0 at.day.0)
-        (ap (surgeon_day I (surgeon_of I p.0)) there ∙ ap (λ s. surgeon_day I s (Some at)) (surgeon-known I p.0 w.0 w.2))
-    | inr past ↦ absurd (omega arith)
-  ]
+  pub in-surgeons : (at : Placement) (a : Patient) → slice_get I.patients p.0 ≡ Some a → stay_of P p.0 ≡ Some at → (h : ℕ) × (has p.0 (list_of l.surgeon_days h) ≡ true)
+  in-surgeons at a is there = days-linked stands.surgeon_days p.0 (day_number I a.surgeon_id.0 at.day.0) (with-surgeon at a is there)
+
+  module _ (at : Placement) (a : Patient) (is : slice_get I.patients p.0 ≡ Some a) (fits : IsPlacement I at) where
+    abbrev at_theatre : ℕ
+    at_theatre = day_number I at.theatre.0 at.day.0
+
+    abbrev at_surgeon : ℕ
+    at_surgeon = day_number I a.surgeon_id.0 at.day.0
+
+    mine : a.surgery_duration ≡ duration_of I p.0
+    mine = sym (duration-is I p.0 a is)
+
+    t_below : at_theatre < theatre_count I * I.days
+    t_below = day-below I (theatre_count I) at.theatre.0 at.day.0 fits.theatre fits.day
+
+    s_below : at_surgeon < surgeon_count I * I.days
+    s_below = day-below I (surgeon_count I) a.surgeon_id.0 at.day.0 (from-all (IsPatient I) I.patients p.0 a valid.each_patient is).surgeon fits.day
+
+    -- the days have minutes
+    pub theatre-below : at_theatre < length l.theatre_minutes.items
+    theatre-below = kept-below stands.theatre_days stands.theatre_minutes at_theatre t_below
+
+    pub surgeon-below : at_surgeon < length l.surgeon_minutes.items
+    surgeon-below = kept-below stands.surgeon_days stands.surgeon_minutes at_surgeon s_below
+
+    -- x is what is kept for the day of the theatre, or of the surgeon
+    module _ (x : ℕ) (t_read : x ≡ slice_index_or l.theatre_minutes.items at_theatre x) where
+      pub theatre-room : stay_of P p.0 ≡ None → x + a.surgery_duration ≤ 204800000
+      theatre-room out = kept-room stands.theatre_days stands.theatre_minutes at_theatre t_below x t_read p.0 a.surgery_duration mine valid known (no-theatre out)
+
+      pub theatre-enough : stay_of P p.0 ≡ Some at → a.surgery_duration ≤ x
+      theatre-enough there = kept-enough stands.theatre_days stands.theatre_minutes at_theatre t_below x t_read p.0 a.surgery_duration mine (in-theatre at there)
+
+    module _ (x : ℕ) (s_read : x ≡ slice_index_or l.surgeon_minutes.items at_surgeon x) where
+      pub surgeon-room : stay_of P p.0 ≡ None → x + a.surgery_duration ≤ 204800000
+      surgeon-room out = kept-room stands.surgeon_days stands.surgeon_minutes at_surgeon s_below x s_read p.0 a.surgery_duration mine valid known (no-surgeon out)
+
+      pub surgeon-enough : stay_of P p.0 ≡ Some at → a.surgery_duration ≤ x
+      surgeon-enough there = kept-enough stands.surgeon_days stands.surgeon_minutes at_surgeon s_below x s_read p.0 a.surgery_duration mine (with-surgeon at a is there)
+
+    module _ (m : Theatres) (x y : ℕ) (t_read : x ≡ slice_index_or l.theatre_minutes.items at_theatre x) (s_read : y ≡ slice_index_or l.surgeon_minutes.items at_surgeon y) where
+      -- a patient comes
+      pub ledger-entered : stay_of P p.0 ≡ None → m.theatres.items ≡ slice_set l.theatres.items p.0 (Some at.theatre)
+          → m.theatre_days.lists ≡ slice_set l.theatre_days.lists at_theatre (list_of l.theatre_days at_theatre ++ p.0 ∷ []) → m.theatre_days.nodes ≡ l.theatre_days.nodes
+          → m.surgeon_days.lists ≡ slice_set l.surgeon_days.lists at_surgeon (list_of l.surgeon_days at_surgeon ++ p.0 ∷ []) → m.surgeon_days.nodes ≡ l.surgeon_days.nodes
+          → m.theatre_minutes.items ≡ slice_set l.theatre_minutes.items at_theatre (x + a.surgery_duration)
+          → m.surgeon_minutes.items ≡ slice_set l.surgeon_minutes.items at_surgeon (y + a.surgery_duration)
+          → IsLedgerOf I (put (SetStay p (Some at)) P) m
+      ledger-entered out theatres t_lists t_nodes s_lists s_nodes t_minutes s_minutes = record {
+        theatres = theatres ∙ theatres-later (Some at);
+        theatre_days = days-entered stands.theatre_days p.0 (t_others (Some at)) t_nodes at_theatre known t_below (no-theatre out) (t_own (Some at)) t_lists;
+        surgeon_days = days-entered stands.surgeon_days p.0 (s_others (Some at)) s_nodes at_surgeon known s_below (no-surgeon out)
+            (s_own (Some at) ∙ ap (λ s. surgeon_day I s (Some at)) (surgeon-known I p.0 a is)) s_lists;
+        theatre_minutes = minutes-entered stands.theatre_days stands.theatre_minutes at_theatre t_below x t_read p.0 a.surgery_duration mine t_lists t_minutes;
+        surgeon_minutes = minutes-entered stands.surgeon_days stands.surgeon_minutes at_surgeon s_below y s_read p.0 a.surgery_duration mine s_lists s_minutes;
+      }
+
+      -- a patient goes
+      pub ledger-left : stay_of P p.0 ≡ Some at → m.theatres.items ≡ slice_set l.theatres.items p.0 None
+          → m.theatre_days.lists ≡ map (without p.0) l.theatre_days.lists → m.theatre_days.nodes ≡ l.theatre_days.nodes
+          → m.surgeon_days.lists ≡ map (without p.0) l.surgeon_days.lists → m.surgeon_days.nodes ≡ l.surgeon_days.nodes
+          → m.theatre_minutes.items ≡ slice_set l.theatre_minutes.items at_theatre (x - a.surgery_duration)
+          → m.surgeon_minutes.items ≡ slice_set l.surgeon_minutes.items at_surgeon (y - a.surgery_duration)
+          → IsLedgerOf I (put (SetStay p None) P) m
+      ledger-left there theatres t_lists t_nodes s_lists s_nodes t_minutes s_minutes = record {
+        theatres = theatres ∙ theatres-later None;
+        theatre_days = days-left stands.theatre_days p.0 (t_others None) t_nodes (t_own None) t_lists;
+        surgeon_days = days-left stands.surgeon_days p.0 (s_others None) s_nodes (s_own None ∙ no-stay I (surgeon_of I p.0)) s_lists;
+        theatre_minutes = minutes-left stands.theatre_days stands.theatre_minutes at_theatre t_below x t_read p.0 a.surgery_duration mine (in-theatre at there) t_lists t_minutes;
+        surgeon_minutes = minutes-left stands.surgeon_days stands.surgeon_minutes at_surgeon s_below y s_read p.0 a.surgery_duration mine (with-surgeon at a is there) s_lists s_minutes;
+      }

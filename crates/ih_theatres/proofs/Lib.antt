@@ -2,6 +2,7 @@ pub mod Told
 pub mod MarkLemmas
 pub mod DayLemmas
 pub mod PartLemmas
-pub mod LedgerLemmas
 pub mod OtherLemmas
+pub mod MinuteLemmas
+pub mod LedgerLemmas
 pub mod ChangeLemmas

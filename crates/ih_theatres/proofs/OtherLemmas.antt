@@ -162,13 +162,13 @@ theatre-inside I (Some at) fits = fits.theatre
 
 module _ {I : Draft} {P : Timetable} {l : Theatres} (plan : IsPlanOf I P) (stands : IsLedgerOf I P l) (p : PatientNo) (known : p.0 < patient_count I)
     (Q : Timetable) (same : (x : ℕ) → (x ≡ p.0 → ⊥) → stay_of Q x ≡ stay_of P x) where
-  pub theatre-at : (t : TheatreNo) (d : Day) (b : Bool) (over used : ℕ) → d.0 < I.days → AreNodes (patient_count I) (list_of l.theatre_days (day_number I t.0 d.0))
-      → operated_in t.0 d.0 (stay_of Q p.0) ≡ b
+  pub theatre-at : (t : TheatreNo) (d : Day) (b : Bool) (over used : ℕ) → d.0 < I.days → operated_in t.0 d.0 (stay_of Q p.0) ≡ b
       → over ≡ minutes I (with_if b p.0 (without p.0 (list_of l.theatre_days (day_number I t.0 d.0)))) - theatre_minutes I t.0 d.0
       → used ≡ bit (not (is_empty (with_if b p.0 (without p.0 (list_of l.theatre_days (day_number I t.0 d.0))))))
       → theatre_part over used ≡ part_at I Q (TheatreDay t d)
   unfolding part_of content_of operated
-  theatre-at t d b over used dh nodes own over_is used_is =
+  theatre-at t d b over used dh own over_is used_is =
+      let nodes = stands.theatre_days.known (day_number I t.0 d.0) in
       let before : ℕ → Bool = λ x. operated_in t.0 d.0 (stay_of P x) in
       let after : ℕ → Bool = λ x. operated_in t.0 d.0 (stay_of Q x) in
       let some = some-known nodes p.0 known b in
@@ -202,14 +202,14 @@ module _ {I : Draft} {P : Timetable} {l : Theatres} (plan : IsPlanOf I P) (stand
           ∙ (sym (any-map (theatre_at l.theatres.items) (λ o. is_number o t) (without p.0 xs)) ∙ sym (marked t))
 
   pub surgeon-at : (s : SurgeonNo) (d : Day) (b : Bool) (stay : Option Placement) (marks : List Bool) (over transfers : ℕ) → d.0 < I.days
-      → AreNodes (patient_count I) (list_of l.surgeon_days (day_number I s.0 d.0))
       → stay_of Q p.0 ≡ stay → (is_number (surgeon_of I p.0) s.0 && admitted_on d.0 stay) ≡ b
       → ((t : ℕ) → is_marked marks t ≡ list_any (λ o. is_number o t) (map (theatre_at l.theatres.items) (without p.0 (list_of l.surgeon_days (day_number I s.0 d.0)))))
       → over ≡ minutes I (with_if b p.0 (without p.0 (list_of l.surgeon_days (day_number I s.0 d.0)))) - surgeon_minutes I s.0 d.0
       → transfers ≡ count_below (theatre_count I) (λ t. is_marked marks t || (b && is_number (option_map (λ (at : Placement). at.theatre.0) stay) t)) - 1
       → surgeon_part over transfers ≡ part_at I Q (SurgeonDay s d)
   unfolding part_of content_of operated_by
-  surgeon-at s d b stay marks over transfers dh nodes now own marked over_is transfers_is =
+  surgeon-at s d b stay marks over transfers dh now own marked over_is transfers_is =
+      let nodes = stands.surgeon_days.known (day_number I s.0 d.0) in
       let before : ℕ → Bool = λ x. is_number (surgeon_of I x) s.0 && admitted_on d.0 (stay_of P x) in
       let after : ℕ → Bool = λ x. is_number (surgeon_of I x) s.0 && admitted_on d.0 (stay_of Q x) in
       let some = some-known nodes p.0 known b in

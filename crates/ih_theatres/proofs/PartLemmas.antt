@@ -80,12 +80,13 @@ module _ {I : Draft} {P : Timetable} {l : Theatres} (plan : IsPlanOf I P) (stand
 
   -- ---- the parts
 
-  pub theatre-part : (t : TheatreNo) (d : Day) (over used : ℕ) → d.0 < I.days → AreNodes (patient_count I) (list_of l.theatre_days (day_number I t.0 d.0))
+  pub theatre-part : (t : TheatreNo) (d : Day) (over used : ℕ) → d.0 < I.days
       → over ≡ minutes I (list_of l.theatre_days (day_number I t.0 d.0)) - theatre_minutes I t.0 d.0
       → used ≡ bit (not (is_empty (list_of l.theatre_days (day_number I t.0 d.0))))
       → theatre_part over used ≡ part_at I P (TheatreDay t d)
   unfolding part_of content_of operated
-  theatre-part t d over used dh known over_is used_is =
+  theatre-part t d over used dh over_is used_is =
+      let known = stands.theatre_days.known (day_number I t.0 d.0) in
       let each = theatre-each t.0 d.0 dh in
       let sum = sum-of_passing known (λ p. operated_in t.0 d.0 (stay_of P p)) each (duration_of I) in
       let none = empty-of_passing known (λ p. operated_in t.0 d.0 (stay_of P p)) each in
@@ -110,12 +111,13 @@ module _ {I : Draft} {P : Timetable} {l : Theatres} (plan : IsPlanOf I P) (stand
       any-map q [] = refl
       any-map q (y ∷ ys) = let here = known_at y in let rest = any-map q ys in rw (here, rest) refl
 
-  pub surgeon-part : (s : SurgeonNo) (d : Day) (over transfers : ℕ) → d.0 < I.days → AreNodes (patient_count I) (list_of l.surgeon_days (day_number I s.0 d.0))
+  pub surgeon-part : (s : SurgeonNo) (d : Day) (over transfers : ℕ) → d.0 < I.days
       → over ≡ minutes I (list_of l.surgeon_days (day_number I s.0 d.0)) - surgeon_minutes I s.0 d.0
       → transfers ≡ theatres_used I (map (theatre_at l.theatres.items) (list_of l.surgeon_days (day_number I s.0 d.0))) - 1
       → surgeon_part over transfers ≡ part_at I P (SurgeonDay s d)
   unfolding part_of content_of operated_by
-  surgeon-part s d over transfers dh known over_is transfers_is =
+  surgeon-part s d over transfers dh over_is transfers_is =
+      let known = stands.surgeon_days.known (day_number I s.0 d.0) in
       let passing : ℕ → Bool = λ p. is_number (surgeon_of I p) s.0 && admitted_on d.0 (stay_of P p) in
       let each = surgeon-each s.0 d.0 dh in
       let sum = sum-of_passing known passing each (duration_of I) in

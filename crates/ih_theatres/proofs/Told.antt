@@ -1,17 +1,17 @@
 -- Loops over a list from node to node: what the nodes told so far give, and that they are few.
-use Rattle.std.proofs.Common.{◌≡◌, ℕ, ◌+◌, ◌*◌, ◌≤◌, refl, arith, ap, subst, List, [], ◌∷◌, ◌++◌, length, length-append, Option, Some, None}
+use Rattle.std.proofs.Common.{◌≡◌, ℕ, ◌*◌, ◌≤◌, refl, arith, ap, subst, List, [], ◌∷◌, ◌++◌, length, Option, Some, None}
 use Rattle.std.specs.Prelude.{slice_get}
 use Rattle.std.specs.Option.{option_map_or}
-use Rattle.std.proofs.lemmas.List.Sums.{sum_by-append, sum_by-le}
+use Rattle.std.proofs.lemmas.List.Sums.{sum_by-le}
 use Rattle.ih_tables.specs.declared.drafts.Draft.{Draft}
 use Rattle.ih_tables.specs.declared.drafts.Patient.{Patient}
 use Rattle.ih_tables.specs.Sizes.{patient_count}
 use Rattle.ih_tables.specs.Valid.{IsValid, IsPatient}
 use Rattle.ih_plan.specs.Costs.{duration_of, minutes}
 use Rattle.ih_plan.proofs.Overtime.{from-all}
-use Rattle.ih_links.specs.Lists.{AreNodes, following, first_of, rest_from}
+use Rattle.ih_links.specs.Lists.{AreNodes, following, first_of}
 use Rattle.ih_links.proofs.Members.{length-once}
-use Rattle.ih_links.proofs.Walks.{IsWalk, walk-begins, walk-goes_on, walk-ends, walk-shrinks}
+use Rattle.ih_links.proofs.Walks.{IsWalk, walk-begins, walk-goes_on, walk-ends}
 
 -- The walk is at this node, and Q holds of the nodes told before.
 pub record Told (nodes : ℕ) (xs : List ℕ) (at : Option ℕ) (Q : List ℕ → Type 0) : Type 0 where
@@ -33,19 +33,7 @@ told-goes_on {x = x} t here next_is step = record {
 pub told-ends : {Q : List ℕ → Type 0} {nodes : ℕ} {xs : List ℕ} {at : Option ℕ} (t : Told nodes xs at Q) → at ≡ None → Q xs
 told-ends {Q} {nodes} {xs} t past = subst Q (walk-ends nodes xs t.told (subst (IsWalk nodes xs t.told) past t.walk)) t.so_far
 
--- a node more is still one of the nodes
-pub told-few : {Q : List ℕ → Type 0} {nodes x : ℕ} {xs : List ℕ} {at : Option ℕ} (t : Told nodes xs at Q) → at ≡ Some x → length t.told + 1 ≤ nodes
-told-few {nodes = nodes} {x = x} {xs = xs} {at = at} t here =
-    let few = length-once nodes xs t.walk.known.once t.walk.known.below in
-    let less = walk-shrinks t.walk here refl in
-    let whole = ap length t.walk.whole in
-    let parts = length-append t.told (rest_from at xs) in
-    omega arith
-
 -- ---- minutes
-
-pub minutes-more : (I : Draft) (told : List ℕ) (x : ℕ) → minutes I (told ++ x ∷ []) ≡ minutes I told + duration_of I x
-minutes-more I told x = let e = sum_by-append (duration_of I) told (x ∷ []) in omega arith
 
 duration-most : (I : Draft) (p : ℕ) → IsValid I → duration_of I p ≤ 100000
 duration-most I p valid = by_case (slice_get I.patients p) refl
@@ -59,15 +47,6 @@ pub minutes-most : (I : Draft) (xs : List ℕ) (n : ℕ) → IsValid I → lengt
 minutes-most I xs n valid few =
     let each = sum_by-le (duration_of I) 100000 xs (λ i d h. duration-most I _ valid) in
     omega (arith, each)
-
--- one patient more among the told ones
-pub minutes-room : (I : Draft) (told : List ℕ) (p : ℕ) (a : Patient) → IsValid I → length told + 1 ≤ patient_count I → slice_get I.patients p ≡ Some a
-    → minutes I told + a.surgery_duration ≤ 204800000
-minutes-room I told p a valid few is =
-    let most = minutes-most I told (length told) valid (omega arith) in
-    let mine = (from-all (IsPatient I) I.patients p a valid.each_patient is).duration in
-    let all : patient_count I ≤ 2048 = valid.patients.len.most in
-    omega arith
 
 pub duration-is : (I : Draft) (p : ℕ) (a : Patient) → slice_get I.patients p ≡ Some a → duration_of I p ≡ a.surgery_duration
 duration-is I p a is = ap (λ o. option_map_or (λ (a : Patient). a.surgery_duration) o 0) is

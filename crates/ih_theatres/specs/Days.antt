@@ -1,10 +1,11 @@
 -- Lists of patients by the days of theatres or of surgeons, and what they tell.
-use Rattle.std.specs.Prelude.{◌≡◌, ℕ, ◌+◌, ◌*◌, Bool, true, false, List, [], ◌∷◌, ◌++◌, Option, Some, None, length, option_map, slice_index_or}
+use Rattle.std.specs.Prelude.{◌≡◌, ℕ, ◌+◌, ◌*◌, Bool, true, false, List, [], ◌∷◌, ◌++◌, Option, Some, None, length, option_map, slice_index, slice_index_or}
 use Rattle.ih_tables.specs.declared.drafts.Draft.{Draft}
 use Rattle.ih_tables.specs.declared.ids.TheatreNo.{TheatreNo}
 use Rattle.ih_tables.specs.Sizes.{patient_count}
-use Rattle.ih_links.specs.Lists.{Linked, list_of, has, is_at}
+use Rattle.ih_links.specs.Lists.{AreNodes, Linked, list_of, has, is_at}
 use Rattle.ih_plan.specs.declared.moves.Placement.{Placement}
+use Rattle.ih_plan.specs.Costs.{minutes}
 
 -- the number of a day of theatre or surgeon n
 abbrev pub day_number : Draft → ℕ → ℕ → ℕ
@@ -21,11 +22,17 @@ surgeon_day I s None = None
 surgeon_day I None (Some at) = None
 surgeon_day I (Some s) (Some at) = Some (day_number I s at.day.0)
 
--- There is a list for each day of n theatres or surgeons, and each patient is in the list of the patient's day, and in no other.
+-- There is a list of patients for each day of n theatres or surgeons, and each patient is in the list of the patient's day, once, and in no other.
 pub record AreDays (I : Draft) (n : ℕ) (day : ℕ → Option ℕ) (v : Linked) : Type 0 where
   pub heads : length v.lists ≡ n * I.days
   pub nodes : v.nodes ≡ patient_count I
   pub each : (h x : ℕ) → has x (list_of v h) ≡ is_at h (day x)
+  pub known : (h : ℕ) → AreNodes (patient_count I) (list_of v h)
+
+-- For each list, the minutes of surgery of its patients.
+pub record AreMinutes (I : Draft) (v : Linked) (kept : List ℕ) : Type 0 where
+  pub len : length kept ≡ length v.lists
+  pub sums : (h : ℕ) → slice_index kept h ≡ minutes I (list_of v h)
 
 -- the theatre of patient p, in the list of all patients' theatres
 abbrev pub theatre_at : List (Option TheatreNo) → ℕ → Option ℕ

@@ -2,7 +2,7 @@
 
 ghost use Rattle.std.specs.Prelude.{◌≡◌, ◌<◌, ◌≤◌, ◌+◌, ◌-◌, ◌&&◌, ◌||◌, ℕ, List, not, map, length, slice_index_or, ◌==◌, option_map, IfSome, All, if◌then◌else◌, None, true, false};
 ghost use Rattle.std.specs.List.{list_any};
-ghost use Rattle.ih_links.specs.Lists.{list_of, has, without, AreNodes, IsOnce};
+ghost use Rattle.ih_links.specs.Lists.{list_of, has, without, IsOnce};
 ghost use Rattle.ih_tables.specs.declared.ids.TheatreNo.{TheatreNo};
 ghost use Rattle.ih_tables.specs.Sizes.{patient_count, theatre_count};
 ghost use Rattle.ih_plan.specs.Costs.{minutes, is_empty, is_number, operated_in, admitted_on, surgeon_of};
@@ -12,7 +12,6 @@ ghost use Rattle.ih_plan.specs.Timetable.{IsPlacement};
 ghost use Rattle.ih_theatres.specs.Days.{theatre_at, with_if};
 ghost use Rattle.ih_theatres.specs.Marks.{is_marked, is_unmarked};
 
-use crate::days::minutes;
 use crate::marks::{bit, count_marked, mark};
 use crate::parts::DayCounts;
 use ih_links::Links;
@@ -20,6 +19,7 @@ use ih_plan::Placement;
 use ih_tables::{Day, Instance, PatientNo, SurgeonNo, TheatreNo};
 
 /// A patient with this stay has surgery in the theatre on the day.
+#[inline(always)]
 pub fn is_operated_in(stay: Option<Placement>, t: TheatreNo, d: Day) -> bool
     ensures { result ≡ operated_in t.0 d.0 stay }
 {
@@ -39,6 +39,7 @@ fn is_admitted_on(stay: Option<Placement>, d: Day) -> bool
 }
 
 /// The patient is the surgeon's, and with this stay has surgery on the day.
+#[inline(always)]
 pub fn is_operated_by(
     inst: &Instance,
     p: PatientNo,
@@ -66,6 +67,7 @@ fn are_in_one_theatre(old: Option<Placement>, new: Option<Placement>) -> bool
 }
 
 /// A surgeon's day stays as it is: the patient was there where it will be, and in the same theatre.
+#[inline(always)]
 pub fn is_kept(was: bool, will: bool, old: Option<Placement>, new: Option<Placement>) -> bool
     ensures away { was ≡ false → will ≡ false → result ≡ true }
     ensures presence { result ≡ true → was ≡ will }
@@ -78,17 +80,14 @@ pub fn is_kept(was: bool, will: bool, old: Option<Placement>, new: Option<Placem
     }
 }
 
-/// The minutes of surgery of the patients in a list but p, who is there or not.
-pub fn minutes_but(inst: &Instance, links: &Links, head: u32, p: PatientNo, there: bool) -> u32
-    requires head { head < length links.now.lists }
-    requires patients { links.now.nodes ≡ patient_count inst.now.draft }
+/// The minutes of surgery of all patients of a list but p, who is there or not, from those of the whole list.
+#[inline(always)]
+pub fn minutes_but(inst: &Instance, all: u32, p: PatientNo, there: bool) -> u32
     requires patient { p.0 < patient_count inst.now.draft }
-    requires there { there ≡ has p.0 (list_of links.now head) }
-    ensures sum { result ≡ minutes inst.now.draft (without p.0 (list_of links.now head)) }
-    ensures bound { result ≤ 204800000 }
-    ensures nodes { AreNodes links.now.nodes (list_of links.now head) }
+    requires list { (xs : List ℕ) × IsOnce xs × (all ≡ minutes inst.now.draft xs) × (there ≡ has p.0 xs) }
+    ensures sum { (xs : List ℕ) → IsOnce xs → all ≡ minutes inst.now.draft xs → there ≡ has p.0 xs → result ≡ minutes inst.now.draft (without p.0 xs) }
+    ensures bound { result ≤ all }
 {
-    let all = minutes(inst, links, head);
     if there {
         all - inst.patient(p).surgery_duration
     } else {
@@ -97,6 +96,7 @@ pub fn minutes_but(inst: &Instance, links: &Links, head: u32, p: PatientNo, ther
 }
 
 /// The minutes above a maximum of patients with so many minutes, and of p too where p is there.
+#[inline(always)]
 pub fn minutes_above(inst: &Instance, others: u32, p: PatientNo, there: bool, most: u32) -> u32
     requires patient { p.0 < patient_count inst.now.draft }
     requires bound { others ≤ 204800000 }
@@ -179,6 +179,7 @@ pub fn theatres_with(inst: &Instance, marks: &[bool], there: bool, stay: Option<
 }
 
 /// What a theatre's day breaks and costs with patients of so many minutes, if any, and p too where p is there.
+#[inline(always)]
 pub fn theatre_counts(
     inst: &Instance,
     others: u32,
@@ -200,6 +201,7 @@ pub fn theatre_counts(
 
 /// What a surgeon's day breaks and costs with patients of so many minutes in the marked theatres, and p too, by this
 /// stay, where p is there.
+#[inline(always)]
 pub fn surgeon_counts(
     inst: &Instance,
     others: u32,

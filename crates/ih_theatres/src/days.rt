@@ -1,15 +1,15 @@
-//! Walks over the patients of a day.
+//! Numbers of days, and walks over the patients of a day.
 
 ghost use Rattle.std.specs.Prelude.{◌≡◌, ◌<◌, ◌≤◌, ◌*◌, not, map, length, All, IfSome};
-ghost use Rattle.ih_links.specs.Lists.{list_of, AreNodes};
+ghost use Rattle.ih_links.specs.Lists.{list_of};
 ghost use Rattle.ih_tables.specs.declared.ids.TheatreNo.{TheatreNo};
 ghost use Rattle.ih_tables.specs.Sizes.{patient_count};
-ghost use Rattle.ih_plan.specs.Costs.{minutes, is_empty, theatres_used};
+ghost use Rattle.ih_plan.specs.Costs.{is_empty, theatres_used};
 ghost use Rattle.ih_theatres.specs.Days.{day_number, theatre_at};
 
 use crate::marks::{count_marked, mark};
 use ih_links::Links;
-use ih_tables::{Day, Instance, PatientNo, TheatreNo};
+use ih_tables::{Day, Instance, TheatreNo};
 
 /// How many days `rows` theatres or surgeons have.
 pub fn day_count(inst: &Instance, rows: u32) -> u32
@@ -20,6 +20,7 @@ pub fn day_count(inst: &Instance, rows: u32) -> u32
 }
 
 /// The number of a day of theatre or surgeon `row`.
+#[inline(always)]
 pub fn day_number(inst: &Instance, row: u32, d: Day) -> u32
     requires row { row < 128 }
     requires day { d.0 < inst.now.draft.days }
@@ -34,23 +35,6 @@ pub fn is_used(links: &Links, head: u32) -> bool
     ensures { result ≡ not (is_empty (list_of links.now head)) }
 {
     links.first(head).is_some()
-}
-
-/// The minutes of surgery of the patients in a list.
-pub fn minutes(inst: &Instance, links: &Links, head: u32) -> u32
-    requires head { head < length links.now.lists }
-    requires patients { links.now.nodes ≡ patient_count inst.now.draft }
-    ensures sum { result ≡ minutes inst.now.draft (list_of links.now head) }
-    ensures bound { result ≤ 204800000 }
-    ensures nodes { AreNodes links.now.nodes (list_of links.now head) }
-{
-    let mut sum = 0;
-    let mut at = links.first(head);
-    while let Some(p) = at {
-        sum += inst.patient(PatientNo(p)).surgery_duration;
-        at = links.next(p);
-    }
-    sum
 }
 
 /// How many theatres the patients in a list have among them.

@@ -9,6 +9,7 @@ ghost use Rattle.ih_theatres.specs.Marks.{is_marked};
 use ih_tables::TheatreNo;
 
 /// 1 for true and 0 for false.
+#[inline(always)]
 pub fn bit(yes: bool) -> u32
     ensures value { result ≡ bit yes }
     ensures bound { result ≤ 1 }
@@ -17,6 +18,7 @@ pub fn bit(yes: bool) -> u32
 }
 
 /// Marks the theatre, where there is one.
+#[inline(always)]
 pub fn mark(marks: &mut [bool], t: Option<TheatreNo>)
     requires { IfSome t (λ m. m.0 < length marks.old) }
     ensures len { length marks.new ≡ length marks.old }

@@ -17,7 +17,7 @@ use crate::changes::{
     is_kept, is_operated_by, is_operated_in, is_used_by_others, minutes_but, surgeon_counts,
     theatre_counts, theatres_but,
 };
-use crate::days::{day_count, day_number, is_used, minutes, theatres_used};
+use crate::days::{day_count, day_number, is_used, theatres_used};
 use crate::marks::bit;
 use crate::parts::{surgeon_change, surgeon_part, theatre_change, theatre_part};
 use ih_links::Links;
@@ -33,6 +33,9 @@ pub struct Theatres {
     // The patients of each day of each theatre, and of each surgeon, both by `day_number`.
     theatre_days: Links,
     surgeon_days: Links,
+    // The minutes of surgery of the patients of each of these days.
+    theatre_minutes: Vec<u32>,
+    surgeon_minutes: Vec<u32>,
 }
 
 /// The minutes that a theatre is available on a day.
@@ -69,13 +72,19 @@ impl Theatres {
         ensures { IfOk result (λ l. IsLedgerOf inst.now.draft (empty inst.now.draft) l) }
     {
         let patients = inst.patients();
-        let theatre_days = Links::new(alloc, day_count(inst, inst.theatres()), patients)?;
-        let surgeon_days = Links::new(alloc, day_count(inst, inst.surgeons()), patients)?;
+        let of_theatres = day_count(inst, inst.theatres());
+        let of_surgeons = day_count(inst, inst.surgeons());
+        let theatre_days = Links::new(alloc, of_theatres, patients)?;
+        let surgeon_days = Links::new(alloc, of_surgeons, patients)?;
+        let theatre_minutes = vec![in alloc; 0; of_theatres as usize]?;
+        let surgeon_minutes = vec![in alloc; 0; of_surgeons as usize]?;
         let theatres = vec![in alloc; None; patients as usize]?;
         Ok(Theatres {
             theatres,
             theatre_days,
             surgeon_days,
+            theatre_minutes,
+            surgeon_minutes,
         })
     }
 
@@ -87,11 +96,13 @@ impl Theatres {
         ensures { (P : Timetable) → IsPlanOf inst.now.draft P → IsLedgerOf inst.now.draft P self.old → stay_of P p.0 ≡ None
             → IsLedgerOf inst.now.draft (put (SetStay p (Some at)) P) self.new }
     {
-        let surgeon = inst.patient(p).surgeon_id;
-        self.theatre_days
-            .push_back(day_number(inst, at.theatre.0, at.day), p.0);
-        self.surgeon_days
-            .push_back(day_number(inst, surgeon.0, at.day), p.0);
+        let patient = inst.patient(p);
+        let theatre_day = day_number(inst, at.theatre.0, at.day);
+        let surgeon_day = day_number(inst, patient.surgeon_id.0, at.day);
+        self.theatre_days.push_back(theatre_day, p.0);
+        self.surgeon_days.push_back(surgeon_day, p.0);
+        self.theatre_minutes[theatre_day as usize] += patient.surgery_duration;
+        self.surgeon_minutes[surgeon_day as usize] += patient.surgery_duration;
         self.theatres[p.0 as usize] = Some(at.theatre);
     }
 
@@ -102,8 +113,13 @@ impl Theatres {
         ensures { (P : Timetable) → IsPlanOf inst.now.draft P → IsLedgerOf inst.now.draft P self.old → stay_of P p.0 ≡ Some at
             → IsLedgerOf inst.now.draft (put (SetStay p None) P) self.new }
     {
+        let patient = inst.patient(p);
+        let theatre_day = day_number(inst, at.theatre.0, at.day);
+        let surgeon_day = day_number(inst, patient.surgeon_id.0, at.day);
         self.theatre_days.remove(p.0);
         self.surgeon_days.remove(p.0);
+        self.theatre_minutes[theatre_day as usize] -= patient.surgery_duration;
+        self.surgeon_minutes[surgeon_day as usize] -= patient.surgery_duration;
         self.theatres[p.0 as usize] = None;
     }
 
@@ -117,7 +133,7 @@ impl Theatres {
         ensures within { IsWithin (10 ^ 11) result }
     {
         let today = day_number(inst, t.0, d);
-        let planned = minutes(inst, &self.theatre_days, today);
+        let planned = self.theatre_minutes[today as usize];
         let over = planned.saturating_sub(theatre_minutes(inst, t, d));
         theatre_part(over, bit(is_used(&self.theatre_days, today)))
     }
@@ -132,7 +148,7 @@ impl Theatres {
         ensures within { IsWithin (10 ^ 11) result }
     {
         let today = day_number(inst, s.0, d);
-        let planned = minutes(inst, &self.surgeon_days, today);
+        let planned = self.surgeon_minutes[today as usize];
         let over = planned.saturating_sub(surgeon_minutes(inst, s, d));
         let used = theatres_used(inst, &self.surgeon_days, today, self.theatres.as_slice());
         surgeon_part(over, used.saturating_sub(1))
@@ -164,7 +180,8 @@ impl Theatres {
         }
         let today = day_number(inst, t.0, d);
         let most = theatre_minutes(inst, t, d);
-        let others = minutes_but(inst, &self.theatre_days, today, p, was);
+        let planned = self.theatre_minutes[today as usize];
+        let others = minutes_but(inst, planned, p, was);
         let used = is_used_by_others(&self.theatre_days, today, p, was);
         let before = theatre_counts(inst, others, used, p, was, most);
         let after = theatre_counts(inst, others, used, p, will, most);
@@ -198,7 +215,8 @@ impl Theatres {
         }
         let today = day_number(inst, s.0, d);
         let most = surgeon_minutes(inst, s, d);
-        let others = minutes_but(inst, &self.surgeon_days, today, p, was);
+        let planned = self.surgeon_minutes[today as usize];
+        let others = minutes_but(inst, planned, p, was);
         let used = theatres_but(&self.surgeon_days, today, self.theatres.as_slice(), p);
         let before = surgeon_counts(inst, others, &used, p, was, old, most);
         let after = surgeon_counts(inst, others, &used, p, will, new, most);
