@@ -1,4 +1,4 @@
-use Rattle.std.proofs.Common.{refl}
+use Rattle.std.proofs.Common.{arith, refl}
 use Rattle.ih_theatres.proofs.LedgerLemmas.{ledger-left, in-theatres, in-surgeons, theatre-below, surgeon-below, theatre-enough, surgeon-enough}
 use Rattle.ih_theatres.proofs.theatres.Theatres.leave.Goals as goal
 
@@ -20,8 +20,9 @@ index_mut-requires c =
 pub overflow_sub-index_mut : goal.overflow_sub-index_mut
 overflow_sub-index_mut c =
     let s = c.requires.stands in
-    theatre-enough c.args.inst.now.valid s.1 s.2 c.args.p c.requires.patient c.args.at c.patient-patient.result.now c.patient-patient.ensures (s.1.placed c.args.p.0 c.args.at s.3) _
-    (rw c.day_number-theatre_day.ensures at c.index_mut.ensures.value) s.3
+    let enough = theatre-enough c.args.inst.now.valid s.1 s.2 c.args.p c.requires.patient c.args.at c.patient-patient.result.now c.patient-patient.ensures (s.1.placed c.args.p.0 c.args.at s.3) _
+    (rw c.day_number-theatre_day.ensures at c.index_mut.ensures.value) s.3 in
+    omega arith
 
 pub index_mut-requires-2 : goal.index_mut-requires-2
 index_mut-requires-2 c =
@@ -31,8 +32,9 @@ index_mut-requires-2 c =
 pub overflow_sub-index_mut-2 : goal.overflow_sub-index_mut-2
 overflow_sub-index_mut-2 c =
     let s = c.requires.stands in
-    surgeon-enough c.args.inst.now.valid s.1 s.2 c.args.p c.requires.patient c.args.at c.patient-patient.result.now c.patient-patient.ensures (s.1.placed c.args.p.0 c.args.at s.3) _
-    (rw c.day_number-surgeon_day.ensures at c.index_mut-2.ensures.value) s.3
+    let enough = surgeon-enough c.args.inst.now.valid s.1 s.2 c.args.p c.requires.patient c.args.at c.patient-patient.result.now c.patient-patient.ensures (s.1.placed c.args.p.0 c.args.at s.3) _
+    (rw c.day_number-surgeon_day.ensures at c.index_mut-2.ensures.value) s.3 in
+    omega arith
 
 pub returns : goal.returns
 returns c = λ P plan stands there.
