@@ -158,7 +158,7 @@ module _ {I : Draft} {P : Timetable} {l : Theatres} (plan : IsPlanOf I P) (stand
 
   module _ (s : SurgeonNo) (d : Day) (day : d.0 < I.days) (was will : Bool) (was_is : was ≡ of_surgeon s d old) (will_is : will ≡ of_surgeon s d new)
       (today most : ℕ) (today_is : today ≡ day_number I s.0 d.0) (most_is : most ≡ surgeon_minutes I s.0 d.0)
-      (marks : List Bool) (marked : (t : ℕ) → is_marked marks t ≡ list_any (λ o. is_number o t) (map (theatre_at l.theatres.items) (without p.0 (list_of l.surgeon_days today)))) where
+      (marks : ℕ) (marked : (t : ℕ) → is_marked marks t ≡ list_any (λ o. is_number o t) (map (theatre_at l.theatres.items) (without p.0 (list_of l.surgeon_days today)))) where
     abbrev operated_then : Bool → List ℕ
     operated_then b = with_if b p.0 (without p.0 (list_of l.surgeon_days today))
 

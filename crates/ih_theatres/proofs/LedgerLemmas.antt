@@ -1,10 +1,12 @@
 -- What an empty timetable, a patient's coming and a patient's going leave of a ledger.
-use Rattle.std.proofs.Common.{◌≡◌, ℕ, zero, suc, ◌+◌, ◌-◌, ◌*◌, ◌≤◌, ◌<◌, refl, arith, sym, ap, ◌∙◌, true, [], ◌∷◌, ◌++◌, List, Option, Some, None, length, replicate, mul_comm}
+use Rattle.std.proofs.Common.{false, ◌≡◌, ℕ, zero, suc, ◌+◌, ◌-◌, ◌*◌, ◌≤◌, ◌<◌, refl, arith, sym, ap, ◌∙◌, true, [], ◌∷◌, ◌++◌, List, Option, Some, None, length, replicate, mul_comm}
 use Rattle.std.specs.Prelude.{map, option_map, slice_get, slice_set, slice_index_or, All, IfSome}
 use Rattle.std.proofs.Math.ListN.{get_or-map}
 use Rattle.std.proofs.lemmas.List.{map-set, length-map, length-replicate}
 use Rattle.std.proofs.lemmas.List.Elements.{All-from_get_or}
 use Rattle.std.proofs.lemmas.Nat.{mul-add-lt}
+use Rattle.std.specs.List.{list_any}
+use Rattle.std.proofs.lemmas.Bool.{ne_eqb}
 use Rattle.ih_tables.specs.declared.drafts.Draft.{Draft}
 use Rattle.ih_tables.specs.declared.drafts.Patient.{Patient}
 use Rattle.ih_tables.specs.declared.ids.PatientNo.{PatientNo}
@@ -16,16 +18,18 @@ use Rattle.ih_plan.specs.declared.moves.Placement.{Placement}
 use Rattle.ih_plan.specs.declared.moves.Write.TheVariants.{SetStay}
 use Rattle.ih_plan.specs.Timetable.{Timetable, empty, stay_of, IsPlanOf, IsPlacement}
 use Rattle.ih_plan.specs.Writes.{put}
-use Rattle.ih_plan.specs.Costs.{surgeon_of, duration_of, minutes}
+use Rattle.ih_plan.specs.Costs.{surgeon_of, duration_of, is_number, minutes}
 use Rattle.ih_plan.proofs.Entries.{stay_of-other, stay_of-same}
 use Rattle.ih_plan.proofs.Overtime.{from-all}
 use Rattle.ih_theatres.specs.declared.theatres.Theatres.{Theatres}
-use Rattle.ih_theatres.specs.Days.{AreDays, day_number, theatre_day, surgeon_day}
+use Rattle.ih_theatres.specs.Days.{AreDays, day_number, theatre_at, theatre_day, surgeon_day}
+use Rattle.ih_theatres.specs.Marks.{AreBelow}
+use Rattle.ih_theatres.proofs.MarkLemmas.{AreMet}
 use Rattle.ih_theatres.specs.Ledger.{IsLedgerOf, theatre_in}
 use Rattle.ih_theatres.proofs.Told.{duration-is}
 use Rattle.ih_theatres.proofs.DayLemmas.{days-linked, days-entered, days-left}
 use Rattle.ih_theatres.proofs.MinuteLemmas.{blank, kept-below, kept-is, kept-most, kept-room, kept-enough, minutes-none, minutes-entered, minutes-left}
-use Rattle.ih_theatres.proofs.PartLemmas.{stay-read}
+use Rattle.ih_theatres.proofs.PartLemmas.{stay-read, theatre-known}
 
 -- ---- days
 
@@ -86,6 +90,21 @@ module _ {I : Draft} {P : Timetable} {l : Theatres} (valid : IsValid I) (plan : 
       by_case i None e = tt
       by_case i (Some at) e = let few = valid.theatres.len.most in let below = (plan.placed i at e).theatre in omega arith
 
+  -- so are those that are marked
+  pub marks-below : (marks : ℕ) (xs : List ℕ) → AreMet marks (theatre_at l.theatres.items) xs → AreBelow (theatre_count I) marks
+  marks-below marks xs met i past = met i ∙ nowhere_in xs
+    where
+      by_case : (x : ℕ) (o : Option Placement) → stay_of P x ≡ o → is_number (option_map (λ (at : Placement). at.theatre.0) o) i ≡ false
+      by_case x None e = refl
+      by_case x (Some at) e = let below = (plan.placed x at e).theatre in ne_eqb at.theatre.0 i (λ same. omega arith)
+
+      here : (x : ℕ) → is_number (theatre_at l.theatres.items x) i ≡ false
+      here x = ap (λ o. is_number o i) (ap (λ ts. theatre_at ts x) stands.theatres ∙ theatre-known P x) ∙ by_case x (stay_of P x) refl
+
+      nowhere_in : (ys : List ℕ) → list_any (λ o. is_number o i) (map (theatre_at l.theatres.items) ys) ≡ false
+      nowhere_in [] = refl
+      nowhere_in (y ∷ ys) = let first = here y in let rest = nowhere_in ys in rw (first, rest) refl
+
 -- ---- what is kept for a day
 
 module _ {I : Draft} {P : Timetable} {l : Theatres} (stands : IsLedgerOf I P l) (d h : ℕ) (day : d < I.days) where
@@ -93,9 +112,6 @@ module _ {I : Draft} {P : Timetable} {l : Theatres} (stands : IsLedgerOf I P l) 
   module _ (t : ℕ) (inside : t < theatre_count I) (today : h ≡ day_number I t d) where
     t_here : h < theatre_count I * I.days
     t_here = rw today (day-below I (theatre_count I) t d inside day)
-
-    pub theatre-kept : h < length l.theatre_minutes.items
-    theatre-kept = kept-below stands.theatre_days stands.theatre_minutes h t_here
 
     module _ (x : ℕ) (read : x ≡ slice_index_or l.theatre_minutes.items h x) where
       pub theatre-is : x ≡ minutes I (list_of l.theatre_days h)
@@ -108,9 +124,6 @@ module _ {I : Draft} {P : Timetable} {l : Theatres} (stands : IsLedgerOf I P l) 
   module _ (s : ℕ) (inside : s < surgeon_count I) (today : h ≡ day_number I s d) where
     s_here : h < surgeon_count I * I.days
     s_here = rw today (day-below I (surgeon_count I) s d inside day)
-
-    pub surgeon-kept : h < length l.surgeon_minutes.items
-    surgeon-kept = kept-below stands.surgeon_days stands.surgeon_minutes h s_here
 
     module _ (x : ℕ) (read : x ≡ slice_index_or l.surgeon_minutes.items h x) where
       pub surgeon-is : x ≡ minutes I (list_of l.surgeon_days h)

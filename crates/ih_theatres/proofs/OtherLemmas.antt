@@ -14,7 +14,7 @@ use Rattle.ih_tables.specs.Sizes.{patient_count, theatre_count}
 use Rattle.ih_links.specs.Lists.{AreNodes, IsOnce, has, without, list_of}
 use Rattle.ih_links.proofs.Members.{apart, has-append, has-here, has-there, has-without_self, has-without_other, length-without, once-append, once-without, without-here, without-there, without-none}
 use Rattle.ih_plan.specs.declared.moves.Placement.{Placement}
-use Rattle.ih_plan.specs.Timetable.{Timetable, IsPlanOf, IsPlacement, stay_of}
+use Rattle.ih_plan.specs.Timetable.{Timetable, IsPlanOf, stay_of}
 use Rattle.ih_plan.specs.Sums.{bit, count_below, which_below}
 use Rattle.ih_plan.specs.Cells.{part_at, part_of, content_of}
 use Rattle.ih_plan.specs.Costs.{operated, operated_by, operated_in, admitted_on, is_number, surgeon_of, minutes, duration_of, is_empty, theatre_minutes, surgeon_minutes, theatre_of, theatres_used}
@@ -139,7 +139,7 @@ any-with q true x (y ∷ ys) = more (q y) (any-with q true x ys)
 any-with q false x xs = sym (or-false (list_any q xs))
 
 -- one number more is counted where it isn't marked
-pub count-more : (n : ℕ) (marks : List Bool) (there : Bool) (o : Option ℕ) → IfSome o (λ m. m < n)
+pub count-more : (n : ℕ) (marks : ℕ) (there : Bool) (o : Option ℕ) → IfSome o (λ m. m < n)
     → count_below n (is_marked marks) + bit (there && is_unmarked marks o) ≡ count_below n (λ t. is_marked marks t || (there && is_number o t))
 count-more n marks false o inside = let e = sum_below-same n (λ t. bit (is_marked marks t)) (λ t. bit (is_marked marks t || false)) (λ t h. ap bit (sym (or-false (is_marked marks t)))) in omega arith
 count-more n marks true None inside = let e = sum_below-same n (λ t. bit (is_marked marks t)) (λ t. bit (is_marked marks t || false)) (λ t h. ap bit (sym (or-false (is_marked marks t)))) in omega arith
@@ -154,9 +154,9 @@ count-more n marks true (Some m) inside =
     either true = refl
     either false = refl
 
-pub theatre-inside : (I : Draft) (stay : Option Placement) → IfSome stay (IsPlacement I) → IfSome (option_map (λ (at : Placement). at.theatre.0) stay) (λ m. m < theatre_count I)
-theatre-inside I None fits = tt
-theatre-inside I (Some at) fits = fits.theatre
+pub theatre-inside : (n : ℕ) (stay : Option Placement) → IfSome stay (λ (at : Placement). at.theatre.0 < n) → IfSome (option_map (λ (at : Placement). at.theatre.0) stay) (λ m. m < n)
+theatre-inside n None fits = tt
+theatre-inside n (Some at) fits = fits
 
 -- ---- the parts at a timetable at which the others' stays are the same
 
@@ -177,7 +177,7 @@ module _ {I : Draft} {P : Timetable} {l : Theatres} (plan : IsPlanOf I P) (stand
       let none = empty-of_passing some after each in
       rw (over_is, used_is, sum, none) refl
 
-  theatres-at : (xs : List ℕ) (passing : ℕ → Bool) (marks : List Bool) (stay : Option Placement) (b : Bool) → AreNodes (patient_count I) (with_if b p.0 (without p.0 xs))
+  theatres-at : (xs : List ℕ) (passing : ℕ → Bool) (marks : ℕ) (stay : Option Placement) (b : Bool) → AreNodes (patient_count I) (with_if b p.0 (without p.0 xs))
       → ((x : ℕ) → has x (with_if b p.0 (without p.0 xs)) ≡ passing x) → stay_of Q p.0 ≡ stay
       → ((t : ℕ) → is_marked marks t ≡ list_any (λ o. is_number o t) (map (theatre_at l.theatres.items) (without p.0 xs)))
       → count_below (theatre_count I) (λ t. is_marked marks t || (b && is_number (option_map (λ (at : Placement). at.theatre.0) stay) t))
@@ -201,7 +201,7 @@ module _ {I : Draft} {P : Timetable} {l : Theatres} (plan : IsPlanOf I P) (stand
           (λ x there. ap (λ o. is_number o t) (known_at x (apart x p.0 (without p.0 xs) there (has-without_self p.0 xs))))
           ∙ (sym (any-map (theatre_at l.theatres.items) (λ o. is_number o t) (without p.0 xs)) ∙ sym (marked t))
 
-  pub surgeon-at : (s : SurgeonNo) (d : Day) (b : Bool) (stay : Option Placement) (marks : List Bool) (over transfers : ℕ) → d.0 < I.days
+  pub surgeon-at : (s : SurgeonNo) (d : Day) (b : Bool) (stay : Option Placement) (marks : ℕ) (over transfers : ℕ) → d.0 < I.days
       → stay_of Q p.0 ≡ stay → (is_number (surgeon_of I p.0) s.0 && admitted_on d.0 stay) ≡ b
       → ((t : ℕ) → is_marked marks t ≡ list_any (λ o. is_number o t) (map (theatre_at l.theatres.items) (without p.0 (list_of l.surgeon_days (day_number I s.0 d.0)))))
       → over ≡ minutes I (with_if b p.0 (without p.0 (list_of l.surgeon_days (day_number I s.0 d.0)))) - surgeon_minutes I s.0 d.0

@@ -22,7 +22,8 @@ surgeon_day I s None = None
 surgeon_day I None (Some at) = None
 surgeon_day I (Some s) (Some at) = Some (day_number I s at.day.0)
 
--- There is a list of patients for each day of n theatres or surgeons, and each patient is in the list of the patient's day, once, and in no other.
+-- There is a list of patients for each day of n theatres or surgeons,
+-- and each patient is in the list of the patient's day, once, and in no other.
 pub record AreDays (I : Draft) (n : ℕ) (day : ℕ → Option ℕ) (v : Linked) : Type 0 where
   pub heads : length v.lists ≡ n * I.days
   pub nodes : v.nodes ≡ patient_count I

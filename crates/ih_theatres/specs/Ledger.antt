@@ -13,7 +13,8 @@ use Rattle.ih_theatres.specs.Days.{AreDays, AreMinutes, theatre_day, surgeon_day
 abbrev pub theatre_in : Option Placement → Option TheatreNo
 theatre_in stay = option_map (λ (at : Placement). at.theatre) stay
 
--- The ledger stands for the timetable P of the instance I: it has each patient's theatre, the patients of each theatre's and each surgeon's day, and their minutes of surgery.
+-- The ledger stands for the timetable P of the instance I: it has each patient's theatre,
+-- the patients of each theatre's and each surgeon's day, and their minutes of surgery.
 pub record IsLedgerOf (I : Draft) (P : Timetable) (l : Theatres) : Type 0 where
   pub theatres : l.theatres.items ≡ map theatre_in P.stays
   pub theatre_days : AreDays I (theatre_count I) (λ p. theatre_day I (stay_of P p)) l.theatre_days

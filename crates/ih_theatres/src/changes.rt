@@ -10,9 +10,9 @@ ghost use Rattle.ih_plan.specs.Sums.{bit, count_below};
 ghost use Rattle.ih_plan.specs.declared.moves.Placement.{Placement};
 ghost use Rattle.ih_plan.specs.Timetable.{IsPlacement};
 ghost use Rattle.ih_theatres.specs.Days.{theatre_at, with_if};
-ghost use Rattle.ih_theatres.specs.Marks.{is_marked, is_unmarked};
+ghost use Rattle.ih_theatres.specs.Marks.{is_marked, is_unmarked, AreBelow};
 
-use crate::marks::{bit, count_marked, mark};
+use crate::marks::{bit, count_marked, is_marked, mark};
 use crate::parts::DayCounts;
 use ih_links::Links;
 use ih_plan::Placement;
@@ -128,54 +128,48 @@ fn theatre_but(theatres: &[Option<TheatreNo>], x: u32, p: u32) -> Option<Theatre
 }
 
 /// Marks on the theatres of the patients in a list but p.
-pub fn theatres_but(
-    links: &Links,
-    head: u32,
-    theatres: &[Option<TheatreNo>],
-    p: PatientNo,
-) -> [bool; 64]
+pub fn theatres_but(links: &Links, head: u32, theatres: &[Option<TheatreNo>], p: PatientNo) -> u64
     requires head { head < length links.now.lists }
     requires patients { links.now.nodes ≡ length theatres.now }
     requires known { All (λ t. IfSome t (λ m. m.0 < 64)) theatres.now }
-    ensures len { length result ≡ 64 }
-    ensures each { (t : ℕ) → is_marked result t ≡ list_any (λ o. is_number o t) (map (theatre_at theatres.now) (without p.0 (list_of links.now head))) }
+    ensures { (t : ℕ) → is_marked result t ≡ list_any (λ o. is_number o t) (map (theatre_at theatres.now) (without p.0 (list_of links.now head))) }
 {
-    let mut used = [false; 64];
+    let mut used = 0;
     let mut at = links.first(head);
     while let Some(x) = at {
-        mark(&mut used, theatre_but(theatres, x, p.0));
+        used = mark(used, theatre_but(theatres, x, p.0));
         at = links.next(x);
     }
     used
 }
 
 // Whether the theatre of the stay, where there is one, isn't marked.
-fn is_unmarked(marks: &[bool], stay: Option<Placement>) -> bool
-    requires { IfSome stay (λ at. at.theatre.0 < length marks.now) }
-    ensures { result ≡ is_unmarked marks.now (option_map (λ (at : Placement). at.theatre.0) stay) }
+fn is_unmarked(marks: u64, stay: Option<Placement>) -> bool
+    requires { IfSome stay (λ at. at.theatre.0 < 64) }
+    ensures { result ≡ is_unmarked marks (option_map (λ (at : Placement). at.theatre.0) stay) }
 {
     match stay {
         None => false,
-        Some(at) => !marks[at.theatre.0 as usize],
+        Some(at) => !is_marked(marks, at.theatre.0),
     }
 }
 
 // The same where the stay counts, and no otherwise.
-fn is_one_more(marks: &[bool], there: bool, stay: Option<Placement>) -> bool
-    requires { IfSome stay (λ at. at.theatre.0 < length marks.now) }
-    ensures { result ≡ (there && is_unmarked marks.now (option_map (λ (at : Placement). at.theatre.0) stay)) }
+fn is_one_more(marks: u64, there: bool, stay: Option<Placement>) -> bool
+    requires { IfSome stay (λ at. at.theatre.0 < 64) }
+    ensures { result ≡ (there && is_unmarked marks (option_map (λ (at : Placement). at.theatre.0) stay)) }
 {
     there && is_unmarked(marks, stay)
 }
 
 /// How many theatres are marked, and the one of the stay too, where the stay counts.
-pub fn theatres_with(inst: &Instance, marks: &[bool], there: bool, stay: Option<Placement>) -> u32
-    requires len { length marks.now ≡ 64 }
-    requires placement { IfSome stay (IsPlacement inst.now.draft) }
-    ensures count { result ≡ count_below (theatre_count inst.now.draft) (λ t. is_marked marks.now t || (there && is_number (option_map (λ (at : Placement). at.theatre.0) stay) t)) }
+pub fn theatres_with(marks: u64, there: bool, stay: Option<Placement>) -> u32
+    requires { IfSome stay (λ at. at.theatre.0 < 64) }
+    ensures count { (n : ℕ) → n ≤ 64 → AreBelow n marks → IfSome stay (λ at. at.theatre.0 < n)
+        → result ≡ count_below n (λ t. is_marked marks t || (there && is_number (option_map (λ (at : Placement). at.theatre.0) stay) t)) }
     ensures bound { result ≤ 65 }
 {
-    count_marked(marks, inst.theatres()) + bit(is_one_more(marks, there, stay))
+    count_marked(marks) + bit(is_one_more(marks, there, stay))
 }
 
 /// What a theatre's day breaks and costs with patients of so many minutes, if any, and p too where p is there.
@@ -205,7 +199,7 @@ pub fn theatre_counts(
 pub fn surgeon_counts(
     inst: &Instance,
     others: u32,
-    marks: &[bool],
+    marks: u64,
     p: PatientNo,
     there: bool,
     stay: Option<Placement>,
@@ -213,12 +207,12 @@ pub fn surgeon_counts(
 ) -> DayCounts
     requires patient { p.0 < patient_count inst.now.draft }
     requires bound { others ≤ 204800000 }
-    requires len { length marks.now ≡ 64 }
+    requires marks { AreBelow (theatre_count inst.now.draft) marks }
     requires placement { IfSome stay (IsPlacement inst.now.draft) }
     ensures over { (xs : List ℕ) → others ≡ minutes inst.now.draft xs → result.over ≡ minutes inst.now.draft (with_if there p.0 xs) - most }
-    ensures cost { result.cost ≡ count_below (theatre_count inst.now.draft) (λ t. is_marked marks.now t || (there && is_number (option_map (λ (at : Placement). at.theatre.0) stay) t)) - 1 }
+    ensures cost { result.cost ≡ count_below (theatre_count inst.now.draft) (λ t. is_marked marks t || (there && is_number (option_map (λ (at : Placement). at.theatre.0) stay) t)) - 1 }
 {
-    let theatres = theatres_with(inst, marks, there, stay);
+    let theatres = theatres_with(marks, there, stay);
     DayCounts {
         over: minutes_above(inst, others, p, there, most),
         cost: theatres.saturating_sub(1),

@@ -1,13 +1,14 @@
 //! Numbers of days, and walks over the patients of a day.
 
-ghost use Rattle.std.specs.Prelude.{◌≡◌, ◌<◌, ◌≤◌, ◌*◌, not, map, length, All, IfSome};
+ghost use Rattle.std.specs.Prelude.{◌≡◌, ◌<◌, ◌≤◌, ◌*◌, ℕ, not, map, length, All, IfSome};
+ghost use Rattle.std.specs.List.{list_any};
 ghost use Rattle.ih_links.specs.Lists.{list_of};
 ghost use Rattle.ih_tables.specs.declared.ids.TheatreNo.{TheatreNo};
-ghost use Rattle.ih_tables.specs.Sizes.{patient_count};
-ghost use Rattle.ih_plan.specs.Costs.{is_empty, theatres_used};
+ghost use Rattle.ih_plan.specs.Costs.{is_empty, is_number};
 ghost use Rattle.ih_theatres.specs.Days.{day_number, theatre_at};
+ghost use Rattle.ih_theatres.specs.Marks.{is_marked};
 
-use crate::marks::{count_marked, mark};
+use crate::marks::mark;
 use ih_links::Links;
 use ih_tables::{Day, Instance, TheatreNo};
 
@@ -37,24 +38,18 @@ pub fn is_used(links: &Links, head: u32) -> bool
     links.first(head).is_some()
 }
 
-/// How many theatres the patients in a list have among them.
-pub fn theatres_used(
-    inst: &Instance,
-    links: &Links,
-    head: u32,
-    theatres: &[Option<TheatreNo>],
-) -> u32
+/// Marks on the theatres of the patients in a list.
+pub fn theatres_used(links: &Links, head: u32, theatres: &[Option<TheatreNo>]) -> u64
     requires head { head < length links.now.lists }
     requires patients { links.now.nodes ≡ length theatres.now }
     requires known { All (λ t. IfSome t (λ m. m.0 < 64)) theatres.now }
-    ensures count { result ≡ theatres_used inst.now.draft (map (theatre_at theatres.now) (list_of links.now head)) }
-    ensures bound { result ≤ 64 }
+    ensures { (t : ℕ) → is_marked result t ≡ list_any (λ o. is_number o t) (map (theatre_at theatres.now) (list_of links.now head)) }
 {
-    let mut used = [false; 64];
+    let mut used = 0;
     let mut at = links.first(head);
     while let Some(p) = at {
-        mark(&mut used, theatres[p as usize]);
+        used = mark(used, theatres[p as usize]);
         at = links.next(p);
     }
-    count_marked(&used, inst.theatres())
+    used
 }

@@ -1,10 +1,10 @@
-//! Marks on theatres, by which distinct ones are counted.
+//! Marks on theatres, by which distinct ones are counted: the bits of a word.
 
-ghost use Rattle.std.specs.Prelude.{◌≡◌, ◌<◌, ◌≤◌, ◌+◌, ◌||◌, ℕ, length, IfSome, option_map};
+ghost use Rattle.std.specs.Prelude.{◌≡◌, ◌<◌, ◌≤◌, ◌||◌, ℕ, IfSome, option_map};
 ghost use Rattle.ih_tables.specs.declared.ids.TheatreNo.{TheatreNo};
 ghost use Rattle.ih_plan.specs.Costs.{is_number};
 ghost use Rattle.ih_plan.specs.Sums.{bit, count_below};
-ghost use Rattle.ih_theatres.specs.Marks.{is_marked};
+ghost use Rattle.ih_theatres.specs.Marks.{is_marked, AreBelow};
 
 use ih_tables::TheatreNo;
 
@@ -17,29 +17,32 @@ pub fn bit(yes: bool) -> u32
     if yes { 1 } else { 0 }
 }
 
-/// Marks the theatre, where there is one.
+/// The number is marked.
 #[inline(always)]
-pub fn mark(marks: &mut [bool], t: Option<TheatreNo>)
-    requires { IfSome t (λ m. m.0 < length marks.old) }
-    ensures len { length marks.new ≡ length marks.old }
-    ensures each { (i : ℕ) → is_marked marks.new i ≡ (is_marked marks.old i || is_number (option_map (λ (m : TheatreNo). m.0) t) i) }
+pub fn is_marked(marks: u64, i: u32) -> bool
+    requires { i < 64 }
+    ensures { result ≡ is_marked marks i }
+{
+    (marks >> i) & 1 == 1
+}
+
+/// The marks, and one on the theatre, where there is one.
+#[inline(always)]
+pub fn mark(marks: u64, t: Option<TheatreNo>) -> u64
+    requires { IfSome t (λ m. m.0 < 64) }
+    ensures { (i : ℕ) → is_marked result i ≡ (is_marked marks i || is_number (option_map (λ (m : TheatreNo). m.0) t) i) }
 {
     match t {
-        None => {}
-        Some(m) => marks[m.0 as usize] = true,
+        None => marks,
+        Some(m) => marks | (1 << m.0),
     }
 }
 
-/// How many numbers below `n` are marked.
-#[tactic(auto, using(ih_plan::proofs::SumLemmas::sum_steps))]
-pub fn count_marked(marks: &[bool], n: u32) -> u32
-    requires { n ≤ length marks.now }
-    ensures count { result ≡ count_below n (is_marked marks.now) }
-    ensures bound { result ≤ n }
+/// How many numbers are marked.
+#[inline(always)]
+pub fn count_marked(marks: u64) -> u32
+    ensures count { (n : ℕ) → n ≤ 64 → AreBelow n marks → result ≡ count_below n (is_marked marks) }
+    ensures bound { result ≤ 64 }
 {
-    let mut count = 0;
-    for i in 0..n {
-        count += bit(marks[i as usize]);
-    }
-    count
+    marks.count_ones()
 }

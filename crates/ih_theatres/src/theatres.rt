@@ -18,7 +18,7 @@ use crate::changes::{
     theatre_counts, theatres_but,
 };
 use crate::days::{day_count, day_number, is_used, theatres_used};
-use crate::marks::bit;
+use crate::marks::{bit, count_marked};
 use crate::parts::{surgeon_change, surgeon_part, theatre_change, theatre_part};
 use ih_links::Links;
 use ih_plan::Placement;
@@ -150,7 +150,8 @@ impl Theatres {
         let today = day_number(inst, s.0, d);
         let planned = self.surgeon_minutes[today as usize];
         let over = planned.saturating_sub(surgeon_minutes(inst, s, d));
-        let used = theatres_used(inst, &self.surgeon_days, today, self.theatres.as_slice());
+        let marks = theatres_used(&self.surgeon_days, today, self.theatres.as_slice());
+        let used = count_marked(marks);
         surgeon_part(over, used.saturating_sub(1))
     }
 
@@ -218,8 +219,8 @@ impl Theatres {
         let planned = self.surgeon_minutes[today as usize];
         let others = minutes_but(inst, planned, p, was);
         let used = theatres_but(&self.surgeon_days, today, self.theatres.as_slice(), p);
-        let before = surgeon_counts(inst, others, &used, p, was, old, most);
-        let after = surgeon_counts(inst, others, &used, p, will, new, most);
+        let before = surgeon_counts(inst, others, used, p, was, old, most);
+        let after = surgeon_counts(inst, others, used, p, will, new, most);
         surgeon_change(after, before)
     }
 }

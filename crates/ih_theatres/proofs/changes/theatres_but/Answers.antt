@@ -1,4 +1,4 @@
-use Rattle.std.proofs.Common.{◌∙◌, refl, ap}
+use Rattle.std.proofs.Common.{◌∙◌, ap}
 use Rattle.std.specs.Prelude.{◌||◌, option_map}
 use Rattle.ih_tables.specs.declared.ids.TheatreNo.{TheatreNo}
 use Rattle.ih_links.specs.Lists.{list_of}
@@ -10,23 +10,18 @@ use Rattle.ih_theatres.proofs.Told.{told-begins, told-goes_on, told-ends}
 use Rattle.ih_theatres.proofs.changes.theatres_but.Goals as goal
 
 pub loop-at-init : goal.loop-at-init
-loop-at-init c = record {
-  len = refl;
-  met = rw c.first-at.ensures.first (told-begins c.args.links.now.nodes (list_of c.args.links.now c.args.head) c.first-at.ensures.nodes (λ t. unmarked 64 t));
-}
+loop-at-init c = rw c.first-at.ensures.first (told-begins c.args.links.now.nodes (list_of c.args.links.now c.args.head) c.first-at.ensures.nodes unmarked)
 
 pub loop-at-smaller : goal.loop-at-smaller
 loop-at-smaller c =
-    walk-shrinks c.loop-at.invariant.met.walk c.in-Some.is (c.next-at.ensures.linked c.args.head (walk-inside c.loop-at.invariant.met.walk c.in-Some.is))
+    walk-shrinks c.loop-at.invariant.walk c.in-Some.is (c.next-at.ensures.linked c.args.head (walk-inside c.loop-at.invariant.walk c.in-Some.is))
 
 pub loop-at-preserved : goal.loop-at-preserved
-loop-at-preserved c = record {
-  len = c.mark.ensures.len ∙ c.loop-at.invariant.len;
-  met = told-goes_on c.loop-at.invariant.met c.in-Some.is (c.next-at.ensures.linked c.args.head (walk-inside c.loop-at.invariant.met.walk c.in-Some.is))
-      (λ told met. met-more c.loop-at.used c.mark.new.marks (other_theatre c.args.theatres.now c.args.p.0) told c.in-Some.x met
-      (λ t. c.mark.ensures.each t ∙ ap (λ o. is_marked c.loop-at.used t || is_number (option_map (λ (m : TheatreNo). m.0) o) t) c.theatre_but.ensures));
-}
+loop-at-preserved c =
+    told-goes_on c.loop-at.invariant c.in-Some.is (c.next-at.ensures.linked c.args.head (walk-inside c.loop-at.invariant.walk c.in-Some.is))
+    (λ told met. met-more c.loop-at.used c.mark-used.result (other_theatre c.args.theatres.now c.args.p.0) told c.in-Some.x met
+    (λ t. c.mark-used.ensures t ∙ ap (λ o. is_marked c.loop-at.used t || is_number (option_map (λ (m : TheatreNo). m.0) o) t) c.theatre_but.ensures))
 
-pub returns-clause-each : goal.returns-clause-each
-returns-clause-each c = λ t.
-    told-ends c.loop-at.invariant.met c.in_default.is t ∙ met-without c.args.theatres.now c.args.p.0 (list_of c.args.links.now c.args.head) t
+pub returns : goal.returns
+returns c = λ t.
+    told-ends c.loop-at.invariant c.in_default.is t ∙ met-without c.args.theatres.now c.args.p.0 (list_of c.args.links.now c.args.head) t

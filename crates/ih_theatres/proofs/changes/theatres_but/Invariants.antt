@@ -1,14 +1,11 @@
-use Rattle.std.proofs.Common.{◌≡◌, length}
+use Rattle.std.proofs.Common.{length}
 use Rattle.ih_links.specs.Lists.{list_of, rest_from}
 use Rattle.ih_theatres.proofs.Told.{Told}
 use Rattle.ih_theatres.proofs.MarkLemmas.{AreMet, other_theatre}
 use Rattle.ih_theatres.proofs.changes.theatres_but.Given as goal
 
 abbrev pub invariant-loop-at : goal.invariant-loop-at
-invariant-loop-at l = record {
-  len : length l.used ≡ 64;
-  met : Told l.fn.links.nodes (list_of l.fn.links l.fn.head) l.at (AreMet l.used (other_theatre l.fn.theatres l.fn.p.0));
-}
+invariant-loop-at l = Told l.fn.links.nodes (list_of l.fn.links l.fn.head) l.at (AreMet l.used (other_theatre l.fn.theatres l.fn.p.0))
 
 abbrev pub decreases-loop-at : goal.decreases-loop-at
 decreases-loop-at l = length (rest_from l.at (list_of l.fn.links l.fn.head))

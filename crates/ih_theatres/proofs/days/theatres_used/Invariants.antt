@@ -1,4 +1,4 @@
-use Rattle.std.proofs.Common.{◌≡◌, length}
+use Rattle.std.proofs.Common.{length}
 use Rattle.ih_links.specs.Lists.{list_of, rest_from}
 use Rattle.ih_theatres.specs.Days.{theatre_at}
 use Rattle.ih_theatres.proofs.Told.{Told}
@@ -6,10 +6,7 @@ use Rattle.ih_theatres.proofs.MarkLemmas.{AreMet}
 use Rattle.ih_theatres.proofs.days.theatres_used.Given as goal
 
 abbrev pub invariant-loop-at : goal.invariant-loop-at
-invariant-loop-at l = record {
-  len : length l.used ≡ 64;
-  met : Told l.fn.links.nodes (list_of l.fn.links l.fn.head) l.at (AreMet l.used (theatre_at l.fn.theatres));
-}
+invariant-loop-at l = Told l.fn.links.nodes (list_of l.fn.links l.fn.head) l.at (AreMet l.used (theatre_at l.fn.theatres))
 
 abbrev pub decreases-loop-at : goal.decreases-loop-at
 decreases-loop-at l = length (rest_from l.at (list_of l.fn.links l.fn.head))

@@ -1,18 +1,28 @@
-use Rattle.std.proofs.Common.{◌∙◌, ap, refl}
+use Rattle.std.proofs.Common.{◌∙◌, ap, map, refl}
+use Rattle.std.specs.List.{list_any}
+use Rattle.ih_tables.specs.Sizes.{theatre_count}
+use Rattle.ih_links.specs.Lists.{list_of}
+use Rattle.ih_plan.specs.Costs.{is_number}
 use Rattle.ih_plan.specs.BillOf.{as_bill}
-use Rattle.ih_theatres.proofs.LedgerLemmas.{surgeon-is, theatres-few}
+use Rattle.ih_theatres.specs.Days.{theatre_at}
+use Rattle.ih_theatres.proofs.MarkLemmas.{AreMet, count-met}
+use Rattle.ih_theatres.proofs.LedgerLemmas.{surgeon-is, theatres-few, marks-below}
 use Rattle.ih_theatres.proofs.PartLemmas.{surgeon-part}
 use Rattle.ih_theatres.proofs.theatres.Theatres.surgeon_bill.Goals as goal
 
-pub theatres_used-used-requires-clause-known : goal.theatres_used-used-requires-clause-known
-theatres_used-used-requires-clause-known c =
+pub theatres_used-marks-requires-clause-known : goal.theatres_used-marks-requires-clause-known
+theatres_used-marks-requires-clause-known c =
     let s = c.requires.stands in
     rw c.as_slice.ensures.value (theatres-few c.args.inst.now.valid s.1 s.2)
 
 pub returns-clause-part : goal.returns-clause-part
 returns-clause-part c = λ P plan stands.
     let planned = surgeon-is stands c.args.d.0 c.day_number-today.result c.requires.day c.args.s.0 c.requires.surgeon c.day_number-today.ensures c.index-planned.result.now c.index-planned.ensures in
+    let xs = list_of c.args.self.now.surgeon_days c.day_number-today.result in
+    let met : AreMet c.theatres_used-marks.result (theatre_at c.args.self.now.theatres.items) xs = rw c.as_slice.ensures.value at c.theatres_used-marks.ensures in
+    let used = c.count_marked-used.ensures.count (theatre_count c.args.inst.now.draft) c.args.inst.now.valid.theatres.len.most (marks-below c.args.inst.now.valid plan stands c.theatres_used-marks.result xs met)
+    ∙ count-met (theatre_count c.args.inst.now.draft) c.theatres_used-marks.result (λ t. list_any (λ o. is_number o t) (map (theatre_at c.args.self.now.theatres.items) xs)) met in
     c.surgeon_part.ensures.value
     ∙ ap as_bill (surgeon-part plan stands c.args.s c.args.d c.saturating_sub-over.result c.saturating_sub.result c.requires.day
     (rw (c.saturating_sub-over.ensures, planned, c.surgeon_minutes.ensures, c.day_number-today.ensures) refl)
-    (rw (c.saturating_sub.ensures, c.theatres_used-used.ensures.count, c.day_number-today.ensures, c.as_slice.ensures.value) refl))
+    (rw (c.saturating_sub.ensures, used, c.day_number-today.ensures) refl))

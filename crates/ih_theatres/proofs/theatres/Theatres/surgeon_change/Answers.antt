@@ -1,7 +1,7 @@
 use Rattle.std.proofs.Common.{◌∙◌, arith}
 use Rattle.ih_links.specs.Lists.{list_of, without}
 use Rattle.ih_theatres.proofs.ChangeLemmas.{surgeon-was, surgeon-none, surgeon-change}
-use Rattle.ih_theatres.proofs.LedgerLemmas.{surgeon-is, surgeon-most, theatres-few}
+use Rattle.ih_theatres.proofs.LedgerLemmas.{surgeon-is, surgeon-most, theatres-few, marks-below}
 use Rattle.ih_theatres.proofs.theatres.Theatres.surgeon_change.Goals as goal
 
 pub returns-then-is_kept-clause-change : goal.returns-then-is_kept-clause-change
@@ -37,6 +37,18 @@ theatres_but-used-requires-clause-known c =
     let s = c.requires.stands in
     rw c.as_slice.ensures.value (theatres-few c.args.inst.now.valid s.1 s.2)
 
+pub surgeon_counts-before-requires-clause-marks : goal.surgeon_counts-before-requires-clause-marks
+surgeon_counts-before-requires-clause-marks c =
+    let s = c.requires.stands in
+    marks-below c.args.inst.now.valid s.1 s.2 c.theatres_but-used.result (without c.args.p.0 (list_of c.args.self.now.surgeon_days c.day_number-today.result))
+    (rw c.as_slice.ensures.value at c.theatres_but-used.ensures)
+
+pub surgeon_counts-after-requires-clause-marks : goal.surgeon_counts-after-requires-clause-marks
+surgeon_counts-after-requires-clause-marks c =
+    let s = c.requires.stands in
+    marks-below c.args.inst.now.valid s.1 s.2 c.theatres_but-used.result (without c.args.p.0 (list_of c.args.self.now.surgeon_days c.day_number-today.result))
+    (rw c.as_slice.ensures.value at c.theatres_but-used.ensures)
+
 pub returns-clause-change : goal.returns-clause-change
 returns-clause-change c = λ P plan stands stay.
     let others = without c.args.p.0 (list_of c.args.self.now.surgeon_days c.day_number-today.result) in
@@ -47,6 +59,6 @@ returns-clause-change c = λ P plan stands stay.
     c.surgeon_change.ensures.value
     ∙ surgeon-change plan stands c.args.p c.requires.patient c.args.old c.args.new stay c.args.s c.args.d c.requires.day c.is_operated_by-was.result c.is_operated_by-will.result
     c.is_operated_by-was.ensures c.is_operated_by-will.ensures c.day_number-today.result c.surgeon_minutes-most.result c.day_number-today.ensures c.surgeon_minutes-most.ensures
-    c.theatres_but-used.result (rw c.as_slice.ensures.value at c.theatres_but-used.ensures.each) _ _ _ _
+    c.theatres_but-used.result (rw c.as_slice.ensures.value at c.theatres_but-used.ensures) _ _ _ _
     (c.surgeon_counts-before.ensures.over others sum) c.surgeon_counts-before.ensures.cost
     (c.surgeon_counts-after.ensures.over others sum) c.surgeon_counts-after.ensures.cost

@@ -1,7 +1,0 @@
-use Rattle.std.proofs.Common.{◌≡◌, ◌≤◌}
-use Rattle.ih_plan.specs.Sums.{count_below}
-use Rattle.ih_theatres.specs.Marks.{is_marked}
-use Rattle.ih_theatres.proofs.marks.count_marked.Given as goal
-
-abbrev pub invariant-loop-i : goal.invariant-loop-i
-invariant-loop-i l = (l.count ≡ count_below l.i (is_marked l.marks)) × (l.count ≤ l.i)
