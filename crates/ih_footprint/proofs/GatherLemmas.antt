@@ -22,6 +22,7 @@ use Rattle.ih_plan.specs.Sums.{which_below, is_listed}
 use Rattle.ih_plan.proofs.Lists.{which_below-same}
 use Rattle.ih_plan.specs.Cells.{number_in, count_in, IsCellIn, IsCellOf, cell_in, cell_at, cell_count}
 use Rattle.ih_footprint.specs.Gathered.{Gathered, Gathers, holds, same_cell, settled}
+use Rattle.ih_footprint.proofs.BitLemmas.{or-assoc}
 use Rattle.ih_footprint.proofs.Ranked.{cell_in-number_in, number_in-cell_in, cell_in-in}
 
 -- ---- one cell
@@ -101,23 +102,24 @@ listed-added n i xs = elim (cases_Bool (is_listed n xs)) [
   | inr gone ↦ rw gone (list_any-append (nat_eq i) xs (n ∷ []) ∙ ap (λ b. is_listed i xs || b) (or-none (i == n)))
 ]
 
-pub gathers-added : (v w : Gathered) (c : Cell) (n : ℕ) → IsCellIn v.sizes c → n ≡ number_in v.sizes c → w.sizes ≡ v.sizes
-    → w.cells ≡ (if is_listed n v.cells then v.cells else v.cells ++ n ∷ []) → Gathers v w (same_cell c)
-gathers-added v w c n inside number sizes cells = record {
+pub gathers-one : (v w : Gathered) (c : Cell) (n : ℕ) → IsCellIn v.sizes c → n ≡ number_in v.sizes c → w.sizes ≡ v.sizes
+    → ((i : ℕ) → is_listed i w.cells ≡ (is_listed i v.cells || (i == n))) → Gathers v w (same_cell c)
+gathers-one v w c n inside number sizes added = record {
   sizes = sizes;
   cells = λ e range.
-      ap (λ z. is_listed (number_in z e) w.cells) sizes ∙ (ap (is_listed (number_in v.sizes e)) cells ∙ (listed-added n (number_in v.sizes e) v.cells
-      ∙ (ap (λ k. holds v e || (number_in v.sizes e == k)) number ∙ ap (λ b. holds v e || b) (same_number v.sizes c e inside range))));
+      ap (λ z. is_listed (number_in z e) w.cells) sizes ∙ (added (number_in v.sizes e)
+      ∙ (ap (λ k. holds v e || (number_in v.sizes e == k)) number ∙ ap (λ b. holds v e || b) (same_number v.sizes c e inside range)));
 }
+
+pub gathers-added : (v w : Gathered) (c : Cell) (n : ℕ) → IsCellIn v.sizes c → n ≡ number_in v.sizes c → w.sizes ≡ v.sizes
+    → w.cells ≡ (if is_listed n v.cells then v.cells else v.cells ++ n ∷ []) → Gathers v w (same_cell c)
+gathers-added v w c n inside number sizes cells =
+    gathers-one v w c n inside number sizes (λ i. ap (is_listed i) cells ∙ listed-added n i v.cells)
 
 -- ---- calls in a row
 
 pub gathers-like : {v w : Gathered} {p q : Cell → Bool} → ((c : Cell) → IsCellIn v.sizes c → p c ≡ q c) → Gathers v w p → Gathers v w q
 gathers-like {v} same g = record { sizes = g.sizes; cells = λ c range. g.cells c range ∙ ap (λ b. holds v c || b) (same c range) }
-
-or-assoc : (a b c : Bool) → ((a || b) || c) ≡ (a || (b || c))
-or-assoc true b c = refl
-or-assoc false b c = refl
 
 pub gathers-both : {u v w : Gathered} {p q : Cell → Bool} → Gathers u v p → Gathers v w q → Gathers u w (λ c. p c || q c)
 gathers-both {u} {v} {w} {p} {q} one two = record {
@@ -126,11 +128,31 @@ gathers-both {u} {v} {w} {p} {q} one two = record {
       two.cells c (subst (λ z. IsCellIn z c) (sym one.sizes) range) ∙ (ap (λ b. b || q c) (one.cells c range) ∙ or-assoc (holds u c) (p c) (q c));
 }
 
+-- from another that has the same cells
+pub gathers-from : {u v w : Gathered} {p : Cell → Bool} → v.sizes ≡ u.sizes → ((i : ℕ) → is_listed i v.cells ≡ is_listed i u.cells) → Gathers v w p → Gathers u w p
+gathers-from {u} {v} {w} {p} sizes same g = record {
+  sizes = g.sizes ∙ sizes;
+  cells = λ c range.
+      g.cells c (subst (λ z. IsCellIn z c) (sym sizes) range)
+      ∙ ap (λ b. b || p c) (ap (λ z. is_listed (number_in z c) v.cells) sizes ∙ same (number_in u.sizes c));
+}
+
+-- into another that has the same cells
+pub gathers-to : {u v w : Gathered} {p : Cell → Bool} → w.sizes ≡ v.sizes → w.cells ≡ v.cells → Gathers u v p → Gathers u w p
+gathers-to {u} {v} {w} sizes same g = record {
+  sizes = sizes ∙ g.sizes;
+  cells = λ c range. ap (λ z. is_listed (number_in z c) w.cells) sizes ∙ (ap (is_listed (number_in v.sizes c)) same ∙ g.cells c range);
+}
+
 -- nothing is gathered
 pub gathers-none : {v : Gathered} {p : Cell → Bool} → ((c : Cell) → p c ≡ false) → Gathers v v p
 gathers-none {v} none = record { sizes = refl; cells = λ c range. sym (ap (λ b. holds v c || b) (none c) ∙ or-none (holds v c)) }
 
 -- ---- the list, settled
+
+pub rising-like : {v w : Gathered} → w.sizes ≡ v.sizes → w.cells ≡ v.cells → v.cells ≡ settled v → w.cells ≡ settled w
+rising-like {v} {w} sizes same rising =
+    same ∙ (rising ∙ sym (ap (λ z. which_below (count_in z) (λ n. is_listed n w.cells)) sizes ∙ ap (λ xs. which_below (count_in v.sizes) (λ n. is_listed n xs)) same))
 
 -- where the list has just the cells that pass, its numbers are theirs, rising
 pub settled-gathered : (I : Draft) (v : Gathered) (passes : Cell → Bool) → v.sizes ≡ sizes_of I → ((c : Cell) → IsCellOf I c → holds v c ≡ passes c)

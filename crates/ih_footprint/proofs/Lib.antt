@@ -7,7 +7,8 @@ pub mod Ranked
 pub mod Prices
 pub mod BitLemmas
 pub mod WrittenLemmas
-pub mod MarkLemmas
+pub mod SetLemmas
+pub mod ListLemmas
 pub mod GatherLemmas
 pub mod FootLemmas
 pub mod LookLemmas

@@ -11,16 +11,17 @@ ghost use Rattle.ih_plan.specs.declared.moves.Move.TheVariants.{SwapRooms, SwapN
 ghost use Rattle.ih_plan.specs.Writes.{IsWriteOf};
 ghost use Rattle.ih_plan.specs.Cells.{IsCellIn};
 ghost use Rattle.ih_plan.specs.Footprint.{write_touches, in_placement, in_stay, looks_at};
-ghost use Rattle.ih_footprint.specs.Gathered.{Gathers};
+ghost use Rattle.ih_footprint.specs.Gathered.{settled, Gathers};
 ghost use Rattle.ih_footprint.specs.Pieces.{in_shift, in_day, in_days, in_nurse, in_cares};
 ghost use Rattle.ih_plan.specs.Present.{ArePresent};
 
 use crate::cell_lists::CellList;
+use crate::cell_sets::CellSet;
 use ih_plan::{Members, Move, Placement, Plan, Write};
 use ih_tables::{Cell, Day, Instance, NurseNo, PatientNo, PersonNo, RoomNo, Shift};
 
 // A room in a shift, and the shift of its nurse.
-fn add_shift(inst: &Instance, plan: &Plan, r: RoomNo, k: Shift, out: &mut CellList)
+fn add_shift(inst: &Instance, plan: &Plan, r: RoomNo, k: Shift, out: &mut CellSet)
     requires plan { IsPlanOf inst.now.draft plan.now }
     requires room { r.0 < room_count inst.now.draft }
     requires shift { k.0 < shift_count inst.now.draft }
@@ -35,7 +36,7 @@ fn add_shift(inst: &Instance, plan: &Plan, r: RoomNo, k: Shift, out: &mut CellLi
 }
 
 // A room on a day and in its shifts, and the shifts of its nurses.
-fn add_day(inst: &Instance, plan: &Plan, r: RoomNo, d: u32, out: &mut CellList)
+fn add_day(inst: &Instance, plan: &Plan, r: RoomNo, d: u32, out: &mut CellSet)
     requires plan { IsPlanOf inst.now.draft plan.now }
     requires room { r.0 < room_count inst.now.draft }
     requires day { d < inst.now.draft.days }
@@ -50,7 +51,7 @@ fn add_day(inst: &Instance, plan: &Plan, r: RoomNo, d: u32, out: &mut CellList)
 }
 
 // The same of the days from `from` on and before `to`.
-fn add_days(inst: &Instance, plan: &Plan, r: RoomNo, from: u32, to: u32, out: &mut CellList)
+fn add_days(inst: &Instance, plan: &Plan, r: RoomNo, from: u32, to: u32, out: &mut CellSet)
     requires plan { IsPlanOf inst.now.draft plan.now }
     requires room { r.0 < room_count inst.now.draft }
     requires order { from ≤ to }
@@ -65,7 +66,7 @@ fn add_days(inst: &Instance, plan: &Plan, r: RoomNo, from: u32, to: u32, out: &m
 }
 
 // The cells of a patient's placement.
-fn add_placement(inst: &Instance, plan: &Plan, p: PatientNo, at: Placement, out: &mut CellList)
+fn add_placement(inst: &Instance, plan: &Plan, p: PatientNo, at: Placement, out: &mut CellSet)
     requires plan { IsPlanOf inst.now.draft plan.now }
     requires patient { p.0 < patient_count inst.now.draft }
     requires placement { IsPlacement inst.now.draft at }
@@ -80,7 +81,7 @@ fn add_placement(inst: &Instance, plan: &Plan, p: PatientNo, at: Placement, out:
 }
 
 // The cells of a patient's placement, where there is one.
-fn add_stay(inst: &Instance, plan: &Plan, p: PatientNo, stay: Option<Placement>, out: &mut CellList)
+fn add_stay(inst: &Instance, plan: &Plan, p: PatientNo, stay: Option<Placement>, out: &mut CellSet)
     requires plan { IsPlanOf inst.now.draft plan.now }
     requires patient { p.0 < patient_count inst.now.draft }
     requires placement { (at : Placement) → stay ≡ Some at → IsPlacement inst.now.draft at }
@@ -100,7 +101,7 @@ fn add_cares<M: Members>(
     members: &M,
     r: RoomNo,
     d: Day,
-    out: &mut CellList,
+    out: &mut CellSet,
 )
     requires members { ArePresent inst.now.draft plan.now (M.rooms members.now) (M.days members.now) (M.persons members.now) }
     requires room { r.0 < room_count inst.now.draft }
@@ -113,7 +114,7 @@ fn add_cares<M: Members>(
     }
 }
 
-fn add_nurse(inst: &Instance, n: Option<NurseNo>, k: Shift, out: &mut CellList)
+fn add_nurse(inst: &Instance, n: Option<NurseNo>, k: Shift, out: &mut CellSet)
     requires nurse { (m : NurseNo) → n ≡ Some m → m.0 < nurse_count inst.now.draft }
     requires shift { k.0 < shift_count inst.now.draft }
     requires sizes { out.old.sizes ≡ sizes_of inst.now.draft }
@@ -131,7 +132,7 @@ fn add_set_stay(
     plan: &Plan,
     p: PatientNo,
     new: Option<Placement>,
-    out: &mut CellList,
+    out: &mut CellSet,
 )
     requires plan { IsPlanOf inst.now.draft plan.now }
     requires write { IsWriteOf inst.now.draft (SetStay p new) }
@@ -152,7 +153,7 @@ fn add_set_care<M: Members>(
     r: RoomNo,
     k: Shift,
     new: Option<NurseNo>,
-    out: &mut CellList,
+    out: &mut CellSet,
 )
     requires plan { IsPlanOf inst.now.draft plan.now }
     requires write { IsWriteOf inst.now.draft (SetCare r k new) }
@@ -165,8 +166,8 @@ fn add_set_care<M: Members>(
     add_cares(inst, plan, members, r, Day(k.0 / 3), out);
 }
 
-/// Adds the footprint of a write at a timetable, whose present persons the members tell.
-pub fn foot<M: Members>(inst: &Instance, plan: &Plan, members: &M, w: &Write, out: &mut CellList)
+// Gathers the footprint of a write.
+fn gather<M: Members>(inst: &Instance, plan: &Plan, members: &M, w: &Write, out: &mut CellSet)
     requires plan { IsPlanOf inst.now.draft plan.now }
     requires write { IsWriteOf inst.now.draft w.now }
     requires members { ArePresent inst.now.draft plan.now (M.rooms members.now) (M.days members.now) (M.persons members.now) }
@@ -177,6 +178,21 @@ pub fn foot<M: Members>(inst: &Instance, plan: &Plan, members: &M, w: &Write, ou
         Write::SetStay(p, new) => add_set_stay(inst, plan, p, new, out),
         Write::SetCare(r, k, new) => add_set_care(inst, plan, members, r, k, new, out),
     }
+}
+
+/// Adds the footprint of a write at a timetable, whose present persons the members tell. All cells of the list then
+/// rise.
+pub fn foot<M: Members>(inst: &Instance, plan: &Plan, members: &M, w: &Write, out: &mut CellList)
+    requires plan { IsPlanOf inst.now.draft plan.now }
+    requires write { IsWriteOf inst.now.draft w.now }
+    requires members { ArePresent inst.now.draft plan.now (M.rooms members.now) (M.days members.now) (M.persons members.now) }
+    requires sizes { out.old.sizes ≡ sizes_of inst.now.draft }
+    ensures gathers { Gathers out.old out.new (write_touches inst.now.draft plan.now w.now) }
+    ensures rising { out.new.cells ≡ settled out.new }
+{
+    out.set.add_all(&out.room[..out.len]);
+    gather(inst, plan, members, w, &mut out.set);
+    out.len = out.set.write(out.room.as_mut_slice());
 }
 
 // The stays of two patients, where they are two.

@@ -3,6 +3,7 @@
 
 mod bits;
 mod cell_lists;
+mod cell_sets;
 mod footprints;
 mod laws;
 mod numbering;

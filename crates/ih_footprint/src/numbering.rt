@@ -119,6 +119,7 @@ impl Numbering {
     }
 
     /// The number of a cell, from which `cell` gives the cell back.
+    #[inline(always)]
     pub fn number(&self, c: Cell) -> u32
         requires { IsCellIn self.now c }
         ensures number { result ≡ number_in self.now c }
@@ -128,6 +129,7 @@ impl Numbering {
         self.number_by_kind(c)
     }
 
+    #[inline(always)]
     fn number_by_kind(&self, c: Cell) -> u32
         requires { IsCellIn self.now c }
         ensures { result ≡ number_in self.now c }
