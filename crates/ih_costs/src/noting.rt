@@ -28,7 +28,9 @@ fn put_noting(inst: &Instance, ledgers: &mut CellLedgers, writes: &[Write], cell
         Some((w, rest)) => {
             foot(inst, ledgers.plan(), &ledgers.room_days, w, cells);
             ledgers.put(inst, w);
-            put_noting(inst, ledgers, rest, cells);
+            if rest.len() != 0 {
+                put_noting(inst, ledgers, rest, cells);
+            }
         }
     }
 }

@@ -1,6 +1,6 @@
 //! What a move changes in the bill: each of its writes is priced where it would be made.
 
-ghost use Rattle.std.specs.Prelude.{◌≡◌, ◌^◌, ◌||◌, ℕ, [], ◌∷◌};
+ghost use Rattle.std.specs.Prelude.{◌≡◌, ◌^◌, [], ◌∷◌};
 ghost use Rattle.ih_tables.specs.Bills.{IsWithin};
 ghost use Rattle.ih_tables.specs.Sizes.{sizes_of};
 ghost use Rattle.ih_plan.specs.Timetable.{IsPlanOf};
@@ -8,8 +8,7 @@ ghost use Rattle.ih_plan.specs.Writes.{put, put_all, IsWriteOf, AreWritesOf};
 ghost use Rattle.ih_plan.specs.Expand.{after, IsMoveOf};
 ghost use Rattle.ih_plan.specs.BillOf.{change_of_bill};
 ghost use Rattle.ih_plan.specs.Footprint.{footprint, write_touches};
-ghost use Rattle.ih_plan.specs.Sums.{is_listed};
-ghost use Rattle.ih_footprint.specs.Gathered.{Gathers};
+ghost use Rattle.ih_footprint.specs.Gathered.{settled, Gathers};
 ghost use Rattle.ih_costs.specs.CellLedgers.{AreLedgers, AreLedgersOf, timetable_of};
 ghost use Rattle.ih_costs.specs.Touched.{listed_or_touched};
 ghost use Rattle.ih_costs.specs.Undo.{undo_of};
@@ -53,22 +52,11 @@ fn change_by_write(inst: &Instance, ledgers: &CellLedgers, w: &Write, cells: &mu
     ensures change { result ≡ change_of_bill inst.now.draft (timetable_of ledgers.now) (put w.now (timetable_of ledgers.now)) }
 {
     foot(inst, ledgers.plan(), &ledgers.room_days, w, cells);
-    cells.settle();
     ledgers.sum_changes(inst, w, cells.cells())
 }
 
-// Lists the cells of a list in another too.
-fn add_all(from: &CellList, to: &mut CellList)
-    requires { from.now.sizes ≡ to.old.sizes }
-    ensures cells { (n : ℕ) → is_listed n to.new.cells ≡ (is_listed n to.old.cells || is_listed n from.now.cells) }
-    ensures sizes { to.new.sizes ≡ to.old.sizes }
-{
-    for &n in from.cells() {
-        to.add(n);
-    }
-}
-
-// What a write changes in the bill. The cells that it touches are listed too. `one` then has just these. It isn't made.
+// What a write changes in the bill. The cells that it touches are listed too, and all then rise. `one` has just these.
+// It isn't made.
 fn change_alone(
     inst: &Instance,
     ledgers: &CellLedgers,
@@ -82,11 +70,12 @@ fn change_alone(
     requires sizes { cells.old.sizes ≡ sizes_of inst.now.draft }
     ensures one { one.new.sizes ≡ one.old.sizes }
     ensures cells { Gathers cells.old cells.new (write_touches inst.now.draft (timetable_of ledgers.now) w.now) }
+    ensures rising { cells.new.cells ≡ settled cells.new }
     ensures change { result ≡ change_of_bill inst.now.draft (timetable_of ledgers.now) (put w.now (timetable_of ledgers.now)) }
 {
     one.clear();
     let change = change_by_write(inst, ledgers, w, one);
-    add_all(one, cells);
+    cells.take_in(one);
     change
 }
 
@@ -113,10 +102,7 @@ fn change_in_turn(
 {
     let here = change_alone(inst, ledgers, w, one, cells);
     match rest.split_first() {
-        None => {
-            cells.settle();
-            here
-        }
+        None => here,
         Some((next, later)) => {
             let undo = undo_of(inst, ledgers.plan(), w);
             ledgers.put(inst, w);

@@ -43,7 +43,7 @@ returns-in-None-clause-cells t c =
     let w = c.args.w.now in
     let u = c.args.cells.now in
     let none : c.args.rest.now ≡ [] = nil_from_length c.args.rest.now c.in-None.ensures.cases in
-    c.settle.ensures.cells ∙ (touched-one I P u c.change_alone-here.new.cells w c.requires.sizes c.change_alone-here.ensures.cells ∙ ap (λ ws. listed_or_touched I P u.cells (w ∷ ws)) (sym none))
+    c.change_alone-here.ensures.rising ∙ (touched-one I P u c.change_alone-here.new.cells w c.requires.sizes c.change_alone-here.ensures.cells ∙ ap (λ ws. listed_or_touched I P u.cells (w ∷ ws)) (sym none))
 
 pub returns-in-None-clause-change : goal.returns-in-None-clause-change
 returns-in-None-clause-change t c =

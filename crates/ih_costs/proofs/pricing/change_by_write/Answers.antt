@@ -22,9 +22,9 @@ sum_changes-requires-clause-cells c =
     let P = timetable_of c.args.ledgers.now in
     let u = c.args.cells.now in
     let w = c.args.w.now in
-    let gathers : Gathers u c.foot.new.out (write_touches I P w) = subst (λ Q. Gathers u c.foot.new.out (write_touches I Q w)) c.plan.ensures c.foot.ensures in (
+    let gathers : Gathers u c.foot.new.out (write_touches I P w) = subst (λ Q. Gathers u c.foot.new.out (write_touches I Q w)) c.plan.ensures c.foot.ensures.gathers in (
       λ n. is_listed n u.cells || writes_touch I P (w ∷ []) (cell_at I n),
-      c.cells.ensures.cells ∙ (c.settle.ensures.cells ∙ (touched-one I P u c.foot.new.out w c.requires.sizes gathers ∙ listed-passing I P u.cells (w ∷ []))),
+      c.cells.ensures.cells ∙ (c.foot.ensures.rising ∙ (touched-one I P u c.foot.new.out w c.requires.sizes gathers ∙ listed-passing I P u.cells (w ∷ []))),
     )
 
 pub returns-clause-cells : goal.returns-clause-cells
@@ -33,8 +33,8 @@ returns-clause-cells c =
     let P = timetable_of c.args.ledgers.now in
     let u = c.args.cells.now in
     let w = c.args.w.now in
-    let gathers : Gathers u c.foot.new.out (write_touches I P w) = subst (λ Q. Gathers u c.foot.new.out (write_touches I Q w)) c.plan.ensures c.foot.ensures in
-    c.settle.ensures.cells ∙ touched-one I P u c.foot.new.out w c.requires.sizes gathers
+    let gathers : Gathers u c.foot.new.out (write_touches I P w) = subst (λ Q. Gathers u c.foot.new.out (write_touches I Q w)) c.plan.ensures c.foot.ensures.gathers in
+    c.foot.ensures.rising ∙ touched-one I P u c.foot.new.out w c.requires.sizes gathers
 
 pub returns-clause-change : goal.returns-clause-change
 returns-clause-change c =
@@ -42,6 +42,6 @@ returns-clause-change c =
     let P = timetable_of c.args.ledgers.now in
     let u = c.args.cells.now in
     let w = c.args.w.now in
-    let gathers : Gathers u c.foot.new.out (write_touches I P w) = subst (λ Q. Gathers u c.foot.new.out (write_touches I Q w)) c.plan.ensures c.foot.ensures in
-    let listed = c.cells.ensures.cells ∙ (c.settle.ensures.cells ∙ touched-one I P u c.foot.new.out w c.requires.sizes gathers) in
+    let gathers : Gathers u c.foot.new.out (write_touches I P w) = subst (λ Q. Gathers u c.foot.new.out (write_touches I Q w)) c.plan.ensures c.foot.ensures.gathers in
+    let listed = c.cells.ensures.cells ∙ (c.foot.ensures.rising ∙ touched-one I P u c.foot.new.out w c.requires.sizes gathers) in
     c.sum_changes.ensures ∙ (ap (λ ns. sum_change I P w ns) listed ∙ write-change I P w u.cells (plan-fits I P c.args.ledgers.now c.requires.stands) c.requires.write)
