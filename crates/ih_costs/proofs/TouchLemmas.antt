@@ -115,3 +115,10 @@ listed-footprint I P Q m u v ws ns sizes none g same made listed =
 pub footprint-passing : (I : Draft) (P : Timetable) (m : Move) → footprint I P m ≡ which_below (cell_count I) (λ n. touches I P m (cell_at I n))
 unfolding footprint
 footprint-passing I P m = refl
+
+-- what is listed or touched rests on which are listed alone
+pub listed-alike : (I : Draft) (P : Timetable) (ns ms : List ℕ) (ws : List Write) → ((n : ℕ) → is_listed n ns ≡ is_listed n ms) → listed_or_touched I P ns ws ≡ listed_or_touched I P ms ws
+unfolding listed_or_touched
+listed-alike I P ns ms ws same =
+    which_below-same (cell_count I) (λ n. is_listed n ns || writes_touch I P ws (cell_at I n)) (λ n. is_listed n ms || writes_touch I P ws (cell_at I n))
+    (λ n h. ap (λ b. b || writes_touch I P ws (cell_at I n)) (same n))

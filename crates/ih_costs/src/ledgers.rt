@@ -4,7 +4,7 @@ use crate::cell_ledgers::CellLedgers;
 use crate::copies::copy_plan;
 use crate::noting::play_noting;
 use crate::pricing::{price_of, put_all};
-use ih_footprint::{CellList, Numbering};
+use ih_footprint::{CellList, CellSet, Numbering};
 use ih_moves::{Writes, expand};
 use ih_plan::{Members, Move, Plan, Write};
 use ih_tables::{Bill, Day, Instance, RoomNo};
@@ -21,10 +21,12 @@ pub struct Ledgers<'a> {
     writes: Writes,
     // Room for the cells that one write touches.
     one: CellList,
+    // Where the cells of a move that is made are gathered. It has none between calls.
+    set: CellSet,
 }
 
 impl<'a> Model for Ledgers<'a> {
-    ghost use Rattle.std.specs.Prelude.{◌≡◌};
+    ghost use Rattle.std.specs.Prelude.{◌≡◌, []};
     ghost use Rattle.ih_tables.specs.Sizes.{sizes_of};
     ghost use Rattle.ih_costs.specs.Standing.{Standing};
     ghost use Rattle.ih_costs.specs.CellLedgers.{AreLedgers, timetable_of};
@@ -33,7 +35,7 @@ impl<'a> Model for Ledgers<'a> {
 
     ghost view = { λ l. record { instance = l.inst.now.draft; plan = timetable_of l.cells } };
 
-    ghost invariant = { λ l. AreLedgers l.inst.now.draft l.cells × (l.one.sizes ≡ sizes_of l.inst.now.draft) };
+    ghost invariant = { λ l. AreLedgers l.inst.now.draft l.cells × (l.one.sizes ≡ sizes_of l.inst.now.draft) × (l.set.cells ≡ []) × (l.set.sizes ≡ sizes_of l.inst.now.draft) };
 }
 
 impl<'a> Ledgers<'a> {
@@ -60,6 +62,7 @@ impl<'a> Ledgers<'a> {
             cells,
             writes: Writes::new(),
             one: CellList::new(alloc, Numbering::of(inst))?,
+            set: CellSet::new(alloc, Numbering::of(inst))?,
         })
     }
 
@@ -122,7 +125,14 @@ impl<'a> Ledgers<'a> {
         ensures cells { foot.new.cells ≡ footprint self.old.instance self.old.plan mv.now }
         ensures sizes { foot.new.sizes ≡ foot.old.sizes }
     {
-        play_noting(self.inst, &mut self.cells, &mut self.writes, mv, foot);
+        play_noting(
+            self.inst,
+            &mut self.cells,
+            &mut self.writes,
+            &mut self.set,
+            mv,
+            foot,
+        );
     }
 
     /// What a move would add to the bill, number by number: each is at most 10^11 in magnitude. In place of what was listed

@@ -166,8 +166,8 @@ fn add_set_care<M: Members>(
     add_cares(inst, plan, members, r, Day(k.0 / 3), out);
 }
 
-// Gathers the footprint of a write.
-fn gather<M: Members>(inst: &Instance, plan: &Plan, members: &M, w: &Write, out: &mut CellSet)
+/// Adds the footprint of a write at a timetable, whose present persons the members tell, to a set.
+pub fn gather<M: Members>(inst: &Instance, plan: &Plan, members: &M, w: &Write, out: &mut CellSet)
     requires plan { IsPlanOf inst.now.draft plan.now }
     requires write { IsWriteOf inst.now.draft w.now }
     requires members { ArePresent inst.now.draft plan.now (M.rooms members.now) (M.days members.now) (M.persons members.now) }

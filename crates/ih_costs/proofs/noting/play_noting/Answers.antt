@@ -1,4 +1,6 @@
-use Rattle.std.proofs.Common.{◌∙◌, sym, ap, subst}
+use Rattle.std.proofs.Common.{◌≡◌, ℕ, ◌∙◌, sym, ap, subst}
+use Rattle.std.specs.Prelude.{◌||◌}
+use Rattle.ih_plan.specs.Sums.{is_listed}
 use Rattle.ih_plan.specs.Writes.{put_all}
 use Rattle.ih_plan.specs.Expand.{expand}
 use Rattle.ih_plan.specs.Cells.{IsCellIn}
@@ -6,7 +8,7 @@ use Rattle.ih_plan.proofs.PlanRanges.{expand-writes}
 use Rattle.ih_footprint.proofs.LookLemmas.{looks-inside}
 use Rattle.ih_costs.specs.CellLedgers.{AreLedgersOf, timetable_of}
 use Rattle.ih_costs.proofs.StandLemmas.{plan-fits}
-use Rattle.ih_costs.proofs.TouchLemmas.{listed-footprint}
+use Rattle.ih_costs.proofs.TouchLemmas.{listed-footprint, listed-alike}
 use Rattle.ih_costs.proofs.noting.play_noting.Goals as goal
 
 pub looks-requires : goal.looks-requires
@@ -29,6 +31,11 @@ returns-clause-stands c =
 
 pub returns-clause-cells : goal.returns-clause-cells
 returns-clause-cells c =
-    listed-footprint c.args.inst.now.draft (timetable_of c.args.ledgers.now) c.plan.result.now c.args.mv.now c.clear.new.self c.looks.new.out c.as_slice.result.now
-    c.put_noting.new.cells.cells (c.clear.ensures.sizes ∙ c.requires.sizes) c.clear.ensures.cells c.looks.ensures c.plan.ensures (c.as_slice.ensures ∙ c.expand.ensures.made)
-    c.put_noting.ensures.cells
+    let I = c.args.inst.now.draft in
+    let P = timetable_of c.args.ledgers.now in
+    let ws = c.as_slice.result.now in
+    let same : (n : ℕ) → is_listed n c.add_all.new.self.cells ≡ is_listed n c.looks.new.out.cells = λ n.
+    c.add_all.ensures.cells n ∙ (ap (λ ms. is_listed n ms || is_listed n c.cells.result.now) c.requires.empty ∙ ap (is_listed n) c.cells.ensures.cells) in
+    listed-footprint I P c.plan.result.now c.args.mv.now c.clear.new.self c.looks.new.out ws
+    c.take_from.new.self.cells (c.clear.ensures.sizes ∙ c.requires.sizes) c.clear.ensures.cells c.looks.ensures c.plan.ensures (c.as_slice.ensures ∙ c.expand.ensures.made)
+    (c.take_from.ensures.cells ∙ (c.put_noting.ensures.cells ∙ listed-alike I P c.add_all.new.self.cells c.looks.new.out.cells ws same))
