@@ -17,7 +17,7 @@ p0 = record { 0 = 0 }
 abbrev pub p1 : PatientNo
 p1 = record { 0 = 1 }
 
-pub first-day : (I : Draft) (t : ℕ) (at : Placement) → I.days ≡ 2 → room_count I ≡ 1 → theatre_count I ≡ 2 → t < 2
+pub first-day : (I : Draft) (t : ℕ) (at : Placement) → I.days ≡ 2 → room_count I ≡ 2 → theatre_count I ≡ 2 → t < 2
     → at ≡ record { day = record { 0 = 0 }; room = record { 0 = 0 }; theatre = record { 0 = t } } → IsPlacement I at
 first-day I t at days rooms theatres below is = rw is (record { day = omega arith; room = omega arith; theatre = omega arith })
 

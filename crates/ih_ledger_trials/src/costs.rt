@@ -1,63 +1,19 @@
 //! Moves on a ward of two patients, of whom the first is admitted, with one nurse in all shifts.
 
-ghost use Rattle.std.specs.Prelude.{◌≡◌, IfOk};
-ghost use Rattle.ih_tables.specs.Sizes.{patient_count, room_count, theatre_count, nurse_count, sizes_of};
-ghost use Rattle.ih_plan.specs.Timetable.{IsPlanOf};
+ghost use Rattle.std.specs.Prelude.{◌≡◌};
+ghost use Rattle.ih_tables.specs.Sizes.{sizes_of};
 ghost use Rattle.ih_plan.specs.Expand.{IsMoveOf};
+ghost use Rattle.ih_ward.specs.Two.{IsOfTwo};
 
-use crate::Ledgers;
-use crate::example::example;
+use ih_costs::Ledgers;
 use ih_footprint::{CellList, Numbering};
-use ih_plan::{Move, Placement, Plan, Write};
-use ih_tables::{Bill, Day, Instance, NurseNo, PatientNo, RoomNo, Shift, TheatreNo};
-use std::alloc::{AllocError, Global};
+use ih_plan::{Move, Write};
+use ih_tables::{Bill, Day, Instance, NurseNo, PatientNo, RoomNo, Shift};
+use ih_ward::{begin, first_day, ward};
 use std::test::Fail;
 
 /// Threads share the ledgers.
 fn share<T: Send + Sync>(_x: &T) {}
-
-// The first room and this theatre on the first day.
-fn first_day(theatre: TheatreNo) -> Placement
-    ensures { result ≡ record { day = record { 0 = 0 }; room = record { 0 = 0 }; theatre = theatre } }
-{
-    Placement {
-        day: Day(0),
-        room: RoomNo(0),
-        theatre,
-    }
-}
-
-// Admits the first patient, and gives the first room to the first nurse in all shifts.
-#[tactic(auto, using(ih_plan::proofs::PlanRanges::plan_steps))]
-fn fill(inst: &Instance, plan: &mut Plan)
-    requires plan { IsPlanOf inst.now.draft plan.old }
-    requires days { inst.now.draft.days ≡ 2 }
-    requires patients { patient_count inst.now.draft ≡ 2 }
-    requires rooms { room_count inst.now.draft ≡ 2 }
-    requires theatres { theatre_count inst.now.draft ≡ 2 }
-    requires nurses { nurse_count inst.now.draft ≡ 2 }
-    ensures { IsPlanOf inst.now.draft plan.new }
-{
-    plan.put(&Write::SetStay(PatientNo(0), Some(first_day(TheatreNo(0)))));
-    for k in 0..6 {
-        plan.put(&Write::SetCare(RoomNo(0), Shift(k), Some(NurseNo(0))));
-    }
-}
-
-// The timetable of the tests.
-#[tactic(auto, using(ih_plan::proofs::PlanRanges::plan_steps))]
-fn start(alloc: Global, inst: &Instance) -> Result<Plan, AllocError>
-    requires days { inst.now.draft.days ≡ 2 }
-    requires patients { patient_count inst.now.draft ≡ 2 }
-    requires rooms { room_count inst.now.draft ≡ 2 }
-    requires theatres { theatre_count inst.now.draft ≡ 2 }
-    requires nurses { nurse_count inst.now.draft ≡ 2 }
-    ensures { IfOk result (λ plan. IsPlanOf inst.now.draft plan) }
-{
-    let mut plan = Plan::empty(alloc, inst)?;
-    fill(inst, &mut plan);
-    Ok(plan)
-}
 
 // Whether a bill has these numbers.
 fn is(bill: &Bill, broken: [i64; 9], soft: [i64; 8]) -> bool {
@@ -87,14 +43,10 @@ fn costs(
 fn prices_are_right(inst: &Instance, ledgers: &mut Ledgers<'_>, foot: &mut CellList) -> bool
     requires instance { ledgers.old.instance ≡ inst.now.draft }
     requires sizes { foot.old.sizes ≡ sizes_of inst.now.draft }
-    requires days { inst.now.draft.days ≡ 2 }
-    requires patients { patient_count inst.now.draft ≡ 2 }
-    requires rooms { room_count inst.now.draft ≡ 2 }
-    requires theatres { theatre_count inst.now.draft ≡ 2 }
-    requires nurses { nurse_count inst.now.draft ≡ 2 }
+    requires two { IsOfTwo inst.now.draft }
     ensures { ledgers.new ≡ ledgers.old }
 {
-    let join = Move::Place(PatientNo(1), first_day(TheatreNo(1)));
+    let join = Move::Place(PatientNo(1), first_day(1));
     let night = Move::Nurse(RoomNo(0), Shift(2), NurseNo(1));
     let later = Move::SetDay(PatientNo(1), Day(1));
     let joined = costs(
@@ -123,13 +75,10 @@ const ALONE: [i64; 8] = [1, 2, 2, 0, 1, 0, 0, 1];
 // Whether the bill follows the second patient, who joins the first and leaves again.
 fn bills_follow(inst: &Instance, ledgers: &mut Ledgers<'_>) -> bool
     requires instance { ledgers.old.instance ≡ inst.now.draft }
-    requires days { inst.now.draft.days ≡ 2 }
-    requires patients { patient_count inst.now.draft ≡ 2 }
-    requires rooms { room_count inst.now.draft ≡ 2 }
-    requires theatres { theatre_count inst.now.draft ≡ 2 }
+    requires two { IsOfTwo inst.now.draft }
 {
     let before = ledgers.total();
-    ledgers.play(&Move::Place(PatientNo(1), first_day(TheatreNo(1))));
+    ledgers.play(&Move::Place(PatientNo(1), first_day(1)));
     let joined = ledgers.total();
     ledgers.put(&Write::SetStay(PatientNo(1), None));
     let left = ledgers.total();
@@ -146,15 +95,8 @@ fn bills_follow(inst: &Instance, ledgers: &mut Ledgers<'_>) -> bool
 #[test]
 fn moves_are_priced_by_what_they_touch_and_bills_follow(rt: HostRuntime) -> Result<(), Fail> {
     let alloc = rt.alloc();
-    let draft = example(alloc)?;
-    assert!(rt; draft.is_valid());
-    let inst = Instance::seal(alloc, draft)?;
-    assert!(rt; inst.days() == 2);
-    assert!(rt; inst.patients() == 2);
-    assert!(rt; inst.rooms() == 2);
-    assert!(rt; inst.theatres() == 2);
-    assert!(rt; inst.nurses() == 2);
-    let plan = start(alloc, &inst)?;
+    let inst = ward(alloc, &[])?;
+    let plan = begin(alloc, &inst)?;
     let mut ledgers = Ledgers::new(alloc, &inst, &plan)?;
     share(&ledgers);
     let mut foot = CellList::new(alloc, Numbering::of(&inst))?;

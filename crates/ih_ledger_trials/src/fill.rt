@@ -3,20 +3,12 @@
 ghost use Rattle.std.specs.Prelude.{IfOk};
 ghost use Rattle.ih_plan.specs.Timetable.{IsPlanOf};
 
-use crate::example::example;
-use crate::fill;
+use ih_fill::fill;
 use ih_plan::{Placement, Plan};
 use ih_tables::{Day, Instance, NurseNo, PatientNo, RoomNo, Shift, TheatreNo};
+use ih_ward::ward;
 use std::alloc::{AllocError, Global};
-use std::process::Abort;
 use std::test::Fail;
-
-// The example in which the second patient can't have some rooms, once it is known to be valid.
-fn ward(rt: &impl Abort, alloc: Global, barred: &[RoomNo]) -> Result<Instance, AllocError> {
-    let draft = example(alloc, barred)?;
-    assert!(rt; draft.is_valid());
-    Instance::seal(alloc, draft)
-}
 
 // The fill of the empty timetable.
 #[tactic(auto, using(ih_plan::proofs::PlanRanges::plan_steps))]
@@ -89,7 +81,7 @@ fn is_skilled(inst: &Instance, plan: &Plan) -> bool
 #[test]
 fn patients_then_nurses_by_least_change(rt: HostRuntime) -> Result<(), Fail> {
     let alloc = rt.alloc();
-    let inst = ward(&rt, alloc, &[])?;
+    let inst = ward(alloc, &[])?;
     let plan = filled(alloc, &inst)?;
     assert!(rt; is_placed(&inst, &plan, 0, 1, 0));
     assert!(rt; is_placed(&inst, &plan, 1, 0, 1));
@@ -104,7 +96,7 @@ fn patients_then_nurses_by_least_change(rt: HostRuntime) -> Result<(), Fail> {
 #[test]
 fn a_patient_without_a_compatible_room_is_left_out(rt: HostRuntime) -> Result<(), Fail> {
     let alloc = rt.alloc();
-    let inst = ward(&rt, alloc, &[RoomNo(1)])?;
+    let inst = ward(alloc, &[RoomNo(1)])?;
     let plan = filled(alloc, &inst)?;
     assert!(rt; is_placed(&inst, &plan, 0, 1, 0));
     assert!(rt; is_out(&inst, &plan, 1));

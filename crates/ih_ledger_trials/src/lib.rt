@@ -1,4 +1,4 @@
-//! Tests of crates.
+//! Tests of timetables, moves, footprints, the ledgers and what is priced by them.
 #![tactic(auto)]
 
 #[cfg(test)]

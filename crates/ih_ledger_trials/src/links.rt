@@ -3,7 +3,7 @@
 ghost use Rattle.std.specs.Prelude.{◌≡◌, ◌<◌, length, IfOk};
 ghost use Rattle.ih_links.specs.Lists.{list_of};
 
-use crate::Links;
+use ih_links::Links;
 use std::alloc::{AllocError, Global};
 use std::test::Fail;
 

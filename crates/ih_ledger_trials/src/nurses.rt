@@ -1,29 +1,16 @@
 //! A patient joins an occupant under a nurse, and another comes and goes.
 
-ghost use Rattle.std.specs.Prelude.{◌≡◌};
-ghost use Rattle.ih_tables.specs.Sizes.{patient_count, room_count, theatre_count, nurse_count};
 ghost use Rattle.ih_plan.specs.Timetable.{Timetable, empty};
 ghost use Rattle.ih_nurses.specs.Ledger.{IsLedgerOf};
+ghost use Rattle.ih_ward.specs.Two.{IsOfTwo};
 
-use crate::Nurses;
-use crate::example::example;
-use ih_plan::Placement;
-use ih_tables::{Bill, Day, Instance, NurseNo, PatientNo, PersonNo, RoomNo, Shift, TheatreNo};
+use ih_nurses::Nurses;
+use ih_tables::{Bill, Instance, NurseNo, PatientNo, PersonNo, RoomNo, Shift};
+use ih_ward::{first_day, ward};
 use std::test::Fail;
 
 /// Threads share a ledger.
 fn share<T: Send + Sync>(_x: &T) {}
-
-// The first room and this theatre on the first day.
-fn first_day(theatre: TheatreNo) -> Placement
-    ensures { result ≡ record { day = record { 0 = 0 }; room = record { 0 = 0 }; theatre = theatre } }
-{
-    Placement {
-        day: Day(0),
-        room: RoomNo(0),
-        theatre,
-    }
-}
 
 // Whether the bill has these numbers: broken rules, then costs.
 fn is(bill: &Bill, broken: [i64; 9], costs: [i64; 8]) -> bool {
@@ -55,13 +42,9 @@ const LOAD_LESS_1: [i64; 8] = [0, 0, 0, -1, 0, 0, 0, 0];
 // Whether each bill is right after the first patient joins the occupant, and the unskilled nurse has the room in the night.
 fn one_is_right(inst: &Instance, ledger: &mut Nurses) -> bool
     requires new { IsLedgerOf inst.now.draft (empty inst.now.draft) ledger.old }
-    requires days { inst.now.draft.days ≡ 2 }
-    requires patients { patient_count inst.now.draft ≡ 2 }
-    requires rooms { room_count inst.now.draft ≡ 2 }
-    requires theatres { theatre_count inst.now.draft ≡ 2 }
-    requires nurses { nurse_count inst.now.draft ≡ 2 }
+    requires two { IsOfTwo inst.now.draft }
 {
-    let at = first_day(TheatreNo(0));
+    let at = first_day(0);
     ledger.enter(inst, PatientNo(0), at);
     ledger.set_care(inst, RoomNo(0), Shift(2), Some(NurseNo(0)));
     let night = ledger.room_shift_bill(inst, RoomNo(0), Shift(2));
@@ -80,15 +63,11 @@ fn one_is_right(inst: &Instance, ledger: &mut Nurses) -> bool
 // Whether each bill is right while the second patient comes and goes under that nurse.
 fn coming_is_right(inst: &Instance, ledger: &mut Nurses) -> bool
     requires new { IsLedgerOf inst.now.draft (empty inst.now.draft) ledger.old }
-    requires days { inst.now.draft.days ≡ 2 }
-    requires patients { patient_count inst.now.draft ≡ 2 }
-    requires rooms { room_count inst.now.draft ≡ 2 }
-    requires theatres { theatre_count inst.now.draft ≡ 2 }
-    requires nurses { nurse_count inst.now.draft ≡ 2 }
+    requires two { IsOfTwo inst.now.draft }
 {
-    let at = first_day(TheatreNo(1));
+    let at = first_day(1);
     ledger.set_care(inst, RoomNo(0), Shift(2), Some(NurseNo(0)));
-    ledger.enter(inst, PatientNo(0), first_day(TheatreNo(0)));
+    ledger.enter(inst, PatientNo(0), first_day(0));
     ledger.enter(inst, PatientNo(1), at);
     let night = ledger.room_shift_bill(inst, RoomNo(0), Shift(2));
     let load = ledger.nurse_shift_bill(inst, NurseNo(0), Shift(2));
@@ -106,13 +85,9 @@ fn coming_is_right(inst: &Instance, ledger: &mut Nurses) -> bool
 // Whether each change by a stay is right where the first patient and the occupant are there, under the unskilled nurse in the night.
 fn stay_changes_are_right(inst: &Instance, ledger: &Nurses) -> bool
     requires stands { (P : Timetable) × IsLedgerOf inst.now.draft P ledger.now }
-    requires days { inst.now.draft.days ≡ 2 }
-    requires patients { patient_count inst.now.draft ≡ 2 }
-    requires rooms { room_count inst.now.draft ≡ 2 }
-    requires theatres { theatre_count inst.now.draft ≡ 2 }
-    requires nurses { nurse_count inst.now.draft ≡ 2 }
+    requires two { IsOfTwo inst.now.draft }
 {
-    let at = Some(first_day(TheatreNo(1)));
+    let at = Some(first_day(1));
     let room = ledger.room_shift_change(inst, RoomNo(0), Shift(2), PatientNo(1), at);
     let load = ledger.nurse_shift_change(inst, NurseNo(0), Shift(2), PatientNo(1), at);
     let care = ledger.care_change(inst, PatientNo(1), at);
@@ -128,10 +103,7 @@ fn stay_changes_are_right(inst: &Instance, ledger: &Nurses) -> bool
 // Whether each change by a choice is right there.
 fn choice_changes_are_right(inst: &Instance, ledger: &Nurses) -> bool
     requires stands { (P : Timetable) × IsLedgerOf inst.now.draft P ledger.now }
-    requires days { inst.now.draft.days ≡ 2 }
-    requires patients { patient_count inst.now.draft ≡ 2 }
-    requires rooms { room_count inst.now.draft ≡ 2 }
-    requires nurses { nurse_count inst.now.draft ≡ 2 }
+    requires two { IsOfTwo inst.now.draft }
 {
     let skilled = ledger.choice_change(inst, RoomNo(0), Shift(2), Some(NurseNo(1)));
     let covered = ledger.choice_change(inst, RoomNo(0), Shift(0), Some(NurseNo(0)));
@@ -148,14 +120,10 @@ fn choice_changes_are_right(inst: &Instance, ledger: &Nurses) -> bool
 // Whether each change is right there.
 fn changes_are_right(inst: &Instance, ledger: &mut Nurses) -> bool
     requires new { IsLedgerOf inst.now.draft (empty inst.now.draft) ledger.old }
-    requires days { inst.now.draft.days ≡ 2 }
-    requires patients { patient_count inst.now.draft ≡ 2 }
-    requires rooms { room_count inst.now.draft ≡ 2 }
-    requires theatres { theatre_count inst.now.draft ≡ 2 }
-    requires nurses { nurse_count inst.now.draft ≡ 2 }
+    requires two { IsOfTwo inst.now.draft }
 {
     ledger.set_care(inst, RoomNo(0), Shift(2), Some(NurseNo(0)));
-    ledger.enter(inst, PatientNo(0), first_day(TheatreNo(0)));
+    ledger.enter(inst, PatientNo(0), first_day(0));
     stay_changes_are_right(inst, ledger) && choice_changes_are_right(inst, ledger)
 }
 
@@ -164,14 +132,7 @@ fn a_nurse_lacks_skill_in_the_night_and_the_early_shift_has_none(
     rt: HostRuntime,
 ) -> Result<(), Fail> {
     let alloc = rt.alloc();
-    let draft = example(alloc)?;
-    assert!(rt; draft.is_valid());
-    let inst = Instance::seal(alloc, draft)?;
-    assert!(rt; inst.days() == 2);
-    assert!(rt; inst.patients() == 2);
-    assert!(rt; inst.rooms() == 2);
-    assert!(rt; inst.theatres() == 2);
-    assert!(rt; inst.nurses() == 2);
+    let inst = ward(alloc, &[])?;
     let mut ledger = Nurses::new(alloc, &inst)?;
     share(&ledger);
     assert!(rt; one_is_right(&inst, &mut ledger));
@@ -181,14 +142,7 @@ fn a_nurse_lacks_skill_in_the_night_and_the_early_shift_has_none(
 #[test]
 fn a_second_patient_overloads_the_nurse_while_there(rt: HostRuntime) -> Result<(), Fail> {
     let alloc = rt.alloc();
-    let draft = example(alloc)?;
-    assert!(rt; draft.is_valid());
-    let inst = Instance::seal(alloc, draft)?;
-    assert!(rt; inst.days() == 2);
-    assert!(rt; inst.patients() == 2);
-    assert!(rt; inst.rooms() == 2);
-    assert!(rt; inst.theatres() == 2);
-    assert!(rt; inst.nurses() == 2);
+    let inst = ward(alloc, &[])?;
     let mut ledger = Nurses::new(alloc, &inst)?;
     assert!(rt; coming_is_right(&inst, &mut ledger));
     Ok(())
@@ -197,14 +151,7 @@ fn a_second_patient_overloads_the_nurse_while_there(rt: HostRuntime) -> Result<(
 #[test]
 fn changes_are_told_without_the_write(rt: HostRuntime) -> Result<(), Fail> {
     let alloc = rt.alloc();
-    let draft = example(alloc)?;
-    assert!(rt; draft.is_valid());
-    let inst = Instance::seal(alloc, draft)?;
-    assert!(rt; inst.days() == 2);
-    assert!(rt; inst.patients() == 2);
-    assert!(rt; inst.rooms() == 2);
-    assert!(rt; inst.theatres() == 2);
-    assert!(rt; inst.nurses() == 2);
+    let inst = ward(alloc, &[])?;
     let mut ledger = Nurses::new(alloc, &inst)?;
     assert!(rt; changes_are_right(&inst, &mut ledger));
     Ok(())

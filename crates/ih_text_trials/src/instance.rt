@@ -1,6 +1,6 @@
 //! Two small files, and what is answered for each after one change.
 
-use crate::{InstanceError, read_instance};
+use ih_instance::{InstanceError, read_instance};
 use ih_tables::{Fault, Place, Refusal};
 use std::alloc::Global;
 use std::test::Fail;

@@ -3,7 +3,7 @@
 ghost use Rattle.std.specs.Prelude.{◌^◌};
 ghost use Rattle.ih_tables.specs.Bills.{IsWithin};
 
-use crate::{Entry, Options, Verdict, head_line, line, parse_head, text};
+use ih_journal::{Entry, Options, Verdict, head_line, line, parse_head, text};
 use ih_plan::{Move, Placement};
 use ih_tables::{Bill, Cell, Day, NurseNo, PatientNo, RoomNo, Shift, TheatreNo};
 use std::alloc::Global;

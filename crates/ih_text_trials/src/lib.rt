@@ -1,8 +1,8 @@
-//! Tests of crates.
+//! Tests of the tables of an instance, and of what reads and writes files, lines, reports and words.
 #![tactic(auto)]
 
 #[cfg(test)]
-mod gen;
+mod generated;
 #[cfg(test)]
 mod instance;
 #[cfg(test)]

@@ -1,6 +1,9 @@
 //! Examples of each shelf, sink and gate.
 
-use super::*;
+use ih_shelf::{
+    FileShelf, Gate, HoldGate, MemShelf, MemSink, NeverFails, OpenGate, OutSink, ReadError, Shelf,
+    Sink, WriteError,
+};
 use std::alloc::Global;
 use std::fs;
 use std::rt::Files;

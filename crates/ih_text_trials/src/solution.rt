@@ -1,80 +1,17 @@
 //! An instance of one day, with one patient, one room and one nurse: a solution file is read and written again.
 
-use crate::{read_solution, write_solution};
-use ih_tables::{
-    Draft, Instance, List, Name, Nurse, Patient, Room, Surgeon, SurgeonNo, Theatre, Weights,
-};
+use ih_solution::{read_solution, write_solution};
+use ih_tables::{Draft, Instance, List};
+use ih_ward::{one_day, patient};
 use std::alloc::{AllocError, Global};
 use std::test::Fail;
 
-fn name(alloc: Global, text: &str) -> Result<Name, AllocError> {
-    Ok(Name::new(String::from_str(alloc, text)?))
-}
-
-fn numbers(alloc: Global, items: &[u32]) -> Result<List<u32>, AllocError> {
-    Ok(List::new(items.to_vec(alloc)?))
-}
-
-fn one<T: Drop>(alloc: Global, item: T) -> Result<List<T>, AllocError> {
-    let mut items = Vec::new(alloc);
-    items.push(item)?;
-    Ok(List::new(items))
-}
-
-fn nurse(alloc: Global) -> Result<Nurse, AllocError> {
-    Ok(Nurse {
-        id: name(alloc, "n0")?,
-        skill_level: 0,
-        working_shifts: List::new(Vec::new(alloc)),
-    })
-}
-
-fn patient(alloc: Global) -> Result<Patient, AllocError> {
-    Ok(Patient {
-        id: name(alloc, "p\"\\\u{1f}\n")?,
-        mandatory: false,
-        gender: name(alloc, "A")?,
-        age_group: 0,
-        length_of_stay: 1,
-        surgery_release_day: 0,
-        surgery_due_day: None,
-        surgery_duration: 40,
-        surgeon_id: SurgeonNo(0),
-        incompatible_room_ids: List::new(Vec::new(alloc)),
-        workload_produced: numbers(alloc, &[1, 1, 1])?,
-        skill_level_required: numbers(alloc, &[0, 0, 0])?,
-    })
-}
-
+// The ward of one day, with a patient whose name needs escapes.
 fn example(alloc: Global) -> Result<Draft, AllocError> {
-    let early = name(alloc, "early")?;
-    let late = name(alloc, "late")?;
-    let night = name(alloc, "night")?;
-    let surgeon = Surgeon {
-        id: name(alloc, "s0")?,
-        max_surgery_time: numbers(alloc, &[100])?,
-    };
-    let theatre = Theatre {
-        id: name(alloc, "t0")?,
-        availability: numbers(alloc, &[60])?,
-    };
-    let room = Room {
-        id: name(alloc, "r0")?,
-        capacity: 2,
-    };
-    Ok(Draft {
-        days: 1,
-        skill_levels: 1,
-        shift_types: List::new(vec![in alloc; early, late, night]?),
-        age_groups: one(alloc, name(alloc, "adult")?)?,
-        weights: Weights { w: [1; 8] },
-        surgeons: one(alloc, surgeon)?,
-        operating_theaters: one(alloc, theatre)?,
-        rooms: one(alloc, room)?,
-        nurses: one(alloc, nurse(alloc)?)?,
-        occupants: List::new(Vec::new(alloc)),
-        patients: one(alloc, patient(alloc)?)?,
-    })
+    let mut draft = one_day(alloc)?;
+    let named = patient(alloc, "p\"\\\u{1f}\n")?;
+    draft.patients = List::new(vec![in alloc; named]?);
+    Ok(draft)
 }
 
 const READ: &str =

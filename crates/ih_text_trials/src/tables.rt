@@ -1,131 +1,8 @@
 //! The example of two patients, two rooms and two nurses over two days.
 
-use crate::{
-    Bill, Day, Draft, Instance, List, Name, Nurse, NurseNo, Occupant, Patient, PatientNo, Room,
-    RoomNo, Shift, Surgeon, SurgeonNo, Theatre, TheatreNo, Weights, WorkedShift,
-};
-use std::alloc::{AllocError, Global};
+use ih_tables::{Bill, Instance, NurseNo, PatientNo, RoomNo, Shift, TheatreNo};
+use ih_ward::{example, rooms};
 use std::test::Fail;
-
-fn name(alloc: Global, text: &str) -> Result<Name, AllocError> {
-    Ok(Name::new(String::from_str(alloc, text)?))
-}
-
-fn names(alloc: Global, texts: &[&str]) -> Result<List<Name>, AllocError> {
-    let mut items = Vec::new(alloc);
-    for text in texts {
-        items.push(name(alloc, text)?)?;
-    }
-    Ok(List::new(items))
-}
-
-fn numbers(alloc: Global, items: &[u32]) -> Result<List<u32>, AllocError> {
-    Ok(List::new(items.to_vec(alloc)?))
-}
-
-fn theatre(alloc: Global, id: &str) -> Result<Theatre, AllocError> {
-    Ok(Theatre {
-        id: name(alloc, id)?,
-        availability: numbers(alloc, &[60, 60])?,
-    })
-}
-
-fn room(alloc: Global, id: &str, capacity: u32) -> Result<Room, AllocError> {
-    Ok(Room {
-        id: name(alloc, id)?,
-        capacity,
-    })
-}
-
-fn nurse(alloc: Global, id: &str, skill_level: u32, max_load: u32) -> Result<Nurse, AllocError> {
-    let mut worked = Vec::new(alloc);
-    for k in 0..6 {
-        worked.push(WorkedShift {
-            day: Day(k / 3),
-            shift: k % 3,
-            max_load,
-        })?;
-    }
-    Ok(Nurse {
-        id: name(alloc, id)?,
-        skill_level,
-        working_shifts: List::new(worked),
-    })
-}
-
-fn occupant(alloc: Global) -> Result<Occupant, AllocError> {
-    Ok(Occupant {
-        id: name(alloc, "a0")?,
-        gender: name(alloc, "A")?,
-        age_group: 1,
-        length_of_stay: 1,
-        workload_produced: numbers(alloc, &[1, 1, 1])?,
-        skill_level_required: numbers(alloc, &[0, 0, 2])?,
-        room_id: RoomNo(0),
-    })
-}
-
-fn mandatory(alloc: Global) -> Result<Patient, AllocError> {
-    Ok(Patient {
-        id: name(alloc, "p0")?,
-        mandatory: true,
-        gender: name(alloc, "A")?,
-        age_group: 2,
-        length_of_stay: 5,
-        surgery_release_day: 0,
-        surgery_due_day: Some(1),
-        surgery_duration: 60,
-        surgeon_id: SurgeonNo(0),
-        incompatible_room_ids: List::new(vec![in alloc; RoomNo(1)]?),
-        workload_produced: numbers(alloc, &[2, 2, 2, 2, 2, 2])?,
-        skill_level_required: numbers(alloc, &[0, 0, 0, 0, 0, 0])?,
-    })
-}
-
-fn optional(alloc: Global) -> Result<Patient, AllocError> {
-    Ok(Patient {
-        id: name(alloc, "p1")?,
-        mandatory: false,
-        gender: name(alloc, "B")?,
-        age_group: 0,
-        length_of_stay: 1,
-        surgery_release_day: 0,
-        surgery_due_day: None,
-        surgery_duration: 40,
-        surgeon_id: SurgeonNo(0),
-        incompatible_room_ids: List::new(Vec::new(alloc)),
-        workload_produced: numbers(alloc, &[1, 1, 1])?,
-        skill_level_required: numbers(alloc, &[2, 2, 2])?,
-    })
-}
-
-fn surgeon(alloc: Global) -> Result<Surgeon, AllocError> {
-    Ok(Surgeon {
-        id: name(alloc, "s0")?,
-        max_surgery_time: numbers(alloc, &[100, 100])?,
-    })
-}
-
-fn example(alloc: Global, capacity: u32) -> Result<Draft, AllocError> {
-    Ok(Draft {
-        days: 2,
-        skill_levels: 3,
-        shift_types: names(alloc, &["early", "late", "night"])?,
-        age_groups: names(alloc, &["child", "adult", "old"])?,
-        weights: Weights {
-            w: [5, 10, 2, 1, 30, 7, 4, 100],
-        },
-        surgeons: List::new(vec![in alloc; surgeon(alloc)?]?),
-        operating_theaters: List::new(vec![in alloc;
-            theatre(alloc, "t0")?,
-            theatre(alloc, "t1")?,
-        ]?),
-        rooms: List::new(vec![in alloc; room(alloc, "r0", capacity)?, room(alloc, "r1", 1)?]?),
-        nurses: List::new(vec![in alloc; nurse(alloc, "n0", 0, 3)?, nurse(alloc, "n1", 2, 10)?]?),
-        occupants: List::new(vec![in alloc; occupant(alloc)?]?),
-        patients: List::new(vec![in alloc; mandatory(alloc)?, optional(alloc)?]?),
-    })
-}
 
 /// Threads share an instance.
 fn share<T: Send + Sync>(_x: &T) {}
@@ -133,9 +10,10 @@ fn share<T: Send + Sync>(_x: &T) {}
 #[test]
 fn the_example_is_valid(rt: HostRuntime) -> Result<(), Fail> {
     let alloc = rt.alloc();
-    let wide = example(alloc, 1001)?;
+    let mut wide = example(alloc, &[])?;
+    wide.rooms = rooms(alloc, 1001)?;
     assert!(rt; !wide.is_valid());
-    let draft = example(alloc, 2)?;
+    let draft = example(alloc, &[])?;
     assert!(rt; draft.is_valid());
     let inst = Instance::seal(alloc, draft)?;
     share(&inst);
@@ -158,7 +36,7 @@ fn the_example_is_valid(rt: HostRuntime) -> Result<(), Fail> {
 #[test]
 fn names_are_found(rt: HostRuntime) -> Result<(), Fail> {
     let alloc = rt.alloc();
-    let draft = example(alloc, 2)?;
+    let draft = example(alloc, &[])?;
     assert!(rt; draft.is_valid());
     let inst = Instance::seal(alloc, draft)?;
     assert_eq!(rt; inst.find_patient("p1"), Some(PatientNo(1)));

@@ -1,6 +1,6 @@
 //! Examples of the public calls, with ample memory.
-use crate::{Command, WordsError, read_words};
 use ih_journal::Options;
+use ih_words::{Command, WordsError, read_words};
 use std::alloc::{AllocError, Global};
 use std::test::Fail;
 

@@ -1,7 +1,7 @@
 use Rattle.std.proofs.Common.{subst, sym}
 use Rattle.ih_links.specs.Lists.{list_of}
 use Rattle.ih_links.proofs.Walks.{IsWalk, walk-inside, walk-shrinks, walk-goes_on}
-use Rattle.ih_links.proofs.tests.nodes_of.Goals as goal
+use Rattle.ih_ledger_trials.proofs.links.nodes_of.Goals as goal
 
 pub loop-at-smaller : goal.loop-at-smaller
 loop-at-smaller c = walk-shrinks c.loop-at.invariant c.in-Some.is (c.next-at.ensures.linked c.args.head (walk-inside c.loop-at.invariant c.in-Some.is))

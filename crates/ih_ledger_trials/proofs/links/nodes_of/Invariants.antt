@@ -1,7 +1,7 @@
 use Rattle.std.proofs.Common.{length}
 use Rattle.ih_links.specs.Lists.{list_of, rest_from}
 use Rattle.ih_links.proofs.Walks.{IsWalk}
-use Rattle.ih_links.proofs.tests.nodes_of.Given as goal
+use Rattle.ih_ledger_trials.proofs.links.nodes_of.Given as goal
 
 abbrev pub invariant-loop-at : goal.invariant-loop-at
 invariant-loop-at l = IsWalk l.fn.links.nodes (list_of l.fn.links l.fn.head) l.nodes.items l.at

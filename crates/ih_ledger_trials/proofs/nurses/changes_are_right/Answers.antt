@@ -1,5 +1,5 @@
 use Rattle.ih_nurses.proofs.StartLemmas.{no-stay}
-use Rattle.ih_nurses.proofs.tests.changes_are_right.Goals as goal
+use Rattle.ih_ledger_trials.proofs.nurses.changes_are_right.Goals as goal
 
 pub enter-requires-clause-stands : goal.enter-requires-clause-stands
 enter-requires-clause-stands c = (_, c.set_care.ensures _ c.requires.new, no-stay c.args.inst.now.draft 0)

@@ -1,8 +1,8 @@
 use Rattle.std.proofs.Common.{Some}
 use Rattle.ih_plan.specs.Timetable.{empty}
 use Rattle.ih_nurses.proofs.StartLemmas.{no-stay}
-use Rattle.ih_nurses.proofs.TestLemmas.{second-out, second-in}
-use Rattle.ih_nurses.proofs.tests.coming_is_right.Goals as goal
+use Rattle.ih_ledger_trials.proofs.NurseChanges.{second-out, second-in}
+use Rattle.ih_ledger_trials.proofs.nurses.coming_is_right.Goals as goal
 
 pub enter-requires-clause-stands : goal.enter-requires-clause-stands
 enter-requires-clause-stands c = (_, c.set_care.ensures _ c.requires.new, no-stay c.args.inst.now.draft 0)
@@ -23,7 +23,7 @@ load_change-relief-requires-clause-stands c = (_, c.enter-2.ensures _ (c.enter.e
 pub leave-requires-clause-stands : goal.leave-requires-clause-stands
 leave-requires-clause-stands c =
     let before = c.enter.ensures _ (c.set_care.ensures _ c.requires.new) in
-    (_, c.enter-2.ensures _ before, second-in _ _ _ before.fits c.requires.patients)
+    (_, c.enter-2.ensures _ before, second-in _ _ _ before.fits c.requires.two.patients)
 
 pub nurse_shift_bill-after-requires-clause-stands : goal.nurse_shift_bill-after-requires-clause-stands
 nurse_shift_bill-after-requires-clause-stands c = (_, c.leave.ensures _ (c.enter-2.ensures _ (c.enter.ensures _ (c.set_care.ensures _ c.requires.new))))

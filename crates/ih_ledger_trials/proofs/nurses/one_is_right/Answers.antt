@@ -1,6 +1,6 @@
 use Rattle.std.proofs.Common.{◌<◌, arith, sym, subst, length}
 use Rattle.ih_plan.specs.Timetable.{Timetable}
-use Rattle.ih_nurses.proofs.tests.one_is_right.Goals as goal
+use Rattle.ih_ledger_trials.proofs.nurses.one_is_right.Goals as goal
 
 pub set_care-requires-clause-stands : goal.set_care-requires-clause-stands
 set_care-requires-clause-stands c = (_, c.enter.ensures _ c.requires.new)
@@ -24,4 +24,4 @@ pub stay-requires : goal.stay-requires
 stay-requires c =
     let known = c.set_care.ensures _ (c.enter.ensures _ c.requires.new) in
     let stays = known.fits.stays in
-    subst (λ (P : Timetable). 0 < length P.stays) (sym (c.plan.ensures.stands _ _ known)) (omega (arith, stays, c.requires.patients))
+    subst (λ (P : Timetable). 0 < length P.stays) (sym (c.plan.ensures.stands _ _ known)) (omega (arith, stays, c.requires.two.patients))

@@ -1,46 +1,46 @@
 use Rattle.std.proofs.Common.{arith}
-use Rattle.ih_roomdays.proofs.TestLemmas.{room-there, day-there, first-in, second-out, both-in, first-stays, first-gone}
-use Rattle.ih_roomdays.proofs.tests.is_right.Goals as goal
+use Rattle.ih_ledger_trials.proofs.RoomDayChanges.{room-there, day-there, first-in, second-out, both-in, first-stays, first-gone}
+use Rattle.ih_ledger_trials.proofs.roomdays.is_right.Goals as goal
 
 pub are_there-both-requires-clause-rooms : goal.are_there-both-requires-clause-rooms
 are_there-both-requires-clause-rooms c =
     let I = c.args.inst.now.draft in
-    let stands = first-in I c.requires.patients c.first_day-here.result c.requires.new c.enter.ensures in
-    room-there I _ _ c.requires.rooms stands
+    let stands = first-in I c.requires.two.patients c.first_day-here.result c.requires.new c.enter.ensures in
+    room-there I _ _ c.requires.two.rooms stands
 
 pub are_there-both-requires-clause-days : goal.are_there-both-requires-clause-days
 are_there-both-requires-clause-days c =
     let I = c.args.inst.now.draft in
-    let stands = first-in I c.requires.patients c.first_day-here.result c.requires.new c.enter.ensures in
-    day-there I _ _ 0 c.requires.days (omega arith) stands
+    let stands = first-in I c.requires.two.patients c.first_day-here.result c.requires.new c.enter.ensures in
+    day-there I _ _ 0 c.requires.two.days (omega arith) stands
 
 pub count-later-requires-clause-room : goal.count-later-requires-clause-room
 count-later-requires-clause-room c =
     let I = c.args.inst.now.draft in
-    let stands = first-in I c.requires.patients c.first_day-here.result c.requires.new c.enter.ensures in
-    room-there I _ _ c.requires.rooms stands
+    let stands = first-in I c.requires.two.patients c.first_day-here.result c.requires.new c.enter.ensures in
+    room-there I _ _ c.requires.two.rooms stands
 
 pub count-later-requires-clause-day : goal.count-later-requires-clause-day
 count-later-requires-clause-day c =
     let I = c.args.inst.now.draft in
-    let stands = first-in I c.requires.patients c.first_day-here.result c.requires.new c.enter.ensures in
-    day-there I _ _ 1 c.requires.days (omega arith) stands
+    let stands = first-in I c.requires.two.patients c.first_day-here.result c.requires.new c.enter.ensures in
+    day-there I _ _ 1 c.requires.two.days (omega arith) stands
 
 pub cell_bill-bill-requires-clause-stands : goal.cell_bill-bill-requires-clause-stands
 cell_bill-bill-requires-clause-stands c =
     let I = c.args.inst.now.draft in
-    (_, first-in I c.requires.patients c.first_day-here.result c.requires.new c.enter.ensures)
+    (_, first-in I c.requires.two.patients c.first_day-here.result c.requires.new c.enter.ensures)
 
 pub enter-requires-2-clause-stands : goal.enter-requires-2-clause-stands
 enter-requires-2-clause-stands c =
     let I = c.args.inst.now.draft in
     let here = c.first_day-here.result in
-    (_, first-in I c.requires.patients here c.requires.new c.enter.ensures, second-out I c.requires.patients here c.requires.new c.enter.ensures)
+    (_, first-in I c.requires.two.patients here c.requires.new c.enter.ensures, second-out I c.requires.two.patients here c.requires.new c.enter.ensures)
 
 pub cell_bill-full-requires-clause-stands : goal.cell_bill-full-requires-clause-stands
 cell_bill-full-requires-clause-stands c =
     let I = c.args.inst.now.draft in
-    (_, both-in I c.requires.patients c.first_day-here.result c.requires.new c.enter.ensures c.first_day-there.result c.enter-2.ensures)
+    (_, both-in I c.requires.two.patients c.first_day-here.result c.requires.new c.enter.ensures c.first_day-there.result c.enter-2.ensures)
 
 pub leave-requires-clause-stands : goal.leave-requires-clause-stands
 leave-requires-clause-stands c =
@@ -48,27 +48,27 @@ leave-requires-clause-stands c =
     let here = c.first_day-here.result in
     let there = c.first_day-there.result in (
       _,
-      both-in I c.requires.patients here c.requires.new c.enter.ensures there c.enter-2.ensures,
-      first-stays I c.requires.patients here c.requires.new c.enter.ensures there c.enter-2.ensures,
+      both-in I c.requires.two.patients here c.requires.new c.enter.ensures there c.enter-2.ensures,
+      first-stays I c.requires.two.patients here c.requires.new c.enter.ensures there c.enter-2.ensures,
     )
 
 pub are_there-left-requires-clause-rooms : goal.are_there-left-requires-clause-rooms
 are_there-left-requires-clause-rooms c =
     let I = c.args.inst.now.draft in
-    let stands = first-gone I c.requires.patients c.first_day-here.result c.requires.new c.enter.ensures c.first_day-there.result c.enter-2.ensures c.leave.ensures in
-    room-there I _ _ c.requires.rooms stands
+    let stands = first-gone I c.requires.two.patients c.first_day-here.result c.requires.new c.enter.ensures c.first_day-there.result c.enter-2.ensures c.leave.ensures in
+    room-there I _ _ c.requires.two.rooms stands
 
 pub are_there-left-requires-clause-days : goal.are_there-left-requires-clause-days
 are_there-left-requires-clause-days c =
     let I = c.args.inst.now.draft in
-    let stands = first-gone I c.requires.patients c.first_day-here.result c.requires.new c.enter.ensures c.first_day-there.result c.enter-2.ensures c.leave.ensures in
-    day-there I _ _ 0 c.requires.days (omega arith) stands
+    let stands = first-gone I c.requires.two.patients c.first_day-here.result c.requires.new c.enter.ensures c.first_day-there.result c.enter-2.ensures c.leave.ensures in
+    day-there I _ _ 0 c.requires.two.days (omega arith) stands
 
 pub cell_change-comes-requires-clause-stands : goal.cell_change-comes-requires-clause-stands
 cell_change-comes-requires-clause-stands c =
     let I = c.args.inst.now.draft in
     let here = c.first_day-here.result in
-    (_, first-in I c.requires.patients here c.requires.new c.enter.ensures, second-out I c.requires.patients here c.requires.new c.enter.ensures)
+    (_, first-in I c.requires.two.patients here c.requires.new c.enter.ensures, second-out I c.requires.two.patients here c.requires.new c.enter.ensures)
 
 pub cell_change-stays-requires-clause-stands : goal.cell_change-stays-requires-clause-stands
 cell_change-stays-requires-clause-stands c =
@@ -76,8 +76,8 @@ cell_change-stays-requires-clause-stands c =
     let here = c.first_day-here.result in
     let there = c.first_day-there.result in (
       _,
-      both-in I c.requires.patients here c.requires.new c.enter.ensures there c.enter-2.ensures,
-      first-stays I c.requires.patients here c.requires.new c.enter.ensures there c.enter-2.ensures,
+      both-in I c.requires.two.patients here c.requires.new c.enter.ensures there c.enter-2.ensures,
+      first-stays I c.requires.two.patients here c.requires.new c.enter.ensures there c.enter-2.ensures,
     )
 
 pub cell_change-goes-requires-clause-stands : goal.cell_change-goes-requires-clause-stands
@@ -86,6 +86,6 @@ cell_change-goes-requires-clause-stands c =
     let here = c.first_day-here.result in
     let there = c.first_day-there.result in (
       _,
-      both-in I c.requires.patients here c.requires.new c.enter.ensures there c.enter-2.ensures,
-      first-stays I c.requires.patients here c.requires.new c.enter.ensures there c.enter-2.ensures,
+      both-in I c.requires.two.patients here c.requires.new c.enter.ensures there c.enter-2.ensures,
+      first-stays I c.requires.two.patients here c.requires.new c.enter.ensures there c.enter-2.ensures,
     )

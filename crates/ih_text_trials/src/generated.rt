@@ -1,6 +1,6 @@
 //! What generated instances look like.
 
-use crate::generate;
+use ih_gen::generate;
 use std::test::Fail;
 
 // How the instance of 7 begins: its age groups, its days and the first nurse.

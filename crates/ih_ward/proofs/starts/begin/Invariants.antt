@@ -1,5 +1,5 @@
 use Rattle.ih_plan.specs.Timetable.{IsPlanOf}
-use Rattle.ih_snapshot.proofs.tests.begin.Given as goal
+use Rattle.ih_ward.proofs.starts.begin.Given as goal
 
 -- the plan fits the ward
 abbrev pub invariant-loop-k : goal.invariant-loop-k

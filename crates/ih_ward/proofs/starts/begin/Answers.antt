@@ -2,7 +2,7 @@ use Rattle.std.proofs.Common.{◌<◌, arith, sym, subst}
 use Rattle.ih_tables.specs.Sizes.{nurse_count, room_count, shift_count}
 use Rattle.ih_plan.specs.Timetable.{IsPlanOf}
 use Rattle.ih_plan.proofs.PlanRanges.{care-plan}
-use Rattle.ih_replay.proofs.tests.begin.Goals as goal
+use Rattle.ih_ward.proofs.starts.begin.Goals as goal
 
 pub loop-k-preserved : goal.loop-k-preserved
 loop-k-preserved c =

@@ -1,0 +1,3 @@
+mod NurseChanges
+mod RoomDayChanges
+mod TheatreChanges
