@@ -10,9 +10,9 @@ use Rattle.ih_tables.specs.Bills.{zero_bill}
 use Rattle.ih_plan.specs.declared.moves.Move.TheVariants.{Idle}
 use Rattle.ih_cellbook.specs.declared.offers.Offer.{Offer}
 use Rattle.ih_cellbook.specs.Offers.{IsRightOffer, entry_of}
-use Rattle.ih_cellbook.proofs.IdleOffers.{idle-right}
+use Rattle.ih_search_trials.proofs.IdleOffers.{idle-right}
 use Rattle.ih_desk.specs.Histories.{EndsWith}
-use Rattle.ih_desk.specs.Ward.{ward_base, night_offer, changed}
+use Rattle.ih_search_trials.specs.Ward.{ward_base, night_offer, changed}
 
 -- the night goes to the second nurse, before anything else came
 pub right-first : (w : ℕ) → w < 2 → IsRightOffer (ward_base 2 2) [] (night_offer w 0 1)

@@ -3,7 +3,7 @@ use Rattle.std.specs.Prelude.{ℕ, List, [], ◌∷◌, pos, codes, replicate, S
 use Rattle.ih_tables.specs.declared.drafts.Draft.{Draft}
 use Rattle.ih_tables.specs.declared.drafts.Nurse.{Nurse}
 use Rattle.ih_tables.specs.Bills.{zero_bill}
-use Rattle.ih_plan.specs.declared.moves.Move.TheVariants.{Nurse as NurseMove}
+use Rattle.ih_plan.specs.declared.moves.Move.TheVariants.{Idle, Nurse as NurseMove}
 use Rattle.ih_plan.specs.declared.moves.Write.TheVariants.{SetCare}
 use Rattle.ih_plan.specs.Timetable.{Timetable, empty}
 use Rattle.ih_plan.specs.Writes.{put}
@@ -59,3 +59,7 @@ night_offer worker number nurse = record {
 -- worker 1 gave the night to the second nurse
 abbrev pub changed : Entry
 changed = entry_of (ward_base 2 2) [] (night_offer 1 0 1) Accepted
+
+-- a worker's first offer, which does nothing
+abbrev pub idle_offer : ℕ → Offer
+idle_offer worker = record { worker = worker; number = 0; seen = 0; mv = Idle; price = zero_bill; reads = record { pairs = []; room = 0 }; frozen = false }

@@ -1,68 +1,19 @@
 //! Journals taken line by line, on a ward of two patients of whom the first is admitted, with one nurse in all shifts.
 
-ghost use Rattle.std.specs.Prelude.{◌≡◌, IfOk};
-ghost use Rattle.ih_tables.specs.Sizes.{patient_count, room_count, theatre_count, nurse_count};
+ghost use Rattle.std.specs.Prelude.{◌≡◌};
 ghost use Rattle.ih_plan.specs.Timetable.{IsPlanOf};
+ghost use Rattle.ih_ward.specs.Two.{IsOfTwo};
 
-use crate::Replay;
-use crate::example::example;
 use ih_journal::{JournalRefusal, Options, Reason};
-use ih_plan::{Placement, Plan, Write};
-use ih_tables::{Day, Instance, NurseNo, PatientNo, RoomNo, Shift, TheatreNo};
-use std::alloc::{AllocError, Global};
-use std::process::Abort;
+use ih_plan::Plan;
+use ih_replay::Replay;
+use ih_tables::{Instance, NurseNo, PatientNo, RoomNo, Shift};
+use ih_ward::{begin, first_day, ward};
+use std::alloc::Global;
 use std::test::Fail;
 
 /// Threads share replays.
 fn share<T: Send + Sync>(_x: &T) {}
-
-// The example, once it is known to be valid and to have two of each.
-fn ward(rt: &impl Abort, alloc: Global) -> Result<Instance, AllocError>
-    ensures days { IfOk result (λ i. i.draft.days ≡ 2) }
-    ensures patients { IfOk result (λ i. patient_count i.draft ≡ 2) }
-    ensures rooms { IfOk result (λ i. room_count i.draft ≡ 2) }
-    ensures theatres { IfOk result (λ i. theatre_count i.draft ≡ 2) }
-    ensures nurses { IfOk result (λ i. nurse_count i.draft ≡ 2) }
-{
-    let draft = example(alloc)?;
-    assert!(rt; draft.is_valid());
-    let inst = Instance::seal(alloc, draft)?;
-    assert!(rt; inst.days() == 2);
-    assert!(rt; inst.patients() == 2);
-    assert!(rt; inst.rooms() == 2);
-    assert!(rt; inst.theatres() == 2);
-    assert!(rt; inst.nurses() == 2);
-    Ok(inst)
-}
-
-// The first room and the first theatre on the first day.
-fn first_day() -> Placement
-    ensures { result ≡ record { day = record { 0 = 0 }; room = record { 0 = 0 }; theatre = record { 0 = 0 } } }
-{
-    Placement {
-        day: Day(0),
-        room: RoomNo(0),
-        theatre: TheatreNo(0),
-    }
-}
-
-// The first patient is admitted, and the first room has the first nurse in all shifts.
-#[tactic(auto, using(ih_plan::proofs::PlanRanges::plan_steps))]
-fn begin(alloc: Global, inst: &Instance) -> Result<Plan, AllocError>
-    requires days { inst.now.draft.days ≡ 2 }
-    requires patients { patient_count inst.now.draft ≡ 2 }
-    requires rooms { room_count inst.now.draft ≡ 2 }
-    requires theatres { theatre_count inst.now.draft ≡ 2 }
-    requires nurses { nurse_count inst.now.draft ≡ 2 }
-    ensures { IfOk result (IsPlanOf inst.now.draft) }
-{
-    let mut plan = Plan::empty(alloc, inst)?;
-    plan.put(&Write::SetStay(PatientNo(0), Some(first_day())));
-    for k in 0..6 {
-        plan.put(&Write::SetCare(RoomNo(0), Shift(k), Some(NurseNo(0))));
-    }
-    Ok(plan)
-}
 
 // The options of a search in which each worker has two moves. No price is too high where the heat is great.
 fn search(seed: u64, workers: u32, heat: u32, retries: u32) -> Options
@@ -114,10 +65,9 @@ fn lacks(replay: &Replay<'_>, taken: u32) -> bool {
 // Whether the first patient is where it was at first, and the first room has this nurse in all shifts.
 fn is_nursed(inst: &Instance, plan: &Plan, nurse: NurseNo) -> bool
     requires plan { IsPlanOf inst.now.draft plan.now }
-    requires patients { patient_count inst.now.draft ≡ 2 }
-    requires rooms { room_count inst.now.draft ≡ 2 }
+    requires two { IsOfTwo inst.now.draft }
 {
-    if plan.stay(PatientNo(0)) != Some(first_day()) {
+    if plan.stay(PatientNo(0)) != Some(first_day(0)) {
         return false;
     }
     for k in 0..inst.shifts() {
@@ -131,8 +81,7 @@ fn is_nursed(inst: &Instance, plan: &Plan, nurse: NurseNo) -> bool
 // Whether the best timetable is there, and is so.
 fn finds(alloc: Global, inst: &Instance, replay: &Replay<'_>, nurse: NurseNo) -> bool
     requires instance { replay.now.base.instance ≡ inst.now.draft }
-    requires patients { patient_count inst.now.draft ≡ 2 }
-    requires rooms { room_count inst.now.draft ≡ 2 }
+    requires two { IsOfTwo inst.now.draft }
 {
     match replay.best_plan(alloc) {
         Ok(Some(plan)) => is_nursed(inst, &plan, nurse),
@@ -167,7 +116,7 @@ fn takes_all_but_last(replay: &mut Replay<'_>) -> bool
 #[test]
 fn a_journal_of_two_workers_is_taken(rt: HostRuntime) -> Result<(), Fail> {
     let alloc = rt.alloc();
-    let inst = ward(&rt, alloc)?;
+    let inst = ward(alloc, &[])?;
     let start = begin(alloc, &inst)?;
     let mut replay = Replay::new(alloc, &inst, &start, &search(7, 2, 1_000_000, 1), 0)?;
     share(&replay);
@@ -187,7 +136,7 @@ const AS_CHEAP: &str = "1 0 1 1 nurse:1,5,0 0,0,0,0,0,0,0,0,0,0,0,0,0,0,0,0,0 ac
 #[test]
 fn the_best_is_made_anew(rt: HostRuntime) -> Result<(), Fail> {
     let alloc = rt.alloc();
-    let inst = ward(&rt, alloc)?;
+    let inst = ward(alloc, &[])?;
     let start = begin(alloc, &inst)?;
     let mut replay = Replay::new(alloc, &inst, &start, &search(0, 1, 0, 0), 0)?;
     assert!(rt; stands(&replay, 0, 0, 159));
@@ -292,7 +241,7 @@ fn refuses_fourth(replay: &mut Replay<'_>) -> bool {
 #[test]
 fn the_first_reason_is_given(rt: HostRuntime) -> Result<(), Fail> {
     let alloc = rt.alloc();
-    let inst = ward(&rt, alloc)?;
+    let inst = ward(alloc, &[])?;
     let start = begin(alloc, &inst)?;
     let mut replay = Replay::new(alloc, &inst, &start, &search(7, 2, 1_000_000, 1), 0)?;
     assert!(rt; refuses_at_first(&mut replay));
@@ -322,7 +271,7 @@ const SEEN_NOTHING: &str =
 #[test]
 fn a_line_that_had_seen_less_is_taken_after_a_refused_one(rt: HostRuntime) -> Result<(), Fail> {
     let alloc = rt.alloc();
-    let inst = ward(&rt, alloc)?;
+    let inst = ward(alloc, &[])?;
     let start = begin(alloc, &inst)?;
     let mut replay = Replay::new(alloc, &inst, &start, &search(4, 2, 1_000_000, 0), 0)?;
     assert!(rt; takes(&mut replay, ADMITTED));

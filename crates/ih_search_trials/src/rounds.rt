@@ -8,10 +8,10 @@ ghost use Rattle.ih_cellbook.specs.Offers.{next_number};
 ghost use Rattle.ih_snapshot.specs.Replicas.{IsReplicaIn};
 ghost use Rattle.ih_snapshot.specs.Snapshot.{Snapshot};
 
-use crate::Replica;
 use ih_cellbook::{Book, Buffer, Offer};
 use ih_journal::{Entry, Options, Verdict};
 use ih_plan::Move;
+use ih_snapshot::Replica;
 
 // The last entry of a worker.
 fn last_by(entries: &[Entry], worker: u32) -> Option<Entry>

@@ -2,7 +2,6 @@
 //! in all shifts.
 
 ghost use Rattle.std.specs.Prelude.{◌≡◌, [], IfOk, IsTrue};
-ghost use Rattle.ih_tables.specs.Sizes.{patient_count, room_count, theatre_count, nurse_count};
 ghost use Rattle.ih_plan.specs.Timetable.{IsPlanOf};
 ghost use Rattle.ih_plan.specs.BillOf.{bill_of};
 ghost use Rattle.ih_plan.specs.Expand.{IsMoveOf};
@@ -12,68 +11,19 @@ ghost use Rattle.ih_cellbook.specs.Keeping.{base_with};
 ghost use Rattle.ih_snapshot.specs.Replicas.{IsReplicaIn};
 ghost use Rattle.ih_snapshot.specs.Snapshot.{Snapshot};
 
-use crate::Replica;
-use crate::example::example;
 use crate::rounds::{catch_up, offer};
 use ih_cellbook::{Book, Buffer, Offer};
 use ih_costs::Ledgers;
 use ih_journal::{Entry, Options, Verdict};
-use ih_plan::{Move, Placement, Plan, Write};
-use ih_tables::{Bill, Cell, Day, Instance, NurseNo, PatientNo, RoomNo, Shift, TheatreNo};
+use ih_plan::{Move, Plan};
+use ih_snapshot::Replica;
+use ih_tables::{Bill, Cell, Day, Instance, NurseNo, PatientNo, RoomNo, Shift};
+use ih_ward::{at, begin, ward};
 use std::alloc::{AllocError, Global};
-use std::process::Abort;
 use std::test::Fail;
 
 /// Threads share replicas.
 fn share<T: Send + Sync>(_x: &T) {}
-
-// The example, once it is known to be valid and to have two of each.
-fn ward(rt: &impl Abort, alloc: Global) -> Result<Instance, AllocError>
-    ensures days { IfOk result (λ i. i.draft.days ≡ 2) }
-    ensures patients { IfOk result (λ i. patient_count i.draft ≡ 2) }
-    ensures rooms { IfOk result (λ i. room_count i.draft ≡ 2) }
-    ensures theatres { IfOk result (λ i. theatre_count i.draft ≡ 2) }
-    ensures nurses { IfOk result (λ i. nurse_count i.draft ≡ 2) }
-{
-    let draft = example(alloc)?;
-    assert!(rt; draft.is_valid());
-    let inst = Instance::seal(alloc, draft)?;
-    assert!(rt; inst.days() == 2);
-    assert!(rt; inst.patients() == 2);
-    assert!(rt; inst.rooms() == 2);
-    assert!(rt; inst.theatres() == 2);
-    assert!(rt; inst.nurses() == 2);
-    Ok(inst)
-}
-
-// The first room and the first theatre on the first day.
-fn first_day() -> Placement
-    ensures { result ≡ record { day = record { 0 = 0 }; room = record { 0 = 0 }; theatre = record { 0 = 0 } } }
-{
-    Placement {
-        day: Day(0),
-        room: RoomNo(0),
-        theatre: TheatreNo(0),
-    }
-}
-
-// The first patient is admitted, and the first room has the first nurse in all shifts.
-#[tactic(auto, using(ih_plan::proofs::PlanRanges::plan_steps))]
-fn begin(alloc: Global, inst: &Instance) -> Result<Plan, AllocError>
-    requires days { inst.now.draft.days ≡ 2 }
-    requires patients { patient_count inst.now.draft ≡ 2 }
-    requires rooms { room_count inst.now.draft ≡ 2 }
-    requires theatres { theatre_count inst.now.draft ≡ 2 }
-    requires nurses { nurse_count inst.now.draft ≡ 2 }
-    ensures { IfOk result (IsPlanOf inst.now.draft) }
-{
-    let mut plan = Plan::empty(alloc, inst)?;
-    plan.put(&Write::SetStay(PatientNo(0), Some(first_day())));
-    for k in 0..6 {
-        plan.put(&Write::SetCare(RoomNo(0), Shift(k), Some(NurseNo(0))));
-    }
-    Ok(plan)
-}
 
 // The options of a hot search, in which no price is too high.
 fn hot(workers: u32, moves: u32, retries: u32) -> Options
@@ -93,14 +43,7 @@ fn hot(workers: u32, moves: u32, retries: u32) -> Options
 fn place(p: u32, day: u32, room: u32) -> Move
     ensures { result ≡ Place (record { 0 = p }) (record { day = record { 0 = day }; room = record { 0 = room }; theatre = record { 0 = 1 } }) }
 {
-    Move::Place(
-        PatientNo(p),
-        Placement {
-            day: Day(day),
-            room: RoomNo(room),
-            theatre: TheatreNo(1),
-        },
-    )
+    Move::Place(PatientNo(p), at(day, room, 1))
 }
 
 // A nurse for the first room in the first night.
@@ -330,7 +273,7 @@ fn is_priced(
 #[test]
 fn prices_rest_on_what_is_read(rt: HostRuntime) -> Result<(), Fail> {
     let alloc = rt.alloc();
-    let inst = ward(&rt, alloc)?;
+    let inst = ward(alloc, &[])?;
     let start = begin(alloc, &inst)?;
     let join = place(1, 0, 0);
     assert!(rt; is_in_range(&inst, &join));
@@ -355,7 +298,7 @@ fn prices_rest_on_what_is_read(rt: HostRuntime) -> Result<(), Fail> {
 #[test]
 fn a_move_is_stale_where_another_changed_what_it_read(rt: HostRuntime) -> Result<(), Fail> {
     let alloc = rt.alloc();
-    let inst = ward(&rt, alloc)?;
+    let inst = ward(alloc, &[])?;
     let start = begin(alloc, &inst)?;
     // It hasn't seen its own last entry when it offers again, and has when it does so by the same number.
     let join = Offers(0, place(1, 0, 0));
@@ -386,7 +329,7 @@ fn a_move_is_stale_where_another_changed_what_it_read(rt: HostRuntime) -> Result
 #[test]
 fn a_nurse_who_came_back_leaves_a_trace(rt: HostRuntime) -> Result<(), Fail> {
     let alloc = rt.alloc();
-    let inst = ward(&rt, alloc)?;
+    let inst = ward(alloc, &[])?;
     let start = begin(alloc, &inst)?;
     let steps = [
         (1, Offers(0, night(1))),
@@ -404,7 +347,7 @@ fn a_nurse_who_came_back_leaves_a_trace(rt: HostRuntime) -> Result<(), Fail> {
 #[test]
 fn moves_that_touch_nothing_in_common_are_both_made(rt: HostRuntime) -> Result<(), Fail> {
     let alloc = rt.alloc();
-    let inst = ward(&rt, alloc)?;
+    let inst = ward(alloc, &[])?;
     let start = begin(alloc, &inst)?;
     let steps = [(1, Offers(0, night(1))), (0, Offers(0, place(1, 0, 1)))];
     let (told, entries) = played(alloc, &inst, &start, &hot(2, 2, 0), 0, &steps)?;
@@ -416,7 +359,7 @@ fn moves_that_touch_nothing_in_common_are_both_made(rt: HostRuntime) -> Result<(
 #[test]
 fn the_past_is_frozen(rt: HostRuntime) -> Result<(), Fail> {
     let alloc = rt.alloc();
-    let inst = ward(&rt, alloc)?;
+    let inst = ward(alloc, &[])?;
     let start = begin(alloc, &inst)?;
     let steps = [
         (0, Offers(0, Move::SetDay(PatientNo(0), Day(1)))),
@@ -451,7 +394,7 @@ fn idle_steps(alloc: Global, count: u32) -> Result<Vec<(u32, Step)>, AllocError>
 #[test]
 fn looks_show_256_entries_each(rt: HostRuntime) -> Result<(), Fail> {
     let alloc = rt.alloc();
-    let inst = ward(&rt, alloc)?;
+    let inst = ward(alloc, &[])?;
     let start = begin(alloc, &inst)?;
     let steps = idle_steps(alloc, 600)?;
     let (told, entries) = played(alloc, &inst, &start, &hot(2, 700, 0), 0, steps.as_slice())?;

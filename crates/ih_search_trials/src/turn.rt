@@ -1,7 +1,9 @@
+//! Turns over lists of numbers, by seats one after the other and in threads.
+
 ghost use Rattle.std.specs.Prelude.{◌≡◌, ℕ, ◌+◌, ◌*◌, ◌^◌, ◌<◌, ◌≤◌, true, length};
 ghost use Rattle.ih_turn.specs.Seats.{IsSeatOf, seat_count, number_of, turns_left};
 
-use crate::{Kept, Seat, Turn};
+use ih_turn::{Kept, Seat, Turn};
 use std::alloc::{AllocError, Global};
 use std::sync::Wait;
 use std::test::Fail;

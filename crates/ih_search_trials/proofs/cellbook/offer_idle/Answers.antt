@@ -5,9 +5,9 @@ use Rattle.ih_journal.specs.Base.{Base}
 use Rattle.ih_journal.proofs.Growth.{has_made-none, length-more}
 use Rattle.ih_cellbook.specs.declared.offers.Offer.{Offer}
 use Rattle.ih_cellbook.specs.Offers.{entry_of}
-use Rattle.ih_cellbook.proofs.IdleOffers.{idle-right, idle-next}
-use Rattle.ih_cellbook.proofs.tests.offer_idle.Goals.{in-Accepted, in_default}
-use Rattle.ih_cellbook.proofs.tests.offer_idle.Goals as goal
+use Rattle.ih_search_trials.proofs.IdleOffers.{idle-right, idle-next}
+use Rattle.ih_search_trials.proofs.cellbook.offer_idle.Goals.{in-Accepted, in_default}
+use Rattle.ih_search_trials.proofs.cellbook.offer_idle.Goals as goal
 
 pub loop-number-init : goal.loop-number-init
 loop-number-init c =

@@ -2,7 +2,7 @@ use Rattle.std.proofs.Common.{◌≡◌, ◌≤◌, [], false, length}
 use Rattle.ih_tables.specs.Bills.{zero_bill}
 use Rattle.ih_plan.specs.declared.moves.Move.TheVariants.{Idle}
 use Rattle.ih_journal.specs.Attempts.{HasMade}
-use Rattle.ih_cellbook.proofs.tests.offer_idle.Given as goal
+use Rattle.ih_search_trials.proofs.cellbook.offer_idle.Given as goal
 
 abbrev pub invariant-loop-number : goal.invariant-loop-number
 invariant-loop-number l = record {

@@ -2,7 +2,7 @@ use Rattle.std.proofs.Common.{sym, subst}
 use Rattle.std.specs.Prelude.{All}
 use Rattle.std.proofs.lemmas.List.Elements.{All-push}
 use Rattle.ih_desk.specs.Desks.{IsSeatAt}
-use Rattle.ih_desk.proofs.tests.+all_take_part.Goals as goal
+use Rattle.ih_search_trials.proofs.desk.+all_take_part.Goals as goal
 
 pub returns-in-Some-clause-own : goal.returns-in-Some-clause-own
 returns-in-Some-clause-own g t c =

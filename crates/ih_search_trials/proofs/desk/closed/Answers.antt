@@ -1,6 +1,6 @@
 use Rattle.std.proofs.Common.{◌≡◌, ℕ, zero, suc, ◌<◌, [], ◌∷◌, ◌++◌, map, arith, ap, ◌∙◌, sym, subst}
 use Rattle.std.specs.Prelude.{Contains}
-use Rattle.ih_desk.proofs.tests.closed.Goals as goal
+use Rattle.ih_search_trials.proofs.desk.closed.Goals as goal
 
 two_numbers : (a b : ℕ) → a ≡ 0 → b ≡ 1 → (n : ℕ) → n < 2 → Contains (a ∷ b ∷ []) n
 two_numbers a b p q zero h = (0, omega arith, p)

@@ -2,7 +2,7 @@ use Rattle.std.proofs.Common.{◌<◌, ◌∙◌, sym, subst}
 use Rattle.std.specs.Prelude.{Contains}
 use Rattle.std.proofs.lemmas.List.{length-map}
 use Rattle.ih_desk.proofs.Numbers.{all-there}
-use Rattle.ih_desk.proofs.tests.makes_one.Goals as goal
+use Rattle.ih_search_trials.proofs.desk.makes_one.Goals as goal
 
 pub close-book-requires-clause-all : goal.close-book-requires-clause-all
 close-book-requires-clause-all g c = λ n below.

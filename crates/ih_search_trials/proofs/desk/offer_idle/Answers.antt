@@ -1,8 +1,8 @@
 use Rattle.std.proofs.Common.{refl, sym}
 use Rattle.ih_desk.specs.Desks.{base_of}
 use Rattle.ih_turn.specs.Seats.{number_of}
-use Rattle.ih_desk.proofs.WardOffers.{right-as, idle-first}
-use Rattle.ih_desk.proofs.tests.offer_idle.Goals as goal
+use Rattle.ih_search_trials.proofs.WardOffers.{right-as, idle-first}
+use Rattle.ih_search_trials.proofs.desk.offer_idle.Goals as goal
 
 pub offer-seat-requires-clause-right : goal.offer-seat-requires-clause-right
 offer-seat-requires-clause-right g c =

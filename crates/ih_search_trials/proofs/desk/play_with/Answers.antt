@@ -2,7 +2,7 @@ use Rattle.std.proofs.Common.{◌≡◌, ◌≤◌, ◌∙◌, [], sym}
 use Rattle.ih_turn.specs.Seats.{history, turns_left}
 use Rattle.ih_desk.specs.Desks.{DeskSeat, IsSeatAt}
 use Rattle.ih_desk.proofs.Numbers.{last-of}
-use Rattle.ih_desk.proofs.tests.play_with.Goals as goal
+use Rattle.ih_search_trials.proofs.desk.play_with.Goals as goal
 
 pub play-requires-clause-own : goal.play-requires-clause-own
 play-requires-clause-own g c =

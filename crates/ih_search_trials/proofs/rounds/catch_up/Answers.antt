@@ -2,7 +2,7 @@ use Rattle.std.proofs.Common.{◌∙◌, ap, sym, subst, take, drop}
 use Rattle.ih_cellbook.specs.Copied.{Copied, most_copied}
 use Rattle.ih_snapshot.specs.Replicas.{MayFollow, StandsAfter}
 use Rattle.ih_snapshot.proofs.Within.{next-follow, stands-further}
-use Rattle.ih_snapshot.proofs.rounds.catch_up.Goals as goal
+use Rattle.ih_search_trials.proofs.rounds.catch_up.Goals as goal
 
 pub advance-requires : goal.advance-requires
 advance-requires c =

@@ -1,7 +1,7 @@
 use Rattle.std.proofs.Common.{◌∙◌}
 use Rattle.ih_snapshot.proofs.LastEntries.{last-other, last-own, none-last}
-use Rattle.ih_snapshot.proofs.rounds.last_by.Goals as goal
-use Rattle.ih_snapshot.proofs.rounds.last_by.Goals.{then-entry-worker, else-entry-worker}
+use Rattle.ih_search_trials.proofs.rounds.last_by.Goals as goal
+use Rattle.ih_search_trials.proofs.rounds.last_by.Goals.{then-entry-worker, else-entry-worker}
 
 pub loop-entry-init : goal.loop-entry-init
 loop-entry-init c = none-last c.args.worker

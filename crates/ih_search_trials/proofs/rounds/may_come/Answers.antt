@@ -6,8 +6,8 @@ use Rattle.ih_journal.specs.Attempts.{last_by}
 use Rattle.ih_cellbook.specs.Laws.{HasNoneBy}
 use Rattle.ih_cellbook.specs.Offers.{next_number}
 use Rattle.ih_snapshot.proofs.LastEntries.{next-is}
-use Rattle.ih_snapshot.proofs.rounds.may_come.Goals as goal
-use Rattle.ih_snapshot.proofs.rounds.may_come.Goals.{then-offer-options, else-offer-options}
+use Rattle.ih_search_trials.proofs.rounds.may_come.Goals as goal
+use Rattle.ih_search_trials.proofs.rounds.may_come.Goals.{then-offer-options, else-offer-options}
 
 pub returns-then-is_next : goal.returns-then-is_next
 returns-then-is_next c on =

@@ -2,7 +2,7 @@ use Rattle.std.proofs.Common.{subst}
 use Rattle.std.proofs.lemmas.List.{take_all}
 use Rattle.ih_cellbook.specs.Laws.{HasNoneBy}
 use Rattle.ih_snapshot.proofs.LastEntries.{none_by-next}
-use Rattle.ih_snapshot.proofs.rounds.none_by.Goals as goal
+use Rattle.ih_search_trials.proofs.rounds.none_by.Goals as goal
 
 pub loop-entry-preserved : goal.loop-entry-preserved
 loop-entry-preserved c =

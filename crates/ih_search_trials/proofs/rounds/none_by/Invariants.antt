@@ -1,6 +1,6 @@
 use Rattle.std.proofs.Common.{take}
 use Rattle.ih_cellbook.specs.Laws.{HasNoneBy}
-use Rattle.ih_snapshot.proofs.rounds.none_by.Given as goal
+use Rattle.ih_search_trials.proofs.rounds.none_by.Given as goal
 
 abbrev pub invariant-loop-entry : goal.invariant-loop-entry
 invariant-loop-entry l = HasNoneBy l.worker (take l.entry-index l.entries)

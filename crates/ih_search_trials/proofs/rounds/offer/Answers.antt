@@ -1,7 +1,7 @@
 use Rattle.std.proofs.Common.{sym, subst}
 use Rattle.ih_snapshot.specs.Replicas.{IsReplicaIn}
 use Rattle.ih_snapshot.proofs.Within.{offered-right, stands-behind, stands-same}
-use Rattle.ih_snapshot.proofs.rounds.offer.Goals as goal
+use Rattle.ih_search_trials.proofs.rounds.offer.Goals as goal
 
 pub commit-requires : goal.commit-requires
 commit-requires c =

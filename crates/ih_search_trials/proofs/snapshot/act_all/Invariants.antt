@@ -1,6 +1,6 @@
 use Rattle.std.proofs.Common.{◌≡◌}
 use Rattle.ih_snapshot.specs.Replicas.{IsReplicaIn}
-use Rattle.ih_snapshot.proofs.tests.act_all.Given as goal
+use Rattle.ih_search_trials.proofs.snapshot.act_all.Given as goal
 
 -- both replicas follow the book
 abbrev pub invariant-loop-worker : goal.invariant-loop-worker

@@ -1,6 +1,6 @@
 use Rattle.std.proofs.Common.{refl}
 use Rattle.ih_plan.proofs.Rows.{plan_on_literals}
-use Rattle.ih_cellbook.proofs.tests.book_of_idle.Goals as goal
+use Rattle.ih_search_trials.proofs.night_ward.new_book.Goals as goal
 
 -- nobody is there, so no rule is broken and nothing costs
 pub new-requires-clause-first : goal.new-requires-clause-first

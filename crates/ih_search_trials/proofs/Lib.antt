@@ -1,0 +1,2 @@
+mod IdleOffers
+mod WardOffers
