@@ -113,19 +113,20 @@ fn takes_all_but_last(replay: &mut Replay<'_>) -> bool
         && lacks(replay, 4)
 }
 
-#[test]
-fn a_journal_of_two_workers_is_taken(rt: HostRuntime) -> Result<(), Fail> {
-    let alloc = rt.alloc();
-    let inst = ward(alloc, &[])?;
-    let start = begin(alloc, &inst)?;
-    let mut replay = Replay::new(alloc, &inst, &start, &search(7, 2, 1_000_000, 1), 0)?;
+// Whether the whole journal is taken.
+fn is_taken(alloc: Global, inst: &Instance, start: &Plan) -> bool
+    requires start { IsPlanOf inst.now.draft start.now }
+    requires two { IsOfTwo inst.now.draft }
+{
+    let Ok(mut replay) = Replay::new(alloc, inst, start, &search(7, 2, 1_000_000, 1), 0) else {
+        return false;
+    };
     share(&replay);
-    assert!(rt; takes_all_but_last(&mut replay));
-    assert!(rt; takes(&mut replay, LAST));
-    assert!(rt; replay.finish().is_ok());
-    assert!(rt; stands(&replay, 5, 0, 159));
-    assert!(rt; finds(alloc, &inst, &replay, NurseNo(0)));
-    Ok(())
+    takes_all_but_last(&mut replay)
+        && takes(&mut replay, LAST)
+        && replay.finish().is_ok()
+        && stands(&replay, 5, 0, 159)
+        && finds(alloc, inst, &replay, NurseNo(0))
 }
 
 // A search of seed 0 by one worker without heat, whose first move makes the timetable cheaper.
@@ -133,18 +134,19 @@ const CHEAPER: &str = "0 0 0 0 nurserun:1,0,0,5 0,0,0,0,0,0,0,0,0,0,-2,0,0,0,0,0
 
 const AS_CHEAP: &str = "1 0 1 1 nurse:1,5,0 0,0,0,0,0,0,0,0,0,0,0,0,0,0,0,0,0 accepted";
 
-#[test]
-fn the_best_is_made_anew(rt: HostRuntime) -> Result<(), Fail> {
-    let alloc = rt.alloc();
-    let inst = ward(alloc, &[])?;
-    let start = begin(alloc, &inst)?;
-    let mut replay = Replay::new(alloc, &inst, &start, &search(0, 1, 0, 0), 0)?;
-    assert!(rt; stands(&replay, 0, 0, 159));
-    assert!(rt; takes(&mut replay, CHEAPER));
-    assert!(rt; takes(&mut replay, AS_CHEAP));
-    assert!(rt; stands(&replay, 2, 1, 139));
-    assert!(rt; finds(alloc, &inst, &replay, NurseNo(1)));
-    Ok(())
+// Whether the best timetable is made anew.
+fn is_made_anew(alloc: Global, inst: &Instance, start: &Plan) -> bool
+    requires start { IsPlanOf inst.now.draft start.now }
+    requires two { IsOfTwo inst.now.draft }
+{
+    let Ok(mut replay) = Replay::new(alloc, inst, start, &search(0, 1, 0, 0), 0) else {
+        return false;
+    };
+    stands(&replay, 0, 0, 159)
+        && takes(&mut replay, CHEAPER)
+        && takes(&mut replay, AS_CHEAP)
+        && stands(&replay, 2, 1, 139)
+        && finds(alloc, inst, &replay, NurseNo(1))
 }
 
 // Lines that are refused where none was taken.
@@ -238,24 +240,30 @@ fn refuses_fourth(replay: &mut Replay<'_>) -> bool {
     )
 }
 
-#[test]
-fn the_first_reason_is_given(rt: HostRuntime) -> Result<(), Fail> {
-    let alloc = rt.alloc();
-    let inst = ward(alloc, &[])?;
-    let start = begin(alloc, &inst)?;
-    let mut replay = Replay::new(alloc, &inst, &start, &search(7, 2, 1_000_000, 1), 0)?;
-    assert!(rt; refuses_at_first(&mut replay));
-    assert!(rt; takes(&mut replay, FIRST));
-    assert!(rt; refuses_second(&mut replay));
-    assert!(rt; takes(&mut replay, SECOND));
-    assert!(rt; refuses_third(&mut replay));
-    assert!(rt; takes(&mut replay, STALE));
-    assert!(rt; refuses_fourth(&mut replay));
-    assert!(rt; takes(&mut replay, AGAIN));
-    assert!(rt; takes(&mut replay, LAST));
-    let beyond = "5 0 2 0 5 idle 0,0,0,0,0,0,0,0,0,0,0,0,0,0,0,0,0 accepted";
-    assert!(rt; refuses(&mut replay, 5, Reason::Extra, beyond));
-    Ok(())
+const BEYOND: &str = "5 0 2 0 5 idle 0,0,0,0,0,0,0,0,0,0,0,0,0,0,0,0,0 accepted";
+
+// Whether each wrong line is refused for its first reason, between the right ones.
+fn refuses_each(replay: &mut Replay<'_>) -> bool {
+    refuses_at_first(replay)
+        && takes(replay, FIRST)
+        && refuses_second(replay)
+        && takes(replay, SECOND)
+        && refuses_third(replay)
+        && takes(replay, STALE)
+        && refuses_fourth(replay)
+        && takes(replay, AGAIN)
+        && takes(replay, LAST)
+        && refuses(replay, 5, Reason::Extra, BEYOND)
+}
+
+// The same with a new replay.
+fn gives_the_first_reason(alloc: Global, inst: &Instance, start: &Plan) -> bool
+    requires { IsPlanOf inst.now.draft start.now }
+{
+    match Replay::new(alloc, inst, start, &search(7, 2, 1_000_000, 1), 0) {
+        Ok(mut replay) => refuses_each(&mut replay),
+        Err(_) => false,
+    }
 }
 
 // The first lines of a search of seed 4 without retries, in which worker 1 saw nothing at first.
@@ -268,15 +276,27 @@ const SEEN_ALL: &str = "2 1 0 2 nurse:0,5,0 0,0,0,0,0,0,0,0,0,0,0,0,0,0,0,0,1 ac
 const SEEN_NOTHING: &str =
     "2 1 0 0 nurse:0,5,0 0,0,0,0,0,0,0,0,0,0,0,0,0,0,0,0,0 stale:roomshift.0.5:0:1";
 
+// Whether a line that had seen less is taken after a refused one.
+fn takes_what_had_seen_less(alloc: Global, inst: &Instance, start: &Plan) -> bool
+    requires { IsPlanOf inst.now.draft start.now }
+{
+    let Ok(mut replay) = Replay::new(alloc, inst, start, &search(4, 2, 1_000_000, 0), 0) else {
+        return false;
+    };
+    takes(&mut replay, ADMITTED)
+        && takes(&mut replay, SAME_DAY)
+        && refuses(&mut replay, 2, Reason::Price, SEEN_ALL)
+        && takes(&mut replay, SEEN_NOTHING)
+}
+
 #[test]
-fn a_line_that_had_seen_less_is_taken_after_a_refused_one(rt: HostRuntime) -> Result<(), Fail> {
+fn journals_are_taken_line_by_line(rt: HostRuntime) -> Result<(), Fail> {
     let alloc = rt.alloc();
     let inst = ward(alloc, &[])?;
     let start = begin(alloc, &inst)?;
-    let mut replay = Replay::new(alloc, &inst, &start, &search(4, 2, 1_000_000, 0), 0)?;
-    assert!(rt; takes(&mut replay, ADMITTED));
-    assert!(rt; takes(&mut replay, SAME_DAY));
-    assert!(rt; refuses(&mut replay, 2, Reason::Price, SEEN_ALL));
-    assert!(rt; takes(&mut replay, SEEN_NOTHING));
+    assert!(rt; is_taken(alloc, &inst, &start));
+    assert!(rt; is_made_anew(alloc, &inst, &start));
+    assert!(rt; gives_the_first_reason(alloc, &inst, &start));
+    assert!(rt; takes_what_had_seen_less(alloc, &inst, &start));
     Ok(())
 }

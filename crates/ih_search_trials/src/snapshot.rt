@@ -84,6 +84,16 @@ fn costs(entries: &[Entry], place: usize, broken: [i64; 9], soft: [i64; 8]) -> b
     }
 }
 
+// Whether each of these places has an entry of this price.
+fn have_prices(entries: &[Entry], prices: &[(usize, [i64; 9], [i64; 8])]) -> bool {
+    for (place, broken, soft) in prices {
+        if !costs(entries, *place, *broken, *soft) {
+            return false;
+        }
+    }
+    true
+}
+
 // Of the second patient joining the first.
 const CROWDED: [i64; 9] = [1, 0, 0, 0, 0, 0, 1, 0, 0];
 
@@ -182,30 +192,30 @@ fn act_by(
     }
 }
 
-// The steps of two workers, one by one. Answers what came of each.
+// Whether each row's step of one of two workers tells what the row says.
 fn act_all(
-    alloc: Global,
     inst: &Instance,
     book: &mut Book<'_>,
     zero: &mut Replica<'_>,
     one: &mut Replica<'_>,
     options: &Options,
-    steps: &[(u32, Step)],
-) -> Result<Vec<Told>, AllocError>
+    buffer: &mut Buffer,
+    rows: &[(u32, Step, Told)],
+) -> bool
     requires instance { inst.now.draft ≡ book.old.base.instance }
     requires options { options.now ≡ book.old.base.options }
     requires zero { IsReplicaIn book.old.base book.old.entries zero.old }
     requires one { IsReplicaIn book.old.base book.old.entries one.old }
 {
-    let mut buffer = Buffer::new(alloc)?;
-    let mut told = Vec::new(alloc);
-    for (worker, step) in steps {
-        told.push(act_by(inst, book, zero, one, options, &mut buffer, *worker, step))?;
+    for (worker, step, expected) in rows {
+        if act_by(inst, book, zero, one, options, buffer, *worker, step) != *expected {
+            return false;
+        }
     }
-    Ok(told)
+    true
 }
 
-// The steps of two new workers over a new book.
+// The same with two new workers over a new book.
 fn act_first(
     alloc: Global,
     inst: &Instance,
@@ -213,16 +223,17 @@ fn act_first(
     book: &mut Book<'_>,
     options: &Options,
     freeze: u32,
-    steps: &[(u32, Step)],
-) -> Result<Vec<Told>, AllocError>
+    rows: &[(u32, Step, Told)],
+) -> Result<bool, AllocError>
     requires start { IsPlanOf inst.now.draft start.now }
     requires lawful { IsLawful options.now }
     requires base { book.old.base ≡ base_with inst.now.draft start.now options.now freeze }
     requires empty { book.old.entries ≡ [] }
 {
+    let mut buffer = Buffer::new(alloc)?;
     let mut zero = Replica::new(alloc, inst, start, options, freeze, 0)?;
     let mut one = Replica::new(alloc, inst, start, options, freeze, 1)?;
-    act_all(alloc, inst, book, &mut zero, &mut one, options, steps)
+    Ok(act_all(inst, book, &mut zero, &mut one, options, &mut buffer, rows))
 }
 
 // The bill of the start.
@@ -233,22 +244,23 @@ fn first_bill(alloc: Global, inst: &Instance, start: &Plan) -> Result<Bill, Allo
     Ok(Ledgers::new(alloc, inst, start)?.total())
 }
 
-// The steps of two workers over one book. Answers what came of each, and the entries.
-fn played(
+// Whether the rows come out so over one book, and the entries at these places then have these prices.
+fn play(
     alloc: Global,
     inst: &Instance,
     start: &Plan,
     options: &Options,
     freeze: u32,
-    steps: &[(u32, Step)],
-) -> Result<(Vec<Told>, Vec<Entry>), AllocError>
+    rows: &[(u32, Step, Told)],
+    prices: &[(usize, [i64; 9], [i64; 8])],
+) -> Result<bool, AllocError>
     requires start { IsPlanOf inst.now.draft start.now }
     requires lawful { IsLawful options.now }
 {
     let first = first_bill(alloc, inst, start)?;
     let mut book = Book::new(alloc, inst, start, &first, options, freeze)?;
-    let told = act_first(alloc, inst, start, &mut book, options, freeze, steps)?;
-    Ok((told, book.entries().to_vec(alloc)?))
+    let told = act_first(alloc, inst, start, &mut book, options, freeze, rows)?;
+    Ok(told && have_prices(book.entries(), prices))
 }
 
 const ACCEPTED: Told = Said(Some(Verdict::Accepted));
@@ -261,22 +273,22 @@ fn is_priced(
     mv: &Move,
     price: ([i64; 9], [i64; 8]),
     reads: &[(u32, u32)],
-) -> Result<bool, AllocError>
+) -> bool
     requires start { IsPlanOf inst.now.draft start.now }
     requires move_in { IsMoveOf inst.now.draft mv.now }
 {
-    let mut zero = Replica::new(alloc, inst, start, &hot(2, 2, 0), 0, 0)?;
+    let Ok(mut zero) = Replica::new(alloc, inst, start, &hot(2, 2, 0), 0, 0) else {
+        return false;
+    };
     share(&zero);
-    Ok(is(zero.price(mv, 0), (0, 0, 0), price, reads))
+    is(zero.price(mv, 0), (0, 0, 0), price, reads)
 }
 
-#[test]
-fn prices_rest_on_what_is_read(rt: HostRuntime) -> Result<(), Fail> {
-    let alloc = rt.alloc();
-    let inst = ward(alloc, &[])?;
-    let start = begin(alloc, &inst)?;
+// Whether a price rests on what is read.
+fn rests_on_what_is_read(alloc: Global, inst: &Instance, start: &Plan) -> bool
+    requires { IsPlanOf inst.now.draft start.now }
+{
     let join = place(1, 0, 0);
-    assert!(rt; is_in_range(&inst, &join));
     let reads = [
         (1, 0),
         (2, 0),
@@ -291,104 +303,114 @@ fn prices_rest_on_what_is_read(rt: HostRuntime) -> Result<(), Fail> {
         (37, 0),
     ];
     let price = (CROWDED, [1, 6, 1, 3, 1, 1, 0, -1]);
-    assert!(rt; is_priced(alloc, &inst, &start, &join, price, &reads)?);
-    Ok(())
+    is_in_range(inst, &join) && is_priced(alloc, inst, start, &join, price, &reads)
 }
 
-#[test]
-fn a_move_is_stale_where_another_changed_what_it_read(rt: HostRuntime) -> Result<(), Fail> {
-    let alloc = rt.alloc();
-    let inst = ward(alloc, &[])?;
-    let start = begin(alloc, &inst)?;
-    // It hasn't seen its own last entry when it offers again, and has when it does so by the same number.
+// Whether a move is stale where another changed what it read, and is accepted when it comes again. Its worker hasn't seen
+// its own last entry when it offers again at once, and has when it does so after a look, by the same number.
+fn comes_again(alloc: Global, inst: &Instance, start: &Plan) -> bool
+    requires { IsPlanOf inst.now.draft start.now }
+{
     let join = Offers(0, place(1, 0, 0));
-    let steps = [
-        (1, Offers(0, night(1))),
-        (0, join),
-        (0, join),
-        (0, Looks),
-        (0, Looks),
-        (0, join),
+    let rows = [
+        (1, Offers(0, night(1)), ACCEPTED),
+        (0, join, Said(stale_by_night(1))),
+        (0, join, Said(None)),
+        (0, Looks, Seen(2, 0)),
+        (0, Looks, Seen(2, 0)),
+        (0, join, ACCEPTED),
     ];
-    let (told, entries) = played(alloc, &inst, &start, &hot(2, 2, 1), 0, &steps)?;
-    let stale = Said(stale_by_night(1));
-    let expected = [
-        ACCEPTED,
-        stale,
-        Said(None),
-        Seen(2, 0),
-        Seen(2, 0),
-        ACCEPTED,
+    let prices = [
+        (0, [0; 9], [0, -2, 2, 0, 0, 0, 0, 0]),
+        (2, CROWDED, [1, 4, 2, 2, 1, 1, 0, -1]),
     ];
-    assert!(rt; told.as_slice() == expected.as_slice());
-    assert!(rt; costs(entries.as_slice(), 0, [0; 9], [0, -2, 2, 0, 0, 0, 0, 0]));
-    assert!(rt; costs(entries.as_slice(), 2, CROWDED, [1, 4, 2, 2, 1, 1, 0, -1]));
-    Ok(())
+    matches!(
+        play(alloc, inst, start, &hot(2, 2, 1), 0, &rows, &prices),
+        Ok(true)
+    )
+}
+
+// Whether a nurse who came back leaves a trace.
+fn leaves_a_trace(alloc: Global, inst: &Instance, start: &Plan) -> bool
+    requires { IsPlanOf inst.now.draft start.now }
+{
+    let rows = [
+        (1, Offers(0, night(1)), ACCEPTED),
+        (1, Looks, Seen(1, 0)),
+        (1, Offers(1, night(0)), ACCEPTED),
+        (0, Offers(0, place(1, 0, 0)), Said(stale_by_night(2))),
+    ];
+    let prices = [(1, [0; 9], [0, 2, -2, 0, 0, 0, 0, 0])];
+    matches!(
+        play(alloc, inst, start, &hot(2, 2, 0), 0, &rows, &prices),
+        Ok(true)
+    )
+}
+
+// Whether moves that touch nothing in common are both made.
+fn are_both_made(alloc: Global, inst: &Instance, start: &Plan) -> bool
+    requires { IsPlanOf inst.now.draft start.now }
+{
+    let rows = [
+        (1, Offers(0, night(1)), ACCEPTED),
+        (0, Offers(0, place(1, 0, 1)), ACCEPTED),
+    ];
+    let prices = [(1, UNNURSED, [0, 0, 0, 0, 1, 1, 0, -1])];
+    matches!(
+        play(alloc, inst, start, &hot(2, 2, 0), 0, &rows, &prices),
+        Ok(true)
+    )
+}
+
+// Whether the past is frozen.
+fn is_frozen(alloc: Global, inst: &Instance, start: &Plan) -> bool
+    requires { IsPlanOf inst.now.draft start.now }
+{
+    let rows = [
+        (
+            0,
+            Offers(0, Move::SetDay(PatientNo(0), Day(1))),
+            Said(Some(Verdict::Frozen)),
+        ),
+        (0, Looks, Seen(1, 0)),
+        (0, Offers(1, place(1, 1, 1)), ACCEPTED),
+        (0, Looks, Seen(2, 0)),
+        (0, Offers(2, Move::Withdraw(PatientNo(1))), ACCEPTED),
+    ];
+    let prices = [
+        (1, UNNURSED, [0, 0, 0, 0, 1, 0, 1, -1]),
+        (2, [0, 0, 0, 0, 0, 0, 0, 0, -3], [0, 0, 0, 0, -1, 0, -1, 1]),
+    ];
+    matches!(
+        play(alloc, inst, start, &hot(1, 3, 0), 1, &rows, &prices),
+        Ok(true)
+    )
 }
 
 #[test]
-fn a_nurse_who_came_back_leaves_a_trace(rt: HostRuntime) -> Result<(), Fail> {
+fn workers_see_what_others_touched(rt: HostRuntime) -> Result<(), Fail> {
     let alloc = rt.alloc();
     let inst = ward(alloc, &[])?;
     let start = begin(alloc, &inst)?;
-    let steps = [
-        (1, Offers(0, night(1))),
-        (1, Looks),
-        (1, Offers(1, night(0))),
-        (0, Offers(0, place(1, 0, 0))),
-    ];
-    let (told, entries) = played(alloc, &inst, &start, &hot(2, 2, 0), 0, &steps)?;
-    let expected = [ACCEPTED, Seen(1, 0), ACCEPTED, Said(stale_by_night(2))];
-    assert!(rt; told.as_slice() == expected.as_slice());
-    assert!(rt; costs(entries.as_slice(), 1, [0; 9], [0, 2, -2, 0, 0, 0, 0, 0]));
-    Ok(())
-}
-
-#[test]
-fn moves_that_touch_nothing_in_common_are_both_made(rt: HostRuntime) -> Result<(), Fail> {
-    let alloc = rt.alloc();
-    let inst = ward(alloc, &[])?;
-    let start = begin(alloc, &inst)?;
-    let steps = [(1, Offers(0, night(1))), (0, Offers(0, place(1, 0, 1)))];
-    let (told, entries) = played(alloc, &inst, &start, &hot(2, 2, 0), 0, &steps)?;
-    assert!(rt; told.as_slice() == [ACCEPTED, ACCEPTED].as_slice());
-    assert!(rt; costs(entries.as_slice(), 1, UNNURSED, [0, 0, 0, 0, 1, 1, 0, -1]));
-    Ok(())
-}
-
-#[test]
-fn the_past_is_frozen(rt: HostRuntime) -> Result<(), Fail> {
-    let alloc = rt.alloc();
-    let inst = ward(alloc, &[])?;
-    let start = begin(alloc, &inst)?;
-    let steps = [
-        (0, Offers(0, Move::SetDay(PatientNo(0), Day(1)))),
-        (0, Looks),
-        (0, Offers(1, place(1, 1, 1))),
-        (0, Looks),
-        (0, Offers(2, Move::Withdraw(PatientNo(1)))),
-    ];
-    let (told, entries) = played(alloc, &inst, &start, &hot(1, 3, 0), 1, &steps)?;
-    let frozen = Said(Some(Verdict::Frozen));
-    let expected = [frozen, Seen(1, 0), ACCEPTED, Seen(2, 0), ACCEPTED];
-    assert!(rt; told.as_slice() == expected.as_slice());
-    assert!(rt; costs(entries.as_slice(), 1, UNNURSED, [0, 0, 0, 0, 1, 0, 1, -1]));
-    let fewer = [0, 0, 0, 0, 0, 0, 0, 0, -3];
-    assert!(rt; costs(entries.as_slice(), 2, fewer, [0, 0, 0, 0, -1, 0, -1, 1]));
+    assert!(rt; rests_on_what_is_read(alloc, &inst, &start));
+    assert!(rt; comes_again(alloc, &inst, &start));
+    assert!(rt; leaves_a_trace(alloc, &inst, &start));
+    assert!(rt; are_both_made(alloc, &inst, &start));
+    assert!(rt; is_frozen(alloc, &inst, &start));
     Ok(())
 }
 
 // A worker's offers of moves that do nothing, each after a look, and then three looks of another.
-fn idle_steps(alloc: Global, count: u32) -> Result<Vec<(u32, Step)>, AllocError> {
-    let mut steps = Vec::new(alloc);
+fn idle_rows(alloc: Global, count: u32) -> Result<Vec<(u32, Step, Told)>, AllocError> {
+    let mut rows = Vec::new(alloc);
     for number in 0..count {
-        steps.push((1, Looks))?;
-        steps.push((1, Offers(number, Move::Idle)))?;
+        rows.push((1, Looks, Seen(number, 0)))?;
+        rows.push((1, Offers(number, Move::Idle), ACCEPTED))?;
     }
-    for _ in 0..3 {
-        steps.push((0, Looks))?;
+    for told in [Seen(256, 344), Seen(512, 88), Seen(600, 0)] {
+        rows.push((0, Looks, told))?;
     }
-    Ok(steps)
+    Ok(rows)
 }
 
 #[test]
@@ -396,12 +418,17 @@ fn looks_show_256_entries_each(rt: HostRuntime) -> Result<(), Fail> {
     let alloc = rt.alloc();
     let inst = ward(alloc, &[])?;
     let start = begin(alloc, &inst)?;
-    let steps = idle_steps(alloc, 600)?;
-    let (told, entries) = played(alloc, &inst, &start, &hot(2, 700, 0), 0, steps.as_slice())?;
-    assert_eq!(rt; entries.len(), 600);
+    let rows = idle_rows(alloc, 600)?;
     assert!(rt;
-        told.as_slice()
-            .ends_with(&[ACCEPTED, Seen(256, 344), Seen(512, 88), Seen(600, 0)])
+        play(
+            alloc,
+            &inst,
+            &start,
+            &hot(2, 700, 0),
+            0,
+            rows.as_slice(),
+            &[]
+        )?
     );
     Ok(())
 }
