@@ -7,8 +7,6 @@ use ih_journal::{Entry, Options, Verdict, head_line, line, parse_head, text};
 use ih_plan::{Move, Placement};
 use ih_tables::{Bill, Cell, Day, NurseNo, PatientNo, RoomNo, Shift, TheatreNo};
 use std::alloc::Global;
-use std::process::Abort;
-use std::test::Fail;
 
 fn options(seed: u64, workers: u32, moves: u32, retries: u32) -> Options {
     Options {
@@ -53,28 +51,9 @@ fn heat_falls(rt: HostRuntime) {
     assert_eq!(rt; options.theta(2), 3);
 }
 
-fn heading_is(rt: &impl Abort, alloc: Global, options: &Options, text: &str) -> Result<(), Fail> {
+fn heading_is(alloc: Global, options: &Options, text: &str) -> bool {
     let mut out = Vec::new(alloc);
-    head_line(options, &mut out)?;
-    assert_eq!(rt; out.as_slice(), text.as_bytes());
-    Ok(())
-}
-
-#[test]
-fn headings(rt: HostRuntime) -> Result<(), Fail> {
-    let alloc = rt.alloc();
-    heading_is(
-        &rt,
-        alloc,
-        &options(0, 1, 2, 0),
-        "ihjournal 1 seed=0 workers=1 moves=2 heat=0 hard=1000\n",
-    )?;
-    heading_is(
-        &rt,
-        alloc,
-        &options(0, 1, 2, 1),
-        "ihjournal 2 seed=0 workers=1 moves=2 heat=0 hard=1000 retries=1\n",
-    )
+    head_line(options, &mut out).is_ok() && out.as_slice() == text.as_bytes()
 }
 
 #[test]
@@ -124,20 +103,11 @@ fn headings_read(rt: HostRuntime) {
     }
 }
 
-fn line_is(
-    rt: &impl Abort,
-    alloc: Global,
-    options: &Options,
-    place: u32,
-    e: &Entry,
-    wanted: &str,
-) -> Result<(), Fail>
+fn line_is(alloc: Global, options: &Options, place: u32, e: &Entry, wanted: &str) -> bool
     requires { IsWithin (10 ^ 11) e.now.price }
 {
     let mut out = Vec::new(alloc);
-    line(options, place, e, &mut out)?;
-    assert_eq!(rt; out.as_slice(), wanted.as_bytes());
-    Ok(())
+    line(options, place, e, &mut out).is_ok() && out.as_slice() == wanted.as_bytes()
 }
 
 fn place(p: u32, day: u32, room: u32, theatre: u32) -> Move {
@@ -149,8 +119,7 @@ fn place(p: u32, day: u32, room: u32, theatre: u32) -> Move {
     Move::Place(PatientNo(p), at)
 }
 
-#[test]
-fn first_line(rt: HostRuntime) -> Result<(), Fail> {
+fn is_first_line(alloc: Global) -> bool {
     let entry = Entry {
         worker: 0,
         number: 0,
@@ -164,11 +133,10 @@ fn first_line(rt: HostRuntime) -> Result<(), Fail> {
         verdict: Verdict::Accepted,
     };
     let wanted = "0 0 0 0 nurserun:0,0,0,5 0,0,0,0,0,0,0,0,-3,0,1,1,0,0,0,0,0 accepted\n";
-    line_is(&rt, rt.alloc(), &options(0, 1, 2, 0), 0, &entry, wanted)
+    line_is(alloc, &options(0, 1, 2, 0), 0, &entry, wanted)
 }
 
-#[test]
-fn stale_line(rt: HostRuntime) -> Result<(), Fail> {
+fn is_stale_line(alloc: Global) -> bool {
     let entry = Entry {
         worker: 0,
         number: 0,
@@ -187,11 +155,10 @@ fn stale_line(rt: HostRuntime) -> Result<(), Fail> {
     };
     let wanted =
         "1 0 0 0 place:0,1,1,1 0,1,0,0,0,0,0,0,3,-1,0,-1,0,0,0,1,0 stale:roomshift.0.0:0:1\n";
-    line_is(&rt, rt.alloc(), &options(0, 2, 1, 0), 1, &entry, wanted)
+    line_is(alloc, &options(0, 2, 1, 0), 1, &entry, wanted)
 }
 
-#[test]
-fn retried_line(rt: HostRuntime) -> Result<(), Fail> {
+fn is_retried_line(alloc: Global) -> bool {
     let entry = Entry {
         worker: 0,
         number: 0,
@@ -205,14 +172,26 @@ fn retried_line(rt: HostRuntime) -> Result<(), Fail> {
         verdict: Verdict::Accepted,
     };
     let wanted = "2 0 0 1 2 place:1,0,0,1 1,0,0,0,0,0,1,0,0,1,4,2,2,1,1,0,-1 accepted\n";
-    line_is(&rt, rt.alloc(), &options(0, 2, 2, 1), 2, &entry, wanted)
+    line_is(alloc, &options(0, 2, 2, 1), 2, &entry, wanted)
+}
+
+fn are_move_texts(alloc: Global) -> bool {
+    let mut out = Vec::new(alloc);
+    let swap = Move::SwapNurses(Shift(7), RoomNo(0), RoomNo(12));
+    text(&Move::Idle, &mut out).is_ok()
+        && text(&swap, &mut out).is_ok()
+        && out.as_slice() == b"idleswapnurses:7,0,12".as_slice()
 }
 
 #[test]
-fn move_texts(rt: HostRuntime) -> Result<(), Fail> {
-    let mut out = Vec::new(rt.alloc());
-    text(&Move::Idle, &mut out)?;
-    text(&Move::SwapNurses(Shift(7), RoomNo(0), RoomNo(12)), &mut out)?;
-    assert_eq!(rt; out.as_slice(), b"idleswapnurses:7,0,12".as_slice());
-    Ok(())
+fn lines_are_written(rt: HostRuntime) {
+    let alloc = rt.alloc();
+    let first = "ihjournal 1 seed=0 workers=1 moves=2 heat=0 hard=1000\n";
+    let second = "ihjournal 2 seed=0 workers=1 moves=2 heat=0 hard=1000 retries=1\n";
+    assert!(rt; heading_is(alloc, &options(0, 1, 2, 0), first));
+    assert!(rt; heading_is(alloc, &options(0, 1, 2, 1), second));
+    assert!(rt; is_first_line(alloc));
+    assert!(rt; is_stale_line(alloc));
+    assert!(rt; is_retried_line(alloc));
+    assert!(rt; are_move_texts(alloc));
 }
