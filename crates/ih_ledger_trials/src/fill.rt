@@ -78,29 +78,43 @@ fn is_skilled(inst: &Instance, plan: &Plan) -> bool
         && has(inst, plan, 0, 5, 0)
 }
 
+// Whether both patients and then both nurses are where they change the bill least.
+fn all_are_placed(inst: &Instance, plan: &Plan) -> bool
+    requires { IsPlanOf inst.now.draft plan.now }
+{
+    is_placed(inst, plan, 0, 1, 0)
+        && is_placed(inst, plan, 1, 0, 1)
+        && is_skilled(inst, plan)
+        && has(inst, plan, 1, 0, 1)
+        && has(inst, plan, 1, 2, 1)
+        && has_none_from(inst, plan, 1, 3)
+}
+
+// Whether the second patient is left out: the first room has patients of another gender on both days, and the second is
+// barred.
+fn one_is_left_out(inst: &Instance, plan: &Plan) -> bool
+    requires { IsPlanOf inst.now.draft plan.now }
+{
+    is_placed(inst, plan, 0, 1, 0)
+        && is_out(inst, plan, 1)
+        && is_skilled(inst, plan)
+        && has_none_from(inst, plan, 1, 0)
+}
+
 #[test]
 fn patients_then_nurses_by_least_change(rt: HostRuntime) -> Result<(), Fail> {
     let alloc = rt.alloc();
     let inst = ward(alloc, &[])?;
     let plan = filled(alloc, &inst)?;
-    assert!(rt; is_placed(&inst, &plan, 0, 1, 0));
-    assert!(rt; is_placed(&inst, &plan, 1, 0, 1));
-    assert!(rt; is_skilled(&inst, &plan));
-    assert!(rt; has(&inst, &plan, 1, 0, 1));
-    assert!(rt; has(&inst, &plan, 1, 2, 1));
-    assert!(rt; has_none_from(&inst, &plan, 1, 3));
+    assert!(rt; all_are_placed(&inst, &plan));
     Ok(())
 }
 
-// The first room has patients of another gender on both days, and the second is barred.
 #[test]
 fn a_patient_without_a_compatible_room_is_left_out(rt: HostRuntime) -> Result<(), Fail> {
     let alloc = rt.alloc();
     let inst = ward(alloc, &[RoomNo(1)])?;
     let plan = filled(alloc, &inst)?;
-    assert!(rt; is_placed(&inst, &plan, 0, 1, 0));
-    assert!(rt; is_out(&inst, &plan, 1));
-    assert!(rt; is_skilled(&inst, &plan));
-    assert!(rt; has_none_from(&inst, &plan, 1, 0));
+    assert!(rt; one_is_left_out(&inst, &plan));
     Ok(())
 }

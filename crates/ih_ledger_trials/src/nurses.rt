@@ -127,32 +127,18 @@ fn changes_are_right(inst: &Instance, ledger: &mut Nurses) -> bool
     stay_changes_are_right(inst, ledger) && choice_changes_are_right(inst, ledger)
 }
 
+// A nurse lacks skill in the night while the early shift has none; a second patient overloads the nurse while there; and
+// changes are told without the write.
 #[test]
-fn a_nurse_lacks_skill_in_the_night_and_the_early_shift_has_none(
-    rt: HostRuntime,
-) -> Result<(), Fail> {
+fn patients_come_and_go_under_nurses(rt: HostRuntime) -> Result<(), Fail> {
     let alloc = rt.alloc();
     let inst = ward(alloc, &[])?;
     let mut ledger = Nurses::new(alloc, &inst)?;
     share(&ledger);
     assert!(rt; one_is_right(&inst, &mut ledger));
-    Ok(())
-}
-
-#[test]
-fn a_second_patient_overloads_the_nurse_while_there(rt: HostRuntime) -> Result<(), Fail> {
-    let alloc = rt.alloc();
-    let inst = ward(alloc, &[])?;
-    let mut ledger = Nurses::new(alloc, &inst)?;
+    ledger = Nurses::new(alloc, &inst)?;
     assert!(rt; coming_is_right(&inst, &mut ledger));
-    Ok(())
-}
-
-#[test]
-fn changes_are_told_without_the_write(rt: HostRuntime) -> Result<(), Fail> {
-    let alloc = rt.alloc();
-    let inst = ward(alloc, &[])?;
-    let mut ledger = Nurses::new(alloc, &inst)?;
+    ledger = Nurses::new(alloc, &inst)?;
     assert!(rt; changes_are_right(&inst, &mut ledger));
     Ok(())
 }
