@@ -108,7 +108,7 @@ enum Step {
 }
 
 /// What came of it: how many entries the worker has then seen and how many it hasn't, or the verdict, if it may offer.
-#[derive(Clone, Copy, Debug, PartialEq, Eq)]
+#[derive(Clone, Copy, PartialEq)]
 enum Told {
     Seen(u32, usize),
     Said(Option<Verdict>),

@@ -1,22 +1,16 @@
 //! The example of two patients, two rooms and two nurses over two days.
 
+ghost use Rattle.ih_ward.specs.Two.{IsOfTwo};
+
 use ih_tables::{Bill, Instance, NurseNo, PatientNo, RoomNo, Shift, TheatreNo};
-use ih_ward::{example, rooms};
+use ih_ward::{example, rooms, ward};
 use std::test::Fail;
 
 /// Threads share an instance.
 fn share<T: Send + Sync>(_x: &T) {}
 
-#[test]
-fn the_example_is_valid(rt: HostRuntime) -> Result<(), Fail> {
-    let alloc = rt.alloc();
-    let mut wide = example(alloc, &[])?;
-    wide.rooms = rooms(alloc, 1001)?;
-    assert!(rt; !wide.is_valid());
-    let draft = example(alloc, &[])?;
-    assert!(rt; draft.is_valid());
-    let inst = Instance::seal(alloc, draft)?;
-    share(&inst);
+// Whether there are as many of each kind as in the ward of two patients, in the order in which they are counted.
+fn has_sizes(inst: &Instance) -> bool {
     let sizes = [
         inst.days(),
         inst.patients(),
@@ -28,27 +22,43 @@ fn the_example_is_valid(rt: HostRuntime) -> Result<(), Fail> {
         inst.nurses(),
         inst.shifts(),
     ];
-    assert_eq!(rt; sizes, [2, 2, 1, 3, 2, 2, 1, 2, 6]);
-    assert_eq!(rt; inst.weights().w, [5, 10, 2, 1, 30, 7, 4, 100]);
+    sizes == [2, 2, 1, 3, 2, 2, 1, 2, 6] && inst.weights().w == [5, 10, 2, 1, 30, 7, 4, 100]
+}
+
+fn finds_names(inst: &Instance) -> bool {
+    inst.find_patient("p1") == Some(PatientNo(1))
+        && inst.find_room("r1") == Some(RoomNo(1))
+        && inst.find_theatre("t1") == Some(TheatreNo(1))
+        && inst.find_nurse("n1") == Some(NurseNo(1))
+        && inst.find_shift_type("night") == Some(2)
+        && inst.find_room("p1") == None
+}
+
+fn has_loads(inst: &Instance) -> bool
+    requires { IsOfTwo inst.now.draft }
+{
+    inst.works(NurseNo(1), Shift(4)) == Some(10)
+        && inst.working(Shift(4)).len() == 2
+        && inst.shift_type(2).as_str() == "night"
+}
+
+#[test]
+fn the_example_is_valid(rt: HostRuntime) -> Result<(), Fail> {
+    let alloc = rt.alloc();
+    let inst = ward(alloc, &[])?;
+    share(&inst);
+    assert!(rt; has_sizes(&inst));
+    assert!(rt; finds_names(&inst));
+    assert!(rt; has_loads(&inst));
     Ok(())
 }
 
 #[test]
-fn names_are_found(rt: HostRuntime) -> Result<(), Fail> {
+fn a_room_of_too_many_beds_is_refused(rt: HostRuntime) -> Result<(), Fail> {
     let alloc = rt.alloc();
-    let draft = example(alloc, &[])?;
-    assert!(rt; draft.is_valid());
-    let inst = Instance::seal(alloc, draft)?;
-    assert_eq!(rt; inst.find_patient("p1"), Some(PatientNo(1)));
-    assert_eq!(rt; inst.find_room("r1"), Some(RoomNo(1)));
-    assert_eq!(rt; inst.find_theatre("t1"), Some(TheatreNo(1)));
-    assert_eq!(rt; inst.find_nurse("n1"), Some(NurseNo(1)));
-    assert_eq!(rt; inst.find_shift_type("night"), Some(2));
-    assert_eq!(rt; inst.find_room("p1"), None);
-    assert!(rt; inst.nurses() == 2 && inst.shifts() == 6);
-    assert_eq!(rt; inst.works(NurseNo(1), Shift(4)), Some(10));
-    assert!(rt; inst.working(Shift(4)).len() == 2);
-    assert_eq!(rt; inst.shift_type(2).as_str(), "night");
+    let mut wide = example(alloc, &[])?;
+    wide.rooms = rooms(alloc, 1001)?;
+    assert!(rt; !wide.is_valid());
     Ok(())
 }
 
