@@ -39,7 +39,8 @@ const ONE_NURSE_LESS: [i64; 8] = [0, 0, -1, 0, 0, 0, 0, 0];
 
 const LOAD_LESS_1: [i64; 8] = [0, 0, 0, -1, 0, 0, 0, 0];
 
-// Whether each bill is right after the first patient joins the occupant, and the unskilled nurse has the room in the night.
+// Whether each bill is right after the first patient joins the occupant, and the unskilled nurse has the room in the
+// night.
 fn one_is_right(inst: &Instance, ledger: &mut Nurses) -> bool
     requires new { IsLedgerOf inst.now.draft (empty inst.now.draft) ledger.old }
     requires two { IsOfTwo inst.now.draft }
@@ -82,7 +83,8 @@ fn coming_is_right(inst: &Instance, ledger: &mut Nurses) -> bool
         && is(&care, KEPT, NONE)
 }
 
-// Whether each change by a stay is right where the first patient and the occupant are there, under the unskilled nurse in the night.
+// Whether each change by a stay is right where the first patient and the occupant are there, under the unskilled
+// nurse in the night.
 fn stay_changes_are_right(inst: &Instance, ledger: &Nurses) -> bool
     requires stands { (P : Timetable) × IsLedgerOf inst.now.draft P ledger.now }
     requires two { IsOfTwo inst.now.draft }
@@ -127,7 +129,8 @@ fn changes_are_right(inst: &Instance, ledger: &mut Nurses) -> bool
     stay_changes_are_right(inst, ledger) && choice_changes_are_right(inst, ledger)
 }
 
-// A nurse lacks skill in the night while the early shift has none; a second patient overloads the nurse while there; and
+// A nurse lacks skill in the night while the early shift has none; a second patient overloads the nurse while there;
+// and
 // changes are told without the write.
 #[test]
 fn patients_come_and_go_under_nurses(rt: HostRuntime) -> Result<(), Fail> {

@@ -68,7 +68,8 @@ fn are_changes_right_of_two(
         && is(&together, [0, 0, 0, 0, 0, -1, 0, 0])
 }
 
-// Whether each bill is right while the first patient enters, the second enters in the other theatre, and the first leaves.
+// Whether each bill is right while the first patient enters, the second enters in the other theatre, and the first
+// leaves.
 fn are_right(inst: &Instance, ledger: &mut Theatres) -> bool
     requires new { IsLedgerOf inst.now.draft (empty inst.now.draft) ledger.old }
     requires two { IsOfTwo inst.now.draft }

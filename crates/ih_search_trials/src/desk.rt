@@ -85,7 +85,8 @@ fn change_back<'a, R: Wait>(
     }
 }
 
-// Worker 0 offers the night to the second nurse as well, priced before all that. Answers none where that isn't stale, as the third entry.
+// Worker 0 offers the night to the second nurse as well, priced before all that. Answers none where that isn't stale,
+// as the third entry.
 fn come_late<'a, R: Wait>(
     rt: &R,
     alloc: Global,

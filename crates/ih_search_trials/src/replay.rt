@@ -41,7 +41,8 @@ fn stands(replay: &Replay<'_>, taken: usize, place: u32, cost: i64) -> bool {
     replay.entries().len() == taken && replay.best() == Some((place, cost))
 }
 
-// Whether a line is refused for this reason where so many were taken, and changes nothing. The start is the best until then.
+// Whether a line is refused for this reason where so many were taken, and changes nothing. The start is the best
+// until then.
 fn refuses(replay: &mut Replay<'_>, taken: u32, reason: Reason, line: &str) -> bool
     ensures { replay.new.base ≡ replay.old.base }
 {

@@ -73,7 +73,8 @@ fn may_come(book: &Book<'_>, options: &Options, offer: &Offer) -> bool
         && none_by(&entries[offer.seen as usize..], offer.worker)
 }
 
-/// Offers the next move of a replica's worker to the book, and answers the verdict. Answers none where it isn't the next,
+/// Offers the next move of a replica's worker to the book, and answers the verdict. Answers none where it isn't the
+/// next,
 /// or where the replica hasn't seen its worker's last entry.
 pub(crate) fn offer(
     book: &mut Book<'_>,
@@ -97,7 +98,8 @@ pub(crate) fn offer(
     }
 }
 
-/// The replica takes over what the book has past it, or the first 256 entries of that. Answers how many it has then seen,
+/// The replica takes over what the book has past it, or the first 256 entries of that. Answers how many it has then
+/// seen,
 /// and how many it hasn't.
 pub(crate) fn catch_up(
     book: &Book<'_>,

@@ -1,4 +1,5 @@
-//! The bill and the report of a ward of one room and nobody in it. Worked examples are tried where whole files are read.
+//! The bill and the report of a ward of one room and nobody in it. Worked examples are tried where whole files are
+//! read.
 
 use ih_plan::Plan;
 use ih_tables::Instance;
