@@ -61,19 +61,11 @@ pub touched-one : (I : Draft) (P : Timetable) (u v : Gathered) (w : Write) → u
     → settled v ≡ listed_or_touched I P u.cells (w ∷ [])
 touched-one I P u v w sizes g = touched-none I (put w P) v (g.sizes ∙ sizes) ∙ touched-more I P u v w [] sizes g
 
--- numbers below the count that pass a test, as a list, rise
-pub which-rises : (u v : Gathered) (p : ℕ → Bool) → v.sizes ≡ u.sizes → v.cells ≡ which_below (count_in u.sizes) p → v.cells ≡ settled v
-which-rises u v p sizes cells =
-    cells
-    ∙ (which_below-same (count_in u.sizes) p (λ n. is_listed n v.cells) (λ n h.
-    sym (ap (is_listed n) cells ∙ (sym (has-listed n (which_below (count_in u.sizes) p)) ∙ has-which_below (count_in u.sizes) n p h)))
-    ∙ sym (ap (λ z. which_below (count_in z) (λ n. is_listed n v.cells)) sizes))
-
 -- a list that has what another has, the cells that a write touches
 pub gathers-touched : (I : Draft) (P : Timetable) (u v : Gathered) (w : Write) (ns : List ℕ) → u.sizes ≡ sizes_of I → v.sizes ≡ u.sizes → ns ≡ listed_or_touched I P [] (w ∷ [])
-    → v.cells ≡ which_below (count_in u.sizes) (λ n. is_listed n u.cells || is_listed n ns) → Gathers u v (write_touches I P w)
+    → ((n : ℕ) → is_listed n v.cells ≡ (is_listed n u.cells || is_listed n ns)) → Gathers u v (write_touches I P w)
 unfolding listed_or_touched writes_touch
-gathers-touched I P u v w ns sizes same touched joined = record {
+gathers-touched I P u v w ns sizes same touched each = record {
   sizes = same;
   cells = λ c inside.
       let n = number_in u.sizes c in
@@ -84,9 +76,7 @@ gathers-touched I P u v w ns sizes same touched joined = record {
       let listed : is_listed n ns ≡ write_touches I P w c =
       ap (is_listed n) touched ∙ (sym (has-listed n _) ∙ (has-which_below (cell_count I) n (λ m. is_listed m [] || (write_touches I P w (cell_at I m) || false)) below
       ∙ (or-none (write_touches I P w (cell_at I n)) ∙ ap (write_touches I P w) back))) in
-      let each : is_listed n v.cells ≡ (is_listed n u.cells || is_listed n ns) =
-      ap (is_listed n) joined ∙ (sym (has-listed n _) ∙ has-which_below (count_in u.sizes) n (λ m. is_listed m u.cells || is_listed m ns) (number_in-in u.sizes c inside)) in
-      ap (λ z. is_listed (number_in z c) v.cells) same ∙ (each ∙ ap (λ b. is_listed n u.cells || b) listed);
+      ap (λ z. is_listed (number_in z c) v.cells) same ∙ (each n ∙ ap (λ b. is_listed n u.cells || b) listed);
 }
 
 -- which pass a test of the numbers of all cells

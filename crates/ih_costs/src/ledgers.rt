@@ -21,7 +21,7 @@ pub struct Ledgers<'a> {
     writes: Writes,
     // Room for the cells that one write touches.
     one: CellList,
-    // Where the cells of a move that is made are gathered. It has none between calls.
+    // Where the cells of a move are gathered. It has none between calls.
     set: CellSet,
 }
 
@@ -152,6 +152,7 @@ impl<'a> Ledgers<'a> {
             &mut self.cells,
             &mut self.writes,
             &mut self.one,
+            &mut self.set,
             mv,
             foot,
             &mut price,

@@ -14,7 +14,7 @@ ghost use Rattle.ih_costs.specs.Touched.{listed_or_touched};
 ghost use Rattle.ih_costs.specs.Undo.{undo_of};
 
 use crate::cell_ledgers::CellLedgers;
-use ih_footprint::{CellList, foot, looks};
+use ih_footprint::{CellList, CellSet, foot, looks};
 use ih_moves::{Writes, expand};
 use ih_plan::{Move, Plan, Write};
 use ih_tables::{Bill, Instance};
@@ -55,31 +55,29 @@ fn change_by_write(inst: &Instance, ledgers: &CellLedgers, w: &Write, cells: &mu
     ledgers.sum_changes(inst, w, cells.cells())
 }
 
-// What a write changes in the bill. The cells that it touches are listed too, and all then rise. `one` has just these.
-// It isn't made.
+// What a write changes in the bill. The cells that it touches are gathered too. `one` then has just these. It isn't made.
 fn change_alone(
     inst: &Instance,
     ledgers: &CellLedgers,
     w: &Write,
     one: &mut CellList,
-    cells: &mut CellList,
+    set: &mut CellSet,
 ) -> Bill
     requires stands { AreLedgers inst.now.draft ledgers.now }
     requires write { IsWriteOf inst.now.draft w.now }
     requires one { one.old.sizes ≡ sizes_of inst.now.draft }
-    requires sizes { cells.old.sizes ≡ sizes_of inst.now.draft }
+    requires sizes { set.old.sizes ≡ sizes_of inst.now.draft }
     ensures one { one.new.sizes ≡ one.old.sizes }
-    ensures cells { Gathers cells.old cells.new (write_touches inst.now.draft (timetable_of ledgers.now) w.now) }
-    ensures rising { cells.new.cells ≡ settled cells.new }
+    ensures cells { Gathers set.old set.new (write_touches inst.now.draft (timetable_of ledgers.now) w.now) }
     ensures change { result ≡ change_of_bill inst.now.draft (timetable_of ledgers.now) (put w.now (timetable_of ledgers.now)) }
 {
     one.clear();
     let change = change_by_write(inst, ledgers, w, one);
-    cells.take_in(one);
+    set.add_all(one.cells());
     change
 }
 
-// What writes change in the bill, the first of them and the rest. The cells that they touch are listed too. Each but the
+// What writes change in the bill, the first of them and the rest. The cells that they touch are gathered too. Each but the
 // last is made, so that the next is priced behind it, and taken back.
 fn change_in_turn(
     inst: &Instance,
@@ -87,30 +85,61 @@ fn change_in_turn(
     w: &Write,
     rest: &[Write],
     one: &mut CellList,
+    set: &mut CellSet,
+) -> Bill
+    requires stands { AreLedgers inst.now.draft ledgers.old }
+    requires write { IsWriteOf inst.now.draft w.now }
+    requires writes { AreWritesOf inst.now.draft rest.now }
+    requires one { one.old.sizes ≡ sizes_of inst.now.draft }
+    requires sizes { set.old.sizes ≡ sizes_of inst.now.draft }
+    ensures stands { AreLedgersOf inst.now.draft (timetable_of ledgers.old) ledgers.new }
+    ensures one { one.new.sizes ≡ one.old.sizes }
+    ensures cells { settled set.new ≡ listed_or_touched inst.now.draft (timetable_of ledgers.old) set.old.cells (w.now ∷ rest.now) }
+    ensures sizes { set.new.sizes ≡ set.old.sizes }
+    ensures change { result ≡ change_of_bill inst.now.draft (timetable_of ledgers.old) (put_all (w.now ∷ rest.now) (timetable_of ledgers.old)) }
+{
+    let here = change_alone(inst, ledgers, w, one, set);
+    match rest.split_first() {
+        None => here,
+        Some((next, later)) => {
+            let undo = undo_of(inst, ledgers.plan(), w);
+            ledgers.put(inst, w);
+            let further = change_in_turn(inst, ledgers, next, later, one, set);
+            ledgers.put(inst, &undo);
+            here.add(&further)
+        }
+    }
+}
+
+// The same, with the cells that they touch listed too, rising: they are gathered in `set`, which has none before and after.
+fn change_together(
+    inst: &Instance,
+    ledgers: &mut CellLedgers,
+    w: &Write,
+    rest: &[Write],
+    one: &mut CellList,
+    set: &mut CellSet,
     cells: &mut CellList,
 ) -> Bill
     requires stands { AreLedgers inst.now.draft ledgers.old }
     requires write { IsWriteOf inst.now.draft w.now }
     requires writes { AreWritesOf inst.now.draft rest.now }
     requires one { one.old.sizes ≡ sizes_of inst.now.draft }
+    requires empty { set.old.cells ≡ [] }
+    requires set { set.old.sizes ≡ sizes_of inst.now.draft }
     requires sizes { cells.old.sizes ≡ sizes_of inst.now.draft }
     ensures stands { AreLedgersOf inst.now.draft (timetable_of ledgers.old) ledgers.new }
     ensures one { one.new.sizes ≡ one.old.sizes }
+    ensures empty { set.new.cells ≡ [] }
+    ensures set { set.new.sizes ≡ set.old.sizes }
     ensures cells { cells.new.cells ≡ listed_or_touched inst.now.draft (timetable_of ledgers.old) cells.old.cells (w.now ∷ rest.now) }
     ensures sizes { cells.new.sizes ≡ cells.old.sizes }
     ensures change { result ≡ change_of_bill inst.now.draft (timetable_of ledgers.old) (put_all (w.now ∷ rest.now) (timetable_of ledgers.old)) }
 {
-    let here = change_alone(inst, ledgers, w, one, cells);
-    match rest.split_first() {
-        None => here,
-        Some((next, later)) => {
-            let undo = undo_of(inst, ledgers.plan(), w);
-            ledgers.put(inst, w);
-            let further = change_in_turn(inst, ledgers, next, later, one, cells);
-            ledgers.put(inst, &undo);
-            here.add(&further)
-        }
-    }
+    set.add_all(cells.cells());
+    let change = change_in_turn(inst, ledgers, w, rest, one, set);
+    cells.take_from(set);
+    change
 }
 
 // Sets `price` to what a move's writes change in the bill. `cells`, those that the move looks at before, then has those of its footprint,
@@ -120,15 +149,20 @@ fn change_after(
     ledgers: &mut CellLedgers,
     writes: &[Write],
     one: &mut CellList,
+    set: &mut CellSet,
     cells: &mut CellList,
     price: &mut Bill,
 )
     requires stands { AreLedgers inst.now.draft ledgers.old }
     requires writes { AreWritesOf inst.now.draft writes.now }
     requires one { one.old.sizes ≡ sizes_of inst.now.draft }
+    requires empty_set { set.old.cells ≡ [] }
+    requires set { set.old.sizes ≡ sizes_of inst.now.draft }
     requires sizes { cells.old.sizes ≡ sizes_of inst.now.draft }
     ensures stands { AreLedgersOf inst.now.draft (timetable_of ledgers.old) ledgers.new }
     ensures one { one.new.sizes ≡ one.old.sizes }
+    ensures empty_set { set.new.cells ≡ [] }
+    ensures set { set.new.sizes ≡ set.old.sizes }
     ensures cells { cells.new.cells ≡ listed_or_touched inst.now.draft (timetable_of ledgers.old) cells.old.cells writes.now }
     ensures sizes { cells.new.sizes ≡ cells.old.sizes }
     ensures change { price.new ≡ change_of_bill inst.now.draft (timetable_of ledgers.old) (put_all writes.now (timetable_of ledgers.old)) }
@@ -142,7 +176,7 @@ fn change_after(
             *price = if rest.len() == 0 {
                 change_by_write(inst, ledgers, w, cells)
             } else {
-                change_in_turn(inst, ledgers, w, rest, one, cells)
+                change_together(inst, ledgers, w, rest, one, set, cells)
             };
         }
     }
@@ -154,6 +188,7 @@ fn change_after_move(
     ledgers: &mut CellLedgers,
     writes: &mut Writes,
     one: &mut CellList,
+    set: &mut CellSet,
     mv: &Move,
     foot: &mut CellList,
     price: &mut Bill,
@@ -161,17 +196,21 @@ fn change_after_move(
     requires stands { AreLedgers inst.now.draft ledgers.old }
     requires move_in { IsMoveOf inst.now.draft mv.now }
     requires one { one.old.sizes ≡ sizes_of inst.now.draft }
+    requires empty_set { set.old.cells ≡ [] }
+    requires set { set.old.sizes ≡ sizes_of inst.now.draft }
     requires sizes { foot.old.sizes ≡ sizes_of inst.now.draft }
     requires empty { foot.old.cells ≡ [] }
     ensures change { price.new ≡ change_of_bill inst.now.draft (timetable_of ledgers.old) (after inst.now.draft (timetable_of ledgers.old) mv.now) }
     ensures cells { foot.new.cells ≡ footprint inst.now.draft (timetable_of ledgers.old) mv.now }
     ensures one { one.new.sizes ≡ one.old.sizes }
+    ensures empty_set { set.new.cells ≡ [] }
+    ensures set { set.new.sizes ≡ set.old.sizes }
     ensures sizes { foot.new.sizes ≡ foot.old.sizes }
     ensures stands { AreLedgersOf inst.now.draft (timetable_of ledgers.old) ledgers.new }
 {
     looks(mv, foot);
     expand(inst, ledgers.plan(), mv, writes);
-    change_after(inst, ledgers, writes.as_slice(), one, foot, price);
+    change_after(inst, ledgers, writes.as_slice(), one, set, foot, price);
 }
 
 /// Sets `price` to what a move adds to the bill, number by number. `foot` then has the cells of its footprint, rising, and the ledgers
@@ -181,6 +220,7 @@ pub fn price_of(
     ledgers: &mut CellLedgers,
     writes: &mut Writes,
     one: &mut CellList,
+    set: &mut CellSet,
     mv: &Move,
     foot: &mut CellList,
     price: &mut Bill,
@@ -188,14 +228,18 @@ pub fn price_of(
     requires stands { AreLedgers inst.now.draft ledgers.old }
     requires move_in { IsMoveOf inst.now.draft mv.now }
     requires one { one.old.sizes ≡ sizes_of inst.now.draft }
+    requires empty_set { set.old.cells ≡ [] }
+    requires set { set.old.sizes ≡ sizes_of inst.now.draft }
     requires sizes { foot.old.sizes ≡ sizes_of inst.now.draft }
     ensures price { price.new ≡ change_of_bill inst.now.draft (timetable_of ledgers.old) (after inst.now.draft (timetable_of ledgers.old) mv.now) }
     ensures within { IsWithin (10 ^ 11) price.new }
     ensures cells { foot.new.cells ≡ footprint inst.now.draft (timetable_of ledgers.old) mv.now }
     ensures one { one.new.sizes ≡ one.old.sizes }
+    ensures empty_set { set.new.cells ≡ [] }
+    ensures set { set.new.sizes ≡ set.old.sizes }
     ensures sizes { foot.new.sizes ≡ foot.old.sizes }
     ensures stands { AreLedgersOf inst.now.draft (timetable_of ledgers.old) ledgers.new }
 {
     foot.clear();
-    change_after_move(inst, ledgers, writes, one, mv, foot, price);
+    change_after_move(inst, ledgers, writes, one, set, mv, foot, price);
 }

@@ -41,9 +41,9 @@ returns-in-None-clause-cells t c =
     let I = c.args.inst.now.draft in
     let P = timetable_of c.args.ledgers.now in
     let w = c.args.w.now in
-    let u = c.args.cells.now in
+    let u = c.args.set.now in
     let none : c.args.rest.now ≡ [] = nil_from_length c.args.rest.now c.in-None.ensures.cases in
-    c.change_alone-here.ensures.rising ∙ (touched-one I P u c.change_alone-here.new.cells w c.requires.sizes c.change_alone-here.ensures.cells ∙ ap (λ ws. listed_or_touched I P u.cells (w ∷ ws)) (sym none))
+    touched-one I P u c.change_alone-here.new.set w c.requires.sizes c.change_alone-here.ensures.cells ∙ ap (λ ws. listed_or_touched I P u.cells (w ∷ ws)) (sym none)
 
 pub returns-in-None-clause-change : goal.returns-in-None-clause-change
 returns-in-None-clause-change t c =
@@ -68,11 +68,11 @@ returns-in-Some-clause-cells t c =
     let I = c.args.inst.now.draft in
     let P = timetable_of c.args.ledgers.now in
     let w = c.args.w.now in
-    let u = c.args.cells.now in
+    let u = c.args.set.now in
     let ws = c.in-Some.next.now ∷ c.in-Some.later.now in
     c.change_in_turn-further.ensures.cells
-    ∙ (ap (λ Q. listed_or_touched I Q c.change_alone-here.new.cells.cells ws) (kept I (put w P) c.put.new.self c.put.ensures)
-    ∙ (touched-more I P u c.change_alone-here.new.cells w ws c.requires.sizes c.change_alone-here.ensures.cells
+    ∙ (ap (λ Q. listed_or_touched I Q c.change_alone-here.new.set.cells ws) (kept I (put w P) c.put.new.self c.put.ensures)
+    ∙ (touched-more I P u c.change_alone-here.new.set w ws c.requires.sizes c.change_alone-here.ensures.cells
     ∙ ap (λ ws. listed_or_touched I P u.cells (w ∷ ws)) (sym c.in-Some.ensures.cases.0)))
 
 pub returns-in-Some-clause-change : goal.returns-in-Some-clause-change

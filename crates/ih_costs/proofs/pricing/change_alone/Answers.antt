@@ -1,7 +1,9 @@
 use Rattle.std.proofs.Common.{◌∷◌, [], ◌∙◌, ap}
+use Rattle.std.specs.Prelude.{◌||◌}
+use Rattle.ih_plan.specs.Sums.{is_listed}
 use Rattle.ih_costs.specs.CellLedgers.{timetable_of}
 use Rattle.ih_costs.specs.Touched.{listed_or_touched}
-use Rattle.ih_costs.proofs.TouchLemmas.{gathers-touched, which-rises}
+use Rattle.ih_costs.proofs.TouchLemmas.{gathers-touched}
 use Rattle.ih_costs.proofs.pricing.change_alone.Goals as goal
 
 pub returns-clause-cells : goal.returns-clause-cells
@@ -10,8 +12,6 @@ returns-clause-cells c =
     let P = timetable_of c.args.ledgers.now in
     let w = c.args.w.now in
     let one = c.change_by_write-change.new.cells in
-    gathers-touched I P c.args.cells.now c.take_in.new.self w one.cells c.requires.sizes c.take_in.ensures.sizes
-    (c.change_by_write-change.ensures.cells ∙ ap (λ ns. listed_or_touched I P ns (w ∷ [])) c.clear.ensures.cells) c.take_in.ensures.cells
-
-pub returns-clause-rising : goal.returns-clause-rising
-returns-clause-rising c = which-rises c.args.cells.now c.take_in.new.self _ c.take_in.ensures.sizes c.take_in.ensures.cells
+    gathers-touched I P c.args.set.now c.add_all.new.self w one.cells c.requires.sizes c.add_all.ensures.sizes
+    (c.change_by_write-change.ensures.cells ∙ ap (λ ns. listed_or_touched I P ns (w ∷ [])) c.clear.ensures.cells)
+    (λ n. c.add_all.ensures.cells n ∙ ap (λ ns. is_listed n c.args.set.now.cells || is_listed n ns) c.cells.ensures.cells)
