@@ -25,10 +25,11 @@ use Rattle.ih_plan.specs.Costs.{is_number}
 use Rattle.ih_plan.specs.Cells.{IsCellIn, IsCellOf}
 use Rattle.ih_plan.specs.Footprint.{in_placement, in_stay, in_choice, is_own, write_touches}
 use Rattle.ih_footprint.specs.Gathered.{same_cell}
-use Rattle.ih_footprint.specs.Pieces.{in_shift, in_day, in_days, in_nurse, in_cares}
+use Rattle.ih_footprint.specs.Pieces.{in_shift, in_days, in_room_days, in_room_shifts, in_nurse_shifts, in_nurse, in_cares}
 use Rattle.ih_plan.specs.Present.{ArePresent}
 use Rattle.ih_plan.specs.Sums.{is_listed}
 use Rattle.ih_footprint.proofs.GatherLemmas.{or-none}
+use Rattle.ih_footprint.proofs.RunLemmas.{bool-same, span-true, span-inside}
 
 -- ---- a room in a shift
 
@@ -62,23 +63,7 @@ pub chosen-in : (I : Draft) (P : Timetable) (r : ℕ) (k : Shift) (n : NurseNo) 
 chosen-in I P r k n z plan sizes inside e =
     rw sizes (plan.nursed r k.0 n.0 (ap (option_map (λ (m : NurseNo). m.0)) e), inside)
 
--- ---- a room on a day
-
-day-shifts : (d k : ℕ) → (((3 * d == k) || (3 * d + 1 == k)) || (3 * d + 2 == k)) ≡ (d == k / 3)
-day-shifts d k = elim (cases_eq d (k / 3)) [
-  | inl same ↦ rw (eq-eqb d (k / 3) same) (elim (cases_eq (3 * d) k) [
-    | inl zeroth ↦ rw (eq-eqb (3 * d) k zeroth) refl
-    | inr a ↦ elim (cases_eq (3 * d + 1) k) [
-      | inl first ↦ rw (ne_eqb (3 * d) k a, eq-eqb (3 * d + 1) k first) refl
-      | inr b ↦ rw (ne_eqb (3 * d) k a, ne_eqb (3 * d + 1) k b, eq-eqb (3 * d + 2) k (omega arith)) refl
-    ]
-  ])
-  | inr other ↦ rw (ne_eqb d (k / 3) other, ne_eqb (3 * d) k (λ e. other (omega arith)), ne_eqb (3 * d + 1) k (λ e. other (omega arith)), ne_eqb (3 * d + 2) k (λ e. other (omega arith))) refl
-]
-
-gather : (g x y z t : Bool) → ((x || y) || z) ≡ t → (((false || (g && x)) || (g && y)) || (g && z)) ≡ (g && t)
-gather true x y z t e = e
-gather false x y z t e = refl
+-- ---- shifts in a row
 
 at-shift : (P : Timetable) (r k l n : ℕ) → (is_number (care_of P r l) n && (l == k)) ≡ (is_number (care_of P r k) n && (l == k))
 at-shift P r k l n = elim (cases_eq l k) [
@@ -91,19 +76,6 @@ at-shift P r k l n = elim (cases_eq l k) [
     none true false = refl
     none false true = refl
     none false false = refl
-
--- a day is its room and its three shifts
-pub day-pieces : (P : Timetable) (r : RoomNo) (d : ℕ) (e : Cell)
-    → (((same_cell (RoomDay r (record { 0 = d })) e || in_shift P r.0 (3 * d) e) || in_shift P r.0 (3 * d + 1) e) || in_shift P r.0 (3 * d + 2) e) ≡ in_day P r.0 d e
-unfolding in_day in_shift same_cell
-day-pieces P r d (RoomDay s f) = or-none _ ∙ (or-none _ ∙ or-none ((r.0 == s.0) && (d == f.0)))
-day-pieces P r d (RoomShift s k) = gather (r.0 == s.0) (3 * d == k.0) (3 * d + 1 == k.0) (3 * d + 2 == k.0) (d == k.0 / 3) (day-shifts d k.0)
-day-pieces P r d (NurseShift n k) =
-    rw (at-shift P r.0 k.0 (3 * d) n.0, at-shift P r.0 k.0 (3 * d + 1) n.0, at-shift P r.0 k.0 (3 * d + 2) n.0)
-    (gather (is_number (care_of P r.0 k.0) n.0) (3 * d == k.0) (3 * d + 1 == k.0) (3 * d + 2 == k.0) (d == k.0 / 3) (day-shifts d k.0))
-day-pieces P r d _ = refl
-
--- ---- days in a row
 
 span-more : (a b d : ℕ) → a ≤ b → (in_span a b d || (b == d)) ≡ in_span a (b + 1) d
 span-more a b d h = elim (cases_order b d) [
@@ -118,14 +90,12 @@ share : (g s t u : Bool) → (s || t) ≡ u → ((g && s) || (g && t)) ≡ (g &&
 share true s t u e = e
 share false s t u e = refl
 
--- one more day
-pub days-more : (P : Timetable) (r a d : ℕ) → a ≤ d → (e : Cell) → (in_days P r a d e || in_day P r d e) ≡ in_days P r a (d + 1) e
-unfolding in_days in_day
-days-more P r a d h (RoomDay s f) = share (r == s.0) (in_span a d f.0) (d == f.0) (in_span a (d + 1) f.0) (span-more a d f.0 h)
-days-more P r a d h (RoomShift s k) = share (r == s.0) (in_span a d (day_of k.0)) (d == day_of k.0) (in_span a (d + 1) (day_of k.0)) (span-more a d (day_of k.0) h)
-days-more P r a d h (NurseShift n k) =
-    share (is_number (care_of P r k.0) n.0) (in_span a d (day_of k.0)) (d == day_of k.0) (in_span a (d + 1) (day_of k.0)) (span-more a d (day_of k.0) h)
-days-more P r a d h _ = refl
+-- one more shift
+pub shifts-more : (P : Timetable) (r a k : ℕ) → a ≤ k → (e : Cell) → (in_nurse_shifts P r a k e || in_nurse (care_of P r k) k e) ≡ in_nurse_shifts P r a (k + 1) e
+unfolding in_nurse_shifts in_nurse
+shifts-more P r a k h (NurseShift n l) =
+    rw (at-shift P r l.0 k n.0) (share (is_number (care_of P r l.0) n.0) (in_span a k l.0) (k == l.0) (in_span a (k + 1) l.0) (span-more a k l.0 h))
+shifts-more P r a k h _ = refl
 
 span-none : (a d : ℕ) → in_span a a d ≡ false
 span-none a d = elim (cases_lt d a) [
@@ -133,13 +103,26 @@ span-none a d = elim (cases_lt d a) [
   | inr above ↦ rw (le-ltb d a above) (and_right (nat_le a d) false refl)
 ]
 
--- no day yet
-pub days-none : (P : Timetable) (r a : ℕ) (e : Cell) → in_days P r a a e ≡ false
-unfolding in_days
-days-none P r a (RoomDay s f) = and_right (r == s.0) (in_span a a f.0) (span-none a f.0)
-days-none P r a (RoomShift s k) = and_right (r == s.0) (in_span a a (day_of k.0)) (span-none a (day_of k.0))
-days-none P r a (NurseShift n k) = and_right (is_number (care_of P r k.0) n.0) (in_span a a (day_of k.0)) (span-none a (day_of k.0))
-days-none P r a _ = refl
+-- no shift yet
+pub shifts-none : (P : Timetable) (r a : ℕ) (e : Cell) → in_nurse_shifts P r a a e ≡ false
+unfolding in_nurse_shifts
+shifts-none P r a (NurseShift n k) = and_right (is_number (care_of P r k.0) n.0) (in_span a a k.0) (span-none a k.0)
+shifts-none P r a _ = refl
+
+-- a span of days is one of shifts
+span-shifts : (a b k : ℕ) → in_span (3 * a) (3 * b) k ≡ in_span a b (day_of k)
+span-shifts a b k =
+    bool-same (in_span (3 * a) (3 * b) k) (in_span a b (day_of k)) (λ h. let e = span-inside (3 * a) (3 * b) k h in span-true a b (day_of k) (omega arith) (omega arith))
+    (λ h. let e = span-inside a b (day_of k) h in span-true (3 * a) (3 * b) k (omega arith) (omega arith))
+
+-- days are the room's days and shifts and its nurses' shifts
+pub days-pieces : (P : Timetable) (r a b : ℕ) (e : Cell)
+    → ((in_room_days r a b e || in_room_shifts r (3 * a) (3 * b) e) || in_nurse_shifts P r (3 * a) (3 * b) e) ≡ in_days P r a b e
+unfolding in_room_days in_room_shifts in_nurse_shifts in_days
+days-pieces P r a b (RoomDay s d) = or-none _ ∙ or-none ((r == s.0) && in_span a b d.0)
+days-pieces P r a b (RoomShift s k) = or-none _ ∙ ap (λ x. (r == s.0) && x) (span-shifts a b k.0)
+days-pieces P r a b (NurseShift n k) = ap (λ x. is_number (care_of P r k.0) n.0 && x) (span-shifts a b k.0)
+days-pieces P r a b _ = refl
 
 -- ---- a placement
 

@@ -8,6 +8,7 @@ pub mod Prices
 pub mod BitLemmas
 pub mod WrittenLemmas
 pub mod SetLemmas
+pub mod RunLemmas
 pub mod ListLemmas
 pub mod GatherLemmas
 pub mod FootLemmas

@@ -13,19 +13,27 @@ in_shift P r k (RoomShift s l) = (r == s.0) && (k == l.0)
 in_shift P r k (NurseShift n l) = is_number (care_of P r k) n.0 && (k == l.0)
 in_shift P r k c = false
 
--- room r on day d and in its shifts, and the shifts of its nurses
-unfoldable pub in_day : Timetable → ℕ → ℕ → Cell → Bool
-in_day P r d (RoomDay s e) = (r == s.0) && (d == e.0)
-in_day P r d (RoomShift s k) = (r == s.0) && (d == day_of k.0)
-in_day P r d (NurseShift n k) = is_number (care_of P r k.0) n.0 && (d == day_of k.0)
-in_day P r d c = false
-
--- the same of the days from a on and before b
+-- room r on the days from a on and before b and in their shifts, and the shifts of its nurses
 unfoldable pub in_days : Timetable → ℕ → ℕ → ℕ → Cell → Bool
 in_days P r a b (RoomDay s d) = (r == s.0) && in_span a b d.0
 in_days P r a b (RoomShift s k) = (r == s.0) && in_span a b (day_of k.0)
 in_days P r a b (NurseShift n k) = is_number (care_of P r k.0) n.0 && in_span a b (day_of k.0)
 in_days P r a b c = false
+
+-- room r on the days from a on and before b
+unfoldable pub in_room_days : ℕ → ℕ → ℕ → Cell → Bool
+in_room_days r a b (RoomDay s d) = (r == s.0) && in_span a b d.0
+in_room_days r a b c = false
+
+-- room r in the shifts from a on and before b
+unfoldable pub in_room_shifts : ℕ → ℕ → ℕ → Cell → Bool
+in_room_shifts r a b (RoomShift s k) = (r == s.0) && in_span a b k.0
+in_room_shifts r a b c = false
+
+-- the shifts of that room's nurses
+unfoldable pub in_nurse_shifts : Timetable → ℕ → ℕ → ℕ → Cell → Bool
+in_nurse_shifts P r a b (NurseShift n k) = is_number (care_of P r k.0) n.0 && in_span a b k.0
+in_nurse_shifts P r a b c = false
 
 -- the nurses of these persons
 unfoldable pub in_cares : List ℕ → Cell → Bool

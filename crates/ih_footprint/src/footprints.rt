@@ -12,7 +12,7 @@ ghost use Rattle.ih_plan.specs.Writes.{IsWriteOf};
 ghost use Rattle.ih_plan.specs.Cells.{IsCellIn};
 ghost use Rattle.ih_plan.specs.Footprint.{write_touches, in_placement, in_stay, looks_at};
 ghost use Rattle.ih_footprint.specs.Gathered.{settled, Gathers};
-ghost use Rattle.ih_footprint.specs.Pieces.{in_shift, in_day, in_days, in_nurse, in_cares};
+ghost use Rattle.ih_footprint.specs.Pieces.{in_shift, in_days, in_nurse_shifts, in_nurse, in_cares};
 ghost use Rattle.ih_plan.specs.Present.{ArePresent};
 
 use crate::cell_lists::CellList;
@@ -35,22 +35,21 @@ fn add_shift(inst: &Instance, plan: &Plan, r: RoomNo, k: Shift, out: &mut CellSe
     }
 }
 
-// A room on a day and in its shifts, and the shifts of its nurses.
-fn add_day(inst: &Instance, plan: &Plan, r: RoomNo, d: u32, out: &mut CellSet)
+// The shifts of a room's nurses, from shift `from` on and before `to`.
+fn add_nurse_shifts(inst: &Instance, plan: &Plan, r: RoomNo, from: u32, to: u32, out: &mut CellSet)
     requires plan { IsPlanOf inst.now.draft plan.now }
     requires room { r.0 < room_count inst.now.draft }
-    requires day { d < inst.now.draft.days }
-    requires days { inst.now.draft.days ≤ 56 }
+    requires order { from ≤ to }
+    requires shifts { to ≤ shift_count inst.now.draft }
     requires sizes { out.old.sizes ≡ sizes_of inst.now.draft }
-    ensures { Gathers out.old out.new (in_day plan.now r.0 d) }
+    ensures { Gathers out.old out.new (in_nurse_shifts plan.now r.0 from to) }
 {
-    out.add_cell(Cell::RoomDay(r, Day(d)));
-    add_shift(inst, plan, r, Shift(3 * d), out);
-    add_shift(inst, plan, r, Shift(3 * d + 1), out);
-    add_shift(inst, plan, r, Shift(3 * d + 2), out);
+    for k in from..to {
+        add_nurse(inst, plan.care(r, Shift(k)), Shift(k), out);
+    }
 }
 
-// The same of the days from `from` on and before `to`.
+// A room on the days from `from` on and before `to` and in their shifts, and the shifts of its nurses.
 fn add_days(inst: &Instance, plan: &Plan, r: RoomNo, from: u32, to: u32, out: &mut CellSet)
     requires plan { IsPlanOf inst.now.draft plan.now }
     requires room { r.0 < room_count inst.now.draft }
@@ -60,9 +59,9 @@ fn add_days(inst: &Instance, plan: &Plan, r: RoomNo, from: u32, to: u32, out: &m
     requires sizes { out.old.sizes ≡ sizes_of inst.now.draft }
     ensures { Gathers out.old out.new (in_days plan.now r.0 from to) }
 {
-    for d in from..to {
-        add_day(inst, plan, r, d, out);
-    }
+    out.add_room_days(r, from, to);
+    out.add_room_shifts(r, 3 * from, 3 * to);
+    add_nurse_shifts(inst, plan, r, 3 * from, 3 * to, out);
 }
 
 // The cells of a patient's placement.

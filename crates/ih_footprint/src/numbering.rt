@@ -79,9 +79,9 @@ impl Model for Numbering {
 }
 
 impl Numbering {
-    ghost use Rattle.std.specs.Prelude.{◌≡◌, ◌<◌};
+    ghost use Rattle.std.specs.Prelude.{◌≡◌, ◌+◌, ◌*◌, ◌<◌};
     ghost use Rattle.ih_tables.specs.Sizes.{sizes_of};
-    ghost use Rattle.ih_plan.specs.Cells.{count_in, number_in, cell_in, IsCellIn};
+    ghost use Rattle.ih_plan.specs.Cells.{room_days_from, room_shifts_from, count_in, number_in, cell_in, IsCellIn};
     ghost use Rattle.ih_footprint.specs.Limits.{AreLimited};
 
     /// The numbering of an instance's cells.
@@ -143,6 +143,26 @@ impl Numbering {
             Cell::NurseShift(n, k) => self.first_nurse_shift + n.0 * (3 * self.days) + k.0,
             Cell::Care(x) => self.first_care + x.0,
         }
+    }
+
+    /// Where the numbers of a room's days begin.
+    #[inline(always)]
+    pub(crate) fn row_of_days(&self, r: RoomNo) -> u32
+        requires { r.0 < self.now.rooms }
+        ensures row { result ≡ room_days_from self.now + r.0 * self.now.days }
+        ensures limited { AreLimited self.now }
+    {
+        self.patients + r.0 * self.days
+    }
+
+    /// Where those of its shifts begin.
+    #[inline(always)]
+    pub(crate) fn row_of_shifts(&self, r: RoomNo) -> u32
+        requires { r.0 < self.now.rooms }
+        ensures row { result ≡ room_shifts_from self.now + r.0 * (3 * self.now.days) }
+        ensures limited { AreLimited self.now }
+    {
+        self.first_room_shift + r.0 * (3 * self.days)
     }
 
     /// The cell of a number, from which `number` gives the number back.

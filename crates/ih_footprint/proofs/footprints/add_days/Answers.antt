@@ -1,9 +1,8 @@
-use Rattle.ih_footprint.proofs.GatherLemmas.{gathers-like, gathers-both, gathers-none}
-use Rattle.ih_footprint.proofs.FootLemmas.{days-none, days-more}
+use Rattle.ih_footprint.proofs.GatherLemmas.{gathers-like, gathers-both}
+use Rattle.ih_footprint.proofs.FootLemmas.{days-pieces}
 use Rattle.ih_footprint.proofs.footprints.add_days.Goals as goal
 
-pub loop-d-init : goal.loop-d-init
-loop-d-init c = gathers-none (days-none c.args.plan.now c.args.r.0 c.args.from)
-
-pub loop-d-preserved : goal.loop-d-preserved
-loop-d-preserved c = gathers-like (λ e range. days-more c.args.plan.now c.args.r.0 c.args.from c.loop-d.d c.loop-d.auto.d e) (gathers-both c.loop-d.invariant c.add_day.ensures)
+pub returns : goal.returns
+returns c =
+    gathers-like (λ e range. days-pieces c.args.plan.now c.args.r.0 c.args.from c.args.to e)
+    (gathers-both (gathers-both c.add_room_days.ensures c.add_room_shifts.ensures) c.add_nurse_shifts.ensures)
