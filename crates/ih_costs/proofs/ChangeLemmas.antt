@@ -1,5 +1,5 @@
 -- What a write doesn't touch costs what it cost.
-use Rattle.std.proofs.Common.{◌≡◌, ℕ, refl, sym, ap, ◌∙◌, Bool, true, false, Option, Some, None, arith, length, ◌<◌}
+use Rattle.std.proofs.Common.{◌≡◌, refl, sym, ap, ◌∙◌, Bool, true, false, Option, Some, arith}
 use Rattle.std.specs.Prelude.{pos, ℤ, ◌-ℤ◌, ◌==◌, ◌&&◌, slice_get}
 use Rattle.std.specs.List.{range_with_len}
 use Rattle.std.proofs.lemmas.Bool.{ne_eqb}
@@ -10,24 +10,20 @@ use Rattle.ih_tables.specs.declared.ids.PatientNo.{PatientNo}
 use Rattle.ih_tables.specs.declared.ids.Day.{Day}
 use Rattle.ih_tables.specs.declared.ids.TheatreNo.{TheatreNo}
 use Rattle.ih_tables.specs.declared.ids.SurgeonNo.{SurgeonNo}
-use Rattle.ih_tables.specs.Sizes.{patient_count, person_count}
-use Rattle.ih_tables.specs.declared.ids.PersonNo.{PersonNo}
 use Rattle.ih_tables.specs.declared.ids.RoomNo.{RoomNo}
 use Rattle.ih_tables.specs.declared.ids.Shift.{Shift}
 use Rattle.ih_tables.specs.declared.ids.NurseNo.{NurseNo}
 use Rattle.ih_tables.specs.declared.cells.Cell.{Cell}
-use Rattle.ih_tables.specs.declared.cells.Cell.TheVariants.{Stay, RoomDay, TheatreDay, SurgeonDay, RoomShift, NurseShift, Care}
+use Rattle.ih_tables.specs.declared.cells.Cell.TheVariants.{Stay, RoomDay, TheatreDay, SurgeonDay, RoomShift, NurseShift}
 use Rattle.ih_tables.specs.declared.bills.Bill.{Bill}
 use Rattle.ih_tables.specs.Bills.{at, sub_bills, zero_bill}
-use Rattle.ih_plan.specs.declared.moves.Placement.{Placement}
 use Rattle.ih_plan.specs.declared.moves.Write.{Write}
-use Rattle.ih_plan.specs.declared.moves.Write.TheVariants.{SetStay, SetCare}
+use Rattle.ih_plan.specs.declared.moves.Write.TheVariants.{SetCare}
 use Rattle.ih_plan.specs.Timetable.{Timetable, IsPlanOf, stay_of}
-use Rattle.ih_plan.specs.Writes.{put, IsWriteOf}
+use Rattle.ih_plan.specs.Writes.{IsWriteOf}
 use Rattle.ih_plan.specs.BillOf.{as_bill}
 use Rattle.ih_plan.specs.Cells.{part_of, part_at, content_of, IsCellOf}
-use Rattle.ih_plan.specs.Footprint.{write_touches, in_stay, in_placement, in_choice}
-use Rattle.ih_plan.proofs.Entries.{stay_of-same}
+use Rattle.ih_plan.specs.Footprint.{write_touches, in_choice}
 use Rattle.ih_footprint.proofs.Locality.{frame}
 use Rattle.ih_footprint.proofs.Prices.{map-same}
 use Rattle.ih_costs.specs.Changes.{part_change, stay_part}
@@ -48,50 +44,11 @@ apart-change I P w c plan fits range apart =
     sym (less-itself (as_bill (part_at I P c)))
     ∙ ap (λ t. sub_bills (as_bill (part_of I c t)) (as_bill (part_at I P c))) (sym (frame I P w c plan fits range apart))
 
--- ---- what is apart from a stay
-
-in_stay-care : (I : Draft) (P : Timetable) (p : ℕ) (s : Option Placement) (x : PersonNo) → in_stay I P p s (Care x) ≡ false
-unfolding in_placement
-in_stay-care I P p None x = refl
-in_stay-care I P p (Some at) x = refl
-
-in_stay-stay : (I : Draft) (P : Timetable) (p : ℕ) (s : Option Placement) (q : PatientNo) → in_stay I P p s (Stay q) ≡ false
-unfolding in_placement
-in_stay-stay I P p None q = refl
-in_stay-stay I P p (Some at) q = refl
-
-care-apart : (I : Draft) (P : Timetable) (p : PatientNo) (new : Option Placement) (x : PersonNo) → (p.0 ≡ x.0 → ⊥) → write_touches I P (SetStay p new) (Care x) ≡ false
-care-apart I P p new x other = rw (ne_eqb p.0 x.0 other, in_stay-care I P p.0 (stay_of P p.0) x, in_stay-care I P p.0 new x) refl
-
-stay-apart : (I : Draft) (P : Timetable) (p : PatientNo) (new : Option Placement) (q : PatientNo) → (p.0 ≡ q.0 → ⊥) → write_touches I P (SetStay p new) (Stay q) ≡ false
-stay-apart I P p new q other = rw (ne_eqb p.0 q.0 other, in_stay-stay I P p.0 (stay_of P p.0) q, in_stay-stay I P p.0 new q) refl
-
--- Another person's nurses stay.
-pub other-care : (I : Draft) (P : Timetable) (p : PatientNo) (new : Option Placement) (x : PersonNo) → IsPlanOf I P → IsWriteOf I (SetStay p new) → x.0 < person_count I
-    → (p.0 ≡ x.0 → ⊥) → zero_bill ≡ part_change I P (SetStay p new) (Care x)
-other-care I P p new x plan fits range other = apart-change I P (SetStay p new) (Care x) plan fits range (care-apart I P p new x other)
-
--- Another patient's stay is as it was.
-pub other-stay : (I : Draft) (P : Timetable) (p : PatientNo) (new : Option Placement) (q : PatientNo) → IsPlanOf I P → IsWriteOf I (SetStay p new) → q.0 < patient_count I
-    → (p.0 ≡ q.0 → ⊥) → zero_bill ≡ part_change I P (SetStay p new) (Stay q)
-other-stay I P p new q plan fits range other = apart-change I P (SetStay p new) (Stay q) plan fits range (stay-apart I P p new q other)
-
 -- ---- a patient's own stay
 
-stay-is : (I : Draft) (P : Timetable) (q : PatientNo) (a : Patient) → slice_get I.patients q.0 ≡ Some a → part_at I P (Stay q) ≡ stay_part a (stay_of P q.0)
+pub stay-is : (I : Draft) (P : Timetable) (q : PatientNo) (a : Patient) → slice_get I.patients q.0 ≡ Some a → part_at I P (Stay q) ≡ stay_part a (stay_of P q.0)
 unfolding part_of content_of
 stay-is I P q a e = rw e refl
-
-pub own-stay : (I : Draft) (P : Timetable) (p q : PatientNo) (new old : Option Placement) (a : Patient) → slice_get I.patients p.0 ≡ Some a → p.0 < length P.stays → old ≡ stay_of P p.0
-    → p.0 ≡ q.0 → sub_bills (as_bill (stay_part a new)) (as_bill (stay_part a old)) ≡ part_change I P (SetStay p new) (Stay q)
-own-stay I P p q new old a known inside kept same =
-    let Q = put (SetStay p new) P in
-    let there : slice_get I.patients q.0 ≡ Some a = sym (ap (λ n. slice_get I.patients n) same) ∙ known in
-    let after : stay_of Q q.0 ≡ new = sym (ap (λ n. stay_of Q n) same) ∙ stay_of-same P p new inside in
-    let before : stay_of P q.0 ≡ old = sym (ap (λ n. stay_of P n) same) ∙ sym kept in
-    let new_part : part_at I Q (Stay q) ≡ stay_part a new = stay-is I Q q a there ∙ ap (stay_part a) after in
-    let old_part : part_at I P (Stay q) ≡ stay_part a old = stay-is I P q a there ∙ ap (stay_part a) before in
-    ap (λ k. sub_bills (as_bill k) (as_bill (stay_part a old))) (sym new_part) ∙ ap (λ k. sub_bills (as_bill (part_at I Q (Stay q))) (as_bill k)) (sym old_part)
 
 -- ---- what is apart from a choice of nurse
 

@@ -28,7 +28,7 @@ use Rattle.ih_costs.specs.Touched.{listed_or_touched}
 use Rattle.ih_costs.proofs.PartLemmas.{sum_of-none, sum-step, sum_of-within, change-of-passing}
 use Rattle.ih_costs.proofs.ChangeLemmas.{less-itself}
 
-at-by_place : (n : ℕ) (f : ℕ → ℤ) (k : ℕ) → k < n → at (by_place n f) k ≡ f k
+pub at-by_place : (n : ℕ) (f : ℕ → ℤ) (k : ℕ) → k < n → at (by_place n f) k ≡ f k
 at-by_place n f k h = get_or-map-range_with_len f 0 n k k (pos 0) h (omega arith)
 
 add-less : (a b c d : ℤ) → (a -ℤ b) +ℤ (c -ℤ d) ≡ (a +ℤ c) -ℤ (b +ℤ d)
@@ -79,7 +79,7 @@ apart x y hx hy =
     let d = hy.1 in
     (omega (arith, ints), omega (arith, ints))
 
-less-within : (a b : Bill) → IsWithin (10 ^ 11) a → IsWithin (10 ^ 11) b → IsWithin (10 ^ 12) (sub_bills a b)
+pub less-within : (a b : Bill) → IsWithin (10 ^ 11) a → IsWithin (10 ^ 11) b → IsWithin (10 ^ 12) (sub_bills a b)
 less-within a b ha hb = record {
   v = λ k l. rw (at-by_place 9 (λ k. at a.v k -ℤ at b.v k) k l) (apart (at a.v k) (at b.v k) (ha.v k l) (hb.v k l));
   s = λ k l. rw (at-by_place 8 (λ k. at a.s k -ℤ at b.s k) k l) (apart (at a.s k) (at b.s k) (ha.s k l) (hb.s k l));

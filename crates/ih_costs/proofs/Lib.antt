@@ -6,3 +6,10 @@ pub mod TouchLemmas
 pub mod ChangeLemmas
 pub mod ChangeSums
 pub mod Occupied
+pub mod SpanSums
+pub mod GainLemmas
+pub mod GainBills
+pub mod GainNumbers
+pub mod GainSteps
+pub mod DayGains
+pub mod GainParts

@@ -26,7 +26,7 @@ use Rattle.ih_costs.specs.PartSums.{sum_of}
 
 -- ---- a cell more
 
-at-counts : (xs : List ℕ) (k : ℕ) → at (map pos xs) k ≡ pos (slice_index xs k)
+pub at-counts : (xs : List ℕ) (k : ℕ) → at (map pos xs) k ≡ pos (slice_index xs k)
 at-counts [] k = refl
 at-counts (x ∷ xs) zero = refl
 at-counts (x ∷ xs) (suc k) = at-counts xs k

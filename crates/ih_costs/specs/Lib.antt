@@ -2,5 +2,6 @@ pub mod Changes
 pub mod CellLedgers
 pub mod PartSums
 pub mod Standing
+pub mod StayGain
 pub mod Touched
 pub mod Undo

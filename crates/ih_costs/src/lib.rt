@@ -1,12 +1,14 @@
-//! The price of a move, from the cells that it touches: ledgers stand for a timetable, try the move and take it back.
+//! The price of a move, write by write: ledgers stand for a timetable, try the move and take it back.
 #![tactic(auto)]
 
 mod cell_ledgers;
 mod changes;
 mod copies;
+mod gains;
 mod ledgers;
 mod noting;
 mod pricing;
+mod stay_prices;
 mod stays;
 
 pub use ledgers::Ledgers;

@@ -128,6 +128,32 @@ own-change I P r k p new a b plan patient ca cb =
     })
     ∙ less-parts (whole I Q r.0 k.0) (whole I P r.0 k.0) (whole-part I Q r k) (whole-part I P r k)
 
+-- The costs of a placement and of none differ as the parts with the placement and without it.
+pub room-gain : (I : Draft) (P : Timetable) (r : RoomNo) (k : Shift) (p : PatientNo) (at : Placement) (a b : NursingCosts) → IsPlanOf I P → p.0 < patient_count I
+    → AreOwnCosts I P p.0 (Some at) r.0 k.0 (care_of P r.0 k.0) a
+    → AreOwnCosts I P p.0 None r.0 k.0 (care_of P r.0 k.0) b
+    → less a b ≡ sub_bills (as_bill (part_at I (put (SetStay p (Some at)) P) (RoomShift r k))) (as_bill (part_at I (put (SetStay p None) P) (RoomShift r k)))
+room-gain I P r k p at a b plan patient ca cb =
+    let Q : Timetable = put (SetStay p (Some at)) P in
+    let O : Timetable = put (SetStay p None) P in
+    let sizes = plan.stays in
+    let now : stay_of Q p.0 ≡ Some at = stay_of-same P p (Some at) (omega arith) in
+    let out : stay_of O p.0 ≡ None = stay_of-same P p None (omega arith) in
+    let after = rw now at (occupied-own (else-put I P p (Some at) patient) r.0 k.0) in
+    let before = rw out at (occupied-own (else-put I P p None patient) r.0 k.0) in
+    let missing = rw now at (missing-own (else-put I P p (Some at) patient) (care_of P r.0 k.0) r.0 k.0) in
+    let lacking = rw out at (missing-own (else-put I P p None patient) (care_of P r.0 k.0) r.0 k.0) in
+    let covered_after : a.uncovered ≡ bit (is_none (care_of P r.0 k.0) && not (is_empty (present I Q r.0 (day_of k.0)))) = ca.uncovered ∙ rw after refl in
+    let covered_before : b.uncovered ≡ bit (is_none (care_of P r.0 k.0) && not (is_empty (present I O r.0 (day_of k.0)))) = cb.uncovered ∙ rw before refl in
+    less-same a b (whole I Q r.0 k.0) (whole I O r.0 k.0) (record {
+      off = omega (arith, ca.off, cb.off);
+      uncovered = omega (arith, covered_after, covered_before);
+      missing_skill = omega (arith, ca.missing_skill, cb.missing_skill, missing, lacking);
+      nurses_seen = omega (arith, ca.seen, cb.seen);
+      overload = omega (arith, ca.overload, cb.overload);
+    })
+    ∙ less-parts (whole I Q r.0 k.0) (whole I O r.0 k.0) (whole-part I Q r k) (whole-part I O r k)
+
 -- where the patient is at the same place before and after, the part stays
 missing-alike : (I : Draft) (p : ℕ) (s t : Option Placement) (r k : ℕ) (n : Option ℕ) → option_map placed_at s ≡ option_map placed_at t → own_missing I p s r k n ≡ own_missing I p t r k n
 missing-alike I p s t r k None e = refl

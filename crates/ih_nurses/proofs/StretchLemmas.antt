@@ -7,11 +7,12 @@ use Rattle.ih_tables.specs.declared.ids.PatientNo.{PatientNo}
 use Rattle.ih_tables.specs.declared.ids.RoomNo.{RoomNo}
 use Rattle.ih_tables.specs.declared.ids.Shift.{Shift}
 use Rattle.ih_tables.specs.declared.ids.NurseNo.{NurseNo}
-use Rattle.ih_tables.specs.Sizes.{patient_count}
+use Rattle.ih_tables.specs.Sizes.{patient_count, nurse_count}
 use Rattle.ih_plan.specs.declared.moves.Placement.{Placement}
 use Rattle.ih_plan.specs.declared.moves.Write.TheVariants.{SetStay, SetCare}
 use Rattle.ih_plan.specs.Writes.{put}
 use Rattle.ih_plan.proofs.Entries.{admission-patient, admission-set}
+use Rattle.ih_plan.proofs.SumBounds.{sum_below-none}
 use Rattle.ih_nurses.specs.declared.stretches.Stretch.{Stretch}
 use Rattle.ih_tables.specs.declared.cells.Cell.TheVariants.{Care}
 use Rattle.ih_plan.specs.Timetable.{Timetable, IsPlanOf, stay_of}
@@ -54,6 +55,22 @@ care-moves I P p new plan patient after before e f =
     let then : distinct_nurses I (nurses_over P (stretch_in I (admission_of I P p.0) n)) ≡ distinct_nurses I (nurses_over P (stretch_in I (option_map placed_at (stay_of P p.0)) n)) =
     ap (λ a. distinct_nurses I (nurses_over P (stretch_in I a n))) (admission-patient I P p.0 patient) in
     omega (arith, e, f, now, then)
+
+-- who isn't admitted sees no nurses, and with a placement the patient sees those of its stretch
+pub care-gain : (I : Draft) (P : Timetable) (p : PatientNo) (at : Placement) → IsPlanOf I P → p.0 < patient_count I → (seen : ℕ)
+    → seen ≡ distinct_nurses I (nurses_over P (stretch_in I (Some (placed_at at)) (person_of I p.0).length_of_stay))
+    → seen + distinct_nurses I (nurses_over (put (SetStay p None) P) (stretch_in I (admission_of I (put (SetStay p None) P) p.0) (person_of I p.0).length_of_stay))
+    ≡ distinct_nurses I (nurses_over (put (SetStay p (Some at)) P) (stretch_in I (admission_of I (put (SetStay p (Some at)) P) p.0) (person_of I p.0).length_of_stay)) + 0
+care-gain I P p at plan patient seen e =
+    let n = (person_of I p.0).length_of_stay in
+    let with : Timetable = put (SetStay p (Some at)) P in
+    let without : Timetable = put (SetStay p None) P in
+    let now : distinct_nurses I (nurses_over with (stretch_in I (admission_of I with p.0) n)) ≡ distinct_nurses I (nurses_over P (stretch_in I (Some (placed_at at)) n)) =
+    ap (λ a. distinct_nurses I (nurses_over with (stretch_in I a n))) (admission-set I P p (Some at) plan patient)
+    ∙ ap (distinct_nurses I) (nurses-kept P p (Some at) (stretch_in I (Some (placed_at at)) n)) in
+    let out : distinct_nurses I (nurses_over without (stretch_in I (admission_of I without p.0) n)) ≡ 0 =
+    ap (λ a. distinct_nurses I (nurses_over without (stretch_in I a n))) (admission-set I P p None plan patient) ∙ sum_below-none (nurse_count I) in
+    omega (arith, e, now, out)
 
 -- a choice leaves each person's stay
 pub stretch-kept : (I : Draft) (P : Timetable) (r : RoomNo) (k : Shift) (n : Option NurseNo) (x : ℕ) → admission_of I (put (SetCare r k n) P) x ≡ admission_of I P x

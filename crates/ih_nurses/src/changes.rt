@@ -1,6 +1,6 @@
 //! What a write would change in each cell's part of the bill of nursing, told without making it.
 
-ghost use Rattle.std.specs.Prelude.{◌≡◌, ◌<◌, ◌^◌, ◌&&◌, not, Some, is_none, option_map};
+ghost use Rattle.std.specs.Prelude.{◌≡◌, ◌<◌, ◌^◌, ◌&&◌, not, Some, None, is_none, option_map};
 ghost use Rattle.ih_tables.specs.declared.ids.NurseNo.{NurseNo};
 ghost use Rattle.ih_tables.specs.declared.ids.PersonNo.{PersonNo};
 ghost use Rattle.ih_tables.specs.declared.cells.Cell.TheVariants.{RoomShift, NurseShift, Care};
@@ -149,6 +149,71 @@ impl Nurses {
             nursed(nurses_over(inst, &self.plan, after)),
             nursed(nurses_over(inst, &self.plan, before)),
         )
+    }
+
+    /// How much more a placement's room breaks and costs in a shift with the patient there than without. Each number
+    /// is at most 10^11 in magnitude.
+    #[inline(always)]
+    pub fn room_shift_gain(&self, inst: &Instance, k: Shift, p: PatientNo, at: Placement) -> Bill
+        requires shift { k.0 < shift_count inst.now.draft }
+        requires patient { p.0 < patient_count inst.now.draft }
+        requires placement { IsPlacement inst.now.draft at }
+        requires stands { (P : Timetable) × IsLedgerOf inst.now.draft P self.now }
+        ensures gain { (P : Timetable) → IsLedgerOf inst.now.draft P self.now
+            → result ≡ sub_bills (as_bill (part_at inst.now.draft (put (SetStay p (Some at)) P) (RoomShift at.room k))) (as_bill (part_at inst.now.draft (put (SetStay p None) P) (RoomShift at.room k))) }
+        ensures within { IsWithin (10 ^ 11) result }
+    {
+        let nurse = nurse_at(inst, &self.plan, at.room, k);
+        let others = self.leaves_others(inst, at.room, k, p, nurse);
+        difference(
+            room_costs(inst, at.room, k, nurse, others, p, Some(at)),
+            room_costs(inst, at.room, k, nurse, others, p, None),
+        )
+    }
+
+    /// How much more a nurse's shift costs with a patient's placement than without. Each number is at most 10^11 in
+    /// magnitude.
+    #[inline(always)]
+    pub fn nurse_shift_gain(
+        &self,
+        inst: &Instance,
+        n: NurseNo,
+        k: Shift,
+        p: PatientNo,
+        at: Placement,
+    ) -> Bill
+        requires nurse { n.0 < nurse_count inst.now.draft }
+        requires shift { k.0 < shift_count inst.now.draft }
+        requires patient { p.0 < patient_count inst.now.draft }
+        requires placement { IsPlacement inst.now.draft at }
+        requires stands { (P : Timetable) × IsLedgerOf inst.now.draft P self.now }
+        ensures gain { (P : Timetable) → IsLedgerOf inst.now.draft P self.now
+            → result ≡ sub_bills (as_bill (part_at inst.now.draft (put (SetStay p (Some at)) P) (NurseShift n k))) (as_bill (part_at inst.now.draft (put (SetStay p None) P) (NurseShift n k))) }
+        ensures within { IsWithin (10 ^ 11) result }
+    {
+        let all = load(inst, self.loads.as_slice(), n, k);
+        let gone = given(inst, &self.plan, p, self.plan.stay(p), n, k);
+        let come = given(inst, &self.plan, p, Some(at), n, k);
+        let without = all - gone;
+        let with = without + come;
+        difference(
+            overloaded(overload(inst, n, k, with)),
+            overloaded(overload(inst, n, k, without)),
+        )
+    }
+
+    /// How many nurses more a patient sees with a placement than without one. Each number is at most 10^11 in
+    /// magnitude.
+    pub fn care_gain(&self, inst: &Instance, p: PatientNo, at: Placement) -> Bill
+        requires patient { p.0 < patient_count inst.now.draft }
+        requires placement { IsPlacement inst.now.draft at }
+        requires stands { (P : Timetable) × IsLedgerOf inst.now.draft P self.now }
+        ensures gain { (P : Timetable) → IsLedgerOf inst.now.draft P self.now
+            → result ≡ sub_bills (as_bill (part_at inst.now.draft (put (SetStay p (Some at)) P) (Care (record { 0 = p.0 })))) (as_bill (part_at inst.now.draft (put (SetStay p None) P) (Care (record { 0 = p.0 })))) }
+        ensures within { IsWithin (10 ^ 11) result }
+    {
+        let stretch = stay_stretch(inst, p, Some(at));
+        difference(nursed(nurses_over(inst, &self.plan, stretch)), nursed(0))
     }
 
     /// What another choice of nurse, or none, for a room's shift would change in that shift. It goes over the persons who are in the room on that day. Each number is at most 10^11 in magnitude.

@@ -11,3 +11,4 @@ pub mod StayLemmas
 pub mod Others
 pub mod Occupants
 pub mod Places
+pub mod GainLemmas

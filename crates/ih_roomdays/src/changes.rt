@@ -1,6 +1,6 @@
 //! What a patient's stay makes of the bill of a room on a day, without the change being made.
 
-ghost use Rattle.std.specs.Prelude.{◌≡◌, ◌<◌, ◌+◌, ◌^◌, ◌&&◌, ℕ, List, length, option_map, IfSome};
+ghost use Rattle.std.specs.Prelude.{◌≡◌, ◌<◌, ◌+◌, ◌^◌, ◌&&◌, true, ℕ, List, length, option_map, IfSome};
 ghost use Rattle.ih_tables.specs.Sizes.{patient_count, person_count, room_count};
 ghost use Rattle.ih_plan.specs.Presence.{is_in, placed_at, covers};
 ghost use Rattle.ih_plan.specs.Persons.{person_of};
@@ -119,4 +119,37 @@ pub fn before_and_after(
     let before = room_counts_with(inst, &rows.profiles, r, seen, count, p.0, was);
     let after = room_counts_with(inst, &rows.profiles, r, seen, count, p.0, will);
     (before, after)
+}
+
+/// What the room's day breaks and costs without the patient, and with the patient there, who `was` there or not.
+pub fn without_and_with(
+    inst: &Instance,
+    rows: &Rows,
+    r: RoomNo,
+    d: Day,
+    p: PatientNo,
+    was: bool,
+) -> (RoomDayCounts, RoomDayCounts)
+    requires rows { AreRows rows.now }
+    requires profiles { AreProfiles inst.now.draft rows.now.profiles }
+    requires rooms { rows.now.rooms ≡ room_count inst.now.draft }
+    requires persons { rows.now.persons ≡ person_count inst.now.draft }
+    requires room { r.0 < room_count inst.now.draft }
+    requires day { d.0 < rows.now.days }
+    requires patient { p.0 < patient_count inst.now.draft }
+    requires was { was ≡ is_at rows.now r.0 d.0 p.0 }
+    ensures without { result.0 ≡ room_counts inst.now.draft r.0 (without p.0 (persons_at rows.now r.0 d.0)) }
+    ensures with { result.1 ≡ room_counts inst.now.draft r.0 (with_if true p.0 (without p.0 (persons_at rows.now r.0 d.0))) }
+{
+    let seen = company_but(
+        inst,
+        &rows.profiles,
+        &rows.links,
+        r.0 * rows.days + d.0,
+        p.0,
+    );
+    let count = others(rows, r, d, p.0, was);
+    let without = room_counts_with(inst, &rows.profiles, r, seen, count, p.0, false);
+    let with = room_counts_with(inst, &rows.profiles, r, seen, count, p.0, true);
+    (without, with)
 }

@@ -1,18 +1,20 @@
 //! The ledger of room days.
 
-ghost use Rattle.std.specs.Prelude.{◌≡◌, ◌<◌, ◌^◌, ◌+◌, min, Some, None, IfOk};
+ghost use Rattle.std.specs.Prelude.{◌≡◌, ◌<◌, ◌^◌, ◌+◌, true, min, Some, None, IfOk};
 ghost use Rattle.ih_tables.specs.Bills.{IsWithin, sub_bills};
 ghost use Rattle.ih_tables.specs.Sizes.{patient_count, room_count};
 ghost use Rattle.ih_tables.specs.declared.cells.Cell.TheVariants.{RoomDay};
 ghost use Rattle.ih_plan.specs.declared.moves.Write.TheVariants.{SetStay};
 ghost use Rattle.ih_plan.specs.Timetable.{Timetable, IsPlacement, empty, stay_of};
 ghost use Rattle.ih_plan.specs.Writes.{put};
+ghost use Rattle.ih_plan.specs.Persons.{person_of};
+ghost use Rattle.ih_plan.specs.Presence.{covers};
 ghost use Rattle.ih_plan.specs.Cells.{part_at};
 ghost use Rattle.ih_plan.specs.BillOf.{as_bill};
 ghost use Rattle.ih_roomdays.specs.Ledger.{IsLedgerOf, LedgersTell};
 
 use crate::bills::{room_day_bill, room_day_change};
-use crate::changes::{before_and_after, is_there, room_counts};
+use crate::changes::{before_and_after, is_there, room_counts, without_and_with};
 use crate::companies::company_of;
 use crate::profiles::profiles_of;
 use crate::rows::{NODES_EACH, Rows};
@@ -122,6 +124,30 @@ impl RoomDays {
         }
         let (before, after) = before_and_after(inst, &self.rows, r, d, p, was, will);
         room_day_change(after, before)
+    }
+
+    /// How much more a placement's room breaks and costs on one of its days with the patient there than without, whose
+    /// stay is `old` so far.
+    pub fn day_gain(
+        &self,
+        inst: &Instance,
+        p: PatientNo,
+        old: Option<Placement>,
+        at: Placement,
+        d: Day,
+    ) -> Bill
+        requires patient { p.0 < patient_count inst.now.draft }
+        requires placement { IsPlacement inst.now.draft at }
+        requires day { d.0 < inst.now.draft.days }
+        requires counted { covers at.day.0 (person_of inst.now.draft p.0).length_of_stay d.0 ≡ true }
+        requires stands { (P : Timetable) × IsLedgerOf inst.now.draft P self.now × (stay_of P p.0 ≡ old) }
+        ensures gain { (P : Timetable) → IsLedgerOf inst.now.draft P self.now → stay_of P p.0 ≡ old
+            → result ≡ sub_bills (as_bill (part_at inst.now.draft (put (SetStay p (Some at)) P) (RoomDay at.room d))) (as_bill (part_at inst.now.draft (put (SetStay p None) P) (RoomDay at.room d))) }
+        ensures within { IsWithin (10 ^ 11) result }
+    {
+        let was = is_there(inst, p, old, at.room, d);
+        let (without, with) = without_and_with(inst, &self.rows, at.room, d, p, was);
+        room_day_change(with, without)
     }
 }
 

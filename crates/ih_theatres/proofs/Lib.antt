@@ -6,3 +6,4 @@ pub mod OtherLemmas
 pub mod MinuteLemmas
 pub mod LedgerLemmas
 pub mod ChangeLemmas
+pub mod GainLemmas

@@ -9,7 +9,7 @@ ghost use Rattle.ih_plan.specs.Timetable.{Timetable, empty, stay_of, IsPlanOf, I
 ghost use Rattle.ih_plan.specs.Writes.{put};
 ghost use Rattle.ih_plan.specs.BillOf.{as_bill};
 ghost use Rattle.ih_plan.specs.Sums.{bit};
-ghost use Rattle.ih_plan.specs.Costs.{theatre_minutes, surgeon_minutes};
+ghost use Rattle.ih_plan.specs.Costs.{surgeon_of, theatre_minutes, surgeon_minutes};
 ghost use Rattle.ih_plan.specs.Cells.{part_at};
 ghost use Rattle.ih_theatres.specs.Ledger.{IsLedgerOf};
 
@@ -222,5 +222,62 @@ impl Theatres {
         let before = surgeon_counts(inst, others, used, p, was, old, most);
         let after = surgeon_counts(inst, others, used, p, will, new, most);
         surgeon_change(after, before)
+    }
+
+    /// How much more a placement's theatre breaks and costs on the day of admission with the patient there than
+    /// without, whose stay is `old` so far.
+    pub fn theatre_gain(
+        &self,
+        inst: &Instance,
+        p: PatientNo,
+        old: Option<Placement>,
+        at: Placement,
+    ) -> Bill
+        requires patient { p.0 < patient_count inst.now.draft }
+        requires placement { IsPlacement inst.now.draft at }
+        requires stands { (P : Timetable) × IsPlanOf inst.now.draft P × IsLedgerOf inst.now.draft P self.now × (stay_of P p.0 ≡ old) }
+        ensures gain { (P : Timetable) → IsPlanOf inst.now.draft P → IsLedgerOf inst.now.draft P self.now → stay_of P p.0 ≡ old
+            → result ≡ sub_bills (as_bill (part_at inst.now.draft (put (SetStay p (Some at)) P) (TheatreDay at.theatre at.day))) (as_bill (part_at inst.now.draft (put (SetStay p None) P) (TheatreDay at.theatre at.day))) }
+        ensures within { IsWithin (10 ^ 11) result }
+    {
+        let was = is_operated_in(old, at.theatre, at.day);
+        let today = day_number(inst, at.theatre.0, at.day);
+        let most = theatre_minutes(inst, at.theatre, at.day);
+        let planned = self.theatre_minutes[today as usize];
+        let others = minutes_but(inst, planned, p, was);
+        let used = is_used_by_others(&self.theatre_days, today, p, was);
+        let without = theatre_counts(inst, others, used, p, false, most);
+        let with = theatre_counts(inst, others, used, p, true, most);
+        theatre_change(with, without)
+    }
+
+    /// How much more the patient's surgeon breaks and costs on a placement's day of admission with the patient there
+    /// than without, whose stay is `old` so far.
+    pub fn surgeon_gain(
+        &self,
+        inst: &Instance,
+        s: SurgeonNo,
+        p: PatientNo,
+        old: Option<Placement>,
+        at: Placement,
+    ) -> Bill
+        requires surgeon { s.0 < surgeon_count inst.now.draft }
+        requires patient { p.0 < patient_count inst.now.draft }
+        requires own { surgeon_of inst.now.draft p.0 ≡ Some s.0 }
+        requires placement { IsPlacement inst.now.draft at }
+        requires stands { (P : Timetable) × IsPlanOf inst.now.draft P × IsLedgerOf inst.now.draft P self.now × (stay_of P p.0 ≡ old) }
+        ensures gain { (P : Timetable) → IsPlanOf inst.now.draft P → IsLedgerOf inst.now.draft P self.now → stay_of P p.0 ≡ old
+            → result ≡ sub_bills (as_bill (part_at inst.now.draft (put (SetStay p (Some at)) P) (SurgeonDay s at.day))) (as_bill (part_at inst.now.draft (put (SetStay p None) P) (SurgeonDay s at.day))) }
+        ensures within { IsWithin (10 ^ 11) result }
+    {
+        let was = is_operated_by(inst, p, old, s, at.day);
+        let today = day_number(inst, s.0, at.day);
+        let most = surgeon_minutes(inst, s, at.day);
+        let planned = self.surgeon_minutes[today as usize];
+        let others = minutes_but(inst, planned, p, was);
+        let used = theatres_but(&self.surgeon_days, today, self.theatres.as_slice(), p);
+        let without = surgeon_counts(inst, others, used, p, false, None, most);
+        let with = surgeon_counts(inst, others, used, p, true, Some(at), most);
+        surgeon_change(with, without)
     }
 }

@@ -1,4 +1,4 @@
-use Rattle.std.proofs.Common.{◌∷◌, [], ◌∙◌, ap, subst}
+use Rattle.std.proofs.Common.{◌∷◌, [], ◌∙◌, ap, sym, subst}
 use Rattle.std.specs.Prelude.{◌||◌}
 use Rattle.ih_plan.specs.Cells.{cell_at}
 use Rattle.ih_plan.specs.Sums.{is_listed}
@@ -27,8 +27,8 @@ sum_changes-requires-clause-cells c =
       c.cells.ensures.cells ∙ (c.foot.ensures.rising ∙ (touched-one I P u c.foot.new.out w c.requires.sizes gathers ∙ listed-passing I P u.cells (w ∷ []))),
     )
 
-pub returns-clause-cells : goal.returns-clause-cells
-returns-clause-cells c =
+pub returns-in-SetStay-clause-cells : goal.returns-in-SetStay-clause-cells
+returns-in-SetStay-clause-cells c =
     let I = c.args.inst.now.draft in
     let P = timetable_of c.args.ledgers.now in
     let u = c.args.cells.now in
@@ -36,12 +36,22 @@ returns-clause-cells c =
     let gathers : Gathers u c.foot.new.out (write_touches I P w) = subst (λ Q. Gathers u c.foot.new.out (write_touches I Q w)) c.plan.ensures c.foot.ensures.gathers in
     c.foot.ensures.rising ∙ touched-one I P u c.foot.new.out w c.requires.sizes gathers
 
-pub returns-clause-change : goal.returns-clause-change
-returns-clause-change c =
+pub returns-in-SetCare-clause-cells : goal.returns-in-SetCare-clause-cells
+returns-in-SetCare-clause-cells c =
+    let I = c.args.inst.now.draft in
+    let P = timetable_of c.args.ledgers.now in
+    let u = c.args.cells.now in
+    let w = c.args.w.now in
+    let gathers : Gathers u c.foot.new.out (write_touches I P w) = subst (λ Q. Gathers u c.foot.new.out (write_touches I Q w)) c.plan.ensures c.foot.ensures.gathers in
+    c.foot.ensures.rising ∙ touched-one I P u c.foot.new.out w c.requires.sizes gathers
+
+pub returns-in-SetCare-clause-change : goal.returns-in-SetCare-clause-change
+returns-in-SetCare-clause-change c =
     let I = c.args.inst.now.draft in
     let P = timetable_of c.args.ledgers.now in
     let u = c.args.cells.now in
     let w = c.args.w.now in
     let gathers : Gathers u c.foot.new.out (write_touches I P w) = subst (λ Q. Gathers u c.foot.new.out (write_touches I Q w)) c.plan.ensures c.foot.ensures.gathers in
     let listed = c.cells.ensures.cells ∙ (c.foot.ensures.rising ∙ touched-one I P u c.foot.new.out w c.requires.sizes gathers) in
-    c.sum_changes.ensures ∙ (ap (λ ns. sum_change I P w ns) listed ∙ write-change I P w u.cells (plan-fits I P c.args.ledgers.now c.requires.stands) c.requires.write)
+    let was = ap (λ v. sum_change I P v c.cells.result.now) (sym c.in-SetCare.is) in
+    c.sum_changes.ensures ∙ was ∙ (ap (λ ns. sum_change I P w ns) listed ∙ write-change I P w u.cells (plan-fits I P c.args.ledgers.now c.requires.stands) c.requires.write)

@@ -1,0 +1,44 @@
+-- What a loop over the days or shifts of a placement has added up.
+use Rattle.std.proofs.Common.{ℕ, ◌*◌, Some, None}
+use Rattle.std.specs.Prelude.{ℤ}
+use Rattle.ih_tables.specs.declared.drafts.Draft.{Draft}
+use Rattle.ih_tables.specs.declared.ids.PatientNo.{PatientNo}
+use Rattle.ih_plan.specs.declared.moves.Placement.{Placement}
+use Rattle.ih_plan.specs.declared.moves.Write.TheVariants.{SetStay}
+use Rattle.ih_plan.specs.Timetable.{Timetable, care_of}
+use Rattle.ih_plan.specs.Writes.{put}
+use Rattle.ih_plan.specs.BillOf.{Counts}
+use Rattle.ih_plan.specs.Cells.{part_at}
+use Rattle.ih_plan.proofs.Numbers.{room_day_cell, room_shift_cell}
+use Rattle.ih_costs.specs.StayGain.{rule_at, cost_at, of_nurse}
+use Rattle.ih_costs.proofs.GainSteps.{IsRisen}
+
+module _ (I : Draft) (P : Timetable) (p : PatientNo) (at : Placement) where
+  abbrev pub placed : Timetable
+  placed = put (SetStay p (Some at)) P
+
+  abbrev pub without : Timetable
+  without = put (SetStay p None) P
+
+  -- a room's day, or its shift, at a timetable
+  abbrev pub on_day : Timetable → ℕ → Counts
+  on_day Q d = part_at I Q (room_day_cell at.room.0 d)
+
+  abbrev pub in_shift : Timetable → ℕ → Counts
+  in_shift Q k = part_at I Q (room_shift_cell at.room.0 k)
+
+  -- the excess workload of the room's nurse in a shift
+  abbrev pub excess : Timetable → ℕ → ℕ
+  excess Q k = of_nurse I Q p.0 at (cost_at 3) k (care_of Q at.room.0 k)
+
+  -- the days before d, with the placement less without
+  pub record AreDaysTold (d : ℕ) (m c a : ℤ) : Type 0 where
+    pub mixed : IsRisen at.day.0 d (λ i. rule_at 0 (on_day placed i)) (λ i. rule_at 0 (on_day without i)) m
+    pub crowded : IsRisen at.day.0 d (λ i. rule_at 6 (on_day placed i)) (λ i. rule_at 6 (on_day without i)) c
+    pub ages : IsRisen at.day.0 d (λ i. cost_at 0 (on_day placed i)) (λ i. cost_at 0 (on_day without i)) a
+
+  -- the shifts before k, with the placement less without
+  pub record AreShiftsTold (k : ℕ) (a s l : ℤ) : Type 0 where
+    pub alone : IsRisen (3 * at.day.0) k (λ i. rule_at 8 (in_shift placed i)) (λ i. rule_at 8 (in_shift without i)) a
+    pub skill : IsRisen (3 * at.day.0) k (λ i. cost_at 1 (in_shift placed i)) (λ i. cost_at 1 (in_shift without i)) s
+    pub load : IsRisen (3 * at.day.0) k (λ i. excess placed i) (λ i. excess without i) l

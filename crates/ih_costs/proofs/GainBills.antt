@@ -1,0 +1,302 @@
+-- The law of gains: what another stay changes in the bill.
+use Rattle.std.proofs.Common.{◌≡◌, ℕ, ◌*◌, ◌<◌, refl, arith, ap, sym, subst, ◌∙◌, List, [], ◌∷◌, Option, Some, None, length}
+use Rattle.std.specs.Prelude.{ℤ, ◌-ℤ◌, slice_index}
+use Rattle.std.specs.List.{range_with_len}
+use Rattle.std.proofs.lemmas.Int.{ints}
+use Rattle.ih_tables.specs.declared.drafts.Draft.{Draft}
+use Rattle.ih_tables.specs.declared.ids.PatientNo.{PatientNo}
+use Rattle.ih_tables.specs.Sizes.{patient_count}
+use Rattle.ih_tables.specs.Bills.{at as place, by_place, sub_bills}
+use Rattle.ih_tables.specs.Valid.{IsValid}
+use Rattle.ih_plan.specs.declared.moves.Placement.{Placement}
+use Rattle.ih_plan.specs.declared.moves.Write.TheVariants.{SetStay}
+use Rattle.ih_plan.specs.Timetable.{Timetable, IsPlanOf, IsPlacement, stay_of, care_of}
+use Rattle.ih_plan.specs.Writes.{put, IsWriteOf}
+use Rattle.ih_plan.specs.Costs.{surgeon_of}
+use Rattle.ih_plan.specs.Sums.{listed}
+use Rattle.ih_plan.specs.BillOf.{Counts, as_bill, bill_of, change_of_bill}
+use Rattle.ih_plan.specs.Cells.{part_at, part_of, content_of}
+use Rattle.ih_plan.proofs.Entries.{stay_of-same}
+use Rattle.ih_plan.proofs.Numbers.{stay_cell, room_day_cell, theatre_day_cell, surgeon_day_cell, room_shift_cell, nurse_shift_cell, care_cell}
+use Rattle.ih_plan.proofs.Parts.{total, has_parts}
+use Rattle.ih_plan.proofs.PlanRanges.{has-range, put-plan}
+use Rattle.ih_footprint.proofs.Prices.{map-same, differences-same}
+use Rattle.ih_costs.specs.StayGain.{rule_at, cost_at, end_of, of_stay, of_care, over_days, of_theatre, of_surgeon, over_shifts, of_nurse, over_loads, gain_of, stay_gain, placement_gain}
+use Rattle.ih_costs.proofs.ChangeSums.{at-by_place, change-same}
+use Rattle.ih_costs.proofs.GainLemmas.{gain_by, number-gain}
+use Rattle.ih_costs.proofs.SpanSums.{span-zero}
+use Rattle.ih_costs.proofs.UndoLemmas.{stay-twice, undone}
+
+-- ---- lists of numbers
+
+counts-same : (a b c d : List ℕ) → a ≡ c → b ≡ d → (let x : Counts = record { v = a; s = b } in let y : Counts = record { v = c; s = d } in x ≡ y)
+counts-same a b c d e f = rw (e, f) refl
+
+nine : (f : ℕ → ℕ) (a b c d e h i j k : ℕ) → f 0 ≡ a → f 1 ≡ b → f 2 ≡ c → f 3 ≡ d → f 4 ≡ e → f 5 ≡ h → f 6 ≡ i → f 7 ≡ j → f 8 ≡ k
+    → (a ∷ b ∷ c ∷ d ∷ e ∷ h ∷ i ∷ j ∷ k ∷ []) ≡ listed 9 f
+nine f a b c d e h i j k e0 e1 e2 e3 e4 e5 e6 e7 e8 = rw (e0, e1, e2, e3, e4, e5, e6, e7, e8) refl
+
+eight : (f : ℕ → ℕ) (a b c d e h i j : ℕ) → f 0 ≡ a → f 1 ≡ b → f 2 ≡ c → f 3 ≡ d → f 4 ≡ e → f 5 ≡ h → f 6 ≡ i → f 7 ≡ j
+    → (a ∷ b ∷ c ∷ d ∷ e ∷ h ∷ i ∷ j ∷ []) ≡ listed 8 f
+eight f a b c d e h i j e0 e1 e2 e3 e4 e5 e6 e7 = rw (e0, e1, e2, e3, e4, e5, e6, e7) refl
+
+-- ---- a number that one kind of cell alone has
+
+module _ (I : Draft) (Q : Timetable) (p : ℕ) (at : Placement) where
+  abbrev no_stays : (Counts → ℕ) → Type 0
+  no_stays g = (i : ℕ) → g (part_at I Q (stay_cell i)) ≡ 0
+
+  abbrev no_days : (Counts → ℕ) → Type 0
+  no_days g = (i j : ℕ) → g (part_at I Q (room_day_cell i j)) ≡ 0
+
+  abbrev no_theatres : (Counts → ℕ) → Type 0
+  no_theatres g = (i j : ℕ) → g (part_at I Q (theatre_day_cell i j)) ≡ 0
+
+  abbrev no_surgeons : (Counts → ℕ) → Type 0
+  no_surgeons g = (i j : ℕ) → g (part_at I Q (surgeon_day_cell i j)) ≡ 0
+
+  abbrev no_shifts : (Counts → ℕ) → Type 0
+  no_shifts g = (i j : ℕ) → g (part_at I Q (room_shift_cell i j)) ≡ 0
+
+  abbrev no_loads : (Counts → ℕ) → Type 0
+  no_loads g = (i j : ℕ) → g (part_at I Q (nurse_shift_cell i j)) ≡ 0
+
+  abbrev no_cares : (Counts → ℕ) → Type 0
+  no_cares g = (i : ℕ) → g (part_at I Q (care_cell i)) ≡ 0
+
+  days-none : (g : Counts → ℕ) → no_days g → over_days I Q p at g ≡ 0
+  days-none g e = span-zero at.day.0 (end_of I p at) (λ d. g (part_at I Q (room_day_cell at.room.0 d))) (e at.room.0)
+
+  shifts-none : (g : Counts → ℕ) → no_shifts g → over_shifts I Q p at g ≡ 0
+  shifts-none g e = span-zero (3 * at.day.0) (3 * end_of I p at) (λ k. g (part_at I Q (room_shift_cell at.room.0 k))) (e at.room.0)
+
+  surgeon-none : (g : Counts → ℕ) → no_surgeons g → (o : Option ℕ) → of_surgeon I Q p at g o ≡ 0
+  surgeon-none g e None = refl
+  surgeon-none g e (Some s) = e s at.day.0
+
+  nurse-none : (g : Counts → ℕ) → no_loads g → (k : ℕ) (o : Option ℕ) → of_nurse I Q p at g k o ≡ 0
+  nurse-none g e k None = refl
+  nurse-none g e k (Some n) = e n k
+
+  loads-none : (g : Counts → ℕ) → no_loads g → over_loads I Q p at g ≡ 0
+  loads-none g e = span-zero (3 * at.day.0) (3 * end_of I p at) (λ k. of_nurse I Q p at g k (care_of Q at.room.0 k)) (λ k. nurse-none g e k (care_of Q at.room.0 k))
+
+  by_stays : (g : Counts → ℕ) → no_days g → no_theatres g → no_surgeons g → no_shifts g → no_loads g → no_cares g
+      → gain_by I Q p at g ≡ of_stay I Q p at g
+  by_stays g days theatres surgeons shifts loads cares =
+      let z_days : over_days I Q p at g ≡ 0 = days-none g days in
+      let z_theatres : of_theatre I Q p at g ≡ 0 = theatres at.theatre.0 at.day.0 in
+      let z_surgeons : of_surgeon I Q p at g (surgeon_of I p) ≡ 0 = surgeon-none g surgeons (surgeon_of I p) in
+      let z_shifts : over_shifts I Q p at g ≡ 0 = shifts-none g shifts in
+      let z_loads : over_loads I Q p at g ≡ 0 = loads-none g loads in
+      let z_cares : of_care I Q p at g ≡ 0 = cares p in
+      omega (arith, z_days, z_theatres, z_surgeons, z_shifts, z_loads, z_cares)
+
+  by_days : (g : Counts → ℕ) → no_stays g → no_theatres g → no_surgeons g → no_shifts g → no_loads g → no_cares g
+      → gain_by I Q p at g ≡ over_days I Q p at g
+  by_days g stays theatres surgeons shifts loads cares =
+      let z_stays : of_stay I Q p at g ≡ 0 = stays p in
+      let z_theatres : of_theatre I Q p at g ≡ 0 = theatres at.theatre.0 at.day.0 in
+      let z_surgeons : of_surgeon I Q p at g (surgeon_of I p) ≡ 0 = surgeon-none g surgeons (surgeon_of I p) in
+      let z_shifts : over_shifts I Q p at g ≡ 0 = shifts-none g shifts in
+      let z_loads : over_loads I Q p at g ≡ 0 = loads-none g loads in
+      let z_cares : of_care I Q p at g ≡ 0 = cares p in
+      omega (arith, z_stays, z_theatres, z_surgeons, z_shifts, z_loads, z_cares)
+
+  by_theatres : (g : Counts → ℕ) → no_stays g → no_days g → no_surgeons g → no_shifts g → no_loads g → no_cares g
+      → gain_by I Q p at g ≡ of_theatre I Q p at g
+  by_theatres g stays days surgeons shifts loads cares =
+      let z_stays : of_stay I Q p at g ≡ 0 = stays p in
+      let z_days : over_days I Q p at g ≡ 0 = days-none g days in
+      let z_surgeons : of_surgeon I Q p at g (surgeon_of I p) ≡ 0 = surgeon-none g surgeons (surgeon_of I p) in
+      let z_shifts : over_shifts I Q p at g ≡ 0 = shifts-none g shifts in
+      let z_loads : over_loads I Q p at g ≡ 0 = loads-none g loads in
+      let z_cares : of_care I Q p at g ≡ 0 = cares p in
+      omega (arith, z_stays, z_days, z_surgeons, z_shifts, z_loads, z_cares)
+
+  by_surgeons : (g : Counts → ℕ) → no_stays g → no_days g → no_theatres g → no_shifts g → no_loads g → no_cares g
+      → gain_by I Q p at g ≡ of_surgeon I Q p at g (surgeon_of I p)
+  by_surgeons g stays days theatres shifts loads cares =
+      let z_stays : of_stay I Q p at g ≡ 0 = stays p in
+      let z_days : over_days I Q p at g ≡ 0 = days-none g days in
+      let z_theatres : of_theatre I Q p at g ≡ 0 = theatres at.theatre.0 at.day.0 in
+      let z_shifts : over_shifts I Q p at g ≡ 0 = shifts-none g shifts in
+      let z_loads : over_loads I Q p at g ≡ 0 = loads-none g loads in
+      let z_cares : of_care I Q p at g ≡ 0 = cares p in
+      omega (arith, z_stays, z_days, z_theatres, z_shifts, z_loads, z_cares)
+
+  by_shifts : (g : Counts → ℕ) → no_stays g → no_days g → no_theatres g → no_surgeons g → no_loads g → no_cares g
+      → gain_by I Q p at g ≡ over_shifts I Q p at g
+  by_shifts g stays days theatres surgeons loads cares =
+      let z_stays : of_stay I Q p at g ≡ 0 = stays p in
+      let z_days : over_days I Q p at g ≡ 0 = days-none g days in
+      let z_theatres : of_theatre I Q p at g ≡ 0 = theatres at.theatre.0 at.day.0 in
+      let z_surgeons : of_surgeon I Q p at g (surgeon_of I p) ≡ 0 = surgeon-none g surgeons (surgeon_of I p) in
+      let z_loads : over_loads I Q p at g ≡ 0 = loads-none g loads in
+      let z_cares : of_care I Q p at g ≡ 0 = cares p in
+      omega (arith, z_stays, z_days, z_theatres, z_surgeons, z_loads, z_cares)
+
+  by_loads : (g : Counts → ℕ) → no_stays g → no_days g → no_theatres g → no_surgeons g → no_shifts g → no_cares g
+      → gain_by I Q p at g ≡ over_loads I Q p at g
+  by_loads g stays days theatres surgeons shifts cares =
+      let z_stays : of_stay I Q p at g ≡ 0 = stays p in
+      let z_days : over_days I Q p at g ≡ 0 = days-none g days in
+      let z_theatres : of_theatre I Q p at g ≡ 0 = theatres at.theatre.0 at.day.0 in
+      let z_surgeons : of_surgeon I Q p at g (surgeon_of I p) ≡ 0 = surgeon-none g surgeons (surgeon_of I p) in
+      let z_shifts : over_shifts I Q p at g ≡ 0 = shifts-none g shifts in
+      let z_cares : of_care I Q p at g ≡ 0 = cares p in
+      omega (arith, z_stays, z_days, z_theatres, z_surgeons, z_shifts, z_cares)
+
+  by_cares : (g : Counts → ℕ) → no_stays g → no_days g → no_theatres g → no_surgeons g → no_shifts g → no_loads g
+      → gain_by I Q p at g ≡ of_care I Q p at g
+  by_cares g stays days theatres surgeons shifts loads =
+      let z_stays : of_stay I Q p at g ≡ 0 = stays p in
+      let z_days : over_days I Q p at g ≡ 0 = days-none g days in
+      let z_theatres : of_theatre I Q p at g ≡ 0 = theatres at.theatre.0 at.day.0 in
+      let z_surgeons : of_surgeon I Q p at g (surgeon_of I p) ≡ 0 = surgeon-none g surgeons (surgeon_of I p) in
+      let z_shifts : over_shifts I Q p at g ≡ 0 = shifts-none g shifts in
+      let z_loads : over_loads I Q p at g ≡ 0 = loads-none g loads in
+      omega (arith, z_stays, z_days, z_theatres, z_surgeons, z_shifts, z_loads)
+
+  rule-0 : gain_by I Q p at (rule_at 0) ≡ over_days I Q p at (rule_at 0)
+  unfolding part_of content_of
+  rule-0 = by_days (rule_at 0) (λ i. refl) (λ i j. refl) (λ i j. refl) (λ i j. refl) (λ i j. refl) (λ i. refl)
+
+  rule-1 : gain_by I Q p at (rule_at 1) ≡ of_stay I Q p at (rule_at 1)
+  unfolding part_of content_of
+  rule-1 = by_stays (rule_at 1) (λ i j. refl) (λ i j. refl) (λ i j. refl) (λ i j. refl) (λ i j. refl) (λ i. refl)
+
+  rule-2 : gain_by I Q p at (rule_at 2) ≡ of_surgeon I Q p at (rule_at 2) (surgeon_of I p)
+  unfolding part_of content_of
+  rule-2 = by_surgeons (rule_at 2) (λ i. refl) (λ i j. refl) (λ i j. refl) (λ i j. refl) (λ i j. refl) (λ i. refl)
+
+  rule-3 : gain_by I Q p at (rule_at 3) ≡ of_theatre I Q p at (rule_at 3)
+  unfolding part_of content_of
+  rule-3 = by_theatres (rule_at 3) (λ i. refl) (λ i j. refl) (λ i j. refl) (λ i j. refl) (λ i j. refl) (λ i. refl)
+
+  rule-4 : gain_by I Q p at (rule_at 4) ≡ of_stay I Q p at (rule_at 4)
+  unfolding part_of content_of
+  rule-4 = by_stays (rule_at 4) (λ i j. refl) (λ i j. refl) (λ i j. refl) (λ i j. refl) (λ i j. refl) (λ i. refl)
+
+  rule-5 : gain_by I Q p at (rule_at 5) ≡ of_stay I Q p at (rule_at 5)
+  unfolding part_of content_of
+  rule-5 = by_stays (rule_at 5) (λ i j. refl) (λ i j. refl) (λ i j. refl) (λ i j. refl) (λ i j. refl) (λ i. refl)
+
+  rule-6 : gain_by I Q p at (rule_at 6) ≡ over_days I Q p at (rule_at 6)
+  unfolding part_of content_of
+  rule-6 = by_days (rule_at 6) (λ i. refl) (λ i j. refl) (λ i j. refl) (λ i j. refl) (λ i j. refl) (λ i. refl)
+
+  rule-7 : gain_by I Q p at (rule_at 7) ≡ over_shifts I Q p at (rule_at 7)
+  unfolding part_of content_of
+  rule-7 = by_shifts (rule_at 7) (λ i. refl) (λ i j. refl) (λ i j. refl) (λ i j. refl) (λ i j. refl) (λ i. refl)
+
+  rule-8 : gain_by I Q p at (rule_at 8) ≡ over_shifts I Q p at (rule_at 8)
+  unfolding part_of content_of
+  rule-8 = by_shifts (rule_at 8) (λ i. refl) (λ i j. refl) (λ i j. refl) (λ i j. refl) (λ i j. refl) (λ i. refl)
+
+  cost-0 : gain_by I Q p at (cost_at 0) ≡ over_days I Q p at (cost_at 0)
+  unfolding part_of content_of
+  cost-0 = by_days (cost_at 0) (λ i. refl) (λ i j. refl) (λ i j. refl) (λ i j. refl) (λ i j. refl) (λ i. refl)
+
+  cost-1 : gain_by I Q p at (cost_at 1) ≡ over_shifts I Q p at (cost_at 1)
+  unfolding part_of content_of
+  cost-1 = by_shifts (cost_at 1) (λ i. refl) (λ i j. refl) (λ i j. refl) (λ i j. refl) (λ i j. refl) (λ i. refl)
+
+  cost-2 : gain_by I Q p at (cost_at 2) ≡ of_care I Q p at (cost_at 2)
+  unfolding part_of content_of
+  cost-2 = by_cares (cost_at 2) (λ i. refl) (λ i j. refl) (λ i j. refl) (λ i j. refl) (λ i j. refl) (λ i j. refl)
+
+  cost-3 : gain_by I Q p at (cost_at 3) ≡ over_loads I Q p at (cost_at 3)
+  unfolding part_of content_of
+  cost-3 = by_loads (cost_at 3) (λ i. refl) (λ i j. refl) (λ i j. refl) (λ i j. refl) (λ i j. refl) (λ i. refl)
+
+  cost-4 : gain_by I Q p at (cost_at 4) ≡ of_theatre I Q p at (cost_at 4)
+  unfolding part_of content_of
+  cost-4 = by_theatres (cost_at 4) (λ i. refl) (λ i j. refl) (λ i j. refl) (λ i j. refl) (λ i j. refl) (λ i. refl)
+
+  cost-5 : gain_by I Q p at (cost_at 5) ≡ of_surgeon I Q p at (cost_at 5) (surgeon_of I p)
+  unfolding part_of content_of
+  cost-5 = by_surgeons (cost_at 5) (λ i. refl) (λ i j. refl) (λ i j. refl) (λ i j. refl) (λ i j. refl) (λ i. refl)
+
+  cost-6 : gain_by I Q p at (cost_at 6) ≡ of_stay I Q p at (cost_at 6)
+  unfolding part_of content_of
+  cost-6 = by_stays (cost_at 6) (λ i j. refl) (λ i j. refl) (λ i j. refl) (λ i j. refl) (λ i j. refl) (λ i. refl)
+
+  cost-7 : gain_by I Q p at (cost_at 7) ≡ of_stay I Q p at (cost_at 7)
+  unfolding part_of content_of
+  cost-7 = by_stays (cost_at 7) (λ i j. refl) (λ i j. refl) (λ i j. refl) (λ i j. refl) (λ i j. refl) (λ i. refl)
+
+  -- each number of the gain is that number of all cells of the placement
+  pub gain-listed : gain_of I Q p at ≡ record { v = listed 9 (λ j. gain_by I Q p at (rule_at j)); s = listed 8 (λ j. gain_by I Q p at (cost_at j)) }
+  unfolding gain_of
+  gain-listed = counts-same _ _ _ _
+      (nine (λ j. gain_by I Q p at (rule_at j)) _ _ _ _ _ _ _ _ _ rule-0 rule-1 rule-2 rule-3 rule-4 rule-5 rule-6 rule-7 rule-8)
+      (eight (λ j. gain_by I Q p at (cost_at j)) _ _ _ _ _ _ _ _ cost-0 cost-1 cost-2 cost-3 cost-4 cost-5 cost-6 cost-7)
+
+-- ---- the law of a placement
+
+placement-change : (I : Draft) (P : Timetable) (p : PatientNo) (at : Placement) → IsValid I → IsPlanOf I P → p.0 < patient_count I → IsPlacement I at → stay_of P p.0 ≡ None
+    → sub_bills (as_bill (gain_of I (put (SetStay p (Some at)) P) p.0 at)) (as_bill (gain_of I P p.0 at)) ≡ change_of_bill I P (put (SetStay p (Some at)) P)
+placement-change I P p at valid plan known fits out =
+    let Q = put (SetStay p (Some at)) P in
+    let v = differences-same 9 (λ j. gain_by I Q p.0 at (rule_at j)) (λ j. gain_by I P p.0 at (rule_at j))
+    (λ j. total I (λ c. slice_index (part_at I Q c).v j)) (λ j. total I (λ c. slice_index (part_at I P c).v j))
+    (λ j. let whole = number-gain I P p at valid plan known fits out (rule_at j) in omega (arith, whole)) in
+    let s = differences-same 8 (λ j. gain_by I Q p.0 at (cost_at j)) (λ j. gain_by I P p.0 at (cost_at j))
+    (λ j. total I (λ c. slice_index (part_at I Q c).s j)) (λ j. total I (λ c. slice_index (part_at I P c).s j))
+    (λ j. let whole = number-gain I P p at valid plan known fits out (cost_at j) in omega (arith, whole)) in
+    rw (gain-listed I Q p.0 at, gain-listed I P p.0 at, has_parts I P, has_parts I Q) (rw (v, s) refl)
+
+-- A placement changes the bill by its gain, where the patient wasn't admitted before.
+pub placement-law : (I : Draft) (P : Timetable) (p : PatientNo) (at : Placement) → IsValid I → IsPlanOf I P → p.0 < patient_count I → IsPlacement I at
+    → change_of_bill I (put (SetStay p None) P) (put (SetStay p (Some at)) P) ≡ placement_gain I P p at
+placement-law I P p at valid plan known fits =
+    let sizes : length P.stays ≡ patient_count I = plan.stays in
+    let inside : p.0 < length P.stays = omega arith in
+    let without : Timetable = put (SetStay p None) P in
+    let fits_without : IsPlanOf I without = put-plan I P (SetStay p None) plan (known, λ at e. absurd (let no : None ≡ Some at = e in cc)) in
+    subst (λ (R : Timetable). change_of_bill I without R ≡ sub_bills (as_bill (gain_of I R p.0 at)) (as_bill (gain_of I without p.0 at))) (stay-twice P p None (Some at))
+    (sym (placement-change I without p at valid fits_without known fits (stay_of-same P p None inside)))
+
+pub stay-law : (I : Draft) (P : Timetable) (p : PatientNo) (s : Option Placement) → IsValid I → IsPlanOf I P → p.0 < patient_count I
+    → ((at : Placement) → s ≡ Some at → IsPlacement I at) → change_of_bill I (put (SetStay p None) P) (put (SetStay p s) P) ≡ stay_gain I P p s
+stay-law I P p None valid plan known fits = sym (change-same I (put (SetStay p None) P))
+stay-law I P p (Some at) valid plan known fits = placement-law I P p at valid plan known (fits at refl)
+
+-- ---- any two stays
+
+less-less : (a b c : ℤ) → (c -ℤ a) -ℤ (b -ℤ a) ≡ c -ℤ b
+less-less a b c = omega (arith, ints)
+
+places-less-less : (m : ℕ) (a b c : ℕ → ℤ) → by_place m (λ k. place (by_place m (λ k. c k -ℤ a k)) k -ℤ place (by_place m (λ k. b k -ℤ a k)) k) ≡ by_place m (λ k. c k -ℤ b k)
+places-less-less m a b c =
+    map-same (λ k. place (by_place m (λ k. c k -ℤ a k)) k -ℤ place (by_place m (λ k. b k -ℤ a k)) k) (λ k. c k -ℤ b k) (range_with_len 0 m)
+    (λ k h. let range = has-range 0 m k h in
+    let inside : k < m = omega arith in
+    rw (at-by_place m (λ k. c k -ℤ a k) k inside, at-by_place m (λ k. b k -ℤ a k) k inside) (less-less (a k) (b k) (c k)))
+
+-- two changes from one timetable
+change-between : (I : Draft) (P Q R : Timetable) → sub_bills (change_of_bill I P R) (change_of_bill I P Q) ≡ change_of_bill I Q R
+change-between I P Q R =
+    let a = bill_of I P in
+    let b = bill_of I Q in
+    let c = bill_of I R in
+    let v = places-less-less 9 (λ k. place a.v k) (λ k. place b.v k) (λ k. place c.v k) in
+    let s = places-less-less 8 (λ k. place a.s k) (λ k. place b.s k) (λ k. place c.s k) in
+    cc
+
+-- the stay that stands there is written again
+pub stay-again : (P : Timetable) (p : PatientNo) → put (SetStay p (stay_of P p.0)) P ≡ P
+stay-again P p = sym (stay-twice P p None (stay_of P p.0)) ∙ undone P (SetStay p None)
+
+-- Another stay, or none, changes the bill by its gain less the gain of the old one.
+pub two-stays : (I : Draft) (P : Timetable) (p : PatientNo) (new : Option Placement) → IsValid I → IsPlanOf I P → IsWriteOf I (SetStay p new)
+    → change_of_bill I P (put (SetStay p new) P) ≡ sub_bills (stay_gain I P p new) (stay_gain I P p (stay_of P p.0))
+two-stays I P p new valid plan fits =
+    let without : Timetable = put (SetStay p None) P in
+    let later = stay-law I P p new valid plan fits.0 fits.1 in
+    let before = stay-law I P p (stay_of P p.0) valid plan fits.0 (plan.placed p.0) in
+    let old : change_of_bill I without P ≡ stay_gain I P p (stay_of P p.0) =
+    subst (λ (R : Timetable). change_of_bill I without R ≡ stay_gain I P p (stay_of P p.0)) (stay-again P p) before in
+    sym (change-between I without P (put (SetStay p new) P))
+    ∙ (ap (λ b. sub_bills b (change_of_bill I without P)) later ∙ ap (sub_bills (stay_gain I P p new)) old)

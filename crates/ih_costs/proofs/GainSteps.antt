@@ -1,0 +1,112 @@
+-- Steps of a loop that adds up a gain over days or shifts, from what a ledger tells of each.
+use Rattle.std.proofs.Common.{◌≡◌, ℕ, ◌+◌, ◌*◌, ◌^◌, ◌<◌, ◌≤◌, refl, arith, ap, sym, subst, ◌∙◌, w64, FitsSigned, to_z, of_z}
+use Rattle.std.specs.Prelude.{ℤ, pos, neg_ℤ, ◌+ℤ◌, ◌-ℤ◌, ◌≤ℤ◌, map}
+use Rattle.std.proofs.lemmas.Int.{ints}
+use Rattle.ih_tables.specs.declared.bills.Bill.{Bill}
+use Rattle.ih_tables.specs.Bills.{at, sub_bills, IsWithin}
+use Rattle.ih_plan.specs.BillOf.{Counts, as_bill}
+use Rattle.ih_costs.specs.StayGain.{span_sum, rule_at, cost_at}
+use Rattle.ih_costs.proofs.ChangeSums.{at-by_place}
+use Rattle.ih_costs.proofs.PartLemmas.{at-counts}
+use Rattle.ih_costs.proofs.SpanSums.{span-none, span-more}
+
+-- nothing is added up yet
+pub rise-none : (a : ℕ) (f g : ℕ → ℕ) → pos 0 ≡ pos (span_sum a a f) -ℤ pos (span_sum a a g)
+rise-none a f g =
+    let of_f = span-none a f in
+    let of_g = span-none a g in
+    omega (arith, ints, of_f, of_g)
+
+-- one more day or shift
+pub rise-more : (a b : ℕ) (f g : ℕ → ℕ) (sum step : ℤ) → a ≤ b → sum ≡ pos (span_sum a b f) -ℤ pos (span_sum a b g) → step ≡ pos (f b) -ℤ pos (g b)
+    → sum +ℤ step ≡ pos (span_sum a (b + 1) f) -ℤ pos (span_sum a (b + 1) g)
+rise-more a b f g sum step h so_far next =
+    let of_f = span-more a b f h in
+    let of_g = span-more a b g h in
+    omega (arith, ints, so_far, next, of_f, of_g)
+
+-- a number of a difference of bills
+pub rule-less : (a b : Counts) (k : ℕ) → k < 9 → at (sub_bills (as_bill a) (as_bill b)).v k ≡ pos (rule_at k a) -ℤ pos (rule_at k b)
+rule-less a b k h = at-by_place 9 (λ k. at (map pos a.v) k -ℤ at (map pos b.v) k) k h ∙ rw (at-counts a.v k, at-counts b.v k) refl
+
+pub cost-less : (a b : Counts) (k : ℕ) → k < 8 → at (sub_bills (as_bill a) (as_bill b)).s k ≡ pos (cost_at k a) -ℤ pos (cost_at k b)
+cost-less a b k h = at-by_place 8 (λ k. at (map pos a.s) k -ℤ at (map pos b.s) k) k h ∙ rw (at-counts a.s k, at-counts b.s k) refl
+
+-- ---- a number added up over the days or shifts from a to b, each at most 10^11 in magnitude
+
+pub record IsRisen (a b : ℕ) (f g : ℕ → ℕ) (sum : ℤ) : Type 0 where
+  pub told : sum ≡ pos (span_sum a b f) -ℤ pos (span_sum a b g)
+  pub low : neg_ℤ (pos (10 ^ 11 * b)) ≤ℤ sum
+  pub high : sum ≤ℤ pos (10 ^ 11 * b)
+
+pub risen-none : (a : ℕ) (f g : ℕ → ℕ) → IsRisen a a f g (pos 0)
+risen-none a f g = record { told = rise-none a f g; low = omega (arith, ints); high = omega (arith, ints) }
+
+pub risen-more : (a b : ℕ) (f g : ℕ → ℕ) (sum step : ℤ) → a ≤ b → IsRisen a b f g sum → step ≡ pos (f b) -ℤ pos (g b)
+    → neg_ℤ (pos (10 ^ 11)) ≤ℤ step → step ≤ℤ pos (10 ^ 11) → IsRisen a (b + 1) f g (sum +ℤ step)
+risen-more a b f g sum step h so_far next low high =
+    let old_low = so_far.low in
+    let old_high = so_far.high in
+    record {
+      told = rise-more a b f g sum step h so_far.told next;
+      low = omega (arith, ints);
+      high = omega (arith, ints);
+    }
+
+-- at most 10^14 in magnitude
+abbrev pub IsNear : ℤ → Type 0
+IsNear z = (neg_ℤ (pos (10 ^ 14)) ≤ℤ z) × (z ≤ℤ pos (10 ^ 14))
+
+-- so is the sum with one more
+pub risen-fits : (a b : ℕ) (f g : ℕ → ℕ) (sum step : ℤ) → IsRisen a b f g sum → b ≤ 200 → neg_ℤ (pos (10 ^ 11)) ≤ℤ step → step ≤ℤ pos (10 ^ 11) → IsNear (sum +ℤ step)
+risen-fits a b f g sum step so_far few low high =
+    let old_low = so_far.low in
+    let old_high = so_far.high in
+    (omega (arith, ints), omega (arith, ints))
+
+-- the sum with one more, as it is added in 64 bits
+added-fits : (s e : ℤ) → IsNear (s +ℤ e) → neg_ℤ (pos (10 ^ 11)) ≤ℤ e → e ≤ℤ pos (10 ^ 11) → FitsSigned w64 (s +ℤ to_z w64 (of_z w64 e))
+added-fits s e near low high =
+    let least = near.0 in
+    let most = near.1 in
+    omega (arith, ints)
+
+added-is : (s e : ℤ) → IsNear (s +ℤ e) → neg_ℤ (pos (10 ^ 11)) ≤ℤ e → e ≤ℤ pos (10 ^ 11) → to_z w64 (of_z w64 (s +ℤ to_z w64 (of_z w64 e))) ≡ s +ℤ e
+added-is s e near low high =
+    let least = near.0 in
+    let most = near.1 in
+    omega (arith, ints)
+
+-- one, as it is handed on in 64 bits
+pub passed-is : (e : ℤ) → neg_ℤ (pos (10 ^ 11)) ≤ℤ e → e ≤ℤ pos (10 ^ 11) → to_z w64 (of_z w64 e) ≡ e
+passed-is e low high = omega (arith, ints)
+
+module _ (a b : ℕ) (f g : ℕ → ℕ) (sum step : ℤ) (so_far : IsRisen a b f g sum) (few : b ≤ 200) (low : neg_ℤ (pos (10 ^ 11)) ≤ℤ step) (high : step ≤ℤ pos (10 ^ 11)) where
+  pub step-fits : FitsSigned w64 (sum +ℤ to_z w64 (of_z w64 step))
+  step-fits = added-fits sum step (risen-fits a b f g sum step so_far few low high) low high
+
+  pub step-risen : a ≤ b → step ≡ pos (f b) -ℤ pos (g b) → IsRisen a (b + 1) f g (to_z w64 (of_z w64 (sum +ℤ to_z w64 (of_z w64 step))))
+  step-risen begun next =
+      subst (IsRisen a (b + 1) f g) (sym (added-is sum step (risen-fits a b f g sum step so_far few low high) low high))
+      (risen-more a b f g sum step begun so_far next low high)
+
+-- ---- the same, where each day or shift is told as a bill: x with the placement, y without
+
+module _ (a b : ℕ) (x y : ℕ → Counts) (k : ℕ) (sum : ℤ) (bill : Bill) (next : bill ≡ sub_bills (as_bill (x b)) (as_bill (y b))) (small : IsWithin (10 ^ 11) bill) (few : b ≤ 200) where
+  pub rule-risen : k < 9 → a ≤ b → IsRisen a b (λ i. rule_at k (x i)) (λ i. rule_at k (y i)) sum
+      → IsRisen a (b + 1) (λ i. rule_at k (x i)) (λ i. rule_at k (y i)) (to_z w64 (of_z w64 (sum +ℤ to_z w64 (of_z w64 (at bill.v k)))))
+  rule-risen h begun so_far =
+      step-risen a b (λ i. rule_at k (x i)) (λ i. rule_at k (y i)) sum (at bill.v k) so_far few (small.v k h).0 (small.v k h).1 begun
+      (ap (λ z. at z.v k) next ∙ rule-less (x b) (y b) k h)
+
+  pub rule-fits : k < 9 → IsRisen a b (λ i. rule_at k (x i)) (λ i. rule_at k (y i)) sum → FitsSigned w64 (sum +ℤ to_z w64 (of_z w64 (at bill.v k)))
+  rule-fits h so_far = step-fits a b (λ i. rule_at k (x i)) (λ i. rule_at k (y i)) sum (at bill.v k) so_far few (small.v k h).0 (small.v k h).1
+
+  pub cost-risen : k < 8 → a ≤ b → IsRisen a b (λ i. cost_at k (x i)) (λ i. cost_at k (y i)) sum
+      → IsRisen a (b + 1) (λ i. cost_at k (x i)) (λ i. cost_at k (y i)) (to_z w64 (of_z w64 (sum +ℤ to_z w64 (of_z w64 (at bill.s k)))))
+  cost-risen h begun so_far =
+      step-risen a b (λ i. cost_at k (x i)) (λ i. cost_at k (y i)) sum (at bill.s k) so_far few (small.s k h).0 (small.s k h).1 begun
+      (ap (λ z. at z.s k) next ∙ cost-less (x b) (y b) k h)
+
+  pub cost-fits : k < 8 → IsRisen a b (λ i. cost_at k (x i)) (λ i. cost_at k (y i)) sum → FitsSigned w64 (sum +ℤ to_z w64 (of_z w64 (at bill.s k)))
+  cost-fits h so_far = step-fits a b (λ i. cost_at k (x i)) (λ i. cost_at k (y i)) sum (at bill.s k) so_far few (small.s k h).0 (small.s k h).1

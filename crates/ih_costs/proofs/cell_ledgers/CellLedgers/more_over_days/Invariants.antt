@@ -1,0 +1,7 @@
+use Rattle.ih_costs.specs.CellLedgers.{timetable_of}
+use Rattle.ih_costs.proofs.DayGains.{AreDaysTold}
+use Rattle.ih_costs.proofs.cell_ledgers.CellLedgers.more_over_days.Given as goal
+
+-- the days before d are told
+abbrev pub invariant-loop-d : goal.invariant-loop-d
+invariant-loop-d l = AreDaysTold l.inst.draft (timetable_of l.self) l.p l.at l.d l.mixed l.crowded l.ages

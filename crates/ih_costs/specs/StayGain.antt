@@ -1,0 +1,136 @@
+-- What a patient's placement costs, told day by day: the parts of the cells that it is in, number by number.
+use Rattle.std.specs.Prelude.{◌≡◌, ℕ, ◌+◌, ◌-◌, ◌*◌, ◌^◌, ◌<◌, ℤ, pos, ◌-ℤ◌, min, [], ◌∷◌, Option, Some, None, slice_index}
+use Rattle.ih_tables.specs.declared.drafts.Draft.{Draft}
+use Rattle.ih_tables.specs.declared.cells.Cell.TheVariants.{Stay, RoomDay, TheatreDay, SurgeonDay, RoomShift, NurseShift, Care}
+use Rattle.ih_tables.specs.declared.bills.Bill.{Bill}
+use Rattle.ih_tables.specs.declared.ids.PatientNo.{PatientNo}
+use Rattle.ih_tables.specs.Sizes.{patient_count}
+use Rattle.ih_tables.specs.Bills.{sub_bills, zero_bill, IsWithin}
+use Rattle.ih_plan.specs.declared.moves.Placement.{Placement}
+use Rattle.ih_plan.specs.declared.moves.Write.TheVariants.{SetStay}
+use Rattle.ih_plan.specs.Timetable.{Timetable, IsPlanOf, IsPlacement, stay_of, care_of}
+use Rattle.ih_plan.specs.Writes.{put, IsWriteOf}
+use Rattle.ih_plan.specs.Persons.{person_of}
+use Rattle.ih_plan.specs.Costs.{surgeon_of}
+use Rattle.ih_plan.specs.Sums.{sum_below}
+use Rattle.ih_plan.specs.BillOf.{Counts, as_bill, change_of_bill}
+use Rattle.ih_plan.specs.Cells.{part_at}
+
+-- f a + .. + f (b - 1)
+unfoldable pub span_sum : ℕ → ℕ → (ℕ → ℕ) → ℕ
+span_sum a b f = sum_below (b - a) (λ i. f (a + i))
+
+-- number j of the broken rules, and of the costs
+abbrev pub rule_at : ℕ → Counts → ℕ
+rule_at j c = slice_index c.v j
+
+abbrev pub cost_at : ℕ → Counts → ℕ
+cost_at j c = slice_index c.s j
+
+-- the end of a placement's counted days: of those before it, the first is the day of admission
+abbrev pub end_of : Draft → ℕ → Placement → ℕ
+end_of I p at = min (at.day.0 + (person_of I p).length_of_stay) I.days
+
+-- ---- a number of the parts of a placement's cells at a timetable
+
+module _ (I : Draft) (Q : Timetable) (p : ℕ) (at : Placement) (g : Counts → ℕ) where
+  -- of the patient's stay, and of its nurses
+  abbrev pub of_stay : ℕ
+  of_stay = g (part_at I Q (Stay (record { 0 = p })))
+
+  abbrev pub of_care : ℕ
+  of_care = g (part_at I Q (Care (record { 0 = p })))
+
+  -- of the room, over its days
+  abbrev pub over_days : ℕ
+  over_days = span_sum at.day.0 (end_of I p at) (λ d. g (part_at I Q (RoomDay at.room (record { 0 = d }))))
+
+  -- of the theatre on the day of admission
+  abbrev pub of_theatre : ℕ
+  of_theatre = g (part_at I Q (TheatreDay at.theatre at.day))
+
+  -- of a surgeon on that day, where there is one
+  abbrev pub of_surgeon : Option ℕ → ℕ
+  of_surgeon None = 0
+  of_surgeon (Some s) = g (part_at I Q (SurgeonDay (record { 0 = s }) at.day))
+
+  -- of the room, over its shifts
+  abbrev pub over_shifts : ℕ
+  over_shifts = span_sum (3 * at.day.0) (3 * end_of I p at) (λ k. g (part_at I Q (RoomShift at.room (record { 0 = k }))))
+
+  -- of a nurse in shift k, where there is one
+  abbrev pub of_nurse : ℕ → Option ℕ → ℕ
+  of_nurse k None = 0
+  of_nurse k (Some n) = g (part_at I Q (NurseShift (record { 0 = n }) (record { 0 = k })))
+
+  -- of the room's nurses, over its shifts
+  abbrev pub over_loads : ℕ
+  over_loads = span_sum (3 * at.day.0) (3 * end_of I p at) (λ k. of_nurse k (care_of Q at.room.0 k))
+
+-- ---- the gain
+
+-- what the placement costs at a timetable: each number is summed over the one kind of cells that has it
+unfoldable pub gain_of : Draft → Timetable → ℕ → Placement → Counts
+gain_of I Q p at = record {
+  v = over_days I Q p at (rule_at 0) ∷ of_stay I Q p at (rule_at 1) ∷ of_surgeon I Q p at (rule_at 2) (surgeon_of I p)
+      ∷ of_theatre I Q p at (rule_at 3) ∷ of_stay I Q p at (rule_at 4) ∷ of_stay I Q p at (rule_at 5)
+      ∷ over_days I Q p at (rule_at 6) ∷ over_shifts I Q p at (rule_at 7) ∷ over_shifts I Q p at (rule_at 8) ∷ [];
+  s = over_days I Q p at (cost_at 0) ∷ over_shifts I Q p at (cost_at 1) ∷ of_care I Q p at (cost_at 2)
+      ∷ over_loads I Q p at (cost_at 3) ∷ of_theatre I Q p at (cost_at 4) ∷ of_surgeon I Q p at (cost_at 5) (surgeon_of I p)
+      ∷ of_stay I Q p at (cost_at 6) ∷ of_stay I Q p at (cost_at 7) ∷ [];
+}
+
+-- what the placement costs once it is made, less what its cells cost without it
+abbrev pub placement_gain : Draft → Timetable → PatientNo → Placement → Bill
+placement_gain I P p at =
+    sub_bills (as_bill (gain_of I (put (SetStay p (Some at)) P) p.0 at)) (as_bill (gain_of I (put (SetStay p None) P) p.0 at))
+
+-- the gain of a stay: nothing where there is none
+abbrev pub stay_gain : Draft → Timetable → PatientNo → Option Placement → Bill
+stay_gain I P p None = zero_bill
+stay_gain I P p (Some at) = placement_gain I P p at
+
+-- The law of gains: another stay of a patient, or none, changes the bill by its gain less the gain of the old one.
+abbrev pub StaysGain : Draft → Type 0
+StaysGain I = (P : Timetable) (p : PatientNo) (new : Option Placement) → IsPlanOf I P → IsWriteOf I (SetStay p new)
+    → change_of_bill I P (put (SetStay p new) P) ≡ sub_bills (stay_gain I P p new) (stay_gain I P p (stay_of P p.0))
+
+-- ---- the gain, number by number
+
+-- by how much a number rises with the placement
+abbrev pub rise : Timetable → PatientNo → Placement → (Timetable → ℕ) → ℤ
+rise P p at f = pos (f (put (SetStay p (Some at)) P)) -ℤ pos (f (put (SetStay p None) P))
+
+-- What each ledger tells of its cells. Whether nurses work their shifts doesn't rest on stays,
+-- and who isn't admitted sees no nurses.
+abbrev pub gain_told : Draft → Timetable → PatientNo → Placement → Bill
+gain_told I P p at = record {
+  v = rise P p at (λ Q. over_days I Q p.0 at (rule_at 0))
+      ∷ rise P p at (λ Q. of_stay I Q p.0 at (rule_at 1))
+      ∷ rise P p at (λ Q. of_surgeon I Q p.0 at (rule_at 2) (surgeon_of I p.0))
+      ∷ rise P p at (λ Q. of_theatre I Q p.0 at (rule_at 3))
+      ∷ rise P p at (λ Q. of_stay I Q p.0 at (rule_at 4))
+      ∷ rise P p at (λ Q. of_stay I Q p.0 at (rule_at 5))
+      ∷ rise P p at (λ Q. over_days I Q p.0 at (rule_at 6))
+      ∷ pos 0
+      ∷ rise P p at (λ Q. over_shifts I Q p.0 at (rule_at 8))
+      ∷ [];
+  s = rise P p at (λ Q. over_days I Q p.0 at (cost_at 0))
+      ∷ rise P p at (λ Q. over_shifts I Q p.0 at (cost_at 1))
+      ∷ pos (of_care I (put (SetStay p (Some at)) P) p.0 at (cost_at 2))
+      ∷ rise P p at (λ Q. over_loads I Q p.0 at (cost_at 3))
+      ∷ rise P p at (λ Q. of_theatre I Q p.0 at (cost_at 4))
+      ∷ rise P p at (λ Q. of_surgeon I Q p.0 at (cost_at 5) (surgeon_of I p.0))
+      ∷ rise P p at (λ Q. of_stay I Q p.0 at (cost_at 6))
+      ∷ rise P p at (λ Q. of_stay I Q p.0 at (cost_at 7))
+      ∷ [];
+}
+
+-- A gain is told number by number, and each number is at most 10^11 in magnitude.
+pub record IsTold (I : Draft) (P : Timetable) (p : PatientNo) (at : Placement) : Type 0 where
+  pub numbers : placement_gain I P p at ≡ gain_told I P p at
+  pub within : IsWithin (10 ^ 11) (placement_gain I P p at)
+
+-- So it is for each placement of a patient.
+abbrev pub GainsAreTold : Draft → Type 0
+GainsAreTold I = (P : Timetable) (p : PatientNo) (at : Placement) → IsPlanOf I P → p.0 < patient_count I → IsPlacement I at → IsTold I P p at

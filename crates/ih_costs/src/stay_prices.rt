@@ -1,0 +1,198 @@
+//! What another stay of a patient, or none, changes in the bill, told day by day.
+
+ghost use Rattle.std.specs.Prelude.{◌≡◌, ◌+◌, ◌*◌, ◌<◌, ◌≤◌, ◌^◌, ◌≤ℤ◌, pos, neg_ℤ, min};
+ghost use Rattle.ih_tables.specs.Sizes.{patient_count, shift_count};
+ghost use Rattle.ih_tables.specs.Bills.{IsWithin};
+ghost use Rattle.ih_plan.specs.declared.moves.Write.TheVariants.{SetStay};
+ghost use Rattle.ih_plan.specs.Timetable.{IsPlacement, stay_of, care_of};
+ghost use Rattle.ih_plan.specs.Writes.{put, IsWriteOf};
+ghost use Rattle.ih_plan.specs.BillOf.{change_of_bill};
+ghost use Rattle.ih_plan.specs.Persons.{person_of};
+ghost use Rattle.ih_costs.specs.CellLedgers.{AreLedgers, timetable_of};
+ghost use Rattle.ih_costs.specs.StayGain.{rise, rule_at, cost_at, over_days, of_nurse, over_shifts, over_loads, placement_gain, stay_gain};
+
+use crate::cell_ledgers::CellLedgers;
+use crate::stays::stay_change;
+use ih_plan::Placement;
+use ih_tables::{Bill, Day, Instance, PatientNo, Shift};
+
+// What a room has more over the days of a placement: mixed genders, persons above its capacity, spread of ages.
+#[derive(Clone, Copy)]
+struct DaysMore {
+    mixed: i64,
+    crowded: i64,
+    ages: i64,
+}
+
+// What a room and its nurses have more over the shifts of a placement: shifts without a nurse, missing skill,
+// and excess workload.
+#[derive(Clone, Copy)]
+struct ShiftsMore {
+    alone: i64,
+    skill: i64,
+    load: i64,
+}
+
+// The day after a placement's last counted one: days past the horizon aren't counted.
+#[tactic(auto, unfolding(ih_plan::specs::Persons::person_of))]
+fn end_of(inst: &Instance, p: PatientNo, at: Placement) -> u32
+    requires patient { p.0 < patient_count inst.now.draft }
+    requires placement { IsPlacement inst.now.draft at }
+    ensures value { result ≡ min (at.day.0 + (person_of inst.now.draft p.0).length_of_stay) inst.now.draft.days }
+    ensures order { at.day.0 ≤ result }
+    ensures days { result ≤ inst.now.draft.days }
+{
+    (at.day.0 + inst.patient(p).length_of_stay).min(inst.days())
+}
+
+impl CellLedgers {
+    // What the room has more over the days of a placement with the patient there than without. The patient's stay is
+    // `old` so far.
+    fn more_over_days(
+        &self,
+        inst: &Instance,
+        p: PatientNo,
+        old: Option<Placement>,
+        at: Placement,
+    ) -> DaysMore
+        requires stands { AreLedgers inst.now.draft self.now }
+        requires patient { p.0 < patient_count inst.now.draft }
+        requires placement { IsPlacement inst.now.draft at }
+        requires stay { stay_of (timetable_of self.now) p.0 ≡ old }
+        ensures mixed { result.mixed ≡ rise (timetable_of self.now) p at (λ Q. over_days inst.now.draft Q p.0 at (rule_at 0)) }
+        ensures crowded { result.crowded ≡ rise (timetable_of self.now) p at (λ Q. over_days inst.now.draft Q p.0 at (rule_at 6)) }
+        ensures ages { result.ages ≡ rise (timetable_of self.now) p at (λ Q. over_days inst.now.draft Q p.0 at (cost_at 0)) }
+    {
+        let end = end_of(inst, p, at);
+        let mut mixed: i64 = 0;
+        let mut crowded: i64 = 0;
+        let mut ages: i64 = 0;
+        for d in at.day.0..end {
+            let day = self.room_days.day_gain(inst, p, old, at, Day(d));
+            mixed += day.v[0];
+            crowded += day.v[6];
+            ages += day.s[0];
+        }
+        DaysMore {
+            mixed,
+            crowded,
+            ages,
+        }
+    }
+
+    // How much more excess workload the room's nurse, where there is one, has in a shift with a placement than without.
+    fn more_load(&self, inst: &Instance, k: Shift, p: PatientNo, at: Placement) -> i64
+        requires stands { AreLedgers inst.now.draft self.now }
+        requires shift { k.0 < shift_count inst.now.draft }
+        requires patient { p.0 < patient_count inst.now.draft }
+        requires placement { IsPlacement inst.now.draft at }
+        ensures value { result ≡ rise (timetable_of self.now) p at (λ Q. of_nurse inst.now.draft Q p.0 at (cost_at 3) k.0 (care_of Q at.room.0 k.0)) }
+        ensures low { neg_ℤ (pos (10 ^ 11)) ≤ℤ result }
+        ensures high { result ≤ℤ pos (10 ^ 11) }
+    {
+        match self.plan().care(at.room, k) {
+            None => 0,
+            Some(n) => self.nurses.nurse_shift_gain(inst, n, k, p, at).s[3],
+        }
+    }
+
+    // What the room and its nurses have more over the shifts of a placement with the patient there than without.
+    fn more_over_shifts(&self, inst: &Instance, p: PatientNo, at: Placement) -> ShiftsMore
+        requires stands { AreLedgers inst.now.draft self.now }
+        requires patient { p.0 < patient_count inst.now.draft }
+        requires placement { IsPlacement inst.now.draft at }
+        ensures alone { result.alone ≡ rise (timetable_of self.now) p at (λ Q. over_shifts inst.now.draft Q p.0 at (rule_at 8)) }
+        ensures skill { result.skill ≡ rise (timetable_of self.now) p at (λ Q. over_shifts inst.now.draft Q p.0 at (cost_at 1)) }
+        ensures load { result.load ≡ rise (timetable_of self.now) p at (λ Q. over_loads inst.now.draft Q p.0 at (cost_at 3)) }
+    {
+        let end = end_of(inst, p, at);
+        let mut alone: i64 = 0;
+        let mut skill: i64 = 0;
+        let mut load: i64 = 0;
+        for k in 3 * at.day.0..3 * end {
+            let shift = self.nurses.room_shift_gain(inst, Shift(k), p, at);
+            alone += shift.v[8];
+            skill += shift.s[1];
+            load += self.more_load(inst, Shift(k), p, at);
+        }
+        ShiftsMore { alone, skill, load }
+    }
+
+    // What a placement costs once it is made, less what its cells cost without it. The patient's stay is `old` so far.
+    fn gain(&self, inst: &Instance, p: PatientNo, old: Option<Placement>, at: Placement) -> Bill
+        requires stands { AreLedgers inst.now.draft self.now }
+        requires patient { p.0 < patient_count inst.now.draft }
+        requires placement { IsPlacement inst.now.draft at }
+        requires stay { stay_of (timetable_of self.now) p.0 ≡ old }
+        ensures gain { result ≡ placement_gain inst.now.draft (timetable_of self.now) p at }
+        ensures within { IsWithin (10 ^ 11) result }
+    {
+        let patient = inst.patient(p);
+        let own = stay_change(patient, Some(at), None);
+        let theatre = self.theatres.theatre_gain(inst, p, old, at);
+        let surgeon = self
+            .theatres
+            .surgeon_gain(inst, patient.surgeon_id, p, old, at);
+        let care = self.nurses.care_gain(inst, p, at);
+        let days = self.more_over_days(inst, p, old, at);
+        let shifts = self.more_over_shifts(inst, p, at);
+        Bill {
+            v: [
+                days.mixed,
+                own.v[1],
+                surgeon.v[2],
+                theatre.v[3],
+                own.v[4],
+                own.v[5],
+                days.crowded,
+                0,
+                shifts.alone,
+            ],
+            s: [
+                days.ages,
+                shifts.skill,
+                care.s[2],
+                shifts.load,
+                theatre.s[4],
+                surgeon.s[5],
+                own.s[6],
+                own.s[7],
+            ],
+        }
+    }
+
+    // The gain of a stay of the patient, whose stay is `old` so far: nothing where it is none.
+    fn gain_of_stay(
+        &self,
+        inst: &Instance,
+        p: PatientNo,
+        old: Option<Placement>,
+        stay: Option<Placement>,
+    ) -> Bill
+        requires stands { AreLedgers inst.now.draft self.now }
+        requires write { IsWriteOf inst.now.draft (SetStay p stay) }
+        requires old_stay { stay_of (timetable_of self.now) p.0 ≡ old }
+        ensures gain { result ≡ stay_gain inst.now.draft (timetable_of self.now) p stay }
+        ensures within { IsWithin (10 ^ 11) result }
+    {
+        match stay {
+            None => Bill::zero(),
+            Some(at) => self.gain(inst, p, old, at),
+        }
+    }
+
+    /// What another stay of a patient, or none, changes in the bill. It isn't made.
+    pub fn stay_price(&self, inst: &Instance, p: PatientNo, new: Option<Placement>) -> Bill
+        requires stands { AreLedgers inst.now.draft self.now }
+        requires write { IsWriteOf inst.now.draft (SetStay p new) }
+        ensures { result ≡ change_of_bill inst.now.draft (timetable_of self.now) (put (SetStay p new) (timetable_of self.now)) }
+    {
+        let old = self.plan().stay(p);
+        if new == old {
+            return Bill::zero();
+        }
+        let after = self.gain_of_stay(inst, p, old, new);
+        let before = self.gain_of_stay(inst, p, old, old);
+        after.sub(&before)
+    }
+}

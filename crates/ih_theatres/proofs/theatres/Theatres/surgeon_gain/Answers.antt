@@ -1,0 +1,62 @@
+use Rattle.std.proofs.Common.{◌∙◌, arith, None}
+use Rattle.ih_links.specs.Lists.{list_of, without}
+use Rattle.ih_theatres.proofs.ChangeLemmas.{surgeon-was}
+use Rattle.ih_theatres.proofs.GainLemmas.{surgeon-gain}
+use Rattle.ih_theatres.proofs.LedgerLemmas.{surgeon-is, surgeon-most, theatres-few, marks-below}
+use Rattle.ih_theatres.proofs.theatres.Theatres.surgeon_gain.Goals as goal
+
+pub minutes_but-others-requires-clause-list : goal.minutes_but-others-requires-clause-list
+minutes_but-others-requires-clause-list c =
+    let s = c.requires.stands in
+    let day = c.args.at.day in
+    let inside = c.requires.placement.day in (
+      list_of c.args.self.now.surgeon_days c.day_number-today.result,
+      (s.2.surgeon_days.known c.day_number-today.result).once,
+      surgeon-is s.2 day.0 c.day_number-today.result inside c.args.s.0 c.requires.surgeon c.day_number-today.ensures c.index-planned.result.now c.index-planned.ensures,
+      surgeon-was s.1 s.2 c.args.p c.requires.patient c.args.old None s.3 c.args.s day c.is_operated_by-was.result c.day_number-today.result inside
+          c.is_operated_by-was.ensures c.day_number-today.ensures,
+    )
+
+pub surgeon_counts-without-requires-clause-bound : goal.surgeon_counts-without-requires-clause-bound
+surgeon_counts-without-requires-clause-bound c =
+    let s = c.requires.stands in
+    let most = surgeon-most s.2 c.args.at.day.0 c.day_number-today.result c.requires.placement.day c.args.s.0 c.requires.surgeon c.day_number-today.ensures c.index-planned.result.now c.index-planned.ensures c.args.inst.now.valid in
+    omega (arith, c.minutes_but-others.ensures.bound)
+
+pub surgeon_counts-with-requires-clause-bound : goal.surgeon_counts-with-requires-clause-bound
+surgeon_counts-with-requires-clause-bound c =
+    let s = c.requires.stands in
+    let most = surgeon-most s.2 c.args.at.day.0 c.day_number-today.result c.requires.placement.day c.args.s.0 c.requires.surgeon c.day_number-today.ensures c.index-planned.result.now c.index-planned.ensures c.args.inst.now.valid in
+    omega (arith, c.minutes_but-others.ensures.bound)
+
+pub theatres_but-used-requires-clause-known : goal.theatres_but-used-requires-clause-known
+theatres_but-used-requires-clause-known c =
+    let s = c.requires.stands in
+    rw c.as_slice.ensures.value (theatres-few c.args.inst.now.valid s.1 s.2)
+
+pub surgeon_counts-without-requires-clause-marks : goal.surgeon_counts-without-requires-clause-marks
+surgeon_counts-without-requires-clause-marks c =
+    let s = c.requires.stands in
+    marks-below c.args.inst.now.valid s.1 s.2 c.theatres_but-used.result (without c.args.p.0 (list_of c.args.self.now.surgeon_days c.day_number-today.result))
+    (rw c.as_slice.ensures.value at c.theatres_but-used.ensures)
+
+pub surgeon_counts-with-requires-clause-marks : goal.surgeon_counts-with-requires-clause-marks
+surgeon_counts-with-requires-clause-marks c =
+    let s = c.requires.stands in
+    marks-below c.args.inst.now.valid s.1 s.2 c.theatres_but-used.result (without c.args.p.0 (list_of c.args.self.now.surgeon_days c.day_number-today.result))
+    (rw c.as_slice.ensures.value at c.theatres_but-used.ensures)
+
+pub returns-clause-gain : goal.returns-clause-gain
+returns-clause-gain c = λ P plan stands stay.
+    let at = c.args.at in
+    let inside = c.requires.placement.day in
+    let others = without c.args.p.0 (list_of c.args.self.now.surgeon_days c.day_number-today.result) in
+    let sum = c.minutes_but-others.ensures.sum (list_of c.args.self.now.surgeon_days c.day_number-today.result) (stands.surgeon_days.known c.day_number-today.result).once
+    (surgeon-is stands at.day.0 c.day_number-today.result inside c.args.s.0 c.requires.surgeon c.day_number-today.ensures c.index-planned.result.now c.index-planned.ensures)
+    (surgeon-was plan stands c.args.p c.requires.patient c.args.old None stay c.args.s at.day c.is_operated_by-was.result c.day_number-today.result inside
+    c.is_operated_by-was.ensures c.day_number-today.ensures) in
+    c.surgeon_change.ensures.value
+    ∙ surgeon-gain plan stands c.args.p c.requires.patient at inside c.args.s c.requires.own c.day_number-today.result c.surgeon_minutes-most.result c.day_number-today.ensures c.surgeon_minutes-most.ensures
+    c.theatres_but-used.result (rw c.as_slice.ensures.value at c.theatres_but-used.ensures) _ _ _ _
+    (c.surgeon_counts-without.ensures.over others sum) c.surgeon_counts-without.ensures.cost
+    (c.surgeon_counts-with.ensures.over others sum) c.surgeon_counts-with.ensures.cost
