@@ -4,3 +4,4 @@ pub mod Ledger
 pub mod Marks
 pub mod Own
 pub mod Stretches
+pub mod Choice
