@@ -1,6 +1,6 @@
 //! What a book keeps: the entries of all workers, and what is needed to judge the next one.
 
-ghost use Rattle.std.specs.Prelude.{◌≡◌, ℕ, ◌^◌, ◌<◌, ◌≤◌, if◌then◌else◌, length, slice_index, Some};
+ghost use Rattle.std.specs.Prelude.{◌≡◌, ℕ, ◌^◌, ◌<◌, ◌≤◌, if◌then◌else◌, [], length, slice_index, vec_capacity, Some, IfOk};
 ghost use Rattle.ih_tables.specs.Bills.{IsWithin, add_bills, feasible, cost};
 ghost use Rattle.ih_journal.specs.Attempts.{attempt_after};
 ghost use Rattle.ih_journal.specs.Best.{best_with};
@@ -11,7 +11,7 @@ use crate::counters::{judge, raise_where};
 use crate::offers::Offer;
 use ih_footprint::Numbering;
 use ih_journal::{Entry, Options, Verdict};
-use ih_plan::Plan;
+use ih_plan::{Move, Plan};
 use ih_tables::{Bill, Instance};
 use std::alloc::{AllocError, Global};
 use std::marker::Model;
@@ -100,8 +100,36 @@ fn with_place(
     }
 }
 
+// An entry of nobody, to write into room that nothing has used yet.
+fn blank() -> Entry {
+    Entry {
+        worker: 0,
+        number: 0,
+        again: 0,
+        seen: 0,
+        mv: Move::Idle,
+        price: Bill::zero(),
+        verdict: Verdict::Frozen,
+    }
+}
+
+// Room for `most` entries, with none in it. That of the first of them is written once here, so that the system gives its
+// pages now, and not one by one while a worker holds the book.
+fn room_for(alloc: Global, first: usize, most: usize) -> Result<Vec<Entry>, AllocError>
+    requires { first ≤ most }
+    ensures none { IfOk result (λ v. v.items ≡ []) }
+    ensures room { IfOk result (λ v. vec_capacity v ≡ most) }
+{
+    let mut entries = Vec::with_capacity(alloc, most)?;
+    for _ in 0..first {
+        entries.push_reserved(blank());
+    }
+    entries.clear();
+    Ok(entries)
+}
+
 impl<'a> Records<'a> {
-    ghost use Rattle.std.specs.Prelude.{◌+◌, ◌++◌, ◌∷◌, [], take, drop, IfOk};
+    ghost use Rattle.std.specs.Prelude.{◌+◌, ◌++◌, ◌∷◌, take, drop};
     ghost use Rattle.ih_plan.specs.BillOf.{bill_of, change_of_bill};
     ghost use Rattle.ih_plan.specs.Timetable.{IsPlanOf};
     ghost use Rattle.ih_plan.specs.Cells.{cell_at, cell_count};
@@ -132,10 +160,9 @@ impl<'a> Records<'a> {
         requires lawful { IsLawful options.now }
         ensures { IfOk result (λ k. k ≡ record { base = base_with inst.now.draft start.now options.now freeze; entries = [] }) }
     {
-        let most = options.workers as usize
-            * options.moves as usize
-            * (options.retries as usize + 1);
-        let entries = Vec::with_capacity(alloc, most)?;
+        // As many as there are where no try is stale.
+        let moves = options.workers as usize * options.moves as usize;
+        let entries = room_for(alloc, moves, moves * (options.retries as usize + 1))?;
         let counters = vec![in alloc; 0; Numbering::of(inst).count() as usize]?;
         let tries = vec![in alloc; 0; options.workers as usize]?;
         Ok(Records {

@@ -12,8 +12,8 @@ with_place-requires c = subst (IsWithin (10 ^ 11)) (sym c.requires.first) (bill-
 
 pub invariant_of-result : goal.invariant_of-result
 invariant_of-result c =
-    let none = c.in_ok-entries.ensures.items in
-    let room = c.in_ok-entries.ensures.exact in (
+    let none = c.in_ok-entries.ensures.none in
+    let room = c.in_ok-entries.ensures.room in (
       rw none (kept-none (base_with c.args.inst.now.draft c.args.start.now c.args.options.now c.args.freeze) _ _ _ _
           (record { start = c.requires.start; lawful = c.requires.lawful })
           (c.in_ok-counters.ensures.items_if_clones_equal (λ y e. e) ∙ ap (λ n. replicate n 0) (c.count.ensures.count ∙ ap count_in c.of.ensures))
