@@ -137,6 +137,7 @@ impl<'a> Ledgers<'a> {
 
     /// What a move would add to the bill, number by number: each is at most 10^11 in magnitude. In place of what was listed
     /// there, `foot` has the cells of the move's footprint, rising. The ledgers stand for the same timetable as before.
+    #[inline(always)]
     pub fn price(&mut self, mv: &Move, foot: &mut CellList) -> Bill
         requires move_in { IsMoveOf self.old.instance mv.now }
         requires sizes { foot.old.sizes ≡ sizes_of self.old.instance }

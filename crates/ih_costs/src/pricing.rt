@@ -59,7 +59,8 @@ fn change_by_write(inst: &Instance, ledgers: &CellLedgers, w: &Write, cells: &mu
     }
 }
 
-// What a write changes in the bill. The cells that it touches are gathered too. `one` then has just these. It isn't made.
+// What a write changes in the bill. The cells that it touches are gathered too, and `one` then has just these. It isn't
+// made.
 fn change_alone(
     inst: &Instance,
     ledgers: &CellLedgers,
@@ -81,8 +82,8 @@ fn change_alone(
     change
 }
 
-// What writes change in the bill, the first of them and the rest. The cells that they touch are gathered too. Each but the
-// last is made, so that the next is priced behind it, and taken back.
+// What writes change in the bill, the first of them and the rest. The cells that they touch are gathered too. Each but
+// the last is made, so that the next is priced behind it, and taken back.
 fn change_in_turn(
     inst: &Instance,
     ledgers: &mut CellLedgers,
@@ -115,7 +116,8 @@ fn change_in_turn(
     }
 }
 
-// The same, with the cells that they touch listed too, rising: they are gathered in `set`, which has none before and after.
+// The same, with the cells that they touch listed too, rising: they are gathered in `set`, which has none before and
+// after.
 fn change_together(
     inst: &Instance,
     ledgers: &mut CellLedgers,
@@ -146,8 +148,8 @@ fn change_together(
     change
 }
 
-// Sets `price` to what a move's writes change in the bill. `cells`, those that the move looks at before, then has those of its footprint,
-// rising. A single write isn't made.
+// Sets `price` to what a move's writes change in the bill. `cells`, those that the move looks at before, then has those of
+// its footprint, rising. A single write isn't made.
 fn change_after(
     inst: &Instance,
     ledgers: &mut CellLedgers,
@@ -217,8 +219,9 @@ fn change_after_move(
     change_after(inst, ledgers, writes.as_slice(), one, set, foot, price);
 }
 
-/// Sets `price` to what a move adds to the bill, number by number. `foot` then has the cells of its footprint, rising, and the ledgers
-/// stand for the same timetable as before.
+/// Sets `price` to what a move adds to the bill, number by number. `foot` then has the cells of its footprint, rising, and
+/// the ledgers stand for the same timetable as before.
+#[inline(always)]
 pub fn price_of(
     inst: &Instance,
     ledgers: &mut CellLedgers,
