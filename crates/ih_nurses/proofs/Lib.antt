@@ -17,3 +17,4 @@ pub mod OwnLemmas
 pub mod GivenLemmas
 pub mod NewlyLemmas
 pub mod RoomChangeLemmas
+pub mod ChoiceLemmas

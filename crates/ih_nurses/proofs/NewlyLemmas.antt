@@ -1,6 +1,6 @@
 -- What another choice of nurse makes of the distinct nurses over a stay's shifts.
 use Rattle.std.proofs.Common.{◌≡◌, ℕ, zero, suc, ◌+◌, ◌<◌, ◌≤◌, refl, arith, sym, ap, ◌∙◌, Bool, true, false, inl, inr, List, [], ◌∷◌, map, Option, Some, None}
-use Rattle.std.specs.Prelude.{◌||◌, ◌&&◌, ◌==◌, not, option_map, IfSome, nat_le, nat_lt}
+use Rattle.std.specs.Prelude.{◌||◌, ◌&&◌, ◌==◌, not, is_none, option_map, IfSome, nat_le, nat_lt}
 use Rattle.std.specs.List.{list_any, range_with_len}
 use Rattle.std.proofs.lemmas.Bool.{cases_eq, cases_Bool, eq-eqb, ne_eqb, eqb-true, le-leb, lt-ltb, leb-true, ltb-true, and_parts}
 use Rattle.ih_tables.specs.declared.drafts.Draft.{Draft}
@@ -18,7 +18,7 @@ use Rattle.ih_plan.proofs.SumLemmas.{sum_below-but, sum_below-same}
 use Rattle.ih_plan.proofs.Entries.{care_of-same, care_of-other}
 use Rattle.ih_plan.proofs.PlanRanges.{nurse-inside}
 use Rattle.ih_nurses.specs.declared.stretches.Stretch.{Stretch}
-use Rattle.ih_nurses.specs.Stretches.{IsStretch, nurses_over, has_shift, has_other, newly_seen}
+use Rattle.ih_nurses.specs.Stretches.{IsStretch, nurses_over, has_shift, has_other, fresh, newly_seen}
 
 -- ---- tests over a range
 
@@ -85,11 +85,6 @@ map-same f g a (suc n) e = rw (e a (omega arith) (omega arith), map-same f g (a 
 
 -- ---- one number more
 
--- 1 where there is a number that isn't marked
-abbrev fresh : (ℕ → Bool) → Option NurseNo → ℕ
-fresh marked None = 0
-fresh marked (Some a) = bit (not (marked a.0))
-
 or-none : (b : Bool) → (b || false) ≡ b
 or-none true = refl
 or-none false = refl
@@ -113,6 +108,29 @@ count-fresh m marked (Some a) h =
     let here : bit (marked a.0 || (a.0 == a.0)) ≡ 1 = rw (eq-eqb a.0 a.0 refl) (ap bit (or-all (marked a.0))) in
     omega (arith, change, here, bit-not (marked a.0))
 
+-- ---- nurses met in the first shifts of a stretch
+
+-- the nurse has one of the first j shifts, other than shift k; where there is no nurse, as if so
+abbrev pub is_met : Timetable → Stretch → ℕ → Option NurseNo → ℕ → Bool
+is_met P s k None j = true
+is_met P s k (Some a) j = list_any (λ i. not (i == k) && is_number (care_of P s.room.0 i) a.0) (range_with_len s.from j)
+
+pub met-first : (P : Timetable) (s : Stretch) (k : ℕ) (o : Option NurseNo) → is_met P s k o 0 ≡ is_none o
+met-first P s k None = refl
+met-first P s k (Some a) = refl
+
+pub met-more : (P : Timetable) (s : Stretch) (k : ℕ) (o : Option NurseNo) (j : ℕ) (m : Bool)
+    → IfSome o (λ a. m ≡ (not (s.from + j == k) && is_number (care_of P s.room.0 (s.from + j)) a.0))
+    → is_met P s k o (j + 1) ≡ (is_met P s k o j || m)
+met-more P s k None j m e = refl
+met-more P s k (Some a) j m e =
+    any-more (λ i. not (i == k) && is_number (care_of P s.room.0 i) a.0) s.from j
+    ∙ ap (λ b. is_met P s k (Some a) j || b) (sym e)
+
+pub met-all : (P : Timetable) (s : Stretch) (k : ℕ) (o : Option NurseNo) → bit (not (is_met P s k o s.len)) ≡ fresh (has_other P s k) o
+met-all P s k None = refl
+met-all P s k (Some a) = refl
+
 -- ---- the nurses of a stretch
 
 module _ (I : Draft) (P : Timetable) (s : Stretch) (k : ℕ) (o : Option NurseNo) (low : s.from ≤ k) (high : k < s.from + s.len)
@@ -126,11 +144,11 @@ module _ (I : Draft) (P : Timetable) (s : Stretch) (k : ℕ) (o : Option NurseNo
       ∙ (any-split (λ j. is_number (care_of P s.room.0 j) n) k s.from s.len low high ∙ rw choice refl)))
       ∙ count-fresh (nurse_count I) (has_other P s k) o nurse
 
-newly-within : (P : Timetable) (s : Stretch) (r k : ℕ) (o : Option NurseNo) → has_shift s r k ≡ true → newly_seen P (Some s) r k o ≡ fresh (has_other P s k) o
+pub newly-within : (P : Timetable) (s : Stretch) (r k : ℕ) (o : Option NurseNo) → has_shift s r k ≡ true → newly_seen P (Some s) r k o ≡ fresh (has_other P s k) o
 newly-within P s r k None h = refl
 newly-within P s r k (Some a) h = rw h refl
 
-newly-outside : (P : Timetable) (s : Stretch) (r k : ℕ) (o : Option NurseNo) → has_shift s r k ≡ false → newly_seen P (Some s) r k o ≡ 0
+pub newly-outside : (P : Timetable) (s : Stretch) (r k : ℕ) (o : Option NurseNo) → has_shift s r k ≡ false → newly_seen P (Some s) r k o ≡ 0
 newly-outside P s r k None h = refl
 newly-outside P s r k (Some a) h = rw h refl
 

@@ -24,7 +24,8 @@ use Rattle.ih_plan.specs.Cells.{part_at}
 use Rattle.ih_nurses.specs.Stretches.{stretch_in, nurses_over}
 use Rattle.ih_nurses.proofs.BillLemmas.{nursing, care-part}
 
-nurses-alike : (I : Draft) (P : Timetable) (o : Option Admission) (n : ℕ)
+-- the nurses of a stay's shifts, by its room
+pub nurses-alike : (I : Draft) (P : Timetable) (o : Option Admission) (n : ℕ)
     → map (nurse_for P (option_map (λ (a : Admission). a.room) o)) (shifts_in I o n) ≡ nurses_over P (stretch_in I o n)
 nurses-alike I P None n = refl
 nurses-alike I P (Some a) n = refl

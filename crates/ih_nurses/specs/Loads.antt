@@ -1,13 +1,14 @@
 -- The workload of each nurse in each shift, as a table.
-use Rattle.std.specs.Prelude.{◌≡◌, ◌<◌, ℕ, ◌+◌, ◌-◌, ◌*◌, ◌==◌, ◌&&◌, if◌then◌else◌, List, length, Option, Some, None, slice_index, slice_index_or, option_map}
+use Rattle.std.specs.Prelude.{◌≡◌, ◌<◌, ℕ, ℤ, pos, ◌-ℤ◌, ◌+◌, ◌-◌, ◌*◌, ◌==◌, ◌&&◌, if◌then◌else◌, List, length, Option, Some, None, slice_index, slice_index_or, option_map}
 use Rattle.ih_tables.specs.declared.drafts.Draft.{Draft}
 use Rattle.ih_tables.specs.declared.ids.NurseNo.{NurseNo}
 use Rattle.ih_tables.specs.Sizes.{nurse_count, shift_count}
+use Rattle.ih_tables.specs.Works.{max_load}
 use Rattle.ih_plan.specs.declared.moves.Placement.{Placement}
 use Rattle.ih_plan.specs.Timetable.{Timetable, care_of}
 use Rattle.ih_plan.specs.Persons.{person_of}
 use Rattle.ih_plan.specs.Presence.{covers, day_of}
-use Rattle.ih_plan.specs.Costs.{load_of, is_number}
+use Rattle.ih_plan.specs.Costs.{load_of, is_number, overload}
 
 -- the table's number for nurse n and shift k
 abbrev pub load_at : Draft → List ℕ → ℕ → ℕ → ℕ
@@ -28,6 +29,12 @@ stay_load I P p at n k =
 abbrev pub given : Draft → Timetable → ℕ → Option Placement → ℕ → ℕ → ℕ
 given I P p None n k = 0
 given I P p (Some at) n k = stay_load I P p at n k
+
+-- by how much the workload above the maximum of a nurse, where there is one, rises when the load becomes another
+abbrev pub excess_rise : Draft → List ℕ → Option NurseNo → ℕ → (ℕ → ℕ) → ℤ
+excess_rise I loads None k after = pos 0
+excess_rise I loads (Some a) k after =
+    pos (overload (max_load I a.0 k) (after (load_at I loads a.0 k))) -ℤ pos (overload (max_load I a.0 k) (load_at I loads a.0 k))
 
 -- The table has the workload of each nurse in each shift.
 pub record AreLoads (I : Draft) (P : Timetable) (loads : List ℕ) : Type 0 where

@@ -53,8 +53,8 @@ pub fn bill_of(costs: NursingCosts) -> Bill
     }
 }
 
-// A number less another.
-fn minus(a: u32, b: u32) -> i64
+/// A number less another.
+pub fn minus(a: u32, b: u32) -> i64
     ensures value { result ≡ pos a -ℤ pos b }
     ensures low { neg_ℤ (pos (10 ^ 11)) ≤ℤ result }
     ensures high { result ≤ℤ pos (10 ^ 11) }

@@ -3,6 +3,7 @@
 
 mod bills;
 mod changes;
+mod choice_changes;
 mod choices;
 mod loads;
 mod nurses;

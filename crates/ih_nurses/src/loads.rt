@@ -1,12 +1,13 @@
 //! The table of loads: the workload of each nurse in each shift.
 
-ghost use Rattle.std.specs.Prelude.{◌≡◌, ◌<◌, ◌≤◌, ◌+◌, ◌*◌, ◌^◌, ℕ, length, IfSome, false, if◌then◌else◌};
+ghost use Rattle.std.specs.Prelude.{◌≡◌, ◌<◌, ◌≤◌, ◌+◌, ◌-◌, ◌*◌, ◌^◌, ◌≤ℤ◌, ℕ, neg_ℤ, pos, length, IfSome, false, if◌then◌else◌};
 ghost use Rattle.ih_tables.specs.declared.ids.NurseNo.{NurseNo};
 ghost use Rattle.ih_tables.specs.Sizes.{nurse_count, shift_count};
 ghost use Rattle.ih_tables.specs.Works.{max_load};
 ghost use Rattle.ih_plan.specs.Costs.{overload};
-ghost use Rattle.ih_nurses.specs.Loads.{load_at, share};
+ghost use Rattle.ih_nurses.specs.Loads.{load_at, share, excess_rise};
 
+use crate::bills::minus;
 use ih_tables::{Instance, NurseNo, Shift};
 
 // Where a nurse's load in a shift stands.
@@ -105,4 +106,40 @@ pub fn load_after(load: u32, change: u32, takes: bool) -> u32
     ensures { result + (if takes then 0 else change) ≡ load + (if takes then change else 0) }
 {
     if takes { load + change } else { load - change }
+}
+
+/// What a load less changes in the workload above its maximum of a nurse, where there is one.
+#[inline(always)]
+pub fn relief(inst: &Instance, loads: &[u32], n: Option<NurseNo>, k: Shift, less: u32) -> i64
+    requires len { length loads.now ≡ nurse_count inst.now.draft * shift_count inst.now.draft }
+    requires nurse { IfSome n (λ a. a.0 < nurse_count inst.now.draft) }
+    requires shift { k.0 < shift_count inst.now.draft }
+    requires enough { IfSome n (λ a. less ≤ load_at inst.now.draft loads.now a.0 k.0) }
+    ensures rise { result ≡ excess_rise inst.now.draft loads.now n k.0 (λ load. load - less) }
+    ensures low { neg_ℤ (pos (10 ^ 11)) ≤ℤ result }
+    ensures high { result ≤ℤ pos (10 ^ 11) }
+{
+    let Some(a) = n else {
+        return 0;
+    };
+    let before = load(inst, loads, a, k);
+    minus(overload(inst, a, k, before - less), overload(inst, a, k, before))
+}
+
+/// What a load more changes in the workload above its maximum of a nurse, where there is one.
+#[inline(always)]
+pub fn burden(inst: &Instance, loads: &[u32], n: Option<NurseNo>, k: Shift, more: u32) -> i64
+    requires len { length loads.now ≡ nurse_count inst.now.draft * shift_count inst.now.draft }
+    requires nurse { IfSome n (λ a. a.0 < nurse_count inst.now.draft) }
+    requires shift { k.0 < shift_count inst.now.draft }
+    requires fits { IfSome n (λ a. load_at inst.now.draft loads.now a.0 k.0 + more < 2 ^ 32) }
+    ensures rise { result ≡ excess_rise inst.now.draft loads.now n k.0 (λ load. load + more) }
+    ensures low { neg_ℤ (pos (10 ^ 11)) ≤ℤ result }
+    ensures high { result ≤ℤ pos (10 ^ 11) }
+{
+    let Some(a) = n else {
+        return 0;
+    };
+    let before = load(inst, loads, a, k);
+    minus(overload(inst, a, k, before + more), overload(inst, a, k, before))
 }
