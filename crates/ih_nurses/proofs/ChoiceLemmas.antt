@@ -22,7 +22,7 @@ use Rattle.ih_plan.proofs.Loads.{room_load}
 use Rattle.ih_plan.proofs.SumBounds.{sum_below-add}
 use Rattle.ih_plan.proofs.SumLemmas.{sum_below-same, sum_by-which_below}
 use Rattle.ih_nurses.specs.Choice.{excess_of, seen_by, rise_by_choice}
-use Rattle.ih_nurses.specs.Loads.{AreLoads, excess_rise}
+use Rattle.ih_nurses.specs.Loads.{AreLoads, load_at, excess_rise}
 use Rattle.ih_nurses.specs.Stretches.{IsStretch, nurses_over, newly_seen_of, stretch_in}
 use Rattle.ih_nurses.proofs.CareLemmas.{load-moves}
 use Rattle.ih_nurses.proofs.DifferenceLemmas.{apart-same}
@@ -61,6 +61,15 @@ module _ (I : Draft) (P : Timetable) (r : RoomNo) (k : Shift) (new : Option Nurs
       let before = if-other (care_of P r.0 k.0) a.0 (room_load I P k.0 r.0) (λ e. other (e ∙ sym mine)) in
       let after : (if is_number (number new) a.0 then room_load I P k.0 r.0 else 0) ≡ room_load I P k.0 r.0 = rw mine (if-own a.0 (room_load I P k.0 r.0)) in
       omega (arith, moves, before, after)
+
+  -- the table has the room's load for the nurse whose shift it is
+  pub load-there : (loads : List ℕ) (prev : Option NurseNo) (work : ℕ) → AreLoads I P loads → prev ≡ choice_of P r.0 k.0 → IfSome prev (λ a. a.0 < nurse_count I)
+      → work ≡ room_load I P k.0 r.0 → IfSome prev (λ a. work ≤ load_at I loads a.0 k.0)
+  load-there loads None work known is nurse total = tt
+  load-there loads (Some a) work known is nurse total =
+      let gone = load-gone a (sym is) in
+      let table = known.each a.0 k.0 nurse shift in
+      omega (arith, gone, table, total)
 
 -- what is told from the table is the rise of the part
 excess-told : (I : Draft) (P Q : Timetable) (k : ℕ) (loads : List ℕ) (o : Option NurseNo) (after : ℕ → ℕ) → AreLoads I P loads → k < shift_count I

@@ -119,17 +119,17 @@ pub met-first : (P : Timetable) (s : Stretch) (k : ℕ) (o : Option NurseNo) →
 met-first P s k None = refl
 met-first P s k (Some a) = refl
 
-pub met-more : (P : Timetable) (s : Stretch) (k : ℕ) (o : Option NurseNo) (j : ℕ) (m : Bool)
-    → IfSome o (λ a. m ≡ (not (s.from + j == k) && is_number (care_of P s.room.0 (s.from + j)) a.0))
+pub met-more : (P : Timetable) (s : Stretch) (k : ℕ) (o : Option NurseNo) (j : ℕ) (n : Option NurseNo) (m : Bool) → n ≡ choice_of P s.room.0 (s.from + j)
+    → IfSome o (λ a. m ≡ (not (s.from + j == k) && is_number (option_map (λ (b : NurseNo). b.0) n) a.0))
     → is_met P s k o (j + 1) ≡ (is_met P s k o j || m)
-met-more P s k None j m e = refl
-met-more P s k (Some a) j m e =
+met-more P s k None j n m is e = refl
+met-more P s k (Some a) j n m is e =
     any-more (λ i. not (i == k) && is_number (care_of P s.room.0 i) a.0) s.from j
-    ∙ ap (λ b. is_met P s k (Some a) j || b) (sym e)
+    ∙ ap (λ b. is_met P s k (Some a) j || b) (sym (e ∙ rw is refl))
 
-pub met-all : (P : Timetable) (s : Stretch) (k : ℕ) (o : Option NurseNo) → bit (not (is_met P s k o s.len)) ≡ fresh (has_other P s k) o
-met-all P s k None = refl
-met-all P s k (Some a) = refl
+pub met-all : (P : Timetable) (s : Stretch) (k : ℕ) (o : Option NurseNo) (j : ℕ) → j ≡ s.len → bit (not (is_met P s k o j)) ≡ fresh (has_other P s k) o
+met-all P s k None j all = refl
+met-all P s k (Some a) j all = rw all refl
 
 -- ---- the nurses of a stretch
 
@@ -151,6 +151,15 @@ newly-within P s r k (Some a) h = rw h refl
 pub newly-outside : (P : Timetable) (s : Stretch) (r k : ℕ) (o : Option NurseNo) → has_shift s r k ≡ false → newly_seen P (Some s) r k o ≡ 0
 newly-outside P s r k None h = refl
 newly-outside P s r k (Some a) h = rw h refl
+
+pub newly-small : (P : Timetable) (s : Option Stretch) (r k : ℕ) (o : Option NurseNo) → newly_seen P s r k o ≤ 1
+newly-small P None r k o = omega arith
+newly-small P (Some s) r k None = omega arith
+newly-small P (Some s) r k (Some a) = bit-small (has_shift s r k && not (has_other P s k a.0))
+  where
+    bit-small : (b : Bool) → bit b ≤ 1
+    bit-small true = omega arith
+    bit-small false = omega arith
 
 module _ (I : Draft) (P : Timetable) (r : RoomNo) (k : Shift) (new : Option NurseNo) (plan : IsPlanOf I P) (room : r.0 < room_count I) (shift : k.0 < shift_count I)
     (nurse : IfSome new (λ a. a.0 < nurse_count I)) where
