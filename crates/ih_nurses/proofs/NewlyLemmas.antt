@@ -93,7 +93,7 @@ or-all : (b : Bool) → (b || true) ≡ true
 or-all true = refl
 or-all false = refl
 
-bit-not : (b : Bool) → bit b + bit (not b) ≡ 1
+pub bit-not : (b : Bool) → bit b + bit (not b) ≡ 1
 bit-not true = refl
 bit-not false = refl
 

@@ -1,6 +1,6 @@
 -- Marks on the nurses met so far, and how many they are.
 use Rattle.std.proofs.Common.{◌≡◌, ℕ, zero, suc, ◌+◌, ◌<◌, ◌≤◌, refl, arith, sym, ap, ◌∙◌, Bool, true, false, List, length, replicate, map}
-use Rattle.std.specs.Prelude.{◌||◌, slice_set}
+use Rattle.std.specs.Prelude.{◌||◌, not, slice_set}
 use Rattle.std.specs.List.{list_any, range_with_len}
 use Rattle.std.proofs.lemmas.List.{get_or-set_other, get_or-set_same}
 use Rattle.std.proofs.Math.ListN.{length-replicate}
@@ -13,21 +13,21 @@ use Rattle.ih_plan.proofs.SumLemmas.{sum_below-but, sum_below-same}
 use Rattle.ih_plan.proofs.SumBounds.{sum_below-none}
 use Rattle.ih_plan.proofs.ListSteps.{any_range-zero, any_range-more}
 use Rattle.ih_nurses.specs.Marks.{is_marked}
+use Rattle.ih_nurses.proofs.NewlyLemmas.{bit-not}
 
 unmarked : (n i : ℕ) → is_marked (replicate n false) i ≡ false
 unmarked zero i = refl
 unmarked (suc n) zero = refl
 unmarked (suc n) (suc i) = unmarked n i
 
--- a new mark counts one more
-pub count-new : (m a : ℕ) (marks : List Bool) → a < m → a < length marks → is_marked marks a ≡ false
-    → count_below m (is_marked (slice_set marks a true)) ≡ count_below m (is_marked marks) + 1
-count-new m a marks h inside free =
+-- a mark counts one more where it is new
+pub count-marked : (m a : ℕ) (marks : List Bool) → a < m → a < length marks
+    → count_below m (is_marked (slice_set marks a true)) ≡ count_below m (is_marked marks) + bit (not (is_marked marks a))
+count-marked m a marks h inside =
     let change = sum_below-but m a (λ i. bit (is_marked (slice_set marks a true) i)) (λ i. bit (is_marked marks i)) h
     (λ i ih ne. ap bit (get_or-set_other marks a i true false ne)) in
-    let before : bit (is_marked marks a) ≡ 0 = rw free refl in
     let after : bit (is_marked (slice_set marks a true) a) ≡ 1 = ap bit (get_or-set_same marks a true false inside) in
-    omega (arith, change, before, after)
+    omega (arith, change, after, bit-not (is_marked marks a))
 
 -- the nurses of room r in the j shifts from the first on are marked and counted
 pub record AreSeen (I : Draft) (P : Timetable) (r from j : ℕ) (seen : List Bool) (count : ℕ) : Type 0 where

@@ -1,5 +1,5 @@
 -- The counted shifts of a stay in its room, and the nurses who have them.
-use Rattle.std.specs.Prelude.{ℕ, ◌+◌, ◌-◌, ◌*◌, ◌<◌, ◌≤◌, ◌==◌, ◌&&◌, not, min, Bool, false, List, [], Option, Some, None, map}
+use Rattle.std.specs.Prelude.{ℕ, ◌+◌, ◌-◌, ◌*◌, ◌<◌, ◌≤◌, ◌==◌, ◌&&◌, not, min, Bool, List, [], Option, Some, None, map}
 use Rattle.std.specs.List.{list_any, range_with_len}
 use Rattle.ih_tables.specs.declared.drafts.Draft.{Draft}
 use Rattle.ih_tables.specs.declared.ids.NurseNo.{NurseNo}

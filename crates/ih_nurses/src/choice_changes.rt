@@ -56,13 +56,7 @@ impl Nurses {
     /// What another choice of nurse, or none, for a room's shift would change in the workload above the maximum of the
     /// two nurses: the one whose shift it is and the one whose it would be.
     #[inline(always)]
-    pub fn loads_change(
-        &self,
-        inst: &Instance,
-        r: RoomNo,
-        k: Shift,
-        new: Option<NurseNo>,
-    ) -> i64
+    pub fn loads_change(&self, inst: &Instance, r: RoomNo, k: Shift, new: Option<NurseNo>) -> i64
         requires room { r.0 < room_count inst.now.draft }
         requires shift { k.0 < shift_count inst.now.draft }
         requires nurse { (a : NurseNo) → new ≡ Some a → a.0 < nurse_count inst.now.draft }
@@ -80,13 +74,7 @@ impl Nurses {
     /// What another choice of nurse, or none, for a room's shift would change in the care of the persons there: the
     /// distinct nurses of each, added up.
     #[inline(always)]
-    pub fn cares_change(
-        &self,
-        inst: &Instance,
-        r: RoomNo,
-        k: Shift,
-        new: Option<NurseNo>,
-    ) -> i64
+    pub fn cares_change(&self, inst: &Instance, r: RoomNo, k: Shift, new: Option<NurseNo>) -> i64
         requires room { r.0 < room_count inst.now.draft }
         requires shift { k.0 < shift_count inst.now.draft }
         requires nurse { (a : NurseNo) → new ≡ Some a → a.0 < nurse_count inst.now.draft }

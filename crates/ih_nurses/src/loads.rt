@@ -123,7 +123,10 @@ pub fn relief(inst: &Instance, loads: &[u32], n: Option<NurseNo>, k: Shift, less
         return 0;
     };
     let before = load(inst, loads, a, k);
-    minus(overload(inst, a, k, before - less), overload(inst, a, k, before))
+    minus(
+        overload(inst, a, k, before - less),
+        overload(inst, a, k, before),
+    )
 }
 
 /// What a load more changes in the workload above its maximum of a nurse, where there is one.
@@ -141,5 +144,8 @@ pub fn burden(inst: &Instance, loads: &[u32], n: Option<NurseNo>, k: Shift, more
         return 0;
     };
     let before = load(inst, loads, a, k);
-    minus(overload(inst, a, k, before + more), overload(inst, a, k, before))
+    minus(
+        overload(inst, a, k, before + more),
+        overload(inst, a, k, before),
+    )
 }

@@ -15,6 +15,14 @@ use crate::stretches::Stretch;
 use ih_plan::Plan;
 use ih_tables::{Instance, NurseNo, RoomNo, Shift};
 
+// 1 where it wasn't met, and 0 where it was.
+#[inline(always)]
+fn unmet(met: bool) -> u32
+    ensures { result ≡ bit (not met) }
+{
+    if met { 0 } else { 1 }
+}
+
 // Marks a nurse, where there is one, and tells how many are new: 1 or 0.
 fn meet(seen: &mut [bool], n: Option<NurseNo>) -> u32
     requires { IfSome n (λ a. a.0 < length seen.old) }
@@ -28,7 +36,7 @@ fn meet(seen: &mut [bool], n: Option<NurseNo>) -> u32
         Some(a) => {
             let met = seen[a.0 as usize];
             seen[a.0 as usize] = true;
-            if met { 0 } else { 1 }
+            unmet(met)
         }
     }
 }
@@ -69,21 +77,12 @@ fn meets(n: Option<NurseNo>, l: u32, k: Shift, choice: Option<NurseNo>) -> bool
     l != k.0 && is_same_nurse(n, choice)
 }
 
-// 1 where nothing was met, and 0 where something was.
-#[inline(always)]
-fn unmet(met: bool) -> u32
-    ensures { result ≡ bit (not met) }
-{
-    if met { 0 } else { 1 }
-}
-
 // Whether the shifts of a stay have this one.
 #[inline(always)]
 fn has_shift(inst: &Instance, s: Stretch, r: RoomNo, k: Shift) -> bool
     requires stretch { IsStretch inst.now.draft s }
     ensures { result ≡ has_shift s r.0 k.0 }
 {
-    let _shifts = inst.shifts();
     s.room.0 == r.0 && (s.from <= k.0 && k.0 < s.from + s.len)
 }
 
