@@ -8,7 +8,7 @@ use Rattle.ih_tables.specs.declared.ids.PersonNo.{PersonNo}
 use Rattle.ih_tables.specs.declared.ids.Shift.{Shift}
 use Rattle.ih_tables.specs.declared.bills.Bill.{Bill}
 use Rattle.ih_tables.specs.declared.cells.Cell.TheVariants.{NurseShift, Care}
-use Rattle.ih_tables.specs.Bills.{sub_bills, zero_bill}
+use Rattle.ih_tables.specs.Bills.{sub_bills}
 use Rattle.ih_tables.specs.Works.{max_load}
 use Rattle.ih_plan.specs.Timetable.{Timetable}
 use Rattle.ih_plan.specs.Presence.{admission_of}
@@ -62,13 +62,6 @@ less-same a b x y e =
     let s = apart-same a.nurses_seen b.nurses_seen x.nurses_seen y.nurses_seen e.nurses_seen in
     let v = apart-same a.overload b.overload x.overload y.overload e.overload in
     rw (o, u, m, s, v) refl
-
-nothing-more : (n : ℕ) → pos n -ℤ pos n ≡ pos 0
-nothing-more n = omega (arith, ints)
-
--- costs less themselves are nothing
-pub less-none : (a : NursingCosts) → zero_bill ≡ less a a
-less-none a = rw (nothing-more a.off, nothing-more a.uncovered, nothing-more a.missing_skill, nothing-more a.nurses_seen, nothing-more a.overload) refl
 
 -- the costs of overload alone, and of distinct nurses alone
 abbrev pub overloaded : ℕ → NursingCosts

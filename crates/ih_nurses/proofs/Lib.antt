@@ -18,3 +18,4 @@ pub mod GivenLemmas
 pub mod NewlyLemmas
 pub mod RoomChangeLemmas
 pub mod ChoiceLemmas
+pub mod PlacedLemmas

@@ -1,6 +1,6 @@
 -- What another stay of one patient makes of the persons in a room, and of the skill that they lack.
 use Rattle.std.proofs.Common.{◌≡◌, ℕ, ◌+◌, ◌-◌, ◌<◌, refl, arith, sym, ap, Bool, true, false, inl, inr, List, [], ◌∷◌, length, map, Option, Some, None}
-use Rattle.std.specs.Prelude.{◌||◌, ◌==◌, not, if◌then◌else◌, sum_by}
+use Rattle.std.specs.Prelude.{◌||◌, ◌==◌, not, if◌then◌else◌, sum_by, slice_index, option_map}
 use Rattle.std.proofs.lemmas.Bool.{cases_eq, eq-eqb, ne_eqb}
 use Rattle.std.proofs.lemmas.List.Sums.{sum_by-cons}
 use Rattle.ih_tables.specs.declared.drafts.Draft.{Draft}
@@ -12,14 +12,32 @@ use Rattle.ih_plan.specs.declared.moves.Placement.{Placement}
 use Rattle.ih_plan.specs.declared.moves.Write.TheVariants.{SetStay}
 use Rattle.ih_plan.specs.Timetable.{Timetable, stay_of, care_of}
 use Rattle.ih_plan.specs.Writes.{put}
-use Rattle.ih_plan.specs.Presence.{admission_of, is_present, present, day_of, entry_of, skill_of}
+use Rattle.ih_plan.specs.Persons.{person_of}
+use Rattle.ih_plan.specs.Presence.{admission_of, placed_at, is_in, is_present, present, day_of, entry_in, entry_of, skill_of}
 use Rattle.ih_plan.specs.Costs.{is_empty, skill_missing, skill_level}
 use Rattle.ih_plan.specs.Sums.{bit}
 use Rattle.ih_plan.proofs.SumLemmas.{sum_below-but, sum_by-which_below}
 use Rattle.ih_plan.proofs.Entries.{admission-patient, admission-same, stay_of-other}
-use Rattle.ih_nurses.specs.Own.{is_housed, own_skill_above, own_missing}
 use Rattle.ih_nurses.proofs.WalkLemmas.{sum-even}
 use Rattle.ih_nurses.proofs.RoomLemmas.{AreAlike, sum-values}
+
+-- ---- what one patient's stay gives to a room in a shift
+
+-- by the stay, patient p is in room r in shift k
+abbrev pub is_housed : Draft → ℕ → Option Placement → ℕ → ℕ → Bool
+is_housed I p stay r k = is_in (option_map placed_at stay) (person_of I p).length_of_stay r (day_of k)
+
+-- the skill above a level that patient p requires there in shift k
+abbrev pub own_skill_above : Draft → ℕ → Option Placement → ℕ → ℕ → ℕ → ℕ
+own_skill_above I p stay r k level =
+    if is_housed I p stay r k then slice_index (person_of I p).skill (entry_in (option_map placed_at stay) k) - level else 0
+
+-- the skill above the nurse's, and none where there is no nurse
+abbrev pub own_missing : Draft → ℕ → Option Placement → ℕ → ℕ → Option ℕ → ℕ
+own_missing I p stay r k None = 0
+own_missing I p stay r k (Some n) = own_skill_above I p stay r k (skill_level I n)
+
+-- ---- another stay
 
 -- Q is P but for the stay of patient p.
 pub record IsElse (I : Draft) (P Q : Timetable) (p : ℕ) : Type 0 where

@@ -34,7 +34,7 @@ empty-same [] (y ∷ ys) e = absurd (omega (arith, e))
 empty-same (x ∷ xs) [] e = absurd (omega (arith, e))
 empty-same (x ∷ xs) (y ∷ ys) e = refl
 
-empty-tagged : {A : Type 0} (f : ℕ → A) (xs : List ℕ) → is_empty (tagged f xs) ≡ is_empty xs
+pub empty-tagged : {A : Type 0} (f : ℕ → A) (xs : List ℕ) → is_empty (tagged f xs) ≡ is_empty xs
 empty-tagged f [] = refl
 empty-tagged f (x ∷ xs) = refl
 

@@ -11,11 +11,11 @@ use Rattle.ih_tables.specs.Sizes.{patient_count, nurse_count}
 use Rattle.ih_plan.specs.declared.moves.Placement.{Placement}
 use Rattle.ih_plan.specs.declared.moves.Write.TheVariants.{SetStay, SetCare}
 use Rattle.ih_plan.specs.Writes.{put}
-use Rattle.ih_plan.proofs.Entries.{admission-patient, admission-set}
+use Rattle.ih_plan.proofs.Entries.{admission-set}
 use Rattle.ih_plan.proofs.SumBounds.{sum_below-none}
 use Rattle.ih_nurses.specs.declared.stretches.Stretch.{Stretch}
 use Rattle.ih_tables.specs.declared.cells.Cell.TheVariants.{Care}
-use Rattle.ih_plan.specs.Timetable.{Timetable, IsPlanOf, stay_of}
+use Rattle.ih_plan.specs.Timetable.{Timetable, IsPlanOf}
 use Rattle.ih_plan.specs.Persons.{person_of}
 use Rattle.ih_plan.specs.Presence.{Admission, placed_at, admission_of, shifts_in, shifts_of}
 use Rattle.ih_plan.specs.Costs.{nurse_for, distinct_nurses}
@@ -41,21 +41,6 @@ stretch-part I P x seen e =
 nurses-kept : (P : Timetable) (p : PatientNo) (s : Option Placement) (o : Option Stretch) → nurses_over (put (SetStay p s) P) o ≡ nurses_over P o
 nurses-kept P p s None = refl
 nurses-kept P p s (Some a) = refl
-
--- another stay has its own nurses
-pub care-moves : (I : Draft) (P : Timetable) (p : PatientNo) (new : Option Placement) → IsPlanOf I P → p.0 < patient_count I → (after before : ℕ)
-    → after ≡ distinct_nurses I (nurses_over P (stretch_in I (option_map placed_at new) (person_of I p.0).length_of_stay))
-    → before ≡ distinct_nurses I (nurses_over P (stretch_in I (option_map placed_at (stay_of P p.0)) (person_of I p.0).length_of_stay))
-    → after + distinct_nurses I (nurses_over P (stretch_in I (admission_of I P p.0) (person_of I p.0).length_of_stay))
-    ≡ distinct_nurses I (nurses_over (put (SetStay p new) P) (stretch_in I (admission_of I (put (SetStay p new) P) p.0) (person_of I p.0).length_of_stay)) + before
-care-moves I P p new plan patient after before e f =
-    let n = (person_of I p.0).length_of_stay in
-    let now : distinct_nurses I (nurses_over (put (SetStay p new) P) (stretch_in I (admission_of I (put (SetStay p new) P) p.0) n)) ≡ distinct_nurses I (nurses_over P (stretch_in I (option_map placed_at new) n)) =
-    ap (λ a. distinct_nurses I (nurses_over (put (SetStay p new) P) (stretch_in I a n))) (admission-set I P p new plan patient)
-    ∙ ap (distinct_nurses I) (nurses-kept P p new (stretch_in I (option_map placed_at new) n)) in
-    let then : distinct_nurses I (nurses_over P (stretch_in I (admission_of I P p.0) n)) ≡ distinct_nurses I (nurses_over P (stretch_in I (option_map placed_at (stay_of P p.0)) n)) =
-    ap (λ a. distinct_nurses I (nurses_over P (stretch_in I a n))) (admission-patient I P p.0 patient) in
-    omega (arith, e, f, now, then)
 
 -- who isn't admitted sees no nurses, and with a placement the patient sees those of its stretch
 pub care-gain : (I : Draft) (P : Timetable) (p : PatientNo) (at : Placement) → IsPlanOf I P → p.0 < patient_count I → (seen : ℕ)

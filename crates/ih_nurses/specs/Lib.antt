@@ -2,6 +2,6 @@ pub mod Here
 pub mod Loads
 pub mod Ledger
 pub mod Marks
-pub mod Own
 pub mod Stretches
 pub mod Choice
+pub mod Gains

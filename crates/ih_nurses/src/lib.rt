@@ -12,8 +12,10 @@ mod persons;
 mod presence;
 mod rooms;
 mod seen;
+mod shift_gains;
 mod start;
 mod stays;
 mod stretches;
 
 pub use nurses::Nurses;
+pub use shift_gains::ShiftGain;

@@ -1,0 +1,44 @@
+use Rattle.std.proofs.Common.{◌≡◌, ◌∙◌, ◌-◌, refl, arith, ap, subst, pos, Some}
+use Rattle.ih_plan.specs.Timetable.{Timetable, stay_of, care_of}
+use Rattle.ih_nurses.specs.Loads.{load_at, given}
+use Rattle.ih_nurses.specs.Gains.{overload_in, rise_by_placement}
+use Rattle.ih_nurses.proofs.AdmitLemmas.{load-most}
+use Rattle.ih_nurses.proofs.GivenLemmas.{load-has}
+use Rattle.ih_nurses.proofs.PlacedLemmas.{load-rises, overload-rises}
+use Rattle.ih_nurses.proofs.LedgerLemmas.{stands-own}
+use Rattle.ih_nurses.proofs.nurses.Nurses.load_gain.Goals as goal
+
+pub overflow_sub-without : goal.overflow_sub-without
+overflow_sub-without c =
+    let own = stands-own c.requires.stands.1 in
+    let I = c.args.inst.now.draft in
+    let plan = c.args.self.now.plan in
+    let n = c.args.n.0 in
+    let k = c.args.k.0 in
+    let all = c.load-all.ensures ∙ (ap (λ ls. load_at I ls n k) c.as_slice.ensures.value ∙ own.loads_are.each n k c.requires.nurse c.requires.shift) in
+    let gone : c.given-gone.result ≡ given I plan c.args.p.0 (stay_of plan c.args.p.0) n k = c.given-gone.ensures.value ∙ rw c.stay.ensures refl in
+    omega (arith, all, gone, load-has I plan c.args.p own.fits c.requires.patient n k)
+
+pub overflow_add-with : goal.overflow_add-with
+overflow_add-with c =
+    let own = stands-own c.requires.stands.1 in
+    let I = c.args.inst.now.draft in
+    let n = c.args.n.0 in
+    let k = c.args.k.0 in
+    let all = c.load-all.ensures ∙ (ap (λ ls. load_at I ls n k) c.as_slice.ensures.value ∙ own.loads_are.each n k c.requires.nurse c.requires.shift) in
+    omega (arith, all, c.workload.ensures.bound, load-most I c.args.self.now.plan n k c.args.inst.now.valid)
+
+pub returns : goal.returns
+returns c = λ P known.
+    let I = c.args.inst.now.draft in
+    let plan = c.args.self.now.plan in
+    let p = c.args.p in
+    let n = c.args.n in
+    let k = c.args.k in
+    let own = stands-own known in
+    let nurse : care_of plan c.args.at.room.0 k.0 ≡ Some n.0 = ap (λ (S : Timetable). care_of S c.args.at.room.0 k.0) c.requires.stands.1.plan_is ∙ c.requires.stands.2 in
+    let all = c.load-all.ensures ∙ (ap (λ ls. load_at I ls n.0 k.0) c.as_slice.ensures.value ∙ own.loads_are.each n.0 k.0 c.requires.nurse c.requires.shift) in
+    let gone : c.given-gone.result ≡ given I plan p.0 (stay_of plan p.0) n.0 k.0 = c.given-gone.ensures.value ∙ rw c.stay.ensures refl in
+    let rise = load-rises I plan k p c.args.at own.fits c.requires.patient c.requires.counted c.requires.placement n nurse c.load-all.result c.given-gone.result c.workload.result all gone c.workload.ensures.value in
+    subst (λ (S : Timetable). pos (c.overload.result - c.overload-2.result) ≡ rise_by_placement S p c.args.at (λ Q. overload_in I Q n k)) known.plan_is
+    (overload-rises I plan n k p c.args.at c.load-all.result c.given-gone.result c.workload.result c.overload.result c.overload-2.result rise c.overload.ensures c.overload-2.ensures)

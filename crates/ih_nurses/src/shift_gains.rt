@@ -1,0 +1,109 @@
+//! What a placement of a patient makes its room and that room's nurse cost more in one shift.
+
+ghost use Rattle.std.specs.Prelude.{◌≡◌, ◌<◌, ◌-◌, ◌*◌, pos, true, Some, slice_index};
+ghost use Rattle.ih_tables.specs.Sizes.{patient_count, room_count, shift_count, nurse_count};
+ghost use Rattle.ih_links.specs.Lists.{without};
+ghost use Rattle.ih_plan.specs.Timetable.{Timetable, IsPlacement, care_of};
+ghost use Rattle.ih_plan.specs.Persons.{person_of};
+ghost use Rattle.ih_plan.specs.Presence.{covers, day_of, present};
+ghost use Rattle.ih_plan.specs.Costs.{is_empty, skill_level};
+ghost use Rattle.ih_plan.specs.Sums.{bit};
+ghost use Rattle.ih_nurses.specs.Ledger.{IsLedgerOf};
+ghost use Rattle.ih_nurses.specs.Gains.{uncovered_in, missing_in, overload_in, excess_in, rise_by_placement};
+
+use crate::Nurses;
+use crate::choices::nurse_at;
+use crate::loads::{load, overload};
+use crate::own::{given, skill};
+use crate::rooms::has_others;
+use crate::stays::workload;
+use ih_plan::Placement;
+use ih_tables::{Instance, NurseNo, PatientNo, RoomNo, Shift};
+
+/// What a shift of a placement's room costs more with the patient there than without.
+#[derive(Clone, Copy)]
+pub struct ShiftGain {
+    /// 1 where the room has no nurse, and nobody but the patient, and 0 where not.
+    pub alone: u32,
+    /// The skill above the nurse's that the patient requires.
+    pub skill: u32,
+    /// The workload above the nurse's maximum that comes with the patient.
+    pub load: u32,
+}
+
+// The skill above the nurse's that the patient requires in a shift of the placement.
+#[inline(always)]
+fn skill_gain(inst: &Instance, n: NurseNo, k: Shift, p: PatientNo, at: Placement) -> u32
+    requires nurse { n.0 < nurse_count inst.now.draft }
+    requires patient { p.0 < patient_count inst.now.draft }
+    requires counted { covers at.day.0 (person_of inst.now.draft p.0).length_of_stay (day_of k.0) ≡ true }
+    ensures { result ≡ slice_index (person_of inst.now.draft p.0).skill (k.0 - 3 * at.day.0) - skill_level inst.now.draft n.0 }
+{
+    skill(inst, p, at, k).saturating_sub(inst.nurse(n).skill_level)
+}
+
+impl Nurses {
+    // 1 where nobody but the patient is in the room, and 0 where not.
+    #[inline(always)]
+    fn alone_gain(&self, inst: &Instance, r: RoomNo, k: Shift, p: PatientNo) -> u32
+        requires room { r.0 < room_count inst.now.draft }
+        requires shift { k.0 < shift_count inst.now.draft }
+        requires stands { (P : Timetable) × IsLedgerOf inst.now.draft P self.now }
+        ensures { (P : Timetable) → IsLedgerOf inst.now.draft P self.now
+            → result ≡ bit (is_empty (without p.0 (present inst.now.draft P r.0 (day_of k.0)))) }
+    {
+        if has_others(&self.here[(k.0 / 3) as usize], r, p.0) {
+            0
+        } else {
+            1
+        }
+    }
+
+    // The workload above the maximum that comes with the patient to the nurse who has the room in the shift.
+    #[inline(always)]
+    fn load_gain(&self, inst: &Instance, n: NurseNo, k: Shift, p: PatientNo, at: Placement) -> u32
+        requires nurse { n.0 < nurse_count inst.now.draft }
+        requires shift { k.0 < shift_count inst.now.draft }
+        requires patient { p.0 < patient_count inst.now.draft }
+        requires placement { IsPlacement inst.now.draft at }
+        requires counted { covers at.day.0 (person_of inst.now.draft p.0).length_of_stay (day_of k.0) ≡ true }
+        requires stands { (P : Timetable) × IsLedgerOf inst.now.draft P self.now × (care_of P at.room.0 k.0 ≡ Some n.0) }
+        ensures { (P : Timetable) → IsLedgerOf inst.now.draft P self.now
+            → pos result ≡ rise_by_placement P p at (λ Q. overload_in inst.now.draft Q n k) }
+    {
+        let all = load(inst, self.loads.as_slice(), n, k);
+        let gone = given(inst, &self.plan, p, self.plan.stay(p), n, k);
+        let without = all - gone;
+        let with = without + workload(inst, p, at, k.0);
+        overload(inst, n, k, with) - overload(inst, n, k, without)
+    }
+
+    /// What a shift of a placement's room costs more with the patient there than without.
+    #[inline(always)]
+    pub fn shift_gain(&self, inst: &Instance, k: Shift, p: PatientNo, at: Placement) -> ShiftGain
+        requires shift { k.0 < shift_count inst.now.draft }
+        requires patient { p.0 < patient_count inst.now.draft }
+        requires placement { IsPlacement inst.now.draft at }
+        requires counted { covers at.day.0 (person_of inst.now.draft p.0).length_of_stay (day_of k.0) ≡ true }
+        requires stands { (P : Timetable) × IsLedgerOf inst.now.draft P self.now }
+        ensures alone { (P : Timetable) → IsLedgerOf inst.now.draft P self.now
+            → pos result.alone ≡ rise_by_placement P p at (λ Q. uncovered_in inst.now.draft Q at.room k) }
+        ensures skill { (P : Timetable) → IsLedgerOf inst.now.draft P self.now
+            → pos result.skill ≡ rise_by_placement P p at (λ Q. missing_in inst.now.draft Q at.room k) }
+        ensures load { (P : Timetable) → IsLedgerOf inst.now.draft P self.now
+            → pos result.load ≡ rise_by_placement P p at (λ Q. excess_in inst.now.draft Q at.room k) }
+    {
+        match nurse_at(inst, &self.plan, at.room, k) {
+            None => ShiftGain {
+                alone: self.alone_gain(inst, at.room, k, p),
+                skill: 0,
+                load: 0,
+            },
+            Some(n) => ShiftGain {
+                alone: 0,
+                skill: skill_gain(inst, n, k, p, at),
+                load: self.load_gain(inst, n, k, p, at),
+            },
+        }
+    }
+}
