@@ -29,14 +29,14 @@ use Rattle.ih_costs.proofs.UndoLemmas.{stay-twice, undone}
 
 -- ---- lists of numbers
 
-counts-same : (a b c d : List ℕ) → a ≡ c → b ≡ d → (let x : Counts = record { v = a; s = b } in let y : Counts = record { v = c; s = d } in x ≡ y)
+pub counts-same : (a b c d : List ℕ) → a ≡ c → b ≡ d → (let x : Counts = record { v = a; s = b } in let y : Counts = record { v = c; s = d } in x ≡ y)
 counts-same a b c d e f = rw (e, f) refl
 
-nine : (f : ℕ → ℕ) (a b c d e h i j k : ℕ) → f 0 ≡ a → f 1 ≡ b → f 2 ≡ c → f 3 ≡ d → f 4 ≡ e → f 5 ≡ h → f 6 ≡ i → f 7 ≡ j → f 8 ≡ k
+pub nine : (f : ℕ → ℕ) (a b c d e h i j k : ℕ) → f 0 ≡ a → f 1 ≡ b → f 2 ≡ c → f 3 ≡ d → f 4 ≡ e → f 5 ≡ h → f 6 ≡ i → f 7 ≡ j → f 8 ≡ k
     → (a ∷ b ∷ c ∷ d ∷ e ∷ h ∷ i ∷ j ∷ k ∷ []) ≡ listed 9 f
 nine f a b c d e h i j k e0 e1 e2 e3 e4 e5 e6 e7 e8 = rw (e0, e1, e2, e3, e4, e5, e6, e7, e8) refl
 
-eight : (f : ℕ → ℕ) (a b c d e h i j : ℕ) → f 0 ≡ a → f 1 ≡ b → f 2 ≡ c → f 3 ≡ d → f 4 ≡ e → f 5 ≡ h → f 6 ≡ i → f 7 ≡ j
+pub eight : (f : ℕ → ℕ) (a b c d e h i j : ℕ) → f 0 ≡ a → f 1 ≡ b → f 2 ≡ c → f 3 ≡ d → f 4 ≡ e → f 5 ≡ h → f 6 ≡ i → f 7 ≡ j
     → (a ∷ b ∷ c ∷ d ∷ e ∷ h ∷ i ∷ j ∷ []) ≡ listed 8 f
 eight f a b c d e h i j e0 e1 e2 e3 e4 e5 e6 e7 = rw (e0, e1, e2, e3, e4, e5, e6, e7) refl
 

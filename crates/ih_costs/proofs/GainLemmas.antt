@@ -49,7 +49,7 @@ day_behind b k h = omega arith
 day_within : (days k : ℕ) → k < 3 * days → day_of k < days
 day_within days k h = omega arith
 
-apart_from : (a b : ℕ) → (b ≡ a → ⊥) → (a == b) ≡ false
+pub apart_from : (a b : ℕ) → (b ≡ a → ⊥) → (a == b) ≡ false
 apart_from a b ne = ne_eqb a b (λ e. ne (sym e))
 
 -- a patient's surgeon is one of the instance's

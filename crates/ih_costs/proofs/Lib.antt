@@ -5,6 +5,8 @@ pub mod StandLemmas
 pub mod TouchLemmas
 pub mod ChangeLemmas
 pub mod ChangeSums
+pub mod ChoiceLemmas
+pub mod ChoiceBills
 pub mod Occupied
 pub mod SpanSums
 pub mod GainLemmas

@@ -1,8 +1,11 @@
--- Sums that agree but in a span: in one row of rows and columns, and at one place a column.
-use Rattle.std.proofs.Common.{◌≡◌, ℕ, ◌+◌, ◌-◌, ◌<◌, ◌≤◌, arith, ap, sym, ◌∙◌}
-use Rattle.ih_plan.specs.Sums.{sum_below}
+-- Sums that agree but in a span, at some places, or in some of rows and columns.
+use Rattle.std.proofs.Common.{◌≡◌, ℕ, ◌+◌, ◌-◌, ◌<◌, ◌≤◌, refl, arith, ap, sym, ◌∙◌, inl, inr, Bool, true, false, Option, Some, None}
+use Rattle.std.specs.Prelude.{◌==◌, sum_by, if◌then◌else◌}
+use Rattle.std.proofs.lemmas.Bool.{cases_eq, eq-eqb, ne_eqb}
+use Rattle.ih_plan.specs.Costs.{is_number}
+use Rattle.ih_plan.specs.Sums.{sum_below, which_below}
 use Rattle.ih_plan.proofs.Ranges.{sum_below-append}
-use Rattle.ih_plan.proofs.SumLemmas.{sum_below-same, sum_below-but, sum_below-more, sum_below-zero}
+use Rattle.ih_plan.proofs.SumLemmas.{sum_below-same, sum_below-but, sum_below-more, sum_below-zero, sum_by-which_below}
 use Rattle.ih_plan.proofs.SumBounds.{sum_below-add, sum_below-none, sum_below-swap}
 use Rattle.ih_costs.specs.StayGain.{span_sum}
 
@@ -59,7 +62,66 @@ span-balance a b f g u v e =
     ∙ (sum_below-same (b - a) (λ i. f (a + i) + v (a + i)) (λ i. g (a + i) + u (a + i)) (λ i h. e (a + i) (omega arith) (omega arith))
     ∙ sum_below-add (b - a) (λ i. g (a + i)) (λ i. u (a + i)))
 
+-- ---- some places
+
+-- sums that agree but at two places
+sum_below-but_two : (n a b : ℕ) (f g : ℕ → ℕ) → a < n → b < n → (a ≡ b → ⊥) → ((i : ℕ) → i < n → (i ≡ a → ⊥) → (i ≡ b → ⊥) → f i ≡ g i)
+    → sum_below n f + (g a + g b) ≡ sum_below n g + (f a + f b)
+sum_below-but_two n a b f g ha hb ne e =
+    let mid = λ (i : ℕ). if i == b then g i else f i in
+    let at_b : mid b ≡ g b = rw (eq-eqb b b refl) refl in
+    let at_a : mid a ≡ f a = rw (ne_eqb a b ne) refl in
+    let one = sum_below-but n b f mid hb (λ i h other. rw (ne_eqb i b other) refl) in
+    let two = sum_below-but n a mid g ha (λ i h other. by_case i h other) in
+    omega (arith, one, two, at_a, at_b)
+  where
+    by_case : (i : ℕ) → i < n → (i ≡ a → ⊥) → (if i == b then g i else f i) ≡ g i
+    by_case i h other = elim (cases_eq i b) [
+      | inl same ↦ rw (eq-eqb i b same) refl
+      | inr apart ↦ rw (ne_eqb i b apart) (e i h other apart)
+    ]
+
+-- what a function gives at a place, and nothing at none
+abbrev pub at_place : (ℕ → ℕ) → Option ℕ → ℕ
+at_place f None = 0
+at_place f (Some i) = f i
+
+elsewhere : (a i : ℕ) → (i ≡ a → ⊥) → (a == i) ≡ false
+elsewhere a i other = ne_eqb a i (λ e. other (sym e))
+
+-- Sums that agree but at two places that differ, each of which may be none.
+pub sum_below-but_places : (n : ℕ) (f g : ℕ → ℕ) (a b : Option ℕ) → (a ≡ b → ⊥) → ((i : ℕ) → a ≡ Some i → i < n) → ((i : ℕ) → b ≡ Some i → i < n)
+    → ((i : ℕ) → i < n → is_number a i ≡ false → is_number b i ≡ false → f i ≡ g i)
+    → sum_below n f + (at_place g a + at_place g b) ≡ sum_below n g + (at_place f a + at_place f b)
+sum_below-but_places n f g None None ne ha hb e = absurd (ne refl)
+sum_below-but_places n f g None (Some b) ne ha hb e =
+    let one = sum_below-but n b f g (hb b refl) (λ i h other. e i h refl (elsewhere b i other)) in
+    omega (arith, one)
+sum_below-but_places n f g (Some a) None ne ha hb e =
+    let one = sum_below-but n a f g (ha a refl) (λ i h other. e i h (elsewhere a i other) refl) in
+    omega (arith, one)
+sum_below-but_places n f g (Some a) (Some b) ne ha hb e =
+    sum_below-but_two n a b f g (ha a refl) (hb b refl) (λ same. ne (ap Some same)) (λ i h one two. e i h (elsewhere a i one) (elsewhere b i two))
+
+-- sums that agree where a test doesn't pass
+pub sum_below-passing : (n : ℕ) (f g : ℕ → ℕ) (test : ℕ → Bool) → ((i : ℕ) → i < n → test i ≡ false → f i ≡ g i)
+    → sum_below n f + sum_by g (which_below n test) ≡ sum_below n g + sum_by f (which_below n test)
+sum_below-passing n f g test e =
+    rw (sum_by-which_below f n test, sum_by-which_below g n test)
+    (sym (sum_below-add n f (λ i. if test i then g i else 0))
+    ∙ (sum_below-same n (λ i. f i + (if test i then g i else 0)) (λ i. g i + (if test i then f i else 0)) (λ i h. by_case (test i) (f i) (g i) (e i h))
+    ∙ sum_below-add n g (λ i. if test i then f i else 0)))
+  where
+    by_case : (b : Bool) (x y : ℕ) → (b ≡ false → x ≡ y) → x + (if b then y else 0) ≡ y + (if b then x else 0)
+    by_case true x y same = omega arith
+    by_case false x y same = rw (same refl) refl
+
 -- ---- rows and columns
+
+pub rows-same : (m n : ℕ) (f g : ℕ → ℕ → ℕ) → ((i j : ℕ) → i < m → j < n → f i j ≡ g i j)
+    → sum_below m (λ i. sum_below n (λ j. f i j)) ≡ sum_below m (λ i. sum_below n (λ j. g i j))
+rows-same m n f g e =
+    sum_below-same m (λ i. sum_below n (λ j. f i j)) (λ i. sum_below n (λ j. g i j)) (λ i h. sum_below-same n (λ j. f i j) (λ j. g i j) (λ j l. e i j h l))
 
 -- Sums over rows and columns that agree but in the span of one row.
 pub rows-but_span : (m n r a b : ℕ) (f g : ℕ → ℕ → ℕ) → r < m → a ≤ b → b ≤ n
@@ -83,6 +145,18 @@ rows-but m n r k f g inside within other row =
     (λ i h ne. sum_below-same n (λ j. f i j) (λ j. g i j) (λ j l. other i j h l ne)) in
     let place = sum_below-but n k (λ j. f r j) (λ j. g r j) within row in
     omega (arith, rows, place)
+
+-- Sums over rows and columns that agree but in one column, which balances.
+pub columns-but : (m n k : ℕ) (f g : ℕ → ℕ → ℕ) (u v : ℕ) → k < n
+    → ((i j : ℕ) → i < m → j < n → (j ≡ k → ⊥) → f i j ≡ g i j)
+    → sum_below m (λ i. f i k) + v ≡ sum_below m (λ i. g i k) + u
+    → sum_below m (λ i. sum_below n (λ j. f i j)) + v ≡ sum_below m (λ i. sum_below n (λ j. g i j)) + u
+columns-but m n k f g u v inside other balanced =
+    let of_f = sum_below-swap m n f in
+    let of_g = sum_below-swap m n g in
+    let around = sum_below-but n k (λ j. sum_below m (λ i. f i j)) (λ j. sum_below m (λ i. g i j)) inside
+    (λ j h ne. sum_below-same m (λ i. f i j) (λ i. g i j) (λ i l. other i j l h ne)) in
+    omega (arith, of_f, of_g, around, balanced)
 
 -- Sums over rows and columns that agree outside a span of columns, and balance in each column of it.
 pub columns-but_span : (m n a b : ℕ) (f g : ℕ → ℕ → ℕ) (u v : ℕ → ℕ) → a ≤ b → b ≤ n

@@ -3,6 +3,7 @@
 
 mod cell_ledgers;
 mod changes;
+mod choice_prices;
 mod copies;
 mod gains;
 mod ledgers;

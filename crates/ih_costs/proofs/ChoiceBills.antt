@@ -1,0 +1,108 @@
+-- The law of choices: what another choice of nurse changes in the bill.
+use Rattle.std.proofs.Common.{◌≡◌, ℕ, ◌+◌, refl, arith, ap, sym, ◌∙◌, List, [], ◌∷◌, Option, Some, None}
+use Rattle.std.specs.Prelude.{slice_index, sum_by}
+use Rattle.ih_tables.specs.declared.drafts.Draft.{Draft}
+use Rattle.ih_tables.specs.declared.ids.RoomNo.{RoomNo}
+use Rattle.ih_tables.specs.declared.ids.Shift.{Shift}
+use Rattle.ih_tables.specs.declared.ids.NurseNo.{NurseNo}
+use Rattle.ih_tables.specs.declared.cells.Cell.TheVariants.{RoomShift}
+use Rattle.ih_tables.specs.Bills.{sub_bills}
+use Rattle.ih_plan.specs.declared.moves.Write.TheVariants.{SetCare}
+use Rattle.ih_plan.specs.Timetable.{Timetable, IsPlanOf, care_of}
+use Rattle.ih_plan.specs.Writes.{put, IsWriteOf}
+use Rattle.ih_plan.specs.Presence.{present, day_of}
+use Rattle.ih_plan.specs.Sums.{listed}
+use Rattle.ih_plan.specs.BillOf.{Counts, as_bill, change_of_bill}
+use Rattle.ih_plan.specs.Cells.{part_at, part_of, content_of}
+use Rattle.ih_plan.proofs.Numbers.{nurse_shift_cell, care_cell}
+use Rattle.ih_plan.proofs.Parts.{total, has_parts}
+use Rattle.ih_footprint.proofs.Prices.{differences-same}
+use Rattle.ih_nurses.specs.Choice.{excess_of, seen_by}
+use Rattle.ih_costs.specs.StayGain.{rule_at, cost_at}
+use Rattle.ih_costs.specs.ChoiceGain.{choice_told}
+use Rattle.ih_costs.proofs.ChoiceLemmas.{number_of, loads_by, cares_by, choice_by, number-choice}
+use Rattle.ih_costs.proofs.GainBills.{counts-same, nine, eight}
+use Rattle.ih_costs.proofs.SpanSums.{at_place}
+
+nowhere : (f : ℕ → ℕ) → ((i : ℕ) → f i ≡ 0) → (o : Option ℕ) → at_place f o ≡ 0
+nowhere f e None = refl
+nowhere f e (Some i) = e i
+
+sum-none : (f : ℕ → ℕ) → ((i : ℕ) → f i ≡ 0) → (xs : List ℕ) → sum_by f xs ≡ 0
+sum-none f e [] = refl
+sum-none f e (x ∷ xs) = rw (e x, sum-none f e xs) refl
+
+module _ (I : Draft) (P : Timetable) (r : RoomNo) (k : Shift) (new : Option NurseNo) where
+  -- the numbers of the choice's cells at a timetable, each of the one kind of cells that has it
+  numbers : Timetable → Counts
+  numbers Q = record {
+    v = 0 ∷ 0 ∷ 0 ∷ 0 ∷ 0 ∷ 0 ∷ 0 ∷ rule_at 7 (part_at I Q (RoomShift r k)) ∷ rule_at 8 (part_at I Q (RoomShift r k)) ∷ [];
+    s = 0 ∷ cost_at 1 (part_at I Q (RoomShift r k)) ∷ seen_by I Q (present I P r.0 (day_of k.0))
+        ∷ (excess_of I Q k.0 (care_of P r.0 k.0) + excess_of I Q k.0 (number_of new)) ∷ 0 ∷ 0 ∷ 0 ∷ 0 ∷ [];
+  }
+
+  module _ (Q : Timetable) where
+    loads-none : (g : Counts → ℕ) → ((n : ℕ) → g (part_at I Q (nurse_shift_cell n k.0)) ≡ 0) → loads_by I P r k new Q g ≡ 0
+    loads-none g e =
+        let old = nowhere (λ n. g (part_at I Q (nurse_shift_cell n k.0))) e (care_of P r.0 k.0) in
+        let later = nowhere (λ n. g (part_at I Q (nurse_shift_cell n k.0))) e (number_of new) in
+        omega (arith, old, later)
+
+    cares-none : (g : Counts → ℕ) → ((x : ℕ) → g (part_at I Q (care_cell x)) ≡ 0) → cares_by I P r k new Q g ≡ 0
+    cares-none g e = sum-none (λ x. g (part_at I Q (care_cell x))) e (present I P r.0 (day_of k.0))
+
+    by_room : (g : Counts → ℕ) → ((n : ℕ) → g (part_at I Q (nurse_shift_cell n k.0)) ≡ 0) → ((x : ℕ) → g (part_at I Q (care_cell x)) ≡ 0)
+        → choice_by I P r k new Q g ≡ g (part_at I Q (RoomShift r k))
+    by_room g loads cares =
+        let z_loads = loads-none g loads in
+        let z_cares = cares-none g cares in
+        omega (arith, z_loads, z_cares)
+
+    by_none : (g : Counts → ℕ) → g (part_at I Q (RoomShift r k)) ≡ 0 → ((n : ℕ) → g (part_at I Q (nurse_shift_cell n k.0)) ≡ 0) → ((x : ℕ) → g (part_at I Q (care_cell x)) ≡ 0)
+        → choice_by I P r k new Q g ≡ 0
+    by_none g room loads cares = by_room g loads cares ∙ room
+
+    seen : choice_by I P r k new Q (cost_at 2) ≡ seen_by I Q (present I P r.0 (day_of k.0))
+    unfolding part_of content_of
+    seen =
+        let room : cost_at 2 (part_at I Q (RoomShift r k)) ≡ 0 = refl in
+        let loads = loads-none (cost_at 2) (λ n. refl) in
+        omega (arith, room, loads)
+
+    load : choice_by I P r k new Q (cost_at 3) ≡ excess_of I Q k.0 (care_of P r.0 k.0) + excess_of I Q k.0 (number_of new)
+    unfolding part_of content_of
+    load =
+        let room : cost_at 3 (part_at I Q (RoomShift r k)) ≡ 0 = refl in
+        let cares = cares-none (cost_at 3) (λ x. refl) in
+        omega (arith, room, cares)
+
+    numbers-listed : numbers Q ≡ record { v = listed 9 (λ j. choice_by I P r k new Q (rule_at j)); s = listed 8 (λ j. choice_by I P r k new Q (cost_at j)) }
+    unfolding numbers part_of content_of
+    numbers-listed = counts-same _ _ _ _
+        (nine (λ j. choice_by I P r k new Q (rule_at j)) _ _ _ _ _ _ _ _ _
+        (by_none (rule_at 0) refl (λ n. refl) (λ x. refl)) (by_none (rule_at 1) refl (λ n. refl) (λ x. refl)) (by_none (rule_at 2) refl (λ n. refl) (λ x. refl))
+        (by_none (rule_at 3) refl (λ n. refl) (λ x. refl)) (by_none (rule_at 4) refl (λ n. refl) (λ x. refl)) (by_none (rule_at 5) refl (λ n. refl) (λ x. refl))
+        (by_none (rule_at 6) refl (λ n. refl) (λ x. refl)) (by_room (rule_at 7) (λ n. refl) (λ x. refl)) (by_room (rule_at 8) (λ n. refl) (λ x. refl)))
+        (eight (λ j. choice_by I P r k new Q (cost_at j)) _ _ _ _ _ _ _ _
+        (by_none (cost_at 0) refl (λ n. refl) (λ x. refl)) (by_room (cost_at 1) (λ n. refl) (λ x. refl)) seen load
+        (by_none (cost_at 4) refl (λ n. refl) (λ x. refl)) (by_none (cost_at 5) refl (λ n. refl) (λ x. refl)) (by_none (cost_at 6) refl (λ n. refl) (λ x. refl))
+        (by_none (cost_at 7) refl (λ n. refl) (λ x. refl)))
+
+  numbers-told : sub_bills (as_bill (numbers (put (SetCare r k new) P))) (as_bill (numbers P)) ≡ choice_told I P r k new
+  unfolding numbers
+  numbers-told = refl
+
+  -- Another nurse for a room's shift, or none, changes the bill by what is told of it.
+  pub choice-law : IsPlanOf I P → IsWriteOf I (SetCare r k new) → (care_of P r.0 k.0 ≡ number_of new → ⊥)
+      → change_of_bill I P (put (SetCare r k new) P) ≡ choice_told I P r k new
+  choice-law plan fits other =
+      let Q = put (SetCare r k new) P in
+      let v = differences-same 9 (λ j. choice_by I P r k new Q (rule_at j)) (λ j. choice_by I P r k new P (rule_at j))
+      (λ j. total I (λ c. slice_index (part_at I Q c).v j)) (λ j. total I (λ c. slice_index (part_at I P c).v j))
+      (λ j. let whole = number-choice I P r k new plan fits (rule_at j) other in omega (arith, whole)) in
+      let s = differences-same 8 (λ j. choice_by I P r k new Q (cost_at j)) (λ j. choice_by I P r k new P (cost_at j))
+      (λ j. total I (λ c. slice_index (part_at I Q c).s j)) (λ j. total I (λ c. slice_index (part_at I P c).s j))
+      (λ j. let whole = number-choice I P r k new plan fits (cost_at j) other in omega (arith, whole)) in
+      let changed : sub_bills (as_bill (numbers Q)) (as_bill (numbers P)) ≡ change_of_bill I P Q =
+      rw (numbers-listed Q, numbers-listed P, has_parts I P, has_parts I Q) (rw (v, s) refl) in
+      sym changed ∙ numbers-told
