@@ -1,12 +1,14 @@
 -- The law of choices: what another choice of nurse changes in the bill.
-use Rattle.std.proofs.Common.{◌≡◌, ℕ, ◌+◌, refl, arith, ap, sym, ◌∙◌, List, [], ◌∷◌, Option, Some, None}
-use Rattle.std.specs.Prelude.{slice_index, sum_by}
+use Rattle.std.proofs.Common.{◌≡◌, ℕ, ◌+◌, ◌^◌, refl, arith, ap, sym, subst, ◌∙◌, w64, to_z, of_z, List, [], ◌∷◌, Option, Some, None}
+use Rattle.std.specs.Prelude.{ℤ, pos, neg_ℤ, ◌≤ℤ◌, slice_index, sum_by, option_map}
 use Rattle.ih_tables.specs.declared.drafts.Draft.{Draft}
 use Rattle.ih_tables.specs.declared.ids.RoomNo.{RoomNo}
 use Rattle.ih_tables.specs.declared.ids.Shift.{Shift}
 use Rattle.ih_tables.specs.declared.ids.NurseNo.{NurseNo}
 use Rattle.ih_tables.specs.declared.cells.Cell.TheVariants.{RoomShift}
-use Rattle.ih_tables.specs.Bills.{sub_bills}
+use Rattle.ih_tables.specs.declared.bills.Bill.{Bill}
+use Rattle.ih_tables.specs.Bills.{at as place, sub_bills, IsWithin}
+use Rattle.ih_tables.specs.Valid.{IsValid}
 use Rattle.ih_plan.specs.declared.moves.Write.TheVariants.{SetCare}
 use Rattle.ih_plan.specs.Timetable.{Timetable, IsPlanOf, care_of}
 use Rattle.ih_plan.specs.Writes.{put, IsWriteOf}
@@ -14,14 +16,17 @@ use Rattle.ih_plan.specs.Presence.{present, day_of}
 use Rattle.ih_plan.specs.Sums.{listed}
 use Rattle.ih_plan.specs.BillOf.{Counts, as_bill, change_of_bill}
 use Rattle.ih_plan.specs.Cells.{part_at, part_of, content_of}
+use Rattle.ih_plan.proofs.BillBounds.{change-within}
 use Rattle.ih_plan.proofs.Numbers.{nurse_shift_cell, care_cell}
 use Rattle.ih_plan.proofs.Parts.{total, has_parts}
+use Rattle.ih_plan.proofs.PlanRanges.{put-plan}
 use Rattle.ih_footprint.proofs.Prices.{differences-same}
-use Rattle.ih_nurses.specs.Choice.{excess_of, seen_by}
+use Rattle.ih_nurses.specs.Choice.{excess_of, seen_by, rise_by_choice}
 use Rattle.ih_costs.specs.StayGain.{rule_at, cost_at}
 use Rattle.ih_costs.specs.ChoiceGain.{choice_told}
 use Rattle.ih_costs.proofs.ChoiceLemmas.{number_of, loads_by, cares_by, choice_by, number-choice}
 use Rattle.ih_costs.proofs.GainBills.{counts-same, nine, eight}
+use Rattle.ih_costs.proofs.GainSteps.{rule-less, cost-less, passed-is}
 use Rattle.ih_costs.proofs.SpanSums.{at_place}
 
 nowhere : (f : ℕ → ℕ) → ((i : ℕ) → f i ≡ 0) → (o : Option ℕ) → at_place f o ≡ 0
@@ -106,3 +111,44 @@ module _ (I : Draft) (P : Timetable) (r : RoomNo) (k : Shift) (new : Option Nurs
       let changed : sub_bills (as_bill (numbers Q)) (as_bill (numbers P)) ≡ change_of_bill I P Q =
       rw (numbers-listed Q, numbers-listed P, has_parts I P, has_parts I Q) (rw (v, s) refl) in
       sym changed ∙ numbers-told
+
+-- ---- the price of a choice
+
+-- an old choice and a new one that differ have other nurses
+numbered : (o : Option NurseNo) → option_map (λ (n : ℕ). let a : NurseNo = record { 0 = n } in a) (number_of o) ≡ o
+numbered None = refl
+numbered (Some a) = refl
+
+pub other-number : (old new : Option NurseNo) → (new ≡ old → ⊥) → number_of old ≡ number_of new → ⊥
+other-number old new ne e =
+    ne (sym (numbered new) ∙ (ap (option_map (λ (n : ℕ). let a : NurseNo = record { 0 = n } in a)) (sym e) ∙ numbered old))
+
+module _ (I : Draft) (P : Timetable) (r : RoomNo) (k : Shift) (new : Option NurseNo) (room : Bill) (seen load : ℤ)
+    (valid : IsValid I) (plan : IsPlanOf I P) (fits : IsWriteOf I (SetCare r k new)) (other : care_of P r.0 k.0 ≡ number_of new → ⊥)
+    (room_is : room ≡ sub_bills (as_bill (part_at I (put (SetCare r k new) P) (RoomShift r k))) (as_bill (part_at I P (RoomShift r k))))
+    (seen_is : seen ≡ rise_by_choice P r k new (λ Q. seen_by I Q (present I P r.0 (day_of k.0))))
+    (load_is : load ≡ rise_by_choice P r k new (λ Q. excess_of I Q k.0 (care_of P r.0 k.0) + excess_of I Q k.0 (number_of new))) where
+  law : change_of_bill I P (put (SetCare r k new) P) ≡ choice_told I P r k new
+  law = choice-law I P r k new plan fits other
+
+  small : IsWithin (10 ^ 11) (choice_told I P r k new)
+  small = subst (IsWithin (10 ^ 11)) law (change-within I P (put (SetCare r k new) P) valid plan (put-plan I P (SetCare r k new) plan fits))
+
+  -- a number as it is handed on in 64 bits
+  passed : (told x : ℤ) → x ≡ told → (neg_ℤ (pos (10 ^ 11)) ≤ℤ told) × (told ≤ℤ pos (10 ^ 11)) → to_z w64 (of_z w64 x) ≡ told
+  passed told x e near = ap (λ z. to_z w64 (of_z w64 z)) e ∙ passed-is told near.0 near.1
+
+  -- The numbers that the nurses' ledger tells are what the bill changes by.
+  pub choice-priced : (let b : Bill = record {
+    v = pos 0 ∷ pos 0 ∷ pos 0 ∷ pos 0 ∷ pos 0 ∷ pos 0 ∷ pos 0 ∷ to_z w64 (of_z w64 (place room.v 7)) ∷ to_z w64 (of_z w64 (place room.v 8)) ∷ [];
+    s = pos 0 ∷ to_z w64 (of_z w64 (place room.s 1)) ∷ to_z w64 (of_z w64 seen) ∷ to_z w64 (of_z w64 load) ∷ pos 0 ∷ pos 0 ∷ pos 0 ∷ pos 0 ∷ [];
+  } in b ≡ change_of_bill I P (put (SetCare r k new) P))
+  choice-priced =
+      let after = part_at I (put (SetCare r k new) P) (RoomShift r k) in
+      let before = part_at I P (RoomShift r k) in
+      let off = passed (place (choice_told I P r k new).v 7) (place room.v 7) (ap (λ z. place z.v 7) room_is ∙ rule-less after before 7 (omega arith)) (small.v 7 (omega arith)) in
+      let alone = passed (place (choice_told I P r k new).v 8) (place room.v 8) (ap (λ z. place z.v 8) room_is ∙ rule-less after before 8 (omega arith)) (small.v 8 (omega arith)) in
+      let skill = passed (place (choice_told I P r k new).s 1) (place room.s 1) (ap (λ z. place z.s 1) room_is ∙ cost-less after before 1 (omega arith)) (small.s 1 (omega arith)) in
+      let cares = passed (place (choice_told I P r k new).s 2) seen seen_is (small.s 2 (omega arith)) in
+      let loads = passed (place (choice_told I P r k new).s 3) load load_is (small.s 3 (omega arith)) in
+      rw (off, alone, skill, cares, loads) (sym law)

@@ -4,6 +4,8 @@ use Rattle.std.specs.Prelude.{slice_get, slice_set, option_and_then, option_map}
 use Rattle.ih_tables.specs.declared.drafts.Draft.{Draft}
 use Rattle.ih_tables.specs.declared.ids.PatientNo.{PatientNo}
 use Rattle.ih_tables.specs.declared.ids.NurseNo.{NurseNo}
+use Rattle.ih_tables.specs.declared.ids.RoomNo.{RoomNo}
+use Rattle.ih_tables.specs.declared.ids.Shift.{Shift}
 use Rattle.ih_plan.specs.declared.moves.Placement.{Placement}
 use Rattle.ih_plan.specs.declared.moves.Write.{Write}
 use Rattle.ih_plan.specs.declared.moves.Write.TheVariants.{SetStay, SetCare}
@@ -36,6 +38,10 @@ stay-twice P p a b = ap (λ (xs : List (Option Placement)). record P { stays = x
 -- who isn't admitted is taken out
 pub stay-none : (P : Timetable) (p : PatientNo) → stay_of P p.0 ≡ None → P ≡ put (SetStay p None) P
 stay-none P p e = ap (λ (xs : List (Option Placement)). record P { stays = xs }) (sym (ap (slice_set P.stays p.0) (sym e) ∙ set-own P.stays p.0))
+
+-- the choice that stands there is written again
+pub choice-again : (P : Timetable) (r : RoomNo) (k : Shift) → put (SetCare r k (choice_of P r.0 k.0)) P ≡ P
+choice-again P r k = ap (λ (xs : List (Option NurseNo)). record P { cares = xs }) (set-own P.cares (care_place P r.0 k.0))
 
 pub undone : (P : Timetable) (w : Write) → put (undo_of P w) (put w P) ≡ P
 undone P (SetStay p s) = ap (λ (xs : List (Option Placement)). record P { stays = xs }) (set-twice P.stays p.0 s (stay_of P p.0) ∙ set-own P.stays p.0)

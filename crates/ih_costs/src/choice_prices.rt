@@ -1,11 +1,38 @@
-//! What another choice of nurse for a room's shift, or none, changes in the bill.
+//! What another choice of nurse for a room's shift, or none, changes in the bill, told by the cells that it touches.
 
+ghost use Rattle.std.specs.Prelude.{◌≡◌};
+ghost use Rattle.ih_plan.specs.declared.moves.Write.TheVariants.{SetCare};
+ghost use Rattle.ih_plan.specs.Writes.{put, IsWriteOf};
+ghost use Rattle.ih_plan.specs.BillOf.{change_of_bill};
+ghost use Rattle.ih_costs.specs.CellLedgers.{AreLedgers, timetable_of};
 ghost use Rattle.ih_costs.specs.ChoiceGain.{ChoicesAreTold};
 
-use ih_tables::Instance;
+use crate::cell_ledgers::CellLedgers;
+use ih_tables::{Bill, Instance, NurseNo, RoomNo, Shift};
 
 // Another nurse for a room's shift, or none, changes the bill by what is told of the cells that the choice touches.
 #[allow(dead_code)]
 fn choices_are_told(_inst: &Instance)
     ensures { ChoicesAreTold _inst.now.draft }
 {}
+
+impl CellLedgers {
+    /// What another choice of nurse for a room's shift, or none, changes in the bill. It isn't made.
+    pub fn choice_price(&self, inst: &Instance, r: RoomNo, k: Shift, new: Option<NurseNo>) -> Bill
+        requires stands { AreLedgers inst.now.draft self.now }
+        requires write { IsWriteOf inst.now.draft (SetCare r k new) }
+        ensures { result ≡ change_of_bill inst.now.draft (timetable_of self.now) (put (SetCare r k new) (timetable_of self.now)) }
+    {
+        let old = self.plan().care(r, k);
+        if new == old {
+            return Bill::zero();
+        }
+        let room = self.nurses.choice_change(inst, r, k, new);
+        let load = self.nurses.loads_change(inst, r, k, new);
+        let seen = self.nurses.cares_change(inst, r, k, new);
+        Bill {
+            v: [0, 0, 0, 0, 0, 0, 0, room.v[7], room.v[8]],
+            s: [0, room.s[1], seen, load, 0, 0, 0, 0],
+        }
+    }
+}
