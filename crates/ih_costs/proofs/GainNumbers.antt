@@ -1,39 +1,31 @@
--- A gain number by number: what is the same with the placement as without it, what is 0 without it,
--- and how large a gain is.
-use Rattle.std.proofs.Common.{◌≡◌, ℕ, ◌<◌, ◌^◌, refl, arith, ap, subst, ◌∙◌, [], ◌∷◌, length, Some, None}
-use Rattle.std.specs.Prelude.{ℤ, pos, ◌-ℤ◌, map}
+-- A gain number by number: what is the same with the placement as without it, and how large a gain is.
+use Rattle.std.proofs.Common.{◌≡◌, ℕ, ◌<◌, ◌^◌, refl, arith, subst, [], ◌∷◌, Some, None}
+use Rattle.std.specs.Prelude.{pos, ◌-ℤ◌}
 use Rattle.std.proofs.lemmas.Int.{ints}
 use Rattle.ih_tables.specs.declared.drafts.Draft.{Draft}
 use Rattle.ih_tables.specs.declared.ids.PatientNo.{PatientNo}
 use Rattle.ih_tables.specs.declared.bills.Bill.{Bill}
-use Rattle.ih_tables.specs.Sizes.{patient_count, nurse_count}
+use Rattle.ih_tables.specs.Sizes.{patient_count}
 use Rattle.ih_tables.specs.Bills.{IsWithin}
 use Rattle.ih_tables.specs.Valid.{IsValid}
 use Rattle.ih_plan.specs.declared.moves.Placement.{Placement}
 use Rattle.ih_plan.specs.declared.moves.Write.TheVariants.{SetStay}
 use Rattle.ih_plan.specs.Timetable.{Timetable, IsPlanOf, IsPlacement}
 use Rattle.ih_plan.specs.Writes.{put, IsWriteOf}
-use Rattle.ih_plan.specs.Costs.{surgeon_of, nurse_for, distinct_nurses}
-use Rattle.ih_plan.specs.Presence.{room_of}
-use Rattle.ih_plan.specs.Sums.{tagged}
+use Rattle.ih_plan.specs.Costs.{surgeon_of}
 use Rattle.ih_plan.specs.Cells.{part_of, content_of}
 use Rattle.ih_plan.proofs.BillBounds.{change-within}
-use Rattle.ih_plan.proofs.Entries.{stay_of-same, no-shifts}
 use Rattle.ih_plan.proofs.PlanRanges.{put-plan}
-use Rattle.ih_plan.proofs.SumBounds.{sum_below-none}
-use Rattle.ih_costs.specs.StayGain.{rule_at, cost_at, rise, of_stay, of_care, over_days, of_theatre, of_surgeon, over_shifts, over_loads, gain_of, placement_gain, gain_told, IsTold}
+use Rattle.ih_costs.specs.StayGain.{rule_at, cost_at, rise, of_stay, of_care, over_days, of_theatre, of_surgeon, over_shifts, over_loads, gain_of, placement_gain}
 use Rattle.ih_costs.proofs.GainBills.{placement-law}
 
 no-rise : (a : ℕ) → pos a -ℤ pos a ≡ pos 0
 no-rise a = omega (arith, ints)
 
-all-rise : (a b : ℕ) → b ≡ 0 → pos a -ℤ pos b ≡ pos a
-all-rise a b e = omega (arith, ints)
-
 module _ (I : Draft) (P : Timetable) (p : PatientNo) (at : Placement) where
-  -- the numbers of a gain, but for nurses who don't work their shift and for nurses who are seen
-  abbrev pub told : ℤ → ℤ → Bill
-  told off seen = record {
+  -- by how much each number rises with the placement
+  abbrev pub numbers : Bill
+  numbers = record {
     v = rise P p at (λ Q. over_days I Q p.0 at (rule_at 0))
         ∷ rise P p at (λ Q. of_stay I Q p.0 at (rule_at 1))
         ∷ rise P p at (λ Q. of_surgeon I Q p.0 at (rule_at 2) (surgeon_of I p.0))
@@ -41,12 +33,12 @@ module _ (I : Draft) (P : Timetable) (p : PatientNo) (at : Placement) where
         ∷ rise P p at (λ Q. of_stay I Q p.0 at (rule_at 4))
         ∷ rise P p at (λ Q. of_stay I Q p.0 at (rule_at 5))
         ∷ rise P p at (λ Q. over_days I Q p.0 at (rule_at 6))
-        ∷ off
+        ∷ rise P p at (λ Q. over_shifts I Q p.0 at (rule_at 7))
         ∷ rise P p at (λ Q. over_shifts I Q p.0 at (rule_at 8))
         ∷ [];
     s = rise P p at (λ Q. over_days I Q p.0 at (cost_at 0))
         ∷ rise P p at (λ Q. over_shifts I Q p.0 at (cost_at 1))
-        ∷ seen
+        ∷ rise P p at (λ Q. of_care I Q p.0 at (cost_at 2))
         ∷ rise P p at (λ Q. over_loads I Q p.0 at (cost_at 3))
         ∷ rise P p at (λ Q. of_theatre I Q p.0 at (cost_at 4))
         ∷ rise P p at (λ Q. of_surgeon I Q p.0 at (cost_at 5) (surgeon_of I p.0))
@@ -55,7 +47,7 @@ module _ (I : Draft) (P : Timetable) (p : PatientNo) (at : Placement) where
         ∷ [];
   }
 
-  pub each-told : placement_gain I P p at ≡ told (rise P p at (λ Q. over_shifts I Q p.0 at (rule_at 7))) (rise P p at (λ Q. of_care I Q p.0 at (cost_at 2)))
+  pub each-told : placement_gain I P p at ≡ numbers
   unfolding gain_of
   each-told = refl
 
@@ -63,21 +55,6 @@ module _ (I : Draft) (P : Timetable) (p : PatientNo) (at : Placement) where
   pub off-same : rise P p at (λ Q. over_shifts I Q p.0 at (rule_at 7)) ≡ pos 0
   unfolding part_of content_of
   off-same = no-rise (over_shifts I (put (SetStay p (Some at)) P) p.0 at (rule_at 7))
-
-  -- who isn't admitted sees no nurses
-  none-seen : IsPlanOf I P → p.0 < patient_count I → of_care I (put (SetStay p None) P) p.0 at (cost_at 2) ≡ 0
-  unfolding part_of content_of
-  none-seen plan known =
-      let sizes : length P.stays ≡ patient_count I = plan.stays in
-      let inside : p.0 < length P.stays = omega arith in
-      let without : Timetable = put (SetStay p None) P in
-      ap (λ ks. distinct_nurses I (map (λ n. n.1) (tagged (nurse_for without (room_of I without p.0)) ks))) (no-shifts I without p.0 known (stay_of-same P p None inside))
-      ∙ sum_below-none (nurse_count I)
-
-  pub numbers-told : IsPlanOf I P → p.0 < patient_count I → placement_gain I P p at ≡ gain_told I P p at
-  numbers-told plan known =
-      let seen = all-rise (of_care I (put (SetStay p (Some at)) P) p.0 at (cost_at 2)) (of_care I (put (SetStay p None) P) p.0 at (cost_at 2)) (none-seen plan known) in
-      each-told ∙ (ap (λ z. told z (rise P p at (λ Q. of_care I Q p.0 at (cost_at 2)))) off-same ∙ ap (told (pos 0)) seen)
 
   pub gain-within : IsValid I → IsPlanOf I P → p.0 < patient_count I → IsPlacement I at → IsWithin (10 ^ 11) (placement_gain I P p at)
   gain-within valid plan known fits =
@@ -90,6 +67,3 @@ module _ (I : Draft) (P : Timetable) (p : PatientNo) (at : Placement) where
     where
       some-same : (a b : Placement) → Some a ≡ Some b → a ≡ b
       some-same a b e = cc
-
-  pub gain-told : IsValid I → IsPlanOf I P → p.0 < patient_count I → IsPlacement I at → IsTold I P p at
-  gain-told valid plan known fits = record { numbers = numbers-told plan known; within = gain-within valid plan known fits }

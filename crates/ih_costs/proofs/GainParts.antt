@@ -1,24 +1,23 @@
 -- A gain is put together from what each ledger tells of its cells.
 use Rattle.std.proofs.Common.{◌≡◌, ℕ, ◌<◌, ◌^◌, refl, arith, ap, sym, subst, ◌∙◌, w64, to_z, of_z, List, [], ◌∷◌, length, Some, None}
-use Rattle.std.specs.Prelude.{ℤ, pos, ◌-ℤ◌, slice_get, option_map}
+use Rattle.std.specs.Prelude.{ℤ, pos, slice_get}
 use Rattle.ih_tables.specs.declared.drafts.Draft.{Draft}
 use Rattle.ih_tables.specs.declared.drafts.Patient.{Patient}
 use Rattle.ih_tables.specs.declared.ids.PatientNo.{PatientNo}
 use Rattle.ih_tables.specs.declared.cells.Cell.{Cell}
-use Rattle.ih_tables.specs.declared.ids.NurseNo.{NurseNo}
 use Rattle.ih_tables.specs.declared.bills.Bill.{Bill}
 use Rattle.ih_tables.specs.Bills.{at as place, sub_bills, IsWithin}
 use Rattle.ih_plan.specs.declared.moves.Placement.{Placement}
-use Rattle.ih_plan.specs.Timetable.{Timetable, choice_of, care_of}
+use Rattle.ih_plan.specs.Timetable.{Timetable}
 use Rattle.ih_plan.specs.Costs.{surgeon_of}
 use Rattle.ih_plan.specs.BillOf.{Counts, as_bill}
 use Rattle.ih_plan.specs.Cells.{part_at}
 use Rattle.ih_plan.proofs.Entries.{stay_of-same}
-use Rattle.ih_plan.proofs.Numbers.{stay_cell, theatre_day_cell, surgeon_day_cell, nurse_shift_cell, care_cell}
+use Rattle.ih_plan.proofs.Numbers.{stay_cell, theatre_day_cell, surgeon_day_cell, care_cell}
 use Rattle.ih_costs.specs.Changes.{stay_part}
-use Rattle.ih_costs.specs.StayGain.{rule_at, cost_at, rise, of_surgeon, of_nurse, over_days, over_shifts, over_loads, placement_gain}
+use Rattle.ih_costs.specs.StayGain.{rule_at, cost_at, rise, of_surgeon, over_days, over_shifts, over_loads, placement_gain}
 use Rattle.ih_costs.proofs.ChangeLemmas.{stay-is}
-use Rattle.ih_costs.proofs.DayGains.{placed, without, excess}
+use Rattle.ih_costs.proofs.DayGains.{placed, without}
 use Rattle.ih_costs.proofs.GainNumbers.{each-told, off-same}
 use Rattle.ih_costs.proofs.GainSteps.{rule-less, cost-less, passed-is}
 
@@ -64,15 +63,6 @@ module _ (I : Draft) (P : Timetable) (p : PatientNo) (at : Placement) where
       let more : part_at I (placed I P p at) (stay_cell p.0) ≡ stay_part a (Some at) = stay-is I (placed I P p at) p a known ∙ ap (stay_part a) (stay_of-same P p (Some at) inside) in
       let less : part_at I (without I P p at) (stay_cell p.0) ≡ stay_part a None = stay-is I (without I P p at) p a known ∙ ap (stay_part a) (stay_of-same P p None inside) in
       e ∙ (ap (λ k. sub_bills (as_bill k) (as_bill (stay_part a None))) (sym more) ∙ ap (λ k. sub_bills (as_bill (part_at I (placed I P p at) (stay_cell p.0))) (as_bill k)) (sym less))
-
-  -- the excess workload of a room's nurse in a shift
-  pub load-gain : (k : ℕ) (n : NurseNo) (b : Bill) → Some n ≡ choice_of P at.room.0 k
-      → tells (nurse_shift_cell n.0 k) b
-      → place b.s 3 ≡ pos (excess I P p at (placed I P p at) k) -ℤ pos (excess I P p at (without I P p at) k)
-  load-gain k n b nurse e =
-      let care : Some n.0 ≡ care_of P at.room.0 k = ap (option_map (λ (a : NurseNo). a.0)) nurse in
-      cost-told (nurse_shift_cell n.0 k) b 3 e (omega arith)
-      ∙ ap (λ o. pos (of_nurse I (placed I P p at) p.0 at (cost_at 3) k o) -ℤ pos (of_nurse I (without I P p at) p.0 at (cost_at 3) k o)) care
 
   module _ (s : ℕ) (surgeon_is : surgeon_of I p.0 ≡ Some s) (own theatre surgeon care : Bill) (mixed crowded ages alone skill load : ℤ)
       (own_is : tells (stay_cell p.0) own)

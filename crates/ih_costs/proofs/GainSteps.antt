@@ -90,6 +90,26 @@ module _ (a b : ℕ) (f g : ℕ → ℕ) (sum step : ℤ) (so_far : IsRisen a b 
       subst (IsRisen a (b + 1) f g) (sym (added-is sum step (risen-fits a b f g sum step so_far few low high) low high))
       (risen-more a b f g sum step begun so_far next low high)
 
+-- ---- the same, where each day or shift is told as a number of 32 bits
+
+count-bits : (n : ℕ) → n < 2 ^ 32 → of_z w64 (pos n) ≡ n
+count-bits n small = omega (arith, ints)
+
+count-low : (n : ℕ) → neg_ℤ (pos (10 ^ 11)) ≤ℤ pos n
+count-low n = omega (arith, ints)
+
+count-high : (n : ℕ) → n < 2 ^ 32 → pos n ≤ℤ pos (10 ^ 11)
+count-high n small = omega (arith, ints)
+
+module _ (a b : ℕ) (f g : ℕ → ℕ) (sum : ℤ) (n : ℕ) (so_far : IsRisen a b f g sum) (few : b ≤ 200) (small : n < 2 ^ 32) where
+  pub count-fits : FitsSigned w64 (sum +ℤ to_z w64 n)
+  count-fits = subst (λ m. FitsSigned w64 (sum +ℤ to_z w64 m)) (count-bits n small) (step-fits a b f g sum (pos n) so_far few (count-low n) (count-high n small))
+
+  pub count-risen : a ≤ b → pos n ≡ pos (f b) -ℤ pos (g b) → IsRisen a (b + 1) f g (to_z w64 (of_z w64 (sum +ℤ to_z w64 n)))
+  count-risen begun next =
+      subst (λ m. IsRisen a (b + 1) f g (to_z w64 (of_z w64 (sum +ℤ to_z w64 m)))) (count-bits n small)
+      (step-risen a b f g sum (pos n) so_far few (count-low n) (count-high n small) begun next)
+
 -- ---- the same, where each day or shift is told as a bill: x with the placement, y without
 
 module _ (a b : ℕ) (x y : ℕ → Counts) (k : ℕ) (sum : ℤ) (bill : Bill) (next : bill ≡ sub_bills (as_bill (x b)) (as_bill (y b))) (small : IsWithin (10 ^ 11) bill) (few : b ≤ 200) where

@@ -1,14 +1,13 @@
 -- What a patient's placement costs, told day by day: the parts of the cells that it is in, number by number.
-use Rattle.std.specs.Prelude.{◌≡◌, ℕ, ◌+◌, ◌-◌, ◌*◌, ◌^◌, ◌<◌, ℤ, pos, ◌-ℤ◌, min, [], ◌∷◌, Option, Some, None, slice_index}
+use Rattle.std.specs.Prelude.{◌≡◌, ℕ, ◌+◌, ◌-◌, ◌*◌, ℤ, pos, ◌-ℤ◌, min, [], ◌∷◌, Option, Some, None, slice_index}
 use Rattle.ih_tables.specs.declared.drafts.Draft.{Draft}
 use Rattle.ih_tables.specs.declared.cells.Cell.TheVariants.{Stay, RoomDay, TheatreDay, SurgeonDay, RoomShift, NurseShift, Care}
 use Rattle.ih_tables.specs.declared.bills.Bill.{Bill}
 use Rattle.ih_tables.specs.declared.ids.PatientNo.{PatientNo}
-use Rattle.ih_tables.specs.Sizes.{patient_count}
-use Rattle.ih_tables.specs.Bills.{sub_bills, zero_bill, IsWithin}
+use Rattle.ih_tables.specs.Bills.{sub_bills, zero_bill}
 use Rattle.ih_plan.specs.declared.moves.Placement.{Placement}
 use Rattle.ih_plan.specs.declared.moves.Write.TheVariants.{SetStay}
-use Rattle.ih_plan.specs.Timetable.{Timetable, IsPlanOf, IsPlacement, stay_of, care_of}
+use Rattle.ih_plan.specs.Timetable.{Timetable, IsPlanOf, stay_of, care_of}
 use Rattle.ih_plan.specs.Writes.{put, IsWriteOf}
 use Rattle.ih_plan.specs.Persons.{person_of}
 use Rattle.ih_plan.specs.Costs.{surgeon_of}
@@ -95,42 +94,8 @@ abbrev pub StaysGain : Draft → Type 0
 StaysGain I = (P : Timetable) (p : PatientNo) (new : Option Placement) → IsPlanOf I P → IsWriteOf I (SetStay p new)
     → change_of_bill I P (put (SetStay p new) P) ≡ sub_bills (stay_gain I P p new) (stay_gain I P p (stay_of P p.0))
 
--- ---- the gain, number by number
+-- ---- a number of the gain
 
 -- by how much a number rises with the placement
 abbrev pub rise : Timetable → PatientNo → Placement → (Timetable → ℕ) → ℤ
 rise P p at f = pos (f (put (SetStay p (Some at)) P)) -ℤ pos (f (put (SetStay p None) P))
-
--- What each ledger tells of its cells. Whether nurses work their shifts doesn't rest on stays,
--- and who isn't admitted sees no nurses.
-abbrev pub gain_told : Draft → Timetable → PatientNo → Placement → Bill
-gain_told I P p at = record {
-  v = rise P p at (λ Q. over_days I Q p.0 at (rule_at 0))
-      ∷ rise P p at (λ Q. of_stay I Q p.0 at (rule_at 1))
-      ∷ rise P p at (λ Q. of_surgeon I Q p.0 at (rule_at 2) (surgeon_of I p.0))
-      ∷ rise P p at (λ Q. of_theatre I Q p.0 at (rule_at 3))
-      ∷ rise P p at (λ Q. of_stay I Q p.0 at (rule_at 4))
-      ∷ rise P p at (λ Q. of_stay I Q p.0 at (rule_at 5))
-      ∷ rise P p at (λ Q. over_days I Q p.0 at (rule_at 6))
-      ∷ pos 0
-      ∷ rise P p at (λ Q. over_shifts I Q p.0 at (rule_at 8))
-      ∷ [];
-  s = rise P p at (λ Q. over_days I Q p.0 at (cost_at 0))
-      ∷ rise P p at (λ Q. over_shifts I Q p.0 at (cost_at 1))
-      ∷ pos (of_care I (put (SetStay p (Some at)) P) p.0 at (cost_at 2))
-      ∷ rise P p at (λ Q. over_loads I Q p.0 at (cost_at 3))
-      ∷ rise P p at (λ Q. of_theatre I Q p.0 at (cost_at 4))
-      ∷ rise P p at (λ Q. of_surgeon I Q p.0 at (cost_at 5) (surgeon_of I p.0))
-      ∷ rise P p at (λ Q. of_stay I Q p.0 at (cost_at 6))
-      ∷ rise P p at (λ Q. of_stay I Q p.0 at (cost_at 7))
-      ∷ [];
-}
-
--- A gain is told number by number, and each number is at most 10^11 in magnitude.
-pub record IsTold (I : Draft) (P : Timetable) (p : PatientNo) (at : Placement) : Type 0 where
-  pub numbers : placement_gain I P p at ≡ gain_told I P p at
-  pub within : IsWithin (10 ^ 11) (placement_gain I P p at)
-
--- So it is for each placement of a patient.
-abbrev pub GainsAreTold : Draft → Type 0
-GainsAreTold I = (P : Timetable) (p : PatientNo) (at : Placement) → IsPlanOf I P → p.0 < patient_count I → IsPlacement I at → IsTold I P p at

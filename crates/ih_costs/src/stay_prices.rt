@@ -1,15 +1,15 @@
 //! What another stay of a patient, or none, changes in the bill, told day by day.
 
-ghost use Rattle.std.specs.Prelude.{◌≡◌, ◌+◌, ◌*◌, ◌<◌, ◌≤◌, ◌^◌, ◌≤ℤ◌, pos, neg_ℤ, min};
-ghost use Rattle.ih_tables.specs.Sizes.{patient_count, shift_count};
+ghost use Rattle.std.specs.Prelude.{◌≡◌, ◌+◌, ◌<◌, ◌≤◌, ◌^◌, min};
+ghost use Rattle.ih_tables.specs.Sizes.{patient_count};
 ghost use Rattle.ih_tables.specs.Bills.{IsWithin};
 ghost use Rattle.ih_plan.specs.declared.moves.Write.TheVariants.{SetStay};
-ghost use Rattle.ih_plan.specs.Timetable.{IsPlacement, stay_of, care_of};
+ghost use Rattle.ih_plan.specs.Timetable.{IsPlacement, stay_of};
 ghost use Rattle.ih_plan.specs.Writes.{put, IsWriteOf};
 ghost use Rattle.ih_plan.specs.BillOf.{change_of_bill};
 ghost use Rattle.ih_plan.specs.Persons.{person_of};
 ghost use Rattle.ih_costs.specs.CellLedgers.{AreLedgers, timetable_of};
-ghost use Rattle.ih_costs.specs.StayGain.{rise, rule_at, cost_at, over_days, of_nurse, over_shifts, over_loads, placement_gain, stay_gain};
+ghost use Rattle.ih_costs.specs.StayGain.{rise, rule_at, cost_at, over_days, over_shifts, over_loads, placement_gain, stay_gain};
 
 use crate::cell_ledgers::CellLedgers;
 use crate::stays::stay_change;
@@ -80,22 +80,6 @@ impl CellLedgers {
         }
     }
 
-    // How much more excess workload the room's nurse, where there is one, has in a shift with a placement than without.
-    fn more_load(&self, inst: &Instance, k: Shift, p: PatientNo, at: Placement) -> i64
-        requires stands { AreLedgers inst.now.draft self.now }
-        requires shift { k.0 < shift_count inst.now.draft }
-        requires patient { p.0 < patient_count inst.now.draft }
-        requires placement { IsPlacement inst.now.draft at }
-        ensures value { result ≡ rise (timetable_of self.now) p at (λ Q. of_nurse inst.now.draft Q p.0 at (cost_at 3) k.0 (care_of Q at.room.0 k.0)) }
-        ensures low { neg_ℤ (pos (10 ^ 11)) ≤ℤ result }
-        ensures high { result ≤ℤ pos (10 ^ 11) }
-    {
-        match self.plan().care(at.room, k) {
-            None => 0,
-            Some(n) => self.nurses.nurse_shift_gain(inst, n, k, p, at).s[3],
-        }
-    }
-
     // What the room and its nurses have more over the shifts of a placement with the patient there than without.
     fn more_over_shifts(&self, inst: &Instance, p: PatientNo, at: Placement) -> ShiftsMore
         requires stands { AreLedgers inst.now.draft self.now }
@@ -110,10 +94,10 @@ impl CellLedgers {
         let mut skill: i64 = 0;
         let mut load: i64 = 0;
         for k in 3 * at.day.0..3 * end {
-            let shift = self.nurses.room_shift_gain(inst, Shift(k), p, at);
-            alone += shift.v[8];
-            skill += shift.s[1];
-            load += self.more_load(inst, Shift(k), p, at);
+            let gain = self.nurses.shift_gain(inst, Shift(k), p, at);
+            alone += gain.alone as i64;
+            skill += gain.skill as i64;
+            load += gain.load as i64;
         }
         ShiftsMore { alone, skill, load }
     }

@@ -1,6 +1,10 @@
 //! A patient joins an occupant under a nurse, and another comes and goes.
 
+ghost use Rattle.std.specs.Prelude.{◌≡◌, ◌<◌, true};
+ghost use Rattle.ih_tables.specs.Sizes.{patient_count};
 ghost use Rattle.ih_plan.specs.Timetable.{Timetable, empty};
+ghost use Rattle.ih_plan.specs.Persons.{person_of};
+ghost use Rattle.ih_plan.specs.Presence.{covers, day_of};
 ghost use Rattle.ih_nurses.specs.Ledger.{IsLedgerOf};
 ghost use Rattle.ih_ward.specs.Two.{IsOfTwo};
 
@@ -83,23 +87,40 @@ fn coming_is_right(inst: &Instance, ledger: &mut Nurses) -> bool
         && is(&care, KEPT, NONE)
 }
 
-// Whether each change by a stay is right where the first patient and the occupant are there, under the unskilled
+// Whether a stay on the first day has the shift's day.
+#[tactic(auto, unfolding(ih_plan::specs::Persons::person_of))]
+fn has_day(inst: &Instance, p: PatientNo, k: Shift) -> bool
+    requires patient { p.0 < patient_count inst.now.draft }
+    ensures { result ≡ true → covers 0 (person_of inst.now.draft p.0).length_of_stay (day_of k.0) ≡ true }
+{
+    k.0 / 3 < inst.patient(p).length_of_stay
+}
+
+// Whether the first room costs so much more in a shift with the patient there from the first day on.
+fn costs_more(inst: &Instance, ledger: &Nurses, k: Shift, p: PatientNo, more: [u32; 3]) -> bool
+    requires stands { (P : Timetable) × IsLedgerOf inst.now.draft P ledger.now }
+    requires two { IsOfTwo inst.now.draft }
+    requires shift { k.0 < 6 }
+    requires patient { p.0 < 2 }
+{
+    if !has_day(inst, p, k) {
+        return false;
+    }
+    let gain = ledger.shift_gain(inst, k, p, first_day(p.0));
+    [gain.alone, gain.skill, gain.load] == more
+}
+
+// Whether each gain of a stay is right where the first patient and the occupant are there, under the unskilled
 // nurse in the night.
-fn stay_changes_are_right(inst: &Instance, ledger: &Nurses) -> bool
+fn stay_gains_are_right(inst: &Instance, ledger: &Nurses) -> bool
     requires stands { (P : Timetable) × IsLedgerOf inst.now.draft P ledger.now }
     requires two { IsOfTwo inst.now.draft }
 {
-    let at = Some(first_day(1));
-    let room = ledger.room_shift_change(inst, RoomNo(0), Shift(2), PatientNo(1), at);
-    let load = ledger.nurse_shift_change(inst, NurseNo(0), Shift(2), PatientNo(1), at);
-    let care = ledger.care_change(inst, PatientNo(1), at);
-    let shared = ledger.room_shift_change(inst, RoomNo(0), Shift(0), PatientNo(0), None);
-    let alone = ledger.room_shift_change(inst, RoomNo(0), Shift(3), PatientNo(0), None);
-    is(&room, KEPT, SKILL_OF_2)
-        && is(&load, KEPT, LOAD_OF_1)
-        && is(&care, KEPT, ONE_NURSE)
-        && is(&shared, KEPT, NONE)
-        && is(&alone, ONE_COVERED, NONE)
+    let care = ledger.care_gain(inst, PatientNo(1), first_day(1));
+    is(&care, KEPT, ONE_NURSE)
+        && costs_more(inst, ledger, Shift(2), PatientNo(1), [0, 2, 1])
+        && costs_more(inst, ledger, Shift(0), PatientNo(0), [0, 0, 0])
+        && costs_more(inst, ledger, Shift(3), PatientNo(0), [1, 0, 0])
 }
 
 // Whether each change by a choice is right there.
@@ -126,7 +147,7 @@ fn changes_are_right(inst: &Instance, ledger: &mut Nurses) -> bool
 {
     ledger.set_care(inst, RoomNo(0), Shift(2), Some(NurseNo(0)));
     ledger.enter(inst, PatientNo(0), first_day(0));
-    stay_changes_are_right(inst, ledger) && choice_changes_are_right(inst, ledger)
+    stay_gains_are_right(inst, ledger) && choice_changes_are_right(inst, ledger)
 }
 
 // A nurse lacks skill in the night while the early shift has none; a second patient overloads the nurse while there;

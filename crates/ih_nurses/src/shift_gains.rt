@@ -37,7 +37,8 @@ fn skill_gain(inst: &Instance, n: NurseNo, k: Shift, p: PatientNo, at: Placement
     requires nurse { n.0 < nurse_count inst.now.draft }
     requires patient { p.0 < patient_count inst.now.draft }
     requires counted { covers at.day.0 (person_of inst.now.draft p.0).length_of_stay (day_of k.0) ≡ true }
-    ensures { result ≡ slice_index (person_of inst.now.draft p.0).skill (k.0 - 3 * at.day.0) - skill_level inst.now.draft n.0 }
+    ensures { result ≡ slice_index (person_of inst.now.draft p.0).skill (k.0 - 3 * at.day.0)
+        - skill_level inst.now.draft n.0 }
 {
     skill(inst, p, at, k).saturating_sub(inst.nurse(n).skill_level)
 }
@@ -67,7 +68,8 @@ impl Nurses {
         requires patient { p.0 < patient_count inst.now.draft }
         requires placement { IsPlacement inst.now.draft at }
         requires counted { covers at.day.0 (person_of inst.now.draft p.0).length_of_stay (day_of k.0) ≡ true }
-        requires stands { (P : Timetable) × IsLedgerOf inst.now.draft P self.now × (care_of P at.room.0 k.0 ≡ Some n.0) }
+        requires stands { (P : Timetable) × IsLedgerOf inst.now.draft P self.now
+            × (care_of P at.room.0 k.0 ≡ Some n.0) }
         ensures { (P : Timetable) → IsLedgerOf inst.now.draft P self.now
             → pos result ≡ rise_by_placement P p at (λ Q. overload_in inst.now.draft Q n k) }
     {
