@@ -1,4 +1,5 @@
-//! A timetable of one patient and one room, entry by entry.
+//! A timetable into which a stay and a choice of nurse are written, and which is empty again once an empty one is copied
+//! into it.
 
 use ih_plan::{Plan, Write};
 use ih_tables::{NurseNo, PatientNo, RoomNo, Shift};
