@@ -1,3 +1,4 @@
+mod FirstDay
 mod NurseChanges
 mod RoomDayChanges
 mod TheatreChanges

@@ -1,8 +1,8 @@
 -- The timetables of the tests: two patients enter and the first leaves.
-use Rattle.std.proofs.Common.{◌≡◌, ℕ, ◌<◌, arith, ◌∙◌, Some, None}
+use Rattle.std.proofs.Common.{◌≡◌, arith, ◌∙◌, Some, None}
 use Rattle.ih_tables.specs.declared.drafts.Draft.{Draft}
 use Rattle.ih_tables.specs.declared.ids.PatientNo.{PatientNo}
-use Rattle.ih_tables.specs.Sizes.{patient_count, room_count, theatre_count}
+use Rattle.ih_tables.specs.Sizes.{patient_count}
 use Rattle.ih_plan.specs.declared.moves.Placement.{Placement}
 use Rattle.ih_plan.specs.declared.moves.Write.TheVariants.{SetStay}
 use Rattle.ih_plan.specs.Timetable.{Timetable, empty, stay_of, IsPlanOf, IsPlacement}
@@ -16,10 +16,6 @@ p0 = record { 0 = 0 }
 
 abbrev pub p1 : PatientNo
 p1 = record { 0 = 1 }
-
-pub first-day : (I : Draft) (t : ℕ) (at : Placement) → I.days ≡ 2 → room_count I ≡ 2 → theatre_count I ≡ 2 → t < 2
-    → at ≡ record { day = record { 0 = 0 }; room = record { 0 = 0 }; theatre = record { 0 = t } } → IsPlacement I at
-first-day I t at days rooms theatres below is = rw is (record { day = omega arith; room = omega arith; theatre = omega arith })
 
 -- ---- the first patient is admitted
 

@@ -28,8 +28,8 @@ fn is_over(bill: &Bill, theatre_minutes: i64) -> bool {
     bill.v == [0, 0, 0, theatre_minutes, 0, 0, 0, 0, 0] && bill.s == NONE
 }
 
-// Whether each change is right where the first patient alone is admitted.
-fn are_changes_right_of_one(
+// Whether each gain of a placement is right where the first patient alone is admitted.
+fn are_gains_right_of_one(
     inst: &Instance,
     ledger: &Theatres,
     p: PatientNo,
@@ -38,17 +38,20 @@ fn are_changes_right_of_one(
 ) -> bool
     requires two { IsOfTwo inst.now.draft }
     requires patient { p.0 < 2 }
-    requires placement { IsPlacement inst.now.draft there }
+    requires here { IsPlacement inst.now.draft here }
+    requires there { IsPlacement inst.now.draft there }
     requires stands { (P : Timetable) × IsPlanOf inst.now.draft P × IsLedgerOf inst.now.draft P ledger.now × (stay_of P p.0 ≡ None) }
 {
-    let over = ledger.theatre_change(inst, TheatreNo(0), Day(0), p, None, Some(here));
-    let open = ledger.theatre_change(inst, TheatreNo(1), Day(0), p, None, Some(there));
-    let transfer = ledger.surgeon_change(inst, SurgeonNo(0), Day(0), p, None, Some(there));
-    is_over(&over, 40) && is(&open, OPEN) && is(&transfer, TRANSFER)
+    let surgeon = inst.patient(p).surgeon_id;
+    let over = ledger.theatre_gain(inst, p, None, here);
+    let open = ledger.theatre_gain(inst, p, None, there);
+    let together = ledger.surgeon_gain(inst, surgeon, p, None, here);
+    let transfer = ledger.surgeon_gain(inst, surgeon, p, None, there);
+    is_over(&over, 40) && is(&open, OPEN) && is(&together, NONE) && is(&transfer, TRANSFER)
 }
 
-// Whether each change is right where both are admitted, in two theatres.
-fn are_changes_right_of_two(
+// Whether each gain of a placement is right where both are admitted, in two theatres.
+fn are_gains_right_of_two(
     inst: &Instance,
     ledger: &Theatres,
     p: PatientNo,
@@ -57,15 +60,16 @@ fn are_changes_right_of_two(
 ) -> bool
     requires two { IsOfTwo inst.now.draft }
     requires patient { p.0 < 2 }
-    requires placement { IsPlacement inst.now.draft there }
+    requires here { IsPlacement inst.now.draft here }
+    requires there { IsPlacement inst.now.draft there }
     requires stands { (P : Timetable) × IsPlanOf inst.now.draft P × IsLedgerOf inst.now.draft P ledger.now × (stay_of P p.0 ≡ Some here) }
 {
-    let closed = ledger.theatre_change(inst, TheatreNo(0), Day(0), p, Some(here), None);
-    let over = ledger.theatre_change(inst, TheatreNo(1), Day(0), p, Some(here), Some(there));
-    let together = ledger.surgeon_change(inst, SurgeonNo(0), Day(0), p, Some(here), Some(there));
-    is(&closed, [0, 0, 0, 0, -1, 0, 0, 0])
-        && is_over(&over, 40)
-        && is(&together, [0, 0, 0, 0, 0, -1, 0, 0])
+    let surgeon = inst.patient(p).surgeon_id;
+    let open = ledger.theatre_gain(inst, p, Some(here), here);
+    let over = ledger.theatre_gain(inst, p, Some(here), there);
+    let transfer = ledger.surgeon_gain(inst, surgeon, p, Some(here), here);
+    let together = ledger.surgeon_gain(inst, surgeon, p, Some(here), there);
+    is(&open, OPEN) && is_over(&over, 40) && is(&transfer, TRANSFER) && is(&together, NONE)
 }
 
 // Whether each bill is right while the first patient enters, the second enters in the other theatre, and the first
@@ -79,10 +83,10 @@ fn are_right(inst: &Instance, ledger: &mut Theatres) -> bool
     let used = ledger.theatre_bill(inst, TheatreNo(0), Day(0));
     let alone = ledger.surgeon_bill(inst, SurgeonNo(0), Day(0));
     let there = first_day(1);
-    let one = are_changes_right_of_one(inst, ledger, PatientNo(1), here, there);
+    let one = are_gains_right_of_one(inst, ledger, PatientNo(1), here, there);
     ledger.enter(inst, PatientNo(1), there);
     let both = ledger.surgeon_bill(inst, SurgeonNo(0), Day(0));
-    let two = are_changes_right_of_two(inst, ledger, PatientNo(0), here, there);
+    let two = are_gains_right_of_two(inst, ledger, PatientNo(0), here, there);
     ledger.leave(inst, PatientNo(0), here);
     let left = ledger.theatre_bill(inst, TheatreNo(0), Day(0));
     let other = ledger.theatre_bill(inst, TheatreNo(1), Day(0));
