@@ -1,18 +1,15 @@
 -- The part of a room and a day with a person there or not, from the list of the others.
 use Rattle.std.proofs.Common.{◌≡◌, ℕ, ◌+◌, ◌*◌, ◌/◌, ◌<◌, ◌^◌, refl, arith, sym, ap, subst, ◌∙◌, Bool, true, false, List, [], ◌∷◌, ◌++◌, length, length-append, Option, inl, inr}
-use Rattle.std.specs.Prelude.{◌||◌, ◌==◌, ◌-ℤ◌, pos, option_map}
+use Rattle.std.specs.Prelude.{◌||◌, ◌==◌, option_map}
 use Rattle.std.proofs.lemmas.Bool.{cases_eq, eq-eqb, ne_eqb, eqb-true, or_cases, or_right}
-use Rattle.std.proofs.lemmas.Int.{ints}
 use Rattle.std.proofs.lemmas.List.{length-map}
 use Rattle.std.proofs.lemmas.Nat.{div-mul-add}
-use Rattle.ih_tables.specs.declared.bills.Bill.{Bill}
 use Rattle.ih_tables.specs.declared.drafts.Draft.{Draft}
 use Rattle.ih_tables.specs.declared.ids.PatientNo.{PatientNo}
 use Rattle.ih_tables.specs.declared.ids.RoomNo.{RoomNo}
 use Rattle.ih_tables.specs.declared.ids.Day.{Day}
 use Rattle.ih_tables.specs.declared.cells.Cell.TheVariants.{RoomDay}
 use Rattle.ih_tables.specs.Sizes.{patient_count}
-use Rattle.ih_tables.specs.Bills.{sub_bills, zero_bill}
 use Rattle.ih_plan.specs.declared.moves.Placement.{Placement}
 use Rattle.ih_plan.specs.declared.moves.Write.TheVariants.{SetStay}
 use Rattle.ih_plan.specs.Timetable.{Timetable, stay_of}
@@ -20,12 +17,9 @@ use Rattle.ih_plan.specs.Writes.{put}
 use Rattle.ih_plan.specs.Presence.{is_in, is_present, placed_at, present}
 use Rattle.ih_plan.specs.Persons.{person_of}
 use Rattle.ih_plan.specs.Cells.{part_at}
-use Rattle.ih_plan.specs.BillOf.{as_bill}
-use Rattle.ih_plan.specs.Sums.{bit}
 use Rattle.ih_plan.proofs.Entries.{admission-patient, admission-set}
 use Rattle.ih_links.specs.Lists.{AreNodes, IsOnce, has, without}
 use Rattle.ih_links.proofs.Members.{apart, has-append, has-without_self, has-without_other, length-once, length-without, once-append, once-without, without-none}
-use Rattle.ih_roomdays.specs.declared.bills.RoomDayCounts.{RoomDayCounts}
 use Rattle.ih_roomdays.specs.declared.rows.Rows.{Rows}
 use Rattle.ih_roomdays.specs.Company.{with_if}
 use Rattle.ih_roomdays.specs.Ledger.{IsLedgerOf}
@@ -89,7 +83,7 @@ module _ (v : Rows) (rows : AreRows v) (r d x : ℕ) (day : d < v.days) where
       let nodes = rows.few_nodes in
       omega arith
 
--- ---- the parts before and after
+-- ---- the part with another stay
 
 module _ (I : Draft) (P : Timetable) (v : Rows) (stands : IsLedgerOf I P v) (p : PatientNo) (known : p.0 < patient_count I) (r : RoomNo) (d : Day) (day : d.0 < I.days) where
   within : d.0 < v.days
@@ -119,47 +113,6 @@ module _ (I : Draft) (P : Timetable) (v : Rows) (stands : IsLedgerOf I P v) (p :
   pub was-at : (s : Option Placement) (b : Bool) → stay_of P p.0 ≡ s → b ≡ there_by s → b ≡ is_at v r.0 d.0 p.0
   was-at s b e was = was ∙ sym (stands.each r.0 d.0 p.0 day ∙ is-there s e)
 
-  pub part-before : (s : Option Placement) (b : Bool) → stay_of P p.0 ≡ s → b ≡ there_by s → room_day_part (room_counts I r.0 (company b)) ≡ part_at I P (RoomDay r d)
-  part-before s b e was = part-of P b (λ x ne. refl) (is-there s e ∙ sym was)
-
   pub part-after : (s : Option Placement) (b : Bool) → b ≡ there_by s → room_day_part (room_counts I r.0 (company b)) ≡ part_at I (put (SetStay p s) P) (RoomDay r d)
   part-after s b will = part-of (put (SetStay p s) P) b (λ x ne. others I P p s r.0 d.0 x ne)
       (ap (λ a. is_in a (person_of I p.0).length_of_stay r.0 d.0) (admission-set I P p s stands.plan known) ∙ sym will)
-
--- ---- bills of equal numbers
-
-nothing-more : (n : ℕ) → pos n -ℤ pos n ≡ pos 0
-nothing-more n = omega (arith, ints)
-
-pub no-change : (c : RoomDayCounts) → zero_bill ≡ sub_bills (as_bill (room_day_part c)) (as_bill (room_day_part c))
-no-change c =
-    let mixed = nothing-more (bit c.mixed) in
-    let over = nothing-more c.over in
-    let spread = nothing-more c.spread in
-    rw (mixed, over, spread) refl
-
--- ---- the change of the part
-
-abbrev pub IsChange : Draft → Timetable → PatientNo → Option Placement → RoomNo → Day → Bill → Type 0
-IsChange I P p new r d change = change ≡ sub_bills (as_bill (part_at I (put (SetStay p new) P) (RoomDay r d))) (as_bill (part_at I P (RoomDay r d)))
-
-module _ (I : Draft) (P : Timetable) (v : Rows) (stands : IsLedgerOf I P v) (p : PatientNo) (known : p.0 < patient_count I) (r : RoomNo) (d : Day) (day : d.0 < I.days)
-    (old new : Option Placement) (stay : stay_of P p.0 ≡ old) (was will : Bool) (was_is : was ≡ is_in (option_map placed_at old) (person_of I p.0).length_of_stay r.0 d.0)
-    (will_is : will ≡ is_in (option_map placed_at new) (person_of I p.0).length_of_stay r.0 d.0) where
-  pub change-from : room_day_part (room_counts I r.0 (with_if was p.0 (without p.0 (persons_at v r.0 d.0)))) ≡ part_at I P (RoomDay r d)
-  change-from = part-before I P v stands p known r d day old was stay was_is
-
-  pub change-to : room_day_part (room_counts I r.0 (with_if will p.0 (without p.0 (persons_at v r.0 d.0)))) ≡ part_at I (put (SetStay p new) P) (RoomDay r d)
-  change-to = part-after I P v stands p known r d day new will will_is
-
-  pub change-is : (before after : RoomDayCounts) → before ≡ room_counts I r.0 (with_if was p.0 (without p.0 (persons_at v r.0 d.0)))
-      → after ≡ room_counts I r.0 (with_if will p.0 (without p.0 (persons_at v r.0 d.0))) → IsChange I P p new r d (sub_bills (as_bill (room_day_part after)) (as_bill (room_day_part before)))
-  change-is before after from to =
-      let old_part = ap room_day_part from ∙ change-from in
-      let new_part = ap room_day_part to ∙ change-to in
-      ap (λ k. sub_bills (as_bill k) (as_bill (room_day_part before))) new_part ∙ ap (λ k. sub_bills (as_bill (part_at I (put (SetStay p new) P) (RoomDay r d))) (as_bill k)) old_part
-
-  pub change-none : was ≡ will → IsChange I P p new r d zero_bill
-  change-none same =
-      let kept = room_counts I r.0 (with_if was p.0 (without p.0 (persons_at v r.0 d.0))) in
-      no-change kept ∙ change-is kept kept refl (ap (λ b. room_counts I r.0 (with_if b p.0 (without p.0 (persons_at v r.0 d.0)))) same)

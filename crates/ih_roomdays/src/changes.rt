@@ -86,41 +86,6 @@ fn others(rows: &Rows, r: RoomNo, d: Day, x: u32, there: bool) -> u32
     if there { count - 1 } else { count }
 }
 
-/// What the room's day breaks and costs with the patient there or not: before, where the patient `was` there, and
-/// after, where the patient `will` be.
-pub fn before_and_after(
-    inst: &Instance,
-    rows: &Rows,
-    r: RoomNo,
-    d: Day,
-    p: PatientNo,
-    was: bool,
-    will: bool,
-) -> (RoomDayCounts, RoomDayCounts)
-    requires rows { AreRows rows.now }
-    requires profiles { AreProfiles inst.now.draft rows.now.profiles }
-    requires rooms { rows.now.rooms ≡ room_count inst.now.draft }
-    requires persons { rows.now.persons ≡ person_count inst.now.draft }
-    requires room { r.0 < room_count inst.now.draft }
-    requires day { d.0 < rows.now.days }
-    requires patient { p.0 < patient_count inst.now.draft }
-    requires was { was ≡ is_at rows.now r.0 d.0 p.0 }
-    ensures before { result.0 ≡ room_counts inst.now.draft r.0 (with_if was p.0 (without p.0 (persons_at rows.now r.0 d.0))) }
-    ensures after { result.1 ≡ room_counts inst.now.draft r.0 (with_if will p.0 (without p.0 (persons_at rows.now r.0 d.0))) }
-{
-    let seen = company_but(
-        inst,
-        &rows.profiles,
-        &rows.links,
-        r.0 * rows.days + d.0,
-        p.0,
-    );
-    let count = others(rows, r, d, p.0, was);
-    let before = room_counts_with(inst, &rows.profiles, r, seen, count, p.0, was);
-    let after = room_counts_with(inst, &rows.profiles, r, seen, count, p.0, will);
-    (before, after)
-}
-
 /// What the room's day breaks and costs without the patient, and with the patient there, who `was` there or not.
 pub fn without_and_with(
     inst: &Instance,

@@ -14,7 +14,7 @@ ghost use Rattle.ih_plan.specs.BillOf.{as_bill};
 ghost use Rattle.ih_roomdays.specs.Ledger.{IsLedgerOf, LedgersTell};
 
 use crate::bills::{room_day_bill, room_day_change};
-use crate::changes::{before_and_after, is_there, room_counts, without_and_with};
+use crate::changes::{is_there, room_counts, without_and_with};
 use crate::companies::company_of;
 use crate::profiles::profiles_of;
 use crate::rows::{NODES_EACH, Rows};
@@ -96,34 +96,6 @@ impl RoomDays {
         let seen = company_of(inst, &self.rows.profiles, &self.rows.links, head);
         let count = self.rows.links.len(head);
         room_day_bill(room_counts(inst, r, seen, count))
-    }
-
-    /// What the part of the bill that the room has on the day would be more, were the patient's stay `new` in place of
-    /// `old`: the part afterwards less the part now.
-    pub fn cell_change(
-        &self,
-        inst: &Instance,
-        r: RoomNo,
-        d: Day,
-        p: PatientNo,
-        old: Option<Placement>,
-        new: Option<Placement>,
-    ) -> Bill
-        requires room { r.0 < room_count inst.now.draft }
-        requires day { d.0 < inst.now.draft.days }
-        requires patient { p.0 < patient_count inst.now.draft }
-        requires stands { (P : Timetable) × IsLedgerOf inst.now.draft P self.now × (stay_of P p.0 ≡ old) }
-        ensures change { (P : Timetable) → IsLedgerOf inst.now.draft P self.now → stay_of P p.0 ≡ old
-            → result ≡ sub_bills (as_bill (part_at inst.now.draft (put (SetStay p new) P) (RoomDay r d))) (as_bill (part_at inst.now.draft P (RoomDay r d))) }
-        ensures within { IsWithin (10 ^ 11) result }
-    {
-        let was = is_there(inst, p, old, r, d);
-        let will = is_there(inst, p, new, r, d);
-        if was == will {
-            return Bill::zero();
-        }
-        let (before, after) = before_and_after(inst, &self.rows, r, d, p, was, will);
-        room_day_change(after, before)
     }
 
     /// How much more a placement's room breaks and costs on one of its days with the patient there than without, whose
