@@ -1,17 +1,19 @@
 -- What a theatre and a surgeon have more on a placement's day of admission with the patient there than without.
-use Rattle.std.proofs.Common.{◌≡◌, ℕ, ◌-◌, ◌<◌, refl, arith, ap, ◌∙◌, Bool, true, false, List, length, Option, Some, None}
+use Rattle.std.proofs.Common.{◌≡◌, ℕ, ◌-◌, ◌<◌, refl, arith, sym, ap, ◌∙◌, Bool, true, false, List, length, Option, Some, None}
 use Rattle.std.specs.Prelude.{◌&&◌, ◌||◌, ◌==◌, map, not, option_map}
 use Rattle.std.specs.List.{list_any}
 use Rattle.std.proofs.lemmas.Bool.{eq-eqb, and_from, and_right}
 use Rattle.ih_tables.specs.declared.drafts.Draft.{Draft}
 use Rattle.ih_tables.specs.declared.ids.PatientNo.{PatientNo}
+use Rattle.ih_tables.specs.declared.ids.TheatreNo.{TheatreNo}
 use Rattle.ih_tables.specs.declared.ids.SurgeonNo.{SurgeonNo}
+use Rattle.ih_tables.specs.declared.ids.Day.{Day}
 use Rattle.ih_tables.specs.declared.cells.Cell.{Cell}
 use Rattle.ih_tables.specs.declared.cells.Cell.TheVariants.{TheatreDay, SurgeonDay}
 use Rattle.ih_tables.specs.declared.bills.Bill.{Bill}
 use Rattle.ih_tables.specs.Bills.{sub_bills}
 use Rattle.ih_tables.specs.Sizes.{patient_count, theatre_count}
-use Rattle.ih_links.specs.Lists.{without, list_of}
+use Rattle.ih_links.specs.Lists.{has, without, list_of}
 use Rattle.ih_plan.specs.declared.moves.Placement.{Placement}
 use Rattle.ih_plan.specs.declared.moves.Write.TheVariants.{SetStay}
 use Rattle.ih_plan.specs.Timetable.{Timetable, IsPlanOf, stay_of}
@@ -27,6 +29,23 @@ use Rattle.ih_theatres.specs.Ledger.{IsLedgerOf}
 use Rattle.ih_theatres.specs.Marks.{is_marked}
 use Rattle.ih_theatres.specs.Parts.{theatre_part, surgeon_part}
 use Rattle.ih_theatres.proofs.OtherLemmas.{theatre-at, surgeon-at}
+use Rattle.ih_theatres.proofs.PartLemmas.{theatre-each, surgeon-each}
+
+-- ---- whether the patient, whose stay is known, is in a day's list
+
+module _ {I : Draft} {P : Timetable} {l : Theatres} (plan : IsPlanOf I P) (stands : IsLedgerOf I P l) (p : PatientNo) (old : Option Placement) (stay : stay_of P p.0 ≡ old) (d : Day) (day : d.0 < I.days)
+    (was : Bool) (today : ℕ) where
+  pub theatre-was : (t : TheatreNo) → was ≡ operated_in t.0 d.0 old → today ≡ day_number I t.0 d.0 → was ≡ has p.0 (list_of l.theatre_days today)
+  theatre-was t was_is today_is =
+      was_is ∙ sym (ap (λ h. has p.0 (list_of l.theatre_days h)) today_is ∙ (theatre-each plan stands t.0 d.0 day p.0 ∙ ap (operated_in t.0 d.0) stay))
+
+  pub surgeon-was : (s : SurgeonNo) → was ≡ (is_number (surgeon_of I p.0) s.0 && admitted_on d.0 old) → today ≡ day_number I s.0 d.0 → was ≡ has p.0 (list_of l.surgeon_days today)
+  surgeon-was s was_is today_is =
+      was_is
+      ∙ sym (ap (λ h. has p.0 (list_of l.surgeon_days h)) today_is
+      ∙ (surgeon-each plan stands s.0 d.0 day p.0 ∙ ap (λ o. is_number (surgeon_of I p.0) s.0 && admitted_on d.0 o) stay))
+
+-- ---- the gains
 
 -- the cell's part with the placement less that without it
 abbrev pub gain_in : Draft → Timetable → PatientNo → Placement → Cell → Bill

@@ -5,5 +5,4 @@ pub mod PartLemmas
 pub mod OtherLemmas
 pub mod MinuteLemmas
 pub mod LedgerLemmas
-pub mod ChangeLemmas
 pub mod GainLemmas

@@ -1,6 +1,6 @@
 //! What a patient's stay makes of the bill of a day of a theatre or a surgeon, without the change being made.
 
-ghost use Rattle.std.specs.Prelude.{◌≡◌, ◌<◌, ◌≤◌, ◌+◌, ◌-◌, ◌&&◌, ◌||◌, ℕ, List, not, map, length, slice_index_or, ◌==◌, option_map, IfSome, All, if◌then◌else◌, None, true, false};
+ghost use Rattle.std.specs.Prelude.{◌≡◌, ◌<◌, ◌≤◌, ◌+◌, ◌-◌, ◌&&◌, ◌||◌, ℕ, List, not, map, length, slice_index_or, ◌==◌, option_map, IfSome, All, if◌then◌else◌, None};
 ghost use Rattle.std.specs.List.{list_any};
 ghost use Rattle.ih_links.specs.Lists.{list_of, has, without, IsOnce};
 ghost use Rattle.ih_tables.specs.declared.ids.TheatreNo.{TheatreNo};
@@ -51,33 +51,6 @@ pub fn is_operated_by(
     ensures { result ≡ (is_number (surgeon_of inst.now.draft p.0) s.0 && admitted_on d.0 stay) }
 {
     inst.patient(p).surgeon_id.0 == s.0 && is_admitted_on(stay, d)
-}
-
-// The theatre of two stays is one, or neither has any.
-fn are_in_one_theatre(old: Option<Placement>, new: Option<Placement>) -> bool
-    ensures { result ≡ true → option_map (λ (at : Placement). at.theatre.0) old ≡ option_map (λ (at : Placement). at.theatre.0) new }
-{
-    match old {
-        None => new.is_none(),
-        Some(a) => match new {
-            None => false,
-            Some(b) => a.theatre.0 == b.theatre.0,
-        },
-    }
-}
-
-/// A surgeon's day stays as it is: the patient was there where it will be, and in the same theatre.
-#[inline(always)]
-pub fn is_kept(was: bool, will: bool, old: Option<Placement>, new: Option<Placement>) -> bool
-    ensures away { was ≡ false → will ≡ false → result ≡ true }
-    ensures presence { result ≡ true → was ≡ will }
-    ensures theatre { result ≡ true → was ≡ true → option_map (λ (at : Placement). at.theatre.0) old ≡ option_map (λ (at : Placement). at.theatre.0) new }
-{
-    if was && will {
-        are_in_one_theatre(old, new)
-    } else {
-        !was && !will
-    }
 }
 
 /// The minutes of surgery of all patients of a list but p, who is there or not, from those of the whole list.

@@ -1,6 +1,6 @@
 //! The ledger of theatres and surgeons: it stands for a timetable, and gives what each of their days costs.
 
-ghost use Rattle.std.specs.Prelude.{◌≡◌, ◌<◌, ◌-◌, ◌^◌, Some, None, IfOk, IfSome, not};
+ghost use Rattle.std.specs.Prelude.{◌≡◌, ◌<◌, ◌-◌, ◌^◌, Some, None, IfOk, not};
 ghost use Rattle.ih_tables.specs.Sizes.{patient_count, theatre_count, surgeon_count};
 ghost use Rattle.ih_tables.specs.Bills.{IsWithin, sub_bills};
 ghost use Rattle.ih_tables.specs.declared.cells.Cell.TheVariants.{TheatreDay, SurgeonDay};
@@ -14,8 +14,8 @@ ghost use Rattle.ih_plan.specs.Cells.{part_at};
 ghost use Rattle.ih_theatres.specs.Ledger.{IsLedgerOf};
 
 use crate::changes::{
-    is_kept, is_operated_by, is_operated_in, is_used_by_others, minutes_but, surgeon_counts,
-    theatre_counts, theatres_but,
+    is_operated_by, is_operated_in, is_used_by_others, minutes_but, surgeon_counts, theatre_counts,
+    theatres_but,
 };
 use crate::days::{day_count, day_number, is_used, theatres_used};
 use crate::marks::{bit, count_marked};
@@ -153,75 +153,6 @@ impl Theatres {
         let marks = theatres_used(&self.surgeon_days, today, self.theatres.as_slice());
         let used = count_marked(marks);
         surgeon_part(over, used.saturating_sub(1))
-    }
-
-    /// What a theatre's day would cost more, were the patient's stay `new` in place of `old`: the part of the bill
-    /// afterwards less the part now.
-    pub fn theatre_change(
-        &self,
-        inst: &Instance,
-        t: TheatreNo,
-        d: Day,
-        p: PatientNo,
-        old: Option<Placement>,
-        new: Option<Placement>,
-    ) -> Bill
-        requires theatre { t.0 < theatre_count inst.now.draft }
-        requires day { d.0 < inst.now.draft.days }
-        requires patient { p.0 < patient_count inst.now.draft }
-        requires stands { (P : Timetable) × IsPlanOf inst.now.draft P × IsLedgerOf inst.now.draft P self.now × (stay_of P p.0 ≡ old) }
-        ensures change { (P : Timetable) → IsPlanOf inst.now.draft P → IsLedgerOf inst.now.draft P self.now → stay_of P p.0 ≡ old
-            → result ≡ sub_bills (as_bill (part_at inst.now.draft (put (SetStay p new) P) (TheatreDay t d))) (as_bill (part_at inst.now.draft P (TheatreDay t d))) }
-        ensures within { IsWithin (10 ^ 11) result }
-    {
-        let was = is_operated_in(old, t, d);
-        let will = is_operated_in(new, t, d);
-        if was == will {
-            return Bill::zero();
-        }
-        let today = day_number(inst, t.0, d);
-        let most = theatre_minutes(inst, t, d);
-        let planned = self.theatre_minutes[today as usize];
-        let others = minutes_but(inst, planned, p, was);
-        let used = is_used_by_others(&self.theatre_days, today, p, was);
-        let before = theatre_counts(inst, others, used, p, was, most);
-        let after = theatre_counts(inst, others, used, p, will, most);
-        theatre_change(after, before)
-    }
-
-    /// What a surgeon's day would cost more, were the patient's stay `new` in place of `old`: the part of the bill
-    /// afterwards less the part now.
-    pub fn surgeon_change(
-        &self,
-        inst: &Instance,
-        s: SurgeonNo,
-        d: Day,
-        p: PatientNo,
-        old: Option<Placement>,
-        new: Option<Placement>,
-    ) -> Bill
-        requires surgeon { s.0 < surgeon_count inst.now.draft }
-        requires day { d.0 < inst.now.draft.days }
-        requires patient { p.0 < patient_count inst.now.draft }
-        requires placement { IfSome new (IsPlacement inst.now.draft) }
-        requires stands { (P : Timetable) × IsPlanOf inst.now.draft P × IsLedgerOf inst.now.draft P self.now × (stay_of P p.0 ≡ old) }
-        ensures change { (P : Timetable) → IsPlanOf inst.now.draft P → IsLedgerOf inst.now.draft P self.now → stay_of P p.0 ≡ old
-            → result ≡ sub_bills (as_bill (part_at inst.now.draft (put (SetStay p new) P) (SurgeonDay s d))) (as_bill (part_at inst.now.draft P (SurgeonDay s d))) }
-        ensures within { IsWithin (10 ^ 11) result }
-    {
-        let was = is_operated_by(inst, p, old, s, d);
-        let will = is_operated_by(inst, p, new, s, d);
-        if is_kept(was, will, old, new) {
-            return Bill::zero();
-        }
-        let today = day_number(inst, s.0, d);
-        let most = surgeon_minutes(inst, s, d);
-        let planned = self.surgeon_minutes[today as usize];
-        let others = minutes_but(inst, planned, p, was);
-        let used = theatres_but(&self.surgeon_days, today, self.theatres.as_slice(), p);
-        let before = surgeon_counts(inst, others, used, p, was, old, most);
-        let after = surgeon_counts(inst, others, used, p, will, new, most);
-        surgeon_change(after, before)
     }
 
     /// How much more a placement's theatre breaks and costs on the day of admission with the patient there than

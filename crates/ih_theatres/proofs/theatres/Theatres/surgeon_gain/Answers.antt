@@ -1,7 +1,6 @@
-use Rattle.std.proofs.Common.{◌∙◌, arith, None}
+use Rattle.std.proofs.Common.{◌∙◌, arith}
 use Rattle.ih_links.specs.Lists.{list_of, without}
-use Rattle.ih_theatres.proofs.ChangeLemmas.{surgeon-was}
-use Rattle.ih_theatres.proofs.GainLemmas.{surgeon-gain}
+use Rattle.ih_theatres.proofs.GainLemmas.{surgeon-was, surgeon-gain}
 use Rattle.ih_theatres.proofs.LedgerLemmas.{surgeon-is, surgeon-most, theatres-few, marks-below}
 use Rattle.ih_theatres.proofs.theatres.Theatres.surgeon_gain.Goals as goal
 
@@ -13,7 +12,7 @@ minutes_but-others-requires-clause-list c =
       list_of c.args.self.now.surgeon_days c.day_number-today.result,
       (s.2.surgeon_days.known c.day_number-today.result).once,
       surgeon-is s.2 day.0 c.day_number-today.result inside c.args.s.0 c.requires.surgeon c.day_number-today.ensures c.index-planned.result.now c.index-planned.ensures,
-      surgeon-was s.1 s.2 c.args.p c.requires.patient c.args.old None s.3 c.args.s day c.is_operated_by-was.result c.day_number-today.result inside
+      surgeon-was s.1 s.2 c.args.p c.args.old s.3 day inside c.is_operated_by-was.result c.day_number-today.result c.args.s
           c.is_operated_by-was.ensures c.day_number-today.ensures,
     )
 
@@ -53,7 +52,7 @@ returns-clause-gain c = λ P plan stands stay.
     let others = without c.args.p.0 (list_of c.args.self.now.surgeon_days c.day_number-today.result) in
     let sum = c.minutes_but-others.ensures.sum (list_of c.args.self.now.surgeon_days c.day_number-today.result) (stands.surgeon_days.known c.day_number-today.result).once
     (surgeon-is stands at.day.0 c.day_number-today.result inside c.args.s.0 c.requires.surgeon c.day_number-today.ensures c.index-planned.result.now c.index-planned.ensures)
-    (surgeon-was plan stands c.args.p c.requires.patient c.args.old None stay c.args.s at.day c.is_operated_by-was.result c.day_number-today.result inside
+    (surgeon-was plan stands c.args.p c.args.old stay at.day inside c.is_operated_by-was.result c.day_number-today.result c.args.s
     c.is_operated_by-was.ensures c.day_number-today.ensures) in
     c.surgeon_change.ensures.value
     ∙ surgeon-gain plan stands c.args.p c.requires.patient at inside c.args.s c.requires.own c.day_number-today.result c.surgeon_minutes-most.result c.day_number-today.ensures c.surgeon_minutes-most.ensures

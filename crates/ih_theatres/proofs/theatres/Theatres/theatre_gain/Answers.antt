@@ -1,7 +1,6 @@
-use Rattle.std.proofs.Common.{◌∙◌, arith, None}
+use Rattle.std.proofs.Common.{◌∙◌, arith}
 use Rattle.ih_links.specs.Lists.{list_of, without}
-use Rattle.ih_theatres.proofs.ChangeLemmas.{theatre-was}
-use Rattle.ih_theatres.proofs.GainLemmas.{theatre-gain}
+use Rattle.ih_theatres.proofs.GainLemmas.{theatre-was, theatre-gain}
 use Rattle.ih_theatres.proofs.LedgerLemmas.{theatre-is, theatre-most}
 use Rattle.ih_theatres.proofs.theatres.Theatres.theatre_gain.Goals as goal
 
@@ -13,7 +12,7 @@ minutes_but-others-requires-clause-list c =
       list_of c.args.self.now.theatre_days c.day_number-today.result,
       (s.2.theatre_days.known c.day_number-today.result).once,
       theatre-is s.2 at.day.0 c.day_number-today.result fits.day at.theatre.0 fits.theatre c.day_number-today.ensures c.index-planned.result.now c.index-planned.ensures,
-      theatre-was s.1 s.2 c.args.p c.requires.patient c.args.old None s.3 at.theatre at.day c.is_operated_in-was.result c.day_number-today.result fits.day
+      theatre-was s.1 s.2 c.args.p c.args.old s.3 at.day fits.day c.is_operated_in-was.result c.day_number-today.result at.theatre
           c.is_operated_in-was.ensures c.day_number-today.ensures,
     )
 
@@ -39,7 +38,7 @@ is_used_by_others-used-requires-clause-once c = (c.requires.stands.2.theatre_day
 pub is_used_by_others-used-requires-clause-there : goal.is_used_by_others-used-requires-clause-there
 is_used_by_others-used-requires-clause-there c =
     let s = c.requires.stands in
-    theatre-was s.1 s.2 c.args.p c.requires.patient c.args.old None s.3 c.args.at.theatre c.args.at.day c.is_operated_in-was.result c.day_number-today.result c.requires.placement.day
+    theatre-was s.1 s.2 c.args.p c.args.old s.3 c.args.at.day c.requires.placement.day c.is_operated_in-was.result c.day_number-today.result c.args.at.theatre
     c.is_operated_in-was.ensures c.day_number-today.ensures
 
 pub returns-clause-gain : goal.returns-clause-gain
@@ -49,7 +48,7 @@ returns-clause-gain c = λ P plan stands stay.
     let others = without c.args.p.0 (list_of c.args.self.now.theatre_days c.day_number-today.result) in
     let sum = c.minutes_but-others.ensures.sum (list_of c.args.self.now.theatre_days c.day_number-today.result) (stands.theatre_days.known c.day_number-today.result).once
     (theatre-is stands at.day.0 c.day_number-today.result fits.day at.theatre.0 fits.theatre c.day_number-today.ensures c.index-planned.result.now c.index-planned.ensures)
-    (theatre-was plan stands c.args.p c.requires.patient c.args.old None stay at.theatre at.day c.is_operated_in-was.result c.day_number-today.result fits.day
+    (theatre-was plan stands c.args.p c.args.old stay at.day fits.day c.is_operated_in-was.result c.day_number-today.result at.theatre
     c.is_operated_in-was.ensures c.day_number-today.ensures) in
     c.theatre_change.ensures.value
     ∙ theatre-gain plan stands c.args.p c.requires.patient at fits.day c.day_number-today.result c.theatre_minutes-most.result c.day_number-today.ensures c.theatre_minutes-most.ensures
