@@ -22,8 +22,7 @@ use Rattle.ih_plan.proofs.Numbers.{sum_by_kind, stay_cell, room_day_cell, theatr
 use Rattle.ih_plan.proofs.Parts.{total}
 use Rattle.ih_plan.proofs.SumLemmas.{sum_below-same}
 use Rattle.ih_footprint.proofs.Locality.{frame}
-use Rattle.ih_costs.proofs.GainLemmas.{apart_from}
-use Rattle.ih_costs.proofs.SpanSums.{at_place, sum_below-but_places, sum_below-passing, rows-same, rows-but, columns-but}
+use Rattle.ih_costs.proofs.SpanSums.{apart_from, at_place, sum_below-but_places, sum_below-passing, rows-same, rows-but, columns-but}
 
 -- the number of the new nurse, where there is one
 abbrev pub number_of : Option NurseNo → Option ℕ

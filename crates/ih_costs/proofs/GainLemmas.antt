@@ -1,7 +1,7 @@
 -- What a placement changes in the bill is its gain: the parts of its cells, summed over its days and shifts.
-use Rattle.std.proofs.Common.{◌≡◌, ℕ, ◌+◌, ◌*◌, ◌<◌, ◌≤◌, refl, arith, ap, sym, subst, ◌∙◌, Bool, false, Option, Some, None}
+use Rattle.std.proofs.Common.{◌≡◌, ℕ, ◌+◌, ◌*◌, ◌<◌, ◌≤◌, refl, arith, ap, subst, ◌∙◌, Bool, false, Option, Some, None}
 use Rattle.std.specs.Prelude.{◌||◌, ◌==◌, min, nat_le, nat_lt, option_map, slice_get}
-use Rattle.std.proofs.lemmas.Bool.{ne_eqb, and_left, and_right, lt-leb, le-ltb}
+use Rattle.std.proofs.lemmas.Bool.{and_left, and_right, lt-leb, le-ltb}
 use Rattle.ih_tables.specs.declared.drafts.Draft.{Draft}
 use Rattle.ih_tables.specs.declared.drafts.Patient.{Patient}
 use Rattle.ih_tables.specs.declared.ids.PatientNo.{PatientNo}
@@ -25,7 +25,7 @@ use Rattle.ih_plan.proofs.Parts.{total}
 use Rattle.ih_plan.proofs.SumLemmas.{sum_below-same, sum_below-but}
 use Rattle.ih_footprint.proofs.FrameStay.{frame_stay}
 use Rattle.ih_costs.specs.StayGain.{end_of, of_stay, of_care, over_days, of_theatre, of_surgeon, over_shifts, of_nurse, over_loads}
-use Rattle.ih_costs.proofs.SpanSums.{rows-but, rows-but_span, columns-but_span}
+use Rattle.ih_costs.proofs.SpanSums.{apart_from, rows-but, rows-but_span, columns-but_span}
 
 -- ---- which days and shifts a stay has
 
@@ -48,9 +48,6 @@ day_behind b k h = omega arith
 
 day_within : (days k : ℕ) → k < 3 * days → day_of k < days
 day_within days k h = omega arith
-
-pub apart_from : (a b : ℕ) → (b ≡ a → ⊥) → (a == b) ≡ false
-apart_from a b ne = ne_eqb a b (λ e. ne (sym e))
 
 -- a patient's surgeon is one of the instance's
 pub surgeon-in : (I : Draft) (p s : ℕ) → IsValid I → surgeon_of I p ≡ Some s → s < surgeon_count I

@@ -1,4 +1,3 @@
-pub mod PartLemmas
 pub mod CopyLemmas
 pub mod UndoLemmas
 pub mod StandLemmas

@@ -81,13 +81,13 @@ sum_below-but_two n a b f g ha hb ne e =
       | inr apart ↦ rw (ne_eqb i b apart) (e i h other apart)
     ]
 
+pub apart_from : (a b : ℕ) → (b ≡ a → ⊥) → (a == b) ≡ false
+apart_from a b ne = ne_eqb a b (λ e. ne (sym e))
+
 -- what a function gives at a place, and nothing at none
 abbrev pub at_place : (ℕ → ℕ) → Option ℕ → ℕ
 at_place f None = 0
 at_place f (Some i) = f i
-
-elsewhere : (a i : ℕ) → (i ≡ a → ⊥) → (a == i) ≡ false
-elsewhere a i other = ne_eqb a i (λ e. other (sym e))
 
 -- Sums that agree but at two places that differ, each of which may be none.
 pub sum_below-but_places : (n : ℕ) (f g : ℕ → ℕ) (a b : Option ℕ) → (a ≡ b → ⊥) → ((i : ℕ) → a ≡ Some i → i < n) → ((i : ℕ) → b ≡ Some i → i < n)
@@ -95,13 +95,13 @@ pub sum_below-but_places : (n : ℕ) (f g : ℕ → ℕ) (a b : Option ℕ) → 
     → sum_below n f + (at_place g a + at_place g b) ≡ sum_below n g + (at_place f a + at_place f b)
 sum_below-but_places n f g None None ne ha hb e = absurd (ne refl)
 sum_below-but_places n f g None (Some b) ne ha hb e =
-    let one = sum_below-but n b f g (hb b refl) (λ i h other. e i h refl (elsewhere b i other)) in
+    let one = sum_below-but n b f g (hb b refl) (λ i h other. e i h refl (apart_from b i other)) in
     omega (arith, one)
 sum_below-but_places n f g (Some a) None ne ha hb e =
-    let one = sum_below-but n a f g (ha a refl) (λ i h other. e i h (elsewhere a i other) refl) in
+    let one = sum_below-but n a f g (ha a refl) (λ i h other. e i h (apart_from a i other) refl) in
     omega (arith, one)
 sum_below-but_places n f g (Some a) (Some b) ne ha hb e =
-    sum_below-but_two n a b f g (ha a refl) (hb b refl) (λ same. ne (ap Some same)) (λ i h one two. e i h (elsewhere a i one) (elsewhere b i two))
+    sum_below-but_two n a b f g (ha a refl) (hb b refl) (λ same. ne (ap Some same)) (λ i h one two. e i h (apart_from a i one) (apart_from b i two))
 
 -- sums that agree where a test doesn't pass
 pub sum_below-passing : (n : ℕ) (f g : ℕ → ℕ) (test : ℕ → Bool) → ((i : ℕ) → i < n → test i ≡ false → f i ≡ g i)

@@ -1,9 +1,6 @@
 -- Ledgers that stand for a timetable stand for it after writes too.
-use Rattle.std.proofs.Common.{◌≡◌, ℕ, ◌<◌, ◌∙◌, sym, ap, subst, arith, List, length, Option}
-use Rattle.std.specs.Prelude.{slice_index_or}
-use Rattle.std.proofs.lemmas.List.FromFn.{get_or-map-range_with_len, length-map-range_with_len}
+use Rattle.std.proofs.Common.{◌≡◌, sym, subst, Option}
 use Rattle.ih_tables.specs.declared.drafts.Draft.{Draft}
-use Rattle.ih_tables.specs.declared.cells.Cell.{Cell}
 use Rattle.ih_tables.specs.declared.ids.RoomNo.{RoomNo}
 use Rattle.ih_tables.specs.declared.ids.Shift.{Shift}
 use Rattle.ih_tables.specs.declared.ids.NurseNo.{NurseNo}
@@ -11,8 +8,6 @@ use Rattle.ih_plan.specs.declared.moves.Write.TheVariants.{SetCare}
 use Rattle.ih_plan.specs.Timetable.{Timetable, IsPlanOf}
 use Rattle.ih_plan.specs.Writes.{put, IsWriteOf}
 use Rattle.ih_plan.specs.Presence.{admission_of}
-use Rattle.ih_plan.specs.Sums.{listed}
-use Rattle.ih_plan.specs.Cells.{cell_at, cell_count}
 use Rattle.ih_plan.proofs.PlanRanges.{put-plan}
 use Rattle.ih_roomdays.specs.declared.rows.Rows.{Rows}
 use Rattle.ih_roomdays.specs.Ledger.{IsLedgerOf as Has_room_days}
@@ -55,11 +50,3 @@ theatres-care I P l r k n stands = record {
   theatre_minutes = stands.theatre_minutes;
   surgeon_minutes = stands.surgeon_minutes;
 }
-
--- ---- the cells by number
-
-pub cell-known : (I : Draft) (cells : List Cell) (n : ℕ) (c : Cell) → cells ≡ listed (cell_count I) (cell_at I) → n < cell_count I → c ≡ slice_index_or cells n c → c ≡ cell_at I n
-cell-known I cells n c all below here = here ∙ (ap (λ cs. slice_index_or cs n c) all ∙ get_or-map-range_with_len (cell_at I) 0 (cell_count I) n n c below (omega arith))
-
-pub cell-there : (I : Draft) (cells : List Cell) (n : ℕ) → cells ≡ listed (cell_count I) (cell_at I) → n < cell_count I → n < length cells
-cell-there I cells n all below = subst (λ m. n < m) (sym (ap length all ∙ length-map-range_with_len (cell_at I) 0 (cell_count I))) below

@@ -79,12 +79,6 @@ gathers-touched I P u v w ns sizes same touched each = record {
       ap (λ z. is_listed (number_in z c) v.cells) same ∙ (each n ∙ ap (λ b. is_listed n u.cells || b) listed);
 }
 
--- which pass a test of the numbers of all cells
-pub listed-passing : (I : Draft) (P : Timetable) (ns : List ℕ) (ws : List Write)
-    → listed_or_touched I P ns ws ≡ which_below (cell_count I) (λ n. is_listed n ns || writes_touch I P ws (cell_at I n))
-unfolding listed_or_touched
-listed-passing I P ns ws = refl
-
 -- with the cells that a move looks at listed alone
 pub touched-all : (I : Draft) (P : Timetable) (m : Move) (u v : Gathered) → u.sizes ≡ sizes_of I → u.cells ≡ [] → Gathers u v (looks_at m)
     → listed_or_touched I P v.cells (expand I P m) ≡ footprint I P m
@@ -100,11 +94,6 @@ pub listed-footprint : (I : Draft) (P Q : Timetable) (m : Move) (u v : Gathered)
     → Q ≡ P → ws ≡ expand I Q m → ns ≡ listed_or_touched I P v.cells ws → ns ≡ footprint I P m
 listed-footprint I P Q m u v ws ns sizes none g same made listed =
     listed ∙ (ap (listed_or_touched I P v.cells) (made ∙ ap (λ R. expand I R m) same) ∙ touched-all I P m u v sizes none g)
-
--- which passes a test of the numbers of all cells
-pub footprint-passing : (I : Draft) (P : Timetable) (m : Move) → footprint I P m ≡ which_below (cell_count I) (λ n. touches I P m (cell_at I n))
-unfolding footprint
-footprint-passing I P m = refl
 
 -- what is listed or touched rests on which are listed alone
 pub listed-alike : (I : Draft) (P : Timetable) (ns ms : List ℕ) (ws : List Write) → ((n : ℕ) → is_listed n ns ≡ is_listed n ms) → listed_or_touched I P ns ws ≡ listed_or_touched I P ms ws

@@ -1,17 +1,13 @@
 -- Three ledgers that stand for one timetable.
-use Rattle.std.specs.Prelude.{◌≡◌}
 use Rattle.ih_tables.specs.declared.drafts.Draft.{Draft}
-use Rattle.ih_plan.specs.Sums.{listed}
-use Rattle.ih_plan.specs.Cells.{cell_at, cell_count}
 use Rattle.ih_plan.specs.Timetable.{Timetable}
 use Rattle.ih_roomdays.specs.Ledger.{IsLedgerOf as Has_room_days}
 use Rattle.ih_theatres.specs.Ledger.{IsLedgerOf as Has_theatres}
 use Rattle.ih_nurses.specs.Ledger.{IsLedgerOf as Has_nurses, plan_of}
 use Rattle.ih_costs.specs.declared.cell_ledgers.CellLedgers.{CellLedgers}
 
--- The cells are those of the instance I by number, and each ledger stands for its timetable P.
+-- Each ledger stands for the timetable P of the instance I.
 pub record AreLedgersOf (I : Draft) (P : Timetable) (l : CellLedgers) : Type 0 where
-  pub cells : l.cells.items ≡ listed (cell_count I) (cell_at I)
   pub room_days : Has_room_days I P l.room_days
   pub theatres : Has_theatres I P l.theatres
   pub nurses : Has_nurses I P l.nurses

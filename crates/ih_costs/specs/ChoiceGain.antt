@@ -26,12 +26,14 @@ choice_told I P r k new = record {
   s = pos 0
       ∷ rise_by_choice P r k new (λ Q. cost_at 1 (part_at I Q (RoomShift r k)))
       ∷ rise_by_choice P r k new (λ Q. seen_by I Q (present I P r.0 (day_of k.0)))
-      ∷ rise_by_choice P r k new (λ Q. excess_of I Q k.0 (care_of P r.0 k.0) + excess_of I Q k.0 (option_map (λ (a : NurseNo). a.0) new))
+      ∷ rise_by_choice P r k new (λ Q.
+      excess_of I Q k.0 (care_of P r.0 k.0) + excess_of I Q k.0 (option_map (λ (a : NurseNo). a.0) new))
       ∷ pos 0 ∷ pos 0 ∷ pos 0 ∷ pos 0 ∷ [];
 }
 
 -- The law of choices: another nurse for a room's shift, or none, changes the bill by what is told of it.
 abbrev pub ChoicesAreTold : Draft → Type 0
-ChoicesAreTold I = (P : Timetable) (r : RoomNo) (k : Shift) (new : Option NurseNo) → IsPlanOf I P → IsWriteOf I (SetCare r k new)
+ChoicesAreTold I = (P : Timetable) (r : RoomNo) (k : Shift) (new : Option NurseNo)
+    → IsPlanOf I P → IsWriteOf I (SetCare r k new)
     → care_of P r.0 k.0 ≢ option_map (λ (a : NurseNo). a.0) new
     → change_of_bill I P (put (SetCare r k new) P) ≡ choice_told I P r k new

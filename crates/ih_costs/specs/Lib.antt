@@ -1,7 +1,6 @@
 pub mod Changes
 pub mod CellLedgers
 pub mod ChoiceGain
-pub mod PartSums
 pub mod Standing
 pub mod StayGain
 pub mod Touched

@@ -7,38 +7,21 @@ ghost use Rattle.ih_plan.specs.declared.moves.Placement.{Placement};
 ghost use Rattle.ih_plan.specs.declared.moves.Write.TheVariants.{SetStay, SetCare};
 ghost use Rattle.ih_plan.specs.Timetable.{empty, stay_of, IsPlacement};
 ghost use Rattle.ih_plan.specs.Writes.{put, IsWriteOf};
-ghost use Rattle.ih_plan.specs.Sums.{listed};
-ghost use Rattle.ih_plan.specs.Cells.{cell_at, cell_count};
 ghost use Rattle.ih_costs.specs.CellLedgers.{AreLedgers, AreLedgersOf, timetable_of};
 
-use ih_footprint::Numbering;
 use ih_nurses::Nurses;
 use ih_plan::{Placement, Plan, Write};
 use ih_roomdays::RoomDays;
-use ih_tables::{Cell, Instance, NurseNo, PatientNo, RoomNo, Shift};
+use ih_tables::{Instance, NurseNo, PatientNo, RoomNo, Shift};
 use ih_theatres::Theatres;
 use std::alloc::{AllocError, Global};
 
-/// The ledgers of one timetable, which the ledger of nurses keeps, and its cells by number, so that no number is divided
-/// while moves are priced.
+/// The ledgers of one timetable, which the ledger of nurses keeps.
 #[derive(Drop)]
 pub struct CellLedgers {
-    pub cells: Vec<Cell>,
     pub room_days: RoomDays,
     pub theatres: Theatres,
     pub nurses: Nurses,
-}
-
-// All cells of an instance, by number.
-fn all_cells(alloc: Global, inst: &Instance) -> Result<Vec<Cell>, AllocError>
-    ensures { IfOk result (λ cells. cells.items ≡ listed (cell_count inst.now.draft) (cell_at inst.now.draft)) }
-{
-    let numbering = Numbering::of(inst);
-    let mut cells = Vec::new(alloc);
-    for n in 0..numbering.count() {
-        cells.push(numbering.cell(n))?;
-    }
-    Ok(cells)
 }
 
 impl CellLedgers {
@@ -46,12 +29,10 @@ impl CellLedgers {
     pub fn new(alloc: Global, inst: &Instance) -> Result<CellLedgers, AllocError>
         ensures { IfOk result (λ l. AreLedgersOf inst.now.draft (empty inst.now.draft) l) }
     {
-        let cells = all_cells(alloc, inst)?;
         let room_days = RoomDays::new(alloc, inst)?;
         let theatres = Theatres::new(alloc, inst)?;
         let nurses = Nurses::new(alloc, inst)?;
         Ok(CellLedgers {
-            cells,
             room_days,
             theatres,
             nurses,

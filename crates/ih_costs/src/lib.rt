@@ -2,7 +2,6 @@
 #![tactic(auto)]
 
 mod cell_ledgers;
-mod changes;
 mod choice_prices;
 mod copies;
 mod gains;

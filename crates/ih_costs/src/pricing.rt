@@ -42,8 +42,8 @@ pub fn put_all(inst: &Instance, ledgers: &mut CellLedgers, writes: &[Write])
     }
 }
 
-// What a write changes in the bill: a stay is priced day by day, a choice of nurse by the cells that it touches.
-// These are listed too. It isn't made.
+// What a write changes in the bill: a stay is priced day by day, a choice of nurse by the room, the loads and the care.
+// The cells that it touches are listed too. It isn't made.
 fn change_by_write(inst: &Instance, ledgers: &CellLedgers, w: &Write, cells: &mut CellList) -> Bill
     requires stands { AreLedgers inst.now.draft ledgers.now }
     requires write { IsWriteOf inst.now.draft w.now }
@@ -55,7 +55,7 @@ fn change_by_write(inst: &Instance, ledgers: &CellLedgers, w: &Write, cells: &mu
     foot(inst, ledgers.plan(), &ledgers.room_days, w, cells);
     match *w {
         Write::SetStay(p, stay) => ledgers.stay_price(inst, p, stay),
-        Write::SetCare(r, k, n) => ledgers.sum_changes(inst, r, k, n, cells.cells()),
+        Write::SetCare(r, k, n) => ledgers.choice_price(inst, r, k, n),
     }
 }
 
