@@ -29,6 +29,8 @@ use Rattle.ih_costs.proofs.GainBills.{counts-same, nine, eight}
 use Rattle.ih_costs.proofs.GainSteps.{rule-less, cost-less, passed-is}
 use Rattle.ih_costs.proofs.SpanSums.{at_place}
 
+-- ---- sums of nothing
+
 nowhere : (f : ℕ → ℕ) → ((i : ℕ) → f i ≡ 0) → (o : Option ℕ) → at_place f o ≡ 0
 nowhere f e None = refl
 nowhere f e (Some i) = e i
@@ -36,6 +38,8 @@ nowhere f e (Some i) = e i
 sum-none : (f : ℕ → ℕ) → ((i : ℕ) → f i ≡ 0) → (xs : List ℕ) → sum_by f xs ≡ 0
 sum-none f e [] = refl
 sum-none f e (x ∷ xs) = rw (e x, sum-none f e xs) refl
+
+-- ---- the law
 
 module _ (I : Draft) (P : Timetable) (r : RoomNo) (k : Shift) (new : Option NurseNo) where
   -- the numbers of the choice's cells at a timetable, each of the one kind of cells that has it
@@ -114,11 +118,12 @@ module _ (I : Draft) (P : Timetable) (r : RoomNo) (k : Shift) (new : Option Nurs
 
 -- ---- the price of a choice
 
--- an old choice and a new one that differ have other nurses
+-- a choice is known by the nurse's number
 numbered : (o : Option NurseNo) → option_map (λ (n : ℕ). let a : NurseNo = record { 0 = n } in a) (number_of o) ≡ o
 numbered None = refl
 numbered (Some a) = refl
 
+-- two choices that differ have other numbers
 pub other-number : (old new : Option NurseNo) → (new ≡ old → ⊥) → number_of old ≡ number_of new → ⊥
 other-number old new ne e =
     ne (sym (numbered new) ∙ (ap (option_map (λ (n : ℕ). let a : NurseNo = record { 0 = n } in a)) (sym e) ∙ numbered old))
