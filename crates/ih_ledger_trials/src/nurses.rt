@@ -39,10 +39,6 @@ const ONE_COVERED: [i64; 9] = [0, 0, 0, 0, 0, 0, 0, 0, -1];
 
 const SKILL_LESS_2: [i64; 8] = [0, -2, 0, 0, 0, 0, 0, 0];
 
-const ONE_NURSE_LESS: [i64; 8] = [0, 0, -1, 0, 0, 0, 0, 0];
-
-const LOAD_LESS_1: [i64; 8] = [0, 0, 0, -1, 0, 0, 0, 0];
-
 // Whether each bill is right after the first patient joins the occupant, and the unskilled nurse has the room in the
 // night.
 fn one_is_right(inst: &Instance, ledger: &mut Nurses) -> bool
@@ -76,13 +72,13 @@ fn coming_is_right(inst: &Instance, ledger: &mut Nurses) -> bool
     ledger.enter(inst, PatientNo(1), at);
     let night = ledger.room_shift_bill(inst, RoomNo(0), Shift(2));
     let load = ledger.nurse_shift_bill(inst, NurseNo(0), Shift(2));
-    let relief = ledger.load_change(inst, NurseNo(0), Shift(2), RoomNo(0), Some(NurseNo(1)));
+    let relief = ledger.loads_change(inst, RoomNo(0), Shift(2), Some(NurseNo(1)));
     ledger.leave(inst, PatientNo(1), at);
     let after = ledger.nurse_shift_bill(inst, NurseNo(0), Shift(2));
     let care = ledger.care_bill(inst, PersonNo(1));
     is(&night, KEPT, SKILL_OF_4)
         && is(&load, KEPT, LOAD_OF_1)
-        && is(&relief, KEPT, LOAD_LESS_1)
+        && relief == -1
         && is(&after, KEPT, NONE)
         && is(&care, KEPT, NONE)
 }
@@ -130,14 +126,16 @@ fn choice_changes_are_right(inst: &Instance, ledger: &Nurses) -> bool
 {
     let skilled = ledger.choice_change(inst, RoomNo(0), Shift(2), Some(NurseNo(1)));
     let covered = ledger.choice_change(inst, RoomNo(0), Shift(0), Some(NurseNo(0)));
-    let same = ledger.seen_change(inst, PersonNo(0), RoomNo(0), Shift(0), Some(NurseNo(0)));
-    let second = ledger.seen_change(inst, PersonNo(0), RoomNo(0), Shift(0), Some(NurseNo(1)));
-    let nobody = ledger.seen_change(inst, PersonNo(0), RoomNo(0), Shift(2), None);
+    let same = ledger.cares_change(inst, RoomNo(0), Shift(0), Some(NurseNo(0)));
+    let second = ledger.cares_change(inst, RoomNo(0), Shift(0), Some(NurseNo(1)));
+    let nobody = ledger.cares_change(inst, RoomNo(0), Shift(2), None);
+    let alone = ledger.cares_change(inst, RoomNo(0), Shift(3), Some(NurseNo(1)));
     is(&skilled, KEPT, SKILL_LESS_2)
         && is(&covered, ONE_COVERED, NONE)
-        && is(&same, KEPT, NONE)
-        && is(&second, KEPT, ONE_NURSE)
-        && is(&nobody, KEPT, ONE_NURSE_LESS)
+        && same == 0
+        && second == 2
+        && nobody == -2
+        && alone == 1
 }
 
 // Whether each change is right there.

@@ -1,7 +1,7 @@
-use Rattle.std.proofs.Common.{Some}
-use Rattle.ih_plan.specs.Timetable.{empty}
+use Rattle.std.proofs.Common.{◌≡◌, ◌∙◌, Some, subst, sym}
+use Rattle.ih_plan.specs.Timetable.{Timetable, care_of, empty}
 use Rattle.ih_nurses.proofs.StartLemmas.{no-stay}
-use Rattle.ih_ledger_trials.proofs.NurseChanges.{second-out, second-in}
+use Rattle.ih_ledger_trials.proofs.NurseChanges.{first-nursed, second-out, second-in}
 use Rattle.ih_ledger_trials.proofs.nurses.coming_is_right.Goals as goal
 
 pub enter-requires-clause-stands : goal.enter-requires-clause-stands
@@ -17,8 +17,15 @@ room_shift_bill-night-requires-clause-stands c = (_, c.enter-2.ensures _ (c.ente
 pub nurse_shift_bill-load-requires-clause-stands : goal.nurse_shift_bill-load-requires-clause-stands
 nurse_shift_bill-load-requires-clause-stands c = (_, c.enter-2.ensures _ (c.enter.ensures _ (c.set_care.ensures _ c.requires.new)))
 
-pub load_change-relief-requires-clause-stands : goal.load_change-relief-requires-clause-stands
-load_change-relief-requires-clause-stands c = (_, c.enter-2.ensures _ (c.enter.ensures _ (c.set_care.ensures _ c.requires.new)))
+pub loads_change-relief-requires-clause-stands : goal.loads_change-relief-requires-clause-stands
+loads_change-relief-requires-clause-stands c = (_, c.enter-2.ensures _ (c.enter.ensures _ (c.set_care.ensures _ c.requires.new)))
+
+pub loads_change-relief-requires-clause-other : goal.loads_change-relief-requires-clause-other
+loads_change-relief-requires-clause-other c = λ P known same.
+    let stands = c.enter-2.ensures _ (c.enter.ensures _ (c.set_care.ensures _ c.requires.new)) in
+    let first : care_of P 0 2 ≡ Some 0 = subst (λ (S : Timetable). care_of S 0 2 ≡ Some 0) (sym stands.plan_is ∙ known.plan_is) (first-nursed c.args.inst.now.draft c.requires.two) in
+    let apart = sym first ∙ same in
+    cc
 
 pub leave-requires-clause-stands : goal.leave-requires-clause-stands
 leave-requires-clause-stands c =
