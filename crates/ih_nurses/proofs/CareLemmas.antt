@@ -1,6 +1,5 @@
 -- What a choice of nurse makes of the nurses' loads.
-use Rattle.std.proofs.Common.{◌≡◌, ℕ, ◌+◌, ◌<◌, refl, sym, Bool, true, false, Option}
-use Rattle.std.proofs.Math.Bool.{beq}
+use Rattle.std.proofs.Common.{◌≡◌, ℕ, ◌+◌, ◌<◌, refl, Option}
 use Rattle.std.specs.Prelude.{if◌then◌else◌, option_map}
 use Rattle.ih_tables.specs.declared.drafts.Draft.{Draft}
 use Rattle.ih_tables.specs.declared.ids.RoomNo.{RoomNo}
@@ -41,17 +40,3 @@ module _ (I : Draft) (P : Timetable) (r : RoomNo) (k : Shift) (n : Option NurseN
     load-kept m l lh ne =
         load_of-same I (put (SetCare r k n) P) P m l (λ s sh.
         rw (care_of-other I P r k n s l plan shift lh (λ same now. ne now), room-kept l s) refl)
-
--- the test of two answers tells whether they are one
-pub same-beq : (a b : Bool) → beq a b ≡ true → a ≡ b
-same-beq true true e = refl
-same-beq true false e = sym e
-same-beq false true e = e
-same-beq false false e = refl
-
--- one of two takes what the other gives
-pub if-turned : (a b : Bool) (x : ℕ) → beq a b ≡ false → (if b then 0 else x) ≡ (if a then x else 0)
-if-turned true true x e = absurd (cc)
-if-turned true false x e = refl
-if-turned false true x e = refl
-if-turned false false x e = absurd (cc)

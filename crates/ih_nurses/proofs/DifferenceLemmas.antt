@@ -76,18 +76,7 @@ pub nurse-change : (I : Draft) (P Q : Timetable) (n : NurseNo) (k : Shift) (afte
 nurse-change I P Q n k after before e f =
     less-parts (overloaded after) (overloaded before) (nurse-part I Q n k after e) (nurse-part I P n k before f)
 
--- where the load stays, so does the part
-pub nurse-unchanged : (I : Draft) (P Q : Timetable) (n : NurseNo) (k : Shift) → load_of I Q n.0 k.0 ≡ load_of I P n.0 k.0
-    → less (overloaded 0) (overloaded 0) ≡ sub_bills (as_bill (part_at I Q (NurseShift n k))) (as_bill (part_at I P (NurseShift n k)))
-nurse-unchanged I P Q n k e =
-    let after = overload (max_load I n.0 k.0) (load_of I Q n.0 k.0) in
-    let before = overload (max_load I n.0 k.0) (load_of I P n.0 k.0) in
-    let same : after ≡ before = ap (overload (max_load I n.0 k.0)) e in
-    less-same (overloaded 0) (overloaded 0) (overloaded after) (overloaded before)
-    (record { off = refl; uncovered = refl; missing_skill = refl; nurses_seen = refl; overload = omega (arith, same) })
-    ∙ nurse-change I P Q n k after before refl refl
-
--- the same of care, where some nurses are the distinct ones but for as many on both sides
+-- the distinct nurses of each are those that are told, but for as many on both sides
 pub care-change : (I : Draft) (P Q : Timetable) (x : PersonNo) (after before : ℕ)
     → after + distinct_nurses I (nurses_over P (stretch_in I (admission_of I P x.0) (person_of I x.0).length_of_stay))
     ≡ distinct_nurses I (nurses_over Q (stretch_in I (admission_of I Q x.0) (person_of I x.0).length_of_stay)) + before

@@ -1,6 +1,6 @@
 -- What another choice of nurse makes of the distinct nurses over a stay's shifts.
 use Rattle.std.proofs.Common.{◌≡◌, ℕ, zero, suc, ◌+◌, ◌<◌, ◌≤◌, refl, arith, sym, ap, ◌∙◌, Bool, true, false, inl, inr, List, [], ◌∷◌, map, Option, Some, None}
-use Rattle.std.specs.Prelude.{◌||◌, ◌&&◌, ◌==◌, not, is_none, option_map, IfSome, nat_le, nat_lt}
+use Rattle.std.specs.Prelude.{◌||◌, ◌&&◌, ◌==◌, not, option_map, IfSome, nat_le, nat_lt}
 use Rattle.std.specs.List.{list_any, range_with_len}
 use Rattle.std.proofs.lemmas.Bool.{cases_eq, cases_Bool, eq-eqb, ne_eqb, eqb-true, le-leb, lt-ltb, leb-true, ltb-true, and_parts}
 use Rattle.ih_tables.specs.declared.drafts.Draft.{Draft}
@@ -45,7 +45,7 @@ any-split q k a (suc n) low high = elim (cases_eq a k) [
     grouped false c d = refl
 
 -- one number more
-pub any-more : (q : ℕ → Bool) (a n : ℕ) → list_any q (range_with_len a (n + 1)) ≡ (list_any q (range_with_len a n) || q (a + n))
+any-more : (q : ℕ → Bool) (a n : ℕ) → list_any q (range_with_len a (n + 1)) ≡ (list_any q (range_with_len a n) || q (a + n))
 any-more q a zero = let place : a + 0 ≡ a = omega arith in rw place (last (q a))
   where
     last : (b : Bool) → (b || false) ≡ (false || b)
@@ -59,17 +59,6 @@ any-more q a (suc n) =
     grouped : (b c d : Bool) → (b || (c || d)) ≡ ((b || c) || d)
     grouped true c d = refl
     grouped false c d = refl
-
-pub any-within : (q : ℕ → Bool) (a n j : ℕ) → a ≤ j → j < a + n → q j ≡ true → list_any q (range_with_len a n) ≡ true
-any-within q a zero j low high e = absurd (omega arith)
-any-within q a (suc n) j low high e = elim (cases_eq a j) [
-  | inl same ↦ rw (same, e) refl
-  | inr ne ↦ rw (any-within q (a + 1) n j (omega arith) (omega arith) e) (all (q a))
-]
-  where
-    all : (b : Bool) → (b || true) ≡ true
-    all true = refl
-    all false = refl
 
 any-mapped : {A : Type 0} (q : A → Bool) (f : ℕ → A) (xs : List ℕ) → list_any q (map f xs) ≡ list_any (λ j. q (f j)) xs
 any-mapped q f [] = refl
@@ -115,10 +104,6 @@ abbrev pub is_met : Timetable → Stretch → ℕ → Option NurseNo → ℕ →
 is_met P s k None j = true
 is_met P s k (Some a) j = list_any (λ i. not (i == k) && is_number (care_of P s.room.0 i) a.0) (range_with_len s.from j)
 
-pub met-first : (P : Timetable) (s : Stretch) (k : ℕ) (o : Option NurseNo) → is_met P s k o 0 ≡ is_none o
-met-first P s k None = refl
-met-first P s k (Some a) = refl
-
 pub met-more : (P : Timetable) (s : Stretch) (k : ℕ) (o : Option NurseNo) (j : ℕ) (n : Option NurseNo) (m : Bool) → n ≡ choice_of P s.room.0 (s.from + j)
     → IfSome o (λ a. m ≡ (not (s.from + j == k) && is_number (option_map (λ (b : NurseNo). b.0) n) a.0))
     → is_met P s k o (j + 1) ≡ (is_met P s k o j || m)
@@ -144,11 +129,11 @@ module _ (I : Draft) (P : Timetable) (s : Stretch) (k : ℕ) (o : Option NurseNo
       ∙ (any-split (λ j. is_number (care_of P s.room.0 j) n) k s.from s.len low high ∙ rw choice refl)))
       ∙ count-fresh (nurse_count I) (has_other P s k) o nurse
 
-pub newly-within : (P : Timetable) (s : Stretch) (r k : ℕ) (o : Option NurseNo) → has_shift s r k ≡ true → newly_seen P (Some s) r k o ≡ fresh (has_other P s k) o
+newly-within : (P : Timetable) (s : Stretch) (r k : ℕ) (o : Option NurseNo) → has_shift s r k ≡ true → newly_seen P (Some s) r k o ≡ fresh (has_other P s k) o
 newly-within P s r k None h = refl
 newly-within P s r k (Some a) h = rw h refl
 
-pub newly-outside : (P : Timetable) (s : Stretch) (r k : ℕ) (o : Option NurseNo) → has_shift s r k ≡ false → newly_seen P (Some s) r k o ≡ 0
+newly-outside : (P : Timetable) (s : Stretch) (r k : ℕ) (o : Option NurseNo) → has_shift s r k ≡ false → newly_seen P (Some s) r k o ≡ 0
 newly-outside P s r k None h = refl
 newly-outside P s r k (Some a) h = rw h refl
 

@@ -1,5 +1,5 @@
 -- The persons that a room's list has in a shift, and what a choice of nurse costs there.
-use Rattle.std.proofs.Common.{◌≡◌, ℕ, ◌<◌, refl, arith, sym, ap, subst, ◌∙◌, Bool, List, length, map, Option}
+use Rattle.std.proofs.Common.{◌≡◌, ℕ, ◌<◌, refl, arith, sym, ap, subst, ◌∙◌, Bool, List, map, Option}
 use Rattle.std.specs.Prelude.{◌&&◌, not, is_none, slice_index_or}
 use Rattle.ih_tables.specs.declared.drafts.Draft.{Draft}
 use Rattle.ih_tables.specs.declared.ids.NurseNo.{NurseNo}
@@ -44,13 +44,10 @@ pub record IsRoomList (I : Draft) (P : Timetable) (here : List Linked) (day : Li
   pub day_is : day ≡ slice_index_or here (day_of k) day
   pub nodes : AreNodes day.nodes (list_of day r)
 
--- the lists of a day are as many as the rooms, over the persons
+-- the lists of a day are over the persons
 module _ (I : Draft) (P : Timetable) (here : List Linked) (day : Linked) (k : ℕ) (known : AreHere I P here) (shift : k < shift_count I) (day_is : day ≡ slice_index_or here (day_of k) day) where
   read : on_day here (day_of k) ≡ day
   read = let days = known.sized.days in read-here here (day_of k) day day day (omega (arith, days, shift)) day_is
-
-  pub day-rooms : length day.lists ≡ room_count I
-  day-rooms = ap (λ (d : Linked). length d.lists) (sym read) ∙ known.sized.rooms (day_of k) (omega (arith, shift))
 
   pub day-persons : day.nodes ≡ person_count I
   day-persons = ap (λ (d : Linked). d.nodes) (sym read) ∙ known.sized.persons (day_of k) (omega (arith, shift))

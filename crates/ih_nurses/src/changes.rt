@@ -1,10 +1,10 @@
-//! What a write would change in each cell's part of the bill of nursing, told without making it.
+//! What a placement gives to a patient's care, and what another choice of nurse would change in a room's shift: told
+//! without making it.
 
 ghost use Rattle.std.specs.Prelude.{◌≡◌, ◌<◌, ◌^◌, Some, None};
 ghost use Rattle.ih_tables.specs.declared.ids.NurseNo.{NurseNo};
-ghost use Rattle.ih_tables.specs.declared.ids.PersonNo.{PersonNo};
-ghost use Rattle.ih_tables.specs.declared.cells.Cell.TheVariants.{RoomShift, NurseShift, Care};
-ghost use Rattle.ih_tables.specs.Sizes.{patient_count, person_count, room_count, shift_count, nurse_count};
+ghost use Rattle.ih_tables.specs.declared.cells.Cell.TheVariants.{RoomShift, Care};
+ghost use Rattle.ih_tables.specs.Sizes.{patient_count, room_count, shift_count, nurse_count};
 ghost use Rattle.ih_tables.specs.Bills.{IsWithin, sub_bills};
 ghost use Rattle.ih_plan.specs.declared.moves.Write.TheVariants.{SetStay, SetCare};
 ghost use Rattle.ih_plan.specs.Timetable.{Timetable, IsPlacement};
@@ -15,26 +15,12 @@ ghost use Rattle.ih_nurses.specs.Ledger.{IsLedgerOf};
 
 use crate::Nurses;
 use crate::bills::{NursingCosts, difference};
-use crate::choices::{is_nurse, nurse_at};
-use crate::loads::{load, load_after, overload};
-use crate::rooms::{choice_costs, missing_skills, workload_in};
-use crate::seen::{newly_seen, nurses_over};
-use crate::stretches::{stay_stretch, stretch_of};
+use crate::choices::nurse_at;
+use crate::rooms::{choice_costs, missing_skills};
+use crate::seen::nurses_over;
+use crate::stretches::stay_stretch;
 use ih_plan::Placement;
-use ih_tables::{Bill, Instance, NurseNo, PatientNo, PersonNo, RoomNo, Shift};
-
-// The costs of a nurse's overload alone.
-fn overloaded(overload: u32) -> NursingCosts
-    ensures { result ≡ record { off = 0; uncovered = 0; missing_skill = 0; nurses_seen = 0; overload = overload } }
-{
-    NursingCosts {
-        off: 0,
-        uncovered: 0,
-        missing_skill: 0,
-        nurses_seen: 0,
-        overload,
-    }
-}
+use ih_tables::{Bill, Instance, NurseNo, PatientNo, RoomNo, Shift};
 
 // The costs of the distinct nurses of a stay alone.
 fn nursed(nurses_seen: u32) -> NursingCosts
@@ -64,7 +50,9 @@ impl Nurses {
         difference(nursed(nurses_over(inst, &self.plan, stretch)), nursed(0))
     }
 
-    /// What another choice of nurse, or none, for a room's shift would change in that shift. It goes over the persons who are in the room on that day. Each number is at most 10^11 in magnitude.
+    /// What another choice of nurse, or none, for a room's shift would change in that shift. It goes over the persons who
+    /// are in the room on that day. Each number is at most 10^11 in magnitude.
+    #[inline(always)]
     pub fn choice_change(&self, inst: &Instance, r: RoomNo, k: Shift, new: Option<NurseNo>) -> Bill
         requires room { r.0 < room_count inst.now.draft }
         requires shift { k.0 < shift_count inst.now.draft }
@@ -80,65 +68,6 @@ impl Nurses {
         difference(
             choice_costs(inst, persons, r, k, new, after),
             choice_costs(inst, persons, r, k, old, before),
-        )
-    }
-
-    /// What another choice of nurse, or none, for a room would change in a nurse's shift: the workload above the maximum, where the nurse has the room before or after. Each number is at most 10^11 in magnitude.
-    pub fn load_change(
-        &self,
-        inst: &Instance,
-        n: NurseNo,
-        k: Shift,
-        r: RoomNo,
-        new: Option<NurseNo>,
-    ) -> Bill
-        requires nurse { n.0 < nurse_count inst.now.draft }
-        requires shift { k.0 < shift_count inst.now.draft }
-        requires room { r.0 < room_count inst.now.draft }
-        requires choice { (a : NurseNo) → new ≡ Some a → a.0 < nurse_count inst.now.draft }
-        requires stands { (P : Timetable) × IsLedgerOf inst.now.draft P self.now }
-        ensures change { (P : Timetable) → IsLedgerOf inst.now.draft P self.now
-            → result ≡ sub_bills (as_bill (part_at inst.now.draft (put (SetCare r k new) P) (NurseShift n k))) (as_bill (part_at inst.now.draft P (NurseShift n k))) }
-        ensures within { IsWithin (10 ^ 11) result }
-    {
-        let gives = is_nurse(nurse_at(inst, &self.plan, r, k), n);
-        let takes = is_nurse(new, n);
-        if gives == takes {
-            return difference(overloaded(0), overloaded(0));
-        }
-        let persons = &self.here[(k.0 / 3) as usize];
-        let change = workload_in(inst, &self.plan, persons, r, k);
-        let before = load(inst, self.loads.as_slice(), n, k);
-        let after = load_after(before, change, takes);
-        difference(
-            overloaded(overload(inst, n, k, after)),
-            overloaded(overload(inst, n, k, before)),
-        )
-    }
-
-    /// What another choice of nurse, or none, for a room's shift would change in a person's care: the distinct nurses. Each number is at most 10^11 in magnitude.
-    pub fn seen_change(
-        &self,
-        inst: &Instance,
-        x: PersonNo,
-        r: RoomNo,
-        k: Shift,
-        new: Option<NurseNo>,
-    ) -> Bill
-        requires person { x.0 < person_count inst.now.draft }
-        requires room { r.0 < room_count inst.now.draft }
-        requires shift { k.0 < shift_count inst.now.draft }
-        requires nurse { (a : NurseNo) → new ≡ Some a → a.0 < nurse_count inst.now.draft }
-        requires stands { (P : Timetable) × IsLedgerOf inst.now.draft P self.now }
-        ensures change { (P : Timetable) → IsLedgerOf inst.now.draft P self.now
-            → result ≡ sub_bills (as_bill (part_at inst.now.draft (put (SetCare r k new) P) (Care x))) (as_bill (part_at inst.now.draft P (Care x))) }
-        ensures within { IsWithin (10 ^ 11) result }
-    {
-        let stretch = stretch_of(inst, &self.plan, x.0);
-        let old = nurse_at(inst, &self.plan, r, k);
-        difference(
-            nursed(newly_seen(inst, &self.plan, stretch, r, k, new)),
-            nursed(newly_seen(inst, &self.plan, stretch, r, k, old)),
         )
     }
 }

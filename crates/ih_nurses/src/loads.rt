@@ -1,6 +1,6 @@
 //! The table of loads: the workload of each nurse in each shift.
 
-ghost use Rattle.std.specs.Prelude.{◌≡◌, ◌<◌, ◌≤◌, ◌+◌, ◌-◌, ◌*◌, ◌^◌, ◌≤ℤ◌, ℕ, neg_ℤ, pos, length, IfSome, false, if◌then◌else◌};
+ghost use Rattle.std.specs.Prelude.{◌≡◌, ◌<◌, ◌≤◌, ◌+◌, ◌-◌, ◌*◌, ◌^◌, ◌≤ℤ◌, ℕ, neg_ℤ, pos, length, IfSome};
 ghost use Rattle.ih_tables.specs.declared.ids.NurseNo.{NurseNo};
 ghost use Rattle.ih_tables.specs.Sizes.{nurse_count, shift_count};
 ghost use Rattle.ih_tables.specs.Works.{max_load};
@@ -96,16 +96,6 @@ pub fn move_load(
 {
     take_load(inst, loads, from, k, load);
     add_load(inst, loads, to, k, load);
-}
-
-/// A load after more is taken or given.
-pub fn load_after(load: u32, change: u32, takes: bool) -> u32
-    requires load { load ≤ 256000000 }
-    requires change { change ≤ 256000000 }
-    requires enough { takes ≡ false → change ≤ load }
-    ensures { result + (if takes then 0 else change) ≡ load + (if takes then change else 0) }
-{
-    if takes { load + change } else { load - change }
 }
 
 /// What a load less changes in the workload above its maximum of a nurse, where there is one.

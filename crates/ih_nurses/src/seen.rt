@@ -10,7 +10,7 @@ ghost use Rattle.ih_plan.specs.Sums.{bit, count_below};
 ghost use Rattle.ih_nurses.specs.Marks.{is_marked};
 ghost use Rattle.ih_nurses.specs.Stretches.{IsStretch, nurses_over, has_shift, has_other, fresh, newly_seen};
 
-use crate::choices::{is_nurse, is_same_nurse, nurse_at};
+use crate::choices::{is_same_nurse, nurse_at};
 use crate::stretches::Stretch;
 use ih_plan::Plan;
 use ih_tables::{Instance, NurseNo, RoomNo, Shift};
@@ -136,56 +136,5 @@ pub fn newly_seen_both(
         fresh_both(inst, plan, s, k, one, other)
     } else {
         (0, 0)
-    }
-}
-
-// Whether the nurse has a room in a shift, which is another than k.
-fn has_but(inst: &Instance, plan: &Plan, r: RoomNo, l: Shift, k: Shift, n: NurseNo) -> bool
-    requires plan { IsPlanOf inst.now.draft plan.now }
-    requires room { r.0 < room_count inst.now.draft }
-    requires shift { l.0 < shift_count inst.now.draft }
-    ensures { result ≡ (not (l.0 == k.0) && is_number (care_of plan.now r.0 l.0) n.0) }
-{
-    l.0 != k.0 && is_nurse(nurse_at(inst, plan, r, l), n)
-}
-
-// Whether the nurse has another shift of these than k.
-fn has_other(inst: &Instance, plan: &Plan, s: Stretch, k: Shift, n: NurseNo) -> bool
-    requires plan { IsPlanOf inst.now.draft plan.now }
-    requires stretch { IsStretch inst.now.draft s }
-    ensures { result ≡ has_other plan.now s k.0 n.0 }
-{
-    for j in 0..s.len {
-        if has_but(inst, plan, s.room, Shift(s.from + j), k, n) {
-            return true;
-        }
-    }
-    false
-}
-
-/// 1 where the choice for a room and a shift is a nurse who has no other shift of a stay that has this one, and 0 where not.
-pub fn newly_seen(
-    inst: &Instance,
-    plan: &Plan,
-    stretch: Option<Stretch>,
-    r: RoomNo,
-    k: Shift,
-    n: Option<NurseNo>,
-) -> u32
-    requires plan { IsPlanOf inst.now.draft plan.now }
-    requires stretch { IfSome stretch (IsStretch inst.now.draft) }
-    ensures { result ≡ newly_seen plan.now stretch r.0 k.0 n }
-{
-    let Some(s) = stretch else {
-        return 0;
-    };
-    let Some(a) = n else {
-        return 0;
-    };
-    let among = s.room.0 == r.0 && (s.from <= k.0 && k.0 < s.from + s.len);
-    if among && !has_other(inst, plan, s, k, a) {
-        1
-    } else {
-        0
     }
 }
