@@ -4,9 +4,9 @@ ghost use Rattle.std.specs.Prelude.{IfOk};
 ghost use Rattle.ih_plan.specs.Timetable.{IsPlanOf};
 
 use ih_fill::fill;
-use ih_plan::{Placement, Plan};
-use ih_tables::{Day, Instance, NurseNo, PatientNo, RoomNo, Shift, TheatreNo};
-use ih_ward::ward;
+use ih_plan::Plan;
+use ih_tables::{Instance, NurseNo, PatientNo, RoomNo, Shift};
+use ih_ward::{at, ward};
 use std::alloc::{AllocError, Global};
 use std::test::Fail;
 
@@ -23,12 +23,7 @@ fn filled(alloc: Global, inst: &Instance) -> Result<Plan, AllocError>
 fn is_placed(inst: &Instance, plan: &Plan, p: u32, day: u32, room: u32) -> bool
     requires { IsPlanOf inst.now.draft plan.now }
 {
-    let at = Placement {
-        day: Day(day),
-        room: RoomNo(room),
-        theatre: TheatreNo(0),
-    };
-    p < inst.patients() && plan.stay(PatientNo(p)) == Some(at)
+    p < inst.patients() && plan.stay(PatientNo(p)) == Some(at(day, room, 0))
 }
 
 // Whether a patient isn't admitted.

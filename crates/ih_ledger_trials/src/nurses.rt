@@ -148,8 +148,7 @@ fn changes_are_right(inst: &Instance, ledger: &mut Nurses) -> bool
     stay_gains_are_right(inst, ledger) && choice_changes_are_right(inst, ledger)
 }
 
-// A nurse lacks skill in the night while the early shift has none; a second patient overloads the nurse while there;
-// and
+// A nurse lacks skill in the night while the early shift has none; a second patient overloads the nurse while there; and
 // changes are told without the write.
 #[test]
 fn patients_come_and_go_under_nurses(rt: HostRuntime) -> Result<(), Fail> {

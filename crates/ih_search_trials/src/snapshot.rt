@@ -1,5 +1,4 @@
-//! What workers see of each other over one book, on a ward of two patients of whom the first is admitted, with one
-//! nurse
+//! What workers see of each other over one book, on a ward of two patients of whom the first is admitted, with one nurse
 //! in all shifts.
 
 ghost use Rattle.std.specs.Prelude.{◌≡◌, [], IfOk, IsTrue};
@@ -307,8 +306,7 @@ fn rests_on_what_is_read(alloc: Global, inst: &Instance, start: &Plan) -> bool
     is_in_range(inst, &join) && is_priced(alloc, inst, start, &join, price, &reads)
 }
 
-// Whether a move is stale where another changed what it read, and is accepted when it comes again. Its worker hasn't
-// seen
+// Whether a move is stale where another changed what it read, and is accepted when it comes again. Its worker hasn't seen
 // its own last entry when it offers again at once, and has when it does so after a look, by the same number.
 fn comes_again(alloc: Global, inst: &Instance, start: &Plan) -> bool
     requires { IsPlanOf inst.now.draft start.now }
