@@ -18,16 +18,17 @@ use std::time::Duration;
 // How often a waiting seat looks in vain and spins, and then yields, before it sleeps.
 const SPINS: u32 = 100;
 
-const YIELDS: u32 = 100;
+const YIELDS: u32 = 400;
 
 // How many turns of others a seat without a ticket lets pass before it sleeps.
-const PASSES: u64 = 4;
+const PASSES: u64 = 32;
 
 // How often such a seat sleeps before it draws a ticket all the same.
 const NAPS: u32 = 8;
 
-// The microseconds of a sleep, for each seat that sleeps or stands before this one.
-const NAP: u64 = 100;
+// The microseconds of a sleep, for each seat that sleeps or stands before this one. Long sleeps are wanted: who wakes has
+// much to take over at once, and few seats share a core's cache meanwhile.
+const NAP: u64 = 500;
 
 // How many seats a sleep is lengthened for at most.
 const MOST_SEATS: u64 = 64;
