@@ -80,14 +80,24 @@ fn put_cell(out: &mut String, cell: &Cell) -> Result<(), AllocError>
     }
 }
 
+// A number with a comma before it. Most numbers of a price are 0.
+#[inline(always)]
+fn put_next(out: &mut String, x: i64) -> Result<(), AllocError>
+    ensures { OnOk result (string_bytes out.new ≡ string_bytes out.old ++ 44 ∷ signed_decimal x) }
+{
+    if x == 0 {
+        return out.push_str(",0");
+    }
+    out.push_str(",")?;
+    out.push_str(Buffer::new().format(x))
+}
+
 // Each number with a comma before it.
 fn put_signed(out: &mut String, xs: &[i64]) -> Result<(), AllocError>
     ensures { OnOk result (string_bytes out.new ≡ string_bytes out.old ++ marked 44 (map signed_decimal xs.now)) }
 {
-    let mut buffer = Buffer::new();
     for x in xs {
-        out.push_str(",")?;
-        out.push_str(buffer.format(*x))?;
+        put_next(out, *x)?;
     }
     Ok(())
 }
