@@ -1,6 +1,6 @@
 //! The weights of an instance, and the bill of a timetable: nine counts of broken rules and eight costs.
 
-ghost use Rattle.std.specs.Prelude.{◌≡◌, ◌↔◌, ℕ, ◌≤◌, ◌<◌, ◌≤ℤ◌, ◌+ℤ◌, ◌-ℤ◌, ◌*ℤ◌, ◌*◌, ◌^◌, pos, neg_ℤ, IsTrue, FitsSigned, length};
+ghost use Rattle.std.specs.Prelude.{◌≡◌, ◌↔◌, ℕ, ◌≤◌, ◌<◌, ◌≤ℤ◌, ◌<ℤ◌, ◌+ℤ◌, ◌-ℤ◌, ◌*ℤ◌, ◌*◌, ◌^◌, pos, neg_ℤ, IsTrue, FitsSigned, length};
 ghost use Rattle.std.specs.Int.{w64};
 ghost use Rattle.ih_tables.specs.Bills.{at, by_place, signed_sum, AreWithin};
 
@@ -151,11 +151,13 @@ impl Bill {
         difference
     }
 
-    /// The costs times their weights, summed. Each number of the bill is at most 10^11 in magnitude.
+    /// The costs times their weights, summed: below 10^18 in magnitude. Each number of the bill is at most 10^11 in magnitude.
     pub fn cost(&self, w: &Weights) -> i64
         requires within { IsWithin (10 ^ 11) self.now }
         requires weights { (k : ℕ) → k < 8 → (pos 0 ≤ℤ at w.now.w k) × (at w.now.w k ≤ℤ pos 100000) }
-        ensures { result ≡ cost w.now self.now }
+        ensures cost { result ≡ cost w.now self.now }
+        ensures low { neg_ℤ (pos (10 ^ 18)) <ℤ result }
+        ensures high { result <ℤ pos (10 ^ 18) }
     {
         weighted(&self.s, &w.w)
     }
@@ -165,7 +167,9 @@ impl Bill {
         requires within { IsWithin (10 ^ 11) self.now }
         requires weights { (k : ℕ) → k < 8 → (pos 0 ≤ℤ at w.now.w k) × (at w.now.w k ≤ℤ pos 100000) }
         requires hard { hard ≤ 1000000 }
-        ensures { result ≡ score hard w.now self.now }
+        ensures score { result ≡ score hard w.now self.now }
+        ensures low { neg_ℤ (pos (10 ^ 18)) <ℤ result }
+        ensures high { result <ℤ pos (10 ^ 18) }
     {
         plus(for_rules(hard, total(&self.v)), weighted(&self.s, &w.w))
     }
