@@ -1,8 +1,8 @@
 //! What the tests of whole calls share: files in memory, and calls by the words of a line. Where memory runs out, what a test
 //! asks for is not so.
 
-use ih_shelf::{Gate, MemShelf, MemSink, OpenGate};
-use ih_top::run;
+use ih_shelf::{Gate, MemShelf, MemSink, OpenGate, Shelf};
+use ih_top::{Status, run};
 use std::alloc::{AllocError, Global};
 use std::rt::Files;
 use std::sync::Wait;
@@ -16,21 +16,20 @@ fn words_of(alloc: Global, line: &str) -> Result<Vec<String>, AllocError> {
     Ok(words)
 }
 
-/// The exit code of a call by the words of a line, over this shelf and this sink, past this gate.
-fn code_of<R: Files + Print + Threads + Wait + Sync, G: Gate>(
+/// The status of a call by the words of a line, over this shelf and this sink, past this gate.
+pub fn status_of<R: Files + Print + Threads + Wait + Sync, S: Shelf, G: Gate>(
     rt: &R,
     alloc: Global,
     line: &str,
-    shelf: &mut MemShelf,
+    shelf: &mut S,
     out: &mut MemSink,
     gate: &G,
-) -> Result<u8, AllocError> {
+) -> Result<Status, AllocError> {
     let words = words_of(alloc, line)?;
-    let status = run(rt, alloc, words.as_slice(), shelf, out, gate);
-    Ok(status.code())
+    Ok(run(rt, alloc, words.as_slice(), shelf, out, gate))
 }
 
-/// Whether such a call ends with this exit code.
+/// Whether such a call ends with this status.
 pub fn exits_past<R: Files + Print + Threads + Wait + Sync, G: Gate>(
     rt: &R,
     alloc: Global,
@@ -38,10 +37,10 @@ pub fn exits_past<R: Files + Print + Threads + Wait + Sync, G: Gate>(
     shelf: &mut MemShelf,
     out: &mut MemSink,
     gate: &G,
-    code: u8,
+    status: Status,
 ) -> bool {
-    match code_of(rt, alloc, line, shelf, out, gate) {
-        Ok(found) => found == code,
+    match status_of(rt, alloc, line, shelf, out, gate) {
+        Ok(found) => found == status,
         Err(_) => false,
     }
 }
@@ -53,36 +52,36 @@ pub fn exits<R: Files + Print + Threads + Wait + Sync>(
     line: &str,
     shelf: &mut MemShelf,
     out: &mut MemSink,
-    code: u8,
+    status: Status,
 ) -> bool {
-    exits_past(rt, alloc, line, shelf, out, &OpenGate, code)
+    exits_past(rt, alloc, line, shelf, out, &OpenGate, status)
 }
 
-/// Whether a call ends with this exit code and says these bytes.
+/// Whether a call ends with this status and says these bytes.
 pub fn ends_saying<R: Files + Print + Threads + Wait + Sync>(
     rt: &R,
     alloc: Global,
     line: &str,
     shelf: &mut MemShelf,
-    code: u8,
+    status: Status,
     bytes: &[u8],
 ) -> bool {
     let mut out = MemSink::new(alloc);
-    let ended = exits(rt, alloc, line, shelf, &mut out, code);
+    let ended = exits(rt, alloc, line, shelf, &mut out, status);
     let said = out.bytes() == bytes;
     ended && said
 }
 
-/// Whether a call ends with this exit code and says this text.
+/// Whether a call ends with this status and says this text.
 pub fn ends<R: Files + Print + Threads + Wait + Sync>(
     rt: &R,
     alloc: Global,
     line: &str,
     shelf: &mut MemShelf,
-    code: u8,
+    status: Status,
     text: &str,
 ) -> bool {
-    ends_saying(rt, alloc, line, shelf, code, text.as_bytes())
+    ends_saying(rt, alloc, line, shelf, status, text.as_bytes())
 }
 
 fn changed(alloc: Global, text: &str, from: &str, to: &str) -> Result<String, AllocError> {
@@ -122,11 +121,12 @@ pub fn lay(
     shelf.store("s", solution.as_bytes())
 }
 
-/// Whether the name has this text; it isn't there where the text is empty.
-pub fn holds(shelf: &MemShelf, name: &str, text: &str) -> bool {
-    match shelf.get(name) {
-        None => text.is_empty(),
-        Some(bytes) => bytes == text.as_bytes(),
+/// Whether the name has just this text, or isn't there where none is given.
+pub fn holds(shelf: &MemShelf, name: &str, text: Option<&str>) -> bool {
+    match (shelf.get(name), text) {
+        (None, None) => true,
+        (Some(bytes), Some(text)) => bytes == text.as_bytes(),
+        _ => false,
     }
 }
 

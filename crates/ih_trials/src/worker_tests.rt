@@ -3,6 +3,7 @@
 use crate::examples::{ONE_ADMITTED, TWO_PATIENTS};
 use crate::trials::{are_same, ends_saying, exits, exits_past, holds, lay};
 use ih_shelf::{HoldGate, MemShelf, MemSink};
+use ih_top::Status;
 use std::alloc::Global;
 use std::rt::Files;
 use std::sync::Wait;
@@ -22,6 +23,16 @@ const FIVE_HUNDRED_EACH: &str =
 const STALE: &str = "ihjournal 1 seed=18446744073709551615 workers=2 moves=1 heat=1000000 hard=1000
 0 1 0 0 nurserun:1,0,0,5 0,0,0,0,0,0,0,0,0,0,-2,0,0,0,0,0,0 accepted
 1 0 0 0 place:0,1,1,1 0,1,0,0,0,0,0,0,3,-1,0,-1,0,0,0,1,0 stale:roomshift.0.0:0:1
+";
+
+const ONE_EACH_TWICE: &str =
+    "solve i o j --seed 18446744073709551615 --workers 2 --moves 1 --heat 1000000 --hard 1000 --start s --retries 1";
+
+const TRIED_AGAIN: &str =
+    "ihjournal 2 seed=18446744073709551615 workers=2 moves=1 heat=1000000 hard=1000 retries=1
+0 1 0 0 0 nurserun:1,0,0,5 0,0,0,0,0,0,0,0,0,0,-2,0,0,0,0,0,0 accepted
+1 0 0 0 0 place:0,1,1,1 0,1,0,0,0,0,0,0,3,-1,0,-1,0,0,0,1,0 stale:roomshift.0.0:0:1
+2 0 0 1 2 place:0,1,1,1 0,1,0,0,0,0,0,0,3,-1,0,-1,0,0,0,1,0 accepted
 ";
 
 const ONE: &str = "solve i o j --seed 5 --workers 1 --moves 30 --heat 300 --hard 1000 --start s";
@@ -56,7 +67,7 @@ fn is_done_past<R: Files + Print + Threads + Wait + Sync>(
     gate: &HoldGate,
 ) -> bool {
     lay(alloc, shelf, TWO_PATIENTS, ONE_ADMITTED).is_ok()
-        && exits_past(rt, alloc, line, shelf, out, gate, 0)
+        && exits_past(rt, alloc, line, shelf, out, gate, Status::Done)
         && !gate.ran_out()
 }
 
@@ -85,7 +96,7 @@ fn a_price_that_another_made_stale(rt: HostRuntime) {
     let mut shelf = MemShelf::new(alloc);
     let mut out = MemSink::new(alloc);
     assert!(rt; is_held(&rt, alloc, ONE_EACH, 1, &mut shelf, &mut out));
-    assert!(rt; holds(&shelf, "j", STALE));
+    assert!(rt; holds(&shelf, "j", Some(STALE)));
     assert!(rt; reads(&out, "best 1 of 2\n", "cost 139\n"));
 }
 
@@ -146,7 +157,7 @@ fn replays_alike<R: Files + Print + Threads + Wait + Sync>(
     shelf: &mut MemShelf,
     out: &MemSink,
 ) -> bool {
-    ends_saying(rt, alloc, line, shelf, 0, out.bytes()) && are_same(shelf, "p", "o")
+    ends_saying(rt, alloc, line, shelf, Status::Done, out.bytes()) && are_same(shelf, "p", "o")
 }
 
 #[test]
@@ -159,6 +170,58 @@ fn every_attempt_beside_another(rt: HostRuntime) {
     assert!(rt; replays_alike(&rt, alloc, STARTED, &mut shelf, &out));
 }
 
+// The same with a try more: worker 0 looks again, and its move is then accepted.
+#[test]
+fn a_stale_move_is_tried_again(rt: HostRuntime) {
+    let alloc = rt.alloc();
+    let mut shelf = MemShelf::new(alloc);
+    let mut out = MemSink::new(alloc);
+    assert!(rt; is_held(&rt, alloc, ONE_EACH_TWICE, 1, &mut shelf, &mut out));
+    assert!(rt; holds(&shelf, "j", Some(TRIED_AGAIN)));
+    assert!(rt; reads(&out, "best 1 of 3\n", "cost 139\n"));
+    assert!(rt; replays_alike(&rt, alloc, STARTED, &mut shelf, &out));
+}
+
+// Whether a search of so many workers with 2,000 moves each, from the fill of a generated instance, is done, and its replay ends alike.
+fn agree_on_generated<R: Files + Print + Threads + Wait + Sync>(
+    rt: &R,
+    alloc: Global,
+    shelf: &mut MemShelf,
+    search: &str,
+) -> bool {
+    let mut out = MemSink::new(alloc);
+    exits(rt, alloc, search, shelf, &mut out, Status::Done)
+        && replays_alike(rt, alloc, "replay i j p --fill", shelf, &out)
+}
+
+const GENERATED_ONE: &str =
+    "solve i o j --seed 5 --workers 1 --moves 2000 --heat 50 --hard 100000 --fill";
+
+const GENERATED_TWO: &str =
+    "solve i o j --seed 5 --workers 2 --moves 2000 --heat 50 --hard 100000 --fill --retries 1";
+
+const GENERATED_THREE: &str =
+    "solve i o j --seed 5 --workers 3 --moves 2000 --heat 0 --hard 100000 --fill";
+
+const GENERATED_EIGHT: &str =
+    "solve i o j --seed 5 --workers 8 --moves 2000 --heat 50 --hard 100000 --fill --retries 3";
+
+const GENERATED_MOST: &str =
+    "solve i o j --seed 5 --workers 64 --moves 2000 --heat 20 --hard 100000 --fill --retries 1";
+
+#[test]
+fn any_number_of_workers_on_a_generated_instance(rt: HostRuntime) {
+    let alloc = rt.alloc();
+    let mut shelf = MemShelf::new(alloc);
+    let mut out = MemSink::new(alloc);
+    assert!(rt; exits(&rt, alloc, "gen 7 i", &mut shelf, &mut out, Status::Done));
+    assert!(rt; agree_on_generated(&rt, alloc, &mut shelf, GENERATED_ONE));
+    assert!(rt; agree_on_generated(&rt, alloc, &mut shelf, GENERATED_TWO));
+    assert!(rt; agree_on_generated(&rt, alloc, &mut shelf, GENERATED_THREE));
+    assert!(rt; agree_on_generated(&rt, alloc, &mut shelf, GENERATED_EIGHT));
+    assert!(rt; agree_on_generated(&rt, alloc, &mut shelf, GENERATED_MOST));
+}
+
 // Whether a search of the two patients is done, and its replay ends alike.
 fn is_replayed<R: Files + Print + Threads + Wait + Sync>(
     rt: &R,
@@ -169,7 +232,7 @@ fn is_replayed<R: Files + Print + Threads + Wait + Sync>(
     out: &mut MemSink,
 ) -> bool {
     lay(alloc, shelf, TWO_PATIENTS, ONE_ADMITTED).is_ok()
-        && exits(rt, alloc, search, shelf, out, 0)
+        && exits(rt, alloc, search, shelf, out, Status::Done)
         && replays_alike(rt, alloc, replay, shelf, out)
 }
 
