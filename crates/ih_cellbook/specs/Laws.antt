@@ -1,11 +1,12 @@
 -- Laws of offers and histories, for whoever hands a book from worker to worker.
 use Rattle.std.specs.Prelude.{◌≡◌, ℕ, ◌<◌, ◌≤◌, List, ◌++◌, length, Some, slice_get, false}
+use Rattle.ih_plan.specs.Timetable.{IsPlanOf}
 use Rattle.ih_journal.specs.declared.entries.Entry.{Entry}
 use Rattle.ih_journal.specs.Settings.{most_entries}
 use Rattle.ih_journal.specs.Attempts.{is_done}
 use Rattle.ih_journal.specs.Base.{Base}
 use Rattle.ih_cellbook.specs.declared.offers.Offer.{Offer}
-use Rattle.ih_cellbook.specs.Legal.{AreLegalButDraws}
+use Rattle.ih_cellbook.specs.Legal.{AreExact, AreLegalButDraws}
 use Rattle.ih_cellbook.specs.Offers.{IsRightOffer}
 
 -- none of the entries is by worker w
@@ -23,3 +24,7 @@ pub record AreFew (b : Base) (H : List Entry) : Type 0 where
 
 abbrev pub LegalHistoriesAreFew : Type 0
 LegalHistoriesAreFew = (b : Base) (H : List Entry) → AreLegalButDraws b H → AreFew b H
+
+-- However old the accepted prices of a legal history are, each is the change of the bill at its own place.
+abbrev pub AcceptedPricesAreExact : Type 0
+AcceptedPricesAreExact = (b : Base) (H : List Entry) → IsPlanOf b.instance b.start → AreLegalButDraws b H → AreExact b H

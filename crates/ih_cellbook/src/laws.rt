@@ -1,7 +1,7 @@
 //! Laws, each on a function that does nothing.
 
 ghost use Rattle.ih_cellbook.specs.Core.{SchedulesAreLegal};
-ghost use Rattle.ih_cellbook.specs.Laws.{RightOffersStayRight, LegalHistoriesAreFew};
+ghost use Rattle.ih_cellbook.specs.Laws.{AcceptedPricesAreExact, LegalHistoriesAreFew, RightOffersStayRight};
 
 use ih_tables::Instance;
 
@@ -15,6 +15,12 @@ pub fn right_offers_stay_right()
 /// where some worker isn't done.
 pub fn legal_histories_are_few()
     ensures { LegalHistoriesAreFew }
+{}
+
+/// In a history that is legal but for its draws each accepted price, however old, is the change of the bill at its own
+/// place.
+pub fn accepted_prices_are_exact()
+    ensures { AcceptedPricesAreExact }
 {}
 
 /// In whatever order any number of workers look and offer, on however old a copy each priced its move: every entry is

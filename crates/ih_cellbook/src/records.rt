@@ -1,11 +1,9 @@
 //! What a book keeps: the entries of all workers, and what is needed to judge the next one.
 
-ghost use Rattle.std.specs.Prelude.{◌≡◌, ℕ, ◌^◌, ◌<◌, ◌≤◌, if◌then◌else◌, [], length, slice_index, vec_capacity, Some, IfOk};
-ghost use Rattle.ih_tables.specs.Bills.{IsWithin, add_bills, feasible, cost};
+ghost use Rattle.std.specs.Prelude.{◌≡◌, ℕ, ◌<◌, ◌≤◌, [], length, slice_index, vec_capacity, Some, IfOk};
 ghost use Rattle.ih_journal.specs.Attempts.{attempt_after};
-ghost use Rattle.ih_journal.specs.Best.{best_with};
-ghost use Rattle.ih_journal.specs.History.{is_accepted};
 
+use crate::best::{bill_after, with_place};
 use crate::buffers::Buffer;
 use crate::counters::{judge, raise_where};
 use crate::offers::Offer;
@@ -66,37 +64,6 @@ fn tries_after(options: &Options, entry: &Entry) -> u32
     match entry.verdict {
         Verdict::Stale { .. } if entry.again < options.retries => entry.again + 1,
         _ => 0,
-    }
-}
-
-// The bill after an entry.
-fn bill_after(verdict: &Verdict, bill: &Bill, price: &Bill) -> Bill
-    requires { IsWithin (10 ^ 12) (add_bills bill.now price.now) }
-    ensures { result ≡ (if is_accepted verdict.now then add_bills bill.now price.now else bill.now) }
-{
-    match *verdict {
-        Verdict::Accepted => bill.add(price),
-        _ => *bill,
-    }
-}
-
-// The best so far, and one timetable more.
-fn with_place(
-    best: Option<(u32, i64)>,
-    place: u32,
-    now: &Bill,
-    inst: &Instance,
-) -> Option<(u32, i64)>
-    requires { IsWithin (10 ^ 11) now.now }
-    ensures { result ≡ best_with best place (feasible now.now) (cost inst.now.draft.weights now.now) }
-{
-    if !now.feasible() {
-        return best;
-    }
-    let cost = now.cost(inst.weights());
-    match best {
-        Some((_, least)) if cost >= least => best,
-        _ => Some((place, cost)),
     }
 }
 
