@@ -1,5 +1,6 @@
 pub mod BestLemmas
 pub mod CellTexts
+pub mod ChangeDigits
 pub mod Digits
 pub mod Freezing
 pub mod FrozenVerdicts
@@ -14,6 +15,7 @@ pub mod LineReading
 pub mod LineTexts
 pub mod LinesRead
 pub mod Literals
+pub mod LoneWorkers
 pub mod MoveTexts
 pub mod Numbers
 pub mod Parts
@@ -22,4 +24,5 @@ pub mod Separators
 pub mod SmallestRun
 pub mod Spelling
 pub mod StaleVerdicts
+pub mod TextLengths
 pub mod VerdictTexts
