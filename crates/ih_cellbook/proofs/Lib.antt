@@ -8,6 +8,7 @@ pub mod Few
 pub mod Finds
 pub mod Kept
 pub mod Machine
+pub mod Ranges
 pub mod Scanning
 pub mod Staying
 pub mod Times

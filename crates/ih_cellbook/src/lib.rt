@@ -16,8 +16,9 @@ pub use best::best_in;
 pub use books::Book;
 pub use buffers::Buffer;
 pub use laws::{
-    accepted_prices_are_exact, legal_histories_are_few, right_offers_stay_right,
-    schedules_are_legal,
+    accepted_prices_are_exact, legal_histories_are_few, legal_histories_are_in_range,
+    legal_journals_are_short, right_offers_stay_right, schedules_are_legal,
+    searches_have_two_journals,
 };
 pub use offers::Offer;
 pub use reads::Reads;
