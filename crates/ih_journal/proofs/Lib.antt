@@ -2,6 +2,7 @@ pub mod BestLemmas
 pub mod CellTexts
 pub mod ChangeDigits
 pub mod Digits
+pub mod DigitSteps
 pub mod Freezing
 pub mod FrozenVerdicts
 pub mod Growth

@@ -13,6 +13,7 @@ mod reading;
 mod refusals;
 mod settings;
 mod texts;
+mod writing;
 
 pub use entries::{Entry, Verdict};
 pub use freeze::frozen;
