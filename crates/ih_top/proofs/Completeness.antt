@@ -13,11 +13,12 @@ use Rattle.ih_journal.specs.Texts.{heading, lines_from}
 use Rattle.ih_journal.proofs.HeadTexts.{heading_lacks, headings_differ, lawful_short}
 use Rattle.ih_instance.specs.Instance.{instance}
 use Rattle.ih_solution.specs.Reading.{plan_in}
+use Rattle.ih_words.specs.Rounds.{RoundsCall}
 use Rattle.ih_words.specs.Solve.{SolveCall}
 use Rattle.ih_words.specs.Check.{CheckCall}
 use Rattle.ih_words.specs.Generate.{GenCall}
 use Rattle.ih_words.specs.Replay.{ReplayCall}
-use Rattle.ih_words.specs.Words.{Call, solve, replay, salvage, check, gen, demo}
+use Rattle.ih_words.specs.Words.{Call, solve, replay, salvage, check, rounds, gen, demo}
 use Rattle.ih_shelf.specs.Outside.{Names, Rose, bytes_at}
 use Rattle.ih_top.specs.declared.files.TheConstants.{MAX_JOURNAL}
 use Rattle.ih_top.specs.declared.status.Status.{Status}
@@ -161,6 +162,21 @@ module _ (reads reads' writes writes' puts puts' : ℕ) (calm : (Rose reads read
     solve-answered s I P has Infeasible cause (text, h, g) = absurd h.1
     solve-answered s I P has (TooLong role) cause (text, h, g) = unread-answered (IsAnswered (solve s) (TooLong role)) (TooLong role) cause (accepted files (solve_reading s) I P has (TooLong role) text h.1) (λ m. inr (inr m))
 
+    rounds-answered : (r : RoundsCall) (I : Draft) (P : Timetable) → HasInputs (Some files) (solve_reading r.search) I P → (status : Status) → Caused status
+        → Ends (CallEnds (rounds r) (Some files) new) gained part status → IsAnswered (rounds r) status
+    rounds-answered r I P has Done cause ends = inl refl
+    rounds-answered r I P has Usage cause (text, h, g) = absurd h.1
+    rounds-answered r I P has (ReadFault role) cause (text, h, g) = absurd (calm cause)
+    rounds-answered r I P has (InstanceRefused e) cause (text, h, g) = unread-answered (IsAnswered (rounds r) (InstanceRefused e)) (InstanceRefused e) cause (accepted files (solve_reading r.search) I P has (InstanceRefused e) text h.1) (λ m. inr (inr m))
+    rounds-answered r I P has (StartRefused e) cause (text, h, g) = unread-answered (IsAnswered (rounds r) (StartRefused e)) (StartRefused e) cause (accepted files (solve_reading r.search) I P has (StartRefused e) text h.1) (λ m. inr (inr m))
+    rounds-answered r I P has NoneFound cause ends = inr (inl refl)
+    rounds-answered r I P has (WriteFault None) cause ends = absurd (heard cause)
+    rounds-answered r I P has (WriteFault (Some role)) cause ends = absurd (kept cause)
+    rounds-answered r I P has OutOfMemory cause ends = inr (inr refl)
+    rounds-answered r I P has (JournalRefused e) cause (text, h, g) = absurd h.1
+    rounds-answered r I P has Infeasible cause (text, h, g) = absurd h.1
+    rounds-answered r I P has (TooLong role) cause (text, h, g) = unread-answered (IsAnswered (rounds r) (TooLong role)) (TooLong role) cause (accepted files (solve_reading r.search) I P has (TooLong role) text h.1) (λ m. inr (inr m))
+
     check-answered : (c : CheckCall) (I : Draft) (P : Timetable) → HasInputs (Some files) (check_reading c) I P → (status : Status) → Caused status
         → Ends (CallEnds (check c) (Some files) new) gained part status → IsAnswered (check c) status
     check-answered c I P has Done cause ends = inl refl
@@ -239,6 +255,8 @@ complete (replay r) (Some files) new gained part reads reads' writes writes' put
 complete (salvage r) (Some files) new gained part reads reads' writes writes' puts puts' status ends cause = λ (x, b, lines, has, headed) calm kept heard.
     journal-answered reads reads' writes writes' puts puts' calm kept heard files new gained part r x has (IsSalvage r.start) IsHeadless salvaged_text
     (not-headless files r x has b lines headed) status cause ends
+complete (rounds r) (Some files) new gained part reads reads' writes writes' puts puts' status ends cause = λ (I, P, has) calm kept heard.
+    rounds-answered reads reads' writes writes' puts puts' calm kept heard files new gained part r I P has status cause ends
 complete (gen g) (Some files) new gained part reads reads' writes writes' puts puts' status ends cause = λ has calm kept heard.
     gen-answered reads reads' writes writes' puts puts' calm kept heard files new gained part g status cause ends
 complete (demo number) (Some files) new gained part reads reads' writes writes' puts puts' status ends cause = λ has calm kept heard.

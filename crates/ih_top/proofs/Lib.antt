@@ -1,14 +1,13 @@
 pub mod Checks
 pub mod CommandEnds
 pub mod Completeness
-pub mod EntrySteps
 pub mod FirstLines
 pub mod JournalLaws
 pub mod JournalOutcomes
-pub mod LegalEntries
+pub mod RoundsOutputs
+pub mod RoundsWriting
 pub mod Saying
 pub mod SeatLemmas
-pub mod Steps
 pub mod TakenHistories
 pub mod TakenLines
 pub mod Writing

@@ -10,8 +10,8 @@ ghost use Rattle.ih_top.specs.Searching.{base_of, IsGiven};
 ghost use Rattle.ih_top.specs.Texts.{best_line, found_text, salvaged_line};
 ghost use Rattle.ih_top.specs.Outputs.{HasBestOutput, IsBestOutput, IsOutput};
 
-use crate::history::{journal_text, plan_at};
 use crate::search::{Given, search};
+use ih_history::{journal_text, plan_at};
 use ih_journal::Entry;
 use ih_plan::Plan;
 use ih_shelf::Gate;
@@ -80,7 +80,7 @@ fn best_output(
     requires best { IsBest (base_of given.now) entries.now place }
     ensures { IfOk result (IsBestOutput (base_of given.now) entries.now) }
 {
-    let plan = plan_at(alloc, given, entries, place)?;
+    let plan = plan_at(alloc, given.inst, given.start, entries, place)?;
     Ok(BestOutput {
         solution: write_solution(alloc, given.inst, &plan)?,
         text: found_text(alloc, given.inst, &plan, place, entries.len() as u32)?,

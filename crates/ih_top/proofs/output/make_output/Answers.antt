@@ -6,12 +6,12 @@ use Rattle.ih_journal.specs.History.{plan_at}
 use Rattle.ih_journal.specs.Texts.{journal}
 use Rattle.ih_top.specs.Searching.{base_of}
 use Rattle.ih_top.specs.Outputs.{HasBestOutput}
-use Rattle.ih_top.proofs.LegalEntries.{prices-in}
+use Rattle.ih_history.proofs.LegalEntries.{prices-in}
 use Rattle.ih_top.proofs.output.make_output.Goals as goal
 
 pub journal_text-requires-clause-prices : goal.journal_text-requires-clause-prices
 journal_text-requires-clause-prices g c =
-    rw c.entries-entries.ensures.entries (prices-in (base_of c.args.given.now) c.in_ok-book.book.entries c.requires c.in_ok-book.ensures.full.legal c.args.given.now.inst.now.valid)
+    rw c.entries-entries.ensures.entries (prices-in (base_of c.args.given.now) c.in_ok-book.book.entries c.requires.start c.in_ok-book.ensures.full.legal c.args.given.now.inst.now.valid)
 
 pub best_of-requires-clause-legal : goal.best_of-requires-clause-legal
 best_of-requires-clause-legal g c = rw c.entries-entries.ensures.entries c.in_ok-book.ensures.full.legal
