@@ -1,3 +1,4 @@
+pub mod Alike
 pub mod Checks
 pub mod CommandEnds
 pub mod Completeness
@@ -8,7 +9,9 @@ pub mod JournalOutcomes
 pub mod LegalEntries
 pub mod Saying
 pub mod SeatLemmas
+pub mod Shown
 pub mod Steps
+pub mod TakenBack
 pub mod TakenHistories
 pub mod TakenLines
 pub mod Writing
