@@ -1,3 +1,4 @@
+pub mod Alike
 pub mod Checks
 pub mod CommandEnds
 pub mod Completeness
@@ -8,6 +9,8 @@ pub mod RoundsOutputs
 pub mod RoundsWriting
 pub mod Saying
 pub mod SeatLemmas
+pub mod Shown
+pub mod TakenBack
 pub mod TakenHistories
 pub mod TakenLines
 pub mod Writing

@@ -123,7 +123,7 @@ module _ (s : SolveCall) (b : Base) (o : Output) (differ : s.out ≢ s.journal) 
 
   module _ (old : Option Names) (base : HasBase old s b) where
     searched : IsSearch old s b output.history
-    searched = record { base = base; full = output.full; agrees = output.agrees }
+    searched = record { base = base; given = output.given; seed = output.seed; full = output.full; agrees = output.agrees; exact = output.exact }
 
     pub journal-begun : (new : Option Names) → Told (MayBeWritten s.journal o.journal.items) old new → HasBegun s old new
     journal-begun new written = record {

@@ -4,6 +4,8 @@ use Rattle.ih_tables.specs.declared.drafts.Draft.{Draft}
 use Rattle.ih_plan.specs.Timetable.{Timetable}
 use Rattle.ih_journal.specs.declared.entries.Entry.{Entry}
 use Rattle.ih_journal.specs.Base.{Base}
+use Rattle.ih_journal.specs.Legal.{IsFull}
+use Rattle.ih_journal.specs.Texts.{lines_from}
 use Rattle.ih_words.specs.Words.{Call, solve, replay, salvage, check, rounds, gen, demo}
 use Rattle.ih_shelf.specs.Outside.{Names, Rose, Told}
 use Rattle.ih_top.specs.declared.status.Status.{Status}
@@ -11,7 +13,7 @@ use Rattle.ih_top.specs.declared.status.Status.TheVariants.{Done, Usage, ReadFau
 use Rattle.ih_top.specs.Answers.{unsaid}
 use Rattle.ih_top.specs.Inputs.{solve_reading, check_reading, HasInputs}
 use Rattle.ih_top.specs.Solving.{Unchanged, SolveEnds}
-use Rattle.ih_top.specs.Replaying.{HasRead, IsHeadedBy, IsReplay, JournalRead, ReplayEnds, SalvageEnds}
+use Rattle.ih_top.specs.Replaying.{HasRead, IsHeadedBy, JournalRead, ReplayEnds, SalvageEnds}
 use Rattle.ih_top.specs.Checking.{CheckEnds}
 use Rattle.ih_top.specs.Rounds.{RoundsEnds}
 use Rattle.ih_top.specs.Generating.{GenEnds}
@@ -91,7 +93,8 @@ IsAnswered (demo number) status = (status ≡ Done) ⊎ (status ≡ NoneFound) �
 -- its heading. A gen and a demo read none.
 abbrev pub HasFiles : Call → Names → Type 0
 HasFiles (solve s) files = (I : Draft) × (P : Timetable) × HasInputs (Some files) (solve_reading s) I P
-HasFiles (replay r) files = (x : JournalRead) × (b : Base) × (H : List Entry) × HasRead (Some files) r x × IsReplay r.start x b H
+HasFiles (replay r) files = (x : JournalRead) × (b : Base) × (H : List Entry) × HasRead (Some files) r x
+    × IsHeadedBy r.start x b (lines_from b.options 0 H) × IsFull b H
 HasFiles (salvage r) files = (x : JournalRead) × (b : Base) × (bytes : List ℕ) × HasRead (Some files) r x × IsHeadedBy r.start x b bytes
 HasFiles (check c) files = (I : Draft) × (P : Timetable) × HasInputs (Some files) (check_reading c) I P
 HasFiles (rounds r) files = (I : Draft) × (P : Timetable) × HasInputs (Some files) (solve_reading r.search) I P
