@@ -13,7 +13,7 @@ use Rattle.ih_journal.specs.declared.entries.Entry.{Entry}
 use Rattle.ih_journal.specs.Attempts.{Attempt, attempt_after, last_by, is_done, is_retried, is_stale, next_attempt}
 use Rattle.ih_journal.specs.Base.{Base}
 use Rattle.ih_journal.specs.Legal.{IsLegalButDraw}
-use Rattle.ih_journal.proofs.Growth.{last_by-own, last_by-other}
+use Rattle.ih_journal.proofs.Growth.{attempt-parts, last_by-own, last_by-other}
 use Rattle.ih_cellbook.specs.Laws.{AreFew}
 use Rattle.ih_cellbook.specs.Legal.{AreLegalButDraws}
 
@@ -83,14 +83,6 @@ retried-less o e h = elim (cases_lt e.again o.retries) [
     by_case : (t : Bool) → (t && false) ≡ true → ⊥
     by_case true h = let no : false ≡ true = h in cc
     by_case false h = let no : false ≡ true = h in cc
-
-attempt-parts : (o : Options) (G : List Entry) (w : ℕ) (a : Attempt) → next_attempt o G w ≡ Some a → (is_done o G w ≡ false) × (attempt_after o (last_by w G) ≡ a)
-unfolding next_attempt
-attempt-parts o G w a = by_case (is_done o G w)
-  where
-    by_case : (t : Bool) → (if t then None else Some (attempt_after o (last_by w G))) ≡ Some a → (t ≡ false) × (attempt_after o (last_by w G) ≡ a)
-    by_case true h = absurd (let no : None ≡ Some a = h in cc)
-    by_case false h = (refl, let e : Some (attempt_after o (last_by w G)) ≡ Some a = h in cc)
 
 along-other : (o : Options) (G : List Entry) (e : Entry) (w : ℕ) → (e.worker ≡ w → ⊥) → IsAlong o G w → IsAlong o (G ++ e ∷ []) w
 unfolding is_done

@@ -71,7 +71,7 @@ sum-in x y hx hy =
     let d = hy.1 in
     (omega (arith, ints), omega (arith, ints))
 
-sum-within : (a b : Bill) → IsWithin (10 ^ 11) a → IsWithin (10 ^ 11) b → IsWithin (10 ^ 12) (add_bills a b)
+pub sum-within : (a b : Bill) → IsWithin (10 ^ 11) a → IsWithin (10 ^ 11) b → IsWithin (10 ^ 12) (add_bills a b)
 sum-within a b ha hb = record {
   v = λ k l. rw (by_place-at 9 (λ k. at a.v k +ℤ at b.v k) k l) (sum-in (at a.v k) (at b.v k) (ha.v k l) (hb.v k l));
   s = λ k l. rw (by_place-at 8 (λ k. at a.s k +ℤ at b.s k) k l) (sum-in (at a.s k) (at b.s k) (ha.s k l) (hb.s k l));
@@ -86,7 +86,7 @@ unfolding bill_of
 whole-bill I P = refl
 
 -- a bill and the change from it to another make the other
-add-change : (I : Draft) (P Q : Timetable) → add_bills (bill_of I P) (change_of_bill I P Q) ≡ bill_of I Q
+pub add-change : (I : Draft) (P Q : Timetable) → add_bills (bill_of I P) (change_of_bill I P Q) ≡ bill_of I Q
 add-change I P Q = simp back (whole-bill I Q)
 
 -- ---- opening

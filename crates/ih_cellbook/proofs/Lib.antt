@@ -2,11 +2,14 @@ pub mod Agreeing
 pub mod Committing
 pub mod Copies
 pub mod Exact
+pub mod ExactPrices
 pub mod Examples
 pub mod Few
 pub mod Finds
 pub mod Kept
 pub mod Machine
+pub mod Ranges
+pub mod Scanning
 pub mod Staying
 pub mod Times
 pub mod Versions

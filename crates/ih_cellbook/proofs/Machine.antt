@@ -1,17 +1,13 @@
 -- The machine of workers that look and offer: each event keeps the history legal, the counters right and the prices exact.
-use Rattle.std.proofs.Common.{subst, ◌≡◌, ℕ, ◌+◌, ◌≤◌, refl, arith, sym, ap, ◌∙◌, Bool, true, false, List, [], ◌∷◌, ◌++◌, length, inl, inr, Some, None}
-use Rattle.std.specs.Prelude.{option_map, if◌then◌else◌, ◌==◌, slice_get}
+use Rattle.std.proofs.Common.{subst, ◌≡◌, ℕ, ◌+◌, ◌≤◌, refl, arith, sym, ap, ◌∙◌, Bool, true, false, List, [], ◌∷◌, ◌++◌, length, Some, None}
+use Rattle.std.specs.Prelude.{option_map, if◌then◌else◌, ◌==◌}
 use Rattle.ih_plan.specs.declared.moves.Move.{Move}
-use Rattle.ih_plan.specs.Timetable.{IsPlanOf}
-use Rattle.ih_plan.specs.Expand.{after}
-use Rattle.ih_plan.specs.BillOf.{change_of_bill}
 use Rattle.ih_journal.specs.declared.entries.Entry.{Entry}
-use Rattle.ih_journal.specs.declared.entries.Verdict.TheVariants.{Accepted}
 use Rattle.ih_journal.specs.Attempts.{is_done, Attempt, attempt_after, last_by, next_attempt}
 use Rattle.ih_journal.specs.Base.{Base}
-use Rattle.ih_journal.specs.History.{changes_since, plan_after, plan_at}
+use Rattle.ih_journal.specs.History.{changes_since, plan_at}
 use Rattle.ih_journal.specs.Legal.{price_of, IsLegalButDraw}
-use Rattle.ih_journal.proofs.Growth.{get-more, length-more, plan_after-more, plan_at-earlier, plan_at-end}
+use Rattle.ih_journal.proofs.Growth.{length-more}
 use Rattle.ih_journal.specs.declared.entries.Verdict.{Verdict}
 use Rattle.ih_journal.specs.Legal.{verdict_on}
 use Rattle.ih_cellbook.specs.declared.offers.Offer.{Offer}
@@ -20,44 +16,9 @@ use Rattle.ih_cellbook.specs.Offers.{entry_of}
 use Rattle.ih_cellbook.proofs.Committing.{AreVersionsBy}
 use Rattle.ih_cellbook.specs.Core.{State, Event, looks, offers, opening, MayOffer, MayCome, step, run_from, IsScheduleFrom, IsLegalState, entry_in, verdict_in, front_at}
 use Rattle.ih_cellbook.specs.Keeping.{IsBase}
-use Rattle.ih_cellbook.specs.Legal.{AreLegalButDraws}
 use Rattle.ih_cellbook.specs.Offers.{IsRightOffer, offer_at}
 use Rattle.ih_cellbook.proofs.Committing.{entry-legal, legal_but-moves, legal_but-more, legal_but-none, verdict-same, versions-more}
-use Rattle.ih_cellbook.proofs.Exact.{accepted-exact}
-
--- ---- accepted prices
-
--- each accepted price is the change of the bill at its place
-abbrev pub AreExact : Base → List Entry → Type 0
-AreExact b H = (k : ℕ) (e : Entry) → slice_get H k ≡ Some e → e.verdict ≡ Accepted
-    → e.price ≡ change_of_bill b.instance (plan_at b H k) (plan_at b H (k + 1))
-
--- the timetable after an accepted entry
-after-accepted : (b : Base) (H : List Entry) (e : Entry) → e.verdict ≡ Accepted → plan_after b (H ++ e ∷ []) ≡ after b.instance (plan_after b H) e.mv
-after-accepted b H e accepted = plan_after-more b H e ∙ rw accepted refl
-
-pub exact-last : (b : Base) (H : List Entry) (e : Entry) → IsPlanOf b.instance b.start → AreLegalButDraws b H → IsLegalButDraw b H e → e.verdict ≡ Accepted
-    → e.price ≡ change_of_bill b.instance (plan_after b H) (plan_after b (H ++ e ∷ []))
-exact-last b H e start legal one accepted =
-    let verdict = one.verdict in
-    accepted-exact b H e.number e.seen e.mv e.price start (legal_but-moves b H legal) one.move (sym verdict ∙ accepted) one.price
-    ∙ sym (ap (change_of_bill b.instance (plan_after b H)) (after-accepted b H e accepted))
-
-pub exact-more : (b : Base) (H : List Entry) (e : Entry) → IsPlanOf b.instance b.start → AreLegalButDraws b H → IsLegalButDraw b H e → AreExact b H → AreExact b (H ++ e ∷ [])
-exact-more b H e start legal one exact k f h accepted = elim (get-more H e f k h) [
-  | inl earlier ↦
-      let less = earlier.0 in
-      let here = plan_at-earlier b H (e ∷ []) k (omega arith) in
-      let next = plan_at-earlier b H (e ∷ []) (k + 1) (omega arith) in
-      rw (here, next) (exact k f earlier.1 accepted)
-  | inr last ↦
-      let same : e ≡ f = last.1 in
-      let place : k ≡ length H = last.0 in
-      let len = length-more H e in
-      let here : plan_at b (H ++ e ∷ []) k ≡ plan_after b H = plan_at-earlier b H (e ∷ []) k (omega arith) ∙ plan_at-end b H k (omega arith) in
-      let next : plan_at b (H ++ e ∷ []) (k + 1) ≡ plan_after b (H ++ e ∷ []) = plan_at-end b (H ++ e ∷ []) (k + 1) (omega arith) in
-      rw (here, next, ← same) (exact-last b H e start legal one (ap (λ (x : Entry). x.verdict) same ∙ accepted))
-]
+use Rattle.ih_cellbook.proofs.ExactPrices.{prices-exact}
 
 -- ---- events
 
@@ -103,7 +64,7 @@ module _ (b : Base) (base : IsBase b) (s : State) (legal : IsLegalState b s) whe
       record {
         legal = legal_but-more b s.history (entry_in b s w n m) legal.legal one;
         versions = versions-more b s.history (entry_in b s w n m) s.counters base.start (legal_but-moves b s.history legal.legal) one legal.versions;
-        exact = exact-more b s.history (entry_in b s w n m) base.start legal.legal one legal.exact;
+        exact = prices-exact b (s.history ++ entry_in b s w n m ∷ []) base.start (legal_but-more b s.history (entry_in b s w n m) legal.legal one);
         fronts = front-most s.fronts w (length s.history + 1) (length (s.history ++ entry_in b s w n m ∷ [])) (λ v. let most = legal.fronts v in omega (arith, len, most)) (omega (arith, len));
       }
 

@@ -1,19 +1,17 @@
 -- The core of a search as a machine: workers look at the history and offer moves, in any order.
-use Rattle.std.specs.Prelude.{◌≡◌, ℕ, ◌+◌, ◌==◌, ◌<◌, ◌≤◌, false, List, [], ◌∷◌, ◌++◌, length, take, Some, slice_get, if◌then◌else◌}
+use Rattle.std.specs.Prelude.{◌≡◌, ℕ, ◌+◌, ◌==◌, ◌<◌, ◌≤◌, false, List, [], ◌∷◌, ◌++◌, length, take, if◌then◌else◌}
 use Rattle.ih_tables.specs.declared.drafts.Draft.{Draft}
 use Rattle.ih_plan.specs.declared.moves.Move.{Move}
 use Rattle.ih_plan.specs.Expand.{IsMoveOf}
-use Rattle.ih_plan.specs.BillOf.{change_of_bill}
 use Rattle.ih_plan.specs.Cells.{cell_at, cell_count}
 use Rattle.ih_journal.specs.declared.entries.Entry.{Entry}
 use Rattle.ih_journal.specs.declared.entries.Verdict.{Verdict}
-use Rattle.ih_journal.specs.declared.entries.Verdict.TheVariants.{Accepted}
 use Rattle.ih_journal.specs.Attempts.{is_done}
 use Rattle.ih_journal.specs.Base.{Base}
-use Rattle.ih_journal.specs.History.{is_accepted, plan_at, version}
+use Rattle.ih_journal.specs.History.{is_accepted, version}
 use Rattle.ih_cellbook.specs.Counters.{verdict_by_counters, risen_where}
 use Rattle.ih_cellbook.specs.Keeping.{IsBase}
-use Rattle.ih_cellbook.specs.Legal.{AreLegalButDraws}
+use Rattle.ih_cellbook.specs.Legal.{AreExact, AreLegalButDraws}
 use Rattle.ih_cellbook.specs.Offers.{HasSeenOwn, entry_of, offer_at, reads_after}
 
 -- The entries so far, a counter for each cell by number, and how many entries each worker has seen.
@@ -84,8 +82,7 @@ IsScheduleFrom b s (v ∷ vs) = MayCome b s v × IsScheduleFrom b (step b s v) v
 pub record IsLegalState (b : Base) (s : State) : Type 0 where
   pub legal : AreLegalButDraws b s.history
   pub versions : (n : ℕ) → n < cell_count b.instance → s.counters n ≡ version b s.history (cell_at b.instance n)
-  pub exact : (k : ℕ) (e : Entry) → slice_get s.history k ≡ Some e → e.verdict ≡ Accepted
-      → e.price ≡ change_of_bill b.instance (plan_at b s.history k) (plan_at b s.history (k + 1))
+  pub exact : AreExact b s.history
   -- nobody has seen more than there is
   pub fronts : (w : ℕ) → s.fronts w ≤ length s.history
 

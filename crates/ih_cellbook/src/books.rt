@@ -41,7 +41,7 @@ impl<'a> Book<'a> {
     ghost use Rattle.ih_cellbook.specs.Copied.{most_copied};
     ghost use Rattle.ih_cellbook.specs.Core.{State, IsLegalState, step, offers};
     ghost use Rattle.ih_cellbook.specs.Keeping.{base_with, IsBase};
-    ghost use Rattle.ih_cellbook.specs.Legal.{AreLegalButDraws};
+    ghost use Rattle.ih_cellbook.specs.Legal.{AreExact, AreLegalButDraws};
     ghost use Rattle.ih_cellbook.specs.Laws.{AreFew};
     ghost use Rattle.ih_cellbook.specs.Offers.{IsRightOffer, entry_of};
 
@@ -118,6 +118,7 @@ impl<'a> Book<'a> {
         ensures legal { AreLegalButDraws self.now.base self.now.entries }
         ensures few { AreFew self.now.base self.now.entries }
         ensures agrees { (k : ℕ) → AgreesBefore self.now.base (plan_at self.now.base self.now.entries k) }
+        ensures exact { AreExact self.now.base self.now.entries }
     {
         self.records.entries()
     }

@@ -1,7 +1,7 @@
 //! Laws, each on a function that does nothing.
 
 ghost use Rattle.ih_cellbook.specs.Core.{SchedulesAreLegal};
-ghost use Rattle.ih_cellbook.specs.Laws.{RightOffersStayRight, LegalHistoriesAreFew};
+ghost use Rattle.ih_cellbook.specs.Laws.{AcceptedPricesAreExact, LegalHistoriesAreFew, LegalHistoriesAreInRange, LegalJournalsAreShort, RightOffersStayRight, SearchesHaveTwoJournals};
 
 use ih_tables::Instance;
 
@@ -17,8 +17,30 @@ pub fn legal_histories_are_few()
     ensures { LegalHistoriesAreFew }
 {}
 
+/// In a history that is legal but for its draws each accepted price, however old, is the change of the bill at its own
+/// place.
+pub fn accepted_prices_are_exact()
+    ensures { AcceptedPricesAreExact }
+{}
+
 /// In whatever order any number of workers look and offer, on however old a copy each priced its move: every entry is
 /// legal but for its draw, the counters are the versions, and each accepted price is the change of the bill at its place.
 pub fn schedules_are_legal(_inst: &Instance)
     ensures { SchedulesAreLegal _inst.now.draft }
+{}
+
+/// Each number of a legal history is in range, and so are the options: a journal may have them.
+pub fn legal_histories_are_in_range()
+    ensures { LegalHistoriesAreInRange }
+{}
+
+/// Two searches of an instance that differ in their options or in an entry have two journals, also where they begin with
+/// different timetables.
+pub fn searches_have_two_journals()
+    ensures { SearchesHaveTwoJournals }
+{}
+
+/// The journal of a legal history is short: at most 256 bytes for each entry, and 128 for the heading.
+pub fn legal_journals_are_short()
+    ensures { LegalJournalsAreShort }
 {}

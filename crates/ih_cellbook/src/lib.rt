@@ -2,6 +2,7 @@
 //! that a price was read from.
 #![tactic(auto)]
 
+mod best;
 mod books;
 mod buffers;
 mod counters;
@@ -11,9 +12,14 @@ mod reads;
 mod records;
 mod sharing;
 
+pub use best::best_in;
 pub use books::Book;
 pub use buffers::Buffer;
-pub use laws::{legal_histories_are_few, right_offers_stay_right, schedules_are_legal};
+pub use laws::{
+    accepted_prices_are_exact, legal_histories_are_few, legal_histories_are_in_range,
+    legal_journals_are_short, right_offers_stay_right, schedules_are_legal,
+    searches_have_two_journals,
+};
 pub use offers::Offer;
 pub use reads::Reads;
 pub use sharing::Basis;

@@ -1,11 +1,9 @@
 //! What a book keeps: the entries of all workers, and what is needed to judge the next one.
 
-ghost use Rattle.std.specs.Prelude.{◌≡◌, ℕ, ◌^◌, ◌<◌, ◌≤◌, if◌then◌else◌, [], length, slice_index, vec_capacity, Some, IfOk};
-ghost use Rattle.ih_tables.specs.Bills.{IsWithin, add_bills, feasible, cost};
+ghost use Rattle.std.specs.Prelude.{◌≡◌, ℕ, ◌<◌, ◌≤◌, [], length, slice_index, vec_capacity, Some, IfOk};
 ghost use Rattle.ih_journal.specs.Attempts.{attempt_after};
-ghost use Rattle.ih_journal.specs.Best.{best_with};
-ghost use Rattle.ih_journal.specs.History.{is_accepted};
 
+use crate::best::{bill_after, with_place};
 use crate::buffers::Buffer;
 use crate::counters::{judge, raise_where};
 use crate::offers::Offer;
@@ -69,37 +67,6 @@ fn tries_after(options: &Options, entry: &Entry) -> u32
     }
 }
 
-// The bill after an entry.
-fn bill_after(verdict: &Verdict, bill: &Bill, price: &Bill) -> Bill
-    requires { IsWithin (10 ^ 12) (add_bills bill.now price.now) }
-    ensures { result ≡ (if is_accepted verdict.now then add_bills bill.now price.now else bill.now) }
-{
-    match *verdict {
-        Verdict::Accepted => bill.add(price),
-        _ => *bill,
-    }
-}
-
-// The best so far, and one timetable more.
-fn with_place(
-    best: Option<(u32, i64)>,
-    place: u32,
-    now: &Bill,
-    inst: &Instance,
-) -> Option<(u32, i64)>
-    requires { IsWithin (10 ^ 11) now.now }
-    ensures { result ≡ best_with best place (feasible now.now) (cost inst.now.draft.weights now.now) }
-{
-    if !now.feasible() {
-        return best;
-    }
-    let cost = now.cost(inst.weights());
-    match best {
-        Some((_, least)) if cost >= least => best,
-        _ => Some((place, cost)),
-    }
-}
-
 // An entry of nobody, to write into room that nothing has used yet.
 fn blank() -> Entry {
     Entry {
@@ -142,7 +109,7 @@ impl<'a> Records<'a> {
     ghost use Rattle.ih_cellbook.specs.Copied.{most_copied};
     ghost use Rattle.ih_cellbook.specs.Core.{State, IsLegalState, step, offers};
     ghost use Rattle.ih_cellbook.specs.Keeping.{base_with, IsBase};
-    ghost use Rattle.ih_cellbook.specs.Legal.{AreLegalButDraws};
+    ghost use Rattle.ih_cellbook.specs.Legal.{AreExact, AreLegalButDraws};
     ghost use Rattle.ih_cellbook.specs.Laws.{AreFew};
     ghost use Rattle.ih_cellbook.specs.Offers.{IsRightOffer, entry_of};
 
@@ -241,6 +208,7 @@ impl<'a> Records<'a> {
         ensures legal { AreLegalButDraws self.now.base self.now.entries }
         ensures few { AreFew self.now.base self.now.entries }
         ensures agrees { (k : ℕ) → AgreesBefore self.now.base (plan_at self.now.base self.now.entries k) }
+        ensures exact { AreExact self.now.base self.now.entries }
     {
         self.entries.as_slice()
     }

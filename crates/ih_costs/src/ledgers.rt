@@ -3,7 +3,7 @@
 use crate::cell_ledgers::CellLedgers;
 use crate::copies::copy_plan;
 use crate::noting::play_noting;
-use crate::pricing::{price_of, put_all};
+use crate::pricing::{price_of, price_of_write, put_all};
 use ih_footprint::{CellList, CellSet, Numbering};
 use ih_moves::{Writes, expand};
 use ih_plan::{Members, Move, Plan, Write};
@@ -105,6 +105,15 @@ impl<'a> Ledgers<'a> {
         ensures { self.new ≡ record self.old { plan = put w.now self.old.plan } }
     {
         self.cells.put(self.inst, w);
+    }
+
+    /// What a write would add to the bill, number by number: each is at most 10^11 in magnitude. It isn't made.
+    pub fn price_write(&self, w: &Write) -> Bill
+        requires { IsWriteOf self.now.instance w.now }
+        ensures price { result ≡ change_of_bill self.now.instance self.now.plan (put w.now self.now.plan) }
+        ensures within { IsWithin (10 ^ 11) result }
+    {
+        price_of_write(self.inst, &self.cells, w)
     }
 
     /// Makes a move.

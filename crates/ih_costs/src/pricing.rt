@@ -59,6 +59,19 @@ fn change_by_write(inst: &Instance, ledgers: &CellLedgers, w: &Write, cells: &mu
     }
 }
 
+/// What a write changes in the bill, without the cells that it touches. It isn't made.
+pub fn price_of_write(inst: &Instance, ledgers: &CellLedgers, w: &Write) -> Bill
+    requires stands { AreLedgers inst.now.draft ledgers.now }
+    requires write { IsWriteOf inst.now.draft w.now }
+    ensures price { result ≡ change_of_bill inst.now.draft (timetable_of ledgers.now) (put w.now (timetable_of ledgers.now)) }
+    ensures within { IsWithin (10 ^ 11) result }
+{
+    match *w {
+        Write::SetStay(p, stay) => ledgers.stay_price(inst, p, stay),
+        Write::SetCare(r, k, n) => ledgers.choice_price(inst, r, k, n),
+    }
+}
+
 // What a write changes in the bill. The cells that it touches are gathered too, and `one` then has just these. It isn't
 // made.
 fn change_alone(

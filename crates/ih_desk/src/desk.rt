@@ -88,6 +88,7 @@ impl<'a> Desk<'a> {
         ensures made { made_count result.0 ≡ made_count seat.entry + 1 }
         ensures left { turns_left result.0 + 1 ≡ turns_left seat.entry }
     {
+        // For the proof alone.
         right_offers_stay_right();
         let mut held = self.turn.take(rt, seat);
         let verdict = commit(held.get_mut(), offer);
@@ -108,6 +109,7 @@ impl<'a> Desk<'a> {
     {
         let Desk { turn } = self;
         let book = turn.close(seats);
+        // For the proof alone: the entries are legal.
         book.entries();
         book
     }
@@ -120,6 +122,7 @@ fn copy(book: &Book<'_>, buffer: &mut Buffer)
     ensures legal { AreLegalButDraws book.now.base book.now.entries }
 {
     let from = buffer.from();
+    // For the proof alone: the entries are legal.
     book.entries();
     book.copy_since(from, buffer);
 }
@@ -132,6 +135,7 @@ fn commit(book: &mut Book<'_>, offer: &Offer) -> Verdict
     ensures legal { AreLegalButDraws book.new.base book.new.entries }
 {
     let verdict = book.commit(offer);
+    // For the proof alone: the entries are legal.
     book.entries();
     verdict
 }

@@ -1,5 +1,5 @@
 -- The best of a history, as the history grows.
-use Rattle.std.proofs.Common.{◌≡◌, ℕ, ◌+◌, ◌≤◌, refl, sym, ap, ◌∙◌, arith, subst, inl, inr, Bool, true, false, List, [], ◌∷◌, ◌++◌, length, Option, Some, None, ℤ}
+use Rattle.std.proofs.Common.{◌≡◌, ℕ, ◌+◌, ◌<◌, ◌≤◌, refl, sym, ap, ◌∙◌, arith, subst, inl, inr, Bool, true, false, List, [], ◌∷◌, ◌++◌, length, Option, Some, None, ℤ}
 use Rattle.std.specs.Int.Signed.{lt_z_no}
 use Rattle.std.specs.Prelude.{if◌then◌else◌, T, not, int_lt, ◌≤ℤ◌, ◌<ℤ◌, ◌⊎◌}
 use Rattle.std.proofs.lemmas.Int.{ints}
@@ -11,6 +11,26 @@ use Rattle.ih_journal.specs.Base.{Base}
 use Rattle.ih_journal.specs.History.{plan_at, plan_after}
 use Rattle.ih_journal.specs.Best.{IsBest, HasNone, BestIs, best_with, IsFeasibleAt, cost_at}
 use Rattle.ih_journal.proofs.Growth.{plan_at-earlier, plan_at-end, length-more}
+
+-- ---- a history has one best
+
+not-later : (b : Base) (H : List Entry) (k j : ℕ) → IsBest b H k → IsBest b H j → k < j → ⊥
+not-later b H k j here there less =
+    let over = there.first k less here.works in
+    let under = here.cheapest j there.place there.works in
+    omega (arith, ints, over, under)
+
+pub best-one : (b : Base) (H : List Entry) (k j : ℕ) → IsBest b H k → IsBest b H j → k ≡ j
+best-one b H k j here there = elim (cases_lt k j) [
+  | inl less ↦ absurd (not-later b H k j here there less)
+  | inr over ↦ elim (cases_lt j k) [
+    | inl less ↦ absurd (not-later b H j k there here less)
+    | inr under ↦ omega (arith, over, under)
+  ]
+]
+
+pub best-or-none : (b : Base) (H : List Entry) (k : ℕ) → IsBest b H k → HasNone b H → ⊥
+best-or-none b H k best none = let clash : true ≡ false = sym best.works ∙ none k best.place in cc
 
 -- the facts of a place depend on the entries before it alone
 same-bill : (b : Base) (H : List Entry) (e : Entry) (k : ℕ) → k ≤ length H → bill_of b.instance (plan_at b (H ++ e ∷ []) k) ≡ bill_of b.instance (plan_at b H k)

@@ -2,6 +2,7 @@
 use Rattle.std.proofs.Common.{◌≡◌, ℕ, zero, suc, ◌+◌, ◌<◌, ◌≤◌, refl, sym, ap, ◌∙◌, arith, subst, inl, inr, Bool, true, false, List, [], ◌∷◌, ◌++◌, length, length-append, take, drop, Option, Some, None}
 use Rattle.std.specs.Prelude.{◌&&◌, ◌⊎◌, ◌==◌, if◌then◌else◌, slice_get, find, int_lt}
 use Rattle.std.specs.List.{range_with_len}
+use Rattle.std.proofs.Math.Seq.{take-append_seam}
 use Rattle.std.proofs.lemmas.List.{take-append-le, take_all, drop_all}
 use Rattle.std.proofs.lemmas.Bool.{cases_eq, eq-eqb, ne_eqb}
 use Rattle.ih_tables.specs.declared.drafts.Draft.{Draft}
@@ -19,7 +20,8 @@ use Rattle.ih_journal.specs.declared.entries.Verdict.TheVariants.{Accepted, Decl
 use Rattle.ih_journal.specs.Settings.{theta}
 use Rattle.ih_journal.specs.Base.{Base}
 use Rattle.ih_journal.specs.Frozen.{is_frozen}
-use Rattle.ih_journal.specs.Attempts.{last_by, else_last, when_by, is_stale, is_done, next_attempt, HasMade}
+use Rattle.ih_journal.specs.declared.settings.Options.{Options}
+use Rattle.ih_journal.specs.Attempts.{Attempt, attempt_after, last_by, else_last, when_by, is_stale, is_done, next_attempt, HasMade}
 use Rattle.ih_journal.specs.History.{is_accepted, after_entry, after_entries, plan_after, plan_at, changed_since}
 use Rattle.ih_journal.specs.Legal.{verdict_on, first_changed, IsLegal, AreLegal}
 use Rattle.ih_journal.proofs.HistoryLemmas.{after_entries-append}
@@ -96,6 +98,14 @@ legal-more b H e legal one k f h = elim (get-more H e f k h) [
       subst (λ G. IsLegal b G f) (sym whole) (subst (IsLegal b H) last.1 one)
 ]
 
+get-joined : (H es : List Entry) (e : Entry) → slice_get (H ++ e ∷ es) (length H) ≡ Some e
+get-joined [] es e = refl
+get-joined (x ∷ xs) es e = get-joined xs es e
+
+-- the next entry of a legal history
+pub next-legal : (b : Base) (H es : List Entry) (e : Entry) → AreLegal b (H ++ e ∷ es) → IsLegal b H e
+next-legal b H es e legal = subst (λ G. IsLegal b G e) (take-append_seam H (e ∷ es)) (legal (length H) e (get-joined H es e))
+
 -- ---- attempts
 
 else_last-none : (o : Option Entry) → else_last o None ≡ o
@@ -153,6 +163,15 @@ has_made-own b H e w i own number fresh h =
     and-true : (t : Bool) → (t && true) ≡ t
     and-true true = refl
     and-true false = refl
+
+-- a worker with a next attempt isn't done, and the attempt is what follows its last entry
+pub attempt-parts : (o : Options) (G : List Entry) (w : ℕ) (a : Attempt) → next_attempt o G w ≡ Some a → (is_done o G w ≡ false) × (attempt_after o (last_by w G) ≡ a)
+unfolding next_attempt
+attempt-parts o G w a = by_case (is_done o G w)
+  where
+    by_case : (t : Bool) → (if t then None else Some (attempt_after o (last_by w G))) ≡ Some a → (t ≡ false) × (attempt_after o (last_by w G) ≡ a)
+    by_case true h = absurd (let no : None ≡ Some a = h in cc)
+    by_case false h = (refl, let e : Some (attempt_after o (last_by w G)) ≡ Some a = h in cc)
 
 -- ---- verdicts on what nobody came before
 

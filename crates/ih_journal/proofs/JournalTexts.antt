@@ -17,12 +17,12 @@ use Rattle.ih_journal.proofs.Lacking.{Lacks, parted_same, same_byte, head_of, ta
 cut_line : (a x : List ℕ) → Lacks 10 a → parted 10 (ended a ++ x) ≡ a ∷ parted 10 x
 cut_line a x lacks = ap (parted 10) (append_assoc a (10 ∷ []) x) ∙ slice_split_at (λ b. b == 10) a 10 x lacks (same_byte 10)
 
-first_line : (a b x y : List ℕ) → Lacks 10 a → Lacks 10 b → ended a ++ x ≡ ended b ++ y → (a ≡ b) × (x ≡ y)
+pub first_line : (a b x y : List ℕ) → Lacks 10 a → Lacks 10 b → ended a ++ x ≡ ended b ++ y → (a ≡ b) × (x ≡ y)
 first_line a b x y la lb h =
     let parts = sym (cut_line a x la) ∙ ap (parted 10) h ∙ cut_line b y lb in
     (head_of parts, parted_same 10 x y (tail_of parts))
 
-not_ended : (a x : List ℕ) → ended a ++ x ≡ [] → ⊥
+pub not_ended : (a x : List ℕ) → ended a ++ x ≡ [] → ⊥
 not_ended a x h = let len = simp (length-append) at (ap length h) in omega (arith, len)
 
 -- the lines of two histories of the same options, from one place on

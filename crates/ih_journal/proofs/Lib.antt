@@ -1,6 +1,8 @@
 pub mod BestLemmas
 pub mod CellTexts
+pub mod ChangeDigits
 pub mod Digits
+pub mod DigitSteps
 pub mod Freezing
 pub mod FrozenVerdicts
 pub mod Growth
@@ -14,6 +16,7 @@ pub mod LineReading
 pub mod LineTexts
 pub mod LinesRead
 pub mod Literals
+pub mod LoneWorkers
 pub mod MoveTexts
 pub mod Numbers
 pub mod Parts
@@ -22,4 +25,5 @@ pub mod Separators
 pub mod SmallestRun
 pub mod Spelling
 pub mod StaleVerdicts
+pub mod TextLengths
 pub mod VerdictTexts

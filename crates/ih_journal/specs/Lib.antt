@@ -4,6 +4,7 @@ pub mod Best
 pub mod Frozen
 pub mod Grammar
 pub mod History
+pub mod Laws
 pub mod Legal
 pub mod Names
 pub mod Pieces

@@ -10,7 +10,7 @@ pub enum Verdict {
     Accepted,
     /// Its price's score is above what its number may cost.
     Declined,
-    /// A move accepted since its maker last looked touched a cell that its price rests on.
+    /// A move that was accepted after the entries that it was priced on touched a cell that its price rests on.
     Stale {
         /// The first such cell, by number.
         cell: Cell,
@@ -19,7 +19,7 @@ pub enum Verdict {
         /// The cell's version at the entry's place.
         at_place: u32,
     },
-    /// One of its writes changes a choice before the freeze day.
+    /// It writes a choice before the freeze day, though it be the one that is there.
     Frozen,
 }
 

@@ -4,6 +4,7 @@
 mod entries;
 mod freeze;
 mod headings;
+mod laws;
 mod lines;
 mod named;
 mod numerals;
@@ -12,10 +13,12 @@ mod reading;
 mod refusals;
 mod settings;
 mod texts;
+mod writing;
 
 pub use entries::{Entry, Verdict};
 pub use freeze::frozen;
 pub use headings::parse_head;
+pub use laws::lone_workers_have_one_history;
 pub use lines::{head_line, line};
 pub use parse::{BadLine, journals_differ, parse_line};
 pub use reading::parse_move;

@@ -1,13 +1,14 @@
 //! Writing a journal: its heading and its lines.
 
-ghost use Rattle.std.specs.Prelude.{◌≡◌, ◌++◌, ◌∷◌, ◌^◌, OnOk, OnErr, IfOk, decimal, string_bytes};
+ghost use Rattle.std.specs.Prelude.{◌≡◌, ◌+◌, ◌≤◌, ◌++◌, ◌∷◌, ◌^◌, OnOk, OnErr, IfOk, length, take, decimal, string_bytes};
 ghost use Rattle.ih_tables.specs.Bills.{IsWithin};
 ghost use Rattle.ih_journal.specs.Texts.{heading, option_text, retries_field, line_text, again_field, version_text, ended, IsPart};
 ghost use Rattle.ih_journal.specs.Pieces.{marked};
 
 use crate::entries::Entry;
 use crate::settings::Options;
-use crate::texts::{put_move, put_number, put_price, put_verdict};
+use crate::texts::{put_move, put_price, put_verdict};
+use crate::writing::{put_byte, put_number};
 use itoa::Buffer;
 use std::alloc::{AllocError, Global};
 
@@ -66,40 +67,50 @@ pub fn head_line(o: &Options, out: &mut Vec<u8>) -> Result<(), AllocError>
     out.extend_from_slice(made.as_bytes())
 }
 
+// Room for the longest line.
+const LINE_ROOM: usize = 704;
+
 // A number with a space before it.
-fn put_field(out: &mut String, n: u32) -> Result<(), AllocError>
-    ensures { OnOk result (string_bytes out.new ≡ string_bytes out.old ++ 32 ∷ decimal n) }
+#[inline(always)]
+fn put_field(room: &mut [u8], at: usize, n: u32) -> usize
+    requires { at + 21 ≤ length room.old }
+    ensures text { take result room.new ≡ take at room.old ++ 32 ∷ decimal n }
+    ensures within { result ≤ at + 21 }
 {
-    out.push_str(" ")?;
-    put_number(out, n)
+    let end = put_byte(room, at, b' ');
+    put_number(room, end, u64::from(n))
 }
 
-fn put_again(out: &mut String, retries: u32, again: u32) -> Result<(), AllocError>
-    ensures { OnOk result (string_bytes out.new ≡ string_bytes out.old ++ marked 32 (again_field retries again)) }
+#[inline(always)]
+fn put_again(room: &mut [u8], at: usize, retries: u32, again: u32) -> usize
+    requires { at + 21 ≤ length room.old }
+    ensures text { take result room.new ≡ take at room.old ++ marked 32 (again_field retries again) }
+    ensures within { result ≤ at + 21 }
 {
     match retries {
-        0 => Ok(()),
-        _ => put_field(out, again),
+        0 => at,
+        _ => put_field(room, at, again),
     }
 }
 
-fn line_made(alloc: Global, options: &Options, place: u32, e: &Entry) -> Result<String, AllocError>
-    ensures { IfOk result (λ s. string_bytes s ≡ ended (line_text options.now place e.now)) }
+// Writes the line of the entry at a place from the beginning of the room on.
+fn put_line(room: &mut [u8], options: &Options, place: u32, e: &Entry) -> usize
+    requires { LINE_ROOM ≤ length room.old }
+    ensures text { take result room.new ≡ ended (line_text options.now place e.now) }
+    ensures within { result ≤ LINE_ROOM }
 {
-    let mut made = String::with_capacity(alloc, 256)?;
-    put_number(&mut made, place)?;
-    put_field(&mut made, e.worker)?;
-    put_field(&mut made, e.number)?;
-    put_again(&mut made, options.retries, e.again)?;
-    put_field(&mut made, e.seen)?;
-    made.push_str(" ")?;
-    put_move(&mut made, &e.mv)?;
-    made.push_str(" ")?;
-    put_price(&mut made, &e.price)?;
-    made.push_str(" ")?;
-    put_verdict(&mut made, &e.verdict)?;
-    made.push_str("\n")?;
-    Ok(made)
+    let end = put_number(room, 0, u64::from(place));
+    let end = put_field(room, end, e.worker);
+    let end = put_field(room, end, e.number);
+    let end = put_again(room, end, options.retries, e.again);
+    let end = put_field(room, end, e.seen);
+    let end = put_byte(room, end, b' ');
+    let end = put_move(room, end, &e.mv);
+    let end = put_byte(room, end, b' ');
+    let end = put_price(room, end, &e.price);
+    let end = put_byte(room, end, b' ');
+    let end = put_verdict(room, end, &e.verdict);
+    put_byte(room, end, b'\n')
 }
 
 /// Appends the line of the entry at a place, with its line feed. After want of memory `out` holds what it held, followed
@@ -110,6 +121,7 @@ pub fn line(options: &Options, place: u32, e: &Entry, out: &mut Vec<u8>) -> Resu
     ensures ok { OnOk result (out.new.items ≡ out.old.items ++ ended (line_text options.now place e.now)) }
     ensures err { OnErr result (IsPart out.old.items out.new.items (ended (line_text options.now place e.now))) }
 {
-    let made = line_made(*out.allocator(), options, place, e)?;
-    out.extend_from_slice(made.as_bytes())
+    let mut room = [0; LINE_ROOM];
+    let len = put_line(&mut room, options, place, e);
+    out.extend_from_slice(&room[..len])
 }

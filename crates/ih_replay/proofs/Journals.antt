@@ -1,8 +1,7 @@
 -- Lines of journals, taken one after another.
 use Rattle.std.proofs.Common.{◌≡◌, ℕ, suc, ◌+◌, ◌<◌, refl, arith, sym, ap, ◌∙◌, subst, Bool, true, false, List, [], ◌∷◌, ◌++◌, length, take, append_assoc, drop, Option, Some, None}
-use Rattle.std.specs.Prelude.{◌==◌, cond, slice_get, position}
+use Rattle.std.specs.Prelude.{◌==◌, cond, position}
 use Rattle.std.specs.List.{onto_first}
-use Rattle.std.proofs.Math.Seq.{take-append_seam}
 use Rattle.std.proofs.lemmas.List.{append-nil, length-append, take_all}
 use Rattle.std.proofs.lemmas.List.Elements.{All-nil, All-cons}
 use Rattle.std.proofs.lemmas.List.Splits.{slice_split_at}
@@ -12,7 +11,7 @@ use Rattle.ih_journal.specs.Base.{Base}
 use Rattle.ih_journal.specs.Grammar.{parted}
 use Rattle.ih_journal.specs.Legal.{AreLegal, IsLegal}
 use Rattle.ih_journal.specs.Texts.{line_text, lines_from}
-use Rattle.ih_journal.proofs.Growth.{legal-more, legal-none, length-more}
+use Rattle.ih_journal.proofs.Growth.{legal-more, legal-none, length-more, next-legal}
 use Rattle.ih_journal.proofs.InRange.{limits}
 use Rattle.ih_journal.proofs.Lacking.{Lacks, cut_joined, head_of, parted_same, same_byte, tail_of}
 use Rattle.ih_journal.proofs.LineTexts.{line_lacks, lines_differ}
@@ -96,14 +95,6 @@ none-left [] ys h = (refl, h)
 none-left (x ∷ xs) ys h = absurd (let no : x ∷ (xs ++ ys) ≡ [] = h in cc)
 
 -- ---- the whole lines of a journal that may be cut off are taken
-
-get-joined : (H es : List Entry) (e : Entry) → slice_get (H ++ e ∷ es) (length H) ≡ Some e
-get-joined [] es e = refl
-get-joined (x ∷ xs) es e = get-joined xs es e
-
--- the next entry of a legal history
-next-legal : (b : Base) (H es : List Entry) (e : Entry) → AreLegal b (H ++ e ∷ es) → IsLegal b H e
-next-legal b H es e legal = subst (λ G. IsLegal b G e) (take-append_seam H (e ∷ es)) (legal (length H) e (get-joined H es e))
 
 record TakesFrom (b : Base) (H es : List Entry) (more : List ℕ) (lines : List (List ℕ)) (last : List ℕ) : Type 0 where
   taken : Takes b H lines (H ++ take (length lines) es)

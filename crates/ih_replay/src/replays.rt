@@ -48,6 +48,7 @@ impl<'a> Replay<'a> {
     ghost use Rattle.ih_journal.specs.Legal.{AreLegal, IsFull};
     ghost use Rattle.ih_cellbook.specs.Keeping.{base_with, IsBase};
     ghost use Rattle.ih_cellbook.specs.Laws.{AreFew};
+    ghost use Rattle.ih_cellbook.specs.Legal.{AreExact};
     ghost use Rattle.ih_replay.specs.Bests.{BestPlanIs};
     ghost use Rattle.ih_replay.specs.Refusals.{IsGoing, IsNextLine, IsRefusedFor};
 
@@ -148,6 +149,7 @@ impl<'a> Replay<'a> {
         ensures legal { AreLegal self.now.base self.now.entries }
         ensures few { AreFew self.now.base self.now.entries }
         ensures agrees { (k : ℕ) → AgreesBefore self.now.base (plan_at self.now.base self.now.entries k) }
+        ensures exact { AreExact self.now.base self.now.entries }
     {
         self.book.entries()
     }

@@ -8,8 +8,9 @@ use Rattle.ih_words.specs.Solve.{SolveCall}
 use Rattle.ih_words.specs.Check.{CheckCall}
 use Rattle.ih_words.specs.Generate.{GenCall}
 use Rattle.ih_words.specs.Replay.{ReplayCall}
-use Rattle.ih_words.specs.Words.{Call, call_of, solve, replay, salvage, check, gen, demo}
-use Rattle.ih_words.proofs.CallNames.{out-differs}
+use Rattle.ih_words.specs.Rounds.{RoundsCall}
+use Rattle.ih_words.specs.Words.{Call, call_of, solve, replay, salvage, check, rounds, gen, demo}
+use Rattle.ih_words.proofs.CallNames.{names-apart}
 use Rattle.ih_shelf.specs.Outside.{IsWritten, MayBeWritten, Names, Told}
 use Rattle.ih_top.specs.declared.status.Status.{Status}
 use Rattle.ih_top.specs.declared.status.Status.TheVariants.{Done, Usage, ReadFault, InstanceRefused, StartRefused, NoneFound, WriteFault, OutOfMemory, JournalRefused, Infeasible, TooLong}
@@ -17,12 +18,14 @@ use Rattle.ih_top.specs.declared.status.Role.TheVariants.{Instance, Solution, Jo
 use Rattle.ih_top.specs.Answers.{unsaid}
 use Rattle.ih_top.specs.Texts.{done_text, memory_text, salvaged_text}
 use Rattle.ih_top.specs.Inputs.{Reading, EndsUnread}
+use Rattle.ih_top.specs.Rounds.{RoundsEnds}
 use Rattle.ih_top.specs.Solving.{SolveEnds, Unchanged}
 use Rattle.ih_top.specs.Checking.{CheckEnds}
 use Rattle.ih_top.specs.Demo.{DemoEnds}
 use Rattle.ih_top.specs.Generating.{GenEnds}
 use Rattle.ih_top.specs.Replaying.{EndsUnreadJournal, HasBest, IsHeadless, IsRefusedJournal, IsReplay, IsSalvage, JournalEnds, JournalRead}
 use Rattle.ih_top.specs.Ends.{CallEnds, Leaves, OutDiffers}
+use Rattle.ih_top.proofs.RoundsWriting.{rounds-done-found, rounds-none-begun}
 use Rattle.ih_top.proofs.Saying.{IsAnswerable}
 use Rattle.ih_top.proofs.Writing.{begun, done-found, none-begun}
 
@@ -102,6 +105,42 @@ module _ (s : SolveCall) (old new : Option Names) where
 
   pub solve-answerable : IsAnswerable (SolveEnds s old new)
   solve-answerable = record { unsaid = λ status text some h. solve-unsaid status text h; memory = solve-memory }
+
+-- ---- rounds
+
+module _ (r : RoundsCall) (old new : Option Names) where
+  rounds-unsaid : (status : Status) (text : List ℕ) → RoundsEnds r old new status text → RoundsEnds r old new (unsaid status) text
+  rounds-unsaid Done text h = h
+  rounds-unsaid Usage text h = h
+  rounds-unsaid (ReadFault role) text h = h
+  rounds-unsaid (InstanceRefused e) text h = h
+  rounds-unsaid (StartRefused e) text h = h
+  rounds-unsaid NoneFound text h = h
+  rounds-unsaid (WriteFault role) text h = h
+  rounds-unsaid OutOfMemory text h = h
+  rounds-unsaid (JournalRefused e) text h = h
+  rounds-unsaid Infeasible text h = absurd h.1
+  rounds-unsaid (TooLong role) text h = h
+
+  rounds-memory : (status : Status) (text : List ℕ) → RoundsEnds r old new status text → RoundsEnds r old new OutOfMemory memory_text
+  rounds-memory Done text h = (inr (inr (rounds-done-found r old new h.0)), refl)
+  rounds-memory Usage text h = (inl h.0, refl)
+  rounds-memory (ReadFault role) text h = (inl h.0, refl)
+  rounds-memory (InstanceRefused e) text h = (inl h.0, refl)
+  rounds-memory (StartRefused e) text h = (inl h.0, refl)
+  rounds-memory NoneFound text h = (inr (inl (rounds-none-begun r old new h.0.0)), refl)
+  rounds-memory (WriteFault None) text h = (inr (inr (rounds-done-found r old new h.0)), refl)
+  rounds-memory (WriteFault (Some Instance)) text h = (inl h.0, refl)
+  rounds-memory (WriteFault (Some Solution)) text h = (inl h.0, refl)
+  rounds-memory (WriteFault (Some Journal)) text h = (inr (inl h.0), refl)
+  rounds-memory (WriteFault (Some Out)) text h = (inr (inr h.0), refl)
+  rounds-memory OutOfMemory text h = (h.0, refl)
+  rounds-memory (JournalRefused e) text h = (inl h.0, refl)
+  rounds-memory Infeasible text h = (inl h.0, refl)
+  rounds-memory (TooLong role) text h = (inl h.0, refl)
+
+  pub rounds-answerable : IsAnswerable (RoundsEnds r old new)
+  rounds-answerable = record { unsaid = λ status text some h. rounds-unsaid status text h; memory = rounds-memory }
 
 -- ---- check
 
@@ -257,15 +296,17 @@ call-answerable (solve s) old new = solve-answerable s old new
 call-answerable (replay r) old new = journal-answerable (IsReplay r.start) (IsRefusedJournal r.start) done_text r old new
 call-answerable (salvage r) old new = journal-answerable (IsSalvage r.start) IsHeadless salvaged_text r old new
 call-answerable (check c) old new = beside (Told Unchanged old new) (CheckEnds c old) (check-answerable c old)
+call-answerable (rounds r) old new = rounds-answerable r old new
 call-answerable (gen g) old new = gen-answerable g old new
 call-answerable (demo number) old new = beside (Told Unchanged old new) (DemoEnds number) (demo-answerable number)
 
 -- the words that name a call keep its solution apart from its journal
 pub out-apart : (words : List (List ℕ)) (call : Call) → call_of words ≡ Some call → OutDiffers call
-out-apart words (solve s) h = out-differs words s h
+out-apart words (solve s) h = names-apart words (solve s) h
 out-apart words (replay r) h = tt
 out-apart words (salvage r) h = tt
 out-apart words (check c) h = tt
+out-apart words (rounds r) h = names-apart words (rounds r) h
 out-apart words (gen g) h = tt
 out-apart words (demo number) h = tt
 
@@ -280,6 +321,7 @@ call-memory (solve s) files = (inl (told-same files files refl), refl)
 call-memory (replay r) files = (inl (told-same files files refl), refl)
 call-memory (salvage r) files = (inl (told-same files files refl), refl)
 call-memory (check c) files = (told-same files files refl, refl)
+call-memory (rounds r) files = (inl (told-same files files refl), refl)
 call-memory (gen g) files = (unwritten g.out _ files, refl)
 call-memory (demo number) files = (told-same files files refl, refl)
 

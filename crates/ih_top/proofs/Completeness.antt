@@ -13,11 +13,12 @@ use Rattle.ih_journal.specs.Texts.{heading, lines_from}
 use Rattle.ih_journal.proofs.HeadTexts.{heading_lacks, headings_differ, lawful_short}
 use Rattle.ih_instance.specs.Instance.{instance}
 use Rattle.ih_solution.specs.Reading.{plan_in}
+use Rattle.ih_words.specs.Rounds.{RoundsCall}
 use Rattle.ih_words.specs.Solve.{SolveCall}
 use Rattle.ih_words.specs.Check.{CheckCall}
 use Rattle.ih_words.specs.Generate.{GenCall}
 use Rattle.ih_words.specs.Replay.{ReplayCall}
-use Rattle.ih_words.specs.Words.{Call, solve, replay, salvage, check, gen, demo}
+use Rattle.ih_words.specs.Words.{Call, solve, replay, salvage, check, rounds, gen, demo}
 use Rattle.ih_shelf.specs.Outside.{Names, Rose, bytes_at}
 use Rattle.ih_top.specs.declared.files.TheConstants.{MAX_JOURNAL}
 use Rattle.ih_top.specs.declared.status.Status.{Status}
@@ -65,11 +66,11 @@ module _ (files : Names) (r : Reading) (I : Draft) (P : Timetable) (has : HasInp
 -- ---- journals that are accepted
 
 -- a timetable is read from its file in one way
-same-plan : (files : Names) (o : Option (List ℕ)) (I : Draft) (P Q : Timetable) → HasPlan (Some files) o I P → HasPlan (Some files) o I Q → P ≡ Q
+pub same-plan : (files : Names) (o : Option (List ℕ)) (I : Draft) (P Q : Timetable) → HasPlan (Some files) o I P → HasPlan (Some files) o I Q → P ≡ Q
 same-plan files None I P Q first second = first ∙ sym second
 same-plan files (Some name) I P Q first second = let same : Ok P ≡ Ok Q = sym first.read ∙ second.read in cc
 
-base-same : (b c : Base) → b.instance ≡ c.instance → b.start ≡ c.start → b.options ≡ c.options → b.freeze ≡ c.freeze → b ≡ c
+pub base-same : (b c : Base) → b.instance ≡ c.instance → b.start ≡ c.start → b.options ≡ c.options → b.freeze ≡ c.freeze → b ≡ c
 base-same b c i s o f =
     ap (λ (t : Draft × Timetable × Options × ℕ). let base : Base = record { instance = t.0; start = t.1; options = t.2; freeze = t.3 } in base)
     (let all : (b.instance, b.start, b.options, b.freeze) ≡ (c.instance, c.start, c.options, c.freeze) = rw (i, s, o, f) refl in all)
@@ -87,11 +88,11 @@ module _ (files : Names) (r : ReplayCall) (x : JournalRead) (has : HasRead (Some
 
   module _ (b : Base) (lines : List ℕ) (headed : IsHeadedBy r.start x b lines) where
     -- a journal with a heading isn't refused for it
-    not-headless : (e : JournalRefusal) → IsRefused IsHeadless r (Some files) e → ⊥
+    pub not-headless : (e : JournalRefusal) → IsRefused IsHeadless r (Some files) e → ⊥
     not-headless e h = h.why.none b.options lines headed.lawful headed.seed (same-bytes h.read h.given ∙ headed.joins)
 
     -- the heading and the lines are found in one way
-    same-search : (y : JournalRead) (c : Base) (more : List ℕ) → HasRead (Some files) r y → IsHeadedBy r.start y c more → (c ≡ b) × (more ≡ lines)
+    pub same-search : (y : JournalRead) (c : Base) (more : List ℕ) → HasRead (Some files) r y → IsHeadedBy r.start y c more → (c ≡ b) × (more ≡ lines)
     same-search y c more other found =
         let short_b = lawful_short b.options headed.lawful headed.seed in
         let short_c = lawful_short c.options found.lawful found.seed in
@@ -106,12 +107,12 @@ module _ (files : Names) (r : ReplayCall) (x : JournalRead) (has : HasRead (Some
         (base-same c b instance start options (found.started.freeze ∙ sym headed.started.freeze), cut.1)
 
   -- the journal of a full history isn't refused
-  not-refused : (b : Base) (H : List Entry) → IsReplay r.start x b H → (e : JournalRefusal) → IsRefused (IsRefusedJournal r.start) r (Some files) e → ⊥
-  not-refused b H is e h = elim h.why [
-    | inl headless ↦ not-headless b (lines_from b.options 0 H) is.headed e (record { read = h.read; given = h.given; why = headless })
+  pub not-refused : (b : Base) (H : List Entry) → IsHeadedBy r.start x b (lines_from b.options 0 H) → IsFull b H → (e : JournalRefusal) → IsRefused (IsRefusedJournal r.start) r (Some files) e → ⊥
+  not-refused b H headed full e h = elim h.why [
+    | inl headless ↦ not-headless b (lines_from b.options 0 H) headed e (record { read = h.read; given = h.given; why = headless })
     | inr line ↦
-        let same = same-search b (lines_from b.options 0 H) is.headed h.read line.base line.bytes h.given line.headed in
-        line.none H (subst (λ (c : Base). IsFull c H) (sym same.0) is.full)
+        let same = same-search b (lines_from b.options 0 H) headed h.read line.base line.bytes h.given line.headed in
+        line.none H (subst (λ (c : Base). IsFull c H) (sym same.0) full)
         (same.1 ∙ ap (λ (c : Base). lines_from c.options 0 H) (sym same.0))
   ]
 
@@ -119,7 +120,7 @@ module _ (files : Names) (r : ReplayCall) (x : JournalRead) (has : HasRead (Some
   not-long : IfSome (Some files) (IsLongerThan MAX_JOURNAL r.journal) → ⊥
   not-long long = let short = has.journal.short in let held = ap length has.journal.held in omega (arith, short, long, held)
 
-  journal-accepted : (status : Status) (text : List ℕ) → EndsUnreadJournal (Some files) r status text → ((role : Role) × (status ≡ ReadFault role)) ⊎ (status ≡ OutOfMemory)
+  pub journal-accepted : (status : Status) (text : List ℕ) → EndsUnreadJournal (Some files) r status text → ((role : Role) × (status ≡ ReadFault role)) ⊎ (status ≡ OutOfMemory)
   journal-accepted Done text h = absurd h
   journal-accepted Usage text h = absurd h
   journal-accepted (ReadFault role) text h = inl (role, refl)
@@ -160,6 +161,21 @@ module _ (reads reads' writes writes' puts puts' : ℕ) (calm : (Rose reads read
     solve-answered s I P has (JournalRefused e) cause (text, h, g) = absurd h.1
     solve-answered s I P has Infeasible cause (text, h, g) = absurd h.1
     solve-answered s I P has (TooLong role) cause (text, h, g) = unread-answered (IsAnswered (solve s) (TooLong role)) (TooLong role) cause (accepted files (solve_reading s) I P has (TooLong role) text h.1) (λ m. inr (inr m))
+
+    rounds-answered : (r : RoundsCall) (I : Draft) (P : Timetable) → HasInputs (Some files) (solve_reading r.search) I P → (status : Status) → Caused status
+        → Ends (CallEnds (rounds r) (Some files) new) gained part status → IsAnswered (rounds r) status
+    rounds-answered r I P has Done cause ends = inl refl
+    rounds-answered r I P has Usage cause (text, h, g) = absurd h.1
+    rounds-answered r I P has (ReadFault role) cause (text, h, g) = absurd (calm cause)
+    rounds-answered r I P has (InstanceRefused e) cause (text, h, g) = unread-answered (IsAnswered (rounds r) (InstanceRefused e)) (InstanceRefused e) cause (accepted files (solve_reading r.search) I P has (InstanceRefused e) text h.1) (λ m. inr (inr m))
+    rounds-answered r I P has (StartRefused e) cause (text, h, g) = unread-answered (IsAnswered (rounds r) (StartRefused e)) (StartRefused e) cause (accepted files (solve_reading r.search) I P has (StartRefused e) text h.1) (λ m. inr (inr m))
+    rounds-answered r I P has NoneFound cause ends = inr (inl refl)
+    rounds-answered r I P has (WriteFault None) cause ends = absurd (heard cause)
+    rounds-answered r I P has (WriteFault (Some role)) cause ends = absurd (kept cause)
+    rounds-answered r I P has OutOfMemory cause ends = inr (inr refl)
+    rounds-answered r I P has (JournalRefused e) cause (text, h, g) = absurd h.1
+    rounds-answered r I P has Infeasible cause (text, h, g) = absurd h.1
+    rounds-answered r I P has (TooLong role) cause (text, h, g) = unread-answered (IsAnswered (rounds r) (TooLong role)) (TooLong role) cause (accepted files (solve_reading r.search) I P has (TooLong role) text h.1) (λ m. inr (inr m))
 
     check-answered : (c : CheckCall) (I : Draft) (P : Timetable) → HasInputs (Some files) (check_reading c) I P → (status : Status) → Caused status
         → Ends (CallEnds (check c) (Some files) new) gained part status → IsAnswered (check c) status
@@ -233,12 +249,14 @@ pub complete : (call : Call) (old new : Option Names) (gained part : List ℕ �
 complete call None new gained part reads reads' writes writes' puts puts' status ends cause = tt
 complete (solve s) (Some files) new gained part reads reads' writes writes' puts puts' status ends cause = λ (I, P, has) calm kept heard.
     solve-answered reads reads' writes writes' puts puts' calm kept heard files new gained part s I P has status cause ends
-complete (replay r) (Some files) new gained part reads reads' writes writes' puts puts' status ends cause = λ (x, b, H, has, is) calm kept heard.
+complete (replay r) (Some files) new gained part reads reads' writes writes' puts puts' status ends cause = λ (x, b, H, has, headed, full) calm kept heard.
     journal-answered reads reads' writes writes' puts puts' calm kept heard files new gained part r x has (IsReplay r.start) (IsRefusedJournal r.start) done_text
-    (not-refused files r x has b H is) status cause ends
+    (not-refused files r x has b H headed full) status cause ends
 complete (salvage r) (Some files) new gained part reads reads' writes writes' puts puts' status ends cause = λ (x, b, lines, has, headed) calm kept heard.
     journal-answered reads reads' writes writes' puts puts' calm kept heard files new gained part r x has (IsSalvage r.start) IsHeadless salvaged_text
     (not-headless files r x has b lines headed) status cause ends
+complete (rounds r) (Some files) new gained part reads reads' writes writes' puts puts' status ends cause = λ (I, P, has) calm kept heard.
+    rounds-answered reads reads' writes writes' puts puts' calm kept heard files new gained part r I P has status cause ends
 complete (gen g) (Some files) new gained part reads reads' writes writes' puts puts' status ends cause = λ has calm kept heard.
     gen-answered reads reads' writes writes' puts puts' calm kept heard files new gained part g status cause ends
 complete (demo number) (Some files) new gained part reads reads' writes writes' puts puts' status ends cause = λ has calm kept heard.

@@ -181,6 +181,19 @@ module _ (taken : LegalJournalsAreTaken) (differ : LegalJournalsDiffer) (texts :
           })
           (record { legal = next-legal G H refused.rest full.legal refused.begins.legal joins d es some; text = refl })
 
+  -- of the whole journal of a legal history each line is taken
+  pub all-salvaged : (G H : List Entry) (rest : List ℕ) → AreLegal b G → Begins b (lines_from b.options 0 G) H rest → H ≡ G
+  all-salvaged G H rest legal begins = go (drop (length H) G) refl
+    where
+      joins : lines_from b.options 0 H ++ rest ≡ lines_from b.options 0 G
+      joins = sym begins.joins
+
+      go : (D : List Entry) → drop (length H) G ≡ D → H ≡ G
+      go [] none = sym (whole G H rest legal begins.legal joins none)
+      go (d ∷ es) some = absurd (begins.longest (line_text b.options (length H) d) (lines_from b.options (length H + 1) es) d
+          (record { joins = next-joins G H rest legal begins.legal joins d es some; first = next-lacks G H rest legal begins.legal joins d es some })
+          (record { legal = next-legal G H rest legal begins.legal joins d es some; text = refl }))
+
   salvaged-whole : (G : List Entry) (bytes more : List ℕ) (H : List Entry) (rest : List ℕ) → AreLegal b G → bytes ++ more ≡ lines_from b.options 0 G
       → Begins b bytes H rest → length H ≡ count_by is_feed bytes
   salvaged-whole G bytes more H rest legal cut begins =

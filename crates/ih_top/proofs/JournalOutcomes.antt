@@ -129,7 +129,7 @@ module _ (s : StartCall) (x : JournalRead) (b : Base) (lines : List ℕ) (headed
   replay-outcome (Taken best) t = record {
     base = b;
     history = t.history;
-    taken_is = record { headed = subst (IsHeadedBy s x b) t.whole headed; full = t.full; agrees = t.agrees };
+    taken_is = record { headed = subst (IsHeadedBy s x b) t.whole headed; given = t.given; full = t.full; agrees = t.agrees; exact = t.exact };
     output = t.output;
   }
 
@@ -137,6 +137,6 @@ module _ (s : StartCall) (x : JournalRead) (b : Base) (lines : List ℕ) (headed
   salvage-outcome best t = record {
     base = b;
     history = t.history;
-    taken_is = record { bytes = lines; rest = t.rest; headed = headed; begins = t.begins; agrees = t.agrees };
+    taken_is = record { bytes = lines; rest = t.rest; headed = headed; given = t.given; begins = t.begins; agrees = t.agrees; exact = t.exact };
     output = t.output;
   }

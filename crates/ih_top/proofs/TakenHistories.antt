@@ -10,6 +10,7 @@ use Rattle.ih_journal.specs.Legal.{IsFull}
 use Rattle.ih_journal.specs.Texts.{lines_from}
 use Rattle.ih_cellbook.specs.Keeping.{IsBase}
 use Rattle.ih_cellbook.specs.Laws.{AreFew}
+use Rattle.ih_cellbook.specs.Legal.{AreExact}
 use Rattle.ih_top.specs.declared.output.BestOutput.{BestOutput}
 use Rattle.ih_top.specs.Journals.{Begins, IsRefusedAt}
 use Rattle.ih_top.specs.Laws.{RefusedLinesAreNotFull}
@@ -32,10 +33,12 @@ salvaged-best b H n o s count best solution text = record {
 }
 
 module _ (b c : Base) (same : b ≡ c) (bytes : List ℕ) (H : List Entry) where
-  pub full-lines : IsFull b H → ((k : ℕ) → AgreesBefore b (plan_at b H k)) → bytes ≡ lines_from b.options 0 H → (best : Option BestOutput)
-      → HasBestOutput c H best → AreFullLines c bytes best
-  full-lines full agrees whole best output = record {
+  pub full-lines : IsBase b → IsFull b H → ((k : ℕ) → AgreesBefore b (plan_at b H k)) → AreExact b H → bytes ≡ lines_from b.options 0 H
+      → (best : Option BestOutput) → HasBestOutput c H best → AreFullLines c bytes best
+  full-lines given full agrees exact whole best output = record {
     history = H;
+    given = subst IsBase same given;
+    exact = subst (λ (x : Base). AreExact x H) same exact;
     full = subst (λ (x : Base). IsFull x H) same full;
     agrees = λ k. subst (λ (x : Base). AgreesBefore x (plan_at x H k)) same (agrees k);
     whole = subst (λ (x : Base). bytes ≡ lines_from x.options 0 H) same whole;
@@ -47,10 +50,12 @@ module _ (b c : Base) (same : b ≡ c) (bytes : List ℕ) (H : List Entry) where
       let here = subst (λ (x : Base). IsRefusedAt x bytes H e) same refused in
       record { history = H; refused = here; none = law c bytes H e valid base here }
 
-  pub salvaged-lines : (rest : List ℕ) → Begins b bytes H rest → ((k : ℕ) → AgreesBefore b (plan_at b H k)) → (best : Option BestOutput)
-      → HasBestSaid salvaged_text c H best → AreLines c bytes best
-  salvaged-lines rest begins agrees best output = record {
+  pub salvaged-lines : (rest : List ℕ) → IsBase b → Begins b bytes H rest → ((k : ℕ) → AgreesBefore b (plan_at b H k)) → AreExact b H
+      → (best : Option BestOutput) → HasBestSaid salvaged_text c H best → AreLines c bytes best
+  salvaged-lines rest given begins agrees exact best output = record {
     history = H;
+    given = subst IsBase same given;
+    exact = subst (λ (x : Base). AreExact x H) same exact;
     rest = rest;
     begins = subst (λ (x : Base). Begins x bytes H rest) same begins;
     agrees = λ k. subst (λ (x : Base). AgreesBefore x (plan_at x H k)) same (agrees k);

@@ -41,6 +41,12 @@ pub untouched : (name bytes : List ℕ) (old new : Option Names) → Told Unchan
 untouched name bytes old new h = told-weaker Unchanged (MayBeWritten name bytes) old new
     (λ x y same. record { part = inl (same name); others = λ n apart. same n }) h
 
+pub both-begun : (s : SolveCall) (text solution : List ℕ) (x y : Names) → WritesBoth s text solution x y → BeginsSolution s text solution x y
+both-begun s text solution x y w = record { journal = w.journal; out = whole-text solution (x s.out) (y s.out) w.out; others = w.others }
+
+pub journal-whole-begun : (s : SolveCall) (text : List ℕ) (x y : Names) → WritesJournal s text x y → BeginsJournal s text x y
+journal-whole-begun s text x y w = record { journal = whole-text text (x s.journal) (y s.journal) w.journal; out = w.out; others = w.others }
+
 pub done-found : (s : SolveCall) (old new : Option Names) (text : List ℕ) → IsDone s old new text → HasFound s old new
 done-found s old new text done = record {
   base = done.base;
@@ -50,7 +56,7 @@ done-found s old new text done = record {
   best = done.best;
   written = told-weaker (WritesBoth s (journal done.base.options done.history) (solution_at done.base done.history done.place))
       (BeginsSolution s (journal done.base.options done.history) (solution_at done.base done.history done.place)) old new
-      (λ x y w. record { journal = w.journal; out = whole-text (solution_at done.base done.history done.place) (x s.out) (y s.out) w.out; others = w.others }) done.written;
+      (both-begun s (journal done.base.options done.history) (solution_at done.base done.history done.place)) done.written;
 }
 
 pub none-begun : (s : SolveCall) (old new : Option Names) → HasFoundNone s old new → HasBegun s old new
@@ -59,8 +65,40 @@ none-begun s old new found = record {
   history = found.history;
   search = found.search;
   written = told-weaker (WritesJournal s (journal found.base.options found.history)) (BeginsJournal s (journal found.base.options found.history)) old new
-      (λ x y w. record { journal = whole-text (journal found.base.options found.history) (x s.journal) (y s.journal) w.journal; out = w.out; others = w.others }) found.written;
+      (journal-whole-begun s (journal found.base.options found.history)) found.written;
 }
+
+-- ---- the writes of a journal and a solution
+
+module _ (s : SolveCall) (text made : List ℕ) (is : made ≡ text) (differ : s.out ≢ s.journal) where
+  pub begins-journal : (x y : Names) → MayBeWritten s.journal made x y → BeginsJournal s text x y
+  begins-journal x y w = record {
+    journal = subst (λ t. PartOr t (x s.journal) (y s.journal)) is w.part;
+    out = w.others s.out differ;
+    others = λ n apart away. w.others n away;
+  }
+
+  pub writes-journal : (x y : Names) → IsWritten s.journal made x y → WritesJournal s text x y
+  writes-journal x y w = record {
+    journal = w.whole ∙ ap (λ t. Some t) is;
+    out = w.others s.out differ;
+    others = λ n apart away. w.others n away;
+  }
+
+  module _ (solution bytes : List ℕ) (same : bytes ≡ solution) where
+    pub begins-solution : (x y z : Names) → IsWritten s.journal made x y → MayBeWritten s.out bytes y z → BeginsSolution s text solution x z
+    begins-solution x y z first second = record {
+      journal = second.others s.journal (λ e. differ (sym e)) ∙ first.whole ∙ ap (λ t. Some t) is;
+      out = subst (λ t. PartOr t (x s.out) (z s.out)) same (subst (λ held. PartOr bytes held (z s.out)) (first.others s.out differ) second.part);
+      others = λ n apart away. second.others n apart ∙ first.others n away;
+    }
+
+    pub writes-both : (x y z : Names) → IsWritten s.journal made x y → IsWritten s.out bytes y z → WritesBoth s text solution x z
+    writes-both x y z first second = record {
+      journal = second.others s.journal (λ e. differ (sym e)) ∙ first.whole ∙ ap (λ t. Some t) is;
+      out = second.whole ∙ ap (λ t. Some t) same;
+      others = λ n apart away. second.others n apart ∙ first.others n away;
+    }
 
 -- ---- the writes of a search
 
@@ -69,39 +107,23 @@ module _ (s : SolveCall) (b : Base) (o : Output) (differ : s.out ≢ s.journal) 
   text = journal b.options output.history
 
   begins : (x y : Names) → MayBeWritten s.journal o.journal.items x y → BeginsJournal s text x y
-  begins x y w = record {
-    journal = subst (λ t. PartOr t (x s.journal) (y s.journal)) output.journal w.part;
-    out = w.others s.out differ;
-    others = λ n apart away. w.others n away;
-  }
+  begins = begins-journal s text o.journal.items output.journal differ
 
   writes : (x y : Names) → IsWritten s.journal o.journal.items x y → WritesJournal s text x y
-  writes x y w = record {
-    journal = w.whole ∙ ap (λ t. Some t) output.journal;
-    out = w.others s.out differ;
-    others = λ n apart away. w.others n away;
-  }
+  writes = writes-journal s text o.journal.items output.journal differ
 
   module _ (best : BestOutput) (is : IsBestOutput b output.history best) where
     begins-out : (x y z : Names) → IsWritten s.journal o.journal.items x y → MayBeWritten s.out best.solution.items y z
         → BeginsSolution s text (solution_at b output.history is.place) x z
-    begins-out x y z first second = record {
-      journal = second.others s.journal (λ e. differ (sym e)) ∙ first.whole ∙ ap (λ t. Some t) output.journal;
-      out = subst (λ t. PartOr t (x s.out) (z s.out)) is.solution (subst (λ held. PartOr best.solution.items held (z s.out)) (first.others s.out differ) second.part);
-      others = λ n apart away. second.others n apart ∙ first.others n away;
-    }
+    begins-out = begins-solution s text o.journal.items output.journal differ (solution_at b output.history is.place) best.solution.items is.solution
 
     writes-out : (x y z : Names) → IsWritten s.journal o.journal.items x y → IsWritten s.out best.solution.items y z
         → WritesBoth s text (solution_at b output.history is.place) x z
-    writes-out x y z first second = record {
-      journal = second.others s.journal (λ e. differ (sym e)) ∙ first.whole ∙ ap (λ t. Some t) output.journal;
-      out = second.whole ∙ ap (λ t. Some t) is.solution;
-      others = λ n apart away. second.others n apart ∙ first.others n away;
-    }
+    writes-out = writes-both s text o.journal.items output.journal differ (solution_at b output.history is.place) best.solution.items is.solution
 
   module _ (old : Option Names) (base : HasBase old s b) where
     searched : IsSearch old s b output.history
-    searched = record { base = base; full = output.full; agrees = output.agrees }
+    searched = record { base = base; given = output.given; seed = output.seed; full = output.full; agrees = output.agrees; exact = output.exact }
 
     pub journal-begun : (new : Option Names) → Told (MayBeWritten s.journal o.journal.items) old new → HasBegun s old new
     journal-begun new written = record {

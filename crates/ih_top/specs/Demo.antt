@@ -1,17 +1,19 @@
 -- How a call of demo ends: what it had to say, by its status. It touches no file.
-use Rattle.std.specs.Prelude.{◌≡◌, ℕ, List, Option, Some, None, Ok}
+use Rattle.std.specs.Prelude.{◌≡◌, ℕ, List, length, Option, Some, None, Ok}
 use Rattle.ih_plan.specs.Fill.{fill}
 use Rattle.ih_plan.specs.Timetable.{empty}
 use Rattle.ih_journal.specs.declared.entries.Entry.{Entry}
 use Rattle.ih_journal.specs.declared.settings.Options.{Options}
+use Rattle.ih_journal.specs.Attempts.{is_stale}
 use Rattle.ih_journal.specs.Base.{Base}
 use Rattle.ih_journal.specs.Best.{HasNone, IsBest}
 use Rattle.ih_journal.specs.Legal.{IsFull}
+use Rattle.ih_cellbook.specs.Legal.{AreExact}
 use Rattle.ih_gen.specs.Generated.{generated}
 use Rattle.ih_instance.specs.Instance.{instance}
 use Rattle.ih_top.specs.declared.status.Status.{Status}
 use Rattle.ih_top.specs.declared.status.Status.TheVariants.{Done, NoneFound, WriteFault, OutOfMemory}
-use Rattle.ih_top.specs.Texts.{demo_text, memory_text, none_found_text}
+use Rattle.ih_top.specs.Texts.{demo_text, memory_text, none_found_text, verdicts_of}
 
 -- one worker with the number as its seed
 abbrev pub demo_options : ℕ → Options
@@ -24,10 +26,14 @@ pub record IsDemoBase (number : ℕ) (b : Base) : Type 0 where
   pub options : b.options ≡ demo_options number
   pub freeze : b.freeze ≡ 0
 
--- a full history over that
+-- A full history over that, whose accepted prices are exact. It has 2000 entries, and none of them is stale, so its text says
+-- `of 2000` and `stale 0`.
 pub record IsDemo (number : ℕ) (b : Base) (H : List Entry) : Type 0 where
   pub base : IsDemoBase number b
   pub full : IsFull b H
+  pub exact : AreExact b H
+  pub many : length H ≡ 2000
+  pub fresh : verdicts_of is_stale H ≡ 0
 
 -- this is what is said of the history's first cheapest feasible timetable, where it has one
 abbrev pub HasSaid : ℕ → Base → List Entry → Option (List ℕ) → Type 0

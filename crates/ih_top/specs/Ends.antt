@@ -4,15 +4,18 @@ use Rattle.ih_tables.specs.declared.drafts.Draft.{Draft}
 use Rattle.ih_plan.specs.Timetable.{Timetable}
 use Rattle.ih_journal.specs.declared.entries.Entry.{Entry}
 use Rattle.ih_journal.specs.Base.{Base}
-use Rattle.ih_words.specs.Words.{Call, solve, replay, salvage, check, gen, demo}
+use Rattle.ih_journal.specs.Legal.{IsFull}
+use Rattle.ih_journal.specs.Texts.{lines_from}
+use Rattle.ih_words.specs.Words.{Call, solve, replay, salvage, check, rounds, gen, demo}
 use Rattle.ih_shelf.specs.Outside.{Names, Rose, Told}
 use Rattle.ih_top.specs.declared.status.Status.{Status}
 use Rattle.ih_top.specs.declared.status.Status.TheVariants.{Done, Usage, ReadFault, NoneFound, WriteFault, OutOfMemory, Infeasible}
 use Rattle.ih_top.specs.Answers.{unsaid}
 use Rattle.ih_top.specs.Inputs.{solve_reading, check_reading, HasInputs}
 use Rattle.ih_top.specs.Solving.{Unchanged, SolveEnds}
-use Rattle.ih_top.specs.Replaying.{HasRead, IsHeadedBy, IsReplay, JournalRead, ReplayEnds, SalvageEnds}
+use Rattle.ih_top.specs.Replaying.{HasRead, IsHeadedBy, JournalRead, ReplayEnds, SalvageEnds}
 use Rattle.ih_top.specs.Checking.{CheckEnds}
+use Rattle.ih_top.specs.Rounds.{RoundsEnds}
 use Rattle.ih_top.specs.Generating.{GenEnds}
 use Rattle.ih_top.specs.Demo.{DemoEnds}
 use Rattle.ih_top.specs.Texts.{usage_text, memory_text}
@@ -40,12 +43,14 @@ CallEnds (solve s) old new status text = SolveEnds s old new status text
 CallEnds (replay r) old new status text = ReplayEnds r old new status text
 CallEnds (salvage r) old new status text = SalvageEnds r old new status text
 CallEnds (check c) old new status text = Told Unchanged old new × CheckEnds c old status text
+CallEnds (rounds r) old new status text = RoundsEnds r old new status text
 CallEnds (gen g) old new status text = GenEnds g old new status text
 CallEnds (demo number) old new status text = Told Unchanged old new × DemoEnds number status text
 
 -- the file of the solution isn't that of the journal
 abbrev pub OutDiffers : Call → Type 0
 OutDiffers (solve s) = s.out ≢ s.journal
+OutDiffers (rounds r) = r.search.out ≢ r.search.journal
 OutDiffers call = Unit {0}
 
 -- At each status the sink gained the text that the call had to say there. Where memory ran out, it gained a prefix of the text that
@@ -80,6 +85,7 @@ IsAnswered (solve s) status = (status ≡ Done) ⊎ (status ≡ NoneFound) ⊎ (
 IsAnswered (replay r) status = (status ≡ Done) ⊎ (status ≡ NoneFound) ⊎ (status ≡ OutOfMemory)
 IsAnswered (salvage r) status = (status ≡ Done) ⊎ (status ≡ NoneFound) ⊎ (status ≡ OutOfMemory)
 IsAnswered (check c) status = (status ≡ Done) ⊎ (status ≡ Infeasible) ⊎ (status ≡ OutOfMemory)
+IsAnswered (rounds r) status = (status ≡ Done) ⊎ (status ≡ NoneFound) ⊎ (status ≡ OutOfMemory)
 IsAnswered (gen g) status = (status ≡ Done) ⊎ (status ≡ OutOfMemory)
 IsAnswered (demo number) status = (status ≡ Done) ⊎ (status ≡ NoneFound) ⊎ (status ≡ OutOfMemory)
 
@@ -87,9 +93,11 @@ IsAnswered (demo number) status = (status ≡ Done) ⊎ (status ≡ NoneFound) �
 -- its heading. A gen and a demo read none.
 abbrev pub HasFiles : Call → Names → Type 0
 HasFiles (solve s) files = (I : Draft) × (P : Timetable) × HasInputs (Some files) (solve_reading s) I P
-HasFiles (replay r) files = (x : JournalRead) × (b : Base) × (H : List Entry) × HasRead (Some files) r x × IsReplay r.start x b H
+HasFiles (replay r) files = (x : JournalRead) × (b : Base) × (H : List Entry) × HasRead (Some files) r x
+    × IsHeadedBy r.start x b (lines_from b.options 0 H) × IsFull b H
 HasFiles (salvage r) files = (x : JournalRead) × (b : Base) × (bytes : List ℕ) × HasRead (Some files) r x × IsHeadedBy r.start x b bytes
 HasFiles (check c) files = (I : Draft) × (P : Timetable) × HasInputs (Some files) (check_reading c) I P
+HasFiles (rounds r) files = (I : Draft) × (P : Timetable) × HasInputs (Some files) (solve_reading r.search) I P
 HasFiles (gen g) files = Unit {0}
 HasFiles (demo number) files = Unit {0}
 

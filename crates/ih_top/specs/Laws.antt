@@ -1,5 +1,5 @@
--- Laws of journals that are cut off or refused.
-use Rattle.std.specs.Prelude.{◌≡◌, ◌==◌, ℕ, List, ◌++◌, length}
+-- Laws of journals and of calls of the program.
+use Rattle.std.specs.Prelude.{◌≡◌, ◌==◌, ◌⊎◌, ℕ, List, ◌++◌, length, Option, Some, IfSome}
 use Rattle.std.specs.List.{count_by}
 use Rattle.ih_tables.specs.Valid.{IsValid}
 use Rattle.ih_journal.specs.declared.entries.Entry.{Entry}
@@ -8,8 +8,16 @@ use Rattle.ih_journal.specs.Base.{Base}
 use Rattle.ih_journal.specs.Legal.{AreLegal}
 use Rattle.ih_journal.specs.Texts.{lines_from}
 use Rattle.ih_cellbook.specs.Keeping.{IsBase}
+use Rattle.ih_words.specs.Replay.{ReplayCall}
+use Rattle.ih_words.specs.Solve.{SolveCall}
+use Rattle.ih_shelf.specs.Outside.{Names}
+use Rattle.ih_top.specs.declared.status.Status.{Status}
+use Rattle.ih_top.specs.declared.status.Status.TheVariants.{Done, NoneFound, OutOfMemory, ReadFault, WriteFault}
+use Rattle.ih_top.specs.Demo.{IsShown}
 use Rattle.ih_top.specs.Journals.{Begins, IsRefusedAt}
-use Rattle.ih_top.specs.Replaying.{AreNotFull}
+use Rattle.ih_top.specs.Replaying.{AreNotFull, ReplayEnds, SalvageEnds}
+use Rattle.ih_top.specs.Solving.{HasFoundNone, IsDone, IsSearch}
+use Rattle.ih_top.specs.Texts.{none_found_text, salvaged_line}
 
 -- lines that are refused are those of no full history
 abbrev pub RefusedLinesAreNotFull : Type 0
@@ -19,3 +27,66 @@ RefusedLinesAreNotFull = (b : Base) (bytes : List ℕ) (H : List Entry) (e : Jou
 abbrev pub WholeLinesAreSalvaged : Type 0
 WholeLinesAreSalvaged = (b : Base) (G : List Entry) (bytes more : List ℕ) (H : List Entry) (rest : List ℕ) → IsValid b.instance → IsBase b → AreLegal b G
     → bytes ++ more ≡ lines_from b.options 0 G → Begins b bytes H rest → length H ≡ count_by (λ c. c == 10) bytes
+
+-- ---- searches of one worker
+
+-- with one worker, files and words give one search and one history
+abbrev pub LoneSearchesAreAlike : Type 0
+LoneSearchesAreAlike = (files : Names) (s : SolveCall) (b c : Base) (H G : List Entry) → s.options.workers ≡ 1 → IsSearch (Some files) s b H
+    → IsSearch (Some files) s c G → (b ≡ c) × (H ≡ G)
+
+-- two calls of solve that are done leave the same journal and the same solution, and say the same
+pub record DoTheSame (s : SolveCall) (new other : Names) (text told : List ℕ) : Type 0 where
+  pub journal : new s.journal ≡ other s.journal
+  pub solution : new s.out ≡ other s.out
+  pub said : text ≡ told
+
+abbrev pub LoneSolvesDoTheSame : Type 0
+LoneSolvesDoTheSame = (s : SolveCall) (old new other : Names) (text told : List ℕ) → s.options.workers ≡ 1 → IsDone s (Some old) (Some new) text
+    → IsDone s (Some old) (Some other) told → DoTheSame s new other text told
+
+-- what a demo shows follows from its number
+abbrev pub DemosShowTheSame : Type 0
+DemosShowTheSame = (number : ℕ) (said told : Option (List ℕ)) → IsShown number said → IsShown number told → said ≡ told
+
+-- ---- what solve writes, replay and salvage take
+
+-- the instance and the start are there as the search found them, and the journal as it left it
+pub record IsReplayOf (s : SolveCall) (r : ReplayCall) (before after there : Names) : Type 0 where
+  pub instance : r.instance ≡ s.instance
+  pub start : r.start ≡ s.start
+  pub same_instance : there s.instance ≡ before s.instance
+  pub same_start : IfSome s.start.file (λ name. there name ≡ before name)
+  pub journal : there r.journal ≡ after s.journal
+
+-- no fault brought the status
+abbrev pub HasNoFault : Status → Type 0
+HasNoFault (ReadFault role) = ⊥
+HasNoFault (WriteFault role) = ⊥
+HasNoFault status = Unit {0}
+
+-- A call that ended with no fault ended in this status with this text, and what it left is as told; or memory ran out.
+abbrev pub EndsIn : Status → List ℕ → Type 0 → Status → List ℕ → Type 0
+EndsIn wanted text left status said = (status ≡ OutOfMemory) ⊎ ((status ≡ wanted) × (said ≡ text) × left)
+
+-- After solve wrote its best, replay of its journal writes the same solution and says the same, and salvage says before it how many
+-- lines there are.
+pub record IsTakenBack (s : SolveCall) (r : ReplayCall) (before after there left : Names) (text : List ℕ) (ended : Status) (said : List ℕ) : Type 0 where
+  pub replayed : ReplayEnds r (Some there) (Some left) ended said → EndsIn Done text (left r.out ≡ after s.out) ended said
+  pub salvaged : SalvageEnds r (Some there) (Some left) ended said
+      → (lines : ℕ) × EndsIn Done (salvaged_line lines ++ text) (left r.out ≡ after s.out) ended said
+
+-- where it found none, neither do they
+pub record IsTakenBackAsNone (r : ReplayCall) (there left : Names) (ended : Status) (said : List ℕ) : Type 0 where
+  pub replayed : ReplayEnds r (Some there) (Some left) ended said → EndsIn NoneFound none_found_text (Unit {0}) ended said
+  pub salvaged : SalvageEnds r (Some there) (Some left) ended said → EndsIn NoneFound none_found_text (Unit {0}) ended said
+
+abbrev pub SolvesAreTakenBack : Type 0
+SolvesAreTakenBack = (s : SolveCall) (r : ReplayCall) (before after there left : Names) (text : List ℕ) (ended : Status) (said : List ℕ)
+    → IsReplayOf s r before after there → HasNoFault ended → IsDone s (Some before) (Some after) text
+    → IsTakenBack s r before after there left text ended said
+
+abbrev pub SolvesWithNoneAreTakenBack : Type 0
+SolvesWithNoneAreTakenBack = (s : SolveCall) (r : ReplayCall) (before after there left : Names) (ended : Status) (said : List ℕ)
+    → IsReplayOf s r before after there → HasNoFault ended → HasFoundNone s (Some before) (Some after)
+    → IsTakenBackAsNone r there left ended said

@@ -10,6 +10,8 @@ pub mod Laws
 pub mod Outcomes
 pub mod Outputs
 pub mod Replaying
+pub mod RoundTexts
+pub mod Rounds
 pub mod Searching
 pub mod Solving
 pub mod Starts

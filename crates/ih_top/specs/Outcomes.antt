@@ -7,6 +7,8 @@ use Rattle.ih_journal.specs.Frozen.{AgreesBefore}
 use Rattle.ih_journal.specs.History.{plan_at}
 use Rattle.ih_journal.specs.Legal.{IsFull}
 use Rattle.ih_journal.specs.Texts.{lines_from}
+use Rattle.ih_cellbook.specs.Keeping.{IsBase}
+use Rattle.ih_cellbook.specs.Legal.{AreExact}
 use Rattle.ih_words.specs.Start.{StartCall}
 use Rattle.ih_shelf.specs.Outside.{IsWritten, MayBeWritten, Names, Told}
 use Rattle.ih_top.specs.declared.inputs.Inputs.{Inputs}
@@ -27,8 +29,10 @@ use Rattle.ih_top.specs.Texts.{done_text, journal_refused_text, memory_text, non
 -- the bytes are the lines of a full history
 pub record AreFullLines (b : Base) (bytes : List ℕ) (best : Option BestOutput) : Type 0 where
   pub history : List Entry
+  pub given : IsBase b
   pub full : IsFull b history
   pub agrees : (k : ℕ) → AgreesBefore b (plan_at b history k)
+  pub exact : AreExact b history
   pub whole : bytes ≡ lines_from b.options 0 history
   pub output : HasBestOutput b history best
 
@@ -36,8 +40,10 @@ pub record AreFullLines (b : Base) (bytes : List ℕ) (best : Option BestOutput)
 pub record AreLines (b : Base) (bytes : List ℕ) (best : Option BestOutput) : Type 0 where
   pub history : List Entry
   pub rest : List ℕ
+  pub given : IsBase b
   pub begins : Begins b bytes history rest
   pub agrees : (k : ℕ) → AgreesBefore b (plan_at b history k)
+  pub exact : AreExact b history
   pub output : HasBestSaid salvaged_text b history best
 
 -- the bytes are refused at the line behind those of this history

@@ -1,5 +1,5 @@
 -- What a search makes to be written and said.
-use Rattle.std.specs.Prelude.{◌≡◌, ℕ, List, Option, Some, None}
+use Rattle.std.specs.Prelude.{◌≡◌, ℕ, ◌<◌, ◌^◌, List, Option, Some, None}
 use Rattle.ih_journal.specs.declared.entries.Entry.{Entry}
 use Rattle.ih_journal.specs.Base.{Base}
 use Rattle.ih_journal.specs.Frozen.{AgreesBefore}
@@ -7,6 +7,8 @@ use Rattle.ih_journal.specs.History.{plan_at}
 use Rattle.ih_journal.specs.Legal.{IsFull}
 use Rattle.ih_journal.specs.Best.{IsBest, HasNone}
 use Rattle.ih_journal.specs.Texts.{journal}
+use Rattle.ih_cellbook.specs.Keeping.{IsBase}
+use Rattle.ih_cellbook.specs.Legal.{AreExact}
 use Rattle.ih_words.specs.Solve.{SolveCall}
 use Rattle.ih_shelf.specs.Outside.{Names}
 use Rattle.ih_top.specs.declared.inputs.Inputs.{Inputs}
@@ -34,11 +36,14 @@ IsBestOutput b H o = IsBestSaid done_text b H o
 abbrev pub HasBestOutput : Base → List Entry → Option BestOutput → Type 0
 HasBestOutput b H o = HasBestSaid done_text b H o
 
--- the journal of a full history that keeps the frozen choices, and its best where there is one
+-- the journal of a full history that keeps the frozen choices and whose accepted prices are exact, and its best where there is one
 pub record IsOutput (b : Base) (o : Output) : Type 0 where
   pub history : List Entry
+  pub given : IsBase b
+  pub seed : b.options.seed < 2 ^ 64
   pub full : IsFull b history
   pub agrees : (k : ℕ) → AgreesBefore b (plan_at b history k)
+  pub exact : AreExact b history
   pub journal : o.journal.items ≡ journal b.options history
   pub best : HasBestOutput b history o.best
 

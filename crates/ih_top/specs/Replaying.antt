@@ -13,6 +13,8 @@ use Rattle.ih_journal.specs.History.{plan_at}
 use Rattle.ih_journal.specs.Legal.{IsFull}
 use Rattle.ih_journal.specs.Settings.{IsLawful}
 use Rattle.ih_journal.specs.Texts.{ended, heading, lines_from}
+use Rattle.ih_cellbook.specs.Keeping.{IsBase}
+use Rattle.ih_cellbook.specs.Legal.{AreExact}
 use Rattle.ih_words.specs.Replay.{ReplayCall}
 use Rattle.ih_words.specs.Start.{StartCall}
 use Rattle.ih_shelf.specs.Outside.{IsWritten, MayBeWritten, Names, Told, bytes_at}
@@ -53,19 +55,24 @@ pub record IsHeadedBy (s : StartCall) (x : JournalRead) (b : Base) (bytes : List
   pub seed : b.options.seed < 2 ^ 64
   pub joins : x.bytes ≡ ended (heading b.options) ++ bytes
 
--- The journal is that of a full history of the search.
+-- The journal is that of a full history of the search. Each of its timetables agrees with the start on the choices before the freeze
+-- day, and each accepted price is the change of the bill at its own place.
 pub record IsReplay (s : StartCall) (x : JournalRead) (b : Base) (H : List Entry) : Type 0 where
   pub headed : IsHeadedBy s x b (lines_from b.options 0 H)
+  pub given : IsBase b
   pub full : IsFull b H
   pub agrees : (k : ℕ) → AgreesBefore b (plan_at b H k)
+  pub exact : AreExact b H
 
--- H is the longest legal history of the search whose lines follow the journal's heading.
+-- H is the longest legal history of the search whose lines follow the journal's heading; the same holds of its timetables and prices.
 pub record IsSalvage (s : StartCall) (x : JournalRead) (b : Base) (H : List Entry) : Type 0 where
   pub bytes : List ℕ
   pub rest : List ℕ
   pub headed : IsHeadedBy s x b bytes
+  pub given : IsBase b
   pub begins : Begins b bytes H rest
   pub agrees : (k : ℕ) → AgreesBefore b (plan_at b H k)
+  pub exact : AreExact b H
 
 -- the bytes begin with no heading of lawful options and its line feed
 abbrev pub HasNoHeading : List ℕ → Type 0

@@ -1,6 +1,6 @@
 -- How a call of solve ends: what it then has read and written, and what it had to say, by its status. What the shelf doesn't tell
 -- isn't claimed.
-use Rattle.std.specs.Prelude.{◌≡◌, ◌≢◌, ℕ, ◌⊎◌, List, Option, Some, None}
+use Rattle.std.specs.Prelude.{◌≡◌, ◌≢◌, ℕ, ◌<◌, ◌^◌, ◌⊎◌, List, Option, Some, None}
 use Rattle.ih_journal.specs.declared.entries.Entry.{Entry}
 use Rattle.ih_journal.specs.Base.{Base}
 use Rattle.ih_journal.specs.Frozen.{AgreesBefore}
@@ -8,6 +8,8 @@ use Rattle.ih_journal.specs.History.{plan_at}
 use Rattle.ih_journal.specs.Legal.{IsFull}
 use Rattle.ih_journal.specs.Best.{IsBest, HasNone}
 use Rattle.ih_journal.specs.Texts.{journal}
+use Rattle.ih_cellbook.specs.Keeping.{IsBase}
+use Rattle.ih_cellbook.specs.Legal.{AreExact}
 use Rattle.ih_solution.specs.Solution.{solution}
 use Rattle.ih_words.specs.Solve.{SolveCall}
 use Rattle.ih_shelf.specs.Outside.{Names, Told, PartOr}
@@ -26,11 +28,15 @@ pub record HasBase (files : Option Names) (s : SolveCall) (b : Base) : Type 0 wh
   pub options : b.options ≡ s.options
 
 -- A full history over what the files and the words give. Each of its timetables agrees with the start on the choices before the
--- freeze day.
+-- freeze day, and each accepted price is the change of the bill at its own place.
 pub record IsSearch (files : Option Names) (s : SolveCall) (b : Base) (H : List Entry) : Type 0 where
   pub base : HasBase files s b
+  -- the start is a timetable of the instance, and the options are lawful
+  pub given : IsBase b
+  pub seed : b.options.seed < 2 ^ 64
   pub full : IsFull b H
   pub agrees : (k : ℕ) → AgreesBefore b (plan_at b H k)
+  pub exact : AreExact b H
 
 -- the solution file of the timetable at a place
 abbrev pub solution_at : Base → List Entry → ℕ → List ℕ

@@ -19,7 +19,7 @@ use Rattle.ih_journal.specs.History.{is_accepted, plan_at}
 
 -- how the program is called
 unfoldable pub usage_text : List ℕ
-usage_text = codes "usage: solve INSTANCE OUT JOURNAL, replay INSTANCE JOURNAL OUT, salvage INSTANCE JOURNAL OUT, check INSTANCE SOLUTION, gen NUMBER OUT or demo NUMBER\n"
+usage_text = codes "usage: solve INSTANCE OUT JOURNAL, replay INSTANCE JOURNAL OUT, salvage INSTANCE JOURNAL OUT, check INSTANCE SOLUTION, advise INSTANCE SOLUTION, chain INSTANCE OUT JOURNAL, rounds INSTANCE OUT JOURNAL, gen NUMBER OUT or demo NUMBER\n"
 
 abbrev pub none_found_text : List ℕ
 none_found_text = codes "none found\n"

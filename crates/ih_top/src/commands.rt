@@ -9,6 +9,7 @@ use crate::answer::Answer;
 use crate::checking::check;
 use crate::generating::write_instance;
 use crate::replaying::{replay, salvage};
+use crate::rounds::run_rounds;
 use crate::showing::demo;
 use crate::solving::solve;
 use ih_shelf::{Gate, Shelf};
@@ -36,6 +37,7 @@ pub fn perform<R: Files + Threads + Wait + Sync, S: Shelf, G: Gate>(
         Command::Replay(call) => replay(rt, alloc, call, shelf),
         Command::Salvage(call) => salvage(rt, alloc, call, shelf),
         Command::Check(call) => check(rt, alloc, call, shelf),
+        Command::Rounds(call) => run_rounds(rt, alloc, call, shelf, gate),
         Command::Gen(call) => write_instance(rt, alloc, call, shelf),
         Command::Demo(number) => demo(rt, alloc, *number, gate),
     }

@@ -1,7 +1,8 @@
-//! Laws of journals, each on a function that does nothing.
+//! Laws of journals and of whole calls, each on a function that does nothing. A law that follows from others calls theirs.
 
-ghost use Rattle.ih_top.specs.Laws.{RefusedLinesAreNotFull, WholeLinesAreSalvaged};
+ghost use Rattle.ih_top.specs.Laws.{DemosShowTheSame, LoneSearchesAreAlike, LoneSolvesDoTheSame, RefusedLinesAreNotFull, SolvesAreTakenBack, SolvesWithNoneAreTakenBack, WholeLinesAreSalvaged};
 
+use ih_cellbook::legal_journals_are_short;
 use ih_replay::{
     legal_journals_are_taken, legal_journals_differ, taken_lines_are_of_legal_histories,
 };
@@ -22,4 +23,24 @@ pub fn whole_lines_are_salvaged()
     legal_journals_are_taken();
     legal_journals_differ();
     taken_lines_are_of_legal_histories();
+}
+
+/// With one worker a search is a function of files and words: its history, what `solve` writes and says, and what `demo`
+/// shows.
+pub fn lone_searches_are_alike()
+    ensures search { LoneSearchesAreAlike }
+    ensures solve { LoneSolvesDoTheSame }
+    ensures demo { DemosShowTheSame }
+{}
+
+/// What `solve` writes, `replay` and `salvage` take: over the same instance and start, and with no fault, they end with the
+/// same solution and the same text, or memory runs out. A journal is never too long for that.
+pub fn solves_are_taken_back()
+    ensures best { SolvesAreTakenBack }
+    ensures none { SolvesWithNoneAreTakenBack }
+{
+    legal_journals_are_taken();
+    legal_journals_differ();
+    taken_lines_are_of_legal_histories();
+    legal_journals_are_short();
 }

@@ -6,12 +6,13 @@ mod checking;
 mod commands;
 mod files;
 mod generating;
-mod history;
 mod inputs;
 mod journals;
 mod laws;
 mod output;
 mod replaying;
+mod rounds;
+mod rounds_output;
 mod running;
 mod search;
 mod showing;
@@ -21,6 +22,10 @@ mod status;
 mod texts;
 
 pub use files::{MAX_FILE, MAX_JOURNAL};
-pub use laws::{refused_lines_are_not_full, whole_lines_are_salvaged};
+pub use laws::{
+    lone_searches_are_alike, refused_lines_are_not_full, solves_are_taken_back,
+    whole_lines_are_salvaged,
+};
+pub use rounds_output::search_at_desk;
 pub use running::run;
 pub use status::{Role, Status};

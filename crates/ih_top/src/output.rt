@@ -10,9 +10,9 @@ ghost use Rattle.ih_top.specs.Searching.{base_of, IsGiven};
 ghost use Rattle.ih_top.specs.Texts.{best_line, found_text, salvaged_line};
 ghost use Rattle.ih_top.specs.Outputs.{HasBestOutput, IsBestOutput, IsOutput};
 
-use crate::history::{journal_text, plan_at};
 use crate::search::{Given, search};
-use ih_journal::Entry;
+use ih_history::{journal_text, plan_at};
+use ih_journal::{Entry, Options};
 use ih_plan::Plan;
 use ih_shelf::Gate;
 use ih_solution::write_solution;
@@ -80,7 +80,7 @@ fn best_output(
     requires best { IsBest (base_of given.now) entries.now place }
     ensures { IfOk result (IsBestOutput (base_of given.now) entries.now) }
 {
-    let plan = plan_at(alloc, given, entries, place)?;
+    let plan = plan_at(alloc, given.inst, given.start, entries, place)?;
     Ok(BestOutput {
         solution: write_solution(alloc, given.inst, &plan)?,
         text: found_text(alloc, given.inst, &plan, place, entries.len() as u32)?,
@@ -128,6 +128,14 @@ pub fn salvaged(alloc: Global, best: BestOutput, lines: u32) -> Result<BestOutpu
     })
 }
 
+// The seed, which has 64 bits.
+fn seed_of(options: &Options) -> u64
+    ensures seed { result ≡ options.now.seed }
+    ensures small { options.now.seed < 2 ^ 64 }
+{
+    options.seed
+}
+
 /// Searches, and makes the journal, and the solution and the report of the best.
 pub fn make_output<R: Threads + Wait + Sync, G: Gate>(
     rt: &R,
@@ -138,6 +146,8 @@ pub fn make_output<R: Threads + Wait + Sync, G: Gate>(
     requires { IsGiven (base_of given.now) }
     ensures { IfOk result (IsOutput (base_of given.now)) }
 {
+    // For the proof alone: the seed has 64 bits.
+    let _seed = seed_of(&given.options);
     let book = search(rt, alloc, given, gate)?;
     let entries = book.entries();
     let journal = journal_text(alloc, &given.options, entries)?;

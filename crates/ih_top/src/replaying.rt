@@ -66,6 +66,7 @@ fn replay_lines(alloc: Global, given: &Given<'_>, bytes: &[u8]) -> Result<Outcom
             Ok(Outcome::Taken(best))
         }
         Err(refusal) => {
+            // For the proof alone.
             refused_lines_are_not_full();
             Ok(Outcome::Refused(refusal))
         }
@@ -84,6 +85,7 @@ fn salvage_lines(
     let mut replay = Replay::new(alloc, given.inst, given.start, &given.options, given.freeze)?;
     // Why no further line is taken doesn't count.
     let _ = take_lines(&mut replay, bytes);
+    // For the proof alone.
     whole_lines_are_salvaged();
     let entries = replay.entries();
     match best_of(alloc, given, entries, replay.best())? {

@@ -129,6 +129,7 @@ pub fn search<'a, R: Threads + Wait + Sync, G: Gate>(
     seat_workers(alloc, given, &mut seats, &mut workers)?;
     work(rt, &desk, &mut workers, gate);
     take_seats(&mut workers, &mut seats);
+    // For the proof alone.
     finished_searches_are_full();
     Ok(desk.close(seats))
 }

@@ -10,7 +10,7 @@ ghost use Rattle.ih_top.specs.Demo.{DemoEnds, IsShown, demo_options};
 ghost use Rattle.ih_top.specs.Texts.{demo_line, is_declined, verdicts_line, verdicts_of};
 
 use crate::answer::Answer;
-use crate::output::best_of;
+use crate::output::{BestOutput, best_of};
 use crate::search::{Given, search};
 use crate::status::Status;
 use crate::texts::{none_found, out_of_memory};
@@ -101,6 +101,22 @@ fn demo_head(alloc: Global, number: u64, entries: &[Entry]) -> Result<Vec<u8>, A
     Ok(text)
 }
 
+// What is said of the search and its best.
+fn demo_said(
+    alloc: Global,
+    number: u64,
+    entries: &[Entry],
+    best: &BestOutput,
+) -> Result<Vec<u8>, AllocError>
+    ensures { IfOk result (λ text. text.items ≡ (demo_line number
+        ++ verdicts_line (verdicts_of is_accepted entries.now) (verdicts_of is_declined entries.now) (verdicts_of is_stale entries.now))
+        ++ best.now.text.items) }
+{
+    let mut text = demo_head(alloc, number, entries)?;
+    text.extend_from_slice(best.text.as_slice())?;
+    Ok(text)
+}
+
 // The instance that the number generates. The reader never refuses what is generated.
 fn demo_instance(alloc: Global, number: u64) -> Result<Instance, AllocError>
     ensures { IfOk result (λ i. instance (generated number) ≡ Ok i.draft) }
@@ -136,11 +152,7 @@ fn search_from_fill<R: Threads + Wait + Sync, G: Gate>(
     let entries = book.entries();
     match best_of(alloc, &given, entries, book.best())? {
         None => Ok(None),
-        Some(best) => {
-            let mut text = demo_head(alloc, number, entries)?;
-            text.extend_from_slice(best.text.as_slice())?;
-            Ok(Some(text))
-        }
+        Some(best) => Ok(Some(demo_said(alloc, number, entries, &best)?)),
     }
 }
 

@@ -41,7 +41,7 @@ pub fn usage(alloc: Global) -> Answer
 {
     let text = String::from_str(
         alloc,
-        "usage: solve INSTANCE OUT JOURNAL, replay INSTANCE JOURNAL OUT, salvage INSTANCE JOURNAL OUT, check INSTANCE SOLUTION, gen NUMBER OUT or demo NUMBER\n",
+        "usage: solve INSTANCE OUT JOURNAL, replay INSTANCE JOURNAL OUT, salvage INSTANCE JOURNAL OUT, check INSTANCE SOLUTION, advise INSTANCE SOLUTION, chain INSTANCE OUT JOURNAL, rounds INSTANCE OUT JOURNAL, gen NUMBER OUT or demo NUMBER\n",
     );
     said(alloc, Status::Usage, text)
 }

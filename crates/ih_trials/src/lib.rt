@@ -5,6 +5,10 @@ pub mod examples;
 #[cfg(test)]
 mod journal_tests;
 #[cfg(test)]
+mod noted_tests;
+#[cfg(test)]
+mod rounds_tests;
+#[cfg(test)]
 mod tests;
 #[cfg(test)]
 mod trials;

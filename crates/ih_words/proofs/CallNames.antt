@@ -1,26 +1,32 @@
--- The file names of a lawful call of solve differ.
-use Rattle.std.proofs.Common.{◌≡◌, refl, sym, ap, ◌∙◌, Bool, true, false, List, ◌∷◌, Option, Some, None}
+-- The solution of a lawful call goes to another file than its journal.
+use Rattle.std.proofs.Common.{◌≡◌, refl, sym, ◌∙◌, subst, Bool, true, false, List, ◌∷◌, Option, Some, None}
 use Rattle.std.specs.Prelude.{◌≢◌, ◌&&◌, not, codes, if◌then◌else◌, option_and_then, option_map, slice_get}
 use Rattle.std.specs.List.{list_any}
 use Rattle.std.specs.Str.{bytes_eq}
 use Rattle.std.proofs.lemmas.Slice.Eq.{bytes_eq-Decides}
 use Rattle.std.proofs.lemmas.Bool.{and_parts, or_parts, not-true}
-use Rattle.clap.specs.Words.{Row, Text, matches_of}
+use Rattle.clap.specs.Words.{Text, matches_of}
 use Rattle.ih_words.specs.Check.{check_app, lawful_check}
 use Rattle.ih_words.specs.Demo.{demo_app, lawful_demo}
 use Rattle.ih_words.specs.Distinct.{all_differ}
 use Rattle.ih_words.specs.Generate.{gen_app, lawful_gen}
 use Rattle.ih_words.specs.Matches.{call_by, has_no_fault}
 use Rattle.ih_words.specs.Replay.{lawful_replay, replay_app}
+use Rattle.ih_words.specs.Rounds.{is_lawful_rounds, lawful_rounds, rounds_app, rounds_in}
 use Rattle.ih_words.specs.Solve.{SolveCall, is_lawful_solve, lawful_solve, solve_app, solve_files, solve_in}
 use Rattle.ih_words.specs.Start.{freezes_a_file, start_files}
-use Rattle.ih_words.specs.Words.{Call, call_of, call_named, check, demo, gen, replay, salvage, solve}
+use Rattle.ih_words.specs.Words.{Call, call_of, call_named, check, demo, gen, replay, rounds, salvage, solve}
 
-lawful-names : (s : SolveCall) → is_lawful_solve s ≡ true → s.out ≢ s.journal
+-- the file of the solution isn't that of the journal, where a call writes both
+abbrev pub HasNamesApart : Call → Type 0
+HasNamesApart (solve s) = s.out ≢ s.journal
+HasNamesApart (rounds r) = r.search.out ≢ r.search.journal
+HasNamesApart call = Unit {0}
+
+files-apart : (s : SolveCall) → all_differ (solve_files s) ≡ true → s.out ≢ s.journal
 unfolding all_differ
-lawful-names s lawful same =
+files-apart s differ same =
     let rest = start_files s.start in
-    let differ = (and_parts (all_differ (solve_files s)) _ lawful).0 in
     let later = (and_parts (not (list_any (bytes_eq s.instance) (s.out ∷ s.journal ∷ rest))) (all_differ (s.out ∷ s.journal ∷ rest)) differ).1 in
     let none = not-true (list_any (bytes_eq s.out) (s.journal ∷ rest)) (and_parts (not (list_any (bytes_eq s.out) (s.journal ∷ rest))) (all_differ (s.journal ∷ rest)) later).0 in
     let apart = (or_parts (bytes_eq s.out s.journal) (list_any (bytes_eq s.out) rest) none).0 in
@@ -28,50 +34,58 @@ lawful-names s lawful same =
     let clash : true ≡ false = sym equal ∙ apart in
     absurd (let no-way : true ≡ false = clash in cc)
 
-values : (t : Bool) (s call : SolveCall) → (t ≡ true → is_lawful_solve s ≡ true) → option_map solve (if t then Some s else None) ≡ Some (solve call)
-    → call.out ≢ call.journal
-values true s call lawful e same =
-    let here : s ≡ call = (let f : Some (solve s) ≡ Some (solve call) = e in cc) in
-    lawful-names s (lawful refl) (ap (λ (x : SolveCall). x.out) here ∙ same ∙ sym (ap (λ (x : SolveCall). x.journal) here))
-values false s call lawful e same = absurd (let no-way : None ≡ Some (solve call) = e in cc)
+-- ---- what the values of a command give
 
--- a command of another kind gives no call of solve, where what comes after it gives none
-skip : {A : Type 0} (make : A → Call) (call : SolveCall) → ((x : A) → make x ≡ solve call → ⊥) → (t : Bool) (o : Option A) (rest : Option Call)
-    → (rest ≡ Some (solve call) → ⊥) → (if t then option_map make o else rest) ≡ Some (solve call) → ⊥
-skip make call differs true None rest never e = absurd (let no-way : None ≡ Some (solve call) = e in cc)
-skip make call differs true (Some x) rest never e = differs x (let same : Some (make x) ≡ Some (solve call) = e in cc)
-skip make call differs false o rest never e = never e
+-- a command all of whose calls have their names apart
+any : {A : Type 0} (make : A → Call) → ((x : A) → HasNamesApart (make x)) → (o : Option A) (call : Call)
+    → option_map make o ≡ Some call → HasNamesApart call
+any make apart None call e = absurd (let no-way : None ≡ Some call = e in cc)
+any make apart (Some x) call e = subst HasNamesApart (let f : Some (make x) ≡ Some call = e in cc) (apart x)
 
-nothing : (call : SolveCall) → None ≡ Some (solve call) → ⊥
-nothing call e = cc
+-- a command whose lawful calls do
+lawful : {A : Type 0} (make : A → Call) (no-fault is-lawful : Bool) (x : A) → (is-lawful ≡ true → HasNamesApart (make x)) → (call : Call)
+    → option_map make (if no-fault then if is-lawful then Some x else None else None) ≡ Some call → HasNamesApart call
+lawful make true true x apart call e = subst HasNamesApart (let f : Some (make x) ≡ Some call = e in cc) (apart refl)
+lawful make true false x apart call e = absurd (let no-way : None ≡ Some call = e in cc)
+lawful make false is-lawful x apart call e = absurd (let no-way : None ≡ Some call = e in cc)
 
--- the solution and the journal of a lawful call go to two files
-pub out-differs : (words : List Text) (call : SolveCall) → call_of words ≡ Some (solve call) → call.out ≢ call.journal
+-- the command whose name this is, or one of the rest
+either : (t : Bool) (o rest : Option Call) (call : Call) → (o ≡ Some call → HasNamesApart call) → (rest ≡ Some call → HasNamesApart call)
+    → (if t then o else rest) ≡ Some call → HasNamesApart call
+either true o rest call own others e = own e
+either false o rest call own others e = others e
+
+-- ---- the commands
+
+module _ (words : List Text) (call : Call) where
+  by_solve : option_map solve (call_by solve_app lawful_solve words) ≡ Some call → HasNamesApart call
+  by_solve =
+      let rows = matches_of solve_app words in
+      lawful solve (has_no_fault solve_app words) (freezes_a_file rows && is_lawful_solve (solve_in rows)) (solve_in rows)
+      (λ h. files-apart (solve_in rows) (and_parts (all_differ (solve_files (solve_in rows))) _ (and_parts (freezes_a_file rows) _ h).1).0) call
+
+  by_rounds : option_map rounds (call_by rounds_app lawful_rounds words) ≡ Some call → HasNamesApart call
+  by_rounds =
+      let rows = matches_of rounds_app words in
+      lawful rounds (has_no_fault rounds_app words) (is_lawful_rounds (rounds_in rows)) (rounds_in rows)
+      (λ h. files-apart (rounds_in rows).search (and_parts (all_differ (solve_files (rounds_in rows).search)) _ h).0) call
+
+  by_name : (name : Text) → call_named name words ≡ Some call → HasNamesApart call
+  by_name name =
+      either (bytes_eq name (codes "solve")) _ _ call by_solve
+      (either (bytes_eq name (codes "replay")) _ _ call (any replay (λ x. tt) (call_by (replay_app (codes "replay")) lawful_replay words) call)
+      (either (bytes_eq name (codes "salvage")) _ _ call (any salvage (λ x. tt) (call_by (replay_app (codes "salvage")) lawful_replay words) call)
+      (either (bytes_eq name (codes "check")) _ _ call (any check (λ x. tt) (call_by check_app lawful_check words) call)
+      (either (bytes_eq name (codes "rounds")) _ _ call by_rounds
+      (either (bytes_eq name (codes "gen")) _ _ call (any gen (λ x. tt) (call_by gen_app lawful_gen words) call)
+      (either (bytes_eq name (codes "demo")) _ _ call (any demo (λ x. tt) (call_by demo_app lawful_demo words) call)
+      (λ e. absurd (let no-way : None ≡ Some call = e in cc))))))))
+
+  by_first : (o : Option Text) → option_and_then (λ name. call_named name words) o ≡ Some call → HasNamesApart call
+  by_first None e = absurd (let no-way : None ≡ Some call = e in cc)
+  by_first (Some name) e = by_name name e
+
+-- the solution and the journal of the call that the words name go to two files
+pub names-apart : (words : List Text) (call : Call) → call_of words ≡ Some call → HasNamesApart call
 unfolding call_of
-out-differs words call = by_first (slice_get words 0)
-  where
-    by_matches : (t : Bool) (rows : List Row) → option_map solve (if t then lawful_solve rows else None) ≡ Some (solve call) → call.out ≢ call.journal
-    by_matches true rows e = values (freezes_a_file rows && is_lawful_solve (solve_in rows)) (solve_in rows) call
-        (λ h. (and_parts (freezes_a_file rows) _ h).1) e
-    by_matches false rows e = absurd (nothing call e)
-
-    by_name : (t : Bool) (rest : Option Call) → (rest ≡ Some (solve call) → ⊥)
-        → (if t then option_map solve (call_by solve_app lawful_solve words) else rest) ≡ Some (solve call) → call.out ≢ call.journal
-    by_name true rest never e = by_matches (has_no_fault solve_app words) (matches_of solve_app words) e
-    by_name false rest never e = absurd (never e)
-
-    others : (name : Text) → (if bytes_eq name (codes "replay") then option_map replay (call_by (replay_app (codes "replay")) lawful_replay words)
-        else (if bytes_eq name (codes "salvage") then option_map salvage (call_by (replay_app (codes "salvage")) lawful_replay words)
-        else (if bytes_eq name (codes "check") then option_map check (call_by check_app lawful_check words)
-        else (if bytes_eq name (codes "gen") then option_map gen (call_by gen_app lawful_gen words)
-        else (if bytes_eq name (codes "demo") then option_map demo (call_by demo_app lawful_demo words)
-        else None))))) ≡ Some (solve call) → ⊥
-    others name = skip replay call (λ x e. cc) (bytes_eq name (codes "replay")) (call_by (replay_app (codes "replay")) lawful_replay words) _
-        (skip salvage call (λ x e. cc) (bytes_eq name (codes "salvage")) (call_by (replay_app (codes "salvage")) lawful_replay words) _
-        (skip check call (λ x e. cc) (bytes_eq name (codes "check")) (call_by check_app lawful_check words) _
-        (skip gen call (λ x e. cc) (bytes_eq name (codes "gen")) (call_by gen_app lawful_gen words) _
-        (skip demo call (λ x e. cc) (bytes_eq name (codes "demo")) (call_by demo_app lawful_demo words) None (nothing call)))))
-
-    by_first : (o : Option Text) → option_and_then (λ name. call_named name words) o ≡ Some (solve call) → call.out ≢ call.journal
-    by_first None e = absurd (nothing call e)
-    by_first (Some name) e = by_name (bytes_eq name (codes "solve")) _ (others name) e
+names-apart words call e = by_first words call (slice_get words 0) e

@@ -1,5 +1,5 @@
 -- Words that are written out, and the calls that they name, computed.
-use Rattle.std.proofs.Common.{◌≡◌, ℕ, [], ◌∷◌, ◌++◌, List, refl, Bool, true, false, Option, Some, None, codes}
+use Rattle.std.proofs.Common.{◌≡◌, ℕ, [], ◌∷◌, ◌++◌, List, refl, true, false, Option, Some, None, codes}
 use Rattle.clap.specs.Words.{Text}
 use Rattle.clap.proofs.OnLiterals.{clap_on_literals}
 use Rattle.ih_words.specs.Check.{check_app}
@@ -8,8 +8,9 @@ use Rattle.ih_words.specs.Distinct.{all_differ}
 use Rattle.ih_words.specs.Generate.{gen_app}
 use Rattle.ih_words.specs.Matches.{has_no_fault}
 use Rattle.ih_words.specs.Replay.{replay_app}
+use Rattle.ih_words.specs.Rounds.{rounds_app}
 use Rattle.ih_words.specs.Solve.{solve_app}
-use Rattle.ih_words.specs.Words.{Call, call_of, check, demo, gen, replay, salvage, solve}
+use Rattle.ih_words.specs.Words.{Call, call_of, check, demo, gen, replay, rounds, salvage, solve}
 
 -- solve i OUT j, the words of the seed, and the other options
 abbrev words_of : Text → List Text → Text → Text → List Text
@@ -166,6 +167,49 @@ salvaged = refl
 salvaged_into_the_journal : call_of (codes "salvage" ∷ codes "i" ∷ codes "j" ∷ codes "j" ∷ []) ≡ None
 unfolding clap_on_literals call_of has_no_fault replay_app all_differ
 salvaged_into_the_journal = refl
+
+-- rounds i o j with the options of a small search, and further words
+abbrev rounds_words : Text → List Text → List Text
+rounds_words moves more = codes "rounds" ∷ codes "i" ∷ codes "o" ∷ codes "j" ∷ (seed_words (codes "0")
+    ++ codes "--workers" ∷ codes "1" ∷ codes "--moves" ∷ moves ∷ codes "--heat" ∷ codes "0" ∷ codes "--hard" ∷ codes "1000" ∷ more)
+
+in_rounds : call_of (rounds_words (codes "62500") (codes "--rounds" ∷ codes "16" ∷ codes "--start" ∷ codes "s" ∷ codes "--fill" ∷ []))
+    ≡ Some (rounds (record {
+      search = record {
+        instance = codes "i";
+        out = codes "o";
+        journal = codes "j";
+        options = record { seed = 0; workers = 1; moves = 62500; heat = 0; hard = 1000; retries = 0 };
+        start = record { file = Some (codes "s"); fill = true; freeze = 0 };
+      };
+      rounds = 16;
+    }))
+unfolding clap_on_literals call_of has_no_fault rounds_app all_differ
+in_rounds = refl
+
+rounds_make_too_many_entries : call_of (rounds_words (codes "62501") (codes "--rounds" ∷ codes "16" ∷ [])) ≡ None
+unfolding clap_on_literals call_of has_no_fault rounds_app all_differ
+rounds_make_too_many_entries = refl
+
+too_many_rounds : call_of (rounds_words (codes "2") (codes "--rounds" ∷ codes "17" ∷ [])) ≡ None
+unfolding clap_on_literals call_of has_no_fault rounds_app all_differ
+too_many_rounds = refl
+
+no_round : call_of (rounds_words (codes "2") (codes "--rounds" ∷ codes "0" ∷ [])) ≡ None
+unfolding clap_on_literals call_of has_no_fault rounds_app all_differ
+no_round = refl
+
+rounds_without_their_number : call_of (rounds_words (codes "2") []) ≡ None
+unfolding clap_on_literals call_of has_no_fault rounds_app all_differ
+rounds_without_their_number = refl
+
+rounds_with_retries : call_of (rounds_words (codes "2") (codes "--rounds" ∷ codes "2" ∷ codes "--retries" ∷ codes "0" ∷ [])) ≡ None
+unfolding clap_on_literals call_of has_no_fault rounds_app all_differ
+rounds_with_retries = refl
+
+rounds_with_a_freeze_day : call_of (rounds_words (codes "2") (codes "--rounds" ∷ codes "2" ∷ codes "--start" ∷ codes "s" ∷ codes "--freeze" ∷ codes "1" ∷ [])) ≡ None
+unfolding clap_on_literals call_of has_no_fault rounds_app all_differ
+rounds_with_a_freeze_day = refl
 
 generated : call_of (codes "gen" ∷ codes "+007" ∷ codes "o" ∷ []) ≡ Some (gen (record { number = 7; out = codes "o" }))
 unfolding clap_on_literals call_of has_no_fault gen_app all_differ

@@ -5,6 +5,7 @@ pub mod Distinct
 pub mod Generate
 pub mod Matches
 pub mod Replay
+pub mod Rounds
 pub mod Rules
 pub mod Solve
 pub mod Start

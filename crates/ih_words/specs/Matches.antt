@@ -6,7 +6,7 @@ use Rattle.std.specs.Str.Parse.{digits_value, without_leading_plus}
 use Rattle.clap.specs.Walk.{is_empty}
 use Rattle.clap.specs.Words.{App, IsUnsignedIn, Row, Text, fault_of, first_of, matches_of, one_of}
 use Rattle.ih_journal.specs.declared.settings.Options.{Options}
-use Rattle.ih_journal.specs.declared.settings.TheConstants.{MAX_HARD, MAX_HEAT, MAX_MOVES, MAX_RETRIES, MAX_WORKERS}
+use Rattle.ih_journal.specs.declared.settings.TheConstants.{MAX_HARD, MAX_HEAT, MAX_MOVES, MAX_WORKERS}
 
 -- `clap` finds no fault in the words, by the description of their command
 unfoldable pub has_no_fault : App → List Text → Bool
@@ -54,22 +54,21 @@ pub record HasNames (rows : List Row) (a b c : Text) : Type 0 where
   pub second : HasText b rows
   pub third : HasText c rows
 
--- each option of a search is within its own limits, and there where it may not be left out
+-- each option that a search needs is there, and within its own limits
 pub record HasOptions (rows : List Row) : Type 0 where
   pub seed : HasNumber 0 18446744073709551615 (codes "seed") rows
   pub workers : HasNumber 1 MAX_WORKERS (codes "workers") rows
   pub moves : HasNumber 0 MAX_MOVES (codes "moves") rows
   pub heat : HasNumber 0 MAX_HEAT (codes "heat") rows
   pub hard : HasNumber 0 MAX_HARD (codes "hard") rows
-  pub retries : IsNumberIfGiven 0 MAX_RETRIES (codes "retries") rows
 
--- the options of a search, by `clap`'s matches; without `--retries` a stale move isn't tried again
-abbrev pub options_in : List Row → Options
-options_in rows = record {
+-- the options of a search, by `clap`'s matches, and with so many retries
+abbrev pub options_in : List Row → ℕ → Options
+options_in rows retries = record {
   seed = number_at (codes "seed") rows;
   workers = number_at (codes "workers") rows;
   moves = number_at (codes "moves") rows;
   heat = number_at (codes "heat") rows;
   hard = number_at (codes "hard") rows;
-  retries = number_at (codes "retries") rows;
+  retries = retries;
 }

@@ -3,18 +3,21 @@ use Rattle.std.specs.Prelude.{◌&&◌, nat_le, Bool, List, ◌∷◌, Option, S
 use Rattle.clap.specs.Words.{App, Row, Text, new_app, with_rule}
 use Rattle.ih_words.specs.Arguments.{named, optional_number, with_options}
 use Rattle.ih_words.specs.Distinct.{all_differ}
-use Rattle.ih_words.specs.Matches.{options_in, text_at}
+use Rattle.ih_words.specs.Matches.{number_at, options_in, text_at}
 use Rattle.ih_words.specs.Start.{StartCall, freezes_a_file, start_call, start_files, start_in, with_start}
 use Rattle.ih_journal.specs.Settings.{most_entries}
 use Rattle.ih_journal.specs.declared.settings.Options.{Options}
 use Rattle.ih_journal.specs.declared.settings.TheConstants.{MAX_ENTRIES, MAX_RETRIES}
 use Rattle.ih_words.specs.declared.solve.Solve.{Solve}
 
--- solve INSTANCE OUT JOURNAL --seed N --workers N --moves N --heat N --hard N [--retries N] [--start F] [--freeze DAY] [--fill]
+-- NAME INSTANCE OUT JOURNAL --seed N --workers N --moves N --heat N --hard N
+abbrev pub search_app : Text → App
+search_app name = with_options (with_rule (with_rule (with_rule (new_app name)
+    (named (codes "INSTANCE"))) (named (codes "OUT"))) (named (codes "JOURNAL")))
+
+-- the same with [--retries N] [--start F] [--freeze DAY] [--fill]
 unfoldable pub solve_app : App
-solve_app = with_start (with_rule (with_options (with_rule (with_rule (with_rule (new_app (codes "solve"))
-    (named (codes "INSTANCE"))) (named (codes "OUT"))) (named (codes "JOURNAL"))))
-    (optional_number (codes "retries") MAX_RETRIES))
+solve_app = with_start (with_rule (search_app (codes "solve")) (optional_number (codes "retries") MAX_RETRIES))
 
 -- what a call of solve asks for; a file's name is its bytes
 pub record SolveCall : Type 0 where
@@ -34,13 +37,13 @@ solve_call s = record {
   start = start_call s.start;
 }
 
--- the call of solve, by `clap`'s matches
+-- the call of solve, by `clap`'s matches; without `--retries` a stale move isn't tried again
 abbrev pub solve_in : List Row → SolveCall
 solve_in rows = record {
   instance = text_at (codes "INSTANCE") rows;
   out = text_at (codes "OUT") rows;
   journal = text_at (codes "JOURNAL") rows;
-  options = options_in rows;
+  options = options_in rows (number_at (codes "retries") rows);
   start = start_in rows;
 }
 

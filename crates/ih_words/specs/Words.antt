@@ -8,9 +8,10 @@ use Rattle.ih_words.specs.Demo.{demo_app, lawful_demo}
 use Rattle.ih_words.specs.Generate.{GenCall, gen_app, gen_call, lawful_gen}
 use Rattle.ih_words.specs.Matches.{call_by}
 use Rattle.ih_words.specs.Replay.{ReplayCall, lawful_replay, replay_app, replay_call}
+use Rattle.ih_words.specs.Rounds.{AreLawful, RoundsCall, lawful_rounds, rounds_app, rounds_call}
 use Rattle.ih_words.specs.Solve.{SolveCall, lawful_solve, solve_app, solve_call}
 use Rattle.ih_words.specs.declared.command.Command.{Command}
-use Rattle.ih_words.specs.declared.command.Command.TheVariants.{Check as CheckCommand, Demo as DemoCommand, Gen as GenCommand, Replay as ReplayCommand, Salvage as SalvageCommand, Solve as SolveCommand}
+use Rattle.ih_words.specs.declared.command.Command.TheVariants.{Check as CheckCommand, Demo as DemoCommand, Gen as GenCommand, Replay as ReplayCommand, Rounds as RoundsCommand, Salvage as SalvageCommand, Solve as SolveCommand}
 
 -- a call of one of the commands
 pub data Call : Type 0 where
@@ -18,6 +19,7 @@ pub data Call : Type 0 where
   replay : ReplayCall → Call
   salvage : ReplayCall → Call
   check : CheckCall → Call
+  rounds : RoundsCall → Call
   gen : GenCall → Call
   demo : ℕ → Call
 
@@ -27,12 +29,14 @@ command_call (SolveCommand s) = solve (solve_call s)
 command_call (ReplayCommand r) = replay (replay_call r)
 command_call (SalvageCommand r) = salvage (replay_call r)
 command_call (CheckCommand c) = check (check_call c)
+command_call (RoundsCommand r) = rounds (rounds_call r)
 command_call (GenCommand g) = gen (gen_call g)
 command_call (DemoCommand number) = demo number
 
--- the options of a search, where the command has them, are within their limits
+-- The options of a search, where the command has them, are within their limits. Rounds freeze nothing and try nothing again.
 abbrev pub HasLawfulOptions : Command → Type 0
 HasLawfulOptions (SolveCommand s) = IsLawful s.options
+HasLawfulOptions (RoundsCommand r) = AreLawful r
 HasLawfulOptions command = Unit {0}
 
 -- the call of the command with this name
@@ -41,9 +45,10 @@ call_named name words = if bytes_eq name (codes "solve") then option_map solve (
     else (if bytes_eq name (codes "replay") then option_map replay (call_by (replay_app (codes "replay")) lawful_replay words)
     else (if bytes_eq name (codes "salvage") then option_map salvage (call_by (replay_app (codes "salvage")) lawful_replay words)
     else (if bytes_eq name (codes "check") then option_map check (call_by check_app lawful_check words)
+    else (if bytes_eq name (codes "rounds") then option_map rounds (call_by rounds_app lawful_rounds words)
     else (if bytes_eq name (codes "gen") then option_map gen (call_by gen_app lawful_gen words)
     else (if bytes_eq name (codes "demo") then option_map demo (call_by demo_app lawful_demo words)
-    else None)))))
+    else None))))))
 
 -- the call that the words name, where they are lawful: the first word is the command's name
 unfoldable pub call_of : List Text → Option Call

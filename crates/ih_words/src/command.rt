@@ -6,8 +6,9 @@ use crate::check::read_check;
 use crate::demo::read_demo;
 use crate::generate::read_gen;
 use crate::replay::read_replay;
+use crate::rounds::read_rounds;
 use crate::solve::read_solve;
-use crate::{Check, Gen, Replay, Solve, WordsError};
+use crate::{Check, Gen, Replay, Rounds, Solve, WordsError};
 use std::alloc::Global;
 
 /// A lawful command with its values.
@@ -21,6 +22,8 @@ pub enum Command<'a> {
     Salvage(Replay<'a>),
     /// Tells the costs of a solution.
     Check(Check<'a>),
+    /// Searches several times, each time from the best of the search before, and writes the journals and the best solution.
+    Rounds(Rounds<'a>),
     /// Writes the instance that is made from a number.
     Gen(Gen<'a>),
     /// Searches on the instance that is made from this number, without files.
@@ -35,7 +38,7 @@ pub enum Command<'a> {
 ///
 /// - `Unlawful` where no command has these words: the first word is no command's name, `clap` finds
 ///   a fault (a call for help is one), two file names are equal, a freeze day comes without the
-///   file of a start or with `--fill`, or a journal could come to more than `MAX_ENTRIES` entries.
+///   file of a start or with `--fill`, or the journals could come to more than `MAX_ENTRIES` entries.
 /// - `OutOfMemory` where memory ran out.
 #[tactic(auto, unfolding(crate::specs::Words::call_of))]
 pub fn read_words<'a>(alloc: Global, words: &'a [String]) -> Result<Command<'a>, WordsError>
@@ -51,6 +54,7 @@ pub fn read_words<'a>(alloc: Global, words: &'a [String]) -> Result<Command<'a>,
         "replay" => Ok(Command::Replay(read_replay(alloc, "replay", words)?)),
         "salvage" => Ok(Command::Salvage(read_replay(alloc, "salvage", words)?)),
         "check" => Ok(Command::Check(read_check(alloc, words)?)),
+        "rounds" => Ok(Command::Rounds(read_rounds(alloc, words)?)),
         "gen" => Ok(Command::Gen(read_gen(alloc, words)?)),
         "demo" => Ok(Command::Demo(read_demo(alloc, words)?)),
         _ => Err(WordsError::Unlawful),

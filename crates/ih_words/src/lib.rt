@@ -11,6 +11,7 @@ mod file_names;
 mod generate;
 mod matches;
 mod replay;
+mod rounds;
 mod solve;
 mod start;
 
@@ -19,5 +20,6 @@ pub use command::{Command, read_words};
 pub use error::WordsError;
 pub use generate::Gen;
 pub use replay::Replay;
+pub use rounds::{MAX_ROUNDS, Rounds};
 pub use solve::Solve;
 pub use start::{MAX_FREEZE, Start};

@@ -7,7 +7,7 @@ ghost use Rattle.ih_words.specs.Rules.{Requires, RequiresNumber, TakesNumber, ha
 
 use crate::WordsError;
 use clap::ArgMatches;
-use ih_journal::{MAX_ENTRIES, Options};
+use ih_journal::{MAX_ENTRIES, MAX_RETRIES, Options};
 
 // What `clap` reads of the words of a command.
 pub(crate) fn matches_in<'a>(
@@ -80,10 +80,11 @@ pub(crate) fn optional_u32_of(matches: &ArgMatches, id: &str) -> u32
     matches.get_one::<u32>(id).unwrap_or(0)
 }
 
-// The options of a search. They are lawful where they come to no more entries than a journal may have.
-pub(crate) fn options_in(matches: &ArgMatches) -> Options
-    requires { HasOptions (rows_of (found_of matches.now)) }
-    ensures value { result ≡ options_in (rows_of (found_of matches.now)) }
+// The options of a search with so many retries. They are lawful where they come to no more entries than a journal may have.
+pub(crate) fn options_in(matches: &ArgMatches, retries: u32) -> Options
+    requires options { HasOptions (rows_of (found_of matches.now)) }
+    requires retries { retries ≤ MAX_RETRIES }
+    ensures value { result ≡ options_in (rows_of (found_of matches.now)) retries }
     ensures limits { most_entries result ≤ MAX_ENTRIES → IsLawful result }
 {
     Options {
@@ -92,6 +93,6 @@ pub(crate) fn options_in(matches: &ArgMatches) -> Options
         moves: u32_of(matches, "moves"),
         heat: u32_of(matches, "heat"),
         hard: u32_of(matches, "hard"),
-        retries: optional_u32_of(matches, "retries"),
+        retries,
     }
 }

@@ -3,12 +3,12 @@ ghost use Rattle.std.specs.Prelude.{◌≡◌, ◌≤◌, IfSome, IfErr, IfOk, N
 ghost use Rattle.clap.specs.Words.{app_of, found_of, rows_of};
 ghost use Rattle.ih_words.specs.Matches.{HasNames, HasOptions, IsNumberIfGiven, call_by};
 ghost use Rattle.ih_journal.specs.Settings.{IsLawful, most_entries};
-ghost use Rattle.ih_words.specs.Solve.{is_lawful_solve, lawful_solve, solve_app, solve_call, solve_in};
+ghost use Rattle.ih_words.specs.Solve.{is_lawful_solve, lawful_solve, search_app, solve_app, solve_call, solve_in};
 
 use crate::WordsError;
 use crate::arguments::{named, optional_number, with_options};
 use crate::file_names::names_differ;
-use crate::matches::{matches_in, options_in, text_of};
+use crate::matches::{matches_in, optional_u32_of, options_in, text_of};
 use crate::start::{MAX_FREEZE, Start, freezes_a_file, start_in, with_start};
 use clap::{ArgMatches, Command};
 use ih_journal::{MAX_ENTRIES, MAX_RETRIES, Options};
@@ -29,15 +29,29 @@ pub struct Solve<'a> {
     pub start: Start<'a>,
 }
 
+// `NAME INSTANCE OUT JOURNAL` and the options that a search needs.
+pub(crate) fn search_description<'a>(
+    alloc: Global,
+    name: &'a str,
+) -> Result<Command<'a>, AllocError>
+    ensures { IfOk result (λ c. app_of c ≡ search_app name.entry.now) }
+{
+    let files = Command::new(alloc, name)
+        .arg(named(alloc, "INSTANCE"))?
+        .arg(named(alloc, "OUT"))?
+        .arg(named(alloc, "JOURNAL"))?;
+    with_options(alloc, files)
+}
+
 // `solve INSTANCE OUT JOURNAL` and the options of a search, of which only the last four may be left out.
 fn solve_description<'a>(alloc: Global) -> Result<Command<'a>, AllocError>
     ensures { IfOk result (λ c. app_of c ≡ solve_app) }
 {
-    let files = Command::new(alloc, "solve")
-        .arg(named(alloc, "INSTANCE"))?
-        .arg(named(alloc, "OUT"))?
-        .arg(named(alloc, "JOURNAL"))?;
-    let search = with_options(alloc, files)?.arg(optional_number(alloc, "retries", MAX_RETRIES))?;
+    let search = search_description(alloc, "solve")?.arg(optional_number(
+        alloc,
+        "retries",
+        MAX_RETRIES,
+    ))?;
     with_start(alloc, search)
 }
 
@@ -45,6 +59,7 @@ fn solve_description<'a>(alloc: Global) -> Result<Command<'a>, AllocError>
 fn solve_in<'a>(matches: &ArgMatches<'a>) -> Solve<'a>
     requires names { HasNames (rows_of (found_of matches.now)) (codes "INSTANCE") (codes "OUT") (codes "JOURNAL") }
     requires options { HasOptions (rows_of (found_of matches.now)) }
+    requires retries { IsNumberIfGiven 0 MAX_RETRIES (codes "retries") (rows_of (found_of matches.now)) }
     requires freeze { IsNumberIfGiven 0 MAX_FREEZE (codes "freeze") (rows_of (found_of matches.now)) }
     ensures value { solve_call result ≡ solve_in (rows_of (found_of matches.now)) }
     ensures limits { most_entries result.options ≤ MAX_ENTRIES → IsLawful result.options }
@@ -53,7 +68,7 @@ fn solve_in<'a>(matches: &ArgMatches<'a>) -> Solve<'a>
         instance: text_of(matches, "INSTANCE"),
         out: text_of(matches, "OUT"),
         journal: text_of(matches, "JOURNAL"),
-        options: options_in(matches),
+        options: options_in(matches, optional_u32_of(matches, "retries")),
         start: start_in(matches),
     }
 }
@@ -72,6 +87,7 @@ fn is_lawful_solve(solve: &Solve) -> bool
 fn lawful_solve<'a>(matches: &ArgMatches<'a>) -> Option<Solve<'a>>
     requires names { HasNames (rows_of (found_of matches.now)) (codes "INSTANCE") (codes "OUT") (codes "JOURNAL") }
     requires options { HasOptions (rows_of (found_of matches.now)) }
+    requires retries { IsNumberIfGiven 0 MAX_RETRIES (codes "retries") (rows_of (found_of matches.now)) }
     requires freeze { IsNumberIfGiven 0 MAX_FREEZE (codes "freeze") (rows_of (found_of matches.now)) }
     ensures value { option_map solve_call result ≡ lawful_solve (rows_of (found_of matches.now)) }
     ensures lawful { IfSome result (λ s. IsLawful s.options) }

@@ -1,7 +1,10 @@
-use Rattle.std.proofs.lemmas.Result.{on_ok_weaker}
-use Rattle.std.proofs.Common.{◌∙◌}
+use Rattle.std.proofs.Common.{◌++◌, ◌∙◌, ap, List, ℕ, take, map, decimal}
+use Rattle.ih_journal.specs.Pieces.{marked}
 use Rattle.ih_journal.proofs.LinePieces.{dotted-pieces}
 use Rattle.ih_journal.proofs.texts.put_dotted.Goals as goal
 
-pub returns : goal.returns
-returns c = on_ok_weaker c.put_marked.result (λ h. h ∙ rw (c.in_ok-push_str.ensures.bytes) (dotted-pieces _ c.args.name.now c.args.ns.now)) c.put_marked.ensures
+pub returns-clause-text : goal.returns-clause-text
+returns-clause-text c =
+    c.put_marked.ensures.text
+    ∙ ap (λ (text : List ℕ). text ++ marked 46 (map decimal c.args.ns.now)) c.put_text-end.ensures.text
+    ∙ dotted-pieces (take c.args.at c.args.room.now) c.args.name.now c.args.ns.now

@@ -1,6 +1,9 @@
-use Rattle.std.proofs.Common.{◌≡◌, ◌++◌, take, map, decimal, string_bytes}
+use Rattle.std.proofs.Common.{◌≡◌, ◌+◌, ◌*◌, ◌≤◌, ◌++◌, take, map, decimal}
 use Rattle.ih_journal.specs.Pieces.{marked}
 use Rattle.ih_journal.proofs.texts.put_marked.Given as goal
 
 abbrev pub invariant-loop-n : goal.invariant-loop-n
-invariant-loop-n l = string_bytes l.out ≡ string_bytes l.fn.out ++ marked l.separator (map decimal (take l.n-index l.ns))
+invariant-loop-n l = record {
+  within : l.end ≤ l.at + 21 * l.n-index;
+  text : take l.end l.room ≡ take l.at l.fn.room ++ marked l.separator (map decimal (take l.n-index l.ns));
+}

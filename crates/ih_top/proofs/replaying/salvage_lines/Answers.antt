@@ -20,8 +20,8 @@ returns-in-Some c =
     let best : HasBestOutput (base_of c.args.given.now) c.take_lines.new.replay.entries (Some c.in-Some.best) =
     subst (λ (H : List Entry). HasBestOutput (base_of c.args.given.now) H (Some c.in-Some.best)) c.entries-entries.ensures.entries
     (subst (HasBestOutput (base_of c.args.given.now) c.entries-entries.result.now) c.in-Some.is c.in_ok-best.ensures) in
-    salvaged-lines c.take_lines.new.replay.base (base_of c.args.given.now) same c.args.bytes.now c.take_lines.new.replay.entries begins.0 begins.1
-    c.entries-entries.ensures.agrees (Some c.in_ok-salvaged-in-Some.field-0)
+    salvaged-lines c.take_lines.new.replay.base (base_of c.args.given.now) same c.args.bytes.now c.take_lines.new.replay.entries begins.0
+    c.entries-entries.ensures.base begins.1 c.entries-entries.ensures.agrees c.entries-entries.ensures.exact (Some c.in_ok-salvaged-in-Some.field-0)
     (salvaged-best (base_of c.args.given.now) c.take_lines.new.replay.entries _ c.in-Some.best c.in_ok-salvaged-in-Some.field-0
     (ap (λ (H : List Entry). length H) c.entries-entries.ensures.entries) best c.in_ok-salvaged-in-Some.ensures.solution c.in_ok-salvaged-in-Some.ensures.text)
 
@@ -32,5 +32,5 @@ returns c =
     let none : HasBestOutput (base_of c.args.given.now) c.take_lines.new.replay.entries None =
     subst (λ (H : List Entry). HasBestOutput (base_of c.args.given.now) H None) c.entries-entries.ensures.entries
     (subst (HasBestOutput (base_of c.args.given.now) c.entries-entries.result.now) c.in-None.is c.in_ok-best.ensures) in
-    salvaged-lines c.take_lines.new.replay.base (base_of c.args.given.now) same c.args.bytes.now c.take_lines.new.replay.entries begins.0 begins.1
-    c.entries-entries.ensures.agrees None none
+    salvaged-lines c.take_lines.new.replay.base (base_of c.args.given.now) same c.args.bytes.now c.take_lines.new.replay.entries begins.0
+    c.entries-entries.ensures.base begins.1 c.entries-entries.ensures.agrees c.entries-entries.ensures.exact None none

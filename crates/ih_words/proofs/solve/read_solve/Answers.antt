@@ -34,8 +34,12 @@ lawful_solve-requires-clause-options c = let is = c.in_ok-solve_description.ensu
   moves = c.in_ok-matches.ensures.numbers 5 (numbered_option (codes "moves") 0 MAX_MOVES) 0 MAX_MOVES (requires_number is refl);
   heat = c.in_ok-matches.ensures.numbers 6 (numbered_option (codes "heat") 0 MAX_HEAT) 0 MAX_HEAT (requires_number is refl);
   hard = c.in_ok-matches.ensures.numbers 7 (numbered_option (codes "hard") 0 MAX_HARD) 0 MAX_HARD (requires_number is refl);
-  retries = c.in_ok-matches.ensures.optional 8 (optional_number (codes "retries") MAX_RETRIES) 0 MAX_RETRIES (takes_number is refl);
 }
+
+pub lawful_solve-requires-clause-retries : goal.lawful_solve-requires-clause-retries
+unfolding solve_app
+lawful_solve-requires-clause-retries c =
+    c.in_ok-matches.ensures.optional 8 (optional_number (codes "retries") MAX_RETRIES) 0 MAX_RETRIES (takes_number c.in_ok-solve_description.ensures refl)
 
 pub lawful_solve-requires-clause-freeze : goal.lawful_solve-requires-clause-freeze
 unfolding solve_app

@@ -1,7 +1,6 @@
 use Rattle.std.proofs.Common.{◌≡◌, ◌∙◌, ap}
 use Rattle.std.proofs.lemmas.Result.{IfOk-weaker}
 use Rattle.clap.specs.Words.{app_of}
-use Rattle.ih_words.specs.Arguments.{with_options}
 use Rattle.ih_words.specs.Solve.{solve_app}
 use Rattle.ih_words.specs.Start.{with_start}
 use Rattle.ih_words.proofs.DescriptionRules.{adds_rule}
@@ -10,9 +9,5 @@ use Rattle.ih_words.proofs.solve.solve_description.Goals as goal
 pub returns : goal.returns
 unfolding solve_app
 returns c =
-    let instance = adds_rule c.new.ensures.app c.in_ok-arg.ensures c.named.ensures.local c.named.ensures.rule in
-    let out = adds_rule instance c.in_ok-arg-2.ensures c.named-2.ensures.local c.named-2.ensures.rule in
-    let files = adds_rule out c.in_ok-files.ensures c.named-3.ensures.local c.named-3.ensures.rule in
-    let options = c.in_ok-with_options.ensures ∙ ap with_options files in
-    let retries = adds_rule options c.in_ok-search.ensures c.optional_number.ensures.local c.optional_number.ensures.rule in
+    let retries = adds_rule c.in_ok-search_description.ensures c.in_ok-search.ensures c.optional_number.ensures.local c.optional_number.ensures.rule in
     IfOk-weaker c.with_start.result _ (λ r. app_of r ≡ solve_app) (λ r h. h ∙ ap with_start retries) c.with_start.ensures

@@ -1,4 +1,4 @@
-use Rattle.std.proofs.Common.{◌≡◌, ◌≤◌, ◌+◌, ◌∙◌, ◌++◌, ◌∷◌, [], arith, ap, sym, subst, length, Some}
+use Rattle.std.proofs.Common.{◌≡◌, ◌+◌, ◌∙◌, ◌++◌, ◌∷◌, [], arith, ap, sym, subst, length, Some}
 use Rattle.std.specs.Prelude.{slice_index, slice_set, vec_len, vec_capacity}
 use Rattle.ih_tables.specs.Bills.{feasible, cost}
 use Rattle.ih_journal.specs.Attempts.{attempt_after}
@@ -11,7 +11,9 @@ use Rattle.ih_cellbook.specs.Offers.{IsRightOffer, entry_of}
 use Rattle.ih_plan.specs.BillOf.{change_of_bill}
 use Rattle.ih_journal.specs.History.{plan_after}
 use Rattle.ih_cellbook.specs.Core.{State, IsLegalState, step, offers}
-use Rattle.ih_cellbook.proofs.Machine.{event-same, exact-last}
+use Rattle.ih_cellbook.proofs.ExactPrices.{exact-last}
+use Rattle.ih_cellbook.proofs.Committing.{legal_but-moves}
+use Rattle.ih_cellbook.proofs.Machine.{event-same}
 use Rattle.ih_cellbook.proofs.Kept.{number-below, price-in, reads-in, counters-rise, tries-small, sum-small, has-room, history-short, bill_next, bill-next-in, kept-more, legal-next, verdict-is, entry-is, entry_with}
 use Rattle.ih_cellbook.proofs.records.Records.commit.Goals as goal
 
@@ -157,7 +159,7 @@ returns-clause-exact c accepted =
     let grown = appended ∙ ap (λ e. c.self.inside.entries.items ++ e ∷ []) own in
     subst (λ (v : Recorded). c.args.offer.now.price ≡ change_of_bill v.base.instance (plan_after v.base v.entries) (plan_after v.base c.push_reserved.new.self.items)) c.self.view_is
     (rw grown (exact-last (base_with c.self.inside.inst.now.draft c.self.inside.start.now c.self.inside.options c.self.inside.freeze) c.self.inside.entries.items (entry_of (base_with c.self.inside.inst.now.draft c.self.inside.start.now c.self.inside.options c.self.inside.freeze) c.self.inside.entries.items c.args.offer.now c.judge-verdict.result)
-    c.self.invariant.0.base.start c.self.invariant.0.legal (legal-next (base_with c.self.inside.inst.now.draft c.self.inside.start.now c.self.inside.options c.self.inside.freeze) c.self.inside.entries.items c.self.inside.counters.items c.self.inside.tries.items c.self.inside.bill c.self.inside.best c.self.inside.inst.now.valid c.self.invariant.0 c.args.offer.now right c.judge-verdict.result judged) accepted))
+    c.self.invariant.0.base.start (legal_but-moves _ _ c.self.invariant.0.legal) (legal-next (base_with c.self.inside.inst.now.draft c.self.inside.start.now c.self.inside.options c.self.inside.freeze) c.self.inside.entries.items c.self.inside.counters.items c.self.inside.tries.items c.self.inside.bill c.self.inside.best c.self.inside.inst.now.valid c.self.invariant.0 c.args.offer.now right c.judge-verdict.result judged) accepted))
 
 pub returns-clause-event : goal.returns-clause-event
 returns-clause-event c s same legal =

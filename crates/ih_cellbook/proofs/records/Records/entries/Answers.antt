@@ -4,7 +4,8 @@ use Rattle.ih_journal.specs.History.{plan_at}
 use Rattle.ih_cellbook.proofs.Agreeing.{legal-agrees}
 use Rattle.ih_cellbook.specs.Recorded.{Recorded}
 use Rattle.ih_cellbook.specs.Laws.{AreFew}
-use Rattle.ih_cellbook.specs.Legal.{AreLegalButDraws}
+use Rattle.ih_cellbook.specs.Legal.{AreExact, AreLegalButDraws}
+use Rattle.ih_cellbook.proofs.ExactPrices.{prices-exact}
 use Rattle.ih_cellbook.proofs.Few.{legal-few}
 use Rattle.ih_cellbook.proofs.records.Records.entries.Goals as goal
 
@@ -16,3 +17,6 @@ returns-clause-few c = subst (λ (v : Recorded). AreFew v.base v.entries) c.self
 
 pub returns-clause-agrees : goal.returns-clause-agrees
 returns-clause-agrees c = subst (λ (v : Recorded). (k : ℕ) → AgreesBefore v.base (plan_at v.base v.entries k)) c.self.view_is (legal-agrees _ _ c.self.invariant.0.base.start c.self.invariant.0.legal)
+
+pub returns-clause-exact : goal.returns-clause-exact
+returns-clause-exact c = subst (λ (v : Recorded). AreExact v.base v.entries) c.self.view_is (prices-exact _ _ c.self.invariant.0.base.start c.self.invariant.0.legal)

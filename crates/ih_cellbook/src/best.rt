@@ -1,0 +1,61 @@
+//! The best of a history, told from its prices: the bill of each of its timetables is that of the one before it with the
+//! price of an accepted entry added.
+
+ghost use Rattle.std.specs.Prelude.{◌≡◌, ◌<◌, ◌^◌, if◌then◌else◌, length};
+ghost use Rattle.ih_tables.specs.Bills.{IsWithin, add_bills, cost, feasible};
+ghost use Rattle.ih_journal.specs.Base.{Base};
+ghost use Rattle.ih_journal.specs.Best.{BestIs, best_with};
+ghost use Rattle.ih_journal.specs.History.{is_accepted};
+ghost use Rattle.ih_cellbook.specs.Legal.{IsHistoryOver};
+
+use ih_journal::{Entry, Verdict};
+use ih_tables::{Bill, Instance};
+
+// The bill after an entry.
+pub(crate) fn bill_after(verdict: &Verdict, bill: &Bill, price: &Bill) -> Bill
+    requires { IsWithin (10 ^ 12) (add_bills bill.now price.now) }
+    ensures { result ≡ (if is_accepted verdict.now then add_bills bill.now price.now else bill.now) }
+{
+    match *verdict {
+        Verdict::Accepted => bill.add(price),
+        _ => *bill,
+    }
+}
+
+// The best so far, and one timetable more.
+pub(crate) fn with_place(
+    best: Option<(u32, i64)>,
+    place: u32,
+    now: &Bill,
+    inst: &Instance,
+) -> Option<(u32, i64)>
+    requires { IsWithin (10 ^ 11) now.now }
+    ensures { result ≡ best_with best place (feasible now.now) (cost inst.now.draft.weights now.now) }
+{
+    if !now.feasible() {
+        return best;
+    }
+    let cost = now.cost(inst.weights());
+    match best {
+        Some((_, least)) if cost >= least => best,
+        _ => Some((place, cost)),
+    }
+}
+
+/// The place and the cost of the first cheapest feasible timetable of a history over a start, whose bill is `first`; none
+/// exactly where no timetable of the history is feasible. It makes no timetable and no further bill.
+pub fn best_in(inst: &Instance, first: &Bill, entries: &[Entry]) -> Option<(u32, i64)>
+    requires over { (b : Base) × IsHistoryOver b inst.now.draft first.now entries.now }
+    requires few { length entries.now < 2 ^ 32 }
+    ensures { (b : Base) → IsHistoryOver b inst.now.draft first.now entries.now → BestIs b entries.now result }
+{
+    let mut now = *first;
+    let mut best = with_place(None, 0, &now, inst);
+    let mut place = 0;
+    for entry in entries {
+        now = bill_after(&entry.verdict, &now, &entry.price);
+        place += 1;
+        best = with_place(best, place, &now, inst);
+    }
+    best
+}

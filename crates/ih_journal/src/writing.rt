@@ -1,0 +1,93 @@
+//! Bytes, texts and numbers, written behind what stands in some room already: each answers where the text then ends.
+
+ghost use Rattle.std.specs.Prelude.{◌≡◌, ◌+◌, ◌≤◌, ◌<◌, ◌++◌, ◌∷◌, [], length, take, decimal};
+ghost use Rattle.std.specs.Fmt.{signed_decimal};
+
+use itoa::Buffer;
+
+/// Writes a byte.
+#[inline(always)]
+pub(crate) fn put_byte(room: &mut [u8], at: usize, b: u8) -> usize
+    requires { at < length room.old }
+    ensures text { take result room.new ≡ take at room.old ++ b ∷ [] }
+    ensures end { result ≡ at + 1 }
+{
+    room[at] = b;
+    at + 1
+}
+
+/// Writes a text.
+#[inline(always)]
+pub(crate) fn put_text(room: &mut [u8], at: usize, text: &str) -> usize
+    requires { at + length text.now ≤ length room.old }
+    ensures text { take result room.new ≡ take at room.old ++ text.now }
+    ensures end { result ≡ at + length text.now }
+{
+    let bytes = text.as_bytes();
+    let mut end = at;
+    for b in bytes {
+        room[end] = *b;
+        end += 1;
+    }
+    end
+}
+
+#[inline(always)]
+fn put_digit(room: &mut [u8], at: usize, n: u64) -> usize
+    requires room { at < length room.old }
+    requires digit { n < 10 }
+    ensures text { take result room.new ≡ take at room.old ++ (48 + n) ∷ [] }
+    ensures end { result ≡ at + 1 }
+{
+    put_byte(room, at, b'0' + n as u8)
+}
+
+// A number of at most three digits.
+#[inline(always)]
+fn put_small(room: &mut [u8], at: usize, n: u64) -> usize
+    requires room { at + 3 ≤ length room.old }
+    requires small { n < 1000 }
+    ensures text { take result room.new ≡ take at room.old ++ decimal n }
+    ensures within { result ≤ at + 3 }
+{
+    if n < 10 {
+        return put_digit(room, at, n);
+    }
+    let tens = n / 10;
+    let end = if tens < 10 {
+        put_digit(room, at, tens)
+    } else {
+        let end = put_digit(room, at, tens / 10);
+        put_digit(room, end, tens % 10)
+    };
+    put_digit(room, end, n % 10)
+}
+
+/// Writes a number.
+#[inline(always)]
+pub(crate) fn put_number(room: &mut [u8], at: usize, n: u64) -> usize
+    requires { at + 20 ≤ length room.old }
+    ensures text { take result room.new ≡ take at room.old ++ decimal n }
+    ensures within { result ≤ at + 20 }
+{
+    if n < 1000 {
+        put_small(room, at, n)
+    } else {
+        put_text(room, at, Buffer::new().format(n))
+    }
+}
+
+/// Writes a number with its sign. Most of those of a price are 0.
+#[inline(always)]
+pub(crate) fn put_signed(room: &mut [u8], at: usize, x: i64) -> usize
+    requires { at + 21 ≤ length room.old }
+    ensures text { take result room.new ≡ take at room.old ++ signed_decimal x }
+    ensures within { result ≤ at + 21 }
+{
+    if x < 0 {
+        let end = put_byte(room, at, b'-');
+        put_number(room, end, x.unsigned_abs())
+    } else {
+        put_number(room, at, x.unsigned_abs())
+    }
+}

@@ -1,0 +1,5 @@
+pub mod BestOf
+pub mod Dearer
+pub mod Leading
+pub mod Parting
+pub mod Runs

@@ -1,0 +1,15 @@
+//! Searches one after the other, each from the best timetable of the one before it, over anything that searches.
+#![tactic(auto)]
+
+mod calling;
+mod laws;
+mod noted;
+mod round;
+mod running;
+mod searcher;
+
+pub use calling::SearchBy;
+pub use laws::{journals_can_be_parted, rounds_get_no_dearer};
+pub use noted::Noted;
+pub use running::{RoundsEnd, rounds};
+pub use searcher::Searcher;

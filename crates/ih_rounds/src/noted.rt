@@ -1,0 +1,61 @@
+//! A searcher whose answers are kept.
+
+use crate::searcher::Searcher;
+use ih_journal::{Entry, Options};
+use ih_plan::Plan;
+use ih_tables::Instance;
+use std::alloc::{AllocError, Global};
+use std::sync::Wait;
+use std::thread::Threads;
+
+/// A searcher, and a copy of each history that it has answered.
+#[derive(Drop)]
+pub struct Noted<S> {
+    searcher: S,
+    answers: Vec<Vec<Entry>>,
+}
+
+impl<S: Searcher> Noted<S> {
+    ghost use Rattle.std.specs.Prelude.{◌≡◌, []};
+
+    /// The searcher, of whose answers none is kept yet.
+    pub fn new(alloc: Global, searcher: S) -> Noted<S>
+        ensures searcher { result.searcher ≡ searcher }
+        ensures none { result.answers.items ≡ [] }
+    {
+        Noted {
+            searcher,
+            answers: Vec::new(alloc),
+        }
+    }
+
+    /// The histories that it has answered, in order.
+    pub fn answers(&self) -> &[Vec<Entry>]
+        ensures { result.now ≡ self.now.answers.items }
+    {
+        self.answers.as_slice()
+    }
+}
+
+impl<S: Searcher> Searcher for Noted<S> {
+    ghost use Rattle.std.specs.Prelude.{Some, map};
+
+    ghost answers = { λ n. Some (map (λ v. v.items) n.answers.items) };
+
+    ghost ready = { λ n. S.ready n.searcher };
+
+    fn search<R: Threads + Wait + Sync>(
+        &mut self,
+        rt: &R,
+        alloc: Global,
+        inst: &Instance,
+        start: &Plan,
+        options: &Options,
+    ) -> Result<Vec<Entry>, AllocError> {
+        let answer = self.searcher.search(rt, alloc, inst, start, options)?;
+        let mut copy = Vec::new(alloc);
+        copy.extend_from_slice(answer.as_slice())?;
+        self.answers.push(copy)?;
+        Ok(answer)
+    }
+}

@@ -1,0 +1,81 @@
+//! One round: a search, its journal, and where it leads.
+
+ghost use Rattle.std.specs.Prelude.{◌≡◌, IfOk};
+ghost use Rattle.ih_plan.specs.Timetable.{IsPlanOf};
+ghost use Rattle.ih_journal.specs.Settings.{IsLawful};
+ghost use Rattle.ih_cellbook.specs.Keeping.{base_with};
+ghost use Rattle.ih_rounds.specs.Rounds.{options_in};
+ghost use Rattle.ih_rounds.specs.Steps.{HasRound, end_of};
+
+use crate::searcher::Searcher;
+use ih_cellbook::best_in;
+use ih_history::{plan_at, put_journal};
+use ih_journal::Options;
+use ih_plan::Plan;
+use ih_tables::Instance;
+use ih_validate::bill;
+use std::alloc::{AllocError, Global};
+use std::sync::Wait;
+use std::thread::Threads;
+
+/// What a round outcome to.
+#[derive(Drop)]
+pub(crate) struct RoundOutcome {
+    /// The place and the cost of its best.
+    pub(crate) found: Option<(u32, i64)>,
+    /// How many entries it has.
+    pub(crate) count: u32,
+    /// Where the next one starts.
+    pub(crate) next: Plan,
+}
+
+/// The options of a round: its seed is the first one's, 64 further for each round before it, wrapping.
+pub(crate) fn options_in(options: &Options, round: u32) -> Options
+    ensures { result ≡ options_in options.now round }
+{
+    Options {
+        seed: options.seed.wrapping_add(64 * round as u64),
+        workers: options.workers,
+        moves: options.moves,
+        heat: options.heat,
+        hard: options.hard,
+        retries: options.retries,
+    }
+}
+
+// The place of the best, or the last.
+fn end_of(found: Option<(u32, i64)>, count: u32) -> u32
+    ensures { result ≡ end_of found count }
+{
+    match found {
+        Some((place, _)) => place,
+        None => count,
+    }
+}
+
+/// Searches once, and appends the journal. After want of memory the journal is to be dropped.
+pub(crate) fn search_round<R: Threads + Wait + Sync, S: Searcher>(
+    rt: &R,
+    alloc: Global,
+    inst: &Instance,
+    start: &Plan,
+    options: &Options,
+    searcher: &mut S,
+    journal: &mut Vec<u8>,
+) -> Result<RoundOutcome, AllocError>
+    requires ready { S.ready searcher.old }
+    requires start { IsPlanOf inst.now.draft start.now }
+    requires lawful { IsLawful options.now }
+    requires once { options.now.retries ≡ 0 }
+    ensures round { IfOk result (HasRound (base_with inst.entry.now.draft start.entry.now options.entry.now 0)
+        (S.answers searcher.old) (S.answers searcher.new) journal.old.items journal.new.items) }
+    ensures ready { S.ready searcher.new }
+{
+    let answer = searcher.search(rt, alloc, inst, start, options)?;
+    let entries = answer.as_slice();
+    put_journal(options, entries, journal)?;
+    let found = best_in(inst, &bill(inst, start), entries);
+    let count = entries.len() as u32;
+    let next = plan_at(alloc, inst, start, entries, end_of(found, count))?;
+    Ok(RoundOutcome { found, count, next })
+}

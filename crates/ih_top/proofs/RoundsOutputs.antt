@@ -1,0 +1,42 @@
+-- How rounds end, and what is written and said of that.
+use Rattle.std.proofs.Common.{◌≡◌, ℕ, ap, ◌∙◌, List, [], ◌++◌, length, Option, Some, None}
+use Rattle.ih_plan.specs.BillOf.{bill_of}
+use Rattle.ih_journal.specs.Base.{Base}
+use Rattle.ih_rounds.specs.declared.running.RoundsEnd.{RoundsEnd}
+use Rattle.ih_rounds.specs.declared.running.RoundsEnd.TheVariants.{Found, NoneFound}
+use Rattle.ih_rounds.specs.Ends.{Ends, IsEnd}
+use Rattle.ih_rounds.specs.Rounds.{Round, journals}
+use Rattle.ih_rounds.specs.Telling.{Answers}
+use Rattle.ih_solution.specs.Solution.{solution}
+use Rattle.ih_top.specs.declared.output.BestOutput.{BestOutput}
+use Rattle.ih_top.specs.declared.output.Output.{Output}
+use Rattle.ih_top.specs.RoundTexts.{FitsEnd, IsRoundSaid, round_report}
+use Rattle.ih_top.specs.Rounds.{HasBestOfRounds, IsRoundsOutput}
+
+pub fits-end : (b : Base) (rs : List Round) (end : RoundsEnd) → IsEnd b rs end → FitsEnd b.instance end
+fits-end b rs (Found q k count P) found = found.fits
+fits-end b rs NoneFound none = tt
+
+said-of : (b : Base) (rs : List Round) (end : RoundsEnd) (best : Option BestOutput) → IsEnd b rs end → IsRoundSaid b.instance end best
+    → HasBestOfRounds b rs best
+said-of b rs (Found q k count P) None found said = absurd said
+said-of b rs (Found q k count P) (Some o) found said = record {
+  round = q;
+  place = k;
+  best = found.best;
+  solution = said.0 ∙ ap (solution b.instance) found.plan;
+  text = said.1 ∙ ap (λ n. round_report q k n b.instance.weights (bill_of b.instance P)) found.count_is
+      ∙ ap (λ Q. round_report q k (length found.best.round.history) b.instance.weights (bill_of b.instance Q)) found.plan;
+}
+said-of b rs NoneFound None none said = none
+said-of b rs NoneFound (Some o) none said = absurd said
+
+pub output-of : (b : Base) (count : ℕ) (before after : Answers) (old new : List ℕ) (end : RoundsEnd) (o : Output) → old ≡ []
+    → Ends b count before after old new end → IsRoundSaid b.instance end o.best → o.journal.items ≡ new → IsRoundsOutput b count o
+output-of b count before after old new end o empty ends said whole = record {
+  rounds = ends.run.rounds;
+  count_is = ends.run.count_is;
+  legal = ends.run.legal;
+  journal = whole ∙ ends.run.written ∙ ap (λ t. t ++ journals b.options 0 ends.run.rounds) empty;
+  best = said-of b ends.run.rounds end o.best ends.end_is said;
+}

@@ -1,0 +1,46 @@
+-- A demo's history: that of one worker.
+use Rattle.std.proofs.Common.{◌≡◌, ◌∙◌, ℕ, suc, ◌+◌, refl, ap, ap₂, arith, List, [], ◌∷◌, ◌++◌, append_assoc, length}
+use Rattle.std.specs.Prelude.{cond}
+use Rattle.std.proofs.lemmas.List.Sums.{sum_by-cons}
+use Rattle.ih_journal.specs.declared.entries.Entry.{Entry}
+use Rattle.ih_journal.specs.Attempts.{is_stale}
+use Rattle.ih_journal.specs.Base.{Base}
+use Rattle.ih_journal.specs.Laws.{HasNoneStale}
+use Rattle.ih_journal.specs.Legal.{IsFull}
+use Rattle.ih_journal.proofs.LoneWorkers.{lone-fresh, lone-moves}
+use Rattle.ih_cellbook.specs.Legal.{AreExact}
+use Rattle.ih_top.specs.Demo.{IsDemo, IsDemoBase}
+use Rattle.ih_journal.specs.History.{is_accepted}
+use Rattle.ih_top.specs.Texts.{demo_line, demo_text, done_text, is_declined, verdicts_line, verdicts_of}
+
+none-counted : (H : List Entry) → HasNoneStale H → verdicts_of is_stale H ≡ 0
+none-counted [] fresh = refl
+none-counted (e ∷ es) fresh =
+    let split = sum_by-cons (λ (x : Entry). cond (is_stale x.verdict) 1 0) e es in
+    let here : cond (is_stale e.verdict) 1 0 ≡ 0 = ap (λ b. cond b 1 0) (fresh 0 e refl) in
+    let rest = none-counted es (λ k f at. fresh (suc k) f at) in
+    omega (arith, split, here, rest)
+
+pub is-demo : (number : ℕ) (b : Base) (H : List Entry) → IsDemoBase number b → IsFull b H → AreExact b H → IsDemo number b H
+is-demo number b H base full exact =
+    let lone : b.options.workers ≡ 1 = ap (λ o. o.workers) base.options in
+    let moves : b.options.moves ≡ 2000 = ap (λ o. o.moves) base.options in
+    record {
+      base = base;
+      full = full;
+      exact = exact;
+      many = lone-moves b H lone full ∙ moves;
+      fresh = none-counted H (lone-fresh b H lone full.legal);
+    }
+
+-- how many of the entries have each verdict
+abbrev counted : List Entry → List ℕ
+counted H = verdicts_line (verdicts_of is_accepted H) (verdicts_of is_declined H) (verdicts_of is_stale H)
+
+-- its text, piece by piece
+pub demo-said : (number : ℕ) (b : Base) (H es : List Entry) (k : ℕ) (text said : List ℕ) → es ≡ H → said ≡ done_text b H k
+    → text ≡ (demo_line number ++ verdicts_line (verdicts_of is_accepted es) (verdicts_of is_declined es) (verdicts_of is_stale es)) ++ said
+    → text ≡ demo_text number b H k
+demo-said number b H es k text said same best is =
+    is ∙ (append_assoc (demo_line number) (counted es) said
+    ∙ ap₂ (λ (xs : List Entry) (t : List ℕ). demo_line number ++ (counted xs ++ t)) same best)

@@ -1,0 +1,205 @@
+-- What solve writes, replay and salvage take.
+use Rattle.std.proofs.Common.{◌≡◌, ◌∙◌, ℕ, ◌≤◌, ◌+◌, ◌*◌, refl, sym, ap, ap₂, subst, arith, inl, inr, List, [], ◌++◌, length, Option, Some, None}
+use Rattle.std.specs.Prelude.{◌⊎◌, IfSome, unwrap_or}
+use Rattle.ih_tables.specs.Valid.{IsValid}
+use Rattle.ih_journal.specs.declared.entries.Entry.{Entry}
+use Rattle.ih_journal.specs.declared.refusals.JournalRefusal.{JournalRefusal}
+use Rattle.ih_journal.specs.Base.{Base}
+use Rattle.ih_journal.specs.Best.{HasNone, IsBest}
+use Rattle.ih_journal.specs.Legal.{IsFull}
+use Rattle.ih_journal.specs.Texts.{journal, lines_from}
+use Rattle.ih_journal.proofs.BestLemmas.{best-one, best-or-none}
+use Rattle.ih_cellbook.specs.Laws.{LegalJournalsAreShort}
+use Rattle.ih_cellbook.specs.Legal.{AreLegalButDraws}
+use Rattle.ih_cellbook.proofs.Few.{legal-few}
+use Rattle.ih_instance.specs.Instance.{instance}
+use Rattle.ih_instance.proofs.DraftSound.{instance_sound}
+use Rattle.ih_solution.specs.Reading.{plan_in}
+use Rattle.ih_replay.specs.Laws.{LegalJournalsAreTaken, LegalJournalsDiffer, TakenLinesAreOfLegalHistories}
+use Rattle.ih_words.specs.Replay.{ReplayCall}
+use Rattle.ih_words.specs.Solve.{SolveCall}
+use Rattle.ih_words.specs.Start.{StartCall}
+use Rattle.ih_shelf.specs.Outside.{Names, bytes_at}
+use Rattle.ih_top.specs.declared.files.TheConstants.{MAX_FILE, MAX_JOURNAL}
+use Rattle.ih_top.specs.declared.status.Role.{Role}
+use Rattle.ih_top.specs.declared.status.Status.{Status}
+use Rattle.ih_top.specs.declared.status.Status.TheVariants.{Done, Usage, ReadFault, InstanceRefused, StartRefused, NoneFound, WriteFault, OutOfMemory, JournalRefused, Infeasible, TooLong}
+use Rattle.ih_top.specs.Inputs.{HasInstance, HasPlan}
+use Rattle.ih_top.specs.Journals.{Begins}
+use Rattle.ih_top.specs.Laws.{EndsIn, HasNoFault, IsReplayOf, SolvesAreTakenBack, SolvesWithNoneAreTakenBack}
+use Rattle.ih_top.specs.Replaying.{HasRead, IsHeadedBy, IsHeadless, IsRefused, IsRefusedJournal, IsReplay, IsSalvage, JournalEnds, JournalRead}
+use Rattle.ih_top.specs.Solving.{IsSearch, solution_at}
+use Rattle.ih_top.specs.Starts.{IsStarted}
+use Rattle.ih_top.specs.Texts.{done_text, none_found_text, salvaged_line, salvaged_text}
+use Rattle.ih_top.proofs.Completeness.{journal-accepted, not-headless, not-refused, same-search}
+use Rattle.ih_top.proofs.JournalLaws.{all-salvaged}
+
+-- ---- ends without a fault
+
+-- what only a fault or want of memory brings is want of memory
+memory-alone : (status : Status) → HasNoFault status → ((role : Role) × (status ≡ ReadFault role)) ⊎ (status ≡ OutOfMemory) → status ≡ OutOfMemory
+memory-alone status calm (inl (role, e)) = absurd (subst HasNoFault e calm)
+memory-alone status calm (inr e) = e
+
+ends-as : (wanted : Status) (t u : List ℕ) (X Y : Type 0) (status : Status) (said : List ℕ) → t ≡ u → (X → Y) → EndsIn wanted t X status said → EndsIn wanted u Y status said
+ends-as wanted t u X Y status said e f (inl memory) = inl memory
+ends-as wanted t u X Y status said e f (inr (same, told, left)) = inr (same, told ∙ e, f left)
+
+-- ---- the journal of a search, where replay and salvage find it
+
+module _ (taken_law : LegalJournalsAreTaken) (differ : LegalJournalsDiffer) (texts : TakenLinesAreOfLegalHistories) (short : LegalJournalsAreShort)
+    (s : SolveCall) (r : ReplayCall) (before after there left : Names) (of : IsReplayOf s r before after there)
+    (b : Base) (H : List Entry) (search : IsSearch (Some before) s b H) (written : after s.journal ≡ Some (journal b.options H)) where
+  abbrev found : JournalRead
+  found = record { instance = b.instance; plan = search.base.start.plan; bytes = journal b.options H }
+
+  valid : IsValid b.instance
+  valid = instance_sound (bytes_at before s.instance) b.instance search.base.start.inputs.instance.read
+
+  same-file : (name : List ℕ) → there name ≡ before name → bytes_at there name ≡ bytes_at before name
+  same-file name e = ap (λ (o : Option (List ℕ)). unwrap_or o []) e
+
+  has-instance : HasInstance r.instance b.instance there
+  has-instance =
+      let same : bytes_at there r.instance ≡ bytes_at before s.instance = ap (bytes_at there) of.instance ∙ same-file s.instance of.same_instance in
+      record {
+        short = subst (λ (t : List ℕ). length t ≤ MAX_FILE) (sym same) search.base.start.inputs.instance.short;
+        read = ap instance same ∙ search.base.start.inputs.instance.read;
+      }
+
+  has-plan : (o : Option (List ℕ)) → IfSome o (λ name. there name ≡ before name) → HasPlan (Some before) o b.instance search.base.start.plan
+      → HasPlan (Some there) o b.instance search.base.start.plan
+  has-plan None same h = h
+  has-plan (Some name) same h =
+      let file = same-file name same in
+      record { short = subst (λ (t : List ℕ). length t ≤ MAX_FILE) (sym file) h.short; read = ap (plan_in b.instance) file ∙ h.read }
+
+  short-enough : length (journal b.options H) ≤ MAX_JOURNAL
+  short-enough =
+      let legal : AreLegalButDraws b H = λ k e there_is. (search.full.legal k e there_is).entry in
+      let len = short b H (record { valid = valid; base = search.given; seed = search.seed }) legal in
+      let few = (legal-few b H legal).most in
+      let most = search.given.lawful.entries in
+      omega (arith, len, few, most)
+
+  has : HasRead (Some there) r found
+  has = record {
+    inputs = record {
+      instance = has-instance;
+      plan = subst (λ (t : StartCall). HasPlan (Some there) t.file b.instance search.base.start.plan) (sym of.start)
+          (has-plan s.start.file of.same_start search.base.start.inputs.plan);
+    };
+    journal = record { short = short-enough; held = ap (λ (o : Option (List ℕ)). unwrap_or o []) (of.journal ∙ written) };
+  }
+
+  headed : IsHeadedBy r.start found b (lines_from b.options 0 H)
+  headed = record {
+    started = subst (λ (t : StartCall). IsStarted t b.instance search.base.start.plan b) (sym of.start) search.base.start.started;
+    lawful = search.given.lawful;
+    seed = search.seed;
+    joins = refl;
+  }
+
+  -- it is taken as that search and that history
+  one-replay : (y : JournalRead) (c : Base) (G : List Entry) → HasRead (Some there) r y → IsReplay r.start y c G → (c ≡ b) × (G ≡ H)
+  one-replay y c G other is =
+      let same = same-search there r found has b (lines_from b.options 0 H) headed y c (lines_from c.options 0 G) other is.headed in
+      let full = subst (λ (x : Base). IsFull x G) same.0 is.full in
+      let lines : lines_from b.options 0 G ≡ lines_from b.options 0 H = ap (λ (x : Base). lines_from x.options 0 G) (sym same.0) ∙ same.1 in
+      (same.0, differ b G H valid search.given full.legal search.full.legal lines)
+
+  one-salvage : (y : JournalRead) (c : Base) (G : List Entry) → HasRead (Some there) r y → IsSalvage r.start y c G → (c ≡ b) × (G ≡ H)
+  one-salvage y c G other is =
+      let same = same-search there r found has b (lines_from b.options 0 H) headed y c is.bytes other is.headed in
+      let begins = subst (λ (x : Base). Begins x (lines_from b.options 0 H) G is.rest) same.0
+      (subst (λ (t : List ℕ). Begins c t G is.rest) same.1 is.begins) in
+      (same.0, all-salvaged taken_law differ texts b valid search.given H G is.rest search.full.legal begins)
+
+  module _ (taken : JournalRead → Base → List Entry → Type 0) (refused : JournalRead → JournalRefusal → Type 0) (said : Base → List Entry → ℕ → List ℕ)
+      (one : (y : JournalRead) (c : Base) (G : List Entry) → HasRead (Some there) r y → taken y c G → (c ≡ b) × (G ≡ H))
+      (never : (e : JournalRefusal) → IsRefused refused r (Some there) e → ⊥) where
+    both : (c : Base) (G : List Entry) → (c ≡ b) × (G ≡ H) → ◌≡◌ {A = Base × List Entry} (c, G) (b, H)
+    both c G same = rw (same.0, same.1) refl
+
+    best-ends : (k : ℕ) → IsBest b H k → (status : Status) (text : List ℕ) → HasNoFault status → JournalEnds taken refused said r (Some there) (Some left) status text
+        → EndsIn Done (said b H k) (left r.out ≡ Some (solution_at b H k)) status text
+    best-ends k best Done text calm (d, told) =
+        let same = both d.base d.history (one d.read d.base d.history d.given d.taken_is) in
+        let place = best-one b H d.place k (subst (λ (t : Base × List Entry). IsBest t.0 t.1 d.place) same d.best) best in
+        inr (refl, told ∙ ap₂ (λ (t : Base × List Entry) (j : ℕ). said t.0 t.1 j) same place,
+        d.written.whole ∙ ap₂ (λ (t : Base × List Entry) (j : ℕ). Some (solution_at t.0 t.1 j)) same place)
+    best-ends k best Usage text calm h = absurd h.1
+    best-ends k best (ReadFault role) text calm h = absurd calm
+    best-ends k best (InstanceRefused e) text calm h = inl (memory-alone (InstanceRefused e) calm (journal-accepted there r found has (InstanceRefused e) text h.1))
+    best-ends k best (StartRefused e) text calm h = inl (memory-alone (StartRefused e) calm (journal-accepted there r found has (StartRefused e) text h.1))
+    best-ends k best NoneFound text calm (kept, d, told) =
+        let same = both d.base d.history (one d.read d.base d.history d.given d.taken_is) in
+        absurd (best-or-none b H k best (subst (λ (t : Base × List Entry). HasNone t.0 t.1) same d.none))
+    best-ends k best (WriteFault role) text calm h = absurd calm
+    best-ends k best OutOfMemory text calm h = inl refl
+    best-ends k best (JournalRefused e) text calm (kept, is, told) = absurd (never e is)
+    best-ends k best Infeasible text calm h = absurd h.1
+    best-ends k best (TooLong role) text calm h = inl (memory-alone (TooLong role) calm (journal-accepted there r found has (TooLong role) text h.1))
+
+    none-ends : HasNone b H → (status : Status) (text : List ℕ) → HasNoFault status → JournalEnds taken refused said r (Some there) (Some left) status text
+        → EndsIn NoneFound none_found_text (Unit {0}) status text
+    none-ends none Done text calm (d, told) =
+        let same = both d.base d.history (one d.read d.base d.history d.given d.taken_is) in
+        absurd (best-or-none b H d.place (subst (λ (t : Base × List Entry). IsBest t.0 t.1 d.place) same d.best) none)
+    none-ends none Usage text calm h = absurd h.1
+    none-ends none (ReadFault role) text calm h = absurd calm
+    none-ends none (InstanceRefused e) text calm h = inl (memory-alone (InstanceRefused e) calm (journal-accepted there r found has (InstanceRefused e) text h.1))
+    none-ends none (StartRefused e) text calm h = inl (memory-alone (StartRefused e) calm (journal-accepted there r found has (StartRefused e) text h.1))
+    none-ends none NoneFound text calm (kept, d, told) = inr (refl, told, tt)
+    none-ends none (WriteFault role) text calm h = absurd calm
+    none-ends none OutOfMemory text calm h = inl refl
+    none-ends none (JournalRefused e) text calm (kept, is, told) = absurd (never e is)
+    none-ends none Infeasible text calm h = absurd h.1
+    none-ends none (TooLong role) text calm h = inl (memory-alone (TooLong role) calm (journal-accepted there r found has (TooLong role) text h.1))
+
+  replay-never : (e : JournalRefusal) → IsRefused (IsRefusedJournal r.start) r (Some there) e → ⊥
+  replay-never e h = not-refused there r found has b H headed search.full e h
+
+  salvage-never : (e : JournalRefusal) → IsRefused IsHeadless r (Some there) e → ⊥
+  salvage-never e h = not-headless there r found has b (lines_from b.options 0 H) headed e h
+
+  replay-best : (k : ℕ) → IsBest b H k → (status : Status) (text : List ℕ) → HasNoFault status
+      → JournalEnds (IsReplay r.start) (IsRefusedJournal r.start) done_text r (Some there) (Some left) status text
+      → EndsIn Done (done_text b H k) (left r.out ≡ Some (solution_at b H k)) status text
+  replay-best k best status text calm ends = best-ends (IsReplay r.start) (IsRefusedJournal r.start) done_text one-replay replay-never k best status text calm ends
+
+  salvage-best : (k : ℕ) → IsBest b H k → (status : Status) (text : List ℕ) → HasNoFault status
+      → JournalEnds (IsSalvage r.start) IsHeadless salvaged_text r (Some there) (Some left) status text
+      → EndsIn Done (salvaged_text b H k) (left r.out ≡ Some (solution_at b H k)) status text
+  salvage-best k best status text calm ends = best-ends (IsSalvage r.start) IsHeadless salvaged_text one-salvage salvage-never k best status text calm ends
+
+  replay-none : HasNone b H → (status : Status) (text : List ℕ) → HasNoFault status
+      → JournalEnds (IsReplay r.start) (IsRefusedJournal r.start) done_text r (Some there) (Some left) status text → EndsIn NoneFound none_found_text (Unit {0}) status text
+  replay-none none status text calm ends = none-ends (IsReplay r.start) (IsRefusedJournal r.start) done_text one-replay replay-never none status text calm ends
+
+  salvage-none : HasNone b H → (status : Status) (text : List ℕ) → HasNoFault status
+      → JournalEnds (IsSalvage r.start) IsHeadless salvaged_text r (Some there) (Some left) status text → EndsIn NoneFound none_found_text (Unit {0}) status text
+  salvage-none none status text calm ends = none-ends (IsSalvage r.start) IsHeadless salvaged_text one-salvage salvage-never none status text calm ends
+
+pub solves-taken-back : LegalJournalsAreTaken → LegalJournalsDiffer → TakenLinesAreOfLegalHistories → LegalJournalsAreShort → SolvesAreTakenBack
+solves-taken-back taken_law differ texts short s r before after there left text ended said of calm done =
+    let b = done.base in
+    let H = done.history in
+    let k = done.place in
+    let out : (left r.out ≡ Some (solution_at b H k)) → left r.out ≡ after s.out = λ same. same ∙ sym done.written.out in
+    record {
+      replayed = λ ends. ends-as Done (done_text b H k) text (left r.out ≡ Some (solution_at b H k)) (left r.out ≡ after s.out) ended said (sym done.said) out
+          (replay-best taken_law differ texts short s r before after there left of b H done.search done.written.journal k done.best ended said calm ends);
+      salvaged = λ ends. (
+        length H,
+        ends-as Done (salvaged_text b H k) (salvaged_line (length H) ++ text) (left r.out ≡ Some (solution_at b H k)) (left r.out ≡ after s.out) ended said
+        (ap (λ t. salvaged_line (length H) ++ t) (sym done.said)) out
+        (salvage-best taken_law differ texts short s r before after there left of b H done.search done.written.journal k done.best ended said calm ends),
+      );
+    }
+
+pub solves-none-taken-back : LegalJournalsAreTaken → LegalJournalsDiffer → TakenLinesAreOfLegalHistories → LegalJournalsAreShort → SolvesWithNoneAreTakenBack
+solves-none-taken-back taken_law differ texts short s r before after there left ended said of calm found = record {
+  replayed = λ ends. replay-none taken_law differ texts short s r before after there left of found.base found.history found.search found.written.journal found.none ended said calm ends;
+  salvaged = λ ends. salvage-none taken_law differ texts short s r before after there left of found.base found.history found.search found.written.journal found.none ended said calm ends;
+}

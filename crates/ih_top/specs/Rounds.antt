@@ -1,0 +1,114 @@
+-- How a call of rounds ends: as one of solve, with the journals of all rounds and the best of all their timetables.
+use Rattle.std.specs.Prelude.{◌≡◌, ℕ, ◌⊎◌, List, length, Option, Some, None}
+use Rattle.ih_plan.specs.BillOf.{bill_of}
+use Rattle.ih_journal.specs.Base.{Base}
+use Rattle.ih_journal.specs.History.{plan_at}
+use Rattle.ih_cellbook.specs.Keeping.{base_with}
+use Rattle.ih_rounds.specs.Best.{HaveNone, IsBestOf}
+use Rattle.ih_rounds.specs.Rounds.{AreRounds, Round, base_in, journals}
+use Rattle.ih_words.specs.Rounds.{RoundsCall}
+use Rattle.ih_words.specs.Solve.{SolveCall}
+use Rattle.ih_shelf.specs.Outside.{Names, Told}
+use Rattle.ih_top.specs.declared.inputs.Inputs.{Inputs}
+use Rattle.ih_top.specs.declared.output.BestOutput.{BestOutput}
+use Rattle.ih_top.specs.declared.output.Output.{Output}
+use Rattle.ih_top.specs.declared.status.Role.TheVariants.{Journal, Out}
+use Rattle.ih_top.specs.declared.status.Status.{Status}
+use Rattle.ih_top.specs.declared.status.Status.TheVariants.{Done, NoneFound, WriteFault, OutOfMemory}
+use Rattle.ih_top.specs.Inputs.{EndsUnread, solve_reading}
+use Rattle.ih_top.specs.RoundTexts.{round_report}
+use Rattle.ih_top.specs.Solving.{BeginsJournal, BeginsSolution, HasBase, Unchanged, WritesBoth, WritesJournal, solution_at}
+use Rattle.ih_top.specs.Starts.{started}
+use Rattle.ih_top.specs.Texts.{memory_text, none_found_text, unwritten_text}
+
+-- ---- what rounds make to be written and said
+
+-- the place of the best in round q, and the report on its timetable
+abbrev pub round_text : Base → ℕ → Round → ℕ → List ℕ
+round_text b q r k = round_report q k (length r.history) b.instance.weights (bill_of b.instance (plan_at (base_in b q r) r.history k))
+
+-- the solution file of the timetable at place k of round q
+abbrev pub solution_in : Base → ℕ → Round → ℕ → List ℕ
+solution_in b q r k = solution_at (base_in b q r) r.history k
+
+-- the best of all rounds, its solution and what is said of it
+pub record IsBestOfRounds (b : Base) (rs : List Round) (o : BestOutput) : Type 0 where
+  pub round : ℕ
+  pub place : ℕ
+  pub best : IsBestOf b rs round place
+  pub solution : o.solution.items ≡ solution_in b round best.round place
+  pub text : o.text.items ≡ round_text b round best.round place
+
+-- the same, where there is a best
+abbrev pub HasBestOfRounds : Base → List Round → Option BestOutput → Type 0
+HasBestOfRounds b rs None = HaveNone b rs
+HasBestOfRounds b rs (Some o) = IsBestOfRounds b rs o
+
+-- the journals of so many rounds, and their best where there is one
+pub record IsRoundsOutput (b : Base) (count : ℕ) (o : Output) : Type 0 where
+  pub rounds : List Round
+  pub count_is : length rounds ≡ count
+  pub legal : AreRounds b rounds
+  pub journal : o.journal.items ≡ journals b.options 0 rounds
+  pub best : HasBestOfRounds b rounds o.best
+
+-- rounds from what was read
+abbrev pub rounds_base : RoundsCall → Inputs → Base
+rounds_base r i = base_with i.inst.draft (started r.search.start.fill r.search.options.hard i.inst.draft i.plan) r.search.options 0
+
+-- what rounds make from what the files and the words give
+pub record IsRoundsOutputOf (files : Option Names) (r : RoundsCall) (o : Output) : Type 0 where
+  pub base : Base
+  pub given : HasBase files r.search base
+  pub output : IsRoundsOutput base r.rounds o
+
+-- ---- how they end
+
+-- The rounds that the words ask for, over what the files and the words give: each history is full over its start.
+pub record AreSearches (files : Option Names) (r : RoundsCall) (b : Base) (rs : List Round) : Type 0 where
+  pub base : HasBase files r.search b
+  pub count : length rs ≡ r.rounds
+  pub legal : AreRounds b rs
+
+-- the journals of the rounds are written, as far as this says
+pub record HaveSearched (writes : SolveCall → List ℕ → Names → Names → Type 0) (r : RoundsCall) (old new : Option Names) : Type 0 where
+  pub base : Base
+  pub rounds : List Round
+  pub searches : AreSearches old r base rounds
+  pub written : Told (writes r.search (journals base.options 0 rounds)) old new
+
+-- the journals of the rounds and the solution of the first cheapest feasible timetable of all are written, as far as this says
+pub record HaveBest (writes : SolveCall → List ℕ → List ℕ → Names → Names → Type 0) (r : RoundsCall) (old new : Option Names) : Type 0 where
+  pub base : Base
+  pub rounds : List Round
+  pub round : ℕ
+  pub place : ℕ
+  pub searches : AreSearches old r base rounds
+  pub best : IsBestOf base rounds round place
+  pub written : Told (writes r.search (journals base.options 0 rounds) (solution_in base round best.round place)) old new
+
+abbrev pub HaveBegun : RoundsCall → Option Names → Option Names → Type 0
+HaveBegun r old new = HaveSearched BeginsJournal r old new
+
+abbrev pub HaveFoundNone : RoundsCall → Option Names → Option Names → Type 0
+HaveFoundNone r old new = (h : HaveSearched WritesJournal r old new) × HaveNone h.base h.rounds
+
+abbrev pub HaveFound : RoundsCall → Option Names → Option Names → Type 0
+HaveFound r old new = HaveBest BeginsSolution r old new
+
+abbrev pub AreDone : RoundsCall → Option Names → Option Names → List ℕ → Type 0
+AreDone r old new text = (h : HaveBest WritesBoth r old new) × (text ≡ round_text h.base h.round h.best.round h.place)
+
+-- Each case has the whole condition of its status, as that of solve has.
+abbrev pub RoundsEnds : RoundsCall → Option Names → Option Names → Status → List ℕ → Type 0
+-- the journals, the first cheapest feasible timetable and its report are out
+RoundsEnds r old new Done text = AreDone r old new text
+-- the journals are out, and no timetable of any round is feasible
+RoundsEnds r old new NoneFound text = HaveFoundNone r old new × (text ≡ none_found_text)
+RoundsEnds r old new (WriteFault (Some Journal)) text = HaveBegun r old new × (text ≡ unwritten_text r.search.journal)
+RoundsEnds r old new (WriteFault (Some Out)) text = HaveFound r old new × (text ≡ unwritten_text r.search.out)
+-- all is done but that the text couldn't be put out
+RoundsEnds r old new (WriteFault None) text = AreDone r old new text
+RoundsEnds r old new OutOfMemory text = (Told Unchanged old new ⊎ HaveBegun r old new ⊎ HaveFound r old new) × (text ≡ memory_text)
+-- the files aren't as they ought to be
+RoundsEnds r old new status text = Told Unchanged old new × EndsUnread old (solve_reading r.search) status text
