@@ -126,8 +126,11 @@ module _ (taken_law : LegalJournalsAreTaken) (differ : LegalJournalsDiffer) (tex
     best-ends k best Done text calm (d, told) =
         let same = both d.base d.history (one d.read d.base d.history d.given d.taken_is) in
         let place = best-one b H d.place k (subst (λ (t : Base × List Entry). IsBest t.0 t.1 d.place) same d.best) best in
-        inr (refl, told ∙ ap₂ (λ (t : Base × List Entry) (j : ℕ). said t.0 t.1 j) same place,
-        d.written.whole ∙ ap₂ (λ (t : Base × List Entry) (j : ℕ). Some (solution_at t.0 t.1 j)) same place)
+        inr (
+          refl,
+          told ∙ ap₂ (λ (t : Base × List Entry) (j : ℕ). said t.0 t.1 j) same place,
+          d.written.whole ∙ ap₂ (λ (t : Base × List Entry) (j : ℕ). Some (solution_at t.0 t.1 j)) same place,
+        )
     best-ends k best Usage text calm h = absurd h.1
     best-ends k best (ReadFault role) text calm h = absurd calm
     best-ends k best (InstanceRefused e) text calm h = inl (memory-alone (InstanceRefused e) calm (journal-accepted there r found has (InstanceRefused e) text h.1))
@@ -193,8 +196,8 @@ solves-taken-back taken_law differ texts short s r before after there left text 
       salvaged = λ ends. (
         length H,
         ends-as Done (salvaged_text b H k) (salvaged_line (length H) ++ text) (left r.out ≡ Some (solution_at b H k)) (left r.out ≡ after s.out) ended said
-        (ap (λ t. salvaged_line (length H) ++ t) (sym done.said)) out
-        (salvage-best taken_law differ texts short s r before after there left of b H done.search done.written.journal k done.best ended said calm ends),
+            (ap (λ t. salvaged_line (length H) ++ t) (sym done.said)) out
+            (salvage-best taken_law differ texts short s r before after there left of b H done.search done.written.journal k done.best ended said calm ends),
       );
     }
 

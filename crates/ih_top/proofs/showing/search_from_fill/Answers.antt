@@ -39,14 +39,14 @@ returns g c =
     let found = subst (λ es. HasBestOutput b es c.in_ok-best_of.field-0) c.entries-entries.ensures.entries c.in_ok-best_of.ensures in
     let best : HasBestOutput b H (Some c.in-Some.best) = subst (HasBestOutput b H) c.in-Some.is found in
     let demo : IsDemo c.args.number b H = is-demo c.args.number b H
-          (record {
-            instance = c.requires;
-            start = c.in_ok-start.ensures.filled ∙ ap (fill I 100000) c.in_ok-empty.ensures;
-            options = c.demo_options.ensures;
-            freeze = refl;
-          })
-          c.in_ok-book.ensures.full
-          (subst (λ (d : Base). AreExact d H) c.in_ok-book.ensures.base c.entries-entries.ensures.exact) in
+    (record {
+      instance = c.requires;
+      start = c.in_ok-start.ensures.filled ∙ ap (fill I 100000) c.in_ok-empty.ensures;
+      options = c.demo_options.ensures;
+      freeze = refl;
+    })
+    c.in_ok-book.ensures.full
+    (subst (λ (d : Base). AreExact d H) c.in_ok-book.ensures.base c.entries-entries.ensures.exact) in
     record {
       base = b;
       history = H;
@@ -55,6 +55,6 @@ returns g c =
         best.place,
         best.best,
         demo-said c.args.number b H c.entries-entries.result.now best.place c.in_ok-demo_said-in-Some.field-0.items c.in-Some.best.text.items
-        c.entries-entries.ensures.entries best.text c.in_ok-demo_said-in-Some.ensures,
+            c.entries-entries.ensures.entries best.text c.in_ok-demo_said-in-Some.ensures,
       );
     }
