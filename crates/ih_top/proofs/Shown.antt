@@ -1,6 +1,6 @@
 -- A demo's history: that of one worker.
 use Rattle.std.proofs.Common.{◌≡◌, ◌∙◌, ℕ, suc, ◌+◌, refl, ap, ap₂, arith, List, [], ◌∷◌, ◌++◌, append_assoc, length}
-use Rattle.std.specs.Prelude.{cond}
+use Rattle.std.specs.Prelude.{Bool, cond}
 use Rattle.std.proofs.lemmas.List.Sums.{sum_by-cons}
 use Rattle.ih_journal.specs.declared.entries.Entry.{Entry}
 use Rattle.ih_journal.specs.Attempts.{is_stale}
@@ -13,11 +13,15 @@ use Rattle.ih_top.specs.Demo.{IsDemo, IsDemoBase}
 use Rattle.ih_journal.specs.History.{is_accepted}
 use Rattle.ih_top.specs.Texts.{demo_line, demo_text, done_text, is_declined, verdicts_line, verdicts_of}
 
+-- 1 where it is so, else 0
+abbrev bit_of : Bool → ℕ
+bit_of b = cond b 1 0
+
 none-counted : (H : List Entry) → HasNoneStale H → verdicts_of is_stale H ≡ 0
 none-counted [] fresh = refl
 none-counted (e ∷ es) fresh =
-    let split = sum_by-cons (λ (x : Entry). cond (is_stale x.verdict) 1 0) e es in
-    let here : cond (is_stale e.verdict) 1 0 ≡ 0 = ap (λ b. cond b 1 0) (fresh 0 e refl) in
+    let split = sum_by-cons (λ (x : Entry). bit_of (is_stale x.verdict)) e es in
+    let here : bit_of (is_stale e.verdict) ≡ 0 = ap bit_of (fresh 0 e refl) in
     let rest = none-counted es (λ k f at. fresh (suc k) f at) in
     omega (arith, split, here, rest)
 

@@ -29,7 +29,7 @@ returns g c =
     record {
       history = H;
       given = subst IsBase c.in_ok-book.ensures.base c.entries-entries.ensures.base;
-      seed = c.seed_of-_seed.ensures.small;
+      seed = c.seed_of-seed.ensures.small;
       full = c.in_ok-book.ensures.full;
       agrees = subst (λ (d : Base). (k : _) → AgreesBefore d (plan_at d H k)) c.in_ok-book.ensures.base c.entries-entries.ensures.agrees;
       exact = subst (λ (d : Base). AreExact d H) c.in_ok-book.ensures.base c.entries-entries.ensures.exact;
