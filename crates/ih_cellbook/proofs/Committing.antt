@@ -1,9 +1,10 @@
 -- One entry more: its verdict by counters is the one by entries, it is legal, and the counters stay the versions.
 use Rattle.std.proofs.Common.{◌≡◌, ℕ, ◌+◌, ◌<◌, ◌≤◌, refl, arith, sym, ap, ◌∙◌, subst, Bool, true, false, List, [], ◌∷◌, ◌++◌, length, take, drop, inl, inr, Option, Some, None}
-use Rattle.std.specs.Prelude.{if◌then◌else◌, ◌&&◌, ◌==◌, not, map, option_map}
+use Rattle.std.specs.Prelude.{if◌then◌else◌, ◌&&◌, ◌==◌, not, int_lt, map, option_map}
 use Rattle.std.proofs.lemmas.List.{take-append-le, take_all}
 use Rattle.ih_tables.specs.declared.drafts.Draft.{Draft}
 use Rattle.ih_tables.specs.Sizes.{sizes_of}
+use Rattle.ih_tables.specs.Bills.{score}
 use Rattle.ih_plan.specs.declared.moves.Move.{Move}
 use Rattle.ih_plan.specs.Timetable.{Timetable, IsPlanOf}
 use Rattle.ih_plan.specs.Sums.{bit, is_listed, which_below}
@@ -16,12 +17,13 @@ use Rattle.ih_journal.specs.declared.entries.Verdict.TheVariants.{Accepted, Decl
 use Rattle.ih_journal.specs.declared.settings.Options.{Options}
 use Rattle.ih_journal.specs.Attempts.{Attempt, attempt_after, last_by, is_done, next_attempt}
 use Rattle.ih_journal.specs.Base.{Base}
+use Rattle.ih_journal.specs.Settings.{theta}
 use Rattle.ih_journal.specs.History.{is_accepted, plan_at, plan_after, version}
 use Rattle.ih_journal.specs.Legal.{IsLegalButDraw, verdict_on, stale_or_accepted, first_changed}
 use Rattle.ih_journal.proofs.Growth.{AreMovesOf, get-more}
 use Rattle.ih_footprint.proofs.Ranked.{cell_in-in}
 use Rattle.ih_cellbook.specs.declared.offers.Offer.{Offer}
-use Rattle.ih_cellbook.specs.Counters.{first_differing, stale_by, verdict_by_counters, risen_where}
+use Rattle.ih_cellbook.specs.Counters.{first_differing, is_compared, stale_by, verdict_by_counters, risen_where}
 use Rattle.ih_cellbook.specs.Legal.{AreLegalButDraws}
 use Rattle.ih_cellbook.specs.Offers.{IsRightOffer, entry_of, next_number, reads_after}
 use Rattle.ih_cellbook.proofs.Exact.{accepted-local}
@@ -78,7 +80,34 @@ pub verdict-same : (b : Base) (H : List Entry) (counter : ℕ → ℕ) (o : Offe
     → verdict_by_counters b.instance b.options counter o ≡ verdict_on b H o.number o.seen o.mv o.price
 unfolding verdict_by_counters verdict_on
 verdict-same b H counter o versions right =
-    rw (right.frozen, right.reads, stale-same b H counter o.seen o.mv versions) refl
+    by_case o.frozen (int_lt (theta b.options o.number) (score b.options.hard b.instance.weights o.price)) right.reads
+    ∙ ap (λ f. if f then Frozen else told) right.frozen
+  where
+    told : Verdict
+    told =
+        if int_lt (theta b.options o.number) (score b.options.hard b.instance.weights o.price) then Declined
+        else stale_or_accepted b H o.seen (first_changed b.instance (plan_at b H o.seen) (drop o.seen H) o.mv)
+
+    by_case : (f d : Bool) → ((not f && not d) ≡ true → o.reads.pairs ≡ reads_after b (take o.seen H) o.mv)
+        → (if f then Frozen else if d then Declined else stale_by b.instance counter (first_differing counter o.reads.pairs))
+        ≡ (if f then Frozen else if d then Declined else stale_or_accepted b H o.seen (first_changed b.instance (plan_at b H o.seen) (drop o.seen H) o.mv))
+    by_case true d asked = refl
+    by_case false true asked = refl
+    by_case false false asked =
+        ap (λ reads. stale_by b.instance counter (first_differing counter reads)) (asked refl) ∙ stale-same b H counter o.seen o.mv versions
+
+-- what is accepted was compared
+pub accepted-compared : (I : Draft) (options : Options) (counter : ℕ → ℕ) (o : Offer) → is_accepted (verdict_by_counters I options counter o) ≡ true
+    → is_compared I options o.frozen o.number o.price ≡ true
+unfolding verdict_by_counters
+accepted-compared I options counter o =
+    by_case o.frozen (int_lt (theta options o.number) (score options.hard I.weights o.price))
+  where
+    by_case : (f d : Bool) → is_accepted (if f then Frozen else if d then Declined else stale_by I counter (first_differing counter o.reads.pairs)) ≡ true
+        → (not f && not d) ≡ true
+    by_case true d on = absurd (let no : false ≡ true = on in cc)
+    by_case false true on = absurd (let no : false ≡ true = on in cc)
+    by_case false false on = refl
 
 -- ---- the entry
 

@@ -33,11 +33,11 @@ use Rattle.ih_journal.specs.Legal.{IsLegalButDraw, verdict_on}
 use Rattle.ih_journal.proofs.BestLemmas.{best-start, best-more}
 use Rattle.ih_journal.proofs.Growth.{after_entries-plan, last_by-own, last_by-other, plan_after-more, plan_at-plan}
 use Rattle.ih_cellbook.specs.declared.offers.Offer.{Offer}
-use Rattle.ih_cellbook.specs.Counters.{times_read, risen_where, verdict_by_counters}
+use Rattle.ih_cellbook.specs.Counters.{is_compared, times_read, risen_where, verdict_by_counters}
 use Rattle.ih_cellbook.specs.Keeping.{IsBase, AreVersions, AreTries, IsKept}
 use Rattle.ih_cellbook.specs.Laws.{AreFew}
 use Rattle.ih_cellbook.specs.Offers.{IsRightOffer, entry_of, reads_after}
-use Rattle.ih_cellbook.proofs.Committing.{accepted-is, attempt-is, entry-legal, footprint-below, legal_but-moves, legal_but-more, legal_but-none, reads-cells, verdict-same, versions-more}
+use Rattle.ih_cellbook.proofs.Committing.{accepted-compared, accepted-is, attempt-is, entry-legal, footprint-below, legal_but-moves, legal_but-more, legal_but-none, reads-cells, verdict-same, versions-more}
 use Rattle.ih_cellbook.proofs.Exact.{accepted-exact}
 use Rattle.ih_cellbook.proofs.Few.{again-few, legal-few, next-below}
 use Rattle.ih_cellbook.proofs.Times.{times-once}
@@ -173,29 +173,32 @@ module _ (b : Base) (H : List Entry) (cs ts : List ℕ) (now : Bill) (found : Op
         All-cons (λ (r : ℕ × ℕ). r.0 < n) (x, f x) (map (λ i. (i, f i)) xs) (h x (or_left (x == x) (has x xs) (eq-eqb x x refl)))
         (all-below f n xs (λ i there. h i (or_right (x == i) (has i xs) there)))
 
-    pub reads-in : All (λ (r : ℕ × ℕ). r.0 < length cs) o.reads.pairs
-    reads-in = rw (right.reads, kept.versions.len) (all-below (λ n. version b (take o.seen H) (cell_at b.instance n)) (cell_count b.instance) (footprint b.instance (plan_at b H o.seen) o.mv)
-        (footprint-below b.instance (plan_at b H o.seen) o.mv))
+    module _ (asked : is_compared b.instance b.options o.frozen o.number o.price ≡ true) where
+      pub reads-in : All (λ (r : ℕ × ℕ). r.0 < length cs) o.reads.pairs
+      reads-in =
+          rw (right.reads asked, kept.versions.len)
+          (all-below (λ n. version b (take o.seen H) (cell_at b.instance n)) (cell_count b.instance) (footprint b.instance (plan_at b H o.seen) o.mv)
+          (footprint-below b.instance (plan_at b H o.seen) o.mv))
 
-    foot-short : length (footprint b.instance (plan_at b H o.seen) o.mv) ≤ cell_count b.instance
-    unfolding footprint
-    foot-short =
-        let len = length-which_below (cell_count b.instance) (λ n. touches b.instance (plan_at b H o.seen) o.mv (cell_at b.instance n)) in
-        let most = sum_below-le (cell_count b.instance) 1 (λ n. bit (touches b.instance (plan_at b H o.seen) o.mv (cell_at b.instance n))) (λ n h. bit-most (touches b.instance (plan_at b H o.seen) o.mv (cell_at b.instance n))) in
-        omega (arith, len, most)
-      where
-        bit-most : (t : Bool) → bit t ≤ 1
-        bit-most true = omega arith
-        bit-most false = omega arith
+      foot-short : length (footprint b.instance (plan_at b H o.seen) o.mv) ≤ cell_count b.instance
+      unfolding footprint
+      foot-short =
+          let len = length-which_below (cell_count b.instance) (λ n. touches b.instance (plan_at b H o.seen) o.mv (cell_at b.instance n)) in
+          let most = sum_below-le (cell_count b.instance) 1 (λ n. bit (touches b.instance (plan_at b H o.seen) o.mv (cell_at b.instance n))) (λ n h. bit-most (touches b.instance (plan_at b H o.seen) o.mv (cell_at b.instance n))) in
+          omega (arith, len, most)
+        where
+          bit-most : (t : Bool) → bit t ≤ 1
+          bit-most true = omega arith
+          bit-most false = omega arith
 
-    pub counters-rise : (n : ℕ) → slice_index cs n + length o.reads.pairs < 2 ^ 32
-    counters-rise n =
-        let small = counters-small n in
-        let few = few-cells b.instance valid in
-        let short = foot-short in
-        let len = length-map {B = ℕ × ℕ} (footprint b.instance (plan_at b H o.seen) o.mv) (λ n. (n, version b (take o.seen H) (cell_at b.instance n))) in
-        let pairs = ap length right.reads in
-        omega (arith, small, few, short, len, pairs)
+      pub counters-rise : (n : ℕ) → slice_index cs n + length o.reads.pairs < 2 ^ 32
+      counters-rise n =
+          let small = counters-small n in
+          let few = few-cells b.instance valid in
+          let short = foot-short in
+          let len = length-map {B = ℕ × ℕ} (footprint b.instance (plan_at b H o.seen) o.mv) (λ n. (n, version b (take o.seen H) (cell_at b.instance n))) in
+          let pairs = ap length (right.reads asked) in
+          omega (arith, small, few, short, len, pairs)
 
 -- ---- the offer's entry added
 
@@ -243,18 +246,20 @@ module _ (b : Base) (H : List Entry) (cs ts : List ℕ) (now : Bill) (found : Op
 
   module _ (cs' ts' : List ℕ) (now' : Bill) (found' : Option (ℕ × ℤ)) (next : AreNext b H o v cs ts found cs' ts' now' found') (billed : now' ≡ bill_next v now o.price) where
     -- each cell of the footprint is read once
-    rises : (n : ℕ) → n < cell_count b.instance → (t : Bool) → slice_index cs n + (if t then times_read n o.reads.pairs else 0) ≡ risen_where t (slice_index cs) (reads_after b (take o.seen H) o.mv) n
+    rises : (n : ℕ) → n < cell_count b.instance → (t : Bool) → is_accepted v ≡ t
+        → slice_index cs n + (if t then times_read n o.reads.pairs else 0) ≡ risen_where t (slice_index cs) (reads_after b (take o.seen H) o.mv) n
     unfolding footprint
-    rises n below false = omega arith
-    rises n below true =
+    rises n below false off = omega arith
+    rises n below true on =
+        let asked = accepted-compared b.instance b.options (slice_index cs) o (ap is_accepted (sym judged) ∙ on) in
         let once = times-once (cell_count b.instance) n (λ n. version b (take o.seen H) (cell_at b.instance n)) (λ n. touches b.instance (plan_at b H o.seen) o.mv (cell_at b.instance n)) below in
         let keys = reads-cells b (take o.seen H) o.mv in
-        rw (right.reads, keys) (ap (λ k. slice_index cs n + k) once)
+        rw (right.reads asked, keys) (ap (λ k. slice_index cs n + k) once)
 
     versions-next : AreVersions b (H ++ entry_of b H o v ∷ []) cs'
     versions-next = record {
       len = next.len ∙ kept.versions.len;
-      each = λ n below. next.counters n ∙ rises n below (is_accepted v)
+      each = λ n below. next.counters n ∙ rises n below (is_accepted v) refl
           ∙ versions-more b H (entry_of b H o v) (slice_index cs) kept.base.start (legal_but-moves b H kept.legal) legal-next kept.versions.each n below;
     }
 

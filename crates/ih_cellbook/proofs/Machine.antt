@@ -35,7 +35,7 @@ offer_at-right b s w n m may fronts =
       seen = omega (arith, known, most);
       after_own = may.after_own;
       price = refl;
-      reads = refl;
+      reads = λ asked. refl;
       frozen = refl;
     }
 
@@ -110,7 +110,7 @@ module _ (b : Base) (H : List Entry) (o : Offer) (right : IsRightOffer b H o) wh
     seen = right.seen;
     after_own = right.after_own;
     price = refl;
-    reads = refl;
+    reads = λ asked. refl;
     frozen = refl;
   }
 

@@ -61,6 +61,6 @@ right-stays b H es o right none =
       seen = omega (arith, len, seen);
       after_own = seen_own-others o.worker o.seen H es none right.after_own;
       price = right.price ∙ sym (ap (λ P. price_of b.instance P o.mv) there);
-      reads = right.reads ∙ sym (ap (λ G. reads_after b G o.mv) front);
+      reads = λ asked. right.reads asked ∙ sym (ap (λ G. reads_after b G o.mv) front);
       frozen = right.frozen ∙ sym (ap (λ P. is_frozen b P o.mv) there);
     }

@@ -1,7 +1,8 @@
 -- A counter for each cell, by number: how a verdict compares them with the versions read, and which of them rise.
-use Rattle.std.specs.Prelude.{ℕ, ◌+◌, ◌==◌, not, Bool, true, false, List, map, find, Option, Some, None, int_lt, if◌then◌else◌}
+use Rattle.std.specs.Prelude.{ℕ, ◌+◌, ◌==◌, ◌&&◌, not, Bool, true, false, List, map, find, Option, Some, None, int_lt, if◌then◌else◌}
 use Rattle.std.specs.List.{count_by}
 use Rattle.ih_tables.specs.declared.drafts.Draft.{Draft}
+use Rattle.ih_tables.specs.declared.bills.Bill.{Bill}
 use Rattle.ih_tables.specs.Bills.{score}
 use Rattle.ih_plan.specs.Cells.{cell_at}
 use Rattle.ih_plan.specs.Sums.{bit, is_listed}
@@ -19,6 +20,10 @@ first_differing counter reads = find (λ (r : ℕ × ℕ). not (counter r.0 == r
 abbrev pub stale_by : Draft → (ℕ → ℕ) → Option (ℕ × ℕ) → Verdict
 stale_by I counter None = Accepted
 stale_by I counter (Some r) = Stale (cell_at I r.0) r.1 (counter r.0)
+
+-- the versions read decide: the move isn't frozen, and its price's score is at most what its number may cost
+abbrev pub is_compared : Draft → Options → Bool → ℕ → Bill → Bool
+is_compared I o frozen number price = not frozen && not (int_lt (theta o number) (score o.hard I.weights price))
 
 -- The verdict on an offer. It compares numbers, and looks at no timetable and no entry.
 unfoldable pub verdict_by_counters : Draft → Options → (ℕ → ℕ) → Offer → Verdict

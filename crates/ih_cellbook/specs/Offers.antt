@@ -1,5 +1,5 @@
 -- Offers that are right for a history.
-use Rattle.std.specs.Prelude.{◌≡◌, ℕ, ◌<◌, ◌≤◌, List, length, take, map, Option, Some, slice_get, option_map}
+use Rattle.std.specs.Prelude.{◌≡◌, ℕ, ◌<◌, ◌≤◌, true, List, length, take, map, Option, Some, slice_get, option_map}
 use Rattle.ih_plan.specs.Expand.{IsMoveOf}
 use Rattle.ih_plan.specs.Cells.{cell_at}
 use Rattle.ih_plan.specs.Footprint.{footprint}
@@ -13,6 +13,7 @@ use Rattle.ih_journal.specs.Frozen.{is_frozen}
 use Rattle.ih_journal.specs.History.{plan_after, plan_at, version}
 use Rattle.ih_journal.specs.Legal.{price_of}
 use Rattle.ih_cellbook.specs.declared.offers.Offer.{Offer}
+use Rattle.ih_cellbook.specs.Counters.{is_compared}
 
 -- the cells of the move's footprint after the entries, rising by number, each with its version there
 abbrev pub reads_after : Base → List Entry → Move → List (ℕ × ℕ)
@@ -35,7 +36,8 @@ pub record IsRightOffer (b : Base) (H : List Entry) (o : Offer) : Type 0 where
   pub seen : o.seen ≤ length H
   pub after_own : HasSeenOwn H o.worker o.seen
   pub price : o.price ≡ price_of b.instance (plan_at b H o.seen) o.mv
-  pub reads : o.reads.pairs ≡ reads_after b (take o.seen H) o.mv
+  -- asked for only where the offer is neither frozen nor too dear
+  pub reads : is_compared b.instance b.options o.frozen o.number o.price ≡ true → o.reads.pairs ≡ reads_after b (take o.seen H) o.mv
   pub frozen : o.frozen ≡ is_frozen b (plan_at b H o.seen) o.mv
 
 -- the next move of a worker that isn't done, priced on the first `seen` of the entries

@@ -1,11 +1,11 @@
 //! Verdicts by counters, and which counters rise.
 
-ghost use Rattle.std.specs.Prelude.{◌≡◌, ℕ, ◌+◌, ◌<◌, ◌^◌, length, slice_index, if◌then◌else◌, All, IfSome};
+ghost use Rattle.std.specs.Prelude.{◌≡◌, true, ℕ, ◌+◌, ◌<◌, ◌^◌, length, slice_index, if◌then◌else◌, All, IfSome};
 ghost use Rattle.ih_tables.specs.Bills.{IsWithin};
 ghost use Rattle.ih_plan.specs.Cells.{cell_count};
 ghost use Rattle.ih_journal.specs.Settings.{IsLawful};
 ghost use Rattle.ih_journal.specs.History.{is_accepted};
-ghost use Rattle.ih_cellbook.specs.Counters.{first_differing, stale_by, times_read, verdict_by_counters};
+ghost use Rattle.ih_cellbook.specs.Counters.{first_differing, is_compared, stale_by, times_read, verdict_by_counters};
 
 use crate::offers::Offer;
 use crate::reads::Reads;
@@ -50,7 +50,8 @@ pub(crate) fn judge(inst: &Instance, options: &Options, counters: &[u32], offer:
     requires number { offer.now.number < options.now.moves }
     requires price { IsWithin (10 ^ 11) offer.now.price }
     requires count { length counters.now ≡ cell_count inst.now.draft }
-    requires reads { All (λ r. r.0 < length counters.now) offer.now.reads.pairs }
+    requires reads { is_compared inst.now.draft options.now offer.now.frozen offer.now.number offer.now.price ≡ true
+        → All (λ r. r.0 < length counters.now) offer.now.reads.pairs }
     ensures { result ≡ verdict_by_counters inst.now.draft options.now (slice_index counters.now) offer.now }
 {
     if offer.frozen {
@@ -76,8 +77,8 @@ fn raise(counters: &mut [u32], reads: &[(u32, u32)])
 
 /// Where the move was accepted, each counter rises by how often its cell was read.
 pub(crate) fn raise_where(verdict: &Verdict, counters: &mut Vec<u32>, reads: &Reads)
-    requires reads { All (λ r. r.0 < length counters.old.items) reads.now.pairs }
-    requires small { (n : ℕ) → slice_index counters.old.items n + length reads.now.pairs < 2 ^ 32 }
+    requires reads { is_accepted verdict.now ≡ true → All (λ r. r.0 < length counters.old.items) reads.now.pairs }
+    requires small { is_accepted verdict.now ≡ true → (n : ℕ) → slice_index counters.old.items n + length reads.now.pairs < 2 ^ 32 }
     ensures len { length counters.new.items ≡ length counters.old.items }
     ensures each { (n : ℕ) → slice_index counters.new.items n
         ≡ slice_index counters.old.items n + (if is_accepted verdict.now then times_read n reads.now.pairs else 0) }

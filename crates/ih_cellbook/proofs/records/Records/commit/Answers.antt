@@ -11,8 +11,9 @@ use Rattle.ih_cellbook.specs.Offers.{IsRightOffer, entry_of}
 use Rattle.ih_plan.specs.BillOf.{change_of_bill}
 use Rattle.ih_journal.specs.History.{plan_after}
 use Rattle.ih_cellbook.specs.Core.{State, IsLegalState, step, offers}
+use Rattle.ih_journal.specs.History.{is_accepted}
 use Rattle.ih_cellbook.proofs.ExactPrices.{exact-last}
-use Rattle.ih_cellbook.proofs.Committing.{legal_but-moves}
+use Rattle.ih_cellbook.proofs.Committing.{accepted-compared, legal_but-moves}
 use Rattle.ih_cellbook.proofs.Machine.{event-same}
 use Rattle.ih_cellbook.proofs.Kept.{number-below, price-in, reads-in, counters-rise, tries-small, sum-small, has-room, history-short, bill_next, bill-next-in, kept-more, legal-next, verdict-is, entry-is, entry_with}
 use Rattle.ih_cellbook.proofs.records.Records.commit.Goals as goal
@@ -43,12 +44,18 @@ tried-requires c =
 pub raise_where-requires-clause-reads : goal.raise_where-requires-clause-reads
 raise_where-requires-clause-reads c =
     let right = subst (λ (v : Recorded). IsRightOffer v.base v.entries c.args.offer.now) (sym c.self.view_is) c.requires in
-    reads-in _ _ _ _ _ _ c.self.inside.inst.now.valid c.self.invariant.0 c.args.offer.now right
+    let judged : c.judge-verdict.result ≡ verdict_by_counters c.self.inside.inst.now.draft c.self.inside.options (slice_index c.self.inside.counters.items) c.args.offer.now =
+    c.judge-verdict.ensures ∙ ap (λ xs. verdict_by_counters c.self.inside.inst.now.draft c.self.inside.options (slice_index xs) c.args.offer.now) c.as_slice.ensures.value in
+    λ on. reads-in _ _ _ _ _ _ c.self.inside.inst.now.valid c.self.invariant.0 c.args.offer.now right
+    (accepted-compared c.self.inside.inst.now.draft c.self.inside.options (slice_index c.self.inside.counters.items) c.args.offer.now (ap is_accepted (sym judged) ∙ on))
 
 pub raise_where-requires-clause-small : goal.raise_where-requires-clause-small
 raise_where-requires-clause-small c =
     let right = subst (λ (v : Recorded). IsRightOffer v.base v.entries c.args.offer.now) (sym c.self.view_is) c.requires in
-    counters-rise _ _ _ _ _ _ c.self.inside.inst.now.valid c.self.invariant.0 c.args.offer.now right
+    let judged : c.judge-verdict.result ≡ verdict_by_counters c.self.inside.inst.now.draft c.self.inside.options (slice_index c.self.inside.counters.items) c.args.offer.now =
+    c.judge-verdict.ensures ∙ ap (λ xs. verdict_by_counters c.self.inside.inst.now.draft c.self.inside.options (slice_index xs) c.args.offer.now) c.as_slice.ensures.value in
+    λ on. counters-rise _ _ _ _ _ _ c.self.inside.inst.now.valid c.self.invariant.0 c.args.offer.now right
+    (accepted-compared c.self.inside.inst.now.draft c.self.inside.options (slice_index c.self.inside.counters.items) c.args.offer.now (ap is_accepted (sym judged) ∙ on))
 
 pub tries_after-requires : goal.tries_after-requires
 tries_after-requires c =
