@@ -1,6 +1,7 @@
 pub mod CopyLemmas
 pub mod UndoLemmas
 pub mod StandLemmas
+pub mod AtOnceLemmas
 pub mod TouchLemmas
 pub mod ChangeLemmas
 pub mod ChangeSums

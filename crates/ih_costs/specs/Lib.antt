@@ -3,5 +3,5 @@ pub mod CellLedgers
 pub mod ChoiceGain
 pub mod Standing
 pub mod StayGain
-pub mod Touched
+pub mod AtOnce
 pub mod Undo

@@ -5,16 +5,9 @@ ghost use Rattle.ih_plan.specs.declared.moves.Write.TheVariants.{SetCare};
 ghost use Rattle.ih_plan.specs.Writes.{put, IsWriteOf};
 ghost use Rattle.ih_plan.specs.BillOf.{change_of_bill};
 ghost use Rattle.ih_costs.specs.CellLedgers.{AreLedgers, timetable_of};
-ghost use Rattle.ih_costs.specs.ChoiceGain.{ChoicesAreTold};
 
 use crate::cell_ledgers::CellLedgers;
 use ih_tables::{Bill, Instance, NurseNo, RoomNo, Shift};
-
-// Another nurse for a room's shift, or none, changes the bill by what is told of the cells that the choice touches.
-#[allow(dead_code)]
-fn choices_are_told(_inst: &Instance)
-    ensures { ChoicesAreTold _inst.now.draft }
-{}
 
 impl CellLedgers {
     /// What another choice of nurse for a room's shift, or none, changes in the bill. It isn't made.

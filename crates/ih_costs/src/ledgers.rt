@@ -2,7 +2,7 @@
 
 use crate::cell_ledgers::CellLedgers;
 use crate::copies::copy_plan;
-use crate::noting::play_noting;
+use crate::feet::foot_of;
 use crate::pricing::{price_of, price_of_write, put_all};
 use ih_footprint::{CellList, CellSet, Numbering};
 use ih_moves::{Writes, expand};
@@ -19,8 +19,6 @@ pub struct Ledgers<'a> {
     cells: CellLedgers,
     // Room for the writes of a move.
     writes: Writes,
-    // Room for the cells that one write touches.
-    one: CellList,
     // Where the cells of a move are gathered. It has none between calls.
     set: CellSet,
 }
@@ -35,7 +33,7 @@ impl<'a> Model for Ledgers<'a> {
 
     ghost view = { λ l. record { instance = l.inst.now.draft; plan = timetable_of l.cells } };
 
-    ghost invariant = { λ l. AreLedgers l.inst.now.draft l.cells × (l.one.sizes ≡ sizes_of l.inst.now.draft) × (l.set.cells ≡ []) × (l.set.sizes ≡ sizes_of l.inst.now.draft) };
+    ghost invariant = { λ l. AreLedgers l.inst.now.draft l.cells × (l.set.cells ≡ []) × (l.set.sizes ≡ sizes_of l.inst.now.draft) };
 }
 
 impl<'a> Ledgers<'a> {
@@ -61,7 +59,6 @@ impl<'a> Ledgers<'a> {
             inst,
             cells,
             writes: Writes::new(),
-            one: CellList::new(alloc, Numbering::of(inst))?,
             set: CellSet::new(alloc, Numbering::of(inst))?,
         })
     }
@@ -134,19 +131,21 @@ impl<'a> Ledgers<'a> {
         ensures cells { foot.new.cells ≡ footprint self.old.instance self.old.plan mv.now }
         ensures sizes { foot.new.sizes ≡ foot.old.sizes }
     {
-        play_noting(
-            self.inst,
-            &mut self.cells,
-            &mut self.writes,
-            &mut self.set,
-            mv,
-            foot,
-        );
+        self.foot(mv, foot);
+        self.play(mv);
+    }
+
+    /// What a write would add to the bill, number by number: each is at most 10^11 in magnitude. It isn't made.
+    pub fn price_write(&self, w: &Write) -> Bill
+        requires { IsWriteOf self.now.instance w.now }
+        ensures price { result ≡ change_of_bill self.now.instance self.now.plan (put w.now self.now.plan) }
+        ensures within { IsWithin (10 ^ 11) result }
+    {
+        price_of_write(self.inst, &self.cells, w)
     }
 
     /// What a move would add to the bill, number by number: each is at most 10^11 in magnitude. In place of what was listed
     /// there, `foot` has the cells of the move's footprint, rising. The ledgers stand for the same timetable as before.
-    #[inline(always)]
     pub fn price(&mut self, mv: &Move, foot: &mut CellList) -> Bill
         requires move_in { IsMoveOf self.old.instance mv.now }
         requires sizes { foot.old.sizes ≡ sizes_of self.old.instance }
@@ -156,17 +155,36 @@ impl<'a> Ledgers<'a> {
         ensures sizes { foot.new.sizes ≡ foot.old.sizes }
         ensures same { self.new ≡ self.old }
     {
-        let mut price = Bill::zero();
-        price_of(
+        self.foot(mv, foot);
+        self.price_alone(mv)
+    }
+
+    /// The same without the footprint, which `foot` tells.
+    #[inline(always)]
+    pub fn price_alone(&mut self, mv: &Move) -> Bill
+        requires { IsMoveOf self.old.instance mv.now }
+        ensures price { result ≡ change_of_bill self.old.instance self.old.plan (after self.old.instance self.old.plan mv.now) }
+        ensures within { IsWithin (10 ^ 11) result }
+        ensures same { self.new ≡ self.old }
+    {
+        price_of(self.inst, &mut self.cells, &mut self.writes, mv)
+    }
+
+    /// Lists the cells of a move's footprint in `foot`, rising, in place of what was listed there.
+    pub fn foot(&mut self, mv: &Move, foot: &mut CellList)
+        requires move_in { IsMoveOf self.old.instance mv.now }
+        requires sizes { foot.old.sizes ≡ sizes_of self.old.instance }
+        ensures cells { foot.new.cells ≡ footprint self.old.instance self.old.plan mv.now }
+        ensures sizes { foot.new.sizes ≡ foot.old.sizes }
+        ensures same { self.new ≡ self.old }
+    {
+        foot_of(
             self.inst,
-            &mut self.cells,
+            &self.cells,
             &mut self.writes,
-            &mut self.one,
             &mut self.set,
             mv,
             foot,
-            &mut price,
         );
-        price
     }
 }

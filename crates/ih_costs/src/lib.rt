@@ -1,14 +1,15 @@
-//! The price of a move, write by write: ledgers stand for a timetable, try the move and take it back.
+//! The price of a move, write by write, and its footprint: ledgers stand for a timetable, try the move and take it back.
 #![tactic(auto)]
 
 mod cell_ledgers;
 mod choice_prices;
 mod copies;
-mod gains;
+mod feet;
+mod laws;
 mod ledgers;
-mod noting;
 mod pricing;
 mod stay_prices;
 mod stays;
 
+pub use laws::{choices_are_told, moves_touch_at_once, stays_gain};
 pub use ledgers::Ledgers;

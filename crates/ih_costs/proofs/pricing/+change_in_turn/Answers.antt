@@ -6,11 +6,9 @@ use Rattle.ih_plan.specs.BillOf.{change_of_bill}
 use Rattle.ih_plan.proofs.BillBounds.{change-within, within-more}
 use Rattle.ih_plan.proofs.PlanRanges.{put_all-plan}
 use Rattle.ih_costs.specs.CellLedgers.{AreLedgersOf, timetable_of}
-use Rattle.ih_costs.specs.Touched.{listed_or_touched}
 use Rattle.ih_costs.specs.Undo.{undo_of}
 use Rattle.ih_costs.proofs.ChangeSums.{change-then}
 use Rattle.ih_costs.proofs.StandLemmas.{kept, plan-fits}
-use Rattle.ih_costs.proofs.TouchLemmas.{touched-one, touched-more}
 use Rattle.ih_costs.proofs.UndoLemmas.{undone, undo-write}
 use Rattle.ih_costs.proofs.pricing.+change_in_turn.Goals as goal
 
@@ -33,17 +31,8 @@ add-requires t c =
     let made = kept I Q c.put.new.self c.put.ensures in
     let further = c.change_in_turn-further.ensures.change ∙ ap (λ T. change_of_bill I T (put_all ws T)) made in
     let writes : AreWritesOf I (c.args.w.now ∷ ws) = (c.requires.write, subst (AreWritesOf I) c.in-Some.ensures.cases.0 c.requires.writes) in
-    rw (c.change_alone-here.ensures.change, further, change-then I P Q R)
+    rw (c.price_of_write-here.ensures.price, further, change-then I P Q R)
     (within-more (10 ^ 11) (10 ^ 12) (change_of_bill I P R) (omega arith) (change-within I P R valid plan (put_all-plan I P (c.args.w.now ∷ ws) plan writes)))
-
-pub returns-in-None-clause-cells : goal.returns-in-None-clause-cells
-returns-in-None-clause-cells t c =
-    let I = c.args.inst.now.draft in
-    let P = timetable_of c.args.ledgers.now in
-    let w = c.args.w.now in
-    let u = c.args.set.now in
-    let none : c.args.rest.now ≡ [] = nil_from_length c.args.rest.now c.in-None.ensures.cases in
-    touched-one I P u c.change_alone-here.new.set w c.requires.sizes c.change_alone-here.ensures.cells ∙ ap (λ ws. listed_or_touched I P u.cells (w ∷ ws)) (sym none)
 
 pub returns-in-None-clause-change : goal.returns-in-None-clause-change
 returns-in-None-clause-change t c =
@@ -51,7 +40,7 @@ returns-in-None-clause-change t c =
     let P = timetable_of c.args.ledgers.now in
     let w = c.args.w.now in
     let none : c.args.rest.now ≡ [] = nil_from_length c.args.rest.now c.in-None.ensures.cases in
-    c.change_alone-here.ensures.change ∙ ap (λ ws. change_of_bill I P (put_all (w ∷ ws) P)) (sym none)
+    c.price_of_write-here.ensures.price ∙ ap (λ ws. change_of_bill I P (put_all (w ∷ ws) P)) (sym none)
 
 pub returns-in-Some-clause-stands : goal.returns-in-Some-clause-stands
 returns-in-Some-clause-stands t c =
@@ -63,18 +52,6 @@ returns-in-Some-clause-stands t c =
     let undo : c.undo_of-undo.result ≡ undo_of P w = c.undo_of-undo.ensures ∙ ap (λ Q. undo_of Q w) c.plan.ensures in
     subst (λ Q. AreLedgersOf I Q c.put-in-Some.new.self) (ap (put c.undo_of-undo.result) made ∙ (ap (λ u. put u (put w P)) undo ∙ undone P w)) c.put-in-Some.ensures
 
-pub returns-in-Some-clause-cells : goal.returns-in-Some-clause-cells
-returns-in-Some-clause-cells t c =
-    let I = c.args.inst.now.draft in
-    let P = timetable_of c.args.ledgers.now in
-    let w = c.args.w.now in
-    let u = c.args.set.now in
-    let ws = c.in-Some.next.now ∷ c.in-Some.later.now in
-    c.change_in_turn-further.ensures.cells
-    ∙ (ap (λ Q. listed_or_touched I Q c.change_alone-here.new.set.cells ws) (kept I (put w P) c.put.new.self c.put.ensures)
-    ∙ (touched-more I P u c.change_alone-here.new.set w ws c.requires.sizes c.change_alone-here.ensures.cells
-    ∙ ap (λ ws. listed_or_touched I P u.cells (w ∷ ws)) (sym c.in-Some.ensures.cases.0)))
-
 pub returns-in-Some-clause-change : goal.returns-in-Some-clause-change
 returns-in-Some-clause-change t c =
     let I = c.args.inst.now.draft in
@@ -84,7 +61,7 @@ returns-in-Some-clause-change t c =
     let made = kept I (put w P) c.put.new.self c.put.ensures in
     let further = c.change_in_turn-further.ensures.change ∙ ap (λ T. change_of_bill I T (put_all ws T)) made in
     c.add.ensures
-    ∙ (ap (λ b. add_bills b c.change_in_turn-further.result) c.change_alone-here.ensures.change
+    ∙ (ap (λ b. add_bills b c.change_in_turn-further.result) c.price_of_write-here.ensures.price
     ∙ (ap (add_bills (change_of_bill I P (put w P))) further
     ∙ (change-then I P (put w P) (put_all ws (put w P))
     ∙ ap (λ ws. change_of_bill I P (put_all (w ∷ ws) P)) (sym c.in-Some.ensures.cases.0))))

@@ -3,17 +3,8 @@ use Rattle.std.proofs.lemmas.List.{nil_from_length}
 use Rattle.ih_plan.specs.Writes.{put_all}
 use Rattle.ih_plan.specs.BillOf.{change_of_bill}
 use Rattle.ih_costs.specs.CellLedgers.{timetable_of}
-use Rattle.ih_costs.specs.Touched.{listed_or_touched}
 use Rattle.ih_costs.proofs.ChangeSums.{change-same}
-use Rattle.ih_costs.proofs.TouchLemmas.{touched-none}
 use Rattle.ih_costs.proofs.pricing.change_after.Goals as goal
-
-pub returns-in-None-clause-cells : goal.returns-in-None-clause-cells
-returns-in-None-clause-cells c =
-    let I = c.args.inst.now.draft in
-    let P = timetable_of c.args.ledgers.now in
-    let none : c.args.writes.now ≡ [] = nil_from_length c.args.writes.now c.in-None.ensures.cases in
-    c.settle.ensures.cells ∙ (touched-none I P c.args.cells.now c.requires.sizes ∙ ap (listed_or_touched I P c.args.cells.now.cells) (sym none))
 
 pub returns-in-None-clause-change : goal.returns-in-None-clause-change
 returns-in-None-clause-change c =

@@ -1,0 +1,23 @@
+//! The laws that prices and footprints are told by, each on a function that does nothing.
+
+ghost use Rattle.ih_costs.specs.AtOnce.{MovesTouchAtOnce};
+ghost use Rattle.ih_costs.specs.ChoiceGain.{ChoicesAreTold};
+ghost use Rattle.ih_costs.specs.StayGain.{StaysGain};
+
+use ih_tables::Instance;
+
+/// Another stay of a patient changes the bill by the gain of the new stay less that of the old one.
+pub fn stays_gain(_inst: &Instance)
+    ensures { StaysGain _inst.now.draft }
+{}
+
+/// Another nurse for a room's shift, or none, changes the bill by what is told of the cells that the choice touches.
+pub fn choices_are_told(_inst: &Instance)
+    ensures { ChoicesAreTold _inst.now.draft }
+{}
+
+/// The writes of a move touch at the timetable before it what they touch one behind the other: none of them changes what a
+/// later one looks at.
+pub fn moves_touch_at_once(_inst: &Instance)
+    ensures { MovesTouchAtOnce _inst.now.draft }
+{}
