@@ -66,7 +66,7 @@ module _ (b : Base) (H : List Entry) (o : Offer) (w n : ℕ) (idle : IsIdle o w 
         seen = omega (arith, seen, count);
         after_own = λ j e h by. let inside = slice_get_within H j e h in omega (arith, inside, seen, count);
         price = idle.price ∙ rw idle.move (sym (idle-price b.instance (plan_at b H o.seen)));
-        reads = idle.reads ∙ rw (idle.move, idle-foot b.instance (plan_after b (take o.seen H))) refl;
+        reads = λ asked. idle.reads ∙ rw (idle.move, idle-foot b.instance (plan_after b (take o.seen H))) refl;
         frozen = idle.frozen ∙ rw idle.move (sym (idle-free b (plan_at b H o.seen)));
       }
 

@@ -24,7 +24,7 @@ right-first w known = record {
   seen = omega arith;
   after_own = λ j e there own. slice_get_within [] j e there;
   price = refl;
-  reads = refl;
+  reads = λ asked. refl;
   frozen = refl;
 }
 
@@ -38,7 +38,7 @@ right-second = record {
   seen = omega arith;
   after_own = λ j e there own. slice_get_within (changed ∷ []) j e there;
   price = refl;
-  reads = refl;
+  reads = λ asked. refl;
   frozen = refl;
 }
 

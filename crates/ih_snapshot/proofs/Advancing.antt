@@ -53,11 +53,11 @@ module _ (H : List Entry) (r : Snapshot) (stands : IsReplicaOf r.base H r) where
   module _ (e : Entry) (legal : IsLegalButDraw r.base H e) where
     -- an accepted move of the last offer touches the cells that the offer read
     own : is_accepted e.verdict ≡ true → IsOwnRead r.base.instance r.plan r.last e
-    own on seen mv =
+    own on some seen mv =
         let last : IsReadFrom r.base H r.last = stands.last in
         let verdict = legal.verdict in
         let local = accepted-local r.base H e.number e.seen e.mv e.price stands.lawful.start (legal_but-moves r.base H stands.legal) legal.move (sym verdict ∙ accepted-is e.verdict on) in
-        ap keys last.reads
+        ap keys (elim last.reads [ inl none ↦ absurd (let len = ap length none in omega (arith, len)) | inr read ↦ read ])
         ∙ reads-cells r.base (take r.last.seen H) r.last.mv
         ∙ ap (λ n. footprint r.base.instance (plan_at r.base H n) r.last.mv) (sym seen)
         ∙ ap (footprint r.base.instance (plan_at r.base H e.seen)) (sym mv)
@@ -86,7 +86,10 @@ module _ (H : List Entry) (r : Snapshot) (stands : IsReplicaOf r.base H r) where
           let more = length-more H e in
           subst (IsReadFrom r.base (H ++ e ∷ [])) (sym taken.last) (record {
             seen = omega (arith, most, more);
-            reads = stands.last.reads ∙ ap (λ G. reads_after r.base G r.last.mv) (sym (take-append-le r.last.seen H (e ∷ []) most));
+            reads = elim stands.last.reads [
+              | inl none ↦ inl none
+              | inr read ↦ inr (read ∙ ap (λ G. reads_after r.base G r.last.mv) (sym (take-append-le r.last.seen H (e ∷ []) most)))
+            ];
           })
 
       more : IsReplicaOf r.base (H ++ e ∷ []) s

@@ -1,6 +1,6 @@
 -- An offer read off a replica is that after the history that the replica stands for.
-use Rattle.std.proofs.Common.{◌≡◌, ℕ, ◌<◌, arith, refl, sym, ap, ◌∙◌, subst, Bool, false, List, [], ◌∷◌, take, Option, Some, None}
-use Rattle.std.specs.Prelude.{slice_index}
+use Rattle.std.proofs.Common.{◌≡◌, ℕ, ◌<◌, ◌⊎◌, arith, refl, sym, ap, ◌∙◌, subst, Bool, true, false, List, [], ◌∷◌, take, inl, inr, Option, Some, None}
+use Rattle.std.specs.Prelude.{slice_index, if◌then◌else◌}
 use Rattle.std.specs.List.{list_any}
 use Rattle.std.proofs.lemmas.Bool.{le-ltb}
 use Rattle.std.proofs.lemmas.List.{take_all}
@@ -22,15 +22,16 @@ use Rattle.ih_journal.specs.Base.{Base}
 use Rattle.ih_journal.specs.Frozen.{is_before, is_frozen, is_frozen_write}
 use Rattle.ih_journal.specs.History.{plan_after, version}
 use Rattle.ih_journal.specs.Legal.{price_of}
+use Rattle.ih_cellbook.specs.Counters.{is_compared}
 use Rattle.ih_cellbook.specs.Noted.{Noted}
 use Rattle.ih_cellbook.specs.Offers.{IsRightOffer, next_number, reads_after}
 use Rattle.ih_cellbook.proofs.Committing.{footprint-below}
-use Rattle.ih_snapshot.specs.Noting.{offer_of}
+use Rattle.ih_snapshot.specs.Noting.{asks_reads, offer_of, offer_with, reads_of}
 use Rattle.ih_snapshot.specs.Replicas.{IsReplicaOf, IsOfferAfter}
 use Rattle.ih_snapshot.specs.Snapshot.{Snapshot}
 
 module _ (b : Base) (H : List Entry) (r : Snapshot) (n : ℕ) (m : Move) (stands : IsReplicaOf b H r) where
-  reads-are : tagged (slice_index r.versions) (footprint r.base.instance r.plan m) ≡ reads_after b H m
+  reads-are : reads_of r m ≡ reads_after b H m
   reads-are =
       ap (λ c. tagged (slice_index r.versions) (footprint c.instance r.plan m)) stands.base
       ∙ ap (λ P. tagged (slice_index r.versions) (footprint b.instance P m)) stands.plan
@@ -43,6 +44,17 @@ module _ (b : Base) (H : List Entry) (r : Snapshot) (n : ℕ) (m : Move) (stands
   frozen-is : is_frozen r.base r.plan m ≡ is_frozen b (plan_after b H) m
   frozen-is = ap (λ c. is_frozen c r.plan m) stands.base ∙ ap (λ P. is_frozen b P m) stands.plan
 
+  asked-is : (frozen : Bool) (price : Bill)
+      → (if is_compared r.base.instance r.base.options frozen n price then reads_of r m else [])
+      ≡ (if is_compared b.instance b.options frozen n price then reads_after b H m else [])
+  asked-is frozen price =
+      ap (λ (c : Base). if is_compared c.instance c.options frozen n price then reads_of r m else []) stands.base
+      ∙ ap (λ (reads : List (ℕ × ℕ)). if is_compared b.instance b.options frozen n price then reads else []) reads-are
+
+  offered-reads : (offer_of r n m).reads.pairs
+      ≡ (if is_compared b.instance b.options (is_frozen r.base r.plan m) n (price_of r.base.instance r.plan m) then reads_after b H m else [])
+  offered-reads = asked-is (is_frozen r.base r.plan m) (price_of r.base.instance r.plan m)
+
   pub offer-after : IsOfferAfter b H r.worker n m (offer_of r n m)
   offer-after = record {
     worker = refl;
@@ -50,7 +62,7 @@ module _ (b : Base) (H : List Entry) (r : Snapshot) (n : ℕ) (m : Move) (stands
     move = refl;
     seen = stands.seen;
     price = price-is;
-    reads = reads-are;
+    reads = offered-reads;
     frozen = frozen-is;
   }
 
@@ -67,9 +79,13 @@ module _ (b : Base) (H : List Entry) (r : Snapshot) (n : ℕ) (m : Move) (stands
     versions = stands.versions;
     last = record {
       seen = (let same = stands.seen in omega (arith, same));
-      reads = reads-are ∙ ap (λ G. reads_after b G m) (sym whole);
+      reads = by_case (asks_reads r n m);
     };
   }
+    where
+      by_case : (t : Bool) → ((if t then reads_of r m else []) ≡ []) ⊎ ((if t then reads_of r m else []) ≡ reads_after b (take r.seen H) m)
+      by_case true = inr (reads-are ∙ ap (λ G. reads_after b G m) (sym whole))
+      by_case false = inl refl
 
   pub offer-right : IsMoveOf r.base.instance m → r.worker < b.options.workers → next_number b.options H r.worker ≡ Some n → IsRightOffer b H (offer_of r n m)
   offer-right fits worker number =
@@ -82,7 +98,7 @@ module _ (b : Base) (H : List Entry) (r : Snapshot) (n : ℕ) (m : Move) (stands
         seen = omega (arith, same);
         after_own = λ j e there own. let below = slice_get_within H j e there in omega (arith, below, same);
         price = price-is ∙ ap (λ P. price_of b.instance P m) (sym here);
-        reads = reads-are ∙ ap (λ G. reads_after b G m) (sym whole);
+        reads = λ asked. offered-reads ∙ ap (λ (t : Bool). if t then reads_after b H m else []) asked ∙ ap (λ G. reads_after b G m) (sym whole);
         frozen = frozen-is ∙ ap (λ P. is_frozen b P m) (sym here);
       }
 
@@ -103,10 +119,16 @@ none-frozen start (w ∷ ws) = rw (free-write start w, none-frozen start ws) ref
 
 -- a replica whose last offer has these parts
 pub filled : (r : Snapshot) (n : ℕ) (m : Move) (P : Timetable) (price : Bill) (reads : Noted) (frozen : Bool) → P ≡ r.plan → price ≡ price_of r.base.instance r.plan m
-    → reads ≡ record r.last.reads { pairs = tagged (slice_index r.versions) (footprint r.base.instance r.plan m) } → frozen ≡ is_frozen r.base r.plan m
-    → record r { plan = P; last = record { worker = r.worker; number = n; seen = r.seen; mv = m; price = price; reads = reads; frozen = frozen } } ≡ record r { last = offer_of r n m }
+    → reads ≡ record r.last.reads { pairs = [] } → frozen ≡ is_frozen r.base r.plan m
+    → record r { plan = P; last = record { worker = r.worker; number = n; seen = r.seen; mv = m; price = price; reads = reads; frozen = frozen } } ≡ record r { last = offer_with r n m [] }
 filled r n m P price reads frozen plan priced read free = rw (plan, priced, read, free) refl
 
 pub frozen-here : (b : Base) (Q P : Timetable) (m : Move) (frozen : Bool) → frozen ≡ list_any (is_frozen_write b.start b.freeze) (expand b.instance Q m) → Q ≡ P → frozen ≡ is_frozen b P m
 unfolding is_frozen
 frozen-here b Q P m frozen tested same = tested ∙ ap (λ R. list_any (is_frozen_write b.start b.freeze) (expand b.instance R m)) same
+
+-- a replica whose last offer has these cells
+pub read-there : (r : Snapshot) (m : Move) (P : Timetable) (reads : Noted) (wanted : Bool) → wanted ≡ true → P ≡ r.plan → reads ≡ record r.last.reads { pairs = reads_of r m }
+    → record r { plan = P; last = record r.last { reads = reads } }
+    ≡ record r { last = record r.last { reads = record r.last.reads { pairs = if wanted then reads_of r m else r.last.reads.pairs } } }
+read-there r m P reads wanted on plan read = rw (on, plan, read) refl

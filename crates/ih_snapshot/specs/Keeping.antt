@@ -23,9 +23,9 @@ pub record IsOfBase (b : Base) (l : Standing) (vs : List ℕ) (z : Sizes) (o : O
   pub sizes : z ≡ sizes_of b.instance
   pub room : o.reads.room ≡ cell_count b.instance
 
--- If the entry is that of the last offer, the cells that the offer read are those that the entry's move touches at P.
+-- If the entry is that of the last offer, and the offer read any cells, they are those that the entry's move touches at P.
 abbrev pub IsOwnRead : Draft → Timetable → Offer → Entry → Type 0
-IsOwnRead I P last e = e.seen ≡ last.seen → e.mv ≡ last.mv → map (λ (r : ℕ × ℕ). r.0) last.reads.pairs ≡ footprint I P e.mv
+IsOwnRead I P last e = 0 < length last.reads.pairs → e.seen ≡ last.seen → e.mv ≡ last.mv → map (λ (r : ℕ × ℕ). r.0) last.reads.pairs ≡ footprint I P e.mv
 
 -- The entry can be taken over: its move is in range, the counts stay small, and what is the worker's own was read off.
 pub record CanTake (r : Snapshot) (e : Entry) : Type 0 where

@@ -1,5 +1,5 @@
 -- Replicas that stand for a history, and the offers that they make.
-use Rattle.std.specs.Prelude.{◌≡◌, ℕ, ◌<◌, ◌≤◌, ◌++◌, List, length, take, Some}
+use Rattle.std.specs.Prelude.{◌≡◌, ℕ, ◌<◌, ◌≤◌, ◌++◌, ◌⊎◌, List, [], length, take, Some, if◌then◌else◌}
 use Rattle.ih_plan.specs.declared.moves.Move.{Move}
 use Rattle.ih_journal.specs.declared.entries.Entry.{Entry}
 use Rattle.ih_journal.specs.Base.{Base}
@@ -7,15 +7,16 @@ use Rattle.ih_journal.specs.Frozen.{is_frozen}
 use Rattle.ih_journal.specs.History.{plan_after}
 use Rattle.ih_journal.specs.Legal.{price_of}
 use Rattle.ih_cellbook.specs.declared.offers.Offer.{Offer}
+use Rattle.ih_cellbook.specs.Counters.{is_compared}
 use Rattle.ih_cellbook.specs.Keeping.{IsBase, AreVersions}
 use Rattle.ih_cellbook.specs.Legal.{AreLegalButDraws}
 use Rattle.ih_cellbook.specs.Offers.{IsRightOffer, next_number, reads_after}
 use Rattle.ih_snapshot.specs.Snapshot.{Snapshot}
 
--- The offer was read off the timetable and the versions after the entries that it had seen, which are among those of H.
+-- The offer has no cells, or those of its move after the entries that it had seen, which are among those of H.
 pub record IsReadFrom (b : Base) (H : List Entry) (o : Offer) : Type 0 where
   pub seen : o.seen ≤ length H
-  pub reads : o.reads.pairs ≡ reads_after b (take o.seen H) o.mv
+  pub reads : (o.reads.pairs ≡ []) ⊎ (o.reads.pairs ≡ reads_after b (take o.seen H) o.mv)
 
 -- The replica stands for the history H of a search over b.
 pub record IsReplicaOf (b : Base) (H : List Entry) (r : Snapshot) : Type 0 where
@@ -50,7 +51,8 @@ pub record IsOfferAfter (b : Base) (H : List Entry) (w n : ℕ) (m : Move) (o : 
   pub move : o.mv ≡ m
   pub seen : o.seen ≡ length H
   pub price : o.price ≡ price_of b.instance (plan_after b H) m
-  pub reads : o.reads.pairs ≡ reads_after b H m
+  -- none where the verdict doesn't rest on them
+  pub reads : o.reads.pairs ≡ (if is_compared b.instance b.options o.frozen n o.price then reads_after b H m else [])
   pub frozen : o.frozen ≡ is_frozen b (plan_after b H) m
 
 -- Whatever history the replica stands for, the offer is that of its worker after it.

@@ -2,6 +2,7 @@
 
 ghost use Rattle.std.specs.Prelude.{◌≡◌, ℕ, ◌+◌, ◌<◌, ◌^◌, IsTrue, length, slice_index};
 ghost use Rattle.std.specs.List.{list_any};
+ghost use Rattle.ih_tables.specs.Bills.{IsWithin};
 ghost use Rattle.ih_tables.specs.Sizes.{sizes_of};
 ghost use Rattle.ih_plan.specs.Cells.{cell_at, cell_count};
 ghost use Rattle.ih_plan.specs.Expand.{after, expand, IsMoveOf};
@@ -10,16 +11,18 @@ ghost use Rattle.ih_plan.specs.Sums.{bit};
 ghost use Rattle.ih_plan.specs.Timetable.{IsPlanOf};
 ghost use Rattle.ih_plan.specs.Writes.{AreWritesOf};
 ghost use Rattle.ih_journal.specs.Frozen.{is_frozen_write};
+ghost use Rattle.ih_journal.specs.Settings.{IsLawful, theta};
+ghost use Rattle.ih_cellbook.specs.Counters.{is_compared};
 ghost use Rattle.ih_snapshot.specs.Keeping.{IsOwnRead};
 
 use crate::notes::{raise, raise_read};
 use ih_cellbook::Offer;
 use ih_costs::Ledgers;
 use ih_footprint::CellList;
-use ih_journal::{Entry, frozen};
+use ih_journal::{Entry, Options, frozen};
 use ih_moves::{Writes, expand};
 use ih_plan::{Move, Plan, Write};
-use ih_tables::Instance;
+use ih_tables::{Bill, Instance};
 
 // Whether one of the writes is frozen.
 fn any_frozen(inst: &Instance, start: &Plan, freeze: u32, writes: &[Write]) -> bool
@@ -54,15 +57,45 @@ pub(crate) fn is_frozen(
     any_frozen(inst, start, freeze, writes.as_slice())
 }
 
-// Whether the entry is that of the offer.
-fn is_own(offer: &Offer, entry: &Entry) -> bool
-    ensures { IsTrue result → (entry.now.seen ≡ offer.now.seen) × (entry.now.mv ≡ offer.now.mv) }
+// What a move of this number may cost at most: nothing, past the last of them.
+fn most_at(options: &Options, number: u32) -> i64
+    requires { IsLawful options.now }
+    ensures { result ≡ theta options.now number }
 {
-    entry.worker == offer.worker && entry.seen == offer.seen && entry.mv == offer.mv
+    if number < options.moves {
+        options.theta(number)
+    } else {
+        0
+    }
+}
+
+/// Whether the verdict on a move of this number rests on what its price was read from: it isn't frozen, nor too dear.
+pub(crate) fn is_compared(
+    inst: &Instance,
+    options: &Options,
+    frozen: bool,
+    number: u32,
+    price: &Bill,
+) -> bool
+    requires lawful { IsLawful options.now }
+    requires within { IsWithin (10 ^ 11) price.now }
+    ensures { result ≡ is_compared inst.now.draft options.now frozen number price.now }
+{
+    !frozen && price.score(options.hard, inst.weights()) <= most_at(options, number)
+}
+
+// Whether the entry is that of the offer, and the offer read any cells.
+fn is_own(offer: &Offer, entry: &Entry) -> bool
+    ensures { IsTrue result → (0 < length offer.now.reads.pairs) × (entry.now.seen ≡ offer.now.seen) × (entry.now.mv ≡ offer.now.mv) }
+{
+    !offer.reads.as_slice().is_empty()
+        && entry.worker == offer.worker
+        && entry.seen == offer.seen
+        && entry.mv == offer.mv
 }
 
 /// Makes an accepted entry's move, and raises the version of each cell that it touches. Where the entry is that of the
-/// last offer, these are the cells that the offer read: none of them has changed since.
+/// last offer, these are the cells that the offer read, if any: none of them has changed since.
 pub(crate) fn play(
     ledgers: &mut Ledgers<'_>,
     versions: &mut [u32],

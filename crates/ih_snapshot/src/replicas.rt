@@ -3,7 +3,7 @@
 ghost use Rattle.std.specs.Prelude.{◌≡◌, [], IfOk};
 ghost use Rattle.ih_plan.specs.declared.moves.Move.TheVariants.{Idle};
 
-use crate::moves::{is_frozen, play};
+use crate::moves::{is_compared, is_frozen, play};
 use crate::notes::note;
 use ih_cellbook::{Offer, Reads};
 use ih_costs::Ledgers;
@@ -76,14 +76,14 @@ fn first_offer(alloc: Global, worker: u32, cells: u32) -> Result<Offer, AllocErr
 }
 
 impl<'a> Replica<'a> {
-    ghost use Rattle.std.specs.Prelude.{◌≡◌, [], IfOk};
+    ghost use Rattle.std.specs.Prelude.{◌≡◌, [], IfOk, if◌then◌else◌};
     ghost use Rattle.std.specs.Borrow.{sem};
     ghost use Rattle.ih_plan.specs.Timetable.{IsPlanOf};
     ghost use Rattle.ih_plan.specs.Expand.{IsMoveOf};
     ghost use Rattle.ih_journal.specs.Settings.{IsLawful};
     ghost use Rattle.ih_cellbook.specs.Keeping.{base_with};
     ghost use Rattle.ih_snapshot.specs.Keeping.{CanTake, HasTaken};
-    ghost use Rattle.ih_snapshot.specs.Noting.{offer_of};
+    ghost use Rattle.ih_snapshot.specs.Noting.{asks_reads, offer_with, reads_of};
     ghost use Rattle.ih_snapshot.specs.Replicas.{IsReplicaOf, MayFollow, StandsAfter, StandsAs, IsOfferOf, IsRightFor};
     ghost use Rattle.ih_snapshot.specs.Lending.{RestsAs};
 
@@ -140,7 +140,6 @@ impl<'a> Replica<'a> {
         self.versions.as_mut_slice().fill(0);
         self.seen = 0;
         self.last.seen = 0;
-        self.last.mv = Move::Idle;
         self.last.reads.clear();
     }
 
@@ -168,28 +167,31 @@ impl<'a> Replica<'a> {
         self.seen
     }
 
-    /// The offer of its worker for a move of this number, priced after the entries that it stands for: with the cells of
-    /// the move's footprint there, each with its version, and whether the move changes a choice before the freeze day.
+    /// The offer of its worker for a move of this number, priced after the entries that it stands for, and whether the move
+    /// changes a choice before the freeze day. Where it doesn't, and the price's score is at most what its number may cost,
+    /// the offer has the cells of the move's footprint there, each with its version, and else none.
     pub fn price(&mut self, mv: &Move, number: u32) -> &Offer
         requires { IsMoveOf self.old.base.instance mv.now }
         ensures offer { IsOfferOf self.old number mv.now result.now }
         ensures right { IsRightFor self.old number result.now }
         ensures* same { sem 𝓛 (RestsAs self.entry (λ r. (r.base ≡ self.old.base) × (r.worker ≡ self.old.worker) × StandsAs self.old r)) }
     {
-        self.fill(mv, number);
+        let compared = self.fill(mv, number);
+        self.read(mv, compared);
         self.last()
     }
 
-    // Makes the offer for a move of this number the last one.
-    fn fill(&mut self, mv: &Move, number: u32)
+    // Makes the offer for a move of this number the last one, without cells. Answers whether its verdict rests on them.
+    fn fill(&mut self, mv: &Move, number: u32) -> bool
         requires { IsMoveOf self.old.base.instance mv.now }
-        ensures { self.new ≡ record self.old { last = offer_of self.old number mv.now } }
+        ensures made { self.new ≡ record self.old { last = offer_with self.old number mv.now [] } }
+        ensures compared { result ≡ asks_reads self.old number mv.now }
     {
         self.last.worker = self.worker;
         self.last.number = number;
         self.last.seen = self.seen;
         self.last.mv = *mv;
-        self.last.price = self.ledgers.price(mv, &mut self.foot);
+        self.last.price = self.ledgers.price_alone(mv);
         self.last.frozen = is_frozen(
             self.inst,
             &self.start,
@@ -198,11 +200,35 @@ impl<'a> Replica<'a> {
             mv,
             &mut self.writes,
         );
-        note(
-            self.foot.cells(),
-            self.versions.as_slice(),
-            &mut self.last.reads,
-        );
+        self.last.reads.clear();
+        is_compared(
+            self.inst,
+            &self.options,
+            self.last.frozen,
+            number,
+            &self.last.price,
+        )
+    }
+
+    // Notes the cells of a move's footprint in the last offer, where they are wanted.
+    fn read(&mut self, mv: &Move, wanted: bool)
+        requires { IsMoveOf self.old.base.instance mv.now }
+        ensures { self.new ≡ record self.old {
+          last = record self.old.last {
+            reads = record self.old.last.reads {
+              pairs = if wanted then reads_of self.old mv.now else self.old.last.reads.pairs;
+            };
+          };
+        } }
+    {
+        if wanted {
+            self.ledgers.foot(mv, &mut self.foot);
+            note(
+                self.foot.cells(),
+                self.versions.as_slice(),
+                &mut self.last.reads,
+            );
+        }
     }
 
     fn last(&self) -> &Offer

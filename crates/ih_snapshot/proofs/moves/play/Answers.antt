@@ -10,14 +10,14 @@ pub raise_read-requires-clause-reads : goal.raise_read-requires-clause-reads
 raise_read-requires-clause-reads c =
     let v = c.args.ledgers.now in
     let same = c.is_own.ensures c.if-is_own.true in
-    let own : keys c.args.last.now.reads.pairs ≡ footprint v.instance v.plan c.args.entry.now.mv = c.requires.own same.0 same.1 in
+    let own : keys c.args.last.now.reads.pairs ≡ footprint v.instance v.plan c.args.entry.now.mv = c.requires.own same.0 same.1 same.2 in
     rw (c.as_slice.ensures, c.requires.count) (reads-below v.instance v.plan c.args.entry.now.mv c.args.last.now.reads.pairs own)
 
 pub raise_read-requires-clause-small : goal.raise_read-requires-clause-small
 raise_read-requires-clause-small c n =
     let v = c.args.ledgers.now in
     let same = c.is_own.ensures c.if-is_own.true in
-    let own : keys c.args.last.now.reads.pairs ≡ footprint v.instance v.plan c.args.entry.now.mv = c.requires.own same.0 same.1 in
+    let own : keys c.args.last.now.reads.pairs ≡ footprint v.instance v.plan c.args.entry.now.mv = c.requires.own same.0 same.1 same.2 in
     let small = c.requires.small n in
     let short = reads-short v.instance v.plan c.args.entry.now.mv c.args.last.now.reads.pairs own in
     rw c.as_slice.ensures (omega (arith, small, short))
@@ -38,7 +38,7 @@ pub returns-then-is_own-clause-each : goal.returns-then-is_own-clause-each
 returns-then-is_own-clause-each c n h =
     let v = c.args.ledgers.now in
     let same = c.is_own.ensures c.if-is_own.true in
-    let own : keys c.args.last.now.reads.pairs ≡ footprint v.instance v.plan c.args.entry.now.mv = c.requires.own same.0 same.1 in
+    let own : keys c.args.last.now.reads.pairs ≡ footprint v.instance v.plan c.args.entry.now.mv = c.requires.own same.0 same.1 same.2 in
     c.raise_read.ensures.each n
     ∙ ap (λ k. slice_index c.args.versions.now n + k) (ap (times_read n) c.as_slice.ensures ∙ reads-times v.instance v.plan c.args.entry.now.mv c.args.last.now.reads.pairs own n h)
 

@@ -1,32 +1,20 @@
-use Rattle.std.proofs.Common.{◌≡◌, ◌∙◌, ap, subst}
-use Rattle.std.specs.Prelude.{slice_index}
-use Rattle.ih_plan.specs.Footprint.{footprint}
-use Rattle.ih_plan.specs.Sums.{tagged}
+use Rattle.std.proofs.Common.{◌≡◌, ◌∙◌, [], ap, subst}
+use Rattle.ih_tables.specs.declared.bills.Bill.{Bill}
 use Rattle.ih_journal.specs.Legal.{price_of}
+use Rattle.ih_cellbook.specs.Counters.{is_compared}
 use Rattle.ih_cellbook.specs.Keeping.{base_with}
 use Rattle.ih_cellbook.specs.Noted.{Noted}
 use Rattle.ih_costs.specs.Standing.{Standing}
-use Rattle.ih_snapshot.specs.Noting.{offer_of}
+use Rattle.ih_snapshot.specs.Noting.{asks_reads, offer_with}
 use Rattle.ih_snapshot.specs.Snapshot.{Snapshot}
 use Rattle.ih_snapshot.proofs.Pricing.{filled, frozen-here}
-use Rattle.ih_snapshot.proofs.Touching.{listed-below, listed-short}
 use Rattle.ih_snapshot.proofs.replicas.Replica.fill.Goals as goal
 
-pub note-requires-clause-cells : goal.note-requires-clause-cells
-note-requires-clause-cells c =
-    let v = c.self.inside.ledgers in
-    rw c.as_slice.ensures.value
-    (listed-below c.self.inside.inst.now.draft v.instance v.plan c.args.mv.now c.cells.result.now c.self.inside.versions.items
-    (c.cells.ensures.cells ∙ c.price-self-inside.ensures.cells) c.self.invariant.instance c.self.invariant.versions)
+pub is_compared-requires-clause-lawful : goal.is_compared-requires-clause-lawful
+is_compared-requires-clause-lawful c = c.self.invariant.base.lawful
 
-pub note-requires-clause-room : goal.note-requires-clause-room
-note-requires-clause-room c =
-    let v = c.self.inside.ledgers in
-    rw c.self.invariant.room
-    (listed-short c.self.inside.inst.now.draft v.instance v.plan c.args.mv.now c.cells.result.now (c.cells.ensures.cells ∙ c.price-self-inside.ensures.cells) c.self.invariant.instance)
-
-pub returns : goal.returns
-returns c =
+pub returns-clause-made : goal.returns-clause-made
+returns-clause-made c =
     let v = c.self.inside.ledgers in
     let I = c.self.inside.inst.now.draft in
     let m = c.args.mv.now in
@@ -38,14 +26,23 @@ returns c =
       versions = c.self.inside.versions.items;
       last = c.self.inside.last;
     } in
-    let plan : c.price-self-inside.new.self.plan ≡ v.plan = ap (λ (s : Standing). s.plan) c.price-self-inside.ensures.same in
-    let price = c.price-self-inside.ensures.price ∙ ap (λ J. price_of J v.plan m) c.self.invariant.instance in
-    let cells = c.cells.ensures.cells ∙ c.price-self-inside.ensures.cells ∙ ap (λ J. footprint J v.plan m) c.self.invariant.instance in
-    let reads : c.note.new.reads ≡ record c.self.inside.last.reads { pairs = tagged (slice_index c.self.inside.versions.items) (footprint I v.plan m) } =
-    c.note.ensures
-    ∙ ap (λ vs. let w : Noted = record c.self.inside.last.reads { pairs = tagged (slice_index vs) c.cells.result.now } in w) c.as_slice.ensures.value
-    ∙ ap (λ ns. let w : Noted = record c.self.inside.last.reads { pairs = tagged (slice_index c.self.inside.versions.items) ns } in w) cells in
+    let plan : c.price_alone.new.self.plan ≡ v.plan = ap (λ (s : Standing). s.plan) c.price_alone.ensures.same in
+    let price = c.price_alone.ensures.price ∙ ap (λ J. price_of J v.plan m) c.self.invariant.instance in
     let frozen = frozen-here r.base c.plan.result.now v.plan m c.is_frozen-self-inside.result c.is_frozen-self-inside.ensures (c.plan.ensures.value ∙ plan) in
-    let made = filled r c.args.number m c.price-self-inside.new.self.plan c.price-self-inside.result c.note.new.reads c.is_frozen-self-inside.result plan price reads frozen in
-    subst (λ (s : Snapshot). record r { plan = c.price-self-inside.new.self.plan; last = record { worker = r.worker; number = c.args.number; seen = r.seen; mv = m; price = c.price-self-inside.result; reads = c.note.new.reads; frozen = c.is_frozen-self-inside.result } }
-    ≡ record s { last = offer_of s c.args.number m }) c.self.view_is made
+    let made = filled r c.args.number m c.price_alone.new.self.plan c.price_alone.result c.clear.new.self c.is_frozen-self-inside.result plan price c.clear.ensures frozen in
+    subst (λ (s : Snapshot). record r { plan = c.price_alone.new.self.plan; last = record { worker = r.worker; number = c.args.number; seen = r.seen; mv = m; price = c.price_alone.result; reads = c.clear.new.self; frozen = c.is_frozen-self-inside.result } }
+    ≡ record s { last = offer_with s c.args.number m [] }) c.self.view_is made
+
+pub returns-clause-compared : goal.returns-clause-compared
+returns-clause-compared c =
+    let v = c.self.inside.ledgers in
+    let I = c.self.inside.inst.now.draft in
+    let m = c.args.mv.now in
+    let o = c.self.inside.options in
+    let n = c.args.number in
+    let base = base_with I c.self.inside.start o c.self.inside.freeze in
+    let plan : c.price_alone.new.self.plan ≡ v.plan = ap (λ (s : Standing). s.plan) c.price_alone.ensures.same in
+    let price = c.price_alone.ensures.price ∙ ap (λ J. price_of J v.plan m) c.self.invariant.instance in
+    let frozen = frozen-here base c.plan.result.now v.plan m c.is_frozen-self-inside.result c.is_frozen-self-inside.ensures (c.plan.ensures.value ∙ plan) in
+    subst (λ (s : Snapshot). c.is_compared.result ≡ asks_reads s n m) c.self.view_is
+    (c.is_compared.ensures ∙ ap (λ f. is_compared I o f n c.price_alone.result) frozen ∙ ap (λ (p : Bill). is_compared I o _ n p) price)

@@ -17,5 +17,4 @@ returns-clause-replica c =
     (ap (λ (s : Standing). s.plan) c.in_ok-new.ensures)
     (c.in_ok-vec.ensures.items_if_clones_equal (λ y e. e) ∙ ap (λ n. replicate n 0) (c.count-cells.ensures.count ∙ ap count_in c.of-numbering.ensures))
     c.in_ok-first_offer.ensures.seen
-    c.in_ok-first_offer.ensures.mv
     (ap (λ (v : Noted). v.pairs) c.in_ok-first_offer.ensures.reads)

@@ -2,7 +2,6 @@ use Rattle.std.proofs.Common.{◌∙◌, refl, ap, sym, subst, []}
 use Rattle.std.specs.Prelude.{length, replicate}
 use Rattle.std.specs.Vec.{with_items}
 use Rattle.std.proofs.lemmas.List.{with_items_is}
-use Rattle.ih_plan.specs.declared.moves.Move.TheVariants.{Idle}
 use Rattle.ih_cellbook.specs.Keeping.{base_with}
 use Rattle.ih_cellbook.specs.Noted.{Noted}
 use Rattle.ih_costs.specs.Standing.{Standing}
@@ -20,13 +19,12 @@ returns-clause-replica c =
       seen = 0;
       plan = c.copy_from.new.self.plan;
       versions = (with_items c.self.inside.versions c.fill.new.self).items;
-      last = record c.self.inside.last { seen = 0; mv = Idle; reads = c.clear.new.self };
+      last = record c.self.inside.last { seen = 0; reads = c.clear.new.self };
     } in
     subst (λ (r : Snapshot). IsReplicaOf r.base [] s) c.self.view_is
     (stands-empty s.base s c.self.invariant.base refl refl
     (ap (λ (l : Standing). l.plan) c.copy_from.ensures)
     (with_items_is c.self.inside.versions c.fill.new.self (c.fill.ensures.len ∙ here ∙ sym c.self.inside.versions.ok.0)
     ∙ c.fill.ensures.after (λ y e. e) ∙ ap (λ n. replicate n 0) (here ∙ c.self.invariant.versions))
-    refl
     refl
     (ap (λ (v : Noted). v.pairs) c.clear.ensures))
