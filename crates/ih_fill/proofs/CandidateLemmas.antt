@@ -74,5 +74,11 @@ then-least v w xs ys first result a e =
 pub stay-fits : (I : Draft) (p : PatientNo) (at : Placement) → p.0 < patient_count I → IsPlacement I at → IsWriteOf I (SetStay p (Some at))
 stay-fits I p at inside fits = (inside, λ other e. let same : at ≡ other = cc in subst (IsPlacement I) same fits)
 
+pub out-fits : (I : Draft) (p : PatientNo) → p.0 < patient_count I → IsWriteOf I (SetStay p None)
+out-fits I p inside = (inside, λ other e. absurd (let no : None ≡ Some other = e in cc))
+
+pub no-nurse-fits : (I : Draft) (r : RoomNo) (k : Shift) → r.0 < room_count I → k.0 < shift_count I → IsWriteOf I (SetCare r k None)
+no-nurse-fits I r k room shift = (room, shift, λ other e. absurd (let no : None ≡ Some other = e in cc))
+
 pub care-fits : (I : Draft) (r : RoomNo) (k : Shift) (n : NurseNo) → r.0 < room_count I → k.0 < shift_count I → n.0 < nurse_count I → IsWriteOf I (SetCare r k (Some n))
 care-fits I r k n room shift nurse = (room, shift, λ other e. let same : n ≡ other = cc in subst (λ (m : NurseNo). m.0 < nurse_count I) same nurse)

@@ -8,9 +8,9 @@ use Rattle.ih_plan.specs.Timetable.{Timetable, care_of}
 use Rattle.ih_plan.specs.Writes.{put}
 use Rattle.ih_plan.specs.Presence.{present, day_of}
 use Rattle.ih_plan.specs.Costs.{is_empty}
-use Rattle.ih_plan.specs.Fill.{cheapest, stay_writes, care_writes, with_stay, with_stays, with_care, with_cares, waiting, rooms_by_shift, fill}
+use Rattle.ih_plan.specs.Fill.{cheapest, stay_writes, care_writes, with_stay, with_stays, with_care, with_cares, waiting, rooms_by_shift, fill, write_score}
 use Rattle.ih_fill.specs.declared.candidates.Candidate.{Candidate}
-use Rattle.ih_fill.specs.Filling.{Filling, stay_value, care_value}
+use Rattle.ih_fill.specs.Scoring.{Scoring, stay_value, care_value, view_of}
 use Rattle.ih_fill.proofs.CandidateLemmas.{put-least}
 use Rattle.ih_plan.specs.Sums.{which_below}
 use Rattle.ih_plan.proofs.SumLemmas.{which_below-more}
@@ -50,34 +50,37 @@ shifts-more I hard P f k = sym (ap (with_cares I hard P) (flat-more f 0 k k (ome
 
 -- ---- one patient, and one room and shift
 
-pub stay-placed : (F : Filling) (p : PatientNo) (out best : Candidate) → out ≡ valued (stay_value F) (SetStay p None)
+pub stay-placed : (F : Scoring) (p : PatientNo) (out best : Candidate) → F.counts_uncovered ≡ false → out ≡ valued (stay_value F) (SetStay p None)
     → best ≡ valued (stay_value F) (cheapest (stay_value F) out.write (stay_writes F.instance p.0)) → put best.write F.plan ≡ with_stay F.instance F.hard F.plan p.0
 unfolding with_stay stay_value
-stay-placed F p out best e f = ap (λ (c : Candidate). put c.write F.plan) f ∙ ap (λ (c : Candidate). put (cheapest (stay_value F) c.write (stay_writes F.instance p.0)) F.plan) e
+stay-placed F p out best covered e f =
+    ap (λ (c : Candidate). put c.write F.plan) f
+    ∙ (ap (λ (c : Candidate). put (cheapest (stay_value F) c.write (stay_writes F.instance p.0)) F.plan) e
+    ∙ ap (λ counts. put (cheapest (write_score F.instance F.hard (view_of counts) F.plan) (SetStay p None) (stay_writes F.instance p.0)) F.plan) covered)
 
 -- the room has persons and no nurse
-abbrev pub needs_nurse : Filling → ℕ → ℕ → Bool
+abbrev pub needs_nurse : Scoring → ℕ → ℕ → Bool
 needs_nurse F k r = is_none (care_of F.plan r k) && not (is_empty (present F.instance F.plan r (day_of k)))
 
-pub nurse-given : (F : Filling) (k r : ℕ) (best : Option Candidate) → needs_nurse F k r ≡ true → best ≡ least_of (care_value F) (care_writes F.instance r k)
+pub nurse-given : (F : Scoring) (k r : ℕ) (best : Option Candidate) → needs_nurse F k r ≡ true → best ≡ least_of (care_value F) (care_writes F.instance r k)
     → put_candidate best F.plan ≡ with_care F.instance F.hard F.plan k r
 unfolding with_care care_value
 nurse-given F k r best e f = rw e (ap (λ c. put_candidate c F.plan) f ∙ sym (put-least (care_value F) (care_writes F.instance r k) F.plan))
 
-pub nurse-left : (F : Filling) (k r : ℕ) → needs_nurse F k r ≡ false → F.plan ≡ with_care F.instance F.hard F.plan k r
+pub nurse-left : (F : Scoring) (k r : ℕ) → needs_nurse F k r ≡ false → F.plan ≡ with_care F.instance F.hard F.plan k r
 unfolding with_care
 nurse-left F k r e = rw e refl
 
 -- ---- the two passes
 
-pub all-passes : (I : Draft) (hard : ℕ) (P : Timetable) (F0 F1 F2 F3 : Filling) → F0 ≡ record { instance = I; hard = hard; plan = P }
+pub all-passes : (I : Draft) (hard : ℕ) (P : Timetable) (F0 F1 F2 F3 : Scoring) → F0 ≡ record { instance = I; hard = hard; counts_uncovered = false; plan = P }
     → F1 ≡ record F0 { plan = with_stays I F0.hard F0.plan (waiting I P true) }
     → F2 ≡ record F1 { plan = with_stays I F1.hard F1.plan (waiting I P false) }
     → F3 ≡ record F2 { plan = with_cares I F2.hard F2.plan (rooms_by_shift I) }
     → F3.plan ≡ fill I hard P
 unfolding fill
 all-passes I hard P F0 F1 F2 F3 start first second third =
-    ap (λ (F : Filling). F.plan) third
-    ∙ (ap (λ (F : Filling). with_cares I F.hard F.plan (rooms_by_shift I))
-    (second ∙ ap (λ (F : Filling). record F { plan = with_stays I F.hard F.plan (waiting I P false) }) (first ∙ ap (λ (F : Filling). record F { plan = with_stays I F.hard F.plan (waiting I P true) }) start))
+    ap (λ (F : Scoring). F.plan) third
+    ∙ (ap (λ (F : Scoring). with_cares I F.hard F.plan (rooms_by_shift I))
+    (second ∙ ap (λ (F : Scoring). record F { plan = with_stays I F.hard F.plan (waiting I P false) }) (first ∙ ap (λ (F : Scoring). record F { plan = with_stays I F.hard F.plan (waiting I P true) }) start))
     ∙ ap (λ (Q : Timetable). with_cares I hard Q (rooms_by_shift I)) (sym (stays-append I hard P (waiting I P true) (waiting I P false))))

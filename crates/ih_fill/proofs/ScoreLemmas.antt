@@ -9,6 +9,7 @@ use Rattle.ih_tables.specs.declared.bills.Bill.{Bill}
 use Rattle.ih_tables.specs.declared.bills.Weights.{Weights}
 use Rattle.ih_tables.specs.Bills.{at, by_place, signed_sum, sub_bills, score, cost}
 use Rattle.ih_plan.specs.Fill.{without_uncovered}
+use Rattle.ih_fill.specs.Scoring.{view_of}
 
 -- the sums of two pairs are the same
 abbrev pub AreEven : ℤ → ℤ → ℤ → ℤ → Type 0
@@ -111,8 +112,12 @@ ended-even xs ys zs us n k e = elim (cases_lt k n) [
   | inr after ↦ rw (at-end xs n k after, at-end ys n k after, at-end zs n k after, at-end us n k after) refl
 ]
 
-pub covered-balanced : (a b c d : Bill) → AreBalanced a b c d → AreBalanced (without_uncovered a) (without_uncovered b) (without_uncovered c) (without_uncovered d)
+covered-balanced : (a b c d : Bill) → AreBalanced a b c d → AreBalanced (without_uncovered a) (without_uncovered b) (without_uncovered c) (without_uncovered d)
 covered-balanced a b c d h = record { v = λ k below. ended-even a.v b.v c.v d.v 8 k (h.v k below); s = h.s }
+
+pub viewed-balanced : (counts : Bool) (a b c d : Bill) → AreBalanced a b c d → AreBalanced (view_of counts a) (view_of counts b) (view_of counts c) (view_of counts d)
+viewed-balanced true a b c d h = h
+viewed-balanced false a b c d h = covered-balanced a b c d h
 
 -- The first is below the third exactly where the fourth is below the second.
 pub order-even : (x y z u : ℤ) → AreEven x y z u → int_lt x z ≡ int_lt u y

@@ -15,25 +15,25 @@ use Rattle.ih_plan.specs.BillOf.{bill_of}
 use Rattle.ih_plan.specs.Fill.{cheapest}
 use Rattle.ih_fill.specs.declared.candidates.Candidate.{Candidate}
 use Rattle.ih_fill.specs.Candidates.{valued, stays_in, stays_on, rooms_for}
-use Rattle.ih_fill.specs.Filling.{Filling, stay_value}
+use Rattle.ih_fill.specs.Scoring.{Scoring, stay_value, view_of}
 use Rattle.ih_fill.specs.Theatres.{theatre_value, IsFirstLeast}
 use Rattle.ih_fill.proofs.CandidateLemmas.{cheaper, cheapest-append, cheaper-more}
 use Rattle.ih_fill.proofs.CrossedStays.{placed, stayed, bills-balanced}
-use Rattle.ih_fill.proofs.ScoreLemmas.{AreEven, changes-balanced, covered-balanced, scores-even, order-even}
+use Rattle.ih_fill.proofs.ScoreLemmas.{AreEven, changes-balanced, viewed-balanced, scores-even, order-even}
 use Rattle.ih_plan.specs.BillOf.{change_of_bill}
-use Rattle.ih_plan.specs.Fill.{without_uncovered}
 
 -- ---- values
 
-module _ (F : Filling) (p : PatientNo) (plan : IsPlanOf F.instance F.plan) (inside : p.0 < patient_count F.instance) where
+module _ (F : Scoring) (p : PatientNo) (plan : IsPlanOf F.instance F.plan) (inside : p.0 < patient_count F.instance) where
   values-even : (d r s t u : ℕ) → AreEven (theatre_value F p d r t) (theatre_value F p d s u) (theatre_value F p d r u) (theatre_value F p d s t)
   unfolding stay_value
   values-even d r s t u =
       let bill = λ (r t : ℕ). bill_of F.instance (stayed F.plan p (placed d r t)) in
       let change = λ (r t : ℕ). change_of_bill F.instance F.plan (stayed F.plan p (placed d r t)) in
       let now = bill_of F.instance F.plan in
-      scores-even F.hard F.instance.weights (without_uncovered (change r t)) (without_uncovered (change s u)) (without_uncovered (change r u)) (without_uncovered (change s t))
-      (covered-balanced (change r t) (change s u) (change r u) (change s t)
+      let view = view_of F.counts_uncovered in
+      scores-even F.hard F.instance.weights (view (change r t)) (view (change s u)) (view (change r u)) (view (change s t))
+      (viewed-balanced F.counts_uncovered (change r t) (change s u) (change r u) (change s t)
       (changes-balanced (bill r t) (bill s u) (bill r u) (bill s t) now (bills-balanced F.instance F.plan p plan inside d r s t u)))
 
   -- Two theatres compare alike in any two rooms.

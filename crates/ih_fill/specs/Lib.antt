@@ -1,3 +1,3 @@
 pub mod Candidates
-pub mod Filling
+pub mod Scoring
 pub mod Theatres

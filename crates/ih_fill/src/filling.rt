@@ -4,9 +4,9 @@ ghost use Rattle.std.specs.Prelude.{◌≡◌, ◌≤◌, IfOk};
 ghost use Rattle.ih_plan.specs.Timetable.{IsPlanOf};
 ghost use Rattle.ih_plan.specs.Fill.{fill};
 
-use crate::filler::Filler;
 use crate::nurses::cover_all;
 use crate::patients::place_all;
+use crate::scoring::Scorer;
 use ih_plan::Plan;
 use ih_tables::Instance;
 use std::alloc::{AllocError, Global};
@@ -22,9 +22,9 @@ pub fn fill(alloc: Global, inst: &Instance, hard: u32, plan: &Plan) -> Result<Pl
     ensures filled { IfOk result (λ filled. filled ≡ fill inst.now.draft hard plan.now) }
     ensures fits { IfOk result (λ filled. IsPlanOf inst.now.draft filled) }
 {
-    let mut filler = Filler::new(alloc, inst, hard, plan)?;
-    place_all(inst, &mut filler, plan, true);
-    place_all(inst, &mut filler, plan, false);
-    cover_all(inst, &mut filler);
-    filler.plan().try_clone(alloc)
+    let mut scorer = Scorer::new(alloc, inst, hard, false, plan)?;
+    place_all(inst, &mut scorer, plan, true);
+    place_all(inst, &mut scorer, plan, false);
+    cover_all(inst, &mut scorer);
+    scorer.plan().try_clone(alloc)
 }

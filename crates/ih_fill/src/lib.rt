@@ -1,10 +1,15 @@
-//! The greedy first timetable: patients, then nurses, each by the least change of the bill.
+//! The greedy first timetable: patients, then nurses, each by the least change of the bill. What finds the least candidate of
+//! one choice serves others too.
 #![tactic(auto)]
 
 mod candidates;
-mod filler;
 mod filling;
 mod nurses;
 mod patients;
+mod scoring;
 
+pub use candidates::{Candidate, cheaper};
 pub use filling::fill;
+pub use nurses::{cheapest_nurse, is_uncovered};
+pub use patients::{cheapest_stay, is_waiting, suits};
+pub use scoring::Scorer;

@@ -1,6 +1,6 @@
 //! The first pass: each waiting patient gets the cheapest stay, or none.
 
-ghost use Rattle.std.specs.Prelude.{◌≡◌, ◌<◌, ◌==◌, ℕ, not, Some, IfSome, IfNone, slice_get};
+ghost use Rattle.std.specs.Prelude.{◌≡◌, ◌<◌, ◌==◌, ℕ, not, false, Some, IfSome, IfNone, slice_get};
 ghost use Rattle.std.specs.List.{list_any};
 ghost use Rattle.ih_tables.specs.Sizes.{patient_count, room_count, theatre_count};
 ghost use Rattle.ih_tables.specs.declared.ids.RoomNo.{RoomNo};
@@ -8,17 +8,17 @@ ghost use Rattle.ih_plan.specs.Timetable.{IsPlanOf};
 ghost use Rattle.ih_plan.specs.Writes.{IsWriteOf};
 ghost use Rattle.ih_plan.specs.Fill.{cheapest, stay_writes, with_stay, with_stays, waiting};
 ghost use Rattle.ih_fill.specs.Candidates.{valued, stays_on};
-ghost use Rattle.ih_fill.specs.Filling.{stay_value, is_waiting};
+ghost use Rattle.ih_fill.specs.Scoring.{stay_value, is_waiting};
 ghost use Rattle.ih_fill.specs.Theatres.{theatre_value, IsFirstLeast};
 
 use crate::candidates::{Candidate, cheaper};
-use crate::filler::Filler;
+use crate::scoring::Scorer;
 use ih_moves::window_len;
 use ih_plan::{Placement, Plan};
 use ih_tables::{Day, Instance, Patient, PatientNo, RoomNo, TheatreNo};
 
-// Whether the patient may be in the room.
-fn suits(patient: &Patient, room: RoomNo) -> bool
+/// Whether the patient may be in the room.
+pub fn suits(patient: &Patient, room: RoomNo) -> bool
     ensures { result ≡ not (list_any (λ (q : RoomNo). q.0 == room.0) patient.now.incompatible_room_ids) }
 {
     for q in patient.incompatible_room_ids.as_slice() {
@@ -30,45 +30,43 @@ fn suits(patient: &Patient, room: RoomNo) -> bool
 }
 
 // What a stay in the first room from a day on adds to the score, with surgery in a theatre.
-fn stay_value(filler: &mut Filler<'_>, p: PatientNo, day: Day, theatre: u32) -> i64
-    requires patient { p.0 < patient_count filler.old.instance }
-    requires day { day.0 < filler.old.instance.days }
-    requires room { 0 < room_count filler.old.instance }
-    requires theatre { theatre < theatre_count filler.old.instance }
-    ensures value { result ≡ theatre_value filler.old p day.0 0 theatre }
-    ensures same { filler.new ≡ filler.old }
+fn stay_value(scorer: &Scorer<'_>, p: PatientNo, day: Day, theatre: u32) -> i64
+    requires patient { p.0 < patient_count scorer.now.instance }
+    requires day { day.0 < scorer.now.instance.days }
+    requires room { 0 < room_count scorer.now.instance }
+    requires theatre { theatre < theatre_count scorer.now.instance }
+    ensures { result ≡ theatre_value scorer.now p day.0 0 theatre }
 {
     let at = Placement {
         day,
         room: RoomNo(0),
         theatre: TheatreNo(theatre),
     };
-    filler.stay(p, at).value
+    scorer.stay(p, at).value
 }
 
 // The theatre in which a stay from a day on adds least to the score, the first of equal ones, where there is any. What a
 // stay adds is a part by its room and a part by its theatre, so this is the same theatre for every room.
 fn cheapest_theatre(
     inst: &Instance,
-    filler: &mut Filler<'_>,
+    scorer: &Scorer<'_>,
     p: PatientNo,
     day: Day,
 ) -> Option<TheatreNo>
-    requires instance { filler.old.instance ≡ inst.now.draft }
+    requires instance { scorer.now.instance ≡ inst.now.draft }
     requires patient { p.0 < patient_count inst.now.draft }
     requires day { day.0 < inst.now.draft.days }
-    ensures least { IfSome result (λ t. (r : ℕ) → IsFirstLeast (theatre_value filler.old p day.0 r) (theatre_count inst.now.draft) t.0) }
+    ensures least { IfSome result (λ t. (r : ℕ) → IsFirstLeast (theatre_value scorer.now p day.0 r) (theatre_count inst.now.draft) t.0) }
     ensures none { IfNone result (theatre_count inst.now.draft ≡ 0) }
-    ensures same { filler.new ≡ filler.old }
 {
-    filler.fits();
+    scorer.fits();
     if inst.theatres() == 0 {
         return None;
     }
     let mut best = 0;
-    let mut least = stay_value(filler, p, day, 0);
+    let mut least = stay_value(scorer, p, day, 0);
     for t in 1..inst.theatres() {
-        let value = stay_value(filler, p, day, t);
+        let value = stay_value(scorer, p, day, t);
         if value < least {
             best = t;
             least = value;
@@ -80,29 +78,28 @@ fn cheapest_theatre(
 // The cheapest of the one before and the stays from a day on, where the theatre is the cheapest one.
 fn cheapest_on(
     inst: &Instance,
-    filler: &mut Filler<'_>,
+    scorer: &Scorer<'_>,
     p: PatientNo,
     patient: &Patient,
     day: Day,
     theatre: TheatreNo,
     before: Candidate,
 ) -> Candidate
-    requires instance { filler.old.instance ≡ inst.now.draft }
+    requires instance { scorer.now.instance ≡ inst.now.draft }
     requires patient { p.0 < patient_count inst.now.draft }
     requires day { day.0 < inst.now.draft.days }
-    requires theatre { (r : ℕ) → IsFirstLeast (theatre_value filler.old p day.0 r) (theatre_count inst.now.draft) theatre.0 }
-    requires before { before ≡ valued (stay_value filler.old) before.write }
+    requires theatre { (r : ℕ) → IsFirstLeast (theatre_value scorer.now p day.0 r) (theatre_count inst.now.draft) theatre.0 }
+    requires before { before ≡ valued (stay_value scorer.now) before.write }
     requires fits { IsWriteOf inst.now.draft before.write }
-    ensures least { result ≡ valued (stay_value filler.old) (cheapest (stay_value filler.old) before.write (stays_on inst.now.draft p patient.now day.0 (room_count inst.now.draft))) }
+    ensures least { result ≡ valued (stay_value scorer.now) (cheapest (stay_value scorer.now) before.write (stays_on inst.now.draft p patient.now day.0 (room_count inst.now.draft))) }
     ensures fits { IsWriteOf inst.now.draft result.write }
-    ensures same { filler.new ≡ filler.old }
 {
     let mut best = before;
     for r in 0..inst.rooms() {
         let room = RoomNo(r);
         if suits(patient, room) {
             let at = Placement { day, room, theatre };
-            best = cheaper(best, filler.stay(p, at));
+            best = cheaper(best, scorer.stay(p, at));
         }
     }
     best
@@ -111,64 +108,63 @@ fn cheapest_on(
 // The cheapest of the one before and the stays from a day on.
 fn cheapest_on_day(
     inst: &Instance,
-    filler: &mut Filler<'_>,
+    scorer: &Scorer<'_>,
     p: PatientNo,
     patient: &Patient,
     day: Day,
     before: Candidate,
 ) -> Candidate
-    requires instance { filler.old.instance ≡ inst.now.draft }
+    requires instance { scorer.now.instance ≡ inst.now.draft }
     requires patient { p.0 < patient_count inst.now.draft }
     requires day { day.0 < inst.now.draft.days }
-    requires before { before ≡ valued (stay_value filler.old) before.write }
+    requires before { before ≡ valued (stay_value scorer.now) before.write }
     requires fits { IsWriteOf inst.now.draft before.write }
-    ensures least { result ≡ valued (stay_value filler.old) (cheapest (stay_value filler.old) before.write (stays_on inst.now.draft p patient.now day.0 (room_count inst.now.draft))) }
+    ensures least { result ≡ valued (stay_value scorer.now) (cheapest (stay_value scorer.now) before.write (stays_on inst.now.draft p patient.now day.0 (room_count inst.now.draft))) }
     ensures fits { IsWriteOf inst.now.draft result.write }
-    ensures same { filler.new ≡ filler.old }
 {
-    match cheapest_theatre(inst, filler, p, day) {
+    match cheapest_theatre(inst, scorer, p, day) {
         None => before,
-        Some(theatre) => cheapest_on(inst, filler, p, patient, day, theatre, before),
+        Some(theatre) => cheapest_on(inst, scorer, p, patient, day, theatre, before),
     }
 }
 
-// The cheapest of the one before and the stays from any day of the window on.
-fn cheapest_stay(
+/// The cheapest of the one before and the stays from any day of the window on: the first on a tie.
+pub fn cheapest_stay(
     inst: &Instance,
-    filler: &mut Filler<'_>,
+    scorer: &Scorer<'_>,
     p: PatientNo,
     patient: &Patient,
     before: Candidate,
 ) -> Candidate
-    requires instance { filler.old.instance ≡ inst.now.draft }
+    requires instance { scorer.now.instance ≡ inst.now.draft }
     requires patient { slice_get inst.now.draft.patients p.0 ≡ Some patient.now }
-    requires before { before ≡ valued (stay_value filler.old) before.write }
+    requires before { before ≡ valued (stay_value scorer.now) before.write }
     requires fits { IsWriteOf inst.now.draft before.write }
-    ensures least { result ≡ valued (stay_value filler.old) (cheapest (stay_value filler.old) before.write (stay_writes inst.now.draft p.0)) }
+    ensures least { result ≡ valued (stay_value scorer.now) (cheapest (stay_value scorer.now) before.write (stay_writes inst.now.draft p.0)) }
     ensures fits { IsWriteOf inst.now.draft result.write }
-    ensures same { filler.new ≡ filler.old }
 {
     let mut best = before;
     for later in 0..window_len(inst, patient) {
         let day = Day(patient.surgery_release_day + later);
-        best = cheapest_on_day(inst, filler, p, patient, day, best);
+        best = cheapest_on_day(inst, scorer, p, patient, day, best);
     }
     best
 }
 
 // Gives the patient the cheapest stay, where one costs less than none.
-fn place(inst: &Instance, filler: &mut Filler<'_>, p: PatientNo)
-    requires instance { filler.old.instance ≡ inst.now.draft }
+fn place(inst: &Instance, scorer: &mut Scorer<'_>, p: PatientNo)
+    requires instance { scorer.old.instance ≡ inst.now.draft }
+    requires counts { scorer.old.counts_uncovered ≡ false }
     requires patient { p.0 < patient_count inst.now.draft }
-    ensures { filler.new ≡ record filler.old { plan = with_stay inst.now.draft filler.old.hard filler.old.plan p.0 } }
+    ensures { scorer.new ≡ record scorer.old { plan = with_stay inst.now.draft scorer.old.hard scorer.old.plan p.0 } }
 {
-    let out = filler.left_out(p);
-    let best = cheapest_stay(inst, filler, p, inst.patient(p), out);
-    filler.put(&best.write);
+    let out = scorer.left_out(p);
+    let best = cheapest_stay(inst, scorer, p, inst.patient(p), out);
+    scorer.put(&best.write);
 }
 
-// Whether the patient isn't admitted in the timetable, and is of the mandatory or of the optional ones.
-fn is_waiting(inst: &Instance, plan: &Plan, p: PatientNo, mandatory: bool) -> bool
+/// Whether the patient isn't admitted in the timetable, and is of the mandatory or of the optional ones.
+pub fn is_waiting(inst: &Instance, plan: &Plan, p: PatientNo, mandatory: bool) -> bool
     requires plan { IsPlanOf inst.now.draft plan.now }
     requires patient { p.0 < patient_count inst.now.draft }
     ensures { result ≡ is_waiting inst.now.draft plan.now mandatory p.0 }
@@ -177,15 +173,16 @@ fn is_waiting(inst: &Instance, plan: &Plan, p: PatientNo, mandatory: bool) -> bo
 }
 
 /// Admits, in their order, the mandatory or the optional patients who aren't admitted in a timetable.
-pub fn place_all(inst: &Instance, filler: &mut Filler<'_>, plan: &Plan, mandatory: bool)
-    requires instance { filler.old.instance ≡ inst.now.draft }
+pub fn place_all(inst: &Instance, scorer: &mut Scorer<'_>, plan: &Plan, mandatory: bool)
+    requires instance { scorer.old.instance ≡ inst.now.draft }
+    requires counts { scorer.old.counts_uncovered ≡ false }
     requires plan { IsPlanOf inst.now.draft plan.now }
-    ensures { filler.new ≡ record filler.old { plan = with_stays inst.now.draft filler.old.hard filler.old.plan (waiting inst.now.draft plan.now mandatory) } }
+    ensures { scorer.new ≡ record scorer.old { plan = with_stays inst.now.draft scorer.old.hard scorer.old.plan (waiting inst.now.draft plan.now mandatory) } }
 {
     for p in 0..inst.patients() {
         let p = PatientNo(p);
         if is_waiting(inst, plan, p, mandatory) {
-            place(inst, filler, p);
+            place(inst, scorer, p);
         }
     }
 }

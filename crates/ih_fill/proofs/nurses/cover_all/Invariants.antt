@@ -7,4 +7,4 @@ use Rattle.ih_fill.specs.Candidates.{rooms_in}
 use Rattle.ih_fill.proofs.nurses.cover_all.Given as goal
 
 abbrev pub invariant-loop-k : goal.invariant-loop-k
-invariant-loop-k l = l.filler ≡ record l.fn.filler { plan = with_cares l.inst.draft l.fn.filler.hard l.fn.filler.plan (flat_map (λ k. rooms_in k (room_count l.inst.draft)) (range_with_len 0 l.k)) }
+invariant-loop-k l = l.scorer ≡ record l.fn.scorer { plan = with_cares l.inst.draft l.fn.scorer.hard l.fn.scorer.plan (flat_map (λ k. rooms_in k (room_count l.inst.draft)) (range_with_len 0 l.k)) }

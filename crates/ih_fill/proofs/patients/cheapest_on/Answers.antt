@@ -7,7 +7,7 @@ use Rattle.ih_plan.specs.Writes.{IsWriteOf}
 use Rattle.ih_plan.specs.Fill.{cheapest}
 use Rattle.ih_fill.specs.declared.candidates.Candidate.{Candidate}
 use Rattle.ih_fill.specs.Candidates.{valued, stays_in, rooms_for}
-use Rattle.ih_fill.specs.Filling.{Filling, stay_value}
+use Rattle.ih_fill.specs.Scoring.{stay_value}
 use Rattle.ih_fill.proofs.CandidateLemmas.{then-least, cheaper-either, stay-fits}
 use Rattle.ih_fill.proofs.TheatreLemmas.{only-first, cheaper-one}
 use Rattle.ih_fill.proofs.ListLemmas.{suits, on-more, on-same}
@@ -19,23 +19,22 @@ stay-requires-clause-placed c =
     let below = c.loop-r-test.true in
     let count = c.rooms-r-end.ensures in
     let inside : c.loop-r.r < room_count c.args.inst.now.draft = omega (arith, below, count) in
-    rw (c.loop-r.invariant.same, c.requires.instance) (record { day = c.requires.day; room = inside; theatre = (c.requires.theatre c.loop-r.r).inside })
+    rw c.requires.instance (record { day = c.requires.day; room = inside; theatre = (c.requires.theatre c.loop-r.r).inside })
 
 pub loop-r-preserved : goal.loop-r-preserved
 loop-r-preserved c =
     let I = c.args.inst.now.draft in
-    let F = c.args.filler.now in
+    let F = c.args.scorer.now in
     let a = c.args.patient.now in
     let r = c.loop-r.r in
     let f : ℕ → List Write = λ r. stays_in c.args.p c.args.day.0 r (theatre_count I) in
     let before = c.args.before.write in
-    let here = c.loop-r.invariant.same in
     elim c.if-suits.branch [
       | then-suits w ↦
           let yes : suits a r ≡ true = sym c.suits.ensures ∙ w.if-suits.true in
           let at : ℕ → Write = λ t. SetStay c.args.p (Some (record { day = c.args.day; room = record { 0 = r }; theatre = record { 0 = t } })) in
           let t = c.args.theatre.0 in
-          let second : w.stay.result ≡ valued (stay_value F) (at t) = w.stay.ensures.candidate ∙ ap (λ (G : Filling). valued (stay_value G) (at t)) here in
+          let second : w.stay.result ≡ valued (stay_value F) (at t) = w.stay.ensures in
           let one : w.cheaper-best.result ≡ valued (stay_value F) (cheapest (stay_value F) c.loop-r.best.write (at t ∷ [])) =
           cheaper-one (stay_value F) (cheapest (stay_value F) before (flat_map f (rooms_for a r))) (at t) c.loop-r.best w.stay.result w.cheaper-best.result c.loop-r.invariant.least second w.cheaper-best.ensures in
           let found : w.cheaper-best.result ≡ valued (stay_value F) (cheapest (stay_value F) c.loop-r.best.write (f r)) =
@@ -49,13 +48,11 @@ loop-r-preserved c =
                 ∙ ap (λ ws. valued (stay_value F) (cheapest (stay_value F) before ws)) (sym (on-more f a r yes)));
             fits = subst (λ (b : Candidate). IsWriteOf I b.write) (sym (w.best-is ∙ w.cheaper-best.ensures))
                 (cheaper-either (IsWriteOf I) c.loop-r.best w.stay.result c.loop-r.invariant.fits (subst (λ (b : Candidate). IsWriteOf I b.write) (sym second) fits));
-            same = w.filler-is ∙ (w.stay.ensures.same ∙ here);
           }
       | else-suits w ↦
           let no : suits a r ≡ false = sym c.suits.ensures ∙ w.if-suits.false in
           record {
             least = w.best-is ∙ (c.loop-r.invariant.least ∙ ap (λ ws. valued (stay_value F) (cheapest (stay_value F) before ws)) (sym (on-same f a r no)));
             fits = subst (λ (b : Candidate). IsWriteOf I b.write) (sym w.best-is) c.loop-r.invariant.fits;
-            same = w.filler-is ∙ here;
           }
     ]

@@ -1,13 +1,12 @@
 use Rattle.std.proofs.Common.{◌≡◌}
 use Rattle.ih_plan.specs.Writes.{IsWriteOf}
 use Rattle.ih_plan.specs.Fill.{cheapest}
-use Rattle.ih_fill.specs.Filling.{stay_value}
+use Rattle.ih_fill.specs.Scoring.{stay_value}
 use Rattle.ih_fill.specs.Candidates.{valued, stays_on}
 use Rattle.ih_fill.proofs.patients.cheapest_on.Given as goal
 
 abbrev pub invariant-loop-r : goal.invariant-loop-r
 invariant-loop-r l = record {
-  least : l.best ≡ valued (stay_value l.fn.filler) (cheapest (stay_value l.fn.filler) l.fn.before.write (stays_on l.inst.draft l.p l.patient l.day.0 l.r));
+  least : l.best ≡ valued (stay_value l.scorer) (cheapest (stay_value l.scorer) l.fn.before.write (stays_on l.inst.draft l.p l.patient l.day.0 l.r));
   fits : IsWriteOf l.inst.draft l.best.write;
-  same : l.filler ≡ l.fn.filler;
 }

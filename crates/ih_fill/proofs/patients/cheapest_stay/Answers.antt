@@ -6,33 +6,29 @@ use Rattle.ih_plan.specs.declared.moves.Write.{Write}
 use Rattle.ih_plan.specs.Draws.{window_len}
 use Rattle.ih_plan.specs.Fill.{cheapest}
 use Rattle.ih_fill.specs.Candidates.{valued, stays_on}
-use Rattle.ih_fill.specs.Filling.{Filling, stay_value}
+use Rattle.ih_fill.specs.Scoring.{stay_value}
 use Rattle.ih_fill.proofs.CandidateLemmas.{then-least}
 use Rattle.ih_fill.proofs.ListLemmas.{flat-more, stays-are}
 use Rattle.ih_fill.proofs.patients.cheapest_stay.Goals as goal
 
 pub loop-later-preserved : goal.loop-later-preserved
 loop-later-preserved c =
-    let F = c.args.filler.now in
+    let F = c.args.scorer.now in
     let a = c.args.patient.now in
     let n = c.loop-later.later in
     let from = a.surgery_release_day in
     let f : ℕ → List Write = λ d. stays_on c.args.inst.now.draft c.args.p a d (room_count c.args.inst.now.draft) in
     let before = c.args.before.write in
-    let here = c.loop-later.invariant.same in
-    let found : c.cheapest_on_day-best.result ≡ valued (stay_value F) (cheapest (stay_value F) c.loop-later.best.write (f (from + n))) =
-    c.cheapest_on_day-best.ensures.least ∙ ap (λ (G : Filling). valued (stay_value G) (cheapest (stay_value G) c.loop-later.best.write (f (from + n)))) here in
     record {
-      least = then-least (stay_value F) before (flat_map f (range_with_len from n)) (f (from + n)) c.loop-later.best c.cheapest_on_day-best.result c.loop-later.invariant.least found
+      least = then-least (stay_value F) before (flat_map f (range_with_len from n)) (f (from + n)) c.loop-later.best c.cheapest_on_day-best.result c.loop-later.invariant.least c.cheapest_on_day-best.ensures.least
           ∙ ap (λ ws. valued (stay_value F) (cheapest (stay_value F) before ws)) (sym (flat-more f from n (from + n) refl));
       fits = c.cheapest_on_day-best.ensures.fits;
-      same = c.cheapest_on_day-best.ensures.same ∙ here;
     }
 
 pub returns-clause-least : goal.returns-clause-least
 returns-clause-least c =
     let I = c.args.inst.now.draft in
-    let F = c.args.filler.now in
+    let F = c.args.scorer.now in
     let a = c.args.patient.now in
     let last = c.loop-later-test.false in
     let end = c.loop-later.auto.later-end in

@@ -4,14 +4,13 @@ use Rattle.ih_tables.specs.Sizes.{room_count}
 use Rattle.std.proofs.Common.{◌≡◌}
 use Rattle.ih_plan.specs.Writes.{IsWriteOf}
 use Rattle.ih_plan.specs.Fill.{cheapest}
-use Rattle.ih_fill.specs.Filling.{stay_value}
+use Rattle.ih_fill.specs.Scoring.{stay_value}
 use Rattle.ih_fill.specs.Candidates.{valued, stays_on}
 use Rattle.ih_fill.proofs.patients.cheapest_stay.Given as goal
 
 abbrev pub invariant-loop-later : goal.invariant-loop-later
 invariant-loop-later l = record {
-  least : l.best ≡ valued (stay_value l.fn.filler) (cheapest (stay_value l.fn.filler) l.fn.before.write
+  least : l.best ≡ valued (stay_value l.scorer) (cheapest (stay_value l.scorer) l.fn.before.write
       (flat_map (λ d. stays_on l.inst.draft l.p l.patient d (room_count l.inst.draft)) (range_with_len l.patient.surgery_release_day l.later)));
   fits : IsWriteOf l.inst.draft l.best.write;
-  same : l.filler ≡ l.fn.filler;
 }

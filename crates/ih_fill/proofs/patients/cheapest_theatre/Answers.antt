@@ -7,7 +7,7 @@ use Rattle.ih_fill.proofs.patients.cheapest_theatre.Goals as goal
 
 pub returns-clause-least : goal.returns-clause-least
 returns-clause-least c =
-    let F = c.args.filler.now in
+    let F = c.args.scorer.now in
     let last = c.loop-t-test.false in
     let end = c.loop-t.auto.t-end in
     let count = c.theatres-t-end.ensures in

@@ -5,7 +5,7 @@ use Rattle.std.specs.Prelude.{FitsSigned}
 use Rattle.ih_fill.specs.declared.candidates.Candidate.{Candidate}
 use Rattle.ih_fill.proofs.patients.stay_value.Goals as goal
 
-pub returns-clause-value : goal.returns-clause-value
-returns-clause-value c =
+pub returns : goal.returns
+returns c =
     let fits : FitsSigned w64 c.stay.result.value = search rules in
-    rw (to_z-of_z w64 c.stay.result.value fits) (ap (λ (x : Candidate). x.value) c.stay.ensures.candidate)
+    rw (to_z-of_z w64 c.stay.result.value fits) (ap (λ (x : Candidate). x.value) c.stay.ensures)

@@ -1,6 +1,6 @@
 use Rattle.std.proofs.Common.{rules, ◌≡◌, length, pos, ap}
 use Rattle.ih_fill.proofs.ValueLemmas.{set-last}
-use Rattle.ih_fill.proofs.filler.without_uncovered.Goals as goal
+use Rattle.ih_fill.proofs.scoring.without_uncovered.Goals as goal
 
 pub returns-clause-value : goal.returns-clause-value
 returns-clause-value c =

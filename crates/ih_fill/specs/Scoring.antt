@@ -1,0 +1,40 @@
+-- A timetable, and what writes add to its score.
+use Rattle.std.specs.Prelude.{◌≡◌, ◌≤◌, ℕ, ℤ, Bool, true, false, ◌&&◌, not, is_none, slice_get, if◌then◌else◌}
+use Rattle.std.specs.Option.{option_map_or}
+use Rattle.ih_tables.specs.declared.drafts.Draft.{Draft}
+use Rattle.ih_tables.specs.declared.drafts.Patient.{Patient}
+use Rattle.ih_tables.specs.declared.bills.Bill.{Bill}
+use Rattle.ih_plan.specs.declared.moves.Write.{Write}
+use Rattle.ih_plan.specs.Timetable.{Timetable, stay_of}
+use Rattle.ih_plan.specs.Fill.{write_score, without_uncovered}
+use Rattle.ih_costs.specs.Standing.{Standing}
+
+-- The instance, the weight of a broken rule in a score, whether rooms without nurses count in what a stay adds, and the timetable.
+pub record Scoring : Type 0 where
+  pub instance : Draft
+  pub hard : ℕ
+  pub counts_uncovered : Bool
+  pub plan : Timetable
+
+-- what is seen of a bill where rooms without nurses count, and where they don't
+abbrev pub view_of : Bool → Bill → Bill
+view_of true = λ b. b
+view_of false = without_uncovered
+
+-- the score of what a stay changes in the bill
+unfoldable pub stay_value : Scoring → Write → ℤ
+stay_value F w = write_score F.instance F.hard (view_of F.counts_uncovered) F.plan w
+
+-- the score of what a nurse changes in the bill
+unfoldable pub care_value : Scoring → Write → ℤ
+care_value F w = write_score F.instance F.hard (λ b. b) F.plan w
+
+-- patient p isn't admitted, and is of the mandatory ones or of the optional ones
+abbrev pub is_waiting : Draft → Timetable → Bool → ℕ → Bool
+is_waiting I P mandatory p =
+    is_none (stay_of P p) && option_map_or (λ (a : Patient). if mandatory then a.mandatory else not a.mandatory) (slice_get I.patients p) false
+
+-- The ledgers are the instance's, and the weight is in its limits.
+pub record IsScoring (I : Draft) (hard : ℕ) (ledgers : Standing) : Type 0 where
+  pub of_instance : ledgers.instance ≡ I
+  pub in_limit : hard ≤ 1000000
