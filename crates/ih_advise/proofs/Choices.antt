@@ -1,0 +1,50 @@
+-- The best of a choice's candidates, from the least of the nurses and from the least of the stays.
+use Rattle.std.proofs.Common.{◌≡◌, ℕ, refl, sym, ap, ◌∙◌, arith, Bool, true, false, List, [], ◌∷◌, Option, Some, None}
+use Rattle.std.specs.Prelude.{ℤ, int_lt, if◌then◌else◌}
+use Rattle.std.proofs.lemmas.Int.{ints}
+use Rattle.ih_plan.specs.declared.moves.Write.{Write}
+use Rattle.ih_plan.specs.Fill.{cheapest, write_score}
+use Rattle.ih_fill.specs.declared.candidates.Candidate.{Candidate}
+use Rattle.ih_fill.specs.Candidates.{valued, least_of}
+use Rattle.ih_fill.specs.Scoring.{Scoring, care_value, stay_value, view_of}
+use Rattle.ih_fill.proofs.CandidateLemmas.{cheaper, cheaper-more}
+use Rattle.ih_advise.specs.Advising.{value_of}
+
+module _ (v : Write → ℤ) where
+  picked : (w x c : Write) (a : Bool) → int_lt (v x) (v w) ≡ a → (b : Bool) → int_lt (v c) (v x) ≡ b → (d : Bool) → int_lt (v c) (v w) ≡ d
+      → (if a then (if b then c else x) else (if d then c else w)) ≡ (if int_lt (v (if b then c else x)) (v w) then (if b then c else x) else w)
+  picked w x c true e true f true g = rw g refl
+  picked w x c true e true f false g = absurd (omega (arith, ints))
+  picked w x c true e false f d g = rw e refl
+  picked w x c false e true f true g = rw g refl
+  picked w x c false e true f false g = rw g refl
+  picked w x c false e false f true g = absurd (omega (arith, ints))
+  picked w x c false e false f false g = rw e refl
+
+  pick : (w x c m n : Write) → m ≡ (if int_lt (v c) (v x) then c else x) → n ≡ (if int_lt (v c) (v w) then c else w)
+      → (if int_lt (v x) (v w) then m else n) ≡ (if int_lt (v m) (v w) then m else w)
+  pick w x c m n e f = rw (e, f) (picked w x c (int_lt (v x) (v w)) refl (int_lt (v c) (v x)) refl (int_lt (v c) (v w)) refl)
+
+  -- the cheapest of a write and of others is the write, or the cheapest of the others where that costs less
+  joined : (w x : Write) (xs : List Write) → cheapest v w (x ∷ xs) ≡ (if int_lt (v (cheapest v x xs)) (v w) then cheapest v x xs else w)
+  joined w x [] = refl
+  joined w x (y ∷ ys) = pick w x (cheapest v y ys) (cheapest v x (y ∷ ys)) (cheapest v w (y ∷ ys)) (joined x y ys) (joined w y ys)
+
+  pub none-best : (w : Write) (ws : List Write) → None ≡ least_of v ws → valued v w ≡ valued v (cheapest v w ws)
+  none-best w [] e = refl
+  none-best w (x ∷ xs) e = absurd (let no : None ≡ Some (valued v (cheapest v x xs)) = e in cc)
+
+  pub some-best : (w : Write) (ws : List Write) (least : Candidate) → Some least ≡ least_of v ws → cheaper (valued v w) least ≡ valued v (cheapest v w ws)
+  some-best w [] least e = absurd (let no : Some least ≡ None = e in cc)
+  some-best w (x ∷ xs) least e =
+      let same : least ≡ valued v (cheapest v x xs) = (let e : Some least ≡ Some (valued v (cheapest v x xs)) = e in cc) in
+      ap (cheaper (valued v w)) same ∙ (cheaper-more v w (cheapest v x xs) [] ∙ ap (valued v) (sym (joined w x xs)))
+
+-- what is scored is the change of the whole bill
+pub care-whole : (F : Scoring) → care_value F ≡ value_of F.instance F.hard F.plan
+unfolding care_value
+care-whole F = refl
+
+pub stay-whole : (F : Scoring) → F.counts_uncovered ≡ true → stay_value F ≡ value_of F.instance F.hard F.plan
+unfolding stay_value
+stay-whole F counts = ap (λ b. write_score F.instance F.hard (view_of b) F.plan) counts

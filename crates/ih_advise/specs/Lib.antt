@@ -1,0 +1,4 @@
+pub mod Advising
+pub mod Laws
+pub mod Texts
+pub mod Weaving
