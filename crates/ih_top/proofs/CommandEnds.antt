@@ -9,7 +9,7 @@ use Rattle.ih_words.specs.Check.{CheckCall}
 use Rattle.ih_words.specs.Generate.{GenCall}
 use Rattle.ih_words.specs.Replay.{ReplayCall}
 use Rattle.ih_words.specs.Rounds.{RoundsCall}
-use Rattle.ih_words.specs.Words.{Call, call_of, solve, replay, salvage, check, rounds, gen, demo}
+use Rattle.ih_words.specs.Words.{Call, call_of, solve, replay, salvage, check, rounds, gen, demo, advise}
 use Rattle.ih_words.proofs.CallNames.{names-apart}
 use Rattle.ih_shelf.specs.Outside.{IsWritten, MayBeWritten, Names, Told}
 use Rattle.ih_top.specs.declared.status.Status.{Status}
@@ -20,12 +20,14 @@ use Rattle.ih_top.specs.Texts.{done_text, memory_text, salvaged_text}
 use Rattle.ih_top.specs.Inputs.{Reading, EndsUnread}
 use Rattle.ih_top.specs.Rounds.{RoundsEnds}
 use Rattle.ih_top.specs.Solving.{SolveEnds, Unchanged}
+use Rattle.ih_top.specs.Advising.{AdviseEnds}
 use Rattle.ih_top.specs.Checking.{CheckEnds}
 use Rattle.ih_top.specs.Demo.{DemoEnds}
 use Rattle.ih_top.specs.Generating.{GenEnds}
 use Rattle.ih_top.specs.Replaying.{EndsUnreadJournal, HasBest, IsHeadless, IsRefusedJournal, IsReplay, IsSalvage, JournalEnds, JournalRead}
 use Rattle.ih_top.specs.Ends.{CallEnds, Leaves, OutDiffers}
 use Rattle.ih_top.proofs.RoundsWriting.{rounds-done-found, rounds-none-begun}
+use Rattle.ih_top.proofs.Advices.{advise-answerable}
 use Rattle.ih_top.proofs.Saying.{IsAnswerable}
 use Rattle.ih_top.proofs.Writing.{begun, done-found, none-begun}
 
@@ -297,6 +299,7 @@ call-answerable (replay r) old new = journal-answerable (IsReplay r.start) (IsRe
 call-answerable (salvage r) old new = journal-answerable (IsSalvage r.start) IsHeadless salvaged_text r old new
 call-answerable (check c) old new = beside (Told Unchanged old new) (CheckEnds c old) (check-answerable c old)
 call-answerable (rounds r) old new = rounds-answerable r old new
+call-answerable (advise a) old new = beside (Told Unchanged old new) (AdviseEnds a old) (advise-answerable a old)
 call-answerable (gen g) old new = gen-answerable g old new
 call-answerable (demo number) old new = beside (Told Unchanged old new) (DemoEnds number) (demo-answerable number)
 
@@ -307,6 +310,7 @@ out-apart words (replay r) h = tt
 out-apart words (salvage r) h = tt
 out-apart words (check c) h = tt
 out-apart words (rounds r) h = names-apart words (rounds r) h
+out-apart words (advise a) h = tt
 out-apart words (gen g) h = tt
 out-apart words (demo number) h = tt
 
@@ -322,6 +326,7 @@ call-memory (replay r) files = (inl (told-same files files refl), refl)
 call-memory (salvage r) files = (inl (told-same files files refl), refl)
 call-memory (check c) files = (told-same files files refl, refl)
 call-memory (rounds r) files = (inl (told-same files files refl), refl)
+call-memory (advise a) files = (told-same files files refl, refl)
 call-memory (gen g) files = (unwritten g.out _ files, refl)
 call-memory (demo number) files = (told-same files files refl, refl)
 

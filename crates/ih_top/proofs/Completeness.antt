@@ -15,16 +15,18 @@ use Rattle.ih_instance.specs.Instance.{instance}
 use Rattle.ih_solution.specs.Reading.{plan_in}
 use Rattle.ih_words.specs.Rounds.{RoundsCall}
 use Rattle.ih_words.specs.Solve.{SolveCall}
+use Rattle.ih_words.specs.Advise.{AdviseCall}
 use Rattle.ih_words.specs.Check.{CheckCall}
 use Rattle.ih_words.specs.Generate.{GenCall}
 use Rattle.ih_words.specs.Replay.{ReplayCall}
-use Rattle.ih_words.specs.Words.{Call, solve, replay, salvage, check, rounds, gen, demo}
+use Rattle.ih_words.specs.Words.{Call, solve, replay, salvage, check, rounds, gen, demo, advise}
 use Rattle.ih_shelf.specs.Outside.{Names, Rose, bytes_at}
 use Rattle.ih_top.specs.declared.files.TheConstants.{MAX_JOURNAL}
 use Rattle.ih_top.specs.declared.status.Status.{Status}
 use Rattle.ih_top.specs.declared.status.Role.{Role}
 use Rattle.ih_top.specs.declared.status.Status.TheVariants.{Done, Usage, ReadFault, InstanceRefused, StartRefused, NoneFound, WriteFault, OutOfMemory, JournalRefused, Infeasible, TooLong}
 use Rattle.ih_top.specs.declared.status.Role.TheVariants.{Instance, Solution, Journal, Out}
+use Rattle.ih_top.specs.Advising.{advise_reading}
 use Rattle.ih_top.specs.Inputs.{Reading, EndsUnread, HasInputs, HasPlan, HasSolution, IsLongerThan, IsNext, solve_reading, check_reading, replay_reading}
 use Rattle.ih_top.specs.Starts.{started}
 use Rattle.ih_top.specs.Texts.{done_text, salvaged_text}
@@ -192,6 +194,21 @@ module _ (reads reads' writes writes' puts puts' : ℕ) (calm : (Rose reads read
     check-answered c I P has Infeasible cause ends = inr (inl refl)
     check-answered c I P has (TooLong role) cause (text, h, g) = unread-answered (IsAnswered (check c) (TooLong role)) (TooLong role) cause (accepted files (check_reading c) I P has (TooLong role) text h.1) (λ m. inr (inr m))
 
+    advise-answered : (a : AdviseCall) (I : Draft) (P : Timetable) → HasInputs (Some files) (advise_reading a) I P → (status : Status) → Caused status
+        → Ends (CallEnds (advise a) (Some files) new) gained part status → IsAnswered (advise a) status
+    advise-answered a I P has Done cause ends = inl refl
+    advise-answered a I P has Usage cause (text, h, g) = absurd h.1
+    advise-answered a I P has (ReadFault role) cause (text, h, g) = absurd (calm cause)
+    advise-answered a I P has (InstanceRefused e) cause (text, h, g) = unread-answered (IsAnswered (advise a) (InstanceRefused e)) (InstanceRefused e) cause (accepted files (advise_reading a) I P has (InstanceRefused e) text h.1) (λ m. inr m)
+    advise-answered a I P has (StartRefused e) cause (text, h, g) = unread-answered (IsAnswered (advise a) (StartRefused e)) (StartRefused e) cause (accepted files (advise_reading a) I P has (StartRefused e) text h.1) (λ m. inr m)
+    advise-answered a I P has NoneFound cause (text, h, g) = absurd h.1
+    advise-answered a I P has (WriteFault None) cause ends = absurd (heard cause)
+    advise-answered a I P has (WriteFault (Some role)) cause ends = absurd (kept cause)
+    advise-answered a I P has OutOfMemory cause ends = inr refl
+    advise-answered a I P has (JournalRefused e) cause (text, h, g) = absurd h.1
+    advise-answered a I P has Infeasible cause (text, h, g) = absurd h.1
+    advise-answered a I P has (TooLong role) cause (text, h, g) = unread-answered (IsAnswered (advise a) (TooLong role)) (TooLong role) cause (accepted files (advise_reading a) I P has (TooLong role) text h.1) (λ m. inr m)
+
     module _ (r : ReplayCall) (x : JournalRead) (has : HasRead (Some files) r x) where
       abbrev Answered : Status → Type 0
       Answered status = (status ≡ Done) ⊎ (status ≡ NoneFound) ⊎ (status ≡ OutOfMemory)
@@ -263,3 +280,5 @@ complete (demo number) (Some files) new gained part reads reads' writes writes' 
     demo-answered reads reads' writes writes' puts puts' calm kept heard files new gained part number status cause ends
 complete (check c) (Some files) new gained part reads reads' writes writes' puts puts' status ends cause = λ (I, P, has) calm kept heard.
     check-answered reads reads' writes writes' puts puts' calm kept heard files new gained part c I P has status cause ends
+complete (advise a) (Some files) new gained part reads reads' writes writes' puts puts' status ends cause = λ (I, P, has) calm kept heard.
+    advise-answered reads reads' writes writes' puts puts' calm kept heard files new gained part a I P has status cause ends

@@ -1,3 +1,4 @@
+pub mod Advices
 pub mod Alike
 pub mod Checks
 pub mod CommandEnds

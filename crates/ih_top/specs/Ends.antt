@@ -6,10 +6,11 @@ use Rattle.ih_journal.specs.declared.entries.Entry.{Entry}
 use Rattle.ih_journal.specs.Base.{Base}
 use Rattle.ih_journal.specs.Legal.{IsFull}
 use Rattle.ih_journal.specs.Texts.{lines_from}
-use Rattle.ih_words.specs.Words.{Call, solve, replay, salvage, check, rounds, gen, demo}
+use Rattle.ih_words.specs.Words.{Call, solve, replay, salvage, check, rounds, gen, demo, advise}
 use Rattle.ih_shelf.specs.Outside.{Names, Rose, Told}
 use Rattle.ih_top.specs.declared.status.Status.{Status}
 use Rattle.ih_top.specs.declared.status.Status.TheVariants.{Done, Usage, ReadFault, NoneFound, WriteFault, OutOfMemory, Infeasible}
+use Rattle.ih_top.specs.Advising.{AdviseEnds, advise_reading}
 use Rattle.ih_top.specs.Answers.{unsaid}
 use Rattle.ih_top.specs.Inputs.{solve_reading, check_reading, HasInputs}
 use Rattle.ih_top.specs.Solving.{Unchanged, SolveEnds}
@@ -37,13 +38,14 @@ GainedPart (Some old) (Some new) text = (k : ℕ) × (new ≡ old ++ take k text
 
 -- ---- a call with lawful words
 
--- What a call has read and written, and the text that it had to say, by its status. A check and a demo write nothing.
+-- What a call has read and written, and the text that it had to say, by its status. A check, an advise and a demo write nothing.
 abbrev pub CallEnds : Call → Option Names → Option Names → Status → List ℕ → Type 0
 CallEnds (solve s) old new status text = SolveEnds s old new status text
 CallEnds (replay r) old new status text = ReplayEnds r old new status text
 CallEnds (salvage r) old new status text = SalvageEnds r old new status text
 CallEnds (check c) old new status text = Told Unchanged old new × CheckEnds c old status text
 CallEnds (rounds r) old new status text = RoundsEnds r old new status text
+CallEnds (advise a) old new status text = Told Unchanged old new × AdviseEnds a old status text
 CallEnds (gen g) old new status text = GenEnds g old new status text
 CallEnds (demo number) old new status text = Told Unchanged old new × DemoEnds number status text
 
@@ -86,6 +88,7 @@ IsAnswered (replay r) status = (status ≡ Done) ⊎ (status ≡ NoneFound) ⊎ 
 IsAnswered (salvage r) status = (status ≡ Done) ⊎ (status ≡ NoneFound) ⊎ (status ≡ OutOfMemory)
 IsAnswered (check c) status = (status ≡ Done) ⊎ (status ≡ Infeasible) ⊎ (status ≡ OutOfMemory)
 IsAnswered (rounds r) status = (status ≡ Done) ⊎ (status ≡ NoneFound) ⊎ (status ≡ OutOfMemory)
+IsAnswered (advise a) status = (status ≡ Done) ⊎ (status ≡ OutOfMemory)
 IsAnswered (gen g) status = (status ≡ Done) ⊎ (status ≡ OutOfMemory)
 IsAnswered (demo number) status = (status ≡ Done) ⊎ (status ≡ NoneFound) ⊎ (status ≡ OutOfMemory)
 
@@ -98,6 +101,7 @@ HasFiles (replay r) files = (x : JournalRead) × (b : Base) × (H : List Entry) 
 HasFiles (salvage r) files = (x : JournalRead) × (b : Base) × (bytes : List ℕ) × HasRead (Some files) r x × IsHeadedBy r.start x b bytes
 HasFiles (check c) files = (I : Draft) × (P : Timetable) × HasInputs (Some files) (check_reading c) I P
 HasFiles (rounds r) files = (I : Draft) × (P : Timetable) × HasInputs (Some files) (solve_reading r.search) I P
+HasFiles (advise a) files = (I : Draft) × (P : Timetable) × HasInputs (Some files) (advise_reading a) I P
 HasFiles (gen g) files = Unit {0}
 HasFiles (demo number) files = Unit {0}
 

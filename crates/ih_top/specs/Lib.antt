@@ -1,3 +1,4 @@
+pub mod Advising
 pub mod Answers
 pub mod Checking
 pub mod Codes

@@ -5,6 +5,7 @@ ghost use Rattle.ih_words.specs.Words.{HasLawfulOptions, command_call};
 ghost use Rattle.ih_top.specs.Answers.{Answers, HasFileCause};
 ghost use Rattle.ih_top.specs.Ends.{CallEnds, OutDiffers};
 
+use crate::advising::advise;
 use crate::answer::Answer;
 use crate::checking::check;
 use crate::generating::write_instance;
@@ -38,6 +39,7 @@ pub fn perform<R: Files + Threads + Wait + Sync, S: Shelf, G: Gate>(
         Command::Salvage(call) => salvage(rt, alloc, call, shelf),
         Command::Check(call) => check(rt, alloc, call, shelf),
         Command::Rounds(call) => run_rounds(rt, alloc, call, shelf, gate),
+        Command::Advise(call) => advise(rt, alloc, call, shelf, gate),
         Command::Gen(call) => write_instance(rt, alloc, call, shelf),
         Command::Demo(number) => demo(rt, alloc, *number, gate),
     }

@@ -1,6 +1,7 @@
 //! The program: one call that reads, searches, writes and says what it did.
 #![tactic(auto)]
 
+mod advising;
 mod answer;
 mod checking;
 mod commands;

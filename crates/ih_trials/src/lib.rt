@@ -1,6 +1,8 @@
 //! Whole calls of the program over files in memory, and the files and texts of the worked examples.
 #![tactic(auto)]
 
+#[cfg(test)]
+mod advice_tests;
 pub mod examples;
 #[cfg(test)]
 mod journal_tests;

@@ -20,6 +20,7 @@ pub record IsOther (name : Text) : Type 0 where
   pub salvage : name ≡ codes "salvage" → ⊥
   pub check : name ≡ codes "check" → ⊥
   pub rounds : name ≡ codes "rounds" → ⊥
+  pub advise : name ≡ codes "advise" → ⊥
   pub gen : name ≡ codes "gen" → ⊥
   pub demo : name ≡ codes "demo" → ⊥
 
@@ -33,6 +34,7 @@ other_name words name first apart = rw (
   other name _ apart.salvage,
   other name _ apart.check,
   other name _ apart.rounds,
+  other name _ apart.advise,
   other name _ apart.gen,
   other name _ apart.demo,
 ) refl

@@ -2,6 +2,7 @@
 use Rattle.std.proofs.Common.{◌≡◌, ℕ, [], ◌∷◌, ◌++◌, List, refl, true, false, Option, Some, None, codes}
 use Rattle.clap.specs.Words.{Text}
 use Rattle.clap.proofs.OnLiterals.{clap_on_literals}
+use Rattle.ih_words.specs.Advise.{advise_app}
 use Rattle.ih_words.specs.Check.{check_app}
 use Rattle.ih_words.specs.Demo.{demo_app}
 use Rattle.ih_words.specs.Distinct.{all_differ}
@@ -10,7 +11,7 @@ use Rattle.ih_words.specs.Matches.{has_no_fault}
 use Rattle.ih_words.specs.Replay.{replay_app}
 use Rattle.ih_words.specs.Rounds.{rounds_app}
 use Rattle.ih_words.specs.Solve.{solve_app}
-use Rattle.ih_words.specs.Words.{Call, call_of, check, demo, gen, replay, rounds, salvage, solve}
+use Rattle.ih_words.specs.Words.{Call, call_of, check, demo, gen, replay, rounds, salvage, solve, advise}
 
 -- solve i OUT j, the words of the seed, and the other options
 abbrev words_of : Text → List Text → Text → Text → List Text
@@ -234,6 +235,19 @@ check_of_one_file = refl
 no_solution : call_of (codes "check" ∷ codes "i" ∷ []) ≡ None
 unfolding clap_on_literals call_of has_no_fault check_app all_differ
 no_solution = refl
+
+advised : call_of (codes "advise" ∷ codes "i" ∷ codes "s" ∷ codes "--hard" ∷ codes "1000" ∷ codes "--workers" ∷ codes "2" ∷ [])
+    ≡ Some (advise (record { instance = codes "i"; solution = codes "s"; hard = 1000; workers = 2 }))
+unfolding clap_on_literals call_of has_no_fault advise_app all_differ
+advised = refl
+
+advice_without_workers : call_of (codes "advise" ∷ codes "i" ∷ codes "s" ∷ codes "--hard" ∷ codes "1000" ∷ []) ≡ None
+unfolding clap_on_literals call_of has_no_fault advise_app all_differ
+advice_without_workers = refl
+
+too_many_advisers : call_of (codes "advise" ∷ codes "i" ∷ codes "s" ∷ codes "--hard" ∷ codes "1000" ∷ codes "--workers" ∷ codes "65" ∷ []) ≡ None
+unfolding clap_on_literals call_of has_no_fault advise_app all_differ
+too_many_advisers = refl
 
 option_of_another_command : call_of (codes "check" ∷ codes "i" ∷ codes "s" ∷ codes "--start" ∷ codes "t" ∷ []) ≡ None
 unfolding clap_on_literals call_of has_no_fault check_app all_differ

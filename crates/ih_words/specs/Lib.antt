@@ -1,3 +1,4 @@
+pub mod Advise
 pub mod Arguments
 pub mod Check
 pub mod Demo

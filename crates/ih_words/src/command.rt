@@ -2,13 +2,14 @@
 ghost use Rattle.std.specs.Prelude.{◌≡◌, IfErr, IfOk, None, Some, map, string_bytes};
 ghost use Rattle.ih_words.specs.Words.{HasLawfulOptions, call_of, command_call};
 
+use crate::advise::read_advise;
 use crate::check::read_check;
 use crate::demo::read_demo;
 use crate::generate::read_gen;
 use crate::replay::read_replay;
 use crate::rounds::read_rounds;
 use crate::solve::read_solve;
-use crate::{Check, Gen, Replay, Rounds, Solve, WordsError};
+use crate::{Check, Gen, Replay, Rounds, Solve, WordsError, Advise};
 use std::alloc::Global;
 
 /// A lawful command with its values.
@@ -24,6 +25,8 @@ pub enum Command<'a> {
     Check(Check<'a>),
     /// Searches several times, each time from the best of the search before, and writes the journals and the best solution.
     Rounds(Rounds<'a>),
+    /// Tells the best single change of each choice of a solution.
+    Advise(Advise<'a>),
     /// Writes the instance that is made from a number.
     Gen(Gen<'a>),
     /// Searches on the instance that is made from this number, without files.
@@ -55,6 +58,7 @@ pub fn read_words<'a>(alloc: Global, words: &'a [String]) -> Result<Command<'a>,
         "salvage" => Ok(Command::Salvage(read_replay(alloc, "salvage", words)?)),
         "check" => Ok(Command::Check(read_check(alloc, words)?)),
         "rounds" => Ok(Command::Rounds(read_rounds(alloc, words)?)),
+        "advise" => Ok(Command::Advise(read_advise(alloc, words)?)),
         "gen" => Ok(Command::Gen(read_gen(alloc, words)?)),
         "demo" => Ok(Command::Demo(read_demo(alloc, words)?)),
         _ => Err(WordsError::Unlawful),

@@ -2,6 +2,7 @@
 //! Each command has a description for `clap`, which reads the words, and conditions of its own on what was read.
 #![tactic(auto)]
 
+mod advise;
 mod arguments;
 mod check;
 mod command;
@@ -15,6 +16,7 @@ mod rounds;
 mod solve;
 mod start;
 
+pub use advise::Advise;
 pub use check::Check;
 pub use command::{Command, read_words};
 pub use error::WordsError;

@@ -14,6 +14,7 @@ returns-in_default-as_str-clause-unlawful c = λ e. other_name _ c.as_str.result
       salvage = c.in_default-as_str.not-salvage;
       check = c.in_default-as_str.not-check;
       rounds = c.in_default-as_str.not-rounds;
+      advise = c.in_default-as_str.not-advise;
       gen = c.in_default-as_str.not-gen;
       demo = c.in_default-as_str.not-demo;
     })

@@ -1,0 +1,76 @@
+//! The command `advise`: its description for `clap`, its values and when they are lawful.
+ghost use Rattle.std.specs.Prelude.{◌≡◌, IfErr, IfOk, IfSome, None, Some, map, option_map, string_bytes};
+ghost use Rattle.clap.specs.Words.{app_of, found_of, rows_of};
+ghost use Rattle.ih_words.specs.Advise.{HasAdvise, IsLawfulAdvise, advise_app, advise_call, advise_in, lawful_advise};
+ghost use Rattle.ih_words.specs.Matches.{call_by};
+
+use crate::WordsError;
+use crate::arguments::{named, numbered_option};
+use crate::file_names::all_differ;
+use crate::matches::{matches_in, text_of, u32_of};
+use clap::{ArgMatches, Command};
+use ih_journal::{MAX_HARD, MAX_WORKERS};
+use std::alloc::{AllocError, Global};
+
+/// `advise INSTANCE SOLUTION` with its options.
+#[derive(Clone, Copy, Debug)]
+pub struct Advise<'a> {
+    /// The name of the instance's file.
+    pub instance: &'a str,
+    /// The name of the solution's file.
+    pub solution: &'a str,
+    /// The weight of a broken rule in a score.
+    pub hard: u32,
+    /// How many look for advice side by side.
+    pub workers: u32,
+}
+
+// `advise INSTANCE SOLUTION --hard N --workers N`.
+fn advise_description<'a>(alloc: Global) -> Result<Command<'a>, AllocError>
+    ensures { IfOk result (λ c. app_of c ≡ advise_app) }
+{
+    Command::new(alloc, "advise")
+        .arg(named(alloc, "INSTANCE"))?
+        .arg(named(alloc, "SOLUTION"))?
+        .arg(numbered_option(alloc, "hard", 0, MAX_HARD))?
+        .arg(numbered_option(alloc, "workers", 1, MAX_WORKERS))
+}
+
+// The values of `advise`.
+fn advise_in<'a>(matches: &ArgMatches<'a>) -> Advise<'a>
+    requires { HasAdvise (rows_of (found_of matches.now)) }
+    ensures value { advise_call result ≡ advise_in (rows_of (found_of matches.now)) }
+    ensures lawful { IsLawfulAdvise result }
+{
+    Advise {
+        instance: text_of(matches, "INSTANCE"),
+        solution: text_of(matches, "SOLUTION"),
+        hard: u32_of(matches, "hard"),
+        workers: u32_of(matches, "workers"),
+    }
+}
+
+// The values of `advise`, where the file names differ.
+fn lawful_advise<'a>(matches: &ArgMatches<'a>) -> Option<Advise<'a>>
+    requires { HasAdvise (rows_of (found_of matches.now)) }
+    ensures value { option_map advise_call result ≡ lawful_advise (rows_of (found_of matches.now)) }
+    ensures lawful { IfSome result IsLawfulAdvise }
+{
+    let advise = advise_in(matches);
+    let files = [advise.instance, advise.solution];
+    if all_differ(files.as_slice()) {
+        Some(advise)
+    } else {
+        None
+    }
+}
+
+// Reads the words of `advise`.
+pub(crate) fn read_advise<'a>(alloc: Global, words: &'a [String]) -> Result<Advise<'a>, WordsError>
+    ensures ok { IfOk result (λ a. call_by advise_app lawful_advise (map string_bytes words.entry.now) ≡ Some (advise_call a)) }
+    ensures lawful { IfOk result IsLawfulAdvise }
+    ensures unlawful { IfErr result (λ e. e ≡ WordsError.Unlawful → call_by advise_app lawful_advise (map string_bytes words.entry.now) ≡ None) }
+{
+    let matches = matches_in(advise_description(alloc)?, words)?;
+    lawful_advise(&matches).ok_or(WordsError::Unlawful)
+}
