@@ -1,0 +1,33 @@
+use Rattle.std.proofs.Common.{◌∙◌, sym, ap, refl, arith}
+use Rattle.ih_plan.specs.Timetable.{Timetable}
+use Rattle.ih_plan.specs.Fill.{with_stay}
+use Rattle.ih_plan.specs.Sums.{which_below}
+use Rattle.ih_fill.specs.Scoring.{Scoring, is_waiting}
+use Rattle.ih_fill.proofs.PassLemmas.{stays-more, stays-same}
+use Rattle.ih_parfill.proofs.filling.place_all.Goals as goal
+use Rattle.ih_parfill.proofs.filling.place_all.Goals.{then-is_waiting, else-is_waiting}
+
+pub loop-p-init : goal.loop-p-init
+unfolding which_below
+loop-p-init g c = record { made = refl; choice = omega arith }
+
+pub loop-p-preserved : goal.loop-p-preserved
+loop-p-preserved g c =
+    let I = c.args.inst.now.draft in
+    let F = c.args.scorer.now in
+    let p = c.loop-p.p in
+    let waits = is_waiting I c.args.plan.now c.args.mandatory in
+    let before = c.loop-p.invariant.choice in
+    elim c.if-is_waiting.branch [
+      | then-is_waiting w ↦ record {
+        made = w.scorer-is ∙ (w.place.ensures.made
+            ∙ (ap (λ (G : Scoring). record G { plan = with_stay I G.hard G.plan p }) c.loop-p.invariant.made
+            ∙ ap (λ (Q : Timetable). record F { plan = Q }) (stays-more I F.hard F.plan waits p (sym c.is_waiting.ensures ∙ w.if-is_waiting.true))));
+        choice = let next = w.choice-is in omega (arith, before, next);
+      }
+      | else-is_waiting w ↦ record {
+        made = w.scorer-is ∙ (c.loop-p.invariant.made
+            ∙ ap (λ (Q : Timetable). record F { plan = Q }) (stays-same I F.hard F.plan waits p (sym c.is_waiting.ensures ∙ w.if-is_waiting.false)));
+        choice = let next = w.choice-is in omega (arith, before, next);
+      }
+    ]

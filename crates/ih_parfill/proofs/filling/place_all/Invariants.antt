@@ -1,0 +1,11 @@
+use Rattle.std.proofs.Common.{◌≡◌, ◌≤◌, ◌+◌, length}
+use Rattle.ih_plan.specs.Fill.{with_stays}
+use Rattle.ih_plan.specs.Sums.{which_below}
+use Rattle.ih_fill.specs.Scoring.{is_waiting}
+use Rattle.ih_parfill.proofs.filling.place_all.Given as goal
+
+abbrev pub invariant-loop-p : goal.invariant-loop-p
+invariant-loop-p g l = record {
+  made : l.scorer ≡ record l.fn.scorer { plan = with_stays l.inst.draft l.fn.scorer.hard l.fn.scorer.plan (which_below l.p (is_waiting l.inst.draft l.plan l.mandatory)) };
+  choice : l.choice ≤ l.from + l.p;
+}

@@ -1,0 +1,18 @@
+use Rattle.std.proofs.Common.{◌≡◌, ◌+◌, ◌*◌, ◌≤◌, ◌∷◌, None}
+use Rattle.std.specs.Prelude.{flat_map}
+use Rattle.std.specs.List.{range_with_len}
+use Rattle.ih_tables.specs.Sizes.{room_count}
+use Rattle.ih_plan.specs.declared.moves.Write.TheVariants.{SetStay}
+use Rattle.ih_fill.specs.Candidates.{stays_on}
+use Rattle.ih_fill.specs.Scoring.{stay_value}
+use Rattle.ih_parfill.specs.Shares.{HasLooked}
+use Rattle.ih_parfill.proofs.stays.least_of_share.Given as goal
+
+abbrev pub invariant-loop-later : goal.invariant-loop-later
+invariant-loop-later l = record {
+  looked : HasLooked l.inst.draft (stay_value l.scorer)
+      (SetStay l.p None ∷ flat_map (λ d. stays_on l.inst.draft l.p l.patient d (room_count l.inst.draft)) (range_with_len l.patient.surgery_release_day l.later)) l.share;
+  passed : l.share.passed ≤ 1 + 8192 * l.later;
+  workers : l.share.workers ≡ l.workers;
+  worker : l.share.worker ≡ l.worker;
+}

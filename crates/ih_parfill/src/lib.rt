@@ -1,0 +1,10 @@
+//! The greedy fill by several workers: the candidates of each choice are dealt to them, and priced side by side.
+#![tactic(auto)]
+
+mod filling;
+mod joining;
+mod nurses;
+mod shares;
+mod stays;
+
+pub use filling::par_fill;
