@@ -9,6 +9,8 @@ use Rattle.ih_plan.specs.Timetable.{Timetable}
 use Rattle.ih_plan.specs.Writes.{put}
 use Rattle.ih_plan.specs.BillOf.{change_of_bill}
 use Rattle.ih_plan.specs.Fill.{cheapest, care_writes, rooms_by_shift, stay_writes, write_score}
+use Rattle.ih_fill.specs.declared.candidates.Candidate.{Candidate}
+use Rattle.ih_fill.specs.Candidates.{valued}
 use Rattle.ih_advise.specs.declared.choosing.Advice.{Advice}
 use Rattle.ih_advise.specs.declared.subjects.Subject.{Subject}
 use Rattle.ih_advise.specs.declared.subjects.Subject.TheVariants.{StayOf, NurseOf}
@@ -43,6 +45,10 @@ value_of I hard P w = write_score I hard (λ b. b) P w
 -- the first write of least value
 unfoldable pub best_write : Draft → ℕ → Timetable → Subject → Write
 best_write I hard P s = cheapest (value_of I hard P) (clearing s) (replacements I s)
+
+-- the same with its value
+abbrev pub best_of : Draft → ℕ → Timetable → Subject → Candidate
+best_of I hard P s = valued (value_of I hard P) (best_write I hard P s)
 
 -- a write, by how much it changes the score, and what it changes in the bill
 abbrev pub advised : Draft → ℕ → Timetable → Write → Advice

@@ -2,8 +2,7 @@
 
 ghost use Rattle.std.specs.Prelude.{◌≡◌, true};
 ghost use Rattle.ih_plan.specs.Writes.{IsWriteOf};
-ghost use Rattle.ih_fill.specs.Candidates.{valued};
-ghost use Rattle.ih_advise.specs.Advising.{IsChoice, advice_on, best_write, value_of};
+ghost use Rattle.ih_advise.specs.Advising.{IsChoice, advice_on, best_of};
 
 use crate::subjects::Subject;
 use ih_fill::{Candidate, Scorer, cheaper, cheapest_nurse, cheapest_stay};
@@ -22,7 +21,7 @@ pub struct Advice {
 fn best_nurse(inst: &Instance, scorer: &Scorer<'_>, k: Shift, r: RoomNo) -> Candidate
     requires instance { scorer.now.instance ≡ inst.now.draft }
     requires inside { IsChoice inst.now.draft (Subject.NurseOf k r) }
-    ensures best { result ≡ valued (value_of inst.now.draft scorer.now.hard scorer.now.plan) (best_write inst.now.draft scorer.now.hard scorer.now.plan (Subject.NurseOf k r)) }
+    ensures best { result ≡ best_of inst.now.draft scorer.now.hard scorer.now.plan (Subject.NurseOf k r) }
     ensures fits { IsWriteOf inst.now.draft result.write }
 {
     let none = scorer.no_nurse(r, k);
@@ -37,7 +36,7 @@ fn best(inst: &Instance, scorer: &Scorer<'_>, subject: Subject) -> Candidate
     requires instance { scorer.now.instance ≡ inst.now.draft }
     requires counts { scorer.now.counts_uncovered ≡ true }
     requires inside { IsChoice inst.now.draft subject }
-    ensures best { result ≡ valued (value_of inst.now.draft scorer.now.hard scorer.now.plan) (best_write inst.now.draft scorer.now.hard scorer.now.plan subject) }
+    ensures best { result ≡ best_of inst.now.draft scorer.now.hard scorer.now.plan subject }
     ensures fits { IsWriteOf inst.now.draft result.write }
 {
     match subject {
