@@ -1,63 +1,70 @@
 //! The text of advice.
 
-ghost use Rattle.std.specs.Prelude.{◌≡◌, ◌++◌, IfOk, OnOk, string_bytes};
+ghost use Rattle.std.specs.Prelude.{◌≡◌, ◌++◌, IfOk, OnOk};
 ghost use Rattle.ih_advise.specs.Texts.{advice_line, advice_text, last_line, write_text};
 
 use crate::choosing::Advice;
-use ih_journal::{put_named, put_price};
+use ih_journal::{named_text, price_text};
 use ih_plan::Write;
 use itoa::Buffer;
 use std::alloc::{AllocError, Global};
 
+// Appends a text.
+fn put(out: &mut Vec<u8>, text: &str) -> Result<(), AllocError>
+    ensures { OnOk result (out.new.items ≡ out.old.items ++ text.now) }
+{
+    out.extend_from_slice(text.as_bytes())
+}
+
 // Writes a write by its name and its numbers.
-fn put_write(out: &mut String, w: &Write) -> Result<(), AllocError>
-    ensures { OnOk result (string_bytes out.new ≡ string_bytes out.old ++ write_text w.now) }
+fn put_write(out: &mut Vec<u8>, w: &Write) -> Result<(), AllocError>
+    ensures { OnOk result (out.new.items ≡ out.old.items ++ write_text w.now) }
 {
     match *w {
         Write::SetStay(p, Some(at)) => {
-            put_named(out, "setstay", p.0, &[at.day.0, at.room.0, at.theatre.0])
+            named_text("setstay", p.0, &[at.day.0, at.room.0, at.theatre.0], out)
         }
         Write::SetStay(p, None) => {
-            put_named(out, "setstay", p.0, &[])?;
-            out.push_str(",none")
+            named_text("setstay", p.0, &[], out)?;
+            put(out, ",none")
         }
-        Write::SetCare(r, k, Some(n)) => put_named(out, "setcare", r.0, &[k.0, n.0]),
+        Write::SetCare(r, k, Some(n)) => named_text("setcare", r.0, &[k.0, n.0], out),
         Write::SetCare(r, k, None) => {
-            put_named(out, "setcare", r.0, &[k.0])?;
-            out.push_str(",none")
+            named_text("setcare", r.0, &[k.0], out)?;
+            put(out, ",none")
         }
     }
 }
 
 // Writes a line of advice.
-fn put_line(out: &mut String, a: &Advice) -> Result<(), AllocError>
-    ensures { OnOk result (string_bytes out.new ≡ string_bytes out.old ++ advice_line a.now) }
+fn put_line(out: &mut Vec<u8>, a: &Advice) -> Result<(), AllocError>
+    ensures { OnOk result (out.new.items ≡ out.old.items ++ advice_line a.now) }
 {
     put_write(out, &a.write)?;
-    out.push_str(" ")?;
-    out.push_str(Buffer::new().format(a.score))?;
-    out.push_str(" ")?;
-    put_price(out, &a.price)?;
-    out.push_str("\n")
+    put(out, " ")?;
+    put(out, Buffer::new().format(a.score))?;
+    put(out, " ")?;
+    price_text(&a.price, out)?;
+    put(out, "\n")
 }
 
 // Writes the last line: how many choices can be improved.
-fn put_last(out: &mut String, count: usize) -> Result<(), AllocError>
-    ensures { OnOk result (string_bytes out.new ≡ string_bytes out.old ++ last_line count) }
+fn put_last(out: &mut Vec<u8>, count: usize) -> Result<(), AllocError>
+    ensures { OnOk result (out.new.items ≡ out.old.items ++ last_line count) }
 {
     if count == 0 {
-        return out.push_str("locally best\n");
+        return put(out, "locally best\n");
     }
-    out.push_str("improvable ")?;
-    out.push_str(Buffer::new().format(count))?;
-    out.push_str("\n")
+    put(out, "improvable ")?;
+    put(out, Buffer::new().format(count))?;
+    put(out, "\n")
 }
 
 /// The text of advice: a line for each, and last how many there are, or that there is none.
-pub fn advice_text(alloc: Global, list: &[Advice]) -> Result<String, AllocError>
-    ensures { IfOk result (λ s. string_bytes s ≡ advice_text list.now) }
+pub fn advice_text(alloc: Global, list: &[Advice]) -> Result<Vec<u8>, AllocError>
+    ensures { IfOk result (λ v. v.items ≡ advice_text list.now) }
 {
-    let mut out = String::new(alloc);
+    let mut out = Vec::new(alloc);
     for a in list {
         put_line(&mut out, a)?;
     }

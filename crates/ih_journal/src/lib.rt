@@ -24,4 +24,4 @@ pub use parse::{BadLine, journals_differ, parse_line};
 pub use reading::parse_move;
 pub use refusals::{JournalRefusal, Reason};
 pub use settings::{MAX_ENTRIES, MAX_HARD, MAX_HEAT, MAX_MOVES, MAX_RETRIES, MAX_WORKERS, Options};
-pub use texts::text;
+pub use texts::{named_text, price_text, text};

@@ -136,6 +136,26 @@ pub(crate) fn put_verdict(room: &mut [u8], at: usize, verdict: &Verdict) -> usiz
     }
 }
 
+/// Appends a name with its numbers, as `nurse:1,5,0`.
+pub fn named_text(name: &str, first: u32, rest: &[u32], out: &mut Vec<u8>) -> Result<(), AllocError>
+    requires short { length name.now ≤ 16 }
+    requires few { length rest.now ≤ 3 }
+    ensures { OnOk result (out.new.items ≡ out.old.items ++ named name.now (first ∷ rest.now)) }
+{
+    let mut room = [0; 100];
+    let len = put_named(&mut room, 0, name, first, rest);
+    out.extend_from_slice(&room[..len])
+}
+
+/// Appends the seventeen numbers of a price, parted by commas.
+pub fn price_text(price: &Bill, out: &mut Vec<u8>) -> Result<(), AllocError>
+    ensures { OnOk result (out.new.items ≡ out.old.items ++ price_text price.now) }
+{
+    let mut room = [0; 374];
+    let len = put_price(&mut room, 0, price);
+    out.extend_from_slice(&room[..len])
+}
+
 /// Appends the text of a move. After want of memory `out` holds what it held, followed by a prefix of that text.
 #[tactic(auto, using(crate::proofs::Parts::part_none))]
 pub fn text(mv: &Move, out: &mut Vec<u8>) -> Result<(), AllocError>
