@@ -135,15 +135,6 @@ impl<'a> Ledgers<'a> {
         self.play(mv);
     }
 
-    /// What a write would add to the bill, number by number: each is at most 10^11 in magnitude. It isn't made.
-    pub fn price_write(&self, w: &Write) -> Bill
-        requires { IsWriteOf self.now.instance w.now }
-        ensures price { result ≡ change_of_bill self.now.instance self.now.plan (put w.now self.now.plan) }
-        ensures within { IsWithin (10 ^ 11) result }
-    {
-        price_of_write(self.inst, &self.cells, w)
-    }
-
     /// What a move would add to the bill, number by number: each is at most 10^11 in magnitude. In place of what was listed
     /// there, `foot` has the cells of the move's footprint, rising. The ledgers stand for the same timetable as before.
     pub fn price(&mut self, mv: &Move, foot: &mut CellList) -> Bill

@@ -1,6 +1,6 @@
 //! The command `advise`, but for the putting out of its advice.
 
-ghost use Rattle.std.specs.Prelude.{◌≡◌, IfOk, string_bytes};
+ghost use Rattle.std.specs.Prelude.{◌≡◌, IfOk};
 ghost use Rattle.ih_plan.specs.Timetable.{IsPlanOf};
 ghost use Rattle.ih_advise.specs.Advising.{advice};
 ghost use Rattle.ih_advise.specs.Texts.{advice_text};
@@ -11,7 +11,7 @@ ghost use Rattle.ih_top.specs.Answers.{Answers, HasFileCause, IsSaid};
 use crate::answer::Answer;
 use crate::inputs::{InputNames, Inputs, read_inputs};
 use crate::status::Status;
-use crate::texts::said;
+use crate::texts::out_of_memory;
 use ih_advise::advice_text;
 use ih_shelf::{Gate, Shelf};
 use ih_words::Advise;
@@ -27,10 +27,10 @@ fn text_of<R: Threads + Wait + Sync, G: Gate>(
     call: &Advise<'_>,
     inputs: &Inputs,
     gate: &G,
-) -> Result<String, AllocError>
+) -> Result<Vec<u8>, AllocError>
     requires lawful { IsLawfulAdvise call.now }
     requires plan { IsPlanOf inputs.now.inst.draft inputs.now.plan }
-    ensures { IfOk result (λ s. string_bytes s ≡ advice_text (advice inputs.now.inst.draft call.now.hard inputs.now.plan)) }
+    ensures { IfOk result (λ v. v.items ≡ advice_text (advice inputs.now.inst.draft call.now.hard inputs.now.plan)) }
 {
     let list = ih_advise::advise(
         rt,
@@ -45,7 +45,6 @@ fn text_of<R: Threads + Wait + Sync, G: Gate>(
 }
 
 // What is advised on the timetable, whether or not it breaks a hard rule.
-#[tactic(auto, using(crate::proofs::Saying::said_by))]
 fn advised<R: Threads + Wait + Sync, G: Gate>(
     rt: &R,
     alloc: Global,
@@ -57,8 +56,13 @@ fn advised<R: Threads + Wait + Sync, G: Gate>(
     requires plan { IsPlanOf inputs.now.inst.draft inputs.now.plan }
     ensures { IsSaid Status.Done (advice_text (advice inputs.now.inst.draft call.now.hard inputs.now.plan)) result }
 {
-    let text = text_of(rt, alloc, call, inputs, gate);
-    said(alloc, Status::Done, text)
+    match text_of(rt, alloc, call, inputs, gate) {
+        Ok(text) => Answer {
+            status: Status::Done,
+            text,
+        },
+        Err(_) => out_of_memory(alloc),
+    }
 }
 
 /// Reads an instance and a solution, and tells the best single change of each choice of the solution.

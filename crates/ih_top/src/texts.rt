@@ -21,8 +21,8 @@ pub fn out_of_memory(alloc: Global) -> Answer
     }
 }
 
-/// A status with its text, where there was memory to make that.
-pub fn said(alloc: Global, status: Status, text: Result<String, AllocError>) -> Answer
+// A status with its text, where there was memory to make that.
+fn said(alloc: Global, status: Status, text: Result<String, AllocError>) -> Answer
     ensures { IsSaidOf string_bytes status text result }
 {
     match text {

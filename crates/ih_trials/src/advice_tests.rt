@@ -3,6 +3,7 @@
 use crate::examples::{COVERED_SOLUTION, ONE_ADMITTED, TWO_PATIENTS, WARD};
 use crate::trials::{ends, exits_past, lay};
 use ih_shelf::{HoldGate, MemShelf, MemSink};
+use ih_top::Status;
 
 const TURNS: u64 = 100_000_000;
 
@@ -19,7 +20,7 @@ fn the_best_change_of_each_choice(rt: HostRuntime) {
     let alloc = rt.alloc();
     let mut shelf = MemShelf::new(alloc);
     assert!(rt; lay(alloc, &mut shelf, TWO_PATIENTS, ONE_ADMITTED).is_ok());
-    assert!(rt; ends(&rt, alloc, BY_TWO, &mut shelf, 0, TWO_CHANGES));
+    assert!(rt; ends(&rt, alloc, BY_TWO, &mut shelf, Status::Done, TWO_CHANGES));
 }
 
 // Each of two workers looks for its advice before the other is done.
@@ -30,7 +31,7 @@ fn two_workers_look_side_by_side(rt: HostRuntime) {
     let mut out = MemSink::new(alloc);
     let gate = HoldGate::new(TURNS, 1);
     assert!(rt; lay(alloc, &mut shelf, TWO_PATIENTS, ONE_ADMITTED).is_ok());
-    assert!(rt; exits_past(&rt, alloc, BY_TWO, &mut shelf, &mut out, &gate, 0));
+    assert!(rt; exits_past(&rt, alloc, BY_TWO, &mut shelf, &mut out, &gate, Status::Done));
     assert!(rt; out.bytes() == TWO_CHANGES.as_bytes() && !gate.ran_out());
 }
 
@@ -46,7 +47,7 @@ fn a_timetable_that_is_locally_best(rt: HostRuntime) {
             alloc,
             "advise i s --hard 1000 --workers 1",
             &mut shelf,
-            0,
+            Status::Done,
             "locally best\n"
         )
     );
