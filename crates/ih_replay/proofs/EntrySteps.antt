@@ -25,8 +25,8 @@ pub last-entry : (I : Draft) (P : Timetable) (es : List Entry) (i : ℕ) → len
 unfolding after_entries
 last-entry I P es i h = ap (after_entries I P) (drop_all i es h)
 
--- the moves of the first entries are in range
-pub moves-taken : (b : Base) (H : List Entry) (I : Draft) (n : ℕ) → b.instance ≡ I → AreLegalButDraws b H → All (λ (e : Entry). IsMoveOf I e.mv) (take n H)
-moves-taken b H I n inst legal k d h =
-    let e = slice_index_or (take n H) k d in
-    subst (λ J. IsMoveOf J e.mv) inst (legal k e (take-get H n k e (slice_get-get_or (take n H) k d h))).move
+-- the moves of the entries are in range
+pub moves-taken : (b : Base) (H : List Entry) (I : Draft) → b.instance ≡ I → AreLegalButDraws b H → All (λ (e : Entry). IsMoveOf I e.mv) H
+moves-taken b H I inst legal k d h =
+    let e = slice_index_or H k d in
+    subst (λ J. IsMoveOf J e.mv) inst (legal k e (slice_get-get_or H k d h)).move

@@ -2,7 +2,6 @@
 #![tactic(auto)]
 
 mod laws;
-mod rebuilding;
 mod replays;
 mod taking;
 mod workers;

@@ -3,10 +3,10 @@
 //! A replay is a book and, for each worker, a replica and a stream of draws. It has no second way to price a move: as in
 //! the search, a worker's replica stands for the entries that the worker had seen, and the book judges its offer.
 
-use crate::rebuilding::plan_after;
 use crate::taking::{is_full, take_line};
 use crate::workers::{Worker, new_workers};
 use ih_cellbook::Book;
+use ih_history::plan_at;
 use ih_journal::{Entry, JournalRefusal, Options, Reason};
 use ih_plan::Plan;
 use ih_tables::Instance;
@@ -136,8 +136,8 @@ impl<'a> Replay<'a> {
         match self.book.best() {
             None => Ok(None),
             Some((place, _)) => {
-                let entries = &self.book.entries()[..place as usize];
-                Ok(Some(plan_after(alloc, self.inst, self.start, entries)?))
+                let entries = self.book.entries();
+                Ok(Some(plan_at(alloc, self.inst, self.start, entries, place)?))
             }
         }
     }

@@ -18,7 +18,7 @@ use std::alloc::{AllocError, Global};
 use std::sync::Wait;
 use std::thread::Threads;
 
-/// What a round outcome to.
+/// What a round comes to.
 #[derive(Drop)]
 pub(crate) struct RoundOutcome {
     /// The place and the cost of its best.

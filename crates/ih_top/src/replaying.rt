@@ -26,6 +26,8 @@ use ih_shelf::Shelf;
 use ih_words::{Replay as Call, Start};
 use std::alloc::{AllocError, Global};
 use std::rt::Files;
+use std::sync::Wait;
+use std::thread::Threads;
 
 /// What a journal comes to.
 #[derive(Drop)]
@@ -95,7 +97,8 @@ fn salvage_lines(
 }
 
 // What a journal comes to that has to be that of a full history.
-fn replayed(
+fn replayed<R: Threads + Wait + Sync>(
+    rt: &R,
     alloc: Global,
     start: &Start<'_>,
     inputs: Inputs,
@@ -107,7 +110,14 @@ fn replayed(
     let Some((options, lines)) = heading_of(bytes) else {
         return Ok(headless());
     };
-    let begun = begin(alloc, inputs, start.fill, options.hard)?;
+    let begun = begin(
+        rt,
+        alloc,
+        inputs,
+        start.fill,
+        options.hard,
+        options.workers,
+    )?;
     let given = Given {
         inst: &begun.inst,
         start: &begun.plan,
@@ -118,7 +128,8 @@ fn replayed(
 }
 
 // What a journal comes to that may be cut off or damaged behind its heading.
-fn salvage_journal(
+fn salvage_journal<R: Threads + Wait + Sync>(
+    rt: &R,
     alloc: Global,
     start: &Start<'_>,
     inputs: Inputs,
@@ -130,7 +141,14 @@ fn salvage_journal(
     let Some((options, lines)) = heading_of(bytes) else {
         return Ok(headless());
     };
-    let begun = begin(alloc, inputs, start.fill, options.hard)?;
+    let begun = begin(
+        rt,
+        alloc,
+        inputs,
+        start.fill,
+        options.hard,
+        options.workers,
+    )?;
     let given = Given {
         inst: &begun.inst,
         start: &begun.plan,
@@ -217,7 +235,12 @@ fn read_files<R: Files, S: Shelf>(
 }
 
 /// Checks that a journal is that of a full history, and writes the solution of its best.
-pub fn replay<R: Files, S: Shelf>(rt: &R, alloc: Global, call: &Call<'_>, shelf: &mut S) -> Answer
+pub fn replay<R: Files + Threads + Wait + Sync, S: Shelf>(
+    rt: &R,
+    alloc: Global,
+    call: &Call<'_>,
+    shelf: &mut S,
+) -> Answer
     ensures ends { Answers (ReplayEnds (replay_call call.now) (S.names shelf.old) (S.names shelf.new)) result }
     ensures cause { HasFileCause (S.read_faults shelf.old) (S.read_faults shelf.new) (S.write_faults shelf.old) (S.write_faults shelf.new) result.status }
 {
@@ -225,14 +248,19 @@ pub fn replay<R: Files, S: Shelf>(rt: &R, alloc: Global, call: &Call<'_>, shelf:
         Ok(read) => read,
         Err(answer) => return answer,
     };
-    match replayed(alloc, &call.start, inputs, bytes.as_slice()) {
+    match replayed(rt, alloc, &call.start, inputs, bytes.as_slice()) {
         Ok(outcome) => write_outcome(rt, alloc, call.out, outcome, shelf),
         Err(_) => out_of_memory(alloc),
     }
 }
 
 /// Takes the lines of a journal as far as they are those of a legal history, and writes the solution of its best.
-pub fn salvage<R: Files, S: Shelf>(rt: &R, alloc: Global, call: &Call<'_>, shelf: &mut S) -> Answer
+pub fn salvage<R: Files + Threads + Wait + Sync, S: Shelf>(
+    rt: &R,
+    alloc: Global,
+    call: &Call<'_>,
+    shelf: &mut S,
+) -> Answer
     ensures ends { Answers (SalvageEnds (replay_call call.now) (S.names shelf.old) (S.names shelf.new)) result }
     ensures cause { HasFileCause (S.read_faults shelf.old) (S.read_faults shelf.new) (S.write_faults shelf.old) (S.write_faults shelf.new) result.status }
 {
@@ -240,7 +268,7 @@ pub fn salvage<R: Files, S: Shelf>(rt: &R, alloc: Global, call: &Call<'_>, shelf
         Ok(read) => read,
         Err(answer) => return answer,
     };
-    match salvage_journal(alloc, &call.start, inputs, bytes.as_slice()) {
+    match salvage_journal(rt, alloc, &call.start, inputs, bytes.as_slice()) {
         Ok(outcome) => write_outcome(rt, alloc, call.out, outcome, shelf),
         Err(_) => out_of_memory(alloc),
     }

@@ -64,7 +64,14 @@ fn search_in_rounds<R: Threads + Wait + Sync, G: Gate>(
     ensures { IfOk result (IsRoundsOutput (rounds_base (rounds_call call.now) inputs) call.now.rounds) }
 {
     let search = &call.search;
-    let begun = begin(alloc, inputs, search.start.fill, search.options.hard)?;
+    let begun = begin(
+        rt,
+        alloc,
+        inputs,
+        search.start.fill,
+        search.options.hard,
+        search.options.workers,
+    )?;
     make_rounds_output(
         rt,
         alloc,

@@ -14,12 +14,12 @@ use crate::output::{BestOutput, best_of};
 use crate::search::{Given, search};
 use crate::status::Status;
 use crate::texts::{none_found, out_of_memory};
-use ih_fill::fill;
 use ih_gen::generate;
 use ih_instance::{InstanceError, read_instance};
 use ih_journal::{Entry, Options, Verdict};
+use ih_parfill::par_fill;
 use ih_plan::Plan;
-use ih_shelf::Gate;
+use ih_shelf::{Gate, OpenGate};
 use ih_tables::Instance;
 use itoa::Buffer;
 use std::alloc::{AllocError, Global};
@@ -141,11 +141,20 @@ fn search_from_fill<R: Threads + Wait + Sync, G: Gate>(
     ensures { IfOk result (λ text. IsShown number (option_map (λ t. t.items) text)) }
 {
     let empty = Plan::empty(alloc, inst)?;
-    let start = fill(alloc, inst, HARD, &empty)?;
+    let options = demo_options(number);
+    let start = par_fill(
+        rt,
+        alloc,
+        inst,
+        HARD,
+        &empty,
+        options.workers,
+        &OpenGate,
+    )?;
     let given = Given {
         inst,
         start: &start,
-        options: demo_options(number),
+        options,
         freeze: 0,
     };
     let book = search(rt, alloc, &given, gate)?;

@@ -64,7 +64,14 @@ fn prepare<R: Threads + Wait + Sync, G: Gate>(
     requires lawful { IsLawful call.now.options }
     ensures { IfOk result (IsOutput (base_from (solve_call call.now) inputs)) }
 {
-    let begun = begin(alloc, inputs, call.start.fill, call.options.hard)?;
+    let begun = begin(
+        rt,
+        alloc,
+        inputs,
+        call.start.fill,
+        call.options.hard,
+        call.options.workers,
+    )?;
     let given = Given {
         inst: &begun.inst,
         start: &begun.plan,

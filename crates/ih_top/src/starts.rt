@@ -1,23 +1,30 @@
 //! What a search starts from.
 
-ghost use Rattle.std.specs.Prelude.{◌≡◌, ◌≤◌, IfOk};
+ghost use Rattle.std.specs.Prelude.{◌≡◌, ◌<◌, ◌≤◌, IfOk};
 ghost use Rattle.ih_plan.specs.Timetable.{IsPlanOf};
 ghost use Rattle.ih_top.specs.Starts.{started};
 
 use crate::inputs::Inputs;
-use ih_fill::fill;
+use ih_parfill::par_fill;
+use ih_shelf::OpenGate;
 use std::alloc::{AllocError, Global};
+use std::sync::Wait;
+use std::thread::Threads;
 
 /// The inputs with the timetable that a search starts from: their own, or its greedy fill. `hard` is the weight of a broken
-/// hard rule in a score.
-pub fn begin(
+/// hard rule in a score, `workers` how many fill side by side.
+pub fn begin<R: Threads + Wait + Sync>(
+    rt: &R,
     alloc: Global,
     inputs: Inputs,
     is_filled: bool,
     hard: u32,
+    workers: u32,
 ) -> Result<Inputs, AllocError>
     requires plan { IsPlanOf inputs.inst.draft inputs.plan }
     requires hard { hard ≤ 1000000 }
+    requires some { 0 < workers }
+    requires few { workers ≤ 64 }
     ensures instance { IfOk result (λ i. i.inst.draft ≡ inputs.inst.draft) }
     ensures start { IfOk result (λ i. i.plan ≡ started is_filled hard inputs.inst.draft inputs.plan) }
     ensures plan { IfOk result (λ i. IsPlanOf i.inst.draft i.plan) }
@@ -26,6 +33,6 @@ pub fn begin(
         return Ok(inputs);
     }
     let Inputs { inst, plan } = inputs;
-    let plan = fill(alloc, &inst, hard, &plan)?;
+    let plan = par_fill(rt, alloc, &inst, hard, &plan, workers, &OpenGate)?;
     Ok(Inputs { inst, plan })
 }
