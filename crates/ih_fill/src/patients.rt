@@ -59,6 +59,7 @@ fn cheapest_theatre(
     ensures least { IfSome result (λ t. (r : ℕ) → IsFirstLeast (theatre_value scorer.now p day.0 r) (theatre_count inst.now.draft) t.0) }
     ensures none { IfNone result (theatre_count inst.now.draft ≡ 0) }
 {
+    // For the proof alone.
     scorer.fits();
     if inst.theatres() == 0 {
         return None;

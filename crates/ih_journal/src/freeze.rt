@@ -15,7 +15,7 @@ fn before(stay: Option<Placement>, freeze: u32) -> bool
     }
 }
 
-/// Whether a write changes a choice of a day before `freeze`, or makes one: a nurse of such a day, a stay that begins
+/// Whether a write is of a choice of a day before `freeze`, or makes one: a nurse of such a day, a stay that begins
 /// there in the start, or a stay that would begin there.
 pub fn frozen(start: &Plan, freeze: u32, w: &Write) -> bool
     requires { IsInside start.now w.now }

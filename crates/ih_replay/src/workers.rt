@@ -1,4 +1,4 @@
-//! One worker of a journal: its next attempt, and a replica that stands where the worker last looked.
+//! One worker of a journal: its next attempt, and a replica that stands for the entries that the worker had seen.
 
 ghost use Rattle.std.specs.Prelude.{◌≡◌, ◌<◌, ◌^◌, [], IfOk};
 ghost use Rattle.ih_plan.specs.Timetable.{IsPlanOf};

@@ -36,7 +36,7 @@ fn any_frozen(inst: &Instance, start: &Plan, freeze: u32, writes: &[Write]) -> b
     }
 }
 
-/// Whether one of a move's writes at a timetable changes a choice before the freeze day. Nothing lies before day 0.
+/// Whether one of a move's writes at a timetable is of a choice before the freeze day. Nothing lies before day 0.
 pub(crate) fn is_frozen(
     inst: &Instance,
     start: &Plan,

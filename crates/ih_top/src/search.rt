@@ -113,7 +113,7 @@ fn work<'a, R: Threads + Wait + Sync, G: Gate>(
     run_workers(rt, desk, workers.as_mut_slice(), gate);
 }
 
-/// The whole search, as a book with a full history. Between its opening and its end it takes no memory.
+/// The whole search, as a book with a full history. Between its opening and its end no call answers want of memory.
 pub fn search<'a, R: Threads + Wait + Sync, G: Gate>(
     rt: &R,
     alloc: Global,
