@@ -5,6 +5,8 @@
 mod advice_tests;
 pub mod examples;
 #[cfg(test)]
+mod fill_tests;
+#[cfg(test)]
 mod journal_tests;
 #[cfg(test)]
 mod noted_tests;
