@@ -15,11 +15,10 @@ use Rattle.ih_tables.specs.Works.{max_load}
 use Rattle.ih_plan.specs.declared.moves.Placement.{Placement}
 use Rattle.ih_plan.specs.declared.moves.Write.{Write}
 use Rattle.ih_plan.specs.declared.moves.Write.TheVariants.{SetStay, SetCare}
-use Rattle.ih_plan.specs.declared.moves.Move.{Move}
 use Rattle.ih_plan.specs.declared.moves.Move.TheVariants.{Idle, Place, Withdraw, SetDay, SetRoom, SetTheatre, SwapRooms, Nurse, NurseRun, SwapNurses}
 use Rattle.ih_plan.specs.Timetable.{Timetable, IsPlanOf, stay_of, care_of, choice_of}
 use Rattle.ih_plan.specs.Writes.{put, IsWriteOf}
-use Rattle.ih_plan.specs.Expand.{expand, IsMoveOf, restay, swap_stays}
+use Rattle.ih_plan.specs.Expand.{expand, restay, swap_stays}
 use Rattle.ih_plan.specs.Presence.{admission_of, day_of}
 use Rattle.ih_plan.specs.Costs.{is_number}
 use Rattle.ih_plan.specs.Footprint.{in_placement, in_stay, is_own, in_choice, write_touches, writes_touch}
