@@ -1,5 +1,5 @@
 -- The best write of a choice is least, and where nothing is advised no candidate lowers the score.
-use Rattle.std.proofs.Common.{◌≡◌, ℕ, zero, suc, refl, sym, ap, ◌∙◌, subst, arith, Bool, true, false, List, [], ◌∷◌, Option, Some, None}
+use Rattle.std.proofs.Common.{◌≡◌, ℕ, zero, suc, ◌<◌, refl, sym, ap, ◌∙◌, subst, arith, Bool, true, false, List, [], ◌∷◌, Option, Some, None}
 use Rattle.std.specs.Prelude.{ℤ, pos, ◌≤ℤ◌, ◌<ℤ◌, int_lt, filter_map, slice_get, if◌then◌else◌, T, not}
 use Rattle.std.specs.List.{cons_option}
 use Rattle.std.specs.Int.Signed.{lt_z_no}
@@ -11,7 +11,7 @@ use Rattle.ih_plan.specs.Fill.{cheapest}
 use Rattle.ih_advise.specs.declared.choosing.Advice.{Advice}
 use Rattle.ih_advise.specs.declared.subjects.Subject.{Subject}
 use Rattle.ih_advise.specs.Advising.{advice, advice_on, advised, best_write, clearing, replacements, subjects, value_of}
-use Rattle.ih_advise.specs.Laws.{IsCandidate, IsSubject}
+use Rattle.ih_advise.specs.Laws.{IsBestChange, IsCandidate, IsSubject}
 
 below : (x y : ℤ) → int_lt x y ≡ true → x <ℤ y
 below x y h = record { lt = subst T (sym h) tt }
@@ -45,28 +45,59 @@ cheapest-least v w (y ∷ ys) (suc k) x h =
         omega (arith, ints)
     by_case false dear (suc k) h there most later = later k h
 
--- the cheapest is one of the writes
-pub cheapest-one : (v : Write → ℤ) (w : Write) (ws : List Write) → (k : ℕ) × (slice_get (w ∷ ws) k ≡ Some (cheapest v w ws))
-cheapest-one v w [] = (0, refl)
-cheapest-one v w (y ∷ ys) = by_case (int_lt (v y) (v w)) (cheapest-one v y ys) (cheapest-one v w ys)
-  where
-    skipping : (k : ℕ) (x : Write) → slice_get (w ∷ ys) k ≡ Some x → (n : ℕ) × (slice_get (w ∷ y ∷ ys) n ≡ Some x)
-    skipping zero x h = (zero, h)
-    skipping (suc k) x h = (suc (suc k), h)
+-- the cheapest is at some place, and each before it costs more
+pub record IsFirst (v : Write → ℤ) (ws : List Write) (x : Write) : Type 0 where
+  pub place : ℕ
+  pub is : slice_get ws place ≡ Some x
+  pub first : (j : ℕ) (y : Write) → j < place → slice_get ws j ≡ Some y → v x <ℤ v y
 
-    by_case : (t : Bool) → (k : ℕ) × (slice_get (y ∷ ys) k ≡ Some (cheapest v y ys)) → (k : ℕ) × (slice_get (w ∷ ys) k ≡ Some (cheapest v w ys))
-        → (k : ℕ) × (slice_get (w ∷ y ∷ ys) k ≡ Some (if t then cheapest v y ys else cheapest v w ys))
-    by_case true later other = (suc later.0, later.1)
-    by_case false other later = skipping later.0 (cheapest v w ys) later.1
+pub cheapest-first : (v : Write → ℤ) (w : Write) (ws : List Write) → IsFirst v (w ∷ ws) (cheapest v w ws)
+cheapest-first v w [] = record { place = 0; is = refl; first = λ j y under. absurd (omega (arith, under)) }
+cheapest-first v w (y ∷ ys) =
+    by_case (int_lt (v y) (v w)) refl (cheapest-first v y ys) (cheapest-least v y ys zero y refl) (cheapest-first v w ys) (cheapest-least v w ys zero w refl)
+  where
+    behind : int_lt (v y) (v w) ≡ true → (c : Write) → IsFirst v (y ∷ ys) c → v c ≤ℤ v y → IsFirst v (w ∷ y ∷ ys) c
+    behind less c later most = record { place = suc later.place; is = later.is; first = before }
+      where
+        before : (j : ℕ) (x : Write) → j < suc later.place → slice_get (w ∷ y ∷ ys) j ≡ Some x → v c <ℤ v x
+        before zero x under h =
+            let same : w ≡ x = (let e : Some w ≡ Some x = h in cc) in
+            let e = ap v same in
+            let over = below (v y) (v w) less in
+            omega (arith, ints)
+        before (suc j) x under h = later.first j x (omega (arith, under)) h
+
+    beside : int_lt (v y) (v w) ≡ false → (c : Write) (k : ℕ) → slice_get (w ∷ ys) k ≡ Some c
+        → ((j : ℕ) (x : Write) → j < k → slice_get (w ∷ ys) j ≡ Some x → v c <ℤ v x) → IsFirst v (w ∷ y ∷ ys) c
+    beside dear c zero h first = record { place = 0; is = h; first = λ j x under. absurd (omega (arith, under)) }
+    beside dear c (suc k) h first = record { place = suc (suc k); is = h; first = before }
+      where
+        before : (j : ℕ) (x : Write) → j < suc (suc k) → slice_get (w ∷ y ∷ ys) j ≡ Some x → v c <ℤ v x
+        before zero x under h = first zero x (omega arith) h
+        before (suc zero) x under h =
+            let same : y ≡ x = (let e : Some y ≡ Some x = h in cc) in
+            let e = ap v same in
+            let over = not-below (v y) (v w) dear in
+            let least = first zero w (omega arith) refl in
+            omega (arith, ints)
+        before (suc (suc j)) x under h = first (suc j) x (omega (arith, under)) h
+
+    by_case : (t : Bool) → int_lt (v y) (v w) ≡ t → IsFirst v (y ∷ ys) (cheapest v y ys) → v (cheapest v y ys) ≤ℤ v y
+        → IsFirst v (w ∷ ys) (cheapest v w ys) → v (cheapest v w ys) ≤ℤ v w → IsFirst v (w ∷ y ∷ ys) (if t then cheapest v y ys else cheapest v w ys)
+    by_case true less later most other dear = behind less (cheapest v y ys) later most
+    by_case false dear later most other least = beside dear (cheapest v w ys) other.place other.is other.first
 
 pub best-least : (I : Draft) (hard : ℕ) (P : Timetable) (s : Subject) (w : Write) → IsCandidate I s w
     → value_of I hard P (best_write I hard P s) ≤ℤ value_of I hard P w
 unfolding best_write
 best-least I hard P s w is = cheapest-least (value_of I hard P) (clearing s) (replacements I s) is.0 w is.1
 
-best-one : (I : Draft) (hard : ℕ) (P : Timetable) (s : Subject) → IsCandidate I s (best_write I hard P s)
+best-first : (I : Draft) (hard : ℕ) (P : Timetable) (s : Subject) → IsFirst (value_of I hard P) (clearing s ∷ replacements I s) (best_write I hard P s)
 unfolding best_write
-best-one I hard P s = cheapest-one (value_of I hard P) (clearing s) (replacements I s)
+best-first I hard P s = cheapest-first (value_of I hard P) (clearing s) (replacements I s)
+
+best-one : (I : Draft) (hard : ℕ) (P : Timetable) (s : Subject) → IsCandidate I s (best_write I hard P s)
+best-one I hard P s = let best = best-first I hard P s in (best.place, best.is)
 
 -- ---- lists
 
@@ -84,7 +115,48 @@ each-none : (f : Subject → Option Advice) (ss : List Subject) → ((k : ℕ) (
 each-none f [] h = refl
 each-none f (z ∷ zs) h = ap (λ o. cons_option o (filter_map f zs)) (h 0 z refl) ∙ each-none f zs (λ k s there. h (suc k) s there)
 
--- ---- the law
+-- what is found in a list came from one of its subjects
+found-on : (f : Subject → Option Advice) (ss : List Subject) (k : ℕ) (a : Advice) → slice_get (filter_map f ss) k ≡ Some a
+    → (s : Subject) × ((i : ℕ) × (slice_get ss i ≡ Some s)) × (f s ≡ Some a)
+found-on f [] k a h = absurd (let no : None ≡ Some a = h in cc)
+found-on f (z ∷ zs) k a h = by_case (f z) refl k h (λ j later. further (found-on f zs j a later))
+  where
+    further : (s : Subject) × ((i : ℕ) × (slice_get zs i ≡ Some s)) × (f s ≡ Some a) → (s : Subject) × ((i : ℕ) × (slice_get (z ∷ zs) i ≡ Some s)) × (f s ≡ Some a)
+    further (s, (i, there), is) = (s, (suc i, there), is)
+
+    by_case : (o : Option Advice) → f z ≡ o → (k : ℕ) → slice_get (cons_option o (filter_map f zs)) k ≡ Some a
+        → ((j : ℕ) → slice_get (filter_map f zs) j ≡ Some a → (s : Subject) × ((i : ℕ) × (slice_get (z ∷ zs) i ≡ Some s)) × (f s ≡ Some a))
+        → (s : Subject) × ((i : ℕ) × (slice_get (z ∷ zs) i ≡ Some s)) × (f s ≡ Some a)
+    by_case (Some b) e zero there later = (z, (0, refl), e ∙ there)
+    by_case (Some b) e (suc j) there later = later j there
+    by_case None e j there later = later j there
+
+-- ---- the laws
+
+-- what is advised on a choice is its best change
+best-change : (I : Draft) (hard : ℕ) (P : Timetable) (s : Subject) (a : Advice) → advice_on I hard P s ≡ Some a → IsBestChange I hard P s a
+unfolding advice_on
+best-change I hard P s a h = by_case (int_lt (value_of I hard P (best_write I hard P s)) (pos 0)) refl h (best-first I hard P s)
+  where
+    by_case : (t : Bool) → int_lt (value_of I hard P (best_write I hard P s)) (pos 0) ≡ t
+        → (if t then Some (advised I hard P (best_write I hard P s)) else None) ≡ Some a
+        → IsFirst (value_of I hard P) (clearing s ∷ replacements I s) (best_write I hard P s) → IsBestChange I hard P s a
+    by_case true less is best = subst (IsBestChange I hard P s) (let e : Some (advised I hard P (best_write I hard P s)) ≡ Some a = is in cc) (record {
+      place = best.place;
+      candidate = best.is;
+      score = refl;
+      lowers = below (value_of I hard P (best_write I hard P s)) (pos 0) less;
+      price = refl;
+      least = best-least I hard P s;
+      first = best.first;
+    })
+    by_case false dear is best = absurd (let no : None ≡ Some a = is in cc)
+
+pub advice-best : (I : Draft) (hard : ℕ) (P : Timetable) (k : ℕ) (a : Advice) → slice_get (advice I hard P) k ≡ Some a
+    → (s : Subject) × IsSubject I s × IsBestChange I hard P s a
+advice-best I hard P k a h =
+    let found = found-on (advice_on I hard P) (subjects I) k a h in
+    (found.0, found.1, best-change I hard P found.0 a found.2)
 
 pub only-best : (I : Draft) (hard : ℕ) (P : Timetable) → advice I hard P ≡ [] → (s : Subject) (w : Write) → IsSubject I s → IsCandidate I s w
     → pos 0 ≤ℤ value_of I hard P w

@@ -1,10 +1,10 @@
 //! Laws of advice, each on a function that does nothing.
 
-ghost use Rattle.ih_advise.specs.Laws.{BestWritesAreLeast, LocallyBest, LocallyBestIsSaid};
+ghost use Rattle.ih_advise.specs.Laws.{AdviceIsBest, LocallyBest, LocallyBestIsSaid};
 
-/// What is advised on a choice is least among all its candidates.
-pub fn best_writes_are_least()
-    ensures { BestWritesAreLeast }
+/// Each line of advice is the best change of a choice: the first least of all its candidates, with its exact price.
+pub fn advice_is_best()
+    ensures { AdviceIsBest }
 {}
 
 /// Nothing is advised exactly where no candidate of any choice lowers the score.

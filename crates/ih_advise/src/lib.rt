@@ -10,6 +10,6 @@ mod texts;
 
 pub use advising::advise;
 pub use choosing::Advice;
-pub use laws::{best_writes_are_least, locally_best, locally_best_is_said};
+pub use laws::{advice_is_best, locally_best, locally_best_is_said};
 pub use subjects::Subject;
 pub use texts::advice_text;
