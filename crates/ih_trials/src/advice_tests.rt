@@ -31,7 +31,17 @@ fn two_workers_look_side_by_side(rt: HostRuntime) {
     let mut out = MemSink::new(alloc);
     let gate = HoldGate::new(TURNS, 1);
     assert!(rt; lay(alloc, &mut shelf, TWO_PATIENTS, ONE_ADMITTED).is_ok());
-    assert!(rt; exits_past(&rt, alloc, BY_TWO, &mut shelf, &mut out, &gate, Status::Done));
+    assert!(rt;
+        exits_past(
+            &rt,
+            alloc,
+            BY_TWO,
+            &mut shelf,
+            &mut out,
+            &gate,
+            Status::Done
+        )
+    );
     assert!(rt; out.bytes() == TWO_CHANGES.as_bytes() && !gate.ran_out());
 }
 

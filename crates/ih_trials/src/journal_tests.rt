@@ -2,7 +2,7 @@
 
 use crate::examples::{
     COVERED_SOLUTION, DEMO, FILLED, FOUND, JOURNAL, NO_MOVES, NOTHING, ONE_ADMITTED, SALVAGED,
-    SEARCH, TWO_PATIENTS, USAGE, WARD,
+    SEARCH, TWO_PATIENTS, WARD,
 };
 use crate::trials::{are_same, ends, exits, holds, lay, store_changed};
 use ih_journal::{JournalRefusal, Reason};
@@ -145,20 +145,6 @@ const DECLINED: &str = "0,0,0,0,0,0 declined";
 const STALE_ON_DAY_0: &str = "0,0,0,0,0,0 stale:roomday.0.0:0:0";
 
 const STALE_ON_DAY_1: &str = "0,0,0,0,0,0 stale:roomday.1.0:0:0";
-
-const ONE_NAME_TWICE: &str = "solve i o o --seed 0 --workers 1 --moves 2 --heat 0 --hard 1000";
-
-const MANY_WORKERS: &str = "solve i o j --seed 0 --workers 65 --moves 2 --heat 0 --hard 1000";
-
-const MOST_MOVES: &str = "solve i o j --seed 0 --workers 64 --moves 15625 --heat 0 --hard 1000";
-
-const MANY_MOVES: &str = "solve i o j --seed 0 --workers 64 --moves 15626 --heat 0 --hard 1000";
-
-const MANY_TRIES: &str =
-    "solve i o j --seed 0 --workers 64 --moves 15625 --heat 0 --hard 1000 --retries 1";
-
-const NO_DAY_FROZEN: &str =
-    "solve i o j --seed 0 --workers 1 --moves 2 --heat 0 --hard 1000 --freeze 0";
 
 // Lays out the ward, and this journal, in which `to` stands where `from` stood.
 fn lay_ward(
@@ -539,43 +525,4 @@ fn shows(rt: HostRuntime) {
     let mut shelf = MemShelf::new(alloc);
     assert!(rt; ends(&rt, alloc, "demo 7", &mut shelf, Status::Done, DEMO));
     assert!(rt; says_nothing(&rt, alloc, &mut shelf, "demo 7", UNPUT));
-}
-
-// Whether the words name a call, which finds no instance.
-fn is_lawful<R: Files + Print + Threads + Wait + Sync>(rt: &R, alloc: Global, words: &str) -> bool {
-    let mut shelf = MemShelf::new(alloc);
-    ends(
-        rt,
-        alloc,
-        words,
-        &mut shelf,
-        Status::ReadFault(Role::Instance),
-        "cannot read i\n",
-    )
-}
-
-// Whether the words name no call.
-fn is_unlawful<R: Files + Print + Threads + Wait + Sync>(
-    rt: &R,
-    alloc: Global,
-    words: &str,
-) -> bool {
-    let mut shelf = MemShelf::new(alloc);
-    ends(rt, alloc, words, &mut shelf, Status::Usage, USAGE)
-}
-
-#[test]
-fn unlawful_words(rt: HostRuntime) {
-    let alloc = rt.alloc();
-    assert!(rt; is_unlawful(&rt, alloc, ""));
-    assert!(rt; is_unlawful(&rt, alloc, ONE_NAME_TWICE));
-    assert!(rt; is_unlawful(&rt, alloc, MANY_WORKERS));
-    assert!(rt; is_unlawful(&rt, alloc, MANY_MOVES));
-    assert!(rt; is_unlawful(&rt, alloc, MANY_TRIES));
-    assert!(rt; is_unlawful(&rt, alloc, NO_DAY_FROZEN));
-    assert!(rt; is_unlawful(&rt, alloc, "replay i j o --start s --freeze 1 --fill"));
-    assert!(rt; is_unlawful(&rt, alloc, "salvage i j j"));
-    assert!(rt; is_unlawful(&rt, alloc, "gen o 7"));
-    assert!(rt; is_unlawful(&rt, alloc, "demo"));
-    assert!(rt; is_lawful(&rt, alloc, MOST_MOVES));
 }

@@ -17,4 +17,6 @@ mod tests;
 #[cfg(test)]
 mod trials;
 #[cfg(test)]
+mod words_tests;
+#[cfg(test)]
 mod worker_tests;
