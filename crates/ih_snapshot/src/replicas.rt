@@ -167,9 +167,9 @@ impl<'a> Replica<'a> {
         self.seen
     }
 
-    /// The offer of its worker for a move of this number, priced after the entries that it stands for, and whether the move
-    /// writes a choice before the freeze day. Where it doesn't, and the price's score is at most what its number may cost,
-    /// the offer has the cells of the move's footprint there, each with its version, and else none.
+    /// The offer of its worker for a move of this number, priced after the entries that it stands for, and whether the
+    /// move writes a choice before the freeze day. Where it doesn't, and the price's score is at most what its number
+    /// may cost, the offer has the cells of the move's footprint there, each with its version, and else none.
     pub fn price(&mut self, mv: &Move, number: u32) -> &Offer
         requires { IsMoveOf self.old.base.instance mv.now }
         ensures offer { IsOfferOf self.old number mv.now result.now }
