@@ -1,14 +1,21 @@
 -- The best of a choice's candidates, from the least of the nurses and from the least of the stays.
-use Rattle.std.proofs.Common.{◌≡◌, ℕ, refl, sym, ap, ◌∙◌, arith, Bool, true, false, List, [], ◌∷◌, Option, Some, None}
-use Rattle.std.specs.Prelude.{ℤ, int_lt, if◌then◌else◌}
+use Rattle.std.proofs.Common.{◌≡◌, refl, sym, ap, ◌∙◌, arith, Bool, true, false, List, [], ◌∷◌, Some, None}
+use Rattle.std.specs.Prelude.{ℕ, ℤ, pos, ◌<ℤ◌, ◌≤ℤ◌, int_lt, if◌then◌else◌}
 use Rattle.std.proofs.lemmas.Int.{ints}
+use Rattle.ih_tables.specs.declared.bills.Bill.{Bill}
+use Rattle.ih_tables.specs.declared.drafts.Draft.{Draft}
 use Rattle.ih_plan.specs.declared.moves.Write.{Write}
+use Rattle.ih_plan.specs.Timetable.{Timetable}
+use Rattle.ih_plan.specs.Writes.{put}
+use Rattle.ih_plan.specs.BillOf.{change_of_bill}
 use Rattle.ih_plan.specs.Fill.{cheapest, write_score}
 use Rattle.ih_fill.specs.declared.candidates.Candidate.{Candidate}
 use Rattle.ih_fill.specs.Candidates.{valued, least_of}
 use Rattle.ih_fill.specs.Scoring.{Scoring, care_value, stay_value, view_of}
 use Rattle.ih_fill.proofs.CandidateLemmas.{cheaper, cheaper-more}
-use Rattle.ih_advise.specs.Advising.{value_of}
+use Rattle.ih_advise.specs.declared.choosing.Advice.{Advice}
+use Rattle.ih_advise.specs.declared.subjects.Subject.{Subject}
+use Rattle.ih_advise.specs.Advising.{advice_on, advised, best_of, best_write, value_of}
 
 module _ (v : Write → ℤ) where
   picked : (w x c : Write) (a : Bool) → int_lt (v x) (v w) ≡ a → (b : Bool) → int_lt (v c) (v x) ≡ b → (d : Bool) → int_lt (v c) (v w) ≡ d
@@ -48,3 +55,42 @@ care-whole F = refl
 pub stay-whole : (F : Scoring) → F.counts_uncovered ≡ true → stay_value F ≡ value_of F.instance F.hard F.plan
 unfolding stay_value
 stay-whole F counts = ap (λ b. write_score F.instance F.hard (view_of b) F.plan) counts
+
+-- ---- what is advised
+
+-- a candidate with its price
+abbrev pub priced : Candidate → Bill → Advice
+priced c price = record { write = c.write; score = c.value; price = price }
+
+is-low : (x y : ℤ) → x ≡ y → x <ℤ pos 0 → int_lt y (pos 0) ≡ true
+is-low x y e h = by_case (int_lt y (pos 0)) refl
+  where
+    by_case : (t : Bool) → int_lt y (pos 0) ≡ t → t ≡ true
+    by_case true f = refl
+    by_case false f = absurd (omega (arith, ints))
+
+is-high : (x y : ℤ) → x ≡ y → pos 0 ≤ℤ x → int_lt y (pos 0) ≡ false
+is-high x y e h = by_case (int_lt y (pos 0)) refl
+  where
+    by_case : (t : Bool) → int_lt y (pos 0) ≡ t → t ≡ false
+    by_case true f = absurd (omega (arith, ints))
+    by_case false f = refl
+
+-- the best of a choice is advised where its value is below 0
+pub best-advised : (I : Draft) (hard : ℕ) (P : Timetable) (s : Subject) (b : Candidate) (price : Bill) → b ≡ best_of I hard P s → b.value <ℤ pos 0
+    → price ≡ change_of_bill I P (put b.write P) → Some (priced b price) ≡ advice_on I hard P s
+unfolding advice_on
+best-advised I hard P s b price is low e =
+    let w = best_write I hard P s in
+    let lower : int_lt (value_of I hard P w) (pos 0) ≡ true = is-low b.value (value_of I hard P w) (ap (λ (c : Candidate). c.value) is) low in
+    ap (λ p. Some (priced b p)) e
+    ∙ (ap (λ (c : Candidate). Some (priced c (change_of_bill I P (put c.write P)))) is
+    ∙ ap (λ (t : Bool). if t then Some (advised I hard P w) else None) (sym lower))
+
+-- and nothing otherwise
+pub none-advised : (I : Draft) (hard : ℕ) (P : Timetable) (s : Subject) (b : Candidate) → b ≡ best_of I hard P s → pos 0 ≤ℤ b.value → None ≡ advice_on I hard P s
+unfolding advice_on
+none-advised I hard P s b is high =
+    let w = best_write I hard P s in
+    let higher : int_lt (value_of I hard P w) (pos 0) ≡ false = is-high b.value (value_of I hard P w) (ap (λ (c : Candidate). c.value) is) high in
+    ap (λ (t : Bool). if t then Some (advised I hard P w) else None) (sym higher)

@@ -1,8 +1,10 @@
 -- An adviser's answers, and where the answer to each choice is.
 use Rattle.std.proofs.Common.{◌≡◌, ℕ, zero, suc, ◌+◌, ◌*◌, ◌%◌, ◌/◌, ◌<◌, ◌≤◌, refl, sym, ap, ◌∙◌, subst, arith, inl, inr, List, [], ◌∷◌, ◌++◌, length, Option, Some}
-use Rattle.std.specs.Prelude.{slice_get, slice_index_or, option_and_then, filter_map}
+use Rattle.std.specs.Prelude.{slice_get, slice_index_or, filter_map, vec_capacity, All}
+use Rattle.std.specs.Int.{div_ceil}
 use Rattle.std.specs.List.{range_with_len, cons_option}
 use Rattle.std.proofs.lemmas.Bool.{cases_lt}
+use Rattle.std.proofs.lemmas.Grind.{div_ceil_times}
 use Rattle.std.proofs.lemmas.List.{length-append}
 use Rattle.std.proofs.lemmas.Option.{slice_get_within, get_or_from_slice_get}
 use Rattle.std.proofs.lemmas.List.Elements.{filter_map-append}
@@ -14,7 +16,7 @@ use Rattle.ih_advise.specs.declared.advisers.Adviser.{Adviser}
 use Rattle.ih_advise.specs.declared.choosing.Advice.{Advice}
 use Rattle.ih_advise.specs.declared.subjects.Subject.{Subject}
 use Rattle.ih_advise.specs.Advising.{advice, advice_on, subjects}
-use Rattle.ih_advise.specs.Weaving.{HasAnswered, HaveAnswered, found_of}
+use Rattle.ih_advise.specs.Weaving.{HasAnswered, HaveAnswered, IsReady, found_of}
 
 get-earlier : {A : Type 0} (xs : List A) (x : A) (k : ℕ) → k < length xs → slice_get (xs ++ x ∷ []) k ≡ slice_get xs k
 get-earlier [] x k h = absurd (omega arith)
@@ -107,6 +109,18 @@ module _ (I : Draft) (hard : ℕ) (P : Timetable) where
   all-found n count advisers some all e =
       ap (λ c. filter_map (found_of advisers) (range_with_len 0 c)) e
       ∙ by-place (found_of advisers) (advice_on I hard P) (subjects I) 0 (λ s z asked. let first : 0 + s ≡ s = omega arith in ap (found_of advisers) first ∙ found-at n advisers some all s z asked)
+
+-- each adviser is ready where each has room for as many answers as the choices over the advisers, rounded up
+pub all-ready : (I : Draft) (count n most : ℕ) (advisers : List Adviser) → 0 < n → count ≡ length (subjects I) → most ≡ div_ceil count n → length advisers ≡ n
+    → All (λ a. (a.found.items ≡ []) × (vec_capacity a.found ≡ most)) advisers → All (IsReady I (length advisers)) advisers
+all-ready I count n most advisers some counted share len each = λ k d inside.
+    let own = each k d inside in
+    let enough : length (subjects I) ≤ most * n =
+    subst (λ m. length (subjects I) ≤ m * n) (sym share) (subst (λ s. s ≤ div_ceil count n * n) counted (div_ceil_times count n some).0) in
+    record {
+      none = own.0;
+      room = subst (λ m. length (subjects I) ≤ m * length advisers) (sym own.1) (subst (λ m. length (subjects I) ≤ most * m) (sym len) enough);
+    }
 
 -- with one number more
 pub found-more : (f : ℕ → Option Advice) (n : ℕ) → filter_map f (range_with_len 0 (n + 1)) ≡ filter_map f (range_with_len 0 n) ++ cons_option (f n) []

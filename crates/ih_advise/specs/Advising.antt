@@ -1,5 +1,5 @@
 -- The best single replacement of each choice of a timetable.
-use Rattle.std.specs.Prelude.{ℕ, ◌<◌, ℤ, pos, int_lt, List, ◌∷◌, ◌++◌, Option, Some, None, if◌then◌else◌, map, filter_map}
+use Rattle.std.specs.Prelude.{ℕ, ◌<◌, ℤ, pos, int_lt, List, ◌++◌, Option, Some, None, if◌then◌else◌, map, filter_map}
 use Rattle.std.specs.List.{range_with_len}
 use Rattle.ih_tables.specs.declared.drafts.Draft.{Draft}
 use Rattle.ih_tables.specs.Sizes.{patient_count, room_count, shift_count}

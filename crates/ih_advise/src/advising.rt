@@ -4,7 +4,7 @@ ghost use Rattle.std.specs.Prelude.{◌≡◌, ◌<◌, ◌≤◌, ◌++◌, [],
 ghost use Rattle.std.specs.List.{cons_option, range_with_len};
 ghost use Rattle.ih_plan.specs.Timetable.{IsPlanOf};
 ghost use Rattle.ih_advise.specs.Advising.{advice};
-ghost use Rattle.ih_advise.specs.Weaving.{HaveAnswered, IsReady, found_of};
+ghost use Rattle.ih_advise.specs.Weaving.{HasAnswered, HaveAnswered, IsReady, found_of};
 
 use crate::advisers::Adviser;
 use crate::choosing::Advice;
@@ -33,6 +33,28 @@ fn new_advisers(alloc: Global, count: usize, most: usize) -> Result<Vec<Adviser>
     Ok(advisers)
 }
 
+// One adviser's work, between its two passes of the gate.
+fn work_alone<R: Wait, G: Gate>(
+    rt: &R,
+    inst: &Instance,
+    scorer: &Scorer<'_>,
+    count: usize,
+    number: usize,
+    adviser: &mut Adviser,
+    gate: &G,
+)
+    requires instance { scorer.now.instance ≡ inst.now.draft }
+    requires counts { scorer.now.counts_uncovered ≡ true }
+    requires few { count ≤ 64 }
+    requires number { number < count }
+    requires ready { IsReady inst.now.draft count adviser.old }
+    ensures { HasAnswered inst.now.draft scorer.now.hard scorer.now.plan count number adviser.new.found.items }
+{
+    gate.before(rt, number as u32, 0);
+    adviser.advise_all(inst, scorer, count, number);
+    gate.after(rt, number as u32, 0);
+}
+
 // Lets each adviser look for its advice, in a thread of its own where one can be started. All price from one set of ledgers.
 fn work<R: Threads + Wait + Sync, G: Gate>(
     rt: &R,
@@ -52,11 +74,9 @@ fn work<R: Threads + Wait + Sync, G: Gate>(
         rt,
         advisers,
         MOST_THREADS,
-        &|number, adviser| {
-            gate.before(rt, number as u32, 0);
-            adviser.advise_all(inst, scorer, count, number);
-            gate.after(rt, number as u32, 0);
-        },
+        &|number, adviser|
+            requires { (scorer.now.instance ≡ inst.now.draft) × (scorer.now.counts_uncovered ≡ true) × (count ≤ 64) × (number < count) × IsReady inst.now.draft count adviser.now }
+        { work_alone(rt, inst, scorer, count, number, adviser, gate) },
     );
 }
 
@@ -95,6 +115,26 @@ fn gather(alloc: Global, advisers: &[Adviser], count: usize) -> Result<Vec<Advic
     Ok(list)
 }
 
+// What the advisers find, side by side, in the order of the choices.
+fn advise_by<R: Threads + Wait + Sync, G: Gate>(
+    rt: &R,
+    alloc: Global,
+    inst: &Instance,
+    scorer: &Scorer<'_>,
+    advisers: &mut [Adviser],
+    gate: &G,
+) -> Result<Vec<Advice>, AllocError>
+    requires instance { scorer.now.instance ≡ inst.now.draft }
+    requires counts { scorer.now.counts_uncovered ≡ true }
+    requires some { 0 < length advisers.old }
+    requires few { length advisers.old ≤ 64 }
+    requires ready { All (IsReady inst.now.draft (length advisers.old)) advisers.old }
+    ensures { IfOk result (λ v. v.items ≡ advice inst.now.draft scorer.now.hard scorer.now.plan) }
+{
+    work(rt, inst, scorer, advisers, gate);
+    gather(alloc, advisers, subject_count(inst))
+}
+
 /// What is advised on a timetable, in the order of the choices: for each choice that one other write may improve, the first
 /// write of least score, by how much it changes the score, and what it changes in the bill. `hard` is the weight of a broken
 /// rule in a score. Whatever the number of workers, from 1 to 64, the advice is the same; each passes the gate once.
@@ -114,8 +154,8 @@ pub fn advise<R: Threads + Wait + Sync, G: Gate>(
     ensures { IfOk result (λ v. v.items ≡ advice inst.now.draft hard plan.now) }
 {
     let scorer = Scorer::new(alloc, inst, hard, true, plan)?;
-    let count = subject_count(inst);
-    let mut advisers = new_advisers(alloc, workers as usize, count.div_ceil(workers as usize))?;
-    work(rt, inst, &scorer, advisers.as_mut_slice(), gate);
-    gather(alloc, advisers.as_slice(), count)
+    let workers = workers as usize;
+    let most = subject_count(inst).div_ceil(workers);
+    let mut advisers = new_advisers(alloc, workers, most)?;
+    advise_by(rt, alloc, inst, &scorer, advisers.as_mut_slice(), gate)
 }

@@ -9,7 +9,7 @@ use crate::generate::read_gen;
 use crate::replay::read_replay;
 use crate::rounds::read_rounds;
 use crate::solve::read_solve;
-use crate::{Check, Gen, Replay, Rounds, Solve, WordsError, Advise};
+use crate::{Advise, Check, Gen, Replay, Rounds, Solve, WordsError};
 use std::alloc::Global;
 
 /// A lawful command with its values.

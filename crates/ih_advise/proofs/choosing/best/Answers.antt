@@ -1,4 +1,4 @@
-use Rattle.std.proofs.Common.{◌≡◌, ◌∙◌, ap, None}
+use Rattle.std.proofs.Common.{◌≡◌, ◌∙◌, sym, ap, None}
 use Rattle.std.specs.Prelude.{ℤ}
 use Rattle.ih_tables.specs.declared.drafts.Draft.{Draft}
 use Rattle.ih_plan.specs.declared.moves.Write.{Write}
@@ -7,7 +7,8 @@ use Rattle.ih_plan.specs.Fill.{cheapest, stay_writes}
 use Rattle.ih_fill.specs.declared.candidates.Candidate.{Candidate}
 use Rattle.ih_fill.specs.Candidates.{valued}
 use Rattle.ih_fill.specs.Scoring.{stay_value}
-use Rattle.ih_advise.specs.Advising.{best_write, value_of}
+use Rattle.ih_advise.specs.declared.subjects.Subject.{Subject}
+use Rattle.ih_advise.specs.Advising.{best_of, best_write, value_of}
 use Rattle.ih_advise.proofs.Choices.{stay-whole}
 use Rattle.ih_advise.proofs.choosing.best.Goals as goal
 
@@ -22,4 +23,5 @@ returns-in-StayOf-clause-best c =
     let same : stay_value F ≡ v = stay-whole F c.requires.counts ∙ ap (λ (J : Draft). value_of J F.hard F.plan) c.requires.instance in
     c.cheapest_stay.ensures.least
     ∙ (ap (λ (x : Candidate). valued (stay_value F) (cheapest (stay_value F) x.write ws)) c.left_out-out.ensures
-    ∙ ap (λ (f : Write → ℤ). valued f (cheapest f (SetStay p None) ws)) same)
+    ∙ (ap (λ (f : Write → ℤ). valued f (cheapest f (SetStay p None) ws)) same
+    ∙ ap (λ (s : Subject). best_of I F.hard F.plan s) (sym c.in-StayOf.is)))

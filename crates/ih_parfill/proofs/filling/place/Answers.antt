@@ -12,14 +12,14 @@ use Rattle.ih_parfill.proofs.Least.{never-none, least-found}
 use Rattle.ih_parfill.proofs.Passes.{stay-found}
 use Rattle.ih_parfill.proofs.filling.place.Goals as goal
 
-pub prove-unreachable-requires : goal.prove-unreachable-requires
-prove-unreachable-requires g c =
+pub unreachable-requires : goal.unreachable-requires
+unreachable-requires g c =
     let I = c.args.inst.now.draft in
     let v = stay_value c.args.scorer.now in
     let ws : List Write = SetStay c.args.p None ∷ stay_writes I c.args.p.0 in
     let shares = c.share_stays.new.shares in
     let all = subst (λ n. AreShares I v ws n shares) (sym c.share_stays.ensures.len) c.share_stays.ensures in
-    never-none v (SetStay c.args.p None) (stay_writes I c.args.p.0) (c.in-None.ensures I v ws all).least
+    never-none v (SetStay c.args.p None) (stay_writes I c.args.p.0) (c.in_default.ensures I v ws all).least
 
 pub put-requires : goal.put-requires
 put-requires g c =

@@ -1,4 +1,4 @@
-use Rattle.std.proofs.Common.{◌≡◌, ◌≤◌, ◌+◌, length}
+use Rattle.std.proofs.Common.{◌≡◌, ◌≤◌, ◌+◌}
 use Rattle.ih_plan.specs.Fill.{with_stays}
 use Rattle.ih_plan.specs.Sums.{which_below}
 use Rattle.ih_fill.specs.Scoring.{is_waiting}

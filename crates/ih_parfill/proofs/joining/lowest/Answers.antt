@@ -1,7 +1,6 @@
-use Rattle.std.proofs.Common.{◌≡◌, ℕ, ◌%◌, ◌<◌, length, arith, None}
+use Rattle.std.proofs.Common.{length, None}
 use Rattle.std.specs.Prelude.{slice_index_or}
-use Rattle.std.proofs.Math.Nat.{mod-lt}
-use Rattle.ih_parfill.proofs.Least.{IsOfFirst, all-none, all-more, all-of}
+use Rattle.ih_parfill.proofs.Least.{all-none, all-more, all-of}
 use Rattle.ih_parfill.proofs.joining.lowest.Goals as goal
 
 pub loop-w-init : goal.loop-w-init

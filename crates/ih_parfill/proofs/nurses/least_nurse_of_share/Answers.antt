@@ -1,4 +1,4 @@
-use Rattle.std.proofs.Common.{◌≡◌, ◌<◌, ◌+◌, ◌∙◌, sym, ap, subst, arith, ℕ, map, Some, Bool, List, [], ◌∷◌, ◌++◌}
+use Rattle.std.proofs.Common.{◌≡◌, ◌<◌, ◌+◌, ◌∙◌, sym, ap, arith, ℕ, map, Some, Bool, List, [], ◌∷◌, ◌++◌}
 use Rattle.std.specs.Prelude.{is_some}
 use Rattle.ih_tables.specs.Sizes.{nurse_count}
 use Rattle.ih_tables.specs.Works.{max_load}
@@ -10,7 +10,6 @@ use Rattle.ih_fill.specs.Scoring.{care_value}
 use Rattle.ih_fill.proofs.CandidateLemmas.{care-fits}
 use Rattle.ih_fill.proofs.ListLemmas.{which-more, which-same}
 use Rattle.ih_parfill.specs.declared.shares.Share.{Share}
-use Rattle.ih_parfill.specs.Shares.{HasLooked}
 use Rattle.ih_parfill.proofs.Least.{looked-none, of-share}
 use Rattle.ih_parfill.proofs.nurses.least_nurse_of_share.Goals as goal
 use Rattle.ih_parfill.proofs.nurses.least_nurse_of_share.Goals.{then-is_some+then-is_own, then-is_some+else-is_own, else-is_some}

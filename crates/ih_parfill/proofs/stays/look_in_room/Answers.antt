@@ -1,4 +1,4 @@
-use Rattle.std.proofs.Common.{◌≡◌, ◌<◌, ◌≤◌, ◌∙◌, sym, ap, subst, arith, refl, ℕ, List, [], ◌++◌, Some}
+use Rattle.std.proofs.Common.{◌+◌, ◌<◌, ◌∙◌, sym, ap, subst, arith, refl, ℕ, ◌++◌, Some}
 use Rattle.std.proofs.lemmas.List.{append-nil}
 use Rattle.ih_tables.specs.Sizes.{theatre_count}
 use Rattle.ih_plan.specs.declared.moves.Write.{Write}

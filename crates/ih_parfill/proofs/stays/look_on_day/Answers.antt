@@ -1,4 +1,4 @@
-use Rattle.std.proofs.Common.{◌≡◌, ◌∙◌, sym, subst, arith, refl, ℕ, List, ◌++◌, true, false}
+use Rattle.std.proofs.Common.{◌≡◌, ◌+◌, ◌∙◌, sym, subst, arith, refl, ℕ, List, ◌++◌, true, false}
 use Rattle.std.proofs.lemmas.List.{append-nil}
 use Rattle.ih_tables.specs.Sizes.{theatre_count}
 use Rattle.ih_plan.specs.declared.moves.Write.{Write}

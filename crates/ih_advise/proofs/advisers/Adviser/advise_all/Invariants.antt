@@ -1,5 +1,4 @@
-use Rattle.std.proofs.Common.{◌≡◌, ◌-◌, length, vec_capacity}
-use Rattle.ih_advise.specs.Advising.{subjects}
+use Rattle.std.proofs.Common.{◌≡◌, ◌-◌, vec_capacity}
 use Rattle.ih_advise.proofs.Places.{HasCome}
 use Rattle.ih_advise.proofs.advisers.Adviser.advise_all.Given as goal
 
