@@ -75,6 +75,7 @@ come-none b answers old P is fits = record {
     rounds = [];
     count_is = refl;
     legal = λ q r h. absurd (let no : None ≡ Some r = h in cc);
+    fits = λ q r h. absurd (let no : None ≡ Some r = h in cc);
     told = with-none answers;
     written = sym (append-nil old);
   };
@@ -100,6 +101,10 @@ come-more b count before between after old new more best found P outcome come ha
         rounds = rs ++ r ∷ [];
         count_is = omega (arith, len, length-append rs (r ∷ []));
         legal = rounds-more b rs r come.run.legal (rw len (record { start = come.next; full = has.full }));
+        fits = λ q s h. elim (get-more rs r s q h) [
+          | inl earlier ↦ come.run.fits q s earlier
+          | inr last ↦ subst (λ (t : Round). IsPlanOf b.instance t.start) last.1 come.fits
+        ];
         told = has.told ∙ (ap (λ a. with_answers a (H ∷ [])) come.run.told
             ∙ (with-more before (histories rs) (H ∷ []) ∙ ap (with_answers before) (sym (map-append (λ (s : Round). s.history) rs (r ∷ [])))));
         written = has.written ∙ (ap (λ t. t ++ journal (options_in b.options count) H) come.run.written

@@ -1,5 +1,5 @@
 -- How rounds end.
-use Rattle.std.specs.Prelude.{◌≡◌, ℕ, ℤ, not, int_lt, Bool, false, List, ◌++◌, length, Option, Some, None, if◌then◌else◌}
+use Rattle.std.specs.Prelude.{◌≡◌, ℕ, ℤ, not, int_lt, Bool, false, List, ◌++◌, length, Option, Some, None, if◌then◌else◌, slice_get}
 use Rattle.ih_plan.specs.Timetable.{IsPlanOf, Timetable}
 use Rattle.ih_journal.specs.Base.{Base}
 use Rattle.ih_journal.specs.History.{plan_at}
@@ -10,11 +10,13 @@ use Rattle.ih_rounds.specs.Best.{HaveNone, IsBestOf, cost_in}
 use Rattle.ih_rounds.specs.Rounds.{AreRounds, Round, base_in, histories, journals}
 use Rattle.ih_rounds.specs.Telling.{Answers, with_answers}
 
--- So many rounds were searched: the searcher's answers are their histories, and their journals were appended.
+-- So many rounds were searched: the searcher's answers are their histories, and their journals were appended. Each starts from a
+-- timetable of the instance.
 pub record HaveRun (b : Base) (count : ℕ) (before after : Answers) (old new : List ℕ) : Type 0 where
   pub rounds : List Round
   pub count_is : length rounds ≡ count
   pub legal : AreRounds b rounds
+  pub fits : (q : ℕ) (r : Round) → slice_get rounds q ≡ Some r → IsPlanOf b.instance r.start
   pub told : after ≡ with_answers before (histories rounds)
   pub written : new ≡ old ++ journals b.options 0 rounds
 

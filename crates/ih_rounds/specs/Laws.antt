@@ -4,6 +4,7 @@ use Rattle.ih_tables.specs.Valid.{IsValid}
 use Rattle.ih_journal.specs.Base.{Base}
 use Rattle.ih_journal.specs.Best.{IsBest}
 use Rattle.ih_journal.specs.Grammar.{IsHistoryOf}
+use Rattle.ih_cellbook.specs.Laws.{IsSearchBase}
 use Rattle.ih_rounds.specs.Best.{cost_in}
 use Rattle.ih_rounds.specs.Rounds.{AreRounds, Round, base_in, histories, journals, options_in}
 
@@ -15,6 +16,11 @@ AreInRange b rs = (q : ℕ) (r : Round) → slice_get rs q ≡ Some r → IsHist
 abbrev pub JournalsCanBeParted : Type 0
 JournalsCanBeParted = (b : Base) (rs ss : List Round) → IsValid b.instance → AreInRange b rs → AreInRange b ss
     → journals b.options 0 rs ≡ journals b.options 0 ss → histories rs ≡ histories ss
+
+-- Two runs of rounds over the same search base have two journals: the bytes tell each round's start and history.
+abbrev pub RoundsHaveTwoJournals : Type 0
+RoundsHaveTwoJournals = (b : Base) (rs ss : List Round) → IsSearchBase b → AreRounds b rs → AreRounds b ss
+    → journals b.options 0 rs ≡ journals b.options 0 ss → rs ≡ ss
 
 -- the history of round q has a best, which costs no more than place k of round p
 pub record IsNoDearer (b : Base) (q : ℕ) (s : Round) (p : ℕ) (r : Round) (k : ℕ) : Type 0 where

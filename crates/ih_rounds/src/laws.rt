@@ -1,6 +1,8 @@
 //! Laws of rounds, each on a function that does nothing.
 
-ghost use Rattle.ih_rounds.specs.Laws.{JournalsCanBeParted, RoundsGetNoDearer};
+ghost use Rattle.ih_rounds.specs.Laws.{JournalsCanBeParted, RoundsGetNoDearer, RoundsHaveTwoJournals};
+
+use ih_cellbook::legal_histories_are_in_range;
 
 /// Where a round has a best, each later round has one that costs no more.
 pub fn rounds_get_no_dearer()
@@ -11,3 +13,12 @@ pub fn rounds_get_no_dearer()
 pub fn journals_can_be_parted()
     ensures { JournalsCanBeParted }
 {}
+
+/// Two runs of rounds that were given the same have two journals: the bytes tell how many rounds there are, where each
+/// starts, and each one's history.
+pub fn rounds_have_two_journals()
+    ensures { RoundsHaveTwoJournals }
+{
+    // For the proof alone.
+    legal_histories_are_in_range();
+}
