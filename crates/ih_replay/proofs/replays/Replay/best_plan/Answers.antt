@@ -8,5 +8,5 @@ pub plan_at-requires-clause-moves : goal.plan_at-requires-clause-moves
 plan_at-requires-clause-moves c =
     let v = c.self.inside.book in
     let I = c.self.inside.inst.now.draft in
-    subst (All (λ (e : Entry). IsMoveOf I e.mv)) (sym c.entries.ensures.entries)
-    (moves-taken v.base v.entries I c.self.invariant.instance c.entries.ensures.legal)
+    subst (All (λ (e : Entry). IsMoveOf I e.mv)) (sym c.entries-entries.ensures.entries)
+    (moves-taken v.base v.entries I c.self.invariant.instance c.entries-entries.ensures.legal)
