@@ -75,7 +75,8 @@ fn work<R: Threads + Wait + Sync, G: Gate>(
         advisers,
         MOST_THREADS,
         &|number, adviser|
-            requires { (scorer.now.instance ≡ inst.now.draft) × (scorer.now.counts_uncovered ≡ true) × (count ≤ 64) × (number < count) × IsReady inst.now.draft count adviser.now }
+            requires { (scorer.now.instance ≡ inst.now.draft) × (scorer.now.counts_uncovered ≡ true) × (count ≤ 64)
+                × (number < count) × IsReady inst.now.draft count adviser.now }
         { work_alone(rt, inst, scorer, count, number, adviser, gate) },
     );
 }

@@ -37,7 +37,8 @@ fn look_at_stays<R: Wait, G: Gate>(
     requires instance { scorer.now.instance ≡ inst.now.draft }
     requires patient { slice_get inst.now.draft.patients p.0 ≡ Some patient.now }
     requires worker { worker < workers }
-    ensures { IsOfShare inst.now.draft (stay_value scorer.now) (SetStay p None ∷ stay_writes inst.now.draft p.0) (IsShare workers worker) share.new }
+    ensures { IsOfShare inst.now.draft (stay_value scorer.now) (SetStay p None ∷ stay_writes inst.now.draft p.0)
+        (IsShare workers worker) share.new }
 {
     let worker = worker as u32;
     gate.before(rt, worker, choice);
@@ -67,7 +68,8 @@ pub(crate) fn share_stays<R: Threads + Wait + Sync, G: Gate>(
         shares,
         MOST_THREADS,
         &|worker, share|
-            requires { (scorer.now.instance ≡ inst.now.draft) × (slice_get inst.now.draft.patients p.0 ≡ Some patient.now) × (worker < workers) }
+            requires { (scorer.now.instance ≡ inst.now.draft)
+                × (slice_get inst.now.draft.patients p.0 ≡ Some patient.now) × (worker < workers) }
         {
             look_at_stays(
                 rt, inst, scorer, p, patient, choice, workers, worker, share, gate,
@@ -93,7 +95,8 @@ fn look_at_nurses<R: Wait, G: Gate>(
     requires room { r.0 < room_count inst.now.draft }
     requires shift { k.0 < shift_count inst.now.draft }
     requires worker { worker < workers }
-    ensures { IsOfShare inst.now.draft (care_value scorer.now) (care_writes inst.now.draft r.0 k.0) (IsShare workers worker) share.new }
+    ensures { IsOfShare inst.now.draft (care_value scorer.now) (care_writes inst.now.draft r.0 k.0)
+        (IsShare workers worker) share.new }
 {
     let worker = worker as u32;
     gate.before(rt, worker, choice);
@@ -124,7 +127,8 @@ pub(crate) fn share_nurses<R: Threads + Wait + Sync, G: Gate>(
         shares,
         MOST_THREADS,
         &|worker, share|
-            requires { (scorer.now.instance ≡ inst.now.draft) × (r.0 < room_count inst.now.draft) × (k.0 < shift_count inst.now.draft) × (worker < workers) }
+            requires { (scorer.now.instance ≡ inst.now.draft) × (r.0 < room_count inst.now.draft)
+                × (k.0 < shift_count inst.now.draft) × (worker < workers) }
         { look_at_nurses(rt, inst, scorer, r, k, choice, workers, worker, share, gate) },
     );
 }
