@@ -12,11 +12,13 @@ use Rattle.ih_journal.specs.Legal.{IsFull}
 use Rattle.ih_journal.specs.Texts.{journal}
 use Rattle.ih_journal.proofs.BestLemmas.{best-one, best-or-none}
 use Rattle.ih_journal.proofs.LoneWorkers.{lone-same}
+use Rattle.ih_rounds.specs.Rounds.{AreRounds}
+use Rattle.ih_rounds.proofs.TwoJournals.{lone-rounds}
 use Rattle.ih_words.specs.Solve.{SolveCall}
 use Rattle.ih_shelf.specs.Outside.{Names}
 use Rattle.ih_top.specs.Demo.{HasSaid, IsDemo, IsShown}
 use Rattle.ih_top.specs.Inputs.{HasPlan}
-use Rattle.ih_top.specs.Laws.{DemosShowTheSame, LoneSearchesAreAlike, LoneSolvesDoTheSame}
+use Rattle.ih_top.specs.Laws.{DemosShowTheSame, LoneRoundsAreAlike, LoneSearchesAreAlike, LoneSolvesDoTheSame}
 use Rattle.ih_top.specs.Solving.{HasBase, IsDone, IsSearch, solution_at}
 use Rattle.ih_top.specs.Starts.{started}
 use Rattle.ih_top.specs.Texts.{demo_text, done_text}
@@ -43,6 +45,12 @@ searches-alike files s b c H G lone first second =
     let same = one-base files s b c first.base second.base in
     let alone : c.options.workers ≡ 1 = ap (λ (o : Options). o.workers) second.base.options ∙ lone in
     (same, lone-same c H G alone (subst (λ (x : Base). IsFull x H) same first.full) second.full)
+
+pub rounds-alike : LoneRoundsAreAlike
+rounds-alike files r b c rs ss lone first second =
+    let same = one-base files r.search b c first.base second.base in
+    let alone : c.options.workers ≡ 1 = ap (λ (o : Options). o.workers) second.base.options ∙ lone in
+    (same, lone-rounds c rs ss alone (subst (λ (x : Base). AreRounds x rs) same first.legal) second.legal (first.count ∙ sym second.count))
 
 -- ---- one end
 

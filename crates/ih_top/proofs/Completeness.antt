@@ -49,7 +49,7 @@ module _ (files : Names) (r : Reading) (I : Draft) (P : Timetable) (has : HasInp
       subst (λ (X : Draft). HasSolution name X P files) here (subst (λ o. HasPlan (Some files) o I P) next.named has.plan)
 
   -- only a fault or want of memory stops the reading
-  accepted : (status : Status) (text : List ℕ) → EndsUnread (Some files) r status text → ((role : Role) × (status ≡ ReadFault role)) ⊎ (status ≡ OutOfMemory)
+  pub accepted : (status : Status) (text : List ℕ) → EndsUnread (Some files) r status text → ((role : Role) × (status ≡ ReadFault role)) ⊎ (status ≡ OutOfMemory)
   accepted Done text h = absurd h
   accepted Usage text h = absurd h
   accepted (ReadFault role) text h = inl (role, refl)

@@ -3,9 +3,11 @@ pub mod Alike
 pub mod Checks
 pub mod CommandEnds
 pub mod Completeness
+pub mod EndingAlike
 pub mod FirstLines
 pub mod JournalLaws
 pub mod JournalOutcomes
+pub mod RoundsAlike
 pub mod RoundsOutputs
 pub mod RoundsWriting
 pub mod Saying

@@ -1,17 +1,19 @@
 -- How rounds end, and what is written and said of that.
-use Rattle.std.proofs.Common.{◌≡◌, ℕ, ap, ◌∙◌, List, [], ◌++◌, length, Option, Some, None}
+use Rattle.std.proofs.Common.{◌≡◌, ℕ, ◌<◌, ◌^◌, ap, ◌∙◌, List, [], ◌++◌, length, Option, Some, None}
 use Rattle.ih_plan.specs.BillOf.{bill_of}
 use Rattle.ih_journal.specs.Base.{Base}
+use Rattle.ih_cellbook.specs.Keeping.{IsBase}
+use Rattle.ih_cellbook.specs.Laws.{AcceptedPricesAreExact}
 use Rattle.ih_rounds.specs.declared.running.RoundsEnd.{RoundsEnd}
 use Rattle.ih_rounds.specs.declared.running.RoundsEnd.TheVariants.{Found, NoneFound}
-use Rattle.ih_rounds.specs.Ends.{Ends, IsEnd}
-use Rattle.ih_rounds.specs.Rounds.{Round, journals}
+use Rattle.ih_rounds.specs.Ends.{Ends, HaveRun, IsEnd}
+use Rattle.ih_rounds.specs.Rounds.{Round, base_in, journals}
 use Rattle.ih_rounds.specs.Telling.{Answers}
 use Rattle.ih_solution.specs.Solution.{solution}
 use Rattle.ih_top.specs.declared.output.BestOutput.{BestOutput}
 use Rattle.ih_top.specs.declared.output.Output.{Output}
 use Rattle.ih_top.specs.RoundTexts.{FitsEnd, IsRoundSaid, round_report}
-use Rattle.ih_top.specs.Rounds.{HasBestOfRounds, IsRoundsOutput}
+use Rattle.ih_top.specs.Rounds.{HasBestOfRounds, HaveExactPrices, IsRoundsOutput}
 
 pub fits-end : (b : Base) (rs : List Round) (end : RoundsEnd) → IsEnd b rs end → FitsEnd b.instance end
 fits-end b rs (Found q k count P) found = found.fits
@@ -31,12 +33,21 @@ said-of b rs (Found q k count P) (Some o) found said = record {
 said-of b rs NoneFound None none said = none
 said-of b rs NoneFound (Some o) none said = absurd said
 
-pub output-of : (b : Base) (count : ℕ) (before after : Answers) (old new : List ℕ) (end : RoundsEnd) (o : Output) → old ≡ []
+-- the accepted prices of rounds are exact
+exact-in : AcceptedPricesAreExact → (b : Base) (count : ℕ) (before after : Answers) (old new : List ℕ) (run : HaveRun b count before after old new)
+    → HaveExactPrices b run.rounds
+exact-in law b count before after old new run q s there =
+    law (base_in b q s) s.history (run.fits q s there) (λ k e here. ((run.legal q s there).full.legal k e here).entry)
+
+pub output-of : AcceptedPricesAreExact → (b : Base) (count : ℕ) (before after : Answers) (old new : List ℕ) (end : RoundsEnd) (o : Output) → IsBase b → b.options.seed < 2 ^ 64 → old ≡ []
     → Ends b count before after old new end → IsRoundSaid b.instance end o.best → o.journal.items ≡ new → IsRoundsOutput b count o
-output-of b count before after old new end o empty ends said whole = record {
+output-of law b count before after old new end o given seed empty ends said whole = record {
+  given = given;
+  seed = seed;
   rounds = ends.run.rounds;
   count_is = ends.run.count_is;
   legal = ends.run.legal;
+  exact = exact-in law b count before after old new ends.run;
   journal = whole ∙ ends.run.written ∙ ap (λ t. t ++ journals b.options 0 ends.run.rounds) empty;
   best = said-of b ends.run.rounds end o.best ends.end_is said;
 }

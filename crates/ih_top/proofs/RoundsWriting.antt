@@ -41,7 +41,14 @@ module _ (r : RoundsCall) (o : Output) (differ : r.search.out ≢ r.search.journ
   text = journals is.base.options 0 is.output.rounds
 
   searched : AreSearches old r is.base is.output.rounds
-  searched = record { base = is.given; count = is.output.count_is; legal = is.output.legal }
+  searched = record {
+    base = is.given;
+    given = is.output.given;
+    seed = is.output.seed;
+    count = is.output.count_is;
+    legal = is.output.legal;
+    exact = is.output.exact;
+  }
 
   pub rounds-begun : (new : Option Names) → Told (MayBeWritten r.search.journal o.journal.items) old new → HaveBegun r old new
   rounds-begun new written = record {

@@ -1,6 +1,6 @@
 -- What solve writes, replay and salvage take.
 use Rattle.std.proofs.Common.{◌≡◌, ◌∙◌, ℕ, ◌≤◌, ◌+◌, ◌*◌, refl, sym, ap, ap₂, subst, arith, inl, inr, List, [], ◌++◌, length, Option, Some, None}
-use Rattle.std.specs.Prelude.{◌⊎◌, IfSome, unwrap_or}
+use Rattle.std.specs.Prelude.{◌⊎◌, Bool, unwrap_or}
 use Rattle.ih_tables.specs.Valid.{IsValid}
 use Rattle.ih_journal.specs.declared.entries.Entry.{Entry}
 use Rattle.ih_journal.specs.declared.refusals.JournalRefusal.{JournalRefusal}
@@ -18,7 +18,6 @@ use Rattle.ih_solution.specs.Reading.{plan_in}
 use Rattle.ih_replay.specs.Laws.{LegalJournalsAreTaken, LegalJournalsDiffer, TakenLinesAreOfLegalHistories}
 use Rattle.ih_words.specs.Replay.{ReplayCall}
 use Rattle.ih_words.specs.Solve.{SolveCall}
-use Rattle.ih_words.specs.Start.{StartCall}
 use Rattle.ih_shelf.specs.Outside.{Names, bytes_at}
 use Rattle.ih_top.specs.declared.files.TheConstants.{MAX_FILE, MAX_JOURNAL}
 use Rattle.ih_top.specs.declared.status.Role.{Role}
@@ -26,10 +25,10 @@ use Rattle.ih_top.specs.declared.status.Status.{Status}
 use Rattle.ih_top.specs.declared.status.Status.TheVariants.{Done, Usage, ReadFault, InstanceRefused, StartRefused, NoneFound, WriteFault, OutOfMemory, JournalRefused, Infeasible, TooLong}
 use Rattle.ih_top.specs.Inputs.{HasInstance, HasPlan}
 use Rattle.ih_top.specs.Journals.{Begins}
-use Rattle.ih_top.specs.Laws.{EndsIn, HasNoFault, IsReplayOf, SolvesAreTakenBack, SolvesWithNoneAreTakenBack}
+use Rattle.ih_top.specs.Laws.{EndsIn, HasNoFault, HaveSameBytes, IsReplayOf, JournalsFit, SolvesAreTakenBack, SolvesWithNoneAreTakenBack}
 use Rattle.ih_top.specs.Replaying.{HasRead, IsHeadedBy, IsHeadless, IsRefused, IsRefusedJournal, IsReplay, IsSalvage, JournalEnds, JournalRead}
 use Rattle.ih_top.specs.Solving.{IsSearch, solution_at}
-use Rattle.ih_top.specs.Starts.{IsStarted}
+use Rattle.ih_top.specs.Starts.{started}
 use Rattle.ih_top.specs.Texts.{done_text, none_found_text, salvaged_line, salvaged_text}
 use Rattle.ih_top.proofs.Completeness.{journal-accepted, not-headless, not-refused, same-search}
 use Rattle.ih_top.proofs.JournalLaws.{all-salvaged}
@@ -37,7 +36,7 @@ use Rattle.ih_top.proofs.JournalLaws.{all-salvaged}
 -- ---- ends without a fault
 
 -- what only a fault or want of memory brings is want of memory
-memory-alone : (status : Status) → HasNoFault status → ((role : Role) × (status ≡ ReadFault role)) ⊎ (status ≡ OutOfMemory) → status ≡ OutOfMemory
+pub memory-alone : (status : Status) → HasNoFault status → ((role : Role) × (status ≡ ReadFault role)) ⊎ (status ≡ OutOfMemory) → status ≡ OutOfMemory
 memory-alone status calm (inl (role, e)) = absurd (subst HasNoFault e calm)
 memory-alone status calm (inr e) = e
 
@@ -47,6 +46,17 @@ ends-as wanted t u X Y status said e f (inr (same, told, left)) = inr (same, tol
 
 -- ---- the journal of a search, where replay and salvage find it
 
+search-valid : (files : Names) (s : SolveCall) (b : Base) (H : List Entry) → IsSearch (Some files) s b H → IsValid b.instance
+search-valid files s b H search = instance_sound (bytes_at files s.instance) b.instance search.base.start.inputs.instance.read
+
+pub journals-fit : LegalJournalsAreShort → JournalsFit
+journals-fit short files s b H search =
+    let legal : AreLegalButDraws b H = λ k e there_is. (search.full.legal k e there_is).entry in
+    let len = short b H (record { valid = search-valid files s b H search; base = search.given; seed = search.seed }) legal in
+    let few = (legal-few b H legal).most in
+    let most = search.given.lawful.entries in
+    omega (arith, len, few, most)
+
 module _ (taken_law : LegalJournalsAreTaken) (differ : LegalJournalsDiffer) (texts : TakenLinesAreOfLegalHistories) (short : LegalJournalsAreShort)
     (s : SolveCall) (r : ReplayCall) (before after there left : Names) (of : IsReplayOf s r before after there)
     (b : Base) (H : List Entry) (search : IsSearch (Some before) s b H) (written : after s.journal ≡ Some (journal b.options H)) where
@@ -54,47 +64,42 @@ module _ (taken_law : LegalJournalsAreTaken) (differ : LegalJournalsDiffer) (tex
   found = record { instance = b.instance; plan = search.base.start.plan; bytes = journal b.options H }
 
   valid : IsValid b.instance
-  valid = instance_sound (bytes_at before s.instance) b.instance search.base.start.inputs.instance.read
-
-  same-file : (name : List ℕ) → there name ≡ before name → bytes_at there name ≡ bytes_at before name
-  same-file name e = ap (λ (o : Option (List ℕ)). unwrap_or o []) e
+  valid = search-valid before s b H search
 
   has-instance : HasInstance r.instance b.instance there
-  has-instance =
-      let same : bytes_at there r.instance ≡ bytes_at before s.instance = ap (bytes_at there) of.instance ∙ same-file s.instance of.same_instance in
-      record {
-        short = subst (λ (t : List ℕ). length t ≤ MAX_FILE) (sym same) search.base.start.inputs.instance.short;
-        read = ap instance same ∙ search.base.start.inputs.instance.read;
-      }
+  has-instance = record {
+    short = subst (λ (t : List ℕ). length t ≤ MAX_FILE) (sym of.same_instance) search.base.start.inputs.instance.short;
+    read = ap instance of.same_instance ∙ search.base.start.inputs.instance.read;
+  }
 
-  has-plan : (o : Option (List ℕ)) → IfSome o (λ name. there name ≡ before name) → HasPlan (Some before) o b.instance search.base.start.plan
-      → HasPlan (Some there) o b.instance search.base.start.plan
-  has-plan None same h = h
-  has-plan (Some name) same h =
-      let file = same-file name same in
-      record { short = subst (λ (t : List ℕ). length t ≤ MAX_FILE) (sym file) h.short; read = ap (plan_in b.instance) file ∙ h.read }
-
-  short-enough : length (journal b.options H) ≤ MAX_JOURNAL
-  short-enough =
-      let legal : AreLegalButDraws b H = λ k e there_is. (search.full.legal k e there_is).entry in
-      let len = short b H (record { valid = valid; base = search.given; seed = search.seed }) legal in
-      let few = (legal-few b H legal).most in
-      let most = search.given.lawful.entries in
-      omega (arith, len, few, most)
+  has-plan : (file other : Option (List ℕ)) → HaveSameBytes there before file other → HasPlan (Some before) other b.instance search.base.start.plan
+      → HasPlan (Some there) file b.instance search.base.start.plan
+  has-plan None None same h = h
+  has-plan None (Some other) same h = absurd same
+  has-plan (Some name) None same h = absurd same
+  has-plan (Some name) (Some other) same h =
+      record { short = subst (λ (t : List ℕ). length t ≤ MAX_FILE) (sym same) h.short; read = ap (plan_in b.instance) same ∙ h.read }
 
   has : HasRead (Some there) r found
   has = record {
     inputs = record {
       instance = has-instance;
-      plan = subst (λ (t : StartCall). HasPlan (Some there) t.file b.instance search.base.start.plan) (sym of.start)
-          (has-plan s.start.file of.same_start search.base.start.inputs.plan);
+      plan = has-plan r.start.file s.start.file of.same_start search.base.start.inputs.plan;
     };
-    journal = record { short = short-enough; held = ap (λ (o : Option (List ℕ)). unwrap_or o []) (of.journal ∙ written) };
+    journal = record {
+      short = journals-fit short before s b H search;
+      held = of.journal ∙ ap (λ (o : Option (List ℕ)). unwrap_or o []) written;
+    };
   }
 
   headed : IsHeadedBy r.start found b (lines_from b.options 0 H)
   headed = record {
-    started = subst (λ (t : StartCall). IsStarted t b.instance search.base.start.plan b) (sym of.start) search.base.start.started;
+    started = record {
+      instance = search.base.start.started.instance;
+      start = search.base.start.started.start
+          ∙ ap (λ (fill : Bool). started fill b.options.hard b.instance search.base.start.plan) (sym of.fill);
+      freeze = search.base.start.started.freeze ∙ sym of.freeze;
+    };
     lawful = search.given.lawful;
     seed = search.seed;
     joins = refl;
@@ -193,12 +198,10 @@ solves-taken-back taken_law differ texts short s r before after there left text 
     record {
       replayed = λ ends. ends-as Done (done_text b H k) text (left r.out ≡ Some (solution_at b H k)) (left r.out ≡ after s.out) ended said (sym done.said) out
           (replay-best taken_law differ texts short s r before after there left of b H done.search done.written.journal k done.best ended said calm ends);
-      salvaged = λ ends. (
-        length H,
-        ends-as Done (salvaged_text b H k) (salvaged_line (length H) ++ text) (left r.out ≡ Some (solution_at b H k)) (left r.out ≡ after s.out) ended said
-            (ap (λ t. salvaged_line (length H) ++ t) (sym done.said)) out
-            (salvage-best taken_law differ texts short s r before after there left of b H done.search done.written.journal k done.best ended said calm ends),
-      );
+      salvaged = λ ends.
+          ends-as Done (salvaged_text b H k) (salvaged_line (length H) ++ text) (left r.out ≡ Some (solution_at b H k)) (left r.out ≡ after s.out) ended said
+          (ap (λ t. salvaged_line (length H) ++ t) (sym done.said)) out
+          (salvage-best taken_law differ texts short s r before after there left of b H done.search done.written.journal k done.best ended said calm ends);
     }
 
 pub solves-none-taken-back : LegalJournalsAreTaken → LegalJournalsDiffer → TakenLinesAreOfLegalHistories → LegalJournalsAreShort → SolvesWithNoneAreTakenBack

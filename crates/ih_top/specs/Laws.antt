@@ -1,22 +1,26 @@
 -- Laws of journals and of calls of the program.
-use Rattle.std.specs.Prelude.{◌≡◌, ◌==◌, ◌⊎◌, ℕ, List, ◌++◌, length, Option, Some, IfSome}
+use Rattle.std.specs.Prelude.{◌≡◌, ◌≢◌, ◌≤◌, ◌==◌, ◌⊎◌, ℕ, List, ◌++◌, length, Option, Some, None}
 use Rattle.std.specs.List.{count_by}
 use Rattle.ih_tables.specs.Valid.{IsValid}
 use Rattle.ih_journal.specs.declared.entries.Entry.{Entry}
 use Rattle.ih_journal.specs.declared.refusals.JournalRefusal.{JournalRefusal}
 use Rattle.ih_journal.specs.Base.{Base}
 use Rattle.ih_journal.specs.Legal.{AreLegal}
-use Rattle.ih_journal.specs.Texts.{lines_from}
+use Rattle.ih_journal.specs.Texts.{journal, lines_from}
 use Rattle.ih_cellbook.specs.Keeping.{IsBase}
+use Rattle.ih_rounds.specs.Rounds.{Round}
 use Rattle.ih_words.specs.Replay.{ReplayCall}
+use Rattle.ih_words.specs.Rounds.{RoundsCall}
 use Rattle.ih_words.specs.Solve.{SolveCall}
-use Rattle.ih_shelf.specs.Outside.{Names}
+use Rattle.ih_shelf.specs.Outside.{Names, bytes_at}
+use Rattle.ih_top.specs.declared.files.TheConstants.{MAX_JOURNAL}
 use Rattle.ih_top.specs.declared.status.Status.{Status}
 use Rattle.ih_top.specs.declared.status.Status.TheVariants.{Done, NoneFound, OutOfMemory, ReadFault, WriteFault}
 use Rattle.ih_top.specs.Demo.{IsShown}
 use Rattle.ih_top.specs.Journals.{Begins, IsRefusedAt}
 use Rattle.ih_top.specs.Replaying.{AreNotFull, ReplayEnds, SalvageEnds}
-use Rattle.ih_top.specs.Solving.{HasFoundNone, IsDone, IsSearch}
+use Rattle.ih_top.specs.Rounds.{AreSearches, RoundsEnds}
+use Rattle.ih_top.specs.Solving.{HasFoundNone, IsDone, IsSearch, SolveEnds}
 use Rattle.ih_top.specs.Texts.{none_found_text, salvaged_line}
 
 -- lines that are refused are those of no full history
@@ -27,6 +31,12 @@ RefusedLinesAreNotFull = (b : Base) (bytes : List ℕ) (H : List Entry) (e : Jou
 abbrev pub WholeLinesAreSalvaged : Type 0
 WholeLinesAreSalvaged = (b : Base) (G : List Entry) (bytes more : List ℕ) (H : List Entry) (rest : List ℕ) → IsValid b.instance → IsBase b → AreLegal b G
     → bytes ++ more ≡ lines_from b.options 0 G → Begins b bytes H rest → length H ≡ count_by (λ c. c == 10) bytes
+
+-- no fault brought the status
+abbrev pub HasNoFault : Status → Type 0
+HasNoFault (ReadFault role) = ⊥
+HasNoFault (WriteFault role) = ⊥
+HasNoFault status = Unit {0}
 
 -- ---- searches of one worker
 
@@ -45,36 +55,67 @@ abbrev pub LoneSolvesDoTheSame : Type 0
 LoneSolvesDoTheSame = (s : SolveCall) (old new other : Names) (text told : List ℕ) → s.options.workers ≡ 1 → IsDone s (Some old) (Some new) text
     → IsDone s (Some old) (Some other) told → DoTheSame s new other text told
 
+-- two calls ended in the same status, said the same and left the same files
+pub record EndTheSame (first second : Status) (text told : List ℕ) (new other : Names) : Type 0 where
+  pub status : first ≡ second
+  pub said : text ≡ told
+  pub files : (n : List ℕ) → new n ≡ other n
+
+-- However two calls of solve over the same files end, refused files among it: where there was no fault, and memory enough, they end
+-- the same.
+abbrev pub LoneSolvesEndAlike : Type 0
+LoneSolvesEndAlike = (s : SolveCall) (old new other : Names) (status ended : Status) (text told : List ℕ) → s.options.workers ≡ 1
+    → HasNoFault status → HasNoFault ended → status ≢ OutOfMemory → ended ≢ OutOfMemory
+    → SolveEnds s (Some old) (Some new) status text → SolveEnds s (Some old) (Some other) ended told
+    → EndTheSame status ended text told new other
+
+-- and one run of rounds, each with one history
+abbrev pub LoneRoundsAreAlike : Type 0
+LoneRoundsAreAlike = (files : Names) (r : RoundsCall) (b c : Base) (rs ss : List Round) → r.search.options.workers ≡ 1
+    → AreSearches (Some files) r b rs → AreSearches (Some files) r c ss → (b ≡ c) × (rs ≡ ss)
+
+-- However two calls of rounds over the same files end: the same.
+abbrev pub LoneRoundsEndAlike : Type 0
+LoneRoundsEndAlike = (r : RoundsCall) (old new other : Names) (status ended : Status) (text told : List ℕ) → r.search.options.workers ≡ 1
+    → HasNoFault status → HasNoFault ended → status ≢ OutOfMemory → ended ≢ OutOfMemory
+    → RoundsEnds r (Some old) (Some new) status text → RoundsEnds r (Some old) (Some other) ended told
+    → EndTheSame status ended text told new other
+
 -- what a demo shows follows from its number
 abbrev pub DemosShowTheSame : Type 0
 DemosShowTheSame = (number : ℕ) (said told : Option (List ℕ)) → IsShown number said → IsShown number told → said ≡ told
 
 -- ---- what solve writes, replay and salvage take
 
--- the instance and the start are there as the search found them, and the journal as it left it
-pub record IsReplayOf (s : SolveCall) (r : ReplayCall) (before after there : Names) : Type 0 where
-  pub instance : r.instance ≡ s.instance
-  pub start : r.start ≡ s.start
-  pub same_instance : there s.instance ≡ before s.instance
-  pub same_start : IfSome s.start.file (λ name. there name ≡ before name)
-  pub journal : there r.journal ≡ after s.journal
+-- the journal of a search is no longer than replay and salvage may read
+abbrev pub JournalsFit : Type 0
+JournalsFit = (files : Names) (s : SolveCall) (b : Base) (H : List Entry) → IsSearch (Some files) s b H → length (journal b.options H) ≤ MAX_JOURNAL
 
--- no fault brought the status
-abbrev pub HasNoFault : Status → Type 0
-HasNoFault (ReadFault role) = ⊥
-HasNoFault (WriteFault role) = ⊥
-HasNoFault status = Unit {0}
+-- neither names a file, or each names one, under whatever names, and these have the same bytes
+abbrev pub HaveSameBytes : Names → Names → Option (List ℕ) → Option (List ℕ) → Type 0
+HaveSameBytes there before None None = Unit {0}
+HaveSameBytes there before (Some name) (Some other) = bytes_at there name ≡ bytes_at before other
+HaveSameBytes there before file other = ⊥
+
+-- The instance and the start are there as the search found them, and the journal as it left it, under whatever names; the start is
+-- filled, and choices are frozen, as the search was asked to.
+pub record IsReplayOf (s : SolveCall) (r : ReplayCall) (before after there : Names) : Type 0 where
+  pub same_instance : bytes_at there r.instance ≡ bytes_at before s.instance
+  pub same_start : HaveSameBytes there before r.start.file s.start.file
+  pub fill : r.start.fill ≡ s.start.fill
+  pub freeze : r.start.freeze ≡ s.start.freeze
+  pub journal : bytes_at there r.journal ≡ bytes_at after s.journal
 
 -- A call that ended with no fault ended in this status with this text, and what it left is as told; or memory ran out.
 abbrev pub EndsIn : Status → List ℕ → Type 0 → Status → List ℕ → Type 0
 EndsIn wanted text left status said = (status ≡ OutOfMemory) ⊎ ((status ≡ wanted) × (said ≡ text) × left)
 
--- After solve wrote its best, replay of its journal writes the same solution and says the same, and salvage says before it how many
--- lines there are.
-pub record IsTakenBack (s : SolveCall) (r : ReplayCall) (before after there left : Names) (text : List ℕ) (ended : Status) (said : List ℕ) : Type 0 where
+-- After solve wrote its best, replay of its journal writes the same solution and says the same, and salvage says before it that there
+-- are so many lines.
+pub record IsTakenBack (s : SolveCall) (r : ReplayCall) (before after there left : Names) (text : List ℕ) (lines : ℕ) (ended : Status) (said : List ℕ) : Type 0 where
   pub replayed : ReplayEnds r (Some there) (Some left) ended said → EndsIn Done text (left r.out ≡ after s.out) ended said
   pub salvaged : SalvageEnds r (Some there) (Some left) ended said
-      → (lines : ℕ) × EndsIn Done (salvaged_line lines ++ text) (left r.out ≡ after s.out) ended said
+      → EndsIn Done (salvaged_line lines ++ text) (left r.out ≡ after s.out) ended said
 
 -- where it found none, neither do they
 pub record IsTakenBackAsNone (r : ReplayCall) (there left : Names) (ended : Status) (said : List ℕ) : Type 0 where
@@ -83,8 +124,8 @@ pub record IsTakenBackAsNone (r : ReplayCall) (there left : Names) (ended : Stat
 
 abbrev pub SolvesAreTakenBack : Type 0
 SolvesAreTakenBack = (s : SolveCall) (r : ReplayCall) (before after there left : Names) (text : List ℕ) (ended : Status) (said : List ℕ)
-    → IsReplayOf s r before after there → HasNoFault ended → IsDone s (Some before) (Some after) text
-    → IsTakenBack s r before after there left text ended said
+    → IsReplayOf s r before after there → HasNoFault ended → (done : IsDone s (Some before) (Some after) text)
+    → IsTakenBack s r before after there left text (length done.history) ended said
 
 abbrev pub SolvesWithNoneAreTakenBack : Type 0
 SolvesWithNoneAreTakenBack = (s : SolveCall) (r : ReplayCall) (before after there left : Names) (ended : Status) (said : List ℕ)

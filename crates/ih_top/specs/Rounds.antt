@@ -1,9 +1,10 @@
 -- How a call of rounds ends: as one of solve, with the journals of all rounds and the best of all their timetables.
-use Rattle.std.specs.Prelude.{◌≡◌, ℕ, ◌⊎◌, List, length, Option, Some, None}
+use Rattle.std.specs.Prelude.{◌≡◌, ℕ, ◌<◌, ◌^◌, ◌⊎◌, List, length, Option, Some, None, slice_get}
 use Rattle.ih_plan.specs.BillOf.{bill_of}
 use Rattle.ih_journal.specs.Base.{Base}
 use Rattle.ih_journal.specs.History.{plan_at}
-use Rattle.ih_cellbook.specs.Keeping.{base_with}
+use Rattle.ih_cellbook.specs.Keeping.{IsBase, base_with}
+use Rattle.ih_cellbook.specs.Legal.{AreExact}
 use Rattle.ih_rounds.specs.Best.{HaveNone, IsBestOf}
 use Rattle.ih_rounds.specs.Rounds.{AreRounds, Round, base_in, journals}
 use Rattle.ih_words.specs.Rounds.{RoundsCall}
@@ -44,11 +45,18 @@ abbrev pub HasBestOfRounds : Base → List Round → Option BestOutput → Type 
 HasBestOfRounds b rs None = HaveNone b rs
 HasBestOfRounds b rs (Some o) = IsBestOfRounds b rs o
 
--- the journals of so many rounds, and their best where there is one
+-- each accepted price of each round is the change of the bill at its own place
+abbrev pub HaveExactPrices : Base → List Round → Type 0
+HaveExactPrices b rs = (q : ℕ) (s : Round) → slice_get rs q ≡ Some s → AreExact (base_in b q s) s.history
+
+-- the journals of so many rounds, whose accepted prices are exact, and their best where there is one
 pub record IsRoundsOutput (b : Base) (count : ℕ) (o : Output) : Type 0 where
+  pub given : IsBase b
+  pub seed : b.options.seed < 2 ^ 64
   pub rounds : List Round
   pub count_is : length rounds ≡ count
   pub legal : AreRounds b rounds
+  pub exact : HaveExactPrices b rounds
   pub journal : o.journal.items ≡ journals b.options 0 rounds
   pub best : HasBestOfRounds b rounds o.best
 
@@ -64,11 +72,16 @@ pub record IsRoundsOutputOf (files : Option Names) (r : RoundsCall) (o : Output)
 
 -- ---- how they end
 
--- The rounds that the words ask for, over what the files and the words give: each history is full over its start.
+-- The rounds that the words ask for, over what the files and the words give: each history is full over its start, and each accepted
+-- price is the change of the bill at its own place.
 pub record AreSearches (files : Option Names) (r : RoundsCall) (b : Base) (rs : List Round) : Type 0 where
   pub base : HasBase files r.search b
+  -- the start is a timetable of the instance, and the options are lawful
+  pub given : IsBase b
+  pub seed : b.options.seed < 2 ^ 64
   pub count : length rs ≡ r.rounds
   pub legal : AreRounds b rs
+  pub exact : HaveExactPrices b rs
 
 -- the journals of the rounds are written, as far as this says
 pub record HaveSearched (writes : SolveCall → List ℕ → Names → Names → Type 0) (r : RoundsCall) (old new : Option Names) : Type 0 where

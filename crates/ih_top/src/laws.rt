@@ -1,6 +1,6 @@
 //! Laws of journals and of whole calls, each on a function that does nothing. A law that follows from others calls theirs.
 
-ghost use Rattle.ih_top.specs.Laws.{DemosShowTheSame, LoneSearchesAreAlike, LoneSolvesDoTheSame, RefusedLinesAreNotFull, SolvesAreTakenBack, SolvesWithNoneAreTakenBack, WholeLinesAreSalvaged};
+ghost use Rattle.ih_top.specs.Laws.{DemosShowTheSame, JournalsFit, LoneRoundsAreAlike, LoneRoundsEndAlike, LoneSearchesAreAlike, LoneSolvesDoTheSame, LoneSolvesEndAlike, RefusedLinesAreNotFull, SolvesAreTakenBack, SolvesWithNoneAreTakenBack, WholeLinesAreSalvaged};
 
 use ih_cellbook::legal_journals_are_short;
 use ih_replay::{
@@ -25,19 +25,23 @@ pub fn whole_lines_are_salvaged()
     taken_lines_are_of_legal_histories();
 }
 
-/// With one worker a search is a function of files and words: its history, what `solve` writes and says, and what `demo`
-/// shows.
+/// With one worker a search is a function of files and words: its history, what `solve` writes and says, the rounds of
+/// `rounds`, how both end where there is no fault and memory enough, and what `demo` shows.
 pub fn lone_searches_are_alike()
     ensures search { LoneSearchesAreAlike }
     ensures solve { LoneSolvesDoTheSame }
+    ensures ends { LoneSolvesEndAlike }
+    ensures rounds { LoneRoundsAreAlike }
+    ensures rounds_end { LoneRoundsEndAlike }
     ensures demo { DemosShowTheSame }
 {}
 
-/// What `solve` writes, `replay` and `salvage` take: over the same instance and start, and with no fault, they end with the
-/// same solution and the same text, or memory runs out. A journal is never too long for that.
+/// What `solve` writes, `replay` and `salvage` take: over an instance and a start with the same bytes, and with no fault,
+/// they end with the same solution and the same text, or memory runs out. A journal is never too long for that.
 pub fn solves_are_taken_back()
     ensures best { SolvesAreTakenBack }
     ensures none { SolvesWithNoneAreTakenBack }
+    ensures fits { JournalsFit }
 {
     legal_journals_are_taken();
     legal_journals_differ();

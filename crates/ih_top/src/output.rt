@@ -128,8 +128,8 @@ pub fn salvaged(alloc: Global, best: BestOutput, lines: u32) -> Result<BestOutpu
     })
 }
 
-// The seed, which has 64 bits.
-fn seed_of(options: &Options) -> u64
+/// The seed, which has 64 bits.
+pub fn seed_of(options: &Options) -> u64
     ensures seed { result ≡ options.now.seed }
     ensures small { options.now.seed < 2 ^ 64 }
 {

@@ -11,8 +11,9 @@ ghost use Rattle.ih_rounds.specs.Rounds.{Round};
 ghost use Rattle.ih_top.specs.RoundTexts.{IsRoundSaid, FitsEnd, round_line, round_report};
 ghost use Rattle.ih_top.specs.Rounds.{IsRoundsOutput};
 
-use crate::output::{BestOutput, Output};
+use crate::output::{BestOutput, Output, seed_of};
 use crate::search::{Given, search};
+use ih_cellbook::accepted_prices_are_exact;
 use ih_journal::{Entry, Options};
 use ih_plan::Plan;
 use ih_rounds::{RoundsEnd, SearchBy, rounds};
@@ -119,6 +120,9 @@ pub fn make_rounds_output<R: Threads + Wait + Sync, G: Gate>(
     requires once { options.now.retries ≡ 0 }
     ensures { IfOk result (IsRoundsOutput (base_with inst.entry.now.draft start.entry.now options.entry.now 0) count) }
 {
+    // For the proof alone: the seed has 64 bits, and accepted prices are exact.
+    let _seed = seed_of(options);
+    accepted_prices_are_exact();
     let mut searcher = SearchBy {
         search: |alloc: Global, inst: &Instance, start: &Plan, options: &Options| -> Result<
             Vec<Entry>,

@@ -13,5 +13,6 @@ best_of_rounds-requires g c =
 pub returns : goal.returns
 returns g c =
     let b : Base = base_with c.args.inst.now.draft c.args.start.now c.args.options.now 0 in
-    output-of b c.args.count None None c.new-journal.result.items c.rounds.new.journal.items c.in_ok-end.end _ c.new-journal.ensures.items
+    output-of c.accepted_prices_are_exact.ensures b c.args.count None None c.new-journal.result.items c.rounds.new.journal.items c.in_ok-end.end _
+    (record { start = c.requires.start; lawful = c.requires.lawful }) c.seed_of-seed.ensures.small c.new-journal.ensures.items
     c.in_ok-end.ensures.ends c.in_ok-best.ensures refl

@@ -1,0 +1,216 @@
+-- Two calls of solve with one worker end alike over the same files, where no fault and no want of memory ended them.
+use Rattle.std.proofs.Common.{◌≡◌, ◌∙◌, ℕ, ◌<◌, ◌≤◌, refl, sym, ap, ap₂, subst, arith, inl, inr, Bool, true, false, List, [], length, Option, Some, None}
+use Rattle.std.specs.Prelude.{◌≢◌, ◌⊎◌, Result, Ok, Err}
+use Rattle.std.specs.Bool.{Decides}
+use Rattle.std.specs.Str.{bytes_eq}
+use Rattle.std.proofs.Math.Dec.{ltb}
+use Rattle.std.proofs.lemmas.Bool.Decides.{Decides-ltb}
+use Rattle.std.proofs.lemmas.Slice.Eq.{bytes_eq-Decides}
+use Rattle.ih_tables.specs.declared.drafts.Draft.{Draft}
+use Rattle.ih_tables.specs.declared.refusals.Refusal.{Refusal}
+use Rattle.ih_plan.specs.Timetable.{Timetable}
+use Rattle.ih_journal.specs.declared.entries.Entry.{Entry}
+use Rattle.ih_journal.specs.Base.{Base}
+use Rattle.ih_journal.specs.Best.{HasNone, IsBest}
+use Rattle.ih_journal.specs.Texts.{journal}
+use Rattle.ih_journal.proofs.BestLemmas.{best-or-none}
+use Rattle.ih_instance.specs.Instance.{instance}
+use Rattle.ih_solution.specs.Reading.{plan_in}
+use Rattle.ih_words.specs.Solve.{SolveCall}
+use Rattle.ih_shelf.specs.Outside.{Names, bytes_at}
+use Rattle.ih_top.specs.declared.files.TheConstants.{MAX_FILE}
+use Rattle.ih_top.specs.declared.status.Role.TheVariants.{Instance, Solution, Journal, Out}
+use Rattle.ih_top.specs.declared.status.Status.{Status}
+use Rattle.ih_top.specs.declared.status.Status.TheVariants.{Done, Usage, ReadFault, InstanceRefused, StartRefused, NoneFound, WriteFault, OutOfMemory, JournalRefused, Infeasible, TooLong}
+use Rattle.ih_top.specs.Inputs.{EndsUnread, HasInputs, IsNext, Reading, solve_reading}
+use Rattle.ih_top.specs.Laws.{EndTheSame, HasNoFault, LoneSolvesEndAlike}
+use Rattle.ih_top.specs.Solving.{HasFoundNone, IsDone, OthersUnchanged, SolveEnds, Unchanged}
+use Rattle.ih_top.specs.Texts.{instance_refused_text, none_found_text, solution_refused_text, too_long_text}
+use Rattle.ih_top.proofs.Alike.{searches-alike, solves-same}
+use Rattle.ih_top.proofs.Completeness.{accepted}
+use Rattle.ih_top.proofs.TakenBack.{memory-alone}
+
+-- ---- how files are refused follows from them
+
+-- of a start: too long, refused, or neither
+abbrev start-verdict : Bool → Result Timetable Refusal → List ℕ → Status × List ℕ
+start-verdict true plan name = (TooLong Solution, too_long_text name)
+start-verdict false (Err e) name = (StartRefused e, solution_refused_text e)
+start-verdict false (Ok P) name = (Done, [])
+
+-- where a start is named
+abbrev next-verdict : Names → Draft → Option (List ℕ) → Status × List ℕ
+next-verdict files I None = (Done, [])
+next-verdict files I (Some name) = start-verdict (ltb MAX_FILE (length (bytes_at files name))) (plan_in I (bytes_at files name)) name
+
+-- of an instance
+abbrev first-verdict : Names → Reading → Bool → Result Draft Refusal → Status × List ℕ
+first-verdict files r true draft = (TooLong Instance, too_long_text r.instance)
+first-verdict files r false (Err e) = (InstanceRefused e, instance_refused_text e)
+first-verdict files r false (Ok I) = next-verdict files I r.solution
+
+abbrev verdict : Names → Reading → Status × List ℕ
+verdict files r = first-verdict files r (ltb MAX_FILE (length (bytes_at files r.instance))) (instance (bytes_at files r.instance))
+
+over : (a b : ℕ) → a < b → true ≡ ltb a b
+over a b h = sym ((Decides-ltb a b).1 h)
+
+within : (a b : ℕ) → b ≤ a → false ≡ ltb a b
+within a b h = by_case (ltb a b) (Decides-ltb a b)
+  where
+    by_case : (t : Bool) → Decides t (a < b) → false ≡ t
+    by_case true is = absurd (let less : a < b = is.0 refl in omega (arith, h, less))
+    by_case false is = refl
+
+module _ (files : Names) (r : Reading) where
+  -- the instance is accepted, and a start is named
+  at-start : (I : Draft) (name : List ℕ) → IsNext (Some files) r I name
+      → ◌≡◌ {A = Status × List ℕ} (start-verdict (ltb MAX_FILE (length (bytes_at files name))) (plan_in I (bytes_at files name)) name) (verdict files r)
+  at-start I name next =
+      ap (next-verdict files I) (sym next.named)
+      ∙ ap₂ (first-verdict files r) (within MAX_FILE (length (bytes_at files r.instance)) next.instance.short) (sym next.instance.read)
+
+  refused-so : (status : Status) (text : List ℕ) → HasNoFault status → status ≢ OutOfMemory → EndsUnread (Some files) r status text
+      → ◌≡◌ {A = Status × List ℕ} (status, text) (verdict files r)
+  refused-so Done text calm room h = absurd h
+  refused-so Usage text calm room h = absurd h
+  refused-so (ReadFault role) text calm room h = absurd calm
+  refused-so (InstanceRefused e) text calm room h =
+      ap (λ (t : List ℕ). let both : Status × List ℕ = (InstanceRefused e, t) in both) h.1
+      ∙ ap₂ (first-verdict files r) (within MAX_FILE (length (bytes_at files r.instance)) h.0.short) (sym h.0.first)
+  refused-so (StartRefused e) text calm room (I, name, next, refused, said) =
+      ap (λ (t : List ℕ). let both : Status × List ℕ = (StartRefused e, t) in both) said
+      ∙ (ap₂ (λ (long : Bool) (plan : Result Timetable Refusal). start-verdict long plan name)
+      (within MAX_FILE (length (bytes_at files name)) refused.short) (sym refused.first)
+      ∙ at-start I name next)
+  refused-so NoneFound text calm room h = absurd h
+  refused-so (WriteFault role) text calm room h = absurd calm
+  refused-so OutOfMemory text calm room h = absurd (room refl)
+  refused-so (JournalRefused e) text calm room h = absurd h
+  refused-so Infeasible text calm room h = absurd h
+  refused-so (TooLong Instance) text calm room h =
+      ap (λ (t : List ℕ). let both : Status × List ℕ = (TooLong Instance, t) in both) h.1
+      ∙ ap (λ (long : Bool). first-verdict files r long (instance (bytes_at files r.instance))) (over MAX_FILE (length (bytes_at files r.instance)) h.0)
+  refused-so (TooLong Solution) text calm room (I, name, next, long, said) =
+      ap (λ (t : List ℕ). let both : Status × List ℕ = (TooLong Solution, t) in both) said
+      ∙ (ap (λ (over : Bool). start-verdict over (plan_in I (bytes_at files name)) name) (over MAX_FILE (length (bytes_at files name)) long)
+      ∙ at-start I name next)
+  refused-so (TooLong Journal) text calm room h = absurd h
+  refused-so (TooLong Out) text calm room h = absurd h
+
+-- ---- three kinds of ends
+
+-- the files aren't as they ought to be, and nothing is written
+pub record IsUnread (x : Reading) (old new : Names) (status : Status) (text : List ℕ) : Type 0 where
+  pub kept : Unchanged old new
+  pub so : ◌≡◌ {A = Status × List ℕ} (status, text) (verdict old x)
+  pub never : (I : Draft) (P : Timetable) → HasInputs (Some old) x I P → ⊥
+
+-- it is done, it found none, or it came no further than its files
+abbrev pub IsEnd : Type 0 → Type 0 → Reading → Names → Names → Status → List ℕ → Type 0
+IsEnd done none x old new status text = ((status ≡ Done) × done) ⊎ ((status ≡ NoneFound) × none) ⊎ IsUnread x old new status text
+
+pub unread : (x : Reading) (old new : Names) (status : Status) (text : List ℕ) → HasNoFault status → status ≢ OutOfMemory → Unchanged old new
+    → EndsUnread (Some old) x status text → IsUnread x old new status text
+unread x old new status text calm room kept h = record {
+  kept = kept;
+  so = refused-so old x status text calm room h;
+  never = λ I P has. room (memory-alone status calm (accepted old x I P has status text h));
+}
+
+pub unread-alike : (x : Reading) (old new other : Names) (status ended : Status) (text told : List ℕ) → IsUnread x old new status text
+    → IsUnread x old other ended told → EndTheSame status ended text told new other
+unread-alike x old new other status ended text told first second =
+    let same : ◌≡◌ {A = Status × List ℕ} (status, text) (ended, told) = first.so ∙ sym second.so in
+    record {
+      status = ap (λ (t : Status × List ℕ). t.0) same;
+      said = ap (λ (t : Status × List ℕ). t.1) same;
+      files = λ n. first.kept n ∙ sym (second.kept n);
+    }
+
+abbrev SolveEnd : SolveCall → Names → Names → Status → List ℕ → Type 0
+SolveEnd s old new status text =
+    IsEnd (IsDone s (Some old) (Some new) text) (HasFoundNone s (Some old) (Some new) × (text ≡ none_found_text)) (solve_reading s) old new status text
+
+module _ (s : SolveCall) (old new : Names) where
+  solve-end : (status : Status) (text : List ℕ) → HasNoFault status → status ≢ OutOfMemory → SolveEnds s (Some old) (Some new) status text
+      → SolveEnd s old new status text
+  solve-end Done text calm room h = inl (refl, h)
+  solve-end Usage text calm room h = absurd h.1
+  solve-end (ReadFault role) text calm room h = absurd calm
+  solve-end (InstanceRefused e) text calm room h = inr (inr (unread (solve_reading s) old new (InstanceRefused e) text calm room h.0 h.1))
+  solve-end (StartRefused e) text calm room h = inr (inr (unread (solve_reading s) old new (StartRefused e) text calm room h.0 h.1))
+  solve-end NoneFound text calm room h = inr (inl (refl, h))
+  solve-end (WriteFault role) text calm room h = absurd calm
+  solve-end OutOfMemory text calm room h = absurd (room refl)
+  solve-end (JournalRefused e) text calm room h = absurd h.1
+  solve-end Infeasible text calm room h = absurd h.1
+  solve-end (TooLong role) text calm room h = inr (inr (unread (solve_reading s) old new (TooLong role) text calm room h.0 h.1))
+
+-- ---- the same files
+
+-- what holds of the solution's name, of the journal's and of all others holds of each
+pub same-files : (s : SolveCall) (old new other : Names) → new s.journal ≡ other s.journal → new s.out ≡ other s.out → OthersUnchanged s old new
+    → OthersUnchanged s old other → (n : List ℕ) → new n ≡ other n
+same-files s old new other journals outs first second n = by_out (bytes_eq n s.out) (bytes_eq-Decides n s.out)
+  where
+    by_journal : n ≢ s.out → (t : Bool) → Decides t (n ≡ s.journal) → new n ≡ other n
+    by_journal away true is = let at : n ≡ s.journal = is.0 refl in ap new at ∙ (journals ∙ sym (ap other at))
+    by_journal away false is =
+        let apart : n ≢ s.journal = λ e. (let no : false ≡ true = is.1 e in cc) in
+        first n away apart ∙ sym (second n away apart)
+
+    by_out : (t : Bool) → Decides t (n ≡ s.out) → new n ≡ other n
+    by_out true is = let at : n ≡ s.out = is.0 refl in ap new at ∙ (outs ∙ sym (ap other at))
+    by_out false is =
+        let away : n ≢ s.out = λ e. (let no : false ≡ true = is.1 e in cc) in
+        by_journal away (bytes_eq n s.journal) (bytes_eq-Decides n s.journal)
+
+-- ---- two ends
+
+module _ (s : SolveCall) (old new other : Names) (status ended : Status) (text told : List ℕ) (lone : s.options.workers ≡ 1) where
+  -- the one found its best and the other found none
+  not-both-ways : (here there : Names) (said : List ℕ) → IsDone s (Some old) (Some here) said → HasFoundNone s (Some old) (Some there) → ⊥
+  not-both-ways here there said done none =
+      let same = searches-alike old s done.base none.base done.history none.history lone done.search none.search in
+      let both : ◌≡◌ {A = Base × List Entry} (done.base, done.history) (none.base, none.history) = rw (same.0, same.1) refl in
+      best-or-none none.base none.history done.place (subst (λ (t : Base × List Entry). IsBest t.0 t.1 done.place) both done.best) none.none
+
+  both-done : status ≡ Done → IsDone s (Some old) (Some new) text → ended ≡ Done → IsDone s (Some old) (Some other) told
+      → EndTheSame status ended text told new other
+  both-done one first two second =
+      let same = solves-same s old new other text told lone first second in
+      record {
+        status = one ∙ sym two;
+        said = same.said;
+        files = same-files s old new other same.journal same.solution first.written.others second.written.others;
+      }
+
+  both-none : status ≡ NoneFound → HasFoundNone s (Some old) (Some new) → text ≡ none_found_text
+      → ended ≡ NoneFound → HasFoundNone s (Some old) (Some other) → told ≡ none_found_text → EndTheSame status ended text told new other
+  both-none one first said two second also =
+      let same = searches-alike old s first.base second.base first.history second.history lone first.search second.search in
+      let both : ◌≡◌ {A = Base × List Entry} (first.base, first.history) (second.base, second.history) = rw (same.0, same.1) refl in
+      record {
+        status = one ∙ sym two;
+        said = said ∙ sym also;
+        files = same-files s old new other
+            (first.written.journal ∙ (ap (λ (t : Base × List Entry). Some (journal t.0.options t.1)) both ∙ sym second.written.journal))
+            (first.written.out ∙ sym second.written.out) first.written.others second.written.others;
+      }
+
+  same-ends : SolveEnd s old new status text → SolveEnd s old other ended told → EndTheSame status ended text told new other
+  same-ends (inl one) (inl two) = both-done one.0 one.1 two.0 two.1
+  same-ends (inl one) (inr (inl two)) = absurd (not-both-ways new other text one.1 two.1.0)
+  same-ends (inl one) (inr (inr two)) = let start = one.1.search.base.start in absurd (two.never one.1.base.instance start.plan start.inputs)
+  same-ends (inr (inl one)) (inl two) = absurd (not-both-ways other new told two.1 one.1.0)
+  same-ends (inr (inl one)) (inr (inl two)) = both-none one.0 one.1.0 one.1.1 two.0 two.1.0 two.1.1
+  same-ends (inr (inl one)) (inr (inr two)) = let start = one.1.0.search.base.start in absurd (two.never one.1.0.base.instance start.plan start.inputs)
+  same-ends (inr (inr one)) (inl two) = let start = two.1.search.base.start in absurd (one.never two.1.base.instance start.plan start.inputs)
+  same-ends (inr (inr one)) (inr (inl two)) = let start = two.1.0.search.base.start in absurd (one.never two.1.0.base.instance start.plan start.inputs)
+  same-ends (inr (inr one)) (inr (inr two)) = unread-alike (solve_reading s) old new other status ended text told one two
+
+pub solves-end-alike : LoneSolvesEndAlike
+solves-end-alike s old new other status ended text told lone calm quiet room space first second =
+    same-ends s old new other status ended text told lone (solve-end s old new status text calm room first)
+    (solve-end s old other ended told quiet space second)
