@@ -61,8 +61,8 @@ pub record EndTheSame (first second : Status) (text told : List ℕ) (new other 
   pub said : text ≡ told
   pub files : (n : List ℕ) → new n ≡ other n
 
--- However two calls of solve over the same files end, refused files among it: where there was no fault, and memory enough, they end
--- the same.
+-- However two calls of solve over the same files end, also where a file is refused: with no fault, and memory enough, they end the
+-- same.
 abbrev pub LoneSolvesEndAlike : Type 0
 LoneSolvesEndAlike = (s : SolveCall) (old new other : Names) (status ended : Status) (text told : List ℕ) → s.options.workers ≡ 1
     → HasNoFault status → HasNoFault ended → status ≢ OutOfMemory → ended ≢ OutOfMemory

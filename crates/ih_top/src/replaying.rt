@@ -110,14 +110,7 @@ fn replayed<R: Threads + Wait + Sync>(
     let Some((options, lines)) = heading_of(bytes) else {
         return Ok(headless());
     };
-    let begun = begin(
-        rt,
-        alloc,
-        inputs,
-        start.fill,
-        options.hard,
-        options.workers,
-    )?;
+    let begun = begin(rt, alloc, inputs, start.fill, options.hard, options.workers)?;
     let given = Given {
         inst: &begun.inst,
         start: &begun.plan,
@@ -141,14 +134,7 @@ fn salvage_journal<R: Threads + Wait + Sync>(
     let Some((options, lines)) = heading_of(bytes) else {
         return Ok(headless());
     };
-    let begun = begin(
-        rt,
-        alloc,
-        inputs,
-        start.fill,
-        options.hard,
-        options.workers,
-    )?;
+    let begun = begin(rt, alloc, inputs, start.fill, options.hard, options.workers)?;
     let given = Given {
         inst: &begun.inst,
         start: &begun.plan,

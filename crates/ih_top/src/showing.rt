@@ -142,15 +142,7 @@ fn search_from_fill<R: Threads + Wait + Sync, G: Gate>(
 {
     let empty = Plan::empty(alloc, inst)?;
     let options = demo_options(number);
-    let start = par_fill(
-        rt,
-        alloc,
-        inst,
-        HARD,
-        &empty,
-        options.workers,
-        &OpenGate,
-    )?;
+    let start = par_fill(rt, alloc, inst, HARD, &empty, options.workers, &OpenGate)?;
     let given = Given {
         inst,
         start: &start,
