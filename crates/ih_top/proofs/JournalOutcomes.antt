@@ -1,5 +1,6 @@
 -- What a journal comes to, and how the call ends then.
 use Rattle.std.proofs.Common.{◌≡◌, ◌∙◌, ℕ, refl, sym, ap, subst, inl, inr, List, [], ◌++◌, Option, Some, None}
+use Rattle.std.specs.Prelude.{Result, Ok, Err, IfOk}
 use Rattle.std.proofs.lemmas.List.{append-nil}
 use Rattle.ih_journal.specs.declared.entries.Entry.{Entry}
 use Rattle.ih_journal.specs.declared.refusals.JournalRefusal.{JournalRefusal}
@@ -132,6 +133,11 @@ module _ (s : StartCall) (x : JournalRead) (b : Base) (lines : List ℕ) (headed
     taken_is = record { headed = subst (IsHeadedBy s x b) t.whole headed; given = t.given; full = t.full; agrees = t.agrees; exact = t.exact };
     output = t.output;
   }
+
+  pub replay-result : {E : Type 0} (r : Result Outcome E) → IfOk r (IsLinesOutcome b lines)
+      → IfOk r (IsOutcome (IsReplay s x) (IsRefusedJournal s x) done_text)
+  replay-result (Ok o) t = replay-outcome o t
+  replay-result (Err e) t = t
 
   pub salvage-outcome : (best : Option BestOutput) → AreLines b lines best → IsOutcome (IsSalvage s x) (IsHeadless x) salvaged_text (Taken best)
   salvage-outcome best t = record {

@@ -13,7 +13,7 @@ best_of-requires-clause-legal g c = rw c.entries-entries.ensures.entries c.in_ok
 pub returns-in-None : goal.returns-in-None
 returns-in-None g c =
     let I = c.args.inst.now.draft in
-    let b : Base = record { instance = I; start = c.in_ok-start.start; options = c.demo_options.result; freeze = 0 } in
+    let b : Base = record { instance = I; start = c.in_ok-start.start; options = c.demo_options-options.result; freeze = 0 } in
     let H = c.in_ok-book.book.entries in
     let found = subst (λ es. HasBestOutput b es c.in_ok-best_of.field-0) c.entries-entries.ensures.entries c.in_ok-best_of.ensures in
     record {
@@ -23,7 +23,7 @@ returns-in-None g c =
           (record {
             instance = c.requires;
             start = c.in_ok-start.ensures.filled ∙ ap (fill I 100000) c.in_ok-empty.ensures;
-            options = c.demo_options.ensures;
+            options = c.demo_options-options.ensures;
             freeze = refl;
           })
           c.in_ok-book.ensures.full
@@ -34,7 +34,7 @@ returns-in-None g c =
 pub returns : goal.returns
 returns g c =
     let I = c.args.inst.now.draft in
-    let b : Base = record { instance = I; start = c.in_ok-start.start; options = c.demo_options.result; freeze = 0 } in
+    let b : Base = record { instance = I; start = c.in_ok-start.start; options = c.demo_options-options.result; freeze = 0 } in
     let H = c.in_ok-book.book.entries in
     let found = subst (λ es. HasBestOutput b es c.in_ok-best_of.field-0) c.entries-entries.ensures.entries c.in_ok-best_of.ensures in
     let best : HasBestOutput b H (Some c.in-Some.best) = subst (HasBestOutput b H) c.in-Some.is found in
@@ -42,7 +42,7 @@ returns g c =
     (record {
       instance = c.requires;
       start = c.in_ok-start.ensures.filled ∙ ap (fill I 100000) c.in_ok-empty.ensures;
-      options = c.demo_options.ensures;
+      options = c.demo_options-options.ensures;
       freeze = refl;
     })
     c.in_ok-book.ensures.full
