@@ -1,0 +1,3 @@
+pub mod Stays
+pub mod Copied
+pub mod Standing

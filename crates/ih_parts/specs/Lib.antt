@@ -1,0 +1,2 @@
+pub mod CellLedgers
+pub mod Standing

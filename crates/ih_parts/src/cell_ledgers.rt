@@ -1,0 +1,111 @@
+//! Three ledgers that stand for one timetable.
+
+ghost use Rattle.std.specs.Prelude.{◌≡◌, ◌<◌, None, Some, IfOk};
+ghost use Rattle.ih_tables.specs.Sizes.{patient_count};
+ghost use Rattle.ih_tables.specs.declared.ids.NurseNo.{NurseNo};
+ghost use Rattle.ih_plan.specs.declared.moves.Placement.{Placement};
+ghost use Rattle.ih_plan.specs.declared.moves.Write.TheVariants.{SetStay, SetCare};
+ghost use Rattle.ih_plan.specs.Timetable.{empty, stay_of, IsPlacement};
+ghost use Rattle.ih_plan.specs.Writes.{put, IsWriteOf};
+ghost use Rattle.ih_parts.specs.CellLedgers.{AreLedgers, AreLedgersOf, timetable_of};
+
+use ih_nurses::Nurses;
+use ih_plan::{Placement, Plan, Write};
+use ih_roomdays::RoomDays;
+use ih_tables::{Instance, NurseNo, PatientNo, RoomNo, Shift};
+use ih_theatres::Theatres;
+use std::alloc::{AllocError, Global};
+
+/// The ledgers of one timetable, which the ledger of nurses keeps.
+#[derive(Drop)]
+pub struct CellLedgers {
+    pub room_days: RoomDays,
+    pub theatres: Theatres,
+    pub nurses: Nurses,
+}
+
+impl CellLedgers {
+    /// The ledgers of the empty timetable. All later calls take no memory.
+    pub fn new(alloc: Global, inst: &Instance) -> Result<CellLedgers, AllocError>
+        ensures { IfOk result (λ l. AreLedgersOf inst.now.draft (empty inst.now.draft) l) }
+    {
+        let room_days = RoomDays::new(alloc, inst)?;
+        let theatres = Theatres::new(alloc, inst)?;
+        let nurses = Nurses::new(alloc, inst)?;
+        Ok(CellLedgers {
+            room_days,
+            theatres,
+            nurses,
+        })
+    }
+
+    /// The timetable.
+    pub fn plan(&self) -> &Plan
+        ensures { result.now ≡ timetable_of self.now }
+    {
+        self.nurses.plan()
+    }
+
+    // Takes out a patient, where admitted.
+    fn take_out(&mut self, inst: &Instance, p: PatientNo)
+        requires stands { AreLedgers inst.now.draft self.old }
+        requires patient { p.0 < patient_count inst.now.draft }
+        ensures { AreLedgersOf inst.now.draft (put (SetStay p None) (timetable_of self.old)) self.new }
+    {
+        match self.plan().stay(p) {
+            None => {}
+            Some(at) => {
+                self.room_days.leave(inst, p, at);
+                self.theatres.leave(inst, p, at);
+                self.nurses.leave(inst, p, at);
+            }
+        }
+    }
+
+    // Admits a patient who isn't admitted, where there is a placement.
+    fn bring_in(&mut self, inst: &Instance, p: PatientNo, stay: Option<Placement>)
+        requires stands { AreLedgers inst.now.draft self.old }
+        requires patient { p.0 < patient_count inst.now.draft }
+        requires placement { (at : Placement) → stay ≡ Some at → IsPlacement inst.now.draft at }
+        requires out { stay_of (timetable_of self.old) p.0 ≡ None }
+        ensures { AreLedgersOf inst.now.draft (put (SetStay p stay) (timetable_of self.old)) self.new }
+    {
+        match stay {
+            None => {}
+            Some(at) => {
+                self.room_days.enter(inst, p, at);
+                self.theatres.enter(inst, p, at);
+                self.nurses.enter(inst, p, at);
+            }
+        }
+    }
+
+    fn set_stay(&mut self, inst: &Instance, p: PatientNo, stay: Option<Placement>)
+        requires stands { AreLedgers inst.now.draft self.old }
+        requires write { IsWriteOf inst.now.draft (SetStay p stay) }
+        ensures { AreLedgersOf inst.now.draft (put (SetStay p stay) (timetable_of self.old)) self.new }
+    {
+        self.take_out(inst, p);
+        self.bring_in(inst, p, stay);
+    }
+
+    fn set_care(&mut self, inst: &Instance, r: RoomNo, k: Shift, n: Option<NurseNo>)
+        requires stands { AreLedgers inst.now.draft self.old }
+        requires write { IsWriteOf inst.now.draft (SetCare r k n) }
+        ensures { AreLedgersOf inst.now.draft (put (SetCare r k n) (timetable_of self.old)) self.new }
+    {
+        self.nurses.set_care(inst, r, k, n);
+    }
+
+    /// Makes a write.
+    pub fn put(&mut self, inst: &Instance, w: &Write)
+        requires stands { AreLedgers inst.now.draft self.old }
+        requires write { IsWriteOf inst.now.draft w.now }
+        ensures { AreLedgersOf inst.now.draft (put w.now (timetable_of self.old)) self.new }
+    {
+        match *w {
+            Write::SetStay(p, stay) => self.set_stay(inst, p, stay),
+            Write::SetCare(r, k, n) => self.set_care(inst, r, k, n),
+        }
+    }
+}
