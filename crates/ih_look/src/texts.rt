@@ -48,12 +48,12 @@ fn text_of(alloc: Global, call: &Call<'_>, status: Status) -> Result<String, All
 }
 
 // Puts a text, in one put.
-fn put_text<R: Print, O: Sink>(rt: &R, out: &mut O, status: Status, text: &str) -> Status
+fn put_text<R: Print, O: Sink>(rt: &R, out: &mut O, status: Status, text: &[u8]) -> Status
     requires { status ≢ Status.Done }
     ensures status { (result ≡ status) ⊎ (result ≡ Status.OutOfMemory) }
     ensures said { IsSaid text.now result (O.text out.old) (O.text out.new) (O.faults out.old) (O.faults out.new) }
 {
-    match out.put(rt, text.as_bytes()) {
+    match out.put(rt, text) {
         Ok(()) => status,
         Err(WriteError::Fault) => status,
         Err(WriteError::OutOfMemory) => Status::OutOfMemory,
@@ -65,7 +65,7 @@ pub fn say_usage<R: Print, O: Sink>(rt: &R, out: &mut O) -> Status
     ensures status { (result ≡ Status.Usage) ⊎ (result ≡ Status.OutOfMemory) }
     ensures said { IsSaid usage_text result (O.text out.old) (O.text out.new) (O.faults out.old) (O.faults out.new) }
 {
-    put_text(rt, out, Status::Usage, "usage: view INSTANCE SOLUTION PAGE\n")
+    put_text(rt, out, Status::Usage, b"usage: view INSTANCE SOLUTION PAGE\n")
 }
 
 /// Says how a call ended, and gives its status; that it is done isn't said.
@@ -83,7 +83,7 @@ pub fn conclude<R: Print, O: Sink>(
         return status;
     }
     match text_of(alloc, call, status) {
-        Ok(text) => put_text(rt, out, status, text.as_str()),
+        Ok(text) => put_text(rt, out, status, text.into_bytes().as_slice()),
         Err(_) => Status::OutOfMemory,
     }
 }

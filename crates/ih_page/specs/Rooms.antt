@@ -24,6 +24,10 @@ age_text I g = option_map_or escaped (slice_get I.age_groups g) []
 abbrev pub theatre_text : Draft → ℕ → List ℕ
 theatre_text I t = option_map_or (λ (a : Theatre). escaped a.id) (slice_get I.operating_theaters t) []
 
+-- the name of a shift type
+unfoldable pub shift_type_text : Draft → ℕ → List ℕ
+shift_type_text I j = option_map_or escaped (slice_get I.shift_types j) []
+
 -- the name of a nurse, where there is one
 abbrev pub nurse_text : Draft → Option ℕ → List ℕ
 nurse_text I None = codes "-"
@@ -94,7 +98,7 @@ nurse_cell I P r k = codes "<td id=" ++ (place_text (codes "s") r k ++ (codes ">
 -- a room's nurses in the shifts of type j, by days
 abbrev pub shift_row : Draft → Timetable → ℕ → ℕ → List ℕ
 shift_row I P r j =
-    codes "<tr><th>" ++ (option_map_or escaped (slice_get I.shift_types j) [] ++ (codes "<td colspan=3>nurse" ++ (lines_below I.days (λ d. nurse_cell I P r (3 * d + j)) ++ codes "\n")))
+    codes "<tr><th>" ++ (shift_type_text I j ++ (codes "<td colspan=3>nurse" ++ (lines_below I.days (λ d. nurse_cell I P r (3 * d + j)) ++ codes "\n")))
 
 -- the days as the heads of columns
 abbrev pub day_head : ℕ → List ℕ

@@ -7,7 +7,7 @@ use Rattle.ih_tables.specs.Bills.{at, cost, feasible}
 use Rattle.ih_validate.specs.Report.{lines_below}
 
 -- what hard rule i counts
-abbrev pub rule_name : ℕ → List ℕ
+unfoldable pub rule_name : ℕ → List ℕ
 rule_name i =
     if i == 0 then codes "two genders in a room" else if i == 1 then codes "incompatible room"
     else if i == 2 then codes "surgeon: minutes over" else if i == 3 then codes "theatre: minutes over"
@@ -16,7 +16,7 @@ rule_name i =
     else codes "no nurse"
 
 -- what cost i counts
-abbrev pub cost_name : ℕ → List ℕ
+unfoldable pub cost_name : ℕ → List ℕ
 cost_name i =
     if i == 0 then codes "mixed ages" else if i == 1 then codes "missing skill"
     else if i == 2 then codes "nurses of a stay" else if i == 3 then codes "workload over"

@@ -1,11 +1,9 @@
 //! The names of what an instance has, as they stand in a page.
 
-ghost use Rattle.std.specs.Prelude.{◌≡◌, ◌<◌, ◌++◌, [], OnOk, Some, slice_get, option_map, IfSome};
-ghost use Rattle.std.specs.Option.{option_map_or};
+ghost use Rattle.std.specs.Prelude.{◌≡◌, ◌<◌, ◌++◌, OnOk, option_map, IfSome};
 ghost use Rattle.ih_tables.specs.declared.ids.NurseNo.{NurseNo};
 ghost use Rattle.ih_tables.specs.Sizes.{nurse_count, theatre_count};
-ghost use Rattle.ih_page.specs.Html.{escaped};
-ghost use Rattle.ih_page.specs.Rooms.{age_text, theatre_text, nurse_text, marked, place_text};
+ghost use Rattle.ih_page.specs.Rooms.{age_text, theatre_text, shift_type_text, nurse_text, marked, place_text};
 
 use crate::texts::{put, put_escaped, put_number};
 use ih_tables::{Instance, NurseNo, TheatreNo};
@@ -22,9 +20,10 @@ pub fn put_age(out: &mut Vec<u8>, inst: &Instance, g: u32) -> Result<(), AllocEr
 }
 
 /// Appends the name of a shift type.
+#[tactic(auto, unfolding(crate::specs::Rooms::shift_type_text))]
 pub fn put_shift_type(out: &mut Vec<u8>, inst: &Instance, j: u32) -> Result<(), AllocError>
     requires { j < 3 }
-    ensures { OnOk result (out.new.items ≡ out.old.items ++ option_map_or escaped (slice_get inst.now.draft.shift_types j) []) }
+    ensures { OnOk result (out.new.items ≡ out.old.items ++ shift_type_text inst.now.draft j) }
 {
     put_escaped(out, inst.shift_type(j).as_str())
 }

@@ -10,6 +10,7 @@ use ih_tables::{Bill, Instance};
 use std::alloc::AllocError;
 
 /// What a hard rule counts.
+#[tactic(auto, unfolding(crate::specs::Summary::rule_name))]
 pub fn rule_name(i: usize) -> &'static str
     ensures { result.now ≡ rule_name i }
 {
@@ -27,6 +28,7 @@ pub fn rule_name(i: usize) -> &'static str
 }
 
 /// What a cost counts.
+#[tactic(auto, unfolding(crate::specs::Summary::cost_name))]
 pub fn cost_name(i: usize) -> &'static str
     ensures { result.now ≡ cost_name i }
 {

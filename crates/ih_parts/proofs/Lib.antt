@@ -1,3 +1,0 @@
-pub mod Stays
-pub mod Copied
-pub mod Standing

@@ -1,2 +1,0 @@
-pub mod CellLedgers
-pub mod Standing

@@ -1,8 +1,0 @@
--- What parts are told of.
-use Rattle.ih_tables.specs.declared.drafts.Draft.{Draft}
-use Rattle.ih_plan.specs.Timetable.{Timetable}
-
--- An instance and a timetable of it.
-pub record Standing : Type 0 where
-  pub instance : Draft
-  pub plan : Timetable
