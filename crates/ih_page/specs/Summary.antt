@@ -35,9 +35,13 @@ line_head letter i name = codes "<tr><th>" ++ (line_text letter i ++ (codes "<td
 unfoldable pub product_text : ℤ → ℤ → List ℕ
 product_text x w = signed_decimal w ++ (codes "<td>" ++ (signed_decimal (x *ℤ w) ++ codes "\n"))
 
+-- in place of a weight and a product
+unfoldable pub hard_text : List ℕ
+hard_text = codes "<td>hard rule<td>\n"
+
 -- a hard rule's row: its number is to be 0
 abbrev pub rule_row : ℕ → ℤ → List ℕ
-rule_row i x = line_head (codes "V") i (rule_name i) ++ (codes "<td>" ++ (signed_decimal x ++ codes "<td>hard rule<td>\n"))
+rule_row i x = line_head (codes "V") i (rule_name i) ++ (codes "<td>" ++ (signed_decimal x ++ hard_text))
 
 -- a cost's row: its number, its weight and their product
 abbrev pub cost_row : ℕ → ℤ → ℤ → List ℕ

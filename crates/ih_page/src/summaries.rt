@@ -3,7 +3,7 @@
 ghost use Rattle.std.specs.Prelude.{◌≡◌, ◌<◌, ◌≤◌, ◌≤ℤ◌, ◌*ℤ◌, ◌^◌, ◌++◌, ℕ, pos, neg_ℤ, OnOk, length};
 ghost use Rattle.ih_tables.specs.Bills.{at, AreWithin, IsWithin};
 ghost use Rattle.ih_validate.specs.Report.{lines_below};
-ghost use Rattle.ih_page.specs.Summary.{rule_name, cost_name, line_text, line_head, product_text, rule_row, cost_row, rule_rows, cost_rows, verdict_text, verdict_of, summary};
+ghost use Rattle.ih_page.specs.Summary.{rule_name, cost_name, line_text, line_head, product_text, hard_text, rule_row, cost_row, rule_rows, cost_rows, verdict_text, verdict_of, summary};
 
 use crate::texts::{put, put_number, put_signed};
 use ih_tables::{Bill, Instance};
@@ -65,6 +65,13 @@ fn put_head(out: &mut Vec<u8>, letter: &str, i: usize, name: &str) -> Result<(),
     put(out, name)
 }
 
+#[tactic(auto, unfolding(crate::specs::Summary::hard_text))]
+fn hard_text() -> &'static str
+    ensures { result.now ≡ hard_text }
+{
+    "<td>hard rule<td>\n"
+}
+
 fn put_rule(out: &mut Vec<u8>, i: usize, x: i64) -> Result<(), AllocError>
     requires { i < 9 }
     ensures { OnOk result (out.new.items ≡ out.old.items ++ rule_row i x) }
@@ -72,7 +79,7 @@ fn put_rule(out: &mut Vec<u8>, i: usize, x: i64) -> Result<(), AllocError>
     put_head(out, "V", i, rule_name(i))?;
     put(out, "<td>")?;
     put_signed(out, x)?;
-    put(out, "<td>hard rule<td>\n")
+    put(out, hard_text())
 }
 
 fn times(x: i64, w: i64) -> i64
