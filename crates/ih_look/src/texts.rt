@@ -29,12 +29,8 @@ fn text_of(alloc: Global, call: &Call<'_>, status: Status) -> Result<String, All
             let name = name_of(call, role);
             format!(in alloc; "cannot read {name}\n")
         }
-        Status::InstanceRefused(refusal) => {
-            format!(in alloc; "instance refused: {refusal}\n")
-        }
-        Status::SolutionRefused(refusal) => {
-            format!(in alloc; "solution refused: {refusal}\n")
-        }
+        Status::InstanceRefused(refusal) => { format!(in alloc; "instance refused: {refusal}\n") }
+        Status::SolutionRefused(refusal) => { format!(in alloc; "solution refused: {refusal}\n") }
         Status::WriteFault => {
             let name = call.page;
             format!(in alloc; "cannot write {name}\n")
@@ -65,7 +61,12 @@ pub fn say_usage<R: Print, O: Sink>(rt: &R, out: &mut O) -> Status
     ensures status { (result ≡ Status.Usage) ⊎ (result ≡ Status.OutOfMemory) }
     ensures said { IsSaid usage_text result (O.text out.old) (O.text out.new) (O.faults out.old) (O.faults out.new) }
 {
-    put_text(rt, out, Status::Usage, b"usage: view INSTANCE SOLUTION PAGE\n")
+    put_text(
+        rt,
+        out,
+        Status::Usage,
+        b"usage: view INSTANCE SOLUTION PAGE\n",
+    )
 }
 
 /// Says how a call ended, and gives its status; that it is done isn't said.
