@@ -1,0 +1,20 @@
+-- The words of a call: three names of files that differ.
+use Rattle.std.specs.Prelude.{ℕ, ◌||◌, List, [], ◌∷◌, Option, Some, None, if◌then◌else◌}
+use Rattle.std.specs.Str.{bytes_eq}
+use Rattle.ih_look.specs.declared.calls.Call.{Call as Given_call}
+
+-- an instance and a solution, and where the page goes
+pub record Call : Type 0 where
+  pub instance : List ℕ
+  pub solution : List ℕ
+  pub page : List ℕ
+
+-- the same of a call in the program
+abbrev pub call_in : Given_call → Call
+call_in c = record { instance = c.instance.now; solution = c.solution.now; page = c.page.now }
+
+-- the call that the words name
+abbrev pub call_of : List (List ℕ) → Option Call
+call_of (a ∷ b ∷ c ∷ []) =
+    if bytes_eq a b || (bytes_eq a c || bytes_eq b c) then None else Some (record { instance = a; solution = b; page = c })
+call_of words = None

@@ -1,0 +1,12 @@
+//! One call that reads an instance and a solution and writes the page of its timetable.
+#![tactic(auto)]
+
+mod calls;
+mod inputs;
+mod looking;
+mod running;
+mod status;
+mod texts;
+
+pub use running::run_view;
+pub use status::{Role, Status};

@@ -1,0 +1,90 @@
+//! What a call says.
+
+ghost use Rattle.std.specs.Prelude.{◌≡◌, ◌≢◌, ◌⊎◌, IfOk, string_bytes};
+ghost use Rattle.ih_look.specs.Calls.{call_in};
+ghost use Rattle.ih_look.specs.Texts.{name_of, text_of, usage_text, IsSaid};
+
+use crate::calls::Call;
+use crate::status::{Role, Status};
+use ih_shelf::{Sink, WriteError};
+use std::alloc::{AllocError, Global};
+
+fn name_of<'a>(call: &Call<'a>, role: Role) -> &'a str
+    ensures { result.now ≡ name_of (call_in call.now) role }
+{
+    match role {
+        Role::Instance => call.instance,
+        Role::Solution => call.solution,
+    }
+}
+
+// The text of a status.
+fn text_of(alloc: Global, call: &Call<'_>, status: Status) -> Result<String, AllocError>
+    ensures { IfOk result (λ s. string_bytes s ≡ text_of (call_in call.now) status) }
+{
+    match status {
+        Status::Done => Ok(String::new(alloc)),
+        Status::Usage => String::from_str(alloc, "usage: view INSTANCE SOLUTION PAGE\n"),
+        Status::ReadFault(role) => {
+            let name = name_of(call, role);
+            format!(in alloc; "cannot read {name}\n")
+        }
+        Status::InstanceRefused(refusal) => { format!(in alloc; "instance refused: {refusal}\n") }
+        Status::SolutionRefused(refusal) => { format!(in alloc; "solution refused: {refusal}\n") }
+        Status::WriteFault => {
+            let name = call.page;
+            format!(in alloc; "cannot write {name}\n")
+        }
+        Status::OutOfMemory => String::from_str(alloc, "out of memory\n"),
+        Status::TooLong(role) => {
+            let name = name_of(call, role);
+            format!(in alloc; "too long: {name}\n")
+        }
+    }
+}
+
+// Puts a text, in one put.
+fn put_text<R: Print, O: Sink>(rt: &R, out: &mut O, status: Status, text: &[u8]) -> Status
+    requires { status ≢ Status.Done }
+    ensures status { (result ≡ status) ⊎ (result ≡ Status.OutOfMemory) }
+    ensures said { IsSaid text.now result (O.text out.old) (O.text out.new) (O.faults out.old) (O.faults out.new) }
+{
+    match out.put(rt, text) {
+        Ok(()) => status,
+        Err(WriteError::Fault) => status,
+        Err(WriteError::OutOfMemory) => Status::OutOfMemory,
+    }
+}
+
+/// Says that the words name no call.
+pub fn say_usage<R: Print, O: Sink>(rt: &R, out: &mut O) -> Status
+    ensures status { (result ≡ Status.Usage) ⊎ (result ≡ Status.OutOfMemory) }
+    ensures said { IsSaid usage_text result (O.text out.old) (O.text out.new) (O.faults out.old) (O.faults out.new) }
+{
+    put_text(
+        rt,
+        out,
+        Status::Usage,
+        b"usage: view INSTANCE SOLUTION PAGE\n",
+    )
+}
+
+/// Says how a call ended, and gives its status; that it is done isn't said.
+pub fn conclude<R: Print, O: Sink>(
+    rt: &R,
+    alloc: Global,
+    call: &Call<'_>,
+    out: &mut O,
+    status: Status,
+) -> Status
+    ensures status { (result ≡ status) ⊎ ((status ≢ Status.Done) × (result ≡ Status.OutOfMemory)) }
+    ensures said { IsSaid (text_of (call_in call.now) status) result (O.text out.old) (O.text out.new) (O.faults out.old) (O.faults out.new) }
+{
+    if let Status::Done = status {
+        return status;
+    }
+    match text_of(alloc, call, status) {
+        Ok(text) => put_text(rt, out, status, text.into_bytes().as_slice()),
+        Err(_) => Status::OutOfMemory,
+    }
+}

@@ -1,0 +1,67 @@
+-- The head of a page: whether the timetable is feasible, its cost, and the seventeen numbers.
+use Rattle.std.specs.Prelude.{ℕ, suc, ◌+◌, ℤ, ◌*ℤ◌, Bool, true, false, List, [], ◌++◌, ◌==◌, codes, decimal, if◌then◌else◌}
+use Rattle.std.specs.Fmt.{signed_decimal}
+use Rattle.ih_tables.specs.declared.bills.Bill.{Bill}
+use Rattle.ih_tables.specs.declared.bills.Weights.{Weights}
+use Rattle.ih_tables.specs.Bills.{at, cost, feasible}
+use Rattle.ih_validate.specs.Report.{lines_below}
+
+-- what hard rule i counts
+unfoldable pub rule_name : ℕ → List ℕ
+rule_name i =
+    if i == 0 then codes "two genders in a room" else if i == 1 then codes "incompatible room"
+    else if i == 2 then codes "surgeon: minutes over" else if i == 3 then codes "theatre: minutes over"
+    else if i == 4 then codes "mandatory patient left out" else if i == 5 then codes "outside the window"
+    else if i == 6 then codes "persons above the capacity" else if i == 7 then codes "nurse who is off"
+    else codes "no nurse"
+
+-- what cost i counts
+unfoldable pub cost_name : ℕ → List ℕ
+cost_name i =
+    if i == 0 then codes "mixed ages" else if i == 1 then codes "missing skill"
+    else if i == 2 then codes "nurses of a stay" else if i == 3 then codes "workload over"
+    else if i == 4 then codes "open theatre" else if i == 5 then codes "theatres beyond the first"
+    else if i == 6 then codes "days of delay" else codes "optional patient left out"
+
+-- a line's name: V1 to V9, S1 to S8
+unfoldable pub line_text : List ℕ → ℕ → List ℕ
+line_text letter i = letter ++ decimal (i + 1)
+
+-- a line's name, and what it counts
+unfoldable pub line_head : List ℕ → ℕ → List ℕ → List ℕ
+line_head letter i name = codes "<tr><th>" ++ (line_text letter i ++ (codes "<td>" ++ name))
+
+-- a weight and the product
+unfoldable pub product_text : ℤ → ℤ → List ℕ
+product_text x w = signed_decimal w ++ (codes "<td>" ++ (signed_decimal (x *ℤ w) ++ codes "\n"))
+
+-- in place of a weight and a product
+unfoldable pub hard_text : List ℕ
+hard_text = codes "<td>hard rule<td>\n"
+
+-- a hard rule's row: its number is to be 0
+abbrev pub rule_row : ℕ → ℤ → List ℕ
+rule_row i x = line_head (codes "V") i (rule_name i) ++ (codes "<td>" ++ (signed_decimal x ++ hard_text))
+
+-- a cost's row: its number, its weight and their product
+abbrev pub cost_row : ℕ → ℤ → ℤ → List ℕ
+cost_row i x w = line_head (codes "S") i (cost_name i) ++ (codes "<td>" ++ (signed_decimal x ++ (codes "<td>" ++ product_text x w)))
+
+abbrev pub verdict_text : Bool → List ℕ
+verdict_text true = codes "<h1>Feasible timetable</h1>\n"
+verdict_text false = codes "<h1>Timetable that is not feasible</h1>\n"
+
+unfoldable pub rule_rows : Bill → List ℕ
+rule_rows b = lines_below 9 (λ i. rule_row i (at b.v i))
+
+unfoldable pub cost_rows : Weights → Bill → List ℕ
+cost_rows w b = lines_below 8 (λ i. cost_row i (at b.s i) (at w.w i))
+
+-- whether the timetable is feasible, and its cost
+unfoldable pub verdict_of : Weights → Bill → List ℕ
+verdict_of w b = verdict_text (feasible b) ++ (codes "<p>Cost " ++ (signed_decimal (cost w b) ++ codes "</p>\n"))
+
+unfoldable pub summary : Weights → Bill → List ℕ
+summary w b =
+    verdict_of w b ++ (codes "<table class=s><tr><th>line<th>what it counts<th>number<th>weight<th>product\n"
+    ++ (rule_rows b ++ (cost_rows w b ++ codes "</table>\n")))

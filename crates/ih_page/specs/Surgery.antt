@@ -1,0 +1,95 @@
+-- Theatres and surgeons by days: the minutes of surgery beside their limit, and the patients.
+use Rattle.std.specs.Prelude.{ℕ, ◌*◌, ◌/◌, min, Bool, ◌&&◌, ◌<◌, List, [], ◌++◌, ◌==◌, codes, decimal, slice_get, if◌then◌else◌}
+use Rattle.std.specs.Option.{option_map_or}
+use Rattle.ih_tables.specs.declared.drafts.Draft.{Draft}
+use Rattle.ih_tables.specs.declared.drafts.Patient.{Patient}
+use Rattle.ih_tables.specs.declared.drafts.Surgeon.{Surgeon}
+use Rattle.ih_tables.specs.Sizes.{patient_count, theatre_count, surgeon_count}
+use Rattle.ih_plan.specs.Timetable.{Timetable, stay_of}
+use Rattle.ih_plan.specs.Costs.{operated_in, admitted_on, surgeon_of, is_number, duration_of, theatre_minutes, surgeon_minutes}
+use Rattle.ih_plan.specs.Sums.{sum_below}
+use Rattle.ih_validate.specs.Report.{lines_below}
+use Rattle.ih_page.specs.declared.surgery.Whose.{Whose}
+use Rattle.ih_page.specs.declared.surgery.Whose.TheVariants.{OfTheatre, OfSurgeon}
+use Rattle.ih_page.specs.Html.{escaped, numbered}
+use Rattle.ih_page.specs.Rooms.{theatre_text, marked, place_text, day_head}
+
+-- it is one of the instance's
+abbrev pub IsWhoseOf : Draft → Whose → Type 0
+IsWhoseOf I (OfTheatre t) = t.0 < theatre_count I
+IsWhoseOf I (OfSurgeon s) = s.0 < surgeon_count I
+
+-- patient p has surgery there, or by the surgeon, on day d
+abbrev pub has_surgery : Draft → Timetable → Whose → ℕ → ℕ → Bool
+has_surgery I P (OfTheatre t) d p = operated_in t.0 d (stay_of P p)
+has_surgery I P (OfSurgeon s) d p = is_number (surgeon_of I p) s.0 && admitted_on d (stay_of P p)
+
+-- the minutes of surgery of a day
+abbrev pub planned : Draft → Timetable → Whose → ℕ → ℕ
+planned I P w d = sum_below (patient_count I) (λ p. if has_surgery I P w d p then duration_of I p else 0)
+
+-- the minutes that there may be
+abbrev pub limit_of : Draft → Whose → ℕ → ℕ
+limit_of I (OfTheatre t) d = theatre_minutes I t.0 d
+limit_of I (OfSurgeon s) d = surgeon_minutes I s.0 d
+
+abbrev pub letter_of : Whose → List ℕ
+letter_of (OfTheatre t) = codes "t"
+letter_of (OfSurgeon s) = codes "g"
+
+abbrev pub number_of : Whose → ℕ
+number_of (OfTheatre t) = t.0
+number_of (OfSurgeon s) = s.0
+
+-- the name of a surgeon
+abbrev pub surgeon_text : Draft → ℕ → List ℕ
+surgeon_text I s = option_map_or (λ (a : Surgeon). escaped a.id) (slice_get I.surgeons s) []
+
+abbrev pub whose_text : Draft → Whose → List ℕ
+whose_text I (OfTheatre t) = theatre_text I t.0
+whose_text I (OfSurgeon s) = surgeon_text I s.0
+
+-- how much of its limit a number is, in percent up to 100
+abbrev pub share : ℕ → ℕ → ℕ
+share limit n = if limit == 0 then 100 else min 100 (100 * n / limit)
+
+-- so many percent, as a bar
+unfoldable pub share_text : ℕ → List ℕ
+share_text percent = codes "<i style=width:" ++ (decimal percent ++ codes "%></i>")
+
+-- minutes, as a number of the limit and as a bar
+unfoldable pub minutes_text : ℕ → ℕ → List ℕ
+minutes_text limit n =
+    marked limit n ++ (codes "/" ++ (decimal limit ++ share_text (share limit n)))
+
+-- a patient's name, which leads to its row
+unfoldable pub name_link : ℕ → Patient → List ℕ
+name_link p a = numbered (codes " <a href=#p") p (codes ">") a.id ++ codes "</a>"
+
+abbrev pub patient_link : Draft → ℕ → List ℕ
+patient_link I p = option_map_or (name_link p) (slice_get I.patients p) []
+
+-- patient p's name, where it has surgery there on day d
+abbrev pub operation : Draft → Timetable → Whose → ℕ → ℕ → List ℕ
+operation I P w d p = if has_surgery I P w d p then patient_link I p else []
+
+-- the minutes of a day and its patients, and nothing on a day without surgery
+abbrev pub surgery_of : Draft → Timetable → Whose → ℕ → ℕ → List ℕ
+surgery_of I P w d n =
+    if n == 0 then codes ">" else (minutes_text (limit_of I w d) n ++ lines_below (patient_count I) (operation I P w d))
+
+unfoldable pub surgery_cell : Draft → Timetable → Whose → ℕ → List ℕ
+surgery_cell I P w d = codes "<td id=" ++ (place_text (letter_of w) (number_of w) d ++ surgery_of I P w d (planned I P w d))
+
+unfoldable pub surgery_row : Draft → Timetable → Whose → List ℕ
+surgery_row I P w = codes "<tr><th>" ++ (whose_text I w ++ (lines_below I.days (surgery_cell I P w) ++ codes "\n"))
+
+unfoldable pub theatres_text : Draft → Timetable → List ℕ
+theatres_text I P =
+    codes "<h2>Theatres by days, in minutes</h2>\n<div><table><tr><th>theatre" ++ (lines_below I.days day_head ++ (codes "\n"
+    ++ (lines_below (theatre_count I) (λ t. surgery_row I P (OfTheatre (record { 0 = t }))) ++ codes "</table></div>\n")))
+
+unfoldable pub surgeons_text : Draft → Timetable → List ℕ
+surgeons_text I P =
+    codes "<h2>Surgeons by days, in minutes</h2>\n<div><table><tr><th>surgeon" ++ (lines_below I.days day_head ++ (codes "\n"
+    ++ (lines_below (surgeon_count I) (λ s. surgery_row I P (OfSurgeon (record { 0 = s }))) ++ codes "</table></div>\n")))

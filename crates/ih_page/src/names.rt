@@ -1,0 +1,73 @@
+//! The names of what an instance has, as they stand in a page.
+
+ghost use Rattle.std.specs.Prelude.{◌≡◌, ◌<◌, ◌++◌, OnOk, option_map, IfSome};
+ghost use Rattle.ih_tables.specs.declared.ids.NurseNo.{NurseNo};
+ghost use Rattle.ih_tables.specs.Sizes.{nurse_count, theatre_count};
+ghost use Rattle.ih_page.specs.Rooms.{age_text, theatre_text, shift_type_text, nurse_text, marked, place_text};
+
+use crate::texts::{put, put_escaped, put_number};
+use ih_tables::{Instance, NurseNo, TheatreNo};
+use std::alloc::AllocError;
+
+/// Appends the name of an age group.
+pub fn put_age(out: &mut Vec<u8>, inst: &Instance, g: u32) -> Result<(), AllocError>
+    ensures { OnOk result (out.new.items ≡ out.old.items ++ age_text inst.now.draft g) }
+{
+    match inst.draft.age_groups.as_slice().get(g as usize) {
+        None => Ok(()),
+        Some(name) => put_escaped(out, name.as_str()),
+    }
+}
+
+/// Appends the name of a shift type.
+#[tactic(auto, unfolding(crate::specs::Rooms::shift_type_text))]
+pub fn put_shift_type(out: &mut Vec<u8>, inst: &Instance, j: u32) -> Result<(), AllocError>
+    requires { j < 3 }
+    ensures { OnOk result (out.new.items ≡ out.old.items ++ shift_type_text inst.now.draft j) }
+{
+    put_escaped(out, inst.shift_type(j).as_str())
+}
+
+/// Appends the name of a theatre.
+pub fn put_theatre(out: &mut Vec<u8>, inst: &Instance, t: TheatreNo) -> Result<(), AllocError>
+    requires { t.0 < theatre_count inst.now.draft }
+    ensures { OnOk result (out.new.items ≡ out.old.items ++ theatre_text inst.now.draft t.0) }
+{
+    put_escaped(out, inst.theatre(t).id.as_str())
+}
+
+/// Appends the name of a nurse, where there is one.
+pub fn put_nurse(out: &mut Vec<u8>, inst: &Instance, n: Option<NurseNo>) -> Result<(), AllocError>
+    requires { IfSome n (λ a. a.0 < nurse_count inst.now.draft) }
+    ensures { OnOk result (out.new.items ≡ out.old.items ++ nurse_text inst.now.draft (option_map (λ (a : NurseNo). a.0) n)) }
+{
+    match n {
+        None => put(out, "-"),
+        Some(n) => put_escaped(out, inst.nurse(n).id.as_str()),
+    }
+}
+
+/// Appends the place of a cell.
+#[tactic(auto, unfolding(crate::specs::Rooms::place_text))]
+pub fn put_place(out: &mut Vec<u8>, letter: &str, i: u32, j: u32) -> Result<(), AllocError>
+    ensures { OnOk result (out.new.items ≡ out.old.items ++ place_text letter.now i j) }
+{
+    put(out, letter)?;
+    put_number(out, i as u64)?;
+    put(out, "-")?;
+    put_number(out, j as u64)
+}
+
+/// Appends a number, with a mark where it is above its limit.
+#[tactic(auto, unfolding(crate::specs::Rooms::marked))]
+pub fn put_marked(out: &mut Vec<u8>, limit: u64, n: u64) -> Result<(), AllocError>
+    ensures { OnOk result (out.new.items ≡ out.old.items ++ marked limit n) }
+{
+    if limit < n {
+        put(out, " class=x>!")?;
+        put_number(out, n)
+    } else {
+        put(out, ">")?;
+        put_number(out, n)
+    }
+}

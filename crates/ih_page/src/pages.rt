@@ -1,0 +1,72 @@
+//! The page of a timetable.
+
+ghost use Rattle.std.specs.Prelude.{◌≡◌, ◌++◌, OnOk, IfOk};
+ghost use Rattle.ih_plan.specs.Timetable.{IsPlanOf};
+ghost use Rattle.ih_page.specs.Page.{opening, tables, page_of};
+
+use crate::left_out::put_left_out;
+use crate::nursing::put_nurses;
+use crate::rooms::put_rooms;
+use crate::summaries::put_summary;
+use crate::surgery::{put_surgeons, put_theatres};
+use crate::texts::put;
+use ih_plan::Plan;
+use ih_tables::Instance;
+use ih_validate::bill;
+use std::alloc::{AllocError, Global};
+
+#[tactic(auto, unfolding(crate::specs::Page::opening))]
+fn put_opening(out: &mut Vec<u8>) -> Result<(), AllocError>
+    ensures { OnOk result (out.new.items ≡ out.old.items ++ opening) }
+{
+    put(
+        out,
+        "<!DOCTYPE html>\n\
+<html lang=en><meta charset=utf-8><meta name=viewport content='width=device-width,initial-scale=1'><title>Timetable</title><style>\n\
+:root{color-scheme:light dark;--fg:#111;--bg:#fff;--line:#bbb;--bar:#0072b2;--on:#fff;--bad:#b34700}\n\
+@media(prefers-color-scheme:dark){:root{--fg:#eee;--bg:#121212;--line:#555;--bar:#56b4e9;--on:#000;--bad:#f0a030}}\n\
+body{font:14px/1.4 sans-serif;color:var(--fg);background:var(--bg);margin:1rem}\n\
+a{color:inherit}\n\
+div{overflow-x:auto}\n\
+table{border-collapse:collapse;font-variant-numeric:tabular-nums}\n\
+th,td{border:1px solid var(--line);padding:1px 4px;text-align:left;vertical-align:top;white-space:nowrap}\n\
+tr>th:first-child{position:sticky;left:0;background:var(--bg)}\n\
+.s td,.s th{white-space:normal}\n\
+.b{background:var(--bar);color:var(--on)}\n\
+.o .b{background:none;color:inherit;border:2px dashed var(--bar)}\n\
+.x{font-weight:bold;outline:2px solid var(--bad);outline-offset:-2px}\n\
+i{display:block;height:4px;background:var(--bar)}\n\
+ul{columns:20em}\n\
+:target{outline:3px solid var(--bad)}\n\
+@media(max-width:600px){body{font-size:12px;margin:.5rem}}\n\
+@media print{body{font-size:7pt;margin:0}div{overflow:visible}h2,h3{break-after:avoid}tr{break-inside:avoid}.b,i{print-color-adjust:exact}}\n\
+</style>\n\
+<main>\n",
+    )
+}
+
+#[tactic(auto, unfolding(crate::specs::Page::tables))]
+fn put_tables(out: &mut Vec<u8>, inst: &Instance, plan: &Plan) -> Result<(), AllocError>
+    requires { IsPlanOf inst.now.draft plan.now }
+    ensures { OnOk result (out.new.items ≡ out.old.items ++ tables inst.now.draft plan.now) }
+{
+    put_left_out(out, inst, plan)?;
+    put_rooms(out, inst, plan)?;
+    put_theatres(out, inst, plan)?;
+    put_surgeons(out, inst, plan)?;
+    put_nurses(out, inst, plan)
+}
+
+/// The page of a timetable of the instance: one text of HTML that stands alone.
+#[tactic(auto, unfolding(crate::specs::Page::page_of))]
+pub fn page(alloc: Global, inst: &Instance, plan: &Plan) -> Result<Vec<u8>, AllocError>
+    requires { IsPlanOf inst.now.draft plan.now }
+    ensures { IfOk result (λ text. text.items ≡ page_of inst.now.draft plan.now) }
+{
+    let mut out = Vec::new(alloc);
+    put_opening(&mut out)?;
+    put_summary(&mut out, inst, &bill(inst, plan))?;
+    put_tables(&mut out, inst, plan)?;
+    put(&mut out, "</main>\n")?;
+    Ok(out)
+}

@@ -1,0 +1,336 @@
+//! Rooms by days.
+
+ghost use Rattle.std.specs.Prelude.{◌≡◌, ◌<◌, ◌+◌, ◌*◌, ◌++◌, [], OnOk, slice_get};
+ghost use Rattle.std.specs.Option.{option_map_or};
+ghost use Rattle.ih_tables.specs.Sizes.{patient_count, occupant_count, room_count, shift_count};
+ghost use Rattle.ih_plan.specs.Timetable.{IsPlanOf, IsPlacement, stay_of};
+ghost use Rattle.ih_validate.specs.Report.{lines_below};
+ghost use Rattle.ih_page.specs.Rooms.{wide_cell, gap_text, bar_cell, bar_text, person_cells, patient_row, occupant_row, patient_in, occupant_in, count_cell, nurse_cell, shift_row, day_head, room_title, room_head, count_row, person_rows, room_text, rooms_text};
+
+use crate::names::{put_age, put_marked, put_nurse, put_place, put_shift_type, put_theatre};
+use crate::presence::head_count;
+use crate::texts::{put, put_escaped, put_number, put_numbered};
+use ih_plan::{Placement, Plan};
+use ih_tables::{Instance, Occupant, Patient, PatientNo, Room, RoomNo, Shift};
+use std::alloc::AllocError;
+
+#[tactic(auto, unfolding(crate::specs::Rooms::wide_cell))]
+fn put_wide(out: &mut Vec<u8>, n: u32) -> Result<(), AllocError>
+    ensures { OnOk result (out.new.items ≡ out.old.items ++ wide_cell n) }
+{
+    put(out, "<td colspan=")?;
+    put_number(out, n as u64)?;
+    put(out, ">")
+}
+
+fn put_gap(out: &mut Vec<u8>, d: u32) -> Result<(), AllocError>
+    ensures { OnOk result (out.new.items ≡ out.old.items ++ gap_text d) }
+{
+    if d == 0 { Ok(()) } else { put_wide(out, d) }
+}
+
+#[tactic(auto, unfolding(crate::specs::Rooms::bar_cell))]
+fn put_bar_cell(out: &mut Vec<u8>, m: u32, n: u32) -> Result<(), AllocError>
+    ensures { OnOk result (out.new.items ≡ out.old.items ++ bar_cell m n) }
+{
+    put(out, "<td class=b colspan=")?;
+    put_number(out, m as u64)?;
+    put(out, ">")?;
+    put_number(out, n as u64)?;
+    put(out, "\n")
+}
+
+#[tactic(auto, unfolding(crate::specs::Rooms::bar_text))]
+fn put_bar(out: &mut Vec<u8>, days: u32, d: u32, n: u32) -> Result<(), AllocError>
+    ensures { OnOk result (out.new.items ≡ out.old.items ++ bar_text days d n) }
+{
+    put_gap(out, d)?;
+    put_bar_cell(out, n.min(days.saturating_sub(d)), n)
+}
+
+#[tactic(auto, unfolding(crate::specs::Rooms::person_cells))]
+fn put_person(out: &mut Vec<u8>, inst: &Instance, gender: &str, age: u32) -> Result<(), AllocError>
+    ensures { OnOk result (out.new.items ≡ out.old.items ++ person_cells inst.now.draft gender.now age) }
+{
+    put(out, "<td>")?;
+    put_escaped(out, gender)?;
+    put(out, "<td>")?;
+    put_age(out, inst, age)
+}
+
+fn put_patient(
+    out: &mut Vec<u8>,
+    inst: &Instance,
+    p: u32,
+    at: Placement,
+    a: &Patient,
+) -> Result<(), AllocError>
+    requires { IsPlacement inst.now.draft at }
+    ensures { OnOk result (out.new.items ≡ out.old.items ++ patient_row inst.now.draft p at a.now) }
+{
+    put_numbered(out, "<tr id=p", p, "><th>", a.id.as_str())?;
+    put_person(out, inst, a.gender.as_str(), a.age_group)?;
+    put(out, "<td>")?;
+    put_theatre(out, inst, at.theatre)?;
+    put_bar(out, inst.days(), at.day.0, a.length_of_stay)
+}
+
+fn put_occupant(out: &mut Vec<u8>, inst: &Instance, x: u32, a: &Occupant) -> Result<(), AllocError>
+    ensures { OnOk result (out.new.items ≡ out.old.items ++ occupant_row inst.now.draft x a.now) }
+{
+    put_numbered(out, "<tr class=o id=p", x, "><th>", a.id.as_str())?;
+    put_person(out, inst, a.gender.as_str(), a.age_group)?;
+    put(out, "<td>occupant")?;
+    put_bar(out, inst.days(), 0, a.length_of_stay)
+}
+
+fn put_patient_in(
+    out: &mut Vec<u8>,
+    inst: &Instance,
+    plan: &Plan,
+    r: u32,
+    p: u32,
+) -> Result<(), AllocError>
+    requires plan { IsPlanOf inst.now.draft plan.now }
+    requires patient { p < patient_count inst.now.draft }
+    ensures { OnOk result (out.new.items ≡ out.old.items ++ patient_in inst.now.draft r p (stay_of plan.now p)) }
+{
+    match plan.stay(PatientNo(p)) {
+        None => Ok(()),
+        Some(at) => {
+            if at.room.0 == r {
+                put_patient(out, inst, p, at, inst.patient(PatientNo(p)))
+            } else {
+                Ok(())
+            }
+        }
+    }
+}
+
+fn put_occupant_in(out: &mut Vec<u8>, inst: &Instance, r: u32, o: u32) -> Result<(), AllocError>
+    requires { o < occupant_count inst.now.draft }
+    ensures { OnOk result (out.new.items ≡ out.old.items ++ occupant_in inst.now.draft r o) }
+{
+    let a = inst.occupant(o);
+    if a.room_id.0 == r {
+        put_occupant(out, inst, inst.patients() + o, a)
+    } else {
+        Ok(())
+    }
+}
+
+#[tactic(auto, using(crate::proofs::Lines::text_steps))]
+fn put_occupants(out: &mut Vec<u8>, inst: &Instance, r: u32) -> Result<(), AllocError>
+    ensures { OnOk result (out.new.items ≡ out.old.items ++ lines_below (occupant_count inst.now.draft) (occupant_in inst.now.draft r)) }
+{
+    for o in 0..inst.occupants() {
+        put_occupant_in(out, inst, r, o)?;
+    }
+    Ok(())
+}
+
+#[tactic(auto, using(crate::proofs::Lines::text_steps))]
+fn put_patients(out: &mut Vec<u8>, inst: &Instance, plan: &Plan, r: u32) -> Result<(), AllocError>
+    requires { IsPlanOf inst.now.draft plan.now }
+    ensures { OnOk result (out.new.items ≡ out.old.items ++ lines_below (patient_count inst.now.draft) (λ p. patient_in inst.now.draft r p (stay_of plan.now p))) }
+{
+    for p in 0..inst.patients() {
+        put_patient_in(out, inst, plan, r, p)?;
+    }
+    Ok(())
+}
+
+fn put_count(
+    out: &mut Vec<u8>,
+    inst: &Instance,
+    plan: &Plan,
+    r: u32,
+    d: u32,
+) -> Result<(), AllocError>
+    requires plan { IsPlanOf inst.now.draft plan.now }
+    requires room { r < room_count inst.now.draft }
+    ensures { OnOk result (out.new.items ≡ out.old.items ++ count_cell inst.now.draft plan.now r d) }
+{
+    put(out, "<td id=")?;
+    put_place(out, "d", r, d)?;
+    put_marked(
+        out,
+        inst.room(RoomNo(r)).capacity as u64,
+        head_count(inst, plan, RoomNo(r), d),
+    )
+}
+
+#[tactic(auto, using(crate::proofs::Lines::text_steps))]
+fn put_counts(out: &mut Vec<u8>, inst: &Instance, plan: &Plan, r: u32) -> Result<(), AllocError>
+    requires plan { IsPlanOf inst.now.draft plan.now }
+    requires room { r < room_count inst.now.draft }
+    ensures { OnOk result (out.new.items ≡ out.old.items ++ lines_below inst.now.draft.days (count_cell inst.now.draft plan.now r)) }
+{
+    for d in 0..inst.days() {
+        put_count(out, inst, plan, r, d)?;
+    }
+    Ok(())
+}
+
+fn put_care(
+    out: &mut Vec<u8>,
+    inst: &Instance,
+    plan: &Plan,
+    r: u32,
+    k: u32,
+) -> Result<(), AllocError>
+    requires plan { IsPlanOf inst.now.draft plan.now }
+    requires room { r < room_count inst.now.draft }
+    requires shift { k < shift_count inst.now.draft }
+    ensures { OnOk result (out.new.items ≡ out.old.items ++ nurse_cell inst.now.draft plan.now r k) }
+{
+    put(out, "<td id=")?;
+    put_place(out, "s", r, k)?;
+    put(out, ">")?;
+    put_nurse(out, inst, plan.care(RoomNo(r), Shift(k)))
+}
+
+#[tactic(auto, using(crate::proofs::Lines::text_steps))]
+fn put_cares(
+    out: &mut Vec<u8>,
+    inst: &Instance,
+    plan: &Plan,
+    r: u32,
+    j: u32,
+) -> Result<(), AllocError>
+    requires plan { IsPlanOf inst.now.draft plan.now }
+    requires room { r < room_count inst.now.draft }
+    requires shift { j < 3 }
+    ensures { OnOk result (out.new.items ≡ out.old.items ++ lines_below inst.now.draft.days (λ d. nurse_cell inst.now.draft plan.now r (3 * d + j))) }
+{
+    for d in 0..inst.days() {
+        put_care(out, inst, plan, r, 3 * d + j)?;
+    }
+    Ok(())
+}
+
+fn put_shift(
+    out: &mut Vec<u8>,
+    inst: &Instance,
+    plan: &Plan,
+    r: u32,
+    j: u32,
+) -> Result<(), AllocError>
+    requires plan { IsPlanOf inst.now.draft plan.now }
+    requires room { r < room_count inst.now.draft }
+    requires shift { j < 3 }
+    ensures { OnOk result (out.new.items ≡ out.old.items ++ shift_row inst.now.draft plan.now r j) }
+{
+    put(out, "<tr><th>")?;
+    put_shift_type(out, inst, j)?;
+    put(out, "<td colspan=3>nurse")?;
+    put_cares(out, inst, plan, r, j)?;
+    put(out, "\n")
+}
+
+#[tactic(auto, using(crate::proofs::Lines::text_steps))]
+fn put_shifts(out: &mut Vec<u8>, inst: &Instance, plan: &Plan, r: u32) -> Result<(), AllocError>
+    requires plan { IsPlanOf inst.now.draft plan.now }
+    requires room { r < room_count inst.now.draft }
+    ensures { OnOk result (out.new.items ≡ out.old.items ++ lines_below 3 (shift_row inst.now.draft plan.now r)) }
+{
+    for j in 0..3 {
+        put_shift(out, inst, plan, r, j)?;
+    }
+    Ok(())
+}
+
+fn put_day(out: &mut Vec<u8>, d: u32) -> Result<(), AllocError>
+    ensures { OnOk result (out.new.items ≡ out.old.items ++ day_head d) }
+{
+    put(out, "<th>")?;
+    put_number(out, d as u64)
+}
+
+/// Appends the days as the heads of columns.
+#[tactic(auto, using(crate::proofs::Lines::text_steps))]
+pub fn put_days(out: &mut Vec<u8>, inst: &Instance) -> Result<(), AllocError>
+    ensures { OnOk result (out.new.items ≡ out.old.items ++ lines_below inst.now.draft.days day_head) }
+{
+    for d in 0..inst.days() {
+        put_day(out, d)?;
+    }
+    Ok(())
+}
+
+#[tactic(auto, unfolding(crate::specs::Rooms::room_title))]
+fn put_title(out: &mut Vec<u8>, r: u32, a: &Room) -> Result<(), AllocError>
+    ensures { OnOk result (out.new.items ≡ out.old.items ++ room_title r a.now) }
+{
+    put_numbered(out, "<h3 id=r", r, ">", a.id.as_str())?;
+    put(out, ", capacity ")?;
+    put_number(out, a.capacity as u64)?;
+    put(out, "</h3>\n")
+}
+
+#[tactic(auto, unfolding(crate::specs::Rooms::room_head))]
+fn put_room_head(out: &mut Vec<u8>, inst: &Instance, r: u32, a: &Room) -> Result<(), AllocError>
+    ensures { OnOk result (out.new.items ≡ out.old.items ++ room_head inst.now.draft r a.now) }
+{
+    put_title(out, r, a)?;
+    put(
+        out,
+        "<div><table><tr><th>person<th>gender<th>age<th>theatre",
+    )?;
+    put_days(out, inst)?;
+    put(out, "\n")
+}
+
+#[tactic(auto, unfolding(crate::specs::Rooms::count_row))]
+fn put_count_row(out: &mut Vec<u8>, inst: &Instance, plan: &Plan, r: u32) -> Result<(), AllocError>
+    requires plan { IsPlanOf inst.now.draft plan.now }
+    requires room { r < room_count inst.now.draft }
+    ensures { OnOk result (out.new.items ≡ out.old.items ++ count_row inst.now.draft plan.now r) }
+{
+    put(out, "<tr><th>persons<td colspan=3>count")?;
+    put_counts(out, inst, plan, r)?;
+    put(out, "\n")
+}
+
+#[tactic(auto, unfolding(crate::specs::Rooms::person_rows))]
+fn put_persons(out: &mut Vec<u8>, inst: &Instance, plan: &Plan, r: u32) -> Result<(), AllocError>
+    requires { IsPlanOf inst.now.draft plan.now }
+    ensures { OnOk result (out.new.items ≡ out.old.items ++ person_rows inst.now.draft plan.now r) }
+{
+    put_occupants(out, inst, r)?;
+    put_patients(out, inst, plan, r)
+}
+
+#[tactic(auto, unfolding(crate::specs::Rooms::room_text))]
+fn put_room(out: &mut Vec<u8>, inst: &Instance, plan: &Plan, r: u32) -> Result<(), AllocError>
+    requires plan { IsPlanOf inst.now.draft plan.now }
+    requires room { r < room_count inst.now.draft }
+    ensures { OnOk result (out.new.items ≡ out.old.items ++ room_text inst.now.draft plan.now r) }
+{
+    put_room_head(out, inst, r, inst.room(RoomNo(r)))?;
+    put_persons(out, inst, plan, r)?;
+    put_count_row(out, inst, plan, r)?;
+    put_shifts(out, inst, plan, r)?;
+    put(out, "</table></div>\n")
+}
+
+#[tactic(auto, using(crate::proofs::Lines::text_steps))]
+fn put_all_rooms(out: &mut Vec<u8>, inst: &Instance, plan: &Plan) -> Result<(), AllocError>
+    requires { IsPlanOf inst.now.draft plan.now }
+    ensures { OnOk result (out.new.items ≡ out.old.items ++ lines_below (room_count inst.now.draft) (room_text inst.now.draft plan.now)) }
+{
+    for r in 0..inst.rooms() {
+        put_room(out, inst, plan, r)?;
+    }
+    Ok(())
+}
+
+/// Appends the tables of the rooms.
+#[tactic(auto, unfolding(crate::specs::Rooms::rooms_text))]
+pub fn put_rooms(out: &mut Vec<u8>, inst: &Instance, plan: &Plan) -> Result<(), AllocError>
+    requires { IsPlanOf inst.now.draft plan.now }
+    ensures { OnOk result (out.new.items ≡ out.old.items ++ rooms_text inst.now.draft plan.now) }
+{
+    put(out, "<h2>Rooms by days</h2>\n")?;
+    put_all_rooms(out, inst, plan)
+}

@@ -1,0 +1,181 @@
+//! The head of a page.
+
+ghost use Rattle.std.specs.Prelude.{◌≡◌, ◌<◌, ◌≤◌, ◌≤ℤ◌, ◌*ℤ◌, ◌^◌, ◌++◌, ℕ, pos, neg_ℤ, OnOk, length};
+ghost use Rattle.ih_tables.specs.Bills.{at, AreWithin, IsWithin};
+ghost use Rattle.ih_validate.specs.Report.{lines_below};
+ghost use Rattle.ih_page.specs.Summary.{rule_name, cost_name, line_text, line_head, product_text, hard_text, rule_row, cost_row, rule_rows, cost_rows, verdict_text, verdict_of, summary};
+
+use crate::texts::{put, put_number, put_signed};
+use ih_tables::{Bill, Instance};
+use std::alloc::AllocError;
+
+/// What a hard rule counts.
+#[tactic(auto, unfolding(crate::specs::Summary::rule_name))]
+pub fn rule_name(i: usize) -> &'static str
+    ensures { result.now ≡ rule_name i }
+{
+    match i {
+        0 => "two genders in a room",
+        1 => "incompatible room",
+        2 => "surgeon: minutes over",
+        3 => "theatre: minutes over",
+        4 => "mandatory patient left out",
+        5 => "outside the window",
+        6 => "persons above the capacity",
+        7 => "nurse who is off",
+        _ => "no nurse",
+    }
+}
+
+/// What a cost counts.
+#[tactic(auto, unfolding(crate::specs::Summary::cost_name))]
+pub fn cost_name(i: usize) -> &'static str
+    ensures { result.now ≡ cost_name i }
+{
+    match i {
+        0 => "mixed ages",
+        1 => "missing skill",
+        2 => "nurses of a stay",
+        3 => "workload over",
+        4 => "open theatre",
+        5 => "theatres beyond the first",
+        6 => "days of delay",
+        _ => "optional patient left out",
+    }
+}
+
+/// Appends the name of a line of the report.
+#[tactic(auto, unfolding(crate::specs::Summary::line_text))]
+pub fn put_line(out: &mut Vec<u8>, letter: &str, i: usize) -> Result<(), AllocError>
+    requires { i < 9 }
+    ensures { OnOk result (out.new.items ≡ out.old.items ++ line_text letter.now i) }
+{
+    put(out, letter)?;
+    put_number(out, i as u64 + 1)
+}
+
+#[tactic(auto, unfolding(crate::specs::Summary::line_head))]
+fn put_head(out: &mut Vec<u8>, letter: &str, i: usize, name: &str) -> Result<(), AllocError>
+    requires { i < 9 }
+    ensures { OnOk result (out.new.items ≡ out.old.items ++ line_head letter.now i name.now) }
+{
+    put(out, "<tr><th>")?;
+    put_line(out, letter, i)?;
+    put(out, "<td>")?;
+    put(out, name)
+}
+
+#[tactic(auto, unfolding(crate::specs::Summary::hard_text))]
+fn hard_text() -> &'static str
+    ensures { result.now ≡ hard_text }
+{
+    "<td>hard rule<td>\n"
+}
+
+fn put_rule(out: &mut Vec<u8>, i: usize, x: i64) -> Result<(), AllocError>
+    requires { i < 9 }
+    ensures { OnOk result (out.new.items ≡ out.old.items ++ rule_row i x) }
+{
+    put_head(out, "V", i, rule_name(i))?;
+    put(out, "<td>")?;
+    put_signed(out, x)?;
+    put(out, hard_text())
+}
+
+fn times(x: i64, w: i64) -> i64
+    requires low { neg_ℤ (pos (10 ^ 11)) ≤ℤ x }
+    requires high { x ≤ℤ pos (10 ^ 11) }
+    requires weight_low { pos 0 ≤ℤ w }
+    requires weight_high { w ≤ℤ pos 100000 }
+    ensures { result ≡ x *ℤ w }
+{
+    x * w
+}
+
+#[tactic(auto, unfolding(crate::specs::Summary::product_text))]
+fn put_product(out: &mut Vec<u8>, x: i64, w: i64) -> Result<(), AllocError>
+    requires low { neg_ℤ (pos (10 ^ 11)) ≤ℤ x }
+    requires high { x ≤ℤ pos (10 ^ 11) }
+    requires weight_low { pos 0 ≤ℤ w }
+    requires weight_high { w ≤ℤ pos 100000 }
+    ensures { OnOk result (out.new.items ≡ out.old.items ++ product_text x w) }
+{
+    put_signed(out, w)?;
+    put(out, "<td>")?;
+    put_signed(out, times(x, w))?;
+    put(out, "\n")
+}
+
+fn put_cost(out: &mut Vec<u8>, i: usize, x: i64, w: i64) -> Result<(), AllocError>
+    requires place { i < 8 }
+    requires low { neg_ℤ (pos (10 ^ 11)) ≤ℤ x }
+    requires high { x ≤ℤ pos (10 ^ 11) }
+    requires weight_low { pos 0 ≤ℤ w }
+    requires weight_high { w ≤ℤ pos 100000 }
+    ensures { OnOk result (out.new.items ≡ out.old.items ++ cost_row i x w) }
+{
+    put_head(out, "S", i, cost_name(i))?;
+    put(out, "<td>")?;
+    put_signed(out, x)?;
+    put(out, "<td>")?;
+    put_product(out, x, w)
+}
+
+#[tactic(auto, using(crate::proofs::Lines::text_steps), unfolding(crate::specs::Summary::rule_rows))]
+fn put_rules(out: &mut Vec<u8>, bill: &Bill) -> Result<(), AllocError>
+    ensures { OnOk result (out.new.items ≡ out.old.items ++ rule_rows bill.now) }
+{
+    for i in 0..9 {
+        put_rule(out, i, bill.v[i])?;
+    }
+    Ok(())
+}
+
+#[tactic(auto, using(crate::proofs::Lines::text_steps), unfolding(crate::specs::Summary::cost_rows))]
+fn put_costs(out: &mut Vec<u8>, inst: &Instance, bill: &Bill) -> Result<(), AllocError>
+    requires { IsWithin (10 ^ 11) bill.now }
+    ensures { OnOk result (out.new.items ≡ out.old.items ++ cost_rows inst.now.draft.weights bill.now) }
+{
+    let weights = inst.weights();
+    for i in 0..8 {
+        put_cost(out, i, bill.s[i], weights.w[i])?;
+    }
+    Ok(())
+}
+
+fn verdict_text(feasible: bool) -> &'static str
+    ensures { result.now ≡ verdict_text feasible }
+{
+    if feasible {
+        "<h1>Feasible timetable</h1>\n"
+    } else {
+        "<h1>Timetable that is not feasible</h1>\n"
+    }
+}
+
+#[tactic(auto, unfolding(crate::specs::Summary::verdict_of))]
+fn put_verdict(out: &mut Vec<u8>, inst: &Instance, bill: &Bill) -> Result<(), AllocError>
+    requires { IsWithin (10 ^ 11) bill.now }
+    ensures { OnOk result (out.new.items ≡ out.old.items ++ verdict_of inst.now.draft.weights bill.now) }
+{
+    put(out, verdict_text(bill.feasible()))?;
+    put(out, "<p>Cost ")?;
+    put_signed(out, bill.cost(inst.weights()))?;
+    put(out, "</p>\n")
+}
+
+/// Appends whether the timetable is feasible, its cost, and a row for each of the seventeen numbers.
+#[tactic(auto, unfolding(crate::specs::Summary::summary))]
+pub fn put_summary(out: &mut Vec<u8>, inst: &Instance, bill: &Bill) -> Result<(), AllocError>
+    requires { IsWithin (10 ^ 11) bill.now }
+    ensures { OnOk result (out.new.items ≡ out.old.items ++ summary inst.now.draft.weights bill.now) }
+{
+    put_verdict(out, inst, bill)?;
+    put(
+        out,
+        "<table class=s><tr><th>line<th>what it counts<th>number<th>weight<th>product\n",
+    )?;
+    put_rules(out, bill)?;
+    put_costs(out, inst, bill)?;
+    put(out, "</table>\n")
+}

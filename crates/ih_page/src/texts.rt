@@ -1,0 +1,73 @@
+//! Appending texts, numbers, and what comes from a file.
+
+ghost use Rattle.std.specs.Prelude.{◌≡◌, ◌++◌, OnOk, decimal};
+ghost use Rattle.std.specs.Fmt.{signed_decimal};
+ghost use Rattle.ih_page.specs.Html.{escaped, escaped_byte, numbered};
+
+use itoa::Buffer;
+use std::alloc::AllocError;
+
+/// Appends a text of the page's own.
+pub fn put(out: &mut Vec<u8>, text: &str) -> Result<(), AllocError>
+    ensures { OnOk result (out.new.items ≡ out.old.items ++ text.now) }
+{
+    out.extend_from_slice(text.as_bytes())
+}
+
+/// Appends a number.
+pub fn put_number(out: &mut Vec<u8>, n: u64) -> Result<(), AllocError>
+    ensures { OnOk result (out.new.items ≡ out.old.items ++ decimal n) }
+{
+    put(out, Buffer::new().format(n))
+}
+
+/// Appends a number with its sign.
+pub fn put_signed(out: &mut Vec<u8>, n: i64) -> Result<(), AllocError>
+    ensures { OnOk result (out.new.items ≡ out.old.items ++ signed_decimal n) }
+{
+    put(out, Buffer::new().format(n))
+}
+
+fn put_byte(out: &mut Vec<u8>, b: u8) -> Result<(), AllocError>
+    ensures { OnOk result (out.new.items ≡ out.old.items ++ escaped_byte b) }
+{
+    match b {
+        38 => put(out, "&amp;"),
+        60 => put(out, "&lt;"),
+        62 => put(out, "&gt;"),
+        34 => put(out, "&quot;"),
+        39 => put(out, "&#39;"),
+        b => {
+            out.push(b)?;
+            Ok(())
+        }
+    }
+}
+
+/// Appends a text that comes from a file, escaped.
+#[tactic(auto, unfolding(crate::specs::Html::escaped))]
+pub fn put_escaped(out: &mut Vec<u8>, text: &str) -> Result<(), AllocError>
+    ensures { OnOk result (out.new.items ≡ out.old.items ++ escaped text.now) }
+{
+    for b in text.as_bytes() {
+        put_byte(out, *b)?;
+    }
+    Ok(())
+}
+
+/// Appends a name from a file behind a tag with a number.
+#[tactic(auto, unfolding(crate::specs::Html::numbered))]
+pub fn put_numbered(
+    out: &mut Vec<u8>,
+    tag: &str,
+    n: u32,
+    rest: &str,
+    name: &str,
+) -> Result<(), AllocError>
+    ensures { OnOk result (out.new.items ≡ out.old.items ++ numbered tag.now n rest.now name.now) }
+{
+    put(out, tag)?;
+    put_number(out, n as u64)?;
+    put(out, rest)?;
+    put_escaped(out, name)
+}
