@@ -10,6 +10,6 @@ mod scoring;
 
 pub use candidates::{Candidate, cheaper};
 pub use filling::fill;
-pub use nurses::{cheapest_nurse, is_uncovered};
-pub use patients::{cheapest_stay, is_waiting, suits};
+pub use nurses::{cheapest_nurse, cover, is_uncovered};
+pub use patients::{cheapest_stay, is_waiting, place, suits};
 pub use scoring::Scorer;

@@ -50,8 +50,8 @@ pub fn is_uncovered(scorer: &Scorer<'_>, r: RoomNo, k: Shift) -> bool
     scorer.plan().care(r, k).is_none() && scorer.is_occupied(r, k)
 }
 
-// Gives the room a nurse in the shift, where it needs one.
-fn cover(inst: &Instance, scorer: &mut Scorer<'_>, k: Shift, r: RoomNo)
+/// Gives the room the cheapest nurse in the shift, where it needs one.
+pub fn cover(inst: &Instance, scorer: &mut Scorer<'_>, k: Shift, r: RoomNo)
     requires instance { scorer.old.instance ≡ inst.now.draft }
     requires room { r.0 < room_count inst.now.draft }
     requires shift { k.0 < shift_count inst.now.draft }

@@ -152,8 +152,8 @@ pub fn cheapest_stay(
     best
 }
 
-// Gives the patient the cheapest stay, where one costs less than none.
-fn place(inst: &Instance, scorer: &mut Scorer<'_>, p: PatientNo)
+/// Gives the patient the cheapest stay, where one costs less than none.
+pub fn place(inst: &Instance, scorer: &mut Scorer<'_>, p: PatientNo)
     requires instance { scorer.old.instance ≡ inst.now.draft }
     requires counts { scorer.old.counts_uncovered ≡ false }
     requires patient { p.0 < patient_count inst.now.draft }

@@ -16,8 +16,12 @@ use std::alloc::{AllocError, Global};
 use std::sync::Wait;
 use std::thread::Threads;
 
-// Gives the patient the cheapest stay, where one costs less than none.
-fn place<R: Threads + Wait + Sync, G: Gate>(
+// How many choices are dealt. To start the threads costs more than to price a whole choice, and a share has no short way
+// over rooms and theatres, so what comes after these the caller chooses alone.
+const DEALT: u32 = 32;
+
+// Gives the patient the cheapest stay, where one costs less than none: the workers look for it.
+fn deal_stay<R: Threads + Wait + Sync, G: Gate>(
     rt: &R,
     inst: &Instance,
     scorer: &mut Scorer<'_>,
@@ -39,6 +43,31 @@ fn place<R: Threads + Wait + Sync, G: Gate>(
         unreachable!()
     };
     scorer.put(&found.candidate.write);
+}
+
+// The same, by the workers or by the caller alone.
+fn place<R: Threads + Wait + Sync, G: Gate>(
+    rt: &R,
+    inst: &Instance,
+    scorer: &mut Scorer<'_>,
+    p: PatientNo,
+    choice: u32,
+    shares: &mut [Option<Found>],
+    gate: &G,
+)
+    requires instance { scorer.old.instance ≡ inst.now.draft }
+    requires counts { scorer.old.counts_uncovered ≡ false }
+    requires patient { p.0 < patient_count inst.now.draft }
+    requires some { 0 < length shares.old }
+    requires few { length shares.old ≤ 64 }
+    ensures made { scorer.new ≡ record scorer.old { plan = with_stay inst.now.draft scorer.old.hard scorer.old.plan p.0 } }
+    ensures len { length shares.new ≡ length shares.old }
+{
+    if choice < DEALT {
+        deal_stay(rt, inst, scorer, p, choice, shares, gate);
+    } else {
+        ih_fill::place(inst, scorer, p);
+    }
 }
 
 // Admits, in their order, the mandatory or the optional patients who aren't admitted in a timetable. It gives the number of
@@ -74,8 +103,8 @@ fn place_all<R: Threads + Wait + Sync, G: Gate>(
     choice
 }
 
-// Gives the room a nurse in the shift, where it needs one.
-fn cover<R: Threads + Wait + Sync, G: Gate>(
+// Gives the room a nurse in the shift, where it needs one: the workers look for it.
+fn deal_nurse<R: Threads + Wait + Sync, G: Gate>(
     rt: &R,
     inst: &Instance,
     scorer: &mut Scorer<'_>,
@@ -98,6 +127,32 @@ fn cover<R: Threads + Wait + Sync, G: Gate>(
         if let Some(found) = lowest(shares) {
             scorer.put(&found.candidate.write);
         }
+    }
+}
+
+// The same, by the workers or by the caller alone.
+fn cover<R: Threads + Wait + Sync, G: Gate>(
+    rt: &R,
+    inst: &Instance,
+    scorer: &mut Scorer<'_>,
+    k: Shift,
+    r: RoomNo,
+    choice: u32,
+    shares: &mut [Option<Found>],
+    gate: &G,
+)
+    requires instance { scorer.old.instance ≡ inst.now.draft }
+    requires room { r.0 < room_count inst.now.draft }
+    requires shift { k.0 < shift_count inst.now.draft }
+    requires some { 0 < length shares.old }
+    requires few { length shares.old ≤ 64 }
+    ensures made { scorer.new ≡ record scorer.old { plan = with_care inst.now.draft scorer.old.hard scorer.old.plan k.0 r.0 } }
+    ensures len { length shares.new ≡ length shares.old }
+{
+    if choice < DEALT {
+        deal_nurse(rt, inst, scorer, k, r, choice, shares, gate);
+    } else {
+        ih_fill::cover(inst, scorer, k, r);
     }
 }
 
@@ -176,9 +231,9 @@ fn fill_by_shares<R: Threads + Wait + Sync, G: Gate>(
     scorer.plan().try_clone(alloc)
 }
 
-/// The timetable after the greedy fill of `ih_fill`, whatever the number of workers, from 1 to 64: of each choice each worker
-/// prices its share of the candidates, and passes the gate before and after with the choice's number. One worker fills alone
-/// and passes no gate, and where a room needs no nurse there is no choice.
+/// The timetable after the greedy fill of `ih_fill`, whatever the number of workers, from 1 to 64: of each of the first choices
+/// each worker prices its share of the candidates, and passes the gate before and after with the choice's number; the rest
+/// the caller chooses alone. One worker fills alone and passes no gate, and where a room needs no nurse there is no choice.
 pub fn par_fill<R: Threads + Wait + Sync, G: Gate>(
     rt: &R,
     alloc: Global,
