@@ -32,3 +32,18 @@ def generated(patients):
                    for n in range(nurses)],
         "occupants": [], "patients": [patient(i) for i in range(patients)],
     }
+
+
+def full(patients):
+    """A ward that is full: patients who all have to come, 4 rooms for two each, 6 nurses, and one surgeon with one operation a day."""
+    one = generated(patients)
+    types = one["shift_types"]
+    for p in one["patients"]:
+        p.update(mandatory=True, surgery_due_day=27, surgery_duration=60, surgeon_id="s0", incompatible_room_ids=[])
+    one["surgeons"] = [{"id": "s0", "max_surgery_time": [60] * 28}]
+    one["operating_theaters"] = [{"id": "t0", "availability": [60] * 28}]
+    one["rooms"] = [{"id": "r%d" % i, "capacity": 2} for i in range(4)]
+    one["nurses"] = [{"id": "n%d" % n, "skill_level": n % 3,
+                      "working_shifts": [{"day": d, "shift": types[(n + d) % 4], "max_load": 5 + n * d % 11} for d in range(28) if (n + d) % 4 < 3]}
+                     for n in range(6)]
+    return one

@@ -9,7 +9,7 @@ use Rattle.ih_plan.specs.Sums.{bit, sum_below}
 use Rattle.ih_plan.proofs.SumLemmas.{sum_below-le, sum_below-same}
 use Rattle.ih_plan.proofs.SumBounds.{sum_below-add, sum_below-none}
 use Rattle.ih_journal.specs.declared.settings.Options.{Options}
-use Rattle.ih_journal.specs.declared.entries.Entry.{Entry}
+use Rattle.ih_journal.specs.Tried.{Tried}
 use Rattle.ih_journal.specs.Attempts.{Attempt, attempt_after, last_by, is_done, is_retried, is_stale, next_attempt}
 use Rattle.ih_journal.specs.Base.{Base}
 use Rattle.ih_journal.specs.Legal.{IsLegalButDraw}
@@ -18,11 +18,11 @@ use Rattle.ih_cellbook.specs.Laws.{AreFew}
 use Rattle.ih_cellbook.specs.Legal.{AreLegalButDraws}
 
 -- how many of the entries are by worker w
-abbrev pub made : ℕ → List Entry → ℕ
+abbrev pub made : ℕ → List Tried → ℕ
 made w [] = 0
 made w (e ∷ es) = bit (e.worker == w) + made w es
 
-made-more : (w : ℕ) (H : List Entry) (e : Entry) → made w (H ++ e ∷ []) ≡ made w H + bit (e.worker == w)
+made-more : (w : ℕ) (H : List Tried) (e : Tried) → made w (H ++ e ∷ []) ≡ made w H + bit (e.worker == w)
 made-more w [] e = omega arith
 made-more w (x ∷ xs) e = let rest = made-more w xs e in omega (arith, rest)
 
@@ -33,7 +33,7 @@ abbrev rank : Options → Attempt → ℕ
 rank o a = a.number * (o.retries + 1) + a.again
 
 -- how far worker w has come in the entries G
-record IsAlong (o : Options) (G : List Entry) (w : ℕ) : Type 0 where
+record IsAlong (o : Options) (G : List Tried) (w : ℕ) : Type 0 where
   most : made w G ≤ rank o (attempt_after o (last_by w G))
   within : rank o (attempt_after o (last_by w G)) ≤ o.moves * (o.retries + 1)
   again : (attempt_after o (last_by w G)).again ≤ o.retries
@@ -53,7 +53,7 @@ along-none o w = record {
     some-moves (suc n) h = omega arith
 
 -- the next try, and that after it
-module _ (o : Options) (e : Entry) (below : e.number < o.moves) (few : e.again ≤ o.retries) where
+module _ (o : Options) (e : Tried) (below : e.number < o.moves) (few : e.again ≤ o.retries) where
   next-row : (e.number + 1) * (o.retries + 1) ≤ o.moves * (o.retries + 1)
   next-row = mul-le (e.number + 1) (o.retries + 1) o.moves (o.retries + 1) (omega arith) (omega arith)
 
@@ -74,7 +74,7 @@ module _ (o : Options) (e : Entry) (below : e.number < o.moves) (few : e.again �
     | inr other ↦ omega (arith, other)
   ]
 
-retried-less : (o : Options) (e : Entry) → is_retried o e ≡ true → e.again < o.retries
+retried-less : (o : Options) (e : Tried) → is_retried o e ≡ true → e.again < o.retries
 retried-less o e h = elim (cases_lt e.again o.retries) [
   | inl less ↦ less
   | inr over ↦ absurd (by_case (is_stale e.verdict) (rw (le-ltb e.again o.retries over) at h))
@@ -84,7 +84,7 @@ retried-less o e h = elim (cases_lt e.again o.retries) [
     by_case true h = let no : false ≡ true = h in cc
     by_case false h = let no : false ≡ true = h in cc
 
-along-other : (o : Options) (G : List Entry) (e : Entry) (w : ℕ) → (e.worker ≡ w → ⊥) → IsAlong o G w → IsAlong o (G ++ e ∷ []) w
+along-other : (o : Options) (G : List Tried) (e : Tried) (w : ℕ) → (e.worker ≡ w → ⊥) → IsAlong o G w → IsAlong o (G ++ e ∷ []) w
 unfolding is_done
 along-other o G e w other along =
     let last = last_by-other G e w other in
@@ -98,7 +98,7 @@ along-other o G e w other along =
       more = rw last along.more;
     }
 
-along-own : (b : Base) (G : List Entry) (e : Entry) (w : ℕ) → e.worker ≡ w → IsLegalButDraw b G e → IsAlong b.options G w → IsAlong b.options (G ++ e ∷ []) w
+along-own : (b : Base) (G : List Tried) (e : Tried) (w : ℕ) → e.worker ≡ w → IsLegalButDraw b G e → IsAlong b.options G w → IsAlong b.options (G ++ e ∷ []) w
 unfolding is_done
 along-own b G e w own legal along =
     let o : Options = b.options in
@@ -119,7 +119,7 @@ along-own b G e w own legal along =
       more = rw last (not-last b.options e below few (is_retried b.options e));
     }
 
-along-more : (b : Base) (G : List Entry) (e : Entry) (w : ℕ) → IsLegalButDraw b G e → IsAlong b.options G w → IsAlong b.options (G ++ e ∷ []) w
+along-more : (b : Base) (G : List Tried) (e : Tried) (w : ℕ) → IsLegalButDraw b G e → IsAlong b.options G w → IsAlong b.options (G ++ e ∷ []) w
 along-more b G e w legal along = elim (cases_eq e.worker w) [
   | inl own ↦ along-own b G e w own legal along
   | inr other ↦ along-other b.options G e w other along
@@ -128,7 +128,7 @@ along-more b G e w legal along = elim (cases_eq e.worker w) [
 -- ---- the whole history
 
 -- one entry more of the list, where there is one
-pub take-one : (H : List Entry) (k : ℕ) → ((e : Entry) × ((slice_get H k ≡ Some e) × (take (suc k) H ≡ take k H ++ e ∷ []))) ⊎ (take (suc k) H ≡ take k H)
+pub take-one : (H : List Tried) (k : ℕ) → ((e : Tried) × ((slice_get H k ≡ Some e) × (take (suc k) H ≡ take k H ++ e ∷ []))) ⊎ (take (suc k) H ≡ take k H)
 take-one [] zero = inr refl
 take-one [] (suc k) = inr refl
 take-one (x ∷ xs) zero = inl (x, (refl, refl))
@@ -137,14 +137,14 @@ take-one (x ∷ xs) (suc k) = elim (take-one xs k) [
   | inr end ↦ inr (ap (λ ys. x ∷ ys) end)
 ]
 
-along-front : (b : Base) (H : List Entry) (w : ℕ) → AreLegalButDraws b H → (k : ℕ) → IsAlong b.options (take k H) w
+along-front : (b : Base) (H : List Tried) (w : ℕ) → AreLegalButDraws b H → (k : ℕ) → IsAlong b.options (take k H) w
 along-front b H w legal zero = along-none b.options w
 along-front b H w legal (suc k) = elim (take-one H k) [
   | inl more ↦ subst (λ G. IsAlong b.options G w) (sym more.1.1) (along-more b (take k H) more.0 w (legal k more.0 more.1.0) (along-front b H w legal k))
   | inr end ↦ subst (λ G. IsAlong b.options G w) (sym end) (along-front b H w legal k)
 ]
 
-along-all : (b : Base) (H : List Entry) (w : ℕ) → AreLegalButDraws b H → IsAlong b.options H w
+along-all : (b : Base) (H : List Tried) (w : ℕ) → AreLegalButDraws b H → IsAlong b.options H w
 along-all b H w legal = subst (λ G. IsAlong b.options G w) (take_all (length H) H (omega arith)) (along-front b H w legal (length H))
 
 -- ---- all workers
@@ -160,7 +160,7 @@ one-of (suc n) k h = elim (cases_eq k n) [
   | inr other ↦ let rest = one-of n k (omega arith) in rw (ne_eqb k n other) (omega (arith, rest))
 ]
 
-made-all : (W : ℕ) (H : List Entry) → ((k : ℕ) (e : Entry) → slice_get H k ≡ Some e → e.worker < W) → sum_below W (λ w. made w H) ≡ length H
+made-all : (W : ℕ) (H : List Tried) → ((k : ℕ) (e : Tried) → slice_get H k ≡ Some e → e.worker < W) → sum_below W (λ w. made w H) ≡ length H
 made-all W [] known = sum_below-none W
 made-all W (e ∷ es) known =
     let first = one-of W e.worker (known 0 e refl) in
@@ -188,7 +188,7 @@ row-less n m r a h few =
     let is : (n + 1) * (r + 1) ≡ n * (r + 1) + (r + 1) = omega arith in
     omega (arith, row, is)
 
-pub legal-few : (b : Base) (H : List Entry) → AreLegalButDraws b H → AreFew b H
+pub legal-few : (b : Base) (H : List Tried) → AreLegalButDraws b H → AreFew b H
 legal-few b H legal =
     let o : Options = b.options in
     let each = λ (w : ℕ). along-all b H w legal in
@@ -207,7 +207,7 @@ legal-few b H legal =
     }
 
 -- the numbers of a worker's next try
-pub next-below : (b : Base) (H : List Entry) (w : ℕ) (a : Attempt) → AreLegalButDraws b H → next_attempt b.options H w ≡ Some a
+pub next-below : (b : Base) (H : List Tried) (w : ℕ) (a : Attempt) → AreLegalButDraws b H → next_attempt b.options H w ≡ Some a
     → (a.number < b.options.moves) × (a.again ≤ b.options.retries) × (is_done b.options H w ≡ false)
 next-below b H w a legal e =
     let parts = attempt-parts b.options H w a e in
@@ -217,5 +217,5 @@ next-below b H w a legal e =
       parts.0,
     )
 
-pub again-few : (b : Base) (H : List Entry) (w : ℕ) → AreLegalButDraws b H → (attempt_after b.options (last_by w H)).again ≤ b.options.retries
+pub again-few : (b : Base) (H : List Tried) (w : ℕ) → AreLegalButDraws b H → (attempt_after b.options (last_by w H)).again ≤ b.options.retries
 again-few b H w legal = (along-all b H w legal).again

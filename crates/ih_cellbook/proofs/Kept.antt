@@ -13,16 +13,15 @@ use Rattle.ih_tables.specs.Bills.{at, by_place, IsWithin, add_bills, feasible, c
 use Rattle.ih_tables.specs.Sizes.{shift_count, room_count, theatre_count, surgeon_count, nurse_count}
 use Rattle.ih_tables.specs.Valid.{IsValid}
 use Rattle.ih_plan.specs.Timetable.{Timetable, IsPlanOf}
-use Rattle.ih_plan.specs.Expand.{after}
 use Rattle.ih_plan.specs.BillOf.{bill_of, change_of_bill}
 use Rattle.ih_plan.specs.Sums.{bit}
 use Rattle.ih_plan.specs.Cells.{cell_at, cell_count}
-use Rattle.ih_plan.specs.Footprint.{touches, footprint}
 use Rattle.ih_plan.proofs.BillBounds.{bill-within, change-within}
 use Rattle.ih_plan.proofs.Lists.{has}
 use Rattle.ih_plan.proofs.SumLemmas.{sum_below-le, length-which_below}
-use Rattle.ih_plan.proofs.PlanRanges.{after-plan}
-use Rattle.ih_journal.specs.declared.entries.Entry.{Entry}
+use Rattle.ih_plan.proofs.Series.{after_all-plan}
+use Rattle.ih_plan.specs.Series.{after_all, all_touch, footprint_of_all}
+use Rattle.ih_journal.specs.Tried.{Tried}
 use Rattle.ih_journal.specs.declared.entries.Verdict.{Verdict}
 use Rattle.ih_journal.specs.Settings.{IsLawful, most_entries}
 use Rattle.ih_journal.specs.Attempts.{attempt_after, last_by, next_attempt}
@@ -32,11 +31,11 @@ use Rattle.ih_journal.specs.History.{after_entries, changes_since, is_accepted, 
 use Rattle.ih_journal.specs.Legal.{IsLegalButDraw, verdict_on}
 use Rattle.ih_journal.proofs.BestLemmas.{best-start, best-more}
 use Rattle.ih_journal.proofs.Growth.{after_entries-plan, last_by-own, last_by-other, plan_after-more, plan_at-plan}
-use Rattle.ih_cellbook.specs.declared.offers.Offer.{Offer}
+use Rattle.ih_cellbook.specs.Offered.{Offered}
 use Rattle.ih_cellbook.specs.Counters.{is_compared, times_read, risen_where, verdict_by_counters}
 use Rattle.ih_cellbook.specs.Keeping.{IsBase, AreVersions, AreTries, IsKept}
 use Rattle.ih_cellbook.specs.Laws.{AreFew}
-use Rattle.ih_cellbook.specs.Offers.{IsRightOffer, entry_of, reads_after}
+use Rattle.ih_cellbook.specs.Offers.{IsRightOffer, entry_of, entry_with, reads_after}
 use Rattle.ih_cellbook.proofs.Committing.{accepted-compared, accepted-is, attempt-is, entry-legal, footprint-below, legal_but-moves, legal_but-more, legal_but-none, reads-cells, verdict-same, versions-more}
 use Rattle.ih_cellbook.proofs.Exact.{accepted-exact}
 use Rattle.ih_cellbook.proofs.Few.{again-few, legal-few, next-below}
@@ -91,7 +90,7 @@ add-change I P Q = simp back (whole-bill I Q)
 
 -- ---- opening
 
-pub base-lawful : (b : Base) (H : List Entry) (cs ts : List ℕ) (now : Bill) (found : Option (ℕ × ℤ)) → IsKept b H cs ts now found → IsLawful b.options
+pub base-lawful : (b : Base) (H : List Tried) (cs ts : List ℕ) (now : Bill) (found : Option (ℕ × ℤ)) → IsKept b H cs ts now found → IsLawful b.options
 base-lawful b H cs ts now found kept = kept.base.lawful
 
 length-zeros : (n : ℕ) → length {A = ℕ} (replicate n 0) ≡ n
@@ -118,7 +117,7 @@ kept-none b cs ts now found base counters tries bill best =
 
 -- ---- an offer that is right, before it is judged
 
-module _ (b : Base) (H : List Entry) (cs ts : List ℕ) (now : Bill) (found : Option (ℕ × ℤ)) (valid : IsValid b.instance) (kept : IsKept b H cs ts now found) where
+module _ (b : Base) (H : List Tried) (cs ts : List ℕ) (now : Bill) (found : Option (ℕ × ℤ)) (valid : IsValid b.instance) (kept : IsKept b H cs ts now found) where
   plan-now : IsPlanOf b.instance (plan_after b H)
   plan-now = after_entries-plan b.instance b.start H kept.base.start (legal_but-moves b H kept.legal)
 
@@ -150,7 +149,13 @@ module _ (b : Base) (H : List Entry) (cs ts : List ℕ) (now : Bill) (found : Op
       let most = kept.base.lawful.retries in
       omega (arith, same, few, most)
 
-  module _ (o : Offer) (right : IsRightOffer b H o) where
+  pub tries-few : (w : ℕ) → w < b.options.workers → slice_index ts w ≤ b.options.retries
+  tries-few w known =
+      let same = kept.tries.each w known in
+      let few = again-few b H w kept.legal in
+      omega (arith, same, few)
+
+  module _ (o : Offered) (right : IsRightOffer b H o) where
     next : next_attempt b.options H o.worker ≡ Some (record { number = o.number; again = (attempt_after b.options (last_by o.worker H)).again })
     next = attempt-is b.options H o.worker o.number right.number
 
@@ -161,8 +166,8 @@ module _ (b : Base) (H : List Entry) (cs ts : List ℕ) (now : Bill) (found : Op
     has-room = history-few.fewer o.worker right.worker (next-below b H o.worker (record { number = o.number; again = (attempt_after b.options (last_by o.worker H)).again }) kept.legal next).2
 
     pub price-in : IsWithin (10 ^ 11) o.price
-    price-in = rw right.price (change-within b.instance (plan_at b H o.seen) (after b.instance (plan_at b H o.seen) o.mv) valid (plan-seen o.seen)
-        (after-plan b.instance (plan_at b H o.seen) o.mv (plan-seen o.seen) right.move))
+    price-in = rw right.price (change-within b.instance (plan_at b H o.seen) (after_all b.instance (plan_at b H o.seen) o.moves) valid (plan-seen o.seen)
+        (after_all-plan b.instance (plan_at b H o.seen) o.moves (plan-seen o.seen) right.move))
 
     pub sum-small : IsWithin (10 ^ 12) (add_bills now o.price)
     sum-small = sum-within now o.price bill-in price-in
@@ -177,14 +182,14 @@ module _ (b : Base) (H : List Entry) (cs ts : List ℕ) (now : Bill) (found : Op
       pub reads-in : All (λ (r : ℕ × ℕ). r.0 < length cs) o.reads.pairs
       reads-in =
           rw (right.reads asked, kept.versions.len)
-          (all-below (λ n. version b (take o.seen H) (cell_at b.instance n)) (cell_count b.instance) (footprint b.instance (plan_at b H o.seen) o.mv)
-          (footprint-below b.instance (plan_at b H o.seen) o.mv))
+          (all-below (λ n. version b (take o.seen H) (cell_at b.instance n)) (cell_count b.instance) (footprint_of_all b.instance (plan_at b H o.seen) o.moves)
+          (footprint-below b.instance (plan_at b H o.seen) o.moves))
 
-      foot-short : length (footprint b.instance (plan_at b H o.seen) o.mv) ≤ cell_count b.instance
-      unfolding footprint
+      foot-short : length (footprint_of_all b.instance (plan_at b H o.seen) o.moves) ≤ cell_count b.instance
+      unfolding footprint_of_all
       foot-short =
-          let len = length-which_below (cell_count b.instance) (λ n. touches b.instance (plan_at b H o.seen) o.mv (cell_at b.instance n)) in
-          let most = sum_below-le (cell_count b.instance) 1 (λ n. bit (touches b.instance (plan_at b H o.seen) o.mv (cell_at b.instance n))) (λ n h. bit-most (touches b.instance (plan_at b H o.seen) o.mv (cell_at b.instance n))) in
+          let len = length-which_below (cell_count b.instance) (λ n. all_touch b.instance (plan_at b H o.seen) o.moves (cell_at b.instance n)) in
+          let most = sum_below-le (cell_count b.instance) 1 (λ n. bit (all_touch b.instance (plan_at b H o.seen) o.moves (cell_at b.instance n))) (λ n h. bit-most (all_touch b.instance (plan_at b H o.seen) o.moves (cell_at b.instance n))) in
           omega (arith, len, most)
         where
           bit-most : (t : Bool) → bit t ≤ 1
@@ -196,29 +201,25 @@ module _ (b : Base) (H : List Entry) (cs ts : List ℕ) (now : Bill) (found : Op
           let small = counters-small n in
           let few = few-cells b.instance valid in
           let short = foot-short in
-          let len = length-map {B = ℕ × ℕ} (footprint b.instance (plan_at b H o.seen) o.mv) (λ n. (n, version b (take o.seen H) (cell_at b.instance n))) in
+          let len = length-map {B = ℕ × ℕ} (footprint_of_all b.instance (plan_at b H o.seen) o.moves) (λ n. (n, version b (take o.seen H) (cell_at b.instance n))) in
           let pairs = ap length (right.reads asked) in
           omega (arith, small, few, short, len, pairs)
 
 -- ---- the offer's entry added
 
--- the entry as the code makes it, with the try that it keeps
-abbrev pub entry_with : Offer → ℕ → Verdict → Entry
-entry_with o again v = record { worker = o.worker; number = o.number; again = again; seen = o.seen; mv = o.mv; price = o.price; verdict = v }
-
 abbrev pub bill_next : Verdict → Bill → Bill → Bill
 bill_next v now price = if is_accepted v then add_bills now price else now
 
 -- the numbers after an entry are those that the code makes
-pub record AreNext (b : Base) (H : List Entry) (o : Offer) (v : Verdict) (cs ts : List ℕ) (found : Option (ℕ × ℤ)) (cs' ts' : List ℕ) (now' : Bill) (found' : Option (ℕ × ℤ)) : Type 0 where
+pub record AreNext (b : Base) (H : List Tried) (o : Offered) (v : Verdict) (cs ts : List ℕ) (found : Option (ℕ × ℤ)) (cs' ts' : List ℕ) (now' : Bill) (found' : Option (ℕ × ℤ)) : Type 0 where
   pub len : length cs' ≡ length cs
   pub counters : (n : ℕ) → slice_index cs' n ≡ slice_index cs n + (if is_accepted v then times_read n o.reads.pairs else 0)
   pub again : ts' ≡ slice_set ts o.worker (attempt_after b.options (Some (entry_with o (slice_index ts o.worker) v))).again
   pub chosen : found' ≡ best_with found (length H + 1) (feasible now') (cost b.instance.weights now')
 
-module _ (b : Base) (H : List Entry) (cs ts : List ℕ) (now : Bill) (found : Option (ℕ × ℤ)) (valid : IsValid b.instance) (kept : IsKept b H cs ts now found)
-    (o : Offer) (right : IsRightOffer b H o) (v : Verdict) (judged : v ≡ verdict_by_counters b.instance b.options (slice_index cs) o) where
-  pub verdict-is : v ≡ verdict_on b H o.number o.seen o.mv o.price
+module _ (b : Base) (H : List Tried) (cs ts : List ℕ) (now : Bill) (found : Option (ℕ × ℤ)) (valid : IsValid b.instance) (kept : IsKept b H cs ts now found)
+    (o : Offered) (right : IsRightOffer b H o) (v : Verdict) (judged : v ≡ verdict_by_counters b.instance b.options (slice_index cs) o) where
+  pub verdict-is : v ≡ verdict_on b H o.number o.seen o.moves o.price
   verdict-is = judged ∙ verdict-same b H (slice_index cs) o kept.versions.each right
 
   pub legal-next : IsLegalButDraw b H (entry_of b H o v)
@@ -233,10 +234,10 @@ module _ (b : Base) (H : List Entry) (cs ts : List ℕ) (now : Bill) (found : Op
   pub bill-next : bill_next v now o.price ≡ bill_of b.instance (plan_after b (H ++ entry_of b H o v ∷ []))
   bill-next = rw plan-next (by_case (is_accepted v) refl)
     where
-      by_case : (t : Bool) → is_accepted v ≡ t → (if t then add_bills now o.price else now) ≡ bill_of b.instance (if t then after b.instance (plan_after b H) o.mv else plan_after b H)
+      by_case : (t : Bool) → is_accepted v ≡ t → (if t then add_bills now o.price else now) ≡ bill_of b.instance (if t then after_all b.instance (plan_after b H) o.moves else plan_after b H)
       by_case true on =
-          let exact = accepted-exact b H o.number o.seen o.mv o.price kept.base.start (legal_but-moves b H kept.legal) right.move (sym verdict-is ∙ accepted-is v on) right.price in
-          rw (kept.bill, exact) (add-change b.instance (plan_after b H) (after b.instance (plan_after b H) o.mv))
+          let exact = accepted-exact b H o.number o.seen o.moves o.price kept.base.start (legal_but-moves b H kept.legal) right.move (sym verdict-is ∙ accepted-is v on) right.price in
+          rw (kept.bill, exact) (add-change b.instance (plan_after b H) (after_all b.instance (plan_after b H) o.moves))
       by_case false off = kept.bill
 
   pub bill-next-in : IsWithin (10 ^ 11) (bill_next v now o.price)
@@ -247,13 +248,13 @@ module _ (b : Base) (H : List Entry) (cs ts : List ℕ) (now : Bill) (found : Op
   module _ (cs' ts' : List ℕ) (now' : Bill) (found' : Option (ℕ × ℤ)) (next : AreNext b H o v cs ts found cs' ts' now' found') (billed : now' ≡ bill_next v now o.price) where
     -- each cell of the footprint is read once
     rises : (n : ℕ) → n < cell_count b.instance → (t : Bool) → is_accepted v ≡ t
-        → slice_index cs n + (if t then times_read n o.reads.pairs else 0) ≡ risen_where t (slice_index cs) (reads_after b (take o.seen H) o.mv) n
-    unfolding footprint
+        → slice_index cs n + (if t then times_read n o.reads.pairs else 0) ≡ risen_where t (slice_index cs) (reads_after b (take o.seen H) o.moves) n
+    unfolding footprint_of_all
     rises n below false off = omega arith
     rises n below true on =
         let asked = accepted-compared b.instance b.options (slice_index cs) o (ap is_accepted (sym judged) ∙ on) in
-        let once = times-once (cell_count b.instance) n (λ n. version b (take o.seen H) (cell_at b.instance n)) (λ n. touches b.instance (plan_at b H o.seen) o.mv (cell_at b.instance n)) below in
-        let keys = reads-cells b (take o.seen H) o.mv in
+        let once = times-once (cell_count b.instance) n (λ n. version b (take o.seen H) (cell_at b.instance n)) (λ n. all_touch b.instance (plan_at b H o.seen) o.moves (cell_at b.instance n)) below in
+        let keys = reads-cells b (take o.seen H) o.moves in
         rw (right.reads asked, keys) (ap (λ k. slice_index cs n + k) once)
 
     versions-next : AreVersions b (H ++ entry_of b H o v ∷ []) cs'

@@ -7,9 +7,12 @@ pub mod Examples
 pub mod Few
 pub mod Finds
 pub mod Kept
+pub mod LastEntries
 pub mod Machine
 pub mod Ranges
 pub mod Scanning
 pub mod Staying
 pub mod Times
+pub mod Unfrozen
 pub mod Versions
+pub mod Within

@@ -2,15 +2,16 @@
 use Rattle.std.proofs.Common.{subst, ◌≡◌, ℕ, ◌+◌, ◌≤◌, refl, arith, sym, ap, ◌∙◌, Bool, true, false, List, [], ◌∷◌, ◌++◌, length, Some, None}
 use Rattle.std.specs.Prelude.{option_map, if◌then◌else◌, ◌==◌}
 use Rattle.ih_plan.specs.declared.moves.Move.{Move}
-use Rattle.ih_journal.specs.declared.entries.Entry.{Entry}
+use Rattle.ih_plan.specs.Series.{price_of_all}
+use Rattle.ih_journal.specs.Tried.{Tried}
 use Rattle.ih_journal.specs.Attempts.{is_done, Attempt, attempt_after, last_by, next_attempt}
 use Rattle.ih_journal.specs.Base.{Base}
 use Rattle.ih_journal.specs.History.{changes_since, plan_at}
-use Rattle.ih_journal.specs.Legal.{price_of, IsLegalButDraw}
+use Rattle.ih_journal.specs.Legal.{IsLegalButDraw}
 use Rattle.ih_journal.proofs.Growth.{length-more}
 use Rattle.ih_journal.specs.declared.entries.Verdict.{Verdict}
 use Rattle.ih_journal.specs.Legal.{verdict_on}
-use Rattle.ih_cellbook.specs.declared.offers.Offer.{Offer}
+use Rattle.ih_cellbook.specs.Offered.{Offered}
 use Rattle.ih_cellbook.specs.Counters.{verdict_by_counters}
 use Rattle.ih_cellbook.specs.Offers.{entry_of}
 use Rattle.ih_cellbook.proofs.Committing.{AreVersionsBy}
@@ -23,7 +24,7 @@ use Rattle.ih_cellbook.proofs.ExactPrices.{prices-exact}
 -- ---- events
 
 -- what a worker of the machine offers is right for the history
-pub offer_at-right : (b : Base) (s : State) (w n : ℕ) (m : Move) → MayOffer b s w n m → ((v : ℕ) → s.fronts v ≤ length s.history) → IsRightOffer b s.history (offer_at b s.history w n m)
+pub offer_at-right : (b : Base) (s : State) (w n : ℕ) (m : List Move) → MayOffer b s w n m → ((v : ℕ) → s.fronts v ≤ length s.history) → IsRightOffer b s.history (offer_at b s.history w n m)
 unfolding next_attempt
 offer_at-right b s w n m may fronts =
     let known = may.seen in
@@ -55,7 +56,7 @@ module _ (b : Base) (base : IsBase b) (s : State) (legal : IsLegalState b s) whe
     fronts = front-most s.fronts w (length s.history) (length s.history) legal.fronts (omega arith);
   }
 
-  offer-legal : (w n : ℕ) (m : Move) → MayOffer b s w n m → IsLegalState b (step b s (offers w n m))
+  offer-legal : (w n : ℕ) (m : List Move) → MayOffer b s w n m → IsLegalState b (step b s (offers w n m))
   offer-legal w n m may =
       let right = offer_at-right b s w n m may legal.fronts in
       let one : IsLegalButDraw b s.history (entry_in b s w n m) =
@@ -92,7 +93,7 @@ schedule-legal b base events may = run-legal b base events opening (opening-lega
 -- ---- what a book commits is the machine's event
 
 -- an offer that is right is what the worker of the machine makes
-module _ (b : Base) (H : List Entry) (o : Offer) (right : IsRightOffer b H o) where
+module _ (b : Base) (H : List Tried) (o : Offered) (right : IsRightOffer b H o) where
   number-is : (attempt_after b.options (last_by o.worker H)).number ≡ o.number
   unfolding next_attempt
   number-is = by_case (is_done b.options H o.worker) right.number
@@ -102,7 +103,7 @@ module _ (b : Base) (H : List Entry) (o : Offer) (right : IsRightOffer b H o) wh
       by_case true h = absurd (let no : None ≡ Some o.number = h in cc)
       by_case false h = let e : Some (attempt_after b.options (last_by o.worker H)).number ≡ Some o.number = h in cc
 
-  made-right : IsRightOffer b H (offer_at b H o.worker o.seen o.mv)
+  made-right : IsRightOffer b H (offer_at b H o.worker o.seen o.moves)
   made-right = record {
     worker = right.worker;
     number = right.number ∙ ap (λ n. Some n) (sym number-is);
@@ -114,19 +115,19 @@ module _ (b : Base) (H : List Entry) (o : Offer) (right : IsRightOffer b H o) wh
     frozen = refl;
   }
 
-  pub event-same : (s : State) (v : Verdict) → s.history ≡ H → AreVersionsBy b s.history s.counters → v ≡ verdict_on b H o.number o.seen o.mv o.price
-      → (step b s (offers o.worker o.seen o.mv)).history ≡ H ++ entry_of b H o v ∷ []
+  pub event-same : (s : State) (v : Verdict) → s.history ≡ H → AreVersionsBy b s.history s.counters → v ≡ verdict_on b H o.number o.seen o.moves o.price
+      → (step b s (offers o.worker o.seen o.moves)).history ≡ H ++ entry_of b H o v ∷ []
   event-same s v same versions judged =
       let here : AreVersionsBy b H s.counters = subst (λ G. AreVersionsBy b G s.counters) same versions in
-      let made = verdict-same b H s.counters (offer_at b H o.worker o.seen o.mv) here made-right in
+      let made = verdict-same b H s.counters (offer_at b H o.worker o.seen o.moves) here made-right in
       let number = number-is in
       let price = right.price in
-      let verdict : verdict_by_counters b.instance b.options s.counters (offer_at b H o.worker o.seen o.mv) ≡ v =
-      made ∙ ap (λ n. verdict_on b H n o.seen o.mv (price_of b.instance (plan_at b H o.seen) o.mv)) number
-      ∙ ap (verdict_on b H o.number o.seen o.mv) (sym price) ∙ sym judged in
-      let entry : entry_of b H (offer_at b H o.worker o.seen o.mv) (verdict_by_counters b.instance b.options s.counters (offer_at b H o.worker o.seen o.mv)) ≡ entry_of b H o v =
-      ap (entry_of b H (offer_at b H o.worker o.seen o.mv)) verdict
-      ∙ ap (λ n. let e : Entry = record (entry_of b H o v) { number = n; price = price_of b.instance (plan_at b H o.seen) o.mv } in e) number
-      ∙ ap (λ p. let e : Entry = record (entry_of b H o v) { price = p } in e) (sym price) in
-      ap (λ G. G ++ entry_of b G (offer_at b G o.worker o.seen o.mv) (verdict_by_counters b.instance b.options s.counters (offer_at b G o.worker o.seen o.mv)) ∷ []) same
+      let verdict : verdict_by_counters b.instance b.options s.counters (offer_at b H o.worker o.seen o.moves) ≡ v =
+      made ∙ ap (λ n. verdict_on b H n o.seen o.moves (price_of_all b.instance (plan_at b H o.seen) o.moves)) number
+      ∙ ap (verdict_on b H o.number o.seen o.moves) (sym price) ∙ sym judged in
+      let entry : entry_of b H (offer_at b H o.worker o.seen o.moves) (verdict_by_counters b.instance b.options s.counters (offer_at b H o.worker o.seen o.moves)) ≡ entry_of b H o v =
+      ap (entry_of b H (offer_at b H o.worker o.seen o.moves)) verdict
+      ∙ ap (λ n. let e : Tried = record (entry_of b H o v) { number = n; price = price_of_all b.instance (plan_at b H o.seen) o.moves } in e) number
+      ∙ ap (λ p. let e : Tried = record (entry_of b H o v) { price = p } in e) (sym price) in
+      ap (λ G. G ++ entry_of b G (offer_at b G o.worker o.seen o.moves) (verdict_by_counters b.instance b.options s.counters (offer_at b G o.worker o.seen o.moves)) ∷ []) same
       ∙ ap (λ e. H ++ e ∷ []) entry

@@ -2,7 +2,7 @@
 use Rattle.std.proofs.Common.{◌≡◌, ℕ, zero, suc, ◌<◌, ◌≤◌, ◌^◌, refl, arith, sym, ap, ◌∙◌, subst, Bool, true, false, List, [], ◌∷◌, length, take, drop, Option, Some, None}
 use Rattle.std.specs.Prelude.{if◌then◌else◌, int_lt, slice_get}
 use Rattle.std.proofs.lemmas.Option.{slice_get_within}
-use Rattle.std.proofs.lemmas.List.{length-take}
+use Rattle.std.proofs.lemmas.List.{length-take, length-map}
 use Rattle.ih_tables.specs.declared.bills.Bill.{Bill}
 use Rattle.ih_tables.specs.declared.drafts.Draft.{Draft}
 use Rattle.ih_tables.specs.Bills.{score}
@@ -10,24 +10,26 @@ use Rattle.ih_tables.specs.Sizes.{sizes_of}
 use Rattle.ih_tables.specs.Valid.{IsValid}
 use Rattle.ih_plan.specs.declared.moves.Move.{Move}
 use Rattle.ih_plan.specs.Cells.{cell_at, cell_count}
-use Rattle.ih_plan.specs.Expand.{after}
-use Rattle.ih_plan.specs.Footprint.{footprint}
+use Rattle.ih_plan.specs.Series.{AreMoves, after_all, footprint_of_all, price_of_all}
 use Rattle.ih_plan.specs.Timetable.{IsPlanOf}
 use Rattle.ih_plan.proofs.BillBounds.{change-within}
-use Rattle.ih_plan.proofs.PlanRanges.{after-plan}
+use Rattle.ih_plan.proofs.Series.{after_all-plan}
 use Rattle.ih_footprint.proofs.Ranked.{cell_in-in}
 use Rattle.ih_journal.specs.declared.entries.Entry.{Entry}
 use Rattle.ih_journal.specs.declared.entries.Verdict.{Verdict}
+use Rattle.ih_journal.specs.Tried.{Tried, tried, tries}
 use Rattle.ih_journal.specs.declared.entries.Verdict.TheVariants.{Accepted, Declined, Stale, Frozen}
 use Rattle.ih_journal.specs.Base.{Base}
 use Rattle.ih_journal.specs.Frozen.{is_frozen}
 use Rattle.ih_journal.specs.Grammar.{IsEntryOf, IsHistoryOf, IsPrice, IsVerdictOf}
 use Rattle.ih_journal.specs.History.{plan_at, version}
-use Rattle.ih_journal.specs.Legal.{IsLegalButDraw, first_changed, price_of, stale_or_accepted, verdict_on}
+use Rattle.ih_journal.specs.Legal.{IsLegalButDraw, first_changed, stale_or_accepted, verdict_on}
 use Rattle.ih_journal.specs.Settings.{theta}
+use Rattle.ih_journal.specs.declared.settings.Options.{Options}
 use Rattle.ih_journal.proofs.ChangeDigits.{change-short}
 use Rattle.ih_journal.proofs.Growth.{plan_at-plan, take-get}
 use Rattle.ih_journal.proofs.InRange.{limits}
+use Rattle.ih_journal.proofs.Mapped.{get-mapped}
 use Rattle.ih_journal.proofs.JournalTexts.{journals-differ}
 use Rattle.ih_journal.proofs.TextLengths.{IsShortEntry, IsShortPrice, IsShortVerdict, journal-length}
 use Rattle.ih_cellbook.specs.Keeping.{IsBase}
@@ -44,24 +46,46 @@ verdict-of I Declined h = tt
 verdict-of I Frozen h = tt
 verdict-of I (Stale c seen place) h = (h.0, (let less = h.1 in omega (arith, less)), (let less = h.2 in omega (arith, less)))
 
+-- the numbers of what is tried are short, and what it names is in range, whatever number of moves it has
+pub record IsShortTried (I : Draft) (k : ℕ) (e : Tried) : Type 0 where
+  pub place : k < 10 ^ 7
+  pub worker : e.worker < 10 ^ 2
+  pub number : e.number < 10 ^ 7
+  pub again : e.again < 10
+  pub seen : e.seen < 10 ^ 7
+  pub move : AreMoves I e.moves
+  pub price : IsShortPrice e.price
+  pub verdict : IsShortVerdict I e.verdict
+
+-- they are those of an entry of a journal, whatever number of moves it has
+pub record IsTriedOf (I : Draft) (o : Options) (e : Tried) : Type 0 where
+  pub worker : e.worker < 2 ^ 32
+  pub number : e.number < 2 ^ 32
+  pub again : e.again < 2 ^ 32
+  pub once : o.retries ≡ 0 → e.again ≡ 0
+  pub seen : e.seen < 2 ^ 32
+  pub move : AreMoves I e.moves
+  pub price : IsPrice e.price
+  pub verdict : IsVerdictOf I e.verdict
+
 -- ---- an entry that may come next
 
-module _ (b : Base) (H : List Entry) (valid : IsValid b.instance) (base : IsBase b) (history : AreLegalButDraws b H) where
+module _ (b : Base) (H : List Tried) (valid : IsValid b.instance) (base : IsBase b) (history : AreLegalButDraws b H) where
   pub short : length H ≤ 10 ^ 6
   short = let few = (legal-few b H history).most in let most = base.lawful.entries in omega (arith, few, most)
 
-  below-found : (seen n : ℕ) (m : Move) → first_changed b.instance (plan_at b H seen) (drop seen H) m ≡ Some n → n < cell_count b.instance
+  below-found : (seen n : ℕ) (m : List Move) → first_changed b.instance (plan_at b H seen) (drop seen H) m ≡ Some n → n < cell_count b.instance
   below-found seen n m e =
       footprint-below b.instance (plan_at b H seen) m n
-      (find-listed (λ i. rose b H seen (cell_at b.instance i)) (footprint b.instance (plan_at b H seen) m) n (first_risen b H seen m ∙ e))
+      (find-listed (λ i. rose b H seen (cell_at b.instance i)) (footprint_of_all b.instance (plan_at b H seen) m) n (first_risen b H seen m ∙ e))
 
-  version-short : (G : List Entry) (n : ℕ) → length G ≤ 10 ^ 6 → version b G (cell_at b.instance n) < 10 ^ 7
+  version-short : (G : List Tried) (n : ℕ) → length G ≤ 10 ^ 6 → version b G (cell_at b.instance n) < 10 ^ 7
   version-short G n h = let most = version-most b G (cell_at b.instance n) in omega (arith, most, h)
 
-  take-short : (n : ℕ) (G : List Entry) → length G ≤ 10 ^ 6 → length (take n G) ≤ 10 ^ 6
+  take-short : (n : ℕ) (G : List Tried) → length G ≤ 10 ^ 6 → length (take n G) ≤ 10 ^ 6
   take-short n G h = let len = length-take n G in omega (arith, len, h)
 
-  stale-in : (seen : ℕ) (m : Move) (found : Option ℕ) → first_changed b.instance (plan_at b H seen) (drop seen H) m ≡ found
+  stale-in : (seen : ℕ) (m : List Move) (found : Option ℕ) → first_changed b.instance (plan_at b H seen) (drop seen H) m ≡ found
       → IsShortVerdict b.instance (stale_or_accepted b H seen found)
   stale-in seen m None e = tt
   stale-in seen m (Some n) e = (
@@ -70,7 +94,7 @@ module _ (b : Base) (H : List Entry) (valid : IsValid b.instance) (base : IsBase
     version-short H n short,
   )
 
-  verdict-in : (number seen : ℕ) (m : Move) (price : Bill) → IsShortVerdict b.instance (verdict_on b H number seen m price)
+  verdict-in : (number seen : ℕ) (m : List Move) (price : Bill) → IsShortVerdict b.instance (verdict_on b H number seen m price)
   unfolding verdict_on
   verdict-in number seen m price = by_case (is_frozen b (plan_at b H seen) m) (int_lt (theta b.options number) (score b.options.hard b.instance.weights price))
     where
@@ -80,25 +104,25 @@ module _ (b : Base) (H : List Entry) (valid : IsValid b.instance) (base : IsBase
       by_case false true = tt
       by_case false false = stale-in seen m (first_changed b.instance (plan_at b H seen) (drop seen H) m) refl
 
-  module _ (e : Entry) (legal : IsLegalButDraw b H e) where
+  module _ (e : Tried) (legal : IsLegalButDraw b H e) where
     below : (e.number < b.options.moves) × (e.again ≤ b.options.retries)
     below = let next = next-below b H e.worker (record { number = e.number; again = e.again }) history legal.attempt in (next.0, next.1)
 
     before : IsPlanOf b.instance (plan_at b H e.seen)
     before = plan_at-plan b H e.seen base.start (legal_but-moves b H history)
 
-    behind : IsPlanOf b.instance (after b.instance (plan_at b H e.seen) e.mv)
-    behind = after-plan b.instance (plan_at b H e.seen) e.mv before legal.move
+    behind : IsPlanOf b.instance (after_all b.instance (plan_at b H e.seen) e.moves)
+    behind = after_all-plan b.instance (plan_at b H e.seen) e.moves before legal.move
 
-    price-in : IsPrice (price_of b.instance (plan_at b H e.seen) e.mv)
+    price-in : IsPrice (price_of_all b.instance (plan_at b H e.seen) e.moves)
     price-in = record {
       counts = refl;
       costs = refl;
-      small = change-within b.instance (plan_at b H e.seen) (after b.instance (plan_at b H e.seen) e.mv) valid before behind;
+      small = change-within b.instance (plan_at b H e.seen) (after_all b.instance (plan_at b H e.seen) e.moves) valid before behind;
     }
 
     -- its line is short
-    short-in : IsShortEntry b.instance (length H) e
+    pub short-in : IsShortTried b.instance (length H) e
     short-in =
         let lawful = base.lawful in
         let workers = lawful.workers in
@@ -117,11 +141,11 @@ module _ (b : Base) (H : List Entry) (valid : IsValid b.instance) (base : IsBase
           seen = omega (arith, seen, few);
           move = legal.move;
           price = subst IsShortPrice (sym legal.price)
-              (change-short b.instance (plan_at b H e.seen) (after b.instance (plan_at b H e.seen) e.mv) valid before behind);
-          verdict = subst (IsShortVerdict b.instance) (sym legal.verdict) (verdict-in e.number e.seen e.mv e.price);
+              (change-short b.instance (plan_at b H e.seen) (after_all b.instance (plan_at b H e.seen) e.moves) valid before behind);
+          verdict = subst (IsShortVerdict b.instance) (sym legal.verdict) (verdict-in e.number e.seen e.moves e.price);
         }
 
-    pub entry-in : IsEntryOf b.instance b.options e
+    pub entry-in : IsTriedOf b.instance b.options e
     entry-in =
         let few = short-in in
         let worker = few.worker in
@@ -142,35 +166,66 @@ module _ (b : Base) (H : List Entry) (valid : IsValid b.instance) (base : IsBase
 
 -- ---- the whole history
 
-take-front : (j k : ℕ) (H : List Entry) → j ≤ k → take j (take k H) ≡ take j H
+take-front : (j k : ℕ) (H : List Tried) → j ≤ k → take j (take k H) ≡ take j H
 take-front zero k H h = refl
 take-front (suc j) zero H h = absurd (omega arith)
 take-front (suc j) (suc k) [] h = refl
 take-front (suc j) (suc k) (x ∷ xs) h = ap (λ ys. x ∷ ys) (take-front j k xs (omega arith))
 
 -- what is legal stays so where its end is cut off
-legal-front : (b : Base) (H : List Entry) (k : ℕ) → AreLegalButDraws b H → AreLegalButDraws b (take k H)
+legal-front : (b : Base) (H : List Tried) (k : ℕ) → AreLegalButDraws b H → AreLegalButDraws b (take k H)
 legal-front b H k legal j e there =
     let inside = slice_get_within (take k H) j e there in
     let len = length-take k H in
     subst (λ G. IsLegalButDraw b G e) (sym (take-front j k H (omega (arith, inside, len)))) (legal j e (take-get H k j e there))
 
-module _ (b : Base) (H : List Entry) (search : IsSearchBase b) (legal : AreLegalButDraws b H) where
+-- each entry of a legal history is short
+pub each-short : (b : Base) (H : List Tried) → IsSearchBase b → AreLegalButDraws b H → (k : ℕ) (e : Tried) → slice_get H k ≡ Some e
+    → IsShortTried b.instance k e
+each-short b H search legal k e there =
+    let inside = slice_get_within H k e there in
+    let len = length-take k H in
+    let place : length (take k H) ≡ k = omega (arith, inside, len) in
+    subst (λ n. IsShortTried b.instance n e) place
+    (short-in b (take k H) search.valid search.base (legal-front b H k legal) e (legal k e there))
+
+-- ---- a history of single moves
+
+entry-short : (I : Draft) (k : ℕ) (e : Entry) → IsShortTried I k (tried e) → IsShortEntry I k e
+entry-short I k e h = record {
+  place = h.place;
+  worker = h.worker;
+  number = h.number;
+  again = h.again;
+  seen = h.seen;
+  move = h.move.0;
+  price = h.price;
+  verdict = h.verdict;
+}
+
+pub entry-of : (I : Draft) (o : Options) (e : Entry) → IsTriedOf I o (tried e) → IsEntryOf I o e
+entry-of I o e h = record {
+  worker = h.worker;
+  number = h.number;
+  again = h.again;
+  once = h.once;
+  seen = h.seen;
+  move = h.move.0;
+  price = h.price;
+  verdict = h.verdict;
+}
+
+module _ (b : Base) (H : List Entry) (search : IsSearchBase b) (legal : AreLegalButDraws b (tries H)) where
   in-range : IsHistoryOf b.instance b.options H
   in-range = record {
     lawful = search.base.lawful;
     seed = search.seed;
-    places = (let few = short b H search.valid search.base legal in omega (arith, few));
-    entries = λ k e there. entry-in b (take k H) search.valid search.base (legal-front b H k legal) e (legal k e there);
+    places = (let few = short b (tries H) search.valid search.base legal in let len = length-map H tried in omega (arith, few, len));
+    entries = λ k e there.
+        entry-of b.instance b.options e
+        (entry-in b (take k (tries H)) search.valid search.base (legal-front b (tries H) k legal) (tried e)
+        (legal k (tried e) (get-mapped tried H k e there)));
   }
-
-  each-short : (k : ℕ) (e : Entry) → slice_get H k ≡ Some e → IsShortEntry b.instance k e
-  each-short k e there =
-      let inside = slice_get_within H k e there in
-      let len = length-take k H in
-      let place : length (take k H) ≡ k = omega (arith, inside, len) in
-      subst (λ n. IsShortEntry b.instance n e) place
-      (short-in b (take k H) search.valid search.base (legal-front b H k legal) e (legal k e there))
 
 pub histories-in-range : LegalHistoriesAreInRange
 histories-in-range b H search legal = in-range b H search legal
@@ -182,4 +237,5 @@ two-journals b c H G one other same legal_H legal_G text =
 
 pub journals-short : LegalJournalsAreShort
 journals-short b H search legal =
-    journal-length b.instance b.options H (limits b.instance search.valid) search.base.lawful search.seed (each-short b H search legal)
+    journal-length b.instance b.options H (limits b.instance search.valid) search.base.lawful search.seed
+    (λ k e there. entry-short b.instance k e (each-short b (tries H) search legal k (tried e) (get-mapped tried H k e there)))

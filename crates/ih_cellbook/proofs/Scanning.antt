@@ -8,11 +8,11 @@ use Rattle.ih_tables.specs.declared.bills.Bill.{Bill}
 use Rattle.ih_tables.specs.Bills.{IsWithin, add_bills, cost, feasible}
 use Rattle.ih_tables.specs.Valid.{IsValid}
 use Rattle.ih_plan.specs.Timetable.{IsPlanOf}
-use Rattle.ih_plan.specs.Expand.{after}
+use Rattle.ih_plan.specs.Series.{after_all}
 use Rattle.ih_plan.specs.BillOf.{bill_of}
 use Rattle.ih_plan.proofs.BillBounds.{bill-within, change-within}
-use Rattle.ih_plan.proofs.PlanRanges.{after-plan}
-use Rattle.ih_journal.specs.declared.entries.Entry.{Entry}
+use Rattle.ih_plan.proofs.Series.{after_all-plan}
+use Rattle.ih_journal.specs.Tried.{Tried}
 use Rattle.ih_journal.specs.Base.{Base}
 use Rattle.ih_journal.specs.Best.{BestIs, best_with}
 use Rattle.ih_journal.specs.History.{is_accepted, after_entries, after_entry, plan_at, plan_after}
@@ -24,19 +24,19 @@ use Rattle.ih_cellbook.proofs.ExactPrices.{prices-exact, take-next}
 use Rattle.ih_cellbook.proofs.Kept.{add-change, sum-within}
 
 -- the bill after the first k entries, and the best of them
-pub record HasCome (b : Base) (H : List Entry) (k : ℕ) (now : Bill) (best : Option (ℕ × ℤ)) : Type 0 where
+pub record HasCome (b : Base) (H : List Tried) (k : ℕ) (now : Bill) (best : Option (ℕ × ℤ)) : Type 0 where
   pub bill : now ≡ bill_of b.instance (plan_at b H k)
   pub best_is : BestIs b (take k H) best
 
 -- the bill after an entry
-abbrev pub bill_next : Entry → Bill → Bill
+abbrev pub bill_next : Tried → Bill → Bill
 bill_next e now = if is_accepted e.verdict then add_bills now e.price else now
 
-plan-next : (b : Base) (H : List Entry) (k : ℕ) (e : Entry) → slice_get H k ≡ Some e
+plan-next : (b : Base) (H : List Tried) (k : ℕ) (e : Tried) → slice_get H k ≡ Some e
     → plan_at b H (k + 1) ≡ after_entry b.instance (plan_at b H k) e
 plan-next b H k e h = ap (plan_after b) (take-next H k e h) ∙ plan_after-more b (take k H) e
 
-module _ (b : Base) (I : Draft) (first : Bill) (H : List Entry) (over : IsHistoryOver b I first H) where
+module _ (b : Base) (I : Draft) (first : Bill) (H : List Tried) (over : IsHistoryOver b I first H) where
   valid-own : IsValid I → IsValid b.instance
   valid-own valid = rw over.instance valid
 
@@ -53,17 +53,17 @@ module _ (b : Base) (I : Draft) (first : Bill) (H : List Entry) (over : IsHistor
     best_is = rw (is, ← over.instance, over.bill) (best-start b _ _ refl refl);
   }
 
-  module _ (k : ℕ) (e : Entry) (here : slice_get H k ≡ Some e) (now : Bill) (best : Option (ℕ × ℤ)) (come : HasCome b H k now best) where
+  module _ (k : ℕ) (e : Tried) (here : slice_get H k ≡ Some e) (now : Bill) (best : Option (ℕ × ℤ)) (come : HasCome b H k now best) where
     next-bill : bill_next e now ≡ bill_of b.instance (plan_at b H (k + 1))
     next-bill = by_case (is_accepted e.verdict) refl ∙ ap (bill_of b.instance) (sym (plan-next b H k e here))
       where
         by_case : (t : Bool) → is_accepted e.verdict ≡ t
-            → (if t then add_bills now e.price else now) ≡ bill_of b.instance (if t then after b.instance (plan_at b H k) e.mv else plan_at b H k)
+            → (if t then add_bills now e.price else now) ≡ bill_of b.instance (if t then after_all b.instance (plan_at b H k) e.moves else plan_at b H k)
         by_case true on =
             let price = prices-exact b H over.start over.legal k e here (accepted-is e.verdict on) in
-            let next : plan_at b H (k + 1) ≡ after b.instance (plan_at b H k) e.mv =
-            plan-next b H k e here ∙ ap (λ t. if t then after b.instance (plan_at b H k) e.mv else plan_at b H k) on in
-            rw (come.bill, price, next) (add-change b.instance (plan_at b H k) (after b.instance (plan_at b H k) e.mv))
+            let next : plan_at b H (k + 1) ≡ after_all b.instance (plan_at b H k) e.moves =
+            plan-next b H k e here ∙ ap (λ t. if t then after_all b.instance (plan_at b H k) e.moves else plan_at b H k) on in
+            rw (come.bill, price, next) (add-change b.instance (plan_at b H k) (after_all b.instance (plan_at b H k) e.moves))
         by_case false off = come.bill
 
     pub sum-in : IsValid I → IsWithin (10 ^ 12) (add_bills now e.price)
@@ -72,8 +72,8 @@ module _ (b : Base) (I : Draft) (first : Bill) (H : List Entry) (over : IsHistor
         let moves = legal_but-moves b H over.legal in
         let own = plan_at-plan b (take k H) e.seen over.start (λ j f g. moves j f (take-get H k j f g)) in
         sum-within now e.price (rw come.bill (bill-within b.instance (plan_at b H k) (valid-own valid) (plan-in k)))
-        (rw is.price (change-within b.instance (plan_at b (take k H) e.seen) (after b.instance (plan_at b (take k H) e.seen) e.mv)
-        (valid-own valid) own (after-plan b.instance (plan_at b (take k H) e.seen) e.mv own is.move)))
+        (rw is.price (change-within b.instance (plan_at b (take k H) e.seen) (after_all b.instance (plan_at b (take k H) e.seen) e.moves)
+        (valid-own valid) own (after_all-plan b.instance (plan_at b (take k H) e.seen) e.moves own is.move)))
 
     pub next-in : (next : Bill) → IsValid I → next ≡ bill_next e now → IsWithin (10 ^ 11) next
     next-in next valid is = rw (is ∙ next-bill) (bill-within b.instance (plan_at b H (k + 1)) (valid-own valid) (plan-in (k + 1)))

@@ -1,23 +1,23 @@
 -- An offer that is right stays right while others add entries.
+use Rattle.ih_plan.specs.Series.{price_of_all}
 use Rattle.std.proofs.Common.{◌≡◌, ℕ, zero, suc, refl, arith, sym, ap, ◌∙◌, false, List, [], ◌∷◌, ◌++◌, length-append, inl, inr, Option, Some, None}
 use Rattle.std.specs.Prelude.{◌⊎◌, if◌then◌else◌, ◌==◌, option_map, slice_get}
 use Rattle.std.proofs.lemmas.List.{take-append-le}
 use Rattle.std.proofs.lemmas.Bool.{ne_eqb}
 use Rattle.ih_journal.specs.declared.settings.Options.{Options}
-use Rattle.ih_journal.specs.declared.entries.Entry.{Entry}
+use Rattle.ih_journal.specs.Tried.{Tried}
 use Rattle.ih_journal.specs.Attempts.{Attempt, attempt_after, last_by, else_last, is_done, is_done_after, next_attempt}
 use Rattle.ih_journal.specs.Base.{Base}
 use Rattle.ih_journal.specs.Frozen.{is_frozen}
-use Rattle.ih_journal.specs.Legal.{price_of}
 use Rattle.ih_journal.proofs.Growth.{plan_at-earlier}
-use Rattle.ih_cellbook.specs.declared.offers.Offer.{Offer}
+use Rattle.ih_cellbook.specs.Offered.{Offered}
 use Rattle.ih_cellbook.specs.Laws.{HasNoneBy}
 use Rattle.ih_cellbook.specs.Offers.{IsRightOffer, HasSeenOwn, next_number, reads_after}
 
-else_last-none : (o : Option Entry) → else_last None o ≡ o
+else_last-none : (o : Option Tried) → else_last None o ≡ o
 else_last-none o = refl
 
-last_by-none : (w : ℕ) (es : List Entry) → HasNoneBy w es → last_by w es ≡ None
+last_by-none : (w : ℕ) (es : List Tried) → HasNoneBy w es → last_by w es ≡ None
 unfolding last_by
 last_by-none w [] none = refl
 last_by-none w (e ∷ es) none =
@@ -26,29 +26,29 @@ last_by-none w (e ∷ es) none =
     rw (rest, here) refl
 
 -- others' entries don't change a worker's last one
-pub last_by-others : (w : ℕ) (H es : List Entry) → HasNoneBy w es → last_by w (H ++ es) ≡ last_by w H
+pub last_by-others : (w : ℕ) (H es : List Tried) → HasNoneBy w es → last_by w (H ++ es) ≡ last_by w H
 unfolding last_by
 last_by-others w [] es none = last_by-none w es none
 last_by-others w (x ∷ xs) es none = rw (last_by-others w xs es none) refl
 
 -- an entry of the longer history is an earlier one, or one of the others
-get-append : (H es : List Entry) (j : ℕ) (e : Entry) → slice_get (H ++ es) j ≡ Some e
+get-append : (H es : List Tried) (j : ℕ) (e : Tried) → slice_get (H ++ es) j ≡ Some e
     → (slice_get H j ≡ Some e) ⊎ ((k : ℕ) × (slice_get es k ≡ Some e))
 get-append [] es j e h = inr (j, h)
 get-append (x ∷ xs) es zero e h = inl h
 get-append (x ∷ xs) es (suc j) e h = get-append xs es j e h
 
-pub seen_own-others : (w seen : ℕ) (H es : List Entry) → HasNoneBy w es → HasSeenOwn H w seen → HasSeenOwn (H ++ es) w seen
+pub seen_own-others : (w seen : ℕ) (H es : List Tried) → HasNoneBy w es → HasSeenOwn H w seen → HasSeenOwn (H ++ es) w seen
 seen_own-others w seen H es none own j e h by = elim (get-append H es j e h) [
   | inl earlier ↦ own j e earlier by
   | inr other ↦ absurd (none other.0 e other.1 by)
 ]
 
-number-same : (o : Options) (H G : List Entry) (w : ℕ) → last_by w G ≡ last_by w H → next_number o G w ≡ next_number o H w
+number-same : (o : Options) (H G : List Tried) (w : ℕ) → last_by w G ≡ last_by w H → next_number o G w ≡ next_number o H w
 unfolding next_attempt is_done
 number-same o H G w e = ap (λ l. option_map (λ (a : Attempt). a.number) (if is_done_after o l then None else Some (attempt_after o l))) e
 
-pub right-stays : (b : Base) (H es : List Entry) (o : Offer) → IsRightOffer b H o → HasNoneBy o.worker es → IsRightOffer b (H ++ es) o
+pub right-stays : (b : Base) (H es : List Tried) (o : Offered) → IsRightOffer b H o → HasNoneBy o.worker es → IsRightOffer b (H ++ es) o
 right-stays b H es o right none =
     let seen = right.seen in
     let front = take-append-le o.seen H es seen in
@@ -60,7 +60,7 @@ right-stays b H es o right none =
       move = right.move;
       seen = omega (arith, len, seen);
       after_own = seen_own-others o.worker o.seen H es none right.after_own;
-      price = right.price ∙ sym (ap (λ P. price_of b.instance P o.mv) there);
-      reads = λ asked. right.reads asked ∙ sym (ap (λ G. reads_after b G o.mv) front);
-      frozen = right.frozen ∙ sym (ap (λ P. is_frozen b P o.mv) there);
+      price = right.price ∙ sym (ap (λ P. price_of_all b.instance P o.moves) there);
+      reads = λ asked. right.reads asked ∙ sym (ap (λ G. reads_after b G o.moves) front);
+      frozen = right.frozen ∙ sym (ap (λ P. is_frozen b P o.moves) there);
     }

@@ -10,9 +10,9 @@ use Rattle.ih_plan.specs.declared.moves.Move.{Move}
 use Rattle.ih_plan.specs.Timetable.{Timetable}
 use Rattle.ih_plan.specs.Sums.{bit}
 use Rattle.ih_plan.specs.Cells.{cell_at, cell_count}
-use Rattle.ih_plan.specs.Footprint.{touches, footprint}
 use Rattle.ih_plan.proofs.Lists.{which_below-filter}
-use Rattle.ih_journal.specs.declared.entries.Entry.{Entry}
+use Rattle.ih_plan.specs.Series.{all_touch, footprint_of_all}
+use Rattle.ih_journal.specs.Tried.{Tried}
 use Rattle.ih_journal.specs.Base.{Base}
 use Rattle.ih_journal.specs.History.{after_entry, changes, changed_since, changes_since, version, plan_at, plan_after}
 use Rattle.ih_journal.specs.Legal.{first_changed}
@@ -20,10 +20,10 @@ use Rattle.ih_journal.proofs.HistoryLemmas.{changes_since-append, changes_since-
 use Rattle.ih_cellbook.proofs.Finds.{find-filter, find-same}
 
 -- the version now isn't that after the first `seen` entries
-abbrev pub rose : Base → List Entry → ℕ → Cell → Bool
+abbrev pub rose : Base → List Tried → ℕ → Cell → Bool
 rose b H seen c = not (version b H c == version b (take seen H) c)
 
-pub rose-changed : (b : Base) (H : List Entry) (seen : ℕ) (c : Cell) → rose b H seen c ≡ changed_since b.instance (plan_at b H seen) (drop seen H) c
+pub rose-changed : (b : Base) (H : List Tried) (seen : ℕ) (c : Cell) → rose b H seen c ≡ changed_since b.instance (plan_at b H seen) (drop seen H) c
 rose-changed b H seen c =
     let all = ap (λ xs. version b xs c) (take-append-drop seen H) in
     let parts = changes_since-append b.instance b.start (take seen H) (drop seen H) c in
@@ -37,20 +37,20 @@ rose-changed b H seen c =
     ]
 
 -- The first cell of the footprint whose version rose is the first that an entry changed.
-pub first_risen : (b : Base) (H : List Entry) (seen : ℕ) (m : Move)
-    → find (λ n. rose b H seen (cell_at b.instance n)) (footprint b.instance (plan_at b H seen) m) ≡ first_changed b.instance (plan_at b H seen) (drop seen H) m
-unfolding footprint first_changed
+pub first_risen : (b : Base) (H : List Tried) (seen : ℕ) (m : List Move)
+    → find (λ n. rose b H seen (cell_at b.instance n)) (footprint_of_all b.instance (plan_at b H seen) m) ≡ first_changed b.instance (plan_at b H seen) (drop seen H) m
+unfolding footprint_of_all first_changed
 first_risen b H seen m =
     let I : Draft = b.instance in
     let P : Timetable = plan_at b H seen in
-    rw (which_below-filter (cell_count b.instance) (λ n. touches b.instance (plan_at b H seen) m (cell_at b.instance n)))
-    (find-filter (λ n. touches b.instance (plan_at b H seen) m (cell_at b.instance n)) (λ n. rose b H seen (cell_at b.instance n)) (range_with_len 0 (cell_count b.instance))
-    ∙ find-same (λ n. touches b.instance (plan_at b H seen) m (cell_at b.instance n) && rose b H seen (cell_at b.instance n))
-    (λ n. touches b.instance (plan_at b H seen) m (cell_at b.instance n) && changed_since b.instance (plan_at b H seen) (drop seen H) (cell_at b.instance n))
+    rw (which_below-filter (cell_count b.instance) (λ n. all_touch b.instance (plan_at b H seen) m (cell_at b.instance n)))
+    (find-filter (λ n. all_touch b.instance (plan_at b H seen) m (cell_at b.instance n)) (λ n. rose b H seen (cell_at b.instance n)) (range_with_len 0 (cell_count b.instance))
+    ∙ find-same (λ n. all_touch b.instance (plan_at b H seen) m (cell_at b.instance n) && rose b H seen (cell_at b.instance n))
+    (λ n. all_touch b.instance (plan_at b H seen) m (cell_at b.instance n) && changed_since b.instance (plan_at b H seen) (drop seen H) (cell_at b.instance n))
     (range_with_len 0 (cell_count b.instance)) (λ n. rw (rose-changed b H seen (cell_at b.instance n)) refl))
 
 -- the version after one entry more
-pub version-more : (b : Base) (H : List Entry) (e : Entry) (c : Cell) → version b (H ++ e ∷ []) c ≡ version b H c + bit (changes b.instance (plan_after b H) e c)
+pub version-more : (b : Base) (H : List Tried) (e : Tried) (c : Cell) → version b (H ++ e ∷ []) c ≡ version b H c + bit (changes b.instance (plan_after b H) e c)
 unfolding changes_since
 version-more b H e c =
     let parts = changes_since-append b.instance b.start H (e ∷ []) c in
@@ -60,7 +60,7 @@ bit-most : (b : Bool) → bit b ≤ 1
 bit-most true = omega arith
 bit-most false = omega arith
 
-changes_since-most : (I : Draft) (P : Timetable) (es : List Entry) (c : Cell) → changes_since I P es c ≤ length es
+changes_since-most : (I : Draft) (P : Timetable) (es : List Tried) (c : Cell) → changes_since I P es c ≤ length es
 unfolding changes_since
 changes_since-most I P [] c = omega arith
 changes_since-most I P (e ∷ es) c =
@@ -69,5 +69,5 @@ changes_since-most I P (e ∷ es) c =
     omega (arith, rest, one)
 
 -- a cell changed at most once for each entry
-pub version-most : (b : Base) (H : List Entry) (c : Cell) → version b H c ≤ length H
+pub version-most : (b : Base) (H : List Tried) (c : Cell) → version b H c ≤ length H
 version-most b H c = changes_since-most b.instance b.start H c

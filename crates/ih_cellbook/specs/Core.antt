@@ -2,9 +2,9 @@
 use Rattle.std.specs.Prelude.{◌≡◌, ℕ, ◌+◌, ◌==◌, ◌<◌, ◌≤◌, false, List, [], ◌∷◌, ◌++◌, length, take, if◌then◌else◌}
 use Rattle.ih_tables.specs.declared.drafts.Draft.{Draft}
 use Rattle.ih_plan.specs.declared.moves.Move.{Move}
-use Rattle.ih_plan.specs.Expand.{IsMoveOf}
 use Rattle.ih_plan.specs.Cells.{cell_at, cell_count}
-use Rattle.ih_journal.specs.declared.entries.Entry.{Entry}
+use Rattle.ih_plan.specs.Series.{AreMoves}
+use Rattle.ih_journal.specs.Tried.{Tried}
 use Rattle.ih_journal.specs.declared.entries.Verdict.{Verdict}
 use Rattle.ih_journal.specs.Attempts.{is_done}
 use Rattle.ih_journal.specs.Base.{Base}
@@ -16,7 +16,7 @@ use Rattle.ih_cellbook.specs.Offers.{HasSeenOwn, entry_of, offer_at, reads_after
 
 -- The entries so far, a counter for each cell by number, and how many entries each worker has seen.
 pub record State : Type 0 where
-  pub history : List Entry
+  pub history : List Tried
   pub counters : ℕ → ℕ
   pub fronts : ℕ → ℕ
 
@@ -28,13 +28,13 @@ pub data Event : Type 0 where
   -- a worker looks at the whole history
   looks : ℕ → Event
   -- a worker offers a move, priced on the first entries alone
-  offers : ℕ → ℕ → Move → Event
+  offers : ℕ → ℕ → List Move → Event
 
 -- The worker isn't done; it has seen the first n entries, on which it prices, and they reach past its own last one.
-pub record MayOffer (b : Base) (s : State) (w n : ℕ) (m : Move) : Type 0 where
+pub record MayOffer (b : Base) (s : State) (w n : ℕ) (m : List Move) : Type 0 where
   pub worker : w < b.options.workers
   pub not_done : is_done b.options s.history w ≡ false
-  pub move : IsMoveOf b.instance m
+  pub move : AreMoves b.instance m
   pub seen : n ≤ s.fronts w
   pub after_own : HasSeenOwn s.history w n
 
@@ -44,15 +44,15 @@ MayCome b s (looks w) = Unit {0}
 MayCome b s (offers w seen m) = MayOffer b s w seen m
 
 -- the verdict on a worker's next move, whose price, footprint and versions are taken on the first `seen` entries alone
-abbrev pub verdict_in : Base → State → ℕ → ℕ → Move → Verdict
+abbrev pub verdict_in : Base → State → ℕ → ℕ → List Move → Verdict
 verdict_in b s w seen m = verdict_by_counters b.instance b.options s.counters (offer_at b s.history w seen m)
 
 -- the entry of that move
-abbrev pub entry_in : Base → State → ℕ → ℕ → Move → Entry
+abbrev pub entry_in : Base → State → ℕ → ℕ → List Move → Tried
 entry_in b s w seen m = entry_of b s.history (offer_at b s.history w seen m) (verdict_in b s w seen m)
 
 -- the counters after it: where it is accepted, those of its footprint are one more
-abbrev pub counters_in : Base → State → ℕ → ℕ → Move → ℕ → ℕ
+abbrev pub counters_in : Base → State → ℕ → ℕ → List Move → ℕ → ℕ
 counters_in b s w seen m = risen_where (is_accepted (verdict_in b s w seen m)) s.counters (reads_after b (take seen s.history) m)
 
 -- one worker's front is moved on, the others' stay

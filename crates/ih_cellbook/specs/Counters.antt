@@ -10,7 +10,7 @@ use Rattle.ih_journal.specs.declared.entries.Verdict.{Verdict}
 use Rattle.ih_journal.specs.declared.entries.Verdict.TheVariants.{Accepted, Declined, Stale, Frozen}
 use Rattle.ih_journal.specs.Settings.{theta}
 use Rattle.ih_journal.specs.declared.settings.Options.{Options}
-use Rattle.ih_cellbook.specs.declared.offers.Offer.{Offer}
+use Rattle.ih_cellbook.specs.Offered.{Offered}
 
 -- the first cell read whose counter isn't the version read, with that version
 abbrev pub first_differing : (ℕ → ℕ) → List (ℕ × ℕ) → Option (ℕ × ℕ)
@@ -26,7 +26,7 @@ abbrev pub is_compared : Draft → Options → Bool → ℕ → Bill → Bool
 is_compared I o frozen number price = not frozen && not (int_lt (theta o number) (score o.hard I.weights price))
 
 -- The verdict on an offer. It compares numbers, and looks at no timetable and no entry.
-unfoldable pub verdict_by_counters : Draft → Options → (ℕ → ℕ) → Offer → Verdict
+unfoldable pub verdict_by_counters : Draft → Options → (ℕ → ℕ) → Offered → Verdict
 verdict_by_counters I o counter offer =
     if offer.frozen then Frozen
     else if int_lt (theta o offer.number) (score o.hard I.weights offer.price) then Declined

@@ -5,7 +5,7 @@ use Rattle.ih_tables.specs.declared.bills.Bill.{Bill}
 use Rattle.ih_plan.specs.Timetable.{Timetable, IsPlanOf}
 use Rattle.ih_plan.specs.BillOf.{bill_of}
 use Rattle.ih_plan.specs.Cells.{cell_at, cell_count}
-use Rattle.ih_journal.specs.declared.entries.Entry.{Entry}
+use Rattle.ih_journal.specs.Tried.{Tried}
 use Rattle.ih_journal.specs.declared.settings.Options.{Options}
 use Rattle.ih_journal.specs.Settings.{IsLawful}
 use Rattle.ih_journal.specs.Attempts.{attempt_after, last_by}
@@ -24,17 +24,17 @@ pub record IsBase (b : Base) : Type 0 where
   pub lawful : IsLawful b.options
 
 -- the counters are the cells' versions
-pub record AreVersions (b : Base) (H : List Entry) (counters : List ℕ) : Type 0 where
+pub record AreVersions (b : Base) (H : List Tried) (counters : List ℕ) : Type 0 where
   pub len : length counters ≡ cell_count b.instance
   pub each : (n : ℕ) → n < cell_count b.instance → slice_index counters n ≡ version b H (cell_at b.instance n)
 
 -- the tries are those of each worker's next attempt
-pub record AreTries (b : Base) (H : List Entry) (tries : List ℕ) : Type 0 where
+pub record AreTries (b : Base) (H : List Tried) (tries : List ℕ) : Type 0 where
   pub len : length tries ≡ b.options.workers
   pub each : (w : ℕ) → w < b.options.workers → slice_index tries w ≡ (attempt_after b.options (last_by w H)).again
 
 -- all that is promised of a book with these counters and tries, the bill now, and the best found
-pub record IsKept (b : Base) (H : List Entry) (cs ts : List ℕ) (now : Bill) (found : Option (ℕ × ℤ)) : Type 0 where
+pub record IsKept (b : Base) (H : List Tried) (cs ts : List ℕ) (now : Bill) (found : Option (ℕ × ℤ)) : Type 0 where
   pub base : IsBase b
   pub legal : AreLegalButDraws b H
   pub versions : AreVersions b H cs

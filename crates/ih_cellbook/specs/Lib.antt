@@ -5,5 +5,8 @@ pub mod Keeping
 pub mod Laws
 pub mod Legal
 pub mod Noted
+pub mod Offered
 pub mod Offers
 pub mod Recorded
+pub mod Replicas
+pub mod Snapshot

@@ -1,14 +1,15 @@
 //! The best of a history, told from its prices: the bill of each of its timetables is that of the one before it with the
 //! price of an accepted entry added.
 
-ghost use Rattle.std.specs.Prelude.{◌≡◌, ◌<◌, ◌^◌, if◌then◌else◌, length};
+ghost use Rattle.std.specs.Prelude.{◌≡◌, ◌<◌, ◌^◌, if◌then◌else◌, length, map};
 ghost use Rattle.ih_tables.specs.Bills.{IsWithin, add_bills, cost, feasible};
 ghost use Rattle.ih_journal.specs.Base.{Base};
 ghost use Rattle.ih_journal.specs.Best.{BestIs, best_with};
 ghost use Rattle.ih_journal.specs.History.{is_accepted};
 ghost use Rattle.ih_cellbook.specs.Legal.{IsHistoryOver};
 
-use ih_journal::{Entry, Verdict};
+use crate::kinds::Logged;
+use ih_journal::Verdict;
 use ih_tables::{Bill, Instance};
 
 // The bill after an entry.
@@ -44,16 +45,16 @@ pub(crate) fn with_place(
 
 /// The place and the cost of the first cheapest feasible timetable of a history over a start, whose bill is `first`; none
 /// exactly where no timetable of the history is feasible. It makes no timetable and no further bill.
-pub fn best_in(inst: &Instance, first: &Bill, entries: &[Entry]) -> Option<(u32, i64)>
-    requires over { (b : Base) × IsHistoryOver b inst.now.draft first.now entries.now }
+pub fn best_in<E: Logged>(inst: &Instance, first: &Bill, entries: &[E]) -> Option<(u32, i64)>
+    requires over { (b : Base) × IsHistoryOver b inst.now.draft first.now (map E.tried entries.now) }
     requires few { length entries.now < 2 ^ 32 }
-    ensures { (b : Base) → IsHistoryOver b inst.now.draft first.now entries.now → BestIs b entries.now result }
+    ensures { (b : Base) → IsHistoryOver b inst.now.draft first.now (map E.tried entries.now) → BestIs b (map E.tried entries.now) result }
 {
     let mut now = *first;
     let mut best = with_place(None, 0, &now, inst);
     let mut place = 0;
     for entry in entries {
-        now = bill_after(&entry.verdict, &now, &entry.price);
+        now = bill_after(&entry.verdict(), &now, &entry.price());
         place += 1;
         best = with_place(best, place, &now, inst);
     }

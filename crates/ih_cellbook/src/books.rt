@@ -3,7 +3,7 @@
 ghost use Rattle.std.specs.Prelude.{◌≡◌, ℕ, ◌<◌, ◌≤◌, length};
 
 use crate::buffers::Buffer;
-use crate::offers::Offer;
+use crate::kinds::Logged;
 use crate::records::Records;
 use ih_journal::{Entry, Options, Verdict};
 use ih_plan::Plan;
@@ -14,12 +14,12 @@ use std::marker::Model;
 /// A history of entries that is legal but for its draws, over a start. It keeps no timetable but the reference to the
 /// start, and takes no memory after it is opened.
 #[derive(Drop)]
-pub struct Book<'a> {
+pub struct Book<'a, E: Logged = Entry> {
     // In a place of their own: who hands the book over, as a turn does, moves their address alone.
-    records: Box<Records<'a>>,
+    records: Box<Records<'a, E>>,
 }
 
-impl<'a> Model for Book<'a> {
+impl<'a, E: Logged> Model for Book<'a, E> {
     ghost use Rattle.ih_cellbook.specs.Recorded.{Recorded};
 
     ghost Value = { Recorded };
@@ -27,8 +27,8 @@ impl<'a> Model for Book<'a> {
     ghost view = { λ k. k.records.value };
 }
 
-impl<'a> Book<'a> {
-    ghost use Rattle.std.specs.Prelude.{◌+◌, ◌++◌, ◌∷◌, [], take, drop, IfOk};
+impl<'a, E: Logged> Book<'a, E> {
+    ghost use Rattle.std.specs.Prelude.{◌+◌, ◌++◌, ◌∷◌, [], take, drop, IfOk, map};
     ghost use Rattle.ih_plan.specs.BillOf.{bill_of, change_of_bill};
     ghost use Rattle.ih_plan.specs.Timetable.{IsPlanOf};
     ghost use Rattle.ih_plan.specs.Cells.{cell_at, cell_count};
@@ -53,10 +53,11 @@ impl<'a> Book<'a> {
         first: &Bill,
         options: &Options,
         freeze: u32,
-    ) -> Result<Book<'a>, AllocError>
+    ) -> Result<Book<'a, E>, AllocError>
         requires start { IsPlanOf inst.now.draft start.now }
         requires first { first.now ≡ bill_of inst.now.draft start.now }
         requires lawful { IsLawful options.now }
+        requires retries { options.now.retries ≤ E.most_retries }
         ensures { IfOk result (λ k. k ≡ record { base = base_with inst.now.draft start.now options.now freeze; entries = [] }) }
     {
         let records = Records::new(alloc, inst, start, first, options, freeze)?;
@@ -69,33 +70,33 @@ impl<'a> Book<'a> {
     /// the price's score is above what its number may cost; else stale by the first cell of its footprint that an entry
     /// changed which the worker hadn't seen; else accepted. It compares the versions that were read with those that
     /// stand here, in time of the footprint, and takes no memory.
-    pub fn commit(&mut self, offer: &Offer) -> Verdict
-        requires { IsRightOffer self.old.base self.old.entries offer.now }
+    pub fn commit(&mut self, offer: &E::Offer) -> Verdict
+        requires { IsRightOffer self.old.base self.old.entries (E.Offer.offered offer.now) }
         ensures base { self.new.base ≡ self.old.base }
-        ensures entries { self.new.entries ≡ self.old.entries ++ entry_of self.old.base self.old.entries offer.now result ∷ [] }
-        ensures verdict { result ≡ verdict_on self.old.base self.old.entries offer.now.number offer.now.seen offer.now.mv offer.now.price }
-        ensures legal { IsLegalButDraw self.old.base self.old.entries (entry_of self.old.base self.old.entries offer.now result) }
+        ensures entries { self.new.entries ≡ self.old.entries ++ entry_of self.old.base self.old.entries (E.Offer.offered offer.now) result ∷ [] }
+        ensures verdict { result ≡ verdict_on self.old.base self.old.entries (E.Offer.offered offer.now).number (E.Offer.offered offer.now).seen (E.Offer.offered offer.now).moves (E.Offer.offered offer.now).price }
+        ensures legal { IsLegalButDraw self.old.base self.old.entries (entry_of self.old.base self.old.entries (E.Offer.offered offer.now) result) }
         // an accepted price, however old, is the change of the bill at this place
         ensures exact { result ≡ Accepted
-            → offer.now.price ≡ change_of_bill self.old.base.instance (plan_after self.old.base self.old.entries) (plan_after self.old.base self.new.entries) }
+            → (E.Offer.offered offer.now).price ≡ change_of_bill self.old.base.instance (plan_after self.old.base self.old.entries) (plan_after self.old.base self.new.entries) }
         // in every legal state of the machine with this history, the worker's offer of this move adds the same entry
         ensures event { (s : State) → s.history ≡ self.old.entries → IsLegalState self.old.base s
-            → self.new.entries ≡ (step self.old.base s (offers offer.now.worker offer.now.seen offer.now.mv)).history }
+            → self.new.entries ≡ (step self.old.base s (offers (E.Offer.offered offer.now).worker (E.Offer.offered offer.now).seen (E.Offer.offered offer.now).moves)).history }
     {
         self.records.commit(offer)
     }
 
     /// The verdict that `commit` would give on the offer. It changes nothing.
-    pub fn judge(&self, offer: &Offer) -> Verdict
-        requires { IsRightOffer self.now.base self.now.entries offer.now }
-        ensures { result ≡ verdict_on self.now.base self.now.entries offer.now.number offer.now.seen offer.now.mv offer.now.price }
+    pub fn judge(&self, offer: &E::Offer) -> Verdict
+        requires { IsRightOffer self.now.base self.now.entries (E.Offer.offered offer.now) }
+        ensures { result ≡ verdict_on self.now.base self.now.entries (E.Offer.offered offer.now).number (E.Offer.offered offer.now).seen (E.Offer.offered offer.now).moves (E.Offer.offered offer.now).price }
     {
         self.records.judge(offer)
     }
 
     /// Replaces the buffer's entries by those from place `from` on, or by the first 256 of them where there are more. Its
     /// front is then the number of all entries. Answers how many were put; takes no memory.
-    pub fn copy_since(&self, from: u32, buffer: &mut Buffer) -> u32
+    pub fn copy_since(&self, from: u32, buffer: &mut Buffer<E>) -> u32
         requires { from ≤ length self.now.entries }
         ensures copied { buffer.new ≡ record { from = from; entries = take most_copied (drop from self.now.entries); front = length self.now.entries } }
         ensures count { result ≡ length buffer.new.entries }
@@ -112,8 +113,8 @@ impl<'a> Book<'a> {
     }
 
     /// The entries so far, each legal but for its draw after those before it.
-    pub fn entries(&self) -> &[Entry]
-        ensures entries { result.now ≡ self.now.entries }
+    pub fn entries(&self) -> &[E]
+        ensures entries { map E.tried result.now ≡ self.now.entries }
         ensures base { IsBase self.now.base }
         ensures legal { AreLegalButDraws self.now.base self.now.entries }
         ensures few { AreFew self.now.base self.now.entries }

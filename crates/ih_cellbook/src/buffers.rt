@@ -2,6 +2,7 @@
 
 ghost use Rattle.std.specs.Prelude.{◌≡◌, ◌≤◌, [], length, IfOk};
 
+use crate::kinds::Logged;
 use ih_journal::Entry;
 use std::alloc::{AllocError, Global};
 use std::marker::Model;
@@ -11,29 +12,29 @@ pub(crate) const MOST_COPIED: usize = 256;
 
 /// Entries of a book from a place on, as far as there is room, and how many entries the book had then.
 #[derive(Drop)]
-pub struct Buffer {
+pub struct Buffer<E: Logged = Entry> {
     from: u32,
-    entries: Vec<Entry>,
+    entries: Vec<E>,
     front: u32,
 }
 
-impl Model for Buffer {
-    ghost use Rattle.std.specs.Prelude.{◌≤◌, vec_capacity};
+impl<E: Logged> Model for Buffer<E> {
+    ghost use Rattle.std.specs.Prelude.{◌≤◌, map, vec_capacity};
     ghost use Rattle.ih_cellbook.specs.Copied.{Copied, most_copied};
 
     ghost Value = { Copied };
 
-    ghost view = { λ b. record { from = b.from; entries = b.entries.items; front = b.front } };
+    ghost view = { λ b. record { from = b.from; entries = map E.tried b.entries.items; front = b.front } };
 
     ghost invariant = { λ b. most_copied ≤ vec_capacity b.entries };
 }
 
-impl Buffer {
-    ghost use Rattle.std.specs.Prelude.{take, drop};
+impl<E: Logged> Buffer<E> {
+    ghost use Rattle.std.specs.Prelude.{take, drop, map};
     ghost use Rattle.ih_cellbook.specs.Copied.{most_copied};
 
     /// An empty buffer, from place 0, with room for 256 entries.
-    pub fn new(alloc: Global) -> Result<Buffer, AllocError>
+    pub fn new(alloc: Global) -> Result<Buffer<E>, AllocError>
         ensures { IfOk result (λ b. b ≡ record { from = 0; entries = []; front = 0 }) }
     {
         Ok(Buffer {
@@ -58,8 +59,8 @@ impl Buffer {
     }
 
     /// The entries.
-    pub fn entries(&self) -> &[Entry]
-        ensures { result.now ≡ self.now.entries }
+    pub fn entries(&self) -> &[E]
+        ensures { map E.tried result.now ≡ self.now.entries }
     {
         self.entries.as_slice()
     }
@@ -72,9 +73,9 @@ impl Buffer {
     }
 
     // Replaces the entries by those from a place on, or by the first 256 of them.
-    pub(crate) fn fill(&mut self, entries: &[Entry], from: u32, front: u32) -> u32
+    pub(crate) fn fill(&mut self, entries: &[E], from: u32, front: u32) -> u32
         requires { from ≤ length entries.now }
-        ensures copied { self.new ≡ record { from = from; entries = take most_copied (drop from entries.now); front = front } }
+        ensures copied { self.new ≡ record { from = from; entries = take most_copied (drop from (map E.tried entries.now)); front = front } }
         ensures count { result ≡ length self.new.entries }
     {
         let rest = &entries[from as usize..];

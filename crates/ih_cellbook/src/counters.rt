@@ -7,7 +7,7 @@ ghost use Rattle.ih_journal.specs.Settings.{IsLawful};
 ghost use Rattle.ih_journal.specs.History.{is_accepted};
 ghost use Rattle.ih_cellbook.specs.Counters.{first_differing, is_compared, stale_by, times_read, verdict_by_counters};
 
-use crate::offers::Offer;
+use crate::kinds::Offers;
 use crate::reads::Reads;
 use ih_footprint::Numbering;
 use ih_journal::{Options, Verdict};
@@ -45,21 +45,26 @@ fn compare(inst: &Instance, counters: &[u32], reads: &[(u32, u32)]) -> Verdict
 
 /// The verdict on an offer.
 #[tactic(auto, unfolding(crate::specs::Counters::verdict_by_counters))]
-pub(crate) fn judge(inst: &Instance, options: &Options, counters: &[u32], offer: &Offer) -> Verdict
+pub(crate) fn judge<O: Offers>(
+    inst: &Instance,
+    options: &Options,
+    counters: &[u32],
+    offer: &O,
+) -> Verdict
     requires lawful { IsLawful options.now }
-    requires number { offer.now.number < options.now.moves }
-    requires price { IsWithin (10 ^ 11) offer.now.price }
+    requires number { (O.offered offer.now).number < options.now.moves }
+    requires price { IsWithin (10 ^ 11) (O.offered offer.now).price }
     requires count { length counters.now ≡ cell_count inst.now.draft }
-    requires reads { is_compared inst.now.draft options.now offer.now.frozen offer.now.number offer.now.price ≡ true
-        → All (λ r. r.0 < length counters.now) offer.now.reads.pairs }
-    ensures { result ≡ verdict_by_counters inst.now.draft options.now (slice_index counters.now) offer.now }
+    requires reads { is_compared inst.now.draft options.now (O.offered offer.now).frozen (O.offered offer.now).number (O.offered offer.now).price ≡ true
+        → All (λ r. r.0 < length counters.now) (O.offered offer.now).reads.pairs }
+    ensures { result ≡ verdict_by_counters inst.now.draft options.now (slice_index counters.now) (O.offered offer.now) }
 {
-    if offer.frozen {
+    if offer.frozen() {
         Verdict::Frozen
-    } else if offer.price.score(options.hard, inst.weights()) > options.theta(offer.number) {
+    } else if offer.price().score(options.hard, inst.weights()) > options.theta(offer.number()) {
         Verdict::Declined
     } else {
-        compare(inst, counters, offer.reads.as_slice())
+        compare(inst, counters, offer.reads().as_slice())
     }
 }
 

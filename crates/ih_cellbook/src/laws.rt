@@ -29,7 +29,7 @@ pub fn schedules_are_legal(_inst: &Instance)
     ensures { SchedulesAreLegal _inst.now.draft }
 {}
 
-/// Each number of a legal history is in range, and so are the options: a journal may have them.
+/// Each number of a legal history of single moves is in range, and so are the options: a journal may have them.
 pub fn legal_histories_are_in_range()
     ensures { LegalHistoriesAreInRange }
 {}

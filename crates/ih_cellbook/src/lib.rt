@@ -6,15 +6,19 @@ mod best;
 mod books;
 mod buffers;
 mod counters;
+mod kinds;
 mod laws;
 mod offers;
 mod reads;
 mod records;
+mod replicates;
 mod sharing;
+mod singles;
 
 pub use best::best_in;
 pub use books::Book;
 pub use buffers::Buffer;
+pub use kinds::{Attempted, Logged, Offers};
 pub use laws::{
     accepted_prices_are_exact, legal_histories_are_few, legal_histories_are_in_range,
     legal_journals_are_short, right_offers_stay_right, schedules_are_legal,
@@ -22,4 +26,5 @@ pub use laws::{
 };
 pub use offers::Offer;
 pub use reads::Reads;
-pub use sharing::Basis;
+pub use replicates::{Opens, Replicates};
+pub use sharing::{Basis, Try};

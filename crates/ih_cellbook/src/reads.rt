@@ -22,7 +22,8 @@ impl Model for Reads {
 }
 
 impl Reads {
-    ghost use Rattle.std.specs.Prelude.{◌≡◌, ◌<◌, ◌++◌, ◌∷◌, [], length, IfOk};
+    ghost use Rattle.std.specs.Prelude.{◌≡◌, ◌<◌, ◌≤◌, ◌++◌, ◌∷◌, [], length, slice_index, All, IfOk};
+    ghost use Rattle.ih_plan.specs.Sums.{tagged};
 
     /// No cells, and room for some number of them.
     pub fn new(alloc: Global, room: u32) -> Result<Reads, AllocError>
@@ -38,6 +39,18 @@ impl Reads {
         ensures { self.new ≡ record self.old { pairs = self.old.pairs ++ (cell, version) ∷ [] } }
     {
         self.pairs.push_reserved((cell, version));
+    }
+
+    /// Notes cells with their versions, in place of what was noted. It takes no memory.
+    pub fn note(&mut self, cells: &[u32], versions: &[u32])
+        requires cells { All (λ n. n < length versions.now) cells.now }
+        requires room { length cells.now ≤ self.old.room }
+        ensures { self.new ≡ record self.old { pairs = tagged (slice_index versions.now) cells.now } }
+    {
+        self.clear();
+        for &cell in cells {
+            self.push(cell, versions[cell as usize]);
+        }
     }
 
     /// Takes all cells out, and keeps the room.

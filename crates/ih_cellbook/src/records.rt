@@ -2,14 +2,15 @@
 
 ghost use Rattle.std.specs.Prelude.{◌≡◌, ℕ, ◌<◌, ◌≤◌, [], length, slice_index, vec_capacity, Some, IfOk};
 ghost use Rattle.ih_journal.specs.Attempts.{attempt_after};
+ghost use Rattle.ih_cellbook.specs.Offers.{entry_with};
 
 use crate::best::{bill_after, with_place};
 use crate::buffers::Buffer;
 use crate::counters::{judge, raise_where};
-use crate::offers::Offer;
+use crate::kinds::{Logged, Offers};
 use ih_footprint::Numbering;
-use ih_journal::{Entry, Options, Verdict};
-use ih_plan::{Move, Plan};
+use ih_journal::{Options, Verdict};
+use ih_plan::Plan;
 use ih_tables::{Bill, Instance};
 use std::alloc::{AllocError, Global};
 use std::marker::Model;
@@ -17,13 +18,13 @@ use std::marker::Model;
 /// A history of entries that is legal but for its draws, over a start. It keeps no timetable but the reference to the
 /// start, and takes no memory after it is opened.
 #[derive(Drop)]
-pub(crate) struct Records<'a> {
+pub(crate) struct Records<'a, E: Logged> {
     inst: &'a Instance,
     start: &'a Plan,
     options: Options,
     freeze: u32,
     // Room is reserved for all entries of the search.
-    entries: Vec<Entry>,
+    entries: Vec<E>,
     // Each cell's version, by number.
     counters: Vec<u32>,
     // How often each worker's next move was tried before.
@@ -34,18 +35,18 @@ pub(crate) struct Records<'a> {
     best: Option<(u32, i64)>,
 }
 
-impl<'a> Model for Records<'a> {
-    ghost use Rattle.std.specs.Prelude.{◌≤◌, vec_capacity};
+impl<'a, E: Logged> Model for Records<'a, E> {
+    ghost use Rattle.std.specs.Prelude.{◌≤◌, map, vec_capacity};
     ghost use Rattle.ih_journal.specs.Settings.{most_entries};
     ghost use Rattle.ih_cellbook.specs.Recorded.{Recorded};
     ghost use Rattle.ih_cellbook.specs.Keeping.{IsKept, base_with};
 
     ghost Value = { Recorded };
 
-    ghost view = { λ k. record { base = base_with k.inst.now.draft k.start.now k.options k.freeze; entries = k.entries.items } };
+    ghost view = { λ k. record { base = base_with k.inst.now.draft k.start.now k.options k.freeze; entries = map E.tried k.entries.items } };
 
-    ghost invariant = { λ k. IsKept (base_with k.inst.now.draft k.start.now k.options k.freeze) k.entries.items k.counters.items k.tries.items k.bill k.best
-        × (most_entries k.options ≤ vec_capacity k.entries) };
+    ghost invariant = { λ k. IsKept (base_with k.inst.now.draft k.start.now k.options k.freeze) (map E.tried k.entries.items) k.counters.items k.tries.items k.bill k.best
+        × (most_entries k.options ≤ vec_capacity k.entries) × (k.options.retries ≤ E.most_retries) };
 }
 
 // How often a worker's next move was tried before.
@@ -57,46 +58,49 @@ fn tried(tries: &[u32], worker: u32) -> u32
 }
 
 // How often the worker's next move was tried before, once this entry stands.
-fn tries_after(options: &Options, entry: &Entry) -> u32
-    requires { entry.now.again ≤ 7 }
-    ensures { result ≡ (attempt_after options.now (Some entry.now)).again }
+fn tries_after<E: Logged>(options: &Options, entry: &E) -> u32
+    requires { (E.tried entry.now).again ≤ 7 }
+    ensures { result ≡ (attempt_after options.now (Some (E.tried entry.now))).again }
 {
-    match entry.verdict {
-        Verdict::Stale { .. } if entry.again < options.retries => entry.again + 1,
+    match entry.verdict() {
+        Verdict::Stale { .. } if entry.again() < options.retries => entry.again() + 1,
         _ => 0,
     }
 }
 
-// An entry of nobody, to write into room that nothing has used yet.
-fn blank() -> Entry {
-    Entry {
-        worker: 0,
-        number: 0,
-        again: 0,
-        seen: 0,
-        mv: Move::Idle,
-        price: Bill::zero(),
-        verdict: Verdict::Frozen,
-    }
+// The entry of an offer, with its try and its verdict.
+fn entry_from<E: Logged>(offer: &E::Offer, again: u32, verdict: Verdict) -> E
+    requires { again ≤ E.most_retries }
+    ensures { E.tried result ≡ entry_with (E.Offer.offered offer.now) again verdict }
+{
+    E::made(
+        offer.worker(),
+        offer.number(),
+        again,
+        offer.seen(),
+        &offer.attempt(),
+        &offer.price(),
+        verdict,
+    )
 }
 
 // Room for `most` entries, with none in it. That of the first of them is written once here, so that the system gives its
 // pages now, and not one by one while a worker holds the book.
-fn room_for(alloc: Global, first: usize, most: usize) -> Result<Vec<Entry>, AllocError>
+fn room_for<E: Logged>(alloc: Global, first: usize, most: usize) -> Result<Vec<E>, AllocError>
     requires { first ≤ most }
     ensures none { IfOk result (λ v. v.items ≡ []) }
     ensures room { IfOk result (λ v. vec_capacity v ≡ most) }
 {
     let mut entries = Vec::with_capacity(alloc, most)?;
     for _ in 0..first {
-        entries.push_reserved(blank());
+        entries.push_reserved(E::blank());
     }
     entries.clear();
     Ok(entries)
 }
 
-impl<'a> Records<'a> {
-    ghost use Rattle.std.specs.Prelude.{◌+◌, ◌++◌, ◌∷◌, take, drop};
+impl<'a, E: Logged> Records<'a, E> {
+    ghost use Rattle.std.specs.Prelude.{◌+◌, ◌++◌, ◌∷◌, map, take, drop};
     ghost use Rattle.ih_plan.specs.BillOf.{bill_of, change_of_bill};
     ghost use Rattle.ih_plan.specs.Timetable.{IsPlanOf};
     ghost use Rattle.ih_plan.specs.Cells.{cell_at, cell_count};
@@ -121,10 +125,11 @@ impl<'a> Records<'a> {
         first: &Bill,
         options: &Options,
         freeze: u32,
-    ) -> Result<Records<'a>, AllocError>
+    ) -> Result<Records<'a, E>, AllocError>
         requires start { IsPlanOf inst.now.draft start.now }
         requires first { first.now ≡ bill_of inst.now.draft start.now }
         requires lawful { IsLawful options.now }
+        requires retries { options.now.retries ≤ E.most_retries }
         ensures { IfOk result (λ k. k ≡ record { base = base_with inst.now.draft start.now options.now freeze; entries = [] }) }
     {
         // As many as there are where no try is stale.
@@ -146,47 +151,42 @@ impl<'a> Records<'a> {
     }
 
     /// Adds the entry of a right offer, and answers its verdict: `Book::commit` says more.
-    pub(crate) fn commit(&mut self, offer: &Offer) -> Verdict
-        requires { IsRightOffer self.old.base self.old.entries offer.now }
+    pub(crate) fn commit(&mut self, offer: &E::Offer) -> Verdict
+        requires { IsRightOffer self.old.base self.old.entries (E.Offer.offered offer.now) }
         ensures base { self.new.base ≡ self.old.base }
-        ensures entries { self.new.entries ≡ self.old.entries ++ entry_of self.old.base self.old.entries offer.now result ∷ [] }
-        ensures verdict { result ≡ verdict_on self.old.base self.old.entries offer.now.number offer.now.seen offer.now.mv offer.now.price }
-        ensures legal { IsLegalButDraw self.old.base self.old.entries (entry_of self.old.base self.old.entries offer.now result) }
+        ensures entries { self.new.entries ≡ self.old.entries ++ entry_of self.old.base self.old.entries (E.Offer.offered offer.now) result ∷ [] }
+        ensures verdict { result ≡ verdict_on self.old.base self.old.entries (E.Offer.offered offer.now).number (E.Offer.offered offer.now).seen (E.Offer.offered offer.now).moves (E.Offer.offered offer.now).price }
+        ensures legal { IsLegalButDraw self.old.base self.old.entries (entry_of self.old.base self.old.entries (E.Offer.offered offer.now) result) }
         // an accepted price, however old, is the change of the bill at this place
         ensures exact { result ≡ Accepted
-            → offer.now.price ≡ change_of_bill self.old.base.instance (plan_after self.old.base self.old.entries) (plan_after self.old.base self.new.entries) }
+            → (E.Offer.offered offer.now).price ≡ change_of_bill self.old.base.instance (plan_after self.old.base self.old.entries) (plan_after self.old.base self.new.entries) }
         // in every legal state of the machine with this history, the worker's offer of this move adds the same entry
         ensures event { (s : State) → s.history ≡ self.old.entries → IsLegalState self.old.base s
-            → self.new.entries ≡ (step self.old.base s (offers offer.now.worker offer.now.seen offer.now.mv)).history }
+            → self.new.entries ≡ (step self.old.base s (offers (E.Offer.offered offer.now).worker (E.Offer.offered offer.now).seen (E.Offer.offered offer.now).moves)).history }
     {
         let verdict = judge(self.inst, &self.options, self.counters.as_slice(), offer);
-        let entry = Entry {
-            worker: offer.worker,
-            number: offer.number,
-            again: tried(self.tries.as_slice(), offer.worker),
-            seen: offer.seen,
-            mv: offer.mv,
-            price: offer.price,
-            verdict,
-        };
-        raise_where(&verdict, &mut self.counters, &offer.reads);
-        self.tries[offer.worker as usize] = tries_after(&self.options, &entry);
-        self.bill = bill_after(&verdict, &self.bill, &offer.price);
+        let worker = offer.worker();
+        let price = offer.price();
+        let again = tried(self.tries.as_slice(), worker);
+        let entry: E = entry_from(offer, again, verdict);
+        raise_where(&verdict, &mut self.counters, offer.reads());
+        self.tries[worker as usize] = tries_after(&self.options, &entry);
+        self.bill = bill_after(&verdict, &self.bill, &price);
         self.entries.push_reserved(entry);
         self.best = with_place(self.best, self.entries.len() as u32, &self.bill, self.inst);
         verdict
     }
 
     /// The verdict that `commit` would give.
-    pub(crate) fn judge(&self, offer: &Offer) -> Verdict
-        requires { IsRightOffer self.now.base self.now.entries offer.now }
-        ensures { result ≡ verdict_on self.now.base self.now.entries offer.now.number offer.now.seen offer.now.mv offer.now.price }
+    pub(crate) fn judge(&self, offer: &E::Offer) -> Verdict
+        requires { IsRightOffer self.now.base self.now.entries (E.Offer.offered offer.now) }
+        ensures { result ≡ verdict_on self.now.base self.now.entries (E.Offer.offered offer.now).number (E.Offer.offered offer.now).seen (E.Offer.offered offer.now).moves (E.Offer.offered offer.now).price }
     {
         judge(self.inst, &self.options, self.counters.as_slice(), offer)
     }
 
     /// Copies entries from a place on: `Book::copy_since` says more.
-    pub(crate) fn copy_since(&self, from: u32, buffer: &mut Buffer) -> u32
+    pub(crate) fn copy_since(&self, from: u32, buffer: &mut Buffer<E>) -> u32
         requires { from ≤ length self.now.entries }
         ensures copied { buffer.new ≡ record { from = from; entries = take most_copied (drop from self.now.entries); front = length self.now.entries } }
         ensures count { result ≡ length buffer.new.entries }
@@ -202,8 +202,8 @@ impl<'a> Records<'a> {
     }
 
     /// The entries so far.
-    pub(crate) fn entries(&self) -> &[Entry]
-        ensures entries { result.now ≡ self.now.entries }
+    pub(crate) fn entries(&self) -> &[E]
+        ensures entries { map E.tried result.now ≡ self.now.entries }
         ensures base { IsBase self.now.base }
         ensures legal { AreLegalButDraws self.now.base self.now.entries }
         ensures few { AreFew self.now.base self.now.entries }

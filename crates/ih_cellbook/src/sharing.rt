@@ -2,10 +2,12 @@
 //! opened with.
 
 use crate::books::Book;
-use ih_journal::{Entry, Options};
-use ih_plan::Plan;
-use ih_tables::Draft;
+use crate::kinds::Logged;
+use ih_journal::{Options, Verdict};
+use ih_plan::{Move, Plan};
+use ih_tables::{Bill, Draft};
 use ih_turn::Kept;
+use std::collections::LinkedList;
 use std::marker::Model;
 
 /// What a book was opened with: the instance, the start, the options and the freeze day. No value of it is made.
@@ -25,8 +27,27 @@ impl Model for Basis {
     ghost view = { λ b. base_with b.instance b.start b.options b.freeze };
 }
 
-impl<'a> Kept for Book<'a> {
-    type Entry = Entry;
+/// One try of one worker, whatever type keeps it. No value of it is made.
+pub struct Try {
+    pub worker: u32,
+    pub number: u32,
+    pub again: u32,
+    pub seen: u32,
+    pub moves: LinkedList<Move>,
+    pub price: Bill,
+    pub verdict: Verdict,
+}
+
+impl Model for Try {
+    ghost use Rattle.ih_journal.specs.Tried.{Tried};
+
+    ghost Value = { Tried };
+
+    ghost view = { λ t. record { worker = t.worker; number = t.number; again = t.again; seen = t.seen; moves = t.moves; price = t.price; verdict = t.verdict } };
+}
+
+impl<'a, E: Logged> Kept for Book<'a, E> {
+    type Entry = Try;
 
     type Base = Basis;
 

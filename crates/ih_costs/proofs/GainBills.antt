@@ -22,7 +22,7 @@ use Rattle.ih_plan.proofs.Parts.{total, has_parts}
 use Rattle.ih_plan.proofs.PlanRanges.{has-range, put-plan}
 use Rattle.ih_footprint.proofs.Prices.{map-same, differences-same}
 use Rattle.ih_costs.specs.StayGain.{rule_at, cost_at, end_of, of_stay, of_care, over_days, of_theatre, of_surgeon, over_shifts, of_nurse, over_loads, gain_of, stay_gain, placement_gain}
-use Rattle.ih_costs.proofs.ChangeSums.{at-by_place, change-same}
+use Rattle.ih_plan.proofs.ChangeSums.{at-by_place, change-same}
 use Rattle.ih_costs.proofs.GainLemmas.{gain_by, number-gain}
 use Rattle.ih_costs.proofs.SpanSums.{span-zero}
 use Rattle.ih_costs.proofs.UndoLemmas.{stay-twice, undone}

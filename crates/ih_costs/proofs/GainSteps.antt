@@ -6,7 +6,8 @@ use Rattle.ih_tables.specs.declared.bills.Bill.{Bill}
 use Rattle.ih_tables.specs.Bills.{at, sub_bills, IsWithin}
 use Rattle.ih_plan.specs.BillOf.{Counts, as_bill}
 use Rattle.ih_costs.specs.StayGain.{span_sum, rule_at, cost_at}
-use Rattle.ih_costs.proofs.ChangeSums.{at-by_place, at-counts}
+use Rattle.ih_plan.proofs.ChangeSums.{at-by_place}
+use Rattle.ih_costs.proofs.ChangeSums.{at-counts}
 use Rattle.ih_costs.proofs.SpanSums.{span-none, span-more}
 
 -- nothing is added up yet

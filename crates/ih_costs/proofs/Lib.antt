@@ -8,6 +8,7 @@ pub mod ChangeSums
 pub mod ChoiceLemmas
 pub mod ChoiceBills
 pub mod Occupied
+pub mod RowLemmas
 pub mod SpanSums
 pub mod GainLemmas
 pub mod GainBills

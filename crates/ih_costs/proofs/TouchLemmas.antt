@@ -10,7 +10,7 @@ use Rattle.ih_plan.specs.Sums.{is_listed}
 use Rattle.ih_plan.specs.Cells.{number_in, IsCellIn}
 use Rattle.ih_plan.specs.Footprint.{looks_at, touches, footprint}
 use Rattle.ih_footprint.specs.Gathered.{Gathered, Gathers, settled}
-use Rattle.ih_footprint.proofs.GatherLemmas.{gathers-both, gathers-from, settled-footprint}
+use Rattle.ih_footprint.proofs.GatherLemmas.{gathers-both, gathers-like, settled-footprint}
 use Rattle.ih_costs.specs.AtOnce.{touch_at_once}
 use Rattle.ih_costs.proofs.AtOnceLemmas.{at-once}
 
@@ -20,17 +20,32 @@ or-comm true false = refl
 or-comm false true = refl
 or-comm false false = refl
 
--- What a move looks at is listed in v from nothing. From a set that has as much the writes' cells are gathered in w.
-pub gathered-footprint : (I : Draft) (P : Timetable) (m : Move) (u v s w : Gathered) → IsPlanOf I P → IsMoveOf I m
+-- What a move looks at is listed in v from nothing, and s has that beside what t has. From there the writes' cells are
+-- gathered in w: from t on, all cells of the move's footprint.
+pub gathered-touches : (I : Draft) (P : Timetable) (m : Move) (t u v s w : Gathered) → IsPlanOf I P → IsMoveOf I m
     → u.sizes ≡ sizes_of I → u.cells ≡ [] → Gathers u v (looks_at m)
-    → s.sizes ≡ sizes_of I → ((n : ℕ) → is_listed n s.cells ≡ is_listed n v.cells)
-    → Gathers s w (touch_at_once I P (expand I P m)) → settled w ≡ footprint I P m
+    → t.sizes ≡ sizes_of I → s.sizes ≡ t.sizes → ((n : ℕ) → is_listed n s.cells ≡ (is_listed n t.cells || is_listed n v.cells))
+    → Gathers s w (touch_at_once I P (expand I P m)) → Gathers t w (touches I P m)
 unfolding touches
-gathered-footprint I P m u v s w plan fits sizes none looked same_sizes same touched =
-    let further : Gathers v w (touch_at_once I P (expand I P m)) = gathers-from (same_sizes ∙ sym (looked.sizes ∙ sizes)) same touched in
-    let all : Gathers u w (λ c. looks_at m c || touch_at_once I P (expand I P m) c) = gathers-both looked further in
+gathered-touches I P m t u v s w plan fits sizes none looked ranged same_sizes both touched =
+    let placed : Gathers t s (looks_at m) = record {
+      sizes = same_sizes;
+      cells = λ c range.
+          ap (λ z. is_listed (number_in z c) s.cells) same_sizes
+          ∙ (both (number_in t.sizes c)
+          ∙ ap (λ b. is_listed (number_in t.sizes c) t.cells || b)
+          (ap (λ z. is_listed (number_in z c) v.cells) (ranged ∙ sym (looked.sizes ∙ sizes))
+          ∙ (looked.cells c (subst (λ z. IsCellIn z c) (ranged ∙ sym sizes) range)
+          ∙ ap (λ ns. is_listed (number_in u.sizes c) ns || looks_at m c) none)));
+    } in
+    gathers-like (λ c range.
+    or-comm (looks_at m c) (touch_at_once I P (expand I P m) c)
+    ∙ ap (λ b. b || looks_at m c) (at-once I P m c plan fits)) (gathers-both placed touched)
+
+-- What is gathered from nothing is written as the move's footprint.
+pub gathered-footprint : (I : Draft) (P : Timetable) (m : Move) (u w : Gathered) → u.sizes ≡ sizes_of I → u.cells ≡ []
+    → Gathers u w (touches I P m) → settled w ≡ footprint I P m
+gathered-footprint I P m u w sizes none all =
     settled-footprint I P m w (all.sizes ∙ sizes) (λ c range.
     all.cells c (subst (λ z. IsCellIn z c) (sym sizes) range)
-    ∙ ap (λ ns. is_listed (number_in u.sizes c) ns || (looks_at m c || touch_at_once I P (expand I P m) c)) none
-    ∙ or-comm (looks_at m c) (touch_at_once I P (expand I P m) c)
-    ∙ ap (λ b. b || looks_at m c) (at-once I P m c plan fits))
+    ∙ ap (λ ns. is_listed (number_in u.sizes c) ns || touches I P m c) none)

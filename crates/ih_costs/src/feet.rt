@@ -5,7 +5,7 @@ ghost use Rattle.std.specs.List.{list_any};
 ghost use Rattle.ih_tables.specs.Sizes.{sizes_of};
 ghost use Rattle.ih_plan.specs.Writes.{AreWritesOf};
 ghost use Rattle.ih_plan.specs.Expand.{expand, IsMoveOf};
-ghost use Rattle.ih_plan.specs.Footprint.{footprint};
+ghost use Rattle.ih_plan.specs.Footprint.{touches, footprint};
 ghost use Rattle.ih_footprint.specs.Gathered.{Gathers};
 ghost use Rattle.ih_costs.specs.CellLedgers.{AreLedgers, timetable_of};
 ghost use Rattle.ih_costs.specs.AtOnce.{touch_at_once};
@@ -32,6 +32,32 @@ fn gather_all(inst: &Instance, ledgers: &CellLedgers, writes: &[Write], cells: &
     }
 }
 
+/// Gathers the cells of a move's footprint. `looked` is room for those that its writes are chosen by. `writes` then has
+/// the move's writes.
+#[inline(always)]
+pub fn gather_move(
+    inst: &Instance,
+    ledgers: &CellLedgers,
+    writes: &mut Writes,
+    set: &mut CellSet,
+    mv: &Move,
+    looked: &mut CellList,
+)
+    requires stands { AreLedgers inst.now.draft ledgers.now }
+    requires move_in { IsMoveOf inst.now.draft mv.now }
+    requires set { set.old.sizes ≡ sizes_of inst.now.draft }
+    requires sizes { looked.old.sizes ≡ sizes_of inst.now.draft }
+    ensures made { writes.new ≡ expand inst.now.draft (timetable_of ledgers.now) mv.now }
+    ensures gathers { Gathers set.old set.new (touches inst.now.draft (timetable_of ledgers.now) mv.now) }
+    ensures sizes { looked.new.sizes ≡ looked.old.sizes }
+{
+    looked.clear();
+    looks(mv, looked);
+    set.add_all(looked.cells());
+    expand(inst, ledgers.plan(), mv, writes);
+    gather_all(inst, ledgers, writes.as_slice(), set);
+}
+
 /// Lists the cells of a move's footprint in `foot`, rising, in place of what was listed. They are gathered in `set`,
 /// which has none before and after. `writes` then has the move's writes.
 pub fn foot_of(
@@ -53,10 +79,6 @@ pub fn foot_of(
     ensures empty { set.new.cells ≡ [] }
     ensures set { set.new.sizes ≡ set.old.sizes }
 {
-    foot.clear();
-    looks(mv, foot);
-    set.add_all(foot.cells());
-    expand(inst, ledgers.plan(), mv, writes);
-    gather_all(inst, ledgers, writes.as_slice(), set);
+    gather_move(inst, ledgers, writes, set, mv, foot);
     foot.take_from(set);
 }

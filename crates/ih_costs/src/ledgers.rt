@@ -4,6 +4,9 @@ use crate::cell_ledgers::CellLedgers;
 use crate::copies::copy_plan;
 use crate::feet::foot_of;
 use crate::pricing::{price_of, price_of_write, put_all};
+use crate::row_feet::gather_behind;
+use crate::row_prices::change_behind;
+use crate::rows::{play_in_row, play_in_row_noting};
 use ih_footprint::{CellList, CellSet, Numbering};
 use ih_moves::{Writes, expand};
 use ih_plan::{Members, Move, Plan, Write};
@@ -47,6 +50,7 @@ impl<'a> Ledgers<'a> {
     ghost use Rattle.ih_plan.specs.Costs.{is_empty};
     ghost use Rattle.ih_plan.specs.Footprint.{footprint};
     ghost use Rattle.ih_plan.specs.Presence.{present};
+    ghost use Rattle.ih_plan.specs.Series.{AreMoves, after_all, footprint_of_all, price_of_all};
 
     /// Ledgers that stand for a timetable, which fits the instance.
     pub fn new(alloc: Global, inst: &'a Instance, plan: &Plan) -> Result<Ledgers<'a>, AllocError>
@@ -177,5 +181,107 @@ impl<'a> Ledgers<'a> {
             mv,
             foot,
         );
+    }
+
+    /// What moves in a row would add to the bill together, number by number: each is at most 10^11 in magnitude. In
+    /// place of what was listed there, `foot` has the cells of their footprints, each move's at the timetable where it
+    /// would be made, rising. The ledgers stand for the same timetable as before.
+    pub fn price_all(&mut self, moves: &[Move], foot: &mut CellList) -> Bill
+        requires moves { AreMoves self.old.instance moves.now }
+        requires sizes { foot.old.sizes ≡ sizes_of self.old.instance }
+        ensures price { result ≡ price_of_all self.old.instance self.old.plan moves.now }
+        ensures within { IsWithin (10 ^ 11) result }
+        ensures cells { foot.new.cells ≡ footprint_of_all self.old.instance self.old.plan moves.now }
+        ensures sizes { foot.new.sizes ≡ foot.old.sizes }
+        ensures same { self.new ≡ self.old }
+    {
+        self.foot_all(moves, foot);
+        self.price_all_alone(moves)
+    }
+
+    /// The same without the footprints, which `foot_all` tells. A single move is priced as one.
+    pub fn price_all_alone(&mut self, moves: &[Move]) -> Bill
+        requires { AreMoves self.old.instance moves.now }
+        ensures price { result ≡ price_of_all self.old.instance self.old.plan moves.now }
+        ensures within { IsWithin (10 ^ 11) result }
+        ensures same { self.new ≡ self.old }
+    {
+        match moves.split_first() {
+            Some((mv, later)) if later.len() == 0 => self.price_alone(mv),
+            _ => self.price_row(moves),
+        }
+    }
+
+    // The same for moves of any number.
+    fn price_row(&mut self, moves: &[Move]) -> Bill
+        requires { AreMoves self.old.instance moves.now }
+        ensures price { result ≡ price_of_all self.old.instance self.old.plan moves.now }
+        ensures within { IsWithin (10 ^ 11) result }
+        ensures same { self.new ≡ self.old }
+    {
+        change_behind(self.inst, &mut self.cells, &[], moves, &mut self.writes)
+    }
+
+    /// Lists the cells of the footprints of moves in a row in `foot`, rising, in place of what was listed there. Each
+    /// move's are those at the timetable where it would be made. A single move's are listed as one's.
+    pub fn foot_all(&mut self, moves: &[Move], foot: &mut CellList)
+        requires moves { AreMoves self.old.instance moves.now }
+        requires sizes { foot.old.sizes ≡ sizes_of self.old.instance }
+        ensures cells { foot.new.cells ≡ footprint_of_all self.old.instance self.old.plan moves.now }
+        ensures sizes { foot.new.sizes ≡ foot.old.sizes }
+        ensures same { self.new ≡ self.old }
+    {
+        match moves.split_first() {
+            Some((mv, later)) if later.len() == 0 => self.foot(mv, foot),
+            _ => self.foot_row(moves, foot),
+        }
+    }
+
+    // The same for moves of any number.
+    fn foot_row(&mut self, moves: &[Move], foot: &mut CellList)
+        requires moves { AreMoves self.old.instance moves.now }
+        requires sizes { foot.old.sizes ≡ sizes_of self.old.instance }
+        ensures cells { foot.new.cells ≡ footprint_of_all self.old.instance self.old.plan moves.now }
+        ensures sizes { foot.new.sizes ≡ foot.old.sizes }
+        ensures same { self.new ≡ self.old }
+    {
+        gather_behind(
+            self.inst,
+            &mut self.cells,
+            &[],
+            moves,
+            &mut self.writes,
+            &mut self.set,
+            foot,
+        );
+        foot.take_from(&mut self.set);
+    }
+
+    /// Makes moves, in order.
+    pub fn play_all(&mut self, moves: &[Move])
+        requires { AreMoves self.old.instance moves.now }
+        ensures { self.new ≡ record self.old { plan = after_all self.old.instance self.old.plan moves.now } }
+    {
+        play_in_row(self.inst, &mut self.cells, moves, &mut self.writes);
+    }
+
+    /// Makes moves, in order. In place of what was listed there, `foot` has the cells of their footprints, each move's
+    /// at the timetable where it is made, rising. It sums no costs.
+    pub fn play_all_noting(&mut self, moves: &[Move], foot: &mut CellList)
+        requires moves { AreMoves self.old.instance moves.now }
+        requires sizes { foot.old.sizes ≡ sizes_of self.old.instance }
+        ensures made { self.new ≡ record self.old { plan = after_all self.old.instance self.old.plan moves.now } }
+        ensures cells { foot.new.cells ≡ footprint_of_all self.old.instance self.old.plan moves.now }
+        ensures sizes { foot.new.sizes ≡ foot.old.sizes }
+    {
+        play_in_row_noting(
+            self.inst,
+            &mut self.cells,
+            moves,
+            &mut self.writes,
+            &mut self.set,
+            foot,
+        );
+        foot.take_from(&mut self.set);
     }
 }

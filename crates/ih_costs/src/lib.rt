@@ -8,6 +8,9 @@ mod feet;
 mod laws;
 mod ledgers;
 mod pricing;
+mod row_feet;
+mod row_prices;
+mod rows;
 mod stay_prices;
 mod stays;
 

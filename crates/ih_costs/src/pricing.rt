@@ -14,8 +14,8 @@ use ih_moves::{Writes, expand};
 use ih_plan::{Move, Plan, Write};
 use ih_tables::{Bill, Instance};
 
-// The write that brings back what a write replaces.
-fn undo_of(inst: &Instance, plan: &Plan, w: &Write) -> Write
+/// The write that brings back what a write replaces.
+pub fn undo_of(inst: &Instance, plan: &Plan, w: &Write) -> Write
     requires plan { IsPlanOf inst.now.draft plan.now }
     requires write { IsWriteOf inst.now.draft w.now }
     ensures { result ≡ undo_of plan.now w.now }

@@ -2,42 +2,43 @@
 use Rattle.std.proofs.Common.{◌≡◌, ◌≢◌, ◌∙◌, arith, ap, sym, subst, refl, ℕ, zero, suc, ◌<◌, List, [], ◌∷◌, ◌++◌, length, map, Some, None}
 use Rattle.std.specs.Prelude.{slice_get, slice_index, slice_index_or, All}
 use Rattle.std.proofs.lemmas.Option.{slice_get_within}
-use Rattle.ih_journal.specs.declared.entries.Entry.{Entry}
+use Rattle.ih_journal.specs.Tried.{Tried}
 use Rattle.ih_journal.specs.declared.entries.Verdict.{Verdict}
 use Rattle.ih_journal.specs.Base.{Base}
 use Rattle.ih_turn.specs.Rule.{Follows}
-use Rattle.ih_cellbook.specs.declared.offers.Offer.{Offer}
+use Rattle.ih_cellbook.specs.Offered.{Offered}
 use Rattle.ih_cellbook.specs.Laws.{HasNoneBy, RightOffersStayRight}
 use Rattle.ih_cellbook.specs.Legal.{AreLegalButDraws}
 use Rattle.ih_cellbook.specs.Offers.{IsRightOffer, entry_of}
 use Rattle.ih_desk.specs.Histories.{GoesOn, EndsWith}
 
-index-get : (es : List Entry) (k : ℕ) (e d : Entry) → slice_get es k ≡ Some e → slice_index_or es k d ≡ e
+-- what stands at a place
+pub index-get : {X : Type 0} (es : List X) (k : ℕ) (e d : X) → slice_get es k ≡ Some e → slice_index_or es k d ≡ e
 index-get [] k e d there = absurd (let no : None ≡ Some e = there in cc)
 index-get (x ∷ xs) zero e d there = cc
 index-get (x ∷ xs) (suc k) e d there = index-get xs k e d there
 
-pub none_by-others : (w : ℕ) (es : List Entry) → All (λ e. e.worker ≢ w) es → HasNoneBy w es
+pub none_by-others : (w : ℕ) (es : List Tried) → All (λ e. e.worker ≢ w) es → HasNoneBy w es
 none_by-others w es others k e there own =
-    others k e (slice_get_within es k e there) (ap (λ (f : Entry). f.worker) (index-get es k e e there) ∙ own)
+    others k e (slice_get_within es k e there) (ap (λ (f : Tried). f.worker) (index-get es k e e there) ∙ own)
 
-pub goes_on : (w : ℕ) (seen H : List Entry) → Follows (λ e. e.worker) w H seen → GoesOn w seen H
+pub goes_on : (w : ℕ) (seen H : List Tried) → Follows (λ e. e.worker) w H seen → GoesOn w seen H
 goes_on w seen H follows = record { others = follows.0; history = follows.1; none = none_by-others w follows.0 follows.2 }
 
-pub legal-none : (b : Base) (H : List Entry) → H ≡ [] → AreLegalButDraws b H
+pub legal-none : (b : Base) (H : List Tried) → H ≡ [] → AreLegalButDraws b H
 legal-none b H none = subst (AreLegalButDraws b) (sym none) (λ k e there. absurd (let no : None ≡ Some e = there in cc))
 
-pub legal-same : (b c : Base) (H G : List Entry) → b ≡ c → H ≡ G → AreLegalButDraws b H → AreLegalButDraws c G
+pub legal-same : (b c : Base) (H G : List Tried) → b ≡ c → H ≡ G → AreLegalButDraws b H → AreLegalButDraws c G
 legal-same b c H G base same legal = subst (λ x. AreLegalButDraws x G) base (subst (AreLegalButDraws b) same legal)
 
 -- an offer that is right for what the seat has seen is right for the book
-pub right-further : RightOffersStayRight → (b c : Base) (o : Offer) (seen H : List Entry) → b ≡ c → Follows (λ e. e.worker) o.worker H seen → IsRightOffer c seen o → IsRightOffer b H o
+pub right-further : RightOffersStayRight → (b c : Base) (o : Offered) (seen H : List Tried) → b ≡ c → Follows (λ e. e.worker) o.worker H seen → IsRightOffer c seen o → IsRightOffer b H o
 right-further stays b c o seen H base follows right =
     subst (λ x. IsRightOffer x H o) (sym base)
     (subst (λ G. IsRightOffer c G o) (sym follows.1) (stays c seen follows.0 o right (none_by-others o.worker follows.0 follows.2)))
 
 -- the book's history with the entry of the offer
-pub ends_with : (b c : Base) (o : Offer) (v : Verdict) (seen H G : List Entry) → b ≡ c → Follows (λ e. e.worker) o.worker H seen → G ≡ H ++ entry_of b H o v ∷ [] → EndsWith c o v seen G
+pub ends_with : (b c : Base) (o : Offered) (v : Verdict) (seen H G : List Tried) → b ≡ c → Follows (λ e. e.worker) o.worker H seen → G ≡ H ++ entry_of b H o v ∷ [] → EndsWith c o v seen G
 ends_with b c o v seen H G base follows grown = record {
   others = follows.0;
   history = grown ∙ (ap (λ x. H ++ entry_of x H o v ∷ []) base ∙ ap (λ F. F ++ entry_of c F o v ∷ []) follows.1);

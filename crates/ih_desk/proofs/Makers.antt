@@ -6,43 +6,43 @@ use Rattle.std.proofs.lemmas.List.Sums.{sum_by-cons}
 use Rattle.ih_turn.specs.declared.rule.TurnRule.{TurnRule}
 use Rattle.ih_turn.specs.declared.turn.RuledTurn.{RuledTurn}
 use Rattle.ih_turn.specs.Seats.{history, number_of, made_count, opened_with, IsSeatOf}
-use Rattle.ih_journal.specs.declared.entries.Entry.{Entry}
+use Rattle.ih_journal.specs.Tried.{Tried}
 use Rattle.ih_journal.specs.Base.{Base}
 use Rattle.ih_cellbook.specs.Recorded.{Recorded}
 use Rattle.ih_cellbook.specs.Laws.{HasNoneBy}
 use Rattle.ih_cellbook.specs.Legal.{AreLegalButDraws}
-use Rattle.ih_desk.specs.declared.desk.Desk.{Desk}
-use Rattle.ih_desk.specs.Desks.{DeskSeat, IsSeatAt, base_of, kept_book, worker_count}
+use Rattle.ih_desk.specs.Desks.{Desk, DeskSeat, IsDesk, IsSeatAt, base_of, kept_book, worker_count}
 
-pub made-all : {P : Type 0} (turn : RuledTurn Recorded P Entry Base kept_book) (seat : DeskSeat) → (opened_with turn).entries ≡ [] → IsSeatOf turn seat
+pub made-all : {P : Type 0} (turn : RuledTurn Recorded P Tried Base kept_book) (seat : DeskSeat) → (opened_with turn).entries ≡ [] → IsSeatOf turn seat
     → made_count seat ≡ count_by (λ e. e.worker == number_of seat) (history seat)
 made-all turn seat empty own =
-    ap (λ s. count_by (λ (e : Entry). e.worker == seat.token.me.0.number) (drop s (history seat))) (own.1.started ∙ ap length empty)
-    ∙ ap (λ n. count_by (λ (e : Entry). e.worker == n) (history seat)) (sym seat.number_is)
+    ap (λ s. count_by (λ (e : Tried). e.worker == seat.token.me.0.number) (drop s (history seat))) (own.1.started ∙ ap length empty)
+    ∙ ap (λ n. count_by (λ (e : Tried). e.worker == n) (history seat)) (sym seat.number_is)
 
 -- a seat that comes back is one of the desk's
-pub seat-at : (desk : Desk) (turn : RuledTurn Recorded (TurnRule Recorded) Entry Base kept_book) (seat : DeskSeat) → turn ≡ desk.turn → IsSeatOf turn seat → number_of seat < worker_count desk
+pub seat-at : (desk : Desk) → IsDesk desk → (turn : RuledTurn Recorded (TurnRule Recorded) Tried Base kept_book) (seat : DeskSeat) → turn ≡ desk.turn → IsSeatOf turn seat → number_of seat < worker_count desk
     → AreLegalButDraws (base_of desk) (history seat) → IsSeatAt desk seat
-seat-at desk turn seat same own number legal = record {
+seat-at desk opened turn seat same own number legal = record {
+  stands = opened;
   own = there;
   number = number;
   legal = legal;
-  made = made-all desk.turn seat desk.opened there;
+  made = made-all desk.turn seat opened.opened there;
 }
   where
     there : IsSeatOf desk.turn seat
     there = subst (λ t. IsSeatOf t seat) same own
 
-none-counted : (w : ℕ) (es : List Entry) → count_by (λ e. e.worker == w) es ≡ 0 → HasNoneBy w es
+none-counted : (w : ℕ) (es : List Tried) → count_by (λ e. e.worker == w) es ≡ 0 → HasNoneBy w es
 none-counted w [] none k e there own = absurd (let no : None ≡ Some e = there in cc)
 none-counted w (x ∷ xs) none zero e there own =
     let first : x ≡ e = cc in
-    let counted : (x.worker == w) ≡ true = eq-eqb x.worker w (ap (λ (f : Entry). f.worker) first ∙ own) in
-    let sum = sum_by-cons (λ (f : Entry). cond {A = ℕ} (f.worker == w) 1 0) x xs in
+    let counted : (x.worker == w) ≡ true = eq-eqb x.worker w (ap (λ (f : Tried). f.worker) first ∙ own) in
+    let sum = sum_by-cons (λ (f : Tried). cond {A = ℕ} (f.worker == w) 1 0) x xs in
     let one : cond {A = ℕ} (x.worker == w) 1 0 ≡ 1 = rw counted refl in
     absurd (omega (arith, sum, one))
 none-counted w (x ∷ xs) none (suc k) e there own =
-    let sum = sum_by-cons (λ (f : Entry). cond {A = ℕ} (f.worker == w) 1 0) x xs in
+    let sum = sum_by-cons (λ (f : Tried). cond {A = ℕ} (f.worker == w) 1 0) x xs in
     none-counted w xs (omega (arith, sum)) k e there own
 
 -- a seat that has made nothing has seen nothing of its worker

@@ -5,24 +5,29 @@ ghost use Rattle.ih_cellbook.specs.Copied.{most_copied};
 ghost use Rattle.ih_cellbook.specs.Legal.{AreLegalButDraws};
 ghost use Rattle.ih_cellbook.specs.Offers.{IsRightOffer, entry_of};
 
-use ih_cellbook::{Book, Buffer, Offer, right_offers_stay_right};
+use ih_cellbook::{Book, Buffer, Logged, Offers, right_offers_stay_right};
 use ih_journal::Verdict;
 use ih_turn::{Seat, Turn};
 use std::alloc::Global;
 use std::sync::Wait;
 
-/// A book that workers share. Each has a seat, which carries the history that it has seen.
+/// What workers share: a turn over a book. Each worker has a seat, which carries the history that it has seen. The turn is a
+/// parameter, since a struct can't hold a turn over a type that has parameters itself.
 #[derive(Drop)]
-pub struct Desk<'a> {
-    turn: Turn<Book<'a>>,
-    ghost opened: { turn.table.shared.key.opening.value.entries ≡ [] },
-    ghost workers: { turn.table.shared.key.seats ≡ turn.table.shared.key.opening.value.base.options.workers },
+pub struct DeskOver<T> {
+    turn: T,
 }
 
-impl<'a> Desk<'a> {
+/// A desk over a book of such entries.
+pub type DeskOf<'a, E> = DeskOver<Turn<Book<'a, E>>>;
+
+/// A desk over a book of moves.
+pub type Desk<'a> = DeskOver<Turn<Book<'a>>>;
+
+impl<'a, E: Logged> DeskOver<Turn<Book<'a, E>>> {
     ghost use Rattle.std.specs.Prelude.{ℕ, ◌+◌, ◌*◌, ◌^◌, ◌<◌, ◌==◌, IfOk, IfErr, map, slice_index, All, Contains, count_by};
     ghost use Rattle.ih_turn.specs.Seats.{history, number_of, made_count, turns_left};
-    ghost use Rattle.ih_desk.specs.Desks.{base_of, worker_count, IsSeatAt};
+    ghost use Rattle.ih_desk.specs.Desks.{base_of, worker_count, IsDesk, IsSeatAt};
     ghost use Rattle.ih_desk.specs.Histories.{GoesOn, EndsWith};
 
     /// Opens a desk over a book without entries, with a seat for each worker of its options. Each seat may look or offer
@@ -32,21 +37,21 @@ impl<'a> Desk<'a> {
     /// The book, where memory runs out.
     pub fn open(
         alloc: Global,
-        book: Book<'a>,
+        book: Book<'a, E>,
         workers: u32,
         turns: u64,
-    ) -> Result<(Desk<'a>, Vec<Seat<Book<'a>>>), Book<'a>>
+    ) -> Result<(DeskOver<Turn<Book<'a, E>>>, Vec<Seat<Book<'a, E>>>), Book<'a, E>>
         requires some { 1 ≤ workers }
         requires workers { workers ≡ book.base.options.workers }
         requires empty { book.entries ≡ [] }
         requires fits { workers * turns + 1 < 2 ^ 64 }
-        ensures desk { IfOk result (λ t. (base_of t.0 ≡ book.entry.base) × (worker_count t.0 ≡ workers)) }
+        ensures desk { IfOk result (λ t. IsDesk t.0 × (base_of t.0 ≡ book.entry.base) × (worker_count t.0 ≡ workers)) }
         ensures numbers { IfOk result (λ t. (length t.1.items ≡ workers) × ((k : ℕ) → k < workers → slice_index (map number_of t.1.items) k ≡ k)) }
         ensures fresh { IfOk result (λ t. All (λ s. IsSeatAt t.0 s × (history s ≡ []) × (made_count s ≡ 0) × (turns_left s ≡ turns)) t.1.items) }
         ensures refused { IfErr result (λ b. b ≡ book.entry) }
     {
         match Turn::new(alloc, book, workers, turns) {
-            Ok((turn, seats)) => Ok((Desk { turn }, seats)),
+            Ok((turn, seats)) => Ok((DeskOver { turn }, seats)),
             Err(book) => Err(book),
         }
     }
@@ -54,7 +59,12 @@ impl<'a> Desk<'a> {
     /// Looks at the history, which the seat has then seen whole. The buffer's entries are those from its place
     /// `from` on, or the first 256 of them where there are more, and its front is the number of all entries. It uses one
     /// of the seat's turns, waits for it, and takes no memory.
-    pub fn look<R: Wait>(&self, rt: &R, seat: Seat<Book<'a>>, buffer: &mut Buffer) -> Seat<Book<'a>>
+    pub fn look<R: Wait>(
+        &self,
+        rt: &R,
+        seat: Seat<Book<'a, E>>,
+        buffer: &mut Buffer<E>,
+    ) -> Seat<Book<'a, E>>
         requires own { IsSeatAt self.now seat }
         requires left { 0 < turns_left seat }
         requires from { buffer.old.from ≤ length (history seat) }
@@ -75,16 +85,16 @@ impl<'a> Desk<'a> {
     pub fn offer<R: Wait>(
         &self,
         rt: &R,
-        seat: Seat<Book<'a>>,
-        offer: &Offer,
-    ) -> (Seat<Book<'a>>, Verdict)
+        seat: Seat<Book<'a, E>>,
+        offer: &E::Offer,
+    ) -> (Seat<Book<'a, E>>, Verdict)
         requires own { IsSeatAt self.now seat }
         requires left { 0 < turns_left seat }
-        requires worker { offer.now.worker ≡ number_of seat }
-        requires right { IsRightOffer (base_of self.now) (history seat) offer.now }
+        requires worker { (E.Offer.offered offer.now).worker ≡ number_of seat }
+        requires right { IsRightOffer (base_of self.now) (history seat) (E.Offer.offered offer.now) }
         ensures own { IsSeatAt self.now result.0 }
         ensures number { number_of result.0 ≡ number_of seat.entry }
-        ensures history { EndsWith (base_of self.now) offer.now result.1 (history seat.entry) (history result.0) }
+        ensures history { EndsWith (base_of self.now) (E.Offer.offered offer.now) result.1 (history seat.entry) (history result.0) }
         ensures made { made_count result.0 ≡ made_count seat.entry + 1 }
         ensures left { turns_left result.0 + 1 ≡ turns_left seat.entry }
     {
@@ -96,7 +106,8 @@ impl<'a> Desk<'a> {
     }
 
     /// Gives the book back, once all seats have come back. It has just the entries that they made.
-    pub fn close(self, seats: Vec<Seat<Book<'a>>>) -> Book<'a>
+    pub fn close(self, seats: Vec<Seat<Book<'a, E>>>) -> Book<'a, E>
+        requires desk { IsDesk self }
         requires own { All (IsSeatAt self) seats.items }
         requires all { (n : ℕ) → n < worker_count self → Contains (map number_of seats.items) n }
         ensures base { result.base ≡ base_of self.entry }
@@ -107,7 +118,7 @@ impl<'a> Desk<'a> {
         ensures makers { All (λ e. e.worker < worker_count self.entry) result.entries }
         ensures made { All (λ s. count_by (λ e. e.worker == number_of s) result.entries ≡ made_count s) seats.entry.items }
     {
-        let Desk { turn } = self;
+        let DeskOver { turn } = self;
         let book = turn.close(seats);
         // For the proof alone: the entries are legal.
         book.entries();
@@ -116,7 +127,7 @@ impl<'a> Desk<'a> {
 }
 
 // Copies what a book has from the buffer's place on.
-fn copy(book: &Book<'_>, buffer: &mut Buffer)
+fn copy<E: Logged>(book: &Book<'_, E>, buffer: &mut Buffer<E>)
     requires { buffer.old.from ≤ length book.now.entries }
     ensures copied { buffer.new ≡ record { from = buffer.old.from; entries = take most_copied (drop buffer.old.from book.now.entries); front = length book.now.entries } }
     ensures legal { AreLegalButDraws book.now.base book.now.entries }
@@ -128,10 +139,10 @@ fn copy(book: &Book<'_>, buffer: &mut Buffer)
 }
 
 // Commits an offer to a book.
-fn commit(book: &mut Book<'_>, offer: &Offer) -> Verdict
-    requires { IsRightOffer book.old.base book.old.entries offer.now }
+fn commit<E: Logged>(book: &mut Book<'_, E>, offer: &E::Offer) -> Verdict
+    requires { IsRightOffer book.old.base book.old.entries (E.Offer.offered offer.now) }
     ensures base { book.new.base ≡ book.old.base }
-    ensures entries { book.new.entries ≡ book.old.entries ++ entry_of book.old.base book.old.entries offer.now result ∷ [] }
+    ensures entries { book.new.entries ≡ book.old.entries ++ entry_of book.old.base book.old.entries (E.Offer.offered offer.now) result ∷ [] }
     ensures legal { AreLegalButDraws book.new.base book.new.entries }
 {
     let verdict = book.commit(offer);

@@ -1,6 +1,19 @@
-//! The desk: the book of a search behind a turn. Whoever looks and offers, from whatever threads, sees one legal history.
+//! The desk at which workers share a book, the workers, and the search that they make together.
 #![tactic(auto)]
 
 mod desk;
+mod given;
+mod laws;
+mod passing;
+mod running;
+mod searcher;
+mod searching;
+mod workers;
 
-pub use desk::Desk;
+pub use desk::{Desk, DeskOf, DeskOver};
+pub use given::Given;
+pub use laws::finished_searches_are_full;
+pub use running::run_all;
+pub use searcher::Searcher;
+pub use searching::search;
+pub use workers::{Seated, WorkerOn};

@@ -13,3 +13,4 @@ pub mod ListLemmas
 pub mod GatherLemmas
 pub mod FootLemmas
 pub mod LookLemmas
+pub mod SeriesLocality

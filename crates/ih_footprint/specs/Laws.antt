@@ -10,6 +10,7 @@ use Rattle.ih_plan.specs.Expand.{expand, after, IsMoveOf}
 use Rattle.ih_plan.specs.BillOf.{change_of_bill}
 use Rattle.ih_plan.specs.Cells.{IsCellOf, content_of}
 use Rattle.ih_plan.specs.Footprint.{write_touches, writes_touch, touches, footprint}
+use Rattle.ih_plan.specs.Series.{AreMoves, after_all, all_touch, expand_all, footprint_of_all, price_of_all}
 
 -- ---- what is outside a footprint stays
 
@@ -64,3 +65,25 @@ pub record IsLocal (I : Draft) (P Q : Timetable) (m : Move) : Type 0 where
 -- So it is where both have the same contents on the move's footprint.
 abbrev pub MovesAreLocal : Draft → Type 0
 MovesAreLocal I = (P Q : Timetable) (m : Move) → IsPlanOf I P → IsPlanOf I Q → IsMoveOf I m → AreSameOn I (touches I P m) P Q → IsLocal I P Q m
+
+-- ---- moves in a row
+
+-- Moves in a row change no content outside their footprint.
+abbrev pub SeriesKeepTheRest : Draft → Type 0
+SeriesKeepTheRest I = (P : Timetable) (ms : List Move) (c : Cell) → IsPlanOf I P → AreMoves I ms → IsCellOf I c
+    → all_touch I P ms c ≡ false → content_of I (after_all I P ms) c ≡ content_of I P c
+
+-- What moves in a row do at Q is what they do at P: their writes, their footprint, the contents after them on the cells
+-- that pass, and their price.
+pub record AreLocal (I : Draft) (P Q : Timetable) (ms : List Move) (passes : Cell → Bool) : Type 0 where
+  pub expanded : expand_all I Q ms ≡ expand_all I P ms
+  pub touched : (c : Cell) → IsCellOf I c → all_touch I Q ms c ≡ all_touch I P ms c
+  pub numbers : footprint_of_all I Q ms ≡ footprint_of_all I P ms
+  pub afterwards : AreSameOn I passes (after_all I P ms) (after_all I Q ms)
+  pub price : price_of_all I Q ms ≡ price_of_all I P ms
+
+-- So it is where both have the same contents on cells among which the footprint is.
+abbrev pub SeriesAreLocal : Draft → Type 0
+SeriesAreLocal I = (P Q : Timetable) (ms : List Move) (passes : Cell → Bool) → IsPlanOf I P → IsPlanOf I Q → AreMoves I ms
+    → AreSameOn I passes P Q → ((c : Cell) → IsCellOf I c → all_touch I P ms c ≡ true → passes c ≡ true)
+    → AreLocal I P Q ms passes

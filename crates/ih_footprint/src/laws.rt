@@ -1,7 +1,7 @@
 //! The laws, each on a function that does nothing: what is outside a footprint stays, and what is done rests on the
 //! footprint's contents alone.
 
-ghost use Rattle.ih_footprint.specs.Laws.{WritesKeepTheRest, WritesInARowKeepTheRest, MovesKeepTheRest, WritesAreLocal, WritesInARowAreLocal, MovesAreLocal};
+ghost use Rattle.ih_footprint.specs.Laws.{WritesKeepTheRest, WritesInARowKeepTheRest, MovesKeepTheRest, WritesAreLocal, WritesInARowAreLocal, MovesAreLocal, SeriesKeepTheRest, SeriesAreLocal};
 
 use ih_tables::Instance;
 
@@ -33,4 +33,14 @@ pub fn writes_in_a_row_are_local(_inst: &Instance)
 /// What a move writes, touches, leaves and costs rests on the contents of its footprint alone.
 pub fn moves_are_local(_inst: &Instance)
     ensures { MovesAreLocal _inst.now.draft }
+{}
+
+/// Moves in a row change no content outside their footprint.
+pub fn series_keep_the_rest(_inst: &Instance)
+    ensures { SeriesKeepTheRest _inst.now.draft }
+{}
+
+/// What moves in a row touch, leave and cost rests on the contents of their footprint alone.
+pub fn series_are_local(_inst: &Instance)
+    ensures { SeriesAreLocal _inst.now.draft }
 {}

@@ -1,27 +1,37 @@
 -- What holds of each entry of a legal history, and of its timetables.
-use Rattle.std.proofs.Common.{◌^◌, List, take, get_or}
-use Rattle.std.specs.Prelude.{All}
+use Rattle.std.proofs.Common.{◌≡◌, ◌^◌, ℕ, List, take, get_or, Some}
+use Rattle.std.specs.Prelude.{All, slice_get}
 use Rattle.std.proofs.lemmas.Option.{slice_get-get_or}
 use Rattle.ih_tables.specs.Bills.{IsWithin}
 use Rattle.ih_tables.specs.Valid.{IsValid}
 use Rattle.ih_plan.specs.Timetable.{IsPlanOf}
-use Rattle.ih_plan.specs.Expand.{IsMoveOf, after}
-use Rattle.ih_plan.proofs.PlanRanges.{after-plan}
+use Rattle.ih_plan.specs.Series.{AreMoves, after_all}
+use Rattle.ih_plan.proofs.Series.{after_all-plan}
 use Rattle.ih_plan.proofs.BillBounds.{change-within}
 use Rattle.ih_journal.specs.declared.entries.Entry.{Entry}
+use Rattle.ih_journal.specs.Tried.{Tried, tried, tries}
 use Rattle.ih_journal.specs.Base.{Base}
 use Rattle.ih_journal.specs.History.{plan_at}
 use Rattle.ih_journal.specs.Legal.{AreLegal}
-use Rattle.ih_journal.proofs.Growth.{plan_at-plan, take-get}
+use Rattle.ih_journal.proofs.Growth.{legal-moves, plan_at-plan, take-get}
+use Rattle.ih_journal.proofs.Mapped.{get-mapped}
 
-module _ (b : Base) (H : List Entry) (start : IsPlanOf b.instance b.start) (legal : AreLegal b H) where
-  pub moves-in : All (λ e. IsMoveOf b.instance e.mv) H
+module _ (b : Base) (each : ℕ) (H : List Tried) (legal : AreLegal b each H) where
+  pub moves-in : All (λ e. AreMoves b.instance e.moves) H
   moves-in k d h = (legal k (get_or H k d) (slice_get-get_or H k d h)).entry.move
 
   -- an entry's price is the change of a bill
-  pub prices-in : IsValid b.instance → All (λ e. IsWithin (10 ^ 11) e.price) H
-  prices-in valid k d h =
-      let entry = (legal k (get_or H k d) (slice_get-get_or H k d h)).entry in
-      let earlier = plan_at-plan b (take k H) (get_or H k d).seen start (λ j e g. (legal j e (take-get H k j e g)).entry.move) in
-      rw entry.price (change-within b.instance (plan_at b (take k H) (get_or H k d).seen) (after b.instance (plan_at b (take k H) (get_or H k d).seen) (get_or H k d).mv) valid earlier
-      (after-plan b.instance (plan_at b (take k H) (get_or H k d).seen) (get_or H k d).mv earlier entry.move))
+  pub price-in : IsPlanOf b.instance b.start → IsValid b.instance → (k : ℕ) (e : Tried) → slice_get H k ≡ Some e → IsWithin (10 ^ 11) e.price
+  price-in start valid k e here =
+      let entry = (legal k e here).entry in
+      let P = plan_at b (take k H) e.seen in
+      let earlier : IsPlanOf b.instance P =
+      plan_at-plan b (take k H) e.seen start (λ j f there. legal-moves b each H legal j f (take-get H k j f there)) in
+      rw entry.price (change-within b.instance P (after_all b.instance P e.moves) valid earlier
+      (after_all-plan b.instance P e.moves earlier entry.move))
+
+-- the prices of single moves
+pub prices-in : (b : Base) (each : ℕ) (H : List Entry) → AreLegal b each (tries H) → IsPlanOf b.instance b.start → IsValid b.instance
+    → All (λ e. IsWithin (10 ^ 11) e.price) H
+prices-in b each H legal start valid k d h =
+    price-in b each (tries H) legal start valid k (tried (get_or H k d)) (get-mapped tried H k (get_or H k d) (slice_get-get_or H k d h))

@@ -1,3 +1,4 @@
 pub mod EntrySteps
 pub mod LegalEntries
+pub mod MoveSteps
 pub mod WriteSteps

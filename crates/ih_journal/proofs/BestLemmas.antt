@@ -6,7 +6,7 @@ use Rattle.std.proofs.lemmas.Int.{ints}
 use Rattle.std.proofs.lemmas.Bool.{cases_lt}
 use Rattle.ih_tables.specs.Bills.{feasible, cost}
 use Rattle.ih_plan.specs.BillOf.{bill_of}
-use Rattle.ih_journal.specs.declared.entries.Entry.{Entry}
+use Rattle.ih_journal.specs.Tried.{Tried}
 use Rattle.ih_journal.specs.Base.{Base}
 use Rattle.ih_journal.specs.History.{plan_at, plan_after}
 use Rattle.ih_journal.specs.Best.{IsBest, HasNone, BestIs, best_with, IsFeasibleAt, cost_at}
@@ -14,13 +14,13 @@ use Rattle.ih_journal.proofs.Growth.{plan_at-earlier, plan_at-end, length-more}
 
 -- ---- a history has one best
 
-not-later : (b : Base) (H : List Entry) (k j : ℕ) → IsBest b H k → IsBest b H j → k < j → ⊥
+not-later : (b : Base) (H : List Tried) (k j : ℕ) → IsBest b H k → IsBest b H j → k < j → ⊥
 not-later b H k j here there less =
     let over = there.first k less here.works in
     let under = here.cheapest j there.place there.works in
     omega (arith, ints, over, under)
 
-pub best-one : (b : Base) (H : List Entry) (k j : ℕ) → IsBest b H k → IsBest b H j → k ≡ j
+pub best-one : (b : Base) (H : List Tried) (k j : ℕ) → IsBest b H k → IsBest b H j → k ≡ j
 best-one b H k j here there = elim (cases_lt k j) [
   | inl less ↦ absurd (not-later b H k j here there less)
   | inr over ↦ elim (cases_lt j k) [
@@ -29,21 +29,21 @@ best-one b H k j here there = elim (cases_lt k j) [
   ]
 ]
 
-pub best-or-none : (b : Base) (H : List Entry) (k : ℕ) → IsBest b H k → HasNone b H → ⊥
+pub best-or-none : (b : Base) (H : List Tried) (k : ℕ) → IsBest b H k → HasNone b H → ⊥
 best-or-none b H k best none = let clash : true ≡ false = sym best.works ∙ none k best.place in cc
 
 -- the facts of a place depend on the entries before it alone
-same-bill : (b : Base) (H : List Entry) (e : Entry) (k : ℕ) → k ≤ length H → bill_of b.instance (plan_at b (H ++ e ∷ []) k) ≡ bill_of b.instance (plan_at b H k)
+same-bill : (b : Base) (H : List Tried) (e : Tried) (k : ℕ) → k ≤ length H → bill_of b.instance (plan_at b (H ++ e ∷ []) k) ≡ bill_of b.instance (plan_at b H k)
 same-bill b H e k h = ap (bill_of b.instance) (plan_at-earlier b H (e ∷ []) k h)
 
-same-cost : (b : Base) (H : List Entry) (e : Entry) (k : ℕ) → k ≤ length H → cost_at b (H ++ e ∷ []) k ≡ cost_at b H k
+same-cost : (b : Base) (H : List Tried) (e : Tried) (k : ℕ) → k ≤ length H → cost_at b (H ++ e ∷ []) k ≡ cost_at b H k
 same-cost b H e k h = ap (cost b.instance.weights) (same-bill b H e k h)
 
-last-bill : (b : Base) (H : List Entry) (e : Entry) (k : ℕ) → k ≡ length H + 1 → bill_of b.instance (plan_at b (H ++ e ∷ []) k) ≡ bill_of b.instance (plan_after b (H ++ e ∷ []))
+last-bill : (b : Base) (H : List Tried) (e : Tried) (k : ℕ) → k ≡ length H + 1 → bill_of b.instance (plan_at b (H ++ e ∷ []) k) ≡ bill_of b.instance (plan_after b (H ++ e ∷ []))
 last-bill b H e k h = let len = length-more H e in ap (bill_of b.instance) (plan_at-end b (H ++ e ∷ []) k (omega arith))
 
 -- a place of the longer history is an earlier one, or the last
-earlier-or-last : (H : List Entry) (e : Entry) (k : ℕ) → k ≤ length (H ++ e ∷ []) → (k ≤ length H) ⊎ (k ≡ length H + 1)
+earlier-or-last : (H : List Tried) (e : Tried) (k : ℕ) → k ≤ length (H ++ e ∷ []) → (k ≤ length H) ⊎ (k ≡ length H + 1)
 earlier-or-last H e k h = let len = length-more H e in elim (cases_lt k (length H + 1)) [
   | inl low ↦ inl (omega arith)
   | inr high ↦ inr (omega arith)
@@ -66,7 +66,7 @@ best-start b true c works costs = (
 
 -- ---- one entry more
 
-module _ (b : Base) (H : List Entry) (e : Entry) (f : Bool) (c : ℤ)
+module _ (b : Base) (H : List Tried) (e : Tried) (f : Bool) (c : ℤ)
     (works : feasible (bill_of b.instance (plan_after b (H ++ e ∷ []))) ≡ f)
     (costs : cost b.instance.weights (bill_of b.instance (plan_after b (H ++ e ∷ []))) ≡ c) where
   works-last : (k : ℕ) → k ≡ length H + 1 → feasible (bill_of b.instance (plan_at b (H ++ e ∷ []) k)) ≡ f

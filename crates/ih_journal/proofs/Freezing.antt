@@ -15,12 +15,14 @@ use Rattle.ih_plan.specs.declared.moves.Write.TheVariants.{SetStay, SetCare}
 use Rattle.ih_plan.specs.Timetable.{Timetable, IsPlanOf, stay_of}
 use Rattle.ih_plan.specs.Presence.{day_of}
 use Rattle.ih_plan.specs.Writes.{put, put_all, IsWriteOf, AreWritesOf}
-use Rattle.ih_plan.specs.Expand.{after, expand, IsMoveOf}
 use Rattle.ih_plan.proofs.Entries.{stay_of-other, stay_of-same, care_of-other}
-use Rattle.ih_plan.proofs.PlanRanges.{expand-writes, put-plan}
-use Rattle.ih_journal.specs.declared.entries.Entry.{Entry}
+use Rattle.ih_plan.proofs.PlanRanges.{put-plan}
+use Rattle.ih_plan.proofs.Series.{after_all-writes, expand_all-writes}
+use Rattle.ih_plan.specs.Series.{AreMoves, after_all, expand_all}
+use Rattle.ih_journal.specs.Tried.{Tried}
 use Rattle.ih_journal.specs.Base.{Base}
-use Rattle.ih_journal.specs.Frozen.{AgreesBefore, is_before, is_frozen, is_frozen_write}
+use Rattle.ih_journal.specs.Frozen.{is_before, is_frozen_write}
+use Rattle.ih_journal.specs.Frozen.{AgreesBefore, is_frozen}
 use Rattle.ih_journal.specs.History.{after_entries, after_entry, plan_after, plan_at, is_accepted}
 use Rattle.ih_journal.proofs.Growth.{plan_after-more, plan_at-earlier, plan_at-end, length-more}
 
@@ -78,17 +80,19 @@ agrees-put_all b P (w ∷ ws) plan fits agrees free =
     let parts = neither (is_frozen_write b.start b.freeze w) (list_any (is_frozen_write b.start b.freeze) ws) free in
     agrees-put_all b (put w P) ws (put-plan b.instance P w plan fits.0) fits.1 (agrees-put b P w plan fits.0 agrees parts.0) parts.1
 
--- a move that isn't frozen keeps the frozen choices
-pub agrees-move : (b : Base) (P : Timetable) (m : Move) → IsPlanOf b.instance P → IsMoveOf b.instance m → AgreesBefore b P → is_frozen b P m ≡ false → AgreesBefore b (after b.instance P m)
+-- moves in a row of which none is frozen keep the frozen choices
+pub agrees-moves : (b : Base) (P : Timetable) (ms : List Move) → IsPlanOf b.instance P → AreMoves b.instance ms → AgreesBefore b P → is_frozen b P ms ≡ false → AgreesBefore b (after_all b.instance P ms)
 unfolding is_frozen
-agrees-move b P m plan fits agrees free = agrees-put_all b P (expand b.instance P m) plan (expand-writes b.instance P m plan fits) agrees free
+agrees-moves b P ms plan fits agrees free =
+    subst (AgreesBefore b) (sym (after_all-writes b.instance P ms))
+    (agrees-put_all b P (expand_all b.instance P ms) plan (expand_all-writes b.instance P ms plan fits) agrees free)
 
 -- an entry whose move is accepted only where it isn't frozen
-pub agrees-entry : (b : Base) (P : Timetable) (e : Entry) → IsPlanOf b.instance P → IsMoveOf b.instance e.mv → AgreesBefore b P → (is_accepted e.verdict ≡ true → is_frozen b P e.mv ≡ false) → AgreesBefore b (after_entry b.instance P e)
+pub agrees-entry : (b : Base) (P : Timetable) (e : Tried) → IsPlanOf b.instance P → AreMoves b.instance e.moves → AgreesBefore b P → (is_accepted e.verdict ≡ true → is_frozen b P e.moves ≡ false) → AgreesBefore b (after_entry b.instance P e)
 agrees-entry b P e plan fits agrees free = by_case (is_accepted e.verdict) free
   where
-    by_case : (c : Bool) → (c ≡ true → is_frozen b P e.mv ≡ false) → AgreesBefore b (if c then after b.instance P e.mv else P)
-    by_case true free = agrees-move b P e.mv plan fits agrees (free refl)
+    by_case : (c : Bool) → (c ≡ true → is_frozen b P e.moves ≡ false) → AgreesBefore b (if c then after_all b.instance P e.moves else P)
+    by_case true free = agrees-moves b P e.moves plan fits agrees (free refl)
     by_case false free = agrees
 
 -- ---- histories
@@ -98,7 +102,7 @@ pub agree-none : (b : Base) (k : ℕ) → AgreesBefore b (plan_at b [] k)
 unfolding after_entries
 agree-none b k = subst (AgreesBefore b) (sym (plan_at-end b [] k (omega arith))) (agrees-start b)
 
-pub agree-more : (b : Base) (H : List Entry) (e : Entry) → ((k : ℕ) → AgreesBefore b (plan_at b H k)) → AgreesBefore b (after_entry b.instance (plan_after b H) e) → (k : ℕ) → AgreesBefore b (plan_at b (H ++ e ∷ []) k)
+pub agree-more : (b : Base) (H : List Tried) (e : Tried) → ((k : ℕ) → AgreesBefore b (plan_at b H k)) → AgreesBefore b (after_entry b.instance (plan_after b H) e) → (k : ℕ) → AgreesBefore b (plan_at b (H ++ e ∷ []) k)
 agree-more b H e before here k = by_place (leb_tells k (length H))
   where
     by_place : ((nat_le k (length H) ≡ true) × (k ≤ length H)) ⊎ ((nat_le k (length H) ≡ false) × (length H < k)) → AgreesBefore b (plan_at b (H ++ e ∷ []) k)

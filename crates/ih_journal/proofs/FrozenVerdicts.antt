@@ -12,10 +12,11 @@ use Rattle.ih_journal.specs.declared.entries.Entry.{Entry}
 use Rattle.ih_journal.specs.declared.entries.Verdict.{Verdict}
 use Rattle.ih_journal.specs.declared.entries.Verdict.TheVariants.{Accepted, Frozen}
 use Rattle.ih_journal.specs.Base.{Base}
+use Rattle.ih_journal.specs.Tried.{tries}
 use Rattle.ih_journal.specs.History.{plan_at}
-use Rattle.ih_journal.specs.Legal.{verdict_on, price_of}
+use Rattle.ih_journal.specs.Legal.{verdict_on}
 use Rattle.ih_journal.specs.Texts.{journal, price_text}
-use Rattle.ih_journal.proofs.Literals.{history_on_literals, options, base, entry}
+use Rattle.ih_journal.proofs.Literals.{history_on_literals, options, base, entry, price_of}
 
 -- one worker with two moves, and a freeze day
 abbrev pub two_moves : ℕ → Base
@@ -26,13 +27,13 @@ abbrev pub first_draw : Verdict → Entry
 first_draw v = entry 0 0 0 0 (move_of B2 0 0 0) (price_of B2 X (move_of B2 0 0 0)) v
 
 abbrev pub second_draw : Entry
-second_draw = entry 0 1 0 1 (move_of B2 0 0 1) (price_of B2 (plan_at (two_moves 0) (first_draw Accepted ∷ []) 1) (move_of B2 0 0 1)) Accepted
+second_draw = entry 0 1 0 1 (move_of B2 0 0 1) (price_of B2 (plan_at (two_moves 0) (tries (first_draw Accepted ∷ [])) 1) (move_of B2 0 0 1)) Accepted
 
 abbrev pub two_entries : List Entry
 two_entries = first_draw Accepted ∷ second_draw ∷ []
 
-pub two_moves_verdicts : (verdict_on (two_moves 0) [] 0 0 (first_draw Accepted).mv (first_draw Accepted).price ≡ Accepted)
-    × (verdict_on (two_moves 0) (first_draw Accepted ∷ []) 1 1 second_draw.mv second_draw.price ≡ Accepted)
+pub two_moves_verdicts : (verdict_on (two_moves 0) [] 0 0 ((first_draw Accepted).mv ∷ []) (first_draw Accepted).price ≡ Accepted)
+    × (verdict_on (two_moves 0) (tries (first_draw Accepted ∷ [])) 1 1 (second_draw.mv ∷ []) second_draw.price ≡ Accepted)
 unfolding history_on_literals
 two_moves_verdicts = (refl, refl)
 
@@ -40,14 +41,14 @@ pub two_moves_journal : journal (two_moves 0).options two_entries ≡ codes "ihj
 unfolding history_on_literals
 two_moves_journal = refl
 
-pub two_moves_costs : (cost weights (bill_of B2 (plan_at (two_moves 0) two_entries 1)) ≡ pos 139) × (cost weights (bill_of B2 X) ≡ pos 159)
+pub two_moves_costs : (cost weights (bill_of B2 (plan_at (two_moves 0) (tries two_entries) 1)) ≡ pos 139) × (cost weights (bill_of B2 X) ≡ pos 159)
 unfolding history_on_literals
 two_moves_costs = (refl, refl)
 
 -- with the first day frozen the run over both days is refused
-pub first_day_frozen : (verdict_on (two_moves 1) [] 0 0 (first_draw Frozen).mv (first_draw Frozen).price ≡ Frozen)
-    × (verdict_on (two_moves 1) (first_draw Frozen ∷ []) 1 1 second_draw.mv second_draw.price ≡ Accepted)
-    × (second_draw.price ≡ price_of B2 (plan_at (two_moves 1) (first_draw Frozen ∷ []) 1) second_draw.mv)
+pub first_day_frozen : (verdict_on (two_moves 1) [] 0 0 ((first_draw Frozen).mv ∷ []) (first_draw Frozen).price ≡ Frozen)
+    × (verdict_on (two_moves 1) (tries (first_draw Frozen ∷ [])) 1 1 (second_draw.mv ∷ []) second_draw.price ≡ Accepted)
+    × (second_draw.price ≡ price_of B2 (plan_at (two_moves 1) (tries (first_draw Frozen ∷ [])) 1) second_draw.mv)
 unfolding history_on_literals
 first_day_frozen = (refl, refl, refl)
 
@@ -72,16 +73,16 @@ abbrev pub leaves : Move
 leaves = Withdraw (record { 0 = 1 })
 
 abbrev pub withdrawn : Entry
-withdrawn = entry 0 2 0 2 leaves (price_of B2 (plan_at warm (later_day ∷ admitted ∷ []) 2) leaves) Accepted
+withdrawn = entry 0 2 0 2 leaves (price_of B2 (plan_at warm (tries (later_day ∷ admitted ∷ [])) 2) leaves) Accepted
 
-pub warm_verdicts : (verdict_on warm [] 0 0 later_day.mv later_day.price ≡ Frozen)
-    × (verdict_on warm (later_day ∷ []) 1 1 admitted.mv admitted.price ≡ Accepted)
-    × (verdict_on warm (later_day ∷ admitted ∷ []) 2 2 withdrawn.mv withdrawn.price ≡ Accepted)
+pub warm_verdicts : (verdict_on warm [] 0 0 (later_day.mv ∷ []) later_day.price ≡ Frozen)
+    × (verdict_on warm (tries (later_day ∷ [])) 1 1 (admitted.mv ∷ []) admitted.price ≡ Accepted)
+    × (verdict_on warm (tries (later_day ∷ admitted ∷ [])) 2 2 (withdrawn.mv ∷ []) withdrawn.price ≡ Accepted)
 unfolding history_on_literals
 warm_verdicts = (refl, refl, refl)
 
 pub warm_prices : (price_text admitted.price ≡ codes "0,0,0,0,0,0,0,0,3,0,0,0,0,1,0,1,-1") × (score 1000 weights admitted.price ≡ pos 2934)
     × (price_text withdrawn.price ≡ codes "0,0,0,0,0,0,0,0,-3,0,0,0,0,-1,0,-1,1")
-    × (plan_at warm (later_day ∷ admitted ∷ withdrawn ∷ []) 3 ≡ X)
+    × (plan_at warm (tries (later_day ∷ admitted ∷ withdrawn ∷ [])) 3 ≡ X)
 unfolding history_on_literals
 warm_prices = (refl, refl, refl, refl)

@@ -9,12 +9,11 @@ use Rattle.ih_tables.specs.declared.drafts.Draft.{Draft}
 use Rattle.ih_tables.specs.declared.bills.Bill.{Bill}
 use Rattle.ih_tables.specs.Bills.{score}
 use Rattle.ih_plan.specs.Timetable.{Timetable, IsPlanOf}
-use Rattle.ih_plan.specs.Expand.{IsMoveOf, after}
 use Rattle.ih_plan.specs.declared.moves.Move.{Move}
 use Rattle.ih_plan.specs.Cells.{cell_at, cell_count}
-use Rattle.ih_plan.specs.Footprint.{touches}
-use Rattle.ih_plan.proofs.PlanRanges.{after-plan}
-use Rattle.ih_journal.specs.declared.entries.Entry.{Entry}
+use Rattle.ih_plan.proofs.Series.{after_all-plan}
+use Rattle.ih_plan.specs.Series.{AreMoves, after_all, all_touch}
+use Rattle.ih_journal.specs.Tried.{Tried}
 use Rattle.ih_journal.specs.declared.entries.Verdict.{Verdict}
 use Rattle.ih_journal.specs.declared.entries.Verdict.TheVariants.{Accepted, Declined, Frozen}
 use Rattle.ih_journal.specs.Settings.{theta}
@@ -28,53 +27,53 @@ use Rattle.ih_journal.proofs.HistoryLemmas.{after_entries-append}
 
 -- ---- timetables
 
-pub plan_after-more : (b : Base) (H : List Entry) (e : Entry) → plan_after b (H ++ e ∷ []) ≡ after_entry b.instance (plan_after b H) e
+pub plan_after-more : (b : Base) (H : List Tried) (e : Tried) → plan_after b (H ++ e ∷ []) ≡ after_entry b.instance (plan_after b H) e
 unfolding after_entries
 plan_after-more b H e = after_entries-append b.instance b.start H (e ∷ [])
 
 -- what was stays as it was
-pub plan_at-earlier : (b : Base) (H es : List Entry) (k : ℕ) → k ≤ length H → plan_at b (H ++ es) k ≡ plan_at b H k
+pub plan_at-earlier : (b : Base) (H es : List Tried) (k : ℕ) → k ≤ length H → plan_at b (H ++ es) k ≡ plan_at b H k
 plan_at-earlier b H es k h = ap (plan_after b) (take-append-le k H es h)
 
-pub plan_at-end : (b : Base) (H : List Entry) (k : ℕ) → length H ≤ k → plan_at b H k ≡ plan_after b H
+pub plan_at-end : (b : Base) (H : List Tried) (k : ℕ) → length H ≤ k → plan_at b H k ≡ plan_after b H
 plan_at-end b H k h = ap (plan_after b) (take_all k H h)
 
-pub length-more : (H : List Entry) (e : Entry) → length (H ++ e ∷ []) ≡ length H + 1
+pub length-more : (H : List Tried) (e : Tried) → length (H ++ e ∷ []) ≡ length H + 1
 length-more H e = length-append H (e ∷ [])
 
 -- the moves of a history are in range
-abbrev pub AreMovesOf : Draft → List Entry → Type 0
-AreMovesOf I H = (k : ℕ) (e : Entry) → slice_get H k ≡ Some e → IsMoveOf I e.mv
+abbrev pub AreOfMoves : Draft → List Tried → Type 0
+AreOfMoves I H = (k : ℕ) (e : Tried) → slice_get H k ≡ Some e → AreMoves I e.moves
 
-pub after_entry-plan : (I : Draft) (P : Timetable) (e : Entry) → IsPlanOf I P → IsMoveOf I e.mv → IsPlanOf I (after_entry I P e)
+pub after_entry-plan : (I : Draft) (P : Timetable) (e : Tried) → IsPlanOf I P → AreMoves I e.moves → IsPlanOf I (after_entry I P e)
 after_entry-plan I P e plan fits = by_case (is_accepted e.verdict)
   where
-    by_case : (b : Bool) → IsPlanOf I (if b then after I P e.mv else P)
-    by_case true = after-plan I P e.mv plan fits
+    by_case : (b : Bool) → IsPlanOf I (if b then after_all I P e.moves else P)
+    by_case true = after_all-plan I P e.moves plan fits
     by_case false = plan
 
-pub after_entries-plan : (I : Draft) (P : Timetable) (H : List Entry) → IsPlanOf I P → AreMovesOf I H → IsPlanOf I (after_entries I P H)
+pub after_entries-plan : (I : Draft) (P : Timetable) (H : List Tried) → IsPlanOf I P → AreOfMoves I H → IsPlanOf I (after_entries I P H)
 unfolding after_entries
 after_entries-plan I P [] plan moves = plan
 after_entries-plan I P (e ∷ es) plan moves =
     after_entries-plan I (after_entry I P e) es (after_entry-plan I P e plan (moves 0 e refl)) (λ k f h. moves (suc k) f h)
 
-pub legal-moves : (b : Base) (H : List Entry) → AreLegal b H → AreMovesOf b.instance H
-legal-moves b H legal k e h = (legal k e h).entry.move
+pub legal-moves : (b : Base) (each : ℕ) (H : List Tried) → AreLegal b each H → AreOfMoves b.instance H
+legal-moves b each H legal k e h = (legal k e h).entry.move
 
-pub take-get : (H : List Entry) (n k : ℕ) (e : Entry) → slice_get (take n H) k ≡ Some e → slice_get H k ≡ Some e
+pub take-get : (H : List Tried) (n k : ℕ) (e : Tried) → slice_get (take n H) k ≡ Some e → slice_get H k ≡ Some e
 take-get H zero k e h = absurd (let no : None ≡ Some e = h in cc)
 take-get [] (suc n) k e h = h
 take-get (x ∷ xs) (suc n) zero e h = h
 take-get (x ∷ xs) (suc n) (suc k) e h = take-get xs n k e h
 
-pub plan_at-plan : (b : Base) (H : List Entry) (k : ℕ) → IsPlanOf b.instance b.start → AreMovesOf b.instance H → IsPlanOf b.instance (plan_at b H k)
+pub plan_at-plan : (b : Base) (H : List Tried) (k : ℕ) → IsPlanOf b.instance b.start → AreOfMoves b.instance H → IsPlanOf b.instance (plan_at b H k)
 plan_at-plan b H k start moves = after_entries-plan b.instance b.start (take k H) start (λ j e h. moves j e (take-get H k j e h))
 
 -- ---- entries
 
 -- an entry of the longer history is an earlier one, or the last
-pub get-more : (H : List Entry) (e f : Entry) (k : ℕ) → slice_get (H ++ e ∷ []) k ≡ Some f
+pub get-more : (H : List Tried) (e f : Tried) (k : ℕ) → slice_get (H ++ e ∷ []) k ≡ Some f
     → ((k < length H) × (slice_get H k ≡ Some f)) ⊎ ((k ≡ length H) × (e ≡ f))
 get-more [] e f zero h = inr (refl, let same : e ≡ f = cc in same)
 get-more [] e f (suc k) h = absurd (let no : None ≡ Some f = h in cc)
@@ -84,64 +83,64 @@ get-more (x ∷ xs) e f (suc k) h = elim (get-more xs e f k h) [
   | inr last ↦ let here = last.0 in inr (omega arith, last.1)
 ]
 
-pub legal-none : (b : Base) → AreLegal b []
-legal-none b k e h = absurd (let no : None ≡ Some e = h in cc)
+pub legal-none : (b : Base) (each : ℕ) → AreLegal b each []
+legal-none b each k e h = absurd (let no : None ≡ Some e = h in cc)
 
-pub legal-more : (b : Base) (H : List Entry) (e : Entry) → AreLegal b H → IsLegal b H e → AreLegal b (H ++ e ∷ [])
-legal-more b H e legal one k f h = elim (get-more H e f k h) [
+pub legal-more : (b : Base) (each : ℕ) (H : List Tried) (e : Tried) → AreLegal b each H → IsLegal b each H e → AreLegal b each (H ++ e ∷ [])
+legal-more b each H e legal one k f h = elim (get-more H e f k h) [
   | inl earlier ↦
       let short : k ≤ length H = (let less = earlier.0 in omega arith) in
-      subst (λ G. IsLegal b G f) (sym (take-append-le k H (e ∷ []) short)) (legal k f earlier.1)
+      subst (λ G. IsLegal b each G f) (sym (take-append-le k H (e ∷ []) short)) (legal k f earlier.1)
   | inr last ↦
       let here : length H ≡ k = sym last.0 in
       let whole : take k (H ++ e ∷ []) ≡ H = take-append-le k H (e ∷ []) (omega arith) ∙ take_all k H (omega arith) in
-      subst (λ G. IsLegal b G f) (sym whole) (subst (IsLegal b H) last.1 one)
+      subst (λ G. IsLegal b each G f) (sym whole) (subst (IsLegal b each H) last.1 one)
 ]
 
-get-joined : (H es : List Entry) (e : Entry) → slice_get (H ++ e ∷ es) (length H) ≡ Some e
+get-joined : (H es : List Tried) (e : Tried) → slice_get (H ++ e ∷ es) (length H) ≡ Some e
 get-joined [] es e = refl
 get-joined (x ∷ xs) es e = get-joined xs es e
 
 -- the next entry of a legal history
-pub next-legal : (b : Base) (H es : List Entry) (e : Entry) → AreLegal b (H ++ e ∷ es) → IsLegal b H e
-next-legal b H es e legal = subst (λ G. IsLegal b G e) (take-append_seam H (e ∷ es)) (legal (length H) e (get-joined H es e))
+pub next-legal : (b : Base) (each : ℕ) (H es : List Tried) (e : Tried) → AreLegal b each (H ++ e ∷ es) → IsLegal b each H e
+next-legal b each H es e legal = subst (λ G. IsLegal b each G e) (take-append_seam H (e ∷ es)) (legal (length H) e (get-joined H es e))
 
 -- ---- attempts
 
-else_last-none : (o : Option Entry) → else_last o None ≡ o
+else_last-none : (o : Option Tried) → else_last o None ≡ o
 else_last-none None = refl
 else_last-none (Some e) = refl
 
-else_last-more : (a b c : Option Entry) → else_last (else_last a b) c ≡ else_last a (else_last b c)
+else_last-more : (a b c : Option Tried) → else_last (else_last a b) c ≡ else_last a (else_last b c)
 else_last-more None b c = refl
 else_last-more (Some e) b c = refl
 
-pub last_by-more : (w : ℕ) (H : List Entry) (e : Entry) → last_by w (H ++ e ∷ []) ≡ else_last (when_by w e) (last_by w H)
+pub last_by-more : (w : ℕ) (H : List Tried) (e : Tried) → last_by w (H ++ e ∷ []) ≡ else_last (when_by w e) (last_by w H)
 unfolding last_by
 last_by-more w [] e = sym (else_last-none (when_by w e))
 last_by-more w (x ∷ xs) e = rw (last_by-more w xs e) (else_last-more (when_by w e) (last_by w xs) (when_by w x))
 
-pub last_by-own : (H : List Entry) (e : Entry) (w : ℕ) → e.worker ≡ w → last_by w (H ++ e ∷ []) ≡ Some e
+pub last_by-own : (H : List Tried) (e : Tried) (w : ℕ) → e.worker ≡ w → last_by w (H ++ e ∷ []) ≡ Some e
 last_by-own H e w own = last_by-more w H e ∙ rw (eq-eqb e.worker w own) refl
 
-pub last_by-other : (H : List Entry) (e : Entry) (w : ℕ) → (e.worker ≡ w → ⊥) → last_by w (H ++ e ∷ []) ≡ last_by w H
+pub last_by-other : (H : List Tried) (e : Tried) (w : ℕ) → (e.worker ≡ w → ⊥) → last_by w (H ++ e ∷ []) ≡ last_by w H
 last_by-other H e w other = last_by-more w H e ∙ rw (ne_eqb e.worker w other) refl
 
 pub has_made-none : (b : Base) (w : ℕ) → HasMade b.options [] w 0
 unfolding last_by
 has_made-none b w = record { attempt = refl; done = refl }
 
-pub has_made-next : (b : Base) (H : List Entry) (w i : ℕ) → HasMade b.options H w i → i < b.options.moves → next_attempt b.options H w ≡ Some (record { number = i; again = 0 })
+pub has_made-next : (b : Base) (H : List Tried) (w i : ℕ) → HasMade b.options H w i → i < b.options.moves → next_attempt b.options H w ≡ Some (record { number = i; again = 0 })
 unfolding next_attempt is_done
 has_made-next b H w i made h =
     let more : (b.options.moves == i) ≡ false = ne_eqb b.options.moves i (λ e. omega arith) in
     rw (made.done, more, made.attempt) refl
 
-pub has_made-all : (b : Base) (H : List Entry) (w : ℕ) → HasMade b.options H w b.options.moves → is_done b.options H w ≡ true
+pub has_made-all : (b : Base) (H : List Tried) (w : ℕ) → HasMade b.options H w b.options.moves → is_done b.options H w ≡ true
 unfolding is_done
 has_made-all b H w made = made.done ∙ eq-eqb b.options.moves b.options.moves refl
 
-pub has_made-other : (b : Base) (H : List Entry) (e : Entry) (w i : ℕ) → (e.worker ≡ w → ⊥) → HasMade b.options H w i → HasMade b.options (H ++ e ∷ []) w i
+pub has_made-other : (b : Base) (H : List Tried) (e : Tried) (w i : ℕ) → (e.worker ≡ w → ⊥) → HasMade b.options H w i → HasMade b.options (H ++ e ∷ []) w i
 has_made-other b H e w i other made =
     record { attempt = rw (last_by-other H e w other) made.attempt; done = rw (last_by-other H e w other) made.done }
 
@@ -151,7 +150,7 @@ same-test m n = elim (cases_eq m n) [
   | inr other ↦ rw (ne_eqb m n other, ne_eqb n m (λ e. other (sym e))) refl
 ]
 
-pub has_made-own : (b : Base) (H : List Entry) (e : Entry) (w i : ℕ) → e.worker ≡ w → e.number ≡ i → is_stale e.verdict ≡ false → i < b.options.moves → HasMade b.options (H ++ e ∷ []) w (i + 1)
+pub has_made-own : (b : Base) (H : List Tried) (e : Tried) (w i : ℕ) → e.worker ≡ w → e.number ≡ i → is_stale e.verdict ≡ false → i < b.options.moves → HasMade b.options (H ++ e ∷ []) w (i + 1)
 has_made-own b H e w i own number fresh h =
     let some : (b.options.moves == 0) ≡ false = ne_eqb b.options.moves 0 (λ z. omega arith) in
     let last = last_by-own H e w own in
@@ -165,7 +164,7 @@ has_made-own b H e w i own number fresh h =
     and-true false = refl
 
 -- a worker with a next attempt isn't done, and the attempt is what follows its last entry
-pub attempt-parts : (o : Options) (G : List Entry) (w : ℕ) (a : Attempt) → next_attempt o G w ≡ Some a → (is_done o G w ≡ false) × (attempt_after o (last_by w G) ≡ a)
+pub attempt-parts : (o : Options) (G : List Tried) (w : ℕ) (a : Attempt) → next_attempt o G w ≡ Some a → (is_done o G w ≡ false) × (attempt_after o (last_by w G) ≡ a)
 unfolding next_attempt
 attempt-parts o G w a = by_case (is_done o G w)
   where
@@ -175,23 +174,23 @@ attempt-parts o G w a = by_case (is_done o G w)
 
 -- ---- verdicts on what nobody came before
 
-none-changed : (I : Draft) (P : Timetable) (m : Move) (xs : List ℕ) → find (λ n. touches I P m (cell_at I n) && changed_since I P [] (cell_at I n)) xs ≡ None
+none-changed : (I : Draft) (P : Timetable) (m : List Move) (xs : List ℕ) → find (λ n. all_touch I P m (cell_at I n) && changed_since I P [] (cell_at I n)) xs ≡ None
 unfolding changed_since
 none-changed I P m [] = refl
-none-changed I P m (x ∷ xs) = rw (and-false (touches I P m (cell_at I x))) (none-changed I P m xs)
+none-changed I P m (x ∷ xs) = rw (and-false (all_touch I P m (cell_at I x))) (none-changed I P m xs)
   where
     and-false : (t : Bool) → (t && false) ≡ false
     and-false true = refl
     and-false false = refl
 
 -- frozen, too dear, or else accepted
-abbrev pub verdict_at_once : Base → Timetable → ℕ → Move → Bill → Verdict
+abbrev pub verdict_at_once : Base → Timetable → ℕ → List Move → Bill → Verdict
 verdict_at_once b P number m price =
     if is_frozen b P m then Frozen
     else if int_lt (theta b.options number) (score b.options.hard b.instance.weights price) then Declined
     else Accepted
 
-pub verdict_on-end : (b : Base) (H : List Entry) (number seen : ℕ) (m : Move) (price : Bill) → seen ≡ length H
+pub verdict_on-end : (b : Base) (H : List Tried) (number seen : ℕ) (m : List Move) (price : Bill) → seen ≡ length H
     → verdict_on b H number seen m price ≡ verdict_at_once b (plan_after b H) number m price
 unfolding verdict_on first_changed
 verdict_on-end b H number seen m price end =
@@ -199,7 +198,7 @@ verdict_on-end b H number seen m price end =
     let here = plan_at-end b H seen (omega arith) in
     rw (none, here, none-changed b.instance (plan_after b H) m (range_with_len 0 (cell_count b.instance))) refl
 
-pub verdict_at_once-fresh : (b : Base) (P : Timetable) (number : ℕ) (m : Move) (price : Bill) → is_stale (verdict_at_once b P number m price) ≡ false
+pub verdict_at_once-fresh : (b : Base) (P : Timetable) (number : ℕ) (m : List Move) (price : Bill) → is_stale (verdict_at_once b P number m price) ≡ false
 verdict_at_once-fresh b P number m price = by_case (is_frozen b P m) (int_lt (theta b.options number) (score b.options.hard b.instance.weights price))
   where
     by_case : (f d : Bool) → is_stale (if f then Frozen else if d then Declined else Accepted) ≡ false

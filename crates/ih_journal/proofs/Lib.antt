@@ -17,6 +17,7 @@ pub mod LineTexts
 pub mod LinesRead
 pub mod Literals
 pub mod LoneWorkers
+pub mod Mapped
 pub mod MoveTexts
 pub mod Numbers
 pub mod Parts

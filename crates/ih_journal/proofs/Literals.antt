@@ -1,11 +1,12 @@
 -- Literal bases, options and entries of the worked examples, one constructor each.
-use Rattle.std.proofs.Common.{ℕ}
+use Rattle.std.proofs.Common.{ℕ, [], ◌∷◌}
 use Rattle.std.specs.Prelude.{⊤}
 use Rattle.std.specs.Fmt.{digits}
 use Rattle.ih_tables.specs.declared.drafts.Draft.{Draft}
 use Rattle.ih_tables.specs.declared.bills.Bill.{Bill}
 use Rattle.ih_plan.specs.declared.moves.Move.{Move}
 use Rattle.ih_plan.specs.Timetable.{Timetable}
+use Rattle.ih_plan.specs.Series.{after_all, all_touch, expand_all, price_of_all}
 use Rattle.ih_plan.proofs.Prices.{draws_on_literals, moves_on_literals}
 use Rattle.ih_journal.specs.declared.settings.Options.{Options}
 use Rattle.ih_journal.specs.declared.entries.Entry.{Entry}
@@ -19,7 +20,7 @@ use Rattle.ih_journal.specs.Texts.{move_text, cell_text, fields, heading, lines_
 
 -- every definition that a worked example computes
 unfoldable pub history_on_literals : ⊤
-unfolding digits moves_on_literals draws_on_literals is_frozen last_by is_done next_attempt after_entries changed_since changes_since verdict_on first_changed move_text cell_text fields heading lines_from
+unfolding digits moves_on_literals draws_on_literals after_all all_touch expand_all is_frozen last_by is_done next_attempt after_entries changed_since changes_since verdict_on first_changed move_text cell_text fields heading lines_from
 history_on_literals = tt
 
 -- the options of a search with a hard weight of 1,000: seed, workers, moves, heat, retries
@@ -35,3 +36,7 @@ base I start freeze o = record { instance = I; start = start; options = o; freez
 abbrev pub entry : ℕ → ℕ → ℕ → ℕ → Move → Bill → Verdict → Entry
 entry worker number again seen mv price verdict =
     record { worker = worker; number = number; again = again; seen = seen; mv = mv; price = price; verdict = verdict }
+
+-- what one move costs
+abbrev pub price_of : Draft → Timetable → Move → Bill
+price_of I P m = price_of_all I P (m ∷ [])

@@ -11,6 +11,7 @@ use Rattle.ih_journal.specs.declared.settings.Options.{Options}
 use Rattle.ih_journal.specs.declared.entries.Entry.{Entry}
 use Rattle.ih_journal.specs.declared.entries.Verdict.TheVariants.{Accepted}
 use Rattle.ih_journal.specs.Base.{Base}
+use Rattle.ih_journal.specs.Tried.{Tried, tried, tries}
 use Rattle.ih_journal.specs.Attempts.{is_done}
 use Rattle.ih_journal.specs.History.{plan_at}
 use Rattle.ih_journal.specs.Legal.{IsLegal, AreLegal, IsFull}
@@ -44,13 +45,13 @@ pub first_score : score 1000 weights first_price ≡ negsuc 2987
 unfolding history_on_literals
 first_score = refl
 
-pub first_legal : IsLegal small_base [] first_entry
+pub first_legal : IsLegal small_base 1 [] (tried first_entry)
 unfolding history_on_literals
 first_legal = record {
   entry = record {
     worker = lit< tt;
     attempt = refl;
-    move = (lit< tt, lit< tt, lit< tt, lit≤ tt, lit≤ tt);
+    move = ((lit< tt, lit< tt, lit< tt, lit≤ tt, lit≤ tt), tt);
     seen = lit≤ tt;
     after_own = λ j f h w. absurd (let no : None ≡ Some f = h in cc);
     price = refl;
@@ -59,17 +60,17 @@ first_legal = record {
   drawn = refl;
 }
 
-only_first : (j : ℕ) (f : Entry) → slice_get (first_entry ∷ []) j ≡ Some f → j < 1
+only_first : (j : ℕ) (f : Tried) → slice_get (tried first_entry ∷ []) j ≡ Some f → j < 1
 only_first zero f h = lit< tt
 only_first (suc j) f h = absurd (let no : None ≡ Some f = h in cc)
 
-pub second_legal : IsLegal small_base (first_entry ∷ []) second_entry
+pub second_legal : IsLegal small_base 1 (tried first_entry ∷ []) (tried second_entry)
 unfolding history_on_literals
 second_legal = record {
   entry = record {
     worker = lit< tt;
     attempt = refl;
-    move = (lit< tt, lit< tt, lit< tt);
+    move = ((lit< tt, lit< tt, lit< tt), tt);
     seen = lit≤ tt;
     after_own = λ j f h w. only_first j f h;
     price = refl;
@@ -78,23 +79,23 @@ second_legal = record {
   drawn = refl;
 }
 
-both_legal : AreLegal small_base small_history
-both_legal zero e h = let same : first_entry ≡ e = cc in subst (IsLegal small_base []) same first_legal
-both_legal (suc zero) e h = let same : second_entry ≡ e = cc in subst (IsLegal small_base (first_entry ∷ [])) same second_legal
+both_legal : AreLegal small_base 1 (tries small_history)
+both_legal zero e h = let same : tried first_entry ≡ e = cc in subst (IsLegal small_base 1 []) same first_legal
+both_legal (suc zero) e h = let same : tried second_entry ≡ e = cc in subst (IsLegal small_base 1 (tried first_entry ∷ [])) same second_legal
 both_legal (suc (suc k)) e h = absurd (let no : None ≡ Some e = h in cc)
 
-all_done : (w : ℕ) → w < 1 → is_done small_options small_history w ≡ true
+all_done : (w : ℕ) → w < 1 → is_done small_options (tries small_history) w ≡ true
 unfolding history_on_literals
 all_done zero h = refl
 all_done (suc w) h = absurd (omega arith)
 
-pub small_full : IsFull small_base small_history
+pub small_full : IsFull small_base 1 (tries small_history)
 small_full = record { legal = both_legal; done = all_done }
 
 -- the bills of the three places: the start isn't feasible, and the other two cost 12
-pub small_bills : (bill_of B1 (plan_at small_base small_history 0) ≡ bill9 0 0 0 0 0 0 0 0 3 0 0 0 0 0 0 0 0)
-    × (cost_at small_base small_history 1 ≡ pos 12) × (cost_at small_base small_history 2 ≡ pos 12)
-    × (feasible (bill_of B1 (plan_at small_base small_history 1)) ≡ true)
+pub small_bills : (bill_of B1 (plan_at small_base (tries small_history) 0) ≡ bill9 0 0 0 0 0 0 0 0 3 0 0 0 0 0 0 0 0)
+    × (cost_at small_base (tries small_history) 1 ≡ pos 12) × (cost_at small_base (tries small_history) 2 ≡ pos 12)
+    × (feasible (bill_of B1 (plan_at small_base (tries small_history) 1)) ≡ true)
 unfolding history_on_literals
 small_bills = (refl, refl, refl, refl)
 
@@ -108,21 +109,21 @@ unfolding history_on_literals
 small_journal_with_tries = refl
 
 -- Place 1 is the best: the start isn't feasible, and place 2 costs as much.
-not_at_start : feasible (bill_of B1 (plan_at small_base small_history 0)) ≡ true → ⊥
+not_at_start : feasible (bill_of B1 (plan_at small_base (tries small_history) 0)) ≡ true → ⊥
 unfolding history_on_literals
 not_at_start h = let no : false ≡ true = h in cc
 
-cheapest : (j : ℕ) → j ≤ 2 → IsFeasibleAt small_base small_history j → cost_at small_base small_history 1 ≤ℤ cost_at small_base small_history j
+cheapest : (j : ℕ) → j ≤ 2 → IsFeasibleAt small_base (tries small_history) j → cost_at small_base (tries small_history) 1 ≤ℤ cost_at small_base (tries small_history) j
 unfolding history_on_literals
 cheapest zero h works = absurd (not_at_start works)
 cheapest (suc zero) h works = record { le = tt }
 cheapest (suc (suc zero)) h works = record { le = tt }
 cheapest (suc (suc (suc j))) h works = absurd (omega arith)
 
-first : (j : ℕ) → j < 1 → IsFeasibleAt small_base small_history j → cost_at small_base small_history 1 <ℤ cost_at small_base small_history j
+first : (j : ℕ) → j < 1 → IsFeasibleAt small_base (tries small_history) j → cost_at small_base (tries small_history) 1 <ℤ cost_at small_base (tries small_history) j
 first zero h works = absurd (not_at_start works)
 first (suc j) h works = absurd (omega arith)
 
-pub small_best : IsBest small_base small_history 1
+pub small_best : IsBest small_base (tries small_history) 1
 unfolding history_on_literals
 small_best = record { place = lit≤ tt; works = refl; cheapest = cheapest; first = first }

@@ -51,7 +51,10 @@ joined-length c (w ∷ v ∷ ws) (x ∷ y ∷ ys) fit =
 
 -- ---- numbers
 
--- numbers of at most four digits
+-- numbers of at most two digits, of four and of seven
+pub number2 : (n : ℕ) → n < 10 ^ 2 → length (decimal n) ≤ 2
+number2 n h = length-decimal-le 2 n (omega arith) h (omega (arith, h))
+
 number4 : (n : ℕ) → n < 10 ^ 4 → length (decimal n) ≤ 4
 number4 n h = length-decimal-le 4 n (omega arith) h (omega (arith, h))
 
@@ -122,7 +125,7 @@ abbrev pub IsShortVerdict : Draft → Verdict → Type 0
 IsShortVerdict I (Stale c seen place) = IsCellOf I c × (seen < 10 ^ 7) × (place < 10 ^ 7)
 IsShortVerdict I v = Unit {0}
 
-verdict-length : (I : Draft) (v : Verdict) → IsLimited I → IsShortVerdict I v → length (verdict_text v) ≤ 42
+pub verdict-length : (I : Draft) (v : Verdict) → IsLimited I → IsShortVerdict I v → length (verdict_text v) ≤ 42
 verdict-length I Accepted l h = omega arith
 verdict-length I Declined l h = omega arith
 verdict-length I Frozen l h = omega arith
@@ -142,6 +145,9 @@ price_widths = 6 ∷ 6 ∷ 10 ∷ 10 ∷ 6 ∷ 6 ∷ 9 ∷ 6 ∷ 6 ∷ 13 ∷ 13
 abbrev pub IsShortPrice : Bill → Type 0
 IsShortPrice b = Fit price_widths (map signed_decimal (b.v ++ b.s))
 
+pub price-length : (b : Bill) → IsShortPrice b → length (price_text b) ≤ 154
+price-length b h = let all = joined-length 44 price_widths (map signed_decimal (b.v ++ b.s)) h in omega (arith, all)
+
 pub record IsShortEntry (I : Draft) (k : ℕ) (e : Entry) : Type 0 where
   pub place : k < 10 ^ 7
   pub worker : e.worker < 10 ^ 2
@@ -158,10 +164,10 @@ unfolding fields
 line-length I o k e l short = by_form o.retries
   where
     price : length (price_text e.price) ≤ 154
-    price = let all = joined-length 44 price_widths (map signed_decimal (e.price.v ++ e.price.s)) short.price in omega (arith, all)
+    price = price-length e.price short.price
 
     two : length (decimal e.worker) ≤ 2
-    two = let h = short.worker in length-decimal-le 2 e.worker (omega arith) h (omega (arith, h))
+    two = number2 e.worker short.worker
 
     one : length (decimal e.again) ≤ 1
     one = let h = short.again in length-decimal-le 1 e.again (omega arith) (omega (arith, h)) (omega (arith, h))
@@ -181,7 +187,7 @@ line-length I o k e l short = by_form o.retries
 
 -- ---- journals
 
-ended-length : (text : List ℕ) → length (ended text) ≡ length text + 1
+pub ended-length : (text : List ℕ) → length (ended text) ≡ length text + 1
 ended-length text = length-append text (10 ∷ [])
 
 pub lines-length : (I : Draft) (o : Options) (k : ℕ) (H : List Entry) → IsLimited I → ((j : ℕ) (e : Entry) → slice_get H j ≡ Some e → IsShortEntry I (k + j) e)
@@ -196,11 +202,40 @@ lines-length I o k (e ∷ es) l short =
     let all = length-append (ended (line_text o k e)) (lines_from o (k + 1) es) in
     omega (arith, first, end, rest, all)
 
-option-length : (name : List ℕ) (w n : ℕ) → 0 < w → n < 10 ^ w → n < 2 ^ 64 → length (option_text name n) ≤ length name + (1 + w)
+pub option-length : (name : List ℕ) (w n : ℕ) → 0 < w → n < 10 ^ w → n < 2 ^ 64 → length (option_text name n) ≤ length name + (1 + w)
 option-length name w n some h small =
     let number = length-decimal-le w n some h small in
     let all = length-append name (61 ∷ decimal n) in
     omega (arith, number, all)
+
+-- the options of a heading
+module _ (o : Options) (lawful : IsLawful o) (seed : o.seed < 2 ^ 64) where
+  pub seed-length : length (option_text (codes "seed") o.seed) ≤ 25
+  seed-length = let n = option-length (codes "seed") 20 o.seed (omega arith) (omega (arith, seed)) seed in omega (arith, n)
+
+  pub workers-length : length (option_text (codes "workers") o.workers) ≤ 15
+  workers-length =
+      let most = lawful.workers in
+      let n = option-length (codes "workers") 7 o.workers (omega arith) (omega (arith, most)) (omega (arith, most)) in
+      omega (arith, n)
+
+  pub moves-length : length (option_text (codes "moves") o.moves) ≤ 13
+  moves-length =
+      let most = lawful.moves in
+      let n = option-length (codes "moves") 7 o.moves (omega arith) (omega (arith, most)) (omega (arith, most)) in
+      omega (arith, n)
+
+  pub heat-length : length (option_text (codes "heat") o.heat) ≤ 12
+  heat-length =
+      let most = lawful.heat in
+      let n = option-length (codes "heat") 7 o.heat (omega arith) (omega (arith, most)) (omega (arith, most)) in
+      omega (arith, n)
+
+  pub hard-length : length (option_text (codes "hard") o.hard) ≤ 12
+  hard-length =
+      let most = lawful.hard in
+      let n = option-length (codes "hard") 7 o.hard (omega arith) (omega (arith, most)) (omega (arith, most)) in
+      omega (arith, n)
 
 heading-length : (o : Options) → IsLawful o → o.seed < 2 ^ 64 → length (heading o) ≤ 127
 unfolding heading
@@ -210,19 +245,19 @@ heading-length o lawful seed = by_form o.retries lawful.retries
     title = omega arith
 
     seeds : length (option_text (codes "seed") o.seed) ≤ 25
-    seeds = let n = option-length (codes "seed") 20 o.seed (omega arith) (omega (arith, seed)) seed in omega (arith, n)
+    seeds = seed-length o lawful seed
 
     workers : length (option_text (codes "workers") o.workers) ≤ 15
-    workers = let most = lawful.workers in let n = option-length (codes "workers") 7 o.workers (omega arith) (omega (arith, most)) (omega (arith, most)) in omega (arith, n)
+    workers = workers-length o lawful seed
 
     moves : length (option_text (codes "moves") o.moves) ≤ 13
-    moves = let most = lawful.moves in let n = option-length (codes "moves") 7 o.moves (omega arith) (omega (arith, most)) (omega (arith, most)) in omega (arith, n)
+    moves = moves-length o lawful seed
 
     heat : length (option_text (codes "heat") o.heat) ≤ 12
-    heat = let most = lawful.heat in let n = option-length (codes "heat") 7 o.heat (omega arith) (omega (arith, most)) (omega (arith, most)) in omega (arith, n)
+    heat = heat-length o lawful seed
 
     hard : length (option_text (codes "hard") o.hard) ≤ 12
-    hard = let most = lawful.hard in let n = option-length (codes "hard") 7 o.hard (omega arith) (omega (arith, most)) (omega (arith, most)) in omega (arith, n)
+    hard = hard-length o lawful seed
 
     by_form : (r : ℕ) → r ≤ 7 → length (join_with_byte 32 (codes "ihjournal" ∷ version_text r ∷ option_text (codes "seed") o.seed ∷ option_text (codes "workers") o.workers
         ∷ option_text (codes "moves") o.moves ∷ option_text (codes "heat") o.heat ∷ option_text (codes "hard") o.hard ∷ retries_field r)) ≤ 127

@@ -1,5 +1,5 @@
--- Choices of days before the freeze day, which no accepted move changes.
-use Rattle.std.specs.Prelude.{◌≡◌, ℕ, ◌<◌, nat_lt, Bool, true, false, ◌||◌, Option, Some, None}
+-- Choices of days before the freeze day, which no accepted attempt changes.
+use Rattle.std.specs.Prelude.{◌≡◌, ℕ, ◌<◌, nat_lt, Bool, true, false, ◌||◌, List, Option, Some, None}
 use Rattle.std.specs.List.{list_any}
 use Rattle.ih_tables.specs.Sizes.{room_count, shift_count}
 use Rattle.ih_plan.specs.declared.moves.Placement.{Placement}
@@ -8,7 +8,7 @@ use Rattle.ih_plan.specs.declared.moves.Write.TheVariants.{SetStay, SetCare}
 use Rattle.ih_plan.specs.declared.moves.Move.{Move}
 use Rattle.ih_plan.specs.Timetable.{Timetable, stay_of, choice_of}
 use Rattle.ih_plan.specs.Presence.{day_of}
-use Rattle.ih_plan.specs.Expand.{expand}
+use Rattle.ih_plan.specs.Series.{expand_all}
 use Rattle.ih_journal.specs.Base.{Base}
 
 -- a stay that begins before the freeze day
@@ -22,9 +22,9 @@ abbrev pub is_frozen_write : Timetable → ℕ → Write → Bool
 is_frozen_write start freeze (SetStay p new) = is_before freeze (stay_of start p.0) || is_before freeze new
 is_frozen_write start freeze (SetCare r k n) = nat_lt (day_of k.0) freeze
 
--- one of the move's writes at a timetable is frozen
-unfoldable pub is_frozen : Base → Timetable → Move → Bool
-is_frozen b P m = list_any (is_frozen_write b.start b.freeze) (expand b.instance P m)
+-- one of the writes of the moves in a row at a timetable is frozen
+unfoldable pub is_frozen : Base → Timetable → List Move → Bool
+is_frozen b P ms = list_any (is_frozen_write b.start b.freeze) (expand_all b.instance P ms)
 
 -- The timetable agrees with the start on the frozen choices.
 pub record AgreesBefore (b : Base) (P : Timetable) : Type 0 where

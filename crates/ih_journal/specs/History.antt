@@ -3,10 +3,9 @@ use Rattle.std.specs.Prelude.{ℕ, ◌+◌, ◌&&◌, ◌||◌, Bool, true, fals
 use Rattle.ih_tables.specs.declared.drafts.Draft.{Draft}
 use Rattle.ih_tables.specs.declared.cells.Cell.{Cell}
 use Rattle.ih_plan.specs.Timetable.{Timetable}
-use Rattle.ih_plan.specs.Expand.{after}
-use Rattle.ih_plan.specs.Footprint.{touches}
 use Rattle.ih_plan.specs.Sums.{bit}
-use Rattle.ih_journal.specs.declared.entries.Entry.{Entry}
+use Rattle.ih_plan.specs.Series.{after_all, all_touch}
+use Rattle.ih_journal.specs.Tried.{Tried}
 use Rattle.ih_journal.specs.declared.entries.Verdict.{Verdict}
 use Rattle.ih_journal.specs.declared.entries.Verdict.TheVariants.{Accepted}
 use Rattle.ih_journal.specs.Base.{Base}
@@ -16,36 +15,36 @@ is_accepted Accepted = true
 is_accepted v = false
 
 -- the timetable after an entry
-abbrev pub after_entry : Draft → Timetable → Entry → Timetable
-after_entry I P e = if is_accepted e.verdict then after I P e.mv else P
+abbrev pub after_entry : Draft → Timetable → Tried → Timetable
+after_entry I P e = if is_accepted e.verdict then after_all I P e.moves else P
 
 -- the timetable after entries that follow P
-unfoldable pub after_entries : Draft → Timetable → List Entry → Timetable
+unfoldable pub after_entries : Draft → Timetable → List Tried → Timetable
 after_entries I P [] = P
 after_entries I P (e ∷ es) = after_entries I (after_entry I P e) es
 
 -- the timetable after the whole list of entries
-abbrev pub plan_after : Base → List Entry → Timetable
+abbrev pub plan_after : Base → List Tried → Timetable
 plan_after b H = after_entries b.instance b.start H
 
 -- the timetable after the first k entries
-abbrev pub plan_at : Base → List Entry → ℕ → Timetable
+abbrev pub plan_at : Base → List Tried → ℕ → Timetable
 plan_at b H k = plan_after b (take k H)
 
 -- an entry at timetable P is accepted and touches the cell
-abbrev pub changes : Draft → Timetable → Entry → Cell → Bool
-changes I P e c = is_accepted e.verdict && touches I P e.mv c
+abbrev pub changes : Draft → Timetable → Tried → Cell → Bool
+changes I P e c = is_accepted e.verdict && all_touch I P e.moves c
 
 -- some of the entries that follow P is accepted and touches the cell
-unfoldable pub changed_since : Draft → Timetable → List Entry → Cell → Bool
+unfoldable pub changed_since : Draft → Timetable → List Tried → Cell → Bool
 changed_since I P [] c = false
 changed_since I P (e ∷ es) c = changes I P e c || changed_since I (after_entry I P e) es c
 
 -- how many of the entries that follow P are accepted and touch the cell
-unfoldable pub changes_since : Draft → Timetable → List Entry → Cell → ℕ
+unfoldable pub changes_since : Draft → Timetable → List Tried → Cell → ℕ
 changes_since I P [] c = 0
 changes_since I P (e ∷ es) c = bit (changes I P e c) + changes_since I (after_entry I P e) es c
 
 -- the version of a cell after the whole list
-abbrev pub version : Base → List Entry → Cell → ℕ
+abbrev pub version : Base → List Tried → Cell → ℕ
 version b H c = changes_since b.instance b.start H c

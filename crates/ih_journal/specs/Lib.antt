@@ -10,3 +10,4 @@ pub mod Names
 pub mod Pieces
 pub mod Settings
 pub mod Texts
+pub mod Tried

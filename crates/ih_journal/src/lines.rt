@@ -12,8 +12,8 @@ use crate::writing::{put_byte, put_number};
 use itoa::Buffer;
 use std::alloc::{AllocError, Global};
 
-// An option with a space before it.
-fn put_option(out: &mut String, name: &str, n: u64) -> Result<(), AllocError>
+/// Appends an option with a space before it.
+pub fn put_option(out: &mut String, name: &str, n: u64) -> Result<(), AllocError>
     ensures { OnOk result (string_bytes out.new ≡ string_bytes out.old ++ 32 ∷ option_text name.now n) }
 {
     out.push_str(" ")?;

@@ -156,6 +156,15 @@ pub fn price_text(price: &Bill, out: &mut Vec<u8>) -> Result<(), AllocError>
     out.extend_from_slice(&room[..len])
 }
 
+/// Appends the text of a verdict.
+pub fn verdict_text(verdict: &Verdict, out: &mut Vec<u8>) -> Result<(), AllocError>
+    ensures { OnOk result (out.new.items ≡ out.old.items ++ verdict_text verdict.now) }
+{
+    let mut room = [0; 100];
+    let len = put_verdict(&mut room, 0, verdict);
+    out.extend_from_slice(&room[..len])
+}
+
 /// Appends the text of a move. After want of memory `out` holds what it held, followed by a prefix of that text.
 #[tactic(auto, using(crate::proofs::Parts::part_none))]
 pub fn text(mv: &Move, out: &mut Vec<u8>) -> Result<(), AllocError>

@@ -14,3 +14,5 @@ pub mod Ranges
 pub mod Rows
 pub mod SumBounds
 pub mod SumLemmas
+pub mod ChangeSums
+pub mod Series

@@ -2,7 +2,7 @@
 use Rattle.std.proofs.Common.{◌≡◌, ℕ, ◌+◌, ◌<◌, ◌≤◌, refl, arith, ap, ◌∙◌, inl, inr, Bool, true, false, List, Option, Some, None}
 use Rattle.std.specs.Prelude.{if◌then◌else◌, ◌&&◌, ◌==◌, not, option_map}
 use Rattle.std.proofs.lemmas.Bool.{cases_eq, ne_eqb}
-use Rattle.ih_journal.specs.declared.entries.Entry.{Entry}
+use Rattle.ih_journal.specs.Tried.{Tried}
 use Rattle.ih_journal.specs.declared.settings.Options.{Options}
 use Rattle.ih_journal.specs.Attempts.{Attempt, attempt_after, is_done, is_done_after, is_retried, last_by, next_attempt}
 use Rattle.ih_journal.specs.Base.{Base}
@@ -10,10 +10,10 @@ use Rattle.ih_cellbook.specs.Legal.{AreLegalButDraws}
 use Rattle.ih_cellbook.specs.Offers.{next_number}
 use Rattle.ih_cellbook.proofs.Few.{next-below}
 
-pub number-of : (o : Options) (H : List Entry) (w : ℕ) (a : Attempt) → next_attempt o H w ≡ Some a → next_number o H w ≡ Some a.number
+pub number-of : (o : Options) (H : List Tried) (w : ℕ) (a : Attempt) → next_attempt o H w ≡ Some a → next_number o H w ≡ Some a.number
 number-of o H w a e = ap (option_map (λ (a : Attempt). a.number)) e
 
-done-most : (o : Options) (l : Option Entry) → is_done_after o l ≡ true → o.moves ≤ (attempt_after o l).number
+done-most : (o : Options) (l : Option Tried) → is_done_after o l ≡ true → o.moves ≤ (attempt_after o l).number
 done-most o None h = elim (cases_eq o.moves 0) [
   | inl none ↦ omega (arith, none)
   | inr some ↦ absurd (let no : false ≡ true = rw (ne_eqb o.moves 0 some) at h in cc)
@@ -34,11 +34,11 @@ done-most o (Some e) h = elim (cases_eq o.moves 0) [
       | inr other ↦ absurd (let no : false ≡ true = rw (ne_eqb (e.number + 1) o.moves other) at h in cc)
     ]
 
-pub attempt-going : (o : Options) (H : List Entry) (w : ℕ) → is_done o H w ≡ false → next_attempt o H w ≡ Some (attempt_after o (last_by w H))
+pub attempt-going : (o : Options) (H : List Tried) (w : ℕ) → is_done o H w ≡ false → next_attempt o H w ≡ Some (attempt_after o (last_by w H))
 unfolding next_attempt
 attempt-going o H w going = rw going refl
 
-module _ (b : Base) (H : List Entry) (w n again : ℕ) (legal : AreLegalButDraws b H) (next : attempt_after b.options (last_by w H) ≡ record { number = n; again = again }) where
+module _ (b : Base) (H : List Tried) (w n again : ℕ) (legal : AreLegalButDraws b H) (next : attempt_after b.options (last_by w H) ≡ record { number = n; again = again }) where
   pub going-below : is_done b.options H w ≡ false → n < b.options.moves
   going-below going =
       let attempt = attempt-going b.options H w going ∙ ap (λ (a : Attempt). Some a) next in

@@ -3,6 +3,7 @@ use Rattle.std.proofs.Common.{◌≡◌, ℕ, ◌<◌, ◌≤◌, ◌^◌, refl,
 use Rattle.std.specs.List.{AllByRecursion}
 use Rattle.ih_plan.specs.Draws.{move_of}
 use Rattle.ih_journal.specs.declared.entries.Entry.{Entry}
+use Rattle.ih_journal.specs.Tried.{Tried}
 use Rattle.ih_journal.specs.declared.refusals.Reason.TheVariants.{Worker, Number, Try, Seen, Move}
 use Rattle.ih_journal.specs.Attempts.{Attempt, next_attempt}
 use Rattle.ih_journal.specs.Base.{Base}
@@ -22,7 +23,7 @@ some-same m n h = cc
 same-attempt : (a b : Attempt) → Some a ≡ Some b → a ≡ b
 same-attempt a b h = cc
 
-module _ (b : Base) (H : List Entry) (e : Entry) (x : Workers) (legal : AreLegal b H) (kept : IsWorkerIn b H e.worker x) (known : e.worker < b.options.workers) where
+module _ (b : Base) (H : List Tried) (e : Entry) (x : Workers) (legal : AreLegal b 1 H) (kept : IsWorkerIn b H e.worker x) (known : e.worker < b.options.workers) where
   next : x.number < b.options.moves → next_attempt b.options H e.worker ≡ Some (record { number = x.number; again = x.again })
   next below = next-is b H e.worker x.number x.again (legal-but b H legal) kept.attempt below
 

@@ -1,6 +1,5 @@
 mod Attempts
 mod Checking
-mod EntrySteps
 mod Firsts
 mod Going
 mod Journals
@@ -9,3 +8,4 @@ mod Offering
 mod Passing
 mod Reaching
 mod Refusing
+mod Singles

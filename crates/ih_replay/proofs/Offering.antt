@@ -3,50 +3,67 @@ use Rattle.std.proofs.Common.{◌≡◌, ℕ, zero, suc, ◌+◌, ◌<◌, refl,
 use Rattle.std.specs.Prelude.{slice_get}
 use Rattle.std.specs.List.{AllByRecursion}
 use Rattle.ih_plan.specs.Expand.{IsMoveOf}
+use Rattle.ih_plan.specs.Series.{price_of_all}
+use Rattle.ih_plan.specs.declared.moves.Move.{Move}
 use Rattle.ih_journal.specs.declared.entries.Entry.{Entry}
+use Rattle.ih_journal.specs.Tried.{Tried, tried}
 use Rattle.ih_journal.specs.declared.entries.Verdict.{Verdict as Verdicts}
 use Rattle.ih_journal.specs.Attempts.{Attempt, attempt_after, last_by}
 use Rattle.ih_journal.specs.Base.{Base}
 use Rattle.ih_journal.specs.History.{plan_at}
-use Rattle.ih_journal.specs.Legal.{IsLegal, price_of, verdict_on}
+use Rattle.ih_journal.proofs.Mapped.{attempt-one}
+use Rattle.ih_journal.specs.Legal.{IsLegal, verdict_on}
 use Rattle.ih_cellbook.specs.declared.offers.Offer.{Offer}
+use Rattle.ih_cellbook.specs.Offered.{Offered}
 use Rattle.ih_cellbook.specs.Laws.{HasNoneBy}
 use Rattle.ih_cellbook.specs.Offers.{HasSeenOwn, IsRightOffer, entry_of, next_number}
 use Rattle.ih_cellbook.proofs.Committing.{attempt-is}
-use Rattle.ih_snapshot.specs.Replicas.{IsOfferAfter, IsOfferOf, IsReplicaIn, IsRightFor}
-use Rattle.ih_snapshot.specs.Snapshot.{Snapshot}
-use Rattle.ih_snapshot.proofs.Within.{offered-right}
+use Rattle.ih_cellbook.specs.Replicas.{IsOfferAfter, IsOfferOf, IsReplicaIn, IsRightFor}
+use Rattle.ih_cellbook.specs.Snapshot.{Snapshot}
+use Rattle.ih_cellbook.proofs.Within.{offered-right}
 use Rattle.ih_replay.specs.Refusals.{FitsIn, of_attempt, of_entry}
 
 -- ---- entries of which each check holds
 
-pub legal-of : (b : Base) (H : List Entry) (e : Entry) → IsMoveOf b.instance e.mv → AllByRecursion (FitsIn b H (length H) e) of_entry → IsLegal b H e
+pub legal-of : (b : Base) (H : List Tried) (e : Entry) → IsMoveOf b.instance e.mv → AllByRecursion (FitsIn b H (length H) e) of_entry → IsLegal b 1 H (tried e)
 legal-of b H e fits all = record {
   entry = record {
     worker = all.0.0;
     attempt = all.1.1.0;
-    move = fits;
+    move = (fits, tt);
     seen = all.1.1.1.0.0;
     after_own = all.1.1.1.0.1;
     price = all.1.1.1.1.1.0;
     verdict = all.1.1.1.1.1.1.0;
   };
-  drawn = all.1.1.1.1.0;
+  drawn = ap (λ (m : Move). m ∷ []) all.1.1.1.1.0 ∙ sym (attempt-one b e.worker e.number);
 }
 
 -- ---- the offer
 
-get-behind : (H : List Entry) (n k : ℕ) → slice_get (drop n H) k ≡ slice_get H (n + k)
+-- what an offer of one move stands for
+abbrev pub offered-of : Offer → Offered
+offered-of o = record {
+  worker = o.worker;
+  number = o.number;
+  seen = o.seen;
+  moves = o.mv ∷ [];
+  price = o.price;
+  reads = o.reads;
+  frozen = o.frozen;
+}
+
+get-behind : (H : List Tried) (n k : ℕ) → slice_get (drop n H) k ≡ slice_get H (n + k)
 get-behind H zero k = let same : k ≡ 0 + k = omega arith in ap (slice_get H) same
 get-behind [] (suc n) k = refl
 get-behind (x ∷ xs) (suc n) k = let more : suc (n + k) ≡ suc n + k = omega arith in get-behind xs n k ∙ ap (slice_get (x ∷ xs)) more
 
-none-behind : (H : List Entry) (w n : ℕ) → HasSeenOwn H w n → HasNoneBy w (drop n H)
+none-behind : (H : List Tried) (w n : ℕ) → HasSeenOwn H w n → HasNoneBy w (drop n H)
 none-behind H w n seen k e there own = let less = seen (n + k) e (sym (get-behind H n k) ∙ there) own in absurd (omega (arith, less))
 
-module _ (b : Base) (H : List Entry) (r : Snapshot) (stands : IsReplicaIn b H r) (e : Entry) (o : Offer) (offered : IsOfferOf r e.number e.mv o)
+module _ (b : Base) (H : List Tried) (r : Snapshot) (stands : IsReplicaIn b H r) (e : Entry) (o : Offered) (offered : IsOfferOf r e.number (e.mv ∷ []) o)
     (at : r.seen ≡ e.seen) (own : r.worker ≡ e.worker) (all : AllByRecursion (FitsIn b H (length H) e) of_attempt) where
-  there : IsOfferAfter b (take r.seen H) r.worker e.number e.mv o
+  there : IsOfferAfter b (take r.seen H) r.worker e.number (e.mv ∷ []) o
   there = offered b (take r.seen H) stands
 
   worker-is : o.worker ≡ e.worker
@@ -55,19 +72,19 @@ module _ (b : Base) (H : List Entry) (r : Snapshot) (stands : IsReplicaIn b H r)
   seen-is : o.seen ≡ e.seen
   seen-is = there.seen ∙ sym stands.seen ∙ at
 
-  pub price-is : o.price ≡ price_of b.instance (plan_at b H e.seen) e.mv
-  price-is = there.price ∙ ap (λ n. price_of b.instance (plan_at b H n) e.mv) at
+  pub price-is : o.price ≡ price_of_all b.instance (plan_at b H e.seen) (e.mv ∷ [])
+  price-is = there.price ∙ ap (λ n. price_of_all b.instance (plan_at b H n) (e.mv ∷ [])) at
 
   pub right-is : IsRightFor r e.number o → IsRightOffer b H o
   right-is right =
-      offered-right b H r stands e.number e.mv o offered right (
+      offered-right b H r stands e.number (e.mv ∷ []) o offered right (
         subst (λ w. w < b.options.workers) (sym worker-is) all.0.0,
         ap (next_number b.options H) worker-is ∙ all.1.0 ∙ ap (λ n. Some n) (sym there.number),
         subst (λ w. HasNoneBy w (drop o.seen H)) (sym worker-is) (subst (λ n. HasNoneBy e.worker (drop n H)) (sym seen-is) (none-behind H e.worker e.seen all.1.1.1.0.1)),
       )
 
   -- the verdict on the offer is that on the entry, where its price is
-  pub judged-as : o.price ≡ e.price → verdict_on b H o.number o.seen o.mv o.price ≡ verdict_on b H e.number e.seen e.mv e.price
+  pub judged-as : o.price ≡ e.price → verdict_on b H o.number o.seen o.moves o.price ≡ verdict_on b H e.number e.seen (e.mv ∷ []) e.price
   judged-as price = rw (there.number, seen-is, there.move, price) refl
 
   again-is : (attempt_after b.options (last_by e.worker H)).again ≡ e.again
@@ -79,5 +96,5 @@ module _ (b : Base) (H : List Entry) (r : Snapshot) (stands : IsReplicaIn b H r)
       some-again : (x y n : ℕ) → Some (let a : Attempt = record { number = n; again = x } in a) ≡ Some (record { number = n; again = y }) → x ≡ y
       some-again x y n h = let same : (let a : Attempt = record { number = n; again = x } in a) ≡ record { number = n; again = y } = cc in ap (λ (a : Attempt). a.again) same
 
-  pub entry-is : (v : Verdicts) → v ≡ e.verdict → o.price ≡ e.price → entry_of b H o v ≡ e
+  pub entry-is : (v : Verdicts) → v ≡ e.verdict → o.price ≡ e.price → entry_of b H o v ≡ tried e
   entry-is v verdict price = rw (worker-is, there.number, again-is, seen-is, there.move, price, verdict) refl

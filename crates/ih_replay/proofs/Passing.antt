@@ -7,7 +7,7 @@ use Rattle.ih_tables.specs.declared.drafts.Draft.{Draft}
 use Rattle.ih_plan.specs.Draws.{draw_at, move_of, state_after, stream_at, stream_state}
 use Rattle.ih_plan.proofs.Entries.{slice_get-set_other, slice_get-set_same}
 use Rattle.ih_moves.proofs.Streams.{stream-next}
-use Rattle.ih_journal.specs.declared.entries.Entry.{Entry}
+use Rattle.ih_journal.specs.Tried.{Tried}
 use Rattle.ih_journal.specs.declared.settings.Options.{Options}
 use Rattle.ih_journal.specs.declared.refusals.Reason.{Reason}
 use Rattle.ih_journal.specs.Attempts.{attempt_after, is_retried, last_by}
@@ -15,33 +15,33 @@ use Rattle.ih_journal.specs.Base.{Base}
 use Rattle.ih_journal.specs.Legal.{AreLegal, IsLegal}
 use Rattle.ih_journal.proofs.Growth.{get-more, last_by-other, last_by-own, legal-more, length-more}
 use Rattle.ih_cellbook.specs.Offers.{HasSeenOwn}
-use Rattle.ih_snapshot.specs.Replicas.{IsReplicaIn, IsReplicaOf}
-use Rattle.ih_snapshot.specs.Snapshot.{Snapshot}
-use Rattle.ih_snapshot.proofs.Within.{stands-behind}
+use Rattle.ih_cellbook.specs.Replicas.{IsReplicaIn, IsReplicaOf}
+use Rattle.ih_cellbook.specs.Snapshot.{Snapshot}
+use Rattle.ih_cellbook.proofs.Within.{stands-behind}
 use Rattle.ih_replay.specs.declared.workers.Worker.{Worker}
 use Rattle.ih_replay.specs.Keeping.{IsReplayed, IsWorkerIn, passed}
 
 -- ---- what a worker must have seen
 
-get-last : (H : List Entry) (e : Entry) → slice_get (H ++ e ∷ []) (length H) ≡ Some e
+get-last : (H : List Tried) (e : Tried) → slice_get (H ++ e ∷ []) (length H) ≡ Some e
 get-last [] e = refl
 get-last (x ∷ xs) e = get-last xs e
 
-get-front : (H : List Entry) (e f : Entry) (k : ℕ) → slice_get H k ≡ Some f → slice_get (H ++ e ∷ []) k ≡ Some f
+get-front : (H : List Tried) (e f : Tried) (k : ℕ) → slice_get H k ≡ Some f → slice_get (H ++ e ∷ []) k ≡ Some f
 get-front [] e f k h = absurd (let no : None ≡ Some f = h in cc)
 get-front (x ∷ xs) e f zero h = h
 get-front (x ∷ xs) e f (suc k) h = get-front xs e f k h
 
-seen-other : (H : List Entry) (e : Entry) (w n : ℕ) → (e.worker ≡ w → ⊥) → HasSeenOwn H w n ↔ HasSeenOwn (H ++ e ∷ []) w n
+seen-other : (H : List Tried) (e : Tried) (w n : ℕ) → (e.worker ≡ w → ⊥) → HasSeenOwn H w n ↔ HasSeenOwn (H ++ e ∷ []) w n
 seen-other H e w n other = (
   λ seen j f there own. elim (get-more H e f j there) [
     | inl earlier ↦ seen j f earlier.1 own
-    | inr last ↦ absurd (other (ap (λ (g : Entry). g.worker) last.1 ∙ own))
+    | inr last ↦ absurd (other (ap (λ (g : Tried). g.worker) last.1 ∙ own))
   ],
   λ seen j f there own. seen j f (get-front H e f j there) own,
 )
 
-seen-own : (H : List Entry) (e : Entry) (n : ℕ) → (length H + 1 ≤ n) ↔ HasSeenOwn (H ++ e ∷ []) e.worker n
+seen-own : (H : List Tried) (e : Tried) (n : ℕ) → (length H + 1 ≤ n) ↔ HasSeenOwn (H ++ e ∷ []) e.worker n
 seen-own H e n = (
   λ most j f there own. elim (get-more H e f j there) [
     | inl earlier ↦ (let less = earlier.0 in omega (arith, less, most))
@@ -56,7 +56,7 @@ seen-none w n = (λ h j f there own. absurd (let no : None ≡ Some f = there in
 -- ---- one worker
 
 -- a replica that stands for the empty history stands for the beginning of any
-pub empty-in : (b : Base) (H : List Entry) (s : Snapshot) → IsReplicaOf b [] s → IsReplicaIn b H s
+pub empty-in : (b : Base) (H : List Tried) (s : Snapshot) → IsReplicaOf b [] s → IsReplicaIn b H s
 empty-in b H s stands = subst (λ n. IsReplicaOf b (take n H) s) (sym stands.seen) stands
 
 -- an opened stream has drawn nothing
@@ -76,7 +76,7 @@ worker-none b w x stands own number again front draw stream = record {
   front = λ n. rw front (seen-none w n);
 }
 
-pub worker-other : (b : Base) (H : List Entry) (e : Entry) (w : ℕ) (x : Worker) → (e.worker ≡ w → ⊥) → IsWorkerIn b H w x → IsWorkerIn b (H ++ e ∷ []) w x
+pub worker-other : (b : Base) (H : List Tried) (e : Tried) (w : ℕ) (x : Worker) → (e.worker ≡ w → ⊥) → IsWorkerIn b H w x → IsWorkerIn b (H ++ e ∷ []) w x
 worker-other b H e w x other kept = record {
   replica = stands-behind b H x.replica kept.replica (e ∷ []);
   own = kept.own;
@@ -90,7 +90,7 @@ worker-other b H e w x other kept = record {
 }
 
 -- another replica that stands in the same history, or in one that is equal
-pub worker-moved : (b c : Base) (H G : List Entry) (w : ℕ) (x : Worker) (s : Snapshot) → IsWorkerIn b H w x → c ≡ b → G ≡ H → IsReplicaIn c G s → s.worker ≡ w
+pub worker-moved : (b c : Base) (H G : List Tried) (w : ℕ) (x : Worker) (s : Snapshot) → IsWorkerIn b H w x → c ≡ b → G ≡ H → IsReplicaIn c G s → s.worker ≡ w
     → IsWorkerIn c G w (record x { replica = s })
 worker-moved b c H G w x s kept base same stands own =
     let y : Worker = record x { replica = s } in
@@ -103,7 +103,7 @@ unfolding move_of
 move-next I seed w i s e = ap (draw_at I) e
 
 -- the worker whose entry it is goes on to what follows
-module _ (b : Base) (H : List Entry) (e : Entry) (x : Worker) (number : e.number ≡ x.number) (again : e.again ≡ x.again)
+module _ (b : Base) (H : List Tried) (e : Tried) (x : Worker) (number : e.number ≡ x.number) (again : e.again ≡ x.again)
     (draw : x.draw ≡ move_of b.instance b.options.seed e.worker x.number) (stream : x.stream ≡ stream_at b.options.seed e.worker (x.number + 1))
     (replica : IsReplicaIn b (H ++ e ∷ []) x.replica) (own : x.replica.worker ≡ e.worker) where
   attempt-passed : (t : Bool) → is_retried b.options e ≡ t
@@ -136,7 +136,7 @@ module _ (b : Base) (H : List Entry) (e : Entry) (x : Worker) (number : e.number
   worker-passed = worker-by (is_retried b.options e) refl
 
 -- the worker as the code leaves it
-pub worker-went : (b c : Base) (H G : List Entry) (e : Entry) (x y : Worker) (I : Draft) (o : Options) (front : ℕ) → c ≡ b → G ≡ H ++ e ∷ [] → e.number ≡ x.number → e.again ≡ x.again
+pub worker-went : (b c : Base) (H G : List Tried) (e : Tried) (x y : Worker) (I : Draft) (o : Options) (front : ℕ) → c ≡ b → G ≡ H ++ e ∷ [] → e.number ≡ x.number → e.again ≡ x.again
     → x.draw ≡ move_of b.instance b.options.seed e.worker x.number → x.stream ≡ stream_at b.options.seed e.worker (x.number + 1) → IsReplicaIn c G x.replica → x.replica.worker ≡ e.worker
     → I ≡ b.instance → o ≡ b.options → front ≡ length G → y ≡ passed I o x e front → IsWorkerIn c G e.worker y
 worker-went b c H G e x y I o front base same number again draw stream stands own inst opts at made =
@@ -166,7 +166,7 @@ workers-more b xs w y len before own v x there = elim (get-behind xs y x v there
 ]
 
 -- one worker is replaced, and each other stays in the longer history
-replayed-set : (b : Base) (H G : List Entry) (xs : List Worker) (v : ℕ) (y : Worker) → IsReplayed b H xs → v < b.options.workers → AreLegal b G
+replayed-set : (b : Base) (H G : List Tried) (xs : List Worker) (v : ℕ) (y : Worker) → IsReplayed b H xs → v < b.options.workers → AreLegal b 1 G
     → ((w : ℕ) (x : Worker) → (v ≡ w → ⊥) → IsWorkerIn b H w x → IsWorkerIn b G w x) → IsWorkerIn b G v y → IsReplayed b G (slice_set xs v y)
 replayed-set b H G xs v y kept known legal others own = record {
   base = kept.base;
@@ -183,12 +183,12 @@ replayed-set b H G xs v y kept known legal others own = record {
 }
 
 -- the worker's entry was added, or nothing was
-pub replayed-by : (b c : Base) (H G : List Entry) (xs : List Worker) (e : Entry) (y : Worker) (result : Result (Unit {0}) Reason) → IsReplayed b H xs → e.worker < b.options.workers → c ≡ b
-    → IsWorkerIn c G e.worker y → OnOk result (IsLegal b H e) → OnOk result (G ≡ H ++ e ∷ []) → OnErr result (G ≡ H) → IsReplayed c G (slice_set xs e.worker y)
+pub replayed-by : (b c : Base) (H G : List Tried) (xs : List Worker) (e : Tried) (y : Worker) (result : Result (Unit {0}) Reason) → IsReplayed b H xs → e.worker < b.options.workers → c ≡ b
+    → IsWorkerIn c G e.worker y → OnOk result (IsLegal b 1 H e) → OnOk result (G ≡ H ++ e ∷ []) → OnErr result (G ≡ H) → IsReplayed c G (slice_set xs e.worker y)
 replayed-by b c H G xs e y (Ok done) kept known base own legal added same =
     let ys = slice_set xs e.worker y in
     let here : IsWorkerIn b (H ++ e ∷ []) e.worker y = subst (λ F. IsWorkerIn b F e.worker y) added (subst (λ d. IsWorkerIn d G e.worker y) base own) in
-    let all = replayed-set b H (H ++ e ∷ []) xs e.worker y kept known (legal-more b H e kept.legal legal) (λ w x other one. worker-other b H e w x other one) here in
+    let all = replayed-set b H (H ++ e ∷ []) xs e.worker y kept known (legal-more b 1 H e kept.legal legal) (λ w x other one. worker-other b H e w x other one) here in
     subst (λ d. IsReplayed d G ys) (sym base) (subst (λ F. IsReplayed b F ys) (sym added) all)
 replayed-by b c H G xs e y (Err reason) kept known base own legal added same =
     let ys = slice_set xs e.worker y in

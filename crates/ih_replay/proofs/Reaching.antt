@@ -1,22 +1,22 @@
 -- A replica that is brought to a place of the history.
 use Rattle.std.proofs.Common.{◌≡◌, ℕ, ◌+◌, ◌-◌, ◌≤◌, arith, List, length, take, drop}
 use Rattle.std.proofs.lemmas.List.{length-append, length-drop, length-take}
-use Rattle.ih_journal.specs.declared.entries.Entry.{Entry}
+use Rattle.ih_journal.specs.Tried.{Tried}
 use Rattle.ih_journal.specs.Base.{Base}
 use Rattle.ih_cellbook.specs.Legal.{AreLegalButDraws}
-use Rattle.ih_snapshot.specs.Replicas.{IsReplicaIn, MayFollow, StandsAfter}
-use Rattle.ih_snapshot.specs.Snapshot.{Snapshot}
-use Rattle.ih_snapshot.proofs.Within.{next-follow, stands-further}
+use Rattle.ih_cellbook.specs.Replicas.{IsReplicaIn, MayFollow, StandsAfter}
+use Rattle.ih_cellbook.specs.Snapshot.{Snapshot}
+use Rattle.ih_cellbook.proofs.Within.{next-follow, stands-further}
 
 -- it has seen as many entries more as were taken over
-seen-after : (r : Snapshot) (es : List Entry) (s : Snapshot) → MayFollow r es → StandsAfter r es s → s.seen ≡ r.seen + length es
+seen-after : (r : Snapshot) (es : List Tried) (s : Snapshot) → MayFollow r es → StandsAfter r es s → s.seen ≡ r.seen + length es
 seen-after r es s may after =
     let there = (after may.0 may.1 may.2 may.3).seen in
     let here = may.2.seen in
     let len = length-append may.1 es in
     omega (arith, there, here, len)
 
-module _ (b : Base) (H : List Entry) (r : Snapshot) (seen : ℕ) (stands : IsReplicaIn b H r) (behind : r.seen ≤ seen) (inside : seen ≤ length H) (legal : AreLegalButDraws b H) where
+module _ (b : Base) (H : List Tried) (r : Snapshot) (seen : ℕ) (stands : IsReplicaIn b H r) (behind : r.seen ≤ seen) (inside : seen ≤ length H) (legal : AreLegalButDraws b H) where
   pub may-follow : MayFollow r (take (seen - r.seen) (drop r.seen H))
   may-follow = next-follow b H r stands (seen - r.seen) legal
 

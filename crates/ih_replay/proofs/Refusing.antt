@@ -1,16 +1,17 @@
 -- The first reason for which a line is refused.
 use Rattle.std.proofs.Common.{◌≡◌, ℕ, ◌<◌, ◌≤◌, refl, arith, sym, ◌∙◌, subst, true, false, List, [], ◌∷◌, ◌++◌, length}
 use Rattle.ih_journal.specs.declared.entries.Entry.{Entry}
+use Rattle.ih_journal.specs.Tried.{Tried}
 use Rattle.ih_journal.specs.declared.refusals.Reason.{Reason}
 use Rattle.ih_journal.specs.declared.refusals.Reason.TheVariants.{Heading, Extra, Grammar, Place, Worker, Number, Try, Seen, Move, Price, Verdict, Early}
 use Rattle.ih_journal.specs.Attempts.{is_done}
 use Rattle.ih_journal.specs.Base.{Base}
 use Rattle.ih_journal.specs.Grammar.{IsLineOf}
-use Rattle.ih_replay.specs.Refusals.{FitsIn, IsFirstOf, IsGoing, IsRefusedFor, Passes, of_entry, of_place}
+use Rattle.ih_replay.specs.Refusals.{FitsIn, IsFirstOf, IsGoing, Passes, in_order, of_entry, of_place}
 use Rattle.ih_replay.proofs.Firsts.{first-behind, first-before, first-same}
 
-module _ (b : Base) (H : List Entry) (line : List ℕ) where
-  pub refused-extra : ((w : ℕ) → w < b.options.workers → is_done b.options H w ≡ true) → IsRefusedFor b H line Extra
+module _ (b : Base) (H : List Tried) (line : List ℕ) where
+  pub refused-extra : ((w : ℕ) → w < b.options.workers → is_done b.options H w ≡ true) → IsFirstOf (Passes b H line) in_order Extra
   refused-extra done = record {
     earlier = [];
     later = of_place ++ of_entry;
@@ -20,7 +21,7 @@ module _ (b : Base) (H : List Entry) (line : List ℕ) where
   }
 
   module _ (going : (w : ℕ) × IsGoing b H w) where
-    pub refused-read : (r : Reason) → IsFirstOf (Passes b H line) of_place r → IsRefusedFor b H line r
+    pub refused-read : (r : Reason) → IsFirstOf (Passes b H line) of_place r → IsFirstOf (Passes b H line) in_order r
     refused-read r first = first-behind (Passes b H line) (Extra ∷ []) (of_place ++ of_entry) r (going, tt) (first-before (Passes b H line) of_place of_entry r first)
 
     module _ (e : Entry) (of : IsLineOf b.instance b.options (length H) e line)
@@ -58,12 +59,12 @@ module _ (b : Base) (H : List Entry) (line : List ℕ) where
       fro Verdict all = all (length H) e of
       fro Early all = tt
 
-      pub refused-entry : (r : Reason) → IsFirstOf (FitsIn b H (length H) e) of_entry r → IsRefusedFor b H line r
+      pub refused-entry : (r : Reason) → IsFirstOf (FitsIn b H (length H) e) of_entry r → IsFirstOf (Passes b H line) in_order r
       refused-entry r first =
           first-behind (Passes b H line) (Extra ∷ of_place) of_entry r (going, ((length H, e, of), (λ k f there. (only k f there).0, tt)))
           (first-same (FitsIn b H (length H) e) (Passes b H line) of_entry r to fro first)
 
-      pub refused-worker : b.options.workers ≤ e.worker → IsRefusedFor b H line Worker
+      pub refused-worker : b.options.workers ≤ e.worker → IsFirstOf (Passes b H line) in_order Worker
       refused-worker past = refused-entry Worker (record {
         earlier = [];
         later = Number ∷ Try ∷ Seen ∷ Move ∷ Price ∷ Verdict ∷ [];

@@ -4,18 +4,18 @@ use Rattle.ih_tables.specs.declared.drafts.Draft.{Draft}
 use Rattle.ih_plan.specs.Timetable.{Timetable}
 use Rattle.ih_plan.specs.Draws.{draw_at, move_of, state_after, stream_at}
 use Rattle.ih_journal.specs.declared.settings.Options.{Options}
-use Rattle.ih_journal.specs.declared.entries.Entry.{Entry}
+use Rattle.ih_journal.specs.Tried.{Tried}
 use Rattle.ih_journal.specs.Attempts.{attempt_after, is_retried, last_by}
 use Rattle.ih_journal.specs.Base.{Base}
 use Rattle.ih_journal.specs.Legal.{AreLegal}
 use Rattle.ih_cellbook.specs.Keeping.{IsBase}
 use Rattle.ih_cellbook.specs.Offers.{HasSeenOwn}
 use Rattle.ih_cellbook.specs.Recorded.{Recorded}
-use Rattle.ih_snapshot.specs.Replicas.{IsReplicaIn}
+use Rattle.ih_cellbook.specs.Replicas.{IsReplicaIn}
 use Rattle.ih_replay.specs.declared.workers.Worker.{Worker}
 
 -- The worker's next attempt with its draw, what it must have seen, and a replica that stands for a part of the history.
-pub record IsWorkerIn (b : Base) (H : List Entry) (w : ℕ) (x : Worker) : Type 0 where
+pub record IsWorkerIn (b : Base) (H : List Tried) (w : ℕ) (x : Worker) : Type 0 where
   pub replica : IsReplicaIn b H x.replica
   pub own : x.replica.worker ≡ w
   pub attempt : attempt_after b.options (last_by w H) ≡ record { number = x.number; again = x.again }
@@ -25,15 +25,15 @@ pub record IsWorkerIn (b : Base) (H : List Entry) (w : ℕ) (x : Worker) : Type 
   pub front : (n : ℕ) → (x.front ≤ n) ↔ HasSeenOwn H w n
 
 -- The worker after an entry of its next attempt, at the place before `front`: it tries the draw again, or draws the next one.
-abbrev pub passed : Draft → Options → Worker → Entry → ℕ → Worker
+abbrev pub passed : Draft → Options → Worker → Tried → ℕ → Worker
 passed I o x e front =
     if is_retried o e then record x { again = x.again + 1; front = front }
     else record x { number = x.number + 1; again = 0; draw = draw_at I x.stream; stream = state_after 6 x.stream; front = front }
 
 -- The history is legal, and each worker's own is kept.
-pub record IsReplayed (b : Base) (H : List Entry) (xs : List Worker) : Type 0 where
+pub record IsReplayed (b : Base) (H : List Tried) (xs : List Worker) : Type 0 where
   pub base : IsBase b
-  pub legal : AreLegal b H
+  pub legal : AreLegal b 1 H
   pub many : length xs ≡ b.options.workers
   pub each : (w : ℕ) (x : Worker) → slice_get xs w ≡ Some x → IsWorkerIn b H w x
 

@@ -26,12 +26,12 @@ pub struct Replay<'a> {
 }
 
 impl<'a> Model for Replay<'a> {
-    ghost use Rattle.ih_cellbook.specs.Recorded.{Recorded};
     ghost use Rattle.ih_replay.specs.Keeping.{IsReplay};
+    ghost use Rattle.ih_replay.specs.Replayed.{Replayed, replayed_of};
 
-    ghost Value = { Recorded };
+    ghost Value = { Replayed };
 
-    ghost view = { λ r. r.book };
+    ghost view = { λ r. replayed_of r.book };
 
     ghost invariant = { λ r. IsReplay r.inst.now.draft r.start.now r.options r.book r.workers.items };
 }
@@ -42,6 +42,7 @@ impl<'a> Replay<'a> {
     ghost use Rattle.ih_journal.specs.declared.entries.Entry.{Entry};
     ghost use Rattle.ih_journal.specs.declared.refusals.Reason.TheVariants.{Early};
     ghost use Rattle.ih_journal.specs.Settings.{IsLawful};
+    ghost use Rattle.ih_journal.specs.Tried.{tries};
     ghost use Rattle.ih_journal.specs.Best.{BestIs};
     ghost use Rattle.ih_journal.specs.Frozen.{AgreesBefore};
     ghost use Rattle.ih_journal.specs.History.{plan_at};
@@ -110,8 +111,9 @@ impl<'a> Replay<'a> {
 
     /// Where every worker has made all its attempts, the journal is whole. Else its next line is missing.
     pub fn finish(&self) -> Result<(), JournalRefusal>
-        ensures full { OnOk result (IsFull self.now.base self.now.entries) }
-        ensures early { IfErr result (λ r. (r ≡ record { line = length self.now.entries + 2; reason = Early }) × ((w : ℕ) × IsGoing self.now.base self.now.entries w)) }
+        ensures full { OnOk result (IsFull self.now.base 1 (tries self.now.entries)) }
+        ensures early { IfErr result (λ r. (r ≡ record { line = length self.now.entries + 2; reason = Early })
+            × ((w : ℕ) × IsGoing self.now.base (tries self.now.entries) w)) }
     {
         if is_full(&self.book, &self.options, self.workers.as_slice()) {
             Ok(())
@@ -123,14 +125,14 @@ impl<'a> Replay<'a> {
     /// The place and the cost of the first of the cheapest feasible timetables: place k is that after k entries. None
     /// exactly where no timetable of the history is feasible.
     pub fn best(&self) -> Option<(u32, i64)>
-        ensures { BestIs self.now.base self.now.entries result }
+        ensures { BestIs self.now.base (tries self.now.entries) result }
     {
         self.book.best()
     }
 
     /// The timetable at the place of the best, where there is one. It is made anew from the start.
     pub fn best_plan(&self, alloc: Global) -> Result<Option<Plan>, AllocError>
-        ensures best { IfOk result (BestPlanIs self.now.base self.now.entries) }
+        ensures best { IfOk result (BestPlanIs self.now.base (tries self.now.entries)) }
         ensures fits { IfOk result (λ found. IfSome found (IsPlanOf self.now.base.instance)) }
     {
         match self.book.best() {
@@ -146,10 +148,10 @@ impl<'a> Replay<'a> {
     pub fn entries(&self) -> &[Entry]
         ensures entries { result.now ≡ self.now.entries }
         ensures base { IsBase self.now.base }
-        ensures legal { AreLegal self.now.base self.now.entries }
-        ensures few { AreFew self.now.base self.now.entries }
-        ensures agrees { (k : ℕ) → AgreesBefore self.now.base (plan_at self.now.base self.now.entries k) }
-        ensures exact { AreExact self.now.base self.now.entries }
+        ensures legal { AreLegal self.now.base 1 (tries self.now.entries) }
+        ensures few { AreFew self.now.base (tries self.now.entries) }
+        ensures agrees { (k : ℕ) → AgreesBefore self.now.base (plan_at self.now.base (tries self.now.entries) k) }
+        ensures exact { AreExact self.now.base (tries self.now.entries) }
     {
         self.book.entries()
     }

@@ -7,11 +7,13 @@ ghost use Rattle.ih_plan.specs.Expand.{IsMoveOf};
 ghost use Rattle.ih_journal.specs.Attempts.{is_done};
 ghost use Rattle.ih_journal.specs.Grammar.{IsLineOf};
 ghost use Rattle.ih_journal.specs.Legal.{AreLegal, IsLegal};
-ghost use Rattle.ih_snapshot.specs.Replicas.{IsReplicaIn};
+ghost use Rattle.ih_journal.specs.Texts.{line_text};
+ghost use Rattle.ih_journal.specs.Tried.{tried};
+ghost use Rattle.ih_cellbook.specs.Replicas.{IsReplicaIn};
 ghost use Rattle.ih_cellbook.specs.Offers.{HasSeenOwn};
 ghost use Rattle.ih_cellbook.specs.Keeping.{IsBase};
 ghost use Rattle.ih_replay.specs.Keeping.{IsReplayed, IsWorkerIn};
-ghost use Rattle.ih_replay.specs.Refusals.{FitsIn, IsFirstOf, IsGoing, IsNextLine, IsRefusedFor, Passes, of_attempt, of_entry, of_offer, of_place};
+ghost use Rattle.ih_replay.specs.Refusals.{FitsIn, IsFirstOf, IsGoing, Passes, in_order, of_attempt, of_entry, of_offer, of_place};
 
 use crate::workers::Worker;
 use ih_cellbook::Book;
@@ -92,7 +94,7 @@ fn check(
     entry: &Entry,
 ) -> Result<(), Reason>
     requires options { options.now ≡ book.now.base.options }
-    requires legal { AreLegal book.now.base book.now.entries }
+    requires legal { AreLegal book.now.base 1 book.now.entries }
     requires known { entry.now.worker < book.now.base.options.workers }
     requires kept { IsWorkerIn book.now.base book.now.entries entry.now.worker worker.now }
     ensures ok { OnOk result (AllByRecursion (FitsIn book.now.base book.now.entries (length book.now.entries) entry.now) of_attempt) }
@@ -148,7 +150,7 @@ fn commit(book: &mut Book<'_>, replica: &mut Replica<'_>, entry: &Entry) -> Resu
     ensures replica { IsReplicaIn book.new.base book.new.entries replica.new }
     ensures own { replica.new.worker ≡ replica.old.worker }
     ensures ok { OnOk result (AllByRecursion (FitsIn book.old.base book.old.entries (length book.old.entries) entry.now) of_offer) }
-    ensures added { OnOk result (book.new.entries ≡ book.old.entries ++ entry.now ∷ []) }
+    ensures added { OnOk result (book.new.entries ≡ book.old.entries ++ tried entry.now ∷ []) }
     ensures err { IfErr result (IsFirstOf (FitsIn book.old.base book.old.entries (length book.old.entries) entry.now) of_offer) }
     ensures same { OnErr result (book.new.entries ≡ book.old.entries) }
 {
@@ -174,14 +176,14 @@ fn take_entry(
     requires instance { inst.now.draft ≡ book.old.base.instance }
     requires options { options.now ≡ book.old.base.options }
     requires base { IsBase book.old.base }
-    requires legal { AreLegal book.old.base book.old.entries }
+    requires legal { AreLegal book.old.base 1 book.old.entries }
     requires known { entry.now.worker < book.old.base.options.workers }
     requires kept { IsWorkerIn book.old.base book.old.entries entry.now.worker worker.old }
     requires move_in { IsMoveOf book.old.base.instance entry.now.mv }
     ensures base { book.new.base ≡ book.old.base }
     ensures kept { IsWorkerIn book.new.base book.new.entries entry.now.worker worker.new }
-    ensures legal { OnOk result (IsLegal book.old.base book.old.entries entry.now) }
-    ensures added { OnOk result (book.new.entries ≡ book.old.entries ++ entry.now ∷ []) }
+    ensures legal { OnOk result (IsLegal book.old.base 1 book.old.entries (tried entry.now)) }
+    ensures added { OnOk result (book.new.entries ≡ book.old.entries ++ tried entry.now ∷ []) }
     ensures err { IfErr result (IsFirstOf (FitsIn book.old.base book.old.entries (length book.old.entries) entry.now) of_entry) }
     ensures same { OnErr result (book.new.entries ≡ book.old.entries) }
 {
@@ -206,8 +208,10 @@ pub(crate) fn take_line(
     requires kept { IsReplayed book.old.base book.old.entries workers.old }
     ensures base { book.new.base ≡ book.old.base }
     ensures kept { IsReplayed book.new.base book.new.entries workers.new }
-    ensures taken { OnOk result ((e : Entry) × IsNextLine book.old.base book.old.entries line.now e × (book.new.entries ≡ book.old.entries ++ e ∷ [])) }
-    ensures err { IfErr result (IsRefusedFor book.old.base book.old.entries line.now) }
+    ensures taken { OnOk result ((e : Entry) × IsLegal book.old.base 1 book.old.entries (tried e)
+        × (line.now ≡ line_text book.old.base.options (length book.old.entries) e)
+        × (book.new.entries ≡ book.old.entries ++ tried e ∷ [])) }
+    ensures err { IfErr result (IsFirstOf (Passes book.old.base book.old.entries line.now) in_order) }
     ensures same { OnErr result (book.new.entries ≡ book.old.entries) }
 {
     if is_full(book, options, workers) {

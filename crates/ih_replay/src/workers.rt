@@ -4,6 +4,7 @@ ghost use Rattle.std.specs.Prelude.{◌≡◌, ◌<◌, ◌^◌, [], IfOk};
 ghost use Rattle.ih_plan.specs.Timetable.{IsPlanOf};
 ghost use Rattle.ih_journal.specs.Attempts.{is_retried};
 ghost use Rattle.ih_journal.specs.Settings.{IsLawful};
+ghost use Rattle.ih_journal.specs.Tried.{tried};
 ghost use Rattle.ih_cellbook.specs.Keeping.{base_with};
 ghost use Rattle.ih_replay.specs.Keeping.{IsReplayed, IsWorkerIn, passed};
 
@@ -33,7 +34,7 @@ pub struct Worker<'a> {
 
 // Whether the entry's move is to be tried again.
 fn is_retried(options: &Options, entry: &Entry) -> bool
-    ensures { result ≡ is_retried options.now entry.now }
+    ensures { result ≡ is_retried options.now (tried entry.now) }
 {
     match entry.verdict {
         Verdict::Stale { .. } => entry.again < options.retries,
@@ -72,7 +73,7 @@ impl<'a> Worker<'a> {
     pub fn pass(&mut self, inst: &Instance, options: &Options, entry: &Entry, front: u32)
         requires number { self.old.number < 2 ^ 31 }
         requires again { self.old.again < 2 ^ 31 }
-        ensures { self.new ≡ passed inst.now.draft options.now self.old entry.now front }
+        ensures { self.new ≡ passed inst.now.draft options.now self.old (tried entry.now) front }
     {
         if is_retried(options, entry) {
             self.again += 1;

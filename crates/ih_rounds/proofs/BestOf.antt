@@ -3,7 +3,10 @@ use Rattle.std.proofs.Common.{◌≡◌, ℕ, zero, suc, ◌<◌, ◌≤◌, ref
 use Rattle.std.specs.Prelude.{slice_get, ◌⊎◌, ◌≤ℤ◌, ◌<ℤ◌, int_lt, if◌then◌else◌, T, not}
 use Rattle.std.specs.Int.Signed.{lt_z_no}
 use Rattle.std.proofs.lemmas.Int.{ints}
+use Rattle.std.proofs.lemmas.List.{length-map}
 use Rattle.std.proofs.lemmas.Option.{slice_get_within}
+use Rattle.ih_journal.specs.declared.entries.Entry.{Entry}
+use Rattle.ih_journal.specs.Tried.{tried, tries}
 use Rattle.ih_journal.specs.Base.{Base}
 use Rattle.ih_journal.specs.Best.{BestIs, IsBest, HasNone}
 use Rattle.ih_rounds.specs.Best.{HaveNone, IsBestOf, IsFeasibleIn, cost_in}
@@ -30,6 +33,13 @@ get-more (z ∷ zs) x y (suc k) h = elim (get-more zs x y k h) [
   | inr last ↦ inr (ap suc last.0, last.1)
 ]
 
+-- a place of a history is one of what its entries stand for
+in-tries : (H : List Entry) (j : ℕ) → j ≤ length H → j ≤ length (tries H)
+in-tries H j h = let many = length-map H tried in omega (arith, h, many)
+
+in-entries : (H : List Entry) (j : ℕ) → j ≤ length (tries H) → j ≤ length H
+in-entries H j h = let many = length-map H tried in omega (arith, h, many)
+
 below : (x y : ℤ) → int_lt x y ≡ true → x <ℤ y
 below x y h = record { lt = subst T (sym h) tt }
 
@@ -37,10 +47,10 @@ not-below : (x y : ℤ) → int_lt x y ≡ false → y ≤ℤ x
 not-below x y h = lt_z_no {a = x} {b = y} (subst (λ t. T (not t)) (sym h) tt)
 
 module _ (b : Base) (rs : List Round) (r : Round) where
-  none-more : HaveNone b rs → HasNone (base_in b (length rs) r) r.history → HaveNone b (rs ++ r ∷ [])
+  none-more : HaveNone b rs → HasNone (base_in b (length rs) r) (tries r.history) → HaveNone b (rs ++ r ∷ [])
   none-more none own q s h = elim (get-more rs r s q h) [
     | inl earlier ↦ none q s earlier
-    | inr last ↦ subst (λ t. HasNone (base_in b q t) t.history) last.1 (subst (λ n. HasNone (base_in b n r) r.history) last.0 own)
+    | inr last ↦ subst (λ t. HasNone (base_in b q t) (tries t.history)) last.1 (subst (λ n. HasNone (base_in b n r) (tries r.history)) last.0 own)
   ]
 
   -- the best stays, where no timetable of the new round is cheaper
@@ -73,13 +83,13 @@ module _ (b : Base) (rs : List Round) (r : Round) where
           (subst (λ n. j ≤ length r.history → IsFeasibleIn b n r j → cost_in b q best.round k ≤ℤ cost_in b n r j) at (dear j)) in-range works
 
   -- the new round's best is that of all, where each timetable of the rounds before costs more
-  newer : (k : ℕ) → IsBest (base_in b (length rs) r) r.history k
+  newer : (k : ℕ) → IsBest (base_in b (length rs) r) (tries r.history) k
       → ((p j : ℕ) (s : Round) → slice_get rs p ≡ Some s → j ≤ length s.history → IsFeasibleIn b p s j → cost_in b (length rs) r k <ℤ cost_in b p s j)
       → IsBestOf b (rs ++ r ∷ []) (length rs) k
   newer k best cheap = record {
     round = r;
     is = get-last rs r;
-    place = best.place;
+    place = in-entries r.history k best.place;
     works = best.works;
     cheapest = λ p j s h in-range works. elim (get-more rs r s p h) [
       | inl earlier ↦ let less = cheap p j s earlier in-range works in omega (arith, ints)
@@ -97,7 +107,7 @@ module _ (b : Base) (rs : List Round) (r : Round) where
       by_last : (p j : ℕ) (s : Round) → length rs ≡ p → r ≡ s → j ≤ length s.history → IsFeasibleIn b p s j → cost_in b (length rs) r k ≤ℤ cost_in b p s j
       by_last p j s at is in-range works =
           subst (λ t. j ≤ length t.history → IsFeasibleIn b p t j → cost_in b (length rs) r k ≤ℤ cost_in b p t j) is
-          (subst (λ n. j ≤ length r.history → IsFeasibleIn b n r j → cost_in b (length rs) r k ≤ℤ cost_in b n r j) at (best.cheapest j)) in-range works
+          (subst (λ n. j ≤ length r.history → IsFeasibleIn b n r j → cost_in b (length rs) r k ≤ℤ cost_in b n r j) at (λ inside. best.cheapest j (in-tries r.history j inside))) in-range works
 
       by_first : (p j : ℕ) (s : Round) → length rs ≡ p → r ≡ s → j ≤ length s.history → IsFeasibleIn b p s j → j < k → cost_in b (length rs) r k <ℤ cost_in b p s j
       by_first p j s at is in-range works less =
@@ -107,13 +117,13 @@ module _ (b : Base) (rs : List Round) (r : Round) where
 -- ---- the best so far
 
 pub held-more : (b : Base) (rs : List Round) (r : Round) (best : Option Held) (own : Option (ℕ × ℤ)) (count : ℕ) (P : Timetable) → HoldsBest b rs best
-    → BestIs (base_in b (length rs) r) r.history own → count ≡ length r.history → P ≡ next_start (base_in b (length rs) r) r.history own → IsPlanOf b.instance P
+    → BestIs (base_in b (length rs) r) (tries r.history) own → count ≡ length r.history → P ≡ next_start (base_in b (length rs) r) (tries r.history) own → IsPlanOf b.instance P
     → HoldsBest b (rs ++ r ∷ []) (better_of best (length rs) own count P)
 unfolding newer stays
 held-more b rs r None None count P none own len next fits = none-more b rs r none own
 held-more b rs r None (Some own) count P none is len next fits = record {
   found = record {
-    best = newer b rs r own.0 is.0 (λ p j s h in-range works. absurd (let no : false ≡ true = sym (none p s h j in-range) ∙ works in cc));
+    best = newer b rs r own.0 is.0 (λ p j s h in-range works. absurd (let no : false ≡ true = sym (none p s h j (in-tries s.history j in-range)) ∙ works in cc));
     count_is = len;
     plan = next;
     fits = fits;
@@ -122,7 +132,7 @@ held-more b rs r None (Some own) count P none is len next fits = record {
 }
 held-more b rs r (Some h) None count P held none len next fits = record {
   found = record {
-    best = stays b rs r h.round h.place held.found.best (λ j in-range works. absurd (let no : false ≡ true = sym (none j in-range) ∙ works in cc));
+    best = stays b rs r h.round h.place held.found.best (λ j in-range works. absurd (let no : false ≡ true = sym (none j (in-tries r.history j in-range)) ∙ works in cc));
     count_is = held.found.count_is;
     plan = held.found.plan;
     fits = held.found.fits;
@@ -151,7 +161,7 @@ held-more b rs r (Some h) (Some own) count P held is len next fits = by_case (in
       found = record {
         best = stays b rs r h.round h.place held.found.best (λ j in-range works.
             let over = not-below own.1 h.cost dear in
-            let most = is.0.cheapest j in-range works in
+            let most = is.0.cheapest j (in-tries r.history j in-range) works in
             let here = is.1 in
             let old = held.cost in
             omega (arith, ints));

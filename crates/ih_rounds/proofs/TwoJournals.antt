@@ -3,13 +3,15 @@ use Rattle.std.proofs.Common.{◌≡◌, ℕ, zero, suc, ◌<◌, ◌^◌, refl,
 use Rattle.std.specs.Prelude.{slice_get}
 use Rattle.ih_plan.specs.Timetable.{IsPlanOf, Timetable}
 use Rattle.ih_journal.specs.declared.entries.Entry.{Entry}
+use Rattle.ih_journal.specs.Tried.{Tried, tries}
 use Rattle.ih_journal.specs.Base.{Base}
 use Rattle.ih_journal.specs.Best.{BestIs}
 use Rattle.ih_journal.specs.History.{plan_at}
 use Rattle.ih_journal.specs.Legal.{IsFull}
 use Rattle.ih_journal.proofs.BestLemmas.{best-one, best-or-none}
-use Rattle.ih_journal.proofs.Growth.{AreMovesOf, after_entries-plan, legal-moves, plan_at-plan}
+use Rattle.ih_journal.proofs.Growth.{AreOfMoves, after_entries-plan, legal-moves, plan_at-plan}
 use Rattle.ih_journal.proofs.LoneWorkers.{lone-same}
+use Rattle.ih_journal.proofs.Mapped.{tries-one}
 use Rattle.ih_cellbook.specs.Laws.{IsSearchBase, LegalHistoriesAreInRange}
 use Rattle.ih_rounds.specs.Laws.{AreInRange, RoundsHaveTwoJournals}
 use Rattle.ih_rounds.specs.Rounds.{AreRounds, Round, StartsFrom, base_in, histories, next_start, options_in}
@@ -20,17 +22,17 @@ use Rattle.ih_rounds.proofs.Runs.{lawful-in}
 -- ---- each start is a timetable of the instance
 
 -- where a round leads
-next-fits : (b : Base) (q : ℕ) (r : Round) (best : Option (ℕ × ℤ)) → IsPlanOf b.instance r.start → AreMovesOf b.instance r.history
-    → IsPlanOf b.instance (next_start (base_in b q r) r.history best)
-next-fits b q r None start moves = after_entries-plan b.instance r.start r.history start moves
-next-fits b q r (Some best) start moves = plan_at-plan (base_in b q r) r.history best.0 start moves
+next-fits : (b : Base) (q : ℕ) (r : Round) (best : Option (ℕ × ℤ)) → IsPlanOf b.instance r.start → AreOfMoves b.instance (tries r.history)
+    → IsPlanOf b.instance (next_start (base_in b q r) (tries r.history) best)
+next-fits b q r None start moves = after_entries-plan b.instance r.start (tries r.history) start moves
+next-fits b q r (Some best) start moves = plan_at-plan (base_in b q r) (tries r.history) best.0 start moves
 
 module _ (b : Base) (rs : List Round) (legal : AreRounds b rs) (fits : IsPlanOf b.instance b.start) where
   starts-fit : (q : ℕ) (P : Timetable) → StartsFrom b rs q P → IsPlanOf b.instance P
   starts-fit zero P is = subst (IsPlanOf b.instance) (sym is) fits
   starts-fit (suc q) P (r, best, here, found, is) =
       let round = legal q r here in
-      let moves : AreMovesOf b.instance r.history = legal-moves (base_in b q r) r.history round.full.legal in
+      let moves : AreOfMoves b.instance (tries r.history) = legal-moves (base_in b q r) 1 (tries r.history) round.full.legal in
       subst (IsPlanOf b.instance) (sym is) (next-fits b q r best (starts-fit q r.start round.start) moves)
 
   pub rounds-fit : (q : ℕ) (r : Round) → slice_get rs q ≡ Some r → IsPlanOf b.instance r.start
@@ -50,12 +52,12 @@ in-range law b rs search legal q r here =
       base = record { start = rounds-fit b rs legal search.base.start q r here; lawful = lawful-in b.options q search.base.lawful };
       seed = seed-in b q;
     })
-    (but-draws (base_in b q r) r.history full.legal)
+    (but-draws (base_in b q r) (tries r.history) full.legal)
 
 -- ---- two runs
 
 -- a history leads to one place
-one-next : (b : Base) (H : List Entry) (x y : Option (ℕ × ℤ)) → BestIs b H x → BestIs b H y → next_start b H x ≡ next_start b H y
+one-next : (b : Base) (H : List Tried) (x y : Option (ℕ × ℤ)) → BestIs b H x → BestIs b H y → next_start b H x ≡ next_start b H y
 one-next b H None None one other = refl
 one-next b H None (Some y) one other = absurd (best-or-none b H y.0 other.0 one)
 one-next b H (Some x) None one other = absurd (best-or-none b H x.0 one.0 other)
@@ -84,8 +86,8 @@ module _ (b : Base) (rs ss : List Round) (left : AreRounds b rs) (right : AreRou
   one-start (suc q) P Q (r, x, here, found, is) (s, y, there, best, also) =
       let start = one-start q r.start s.start (left q r here).start (right q s there).start in
       let round = round-same r s start (same q r s here there start) in
-      is ∙ (one-next (base_in b q r) r.history x y found (subst (λ (t : Round). BestIs (base_in b q t) t.history y) (sym round) best)
-      ∙ (ap (λ (t : Round). next_start (base_in b q t) t.history y) round ∙ sym also))
+      is ∙ (one-next (base_in b q r) (tries r.history) x y found (subst (λ (t : Round). BestIs (base_in b q t) (tries t.history) y) (sym round) best)
+      ∙ (ap (λ (t : Round). next_start (base_in b q t) (tries t.history) y) round ∙ sym also))
 
   rounds-agree : length rs ≡ length ss → rs ≡ ss
   rounds-agree many = all-agree rs ss many (λ q r s here there.
@@ -125,6 +127,7 @@ lone-rounds b rs ss alone left right many = rounds-agree b rs ss left right one-
   where
     one-history : (q : ℕ) (r s : Round) → slice_get rs q ≡ Some r → slice_get ss q ≡ Some s → r.start ≡ s.start → r.history ≡ s.history
     one-history q r s here there start =
-        lone-same (base_in b q s) r.history s.history alone
-        (subst (λ (P : Timetable). IsFull (base_in b q (record { start = P; history = r.history })) r.history) start (left q r here).full)
-        (right q s there).full
+        tries-one r.history s.history
+        (lone-same (base_in b q s) 1 (tries r.history) (tries s.history) alone
+        (subst (λ (P : Timetable). IsFull (base_in b q (record { start = P; history = r.history })) 1 (tries r.history)) start (left q r here).full)
+        (right q s there).full)

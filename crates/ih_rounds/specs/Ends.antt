@@ -1,6 +1,7 @@
 -- How rounds end.
 use Rattle.std.specs.Prelude.{◌≡◌, ℕ, ℤ, not, int_lt, Bool, false, List, ◌++◌, length, Option, Some, None, if◌then◌else◌, slice_get}
 use Rattle.ih_plan.specs.Timetable.{IsPlanOf, Timetable}
+use Rattle.ih_journal.specs.Tried.{tries}
 use Rattle.ih_journal.specs.Base.{Base}
 use Rattle.ih_journal.specs.History.{plan_at}
 use Rattle.ih_rounds.specs.declared.running.Held.{Held}
@@ -24,7 +25,7 @@ pub record HaveRun (b : Base) (count : ℕ) (before after : Answers) (old new : 
 pub record IsFound (b : Base) (rs : List Round) (q k count : ℕ) (P : Timetable) : Type 0 where
   pub best : IsBestOf b rs q k
   pub count_is : count ≡ length best.round.history
-  pub plan : P ≡ plan_at (base_in b q best.round) best.round.history k
+  pub plan : P ≡ plan_at (base_in b q best.round) (tries best.round.history) k
   pub fits : IsPlanOf b.instance P
 
 -- what rounds come to

@@ -1,6 +1,7 @@
 -- Laws of rounds.
 use Rattle.std.specs.Prelude.{◌≡◌, ℕ, ◌<◌, ◌≤ℤ◌, List, Some, slice_get}
 use Rattle.ih_tables.specs.Valid.{IsValid}
+use Rattle.ih_journal.specs.Tried.{tries}
 use Rattle.ih_journal.specs.Base.{Base}
 use Rattle.ih_journal.specs.Best.{IsBest}
 use Rattle.ih_journal.specs.Grammar.{IsHistoryOf}
@@ -25,11 +26,11 @@ RoundsHaveTwoJournals = (b : Base) (rs ss : List Round) → IsSearchBase b → A
 -- the history of round q has a best, which costs no more than place k of round p
 pub record IsNoDearer (b : Base) (q : ℕ) (s : Round) (p : ℕ) (r : Round) (k : ℕ) : Type 0 where
   pub place : ℕ
-  pub best : IsBest (base_in b q s) s.history place
+  pub best : IsBest (base_in b q s) (tries s.history) place
   pub cost : cost_in b q s place ≤ℤ cost_in b p r k
 
 -- Where a round has a best, each later round has one that costs no more.
 abbrev pub RoundsGetNoDearer : Type 0
 RoundsGetNoDearer = (b : Base) (rs : List Round) → AreRounds b rs
     → (p q k : ℕ) (r s : Round) → slice_get rs p ≡ Some r → slice_get rs q ≡ Some s → p < q
-    → IsBest (base_in b p r) r.history k → IsNoDearer b q s p r k
+    → IsBest (base_in b p r) (tries r.history) k → IsNoDearer b q s p r k

@@ -2,6 +2,7 @@
 use Rattle.std.specs.Prelude.{◌≡◌, ℕ, ℤ, List, [], ◌∷◌, ◌++◌, length, Option, Some, None}
 use Rattle.ih_plan.specs.Timetable.{IsPlanOf}
 use Rattle.ih_journal.specs.declared.entries.Entry.{Entry}
+use Rattle.ih_journal.specs.Tried.{tries}
 use Rattle.ih_journal.specs.Base.{Base}
 use Rattle.ih_journal.specs.Best.{BestIs}
 use Rattle.ih_journal.specs.Legal.{IsFull}
@@ -18,10 +19,10 @@ end_of (Some best) count = best.0
 -- A search over b was answered by a full history, whose journal was appended.
 pub record HasRound (b : Base) (before after : Answers) (old new : List ℕ) (outcome : RoundOutcome) : Type 0 where
   pub history : List Entry
-  pub full : IsFull b history
+  pub full : IsFull b 1 (tries history)
   pub told : after ≡ with_answers before (history ∷ [])
   pub written : new ≡ old ++ journal b.options history
-  pub best : BestIs b history outcome.found
+  pub best : BestIs b (tries history) outcome.found
   pub count : outcome.count ≡ length history
-  pub next : outcome.next ≡ next_start b history outcome.found
+  pub next : outcome.next ≡ next_start b (tries history) outcome.found
   pub fits : IsPlanOf b.instance outcome.next

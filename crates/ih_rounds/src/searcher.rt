@@ -14,6 +14,7 @@ pub trait Searcher {
     ghost use Rattle.ih_plan.specs.Timetable.{IsPlanOf};
     ghost use Rattle.ih_journal.specs.Legal.{IsFull};
     ghost use Rattle.ih_journal.specs.Settings.{IsLawful};
+    ghost use Rattle.ih_journal.specs.Tried.{tries};
     ghost use Rattle.ih_cellbook.specs.Keeping.{base_with};
     ghost use Rattle.ih_rounds.specs.Telling.{Answers, with_answers};
 
@@ -38,7 +39,7 @@ pub trait Searcher {
         requires lawful { IsLawful options.now }
         requires once { options.now.retries ≡ 0 }
         ensures full { IfOk result (λ v.
-            IsFull (base_with inst.entry.now.draft start.entry.now options.entry.now 0) v.items) }
+            IsFull (base_with inst.entry.now.draft start.entry.now options.entry.now 0) 1 (tries v.items)) }
         // an answer comes behind those before it, and want of memory leaves them as they were
         ensures told { IfOk result (λ v. answers self.new ≡ with_answers (answers self.old) (v.items ∷ [])) }
         ensures kept { OnErr result (answers self.new ≡ answers self.old) }

@@ -1,2 +1,1 @@
-mod IdleOffers
-mod WardOffers
+mod TriedLists

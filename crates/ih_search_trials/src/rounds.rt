@@ -1,12 +1,13 @@
-//! Workers that take turns over one book, each on its own replica, on the ward of two patients.
+//! Workers that take turns, each on its own replica, on the ward of two patients.
 
-ghost use Rattle.std.specs.Prelude.{◌≡◌, ◌<◌, ◌≤◌, IsTrue, Some, false, length, drop};
+ghost use Rattle.std.specs.Prelude.{◌≡◌, ◌<◌, ◌≤◌, IsTrue, Some, false, length, drop, option_map};
 ghost use Rattle.ih_plan.specs.Expand.{IsMoveOf};
 ghost use Rattle.ih_journal.specs.Attempts.{attempt_after, is_done_after, is_retried, last_by};
+ghost use Rattle.ih_journal.specs.Tried.{tried, tries};
 ghost use Rattle.ih_cellbook.specs.Laws.{HasNoneBy};
 ghost use Rattle.ih_cellbook.specs.Offers.{next_number};
-ghost use Rattle.ih_snapshot.specs.Replicas.{IsReplicaIn};
-ghost use Rattle.ih_snapshot.specs.Snapshot.{Snapshot};
+ghost use Rattle.ih_cellbook.specs.Replicas.{IsReplicaIn};
+ghost use Rattle.ih_cellbook.specs.Snapshot.{Snapshot};
 
 use ih_cellbook::{Book, Buffer, Offer};
 use ih_journal::{Entry, Options, Verdict};
@@ -15,7 +16,7 @@ use ih_snapshot::Replica;
 
 // The last entry of a worker.
 fn last_by(entries: &[Entry], worker: u32) -> Option<Entry>
-    ensures { result ≡ last_by worker entries.now }
+    ensures { option_map tried result ≡ last_by worker (tries entries.now) }
 {
     let mut last = None;
     for entry in entries {
@@ -28,7 +29,7 @@ fn last_by(entries: &[Entry], worker: u32) -> Option<Entry>
 
 // Whether the entry's move is to be tried again.
 fn is_retried(options: &Options, entry: &Entry) -> bool
-    ensures { result ≡ is_retried options.now entry.now }
+    ensures { result ≡ is_retried options.now (tried entry.now) }
 {
     match entry.verdict {
         Verdict::Stale { .. } => entry.again < options.retries,
@@ -38,7 +39,7 @@ fn is_retried(options: &Options, entry: &Entry) -> bool
 
 // Whether a worker with this last entry isn't done, and its next move has this number.
 fn is_next(options: &Options, last: &Option<Entry>, number: u32) -> bool
-    ensures { IsTrue result → (is_done_after options.now last.now ≡ false) × ((attempt_after options.now last.now).number ≡ number) }
+    ensures { IsTrue result → (is_done_after options.now (option_map tried last.now) ≡ false) × ((attempt_after options.now (option_map tried last.now)).number ≡ number) }
 {
     match last {
         None => options.moves > 0 && number == 0,
@@ -49,7 +50,7 @@ fn is_next(options: &Options, last: &Option<Entry>, number: u32) -> bool
 
 // Whether none of the entries is by the worker.
 fn none_by(entries: &[Entry], worker: u32) -> bool
-    ensures { IsTrue result → HasNoneBy worker entries.now }
+    ensures { IsTrue result → HasNoneBy worker (tries entries.now) }
 {
     for entry in entries {
         if entry.worker == worker {
@@ -59,23 +60,21 @@ fn none_by(entries: &[Entry], worker: u32) -> bool
     true
 }
 
-// Whether the offer's worker isn't done, this is its next move, and the offer has seen all entries of its worker.
-fn may_come(book: &Book<'_>, options: &Options, offer: &Offer) -> bool
-    requires options { options.now ≡ book.now.base.options }
-    requires seen { offer.now.seen ≤ length book.now.entries }
-    ensures { IsTrue result → (offer.now.worker < book.now.base.options.workers)
-        × (next_number book.now.base.options book.now.entries offer.now.worker ≡ Some offer.now.number)
-        × HasNoneBy offer.now.worker (drop offer.now.seen book.now.entries) }
+// Whether the offer's worker isn't done after these entries, this is its next move, and the offer has seen all entries of
+// its worker.
+fn may_come(entries: &[Entry], options: &Options, offer: &Offer) -> bool
+    requires { offer.now.seen ≤ length entries.now }
+    ensures { IsTrue result → (offer.now.worker < options.now.workers)
+        × (next_number options.now (tries entries.now) offer.now.worker ≡ Some offer.now.number)
+        × HasNoneBy offer.now.worker (drop offer.now.seen (tries entries.now)) }
 {
-    let entries = book.entries();
     offer.worker < options.workers
         && is_next(options, &last_by(entries, offer.worker), offer.number)
         && none_by(&entries[offer.seen as usize..], offer.worker)
 }
 
 /// Offers the next move of a replica's worker to the book, and answers the verdict. Answers none where it isn't the
-/// next,
-/// or where the replica hasn't seen its worker's last entry.
+/// next, or where the replica hasn't seen its worker's last entry.
 pub(crate) fn offer(
     book: &mut Book<'_>,
     replica: &mut Replica<'_>,
@@ -91,7 +90,7 @@ pub(crate) fn offer(
     ensures others { (r : Snapshot) → IsReplicaIn book.old.base book.old.entries r → IsReplicaIn book.old.base book.new.entries r }
 {
     let offer = replica.price(mv, number);
-    if may_come(book, options, offer) {
+    if may_come(book.entries(), options, offer) {
         Some(book.commit(offer))
     } else {
         None
@@ -99,18 +98,18 @@ pub(crate) fn offer(
 }
 
 /// The replica takes over what the book has past it, or the first 256 entries of that. Answers how many it has then
-/// seen,
-/// and how many it hasn't.
+/// seen, and how many the book has.
 pub(crate) fn catch_up(
     book: &Book<'_>,
     replica: &mut Replica<'_>,
     buffer: &mut Buffer,
-) -> (u32, usize)
+) -> (u32, u32)
     requires replica { IsReplicaIn book.now.base book.now.entries replica.old }
     ensures { IsReplicaIn book.now.base book.now.entries replica.new }
 {
-    let all = book.entries().len();
+    // For the proof alone: the entries are legal.
+    book.entries();
     book.copy_since(replica.seen(), buffer);
     replica.advance(buffer.entries());
-    (replica.seen(), all.saturating_sub(replica.seen() as usize))
+    (replica.seen(), buffer.front())
 }

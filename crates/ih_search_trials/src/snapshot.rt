@@ -1,104 +1,31 @@
-//! What workers see of each other over one book, on a ward of two patients of whom the first is admitted, with one nurse
-//! in all shifts.
+//! What workers see of each other over one book.
 
-ghost use Rattle.std.specs.Prelude.{◌≡◌, [], IfOk, IsTrue};
+ghost use Rattle.std.specs.Prelude.{◌≡◌, ◌≤◌, [], IfOk};
 ghost use Rattle.ih_plan.specs.Timetable.{IsPlanOf};
 ghost use Rattle.ih_plan.specs.BillOf.{bill_of};
-ghost use Rattle.ih_plan.specs.Expand.{IsMoveOf};
-ghost use Rattle.ih_plan.specs.declared.moves.Move.TheVariants.{Nurse, Place};
+ghost use Rattle.ih_plan.specs.Cells.{cell_count};
 ghost use Rattle.ih_journal.specs.Settings.{IsLawful};
 ghost use Rattle.ih_cellbook.specs.Keeping.{base_with};
-ghost use Rattle.ih_snapshot.specs.Replicas.{IsReplicaIn};
-ghost use Rattle.ih_snapshot.specs.Snapshot.{Snapshot};
+ghost use Rattle.ih_cellbook.specs.Replicas.{IsReplicaIn};
+ghost use Rattle.ih_cellbook.specs.Snapshot.{Snapshot};
 
 use crate::rounds::{catch_up, offer};
-use ih_cellbook::{Book, Buffer, Offer};
+use crate::steps::{
+    FIRST_NURSE, JOIN, SECOND_NURSE, TWICE_STALE, have_prices, hot, is, is_in_range,
+};
+use ih_cellbook::{Book, Buffer};
 use ih_costs::Ledgers;
-use ih_journal::{Entry, Options, Verdict};
-use ih_plan::{Move, Plan};
+use ih_footprint::Numbering;
+use ih_journal::{Options, Verdict};
+use ih_plan::{Move, Placement, Plan};
 use ih_snapshot::Replica;
-use ih_tables::{Bill, Cell, Day, Instance, NurseNo, PatientNo, RoomNo, Shift};
-use ih_ward::{at, begin, ward};
+use ih_tables::{Bill, Cell, Day, Instance, PatientNo, RoomNo, Shift, TheatreNo};
+use ih_ward::{begin, ward};
 use std::alloc::{AllocError, Global};
 use std::test::Fail;
 
 /// Threads share replicas.
 fn share<T: Send + Sync>(_x: &T) {}
-
-// The options of a hot search, in which no price is too high.
-fn hot(workers: u32, moves: u32, retries: u32) -> Options
-    ensures { result ≡ record { seed = 0; workers = workers; moves = moves; heat = 1000000; hard = 1000; retries = retries } }
-{
-    Options {
-        seed: 0,
-        workers,
-        moves,
-        heat: 1_000_000,
-        hard: 1_000,
-        retries,
-    }
-}
-
-// A patient's placement on a day in a room, with surgery in the second theatre.
-fn place(p: u32, day: u32, room: u32) -> Move
-    ensures { result ≡ Place (record { 0 = p }) (record { day = record { 0 = day }; room = record { 0 = room }; theatre = record { 0 = 1 } }) }
-{
-    Move::Place(PatientNo(p), at(day, room, 1))
-}
-
-// A nurse for the first room in the first night.
-fn night(n: u32) -> Move
-    ensures { result ≡ Nurse (record { 0 = 0 }) (record { 0 = 2 }) (record { 0 = n }) }
-{
-    Move::Nurse(RoomNo(0), Shift(2), NurseNo(n))
-}
-
-// Stale by the first room in the first night, which wasn't changed when the move was priced.
-fn stale_by_night(at_place: u32) -> Option<Verdict> {
-    Some(Verdict::Stale {
-        cell: Cell::RoomShift(RoomNo(0), Shift(2)),
-        at_seen: 0,
-        at_place,
-    })
-}
-
-// Whether an offer has these numbers: worker, number and seen, the price, and what was read.
-fn is(
-    offer: &Offer,
-    numbers: (u32, u32, u32),
-    price: ([i64; 9], [i64; 8]),
-    reads: &[(u32, u32)],
-) -> bool {
-    (offer.worker, offer.number, offer.seen) == numbers
-        && offer.price.v == price.0
-        && offer.price.s == price.1
-        && offer.reads.as_slice() == reads
-        && !offer.frozen
-}
-
-// Whether the entry at a place has this price.
-fn costs(entries: &[Entry], place: usize, broken: [i64; 9], soft: [i64; 8]) -> bool {
-    match entries.get(place) {
-        Some(entry) => entry.price.v == broken && entry.price.s == soft,
-        None => false,
-    }
-}
-
-// Whether each of these places has an entry of this price.
-fn have_prices(entries: &[Entry], prices: &[(usize, [i64; 9], [i64; 8])]) -> bool {
-    for (place, broken, soft) in prices {
-        if !costs(entries, *place, *broken, *soft) {
-            return false;
-        }
-    }
-    true
-}
-
-// Of the second patient joining the first.
-const CROWDED: [i64; 9] = [1, 0, 0, 0, 0, 0, 1, 0, 0];
-
-// Of three shifts without a nurse.
-const UNNURSED: [i64; 9] = [0, 0, 0, 0, 0, 0, 0, 0, 3];
 
 /// What a worker does: it takes over what is new, or offers its move of a number.
 #[derive(Clone, Copy)]
@@ -107,34 +34,21 @@ enum Step {
     Offers(u32, Move),
 }
 
-/// What came of it: how many entries the worker has then seen and how many it hasn't, or the verdict, if it may offer.
+/// What came of it: how many entries the worker has then seen and how many the book has, or the verdict, if it may offer.
 #[derive(Clone, Copy, PartialEq)]
 enum Told {
-    Seen(u32, usize),
+    Seen(u32, u32),
     Said(Option<Verdict>),
 }
 
 use Step::{Looks, Offers};
 use Told::{Said, Seen};
 
-// Whether the numbers of a move are in range. It knows the moves of the tests.
-fn is_in_range(inst: &Instance, mv: &Move) -> bool
-    ensures { IsTrue result → IsMoveOf inst.now.draft mv.now }
-{
-    match *mv {
-        Move::Idle => true,
-        Move::Place(p, at) => {
-            p.0 < inst.patients()
-                && at.day.0 < inst.days()
-                && at.room.0 < inst.rooms()
-                && at.theatre.0 < inst.theatres()
-        }
-        Move::Withdraw(p) => p.0 < inst.patients(),
-        Move::SetDay(p, d) => p.0 < inst.patients() && d.0 < inst.days(),
-        Move::Nurse(r, k, n) => { r.0 < inst.rooms() && k.0 < inst.shifts() && n.0 < inst.nurses() }
-        _ => false,
-    }
-}
+/// A worker, what it does, and what comes of it.
+type Row = (u32, Step, Told);
+
+/// A place, and the price of the entry there.
+type Priced = (usize, [i64; 9], [i64; 8]);
 
 // A worker's step.
 fn act(
@@ -154,8 +68,8 @@ fn act(
 {
     match *step {
         Looks => {
-            let (seen, unseen) = catch_up(book, replica, buffer);
-            Seen(seen, unseen)
+            let (seen, front) = catch_up(book, replica, buffer);
+            Seen(seen, front)
         }
         Offers(number, mv) => {
             if !is_in_range(inst, &mv) {
@@ -200,12 +114,13 @@ fn act_all(
     one: &mut Replica<'_>,
     options: &Options,
     buffer: &mut Buffer,
-    rows: &[(u32, Step, Told)],
+    rows: &[Row],
 ) -> bool
     requires instance { inst.now.draft ≡ book.old.base.instance }
     requires options { options.now ≡ book.old.base.options }
     requires zero { IsReplicaIn book.old.base book.old.entries zero.old }
     requires one { IsReplicaIn book.old.base book.old.entries one.old }
+    ensures base { book.new.base ≡ book.old.base }
 {
     for (worker, step, expected) in rows {
         if act_by(inst, book, zero, one, options, buffer, *worker, step) != *expected {
@@ -223,12 +138,13 @@ fn act_first(
     book: &mut Book<'_>,
     options: &Options,
     freeze: u32,
-    rows: &[(u32, Step, Told)],
+    rows: &[Row],
 ) -> Result<bool, AllocError>
     requires start { IsPlanOf inst.now.draft start.now }
     requires lawful { IsLawful options.now }
     requires base { book.old.base ≡ base_with inst.now.draft start.now options.now freeze }
     requires empty { book.old.entries ≡ [] }
+    ensures base { book.new.base ≡ book.old.base }
 {
     let mut buffer = Buffer::new(alloc)?;
     let mut zero = Replica::new(alloc, inst, start, options, freeze, 0)?;
@@ -251,8 +167,8 @@ fn play(
     start: &Plan,
     options: &Options,
     freeze: u32,
-    rows: &[(u32, Step, Told)],
-    prices: &[(usize, [i64; 9], [i64; 8])],
+    rows: &[Row],
+    prices: &[Priced],
 ) -> Result<bool, AllocError>
     requires start { IsPlanOf inst.now.draft start.now }
     requires lawful { IsLawful options.now }
@@ -265,126 +181,176 @@ fn play(
 
 const ACCEPTED: Told = Said(Some(Verdict::Accepted));
 
-// Whether a move of the first worker, who has seen nothing, has this price and read these cells.
-fn is_priced(
-    alloc: Global,
-    inst: &Instance,
-    start: &Plan,
-    mv: &Move,
-    price: ([i64; 9], [i64; 8]),
-    reads: &[(u32, u32)],
-) -> bool
-    requires start { IsPlanOf inst.now.draft start.now }
-    requires move_in { IsMoveOf inst.now.draft mv.now }
+const ONCE_STALE: Told = Said(Some(Verdict::Stale {
+    cell: Cell::RoomShift(RoomNo(0), Shift(2)),
+    at_seen: 0,
+    at_place: 1,
+}));
+
+// The second patient has the other room, on the first day or on the second.
+const JOIN_BESIDE: Move = Move::Place(
+    PatientNo(1),
+    Placement {
+        day: Day(0),
+        room: RoomNo(1),
+        theatre: TheatreNo(1),
+    },
+);
+
+const JOIN_LATER: Move = Move::Place(
+    PatientNo(1),
+    Placement {
+        day: Day(1),
+        room: RoomNo(1),
+        theatre: TheatreNo(1),
+    },
+);
+
+// A move is stale where another changed what it read, and is accepted when it comes again. Its worker hasn't seen its own
+// last entry when it offers again at once, and has when it does so after a look, by the same number.
+const COMES_AGAIN: [Row; 6] = [
+    (1, Offers(0, SECOND_NURSE), ACCEPTED),
+    (0, Offers(0, JOIN), ONCE_STALE),
+    (0, Offers(0, JOIN), Said(None)),
+    (0, Looks, Seen(2, 2)),
+    (0, Looks, Seen(2, 2)),
+    (0, Offers(0, JOIN), ACCEPTED),
+];
+
+const AGAIN_PRICES: [Priced; 2] = [
+    (0, [0; 9], [0, -2, 2, 0, 0, 0, 0, 0]),
+    (2, CROWDED, [1, 4, 2, 2, 1, 1, 0, -1]),
+];
+
+// Of the second patient joining the first.
+const CROWDED: [i64; 9] = [1, 0, 0, 0, 0, 0, 1, 0, 0];
+
+// Of three shifts without a nurse.
+const UNNURSED: [i64; 9] = [0, 0, 0, 0, 0, 0, 0, 0, 3];
+
+// A nurse who came back leaves a trace.
+const TRACE: [Row; 4] = [
+    (1, Offers(0, SECOND_NURSE), ACCEPTED),
+    (1, Looks, Seen(1, 1)),
+    (1, Offers(1, FIRST_NURSE), ACCEPTED),
+    (0, Offers(0, JOIN), Said(Some(TWICE_STALE))),
+];
+
+const TRACE_PRICES: [Priced; 1] = [(1, [0; 9], [0, 2, -2, 0, 0, 0, 0, 0])];
+
+// Moves that touch nothing in common are both made.
+const BOTH: [Row; 2] = [
+    (1, Offers(0, SECOND_NURSE), ACCEPTED),
+    (0, Offers(0, JOIN_BESIDE), ACCEPTED),
+];
+
+const BOTH_PRICES: [Priced; 1] = [(1, UNNURSED, [0, 0, 0, 0, 1, 1, 0, -1])];
+
+// The past is frozen.
+const FROZEN: [Row; 5] = [
+    (
+        0,
+        Offers(0, Move::SetDay(PatientNo(0), Day(1))),
+        Said(Some(Verdict::Frozen)),
+    ),
+    (0, Looks, Seen(1, 1)),
+    (0, Offers(1, JOIN_LATER), ACCEPTED),
+    (0, Looks, Seen(2, 2)),
+    (0, Offers(2, Move::Withdraw(PatientNo(1))), ACCEPTED),
+];
+
+const FROZEN_PRICES: [Priced; 2] = [
+    (1, UNNURSED, [0, 0, 0, 0, 1, 0, 1, -1]),
+    (2, [0, 0, 0, 0, 0, 0, 0, 0, -3], [0, 0, 0, 0, -1, 0, -1, 1]),
+];
+
+// Whether each of these comes out so.
+fn come_out_so(alloc: Global, inst: &Instance, start: &Plan) -> Result<bool, AllocError>
+    requires { IsPlanOf inst.now.draft start.now }
 {
-    let Ok(mut zero) = Replica::new(alloc, inst, start, &hot(2, 2, 0), 0, 0) else {
-        return false;
-    };
-    share(&zero);
-    is(zero.price(mv, 0), (0, 0, 0), price, reads)
+    Ok(
+        play(
+            alloc,
+            inst,
+            start,
+            &hot(2, 2, 1),
+            0,
+            &COMES_AGAIN,
+            &AGAIN_PRICES,
+        )? && play(alloc, inst, start, &hot(2, 2, 0), 0, &TRACE, &TRACE_PRICES)?
+            && play(alloc, inst, start, &hot(2, 2, 0), 0, &BOTH, &BOTH_PRICES)?
+            && play(
+                alloc,
+                inst,
+                start,
+                &hot(1, 3, 0),
+                1,
+                &FROZEN,
+                &FROZEN_PRICES,
+            )?,
+    )
 }
+
+// What the first worker's price of joining the first patient rests on.
+const READS: [(u32, u32); 11] = [
+    (1, 0),
+    (2, 0),
+    (8, 0),
+    (10, 0),
+    (12, 0),
+    (13, 0),
+    (14, 0),
+    (24, 0),
+    (25, 0),
+    (26, 0),
+    (37, 0),
+];
 
 // Whether a price rests on what is read.
-fn rests_on_what_is_read(alloc: Global, inst: &Instance, start: &Plan) -> bool
+fn rests_on_what_is_read(alloc: Global, inst: &Instance, start: &Plan) -> Result<bool, AllocError>
     requires { IsPlanOf inst.now.draft start.now }
 {
-    let join = place(1, 0, 0);
-    let reads = [
-        (1, 0),
-        (2, 0),
-        (8, 0),
-        (10, 0),
-        (12, 0),
-        (13, 0),
-        (14, 0),
-        (24, 0),
-        (25, 0),
-        (26, 0),
-        (37, 0),
-    ];
+    let mut zero: Replica<'_> = Replica::new(alloc, inst, start, &hot(2, 2, 0), 0, 0)?;
+    share(&zero);
     let price = (CROWDED, [1, 6, 1, 3, 1, 1, 0, -1]);
-    is_in_range(inst, &join) && is_priced(alloc, inst, start, &join, price, &reads)
+    Ok(is_in_range(inst, &JOIN) && is(zero.price(&JOIN, 0), (0, 0, 0), &price, &READS))
 }
 
-// Whether a move is stale where another changed what it read, and is accepted when it comes again. Its worker hasn't seen
-// its own last entry when it offers again at once, and has when it does so after a look, by the same number.
-fn comes_again(alloc: Global, inst: &Instance, start: &Plan) -> bool
-    requires { IsPlanOf inst.now.draft start.now }
-{
-    let join = Offers(0, place(1, 0, 0));
-    let rows = [
-        (1, Offers(0, night(1)), ACCEPTED),
-        (0, join, Said(stale_by_night(1))),
-        (0, join, Said(None)),
-        (0, Looks, Seen(2, 0)),
-        (0, Looks, Seen(2, 0)),
-        (0, join, ACCEPTED),
-    ];
-    let prices = [
-        (0, [0; 9], [0, -2, 2, 0, 0, 0, 0, 0]),
-        (2, CROWDED, [1, 4, 2, 2, 1, 1, 0, -1]),
-    ];
-    matches!(
-        play(alloc, inst, start, &hot(2, 2, 1), 0, &rows, &prices),
-        Ok(true)
-    )
+// A worker's offers of moves that do nothing, each after a look, and then four looks of another.
+fn idle_rows(alloc: Global, count: u32) -> Result<Vec<Row>, AllocError> {
+    let mut rows = Vec::new(alloc);
+    for number in 0..count {
+        rows.push((1, Looks, Seen(number, number)))?;
+        rows.push((1, Offers(number, Move::Idle), ACCEPTED))?;
+    }
+    for seen in [256, 512, 600, 600] {
+        rows.push((0, Looks, Seen(seen, 600)))?;
+    }
+    Ok(rows)
 }
 
-// Whether a nurse who came back leaves a trace.
-fn leaves_a_trace(alloc: Global, inst: &Instance, start: &Plan) -> bool
-    requires { IsPlanOf inst.now.draft start.now }
+// Whether no cell has a version yet.
+fn are_untouched(book: &Book<'_>, cells: u32) -> bool
+    requires { cells ≤ cell_count book.now.base.instance }
 {
-    let rows = [
-        (1, Offers(0, night(1)), ACCEPTED),
-        (1, Looks, Seen(1, 0)),
-        (1, Offers(1, night(0)), ACCEPTED),
-        (0, Offers(0, place(1, 0, 0)), Said(stale_by_night(2))),
-    ];
-    let prices = [(1, [0; 9], [0, 2, -2, 0, 0, 0, 0, 0])];
-    matches!(
-        play(alloc, inst, start, &hot(2, 2, 0), 0, &rows, &prices),
-        Ok(true)
-    )
+    for cell in 0..cells {
+        if book.versions(cell) != 0 {
+            return false;
+        }
+    }
+    true
 }
 
-// Whether moves that touch nothing in common are both made.
-fn are_both_made(alloc: Global, inst: &Instance, start: &Plan) -> bool
+// Whether looks show 256 entries each, and 600 moves that do nothing touch no cell and change no timetable.
+fn looks_show_256_each(alloc: Global, inst: &Instance, start: &Plan) -> Result<bool, AllocError>
     requires { IsPlanOf inst.now.draft start.now }
 {
-    let rows = [
-        (1, Offers(0, night(1)), ACCEPTED),
-        (0, Offers(0, place(1, 0, 1)), ACCEPTED),
-    ];
-    let prices = [(1, UNNURSED, [0, 0, 0, 0, 1, 1, 0, -1])];
-    matches!(
-        play(alloc, inst, start, &hot(2, 2, 0), 0, &rows, &prices),
-        Ok(true)
-    )
-}
-
-// Whether the past is frozen.
-fn is_frozen(alloc: Global, inst: &Instance, start: &Plan) -> bool
-    requires { IsPlanOf inst.now.draft start.now }
-{
-    let rows = [
-        (
-            0,
-            Offers(0, Move::SetDay(PatientNo(0), Day(1))),
-            Said(Some(Verdict::Frozen)),
-        ),
-        (0, Looks, Seen(1, 0)),
-        (0, Offers(1, place(1, 1, 1)), ACCEPTED),
-        (0, Looks, Seen(2, 0)),
-        (0, Offers(2, Move::Withdraw(PatientNo(1))), ACCEPTED),
-    ];
-    let prices = [
-        (1, UNNURSED, [0, 0, 0, 0, 1, 0, 1, -1]),
-        (2, [0, 0, 0, 0, 0, 0, 0, 0, -3], [0, 0, 0, 0, -1, 0, -1, 1]),
-    ];
-    matches!(
-        play(alloc, inst, start, &hot(1, 3, 0), 1, &rows, &prices),
-        Ok(true)
-    )
+    let options = hot(2, 700, 0);
+    let first = first_bill(alloc, inst, start)?;
+    let mut book = Book::new(alloc, inst, start, &first, &options, 0)?;
+    let rows = idle_rows(alloc, 600)?;
+    let told = act_first(alloc, inst, start, &mut book, &options, 0, rows.as_slice())?;
+    Ok(told && book.best() == Some((0, 159)) && are_untouched(&book, Numbering::of(inst).count()))
 }
 
 #[test]
@@ -392,43 +358,8 @@ fn workers_see_what_others_touched(rt: HostRuntime) -> Result<(), Fail> {
     let alloc = rt.alloc();
     let inst = ward(alloc, &[])?;
     let start = begin(alloc, &inst)?;
-    assert!(rt; rests_on_what_is_read(alloc, &inst, &start));
-    assert!(rt; comes_again(alloc, &inst, &start));
-    assert!(rt; leaves_a_trace(alloc, &inst, &start));
-    assert!(rt; are_both_made(alloc, &inst, &start));
-    assert!(rt; is_frozen(alloc, &inst, &start));
-    Ok(())
-}
-
-// A worker's offers of moves that do nothing, each after a look, and then three looks of another.
-fn idle_rows(alloc: Global, count: u32) -> Result<Vec<(u32, Step, Told)>, AllocError> {
-    let mut rows = Vec::new(alloc);
-    for number in 0..count {
-        rows.push((1, Looks, Seen(number, 0)))?;
-        rows.push((1, Offers(number, Move::Idle), ACCEPTED))?;
-    }
-    for told in [Seen(256, 344), Seen(512, 88), Seen(600, 0)] {
-        rows.push((0, Looks, told))?;
-    }
-    Ok(rows)
-}
-
-#[test]
-fn looks_show_256_entries_each(rt: HostRuntime) -> Result<(), Fail> {
-    let alloc = rt.alloc();
-    let inst = ward(alloc, &[])?;
-    let start = begin(alloc, &inst)?;
-    let rows = idle_rows(alloc, 600)?;
-    assert!(rt;
-        play(
-            alloc,
-            &inst,
-            &start,
-            &hot(2, 700, 0),
-            0,
-            rows.as_slice(),
-            &[]
-        )?
-    );
+    assert!(rt; rests_on_what_is_read(alloc, &inst, &start)?);
+    assert!(rt; come_out_so(alloc, &inst, &start)?);
+    assert!(rt; looks_show_256_each(alloc, &inst, &start)?);
     Ok(())
 }

@@ -1,14 +1,15 @@
 //! Turns over lists of numbers, by seats one after the other and in threads.
 
-ghost use Rattle.std.specs.Prelude.{◌≡◌, ℕ, ◌+◌, ◌*◌, ◌^◌, ◌<◌, ◌≤◌, true, length};
+ghost use Rattle.std.specs.Prelude.{◌≡◌, ℕ, ◌+◌, ◌-◌, ◌*◌, ◌^◌, ◌<◌, ◌≤◌};
 ghost use Rattle.ih_turn.specs.Seats.{IsSeatOf, seat_count, number_of, turns_left};
 
 use ih_turn::{Kept, Seat, Turn};
 use std::alloc::{AllocError, Global};
 use std::sync::Wait;
 use std::test::Fail;
-use std::thread::{Threads, join, map_vec};
+use std::thread::{Threads, map_vec};
 
+// A list of numbers, each of which is 5 above that of its maker.
 #[derive(Drop)]
 struct Numbers {
     items: Vec<u64>,
@@ -23,29 +24,7 @@ impl Kept for Numbers {
 
     ghost base = { λ _. tt };
 
-    ghost maker = { λ _. 0 };
-
-    fn len(&self) -> u64 {
-        self.items.len() as u64
-    }
-}
-
-// A list of numbers, each of which is its own maker.
-#[derive(Drop)]
-struct Own {
-    items: Vec<u64>,
-}
-
-impl Kept for Own {
-    type Entry = u64;
-
-    type Base = ();
-
-    ghost entries = { λ s. s.items.items };
-
-    ghost base = { λ _. tt };
-
-    ghost maker = { λ e. e };
+    ghost maker = { λ e. e - 5 };
 
     fn len(&self) -> u64 {
         self.items.len() as u64
@@ -63,8 +42,8 @@ fn cross<B: Kept + Send>(turn: &Turn<B>, seat: &Seat<B>) {
     is_send(seat);
 }
 
-// Adds the seat's number.
-fn add<R: Wait>(rt: &R, turn: &Turn<Own>, seat: Seat<Own>) -> Seat<Own>
+// Adds the number that is 5 above the seat's, or nothing.
+fn step<R: Wait>(rt: &R, turn: &Turn<Numbers>, seat: Seat<Numbers>, adds: bool) -> Seat<Numbers>
     requires own { IsSeatOf turn.now seat }
     requires left { 0 < turns_left seat }
     ensures own { IsSeatOf turn.now result }
@@ -72,100 +51,65 @@ fn add<R: Wait>(rt: &R, turn: &Turn<Own>, seat: Seat<Own>) -> Seat<Own>
 {
     let number = seat.number() as u64;
     let mut held = turn.take(rt, seat);
-    let _ = held.get_mut().items.push(number);
-    held.give()
-}
-
-// Adds 5, or nothing.
-fn step<R: Wait>(rt: &R, turn: &Turn<Numbers>, seat: Seat<Numbers>, adds: bool) -> Seat<Numbers>
-    requires own { IsSeatOf turn.now seat }
-    requires left { 0 < turns_left seat }
-    requires maker { adds ≡ true → number_of seat ≡ 0 }
-    ensures own { IsSeatOf turn.now result }
-    ensures seat { (number_of result ≡ number_of seat) × (turns_left result + 1 ≡ turns_left seat) }
-{
-    let mut held = turn.take(rt, seat);
     if adds {
-        let _ = held.get_mut().items.push(5);
+        let _ = held.get_mut().items.push(number + 5);
     }
     held.give()
 }
 
-fn add_all<R: Wait>(rt: &R, turn: &Turn<Own>, seat: Seat<Own>, count: u64) -> Seat<Own>
+// Adds it in each of so many turns.
+fn add_all<R: Wait>(rt: &R, turn: &Turn<Numbers>, seat: Seat<Numbers>, count: u64) -> Seat<Numbers>
     requires own { IsSeatOf turn.now seat }
     requires left { count ≤ turns_left seat }
     ensures own { IsSeatOf turn.now result }
-    ensures seat { number_of result ≡ number_of seat }
+    ensures number { number_of result ≡ number_of seat }
 {
     let mut seat = seat;
     for i in 0..count {
         let _ = i;
-        seat = add(rt, turn, seat);
+        seat = step(rt, turn, seat, true);
     }
     seat
 }
 
-fn two_threads<R: Threads + Wait + Sync>(
-    rt: &R,
-    turn: &Turn<Own>,
-    one: Seat<Own>,
-    two: Seat<Own>,
-) -> (Seat<Own>, Seat<Own>)
-    requires own { IsSeatOf turn.now one × IsSeatOf turn.now two }
-    requires left { (1000 ≤ turns_left one) × (1000 ≤ turns_left two) }
-    ensures own { IsSeatOf turn.now result.0 × IsSeatOf turn.now result.1 }
-    ensures numbers { (number_of result.0 ≡ number_of one) × (number_of result.1 ≡ number_of two) }
-{
-    join(
-        rt,
-        move || -> Seat<Own>
-            requires { IsSeatOf turn.now one × (1000 ≤ turns_left one) }
-            ensures { IsSeatOf turn.entry.now result × (number_of result ≡ number_of one) }
-        { add_all(rt, turn, one, 1000) },
-        move || -> Seat<Own>
-            requires { IsSeatOf turn.now two × (1000 ≤ turns_left two) }
-            ensures { IsSeatOf turn.entry.now result × (number_of result ≡ number_of two) }
-        { add_all(rt, turn, two, 1000) },
-    )
-}
-
-// How many entries the seats of a turn make, each of which takes its turns in a thread of its own.
-fn made_in_threads<R: Threads + Wait + Sync>(
+// Whether each of so many seats, in a thread of its own, adds its number in each of its turns.
+fn all_add<R: Threads + Wait + Sync>(
     rt: &R,
     alloc: Global,
     seats: u32,
     turns: u64,
-) -> Result<u64, AllocError>
+) -> Result<bool, AllocError>
     requires { (1 ≤ seats) × (seats * turns + 1 < 2 ^ 64) }
 {
-    let empty = Own {
+    let empty = Numbers {
         items: Vec::new(alloc),
     };
     let Ok((turn, row)) = Turn::new(alloc, empty, seats, turns) else {
-        return Ok(0);
+        return Ok(false);
     };
     let turn = &turn;
     let made = map_vec(
         rt,
         row,
-        &|seat: Seat<Own>| -> u64
+        &|seat: Seat<Numbers>| -> u64
             requires { IsSeatOf turn.now seat × (turns ≤ turns_left seat) }
         { add_all(rt, turn, seat, turns).made() },
     )?;
-    let mut total: u64 = 0;
     for count in made.iter() {
-        total = total.saturating_add(*count);
+        if *count != turns {
+            return Ok(false);
+        }
     }
-    Ok(total)
+    Ok(made.len() == seats as usize)
 }
 
 // The turn is closed with both its seats.
-fn closed<B: Kept + Drop>(
+fn closed(
     alloc: Global,
-    turn: Turn<B>,
-    one: Seat<B>,
-    two: Seat<B>,
-) -> Result<B, AllocError>
+    turn: Turn<Numbers>,
+    one: Seat<Numbers>,
+    two: Seat<Numbers>,
+) -> Result<Numbers, AllocError>
     requires own { (seat_count turn ≡ 2) × IsSeatOf turn one × IsSeatOf turn two }
     requires numbers { (number_of one ≡ 0) × (number_of two ≡ 1) }
 {
@@ -175,56 +119,66 @@ fn closed<B: Kept + Drop>(
     Ok(turn.close(seats))
 }
 
-#[test]
-fn two_threads_add_their_numbers(rt: HostRuntime) -> Result<(), Fail> {
-    let empty = Own {
-        items: Vec::new(rt.alloc()),
+// Whether the seat has seen, made and left so many.
+fn has(seat: &Seat<Numbers>, seen: u64, made: u64, left: u64) -> bool {
+    seat.seen() == seen && seat.made() == made && seat.left() == left
+}
+
+// The first of two seats adds the number 5, and the second none. Answers the list in the end, and none where a seat counts
+// otherwise.
+fn five_alone<R: Wait>(
+    rt: &R,
+    alloc: Global,
+    turn: Turn<Numbers>,
+    one: Seat<Numbers>,
+    two: Seat<Numbers>,
+) -> Result<Option<Numbers>, AllocError>
+    requires own { (seat_count turn ≡ 2) × IsSeatOf turn one × IsSeatOf turn two }
+    requires left { (0 < turns_left one) × (0 < turns_left two) }
+{
+    cross(&turn, &one);
+    if one.number() != 0 || two.number() != 1 {
+        return Ok(None);
+    }
+    let one = step(rt, &turn, one, true);
+    let two = step(rt, &turn, two, false);
+    if !has(&one, 1, 1, 1) || !has(&two, 1, 0, 1) {
+        return Ok(None);
+    }
+    Ok(Some(closed(alloc, turn, one, two)?))
+}
+
+// Whether the list is then that of 5 alone.
+fn is_five_alone<R: Wait>(rt: &R, alloc: Global) -> Result<bool, AllocError> {
+    let empty = Numbers {
+        items: Vec::new(alloc),
     };
-    let Ok((turn, mut seats)) = Turn::new(rt.alloc(), empty, 2, 1000) else {
-        panic!(rt; "no memory")
+    let Ok((turn, mut seats)) = Turn::new(alloc, empty, 2, 2) else {
+        return Ok(false);
     };
-    let second = seats.pop();
-    let first = seats.pop();
-    let (Some(one), Some(two)) = (first, second) else {
-        panic!(rt; "two seats")
+    let Some(two) = seats.pop() else {
+        return Ok(false);
     };
-    assert_eq!(rt; (one.number(), two.number()), (0, 1));
-    let (one, two) = two_threads(&rt, &turn, one, two);
-    let last = closed(rt.alloc(), turn, one, two)?;
-    assert_eq!(rt; last.items.len(), 2000);
-    Ok(())
+    let Some(one) = seats.pop() else {
+        return Ok(false);
+    };
+    match five_alone(rt, alloc, turn, one, two)? {
+        Some(list) => Ok(list.items.as_slice() == [5].as_slice()),
+        None => Ok(false),
+    }
 }
 
 #[test]
 fn a_list_of_five_alone(rt: HostRuntime) -> Result<(), Fail> {
-    let empty = Numbers {
-        items: Vec::new(rt.alloc()),
-    };
-    let Ok((turn, mut seats)) = Turn::new(rt.alloc(), empty, 2, 2) else {
-        panic!(rt; "no memory")
-    };
-    let second = seats.pop();
-    let first = seats.pop();
-    let (Some(one), Some(two)) = (first, second) else {
-        panic!(rt; "two seats")
-    };
-    assert_eq!(rt; (one.number(), two.number()), (0, 1));
-    let one = step(&rt, &turn, one, true);
-    assert_eq!(rt; (one.seen(), one.made(), one.left()), (1, 1, 1));
-    let two = step(&rt, &turn, two, false);
-    assert_eq!(rt; (two.seen(), two.made(), two.left()), (1, 0, 1));
-    let last = closed(rt.alloc(), turn, one, two)?;
-    assert_eq!(rt; last.items.as_slice(), [5].as_slice());
+    assert!(rt; is_five_alone(&rt, rt.alloc())?);
     Ok(())
 }
 
+// In one thread, in two, and in as many as a search may have.
 #[test]
-fn seats_in_threads_that_all_end(rt: HostRuntime) -> Result<(), Fail> {
-    let alloc = rt.alloc();
-    assert_eq!(rt; made_in_threads(&rt, alloc, 1, 64)?, 64);
-    assert_eq!(rt; made_in_threads(&rt, alloc, 2, 64)?, 128);
-    assert_eq!(rt; made_in_threads(&rt, alloc, 3, 64)?, 192);
-    assert_eq!(rt; made_in_threads(&rt, alloc, 8, 16)?, 128);
-    assert_eq!(rt; made_in_threads(&rt, alloc, 64, 8)?, 512);
+fn seats_in_threads_all_add(rt: HostRuntime) -> Result<(), Fail> {
+    for (seats, turns) in [(1, 64), (2, 1000), (3, 64), (8, 16), (64, 8)] {
+        assert!(rt; all_add(&rt, rt.alloc(), seats, turns)?);
+    }
     Ok(())
 }

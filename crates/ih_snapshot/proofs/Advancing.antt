@@ -7,8 +7,8 @@ use Rattle.std.proofs.lemmas.List.{get_or_past, take-append-le, take_more}
 use Rattle.std.proofs.lemmas.Option.{slice_get-get_or}
 use Rattle.ih_plan.specs.Sums.{bit}
 use Rattle.ih_plan.specs.Cells.{cell_at, cell_count}
-use Rattle.ih_plan.specs.Footprint.{footprint}
-use Rattle.ih_journal.specs.declared.entries.Entry.{Entry}
+use Rattle.ih_plan.specs.Series.{footprint_of_all}
+use Rattle.ih_journal.specs.Tried.{Tried}
 use Rattle.ih_journal.specs.Base.{Base}
 use Rattle.ih_journal.specs.History.{after_entry, changes, is_accepted, plan_at, version}
 use Rattle.ih_journal.specs.Legal.{IsLegalButDraw}
@@ -20,24 +20,24 @@ use Rattle.ih_cellbook.proofs.Exact.{accepted-local}
 use Rattle.ih_cellbook.proofs.Few.{legal-few}
 use Rattle.ih_cellbook.proofs.Versions.{version-more, version-most}
 use Rattle.ih_snapshot.specs.Keeping.{CanTake, HasTaken, IsOwnRead}
-use Rattle.ih_snapshot.specs.Replicas.{IsReplicaOf, IsReadFrom}
-use Rattle.ih_snapshot.specs.Snapshot.{Snapshot}
+use Rattle.ih_cellbook.specs.Replicas.{IsReplicaOf, IsReadFrom}
+use Rattle.ih_cellbook.specs.Snapshot.{Snapshot}
 use Rattle.ih_snapshot.proofs.Touching.{keys}
 
 -- ---- entries that follow
 
-get-behind : (H es : List Entry) (k : ℕ) → slice_get (H ++ es) (length H + k) ≡ slice_get es k
+get-behind : (H es : List Tried) (k : ℕ) → slice_get (H ++ es) (length H + k) ≡ slice_get es k
 get-behind [] es k = let same : 0 + k ≡ k = omega arith in ap (slice_get es) same
 get-behind (x ∷ xs) es k = let more : length (x ∷ xs) + k ≡ suc (length xs + k) = omega arith in ap (slice_get (x ∷ xs ++ es)) more ∙ get-behind xs es k
 
 -- the next of them may come after those before it
-legal-next : (b : Base) (H es : List Entry) (k : ℕ) (e : Entry) → AreLegalButDraws b (H ++ es) → slice_get es k ≡ Some e → IsLegalButDraw b (H ++ take k es) e
+legal-next : (b : Base) (H es : List Tried) (k : ℕ) (e : Tried) → AreLegalButDraws b (H ++ es) → slice_get es k ≡ Some e → IsLegalButDraw b (H ++ take k es) e
 legal-next b H es k e legal there =
     subst (λ G. IsLegalButDraw b G e) (take-append-add H es k) (legal (length H + k) e (get-behind H es k ∙ there))
 
 -- ---- what can be taken over
 
-module _ (H : List Entry) (r : Snapshot) (stands : IsReplicaOf r.base H r) where
+module _ (H : List Tried) (r : Snapshot) (stands : IsReplicaOf r.base H r) where
   short : length H ≤ 10 ^ 6
   short = let few = (legal-few r.base H stands.legal).most in let most = stands.lawful.lawful.entries in omega (arith, few, most)
 
@@ -50,19 +50,19 @@ module _ (H : List Entry) (r : Snapshot) (stands : IsReplicaOf r.base H r) where
         | inr past ↦ let none = get_or_past r.versions n 0 (omega arith) in omega (arith, none)
       ]
 
-  module _ (e : Entry) (legal : IsLegalButDraw r.base H e) where
+  module _ (e : Tried) (legal : IsLegalButDraw r.base H e) where
     -- an accepted move of the last offer touches the cells that the offer read
     own : is_accepted e.verdict ≡ true → IsOwnRead r.base.instance r.plan r.last e
     own on some seen mv =
         let last : IsReadFrom r.base H r.last = stands.last in
         let verdict = legal.verdict in
-        let local = accepted-local r.base H e.number e.seen e.mv e.price stands.lawful.start (legal_but-moves r.base H stands.legal) legal.move (sym verdict ∙ accepted-is e.verdict on) in
+        let local = accepted-local r.base H e.number e.seen e.moves e.price stands.lawful.start (legal_but-moves r.base H stands.legal) legal.move (sym verdict ∙ accepted-is e.verdict on) in
         ap keys (elim last.reads [ inl none ↦ absurd (let len = ap length none in omega (arith, len)) | inr read ↦ read ])
-        ∙ reads-cells r.base (take r.last.seen H) r.last.mv
-        ∙ ap (λ n. footprint r.base.instance (plan_at r.base H n) r.last.mv) (sym seen)
-        ∙ ap (footprint r.base.instance (plan_at r.base H e.seen)) (sym mv)
+        ∙ reads-cells r.base (take r.last.seen H) r.last.moves
+        ∙ ap (λ n. footprint_of_all r.base.instance (plan_at r.base H n) r.last.moves) (sym seen)
+        ∙ ap (footprint_of_all r.base.instance (plan_at r.base H e.seen)) (sym mv)
         ∙ sym local.numbers
-        ∙ ap (λ P. footprint r.base.instance P e.mv) (sym stands.plan)
+        ∙ ap (λ P. footprint_of_all r.base.instance P e.moves) (sym stands.plan)
 
     can : CanTake r e
     can = record {
@@ -88,7 +88,7 @@ module _ (H : List Entry) (r : Snapshot) (stands : IsReplicaOf r.base H r) where
             seen = omega (arith, most, more);
             reads = elim stands.last.reads [
               | inl none ↦ inl none
-              | inr read ↦ inr (read ∙ ap (λ G. reads_after r.base G r.last.mv) (sym (take-append-le r.last.seen H (e ∷ []) most)))
+              | inr read ↦ inr (read ∙ ap (λ G. reads_after r.base G r.last.moves) (sym (take-append-le r.last.seen H (e ∷ []) most)))
             ];
           })
 
@@ -105,20 +105,20 @@ module _ (H : List Entry) (r : Snapshot) (stands : IsReplicaOf r.base H r) where
 
 -- ---- the same with the search by its own name
 
-own-base : (b : Base) (H : List Entry) (r : Snapshot) → IsReplicaOf b H r → IsReplicaOf r.base H r
+own-base : (b : Base) (H : List Tried) (r : Snapshot) → IsReplicaOf b H r → IsReplicaOf r.base H r
 own-base b H r stands = subst (λ c. IsReplicaOf c H r) (sym stands.base) stands
 
-can-take : (b : Base) (H : List Entry) (r : Snapshot) (e : Entry) → IsReplicaOf b H r → IsLegalButDraw b H e → CanTake r e
+can-take : (b : Base) (H : List Tried) (r : Snapshot) (e : Tried) → IsReplicaOf b H r → IsLegalButDraw b H e → CanTake r e
 can-take b H r e stands legal = can H r (own-base b H r stands) e (subst (λ c. IsLegalButDraw c H e) (sym stands.base) legal)
 
-stands-more : (b : Base) (H : List Entry) (r : Snapshot) (e : Entry) (s : Snapshot) → IsReplicaOf b H r → IsLegalButDraw b H e → HasTaken r e s
+stands-more : (b : Base) (H : List Tried) (r : Snapshot) (e : Tried) (s : Snapshot) → IsReplicaOf b H r → IsLegalButDraw b H e → HasTaken r e s
     → IsReplicaOf b (H ++ e ∷ []) s
 stands-more b H r e s stands legal taken =
     subst (λ c. IsReplicaOf c (H ++ e ∷ []) s) stands.base (more H r (own-base b H r stands) e (subst (λ c. IsLegalButDraw c H e) (sym stands.base) legal) s taken)
 
 -- ---- one of the entries that follow
 
-module _ (b : Base) (H es : List Entry) (k : ℕ) (d : Entry) (r : Snapshot) (stands : IsReplicaOf b (H ++ take k es) r) (legal : AreLegalButDraws b (H ++ es)) (h : k < length es) where
+module _ (b : Base) (H es : List Tried) (k : ℕ) (d : Tried) (r : Snapshot) (stands : IsReplicaOf b (H ++ take k es) r) (legal : AreLegalButDraws b (H ++ es)) (h : k < length es) where
   next : IsLegalButDraw b (H ++ take k es) (slice_index_or es k d)
   next = legal-next b H es k (slice_index_or es k d) legal (slice_get-get_or es k d h)
 

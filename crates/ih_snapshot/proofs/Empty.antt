@@ -10,8 +10,8 @@ use Rattle.ih_journal.specs.History.{after_entries}
 use Rattle.ih_cellbook.specs.Keeping.{IsBase, AreVersions}
 use Rattle.ih_cellbook.proofs.Committing.{legal_but-none}
 use Rattle.ih_cellbook.proofs.Kept.{kept-none}
-use Rattle.ih_snapshot.specs.Replicas.{IsReplicaOf}
-use Rattle.ih_snapshot.specs.Snapshot.{Snapshot}
+use Rattle.ih_cellbook.specs.Replicas.{IsReplicaOf}
+use Rattle.ih_cellbook.specs.Snapshot.{Snapshot}
 use Rattle.std.proofs.Common.{None}
 
 -- each version is 0

@@ -12,34 +12,33 @@ use Rattle.ih_plan.specs.declared.moves.Write.{Write}
 use Rattle.ih_plan.specs.declared.moves.Write.TheVariants.{SetStay, SetCare}
 use Rattle.ih_plan.specs.Timetable.{Timetable, stay_of}
 use Rattle.ih_plan.specs.Presence.{day_of}
-use Rattle.ih_plan.specs.Expand.{expand, IsMoveOf}
 use Rattle.ih_plan.specs.Sums.{tagged}
 use Rattle.ih_plan.specs.Cells.{cell_at}
-use Rattle.ih_plan.specs.Footprint.{footprint}
 use Rattle.ih_plan.proofs.Lists.{tagged-same}
-use Rattle.ih_journal.specs.declared.entries.Entry.{Entry}
+use Rattle.ih_plan.specs.Series.{AreMoves, expand_all, footprint_of_all, price_of_all}
+use Rattle.ih_journal.specs.Tried.{Tried}
 use Rattle.ih_journal.specs.Base.{Base}
-use Rattle.ih_journal.specs.Frozen.{is_before, is_frozen, is_frozen_write}
+use Rattle.ih_journal.specs.Frozen.{is_before, is_frozen_write}
+use Rattle.ih_journal.specs.Frozen.{is_frozen}
 use Rattle.ih_journal.specs.History.{plan_after, version}
-use Rattle.ih_journal.specs.Legal.{price_of}
 use Rattle.ih_cellbook.specs.Counters.{is_compared}
 use Rattle.ih_cellbook.specs.Noted.{Noted}
 use Rattle.ih_cellbook.specs.Offers.{IsRightOffer, next_number, reads_after}
 use Rattle.ih_cellbook.proofs.Committing.{footprint-below}
 use Rattle.ih_snapshot.specs.Noting.{asks_reads, offer_of, offer_with, reads_of}
-use Rattle.ih_snapshot.specs.Replicas.{IsReplicaOf, IsOfferAfter}
-use Rattle.ih_snapshot.specs.Snapshot.{Snapshot}
+use Rattle.ih_cellbook.specs.Replicas.{IsReplicaOf, IsOfferAfter}
+use Rattle.ih_cellbook.specs.Snapshot.{Snapshot}
 
-module _ (b : Base) (H : List Entry) (r : Snapshot) (n : ℕ) (m : Move) (stands : IsReplicaOf b H r) where
+module _ (b : Base) (H : List Tried) (r : Snapshot) (n : ℕ) (m : List Move) (stands : IsReplicaOf b H r) where
   reads-are : reads_of r m ≡ reads_after b H m
   reads-are =
-      ap (λ c. tagged (slice_index r.versions) (footprint c.instance r.plan m)) stands.base
-      ∙ ap (λ P. tagged (slice_index r.versions) (footprint b.instance P m)) stands.plan
-      ∙ tagged-same (slice_index r.versions) (λ i. version b H (cell_at b.instance i)) (footprint b.instance (plan_after b H) m)
+      ap (λ c. tagged (slice_index r.versions) (footprint_of_all c.instance r.plan m)) stands.base
+      ∙ ap (λ P. tagged (slice_index r.versions) (footprint_of_all b.instance P m)) stands.plan
+      ∙ tagged-same (slice_index r.versions) (λ i. version b H (cell_at b.instance i)) (footprint_of_all b.instance (plan_after b H) m)
       (λ i there. stands.versions.each i (footprint-below b.instance (plan_after b H) m i there))
 
-  price-is : price_of r.base.instance r.plan m ≡ price_of b.instance (plan_after b H) m
-  price-is = ap (λ c. price_of c.instance r.plan m) stands.base ∙ ap (λ P. price_of b.instance P m) stands.plan
+  price-is : price_of_all r.base.instance r.plan m ≡ price_of_all b.instance (plan_after b H) m
+  price-is = ap (λ c. price_of_all c.instance r.plan m) stands.base ∙ ap (λ P. price_of_all b.instance P m) stands.plan
 
   frozen-is : is_frozen r.base r.plan m ≡ is_frozen b (plan_after b H) m
   frozen-is = ap (λ c. is_frozen c r.plan m) stands.base ∙ ap (λ P. is_frozen b P m) stands.plan
@@ -52,8 +51,8 @@ module _ (b : Base) (H : List Entry) (r : Snapshot) (n : ℕ) (m : Move) (stands
       ∙ ap (λ (reads : List (ℕ × ℕ)). if is_compared b.instance b.options frozen n price then reads else []) reads-are
 
   offered-reads : (offer_of r n m).reads.pairs
-      ≡ (if is_compared b.instance b.options (is_frozen r.base r.plan m) n (price_of r.base.instance r.plan m) then reads_after b H m else [])
-  offered-reads = asked-is (is_frozen r.base r.plan m) (price_of r.base.instance r.plan m)
+      ≡ (if is_compared b.instance b.options (is_frozen r.base r.plan m) n (price_of_all r.base.instance r.plan m) then reads_after b H m else [])
+  offered-reads = asked-is (is_frozen r.base r.plan m) (price_of_all r.base.instance r.plan m)
 
   pub offer-after : IsOfferAfter b H r.worker n m (offer_of r n m)
   offer-after = record {
@@ -87,17 +86,17 @@ module _ (b : Base) (H : List Entry) (r : Snapshot) (n : ℕ) (m : Move) (stands
       by_case true = inr (reads-are ∙ ap (λ G. reads_after b G m) (sym whole))
       by_case false = inl refl
 
-  pub offer-right : IsMoveOf r.base.instance m → r.worker < b.options.workers → next_number b.options H r.worker ≡ Some n → IsRightOffer b H (offer_of r n m)
+  pub offer-right : AreMoves r.base.instance m → r.worker < b.options.workers → next_number b.options H r.worker ≡ Some n → IsRightOffer b H (offer_of r n m)
   offer-right fits worker number =
       let same = stands.seen in
       let here : plan_after b (take r.seen H) ≡ plan_after b H = ap (plan_after b) whole in
       record {
         worker = worker;
         number = number;
-        move = subst (λ c. IsMoveOf c.instance m) stands.base fits;
+        move = subst (λ c. AreMoves c.instance m) stands.base fits;
         seen = omega (arith, same);
         after_own = λ j e there own. let below = slice_get_within H j e there in omega (arith, below, same);
-        price = price-is ∙ ap (λ P. price_of b.instance P m) (sym here);
+        price = price-is ∙ ap (λ P. price_of_all b.instance P m) (sym here);
         reads = λ asked. offered-reads ∙ ap (λ (t : Bool). if t then reads_after b H m else []) asked ∙ ap (λ G. reads_after b G m) (sym whole);
         frozen = frozen-is ∙ ap (λ P. is_frozen b P m) (sym here);
       }
@@ -118,17 +117,17 @@ none-frozen start [] = refl
 none-frozen start (w ∷ ws) = rw (free-write start w, none-frozen start ws) refl
 
 -- a replica whose last offer has these parts
-pub filled : (r : Snapshot) (n : ℕ) (m : Move) (P : Timetable) (price : Bill) (reads : Noted) (frozen : Bool) → P ≡ r.plan → price ≡ price_of r.base.instance r.plan m
-    → reads ≡ record r.last.reads { pairs = [] } → frozen ≡ is_frozen r.base r.plan m
-    → record r { plan = P; last = record { worker = r.worker; number = n; seen = r.seen; mv = m; price = price; reads = reads; frozen = frozen } } ≡ record r { last = offer_with r n m [] }
+pub filled : (r : Snapshot) (n : ℕ) (m : List Move) (P : Timetable) (price : Bill) (reads : Noted) (frozen : Bool) → P ≡ r.plan
+    → price ≡ price_of_all r.base.instance r.plan m → reads ≡ record r.last.reads { pairs = [] } → frozen ≡ is_frozen r.base r.plan m
+    → record r { plan = P; last = record { worker = r.worker; number = n; seen = r.seen; moves = m; price = price; reads = reads; frozen = frozen } } ≡ record r { last = offer_with r n m [] }
 filled r n m P price reads frozen plan priced read free = rw (plan, priced, read, free) refl
 
-pub frozen-here : (b : Base) (Q P : Timetable) (m : Move) (frozen : Bool) → frozen ≡ list_any (is_frozen_write b.start b.freeze) (expand b.instance Q m) → Q ≡ P → frozen ≡ is_frozen b P m
+pub frozen-here : (b : Base) (Q P : Timetable) (m : List Move) (frozen : Bool) → frozen ≡ list_any (is_frozen_write b.start b.freeze) (expand_all b.instance Q m) → Q ≡ P → frozen ≡ is_frozen b P m
 unfolding is_frozen
-frozen-here b Q P m frozen tested same = tested ∙ ap (λ R. list_any (is_frozen_write b.start b.freeze) (expand b.instance R m)) same
+frozen-here b Q P m frozen tested same = tested ∙ ap (λ R. list_any (is_frozen_write b.start b.freeze) (expand_all b.instance R m)) same
 
 -- a replica whose last offer has these cells
-pub read-there : (r : Snapshot) (m : Move) (P : Timetable) (reads : Noted) (wanted : Bool) → wanted ≡ true → P ≡ r.plan → reads ≡ record r.last.reads { pairs = reads_of r m }
+pub read-there : (r : Snapshot) (m : List Move) (P : Timetable) (reads : Noted) (wanted : Bool) → wanted ≡ true → P ≡ r.plan → reads ≡ record r.last.reads { pairs = reads_of r m }
     → record r { plan = P; last = record r.last { reads = reads } }
     ≡ record r { last = record r.last { reads = record r.last.reads { pairs = if wanted then reads_of r m else r.last.reads.pairs } } }
 read-there r m P reads wanted on plan read = rw (on, plan, read) refl

@@ -10,9 +10,9 @@ use Rattle.ih_plan.specs.declared.moves.Move.{Move}
 use Rattle.ih_plan.specs.Timetable.{Timetable}
 use Rattle.ih_plan.specs.Sums.{bit, tagged}
 use Rattle.ih_plan.specs.Cells.{cell_at, cell_count}
-use Rattle.ih_plan.specs.Footprint.{touches, footprint}
 use Rattle.ih_plan.proofs.Lists.{has, tagged-keys}
 use Rattle.ih_plan.proofs.SumLemmas.{sum_below-le, length-which_below}
+use Rattle.ih_plan.specs.Series.{all_touch, footprint_of_all}
 use Rattle.ih_cellbook.specs.Counters.{times_read}
 use Rattle.ih_cellbook.proofs.Committing.{footprint-below, footprint-touches}
 use Rattle.ih_cellbook.proofs.Times.{times-once}
@@ -41,30 +41,30 @@ times-keys n (r ∷ rs) =
     let right = sum_by-cons (λ (x : ℕ). if x == n then 1 else 0) r.0 (keys rs) in
     left ∙ ap (λ k. (if r.0 == n then 1 else 0) + k) rest ∙ sym right
 
-module _ (I : Draft) (P : Timetable) (m : Move) where
-  pub foot-below : All (λ (n : ℕ). n < cell_count I) (footprint I P m)
-  foot-below = all-below (cell_count I) (footprint I P m) (footprint-below I P m)
+module _ (I : Draft) (P : Timetable) (m : List Move) where
+  pub foot-below : All (λ (n : ℕ). n < cell_count I) (footprint_of_all I P m)
+  foot-below = all-below (cell_count I) (footprint_of_all I P m) (footprint-below I P m)
 
-  pub foot-short : length (footprint I P m) ≤ cell_count I
-  unfolding footprint
+  pub foot-short : length (footprint_of_all I P m) ≤ cell_count I
+  unfolding footprint_of_all
   foot-short =
-      let len = length-which_below (cell_count I) (λ n. touches I P m (cell_at I n)) in
-      let most = sum_below-le (cell_count I) 1 (λ n. bit (touches I P m (cell_at I n))) (λ n h. bit-most (touches I P m (cell_at I n))) in
+      let len = length-which_below (cell_count I) (λ n. all_touch I P m (cell_at I n)) in
+      let most = sum_below-le (cell_count I) 1 (λ n. bit (all_touch I P m (cell_at I n))) (λ n h. bit-most (all_touch I P m (cell_at I n))) in
       omega (arith, len, most)
     where
       bit-most : (t : Bool) → bit t ≤ 1
       bit-most true = omega arith
       bit-most false = omega arith
 
-  pub foot-times : (n : ℕ) → n < cell_count I → times_listed n (footprint I P m) ≡ bit (touches I P m (cell_at I n))
-  unfolding footprint
+  pub foot-times : (n : ℕ) → n < cell_count I → times_listed n (footprint_of_all I P m) ≡ bit (all_touch I P m (cell_at I n))
+  unfolding footprint_of_all
   foot-times n h =
-      sym (times-keys n (tagged (λ i. 0) (footprint I P m)) ∙ ap (times_listed n) (tagged-keys (λ i. 0) (footprint I P m)))
-      ∙ times-once (cell_count I) n (λ i. 0) (λ i. touches I P m (cell_at I i)) h
+      sym (times-keys n (tagged (λ i. 0) (footprint_of_all I P m)) ∙ ap (times_listed n) (tagged-keys (λ i. 0) (footprint_of_all I P m)))
+      ∙ times-once (cell_count I) n (λ i. 0) (λ i. all_touch I P m (cell_at I i)) h
       ∙ ap bit (footprint-touches I P m n h)
 
   -- the same of pairs with these numbers
-  module _ (rs : List (ℕ × ℕ)) (own : keys rs ≡ footprint I P m) where
+  module _ (rs : List (ℕ × ℕ)) (own : keys rs ≡ footprint_of_all I P m) where
     pub reads-below : All (λ (r : ℕ × ℕ). r.0 < cell_count I) rs
     reads-below = keys-below (cell_count I) rs (λ i there. footprint-below I P m i (sym (ap (has i) own) ∙ there))
 
@@ -75,12 +75,12 @@ module _ (I : Draft) (P : Timetable) (m : Move) where
         let short = foot-short in
         omega (arith, len, same, short)
 
-    pub reads-times : (n : ℕ) → n < cell_count I → times_read n rs ≡ bit (touches I P m (cell_at I n))
+    pub reads-times : (n : ℕ) → n < cell_count I → times_read n rs ≡ bit (all_touch I P m (cell_at I n))
     reads-times n h = times-keys n rs ∙ ap (times_listed n) own ∙ foot-times n h
 
 -- listed cells of a footprint, where the instance goes by another name
-pub listed-below : (I J : Draft) (P : Timetable) (m : Move) (ns vs : List ℕ) → ns ≡ footprint J P m → J ≡ I → length vs ≡ cell_count I → All (λ (n : ℕ). n < length vs) ns
+pub listed-below : (I J : Draft) (P : Timetable) (m : List Move) (ns vs : List ℕ) → ns ≡ footprint_of_all J P m → J ≡ I → length vs ≡ cell_count I → All (λ (n : ℕ). n < length vs) ns
 listed-below I J P m ns vs own same len = rw (own, same, len) (foot-below I P m)
 
-pub listed-short : (I J : Draft) (P : Timetable) (m : Move) (ns : List ℕ) → ns ≡ footprint J P m → J ≡ I → length ns ≤ cell_count I
+pub listed-short : (I J : Draft) (P : Timetable) (m : List Move) (ns : List ℕ) → ns ≡ footprint_of_all J P m → J ≡ I → length ns ≤ cell_count I
 listed-short I J P m ns own same = rw (own, same) (foot-short I P m)

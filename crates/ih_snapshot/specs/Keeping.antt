@@ -3,39 +3,39 @@ use Rattle.std.specs.Prelude.{◌≡◌, ℕ, ◌+◌, ◌<◌, ◌≤◌, ◌^�
 use Rattle.ih_tables.specs.Sizes.{Sizes, sizes_of}
 use Rattle.ih_tables.specs.declared.drafts.Draft.{Draft}
 use Rattle.ih_plan.specs.Timetable.{Timetable}
-use Rattle.ih_plan.specs.Expand.{IsMoveOf}
 use Rattle.ih_plan.specs.Cells.{cell_at, cell_count}
-use Rattle.ih_plan.specs.Footprint.{footprint}
 use Rattle.ih_plan.specs.Sums.{bit}
-use Rattle.ih_journal.specs.declared.entries.Entry.{Entry}
+use Rattle.ih_plan.specs.Series.{AreMoves, footprint_of_all}
+use Rattle.ih_journal.specs.Tried.{Tried}
 use Rattle.ih_journal.specs.Base.{Base}
 use Rattle.ih_journal.specs.History.{after_entry, changes, is_accepted}
 use Rattle.ih_costs.specs.Standing.{Standing}
-use Rattle.ih_cellbook.specs.declared.offers.Offer.{Offer}
+use Rattle.ih_cellbook.specs.Offered.{Offered}
 use Rattle.ih_cellbook.specs.Keeping.{IsBase}
-use Rattle.ih_snapshot.specs.Snapshot.{Snapshot}
+use Rattle.ih_cellbook.specs.Snapshot.{Snapshot}
 
 -- The ledgers, the versions, the list of cells and the room for reads are of the instance.
-pub record IsOfBase (b : Base) (l : Standing) (vs : List ℕ) (z : Sizes) (o : Offer) : Type 0 where
+pub record IsOfBase (b : Base) (l : Standing) (vs : List ℕ) (z : Sizes) (o : Offered) : Type 0 where
   pub base : IsBase b
   pub instance : l.instance ≡ b.instance
   pub versions : length vs ≡ cell_count b.instance
   pub sizes : z ≡ sizes_of b.instance
   pub room : o.reads.room ≡ cell_count b.instance
 
--- If the entry is that of the last offer, and the offer read any cells, they are those that the entry's move touches at P.
-abbrev pub IsOwnRead : Draft → Timetable → Offer → Entry → Type 0
-IsOwnRead I P last e = 0 < length last.reads.pairs → e.seen ≡ last.seen → e.mv ≡ last.mv → map (λ (r : ℕ × ℕ). r.0) last.reads.pairs ≡ footprint I P e.mv
+-- If the entry is that of the last offer, and the offer read any cells, they are those that the entry's moves touch at P.
+abbrev pub IsOwnRead : Draft → Timetable → Offered → Tried → Type 0
+IsOwnRead I P last e = 0 < length last.reads.pairs → e.seen ≡ last.seen → e.moves ≡ last.moves
+    → map (λ (r : ℕ × ℕ). r.0) last.reads.pairs ≡ footprint_of_all I P e.moves
 
 -- The entry can be taken over: its move is in range, the counts stay small, and what is the worker's own was read off.
-pub record CanTake (r : Snapshot) (e : Entry) : Type 0 where
-  pub move : IsMoveOf r.base.instance e.mv
+pub record CanTake (r : Snapshot) (e : Tried) : Type 0 where
+  pub move : AreMoves r.base.instance e.moves
   pub seen : r.seen + 1 < 2 ^ 32
   pub small : (n : ℕ) → slice_index r.versions n ≤ 10 ^ 6
   pub own : is_accepted e.verdict ≡ true → IsOwnRead r.base.instance r.plan r.last e
 
 -- The second is the first after one entry more: the timetable after it, and versions raised where it is accepted and touches.
-pub record HasTaken (r : Snapshot) (e : Entry) (s : Snapshot) : Type 0 where
+pub record HasTaken (r : Snapshot) (e : Tried) (s : Snapshot) : Type 0 where
   pub base : s.base ≡ r.base
   pub worker : s.worker ≡ r.worker
   pub last : s.last ≡ r.last

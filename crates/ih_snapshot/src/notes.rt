@@ -1,23 +1,8 @@
 //! Versions of cells: how they are noted with a footprint, and how they rise.
 
 ghost use Rattle.std.specs.Prelude.{◌≡◌, ℕ, ◌+◌, ◌<◌, ◌≤◌, ◌^◌, length, slice_index, All};
-ghost use Rattle.ih_plan.specs.Sums.{tagged};
 ghost use Rattle.ih_cellbook.specs.Counters.{times_read};
 ghost use Rattle.ih_snapshot.specs.Noting.{times_listed};
-
-use ih_cellbook::Reads;
-
-/// Notes cells with their versions, in place of what was noted.
-pub(crate) fn note(cells: &[u32], versions: &[u32], reads: &mut Reads)
-    requires cells { All (λ n. n < length versions.now) cells.now }
-    requires room { length cells.now ≤ reads.old.room }
-    ensures { reads.new ≡ record reads.old { pairs = tagged (slice_index versions.now) cells.now } }
-{
-    reads.clear();
-    for &cell in cells {
-        reads.push(cell, versions[cell as usize]);
-    }
-}
 
 /// Each version rises by how often its cell is listed.
 pub(crate) fn raise(versions: &mut [u32], cells: &[u32])

@@ -1,24 +1,22 @@
 //! Replicas: copies of a search that workers price on.
 
 ghost use Rattle.std.specs.Prelude.{◌≡◌, [], IfOk};
-ghost use Rattle.ih_plan.specs.declared.moves.Move.TheVariants.{Idle};
 
-use crate::moves::{is_compared, is_frozen, play};
-use crate::notes::note;
-use ih_cellbook::{Offer, Reads};
+use crate::moves::{is_compared, play};
+use ih_cellbook::{Attempted, Logged, Offers};
 use ih_costs::Ledgers;
 use ih_footprint::{CellList, Numbering};
 use ih_journal::{Entry, Options, Verdict};
 use ih_moves::Writes;
-use ih_plan::{Move, Plan};
-use ih_tables::{Bill, Instance};
+use ih_plan::Plan;
+use ih_tables::Instance;
 use std::alloc::{AllocError, Global};
 use std::marker::Model;
 
 /// One worker's own copy of a search: the timetable after the entries that it has seen, with ledgers that price moves
 /// there, and each cell's version. After `new` no call takes memory.
 #[derive(Drop)]
-pub struct Replica<'a> {
+pub struct Replica<'a, E: Logged = Entry> {
     inst: &'a Instance,
     // The timetable before all entries, by which moves are frozen.
     start: Plan,
@@ -35,13 +33,14 @@ pub struct Replica<'a> {
     // Room for the writes of a move.
     writes: Writes,
     // The last offer that was made.
-    last: Offer,
+    last: E::Offer,
 }
 
-impl<'a> Model for Replica<'a> {
+impl<'a, E: Logged> Model for Replica<'a, E> {
+    ghost use Rattle.std.specs.Prelude.{◌≤◌};
     ghost use Rattle.ih_cellbook.specs.Keeping.{base_with};
     ghost use Rattle.ih_snapshot.specs.Keeping.{IsOfBase};
-    ghost use Rattle.ih_snapshot.specs.Snapshot.{Snapshot};
+    ghost use Rattle.ih_cellbook.specs.Snapshot.{Snapshot};
 
     ghost Value = { Snapshot };
 
@@ -51,40 +50,22 @@ impl<'a> Model for Replica<'a> {
       seen = r.seen;
       plan = r.ledgers.plan;
       versions = r.versions.items;
-      last = r.last;
+      last = E.Offer.offered r.last;
     } };
 
-    ghost invariant = { λ r. IsOfBase (base_with r.inst.now.draft r.start r.options r.freeze) r.ledgers r.versions.items r.foot.sizes r.last };
+    ghost invariant = { λ r. IsOfBase (base_with r.inst.now.draft r.start r.options r.freeze) r.ledgers r.versions.items r.foot.sizes (E.Offer.offered r.last) × (r.freeze ≤ E.Attempt.most_freeze) };
 }
 
-// An offer that stands for none yet: nothing is read where nothing is moved.
-fn first_offer(alloc: Global, worker: u32, cells: u32) -> Result<Offer, AllocError>
-    ensures worker { IfOk result (λ o. o.worker ≡ worker) }
-    ensures seen { IfOk result (λ o. o.seen ≡ 0) }
-    ensures mv { IfOk result (λ o. o.mv ≡ Idle) }
-    ensures reads { IfOk result (λ o. o.reads ≡ record { pairs = []; room = cells }) }
-{
-    Ok(Offer {
-        worker,
-        number: 0,
-        seen: 0,
-        mv: Move::Idle,
-        price: Bill::zero(),
-        reads: Reads::new(alloc, cells)?,
-        frozen: false,
-    })
-}
-
-impl<'a> Replica<'a> {
-    ghost use Rattle.std.specs.Prelude.{◌≡◌, [], IfOk, if◌then◌else◌};
+impl<'a, E: Logged> Replica<'a, E> {
+    ghost use Rattle.std.specs.Prelude.{◌≡◌, ◌≤◌, [], map, IfOk, if◌then◌else◌};
     ghost use Rattle.std.specs.Borrow.{sem};
     ghost use Rattle.ih_plan.specs.Timetable.{IsPlanOf};
-    ghost use Rattle.ih_plan.specs.Expand.{IsMoveOf};
+    ghost use Rattle.ih_plan.specs.Series.{AreMoves};
     ghost use Rattle.ih_journal.specs.Settings.{IsLawful};
     ghost use Rattle.ih_cellbook.specs.Keeping.{base_with};
     ghost use Rattle.ih_snapshot.specs.Keeping.{CanTake, HasTaken};
-    ghost use Rattle.ih_snapshot.specs.Noting.{asks_reads, offer_with, reads_of};
-    ghost use Rattle.ih_snapshot.specs.Replicas.{IsReplicaOf, MayFollow, StandsAfter, StandsAs, IsOfferOf, IsRightFor};
+    ghost use Rattle.ih_snapshot.specs.Noting.{asks_reads, offer_of, offer_with, reads_of};
+    ghost use Rattle.ih_cellbook.specs.Replicas.{IsReplicaOf, MayFollow, StandsAfter, StandsAs, IsOfferOf, IsRightFor};
     ghost use Rattle.ih_snapshot.specs.Lending.{RestsAs};
 
     /// A worker's replica of a search over a start, which fits the instance. It stands for the empty history.
@@ -95,9 +76,10 @@ impl<'a> Replica<'a> {
         options: &Options,
         freeze: u32,
         worker: u32,
-    ) -> Result<Replica<'a>, AllocError>
+    ) -> Result<Replica<'a, E>, AllocError>
         requires start { IsPlanOf inst.now.draft start.now }
         requires lawful { IsLawful options.now }
+        requires freeze { freeze ≤ E.Attempt.most_freeze }
         ensures replica { IfOk result (λ r. IsReplicaOf (base_with inst.entry.now.draft start.now options.now freeze) [] r) }
         ensures worker { IfOk result (λ r. r.worker ≡ worker) }
     {
@@ -114,15 +96,15 @@ impl<'a> Replica<'a> {
             seen: 0,
             foot: CellList::new(alloc, numbering)?,
             writes: Writes::new(),
-            last: first_offer(alloc, worker, cells)?,
+            last: <E::Offer as Offers>::blank(alloc, worker, cells)?,
         })
     }
 
     /// Takes over the entries that follow those that it stands for. It makes the moves that were accepted, in time of
     /// their writes and footprints.
-    pub fn advance(&mut self, entries: &[Entry])
-        requires follow { MayFollow self.old entries.now }
-        ensures replica { StandsAfter self.old entries.now self.new }
+    pub fn advance(&mut self, entries: &[E])
+        requires follow { MayFollow self.old (map E.tried entries.now) }
+        ensures replica { StandsAfter self.old (map E.tried entries.now) self.new }
         ensures base { self.new.base ≡ self.old.base }
         ensures worker { self.new.worker ≡ self.old.worker }
     {
@@ -139,16 +121,15 @@ impl<'a> Replica<'a> {
         self.ledgers.copy_from(&self.start);
         self.versions.as_mut_slice().fill(0);
         self.seen = 0;
-        self.last.seen = 0;
-        self.last.reads.clear();
+        self.last.reset();
     }
 
     // Takes over one entry.
-    fn take_over(&mut self, entry: &Entry)
-        requires { CanTake self.old entry.now }
-        ensures { HasTaken self.old entry.now self.new }
+    fn take_over(&mut self, entry: &E)
+        requires { CanTake self.old (E.tried entry.now) }
+        ensures { HasTaken self.old (E.tried entry.now) self.new }
     {
-        if let Verdict::Accepted = entry.verdict {
+        if let Verdict::Accepted = entry.verdict() {
             play(
                 &mut self.ledgers,
                 self.versions.as_mut_slice(),
@@ -167,72 +148,67 @@ impl<'a> Replica<'a> {
         self.seen
     }
 
-    /// The offer of its worker for a move of this number, priced after the entries that it stands for, and whether the
-    /// move writes a choice before the freeze day. Where it doesn't, and the price's score is at most what its number
-    /// may cost, the offer has the cells of the move's footprint there, each with its version, and else none.
-    pub fn price(&mut self, mv: &Move, number: u32) -> &Offer
-        requires { IsMoveOf self.old.base.instance mv.now }
-        ensures offer { IsOfferOf self.old number mv.now result.now }
-        ensures right { IsRightFor self.old number result.now }
-        ensures* same { sem 𝓛 (RestsAs self.entry (λ r. (r.base ≡ self.old.base) × (r.worker ≡ self.old.worker) × StandsAs self.old r)) }
+    /// The offer of its worker for an attempt of this number, priced after the entries that it stands for, and whether the
+    /// attempt writes a choice before the freeze day. Where it doesn't, and the price's score is at most what its number
+    /// may cost, the offer has the cells of the attempt's footprint there, each with its version, and else none.
+    pub fn price(&mut self, attempt: &E::Attempt, number: u32) -> &E::Offer
+        requires { AreMoves self.old.base.instance (E.Attempt.moves attempt.now) }
+        ensures offer { IsOfferOf self.old number (E.Attempt.moves attempt.now) (E.Offer.offered result.now) }
+        ensures right { IsRightFor self.old number (E.Offer.offered result.now) }
+        ensures* same { sem 𝓛 (RestsAs E.row E.Attempt.row E.Offer.row E.Logged E.Attempt.Attempted E.Offer.Offers self.entry (λ r. (r.base ≡ self.old.base) × (r.worker ≡ self.old.worker) × StandsAs self.old r)) }
     {
-        let compared = self.fill(mv, number);
-        self.read(mv, compared);
+        self.make(attempt, number);
         self.last()
     }
 
-    // Makes the offer for a move of this number the last one, without cells. Answers whether its verdict rests on them.
-    fn fill(&mut self, mv: &Move, number: u32) -> bool
-        requires { IsMoveOf self.old.base.instance mv.now }
-        ensures made { self.new ≡ record self.old { last = offer_with self.old number mv.now [] } }
-        ensures compared { result ≡ asks_reads self.old number mv.now }
+    /// Makes the offer for an attempt of this number the last one.
+    pub(crate) fn make(&mut self, attempt: &E::Attempt, number: u32)
+        requires { AreMoves self.old.base.instance (E.Attempt.moves attempt.now) }
+        ensures { self.new ≡ record self.old { last = offer_of self.old number (E.Attempt.moves attempt.now) } }
     {
-        self.last.worker = self.worker;
-        self.last.number = number;
-        self.last.seen = self.seen;
-        self.last.mv = *mv;
-        self.last.price = self.ledgers.price_alone(mv);
-        self.last.frozen = is_frozen(
+        let compared = self.fill(attempt, number);
+        self.read(attempt, compared);
+    }
+
+    // Makes the offer for an attempt of this number the last one, without cells. Answers whether its verdict rests on them.
+    fn fill(&mut self, attempt: &E::Attempt, number: u32) -> bool
+        requires { AreMoves self.old.base.instance (E.Attempt.moves attempt.now) }
+        ensures made { self.new ≡ record self.old { last = offer_with self.old number (E.Attempt.moves attempt.now) [] } }
+        ensures compared { result ≡ asks_reads self.old number (E.Attempt.moves attempt.now) }
+    {
+        let price = self.ledgers.price_all_alone(attempt.as_slice());
+        let frozen = attempt.is_frozen(
             self.inst,
             &self.start,
             self.freeze,
             self.ledgers.plan(),
-            mv,
             &mut self.writes,
         );
-        self.last.reads.clear();
-        is_compared(
-            self.inst,
-            &self.options,
-            self.last.frozen,
-            number,
-            &self.last.price,
-        )
+        self.last
+            .fill(self.worker, number, self.seen, attempt, &price, frozen);
+        is_compared(self.inst, &self.options, frozen, number, &price)
     }
 
-    // Notes the cells of a move's footprint in the last offer, where they are wanted.
-    fn read(&mut self, mv: &Move, wanted: bool)
-        requires { IsMoveOf self.old.base.instance mv.now }
+    // Notes the cells of an attempt's footprint in the last offer, where they are wanted.
+    fn read(&mut self, attempt: &E::Attempt, wanted: bool)
+        requires { AreMoves self.old.base.instance (E.Attempt.moves attempt.now) }
         ensures { self.new ≡ record self.old {
           last = record self.old.last {
             reads = record self.old.last.reads {
-              pairs = if wanted then reads_of self.old mv.now else self.old.last.reads.pairs;
+              pairs = if wanted then reads_of self.old (E.Attempt.moves attempt.now) else self.old.last.reads.pairs;
             };
           };
         } }
     {
         if wanted {
-            self.ledgers.foot(mv, &mut self.foot);
-            note(
-                self.foot.cells(),
-                self.versions.as_slice(),
-                &mut self.last.reads,
-            );
+            self.ledgers.foot_all(attempt.as_slice(), &mut self.foot);
+            self.last.note(self.foot.cells(), self.versions.as_slice());
         }
     }
 
-    fn last(&self) -> &Offer
-        ensures { result.now ≡ self.now.last }
+    /// The offer that it made last.
+    pub(crate) fn last(&self) -> &E::Offer
+        ensures { E.Offer.offered result.now ≡ self.now.last }
     {
         &self.last
     }

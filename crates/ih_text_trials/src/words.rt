@@ -65,6 +65,41 @@ fn is_wanted(solve: &Solve<'_>) -> bool {
         && !solve.start.fill
 }
 
+fn reads_chain(alloc: Global) -> Result<bool, AllocError> {
+    let words = owned(
+        alloc,
+        [
+            "chain",
+            "i",
+            "o",
+            "--length=8",
+            "j",
+            "--seed",
+            "7",
+            "--workers",
+            "50",
+            "--moves",
+            "2500",
+            "--heat",
+            "50",
+            "--hard",
+            "1000",
+            "--fill",
+        ]
+        .as_slice(),
+    )?;
+    let read = read_words(alloc, words.as_slice());
+    match read {
+        Ok(Command::Chain(chain)) => Ok(
+            chain.length == 8
+                && chain.search.journal == "j"
+                && chain.search.options.moves == 2500
+                && chain.search.start.fill,
+        ),
+        _ => Ok(false),
+    }
+}
+
 fn reads_check(alloc: Global) -> Result<bool, AllocError> {
     let words = owned(alloc, ["check", "i", "s"].as_slice())?;
     let read = read_words(alloc, words.as_slice());
@@ -124,6 +159,7 @@ fn reads_demo(alloc: Global) -> Result<bool, AllocError> {
 fn commands_have_their_values(rt: HostRuntime) -> Result<(), Fail> {
     let alloc = rt.alloc();
     assert!(rt; reads_solve(alloc)?);
+    assert!(rt; reads_chain(alloc)?);
     assert!(rt; reads_check(alloc)?);
     assert!(rt; reads_replay(alloc)?);
     assert!(rt; reads_salvage(alloc)?);

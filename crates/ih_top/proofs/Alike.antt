@@ -7,19 +7,22 @@ use Rattle.ih_plan.specs.Timetable.{Timetable, empty}
 use Rattle.ih_journal.specs.declared.entries.Entry.{Entry}
 use Rattle.ih_journal.specs.declared.settings.Options.{Options}
 use Rattle.ih_journal.specs.Base.{Base}
+use Rattle.ih_journal.specs.Tried.{tries}
 use Rattle.ih_journal.specs.Best.{IsBest}
 use Rattle.ih_journal.specs.Legal.{IsFull}
-use Rattle.ih_journal.specs.Texts.{journal}
 use Rattle.ih_journal.proofs.BestLemmas.{best-one, best-or-none}
 use Rattle.ih_journal.proofs.LoneWorkers.{lone-same}
+use Rattle.ih_journal.proofs.Mapped.{tries-one}
 use Rattle.ih_rounds.specs.Rounds.{AreRounds}
 use Rattle.ih_rounds.proofs.TwoJournals.{lone-rounds}
 use Rattle.ih_words.specs.Solve.{SolveCall}
 use Rattle.ih_shelf.specs.Outside.{Names}
+use Rattle.ih_chain.proofs.Telling.{chain_tries-one}
+use Rattle.ih_top.specs.Chaining.{of_chains}
 use Rattle.ih_top.specs.Demo.{HasSaid, IsDemo, IsShown}
 use Rattle.ih_top.specs.Inputs.{HasPlan}
-use Rattle.ih_top.specs.Laws.{DemosShowTheSame, LoneRoundsAreAlike, LoneSearchesAreAlike, LoneSolvesDoTheSame}
-use Rattle.ih_top.specs.Solving.{HasBase, IsDone, IsSearch, solution_at}
+use Rattle.ih_top.specs.Laws.{DemosShowTheSame, LoneRoundsAreAlike, LoneSearchesAreAlike, LoneSearchesDoTheSame}
+use Rattle.ih_top.specs.Solving.{HasBase, IsDone, IsSearch, Kind, of_moves, solution_at, told_by}
 use Rattle.ih_top.specs.Starts.{started}
 use Rattle.ih_top.specs.Texts.{demo_text, done_text}
 use Rattle.ih_top.proofs.Completeness.{base-same, same-plan}
@@ -40,11 +43,24 @@ one-base files s b c first second =
     ∙ sym other.started.start) in
     base-same b c instance start options (one.started.freeze ∙ sym other.started.freeze)
 
-pub searches-alike : LoneSearchesAreAlike
-searches-alike files s b c H G lone first second =
+-- what entries of a kind stand for tells the entries
+abbrev pub IsTelling : {X : Type 0} → Kind X → Type 0
+IsTelling {X} kind = (H G : List X) → told_by kind H ≡ told_by kind G → H ≡ G
+
+pub moves-telling : IsTelling of_moves
+moves-telling H G same = tries-one H G same
+
+pub chains-telling : (each : ℕ) → IsTelling (of_chains each)
+chains-telling each H G same = chain_tries-one H G same
+
+pub searches-alike : {X : Type 0} (kind : Kind X) → IsTelling kind → LoneSearchesAreAlike kind
+searches-alike kind telling files s b c H G lone first second =
     let same = one-base files s b c first.base second.base in
-    let alone : c.options.workers ≡ 1 = ap (λ (o : Options). o.workers) second.base.options ∙ lone in
-    (same, lone-same c H G alone (subst (λ (x : Base). IsFull x H) same first.full) second.full)
+    let alone : c.options.workers ≡ 1 = ap (λ (o : Options). o.workers) second.base.options ∙ lone in (
+      same,
+      telling H G (lone-same c kind.each (told_by kind H) (told_by kind G) alone
+          (subst (λ (x : Base). IsFull x kind.each (told_by kind H)) same first.full) second.full),
+    )
 
 pub rounds-alike : LoneRoundsAreAlike
 rounds-alike files r b c rs ss lone first second =
@@ -54,17 +70,17 @@ rounds-alike files r b c rs ss lone first second =
 
 -- ---- one end
 
-pub solves-same : LoneSolvesDoTheSame
-solves-same s old new other text told lone first second =
-    let same = searches-alike old s first.base second.base first.history second.history lone first.search second.search in
+pub searches-same : {X : Type 0} (kind : Kind X) → IsTelling kind → LoneSearchesDoTheSame kind
+searches-same {X} kind telling s old new other text told lone first second =
+    let same = searches-alike kind telling old s first.base second.base first.history second.history lone first.search second.search in
     let both : (first.base, first.history) ≡ (second.base, second.history) = rw (same.0, same.1) refl in
-    let place : first.place ≡ second.place = best-one second.base second.history first.place second.place
-    (subst (λ (t : Base × List Entry). IsBest t.0 t.1 first.place) both first.best) second.best in
+    let place : first.place ≡ second.place = best-one second.base (told_by kind second.history) first.place second.place
+    (subst (λ (t : Base × List X). IsBest t.0 (told_by kind t.1) first.place) both first.best) second.best in
     record {
-      journal = first.written.journal ∙ (ap (λ (t : Base × List Entry). Some (journal t.0.options t.1)) both ∙ sym second.written.journal);
+      journal = first.written.journal ∙ (ap (λ (t : Base × List X). Some (kind.journal t.0.options t.1)) both ∙ sym second.written.journal);
       solution = first.written.out
-          ∙ (ap₂ (λ (t : Base × List Entry) (k : ℕ). Some (solution_at t.0 t.1 k)) both place ∙ sym second.written.out);
-      said = first.said ∙ (ap₂ (λ (t : Base × List Entry) (k : ℕ). done_text t.0 t.1 k) both place ∙ sym second.said);
+          ∙ (ap₂ (λ (t : Base × List X) (k : ℕ). Some (solution_at t.0 (told_by kind t.1) k)) both place ∙ sym second.written.out);
+      said = first.said ∙ (ap₂ (λ (t : Base × List X) (k : ℕ). done_text t.0 (told_by kind t.1) k) both place ∙ sym second.said);
     }
 
 one-demo : (number : ℕ) (b c : Base) (H G : List Entry) → IsDemo number b H → IsDemo number c G → (b ≡ c) × (H ≡ G)
@@ -73,7 +89,7 @@ one-demo number b c H G first second =
     let start : b.start ≡ c.start = first.base.start ∙ (ap (λ (I : Draft). fill I 100000 (empty I)) instance ∙ sym second.base.start) in
     let same = base-same b c instance start (first.base.options ∙ sym second.base.options) (first.base.freeze ∙ sym second.base.freeze) in
     let alone : c.options.workers ≡ 1 = ap (λ (o : Options). o.workers) second.base.options in
-    (same, lone-same c H G alone (subst (λ (x : Base). IsFull x H) same first.full) second.full)
+    (same, tries-one H G (lone-same c 1 (tries H) (tries G) alone (subst (λ (x : Base). IsFull x 1 (tries H)) same first.full) second.full))
 
 pub demos-same : DemosShowTheSame
 demos-same number said told first second =
@@ -83,7 +99,7 @@ demos-same number said told first second =
   where
     one-said : (b : Base) (H : List Entry) (x y : Option (List ℕ)) → HasSaid number b H x → HasSaid number b H y → x ≡ y
     one-said b H None None one other = refl
-    one-said b H None (Some text) one (k, best, is) = absurd (best-or-none b H k best one)
-    one-said b H (Some text) None (k, best, is) other = absurd (best-or-none b H k best other)
+    one-said b H None (Some text) one (k, best, is) = absurd (best-or-none b (tries H) k best one)
+    one-said b H (Some text) None (k, best, is) other = absurd (best-or-none b (tries H) k best other)
     one-said b H (Some text) (Some more) (k, best, is) (j, there, told) =
-        ap Some (is ∙ (ap (demo_text number b H) (best-one b H k j best there) ∙ sym told))
+        ap Some (is ∙ (ap (demo_text number b H) (best-one b (tries H) k j best there) ∙ sym told))

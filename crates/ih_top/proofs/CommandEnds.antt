@@ -4,12 +4,13 @@ use Rattle.std.specs.Prelude.{◌≢◌}
 use Rattle.ih_journal.specs.declared.entries.Entry.{Entry}
 use Rattle.ih_journal.specs.declared.refusals.JournalRefusal.{JournalRefusal}
 use Rattle.ih_journal.specs.Base.{Base}
+use Rattle.ih_journal.specs.Tried.{Tried}
 use Rattle.ih_words.specs.Solve.{SolveCall}
 use Rattle.ih_words.specs.Check.{CheckCall}
 use Rattle.ih_words.specs.Generate.{GenCall}
 use Rattle.ih_words.specs.Replay.{ReplayCall}
 use Rattle.ih_words.specs.Rounds.{RoundsCall}
-use Rattle.ih_words.specs.Words.{Call, call_of, solve, replay, salvage, check, rounds, gen, demo, advise}
+use Rattle.ih_words.specs.Words.{Call, call_of, solve, replay, salvage, check, chain, rounds, gen, demo, advise}
 use Rattle.ih_words.proofs.CallNames.{names-apart}
 use Rattle.ih_shelf.specs.Outside.{IsWritten, MayBeWritten, Names, Told}
 use Rattle.ih_top.specs.declared.status.Status.{Status}
@@ -19,7 +20,8 @@ use Rattle.ih_top.specs.Answers.{unsaid}
 use Rattle.ih_top.specs.Texts.{done_text, memory_text, salvaged_text}
 use Rattle.ih_top.specs.Inputs.{Reading, EndsUnread}
 use Rattle.ih_top.specs.Rounds.{RoundsEnds}
-use Rattle.ih_top.specs.Solving.{SolveEnds, Unchanged}
+use Rattle.ih_top.specs.Chaining.{of_chains}
+use Rattle.ih_top.specs.Solving.{Kind, SearchEnds, Unchanged, of_moves}
 use Rattle.ih_top.specs.Advising.{AdviseEnds}
 use Rattle.ih_top.specs.Checking.{CheckEnds}
 use Rattle.ih_top.specs.Demo.{DemoEnds}
@@ -72,41 +74,41 @@ unread_journal-unsaid files r (TooLong role) text h = h
 pub unread_journal-answerable : (files : Option Names) (r : ReplayCall) → IsAnswerable (EndsUnreadJournal files r)
 unread_journal-answerable files r = record { unsaid = λ status text some h. unread_journal-unsaid files r status text h; memory = λ status text h. refl }
 
--- ---- solve
+-- ---- solve and chain
 
-module _ (s : SolveCall) (old new : Option Names) where
-  solve-unsaid : (status : Status) (text : List ℕ) → SolveEnds s old new status text → SolveEnds s old new (unsaid status) text
-  solve-unsaid Done text h = h
-  solve-unsaid Usage text h = h
-  solve-unsaid (ReadFault role) text h = h
-  solve-unsaid (InstanceRefused e) text h = h
-  solve-unsaid (StartRefused e) text h = h
-  solve-unsaid NoneFound text h = h
-  solve-unsaid (WriteFault role) text h = h
-  solve-unsaid OutOfMemory text h = h
-  solve-unsaid (JournalRefused e) text h = h
-  solve-unsaid Infeasible text h = absurd h.1
-  solve-unsaid (TooLong role) text h = h
+module _ {X : Type 0} (kind : Kind X) (s : SolveCall) (old new : Option Names) where
+  search-unsaid : (status : Status) (text : List ℕ) → SearchEnds kind s old new status text → SearchEnds kind s old new (unsaid status) text
+  search-unsaid Done text h = h
+  search-unsaid Usage text h = h
+  search-unsaid (ReadFault role) text h = h
+  search-unsaid (InstanceRefused e) text h = h
+  search-unsaid (StartRefused e) text h = h
+  search-unsaid NoneFound text h = h
+  search-unsaid (WriteFault role) text h = h
+  search-unsaid OutOfMemory text h = h
+  search-unsaid (JournalRefused e) text h = h
+  search-unsaid Infeasible text h = absurd h.1
+  search-unsaid (TooLong role) text h = h
 
-  solve-memory : (status : Status) (text : List ℕ) → SolveEnds s old new status text → SolveEnds s old new OutOfMemory memory_text
-  solve-memory Done text h = (inr (inr (done-found s old new text h)), refl)
-  solve-memory Usage text h = (inl h.0, refl)
-  solve-memory (ReadFault role) text h = (inl h.0, refl)
-  solve-memory (InstanceRefused e) text h = (inl h.0, refl)
-  solve-memory (StartRefused e) text h = (inl h.0, refl)
-  solve-memory NoneFound text h = (inr (inl (none-begun s old new h.0)), refl)
-  solve-memory (WriteFault None) text h = (inr (inr (done-found s old new text h)), refl)
-  solve-memory (WriteFault (Some Instance)) text h = (inl h.0, refl)
-  solve-memory (WriteFault (Some Solution)) text h = (inl h.0, refl)
-  solve-memory (WriteFault (Some Journal)) text h = (inr (inl h.0), refl)
-  solve-memory (WriteFault (Some Out)) text h = (inr (inr h.0), refl)
-  solve-memory OutOfMemory text h = (h.0, refl)
-  solve-memory (JournalRefused e) text h = (inl h.0, refl)
-  solve-memory Infeasible text h = (inl h.0, refl)
-  solve-memory (TooLong role) text h = (inl h.0, refl)
+  search-memory : (status : Status) (text : List ℕ) → SearchEnds kind s old new status text → SearchEnds kind s old new OutOfMemory memory_text
+  search-memory Done text h = (inr (inr (done-found kind s old new text h)), refl)
+  search-memory Usage text h = (inl h.0, refl)
+  search-memory (ReadFault role) text h = (inl h.0, refl)
+  search-memory (InstanceRefused e) text h = (inl h.0, refl)
+  search-memory (StartRefused e) text h = (inl h.0, refl)
+  search-memory NoneFound text h = (inr (inl (none-begun kind s old new h.0)), refl)
+  search-memory (WriteFault None) text h = (inr (inr (done-found kind s old new text h)), refl)
+  search-memory (WriteFault (Some Instance)) text h = (inl h.0, refl)
+  search-memory (WriteFault (Some Solution)) text h = (inl h.0, refl)
+  search-memory (WriteFault (Some Journal)) text h = (inr (inl h.0), refl)
+  search-memory (WriteFault (Some Out)) text h = (inr (inr h.0), refl)
+  search-memory OutOfMemory text h = (h.0, refl)
+  search-memory (JournalRefused e) text h = (inl h.0, refl)
+  search-memory Infeasible text h = (inl h.0, refl)
+  search-memory (TooLong role) text h = (inl h.0, refl)
 
-  pub solve-answerable : IsAnswerable (SolveEnds s old new)
-  solve-answerable = record { unsaid = λ status text some h. solve-unsaid status text h; memory = solve-memory }
+  pub search-answerable : IsAnswerable (SearchEnds kind s old new)
+  search-answerable = record { unsaid = λ status text some h. search-unsaid status text h; memory = search-memory }
 
 -- ---- rounds
 
@@ -165,7 +167,7 @@ module _ (c : CheckCall) (files : Option Names) where
 
 -- ---- replay and salvage
 
-module _ (taken : JournalRead → Base → List Entry → Type 0) (refused : JournalRead → JournalRefusal → Type 0) (said : Base → List Entry → ℕ → List ℕ)
+module _ (taken : JournalRead → Base → List Entry → Type 0) (refused : JournalRead → JournalRefusal → Type 0) (said : Base → List Tried → ℕ → List ℕ)
     (r : ReplayCall) (old new : Option Names) where
   abbrev OfJournal : Status → List ℕ → Type 0
   OfJournal status text = JournalEnds taken refused said r old new status text
@@ -294,10 +296,11 @@ beside kept ends able = record {
 }
 
 pub call-answerable : (call : Call) (old new : Option Names) → IsAnswerable (CallEnds call old new)
-call-answerable (solve s) old new = solve-answerable s old new
+call-answerable (solve s) old new = search-answerable of_moves s old new
 call-answerable (replay r) old new = journal-answerable (IsReplay r.start) (IsRefusedJournal r.start) done_text r old new
 call-answerable (salvage r) old new = journal-answerable (IsSalvage r.start) IsHeadless salvaged_text r old new
 call-answerable (check c) old new = beside (Told Unchanged old new) (CheckEnds c old) (check-answerable c old)
+call-answerable (chain c) old new = search-answerable (of_chains c.length) c.search old new
 call-answerable (rounds r) old new = rounds-answerable r old new
 call-answerable (advise a) old new = beside (Told Unchanged old new) (AdviseEnds a old) (advise-answerable a old)
 call-answerable (gen g) old new = gen-answerable g old new
@@ -309,6 +312,7 @@ out-apart words (solve s) h = names-apart words (solve s) h
 out-apart words (replay r) h = tt
 out-apart words (salvage r) h = tt
 out-apart words (check c) h = tt
+out-apart words (chain c) h = names-apart words (chain c) h
 out-apart words (rounds r) h = names-apart words (rounds r) h
 out-apart words (advise a) h = tt
 out-apart words (gen g) h = tt
@@ -325,6 +329,7 @@ call-memory (solve s) files = (inl (told-same files files refl), refl)
 call-memory (replay r) files = (inl (told-same files files refl), refl)
 call-memory (salvage r) files = (inl (told-same files files refl), refl)
 call-memory (check c) files = (told-same files files refl, refl)
+call-memory (chain c) files = (inl (told-same files files refl), refl)
 call-memory (rounds r) files = (inl (told-same files files refl), refl)
 call-memory (advise a) files = (told-same files files refl, refl)
 call-memory (gen g) files = (unwritten g.out _ files, refl)

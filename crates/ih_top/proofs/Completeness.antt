@@ -8,6 +8,7 @@ use Rattle.ih_journal.specs.declared.entries.Entry.{Entry}
 use Rattle.ih_journal.specs.declared.refusals.JournalRefusal.{JournalRefusal}
 use Rattle.ih_journal.specs.declared.settings.Options.{Options}
 use Rattle.ih_journal.specs.Base.{Base}
+use Rattle.ih_journal.specs.Tried.{Tried, tries}
 use Rattle.ih_journal.specs.Legal.{IsFull}
 use Rattle.ih_journal.specs.Texts.{heading, lines_from}
 use Rattle.ih_journal.proofs.HeadTexts.{heading_lacks, headings_differ, lawful_short}
@@ -19,7 +20,7 @@ use Rattle.ih_words.specs.Advise.{AdviseCall}
 use Rattle.ih_words.specs.Check.{CheckCall}
 use Rattle.ih_words.specs.Generate.{GenCall}
 use Rattle.ih_words.specs.Replay.{ReplayCall}
-use Rattle.ih_words.specs.Words.{Call, solve, replay, salvage, check, rounds, gen, demo, advise}
+use Rattle.ih_words.specs.Words.{Call, solve, replay, salvage, check, chain, rounds, gen, demo, advise}
 use Rattle.ih_shelf.specs.Outside.{Names, Rose, bytes_at}
 use Rattle.ih_top.specs.declared.files.TheConstants.{MAX_JOURNAL}
 use Rattle.ih_top.specs.declared.status.Status.{Status}
@@ -28,6 +29,8 @@ use Rattle.ih_top.specs.declared.status.Status.TheVariants.{Done, Usage, ReadFau
 use Rattle.ih_top.specs.declared.status.Role.TheVariants.{Instance, Solution, Journal, Out}
 use Rattle.ih_top.specs.Advising.{advise_reading}
 use Rattle.ih_top.specs.Inputs.{Reading, EndsUnread, HasInputs, HasPlan, HasSolution, IsLongerThan, IsNext, solve_reading, check_reading, replay_reading}
+use Rattle.ih_top.specs.Chaining.{of_chains}
+use Rattle.ih_top.specs.Solving.{Kind, SearchEnds, of_moves}
 use Rattle.ih_top.specs.Starts.{started}
 use Rattle.ih_top.specs.Texts.{done_text, salvaged_text}
 use Rattle.ih_top.specs.Generating.{GenEnds}
@@ -85,7 +88,7 @@ module _ (files : Names) (r : ReplayCall) (x : JournalRead) (has : HasRead (Some
   same-start y other = same-plan files r.start.file x.instance y.plan x.plan
       (subst (λ (J : Draft). HasPlan (Some files) r.start.file J y.plan) (same-instance y other) other.inputs.plan) has.inputs.plan
 
-  same-bytes : (y : JournalRead) → HasRead (Some files) r y → y.bytes ≡ x.bytes
+  pub same-bytes : (y : JournalRead) → HasRead (Some files) r y → y.bytes ≡ x.bytes
   same-bytes y other = sym other.journal.held ∙ has.journal.held
 
   module _ (b : Base) (lines : List ℕ) (headed : IsHeadedBy r.start x b lines) where
@@ -109,12 +112,12 @@ module _ (files : Names) (r : ReplayCall) (x : JournalRead) (has : HasRead (Some
         (base-same c b instance start options (found.started.freeze ∙ sym headed.started.freeze), cut.1)
 
   -- the journal of a full history isn't refused
-  pub not-refused : (b : Base) (H : List Entry) → IsHeadedBy r.start x b (lines_from b.options 0 H) → IsFull b H → (e : JournalRefusal) → IsRefused (IsRefusedJournal r.start) r (Some files) e → ⊥
+  pub not-refused : (b : Base) (H : List Entry) → IsHeadedBy r.start x b (lines_from b.options 0 H) → IsFull b 1 (tries H) → (e : JournalRefusal) → IsRefused (IsRefusedJournal r.start) r (Some files) e → ⊥
   not-refused b H headed full e h = elim h.why [
     | inl headless ↦ not-headless b (lines_from b.options 0 H) headed e (record { read = h.read; given = h.given; why = headless })
     | inr line ↦
         let same = same-search b (lines_from b.options 0 H) headed h.read line.base line.bytes h.given line.headed in
-        line.none H (subst (λ (c : Base). IsFull c H) (sym same.0) full)
+        line.none H (subst (λ (c : Base). IsFull c 1 (tries H)) (sym same.0) full)
         (same.1 ∙ ap (λ (c : Base). lines_from c.options 0 H) (sym same.0))
   ]
 
@@ -149,20 +152,23 @@ module _ (reads reads' writes writes' puts puts' : ℕ) (calm : (Rose reads read
   unread-answered A status cause (inr e) f = f e
 
   module _ (files : Names) (new : Option Names) (gained part : List ℕ → Type 0) where
-    solve-answered : (s : SolveCall) (I : Draft) (P : Timetable) → HasInputs (Some files) (solve_reading s) I P → (status : Status) → Caused status
-        → Ends (CallEnds (solve s) (Some files) new) gained part status → IsAnswered (solve s) status
-    solve-answered s I P has Done cause ends = inl refl
-    solve-answered s I P has Usage cause (text, h, g) = absurd h.1
-    solve-answered s I P has (ReadFault role) cause (text, h, g) = absurd (calm cause)
-    solve-answered s I P has (InstanceRefused e) cause (text, h, g) = unread-answered (IsAnswered (solve s) (InstanceRefused e)) (InstanceRefused e) cause (accepted files (solve_reading s) I P has (InstanceRefused e) text h.1) (λ m. inr (inr m))
-    solve-answered s I P has (StartRefused e) cause (text, h, g) = unread-answered (IsAnswered (solve s) (StartRefused e)) (StartRefused e) cause (accepted files (solve_reading s) I P has (StartRefused e) text h.1) (λ m. inr (inr m))
-    solve-answered s I P has NoneFound cause ends = inr (inl refl)
-    solve-answered s I P has (WriteFault None) cause ends = absurd (heard cause)
-    solve-answered s I P has (WriteFault (Some role)) cause ends = absurd (kept cause)
-    solve-answered s I P has OutOfMemory cause ends = inr (inr refl)
-    solve-answered s I P has (JournalRefused e) cause (text, h, g) = absurd h.1
-    solve-answered s I P has Infeasible cause (text, h, g) = absurd h.1
-    solve-answered s I P has (TooLong role) cause (text, h, g) = unread-answered (IsAnswered (solve s) (TooLong role)) (TooLong role) cause (accepted files (solve_reading s) I P has (TooLong role) text h.1) (λ m. inr (inr m))
+    abbrev Searched : Status → Type 0
+    Searched status = (status ≡ Done) ⊎ (status ≡ NoneFound) ⊎ (status ≡ OutOfMemory)
+
+    search-answered : {X : Type 0} (kind : Kind X) (s : SolveCall) (I : Draft) (P : Timetable) → HasInputs (Some files) (solve_reading s) I P → (status : Status) → Caused status
+        → Ends (SearchEnds kind s (Some files) new) gained part status → Searched status
+    search-answered kind s I P has Done cause ends = inl refl
+    search-answered kind s I P has Usage cause (text, h, g) = absurd h.1
+    search-answered kind s I P has (ReadFault role) cause (text, h, g) = absurd (calm cause)
+    search-answered kind s I P has (InstanceRefused e) cause (text, h, g) = unread-answered (Searched (InstanceRefused e)) (InstanceRefused e) cause (accepted files (solve_reading s) I P has (InstanceRefused e) text h.1) (λ m. inr (inr m))
+    search-answered kind s I P has (StartRefused e) cause (text, h, g) = unread-answered (Searched (StartRefused e)) (StartRefused e) cause (accepted files (solve_reading s) I P has (StartRefused e) text h.1) (λ m. inr (inr m))
+    search-answered kind s I P has NoneFound cause ends = inr (inl refl)
+    search-answered kind s I P has (WriteFault None) cause ends = absurd (heard cause)
+    search-answered kind s I P has (WriteFault (Some role)) cause ends = absurd (kept cause)
+    search-answered kind s I P has OutOfMemory cause ends = inr (inr refl)
+    search-answered kind s I P has (JournalRefused e) cause (text, h, g) = absurd h.1
+    search-answered kind s I P has Infeasible cause (text, h, g) = absurd h.1
+    search-answered kind s I P has (TooLong role) cause (text, h, g) = unread-answered (Searched (TooLong role)) (TooLong role) cause (accepted files (solve_reading s) I P has (TooLong role) text h.1) (λ m. inr (inr m))
 
     rounds-answered : (r : RoundsCall) (I : Draft) (P : Timetable) → HasInputs (Some files) (solve_reading r.search) I P → (status : Status) → Caused status
         → Ends (CallEnds (rounds r) (Some files) new) gained part status → IsAnswered (rounds r) status
@@ -216,7 +222,7 @@ module _ (reads reads' writes writes' puts puts' : ℕ) (calm : (Rose reads read
       journal-unread : (status : Status) (text : List ℕ) → Caused status → EndsUnreadJournal (Some files) r status text → Answered status
       journal-unread status text cause h = unread-answered (Answered status) status cause (journal-accepted files r x has status text h) (λ m. inr (inr m))
 
-      journal-answered : (taken : JournalRead → Base → List Entry → Type 0) (refused : JournalRead → JournalRefusal → Type 0) (said : Base → List Entry → ℕ → List ℕ)
+      journal-answered : (taken : JournalRead → Base → List Entry → Type 0) (refused : JournalRead → JournalRefusal → Type 0) (said : Base → List Tried → ℕ → List ℕ)
           → ((e : JournalRefusal) → IsRefused refused r (Some files) e → ⊥) → (status : Status) → Caused status
           → Ends (JournalEnds taken refused said r (Some files) new) gained part status → Answered status
       journal-answered taken refused said never Done cause ends = inl refl
@@ -265,7 +271,9 @@ pub complete : (call : Call) (old new : Option Names) (gained part : List ℕ �
     → IsComplete (Some call) old (Rose reads reads') (Rose writes writes') (Rose puts puts') status
 complete call None new gained part reads reads' writes writes' puts puts' status ends cause = tt
 complete (solve s) (Some files) new gained part reads reads' writes writes' puts puts' status ends cause = λ (I, P, has) calm kept heard.
-    solve-answered reads reads' writes writes' puts puts' calm kept heard files new gained part s I P has status cause ends
+    search-answered reads reads' writes writes' puts puts' calm kept heard files new gained part of_moves s I P has status cause ends
+complete (chain c) (Some files) new gained part reads reads' writes writes' puts puts' status ends cause = λ (I, P, has) calm kept heard.
+    search-answered reads reads' writes writes' puts puts' calm kept heard files new gained part (of_chains c.length) c.search I P has status cause ends
 complete (replay r) (Some files) new gained part reads reads' writes writes' puts puts' status ends cause = λ (x, b, H, has, headed, full) calm kept heard.
     journal-answered reads reads' writes writes' puts puts' calm kept heard files new gained part r x has (IsReplay r.start) (IsRefusedJournal r.start) done_text
     (not-refused files r x has b H headed full) status cause ends

@@ -1,4 +1,4 @@
--- Two calls of solve with one worker end alike over the same files, where no fault and no want of memory ended them.
+-- Two calls with one search and one worker end alike over the same files, where no fault and no want of memory ended them.
 use Rattle.std.proofs.Common.{◌≡◌, ◌∙◌, ℕ, ◌<◌, ◌≤◌, refl, sym, ap, ap₂, subst, arith, inl, inr, Bool, true, false, List, [], length, Option, Some, None}
 use Rattle.std.specs.Prelude.{◌≢◌, ◌⊎◌, Result, Ok, Err}
 use Rattle.std.specs.Bool.{Decides}
@@ -9,10 +9,8 @@ use Rattle.std.proofs.lemmas.Slice.Eq.{bytes_eq-Decides}
 use Rattle.ih_tables.specs.declared.drafts.Draft.{Draft}
 use Rattle.ih_tables.specs.declared.refusals.Refusal.{Refusal}
 use Rattle.ih_plan.specs.Timetable.{Timetable}
-use Rattle.ih_journal.specs.declared.entries.Entry.{Entry}
 use Rattle.ih_journal.specs.Base.{Base}
 use Rattle.ih_journal.specs.Best.{HasNone, IsBest}
-use Rattle.ih_journal.specs.Texts.{journal}
 use Rattle.ih_journal.proofs.BestLemmas.{best-or-none}
 use Rattle.ih_instance.specs.Instance.{instance}
 use Rattle.ih_solution.specs.Reading.{plan_in}
@@ -23,10 +21,10 @@ use Rattle.ih_top.specs.declared.status.Role.TheVariants.{Instance, Solution, Jo
 use Rattle.ih_top.specs.declared.status.Status.{Status}
 use Rattle.ih_top.specs.declared.status.Status.TheVariants.{Done, Usage, ReadFault, InstanceRefused, StartRefused, NoneFound, WriteFault, OutOfMemory, JournalRefused, Infeasible, TooLong}
 use Rattle.ih_top.specs.Inputs.{EndsUnread, HasInputs, IsNext, Reading, solve_reading}
-use Rattle.ih_top.specs.Laws.{EndTheSame, HasNoFault, LoneSolvesEndAlike}
-use Rattle.ih_top.specs.Solving.{HasFoundNone, IsDone, OthersUnchanged, SolveEnds, Unchanged}
+use Rattle.ih_top.specs.Laws.{EndTheSame, HasNoFault, LoneSearchesEndAlike}
+use Rattle.ih_top.specs.Solving.{HasFoundNone, IsDone, Kind, OthersUnchanged, SearchEnds, Unchanged, told_by}
 use Rattle.ih_top.specs.Texts.{instance_refused_text, none_found_text, solution_refused_text, too_long_text}
-use Rattle.ih_top.proofs.Alike.{searches-alike, solves-same}
+use Rattle.ih_top.proofs.Alike.{IsTelling, searches-alike, searches-same}
 use Rattle.ih_top.proofs.Completeness.{accepted}
 use Rattle.ih_top.proofs.TakenBack.{memory-alone}
 
@@ -128,24 +126,24 @@ unread-alike x old new other status ended text told first second =
       files = λ n. first.kept n ∙ sym (second.kept n);
     }
 
-abbrev SolveEnd : SolveCall → Names → Names → Status → List ℕ → Type 0
-SolveEnd s old new status text =
-    IsEnd (IsDone s (Some old) (Some new) text) (HasFoundNone s (Some old) (Some new) × (text ≡ none_found_text)) (solve_reading s) old new status text
+abbrev SearchEnd : {X : Type 0} → Kind X → SolveCall → Names → Names → Status → List ℕ → Type 0
+SearchEnd kind s old new status text =
+    IsEnd (IsDone kind s (Some old) (Some new) text) (HasFoundNone kind s (Some old) (Some new) × (text ≡ none_found_text)) (solve_reading s) old new status text
 
-module _ (s : SolveCall) (old new : Names) where
-  solve-end : (status : Status) (text : List ℕ) → HasNoFault status → status ≢ OutOfMemory → SolveEnds s (Some old) (Some new) status text
-      → SolveEnd s old new status text
-  solve-end Done text calm room h = inl (refl, h)
-  solve-end Usage text calm room h = absurd h.1
-  solve-end (ReadFault role) text calm room h = absurd calm
-  solve-end (InstanceRefused e) text calm room h = inr (inr (unread (solve_reading s) old new (InstanceRefused e) text calm room h.0 h.1))
-  solve-end (StartRefused e) text calm room h = inr (inr (unread (solve_reading s) old new (StartRefused e) text calm room h.0 h.1))
-  solve-end NoneFound text calm room h = inr (inl (refl, h))
-  solve-end (WriteFault role) text calm room h = absurd calm
-  solve-end OutOfMemory text calm room h = absurd (room refl)
-  solve-end (JournalRefused e) text calm room h = absurd h.1
-  solve-end Infeasible text calm room h = absurd h.1
-  solve-end (TooLong role) text calm room h = inr (inr (unread (solve_reading s) old new (TooLong role) text calm room h.0 h.1))
+module _ {X : Type 0} (kind : Kind X) (s : SolveCall) (old new : Names) where
+  search-end : (status : Status) (text : List ℕ) → HasNoFault status → status ≢ OutOfMemory → SearchEnds kind s (Some old) (Some new) status text
+      → SearchEnd kind s old new status text
+  search-end Done text calm room h = inl (refl, h)
+  search-end Usage text calm room h = absurd h.1
+  search-end (ReadFault role) text calm room h = absurd calm
+  search-end (InstanceRefused e) text calm room h = inr (inr (unread (solve_reading s) old new (InstanceRefused e) text calm room h.0 h.1))
+  search-end (StartRefused e) text calm room h = inr (inr (unread (solve_reading s) old new (StartRefused e) text calm room h.0 h.1))
+  search-end NoneFound text calm room h = inr (inl (refl, h))
+  search-end (WriteFault role) text calm room h = absurd calm
+  search-end OutOfMemory text calm room h = absurd (room refl)
+  search-end (JournalRefused e) text calm room h = absurd h.1
+  search-end Infeasible text calm room h = absurd h.1
+  search-end (TooLong role) text calm room h = inr (inr (unread (solve_reading s) old new (TooLong role) text calm room h.0 h.1))
 
 -- ---- the same files
 
@@ -168,38 +166,39 @@ same-files s old new other journals outs first second n = by_out (bytes_eq n s.o
 
 -- ---- two ends
 
-module _ (s : SolveCall) (old new other : Names) (status ended : Status) (text told : List ℕ) (lone : s.options.workers ≡ 1) where
+module _ {X : Type 0} (kind : Kind X) (telling : IsTelling kind) (s : SolveCall) (old new other : Names) (status ended : Status) (text told : List ℕ)
+    (lone : s.options.workers ≡ 1) where
   -- the one found its best and the other found none
-  not-both-ways : (here there : Names) (said : List ℕ) → IsDone s (Some old) (Some here) said → HasFoundNone s (Some old) (Some there) → ⊥
+  not-both-ways : (here there : Names) (said : List ℕ) → IsDone kind s (Some old) (Some here) said → HasFoundNone kind s (Some old) (Some there) → ⊥
   not-both-ways here there said done none =
-      let same = searches-alike old s done.base none.base done.history none.history lone done.search none.search in
-      let both : ◌≡◌ {A = Base × List Entry} (done.base, done.history) (none.base, none.history) = rw (same.0, same.1) refl in
-      best-or-none none.base none.history done.place (subst (λ (t : Base × List Entry). IsBest t.0 t.1 done.place) both done.best) none.none
+      let same = searches-alike kind telling old s done.base none.base done.history none.history lone done.search none.search in
+      let both : ◌≡◌ {A = Base × List X} (done.base, done.history) (none.base, none.history) = rw (same.0, same.1) refl in
+      best-or-none none.base (told_by kind none.history) done.place (subst (λ (t : Base × List X). IsBest t.0 (told_by kind t.1) done.place) both done.best) none.none
 
-  both-done : status ≡ Done → IsDone s (Some old) (Some new) text → ended ≡ Done → IsDone s (Some old) (Some other) told
+  both-done : status ≡ Done → IsDone kind s (Some old) (Some new) text → ended ≡ Done → IsDone kind s (Some old) (Some other) told
       → EndTheSame status ended text told new other
   both-done one first two second =
-      let same = solves-same s old new other text told lone first second in
+      let same = searches-same kind telling s old new other text told lone first second in
       record {
         status = one ∙ sym two;
         said = same.said;
         files = same-files s old new other same.journal same.solution first.written.others second.written.others;
       }
 
-  both-none : status ≡ NoneFound → HasFoundNone s (Some old) (Some new) → text ≡ none_found_text
-      → ended ≡ NoneFound → HasFoundNone s (Some old) (Some other) → told ≡ none_found_text → EndTheSame status ended text told new other
+  both-none : status ≡ NoneFound → HasFoundNone kind s (Some old) (Some new) → text ≡ none_found_text
+      → ended ≡ NoneFound → HasFoundNone kind s (Some old) (Some other) → told ≡ none_found_text → EndTheSame status ended text told new other
   both-none one first said two second also =
-      let same = searches-alike old s first.base second.base first.history second.history lone first.search second.search in
-      let both : ◌≡◌ {A = Base × List Entry} (first.base, first.history) (second.base, second.history) = rw (same.0, same.1) refl in
+      let same = searches-alike kind telling old s first.base second.base first.history second.history lone first.search second.search in
+      let both : ◌≡◌ {A = Base × List X} (first.base, first.history) (second.base, second.history) = rw (same.0, same.1) refl in
       record {
         status = one ∙ sym two;
         said = said ∙ sym also;
         files = same-files s old new other
-            (first.written.journal ∙ (ap (λ (t : Base × List Entry). Some (journal t.0.options t.1)) both ∙ sym second.written.journal))
+            (first.written.journal ∙ (ap (λ (t : Base × List X). Some (kind.journal t.0.options t.1)) both ∙ sym second.written.journal))
             (first.written.out ∙ sym second.written.out) first.written.others second.written.others;
       }
 
-  same-ends : SolveEnd s old new status text → SolveEnd s old other ended told → EndTheSame status ended text told new other
+  same-ends : SearchEnd kind s old new status text → SearchEnd kind s old other ended told → EndTheSame status ended text told new other
   same-ends (inl one) (inl two) = both-done one.0 one.1 two.0 two.1
   same-ends (inl one) (inr (inl two)) = absurd (not-both-ways new other text one.1 two.1.0)
   same-ends (inl one) (inr (inr two)) = let start = one.1.search.base.start in absurd (two.never one.1.base.instance start.plan start.inputs)
@@ -210,7 +209,7 @@ module _ (s : SolveCall) (old new other : Names) (status ended : Status) (text t
   same-ends (inr (inr one)) (inr (inl two)) = let start = two.1.0.search.base.start in absurd (one.never two.1.0.base.instance start.plan start.inputs)
   same-ends (inr (inr one)) (inr (inr two)) = unread-alike (solve_reading s) old new other status ended text told one two
 
-pub solves-end-alike : LoneSolvesEndAlike
-solves-end-alike s old new other status ended text told lone calm quiet room space first second =
-    same-ends s old new other status ended text told lone (solve-end s old new status text calm room first)
-    (solve-end s old other ended told quiet space second)
+pub searches-end-alike : {X : Type 0} (kind : Kind X) → IsTelling kind → LoneSearchesEndAlike kind
+searches-end-alike kind telling s old new other status ended text told lone calm quiet room space first second =
+    same-ends kind telling s old new other status ended text told lone (search-end kind s old new status text calm room first)
+    (search-end kind s old other ended told quiet space second)

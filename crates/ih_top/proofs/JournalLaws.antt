@@ -10,11 +10,13 @@ use Rattle.ih_journal.specs.declared.entries.Entry.{Entry}
 use Rattle.ih_journal.specs.declared.refusals.JournalRefusal.{JournalRefusal}
 use Rattle.ih_journal.specs.declared.settings.Options.{Options}
 use Rattle.ih_journal.specs.Base.{Base}
+use Rattle.ih_journal.specs.Tried.{tried, tries}
 use Rattle.ih_journal.specs.Grammar.{parted}
 use Rattle.ih_journal.specs.Legal.{AreLegal, IsFull, IsLegal}
 use Rattle.ih_journal.specs.Texts.{ended, line_text, lines_from}
 use Rattle.ih_journal.proofs.Growth.{legal-more}
 use Rattle.ih_journal.proofs.Lacking.{parted_same}
+use Rattle.ih_journal.proofs.Mapped.{get-mapped, map-more, map-take}
 use Rattle.ih_journal.proofs.Separators.{parted_some}
 use Rattle.ih_cellbook.specs.Keeping.{IsBase}
 use Rattle.ih_replay.specs.Laws.{LegalJournalsAreTaken, LegalJournalsDiffer, TakenLinesAreOfLegalHistories, Takes, line_texts}
@@ -95,7 +97,7 @@ get-drop (z ∷ xs) zero x ys h = let same : z ∷ xs ≡ x ∷ ys = h in let he
 get-drop (z ∷ xs) (suc n) x ys h = get-drop xs n x ys h
 
 module _ (taken : LegalJournalsAreTaken) (differ : LegalJournalsDiffer) (texts : TakenLinesAreOfLegalHistories) (b : Base) (valid : IsValid b.instance) (base : IsBase b) where
-  own-texts : (G : List Entry) → AreLegal b G → parted 10 (lines_from b.options 0 G) ≡ line_texts b.options 0 G ++ [] ∷ []
+  own-texts : (G : List Entry) → AreLegal b 1 (tries G) → parted 10 (lines_from b.options 0 G) ≡ line_texts b.options 0 G ++ [] ∷ []
   own-texts G legal =
       let bytes = lines_from b.options 0 G in
       let p = split-last (parted 10 bytes) (parted_some 10 bytes) in
@@ -106,10 +108,10 @@ module _ (taken : LegalJournalsAreTaken) (differ : LegalJournalsDiffer) (texts :
       let is : p.0 ≡ line_texts b.options 0 G = (texts b p.0 G (subst (Takes b [] p.0) all t.taken)).1 in
       p.2 ∙ ap₂ (λ ls l. ls ++ l ∷ []) is whole.0
 
-  each-text : (G : List Entry) → AreLegal b G → EachLacks (line_texts b.options 0 G)
+  each-text : (G : List Entry) → AreLegal b 1 (tries G) → EachLacks (line_texts b.options 0 G)
   each-text G legal = each-left (line_texts b.options 0 G) ([] ∷ []) (subst EachLacks (own-texts G legal) (pieces-lack (lines_from b.options 0 G)))
 
-  module _ (G H : List Entry) (rest : List ℕ) (legal_G : AreLegal b G) (legal_H : AreLegal b H) (joins : lines_from b.options 0 H ++ rest ≡ lines_from b.options 0 G) where
+  module _ (G H : List Entry) (rest : List ℕ) (legal_G : AreLegal b 1 (tries G)) (legal_H : AreLegal b 1 (tries H)) (joins : lines_from b.options 0 H ++ rest ≡ lines_from b.options 0 G) where
     -- a legal history whose lines begin those of another begins it
     prefix : H ≡ take (length H) G
     prefix =
@@ -135,13 +137,15 @@ module _ (taken : LegalJournalsAreTaken) (differ : LegalJournalsDiffer) (texts :
         ∙ ap (λ n. lines_from o n (drop (length H) G)) place
 
     module _ (e : Entry) (es : List Entry) (some : drop (length H) G ≡ e ∷ es) where
-      next-legal : IsLegal b H e
-      next-legal = subst (λ K. IsLegal b K e) (sym prefix) (legal_G (length H) e (get-drop G (length H) e es some))
+      next-legal : IsLegal b 1 (tries H) (tried e)
+      next-legal = subst (λ K. IsLegal b 1 K (tried e)) (sym (map-take tried (length H) G) ∙ ap (λ es. tries es) (sym prefix))
+          (legal_G (length H) (tried e) (get-mapped tried G (length H) e (get-drop G (length H) e es some)))
 
       next-lacks : HasNoFeed (line_text b.options (length H) e)
       next-lacks =
           let o = b.options in
-          let each = subst EachLacks (texts-append o 0 H (e ∷ [])) (each-text (H ++ e ∷ []) (legal-more b H e legal_H next-legal)) in
+          let each = subst EachLacks (texts-append o 0 H (e ∷ [])) (each-text (H ++ e ∷ [])
+          (subst (AreLegal b 1) (sym (map-more tried H e)) (legal-more b 1 (tries H) (tried e) legal_H next-legal))) in
           let last : EachLacks (line_texts o (0 + length H) (e ∷ [])) = each-right (line_texts o 0 H) (line_texts o (0 + length H) (e ∷ [])) each in
           let place : 0 + length H ≡ length H = omega arith in
           subst (λ n. HasNoFeed (line_text o n e)) place (first-lacks o (0 + length H) e last)
@@ -157,7 +161,7 @@ module _ (taken : LegalJournalsAreTaken) (differ : LegalJournalsDiffer) (texts :
     whole : drop (length H) G ≡ [] → G ≡ H
     whole none = sym (take-append-drop (length H) G) ∙ (ap (λ es. take (length H) G ++ es) none ∙ (append-nil (take (length H) G) ∙ sym prefix))
 
-  refused-not-full : (bytes : List ℕ) (H : List Entry) (e : JournalRefusal) → IsRefusedAt b bytes H e → (G : List Entry) → IsFull b G
+  refused-not-full : (bytes : List ℕ) (H : List Entry) (e : JournalRefusal) → IsRefusedAt b bytes H e → (G : List Entry) → IsFull b 1 (tries G)
       → bytes ≡ lines_from b.options 0 G → ⊥
   refused-not-full bytes H e refused G full is = go (drop (length H) G) refl
     where
@@ -167,7 +171,7 @@ module _ (taken : LegalJournalsAreTaken) (differ : LegalJournalsDiffer) (texts :
       go : (D : List Entry) → drop (length H) G ≡ D → ⊥
       go [] none =
           let nothing = last-joins G H refused.rest full.legal refused.begins.legal joins none in
-          let done = subst (IsFull b) (whole G H refused.rest full.legal refused.begins.legal joins none) full in
+          let done = subst (λ es. IsFull b 1 (tries es)) (whole G H refused.rest full.legal refused.begins.legal joins none) full in
           elim refused.reason [
             | inl line ↦ ended-some line.0 line.1 (sym nothing ∙ line.2.joins)
             | inr (inl unended) ↦ unended.0 nothing
@@ -182,7 +186,7 @@ module _ (taken : LegalJournalsAreTaken) (differ : LegalJournalsDiffer) (texts :
           (record { legal = next-legal G H refused.rest full.legal refused.begins.legal joins d es some; text = refl })
 
   -- of the whole journal of a legal history each line is taken
-  pub all-salvaged : (G H : List Entry) (rest : List ℕ) → AreLegal b G → Begins b (lines_from b.options 0 G) H rest → H ≡ G
+  pub all-salvaged : (G H : List Entry) (rest : List ℕ) → AreLegal b 1 (tries G) → Begins b (lines_from b.options 0 G) H rest → H ≡ G
   all-salvaged G H rest legal begins = go (drop (length H) G) refl
     where
       joins : lines_from b.options 0 H ++ rest ≡ lines_from b.options 0 G
@@ -194,7 +198,7 @@ module _ (taken : LegalJournalsAreTaken) (differ : LegalJournalsDiffer) (texts :
           (record { joins = next-joins G H rest legal begins.legal joins d es some; first = next-lacks G H rest legal begins.legal joins d es some })
           (record { legal = next-legal G H rest legal begins.legal joins d es some; text = refl }))
 
-  salvaged-whole : (G : List Entry) (bytes more : List ℕ) (H : List Entry) (rest : List ℕ) → AreLegal b G → bytes ++ more ≡ lines_from b.options 0 G
+  salvaged-whole : (G : List Entry) (bytes more : List ℕ) (H : List Entry) (rest : List ℕ) → AreLegal b 1 (tries G) → bytes ++ more ≡ lines_from b.options 0 G
       → Begins b bytes H rest → length H ≡ count_by is_feed bytes
   salvaged-whole G bytes more H rest legal cut begins =
       let cuts : parted 10 bytes ≡ line_texts b.options 0 H ++ rest ∷ [] =

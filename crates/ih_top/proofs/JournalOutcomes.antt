@@ -5,6 +5,7 @@ use Rattle.std.proofs.lemmas.List.{append-nil}
 use Rattle.ih_journal.specs.declared.entries.Entry.{Entry}
 use Rattle.ih_journal.specs.declared.refusals.JournalRefusal.{JournalRefusal}
 use Rattle.ih_journal.specs.Base.{Base}
+use Rattle.ih_journal.specs.Tried.{Tried, tries}
 use Rattle.ih_words.specs.Replay.{ReplayCall}
 use Rattle.ih_words.specs.Start.{StartCall}
 use Rattle.ih_shelf.specs.Outside.{IsWritten, MayBeWritten, Names, Told}
@@ -65,7 +66,7 @@ module _ (o : Outcome) (out : List ℕ) (old new : Option Names) where
 
 -- ---- they are those of the call
 
-module _ (taken : JournalRead → Base → List Entry → Type 0) (refused : JournalRead → JournalRefusal → Type 0) (said : Base → List Entry → ℕ → List ℕ)
+module _ (taken : JournalRead → Base → List Entry → Type 0) (refused : JournalRead → JournalRefusal → Type 0) (said : Base → List Tried → ℕ → List ℕ)
     (r : ReplayCall) (old new : Option Names) (x : JournalRead) (given : HasRead old r x) where
   abbrev OfCall : Status → List ℕ → Type 0
   OfCall status text = JournalEnds taken refused said r old new status text
@@ -76,10 +77,10 @@ module _ (taken : JournalRead → Base → List Entry → Type 0) (refused : Jou
     best-is best is = subst (IsOutcome (taken x) (refused x) said) is comes
 
     writes-best : (writes : List ℕ → List ℕ → Names → Names → Type 0) → (w : WritesBest writes o r.out old new)
-        → (d : HasBest taken writes r old new) × (w.best.text.items ≡ said d.base d.history d.place)
+        → (d : HasBest taken writes r old new) × (w.best.text.items ≡ said d.base (tries d.history) d.place)
     writes-best writes w =
         let t = best-is w.best w.is in
-        let saved : IsBestSaid said t.base t.history w.best = t.output in (
+        let saved : IsBestSaid said t.base (tries t.history) w.best = t.output in (
           record {
             read = x;
             base = t.base;

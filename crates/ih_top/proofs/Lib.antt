@@ -1,5 +1,6 @@
 pub mod Advices
 pub mod Alike
+pub mod ChainHeadings
 pub mod Checks
 pub mod CommandEnds
 pub mod Completeness
@@ -10,8 +11,8 @@ pub mod JournalOutcomes
 pub mod RoundsAlike
 pub mod RoundsOutputs
 pub mod RoundsWriting
+pub mod RunOutputs
 pub mod Saying
-pub mod SeatLemmas
 pub mod Shown
 pub mod TakenBack
 pub mod TakenHistories

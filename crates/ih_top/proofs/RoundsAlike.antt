@@ -1,5 +1,7 @@
 -- Two calls of rounds with one worker end alike over the same files, where no fault and no want of memory ended them.
 use Rattle.std.proofs.Common.{◌≡◌, ◌∙◌, ℕ, refl, sym, ap, subst, arith, inl, inr, List, Option, Some, None, true, false}
+use Rattle.std.proofs.lemmas.List.{length-map}
+use Rattle.ih_journal.specs.Tried.{tried}
 use Rattle.std.specs.Prelude.{◌≢◌, ◌⊎◌, ◌≤ℤ◌, ◌<ℤ◌, slice_get}
 use Rattle.std.proofs.lemmas.Bool.{cases_lt}
 use Rattle.std.proofs.lemmas.Int.{ints}
@@ -45,7 +47,9 @@ one-best b rs q k p j one other = elim (cases_lt p q) [
 
 best-and-none : (b : Base) (rs : List Round) (q k : ℕ) → IsBestOf b rs q k → HaveNone b rs → ⊥
 best-and-none b rs q k best none =
-    let no : false ≡ true = sym (none q best.round best.is k best.place) ∙ best.works in cc
+    let len = length-map best.round.history tried in
+    let place = best.place in
+    let no : false ≡ true = sym (none q best.round best.is k (omega (arith, len, place))) ∙ best.works in cc
 
 -- ---- three kinds of ends
 

@@ -2,6 +2,7 @@
 use Rattle.std.proofs.Common.{◌≡◌, ℕ, ◌<◌, ◌^◌, ap, ◌∙◌, List, [], ◌++◌, length, Option, Some, None}
 use Rattle.ih_plan.specs.BillOf.{bill_of}
 use Rattle.ih_journal.specs.Base.{Base}
+use Rattle.ih_journal.specs.Tried.{tries}
 use Rattle.ih_cellbook.specs.Keeping.{IsBase}
 use Rattle.ih_cellbook.specs.Laws.{AcceptedPricesAreExact}
 use Rattle.ih_rounds.specs.declared.running.RoundsEnd.{RoundsEnd}
@@ -37,7 +38,7 @@ said-of b rs NoneFound (Some o) none said = absurd said
 exact-in : AcceptedPricesAreExact → (b : Base) (count : ℕ) (before after : Answers) (old new : List ℕ) (run : HaveRun b count before after old new)
     → HaveExactPrices b run.rounds
 exact-in law b count before after old new run q s there =
-    law (base_in b q s) s.history (run.fits q s there) (λ k e here. ((run.legal q s there).full.legal k e here).entry)
+    law (base_in b q s) (tries s.history) (run.fits q s there) (λ k e here. ((run.legal q s there).full.legal k e here).entry)
 
 pub output-of : AcceptedPricesAreExact → (b : Base) (count : ℕ) (before after : Answers) (old new : List ℕ) (end : RoundsEnd) (o : Output) → IsBase b → b.options.seed < 2 ^ 64 → old ≡ []
     → Ends b count before after old new end → IsRoundSaid b.instance end o.best → o.journal.items ≡ new → IsRoundsOutput b count o

@@ -1,14 +1,19 @@
 -- What the two writes of rounds leave.
-use Rattle.std.proofs.Common.{◌≡◌, ℕ, subst, List, Option, Some, None}
-use Rattle.std.specs.Prelude.{◌≢◌}
-use Rattle.ih_shelf.specs.Outside.{Names, Told, IsWritten, MayBeWritten}
+use Rattle.std.proofs.Common.{◌≡◌, ℕ, ◌∙◌, subst, inl, inr, List, Option, Some, None}
+use Rattle.std.specs.Prelude.{◌⊎◌}
+use Rattle.ih_shelf.specs.Outside.{Names, Told}
 use Rattle.ih_rounds.specs.Rounds.{journals}
 use Rattle.ih_words.specs.Rounds.{RoundsCall}
+use Rattle.ih_words.specs.Solve.{SolveCall}
 use Rattle.ih_top.specs.declared.output.BestOutput.{BestOutput}
 use Rattle.ih_top.specs.declared.output.Output.{Output}
-use Rattle.ih_top.specs.Rounds.{AreDone, AreSearches, HasBestOfRounds, HaveBegun, HaveFound, HaveFoundNone, HaveBest, HaveSearched, IsBestOfRounds, IsRoundsOutputOf, solution_in}
-use Rattle.ih_top.specs.Solving.{BeginsJournal, BeginsSolution, WritesBoth, WritesJournal}
-use Rattle.ih_top.proofs.Writing.{begins-journal, begins-solution, both-begun, journal-whole-begun, told-then, told-weaker, writes-both, writes-journal}
+use Rattle.ih_top.specs.declared.status.Role.TheVariants.{Instance, Solution, Journal, Out}
+use Rattle.ih_top.specs.declared.status.Status.{Status}
+use Rattle.ih_top.specs.declared.status.Status.TheVariants.{Done, Usage, ReadFault, InstanceRefused, StartRefused, NoneFound, WriteFault, OutOfMemory, JournalRefused, Infeasible, TooLong}
+use Rattle.ih_top.specs.Outputs.{OutputEnds, WritesOutput}
+use Rattle.ih_top.specs.Rounds.{AreDone, AreSearches, HasBestOfRounds, HaveBegun, HaveFound, HaveFoundNone, HaveBest, HaveSearched, IsBestOfRounds, IsRoundsOutputOf, RoundsEnds, solution_in}
+use Rattle.ih_top.specs.Solving.{BeginsJournal, BeginsSolution, Unchanged, WritesBoth, WritesJournal}
+use Rattle.ih_top.proofs.Writing.{both-begun, journal-whole-begun, told-weaker}
 
 -- ---- weaker ends
 
@@ -34,11 +39,11 @@ rounds-none-begun r old new h = record {
       (journal-whole-begun r.search (journals h.base.options 0 h.rounds)) h.written;
 }
 
--- ---- the writes
+-- ---- where rounds made it
 
-module _ (r : RoundsCall) (o : Output) (differ : r.search.out ≢ r.search.journal) (old : Option Names) (is : IsRoundsOutputOf old r o) where
-  abbrev text : List ℕ
-  text = journals is.base.options 0 is.output.rounds
+module _ (r : RoundsCall) (o : Output) (old new : Option Names) (is : IsRoundsOutputOf old r o) where
+  abbrev text_of : List ℕ
+  text_of = journals is.base.options 0 is.output.rounds
 
   searched : AreSearches old r is.base is.output.rounds
   searched = record {
@@ -50,61 +55,64 @@ module _ (r : RoundsCall) (o : Output) (differ : r.search.out ≢ r.search.journ
     exact = is.output.exact;
   }
 
-  pub rounds-begun : (new : Option Names) → Told (MayBeWritten r.search.journal o.journal.items) old new → HaveBegun r old new
-  rounds-begun new written = record {
+  rounds-begun : Told (BeginsJournal r.search o.journal.items) old new → HaveBegun r old new
+  rounds-begun written = record {
     base = is.base;
     rounds = is.output.rounds;
     searches = searched;
-    written = told-weaker (MayBeWritten r.search.journal o.journal.items) (BeginsJournal r.search text) old new
-        (begins-journal r.search text o.journal.items is.output.journal differ) written;
+    written = subst (λ j. Told (BeginsJournal r.search j) old new) is.output.journal written;
   }
 
-  pub rounds-none : (new : Option Names) → o.best ≡ None → Told (IsWritten r.search.journal o.journal.items) old new → HaveFoundNone r old new
-  rounds-none new none written = (
+  rounds-none : o.best ≡ None → Told (WritesJournal r.search o.journal.items) old new → HaveFoundNone r old new
+  rounds-none none written = (
     record {
       base = is.base;
       rounds = is.output.rounds;
       searches = searched;
-      written = told-weaker (IsWritten r.search.journal o.journal.items) (WritesJournal r.search text) old new
-          (writes-journal r.search text o.journal.items is.output.journal differ) written;
+      written = subst (λ j. Told (WritesJournal r.search j) old new) is.output.journal written;
     },
     subst (HasBestOfRounds is.base is.output.rounds) none is.output.best,
   )
 
-  module _ (best : BestOutput) (some : o.best ≡ Some best) where
-    of-best : IsBestOfRounds is.base is.output.rounds best
-    of-best = subst (HasBestOfRounds is.base is.output.rounds) some is.output.best
+  abbrev of-best : (best : BestOutput) → o.best ≡ Some best → IsBestOfRounds is.base is.output.rounds best
+  of-best best some = subst (HasBestOfRounds is.base is.output.rounds) some is.output.best
 
-    abbrev solution : List ℕ
-    solution = solution_in is.base of-best.round of-best.best.round of-best.place
-
-    pub rounds-found : (mid new : Option Names) → Told (IsWritten r.search.journal o.journal.items) old mid
-        → Told (MayBeWritten r.search.out best.solution.items) mid new → HaveFound r old new
-    rounds-found mid new first second = record {
-      base = is.base;
-      rounds = is.output.rounds;
-      round = of-best.round;
-      place = of-best.place;
-      searches = searched;
-      best = of-best.best;
-      written = told-then (IsWritten r.search.journal o.journal.items) (MayBeWritten r.search.out best.solution.items)
-          (BeginsSolution r.search text solution) old mid new
-          (begins-solution r.search text o.journal.items is.output.journal differ solution best.solution.items of-best.solution) first second;
-    }
-
-    pub rounds-done : (mid new : Option Names) → Told (IsWritten r.search.journal o.journal.items) old mid
-        → Told (IsWritten r.search.out best.solution.items) mid new → AreDone r old new best.text.items
-    rounds-done mid new first second = (
+  abbrev rounds-written : (writes : SolveCall → List ℕ → List ℕ → Names → Names → Type 0) → WritesOutput writes r.search o old new
+      → HaveBest writes r old new
+  rounds-written writes w =
+      let best = of-best w.best w.is in
       record {
         base = is.base;
         rounds = is.output.rounds;
-        round = of-best.round;
-        place = of-best.place;
+        round = best.round;
+        place = best.place;
         searches = searched;
-        best = of-best.best;
-        written = told-then (IsWritten r.search.journal o.journal.items) (IsWritten r.search.out best.solution.items)
-            (WritesBoth r.search text solution) old mid new
-            (writes-both r.search text o.journal.items is.output.journal differ solution best.solution.items of-best.solution) first second;
-      },
-      of-best.text,
-    )
+        best = best.best;
+        written = subst (λ x. Told (writes r.search text_of x) old new) best.solution
+            (subst (λ j. Told (writes r.search j w.best.solution.items) old new) is.output.journal w.written);
+      }
+
+  rounds-done : (w : WritesOutput WritesBoth r.search o old new) (text : List ℕ) → text ≡ w.best.text.items → AreDone r old new text
+  rounds-done w text said = (rounds-written WritesBoth w, said ∙ (of-best w.best w.is).text)
+
+  pub rounds-ends : (status : Status) (text : List ℕ) → OutputEnds r.search o old new status text → RoundsEnds r old new status text
+  rounds-ends Done text h = rounds-done h.0 text h.1
+  rounds-ends Usage text h = absurd h
+  rounds-ends (ReadFault role) text h = absurd h
+  rounds-ends (InstanceRefused e) text h = absurd h
+  rounds-ends (StartRefused e) text h = absurd h
+  rounds-ends NoneFound text h = (rounds-none h.0 h.1, h.2)
+  rounds-ends (WriteFault None) text h = rounds-done h.0 text h.1
+  rounds-ends (WriteFault (Some Instance)) text h = absurd h
+  rounds-ends (WriteFault (Some Solution)) text h = absurd h
+  rounds-ends (WriteFault (Some Journal)) text h = (rounds-begun h.0, h.1)
+  rounds-ends (WriteFault (Some Out)) text h = (rounds-written BeginsSolution h.0, h.1)
+  rounds-ends OutOfMemory text h = (by_case h.0, h.1)
+    where
+      by_case : Told (BeginsJournal r.search o.journal.items) old new ⊎ WritesOutput BeginsSolution r.search o old new
+          → Told Unchanged old new ⊎ HaveBegun r old new ⊎ HaveFound r old new
+      by_case (inl begun) = inr (inl (rounds-begun begun))
+      by_case (inr found) = inr (inr (rounds-written BeginsSolution found))
+  rounds-ends (JournalRefused e) text h = absurd h
+  rounds-ends Infeasible text h = absurd h
+  rounds-ends (TooLong role) text h = absurd h

@@ -1,10 +1,12 @@
 -- A demo's history: that of one worker.
-use Rattle.std.proofs.Common.{◌≡◌, ◌∙◌, ℕ, suc, ◌+◌, refl, ap, ap₂, arith, List, [], ◌∷◌, ◌++◌, append_assoc, length}
+use Rattle.std.proofs.Common.{◌≡◌, ◌∙◌, ℕ, suc, ◌+◌, refl, ap, arith, List, [], ◌∷◌, ◌++◌, append_assoc, length}
+use Rattle.std.proofs.lemmas.List.{length-map}
 use Rattle.std.specs.Prelude.{Bool, cond}
 use Rattle.std.proofs.lemmas.List.Sums.{sum_by-cons}
 use Rattle.ih_journal.specs.declared.entries.Entry.{Entry}
 use Rattle.ih_journal.specs.Attempts.{is_stale}
 use Rattle.ih_journal.specs.Base.{Base}
+use Rattle.ih_journal.specs.Tried.{tried, tries}
 use Rattle.ih_journal.specs.Laws.{HasNoneStale}
 use Rattle.ih_journal.specs.Legal.{IsFull}
 use Rattle.ih_journal.proofs.LoneWorkers.{lone-fresh, lone-moves}
@@ -17,15 +19,15 @@ use Rattle.ih_top.specs.Texts.{demo_line, demo_text, done_text, is_declined, ver
 abbrev bit_of : Bool → ℕ
 bit_of b = cond b 1 0
 
-none-counted : (H : List Entry) → HasNoneStale H → verdicts_of is_stale H ≡ 0
+none-counted : (H : List Entry) → HasNoneStale (tries H) → verdicts_of is_stale H ≡ 0
 none-counted [] fresh = refl
 none-counted (e ∷ es) fresh =
     let split = sum_by-cons (λ (x : Entry). bit_of (is_stale x.verdict)) e es in
-    let here : bit_of (is_stale e.verdict) ≡ 0 = ap bit_of (fresh 0 e refl) in
+    let here : bit_of (is_stale e.verdict) ≡ 0 = ap bit_of (fresh 0 (tried e) refl) in
     let rest = none-counted es (λ k f at. fresh (suc k) f at) in
     omega (arith, split, here, rest)
 
-pub is-demo : (number : ℕ) (b : Base) (H : List Entry) → IsDemoBase number b → IsFull b H → AreExact b H → IsDemo number b H
+pub is-demo : (number : ℕ) (b : Base) (H : List Entry) → IsDemoBase number b → IsFull b 1 (tries H) → AreExact b (tries H) → IsDemo number b H
 is-demo number b H base full exact =
     let lone : b.options.workers ≡ 1 = ap (λ o. o.workers) base.options in
     let moves : b.options.moves ≡ 2000 = ap (λ o. o.moves) base.options in
@@ -33,8 +35,8 @@ is-demo number b H base full exact =
       base = base;
       full = full;
       exact = exact;
-      many = lone-moves b H lone full ∙ moves;
-      fresh = none-counted H (lone-fresh b H lone full.legal);
+      many = (let all = lone-moves b 1 (tries H) lone full in let len = length-map H tried in omega (arith, all, len, moves));
+      fresh = none-counted H (lone-fresh b 1 (tries H) lone full.legal);
     }
 
 -- how many of the entries have each verdict
@@ -42,9 +44,8 @@ abbrev counted : List Entry → List ℕ
 counted H = verdicts_line (verdicts_of is_accepted H) (verdicts_of is_declined H) (verdicts_of is_stale H)
 
 -- its text, piece by piece
-pub demo-said : (number : ℕ) (b : Base) (H es : List Entry) (k : ℕ) (text said : List ℕ) → es ≡ H → said ≡ done_text b H k
-    → text ≡ (demo_line number ++ verdicts_line (verdicts_of is_accepted es) (verdicts_of is_declined es) (verdicts_of is_stale es)) ++ said
+pub demo-said : (number : ℕ) (b : Base) (H : List Entry) (k : ℕ) (text said : List ℕ) → said ≡ done_text b (tries H) k
+    → text ≡ (demo_line number ++ verdicts_line (verdicts_of is_accepted H) (verdicts_of is_declined H) (verdicts_of is_stale H)) ++ said
     → text ≡ demo_text number b H k
-demo-said number b H es k text said same best is =
-    is ∙ (append_assoc (demo_line number) (counted es) said
-    ∙ ap₂ (λ (xs : List Entry) (t : List ℕ). demo_line number ++ (counted xs ++ t)) same best)
+demo-said number b H k text said best is =
+    is ∙ (append_assoc (demo_line number) (counted H) said ∙ ap (λ t. demo_line number ++ (counted H ++ t)) best)

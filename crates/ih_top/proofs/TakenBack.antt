@@ -1,10 +1,12 @@
 -- What solve writes, replay and salvage take.
 use Rattle.std.proofs.Common.{◌≡◌, ◌∙◌, ℕ, ◌≤◌, ◌+◌, ◌*◌, refl, sym, ap, ap₂, subst, arith, inl, inr, List, [], ◌++◌, length, Option, Some, None}
+use Rattle.std.proofs.lemmas.List.{length-map}
 use Rattle.std.specs.Prelude.{◌⊎◌, Bool, unwrap_or}
 use Rattle.ih_tables.specs.Valid.{IsValid}
 use Rattle.ih_journal.specs.declared.entries.Entry.{Entry}
 use Rattle.ih_journal.specs.declared.refusals.JournalRefusal.{JournalRefusal}
 use Rattle.ih_journal.specs.Base.{Base}
+use Rattle.ih_journal.specs.Tried.{Tried, tried, tries}
 use Rattle.ih_journal.specs.Best.{HasNone, IsBest}
 use Rattle.ih_journal.specs.Legal.{IsFull}
 use Rattle.ih_journal.specs.Texts.{journal, lines_from}
@@ -27,7 +29,7 @@ use Rattle.ih_top.specs.Inputs.{HasInstance, HasPlan}
 use Rattle.ih_top.specs.Journals.{Begins}
 use Rattle.ih_top.specs.Laws.{EndsIn, HasNoFault, HaveSameBytes, IsReplayOf, JournalsFit, SolvesAreTakenBack, SolvesWithNoneAreTakenBack}
 use Rattle.ih_top.specs.Replaying.{HasRead, IsHeadedBy, IsHeadless, IsRefused, IsRefusedJournal, IsReplay, IsSalvage, JournalEnds, JournalRead}
-use Rattle.ih_top.specs.Solving.{IsSearch, solution_at}
+use Rattle.ih_top.specs.Solving.{HasBase, IsSearch, of_moves, solution_at}
 use Rattle.ih_top.specs.Starts.{started}
 use Rattle.ih_top.specs.Texts.{done_text, none_found_text, salvaged_line, salvaged_text}
 use Rattle.ih_top.proofs.Completeness.{journal-accepted, not-headless, not-refused, same-search}
@@ -46,51 +48,59 @@ ends-as wanted t u X Y status said e f (inr (same, told, left)) = inr (same, tol
 
 -- ---- the journal of a search, where replay and salvage find it
 
-search-valid : (files : Names) (s : SolveCall) (b : Base) (H : List Entry) → IsSearch (Some files) s b H → IsValid b.instance
+search-valid : (files : Names) (s : SolveCall) (b : Base) (H : List Entry) → IsSearch of_moves (Some files) s b H → IsValid b.instance
 search-valid files s b H search = instance_sound (bytes_at files s.instance) b.instance search.base.start.inputs.instance.read
 
 pub journals-fit : LegalJournalsAreShort → JournalsFit
 journals-fit short files s b H search =
-    let legal : AreLegalButDraws b H = λ k e there_is. (search.full.legal k e there_is).entry in
+    let legal : AreLegalButDraws b (tries H) = λ k e there_is. (search.full.legal k e there_is).entry in
     let len = short b H (record { valid = search-valid files s b H search; base = search.given; seed = search.seed }) legal in
-    let few = (legal-few b H legal).most in
+    let few = (legal-few b (tries H) legal).most in
     let most = search.given.lawful.entries in
-    omega (arith, len, few, most)
+    let many = length-map H tried in
+    omega (arith, len, few, most, many)
 
-module _ (taken_law : LegalJournalsAreTaken) (differ : LegalJournalsDiffer) (texts : TakenLinesAreOfLegalHistories) (short : LegalJournalsAreShort)
-    (s : SolveCall) (r : ReplayCall) (before after there left : Names) (of : IsReplayOf s r before after there)
-    (b : Base) (H : List Entry) (search : IsSearch (Some before) s b H) (written : after s.journal ≡ Some (journal b.options H)) where
-  abbrev found : JournalRead
-  found = record { instance = b.instance; plan = search.base.start.plan; bytes = journal b.options H }
+-- ---- the journal of a search, where a later call reads it
 
-  valid : IsValid b.instance
-  valid = search-valid before s b H search
+module _ (s : SolveCall) (r : ReplayCall) (before after there : Names) (of : IsReplayOf s r before after there) (b : Base)
+    (base : HasBase (Some before) s b) (bytes : List ℕ) (short : length bytes ≤ MAX_JOURNAL) (written : after s.journal ≡ Some bytes) where
+  abbrev pub read-back : JournalRead
+  read-back = record { instance = b.instance; plan = base.start.plan; bytes = bytes }
 
   has-instance : HasInstance r.instance b.instance there
   has-instance = record {
-    short = subst (λ (t : List ℕ). length t ≤ MAX_FILE) (sym of.same_instance) search.base.start.inputs.instance.short;
-    read = ap instance of.same_instance ∙ search.base.start.inputs.instance.read;
+    short = subst (λ (t : List ℕ). length t ≤ MAX_FILE) (sym of.same_instance) base.start.inputs.instance.short;
+    read = ap instance of.same_instance ∙ base.start.inputs.instance.read;
   }
 
-  has-plan : (file other : Option (List ℕ)) → HaveSameBytes there before file other → HasPlan (Some before) other b.instance search.base.start.plan
-      → HasPlan (Some there) file b.instance search.base.start.plan
+  has-plan : (file other : Option (List ℕ)) → HaveSameBytes there before file other → HasPlan (Some before) other b.instance base.start.plan
+      → HasPlan (Some there) file b.instance base.start.plan
   has-plan None None same h = h
   has-plan None (Some other) same h = absurd same
   has-plan (Some name) None same h = absurd same
   has-plan (Some name) (Some other) same h =
       record { short = subst (λ (t : List ℕ). length t ≤ MAX_FILE) (sym same) h.short; read = ap (plan_in b.instance) same ∙ h.read }
 
-  has : HasRead (Some there) r found
-  has = record {
+  pub has-read-back : HasRead (Some there) r read-back
+  has-read-back = record {
     inputs = record {
       instance = has-instance;
-      plan = has-plan r.start.file s.start.file of.same_start search.base.start.inputs.plan;
+      plan = has-plan r.start.file s.start.file of.same_start base.start.inputs.plan;
     };
-    journal = record {
-      short = journals-fit short before s b H search;
-      held = of.journal ∙ ap (λ (o : Option (List ℕ)). unwrap_or o []) written;
-    };
+    journal = record { short = short; held = of.journal ∙ ap (λ (o : Option (List ℕ)). unwrap_or o []) written };
   }
+
+module _ (taken_law : LegalJournalsAreTaken) (differ : LegalJournalsDiffer) (texts : TakenLinesAreOfLegalHistories) (short : LegalJournalsAreShort)
+    (s : SolveCall) (r : ReplayCall) (before after there left : Names) (of : IsReplayOf s r before after there)
+    (b : Base) (H : List Entry) (search : IsSearch of_moves (Some before) s b H) (written : after s.journal ≡ Some (journal b.options H)) where
+  abbrev found : JournalRead
+  found = record { instance = b.instance; plan = search.base.start.plan; bytes = journal b.options H }
+
+  valid : IsValid b.instance
+  valid = search-valid before s b H search
+
+  has : HasRead (Some there) r found
+  has = has-read-back s r before after there of b search.base (journal b.options H) (journals-fit short before s b H search) written
 
   headed : IsHeadedBy r.start found b (lines_from b.options 0 H)
   headed = record {
@@ -109,7 +119,7 @@ module _ (taken_law : LegalJournalsAreTaken) (differ : LegalJournalsDiffer) (tex
   one-replay : (y : JournalRead) (c : Base) (G : List Entry) → HasRead (Some there) r y → IsReplay r.start y c G → (c ≡ b) × (G ≡ H)
   one-replay y c G other is =
       let same = same-search there r found has b (lines_from b.options 0 H) headed y c (lines_from c.options 0 G) other is.headed in
-      let full = subst (λ (x : Base). IsFull x G) same.0 is.full in
+      let full = subst (λ (x : Base). IsFull x 1 (tries G)) same.0 is.full in
       let lines : lines_from b.options 0 G ≡ lines_from b.options 0 H = ap (λ (x : Base). lines_from x.options 0 G) (sym same.0) ∙ same.1 in
       (same.0, differ b G H valid search.given full.legal search.full.legal lines)
 
@@ -120,21 +130,21 @@ module _ (taken_law : LegalJournalsAreTaken) (differ : LegalJournalsDiffer) (tex
       (subst (λ (t : List ℕ). Begins c t G is.rest) same.1 is.begins) in
       (same.0, all-salvaged taken_law differ texts b valid search.given H G is.rest search.full.legal begins)
 
-  module _ (taken : JournalRead → Base → List Entry → Type 0) (refused : JournalRead → JournalRefusal → Type 0) (said : Base → List Entry → ℕ → List ℕ)
+  module _ (taken : JournalRead → Base → List Entry → Type 0) (refused : JournalRead → JournalRefusal → Type 0) (said : Base → List Tried → ℕ → List ℕ)
       (one : (y : JournalRead) (c : Base) (G : List Entry) → HasRead (Some there) r y → taken y c G → (c ≡ b) × (G ≡ H))
       (never : (e : JournalRefusal) → IsRefused refused r (Some there) e → ⊥) where
     both : (c : Base) (G : List Entry) → (c ≡ b) × (G ≡ H) → ◌≡◌ {A = Base × List Entry} (c, G) (b, H)
     both c G same = rw (same.0, same.1) refl
 
-    best-ends : (k : ℕ) → IsBest b H k → (status : Status) (text : List ℕ) → HasNoFault status → JournalEnds taken refused said r (Some there) (Some left) status text
-        → EndsIn Done (said b H k) (left r.out ≡ Some (solution_at b H k)) status text
+    best-ends : (k : ℕ) → IsBest b (tries H) k → (status : Status) (text : List ℕ) → HasNoFault status → JournalEnds taken refused said r (Some there) (Some left) status text
+        → EndsIn Done (said b (tries H) k) (left r.out ≡ Some (solution_at b (tries H) k)) status text
     best-ends k best Done text calm (d, told) =
         let same = both d.base d.history (one d.read d.base d.history d.given d.taken_is) in
-        let place = best-one b H d.place k (subst (λ (t : Base × List Entry). IsBest t.0 t.1 d.place) same d.best) best in
+        let place = best-one b (tries H) d.place k (subst (λ (t : Base × List Entry). IsBest t.0 (tries t.1) d.place) same d.best) best in
         inr (
           refl,
-          told ∙ ap₂ (λ (t : Base × List Entry) (j : ℕ). said t.0 t.1 j) same place,
-          d.written.whole ∙ ap₂ (λ (t : Base × List Entry) (j : ℕ). Some (solution_at t.0 t.1 j)) same place,
+          told ∙ ap₂ (λ (t : Base × List Entry) (j : ℕ). said t.0 (tries t.1) j) same place,
+          d.written.whole ∙ ap₂ (λ (t : Base × List Entry) (j : ℕ). Some (solution_at t.0 (tries t.1) j)) same place,
         )
     best-ends k best Usage text calm h = absurd h.1
     best-ends k best (ReadFault role) text calm h = absurd calm
@@ -142,18 +152,18 @@ module _ (taken_law : LegalJournalsAreTaken) (differ : LegalJournalsDiffer) (tex
     best-ends k best (StartRefused e) text calm h = inl (memory-alone (StartRefused e) calm (journal-accepted there r found has (StartRefused e) text h.1))
     best-ends k best NoneFound text calm (kept, d, told) =
         let same = both d.base d.history (one d.read d.base d.history d.given d.taken_is) in
-        absurd (best-or-none b H k best (subst (λ (t : Base × List Entry). HasNone t.0 t.1) same d.none))
+        absurd (best-or-none b (tries H) k best (subst (λ (t : Base × List Entry). HasNone t.0 (tries t.1)) same d.none))
     best-ends k best (WriteFault role) text calm h = absurd calm
     best-ends k best OutOfMemory text calm h = inl refl
     best-ends k best (JournalRefused e) text calm (kept, is, told) = absurd (never e is)
     best-ends k best Infeasible text calm h = absurd h.1
     best-ends k best (TooLong role) text calm h = inl (memory-alone (TooLong role) calm (journal-accepted there r found has (TooLong role) text h.1))
 
-    none-ends : HasNone b H → (status : Status) (text : List ℕ) → HasNoFault status → JournalEnds taken refused said r (Some there) (Some left) status text
+    none-ends : HasNone b (tries H) → (status : Status) (text : List ℕ) → HasNoFault status → JournalEnds taken refused said r (Some there) (Some left) status text
         → EndsIn NoneFound none_found_text (Unit {0}) status text
     none-ends none Done text calm (d, told) =
         let same = both d.base d.history (one d.read d.base d.history d.given d.taken_is) in
-        absurd (best-or-none b H d.place (subst (λ (t : Base × List Entry). IsBest t.0 t.1 d.place) same d.best) none)
+        absurd (best-or-none b (tries H) d.place (subst (λ (t : Base × List Entry). IsBest t.0 (tries t.1) d.place) same d.best) none)
     none-ends none Usage text calm h = absurd h.1
     none-ends none (ReadFault role) text calm h = absurd calm
     none-ends none (InstanceRefused e) text calm h = inl (memory-alone (InstanceRefused e) calm (journal-accepted there r found has (InstanceRefused e) text h.1))
@@ -171,21 +181,21 @@ module _ (taken_law : LegalJournalsAreTaken) (differ : LegalJournalsDiffer) (tex
   salvage-never : (e : JournalRefusal) → IsRefused IsHeadless r (Some there) e → ⊥
   salvage-never e h = not-headless there r found has b (lines_from b.options 0 H) headed e h
 
-  replay-best : (k : ℕ) → IsBest b H k → (status : Status) (text : List ℕ) → HasNoFault status
+  replay-best : (k : ℕ) → IsBest b (tries H) k → (status : Status) (text : List ℕ) → HasNoFault status
       → JournalEnds (IsReplay r.start) (IsRefusedJournal r.start) done_text r (Some there) (Some left) status text
-      → EndsIn Done (done_text b H k) (left r.out ≡ Some (solution_at b H k)) status text
+      → EndsIn Done (done_text b (tries H) k) (left r.out ≡ Some (solution_at b (tries H) k)) status text
   replay-best k best status text calm ends = best-ends (IsReplay r.start) (IsRefusedJournal r.start) done_text one-replay replay-never k best status text calm ends
 
-  salvage-best : (k : ℕ) → IsBest b H k → (status : Status) (text : List ℕ) → HasNoFault status
+  salvage-best : (k : ℕ) → IsBest b (tries H) k → (status : Status) (text : List ℕ) → HasNoFault status
       → JournalEnds (IsSalvage r.start) IsHeadless salvaged_text r (Some there) (Some left) status text
-      → EndsIn Done (salvaged_text b H k) (left r.out ≡ Some (solution_at b H k)) status text
+      → EndsIn Done (salvaged_text b (tries H) k) (left r.out ≡ Some (solution_at b (tries H) k)) status text
   salvage-best k best status text calm ends = best-ends (IsSalvage r.start) IsHeadless salvaged_text one-salvage salvage-never k best status text calm ends
 
-  replay-none : HasNone b H → (status : Status) (text : List ℕ) → HasNoFault status
+  replay-none : HasNone b (tries H) → (status : Status) (text : List ℕ) → HasNoFault status
       → JournalEnds (IsReplay r.start) (IsRefusedJournal r.start) done_text r (Some there) (Some left) status text → EndsIn NoneFound none_found_text (Unit {0}) status text
   replay-none none status text calm ends = none-ends (IsReplay r.start) (IsRefusedJournal r.start) done_text one-replay replay-never none status text calm ends
 
-  salvage-none : HasNone b H → (status : Status) (text : List ℕ) → HasNoFault status
+  salvage-none : HasNone b (tries H) → (status : Status) (text : List ℕ) → HasNoFault status
       → JournalEnds (IsSalvage r.start) IsHeadless salvaged_text r (Some there) (Some left) status text → EndsIn NoneFound none_found_text (Unit {0}) status text
   salvage-none none status text calm ends = none-ends (IsSalvage r.start) IsHeadless salvaged_text one-salvage salvage-never none status text calm ends
 
@@ -194,13 +204,13 @@ solves-taken-back taken_law differ texts short s r before after there left text 
     let b = done.base in
     let H = done.history in
     let k = done.place in
-    let out : (left r.out ≡ Some (solution_at b H k)) → left r.out ≡ after s.out = λ same. same ∙ sym done.written.out in
+    let out : (left r.out ≡ Some (solution_at b (tries H) k)) → left r.out ≡ after s.out = λ same. same ∙ sym done.written.out in
     record {
-      replayed = λ ends. ends-as Done (done_text b H k) text (left r.out ≡ Some (solution_at b H k)) (left r.out ≡ after s.out) ended said (sym done.said) out
+      replayed = λ ends. ends-as Done (done_text b (tries H) k) text (left r.out ≡ Some (solution_at b (tries H) k)) (left r.out ≡ after s.out) ended said (sym done.said) out
           (replay-best taken_law differ texts short s r before after there left of b H done.search done.written.journal k done.best ended said calm ends);
       salvaged = λ ends.
-          ends-as Done (salvaged_text b H k) (salvaged_line (length H) ++ text) (left r.out ≡ Some (solution_at b H k)) (left r.out ≡ after s.out) ended said
-          (ap (λ t. salvaged_line (length H) ++ t) (sym done.said)) out
+          ends-as Done (salvaged_text b (tries H) k) (salvaged_line (length H) ++ text) (left r.out ≡ Some (solution_at b (tries H) k)) (left r.out ≡ after s.out) ended said
+          (ap₂ (λ n t. salvaged_line n ++ t) (length-map H tried) (sym done.said)) out
           (salvage-best taken_law differ texts short s r before after there left of b H done.search done.written.journal k done.best ended said calm ends);
     }
 

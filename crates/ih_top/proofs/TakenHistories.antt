@@ -1,9 +1,11 @@
 -- A replay's history, said of the search that it is given.
 use Rattle.std.proofs.Common.{◌≡◌, ◌∙◌, ℕ, ◌<◌, ◌≤◌, ◌^◌, ◌*◌, ◌+◌, subst, sym, ap, ap₂, arith, List, ◌++◌, length, Option}
+use Rattle.std.proofs.lemmas.List.{length-map}
 use Rattle.ih_tables.specs.Valid.{IsValid}
 use Rattle.ih_journal.specs.declared.entries.Entry.{Entry}
 use Rattle.ih_journal.specs.declared.refusals.JournalRefusal.{JournalRefusal}
 use Rattle.ih_journal.specs.Base.{Base}
+use Rattle.ih_journal.specs.Tried.{Tried, tried, tries}
 use Rattle.ih_journal.specs.Frozen.{AgreesBefore}
 use Rattle.ih_journal.specs.History.{plan_at}
 use Rattle.ih_journal.specs.Legal.{IsFull}
@@ -19,11 +21,15 @@ use Rattle.ih_top.specs.Outputs.{HasBestOutput, HasBestSaid, IsBestSaid}
 use Rattle.ih_top.specs.Texts.{done_text, salvaged_line, salvaged_text}
 
 -- a journal has few entries
-pub few-small : (b : Base) (H : List Entry) → IsBase b → AreFew b H → length H < 2 ^ 31
-few-small b H base few = let most = few.most in let all = base.lawful.entries in omega (arith, most, all)
+pub few-small : (b : Base) (H : List Entry) → IsBase b → AreFew b (tries H) → length H < 2 ^ 31
+few-small b H base few =
+    let most = few.most in
+    let all = base.lawful.entries in
+    let len = length-map H tried in
+    omega (arith, most, all, len)
 
 -- a best that is said to be that of so many lines
-pub salvaged-best : (b : Base) (H : List Entry) (n : ℕ) (o s : BestOutput) → n ≡ length H → IsBestSaid done_text b H o → s.solution.items ≡ o.solution.items
+pub salvaged-best : (b : Base) (H : List Tried) (n : ℕ) (o s : BestOutput) → n ≡ length H → IsBestSaid done_text b H o → s.solution.items ≡ o.solution.items
     → s.text.items ≡ salvaged_line n ++ o.text.items → IsBestSaid salvaged_text b H s
 salvaged-best b H n o s count best solution text = record {
   place = best.place;
@@ -33,14 +39,14 @@ salvaged-best b H n o s count best solution text = record {
 }
 
 module _ (b c : Base) (same : b ≡ c) (bytes : List ℕ) (H : List Entry) where
-  pub full-lines : IsBase b → IsFull b H → ((k : ℕ) → AgreesBefore b (plan_at b H k)) → AreExact b H → bytes ≡ lines_from b.options 0 H
-      → (best : Option BestOutput) → HasBestOutput c H best → AreFullLines c bytes best
+  pub full-lines : IsBase b → IsFull b 1 (tries H) → ((k : ℕ) → AgreesBefore b (plan_at b (tries H) k)) → AreExact b (tries H) → bytes ≡ lines_from b.options 0 H
+      → (best : Option BestOutput) → HasBestOutput c (tries H) best → AreFullLines c bytes best
   full-lines given full agrees exact whole best output = record {
     history = H;
     given = subst IsBase same given;
-    exact = subst (λ (x : Base). AreExact x H) same exact;
-    full = subst (λ (x : Base). IsFull x H) same full;
-    agrees = λ k. subst (λ (x : Base). AgreesBefore x (plan_at x H k)) same (agrees k);
+    exact = subst (λ (x : Base). AreExact x (tries H)) same exact;
+    full = subst (λ (x : Base). IsFull x 1 (tries H)) same full;
+    agrees = λ k. subst (λ (x : Base). AgreesBefore x (plan_at x (tries H) k)) same (agrees k);
     whole = subst (λ (x : Base). bytes ≡ lines_from x.options 0 H) same whole;
     output = output;
   }
@@ -50,14 +56,14 @@ module _ (b c : Base) (same : b ≡ c) (bytes : List ℕ) (H : List Entry) where
       let here = subst (λ (x : Base). IsRefusedAt x bytes H e) same refused in
       record { history = H; refused = here; none = law c bytes H e valid base here }
 
-  pub salvaged-lines : (rest : List ℕ) → IsBase b → Begins b bytes H rest → ((k : ℕ) → AgreesBefore b (plan_at b H k)) → AreExact b H
-      → (best : Option BestOutput) → HasBestSaid salvaged_text c H best → AreLines c bytes best
+  pub salvaged-lines : (rest : List ℕ) → IsBase b → Begins b bytes H rest → ((k : ℕ) → AgreesBefore b (plan_at b (tries H) k)) → AreExact b (tries H)
+      → (best : Option BestOutput) → HasBestSaid salvaged_text c (tries H) best → AreLines c bytes best
   salvaged-lines rest given begins agrees exact best output = record {
     history = H;
     given = subst IsBase same given;
-    exact = subst (λ (x : Base). AreExact x H) same exact;
+    exact = subst (λ (x : Base). AreExact x (tries H)) same exact;
     rest = rest;
     begins = subst (λ (x : Base). Begins x bytes H rest) same begins;
-    agrees = λ k. subst (λ (x : Base). AgreesBefore x (plan_at x H k)) same (agrees k);
+    agrees = λ k. subst (λ (x : Base). AgreesBefore x (plan_at x (tries H) k)) same (agrees k);
     output = output;
   }

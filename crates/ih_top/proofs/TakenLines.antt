@@ -6,6 +6,7 @@ use Rattle.ih_journal.specs.declared.entries.Entry.{Entry}
 use Rattle.ih_journal.specs.declared.refusals.JournalRefusal.{JournalRefusal}
 use Rattle.ih_journal.specs.declared.settings.Options.{Options}
 use Rattle.ih_journal.specs.Base.{Base}
+use Rattle.ih_journal.specs.Tried.{tries}
 use Rattle.ih_journal.specs.Legal.{AreLegal}
 use Rattle.ih_journal.specs.Texts.{ended, line_text, lines_from}
 use Rattle.ih_journal.proofs.Growth.{legal-none}
@@ -33,7 +34,7 @@ joins-more b H bytes rest line more e joins has next =
     ∙ ap (λ l. l ++ more) (sym (lines-more b.options 0 H e))))
 
 -- nothing more is taken of bytes without a line feed
-pub begins-unended : (b : Base) (H : List Entry) (bytes rest : List ℕ) → AreLegal b H → bytes ≡ lines_from b.options 0 H ++ rest → HasNoFeed rest
+pub begins-unended : (b : Base) (H : List Entry) (bytes rest : List ℕ) → AreLegal b 1 (tries H) → bytes ≡ lines_from b.options 0 H ++ rest → HasNoFeed rest
     → Begins b bytes H rest
 begins-unended b H bytes rest legal joins lacks = record {
   legal = legal;
@@ -42,7 +43,7 @@ begins-unended b H bytes rest legal joins lacks = record {
 }
 
 -- nothing more is taken where the next line isn't that of an entry that may come next
-pub begins-refused : (b : Base) (H : List Entry) (bytes rest line more : List ℕ) → AreLegal b H → bytes ≡ lines_from b.options 0 H ++ rest → HasLine rest line more
+pub begins-refused : (b : Base) (H : List Entry) (bytes rest line more : List ℕ) → AreLegal b 1 (tries H) → bytes ≡ lines_from b.options 0 H ++ rest → HasLine rest line more
     → ((e : Entry) → IsNextLine b H line e → ⊥) → Begins b bytes H rest
 begins-refused b H bytes rest line more legal joins has never = record {
   legal = legal;
@@ -66,8 +67,8 @@ pub joins-none : (o : Options) (H : List Entry) (bytes : List ℕ) → H ≡ [] 
 unfolding lines_from
 joins-none o H bytes none = ap (λ es. lines_from o 0 es ++ bytes) (sym none)
 
-pub legal-nothing : (b : Base) (H : List Entry) → H ≡ [] → AreLegal b H
-legal-nothing b H none = subst (AreLegal b) (sym none) (legal-none b)
+pub legal-nothing : (b : Base) (H : List Entry) → H ≡ [] → AreLegal b 1 (tries H)
+legal-nothing b H none = subst (λ es. AreLegal b 1 (tries es)) (sym none) (legal-none b 1)
 
 -- all lines were taken
 pub joins-whole : (o : Options) (H : List Entry) (bytes rest : List ℕ) → bytes ≡ lines_from o 0 H ++ rest → rest ≡ [] → bytes ≡ lines_from o 0 H

@@ -1,16 +1,20 @@
 -- What the two writes of a search leave.
-use Rattle.std.proofs.Common.{◌≡◌, ℕ, sym, ap, ◌∙◌, subst, arith, inl, inr, List, length, Option, Some, None}
-use Rattle.std.specs.Prelude.{◌≢◌}
+use Rattle.std.proofs.Common.{◌≡◌, ℕ, sym, ap, ◌∙◌, subst, arith, refl, inl, inr, List, length, Option, Some, None}
+use Rattle.std.specs.Prelude.{◌≢◌, ◌⊎◌}
 use Rattle.std.proofs.lemmas.List.{take_all}
 use Rattle.ih_shelf.specs.Outside.{Names, Told, PartOr, IsWritten, MayBeWritten}
-use Rattle.ih_journal.specs.Base.{Base}
 use Rattle.ih_journal.specs.Best.{HasNone}
-use Rattle.ih_journal.specs.Texts.{journal}
 use Rattle.ih_words.specs.Solve.{SolveCall}
 use Rattle.ih_top.specs.declared.output.Output.{Output}
 use Rattle.ih_top.specs.declared.output.BestOutput.{BestOutput}
-use Rattle.ih_top.specs.Outputs.{IsOutput, IsBestOutput, HasBestOutput}
-use Rattle.ih_top.specs.Solving.{Unchanged, HasBase, IsSearch, BeginsJournal, WritesJournal, BeginsSolution, WritesBoth, HasBegun, HasFoundNone, HasFound, IsDone, solution_at}
+use Rattle.ih_top.specs.declared.status.Role.TheVariants.{Instance, Solution, Journal, Out}
+use Rattle.ih_top.specs.declared.status.Status.{Status}
+use Rattle.ih_top.specs.declared.status.Status.TheVariants.{Done, Usage, ReadFault, InstanceRefused, StartRefused, NoneFound, WriteFault, OutOfMemory, JournalRefused, Infeasible, TooLong}
+use Rattle.ih_top.specs.Answers.{unsaid}
+use Rattle.ih_top.specs.Outputs.{IsOutputOf, IsBestOutput, HasBestOutput, OutputEnds, WritesOutput}
+use Rattle.ih_top.specs.Solving.{Unchanged, IsSearch, BeginsJournal, WritesJournal, BeginsSolution, WritesBoth, HasBegun, HasFoundNone, HasFound, IsDone, IsSomewhere, Kind, SearchEnds, solution_at, told_by}
+use Rattle.ih_top.specs.Texts.{memory_text}
+use Rattle.ih_top.proofs.Saying.{IsAnswerable}
 
 -- ---- what is told of two states
 
@@ -47,126 +51,183 @@ both-begun s text solution x y w = record { journal = w.journal; out = whole-tex
 pub journal-whole-begun : (s : SolveCall) (text : List ℕ) (x y : Names) → WritesJournal s text x y → BeginsJournal s text x y
 journal-whole-begun s text x y w = record { journal = whole-text text (x s.journal) (y s.journal) w.journal; out = w.out; others = w.others }
 
-pub done-found : (s : SolveCall) (old new : Option Names) (text : List ℕ) → IsDone s old new text → HasFound s old new
-done-found s old new text done = record {
-  base = done.base;
-  history = done.history;
-  place = done.place;
-  search = done.search;
-  best = done.best;
-  written = told-weaker (WritesBoth s (journal done.base.options done.history) (solution_at done.base done.history done.place))
-      (BeginsSolution s (journal done.base.options done.history) (solution_at done.base done.history done.place)) old new
-      (both-begun s (journal done.base.options done.history) (solution_at done.base done.history done.place)) done.written;
-}
+pub done-found : {X : Type 0} (kind : Kind X) (s : SolveCall) (old new : Option Names) (text : List ℕ) → IsDone kind s old new text
+    → HasFound kind s old new
+done-found kind s old new text done =
+    let journal = kind.journal done.base.options done.history in
+    let solution = solution_at done.base (told_by kind done.history) done.place in
+    record {
+      base = done.base;
+      history = done.history;
+      place = done.place;
+      search = done.search;
+      best = done.best;
+      written = told-weaker (WritesBoth s journal solution) (BeginsSolution s journal solution) old new
+          (both-begun s journal solution) done.written;
+    }
 
-pub none-begun : (s : SolveCall) (old new : Option Names) → HasFoundNone s old new → HasBegun s old new
-none-begun s old new found = record {
-  base = found.base;
-  history = found.history;
-  search = found.search;
-  written = told-weaker (WritesJournal s (journal found.base.options found.history)) (BeginsJournal s (journal found.base.options found.history)) old new
-      (journal-whole-begun s (journal found.base.options found.history)) found.written;
-}
+pub none-begun : {X : Type 0} (kind : Kind X) (s : SolveCall) (old new : Option Names) → HasFoundNone kind s old new → HasBegun kind s old new
+none-begun kind s old new found =
+    let journal = kind.journal found.base.options found.history in
+    record {
+      base = found.base;
+      history = found.history;
+      search = found.search;
+      written = told-weaker (WritesJournal s journal) (BeginsJournal s journal) old new (journal-whole-begun s journal) found.written;
+    }
 
 -- ---- the writes of a journal and a solution
 
-module _ (s : SolveCall) (text made : List ℕ) (is : made ≡ text) (differ : s.out ≢ s.journal) where
-  pub begins-journal : (x y : Names) → MayBeWritten s.journal made x y → BeginsJournal s text x y
-  begins-journal x y w = record {
-    journal = subst (λ t. PartOr t (x s.journal) (y s.journal)) is w.part;
-    out = w.others s.out differ;
-    others = λ n apart away. w.others n away;
-  }
+module _ (s : SolveCall) (journal : List ℕ) (differ : s.out ≢ s.journal) where
+  pub begins-journal : (x y : Names) → MayBeWritten s.journal journal x y → BeginsJournal s journal x y
+  begins-journal x y w = record { journal = w.part; out = w.others s.out differ; others = λ n apart away. w.others n away }
 
-  pub writes-journal : (x y : Names) → IsWritten s.journal made x y → WritesJournal s text x y
-  writes-journal x y w = record {
-    journal = w.whole ∙ ap (λ t. Some t) is;
-    out = w.others s.out differ;
-    others = λ n apart away. w.others n away;
-  }
+  pub writes-journal : (x y : Names) → IsWritten s.journal journal x y → WritesJournal s journal x y
+  writes-journal x y w = record { journal = w.whole; out = w.others s.out differ; others = λ n apart away. w.others n away }
 
-  module _ (solution bytes : List ℕ) (same : bytes ≡ solution) where
-    pub begins-solution : (x y z : Names) → IsWritten s.journal made x y → MayBeWritten s.out bytes y z → BeginsSolution s text solution x z
+  module _ (solution : List ℕ) where
+    pub begins-solution : (x y z : Names) → IsWritten s.journal journal x y → MayBeWritten s.out solution y z
+        → BeginsSolution s journal solution x z
     begins-solution x y z first second = record {
-      journal = second.others s.journal (λ e. differ (sym e)) ∙ first.whole ∙ ap (λ t. Some t) is;
-      out = subst (λ t. PartOr t (x s.out) (z s.out)) same (subst (λ held. PartOr bytes held (z s.out)) (first.others s.out differ) second.part);
+      journal = second.others s.journal (λ e. differ (sym e)) ∙ first.whole;
+      out = subst (λ held. PartOr solution held (z s.out)) (first.others s.out differ) second.part;
       others = λ n apart away. second.others n apart ∙ first.others n away;
     }
 
-    pub writes-both : (x y z : Names) → IsWritten s.journal made x y → IsWritten s.out bytes y z → WritesBoth s text solution x z
+    pub writes-both : (x y z : Names) → IsWritten s.journal journal x y → IsWritten s.out solution y z → WritesBoth s journal solution x z
     writes-both x y z first second = record {
-      journal = second.others s.journal (λ e. differ (sym e)) ∙ first.whole ∙ ap (λ t. Some t) is;
-      out = second.whole ∙ ap (λ t. Some t) same;
+      journal = second.others s.journal (λ e. differ (sym e)) ∙ first.whole;
+      out = second.whole;
       others = λ n apart away. second.others n apart ∙ first.others n away;
     }
 
--- ---- the writes of a search
+-- ---- how a call ends that writes what was made
 
-module _ (s : SolveCall) (b : Base) (o : Output) (differ : s.out ≢ s.journal) (output : IsOutput b o) where
-  abbrev text : List ℕ
-  text = journal b.options output.history
+module _ (s : SolveCall) (o : Output) (old new : Option Names) where
+  output-unsaid : (status : Status) (text : List ℕ) → OutputEnds s o old new status text → OutputEnds s o old new (unsaid status) text
+  output-unsaid Done text h = h
+  output-unsaid Usage text h = h
+  output-unsaid (ReadFault role) text h = h
+  output-unsaid (InstanceRefused e) text h = h
+  output-unsaid (StartRefused e) text h = h
+  output-unsaid NoneFound text h = h
+  output-unsaid (WriteFault role) text h = h
+  output-unsaid OutOfMemory text h = h
+  output-unsaid (JournalRefused e) text h = h
+  output-unsaid Infeasible text h = absurd h
+  output-unsaid (TooLong role) text h = h
 
-  begins : (x y : Names) → MayBeWritten s.journal o.journal.items x y → BeginsJournal s text x y
-  begins = begins-journal s text o.journal.items output.journal differ
+  both-out : WritesOutput WritesBoth s o old new → WritesOutput BeginsSolution s o old new
+  both-out w = record {
+    best = w.best;
+    is = w.is;
+    written = told-weaker (WritesBoth s o.journal.items w.best.solution.items) (BeginsSolution s o.journal.items w.best.solution.items)
+        old new (both-begun s o.journal.items w.best.solution.items) w.written;
+  }
 
-  writes : (x y : Names) → IsWritten s.journal o.journal.items x y → WritesJournal s text x y
-  writes = writes-journal s text o.journal.items output.journal differ
+  output-memory : (status : Status) (text : List ℕ) → OutputEnds s o old new status text → OutputEnds s o old new OutOfMemory memory_text
+  output-memory Done text h = (inr (both-out h.0), refl)
+  output-memory Usage text h = absurd h
+  output-memory (ReadFault role) text h = absurd h
+  output-memory (InstanceRefused e) text h = absurd h
+  output-memory (StartRefused e) text h = absurd h
+  output-memory NoneFound text h = (
+    inl (told-weaker (WritesJournal s o.journal.items) (BeginsJournal s o.journal.items) old new (journal-whole-begun s o.journal.items) h.1),
+    refl,
+  )
+  output-memory (WriteFault None) text h = (inr (both-out h.0), refl)
+  output-memory (WriteFault (Some Instance)) text h = absurd h
+  output-memory (WriteFault (Some Solution)) text h = absurd h
+  output-memory (WriteFault (Some Journal)) text h = (inl h.0, refl)
+  output-memory (WriteFault (Some Out)) text h = (inr h.0, refl)
+  output-memory OutOfMemory text h = (h.0, refl)
+  output-memory (JournalRefused e) text h = absurd h
+  output-memory Infeasible text h = absurd h
+  output-memory (TooLong role) text h = absurd h
 
-  module _ (best : BestOutput) (is : IsBestOutput b output.history best) where
-    begins-out : (x y z : Names) → IsWritten s.journal o.journal.items x y → MayBeWritten s.out best.solution.items y z
-        → BeginsSolution s text (solution_at b output.history is.place) x z
-    begins-out = begins-solution s text o.journal.items output.journal differ (solution_at b output.history is.place) best.solution.items is.solution
+  pub output-answerable : IsAnswerable (OutputEnds s o old new)
+  output-answerable = record { unsaid = λ status text some h. output-unsaid status text h; memory = output-memory }
 
-    writes-out : (x y z : Names) → IsWritten s.journal o.journal.items x y → IsWritten s.out best.solution.items y z
-        → WritesBoth s text (solution_at b output.history is.place) x z
-    writes-out = writes-both s text o.journal.items output.journal differ (solution_at b output.history is.place) best.solution.items is.solution
+-- ---- where a search made it
 
-  module _ (old : Option Names) (base : HasBase old s b) where
-    searched : IsSearch old s b output.history
-    searched = record { base = base; given = output.given; seed = output.seed; full = output.full; agrees = output.agrees; exact = output.exact }
+module _ {X : Type 0} (kind : Kind X) (s : SolveCall) (o : Output) (old new : Option Names) (is : IsOutputOf kind old s o) where
+  abbrev journal : List ℕ
+  journal = kind.journal is.base.options is.output.history
 
-    pub journal-begun : (new : Option Names) → Told (MayBeWritten s.journal o.journal.items) old new → HasBegun s old new
-    journal-begun new written = record {
-      base = b;
-      history = output.history;
-      search = searched;
-      written = told-weaker (MayBeWritten s.journal o.journal.items) (BeginsJournal s text) old new begins written;
-    }
+  searched : IsSearch kind old s is.base is.output.history
+  searched = record {
+    base = is.given;
+    given = is.output.given;
+    seed = is.output.seed;
+    full = is.output.full;
+    agrees = is.output.agrees;
+    exact = is.output.exact;
+  }
 
-    pub found-none : (new : Option Names) → o.best ≡ None → Told (IsWritten s.journal o.journal.items) old new → HasFoundNone s old new
-    found-none new none written = record {
-      base = b;
-      history = output.history;
-      search = searched;
-      none = let no-best : HasNone b output.history = subst (HasBestOutput b output.history) none output.best in no-best;
-      written = told-weaker (IsWritten s.journal o.journal.items) (WritesJournal s text) old new writes written;
-    }
+  journal-begun : Told (BeginsJournal s o.journal.items) old new → HasBegun kind s old new
+  journal-begun written = record {
+    base = is.base;
+    history = is.output.history;
+    search = searched;
+    written = subst (λ j. Told (BeginsJournal s j) old new) is.output.journal written;
+  }
 
-    module _ (best : BestOutput) (some : o.best ≡ Some best) where
-      is : IsBestOutput b output.history best
-      is = subst (HasBestOutput b output.history) some output.best
+  found-none : o.best ≡ None → Told (WritesJournal s o.journal.items) old new → HasFoundNone kind s old new
+  found-none none written = record {
+    base = is.base;
+    history = is.output.history;
+    search = searched;
+    none = let no-best : HasNone is.base (told_by kind is.output.history) = subst (HasBestOutput is.base (told_by kind is.output.history)) none is.output.best in no-best;
+    written = subst (λ j. Told (WritesJournal s j) old new) is.output.journal written;
+  }
 
-      pub out-begun : (mid new : Option Names) → Told (IsWritten s.journal o.journal.items) old mid
-          → Told (MayBeWritten s.out best.solution.items) mid new → HasFound s old new
-      out-begun mid new first second = record {
-        base = b;
-        history = output.history;
-        place = is.place;
+  of-best : (best : BestOutput) → o.best ≡ Some best → IsBestOutput is.base (told_by kind is.output.history) best
+  of-best best some = subst (HasBestOutput is.base (told_by kind is.output.history)) some is.output.best
+
+  out-begun : WritesOutput BeginsSolution s o old new → HasFound kind s old new
+  out-begun w =
+      let best = of-best w.best w.is in
+      record {
+        base = is.base;
+        history = is.output.history;
+        place = best.place;
         search = searched;
-        best = is.best;
-        written = told-then (IsWritten s.journal o.journal.items) (MayBeWritten s.out best.solution.items)
-            (BeginsSolution s text (solution_at b output.history is.place)) old mid new (begins-out best is) first second;
+        best = best.best;
+        written = subst (λ x. Told (BeginsSolution s journal x) old new) best.solution
+            (subst (λ j. Told (BeginsSolution s j w.best.solution.items) old new) is.output.journal w.written);
       }
 
-      pub all-done : (mid new : Option Names) → Told (IsWritten s.journal o.journal.items) old mid
-          → Told (IsWritten s.out best.solution.items) mid new → IsDone s old new best.text.items
-      all-done mid new first second = record {
-        base = b;
-        history = output.history;
-        place = is.place;
+  all-done : (w : WritesOutput WritesBoth s o old new) (text : List ℕ) → text ≡ w.best.text.items → IsDone kind s old new text
+  all-done w text said =
+      let best = of-best w.best w.is in
+      record {
+        base = is.base;
+        history = is.output.history;
+        place = best.place;
         search = searched;
-        best = is.best;
-        written = told-then (IsWritten s.journal o.journal.items) (IsWritten s.out best.solution.items)
-            (WritesBoth s text (solution_at b output.history is.place)) old mid new (writes-out best is) first second;
-        said = is.text;
+        best = best.best;
+        written = subst (λ x. Told (WritesBoth s journal x) old new) best.solution
+            (subst (λ j. Told (WritesBoth s j w.best.solution.items) old new) is.output.journal w.written);
+        said = said ∙ best.text;
       }
+
+  pub search-ends : (status : Status) (text : List ℕ) → OutputEnds s o old new status text → SearchEnds kind s old new status text
+  search-ends Done text h = all-done h.0 text h.1
+  search-ends Usage text h = absurd h
+  search-ends (ReadFault role) text h = absurd h
+  search-ends (InstanceRefused e) text h = absurd h
+  search-ends (StartRefused e) text h = absurd h
+  search-ends NoneFound text h = (found-none h.0 h.1, h.2)
+  search-ends (WriteFault None) text h = all-done h.0 text h.1
+  search-ends (WriteFault (Some Instance)) text h = absurd h
+  search-ends (WriteFault (Some Solution)) text h = absurd h
+  search-ends (WriteFault (Some Journal)) text h = (journal-begun h.0, h.1)
+  search-ends (WriteFault (Some Out)) text h = (out-begun h.0, h.1)
+  search-ends OutOfMemory text h = (by_case h.0, h.1)
+    where
+      by_case : Told (BeginsJournal s o.journal.items) old new ⊎ WritesOutput BeginsSolution s o old new → IsSomewhere kind s old new
+      by_case (inl begun) = inr (inl (journal-begun begun))
+      by_case (inr found) = inr (inr (out-begun found))
+  search-ends (JournalRefused e) text h = absurd h
+  search-ends Infeasible text h = absurd h
+  search-ends (TooLong role) text h = absurd h

@@ -6,6 +6,7 @@ use Rattle.ih_journal.specs.declared.entries.Entry.{Entry}
 use Rattle.ih_journal.specs.declared.settings.Options.{Options}
 use Rattle.ih_journal.specs.Attempts.{is_stale}
 use Rattle.ih_journal.specs.Base.{Base}
+use Rattle.ih_journal.specs.Tried.{tries}
 use Rattle.ih_journal.specs.Best.{HasNone, IsBest}
 use Rattle.ih_journal.specs.Legal.{IsFull}
 use Rattle.ih_cellbook.specs.Legal.{AreExact}
@@ -30,15 +31,15 @@ pub record IsDemoBase (number : ℕ) (b : Base) : Type 0 where
 -- `of 2000` and `stale 0`.
 pub record IsDemo (number : ℕ) (b : Base) (H : List Entry) : Type 0 where
   pub base : IsDemoBase number b
-  pub full : IsFull b H
-  pub exact : AreExact b H
+  pub full : IsFull b 1 (tries H)
+  pub exact : AreExact b (tries H)
   pub many : length H ≡ 2000
   pub fresh : verdicts_of is_stale H ≡ 0
 
 -- this is what is said of the history's first cheapest feasible timetable, where it has one
 abbrev pub HasSaid : ℕ → Base → List Entry → Option (List ℕ) → Type 0
-HasSaid number b H None = HasNone b H
-HasSaid number b H (Some text) = (k : ℕ) × IsBest b H k × (text ≡ demo_text number b H k)
+HasSaid number b H None = HasNone b (tries H)
+HasSaid number b H (Some text) = (k : ℕ) × IsBest b (tries H) k × (text ≡ demo_text number b H k)
 
 -- the search was made, and this is what is said of it
 pub record IsShown (number : ℕ) (said : Option (List ℕ)) : Type 0 where

@@ -4,9 +4,10 @@ use Rattle.ih_tables.specs.declared.drafts.Draft.{Draft}
 use Rattle.ih_plan.specs.Timetable.{Timetable}
 use Rattle.ih_journal.specs.declared.entries.Entry.{Entry}
 use Rattle.ih_journal.specs.Base.{Base}
+use Rattle.ih_journal.specs.Tried.{tries}
 use Rattle.ih_journal.specs.Legal.{IsFull}
 use Rattle.ih_journal.specs.Texts.{lines_from}
-use Rattle.ih_words.specs.Words.{Call, solve, replay, salvage, check, rounds, gen, demo, advise}
+use Rattle.ih_words.specs.Words.{Call, solve, replay, salvage, check, chain, rounds, gen, demo, advise}
 use Rattle.ih_shelf.specs.Outside.{Names, Rose, Told}
 use Rattle.ih_top.specs.declared.status.Status.{Status}
 use Rattle.ih_top.specs.declared.status.Status.TheVariants.{Done, Usage, ReadFault, NoneFound, WriteFault, OutOfMemory, Infeasible}
@@ -15,6 +16,7 @@ use Rattle.ih_top.specs.Answers.{unsaid}
 use Rattle.ih_top.specs.Inputs.{solve_reading, check_reading, HasInputs}
 use Rattle.ih_top.specs.Solving.{Unchanged, SolveEnds}
 use Rattle.ih_top.specs.Replaying.{HasRead, IsHeadedBy, JournalRead, ReplayEnds, SalvageEnds}
+use Rattle.ih_top.specs.Chaining.{ChainEnds}
 use Rattle.ih_top.specs.Checking.{CheckEnds}
 use Rattle.ih_top.specs.Rounds.{RoundsEnds}
 use Rattle.ih_top.specs.Generating.{GenEnds}
@@ -44,6 +46,7 @@ CallEnds (solve s) old new status text = SolveEnds s old new status text
 CallEnds (replay r) old new status text = ReplayEnds r old new status text
 CallEnds (salvage r) old new status text = SalvageEnds r old new status text
 CallEnds (check c) old new status text = Told Unchanged old new × CheckEnds c old status text
+CallEnds (chain c) old new status text = ChainEnds c old new status text
 CallEnds (rounds r) old new status text = RoundsEnds r old new status text
 CallEnds (advise a) old new status text = Told Unchanged old new × AdviseEnds a old status text
 CallEnds (gen g) old new status text = GenEnds g old new status text
@@ -52,6 +55,7 @@ CallEnds (demo number) old new status text = Told Unchanged old new × DemoEnds 
 -- the file of the solution isn't that of the journal
 abbrev pub OutDiffers : Call → Type 0
 OutDiffers (solve s) = s.out ≢ s.journal
+OutDiffers (chain c) = c.search.out ≢ c.search.journal
 OutDiffers (rounds r) = r.search.out ≢ r.search.journal
 OutDiffers call = Unit {0}
 
@@ -87,6 +91,7 @@ IsAnswered (solve s) status = (status ≡ Done) ⊎ (status ≡ NoneFound) ⊎ (
 IsAnswered (replay r) status = (status ≡ Done) ⊎ (status ≡ NoneFound) ⊎ (status ≡ OutOfMemory)
 IsAnswered (salvage r) status = (status ≡ Done) ⊎ (status ≡ NoneFound) ⊎ (status ≡ OutOfMemory)
 IsAnswered (check c) status = (status ≡ Done) ⊎ (status ≡ Infeasible) ⊎ (status ≡ OutOfMemory)
+IsAnswered (chain c) status = (status ≡ Done) ⊎ (status ≡ NoneFound) ⊎ (status ≡ OutOfMemory)
 IsAnswered (rounds r) status = (status ≡ Done) ⊎ (status ≡ NoneFound) ⊎ (status ≡ OutOfMemory)
 IsAnswered (advise a) status = (status ≡ Done) ⊎ (status ≡ OutOfMemory)
 IsAnswered (gen g) status = (status ≡ Done) ⊎ (status ≡ OutOfMemory)
@@ -97,9 +102,10 @@ IsAnswered (demo number) status = (status ≡ Done) ⊎ (status ≡ NoneFound) �
 abbrev pub HasFiles : Call → Names → Type 0
 HasFiles (solve s) files = (I : Draft) × (P : Timetable) × HasInputs (Some files) (solve_reading s) I P
 HasFiles (replay r) files = (x : JournalRead) × (b : Base) × (H : List Entry) × HasRead (Some files) r x
-    × IsHeadedBy r.start x b (lines_from b.options 0 H) × IsFull b H
+    × IsHeadedBy r.start x b (lines_from b.options 0 H) × IsFull b 1 (tries H)
 HasFiles (salvage r) files = (x : JournalRead) × (b : Base) × (bytes : List ℕ) × HasRead (Some files) r x × IsHeadedBy r.start x b bytes
 HasFiles (check c) files = (I : Draft) × (P : Timetable) × HasInputs (Some files) (check_reading c) I P
+HasFiles (chain c) files = (I : Draft) × (P : Timetable) × HasInputs (Some files) (solve_reading c.search) I P
 HasFiles (rounds r) files = (I : Draft) × (P : Timetable) × HasInputs (Some files) (solve_reading r.search) I P
 HasFiles (advise a) files = (I : Draft) × (P : Timetable) × HasInputs (Some files) (advise_reading a) I P
 HasFiles (gen g) files = Unit {0}

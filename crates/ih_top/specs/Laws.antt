@@ -1,27 +1,34 @@
 -- Laws of journals and of calls of the program.
-use Rattle.std.specs.Prelude.{◌≡◌, ◌≢◌, ◌≤◌, ◌==◌, ◌⊎◌, ℕ, List, ◌++◌, length, Option, Some, None}
+use Rattle.std.specs.Prelude.{◌≡◌, ◌≢◌, ◌≤◌, ◌*◌, ◌==◌, ◌⊎◌, ℕ, List, ◌++◌, length, Option, Some, None}
 use Rattle.std.specs.List.{count_by}
 use Rattle.ih_tables.specs.Valid.{IsValid}
 use Rattle.ih_journal.specs.declared.entries.Entry.{Entry}
 use Rattle.ih_journal.specs.declared.refusals.JournalRefusal.{JournalRefusal}
+use Rattle.ih_journal.specs.declared.settings.Options.{Options}
 use Rattle.ih_journal.specs.Base.{Base}
+use Rattle.ih_journal.specs.Tried.{tries}
 use Rattle.ih_journal.specs.Legal.{AreLegal}
+use Rattle.ih_journal.specs.Settings.{most_entries}
 use Rattle.ih_journal.specs.Texts.{journal, lines_from}
 use Rattle.ih_cellbook.specs.Keeping.{IsBase}
+use Rattle.ih_chain.specs.declared.entries.ChainEntry.{ChainEntry}
+use Rattle.ih_chain.specs.Texts.{chain_journal}
 use Rattle.ih_rounds.specs.Rounds.{Round}
+use Rattle.ih_words.specs.Chain.{ChainCall}
 use Rattle.ih_words.specs.Replay.{ReplayCall}
 use Rattle.ih_words.specs.Rounds.{RoundsCall}
 use Rattle.ih_words.specs.Solve.{SolveCall}
 use Rattle.ih_shelf.specs.Outside.{Names, bytes_at}
 use Rattle.ih_top.specs.declared.files.TheConstants.{MAX_JOURNAL}
 use Rattle.ih_top.specs.declared.status.Status.{Status}
-use Rattle.ih_top.specs.declared.status.Status.TheVariants.{Done, NoneFound, OutOfMemory, ReadFault, WriteFault}
+use Rattle.ih_top.specs.declared.status.Status.TheVariants.{Done, JournalRefused, NoneFound, OutOfMemory, ReadFault, WriteFault}
+use Rattle.ih_top.specs.Chaining.{of_chains}
 use Rattle.ih_top.specs.Demo.{IsShown}
 use Rattle.ih_top.specs.Journals.{Begins, IsRefusedAt}
-use Rattle.ih_top.specs.Replaying.{AreNotFull, ReplayEnds, SalvageEnds}
+use Rattle.ih_top.specs.Replaying.{AreNotFull, HasNoHeading, ReplayEnds, SalvageEnds, no_heading}
 use Rattle.ih_top.specs.Rounds.{AreSearches, RoundsEnds}
-use Rattle.ih_top.specs.Solving.{HasFoundNone, IsDone, IsSearch, SolveEnds}
-use Rattle.ih_top.specs.Texts.{none_found_text, salvaged_line}
+use Rattle.ih_top.specs.Solving.{HasFoundNone, IsDone, IsSearch, Kind, SearchEnds, of_moves}
+use Rattle.ih_top.specs.Texts.{journal_refused_text, none_found_text, salvaged_line}
 
 -- lines that are refused are those of no full history
 abbrev pub RefusedLinesAreNotFull : Type 0
@@ -29,7 +36,7 @@ RefusedLinesAreNotFull = (b : Base) (bytes : List ℕ) (H : List Entry) (e : Jou
 
 -- of the lines of a legal history that are cut off anywhere, each whole one is salvaged: there are as many as line feeds
 abbrev pub WholeLinesAreSalvaged : Type 0
-WholeLinesAreSalvaged = (b : Base) (G : List Entry) (bytes more : List ℕ) (H : List Entry) (rest : List ℕ) → IsValid b.instance → IsBase b → AreLegal b G
+WholeLinesAreSalvaged = (b : Base) (G : List Entry) (bytes more : List ℕ) (H : List Entry) (rest : List ℕ) → IsValid b.instance → IsBase b → AreLegal b 1 (tries G)
     → bytes ++ more ≡ lines_from b.options 0 G → Begins b bytes H rest → length H ≡ count_by (λ c. c == 10) bytes
 
 -- no fault brought the status
@@ -40,20 +47,20 @@ HasNoFault status = Unit {0}
 
 -- ---- searches of one worker
 
--- with one worker, files and words give one search and one history
-abbrev pub LoneSearchesAreAlike : Type 0
-LoneSearchesAreAlike = (files : Names) (s : SolveCall) (b c : Base) (H G : List Entry) → s.options.workers ≡ 1 → IsSearch (Some files) s b H
-    → IsSearch (Some files) s c G → (b ≡ c) × (H ≡ G)
+-- with one worker, files and words give one search and one history, by single moves or by chains
+abbrev pub LoneSearchesAreAlike : {X : Type 0} → Kind X → Type 0
+LoneSearchesAreAlike {X} kind = (files : Names) (s : SolveCall) (b c : Base) (H G : List X) → s.options.workers ≡ 1
+    → IsSearch kind (Some files) s b H → IsSearch kind (Some files) s c G → (b ≡ c) × (H ≡ G)
 
--- two calls of solve that are done leave the same journal and the same solution, and say the same
+-- two calls that are done leave the same journal and the same solution, and say the same
 pub record DoTheSame (s : SolveCall) (new other : Names) (text told : List ℕ) : Type 0 where
   pub journal : new s.journal ≡ other s.journal
   pub solution : new s.out ≡ other s.out
   pub said : text ≡ told
 
-abbrev pub LoneSolvesDoTheSame : Type 0
-LoneSolvesDoTheSame = (s : SolveCall) (old new other : Names) (text told : List ℕ) → s.options.workers ≡ 1 → IsDone s (Some old) (Some new) text
-    → IsDone s (Some old) (Some other) told → DoTheSame s new other text told
+abbrev pub LoneSearchesDoTheSame : {X : Type 0} → Kind X → Type 0
+LoneSearchesDoTheSame kind = (s : SolveCall) (old new other : Names) (text told : List ℕ) → s.options.workers ≡ 1
+    → IsDone kind s (Some old) (Some new) text → IsDone kind s (Some old) (Some other) told → DoTheSame s new other text told
 
 -- two calls ended in the same status, said the same and left the same files
 pub record EndTheSame (first second : Status) (text told : List ℕ) (new other : Names) : Type 0 where
@@ -61,12 +68,11 @@ pub record EndTheSame (first second : Status) (text told : List ℕ) (new other 
   pub said : text ≡ told
   pub files : (n : List ℕ) → new n ≡ other n
 
--- However two calls of solve over the same files end, also where a file is refused: with no fault, and memory enough, they end the
--- same.
-abbrev pub LoneSolvesEndAlike : Type 0
-LoneSolvesEndAlike = (s : SolveCall) (old new other : Names) (status ended : Status) (text told : List ℕ) → s.options.workers ≡ 1
+-- However two calls over the same files end, also where a file is refused: with no fault, and memory enough, they end the same.
+abbrev pub LoneSearchesEndAlike : {X : Type 0} → Kind X → Type 0
+LoneSearchesEndAlike kind = (s : SolveCall) (old new other : Names) (status ended : Status) (text told : List ℕ) → s.options.workers ≡ 1
     → HasNoFault status → HasNoFault ended → status ≢ OutOfMemory → ended ≢ OutOfMemory
-    → SolveEnds s (Some old) (Some new) status text → SolveEnds s (Some old) (Some other) ended told
+    → SearchEnds kind s (Some old) (Some new) status text → SearchEnds kind s (Some old) (Some other) ended told
     → EndTheSame status ended text told new other
 
 -- and one run of rounds, each with one history
@@ -89,7 +95,7 @@ DemosShowTheSame = (number : ℕ) (said told : Option (List ℕ)) → IsShown nu
 
 -- the journal of a search is no longer than replay and salvage may read
 abbrev pub JournalsFit : Type 0
-JournalsFit = (files : Names) (s : SolveCall) (b : Base) (H : List Entry) → IsSearch (Some files) s b H → length (journal b.options H) ≤ MAX_JOURNAL
+JournalsFit = (files : Names) (s : SolveCall) (b : Base) (H : List Entry) → IsSearch of_moves (Some files) s b H → length (journal b.options H) ≤ MAX_JOURNAL
 
 -- neither names a file, or each names one, under whatever names, and these have the same bytes
 abbrev pub HaveSameBytes : Names → Names → Option (List ℕ) → Option (List ℕ) → Type 0
@@ -124,10 +130,39 @@ pub record IsTakenBackAsNone (r : ReplayCall) (there left : Names) (ended : Stat
 
 abbrev pub SolvesAreTakenBack : Type 0
 SolvesAreTakenBack = (s : SolveCall) (r : ReplayCall) (before after there left : Names) (text : List ℕ) (ended : Status) (said : List ℕ)
-    → IsReplayOf s r before after there → HasNoFault ended → (done : IsDone s (Some before) (Some after) text)
+    → IsReplayOf s r before after there → HasNoFault ended → (done : IsDone of_moves s (Some before) (Some after) text)
     → IsTakenBack s r before after there left text (length done.history) ended said
 
 abbrev pub SolvesWithNoneAreTakenBack : Type 0
 SolvesWithNoneAreTakenBack = (s : SolveCall) (r : ReplayCall) (before after there left : Names) (ended : Status) (said : List ℕ)
-    → IsReplayOf s r before after there → HasNoFault ended → HasFoundNone s (Some before) (Some after)
+    → IsReplayOf s r before after there → HasNoFault ended → HasFoundNone of_moves s (Some before) (Some after)
     → IsTakenBackAsNone r there left ended said
+
+-- ---- journals of chains
+
+-- the journal of a search by chains has no heading of a journal of single moves
+abbrev pub ChainJournalsAreHeadless : Type 0
+ChainJournalsAreHeadless = (o : Options) (each : ℕ) (H : List ChainEntry) → HasNoHeading (chain_journal o each H)
+
+-- the lengths that the words of chain let through
+pub record IsWithinLimits (c : ChainCall) : Type 0 where
+  pub short : c.length ≤ 8
+  pub few : most_entries c.search.options * c.length ≤ 1000000
+
+-- the journal of a search by chains is no longer than a journal's file may be
+abbrev pub ChainJournalsFit : Type 0
+ChainJournalsFit = (files : Names) (c : ChainCall) (b : Base) (H : List ChainEntry) → IsWithinLimits c
+    → IsSearch (of_chains c.length) (Some files) c.search b H → length (chain_journal b.options c.length H) ≤ MAX_JOURNAL
+
+-- After a search by chains wrote its journal, replay and salvage refuse that at its heading, or memory runs out.
+pub record IsRefusedBack (r : ReplayCall) (there left : Names) (ended : Status) (said : List ℕ) : Type 0 where
+  pub replayed : ReplayEnds r (Some there) (Some left) ended said
+      → EndsIn (JournalRefused no_heading) (journal_refused_text no_heading) (Unit {0}) ended said
+  pub salvaged : SalvageEnds r (Some there) (Some left) ended said
+      → EndsIn (JournalRefused no_heading) (journal_refused_text no_heading) (Unit {0}) ended said
+
+abbrev pub ChainsAreRefused : Type 0
+ChainsAreRefused = (c : ChainCall) (r : ReplayCall) (before after there left : Names) (b : Base) (H : List ChainEntry) (ended : Status) (said : List ℕ)
+    → IsWithinLimits c → IsSearch (of_chains c.length) (Some before) c.search b H
+    → after c.search.journal ≡ Some (chain_journal b.options c.length H) → IsReplayOf c.search r before after there → HasNoFault ended
+    → IsRefusedBack r there left ended said

@@ -1,5 +1,6 @@
 pub mod Advising
 pub mod Answers
+pub mod Chaining
 pub mod Checking
 pub mod Codes
 pub mod Demo
@@ -13,7 +14,6 @@ pub mod Outputs
 pub mod Replaying
 pub mod RoundTexts
 pub mod Rounds
-pub mod Searching
 pub mod Solving
 pub mod Starts
 pub mod Texts

@@ -3,6 +3,7 @@ use Rattle.std.specs.Prelude.{◌≡◌, ℕ, ◌⊎◌, List, Option, Some, Non
 use Rattle.ih_journal.specs.declared.entries.Entry.{Entry}
 use Rattle.ih_journal.specs.declared.refusals.JournalRefusal.{JournalRefusal}
 use Rattle.ih_journal.specs.Base.{Base}
+use Rattle.ih_journal.specs.Tried.{Tried, tries}
 use Rattle.ih_journal.specs.Frozen.{AgreesBefore}
 use Rattle.ih_journal.specs.History.{plan_at}
 use Rattle.ih_journal.specs.Legal.{IsFull}
@@ -30,11 +31,11 @@ use Rattle.ih_top.specs.Texts.{done_text, journal_refused_text, memory_text, non
 pub record AreFullLines (b : Base) (bytes : List ℕ) (best : Option BestOutput) : Type 0 where
   pub history : List Entry
   pub given : IsBase b
-  pub full : IsFull b history
-  pub agrees : (k : ℕ) → AgreesBefore b (plan_at b history k)
-  pub exact : AreExact b history
+  pub full : IsFull b 1 (tries history)
+  pub agrees : (k : ℕ) → AgreesBefore b (plan_at b (tries history) k)
+  pub exact : AreExact b (tries history)
   pub whole : bytes ≡ lines_from b.options 0 history
-  pub output : HasBestOutput b history best
+  pub output : HasBestOutput b (tries history) best
 
 -- the bytes begin with the lines of this longest legal history
 pub record AreLines (b : Base) (bytes : List ℕ) (best : Option BestOutput) : Type 0 where
@@ -42,9 +43,9 @@ pub record AreLines (b : Base) (bytes : List ℕ) (best : Option BestOutput) : T
   pub rest : List ℕ
   pub given : IsBase b
   pub begins : Begins b bytes history rest
-  pub agrees : (k : ℕ) → AgreesBefore b (plan_at b history k)
-  pub exact : AreExact b history
-  pub output : HasBestSaid salvaged_text b history best
+  pub agrees : (k : ℕ) → AgreesBefore b (plan_at b (tries history) k)
+  pub exact : AreExact b (tries history)
+  pub output : HasBestSaid salvaged_text b (tries history) best
 
 -- the bytes are refused at the line behind those of this history
 pub record AreRefusedLines (b : Base) (bytes : List ℕ) (e : JournalRefusal) : Type 0 where
@@ -63,13 +64,13 @@ abbrev pub read_from : Inputs → List ℕ → JournalRead
 read_from i bytes = record { instance = i.inst.draft; plan = i.plan; bytes = bytes }
 
 -- a history was taken, and its best was made ready where there is one
-pub record IsTaken (taken : Base → List Entry → Type 0) (said : Base → List Entry → ℕ → List ℕ) (best : Option BestOutput) : Type 0 where
+pub record IsTaken (taken : Base → List Entry → Type 0) (said : Base → List Tried → ℕ → List ℕ) (best : Option BestOutput) : Type 0 where
   pub base : Base
   pub history : List Entry
   pub taken_is : taken base history
-  pub output : HasBestSaid said base history best
+  pub output : HasBestSaid said base (tries history) best
 
-abbrev pub IsOutcome : (Base → List Entry → Type 0) → (JournalRefusal → Type 0) → (Base → List Entry → ℕ → List ℕ) → Outcome → Type 0
+abbrev pub IsOutcome : (Base → List Entry → Type 0) → (JournalRefusal → Type 0) → (Base → List Tried → ℕ → List ℕ) → Outcome → Type 0
 IsOutcome taken refused said (Refused e) = refused e
 IsOutcome taken refused said (Taken best) = IsTaken taken said best
 

@@ -1,57 +1,59 @@
 -- What a search makes to be written and said.
-use Rattle.std.specs.Prelude.{◌≡◌, ℕ, ◌<◌, ◌^◌, List, Option, Some, None}
-use Rattle.ih_journal.specs.declared.entries.Entry.{Entry}
+use Rattle.std.specs.Prelude.{◌≡◌, ℕ, ◌<◌, ◌^◌, ◌⊎◌, List, Option, Some, None}
 use Rattle.ih_journal.specs.Base.{Base}
+use Rattle.ih_journal.specs.Tried.{Tried}
 use Rattle.ih_journal.specs.Frozen.{AgreesBefore}
 use Rattle.ih_journal.specs.History.{plan_at}
 use Rattle.ih_journal.specs.Legal.{IsFull}
 use Rattle.ih_journal.specs.Best.{IsBest, HasNone}
-use Rattle.ih_journal.specs.Texts.{journal}
-use Rattle.ih_cellbook.specs.Keeping.{IsBase}
+use Rattle.ih_cellbook.specs.Keeping.{IsBase, base_with}
 use Rattle.ih_cellbook.specs.Legal.{AreExact}
 use Rattle.ih_words.specs.Solve.{SolveCall}
-use Rattle.ih_shelf.specs.Outside.{Names}
+use Rattle.ih_shelf.specs.Outside.{Names, Told}
 use Rattle.ih_top.specs.declared.inputs.Inputs.{Inputs}
 use Rattle.ih_top.specs.declared.output.Output.{Output}
 use Rattle.ih_top.specs.declared.output.BestOutput.{BestOutput}
 use Rattle.ih_top.specs.Starts.{started}
-use Rattle.ih_top.specs.Texts.{done_text}
-use Rattle.ih_top.specs.Solving.{HasBase, solution_at}
+use Rattle.ih_top.specs.declared.status.Role.TheVariants.{Journal, Out}
+use Rattle.ih_top.specs.declared.status.Status.{Status}
+use Rattle.ih_top.specs.declared.status.Status.TheVariants.{Done, NoneFound, OutOfMemory, WriteFault}
+use Rattle.ih_top.specs.Texts.{done_text, memory_text, none_found_text, unwritten_text}
+use Rattle.ih_top.specs.Solving.{BeginsJournal, BeginsSolution, HasBase, Kind, WritesBoth, WritesJournal, solution_at, told_by}
 
 -- the best of a history, its solution and what is said of it
-pub record IsBestSaid (said : Base → List Entry → ℕ → List ℕ) (b : Base) (H : List Entry) (o : BestOutput) : Type 0 where
+pub record IsBestSaid (said : Base → List Tried → ℕ → List ℕ) (b : Base) (H : List Tried) (o : BestOutput) : Type 0 where
   pub place : ℕ
   pub best : IsBest b H place
   pub solution : o.solution.items ≡ solution_at b H place
   pub text : o.text.items ≡ said b H place
 
 -- the same, where there is a best
-abbrev pub HasBestSaid : (Base → List Entry → ℕ → List ℕ) → Base → List Entry → Option BestOutput → Type 0
+abbrev pub HasBestSaid : (Base → List Tried → ℕ → List ℕ) → Base → List Tried → Option BestOutput → Type 0
 HasBestSaid said b H None = HasNone b H
 HasBestSaid said b H (Some o) = IsBestSaid said b H o
 
-abbrev pub IsBestOutput : Base → List Entry → BestOutput → Type 0
+abbrev pub IsBestOutput : Base → List Tried → BestOutput → Type 0
 IsBestOutput b H o = IsBestSaid done_text b H o
 
-abbrev pub HasBestOutput : Base → List Entry → Option BestOutput → Type 0
+abbrev pub HasBestOutput : Base → List Tried → Option BestOutput → Type 0
 HasBestOutput b H o = HasBestSaid done_text b H o
 
 -- the journal of a full history that keeps the frozen choices and whose accepted prices are exact, and its best where there is one
-pub record IsOutput (b : Base) (o : Output) : Type 0 where
-  pub history : List Entry
+pub record IsOutput {X : Type 0} (kind : Kind X) (b : Base) (o : Output) : Type 0 where
+  pub history : List X
   pub given : IsBase b
   pub seed : b.options.seed < 2 ^ 64
-  pub full : IsFull b history
-  pub agrees : (k : ℕ) → AgreesBefore b (plan_at b history k)
-  pub exact : AreExact b history
-  pub journal : o.journal.items ≡ journal b.options history
-  pub best : HasBestOutput b history o.best
+  pub full : IsFull b kind.each (told_by kind history)
+  pub agrees : (k : ℕ) → AgreesBefore b (plan_at b (told_by kind history) k)
+  pub exact : AreExact b (told_by kind history)
+  pub journal : o.journal.items ≡ kind.journal b.options history
+  pub best : HasBestOutput b (told_by kind history) o.best
 
 -- what a search makes from what the files and the words give
-pub record IsOutputOf (files : Option Names) (s : SolveCall) (o : Output) : Type 0 where
+pub record IsOutputOf {X : Type 0} (kind : Kind X) (files : Option Names) (s : SolveCall) (o : Output) : Type 0 where
   pub base : Base
   pub given : HasBase files s base
-  pub output : IsOutput base o
+  pub output : IsOutput kind base o
 
 -- a search from what was read
 abbrev pub base_from : SolveCall → Inputs → Base
@@ -61,3 +63,26 @@ base_from s i = record {
   options = s.options;
   freeze = s.start.freeze;
 }
+
+-- a search from what was read, in which nothing is frozen
+abbrev pub plain_base : SolveCall → Inputs → Base
+plain_base s i = base_with i.inst.draft (started s.start.fill s.options.hard i.inst.draft i.plan) s.options 0
+
+-- ---- how it is written
+
+-- the journal and the solution of the best are written, as far as this says
+pub record WritesOutput (writes : SolveCall → List ℕ → List ℕ → Names → Names → Type 0) (s : SolveCall) (o : Output) (old new : Option Names) : Type 0 where
+  pub best : BestOutput
+  pub is : o.best ≡ Some best
+  pub written : Told (writes s o.journal.items best.solution.items) old new
+
+-- how a call ends that writes what its search made: the journal, then the solution of the best
+abbrev pub OutputEnds : SolveCall → Output → Option Names → Option Names → Status → List ℕ → Type 0
+OutputEnds s o old new Done text = (w : WritesOutput WritesBoth s o old new) × (text ≡ w.best.text.items)
+OutputEnds s o old new NoneFound text = (o.best ≡ None) × Told (WritesJournal s o.journal.items) old new × (text ≡ none_found_text)
+OutputEnds s o old new (WriteFault (Some Journal)) text = Told (BeginsJournal s o.journal.items) old new × (text ≡ unwritten_text s.journal)
+OutputEnds s o old new (WriteFault (Some Out)) text = WritesOutput BeginsSolution s o old new × (text ≡ unwritten_text s.out)
+OutputEnds s o old new (WriteFault None) text = (w : WritesOutput WritesBoth s o old new) × (text ≡ w.best.text.items)
+OutputEnds s o old new OutOfMemory text =
+    (Told (BeginsJournal s o.journal.items) old new ⊎ WritesOutput BeginsSolution s o old new) × (text ≡ memory_text)
+OutputEnds s o old new status text = ⊥

@@ -7,6 +7,7 @@ use Rattle.ih_journal.specs.declared.refusals.JournalRefusal.{JournalRefusal}
 use Rattle.ih_journal.specs.declared.refusals.Reason.TheVariants.{Heading}
 use Rattle.ih_journal.specs.declared.settings.Options.{Options}
 use Rattle.ih_journal.specs.Base.{Base}
+use Rattle.ih_journal.specs.Tried.{Tried, tries}
 use Rattle.ih_journal.specs.Best.{IsBest, HasNone}
 use Rattle.ih_journal.specs.Frozen.{AgreesBefore}
 use Rattle.ih_journal.specs.History.{plan_at}
@@ -60,9 +61,9 @@ pub record IsHeadedBy (s : StartCall) (x : JournalRead) (b : Base) (bytes : List
 pub record IsReplay (s : StartCall) (x : JournalRead) (b : Base) (H : List Entry) : Type 0 where
   pub headed : IsHeadedBy s x b (lines_from b.options 0 H)
   pub given : IsBase b
-  pub full : IsFull b H
-  pub agrees : (k : ℕ) → AgreesBefore b (plan_at b H k)
-  pub exact : AreExact b H
+  pub full : IsFull b 1 (tries H)
+  pub agrees : (k : ℕ) → AgreesBefore b (plan_at b (tries H) k)
+  pub exact : AreExact b (tries H)
 
 -- H is the longest legal history of the search whose lines follow the journal's heading; the same holds of its timetables and prices.
 pub record IsSalvage (s : StartCall) (x : JournalRead) (b : Base) (H : List Entry) : Type 0 where
@@ -71,21 +72,24 @@ pub record IsSalvage (s : StartCall) (x : JournalRead) (b : Base) (H : List Entr
   pub headed : IsHeadedBy s x b bytes
   pub given : IsBase b
   pub begins : Begins b bytes H rest
-  pub agrees : (k : ℕ) → AgreesBefore b (plan_at b H k)
-  pub exact : AreExact b H
+  pub agrees : (k : ℕ) → AgreesBefore b (plan_at b (tries H) k)
+  pub exact : AreExact b (tries H)
 
 -- the bytes begin with no heading of lawful options and its line feed
 abbrev pub HasNoHeading : List ℕ → Type 0
 HasNoHeading bytes = (o : Options) (more : List ℕ) → IsLawful o → o.seed < 2 ^ 64 → bytes ≡ ended (heading o) ++ more → ⊥
 
--- line 1 of the journal is no heading
+-- line 1 is no heading
+abbrev pub no_heading : JournalRefusal
+no_heading = record { line = 1; reason = Heading }
+
 pub record IsHeadless (x : JournalRead) (e : JournalRefusal) : Type 0 where
   pub none : HasNoHeading x.bytes
-  pub refusal : e ≡ record { line = 1; reason = Heading }
+  pub refusal : e ≡ no_heading
 
 -- the bytes are the lines of no full history
 abbrev pub AreNotFull : Base → List ℕ → Type 0
-AreNotFull b bytes = (H : List Entry) → IsFull b H → bytes ≡ lines_from b.options 0 H → ⊥
+AreNotFull b bytes = (H : List Entry) → IsFull b 1 (tries H) → bytes ≡ lines_from b.options 0 H → ⊥
 
 -- a line behind the heading is the first that isn't as it ought to be
 pub record HasRefusedLine (s : StartCall) (x : JournalRead) (e : JournalRefusal) : Type 0 where
@@ -111,8 +115,8 @@ pub record HasBest (taken : JournalRead → Base → List Entry → Type 0) (wri
   pub place : ℕ
   pub given : HasRead old r read
   pub taken_is : taken read base history
-  pub best : IsBest base history place
-  pub written : Told (writes r.out (solution_at base history place)) old new
+  pub best : IsBest base (tries history) place
+  pub written : Told (writes r.out (solution_at base (tries history) place)) old new
 
 -- A history was taken from the journal, and no timetable of it is feasible.
 pub record HasNoBest (taken : JournalRead → Base → List Entry → Type 0) (r : ReplayCall) (files : Option Names) : Type 0 where
@@ -121,7 +125,7 @@ pub record HasNoBest (taken : JournalRead → Base → List Entry → Type 0) (r
   pub history : List Entry
   pub given : HasRead files r read
   pub taken_is : taken read base history
-  pub none : HasNone base history
+  pub none : HasNone base (tries history)
 
 -- the journal was refused
 pub record IsRefused (refused : JournalRead → JournalRefusal → Type 0) (r : ReplayCall) (files : Option Names) (e : JournalRefusal) : Type 0 where
@@ -145,15 +149,15 @@ EndsUnreadJournal files r status text = EndsUnread files (replay_reading r) stat
 
 -- Which histories are taken, how a journal is refused and what is said differs between the commands. Each case has the whole
 -- condition of its status. Where the shelf tells what it holds, no two of them hold of one call, but for faults and for want of memory.
-abbrev pub JournalEnds : (JournalRead → Base → List Entry → Type 0) → (JournalRead → JournalRefusal → Type 0) → (Base → List Entry → ℕ → List ℕ)
+abbrev pub JournalEnds : (JournalRead → Base → List Entry → Type 0) → (JournalRead → JournalRefusal → Type 0) → (Base → List Tried → ℕ → List ℕ)
     → ReplayCall → Option Names → Option Names → Status → List ℕ → Type 0
 -- the solution and the report are out
-JournalEnds taken refused said r old new Done text = (d : HasBest taken IsWritten r old new) × (text ≡ said d.base d.history d.place)
+JournalEnds taken refused said r old new Done text = (d : HasBest taken IsWritten r old new) × (text ≡ said d.base (tries d.history) d.place)
 JournalEnds taken refused said r old new NoneFound text = Told Unchanged old new × HasNoBest taken r old × (text ≡ none_found_text)
 JournalEnds taken refused said r old new (JournalRefused e) text = Told Unchanged old new × IsRefused refused r old e × (text ≡ journal_refused_text e)
 JournalEnds taken refused said r old new (WriteFault (Some Out)) text = HasBest taken MayBeWritten r old new × (text ≡ unwritten_text r.out)
 -- all is done but that the text couldn't be put out
-JournalEnds taken refused said r old new (WriteFault None) text = (d : HasBest taken IsWritten r old new) × (text ≡ said d.base d.history d.place)
+JournalEnds taken refused said r old new (WriteFault None) text = (d : HasBest taken IsWritten r old new) × (text ≡ said d.base (tries d.history) d.place)
 JournalEnds taken refused said r old new OutOfMemory text = (Told Unchanged old new ⊎ HasBest taken MayBeWritten r old new) × (text ≡ memory_text)
 -- the files aren't as they ought to be
 JournalEnds taken refused said r old new status text = Told Unchanged old new × EndsUnreadJournal old r status text

@@ -2,15 +2,15 @@
 use Rattle.std.specs.Prelude.{◌≡◌, ℕ, ◌<◌, ◌^◌, ◌⊎◌, List, length, Option, Some, None, slice_get}
 use Rattle.ih_plan.specs.BillOf.{bill_of}
 use Rattle.ih_journal.specs.Base.{Base}
+use Rattle.ih_journal.specs.Tried.{tries}
 use Rattle.ih_journal.specs.History.{plan_at}
-use Rattle.ih_cellbook.specs.Keeping.{IsBase, base_with}
+use Rattle.ih_cellbook.specs.Keeping.{IsBase}
 use Rattle.ih_cellbook.specs.Legal.{AreExact}
 use Rattle.ih_rounds.specs.Best.{HaveNone, IsBestOf}
 use Rattle.ih_rounds.specs.Rounds.{AreRounds, Round, base_in, journals}
 use Rattle.ih_words.specs.Rounds.{RoundsCall}
 use Rattle.ih_words.specs.Solve.{SolveCall}
 use Rattle.ih_shelf.specs.Outside.{Names, Told}
-use Rattle.ih_top.specs.declared.inputs.Inputs.{Inputs}
 use Rattle.ih_top.specs.declared.output.BestOutput.{BestOutput}
 use Rattle.ih_top.specs.declared.output.Output.{Output}
 use Rattle.ih_top.specs.declared.status.Role.TheVariants.{Journal, Out}
@@ -19,18 +19,17 @@ use Rattle.ih_top.specs.declared.status.Status.TheVariants.{Done, NoneFound, Wri
 use Rattle.ih_top.specs.Inputs.{EndsUnread, solve_reading}
 use Rattle.ih_top.specs.RoundTexts.{round_report}
 use Rattle.ih_top.specs.Solving.{BeginsJournal, BeginsSolution, HasBase, Unchanged, WritesBoth, WritesJournal, solution_at}
-use Rattle.ih_top.specs.Starts.{started}
 use Rattle.ih_top.specs.Texts.{memory_text, none_found_text, unwritten_text}
 
 -- ---- what rounds make to be written and said
 
 -- the place of the best in round q, and the report on its timetable
 abbrev pub round_text : Base → ℕ → Round → ℕ → List ℕ
-round_text b q r k = round_report q k (length r.history) b.instance.weights (bill_of b.instance (plan_at (base_in b q r) r.history k))
+round_text b q r k = round_report q k (length r.history) b.instance.weights (bill_of b.instance (plan_at (base_in b q r) (tries r.history) k))
 
 -- the solution file of the timetable at place k of round q
 abbrev pub solution_in : Base → ℕ → Round → ℕ → List ℕ
-solution_in b q r k = solution_at (base_in b q r) r.history k
+solution_in b q r k = solution_at (base_in b q r) (tries r.history) k
 
 -- the best of all rounds, its solution and what is said of it
 pub record IsBestOfRounds (b : Base) (rs : List Round) (o : BestOutput) : Type 0 where
@@ -47,7 +46,7 @@ HasBestOfRounds b rs (Some o) = IsBestOfRounds b rs o
 
 -- each accepted price of each round is the change of the bill at its own place
 abbrev pub HaveExactPrices : Base → List Round → Type 0
-HaveExactPrices b rs = (q : ℕ) (s : Round) → slice_get rs q ≡ Some s → AreExact (base_in b q s) s.history
+HaveExactPrices b rs = (q : ℕ) (s : Round) → slice_get rs q ≡ Some s → AreExact (base_in b q s) (tries s.history)
 
 -- the journals of so many rounds, whose accepted prices are exact, and their best where there is one
 pub record IsRoundsOutput (b : Base) (count : ℕ) (o : Output) : Type 0 where
@@ -59,10 +58,6 @@ pub record IsRoundsOutput (b : Base) (count : ℕ) (o : Output) : Type 0 where
   pub exact : HaveExactPrices b rounds
   pub journal : o.journal.items ≡ journals b.options 0 rounds
   pub best : HasBestOfRounds b rounds o.best
-
--- rounds from what was read
-abbrev pub rounds_base : RoundsCall → Inputs → Base
-rounds_base r i = base_with i.inst.draft (started r.search.start.fill r.search.options.hard i.inst.draft i.plan) r.search.options 0
 
 -- what rounds make from what the files and the words give
 pub record IsRoundsOutputOf (files : Option Names) (r : RoundsCall) (o : Output) : Type 0 where

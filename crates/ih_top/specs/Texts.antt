@@ -15,6 +15,7 @@ use Rattle.ih_journal.specs.declared.refusals.Reason.{Reason}
 use Rattle.ih_journal.specs.declared.refusals.Reason.TheVariants.{Heading, Extra, Grammar, Place, Worker, Number, Try, Seen, Move, Price, Verdict, Early}
 use Rattle.ih_journal.specs.Attempts.{is_stale}
 use Rattle.ih_journal.specs.Base.{Base}
+use Rattle.ih_journal.specs.Tried.{Tried, tries}
 use Rattle.ih_journal.specs.History.{is_accepted, plan_at}
 
 -- how the program is called
@@ -71,7 +72,7 @@ abbrev pub found_text : ℕ → ℕ → Weights → Bill → List ℕ
 found_text place entries w b = best_line place entries ++ report w b
 
 -- the place of a history's best, and the report on its timetable
-abbrev pub done_text : Base → List Entry → ℕ → List ℕ
+abbrev pub done_text : Base → List Tried → ℕ → List ℕ
 done_text b H k = found_text k (length H) b.instance.weights (bill_of b.instance (plan_at b H k))
 
 -- how many of a journal's lines still count
@@ -79,7 +80,7 @@ abbrev pub salvaged_line : ℕ → List ℕ
 salvaged_line lines = codes "salvaged " ++ (decimal lines ++ codes "\n")
 
 -- the same of the lines that a journal still tells
-abbrev pub salvaged_text : Base → List Entry → ℕ → List ℕ
+abbrev pub salvaged_text : Base → List Tried → ℕ → List ℕ
 salvaged_text b H k = salvaged_line (length H) ++ done_text b H k
 
 abbrev pub demo_line : ℕ → List ℕ
@@ -100,4 +101,4 @@ verdicts_line accepted declined stale = codes "accepted " ++ (decimal accepted +
 -- the same of a search on the instance of a number
 abbrev pub demo_text : ℕ → Base → List Entry → ℕ → List ℕ
 demo_text number b H k = demo_line number
-    ++ (verdicts_line (verdicts_of is_accepted H) (verdicts_of is_declined H) (verdicts_of is_stale H) ++ done_text b H k)
+    ++ (verdicts_line (verdicts_of is_accepted H) (verdicts_of is_declined H) (verdicts_of is_stale H) ++ done_text b (tries H) k)

@@ -7,6 +7,7 @@ ghost use Rattle.ih_top.specs.Ends.{CallEnds, OutDiffers};
 
 use crate::advising::advise;
 use crate::answer::Answer;
+use crate::chaining::chain;
 use crate::checking::check;
 use crate::generating::write_instance;
 use crate::replaying::{replay, salvage};
@@ -38,6 +39,7 @@ pub fn perform<R: Files + Threads + Wait + Sync, S: Shelf, G: Gate>(
         Command::Replay(call) => replay(rt, alloc, call, shelf),
         Command::Salvage(call) => salvage(rt, alloc, call, shelf),
         Command::Check(call) => check(rt, alloc, call, shelf),
+        Command::Chain(call) => chain(rt, alloc, call, shelf, gate),
         Command::Rounds(call) => run_rounds(rt, alloc, call, shelf, gate),
         Command::Advise(call) => advise(rt, alloc, call, shelf, gate),
         Command::Gen(call) => write_instance(rt, alloc, call, shelf),

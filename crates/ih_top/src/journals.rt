@@ -2,6 +2,7 @@
 
 ghost use Rattle.std.specs.Prelude.{◌≡◌, ◌+◌, ◌<◌, ◌^◌, ◌++◌, ◌==◌, List, [], ℕ, IfErr, IfNone, IfSome, OnOk, length, position};
 ghost use Rattle.ih_journal.specs.Legal.{IsFull};
+ghost use Rattle.ih_journal.specs.Tried.{tries};
 ghost use Rattle.ih_journal.specs.Settings.{IsLawful};
 ghost use Rattle.ih_journal.specs.Texts.{ended, heading, lines_from};
 ghost use Rattle.ih_top.specs.Journals.{Begins, HasLine, HasNoFeed, IsRefusedAt, IsRestRefused};
@@ -42,7 +43,7 @@ pub fn heading_of(bytes: &[u8]) -> Option<(Options, &[u8])>
 // The lines of the journal end here: nothing is left, or bytes without a line feed.
 fn end_of_lines(replay: &Replay<'_>, rest: &[u8]) -> Result<(), JournalRefusal>
     requires { HasNoFeed rest.now }
-    ensures full { OnOk result (IsFull replay.now.base replay.now.entries) }
+    ensures full { OnOk result (IsFull replay.now.base 1 (tries replay.now.entries)) }
     ensures whole { OnOk result (rest.now ≡ []) }
     ensures line { IfErr result (λ e. e.line ≡ length replay.now.entries + 2) }
     ensures reason { IfErr result (λ e. IsRestRefused replay.now.base replay.now.entries rest.now e.reason) }
@@ -69,7 +70,7 @@ fn end_of_lines(replay: &Replay<'_>, rest: &[u8]) -> Result<(), JournalRefusal>
 pub fn take_lines(replay: &mut Replay<'_>, bytes: &[u8]) -> Result<(), JournalRefusal>
     requires { replay.old.entries ≡ [] }
     ensures base { replay.new.base ≡ replay.old.base }
-    ensures full { OnOk result (IsFull replay.new.base replay.new.entries) }
+    ensures full { OnOk result (IsFull replay.new.base 1 (tries replay.new.entries)) }
     ensures whole { OnOk result (bytes.now ≡ lines_from replay.new.base.options 0 replay.new.entries) }
     ensures begins { (rest : List ℕ) × Begins replay.new.base bytes.now replay.new.entries rest }
     ensures refused { IfErr result (IsRefusedAt replay.new.base bytes.now replay.new.entries) }

@@ -1,8 +1,12 @@
 //! Laws of journals and of whole calls, each on a function that does nothing. A law that follows from others calls theirs.
 
-ghost use Rattle.ih_top.specs.Laws.{DemosShowTheSame, JournalsFit, LoneRoundsAreAlike, LoneRoundsEndAlike, LoneSearchesAreAlike, LoneSolvesDoTheSame, LoneSolvesEndAlike, RefusedLinesAreNotFull, SolvesAreTakenBack, SolvesWithNoneAreTakenBack, WholeLinesAreSalvaged};
+ghost use Rattle.ih_top.specs.Laws.{ChainJournalsAreHeadless, ChainJournalsFit, ChainsAreRefused, DemosShowTheSame, JournalsFit, LoneRoundsAreAlike, LoneRoundsEndAlike, LoneSearchesAreAlike, LoneSearchesDoTheSame, LoneSearchesEndAlike, RefusedLinesAreNotFull, SolvesAreTakenBack, SolvesWithNoneAreTakenBack, WholeLinesAreSalvaged};
+ghost use Rattle.std.specs.Prelude.{ℕ};
+ghost use Rattle.ih_top.specs.Chaining.{of_chains};
+ghost use Rattle.ih_top.specs.Solving.{of_moves};
 
 use ih_cellbook::legal_journals_are_short;
+use ih_chain::chain_journals_are_short;
 use ih_replay::{
     legal_journals_are_taken, legal_journals_differ, taken_lines_are_of_legal_histories,
 };
@@ -25,12 +29,15 @@ pub fn whole_lines_are_salvaged()
     taken_lines_are_of_legal_histories();
 }
 
-/// With one worker a search is a function of files and words: its history, what `solve` writes and says, the rounds of
-/// `rounds`, how both end where there is no fault and memory enough, and what `demo` shows.
+/// With one worker a search is a function of files and words: its history, what `solve` and `chain` write and say, the
+/// rounds of `rounds`, how these end where there is no fault and memory enough, and what `demo` shows.
 pub fn lone_searches_are_alike()
-    ensures search { LoneSearchesAreAlike }
-    ensures solve { LoneSolvesDoTheSame }
-    ensures ends { LoneSolvesEndAlike }
+    ensures search { LoneSearchesAreAlike of_moves }
+    ensures solve { LoneSearchesDoTheSame of_moves }
+    ensures ends { LoneSearchesEndAlike of_moves }
+    ensures chains { (each : ℕ) → LoneSearchesAreAlike (of_chains each) }
+    ensures chain { (each : ℕ) → LoneSearchesDoTheSame (of_chains each) }
+    ensures chain_ends { (each : ℕ) → LoneSearchesEndAlike (of_chains each) }
     ensures rounds { LoneRoundsAreAlike }
     ensures rounds_end { LoneRoundsEndAlike }
     ensures demo { DemosShowTheSame }
@@ -47,4 +54,14 @@ pub fn solves_are_taken_back()
     legal_journals_differ();
     taken_lines_are_of_legal_histories();
     legal_journals_are_short();
+}
+
+/// The journal of a search by chains is no longer than a journal's file may be, and has no heading of a journal of single
+/// moves: `replay` and `salvage` refuse it there, with no fault and memory enough.
+pub fn chains_are_refused()
+    ensures headless { ChainJournalsAreHeadless }
+    ensures fits { ChainJournalsFit }
+    ensures refused { ChainsAreRefused }
+{
+    chain_journals_are_short();
 }

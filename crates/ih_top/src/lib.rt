@@ -3,6 +3,7 @@
 
 mod advising;
 mod answer;
+mod chaining;
 mod checking;
 mod commands;
 mod files;
@@ -15,16 +16,16 @@ mod replaying;
 mod rounds;
 mod rounds_output;
 mod running;
-mod search;
 mod showing;
 mod solving;
 mod starts;
 mod status;
 mod texts;
+mod writer;
 
 pub use files::{MAX_FILE, MAX_JOURNAL};
 pub use laws::{
-    lone_searches_are_alike, refused_lines_are_not_full, solves_are_taken_back,
+    chains_are_refused, lone_searches_are_alike, refused_lines_are_not_full, solves_are_taken_back,
     whole_lines_are_salvaged,
 };
 pub use rounds_output::search_at_desk;

@@ -6,11 +6,14 @@ ghost use Rattle.ih_plan.specs.Timetable.{IsPlanOf};
 ghost use Rattle.ih_plan.specs.BillOf.{bill_of};
 ghost use Rattle.ih_journal.specs.Legal.{AreLegal};
 ghost use Rattle.ih_journal.specs.Best.{BestIs, IsBest};
-ghost use Rattle.ih_top.specs.Searching.{base_of, IsGiven};
+ghost use Rattle.ih_journal.specs.Tried.{tries};
+ghost use Rattle.ih_cellbook.specs.Keeping.{IsBase};
+ghost use Rattle.ih_desk.specs.Searching.{base_given};
 ghost use Rattle.ih_top.specs.Texts.{best_line, found_text, salvaged_line};
 ghost use Rattle.ih_top.specs.Outputs.{HasBestOutput, IsBestOutput, IsOutput};
+ghost use Rattle.ih_top.specs.Solving.{of_moves};
 
-use crate::search::{Given, search};
+use ih_desk::Given;
 use ih_history::{journal_text, plan_at};
 use ih_journal::{Entry, Options};
 use ih_plan::Plan;
@@ -18,6 +21,7 @@ use ih_shelf::Gate;
 use ih_solution::write_solution;
 use ih_tables::Instance;
 use ih_validate::{bill, report};
+use ih_workers::search;
 use itoa::Buffer;
 use std::alloc::{AllocError, Global};
 use std::sync::Wait;
@@ -51,8 +55,8 @@ fn best_line(alloc: Global, place: u32, entries: u32) -> Result<String, AllocErr
     format!(in alloc; "best {place} of {entries}\n")
 }
 
-// The line of the best, and the report on its timetable.
-fn found_text(
+/// The line of the best, and the report on its timetable.
+pub fn found_text(
     alloc: Global,
     inst: &Instance,
     plan: &Plan,
@@ -74,11 +78,11 @@ fn best_output(
     entries: &[Entry],
     place: u32,
 ) -> Result<BestOutput, AllocError>
-    requires given { IsGiven (base_of given.now) }
-    requires legal { AreLegal (base_of given.now) entries.now }
+    requires given { IsBase (base_given given.now) }
+    requires legal { AreLegal (base_given given.now) 1 (tries entries.now) }
     requires few { length entries.now < 2 ^ 31 }
-    requires best { IsBest (base_of given.now) entries.now place }
-    ensures { IfOk result (IsBestOutput (base_of given.now) entries.now) }
+    requires best { IsBest (base_given given.now) (tries entries.now) place }
+    ensures { IfOk result (IsBestOutput (base_given given.now) (tries entries.now)) }
 {
     let plan = plan_at(alloc, given.inst, given.start, entries, place)?;
     Ok(BestOutput {
@@ -94,11 +98,11 @@ pub fn best_of(
     entries: &[Entry],
     best: Option<(u32, i64)>,
 ) -> Result<Option<BestOutput>, AllocError>
-    requires given { IsGiven (base_of given.now) }
-    requires legal { AreLegal (base_of given.now) entries.now }
+    requires given { IsBase (base_given given.now) }
+    requires legal { AreLegal (base_given given.now) 1 (tries entries.now) }
     requires few { length entries.now < 2 ^ 31 }
-    requires best { BestIs (base_of given.now) entries.now best }
-    ensures { IfOk result (HasBestOutput (base_of given.now) entries.now) }
+    requires best { BestIs (base_given given.now) (tries entries.now) best }
+    ensures { IfOk result (HasBestOutput (base_given given.now) (tries entries.now)) }
 {
     match best {
         Some((place, _)) => Ok(Some(best_output(alloc, given, entries, place)?)),
@@ -143,8 +147,8 @@ pub fn make_output<R: Threads + Wait + Sync, G: Gate>(
     given: &Given<'_>,
     gate: &G,
 ) -> Result<Output, AllocError>
-    requires { IsGiven (base_of given.now) }
-    ensures { IfOk result (IsOutput (base_of given.now)) }
+    requires { IsBase (base_given given.now) }
+    ensures { IfOk result (IsOutput of_moves (base_given given.now)) }
 {
     // For the proof alone: the seed has 64 bits.
     let _seed = seed_of(&given.options);

@@ -8,7 +8,8 @@ ghost use Rattle.ih_top.specs.Answers.{Answers, HasFileCause};
 ghost use Rattle.ih_top.specs.Inputs.{HasInputs, replay_reading};
 ghost use Rattle.ih_top.specs.Outcomes.{AreLines, IsLinesOutcome, IsReplayOutcome, IsSalvageOutcome, OutcomeEnds, read_from};
 ghost use Rattle.ih_top.specs.Replaying.{EndsUnreadJournal, HasBytes, HasRead, ReplayEnds, SalvageEnds};
-ghost use Rattle.ih_top.specs.Searching.{IsGiven, base_of};
+ghost use Rattle.ih_cellbook.specs.Keeping.{IsBase};
+ghost use Rattle.ih_desk.specs.Searching.{base_given};
 
 use crate::answer::Answer;
 use crate::files::MAX_JOURNAL;
@@ -16,10 +17,10 @@ use crate::inputs::{InputNames, Inputs, read_inputs, unread_file};
 use crate::journals::{heading_of, take_lines};
 use crate::laws::{refused_lines_are_not_full, whole_lines_are_salvaged};
 use crate::output::{BestOutput, best_of, salvaged};
-use crate::search::Given;
 use crate::starts::begin;
 use crate::status::{Role, Status};
 use crate::texts::{journal_refused, none_found, out_of_memory, unwritten};
+use ih_desk::Given;
 use ih_journal::{JournalRefusal, Reason};
 use ih_replay::Replay;
 use ih_shelf::Shelf;
@@ -57,8 +58,8 @@ fn headless() -> Outcome
 
 // What the lines behind a journal's heading come to, which have to be those of a full history.
 fn replay_lines(alloc: Global, given: &Given<'_>, bytes: &[u8]) -> Result<Outcome, AllocError>
-    requires { IsGiven (base_of given.now) }
-    ensures { IfOk result (IsLinesOutcome (base_of given.now) bytes.now) }
+    requires { IsBase (base_given given.now) }
+    ensures { IfOk result (IsLinesOutcome (base_given given.now) bytes.now) }
 {
     let mut replay = Replay::new(alloc, given.inst, given.start, &given.options, given.freeze)?;
     match take_lines(&mut replay, bytes) {
@@ -81,8 +82,8 @@ fn salvage_lines(
     given: &Given<'_>,
     bytes: &[u8],
 ) -> Result<Option<BestOutput>, AllocError>
-    requires { IsGiven (base_of given.now) }
-    ensures { IfOk result (AreLines (base_of given.now) bytes.now) }
+    requires { IsBase (base_given given.now) }
+    ensures { IfOk result (AreLines (base_given given.now) bytes.now) }
 {
     let mut replay = Replay::new(alloc, given.inst, given.start, &given.options, given.freeze)?;
     // Why no further line is taken doesn't count.

@@ -4,6 +4,7 @@ ghost use Rattle.std.specs.Prelude.{◌≡◌, IfOk, string_bytes};
 ghost use Rattle.ih_plan.specs.BillOf.{bill_of};
 ghost use Rattle.ih_plan.specs.Timetable.{IsPlanOf};
 ghost use Rattle.ih_journal.specs.Legal.{IsFull};
+ghost use Rattle.ih_journal.specs.Tried.{tries};
 ghost use Rattle.ih_journal.specs.Settings.{IsLawful};
 ghost use Rattle.ih_cellbook.specs.Keeping.{base_with};
 ghost use Rattle.ih_rounds.specs.Ends.{IsFound};
@@ -12,8 +13,8 @@ ghost use Rattle.ih_top.specs.RoundTexts.{IsRoundSaid, FitsEnd, round_line, roun
 ghost use Rattle.ih_top.specs.Rounds.{IsRoundsOutput};
 
 use crate::output::{BestOutput, Output, seed_of};
-use crate::search::{Given, search};
 use ih_cellbook::accepted_prices_are_exact;
+use ih_desk::Given;
 use ih_journal::{Entry, Options};
 use ih_plan::Plan;
 use ih_rounds::{RoundsEnd, SearchBy, rounds};
@@ -21,6 +22,7 @@ use ih_shelf::Gate;
 use ih_solution::write_solution;
 use ih_tables::Instance;
 use ih_validate::{bill, report};
+use ih_workers::search;
 use itoa::Buffer;
 use std::alloc::{AllocError, Global};
 use std::sync::Wait;
@@ -90,7 +92,7 @@ pub fn search_at_desk<R: Threads + Wait + Sync, G: Gate>(
 ) -> Result<Vec<Entry>, AllocError>
     requires start { IsPlanOf inst.now.draft start.now }
     requires lawful { IsLawful options.now }
-    ensures { IfOk result (λ v. IsFull (base_with inst.entry.now.draft start.entry.now options.entry.now 0) v.items) }
+    ensures { IfOk result (λ v. IsFull (base_with inst.entry.now.draft start.entry.now options.entry.now 0) 1 (tries v.items)) }
 {
     let given = Given {
         inst,
@@ -129,7 +131,7 @@ pub fn make_rounds_output<R: Threads + Wait + Sync, G: Gate>(
             AllocError,
         >
             requires { IsPlanOf inst.now.draft start.now × IsLawful options.now }
-            ensures { IfOk result (λ v. IsFull (base_with inst.entry.now.draft start.entry.now options.entry.now 0) v.items) }
+            ensures { IfOk result (λ v. IsFull (base_with inst.entry.now.draft start.entry.now options.entry.now 0) 1 (tries v.items)) }
         { search_at_desk(rt, alloc, inst, start, options, gate) },
     };
     let mut journal = Vec::new(alloc);

@@ -11,9 +11,9 @@ ghost use Rattle.ih_top.specs.Texts.{demo_line, is_declined, verdicts_line, verd
 
 use crate::answer::Answer;
 use crate::output::{BestOutput, best_of};
-use crate::search::{Given, search};
 use crate::status::Status;
 use crate::texts::{none_found, out_of_memory};
+use ih_desk::Given;
 use ih_gen::generate;
 use ih_instance::{InstanceError, read_instance};
 use ih_journal::{Entry, Options, Verdict};
@@ -21,6 +21,7 @@ use ih_parfill::par_fill;
 use ih_plan::Plan;
 use ih_shelf::{Gate, OpenGate};
 use ih_tables::Instance;
+use ih_workers::search;
 use itoa::Buffer;
 use std::alloc::{AllocError, Global};
 use std::sync::Wait;

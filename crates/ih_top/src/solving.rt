@@ -6,51 +6,22 @@ ghost use Rattle.ih_journal.specs.Settings.{IsLawful};
 ghost use Rattle.ih_words.specs.Solve.{solve_call};
 ghost use Rattle.ih_top.specs.Answers.{Answers, HasFileCause};
 ghost use Rattle.ih_top.specs.Inputs.{solve_reading, HasInputs};
-ghost use Rattle.ih_top.specs.Outputs.{IsOutput, IsOutputOf, base_from};
-ghost use Rattle.ih_top.specs.Solving.{SolveEnds};
+ghost use Rattle.ih_top.specs.Outputs.{IsOutput, base_from};
+ghost use Rattle.ih_top.specs.Solving.{SolveEnds, of_moves};
 
 use crate::answer::Answer;
 use crate::inputs::{InputNames, Inputs, read_inputs};
 use crate::output::{Output, make_output};
-use crate::search::Given;
 use crate::starts::begin;
-use crate::status::{Role, Status};
-use crate::texts::{none_found, out_of_memory, unwritten};
+use crate::texts::out_of_memory;
+use crate::writer::write_output;
+use ih_desk::Given;
 use ih_shelf::{Gate, Shelf};
 use ih_words::Solve;
 use std::alloc::{AllocError, Global};
 use std::rt::Files;
 use std::sync::Wait;
 use std::thread::Threads;
-
-// Writes the journal, then the solution of the best where there is one.
-fn write_output<R: Files, S: Shelf>(
-    rt: &R,
-    alloc: Global,
-    call: &Solve<'_>,
-    output: Output,
-    shelf: &mut S,
-) -> Answer
-    requires output { IsOutputOf (S.names shelf.old) (solve_call call.now) output }
-    requires differ { call.now.out.now ≢ call.now.journal.now }
-    ensures ends { Answers (SolveEnds (solve_call call.now) (S.names shelf.old) (S.names shelf.new)) result }
-    ensures cause { HasFileCause (S.read_faults shelf.old) (S.read_faults shelf.new) (S.write_faults shelf.old) (S.write_faults shelf.new) result.status }
-{
-    let Output { journal, best } = output;
-    if let Err(error) = shelf.write(rt, call.journal, journal.as_slice()) {
-        return unwritten(alloc, Role::Journal, call.journal, error);
-    }
-    let Some(best) = best else {
-        return none_found(alloc);
-    };
-    if let Err(error) = shelf.write(rt, call.out, best.solution.as_slice()) {
-        return unwritten(alloc, Role::Out, call.out, error);
-    }
-    Answer {
-        status: Status::Done,
-        text: best.text,
-    }
-}
 
 // All that a search from what was read makes.
 fn prepare<R: Threads + Wait + Sync, G: Gate>(
@@ -62,7 +33,7 @@ fn prepare<R: Threads + Wait + Sync, G: Gate>(
 ) -> Result<Output, AllocError>
     requires plan { IsPlanOf inputs.inst.draft inputs.plan }
     requires lawful { IsLawful call.now.options }
-    ensures { IfOk result (IsOutput (base_from (solve_call call.now) inputs)) }
+    ensures { IfOk result (IsOutput of_moves (base_from (solve_call call.now) inputs)) }
 {
     let begun = begin(
         rt,

@@ -3,6 +3,10 @@
 
 #[cfg(test)]
 mod advice_tests;
+#[cfg(test)]
+mod chain_price_tests;
+#[cfg(test)]
+mod chain_tests;
 pub mod examples;
 #[cfg(test)]
 mod fill_tests;

@@ -4,6 +4,7 @@ ghost use Rattle.std.specs.Prelude.{◌≡◌, IfOk};
 ghost use Rattle.ih_plan.specs.Timetable.{IsPlanOf};
 ghost use Rattle.ih_journal.specs.Legal.{IsFull};
 ghost use Rattle.ih_journal.specs.Settings.{IsLawful};
+ghost use Rattle.ih_journal.specs.Tried.{tries};
 ghost use Rattle.ih_cellbook.specs.Keeping.{base_with};
 
 use crate::examples::WARD;
@@ -43,7 +44,7 @@ fn are_noted<R: Threads + Wait + Sync>(
             AllocError,
         >
             requires { IsPlanOf inst.now.draft start.now × IsLawful options.now }
-            ensures { IfOk result (λ v. IsFull (base_with inst.entry.now.draft start.entry.now options.entry.now 0) v.items) }
+            ensures { IfOk result (λ v. IsFull (base_with inst.entry.now.draft start.entry.now options.entry.now 0) 1 (tries v.items)) }
         { search_at_desk(rt, alloc, inst, start, options, &OpenGate) },
     };
     let mut noted = Noted::new(alloc, searcher);

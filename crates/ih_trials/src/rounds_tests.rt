@@ -1,9 +1,9 @@
 //! Whole calls of searches in rounds, over files in memory.
 
-use crate::examples::{COVERED_SOLUTION, ONE_ADMITTED, TWO_PATIENTS, WARD};
-use crate::trials::{ends, exits_past, holds, lay};
+use crate::examples::{COVERED_SOLUTION, WARD};
+use crate::trials::{ends, holds, is_held};
 use ih_journal::{JournalRefusal, Reason};
-use ih_shelf::{HoldGate, MemShelf, MemSink};
+use ih_shelf::{MemShelf, MemSink};
 use ih_top::Status;
 use std::alloc::Global;
 use std::rt::Files;
@@ -113,19 +113,6 @@ fn a_round_past_a_gate(rt: HostRuntime) {
     let alloc = rt.alloc();
     let mut shelf = MemShelf::new(alloc);
     let mut out = MemSink::new(alloc);
-    let gate = HoldGate::new(100_000_000, 1);
-    assert!(rt; lay(alloc, &mut shelf, TWO_PATIENTS, ONE_ADMITTED).is_ok());
-    assert!(rt;
-        exits_past(
-            &rt,
-            alloc,
-            ONE_ROUND,
-            &mut shelf,
-            &mut out,
-            &gate,
-            Status::Done
-        )
-    );
-    assert!(rt; !gate.ran_out());
+    assert!(rt; is_held(&rt, alloc, ONE_ROUND, 1, &mut shelf, &mut out));
     assert!(rt; holds(&shelf, "j", Some(STALE)));
 }

@@ -1,7 +1,8 @@
 //! What the tests of whole calls share: files in memory, and calls by the words of a line. Where memory runs out, what a test
 //! asks for is not so.
 
-use ih_shelf::{Gate, MemShelf, MemSink, OpenGate, Shelf};
+use crate::examples::{ONE_ADMITTED, TWO_PATIENTS};
+use ih_shelf::{Gate, HoldGate, MemShelf, MemSink, OpenGate, Shelf};
 use ih_top::{Status, run};
 use std::alloc::{AllocError, Global};
 use std::rt::Files;
@@ -121,6 +122,41 @@ pub fn lay(
     shelf.store("s", solution.as_bytes())
 }
 
+// The most turns for which a gate holds a worker.
+const TURNS: u64 = 100_000_000;
+
+// Whether a search of the two patients is done past this gate, and no wait there ended in vain.
+fn is_done_past<R: Files + Print + Threads + Wait + Sync>(
+    rt: &R,
+    alloc: Global,
+    line: &str,
+    shelf: &mut MemShelf,
+    out: &mut MemSink,
+    gate: &HoldGate,
+) -> bool {
+    lay(alloc, shelf, TWO_PATIENTS, ONE_ADMITTED).is_ok()
+        && exits_past(rt, alloc, line, shelf, out, gate, Status::Done)
+        && !gate.ran_out()
+}
+
+/// The same past a gate that holds worker 0's attempts of the numbers below this one.
+pub fn is_held<R: Files + Print + Threads + Wait + Sync>(
+    rt: &R,
+    alloc: Global,
+    line: &str,
+    numbers: u32,
+    shelf: &mut MemShelf,
+    out: &mut MemSink,
+) -> bool {
+    let gate = HoldGate::new(TURNS, numbers);
+    is_done_past(rt, alloc, line, shelf, out, &gate)
+}
+
+/// Whether the text begins and ends so.
+pub fn reads(out: &MemSink, start: &str, end: &str) -> bool {
+    out.bytes().starts_with(start.as_bytes()) && out.bytes().ends_with(end.as_bytes())
+}
+
 /// Whether the name has just this text, or isn't there where none is given.
 pub fn holds(shelf: &MemShelf, name: &str, text: Option<&str>) -> bool {
     match (shelf.get(name), text) {
@@ -136,4 +172,32 @@ pub fn are_same(shelf: &MemShelf, name: &str, other: &str) -> bool {
         (Some(bytes), Some(others)) => bytes == others,
         _ => false,
     }
+}
+
+/// The lines under the name behind its first one.
+pub fn lines_behind<'a>(shelf: &'a MemShelf, name: &str) -> Option<&'a str> {
+    let Some(bytes) = shelf.get(name) else {
+        return None;
+    };
+    let Ok(text) = str::from_utf8(bytes) else {
+        return None;
+    };
+    match text.split_once("\n") {
+        Some((_, lines)) => Some(lines),
+        None => None,
+    }
+}
+
+/// Whether the name has a text of so many lines.
+pub fn has_lines(shelf: &MemShelf, name: &str, count: u32) -> bool {
+    let Some(bytes) = shelf.get(name) else {
+        return false;
+    };
+    let mut lines: u32 = 0;
+    for byte in bytes {
+        if *byte == b'\n' {
+            lines = lines.saturating_add(1);
+        }
+    }
+    lines == count
 }

@@ -106,3 +106,36 @@ fn unlawful_words_of_advise(rt: HostRuntime) {
     assert!(rt; is_unlawful(&rt, alloc, "advise i s --hard 1000001 --workers 1"));
     assert!(rt; is_unlawful(&rt, alloc, "advise i i --hard 1000 --workers 2"));
 }
+
+// Words that name a search by chains, which finds no instance.
+const CHAINS: [&str; 3] = [
+    "chain i o j --seed 0 --workers 1 --moves 0 --heat 0 --hard 1000 --length 1",
+    "chain i o j --seed 0 --workers 50 --moves 2500 --heat 0 --hard 1000 --length 8",
+    "chain i o j --seed 0 --workers 2 --moves 2 --heat 0 --hard 1000 --length 8 --start s",
+];
+
+// A chain has 1 to 8 moves, which are said, and their product with workers and moves is limited. Chains freeze nothing and
+// try nothing again.
+const NO_CHAINS: [&str; 10] = [
+    "chain i o j --seed 0 --workers 1 --moves 2 --heat 0 --hard 1000",
+    "chain i o j --seed 0 --workers 1 --moves 2 --heat 0 --hard 1000 --length 0",
+    "chain i o j --seed 0 --workers 1 --moves 2 --heat 0 --hard 1000 --length 9",
+    "chain i o j --seed 0 --workers 50 --moves 2501 --heat 0 --hard 1000 --length 8",
+    "chain i o j --seed 0 --workers 1 --moves 500001 --heat 0 --hard 1000 --length 2",
+    "chain i o j --seed 0 --workers 1 --moves 2 --heat 0 --hard 1000 --length 2 --start s --freeze 1",
+    "chain i o j --seed 0 --workers 1 --moves 2 --heat 0 --hard 1000 --length 2 --retries 1",
+    "chain i o j --seed 0 --workers 1 --moves 2 --heat 0 --hard 1000 --length 2 --rounds 2",
+    "chain i o o --seed 0 --workers 1 --moves 2 --heat 0 --hard 1000 --length 2",
+    "solve i o j --seed 0 --workers 1 --moves 2 --heat 0 --hard 1000 --length 2",
+];
+
+#[test]
+fn unlawful_words_of_chain(rt: HostRuntime) {
+    let alloc = rt.alloc();
+    for words in CHAINS {
+        assert!(rt; is_lawful(&rt, alloc, words));
+    }
+    for words in NO_CHAINS {
+        assert!(rt; is_unlawful(&rt, alloc, words));
+    }
+}

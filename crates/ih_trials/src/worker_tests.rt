@@ -1,15 +1,13 @@
 //! Whole calls of several workers, over files in memory.
 
 use crate::examples::{ONE_ADMITTED, TWO_PATIENTS};
-use crate::trials::{are_same, ends_saying, exits, exits_past, holds, lay};
-use ih_shelf::{HoldGate, MemShelf, MemSink};
+use crate::trials::{are_same, ends_saying, exits, has_lines, holds, is_held, lay, reads};
+use ih_shelf::{MemShelf, MemSink};
 use ih_top::Status;
 use std::alloc::Global;
 use std::rt::Files;
 use std::sync::Wait;
 use std::thread::Threads;
-
-const TURNS: u64 = 100_000_000;
 
 const ONE_EACH: &str =
     "solve i o j --seed 18446744073709551615 --workers 2 --moves 1 --heat 1000000 --hard 1000 --start s";
@@ -56,38 +54,6 @@ const MOST: &str = "solve i o j --seed 5 --workers 64 --moves 30 --heat 300 --ha
 const STARTED: &str = "replay i j p --start s";
 
 const FROZEN: &str = "replay i j p --start s --freeze 1";
-
-// Whether a search of the two patients is done past this gate, and no wait there ended in vain.
-fn is_done_past<R: Files + Print + Threads + Wait + Sync>(
-    rt: &R,
-    alloc: Global,
-    line: &str,
-    shelf: &mut MemShelf,
-    out: &mut MemSink,
-    gate: &HoldGate,
-) -> bool {
-    lay(alloc, shelf, TWO_PATIENTS, ONE_ADMITTED).is_ok()
-        && exits_past(rt, alloc, line, shelf, out, gate, Status::Done)
-        && !gate.ran_out()
-}
-
-// The same past a gate that holds worker 0's attempts of the numbers below this one.
-fn is_held<R: Files + Print + Threads + Wait + Sync>(
-    rt: &R,
-    alloc: Global,
-    line: &str,
-    numbers: u32,
-    shelf: &mut MemShelf,
-    out: &mut MemSink,
-) -> bool {
-    let gate = HoldGate::new(TURNS, numbers);
-    is_done_past(rt, alloc, line, shelf, out, &gate)
-}
-
-// Whether the text begins and ends so.
-fn reads(out: &MemSink, start: &str, end: &str) -> bool {
-    out.bytes().starts_with(start.as_bytes()) && out.bytes().ends_with(end.as_bytes())
-}
 
 // Worker 0 has priced its move before worker 1 offers its own, and offers it afterwards.
 #[test]
@@ -138,8 +104,8 @@ fn stand_side_by_side(journal: &str) -> bool {
     false
 }
 
-// Whether the name has such a journal.
-fn has_pairs(shelf: &MemShelf, name: &str) -> bool {
+/// Whether the name has such a journal.
+pub fn has_pairs(shelf: &MemShelf, name: &str) -> bool {
     match shelf.get(name) {
         Some(bytes) => match str::from_utf8(bytes) {
             Ok(journal) => stand_side_by_side(journal),
@@ -259,20 +225,6 @@ fn any_number_of_workers(rt: HostRuntime) {
     assert!(rt; agree(&rt, alloc, EIGHT_WITH_RETRIES, STARTED));
     assert!(rt; agree(&rt, alloc, MOST_WITH_RETRIES_FROZEN, FROZEN));
     assert!(rt; agree(&rt, alloc, MOST, STARTED));
-}
-
-// Whether the name has a text of so many lines.
-fn has_lines(shelf: &MemShelf, name: &str, count: u32) -> bool {
-    let Some(bytes) = shelf.get(name) else {
-        return false;
-    };
-    let mut lines: u32 = 0;
-    for byte in bytes {
-        if *byte == b'\n' {
-            lines = lines.saturating_add(1);
-        }
-    }
-    lines == count
 }
 
 // Two workers with 500 moves each, which no gate holds, leave 1,000 entries, whose replay comes to the same end.

@@ -7,6 +7,7 @@ use Rattle.std.proofs.lemmas.Slice.Eq.{bytes_eq-Decides}
 use Rattle.std.proofs.lemmas.Bool.{and_parts, or_parts, not-true}
 use Rattle.clap.specs.Words.{Text, matches_of}
 use Rattle.ih_words.specs.Advise.{advise_app, lawful_advise}
+use Rattle.ih_words.specs.Chain.{chain_app, chain_in, is_lawful_chain, lawful_chain}
 use Rattle.ih_words.specs.Check.{check_app, lawful_check}
 use Rattle.ih_words.specs.Demo.{demo_app, lawful_demo}
 use Rattle.ih_words.specs.Distinct.{all_differ}
@@ -16,11 +17,12 @@ use Rattle.ih_words.specs.Replay.{lawful_replay, replay_app}
 use Rattle.ih_words.specs.Rounds.{is_lawful_rounds, lawful_rounds, rounds_app, rounds_in}
 use Rattle.ih_words.specs.Solve.{SolveCall, is_lawful_solve, lawful_solve, solve_app, solve_files, solve_in}
 use Rattle.ih_words.specs.Start.{freezes_a_file, start_files}
-use Rattle.ih_words.specs.Words.{Call, call_of, call_named, check, demo, gen, replay, rounds, salvage, solve, advise}
+use Rattle.ih_words.specs.Words.{Call, call_of, call_named, chain, check, demo, gen, replay, rounds, salvage, solve, advise}
 
 -- the file of the solution isn't that of the journal, where a call writes both
 abbrev pub HasNamesApart : Call → Type 0
 HasNamesApart (solve s) = s.out ≢ s.journal
+HasNamesApart (chain c) = c.search.out ≢ c.search.journal
 HasNamesApart (rounds r) = r.search.out ≢ r.search.journal
 HasNamesApart call = Unit {0}
 
@@ -65,6 +67,12 @@ module _ (words : List Text) (call : Call) where
       lawful solve (has_no_fault solve_app words) (freezes_a_file rows && is_lawful_solve (solve_in rows)) (solve_in rows)
       (λ h. files-apart (solve_in rows) (and_parts (all_differ (solve_files (solve_in rows))) _ (and_parts (freezes_a_file rows) _ h).1).0) call
 
+  by_chain : option_map chain (call_by chain_app lawful_chain words) ≡ Some call → HasNamesApart call
+  by_chain =
+      let rows = matches_of chain_app words in
+      lawful chain (has_no_fault chain_app words) (is_lawful_chain (chain_in rows)) (chain_in rows)
+      (λ h. files-apart (chain_in rows).search (and_parts (all_differ (solve_files (chain_in rows).search)) _ h).0) call
+
   by_rounds : option_map rounds (call_by rounds_app lawful_rounds words) ≡ Some call → HasNamesApart call
   by_rounds =
       let rows = matches_of rounds_app words in
@@ -77,11 +85,12 @@ module _ (words : List Text) (call : Call) where
       (either (bytes_eq name (codes "replay")) _ _ call (any replay (λ x. tt) (call_by (replay_app (codes "replay")) lawful_replay words) call)
       (either (bytes_eq name (codes "salvage")) _ _ call (any salvage (λ x. tt) (call_by (replay_app (codes "salvage")) lawful_replay words) call)
       (either (bytes_eq name (codes "check")) _ _ call (any check (λ x. tt) (call_by check_app lawful_check words) call)
+      (either (bytes_eq name (codes "chain")) _ _ call by_chain
       (either (bytes_eq name (codes "rounds")) _ _ call by_rounds
       (either (bytes_eq name (codes "advise")) _ _ call (any advise (λ x. tt) (call_by advise_app lawful_advise words) call)
       (either (bytes_eq name (codes "gen")) _ _ call (any gen (λ x. tt) (call_by gen_app lawful_gen words) call)
       (either (bytes_eq name (codes "demo")) _ _ call (any demo (λ x. tt) (call_by demo_app lawful_demo words) call)
-      (λ e. absurd (let no-way : None ≡ Some call = e in cc)))))))))
+      (λ e. absurd (let no-way : None ≡ Some call = e in cc))))))))))
 
   by_first : (o : Option Text) → option_and_then (λ name. call_named name words) o ≡ Some call → HasNamesApart call
   by_first None e = absurd (let no-way : None ≡ Some call = e in cc)

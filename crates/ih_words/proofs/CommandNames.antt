@@ -19,6 +19,7 @@ pub record IsOther (name : Text) : Type 0 where
   pub replay : name ≡ codes "replay" → ⊥
   pub salvage : name ≡ codes "salvage" → ⊥
   pub check : name ≡ codes "check" → ⊥
+  pub chain : name ≡ codes "chain" → ⊥
   pub rounds : name ≡ codes "rounds" → ⊥
   pub advise : name ≡ codes "advise" → ⊥
   pub gen : name ≡ codes "gen" → ⊥
@@ -33,6 +34,7 @@ other_name words name first apart = rw (
   other name _ apart.replay,
   other name _ apart.salvage,
   other name _ apart.check,
+  other name _ apart.chain,
   other name _ apart.rounds,
   other name _ apart.advise,
   other name _ apart.gen,

@@ -3,6 +3,7 @@ use Rattle.std.proofs.Common.{◌≡◌, ℕ, [], ◌∷◌, ◌++◌, List, ref
 use Rattle.clap.specs.Words.{Text}
 use Rattle.clap.proofs.OnLiterals.{clap_on_literals}
 use Rattle.ih_words.specs.Advise.{advise_app}
+use Rattle.ih_words.specs.Chain.{chain_app}
 use Rattle.ih_words.specs.Check.{check_app}
 use Rattle.ih_words.specs.Demo.{demo_app}
 use Rattle.ih_words.specs.Distinct.{all_differ}
@@ -11,7 +12,7 @@ use Rattle.ih_words.specs.Matches.{has_no_fault}
 use Rattle.ih_words.specs.Replay.{replay_app}
 use Rattle.ih_words.specs.Rounds.{rounds_app}
 use Rattle.ih_words.specs.Solve.{solve_app}
-use Rattle.ih_words.specs.Words.{Call, call_of, check, demo, gen, replay, rounds, salvage, solve, advise}
+use Rattle.ih_words.specs.Words.{Call, call_of, chain, check, demo, gen, replay, rounds, salvage, solve, advise}
 
 -- solve i OUT j, the words of the seed, and the other options
 abbrev words_of : Text → List Text → Text → Text → List Text
@@ -212,6 +213,49 @@ rounds_with_a_freeze_day : call_of (rounds_words (codes "2") (codes "--rounds" �
 unfolding clap_on_literals call_of has_no_fault rounds_app all_differ
 rounds_with_a_freeze_day = refl
 
+-- chain i o j with the options of a small search, and further words
+abbrev chain_words : Text → List Text → List Text
+chain_words moves more = codes "chain" ∷ codes "i" ∷ codes "o" ∷ codes "j" ∷ (seed_words (codes "0")
+    ++ codes "--workers" ∷ codes "1" ∷ codes "--moves" ∷ moves ∷ codes "--heat" ∷ codes "0" ∷ codes "--hard" ∷ codes "1000" ∷ more)
+
+in_chains : call_of (chain_words (codes "125000") (codes "--length" ∷ codes "8" ∷ codes "--start" ∷ codes "s" ∷ codes "--fill" ∷ []))
+    ≡ Some (chain (record {
+      search = record {
+        instance = codes "i";
+        out = codes "o";
+        journal = codes "j";
+        options = record { seed = 0; workers = 1; moves = 125000; heat = 0; hard = 1000; retries = 0 };
+        start = record { file = Some (codes "s"); fill = true; freeze = 0 };
+      };
+      length = 8;
+    }))
+unfolding clap_on_literals call_of has_no_fault chain_app all_differ
+in_chains = refl
+
+chains_make_too_many_moves : call_of (chain_words (codes "125001") (codes "--length" ∷ codes "8" ∷ [])) ≡ None
+unfolding clap_on_literals call_of has_no_fault chain_app all_differ
+chains_make_too_many_moves = refl
+
+too_long_a_chain : call_of (chain_words (codes "2") (codes "--length" ∷ codes "9" ∷ [])) ≡ None
+unfolding clap_on_literals call_of has_no_fault chain_app all_differ
+too_long_a_chain = refl
+
+chains_of_nothing : call_of (chain_words (codes "2") (codes "--length" ∷ codes "0" ∷ [])) ≡ None
+unfolding clap_on_literals call_of has_no_fault chain_app all_differ
+chains_of_nothing = refl
+
+chains_without_their_length : call_of (chain_words (codes "2") []) ≡ None
+unfolding clap_on_literals call_of has_no_fault chain_app all_differ
+chains_without_their_length = refl
+
+chains_with_retries : call_of (chain_words (codes "2") (codes "--length" ∷ codes "2" ∷ codes "--retries" ∷ codes "0" ∷ [])) ≡ None
+unfolding clap_on_literals call_of has_no_fault chain_app all_differ
+chains_with_retries = refl
+
+chains_with_a_freeze_day : call_of (chain_words (codes "2") (codes "--length" ∷ codes "2" ∷ codes "--start" ∷ codes "s" ∷ codes "--freeze" ∷ codes "1" ∷ [])) ≡ None
+unfolding clap_on_literals call_of has_no_fault chain_app all_differ
+chains_with_a_freeze_day = refl
+
 generated : call_of (codes "gen" ∷ codes "+007" ∷ codes "o" ∷ []) ≡ Some (gen (record { number = 7; out = codes "o" }))
 unfolding clap_on_literals call_of has_no_fault gen_app all_differ
 generated = refl
@@ -253,6 +297,6 @@ option_of_another_command : call_of (codes "check" ∷ codes "i" ∷ codes "s" �
 unfolding clap_on_literals call_of has_no_fault check_app all_differ
 option_of_another_command = refl
 
-other_command : call_of (codes "chain" ∷ codes "0" ∷ []) ≡ None
+other_command : call_of (codes "chains" ∷ codes "0" ∷ []) ≡ None
 unfolding call_of
 other_command = refl

@@ -6,5 +6,6 @@ mod Examples
 mod Faults
 mod Getters
 mod GivenValues
+mod PlainValues
 mod RequiredValues
 pub mod CallNames

@@ -4,6 +4,7 @@ use Rattle.std.specs.Str.{bytes_eq}
 use Rattle.clap.specs.Words.{Text}
 use Rattle.ih_journal.specs.Settings.{IsLawful}
 use Rattle.ih_words.specs.Advise.{AdviseCall, IsLawfulAdvise, advise_app, advise_call, lawful_advise}
+use Rattle.ih_words.specs.Chain.{ChainCall, IsLawfulChain, chain_app, chain_call, lawful_chain}
 use Rattle.ih_words.specs.Check.{CheckCall, check_app, check_call, lawful_check}
 use Rattle.ih_words.specs.Demo.{demo_app, lawful_demo}
 use Rattle.ih_words.specs.Generate.{GenCall, gen_app, gen_call, lawful_gen}
@@ -12,7 +13,7 @@ use Rattle.ih_words.specs.Replay.{ReplayCall, lawful_replay, replay_app, replay_
 use Rattle.ih_words.specs.Rounds.{AreLawful, RoundsCall, lawful_rounds, rounds_app, rounds_call}
 use Rattle.ih_words.specs.Solve.{SolveCall, lawful_solve, solve_app, solve_call}
 use Rattle.ih_words.specs.declared.command.Command.{Command}
-use Rattle.ih_words.specs.declared.command.Command.TheVariants.{Check as CheckCommand, Demo as DemoCommand, Gen as GenCommand, Replay as ReplayCommand, Rounds as RoundsCommand, Salvage as SalvageCommand, Solve as SolveCommand, Advise as AdviseCommand}
+use Rattle.ih_words.specs.declared.command.Command.TheVariants.{Chain as ChainCommand, Check as CheckCommand, Demo as DemoCommand, Gen as GenCommand, Replay as ReplayCommand, Rounds as RoundsCommand, Salvage as SalvageCommand, Solve as SolveCommand, Advise as AdviseCommand}
 
 -- a call of one of the commands
 pub data Call : Type 0 where
@@ -20,6 +21,7 @@ pub data Call : Type 0 where
   replay : ReplayCall → Call
   salvage : ReplayCall → Call
   check : CheckCall → Call
+  chain : ChainCall → Call
   rounds : RoundsCall → Call
   advise : AdviseCall → Call
   gen : GenCall → Call
@@ -31,14 +33,17 @@ command_call (SolveCommand s) = solve (solve_call s)
 command_call (ReplayCommand r) = replay (replay_call r)
 command_call (SalvageCommand r) = salvage (replay_call r)
 command_call (CheckCommand c) = check (check_call c)
+command_call (ChainCommand c) = chain (chain_call c)
 command_call (RoundsCommand r) = rounds (rounds_call r)
 command_call (AdviseCommand a) = advise (advise_call a)
 command_call (GenCommand g) = gen (gen_call g)
 command_call (DemoCommand number) = demo number
 
--- The options of a search, where the command has them, are within their limits. Rounds freeze nothing and try nothing again.
+-- The options of a search, where the command has them, are within their limits. Rounds and chains freeze nothing and try
+-- nothing again.
 abbrev pub HasLawfulOptions : Command → Type 0
 HasLawfulOptions (SolveCommand s) = IsLawful s.options
+HasLawfulOptions (ChainCommand c) = IsLawfulChain c
 HasLawfulOptions (RoundsCommand r) = AreLawful r
 HasLawfulOptions (AdviseCommand a) = IsLawfulAdvise a
 HasLawfulOptions command = Unit {0}
@@ -49,11 +54,12 @@ call_named name words = if bytes_eq name (codes "solve") then option_map solve (
     else (if bytes_eq name (codes "replay") then option_map replay (call_by (replay_app (codes "replay")) lawful_replay words)
     else (if bytes_eq name (codes "salvage") then option_map salvage (call_by (replay_app (codes "salvage")) lawful_replay words)
     else (if bytes_eq name (codes "check") then option_map check (call_by check_app lawful_check words)
+    else (if bytes_eq name (codes "chain") then option_map chain (call_by chain_app lawful_chain words)
     else (if bytes_eq name (codes "rounds") then option_map rounds (call_by rounds_app lawful_rounds words)
     else (if bytes_eq name (codes "advise") then option_map advise (call_by advise_app lawful_advise words)
     else (if bytes_eq name (codes "gen") then option_map gen (call_by gen_app lawful_gen words)
     else (if bytes_eq name (codes "demo") then option_map demo (call_by demo_app lawful_demo words)
-    else None)))))))
+    else None))))))))
 
 -- the call that the words name, where they are lawful: the first word is the command's name
 unfoldable pub call_of : List Text → Option Call

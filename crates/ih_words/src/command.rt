@@ -3,13 +3,14 @@ ghost use Rattle.std.specs.Prelude.{◌≡◌, IfErr, IfOk, None, Some, map, str
 ghost use Rattle.ih_words.specs.Words.{HasLawfulOptions, call_of, command_call};
 
 use crate::advise::read_advise;
+use crate::chain::read_chain;
 use crate::check::read_check;
 use crate::demo::read_demo;
 use crate::generate::read_gen;
 use crate::replay::read_replay;
 use crate::rounds::read_rounds;
 use crate::solve::read_solve;
-use crate::{Advise, Check, Gen, Replay, Rounds, Solve, WordsError};
+use crate::{Advise, Chains, Check, Gen, Replay, Rounds, Solve, WordsError};
 use std::alloc::Global;
 
 /// A lawful command with its values.
@@ -23,6 +24,8 @@ pub enum Command<'a> {
     Salvage(Replay<'a>),
     /// Tells the costs of a solution.
     Check(Check<'a>),
+    /// Searches by chains of moves, and writes the journal and the best solution.
+    Chain(Chains<'a>),
     /// Searches several times, each time from the best of the search before, and writes the journals and the best solution.
     Rounds(Rounds<'a>),
     /// Tells the best single change of each choice of a solution.
@@ -41,7 +44,8 @@ pub enum Command<'a> {
 ///
 /// - `Unlawful` where no command has these words: the first word is no command's name, `clap` finds
 ///   a fault (a call for help is one), two file names are equal, a freeze day comes without the
-///   file of a start or with `--fill`, or the journals could come to more than `MAX_ENTRIES` entries.
+///   file of a start or with `--fill`, or the journals could come to more than `MAX_ENTRIES` entries,
+///   or chains to more moves than that.
 /// - `OutOfMemory` where memory ran out.
 #[tactic(auto, unfolding(crate::specs::Words::call_of))]
 pub fn read_words<'a>(alloc: Global, words: &'a [String]) -> Result<Command<'a>, WordsError>
@@ -57,6 +61,7 @@ pub fn read_words<'a>(alloc: Global, words: &'a [String]) -> Result<Command<'a>,
         "replay" => Ok(Command::Replay(read_replay(alloc, "replay", words)?)),
         "salvage" => Ok(Command::Salvage(read_replay(alloc, "salvage", words)?)),
         "check" => Ok(Command::Check(read_check(alloc, words)?)),
+        "chain" => Ok(Command::Chain(read_chain(alloc, words)?)),
         "rounds" => Ok(Command::Rounds(read_rounds(alloc, words)?)),
         "advise" => Ok(Command::Advise(read_advise(alloc, words)?)),
         "gen" => Ok(Command::Gen(read_gen(alloc, words)?)),

@@ -4,6 +4,7 @@
 
 mod advise;
 mod arguments;
+mod chain;
 mod check;
 mod command;
 mod demo;
@@ -11,12 +12,14 @@ mod error;
 mod file_names;
 mod generate;
 mod matches;
+mod plain;
 mod replay;
 mod rounds;
 mod solve;
 mod start;
 
 pub use advise::Advise;
+pub use chain::{Chains, MAX_LENGTH};
 pub use check::Check;
 pub use command::{Command, read_words};
 pub use error::WordsError;

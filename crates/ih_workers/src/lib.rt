@@ -1,12 +1,6 @@
-//! The workers of a search: each prices its draws on a replica of its own and offers them at a desk, all side by side.
+//! Searches by single moves: workers who each price their draws on a replica of their own and offer them at one desk.
 #![tactic(auto)]
 
-mod laws;
-mod passing;
-mod running;
-mod searcher;
-mod worker;
+mod moves;
 
-pub use laws::finished_searches_are_full;
-pub use running::run_workers;
-pub use worker::Worker;
+pub use moves::{Worker, run_workers, search};

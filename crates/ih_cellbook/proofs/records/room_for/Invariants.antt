@@ -4,4 +4,4 @@ use Rattle.ih_cellbook.proofs.records.room_for.Given as goal
 
 -- so many entries were written, in the reserved room
 abbrev pub invariant-loop : goal.invariant-loop
-invariant-loop l = (vec_len l.entries ≡ l.counter) × (vec_capacity l.entries ≡ l.most)
+invariant-loop g l = (vec_len l.entries ≡ l.counter) × (vec_capacity l.entries ≡ l.most)

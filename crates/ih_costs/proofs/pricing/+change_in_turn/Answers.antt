@@ -7,7 +7,7 @@ use Rattle.ih_plan.proofs.BillBounds.{change-within, within-more}
 use Rattle.ih_plan.proofs.PlanRanges.{put_all-plan}
 use Rattle.ih_costs.specs.CellLedgers.{AreLedgersOf, timetable_of}
 use Rattle.ih_costs.specs.Undo.{undo_of}
-use Rattle.ih_costs.proofs.ChangeSums.{change-then}
+use Rattle.ih_plan.proofs.ChangeSums.{change-then}
 use Rattle.ih_costs.proofs.StandLemmas.{kept, plan-fits}
 use Rattle.ih_costs.proofs.UndoLemmas.{undone, undo-write}
 use Rattle.ih_costs.proofs.pricing.+change_in_turn.Goals as goal

@@ -3,7 +3,7 @@ use Rattle.std.proofs.lemmas.List.{nil_from_length}
 use Rattle.ih_plan.specs.Writes.{put_all}
 use Rattle.ih_plan.specs.BillOf.{change_of_bill}
 use Rattle.ih_costs.specs.CellLedgers.{timetable_of}
-use Rattle.ih_costs.proofs.ChangeSums.{change-same}
+use Rattle.ih_plan.proofs.ChangeSums.{change-same}
 use Rattle.ih_costs.proofs.pricing.change_after.Goals as goal
 
 pub returns-in-None-clause-change : goal.returns-in-None-clause-change

@@ -1,7 +1,9 @@
 use Rattle.std.proofs.Common.{◌∙◌, sym, ap, subst, refl, [], ◌∷◌, length}
+use Rattle.std.proofs.lemmas.List.{length-map}
 use Rattle.ih_journal.specs.declared.settings.Options.{Options}
 use Rattle.ih_journal.specs.declared.refusals.Reason.TheVariants.{Grammar, Place}
 use Rattle.ih_journal.specs.Grammar.{IsLineOf}
+use Rattle.ih_journal.specs.Tried.{tried}
 use Rattle.ih_replay.proofs.taking.read.Goals as goal
 
 pub returns-in-Err-clause-err : goal.returns-in-Err-clause-err
@@ -23,5 +25,5 @@ returns-in-Ok-2-clause-err c =
       later = [];
       listed = refl;
       passed = ((c.in-Ok.place, c.in-Ok.entry, of), tt);
-      fails = λ all. let here = all c.in-Ok.place c.in-Ok.entry of in c.if-place-entries.false (here ∙ sym (ap length c.entries.ensures.entries));
+      fails = λ all. let here = all c.in-Ok.place c.in-Ok.entry of in c.if-place-entries.false (here ∙ (sym (ap length c.entries.ensures.entries) ∙ length-map c.entries.result.now tried));
     }

@@ -1,6 +1,7 @@
 use Rattle.std.proofs.Common.{◌<◌, ◌≤◌, arith, subst}
 use Rattle.std.proofs.lemmas.Result.{err_from_is_err_and, IfErr-weaker}
 use Rattle.ih_journal.specs.declared.settings.Options.{Options}
+use Rattle.ih_journal.specs.Tried.{tried}
 use Rattle.ih_replay.proofs.Going.{worker-at}
 use Rattle.ih_replay.proofs.Passing.{replayed-by}
 use Rattle.ih_replay.proofs.Refusing.{refused-entry, refused-extra, refused-read, refused-worker}
@@ -29,7 +30,7 @@ returns-clause-kept c =
     let v = c.args.book.now in
     let known = c.if-entry-options.false in
     let below : c.in_ok-entry.entry.worker < c.args.options.now.workers = omega (arith, known) in
-    replayed-by v.base c.take_entry.new.book.base v.entries c.take_entry.new.book.entries c.args.workers.now c.in_ok-entry.entry c.take_entry.new.worker c.take_entry.result c.requires.kept
+    replayed-by v.base c.take_entry.new.book.base v.entries c.take_entry.new.book.entries c.args.workers.now (tried c.in_ok-entry.entry) c.take_entry.new.worker c.take_entry.result c.requires.kept
     (subst (λ (o : Options). c.in_ok-entry.entry.worker < o.workers) c.requires.options below) c.take_entry.ensures.base c.take_entry.ensures.kept c.take_entry.ensures.legal c.take_entry.ensures.added c.take_entry.ensures.same
 
 pub returns-clause-err : goal.returns-clause-err

@@ -1,5 +1,5 @@
 use Rattle.std.proofs.Common.{◌≡◌}
-use Rattle.ih_snapshot.specs.Replicas.{IsReplicaIn}
+use Rattle.ih_cellbook.specs.Replicas.{IsReplicaIn}
 use Rattle.ih_search_trials.proofs.snapshot.act_all.Given as goal
 
 -- both replicas follow the book

@@ -1,4 +1,7 @@
-use Rattle.std.proofs.Common.{refl}
+use Rattle.std.proofs.Common.{refl, subst, sym}
+use Rattle.ih_journal.specs.Legal.{AreLegal}
+use Rattle.ih_journal.specs.Tried.{tried, tries}
+use Rattle.ih_journal.proofs.Mapped.{map-more}
 use Rattle.ih_journal.proofs.Growth.{legal-more}
 use Rattle.ih_top.proofs.TakenLines.{begins-refused, begins-unended, joins-more, joins-none, legal-nothing, refused-end, refused-line}
 use Rattle.ih_top.proofs.journals.take_lines.Goals as goal
@@ -17,7 +20,8 @@ loop-line-preserved c =
     let taken = c.in-Ok.ensures.taken in
     rw taken.2 (record {
       base = c.loop-line.invariant.base;
-      legal = legal-more b H taken.0 c.loop-line.invariant.legal taken.1.legal;
+      legal = subst (AreLegal b 1) (sym (map-more tried H taken.0))
+          (legal-more b 1 (tries H) (tried taken.0) c.loop-line.invariant.legal taken.1.legal);
       joins = joins-more b H c.args.bytes.now c.loop-line.rest.now c.in-Some.line.now c.in-Some.more.now taken.0 c.loop-line.invariant.joins c.in-Some.ensures.some taken.1;
     })
 

@@ -13,6 +13,7 @@ returns-in_default-as_str-clause-unlawful c = λ e. other_name _ c.as_str.result
       replay = c.in_default-as_str.not-replay;
       salvage = c.in_default-as_str.not-salvage;
       check = c.in_default-as_str.not-check;
+      chain = c.in_default-as_str.not-chain;
       rounds = c.in_default-as_str.not-rounds;
       advise = c.in_default-as_str.not-advise;
       gen = c.in_default-as_str.not-gen;

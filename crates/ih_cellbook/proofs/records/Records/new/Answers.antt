@@ -8,10 +8,10 @@ use Rattle.ih_cellbook.proofs.Kept.{kept-none}
 use Rattle.ih_cellbook.proofs.records.Records.new.Goals as goal
 
 pub with_place-requires : goal.with_place-requires
-with_place-requires c = subst (IsWithin (10 ^ 11)) (sym c.requires.first) (bill-within c.args.inst.now.draft c.args.start.now c.args.inst.now.valid c.requires.start)
+with_place-requires g c = subst (IsWithin (10 ^ 11)) (sym c.requires.first) (bill-within c.args.inst.now.draft c.args.start.now c.args.inst.now.valid c.requires.start)
 
 pub invariant_of-result : goal.invariant_of-result
-invariant_of-result c =
+invariant_of-result g c =
     let none = c.in_ok-entries.ensures.none in
     let room = c.in_ok-entries.ensures.room in (
       rw none (kept-none (base_with c.args.inst.now.draft c.args.start.now c.args.options.now c.args.freeze) _ _ _ _
@@ -21,4 +21,5 @@ invariant_of-result c =
           c.requires.first
           c.with_place.ensures),
       omega (arith, room),
+      c.requires.retries,
     )

@@ -5,7 +5,7 @@ use Rattle.ih_plan.specs.Writes.{put}
 use Rattle.ih_plan.specs.BillOf.{change_of_bill}
 use Rattle.ih_plan.proofs.PlanRanges.{choice-inside}
 use Rattle.ih_costs.specs.CellLedgers.{timetable_of}
-use Rattle.ih_costs.proofs.ChangeSums.{change-same}
+use Rattle.ih_plan.proofs.ChangeSums.{change-same}
 use Rattle.ih_costs.proofs.ChoiceBills.{choice-priced, other-number}
 use Rattle.ih_costs.proofs.StandLemmas.{plan-fits}
 use Rattle.ih_costs.proofs.UndoLemmas.{choice-again}

@@ -6,7 +6,8 @@ use Rattle.ih_plan.specs.Writes.{put}
 use Rattle.ih_plan.specs.BillOf.{change_of_bill}
 use Rattle.ih_costs.specs.CellLedgers.{timetable_of}
 use Rattle.ih_costs.specs.StayGain.{stay_gain}
-use Rattle.ih_costs.proofs.ChangeSums.{change-same, less-within}
+use Rattle.ih_plan.proofs.ChangeSums.{change-same}
+use Rattle.ih_costs.proofs.ChangeSums.{less-within}
 use Rattle.ih_costs.proofs.GainBills.{two-stays, stay-again}
 use Rattle.ih_costs.proofs.StandLemmas.{plan-fits}
 use Rattle.ih_costs.proofs.cell_ledgers.CellLedgers.stay_price.Goals as goal

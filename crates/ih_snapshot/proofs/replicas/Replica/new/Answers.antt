@@ -8,7 +8,7 @@ use Rattle.ih_snapshot.proofs.Empty.{stands-empty}
 use Rattle.ih_snapshot.proofs.replicas.Replica.new.Goals as goal
 
 pub returns-clause-replica : goal.returns-clause-replica
-returns-clause-replica c =
+returns-clause-replica g c =
     let I = c.args.inst.now.draft in
     stands-empty (base_with I c.args.start.now c.args.options.now c.args.freeze) _
     (record { start = c.requires.start; lawful = c.requires.lawful })
@@ -16,5 +16,5 @@ returns-clause-replica c =
     refl
     (ap (λ (s : Standing). s.plan) c.in_ok-new.ensures)
     (c.in_ok-vec.ensures.items_if_clones_equal (λ y e. e) ∙ ap (λ n. replicate n 0) (c.count-cells.ensures.count ∙ ap count_in c.of-numbering.ensures))
-    c.in_ok-first_offer.ensures.seen
-    (ap (λ (v : Noted). v.pairs) c.in_ok-first_offer.ensures.reads)
+    c.in_ok-blank.ensures.seen
+    (ap (λ (v : Noted). v.pairs) c.in_ok-blank.ensures.reads)

@@ -1,23 +1,18 @@
-use Rattle.std.proofs.Common.{◌≡◌, ◌∙◌, [], refl, ap, sym, subst, Bool}
-use Rattle.std.specs.Prelude.{if◌then◌else◌}
+use Rattle.std.proofs.Common.{◌≡◌, ◌∙◌, refl, ap, sym, subst}
 use Rattle.ih_cellbook.specs.Offers.{IsRightOffer}
-use Rattle.ih_snapshot.specs.Noting.{offer_of, offer_with, reads_of}
-use Rattle.ih_snapshot.specs.Replicas.{IsReplicaOf, IsOfferAfter}
-use Rattle.ih_snapshot.specs.Snapshot.{Snapshot}
+use Rattle.ih_snapshot.specs.Noting.{offer_of}
+use Rattle.ih_cellbook.specs.Replicas.{IsReplicaOf, IsOfferAfter}
+use Rattle.ih_cellbook.specs.Snapshot.{Snapshot}
 use Rattle.ih_snapshot.proofs.Pricing.{offer-after, offer-right, stands-priced}
 use Rattle.ih_snapshot.proofs.replicas.Replica.price.Goals as goal
 
 pub returns : goal.returns
-returns c =
+returns g c =
     let r = c.args.self.now in
     let n = c.args.number in
-    let m = c.args.mv.now in
-    let priced : c.read.new.self ≡ record r { last = offer_of r n m } =
-    c.read.ensures
-    ∙ ap (λ (s : Snapshot). record s { last = record s.last { reads = record s.last.reads { pairs = if c.fill-compared.result then reads_of s m else s.last.reads.pairs } } })
-    c.fill-compared.ensures.made
-    ∙ ap (λ (t : Bool). record r { last = offer_with r n m (if t then reads_of r m else []) }) c.fill-compared.ensures.compared in
-    let made : c.last.result.now ≡ offer_of r n m = c.last.ensures ∙ ap (λ (s : Snapshot). s.last) priced in (
+    let m = g.E.Attempt.Attempted.moves c.args.attempt.now in
+    let priced = c.make.ensures in
+    let made : g.E.Offer.Offers.offered c.last.result.now ≡ offer_of r n m = c.last.ensures ∙ ap (λ (s : Snapshot). s.last) priced in (
       (
         refl,
         λ x. tt,

@@ -1,0 +1,6 @@
+use Rattle.std.proofs.Common.{length}
+use Rattle.ih_cellbook.proofs.singles.+any_frozen.Given as goal
+
+-- the writes that are left
+abbrev pub decreases-any_frozen : goal.decreases-any_frozen
+decreases-any_frozen l = length l.writes.now

@@ -1,0 +1,15 @@
+-- Offers, whatever type keeps them.
+use Rattle.std.specs.Prelude.{ℕ, List, Bool}
+use Rattle.ih_tables.specs.declared.bills.Bill.{Bill}
+use Rattle.ih_plan.specs.declared.moves.Move.{Move}
+use Rattle.ih_cellbook.specs.Noted.{Noted}
+
+-- A worker's next attempt, priced on a copy of what the book had.
+pub record Offered : Type 0 where
+  pub worker : ℕ
+  pub number : ℕ
+  pub seen : ℕ
+  pub moves : List Move
+  pub price : Bill
+  pub reads : Noted
+  pub frozen : Bool

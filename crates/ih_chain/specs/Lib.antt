@@ -1,0 +1,6 @@
+pub mod Chains
+pub mod Entries
+pub mod Laws
+pub mod Lending
+pub mod Runs
+pub mod Texts

@@ -1,0 +1,104 @@
+//! A worker's own copy of a search by chains.
+
+ghost use Rattle.std.specs.Prelude.{◌≡◌, [], IfOk};
+
+use crate::chains::Chain;
+use crate::entries::{ChainEntry, ChainOffer};
+use ih_cellbook::Replicates;
+use ih_journal::Options;
+use ih_plan::Plan;
+use ih_snapshot::Replica;
+use ih_tables::Instance;
+use std::alloc::{AllocError, Global};
+use std::marker::Model;
+
+/// One worker's own copy of a search by chains: the timetable after the entries that it has seen, with ledgers that price
+/// chains there, and each cell's version. After `new` no call takes memory.
+#[derive(Drop)]
+pub struct ChainReplica<'a> {
+    replica: Replica<'a, ChainEntry>,
+}
+
+impl<'a> Model for ChainReplica<'a> {
+    ghost use Rattle.ih_cellbook.specs.Snapshot.{Snapshot};
+
+    ghost Value = { Snapshot };
+
+    ghost view = { λ r. r.replica };
+}
+
+impl<'a> ChainReplica<'a> {
+    ghost use Rattle.std.specs.Borrow.{sem};
+    ghost use Rattle.ih_plan.specs.Timetable.{IsPlanOf};
+    ghost use Rattle.ih_plan.specs.Series.{AreMoves};
+    ghost use Rattle.ih_journal.specs.Settings.{IsLawful};
+    ghost use Rattle.ih_cellbook.specs.Keeping.{base_with};
+    ghost use Rattle.ih_cellbook.specs.Replicas.{IsOfferOf, IsReplicaOf, IsRightFor, MayFollow, StandsAfter, StandsAs};
+    ghost use Rattle.ih_chain.specs.Entries.{chain_offered, chain_tries};
+    ghost use Rattle.ih_chain.specs.Lending.{RestsAs};
+
+    /// A worker's replica of a search over a start, which fits the instance. It stands for the empty history.
+    pub fn new(
+        alloc: Global,
+        inst: &'a Instance,
+        start: &Plan,
+        options: &Options,
+        worker: u32,
+    ) -> Result<ChainReplica<'a>, AllocError>
+        requires start { IsPlanOf inst.now.draft start.now }
+        requires lawful { IsLawful options.now }
+        ensures replica { IfOk result (λ r. IsReplicaOf (base_with inst.entry.now.draft start.now options.now 0) [] r) }
+        ensures worker { IfOk result (λ r. r.worker ≡ worker) }
+    {
+        let replica = Replica::new(alloc, inst, start, options, 0, worker)?;
+        Ok(ChainReplica { replica })
+    }
+
+    /// Takes over the entries that follow those that it stands for.
+    pub fn advance(&mut self, entries: &[ChainEntry])
+        requires follow { MayFollow self.old (chain_tries entries.now) }
+        ensures replica { StandsAfter self.old (chain_tries entries.now) self.new }
+        ensures base { self.new.base ≡ self.old.base }
+        ensures worker { self.new.worker ≡ self.old.worker }
+    {
+        self.replica.advance(entries);
+    }
+
+    /// How many entries it stands for.
+    pub fn seen(&self) -> u32
+        ensures { result ≡ self.now.seen }
+    {
+        self.replica.seen()
+    }
+
+    /// The offer of its worker for a chain of this number, priced after the entries that it stands for. Where the price's
+    /// score is at most what the number may cost, the offer has the cells of the chain's footprint there, each with its
+    /// version, and else none. The chain is made on the ledgers and taken back.
+    pub fn price(&mut self, moves: &Chain, number: u32) -> &ChainOffer
+        requires { AreMoves self.old.base.instance moves.now }
+        ensures offer { IsOfferOf self.old number moves.now (chain_offered result.now) }
+        ensures right { IsRightFor self.old number (chain_offered result.now) }
+        ensures* same { sem 𝓛 (RestsAs self.entry (λ r. (r.base ≡ self.old.base) × (r.worker ≡ self.old.worker) × StandsAs self.old r)) }
+    {
+        self.make(moves, number);
+        self.last()
+    }
+
+    // Makes the offer for a chain of this number the last one.
+    fn make(&mut self, moves: &Chain, number: u32)
+        requires { AreMoves self.old.base.instance moves.now }
+        ensures offer { IsOfferOf self.old number moves.now self.new.last }
+        ensures right { IsRightFor self.old number self.new.last }
+        ensures base { self.new.base ≡ self.old.base }
+        ensures worker { self.new.worker ≡ self.old.worker }
+        ensures same { StandsAs self.old self.new }
+    {
+        Replicates::price(&mut self.replica, moves, number);
+    }
+
+    fn last(&self) -> &ChainOffer
+        ensures { chain_offered result.now ≡ self.now.last }
+    {
+        Replicates::last(&self.replica)
+    }
+}

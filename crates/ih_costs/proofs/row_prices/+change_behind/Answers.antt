@@ -1,0 +1,127 @@
+use Rattle.std.proofs.Common.{◌≡◌, ◌∷◌, [], ◌^◌, ◌∙◌, sym, ap, subst, arith, length}
+use Rattle.std.proofs.lemmas.List.{nil_from_length}
+use Rattle.ih_tables.specs.Bills.{add_bills}
+use Rattle.ih_plan.specs.Writes.{put, put_all, AreWritesOf}
+use Rattle.ih_plan.specs.Expand.{after, expand}
+use Rattle.ih_plan.specs.BillOf.{change_of_bill}
+use Rattle.ih_plan.proofs.BillBounds.{change-within, within-more}
+use Rattle.ih_plan.proofs.PlanRanges.{after-plan, expand-writes}
+use Rattle.ih_plan.specs.Series.{AreMoves, after_all, price_of_all}
+use Rattle.ih_plan.proofs.Series.{after_all-plan}
+use Rattle.ih_costs.specs.CellLedgers.{AreLedgersOf, timetable_of}
+use Rattle.ih_costs.specs.Undo.{undo_of}
+use Rattle.ih_plan.proofs.ChangeSums.{change-then}
+use Rattle.ih_costs.proofs.RowLemmas.{price-more, price-none, single-price}
+use Rattle.ih_costs.proofs.StandLemmas.{kept, plan-fits, stands-own}
+use Rattle.ih_costs.proofs.UndoLemmas.{undone, undo-write}
+use Rattle.ih_costs.proofs.row_prices.+change_behind.Goals as goal
+
+pub put-requires-in-Some-clause-write : goal.put-requires-in-Some-clause-write
+put-requires-in-Some-clause-write t c =
+    let I = c.args.inst.now.draft in
+    let P = timetable_of c.args.ledgers.now in
+    let behind : AreWritesOf I (c.in-Some.w.now ∷ c.in-Some.rest.now) = subst (AreWritesOf I) c.in-Some.ensures.cases.0 c.requires.behind in
+    rw (c.undo_of-undo.ensures, c.plan.ensures) (undo-write I P c.in-Some.w.now (plan-fits I P c.args.ledgers.now c.requires.stands) behind.0)
+
+pub returns-in-Some-clause-stands : goal.returns-in-Some-clause-stands
+returns-in-Some-clause-stands t c =
+    let I = c.args.inst.now.draft in
+    let P = timetable_of c.args.ledgers.now in
+    let w = c.in-Some.w.now in
+    let made : timetable_of c.change_behind-change.new.ledgers ≡ put w P =
+    kept I (timetable_of c.put.new.self) c.change_behind-change.new.ledgers c.change_behind-change.ensures.stands
+    ∙ kept I (put w P) c.put.new.self c.put.ensures in
+    let undo : c.undo_of-undo.result ≡ undo_of P w = c.undo_of-undo.ensures ∙ ap (λ Q. undo_of Q w) c.plan.ensures in
+    subst (λ Q. AreLedgersOf I Q c.put-in-Some.new.self)
+    (ap (put c.undo_of-undo.result) made ∙ (ap (λ u. put u (put w P)) undo ∙ undone P w)) c.put-in-Some.ensures
+
+pub returns-in-Some-clause-change : goal.returns-in-Some-clause-change
+returns-in-Some-clause-change t c =
+    let I = c.args.inst.now.draft in
+    let P = timetable_of c.args.ledgers.now in
+    let made = kept I (put c.in-Some.w.now P) c.put.new.self c.put.ensures in
+    c.change_behind-change.ensures.change
+    ∙ (ap (λ Q. price_of_all I (put_all c.in-Some.rest.now Q) c.args.moves.now) made
+    ∙ ap (λ ws. price_of_all I (put_all ws P) c.args.moves.now) (sym c.in-Some.ensures.cases.0))
+
+pub returns-in-None-split_first-clause-change : goal.returns-in-None-split_first-clause-change
+returns-in-None-split_first-clause-change t c =
+    let none : c.args.moves.now ≡ [] = nil_from_length c.args.moves.now c.in-None-split_first.ensures.cases in
+    c.zero.ensures ∙ price-none c.args.inst.now.draft _ c.args.moves.now none
+
+-- the change of the first move, and of the others behind it
+pub add-requires : goal.add-requires
+add-requires t c =
+    let I = c.args.inst.now.draft in
+    let P = timetable_of c.args.ledgers.now in
+    let m = c.in-Some-split_first.mv.now in
+    let ms = c.in-Some-split_first.later.now in
+    let L = c.price_of-here.new.ledgers in
+    let valid = c.args.inst.now.valid in
+    let plan = plan-fits I P c.args.ledgers.now c.requires.stands in
+    let fits : AreMoves I (m ∷ ms) = subst (AreMoves I) c.in-Some-split_first.ensures.cases.0 c.requires.moves in
+    let same : timetable_of L ≡ P = kept I P L c.price_of-here.ensures.stands in
+    let made : put_all c.as_slice.result.now (timetable_of L) ≡ after I P m =
+    ap (λ ws. put_all ws (timetable_of L))
+    (c.as_slice.ensures ∙ (c.expand.ensures.made ∙ ap (λ Q. expand I Q m) (c.plan-in-Some-split_first.ensures ∙ same)))
+    ∙ ap (put_all (expand I P m)) same in
+    let further : c.change_behind-further.result ≡ price_of_all I (after I P m) ms =
+    c.change_behind-further.ensures.change ∙ ap (λ Q. price_of_all I Q ms) made in
+    rw (c.price_of-here.ensures.price, further, change-then I P (after I P m) (after_all I (after I P m) ms))
+    (within-more (10 ^ 11) (10 ^ 12) (change_of_bill I P (after_all I (after I P m) ms)) (omega arith)
+    (change-within I P (after_all I (after I P m) ms) valid plan (after_all-plan I (after I P m) ms (after-plan I P m plan fits.0) fits.1)))
+
+pub returns-else-later-eq0-clause-change : goal.returns-else-later-eq0-clause-change
+returns-else-later-eq0-clause-change t c =
+    let I = c.args.inst.now.draft in
+    let P = timetable_of c.args.ledgers.now in
+    let m = c.in-Some-split_first.mv.now in
+    let ms = c.in-Some-split_first.later.now in
+    let L = c.price_of-here.new.ledgers in
+    let none : c.args.behind.now ≡ [] = nil_from_length c.args.behind.now c.in-None.ensures.cases in
+    let same : timetable_of L ≡ P = kept I P L c.price_of-here.ensures.stands in
+    let made : put_all c.as_slice.result.now (timetable_of L) ≡ after I P m =
+    ap (λ ws. put_all ws (timetable_of L))
+    (c.as_slice.ensures ∙ (c.expand.ensures.made ∙ ap (λ Q. expand I Q m) (c.plan-in-Some-split_first.ensures ∙ same)))
+    ∙ ap (put_all (expand I P m)) same in
+    let further : c.change_behind-further.result ≡ price_of_all I (after I P m) ms =
+    c.change_behind-further.ensures.change ∙ ap (λ Q. price_of_all I Q ms) made in
+    c.add.ensures
+    ∙ (ap (λ b. add_bills b c.change_behind-further.result) c.price_of-here.ensures.price
+    ∙ (ap (add_bills (change_of_bill I P (after I P m))) further
+    ∙ (price-more I P m ms
+    ∙ (ap (price_of_all I P) (sym c.in-Some-split_first.ensures.cases.0)
+    ∙ ap (λ ws. price_of_all I (put_all ws P) c.args.moves.now) (sym none)))))
+
+-- a last move isn't made
+pub returns-then-later-eq0-clause-change : goal.returns-then-later-eq0-clause-change
+returns-then-later-eq0-clause-change t c =
+    let I = c.args.inst.now.draft in
+    let P = timetable_of c.args.ledgers.now in
+    let m = c.in-Some-split_first.mv.now in
+    let none : c.args.behind.now ≡ [] = nil_from_length c.args.behind.now c.in-None.ensures.cases in
+    let last : c.in-Some-split_first.later.now ≡ [] = nil_from_length c.in-Some-split_first.later.now c.if-later-eq0.true in
+    c.price_of-here.ensures.price
+    ∙ (single-price I P m c.args.moves.now (c.in-Some-split_first.ensures.cases.0 ∙ ap (λ ms. m ∷ ms) last)
+    ∙ ap (λ ws. price_of_all I (put_all ws P) c.args.moves.now) (sym none))
+
+pub change_behind-further-requires : goal.change_behind-further-requires
+change_behind-further-requires t c =
+    let I = c.args.inst.now.draft in
+    let P = timetable_of c.args.ledgers.now in
+    let m = c.in-Some-split_first.mv.now in
+    let L = c.price_of-here.new.ledgers in
+    let fits : AreMoves I (m ∷ c.in-Some-split_first.later.now) = subst (AreMoves I) c.in-Some-split_first.ensures.cases.0 c.requires.moves in
+    let same : timetable_of L ≡ P = kept I P L c.price_of-here.ensures.stands in
+    let made : c.as_slice.result.now ≡ expand I P m =
+    c.as_slice.ensures ∙ (c.expand.ensures.made ∙ ap (λ Q. expand I Q m) (c.plan-in-Some-split_first.ensures ∙ same)) in
+    let few = c.expand.ensures.few in
+    let short = ap length c.as_slice.ensures in
+    let more = ap length c.in-Some-split_first.ensures.cases.0 in
+    let less = c.decreases in (
+      omega (arith, few, short, more, less),
+      (
+        stands-own I P L c.price_of-here.ensures.stands,
+        (subst (AreWritesOf I) (sym made) (expand-writes I P m (plan-fits I P c.args.ledgers.now c.requires.stands) fits.0), fits.1),
+      ),
+    )

@@ -1,0 +1,6 @@
+use Rattle.std.proofs.Common.{length}
+use Rattle.ih_costs.proofs.rows.+play_in_row.Given as goal
+
+-- the moves that are left
+abbrev pub decreases-play_in_row : goal.decreases-play_in_row
+decreases-play_in_row l = length l.moves.now

@@ -1,0 +1,60 @@
+//! The footprint of moves in a row: each move's is gathered at the timetable where it would be made.
+
+ghost use Rattle.std.specs.Prelude.{◌≡◌};
+ghost use Rattle.ih_tables.specs.Sizes.{sizes_of};
+ghost use Rattle.ih_plan.specs.Writes.{put_all, AreWritesOf};
+ghost use Rattle.ih_footprint.specs.Gathered.{Gathers};
+ghost use Rattle.ih_plan.specs.Series.{AreMoves, all_touch};
+ghost use Rattle.ih_costs.specs.CellLedgers.{AreLedgers, AreLedgersOf, timetable_of};
+
+use crate::cell_ledgers::CellLedgers;
+use crate::feet::gather_move;
+use crate::pricing::undo_of;
+use ih_footprint::{CellList, CellSet};
+use ih_moves::{Writes, expand};
+use ih_plan::{Move, Write};
+use ih_tables::Instance;
+
+/// Gathers the footprints of moves in a row, behind some writes: these are made first, and taken back in the end.
+/// Each move but the last is made too, so that the next one's cells are gathered behind it. `writes` is room for the
+/// writes of one move, and `looked` for the cells that they are chosen by.
+pub fn gather_behind(
+    inst: &Instance,
+    ledgers: &mut CellLedgers,
+    behind: &[Write],
+    moves: &[Move],
+    writes: &mut Writes,
+    set: &mut CellSet,
+    looked: &mut CellList,
+)
+    requires stands { AreLedgers inst.now.draft ledgers.old }
+    requires behind { AreWritesOf inst.now.draft behind.now }
+    requires moves { AreMoves inst.now.draft moves.now }
+    requires set { set.old.sizes ≡ sizes_of inst.now.draft }
+    requires sizes { looked.old.sizes ≡ sizes_of inst.now.draft }
+    ensures stands { AreLedgersOf inst.now.draft (timetable_of ledgers.old) ledgers.new }
+    ensures gathers { Gathers set.old set.new
+        (all_touch inst.now.draft (put_all behind.now (timetable_of ledgers.old)) moves.now) }
+    ensures sizes { looked.new.sizes ≡ looked.old.sizes }
+{
+    match behind.split_first() {
+        Some((w, rest)) => {
+            let undo = undo_of(inst, ledgers.plan(), w);
+            ledgers.put(inst, w);
+            gather_behind(inst, ledgers, rest, moves, writes, set, looked);
+            ledgers.put(inst, &undo);
+        }
+        None => match moves.split_first() {
+            None => {}
+            Some((mv, later)) => {
+                gather_move(inst, ledgers, writes, set, mv, looked);
+                if later.len() == 0 {
+                    return;
+                }
+                let mut made = Writes::new();
+                expand(inst, ledgers.plan(), mv, &mut made);
+                gather_behind(inst, ledgers, made.as_slice(), later, writes, set, looked);
+            }
+        },
+    }
+}

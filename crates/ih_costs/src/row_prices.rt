@@ -1,0 +1,51 @@
+//! What moves in a row change in the bill: each is priced where it would be made.
+
+ghost use Rattle.std.specs.Prelude.{◌≡◌};
+ghost use Rattle.ih_plan.specs.Writes.{put_all, AreWritesOf};
+ghost use Rattle.ih_plan.specs.Series.{AreMoves, price_of_all};
+ghost use Rattle.ih_costs.specs.CellLedgers.{AreLedgers, AreLedgersOf, timetable_of};
+
+use crate::cell_ledgers::CellLedgers;
+use crate::pricing::{price_of, undo_of};
+use ih_moves::{Writes, expand};
+use ih_plan::{Move, Write};
+use ih_tables::{Bill, Instance};
+
+/// What moves in a row change in the bill, behind some writes: these are made first, and taken back in the end. Each
+/// move but the last is made too, so that the next is priced behind it. `writes` is room for the writes of one move.
+pub fn change_behind(
+    inst: &Instance,
+    ledgers: &mut CellLedgers,
+    behind: &[Write],
+    moves: &[Move],
+    writes: &mut Writes,
+) -> Bill
+    requires stands { AreLedgers inst.now.draft ledgers.old }
+    requires behind { AreWritesOf inst.now.draft behind.now }
+    requires moves { AreMoves inst.now.draft moves.now }
+    ensures stands { AreLedgersOf inst.now.draft (timetable_of ledgers.old) ledgers.new }
+    ensures change { result ≡ price_of_all inst.now.draft (put_all behind.now (timetable_of ledgers.old)) moves.now }
+{
+    match behind.split_first() {
+        Some((w, rest)) => {
+            let undo = undo_of(inst, ledgers.plan(), w);
+            ledgers.put(inst, w);
+            let change = change_behind(inst, ledgers, rest, moves, writes);
+            ledgers.put(inst, &undo);
+            change
+        }
+        None => match moves.split_first() {
+            None => Bill::zero(),
+            Some((mv, later)) => {
+                let here = price_of(inst, ledgers, writes, mv);
+                if later.len() == 0 {
+                    return here;
+                }
+                let mut made = Writes::new();
+                expand(inst, ledgers.plan(), mv, &mut made);
+                let further = change_behind(inst, ledgers, made.as_slice(), later, writes);
+                here.add(&further)
+            }
+        },
+    }
+}

@@ -1,0 +1,153 @@
+-- What comes after an attempt: the next try of its move, or the next move.
+use Rattle.std.proofs.Common.{◌≡◌, ℕ, zero, suc, ◌+◌, ◌<◌, ◌≤◌, sym, ap, ◌∙◌, subst, refl, arith, inl, inr, Bool, true, false, List, [], ◌∷◌, ◌++◌, append_assoc, Option, Some, None}
+use Rattle.std.specs.Prelude.{◌⊎◌, ◌&&◌, ◌==◌, not, if◌then◌else◌, option_map, slice_get}
+use Rattle.std.proofs.lemmas.Bool.{cases_eq, eq-eqb, ne_eqb}
+use Rattle.std.proofs.lemmas.Bool.Decides.{nat_tests}
+use Rattle.ih_plan.specs.declared.moves.Move.{Move}
+use Rattle.ih_plan.specs.Draws.{state_after, stream_at, stream_state}
+use Rattle.ih_journal.specs.Tried.{Tried}
+use Rattle.ih_journal.specs.declared.entries.Verdict.{Verdict}
+use Rattle.ih_journal.specs.declared.settings.Options.{Options}
+use Rattle.ih_journal.specs.Attempts.{Attempt, HasMade, attempt_after, is_done, is_done_after, is_retried, is_stale, last_by, next_attempt}
+use Rattle.ih_journal.specs.Base.{Base}
+use Rattle.ih_journal.specs.Legal.{attempt_of}
+use Rattle.ih_journal.proofs.Growth.{last_by-own}
+use Rattle.ih_cellbook.specs.Laws.{HasNoneBy}
+use Rattle.ih_cellbook.specs.Offered.{Offered}
+use Rattle.ih_cellbook.specs.Offers.{entry_of, next_number}
+use Rattle.ih_cellbook.proofs.Staying.{last_by-others}
+use Rattle.ih_cellbook.proofs.LastEntries.{next-is, none-last}
+use Rattle.ih_desk.specs.Histories.{EndsWith, GoesOn}
+use Rattle.ih_desk.specs.Finishing.{AreDrawn}
+use Rattle.ih_desk.specs.Progress.{Progress}
+use Rattle.ih_desk.specs.Searchers.{HasAttempted, IsNext, IsWithin}
+use Rattle.ih_desk.proofs.Full.{drawn-others, get-append, none-both}
+
+-- a searcher that goes on, named by what it was before
+pub same-within : (b : Base) (each earlier w n : ℕ) (H : List Tried) (x : Progress) → each ≡ earlier → w ≡ n → IsWithin b each w H x → IsWithin b earlier n H x
+same-within b each earlier w n H x same number within = subst (λ e. IsWithin b e n H x) same (subst (λ v. IsWithin b each v H x) number within)
+
+-- a worker that isn't done has moves to make
+some-moves : (o : Options) (l : Option Tried) → is_done_after o l ≡ false → (o.moves == 0) ≡ false
+some-moves o None more = more
+some-moves o (Some e) more = elim (cases_eq o.moves 0) [
+  | inl none ↦ absurd (let always : is_done_after o (Some e) ≡ true = rw (eq-eqb o.moves 0 none) refl in let no : true ≡ false = sym always ∙ more in cc)
+  | inr some ↦ ne_eqb o.moves 0 some
+]
+
+pub next-begun : (o : Options) (H : List Tried) (w n : ℕ) → HasMade o H w n → n < o.moves → IsNext o H w n 0
+next-begun o H w n made below = record { attempt = made.attempt; not_done = made.done ∙ ne_eqb o.moves n (λ e. omega arith) }
+
+pub next-number : (o : Options) (H : List Tried) (w n again : ℕ) → IsNext o H w n again → next_number o H w ≡ Some n
+next-number o H w n again next = next-is o H w n (last_by w H) refl next.not_done (ap (λ (a : Attempt). a.number) next.attempt)
+
+and-not : (t : Bool) → (t && not true) ≡ false
+and-not true = refl
+and-not false = refl
+
+and-true : (t : Bool) → (t && true) ≡ t
+and-true true = refl
+and-true false = refl
+
+same-test : (m n : ℕ) → (m == n) ≡ (n == m)
+same-test m n = elim (cases_eq m n) [
+  | inl same ↦ rw (eq-eqb m n same, eq-eqb n m (sym same)) refl
+  | inr other ↦ rw (ne_eqb m n other, ne_eqb n m (λ e. other (sym e))) refl
+]
+
+module _ (o : Options) (w n again : ℕ) (m : List Move) (v : Verdict) (seen H : List Tried) (next : IsNext o seen w n again) (tried : HasAttempted o w n m v seen H) where
+  last : last_by w H ≡ Some tried.entry
+  last = ap (last_by w) tried.history ∙ last_by-own (seen ++ tried.others) tried.entry w tried.worker
+
+  same-try : tried.entry.again ≡ again
+  same-try = tried.again ∙ ap (λ (a : Attempt). a.again) next.attempt
+
+  -- a stale move that has tries left is tried again
+  pub next-try : is_stale v ≡ true → again < o.retries → IsNext o H w n (again + 1)
+  next-try stale left =
+      let retried : is_retried o tried.entry ≡ true = rw (tried.verdict, stale, same-try) (grind (arith, nat_tests)) in
+      record {
+        attempt = rw (last, retried, tried.number, same-try) refl;
+        not_done = rw (last, some-moves o (last_by w seen) next.not_done, retried) (and-not (tried.entry.number + 1 == o.moves));
+      }
+
+  no-retry : (is_stale v ≡ false) ⊎ (o.retries ≤ again) → is_retried o tried.entry ≡ false
+  no-retry (inl fresh) = rw (tried.verdict, fresh) refl
+  no-retry (inr spent) = rw (tried.verdict, same-try) (grind (arith, nat_tests))
+
+  -- otherwise the next move follows
+  pub next-move : (is_stale v ≡ false) ⊎ (o.retries ≤ again) → HasMade o H w (n + 1)
+  next-move ends =
+      let over = no-retry ends in
+      record {
+        attempt = rw (last, over, tried.number) refl;
+        done = rw (last, some-moves o (last_by w seen) next.not_done, over, tried.number) (and-true (n + 1 == o.moves) ∙ same-test (n + 1) o.moves);
+      }
+
+-- the entry of a drawn move is drawn
+pub drawn-attempt : (b : Base) (each w n : ℕ) (m : List Move) (v : Verdict) (seen H : List Tried) → HasAttempted b.options w n m v seen H
+    → m ≡ attempt_of b each w n → AreDrawn b each w seen → AreDrawn b each w H
+drawn-attempt b each w n m v seen H tried is drawn k e there own =
+    elim (get-append (seen ++ tried.others) (tried.entry ∷ []) k e (ap (λ G. slice_get G k) (sym tried.history) ∙ there)) [
+      | inl earlier ↦ drawn-others b each w seen tried.others tried.none drawn k e earlier own
+      | inr here ↦
+          let same : tried.entry ≡ e = alone tried.entry e here.0 here.1 in
+          subst (λ (f : Tried). f.moves ≡ attempt_of b each f.worker f.number) same
+          (tried.moves ∙ (is ∙ rw (tried.worker, tried.number) refl))
+    ]
+  where
+    alone : (x e : Tried) (k : ℕ) → slice_get (x ∷ []) k ≡ Some e → x ≡ e
+    alone x e zero h = cc
+    alone x e (suc k) h = absurd (let no : None ≡ Some e = h in cc)
+
+-- what a desk says of an offer, as an attempt of its worker
+pub attempted : (b : Base) (w n : ℕ) (m : List Move) (offer : Offered) (v : Verdict) (seen H : List Tried) → offer.worker ≡ w → offer.number ≡ n → offer.moves ≡ m
+    → EndsWith b offer v seen H → HasAttempted b.options w n m v seen H
+attempted b w n m offer v seen H own number move ends =
+    let none = subst (λ x. HasNoneBy x ends.others) own ends.none in
+    record {
+      others = ends.others;
+      entry = entry_of b (seen ++ ends.others) offer v;
+      history = ends.history;
+      none = none;
+      worker = own;
+      number = number;
+      again = ap (λ x. (attempt_after b.options (last_by x (seen ++ ends.others))).again) own ∙ ap (λ l. (attempt_after b.options l).again) (last_by-others w seen ends.others none);
+      moves = move;
+      verdict = refl;
+    }
+
+pub stream-start : (seed w : ℕ) → stream_at seed w 0 ≡ stream_state seed w
+unfolding state_after
+stream-start seed w = refl
+
+last-goes_on : (w : ℕ) (H G : List Tried) → GoesOn w H G → last_by w G ≡ last_by w H
+last-goes_on w H G goes = ap (last_by w) goes.history ∙ last_by-others w H goes.others goes.none
+
+-- others' entries leave a worker's next move as it was
+pub number-goes_on : (o : Options) (w : ℕ) (H G : List Tried) → GoesOn w H G → next_number o G w ≡ next_number o H w
+unfolding next_attempt is_done
+number-goes_on o w H G goes = ap (λ l. option_map (λ (a : Attempt). a.number) (if is_done_after o l then None else Some (attempt_after o l))) (last-goes_on w H G goes)
+
+-- an attempt on what others added
+pub attempted-earlier : (o : Options) (w n : ℕ) (m : List Move) (v : Verdict) (H G F : List Tried) → GoesOn w H G → HasAttempted o w n m v G F → HasAttempted o w n m v H F
+attempted-earlier o w n m v H G F goes tried = record {
+  others = goes.others ++ tried.others;
+  entry = tried.entry;
+  history = tried.history ∙ ap (λ X. X ++ tried.entry ∷ []) (ap (λ X. X ++ tried.others) goes.history ∙ append_assoc H goes.others tried.others);
+  none = none-both w goes.others tried.others goes.none tried.none;
+  worker = tried.worker;
+  number = tried.number;
+  again = tried.again ∙ ap (λ l. (attempt_after o l).again) (last-goes_on w H G goes);
+  moves = tried.moves;
+  verdict = tried.verdict;
+}
+
+-- a worker of whom nothing was seen has made nothing
+pub made-none : (o : Options) (w : ℕ) (H : List Tried) → HasNoneBy w H → HasMade o H w 0
+made-none o w H none =
+    let last : last_by w H ≡ None = last_by-others w [] H none ∙ sym (none-last w) in
+    record { attempt = rw last refl; done = rw last refl }
+
+pub drawn-none : (b : Base) (each w : ℕ) (H : List Tried) → HasNoneBy w H → AreDrawn b each w H
+drawn-none b each w H none k e there own = absurd (none k e there own)

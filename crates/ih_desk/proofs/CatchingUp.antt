@@ -1,0 +1,96 @@
+-- A searcher that looks: how far it is then in the history.
+use Rattle.std.proofs.Common.{◌≡◌, ℕ, zero, suc, ◌+◌, ◌*◌, ◌<◌, ◌≤◌, sym, ap, ◌∙◌, subst, refl, arith, inl, inr, List, [], ◌∷◌, ◌++◌, append_assoc, length, length-append, take, drop}
+use Rattle.std.specs.Prelude.{◌⊎◌, slice_get}
+use Rattle.std.proofs.Math.Seq.{take-add}
+use Rattle.std.proofs.lemmas.List.{length-take, take-append-drop, take-append-le}
+use Rattle.std.proofs.lemmas.Bool.{cases_lt}
+use Rattle.std.proofs.lemmas.Option.{slice_get_within}
+use Rattle.ih_journal.specs.Tried.{Tried}
+use Rattle.ih_journal.specs.Base.{Base}
+use Rattle.ih_journal.specs.Legal.{IsLegalButDraw}
+use Rattle.ih_journal.proofs.Growth.{take-get}
+use Rattle.ih_journal.specs.Settings.{most_entries}
+use Rattle.ih_cellbook.proofs.Few.{legal-few}
+use Rattle.ih_cellbook.specs.Copied.{Copied, most_copied}
+use Rattle.ih_cellbook.specs.Laws.{HasNoneBy}
+use Rattle.ih_cellbook.specs.Legal.{AreLegalButDraws}
+use Rattle.ih_cellbook.specs.Offers.{HasSeenOwn}
+use Rattle.ih_cellbook.proofs.Staying.{seen_own-others}
+use Rattle.ih_cellbook.specs.Replicas.{IsReplicaIn, IsReplicaOf, StandsAfter}
+use Rattle.ih_cellbook.specs.Snapshot.{Snapshot}
+use Rattle.ih_cellbook.proofs.Within.{seen-within, stands-behind}
+use Rattle.ih_desk.specs.Histories.{GoesOn}
+use Rattle.ih_desk.proofs.Full.{none-both}
+
+get-drop : (n : ℕ) (H : List Tried) (k : ℕ) → slice_get (drop n H) k ≡ slice_get H (n + k)
+get-drop zero H k = let same : k ≡ 0 + k = omega arith in ap (slice_get H) same
+get-drop (suc n) [] k = refl
+get-drop (suc n) (x ∷ xs) k = let same : suc (n + k) ≡ suc n + k = omega arith in get-drop n xs k ∙ ap (slice_get (x ∷ xs)) same
+
+-- who has seen its own entries has none among the others
+pub none-past : (w s : ℕ) (H : List Tried) → HasSeenOwn H w s → HasNoneBy w (drop s H)
+none-past w s H own k e there by = let below = own (s + k) e (sym (get-drop s H k) ∙ there) by in absurd (omega arith)
+
+pub own-all : (w : ℕ) (H : List Tried) → HasSeenOwn H w (length H)
+own-all w H k e there by = slice_get_within H k e there
+
+pub own-later : (w s t : ℕ) (H : List Tried) → HasSeenOwn H w s → s ≤ t → HasSeenOwn H w t
+own-later w s t H own h k e there by = let below = own k e there by in omega arith
+
+pub own-goes_on : (w s : ℕ) (H G : List Tried) → GoesOn w H G → HasSeenOwn H w s → HasSeenOwn G w s
+own-goes_on w s H G goes own = subst (λ F. HasSeenOwn F w s) (sym goes.history) (seen_own-others w s H goes.others goes.none own)
+
+pub goes_on-further : (w : ℕ) (H G F : List Tried) → GoesOn w H G → GoesOn w G F → GoesOn w H F
+goes_on-further w H G F one two = record {
+  others = one.others ++ two.others;
+  history = two.history ∙ (ap (λ X. X ++ two.others) one.history ∙ append_assoc H one.others two.others);
+  none = none-both w one.others two.others one.none two.none;
+}
+
+pub goes-length : (w : ℕ) (H G : List Tried) → GoesOn w H G → length H ≤ length G
+goes-length w H G goes = let both = ap length goes.history ∙ length-append H goes.others in omega (arith, both)
+
+-- the replica stays where it is while others go on
+pub stays : (b : Base) (w : ℕ) (H G : List Tried) (r : Snapshot) → GoesOn w H G → IsReplicaIn b H r → IsReplicaIn b G r
+stays b w H G r goes stands = subst (λ F. IsReplicaIn b F r) (sym goes.history) (stands-behind b H r stands goes.others)
+
+-- what a look from k on shows
+pub shown : (es : List Tried) (buffer before set : Copied) (k s : ℕ) (H : List Tried) → es ≡ buffer.entries
+    → buffer ≡ record { from = set.from; entries = take most_copied (drop set.from H); front = length H } → set ≡ record before { from = k } → k ≡ s → es ≡ take most_copied (drop s H)
+shown es buffer before set k s H taken copied placed same =
+    taken ∙ (ap (λ (x : Copied). x.entries) copied ∙ ap (λ i. take most_copied (drop i H)) (ap (λ (x : Copied). x.from) placed ∙ same))
+
+legal-front : (b : Base) (G : List Tried) (n : ℕ) → AreLegalButDraws b G → AreLegalButDraws b (take n G)
+legal-front b G n legal k e there =
+    let below = slice_get_within (take n G) k e there in
+    let same = sym (ap (take k) (take-append-drop n G)) ∙ take-append-le k (take n G) (drop n G) (omega (arith, below)) in
+    subst (λ F. IsLegalButDraw b F e) same (legal k e (take-get G n k e there))
+
+-- once it has taken over what a look shows, it has seen all, or 256 entries more
+pub further : (b : Base) (G : List Tried) (r s : Snapshot) → IsReplicaIn b G r → AreLegalButDraws b G → StandsAfter r (take most_copied (drop r.seen G)) s
+    → ((length G ≤ s.seen) × (r.seen ≤ s.seen)) ⊎ (s.seen ≡ r.seen + 256)
+further b G r s stands legal after =
+    let next = subst (AreLegalButDraws b) (take-add r.seen most_copied G) (legal-front b G (r.seen + most_copied) legal) in
+    let seen = (after b (take r.seen G) stands next).seen ∙ ap length (sym (take-add r.seen most_copied G)) ∙ length-take (r.seen + most_copied) G in
+    elim (cases_lt (r.seen + 256) (length G)) [
+      | inl more ↦ inr (omega (arith, seen))
+      | inr all ↦ let within = seen-within b G r stands in inl (omega (arith, seen), omega (arith, seen, within))
+    ]
+
+-- a replica has seen no more than there may be
+pub seen-few : (b : Base) (H : List Tried) (r : Snapshot) → IsReplicaIn b H r → r.seen ≤ most_entries b.options
+seen-few b H r stands = let few = (legal-few b (take r.seen H) stands.legal).most in let seen = stands.seen in omega (arith, few, seen)
+
+-- what a worker has to its credit after a look, which shows all that there is or 256 entries more
+pub spent : (credit left seen left' seen' goal len : ℕ) → credit ≤ 256 * left + seen → left' + 1 ≡ left → goal ≤ len → ((len ≤ seen') × (seen ≤ seen')) ⊎ (seen' ≡ seen + 256)
+    → (credit ≤ 256 * left' + seen') ⊎ ((goal ≤ seen') × (credit ≤ 256 * left' + seen' + 256))
+spent credit left seen left' seen' goal len has one reached (inl all) = let more = all.0 in let later = all.1 in inr (omega arith, omega arith)
+spent credit left seen left' seen' goal len has one reached (inr part) = inl (omega arith)
+
+pub unspent : (credit left seen goal : ℕ) → seen < goal → (credit ≤ 256 * left + seen) ⊎ ((goal ≤ seen) × (credit ≤ 256 * left + seen + 256)) → credit ≤ 256 * left + seen
+unspent credit left seen goal short (inl has) = has
+unspent credit left seen goal short (inr done) = absurd (let no = done.0 in omega arith)
+
+-- a replica of the empty history stands for a beginning of any
+pub new-within : (b : Base) (H : List Tried) (r : Snapshot) → IsReplicaOf b [] r → IsReplicaIn b H r
+new-within b H r stands = subst (λ k. IsReplicaOf b (take k H) r) (sym stands.seen) stands

@@ -1,0 +1,79 @@
+use Rattle.std.proofs.Common.{◌≡◌, ◌+◌, ◌-◌, ◌*◌, ◌≤◌, ◌<◌, ◌∙◌, arith, refl, sym, subst, ap}
+use Rattle.ih_plan.specs.Draws.{stream_at}
+use Rattle.ih_journal.specs.declared.settings.Options.{Options}
+use Rattle.ih_journal.specs.Attempts.{HasMade}
+use Rattle.ih_journal.specs.Settings.{most_entries}
+use Rattle.ih_journal.proofs.Growth.{has_made-all}
+use Rattle.ih_turn.specs.Seats.{history, number_of, turns_left}
+use Rattle.ih_desk.specs.Desks.{base_of}
+use Rattle.ih_desk.specs.Finishing.{AreDrawn}
+use Rattle.ih_desk.specs.Progress.{Progress}
+use Rattle.ih_desk.specs.Searchers.{credit}
+use Rattle.ih_desk.proofs.Attempting.{drawn-none, made-none, same-within}
+use Rattle.ih_desk.proofs.CatchingUp.{new-within}
+use Rattle.ih_desk.proofs.Turns.{enough, for-one, for-rest, none-drawn, one-fewer, one-later}
+use Rattle.ih_desk.proofs.searcher.Searcher.search.Goals as goal
+
+pub loop-number-init : goal.loop-number-init
+loop-number-init g c =
+    let b = base_of c.args.desk.now in
+    let n = number_of c.args.seat in
+    let H = history c.args.seat in
+    let new = c.requires.new in
+    let some : 1 ≤ b.options.workers = (let below = c.requires.own.number in omega (arith, below)) in
+    record {
+      own = c.requires.own;
+      same = refl;
+      within = record { own = new.own; replica = new-within b H c.args.self.now.replica new.replica };
+      made = made-none b.options n H c.requires.none;
+      drawn = drawn-none b c.args.self.now.each n H c.requires.none;
+      stream = new.stream ∙ ap (stream_at b.options.seed n) (none-drawn c.args.self.now.each);
+      turns = enough b.options (turns_left c.args.seat) c.args.self.now.replica.seen some c.requires.turns;
+    }
+
+pub make-next-requires-clause-turns : goal.make-next-requires-clause-turns
+make-next-requires-clause-turns g c =
+    let o = (base_of c.args.desk.now).options in
+    let below : c.loop-number.number < o.moves = subst (λ (o : Options). c.loop-number.number < o.moves) (ap (λ (x : Progress). x.options) c.self.view_is ∙ c.requires.new.own.options) c.loop-number-test.true in
+    let has = credit (turns_left c.loop-number.next) c.loop-number.self in
+    let rest = (o.retries + 1) * (o.moves - (c.loop-number.number + 1)) in
+    let all = subst (λ k. most_entries o + 512 * k ≤ has) (one-fewer (o.retries + 1) o.moves c.loop-number.number below) c.loop-number.invariant.turns in
+    let one : most_entries o + 512 * (o.retries + 1) ≤ has = for-one (most_entries o) (o.retries + 1) rest has all in
+    subst (λ k. most_entries o + 512 * (o.retries + 1) ≤ 256 * turns_left c.loop-number.next + k) (sym (ap (λ (x : Progress). x.replica.seen) c.self-in-loop-number.view_is)) one
+
+pub loop-number-preserved : goal.loop-number-preserved
+loop-number-preserved g c =
+    let b = base_of c.args.desk.now in
+    let o = b.options in
+    let n = number_of c.args.seat in
+    let G = history c.make-next.result in
+    let before = c.loop-number.invariant in
+    let after = c.make-next.ensures in
+    let below : c.loop-number.number < o.moves = subst (λ (o : Options). c.loop-number.number < o.moves) (ap (λ (x : Progress). x.options) c.self.view_is ∙ c.requires.new.own.options) c.loop-number-test.true in
+    let has = credit (turns_left c.loop-number.next) c.loop-number.self in
+    let left = credit (turns_left c.make-next.result) c.make-next.new.self in
+    let all = subst (λ k. most_entries o + 512 * k ≤ has) (one-fewer (o.retries + 1) o.moves c.loop-number.number below) before.turns in
+    let used = subst (λ k. 256 * turns_left c.loop-number.next + k ≤ left + 512 * (o.retries + 1)) (ap (λ (x : Progress). x.replica.seen) c.self-in-loop-number.view_is) after.turns in
+    let each = c.args.self.now.each in
+    let same = ap (λ (x : Progress). x.each) c.self-in-loop-number.view_is ∙ before.within.own.each_is in
+    let drawn = c.draw-attempt.ensures.drawn o.seed n (c.loop-number.number * each) (ap (λ (x : Progress). x.stream) c.self-in-loop-number.view_is ∙ before.stream) in
+    record {
+      own = after.own;
+      same = after.number ∙ before.same;
+      within = same-within b _ each _ n G c.make-next.new.self same before.same after.within;
+      made = subst (λ w. HasMade o G w (c.loop-number.number + 1)) before.same after.made;
+      drawn = subst (λ e. AreDrawn b e n G) same (subst (λ w. AreDrawn b c.self-in-loop-number.inside.each w G) before.same after.drawn);
+      stream = after.stream ∙ (drawn.1 ∙ ap (stream_at o.seed n) (ap (λ e. c.loop-number.number * each + e) same ∙ one-later c.loop-number.number each));
+      turns = for-rest (most_entries o) (o.retries + 1) ((o.retries + 1) * (o.moves - (c.loop-number.number + 1))) has left all used;
+    }
+
+pub returns-clause-finished : goal.returns-clause-finished
+returns-clause-finished g c =
+    let b = base_of c.args.desk.now in
+    let n = number_of c.args.seat in
+    let H = history c.loop-number.next in
+    let before = c.loop-number.invariant in
+    let past = subst (λ (o : Options). o.moves ≤ c.loop-number.number) (ap (λ (x : Progress). x.options) c.self.view_is ∙ c.requires.new.own.options) c.loop-number-test.false in
+    let most = subst (λ (o : Options). c.loop-number.number ≤ o.moves) (ap (λ (x : Progress). x.options) c.self.view_is ∙ c.requires.new.own.options) c.loop-number.auto.number-end in
+    let all : c.loop-number.number ≡ b.options.moves = omega (arith, past, most) in
+    record { legal = before.own.legal; drawn = before.drawn; done = has_made-all b H n (subst (λ k. HasMade b.options H n k) all before.made) }

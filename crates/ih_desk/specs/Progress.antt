@@ -1,0 +1,18 @@
+-- What is seen of a searcher.
+use Rattle.std.specs.Prelude.{ℕ, List}
+use Rattle.ih_tables.specs.declared.drafts.Draft.{Draft}
+use Rattle.ih_journal.specs.declared.settings.Options.{Options}
+use Rattle.ih_cellbook.specs.Copied.{Copied}
+use Rattle.ih_cellbook.specs.Snapshot.{Snapshot}
+
+-- How far a worker has come in its search.
+pub record Progress : Type 0 where
+  pub instance : Draft
+  pub options : Options
+  -- how many moves each of its attempts has
+  pub each : ℕ
+  -- its draws to come
+  pub stream : List ℕ
+  pub replica : Snapshot
+  -- what its last look showed
+  pub buffer : Copied

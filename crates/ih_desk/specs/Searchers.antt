@@ -1,0 +1,52 @@
+-- How far a searcher has come.
+use Rattle.std.specs.Prelude.{◌≡◌, ℕ, ◌+◌, ◌*◌, false, List, [], ◌∷◌, ◌++◌}
+use Rattle.ih_plan.specs.declared.moves.Move.{Move}
+use Rattle.ih_plan.specs.Draws.{stream_at}
+use Rattle.ih_journal.specs.Tried.{Tried}
+use Rattle.ih_journal.specs.declared.entries.Verdict.{Verdict}
+use Rattle.ih_journal.specs.declared.settings.Options.{Options}
+use Rattle.ih_journal.specs.Attempts.{attempt_after, is_done_after, last_by}
+use Rattle.ih_journal.specs.Base.{Base}
+use Rattle.ih_cellbook.specs.Laws.{HasNoneBy}
+use Rattle.ih_cellbook.specs.Replicas.{IsReplicaIn, IsReplicaOf}
+use Rattle.ih_desk.specs.Progress.{Progress}
+
+-- The searcher is worker w's in a search over b, by attempts of so many moves.
+pub record IsOf (b : Base) (each w : ℕ) (x : Progress) : Type 0 where
+  pub instance : x.instance ≡ b.instance
+  pub options : x.options ≡ b.options
+  pub each_is : x.each ≡ each
+  pub worker : x.replica.worker ≡ w
+
+-- It prices on a beginning of the history H.
+pub record IsWithin (b : Base) (each w : ℕ) (H : List Tried) (x : Progress) : Type 0 where
+  pub own : IsOf b each w x
+  pub replica : IsReplicaIn b H x.replica
+
+-- nothing was drawn or seen yet
+pub record IsNew (b : Base) (each w : ℕ) (x : Progress) : Type 0 where
+  pub own : IsOf b each w x
+  pub replica : IsReplicaOf b [] x.replica
+  pub stream : x.stream ≡ stream_at b.options.seed w 0
+
+-- Each turn counts 256, and each entry that was seen 1: a look that uses a turn and leaves something unseen shows 256
+-- entries.
+abbrev pub credit : ℕ → Progress → ℕ
+credit left x = 256 * left + x.replica.seen
+
+-- worker w's next attempt is this try of the attempt with this number
+pub record IsNext (o : Options) (H : List Tried) (w number again : ℕ) : Type 0 where
+  pub attempt : attempt_after o (last_by w H) ≡ record { number = number; again = again }
+  pub not_done : is_done_after o (last_by w H) ≡ false
+
+-- H goes on from what was seen by entries of others and one attempt of worker w
+pub record HasAttempted (o : Options) (w n : ℕ) (m : List Move) (v : Verdict) (seen H : List Tried) : Type 0 where
+  pub others : List Tried
+  pub entry : Tried
+  pub history : H ≡ (seen ++ others) ++ entry ∷ []
+  pub none : HasNoneBy w others
+  pub worker : entry.worker ≡ w
+  pub number : entry.number ≡ n
+  pub again : entry.again ≡ (attempt_after o (last_by w seen)).again
+  pub moves : entry.moves ≡ m
+  pub verdict : entry.verdict ≡ v

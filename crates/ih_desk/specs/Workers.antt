@@ -1,0 +1,42 @@
+-- What a clause says of a worker.
+use Rattle.std.specs.Prelude.{◌≡◌, ℕ, ◌+◌, ◌*◌, ◌≤◌, Some}
+use Rattle.ih_turn.specs.Seats.{history, number_of, made_count, turns_left}
+use Rattle.ih_journal.specs.Base.{Base}
+use Rattle.ih_journal.specs.Settings.{most_entries}
+use Rattle.ih_desk.specs.declared.workers.Seated.{Seated}
+use Rattle.ih_desk.specs.Desks.{Desk, DeskSeat, IsSeatAt, base_of}
+use Rattle.ih_desk.specs.Finishing.{HasFinished}
+use Rattle.ih_desk.specs.Progress.{Progress}
+use Rattle.ih_desk.specs.Searchers.{IsNew}
+
+-- a worker, whatever it prices on
+abbrev pub Worker : Type 0
+Worker = Seated Progress DeskSeat
+
+-- the worker has this seat
+abbrev pub Holds : {S T : Type 0} → Seated S T → T → Type 0
+Holds w s = w.seat ≡ Some s
+
+-- The worker is as it was made for a search over b by attempts of so many moves, with this seat.
+pub record IsNewWorker (b : Base) (each : ℕ) (w : Worker) (s : DeskSeat) : Type 0 where
+  pub seat : Holds w s
+  pub searcher : IsNew b each (number_of s) w.searcher
+
+-- The worker is new, and its seat at this desk has made nothing and has turns enough: four for each try of each
+-- attempt of each worker, and 16.
+pub record IsReady (desk : Desk) (w : Worker) : Type 0 where
+  pub seat : DeskSeat
+  pub new : IsNewWorker (base_of desk) w.searcher.each w seat
+  pub own : IsSeatAt desk seat
+  pub made : made_count seat ≡ 0
+  pub turns : 4 * most_entries (base_of desk).options + 16 ≤ turns_left seat
+
+-- Afterwards it has a seat at this desk with the same number, and has finished by what that seat made.
+pub record Finishes (desk : Desk) (before after : Worker) : Type 0 where
+  pub first : DeskSeat
+  pub last : DeskSeat
+  pub held : Holds before first
+  pub holds : Holds after last
+  pub own : IsSeatAt desk last
+  pub number : number_of last ≡ number_of first
+  pub finished : HasFinished (base_of desk) before.searcher.each (number_of last) (history last)

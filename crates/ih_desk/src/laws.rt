@@ -1,0 +1,9 @@
+//! What the workers' searches make together.
+
+ghost use Rattle.ih_desk.specs.Finishing.{FinishedSearchesAreFull};
+
+/// A legal history is full once each worker has finished by a beginning of it, past which it has nothing of that
+/// worker.
+pub fn finished_searches_are_full()
+    ensures { FinishedSearchesAreFull }
+{}

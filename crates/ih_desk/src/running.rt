@@ -1,0 +1,82 @@
+//! The workers side by side.
+
+ghost use Rattle.std.specs.Prelude.{ℕ, ◌<◌, All, length, slice_index_or};
+ghost use Rattle.ih_desk.specs.Workers.{IsReady, Finishes};
+
+use crate::desk::DeskOver;
+use crate::passing::{Pass, SharedGate};
+use crate::searcher::Searcher;
+use crate::workers::Seated;
+use ih_cellbook::{Book, Logged, Replicates};
+use ih_shelf::Gate;
+use ih_turn::{Seat, Turn};
+use std::sync::Wait;
+use std::thread::{Threads, for_each_mut};
+
+// The most threads that a search starts.
+const MOST_THREADS: usize = 64;
+
+/// Something that does its work beside others, at a shared D. No bound of its method is on threads: a trait's method
+/// can't hand such a bound on.
+trait Work<D> {
+    ghost ready: { D → Self → Type 0 };
+
+    ghost worked: { D → Self → Self → Type 0 };
+
+    fn work<R: Wait, P: Pass>(&mut self, rt: &R, shared: &D, gate: &P)
+        requires { ready shared.now self.old }
+        ensures { worked shared.now self.old self.new };
+}
+
+impl<'a, C: Replicates> Work<DeskOver<Turn<Book<'a, C::Entry>>>>
+    for Seated<Searcher<'a, C>, Seat<Book<'a, C::Entry>>> {
+    ghost ready = { IsReady };
+
+    ghost worked = { Finishes };
+
+    fn work<R: Wait, P: Pass>(
+        &mut self,
+        rt: &R,
+        shared: &DeskOver<Turn<Book<'a, C::Entry>>>,
+        gate: &P,
+    ) {
+        let Some(seat) = self.seat.take() else {
+            unreachable!()
+        };
+        let seat = self.searcher.search(rt, shared, seat, gate);
+        self.seat = Some(seat);
+    }
+}
+
+// Each does its work in a call of its own. Where a thread can't be started, the caller does that work itself.
+fn work_all<D: Sync, W: Work<D> + Send, R: Threads + Wait + Sync, P: Pass + Sync>(
+    rt: &R,
+    shared: &D,
+    workers: &mut [W],
+    gate: &P,
+)
+    requires { All (W.ready shared.now) workers.old }
+    ensures { (k : ℕ) (d : W) → k < length workers.old → W.worked shared.now (slice_index_or workers.old k d) (slice_index_or workers.new k d) }
+{
+    for_each_mut(rt, workers, MOST_THREADS, &|_, w| w.work(rt, shared, gate));
+}
+
+/// Runs each worker in a call of its own: each makes its draws in order, each tried again exactly after a stale try, as
+/// often as may be. Where a thread can't be started the caller does that worker's search itself. It takes no memory.
+pub fn run_all<'a, C: Replicates + Send, R: Threads + Wait + Sync, G: Gate>(
+    rt: &R,
+    desk: &DeskOver<Turn<Book<'a, C::Entry>>>,
+    workers: &mut [Seated<Searcher<'a, C>, Seat<Book<'a, C::Entry>>>],
+    gate: &G,
+)
+where
+    C::Entry: Send,
+    <C::Entry as Logged>::Offer: Send,
+    <C::Entry as Logged>::Attempt: Send,
+    requires { All (IsReady desk.now) workers.old }
+    ensures { (k : ℕ) (d : _) → k < length workers.old → Finishes desk.now (slice_index_or workers.old k d) (slice_index_or workers.new k d) }
+{
+    let shared = SharedGate { gate };
+    work_all(rt, desk, workers, &shared);
+    let SharedGate { gate: _ } = shared;
+}

@@ -1,0 +1,279 @@
+//! The loop of one worker: it draws its attempts in order, prices each on its replica, and offers it at the desk.
+
+ghost use Rattle.std.specs.Prelude.{◌≡◌};
+ghost use Rattle.ih_journal.specs.Attempts.{is_stale};
+
+use crate::desk::DeskOver;
+use crate::passing::Pass;
+use ih_cellbook::{Attempted, Book, Buffer, Logged, Opens, Replicates};
+use ih_journal::{Options, Verdict};
+use ih_moves::Stream;
+use ih_plan::Plan;
+use ih_tables::Instance;
+use ih_turn::{Seat, Turn};
+use std::alloc::{AllocError, Global};
+use std::marker::Model;
+use std::sync::Wait;
+
+/// What a worker needs beside its seat. Once it is opened, no call takes memory.
+#[derive(Drop)]
+pub struct Searcher<'a, C: Replicates> {
+    inst: &'a Instance,
+    options: Options,
+    // How many moves each of its attempts has.
+    each: u32,
+    // Its draws to come.
+    stream: Stream,
+    replica: C,
+    // Room for the entries of a look.
+    buffer: Buffer<C::Entry>,
+}
+
+impl<'a, C: Replicates> Model for Searcher<'a, C> {
+    ghost use Rattle.ih_desk.specs.Progress.{Progress};
+
+    ghost Value = { Progress };
+
+    ghost view = { λ s. record {
+      instance = s.inst.now.draft;
+      options = s.options;
+      each = s.each;
+      stream = s.stream;
+      replica = C.copied s.replica;
+      buffer = s.buffer;
+    } };
+
+    ghost invariant = { λ s. C.Entry.Attempt.may_have s.each };
+}
+
+// Whether an attempt with this verdict is to be tried again, as long as it has tries left.
+fn is_stale(verdict: &Verdict) -> bool
+    ensures { result ≡ is_stale verdict.now }
+{
+    matches!(verdict, Verdict::Stale { .. })
+}
+
+impl<'a, C: Opens<'a>> Searcher<'a, C> {
+    ghost use Rattle.std.specs.Prelude.{◌≤◌, IfOk};
+    ghost use Rattle.ih_plan.specs.Timetable.{IsPlanOf};
+    ghost use Rattle.ih_journal.specs.Settings.{IsLawful};
+    ghost use Rattle.ih_cellbook.specs.Keeping.{base_with};
+    ghost use Rattle.ih_desk.specs.Searchers.{IsNew};
+
+    /// The searcher of a worker over a start, by attempts of so many moves.
+    pub(crate) fn open(
+        alloc: Global,
+        inst: &'a Instance,
+        start: &Plan,
+        options: &Options,
+        freeze: u32,
+        each: u32,
+        worker: u32,
+    ) -> Result<Searcher<'a, C>, AllocError>
+        requires start { IsPlanOf inst.now.draft start.now }
+        requires lawful { IsLawful options.now }
+        requires freeze { freeze ≤ C.Entry.Attempt.most_freeze }
+        requires each { C.Entry.Attempt.may_have each }
+        ensures { IfOk result (IsNew (base_with inst.entry.now.draft start.now options.now freeze) each worker) }
+    {
+        Ok(Searcher {
+            inst,
+            options: *options,
+            each,
+            stream: Stream::new(options.seed, worker),
+            replica: C::open(alloc, inst, start, options, freeze, worker)?,
+            buffer: Buffer::new(alloc)?,
+        })
+    }
+}
+
+impl<'a, C: Replicates> Searcher<'a, C> {
+    ghost use Rattle.std.specs.Prelude.{◌⊎◌, ◌+◌, ◌*◌, ◌≤◌, Some, length};
+    ghost use Rattle.ih_plan.specs.Series.{AreMoves};
+    ghost use Rattle.ih_journal.specs.Attempts.{HasMade};
+    ghost use Rattle.ih_journal.specs.Legal.{attempt_of};
+    ghost use Rattle.ih_journal.specs.Settings.{most_entries};
+    ghost use Rattle.ih_turn.specs.Seats.{history, number_of, turns_left};
+    ghost use Rattle.ih_cellbook.specs.Laws.{HasNoneBy};
+    ghost use Rattle.ih_cellbook.specs.Offers.{HasSeenOwn, next_number};
+    ghost use Rattle.ih_desk.specs.Desks.{base_of, IsSeatAt};
+    ghost use Rattle.ih_desk.specs.Finishing.{AreDrawn, HasFinished};
+    ghost use Rattle.ih_desk.specs.Histories.{GoesOn};
+    ghost use Rattle.ih_desk.specs.Searchers.{HasAttempted, IsNew, IsNext, IsWithin, credit};
+
+    /// Makes all attempts of the worker, in order, each of its next draws. A stale one is tried again as often as may be.
+    pub(crate) fn search<R: Wait, P: Pass>(
+        &mut self,
+        rt: &R,
+        desk: &DeskOver<Turn<Book<'a, C::Entry>>>,
+        seat: Seat<Book<'a, C::Entry>>,
+        gate: &P,
+    ) -> Seat<Book<'a, C::Entry>>
+        requires own { IsSeatAt desk.now seat }
+        requires new { IsNew (base_of desk.now) self.old.each (number_of seat) self.old }
+        requires none { HasNoneBy (number_of seat) (history seat) }
+        requires turns { 4 * most_entries (base_of desk.now).options + 16 ≤ turns_left seat }
+        ensures own { IsSeatAt desk.now result }
+        ensures number { number_of result ≡ number_of seat.entry }
+        ensures finished { HasFinished (base_of desk.now) self.old.each (number_of seat.entry) (history result) }
+    {
+        let mut next = seat;
+        for number in 0..self.options.moves {
+            let attempt = <<C::Entry as Logged>::Attempt as Attempted>::draw(
+                self.inst,
+                &mut self.stream,
+                self.each,
+            );
+            next = self.make(rt, desk, next, gate, number, &attempt);
+        }
+        next
+    }
+
+    // Makes one attempt: it is tried again where it is stale, as often as may be.
+    fn make<R: Wait, P: Pass>(
+        &mut self,
+        rt: &R,
+        desk: &DeskOver<Turn<Book<'a, C::Entry>>>,
+        seat: Seat<Book<'a, C::Entry>>,
+        gate: &P,
+        number: u32,
+        attempt: &<C::Entry as Logged>::Attempt,
+    ) -> Seat<Book<'a, C::Entry>>
+        requires own { IsSeatAt desk.now seat }
+        requires within { IsWithin (base_of desk.now) self.old.each (number_of seat) (history seat) self.old }
+        requires move_in { AreMoves (base_of desk.now).instance (C.Entry.Attempt.moves attempt.now) }
+        requires next { IsNext (base_of desk.now).options (history seat) (number_of seat) number 0 }
+        requires drawn { C.Entry.Attempt.moves attempt.now ≡ attempt_of (base_of desk.now) self.old.each (number_of seat) number }
+        requires earlier { AreDrawn (base_of desk.now) self.old.each (number_of seat) (history seat) }
+        requires turns { most_entries (base_of desk.now).options + 512 * ((base_of desk.now).options.retries + 1) ≤ credit (turns_left seat) self.old }
+        ensures own { IsSeatAt desk.now result }
+        ensures number { number_of result ≡ number_of seat.entry }
+        ensures within { IsWithin (base_of desk.now) self.old.each (number_of seat.entry) (history result) self.new }
+        ensures made { HasMade (base_of desk.now).options (history result) (number_of seat.entry) (number + 1) }
+        ensures drawn { AreDrawn (base_of desk.now) self.old.each (number_of seat.entry) (history result) }
+        ensures turns { credit (turns_left seat.entry) self.old ≤ credit (turns_left result) self.new + 512 * ((base_of desk.now).options.retries + 1) }
+        ensures stream { self.new.stream ≡ self.old.stream }
+    {
+        let mut next = seat;
+        for again in 0..self.options.retries {
+            let _ = again;
+            let (tried, verdict) = self.try_once(rt, desk, next, gate, number, attempt);
+            next = tried;
+            if !is_stale(&verdict) {
+                return next;
+            }
+        }
+        let (last, _) = self.try_once(rt, desk, next, gate, number, attempt);
+        last
+    }
+
+    // Tries an attempt once: catches up, prices it, and offers it.
+    fn try_once<R: Wait, P: Pass>(
+        &mut self,
+        rt: &R,
+        desk: &DeskOver<Turn<Book<'a, C::Entry>>>,
+        seat: Seat<Book<'a, C::Entry>>,
+        gate: &P,
+        number: u32,
+        attempt: &<C::Entry as Logged>::Attempt,
+    ) -> (Seat<Book<'a, C::Entry>>, Verdict)
+        requires own { IsSeatAt desk.now seat }
+        requires within { IsWithin (base_of desk.now) self.old.each (number_of seat) (history seat) self.old }
+        requires move_in { AreMoves (base_of desk.now).instance (C.Entry.Attempt.moves attempt.now) }
+        requires next { next_number (base_of desk.now).options (history seat) (number_of seat) ≡ Some number }
+        requires turns { most_entries (base_of desk.now).options + 512 ≤ credit (turns_left seat) self.old }
+        ensures own { IsSeatAt desk.now result.0 }
+        ensures number { number_of result.0 ≡ number_of seat.entry }
+        ensures within { IsWithin (base_of desk.now) self.old.each (number_of seat.entry) (history result.0) self.new }
+        ensures attempted { HasAttempted (base_of desk.now).options (number_of seat.entry) number (C.Entry.Attempt.moves attempt.now) result.1 (history seat.entry) (history result.0) }
+        ensures turns { credit (turns_left seat.entry) self.old ≤ credit (turns_left result.0) self.new + 512 }
+        ensures stream { self.new.stream ≡ self.old.stream }
+    {
+        let seat = self.catch_up(rt, desk, seat);
+        self.offer(rt, desk, seat, gate, number, attempt)
+    }
+
+    // Prices the attempt on what the replica has taken over, and offers it.
+    fn offer<R: Wait, P: Pass>(
+        &mut self,
+        rt: &R,
+        desk: &DeskOver<Turn<Book<'a, C::Entry>>>,
+        seat: Seat<Book<'a, C::Entry>>,
+        gate: &P,
+        number: u32,
+        attempt: &<C::Entry as Logged>::Attempt,
+    ) -> (Seat<Book<'a, C::Entry>>, Verdict)
+        requires own { IsSeatAt desk.now seat }
+        requires within { IsWithin (base_of desk.now) self.old.each (number_of seat) (history seat) self.old }
+        requires move_in { AreMoves (base_of desk.now).instance (C.Entry.Attempt.moves attempt.now) }
+        requires next { next_number (base_of desk.now).options (history seat) (number_of seat) ≡ Some number }
+        requires seen { HasSeenOwn (history seat) (number_of seat) self.old.replica.seen }
+        requires turns { 1 ≤ turns_left seat }
+        ensures own { IsSeatAt desk.now result.0 }
+        ensures number { number_of result.0 ≡ number_of seat.entry }
+        ensures within { IsWithin (base_of desk.now) self.old.each (number_of seat.entry) (history result.0) self.new }
+        ensures attempted { HasAttempted (base_of desk.now).options (number_of seat.entry) number (C.Entry.Attempt.moves attempt.now) result.1 (history seat.entry) (history result.0) }
+        ensures turns { turns_left result.0 + 1 ≡ turns_left seat.entry }
+        ensures seen { self.new.replica.seen ≡ self.old.replica.seen }
+        ensures stream { self.new.stream ≡ self.old.stream }
+    {
+        let worker = seat.number();
+        self.replica.price(attempt, number);
+        gate.before(rt, worker, number);
+        let (seat, verdict) = desk.offer(rt, seat, self.replica.last());
+        gate.after(rt, worker, number);
+        (seat, verdict)
+    }
+
+    // Takes over at least all entries that there are when it first looks, its own among them.
+    fn catch_up<R: Wait>(
+        &mut self,
+        rt: &R,
+        desk: &DeskOver<Turn<Book<'a, C::Entry>>>,
+        seat: Seat<Book<'a, C::Entry>>,
+    ) -> Seat<Book<'a, C::Entry>>
+        requires own { IsSeatAt desk.now seat }
+        requires within { IsWithin (base_of desk.now) self.old.each (number_of seat) (history seat) self.old }
+        requires turns { most_entries (base_of desk.now).options + 512 ≤ credit (turns_left seat) self.old }
+        ensures own { IsSeatAt desk.now result }
+        ensures number { number_of result ≡ number_of seat.entry }
+        ensures within { IsWithin (base_of desk.now) self.old.each (number_of seat.entry) (history result) self.new }
+        ensures history { GoesOn (number_of seat.entry) (history seat.entry) (history result) }
+        ensures seen { HasSeenOwn (history result) (number_of seat.entry) self.new.replica.seen }
+        ensures left { 1 ≤ turns_left result }
+        ensures turns { credit (turns_left seat.entry) self.old ≤ credit (turns_left result) self.new + 256 }
+        ensures stream { self.new.stream ≡ self.old.stream }
+    {
+        let mut next = self.look(rt, desk, seat);
+        let goal = self.buffer.front();
+        while self.replica.seen() < goal {
+            next = self.look(rt, desk, next);
+        }
+        next
+    }
+
+    // Looks once, and takes over what the look shows.
+    fn look<R: Wait>(
+        &mut self,
+        rt: &R,
+        desk: &DeskOver<Turn<Book<'a, C::Entry>>>,
+        seat: Seat<Book<'a, C::Entry>>,
+    ) -> Seat<Book<'a, C::Entry>>
+        requires own { IsSeatAt desk.now seat }
+        requires within { IsWithin (base_of desk.now) self.old.each (number_of seat) (history seat) self.old }
+        requires turns { 1 ≤ turns_left seat }
+        ensures own { IsSeatAt desk.now result }
+        ensures number { number_of result ≡ number_of seat.entry }
+        ensures within { IsWithin (base_of desk.now) self.old.each (number_of seat.entry) (history result) self.new }
+        ensures history { GoesOn (number_of seat.entry) (history seat.entry) (history result) }
+        ensures front { self.new.buffer.front ≡ length (history result) }
+        ensures seen { ((length (history result) ≤ self.new.replica.seen) × (self.old.replica.seen ≤ self.new.replica.seen)) ⊎ (self.new.replica.seen ≡ self.old.replica.seen + 256) }
+        ensures turns { turns_left result + 1 ≡ turns_left seat.entry }
+        ensures stream { self.new.stream ≡ self.old.stream }
+    {
+        self.buffer.set_from(self.replica.seen());
+        let seat = desk.look(rt, seat, &mut self.buffer);
+        self.replica.advance(self.buffer.entries());
+        seat
+    }
+}

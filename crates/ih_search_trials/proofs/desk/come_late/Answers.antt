@@ -1,6 +1,0 @@
-use Rattle.std.proofs.Common.{arith}
-use Rattle.ih_search_trials.proofs.WardOffers.{right-as, right-first}
-use Rattle.ih_search_trials.proofs.desk.come_late.Goals as goal
-
-pub offer-seat-requires-clause-right : goal.offer-seat-requires-clause-right
-offer-seat-requires-clause-right g c = right-as _ _ _ _ _ _ c.requires.base c.requires.seat.1 c.in-Ok.ensures (right-first 0 (omega arith))

@@ -1,0 +1,118 @@
+-- The journal of a search by chains: its length, and its heading, which replay and salvage refuse.
+use Rattle.std.proofs.Common.{◌≡◌, ◌∙◌, ℕ, zero, suc, ◌+◌, ◌*◌, ◌≤◌, refl, sym, ap, subst, arith, inl, inr, List, ◌++◌, length, Some, None}
+use Rattle.std.specs.Prelude.{slice_index}
+use Rattle.std.proofs.lemmas.List.{length-map}
+use Rattle.std.proofs.Math.Nat.{mul-le-mul_right}
+use Rattle.ih_journal.specs.declared.entries.Entry.{Entry}
+use Rattle.ih_journal.specs.declared.refusals.JournalRefusal.{JournalRefusal}
+use Rattle.ih_journal.specs.declared.settings.Options.{Options}
+use Rattle.ih_journal.specs.Base.{Base}
+use Rattle.ih_journal.specs.Settings.{most_entries}
+use Rattle.ih_journal.specs.Texts.{heading}
+use Rattle.ih_journal.specs.Tried.{Tried}
+use Rattle.ih_cellbook.specs.Legal.{AreLegalButDraws}
+use Rattle.ih_cellbook.proofs.Few.{legal-few}
+use Rattle.ih_chain.specs.declared.entries.ChainEntry.{ChainEntry}
+use Rattle.ih_chain.specs.Entries.{chain_tried, chain_tries}
+use Rattle.ih_chain.specs.Laws.{ChainJournalsAreShort}
+use Rattle.ih_chain.specs.Texts.{chain_heading, chain_journal}
+use Rattle.ih_instance.proofs.DraftSound.{instance_sound}
+use Rattle.ih_words.specs.Chain.{ChainCall}
+use Rattle.ih_words.specs.Replay.{ReplayCall}
+use Rattle.ih_shelf.specs.Outside.{Names, bytes_at}
+use Rattle.ih_top.specs.declared.files.TheConstants.{MAX_JOURNAL}
+use Rattle.ih_top.specs.declared.status.Status.{Status}
+use Rattle.ih_top.specs.declared.status.Status.TheVariants.{Done, Usage, ReadFault, InstanceRefused, StartRefused, NoneFound, WriteFault, OutOfMemory, JournalRefused, Infeasible, TooLong}
+use Rattle.ih_top.specs.Chaining.{of_chains}
+use Rattle.ih_top.specs.Laws.{ChainJournalsAreHeadless, ChainJournalsFit, ChainsAreRefused, EndsIn, HasNoFault, IsReplayOf, IsWithinLimits}
+use Rattle.ih_top.specs.Replaying.{HasNoHeading, HasRead, IsHeadedBy, IsHeadless, IsRefused, IsRefusedJournal, IsReplay, IsSalvage, JournalEnds, JournalRead, no_heading}
+use Rattle.ih_top.specs.Solving.{IsSearch}
+use Rattle.ih_top.specs.Texts.{done_text, journal_refused_text, salvaged_text}
+use Rattle.ih_top.proofs.Completeness.{journal-accepted, same-bytes}
+use Rattle.ih_top.proofs.TakenBack.{has-read-back, memory-alone, read-back}
+
+-- the third letters of the two headings differ
+pub chains-headless : ChainJournalsAreHeadless
+unfolding heading chain_heading
+chains-headless o each H p more lawful seed same =
+    let third : 99 ≡ 106 = ap (λ (bytes : List ℕ). slice_index bytes 2) same in
+    absurd (omega (arith, third))
+
+-- ---- how long it is
+
+spread : (each n : ℕ) → (226 + 29 * each) * n ≡ 226 * n + 29 * (n * each)
+spread each zero = omega arith
+spread each (suc n) = let rest = spread each n in omega (arith, rest)
+
+within : (n most each all : ℕ) → n ≤ most → most ≤ 1000000 → most * each ≤ 1000000 → all ≤ 128 + (226 + 29 * each) * n → all ≤ MAX_JOURNAL
+within n most each all few some words len =
+    let step : n * each ≤ most * each = mul-le-mul_right each few in
+    let parts = spread each n in
+    omega (arith, few, some, words, len, step, parts)
+
+pub chains-fit : ChainJournalsAreShort → ChainJournalsFit
+chains-fit short files c b H limits search =
+    let legal : AreLegalButDraws b (chain_tries H) = λ k e there. (search.full.legal k e there).entry in
+    let valid = instance_sound (bytes_at files c.search.instance) b.instance search.base.start.inputs.instance.read in
+    let len = short b c.length H (record { valid = valid; base = search.given; seed = search.seed }) limits.short search.full.legal in
+    let few = (legal-few b (chain_tries H) legal).most in
+    let many = length-map H chain_tried in
+    let all = search.given.lawful.entries in
+    let words : most_entries b.options * c.length ≤ 1000000 = subst (λ (o : Options). most_entries o * c.length ≤ 1000000) (sym search.base.options) limits.few in
+    within (length H) (most_entries b.options) c.length (length (chain_journal b.options c.length H)) (omega (arith, few, many)) all words len
+
+-- ---- how it is refused
+
+module _ (r : ReplayCall) (there left : Names) (x : JournalRead) (has : HasRead (Some there) r x) (headless : HasNoHeading x.bytes) where
+  -- nothing is headed in it
+  never-headed : (y : JournalRead) (b : Base) (bytes : List ℕ) → HasRead (Some there) r y → IsHeadedBy r.start y b bytes → ⊥
+  never-headed y b bytes given headed =
+      headless b.options bytes headed.lawful headed.seed (sym (same-bytes there r x has y given) ∙ headed.joins)
+
+  module _ (taken : JournalRead → Base → List Entry → Type 0) (refused : JournalRead → JournalRefusal → Type 0) (said : Base → List Tried → ℕ → List ℕ)
+      (headed : (y : JournalRead) (b : Base) (H : List Entry) → HasRead (Some there) r y → taken y b H → ⊥)
+      (first : (e : JournalRefusal) → IsRefused refused r (Some there) e → e ≡ no_heading) where
+    refused-ends : (status : Status) (text : List ℕ) → HasNoFault status → JournalEnds taken refused said r (Some there) (Some left) status text
+        → EndsIn (JournalRefused no_heading) (journal_refused_text no_heading) (Unit {0}) status text
+    refused-ends Done text calm (d, told) = absurd (headed d.read d.base d.history d.given d.taken_is)
+    refused-ends Usage text calm h = absurd h.1
+    refused-ends (ReadFault role) text calm h = absurd calm
+    refused-ends (InstanceRefused e) text calm h = inl (memory-alone (InstanceRefused e) calm (journal-accepted there r x has (InstanceRefused e) text h.1))
+    refused-ends (StartRefused e) text calm h = inl (memory-alone (StartRefused e) calm (journal-accepted there r x has (StartRefused e) text h.1))
+    refused-ends NoneFound text calm (kept, d, told) = absurd (headed d.read d.base d.history d.given d.taken_is)
+    refused-ends (WriteFault role) text calm h = absurd calm
+    refused-ends OutOfMemory text calm h = inl refl
+    refused-ends (JournalRefused e) text calm (kept, is, told) =
+        let here = first e is in inr (ap JournalRefused here, told ∙ ap journal_refused_text here, tt)
+    refused-ends Infeasible text calm h = absurd h.1
+    refused-ends (TooLong role) text calm h = inl (memory-alone (TooLong role) calm (journal-accepted there r x has (TooLong role) text h.1))
+
+  replay-first : (e : JournalRefusal) → IsRefused (IsRefusedJournal r.start) r (Some there) e → e ≡ no_heading
+  replay-first e h = elim h.why [
+    | inl headless ↦ headless.refusal
+    | inr line ↦ absurd (never-headed h.read line.base line.bytes h.given line.headed)
+  ]
+
+  pub replay-refused : (status : Status) (text : List ℕ) → HasNoFault status
+      → JournalEnds (IsReplay r.start) (IsRefusedJournal r.start) done_text r (Some there) (Some left) status text
+      → EndsIn (JournalRefused no_heading) (journal_refused_text no_heading) (Unit {0}) status text
+  replay-refused = refused-ends (IsReplay r.start) (IsRefusedJournal r.start) done_text
+      (λ y b H given taken. never-headed y b _ given taken.headed) replay-first
+
+  pub salvage-refused : (status : Status) (text : List ℕ) → HasNoFault status
+      → JournalEnds (IsSalvage r.start) IsHeadless salvaged_text r (Some there) (Some left) status text
+      → EndsIn (JournalRefused no_heading) (journal_refused_text no_heading) (Unit {0}) status text
+  salvage-refused = refused-ends (IsSalvage r.start) IsHeadless salvaged_text
+      (λ y b H given taken. never-headed y b _ given taken.headed) (λ e h. h.why.refusal)
+
+pub chains-refused : ChainJournalsAreShort → ChainsAreRefused
+chains-refused short c r before after there left b H ended said limits search written of calm =
+    let bytes = chain_journal b.options c.length H in
+    let fits = chains-fit short before c b H limits search in
+    let x = read-back c.search r before after there of b search.base bytes fits written in
+    let has = has-read-back c.search r before after there of b search.base bytes fits written in
+    let headless = chains-headless b.options c.length H in
+    record {
+      replayed = λ ends. replay-refused r there left x has headless ended said calm ends;
+      salvaged = λ ends. salvage-refused r there left x has headless ended said calm ends;
+    }

@@ -1,0 +1,27 @@
+use Rattle.std.proofs.Common.{refl, sym}
+use Rattle.ih_words.specs.Chain.{ChainCall, chain_call}
+use Rattle.ih_top.specs.Chaining.{ChainEnds, of_chains}
+use Rattle.ih_top.specs.Outputs.{OutputEnds, plain_base}
+use Rattle.ih_top.proofs.Saying.{answers-weaker}
+use Rattle.ih_top.proofs.Writing.{search-ends}
+use Rattle.ih_top.proofs.chaining.chain_from_inputs.Goals as goal
+
+pub returns-in-Ok-clause-ends : goal.returns-in-Ok-clause-ends
+returns-in-Ok-clause-ends g c =
+    let h : ChainCall = chain_call c.args.call.now in
+    let old = g.S.Shelf.names c.args.shelf.now in
+    let new = g.S.Shelf.names c.write_output.new.shelf in
+    answers-weaker (OutputEnds h.search c.in-Ok.output old new) (ChainEnds h old new)
+    (search-ends (of_chains h.length) h.search c.in-Ok.output old new (record {
+      base = plain_base h.search c.args.inputs;
+      given = record {
+        start = record {
+          plan = c.args.inputs.plan;
+          inputs = c.requires.inputs;
+          started = record { instance = refl; start = refl; freeze = sym c.requires.lawful.search.unfrozen };
+        };
+        options = refl;
+      };
+      output = c.in-Ok.ensures;
+    }))
+    c.write_output.result c.write_output.ensures.ends

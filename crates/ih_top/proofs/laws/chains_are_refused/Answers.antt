@@ -1,0 +1,9 @@
+use Rattle.ih_top.proofs.ChainHeadings.{chains-fit, chains-headless, chains-refused}
+use Rattle.ih_top.proofs.laws.chains_are_refused.Goals as goal
+
+pub returns : goal.returns
+returns c = record {
+  headless = chains-headless;
+  fits = chains-fit c.chain_journals_are_short.ensures;
+  refused = chains-refused c.chain_journals_are_short.ensures;
+}

@@ -1,0 +1,119 @@
+//! What accepted chains cost, by full bills.
+
+ghost use Rattle.std.specs.Prelude.{◌≤◌, All};
+ghost use Rattle.ih_plan.specs.Series.{AreMoves};
+ghost use Rattle.ih_plan.specs.Timetable.{IsPlanOf};
+ghost use Rattle.ih_chain.specs.Entries.{chain_tries};
+
+use crate::examples::{ONE_ADMITTED, TWO_PATIENTS};
+use ih_chain::{ChainEntry, run_chains};
+use ih_history::plan_at;
+use ih_instance::read_instance;
+use ih_journal::{Options, Verdict};
+use ih_plan::Plan;
+use ih_shelf::OpenGate;
+use ih_solution::read_solution;
+use ih_tables::{Bill, Instance};
+use ih_validate::bill;
+use std::alloc::{AllocError, Global};
+use std::sync::Wait;
+use std::thread::Threads;
+
+const OPTIONS: Options = Options {
+    seed: 5,
+    workers: 2,
+    moves: 40,
+    heat: 300,
+    hard: 1_000,
+    retries: 0,
+};
+
+// Whether each number is the sum of both.
+fn are_sums(sums: &[i64], first: &[i64], second: &[i64]) -> bool {
+    if first.len() != sums.len() || second.len() != sums.len() {
+        return false;
+    }
+    for k in 0..sums.len() {
+        if sums[k] != first[k].wrapping_add(second[k]) {
+            return false;
+        }
+    }
+    true
+}
+
+// Whether one bill is the other and this price.
+fn is_dearer_by(after: &Bill, before: &Bill, price: &Bill) -> bool {
+    are_sums(&after.v, &before.v, &price.v) && are_sums(&after.s, &before.s, &price.s)
+}
+
+// What the entry changed.
+fn change_of(entry: &ChainEntry) -> Bill {
+    match entry.verdict {
+        Verdict::Accepted => entry.price,
+        _ => Bill::zero(),
+    }
+}
+
+// Whether each entry's price is the change of the full bill at its place, where the entry was accepted, and nothing changed
+// where it wasn't.
+fn are_exact(
+    alloc: Global,
+    inst: &Instance,
+    start: &Plan,
+    entries: &[ChainEntry],
+) -> Result<bool, AllocError>
+    requires start { IsPlanOf inst.now.draft start.now }
+    requires moves { All (λ e. AreMoves inst.now.draft e.moves) (chain_tries entries.now) }
+{
+    let mut before = bill(inst, start);
+    let mut place: u32 = 0;
+    for entry in entries {
+        place = place.saturating_add(1);
+        if place as usize > entries.len() {
+            return Ok(false);
+        }
+        let after = bill(inst, &plan_at(alloc, inst, start, entries, place)?);
+        if !is_dearer_by(&after, &before, &change_of(entry)) {
+            return Ok(false);
+        }
+        before = after;
+    }
+    Ok(place == 80)
+}
+
+// Whether all chains of two workers are so.
+fn are_chains_exact<R: Threads + Wait + Sync>(
+    rt: &R,
+    alloc: Global,
+    inst: &Instance,
+    start: &Plan,
+    each: u32,
+) -> Result<bool, AllocError>
+    requires start { IsPlanOf inst.now.draft start.now }
+    requires some { 1 ≤ each }
+    requires short { each ≤ 8 }
+{
+    let run = run_chains(rt, alloc, inst, start, &OPTIONS, each, &OpenGate)?;
+    are_exact(alloc, inst, start, run.entries())
+}
+
+// The same on the ward of two patients.
+fn are_exact_on_ward<R: Threads + Wait + Sync>(rt: &R, alloc: Global, each: u32) -> bool
+    requires some { 1 ≤ each }
+    requires short { each ≤ 8 }
+{
+    let Ok(inst) = read_instance(alloc, TWO_PATIENTS.as_bytes()) else {
+        return false;
+    };
+    let Ok(start) = read_solution(alloc, &inst, ONE_ADMITTED.as_bytes()) else {
+        return false;
+    };
+    matches!(are_chains_exact(rt, alloc, &inst, &start, each), Ok(true))
+}
+
+#[test]
+fn accepted_chains_cost_what_the_bills_say(rt: HostRuntime) {
+    for each in [1, 3, 8] {
+        assert!(rt; are_exact_on_ward(&rt, rt.alloc(), each));
+    }
+}

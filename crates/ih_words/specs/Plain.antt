@@ -1,0 +1,43 @@
+-- Searches that freeze nothing and try no stale move again, and whose journal's length rests on one more number: what
+-- `rounds` and `chain` share.
+use Rattle.std.specs.Prelude.{◌≡◌, ◌&&◌, ◌*◌, ℕ, nat_le, Bool, List, codes}
+use Rattle.clap.specs.Words.{App, Row, Text, first_of, with_rule}
+use Rattle.ih_journal.specs.Settings.{IsLawful, most_entries}
+use Rattle.ih_journal.specs.declared.settings.TheConstants.{MAX_ENTRIES}
+use Rattle.ih_words.specs.Arguments.{flag, numbered_option, optional}
+use Rattle.ih_words.specs.Distinct.{all_differ}
+use Rattle.ih_words.specs.Matches.{HasNames, HasOptions, flag_at, options_in, text_at}
+use Rattle.ih_words.specs.Solve.{SolveCall, search_app, solve_files}
+use Rattle.ih_words.specs.declared.solve.Solve.{Solve}
+
+-- NAME INSTANCE OUT JOURNAL --seed N --workers N --moves N --heat N --hard N --ID N [--start F] [--fill]
+abbrev pub plain_app : Text → Text → ℕ → App
+plain_app name id high = with_rule (with_rule (with_rule (search_app name)
+    (numbered_option id 1 high))
+    (optional (codes "start")))
+    (flag (codes "fill"))
+
+-- the options are lawful, no stale move is tried again, and nothing is frozen
+pub record IsPlain (s : Solve) : Type 0 where
+  pub lawful : IsLawful s.options
+  pub once : s.options.retries ≡ 0
+  pub unfrozen : s.start.freeze ≡ 0
+
+-- the file names and the options of a search are there
+pub record HasPlain (rows : List Row) : Type 0 where
+  pub names : HasNames rows (codes "INSTANCE") (codes "OUT") (codes "JOURNAL")
+  pub options : HasOptions rows
+
+-- the search, by `clap`'s matches: nothing is frozen, and no stale move is tried again
+abbrev pub plain_search_in : List Row → SolveCall
+plain_search_in rows = record {
+  instance = text_at (codes "INSTANCE") rows;
+  out = text_at (codes "OUT") rows;
+  journal = text_at (codes "JOURNAL") rows;
+  options = options_in rows 0;
+  start = record { file = first_of (codes "start") rows; fill = flag_at (codes "fill") rows; freeze = 0 };
+}
+
+-- the file names of the search differ, and its entries, so many times taken, are at most a million
+abbrev pub is_lawful_plain : SolveCall → ℕ → Bool
+is_lawful_plain s times = all_differ (solve_files s) && nat_le (most_entries s.options * times) MAX_ENTRIES

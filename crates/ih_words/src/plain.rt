@@ -1,0 +1,83 @@
+//! Searches that freeze nothing and try no stale move again, and whose journal's length rests on one more number: what
+//! `rounds` and `chain` share.
+ghost use Rattle.std.specs.Prelude.{◌≡◌, ◌≤◌, ◌*◌, IfOk, nat_le, true};
+ghost use Rattle.clap.specs.Words.{app_of, found_of, rows_of};
+ghost use Rattle.ih_journal.specs.Settings.{IsLawful, most_entries};
+ghost use Rattle.ih_words.specs.Plain.{HasPlain, IsPlain, is_lawful_plain, plain_app, plain_search_in};
+ghost use Rattle.ih_words.specs.Solve.{solve_call};
+
+use crate::arguments::{flag, numbered_option, optional};
+use crate::file_names::names_differ;
+use crate::matches::{flag_of, optional_text_of, options_in, text_of};
+use crate::solve::{Solve, search_description};
+use crate::start::Start;
+use clap::{ArgMatches, Command};
+use ih_journal::{MAX_ENTRIES, Options};
+use std::alloc::{AllocError, Global};
+
+// `NAME INSTANCE OUT JOURNAL`, the options of a search, a required `--id N` from 1 to `high`, and `--start F` and
+// `--fill`, which may be left out.
+pub(crate) fn plain_description<'a>(
+    alloc: Global,
+    name: &'a str,
+    id: &'a str,
+    high: u32,
+) -> Result<Command<'a>, AllocError>
+    ensures { IfOk result (λ c. app_of c ≡ plain_app name.entry.now id.entry.now high) }
+{
+    search_description(alloc, name)?
+        .arg(numbered_option(alloc, id, 1, high))?
+        .arg(optional(alloc, "start"))?
+        .arg(flag(alloc, "fill"))
+}
+
+// The search.
+pub(crate) fn plain_search_in<'a>(matches: &ArgMatches<'a>) -> Solve<'a>
+    requires { HasPlain (rows_of (found_of matches.now)) }
+    ensures value { solve_call result ≡ plain_search_in (rows_of (found_of matches.now)) }
+    ensures limits { most_entries result.options ≤ MAX_ENTRIES → IsLawful result.options }
+    ensures once { result.options.retries ≡ 0 }
+    ensures unfrozen { result.start.freeze ≡ 0 }
+{
+    Solve {
+        instance: text_of(matches, "INSTANCE"),
+        out: text_of(matches, "OUT"),
+        journal: text_of(matches, "JOURNAL"),
+        options: options_in(matches, 0),
+        start: Start {
+            file: optional_text_of(matches, "start"),
+            fill: flag_of(matches, "fill"),
+            freeze: 0,
+        },
+    }
+}
+
+// The entries of a search, so many times taken, are at most so many as a journal may have.
+fn have_few_entries(options: &Options, times: u32) -> bool
+    requires once { options.now.retries ≡ 0 }
+    requires some { 1 ≤ times }
+    requires limits { most_entries options.now ≤ MAX_ENTRIES → IsLawful options.now }
+    ensures value { result ≡ nat_le (most_entries options.now * times) MAX_ENTRIES }
+    ensures lawful { result ≡ true → IsLawful options.now }
+{
+    options.lawful()
+        && u64::from(options.workers) * u64::from(options.moves) * u64::from(times) <= MAX_ENTRIES
+}
+
+// The file names differ, and the entries of the search, so many times taken, are few enough.
+pub(crate) fn is_lawful_plain(search: &Solve, times: u32) -> bool
+    requires some { 1 ≤ times }
+    requires limits { most_entries search.now.options ≤ MAX_ENTRIES → IsLawful search.now.options }
+    requires once { search.now.options.retries ≡ 0 }
+    requires unfrozen { search.now.start.freeze ≡ 0 }
+    ensures value { result ≡ is_lawful_plain (solve_call search.now) times }
+    ensures lawful { result ≡ true → IsPlain search.now }
+    ensures few { result ≡ true → most_entries search.now.options * times ≤ MAX_ENTRIES }
+{
+    names_differ(
+        search.instance,
+        search.out,
+        search.journal,
+        search.start.file,
+    ) && have_few_entries(&search.options, times)
+}

@@ -1,4 +1,0 @@
-pub mod Attempting
-pub mod CatchingUp
-pub mod Full
-pub mod Turns

@@ -1,8 +1,0 @@
-//! What the workers' searches make together.
-
-ghost use Rattle.ih_workers.specs.Finishing.{FinishedSearchesAreFull};
-
-/// A legal history is full once each worker has finished by a beginning of it, past which it has nothing of that worker.
-pub fn finished_searches_are_full()
-    ensures { FinishedSearchesAreFull }
-{}
