@@ -13,8 +13,9 @@ use Rattle.ih_desk.specs.Desks.{Desk, DeskSeat, IsSeatAt, base_of, worker_count}
 use Rattle.ih_desk.specs.Histories.{GoesOn}
 use Rattle.ih_desk.specs.Finishing.{FinishedSearchesAreFull, HasFinished}
 use Rattle.ih_desk.proofs.HistoryLemmas.{index-get}
+use Rattle.ih_desk.proofs.Lengths.{may-work}
 use Rattle.ih_desk.specs.Searching.{HaveFinished, HaveLeft, IsFresh, IsOpened}
-use Rattle.ih_desk.specs.Workers.{Finishes, Holds, IsNewWorker, IsReady, Worker}
+use Rattle.ih_desk.specs.Workers.{HasWorked, Holds, IsNewWorker, MayWork, Worker}
 
 -- ---- lists side by side
 
@@ -63,17 +64,17 @@ module _ (b : Base) (each : ℕ) (desk : Desk) (seats : List DeskSeat) (opened :
     as-many : length workers ≡ length seats
     as-many = sym (AllZip-long (IsNewWorker b each) workers seats seated)
 
-    pub all-ready : All (IsReady desk) workers
+    pub all-ready : All (MayWork desk) workers
     all-ready k d below =
         let z = beside (IsNewWorker b each) workers seats k (get_or workers k d) seated (slice_get-get_or workers k d below) in
         let fresh = fresh-at k z.0 z.1 in
-        record {
+        may-work each desk (get_or workers k d) (record {
           seat = z.0;
-          new = subst (λ n. IsNewWorker (base_of desk) n (get_or workers k d) z.0) (sym z.2.searcher.own.each_is) (subst (λ c. IsNewWorker c each (get_or workers k d) z.0) (sym opened.base) z.2);
+          new = subst (λ c. IsNewWorker c each (get_or workers k d) z.0) (sym opened.base) z.2;
           own = fresh.own;
           made = fresh.made;
           turns = (let turns = fresh.turns in omega (arith, turns));
-        }
+        })
 
     -- ---- and after it
 
@@ -100,7 +101,7 @@ module _ (b : Base) (each : ℕ) (desk : Desk) (seats : List DeskSeat) (opened :
             let len = finished.len in
             let inside : k < length workers = omega (arith, below, len) in
             let z = beside (IsNewWorker b each) workers seats k (get_or workers k w.0) seated (slice_get-get_or workers k w.0 inside) in
-            let f : Finishes desk (get_or workers k w.0) (get_or after k w.0) = finished.each k w.0 inside in
+            let f : HasWorked desk (get_or workers k w.0) (get_or after k w.0) = finished.each k w.0 inside in
             let first : f.first ≡ z.0 = (let same : Some f.first ≡ Some z.0 = sym f.held ∙ z.2.seat in cc) in
             let last : f.last ≡ s = (let same : Some f.last ≡ Some s = sym f.holds ∙ (ap (λ (v : Worker). v.seat) (index-get after k w.0 w.0 w.1) ∙ w.2) in cc) in
             let number : number_of f.last ≡ k = f.number ∙ (ap number_of first ∙ number-at k z.0 z.1) in

@@ -7,7 +7,7 @@ use Rattle.ih_turn.specs.Seats.{history, number_of, made_count, turns_left}
 use Rattle.ih_cellbook.specs.Keeping.{base_with}
 use Rattle.ih_desk.specs.declared.given.Given.{Given}
 use Rattle.ih_desk.specs.Desks.{Desk, DeskSeat, IsDesk, IsSeatAt, base_of, worker_count}
-use Rattle.ih_desk.specs.Workers.{Finishes, Holds, Worker}
+use Rattle.ih_desk.specs.Workers.{HasWorked, Holds, Worker}
 
 -- what a search is over that is given this
 abbrev pub base_given : Given → Base
@@ -32,7 +32,7 @@ pub record IsOpened (b : Base) (desk : Desk) (seats : List DeskSeat) : Type 0 wh
 -- Each worker has done its search.
 pub record HaveFinished (desk : Desk) (old new : List Worker) : Type 0 where
   pub len : length new ≡ length old
-  pub each : (k : ℕ) (d : Worker) → k < length old → Finishes desk (slice_index_or old k d) (slice_index_or new k d)
+  pub each : (k : ℕ) (d : Worker) → k < length old → HasWorked desk (slice_index_or old k d) (slice_index_or new k d)
 
 -- The seats of the workers came behind those that were there, in the order of the workers.
 pub record HaveLeft (workers : List Worker) (old new : List DeskSeat) : Type 0 where

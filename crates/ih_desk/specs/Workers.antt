@@ -22,21 +22,28 @@ pub record IsNewWorker (b : Base) (each : ℕ) (w : Worker) (s : DeskSeat) : Typ
   pub seat : Holds w s
   pub searcher : IsNew b each (number_of s) w.searcher
 
--- The worker is new, and its seat at this desk has made nothing and has turns enough: four for each try of each
--- attempt of each worker, and 16.
-pub record IsReady (desk : Desk) (w : Worker) : Type 0 where
+-- The worker is new, by attempts of so many moves, and its seat at this desk has made nothing and has turns enough: four
+-- for each try of each attempt of each worker, and 16.
+pub record IsReady (each : ℕ) (desk : Desk) (w : Worker) : Type 0 where
   pub seat : DeskSeat
-  pub new : IsNewWorker (base_of desk) w.searcher.each w seat
+  pub new : IsNewWorker (base_of desk) each w seat
   pub own : IsSeatAt desk seat
   pub made : made_count seat ≡ 0
   pub turns : 4 * most_entries (base_of desk).options + 16 ≤ turns_left seat
 
 -- Afterwards it has a seat at this desk with the same number, and has finished by what that seat made.
-pub record Finishes (desk : Desk) (before after : Worker) : Type 0 where
+pub record Finishes (each : ℕ) (desk : Desk) (before after : Worker) : Type 0 where
   pub first : DeskSeat
   pub last : DeskSeat
   pub held : Holds before first
   pub holds : Holds after last
   pub own : IsSeatAt desk last
   pub number : number_of last ≡ number_of first
-  pub finished : HasFinished (base_of desk) before.searcher.each (number_of last) (history last)
+  pub finished : HasFinished (base_of desk) each (number_of last) (history last)
+
+-- both, by attempts of as many moves as the worker itself says
+abbrev pub MayWork : Desk → Worker → Type 0
+MayWork desk w = IsReady w.searcher.each desk w
+
+abbrev pub HasWorked : Desk → Worker → Worker → Type 0
+HasWorked desk before after = Finishes before.searcher.each desk before after

@@ -1,7 +1,7 @@
 //! The workers side by side.
 
 ghost use Rattle.std.specs.Prelude.{ℕ, ◌<◌, All, length, slice_index_or};
-ghost use Rattle.ih_desk.specs.Workers.{IsReady, Finishes};
+ghost use Rattle.ih_desk.specs.Workers.{HasWorked, MayWork};
 
 use crate::desk::DeskOver;
 use crate::passing::{Pass, SharedGate};
@@ -30,9 +30,9 @@ trait Work<D> {
 
 impl<'a, C: Replicates> Work<DeskOver<Turn<Book<'a, C::Entry>>>>
     for Seated<Searcher<'a, C>, Seat<Book<'a, C::Entry>>> {
-    ghost ready = { IsReady };
+    ghost ready = { MayWork };
 
-    ghost worked = { Finishes };
+    ghost worked = { HasWorked };
 
     fn work<R: Wait, P: Pass>(
         &mut self,
@@ -73,8 +73,8 @@ where
     C::Entry: Send,
     <C::Entry as Logged>::Offer: Send,
     <C::Entry as Logged>::Attempt: Send,
-    requires { All (IsReady desk.now) workers.old }
-    ensures { (k : ℕ) (d : _) → k < length workers.old → Finishes desk.now (slice_index_or workers.old k d) (slice_index_or workers.new k d) }
+    requires { All (MayWork desk.now) workers.old }
+    ensures { (k : ℕ) (d : _) → k < length workers.old → HasWorked desk.now (slice_index_or workers.old k d) (slice_index_or workers.new k d) }
 {
     let shared = SharedGate { gate };
     work_all(rt, desk, workers, &shared);

@@ -6,7 +6,7 @@ ghost use Rattle.ih_journal.specs.Legal.{IsFull};
 ghost use Rattle.ih_journal.specs.Settings.{IsLawful, most_entries};
 ghost use Rattle.ih_cellbook.specs.Keeping.{IsBase};
 ghost use Rattle.ih_desk.specs.Searching.{base_given, IsOpened, HaveFinished, HaveLeft};
-ghost use Rattle.ih_desk.specs.Workers.{IsNewWorker, IsReady};
+ghost use Rattle.ih_desk.specs.Workers.{IsNewWorker, MayWork};
 
 use crate::desk::DeskOver;
 use crate::given::Given;
@@ -114,7 +114,7 @@ where
     C::Entry: Send,
     <C::Entry as Logged>::Offer: Send,
     <C::Entry as Logged>::Attempt: Send,
-    requires { All (IsReady desk.now) workers.old.items }
+    requires { All (MayWork desk.now) workers.old.items }
     ensures { HaveFinished desk.now workers.old.items workers.new.items }
 {
     run_all(rt, desk, workers.as_mut_slice(), gate);

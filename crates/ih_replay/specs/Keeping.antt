@@ -24,7 +24,8 @@ pub record IsWorkerIn (b : Base) (H : List Tried) (w : ℕ) (x : Worker) : Type 
   -- the place behind the worker's last entry
   pub front : (n : ℕ) → (x.front ≤ n) ↔ HasSeenOwn H w n
 
--- The worker after an entry of its next attempt, at the place before `front`: it tries the draw again, or draws the next one.
+-- The worker after an entry of its next attempt, at the place before `front`: it tries the draw again, or draws the
+-- next one.
 abbrev pub passed : Draft → Options → Worker → Tried → ℕ → Worker
 passed I o x e front =
     if is_retried o e then record x { again = x.again + 1; front = front }

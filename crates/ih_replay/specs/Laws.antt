@@ -26,9 +26,9 @@ abbrev pub TakenLinesAreOfLegalHistories : Type 0
 TakenLinesAreOfLegalHistories = (b : Base) (lines : List (List ℕ)) (G : List Entry) → Takes b [] lines G
     → AreLegal b 1 (tries G) × (lines ≡ line_texts b.options 0 G)
 
--- The bytes that follow a journal's heading, and a last piece of them that has no line feed: of a legal history's journal
--- that may be cut off anywhere, each whole line is taken. Where nothing is cut off, that leads to the whole history, and
--- the last piece is empty.
+-- The bytes that follow a journal's heading, and a last piece of them that has no line feed: of a legal history's
+-- journal that may be cut off anywhere, each whole line is taken. Where nothing is cut off, that leads to the whole
+-- history, and the last piece is empty.
 pub record IsTakenAsFar (b : Base) (G : List Entry) (more : List ℕ) (lines : List (List ℕ)) (last : List ℕ) : Type 0 where
   pub taken : Takes b [] lines (take (length lines) G)
   pub whole : more ≡ [] → (last ≡ []) × (length lines ≡ length G)

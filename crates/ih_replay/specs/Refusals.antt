@@ -42,7 +42,8 @@ Passes b H line Extra = (w : ℕ) × IsGoing b H w
 Passes b H line Grammar = (k : ℕ) × (e : Entry) × IsLineOf b.instance b.options k e line
 Passes b H line reason = (k : ℕ) (e : Entry) → IsLineOf b.instance b.options k e line → FitsIn b H k e reason
 
--- the reasons in the order in which the checks are made: of an entry those of its attempt come first, then those of what follows from it
+-- the reasons in the order in which the checks are made: of an entry those of its attempt come first, then those of
+-- what follows from it
 abbrev pub of_attempt : List Reason
 of_attempt = Worker ∷ Number ∷ Try ∷ Seen ∷ Move ∷ []
 

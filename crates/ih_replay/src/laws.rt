@@ -2,7 +2,8 @@
 
 ghost use Rattle.ih_replay.specs.Laws.{LegalJournalsAreTaken, LegalJournalsDiffer, TakenLinesAreOfLegalHistories};
 
-/// Each whole line of a legal history's journal is taken, also where the journal is cut off somewhere behind its heading.
+/// Each whole line of a legal history's journal is taken, also where the journal is cut off somewhere behind its
+/// heading.
 pub fn legal_journals_are_taken()
     ensures { LegalJournalsAreTaken }
 {}

@@ -1,7 +1,7 @@
 //! The check of a journal, line by line.
 //!
-//! A replay is a book and, for each worker, a replica and a stream of draws. It has no second way to price a move: as in
-//! the search, a worker's replica stands for the entries that the worker had seen, and the book judges its offer.
+//! A replay is a book and, for each worker, a replica and a stream of draws. It has no second way to price a move: as
+//! in the search, a worker's replica stands for the entries that the worker had seen, and the book judges its offer.
 
 use crate::taking::{is_full, take_line};
 use crate::workers::{Worker, new_workers};
@@ -53,7 +53,8 @@ impl<'a> Replay<'a> {
     ghost use Rattle.ih_replay.specs.Bests.{BestPlanIs};
     ghost use Rattle.ih_replay.specs.Refusals.{IsGoing, IsNextLine, IsRefusedFor};
 
-    /// A replay that has taken no line, of a search with these options over a start, in which days before `freeze` are frozen.
+    /// A replay that has taken no line, of a search with these options over a start, in which days before `freeze` are
+    /// frozen.
     pub fn new(
         alloc: Global,
         inst: &'a Instance,
@@ -78,8 +79,8 @@ impl<'a> Replay<'a> {
     }
 
     /// Takes a line, without its line feed, where it is that of an entry that may come next, and answers else the first
-    /// reason for which it isn't, with its number among the journal's lines: entry 0 is on line 2. A refused line changes
-    /// nothing. It takes no memory, and the time of the entry's move; after a refusal, maybe that of all moves so far.
+    /// reason for which it isn't, with its number among the journal's lines: entry 0 is on line 2. A refused line
+    /// changes nothing. It takes no memory, and the time of the entry's move; after a refusal, maybe that of all moves so far.
     pub fn step(&mut self, line: &[u8]) -> Result<(), JournalRefusal>
         ensures taken { OnOk result ((e : Entry) × IsNextLine self.old.base self.old.entries line.now e × (self.new ≡ record self.old { entries = self.old.entries ++ e ∷ [] })) }
         ensures next { (e : Entry) → IsNextLine self.old.base self.old.entries line.now e → IsOk result }

@@ -1,5 +1,5 @@
-//! How a line is judged: it is read, checked against its worker's next attempt, priced on that worker's replica, and added
-//! to the book.
+//! How a line is judged: it is read, checked against its worker's next attempt, priced on that worker's replica, and
+//! added to the book.
 
 ghost use Rattle.std.specs.Prelude.{◌≡◌, ◌<◌, ◌≤◌, ◌≢◌, ℕ, ◌++◌, ◌∷◌, [], true, IsTrue, IsFalse, IfOk, IfErr, OnOk, OnErr, length, Some};
 ghost use Rattle.std.specs.List.{AllByRecursion};

@@ -11,8 +11,8 @@ use Rattle.ih_rounds.specs.Best.{HaveNone, IsBestOf, cost_in}
 use Rattle.ih_rounds.specs.Rounds.{AreRounds, Round, base_in, histories, journals}
 use Rattle.ih_rounds.specs.Telling.{Answers, with_answers}
 
--- So many rounds were searched: the searcher's answers are their histories, and their journals were appended. Each starts from a
--- timetable of the instance.
+-- So many rounds were searched: the searcher's answers are their histories, and their journals were appended. Each
+-- starts from a timetable of the instance.
 pub record HaveRun (b : Base) (count : ℕ) (before after : Answers) (old new : List ℕ) : Type 0 where
   pub rounds : List Round
   pub count_is : length rounds ≡ count

@@ -26,8 +26,8 @@ pub fn run_workers<'a, R: Threads + Wait + Sync, G: Gate>(
     workers: &mut [Worker<'a>],
     gate: &G,
 )
-    requires { All (IsReady desk.now) workers.old }
-    ensures { (k : ℕ) (d : _) → k < length workers.old → Finishes desk.now (slice_index_or workers.old k d) (slice_index_or workers.new k d) }
+    requires { All (IsReady 1 desk.now) workers.old }
+    ensures { (k : ℕ) (d : _) → k < length workers.old → Finishes 1 desk.now (slice_index_or workers.old k d) (slice_index_or workers.new k d) }
 {
     run_all(rt, desk, workers, gate);
 }

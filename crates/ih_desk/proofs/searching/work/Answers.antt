@@ -1,6 +1,6 @@
 use Rattle.std.proofs.Common.{◌≡◌, ◌∙◌, ◌++◌, ap, sym, subst, length, take, drop, get_or}
 use Rattle.std.proofs.Math.Seq.{take-append_seam}
-use Rattle.ih_desk.specs.Workers.{Finishes}
+use Rattle.ih_desk.specs.Workers.{HasWorked}
 use Rattle.ih_desk.specs.Searching.{HaveFinished}
 use Rattle.ih_desk.proofs.searching.work.Goals as goal
 
@@ -14,5 +14,5 @@ returns g c =
     let same : take c.args.workers.now.len (news ++ rest) ≡ news = ap (λ n. take n (news ++ rest)) (c.args.workers.now.ok.0 ∙ sym len) ∙ take-append_seam news rest in
     subst (HaveFinished c.args.desk.now items) (sym same) (record {
       len = len;
-      each = λ k d h. subst (λ ws. Finishes c.args.desk.now (get_or ws k d) (get_or news k d)) value (c.run_all.ensures k d (rw value h));
+      each = λ k d h. subst (λ ws. HasWorked c.args.desk.now (get_or ws k d) (get_or news k d)) value (c.run_all.ensures k d (rw value h));
     })
