@@ -210,3 +210,34 @@ fn an_instance_is_read(rt: HostRuntime) -> Result<(), Fail> {
     );
     Ok(())
 }
+
+// The text of the smaller file with a first key more, whose value is so many lists, each inside the one before.
+fn nested(alloc: Global, depth: usize) -> Result<String, AllocError> {
+    let open = "[".repeat(alloc, depth)?;
+    let close = "]".repeat(alloc, depth)?;
+    format!(in alloc; "{{\"x\":{open}{close},\"days\":1")
+}
+
+// Whether that is answered for such a file.
+fn is_answered_nested(alloc: Global, depth: usize, wanted: &str) -> bool {
+    match nested(alloc, depth) {
+        Ok(first) => is_answered(alloc, SMALL, r#"{"days":1"#, first.as_str(), wanted),
+        Err(_) => false,
+    }
+}
+
+#[test]
+fn deep_values_and_repeated_keys(rt: HostRuntime) {
+    let alloc = rt.alloc();
+    assert!(rt; is_answered_nested(alloc, 126, "accepted"));
+    assert!(rt; is_answered_nested(alloc, 127, "NotJson at $"));
+    assert!(rt;
+        is_answered(
+            alloc,
+            SMALL,
+            r#"{"days":1"#,
+            r#"{"days":0,"days":1"#,
+            "accepted"
+        )
+    );
+}

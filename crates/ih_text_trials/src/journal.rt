@@ -3,10 +3,14 @@
 ghost use Rattle.std.specs.Prelude.{◌^◌};
 ghost use Rattle.ih_tables.specs.Bills.{IsWithin};
 
-use ih_journal::{Entry, Options, Verdict, head_line, line, parse_head, text};
+use ih_journal::{
+    BadLine, Entry, Options, Verdict, head_line, line, parse_head, parse_line, parse_move, text,
+};
 use ih_plan::{Move, Placement};
-use ih_tables::{Bill, Cell, Day, NurseNo, PatientNo, RoomNo, Shift, TheatreNo};
+use ih_tables::{Bill, Cell, Day, Instance, NurseNo, PatientNo, RoomNo, Shift, TheatreNo};
+use ih_ward::ward;
 use std::alloc::Global;
+use std::test::Fail;
 
 fn options(seed: u64, workers: u32, moves: u32, retries: u32) -> Options {
     Options {
@@ -194,4 +198,93 @@ fn lines_are_written(rt: HostRuntime) {
     assert!(rt; is_stale_line(alloc));
     assert!(rt; is_retried_line(alloc));
     assert!(rt; are_move_texts(alloc));
+}
+
+const STALE: &str =
+    "1 0 0 0 place:0,1,1,1 0,1,0,0,0,0,0,0,3,-1,0,-1,0,0,0,1,0 stale:roomshift.0.0:0:1";
+
+// Whether the line of a stale entry is read, place, move and verdict.
+fn is_stale_read(inst: &Instance, options: &Options) -> bool {
+    match parse_line(inst, options, STALE.as_bytes()) {
+        Ok((1, entry)) => {
+            entry.mv == place(0, 1, 1, 1)
+                && entry.price.v == [0, 1, 0, 0, 0, 0, 0, 0, 3]
+                && entry.verdict
+                    == Verdict::Stale {
+                        cell: Cell::RoomShift(RoomNo(0), Shift(0)),
+                        at_seen: 0,
+                        at_place: 1,
+                    }
+        }
+        _ => false,
+    }
+}
+
+#[test]
+fn lines_are_read(rt: HostRuntime) -> Result<(), Fail> {
+    let alloc = rt.alloc();
+    let inst = ward(alloc, &[])?;
+    let options = options(0, 2, 1, 0);
+    assert!(rt; is_stale_read(&inst, &options));
+    let refused = [
+        ("", 1),
+        (
+            "00 0 0 0 idle 0,0,0,0,0,0,0,0,0,0,0,0,0,0,0,0,0 accepted",
+            1,
+        ),
+        (
+            "0 0 0 -1 idle 0,0,0,0,0,0,0,0,0,0,0,0,0,0,0,0,0 accepted",
+            4,
+        ),
+        (
+            "0 0 0 0 place:2,0,0,0 0,0,0,0,0,0,0,0,0,0,0,0,0,0,0,0,0 accepted",
+            5,
+        ),
+        ("0 0 0 0 idle 0,0,0,0,0,0,0,0,0,0,0,0,0,0,0,0 accepted", 6),
+        (
+            "0 0 0 0 idle 0,0,0,0,0,0,0,0,0,0,0,0,0,0,0,0,-0 accepted",
+            6,
+        ),
+        ("0 0 0 0 idle 0,0,0,0,0,0,0,0,0,0,0,0,0,0,0,0,0", 7),
+        (
+            "0 0 0 0 idle 0,0,0,0,0,0,0,0,0,0,0,0,0,0,0,0,0 accepted\r",
+            7,
+        ),
+        (
+            "0 0 0 0 idle 0,0,0,0,0,0,0,0,0,0,0,0,0,0,0,0,0 accepted ",
+            8,
+        ),
+    ];
+    for (text, field) in refused {
+        assert!(rt;
+            match parse_line(&inst, &options, text.as_bytes()) {
+                Ok(_) => false,
+                Err(bad) => bad == BadLine { field },
+            }
+        );
+    }
+    Ok(())
+}
+
+#[test]
+fn moves_are_read(rt: HostRuntime) -> Result<(), Fail> {
+    let alloc = rt.alloc();
+    let inst = ward(alloc, &[])?;
+    let cases = [
+        ("idle", Some(Move::Idle)),
+        ("place:0,1,1,1", Some(place(0, 1, 1, 1))),
+        (
+            "swapnurses:5,0,1",
+            Some(Move::SwapNurses(Shift(5), RoomNo(0), RoomNo(1))),
+        ),
+        ("swapnurses:6,0,1", None),
+        ("place:0,1,1", None),
+        ("place:0,1,1,01", None),
+        ("Idle", None),
+        ("", None),
+    ];
+    for (text, mv) in cases {
+        assert_eq!(rt; parse_move(&inst, text.as_bytes()), mv);
+    }
+    Ok(())
 }

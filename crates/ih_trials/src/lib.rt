@@ -13,6 +13,8 @@ mod fill_tests;
 #[cfg(test)]
 mod journal_tests;
 #[cfg(test)]
+mod meeting_tests;
+#[cfg(test)]
 mod noted_tests;
 #[cfg(test)]
 mod rounds_tests;
