@@ -1,4 +1,3 @@
 mod FirstDay
-mod NurseChanges
 mod RoomDayChanges
 mod TheatreChanges

@@ -1,7 +1,12 @@
 //! Laws of journals and of whole calls, each on a function that does nothing. A law that follows from others calls theirs.
 
 ghost use Rattle.ih_top.specs.Laws.{ChainJournalsAreHeadless, ChainJournalsFit, ChainsAreRefused, DemosShowTheSame, JournalsFit, LoneRoundsAreAlike, LoneRoundsEndAlike, LoneSearchesAreAlike, LoneSearchesDoTheSame, LoneSearchesEndAlike, RefusedLinesAreNotFull, SolvesAreTakenBack, SolvesWithNoneAreTakenBack, WholeLinesAreSalvaged};
-ghost use Rattle.std.specs.Prelude.{ℕ};
+ghost use Rattle.std.specs.Prelude.{ℕ, ◌≡◌};
+ghost use Rattle.ih_journal.specs.declared.settings.TheConstants.{MAX_ENTRIES, MAX_HARD, MAX_HEAT, MAX_MOVES, MAX_RETRIES, MAX_WORKERS};
+ghost use Rattle.ih_words.specs.declared.chain.TheConstants.{MAX_LENGTH};
+ghost use Rattle.ih_words.specs.declared.rounds.TheConstants.{MAX_ROUNDS};
+ghost use Rattle.ih_words.specs.declared.start.TheConstants.{MAX_FREEZE};
+ghost use Rattle.ih_top.specs.declared.files.TheConstants.{MAX_FILE, MAX_JOURNAL};
 ghost use Rattle.ih_top.specs.Chaining.{of_chains};
 ghost use Rattle.ih_top.specs.Solving.{of_moves};
 
@@ -65,3 +70,19 @@ pub fn chains_are_refused()
 {
     chain_journals_are_short();
 }
+
+/// The limits of words and files are these numbers: the definitions speak of them by name, so a changed constant would
+/// change what is promised, and not break it.
+pub fn limits_are_these()
+    ensures workers { MAX_WORKERS ≡ 64 }
+    ensures moves { MAX_MOVES ≡ 1000000 }
+    ensures heat { MAX_HEAT ≡ 1000000 }
+    ensures hard { MAX_HARD ≡ 1000000 }
+    ensures retries { MAX_RETRIES ≡ 7 }
+    ensures entries { MAX_ENTRIES ≡ 1000000 }
+    ensures freeze { MAX_FREEZE ≡ 56 }
+    ensures rounds { MAX_ROUNDS ≡ 16 }
+    ensures length { MAX_LENGTH ≡ 8 }
+    ensures file { MAX_FILE ≡ 67108864 }
+    ensures journal { MAX_JOURNAL ≡ 268435456 }
+{}

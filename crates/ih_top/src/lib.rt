@@ -25,8 +25,8 @@ mod writer;
 
 pub use files::{MAX_FILE, MAX_JOURNAL};
 pub use laws::{
-    chains_are_refused, lone_searches_are_alike, refused_lines_are_not_full, solves_are_taken_back,
-    whole_lines_are_salvaged,
+    chains_are_refused, limits_are_these, lone_searches_are_alike, refused_lines_are_not_full,
+    solves_are_taken_back, whole_lines_are_salvaged,
 };
 pub use rounds_output::search_at_desk;
 pub use running::run;
