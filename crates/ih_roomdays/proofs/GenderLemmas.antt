@@ -1,5 +1,5 @@
 -- The first person of a gender stands for it.
-use Rattle.std.proofs.Common.{◌≡◌, ℕ, ◌+◌, ◌<◌, arith, sym, ap, subst, ◌∙◌, true, false, List, [], ◌∷◌, ◌++◌, length, length-append, inl, inr}
+use Rattle.std.proofs.Common.{◌≡◌, ℕ, ◌+◌, ◌<◌, ◌≤◌, refl, arith, sym, ap, subst, ◌∙◌, true, false, List, [], ◌∷◌, ◌++◌, length, length-append, inl, inr}
 use Rattle.std.specs.Prelude.{◌==◌, slice_index}
 use Rattle.std.specs.Str.{bytes_eq}
 use Rattle.std.proofs.lemmas.Bool.{cases_Bool, cases_lt, eq-eqb, ne_eqb, both_ways}
@@ -25,6 +25,13 @@ equal I x y e = (bytes_eq-Decides (gender_of I x) (gender_of I y)).0 e
 not-before : (I : Draft) (x y n m : ℕ) → gender_of I x ≡ gender_of I y → IsFirst I x n → IsFirst I y m → n < m → ⊥
 not-before I x y n m e a b before =
     both_ways (bytes_eq (gender_of I y) (gender_of I n)) (b.first n before) (ap (λ g. bytes_eq g (gender_of I n)) (sym e) ∙ a.same)
+
+-- it isn't past the person itself
+first-few : (I : Draft) (x n : ℕ) → IsFirst I x n → n ≤ x
+first-few I x n is = elim (cases_lt x n) [
+  | inl past ↦ absurd (both_ways (bytes_eq (gender_of I x) (gender_of I x)) (is.first x past) ((bytes_eq-Decides (gender_of I x) (gender_of I x)).1 refl))
+  | inr fine ↦ fine
+]
 
 pub first-tells : (I : Draft) (x y n m : ℕ) → IsFirst I x n → IsFirst I y m → (n == m) ≡ bytes_eq (gender_of I x) (gender_of I y)
 first-tells I x y n m a b = elim (cases_Bool (bytes_eq (gender_of I x) (gender_of I y))) [
@@ -65,5 +72,6 @@ first-more I numbers k n so_far is = record {
 pub first-all : (I : Draft) (numbers : List ℕ) (k : ℕ) → AreFirst I numbers k → k ≡ person_count I → AreGenders I numbers
 first-all I numbers k all e = record {
   len = all.len ∙ e;
+  below = λ x xh. let few = first-few I x (slice_index numbers x) (all.each x (rw e xh)) in omega arith;
   each = λ x y xh yh. first-tells I x y (slice_index numbers x) (slice_index numbers y) (all.each x (rw e xh)) (all.each y (rw e yh));
 }

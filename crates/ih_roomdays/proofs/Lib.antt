@@ -1,7 +1,6 @@
 pub mod Nodes
 pub mod Entries
 pub mod Leavings
-pub mod Sights
 pub mod Orders
 pub mod People
 pub mod GenderLemmas
@@ -12,3 +11,9 @@ pub mod Others
 pub mod Occupants
 pub mod Places
 pub mod GainLemmas
+pub mod SquareSums
+pub mod Spans
+pub mod Tallies
+pub mod Mixtures
+pub mod Tours
+pub mod Vacant

@@ -42,7 +42,7 @@ length-alike (x ∷ xs) ys o p alike =
 
 -- ---- ages
 
-greatest-in : (f : ℕ → ℕ) (x : ℕ) (xs : List ℕ) → has x xs ≡ true → f x ≤ greatest (map f xs)
+pub greatest-in : (f : ℕ → ℕ) (x : ℕ) (xs : List ℕ) → has x xs ≡ true → f x ≤ greatest (map f xs)
 unfolding greatest
 greatest-in f x [] m = absurd (cc)
 greatest-in f x (y ∷ ys) m = elim (has-cases x y ys m) [
@@ -50,7 +50,7 @@ greatest-in f x (y ∷ ys) m = elim (has-cases x y ys m) [
   | inr there ↦ omega (arith, greatest-in f x ys there)
 ]
 
-greatest-most : (f : ℕ → ℕ) (b : ℕ) (xs : List ℕ) → ((x : ℕ) → has x xs ≡ true → f x ≤ b) → greatest (map f xs) ≤ b
+pub greatest-most : (f : ℕ → ℕ) (b : ℕ) (xs : List ℕ) → ((x : ℕ) → has x xs ≡ true → f x ≤ b) → greatest (map f xs) ≤ b
 unfolding greatest
 greatest-most f b [] most = omega arith
 greatest-most f b (y ∷ ys) most = omega (arith, most y (has-here y y ys refl), greatest-most f b ys (λ x m. most x (has-there x y ys m)))
@@ -61,7 +61,7 @@ greatest-alike f xs ys alike =
     let two = greatest-most f (greatest (map f xs)) ys (λ x m. greatest-in f x xs (alike x ∙ m)) in
     omega arith
 
-least-in : (f : ℕ → ℕ) (x : ℕ) (xs : List ℕ) → has x xs ≡ true → least (map f xs) ≤ f x
+pub least-in : (f : ℕ → ℕ) (x : ℕ) (xs : List ℕ) → has x xs ≡ true → least (map f xs) ≤ f x
 unfolding least
 least-in f x [] m = absurd (cc)
 least-in f x (y ∷ []) m = elim (has-cases x y [] m) [ inl e ↦ let same = ap f e in omega arith | inr none ↦ absurd (cc) ]
@@ -70,7 +70,7 @@ least-in f x (y ∷ z ∷ zs) m = elim (has-cases x y (z ∷ zs) m) [
   | inr there ↦ omega (arith, least-in f x (z ∷ zs) there)
 ]
 
-least-most : (f : ℕ → ℕ) (b y : ℕ) (ys : List ℕ) → ((x : ℕ) → has x (y ∷ ys) ≡ true → b ≤ f x) → b ≤ least (map f (y ∷ ys))
+pub least-most : (f : ℕ → ℕ) (b y : ℕ) (ys : List ℕ) → ((x : ℕ) → has x (y ∷ ys) ≡ true → b ≤ f x) → b ≤ least (map f (y ∷ ys))
 unfolding least
 least-most f b y [] most = most y (has-here y y [] refl)
 least-most f b y (z ∷ zs) most = omega (arith, most y (has-here y y (z ∷ zs) refl), least-most f b z zs (λ x m. most x (has-there x y (z ∷ zs) m)))
@@ -119,17 +119,17 @@ none-from q [] each = refl
 none-from q (y ∷ ys) each = or_from (q y) (list_any q ys) (each y (has-here y y ys refl)) (none-from q ys (λ x m. each x (has-there x y ys m)))
 
 -- all have one gender
-abbrev HaveOne : Draft → List ℕ → Type 0
+abbrev pub HaveOne : Draft → List ℕ → Type 0
 HaveOne I xs = (x y : ℕ) → has x xs ≡ true → has y xs ≡ true → gender_of I x ≡ gender_of I y
 
-one-from : (I : Draft) (xs : List ℕ) → genders_differ I xs ≡ false → HaveOne I xs
+pub one-from : (I : Draft) (xs : List ℕ) → genders_differ I xs ≡ false → HaveOne I xs
 one-from I [] e x y m n = absurd (cc)
 one-from I (z ∷ zs) e x y m n = sym (first x m) ∙ first y n
   where
     first : (w : ℕ) → has w (z ∷ zs) ≡ true → gender_of I z ≡ gender_of I w
     first w h = elim (has-cases w z zs h) [ inl same ↦ ap (gender_of I) same | inr there ↦ same-from I z w (none-of (differ I z) w zs e there) ]
 
-one-to : (I : Draft) (xs : List ℕ) → HaveOne I xs → genders_differ I xs ≡ false
+pub one-to : (I : Draft) (xs : List ℕ) → HaveOne I xs → genders_differ I xs ≡ false
 one-to I [] one = refl
 one-to I (z ∷ zs) one = none-from (differ I z) zs (λ w m. same-to I z w (one z w (has-here z z zs refl) (has-there w z zs m)))
 

@@ -1,5 +1,5 @@
 -- The part of a room and a day with a person there or not, from the list of the others.
-use Rattle.std.proofs.Common.{◌≡◌, ℕ, ◌+◌, ◌*◌, ◌/◌, ◌<◌, ◌^◌, refl, arith, sym, ap, subst, ◌∙◌, Bool, true, false, List, [], ◌∷◌, ◌++◌, length, length-append, Option, inl, inr}
+use Rattle.std.proofs.Common.{◌≡◌, ℕ, ◌+◌, ◌*◌, ◌/◌, ◌<◌, ◌≤◌, refl, arith, sym, ap, subst, ◌∙◌, Bool, true, false, List, [], ◌∷◌, ◌++◌, length, length-append, Option, inl, inr}
 use Rattle.std.specs.Prelude.{◌||◌, ◌==◌, option_map}
 use Rattle.std.proofs.lemmas.Bool.{cases_eq, eq-eqb, ne_eqb, eqb-true, or_cases, or_right}
 use Rattle.std.proofs.lemmas.List.{length-map}
@@ -20,18 +20,21 @@ use Rattle.ih_plan.specs.Cells.{part_at}
 use Rattle.ih_plan.proofs.Entries.{admission-patient, admission-set}
 use Rattle.ih_links.specs.Lists.{AreNodes, IsOnce, has, without}
 use Rattle.ih_links.proofs.Members.{apart, has-append, has-without_self, has-without_other, length-once, length-without, once-append, once-without, without-none}
+use Rattle.ih_roomdays.specs.declared.profiles.Profile.{Profile}
 use Rattle.ih_roomdays.specs.declared.rows.Rows.{Rows}
 use Rattle.ih_roomdays.specs.Company.{with_if}
 use Rattle.ih_roomdays.specs.Ledger.{IsLedgerOf}
+use Rattle.ih_roomdays.specs.Profiles.{most_persons, profile_of}
 use Rattle.ih_roomdays.specs.Parts.{room_day_part, room_counts}
-use Rattle.ih_roomdays.specs.Rows.{AreRows, is_at, nodes_each, nodes_at, persons_at}
+use Rattle.ih_roomdays.specs.Rows.{AreRows, is_at, nodes_each, nodes_at, crowd_at, persons_at}
 use Rattle.ih_roomdays.proofs.StayLemmas.{others}
 use Rattle.ih_roomdays.proofs.Nodes.{or-false, person-below}
 use Rattle.ih_roomdays.proofs.Orders.{AreAlike}
 use Rattle.ih_roomdays.proofs.People.{day-few, has-persons, persons-once}
+use Rattle.ih_roomdays.proofs.Tallies.{some-there}
 use Rattle.ih_roomdays.proofs.Standing.{has-present, part-alike}
 
--- ---- how many others there are
+-- ---- the others
 
 module _ (v : Rows) (rows : AreRows v) (r d x : ℕ) (day : d < v.days) where
   abbrev pub rest : List ℕ
@@ -39,11 +42,6 @@ module _ (v : Rows) (rows : AreRows v) (r d x : ℕ) (day : d < v.days) where
 
   rest-once : IsOnce rest
   rest-once = once-without x (persons_at v r d) (persons-once v r d rows day)
-
-  rest-has : (y : ℕ) → has y rest ≡ true → has y (persons_at v r d) ≡ true
-  rest-has y there =
-      let ne = apart y x rest there (has-without_self x (persons_at v r d)) in
-      sym (has-without_other y x (persons_at v r d) ne) ∙ there
 
   pub with-once : (b : Bool) → IsOnce (with_if b x rest)
   with-once true = once-append rest x rest-once (has-without_self x (persons_at v r d))
@@ -60,28 +58,25 @@ module _ (v : Rows) (rows : AreRows v) (r d x : ℕ) (day : d < v.days) where
       more true = has-append y rest x ∙ (ap (λ e. has y rest || e) (ne_eqb x y (λ e. ne (sym e))) ∙ or-false (has y rest))
       more false = refl
 
-  pub count-there : is_at v r d x ≡ true → length rest + 1 ≡ length (nodes_at v r d)
-  count-there there =
-      length-without x (persons_at v r d) (persons-once v r d rows day) (has-persons v r d x rows day ∙ there) ∙ length-map (nodes_at v r d) (λ n. n / nodes_each)
+  -- they are persons of the instance, and few
+  pub with-known : x < v.persons → (b : Bool) (y : ℕ) → has y (with_if b x rest) ≡ true → y < v.persons
+  with-known below b y there = elim (cases_eq y x) [
+    | inl own ↦ rw own below
+    | inr ne ↦ rows.known r d y day (sym (has-other b y ne) ∙ there)
+  ]
 
-  pub count-away : is_at v r d x ≡ false → length rest ≡ length (nodes_at v r d)
-  count-away away =
-      ap length (without-none x (persons_at v r d) (has-persons v r d x rows day ∙ away)) ∙ length-map (nodes_at v r d) (λ n. n / nodes_each)
+  pub with-few : x < v.persons → (b : Bool) → length (with_if b x rest) ≤ most_persons
+  with-few below b = let all = length-once v.persons (with_if b x rest) (with-once b) (with-known below b) in let few = rows.few_persons in omega arith
 
-  -- the nodes of persons are those of persons of the instance
-  person-few : AreNodes v.links.nodes (nodes_at v r d) → (y : ℕ) → is_at v r d y ≡ true → y < v.persons
-  person-few known y there =
-      subst (λ z. z < v.persons) (div-mul-add y nodes_each d (day-few v d rows day)) (person-below (known.below (y * nodes_each + d) there) rows.nodes)
+  -- where the person isn't there, all are others
+  pub rest-all : is_at v r d x ≡ false → rest ≡ persons_at v r d
+  rest-all away = without-none x (persons_at v r d) (has-persons v r d x rows day ∙ away)
 
-  pub others-few : x < v.persons → AreNodes v.links.nodes (nodes_at v r d) → length rest + 1 < 2 ^ 32
-  others-few below known =
-      let all = length-once v.persons (rest ++ x ∷ []) (with-once true) (λ y there. elim (or_cases (has y rest) (x == y) (sym (has-append y rest x) ∙ there)) [
-        | inl before ↦ person-few known y (sym (has-persons v r d y rows day) ∙ rest-has y before)
-        | inr now ↦ subst (λ z. z < v.persons) (eqb-true x y now) below
-      ]) in
-      let whole = length-append rest (x ∷ []) in
-      let nodes = rows.few_nodes in
-      omega arith
+  -- who is there has a part in the sums
+  pub own-part : is_at v r d x ≡ true → (who : Profile) → who ≡ profile_of v.profiles x
+      → (who.gender ≤ (crowd_at v r d).company.genders) × (who.gender * who.gender ≤ (crowd_at v r d).company.squares)
+  own-part there who own =
+      some-there v.profiles (persons_at v r d) x (persons-once v r d rows day) (has-persons v r d x rows day ∙ there) who.gender (crowd_at v r d).company (ap (λ w. w.gender) own) (rows.kept r d day).company
 
 -- ---- the part with another stay
 

@@ -1,15 +1,20 @@
 -- The persons of the nodes of a day.
-use Rattle.std.proofs.Common.{◌≡◌, ℕ, zero, suc, ◌+◌, ◌*◌, ◌/◌, ◌%◌, ◌<◌, refl, arith, sym, ap, ◌∙◌, Bool, true, false, List, [], ◌∷◌, ◌++◌, map, inl, inr}
+use Rattle.std.proofs.Common.{◌≡◌, ℕ, zero, suc, ◌+◌, ◌*◌, ◌/◌, ◌%◌, ◌<◌, ◌≤◌, refl, arith, sym, ap, ◌∙◌, Bool, true, false, List, [], ◌∷◌, ◌++◌, length, map, get_or, mul_comm, inl, inr}
 use Rattle.std.specs.Prelude.{◌||◌, ◌==◌, nat_eq, if◌then◌else◌}
 use Rattle.std.specs.List.{IsDistinct, AllByRecursion}
 use Rattle.std.proofs.lemmas.Bool.{cases_eq, cases_lt, eq-eqb, ne_eqb, false_from_ne_true}
-use Rattle.std.proofs.lemmas.Nat.{div-mul-add}
+use Rattle.std.proofs.lemmas.List.{get_or_read, length-map}
+use Rattle.std.proofs.lemmas.Nat.{div-mul-add, mul-add-lt}
 use Rattle.ih_links.specs.Lists.{has, IsOnce}
-use Rattle.ih_links.proofs.Members.{has-here, has-there, lacks, once-append}
+use Rattle.ih_links.proofs.Members.{has-here, has-there, lacks, length-once, once-append}
 use Rattle.ih_plan.proofs.Lists.{has as has_number, has-which_below, which_below-has, has-listed}
 use Rattle.ih_plan.specs.Sums.{which_below, is_listed}
+use Rattle.ih_roomdays.specs.declared.companies.Crowd.{Crowd}
 use Rattle.ih_roomdays.specs.declared.rows.Rows.{Rows}
-use Rattle.ih_roomdays.specs.Rows.{AreRows, nodes_each, nodes_at, persons_at, is_at}
+use Rattle.ih_roomdays.specs.Company.{IsSmall, nobody}
+use Rattle.ih_roomdays.specs.Profiles.{most_persons}
+use Rattle.ih_roomdays.specs.Rows.{AreRows, nodes_each, nodes_at, persons_at, crowd_at, is_at}
+use Rattle.ih_roomdays.proofs.Tallies.{company-small}
 
 -- two tests of what is in a list agree
 has-number : (x : ℕ) (xs : List ℕ) → has x xs ≡ has_number x xs
@@ -62,6 +67,29 @@ has-persons v r d x rows below = has-person nodes_each d (day-few v d rows below
 
 pub persons-once : (v : Rows) (r d : ℕ) → AreRows v → d < v.days → IsOnce (persons_at v r d)
 persons-once v r d rows below = once-persons nodes_each d (day-few v d rows below) (nodes_at v r d) (λ n m. rows.same_day r d n below m) (rows.once r d below)
+
+-- a room and a day have a place among the lists
+pub place-inside : (v : Rows) (r d : ℕ) → r < v.rooms → d < v.days → r * v.days + d < v.rooms * v.days
+place-inside v r d room below = rw (mul_comm v.rooms v.days) (mul-add-lt r v.days d v.rooms room below)
+
+-- what is read there is what is kept of the room's day
+pub crowd-read : (v : Rows) (r d : ℕ) (c : Crowd) → AreRows v → r < v.rooms → d < v.days → c ≡ get_or v.crowds.items (r * v.days + d) c → c ≡ crowd_at v r d
+crowd-read v r d c rows room below e =
+    get_or_read v.crowds.items (r * v.days + d) c (let place = place-inside v r d room below in omega (arith, rows.crowds)) e nobody
+
+-- there are no more of them than an instance has
+pub nodes-few : (v : Rows) (r d : ℕ) → AreRows v → d < v.days → length (nodes_at v r d) ≤ most_persons
+nodes-few v r d rows below =
+    let all = length-once v.persons (persons_at v r d) (persons-once v r d rows below) (λ y there. rows.known r d y below (sym (has-persons v r d y rows below) ∙ there)) in
+    let same = length-map (nodes_at v r d) (λ n. n / nodes_each) in
+    let few = rows.few_persons in
+    omega arith
+
+-- so what is kept of them is small
+pub crowd-small : (v : Rows) (r d : ℕ) → AreRows v → d < v.days → IsSmall (crowd_at v r d).company
+crowd-small v r d rows below =
+    let same = length-map (nodes_at v r d) (λ n. n / nodes_each) in
+    company-small v.persons v.profiles (persons_at v r d) (crowd_at v r d).company rows.profiles (rows.kept r d below).company (let few = nodes-few v r d rows below in omega arith)
 
 all-apart : (x : ℕ) (xs : List ℕ) → has x xs ≡ false → AllByRecursion (λ y. nat_eq x y ≡ false) xs
 all-apart x [] free = tt

@@ -6,13 +6,14 @@ use Rattle.ih_tables.specs.declared.drafts.Draft.{Draft}
 use Rattle.ih_tables.specs.declared.ids.RoomNo.{RoomNo}
 use Rattle.ih_tables.specs.declared.ids.Day.{Day}
 use Rattle.ih_tables.specs.declared.cells.Cell.TheVariants.{RoomDay}
-use Rattle.ih_tables.specs.Sizes.{patient_count, person_count}
+use Rattle.ih_tables.specs.Sizes.{patient_count, person_count, room_count}
 use Rattle.ih_plan.specs.Timetable.{Timetable}
 use Rattle.ih_plan.specs.Presence.{admission_of, is_present, present}
 use Rattle.ih_plan.specs.Cells.{part_at, part_of, content_of}
 use Rattle.ih_plan.specs.Present.{ArePresent}
 use Rattle.ih_links.specs.Lists.{has, IsOnce}
 use Rattle.ih_roomdays.specs.declared.rows.Rows.{Rows}
+use Rattle.ih_roomdays.specs.Profiles.{ArePersons}
 use Rattle.ih_roomdays.specs.Rows.{persons_at}
 use Rattle.ih_roomdays.specs.Parts.{room_day_part, room_counts}
 use Rattle.ih_roomdays.specs.Ledger.{IsLedgerOf}
@@ -65,6 +66,14 @@ module _ (I : Draft) (P : Timetable) (v : Rows) (stands : IsLedgerOf I P v) wher
 
   alike : (r d : ℕ) → d < I.days → AreAlike (persons_at v r d) (present I P r d)
   alike r d day x = has-persons v r d x stands.rows (within d day) ∙ (stands.each r d x day ∙ sym (has-present I P r d x))
+
+  -- a room and a day of the instance are the ledger's
+  pub place-known : (r : RoomNo) (d : Day) → r.0 < room_count I → d.0 < I.days → (r.0 < v.rooms) × (d.0 < v.days)
+  place-known r d room day = (rw stands.rooms room, within d.0 day)
+
+  -- who is in a room is a person of the instance
+  pub persons-known : (r d : ℕ) → d < v.days → ArePersons I (persons_at v r d)
+  persons-known r d day x there = rw (← stands.persons) (stands.rows.known r d x day (sym (has-persons v r d x stands.rows day) ∙ there))
 
   -- the part of a room and a day is that of its persons, in the ledger's order
   pub cell-part : (r : RoomNo) (d : Day) → d.0 < I.days → room_day_part (room_counts I r.0 (persons_at v r.0 d.0)) ≡ part_at I P (RoomDay r d)

@@ -94,11 +94,8 @@ module _ (I : Draft) (P : Timetable) (old new : Rows) (p : PatientNo) (a : Patie
         | inr other ↦ rw (ne_eqb x p.0 other) (and-true (is_present I P r d x) ∙ sym (others I P p None r d x other))
       ]
 
-  -- on each day of the stay the patient is in the room of the placement
-  pub is-there : stay_of P p.0 ≡ Some at → (d : ℕ) → at.day.0 ≤ d → d < min (at.day.0 + a.length_of_stay) I.days → (r : ℕ) × (is_at old r d p.0 ≡ true)
-  is-there stay d late early = (
-    at.room.0,
-    stands.each at.room.0 d p.0 (omega arith) ∙ (somewhere I P p.0 at.room.0 d a at patient stay
-        ∙ and_from (at.room.0 == at.room.0) (covers at.day.0 a.length_of_stay d) (eq-eqb at.room.0 at.room.0 refl)
-        (and_from (nat_le at.day.0 d) (nat_lt d (at.day.0 + a.length_of_stay)) (le-leb at.day.0 d late) (lt-ltb d (at.day.0 + a.length_of_stay) (omega arith)))),
-  )
+  -- on each day of the stay the patient is in the room of the placement, and in no other
+  pub is-there : stay_of P p.0 ≡ Some at → (r d : ℕ) → at.day.0 ≤ d → d < min (at.day.0 + a.length_of_stay) I.days → is_at old r d p.0 ≡ (at.room.0 == r)
+  is-there stay r d late early =
+      let counted = and_from (nat_le at.day.0 d) (nat_lt d (at.day.0 + a.length_of_stay)) (le-leb at.day.0 d late) (lt-ltb d (at.day.0 + a.length_of_stay) (omega arith)) in
+      stands.each r d p.0 (omega arith) ∙ (somewhere I P p.0 r d a at patient stay ∙ rw counted (and-true (at.room.0 == r)))

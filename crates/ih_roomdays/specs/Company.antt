@@ -1,17 +1,37 @@
--- What the bill needs to know of the persons in a room: whether genders are mixed, and their least and greatest age group.
-use Rattle.std.specs.Prelude.{◌≡◌, ℕ, Bool, true, false, List, [], ◌∷◌, ◌++◌}
-use Rattle.ih_tables.specs.declared.drafts.Draft.{Draft}
-use Rattle.ih_plan.specs.Costs.{genders_differ, ages}
-use Rattle.ih_plan.specs.Sums.{greatest, least}
-use Rattle.ih_links.specs.Lists.{first_of}
+-- What is kept of the persons in a room on a day: sums of their gender numbers, and bits of their age groups.
+use Rattle.std.specs.Prelude.{◌≡◌, ℕ, ◌-◌, ◌*◌, ◌<◌, ◌≤◌, ◌==◌, Bool, true, false, List, [], ◌∷◌, ◌++◌, length, min, sum_by}
+use Rattle.std.specs.Int.{bit_at}
+use Rattle.std.specs.List.{count_by}
 use Rattle.ih_roomdays.specs.declared.companies.Company.{Company}
+use Rattle.ih_roomdays.specs.declared.companies.Crowd.{Crowd}
+use Rattle.ih_roomdays.specs.declared.profiles.Profiles.{Profiles}
+use Rattle.ih_roomdays.specs.Profiles.{gender_number, age_number, most_persons}
 
--- This is so of the persons xs: who is the first, whether two genders are among them, and their least and greatest age group.
-pub record IsSeen (I : Draft) (xs : List ℕ) (c : Company) : Type 0 where
-  pub first : c.first ≡ first_of xs
-  pub mixed : c.mixed ≡ genders_differ I xs
-  pub low : c.low ≡ least (ages I xs)
-  pub high : c.high ≡ greatest (ages I xs)
+-- how many of the persons xs are in age group a
+abbrev pub of_age : Profiles → ℕ → List ℕ → ℕ
+of_age p a xs = count_by (λ x. age_number p x == a) xs
+
+-- This is so of the persons xs: how many they are, the sums of their gender numbers and of the squares, and an age group's bit is 1 where one or more are in it.
+pub record IsCompany (p : Profiles) (xs : List ℕ) (c : Company) : Type 0 where
+  pub count : c.count ≡ length xs
+  pub genders : c.genders ≡ sum_by (gender_number p) xs
+  pub squares : c.squares ≡ sum_by (λ x. gender_number p x * gender_number p x) xs
+  pub ages : (a : ℕ) → a < 64 → bit_at c.ages a ≡ min 1 (of_age p a xs)
+
+-- And an age group's bit is 1 in the other word where two or more are in it.
+pub record IsCrowd (p : Profiles) (xs : List ℕ) (c : Crowd) : Type 0 where
+  pub company : IsCompany p xs c.company
+  pub twice : (a : ℕ) → a < 64 → bit_at c.twice a ≡ min 1 (of_age p a xs - 1)
+
+-- The sums are those of no more persons than an instance has.
+pub record IsSmall (c : Company) : Type 0 where
+  pub count : c.count ≤ most_persons
+  pub genders : c.genders ≤ most_persons * most_persons
+  pub squares : c.squares ≤ most_persons * most_persons * most_persons
+
+-- nobody
+abbrev pub nobody : Crowd
+nobody = record { company = record { ages = 0; squares = 0; genders = 0; count = 0 }; twice = 0 }
 
 -- the persons xs, and person x too where it is there
 abbrev pub with_if : Bool → ℕ → List ℕ → List ℕ

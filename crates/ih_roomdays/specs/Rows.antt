@@ -1,8 +1,11 @@
 -- Lists of who is in which room on which day: node x * nodes_each + d is person x on day d.
-use Rattle.std.specs.Prelude.{◌≡◌, ℕ, ◌+◌, ◌*◌, ◌/◌, ◌%◌, ◌^◌, ◌<◌, ◌≤◌, Bool, true, false, ◌==◌, ◌&&◌, ◌||◌, not, List, length, map}
+use Rattle.std.specs.Prelude.{◌≡◌, ℕ, ◌+◌, ◌*◌, ◌/◌, ◌%◌, ◌^◌, ◌<◌, ◌≤◌, Bool, true, false, ◌==◌, ◌&&◌, ◌||◌, not, List, length, map, slice_index_or}
 use Rattle.ih_links.specs.Lists.{has, list_of, IsOnce}
+use Rattle.ih_roomdays.specs.declared.companies.Crowd.{Crowd}
 use Rattle.ih_roomdays.specs.declared.profiles.Profiles.{Profiles}
 use Rattle.ih_roomdays.specs.declared.rows.Rows.{Rows}
+use Rattle.ih_roomdays.specs.Profiles.{AreInRange, most_persons}
+use Rattle.ih_roomdays.specs.Company.{IsCrowd, nobody}
 use Rattle.ih_plan.specs.Presence.{in_span}
 
 -- how many nodes a person has: one for each day, and some for none, so that a node's person is told by a shift
@@ -21,16 +24,24 @@ persons_at v r d = map (λ n. n / nodes_each) (nodes_at v r d)
 abbrev pub is_at : Rows → ℕ → ℕ → ℕ → Bool
 is_at v r d x = has (x * nodes_each + d) (nodes_at v r d)
 
--- There is a list for each room and day, and each person has its nodes; a list has nodes of its own day, each once.
+-- what is kept of them
+abbrev pub crowd_at : Rows → ℕ → ℕ → Crowd
+crowd_at v r d = slice_index_or v.crowds.items (r * v.days + d) nobody
+
+-- There is a list for each room and day, and each person has its nodes and its profile; a list has nodes of its own day, each once, and what is kept of its persons is so.
 pub record AreRows (v : Rows) : Type 0 where
   pub some_day : 0 < v.days
   pub few_days : v.days ≤ nodes_each
   pub heads : length v.links.lists ≡ v.rooms * v.days
   pub nodes : v.links.nodes ≡ v.persons * nodes_each
   pub few_heads : v.rooms * v.days < 2 ^ 32
-  pub few_nodes : v.persons * nodes_each < 2 ^ 32
+  pub few_persons : v.persons ≤ most_persons
+  pub profiles : AreInRange v.persons v.profiles
   pub same_day : (r d n : ℕ) → d < v.days → has n (nodes_at v r d) ≡ true → n % nodes_each ≡ d
   pub once : (r d : ℕ) → d < v.days → IsOnce (nodes_at v r d)
+  pub known : (r d x : ℕ) → d < v.days → is_at v r d x ≡ true → x < v.persons
+  pub crowds : length v.crowds.items ≡ v.rooms * v.days
+  pub kept : (r d : ℕ) → d < v.days → IsCrowd v.profiles (persons_at v r d) (crowd_at v r d)
 
 -- Nobody is in any room.
 pub record AreVacant (rooms days persons : ℕ) (profiles : Profiles) (v : Rows) : Type 0 where

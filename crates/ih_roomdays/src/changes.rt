@@ -6,13 +6,14 @@ ghost use Rattle.ih_plan.specs.Presence.{is_in, placed_at, covers};
 ghost use Rattle.ih_plan.specs.Persons.{person_of};
 ghost use Rattle.ih_links.specs.Lists.{AreNodes, without};
 ghost use Rattle.ih_roomdays.specs.Rows.{AreRows, nodes_at, persons_at, is_at};
-ghost use Rattle.ih_roomdays.specs.Company.{IsSeen, with_if};
-ghost use Rattle.ih_roomdays.specs.Profiles.{AreProfiles};
+ghost use Rattle.ih_roomdays.specs.declared.profiles.Profiles.{Profiles};
+ghost use Rattle.ih_roomdays.specs.Company.{IsCompany, IsSmall, with_if};
+ghost use Rattle.ih_roomdays.specs.Profiles.{AreProfiles, ArePersons, profile_of};
 ghost use Rattle.ih_roomdays.specs.Parts.{room_counts};
 
 use crate::bills::RoomDayCounts;
-use crate::companies::{Company, company_but, with};
-use crate::profiles::Profiles;
+use crate::companies::Company;
+use crate::profiles::Profile;
 use crate::rows::Rows;
 use ih_plan::Placement;
 use ih_tables::{Day, Instance, PatientNo, RoomNo};
@@ -35,55 +36,34 @@ pub fn is_there(inst: &Instance, p: PatientNo, stay: Option<Placement>, r: RoomN
     }
 }
 
-/// What so many persons, of whom this is seen, break and cost in a room.
-pub fn room_counts(inst: &Instance, r: RoomNo, seen: Company, count: u32) -> RoomDayCounts
+/// What persons of whom this is kept break and cost in a room.
+pub fn room_counts(inst: &Instance, r: RoomNo, company: Company) -> RoomDayCounts
     requires room { r.0 < room_count inst.now.draft }
-    ensures { (xs : List ℕ) → IsSeen inst.now.draft xs seen → count ≡ length xs → result ≡ room_counts inst.now.draft r.0 xs }
+    requires small { IsSmall company }
+    ensures { (p : Profiles) (xs : List ℕ) → AreProfiles inst.now.draft p → ArePersons inst.now.draft xs → IsCompany p xs company → result ≡ room_counts inst.now.draft r.0 xs }
 {
     RoomDayCounts {
-        mixed: seen.mixed,
-        over: count.saturating_sub(inst.room(r).capacity),
-        spread: seen.high.saturating_sub(seen.low),
+        mixed: company.is_mixed(),
+        over: company.count.saturating_sub(inst.room(r).capacity),
+        spread: company.spread(),
     }
 }
 
-// The same with one person more, where that one is there too.
-fn room_counts_with(
-    inst: &Instance,
-    profiles: &Profiles,
-    r: RoomNo,
-    seen: Company,
-    count: u32,
-    x: u32,
-    there: bool,
-) -> RoomDayCounts
-    requires profiles { AreProfiles inst.now.draft profiles.now }
-    requires room { r.0 < room_count inst.now.draft }
-    requires first { IfSome seen.first (λ y. y < person_count inst.now.draft) }
-    requires person { x < person_count inst.now.draft }
-    requires few { count + 1 < 2 ^ 32 }
-    ensures { (xs : List ℕ) → IsSeen inst.now.draft xs seen → count ≡ length xs → result ≡ room_counts inst.now.draft r.0 (with_if there x xs) }
-{
-    if there {
-        room_counts(inst, r, with(inst, profiles, seen, x), count + 1)
-    } else {
-        room_counts(inst, r, seen, count)
-    }
-}
-
-// How many of the persons in a room on a day are others than x, who is there or not.
-fn others(rows: &Rows, r: RoomNo, d: Day, x: u32, there: bool) -> u32
+// What is kept of the persons in a room on a day other than x, who is there or not.
+fn others(rows: &Rows, r: RoomNo, d: Day, x: u32, who: Profile, there: bool) -> Company
     requires rows { AreRows rows.now }
     requires room { r.0 < rows.now.rooms }
     requires day { d.0 < rows.now.days }
-    requires person { x < rows.now.persons }
+    requires profile { who ≡ profile_of rows.now.profiles x }
     requires there { there ≡ is_at rows.now r.0 d.0 x }
-    requires nodes { AreNodes rows.now.links.nodes (nodes_at rows.now r.0 d.0) }
-    ensures count { result ≡ length (without x (persons_at rows.now r.0 d.0)) }
-    ensures few { result + 1 < 2 ^ 32 }
+    ensures { IsCompany rows.now.profiles (without x (persons_at rows.now r.0 d.0)) result }
 {
-    let count = rows.links.len(r.0 * rows.days + d.0);
-    if there { count - 1 } else { count }
+    let crowd = rows.crowds[(r.0 * rows.days + d.0) as usize];
+    if there {
+        crowd.without(who)
+    } else {
+        crowd.company
+    }
 }
 
 /// What the room's day breaks and costs without the patient, and with the patient there, who `was` there or not.
@@ -106,15 +86,10 @@ pub fn without_and_with(
     ensures without { result.0 ≡ room_counts inst.now.draft r.0 (without p.0 (persons_at rows.now r.0 d.0)) }
     ensures with { result.1 ≡ room_counts inst.now.draft r.0 (with_if true p.0 (without p.0 (persons_at rows.now r.0 d.0))) }
 {
-    let seen = company_but(
-        inst,
-        &rows.profiles,
-        &rows.links,
-        r.0 * rows.days + d.0,
-        p.0,
-    );
-    let count = others(rows, r, d, p.0, was);
-    let without = room_counts_with(inst, &rows.profiles, r, seen, count, p.0, false);
-    let with = room_counts_with(inst, &rows.profiles, r, seen, count, p.0, true);
-    (without, with)
+    let who = rows.profiles.of(p.0);
+    let rest = others(rows, r, d, p.0, who, was);
+    (
+        room_counts(inst, r, rest),
+        room_counts(inst, r, rest.with(who)),
+    )
 }

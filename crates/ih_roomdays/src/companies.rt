@@ -1,133 +1,144 @@
-//! What is seen of the persons in a room on a day, one after the other.
+//! What is kept of the persons in a room on a day, so that nobody has to go over them to tell what they cost.
 
-ghost use Rattle.std.specs.Prelude.{◌≡◌, ℕ, ◌/◌, ◌*◌, ◌<◌, ◌∷◌, ◌++◌, [], List, length, map, not, ◌||◌, IfSome};
-ghost use Rattle.std.specs.Str.{bytes_eq};
+ghost use Rattle.std.specs.Prelude.{◌≡◌, ℕ, ◌/◌, ◌-◌, ◌*◌, ◌<◌, ◌≤◌, ◌∷◌, ◌++◌, [], true, List, length, map, not};
 ghost use Rattle.ih_tables.specs.declared.drafts.Draft.{Draft};
-ghost use Rattle.ih_tables.specs.Sizes.{person_count};
-ghost use Rattle.ih_plan.specs.Persons.{person_of};
-ghost use Rattle.ih_links.specs.Lists.{AreNodes, list_of};
-ghost use Rattle.ih_roomdays.specs.Company.{IsSeen};
-ghost use Rattle.ih_roomdays.specs.Genders.{AreGenders};
-ghost use Rattle.ih_roomdays.specs.Profiles.{AreProfiles};
+ghost use Rattle.ih_plan.specs.Costs.{genders_differ, age_spread};
+ghost use Rattle.ih_links.specs.Lists.{IsOnce, has, list_of, without};
+ghost use Rattle.ih_roomdays.specs.declared.profiles.Profiles.{Profiles};
+ghost use Rattle.ih_roomdays.specs.Company.{IsCompany, IsCrowd, IsSmall, nobody};
+ghost use Rattle.ih_roomdays.specs.Profiles.{AreInRange, AreProfiles, ArePersons, most_persons, profile_of};
 ghost use Rattle.ih_roomdays.specs.Rows.{nodes_each};
-ghost use Rattle.ih_links.specs.Lists.{without};
 
-use crate::genders::have_one_gender;
-use crate::profiles::{Profiles, age_of};
+use crate::profiles::{Profile, Profiles};
 use crate::rows::NODES_EACH;
 use ih_links::Links;
-use ih_tables::Instance;
 
-/// What is seen of persons.
+/// What is kept of persons who are together.
 #[derive(Clone, Copy)]
 pub struct Company {
-    /// The first of them.
-    pub first: Option<u32>,
-    /// Two of them have different genders.
-    pub mixed: bool,
-    /// The least and the greatest of their age groups; 0 where nobody is seen.
-    pub low: u32,
-    pub high: u32,
+    /// The bits of their age groups.
+    pub ages: u64,
+    /// The sum of the squares of their gender numbers.
+    pub squares: u64,
+    /// The sum of their gender numbers.
+    pub genders: u32,
+    /// How many they are.
+    pub count: u32,
 }
 
-// Of nobody.
-fn nobody() -> Company
-    ensures { (I : Draft) → IsSeen I [] result }
+/// The same, and by what it is told without one of them.
+#[derive(Clone, Copy)]
+pub struct Crowd {
+    pub company: Company,
+    /// The bits of the age groups that two of them or more are in.
+    pub twice: u64,
+}
+
+/// What is kept of nobody.
+pub const NOBODY: Crowd = Crowd {
+    company: Company {
+        ages: 0,
+        squares: 0,
+        genders: 0,
+        count: 0,
+    },
+    twice: 0,
+};
+
+fn square(n: u32) -> u64
+    ensures { result ≡ n * n }
 {
-    Company {
-        first: None,
-        mixed: false,
-        low: 0,
-        high: 0,
+    n as u64 * n as u64
+}
+
+impl Company {
+    /// With one person more.
+    #[inline(always)]
+    pub fn with(self, who: Profile) -> Company
+        requires small { IsSmall self }
+        requires gender { who.gender < most_persons }
+        requires age { who.age < 64 }
+        ensures { (p : Profiles) (xs : List ℕ) (x : ℕ) → who ≡ profile_of p x → IsCompany p xs self → IsCompany p (xs ++ x ∷ []) result }
+    {
+        Company {
+            ages: self.ages | 1u64 << who.age,
+            squares: self.squares + square(who.gender),
+            genders: self.genders + who.gender,
+            count: self.count + 1,
+        }
+    }
+
+    /// Whether two of them have different genders. Numbers are all equal exactly where so many times the sum of their
+    /// squares is the square of their sum.
+    #[inline(always)]
+    pub fn is_mixed(self) -> bool
+        requires small { IsSmall self }
+        ensures { (I : Draft) (p : Profiles) (xs : List ℕ) → AreProfiles I p → ArePersons I xs → IsCompany p xs self → result ≡ genders_differ I xs }
+    {
+        self.count as u64 * self.squares != square(self.genders)
+    }
+
+    /// The greatest of their age groups less the least.
+    #[inline(always)]
+    pub fn spread(self) -> u32
+        ensures { (I : Draft) (p : Profiles) (xs : List ℕ) → AreProfiles I p → ArePersons I xs → IsCompany p xs self → result ≡ age_spread I xs }
+    {
+        if self.ages == 0 {
+            0
+        } else {
+            63 - self.ages.leading_zeros() - self.ages.trailing_zeros()
+        }
     }
 }
 
-// Two genders were met, or person x has another than y.
-fn mixed_with(inst: &Instance, genders: &[u32], mixed: bool, y: u32, x: u32) -> bool
-    requires genders { AreGenders inst.now.draft genders.now }
-    requires first { y < person_count inst.now.draft }
-    requires second { x < person_count inst.now.draft }
-    ensures { result ≡ (mixed || not (bytes_eq (person_of inst.now.draft y).gender (person_of inst.now.draft x).gender)) }
-{
-    mixed || !have_one_gender(inst, genders, y, x)
-}
+impl Crowd {
+    /// With one person more.
+    #[inline(always)]
+    pub fn with(self, who: Profile) -> Crowd
+        requires small { IsSmall self.company }
+        requires gender { who.gender < most_persons }
+        requires age { who.age < 64 }
+        ensures { (p : Profiles) (xs : List ℕ) (x : ℕ) → who ≡ profile_of p x → IsCrowd p xs self → IsCrowd p (xs ++ x ∷ []) result }
+    {
+        Crowd {
+            company: self.company.with(who),
+            twice: self.twice | self.company.ages & 1u64 << who.age,
+        }
+    }
 
-/// With one person more.
-pub fn with(inst: &Instance, profiles: &Profiles, seen: Company, x: u32) -> Company
-    requires profiles { AreProfiles inst.now.draft profiles.now }
-    requires first { IfSome seen.first (λ y. y < person_count inst.now.draft) }
-    requires person { x < person_count inst.now.draft }
-    ensures first { IfSome result.first (λ y. y < person_count inst.now.draft) }
-    ensures seen { (xs : List ℕ) → IsSeen inst.now.draft xs seen → IsSeen inst.now.draft (xs ++ x ∷ []) result }
-{
-    let age = age_of(inst, profiles.ages.as_slice(), x);
-    match seen.first {
-        None => Company {
-            first: Some(x),
-            mixed: false,
-            low: age,
-            high: age,
-        },
-        Some(y) => Company {
-            first: Some(y),
-            mixed: mixed_with(inst, profiles.genders.as_slice(), seen.mixed, y, x),
-            low: seen.low.min(age),
-            high: seen.high.max(age),
-        },
+    /// Without one of them.
+    #[inline(always)]
+    pub fn without(self, who: Profile) -> Company
+        requires some { 0 < self.company.count }
+        requires genders { who.gender ≤ self.company.genders }
+        requires squares { who.gender * who.gender ≤ self.company.squares }
+        requires age { who.age < 64 }
+        ensures { (p : Profiles) (xs : List ℕ) (x : ℕ) → who ≡ profile_of p x → IsCrowd p xs self → IsOnce xs → has x xs ≡ true
+            → IsCompany p (without x xs) result }
+    {
+        // Its age group stays where somebody else is in it too.
+        Company {
+            ages: self.company.ages & (self.twice | !(1u64 << who.age)),
+            squares: self.company.squares - square(who.gender),
+            genders: self.company.genders - who.gender,
+            count: self.company.count - 1,
+        }
     }
 }
 
-// With one person more, unless it is this one.
-fn with_other(inst: &Instance, profiles: &Profiles, seen: Company, x: u32, but: u32) -> Company
-    requires profiles { AreProfiles inst.now.draft profiles.now }
-    requires first { IfSome seen.first (λ y. y < person_count inst.now.draft) }
-    requires person { x < person_count inst.now.draft }
-    ensures first { IfSome result.first (λ y. y < person_count inst.now.draft) }
-    ensures seen { (xs : List ℕ) → IsSeen inst.now.draft (without but xs) seen → IsSeen inst.now.draft (without but (xs ++ x ∷ [])) result }
-{
-    if x == but {
-        seen
-    } else {
-        with(inst, profiles, seen, x)
-    }
-}
-
-/// What is seen of the persons of a list of nodes.
-pub fn company_of(inst: &Instance, profiles: &Profiles, links: &Links, head: u32) -> Company
-    requires profiles { AreProfiles inst.now.draft profiles.now }
+/// What is kept of the persons of a list of nodes.
+pub fn crowd_of(profiles: &Profiles, links: &Links, head: u32) -> Crowd
+    requires profiles { AreInRange (length profiles.now.genders.items) profiles.now }
     requires head { head < length links.now.lists }
-    requires nodes { links.now.nodes ≡ person_count inst.now.draft * nodes_each }
-    ensures { IsSeen inst.now.draft (map (λ n. n / nodes_each) (list_of links.now head)) result }
+    requires nodes { links.now.nodes ≡ length profiles.now.genders.items * nodes_each }
+    requires few { length (list_of links.now head) ≤ most_persons }
+    ensures { IsCrowd profiles.now (map (λ n. n / nodes_each) (list_of links.now head)) result }
 {
-    let mut seen = nobody();
+    let mut crowd = NOBODY;
     let mut at = links.first(head);
     while let Some(node) = at {
-        seen = with(inst, profiles, seen, node / NODES_EACH);
+        crowd = crowd.with(profiles.of(node / NODES_EACH));
         at = links.next(node);
     }
-    seen
-}
-
-/// The same without one of them.
-pub fn company_but(
-    inst: &Instance,
-    profiles: &Profiles,
-    links: &Links,
-    head: u32,
-    but: u32,
-) -> Company
-    requires profiles { AreProfiles inst.now.draft profiles.now }
-    requires head { head < length links.now.lists }
-    requires nodes { links.now.nodes ≡ person_count inst.now.draft * nodes_each }
-    ensures nodes { AreNodes links.now.nodes (list_of links.now head) }
-    ensures first { IfSome result.first (λ y. y < person_count inst.now.draft) }
-    ensures seen { IsSeen inst.now.draft (without but (map (λ n. n / nodes_each) (list_of links.now head))) result }
-{
-    let mut seen = nobody();
-    let mut at = links.first(head);
-    while let Some(node) = at {
-        seen = with_other(inst, profiles, seen, node / NODES_EACH, but);
-        at = links.next(node);
-    }
-    seen
+    crowd
 }

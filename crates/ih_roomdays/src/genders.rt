@@ -34,13 +34,3 @@ pub fn gender_numbers(alloc: Global, inst: &Instance) -> Result<Vec<u32>, AllocE
     }
     Ok(numbers)
 }
-
-/// Whether two persons have one gender.
-pub fn have_one_gender(inst: &Instance, genders: &[u32], x: u32, y: u32) -> bool
-    requires genders { AreGenders inst.now.draft genders.now }
-    requires first { x < person_count inst.now.draft }
-    requires second { y < person_count inst.now.draft }
-    ensures { result ≡ bytes_eq (person_of inst.now.draft x).gender (person_of inst.now.draft y).gender }
-{
-    genders[x as usize] == genders[y as usize]
-}

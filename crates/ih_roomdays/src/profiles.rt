@@ -1,9 +1,7 @@
 //! What is asked of persons who are together, in tables by person: an instance's own records lie far apart.
 
-ghost use Rattle.std.specs.Prelude.{◌≡◌, ◌<◌, IfOk};
-ghost use Rattle.ih_tables.specs.Sizes.{person_count};
-ghost use Rattle.ih_plan.specs.Persons.{person_of};
-ghost use Rattle.ih_roomdays.specs.Profiles.{AreAges, AreProfiles};
+ghost use Rattle.std.specs.Prelude.{◌≡◌, ◌<◌, IfOk, length};
+ghost use Rattle.ih_roomdays.specs.Profiles.{AreAges, AreInRange, AreProfiles, most_persons, profile_of};
 
 use crate::genders::gender_numbers;
 use crate::persons::age_group;
@@ -17,6 +15,30 @@ pub struct Profiles {
     pub genders: Vec<u32>,
     /// Each person's age group.
     pub ages: Vec<u32>,
+}
+
+/// What is kept of one person.
+#[derive(Clone, Copy)]
+pub struct Profile {
+    pub gender: u32,
+    pub age: u32,
+}
+
+impl Profiles {
+    /// The person's.
+    #[inline(always)]
+    pub fn of(&self, x: u32) -> Profile
+        requires profiles { AreInRange (length self.now.genders.items) self.now }
+        requires person { x < length self.now.genders.items }
+        ensures value { result ≡ profile_of self.now x }
+        ensures gender { result.gender < most_persons }
+        ensures age { result.age < 64 }
+    {
+        Profile {
+            gender: self.genders[x as usize],
+            age: self.ages[x as usize],
+        }
+    }
 }
 
 fn age_groups(alloc: Global, inst: &Instance) -> Result<Vec<u32>, AllocError>
@@ -36,13 +58,4 @@ pub fn profiles_of(alloc: Global, inst: &Instance) -> Result<Profiles, AllocErro
     let genders = gender_numbers(alloc, inst)?;
     let ages = age_groups(alloc, inst)?;
     Ok(Profiles { genders, ages })
-}
-
-/// The person's age group.
-pub fn age_of(inst: &Instance, ages: &[u32], x: u32) -> u32
-    requires ages { AreAges inst.now.draft ages.now }
-    requires person { x < person_count inst.now.draft }
-    ensures { result ≡ (person_of inst.now.draft x).age_group }
-{
-    ages[x as usize]
 }

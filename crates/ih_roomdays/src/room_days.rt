@@ -15,7 +15,6 @@ ghost use Rattle.ih_roomdays.specs.Ledger.{IsLedgerOf, LedgersTell};
 
 use crate::bills::{room_day_bill, room_day_change};
 use crate::changes::{is_there, room_counts, without_and_with};
-use crate::companies::company_of;
 use crate::profiles::profiles_of;
 use crate::rows::{NODES_EACH, Rows};
 use ih_plan::{Members, Placement};
@@ -81,7 +80,7 @@ impl RoomDays {
         ensures { (P : Timetable) → IsLedgerOf inst.now.draft P self.old → stay_of P p.0 ≡ Some at → IsLedgerOf inst.now.draft (put (SetStay p None) P) self.new }
     {
         let to = end_of(inst, at.day.0, inst.patient(p).length_of_stay);
-        self.rows.leave(p.0, at.day.0, to);
+        self.rows.leave(at.room.0, p.0, at.day.0, to);
     }
 
     /// The part of the bill that the room has on the day: mixed genders, persons above the capacity, and the spread of ages.
@@ -93,9 +92,7 @@ impl RoomDays {
         ensures within { IsWithin (10 ^ 11) result }
     {
         let head = r.0 * self.rows.days + d.0;
-        let seen = company_of(inst, &self.rows.profiles, &self.rows.links, head);
-        let count = self.rows.links.len(head);
-        room_day_bill(room_counts(inst, r, seen, count))
+        room_day_bill(room_counts(inst, r, self.rows.crowds[head as usize].company))
     }
 
     /// How much more a placement's room breaks and costs on one of its days with the patient there than without, whose

@@ -1,8 +1,10 @@
 //! Lists of who is in which room on which day.
 
-ghost use Rattle.std.specs.Prelude.{◌≡◌, ℕ, ◌*◌, ◌^◌, ◌<◌, ◌≤◌, true, false, IfOk};
+ghost use Rattle.std.specs.Prelude.{◌≡◌, ℕ, ◌*◌, ◌^◌, ◌<◌, ◌≤◌, ◌==◌, false, IfOk};
+ghost use Rattle.ih_roomdays.specs.Profiles.{AreInRange, most_persons};
 ghost use Rattle.ih_roomdays.specs.Rows.{AreRows, AreVacant, IsEntered, IsLeft, is_at, nodes_each};
 
+use crate::companies::{Crowd, NOBODY, crowd_of};
 use crate::profiles::Profiles;
 use ih_links::Links;
 use std::alloc::{AllocError, Global};
@@ -12,6 +14,7 @@ use std::alloc::{AllocError, Global};
 pub const NODES_EACH: u32 = 64;
 
 /// One list for each room and day, and nodes of each person: one for each day, which can stand in a list of that day.
+/// Beside each list what is kept of its persons.
 #[derive(Drop)]
 pub struct Rows {
     pub links: Links,
@@ -19,6 +22,7 @@ pub struct Rows {
     pub days: u32,
     pub persons: u32,
     pub profiles: Profiles,
+    pub crowds: Vec<Crowd>,
 }
 
 impl Rows {
@@ -33,16 +37,19 @@ impl Rows {
         requires some_day { 0 < days }
         requires few_days { days ≤ nodes_each }
         requires heads { rooms * days < 2 ^ 32 }
-        requires nodes { persons * nodes_each < 2 ^ 32 }
+        requires few_persons { persons ≤ most_persons }
+        requires profiles { AreInRange persons profiles }
         ensures { IfOk result (λ rows. AreVacant rooms days persons profiles rows) }
     {
         let links = Links::new(alloc, rooms * days, persons * NODES_EACH)?;
+        let crowds = vec![in alloc; NOBODY; (rooms * days) as usize]?;
         Ok(Rows {
             links,
             rooms,
             days,
             persons,
             profiles,
+            crowds,
         })
     }
 
@@ -56,23 +63,28 @@ impl Rows {
         requires nowhere { (r d : ℕ) → d < self.old.days → is_at self.old r d x ≡ false }
         ensures { IsEntered self.old self.new room x from to }
     {
+        let who = self.profiles.of(x);
         for d in from..to {
-            self.links
-                .push_back(room * self.days + d, x * NODES_EACH + d);
+            let head = room * self.days + d;
+            self.links.push_back(head, x * NODES_EACH + d);
+            self.crowds[head as usize] = self.crowds[head as usize].with(who);
         }
     }
 
-    /// Takes a person out of the rooms that it is in, from one day on and before another.
-    pub fn leave(&mut self, x: u32, from: u32, to: u32)
+    /// Takes a person out of the room that it is in, from one day on and before another.
+    pub fn leave(&mut self, room: u32, x: u32, from: u32, to: u32)
         requires rows { AreRows self.old }
+        requires room { room < self.old.rooms }
         requires person { x < self.old.persons }
         requires order { from ≤ to }
         requires within { to ≤ self.old.days }
-        requires there { (d : ℕ) → from ≤ d → d < to → (r : ℕ) × (is_at self.old r d x ≡ true) }
+        requires there { (r d : ℕ) → from ≤ d → d < to → is_at self.old r d x ≡ (room == r) }
         ensures { IsLeft self.old self.new x from to }
     {
         for d in from..to {
+            let head = room * self.days + d;
             self.links.remove(x * NODES_EACH + d);
+            self.crowds[head as usize] = crowd_of(&self.profiles, &self.links, head);
         }
     }
 }

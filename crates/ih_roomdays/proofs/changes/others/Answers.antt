@@ -1,20 +1,34 @@
-use Rattle.std.proofs.Common.{◌∙◌, arith, sym}
-use Rattle.ih_roomdays.proofs.Others.{count-there, count-away, others-few}
+use Rattle.std.proofs.Common.{◌∙◌, sym, subst}
+use Rattle.ih_roomdays.specs.Company.{IsCompany, IsCrowd}
+use Rattle.ih_roomdays.specs.Rows.{persons_at}
+use Rattle.ih_roomdays.proofs.Others.{own-part, rest-all}
+use Rattle.ih_roomdays.proofs.People.{crowd-read, has-persons, persons-once}
 use Rattle.ih_roomdays.proofs.changes.others.Goals as goal
 
-pub returns-then-there-clause-count : goal.returns-then-there-clause-count
-returns-then-there-clause-count c =
-    let less = count-there c.args.rows.now c.requires.rows c.args.r.0 c.args.d.0 c.args.x c.requires.day (sym c.requires.there ∙ c.if-there.true) in
-    let count = c.len-count.ensures in
-    omega arith
+pub without-requires-clause-genders : goal.without-requires-clause-genders
+without-requires-clause-genders c =
+    let v = c.args.rows.now in
+    let is = crowd-read v c.args.r.0 c.args.d.0 c.index-crowd.result.now c.requires.rows c.requires.room c.requires.day c.index-crowd.ensures in
+    rw is ((own-part v c.requires.rows c.args.r.0 c.args.d.0 c.args.x c.requires.day (sym c.requires.there ∙ c.if-there.true) c.args.who c.requires.profile).0)
 
-pub returns-else-there-clause-count : goal.returns-else-there-clause-count
-returns-else-there-clause-count c =
-    c.len-count.ensures ∙ sym (count-away c.args.rows.now c.requires.rows c.args.r.0 c.args.d.0 c.args.x c.requires.day (sym c.requires.there ∙ c.if-there.false))
+pub without-requires-clause-squares : goal.without-requires-clause-squares
+without-requires-clause-squares c =
+    let v = c.args.rows.now in
+    let is = crowd-read v c.args.r.0 c.args.d.0 c.index-crowd.result.now c.requires.rows c.requires.room c.requires.day c.index-crowd.ensures in
+    rw is ((own-part v c.requires.rows c.args.r.0 c.args.d.0 c.args.x c.requires.day (sym c.requires.there ∙ c.if-there.true) c.args.who c.requires.profile).1)
 
-pub returns-else-there-clause-few : goal.returns-else-there-clause-few
-returns-else-there-clause-few c =
-    let all = count-away c.args.rows.now c.requires.rows c.args.r.0 c.args.d.0 c.args.x c.requires.day (sym c.requires.there ∙ c.if-there.false) in
-    let few = others-few c.args.rows.now c.requires.rows c.args.r.0 c.args.d.0 c.args.x c.requires.day c.requires.person c.requires.nodes in
-    let count = c.len-count.ensures in
-    omega arith
+pub returns-then-there : goal.returns-then-there
+returns-then-there c =
+    let v = c.args.rows.now in
+    let is = crowd-read v c.args.r.0 c.args.d.0 c.index-crowd.result.now c.requires.rows c.requires.room c.requires.day c.index-crowd.ensures in
+    c.without.ensures v.profiles (persons_at v c.args.r.0 c.args.d.0) c.args.x c.requires.profile
+    (subst (IsCrowd v.profiles (persons_at v c.args.r.0 c.args.d.0)) (sym is) (c.requires.rows.kept c.args.r.0 c.args.d.0 c.requires.day))
+    (persons-once v c.args.r.0 c.args.d.0 c.requires.rows c.requires.day)
+    (has-persons v c.args.r.0 c.args.d.0 c.args.x c.requires.rows c.requires.day ∙ (sym c.requires.there ∙ c.if-there.true))
+
+pub returns-else-there : goal.returns-else-there
+returns-else-there c =
+    let v = c.args.rows.now in
+    let is = crowd-read v c.args.r.0 c.args.d.0 c.index-crowd.result.now c.requires.rows c.requires.room c.requires.day c.index-crowd.ensures in
+    rw (rest-all v c.requires.rows c.args.r.0 c.args.d.0 c.args.x c.requires.day (sym c.requires.there ∙ c.if-there.false))
+    (subst (λ k. IsCompany v.profiles (persons_at v c.args.r.0 c.args.d.0) k.company) (sym is) (c.requires.rows.kept c.args.r.0 c.args.d.0 c.requires.day).company)

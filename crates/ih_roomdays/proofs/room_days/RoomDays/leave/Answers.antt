@@ -5,11 +5,11 @@ use Rattle.ih_roomdays.proofs.StayLemmas.{is-there, left-stands}
 use Rattle.ih_roomdays.proofs.room_days.RoomDays.leave.Goals as goal
 
 pub leave-requires-clause-there : goal.leave-requires-clause-there
-leave-requires-clause-there c = λ d late early.
+leave-requires-clause-there c = λ r d late early.
     let I = c.args.inst.now.draft in
     let P = c.requires.stands.0 in
     let stands = subst (λ w. IsLedgerOf I P w) (sym c.self.view_is) c.requires.stands.1 in
-    is-there I P c.self.inside.rows c.self.inside.rows c.args.p c.patient.result.now c.args.at stands c.patient.ensures c.requires.stands.2 d late (rw c.end_of-to.ensures at early)
+    is-there I P c.self.inside.rows c.self.inside.rows c.args.p c.patient.result.now c.args.at stands c.patient.ensures c.requires.stands.2 r d late (rw c.end_of-to.ensures at early)
 
 pub returns : goal.returns
 returns c = λ P stands stay.

@@ -1,6 +1,10 @@
-use Rattle.std.proofs.Common.{arith}
+use Rattle.std.proofs.Common.{arith, refl, sym, ap, subst, ◌∙◌}
+use Rattle.ih_roomdays.specs.Company.{IsCrowd, IsSmall}
+use Rattle.ih_roomdays.specs.Profiles.{profile_of}
+use Rattle.ih_roomdays.specs.Rows.{persons_at}
 use Rattle.ih_roomdays.proofs.Nodes.{free}
 use Rattle.ih_roomdays.proofs.Entries.{nowhere-yet, entered-more}
+use Rattle.ih_roomdays.proofs.People.{crowd-read, crowd-small}
 use Rattle.ih_roomdays.proofs.rows.Rows.enter.Goals as goal
 
 pub push_back-requires-clause-free : goal.push_back-requires-clause-free
@@ -8,9 +12,20 @@ push_back-requires-clause-free c =
     let so_far = c.loop-d.invariant in
     free c.loop-d.self c.args.x c.loop-d.d so_far.rows (omega (arith, so_far.days)) (nowhere-yet c.args.self.now c.loop-d.self c.args.room c.args.x c.args.from c.loop-d.d so_far (omega arith) c.requires.nowhere)
 
+pub with-requires-clause-small : goal.with-requires-clause-small
+with-requires-clause-small c =
+    let so_far = c.loop-d.invariant in
+    let is = crowd-read c.loop-d.self c.args.room c.loop-d.d c.index.result.now so_far.rows (omega (arith, so_far.rooms)) (omega (arith, so_far.days)) c.index.ensures in
+    subst (λ k. IsSmall k.company) (sym is) (crowd-small c.loop-d.self c.args.room c.loop-d.d so_far.rows (omega (arith, so_far.days)))
+
 pub loop-d-preserved : goal.loop-d-preserved
 loop-d-preserved c =
+    let v = c.loop-d.self in
     let so_far = c.loop-d.invariant in
-    entered-more c.loop-d.self so_far.rows c.push_back.new.self c.args.room c.args.x c.loop-d.d (omega (arith, so_far.rooms)) (omega (arith, so_far.days))
-    (nowhere-yet c.args.self.now c.loop-d.self c.args.room c.args.x c.args.from c.loop-d.d so_far (omega arith) c.requires.nowhere)
+    let is = crowd-read v c.args.room c.loop-d.d c.index.result.now so_far.rows (omega (arith, so_far.rooms)) (omega (arith, so_far.days)) c.index.ensures in
+    let was = subst (IsCrowd v.profiles (persons_at v c.args.room c.loop-d.d)) (sym is) (so_far.rows.kept c.args.room c.loop-d.d (omega (arith, so_far.days))) in
+    let who = c.of-who.ensures.value ∙ ap (λ p. profile_of p c.args.x) (sym so_far.profiles) in
+    entered-more v so_far.rows c.push_back.new.self _ c.args.room c.args.x c.loop-d.d (omega (arith, so_far.rooms)) (omega (arith, so_far.days)) (omega (arith, so_far.persons))
+    (nowhere-yet c.args.self.now v c.args.room c.args.x c.args.from c.loop-d.d so_far (omega arith) c.requires.nowhere)
+    c.with.result (c.with.ensures v.profiles (persons_at v c.args.room c.loop-d.d) c.args.x who was) refl
     c.push_back.ensures.lists c.push_back.ensures.nodes c.args.self.now c.args.from (omega arith) so_far
