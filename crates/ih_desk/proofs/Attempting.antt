@@ -1,8 +1,9 @@
 -- What comes after an attempt: the next try of its move, or the next move.
-use Rattle.std.proofs.Common.{◌≡◌, ℕ, zero, suc, ◌+◌, ◌<◌, ◌≤◌, sym, ap, ◌∙◌, subst, refl, arith, inl, inr, Bool, true, false, List, [], ◌∷◌, ◌++◌, append_assoc, Option, Some, None}
+use Rattle.std.proofs.Common.{◌≡◌, ℕ, zero, suc, ◌+◌, ◌*◌, ◌<◌, ◌≤◌, sym, ap, ◌∙◌, subst, refl, arith, inl, inr, Bool, true, false, List, [], ◌∷◌, ◌++◌, append_assoc, Option, Some, None}
 use Rattle.std.specs.Prelude.{◌⊎◌, ◌&&◌, ◌==◌, not, if◌then◌else◌, option_map, slice_get}
 use Rattle.std.proofs.lemmas.Bool.{cases_eq, eq-eqb, ne_eqb}
 use Rattle.std.proofs.lemmas.Bool.Decides.{nat_tests}
+use Rattle.std.proofs.lemmas.List.{append-nil}
 use Rattle.ih_plan.specs.declared.moves.Move.{Move}
 use Rattle.ih_plan.specs.Draws.{state_after, stream_at, stream_state}
 use Rattle.ih_journal.specs.Tried.{Tried}
@@ -20,12 +21,15 @@ use Rattle.ih_cellbook.proofs.LastEntries.{next-is, none-last}
 use Rattle.ih_desk.specs.Histories.{EndsWith, GoesOn}
 use Rattle.ih_desk.specs.Finishing.{AreDrawn}
 use Rattle.ih_desk.specs.Progress.{Progress}
-use Rattle.ih_desk.specs.Searchers.{HasAttempted, IsNext, IsWithin}
+use Rattle.ih_desk.specs.Searchers.{HasAttempted, HasCaughtUp, IsNext, IsWithin}
 use Rattle.ih_desk.proofs.Full.{drawn-others, get-append, none-both}
 
 -- a searcher that goes on, named by what it was before
 pub same-within : (b : Base) (each earlier w n : ℕ) (H : List Tried) (x : Progress) → each ≡ earlier → w ≡ n → IsWithin b each w H x → IsWithin b earlier n H x
 same-within b each earlier w n H x same number within = subst (λ e. IsWithin b e n H x) same (subst (λ v. IsWithin b each v H x) number within)
+
+pub same-caught_up : (b : Base) (each earlier w n : ℕ) (H : List Tried) (x : Progress) → each ≡ earlier → w ≡ n → HasCaughtUp b each w H x → HasCaughtUp b earlier n H x
+same-caught_up b each earlier w n H x same number caught = subst (λ e. HasCaughtUp b e n H x) same (subst (λ v. HasCaughtUp b each v H x) number caught)
 
 -- a worker that isn't done has moves to make
 some-moves : (o : Options) (l : Option Tried) → is_done_after o l ≡ false → (o.moves == 0) ≡ false
@@ -57,7 +61,8 @@ same-test m n = elim (cases_eq m n) [
 
 module _ (o : Options) (w n again : ℕ) (m : List Move) (v : Verdict) (seen H : List Tried) (next : IsNext o seen w n again) (tried : HasAttempted o w n m v seen H) where
   last : last_by w H ≡ Some tried.entry
-  last = ap (last_by w) tried.history ∙ last_by-own (seen ++ tried.others) tried.entry w tried.worker
+  last = ap (last_by w) tried.history
+      ∙ (last_by-others w ((seen ++ tried.others) ++ tried.entry ∷ []) tried.later tried.none_later ∙ last_by-own (seen ++ tried.others) tried.entry w tried.worker)
 
   same-try : tried.entry.again ≡ again
   same-try = tried.again ∙ ap (λ (a : Attempt). a.again) next.attempt
@@ -87,18 +92,21 @@ module _ (o : Options) (w n again : ℕ) (m : List Move) (v : Verdict) (seen H :
 -- the entry of a drawn move is drawn
 pub drawn-attempt : (b : Base) (each w n : ℕ) (m : List Move) (v : Verdict) (seen H : List Tried) → HasAttempted b.options w n m v seen H
     → m ≡ attempt_of b each w n → AreDrawn b each w seen → AreDrawn b each w H
-drawn-attempt b each w n m v seen H tried is drawn k e there own =
-    elim (get-append (seen ++ tried.others) (tried.entry ∷ []) k e (ap (λ G. slice_get G k) (sym tried.history) ∙ there)) [
+drawn-attempt b each w n m v seen H tried is drawn =
+    subst (AreDrawn b each w) (sym tried.history) (drawn-others b each w ((seen ++ tried.others) ++ tried.entry ∷ []) tried.later tried.none_later own-drawn)
+  where
+    alone : (x e : Tried) (k : ℕ) → slice_get (x ∷ []) k ≡ Some e → x ≡ e
+    alone x e zero h = cc
+    alone x e (suc k) h = absurd (let no : None ≡ Some e = h in cc)
+
+    own-drawn : AreDrawn b each w ((seen ++ tried.others) ++ tried.entry ∷ [])
+    own-drawn k e there own = elim (get-append (seen ++ tried.others) (tried.entry ∷ []) k e there) [
       | inl earlier ↦ drawn-others b each w seen tried.others tried.none drawn k e earlier own
       | inr here ↦
           let same : tried.entry ≡ e = alone tried.entry e here.0 here.1 in
           subst (λ (f : Tried). f.moves ≡ attempt_of b each f.worker f.number) same
           (tried.moves ∙ (is ∙ rw (tried.worker, tried.number) refl))
     ]
-  where
-    alone : (x e : Tried) (k : ℕ) → slice_get (x ∷ []) k ≡ Some e → x ≡ e
-    alone x e zero h = cc
-    alone x e (suc k) h = absurd (let no : None ≡ Some e = h in cc)
 
 -- what a desk says of an offer, as an attempt of its worker
 pub attempted : (b : Base) (w n : ℕ) (m : List Move) (offer : Offered) (v : Verdict) (seen H : List Tried) → offer.worker ≡ w → offer.number ≡ n → offer.moves ≡ m
@@ -108,8 +116,10 @@ attempted b w n m offer v seen H own number move ends =
     record {
       others = ends.others;
       entry = entry_of b (seen ++ ends.others) offer v;
-      history = ends.history;
+      later = [];
+      history = ends.history ∙ sym (append-nil ((seen ++ ends.others) ++ entry_of b (seen ++ ends.others) offer v ∷ []));
       none = none;
+      none_later = λ k e there by. absurd (let no : None ≡ Some e = there in cc);
       worker = own;
       number = number;
       again = ap (λ x. (attempt_after b.options (last_by x (seen ++ ends.others))).again) own ∙ ap (λ l. (attempt_after b.options l).again) (last_by-others w seen ends.others none);
@@ -121,24 +131,25 @@ pub stream-start : (seed w : ℕ) → stream_at seed w 0 ≡ stream_state seed w
 unfolding state_after
 stream-start seed w = refl
 
-last-goes_on : (w : ℕ) (H G : List Tried) → GoesOn w H G → last_by w G ≡ last_by w H
-last-goes_on w H G goes = ap (last_by w) goes.history ∙ last_by-others w H goes.others goes.none
+-- so many draws for each attempt, one attempt later
+pub none-drawn : (each : ℕ) → 0 ≡ 0 * each
+none-drawn each = grind arith
 
--- others' entries leave a worker's next move as it was
-pub number-goes_on : (o : Options) (w : ℕ) (H G : List Tried) → GoesOn w H G → next_number o G w ≡ next_number o H w
-unfolding next_attempt is_done
-number-goes_on o w H G goes = ap (λ l. option_map (λ (a : Attempt). a.number) (if is_done_after o l then None else Some (attempt_after o l))) (last-goes_on w H G goes)
+pub one-later : (i each : ℕ) → i * each + each ≡ (i + 1) * each
+one-later i each = grind arith
 
--- an attempt on what others added
-pub attempted-earlier : (o : Options) (w n : ℕ) (m : List Move) (v : Verdict) (H G F : List Tried) → GoesOn w H G → HasAttempted o w n m v G F → HasAttempted o w n m v H F
-attempted-earlier o w n m v H G F goes tried = record {
-  others = goes.others ++ tried.others;
+-- an attempt, behind which others added more
+pub attempted-later : (o : Options) (w n : ℕ) (m : List Move) (v : Verdict) (H G F : List Tried) → HasAttempted o w n m v H G → GoesOn w G F → HasAttempted o w n m v H F
+attempted-later o w n m v H G F tried goes = record {
+  others = tried.others;
   entry = tried.entry;
-  history = tried.history ∙ ap (λ X. X ++ tried.entry ∷ []) (ap (λ X. X ++ tried.others) goes.history ∙ append_assoc H goes.others tried.others);
-  none = none-both w goes.others tried.others goes.none tried.none;
+  later = tried.later ++ goes.others;
+  history = goes.history ∙ (ap (λ X. X ++ goes.others) tried.history ∙ append_assoc ((H ++ tried.others) ++ tried.entry ∷ []) tried.later goes.others);
+  none = tried.none;
+  none_later = none-both w tried.later goes.others tried.none_later goes.none;
   worker = tried.worker;
   number = tried.number;
-  again = tried.again ∙ ap (λ l. (attempt_after o l).again) (last-goes_on w H G goes);
+  again = tried.again;
   moves = tried.moves;
   verdict = tried.verdict;
 }

@@ -1,11 +1,12 @@
 -- A searcher that looks: how far it is then in the history.
-use Rattle.std.proofs.Common.{◌≡◌, ℕ, zero, suc, ◌+◌, ◌*◌, ◌<◌, ◌≤◌, sym, ap, ◌∙◌, subst, refl, arith, inl, inr, List, [], ◌∷◌, ◌++◌, append_assoc, length, length-append, take, drop}
+use Rattle.std.proofs.Common.{◌≡◌, ℕ, zero, suc, ◌+◌, ◌*◌, ◌<◌, ◌≤◌, sym, ap, ◌∙◌, subst, refl, arith, inl, inr, List, [], ◌∷◌, ◌++◌, append_assoc, length, length-append, take, drop, None, Some}
 use Rattle.std.specs.Prelude.{◌⊎◌, slice_get}
 use Rattle.std.proofs.Math.Seq.{take-add}
-use Rattle.std.proofs.lemmas.List.{length-take, take-append-drop, take-append-le}
+use Rattle.std.proofs.lemmas.List.{append-nil, length-take, take-append-drop, take-append-le}
 use Rattle.std.proofs.lemmas.Bool.{cases_lt}
 use Rattle.std.proofs.lemmas.Option.{slice_get_within}
 use Rattle.ih_journal.specs.Tried.{Tried}
+use Rattle.ih_journal.specs.declared.entries.Verdict.{Verdict}
 use Rattle.ih_journal.specs.Base.{Base}
 use Rattle.ih_journal.specs.Legal.{IsLegalButDraw}
 use Rattle.ih_journal.proofs.Growth.{take-get}
@@ -14,12 +15,13 @@ use Rattle.ih_cellbook.proofs.Few.{legal-few}
 use Rattle.ih_cellbook.specs.Copied.{Copied, most_copied}
 use Rattle.ih_cellbook.specs.Laws.{HasNoneBy}
 use Rattle.ih_cellbook.specs.Legal.{AreLegalButDraws}
-use Rattle.ih_cellbook.specs.Offers.{HasSeenOwn}
+use Rattle.ih_cellbook.specs.Offered.{Offered}
+use Rattle.ih_cellbook.specs.Offers.{HasSeenOwn, entry_of}
 use Rattle.ih_cellbook.proofs.Staying.{seen_own-others}
 use Rattle.ih_cellbook.specs.Replicas.{IsReplicaIn, IsReplicaOf, StandsAfter}
 use Rattle.ih_cellbook.specs.Snapshot.{Snapshot}
 use Rattle.ih_cellbook.proofs.Within.{seen-within, stands-behind}
-use Rattle.ih_desk.specs.Histories.{GoesOn}
+use Rattle.ih_desk.specs.Histories.{EndsWith, GoesOn}
 use Rattle.ih_desk.proofs.Full.{none-both}
 
 get-drop : (n : ℕ) (H : List Tried) (k : ℕ) → slice_get (drop n H) k ≡ slice_get H (n + k)
@@ -40,6 +42,9 @@ own-later w s t H own h k e there by = let below = own k e there by in omega ari
 pub own-goes_on : (w s : ℕ) (H G : List Tried) → GoesOn w H G → HasSeenOwn H w s → HasSeenOwn G w s
 own-goes_on w s H G goes own = subst (λ F. HasSeenOwn F w s) (sym goes.history) (seen_own-others w s H goes.others goes.none own)
 
+pub goes_on-none : (w : ℕ) (H : List Tried) → GoesOn w H H
+goes_on-none w H = record { others = []; history = sym (append-nil H); none = λ k e there by. absurd (let no : None ≡ Some e = there in cc) }
+
 pub goes_on-further : (w : ℕ) (H G F : List Tried) → GoesOn w H G → GoesOn w G F → GoesOn w H F
 goes_on-further w H G F one two = record {
   others = one.others ++ two.others;
@@ -49,6 +54,14 @@ goes_on-further w H G F one two = record {
 
 pub goes-length : (w : ℕ) (H G : List Tried) → GoesOn w H G → length H ≤ length G
 goes-length w H G goes = let both = ap length goes.history ∙ length-append H goes.others in omega (arith, both)
+
+-- an offer adds its own entry at least
+pub ends-longer : (b : Base) (o : Offered) (v : Verdict) (H G : List Tried) → EndsWith b o v H G → length H < length G
+ends-longer b o v H G ends =
+    let all = ap length ends.history in
+    let last = length-append (H ++ ends.others) (entry_of b (H ++ ends.others) o v ∷ []) in
+    let before = length-append H ends.others in
+    omega (arith, all, last, before)
 
 -- the replica stays where it is while others go on
 pub stays : (b : Base) (w : ℕ) (H G : List Tried) (r : Snapshot) → GoesOn w H G → IsReplicaIn b H r → IsReplicaIn b G r
@@ -66,31 +79,21 @@ legal-front b G n legal k e there =
     let same = sym (ap (take k) (take-append-drop n G)) ∙ take-append-le k (take n G) (drop n G) (omega (arith, below)) in
     subst (λ F. IsLegalButDraw b F e) same (legal k e (take-get G n k e there))
 
--- once it has taken over what a look shows, it has seen all, or 256 entries more
-pub further : (b : Base) (G : List Tried) (r s : Snapshot) → IsReplicaIn b G r → AreLegalButDraws b G → StandsAfter r (take most_copied (drop r.seen G)) s
-    → ((length G ≤ s.seen) × (r.seen ≤ s.seen)) ⊎ (s.seen ≡ r.seen + 256)
-further b G r s stands legal after =
+-- once it has taken over what comes next, it has seen more, where there was more
+pub further : (b : Base) (G : List Tried) (r s : Snapshot) → IsReplicaIn b G r → AreLegalButDraws b G → StandsAfter r (take most_copied (drop r.seen G)) s → r.seen < length G → r.seen < s.seen
+further b G r s stands legal after more =
     let next = subst (AreLegalButDraws b) (take-add r.seen most_copied G) (legal-front b G (r.seen + most_copied) legal) in
     let seen = (after b (take r.seen G) stands next).seen ∙ ap length (sym (take-add r.seen most_copied G)) ∙ length-take (r.seen + most_copied) G in
-    elim (cases_lt (r.seen + 256) (length G)) [
-      | inl more ↦ inr (omega (arith, seen))
-      | inr all ↦ let within = seen-within b G r stands in inl (omega (arith, seen), omega (arith, seen, within))
-    ]
+    omega (arith, seen, more)
 
--- a replica has seen no more than there may be
-pub seen-few : (b : Base) (H : List Tried) (r : Snapshot) → IsReplicaIn b H r → r.seen ≤ most_entries b.options
-seen-few b H r stands = let few = (legal-few b (take r.seen H) stands.legal).most in let seen = stands.seen in omega (arith, few, seen)
-
--- what a worker has to its credit after a look, which shows all that there is or 256 entries more
-pub spent : (credit left seen left' seen' goal len : ℕ) → credit ≤ 256 * left + seen → left' + 1 ≡ left → goal ≤ len → ((len ≤ seen') × (seen ≤ seen')) ⊎ (seen' ≡ seen + 256)
-    → (credit ≤ 256 * left' + seen') ⊎ ((goal ≤ seen') × (credit ≤ 256 * left' + seen' + 256))
-spent credit left seen left' seen' goal len has one reached (inl all) = let more = all.0 in let later = all.1 in inr (omega arith, omega arith)
-spent credit left seen left' seen' goal len has one reached (inr part) = inl (omega arith)
-
-pub unspent : (credit left seen goal : ℕ) → seen < goal → (credit ≤ 256 * left + seen) ⊎ ((goal ≤ seen) × (credit ≤ 256 * left + seen + 256)) → credit ≤ 256 * left + seen
-unspent credit left seen goal short (inl has) = has
-unspent credit left seen goal short (inr done) = absurd (let no = done.0 in omega arith)
+-- a replica has seen no more than there may be, so a turn is left
+pub has-turn : (b : Base) (H : List Tried) (r : Snapshot) (left : ℕ) → IsReplicaIn b H r → most_entries b.options < left + r.seen → 0 < left
+has-turn b H r left stands has = let few = (legal-few b (take r.seen H) stands.legal).most in let seen = stands.seen in omega (arith, few, seen, has)
 
 -- a replica of the empty history stands for a beginning of any
 pub new-within : (b : Base) (H : List Tried) (r : Snapshot) → IsReplicaOf b [] r → IsReplicaIn b H r
 new-within b H r stands = subst (λ k. IsReplicaOf b (take k H) r) (sym stands.seen) stands
+
+-- a worker that made nothing has seen all that it made
+pub own-none : (w s : ℕ) (H : List Tried) → HasNoneBy w H → HasSeenOwn H w s
+own-none w s H none k e there by = absurd (none k e there by)

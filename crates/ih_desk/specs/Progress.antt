@@ -14,5 +14,5 @@ pub record Progress : Type 0 where
   -- its draws to come
   pub stream : List ℕ
   pub replica : Snapshot
-  -- what its last look showed
+  -- what its last turn showed
   pub buffer : Copied

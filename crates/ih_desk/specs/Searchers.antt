@@ -1,5 +1,5 @@
 -- How far a searcher has come.
-use Rattle.std.specs.Prelude.{◌≡◌, ℕ, ◌+◌, ◌*◌, false, List, [], ◌∷◌, ◌++◌}
+use Rattle.std.specs.Prelude.{◌≡◌, ℕ, ◌+◌, false, List, [], ◌∷◌, ◌++◌, length, take, drop}
 use Rattle.ih_plan.specs.declared.moves.Move.{Move}
 use Rattle.ih_plan.specs.Draws.{stream_at}
 use Rattle.ih_journal.specs.Tried.{Tried}
@@ -7,7 +7,9 @@ use Rattle.ih_journal.specs.declared.entries.Verdict.{Verdict}
 use Rattle.ih_journal.specs.declared.settings.Options.{Options}
 use Rattle.ih_journal.specs.Attempts.{attempt_after, is_done_after, last_by}
 use Rattle.ih_journal.specs.Base.{Base}
+use Rattle.ih_cellbook.specs.Copied.{most_copied}
 use Rattle.ih_cellbook.specs.Laws.{HasNoneBy}
+use Rattle.ih_cellbook.specs.Offers.{HasSeenOwn}
 use Rattle.ih_cellbook.specs.Replicas.{IsReplicaIn, IsReplicaOf}
 use Rattle.ih_desk.specs.Progress.{Progress}
 
@@ -23,28 +25,39 @@ pub record IsWithin (b : Base) (each w : ℕ) (H : List Tried) (x : Progress) : 
   pub own : IsOf b each w x
   pub replica : IsReplicaIn b H x.replica
 
+-- It does, and has seen all that its worker made, so that its next price may be offered.
+pub record HasCaughtUp (b : Base) (each w : ℕ) (H : List Tried) (x : Progress) : Type 0 where
+  pub within : IsWithin b each w H x
+  pub seen : HasSeenOwn H w x.replica.seen
+
+-- The buffer has what comes in H behind what the replica stands for, as far as there is room.
+abbrev pub Shows : List Tried → Progress → Type 0
+Shows H x = x.buffer ≡ record { from = x.replica.seen; entries = take most_copied (drop x.replica.seen H); front = length H }
+
 -- nothing was drawn or seen yet
 pub record IsNew (b : Base) (each w : ℕ) (x : Progress) : Type 0 where
   pub own : IsOf b each w x
   pub replica : IsReplicaOf b [] x.replica
   pub stream : x.stream ≡ stream_at b.options.seed w 0
 
--- Each turn counts 256, and each entry that was seen 1: a look that uses a turn and leaves something unseen shows 256
--- entries.
+-- The turns left and the entries seen, together. Each turn of a worker shows an entry at least that it hadn't seen, so this
+-- never gets less; and there are at most `most_entries` to see.
 abbrev pub credit : ℕ → Progress → ℕ
-credit left x = 256 * left + x.replica.seen
+credit left x = left + x.replica.seen
 
 -- worker w's next attempt is this try of the attempt with this number
 pub record IsNext (o : Options) (H : List Tried) (w number again : ℕ) : Type 0 where
   pub attempt : attempt_after o (last_by w H) ≡ record { number = number; again = again }
   pub not_done : is_done_after o (last_by w H) ≡ false
 
--- H goes on from what was seen by entries of others and one attempt of worker w
+-- H goes on from what was seen by one attempt of worker w, with entries of others before and behind
 pub record HasAttempted (o : Options) (w n : ℕ) (m : List Move) (v : Verdict) (seen H : List Tried) : Type 0 where
   pub others : List Tried
   pub entry : Tried
-  pub history : H ≡ (seen ++ others) ++ entry ∷ []
+  pub later : List Tried
+  pub history : H ≡ ((seen ++ others) ++ entry ∷ []) ++ later
   pub none : HasNoneBy w others
+  pub none_later : HasNoneBy w later
   pub worker : entry.worker ≡ w
   pub number : entry.number ≡ n
   pub again : entry.again ≡ (attempt_after o (last_by w seen)).again

@@ -105,6 +105,34 @@ impl<'a, E: Logged> DeskOver<Turn<Book<'a, E>>> {
         (held.give(), verdict)
     }
 
+    /// As `offer`, and by the same turn the buffer has what is new: its entries are those from its place `from` on, or the
+    /// first 256 of them where there are more, and its front is the number of all entries. This entry is the last of all.
+    pub fn offer_and_look<R: Wait>(
+        &self,
+        rt: &R,
+        seat: Seat<Book<'a, E>>,
+        offer: &E::Offer,
+        buffer: &mut Buffer<E>,
+    ) -> (Seat<Book<'a, E>>, Verdict)
+        requires own { IsSeatAt self.now seat }
+        requires left { 0 < turns_left seat }
+        requires worker { (E.Offer.offered offer.now).worker ≡ number_of seat }
+        requires right { IsRightOffer (base_of self.now) (history seat) (E.Offer.offered offer.now) }
+        requires from { buffer.old.from ≤ length (history seat) }
+        ensures own { IsSeatAt self.now result.0 }
+        ensures number { number_of result.0 ≡ number_of seat.entry }
+        ensures history { EndsWith (base_of self.now) (E.Offer.offered offer.now) result.1 (history seat.entry) (history result.0) }
+        ensures copied { buffer.new ≡ record { from = buffer.old.from; entries = take most_copied (drop buffer.old.from (history result.0)); front = length (history result.0) } }
+        ensures made { made_count result.0 ≡ made_count seat.entry + 1 }
+        ensures left { turns_left result.0 + 1 ≡ turns_left seat.entry }
+    {
+        // For the proof alone.
+        right_offers_stay_right();
+        let mut held = self.turn.take(rt, seat);
+        let verdict = commit_and_copy(held.get_mut(), offer, buffer);
+        (held.give(), verdict)
+    }
+
     /// Gives the book back, once all seats have come back. It has just the entries that they made.
     pub fn close(self, seats: Vec<Seat<Book<'a, E>>>) -> Book<'a, E>
         requires desk { IsDesk self }
@@ -148,5 +176,23 @@ fn commit<E: Logged>(book: &mut Book<'_, E>, offer: &E::Offer) -> Verdict
     let verdict = book.commit(offer);
     // For the proof alone: the entries are legal.
     book.entries();
+    verdict
+}
+
+// Commits an offer to a book, and then copies what the book has from the buffer's place on.
+fn commit_and_copy<E: Logged>(
+    book: &mut Book<'_, E>,
+    offer: &E::Offer,
+    buffer: &mut Buffer<E>,
+) -> Verdict
+    requires right { IsRightOffer book.old.base book.old.entries (E.Offer.offered offer.now) }
+    requires from { buffer.old.from ≤ length book.old.entries }
+    ensures base { book.new.base ≡ book.old.base }
+    ensures entries { book.new.entries ≡ book.old.entries ++ entry_of book.old.base book.old.entries (E.Offer.offered offer.now) result ∷ [] }
+    ensures copied { buffer.new ≡ record { from = buffer.old.from; entries = take most_copied (drop buffer.old.from book.new.entries); front = length book.new.entries } }
+    ensures legal { AreLegalButDraws book.new.base book.new.entries }
+{
+    let verdict = commit(book, offer);
+    copy(book, buffer);
     verdict
 }

@@ -25,7 +25,7 @@ pub struct Searcher<'a, C: Replicates> {
     // Its draws to come.
     stream: Stream,
     replica: C,
-    // Room for the entries of a look.
+    // Room for what a turn shows.
     buffer: Buffer<C::Entry>,
 }
 
@@ -88,18 +88,18 @@ impl<'a, C: Opens<'a>> Searcher<'a, C> {
 }
 
 impl<'a, C: Replicates> Searcher<'a, C> {
-    ghost use Rattle.std.specs.Prelude.{◌⊎◌, ◌+◌, ◌*◌, ◌≤◌, Some, length};
+    ghost use Rattle.std.specs.Prelude.{◌+◌, ◌*◌, ◌<◌, ◌≤◌, Some, length};
     ghost use Rattle.ih_plan.specs.Series.{AreMoves};
     ghost use Rattle.ih_journal.specs.Attempts.{HasMade};
     ghost use Rattle.ih_journal.specs.Legal.{attempt_of};
     ghost use Rattle.ih_journal.specs.Settings.{most_entries};
     ghost use Rattle.ih_turn.specs.Seats.{history, number_of, turns_left};
     ghost use Rattle.ih_cellbook.specs.Laws.{HasNoneBy};
-    ghost use Rattle.ih_cellbook.specs.Offers.{HasSeenOwn, next_number};
+    ghost use Rattle.ih_cellbook.specs.Offers.{next_number};
     ghost use Rattle.ih_desk.specs.Desks.{base_of, IsSeatAt};
     ghost use Rattle.ih_desk.specs.Finishing.{AreDrawn, HasFinished};
     ghost use Rattle.ih_desk.specs.Histories.{GoesOn};
-    ghost use Rattle.ih_desk.specs.Searchers.{HasAttempted, IsNew, IsNext, IsWithin, credit};
+    ghost use Rattle.ih_desk.specs.Searchers.{HasAttempted, HasCaughtUp, IsNew, IsNext, IsWithin, Shows, credit};
 
     /// Makes all attempts of the worker, in order, each of its next draws. A stale one is tried again as often as may be.
     pub(crate) fn search<R: Wait, P: Pass>(
@@ -140,18 +140,18 @@ impl<'a, C: Replicates> Searcher<'a, C> {
         attempt: &<C::Entry as Logged>::Attempt,
     ) -> Seat<Book<'a, C::Entry>>
         requires own { IsSeatAt desk.now seat }
-        requires within { IsWithin (base_of desk.now) self.old.each (number_of seat) (history seat) self.old }
+        requires caught_up { HasCaughtUp (base_of desk.now) self.old.each (number_of seat) (history seat) self.old }
         requires move_in { AreMoves (base_of desk.now).instance (C.Entry.Attempt.moves attempt.now) }
         requires next { IsNext (base_of desk.now).options (history seat) (number_of seat) number 0 }
         requires drawn { C.Entry.Attempt.moves attempt.now ≡ attempt_of (base_of desk.now) self.old.each (number_of seat) number }
         requires earlier { AreDrawn (base_of desk.now) self.old.each (number_of seat) (history seat) }
-        requires turns { most_entries (base_of desk.now).options + 512 * ((base_of desk.now).options.retries + 1) ≤ credit (turns_left seat) self.old }
+        requires turns { most_entries (base_of desk.now).options < credit (turns_left seat) self.old }
         ensures own { IsSeatAt desk.now result }
         ensures number { number_of result ≡ number_of seat.entry }
-        ensures within { IsWithin (base_of desk.now) self.old.each (number_of seat.entry) (history result) self.new }
+        ensures caught_up { HasCaughtUp (base_of desk.now) self.old.each (number_of seat.entry) (history result) self.new }
         ensures made { HasMade (base_of desk.now).options (history result) (number_of seat.entry) (number + 1) }
         ensures drawn { AreDrawn (base_of desk.now) self.old.each (number_of seat.entry) (history result) }
-        ensures turns { credit (turns_left seat.entry) self.old ≤ credit (turns_left result) self.new + 512 * ((base_of desk.now).options.retries + 1) }
+        ensures turns { credit (turns_left seat.entry) self.old ≤ credit (turns_left result) self.new }
         ensures stream { self.new.stream ≡ self.old.stream }
     {
         let mut next = seat;
@@ -167,7 +167,9 @@ impl<'a, C: Replicates> Searcher<'a, C> {
         last
     }
 
-    // Tries an attempt once: catches up, prices it, and offers it.
+    // Tries an attempt once: prices it on what the replica stands for, offers it, and takes over what was new by that turn,
+    // its own entry at least, on which the next try is priced. The take-over comes after the gate's `after`: what the turn
+    // showed doesn't change while the gate holds the worker there.
     fn try_once<R: Wait, P: Pass>(
         &mut self,
         rt: &R,
@@ -178,22 +180,23 @@ impl<'a, C: Replicates> Searcher<'a, C> {
         attempt: &<C::Entry as Logged>::Attempt,
     ) -> (Seat<Book<'a, C::Entry>>, Verdict)
         requires own { IsSeatAt desk.now seat }
-        requires within { IsWithin (base_of desk.now) self.old.each (number_of seat) (history seat) self.old }
+        requires caught_up { HasCaughtUp (base_of desk.now) self.old.each (number_of seat) (history seat) self.old }
         requires move_in { AreMoves (base_of desk.now).instance (C.Entry.Attempt.moves attempt.now) }
         requires next { next_number (base_of desk.now).options (history seat) (number_of seat) ≡ Some number }
-        requires turns { most_entries (base_of desk.now).options + 512 ≤ credit (turns_left seat) self.old }
+        requires turns { most_entries (base_of desk.now).options < credit (turns_left seat) self.old }
         ensures own { IsSeatAt desk.now result.0 }
         ensures number { number_of result.0 ≡ number_of seat.entry }
-        ensures within { IsWithin (base_of desk.now) self.old.each (number_of seat.entry) (history result.0) self.new }
+        ensures caught_up { HasCaughtUp (base_of desk.now) self.old.each (number_of seat.entry) (history result.0) self.new }
         ensures attempted { HasAttempted (base_of desk.now).options (number_of seat.entry) number (C.Entry.Attempt.moves attempt.now) result.1 (history seat.entry) (history result.0) }
-        ensures turns { credit (turns_left seat.entry) self.old ≤ credit (turns_left result.0) self.new + 512 }
+        ensures turns { credit (turns_left seat.entry) self.old ≤ credit (turns_left result.0) self.new }
         ensures stream { self.new.stream ≡ self.old.stream }
     {
+        let (seat, verdict) = self.offer(rt, desk, seat, gate, number, attempt);
         let seat = self.catch_up(rt, desk, seat);
-        self.offer(rt, desk, seat, gate, number, attempt)
+        (seat, verdict)
     }
 
-    // Prices the attempt on what the replica has taken over, and offers it.
+    // Prices the attempt on what the replica stands for, and offers it. The buffer then shows what is new by that turn.
     fn offer<R: Wait, P: Pass>(
         &mut self,
         rt: &R,
@@ -204,28 +207,35 @@ impl<'a, C: Replicates> Searcher<'a, C> {
         attempt: &<C::Entry as Logged>::Attempt,
     ) -> (Seat<Book<'a, C::Entry>>, Verdict)
         requires own { IsSeatAt desk.now seat }
-        requires within { IsWithin (base_of desk.now) self.old.each (number_of seat) (history seat) self.old }
+        requires caught_up { HasCaughtUp (base_of desk.now) self.old.each (number_of seat) (history seat) self.old }
         requires move_in { AreMoves (base_of desk.now).instance (C.Entry.Attempt.moves attempt.now) }
         requires next { next_number (base_of desk.now).options (history seat) (number_of seat) ≡ Some number }
-        requires seen { HasSeenOwn (history seat) (number_of seat) self.old.replica.seen }
-        requires turns { 1 ≤ turns_left seat }
+        requires turns { most_entries (base_of desk.now).options < credit (turns_left seat) self.old }
         ensures own { IsSeatAt desk.now result.0 }
         ensures number { number_of result.0 ≡ number_of seat.entry }
         ensures within { IsWithin (base_of desk.now) self.old.each (number_of seat.entry) (history result.0) self.new }
         ensures attempted { HasAttempted (base_of desk.now).options (number_of seat.entry) number (C.Entry.Attempt.moves attempt.now) result.1 (history seat.entry) (history result.0) }
-        ensures turns { turns_left result.0 + 1 ≡ turns_left seat.entry }
-        ensures seen { self.new.replica.seen ≡ self.old.replica.seen }
+        ensures shown { Shows (history result.0) self.new }
+        ensures new { self.new.replica.seen < length (history result.0) }
+        ensures turns { credit (turns_left seat.entry) self.old ≡ credit (turns_left result.0) self.new + 1 }
         ensures stream { self.new.stream ≡ self.old.stream }
     {
         let worker = seat.number();
         self.replica.price(attempt, number);
         gate.before(rt, worker, number);
-        let (seat, verdict) = desk.offer(rt, seat, self.replica.last());
+        self.buffer.set_from(self.replica.seen());
+        let (seat, verdict) = desk.offer_and_look(
+            rt,
+            seat,
+            self.replica.last(),
+            &mut self.buffer,
+        );
         gate.after(rt, worker, number);
         (seat, verdict)
     }
 
-    // Takes over at least all entries that there are when it first looks, its own among them.
+    // Takes over what the offer's turn showed. Where more was new than the buffer has room for, it looks again until the
+    // replica stands for all that there was by that turn, the offer's own entry among it.
     fn catch_up<R: Wait>(
         &mut self,
         rt: &R,
@@ -234,25 +244,26 @@ impl<'a, C: Replicates> Searcher<'a, C> {
     ) -> Seat<Book<'a, C::Entry>>
         requires own { IsSeatAt desk.now seat }
         requires within { IsWithin (base_of desk.now) self.old.each (number_of seat) (history seat) self.old }
-        requires turns { most_entries (base_of desk.now).options + 512 ≤ credit (turns_left seat) self.old }
+        requires shown { Shows (history seat) self.old }
+        requires new { self.old.replica.seen < length (history seat) }
+        requires turns { most_entries (base_of desk.now).options ≤ credit (turns_left seat) self.old }
         ensures own { IsSeatAt desk.now result }
         ensures number { number_of result ≡ number_of seat.entry }
-        ensures within { IsWithin (base_of desk.now) self.old.each (number_of seat.entry) (history result) self.new }
+        ensures caught_up { HasCaughtUp (base_of desk.now) self.old.each (number_of seat.entry) (history result) self.new }
         ensures history { GoesOn (number_of seat.entry) (history seat.entry) (history result) }
-        ensures seen { HasSeenOwn (history result) (number_of seat.entry) self.new.replica.seen }
-        ensures left { 1 ≤ turns_left result }
-        ensures turns { credit (turns_left seat.entry) self.old ≤ credit (turns_left result) self.new + 256 }
+        ensures turns { credit (turns_left seat.entry) self.old < credit (turns_left result) self.new }
         ensures stream { self.new.stream ≡ self.old.stream }
     {
-        let mut next = self.look(rt, desk, seat);
         let goal = self.buffer.front();
+        self.replica.advance(self.buffer.entries());
+        let mut next = seat;
         while self.replica.seen() < goal {
             next = self.look(rt, desk, next);
         }
         next
     }
 
-    // Looks once, and takes over what the look shows.
+    // Looks where there is more to see, and takes over what the look shows.
     fn look<R: Wait>(
         &mut self,
         rt: &R,
@@ -261,14 +272,14 @@ impl<'a, C: Replicates> Searcher<'a, C> {
     ) -> Seat<Book<'a, C::Entry>>
         requires own { IsSeatAt desk.now seat }
         requires within { IsWithin (base_of desk.now) self.old.each (number_of seat) (history seat) self.old }
-        requires turns { 1 ≤ turns_left seat }
+        requires new { self.old.replica.seen < length (history seat) }
+        requires turns { most_entries (base_of desk.now).options < credit (turns_left seat) self.old }
         ensures own { IsSeatAt desk.now result }
         ensures number { number_of result ≡ number_of seat.entry }
         ensures within { IsWithin (base_of desk.now) self.old.each (number_of seat.entry) (history result) self.new }
         ensures history { GoesOn (number_of seat.entry) (history seat.entry) (history result) }
-        ensures front { self.new.buffer.front ≡ length (history result) }
-        ensures seen { ((length (history result) ≤ self.new.replica.seen) × (self.old.replica.seen ≤ self.new.replica.seen)) ⊎ (self.new.replica.seen ≡ self.old.replica.seen + 256) }
-        ensures turns { turns_left result + 1 ≡ turns_left seat.entry }
+        ensures further { self.old.replica.seen < self.new.replica.seen }
+        ensures turns { credit (turns_left seat.entry) self.old ≤ credit (turns_left result) self.new }
         ensures stream { self.new.stream ≡ self.old.stream }
     {
         self.buffer.set_from(self.replica.seen());

@@ -1,61 +1,84 @@
-use Rattle.std.proofs.Common.{◌≡◌, ◌∙◌, ◌<◌, ap, arith, sym, subst, length}
-use Rattle.ih_turn.specs.Seats.{history, number_of, turns_left}
+use Rattle.std.proofs.Common.{◌≡◌, ◌≤◌, ◌<◌, ◌∙◌, ap, arith, map, refl, sym, subst, length}
+use Rattle.ih_turn.specs.Seats.{history, number_of}
+use Rattle.ih_cellbook.specs.Copied.{Copied, most_copied}
 use Rattle.ih_cellbook.specs.Offers.{HasSeenOwn}
+use Rattle.ih_cellbook.specs.Replicas.{MayFollow, StandsAfter}
+use Rattle.ih_cellbook.proofs.Within.{next-follow, stands-further}
 use Rattle.ih_desk.specs.Desks.{base_of}
 use Rattle.ih_desk.specs.Histories.{GoesOn}
 use Rattle.ih_desk.specs.Progress.{Progress}
-use Rattle.ih_desk.specs.Searchers.{credit}
+use Rattle.ih_desk.specs.Searchers.{IsWithin, Shows}
 use Rattle.ih_desk.proofs.Attempting.{same-within}
-use Rattle.ih_desk.proofs.CatchingUp.{goes-length, goes_on-further, own-all, own-goes_on, seen-few, spent, unspent}
+use Rattle.ih_desk.proofs.CatchingUp.{further, goes-length, goes_on-further, goes_on-none, own-all, own-goes_on, own-later}
 use Rattle.ih_desk.proofs.searcher.Searcher.catch_up.Goals as goal
 
-pub look-next-requires-clause-turns : goal.look-next-requires-clause-turns
-look-next-requires-clause-turns g c =
-    let few = seen-few (base_of c.args.desk.now) (history c.args.seat) c.args.self.now.replica c.requires.within.replica in
-    let has = c.requires.turns in
-    omega (arith, few, has)
+pub advance-requires : goal.advance-requires
+advance-requires g c =
+    let b = base_of c.args.desk.now in
+    let H = history c.args.seat in
+    let r = g.C.Replicates.copied c.self.inside.replica in
+    let within = subst (λ (x : Progress). IsWithin b c.args.self.now.each (number_of c.args.seat) H x) (sym c.self.view_is) c.requires.within in
+    let shown = subst (λ (x : Progress). Shows H x) (sym c.self.view_is) c.requires.shown in
+    let is = c.entries.ensures ∙ ap (λ (x : Copied). x.entries) shown in
+    subst (MayFollow r) (sym is) (next-follow b H r within.replica most_copied c.requires.own.legal)
 
 pub loop-self-init : goal.loop-self-init
 loop-self-init g c =
-    let look = c.look-next.ensures in
+    let b = base_of c.args.desk.now in
     let n = number_of c.args.seat in
-    let H = history c.look-next.result in
-    let r = c.look-next.new.self.replica in
-    let goal-is : c.front-goal.result ≡ length H = c.front-goal.ensures ∙ (ap (λ (x : Progress). x.buffer.front) c.self.view_is ∙ look.front) in
+    let H = history c.args.seat in
+    let r = g.C.Replicates.copied c.self.inside.replica in
+    let s = g.C.Replicates.copied c.advance.new.self in
+    let es = map g.C.Entry.Logged.tried c.entries.result.now in
+    let within = subst (λ (x : Progress). IsWithin b c.args.self.now.each n H x) (sym c.self.view_is) c.requires.within in
+    let shown = subst (λ (x : Progress). Shows H x) (sym c.self.view_is) c.requires.shown in
+    let is = c.entries.ensures ∙ ap (λ (x : Copied). x.entries) shown in
+    let goal-is : c.front-goal.result ≡ length H = c.front-goal.ensures ∙ ap (λ (x : Copied). x.front) shown in
+    let after = subst (λ es. StandsAfter r es s) is c.advance.ensures.replica in
+    let new = subst (λ (x : Progress). x.replica.seen < length H) (sym c.self.view_is) c.requires.new in
+    let more : r.seen < s.seen = further b H r s within.replica c.requires.own.legal after new in
+    let before = ap (λ (x : Progress). x.replica.seen) c.self.view_is in
+    let own = within.own in
     record {
-      own = look.own;
-      number = look.number;
-      within = look.within;
-      goes = look.history;
+      own = c.requires.own;
+      number = refl;
+      within = record {
+        own = record { instance = own.instance; options = own.options; each_is = own.each_is; worker = c.advance.ensures.worker ∙ own.worker };
+        replica = stands-further b H r within.replica most_copied s c.requires.own.legal after;
+      };
+      goes = goes_on-none n H;
       seen = subst (HasSeenOwn H n) (sym goal-is) (own-all n H);
-      few = seen-few (base_of c.args.desk.now) H r look.within.replica;
       reached = omega (arith, goal-is);
-      turns = spent (credit (turns_left c.args.seat) c.args.self.now) (turns_left c.args.seat) c.args.self.now.replica.seen (turns_left c.look-next.result) r.seen c.front-goal.result (length H) (omega arith) look.turns (omega (arith, goal-is)) look.seen;
-      stream = look.stream;
+      turns = omega (arith, more, before);
+      stream = ap (λ (x : Progress). x.stream) c.self.view_is;
     }
 
 pub loop-self-preserved : goal.loop-self-preserved
 loop-self-preserved g c =
     let before = c.loop-self.invariant in
-    let look = c.look-next-in-loop-self.ensures in
+    let look = c.look-next.ensures in
     let n = number_of c.args.seat in
     let G = history c.loop-self.next in
-    let H = history c.look-next-in-loop-self.result in
-    let r = c.look-next-in-loop-self.new.self.replica in
-    let further = subst (λ w. GoesOn w G H) before.number look.history in
-    let within = same-within (base_of c.args.desk.now) _ c.args.self.now.each _ n H c.look-next-in-loop-self.new.self before.within.own.each_is before.number look.within in
-    let short : c.loop-self.self.replica.seen < c.front-goal.result = subst (λ k. k < c.front-goal.result) (c.seen.ensures ∙ ap (λ (x : Progress). x.replica.seen) c.self-in-loop-self.view_is) c.loop-self-test.true in
-    let longer = goes-length n G H further in
+    let H = history c.look-next.result in
+    let goes = subst (λ w. GoesOn w G H) before.number look.history in
+    let longer = goes-length n G H goes in
     let reached = before.reached in
+    let used = look.turns in
+    let had = before.turns in
+    let same = ap (λ (x : Progress). x.replica.seen) c.self-in-loop-self.view_is in
     record {
       own = look.own;
       number = look.number ∙ before.number;
-      within = within;
-      goes = goes_on-further n (history c.args.seat) G H before.goes further;
-      seen = own-goes_on n c.front-goal.result G H further before.seen;
-      few = seen-few (base_of c.args.desk.now) H r within.replica;
+      within = same-within (base_of c.args.desk.now) _ c.args.self.now.each _ n H c.look-next.new.self before.within.own.each_is before.number look.within;
+      goes = goes_on-further n (history c.args.seat) G H before.goes goes;
+      seen = own-goes_on n c.front-goal.result G H goes before.seen;
       reached = omega (arith, longer, reached);
-      turns = spent (credit (turns_left c.args.seat) c.args.self.now) (turns_left c.loop-self.next) c.loop-self.self.replica.seen (turns_left c.look-next-in-loop-self.result) r.seen c.front-goal.result (length H)
-          (unspent (credit (turns_left c.args.seat) c.args.self.now) (turns_left c.loop-self.next) c.loop-self.self.replica.seen c.front-goal.result short before.turns) look.turns (omega (arith, longer, reached)) look.seen;
+      turns = omega (arith, used, had, same);
       stream = look.stream ∙ before.stream;
     }
+
+pub returns-clause-caught_up : goal.returns-clause-caught_up
+returns-clause-caught_up g c =
+    let before = c.loop-self.invariant in
+    let past : c.front-goal.result ≤ c.loop-self.self.replica.seen = subst (λ k. c.front-goal.result ≤ k) (c.seen.ensures ∙ ap (λ (x : Progress). x.replica.seen) c.self-in-loop-self.view_is) c.loop-self-test.false in
+    record { within = before.within; seen = own-later (number_of c.args.seat) c.front-goal.result c.loop-self.self.replica.seen (history c.loop-self.next) before.seen past }

@@ -1,5 +1,4 @@
-use Rattle.std.proofs.Common.{◌≡◌, ◌⊎◌, ◌+◌, ◌≤◌, ◌-◌, length}
-use Rattle.ih_journal.specs.Settings.{most_entries}
+use Rattle.std.proofs.Common.{◌≡◌, ◌<◌, ◌≤◌, ◌-◌, length}
 use Rattle.ih_turn.specs.Seats.{history, number_of, turns_left}
 use Rattle.ih_cellbook.specs.Offers.{HasSeenOwn}
 use Rattle.ih_desk.specs.Desks.{base_of, IsSeatAt}
@@ -7,7 +6,7 @@ use Rattle.ih_desk.specs.Histories.{GoesOn}
 use Rattle.ih_desk.specs.Searchers.{IsWithin, credit}
 use Rattle.ih_desk.proofs.searcher.Searcher.catch_up.Given as goal
 
--- a look has used a turn for nothing only where all is seen
+-- what the worker made comes before the goal, and each turn showed more
 abbrev pub invariant-loop-self : goal.invariant-loop-self
 invariant-loop-self g l = record {
   own : IsSeatAt l.desk l.next;
@@ -15,9 +14,8 @@ invariant-loop-self g l = record {
   within : IsWithin (base_of l.desk) l.fn.self.each (number_of l.fn.seat) (history l.next) l.self;
   goes : GoesOn (number_of l.fn.seat) (history l.fn.seat) (history l.next);
   seen : HasSeenOwn (history l.next) (number_of l.fn.seat) l.goal;
-  few : l.self.replica.seen ≤ most_entries (base_of l.desk).options;
   reached : l.goal ≤ length (history l.next);
-  turns : (credit (turns_left l.fn.seat) l.fn.self ≤ credit (turns_left l.next) l.self) ⊎ ((l.goal ≤ l.self.replica.seen) × (credit (turns_left l.fn.seat) l.fn.self ≤ credit (turns_left l.next) l.self + 256));
+  turns : credit (turns_left l.fn.seat) l.fn.self < credit (turns_left l.next) l.self;
   stream : l.self.stream ≡ l.fn.self.stream;
 }
 
