@@ -5,7 +5,7 @@ use Rattle.ih_cellbook.specs.Offers.{next_number}
 use Rattle.ih_desk.specs.Desks.{base_of}
 use Rattle.ih_desk.specs.Progress.{Progress}
 use Rattle.ih_desk.specs.Searchers.{HasAttempted}
-use Rattle.ih_desk.proofs.Attempting.{drawn-attempt, next-move, next-number, next-try, same-within}
+use Rattle.ih_desk.proofs.Attempting.{drawn-attempt, next-move, next-number, next-try, same-caught_up}
 use Rattle.ih_desk.proofs.searcher.Searcher.make.Goals as goal
 
 pub try_once-tried-requires-clause-next : goal.try_once-tried-requires-clause-next
@@ -51,13 +51,13 @@ loop-again-preserved g c =
     let before = c.loop-again.invariant in
     let after = c.try_once-tried.ensures in
     let tried = subst (λ w. HasAttempted b.options w c.args.number (g.C.Entry.Attempt.Attempted.moves c.args.attempt.now) v H G) before.number after.attempted in
-    let left : c.loop-again.again < b.options.retries = subst (λ (o : Options). c.loop-again.again < o.retries) (ap (λ (x : Progress). x.options) c.self.view_is ∙ c.requires.within.own.options) c.loop-again-test.true in
+    let left : c.loop-again.again < b.options.retries = subst (λ (o : Options). c.loop-again.again < o.retries) (ap (λ (x : Progress). x.options) c.self.view_is ∙ c.requires.caught_up.within.own.options) c.loop-again-test.true in
     let has = before.turns in
     let used = after.turns in
     record {
       own = after.own;
       number = after.number ∙ before.number;
-      within = same-within b _ c.args.self.now.each _ n G c.try_once-tried.new.self before.within.own.each_is before.number after.within;
+      caught_up = same-caught_up b _ c.args.self.now.each _ n G c.try_once-tried.new.self before.caught_up.within.own.each_is before.number after.caught_up;
       try = next-try b.options n c.args.number c.loop-again.again (g.C.Entry.Attempt.Attempted.moves c.args.attempt.now) v H G before.try tried (sym c.is_stale.ensures ∙ c.if-not-is_stale.false) left;
       drawn = drawn-attempt b c.args.self.now.each n c.args.number (g.C.Entry.Attempt.Attempted.moves c.args.attempt.now) v H G tried c.requires.drawn before.drawn;
       turns = omega (arith, has, used);
@@ -72,7 +72,7 @@ returns-clause-made g c =
     let G = history c.try_once-last.result.0 in
     let v = c.try_once-last.result.1 in
     let tried = subst (λ w. HasAttempted o w c.args.number (g.C.Entry.Attempt.Attempted.moves c.args.attempt.now) v H G) c.loop-again.invariant.number c.try_once-last.ensures.attempted in
-    let spent : o.retries ≤ c.loop-again.again = subst (λ (o : Options). o.retries ≤ c.loop-again.again) (ap (λ (x : Progress). x.options) c.self.view_is ∙ c.requires.within.own.options) c.loop-again-test.false in
+    let spent : o.retries ≤ c.loop-again.again = subst (λ (o : Options). o.retries ≤ c.loop-again.again) (ap (λ (x : Progress). x.options) c.self.view_is ∙ c.requires.caught_up.within.own.options) c.loop-again-test.false in
     next-move o n c.args.number c.loop-again.again (g.C.Entry.Attempt.Attempted.moves c.args.attempt.now) v H G c.loop-again.invariant.try tried (inr spent)
 
 pub returns-clause-drawn : goal.returns-clause-drawn

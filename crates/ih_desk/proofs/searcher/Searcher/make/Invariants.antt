@@ -1,8 +1,8 @@
-use Rattle.std.proofs.Common.{◌≡◌, ◌+◌, ◌*◌, ◌≤◌}
+use Rattle.std.proofs.Common.{◌≡◌, ◌≤◌}
 use Rattle.ih_turn.specs.Seats.{history, number_of, turns_left}
 use Rattle.ih_desk.specs.Desks.{base_of, IsSeatAt}
 use Rattle.ih_desk.specs.Finishing.{AreDrawn}
-use Rattle.ih_desk.specs.Searchers.{IsNext, IsWithin, credit}
+use Rattle.ih_desk.specs.Searchers.{HasCaughtUp, IsNext, credit}
 use Rattle.ih_desk.proofs.searcher.Searcher.make.Given as goal
 
 -- the move was tried so often, and each time it was stale
@@ -10,9 +10,9 @@ abbrev pub invariant-loop-again : goal.invariant-loop-again
 invariant-loop-again g l = record {
   own : IsSeatAt l.desk l.next;
   number : number_of l.next ≡ number_of l.fn.seat;
-  within : IsWithin (base_of l.desk) l.fn.self.each (number_of l.fn.seat) (history l.next) l.self;
+  caught_up : HasCaughtUp (base_of l.desk) l.fn.self.each (number_of l.fn.seat) (history l.next) l.self;
   try : IsNext (base_of l.desk).options (history l.next) (number_of l.fn.seat) l.number l.again;
   drawn : AreDrawn (base_of l.desk) l.fn.self.each (number_of l.fn.seat) (history l.next);
-  turns : credit (turns_left l.fn.seat) l.fn.self ≤ credit (turns_left l.next) l.self + 512 * l.again;
+  turns : credit (turns_left l.fn.seat) l.fn.self ≤ credit (turns_left l.next) l.self;
   stream : l.self.stream ≡ l.fn.self.stream;
 }

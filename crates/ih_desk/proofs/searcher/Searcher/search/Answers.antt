@@ -9,9 +9,8 @@ use Rattle.ih_desk.specs.Desks.{base_of}
 use Rattle.ih_desk.specs.Finishing.{AreDrawn}
 use Rattle.ih_desk.specs.Progress.{Progress}
 use Rattle.ih_desk.specs.Searchers.{credit}
-use Rattle.ih_desk.proofs.Attempting.{drawn-none, made-none, same-within}
-use Rattle.ih_desk.proofs.CatchingUp.{new-within}
-use Rattle.ih_desk.proofs.Turns.{enough, for-one, for-rest, none-drawn, one-fewer, one-later}
+use Rattle.ih_desk.proofs.Attempting.{drawn-none, made-none, none-drawn, one-later, same-caught_up}
+use Rattle.ih_desk.proofs.CatchingUp.{new-within, own-none}
 use Rattle.ih_desk.proofs.searcher.Searcher.search.Goals as goal
 
 pub loop-number-init : goal.loop-number-init
@@ -20,26 +19,25 @@ loop-number-init g c =
     let n = number_of c.args.seat in
     let H = history c.args.seat in
     let new = c.requires.new in
-    let some : 1 ≤ b.options.workers = (let below = c.requires.own.number in omega (arith, below)) in
+    let turns = c.requires.turns in
     record {
       own = c.requires.own;
       same = refl;
-      within = record { own = new.own; replica = new-within b H c.args.self.now.replica new.replica };
+      caught_up = record {
+        within = record { own = new.own; replica = new-within b H c.args.self.now.replica new.replica };
+        seen = own-none n c.args.self.now.replica.seen H c.requires.none;
+      };
       made = made-none b.options n H c.requires.none;
       drawn = drawn-none b c.args.self.now.each n H c.requires.none;
       stream = new.stream ∙ ap (stream_at b.options.seed n) (none-drawn c.args.self.now.each);
-      turns = enough b.options (turns_left c.args.seat) c.args.self.now.replica.seen some c.requires.turns;
+      turns = omega (arith, turns);
     }
 
 pub make-next-requires-clause-turns : goal.make-next-requires-clause-turns
 make-next-requires-clause-turns g c =
-    let o = (base_of c.args.desk.now).options in
-    let below : c.loop-number.number < o.moves = subst (λ (o : Options). c.loop-number.number < o.moves) (ap (λ (x : Progress). x.options) c.self.view_is ∙ c.requires.new.own.options) c.loop-number-test.true in
-    let has = credit (turns_left c.loop-number.next) c.loop-number.self in
-    let rest = (o.retries + 1) * (o.moves - (c.loop-number.number + 1)) in
-    let all = subst (λ k. most_entries o + 512 * k ≤ has) (one-fewer (o.retries + 1) o.moves c.loop-number.number below) c.loop-number.invariant.turns in
-    let one : most_entries o + 512 * (o.retries + 1) ≤ has = for-one (most_entries o) (o.retries + 1) rest has all in
-    subst (λ k. most_entries o + 512 * (o.retries + 1) ≤ 256 * turns_left c.loop-number.next + k) (sym (ap (λ (x : Progress). x.replica.seen) c.self-in-loop-number.view_is)) one
+    let left = c.loop-number.invariant.turns in
+    let same = ap (λ (x : Progress). x.replica.seen) c.self-in-loop-number.view_is in
+    omega (arith, left, same)
 
 pub loop-number-preserved : goal.loop-number-preserved
 loop-number-preserved g c =
@@ -49,22 +47,20 @@ loop-number-preserved g c =
     let G = history c.make-next.result in
     let before = c.loop-number.invariant in
     let after = c.make-next.ensures in
-    let below : c.loop-number.number < o.moves = subst (λ (o : Options). c.loop-number.number < o.moves) (ap (λ (x : Progress). x.options) c.self.view_is ∙ c.requires.new.own.options) c.loop-number-test.true in
-    let has = credit (turns_left c.loop-number.next) c.loop-number.self in
-    let left = credit (turns_left c.make-next.result) c.make-next.new.self in
-    let all = subst (λ k. most_entries o + 512 * k ≤ has) (one-fewer (o.retries + 1) o.moves c.loop-number.number below) before.turns in
-    let used = subst (λ k. 256 * turns_left c.loop-number.next + k ≤ left + 512 * (o.retries + 1)) (ap (λ (x : Progress). x.replica.seen) c.self-in-loop-number.view_is) after.turns in
+    let had = before.turns in
+    let used = after.turns in
+    let seen = ap (λ (x : Progress). x.replica.seen) c.self-in-loop-number.view_is in
     let each = c.args.self.now.each in
-    let same = ap (λ (x : Progress). x.each) c.self-in-loop-number.view_is ∙ before.within.own.each_is in
+    let same = ap (λ (x : Progress). x.each) c.self-in-loop-number.view_is ∙ before.caught_up.within.own.each_is in
     let drawn = c.draw-attempt.ensures.drawn o.seed n (c.loop-number.number * each) (ap (λ (x : Progress). x.stream) c.self-in-loop-number.view_is ∙ before.stream) in
     record {
       own = after.own;
       same = after.number ∙ before.same;
-      within = same-within b _ each _ n G c.make-next.new.self same before.same after.within;
+      caught_up = same-caught_up b _ each _ n G c.make-next.new.self same before.same after.caught_up;
       made = subst (λ w. HasMade o G w (c.loop-number.number + 1)) before.same after.made;
       drawn = subst (λ e. AreDrawn b e n G) same (subst (λ w. AreDrawn b c.self-in-loop-number.inside.each w G) before.same after.drawn);
       stream = after.stream ∙ (drawn.1 ∙ ap (stream_at o.seed n) (ap (λ e. c.loop-number.number * each + e) same ∙ one-later c.loop-number.number each));
-      turns = for-rest (most_entries o) (o.retries + 1) ((o.retries + 1) * (o.moves - (c.loop-number.number + 1))) has left all used;
+      turns = omega (arith, had, used, seen);
     }
 
 pub returns-clause-finished : goal.returns-clause-finished
