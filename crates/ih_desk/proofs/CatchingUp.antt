@@ -1,9 +1,8 @@
 -- A searcher that looks: how far it is then in the history.
-use Rattle.std.proofs.Common.{◌≡◌, ℕ, zero, suc, ◌+◌, ◌*◌, ◌<◌, ◌≤◌, sym, ap, ◌∙◌, subst, refl, arith, inl, inr, List, [], ◌∷◌, ◌++◌, append_assoc, length, length-append, take, drop, None, Some}
-use Rattle.std.specs.Prelude.{◌⊎◌, slice_get}
+use Rattle.std.proofs.Common.{◌≡◌, ℕ, zero, suc, ◌+◌, ◌<◌, ◌≤◌, sym, ap, ◌∙◌, subst, refl, arith, List, [], ◌∷◌, ◌++◌, append_assoc, length, length-append, take, drop, None, Some}
+use Rattle.std.specs.Prelude.{slice_get}
 use Rattle.std.proofs.Math.Seq.{take-add}
 use Rattle.std.proofs.lemmas.List.{append-nil, length-take, take-append-drop, take-append-le}
-use Rattle.std.proofs.lemmas.Bool.{cases_lt}
 use Rattle.std.proofs.lemmas.Option.{slice_get_within}
 use Rattle.ih_journal.specs.Tried.{Tried}
 use Rattle.ih_journal.specs.declared.entries.Verdict.{Verdict}
@@ -20,7 +19,7 @@ use Rattle.ih_cellbook.specs.Offers.{HasSeenOwn, entry_of}
 use Rattle.ih_cellbook.proofs.Staying.{seen_own-others}
 use Rattle.ih_cellbook.specs.Replicas.{IsReplicaIn, IsReplicaOf, StandsAfter}
 use Rattle.ih_cellbook.specs.Snapshot.{Snapshot}
-use Rattle.ih_cellbook.proofs.Within.{seen-within, stands-behind}
+use Rattle.ih_cellbook.proofs.Within.{stands-behind}
 use Rattle.ih_desk.specs.Histories.{EndsWith, GoesOn}
 use Rattle.ih_desk.proofs.Full.{none-both}
 

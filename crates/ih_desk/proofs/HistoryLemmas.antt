@@ -7,6 +7,7 @@ use Rattle.ih_journal.specs.declared.entries.Verdict.{Verdict}
 use Rattle.ih_journal.specs.Base.{Base}
 use Rattle.ih_turn.specs.Rule.{Follows}
 use Rattle.ih_cellbook.specs.Offered.{Offered}
+use Rattle.ih_cellbook.specs.Recorded.{Recorded}
 use Rattle.ih_cellbook.specs.Laws.{HasNoneBy, RightOffersStayRight}
 use Rattle.ih_cellbook.specs.Legal.{AreLegalButDraws}
 use Rattle.ih_cellbook.specs.Offers.{IsRightOffer, entry_of}
@@ -30,6 +31,12 @@ legal-none b H none = subst (AreLegalButDraws b) (sym none) (λ k e there. absur
 
 pub legal-same : (b c : Base) (H G : List Tried) → b ≡ c → H ≡ G → AreLegalButDraws b H → AreLegalButDraws c G
 legal-same b c H G base same legal = subst (λ x. AreLegalButDraws x G) base (subst (AreLegalButDraws b) same legal)
+
+-- what was lent out begins with what the seat had seen, and past that has nothing by the offer's worker
+pub lent-follows : (worker number : ℕ) (seen : List Tried) (taken lent : Recorded) → worker ≡ number → lent ≡ taken
+    → Follows (λ e. e.worker) number taken.entries seen → Follows (λ e. e.worker) worker lent.entries seen
+lent-follows worker number seen taken lent same value begins =
+    subst (λ (k : Recorded). Follows (λ e. e.worker) worker k.entries seen) (sym value) (subst (λ n. Follows (λ e. e.worker) n taken.entries seen) (sym same) begins)
 
 -- an offer that is right for what the seat has seen is right for the book
 pub right-further : RightOffersStayRight → (b c : Base) (o : Offered) (seen H : List Tried) → b ≡ c → Follows (λ e. e.worker) o.worker H seen → IsRightOffer c seen o → IsRightOffer b H o

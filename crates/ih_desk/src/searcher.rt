@@ -224,12 +224,7 @@ impl<'a, C: Replicates> Searcher<'a, C> {
         self.replica.price(attempt, number);
         gate.before(rt, worker, number);
         self.buffer.set_from(self.replica.seen());
-        let (seat, verdict) = desk.offer_and_look(
-            rt,
-            seat,
-            self.replica.last(),
-            &mut self.buffer,
-        );
+        let (seat, verdict) = desk.offer_and_look(rt, seat, self.replica.last(), &mut self.buffer);
         gate.after(rt, worker, number);
         (seat, verdict)
     }

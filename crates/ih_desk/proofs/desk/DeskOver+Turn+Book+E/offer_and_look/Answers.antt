@@ -1,8 +1,7 @@
-use Rattle.std.proofs.Common.{◌∙◌, ap, sym, subst}
+use Rattle.std.proofs.Common.{◌∙◌, ap, sym}
 use Rattle.ih_cellbook.specs.Recorded.{Recorded}
-use Rattle.ih_turn.specs.Rule.{Follows}
 use Rattle.ih_turn.specs.Seats.{history, value_of}
-use Rattle.ih_desk.proofs.HistoryLemmas.{ends_with, legal-same, right-further}
+use Rattle.ih_desk.proofs.HistoryLemmas.{ends_with, legal-same, lent-follows, right-further}
 use Rattle.ih_desk.proofs.Makers.{seat-at}
 use Rattle.ih_desk.proofs.desk.DeskOver+Turn+Book+E.offer_and_look.Goals as goal
 
@@ -16,8 +15,7 @@ commit_and_copy-verdict-requires-clause-right g c =
     let value = c.get_mut.ensures.value in
     right-further c.right_offers_stay_right.ensures _ _ (g.E.Offer.Offers.offered c.args.offer.now) (history c.args.seat) _
     (ap (λ (k : Recorded). k.base) value ∙ c.take-held.ensures.base)
-    (subst (λ (k : Recorded). Follows (λ e. e.worker) (g.E.Offer.Offers.offered c.args.offer.now).worker k.entries (history c.args.seat)) (sym value)
-    (subst (λ n. Follows (λ e. e.worker) n (value_of c.take-held.result).entries (history c.args.seat)) (sym c.requires.worker) c.take-held.ensures.begins))
+    (lent-follows _ _ (history c.args.seat) (value_of c.take-held.result) c.get_mut.result.now c.requires.worker value c.take-held.ensures.begins)
     c.requires.right
 
 pub returns-clause-history : goal.returns-clause-history
@@ -25,6 +23,5 @@ returns-clause-history g c =
     let value = c.get_mut.ensures.value in
     ends_with _ _ (g.E.Offer.Offers.offered c.args.offer.now) c.commit_and_copy-verdict.result (history c.args.seat) c.get_mut.result.now.entries (history c.give.result)
     (ap (λ (k : Recorded). k.base) value ∙ c.take-held.ensures.base)
-    (subst (λ (k : Recorded). Follows (λ e. e.worker) (g.E.Offer.Offers.offered c.args.offer.now).worker k.entries (history c.args.seat)) (sym value)
-    (subst (λ n. Follows (λ e. e.worker) n (value_of c.take-held.result).entries (history c.args.seat)) (sym c.requires.worker) c.take-held.ensures.begins))
+    (lent-follows _ _ (history c.args.seat) (value_of c.take-held.result) c.get_mut.result.now c.requires.worker value c.take-held.ensures.begins)
     (c.give.ensures.list ∙ c.commit_and_copy-verdict.ensures.entries)

@@ -1,14 +1,12 @@
-use Rattle.std.proofs.Common.{◌≡◌, ◌+◌, ◌-◌, ◌*◌, ◌≤◌, ◌<◌, ◌∙◌, arith, refl, sym, subst, ap}
+use Rattle.std.proofs.Common.{◌≡◌, ◌+◌, ◌*◌, ◌≤◌, ◌∙◌, arith, refl, subst, ap}
 use Rattle.ih_plan.specs.Draws.{stream_at}
 use Rattle.ih_journal.specs.declared.settings.Options.{Options}
 use Rattle.ih_journal.specs.Attempts.{HasMade}
-use Rattle.ih_journal.specs.Settings.{most_entries}
 use Rattle.ih_journal.proofs.Growth.{has_made-all}
-use Rattle.ih_turn.specs.Seats.{history, number_of, turns_left}
+use Rattle.ih_turn.specs.Seats.{history, number_of}
 use Rattle.ih_desk.specs.Desks.{base_of}
 use Rattle.ih_desk.specs.Finishing.{AreDrawn}
 use Rattle.ih_desk.specs.Progress.{Progress}
-use Rattle.ih_desk.specs.Searchers.{credit}
 use Rattle.ih_desk.proofs.Attempting.{drawn-none, made-none, none-drawn, one-later, same-caught_up}
 use Rattle.ih_desk.proofs.CatchingUp.{new-within, own-none}
 use Rattle.ih_desk.proofs.searcher.Searcher.search.Goals as goal
