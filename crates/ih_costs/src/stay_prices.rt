@@ -13,6 +13,7 @@ ghost use Rattle.ih_costs.specs.StayGain.{rise, rule_at, cost_at, over_days, ove
 
 use crate::cell_ledgers::CellLedgers;
 use crate::stays::stay_change;
+use ih_nurses::Visit;
 use ih_plan::Placement;
 use ih_tables::{Bill, Day, Instance, PatientNo, Shift};
 
@@ -80,21 +81,30 @@ impl CellLedgers {
         }
     }
 
-    // What the room and its nurses have more over the shifts of a placement with the patient there than without.
-    fn more_over_shifts(&self, inst: &Instance, p: PatientNo, at: Placement) -> ShiftsMore
+    // What the room and its nurses have more over the shifts of a placement with the patient there than without. The
+    // patient's stay is `old` so far.
+    fn more_over_shifts(
+        &self,
+        inst: &Instance,
+        p: PatientNo,
+        old: Option<Placement>,
+        at: Placement,
+    ) -> ShiftsMore
         requires stands { AreLedgers inst.now.draft self.now }
         requires patient { p.0 < patient_count inst.now.draft }
         requires placement { IsPlacement inst.now.draft at }
+        requires stay { stay_of (timetable_of self.now) p.0 ≡ old }
         ensures alone { result.alone ≡ rise (timetable_of self.now) p at (λ Q. over_shifts inst.now.draft Q p.0 at (rule_at 8)) }
         ensures skill { result.skill ≡ rise (timetable_of self.now) p at (λ Q. over_shifts inst.now.draft Q p.0 at (cost_at 1)) }
         ensures load { result.load ≡ rise (timetable_of self.now) p at (λ Q. over_loads inst.now.draft Q p.0 at (cost_at 3)) }
     {
         let end = end_of(inst, p, at);
+        let visit = Visit::new(inst, p, old, at);
         let mut alone: i64 = 0;
         let mut skill: i64 = 0;
         let mut load: i64 = 0;
         for k in 3 * at.day.0..3 * end {
-            let gain = self.nurses.shift_gain(inst, Shift(k), p, at);
+            let gain = self.nurses.shift_gain(inst, Shift(k), p, at, &visit);
             alone += gain.alone as i64;
             skill += gain.skill as i64;
             load += gain.load as i64;
@@ -119,7 +129,7 @@ impl CellLedgers {
             .surgeon_gain(inst, patient.surgeon_id, p, old, at);
         let care = self.nurses.care_gain(inst, p, at);
         let days = self.more_over_days(inst, p, old, at);
-        let shifts = self.more_over_shifts(inst, p, at);
+        let shifts = self.more_over_shifts(inst, p, old, at);
         Bill {
             v: [
                 days.mixed,

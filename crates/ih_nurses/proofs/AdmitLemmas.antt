@@ -117,7 +117,7 @@ one_room m (Some a) n d x =
     inner true = if-most (covers a.day n d) x
     inner false = omega arith
 
-workload-most : (I : Draft) (x j : ℕ) → IsValid I → slice_index (person_of I x).workload j ≤ 100000
+pub workload-most : (I : Draft) (x j : ℕ) → IsValid I → slice_index (person_of I x).workload j ≤ 100000
 unfolding person_of
 workload-most I x j valid = by_test (nat_lt x (patient_count I))
   where

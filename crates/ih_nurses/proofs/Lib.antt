@@ -11,6 +11,7 @@ pub mod BillLemmas
 pub mod RoomLemmas
 pub mod StartLemmas
 pub mod WithinLemmas
+pub mod VisitLemmas
 pub mod StretchLemmas
 pub mod DifferenceLemmas
 pub mod OwnLemmas

@@ -5,3 +5,4 @@ pub mod Marks
 pub mod Stretches
 pub mod Choice
 pub mod Gains
+pub mod Visits

@@ -16,6 +16,8 @@ mod shift_gains;
 mod start;
 mod stays;
 mod stretches;
+mod visits;
 
 pub use nurses::Nurses;
 pub use shift_gains::ShiftGain;
+pub use visits::Visit;

@@ -1,22 +1,23 @@
 //! What a placement of a patient makes its room and that room's nurse cost more in one shift.
 
-ghost use Rattle.std.specs.Prelude.{◌≡◌, ◌<◌, ◌-◌, ◌*◌, pos, true, Some, slice_index};
+ghost use Rattle.std.specs.Prelude.{◌≡◌, ◌<◌, ◌≤◌, ◌-◌, ◌*◌, pos, true, Some, length, slice_index};
 ghost use Rattle.ih_tables.specs.Sizes.{patient_count, room_count, shift_count, nurse_count};
 ghost use Rattle.ih_links.specs.Lists.{without};
-ghost use Rattle.ih_plan.specs.Timetable.{Timetable, IsPlacement, care_of};
+ghost use Rattle.ih_plan.specs.Timetable.{Timetable, IsPlacement, stay_of, care_of};
 ghost use Rattle.ih_plan.specs.Persons.{person_of};
 ghost use Rattle.ih_plan.specs.Presence.{covers, day_of, present};
 ghost use Rattle.ih_plan.specs.Costs.{is_empty, skill_level};
 ghost use Rattle.ih_plan.specs.Sums.{bit};
-ghost use Rattle.ih_nurses.specs.Ledger.{IsLedgerOf};
+ghost use Rattle.ih_nurses.specs.Ledger.{IsLedgerOf, plan_of};
+ghost use Rattle.ih_nurses.specs.Visits.{IsVisit};
 ghost use Rattle.ih_nurses.specs.Gains.{uncovered_in, missing_in, overload_in, excess_in, rise_by_placement};
 
 use crate::Nurses;
 use crate::choices::nurse_at;
 use crate::loads::{load, overload};
-use crate::own::{given, skill};
+use crate::own::entry;
 use crate::rooms::has_others;
-use crate::stays::workload;
+use crate::visits::{Visit, gone};
 use ih_plan::Placement;
 use ih_tables::{Instance, NurseNo, PatientNo, RoomNo, Shift};
 
@@ -33,14 +34,13 @@ pub struct ShiftGain {
 
 // The skill above the nurse's that the patient requires in a shift of the placement.
 #[inline(always)]
-fn skill_gain(inst: &Instance, n: NurseNo, k: Shift, p: PatientNo, at: Placement) -> u32
+fn skill_gain(inst: &Instance, n: NurseNo, k: Shift, at: Placement, skill: &[u32]) -> u32
     requires nurse { n.0 < nurse_count inst.now.draft }
-    requires patient { p.0 < patient_count inst.now.draft }
-    requires counted { covers at.day.0 (person_of inst.now.draft p.0).length_of_stay (day_of k.0) ≡ true }
-    ensures { result ≡ slice_index (person_of inst.now.draft p.0).skill (k.0 - 3 * at.day.0)
-        - skill_level inst.now.draft n.0 }
+    requires begun { 3 * at.day.0 ≤ k.0 }
+    requires inside { k.0 - 3 * at.day.0 < length skill.now }
+    ensures { result ≡ slice_index skill.now (k.0 - 3 * at.day.0) - skill_level inst.now.draft n.0 }
 {
-    skill(inst, p, at, k).saturating_sub(inst.nurse(n).skill_level)
+    entry(skill, at, k).saturating_sub(inst.nurse(n).skill_level)
 }
 
 impl Nurses {
@@ -62,7 +62,15 @@ impl Nurses {
 
     // The workload above the maximum that comes with the patient to the nurse who has the room in the shift.
     #[inline(always)]
-    fn load_gain(&self, inst: &Instance, n: NurseNo, k: Shift, p: PatientNo, at: Placement) -> u32
+    fn load_gain(
+        &self,
+        inst: &Instance,
+        n: NurseNo,
+        k: Shift,
+        p: PatientNo,
+        at: Placement,
+        visit: &Visit<'_>,
+    ) -> u32
         requires nurse { n.0 < nurse_count inst.now.draft }
         requires shift { k.0 < shift_count inst.now.draft }
         requires patient { p.0 < patient_count inst.now.draft }
@@ -70,24 +78,36 @@ impl Nurses {
         requires counted { covers at.day.0 (person_of inst.now.draft p.0).length_of_stay (day_of k.0) ≡ true }
         requires stands { (P : Timetable) × IsLedgerOf inst.now.draft P self.now
             × (care_of P at.room.0 k.0 ≡ Some n.0) }
+        requires visit { IsVisit inst.now.draft p.0 (stay_of (plan_of self.now) p.0) at
+            visit.now.workload.now visit.now.skill.now visit.now.before }
         ensures { (P : Timetable) → IsLedgerOf inst.now.draft P self.now
             → pos result ≡ rise_by_placement P p at (λ Q. overload_in inst.now.draft Q n k) }
     {
         let all = load(inst, self.loads.as_slice(), n, k);
-        let gone = given(inst, &self.plan, p, self.plan.stay(p), n, k);
+        let come = entry(visit.workload, at, k);
+        let gone = gone(inst, &self.plan, p, at, visit, n, k, come);
         let without = all - gone;
-        let with = without + workload(inst, p, at, k.0);
+        let with = without + come;
         overload(inst, n, k, with) - overload(inst, n, k, without)
     }
 
     /// What a shift of a placement's room costs more with the patient there than without.
     #[inline(always)]
-    pub fn shift_gain(&self, inst: &Instance, k: Shift, p: PatientNo, at: Placement) -> ShiftGain
+    pub fn shift_gain(
+        &self,
+        inst: &Instance,
+        k: Shift,
+        p: PatientNo,
+        at: Placement,
+        visit: &Visit<'_>,
+    ) -> ShiftGain
         requires shift { k.0 < shift_count inst.now.draft }
         requires patient { p.0 < patient_count inst.now.draft }
         requires placement { IsPlacement inst.now.draft at }
         requires counted { covers at.day.0 (person_of inst.now.draft p.0).length_of_stay (day_of k.0) ≡ true }
         requires stands { (P : Timetable) × IsLedgerOf inst.now.draft P self.now }
+        requires visit { IsVisit inst.now.draft p.0 (stay_of (plan_of self.now) p.0) at
+            visit.now.workload.now visit.now.skill.now visit.now.before }
         ensures alone { (P : Timetable) → IsLedgerOf inst.now.draft P self.now
             → pos result.alone ≡ rise_by_placement P p at (λ Q. uncovered_in inst.now.draft Q at.room k) }
         ensures skill { (P : Timetable) → IsLedgerOf inst.now.draft P self.now
@@ -103,8 +123,8 @@ impl Nurses {
             },
             Some(n) => ShiftGain {
                 alone: 0,
-                skill: skill_gain(inst, n, k, p, at),
-                load: self.load_gain(inst, n, k, p, at),
+                skill: skill_gain(inst, n, k, at, visit.skill),
+                load: self.load_gain(inst, n, k, p, at, visit),
             },
         }
     }

@@ -1,12 +1,28 @@
-use Rattle.std.proofs.Common.{◌≡◌, ◌∙◌, ◌-◌, refl, arith, ap, subst, pos, Some}
-use Rattle.ih_plan.specs.Timetable.{Timetable, stay_of, care_of}
-use Rattle.ih_nurses.specs.Loads.{load_at, given}
+use Rattle.std.proofs.Common.{◌≡◌, ◌∙◌, ◌-◌, ◌*◌, arith, ap, length, slice_index, subst, pos, Some}
+use Rattle.ih_plan.specs.Timetable.{Timetable, care_of}
+use Rattle.ih_plan.specs.Persons.{person_of}
+use Rattle.ih_nurses.specs.Loads.{load_at}
 use Rattle.ih_nurses.specs.Gains.{overload_in, rise_by_placement}
-use Rattle.ih_nurses.proofs.AdmitLemmas.{load-most}
+use Rattle.ih_nurses.proofs.AdmitLemmas.{load-most, workload-most}
 use Rattle.ih_nurses.proofs.GivenLemmas.{load-has}
 use Rattle.ih_nurses.proofs.PlacedLemmas.{load-rises, overload-rises}
 use Rattle.ih_nurses.proofs.LedgerLemmas.{stands-own}
+use Rattle.ih_nurses.proofs.VisitLemmas.{workload-len, entry-inside}
 use Rattle.ih_nurses.proofs.nurses.Nurses.load_gain.Goals as goal
+
+pub entry-come-requires-clause-inside : goal.entry-come-requires-clause-inside
+entry-come-requires-clause-inside c =
+    let I = c.args.inst.now.draft in
+    let person = person_of I c.args.p.0 in
+    let len = workload-len I c.args.p.0 c.args.inst.now.valid c.requires.patient in
+    rw c.requires.visit.workload_is (entry-inside I c.args.at.day.0 person.length_of_stay c.args.k.0 (length person.workload) len c.requires.counted c.requires.shift)
+
+pub gone-gone-requires-clause-small : goal.gone-gone-requires-clause-small
+gone-gone-requires-clause-small c =
+    let I = c.args.inst.now.draft in
+    let place = c.args.k.0 - 3 * c.args.at.day.0 in
+    let come : c.entry-come.result ≡ slice_index (person_of I c.args.p.0).workload place = c.entry-come.ensures ∙ ap (λ list. slice_index list place) c.requires.visit.workload_is in
+    omega (arith, come, workload-most I c.args.p.0 place c.args.inst.now.valid)
 
 pub overflow_sub-without : goal.overflow_sub-without
 overflow_sub-without c =
@@ -16,8 +32,7 @@ overflow_sub-without c =
     let n = c.args.n.0 in
     let k = c.args.k.0 in
     let all = c.load-all.ensures ∙ (ap (λ ls. load_at I ls n k) c.as_slice.ensures.value ∙ own.loads_are.each n k c.requires.nurse c.requires.shift) in
-    let gone : c.given-gone.result ≡ given I plan c.args.p.0 (stay_of plan c.args.p.0) n k = c.given-gone.ensures.value ∙ rw c.stay.ensures refl in
-    omega (arith, all, gone, load-has I plan c.args.p own.fits c.requires.patient n k)
+    omega (arith, all, c.gone-gone.ensures.value, load-has I plan c.args.p own.fits c.requires.patient n k)
 
 pub overflow_add-with : goal.overflow_add-with
 overflow_add-with c =
@@ -26,7 +41,9 @@ overflow_add-with c =
     let n = c.args.n.0 in
     let k = c.args.k.0 in
     let all = c.load-all.ensures ∙ (ap (λ ls. load_at I ls n k) c.as_slice.ensures.value ∙ own.loads_are.each n k c.requires.nurse c.requires.shift) in
-    omega (arith, all, c.workload.ensures.bound, load-most I c.args.self.now.plan n k c.args.inst.now.valid)
+    let place = k - 3 * c.args.at.day.0 in
+    let come : c.entry-come.result ≡ slice_index (person_of I c.args.p.0).workload place = c.entry-come.ensures ∙ ap (λ list. slice_index list place) c.requires.visit.workload_is in
+    omega (arith, all, come, workload-most I c.args.p.0 place c.args.inst.now.valid, load-most I c.args.self.now.plan n k c.args.inst.now.valid)
 
 pub returns : goal.returns
 returns c = λ P known.
@@ -38,7 +55,7 @@ returns c = λ P known.
     let own = stands-own known in
     let nurse : care_of plan c.args.at.room.0 k.0 ≡ Some n.0 = ap (λ (S : Timetable). care_of S c.args.at.room.0 k.0) c.requires.stands.1.plan_is ∙ c.requires.stands.2 in
     let all = c.load-all.ensures ∙ (ap (λ ls. load_at I ls n.0 k.0) c.as_slice.ensures.value ∙ own.loads_are.each n.0 k.0 c.requires.nurse c.requires.shift) in
-    let gone : c.given-gone.result ≡ given I plan p.0 (stay_of plan p.0) n.0 k.0 = c.given-gone.ensures.value ∙ rw c.stay.ensures refl in
-    let rise = load-rises I plan k p c.args.at own.fits c.requires.patient c.requires.counted c.requires.placement n nurse c.load-all.result c.given-gone.result c.workload.result all gone c.workload.ensures.value in
+    let come : c.entry-come.result ≡ slice_index (person_of I p.0).workload (k.0 - 3 * c.args.at.day.0) = c.entry-come.ensures ∙ ap (λ list. slice_index list (k.0 - 3 * c.args.at.day.0)) c.requires.visit.workload_is in
+    let rise = load-rises I plan k p c.args.at own.fits c.requires.patient c.requires.counted c.requires.placement n nurse c.load-all.result c.gone-gone.result c.entry-come.result all c.gone-gone.ensures.value come in
     subst (λ (S : Timetable). pos (c.overload.result - c.overload-2.result) ≡ rise_by_placement S p c.args.at (λ Q. overload_in I Q n k)) known.plan_is
-    (overload-rises I plan n k p c.args.at c.load-all.result c.given-gone.result c.workload.result c.overload.result c.overload-2.result rise c.overload.ensures c.overload-2.ensures)
+    (overload-rises I plan n k p c.args.at c.load-all.result c.gone-gone.result c.entry-come.result c.overload.result c.overload-2.result rise c.overload.ensures c.overload-2.ensures)

@@ -1,0 +1,107 @@
+//! What is the same in every shift of a patient's placement, looked up once for all of them.
+
+ghost use Rattle.std.specs.Prelude.{◌≡◌, ◌<◌, ◌≤◌, ◌-◌, ◌*◌, true, Some, slice_index, IfSome};
+ghost use Rattle.ih_tables.specs.Sizes.{patient_count, shift_count};
+ghost use Rattle.ih_plan.specs.Timetable.{IsPlanOf, IsPlacement, stay_of, care_of};
+ghost use Rattle.ih_plan.specs.Persons.{person_of};
+ghost use Rattle.ih_plan.specs.Presence.{covers, day_of};
+ghost use Rattle.ih_nurses.specs.Loads.{given};
+ghost use Rattle.ih_nurses.specs.Visits.{IsBefore, IsVisit};
+
+use crate::own::given;
+use ih_plan::{Placement, Plan};
+use ih_tables::{Instance, NurseNo, PatientNo, Shift};
+
+/// How a patient's present stay lies to a placement.
+#[derive(Clone, Copy)]
+pub enum Before {
+    /// No day of the placement is one of the present stay's, or there is none.
+    Apart,
+    /// The present stay has the placement's room and its first day.
+    Same,
+    /// The present stay, which is another.
+    Other(Placement),
+}
+
+/// What is the same in every shift of a patient's placement.
+#[derive(Clone, Copy)]
+pub struct Visit<'a> {
+    // What the patient asks of a nurse in each shift of a stay, from the first on.
+    pub(crate) workload: &'a [u32],
+    pub(crate) skill: &'a [u32],
+    // How the present stay lies to the placement.
+    pub(crate) before: Before,
+}
+
+// How a patient's present stay lies to a placement.
+#[tactic(auto, unfolding(ih_plan::specs::Persons::person_of))]
+fn present_stay(inst: &Instance, p: PatientNo, old: Option<Placement>, at: Placement) -> Before
+    requires patient { p.0 < patient_count inst.now.draft }
+    requires old { IfSome old (IsPlacement inst.now.draft) }
+    requires placement { IsPlacement inst.now.draft at }
+    ensures { IsBefore inst.now.draft p.0 old at result }
+{
+    let len = inst.patient(p).length_of_stay;
+    match old {
+        None => Before::Apart,
+        Some(stay) => {
+            if stay.room.0 == at.room.0 && stay.day.0 == at.day.0 {
+                Before::Same
+            } else if stay.day.0 + len <= at.day.0 || at.day.0 + len <= stay.day.0 {
+                Before::Apart
+            } else {
+                Before::Other(stay)
+            }
+        }
+    }
+}
+
+impl<'a> Visit<'a> {
+    /// What is the same in every shift of a placement of a patient, whose stay is `old` so far.
+    #[tactic(auto, unfolding(ih_plan::specs::Persons::person_of))]
+    pub fn new(inst: &'a Instance, p: PatientNo, old: Option<Placement>, at: Placement) -> Visit<'a>
+        requires patient { p.0 < patient_count inst.now.draft }
+        requires old { IfSome old (IsPlacement inst.now.draft) }
+        requires placement { IsPlacement inst.now.draft at }
+        ensures { IsVisit inst.now.draft p.0 old at result.workload.now result.skill.now result.before }
+    {
+        let a = inst.patient(p);
+        Visit {
+            workload: a.workload_produced.as_slice(),
+            skill: a.skill_level_required.as_slice(),
+            before: present_stay(inst, p, old, at),
+        }
+    }
+}
+
+/// The workload that the patient's present stay gives, in a shift of a placement, to the nurse who has the placement's
+/// room. The patient makes the workload `come` in that shift of the placement.
+#[inline(always)]
+pub fn gone(
+    inst: &Instance,
+    plan: &Plan,
+    p: PatientNo,
+    at: Placement,
+    visit: &Visit<'_>,
+    n: NurseNo,
+    k: Shift,
+    come: u32,
+) -> u32
+    requires plan { IsPlanOf inst.now.draft plan.now }
+    requires patient { p.0 < patient_count inst.now.draft }
+    requires counted { covers at.day.0 (person_of inst.now.draft p.0).length_of_stay (day_of k.0) ≡ true }
+    requires shift { k.0 < shift_count inst.now.draft }
+    requires nurse { care_of plan.now at.room.0 k.0 ≡ Some n.0 }
+    requires visit { IsVisit inst.now.draft p.0 (stay_of plan.now p.0) at
+        visit.now.workload.now visit.now.skill.now visit.now.before }
+    requires come { come ≡ slice_index (person_of inst.now.draft p.0).workload (k.0 - 3 * at.day.0) }
+    requires small { come ≤ 100000 }
+    ensures value { result ≡ given inst.now.draft plan.now p.0 (stay_of plan.now p.0) n.0 k.0 }
+    ensures bound { result ≤ 100000 }
+{
+    match visit.before {
+        Before::Apart => 0,
+        Before::Same => come,
+        Before::Other(stay) => given(inst, plan, p, visit.workload, stay, n, k),
+    }
+}
