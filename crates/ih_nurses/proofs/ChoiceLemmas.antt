@@ -22,6 +22,7 @@ use Rattle.ih_plan.proofs.Loads.{room_load}
 use Rattle.ih_plan.proofs.SumBounds.{sum_below-add}
 use Rattle.ih_plan.proofs.SumLemmas.{sum_below-same, sum_by-which_below}
 use Rattle.ih_nurses.specs.Choice.{excess_of, seen_by, rise_by_choice}
+use Rattle.ih_nurses.specs.declared.loads.NurseLoad.{NurseLoad}
 use Rattle.ih_nurses.specs.Loads.{AreLoads, load_at, excess_rise}
 use Rattle.ih_nurses.specs.Stretches.{IsStretch, nurses_over, newly_seen_of, stretch_in}
 use Rattle.ih_nurses.proofs.CareLemmas.{load-moves}
@@ -63,7 +64,7 @@ module _ (I : Draft) (P : Timetable) (r : RoomNo) (k : Shift) (new : Option Nurs
       omega (arith, moves, before, after)
 
   -- the table has the room's load for the nurse whose shift it is
-  pub load-there : (loads : List ℕ) (prev : Option NurseNo) (work : ℕ) → AreLoads I P loads → prev ≡ choice_of P r.0 k.0 → IfSome prev (λ a. a.0 < nurse_count I)
+  pub load-there : (loads : List NurseLoad) (prev : Option NurseNo) (work : ℕ) → AreLoads I P loads → prev ≡ choice_of P r.0 k.0 → IfSome prev (λ a. a.0 < nurse_count I)
       → work ≡ room_load I P k.0 r.0 → IfSome prev (λ a. work ≤ load_at I loads a.0 k.0)
   load-there loads None work known is nurse total = tt
   load-there loads (Some a) work known is nurse total =
@@ -72,7 +73,7 @@ module _ (I : Draft) (P : Timetable) (r : RoomNo) (k : Shift) (new : Option Nurs
       omega (arith, gone, table, total)
 
 -- what is told from the table is the rise of the part
-excess-told : (I : Draft) (P Q : Timetable) (k : ℕ) (loads : List ℕ) (o : Option NurseNo) (after : ℕ → ℕ) → AreLoads I P loads → k < shift_count I
+excess-told : (I : Draft) (P Q : Timetable) (k : ℕ) (loads : List NurseLoad) (o : Option NurseNo) (after : ℕ → ℕ) → AreLoads I P loads → k < shift_count I
     → IfSome o (λ a. a.0 < nurse_count I) → ((a : NurseNo) → o ≡ Some a → load_of I Q a.0 k ≡ after (load_of I P a.0 k))
     → excess_rise I loads o k after ≡ pos (excess_of I Q k (number o)) -ℤ pos (excess_of I P k (number o))
 unfolding part_of content_of
@@ -82,7 +83,7 @@ excess-told I P Q k loads (Some a) after known shift nurse e = rw (e a refl, kno
 both-rise : (a b c d : ℕ) → (pos a -ℤ pos b) +ℤ (pos c -ℤ pos d) ≡ pos (a + c) -ℤ pos (b + d)
 both-rise a b c d = omega (arith, ints)
 
-pub loads-told : (I : Draft) (P : Timetable) (r : RoomNo) (k : Shift) (new : Option NurseNo) (loads : List ℕ) (work : ℕ) → IsPlanOf I P → r.0 < room_count I → k.0 < shift_count I
+pub loads-told : (I : Draft) (P : Timetable) (r : RoomNo) (k : Shift) (new : Option NurseNo) (loads : List NurseLoad) (work : ℕ) → IsPlanOf I P → r.0 < room_count I → k.0 < shift_count I
     → care_of P r.0 k.0 ≢ number new → AreLoads I P loads → work ≡ room_load I P k.0 r.0
     → IfSome (choice_of P r.0 k.0) (λ a. a.0 < nurse_count I) → IfSome new (λ a. a.0 < nurse_count I)
     → excess_rise I loads (choice_of P r.0 k.0) k.0 (λ load. load - work) +ℤ excess_rise I loads new k.0 (λ load. load + work)

@@ -1,5 +1,5 @@
 -- What a ledger stands for after a patient enters or leaves.
-use Rattle.std.proofs.Common.{◌≡◌, ℕ, ◌+◌, ◌*◌, ◌<◌, ◌≤◌, refl, arith, sym, subst, ◌∙◌, Bool, true, false, inl, inr, List, length, Option, Some, None}
+use Rattle.std.proofs.Common.{◌≡◌, ℕ, ◌+◌, ◌<◌, ◌≤◌, refl, arith, sym, subst, ◌∙◌, Bool, true, false, inl, inr, List, Option, Some, None}
 use Rattle.std.specs.Prelude.{◌&&◌, ◌||◌, ◌==◌, not, min, nat_le, nat_lt, IfSome}
 use Rattle.std.proofs.lemmas.Bool.{cases_lt, lt-ltb, le-ltb, and_parts, eq-eqb, eqb-true, ltb-true}
 use Rattle.ih_tables.specs.declared.drafts.Draft.{Draft}
@@ -16,8 +16,9 @@ use Rattle.ih_plan.specs.Presence.{is_present, covers, in_span}
 use Rattle.ih_plan.proofs.Entries.{stay_of-other, stay_of-same, admission-patient}
 use Rattle.ih_tables.specs.Valid.{IsValid}
 use Rattle.ih_nurses.specs.Ledger.{IsTied}
+use Rattle.ih_nurses.specs.declared.loads.NurseLoad.{NurseLoad}
 use Rattle.ih_nurses.specs.Here.{AreSized, AreHere, is_here}
-use Rattle.ih_nurses.specs.Loads.{AreLoads, load_at, stay_load}
+use Rattle.ih_nurses.specs.Loads.{IsTable, AreLoads, load_at, stay_load}
 use Rattle.ih_nurses.proofs.AdmitLemmas.{IsAdmission, present-more, load-more, load-most}
 
 -- within the horizon a stay covers the days until it is over
@@ -70,10 +71,10 @@ module _ {I : Draft} {P Q : Timetable} {p : ℕ} {at : Placement} (a : IsAdmissi
         each r d x ∙ rw (known.each r d x rh dh xh, span-covers at.day.0 (person_of I p).length_of_stay I.days d dh) (sym (present-more a r d x));
   }
 
-  pub loads-added : (old new : List ℕ) → AreLoads I P old → length new ≡ nurse_count I * shift_count I
+  pub loads-added : (old new : List NurseLoad) → AreLoads I P old → IsTable I new
       → ((m j : ℕ) → m < nurse_count I → j < shift_count I → load_at I new m j ≡ load_at I old m j + stay_load I P p at m j) → AreLoads I Q new
-  loads-added old new known len each = record {
-    len = len;
+  loads-added old new known table each = record {
+    table = table;
     each = λ n k nh kh. each n k nh kh ∙ rw (known.each n k nh kh) (sym (load-more a n k));
   }
 
@@ -88,10 +89,10 @@ module _ {I : Draft} {P Q : Timetable} {p : ℕ} {at : Placement} (a : IsAdmissi
         (λ both. let same : p ≡ x = eqb-true p x (and_parts (covers at.day.0 (person_of I p).length_of_stay d) (p == x) both).1 in rw (← same) (absent-from I P p r d a.patient a.before)));
   }
 
-  pub loads-taken : (old new : List ℕ) → AreLoads I Q old → length new ≡ nurse_count I * shift_count I
+  pub loads-taken : (old new : List NurseLoad) → AreLoads I Q old → IsTable I new
       → ((m j : ℕ) → m < nurse_count I → j < shift_count I → load_at I new m j + stay_load I P p at m j ≡ load_at I old m j) → AreLoads I P new
-  loads-taken old new known len each = record {
-    len = len;
+  loads-taken old new known table each = record {
+    table = table;
     each = λ n k nh kh.
         let step = each n k nh kh in
         let before = known.each n k nh kh in
@@ -100,7 +101,7 @@ module _ {I : Draft} {P Q : Timetable} {p : ℕ} {at : Placement} (a : IsAdmissi
   }
 
   -- the stay is in the loads
-  pub loads-enough : (old : List ℕ) → AreLoads I Q old → (m j : ℕ) → m < nurse_count I → j < shift_count I → stay_load I P p at m j ≤ load_at I old m j
+  pub loads-enough : (old : List NurseLoad) → AreLoads I Q old → (m j : ℕ) → m < nurse_count I → j < shift_count I → stay_load I P p at m j ≤ load_at I old m j
   loads-enough old known m j mh jh =
       let before = known.each m j mh jh in
       let more = load-more a m j in
@@ -116,13 +117,13 @@ module _ {I : Draft} {P Q : Timetable} {p : ℕ} {at : Placement} (a : IsAdmissi
       let covered = sym (span-covers at.day.0 (person_of I p).length_of_stay I.days e day) ∙ h in
       known.each at.room.0 e p a.placed.room day (omega arith) ∙ rw (admission-patient I Q p a.patient, a.after, eq-eqb at.room.0 at.room.0 refl) covered
 
-module _ {I : Draft} {P plan : Timetable} {here : List Linked} {loads : List ℕ} (known : IsTied I P plan here loads) where
+module _ {I : Draft} {P plan : Timetable} {here : List Linked} {loads : List NurseLoad} (known : IsTied I P plan here loads) where
   -- a ledger stands for its own timetable
   pub stands-own : IsTied I plan plan here loads
   stands-own = subst (λ (S : Timetable). IsTied I S plan here loads) (sym known.plan_is) known
 
   -- what is shown for its own timetable holds for each for which it stands
-  pub stands-for : (w : Write) {next : Timetable} {new_here : List Linked} {new_loads : List ℕ} → IsTied I (put w plan) next new_here new_loads → IsTied I (put w P) next new_here new_loads
+  pub stands-for : (w : Write) {next : Timetable} {new_here : List Linked} {new_loads : List NurseLoad} → IsTied I (put w plan) next new_here new_loads → IsTied I (put w P) next new_here new_loads
   stands-for w {next} {new_here} {new_loads} after = subst (λ (S : Timetable). IsTied I (put w S) next new_here new_loads) known.plan_is after
 
   -- who isn't admitted is in no list

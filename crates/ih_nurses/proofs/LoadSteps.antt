@@ -1,4 +1,4 @@
--- What adding to one number makes of the table of loads.
+-- What adding to one load makes of the table of loads.
 use Rattle.std.proofs.Common.{◌≡◌, ℕ, ◌+◌, ◌*◌, ◌<◌, refl, arith, sym, ap, ◌∙◌, inl, inr, List, length, Some, mul_comm}
 use Rattle.std.specs.Prelude.{slice_index_or, slice_set}
 use Rattle.std.proofs.lemmas.Bool.{cases_eq, eq-eqb, ne_eqb}
@@ -8,25 +8,26 @@ use Rattle.std.proofs.lemmas.Grind.{get_or-set_at}
 use Rattle.ih_tables.specs.declared.drafts.Draft.{Draft}
 use Rattle.ih_tables.specs.declared.ids.NurseNo.{NurseNo}
 use Rattle.ih_tables.specs.Sizes.{nurse_count, shift_count}
-use Rattle.ih_nurses.specs.Loads.{load_at, share}
+use Rattle.ih_nurses.specs.declared.loads.NurseLoad.{NurseLoad}
+use Rattle.ih_nurses.specs.Loads.{IsTable, load_at, share}
 
 pub place-inside : (I : Draft) (n k : ℕ) → n < nurse_count I → k < shift_count I → n * shift_count I + k < nurse_count I * shift_count I
 place-inside I n k nh kh = rw (mul_comm (nurse_count I) (shift_count I)) (mul-add-lt n (shift_count I) k (nurse_count I) nh kh)
 
--- the number of nurse n and shift k is replaced
-module _ (I : Draft) (loads : List ℕ) (n : NurseNo) (k place old : ℕ) (len : length loads ≡ nurse_count I * shift_count I) (nurse : n.0 < nurse_count I) (shift : k < shift_count I)
-    (place_is : place ≡ n.0 * shift_count I + k) (old_is : old ≡ slice_index_or loads place 0) where
+-- the load of nurse n and shift k is replaced
+module _ (I : Draft) (loads : List NurseLoad) (n : NurseNo) (k place : ℕ) (old : NurseLoad) (table : IsTable I loads) (nurse : n.0 < nurse_count I) (shift : k < shift_count I)
+    (place_is : place ≡ n.0 * shift_count I + k) (old_is : old ≡ slice_index_or loads place (record { work = 0; most = 0 })) where
   pub inside : place < length loads
-  inside = let p = place-inside I n.0 k nurse shift in omega (arith, p)
+  inside = let p = place-inside I n.0 k nurse shift in let len = table.len in omega (arith, p)
 
-  pub read : load_at I loads n.0 k ≡ old
-  read = ap (λ i. slice_index_or loads i 0) (sym place_is) ∙ sym old_is
+  pub read : load_at I loads n.0 k ≡ old.work
+  read = ap (λ i. (slice_index_or loads i (record { work = 0; most = 0 })).work) (sym place_is) ∙ ap (λ (l : NurseLoad). l.work) (sym old_is)
 
   pub share-here : (load : ℕ) → share (Some n) k load n.0 k ≡ load
   share-here load = rw (eq-eqb k k refl, eq-eqb n.0 n.0 refl) refl
 
-  here : (new : ℕ) → load_at I (slice_set loads place new) n.0 k ≡ new
-  here new = get_or-set_at loads place (n.0 * shift_count I + k) new 0 (sym place_is) inside
+  here : (new : NurseLoad) → load_at I (slice_set loads place new) n.0 k ≡ new.work
+  here new = ap (λ (l : NurseLoad). l.work) (get_or-set_at loads place (n.0 * shift_count I + k) new (record { work = 0; most = 0 }) (sym place_is) inside)
 
   share-there : (load m j : ℕ) → (m ≡ n.0 → j ≡ k → ⊥) → share (Some n) k load m j ≡ 0
   share-there load m j ne = elim (cases_eq j k) [
@@ -34,11 +35,11 @@ module _ (I : Draft) (loads : List ℕ) (n : NurseNo) (k place old : ℕ) (len :
     | inr later ↦ rw (ne_eqb j k later) refl
   ]
 
-  there : (new m j : ℕ) → j < shift_count I → (m ≡ n.0 → j ≡ k → ⊥) → load_at I (slice_set loads place new) m j ≡ load_at I loads m j
-  there new m j jh ne = get_or-set_other loads place (m * shift_count I + j) new 0 (λ e.
-      let same = same_from_place m j n.0 k (shift_count I) jh shift (e ∙ place_is) in ne same.0 same.1)
+  there : (new : NurseLoad) (m j : ℕ) → j < shift_count I → (m ≡ n.0 → j ≡ k → ⊥) → load_at I (slice_set loads place new) m j ≡ load_at I loads m j
+  there new m j jh ne = ap (λ (l : NurseLoad). l.work) (get_or-set_other loads place (m * shift_count I + j) new (record { work = 0; most = 0 }) (λ e.
+      let same = same_from_place m j n.0 k (shift_count I) jh shift (e ∙ place_is) in ne same.0 same.1))
 
-  -- one case for the number itself, one for all others
+  -- one case for the load itself, one for all others
   by_place : (C : ℕ → ℕ → Type 0) → C n.0 k → ((m j : ℕ) → (m ≡ n.0 → j ≡ k → ⊥) → C m j) → (m j : ℕ) → C m j
   by_place C same other m j = elim (cases_eq m n.0) [
     | inl nurse_same ↦ elim (cases_eq j k) [
@@ -48,12 +49,14 @@ module _ (I : Draft) (loads : List ℕ) (n : NurseNo) (k place old : ℕ) (len :
     | inr nurse_other ↦ other m j (λ e _. nurse_other e)
   ]
 
-  pub added : (load new : ℕ) → new ≡ old + load → (m j : ℕ) → m < nurse_count I → j < shift_count I → load_at I (slice_set loads place new) m j ≡ load_at I loads m j + share (Some n) k load m j
+  pub added : (load : ℕ) (new : NurseLoad) → new.work ≡ old.work + load → (m j : ℕ) → m < nurse_count I → j < shift_count I
+      → load_at I (slice_set loads place new) m j ≡ load_at I loads m j + share (Some n) k load m j
   added load new e = by_place (λ m j. m < nurse_count I → j < shift_count I → load_at I (slice_set loads place new) m j ≡ load_at I loads m j + share (Some n) k load m j)
       (λ mh jh. rw (here new, read, share-here load) e)
       (λ m j ne mh jh. rw (there new m j jh ne, share-there load m j ne) (omega arith))
 
-  pub taken : (load new : ℕ) → new + load ≡ old → (m j : ℕ) → m < nurse_count I → j < shift_count I → load_at I (slice_set loads place new) m j + share (Some n) k load m j ≡ load_at I loads m j
+  pub taken : (load : ℕ) (new : NurseLoad) → new.work + load ≡ old.work → (m j : ℕ) → m < nurse_count I → j < shift_count I
+      → load_at I (slice_set loads place new) m j + share (Some n) k load m j ≡ load_at I loads m j
   taken load new e = by_place (λ m j. m < nurse_count I → j < shift_count I → load_at I (slice_set loads place new) m j + share (Some n) k load m j ≡ load_at I loads m j)
       (λ mh jh. rw (here new, read, share-here load) e)
       (λ m j ne mh jh. rw (there new m j jh ne, share-there load m j ne) (omega arith))

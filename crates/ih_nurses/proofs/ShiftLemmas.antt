@@ -1,5 +1,5 @@
 -- Sums over the persons of a room's list, and the loads after a choice of nurse.
-use Rattle.std.proofs.Common.{◌≡◌, ℕ, ◌+◌, ◌*◌, ◌/◌, ◌<◌, ◌≤◌, refl, arith, sym, ap, ◌∙◌, inl, inr, List, length, Option, None}
+use Rattle.std.proofs.Common.{◌≡◌, ℕ, ◌+◌, ◌/◌, ◌<◌, ◌≤◌, refl, arith, sym, ap, ◌∙◌, inl, inr, List, length, Option, None}
 use Rattle.std.specs.Prelude.{if◌then◌else◌, sum_by, option_map, slice_index_or}
 use Rattle.std.proofs.lemmas.Bool.{cases_eq, eq-eqb, ne_eqb}
 use Rattle.ih_tables.specs.declared.drafts.Draft.{Draft}
@@ -16,7 +16,8 @@ use Rattle.ih_plan.specs.Costs.{is_number}
 use Rattle.ih_plan.proofs.SumLemmas.{sum_below-same, sum_by-which_below}
 use Rattle.ih_plan.proofs.Loads.{room_load}
 use Rattle.ih_nurses.specs.Here.{AreHere, on_day}
-use Rattle.ih_nurses.specs.Loads.{AreLoads, load_at, share}
+use Rattle.ih_nurses.specs.declared.loads.NurseLoad.{NurseLoad}
+use Rattle.ih_nurses.specs.Loads.{IsTable, AreLoads, load_at, share}
 use Rattle.ih_nurses.proofs.HereLemmas.{read-here}
 use Rattle.ih_nurses.proofs.WalkLemmas.{sum-listed}
 use Rattle.ih_nurses.proofs.CareLemmas.{load-moves, load-kept, present-kept}
@@ -38,12 +39,12 @@ share-then : (n : Option NurseNo) (k load m j : ℕ) → (j ≡ k → ⊥) → s
 share-then n k load m j ne = rw (ne_eqb j k ne) refl
 
 module _ (I : Draft) (P : Timetable) (r : RoomNo) (k : Shift) (n prev : Option NurseNo) (plan : IsPlanOf I P) (room : r.0 < room_count I) (shift : k.0 < shift_count I)
-    (prev_is : prev ≡ choice_of P r.0 k.0) (load : ℕ) (load_is : load ≡ room_load I P k.0 r.0) (old : List ℕ) (known : AreLoads I P old) where
-  pub loads-moved : (new : List ℕ) → length new ≡ nurse_count I * shift_count I
+    (prev_is : prev ≡ choice_of P r.0 k.0) (load : ℕ) (load_is : load ≡ room_load I P k.0 r.0) (old : List NurseLoad) (known : AreLoads I P old) where
+  pub loads-moved : (new : List NurseLoad) → IsTable I new
       → ((m j : ℕ) → m < nurse_count I → j < shift_count I → load_at I new m j + share prev k.0 load m j ≡ load_at I old m j + share n k.0 load m j)
       → AreLoads I (put (SetCare r k n) P) new
-  loads-moved new len each = record {
-    len = len;
+  loads-moved new table each = record {
+    table = table;
     each = λ m j mh jh. elim (cases_eq j k.0) [
       | inl now ↦
           let step = rw now at (each m j mh jh) in
@@ -80,7 +81,7 @@ sum-in_list I P here day r k f known rh kh day_is nodes =
     ap (λ (l : Linked). sum_by f (list_of l r)) (sym read) ∙ sum-present I P here r (day_of k) f known rh on listed
 
 -- the old nurse has the room's load
-pub load-enough : (I : Draft) (P : Timetable) (r : RoomNo) (k : Shift) (prev : Option NurseNo) (load : ℕ) (old : List ℕ) → IsPlanOf I P → r.0 < room_count I → k.0 < shift_count I
+pub load-enough : (I : Draft) (P : Timetable) (r : RoomNo) (k : Shift) (prev : Option NurseNo) (load : ℕ) (old : List NurseLoad) → IsPlanOf I P → r.0 < room_count I → k.0 < shift_count I
     → prev ≡ choice_of P r.0 k.0 → load ≡ room_load I P k.0 r.0 → AreLoads I P old → (m : ℕ) → m < nurse_count I → share prev k.0 load m k.0 ≤ load_at I old m k.0
 load-enough I P r k prev load old plan room shift prev_is load_is known m mh =
     let before = known.each m k.0 mh shift in

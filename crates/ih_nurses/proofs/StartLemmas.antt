@@ -1,5 +1,5 @@
 -- The empty timetable's lists and loads.
-use Rattle.std.proofs.Common.{◌≡◌, ℕ, zero, suc, ◌+◌, ◌-◌, ◌*◌, ◌<◌, refl, arith, sym, subst, ◌∙◌, Bool, true, false, inl, inr, List, [], ◌∷◌, ◌++◌, replicate, Option, Some, None, min, Result, Ok, Err, IfOk}
+use Rattle.std.proofs.Common.{◌≡◌, ℕ, zero, suc, ◌+◌, ◌-◌, ◌*◌, ◌<◌, refl, ap, arith, map, sym, subst, ◌∙◌, Bool, true, false, inl, inr, List, [], ◌∷◌, ◌++◌, replicate, Option, Some, None, min, Result, Ok, Err, IfOk}
 use Rattle.std.specs.Prelude.{◌||◌, ◌&&◌, ◌==◌, nat_lt, slice_get, slice_index_or, option_and_then}
 use Rattle.std.proofs.lemmas.Bool.{cases_eq, cases_lt, eq-eqb, ne_eqb, lt-ltb, le-ltb, and_right}
 use Rattle.std.proofs.lemmas.List.{get_or-replicate, replicate-append-replicate}
@@ -12,11 +12,16 @@ use Rattle.ih_plan.specs.Timetable.{Timetable, empty, stay_of, care_of}
 use Rattle.ih_plan.specs.Presence.{admission_of, covers, in_span, is_present}
 use Rattle.ih_plan.specs.Persons.{person_of}
 use Rattle.ih_plan.specs.Costs.{load_of}
+use Rattle.ih_tables.specs.Works.{max_load}
+use Rattle.std.specs.List.{range_with_len}
+use Rattle.std.proofs.lemmas.Nat.{div-mul-add, mod-mul-add}
+use Rattle.std.proofs.lemmas.List.FromFn.{map-range_with_len_more, get_or-map-range_with_len, length-map-range_with_len}
 use Rattle.ih_plan.proofs.SumLemmas.{sum_below-same}
 use Rattle.ih_plan.proofs.SumBounds.{sum_below-none}
 use Rattle.ih_plan.proofs.Loads.{nurse_load}
 use Rattle.ih_nurses.specs.Here.{is_here, AreSized, AreVacant, AreFilled, AreHere}
-use Rattle.ih_nurses.specs.Loads.{AreLoads}
+use Rattle.ih_nurses.specs.declared.loads.NurseLoad.{NurseLoad}
+use Rattle.ih_nurses.specs.Loads.{AreLoads, entry_at, free_load, most_of}
 use Rattle.ih_nurses.proofs.HereLemmas.{or-none}
 use Rattle.ih_nurses.proofs.LoadSteps.{place-inside}
 use Rattle.ih_nurses.proofs.LedgerLemmas.{span-covers, absent-from}
@@ -41,11 +46,23 @@ pub no-load : (I : Draft) (n k : ℕ) → load_of I (empty I) n k ≡ 0
 unfolding load_of
 no-load I n k = sum_below-same (room_count I) (nurse_load I (empty I) n k) (λ r. 0) (λ r h. rw (no_nurse I r k) refl) ∙ sum_below-none (room_count I)
 
-pub loads-none : (I : Draft) (loads : List ℕ) → loads ≡ replicate (nurse_count I * shift_count I) 0 → AreLoads I (empty I) loads
+pub loads-more : (I : Draft) (i : ℕ) (loads : List NurseLoad) → loads ≡ map (free_load I) (range_with_len 0 i) → loads ++ free_load I i ∷ [] ≡ map (free_load I) (range_with_len 0 (i + 1))
+loads-more I i loads so_far = rw so_far (sym (map-range_with_len_more (free_load I) 0 i i (omega arith)))
+
+free-at : (I : Draft) (loads : List NurseLoad) → loads ≡ map (free_load I) (range_with_len 0 (nurse_count I * shift_count I)) → (n k : ℕ) → n < nurse_count I → k < shift_count I
+    → entry_at I loads n k ≡ record { work = 0; most = most_of (max_load I n k) }
+free-at I loads e n k nh kh =
+    let s = shift_count I in
+    let there = get_or-map-range_with_len (free_load I) 0 (nurse_count I * s) (n * s + k) (n * s + k) (record { work = 0; most = 0 }) (place-inside I n k nh kh) (omega arith) in
+    rw e (rw (div-mul-add n s k kh, mod-mul-add n s k kh) at there)
+
+pub loads-none : (I : Draft) (loads : List NurseLoad) → loads ≡ map (free_load I) (range_with_len 0 (nurse_count I * shift_count I)) → AreLoads I (empty I) loads
 loads-none I loads e = record {
-  len = rw e (length-replicate (nurse_count I * shift_count I) 0);
-  each = λ n k nh kh.
-      rw (e, get_or-replicate {A = ℕ} (nurse_count I * shift_count I) (n * shift_count I + k) 0 0 (place-inside I n k nh kh)) (sym (no-load I n k));
+  table = record {
+    len = rw e (length-map-range_with_len (free_load I) 0 (nurse_count I * shift_count I));
+    most = λ n k nh kh. ap (λ (l : NurseLoad). l.most) (free-at I loads e n k nh kh);
+  };
+  each = λ n k nh kh. ap (λ (l : NurseLoad). l.work) (free-at I loads e n k nh kh) ∙ sym (no-load I n k);
 }
 
 -- ---- days with nobody

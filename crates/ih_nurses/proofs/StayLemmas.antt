@@ -1,5 +1,5 @@
 -- What a stay adds to the table of loads, shift by shift.
-use Rattle.std.proofs.Common.{◌≡◌, ℕ, ◌+◌, ◌-◌, ◌*◌, ◌/◌, ◌<◌, ◌≤◌, refl, arith, sym, Bool, true, false, inl, inr, List, length, Option}
+use Rattle.std.proofs.Common.{◌≡◌, ℕ, ◌+◌, ◌-◌, ◌*◌, ◌/◌, ◌<◌, ◌≤◌, refl, arith, sym, Bool, true, false, inl, inr, List, Option}
 use Rattle.std.specs.Prelude.{if◌then◌else◌, nat_lt, nat_le, min, slice_index}
 use Rattle.std.proofs.lemmas.Bool.{cases_eq, cases_lt, eq-eqb, ne_eqb, lt-ltb, le-ltb, le-leb, lt-leb, and_right}
 use Rattle.ih_tables.specs.declared.drafts.Draft.{Draft}
@@ -10,7 +10,8 @@ use Rattle.ih_plan.specs.Timetable.{Timetable, choice_of, care_of}
 use Rattle.ih_plan.specs.Persons.{person_of}
 use Rattle.ih_plan.specs.Presence.{covers, day_of}
 use Rattle.ih_plan.specs.Costs.{is_number}
-use Rattle.ih_nurses.specs.Loads.{load_at, share, stay_load}
+use Rattle.ih_nurses.specs.declared.loads.NurseLoad.{NurseLoad}
+use Rattle.ih_nurses.specs.Loads.{IsTable, load_at, share, stay_load}
 
 covers-in : (a n days k : ℕ) → 3 * a ≤ k → k < 3 * min (a + n) days → covers a n (day_of k) ≡ true
 covers-in a n days k low high =
@@ -70,13 +71,13 @@ module _ (I : Draft) (P : Timetable) (p : ℕ) (at : Placement) where
     ]
 
 -- the table has the stay's shifts before k
-pub record AreAdded (I : Draft) (P : Timetable) (p : ℕ) (at : Placement) (old loads : List ℕ) (k : ℕ) : Type 0 where
-  pub len : length loads ≡ nurse_count I * shift_count I
+pub record AreAdded (I : Draft) (P : Timetable) (p : ℕ) (at : Placement) (old loads : List NurseLoad) (k : ℕ) : Type 0 where
+  pub table : IsTable I loads
   pub each : (m j : ℕ) → m < nurse_count I → j < shift_count I → load_at I loads m j ≡ load_at I old m j + given_before I P p at k m j
 
 -- the table is without the stay's shifts before k
-pub record AreTaken (I : Draft) (P : Timetable) (p : ℕ) (at : Placement) (old loads : List ℕ) (k : ℕ) : Type 0 where
-  pub len : length loads ≡ nurse_count I * shift_count I
+pub record AreTaken (I : Draft) (P : Timetable) (p : ℕ) (at : Placement) (old loads : List NurseLoad) (k : ℕ) : Type 0 where
+  pub table : IsTable I loads
   pub each : (m j : ℕ) → m < nurse_count I → j < shift_count I → load_at I loads m j + given_before I P p at k m j ≡ load_at I old m j
 
 -- shift k is one of the stay, and this is its nurse and its load
@@ -86,18 +87,18 @@ pub record IsStayShift (I : Draft) (P : Timetable) (p : ℕ) (at : Placement) (k
   pub nurse_is : nurse ≡ choice_of P at.room.0 k
   pub load_is : load ≡ slice_index (person_of I p).workload (k - 3 * at.day.0)
 
-module _ {I : Draft} {P : Timetable} {p : ℕ} {at : Placement} {old : List ℕ} where
-  pub added-none : length old ≡ nurse_count I * shift_count I → AreAdded I P p at old old (3 * at.day.0)
-  added-none len = record { len = len; each = λ m j mh jh. let none = given-none I P p at m j in omega arith }
+module _ {I : Draft} {P : Timetable} {p : ℕ} {at : Placement} {old : List NurseLoad} where
+  pub added-none : IsTable I old → AreAdded I P p at old old (3 * at.day.0)
+  added-none table = record { table = table; each = λ m j mh jh. let none = given-none I P p at m j in omega arith }
 
-  pub taken-none : length old ≡ nurse_count I * shift_count I → AreTaken I P p at old old (3 * at.day.0)
-  taken-none len = record { len = len; each = λ m j mh jh. let none = given-none I P p at m j in omega arith }
+  pub taken-none : IsTable I old → AreTaken I P p at old old (3 * at.day.0)
+  taken-none table = record { table = table; each = λ m j mh jh. let none = given-none I P p at m j in omega arith }
 
-module _ {I : Draft} {P : Timetable} {p : ℕ} {at : Placement} {old loads : List ℕ} where
-  pub added-more : {k load : ℕ} {nurse : Option NurseNo} → AreAdded I P p at old loads k → IsStayShift I P p at k load nurse → (new : List ℕ) → length new ≡ nurse_count I * shift_count I
+module _ {I : Draft} {P : Timetable} {p : ℕ} {at : Placement} {old loads : List NurseLoad} where
+  pub added-more : {k load : ℕ} {nurse : Option NurseNo} → AreAdded I P p at old loads k → IsStayShift I P p at k load nurse → (new : List NurseLoad) → IsTable I new
       → ((m j : ℕ) → m < nurse_count I → j < shift_count I → load_at I new m j ≡ load_at I loads m j + share nurse k load m j) → AreAdded I P p at old new (k + 1)
-  added-more {k} {load} {nurse} so_far now new len each = record {
-    len = len;
+  added-more {k} {load} {nurse} so_far now new table each = record {
+    table = table;
     each = λ m j mh jh.
         let more = given-more I P p at k load nurse now.low now.high now.nurse_is now.load_is m j in
         let before = so_far.each m j mh jh in
@@ -119,10 +120,10 @@ module _ {I : Draft} {P : Timetable} {p : ℕ} {at : Placement} {old loads : Lis
       let none : given_before I P p at k m k ≡ 0 = rw (le-ltb k k (omega arith)) refl in
       omega arith
 
-  pub taken-more : {k load : ℕ} {nurse : Option NurseNo} → AreTaken I P p at old loads k → IsStayShift I P p at k load nurse → (new : List ℕ) → length new ≡ nurse_count I * shift_count I
+  pub taken-more : {k load : ℕ} {nurse : Option NurseNo} → AreTaken I P p at old loads k → IsStayShift I P p at k load nurse → (new : List NurseLoad) → IsTable I new
       → ((m j : ℕ) → m < nurse_count I → j < shift_count I → load_at I new m j + share nurse k load m j ≡ load_at I loads m j) → AreTaken I P p at old new (k + 1)
-  taken-more {k} {load} {nurse} so_far now new len each = record {
-    len = len;
+  taken-more {k} {load} {nurse} so_far now new table each = record {
+    table = table;
     each = λ m j mh jh.
         let more = given-more I P p at k load nurse now.low now.high now.nurse_is now.load_is m j in
         let before = so_far.each m j mh jh in

@@ -1,14 +1,15 @@
 -- What ties a ledger of nurses to the timetable that it stands for.
-use Rattle.std.specs.Prelude.{◌≡◌, ℕ, List}
+use Rattle.std.specs.Prelude.{◌≡◌, List}
 use Rattle.ih_tables.specs.declared.drafts.Draft.{Draft}
 use Rattle.ih_links.specs.Lists.{Linked}
 use Rattle.ih_plan.specs.Timetable.{Timetable, IsPlanOf}
 use Rattle.ih_nurses.specs.declared.nurses.Nurses.{Nurses}
+use Rattle.ih_nurses.specs.declared.loads.NurseLoad.{NurseLoad}
 use Rattle.ih_nurses.specs.Here.{AreHere}
 use Rattle.ih_nurses.specs.Loads.{AreLoads}
 
 -- The timetable P is the one that is kept, the lists of each day have just the persons who are present, and the table has each nurse's workload.
-pub record IsTied (I : Draft) (P plan : Timetable) (here : List Linked) (loads : List ℕ) : Type 0 where
+pub record IsTied (I : Draft) (P plan : Timetable) (here : List Linked) (loads : List NurseLoad) : Type 0 where
   pub plan_is : plan ≡ P
   pub fits : IsPlanOf I P
   pub here_are : AreHere I P here

@@ -1,5 +1,5 @@
--- The workload of each nurse in each shift, as a table.
-use Rattle.std.specs.Prelude.{◌≡◌, ◌<◌, ℕ, ℤ, pos, ◌-ℤ◌, ◌+◌, ◌-◌, ◌*◌, ◌==◌, ◌&&◌, if◌then◌else◌, List, length, Option, Some, None, slice_index, slice_index_or, option_map}
+-- The workload of each nurse in each shift, as a table, beside the most that the nurse may have.
+use Rattle.std.specs.Prelude.{◌≡◌, ◌<◌, ℕ, ℤ, pos, ◌-ℤ◌, ◌+◌, ◌-◌, ◌*◌, ◌/◌, ◌%◌, ◌^◌, ◌==◌, ◌&&◌, if◌then◌else◌, List, length, Option, Some, None, slice_index, slice_index_or, option_map}
 use Rattle.ih_tables.specs.declared.drafts.Draft.{Draft}
 use Rattle.ih_tables.specs.declared.ids.NurseNo.{NurseNo}
 use Rattle.ih_tables.specs.Sizes.{nurse_count, shift_count}
@@ -9,10 +9,28 @@ use Rattle.ih_plan.specs.Timetable.{Timetable, care_of}
 use Rattle.ih_plan.specs.Persons.{person_of}
 use Rattle.ih_plan.specs.Presence.{covers, day_of}
 use Rattle.ih_plan.specs.Costs.{load_of, is_number, overload}
+use Rattle.ih_nurses.specs.declared.loads.NurseLoad.{NurseLoad}
 
--- the table's number for nurse n and shift k
-abbrev pub load_at : Draft → List ℕ → ℕ → ℕ → ℕ
-load_at I loads n k = slice_index_or loads (n * shift_count I + k) 0
+-- what the table has for nurse n and shift k
+abbrev pub entry_at : Draft → List NurseLoad → ℕ → ℕ → NurseLoad
+entry_at I loads n k = slice_index_or loads (n * shift_count I + k) (record { work = 0; most = 0 })
+
+-- the workload there
+abbrev pub load_at : Draft → List NurseLoad → ℕ → ℕ → ℕ
+load_at I loads n k = (entry_at I loads n k).work
+
+-- the most there
+abbrev pub most_at : Draft → List NurseLoad → ℕ → ℕ → ℕ
+most_at I loads n k = (entry_at I loads n k).most
+
+-- a maximum load as a number: no number of 32 bits is above it where there is none
+abbrev pub most_of : Option ℕ → ℕ
+most_of None = 2 ^ 32 - 1
+most_of (Some most) = most
+
+-- the load 0 at place j of the table
+abbrev pub free_load : Draft → ℕ → NurseLoad
+free_load I j = record { work = 0; most = most_of (max_load I (j / shift_count I) (j % shift_count I)) }
 
 -- what nurse m has in shift j of a load that nurse n, where there is one, has in shift k
 abbrev pub share : Option NurseNo → ℕ → ℕ → ℕ → ℕ → ℕ
@@ -31,12 +49,17 @@ given I P p None n k = 0
 given I P p (Some at) n k = stay_load I P p at n k
 
 -- by how much the workload above the maximum of a nurse, where there is one, rises when the load becomes another
-abbrev pub excess_rise : Draft → List ℕ → Option NurseNo → ℕ → (ℕ → ℕ) → ℤ
+abbrev pub excess_rise : Draft → List NurseLoad → Option NurseNo → ℕ → (ℕ → ℕ) → ℤ
 excess_rise I loads None k after = pos 0
 excess_rise I loads (Some a) k after =
     pos (overload (max_load I a.0 k) (after (load_at I loads a.0 k))) -ℤ pos (overload (max_load I a.0 k) (load_at I loads a.0 k))
 
--- The table has the workload of each nurse in each shift.
-pub record AreLoads (I : Draft) (P : Timetable) (loads : List ℕ) : Type 0 where
+-- The table has a place for each nurse and shift, and the most there is the nurse's maximum.
+pub record IsTable (I : Draft) (loads : List NurseLoad) : Type 0 where
   pub len : length loads ≡ nurse_count I * shift_count I
+  pub most : (n k : ℕ) → n < nurse_count I → k < shift_count I → most_at I loads n k ≡ most_of (max_load I n k)
+
+-- The table has the workload of each nurse in each shift.
+pub record AreLoads (I : Draft) (P : Timetable) (loads : List NurseLoad) : Type 0 where
+  pub table : IsTable I loads
   pub each : (n k : ℕ) → n < nurse_count I → k < shift_count I → load_at I loads n k ≡ load_of I P n k

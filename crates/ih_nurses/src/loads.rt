@@ -1,14 +1,22 @@
-//! The table of loads: the workload of each nurse in each shift.
+//! The table of loads: the workload of each nurse in each shift, beside the most that it may be.
 
-ghost use Rattle.std.specs.Prelude.{◌≡◌, ◌<◌, ◌≤◌, ◌+◌, ◌-◌, ◌*◌, ◌^◌, ◌≤ℤ◌, ℕ, neg_ℤ, pos, length, IfSome};
+ghost use Rattle.std.specs.Prelude.{◌≡◌, ◌<◌, ◌≤◌, ◌+◌, ◌-◌, ◌*◌, ◌^◌, ◌≤ℤ◌, ℕ, neg_ℤ, pos, Option, IfSome};
 ghost use Rattle.ih_tables.specs.declared.ids.NurseNo.{NurseNo};
 ghost use Rattle.ih_tables.specs.Sizes.{nurse_count, shift_count};
 ghost use Rattle.ih_tables.specs.Works.{max_load};
 ghost use Rattle.ih_plan.specs.Costs.{overload};
-ghost use Rattle.ih_nurses.specs.Loads.{load_at, share, excess_rise};
+ghost use Rattle.ih_nurses.specs.Loads.{IsTable, load_at, most_of, share, excess_rise};
 
 use crate::bills::minus;
 use ih_tables::{Instance, NurseNo, Shift};
+
+/// A nurse's workload in a shift, and the most that it may be.
+#[derive(Clone, Copy)]
+pub struct NurseLoad {
+    pub work: u32,
+    /// The nurse's maximum. Where the nurse doesn't work the shift it is the greatest number: no workload is above.
+    pub most: u32,
+}
 
 // Where a nurse's load in a shift stands.
 fn place(inst: &Instance, n: NurseNo, k: Shift) -> usize
@@ -21,76 +29,72 @@ fn place(inst: &Instance, n: NurseNo, k: Shift) -> usize
 }
 
 /// A nurse's load in a shift.
-pub fn load(inst: &Instance, loads: &[u32], n: NurseNo, k: Shift) -> u32
-    requires len { length loads.now ≡ nurse_count inst.now.draft * shift_count inst.now.draft }
+pub fn load(inst: &Instance, loads: &[NurseLoad], n: NurseNo, k: Shift) -> NurseLoad
+    requires table { IsTable inst.now.draft loads.now }
     requires nurse { n.0 < nurse_count inst.now.draft }
     requires shift { k.0 < shift_count inst.now.draft }
-    ensures { result ≡ load_at inst.now.draft loads.now n.0 k.0 }
+    ensures work { result.work ≡ load_at inst.now.draft loads.now n.0 k.0 }
+    ensures most { result.most ≡ most_of (max_load inst.now.draft n.0 k.0) }
 {
     loads[place(inst, n, k)]
 }
 
-/// A nurse's load above its maximum in a shift, and 0 where the nurse doesn't work it.
-pub fn overload(inst: &Instance, n: NurseNo, k: Shift, load: u32) -> u32
-    requires nurse { n.0 < nurse_count inst.now.draft }
-    requires shift { k.0 < shift_count inst.now.draft }
-    ensures { result ≡ overload (max_load inst.now.draft n.0 k.0) load }
+/// A workload above the most that it may be, and 0 where the nurse doesn't work the shift.
+pub fn overload(load: NurseLoad, work: u32) -> u32
+    ensures { (most : Option ℕ) → load.most ≡ most_of most → result ≡ overload most work }
 {
-    match inst.works(n, k) {
-        None => 0,
-        Some(most) => load.saturating_sub(most),
-    }
+    work.saturating_sub(load.most)
 }
 
 /// Adds to the load of a nurse, where there is one.
-pub fn add_load(inst: &Instance, loads: &mut [u32], n: Option<NurseNo>, k: Shift, load: u32)
-    requires len { length loads.old ≡ nurse_count inst.now.draft * shift_count inst.now.draft }
+pub fn add_load(inst: &Instance, loads: &mut [NurseLoad], n: Option<NurseNo>, k: Shift, load: u32)
+    requires table { IsTable inst.now.draft loads.old }
     requires nurse { IfSome n (λ a. a.0 < nurse_count inst.now.draft) }
     requires shift { k.0 < shift_count inst.now.draft }
     requires fits { (m : ℕ) → m < nurse_count inst.now.draft → load_at inst.now.draft loads.old m k.0 + load < 2 ^ 32 }
-    ensures len { length loads.new ≡ nurse_count inst.now.draft * shift_count inst.now.draft }
+    ensures table { IsTable inst.now.draft loads.new }
     ensures each { (m j : ℕ) → m < nurse_count inst.now.draft → j < shift_count inst.now.draft
         → load_at inst.now.draft loads.new m j ≡ load_at inst.now.draft loads.old m j + share n k.0 load m j }
 {
     match n {
         None => {}
-        Some(a) => loads[place(inst, a, k)] += load,
+        Some(a) => loads[place(inst, a, k)].work += load,
     }
 }
 
 /// Takes from the load of a nurse, where there is one.
-pub fn take_load(inst: &Instance, loads: &mut [u32], n: Option<NurseNo>, k: Shift, load: u32)
-    requires len { length loads.old ≡ nurse_count inst.now.draft * shift_count inst.now.draft }
+pub fn take_load(inst: &Instance, loads: &mut [NurseLoad], n: Option<NurseNo>, k: Shift, load: u32)
+    requires table { IsTable inst.now.draft loads.old }
     requires nurse { IfSome n (λ a. a.0 < nurse_count inst.now.draft) }
     requires shift { k.0 < shift_count inst.now.draft }
     requires enough { (m : ℕ) → m < nurse_count inst.now.draft → share n k.0 load m k.0 ≤ load_at inst.now.draft loads.old m k.0 }
-    ensures len { length loads.new ≡ nurse_count inst.now.draft * shift_count inst.now.draft }
+    ensures table { IsTable inst.now.draft loads.new }
     ensures each { (m j : ℕ) → m < nurse_count inst.now.draft → j < shift_count inst.now.draft
         → load_at inst.now.draft loads.new m j + share n k.0 load m j ≡ load_at inst.now.draft loads.old m j }
 {
     match n {
         None => {}
-        Some(a) => loads[place(inst, a, k)] -= load,
+        Some(a) => loads[place(inst, a, k)].work -= load,
     }
 }
 
 /// Takes a load from one nurse in a shift, where there is one, and gives it to another.
 pub fn move_load(
     inst: &Instance,
-    loads: &mut [u32],
+    loads: &mut [NurseLoad],
     from: Option<NurseNo>,
     to: Option<NurseNo>,
     k: Shift,
     load: u32,
 )
-    requires len { length loads.old ≡ nurse_count inst.now.draft * shift_count inst.now.draft }
+    requires table { IsTable inst.now.draft loads.old }
     requires from { IfSome from (λ a. a.0 < nurse_count inst.now.draft) }
     requires to { IfSome to (λ a. a.0 < nurse_count inst.now.draft) }
     requires shift { k.0 < shift_count inst.now.draft }
     requires small { (m : ℕ) → m < nurse_count inst.now.draft → load_at inst.now.draft loads.old m k.0 ≤ 256000000 }
     requires load { load ≤ 256000000 }
     requires enough { (m : ℕ) → m < nurse_count inst.now.draft → share from k.0 load m k.0 ≤ load_at inst.now.draft loads.old m k.0 }
-    ensures len { length loads.new ≡ nurse_count inst.now.draft * shift_count inst.now.draft }
+    ensures table { IsTable inst.now.draft loads.new }
     ensures each { (m j : ℕ) → m < nurse_count inst.now.draft → j < shift_count inst.now.draft
         → load_at inst.now.draft loads.new m j + share from k.0 load m j ≡ load_at inst.now.draft loads.old m j + share to k.0 load m j }
 {
@@ -100,8 +104,8 @@ pub fn move_load(
 
 /// What a load less changes in the workload above its maximum of a nurse, where there is one.
 #[inline(always)]
-pub fn relief(inst: &Instance, loads: &[u32], n: Option<NurseNo>, k: Shift, less: u32) -> i64
-    requires len { length loads.now ≡ nurse_count inst.now.draft * shift_count inst.now.draft }
+pub fn relief(inst: &Instance, loads: &[NurseLoad], n: Option<NurseNo>, k: Shift, less: u32) -> i64
+    requires table { IsTable inst.now.draft loads.now }
     requires nurse { IfSome n (λ a. a.0 < nurse_count inst.now.draft) }
     requires shift { k.0 < shift_count inst.now.draft }
     requires enough { IfSome n (λ a. less ≤ load_at inst.now.draft loads.now a.0 k.0) }
@@ -114,15 +118,15 @@ pub fn relief(inst: &Instance, loads: &[u32], n: Option<NurseNo>, k: Shift, less
     };
     let before = load(inst, loads, a, k);
     minus(
-        overload(inst, a, k, before - less),
-        overload(inst, a, k, before),
+        overload(before, before.work - less),
+        overload(before, before.work),
     )
 }
 
 /// What a load more changes in the workload above its maximum of a nurse, where there is one.
 #[inline(always)]
-pub fn burden(inst: &Instance, loads: &[u32], n: Option<NurseNo>, k: Shift, more: u32) -> i64
-    requires len { length loads.now ≡ nurse_count inst.now.draft * shift_count inst.now.draft }
+pub fn burden(inst: &Instance, loads: &[NurseLoad], n: Option<NurseNo>, k: Shift, more: u32) -> i64
+    requires table { IsTable inst.now.draft loads.now }
     requires nurse { IfSome n (λ a. a.0 < nurse_count inst.now.draft) }
     requires shift { k.0 < shift_count inst.now.draft }
     requires fits { IfSome n (λ a. load_at inst.now.draft loads.now a.0 k.0 + more < 2 ^ 32) }
@@ -135,7 +139,7 @@ pub fn burden(inst: &Instance, loads: &[u32], n: Option<NurseNo>, k: Shift, more
     };
     let before = load(inst, loads, a, k);
     minus(
-        overload(inst, a, k, before + more),
-        overload(inst, a, k, before),
+        overload(before, before.work + more),
+        overload(before, before.work),
     )
 }

@@ -15,7 +15,7 @@ ghost use Rattle.ih_nurses.specs.Ledger.{IsLedgerOf, plan_of};
 
 use crate::bills::{NursingCosts, bill_of};
 use crate::choices::nurse_at;
-use crate::loads::{load, move_load, overload};
+use crate::loads::{NurseLoad, load, move_load, overload};
 use crate::presence::{enter_days, leave_days};
 use crate::rooms::{choice_costs, missing_skills, workload_in};
 use crate::seen::nurses_over;
@@ -34,8 +34,8 @@ pub struct Nurses {
     pub(crate) plan: Plan,
     // For each day, the persons in each room.
     pub(crate) here: Vec<Links>,
-    // The workload of each nurse in each shift: those of nurse 0 first, rising by shift.
-    pub(crate) loads: Vec<u32>,
+    // The load of each nurse in each shift: those of nurse 0 first, rising by shift.
+    pub(crate) loads: Vec<NurseLoad>,
 }
 
 impl Nurses {
@@ -126,7 +126,7 @@ impl Nurses {
             uncovered: 0,
             missing_skill: 0,
             nurses_seen: 0,
-            overload: overload(inst, n, k, load),
+            overload: overload(load, load.work),
         })
     }
 

@@ -86,9 +86,9 @@ impl Nurses {
         let all = load(inst, self.loads.as_slice(), n, k);
         let come = entry(visit.workload, at, k);
         let gone = gone(inst, &self.plan, p, at, visit, n, k, come);
-        let without = all - gone;
+        let without = all.work - gone;
         let with = without + come;
-        overload(inst, n, k, with) - overload(inst, n, k, without)
+        overload(all, with) - overload(all, without)
     }
 
     /// What a shift of a placement's room costs more with the patient there than without.

@@ -1,21 +1,41 @@
 //! The ledger's tables at the empty timetable: the occupants are in their rooms, and no room has a nurse.
 
-ghost use Rattle.std.specs.Prelude.{◌<◌, ◌+◌, IfOk};
-ghost use Rattle.ih_tables.specs.Sizes.{occupant_count};
+ghost use Rattle.std.specs.Prelude.{◌≡◌, ◌<◌, ◌+◌, ◌*◌, IfOk};
+ghost use Rattle.ih_tables.specs.Sizes.{occupant_count, nurse_count, shift_count};
 ghost use Rattle.ih_plan.specs.Timetable.{empty};
 ghost use Rattle.ih_nurses.specs.Here.{AreVacant, AreFilled, AreHere};
-ghost use Rattle.ih_nurses.specs.Loads.{AreLoads};
+ghost use Rattle.ih_nurses.specs.Loads.{AreLoads, free_load};
 
+use crate::loads::NurseLoad;
 use crate::presence::enter_days;
 use ih_links::Links;
-use ih_tables::Instance;
+use ih_tables::{Instance, NurseNo, Shift};
 use std::alloc::{AllocError, Global};
 
+// The load 0 at a place of the table, beside the nurse's maximum.
+fn no_load(inst: &Instance, place: usize) -> NurseLoad
+    requires { place < nurse_count inst.now.draft * shift_count inst.now.draft }
+    ensures { result ≡ free_load inst.now.draft place }
+{
+    let shifts = inst.shifts() as usize;
+    let nurse = NurseNo((place / shifts) as u32);
+    let shift = Shift((place % shifts) as u32);
+    NurseLoad {
+        work: 0,
+        most: inst.works(nurse, shift).unwrap_or(u32::MAX),
+    }
+}
+
 /// The load 0 for each nurse and shift.
-pub fn no_loads(alloc: Global, inst: &Instance) -> Result<Vec<u32>, AllocError>
+pub fn no_loads(alloc: Global, inst: &Instance) -> Result<Vec<NurseLoad>, AllocError>
     ensures { IfOk result (λ loads. AreLoads inst.now.draft (empty inst.now.draft) loads.items) }
 {
-    vec![in alloc; 0; inst.nurses() as usize * inst.shifts() as usize]
+    let places = inst.nurses() as usize * inst.shifts() as usize;
+    let mut loads = Vec::with_capacity(alloc, places)?;
+    for place in 0..places {
+        loads.push(no_load(inst, place))?;
+    }
+    Ok(loads)
 }
 
 // Lists for each day and room, with nobody in any.

@@ -1,13 +1,13 @@
 //! What a patient's stay adds to the loads of its room's nurses.
 
-ghost use Rattle.std.specs.Prelude.{◌≡◌, ◌<◌, ◌≤◌, ◌+◌, ◌-◌, ◌*◌, ℕ, length, slice_index, min};
+ghost use Rattle.std.specs.Prelude.{◌≡◌, ◌<◌, ◌≤◌, ◌+◌, ◌-◌, ◌*◌, ℕ, slice_index, min};
 ghost use Rattle.ih_tables.specs.Sizes.{patient_count, nurse_count, shift_count};
 ghost use Rattle.ih_plan.specs.Timetable.{IsPlanOf, IsPlacement};
 ghost use Rattle.ih_plan.specs.Persons.{person_of};
-ghost use Rattle.ih_nurses.specs.Loads.{load_at, stay_load};
+ghost use Rattle.ih_nurses.specs.Loads.{IsTable, load_at, stay_load};
 
 use crate::choices::nurse_at;
-use crate::loads::{add_load, take_load};
+use crate::loads::{NurseLoad, add_load, take_load};
 use ih_plan::{Placement, Plan};
 use ih_tables::{Instance, PatientNo, Shift};
 
@@ -41,13 +41,13 @@ pub fn workload(inst: &Instance, p: PatientNo, at: Placement, k: u32) -> u32
 }
 
 /// Adds a stay to the loads of its room's nurses.
-pub fn add_stay(inst: &Instance, plan: &Plan, loads: &mut [u32], p: PatientNo, at: Placement)
+pub fn add_stay(inst: &Instance, plan: &Plan, loads: &mut [NurseLoad], p: PatientNo, at: Placement)
     requires plan { IsPlanOf inst.now.draft plan.now }
     requires patient { p.0 < patient_count inst.now.draft }
     requires placement { IsPlacement inst.now.draft at }
-    requires len { length loads.old ≡ nurse_count inst.now.draft * shift_count inst.now.draft }
+    requires table { IsTable inst.now.draft loads.old }
     requires small { (m j : ℕ) → m < nurse_count inst.now.draft → j < shift_count inst.now.draft → load_at inst.now.draft loads.old m j ≤ 256000000 }
-    ensures len { length loads.new ≡ nurse_count inst.now.draft * shift_count inst.now.draft }
+    ensures table { IsTable inst.now.draft loads.new }
     ensures each { (m j : ℕ) → m < nurse_count inst.now.draft → j < shift_count inst.now.draft
         → load_at inst.now.draft loads.new m j ≡ load_at inst.now.draft loads.old m j + stay_load inst.now.draft plan.now p.0 at m j }
 {
@@ -60,14 +60,14 @@ pub fn add_stay(inst: &Instance, plan: &Plan, loads: &mut [u32], p: PatientNo, a
 }
 
 /// Takes a stay from the loads of its room's nurses.
-pub fn take_stay(inst: &Instance, plan: &Plan, loads: &mut [u32], p: PatientNo, at: Placement)
+pub fn take_stay(inst: &Instance, plan: &Plan, loads: &mut [NurseLoad], p: PatientNo, at: Placement)
     requires plan { IsPlanOf inst.now.draft plan.now }
     requires patient { p.0 < patient_count inst.now.draft }
     requires placement { IsPlacement inst.now.draft at }
-    requires len { length loads.old ≡ nurse_count inst.now.draft * shift_count inst.now.draft }
+    requires table { IsTable inst.now.draft loads.old }
     requires enough { (m j : ℕ) → m < nurse_count inst.now.draft → j < shift_count inst.now.draft
         → stay_load inst.now.draft plan.now p.0 at m j ≤ load_at inst.now.draft loads.old m j }
-    ensures len { length loads.new ≡ nurse_count inst.now.draft * shift_count inst.now.draft }
+    ensures table { IsTable inst.now.draft loads.new }
     ensures each { (m j : ℕ) → m < nurse_count inst.now.draft → j < shift_count inst.now.draft
         → load_at inst.now.draft loads.new m j + stay_load inst.now.draft plan.now p.0 at m j ≡ load_at inst.now.draft loads.old m j }
 {

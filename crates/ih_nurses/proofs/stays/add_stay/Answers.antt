@@ -5,7 +5,7 @@ use Rattle.ih_nurses.proofs.StayLemmas.{added-none, added-more, added-all, added
 use Rattle.ih_nurses.proofs.stays.add_stay.Goals as goal
 
 pub loop-k-init : goal.loop-k-init
-loop-k-init c = added-none c.requires.len
+loop-k-init c = added-none c.requires.table
 
 pub add_load-requires-clause-fits : goal.add_load-requires-clause-fits
 add_load-requires-clause-fits c = λ m mh.
@@ -17,7 +17,7 @@ pub loop-k-preserved : goal.loop-k-preserved
 loop-k-preserved c =
     added-more c.loop-k.invariant
     (record { low = omega arith; high = omega (arith, c.end_of-end.ensures.value); nurse_is = c.nurse_at-nurse.ensures.choice; load_is = c.workload-load.ensures.value })
-    c.add_load.new.loads c.add_load.ensures.len c.add_load.ensures.each
+    c.add_load.new.loads c.add_load.ensures.table c.add_load.ensures.each
 
 pub returns-clause-each : goal.returns-clause-each
 returns-clause-each c =

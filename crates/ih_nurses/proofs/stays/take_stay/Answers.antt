@@ -4,7 +4,7 @@ use Rattle.ih_nurses.proofs.StayLemmas.{taken-none, taken-more, taken-all, taken
 use Rattle.ih_nurses.proofs.stays.take_stay.Goals as goal
 
 pub loop-k-init : goal.loop-k-init
-loop-k-init c = taken-none c.requires.len
+loop-k-init c = taken-none c.requires.table
 
 pub take_load-requires-clause-enough : goal.take_load-requires-clause-enough
 take_load-requires-clause-enough c =
@@ -16,7 +16,7 @@ pub loop-k-preserved : goal.loop-k-preserved
 loop-k-preserved c =
     taken-more c.loop-k.invariant
     (record { low = omega arith; high = omega (arith, c.end_of-end.ensures.value); nurse_is = c.nurse_at-nurse.ensures.choice; load_is = c.workload-load.ensures.value })
-    c.take_load.new.loads c.take_load.ensures.len c.take_load.ensures.each
+    c.take_load.new.loads c.take_load.ensures.table c.take_load.ensures.each
 
 pub returns-clause-each : goal.returns-clause-each
 returns-clause-each c =

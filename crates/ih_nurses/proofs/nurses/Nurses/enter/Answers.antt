@@ -19,12 +19,12 @@ returns c = λ P known.
     let admission = admits c.args.inst.now.draft c.args.self.now.plan c.args.p c.args.at own.fits c.requires.patient c.requires.placement free in
     let days = c.enter_days.ensures.sized.days in
     let days_before = own.here_are.sized.days in
-    rw (with_items_is c.args.self.now.here c.enter_days.new.here (days ∙ (sym days_before ∙ sym c.args.self.now.here.ok.0)), with_items_is c.args.self.now.loads c.add_stay.new.loads (c.add_stay.ensures.len ∙ (sym own.loads_are.len ∙ sym c.args.self.now.loads.ok.0)))
+    rw (with_items_is c.args.self.now.here c.enter_days.new.here (days ∙ (sym days_before ∙ sym c.args.self.now.here.ok.0)), with_items_is c.args.self.now.loads c.add_stay.new.loads (c.add_stay.ensures.table.len ∙ (sym own.loads_are.table.len ∙ sym c.args.self.now.loads.ok.0)))
     (stands-for known (SetStay c.args.p (Some c.args.at)) (record {
       plan_is = c.put.ensures;
       fits = stay-plan c.args.inst.now.draft c.args.self.now.plan c.args.p c.args.at own.fits c.requires.patient c.requires.placement;
       here_are = here-entered admission c.args.self.now.here.items c.enter_days.new.here own.here_are c.enter_days.ensures.sized
           (rw (← c.as_mut_slice.ensures.value, ← c.end_of-end.ensures.value) c.enter_days.ensures.each);
-      loads_are = loads-added admission c.args.self.now.loads.items c.add_stay.new.loads own.loads_are c.add_stay.ensures.len
+      loads_are = loads-added admission c.args.self.now.loads.items c.add_stay.new.loads own.loads_are c.add_stay.ensures.table
           (rw (← c.as_mut_slice-2.ensures.value) c.add_stay.ensures.each);
     }))

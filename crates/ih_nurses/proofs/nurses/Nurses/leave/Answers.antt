@@ -26,12 +26,12 @@ returns c = λ P known.
     let admission = leaves c.args.inst.now.draft c.args.self.now.plan c.args.p c.args.at own.fits c.requires.patient c.requires.placement there in
     let days = c.leave_days.ensures.sized.days in
     let days_before = own.here_are.sized.days in
-    rw (with_items_is c.args.self.now.here c.leave_days.new.here (days ∙ (sym days_before ∙ sym c.args.self.now.here.ok.0)), with_items_is c.args.self.now.loads c.take_stay.new.loads (c.take_stay.ensures.len ∙ (sym own.loads_are.len ∙ sym c.args.self.now.loads.ok.0)))
+    rw (with_items_is c.args.self.now.here c.leave_days.new.here (days ∙ (sym days_before ∙ sym c.args.self.now.here.ok.0)), with_items_is c.args.self.now.loads c.take_stay.new.loads (c.take_stay.ensures.table.len ∙ (sym own.loads_are.table.len ∙ sym c.args.self.now.loads.ok.0)))
     (stands-for known (SetStay c.args.p None) (record {
       plan_is = c.put.ensures;
       fits = put-plan c.args.inst.now.draft c.args.self.now.plan (SetStay c.args.p None) own.fits (c.requires.patient, λ at e. absurd (let no : None ≡ Some at = e in cc));
       here_are = here-left admission c.args.self.now.here.items c.leave_days.new.here own.here_are c.leave_days.ensures.sized
           (rw (← c.as_mut_slice.ensures.value, ← c.end_of-end.ensures.value) c.leave_days.ensures.each);
-      loads_are = loads-taken admission c.args.self.now.loads.items c.take_stay.new.loads own.loads_are c.take_stay.ensures.len
+      loads_are = loads-taken admission c.args.self.now.loads.items c.take_stay.new.loads own.loads_are c.take_stay.ensures.table
           (rw (← c.as_mut_slice-2.ensures.value) c.take_stay.ensures.each);
     }))
