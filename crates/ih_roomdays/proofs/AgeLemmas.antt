@@ -55,7 +55,8 @@ module _ (I : Draft) (valid : IsValid I) where
       occupant None e = omega arith
       occupant (Some a) e = let age = (from-all (IsOccupant I) I.occupants (x - patient_count I) a valid.each_occupant e).age in omega (arith, few)
 
-      by_test : (b : Bool) → (if b then option_map_or patient_person (slice_get I.patients x) nobody else option_map_or occupant_person (slice_get I.occupants (x - patient_count I)) nobody).age_group < 64
+      by_test : (b : Bool)
+          → (if b then option_map_or patient_person (slice_get I.patients x) nobody else option_map_or occupant_person (slice_get I.occupants (x - patient_count I)) nobody).age_group < 64
       by_test true = patient (slice_get I.patients x) refl
       by_test false = occupant (slice_get I.occupants (x - patient_count I)) refl
 

@@ -1,5 +1,5 @@
 -- A person leaves the rooms that it is in, day by day.
-use Rattle.std.proofs.Common.{◌≡◌, ℕ, ◌+◌, ◌*◌, ◌/◌, ◌%◌, ◌<◌, ◌≤◌, refl, arith, sym, ap, ◌∙◌, Bool, true, false, List, [], ◌∷◌, length, map, inl, inr}
+use Rattle.std.proofs.Common.{◌≡◌, ℕ, ◌+◌, ◌*◌, ◌/◌, ◌<◌, ◌≤◌, refl, arith, sym, ap, ◌∙◌, Bool, true, false, [], length, map, inl, inr}
 use Rattle.std.specs.Prelude.{◌&&◌, ◌||◌, ◌==◌, not, slice_index_or, slice_set}
 use Rattle.std.specs.Global.{Vec}
 use Rattle.std.proofs.lemmas.Bool.{cases_eq, eq-eqb, ne_eqb, false_from_ne_true}
@@ -12,7 +12,7 @@ use Rattle.ih_roomdays.specs.declared.companies.Crowd.{Crowd}
 use Rattle.ih_roomdays.specs.declared.rows.Rows.{Rows}
 use Rattle.ih_roomdays.specs.Company.{IsCrowd, nobody}
 use Rattle.ih_roomdays.specs.Profiles.{most_persons}
-use Rattle.ih_roomdays.specs.Rows.{AreRows, IsLeft, nodes_each, nodes_at, persons_at, crowd_at, is_at}
+use Rattle.ih_roomdays.specs.Rows.{AreRows, IsLeft, nodes_each, nodes_at, crowd_at, is_at}
 use Rattle.ih_roomdays.proofs.Nodes.{and-true, and-false, span-none, span-past, span-more}
 use Rattle.ih_roomdays.proofs.People.{day-few, nodes-few, place-inside}
 use Rattle.ih_plan.specs.Presence.{in_span}

@@ -1,9 +1,7 @@
 -- The part of a room and a day with a person there or not, from the list of the others.
-use Rattle.std.proofs.Common.{◌≡◌, ℕ, ◌+◌, ◌*◌, ◌/◌, ◌<◌, ◌≤◌, refl, arith, sym, ap, subst, ◌∙◌, Bool, true, false, List, [], ◌∷◌, ◌++◌, length, length-append, Option, inl, inr}
+use Rattle.std.proofs.Common.{◌≡◌, ℕ, ◌*◌, ◌<◌, ◌≤◌, refl, arith, sym, ap, subst, ◌∙◌, Bool, true, false, List, length, Option, inl, inr}
 use Rattle.std.specs.Prelude.{◌||◌, ◌==◌, option_map}
-use Rattle.std.proofs.lemmas.Bool.{cases_eq, eq-eqb, ne_eqb, eqb-true, or_cases, or_right}
-use Rattle.std.proofs.lemmas.List.{length-map}
-use Rattle.std.proofs.lemmas.Nat.{div-mul-add}
+use Rattle.std.proofs.lemmas.Bool.{cases_eq, eq-eqb, ne_eqb, or_right}
 use Rattle.ih_tables.specs.declared.drafts.Draft.{Draft}
 use Rattle.ih_tables.specs.declared.ids.PatientNo.{PatientNo}
 use Rattle.ih_tables.specs.declared.ids.RoomNo.{RoomNo}
@@ -18,19 +16,19 @@ use Rattle.ih_plan.specs.Presence.{is_in, is_present, placed_at, present}
 use Rattle.ih_plan.specs.Persons.{person_of}
 use Rattle.ih_plan.specs.Cells.{part_at}
 use Rattle.ih_plan.proofs.Entries.{admission-patient, admission-set}
-use Rattle.ih_links.specs.Lists.{AreNodes, IsOnce, has, without}
-use Rattle.ih_links.proofs.Members.{apart, has-append, has-without_self, has-without_other, length-once, length-without, once-append, once-without, without-none}
+use Rattle.ih_links.specs.Lists.{IsOnce, has, without}
+use Rattle.ih_links.proofs.Members.{has-append, has-without_self, has-without_other, length-once, once-append, once-without, without-none}
 use Rattle.ih_roomdays.specs.declared.profiles.Profile.{Profile}
 use Rattle.ih_roomdays.specs.declared.rows.Rows.{Rows}
 use Rattle.ih_roomdays.specs.Company.{with_if}
 use Rattle.ih_roomdays.specs.Ledger.{IsLedgerOf}
 use Rattle.ih_roomdays.specs.Profiles.{most_persons, profile_of}
 use Rattle.ih_roomdays.specs.Parts.{room_day_part, room_counts}
-use Rattle.ih_roomdays.specs.Rows.{AreRows, is_at, nodes_each, nodes_at, crowd_at, persons_at}
+use Rattle.ih_roomdays.specs.Rows.{AreRows, is_at, crowd_at, persons_at}
 use Rattle.ih_roomdays.proofs.StayLemmas.{others}
-use Rattle.ih_roomdays.proofs.Nodes.{or-false, person-below}
+use Rattle.ih_roomdays.proofs.Nodes.{or-false}
 use Rattle.ih_roomdays.proofs.Orders.{AreAlike}
-use Rattle.ih_roomdays.proofs.People.{day-few, has-persons, persons-once}
+use Rattle.ih_roomdays.proofs.People.{has-persons, persons-once}
 use Rattle.ih_roomdays.proofs.Tallies.{some-there}
 use Rattle.ih_roomdays.proofs.Standing.{has-present, part-alike}
 
@@ -76,7 +74,8 @@ module _ (v : Rows) (rows : AreRows v) (r d x : ℕ) (day : d < v.days) where
   pub own-part : is_at v r d x ≡ true → (who : Profile) → who ≡ profile_of v.profiles x
       → (who.gender ≤ (crowd_at v r d).company.genders) × (who.gender * who.gender ≤ (crowd_at v r d).company.squares)
   own-part there who own =
-      some-there v.profiles (persons_at v r d) x (persons-once v r d rows day) (has-persons v r d x rows day ∙ there) who.gender (crowd_at v r d).company (ap (λ w. w.gender) own) (rows.kept r d day).company
+      some-there v.profiles (persons_at v r d) x (persons-once v r d rows day) (has-persons v r d x rows day ∙ there)
+      who.gender (crowd_at v r d).company (ap (λ w. w.gender) own) (rows.kept r d day).company
 
 -- ---- the part with another stay
 

@@ -1,12 +1,12 @@
 -- What one person more, or one less, makes of what is kept of persons.
 use Rattle.std.proofs.Common.{◌≡◌, ℕ, ◌+◌, ◌-◌, ◌*◌, ◌%◌, ◌^◌, ◌<◌, ◌≤◌, refl, arith, sym, ap, subst, ◌∙◌, true, false, List, [], ◌∷◌, ◌++◌, length, length-append, min, w64, bit_and, bit_or, inl, inr}
-use Rattle.std.specs.Prelude.{◌==◌, max, sum_by, not}
+use Rattle.std.specs.Prelude.{◌==◌, sum_by}
 use Rattle.std.specs.Int.{bit_at, bit_not}
 use Rattle.std.proofs.Math.Bool.{cond}
 use Rattle.std.proofs.lemmas.Bool.{cases_eq, eq-eqb, ne_eqb}
 use Rattle.std.proofs.lemmas.List.Sums.{sum_by-cons, sum_by_push, sum_by-le}
 use Rattle.std.proofs.lemmas.Nat.{one_shl, mul-le}
-use Rattle.std.proofs.lemmas.Nat.Bits.{bit_at_and, bit_at_or, bit_at_not, bit_at-lt, bit_at-zero, bit_at-pow_same, bit_at-pow_other, bit_at_set_same, bit_at_set_other}
+use Rattle.std.proofs.lemmas.Nat.Bits.{bit_at_and, bit_at_or, bit_at_not, bit_at-zero, bit_at-pow_same, bit_at-pow_other, bit_at_set_same, bit_at_set_other}
 use Rattle.ih_links.specs.Lists.{IsOnce, has, without}
 use Rattle.ih_links.proofs.Members.{has-cases, length-without, without-here, without-there, without-none}
 use Rattle.ih_roomdays.specs.declared.companies.Company.{Company}
@@ -104,7 +104,12 @@ module _ (p : Profiles) (xs : List ℕ) (x : ℕ) (once : IsOnce xs) (there : ha
   shifted-small = omega arith
 
   pub company-less : (gender : ℕ) (c : Crowd) → gender ≡ gender_number p x → IsCrowd p xs c
-      → IsCompany p (without x xs) (record { ages = bit_and c.company.ages (bit_or c.twice kept); squares = c.company.squares - gender * gender; genders = c.company.genders - gender; count = c.company.count - 1 })
+      → IsCompany p (without x xs) (record {
+        ages = bit_and c.company.ages (bit_or c.twice kept);
+        squares = c.company.squares - gender * gender;
+        genders = c.company.genders - gender;
+        count = c.company.count - 1;
+      })
   company-less gender c gender_is is = record {
     count = let e = is.company.count in omega (arith, length-without x xs once there);
     genders = let e = is.company.genders in rw gender_is (omega (arith, sum-without (gender_number p) x xs once there));

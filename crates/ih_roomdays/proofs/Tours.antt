@@ -1,9 +1,8 @@
 -- A walk over the nodes of persons, and what is kept of those that it has told.
-use Rattle.std.proofs.Common.{◌≡◌, ℕ, ◌+◌, ◌/◌, ◌<◌, ◌≤◌, refl, arith, sym, ap, subst, ◌∙◌, List, [], ◌∷◌, ◌++◌, Option, Some, None, length, length-append, map}
+use Rattle.std.proofs.Common.{◌≡◌, ℕ, ◌/◌, ◌≤◌, arith, sym, ap, subst, List, [], ◌∷◌, ◌++◌, Option, Some, None, length, length-append, map}
 use Rattle.std.proofs.lemmas.List.{length-map, map-append}
 use Rattle.ih_links.specs.Lists.{AreNodes, first_of, following, rest_from}
 use Rattle.ih_links.proofs.Walks.{IsWalk, walk-begins, walk-goes_on, walk-ends}
-use Rattle.ih_roomdays.specs.declared.companies.Company.{Company}
 use Rattle.ih_roomdays.specs.declared.companies.Crowd.{Crowd}
 use Rattle.ih_roomdays.specs.declared.profiles.Profiles.{Profiles}
 use Rattle.ih_roomdays.specs.Company.{IsCrowd, IsSmall, nobody}

@@ -1,7 +1,7 @@
 -- What is kept of the persons in a room on a day: sums of their gender numbers, and bits of their age groups.
-use Rattle.std.specs.Prelude.{◌≡◌, ℕ, ◌-◌, ◌*◌, ◌<◌, ◌≤◌, ◌==◌, Bool, true, false, List, [], ◌∷◌, ◌++◌, length, min, sum_by}
+use Rattle.std.specs.Prelude.{◌≡◌, ℕ, ◌-◌, ◌*◌, ◌<◌, ◌≤◌, ◌==◌, Bool, true, false, List, [], ◌∷◌, ◌++◌, length, min}
 use Rattle.std.specs.Int.{bit_at}
-use Rattle.std.specs.List.{count_by}
+use Rattle.std.specs.List.{count_by, sum_by}
 use Rattle.ih_roomdays.specs.declared.companies.Company.{Company}
 use Rattle.ih_roomdays.specs.declared.companies.Crowd.{Crowd}
 use Rattle.ih_roomdays.specs.declared.profiles.Profiles.{Profiles}
@@ -11,14 +11,15 @@ use Rattle.ih_roomdays.specs.Profiles.{gender_number, age_number, most_persons}
 abbrev pub of_age : Profiles → ℕ → List ℕ → ℕ
 of_age p a xs = count_by (λ x. age_number p x == a) xs
 
--- This is so of the persons xs: how many they are, the sums of their gender numbers and of the squares, and an age group's bit is 1 where one or more are in it.
+-- This is so of the persons xs: how many they are, the sums of their gender numbers and of the squares of these, and the
+-- bit of an age group is 1 where one of them or more is in it.
 pub record IsCompany (p : Profiles) (xs : List ℕ) (c : Company) : Type 0 where
   pub count : c.count ≡ length xs
   pub genders : c.genders ≡ sum_by (gender_number p) xs
   pub squares : c.squares ≡ sum_by (λ x. gender_number p x * gender_number p x) xs
   pub ages : (a : ℕ) → a < 64 → bit_at c.ages a ≡ min 1 (of_age p a xs)
 
--- And an age group's bit is 1 in the other word where two or more are in it.
+-- In the other word the bit is 1 where two of them or more are in the age group.
 pub record IsCrowd (p : Profiles) (xs : List ℕ) (c : Crowd) : Type 0 where
   pub company : IsCompany p xs c.company
   pub twice : (a : ℕ) → a < 64 → bit_at c.twice a ≡ min 1 (of_age p a xs - 1)

@@ -20,15 +20,16 @@ nodes_at v r d = list_of v.links (r * v.days + d)
 abbrev pub persons_at : Rows → ℕ → ℕ → List ℕ
 persons_at v r d = map (λ n. n / nodes_each) (nodes_at v r d)
 
--- person x is in room r on day d
-abbrev pub is_at : Rows → ℕ → ℕ → ℕ → Bool
-is_at v r d x = has (x * nodes_each + d) (nodes_at v r d)
-
 -- what is kept of them
 abbrev pub crowd_at : Rows → ℕ → ℕ → Crowd
 crowd_at v r d = slice_index_or v.crowds.items (r * v.days + d) nobody
 
--- There is a list for each room and day, and each person has its nodes and its profile; a list has nodes of its own day, each once, and what is kept of its persons is so.
+-- person x is in room r on day d
+abbrev pub is_at : Rows → ℕ → ℕ → ℕ → Bool
+is_at v r d x = has (x * nodes_each + d) (nodes_at v r d)
+
+-- There is a list for each room and day, and each person has its nodes and its profile; a list has nodes of its own day,
+-- each once, and what is kept beside it is so of its persons.
 pub record AreRows (v : Rows) : Type 0 where
   pub some_day : 0 < v.days
   pub few_days : v.days ≤ nodes_each

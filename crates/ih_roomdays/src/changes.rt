@@ -40,7 +40,8 @@ pub fn is_there(inst: &Instance, p: PatientNo, stay: Option<Placement>, r: RoomN
 pub fn room_counts(inst: &Instance, r: RoomNo, company: Company) -> RoomDayCounts
     requires room { r.0 < room_count inst.now.draft }
     requires small { IsSmall company }
-    ensures { (p : Profiles) (xs : List ℕ) → AreProfiles inst.now.draft p → ArePersons inst.now.draft xs → IsCompany p xs company → result ≡ room_counts inst.now.draft r.0 xs }
+    ensures { (p : Profiles) (xs : List ℕ) → AreProfiles inst.now.draft p → ArePersons inst.now.draft xs
+        → IsCompany p xs company → result ≡ room_counts inst.now.draft r.0 xs }
 {
     RoomDayCounts {
         mixed: company.is_mixed(),

@@ -26,7 +26,7 @@ pub struct Company {
     pub count: u32,
 }
 
-/// The same, and by what it is told without one of them.
+/// The same, and by what it is told without one of them. A room and a day have 32 bytes of it.
 #[derive(Clone, Copy)]
 pub struct Crowd {
     pub company: Company,
@@ -58,7 +58,8 @@ impl Company {
         requires small { IsSmall self }
         requires gender { who.gender < most_persons }
         requires age { who.age < 64 }
-        ensures { (p : Profiles) (xs : List ℕ) (x : ℕ) → who ≡ profile_of p x → IsCompany p xs self → IsCompany p (xs ++ x ∷ []) result }
+        ensures { (p : Profiles) (xs : List ℕ) (x : ℕ) → who ≡ profile_of p x → IsCompany p xs self
+            → IsCompany p (xs ++ x ∷ []) result }
     {
         Company {
             ages: self.ages | 1u64 << who.age,
@@ -73,7 +74,8 @@ impl Company {
     #[inline(always)]
     pub fn is_mixed(self) -> bool
         requires small { IsSmall self }
-        ensures { (I : Draft) (p : Profiles) (xs : List ℕ) → AreProfiles I p → ArePersons I xs → IsCompany p xs self → result ≡ genders_differ I xs }
+        ensures { (I : Draft) (p : Profiles) (xs : List ℕ) → AreProfiles I p → ArePersons I xs → IsCompany p xs self
+            → result ≡ genders_differ I xs }
     {
         self.count as u64 * self.squares != square(self.genders)
     }
@@ -81,7 +83,8 @@ impl Company {
     /// The greatest of their age groups less the least.
     #[inline(always)]
     pub fn spread(self) -> u32
-        ensures { (I : Draft) (p : Profiles) (xs : List ℕ) → AreProfiles I p → ArePersons I xs → IsCompany p xs self → result ≡ age_spread I xs }
+        ensures { (I : Draft) (p : Profiles) (xs : List ℕ) → AreProfiles I p → ArePersons I xs → IsCompany p xs self
+            → result ≡ age_spread I xs }
     {
         if self.ages == 0 {
             0
@@ -98,7 +101,8 @@ impl Crowd {
         requires small { IsSmall self.company }
         requires gender { who.gender < most_persons }
         requires age { who.age < 64 }
-        ensures { (p : Profiles) (xs : List ℕ) (x : ℕ) → who ≡ profile_of p x → IsCrowd p xs self → IsCrowd p (xs ++ x ∷ []) result }
+        ensures { (p : Profiles) (xs : List ℕ) (x : ℕ) → who ≡ profile_of p x → IsCrowd p xs self
+            → IsCrowd p (xs ++ x ∷ []) result }
     {
         Crowd {
             company: self.company.with(who),
@@ -113,8 +117,8 @@ impl Crowd {
         requires genders { who.gender ≤ self.company.genders }
         requires squares { who.gender * who.gender ≤ self.company.squares }
         requires age { who.age < 64 }
-        ensures { (p : Profiles) (xs : List ℕ) (x : ℕ) → who ≡ profile_of p x → IsCrowd p xs self → IsOnce xs → has x xs ≡ true
-            → IsCompany p (without x xs) result }
+        ensures { (p : Profiles) (xs : List ℕ) (x : ℕ) → who ≡ profile_of p x → IsCrowd p xs self → IsOnce xs
+            → has x xs ≡ true → IsCompany p (without x xs) result }
     {
         // Its age group stays where somebody else is in it too.
         Company {

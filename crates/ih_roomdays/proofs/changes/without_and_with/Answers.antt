@@ -1,4 +1,4 @@
-use Rattle.std.proofs.Common.{◌+◌, ◌<◌, ◌≤◌, ◌∙◌, [], ◌∷◌, ◌++◌, arith, ap, sym, length, length-append, true, false}
+use Rattle.std.proofs.Common.{[], ◌∷◌, ◌++◌, arith, true, false}
 use Rattle.ih_links.specs.Lists.{without}
 use Rattle.ih_roomdays.specs.Rows.{persons_at}
 use Rattle.ih_roomdays.proofs.Others.{with-few, with-known}

@@ -1,8 +1,7 @@
-use Rattle.std.proofs.Common.{length}
 use Rattle.ih_links.specs.Lists.{list_of}
 use Rattle.ih_links.proofs.Walks.{walk-inside, walk-below, walk-shrinks}
 use Rattle.ih_roomdays.proofs.Nodes.{person-below}
-use Rattle.ih_roomdays.proofs.Tours.{tour-begins, tour-goes_on, tour-small, tour-ends}
+use Rattle.ih_roomdays.proofs.Tours.{tour-begins, tour-goes_on, tour-small}
 use Rattle.ih_roomdays.proofs.companies.crowd_of.Goals as goal
 
 pub loop-at-init : goal.loop-at-init

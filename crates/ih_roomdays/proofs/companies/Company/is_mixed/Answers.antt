@@ -1,4 +1,4 @@
-use Rattle.std.proofs.Common.{◌∙◌, ◌*◌, ap, sym}
+use Rattle.std.proofs.Common.{◌∙◌, ◌*◌, ap}
 use Rattle.std.specs.Prelude.{◌==◌, not}
 use Rattle.ih_roomdays.proofs.Mixtures.{mixed-told}
 use Rattle.ih_roomdays.proofs.companies.Company.is_mixed.Goals as goal

@@ -1,4 +1,4 @@
-use Rattle.std.proofs.Common.{◌<◌, ◌^◌, arith}
+use Rattle.std.proofs.Common.{arith}
 use Rattle.ih_roomdays.proofs.Mixtures.{spread-of_none, spread-of_some}
 use Rattle.ih_roomdays.proofs.Spans.{zeros-few}
 use Rattle.ih_roomdays.proofs.companies.Company.spread.Goals as goal
