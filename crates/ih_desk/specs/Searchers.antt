@@ -32,7 +32,8 @@ pub record HasCaughtUp (b : Base) (each w : ℕ) (H : List Tried) (x : Progress)
 
 -- The buffer has what comes in H behind what the replica stands for, as far as there is room.
 abbrev pub Shows : List Tried → Progress → Type 0
-Shows H x = x.buffer ≡ record { from = x.replica.seen; entries = take most_copied (drop x.replica.seen H); front = length H }
+Shows H x =
+    x.buffer ≡ record { from = x.replica.seen; entries = take most_copied (drop x.replica.seen H); front = length H }
 
 -- nothing was drawn or seen yet
 pub record IsNew (b : Base) (each w : ℕ) (x : Progress) : Type 0 where
@@ -40,8 +41,8 @@ pub record IsNew (b : Base) (each w : ℕ) (x : Progress) : Type 0 where
   pub replica : IsReplicaOf b [] x.replica
   pub stream : x.stream ≡ stream_at b.options.seed w 0
 
--- The turns left and the entries seen, together. Each turn of a worker shows an entry at least that it hadn't seen, so this
--- never gets less; and there are at most `most_entries` to see.
+-- The turns left and the entries seen, together. Each turn of a worker shows an entry at least that it hadn't seen, so
+-- this never gets less; and there are at most `most_entries` to see.
 abbrev pub credit : ℕ → Progress → ℕ
 credit left x = left + x.replica.seen
 

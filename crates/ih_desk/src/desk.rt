@@ -105,8 +105,8 @@ impl<'a, E: Logged> DeskOver<Turn<Book<'a, E>>> {
         (held.give(), verdict)
     }
 
-    /// As `offer`, and by the same turn the buffer has what is new: its entries are those from its place `from` on, or the
-    /// first 256 of them where there are more, and its front is the number of all entries, with the offer's as the last.
+    /// As `offer`, and by the same turn the buffer has what is new: its entries are those from its place `from` on, or
+    /// the first 256 of them where there are more, and its front is the number of all entries, the offer's the last.
     pub fn offer_and_look<R: Wait>(
         &self,
         rt: &R,

@@ -167,9 +167,9 @@ impl<'a, C: Replicates> Searcher<'a, C> {
         last
     }
 
-    // Tries an attempt once: prices it on what the replica stands for, offers it, and takes over what was new by that turn,
-    // its own entry at least, on which the next try is priced. The take-over comes after the gate's `after`: what the turn
-    // showed doesn't change while the gate holds the worker there.
+    // Tries an attempt once: prices it on what the replica stands for, offers it, and takes over what was new by that
+    // turn, its own entry at least, so that the next try is priced on it. The take-over comes behind the gate's `after`:
+    // what the turn showed stays the same while a gate holds the worker there.
     fn try_once<R: Wait, P: Pass>(
         &mut self,
         rt: &R,
@@ -229,8 +229,8 @@ impl<'a, C: Replicates> Searcher<'a, C> {
         (seat, verdict)
     }
 
-    // Takes over what the offer's turn showed. Where more was new than the buffer has room for, it looks again until the
-    // replica stands for all that there was by that turn, the offer's own entry among it.
+    // Takes over what the offer's turn showed. Where more was new than the buffer has room for, it looks again until
+    // the replica stands for all that there was by that turn, the offer's own entry the last of it.
     fn catch_up<R: Wait>(
         &mut self,
         rt: &R,

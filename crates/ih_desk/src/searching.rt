@@ -23,8 +23,8 @@ use std::alloc::{AllocError, Global};
 use std::sync::Wait;
 use std::thread::Threads;
 
-// The turns of each seat: four for each try of each attempt of each worker, and a few. They are more than enough: a worker
-// takes no more turns than there are entries.
+// The turns of each seat: four for each try of each attempt of each worker, and a few. They are more than enough: a
+// worker takes no more turns than there are entries.
 fn turns_of(options: &Options) -> u64
     requires { IsLawful options.now }
     ensures { result ≡ 4 * most_entries options.now + 16 }

@@ -7,8 +7,9 @@ use Rattle.ih_desk.proofs.desk.DeskOver+Turn+Book+E.offer_and_look.Goals as goal
 
 pub returns-clause-own : goal.returns-clause-own
 returns-clause-own g c =
+    let base = ap (λ (k : Recorded). k.base) c.get_mut.ensures.value ∙ c.take-held.ensures.base in
     seat-at c.args.self.now c.requires.own.stands _ _ c.take-held.ensures.seat.0 c.give.ensures.own (rw (c.give.ensures.seat.0 ∙ c.take-held.ensures.seat.1) c.requires.own.number)
-    (legal-same _ _ _ _ (c.commit_and_copy-verdict.ensures.base ∙ (ap (λ (k : Recorded). k.base) c.get_mut.ensures.value ∙ c.take-held.ensures.base)) (sym c.give.ensures.list) c.commit_and_copy-verdict.ensures.legal)
+    (legal-same _ _ _ _ (c.commit_and_copy-verdict.ensures.base ∙ base) (sym c.give.ensures.list) c.commit_and_copy-verdict.ensures.legal)
 
 pub commit_and_copy-verdict-requires-clause-right : goal.commit_and_copy-verdict-requires-clause-right
 commit_and_copy-verdict-requires-clause-right g c =

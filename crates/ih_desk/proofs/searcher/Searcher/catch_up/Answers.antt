@@ -80,5 +80,6 @@ loop-self-preserved g c =
 pub returns-clause-caught_up : goal.returns-clause-caught_up
 returns-clause-caught_up g c =
     let before = c.loop-self.invariant in
-    let past : c.front-goal.result ≤ c.loop-self.self.replica.seen = subst (λ k. c.front-goal.result ≤ k) (c.seen.ensures ∙ ap (λ (x : Progress). x.replica.seen) c.self-in-loop-self.view_is) c.loop-self-test.false in
+    let same = c.seen.ensures ∙ ap (λ (x : Progress). x.replica.seen) c.self-in-loop-self.view_is in
+    let past : c.front-goal.result ≤ c.loop-self.self.replica.seen = subst (λ k. c.front-goal.result ≤ k) same c.loop-self-test.false in
     record { within = before.within; seen = own-later (number_of c.args.seat) c.front-goal.result c.loop-self.self.replica.seen (history c.loop-self.next) before.seen past }

@@ -9,5 +9,6 @@ pub returns-clause-attempted : goal.returns-clause-attempted
 returns-clause-attempted g c =
     let G = history c.offer-seat.result.0 in
     let F = history c.catch_up-seat.result in
-    attempted-later (base_of c.args.desk.now).options (number_of c.args.seat) c.args.number (g.C.Entry.Attempt.Attempted.moves c.args.attempt.now) c.offer-seat.result.1 (history c.args.seat) G F c.offer-seat.ensures.attempted
+    let m = g.C.Entry.Attempt.Attempted.moves c.args.attempt.now in
+    attempted-later (base_of c.args.desk.now).options (number_of c.args.seat) c.args.number m c.offer-seat.result.1 (history c.args.seat) G F c.offer-seat.ensures.attempted
     (subst (λ w. GoesOn w G F) c.offer-seat.ensures.number c.catch_up-seat.ensures.history)
