@@ -1,4 +1,4 @@
-//! Plans, writes, moves, draws and move texts (04 section 5).
+//! Plans, writes, moves, draws and move texts.
 
 use crate::instance::Instance;
 use crate::json::{put_u64, Out};
