@@ -13,7 +13,7 @@ use crate::profiles::{Profile, Profiles};
 use crate::rows::NODES_EACH;
 use ih_links::Links;
 
-/// What is kept of persons who are together.
+/// What is kept of persons who are together: enough to tell what they break and cost.
 #[derive(Clone, Copy)]
 pub struct Company {
     /// The bits of their age groups.
@@ -45,6 +45,7 @@ pub const NOBODY: Crowd = Crowd {
     twice: 0,
 };
 
+// The number times itself.
 fn square(n: u32) -> u64
     ensures { result ≡ n * n }
 {

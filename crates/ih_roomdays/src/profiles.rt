@@ -20,12 +20,14 @@ pub struct Profiles {
 /// What is kept of one person.
 #[derive(Clone, Copy)]
 pub struct Profile {
+    /// The number of the gender.
     pub gender: u32,
+    /// The age group.
     pub age: u32,
 }
 
 impl Profiles {
-    /// The person's.
+    /// What is kept of person x.
     #[inline(always)]
     pub fn of(&self, x: u32) -> Profile
         requires profiles { AreInRange (length self.now.genders.items) self.now }

@@ -14,7 +14,7 @@ use std::alloc::{AllocError, Global};
 pub const NODES_EACH: u32 = 64;
 
 /// One list for each room and day, and nodes of each person: one for each day, which can stand in a list of that day.
-/// Beside each list what is kept of its persons.
+/// Beside each list stands what is kept of its persons.
 #[derive(Drop)]
 pub struct Rows {
     pub links: Links,
