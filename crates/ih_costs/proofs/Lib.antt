@@ -16,3 +16,4 @@ pub mod GainNumbers
 pub mod GainSteps
 pub mod DayGains
 pub mod GainParts
+pub mod TheatreGains

@@ -25,6 +25,10 @@ span-more a b f h =
     let more = sum_below-more (b - a) (λ i. f (a + i)) in
     ap (λ n. sum_below n (λ i. f (a + i))) e ∙ (more ∙ ap (λ n. sum_below (b - a) (λ i. f (a + i)) + f n) last)
 
+pub span-same : (a b : ℕ) (f g : ℕ → ℕ) → ((i : ℕ) → f i ≡ g i) → span_sum a b f ≡ span_sum a b g
+unfolding span_sum
+span-same a b f g e = sum_below-same (b - a) (λ i. f (a + i)) (λ i. g (a + i)) (λ i h. e (a + i))
+
 -- a sum of nothing
 pub span-zero : (a b : ℕ) (f : ℕ → ℕ) → ((i : ℕ) → f i ≡ 0) → span_sum a b f ≡ 0
 unfolding span_sum

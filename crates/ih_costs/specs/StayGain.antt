@@ -4,7 +4,7 @@ use Rattle.ih_tables.specs.declared.drafts.Draft.{Draft}
 use Rattle.ih_tables.specs.declared.cells.Cell.TheVariants.{Stay, RoomDay, TheatreDay, SurgeonDay, RoomShift, NurseShift, Care}
 use Rattle.ih_tables.specs.declared.bills.Bill.{Bill}
 use Rattle.ih_tables.specs.declared.ids.PatientNo.{PatientNo}
-use Rattle.ih_tables.specs.Bills.{sub_bills, zero_bill}
+use Rattle.ih_tables.specs.Bills.{at as place, sub_bills, zero_bill}
 use Rattle.ih_plan.specs.declared.moves.Placement.{Placement}
 use Rattle.ih_plan.specs.declared.moves.Write.TheVariants.{SetStay}
 use Rattle.ih_plan.specs.Timetable.{Timetable, IsPlanOf, stay_of, care_of}
@@ -83,6 +83,13 @@ gain_of I Q p at = record {
 abbrev pub placement_gain : Draft → Timetable → PatientNo → Placement → Bill
 placement_gain I P p at =
     sub_bills (as_bill (gain_of I (put (SetStay p (Some at)) P) p.0 at)) (as_bill (gain_of I (put (SetStay p None) P) p.0 at))
+
+-- the numbers of a bill that rest on theatres and surgeons, and 0 for each other
+abbrev pub of_surgery : Bill → Bill
+of_surgery b = record {
+  v = pos 0 ∷ pos 0 ∷ place b.v 2 ∷ place b.v 3 ∷ pos 0 ∷ pos 0 ∷ pos 0 ∷ pos 0 ∷ pos 0 ∷ [];
+  s = pos 0 ∷ pos 0 ∷ pos 0 ∷ pos 0 ∷ place b.s 4 ∷ place b.s 5 ∷ pos 0 ∷ pos 0 ∷ [];
+}
 
 -- the gain of a stay: nothing where there is none
 abbrev pub stay_gain : Draft → Timetable → PatientNo → Option Placement → Bill

@@ -1,6 +1,6 @@
 //! What another stay of a patient, or none, changes in the bill, told day by day.
 
-ghost use Rattle.std.specs.Prelude.{◌≡◌, ◌+◌, ◌<◌, ◌≤◌, ◌^◌, min};
+ghost use Rattle.std.specs.Prelude.{◌≡◌, ◌+◌, ◌<◌, ◌≤◌, ◌^◌, min, Some};
 ghost use Rattle.ih_tables.specs.Sizes.{patient_count};
 ghost use Rattle.ih_tables.specs.Bills.{IsWithin};
 ghost use Rattle.ih_plan.specs.declared.moves.Write.TheVariants.{SetStay};
@@ -9,7 +9,8 @@ ghost use Rattle.ih_plan.specs.Writes.{put, IsWriteOf};
 ghost use Rattle.ih_plan.specs.BillOf.{change_of_bill};
 ghost use Rattle.ih_plan.specs.Persons.{person_of};
 ghost use Rattle.ih_costs.specs.CellLedgers.{AreLedgers, timetable_of};
-ghost use Rattle.ih_costs.specs.StayGain.{rise, rule_at, cost_at, over_days, over_shifts, over_loads, placement_gain, stay_gain};
+ghost use Rattle.ih_costs.specs.StayGain.{rise, rule_at, cost_at, over_days, over_shifts, over_loads};
+ghost use Rattle.ih_costs.specs.StayGain.{of_surgery, placement_gain, stay_gain};
 
 use crate::cell_ledgers::CellLedgers;
 use crate::stays::stay_change;
@@ -112,6 +113,30 @@ impl CellLedgers {
         ShiftsMore { alone, skill, load }
     }
 
+    // The numbers of a placement's gain that rest on its theatre and its surgeon; the others are 0. The patient's stay
+    // is `old` so far.
+    fn surgery_gain(
+        &self,
+        inst: &Instance,
+        p: PatientNo,
+        old: Option<Placement>,
+        at: Placement,
+    ) -> Bill
+        requires stands { AreLedgers inst.now.draft self.now }
+        requires patient { p.0 < patient_count inst.now.draft }
+        requires placement { IsPlacement inst.now.draft at }
+        requires stay { stay_of (timetable_of self.now) p.0 ≡ old }
+        ensures { result ≡ of_surgery (placement_gain inst.now.draft (timetable_of self.now) p at) }
+    {
+        let surgeon = inst.patient(p).surgeon_id;
+        let of_theatre = self.theatres.theatre_gain(inst, p, old, at);
+        let of_surgeon = self.theatres.surgeon_gain(inst, surgeon, p, old, at);
+        Bill {
+            v: [0, 0, of_surgeon.v[2], of_theatre.v[3], 0, 0, 0, 0, 0],
+            s: [0, 0, 0, 0, of_theatre.s[4], of_surgeon.s[5], 0, 0],
+        }
+    }
+
     // What a placement costs once it is made, less what its cells cost without it. The patient's stay is `old` so far.
     fn gain(&self, inst: &Instance, p: PatientNo, old: Option<Placement>, at: Placement) -> Bill
         requires stands { AreLedgers inst.now.draft self.now }
@@ -121,12 +146,8 @@ impl CellLedgers {
         ensures gain { result ≡ placement_gain inst.now.draft (timetable_of self.now) p at }
         ensures within { IsWithin (10 ^ 11) result }
     {
-        let patient = inst.patient(p);
-        let own = stay_change(patient, Some(at), None);
-        let theatre = self.theatres.theatre_gain(inst, p, old, at);
-        let surgeon = self
-            .theatres
-            .surgeon_gain(inst, patient.surgeon_id, p, old, at);
+        let own = stay_change(inst.patient(p), Some(at), None);
+        let surgery = self.surgery_gain(inst, p, old, at);
         let care = self.nurses.care_gain(inst, p, at);
         let days = self.more_over_days(inst, p, old, at);
         let shifts = self.more_over_shifts(inst, p, old, at);
@@ -134,8 +155,8 @@ impl CellLedgers {
             v: [
                 days.mixed,
                 own.v[1],
-                surgeon.v[2],
-                theatre.v[3],
+                surgery.v[2],
+                surgery.v[3],
                 own.v[4],
                 own.v[5],
                 days.crowded,
@@ -147,8 +168,8 @@ impl CellLedgers {
                 shifts.skill,
                 care.s[2],
                 shifts.load,
-                theatre.s[4],
-                surgeon.s[5],
+                surgery.s[4],
+                surgery.s[5],
                 own.s[6],
                 own.s[7],
             ],
@@ -175,6 +196,21 @@ impl CellLedgers {
         }
     }
 
+    // What another theatre changes in the bill: the patient keeps the room and the day of the stay so far, `from`.
+    fn theatre_price(&self, inst: &Instance, p: PatientNo, from: Placement, to: Placement) -> Bill
+        requires stands { AreLedgers inst.now.draft self.now }
+        requires write { IsWriteOf inst.now.draft (SetStay p (Some to)) }
+        requires stay { stay_of (timetable_of self.now) p.0 ≡ Some from }
+        requires room { to.room ≡ from.room }
+        requires day { to.day ≡ from.day }
+        ensures { result ≡ change_of_bill inst.now.draft (timetable_of self.now)
+            (put (SetStay p (Some to)) (timetable_of self.now)) }
+    {
+        let after = self.surgery_gain(inst, p, Some(from), to);
+        let before = self.surgery_gain(inst, p, Some(from), from);
+        after.sub(&before)
+    }
+
     /// What another stay of a patient, or none, changes in the bill. It isn't made.
     pub fn stay_price(&self, inst: &Instance, p: PatientNo, new: Option<Placement>) -> Bill
         requires stands { AreLedgers inst.now.draft self.now }
@@ -185,8 +221,15 @@ impl CellLedgers {
         if new == old {
             return Bill::zero();
         }
-        let after = self.gain_of_stay(inst, p, old, new);
-        let before = self.gain_of_stay(inst, p, old, old);
-        after.sub(&before)
+        match (old, new) {
+            (Some(from), Some(to)) if to.room == from.room && to.day == from.day => {
+                self.theatre_price(inst, p, from, to)
+            }
+            _ => {
+                let after = self.gain_of_stay(inst, p, old, new);
+                let before = self.gain_of_stay(inst, p, old, old);
+                after.sub(&before)
+            }
+        }
     }
 }

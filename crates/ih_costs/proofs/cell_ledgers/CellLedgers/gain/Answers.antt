@@ -1,20 +1,10 @@
-use Rattle.std.proofs.Common.{◌≡◌, ◌<◌, ◌^◌, ap, sym, subst, arith, length, Some}
-use Rattle.std.specs.Prelude.{option_map}
-use Rattle.ih_tables.specs.declared.drafts.Patient.{Patient}
+use Rattle.std.proofs.Common.{◌<◌, ◌^◌, sym, subst, arith, length}
 use Rattle.ih_tables.specs.Bills.{IsWithin}
-use Rattle.ih_plan.specs.Costs.{surgeon_of}
 use Rattle.ih_costs.specs.CellLedgers.{timetable_of}
-use Rattle.ih_costs.proofs.GainLemmas.{surgeon-in}
 use Rattle.ih_costs.proofs.GainNumbers.{gain-within}
 use Rattle.ih_costs.proofs.GainParts.{own-gain, parts-passed}
 use Rattle.ih_costs.proofs.StandLemmas.{plan-fits}
 use Rattle.ih_costs.proofs.cell_ledgers.CellLedgers.gain.Goals as goal
-
-pub surgeon_gain-surgeon-requires-clause-surgeon : goal.surgeon_gain-surgeon-requires-clause-surgeon
-surgeon_gain-surgeon-requires-clause-surgeon c =
-    let I = c.args.inst.now.draft in
-    let own : surgeon_of I c.args.p.0 ≡ Some c.patient-patient.result.now.surgeon_id.0 = ap (option_map (λ (a : Patient). a.surgeon_id.0)) c.patient-patient.ensures in
-    surgeon-in I c.args.p.0 c.patient-patient.result.now.surgeon_id.0 c.args.inst.now.valid own
 
 pub returns-clause-gain : goal.returns-clause-gain
 returns-clause-gain c =
@@ -25,14 +15,11 @@ returns-clause-gain c =
     let sizes = plan.stays in
     let patient = c.requires.patient in
     let inside : c.args.p.0 < length P.stays = omega arith in
-    let surgeon : surgeon_of I c.args.p.0 ≡ Some c.patient-patient.result.now.surgeon_id.0 = ap (option_map (λ (a : Patient). a.surgeon_id.0)) c.patient-patient.ensures in
-    parts-passed I P c.args.p c.args.at c.patient-patient.result.now.surgeon_id.0 surgeon
-    c.stay_change-own.result c.theatre_gain-theatre.result c.surgeon_gain-surgeon.result c.care_gain-care.result
+    parts-passed I P c.args.p c.args.at c.stay_change-own.result c.surgery_gain-surgery.result c.care_gain-care.result
     c.more_over_days-days.result.mixed c.more_over_days-days.result.crowded c.more_over_days-days.result.ages
     c.more_over_shifts-shifts.result.alone c.more_over_shifts-shifts.result.skill c.more_over_shifts-shifts.result.load
-    (own-gain I P c.args.p c.args.at c.patient-patient.result.now c.stay_change-own.result c.patient-patient.ensures inside c.stay_change-own.ensures)
-    (c.theatre_gain-theatre.ensures.gain P plan stands.theatres c.requires.stay)
-    (c.surgeon_gain-surgeon.ensures.gain P plan stands.theatres c.requires.stay)
+    (own-gain I P c.args.p c.args.at c.patient.result.now c.stay_change-own.result c.patient.ensures inside c.stay_change-own.ensures)
+    c.surgery_gain-surgery.ensures
     (c.care_gain-care.ensures.gain P stands.nurses)
     c.more_over_days-days.ensures.mixed c.more_over_days-days.ensures.crowded c.more_over_days-days.ensures.ages
     c.more_over_shifts-shifts.ensures.alone c.more_over_shifts-shifts.ensures.skill c.more_over_shifts-shifts.ensures.load

@@ -22,11 +22,18 @@ returns-then-eq c =
     let same : c.args.new ≡ c.stay-old.result = search (rules, h) in
     c.zero.ensures ∙ (change-same I P ∙ ap (change_of_bill I P) (sym (ap (λ s. put (SetStay c.args.p s) P) (same ∙ old) ∙ stay-again P c.args.p)))
 
+pub gain_of_stay-before-requires-clause-write : goal.gain_of_stay-before-requires-clause-write
+gain_of_stay-before-requires-clause-write c =
+    let P = timetable_of c.args.self.now in
+    let plan = plan-fits c.args.inst.now.draft P c.args.self.now c.requires.stands in
+    let old : c.stay-old.result ≡ stay_of P c.args.p.0 = rw c.plan.ensures at c.stay-old.ensures in
+    (c.requires.write.0, λ at e. plan.placed c.args.p.0 at (sym old ∙ e))
+
 pub sub-requires : goal.sub-requires
 sub-requires c = less-within c.gain_of_stay-after.result c.gain_of_stay-before.result c.gain_of_stay-after.ensures.within c.gain_of_stay-before.ensures.within
 
-pub returns : goal.returns
-returns c =
+pub returns-in_default : goal.returns-in_default
+returns-in_default c =
     let I = c.args.inst.now.draft in
     let P = timetable_of c.args.self.now in
     let old : c.stay-old.result ≡ stay_of P c.args.p.0 = rw c.plan.ensures at c.stay-old.ensures in

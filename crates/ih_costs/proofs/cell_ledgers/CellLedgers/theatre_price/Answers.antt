@@ -1,0 +1,43 @@
+use Rattle.std.proofs.Common.{◌∙◌, ◌^◌, refl, ap, sym, subst, Some}
+use Rattle.ih_tables.specs.Bills.{sub_bills, IsWithin}
+use Rattle.ih_costs.specs.CellLedgers.{timetable_of}
+use Rattle.ih_costs.specs.StayGain.{of_surgery, placement_gain, stay_gain}
+use Rattle.ih_costs.proofs.ChangeSums.{less-within}
+use Rattle.ih_costs.proofs.GainBills.{two-stays}
+use Rattle.ih_costs.proofs.GainNumbers.{gain-within}
+use Rattle.ih_costs.proofs.StandLemmas.{plan-fits}
+use Rattle.ih_costs.proofs.TheatreGains.{gains-apart}
+use Rattle.ih_costs.proofs.cell_ledgers.CellLedgers.theatre_price.Goals as goal
+
+pub surgery_gain-after-requires-clause-placement : goal.surgery_gain-after-requires-clause-placement
+surgery_gain-after-requires-clause-placement c = c.requires.write.1 c.args.to refl
+
+pub surgery_gain-before-requires-clause-placement : goal.surgery_gain-before-requires-clause-placement
+surgery_gain-before-requires-clause-placement c =
+    (plan-fits c.args.inst.now.draft (timetable_of c.args.self.now) c.args.self.now c.requires.stands).placed c.args.p.0 c.args.from c.requires.stay
+
+pub sub-requires : goal.sub-requires
+sub-requires c =
+    let I = c.args.inst.now.draft in
+    let P = timetable_of c.args.self.now in
+    let p = c.args.p in
+    let valid = c.args.inst.now.valid in
+    let plan = plan-fits I P c.args.self.now c.requires.stands in
+    let known = c.requires.write.0 in
+    let more = gain-within I P p c.args.to valid plan known (c.requires.write.1 c.args.to refl) in
+    let less = gain-within I P p c.args.from valid plan known (plan.placed p.0 c.args.from c.requires.stay) in
+    rw (c.surgery_gain-after.ensures, c.surgery_gain-before.ensures)
+    (subst (IsWithin (10 ^ 12)) (gains-apart I P p c.args.from c.args.to plan known c.requires.room c.requires.day) (less-within _ _ more less))
+
+pub returns : goal.returns
+returns c =
+    let I = c.args.inst.now.draft in
+    let P = timetable_of c.args.self.now in
+    let p = c.args.p in
+    let plan = plan-fits I P c.args.self.now c.requires.stands in
+    c.sub.ensures
+    ∙ (ap (λ b. sub_bills b c.surgery_gain-before.result) c.surgery_gain-after.ensures
+    ∙ (ap (sub_bills (of_surgery (placement_gain I P p c.args.to))) c.surgery_gain-before.ensures
+    ∙ (sym (gains-apart I P p c.args.from c.args.to plan c.requires.write.0 c.requires.room c.requires.day)
+    ∙ (ap (λ s. sub_bills (placement_gain I P p c.args.to) (stay_gain I P p s)) (sym c.requires.stay)
+    ∙ sym (two-stays I P p (Some c.args.to) c.args.inst.now.valid plan c.requires.write)))))
