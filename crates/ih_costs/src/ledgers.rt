@@ -10,7 +10,7 @@ use crate::rows::{play_in_row, play_in_row_noting};
 use ih_footprint::{CellList, CellSet, Numbering};
 use ih_moves::{Writes, expand};
 use ih_plan::{Members, Move, Plan, Write};
-use ih_tables::{Bill, Day, Instance, RoomNo};
+use ih_tables::{Bill, Cell, Day, Instance, RoomNo};
 use ih_validate::bill;
 use std::alloc::{AllocError, Global};
 use std::marker::Model;
@@ -46,7 +46,8 @@ impl<'a> Ledgers<'a> {
     ghost use Rattle.ih_plan.specs.Timetable.{IsPlanOf};
     ghost use Rattle.ih_plan.specs.Writes.{put, IsWriteOf};
     ghost use Rattle.ih_plan.specs.Expand.{after, IsMoveOf};
-    ghost use Rattle.ih_plan.specs.BillOf.{bill_of, change_of_bill};
+    ghost use Rattle.ih_plan.specs.BillOf.{as_bill, bill_of, change_of_bill};
+    ghost use Rattle.ih_plan.specs.Cells.{IsCellOf, part_at};
     ghost use Rattle.ih_plan.specs.Costs.{is_empty};
     ghost use Rattle.ih_plan.specs.Footprint.{footprint};
     ghost use Rattle.ih_plan.specs.Presence.{present};
@@ -90,6 +91,14 @@ impl<'a> Ledgers<'a> {
         ensures within { IsWithin (10 ^ 11) result }
     {
         bill(self.inst, self.cells.plan())
+    }
+
+    /// A cell's part of that bill: the parts of all cells sum to it, number by number.
+    pub fn part(&self, c: Cell) -> Bill
+        requires { IsCellOf self.now.instance c }
+        ensures { result ≡ as_bill (part_at self.now.instance self.now.plan c) }
+    {
+        self.cells.part(self.inst, c)
     }
 
     /// Makes the ledgers stand for a timetable, which fits the instance, in place of theirs. In time of the whole timetable.

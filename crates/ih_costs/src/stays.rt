@@ -1,4 +1,4 @@
-//! What another stay of a patient changes in what the stay costs by itself.
+//! What a stay of a patient costs by itself, and what another stay changes in it.
 
 ghost use Rattle.std.specs.Prelude.{◌≡◌, ◌<◌, ◌&&◌, not, is_none, pos, ◌-ℤ◌, IfSome};
 ghost use Rattle.ih_tables.specs.Bills.{sub_bills};
@@ -42,6 +42,28 @@ fn is_left(a: &Patient, stay: Option<Placement>) -> bool
     ensures { result ≡ (not a.now.mandatory && is_none stay) }
 {
     !a.mandatory && stay.is_none()
+}
+
+fn count(b: bool) -> i64
+    ensures { result ≡ pos (bit b) }
+{
+    if b { 1 } else { 0 }
+}
+
+/// What a stay of a patient, or none, costs by itself.
+pub fn stay_bill(a: &Patient, stay: Option<Placement>) -> Bill
+    requires { IfSome stay (λ at. at.day.0 < 56) }
+    ensures { result ≡ as_bill (stay_part a.now stay) }
+{
+    let bad = count(in_bad_room(a, stay));
+    let out = count(is_out(a, stay));
+    let outside = count(outside_window(a, stay));
+    let late = delay(a, stay) as i64;
+    let left = count(is_left(a, stay));
+    Bill {
+        v: [0, bad, 0, 0, out, outside, 0, 0, 0],
+        s: [0, 0, 0, 0, 0, 0, late, left],
+    }
 }
 
 /// What another stay of a patient, or none, changes in what the stay costs by itself.

@@ -1,0 +1,39 @@
+//! Each cell's part of the bill.
+
+ghost use Rattle.std.specs.Prelude.{◌≡◌, ◌<◌};
+ghost use Rattle.ih_tables.specs.Sizes.{patient_count};
+ghost use Rattle.ih_tables.specs.declared.cells.Cell.TheVariants.{Stay};
+ghost use Rattle.ih_plan.specs.BillOf.{as_bill};
+ghost use Rattle.ih_plan.specs.Cells.{IsCellOf, part_at};
+ghost use Rattle.ih_costs.specs.CellLedgers.{AreLedgers, timetable_of};
+
+use crate::cell_ledgers::CellLedgers;
+use crate::stays::stay_bill;
+use ih_tables::{Bill, Cell, Instance, PatientNo};
+
+impl CellLedgers {
+    fn stay_part(&self, inst: &Instance, p: PatientNo) -> Bill
+        requires stands { AreLedgers inst.now.draft self.now }
+        requires patient { p.0 < patient_count inst.now.draft }
+        ensures { result ≡ as_bill (part_at inst.now.draft (timetable_of self.now) (Stay p)) }
+    {
+        stay_bill(inst.patient(p), self.plan().stay(p))
+    }
+
+    /// A cell's part of the bill: the bills of all cells sum to that of the timetable.
+    pub fn part(&self, inst: &Instance, c: Cell) -> Bill
+        requires stands { AreLedgers inst.now.draft self.now }
+        requires cell { IsCellOf inst.now.draft c }
+        ensures { result ≡ as_bill (part_at inst.now.draft (timetable_of self.now) c) }
+    {
+        match c {
+            Cell::Stay(p) => self.stay_part(inst, p),
+            Cell::RoomDay(r, d) => self.room_days.cell_bill(inst, r, d),
+            Cell::TheatreDay(t, d) => self.theatres.theatre_bill(inst, t, d),
+            Cell::SurgeonDay(s, d) => self.theatres.surgeon_bill(inst, s, d),
+            Cell::RoomShift(r, k) => self.nurses.room_shift_bill(inst, r, k),
+            Cell::NurseShift(n, k) => self.nurses.nurse_shift_bill(inst, n, k),
+            Cell::Care(x) => self.nurses.care_bill(inst, x),
+        }
+    }
+}
