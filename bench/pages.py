@@ -55,11 +55,12 @@ def plan(inst):
 
 
 class Page(html.parser.HTMLParser):
-    """What a page has: its tags, the ids of elements, where links lead, and the rows of the summary."""
+    """What a page has: its tags, the ids of elements, where links lead, the rows of the summary, and the lists of what
+    is wrong, each with the words of its items."""
     def __init__(self):
         super().__init__(convert_charrefs=True)
         self.tags, self.ids, self.links, self.rows, self.text = {}, [], [], [], []
-        self.inside = None
+        self.inside, self.lists, self.words = None, {}, None
 
     def handle_starttag(self, tag, attrs):
         self.tags[tag] = self.tags.get(tag, 0) + 1
@@ -68,6 +69,11 @@ class Page(html.parser.HTMLParser):
             self.ids.append(given["id"])
         if tag == "a":
             self.links.append(given["href"])
+        if tag == "details":
+            self.lists[given["id"]] = []
+        if tag == "li":
+            self.words = list(self.lists.values())[-1]
+            self.words.append("")
         if tag == "table":
             self.inside = given.get("class")
         if tag == "tr" and self.inside == "s":
@@ -78,9 +84,13 @@ class Page(html.parser.HTMLParser):
     def handle_endtag(self, tag):
         if tag == "table":
             self.inside = None
+        if tag == "details":
+            self.words = None
 
     def handle_data(self, data):
         self.text.append(data)
+        if self.words:
+            self.words[-1] += data
         if self.inside == "s" and self.rows and self.rows[-1]:
             self.rows[-1][-1] += data.strip()
 
@@ -100,10 +110,18 @@ def read(inst, text):
     assert not lost, "links lead nowhere: %s" % lost[:5]
     lines = [row for row in page.rows if row and row[0][:1] in "VS" and row[0][1:].isdigit()]
     assert [row[0] for row in lines] == ["V%d" % i for i in range(1, 10)] + ["S%d" % i for i in range(1, 9)], lines
+    numbers = {row[0]: int(row[2]) for row in lines}
+    assert list(page.lists) == [name for name in numbers if numbers[name]], "a list is missing, or has nothing"
+    for name, items in page.lists.items():
+        said = [item.strip().rpartition(": ")[2].split(" ")[0] for item in items]
+        amounts = [int(word) if word.isdigit() else 1 for word in said]
+        assert sum(amounts) == numbers[name], "the amounts of %s don't sum to its number" % name
+        assert amounts == sorted(amounts, reverse=True), "the list of %s doesn't fall" % name
     known = {"html", "meta", "title", "style", "main", "h1", "h2", "h3", "p", "table", "tr", "th", "td", "div", "a", "i",
              "details", "summary", "ul", "li"}
     assert set(page.tags) <= known, set(page.tags) - known
-    print("persons %d, links %d, tags %d" % (persons, len(page.links), sum(page.tags.values())))
+    print("persons %d, links %d, tags %d, items of lists %d" % (persons, len(page.links), sum(page.tags.values()),
+                                                                sum(len(items) for items in page.lists.values())))
     for row in lines:
         print("  " + "  ".join(row))
 

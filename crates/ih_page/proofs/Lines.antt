@@ -1,5 +1,5 @@
 -- A text of n pieces behind another.
-use Rattle.std.proofs.Common.{◌≡◌, ℕ, ◌+◌, ◌∙◌, sym, ap, append_assoc, refl, add-one, List, [], ◌++◌}
+use Rattle.std.proofs.Common.{◌≡◌, ℕ, ◌+◌, sym, append_assoc, add-one, List, ◌++◌}
 use Rattle.std.proofs.lemmas.List.{append-nil}
 use Rattle.ih_validate.specs.Report.{lines_below}
 

@@ -1,7 +1,14 @@
 -- Laws of pages.
-use Rattle.std.specs.Prelude.{ℕ, ◌≡◌, ◌==◌, ◌||◌, not, Bool, true, List}
+use Rattle.std.specs.Prelude.{ℕ, ◌≡◌, ◌==◌, ◌||◌, not, pos, Bool, true, List, slice_index, sum_by}
 use Rattle.std.specs.List.{AllByRecursion}
+use Rattle.ih_tables.specs.declared.drafts.Draft.{Draft}
+use Rattle.ih_plan.specs.Timetable.{Timetable}
+use Rattle.ih_plan.specs.BillOf.{bill_of}
+use Rattle.ih_page.specs.declared.bill_lines.Line.{Line}
 use Rattle.ih_page.specs.Html.{escaped}
+use Rattle.ih_page.specs.BillLines.{IsLine, number_in}
+use Rattle.ih_page.specs.Order.{dearest_first}
+use Rattle.ih_page.specs.Wrong.{amounts}
 
 -- a byte that is none of < > " and '
 abbrev pub is_plain : ℕ → Bool
@@ -10,3 +17,11 @@ is_plain b = not (b == 60 || (b == 62 || (b == 34 || b == 39)))
 -- a text from a file has only such bytes as it stands in a page
 abbrev pub NamesHaveNoTags : Type 0
 NamesHaveNoTags = (name : List ℕ) → AllByRecursion (λ b. is_plain b ≡ true) (escaped name)
+
+-- the amounts of the cells that a line's list has, summed
+abbrev pub listed_sum : Draft → Timetable → Line → ℕ
+listed_sum I P l = sum_by (slice_index (amounts I P l)) (dearest_first (amounts I P l))
+
+-- The amounts of a list sum to the number of its line in the report.
+abbrev pub ListsSum : Draft → Timetable → Type 0
+ListsSum I P = (l : Line) → IsLine l → pos (listed_sum I P l) ≡ number_in (bill_of I P) l

@@ -4,5 +4,9 @@ pub mod LeftOut
 pub mod Rooms
 pub mod Surgery
 pub mod Nursing
+pub mod BillLines
+pub mod Order
+pub mod CellNames
+pub mod Wrong
 pub mod Page
 pub mod Laws

@@ -1,9 +1,9 @@
 -- The head of a page: whether the timetable is feasible, its cost, and the seventeen numbers.
-use Rattle.std.specs.Prelude.{ℕ, suc, ◌+◌, ℤ, ◌*ℤ◌, Bool, true, false, List, [], ◌++◌, ◌==◌, codes, decimal, if◌then◌else◌}
+use Rattle.std.specs.Prelude.{ℕ, ◌+◌, ℤ, ◌*ℤ◌, Bool, true, false, List, ◌++◌, ◌==◌, codes, decimal, if◌then◌else◌}
 use Rattle.std.specs.Fmt.{signed_decimal}
 use Rattle.ih_tables.specs.declared.bills.Bill.{Bill}
 use Rattle.ih_tables.specs.declared.bills.Weights.{Weights}
-use Rattle.ih_tables.specs.Bills.{at, cost, feasible}
+use Rattle.ih_tables.specs.Bills.{at, cost, feasible, is_zero}
 use Rattle.ih_validate.specs.Report.{lines_below}
 
 -- what hard rule i counts
@@ -27,9 +27,17 @@ cost_name i =
 unfoldable pub line_text : List ℕ → ℕ → List ℕ
 line_text letter i = letter ++ decimal (i + 1)
 
+-- the same, as a link to the line's list
+unfoldable pub line_link : List ℕ → ℕ → List ℕ
+line_link letter i = codes "<a href=#" ++ (line_text letter i ++ (codes ">" ++ (line_text letter i ++ codes "</a>")))
+
+-- as a link where the number isn't 0
+abbrev pub line_name : List ℕ → ℕ → ℤ → List ℕ
+line_name letter i x = if is_zero x then line_text letter i else line_link letter i
+
 -- a line's name, and what it counts
-unfoldable pub line_head : List ℕ → ℕ → List ℕ → List ℕ
-line_head letter i name = codes "<tr><th>" ++ (line_text letter i ++ (codes "<td>" ++ name))
+unfoldable pub line_head : List ℕ → ℕ → List ℕ → ℤ → List ℕ
+line_head letter i name x = codes "<tr><th>" ++ (line_name letter i x ++ (codes "<td>" ++ name))
 
 -- a weight and the product
 unfoldable pub product_text : ℤ → ℤ → List ℕ
@@ -41,11 +49,11 @@ hard_text = codes "<td>hard rule<td>\n"
 
 -- a hard rule's row: its number is to be 0
 abbrev pub rule_row : ℕ → ℤ → List ℕ
-rule_row i x = line_head (codes "V") i (rule_name i) ++ (codes "<td>" ++ (signed_decimal x ++ hard_text))
+rule_row i x = line_head (codes "V") i (rule_name i) x ++ (codes "<td>" ++ (signed_decimal x ++ hard_text))
 
 -- a cost's row: its number, its weight and their product
 abbrev pub cost_row : ℕ → ℤ → ℤ → List ℕ
-cost_row i x w = line_head (codes "S") i (cost_name i) ++ (codes "<td>" ++ (signed_decimal x ++ (codes "<td>" ++ product_text x w)))
+cost_row i x w = line_head (codes "S") i (cost_name i) x ++ (codes "<td>" ++ (signed_decimal x ++ (codes "<td>" ++ product_text x w)))
 
 abbrev pub verdict_text : Bool → List ℕ
 verdict_text true = codes "<h1>Feasible timetable</h1>\n"

@@ -1,17 +1,21 @@
 //! A timetable as a page to look at: one text of HTML that stands alone.
 #![tactic(auto)]
 
+mod bill_lines;
+mod cell_names;
 mod laws;
 mod left_out;
 mod loads;
 mod names;
 mod nursing;
+mod order;
 mod pages;
 mod presence;
 mod rooms;
 mod summaries;
 mod surgery;
 mod texts;
+mod wrong;
 
-pub use laws::names_have_no_tags;
+pub use laws::{lists_sum, names_have_no_tags};
 pub use pages::page;

@@ -10,6 +10,7 @@ use crate::rooms::put_rooms;
 use crate::summaries::put_summary;
 use crate::surgery::{put_surgeons, put_theatres};
 use crate::texts::put;
+use crate::wrong::put_wrong;
 use ih_plan::Plan;
 use ih_tables::Instance;
 use ih_validate::bill;
@@ -36,7 +37,9 @@ tr>th:first-child{position:sticky;left:0;background:var(--bg)}\n\
 .o .b{background:none;color:inherit;border:2px dashed var(--bar)}\n\
 .x{font-weight:bold;outline:2px solid var(--bad);outline-offset:-2px}\n\
 i{display:block;height:4px;background:var(--bar)}\n\
-ul{columns:20em}\n\
+ul{columns:20em;margin:.3rem 0}\n\
+li{break-inside:avoid}\n\
+summary{font-weight:bold}\n\
 :target{outline:3px solid var(--bad)}\n\
 @media(max-width:600px){body{font-size:12px;margin:.5rem}}\n\
 @media print{body{font-size:7pt;margin:0}div{overflow:visible}h2,h3{break-after:avoid}tr{break-inside:avoid}.b,i{print-color-adjust:exact}}\n\
@@ -65,7 +68,9 @@ pub fn page(alloc: Global, inst: &Instance, plan: &Plan) -> Result<Vec<u8>, Allo
 {
     let mut out = Vec::new(alloc);
     put_opening(&mut out)?;
-    put_summary(&mut out, inst, &bill(inst, plan))?;
+    let bill = bill(inst, plan);
+    put_summary(&mut out, inst, &bill)?;
+    put_wrong(alloc, &mut out, inst, plan, &bill)?;
     put_tables(&mut out, inst, plan)?;
     put(&mut out, "</main>\n")?;
     Ok(out)

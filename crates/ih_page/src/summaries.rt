@@ -3,7 +3,7 @@
 ghost use Rattle.std.specs.Prelude.{◌≡◌, ◌<◌, ◌≤◌, ◌≤ℤ◌, ◌*ℤ◌, ◌^◌, ◌++◌, ℕ, pos, neg_ℤ, OnOk, length};
 ghost use Rattle.ih_tables.specs.Bills.{at, AreWithin, IsWithin};
 ghost use Rattle.ih_validate.specs.Report.{lines_below};
-ghost use Rattle.ih_page.specs.Summary.{rule_name, cost_name, line_text, line_head, product_text, hard_text, rule_row, cost_row, rule_rows, cost_rows, verdict_text, verdict_of, summary};
+ghost use Rattle.ih_page.specs.Summary.{rule_name, cost_name, line_text, line_link, line_name, line_head, product_text, hard_text, rule_row, cost_row, rule_rows, cost_rows, verdict_text, verdict_of, summary};
 
 use crate::texts::{put, put_number, put_signed};
 use ih_tables::{Bill, Instance};
@@ -54,13 +54,43 @@ pub fn put_line(out: &mut Vec<u8>, letter: &str, i: usize) -> Result<(), AllocEr
     put_number(out, i as u64 + 1)
 }
 
-#[tactic(auto, unfolding(crate::specs::Summary::line_head))]
-fn put_head(out: &mut Vec<u8>, letter: &str, i: usize, name: &str) -> Result<(), AllocError>
+#[tactic(auto, unfolding(crate::specs::Summary::line_link))]
+fn put_line_link(out: &mut Vec<u8>, letter: &str, i: usize) -> Result<(), AllocError>
     requires { i < 9 }
-    ensures { OnOk result (out.new.items ≡ out.old.items ++ line_head letter.now i name.now) }
+    ensures { OnOk result (out.new.items ≡ out.old.items ++ line_link letter.now i) }
+{
+    put(out, "<a href=#")?;
+    put_line(out, letter, i)?;
+    put(out, ">")?;
+    put_line(out, letter, i)?;
+    put(out, "</a>")
+}
+
+// The name leads to the line's list, where there is one.
+fn put_line_name(out: &mut Vec<u8>, letter: &str, i: usize, x: i64) -> Result<(), AllocError>
+    requires { i < 9 }
+    ensures { OnOk result (out.new.items ≡ out.old.items ++ line_name letter.now i x) }
+{
+    if x == 0 {
+        put_line(out, letter, i)
+    } else {
+        put_line_link(out, letter, i)
+    }
+}
+
+#[tactic(auto, unfolding(crate::specs::Summary::line_head))]
+fn put_head(
+    out: &mut Vec<u8>,
+    letter: &str,
+    i: usize,
+    name: &str,
+    x: i64,
+) -> Result<(), AllocError>
+    requires { i < 9 }
+    ensures { OnOk result (out.new.items ≡ out.old.items ++ line_head letter.now i name.now x) }
 {
     put(out, "<tr><th>")?;
-    put_line(out, letter, i)?;
+    put_line_name(out, letter, i, x)?;
     put(out, "<td>")?;
     put(out, name)
 }
@@ -76,7 +106,7 @@ fn put_rule(out: &mut Vec<u8>, i: usize, x: i64) -> Result<(), AllocError>
     requires { i < 9 }
     ensures { OnOk result (out.new.items ≡ out.old.items ++ rule_row i x) }
 {
-    put_head(out, "V", i, rule_name(i))?;
+    put_head(out, "V", i, rule_name(i), x)?;
     put(out, "<td>")?;
     put_signed(out, x)?;
     put(out, hard_text())
@@ -114,7 +144,7 @@ fn put_cost(out: &mut Vec<u8>, i: usize, x: i64, w: i64) -> Result<(), AllocErro
     requires weight_high { w ≤ℤ pos 100000 }
     ensures { OnOk result (out.new.items ≡ out.old.items ++ cost_row i x w) }
 {
-    put_head(out, "S", i, cost_name(i))?;
+    put_head(out, "S", i, cost_name(i), x)?;
     put(out, "<td>")?;
     put_signed(out, x)?;
     put(out, "<td>")?;

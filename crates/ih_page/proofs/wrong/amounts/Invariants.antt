@@ -1,0 +1,10 @@
+use Rattle.std.proofs.Common.{◌≡◌, ℕ, map, length}
+use Rattle.std.specs.List.{range_with_len}
+use Rattle.ih_plan.specs.Cells.{cell_at, part_at}
+use Rattle.ih_page.specs.BillLines.{count_in}
+use Rattle.ih_page.proofs.wrong.amounts.Given as goal
+
+abbrev pub invariant-loop-n : goal.invariant-loop-n
+invariant-loop-n l =
+    (l.found.items ≡ map (λ (n : ℕ). count_in (part_at l.inst.draft l.ledgers.plan (cell_at l.inst.draft n)) l.line) (range_with_len 0 l.n))
+    × (length l.found.items ≡ l.n)

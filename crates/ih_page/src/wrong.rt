@@ -1,0 +1,296 @@
+//! What is wrong, and where.
+
+ghost use Rattle.std.specs.Prelude.{◌≡◌, ◌<◌, ◌^◌, ◌++◌, OnOk, IfOk, All, length};
+ghost use Rattle.ih_tables.specs.Sizes.{patient_count};
+ghost use Rattle.ih_plan.specs.Timetable.{IsPlanOf, stay_of};
+ghost use Rattle.ih_plan.specs.BillOf.{bill_of};
+ghost use Rattle.ih_plan.specs.Cells.{IsCellOf, cell_at, cell_count, part_at};
+ghost use Rattle.ih_validate.specs.Report.{lines_below};
+ghost use Rattle.ih_page.specs.declared.bill_lines.Line.TheVariants.{Rule, Cost};
+ghost use Rattle.ih_page.specs.BillLines.{IsLine, count_in};
+ghost use Rattle.ih_page.specs.Wrong.{amounts, before_release, is_early, cell_link, item, items_of, list_name, list_head, list_of, list_if_any, line_list, wrong_text};
+
+use crate::cell_names::{put_cell, put_cell_place};
+use crate::bill_lines::{
+    Line, full_name, magnitude, number_in, put_amount, put_fold, put_short_name,
+};
+use crate::order::dearest_first;
+use crate::texts::{put, put_signed};
+use ih_costs::Ledgers;
+use ih_footprint::Numbering;
+use ih_plan::Plan;
+use ih_tables::{Bill, Cell, Instance, PatientNo};
+use std::alloc::{AllocError, Global};
+
+// How much of the line's number the cell has.
+fn amount(inst: &Instance, ledgers: &Ledgers<'_>, line: Line, c: Cell) -> u64
+    requires same { ledgers.now.instance ≡ inst.now.draft }
+    requires cell { IsCellOf inst.now.draft c }
+    requires line { IsLine line }
+    ensures { result ≡ count_in (part_at inst.now.draft ledgers.now.plan c) line }
+{
+    magnitude(&ledgers.part(c), line)
+}
+
+// How much of the line's number the cells have, in the order of the cells.
+#[tactic(auto, unfolding(crate::specs::Wrong::amounts))]
+fn amounts(
+    alloc: Global,
+    inst: &Instance,
+    ledgers: &Ledgers<'_>,
+    line: Line,
+) -> Result<Vec<u64>, AllocError>
+    requires same { ledgers.now.instance ≡ inst.now.draft }
+    requires line { IsLine line }
+    ensures value { IfOk result (λ v. v.items ≡ amounts inst.now.draft ledgers.now.plan line) }
+    ensures count { IfOk result (λ v. length v.items ≡ cell_count inst.now.draft) }
+    ensures few { IfOk result (λ v. length v.items < 2 ^ 32) }
+{
+    let cells = Numbering::of(inst);
+    let mut found = Vec::new(alloc);
+    for n in 0..cells.count() {
+        found.push(amount(inst, ledgers, line, cells.cell(n)))?;
+    }
+    Ok(found)
+}
+
+fn before_release(inst: &Instance, plan: &Plan, p: PatientNo) -> bool
+    requires plan { IsPlanOf inst.now.draft plan.now }
+    requires patient { p.0 < patient_count inst.now.draft }
+    ensures { result ≡ before_release inst.now.draft p.0 (stay_of plan.now p.0) }
+{
+    match plan.stay(p) {
+        None => false,
+        Some(at) => at.day.0 < inst.patient(p).surgery_release_day,
+    }
+}
+
+fn is_early(inst: &Instance, plan: &Plan, c: Cell) -> bool
+    requires plan { IsPlanOf inst.now.draft plan.now }
+    requires cell { IsCellOf inst.now.draft c }
+    ensures { result ≡ is_early inst.now.draft plan.now c }
+{
+    match c {
+        Cell::Stay(p) => before_release(inst, plan, p),
+        Cell::RoomDay(..) => false,
+        Cell::TheatreDay(..) => false,
+        Cell::SurgeonDay(..) => false,
+        Cell::RoomShift(..) => false,
+        Cell::NurseShift(..) => false,
+        Cell::Care(_) => false,
+    }
+}
+
+#[tactic(auto, unfolding(crate::specs::Wrong::cell_link))]
+fn put_link(out: &mut Vec<u8>, inst: &Instance, c: Cell) -> Result<(), AllocError>
+    requires { IsCellOf inst.now.draft c }
+    ensures { OnOk result (out.new.items ≡ out.old.items ++ cell_link inst.now.draft c) }
+{
+    put(out, "<li><a href=#")?;
+    put_cell_place(out, c)?;
+    put(out, ">")?;
+    put_cell(out, inst, c)?;
+    put(out, "</a>: ")
+}
+
+#[tactic(auto, unfolding(crate::specs::Wrong::item))]
+fn put_item(
+    out: &mut Vec<u8>,
+    inst: &Instance,
+    plan: &Plan,
+    line: Line,
+    c: Cell,
+    x: u64,
+) -> Result<(), AllocError>
+    requires plan { IsPlanOf inst.now.draft plan.now }
+    requires cell { IsCellOf inst.now.draft c }
+    ensures { OnOk result (out.new.items ≡ out.old.items ++ item inst.now.draft plan.now line c x) }
+{
+    put_link(out, inst, c)?;
+    put_amount(out, line, is_early(inst, plan, c), x)?;
+    put(out, "\n")
+}
+
+#[tactic(auto, unfolding(crate::specs::Wrong::items_of))]
+fn put_items(
+    out: &mut Vec<u8>,
+    inst: &Instance,
+    plan: &Plan,
+    line: Line,
+    xs: &[u64],
+    order: &[u32],
+) -> Result<(), AllocError>
+    requires plan { IsPlanOf inst.now.draft plan.now }
+    requires all { length xs.now ≡ cell_count inst.now.draft }
+    requires inside { All (λ n. n < length xs.now) order.now }
+    ensures { OnOk result (out.new.items ≡ out.old.items ++ items_of inst.now.draft plan.now line xs.now order.now) }
+{
+    let cells = Numbering::of(inst);
+    for n in order {
+        put_item(out, inst, plan, line, cells.cell(*n), xs[*n as usize])?;
+    }
+    Ok(())
+}
+
+#[tactic(auto, unfolding(crate::specs::Wrong::list_name))]
+fn put_list_name(out: &mut Vec<u8>, bill: &Bill, line: Line) -> Result<(), AllocError>
+    requires { IsLine line }
+    ensures { OnOk result (out.new.items ≡ out.old.items ++ list_name bill.now line) }
+{
+    put_short_name(out, line)?;
+    put(out, " ")?;
+    put(out, full_name(line))?;
+    put(out, ": ")?;
+    put_signed(out, number_in(bill, line))
+}
+
+#[tactic(auto, unfolding(crate::specs::Wrong::list_head))]
+fn put_list_head(out: &mut Vec<u8>, bill: &Bill, line: Line) -> Result<(), AllocError>
+    requires { IsLine line }
+    ensures { OnOk result (out.new.items ≡ out.old.items ++ list_head bill.now line) }
+{
+    put_fold(out, line)?;
+    put_short_name(out, line)?;
+    put(out, "><summary>")?;
+    put_list_name(out, bill, line)?;
+    put(out, "</summary><ul>\n")
+}
+
+#[tactic(auto, unfolding(crate::specs::Wrong::list_of))]
+fn put_list(
+    out: &mut Vec<u8>,
+    inst: &Instance,
+    plan: &Plan,
+    bill: &Bill,
+    line: Line,
+    xs: &[u64],
+    order: &[u32],
+) -> Result<(), AllocError>
+    requires plan { IsPlanOf inst.now.draft plan.now }
+    requires line { IsLine line }
+    requires all { length xs.now ≡ cell_count inst.now.draft }
+    requires inside { All (λ n. n < length xs.now) order.now }
+    ensures { OnOk result (out.new.items ≡ out.old.items ++ list_of inst.now.draft plan.now bill.now line xs.now order.now) }
+{
+    put_list_head(out, bill, line)?;
+    put_items(out, inst, plan, line, xs, order)?;
+    put(out, "</ul></details>\n")
+}
+
+fn put_list_if_any(
+    out: &mut Vec<u8>,
+    inst: &Instance,
+    plan: &Plan,
+    bill: &Bill,
+    line: Line,
+    xs: &[u64],
+    order: &[u32],
+) -> Result<(), AllocError>
+    requires plan { IsPlanOf inst.now.draft plan.now }
+    requires line { IsLine line }
+    requires all { length xs.now ≡ cell_count inst.now.draft }
+    requires inside { All (λ n. n < length xs.now) order.now }
+    ensures { OnOk result (out.new.items ≡ out.old.items ++ list_if_any inst.now.draft plan.now bill.now line xs.now order.now) }
+{
+    if order.is_empty() {
+        Ok(())
+    } else {
+        put_list(out, inst, plan, bill, line, xs, order)
+    }
+}
+
+// The list of a line of the report.
+fn put_line_list(
+    alloc: Global,
+    out: &mut Vec<u8>,
+    inst: &Instance,
+    ledgers: &Ledgers<'_>,
+    bill: &Bill,
+    line: Line,
+) -> Result<(), AllocError>
+    requires same { ledgers.now.instance ≡ inst.now.draft }
+    requires bill { bill.now ≡ bill_of inst.now.draft ledgers.now.plan }
+    requires line { IsLine line }
+    ensures { OnOk result (out.new.items ≡ out.old.items ++ line_list inst.now.draft ledgers.now.plan line) }
+{
+    let xs = amounts(alloc, inst, ledgers, line)?;
+    let order = dearest_first(alloc, xs.as_slice())?;
+    put_list_if_any(
+        out,
+        inst,
+        ledgers.plan(),
+        bill,
+        line,
+        xs.as_slice(),
+        order.as_slice(),
+    )
+}
+
+#[tactic(auto, using(crate::proofs::Lines::text_steps))]
+fn put_rule_lists(
+    alloc: Global,
+    out: &mut Vec<u8>,
+    inst: &Instance,
+    ledgers: &Ledgers<'_>,
+    bill: &Bill,
+) -> Result<(), AllocError>
+    requires same { ledgers.now.instance ≡ inst.now.draft }
+    requires bill { bill.now ≡ bill_of inst.now.draft ledgers.now.plan }
+    ensures { OnOk result (out.new.items ≡ out.old.items ++ lines_below 9 (λ i. line_list inst.now.draft ledgers.now.plan (Rule i))) }
+{
+    for i in 0..9 {
+        put_line_list(alloc, out, inst, ledgers, bill, Line::Rule(i))?;
+    }
+    Ok(())
+}
+
+#[tactic(auto, using(crate::proofs::Lines::text_steps))]
+fn put_cost_lists(
+    alloc: Global,
+    out: &mut Vec<u8>,
+    inst: &Instance,
+    ledgers: &Ledgers<'_>,
+    bill: &Bill,
+) -> Result<(), AllocError>
+    requires same { ledgers.now.instance ≡ inst.now.draft }
+    requires bill { bill.now ≡ bill_of inst.now.draft ledgers.now.plan }
+    ensures { OnOk result (out.new.items ≡ out.old.items ++ lines_below 8 (λ i. line_list inst.now.draft ledgers.now.plan (Cost i))) }
+{
+    for i in 0..8 {
+        put_line_list(alloc, out, inst, ledgers, bill, Line::Cost(i))?;
+    }
+    Ok(())
+}
+
+#[tactic(auto, unfolding(crate::specs::Wrong::wrong_text))]
+fn put_lists(
+    alloc: Global,
+    out: &mut Vec<u8>,
+    inst: &Instance,
+    ledgers: &Ledgers<'_>,
+    bill: &Bill,
+) -> Result<(), AllocError>
+    requires same { ledgers.now.instance ≡ inst.now.draft }
+    requires bill { bill.now ≡ bill_of inst.now.draft ledgers.now.plan }
+    ensures { OnOk result (out.new.items ≡ out.old.items ++ wrong_text inst.now.draft ledgers.now.plan) }
+{
+    put(out, "<h2 id=wrong>What is wrong, and where</h2>\n")?;
+    put_rule_lists(alloc, out, inst, ledgers, bill)?;
+    put_cost_lists(alloc, out, inst, ledgers, bill)
+}
+
+/// Appends the lists of what is wrong, and where.
+pub fn put_wrong(
+    alloc: Global,
+    out: &mut Vec<u8>,
+    inst: &Instance,
+    plan: &Plan,
+    bill: &Bill,
+) -> Result<(), AllocError>
+    requires plan { IsPlanOf inst.now.draft plan.now }
+    requires bill { bill.now ≡ bill_of inst.now.draft plan.now }
+    ensures { OnOk result (out.new.items ≡ out.old.items ++ wrong_text inst.now.draft plan.now) }
+{
+    let ledgers = Ledgers::new(alloc, inst, plan)?;
+    put_lists(alloc, out, inst, &ledgers, bill)
+}
