@@ -157,6 +157,7 @@ impl Theatres {
 
     /// How much more a placement's theatre breaks and costs on the day of admission with the patient there than
     /// without, whose stay is `old` so far.
+    #[inline(always)]
     pub fn theatre_gain(
         &self,
         inst: &Instance,
@@ -184,6 +185,7 @@ impl Theatres {
 
     /// How much more the patient's surgeon breaks and costs on a placement's day of admission with the patient there
     /// than without, whose stay is `old` so far.
+    #[inline(always)]
     pub fn surgeon_gain(
         &self,
         inst: &Instance,
