@@ -60,5 +60,5 @@ module _ (I : Draft) (P : Timetable) where
   lists-sum l h =
       let xs = amounts I P l in
       let each : sum_below (cell_count I) (slice_index xs) ≡ sum_below (cell_count I) (amount_of l)
-        = sum_below-same (cell_count I) (slice_index xs) (amount_of l) (amounts-each l) in
+      = sum_below-same (cell_count I) (slice_index xs) (amount_of l) (amounts-each l) in
       ap pos (dearest-sum xs ∙ (ap (λ n. sum_below n (slice_index xs)) (amounts-length l) ∙ each)) ∙ line-sum l h

@@ -79,13 +79,7 @@ fn put_line_name(out: &mut Vec<u8>, letter: &str, i: usize, x: i64) -> Result<()
 }
 
 #[tactic(auto, unfolding(crate::specs::Summary::line_head))]
-fn put_head(
-    out: &mut Vec<u8>,
-    letter: &str,
-    i: usize,
-    name: &str,
-    x: i64,
-) -> Result<(), AllocError>
+fn put_head(out: &mut Vec<u8>, letter: &str, i: usize, name: &str, x: i64) -> Result<(), AllocError>
     requires { i < 9 }
     ensures { OnOk result (out.new.items ≡ out.old.items ++ line_head letter.now i name.now x) }
 {

@@ -10,10 +10,10 @@ ghost use Rattle.ih_page.specs.declared.bill_lines.Line.TheVariants.{Rule, Cost}
 ghost use Rattle.ih_page.specs.BillLines.{IsLine, count_in};
 ghost use Rattle.ih_page.specs.Wrong.{amounts, before_release, is_early, cell_link, item, items_of, list_name, list_head, list_of, list_if_any, line_list, wrong_text};
 
-use crate::cell_names::{put_cell, put_cell_place};
 use crate::bill_lines::{
     Line, full_name, magnitude, number_in, put_amount, put_fold, put_short_name,
 };
+use crate::cell_names::{put_cell, put_cell_place};
 use crate::order::dearest_first;
 use crate::texts::{put, put_signed};
 use ih_costs::Ledgers;

@@ -136,7 +136,7 @@ fn every_attempt_beside_another(rt: HostRuntime) {
     assert!(rt; replays_alike(&rt, alloc, STARTED, &mut shelf, &out));
 }
 
-// The same with a try more: worker 0 looks again, and its move is then accepted.
+// The same with a try more: worker 0 takes over what was new by its stale offer, and its move is then accepted.
 #[test]
 fn a_stale_move_is_tried_again(rt: HostRuntime) {
     let alloc = rt.alloc();
