@@ -106,7 +106,8 @@ def read(inst, text):
             counts[int(name[1:])] += 1
     assert all(n == 1 for n in counts.values()), "a person's row is missing or stands twice"
     assert len(set(page.ids)) == len(page.ids), "an id stands twice"
-    lost = sorted({link for link in page.links if link[1:] not in set(page.ids)})
+    places = set(page.ids)
+    lost = sorted({link for link in page.links if link[1:] not in places})
     assert not lost, "links lead nowhere: %s" % lost[:5]
     lines = [row for row in page.rows if row and row[0][:1] in "VS" and row[0][1:].isdigit()]
     assert [row[0] for row in lines] == ["V%d" % i for i in range(1, 10)] + ["S%d" % i for i in range(1, 9)], lines
