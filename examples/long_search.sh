@@ -3,8 +3,8 @@
 #   examples/long_search.sh [--keep FOLDER] INSTANCE OUT SECONDS [WORKERS]
 # Each step makes WORKERS searches of one worker side by side (default: one for each processor) and goes on from the cheapest of their
 # timetables. The heat falls from HOT to COLD over the whole time; every search has a seed of its own. OUT always holds the best timetable so
-# far, so an interrupt loses nothing. The journal of each step's winner is replayed before its timetable counts, and then dropped; with --keep
-# it stays in FOLDER, beside the timetable that it starts from.
+# far, so an interrupt loses nothing. The journal of each step's winner is replayed beside the next step, before its timetable counts, and then
+# dropped; with --keep it stays in FOLDER, beside the timetable that it starts from.
 # By environment: IH (the program), HARD (the weight of a broken rule, 100000), HOT (60), COLD (3), SEED (1), START (a solution to begin with).
 set -u
 top=$(cd "$(dirname "$0")/.." && pwd)
@@ -34,7 +34,39 @@ trap 'trap "" INT TERM; kill $(jobs -p) 2>/dev/null; wait; say "interrupted: $(h
 passed() { awk -v a="$begun" -v b="$(date +%s.%N)" 'BEGIN { printf "%.3f", b - a }'; }
 held() { if [ -n "$best" ]; then echo "$out holds the best timetable so far, cost $best"; else echo "no feasible timetable was found, and $out is as it was"; fi; }
 
-best= step=0 moves=20000
+# Begins to replay a winner's journal: its timetable is a claim until that has ended well.
+claim() {
+  cp "$work/$winner.json" "$work/claim.json" && mv "$work/$winner.journal" "$work/claim.journal" || exit 1
+  given=(--fill)
+  [ -z "$start" ] || { cp "$start" "$work/claim.start.json"; given=(--start "$work/claim.start.json"); }
+  claimed=$won claim_step=$step claim_heat=$heat claim_moves=$moves
+  "$program" replay "$instance" "$work/claim.journal" "$work/again.json" "${given[@]}" >"$work/again.report" 2>&1 &
+  checking=$!
+}
+
+# Waits for that replay, if one runs, and puts the timetable into OUT.
+settle() {
+  [ -n "$checking" ] || return 0
+  if ! wait "$checking" || ! cmp -s "$work/claim.json" "$work/again.json"; then
+    checking=
+    say "step $claim_step: the winner's journal doesn't replay to its timetable: $(head -n 1 "$work/again.report")"
+    kill $(jobs -p) 2>/dev/null
+    exit 1
+  fi
+  checking=
+  if [ -n "$keep" ]; then
+    [ ! -f "$work/claim.start.json" ] || cp "$work/claim.start.json" "$keep/$claim_step.start.json"
+    cp "$work/claim.journal" "$keep/$claim_step.journal"
+  fi
+  # a copy beside OUT, moved into its place in one step
+  cp "$work/claim.json" "$out.part" && mv "$out.part" "$out" || { say "cannot write $out"; exit 1; }
+  best=$claimed
+  awk -v t="$(passed)" -v all="$seconds" -v c="$best" -v a="$(LC_ALL=C grep -c ' accepted$' "$work/claim.journal")" -v m="$claim_moves" \
+    -v h="$claim_heat" \
+    'BEGIN { printf "%7.1f s  cost %-9d heat %-4d accepted %d of %d, %.1f s left\n", t, c, h, a, m, (all > t ? all - t : 0) }'
+}
+
+best= checking= step=0 moves=20000
 while :; do
   now=$(passed)
   # what share of the time is over, and so which heat; a step in which nothing fits any more ends the search
@@ -60,27 +92,16 @@ while :; do
   done
   [ $failed -lt $workers ] || { say "no search of this step ended well; $(held)"; exit 1; }
   took=$(awk -v a="$now" -v b="$(passed)" 'BEGIN { printf "%.3f", b - a }')
+  settle
   if [ -n "$winner" ]; then
-    if ! "$program" replay "$instance" "$work/$winner.journal" "$work/again.json" "${from[@]}" >"$work/again.report" 2>&1 \
-      || ! cmp -s "$work/$winner.json" "$work/again.json"; then
-      say "step $step: the winner's journal doesn't replay to its timetable: $(head -n 1 "$work/again.report")"
-      exit 1
-    fi
-    if [ -n "$keep" ]; then
-      [ -z "$start" ] || cp "$start" "$keep/$step.start.json"
-      cp "$work/$winner.journal" "$keep/$step.journal"
-    fi
-    accepted=$(LC_ALL=C grep -c ' accepted$' "$work/$winner.journal")
-    # a copy beside OUT, moved into its place in one step
-    cp "$work/$winner.json" "$out.part" && mv "$out.part" "$out" || { say "cannot write $out"; exit 1; }
-    cp "$work/$winner.json" "$work/best.json"
-    start=$work/best.json best=$won
-    awk -v t="$(passed)" -v all="$seconds" -v c="$best" -v a="$accepted" -v m=$moves -v h="$heat" \
-      'BEGIN { printf "%7.1f s  cost %-9d heat %-4d accepted %d of %d, %.1f s left\n", t, c, h, a, m, (all > t ? all - t : 0) }'
+    claim
+    # the next step goes on from there while the journal is replayed
+    cp "$work/claim.json" "$work/next.json"
+    start=$work/next.json
   else
     awk -v t="$(passed)" -v all="$seconds" 'BEGIN { printf "%7.1f s  no feasible timetable yet, %.1f s left\n", t, (all > t ? all - t : 0) }'
   fi
-  rm -f "$work"/*.journal "$work"/*.report
+  rm -f "$work"/[0-9]*.journal "$work"/[0-9]*.report
   step=$((step + 1))
   # as many moves as make some forty steps of the whole time, and no more than fit into what is left of it
   moves=$(awk -v m=$moves -v took="$took" -v t="$(passed)" -v all="$seconds" 'BEGIN {
@@ -88,5 +109,6 @@ while :; do
     n = m * aim / (took > 0.001 ? took : 0.001); if (n > 1000000) n = 1000000; if (n < 1000) n = 1000
     printf "%d", n }')
 done
+settle
 say "$(held)"
 [ -n "$best" ] || exit 5
