@@ -30,30 +30,47 @@ all_left (v ∷ vs) = v.left + all_left vs
 module _ {B E D : Type 0} (entries : B → List E) (base : B → D) (maker : E → ℕ) (opening : B) (seats turns : ℕ) where
   -- what the seat that steps with the view i knows, of the list that is kept and of who has each number
   pub record Knows (kept : List E) (owner : ℕ → maybe.Option ℕ) (i : ℕ) (v : View E D) : Type 0 where
+    -- the base and the first length are those that the turn was made with
     pub based : v.base ≡ Some (base opening)
     pub started : v.start ≡ length (entries opening)
+    -- the list has only grown since
     pub long : v.start ≤ length v.seen
+    -- the seat's number is its own
     pub numbered : v.number < seats
     pub owned : owner v.number ≡ maybe.some i
+    -- the kept list begins with what the seat has seen, and what follows isn't the seat's
     pub seen : Follows maker v.number kept v.seen
+    -- so it is with each seat that this one has taken in
     pub takes_in : (k : ℕ) (t : ℕ × List E) → get_elem? v.joined k ≡ maybe.some t → (t.0 < seats) × (owner t.0 ≡ maybe.some i) × Follows maker t.0 kept t.1
 
   -- the two words, the slot and the views
   pub record Turns (ticket serving : ℕ) (homes : List (maybe.Option (Option B))) (views : List (View E D)) : Type 0 where
+    -- the value's list, and the view that has each number
     pub kept : List E
     pub owner : ℕ → maybe.Option ℕ
+    -- no count of turns comes round to 0: each ticket uses up one of the turns that were given
     pub fits : seats * turns < 2 ^ 64
     pub room : ticket + all_left views ≤ seats * turns
+    -- tickets done with were handed out
     pub order : serving ≤ ticket
+    -- who waits has a ticket that was handed out and isn't done with
     pub tickets : (i : ℕ) (v : View E D) → get_elem? views i ≡ maybe.some v → v.waits ≡ true → (serving ≤ v.ticket) × (v.ticket < ticket)
+    -- each such ticket is held
     pub issued : (n : ℕ) → serving ≤ n → n < ticket → IsHeld views n
+    -- by one seat alone
     pub apart : (i : ℕ) (v : View E D) → get_elem? views i ≡ maybe.some v → v.waits ≡ true → (j : ℕ) (w : View E D) → get_elem? views j ≡ maybe.some w → w.waits ≡ true → v.ticket ≡ w.ticket → i ≡ j
+    -- who has the turn holds the ticket that is served, the slot is empty, and it has seen the whole list
     pub holder : (i : ℕ) (v : View E D) → get_elem? views i ≡ maybe.some v → v.has_turn ≡ true → (v.spent ≡ false) × (v.waits ≡ true) × (v.ticket ≡ serving) × (homes ≡ maybe.none ∷ []) × (v.seen ≡ kept)
+    -- where nobody has the turn, the value is in the slot
     pub home : ((i : ℕ) (v : View E D) → get_elem? views i ≡ maybe.some v → v.has_turn ≡ false) → (b : B) × (homes ≡ maybe.some (Some b) ∷ []) × (entries b ≡ kept) × (base b ≡ base opening)
+    -- what each seat knows is so
     pub each : (i : ℕ) (v : View E D) → get_elem? views i ≡ maybe.some v → v.spent ≡ false → Knows kept owner i v
+    -- seats are split off the first one alone, and the numbers not given yet have no owner
     pub gives : (i : ℕ) (v : View E D) → get_elem? views i ≡ maybe.some v → 0 < v.given → (i ≡ 0) × ((n : ℕ) → v.given ≤ n → owner n ≡ maybe.none)
+    -- what was added to the list is by seats that are there
     pub grown : (rest : List E) × (kept ≡ entries opening ++ rest) × All (λ e. IsGiven seats owner (maker e)) rest
 
+  -- the state of the table between any two steps
   abbrev pub IsTurn : State (Option B) (View E D) → Type 0
   IsTurn s = (length s.words ≡ 2) × Turns (slice_index s.words 0) (slice_index s.words 1) s.homes s.views
 
@@ -71,12 +88,15 @@ with_own n xs [] = (n, xs) ∷ []
 with_own n xs (t ∷ ts) = t ∷ ts
 
 module _ {E D : Type 0} where
+  -- the view of a seat that was taken in by another
   abbrev pub spent_view : View E D
   spent_view = record { spent = true; number = 0; seen = []; base = None; start = 0; left = 0; waits = false; ticket = 0; has_turn = false; each = 0; given = 0; joined = [] }
 
+  -- a seat from which another was split off: that one's turns are gone from its own
   abbrev pub left_view : View E D → View E D
   left_view v = record v { left = v.left - v.each; given = v.given + 1 }
 
+  -- the seat that was split off: it has the next number and its turns
   abbrev pub right_view : View E D → View E D
   right_view v = record v { number = v.given; left = v.each; waits = false; has_turn = false; each = 0; given = 0; joined = [] }
 
@@ -84,6 +104,7 @@ module _ {E D : Type 0} where
   abbrev pub seen_lists : View E D → List (ℕ × List E)
   seen_lists v = with_own v.number v.seen v.joined
 
+  -- a seat that has taken in another: it has seen the longer list, and remembers what each had seen
   abbrev pub both_views : View E D → View E D → View E D
   both_views v w = record v { seen = longer v.seen w.seen; joined = (w.number, w.seen) ∷ seen_lists v }
 
@@ -99,6 +120,7 @@ module _ {E D : Type 0} where
   abbrev pub passed : View E D → List E → View E D
   passed v xs = record v { has_turn = false; waits = false; seen = xs }
 
+  -- the seat holds the ticket that it was handed
   abbrev pub TakesTicket : {S : Type 0} → Step S → Me S (View E D) → ℕ → Me S (View E D) → Type 0
   TakesTicket st m n w = w ≡ (queued m.0 n, m.1)
 
@@ -108,6 +130,7 @@ module _ {E D : Type 0} where
       (n ≡ m.0.ticket → (b : B) × (w ≡ (served m.0 (entries b), (0, Some b) ∷ m.1)) × Follows maker m.0.number (entries b) m.0.seen × (m.0.base ≡ Some (base b)) × (m.0.start ≤ length (entries b)))
       × (n ≢ m.0.ticket → w ≡ m)
 
+  -- the seat that put the value back has passed the turn on, and has seen the list that it put back
   abbrev pub PassesTurn : {B : Type 0} → (B → List E) → Me (Option B) (View E D) → Me (Option B) (View E D) → Type 0
   PassesTurn {B} entries m w = (b : B) → m.1 ≡ (0, Some b) ∷ [] → w ≡ (passed m.0 (entries b), [])
 
@@ -121,6 +144,7 @@ made_by maker v = added_by maker v.number v.start v.seen
 
 -- the seat holds neither a ticket nor the turn, and has taken in no other
 pub record Rests {E D : Type 0} (v : View E D) : Type 0 where
+  -- it wasn't taken in by another, holds no ticket, hasn't the turn, has taken in no other, and its list has only grown
   pub whole : v.spent ≡ false
   pub free : v.waits ≡ false
   pub idle : v.has_turn ≡ false
@@ -129,6 +153,7 @@ pub record Rests {E D : Type 0} (v : View E D) : Type 0 where
 
 -- the seat has the turn
 pub record Serves {E D : Type 0} (v : View E D) : Type 0 where
+  -- it wasn't taken in by another, holds a ticket, has the turn, has taken in no other, and its list has only grown
   pub whole : v.spent ≡ false
   pub waiting : v.waits ≡ true
   pub serving : v.has_turn ≡ true

@@ -39,11 +39,14 @@ pub type Held<'a, B> = Guard<Holder<'a, B, TurnRule<B>>, B>;
 /// The seat that has the turn.
 pub struct Holder<'a, B: Kept, P: TableRule<Option<B>, View<B::Entry, B::Base>, Setup<B>>> {
     turn: &'a RuledTurn<B, P>,
+    // The seat, in its parts.
     token: Token<Option<B>, View<B::Entry, B::Base>>,
     number: u32,
     seen: u64,
     made: u64,
     left: u64,
+    // The seat is one of the turn's; it took the value out of the slot and has the turn; its numbers are those of what it
+    // knows.
     ghost own: { token.table_id ≡ turn.now.table.shared.table_id },
     ghost out: { token.me.1 ≡ (0, None) ∷ [] },
     ghost serves: { Serves token.me.0 },

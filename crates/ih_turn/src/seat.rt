@@ -9,11 +9,15 @@ use atomic_table::Seat as Token;
 /// A right to take turns, with the list that it has seen.
 #[derive(Drop)]
 pub struct Seat<B: Kept> {
+    // The seat's right to step on the table, which carries what the seat knows.
     pub(crate) token: Token<Option<B>, View<B::Entry, B::Base>>,
+    // The same of that in numbers: the seat's own, how many entries it has seen, how many of those it made since the turn
+    // was made, and how many turns it has left.
     pub(crate) number: u32,
     pub(crate) seen: u64,
     pub(crate) made: u64,
     pub(crate) left: u64,
+    // It has nothing of a slot in its hands, waits for no turn, and its numbers are those of what it knows.
     ghost empty: { token.me.1 ≡ [] },
     ghost rests: { Rests token.me.0 },
     ghost number_is: { number ≡ token.me.0.number },

@@ -1,0 +1,111 @@
+//! Searches whose workers are all at work at once: a gate holds each until every one has priced its first move.
+
+use crate::examples::{ONE_ADMITTED, TWO_PATIENTS};
+use crate::whole_calls::{ends_saying, exits_past, lay, lines_behind};
+use ih_shelf::{Gate, MemShelf, MemSink};
+use ih_top::Status;
+use std::alloc::Global;
+use std::rt::Files;
+use std::sync::Wait;
+use std::sync::atomic::{AtomicBool, AtomicU64, Ordering};
+use std::thread::{Threads, yield_now};
+
+// The most turns for which the gate holds a worker.
+const TURNS: u64 = 100_000_000;
+
+// A gate at which so many workers meet: no first move is offered until each of them has priced one.
+#[derive(Drop)]
+struct MeetingGate {
+    workers: u64,
+    // How many have priced their first move.
+    there: AtomicU64,
+    // Whether a wait has ended in vain.
+    ran_out: AtomicBool,
+}
+
+impl MeetingGate {
+    fn new(workers: u64) -> MeetingGate {
+        MeetingGate {
+            workers,
+            there: AtomicU64::new(0),
+            ran_out: AtomicBool::new(false),
+        }
+    }
+
+    fn wait_for_all(&self) {
+        for _ in 0..TURNS {
+            if self.there.load(Ordering::SeqCst) >= self.workers {
+                return;
+            }
+            yield_now();
+        }
+        self.ran_out.store(true, Ordering::SeqCst);
+    }
+}
+
+impl Gate for MeetingGate {
+    fn before<R: Wait>(&self, _rt: &R, _worker: u32, number: u32) {
+        if number == 0 {
+            self.there.fetch_add(1, Ordering::SeqCst);
+            self.wait_for_all();
+        }
+    }
+
+    fn after<R: Wait>(&self, _rt: &R, _worker: u32, _number: u32) {}
+}
+
+// Whether a line is of a worker's first move, priced before anything was in the journal.
+fn is_first_of_all(line: &str) -> bool {
+    let mut words = line.split(' ').skip(2);
+    words.next() == Some("0") && words.next() == Some("0")
+}
+
+// How many first moves were priced on the start.
+fn priced_on_the_start(lines: &str) -> u64 {
+    let mut firsts: u64 = 0;
+    for line in lines.split('\n') {
+        if is_first_of_all(line) {
+            firsts = firsts.saturating_add(1);
+        }
+    }
+    firsts
+}
+
+// Whether so many workers meet at the gate, and the replay of their journal says what the search said.
+fn meet<R: Files + Print + Threads + Wait + Sync>(
+    rt: &R,
+    alloc: Global,
+    search: &str,
+    workers: u64,
+) -> bool {
+    let mut shelf = MemShelf::new(alloc);
+    let mut out = MemSink::new(alloc);
+    let gate = MeetingGate::new(workers);
+    let laid = lay(alloc, &mut shelf, TWO_PATIENTS, ONE_ADMITTED).is_ok();
+    let done = exits_past(rt, alloc, search, &mut shelf, &mut out, &gate, Status::Done);
+    let together = match lines_behind(&shelf, "j") {
+        Some(lines) => priced_on_the_start(lines) == workers,
+        None => false,
+    };
+    let said = out.bytes();
+    let replayed = ends_saying(
+        rt,
+        alloc,
+        "replay i j p --start s",
+        &mut shelf,
+        Status::Done,
+        said,
+    );
+    laid && done && together && replayed && !gate.ran_out.load(Ordering::SeqCst)
+}
+
+const THREE: &str = "solve i o j --seed 5 --workers 3 --moves 20 --heat 300 --hard 1000 --start s";
+
+const MOST: &str = "solve i o j --seed 5 --workers 64 --moves 3 --heat 300 --hard 1000 --start s";
+
+#[test]
+fn all_workers_at_once(rt: HostRuntime) {
+    let alloc = rt.alloc();
+    assert!(rt; meet(&rt, alloc, THREE, 3));
+    assert!(rt; meet(&rt, alloc, MOST, 64));
+}

@@ -1,0 +1,118 @@
+//! Whole calls of searches in rounds, over files in memory.
+
+use crate::examples::{COVERED_SOLUTION, WARD};
+use crate::whole_calls::{ends, holds, is_held};
+use ih_journal::{JournalRefusal, Reason};
+use ih_shelf::{MemShelf, MemSink};
+use ih_top::Status;
+use std::alloc::Global;
+use std::rt::Files;
+use std::sync::Wait;
+use std::thread::Threads;
+
+const TWO_ROUNDS: &str =
+    "rounds i o j --seed 0 --workers 1 --moves 1 --heat 0 --hard 1000 --rounds 2";
+
+/// No move of the second round changes the only cheapest timetable.
+pub const TWO_JOURNALS: &str = "ihjournal 1 seed=0 workers=1 moves=1 heat=0 hard=1000
+0 0 0 0 nurserun:0,0,0,5 0,0,0,0,0,0,0,0,-3,0,1,1,0,0,0,0,0 accepted
+ihjournal 1 seed=64 workers=1 moves=1 heat=0 hard=1000
+0 0 0 0 swapnurses:1,0,0 0,0,0,0,0,0,0,0,0,0,0,0,0,0,0,0,0 accepted
+";
+
+const FIRST_OF_EQUALS: &str =
+    "best 1 of 1 in round 0\nV1 0\nV2 0\nV3 0\nV4 0\nV5 0\nV6 0\nV7 0\nV8 0\nV9 0\nS1 0 x 5 = 0\nS2 1 x 10 = 10\nS3 1 x 2 = 2\nS4 0 x 1 = 0\nS5 0 x 30 = 0\nS6 0 x 7 = 0\nS7 0 x 4 = 0\nS8 0 x 100 = 0\ncost 12\n";
+
+const NO_MOVES: &str =
+    "rounds i o j --seed 0 --workers 1 --moves 0 --heat 0 --hard 1000 --rounds 2";
+
+const TWO_HEADINGS: &str = "ihjournal 1 seed=0 workers=1 moves=0 heat=0 hard=1000
+ihjournal 1 seed=64 workers=1 moves=0 heat=0 hard=1000
+";
+
+const ONE_ROUND: &str =
+    "rounds i o j --seed 18446744073709551615 --workers 2 --moves 1 --heat 1000000 --hard 1000 --start s --rounds 1";
+
+const STALE: &str = "ihjournal 1 seed=18446744073709551615 workers=2 moves=1 heat=1000000 hard=1000
+0 1 0 0 nurserun:1,0,0,5 0,0,0,0,0,0,0,0,0,0,-2,0,0,0,0,0,0 accepted
+1 0 0 0 place:0,1,1,1 0,1,0,0,0,0,0,0,3,-1,0,-1,0,0,0,1,0 stale:roomshift.0.0:0:1
+";
+
+const ANOTHER_JOURNAL: Status = Status::JournalRefused(JournalRefusal {
+    line: 3,
+    reason: Reason::Extra,
+});
+
+// Whether a call on the ward ends with this status, text, journal and solution.
+fn leaves<R: Files + Print + Threads + Wait + Sync>(
+    rt: &R,
+    alloc: Global,
+    shelf: &mut MemShelf,
+    words: &str,
+    status: Status,
+    text: &str,
+    journal: &str,
+    solution: Option<&str>,
+) -> bool {
+    shelf.store("i", WARD.as_bytes()).is_ok()
+        && ends(rt, alloc, words, shelf, status, text)
+        && holds(shelf, "j", Some(journal))
+        && holds(shelf, "o", solution)
+}
+
+// The first of two rounds that cost the same has the best. A replay reads one journal alone.
+#[test]
+fn the_first_of_equal_rounds(rt: HostRuntime) {
+    let alloc = rt.alloc();
+    let mut shelf = MemShelf::new(alloc);
+    assert!(rt;
+        leaves(
+            &rt,
+            alloc,
+            &mut shelf,
+            TWO_ROUNDS,
+            Status::Done,
+            FIRST_OF_EQUALS,
+            TWO_JOURNALS,
+            Some(COVERED_SOLUTION)
+        )
+    );
+    assert!(rt;
+        ends(
+            &rt,
+            alloc,
+            "replay i j p",
+            &mut shelf,
+            ANOTHER_JOURNAL,
+            "journal refused: line 3: Extra\n"
+        )
+    );
+}
+
+#[test]
+fn rounds_without_moves(rt: HostRuntime) {
+    let alloc = rt.alloc();
+    let mut shelf = MemShelf::new(alloc);
+    assert!(rt;
+        leaves(
+            &rt,
+            alloc,
+            &mut shelf,
+            NO_MOVES,
+            Status::NoneFound,
+            "none found\n",
+            TWO_HEADINGS,
+            None
+        )
+    );
+}
+
+// Worker 0 has priced its move before worker 1 offers its own, and offers it afterwards.
+#[test]
+fn a_round_past_a_gate(rt: HostRuntime) {
+    let alloc = rt.alloc();
+    let mut shelf = MemShelf::new(alloc);
+    let mut out = MemSink::new(alloc);
+    assert!(rt; is_held(&rt, alloc, ONE_ROUND, 1, &mut shelf, &mut out));
+    assert!(rt; holds(&shelf, "j", Some(STALE)));
+}

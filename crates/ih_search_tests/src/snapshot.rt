@@ -1,0 +1,401 @@
+//! What workers see of each other over one book.
+
+ghost use Rattle.std.specs.Prelude.{◌≡◌, ◌≤◌, [], IfOk};
+ghost use Rattle.ih_plan.specs.Timetable.{IsPlanOf};
+ghost use Rattle.ih_plan.specs.BillOf.{bill_of};
+ghost use Rattle.ih_plan.specs.Cells.{cell_count};
+ghost use Rattle.ih_journal.specs.Settings.{IsLawful};
+ghost use Rattle.ih_cellbook.specs.Keeping.{base_with};
+ghost use Rattle.ih_cellbook.specs.Replicas.{IsReplicaIn};
+ghost use Rattle.ih_cellbook.specs.Snapshot.{Snapshot};
+
+use crate::rounds::{catch_up, offer};
+use crate::steps::{
+    FIRST_NURSE, JOIN, SECOND_NURSE, TWICE_STALE, have_prices, hot, is, is_in_range,
+};
+use ih_cellbook::{Book, Buffer};
+use ih_costs::Ledgers;
+use ih_fixtures::{first_admitted, two_patients};
+use ih_footprint::Numbering;
+use ih_journal::{Options, Verdict};
+use ih_plan::{Move, Placement, Plan};
+use ih_snapshot::Replica;
+use ih_tables::{Bill, Cell, Day, Instance, PatientNo, RoomNo, Shift, TheatreNo};
+use std::alloc::{AllocError, Global};
+use std::test::Fail;
+
+/// Threads share replicas.
+fn share<T: Send + Sync>(_x: &T) {}
+
+/// What a worker does: it takes over what is new, or offers its move of a number.
+#[derive(Clone, Copy)]
+enum Step {
+    Looks,
+    Offers(u32, Move),
+}
+
+/// What came of it: how many entries the worker has then seen and how many the book has, or the verdict, if it may offer.
+#[derive(Clone, Copy, PartialEq)]
+enum Told {
+    Seen(u32, u32),
+    Said(Option<Verdict>),
+}
+
+use Step::{Looks, Offers};
+use Told::{Said, Seen};
+
+/// A worker, what it does, and what comes of it.
+type Row = (u32, Step, Told);
+
+/// A place, and the price of the entry there.
+type Priced = (usize, [i64; 9], [i64; 8]);
+
+// A worker's step.
+fn act(
+    inst: &Instance,
+    book: &mut Book<'_>,
+    replica: &mut Replica<'_>,
+    options: &Options,
+    buffer: &mut Buffer,
+    step: &Step,
+) -> Told
+    requires instance { inst.now.draft ≡ book.old.base.instance }
+    requires options { options.now ≡ book.old.base.options }
+    requires replica { IsReplicaIn book.old.base book.old.entries replica.old }
+    ensures base { book.new.base ≡ book.old.base }
+    ensures replica { IsReplicaIn book.old.base book.new.entries replica.new }
+    ensures others { (r : Snapshot) → IsReplicaIn book.old.base book.old.entries r → IsReplicaIn book.old.base book.new.entries r }
+{
+    match *step {
+        Looks => {
+            let (seen, front) = catch_up(book, replica, buffer);
+            Seen(seen, front)
+        }
+        Offers(number, mv) => {
+            if !is_in_range(inst, &mv) {
+                return Said(None);
+            }
+            Said(offer(book, replica, options, &mv, number))
+        }
+    }
+}
+
+// A step of one of two workers.
+fn act_by(
+    inst: &Instance,
+    book: &mut Book<'_>,
+    zero: &mut Replica<'_>,
+    one: &mut Replica<'_>,
+    options: &Options,
+    buffer: &mut Buffer,
+    worker: u32,
+    step: &Step,
+) -> Told
+    requires instance { inst.now.draft ≡ book.old.base.instance }
+    requires options { options.now ≡ book.old.base.options }
+    requires zero { IsReplicaIn book.old.base book.old.entries zero.old }
+    requires one { IsReplicaIn book.old.base book.old.entries one.old }
+    ensures base { book.new.base ≡ book.old.base }
+    ensures zero { IsReplicaIn book.old.base book.new.entries zero.new }
+    ensures one { IsReplicaIn book.old.base book.new.entries one.new }
+{
+    if worker == 0 {
+        act(inst, book, zero, options, buffer, step)
+    } else {
+        act(inst, book, one, options, buffer, step)
+    }
+}
+
+// Whether each row's step of one of two workers tells what the row says.
+fn act_all(
+    inst: &Instance,
+    book: &mut Book<'_>,
+    zero: &mut Replica<'_>,
+    one: &mut Replica<'_>,
+    options: &Options,
+    buffer: &mut Buffer,
+    rows: &[Row],
+) -> bool
+    requires instance { inst.now.draft ≡ book.old.base.instance }
+    requires options { options.now ≡ book.old.base.options }
+    requires zero { IsReplicaIn book.old.base book.old.entries zero.old }
+    requires one { IsReplicaIn book.old.base book.old.entries one.old }
+    ensures base { book.new.base ≡ book.old.base }
+{
+    for (worker, step, expected) in rows {
+        if act_by(inst, book, zero, one, options, buffer, *worker, step) != *expected {
+            return false;
+        }
+    }
+    true
+}
+
+// The same with two new workers over a new book.
+fn act_first(
+    alloc: Global,
+    inst: &Instance,
+    start: &Plan,
+    book: &mut Book<'_>,
+    options: &Options,
+    freeze: u32,
+    rows: &[Row],
+) -> Result<bool, AllocError>
+    requires start { IsPlanOf inst.now.draft start.now }
+    requires lawful { IsLawful options.now }
+    requires base { book.old.base ≡ base_with inst.now.draft start.now options.now freeze }
+    requires empty { book.old.entries ≡ [] }
+    ensures base { book.new.base ≡ book.old.base }
+{
+    let mut buffer = Buffer::new(alloc)?;
+    let mut zero = Replica::new(alloc, inst, start, options, freeze, 0)?;
+    let mut one = Replica::new(alloc, inst, start, options, freeze, 1)?;
+    Ok(act_all(inst, book, &mut zero, &mut one, options, &mut buffer, rows))
+}
+
+// The bill of the start.
+fn first_bill(alloc: Global, inst: &Instance, start: &Plan) -> Result<Bill, AllocError>
+    requires { IsPlanOf inst.now.draft start.now }
+    ensures { IfOk result (λ b. b ≡ bill_of inst.now.draft start.now) }
+{
+    Ok(Ledgers::new(alloc, inst, start)?.total())
+}
+
+// Whether the rows come out so over one book, and the entries at these places then have these prices.
+fn play(
+    alloc: Global,
+    inst: &Instance,
+    start: &Plan,
+    options: &Options,
+    freeze: u32,
+    rows: &[Row],
+    prices: &[Priced],
+) -> Result<bool, AllocError>
+    requires start { IsPlanOf inst.now.draft start.now }
+    requires lawful { IsLawful options.now }
+{
+    let first = first_bill(alloc, inst, start)?;
+    let mut book = Book::new(alloc, inst, start, &first, options, freeze)?;
+    let told = act_first(alloc, inst, start, &mut book, options, freeze, rows)?;
+    Ok(told && have_prices(book.entries(), prices))
+}
+
+const ACCEPTED: Told = Said(Some(Verdict::Accepted));
+
+const ONCE_STALE: Told = Said(Some(Verdict::Stale {
+    cell: Cell::RoomShift(RoomNo(0), Shift(2)),
+    at_seen: 0,
+    at_place: 1,
+}));
+
+// The second patient has the other room, on the first day or on the second.
+const JOIN_BESIDE: Move = Move::Place(
+    PatientNo(1),
+    Placement {
+        day: Day(0),
+        room: RoomNo(1),
+        theatre: TheatreNo(1),
+    },
+);
+
+const JOIN_LATER: Move = Move::Place(
+    PatientNo(1),
+    Placement {
+        day: Day(1),
+        room: RoomNo(1),
+        theatre: TheatreNo(1),
+    },
+);
+
+// A move is stale where another changed what it read, and is accepted when it comes again. Its worker hasn't seen its own
+// last entry when it offers again at once, and has when it does so after a look, by the same number.
+const COMES_AGAIN: [Row; 6] = [
+    (1, Offers(0, SECOND_NURSE), ACCEPTED),
+    (0, Offers(0, JOIN), ONCE_STALE),
+    (0, Offers(0, JOIN), Said(None)),
+    (0, Looks, Seen(2, 2)),
+    (0, Looks, Seen(2, 2)),
+    (0, Offers(0, JOIN), ACCEPTED),
+];
+
+const AGAIN_PRICES: [Priced; 2] = [
+    (0, [0; 9], [0, -2, 2, 0, 0, 0, 0, 0]),
+    (2, CROWDED, [1, 4, 2, 2, 1, 1, 0, -1]),
+];
+
+// Of the second patient joining the first.
+const CROWDED: [i64; 9] = [1, 0, 0, 0, 0, 0, 1, 0, 0];
+
+// Of three shifts without a nurse.
+const UNNURSED: [i64; 9] = [0, 0, 0, 0, 0, 0, 0, 0, 3];
+
+// A nurse who came back leaves a trace.
+const TRACE: [Row; 4] = [
+    (1, Offers(0, SECOND_NURSE), ACCEPTED),
+    (1, Looks, Seen(1, 1)),
+    (1, Offers(1, FIRST_NURSE), ACCEPTED),
+    (0, Offers(0, JOIN), Said(Some(TWICE_STALE))),
+];
+
+const TRACE_PRICES: [Priced; 1] = [(1, [0; 9], [0, 2, -2, 0, 0, 0, 0, 0])];
+
+// Moves that touch nothing in common are both made.
+const BOTH: [Row; 2] = [
+    (1, Offers(0, SECOND_NURSE), ACCEPTED),
+    (0, Offers(0, JOIN_BESIDE), ACCEPTED),
+];
+
+const BOTH_PRICES: [Priced; 1] = [(1, UNNURSED, [0, 0, 0, 0, 1, 1, 0, -1])];
+
+// The past is frozen.
+const FROZEN: [Row; 5] = [
+    (
+        0,
+        Offers(0, Move::SetDay(PatientNo(0), Day(1))),
+        Said(Some(Verdict::Frozen)),
+    ),
+    (0, Looks, Seen(1, 1)),
+    (0, Offers(1, JOIN_LATER), ACCEPTED),
+    (0, Looks, Seen(2, 2)),
+    (0, Offers(2, Move::Withdraw(PatientNo(1))), ACCEPTED),
+];
+
+const FROZEN_PRICES: [Priced; 2] = [
+    (1, UNNURSED, [0, 0, 0, 0, 1, 0, 1, -1]),
+    (2, [0, 0, 0, 0, 0, 0, 0, 0, -3], [0, 0, 0, 0, -1, 0, -1, 1]),
+];
+
+// Whether each of these comes out so.
+fn come_out_so(alloc: Global, inst: &Instance, start: &Plan) -> Result<bool, AllocError>
+    requires { IsPlanOf inst.now.draft start.now }
+{
+    Ok(
+        play(
+            alloc,
+            inst,
+            start,
+            &hot(2, 2, 1),
+            0,
+            &COMES_AGAIN,
+            &AGAIN_PRICES,
+        )? && play(alloc, inst, start, &hot(2, 2, 0), 0, &TRACE, &TRACE_PRICES)?
+            && play(alloc, inst, start, &hot(2, 2, 0), 0, &BOTH, &BOTH_PRICES)?
+            && play(
+                alloc,
+                inst,
+                start,
+                &hot(1, 3, 0),
+                1,
+                &FROZEN,
+                &FROZEN_PRICES,
+            )?,
+    )
+}
+
+// What the first worker's price of joining the first patient rests on.
+const READS: [(u32, u32); 11] = [
+    (1, 0),
+    (2, 0),
+    (8, 0),
+    (10, 0),
+    (12, 0),
+    (13, 0),
+    (14, 0),
+    (24, 0),
+    (25, 0),
+    (26, 0),
+    (37, 0),
+];
+
+// Whether a price rests on what is read.
+fn rests_on_what_is_read(alloc: Global, inst: &Instance, start: &Plan) -> Result<bool, AllocError>
+    requires { IsPlanOf inst.now.draft start.now }
+{
+    let mut zero: Replica<'_> = Replica::new(alloc, inst, start, &hot(2, 2, 0), 0, 0)?;
+    share(&zero);
+    let price = (CROWDED, [1, 6, 1, 3, 1, 1, 0, -1]);
+    Ok(is_in_range(inst, &JOIN) && is(zero.price(&JOIN, 0), (0, 0, 0), &price, &READS))
+}
+
+// Whether the versions are those of an accepted entry that changed the first room in the first night, not in the first
+// morning.
+fn are_raised(book: &Book<'_>, cells: u32) -> bool
+    requires { cells ≤ cell_count book.now.base.instance }
+{
+    cells > 14 && book.versions(14) == 1 && book.versions(12) == 0
+}
+
+// Whether an accepted entry raises the versions of what it touches and a stale one doesn't, and both are copied.
+fn accepted_entries_raise_versions(
+    alloc: Global,
+    inst: &Instance,
+    start: &Plan,
+) -> Result<bool, AllocError>
+    requires { IsPlanOf inst.now.draft start.now }
+{
+    let options = hot(2, 2, 0);
+    let first = first_bill(alloc, inst, start)?;
+    let mut book = Book::new(alloc, inst, start, &first, &options, 0)?;
+    let rows = [
+        (1, Offers(0, SECOND_NURSE), ACCEPTED),
+        (0, Offers(0, JOIN), ONCE_STALE),
+    ];
+    let told = act_first(alloc, inst, start, &mut book, &options, 0, &rows)?;
+    let raised = are_raised(&book, Numbering::of(inst).count());
+    let mut buffer = Buffer::new(alloc)?;
+    book.copy_since(0, &mut buffer);
+    let both = buffer.entries().len() == 2 && buffer.front() == 2;
+    if book.entries().len() != 2 {
+        return Ok(false);
+    }
+    book.copy_since(2, &mut buffer);
+    Ok(told && raised && both && buffer.entries().is_empty())
+}
+
+// A worker's offers of moves that do nothing, each after a look, and then four looks of another.
+fn idle_rows(alloc: Global, count: u32) -> Result<Vec<Row>, AllocError> {
+    let mut rows = Vec::new(alloc);
+    for number in 0..count {
+        rows.push((1, Looks, Seen(number, number)))?;
+        rows.push((1, Offers(number, Move::Idle), ACCEPTED))?;
+    }
+    for seen in [256, 512, 600, 600] {
+        rows.push((0, Looks, Seen(seen, 600)))?;
+    }
+    Ok(rows)
+}
+
+// Whether no cell has a version yet.
+fn are_untouched(book: &Book<'_>, cells: u32) -> bool
+    requires { cells ≤ cell_count book.now.base.instance }
+{
+    for cell in 0..cells {
+        if book.versions(cell) != 0 {
+            return false;
+        }
+    }
+    true
+}
+
+// Whether looks show 256 entries each, and 600 moves that do nothing touch no cell and change no timetable.
+fn looks_show_256_each(alloc: Global, inst: &Instance, start: &Plan) -> Result<bool, AllocError>
+    requires { IsPlanOf inst.now.draft start.now }
+{
+    let options = hot(2, 700, 0);
+    let first = first_bill(alloc, inst, start)?;
+    let mut book = Book::new(alloc, inst, start, &first, &options, 0)?;
+    let rows = idle_rows(alloc, 600)?;
+    let told = act_first(alloc, inst, start, &mut book, &options, 0, rows.as_slice())?;
+    Ok(told && book.best() == Some((0, 159)) && are_untouched(&book, Numbering::of(inst).count()))
+}
+
+#[test]
+fn workers_see_what_others_touched(rt: HostRuntime) -> Result<(), Fail> {
+    let alloc = rt.alloc();
+    let inst = two_patients(alloc, &[])?;
+    let start = first_admitted(alloc, &inst)?;
+    assert!(rt; rests_on_what_is_read(alloc, &inst, &start)?);
+    assert!(rt; accepted_entries_raise_versions(alloc, &inst, &start)?);
+    assert!(rt; come_out_so(alloc, &inst, &start)?);
+    assert!(rt; looks_show_256_each(alloc, &inst, &start)?);
+    Ok(())
+}

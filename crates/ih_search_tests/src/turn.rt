@@ -1,0 +1,185 @@
+//! Turns over lists of numbers, by seats one after the other and in threads.
+
+ghost use Rattle.std.specs.Prelude.{◌≡◌, ℕ, ◌+◌, ◌-◌, ◌*◌, ◌^◌, ◌<◌, ◌≤◌};
+ghost use Rattle.ih_turn.specs.Seats.{IsSeatOf, seat_count, number_of, turns_left};
+
+use ih_turn::{Kept, Seat, Turn};
+use std::alloc::{AllocError, Global};
+use std::sync::Wait;
+use std::test::Fail;
+use std::thread::{Threads, map_vec};
+
+// A list of numbers, each of which is 5 above that of its maker.
+#[derive(Drop)]
+struct Numbers {
+    items: Vec<u64>,
+}
+
+impl Kept for Numbers {
+    type Entry = u64;
+
+    type Base = ();
+
+    ghost entries = { λ s. s.items.items };
+
+    ghost base = { λ _. tt };
+
+    ghost maker = { λ e. e - 5 };
+
+    fn len(&self) -> u64 {
+        self.items.len() as u64
+    }
+}
+
+fn is_send<T: Send>(_: &T) {}
+
+fn is_sync<T: Sync>(_: &T) {}
+
+// A turn is shared and its seats move between threads, where its value may move.
+fn cross<B: Kept + Send>(turn: &Turn<B>, seat: &Seat<B>) {
+    is_send(turn);
+    is_sync(turn);
+    is_send(seat);
+}
+
+// Adds the number that is 5 above the seat's, or nothing. Where there is no memory for it, the seat has made one entry
+// fewer, and the tests count these.
+fn step<R: Wait>(rt: &R, turn: &Turn<Numbers>, seat: Seat<Numbers>, adds: bool) -> Seat<Numbers>
+    requires own { IsSeatOf turn.now seat }
+    requires left { 0 < turns_left seat }
+    ensures own { IsSeatOf turn.now result }
+    ensures seat { (number_of result ≡ number_of seat) × (turns_left result + 1 ≡ turns_left seat) }
+{
+    let number = seat.number() as u64;
+    let mut held = turn.take(rt, seat);
+    if adds {
+        let _counted = held.get_mut().items.push(number + 5);
+    }
+    held.give()
+}
+
+// Adds it in each of so many turns.
+fn add_all<R: Wait>(rt: &R, turn: &Turn<Numbers>, seat: Seat<Numbers>, count: u64) -> Seat<Numbers>
+    requires own { IsSeatOf turn.now seat }
+    requires left { count ≤ turns_left seat }
+    ensures own { IsSeatOf turn.now result }
+    ensures number { number_of result ≡ number_of seat }
+{
+    let mut seat = seat;
+    for i in 0..count {
+        let _ = i;
+        seat = step(rt, turn, seat, true);
+    }
+    seat
+}
+
+// Whether each of so many seats, in a thread of its own, adds its number in each of its turns.
+fn all_add<R: Threads + Wait + Sync>(
+    rt: &R,
+    alloc: Global,
+    seats: u32,
+    turns: u64,
+) -> Result<bool, AllocError>
+    requires { (1 ≤ seats) × (seats * turns + 1 < 2 ^ 64) }
+{
+    let empty = Numbers {
+        items: Vec::new(alloc),
+    };
+    let Ok((turn, row)) = Turn::new(alloc, empty, seats, turns) else {
+        return Ok(false);
+    };
+    let turn = &turn;
+    let made = map_vec(
+        rt,
+        row,
+        &|seat: Seat<Numbers>| -> u64
+            requires { IsSeatOf turn.now seat × (turns ≤ turns_left seat) }
+        { add_all(rt, turn, seat, turns).made() },
+    )?;
+    for count in made.iter() {
+        if *count != turns {
+            return Ok(false);
+        }
+    }
+    Ok(made.len() == seats as usize)
+}
+
+// The turn is closed with both its seats.
+fn closed(
+    alloc: Global,
+    turn: Turn<Numbers>,
+    one: Seat<Numbers>,
+    two: Seat<Numbers>,
+) -> Result<Numbers, AllocError>
+    requires own { (seat_count turn ≡ 2) × IsSeatOf turn one × IsSeatOf turn two }
+    requires numbers { (number_of one ≡ 0) × (number_of two ≡ 1) }
+{
+    let mut seats = Vec::new(alloc);
+    seats.push(one)?;
+    seats.push(two)?;
+    Ok(turn.close(seats))
+}
+
+// Whether the seat has seen, made and left so many.
+fn has(seat: &Seat<Numbers>, seen: u64, made: u64, left: u64) -> bool {
+    seat.seen() == seen && seat.made() == made && seat.left() == left
+}
+
+// The first of two seats adds the number 5, and the second none. Answers the list in the end, and none where a seat counts
+// otherwise.
+fn five_alone<R: Wait>(
+    rt: &R,
+    alloc: Global,
+    turn: Turn<Numbers>,
+    one: Seat<Numbers>,
+    two: Seat<Numbers>,
+) -> Result<Option<Numbers>, AllocError>
+    requires own { (seat_count turn ≡ 2) × IsSeatOf turn one × IsSeatOf turn two }
+    requires left { (0 < turns_left one) × (0 < turns_left two) }
+{
+    cross(&turn, &one);
+    if one.number() != 0 || two.number() != 1 {
+        return Ok(None);
+    }
+    let one = step(rt, &turn, one, true);
+    let two = step(rt, &turn, two, false);
+    if !has(&one, 1, 1, 1) || !has(&two, 1, 0, 1) {
+        return Ok(None);
+    }
+    Ok(Some(closed(alloc, turn, one, two)?))
+}
+
+// Whether the list is then that of 5 alone.
+fn is_five_alone<R: Wait>(rt: &R, alloc: Global) -> Result<bool, AllocError> {
+    let empty = Numbers {
+        items: Vec::new(alloc),
+    };
+    let Ok((turn, mut seats)) = Turn::new(alloc, empty, 2, 2) else {
+        return Ok(false);
+    };
+    let Some(two) = seats.pop() else {
+        return Ok(false);
+    };
+    let Some(one) = seats.pop() else {
+        return Ok(false);
+    };
+    match five_alone(rt, alloc, turn, one, two)? {
+        Some(list) => Ok(list.items.as_slice() == [5].as_slice()),
+        None => Ok(false),
+    }
+}
+
+#[test]
+fn a_list_of_five_alone(rt: HostRuntime) -> Result<(), Fail> {
+    assert!(rt; is_five_alone(&rt, rt.alloc())?);
+    Ok(())
+}
+
+// In one thread, in two, and in as many as a search may have.
+#[test]
+fn seats_in_threads_all_add(rt: HostRuntime) -> Result<(), Fail> {
+    for (seats, turns) in [(1, 64), (2, 1000), (3, 64), (8, 16), (64, 8)] {
+        assert!(rt; all_add(&rt, rt.alloc(), seats, turns)?);
+    }
+    Ok(())
+}
