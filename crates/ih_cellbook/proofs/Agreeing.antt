@@ -20,7 +20,7 @@ use Rattle.ih_journal.proofs.Growth.{AreOfMoves, after_entries-plan, plan_after-
 use Rattle.ih_cellbook.specs.Legal.{AreLegalButDraws}
 use Rattle.ih_cellbook.proofs.Committing.{accepted-is, legal_but-moves}
 use Rattle.ih_cellbook.proofs.Exact.{accepted-local}
-use Rattle.ih_cellbook.proofs.Few.{take-one}
+use Rattle.ih_cellbook.proofs.EntryLimits.{take-one}
 use Rattle.std.specs.Prelude.{drop}
 
 -- what is accepted wasn't frozen where it was priced

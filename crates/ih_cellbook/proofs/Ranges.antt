@@ -36,7 +36,7 @@ use Rattle.ih_cellbook.specs.Keeping.{IsBase}
 use Rattle.ih_cellbook.specs.Laws.{IsSearchBase, LegalHistoriesAreInRange, LegalJournalsAreShort, SearchesHaveTwoJournals}
 use Rattle.ih_cellbook.specs.Legal.{AreLegalButDraws}
 use Rattle.ih_cellbook.proofs.Committing.{footprint-below, legal_but-moves}
-use Rattle.ih_cellbook.proofs.Few.{legal-few, next-below}
+use Rattle.ih_cellbook.proofs.EntryLimits.{legal-few, next-below}
 use Rattle.ih_cellbook.proofs.Finds.{find-listed}
 use Rattle.ih_cellbook.proofs.Versions.{first_risen, rose, version-most}
 

@@ -1,7 +1,7 @@
 //! The best of a history, told from its prices: the bill of each of its timetables is that of the one before it with the
 //! price of an accepted entry added.
 
-ghost use Rattle.std.specs.Prelude.{◌≡◌, ◌<◌, ◌^◌, if◌then◌else◌, length, map};
+ghost use Rattle.std.specs.Prelude.{◌≡◌, ◌<◌, ◌^◌, false, if◌then◌else◌, length, map};
 ghost use Rattle.ih_tables.specs.Bills.{IsWithin, add_bills, cost, feasible};
 ghost use Rattle.ih_journal.specs.Base.{Base};
 ghost use Rattle.ih_journal.specs.Best.{BestIs, best_with};
@@ -12,14 +12,13 @@ use crate::kinds::Logged;
 use ih_journal::Verdict;
 use ih_tables::{Bill, Instance};
 
-// The bill after an entry.
-pub(crate) fn bill_after(verdict: &Verdict, bill: &Bill, price: &Bill) -> Bill
-    requires { IsWithin (10 ^ 12) (add_bills bill.now price.now) }
-    ensures { result ≡ (if is_accepted verdict.now then add_bills bill.now price.now else bill.now) }
+// Adds the price of an entry, where it is accepted.
+pub(crate) fn add_price(verdict: &Verdict, bill: &mut Bill, price: &Bill)
+    requires { IsWithin (10 ^ 12) (add_bills bill.old price.now) }
+    ensures { bill.new ≡ (if is_accepted verdict.now then add_bills bill.old price.now else bill.old) }
 {
-    match *verdict {
-        Verdict::Accepted => bill.add(price),
-        _ => *bill,
+    if let Verdict::Accepted = *verdict {
+        bill.take_in(price);
     }
 }
 
@@ -43,6 +42,26 @@ pub(crate) fn with_place(
     }
 }
 
+// The best so far, once an entry more stands. Where that isn't accepted, its timetable is the one before, which was looked
+// at.
+pub(crate) fn best_after(
+    verdict: &Verdict,
+    best: Option<(u32, i64)>,
+    place: u32,
+    now: &Bill,
+    inst: &Instance,
+) -> Option<(u32, i64)>
+    requires within { IsWithin (10 ^ 11) now.now }
+    requires looked_at { is_accepted verdict.now ≡ false
+        → best_with best place (feasible now.now) (cost inst.now.draft.weights now.now) ≡ best }
+    ensures { result ≡ best_with best place (feasible now.now) (cost inst.now.draft.weights now.now) }
+{
+    match *verdict {
+        Verdict::Accepted => with_place(best, place, now, inst),
+        _ => best,
+    }
+}
+
 /// The place and the cost of the first cheapest feasible timetable of a history over a start, whose bill is `first`; none
 /// exactly where no timetable of the history is feasible. It makes no timetable and no further bill.
 pub fn best_in<E: Logged>(inst: &Instance, first: &Bill, entries: &[E]) -> Option<(u32, i64)>
@@ -54,7 +73,7 @@ pub fn best_in<E: Logged>(inst: &Instance, first: &Bill, entries: &[E]) -> Optio
     let mut best = with_place(None, 0, &now, inst);
     let mut place = 0;
     for entry in entries {
-        now = bill_after(&entry.verdict(), &now, &entry.price());
+        add_price(&entry.verdict(), &mut now, &entry.price());
         place += 1;
         best = with_place(best, place, &now, inst);
     }

@@ -4,7 +4,7 @@ ghost use Rattle.std.specs.Prelude.{◌≡◌, ℕ, ◌<◌, ◌≤◌, [], leng
 ghost use Rattle.ih_journal.specs.Attempts.{attempt_after};
 ghost use Rattle.ih_cellbook.specs.Offers.{entry_with};
 
-use crate::best::{bill_after, with_place};
+use crate::best::{add_price, best_after, with_place};
 use crate::buffers::Buffer;
 use crate::counters::{judge, raise_where};
 use crate::kinds::{Logged, Offers};
@@ -84,6 +84,13 @@ fn entry_from<E: Logged>(offer: &E::Offer, again: u32, verdict: Verdict) -> E
     )
 }
 
+// Of how many entries the room is written ahead. A lone worker has nobody wait while the system gives it pages.
+fn touched_ahead(options: &Options, moves: usize) -> usize
+    ensures { result ≤ moves }
+{
+    if options.workers == 1 { 0 } else { moves }
+}
+
 // Room for `most` entries, with none in it. That of the first of them is written once here, so that the system gives its
 // pages now, and not one by one while a worker holds the book.
 fn room_for<E: Logged>(alloc: Global, first: usize, most: usize) -> Result<Vec<E>, AllocError>
@@ -134,7 +141,8 @@ impl<'a, E: Logged> Records<'a, E> {
     {
         // As many as there are where no try is stale.
         let moves = options.workers as usize * options.moves as usize;
-        let entries = room_for(alloc, moves, moves * (options.retries as usize + 1))?;
+        let ahead = touched_ahead(options, moves);
+        let entries = room_for(alloc, ahead, moves * (options.retries as usize + 1))?;
         let counters = vec![in alloc; 0; Numbering::of(inst).count() as usize]?;
         let tries = vec![in alloc; 0; options.workers as usize]?;
         Ok(Records {
@@ -171,9 +179,15 @@ impl<'a, E: Logged> Records<'a, E> {
         let entry: E = entry_from(offer, again, verdict);
         raise_where(&verdict, &mut self.counters, offer.reads());
         self.tries[worker as usize] = tries_after(&self.options, &entry);
-        self.bill = bill_after(&verdict, &self.bill, &price);
+        add_price(&verdict, &mut self.bill, &price);
         self.entries.push_reserved(entry);
-        self.best = with_place(self.best, self.entries.len() as u32, &self.bill, self.inst);
+        self.best = best_after(
+            &verdict,
+            self.best,
+            self.entries.len() as u32,
+            &self.bill,
+            self.inst,
+        );
         verdict
     }
 

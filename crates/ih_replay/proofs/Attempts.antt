@@ -8,7 +8,7 @@ use Rattle.ih_journal.specs.Attempts.{Attempt, attempt_after, is_done, is_done_a
 use Rattle.ih_journal.specs.Base.{Base}
 use Rattle.ih_cellbook.specs.Legal.{AreLegalButDraws}
 use Rattle.ih_cellbook.specs.Offers.{next_number}
-use Rattle.ih_cellbook.proofs.Few.{next-below}
+use Rattle.ih_cellbook.proofs.EntryLimits.{next-below}
 
 pub number-of : (o : Options) (H : List Tried) (w : ℕ) (a : Attempt) → next_attempt o H w ≡ Some a → next_number o H w ≡ Some a.number
 number-of o H w a e = ap (option_map (λ (a : Attempt). a.number)) e

@@ -16,7 +16,7 @@ use Rattle.ih_journal.proofs.LineTexts.{lines_differ}
 use Rattle.ih_journal.proofs.Mapped.{attempt-one}
 use Rattle.ih_cellbook.specs.Keeping.{IsBase}
 use Rattle.ih_cellbook.specs.Legal.{AreLegalButDraws}
-use Rattle.ih_cellbook.proofs.Few.{next-below}
+use Rattle.ih_cellbook.proofs.EntryLimits.{next-below}
 use Rattle.ih_cellbook.proofs.Ranges.{entry-in, entry-of, short}
 use Rattle.ih_replay.specs.Refusals.{FitsIn, Passes}
 use Rattle.ih_replay.proofs.Attempts.{number-of}

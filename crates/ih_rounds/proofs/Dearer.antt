@@ -12,7 +12,7 @@ use Rattle.ih_journal.specs.Base.{Base}
 use Rattle.ih_journal.specs.Best.{BestIs, IsBest, IsFeasibleAt, best_with, cost_at}
 use Rattle.ih_journal.specs.History.{plan_after, plan_at, after_entries}
 use Rattle.ih_journal.proofs.BestLemmas.{best-start, best-more}
-use Rattle.ih_cellbook.proofs.Few.{take-one}
+use Rattle.ih_cellbook.proofs.EntryLimits.{take-one}
 use Rattle.ih_rounds.specs.Best.{cost_in}
 use Rattle.ih_rounds.specs.Laws.{IsNoDearer}
 use Rattle.ih_rounds.specs.Rounds.{AreRounds, Round, StartsFrom, base_in, next_start}

@@ -11,7 +11,7 @@ use Rattle.ih_journal.specs.History.{after_entries}
 use Rattle.ih_journal.specs.Legal.{AreLegal}
 use Rattle.ih_journal.specs.Settings.{IsLawful}
 use Rattle.ih_cellbook.specs.Legal.{AreLegalButDraws, IsHistoryOver}
-use Rattle.ih_cellbook.proofs.Few.{legal-few}
+use Rattle.ih_cellbook.proofs.EntryLimits.{legal-few}
 use Rattle.ih_rounds.specs.Rounds.{next_start}
 use Rattle.ih_rounds.specs.Steps.{end_of}
 

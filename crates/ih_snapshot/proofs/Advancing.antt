@@ -17,7 +17,7 @@ use Rattle.ih_cellbook.specs.Legal.{AreLegalButDraws}
 use Rattle.ih_cellbook.specs.Offers.{reads_after}
 use Rattle.ih_cellbook.proofs.Committing.{accepted-is, legal_but-more, legal_but-moves, reads-cells}
 use Rattle.ih_cellbook.proofs.Exact.{accepted-local}
-use Rattle.ih_cellbook.proofs.Few.{legal-few}
+use Rattle.ih_cellbook.proofs.EntryLimits.{legal-few}
 use Rattle.ih_cellbook.proofs.Versions.{version-more, version-most}
 use Rattle.ih_snapshot.specs.Keeping.{CanTake, HasTaken, IsOwnRead}
 use Rattle.ih_cellbook.specs.Replicas.{IsReplicaOf, IsReadFrom}

@@ -9,7 +9,7 @@ use Rattle.ih_journal.specs.Best.{best_with}
 use Rattle.ih_journal.specs.History.{after_entries}
 use Rattle.ih_cellbook.specs.Keeping.{IsBase, AreVersions}
 use Rattle.ih_cellbook.proofs.Committing.{legal_but-none}
-use Rattle.ih_cellbook.proofs.Kept.{kept-none}
+use Rattle.ih_cellbook.proofs.BookKeeping.{kept-none}
 use Rattle.ih_cellbook.specs.Replicas.{IsReplicaOf}
 use Rattle.ih_cellbook.specs.Snapshot.{Snapshot}
 use Rattle.std.proofs.Common.{None}

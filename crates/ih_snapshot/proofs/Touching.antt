@@ -15,7 +15,7 @@ use Rattle.ih_plan.proofs.SumLemmas.{sum_below-le, length-which_below}
 use Rattle.ih_plan.specs.Series.{all_touch, footprint_of_all}
 use Rattle.ih_cellbook.specs.Counters.{times_read}
 use Rattle.ih_cellbook.proofs.Committing.{footprint-below, footprint-touches}
-use Rattle.ih_cellbook.proofs.Times.{times-once}
+use Rattle.ih_cellbook.proofs.TimesRead.{times-once}
 use Rattle.ih_snapshot.specs.Noting.{times_listed}
 
 -- the numbers of the cells that were read

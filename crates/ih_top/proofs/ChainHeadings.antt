@@ -11,7 +11,7 @@ use Rattle.ih_journal.specs.Settings.{most_entries}
 use Rattle.ih_journal.specs.Texts.{heading}
 use Rattle.ih_journal.specs.Tried.{Tried}
 use Rattle.ih_cellbook.specs.Legal.{AreLegalButDraws}
-use Rattle.ih_cellbook.proofs.Few.{legal-few}
+use Rattle.ih_cellbook.proofs.EntryLimits.{legal-few}
 use Rattle.ih_chain.specs.declared.entries.ChainEntry.{ChainEntry}
 use Rattle.ih_chain.specs.Entries.{chain_tried, chain_tries}
 use Rattle.ih_chain.specs.Laws.{ChainJournalsAreShort}

@@ -11,7 +11,7 @@ use Rattle.ih_journal.specs.Best.{BestIs}
 use Rattle.ih_journal.specs.Frozen.{AgreesBefore, is_before}
 use Rattle.ih_journal.specs.History.{plan_at}
 use Rattle.ih_cellbook.specs.Keeping.{IsBase}
-use Rattle.ih_cellbook.proofs.Few.{legal-few}
+use Rattle.ih_cellbook.proofs.EntryLimits.{legal-few}
 use Rattle.ih_chain.specs.declared.entries.ChainEntry.{ChainEntry}
 use Rattle.ih_chain.specs.Entries.{chain_tried, chain_tries}
 use Rattle.ih_chain.specs.Runs.{IsRunOf, Ran, best_plan}

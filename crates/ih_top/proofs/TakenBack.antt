@@ -13,7 +13,7 @@ use Rattle.ih_journal.specs.Texts.{journal, lines_from}
 use Rattle.ih_journal.proofs.BestLemmas.{best-one, best-or-none}
 use Rattle.ih_cellbook.specs.Laws.{LegalJournalsAreShort}
 use Rattle.ih_cellbook.specs.Legal.{AreLegalButDraws}
-use Rattle.ih_cellbook.proofs.Few.{legal-few}
+use Rattle.ih_cellbook.proofs.EntryLimits.{legal-few}
 use Rattle.ih_instance.specs.Instance.{instance}
 use Rattle.ih_instance.proofs.DraftSound.{instance_sound}
 use Rattle.ih_solution.specs.Reading.{plan_in}

@@ -21,8 +21,8 @@ loop-entry-init g c = record {
   come = λ b over. come-none b c.args.inst.now.draft c.args.first.now (map g.E.Logged.tried c.args.entries.now) over c.with_place-best.result c.with_place-best.ensures;
 }
 
-pub bill_after-now-requires : goal.bill_after-now-requires
-bill_after-now-requires g c =
+pub add_price-requires : goal.add_price-requires
+add_price-requires g c =
     let b = c.requires.over.0 in
     let over = c.requires.over.1 in
     let es = c.args.entries.now in
@@ -43,12 +43,12 @@ with_place-best-requires-in-loop-entry g c =
     let here : slice_get (map g.E.Logged.tried es) c.loop-entry.entry-index ≡ Some e =
     get-mapped g.E.Logged.tried es c.loop-entry.entry-index c.entry-item.result
     (slice_get-get_or es c.loop-entry.entry-index c.entry-item.result c.loop-entry-test.true ∙ ap Some (sym c.entry-item.is)) in
-    let is : c.bill_after-now.result ≡ bill_next e c.loop-entry.now =
-    c.bill_after-now.ensures
+    let is : c.add_price.new.bill ≡ bill_next e c.loop-entry.now =
+    c.add_price.ensures
     ∙ (ap (λ (v : Verdict). if is_accepted v then add_bills c.loop-entry.now c.price.result else c.loop-entry.now) c.verdict.ensures
     ∙ ap (λ (p : Bill). if is_accepted e.verdict then add_bills c.loop-entry.now p else c.loop-entry.now) c.price.ensures) in
     next-in b c.args.inst.now.draft c.args.first.now (map g.E.Logged.tried es) over c.loop-entry.entry-index e here c.loop-entry.now c.loop-entry.best
-    (c.loop-entry.invariant.come b over) c.bill_after-now.result c.args.inst.now.valid is
+    (c.loop-entry.invariant.come b over) c.add_price.new.bill c.args.inst.now.valid is
 
 pub loop-entry-preserved : goal.loop-entry-preserved
 loop-entry-preserved g c = record {
@@ -59,12 +59,12 @@ loop-entry-preserved g c = record {
       let here : slice_get (map g.E.Logged.tried es) c.loop-entry.entry-index ≡ Some e =
       get-mapped g.E.Logged.tried es c.loop-entry.entry-index c.entry-item.result
       (slice_get-get_or es c.loop-entry.entry-index c.entry-item.result c.loop-entry-test.true ∙ ap Some (sym c.entry-item.is)) in
-      let is : c.bill_after-now.result ≡ bill_next e c.loop-entry.now =
-      c.bill_after-now.ensures
+      let is : c.add_price.new.bill ≡ bill_next e c.loop-entry.now =
+      c.add_price.ensures
       ∙ (ap (λ (v : Verdict). if is_accepted v then add_bills c.loop-entry.now c.price.result else c.loop-entry.now) c.verdict.ensures
       ∙ ap (λ (p : Bill). if is_accepted e.verdict then add_bills c.loop-entry.now p else c.loop-entry.now) c.price.ensures) in
       come-more b c.args.inst.now.draft c.args.first.now (map g.E.Logged.tried es) over c.loop-entry.entry-index e here c.loop-entry.now c.loop-entry.best
-      (c.loop-entry.invariant.come b over) c.bill_after-now.result c.with_place-best-in-loop-entry.result is
+      (c.loop-entry.invariant.come b over) c.add_price.new.bill c.with_place-best-in-loop-entry.result is
       (rw c.loop-entry.invariant.place at c.with_place-best-in-loop-entry.ensures);
 }
 

@@ -1,6 +1,6 @@
 use Rattle.std.proofs.Common.{map, ◌≡◌, ◌≤◌, ◌+◌, ◌∙◌, ◌++◌, ◌∷◌, [], arith, ap, sym, subst, length, true, Some}
 use Rattle.std.specs.Prelude.{if◌then◌else◌, slice_index, slice_set, vec_len, vec_capacity}
-use Rattle.ih_tables.specs.Bills.{feasible, cost}
+use Rattle.ih_tables.specs.Bills.{add_bills, feasible, cost}
 use Rattle.ih_journal.specs.Attempts.{attempt_after}
 use Rattle.ih_journal.specs.Best.{best_with}
 use Rattle.ih_journal.specs.Tried.{Tried}
@@ -18,7 +18,7 @@ use Rattle.ih_cellbook.specs.Counters.{is_compared}
 use Rattle.ih_cellbook.proofs.ExactPrices.{exact-last}
 use Rattle.ih_cellbook.proofs.Committing.{accepted-compared, legal_but-moves}
 use Rattle.ih_cellbook.proofs.Machine.{event-same}
-use Rattle.ih_cellbook.proofs.Kept.{number-below, price-in, reads-in, counters-rise, tries-few, tries-small, sum-small, has-room, history-short, bill_next, bill-next-in, kept-more, legal-next, verdict-is, entry-is}
+use Rattle.ih_cellbook.proofs.BookKeeping.{number-below, price-in, reads-in, counters-rise, tries-few, tries-small, sum-small, has-room, history-short, bill_next, bill-next-in, kept-more, legal-next, verdict-is, entry-is, best-stays}
 use Rattle.ih_journal.proofs.Mapped.{map-more}
 use Rattle.std.proofs.lemmas.List.{length-map}
 use Rattle.ih_cellbook.proofs.records.Records.commit.Goals as goal
@@ -80,8 +80,8 @@ tries_after-requires g c =
     let again = ap (λ (e : Tried). e.again) c.entry_from-entry.ensures in
     omega (arith, small, value, again)
 
-pub bill_after-self-inside-requires : goal.bill_after-self-inside-requires
-bill_after-self-inside-requires g c =
+pub add_price-requires : goal.add_price-requires
+add_price-requires g c =
     let right = subst (λ (v : Recorded). IsRightOffer v.base v.entries (g.E.Offer.Offers.offered c.args.offer.now)) (sym c.self.view_is) c.requires in
     rw c.price-price.ensures (sum-small _ _ _ _ _ _ c.self.inside.inst.now.valid c.self.invariant.0 (g.E.Offer.Offers.offered c.args.offer.now) right)
 
@@ -103,13 +103,21 @@ overflow_cast-len g c =
     let same = length-map c.self.inside.entries.items g.E.Logged.tried in
     omega (arith, short, old, more, len, same)
 
-pub with_place-self-inside-requires : goal.with_place-self-inside-requires
-with_place-self-inside-requires g c =
+pub best_after-self-inside-requires-clause-within : goal.best_after-self-inside-requires-clause-within
+best_after-self-inside-requires-clause-within g c =
     let right = subst (λ (v : Recorded). IsRightOffer v.base v.entries (g.E.Offer.Offers.offered c.args.offer.now)) (sym c.self.view_is) c.requires in
     let judged : c.judge-verdict.result ≡ verdict_by_counters c.self.inside.inst.now.draft c.self.inside.options (slice_index c.self.inside.counters.items) (g.E.Offer.Offers.offered c.args.offer.now) =
     c.judge-verdict.ensures ∙ ap (λ xs. verdict_by_counters c.self.inside.inst.now.draft c.self.inside.options (slice_index xs) (g.E.Offer.Offers.offered c.args.offer.now)) c.as_slice.ensures.value in
-    let bill : c.bill_after-self-inside.result ≡ bill_next c.judge-verdict.result c.self.inside.bill (g.E.Offer.Offers.offered c.args.offer.now).price = c.bill_after-self-inside.ensures ∙ ap (bill_next c.judge-verdict.result c.self.inside.bill) c.price-price.ensures in
+    let bill : c.add_price.new.bill ≡ bill_next c.judge-verdict.result c.self.inside.bill (g.E.Offer.Offers.offered c.args.offer.now).price = c.add_price.ensures ∙ ap (bill_next c.judge-verdict.result c.self.inside.bill) c.price-price.ensures in
     rw bill (bill-next-in _ _ _ _ _ _ c.self.inside.inst.now.valid c.self.invariant.0 (g.E.Offer.Offers.offered c.args.offer.now) right c.judge-verdict.result judged)
+
+pub best_after-self-inside-requires-clause-looked_at : goal.best_after-self-inside-requires-clause-looked_at
+best_after-self-inside-requires-clause-looked_at g c =
+    let base = base_with c.self.inside.inst.now.draft c.self.inside.start.now c.self.inside.options c.self.inside.freeze in
+    let kept = c.self.invariant.0 in
+    λ off.
+    let same : c.add_price.new.bill ≡ c.self.inside.bill = c.add_price.ensures ∙ ap (λ t. if t then add_bills c.self.inside.bill c.price-price.result else c.self.inside.bill) off in
+    best-stays base (map g.E.Logged.tried c.self.inside.entries.items) c.add_price.new.bill c.self.inside.best c.len.result (same ∙ kept.bill) kept.best
 
 pub invariant_of-self : goal.invariant_of-self
 invariant_of-self g c =
@@ -122,26 +130,26 @@ invariant_of-self g c =
     let appended : map g.E.Logged.tried c.push_reserved.new.self.items ≡ (map g.E.Logged.tried c.self.inside.entries.items) ++ entry_with (g.E.Offer.Offers.offered c.args.offer.now) c.tried-again.result c.judge-verdict.result ∷ [] =
     ap (map g.E.Logged.tried) c.push_reserved.ensures.items ∙ (map-more g.E.Logged.tried c.self.inside.entries.items c.entry_from-entry.result ∙ ap (λ e. (map g.E.Logged.tried c.self.inside.entries.items) ++ e ∷ []) c.entry_from-entry.ensures) in
     let grown = appended ∙ ap (λ e. (map g.E.Logged.tried c.self.inside.entries.items) ++ e ∷ []) own in
-    let bill : c.bill_after-self-inside.result ≡ bill_next c.judge-verdict.result c.self.inside.bill (g.E.Offer.Offers.offered c.args.offer.now).price = c.bill_after-self-inside.ensures ∙ ap (bill_next c.judge-verdict.result c.self.inside.bill) c.price-price.ensures in
+    let bill : c.add_price.new.bill ≡ bill_next c.judge-verdict.result c.self.inside.bill (g.E.Offer.Offers.offered c.args.offer.now).price = c.add_price.ensures ∙ ap (bill_next c.judge-verdict.result c.self.inside.bill) c.price-price.ensures in
     let old = c.self.inside.entries.ok.0 in
     let longer : vec_len c.push_reserved.new.self ≡ vec_len c.self.inside.entries + 1 = c.push_reserved.ensures.len in
     let len : c.len.result ≡ vec_len c.push_reserved.new.self = c.len.ensures in
     let same = length-map c.self.inside.entries.items g.E.Logged.tried in
     let place : c.len.result ≡ length (map g.E.Logged.tried c.self.inside.entries.items) + 1 = omega (arith, old, longer, len, same) in
     let again : c.tries_after.result ≡ (attempt_after c.self.inside.options (Some (entry_with (g.E.Offer.Offers.offered c.args.offer.now) c.tried-again.result c.judge-verdict.result))).again = c.tries_after.ensures ∙ ap (λ e. (attempt_after c.self.inside.options (Some e)).again) c.entry_from-entry.ensures in
-    let best : c.with_place-self-inside.result ≡ best_with c.self.inside.best c.len.result (feasible c.bill_after-self-inside.result) (cost c.self.inside.inst.now.draft.weights c.bill_after-self-inside.result) =
-    c.with_place-self-inside.ensures in
+    let best : c.best_after-self-inside.result ≡ best_with c.self.inside.best c.len.result (feasible c.add_price.new.bill) (cost c.self.inside.inst.now.draft.weights c.add_price.new.bill) =
+    c.best_after-self-inside.ensures in
     let room : vec_capacity c.push_reserved.new.self ≡ vec_capacity c.self.inside.entries = c.push_reserved.ensures.capacity in
     let most = c.self.invariant.1 in (
       rw grown (kept-more (base_with c.self.inside.inst.now.draft c.self.inside.start.now c.self.inside.options c.self.inside.freeze) (map g.E.Logged.tried c.self.inside.entries.items) c.self.inside.counters.items c.self.inside.tries.items c.self.inside.bill c.self.inside.best c.self.inside.inst.now.valid c.self.invariant.0 (g.E.Offer.Offers.offered c.args.offer.now) right c.judge-verdict.result judged
-          c.raise_where.new.counters.items _ c.bill_after-self-inside.result c.with_place-self-inside.result
+          c.raise_where.new.counters.items _ c.add_price.new.bill c.best_after-self-inside.result
           (record {
             len = c.raise_where.ensures.len;
             counters = λ n. c.raise_where.ensures.each n ∙ ap (λ (r : Noted). slice_index c.self.inside.counters.items n + (if is_accepted c.judge-verdict.result then times_read n r.pairs else 0)) c.reads.ensures;
             again = ap (λ w. slice_set c.self.inside.tries.items w c.tries_after.result) c.worker-worker.ensures
                 ∙ ap (slice_set c.self.inside.tries.items (g.E.Offer.Offers.offered c.args.offer.now).worker)
                 (again ∙ ap (λ n. (attempt_after c.self.inside.options (Some (entry_with (g.E.Offer.Offers.offered c.args.offer.now) n c.judge-verdict.result))).again) tried);
-            chosen = best ∙ ap (λ k. best_with c.self.inside.best k (feasible c.bill_after-self-inside.result) (cost c.self.inside.inst.now.draft.weights c.bill_after-self-inside.result)) place;
+            chosen = best ∙ ap (λ k. best_with c.self.inside.best k (feasible c.add_price.new.bill) (cost c.self.inside.inst.now.draft.weights c.add_price.new.bill)) place;
           })
           bill),
       omega (arith, room, most),

@@ -1,6 +1,6 @@
 use Rattle.std.proofs.Common.{arith, ap, length}
 use Rattle.std.proofs.lemmas.List.{length-map}
-use Rattle.ih_cellbook.proofs.Kept.{history-short}
+use Rattle.ih_cellbook.proofs.BookKeeping.{history-short}
 use Rattle.ih_cellbook.proofs.records.Records.copy_since.Goals as goal
 
 pub overflow_cast-len : goal.overflow_cast-len

@@ -6,7 +6,7 @@ use Rattle.ih_cellbook.specs.Recorded.{Recorded}
 use Rattle.ih_cellbook.specs.Laws.{AreFew}
 use Rattle.ih_cellbook.specs.Legal.{AreExact, AreLegalButDraws}
 use Rattle.ih_cellbook.proofs.ExactPrices.{prices-exact}
-use Rattle.ih_cellbook.proofs.Few.{legal-few}
+use Rattle.ih_cellbook.proofs.EntryLimits.{legal-few}
 use Rattle.ih_cellbook.proofs.records.Records.entries.Goals as goal
 
 pub returns-clause-legal : goal.returns-clause-legal

@@ -5,7 +5,7 @@ use Rattle.ih_cellbook.specs.Counters.{verdict_by_counters}
 use Rattle.ih_cellbook.specs.Recorded.{Recorded}
 use Rattle.ih_cellbook.specs.Keeping.{base_with}
 use Rattle.ih_cellbook.specs.Offers.{IsRightOffer}
-use Rattle.ih_cellbook.proofs.Kept.{number-below, price-in, reads-in, verdict-is}
+use Rattle.ih_cellbook.proofs.BookKeeping.{number-below, price-in, reads-in, verdict-is}
 use Rattle.ih_cellbook.proofs.records.Records.judge.Goals as goal
 
 pub judge-requires-clause-number : goal.judge-requires-clause-number

@@ -4,7 +4,7 @@ use Rattle.ih_tables.specs.Bills.{IsWithin}
 use Rattle.ih_plan.proofs.BillBounds.{bill-within}
 use Rattle.ih_plan.specs.Cells.{count_in}
 use Rattle.ih_cellbook.specs.Keeping.{base_with}
-use Rattle.ih_cellbook.proofs.Kept.{kept-none}
+use Rattle.ih_cellbook.proofs.BookKeeping.{kept-none}
 use Rattle.ih_cellbook.proofs.records.Records.new.Goals as goal
 
 pub with_place-requires : goal.with_place-requires

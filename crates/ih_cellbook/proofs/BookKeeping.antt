@@ -1,6 +1,6 @@
 -- What a book keeps beside its entries, as it is opened and as an entry is added.
 use Rattle.std.proofs.Common.{◌≡◌, ℕ, zero, suc, ◌+◌, ◌<◌, ◌≤◌, ◌^◌, refl, arith, sym, ap, ◌∙◌, subst, Bool, true, false, List, [], ◌∷◌, ◌++◌, length, take, inl, inr, Option, Some, None, ℤ, pos}
-use Rattle.std.specs.Prelude.{if◌then◌else◌, ◌==◌, map, All, slice_set, slice_index, replicate, ◌+ℤ◌, ◌-ℤ◌, ◌≤ℤ◌, neg_ℤ}
+use Rattle.std.specs.Prelude.{T, if◌then◌else◌, ◌==◌, int_lt, ◌<ℤ◌, map, All, slice_set, slice_index, replicate, ◌+ℤ◌, ◌-ℤ◌, ◌≤ℤ◌, neg_ℤ}
 use Rattle.std.proofs.lemmas.Bool.{cases_eq, cases_lt, eq-eqb, or_left, or_right}
 use Rattle.std.proofs.lemmas.Int.{ints}
 use Rattle.std.proofs.lemmas.Nat.{mul-le}
@@ -26,11 +26,11 @@ use Rattle.ih_journal.specs.declared.entries.Verdict.{Verdict}
 use Rattle.ih_journal.specs.Settings.{IsLawful, most_entries}
 use Rattle.ih_journal.specs.Attempts.{attempt_after, last_by, next_attempt}
 use Rattle.ih_journal.specs.Base.{Base}
-use Rattle.ih_journal.specs.Best.{best_with}
+use Rattle.ih_journal.specs.Best.{BestIs, IsFeasibleAt, best_with, cost_at}
 use Rattle.ih_journal.specs.History.{after_entries, changes_since, is_accepted, after_entry, plan_after, plan_at, version}
 use Rattle.ih_journal.specs.Legal.{IsLegalButDraw, verdict_on}
 use Rattle.ih_journal.proofs.BestLemmas.{best-start, best-more}
-use Rattle.ih_journal.proofs.Growth.{after_entries-plan, last_by-own, last_by-other, plan_after-more, plan_at-plan}
+use Rattle.ih_journal.proofs.Growth.{after_entries-plan, last_by-own, last_by-other, plan_after-more, plan_at-end, plan_at-plan}
 use Rattle.ih_cellbook.specs.Offered.{Offered}
 use Rattle.ih_cellbook.specs.Counters.{is_compared, times_read, risen_where, verdict_by_counters}
 use Rattle.ih_cellbook.specs.Keeping.{IsBase, AreVersions, AreTries, IsKept}
@@ -38,8 +38,8 @@ use Rattle.ih_cellbook.specs.Laws.{AreFew}
 use Rattle.ih_cellbook.specs.Offers.{IsRightOffer, entry_of, entry_with, reads_after}
 use Rattle.ih_cellbook.proofs.Committing.{accepted-compared, accepted-is, attempt-is, entry-legal, footprint-below, legal_but-moves, legal_but-more, legal_but-none, reads-cells, verdict-same, versions-more}
 use Rattle.ih_cellbook.proofs.Exact.{accepted-exact}
-use Rattle.ih_cellbook.proofs.Few.{again-few, legal-few, next-below}
-use Rattle.ih_cellbook.proofs.Times.{times-once}
+use Rattle.ih_cellbook.proofs.EntryLimits.{again-few, legal-few, next-below}
+use Rattle.ih_cellbook.proofs.TimesRead.{times-once}
 use Rattle.ih_cellbook.proofs.Versions.{version-most}
 
 -- ---- how many cells there are
@@ -204,6 +204,33 @@ module _ (b : Base) (H : List Tried) (cs ts : List ℕ) (now : Bill) (found : Op
           let len = length-map {B = ℕ × ℕ} (footprint_of_all b.instance (plan_at b H o.seen) o.moves) (λ n. (n, version b (take o.seen H) (cell_at b.instance n))) in
           let pairs = ap length (right.reads asked) in
           omega (arith, small, few, short, len, pairs)
+
+-- ---- a timetable that was looked at
+
+-- one place more with the timetable after all entries leaves the best as it is
+pub best-stays : (b : Base) (H : List Tried) (now : Bill) (found : Option (ℕ × ℤ)) (k : ℕ) → now ≡ bill_of b.instance (plan_after b H) → BestIs b H found
+    → best_with found k (feasible now) (cost b.instance.weights now) ≡ found
+best-stays b H now None k bill none = rw (bill, ← plan_at-end b H (length H) (omega arith), none (length H) (omega arith)) refl
+best-stays b H now (Some best) k bill is =
+    by_case (feasible now) refl
+  where
+    there : plan_at b H (length H) ≡ plan_after b H
+    there = plan_at-end b H (length H) (omega arith)
+
+    works : feasible now ≡ true → IsFeasibleAt b H (length H)
+    works on = ap (λ P. feasible (bill_of b.instance P)) there ∙ (sym (ap feasible bill) ∙ on)
+
+    by_case : (f : Bool) → feasible now ≡ f → best_with (Some best) k f (cost b.instance.weights now) ≡ Some best
+    by_case false off = refl
+    by_case true on =
+        let low = is.0.cheapest (length H) (omega arith) (works on) in
+        let cost-is : cost_at b H (length H) ≡ cost b.instance.weights now = ap (λ P. cost b.instance.weights (bill_of b.instance P)) there ∙ ap (cost b.instance.weights) (sym bill) in
+        not_less (int_lt (cost b.instance.weights now) best.1) refl low cost-is
+      where
+        not_less : (t : Bool) → int_lt (cost b.instance.weights now) best.1 ≡ t → cost_at b H best.0 ≤ℤ cost_at b H (length H) → cost_at b H (length H) ≡ cost b.instance.weights now
+            → (if t then Some (k, cost b.instance.weights now) else Some best) ≡ Some best
+        not_less false off low cost-is = refl
+        not_less true less low cost-is = let under : cost b.instance.weights now <ℤ best.1 = record { lt = subst T (sym less) tt } in let least = is.1 in absurd (omega (arith, ints, under, low, cost-is, least))
 
 -- ---- the offer's entry added
 
