@@ -3,3 +3,14 @@ pub mod Escapes
 pub mod Joins
 pub mod OrderLemmas
 pub mod ListSums
+pub mod Scans
+pub mod NamesAndNumbers
+pub mod OwnTags
+pub mod SummaryTags
+pub mod LeftOutTags
+pub mod RoomTags
+pub mod SurgeryTags
+pub mod NursingTags
+pub mod WrongTags
+pub mod PageTags
+pub mod TagExamples

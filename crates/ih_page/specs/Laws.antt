@@ -1,5 +1,5 @@
 -- Laws of pages.
-use Rattle.std.specs.Prelude.{ℕ, ◌≡◌, ◌==◌, ◌||◌, not, pos, Bool, true, List, slice_index, sum_by}
+use Rattle.std.specs.Prelude.{ℕ, ◌≡◌, ◌==◌, ◌||◌, not, pos, Bool, true, List, ◌++◌, slice_index, sum_by}
 use Rattle.std.specs.List.{AllByRecursion}
 use Rattle.ih_tables.specs.declared.drafts.Draft.{Draft}
 use Rattle.ih_plan.specs.Timetable.{Timetable}
@@ -9,6 +9,8 @@ use Rattle.ih_page.specs.Html.{escaped}
 use Rattle.ih_page.specs.BillLines.{IsLine, number_in}
 use Rattle.ih_page.specs.Order.{dearest_first}
 use Rattle.ih_page.specs.Wrong.{amounts}
+use Rattle.ih_page.specs.Page.{opening, page_of}
+use Rattle.ih_page.specs.Tags.{tags, opening_tags, is_own}
 
 -- a byte that is none of < > " and '
 abbrev pub is_plain : ℕ → Bool
@@ -25,3 +27,11 @@ listed_sum I P l = sum_by (slice_index (amounts I P l)) (dearest_first (amounts 
 -- The amounts of a list sum to the number of its line in the report.
 abbrev pub ListsSum : Draft → Timetable → Type 0
 ListsSum I P = (l : Line) → IsLine l → pos (listed_sum I P l) ≡ number_in (bill_of I P) l
+
+-- A page is the opening, which is one for all timetables and has its few tags, and behind it a text whose tags are
+-- the page's own: so no text of a file, such as an id, makes a tag or stands within one.
+pub record TagsAreOwn (I : Draft) (P : Timetable) : Type 0 where
+  pub rest : List ℕ
+  pub page : page_of I P ≡ opening ++ rest
+  pub begins : tags (page_of I P) ≡ opening_tags ++ tags rest
+  pub own : AllByRecursion (λ tag. is_own tag ≡ true) (tags rest)

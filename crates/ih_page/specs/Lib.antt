@@ -9,4 +9,5 @@ pub mod Order
 pub mod CellNames
 pub mod Wrong
 pub mod Page
+pub mod Tags
 pub mod Laws

@@ -1,14 +1,18 @@
 //! Laws of pages, on functions that do nothing.
 
 ghost use Rattle.ih_plan.specs.Timetable.{Timetable};
-ghost use Rattle.ih_page.specs.Laws.{ListsSum, NamesHaveNoTags};
+ghost use Rattle.ih_page.specs.Laws.{ListsSum, NamesHaveNoTags, TagsAreOwn};
 
 use ih_tables::Instance;
 
-/// The text of a file, as it stands in a page, begins and ends no tag and no quoted text, whatever it is: the tags of a
-/// page are its own.
+/// The text of a file, as it stands in a page, begins and ends no tag and no quoted text, whatever it is.
 pub fn names_have_no_tags()
     ensures { NamesHaveNoTags }
+{}
+
+/// Whatever the ids of the files hold, each tag of a page is one of the page's own.
+pub fn tags_are_own(_inst: &Instance)
+    ensures { (P : Timetable) → TagsAreOwn _inst.now.draft P }
 {}
 
 /// The amounts that a list has, cell by cell, sum to the number of its line in the report.

@@ -17,5 +17,5 @@ mod surgery;
 mod texts;
 mod wrong;
 
-pub use laws::{lists_sum, names_have_no_tags};
+pub use laws::{lists_sum, names_have_no_tags, tags_are_own};
 pub use pages::page;

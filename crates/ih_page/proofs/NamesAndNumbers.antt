@@ -1,0 +1,96 @@
+-- A name from a file has no tag, and a number is the 9 of a form.
+use Rattle.std.proofs.Common.{◌≡◌, refl, arith, ℕ, zero, suc, ◌+◌, ◌/◌, ◌%◌, ◌<◌, ◌≤◌, Bool, true, false, List, [], ◌∷◌, ◌++◌, le-leb, leb-true, lt-ltb, ne_eqb, append-nil}
+use Rattle.std.proofs.lemmas.Bool.{and_parts}
+use Rattle.std.specs.Prelude.{◌==◌, nat_le, ℤ, pos, negsuc, decimal, if◌then◌else◌}
+use Rattle.std.specs.Char.{is_ascii_digit}
+use Rattle.std.specs.Fmt.{signed_decimal, digit_glyph, digits_onto, digits}
+use Rattle.std.specs.List.{AllByRecursion}
+use Rattle.ih_page.specs.Html.{escaped}
+use Rattle.ih_page.specs.Laws.{is_plain}
+use Rattle.ih_page.proofs.Escapes.{escaped-plain}
+use Rattle.ih_page.proofs.Scans.{inside, run, Own}
+
+-- a byte that is no < stays outside
+plain-step : (b : ℕ) (text : List ℕ) → b == 60 ≡ false → Own text → Own (b ∷ text)
+plain-step b text e h = rw e h
+
+no-tag : (b : ℕ) → is_plain b ≡ true → b == 60 ≡ false
+no-tag b h = by (b == 60) refl
+  where
+    by : (c : Bool) → b == 60 ≡ c → b == 60 ≡ false
+    by true e = let no : false ≡ true = rw e at h in cc
+    by false e = e
+
+all-plain : (text : List ℕ) → AllByRecursion (λ b. is_plain b ≡ true) text → Own text
+all-plain [] h = refl
+all-plain (b ∷ text) h = plain-step b text (no-tag b h.0) (all-plain text h.1)
+
+pub name : (text : List ℕ) → Own (escaped text)
+name text = all-plain (escaped text) (escaped-plain text)
+
+abbrev AreDigits : List ℕ → Type 0
+AreDigits ds = AllByRecursion (λ b. is_ascii_digit b ≡ true) ds
+
+-- one digit or more
+abbrev IsNumber : List ℕ → Type 0
+IsNumber [] = ⊥
+IsNumber (b ∷ ds) = AreDigits (b ∷ ds)
+
+digit-at : (b : ℕ) → 48 ≤ b → b ≤ 57 → is_ascii_digit b ≡ true
+digit-at b low high = rw (le-leb 48 b low, le-leb b 57 high) refl
+
+glyph-digit : (d : ℕ) → d < 10 → is_ascii_digit (digit_glyph false d) ≡ true
+glyph-digit d h = rw (lt-ltb d 10 h) (digit-at (48 + d) (omega arith) (omega arith))
+
+pick : (c : Bool) (s t : List ℕ) → IsNumber s → IsNumber t → IsNumber (if c then s else t)
+pick true s t h k = h
+pick false s t h k = k
+
+onto : (k n b : ℕ) (ds : List ℕ) → AreDigits (b ∷ ds) → IsNumber (digits_onto k 10 false n (b ∷ ds))
+onto zero n b ds h = h
+onto (suc k) n b ds h =
+    let more : AreDigits (digit_glyph false (n % 10) ∷ b ∷ ds) = (glyph-digit (n % 10) (omega arith), h) in
+    pick (n / 10 == 0) (digit_glyph false (n % 10) ∷ b ∷ ds) _ more (onto k (n / 10) (digit_glyph false (n % 10)) (b ∷ ds) more)
+
+decimal-digits : (n : ℕ) → IsNumber (decimal n)
+unfolding digits
+decimal-digits n =
+    let last : AreDigits (digit_glyph false (n % 10) ∷ []) = (glyph-digit (n % 10) (omega arith), tt) in
+    pick (n / 10 == 0) (digit_glyph false (n % 10) ∷ []) (digits_onto 63 10 false (n / 10) (digit_glyph false (n % 10) ∷ []))
+    last (onto 63 (n / 10) (digit_glyph false (n % 10)) [] last)
+
+-- a digit is neither < nor >
+no-bracket : (b c : ℕ) → 57 < c → is_ascii_digit b ≡ true → b == c ≡ false
+no-bracket b c h d = ne_eqb b c (λ e. let high : b ≤ 57 = leb-true b 57 (and_parts (nat_le 48 b) (nat_le b 57) d).1 in omega arith)
+
+digits-outside : (ds : List ℕ) → AreDigits ds → Own ds
+digits-outside [] h = refl
+digits-outside (b ∷ ds) h = plain-step b ds (no-bracket b 60 (omega arith) h.0) (digits-outside ds h.1)
+
+next-digit : (f : List ℕ) (digit : Bool) (b : ℕ) (ds : List ℕ) → is_ascii_digit b ≡ true
+    → run (inside f digit) (b ∷ ds) ≡ run (inside (f ++ (if digit then [] else 57 ∷ [])) true) ds
+next-digit f digit b ds h = rw (no-bracket b 62 (omega arith) h, h) refl
+
+digits-inside : (f ds : List ℕ) → AreDigits ds → run (inside f true) ds ≡ inside f true
+digits-inside f [] h = refl
+digits-inside f (b ∷ ds) h = rw (next-digit f true b ds h.0, append-nil f) (digits-inside f ds h.1)
+
+number-inside : (f ds : List ℕ) → IsNumber ds → run (inside f false) ds ≡ inside (f ++ 57 ∷ []) true
+number-inside f [] h = absurd h
+number-inside f (b ∷ ds) h = rw (next-digit f false b ds h.0) (digits-inside (f ++ 57 ∷ []) ds h.1)
+
+are-digits : (ds : List ℕ) → IsNumber ds → AreDigits ds
+are-digits [] h = tt
+are-digits (b ∷ ds) h = h
+
+pub number : (n : ℕ) → Own (decimal n)
+number n = digits-outside (decimal n) (are-digits (decimal n) (decimal-digits n))
+
+pub number-in-tag : (f : List ℕ) (n : ℕ) → run (inside f false) (decimal n) ≡ inside (f ++ 57 ∷ []) true
+number-in-tag f n = number-inside f (decimal n) (decimal-digits n)
+
+pub signed-number : (x : ℤ) → Own (signed_decimal x)
+signed-number (pos n) = number n
+signed-number (negsuc n) = plain-step 45 (decimal (suc n)) refl (number (suc n))
+
+pub ruleset names_and_numbers = (name, number, number-in-tag, signed-number)

@@ -1,0 +1,36 @@
+-- The tags of a page are its own.
+use Rattle.std.proofs.Common.{refl}
+use Rattle.std.specs.Prelude.{ℕ, List, ◌++◌, codes}
+use Rattle.ih_tables.specs.declared.drafts.Draft.{Draft}
+use Rattle.ih_plan.specs.Timetable.{Timetable}
+use Rattle.ih_plan.specs.BillOf.{bill_of}
+use Rattle.ih_page.specs.Laws.{TagsAreOwn}
+use Rattle.ih_page.specs.Summary.{summary}
+use Rattle.ih_page.specs.Wrong.{wrong_text}
+use Rattle.ih_page.specs.Page.{opening, tables, page_of}
+use Rattle.ih_page.proofs.Scans.{Own, by_pieces}
+use Rattle.ih_page.proofs.OwnTags.{own-tags}
+use Rattle.ih_page.proofs.SummaryTags.{summary-own}
+use Rattle.ih_page.proofs.WrongTags.{wrong-own}
+use Rattle.ih_page.proofs.LeftOutTags.{left-out-own}
+use Rattle.ih_page.proofs.RoomTags.{rooms-own}
+use Rattle.ih_page.proofs.SurgeryTags.{theatres-own, surgeons-own}
+use Rattle.ih_page.proofs.NursingTags.{nurses-own}
+
+-- a page behind its opening
+abbrev rest_of : Draft → Timetable → List ℕ
+rest_of I P = summary I.weights (bill_of I P) ++ (wrong_text I P ++ (tables I P ++ codes "</main>\n"))
+
+rest-own : (I : Draft) (P : Timetable) → Own (rest_of I P)
+unfolding tables
+rest-own I P =
+    simp (by_pieces, summary-own, wrong-own, left-out-own, rooms-own, theatres-own, surgeons-own, nurses-own) refl
+
+pub tags-own : (I : Draft) (P : Timetable) → TagsAreOwn I P
+unfolding page_of opening
+tags-own I P = record {
+  rest = rest_of I P;
+  page = refl;
+  begins = refl;
+  own = own-tags (rest_of I P) (rest-own I P);
+}

@@ -1,0 +1,106 @@
+-- The tags of the rooms are the page's own.
+use Rattle.std.proofs.Common.{ℕ, ◌+◌, ◌*◌, Bool, true, false, List, [], refl, Option, Some, None}
+use Rattle.std.specs.Prelude.{◌==◌, slice_get, if◌then◌else◌}
+use Rattle.ih_tables.specs.declared.drafts.Draft.{Draft}
+use Rattle.ih_tables.specs.declared.drafts.Nurse.{Nurse}
+use Rattle.ih_tables.specs.declared.drafts.Occupant.{Occupant}
+use Rattle.ih_tables.specs.declared.drafts.Patient.{Patient}
+use Rattle.ih_tables.specs.declared.drafts.Room.{Room}
+use Rattle.ih_tables.specs.declared.drafts.Theatre.{Theatre}
+use Rattle.ih_tables.specs.Sizes.{patient_count}
+use Rattle.ih_plan.specs.declared.moves.Placement.{Placement}
+use Rattle.ih_plan.specs.Timetable.{Timetable, stay_of}
+use Rattle.ih_page.specs.Html.{escaped, numbered}
+use Rattle.ih_page.specs.Rooms.{age_text, theatre_text, shift_type_text, nurse_text, wide_cell, bar_cell, bar_text, person_cells, patient_row, occupant_row, patient_in, occupant_in, marked, place_text, count_cell, nurse_cell, shift_row, day_head, room_title, room_head, count_row, person_rows, room_text, rooms_text}
+use Rattle.ih_page.proofs.Scans.{Own, all-below, if-any, by_pieces}
+use Rattle.ih_page.proofs.NamesAndNumbers.{name, names_and_numbers}
+
+-- names
+
+age-name : (I : Draft) (g : ℕ) → Own (age_text I g)
+age-name I g = if-any escaped name _
+
+pub theatre-name : (I : Draft) (t : ℕ) → Own (theatre_text I t)
+theatre-name I t = if-any (λ (a : Theatre). escaped a.id) (λ a. name a.id) (slice_get I.operating_theaters t)
+
+pub shift-name : (I : Draft) (j : ℕ) → Own (shift_type_text I j)
+unfolding shift_type_text
+shift-name I j = if-any escaped name _
+
+pub nurse-name : (I : Draft) (n : Option ℕ) → Own (nurse_text I n)
+nurse-name I None = refl
+nurse-name I (Some n) = if-any (λ (a : Nurse). escaped a.id) (λ a. name a.id) (slice_get I.nurses n)
+
+-- who is in a room
+
+bar : (h d n : ℕ) → Own (bar_text h d n)
+unfolding bar_text wide_cell bar_cell
+bar h d n = simp (by_pieces, names_and_numbers) refl
+
+cells : (I : Draft) (gender : List ℕ) (age : ℕ) → Own (person_cells I gender age)
+unfolding person_cells
+cells I gender age = simp (by_pieces, names_and_numbers, age-name) refl
+
+patient-row : (I : Draft) (p : ℕ) (at : Placement) (a : Patient) → Own (patient_row I p at a)
+unfolding numbered
+patient-row I p at a = simp (by_pieces, names_and_numbers, cells, theatre-name, bar) refl
+
+occupant-row : (I : Draft) (x : ℕ) (a : Occupant) → Own (occupant_row I x a)
+unfolding numbered
+occupant-row I x a = simp (by_pieces, names_and_numbers, cells, bar) refl
+
+patient : (I : Draft) (r p : ℕ) (o : Option Placement) → Own (patient_in I r p o)
+patient I r p None = refl
+patient I r p (Some at) = simp (by_pieces, if-any (patient_row I p at) (patient-row I p at)) refl
+
+occupant-if : (I : Draft) (x : ℕ) (c : Bool) (a : Occupant) → Own (if c then occupant_row I x a else [])
+occupant-if I x true a = occupant-row I x a
+occupant-if I x false a = refl
+
+occupant : (I : Draft) (r o : ℕ) → Own (occupant_in I r o)
+occupant I r o =
+    if-any (λ (a : Occupant). if a.room_id.0 == r then occupant_row I (patient_count I + o) a else [])
+    (λ a. occupant-if I (patient_count I + o) (a.room_id.0 == r) a) (slice_get I.occupants o)
+
+persons : (I : Draft) (P : Timetable) (r : ℕ) → Own (person_rows I P r)
+unfolding person_rows
+persons I P r =
+    simp (
+      by_pieces,
+      all-below (occupant_in I r) (occupant I r),
+      all-below (λ p. patient_in I r p (stay_of P p)) (λ p. patient I r p (stay_of P p)),
+    ) refl
+
+-- the other rows
+
+count : (I : Draft) (P : Timetable) (r d : ℕ) → Own (count_cell I P r d)
+unfolding marked place_text
+count I P r d = simp (by_pieces, names_and_numbers) refl
+
+count-row : (I : Draft) (P : Timetable) (r : ℕ) → Own (count_row I P r)
+unfolding count_row
+count-row I P r = simp (by_pieces, all-below (count_cell I P r) (count I P r)) refl
+
+nurse : (I : Draft) (P : Timetable) (r k : ℕ) → Own (nurse_cell I P r k)
+unfolding place_text
+nurse I P r k = simp (by_pieces, names_and_numbers, nurse-name) refl
+
+shift : (I : Draft) (P : Timetable) (r j : ℕ) → Own (shift_row I P r j)
+shift I P r j =
+    simp (by_pieces, shift-name, all-below (λ d. nurse_cell I P r (3 * d + j)) (λ d. nurse I P r (3 * d + j))) refl
+
+pub day : (d : ℕ) → Own (day_head d)
+day d = simp (by_pieces, names_and_numbers) refl
+
+head : (I : Draft) (r : ℕ) (a : Room) → Own (room_head I r a)
+unfolding room_head room_title numbered
+head I r a = simp (by_pieces, names_and_numbers, all-below day_head day) refl
+
+room : (I : Draft) (P : Timetable) (r : ℕ) → Own (room_text I P r)
+unfolding room_text
+room I P r =
+    simp (by_pieces, if-any (room_head I r) (head I r), persons, count-row, all-below (shift_row I P r) (shift I P r)) refl
+
+pub rooms-own : (I : Draft) (P : Timetable) → Own (rooms_text I P)
+unfolding rooms_text
+rooms-own I P = simp (by_pieces, all-below (room_text I P) (room I P)) refl

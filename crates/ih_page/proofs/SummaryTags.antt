@@ -1,0 +1,45 @@
+-- The tags of a page's head are its own.
+use Rattle.std.proofs.Common.{ℕ, Bool, true, false, refl}
+use Rattle.std.specs.Prelude.{ℤ}
+use Rattle.ih_tables.specs.declared.bills.Bill.{Bill}
+use Rattle.ih_tables.specs.declared.bills.Weights.{Weights}
+use Rattle.ih_tables.specs.Bills.{at}
+use Rattle.ih_page.specs.Summary.{rule_name, cost_name, line_text, line_link, line_head, product_text, hard_text, rule_row, cost_row, verdict_text, rule_rows, cost_rows, verdict_of, summary}
+use Rattle.ih_page.proofs.Scans.{Own, all-below, by_pieces}
+use Rattle.ih_page.proofs.NamesAndNumbers.{names_and_numbers}
+
+pub rule-name : (i : ℕ) → Own (rule_name i)
+unfolding rule_name
+rule-name i = simp by_pieces refl
+
+pub cost-name : (i : ℕ) → Own (cost_name i)
+unfolding cost_name
+cost-name i = simp by_pieces refl
+
+rule-row : (i : ℕ) (x : ℤ) → Own (rule_row i x)
+unfolding line_head line_link line_text hard_text
+rule-row i x = simp (by_pieces, names_and_numbers, rule-name) refl
+
+cost-row : (i : ℕ) (x w : ℤ) → Own (cost_row i x w)
+unfolding line_head line_link line_text product_text
+cost-row i x w = simp (by_pieces, names_and_numbers, cost-name) refl
+
+verdict : (b : Bool) → Own (verdict_text b)
+verdict true = refl
+verdict false = refl
+
+verdict-of : (w : Weights) (b : Bill) → Own (verdict_of w b)
+unfolding verdict_of
+verdict-of w b = simp (by_pieces, names_and_numbers, verdict) refl
+
+rule-rows : (b : Bill) → Own (rule_rows b)
+unfolding rule_rows
+rule-rows b = all-below _ (λ i. rule-row i (at b.v i)) 9
+
+cost-rows : (w : Weights) (b : Bill) → Own (cost_rows w b)
+unfolding cost_rows
+cost-rows w b = all-below _ (λ i. cost-row i (at b.s i) (at w.w i)) 8
+
+pub summary-own : (w : Weights) (b : Bill) → Own (summary w b)
+unfolding summary
+summary-own w b = simp (by_pieces, verdict-of, rule-rows, cost-rows) refl
