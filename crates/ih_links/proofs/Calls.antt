@@ -1,10 +1,11 @@
 -- What the calls of links need and leave, over what their code reads.
 use Rattle.std.proofs.Common.{◌≡◌, ℕ, ◌+◌, ◌-◌, ◌^◌, ◌<◌, ◌≤◌, refl, arith, sym, ap, ◌∙◌, subst, true, false, List, [], ◌∷◌, ◌++◌, inl, inr, Option, Some, None, length}
 use Rattle.std.specs.Prelude.{map, slice_index, slice_index_or, slice_set}
-use Rattle.std.proofs.lemmas.List.{get_or_default}
-use Rattle.std.proofs.lemmas.Bool.{eq-eqb, lt-ltb, le-ltb, both_ways}
+use Rattle.std.proofs.lemmas.List.{get_or_default, length-map, map-set}
+use Rattle.std.proofs.lemmas.Bool.{eq-eqb, ne_eqb, lt-ltb, le-ltb, both_ways}
 use Rattle.ih_links.specs.Lists.{AreNodes, Linked, list_of, has, without, is_at, following, first_of}
-use Rattle.ih_links.specs.Ring.{Tied, lists_of, node_in}
+use Rattle.ih_links.specs.Ring.{Tied, home_of, homes_of, lists_of, node_in}
+use Rattle.ih_links.proofs.Members.{is_at-true}
 use Rattle.ih_links.proofs.Ties.{tied-lists, node-below, tied-first, tied-following, last-below, room, tied-pushed, before-below, after-below, filled, tied-passed, head-known}
 
 node_in-node : (n place : ℕ) → place < n → node_in n place ≡ Some place
@@ -13,8 +14,24 @@ node_in-node n place h = let e = lt-ltb place n h in rw e refl
 node_in-gate : (n place : ℕ) → n ≤ place → node_in n place ≡ None
 node_in-gate n place h = let e = le-ltb place n h in rw e refl
 
-module _ {next prev : List ℕ} {home : List (Option ℕ)} {len : List ℕ} {v : Linked} (tied : Tied next prev home len (lists_of next home len))
-    (view_is : ◌≡◌ {A = Linked} (record { lists = lists_of next home len; nodes = length home }) v) where
+-- a home below 65535 is a head's
+home_of-head : (h : ℕ) → h < 65535 → home_of h ≡ Some h
+home_of-head h below = let e = ne_eqb h 65535 (λ e. omega arith) in rw e refl
+
+module _ (node : ℕ) (v : Linked) {h : ℕ} (found : Option ℕ) (found_is : (k : ℕ) → has node (list_of v k) ≡ is_at k found) (some : found ≡ Some h) where
+  -- a node that has a home is in a list
+  pub home-linked : has node (list_of v h) ≡ true
+  home-linked = found_is h ∙ (ap (is_at h) some ∙ eq-eqb h h refl)
+
+  -- a node that is in no list has no home
+  pub free-home : ((k : ℕ) → has node (list_of v k) ≡ false) → ⊥
+  free-home free = both_ways (has node (list_of v h)) (free h) home-linked
+
+module _ {next prev len : List ℕ} {v : Linked} (raw : List ℕ) (tied : Tied next prev (homes_of raw) len (lists_of next (homes_of raw) len))
+    (view_is : ◌≡◌ {A = Linked} (record { lists = lists_of next (homes_of raw) len; nodes = length raw }) v) where
+  abbrev home : List (Option ℕ)
+  home = homes_of raw
+
   abbrev ls : List (List ℕ)
   ls = v.lists
 
@@ -22,7 +39,7 @@ module _ {next prev : List ℕ} {home : List (Option ℕ)} {len : List ℕ} {v :
   t = subst (Tied next prev home len) (ap (λ (w : Linked). w.lists) view_is) tied
 
   nodes_are : length home ≡ v.nodes
-  nodes_are = ap (λ (w : Linked). w.nodes) view_is
+  nodes_are = length-map raw home_of ∙ ap (λ (w : Linked). w.nodes) view_is
 
   module _ (head node gate last : ℕ) (head_below : head < length ls) (node_below : node < v.nodes) (free : (h : ℕ) → has node (list_of v h) ≡ false)
       (gate_is : gate ≡ v.nodes + head) (last_is : last ≡ slice_index_or prev gate last) where
@@ -38,6 +55,10 @@ module _ {next prev : List ℕ} {home : List (Option ℕ)} {len : List ℕ} {v :
     last_read : last ≡ slice_index prev (length home + head)
     last_read = last_is ∙ (get_or_default prev gate last 0 (let p = t.prevs in let b = head_in in let n = nodes_are in omega arith) ∙ ap (slice_index prev) gate_read)
 
+    -- the head has another number than the one that says none
+    pub push-head : head < 65535
+    push-head = let f = t.few in let b = head_in in let i = node_inside in omega arith
+
     pub push-last : last < length next
     push-last = rw last_read (last-below next prev home len ls t head node head_in node_inside free)
 
@@ -45,7 +66,7 @@ module _ {next prev : List ℕ} {home : List (Option ℕ)} {len : List ℕ} {v :
       count_read : count ≡ slice_index len head
       count_read = count_is ∙ get_or_default len head count 0 head_in
 
-      pub push-room : count + 1 < 2 ^ 32
+      pub push-room : count + 1 < 2 ^ 16
       push-room = let r = room next prev home len ls t head node head_in node_inside free in let f = t.few in let e = count_read in let b = head_in in omega arith
 
       abbrev next' : List ℕ
@@ -55,7 +76,10 @@ module _ {next prev : List ℕ} {home : List (Option ℕ)} {len : List ℕ} {v :
       prev' = slice_set (slice_set prev node last) gate node
 
       abbrev home' : List (Option ℕ)
-      home' = slice_set home node (Some head)
+      home' = homes_of (slice_set raw node head)
+
+      homes' : slice_set home node (Some head) ≡ home'
+      homes' = ap (slice_set home node) (sym (home_of-head head push-head)) ∙ sym (map-set home_of raw node head)
 
       abbrev len' : List ℕ
       len' = slice_set len head (count + 1)
@@ -64,7 +88,7 @@ module _ {next prev : List ℕ} {home : List (Option ℕ)} {len : List ℕ} {v :
       ls' = slice_set ls head (list_of v head ++ node ∷ [])
 
       pushed : Tied next' prev' home' len' ls'
-      pushed = rw (gate_read, last_read, count_read) (tied-pushed next prev home len ls t head node head_in node_inside free)
+      pushed = subst (λ hs. Tied next' prev' hs len' ls') homes' (rw (gate_read, last_read, count_read) (tied-pushed next prev home len ls t head node head_in node_inside free))
 
       pub push-lists : lists_of next' home' len' ≡ ls'
       push-lists = tied-lists next' prev' home' len' ls' pushed
@@ -72,13 +96,16 @@ module _ {next prev : List ℕ} {home : List (Option ℕ)} {len : List ℕ} {v :
       pub push-tied : Tied next' prev' home' len' (lists_of next' home' len')
       push-tied = subst (Tied next' prev' home' len') (sym push-lists) pushed
 
-  module _ (head node before after : ℕ) (place : Option ℕ) (linked : (h : ℕ) × (has node (list_of v h) ≡ true)) (place_is : place ≡ slice_index_or home node place)
-      (some : place ≡ Some head) (before_is : before ≡ slice_index_or prev node before) (after_is : after ≡ slice_index_or next node after) where
+  module _ (head node before after : ℕ) (found : Option ℕ) (found_is : (k : ℕ) → has node (list_of v k) ≡ is_at k found) (some : found ≡ Some head)
+      (before_is : before ≡ slice_index_or prev node before) (after_is : after ≡ slice_index_or next node after) where
+    linked : has node (list_of v head) ≡ true
+    linked = home-linked node v found found_is some
+
     inside : node < length home
-    inside = node-below next prev home len ls t linked.0 node linked.1
+    inside = node-below next prev home len ls t head node linked
 
     at : slice_index_or home node None ≡ Some head
-    at = sym (get_or_default home node place None inside) ∙ (sym place_is ∙ some)
+    at = is_at-true head (slice_index_or home node None) (sym (t.homes head node) ∙ linked)
 
     before_read : before ≡ slice_index prev node
     before_read = before_is ∙ get_or_default prev node before 0 (let p = t.prevs in let i = inside in omega arith)
@@ -106,7 +133,10 @@ module _ {next prev : List ℕ} {home : List (Option ℕ)} {len : List ℕ} {v :
       prev- = slice_set prev after before
 
       abbrev home- : List (Option ℕ)
-      home- = slice_set home node None
+      home- = homes_of (slice_set raw node 65535)
+
+      homes- : slice_set home node None ≡ home-
+      homes- = sym (map-set home_of raw node 65535)
 
       abbrev len- : List ℕ
       len- = slice_set len head (count - 1)
@@ -115,7 +145,7 @@ module _ {next prev : List ℕ} {home : List (Option ℕ)} {len : List ℕ} {v :
       ls- = map (without node) ls
 
       passed : Tied next- prev- home- len- ls-
-      passed = rw (before_read, after_read, taken) (tied-passed next prev home len ls t head node at)
+      passed = subst (λ hs. Tied next- prev- hs len- ls-) homes- (rw (before_read, after_read, taken) (tied-passed next prev home len ls t head node at))
 
       pub remove-lists : lists_of next- home- len- ≡ ls-
       remove-lists = tied-lists next- prev- home- len- ls- passed
@@ -147,28 +177,6 @@ module _ {next prev : List ℕ} {home : List (Option ℕ)} {len : List ℕ} {v :
       | inl q ↦ node_in-gate (length home) (slice_index next node) q.0 ∙ sym q.1
       | inr q ↦ node_in-node (length home) (slice_index next node) q.0 ∙ sym q.1
     ])
-
-  -- a node that has a home is in a list
-  pub home-linked : (node : ℕ) (place : Option ℕ) (h : ℕ) → node < v.nodes → place ≡ slice_index_or home node place → place ≡ Some h → has node (list_of v h) ≡ true
-  home-linked node place h below is some =
-      let in_home : node < length home = let n = nodes_are in omega arith in
-      t.homes h node ∙ (ap (is_at h) (sym (get_or_default home node place None in_home) ∙ (sym is ∙ some)) ∙ same h)
-    where
-      same : (k : ℕ) → is_at k (Some k) ≡ true
-      same k = eq-eqb k k refl
-
-  -- a node that is in no list has no home
-  pub free-home : (node h : ℕ) (place : Option ℕ) → node < v.nodes → place ≡ slice_index_or home node place → place ≡ Some h
-      → ((h : ℕ) → has node (list_of v h) ≡ false) → ⊥
-  free-home node h place below is some free = both_ways (has node (list_of v h)) (free h) (home-linked node place h below is some)
-
-  -- a node that has no home is in no list
-  pub homeless : (node h : ℕ) (place : Option ℕ) → node < v.nodes → place ≡ slice_index_or home node place → place ≡ None
-      → has node (list_of v h) ≡ true → ⊥
-  homeless node h place below is none m =
-      let in_home : node < length home = let n = nodes_are in omega arith in
-      let read : slice_index_or home node None ≡ None = sym (get_or_default home node place None in_home) ∙ (sym is ∙ none) in
-      both_ways (has node (list_of v h)) (t.homes h node ∙ ap (is_at h) read) m
 
   -- each list has nodes, each once
   pub nodes-of : (head : ℕ) → AreNodes v.nodes (list_of v head)

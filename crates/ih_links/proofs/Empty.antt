@@ -1,12 +1,12 @@
 -- Links of empty lists.
-use Rattle.std.proofs.Common.{◌≡◌, ℕ, zero, suc, ◌+◌, ◌^◌, ◌<◌, ◌≤◌, arith, sym, ap, ◌∙◌, subst, List, [], ◌∷◌, ◌++◌, inl, inr, Option, None, length, replicate}
+use Rattle.std.proofs.Common.{◌≡◌, ℕ, zero, suc, ◌+◌, ◌^◌, ◌<◌, ◌≤◌, refl, arith, sym, ap, ◌∙◌, subst, List, [], ◌∷◌, ◌++◌, inl, inr, Option, None, length, replicate}
 use Rattle.std.specs.Prelude.{slice_index, slice_index_or}
 use Rattle.std.specs.List.{range_with_len}
 use Rattle.std.proofs.lemmas.Bool.{cases_lt}
 use Rattle.std.proofs.lemmas.List.{get_or-replicate, length-replicate, get_or_past}
 use Rattle.std.proofs.lemmas.List.FromFn.{length-range_with_len, get_or-range_with_len}
 use Rattle.ih_links.specs.Lists.{has, is_at}
-use Rattle.ih_links.specs.Ring.{Tied, IsPath, lists_of}
+use Rattle.ih_links.specs.Ring.{Tied, IsPath, homes_of, lists_of}
 use Rattle.ih_links.proofs.Ties.{tied-lists}
 
 same-replicate : {A : Type 0} (n i : ℕ) (d : A) → slice_index_or (replicate n d) i d ≡ d
@@ -15,7 +15,12 @@ same-replicate n i d = elim (cases_lt i n) [
   | inr past ↦ get_or_past (replicate n d) i d (let l = length-replicate n d in omega arith)
 ]
 
-module _ (heads nodes : ℕ) (few : nodes + heads ≤ 2 ^ 32) where
+-- nodes that are all in no list
+homes-replicate : (n : ℕ) → homes_of (replicate n 65535) ≡ replicate n None
+homes-replicate zero = refl
+homes-replicate (suc n) = ap (λ hs. None ∷ hs) (homes-replicate n)
+
+module _ (heads nodes : ℕ) (few : nodes + heads ≤ 2 ^ 16) where
   abbrev next : List ℕ
   next = range_with_len 0 (nodes + heads)
 
@@ -77,10 +82,13 @@ range-more n xs ys is pushed =
     let next : suc n ≡ n + 1 = omega arith in
     pushed ∙ (ap (λ ks. ks ++ n ∷ []) is ∙ (ap (λ k. range_with_len 0 n ++ k ∷ []) none ∙ (sym (range-grown 0 n) ∙ ap (range_with_len 0) next)))
 
-module _ (heads nodes : ℕ) (few : nodes + heads ≤ 2 ^ 32) (n p : List ℕ) (hm : List (Option ℕ)) (ln : List ℕ) (n_is : n ≡ range_with_len 0 (nodes + heads))
-    (p_is : p ≡ range_with_len 0 (nodes + heads)) (hm_is : hm ≡ replicate nodes None) (ln_is : ln ≡ replicate heads 0) where
-  pub new-tied : Tied n p hm ln (lists_of n hm ln)
-  new-tied = rw (n_is, p_is, hm_is, ln_is) (empty-tied heads nodes few)
+module _ (heads nodes : ℕ) (few : nodes + heads ≤ 2 ^ 16) (n p hm ln : List ℕ) (n_is : n ≡ range_with_len 0 (nodes + heads))
+    (p_is : p ≡ range_with_len 0 (nodes + heads)) (hm_is : hm ≡ replicate nodes 65535) (ln_is : ln ≡ replicate heads 0) where
+  homes : homes_of hm ≡ replicate nodes None
+  homes = ap homes_of hm_is ∙ homes-replicate nodes
 
-  pub new-lists : lists_of n hm ln ≡ replicate heads []
-  new-lists = rw (n_is, hm_is, ln_is) (empty-lists heads nodes few)
+  pub new-tied : Tied n p (homes_of hm) ln (lists_of n (homes_of hm) ln)
+  new-tied = rw (n_is, p_is, homes, ln_is) (empty-tied heads nodes few)
+
+  pub new-lists : lists_of n (homes_of hm) ln ≡ replicate heads []
+  new-lists = rw (n_is, homes, ln_is) (empty-lists heads nodes few)

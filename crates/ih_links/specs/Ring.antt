@@ -1,5 +1,5 @@
 -- How vectors of links stand for lists: each list is a ring with the gate of its head.
-use Rattle.std.specs.Prelude.{◌≡◌, ℕ, zero, suc, ◌+◌, ◌^◌, ◌<◌, ◌≤◌, nat_lt, if◌then◌else◌, List, [], ◌∷◌, length, map, Option, Some, None, slice_index, slice_index_or}
+use Rattle.std.specs.Prelude.{◌≡◌, ℕ, zero, suc, ◌+◌, ◌^◌, ◌<◌, ◌≤◌, ◌==◌, nat_lt, if◌then◌else◌, List, [], ◌∷◌, length, map, Option, Some, None, slice_index, slice_index_or}
 use Rattle.std.specs.List.{range_with_len}
 use Rattle.ih_links.specs.Lists.{has, is_at, IsOnce}
 
@@ -7,6 +7,14 @@ use Rattle.ih_links.specs.Lists.{has, is_at, IsOnce}
 abbrev pub walk : (ℕ → ℕ) → ℕ → ℕ → List ℕ
 walk f zero a = []
 walk f (suc n) a = a ∷ walk f n (f a)
+
+-- the head that a home says: 65535 says none
+abbrev pub home_of : ℕ → Option ℕ
+home_of h = if h == 65535 then None else Some h
+
+-- the heads of all nodes
+abbrev pub homes_of : List ℕ → List (Option ℕ)
+homes_of raw = map home_of raw
 
 -- the lists that the links give
 abbrev pub lists_of : List ℕ → List (Option ℕ) → List ℕ → List (List ℕ)
@@ -30,4 +38,4 @@ pub record Tied (next prev : List ℕ) (home : List (Option ℕ)) (len : List �
   pub lens : (h : ℕ) → h < length len → slice_index len h ≡ length (slice_index_or lists h [])
   pub homes : (h x : ℕ) → has x (slice_index_or lists h []) ≡ is_at h (slice_index_or home x None)
   pub once : (h : ℕ) → IsOnce (slice_index_or lists h [])
-  pub few : length home + length len ≤ 2 ^ 32
+  pub few : length home + length len ≤ 2 ^ 16

@@ -9,56 +9,59 @@ ghost use Rattle.ih_links.specs.Ring.{node_in};
 use std::alloc::{AllocError, Global};
 use std::marker::Model;
 
+// The home of a node that is in no list. No head has this number where there are nodes.
+const NO_HEAD: u16 = u16::MAX;
+
 /// Lists of numbered nodes.
 #[derive(Drop)]
 pub struct Links {
     // What follows each place on its ring, and what it follows: the nodes' places first, then the gates'.
-    next: Vec<u32>,
-    prev: Vec<u32>,
-    // Each node's head.
-    home: Vec<Option<u32>>,
+    next: Vec<u16>,
+    prev: Vec<u16>,
+    // Each node's head, and `NO_HEAD` where it has none.
+    home: Vec<u16>,
     // Each list's length.
-    len: Vec<u32>,
+    len: Vec<u16>,
 }
 
 impl Model for Links {
     ghost use Rattle.std.specs.Prelude.{length};
     ghost use Rattle.ih_links.specs.Lists.{Linked};
-    ghost use Rattle.ih_links.specs.Ring.{lists_of, Tied};
+    ghost use Rattle.ih_links.specs.Ring.{lists_of, homes_of, Tied};
 
     ghost Value = { Linked };
 
-    ghost view = { λ a. record { lists = lists_of a.next.items a.home.items a.len.items; nodes = length a.home.items } };
+    ghost view = { λ a. record { lists = lists_of a.next.items (homes_of a.home.items) a.len.items; nodes = length a.home.items } };
 
-    ghost invariant = { λ a. Tied a.next.items a.prev.items a.home.items a.len.items (lists_of a.next.items a.home.items a.len.items) };
+    ghost invariant = { λ a. Tied a.next.items a.prev.items (homes_of a.home.items) a.len.items (lists_of a.next.items (homes_of a.home.items) a.len.items) };
 }
 
 // Places that are each a ring of their own.
-fn lone_places(alloc: Global, count: u64) -> Result<Vec<u32>, AllocError>
-    requires { count ≤ 2 ^ 32 }
+fn lone_places(alloc: Global, count: u64) -> Result<Vec<u16>, AllocError>
+    requires { count ≤ 2 ^ 16 }
     ensures { IfOk result (λ places. places.items ≡ range_with_len 0 count) }
 {
     let mut places = Vec::with_capacity(alloc, count as usize)?;
     for place in 0..count {
-        places.push(place as u32)?;
+        places.push(place as u16)?;
     }
     Ok(places)
 }
 
 impl Links {
-    /// Lists that are all empty. Heads and nodes together are at most 2^32, as many as a place has numbers; memory for
+    /// Lists that are all empty. Heads and nodes together are at most 2^16, as many as a place has numbers; memory for
     /// more is wanting.
     pub fn new(alloc: Global, heads: u32, nodes: u32) -> Result<Links, AllocError>
         ensures lists { IfOk result (λ l. l.lists ≡ replicate heads []) }
         ensures nodes { IfOk result (λ l. l.nodes ≡ nodes) }
     {
         let places = nodes as u64 + heads as u64;
-        if places > 1 << 32 {
+        if places > 1 << 16 {
             return Err(AllocError);
         }
         let next = lone_places(alloc, places)?;
         let prev = lone_places(alloc, places)?;
-        let home = vec![in alloc; None; nodes as usize]?;
+        let home = vec![in alloc; NO_HEAD; nodes as usize]?;
         let len = vec![in alloc; 0; heads as usize]?;
         Ok(Links {
             next,
@@ -97,11 +100,11 @@ impl Links {
     {
         let gate = self.gate(head);
         let last = self.prev[gate as usize];
-        self.next[last as usize] = node;
-        self.next[node as usize] = gate;
+        self.next[last as usize] = node as u16;
+        self.next[node as usize] = gate as u16;
         self.prev[node as usize] = last;
-        self.prev[gate as usize] = node;
-        self.home[node as usize] = Some(head);
+        self.prev[gate as usize] = node as u16;
+        self.home[node as usize] = head as u16;
         self.len[head as usize] += 1;
     }
 
@@ -111,12 +114,12 @@ impl Links {
         ensures lists { self.new.lists ≡ map (without node) self.old.lists }
         ensures nodes { self.new.nodes ≡ self.old.nodes }
     {
-        if let Some(head) = self.home[node as usize] {
+        if let Some(head) = self.home(node) {
             let before = self.prev[node as usize];
             let after = self.next[node as usize];
             self.next[before as usize] = after;
             self.prev[after as usize] = before;
-            self.home[node as usize] = None;
+            self.home[node as usize] = NO_HEAD;
             self.len[head as usize] -= 1;
         }
     }
@@ -127,7 +130,7 @@ impl Links {
         ensures first { result ≡ first_of (list_of self.now head) }
         ensures nodes { AreNodes self.now.nodes (list_of self.now head) }
     {
-        self.node_at(self.next[self.gate(head) as usize])
+        self.node_at(self.next[self.gate(head) as usize] as u32)
     }
 
     /// The node behind a node in its list, and none behind the last or where the node is in no list.
@@ -136,8 +139,8 @@ impl Links {
         ensures linked { (h : ℕ) → has node (list_of self.now h) ≡ true → result ≡ following node (list_of self.now h) }
         ensures free { ((h : ℕ) → has node (list_of self.now h) ≡ false) → result ≡ None }
     {
-        match self.home[node as usize] {
-            Some(_) => self.node_at(self.next[node as usize]),
+        match self.home(node) {
+            Some(_) => self.node_at(self.next[node as usize] as u32),
             None => None,
         }
     }
@@ -147,7 +150,10 @@ impl Links {
         requires node { node < self.now.nodes }
         ensures { (h : ℕ) → has node (list_of self.now h) ≡ is_at h result }
     {
-        self.home[node as usize]
+        match self.home[node as usize] {
+            NO_HEAD => None,
+            head => Some(head as u32),
+        }
     }
 
     /// The length of a list.
@@ -155,6 +161,6 @@ impl Links {
         requires head { head < length self.now.lists }
         ensures { result ≡ length (list_of self.now head) }
     {
-        self.len[head as usize]
+        self.len[head as usize] as u32
     }
 }

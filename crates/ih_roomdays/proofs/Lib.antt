@@ -1,4 +1,5 @@
-pub mod Nodes
+pub mod DaySpans
+pub mod Replacements
 pub mod Entries
 pub mod Leavings
 pub mod Orders

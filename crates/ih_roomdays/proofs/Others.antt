@@ -26,9 +26,8 @@ use Rattle.ih_roomdays.specs.Profiles.{most_persons, profile_of}
 use Rattle.ih_roomdays.specs.Parts.{room_day_part, room_counts}
 use Rattle.ih_roomdays.specs.Rows.{AreRows, is_at, crowd_at, persons_at}
 use Rattle.ih_roomdays.proofs.StayLemmas.{others}
-use Rattle.ih_roomdays.proofs.Nodes.{or-false}
+use Rattle.ih_roomdays.proofs.DaySpans.{or-false}
 use Rattle.ih_roomdays.proofs.Orders.{AreAlike}
-use Rattle.ih_roomdays.proofs.People.{has-persons, persons-once}
 use Rattle.ih_roomdays.proofs.Tallies.{some-there}
 use Rattle.ih_roomdays.proofs.Standing.{has-present, part-alike}
 
@@ -39,7 +38,7 @@ module _ (v : Rows) (rows : AreRows v) (r d x : ℕ) (day : d < v.days) where
   rest = without x (persons_at v r d)
 
   rest-once : IsOnce rest
-  rest-once = once-without x (persons_at v r d) (persons-once v r d rows day)
+  rest-once = once-without x (persons_at v r d) (rows.once r d day)
 
   pub with-once : (b : Bool) → IsOnce (with_if b x rest)
   with-once true = once-append rest x rest-once (has-without_self x (persons_at v r d))
@@ -50,7 +49,7 @@ module _ (v : Rows) (rows : AreRows v) (r d x : ℕ) (day : d < v.days) where
   has-own false = has-without_self x (persons_at v r d)
 
   pub has-other : (b : Bool) (y : ℕ) → (y ≡ x → ⊥) → has y (with_if b x rest) ≡ is_at v r d y
-  has-other b y ne = more b ∙ (has-without_other y x (persons_at v r d) ne ∙ has-persons v r d y rows day)
+  has-other b y ne = more b ∙ has-without_other y x (persons_at v r d) ne
     where
       more : (b : Bool) → has y (with_if b x rest) ≡ has y rest
       more true = has-append y rest x ∙ (ap (λ e. has y rest || e) (ne_eqb x y (λ e. ne (sym e))) ∙ or-false (has y rest))
@@ -68,13 +67,13 @@ module _ (v : Rows) (rows : AreRows v) (r d x : ℕ) (day : d < v.days) where
 
   -- where the person isn't there, all are others
   pub rest-all : is_at v r d x ≡ false → rest ≡ persons_at v r d
-  rest-all away = without-none x (persons_at v r d) (has-persons v r d x rows day ∙ away)
+  rest-all away = without-none x (persons_at v r d) away
 
   -- who is there has a part in the sums
   pub own-part : is_at v r d x ≡ true → (who : Profile) → who ≡ profile_of v.profiles x
       → (who.gender ≤ (crowd_at v r d).company.genders) × (who.gender * who.gender ≤ (crowd_at v r d).company.squares)
   own-part there who own =
-      some-there v.profiles (persons_at v r d) x (persons-once v r d rows day) (has-persons v r d x rows day ∙ there)
+      some-there v.profiles (persons_at v r d) x (rows.once r d day) there
       who.gender (crowd_at v r d).company (ap (λ w. w.gender) own) (rows.kept r d day).company
 
 -- ---- the part with another stay

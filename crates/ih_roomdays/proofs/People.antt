@@ -1,19 +1,19 @@
--- The persons of the nodes of a day.
-use Rattle.std.proofs.Common.{◌≡◌, ℕ, zero, suc, ◌+◌, ◌*◌, ◌/◌, ◌%◌, ◌<◌, ◌≤◌, refl, arith, sym, ap, ◌∙◌, Bool, true, false, List, [], ◌∷◌, ◌++◌, length, map, get_or, mul_comm, inl, inr}
+-- The persons in a room on a day.
+use Rattle.std.proofs.Common.{◌≡◌, ℕ, zero, suc, ◌+◌, ◌*◌, ◌<◌, ◌≤◌, refl, arith, sym, ap, ◌∙◌, Bool, true, false, List, [], ◌∷◌, ◌++◌, length, get_or, mul_comm, inl, inr}
 use Rattle.std.specs.Prelude.{◌||◌, ◌==◌, nat_eq, if◌then◌else◌}
 use Rattle.std.specs.List.{IsDistinct, AllByRecursion}
-use Rattle.std.proofs.lemmas.Bool.{cases_eq, cases_lt, eq-eqb, ne_eqb, false_from_ne_true}
-use Rattle.std.proofs.lemmas.List.{get_or_read, length-map}
-use Rattle.std.proofs.lemmas.Nat.{div-mul-add, mul-add-lt}
-use Rattle.ih_links.specs.Lists.{has, IsOnce}
-use Rattle.ih_links.proofs.Members.{has-here, has-there, lacks, length-once, once-append}
+use Rattle.std.proofs.lemmas.Bool.{cases_lt, ne_eqb, false_from_ne_true}
+use Rattle.std.proofs.lemmas.List.{get_or_read}
+use Rattle.std.proofs.lemmas.Nat.{mul-add-lt}
+use Rattle.ih_links.specs.Lists.{Linked, has, IsOnce}
+use Rattle.ih_links.proofs.Members.{lacks, length-once, once-append}
 use Rattle.ih_plan.proofs.Lists.{has as has_number, has-which_below, which_below-has, has-listed}
 use Rattle.ih_plan.specs.Sums.{which_below, is_listed}
 use Rattle.ih_roomdays.specs.declared.companies.Crowd.{Crowd}
 use Rattle.ih_roomdays.specs.declared.rows.Rows.{Rows}
 use Rattle.ih_roomdays.specs.Company.{IsSmall, nobody}
 use Rattle.ih_roomdays.specs.Profiles.{most_persons}
-use Rattle.ih_roomdays.specs.Rows.{AreRows, nodes_each, nodes_at, persons_at, crowd_at, is_at}
+use Rattle.ih_roomdays.specs.Rows.{AreRows, empty_day, on_day, persons_at, crowd_at}
 use Rattle.ih_roomdays.proofs.Tallies.{company-small}
 
 -- two tests of what is in a list agree
@@ -24,51 +24,11 @@ has-number x (y ∷ ys) = ap (λ b. (y == x) || b) (has-number x ys)
 pub has-is_listed : (x : ℕ) (xs : List ℕ) → has x xs ≡ is_listed x xs
 has-is_listed x xs = has-number x xs ∙ has-listed x xs
 
-module _ (days d : ℕ) (below : d < days) where
-  abbrev AreOfDay : List ℕ → Type 0
-  AreOfDay ns = (n : ℕ) → has n ns ≡ true → n % days ≡ d
+-- what is read of a day is its lists
+pub day-read : (v : Rows) (d : ℕ) (day : Linked) → AreRows v → d < v.days → day ≡ get_or v.links.items d day → day ≡ on_day v d
+day-read v d day rows below e = get_or_read v.links.items d day (rw rows.each_day below) e (empty_day 0 0)
 
-  later : (n : ℕ) (ns : List ℕ) → AreOfDay (n ∷ ns) → AreOfDay ns
-  later n ns of_day m there = of_day m (has-there m n ns there)
-
-  -- the node is that of its person
-  node-is : (n : ℕ) (ns : List ℕ) → AreOfDay (n ∷ ns) → n ≡ (n / days) * days + d
-  node-is n ns of_day =
-      let day = of_day n (has-here n n ns refl) in
-      let some : 0 < days = omega arith in
-      let split : n ≡ (n / days) * days + n % days = omega arith in
-      split ∙ ap (λ e. (n / days) * days + e) day
-
-  has-person : (x : ℕ) (ns : List ℕ) → AreOfDay ns → has x (map (λ n. n / days) ns) ≡ has (x * days + d) ns
-  has-person x [] of_day = refl
-  has-person x (n ∷ ns) of_day =
-      let rest = has-person x ns (later n ns of_day) in
-      elim (cases_eq n (x * days + d)) [
-        | inl e ↦
-            let own : n / days ≡ x = ap (λ m. m / days) e ∙ div-mul-add x days d below in
-            rw (eq-eqb n (x * days + d) e, eq-eqb (n / days) x own) refl
-        | inr ne ↦
-            let apart : n / days ≡ x → ⊥ = λ own. ne (node-is n ns of_day ∙ ap (λ y. y * days + d) own) in
-            rw (ne_eqb n (x * days + d) ne, ne_eqb (n / days) x apart) rest
-      ]
-
-  once-persons : (ns : List ℕ) → AreOfDay ns → IsOnce ns → IsOnce (map (λ n. n / days) ns)
-  once-persons [] of_day once = tt
-  once-persons (n ∷ ns) of_day once = (
-    has-person (n / days) ns (later n ns of_day) ∙ (ap (λ m. has m ns) (sym (node-is n ns of_day)) ∙ once.0),
-    once-persons ns (later n ns of_day) once.1,
-  )
-
-pub day-few : (v : Rows) (d : ℕ) → AreRows v → d < v.days → d < nodes_each
-day-few v d rows below = let few = rows.few_days in omega arith
-
-pub has-persons : (v : Rows) (r d x : ℕ) → AreRows v → d < v.days → has x (persons_at v r d) ≡ is_at v r d x
-has-persons v r d x rows below = has-person nodes_each d (day-few v d rows below) x (nodes_at v r d) (λ n m. rows.same_day r d n below m)
-
-pub persons-once : (v : Rows) (r d : ℕ) → AreRows v → d < v.days → IsOnce (persons_at v r d)
-persons-once v r d rows below = once-persons nodes_each d (day-few v d rows below) (nodes_at v r d) (λ n m. rows.same_day r d n below m) (rows.once r d below)
-
--- a room and a day have a place among the lists
+-- a room and a day have a place among what is kept
 pub place-inside : (v : Rows) (r d : ℕ) → r < v.rooms → d < v.days → r * v.days + d < v.rooms * v.days
 place-inside v r d room below = rw (mul_comm v.rooms v.days) (mul-add-lt r v.days d v.rooms room below)
 
@@ -78,18 +38,16 @@ crowd-read v r d c rows room below e =
     get_or_read v.crowds.items (r * v.days + d) c (let place = place-inside v r d room below in omega (arith, rows.crowds)) e nobody
 
 -- there are no more of them than an instance has
-pub nodes-few : (v : Rows) (r d : ℕ) → AreRows v → d < v.days → length (nodes_at v r d) ≤ most_persons
-nodes-few v r d rows below =
-    let all = length-once v.persons (persons_at v r d) (persons-once v r d rows below) (λ y there. rows.known r d y below (sym (has-persons v r d y rows below) ∙ there)) in
-    let same = length-map (nodes_at v r d) (λ n. n / nodes_each) in
+pub persons-few : (v : Rows) (r d : ℕ) → AreRows v → d < v.days → length (persons_at v r d) ≤ most_persons
+persons-few v r d rows below =
+    let all = length-once v.persons (persons_at v r d) (rows.once r d below) (λ y there. rows.known r d y below there) in
     let few = rows.few_persons in
     omega arith
 
 -- so what is kept of them is small
 pub crowd-small : (v : Rows) (r d : ℕ) → AreRows v → d < v.days → IsSmall (crowd_at v r d).company
 crowd-small v r d rows below =
-    let same = length-map (nodes_at v r d) (λ n. n / nodes_each) in
-    company-small v.persons v.profiles (persons_at v r d) (crowd_at v r d).company rows.profiles (rows.kept r d below).company (let few = nodes-few v r d rows below in omega arith)
+    company-small v.persons v.profiles (persons_at v r d) (crowd_at v r d).company rows.profiles (rows.kept r d below).company (persons-few v r d rows below)
 
 all-apart : (x : ℕ) (xs : List ℕ) → has x xs ≡ false → AllByRecursion (λ y. nat_eq x y ≡ false) xs
 all-apart x [] free = tt

@@ -1,12 +1,12 @@
--- The i-th node of a list, by a walk from the first.
-use Rattle.std.proofs.Common.{◌≡◌, ℕ, zero, suc, ◌+◌, ◌/◌, ◌<◌, refl, arith, add-one, sym, ap, ◌∙◌, true, List, [], ◌∷◌, length, drop, get_or, Some, None}
+-- The i-th of a list, by a walk from the first.
+use Rattle.std.proofs.Common.{◌≡◌, ℕ, zero, suc, ◌+◌, ◌<◌, refl, arith, add-one, sym, ap, subst, ◌∙◌, true, List, [], ◌∷◌, length, drop, get_or, Some, None}
 use Rattle.std.specs.Prelude.{slice_index}
-use Rattle.std.proofs.lemmas.List.{get_or-map, length-map}
-use Rattle.ih_links.specs.Lists.{has, following, first_of, IsOnce}
+use Rattle.ih_links.specs.Lists.{Linked, has, following, first_of, list_of, IsOnce}
 use Rattle.ih_links.proofs.Members.{has-here, has-there}
 use Rattle.ih_links.proofs.Walks.{following-index}
 use Rattle.ih_roomdays.specs.declared.rows.Rows.{Rows}
-use Rattle.ih_roomdays.specs.Rows.{nodes_each, nodes_at, persons_at}
+use Rattle.ih_roomdays.specs.Rows.{AreRows, on_day, persons_at}
+use Rattle.ih_roomdays.proofs.People.{day-read}
 
 -- what is met after k steps is the k-th
 met : (xs : List ℕ) (k n : ℕ) → first_of (drop k xs) ≡ Some n → (k < length xs) × (n ≡ get_or xs k 0)
@@ -41,11 +41,13 @@ step-past xs k e = rw add-one (past xs k e)
     past (x ∷ xs) zero e = absurd (let no : Some x ≡ None = e in cc)
     past (x ∷ xs) (suc k) e = past xs k e
 
--- so the person of the node that is met after i steps is the i-th
-pub told-person : (v : Rows) (r d i n : ℕ) → first_of (drop i (nodes_at v r d)) ≡ Some n → n / nodes_each ≡ slice_index (persons_at v r d) i
-told-person v r d i n e =
-    let here = met (nodes_at v r d) i n e in
-    ap (λ m. m / nodes_each) here.1 ∙ sym (get_or-map (λ m. m / nodes_each) (nodes_at v r d) i 0 0 here.0)
+-- The lists that are read are those of day d, so the one that is met after i steps is the i-th of those who are there.
+module _ (v w : Rows) (r d i : ℕ) (day : Linked) (same : v ≡ w) (rows : AreRows v) (below : d < w.days) (read : day ≡ get_or v.links.items d day) where
+  day-is : day ≡ on_day w d
+  day-is = day-read w d day (subst (λ u. AreRows u) same rows) below (subst (λ (u : Rows). day ≡ get_or u.links.items d day) same read)
 
-pub told-someone : (v : Rows) (r d i : ℕ) → i < length (persons_at v r d) → first_of (drop i (nodes_at v r d)) ≡ None → ⊥
-told-someone v r d i below none = none-past (nodes_at v r d) i (rw (length-map (nodes_at v r d) (λ n. n / nodes_each)) at below) none
+  pub told-person : (x : ℕ) → first_of (drop i (list_of day r)) ≡ Some x → x ≡ slice_index (persons_at w r d) i
+  told-person x e = (met (list_of day r) i x e).1 ∙ ap (λ (l : Linked). get_or (list_of l r) i 0) day-is
+
+  pub told-someone : i < length (persons_at w r d) → first_of (drop i (list_of day r)) ≡ None → ⊥
+  told-someone inside none = none-past (list_of day r) i (subst (λ (l : Linked). i < length (list_of l r)) (sym day-is) inside) none

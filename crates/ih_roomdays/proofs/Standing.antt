@@ -18,7 +18,7 @@ use Rattle.ih_roomdays.specs.Rows.{persons_at}
 use Rattle.ih_roomdays.specs.Parts.{room_day_part, room_counts}
 use Rattle.ih_roomdays.specs.Ledger.{IsLedgerOf}
 use Rattle.ih_roomdays.proofs.Orders.{AreAlike, length-alike, spread-alike, genders-alike}
-use Rattle.ih_roomdays.proofs.People.{has-is_listed, has-persons, persons-once, once-distinct, has-passing, once-passing}
+use Rattle.ih_roomdays.proofs.People.{has-is_listed, once-distinct, has-passing, once-passing}
 
 -- a number past the last person's is nobody's
 pub nobody-past : (I : Draft) (P : Timetable) (r d x : ℕ) → person_count I ≤ x → is_present I P r d x ≡ false
@@ -60,12 +60,12 @@ module _ (I : Draft) (P : Timetable) (v : Rows) (stands : IsLedgerOf I P v) wher
   tells = record {
     rooms_are = stands.rooms;
     days_are = stands.days;
-    once = λ r d room day. once-distinct (persons_at v r d) (persons-once v r d stands.rows day);
-    each = λ r d x room day. sym (has-is_listed x (persons_at v r d)) ∙ (has-persons v r d x stands.rows day ∙ stands.each r d x (rw (← stands.days) day));
+    once = λ r d room day. once-distinct (persons_at v r d) (stands.rows.once r d day);
+    each = λ r d x room day. sym (has-is_listed x (persons_at v r d)) ∙ stands.each r d x (rw (← stands.days) day);
   }
 
   alike : (r d : ℕ) → d < I.days → AreAlike (persons_at v r d) (present I P r d)
-  alike r d day x = has-persons v r d x stands.rows (within d day) ∙ (stands.each r d x day ∙ sym (has-present I P r d x))
+  alike r d day x = stands.each r d x day ∙ sym (has-present I P r d x)
 
   -- a room and a day of the instance are the ledger's
   pub place-known : (r : RoomNo) (d : Day) → r.0 < room_count I → d.0 < I.days → (r.0 < v.rooms) × (d.0 < v.days)
@@ -73,8 +73,8 @@ module _ (I : Draft) (P : Timetable) (v : Rows) (stands : IsLedgerOf I P v) wher
 
   -- who is in a room is a person of the instance
   pub persons-known : (r d : ℕ) → d < v.days → ArePersons I (persons_at v r d)
-  persons-known r d day x there = rw (← stands.persons) (stands.rows.known r d x day (sym (has-persons v r d x stands.rows day) ∙ there))
+  persons-known r d day x there = rw (← stands.persons) (stands.rows.known r d x day there)
 
   -- the part of a room and a day is that of its persons, in the ledger's order
   pub cell-part : (r : RoomNo) (d : Day) → d.0 < I.days → room_day_part (room_counts I r.0 (persons_at v r.0 d.0)) ≡ part_at I P (RoomDay r d)
-  cell-part r d day = part-alike I P r d (persons_at v r.0 d.0) (persons-once v r.0 d.0 stands.rows (within d.0 day)) (alike r.0 d.0 day)
+  cell-part r d day = part-alike I P r d (persons_at v r.0 d.0) (stands.rows.once r.0 d.0 (within d.0 day)) (alike r.0 d.0 day)

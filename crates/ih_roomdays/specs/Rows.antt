@@ -1,6 +1,6 @@
--- Lists of who is in which room on which day: node x * nodes_each + d is person x on day d.
-use Rattle.std.specs.Prelude.{◌≡◌, ℕ, ◌+◌, ◌*◌, ◌/◌, ◌%◌, ◌^◌, ◌<◌, ◌≤◌, Bool, true, false, ◌==◌, ◌&&◌, ◌||◌, not, List, length, map, slice_index_or}
-use Rattle.ih_links.specs.Lists.{has, list_of, IsOnce}
+-- Lists of who is in which room on which day.
+use Rattle.std.specs.Prelude.{◌≡◌, ℕ, ◌+◌, ◌*◌, ◌^◌, ◌<◌, ◌≤◌, Bool, true, false, ◌==◌, ◌&&◌, ◌||◌, not, List, [], length, replicate, slice_index_or}
+use Rattle.ih_links.specs.Lists.{Linked, has, list_of, IsOnce}
 use Rattle.ih_roomdays.specs.declared.companies.Crowd.{Crowd}
 use Rattle.ih_roomdays.specs.declared.profiles.Profiles.{Profiles}
 use Rattle.ih_roomdays.specs.declared.rows.Rows.{Rows}
@@ -8,17 +8,17 @@ use Rattle.ih_roomdays.specs.Profiles.{AreInRange, most_persons}
 use Rattle.ih_roomdays.specs.Company.{IsCrowd, nobody}
 use Rattle.ih_plan.specs.Presence.{in_span}
 
--- how many nodes a person has: one for each day, and some for none, so that a node's person is told by a shift
-abbrev pub nodes_each : ℕ
-nodes_each = 64
+-- a day's lists with nobody in any room
+abbrev pub empty_day : ℕ → ℕ → Linked
+empty_day rooms persons = record { lists = replicate rooms []; nodes = persons }
 
--- the nodes of room r on day d
-abbrev pub nodes_at : Rows → ℕ → ℕ → List ℕ
-nodes_at v r d = list_of v.links (r * v.days + d)
+-- the lists of day d, one for each room
+abbrev pub on_day : Rows → ℕ → Linked
+on_day v d = slice_index_or v.links.items d (empty_day 0 0)
 
 -- the persons in room r on day d
 abbrev pub persons_at : Rows → ℕ → ℕ → List ℕ
-persons_at v r d = map (λ n. n / nodes_each) (nodes_at v r d)
+persons_at v r d = list_of (on_day v d) r
 
 -- what is kept of them
 abbrev pub crowd_at : Rows → ℕ → ℕ → Crowd
@@ -26,20 +26,18 @@ crowd_at v r d = slice_index_or v.crowds.items (r * v.days + d) nobody
 
 -- person x is in room r on day d
 abbrev pub is_at : Rows → ℕ → ℕ → ℕ → Bool
-is_at v r d x = has (x * nodes_each + d) (nodes_at v r d)
+is_at v r d x = has x (persons_at v r d)
 
--- There is a list for each room and day, and each person has its nodes and its profile; a list has nodes of its own day,
--- each once, and what is kept beside it is so of its persons.
+-- Each day has a list for each room, over the numbers of the persons, who have profiles; a list has each person once,
+-- and what is kept beside it is so of its persons.
 pub record AreRows (v : Rows) : Type 0 where
-  pub some_day : 0 < v.days
-  pub few_days : v.days ≤ nodes_each
-  pub heads : length v.links.lists ≡ v.rooms * v.days
-  pub nodes : v.links.nodes ≡ v.persons * nodes_each
-  pub few_heads : v.rooms * v.days < 2 ^ 32
+  pub each_day : length v.links.items ≡ v.days
+  pub each_room : (d : ℕ) → d < v.days → length (on_day v d).lists ≡ v.rooms
+  pub numbers : (d : ℕ) → d < v.days → (on_day v d).nodes ≡ v.persons
+  pub few_places : v.rooms * v.days < 2 ^ 32
   pub few_persons : v.persons ≤ most_persons
   pub profiles : AreInRange v.persons v.profiles
-  pub same_day : (r d n : ℕ) → d < v.days → has n (nodes_at v r d) ≡ true → n % nodes_each ≡ d
-  pub once : (r d : ℕ) → d < v.days → IsOnce (nodes_at v r d)
+  pub once : (r d : ℕ) → d < v.days → IsOnce (persons_at v r d)
   pub known : (r d x : ℕ) → d < v.days → is_at v r d x ≡ true → x < v.persons
   pub crowds : length v.crowds.items ≡ v.rooms * v.days
   pub kept : (r d : ℕ) → d < v.days → IsCrowd v.profiles (persons_at v r d) (crowd_at v r d)

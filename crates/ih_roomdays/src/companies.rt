@@ -1,16 +1,14 @@
 //! What is kept of the persons in a room on a day, so that nobody has to go over them to tell what they cost.
 
-ghost use Rattle.std.specs.Prelude.{◌≡◌, ℕ, ◌/◌, ◌-◌, ◌*◌, ◌<◌, ◌≤◌, ◌∷◌, ◌++◌, [], true, List, length, map, not};
+ghost use Rattle.std.specs.Prelude.{◌≡◌, ℕ, ◌-◌, ◌*◌, ◌<◌, ◌≤◌, ◌∷◌, ◌++◌, [], true, List, length, not};
 ghost use Rattle.ih_tables.specs.declared.drafts.Draft.{Draft};
 ghost use Rattle.ih_plan.specs.Costs.{genders_differ, age_spread};
 ghost use Rattle.ih_links.specs.Lists.{IsOnce, has, list_of, without};
 ghost use Rattle.ih_roomdays.specs.declared.profiles.Profiles.{Profiles};
 ghost use Rattle.ih_roomdays.specs.Company.{IsCompany, IsCrowd, IsSmall, nobody};
 ghost use Rattle.ih_roomdays.specs.Profiles.{AreInRange, AreProfiles, ArePersons, most_persons, profile_of};
-ghost use Rattle.ih_roomdays.specs.Rows.{nodes_each};
 
 use crate::profiles::{Profile, Profiles};
-use crate::rows::NODES_EACH;
 use ih_links::Links;
 
 /// What is kept of persons who are together: enough to tell what they break and cost.
@@ -131,19 +129,19 @@ impl Crowd {
     }
 }
 
-/// What is kept of the persons of a list of nodes.
-pub fn crowd_of(profiles: &Profiles, links: &Links, head: u32) -> Crowd
+/// What is kept of the persons in a room, by a day's lists.
+pub fn crowd_of(profiles: &Profiles, day: &Links, room: u32) -> Crowd
     requires profiles { AreInRange (length profiles.now.genders.items) profiles.now }
-    requires head { head < length links.now.lists }
-    requires nodes { links.now.nodes ≡ length profiles.now.genders.items * nodes_each }
-    requires few { length (list_of links.now head) ≤ most_persons }
-    ensures { IsCrowd profiles.now (map (λ n. n / nodes_each) (list_of links.now head)) result }
+    requires room { room < length day.now.lists }
+    requires persons { day.now.nodes ≡ length profiles.now.genders.items }
+    requires few { length (list_of day.now room) ≤ most_persons }
+    ensures { IsCrowd profiles.now (list_of day.now room) result }
 {
     let mut crowd = NOBODY;
-    let mut at = links.first(head);
-    while let Some(node) = at {
-        crowd = crowd.with(profiles.of(node / NODES_EACH));
-        at = links.next(node);
+    let mut at = day.first(room);
+    while let Some(x) = at {
+        crowd = crowd.with(profiles.of(x));
+        at = day.next(x);
     }
     crowd
 }

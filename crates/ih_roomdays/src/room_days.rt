@@ -16,7 +16,7 @@ ghost use Rattle.ih_roomdays.specs.Ledger.{IsLedgerOf, LedgersTell};
 use crate::bills::{room_day_bill, room_day_change};
 use crate::changes::{is_there, room_counts, without_and_with};
 use crate::profiles::profiles_of;
-use crate::rows::{NODES_EACH, Rows};
+use crate::rows::Rows;
 use ih_plan::{Members, Placement};
 use ih_tables::{Bill, Day, Instance, PatientNo, PersonNo, RoomNo};
 use std::alloc::{AllocError, Global};
@@ -130,20 +130,21 @@ impl Members for RoomDays {
     ghost persons = { λ v. persons_at v };
 
     fn count(&self, r: RoomNo, d: Day) -> u32 {
-        self.rows.links.len(r.0 * self.rows.days + d.0)
+        self.rows.links[d.0 as usize].len(r.0)
     }
 
     fn member(&self, r: RoomNo, d: Day, i: u32) -> PersonNo {
-        let mut at = self.rows.links.first(r.0 * self.rows.days + d.0);
+        let day = &self.rows.links[d.0 as usize];
+        let mut at = day.first(r.0);
         for _ in 0..i {
             at = match at {
-                Some(node) => self.rows.links.next(node),
+                Some(x) => day.next(x),
                 None => None,
             };
         }
         match at {
             None => PersonNo(0),
-            Some(node) => PersonNo(node / NODES_EACH),
+            Some(x) => PersonNo(x),
         }
     }
 }

@@ -1,28 +1,36 @@
 //! Lists of who is in which room on which day.
 
-ghost use Rattle.std.specs.Prelude.{◌≡◌, ℕ, ◌*◌, ◌^◌, ◌<◌, ◌≤◌, ◌==◌, false, IfOk};
+ghost use Rattle.std.specs.Prelude.{◌≡◌, ℕ, ◌*◌, ◌^◌, ◌<◌, ◌≤◌, ◌==◌, false, replicate, IfOk};
 ghost use Rattle.ih_roomdays.specs.Profiles.{AreInRange, most_persons};
-ghost use Rattle.ih_roomdays.specs.Rows.{AreRows, AreVacant, IsEntered, IsLeft, is_at, nodes_each};
+ghost use Rattle.ih_roomdays.specs.Rows.{AreRows, AreVacant, IsEntered, IsLeft, empty_day, is_at};
 
 use crate::companies::{Crowd, NOBODY, crowd_of};
 use crate::profiles::Profiles;
 use ih_links::Links;
 use std::alloc::{AllocError, Global};
 
-/// How many nodes each person has. There are fewer days, but a person is told from a node by a shift, and not by a
-/// division.
-pub const NODES_EACH: u32 = 64;
-
-/// One list for each room and day, and nodes of each person: one for each day, which can stand in a list of that day.
-/// Beside each list stands what is kept of its persons.
+/// For each day the persons in each room, and what is kept of them.
 #[derive(Drop)]
 pub struct Rows {
-    pub links: Links,
+    /// For each day a list for each room; its nodes are the persons.
+    pub links: Vec<Links>,
     pub rooms: u32,
     pub days: u32,
     pub persons: u32,
     pub profiles: Profiles,
+    /// What is kept of each list's persons: those of room 0 first, rising by day.
     pub crowds: Vec<Crowd>,
+}
+
+// Lists for each day and room, with nobody in any.
+fn vacant(alloc: Global, rooms: u32, days: u32, persons: u32) -> Result<Vec<Links>, AllocError>
+    ensures { IfOk result (λ links. links.items ≡ replicate days (empty_day rooms persons)) }
+{
+    let mut links = Vec::with_capacity(alloc, days as usize)?;
+    for _ in 0..days {
+        links.push(Links::new(alloc, rooms, persons)?)?;
+    }
+    Ok(links)
 }
 
 impl Rows {
@@ -34,14 +42,12 @@ impl Rows {
         persons: u32,
         profiles: Profiles,
     ) -> Result<Rows, AllocError>
-        requires some_day { 0 < days }
-        requires few_days { days ≤ nodes_each }
-        requires heads { rooms * days < 2 ^ 32 }
+        requires places { rooms * days < 2 ^ 32 }
         requires few_persons { persons ≤ most_persons }
         requires profiles { AreInRange persons profiles }
         ensures { IfOk result (λ rows. AreVacant rooms days persons profiles rows) }
     {
-        let links = Links::new(alloc, rooms * days, persons * NODES_EACH)?;
+        let links = vacant(alloc, rooms, days, persons)?;
         let crowds = vec![in alloc; NOBODY; (rooms * days) as usize]?;
         Ok(Rows {
             links,
@@ -65,9 +71,9 @@ impl Rows {
     {
         let who = self.profiles.of(x);
         for d in from..to {
-            let head = room * self.days + d;
-            self.links.push_back(head, x * NODES_EACH + d);
-            self.crowds[head as usize] = self.crowds[head as usize].with(who);
+            let place = (room * self.days + d) as usize;
+            self.links[d as usize].push_back(room, x);
+            self.crowds[place] = self.crowds[place].with(who);
         }
     }
 
@@ -82,9 +88,10 @@ impl Rows {
         ensures { IsLeft self.old self.new x from to }
     {
         for d in from..to {
-            let head = room * self.days + d;
-            self.links.remove(x * NODES_EACH + d);
-            self.crowds[head as usize] = crowd_of(&self.profiles, &self.links, head);
+            let place = (room * self.days + d) as usize;
+            let day = &mut self.links[d as usize];
+            day.remove(x);
+            self.crowds[place] = crowd_of(&self.profiles, day, room);
         }
     }
 }

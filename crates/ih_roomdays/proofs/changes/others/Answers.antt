@@ -2,7 +2,7 @@ use Rattle.std.proofs.Common.{◌∙◌, sym, subst}
 use Rattle.ih_roomdays.specs.Company.{IsCompany, IsCrowd}
 use Rattle.ih_roomdays.specs.Rows.{persons_at}
 use Rattle.ih_roomdays.proofs.Others.{own-part, rest-all}
-use Rattle.ih_roomdays.proofs.People.{crowd-read, has-persons, persons-once}
+use Rattle.ih_roomdays.proofs.People.{crowd-read}
 use Rattle.ih_roomdays.proofs.changes.others.Goals as goal
 
 pub without-requires-clause-genders : goal.without-requires-clause-genders
@@ -23,8 +23,7 @@ returns-then-there c =
     let is = crowd-read v c.args.r.0 c.args.d.0 c.index-crowd.result.now c.requires.rows c.requires.room c.requires.day c.index-crowd.ensures in
     c.without.ensures v.profiles (persons_at v c.args.r.0 c.args.d.0) c.args.x c.requires.profile
     (subst (IsCrowd v.profiles (persons_at v c.args.r.0 c.args.d.0)) (sym is) (c.requires.rows.kept c.args.r.0 c.args.d.0 c.requires.day))
-    (persons-once v c.args.r.0 c.args.d.0 c.requires.rows c.requires.day)
-    (has-persons v c.args.r.0 c.args.d.0 c.args.x c.requires.rows c.requires.day ∙ (sym c.requires.there ∙ c.if-there.true))
+    (c.requires.rows.once c.args.r.0 c.args.d.0 c.requires.day) (sym c.requires.there ∙ c.if-there.true)
 
 pub returns-else-there : goal.returns-else-there
 returns-else-there c =

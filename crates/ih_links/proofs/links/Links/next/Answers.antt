@@ -3,7 +3,7 @@ use Rattle.ih_links.proofs.Calls.{next-answer, free-home}
 use Rattle.ih_links.proofs.links.Links.next.Goals as goal
 
 pub returns-in-Some-clause-linked : goal.returns-in-Some-clause-linked
-returns-in-Some-clause-linked c h m = c.node_at.ensures ∙ next-answer c.self.invariant c.self.view_is c.args.node c.index-in-Some.result.now c.requires.node c.index-in-Some.ensures h m
+returns-in-Some-clause-linked c h m = c.node_at.ensures ∙ next-answer c.self.inside.home.items c.self.invariant c.self.view_is c.args.node c.index.result.now c.requires.node c.index.ensures h m
 
 pub returns-in-Some-clause-free : goal.returns-in-Some-clause-free
-returns-in-Some-clause-free c free = absurd (free-home c.self.invariant c.self.view_is c.args.node c.in-Some.field-0 c.index.result.now c.requires.node c.index.ensures c.in-Some.is free)
+returns-in-Some-clause-free c free = absurd (free-home c.args.node c.args.self.now c.home.result c.home.ensures c.in-Some.is free)

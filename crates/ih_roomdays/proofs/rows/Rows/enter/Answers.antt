@@ -2,15 +2,18 @@ use Rattle.std.proofs.Common.{arith, refl, sym, ap, subst, ◌∙◌}
 use Rattle.ih_roomdays.specs.Company.{IsCrowd, IsSmall}
 use Rattle.ih_roomdays.specs.Profiles.{profile_of}
 use Rattle.ih_roomdays.specs.Rows.{persons_at}
-use Rattle.ih_roomdays.proofs.Nodes.{free}
-use Rattle.ih_roomdays.proofs.Entries.{nowhere-yet, entered-more}
-use Rattle.ih_roomdays.proofs.People.{crowd-read, crowd-small}
+use Rattle.ih_roomdays.proofs.Entries.{entered-more, free, longer-day, nowhere-yet}
+use Rattle.ih_roomdays.proofs.People.{crowd-read, crowd-small, day-read}
+use Rattle.ih_roomdays.proofs.Replacements.{replaced}
 use Rattle.ih_roomdays.proofs.rows.Rows.enter.Goals as goal
 
 pub push_back-requires-clause-free : goal.push_back-requires-clause-free
 push_back-requires-clause-free c =
+    let v = c.loop-d.self in
     let so_far = c.loop-d.invariant in
-    free c.loop-d.self c.args.x c.loop-d.d so_far.rows (omega (arith, so_far.days)) (nowhere-yet c.args.self.now c.loop-d.self c.args.room c.args.x c.args.from c.loop-d.d so_far (omega arith) c.requires.nowhere)
+    free v so_far.rows c.args.room c.args.x c.loop-d.d (omega (arith, so_far.rooms)) (omega (arith, so_far.days)) (omega (arith, so_far.persons))
+    (nowhere-yet c.args.self.now v c.args.room c.args.x c.args.from c.loop-d.d so_far (omega arith) c.requires.nowhere)
+    c.index_mut.result.now c.index_mut.result.now (day-read v c.loop-d.d c.index_mut.result.now so_far.rows (omega (arith, so_far.days)) c.index_mut.ensures.value)
 
 pub with-requires-clause-small : goal.with-requires-clause-small
 with-requires-clause-small c =
@@ -25,7 +28,11 @@ loop-d-preserved c =
     let is = crowd-read v c.args.room c.loop-d.d c.index.result.now so_far.rows (omega (arith, so_far.rooms)) (omega (arith, so_far.days)) c.index.ensures in
     let was = subst (IsCrowd v.profiles (persons_at v c.args.room c.loop-d.d)) (sym is) (so_far.rows.kept c.args.room c.loop-d.d (omega (arith, so_far.days))) in
     let who = c.of-who.ensures.value ∙ ap (λ p. profile_of p c.args.x) (sym so_far.profiles) in
-    entered-more v so_far.rows c.push_back.new.self _ c.args.room c.args.x c.loop-d.d (omega (arith, so_far.rooms)) (omega (arith, so_far.days)) (omega (arith, so_far.persons))
+    let day = longer-day v so_far.rows c.args.room c.args.x c.loop-d.d (omega (arith, so_far.rooms)) (omega (arith, so_far.days)) (omega (arith, so_far.persons))
     (nowhere-yet c.args.self.now v c.args.room c.args.x c.args.from c.loop-d.d so_far (omega arith) c.requires.nowhere)
-    c.with.result (c.with.ensures v.profiles (persons_at v c.args.room c.loop-d.d) c.args.x who was) refl
-    c.push_back.ensures.lists c.push_back.ensures.nodes c.args.self.now c.args.from (omega arith) so_far
+    c.index_mut.result.now c.push_back.new.self (day-read v c.loop-d.d c.index_mut.result.now so_far.rows (omega (arith, so_far.days)) c.index_mut.ensures.value)
+    c.push_back.ensures.lists c.push_back.ensures.nodes in
+    entered-more v _ c.args.room c.args.x c.loop-d.d
+    (replaced v so_far.rows c.args.room c.loop-d.d (omega (arith, so_far.rooms)) (omega (arith, so_far.days)) _ c.push_back.new.self day _ refl _ c.with.result
+    (c.with.ensures v.profiles (persons_at v c.args.room c.loop-d.d) c.args.x who was) refl)
+    c.args.self.now c.args.from (omega arith) so_far
