@@ -19,6 +19,8 @@ use Rattle.ih_nurses.specs.Ledger.{IsTied}
 use Rattle.ih_nurses.specs.declared.loads.NurseLoad.{NurseLoad}
 use Rattle.ih_nurses.specs.Here.{AreSized, AreHere, is_here}
 use Rattle.ih_nurses.specs.Loads.{IsTable, AreLoads, load_at, stay_load}
+use Rattle.ih_nurses.specs.Counts.{count_at}
+use Rattle.ih_nurses.proofs.CountLemmas.{count-none}
 use Rattle.ih_nurses.proofs.AdmitLemmas.{IsAdmission, present-more, load-more, load-most}
 
 -- within the horizon a stay covers the days until it is over
@@ -117,18 +119,23 @@ module _ {I : Draft} {P Q : Timetable} {p : ℕ} {at : Placement} (a : IsAdmissi
       let covered = sym (span-covers at.day.0 (person_of I p).length_of_stay I.days e day) ∙ h in
       known.each at.room.0 e p a.placed.room day (omega arith) ∙ rw (admission-patient I Q p a.patient, a.after, eq-eqb at.room.0 at.room.0 refl) covered
 
-module _ {I : Draft} {P plan : Timetable} {here : List Linked} {loads : List NurseLoad} (known : IsTied I P plan here loads) where
+module _ {I : Draft} {P plan : Timetable} {here : List Linked} {loads : List NurseLoad} {counts : List ℕ} (known : IsTied I P plan here loads counts) where
   -- a ledger stands for its own timetable
-  pub stands-own : IsTied I plan plan here loads
-  stands-own = subst (λ (S : Timetable). IsTied I S plan here loads) (sym known.plan_is) known
+  pub stands-own : IsTied I plan plan here loads counts
+  stands-own = subst (λ (S : Timetable). IsTied I S plan here loads counts) (sym known.plan_is) known
 
   -- what is shown for its own timetable holds for each for which it stands
-  pub stands-for : (w : Write) {next : Timetable} {new_here : List Linked} {new_loads : List NurseLoad} → IsTied I (put w plan) next new_here new_loads → IsTied I (put w P) next new_here new_loads
-  stands-for w {next} {new_here} {new_loads} after = subst (λ (S : Timetable). IsTied I (put w S) next new_here new_loads) known.plan_is after
+  pub stands-for : (w : Write) {next : Timetable} {new_here : List Linked} {new_loads : List NurseLoad} {new_counts : List ℕ}
+      → IsTied I (put w plan) next new_here new_loads new_counts → IsTied I (put w P) next new_here new_loads new_counts
+  stands-for w {next} {new_here} {new_loads} {new_counts} after = subst (λ (S : Timetable). IsTied I (put w S) next new_here new_loads new_counts) known.plan_is after
 
   -- who isn't admitted is in no list
   pub not-here : (p : ℕ) → p < patient_count I → stay_of P p ≡ None → (s e : ℕ) → s < room_count I → e < I.days → is_here here s e p ≡ false
   not-here p patient free s e sh eh = known.here_are.each s e p sh eh (omega arith) ∙ absent-from I P p s e patient free
+
+  -- who isn't admitted has no counts
+  pub not-counted : (p : ℕ) → p < patient_count I → stay_of P p ≡ None → (m : ℕ) → m < nurse_count I → count_at I counts p m ≡ 0
+  not-counted p patient free m mh = known.counts_are.each p m (omega arith) mh ∙ count-none I P p m patient free
 
   pub loads-small : IsValid I → (m j : ℕ) → m < nurse_count I → j < shift_count I → load_at I loads m j ≤ 256000000
   loads-small valid m j mh jh =

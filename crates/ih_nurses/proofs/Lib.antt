@@ -20,3 +20,6 @@ pub mod NewlyLemmas
 pub mod RoomChangeLemmas
 pub mod ChoiceLemmas
 pub mod PlacedLemmas
+pub mod CountSteps
+pub mod CountLemmas
+pub mod CountWalks

@@ -80,6 +80,16 @@ sum-in_list I P here day r k f known rh kh day_is nodes =
     let listed : AreNodes (person_count I) (list_of (on_day here (day_of k)) r) = rw read nodes in
     ap (λ (l : Linked). sum_by f (list_of l r)) (sym read) ∙ sum-present I P here r (day_of k) f known rh on listed
 
+-- the list of a room as a call reads it has who is present
+pub list-there : (I : Draft) (P : Timetable) (here : List Linked) (day : Linked) (r k : ℕ) → AreHere I P here → r < room_count I → k < shift_count I
+    → day ≡ slice_index_or here (day_of k) day → (x : ℕ) → x < person_count I → has x (list_of day r) ≡ is_present I P r (day_of k) x
+list-there I P here day r k known rh kh day_is x xh =
+    let days = known.sized.days in
+    let inside : k / 3 < length here = omega arith in
+    let on : k / 3 < I.days = omega arith in
+    let read : on_day here (day_of k) ≡ day = read-here here (k / 3) day day day inside day_is in
+    ap (λ (l : Linked). has x (list_of l r)) (sym read) ∙ known.each r (day_of k) x rh on xh
+
 -- the old nurse has the room's load
 pub load-enough : (I : Draft) (P : Timetable) (r : RoomNo) (k : Shift) (prev : Option NurseNo) (load : ℕ) (old : List NurseLoad) → IsPlanOf I P → r.0 < room_count I → k.0 < shift_count I
     → prev ≡ choice_of P r.0 k.0 → load ≡ room_load I P k.0 r.0 → AreLoads I P old → (m : ℕ) → m < nurse_count I → share prev k.0 load m k.0 ≤ load_at I old m k.0

@@ -9,9 +9,10 @@ use Rattle.ih_tables.specs.declared.drafts.Occupant.{Occupant}
 use Rattle.ih_tables.specs.Sizes.{patient_count, occupant_count, person_count, room_count, nurse_count, shift_count}
 use Rattle.ih_links.specs.Lists.{Linked, has}
 use Rattle.ih_plan.specs.Timetable.{Timetable, empty, stay_of, care_of}
-use Rattle.ih_plan.specs.Presence.{admission_of, covers, in_span, is_present}
+use Rattle.ih_plan.specs.Presence.{Admission, admission_of, covers, in_span, is_present}
 use Rattle.ih_plan.specs.Persons.{person_of}
-use Rattle.ih_plan.specs.Costs.{load_of}
+use Rattle.ih_plan.specs.Costs.{load_of, is_number}
+use Rattle.ih_plan.specs.Sums.{bit}
 use Rattle.ih_tables.specs.Works.{max_load}
 use Rattle.std.specs.List.{range_with_len}
 use Rattle.std.proofs.lemmas.Nat.{div-mul-add, mod-mul-add}
@@ -22,7 +23,10 @@ use Rattle.ih_plan.proofs.Loads.{nurse_load}
 use Rattle.ih_nurses.specs.Here.{is_here, AreSized, AreVacant, AreFilled, AreHere}
 use Rattle.ih_nurses.specs.declared.loads.NurseLoad.{NurseLoad}
 use Rattle.ih_nurses.specs.Loads.{AreLoads, entry_at, free_load, most_of}
+use Rattle.ih_nurses.specs.Counts.{AreCounts, count_of, nursed_in}
+use Rattle.ih_nurses.specs.Stretches.{stretch_in}
 use Rattle.ih_nurses.proofs.HereLemmas.{or-none}
+use Rattle.ih_nurses.proofs.CountSteps.{count-inside}
 use Rattle.ih_nurses.proofs.LoadSteps.{place-inside}
 use Rattle.ih_nurses.proofs.LedgerLemmas.{span-covers, absent-from}
 
@@ -63,6 +67,24 @@ loads-none I loads e = record {
     most = λ n k nh kh. ap (λ (l : NurseLoad). l.most) (free-at I loads e n k nh kh);
   };
   each = λ n k nh kh. ap (λ (l : NurseLoad). l.work) (free-at I loads e n k nh kh) ∙ sym (no-load I n k);
+}
+
+-- ---- counts
+
+no-count : (I : Draft) (x n : ℕ) → count_of I (empty I) x n ≡ 0
+no-count I x n = by_case (admission_of I (empty I) x) (person_of I x).length_of_stay
+  where
+    by_case : (o : Option Admission) (days : ℕ) → nursed_in (empty I) (stretch_in I o days) n ≡ 0
+    by_case None days = refl
+    by_case (Some a) days =
+        sum_below-same (3 * (min (a.day + days) I.days - a.day)) (λ j. bit (is_number (care_of (empty I) a.room (3 * a.day + j)) n)) (λ j. 0)
+        (λ j h. ap (λ o. bit (is_number o n)) (no_nurse I a.room (3 * a.day + j)))
+        ∙ sum_below-none (3 * (min (a.day + days) I.days - a.day))
+
+pub counts-none : (I : Draft) (counts : List ℕ) → counts ≡ replicate (person_count I * nurse_count I) 0 → AreCounts I (empty I) counts
+counts-none I counts e = record {
+  len = rw e (length-replicate (person_count I * nurse_count I) 0);
+  each = λ x n xh nh. rw e (get_or-replicate (person_count I * nurse_count I) (x * nurse_count I + n) 0 0 (count-inside I x n xh nh) ∙ sym (no-count I x n));
 }
 
 -- ---- days with nobody

@@ -1,5 +1,6 @@
 pub mod Here
 pub mod Loads
+pub mod Counts
 pub mod Ledger
 pub mod Marks
 pub mod Stretches

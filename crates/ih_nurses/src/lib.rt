@@ -5,6 +5,7 @@ mod bills;
 mod changes;
 mod choice_changes;
 mod choices;
+mod counts;
 mod loads;
 mod nurses;
 mod own;

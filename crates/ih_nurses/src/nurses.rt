@@ -15,13 +15,14 @@ ghost use Rattle.ih_nurses.specs.Ledger.{IsLedgerOf, plan_of};
 
 use crate::bills::{NursingCosts, bill_of};
 use crate::choices::nurse_at;
+use crate::counts::{add_stretch, move_counts, take_stretch};
 use crate::loads::{NurseLoad, load, move_load, overload};
 use crate::presence::{enter_days, leave_days};
 use crate::rooms::{choice_costs, missing_skills, workload_in};
 use crate::seen::nurses_over;
-use crate::start::{no_loads, occupants_here};
+use crate::start::{no_counts, no_loads, occupants_here};
 use crate::stays::{add_stay, end_of, take_stay};
-use crate::stretches::stretch_of;
+use crate::stretches::{placed_stretch, stretch_of};
 use ih_links::Links;
 use ih_plan::{Placement, Plan, Write};
 use ih_tables::{Bill, Instance, NurseNo, PatientNo, PersonNo, RoomNo, Shift};
@@ -36,6 +37,8 @@ pub struct Nurses {
     pub(crate) here: Vec<Links>,
     // The load of each nurse in each shift: those of nurse 0 first, rising by shift.
     pub(crate) loads: Vec<NurseLoad>,
+    // How many counted shifts of each person's stay each nurse has: the counts of person 0 first, rising by nurse.
+    pub(crate) counts: Vec<u8>,
 }
 
 impl Nurses {
@@ -46,7 +49,13 @@ impl Nurses {
         let plan = Plan::empty(alloc, inst)?;
         let here = occupants_here(alloc, inst)?;
         let loads = no_loads(alloc, inst)?;
-        Ok(Nurses { plan, here, loads })
+        let counts = no_counts(alloc, inst)?;
+        Ok(Nurses {
+            plan,
+            here,
+            loads,
+            counts,
+        })
     }
 
     /// The timetable for which the ledger stands.
@@ -67,6 +76,8 @@ impl Nurses {
         let end = end_of(inst, p, at);
         enter_days(inst, self.here.as_mut_slice(), at.room, at.day.0, end, p.0);
         add_stay(inst, &self.plan, self.loads.as_mut_slice(), p, at);
+        let stretch = placed_stretch(inst, p, at);
+        add_stretch(inst, &self.plan, self.counts.as_mut_slice(), p.0, stretch);
         self.plan.put(&Write::SetStay(p, Some(at)));
     }
 
@@ -80,6 +91,8 @@ impl Nurses {
         let end = end_of(inst, p, at);
         leave_days(inst, self.here.as_mut_slice(), at.room, at.day.0, end, p.0);
         take_stay(inst, &self.plan, self.loads.as_mut_slice(), p, at);
+        let stretch = placed_stretch(inst, p, at);
+        take_stretch(inst, &self.plan, self.counts.as_mut_slice(), p.0, stretch);
         self.plan.put(&Write::SetStay(p, None));
     }
 
@@ -95,6 +108,8 @@ impl Nurses {
         let load = workload_in(inst, &self.plan, persons, r, k);
         let old = nurse_at(inst, &self.plan, r, k);
         move_load(inst, self.loads.as_mut_slice(), old, n, k, load);
+        let counts = self.counts.as_mut_slice();
+        move_counts(inst, &self.plan, counts, persons, r, k, n);
         self.plan.put(&Write::SetCare(r, k, n));
     }
 

@@ -5,6 +5,7 @@ ghost use Rattle.ih_tables.specs.Sizes.{occupant_count, nurse_count, shift_count
 ghost use Rattle.ih_plan.specs.Timetable.{empty};
 ghost use Rattle.ih_nurses.specs.Here.{AreVacant, AreFilled, AreHere};
 ghost use Rattle.ih_nurses.specs.Loads.{AreLoads, free_load};
+ghost use Rattle.ih_nurses.specs.Counts.{AreCounts};
 
 use crate::loads::NurseLoad;
 use crate::presence::enter_days;
@@ -36,6 +37,15 @@ pub fn no_loads(alloc: Global, inst: &Instance) -> Result<Vec<NurseLoad>, AllocE
         loads.push(no_load(inst, place))?;
     }
     Ok(loads)
+}
+
+/// The count 0 for each person and nurse.
+pub fn no_counts(alloc: Global, inst: &Instance) -> Result<Vec<u8>, AllocError>
+    ensures { IfOk result (λ counts. AreCounts inst.now.draft (empty inst.now.draft) counts.items) }
+{
+    let places = inst.persons() as usize * inst.nurses() as usize;
+    let counts = vec![in alloc; 0; places]?;
+    Ok(counts)
 }
 
 // Lists for each day and room, with nobody in any.

@@ -1,6 +1,6 @@
 //! The counted shifts of a stay, in its room.
 
-ghost use Rattle.std.specs.Prelude.{◌≡◌, ◌<◌, ◌≤◌, ◌-◌, ◌+◌, ◌*◌, min, IfSome, option_map};
+ghost use Rattle.std.specs.Prelude.{◌≡◌, ◌<◌, ◌≤◌, ◌-◌, ◌+◌, ◌*◌, min, Some, IfSome, option_map};
 ghost use Rattle.ih_tables.specs.Sizes.{patient_count, person_count, shift_count};
 ghost use Rattle.ih_plan.specs.Timetable.{IsPlanOf, IsPlacement};
 ghost use Rattle.ih_plan.specs.Persons.{person_of};
@@ -31,6 +31,22 @@ fn counted(inst: &Instance, day: u32, len: u32) -> u32
     3 * ((day + len).min(days) - day)
 }
 
+/// The counted shifts of a patient's placement.
+#[tactic(auto, unfolding(ih_plan::specs::Persons::person_of))]
+pub fn placed_stretch(inst: &Instance, p: PatientNo, at: Placement) -> Stretch
+    requires patient { p.0 < patient_count inst.now.draft }
+    requires placement { IsPlacement inst.now.draft at }
+    ensures stretch { Some result ≡ stretch_in inst.now.draft (Some (placed_at at)) (person_of inst.now.draft p.0).length_of_stay }
+    ensures inside { IsStretch inst.now.draft result }
+{
+    let a = inst.patient(p);
+    Stretch {
+        room: at.room,
+        from: 3 * at.day.0,
+        len: counted(inst, at.day.0, a.length_of_stay),
+    }
+}
+
 /// The counted shifts of a patient's stay, where there is one.
 #[tactic(auto, unfolding(ih_plan::specs::Persons::person_of))]
 pub fn stay_stretch(inst: &Instance, p: PatientNo, stay: Option<Placement>) -> Option<Stretch>
@@ -39,14 +55,9 @@ pub fn stay_stretch(inst: &Instance, p: PatientNo, stay: Option<Placement>) -> O
     ensures stretch { result ≡ stretch_in inst.now.draft (option_map placed_at stay) (person_of inst.now.draft p.0).length_of_stay }
     ensures inside { IfSome result (IsStretch inst.now.draft) }
 {
-    let a = inst.patient(p);
     match stay {
         None => None,
-        Some(at) => Some(Stretch {
-            room: at.room,
-            from: 3 * at.day.0,
-            len: counted(inst, at.day.0, a.length_of_stay),
-        }),
+        Some(at) => Some(placed_stretch(inst, p, at)),
     }
 }
 

@@ -1,9 +1,10 @@
-use Rattle.std.proofs.Common.{subst, sym, ◌∙◌, ◌≡◌, Some, None}
+use Rattle.std.proofs.Common.{subst, sym, ap, length, ◌∙◌, ◌≡◌, Some, None}
 use Rattle.std.proofs.lemmas.List.{with_items_is}
 use Rattle.ih_plan.specs.declared.moves.Write.TheVariants.{SetStay}
 use Rattle.ih_plan.specs.Timetable.{stay_of}
 use Rattle.ih_plan.proofs.PlanRanges.{stay-plan}
-use Rattle.ih_nurses.proofs.LedgerLemmas.{admits, here-entered, loads-added, stands-own, stands-for, not-here, loads-small}
+use Rattle.ih_nurses.proofs.LedgerLemmas.{admits, here-entered, loads-added, stands-own, stands-for, not-here, not-counted, loads-small}
+use Rattle.ih_nurses.proofs.CountLemmas.{counts-added}
 use Rattle.ih_nurses.proofs.nurses.Nurses.enter.Goals as goal
 
 pub enter_days-requires-clause-free : goal.enter_days-requires-clause-free
@@ -12,6 +13,9 @@ enter_days-requires-clause-free c = rw c.as_mut_slice.ensures.value (not-here c.
 pub add_stay-requires-clause-small : goal.add_stay-requires-clause-small
 add_stay-requires-clause-small c = rw c.as_mut_slice-2.ensures.value (loads-small c.requires.stands.1 c.args.inst.now.valid)
 
+pub add_stretch-requires-clause-none : goal.add_stretch-requires-clause-none
+add_stretch-requires-clause-none c = rw c.as_mut_slice-3.ensures.value (not-counted c.requires.stands.1 c.args.p.0 c.requires.patient c.requires.stands.2)
+
 pub returns : goal.returns
 returns c = λ P known.
     let own = stands-own known in
@@ -19,7 +23,11 @@ returns c = λ P known.
     let admission = admits c.args.inst.now.draft c.args.self.now.plan c.args.p c.args.at own.fits c.requires.patient c.requires.placement free in
     let days = c.enter_days.ensures.sized.days in
     let days_before = own.here_are.sized.days in
-    rw (with_items_is c.args.self.now.here c.enter_days.new.here (days ∙ (sym days_before ∙ sym c.args.self.now.here.ok.0)), with_items_is c.args.self.now.loads c.add_stay.new.loads (c.add_stay.ensures.table.len ∙ (sym own.loads_are.table.len ∙ sym c.args.self.now.loads.ok.0)))
+    rw (
+      with_items_is c.args.self.now.here c.enter_days.new.here (days ∙ (sym days_before ∙ sym c.args.self.now.here.ok.0)),
+      with_items_is c.args.self.now.loads c.add_stay.new.loads (c.add_stay.ensures.table.len ∙ (sym own.loads_are.table.len ∙ sym c.args.self.now.loads.ok.0)),
+      with_items_is c.args.self.now.counts c.add_stretch.new.counts (c.add_stretch.ensures.len ∙ (ap length c.as_mut_slice-3.ensures.value ∙ sym c.args.self.now.counts.ok.0)),
+    )
     (stands-for known (SetStay c.args.p (Some c.args.at)) (record {
       plan_is = c.put.ensures;
       fits = stay-plan c.args.inst.now.draft c.args.self.now.plan c.args.p c.args.at own.fits c.requires.patient c.requires.placement;
@@ -27,4 +35,7 @@ returns c = λ P known.
           (rw (← c.as_mut_slice.ensures.value, ← c.end_of-end.ensures.value) c.enter_days.ensures.each);
       loads_are = loads-added admission c.args.self.now.loads.items c.add_stay.new.loads own.loads_are c.add_stay.ensures.table
           (rw (← c.as_mut_slice-2.ensures.value) c.add_stay.ensures.each);
+      counts_are = counts-added admission c.placed_stretch-stretch.result c.placed_stretch-stretch.ensures.stretch c.args.self.now.counts.items c.add_stretch.new.counts own.counts_are
+          (c.add_stretch.ensures.len ∙ ap length c.as_mut_slice-3.ensures.value)
+          (rw (← c.as_mut_slice-3.ensures.value) c.add_stretch.ensures.each);
     }))

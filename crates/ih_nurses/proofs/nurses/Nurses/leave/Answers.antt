@@ -1,9 +1,10 @@
-use Rattle.std.proofs.Common.{subst, sym, ◌∙◌, ◌≡◌, Some, None}
+use Rattle.std.proofs.Common.{subst, sym, ap, length, ◌∙◌, ◌≡◌, Some, None}
 use Rattle.std.proofs.lemmas.List.{with_items_is}
 use Rattle.ih_plan.specs.declared.moves.Write.TheVariants.{SetStay}
 use Rattle.ih_plan.specs.Timetable.{stay_of}
 use Rattle.ih_plan.proofs.PlanRanges.{put-plan}
 use Rattle.ih_nurses.proofs.LedgerLemmas.{leaves, here-left, loads-taken, here-there, loads-enough, stands-own, stands-for}
+use Rattle.ih_nurses.proofs.CountLemmas.{counts-taken, counts-enough}
 use Rattle.ih_nurses.proofs.nurses.Nurses.leave.Goals as goal
 
 pub leave_days-requires-clause-there : goal.leave_days-requires-clause-there
@@ -19,6 +20,13 @@ take_stay-requires-clause-enough c =
     let admission = leaves c.args.inst.now.draft c.args.self.now.plan c.args.p c.args.at own.fits c.requires.patient c.requires.placement there in
     rw c.as_mut_slice-2.ensures.value (loads-enough admission c.args.self.now.loads.items own.loads_are)
 
+pub take_stretch-requires-clause-enough : goal.take_stretch-requires-clause-enough
+take_stretch-requires-clause-enough c =
+    let own = stands-own c.requires.stands.1 in
+    let there = subst (λ S. stay_of S c.args.p.0 ≡ Some c.args.at) (sym c.requires.stands.1.plan_is) c.requires.stands.2 in
+    let admission = leaves c.args.inst.now.draft c.args.self.now.plan c.args.p c.args.at own.fits c.requires.patient c.requires.placement there in
+    rw c.as_mut_slice-3.ensures.value (counts-enough admission c.placed_stretch-stretch.result c.placed_stretch-stretch.ensures.stretch c.args.self.now.counts.items own.counts_are)
+
 pub returns : goal.returns
 returns c = λ P known.
     let own = stands-own known in
@@ -26,7 +34,11 @@ returns c = λ P known.
     let admission = leaves c.args.inst.now.draft c.args.self.now.plan c.args.p c.args.at own.fits c.requires.patient c.requires.placement there in
     let days = c.leave_days.ensures.sized.days in
     let days_before = own.here_are.sized.days in
-    rw (with_items_is c.args.self.now.here c.leave_days.new.here (days ∙ (sym days_before ∙ sym c.args.self.now.here.ok.0)), with_items_is c.args.self.now.loads c.take_stay.new.loads (c.take_stay.ensures.table.len ∙ (sym own.loads_are.table.len ∙ sym c.args.self.now.loads.ok.0)))
+    rw (
+      with_items_is c.args.self.now.here c.leave_days.new.here (days ∙ (sym days_before ∙ sym c.args.self.now.here.ok.0)),
+      with_items_is c.args.self.now.loads c.take_stay.new.loads (c.take_stay.ensures.table.len ∙ (sym own.loads_are.table.len ∙ sym c.args.self.now.loads.ok.0)),
+      with_items_is c.args.self.now.counts c.take_stretch.new.counts (c.take_stretch.ensures.len ∙ (ap length c.as_mut_slice-3.ensures.value ∙ sym c.args.self.now.counts.ok.0)),
+    )
     (stands-for known (SetStay c.args.p None) (record {
       plan_is = c.put.ensures;
       fits = put-plan c.args.inst.now.draft c.args.self.now.plan (SetStay c.args.p None) own.fits (c.requires.patient, λ at e. absurd (let no : None ≡ Some at = e in cc));
@@ -34,4 +46,7 @@ returns c = λ P known.
           (rw (← c.as_mut_slice.ensures.value, ← c.end_of-end.ensures.value) c.leave_days.ensures.each);
       loads_are = loads-taken admission c.args.self.now.loads.items c.take_stay.new.loads own.loads_are c.take_stay.ensures.table
           (rw (← c.as_mut_slice-2.ensures.value) c.take_stay.ensures.each);
+      counts_are = counts-taken admission c.placed_stretch-stretch.result c.placed_stretch-stretch.ensures.stretch c.args.self.now.counts.items c.take_stretch.new.counts own.counts_are
+          (c.take_stretch.ensures.len ∙ ap length c.as_mut_slice-3.ensures.value)
+          (rw (← c.as_mut_slice-3.ensures.value) c.take_stretch.ensures.each);
     }))
