@@ -26,7 +26,7 @@ use Rattle.ih_costs.specs.StayGain.{rule_at, cost_at}
 use Rattle.ih_costs.specs.ChoiceGain.{choice_told}
 use Rattle.ih_costs.proofs.ChoiceLemmas.{number_of, loads_by, cares_by, choice_by, number-choice}
 use Rattle.ih_costs.proofs.GainBills.{counts-same, nine, eight}
-use Rattle.ih_costs.proofs.GainSteps.{rule-less, cost-less, passed-is}
+use Rattle.ih_costs.proofs.GainSteps.{passed-is}
 use Rattle.ih_costs.proofs.SpanSums.{at_place}
 
 -- ---- sums of nothing
@@ -128,9 +128,11 @@ pub other-number : (old new : Option NurseNo) → (new ≡ old → ⊥) → numb
 other-number old new ne e =
     ne (sym (numbered new) ∙ (ap (option_map (λ (n : ℕ). let a : NurseNo = record { 0 = n } in a)) (sym e) ∙ numbered old))
 
-module _ (I : Draft) (P : Timetable) (r : RoomNo) (k : Shift) (new : Option NurseNo) (room : Bill) (seen load : ℤ)
+module _ (I : Draft) (P : Timetable) (r : RoomNo) (k : Shift) (new : Option NurseNo) (off uncovered missing seen load : ℤ)
     (valid : IsValid I) (plan : IsPlanOf I P) (fits : IsWriteOf I (SetCare r k new)) (other : care_of P r.0 k.0 ≡ number_of new → ⊥)
-    (room_is : room ≡ sub_bills (as_bill (part_at I (put (SetCare r k new) P) (RoomShift r k))) (as_bill (part_at I P (RoomShift r k))))
+    (off_is : off ≡ rise_by_choice P r k new (λ Q. rule_at 7 (part_at I Q (RoomShift r k))))
+    (uncovered_is : uncovered ≡ rise_by_choice P r k new (λ Q. rule_at 8 (part_at I Q (RoomShift r k))))
+    (missing_is : missing ≡ rise_by_choice P r k new (λ Q. cost_at 1 (part_at I Q (RoomShift r k))))
     (seen_is : seen ≡ rise_by_choice P r k new (λ Q. seen_by I Q (present I P r.0 (day_of k.0))))
     (load_is : load ≡ rise_by_choice P r k new (λ Q. excess_of I Q k.0 (care_of P r.0 k.0) + excess_of I Q k.0 (number_of new))) where
   law : change_of_bill I P (put (SetCare r k new) P) ≡ choice_told I P r k new
@@ -145,15 +147,13 @@ module _ (I : Draft) (P : Timetable) (r : RoomNo) (k : Shift) (new : Option Nurs
 
   -- The numbers that the nurses' ledger tells are what the bill changes by.
   pub choice-priced : (let b : Bill = record {
-    v = pos 0 ∷ pos 0 ∷ pos 0 ∷ pos 0 ∷ pos 0 ∷ pos 0 ∷ pos 0 ∷ to_z w64 (of_z w64 (place room.v 7)) ∷ to_z w64 (of_z w64 (place room.v 8)) ∷ [];
-    s = pos 0 ∷ to_z w64 (of_z w64 (place room.s 1)) ∷ to_z w64 (of_z w64 seen) ∷ to_z w64 (of_z w64 load) ∷ pos 0 ∷ pos 0 ∷ pos 0 ∷ pos 0 ∷ [];
+    v = pos 0 ∷ pos 0 ∷ pos 0 ∷ pos 0 ∷ pos 0 ∷ pos 0 ∷ pos 0 ∷ to_z w64 (of_z w64 off) ∷ to_z w64 (of_z w64 uncovered) ∷ [];
+    s = pos 0 ∷ to_z w64 (of_z w64 missing) ∷ to_z w64 (of_z w64 seen) ∷ to_z w64 (of_z w64 load) ∷ pos 0 ∷ pos 0 ∷ pos 0 ∷ pos 0 ∷ [];
   } in b ≡ change_of_bill I P (put (SetCare r k new) P))
   choice-priced =
-      let after = part_at I (put (SetCare r k new) P) (RoomShift r k) in
-      let before = part_at I P (RoomShift r k) in
-      let off = passed (place (choice_told I P r k new).v 7) (place room.v 7) (ap (λ z. place z.v 7) room_is ∙ rule-less after before 7 (omega arith)) (small.v 7 (omega arith)) in
-      let alone = passed (place (choice_told I P r k new).v 8) (place room.v 8) (ap (λ z. place z.v 8) room_is ∙ rule-less after before 8 (omega arith)) (small.v 8 (omega arith)) in
-      let skill = passed (place (choice_told I P r k new).s 1) (place room.s 1) (ap (λ z. place z.s 1) room_is ∙ cost-less after before 1 (omega arith)) (small.s 1 (omega arith)) in
+      let rule_off = passed (place (choice_told I P r k new).v 7) off off_is (small.v 7 (omega arith)) in
+      let rule_alone = passed (place (choice_told I P r k new).v 8) uncovered uncovered_is (small.v 8 (omega arith)) in
+      let skills = passed (place (choice_told I P r k new).s 1) missing missing_is (small.s 1 (omega arith)) in
       let cares = passed (place (choice_told I P r k new).s 2) seen seen_is (small.s 2 (omega arith)) in
       let loads = passed (place (choice_told I P r k new).s 3) load load_is (small.s 3 (omega arith)) in
-      rw (off, alone, skill, cares, loads) (sym law)
+      rw (rule_off, rule_alone, skills, cares, loads) (sym law)

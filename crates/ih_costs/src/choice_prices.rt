@@ -20,12 +20,19 @@ impl CellLedgers {
         if new == old {
             return Bill::zero();
         }
-        let room = self.nurses.choice_change(inst, r, k, new);
-        let load = self.nurses.loads_change(inst, r, k, new);
-        let seen = self.nurses.cares_change(inst, r, k, new);
+        let gain = self.nurses.choice_gain(inst, r, k, new);
         Bill {
-            v: [0, 0, 0, 0, 0, 0, 0, room.v[7], room.v[8]],
-            s: [0, room.s[1], seen, load, 0, 0, 0, 0],
+            v: [0, 0, 0, 0, 0, 0, 0, gain.off, gain.uncovered],
+            s: [
+                0,
+                gain.missing_skill,
+                gain.nurses_seen,
+                gain.overload,
+                0,
+                0,
+                0,
+                0,
+            ],
         }
     }
 }

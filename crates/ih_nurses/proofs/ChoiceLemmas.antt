@@ -24,10 +24,10 @@ use Rattle.ih_plan.proofs.SumLemmas.{sum_below-same, sum_by-which_below}
 use Rattle.ih_nurses.specs.Choice.{excess_of, seen_by, rise_by_choice}
 use Rattle.ih_nurses.specs.declared.loads.NurseLoad.{NurseLoad}
 use Rattle.ih_nurses.specs.Loads.{AreLoads, load_at, excess_rise}
-use Rattle.ih_nurses.specs.Stretches.{IsStretch, nurses_over, newly_seen_of, stretch_in}
+use Rattle.ih_nurses.specs.Stretches.{IsStretch, nurses_over, stretch_in}
 use Rattle.ih_nurses.proofs.CareLemmas.{load-moves}
 use Rattle.ih_nurses.proofs.DifferenceLemmas.{apart-same}
-use Rattle.ih_nurses.proofs.NewlyLemmas.{seen-change}
+use Rattle.ih_nurses.proofs.NewlyLemmas.{newly_seen_of, seen-change}
 use Rattle.ih_nurses.proofs.StretchLemmas.{nurses-alike, stretch-kept}
 
 -- the number of a nurse, where there is one

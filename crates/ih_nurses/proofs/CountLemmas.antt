@@ -1,16 +1,13 @@
 -- The counts of a stay's shifts, shift by shift, and what another stay and another choice of nurse make of them.
-use Rattle.std.proofs.Common.{◌≡◌, ℕ, zero, suc, ◌+◌, ◌-◌, ◌*◌, ◌/◌, ◌<◌, ◌≤◌, refl, arith, sym, ap, subst, ◌∙◌, Bool, true, false, inl, inr, List, length, Option, Some, None, min}
-use Rattle.std.specs.Prelude.{◌==◌, ◌&&◌, if◌then◌else◌, nat_le, nat_lt, option_map, IfSome}
-use Rattle.std.proofs.lemmas.Bool.{cases_eq, cases_lt, cases_Bool, eq-eqb, ne_eqb, eqb-true, le-leb, lt-leb, lt-ltb, le-ltb, leb-true, ltb-true, and_parts}
+use Rattle.std.proofs.Common.{◌≡◌, ℕ, zero, suc, ◌+◌, ◌-◌, ◌*◌, ◌/◌, ◌<◌, ◌≤◌, refl, arith, sym, ap, ◌∙◌, Bool, true, false, inl, inr, List, length, Option, Some, None, min}
+use Rattle.std.specs.Prelude.{◌==◌, ◌&&◌, if◌then◌else◌, nat_le, nat_lt, option_map}
+use Rattle.std.proofs.lemmas.Bool.{cases_eq, cases_lt, eq-eqb, ne_eqb, eqb-true, le-leb, lt-leb, lt-ltb, le-ltb, leb-true, ltb-true, and_parts}
 use Rattle.ih_tables.specs.declared.drafts.Draft.{Draft}
 use Rattle.ih_tables.specs.declared.ids.RoomNo.{RoomNo}
 use Rattle.ih_tables.specs.declared.ids.Shift.{Shift}
 use Rattle.ih_tables.specs.declared.ids.NurseNo.{NurseNo}
 use Rattle.ih_tables.specs.Sizes.{patient_count, person_count, room_count, nurse_count, shift_count}
 use Rattle.ih_tables.specs.Valid.{IsValid}
-use Rattle.ih_links.specs.Lists.{has, AreNodes, first_of, following, rest_from}
-use Rattle.ih_links.proofs.Members.{has-here, has-there, lacks-from}
-use Rattle.ih_links.proofs.Walks.{IsAt, starts, rest-first, goes-on, rest-step}
 use Rattle.ih_plan.specs.declared.moves.Placement.{Placement}
 use Rattle.ih_plan.specs.declared.moves.Write.TheVariants.{SetCare}
 use Rattle.ih_plan.specs.Timetable.{Timetable, IsPlanOf, stay_of, choice_of, care_of}
@@ -23,8 +20,9 @@ use Rattle.ih_plan.proofs.SumLemmas.{sum_below-zero, sum_below-more, sum_below-b
 use Rattle.ih_plan.proofs.Entries.{admission-patient, admission-same, care_of-same, care_of-other}
 use Rattle.ih_nurses.specs.declared.stretches.Stretch.{Stretch}
 use Rattle.ih_nurses.specs.Counts.{AreCounts, count_at, count_of, nursed_in, one_of}
-use Rattle.ih_nurses.specs.Stretches.{has_shift, stretch_in}
+use Rattle.ih_nurses.specs.Stretches.{stretch_in}
 use Rattle.ih_nurses.proofs.AdmitLemmas.{IsAdmission}
+use Rattle.ih_nurses.proofs.NewlyLemmas.{has_shift}
 use Rattle.ih_nurses.proofs.StretchLemmas.{stretch-kept}
 
 pub bit-few : (b : Bool) → bit b ≤ 1

@@ -1,6 +1,6 @@
 -- The walk that makes the counts those of another choice of nurse, person by person.
-use Rattle.std.proofs.Common.{◌≡◌, ℕ, ◌+◌, ◌*◌, ◌<◌, ◌≤◌, refl, arith, sym, ap, subst, ◌∙◌, Bool, true, false, inl, inr, List, [], ◌∷◌, length, Option, Some, None}
-use Rattle.std.specs.Prelude.{◌==◌, ◌&&◌, if◌then◌else◌, option_map}
+use Rattle.std.proofs.Common.{◌≡◌, ℕ, ◌+◌, ◌*◌, ◌<◌, ◌≤◌, refl, arith, sym, ap, subst, ◌∙◌, true, false, inl, inr, List, [], ◌∷◌, length, Option, Some, None}
+use Rattle.std.specs.Prelude.{if◌then◌else◌, option_map}
 use Rattle.std.proofs.lemmas.Bool.{cases_eq, cases_Bool, eq-eqb, ne_eqb}
 use Rattle.ih_tables.specs.declared.drafts.Draft.{Draft}
 use Rattle.ih_tables.specs.declared.ids.RoomNo.{RoomNo}
@@ -9,7 +9,7 @@ use Rattle.ih_tables.specs.declared.ids.NurseNo.{NurseNo}
 use Rattle.ih_tables.specs.Sizes.{person_count, room_count, nurse_count, shift_count}
 use Rattle.ih_tables.specs.Valid.{IsValid}
 use Rattle.ih_links.specs.Lists.{has, IsOnce, AreNodes, first_of, following, rest_from}
-use Rattle.ih_links.proofs.Members.{has-here, has-there, lacks-from}
+use Rattle.ih_links.proofs.Members.{has-here}
 use Rattle.ih_links.proofs.Walks.{IsAt, starts, rest-first, goes-on, rest-step}
 use Rattle.ih_plan.specs.declared.moves.Write.TheVariants.{SetCare}
 use Rattle.ih_plan.specs.Timetable.{Timetable, IsPlanOf, choice_of, care_of}
@@ -18,7 +18,7 @@ use Rattle.ih_plan.specs.Presence.{day_of, is_present}
 use Rattle.ih_plan.specs.Costs.{is_number}
 use Rattle.ih_plan.specs.Sums.{bit}
 use Rattle.ih_nurses.specs.Counts.{AreCounts, count_at, count_of, one_of}
-use Rattle.ih_nurses.proofs.CountLemmas.{bit-few, count-few, count-kept, count-moves}
+use Rattle.ih_nurses.proofs.CountLemmas.{count-few, count-kept, count-moves}
 
 -- The persons of a list have the counts of Q, but for those still to come, who have the counts of P.
 pub record AreMoved (I : Draft) (P Q : Timetable) (xs counts : List ℕ) (at : Option ℕ) : Type 0 where

@@ -23,3 +23,5 @@ pub mod PlacedLemmas
 pub mod CountSteps
 pub mod CountLemmas
 pub mod CountWalks
+pub mod RoomSumLemmas
+pub mod ChoiceGainLemmas

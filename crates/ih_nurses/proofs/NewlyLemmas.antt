@@ -11,14 +11,40 @@ use Rattle.ih_tables.specs.Sizes.{nurse_count, room_count, shift_count}
 use Rattle.ih_plan.specs.declared.moves.Write.TheVariants.{SetCare}
 use Rattle.ih_plan.specs.Timetable.{Timetable, IsPlanOf, choice_of, care_of}
 use Rattle.ih_plan.specs.Writes.{put}
-use Rattle.ih_plan.specs.Presence.{in_span}
+use Rattle.ih_plan.specs.Persons.{person_of}
+use Rattle.ih_plan.specs.Presence.{admission_of, in_span}
 use Rattle.ih_plan.specs.Costs.{is_number, distinct_nurses}
 use Rattle.ih_plan.specs.Sums.{bit, count_below}
 use Rattle.ih_plan.proofs.SumLemmas.{sum_below-but, sum_below-same}
 use Rattle.ih_plan.proofs.Entries.{care_of-same, care_of-other}
 use Rattle.ih_plan.proofs.PlanRanges.{nurse-inside}
 use Rattle.ih_nurses.specs.declared.stretches.Stretch.{Stretch}
-use Rattle.ih_nurses.specs.Stretches.{IsStretch, nurses_over, has_shift, has_other, fresh, newly_seen}
+use Rattle.ih_nurses.specs.Stretches.{IsStretch, nurses_over, stretch_in}
+
+-- ---- a nurse who is met in one shift of a stay alone
+
+-- shift k of room r is one of the stretch
+abbrev pub has_shift : Stretch → ℕ → ℕ → Bool
+has_shift s r k = (s.room.0 == r) && in_span s.from (s.from + s.len) k
+
+-- nurse m has a shift of the stretch other than shift k
+abbrev pub has_other : Timetable → Stretch → ℕ → ℕ → Bool
+has_other P s k m = list_any (λ j. not (j == k) && is_number (care_of P s.room.0 j) m) (range_with_len s.from s.len)
+
+-- 1 where there is a nurse who isn't marked
+abbrev pub fresh : (ℕ → Bool) → Option NurseNo → ℕ
+fresh marked None = 0
+fresh marked (Some a) = bit (not (marked a.0))
+
+-- 1 where a choice for room r in shift k is a nurse who has no other of the shifts, and 0 where not
+abbrev pub newly_seen : Timetable → Option Stretch → ℕ → ℕ → Option NurseNo → ℕ
+newly_seen P None r k n = 0
+newly_seen P (Some s) r k None = 0
+newly_seen P (Some s) r k (Some m) = bit (has_shift s r k && not (has_other P s k m.0))
+
+-- the same over the counted shifts of person x's stay
+abbrev pub newly_seen_of : Draft → Timetable → ℕ → ℕ → Option NurseNo → ℕ → ℕ
+newly_seen_of I P r k n x = newly_seen P (stretch_in I (admission_of I P x) (person_of I x).length_of_stay) r k n
 
 -- ---- tests over a range
 
@@ -45,7 +71,7 @@ any-split q k a (suc n) low high = elim (cases_eq a k) [
     grouped false c d = refl
 
 -- one number more
-any-more : (q : ℕ → Bool) (a n : ℕ) → list_any q (range_with_len a (n + 1)) ≡ (list_any q (range_with_len a n) || q (a + n))
+pub any-more : (q : ℕ → Bool) (a n : ℕ) → list_any q (range_with_len a (n + 1)) ≡ (list_any q (range_with_len a n) || q (a + n))
 any-more q a zero = let place : a + 0 ≡ a = omega arith in rw place (last (q a))
   where
     last : (b : Bool) → (b || false) ≡ (false || b)
@@ -97,25 +123,6 @@ count-fresh m marked (Some a) h =
     let here : bit (marked a.0 || (a.0 == a.0)) ≡ 1 = rw (eq-eqb a.0 a.0 refl) (ap bit (or-all (marked a.0))) in
     omega (arith, change, here, bit-not (marked a.0))
 
--- ---- nurses met in the first shifts of a stretch
-
--- the nurse has one of the first j shifts, other than shift k; where there is no nurse, as if so
-abbrev pub is_met : Timetable → Stretch → ℕ → Option NurseNo → ℕ → Bool
-is_met P s k None j = true
-is_met P s k (Some a) j = list_any (λ i. not (i == k) && is_number (care_of P s.room.0 i) a.0) (range_with_len s.from j)
-
-pub met-more : (P : Timetable) (s : Stretch) (k : ℕ) (o : Option NurseNo) (j : ℕ) (n : Option NurseNo) (m : Bool) → n ≡ choice_of P s.room.0 (s.from + j)
-    → IfSome o (λ a. m ≡ (not (s.from + j == k) && is_number (option_map (λ (b : NurseNo). b.0) n) a.0))
-    → is_met P s k o (j + 1) ≡ (is_met P s k o j || m)
-met-more P s k None j n m is e = refl
-met-more P s k (Some a) j n m is e =
-    any-more (λ i. not (i == k) && is_number (care_of P s.room.0 i) a.0) s.from j
-    ∙ ap (λ b. is_met P s k (Some a) j || b) (sym (e ∙ rw is refl))
-
-pub met-all : (P : Timetable) (s : Stretch) (k : ℕ) (o : Option NurseNo) (j : ℕ) → j ≡ s.len → bit (not (is_met P s k o j)) ≡ fresh (has_other P s k) o
-met-all P s k None j all = refl
-met-all P s k (Some a) j all = rw all refl
-
 -- ---- the nurses of a stretch
 
 module _ (I : Draft) (P : Timetable) (s : Stretch) (k : ℕ) (o : Option NurseNo) (low : s.from ≤ k) (high : k < s.from + s.len)
@@ -136,15 +143,6 @@ newly-within P s r k (Some a) h = rw h refl
 newly-outside : (P : Timetable) (s : Stretch) (r k : ℕ) (o : Option NurseNo) → has_shift s r k ≡ false → newly_seen P (Some s) r k o ≡ 0
 newly-outside P s r k None h = refl
 newly-outside P s r k (Some a) h = rw h refl
-
-pub newly-small : (P : Timetable) (s : Option Stretch) (r k : ℕ) (o : Option NurseNo) → newly_seen P s r k o ≤ 1
-newly-small P None r k o = omega arith
-newly-small P (Some s) r k None = omega arith
-newly-small P (Some s) r k (Some a) = bit-small (has_shift s r k && not (has_other P s k a.0))
-  where
-    bit-small : (b : Bool) → bit b ≤ 1
-    bit-small true = omega arith
-    bit-small false = omega arith
 
 module _ (I : Draft) (P : Timetable) (r : RoomNo) (k : Shift) (new : Option NurseNo) (plan : IsPlanOf I P) (room : r.0 < room_count I) (shift : k.0 < shift_count I)
     (nurse : IfSome new (λ a. a.0 < nurse_count I)) where

@@ -2,16 +2,13 @@
 use Rattle.std.proofs.Common.{◌≡◌, ℕ, ◌<◌, refl, arith, sym, ap, subst, ◌∙◌, Bool, List, map, Option}
 use Rattle.std.specs.Prelude.{◌&&◌, not, is_none, slice_index_or}
 use Rattle.ih_tables.specs.declared.drafts.Draft.{Draft}
-use Rattle.ih_tables.specs.declared.ids.NurseNo.{NurseNo}
 use Rattle.ih_tables.specs.declared.ids.RoomNo.{RoomNo}
 use Rattle.ih_tables.specs.declared.ids.Shift.{Shift}
 use Rattle.ih_tables.specs.declared.cells.Cell.TheVariants.{RoomShift}
 use Rattle.ih_tables.specs.Sizes.{person_count, room_count, shift_count}
 use Rattle.ih_links.specs.Lists.{Linked, list_of, AreNodes, without}
-use Rattle.ih_plan.specs.declared.moves.Write.TheVariants.{SetCare}
 use Rattle.ih_plan.specs.Timetable.{Timetable, care_of}
-use Rattle.ih_plan.specs.Writes.{put}
-use Rattle.ih_plan.specs.Presence.{admission_of, entry_of, present, day_of, skill_of}
+use Rattle.ih_plan.specs.Presence.{present, day_of, skill_of}
 use Rattle.ih_plan.specs.Costs.{not_working, is_empty, skill_missing}
 use Rattle.ih_plan.specs.BillOf.{as_bill}
 use Rattle.ih_plan.specs.Cells.{part_at}
@@ -22,7 +19,7 @@ use Rattle.ih_nurses.proofs.DifferenceLemmas.{bill_in}
 use Rattle.ih_nurses.proofs.HereLemmas.{read-here}
 use Rattle.ih_nurses.proofs.OwnLemmas.{others-alike}
 use Rattle.ih_nurses.proofs.RoomLemmas.{AreAlike, room_list-part}
-use Rattle.ih_nurses.proofs.ShiftLemmas.{sum-in_list, here-kept}
+use Rattle.ih_nurses.proofs.ShiftLemmas.{sum-in_list}
 
 -- These are the costs of nurse n in room r and shift k, with the persons in a list.
 pub record AreChoiceCosts (I : Draft) (P : Timetable) (xs : List ℕ) (k : ℕ) (n : Option ℕ) (a : NursingCosts) : Type 0 where
@@ -66,13 +63,3 @@ choice-part I P here day r k a l costs =
 -- the others in the list of a room and a day are those of the timetable
 pub others-in : {I : Draft} {P : Timetable} {here : List Linked} {day : Linked} {r k : ℕ} (p : ℕ) → IsRoomList I P here day r k → not (is_empty (without p (list_of day r))) ≡ has_others I P p r k
 others-in {I} {P} {here} {day} {r} {k} p l = others-alike p (list_of day r) (present I P r (day_of k)) (list-alike I P here day r k l)
-
--- a choice leaves the skills that persons require
-pub costs-kept : (I : Draft) (P : Timetable) (r : RoomNo) (l : Shift) (m : Option NurseNo) (xs : List ℕ) (k : ℕ) (n : Option ℕ) (a : NursingCosts)
-    → AreChoiceCosts I P xs k n a → AreChoiceCosts I (put (SetCare r l m) P) xs k n a
-unfolding admission_of entry_of
-costs-kept I P r l m xs k n a costs = record { off = costs.off; uncovered = costs.uncovered; missing_skill = costs.missing_skill; seen = costs.seen; overload = costs.overload }
-
-pub list-kept : (I : Draft) (P : Timetable) (r : RoomNo) (l : Shift) (m : Option NurseNo) (here : List Linked) (day : Linked) (s k : ℕ)
-    → IsRoomList I P here day s k → IsRoomList I (put (SetCare r l m) P) here day s k
-list-kept I P r l m here day s k list = record { known = here-kept I P r l m here list.known; room = list.room; shift = list.shift; day_is = list.day_is; nodes = list.nodes }

@@ -28,6 +28,11 @@ count_at I counts x n = slice_index_or counts (x * nurse_count I + n) 0
 abbrev pub one_of : ℕ → Option NurseNo → ℕ → ℕ → ℕ
 one_of x n y m = bit ((x == y) && is_number (option_map (λ (a : NurseNo). a.0) n) m)
 
+-- 1 where there is a nurse to whom the table has this count of person x's shifts, and 0 where not
+abbrev pub has_just : Draft → List ℕ → ℕ → Option NurseNo → ℕ → ℕ
+has_just I counts shifts None x = 0
+has_just I counts shifts (Some a) x = bit (count_at I counts x a.0 == shifts)
+
 -- The table has each nurse's count for each person.
 pub record AreCounts (I : Draft) (P : Timetable) (counts : List ℕ) : Type 0 where
   pub len : length counts ≡ person_count I * nurse_count I

@@ -1,4 +1,4 @@
--- What a placement of a patient changes: numbers of the parts of a shift of its room, and of that room's nurse.
+-- Numbers of the parts of a room's shift and of its nurse's, and what a placement of a patient changes in them.
 use Rattle.std.specs.Prelude.{ℕ, ℤ, pos, ◌-ℤ◌, Some, None, slice_index}
 use Rattle.ih_tables.specs.declared.drafts.Draft.{Draft}
 use Rattle.ih_tables.specs.declared.cells.Cell.TheVariants.{RoomShift, NurseShift}
@@ -14,6 +14,10 @@ use Rattle.ih_plan.specs.Cells.{part_at}
 use Rattle.ih_nurses.specs.Choice.{excess_of}
 
 module _ (I : Draft) (Q : Timetable) where
+  -- 1 where room r has a nurse in shift k who doesn't work then, and 0 where not
+  abbrev pub off_in : RoomNo → Shift → ℕ
+  off_in r k = slice_index (part_at I Q (RoomShift r k)).v 7
+
   -- 1 where room r is occupied in shift k and has no nurse, and 0 where not
   abbrev pub uncovered_in : RoomNo → Shift → ℕ
   uncovered_in r k = slice_index (part_at I Q (RoomShift r k)).v 8

@@ -1,12 +1,10 @@
-//! What a placement gives to a patient's care, and what another choice of nurse would change in a room's shift: told
-//! without making it.
+//! What a placement gives to a patient's care, told without making it.
 
 ghost use Rattle.std.specs.Prelude.{◌≡◌, ◌<◌, ◌^◌, Some, None};
-ghost use Rattle.ih_tables.specs.declared.ids.NurseNo.{NurseNo};
-ghost use Rattle.ih_tables.specs.declared.cells.Cell.TheVariants.{RoomShift, Care};
-ghost use Rattle.ih_tables.specs.Sizes.{patient_count, room_count, shift_count, nurse_count};
+ghost use Rattle.ih_tables.specs.declared.cells.Cell.TheVariants.{Care};
+ghost use Rattle.ih_tables.specs.Sizes.{patient_count};
 ghost use Rattle.ih_tables.specs.Bills.{IsWithin, sub_bills};
-ghost use Rattle.ih_plan.specs.declared.moves.Write.TheVariants.{SetStay, SetCare};
+ghost use Rattle.ih_plan.specs.declared.moves.Write.TheVariants.{SetStay};
 ghost use Rattle.ih_plan.specs.Timetable.{Timetable, IsPlacement};
 ghost use Rattle.ih_plan.specs.Writes.{put};
 ghost use Rattle.ih_plan.specs.BillOf.{as_bill};
@@ -15,12 +13,10 @@ ghost use Rattle.ih_nurses.specs.Ledger.{IsLedgerOf};
 
 use crate::Nurses;
 use crate::bills::{NursingCosts, difference};
-use crate::choices::nurse_at;
-use crate::rooms::{choice_costs, missing_skills};
 use crate::seen::nurses_over;
 use crate::stretches::stay_stretch;
 use ih_plan::Placement;
-use ih_tables::{Bill, Instance, NurseNo, PatientNo, RoomNo, Shift};
+use ih_tables::{Bill, Instance, PatientNo};
 
 // The costs of the distinct nurses of a stay alone.
 fn nursed(nurses_seen: u32) -> NursingCosts
@@ -48,26 +44,5 @@ impl Nurses {
     {
         let stretch = stay_stretch(inst, p, Some(at));
         difference(nursed(nurses_over(inst, &self.plan, stretch)), nursed(0))
-    }
-
-    /// What another choice of nurse, or none, for a room's shift would change in that shift. It goes over the persons who
-    /// are in the room on that day. Each number is at most 10^11 in magnitude.
-    #[inline(always)]
-    pub fn choice_change(&self, inst: &Instance, r: RoomNo, k: Shift, new: Option<NurseNo>) -> Bill
-        requires room { r.0 < room_count inst.now.draft }
-        requires shift { k.0 < shift_count inst.now.draft }
-        requires nurse { (a : NurseNo) → new ≡ Some a → a.0 < nurse_count inst.now.draft }
-        requires stands { (P : Timetable) × IsLedgerOf inst.now.draft P self.now }
-        ensures change { (P : Timetable) → IsLedgerOf inst.now.draft P self.now
-            → result ≡ sub_bills (as_bill (part_at inst.now.draft (put (SetCare r k new) P) (RoomShift r k))) (as_bill (part_at inst.now.draft P (RoomShift r k))) }
-        ensures within { IsWithin (10 ^ 11) result }
-    {
-        let persons = &self.here[(k.0 / 3) as usize];
-        let old = nurse_at(inst, &self.plan, r, k);
-        let (after, before) = missing_skills(inst, &self.plan, persons, r, k, new, old);
-        difference(
-            choice_costs(inst, persons, r, k, new, after),
-            choice_costs(inst, persons, r, k, old, before),
-        )
     }
 }

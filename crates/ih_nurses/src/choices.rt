@@ -1,7 +1,6 @@
 //! The nurse of a room in a shift.
 
-ghost use Rattle.std.specs.Prelude.{◌≡◌, ◌<◌, IfSome, option_map, false};
-ghost use Rattle.std.specs.Option.{option_map_or};
+ghost use Rattle.std.specs.Prelude.{◌≡◌, ◌<◌, IfSome, option_map};
 ghost use Rattle.ih_tables.specs.declared.ids.NurseNo.{NurseNo};
 ghost use Rattle.ih_tables.specs.Sizes.{room_count, shift_count, nurse_count};
 ghost use Rattle.ih_plan.specs.Timetable.{IsPlanOf, choice_of};
@@ -28,15 +27,5 @@ pub fn is_nurse(choice: Option<NurseNo>, n: NurseNo) -> bool
     match choice {
         None => false,
         Some(a) => a.0 == n.0,
-    }
-}
-
-/// Whether both choices are the same nurse.
-pub fn is_same_nurse(choice: Option<NurseNo>, other: Option<NurseNo>) -> bool
-    ensures { result ≡ option_map_or (λ (a : NurseNo). is_number (option_map (λ (b : NurseNo). b.0) choice) a.0) other false }
-{
-    match other {
-        None => false,
-        Some(a) => is_nurse(choice, a),
     }
 }

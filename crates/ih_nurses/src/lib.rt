@@ -3,7 +3,7 @@
 
 mod bills;
 mod changes;
-mod choice_changes;
+mod choice_gains;
 mod choices;
 mod counts;
 mod loads;
@@ -11,6 +11,7 @@ mod nurses;
 mod own;
 mod persons;
 mod presence;
+mod room_sums;
 mod rooms;
 mod seen;
 mod shift_gains;
@@ -19,6 +20,7 @@ mod stays;
 mod stretches;
 mod visits;
 
+pub use choice_gains::ChoiceGain;
 pub use nurses::Nurses;
 pub use shift_gains::ShiftGain;
 pub use visits::Visit;

@@ -18,7 +18,7 @@ use crate::choices::nurse_at;
 use crate::counts::{add_stretch, move_counts, take_stretch};
 use crate::loads::{NurseLoad, load, move_load, overload};
 use crate::presence::{enter_days, leave_days};
-use crate::rooms::{choice_costs, missing_skills, workload_in};
+use crate::rooms::{choice_costs, missing_skill, workload_in};
 use crate::seen::nurses_over;
 use crate::start::{no_counts, no_loads, occupants_here};
 use crate::stays::{add_stay, end_of, take_stay};
@@ -123,7 +123,7 @@ impl Nurses {
     {
         let persons = &self.here[(k.0 / 3) as usize];
         let nurse = nurse_at(inst, &self.plan, r, k);
-        let (missing, _) = missing_skills(inst, &self.plan, persons, r, k, nurse, nurse);
+        let missing = missing_skill(inst, &self.plan, persons, r, k, nurse);
         bill_of(choice_costs(inst, persons, r, k, nurse, missing))
     }
 

@@ -34,8 +34,8 @@ pub fn workload_in(inst: &Instance, plan: &Plan, persons: &Links, r: RoomNo, k: 
     sum
 }
 
-/// The required skills above a level of the persons in a room's list in a shift.
-pub fn skill_above(
+// The required skills above a level of the persons in a room's list in a shift.
+fn skill_above(
     inst: &Instance,
     plan: &Plan,
     persons: &Links,
@@ -59,38 +59,9 @@ pub fn skill_above(
     sum
 }
 
-/// The required skills above each of two levels of the persons in a room's list in a shift, by one walk.
-#[inline(always)]
-fn skills_above(
-    inst: &Instance,
-    plan: &Plan,
-    persons: &Links,
-    r: RoomNo,
-    k: Shift,
-    one: u32,
-    other: u32,
-) -> (u32, u32)
-    requires plan { IsPlanOf inst.now.draft plan.now }
-    requires room { r.0 < length persons.now.lists }
-    requires persons { persons.now.nodes ≡ person_count inst.now.draft }
-    ensures one { result.0 ≡ sum_by (λ x. skill_of inst.now.draft plan.now k.0 x - one) (list_of persons.now r.0) }
-    ensures other { result.1 ≡ sum_by (λ x. skill_of inst.now.draft plan.now k.0 x - other) (list_of persons.now r.0) }
-{
-    let mut first = 0;
-    let mut second = 0;
-    let mut at = persons.first(r.0);
-    while let Some(x) = at {
-        let skill = skill_of(inst, plan, x, k.0);
-        first += skill.saturating_sub(one);
-        second += skill.saturating_sub(other);
-        at = persons.next(x);
-    }
-    (first, second)
-}
-
 /// The required skills above the nurse's of the persons in a room's list in a shift, and 0 where there is no nurse.
 #[inline(always)]
-fn missing_skill(
+pub fn missing_skill(
     inst: &Instance,
     plan: &Plan,
     persons: &Links,
@@ -107,42 +78,6 @@ fn missing_skill(
     match n {
         None => 0,
         Some(a) => skill_above(inst, plan, persons, r, k, inst.nurse(a).skill_level),
-    }
-}
-
-/// The same for each of two choices, by one walk.
-#[inline(always)]
-pub fn missing_skills(
-    inst: &Instance,
-    plan: &Plan,
-    persons: &Links,
-    r: RoomNo,
-    k: Shift,
-    one: Option<NurseNo>,
-    other: Option<NurseNo>,
-) -> (u32, u32)
-    requires plan { IsPlanOf inst.now.draft plan.now }
-    requires room { r.0 < length persons.now.lists }
-    requires persons { persons.now.nodes ≡ person_count inst.now.draft }
-    requires one { IfSome one (λ a. a.0 < nurse_count inst.now.draft) }
-    requires other { IfSome other (λ a. a.0 < nurse_count inst.now.draft) }
-    ensures one { result.0 ≡ skill_missing inst.now.draft (option_map (λ (a : NurseNo). a.0) one) (map (skill_of inst.now.draft plan.now k.0) (list_of persons.now r.0)) }
-    ensures other { result.1 ≡ skill_missing inst.now.draft (option_map (λ (a : NurseNo). a.0) other) (map (skill_of inst.now.draft plan.now k.0) (list_of persons.now r.0)) }
-{
-    match one {
-        None => (0, missing_skill(inst, plan, persons, r, k, other)),
-        Some(a) => match other {
-            None => (missing_skill(inst, plan, persons, r, k, one), 0),
-            Some(b) => skills_above(
-                inst,
-                plan,
-                persons,
-                r,
-                k,
-                inst.nurse(a).skill_level,
-                inst.nurse(b).skill_level,
-            ),
-        },
     }
 }
 

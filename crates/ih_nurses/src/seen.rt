@@ -1,6 +1,6 @@
 //! How many distinct nurses a person has over its stay.
 
-ghost use Rattle.std.specs.Prelude.{◌≡◌, ◌<◌, ◌≤◌, ◌+◌, ◌==◌, ◌&&◌, ◌||◌, not, ℕ, length, map, IfSome, option_map};
+ghost use Rattle.std.specs.Prelude.{◌≡◌, ◌<◌, ◌≤◌, ◌+◌, ◌||◌, not, ℕ, length, map, IfSome, option_map};
 ghost use Rattle.std.specs.List.{range_with_len};
 ghost use Rattle.ih_tables.specs.declared.ids.NurseNo.{NurseNo};
 ghost use Rattle.ih_tables.specs.Sizes.{room_count, shift_count};
@@ -8,9 +8,9 @@ ghost use Rattle.ih_plan.specs.Timetable.{IsPlanOf, care_of};
 ghost use Rattle.ih_plan.specs.Costs.{distinct_nurses, is_number};
 ghost use Rattle.ih_plan.specs.Sums.{bit, count_below};
 ghost use Rattle.ih_nurses.specs.Marks.{is_marked};
-ghost use Rattle.ih_nurses.specs.Stretches.{IsStretch, nurses_over, has_shift, has_other, fresh, newly_seen};
+ghost use Rattle.ih_nurses.specs.Stretches.{IsStretch, nurses_over};
 
-use crate::choices::{is_same_nurse, nurse_at};
+use crate::choices::nurse_at;
 use crate::stretches::Stretch;
 use ih_plan::Plan;
 use ih_tables::{Instance, NurseNo, RoomNo, Shift};
@@ -66,75 +66,5 @@ pub fn nurses_over(inst: &Instance, plan: &Plan, stretch: Option<Stretch>) -> u3
     match stretch {
         None => 0,
         Some(s) => seen_in(inst, plan, s.room, s.from, s.len),
-    }
-}
-
-// Whether the nurse of shift l is the choice, and l is another than k.
-#[inline(always)]
-fn meets(n: Option<NurseNo>, l: u32, k: Shift, choice: Option<NurseNo>) -> bool
-    ensures { IfSome choice (λ a. result ≡ (not (l == k.0) && is_number (option_map (λ (b : NurseNo). b.0) n) a.0)) }
-{
-    l != k.0 && is_same_nurse(n, choice)
-}
-
-// Whether the shifts of a stay have this one.
-#[inline(always)]
-fn has_shift(inst: &Instance, s: Stretch, r: RoomNo, k: Shift) -> bool
-    requires stretch { IsStretch inst.now.draft s }
-    ensures { result ≡ has_shift s r.0 k.0 }
-{
-    s.room.0 == r.0 && (s.from <= k.0 && k.0 < s.from + s.len)
-}
-
-// For each of two choices, 1 where it is a nurse who has no other of these shifts than k, and 0 where not.
-#[inline(always)]
-fn fresh_both(
-    inst: &Instance,
-    plan: &Plan,
-    s: Stretch,
-    k: Shift,
-    one: Option<NurseNo>,
-    other: Option<NurseNo>,
-) -> (u32, u32)
-    requires plan { IsPlanOf inst.now.draft plan.now }
-    requires stretch { IsStretch inst.now.draft s }
-    ensures one { result.0 ≡ fresh (has_other plan.now s k.0) one }
-    ensures other { result.1 ≡ fresh (has_other plan.now s k.0) other }
-{
-    let mut one_met = one.is_none();
-    let mut other_met = other.is_none();
-    for j in 0..s.len {
-        let l = s.from + j;
-        let n = nurse_at(inst, plan, s.room, Shift(l));
-        one_met |= meets(n, l, k, one);
-        other_met |= meets(n, l, k, other);
-    }
-    (unmet(one_met), unmet(other_met))
-}
-
-/// For each of two choices for a room and a shift, 1 where it is a nurse who has no other shift of a stay that has this
-/// one, and 0 where not.
-#[inline(always)]
-pub fn newly_seen_both(
-    inst: &Instance,
-    plan: &Plan,
-    stretch: Option<Stretch>,
-    r: RoomNo,
-    k: Shift,
-    one: Option<NurseNo>,
-    other: Option<NurseNo>,
-) -> (u32, u32)
-    requires plan { IsPlanOf inst.now.draft plan.now }
-    requires stretch { IfSome stretch (IsStretch inst.now.draft) }
-    ensures one { result.0 ≡ newly_seen plan.now stretch r.0 k.0 one }
-    ensures other { result.1 ≡ newly_seen plan.now stretch r.0 k.0 other }
-{
-    let Some(s) = stretch else {
-        return (0, 0);
-    };
-    if has_shift(inst, s, r, k) {
-        fresh_both(inst, plan, s, k, one, other)
-    } else {
-        (0, 0)
     }
 }

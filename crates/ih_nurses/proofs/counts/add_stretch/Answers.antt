@@ -1,5 +1,5 @@
 use Rattle.std.proofs.Common.{arith, ◌≡◌}
-use Rattle.ih_nurses.proofs.CountLemmas.{AreCounted, counted-none, counted-fits, counted-more}
+use Rattle.ih_nurses.proofs.CountLemmas.{counted-none, counted-fits, counted-more}
 use Rattle.ih_nurses.proofs.counts.add_stretch.Goals as goal
 
 pub loop-j-init : goal.loop-j-init

@@ -1,5 +1,4 @@
 use Rattle.std.proofs.Common.{subst}
-use Rattle.ih_tables.specs.Sizes.{person_count}
 use Rattle.ih_links.specs.Lists.{list_of, AreNodes}
 use Rattle.ih_nurses.proofs.CountWalks.{moved-begins, moved-inside, moved-below, moved-shrinks, moved-enough, moved-fits, moved-goes_on, moved-ends}
 use Rattle.ih_nurses.proofs.counts.move_counts.Goals as goal

@@ -1,5 +1,5 @@
 use Rattle.std.proofs.Common.{arith, ◌≡◌}
-use Rattle.ih_nurses.proofs.CountLemmas.{AreUncounted, uncounted-none, uncounted-enough, uncounted-more}
+use Rattle.ih_nurses.proofs.CountLemmas.{uncounted-none, uncounted-enough, uncounted-more}
 use Rattle.ih_nurses.proofs.counts.take_stretch.Goals as goal
 
 pub loop-j-init : goal.loop-j-init

@@ -1,4 +1,4 @@
-use Rattle.std.proofs.Common.{◌≡◌, ◌∙◌, refl}
+use Rattle.std.proofs.Common.{◌∙◌, refl}
 use Rattle.ih_nurses.proofs.StartLemmas.{counts-none}
 use Rattle.ih_nurses.proofs.start.no_counts.Goals as goal
 

@@ -35,6 +35,9 @@ returns c =
     let h = c.if-eq.ensures in
     let f = c.if-eq.false in
     let apart : c.args.new ≡ c.care-old.result → ⊥ = search (rules, h) in
-    choice-priced I P c.args.r c.args.k c.args.new c.choice_change-room.result c.cares_change-seen.result c.loads_change-load.result c.args.inst.now.valid
+    let stands = c.requires.stands.nurses in
+    choice-priced I P c.args.r c.args.k c.args.new c.choice_gain-gain.result.off c.choice_gain-gain.result.uncovered c.choice_gain-gain.result.missing_skill
+    c.choice_gain-gain.result.nurses_seen c.choice_gain-gain.result.overload c.args.inst.now.valid
     (plan-fits I P c.args.self.now c.requires.stands) c.requires.write (other-number (choice_of P c.args.r.0 c.args.k.0) c.args.new (λ e. apart (e ∙ sym old)))
-    (c.choice_change-room.ensures.change P c.requires.stands.nurses) (c.cares_change-seen.ensures P c.requires.stands.nurses) (c.loads_change-load.ensures P c.requires.stands.nurses)
+    (c.choice_gain-gain.ensures.off P stands) (c.choice_gain-gain.ensures.uncovered P stands) (c.choice_gain-gain.ensures.missing_skill P stands)
+    (c.choice_gain-gain.ensures.nurses_seen P stands) (c.choice_gain-gain.ensures.overload P stands)

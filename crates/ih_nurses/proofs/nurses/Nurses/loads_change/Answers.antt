@@ -1,16 +1,13 @@
-use Rattle.std.proofs.Common.{◌≡◌, ◌<◌, ◌∙◌, ◌+◌, arith, of_z, rules, subst, to_z, w64}
-use Rattle.std.specs.Prelude.{◌+ℤ◌, FitsSigned, option_map}
+use Rattle.std.proofs.Common.{◌≡◌, ◌<◌, ◌+◌, arith, of_z, rules, subst, to_z, w64}
+use Rattle.std.specs.Prelude.{◌+ℤ◌, FitsSigned, IfSome, option_map}
 use Rattle.std.proofs.lemmas.Int.{to_z-of_z}
 use Rattle.ih_tables.specs.declared.ids.NurseNo.{NurseNo}
 use Rattle.ih_tables.specs.Sizes.{nurse_count}
 use Rattle.ih_plan.specs.Timetable.{Timetable, care_of}
-use Rattle.ih_plan.specs.Presence.{workload_of}
-use Rattle.ih_plan.proofs.Loads.{room_load}
 use Rattle.ih_nurses.specs.Choice.{excess_of, rise_by_choice}
 use Rattle.ih_nurses.specs.Loads.{load_at}
 use Rattle.ih_nurses.proofs.ChoiceLemmas.{load-there, loads-told}
 use Rattle.ih_nurses.proofs.LedgerLemmas.{stands-own, loads-small, all-some}
-use Rattle.ih_nurses.proofs.ShiftLemmas.{sum-in_list}
 use Rattle.ih_nurses.proofs.nurses.Nurses.loads_change.Goals as goal
 
 pub relief-requires-clause-enough : goal.relief-requires-clause-enough
@@ -18,21 +15,18 @@ relief-requires-clause-enough c =
     let I = c.args.inst.now.draft in
     let plan = c.args.self.now.plan in
     let own = stands-own c.requires.stands.1 in
-    let total : c.workload_in-work.result ≡ room_load I plan c.args.k.0 c.args.r.0 =
-    c.workload_in-work.ensures.sum ∙ sum-in_list I plan c.args.self.now.here.items c.index.result.now c.args.r.0 c.args.k.0
-    (workload_of I plan c.args.k.0) own.here_are c.requires.room c.requires.shift c.index.ensures c.workload_in-work.ensures.nodes in
     rw c.as_slice-loads.ensures.value
     (load-there I plan c.args.r c.args.k c.args.new own.fits c.requires.room c.requires.shift (c.requires.other plan own)
-    c.args.self.now.loads.items c.nurse_at-old.result c.workload_in-work.result own.loads_are c.nurse_at-old.ensures.choice c.nurse_at-old.ensures.nurse total)
+    c.args.self.now.loads.items c.args.old c.args.work own.loads_are c.requires.old c.requires.old_nurse c.requires.work)
 
 pub burden-requires-clause-fits : goal.burden-requires-clause-fits
 burden-requires-clause-fits c =
     let I = c.args.inst.now.draft in
     rw c.as_slice-loads.ensures.value
-    (all-some (λ (a : NurseNo). load_at I c.args.self.now.loads.items a.0 c.args.k.0 + c.workload_in-work.result < 4294967296) c.args.new
+    (all-some (λ (a : NurseNo). load_at I c.args.self.now.loads.items a.0 c.args.k.0 + c.args.work < 4294967296) c.args.new
     (λ a is.
     let small = loads-small c.requires.stands.1 c.args.inst.now.valid a.0 c.args.k.0 (c.requires.nurse a is) c.requires.shift in
-    omega (arith, small, c.workload_in-work.ensures.bound)))
+    omega (arith, small, c.requires.bound)))
 
 pub returns : goal.returns
 returns c = λ P known.
@@ -40,14 +34,12 @@ returns c = λ P known.
     let plan = c.args.self.now.plan in
     let own = stands-own known in
     let nurse = all-some (λ (a : NurseNo). a.0 < nurse_count I) c.args.new c.requires.nurse in
-    let total : c.workload_in-work.result ≡ room_load I plan c.args.k.0 c.args.r.0 =
-    c.workload_in-work.ensures.sum ∙ sum-in_list I plan c.args.self.now.here.items c.index.result.now c.args.r.0 c.args.k.0
-    (workload_of I plan c.args.k.0) own.here_are c.requires.room c.requires.shift c.index.ensures c.workload_in-work.ensures.nodes in
+    let old_nurse = subst (λ o. IfSome o (λ (a : NurseNo). a.0 < nurse_count I)) c.requires.old c.requires.old_nurse in
     let told : c.relief.result +ℤ c.burden.result ≡ rise_by_choice plan c.args.r c.args.k c.args.new
     (λ Q. excess_of I Q c.args.k.0 (care_of plan c.args.r.0 c.args.k.0) + excess_of I Q c.args.k.0 (option_map (λ (a : NurseNo). a.0) c.args.new)) =
-    rw (c.relief.ensures.rise, c.burden.ensures.rise, c.as_slice-loads.ensures.value, c.nurse_at-old.ensures.choice)
-    (loads-told I plan c.args.r c.args.k c.args.new c.args.self.now.loads.items c.workload_in-work.result own.fits c.requires.room c.requires.shift
-    (c.requires.other plan own) own.loads_are total (rw (← c.nurse_at-old.ensures.choice) c.nurse_at-old.ensures.nurse) nurse) in
+    rw (c.relief.ensures.rise, c.burden.ensures.rise, c.as_slice-loads.ensures.value, c.requires.old)
+    (loads-told I plan c.args.r c.args.k c.args.new c.args.self.now.loads.items c.args.work own.fits c.requires.room c.requires.shift
+    (c.requires.other plan own) own.loads_are c.requires.work old_nurse nurse) in
     let fits_relief : FitsSigned w64 c.relief.result = search rules in
     let fits_burden : FitsSigned w64 c.burden.result = search rules in
     let fits : FitsSigned w64 (c.relief.result +ℤ c.burden.result) = search rules in

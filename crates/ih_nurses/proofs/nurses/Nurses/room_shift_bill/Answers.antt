@@ -18,7 +18,7 @@ returns-clause-part c = λ P known.
     (record {
       off = c.choice_costs.ensures.off;
       uncovered = c.choice_costs.ensures.uncovered;
-      missing_skill = c.choice_costs.ensures.missing_skill ∙ c.missing_skills-missing.ensures.one;
+      missing_skill = c.choice_costs.ensures.missing_skill ∙ c.missing_skill-missing.ensures;
       seen = c.choice_costs.ensures.seen;
       overload = c.choice_costs.ensures.overload;
     }) in

@@ -1,0 +1,40 @@
+-- The sums of a walk over a room's list for two choices of nurse.
+use Rattle.std.proofs.Common.{◌≡◌, ℕ, ◌+◌, ◌<◌, ◌≤◌, arith, List, Option, Some}
+use Rattle.std.proofs.lemmas.Nat.{mul-le}
+use Rattle.ih_tables.specs.declared.drafts.Draft.{Draft}
+use Rattle.ih_tables.specs.declared.ids.NurseNo.{NurseNo}
+use Rattle.ih_tables.specs.Sizes.{person_count}
+use Rattle.ih_tables.specs.Valid.{IsValid}
+use Rattle.ih_links.specs.Lists.{AreNodes, first_of}
+use Rattle.ih_plan.specs.Timetable.{Timetable}
+use Rattle.ih_plan.specs.Presence.{workload_of, skill_of}
+use Rattle.ih_nurses.specs.Choice.{lacking}
+use Rattle.ih_nurses.specs.Counts.{has_just}
+use Rattle.ih_nurses.proofs.WalkLemmas.{IsSumWalk, sum-begins, sum-fits, persons-few}
+
+-- Each sum is what the persons met so far give.
+pub record IsRoomWalk (I : Draft) (P : Timetable) (counts : List ℕ) (k : ℕ) (new old : Option NurseNo) (xs : List ℕ) (work new_missing old_missing come gone : ℕ) (at : Option ℕ) : Type 0 where
+  pub work_is : IsSumWalk (person_count I) 100000 (workload_of I P k) xs work at
+  pub new_is : IsSumWalk (person_count I) 1000 (λ x. lacking I new (skill_of I P k x)) xs new_missing at
+  pub old_is : IsSumWalk (person_count I) 1000 (λ x. lacking I old (skill_of I P k x)) xs old_missing at
+  pub come_is : IsSumWalk (person_count I) 1 (has_just I counts 0 new) xs come at
+  pub gone_is : IsSumWalk (person_count I) 1 (has_just I counts 1 old) xs gone at
+
+pub room-begins : (I : Draft) (P : Timetable) (counts : List ℕ) (k : ℕ) (new old : Option NurseNo) (xs : List ℕ) (at : Option ℕ)
+    → AreNodes (person_count I) xs → at ≡ first_of xs → IsRoomWalk I P counts k new old xs 0 0 0 0 0 at
+room-begins I P counts k new old xs at known first = record {
+  work_is = sum-begins (person_count I) 100000 (workload_of I P k) xs at known first;
+  new_is = sum-begins (person_count I) 1000 (λ x. lacking I new (skill_of I P k x)) xs at known first;
+  old_is = sum-begins (person_count I) 1000 (λ x. lacking I old (skill_of I P k x)) xs at known first;
+  come_is = sum-begins (person_count I) 1 (has_just I counts 0 new) xs at known first;
+  gone_is = sum-begins (person_count I) 1 (has_just I counts 1 old) xs at known first;
+}
+
+-- the next number fits into 32 bits
+pub sum-small : (I : Draft) → IsValid I → {b : ℕ} {f : ℕ → ℕ} {xs : List ℕ} {sum : ℕ} {at : Option ℕ} → IsSumWalk (person_count I) b f xs sum at → {x : ℕ} → at ≡ Some x
+    → b ≤ 100000 → (y : ℕ) → y ≤ b → sum + y < 4294967296
+sum-small I valid {b} walk here most y small =
+    let fits = sum-fits walk here y small in
+    let few = persons-few I valid in
+    let all = mul-le (person_count I) b 2560 100000 few most in
+    omega (arith, fits, all)

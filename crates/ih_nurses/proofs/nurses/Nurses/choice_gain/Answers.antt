@@ -1,0 +1,82 @@
+use Rattle.std.proofs.Common.{◌≡◌, ◌<◌, ◌∙◌, of_z, rules, subst, to_z, w64}
+use Rattle.std.specs.Prelude.{FitsSigned, sum_by}
+use Rattle.std.proofs.lemmas.Int.{to_z-of_z}
+use Rattle.ih_tables.specs.declared.ids.NurseNo.{NurseNo}
+use Rattle.ih_tables.specs.Sizes.{nurse_count}
+use Rattle.ih_links.specs.Lists.{list_of}
+use Rattle.ih_plan.specs.Timetable.{Timetable}
+use Rattle.ih_plan.specs.Presence.{present, day_of, workload_of}
+use Rattle.ih_nurses.specs.Choice.{seen_by, rise_by_choice}
+use Rattle.ih_nurses.specs.Counts.{has_just}
+use Rattle.ih_nurses.specs.Gains.{off_in, uncovered_in, missing_in}
+use Rattle.ih_nurses.proofs.ChoiceLemmas.{cares-told}
+use Rattle.ih_nurses.proofs.ChoiceGainLemmas.{off-told, uncovered-told, missing-told, come-told, gone-told}
+use Rattle.ih_nurses.proofs.LedgerLemmas.{stands-own, all-some}
+use Rattle.ih_nurses.proofs.RoomChangeLemmas.{IsRoomList}
+use Rattle.ih_nurses.proofs.ShiftLemmas.{sum-in_list}
+use Rattle.ih_nurses.proofs.nurses.Nurses.choice_gain.Goals as goal
+
+pub loads_change-requires-clause-work : goal.loads_change-requires-clause-work
+loads_change-requires-clause-work c =
+    let I = c.args.inst.now.draft in
+    let plan = c.args.self.now.plan in
+    let own = stands-own c.requires.stands.1 in
+    c.room_sums-sums.ensures.work
+    ∙ sum-in_list I plan c.args.self.now.here.items c.index-persons.result.now c.args.r.0 c.args.k.0
+    (workload_of I plan c.args.k.0) own.here_are c.requires.room c.requires.shift c.index-persons.ensures c.room_sums-sums.ensures.nodes
+
+pub returns-clause-off : goal.returns-clause-off
+returns-clause-off c = λ P known.
+    let I = c.args.inst.now.draft in
+    let plan = c.args.self.now.plan in
+    let own = stands-own known in
+    let fits : FitsSigned w64 c.minus.result = search rules in
+    subst (λ (S : Timetable). to_z w64 (of_z w64 c.minus.result) ≡ rise_by_choice S c.args.r c.args.k c.args.new (λ Q. off_in I Q c.args.r c.args.k)) known.plan_is
+    (to_z-of_z w64 c.minus.result fits ∙ (c.minus.ensures.value ∙ off-told I plan c.args.r c.args.k c.args.new own.fits c.requires.room c.requires.shift
+    c.nurse_at-old.result c.nurse_off.result c.nurse_off-2.result c.nurse_at-old.ensures.choice c.nurse_off.ensures c.nurse_off-2.ensures))
+
+pub returns-clause-uncovered : goal.returns-clause-uncovered
+returns-clause-uncovered c = λ P known.
+    let I = c.args.inst.now.draft in
+    let plan = c.args.self.now.plan in
+    let own = stands-own known in
+    let list : IsRoomList I plan c.args.self.now.here.items c.index-persons.result.now c.args.r.0 c.args.k.0 =
+    record { known = own.here_are; room = c.requires.room; shift = c.requires.shift; day_is = c.index-persons.ensures; nodes = c.uncovered.ensures.nodes } in
+    let fits : FitsSigned w64 c.minus-2.result = search rules in
+    subst (λ (S : Timetable). to_z w64 (of_z w64 c.minus-2.result) ≡ rise_by_choice S c.args.r c.args.k c.args.new (λ Q. uncovered_in I Q c.args.r c.args.k)) known.plan_is
+    (to_z-of_z w64 c.minus-2.result fits ∙ (c.minus-2.ensures.value ∙ uncovered-told I plan c.args.r c.args.k c.args.new own.fits c.requires.room c.requires.shift
+    c.args.self.now.here.items c.index-persons.result.now list c.nurse_at-old.result c.uncovered.result c.uncovered-2.result c.nurse_at-old.ensures.choice c.uncovered.ensures.value c.uncovered-2.ensures.value))
+
+pub returns-clause-missing_skill : goal.returns-clause-missing_skill
+returns-clause-missing_skill c = λ P known.
+    let I = c.args.inst.now.draft in
+    let plan = c.args.self.now.plan in
+    let own = stands-own known in
+    let list : IsRoomList I plan c.args.self.now.here.items c.index-persons.result.now c.args.r.0 c.args.k.0 =
+    record { known = own.here_are; room = c.requires.room; shift = c.requires.shift; day_is = c.index-persons.ensures; nodes = c.uncovered.ensures.nodes } in
+    let fits : FitsSigned w64 c.minus-3.result = search rules in
+    subst (λ (S : Timetable). to_z w64 (of_z w64 c.minus-3.result) ≡ rise_by_choice S c.args.r c.args.k c.args.new (λ Q. missing_in I Q c.args.r c.args.k)) known.plan_is
+    (to_z-of_z w64 c.minus-3.result fits ∙ (c.minus-3.ensures.value ∙ missing-told I plan c.args.r c.args.k c.args.new own.fits c.requires.room c.requires.shift
+    c.args.self.now.here.items c.index-persons.result.now list c.nurse_at-old.result c.room_sums-sums.result.new_missing c.room_sums-sums.result.old_missing c.nurse_at-old.ensures.choice
+    c.room_sums-sums.ensures.new_missing c.room_sums-sums.ensures.old_missing))
+
+pub returns-clause-nurses_seen : goal.returns-clause-nurses_seen
+returns-clause-nurses_seen c = λ P known.
+    let I = c.args.inst.now.draft in
+    let plan = c.args.self.now.plan in
+    let own = stands-own known in
+    let here = c.args.self.now.here.items in
+    let day = c.index-persons.result.now in
+    let counts = c.args.self.now.counts.items in
+    let sums = c.room_sums-sums.ensures in
+    let nurse = all-some (λ (a : NurseNo). a.0 < nurse_count I) c.args.new c.requires.nurse in
+    let come = subst (λ cs. c.room_sums-sums.result.come ≡ sum_by (has_just I cs 0 c.args.new) (list_of c.index-persons.result.now c.args.r.0)) c.as_slice-counts.ensures.value c.room_sums-sums.ensures.come
+    ∙ (sum-in_list I plan here day c.args.r.0 c.args.k.0 (has_just I counts 0 c.args.new) own.here_are c.requires.room c.requires.shift c.index-persons.ensures sums.nodes
+    ∙ come-told I plan c.args.r c.args.k counts own.counts_are c.requires.shift c.args.new nurse (c.requires.other plan own)) in
+    let gone = subst (λ cs. c.room_sums-sums.result.gone ≡ sum_by (has_just I cs 1 c.nurse_at-old.result) (list_of c.index-persons.result.now c.args.r.0)) c.as_slice-counts.ensures.value c.room_sums-sums.ensures.gone
+    ∙ (sum-in_list I plan here day c.args.r.0 c.args.k.0 (has_just I counts 1 c.nurse_at-old.result) own.here_are c.requires.room c.requires.shift c.index-persons.ensures sums.nodes
+    ∙ gone-told I plan c.args.r c.args.k counts own.counts_are c.requires.shift c.nurse_at-old.result c.nurse_at-old.ensures.nurse c.nurse_at-old.ensures.choice) in
+    let told = cares-told I plan c.args.r c.args.k c.args.new own.fits c.requires.room c.requires.shift nurse c.room_sums-sums.result.come c.room_sums-sums.result.gone come gone in
+    let fits : FitsSigned w64 c.minus-4.result = search rules in
+    subst (λ (S : Timetable). to_z w64 (of_z w64 c.minus-4.result) ≡ rise_by_choice S c.args.r c.args.k c.args.new (λ Q. seen_by I Q (present I S c.args.r.0 (day_of c.args.k.0)))) known.plan_is
+    (to_z-of_z w64 c.minus-4.result fits ∙ (c.minus-4.ensures.value ∙ told))

@@ -1,0 +1,92 @@
+use Rattle.std.proofs.Common.{◌∙◌, ap, arith, subst}
+use Rattle.ih_links.specs.Lists.{list_of, AreNodes}
+use Rattle.ih_nurses.specs.Choice.{lacking}
+use Rattle.ih_nurses.proofs.RoomSumLemmas.{room-begins, sum-small}
+use Rattle.ih_nurses.proofs.WalkLemmas.{sum-inside, sum-below, sum-shrinks, sum-goes_on, sum-ends, sum-most, persons-few}
+use Rattle.ih_nurses.proofs.room_sums.room_sums.Goals as goal
+
+pub loop-at-init : goal.loop-at-init
+loop-at-init c =
+    room-begins c.args.inst.now.draft c.args.plan.now c.args.counts.now c.args.k.0 c.args.new c.args.old (list_of c.args.persons.now c.args.r.0) c.first-at.result
+    (subst (λ n. AreNodes n (list_of c.args.persons.now c.args.r.0)) c.requires.persons c.first-at.ensures.nodes) c.first-at.ensures.first
+
+pub asked_of-asked-requires-clause-person : goal.asked_of-asked-requires-clause-person
+asked_of-asked-requires-clause-person c = sum-below c.loop-at.invariant.work_is c.in-Some.is
+
+pub has_just-come-requires-clause-person : goal.has_just-come-requires-clause-person
+has_just-come-requires-clause-person c = sum-below c.loop-at.invariant.work_is c.in-Some.is
+
+pub has_just-gone-requires-clause-person : goal.has_just-gone-requires-clause-person
+has_just-gone-requires-clause-person c = sum-below c.loop-at.invariant.work_is c.in-Some.is
+
+pub overflow_add-work : goal.overflow_add-work
+overflow_add-work c =
+    omega (arith, sum-small c.args.inst.now.draft c.args.inst.now.valid c.loop-at.invariant.work_is c.in-Some.is (omega arith) c.asked_of-asked.result.workload c.asked_of-asked.ensures.workload_bound)
+
+pub overflow_add-new_missing : goal.overflow_add-new_missing
+overflow_add-new_missing c =
+    omega (
+      arith,
+      sum-small c.args.inst.now.draft c.args.inst.now.valid c.loop-at.invariant.new_is c.in-Some.is (omega arith) c.saturating_sub-new_missing.result
+          (omega (arith, c.saturating_sub-new_missing.ensures, c.asked_of-asked.ensures.skill_bound)),
+    )
+
+pub overflow_add-old_missing : goal.overflow_add-old_missing
+overflow_add-old_missing c =
+    omega (
+      arith,
+      sum-small c.args.inst.now.draft c.args.inst.now.valid c.loop-at.invariant.old_is c.in-Some.is (omega arith) c.saturating_sub-old_missing.result
+          (omega (arith, c.saturating_sub-old_missing.ensures, c.asked_of-asked.ensures.skill_bound)),
+    )
+
+pub overflow_add-come : goal.overflow_add-come
+overflow_add-come c =
+    omega (arith, sum-small c.args.inst.now.draft c.args.inst.now.valid c.loop-at.invariant.come_is c.in-Some.is (omega arith) c.has_just-come.result c.has_just-come.ensures.bound)
+
+pub overflow_add-gone : goal.overflow_add-gone
+overflow_add-gone c =
+    omega (arith, sum-small c.args.inst.now.draft c.args.inst.now.valid c.loop-at.invariant.gone_is c.in-Some.is (omega arith) c.has_just-gone.result c.has_just-gone.ensures.bound)
+
+pub next-at-requires : goal.next-at-requires
+next-at-requires c = let below = sum-below c.loop-at.invariant.work_is c.in-Some.is in record { node = rw c.requires.persons below }
+
+pub loop-at-smaller : goal.loop-at-smaller
+loop-at-smaller c =
+    let walk = c.loop-at.invariant.work_is in
+    sum-shrinks walk c.in-Some.is (c.next-at.ensures.linked c.args.r.0 (sum-inside walk c.in-Some.is))
+
+pub loop-at-preserved : goal.loop-at-preserved
+loop-at-preserved c =
+    let step = c.next-at.ensures.linked c.args.r.0 (sum-inside c.loop-at.invariant.work_is c.in-Some.is) in
+    record {
+      work_is = sum-goes_on c.loop-at.invariant.work_is c.in-Some.is step c.asked_of-asked.result.workload c.asked_of-asked.ensures.workload c.asked_of-asked.ensures.workload_bound;
+      new_is = sum-goes_on c.loop-at.invariant.new_is c.in-Some.is step c.saturating_sub-new_missing.result
+          (c.saturating_sub-new_missing.ensures ∙ (c.level_of-new_level.ensures c.asked_of-asked.result.skill c.asked_of-asked.ensures.skill_bound ∙ ap (lacking c.args.inst.now.draft c.args.new) c.asked_of-asked.ensures.skill))
+          (omega (arith, c.saturating_sub-new_missing.ensures, c.asked_of-asked.ensures.skill_bound));
+      old_is = sum-goes_on c.loop-at.invariant.old_is c.in-Some.is step c.saturating_sub-old_missing.result
+          (c.saturating_sub-old_missing.ensures ∙ (c.level_of-old_level.ensures c.asked_of-asked.result.skill c.asked_of-asked.ensures.skill_bound ∙ ap (lacking c.args.inst.now.draft c.args.old) c.asked_of-asked.ensures.skill))
+          (omega (arith, c.saturating_sub-old_missing.ensures, c.asked_of-asked.ensures.skill_bound));
+      come_is = sum-goes_on c.loop-at.invariant.come_is c.in-Some.is step c.has_just-come.result c.has_just-come.ensures.value c.has_just-come.ensures.bound;
+      gone_is = sum-goes_on c.loop-at.invariant.gone_is c.in-Some.is step c.has_just-gone.result c.has_just-gone.ensures.value c.has_just-gone.ensures.bound;
+    }
+
+pub returns-clause-work : goal.returns-clause-work
+returns-clause-work c = sum-ends c.loop-at.invariant.work_is c.in_default.is
+
+pub returns-clause-new_missing : goal.returns-clause-new_missing
+returns-clause-new_missing c = sum-ends c.loop-at.invariant.new_is c.in_default.is
+
+pub returns-clause-old_missing : goal.returns-clause-old_missing
+returns-clause-old_missing c = sum-ends c.loop-at.invariant.old_is c.in_default.is
+
+pub returns-clause-come : goal.returns-clause-come
+returns-clause-come c = sum-ends c.loop-at.invariant.come_is c.in_default.is
+
+pub returns-clause-gone : goal.returns-clause-gone
+returns-clause-gone c = sum-ends c.loop-at.invariant.gone_is c.in_default.is
+
+pub returns-clause-bound : goal.returns-clause-bound
+returns-clause-bound c = omega (arith, sum-most c.loop-at.invariant.work_is, persons-few c.args.inst.now.draft c.args.inst.now.valid)
+
+pub returns-clause-nodes : goal.returns-clause-nodes
+returns-clause-nodes c = c.loop-at.invariant.work_is.known
