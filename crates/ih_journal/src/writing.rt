@@ -84,7 +84,9 @@ pub(crate) fn put_signed(room: &mut [u8], at: usize, x: i64) -> usize
     ensures text { take result room.new ≡ take at room.old ++ signed_decimal x }
     ensures within { result ≤ at + 21 }
 {
-    if x < 0 {
+    if x == 0 {
+        put_byte(room, at, b'0')
+    } else if x < 0 {
         let end = put_byte(room, at, b'-');
         put_number(room, end, x.unsigned_abs())
     } else {
