@@ -47,3 +47,46 @@ def full(patients):
                       "working_shifts": [{"day": d, "shift": types[(n + d) % 4], "max_load": 5 + n * d % 11} for d in range(28) if (n + d) % 4 < 3]}
                      for n in range(6)]
     return one
+
+
+WEIGHTS = {"room_mixed_age": 5, "room_nurse_skill": 10, "continuity_of_care": 2, "nurse_eccessive_workload": 1, "open_operating_theater": 30,
+           "surgeon_transfer": 7, "patient_delay": 4, "unscheduled_optional": 100}
+TYPES = ["early", "late", "night"]
+
+
+def worked(days, more):
+    """What the two worked examples of the tests share."""
+    one = {"days": days, "skill_levels": 3, "shift_types": TYPES, "age_groups": ["child", "adult", "old"], "weights": WEIGHTS,
+           "occupants": [], "patients": [], "surgeons": [], "operating_theaters": []}
+    one.update(more)
+    return one
+
+
+def shifts(days, load):
+    return [{"day": d, "shift": s, "max_load": load} for d in range(days) for s in TYPES]
+
+
+def occupant(workload, skill):
+    return {"id": "a0", "gender": "A", "age_group": "adult", "length_of_stay": 1, "workload_produced": workload, "skill_level_required": skill, "room_id": "r0"}
+
+
+def one_room():
+    """One room with an occupant, one nurse, one day, no patient."""
+    return worked(1, {"occupants": [occupant([2, 1, 1], [1, 0, 2])], "rooms": [{"id": "r0", "capacity": 2}],
+                      "nurses": [{"id": "n0", "skill_level": 1, "working_shifts": shifts(1, 2)}]})
+
+
+def two_patients():
+    """Two rooms, theatres, nurses and patients over two days; a room is crowded and a nurse overworked as soon as both patients come."""
+    return worked(2, {
+        "occupants": [occupant([1, 1, 1], [0, 0, 2])],
+        "patients": [{"id": "p0", "mandatory": True, "gender": "A", "age_group": "old", "length_of_stay": 5, "surgery_release_day": 0,
+                      "surgery_due_day": 1, "surgery_duration": 60, "surgeon_id": "s0", "incompatible_room_ids": ["r1"],
+                      "workload_produced": [2] * 6, "skill_level_required": [0] * 6},
+                     {"id": "p1", "mandatory": False, "gender": "B", "age_group": "child", "length_of_stay": 1, "surgery_release_day": 0,
+                      "surgery_duration": 40, "surgeon_id": "s0", "incompatible_room_ids": [], "workload_produced": [1, 1, 1],
+                      "skill_level_required": [2, 2, 2]}],
+        "surgeons": [{"id": "s0", "max_surgery_time": [100, 100]}],
+        "operating_theaters": [{"id": "t0", "availability": [60, 60]}, {"id": "t1", "availability": [60, 60]}],
+        "rooms": [{"id": "r0", "capacity": 2}, {"id": "r1", "capacity": 1}],
+        "nurses": [{"id": "n0", "skill_level": 0, "working_shifts": shifts(2, 3)}, {"id": "n1", "skill_level": 2, "working_shifts": shifts(2, 10)}]})

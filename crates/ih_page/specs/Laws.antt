@@ -29,7 +29,8 @@ abbrev pub ListsSum : Draft → Timetable → Type 0
 ListsSum I P = (l : Line) → IsLine l → pos (listed_sum I P l) ≡ number_in (bill_of I P) l
 
 -- A page is the opening, which is one for all timetables and has its few tags, and behind it a text whose tags are
--- the page's own: so no text of a file, such as an id, makes a tag or stands within one.
+-- the page's own: so no text of a file, such as an id, makes a tag, and within one it could stand at most as digits where
+-- the page has a number.
 pub record TagsAreOwn (I : Draft) (P : Timetable) : Type 0 where
   pub rest : List ℕ
   pub page : page_of I P ≡ opening ++ rest

@@ -15,7 +15,7 @@ abbrev pub ended_by : Option (List ℕ) → ℕ → List (List ℕ)
 ended_by None b = []
 ended_by (Some tag) b = if b == 62 then tag ∷ [] else []
 
--- A tag that the end of the text cuts off counts too, with its <, as no tag of a page begins.
+-- A tag that the end of the text cuts off counts too, with its < kept, so that it is none of the page's own.
 abbrev pub cut_off : Option (List ℕ) → List (List ℕ)
 cut_off None = []
 cut_off (Some tag) = (60 ∷ tag) ∷ []
