@@ -1,12 +1,12 @@
 -- From one end of a call to another.
-use Rattle.std.proofs.Common.{◌≡◌, ℕ, refl, sym, subst, inl, inr, List, Option}
+use Rattle.std.proofs.Common.{◌≡◌, ℕ, refl, sym, subst, inl, inr, List, Option, None}
 use Rattle.std.specs.Prelude.{◌≢◌, ◌⊎◌}
-use Rattle.ih_shelf.specs.Outside.{Names, Rose, Told, IsAppended, MayBeAppended}
+use Rattle.ih_shelf.specs.Outside.{Names}
 use Rattle.ih_look.specs.declared.status.Status.{Status}
 use Rattle.ih_look.specs.declared.status.Status.TheVariants.{Done, Usage, ReadFault, InstanceRefused, SolutionRefused, WriteFault, OutOfMemory, TooLong}
 use Rattle.ih_look.specs.Calls.{Call}
 use Rattle.ih_look.specs.Ends.{CallEnds, HasCause, IsUnread}
-use Rattle.ih_look.specs.Texts.{text_of, IsSaid}
+use Rattle.ih_look.specs.Texts.{Gained, IsPut, IsSaid, MayTell, text_for, usage_text}
 
 -- a call that comes no further than its files
 pub unread-ends : (c : Call) (old new : Option Names) (status : Status) → new ≡ old → IsUnread old c status → CallEnds c old new status
@@ -20,7 +20,7 @@ unread-ends c old new OutOfMemory same h = inl same
 unread-ends c old new (TooLong role) same h = (same, h)
 
 -- memory that runs out as the end is said
-pub memory-ends : (c : Call) (old new : Option Names) (status : Status) → status ≢ Done → CallEnds c old new status → CallEnds c old new OutOfMemory
+memory-ends : (c : Call) (old new : Option Names) (status : Status) → status ≢ Done → CallEnds c old new status → CallEnds c old new OutOfMemory
 memory-ends c old new Done other h = absurd (other refl)
 memory-ends c old new Usage other h = absurd h.1
 memory-ends c old new (ReadFault role) other h = inl h.0
@@ -31,42 +31,81 @@ memory-ends c old new OutOfMemory other h = h
 memory-ends c old new (TooLong role) other h = inl h.0
 
 -- the status that a call ends with once it is said, by the status that it had come to
-pub concluded-ends : (c : Call) (old new : Option Names) (status result : Status) → CallEnds c old new status
-    → (result ≡ status) ⊎ ((status ≢ Done) × (result ≡ OutOfMemory)) → CallEnds c old new result
-concluded-ends c old new status result h (inl same) = subst (CallEnds c old new) (sym same) h
-concluded-ends c old new status result h (inr memory) = subst (CallEnds c old new) (sym memory.1) (memory-ends c old new status memory.0 h)
+pub told-ends : (c : Call) (old new : Option Names) (status told : Status) → CallEnds c old new status → MayTell status told → CallEnds c old new told
+told-ends c old new status told h (inl same) = subst (CallEnds c old new) (sym same) h
+told-ends c old new status told h (inr memory) = subst (CallEnds c old new) (sym memory.1) (memory-ends c old new status memory.0 h)
 
-pub concluded-cause : (reads reads' writes writes' : ℕ) (status result : Status) → HasCause reads reads' writes writes' status
-    → (result ≡ status) ⊎ ((status ≢ Done) × (result ≡ OutOfMemory)) → HasCause reads reads' writes writes' result
-concluded-cause reads reads' writes writes' status result h (inl same) = subst (HasCause reads reads' writes writes') (sym same) h
-concluded-cause reads reads' writes writes' status result h (inr memory) = subst (HasCause reads reads' writes writes') (sym memory.1) tt
+pub told-cause : (reads reads' writes writes' : ℕ) (status told : Status) → HasCause reads reads' writes writes' status → MayTell status told
+    → HasCause reads reads' writes writes' told
+told-cause reads reads' writes writes' status told h (inl same) = subst (HasCause reads reads' writes writes') (sym same) h
+told-cause reads reads' writes writes' status told h (inr memory) = subst (HasCause reads reads' writes writes') (sym memory.1) tt
 
 -- ---- what is said
 
-pub said-whole : (text : List ℕ) (status : Status) (old new : Option (List ℕ)) (before now : ℕ) → status ≢ Done → Told (IsAppended text) old new
-    → IsSaid text status old new before now
-said-whole text Done old new before now other h = absurd (other refl)
-said-whole text Usage old new before now other h = inl h
-said-whole text (ReadFault role) old new before now other h = inl h
-said-whole text (InstanceRefused e) old new before now other h = inl h
-said-whole text (SolutionRefused e) old new before now other h = inl h
-said-whole text WriteFault old new before now other h = inl h
-said-whole text OutOfMemory old new before now other h = tt
-said-whole text (TooLong role) old new before now other h = inl h
+module _ (texts : Status → List ℕ) (old new : Option (List ℕ)) (faults faults' wants wants' : ℕ) where
+  said-gained : (reached : Status → Type 0) (status : Status) → status ≢ Done → reached status → Gained old new faults faults' (texts status)
+      → IsSaid reached texts status old new faults faults' wants wants'
+  said-gained reached Done other h g = absurd (other refl)
+  said-gained reached Usage other h g = g
+  said-gained reached (ReadFault role) other h g = g
+  said-gained reached (InstanceRefused e) other h g = g
+  said-gained reached (SolutionRefused e) other h g = g
+  said-gained reached WriteFault other h g = g
+  said-gained reached OutOfMemory other h g = inl (h, g)
+  said-gained reached (TooLong role) other h g = g
 
-pub said-part : (text : List ℕ) (status : Status) (old new : Option (List ℕ)) (before now : ℕ) → status ≢ Done → Rose before now
-    → Told (MayBeAppended text) old new → IsSaid text status old new before now
-said-part text Done old new before now other rose h = absurd (other refl)
-said-part text Usage old new before now other rose h = inr (rose, h)
-said-part text (ReadFault role) old new before now other rose h = inr (rose, h)
-said-part text (InstanceRefused e) old new before now other rose h = inr (rose, h)
-said-part text (SolutionRefused e) old new before now other rose h = inr (rose, h)
-said-part text WriteFault old new before now other rose h = inr (rose, h)
-said-part text OutOfMemory old new before now other rose h = tt
-said-part text (TooLong role) old new before now other rose h = inr (rose, h)
+  -- the text of a status that was reached was put
+  pub said-put : (reached : Status → Type 0) (status result : Status) → status ≢ Done → reached status
+      → IsPut (texts status) status result old new faults faults' wants wants' → IsSaid reached texts result old new faults faults' wants wants'
+  said-put reached status result other h (inl (same, g)) =
+      subst (λ s. IsSaid reached texts s old new faults faults' wants wants') (sym same) (said-gained reached status other h g)
+  said-put reached status result other h (inr (memory, part)) =
+      subst (λ s. IsSaid reached texts s old new faults faults' wants wants') (sym memory) (inr (status, other, h, part))
 
--- the text of the status that was said
-pub concluded-said : (c : Call) (status result : Status) (old new : Option (List ℕ)) (before now : ℕ) → IsSaid (text_of c status) result old new before now
-    → (result ≡ status) ⊎ ((status ≢ Done) × (result ≡ OutOfMemory)) → IsSaid (text_of c result) result old new before now
-concluded-said c status result old new before now h (inl same) = subst (λ s. IsSaid (text_of c s) result old new before now) (sym same) h
-concluded-said c status result old new before now h (inr memory) = subst (λ s. IsSaid (text_of c result) s old new before now) (sym memory.1) tt
+  -- what is said where more was reached
+  pub said-weaker : (small large : Status → Type 0) → ((status : Status) → small status → large status) → (result : Status)
+      → IsSaid small texts result old new faults faults' wants wants' → IsSaid large texts result old new faults faults' wants wants'
+  said-weaker small large f Done h = h
+  said-weaker small large f Usage h = h
+  said-weaker small large f (ReadFault role) h = h
+  said-weaker small large f (InstanceRefused e) h = h
+  said-weaker small large f (SolutionRefused e) h = h
+  said-weaker small large f WriteFault h = h
+  said-weaker small large f OutOfMemory (inl (h, g)) = inl (f OutOfMemory h, g)
+  said-weaker small large f OutOfMemory (inr (status, other, h, part)) = inr (status, other, f status h, part)
+  said-weaker small large f (TooLong role) h = h
+
+  -- a line was put, or there was no memory for it
+  pub said-line : (status result : Status) → status ≢ Done
+      → IsPut (texts status) status result old new faults faults' wants wants'
+      ⊎ IsPut (texts OutOfMemory) OutOfMemory result old new faults faults' wants wants'
+      → IsSaid (MayTell status) texts result old new faults faults' wants wants'
+  said-line status result other (inl h) = said-put (MayTell status) status result other (inl refl) h
+  said-line status result other (inr h) = said-put (MayTell status) OutOfMemory result memory-other (inr (other, refl)) h
+    where
+      memory-other : OutOfMemory ≢ Done
+      memory-other e = let clash : OutOfMemory ≡ Done = e in cc
+
+  pub told-line : (status result : Status) → status ≢ Done
+      → IsPut (texts status) status result old new faults faults' wants wants'
+      ⊎ IsPut (texts OutOfMemory) OutOfMemory result old new faults faults' wants wants'
+      → MayTell status result
+  told-line status result other (inl (inl (same, g))) = inl same
+  told-line status result other (inl (inr (memory, part))) = inr (other, memory)
+  told-line status result other (inr (inl (memory, g))) = inr (other, memory)
+  told-line status result other (inr (inr (memory, part))) = inr (other, memory)
+
+-- the status after a put
+pub put-status : (text : List ℕ) (status result : Status) (old new : Option (List ℕ)) (faults faults' wants wants' : ℕ)
+    → IsPut text status result old new faults faults' wants wants' → (result ≡ status) ⊎ (result ≡ OutOfMemory)
+put-status text status result old new faults faults' wants wants' (inl (same, g)) = inl same
+put-status text status result old new faults faults' wants wants' (inr (memory, part)) = inr memory
+
+-- the usage was put
+pub said-usage : (old new : Option (List ℕ)) (faults faults' wants wants' : ℕ) (reached : Status → Type 0) (result : Status) → reached Usage
+    → IsPut usage_text Usage result old new faults faults' wants wants' → IsSaid reached (text_for None) result old new faults faults' wants wants'
+said-usage old new faults faults' wants wants' reached result h put =
+    said-put (text_for None) old new faults faults' wants wants' reached Usage result usage-other h put
+  where
+    usage-other : Usage ≢ Done
+    usage-other e = let clash : Usage ≡ Done = e in cc

@@ -86,7 +86,12 @@ CallEnds c old new OutOfMemory = (new ≡ old) ⊎ IsPartWritten c old new
 -- the files aren't as they ought to be, and none was touched
 CallEnds c old new status = (new ≡ old) × IsUnread old c status
 
--- the same of words that may name no call: the usage is said, for which memory may run out
+-- The same of words that may name no call, before anything is said: then the usage is to be told.
+abbrev pub Reaches : Option Call → Option Names → Option Names → Status → Type 0
+Reaches None old new status = (status ≡ Usage) × (new ≡ old)
+Reaches (Some c) old new status = CallEnds c old new status
+
+-- the same once it was said: the sink may want memory for the usage
 abbrev pub Ends : Option Call → Option Names → Option Names → Status → Type 0
 Ends None old new status = ((status ≡ Usage) ⊎ (status ≡ OutOfMemory)) × (new ≡ old)
 Ends (Some c) old new status = CallEnds c old new status

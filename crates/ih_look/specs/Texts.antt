@@ -1,5 +1,5 @@
 -- What a call says, by its status.
-use Rattle.std.specs.Prelude.{◌≡◌, ℕ, ◌⊎◌, List, [], ◌++◌, Option, Some, None, codes}
+use Rattle.std.specs.Prelude.{◌≡◌, ◌≢◌, ℕ, ◌⊎◌, List, [], ◌++◌, Option, Some, None, codes}
 use Rattle.ih_tables.specs.Places.{refusal_text}
 use Rattle.ih_shelf.specs.Outside.{Rose, Told, IsAppended, MayBeAppended}
 use Rattle.ih_look.specs.declared.status.Role.{Role}
@@ -10,6 +10,9 @@ use Rattle.ih_look.specs.Calls.{Call}
 
 abbrev pub usage_text : List ℕ
 usage_text = codes "usage: view INSTANCE SOLUTION PAGE\n"
+
+abbrev pub memory_text : List ℕ
+memory_text = codes "out of memory\n"
 
 -- the name of a file that is read
 abbrev pub name_of : Call → Role → List ℕ
@@ -24,7 +27,7 @@ text_of c (ReadFault role) = codes "cannot read " ++ (name_of c role ++ codes "\
 text_of c (InstanceRefused e) = codes "instance refused: " ++ (refusal_text e ++ codes "\n")
 text_of c (SolutionRefused e) = codes "solution refused: " ++ (refusal_text e ++ codes "\n")
 text_of c WriteFault = codes "cannot write " ++ (c.page ++ codes "\n")
-text_of c OutOfMemory = codes "out of memory\n"
+text_of c OutOfMemory = memory_text
 text_of c (TooLong role) = codes "too long: " ++ (name_of c role ++ codes "\n")
 
 -- the same of words that may name no call
@@ -32,8 +35,28 @@ abbrev pub text_for : Option Call → Status → List ℕ
 text_for None status = usage_text
 text_for (Some c) status = text_of c status
 
--- The text was put out whole, or a part of it, where the sink's count of faults rose. Where memory ran out, nothing is claimed.
-abbrev pub IsSaid : List ℕ → Status → Option (List ℕ) → Option (List ℕ) → ℕ → ℕ → Type 0
-IsSaid text Done old new before now = new ≡ old
-IsSaid text OutOfMemory old new before now = Unit {0}
-IsSaid text status old new before now = Told (IsAppended text) old new ⊎ (Rose before now × Told (MayBeAppended text) old new)
+-- the text was put out whole, or a part of it, where the sink's count of faults rose
+abbrev pub Gained : Option (List ℕ) → Option (List ℕ) → ℕ → ℕ → List ℕ → Type 0
+Gained old new faults faults' text = Told (IsAppended text) old new ⊎ (Rose faults faults' × Told (MayBeAppended text) old new)
+
+-- the sink's count of wants of memory rose, and a part of the text was put out
+abbrev pub GainedPart : Option (List ℕ) → Option (List ℕ) → ℕ → ℕ → List ℕ → Type 0
+GainedPart old new wants wants' text = Rose wants wants' × Told (MayBeAppended text) old new
+
+-- one put of a text, with the status that was to be told and the one that it then is: the sink may want memory itself
+abbrev pub IsPut : List ℕ → Status → Status → Option (List ℕ) → Option (List ℕ) → ℕ → ℕ → ℕ → ℕ → Type 0
+IsPut text status result old new faults faults' wants wants' =
+    ((result ≡ status) × Gained old new faults faults' text) ⊎ ((result ≡ OutOfMemory) × GainedPart old new wants wants' text)
+
+-- the statuses that may be told where this one was reached: it, or want of memory for its text
+abbrev pub MayTell : Status → Status → Type 0
+MayTell status told = (told ≡ status) ⊎ ((status ≢ Done) × (told ≡ OutOfMemory))
+
+-- What is said at a status, where each has its text: that, and nothing where the page was written. At `OutOfMemory` it may be instead
+-- that the sink wanted memory itself, and gained a part of the text of a status that the call had reached.
+abbrev pub IsSaid : (Status → Type 0) → (Status → List ℕ) → Status → Option (List ℕ) → Option (List ℕ) → ℕ → ℕ → ℕ → ℕ → Type 0
+IsSaid reached texts Done old new faults faults' wants wants' = new ≡ old
+IsSaid reached texts OutOfMemory old new faults faults' wants wants' =
+    (reached OutOfMemory × Gained old new faults faults' (texts OutOfMemory))
+    ⊎ ((status : Status) × (status ≢ Done) × reached status × GainedPart old new wants wants' (texts status))
+IsSaid reached texts status old new faults faults' wants wants' = Gained old new faults faults' (texts status)

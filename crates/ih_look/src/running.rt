@@ -2,7 +2,7 @@
 
 ghost use Rattle.std.specs.Prelude.{map, string_bytes};
 ghost use Rattle.ih_look.specs.Calls.{call_of};
-ghost use Rattle.ih_look.specs.Ends.{Ends, HasCause};
+ghost use Rattle.ih_look.specs.Ends.{Ends, HasCause, Reaches};
 ghost use Rattle.ih_look.specs.Texts.{text_for, IsSaid};
 
 use crate::calls::read_words;
@@ -29,8 +29,11 @@ pub fn run_view<R: Files + Print, S: Shelf, O: Sink>(
     // A fault is answered only where its count rose in this call.
     ensures cause { HasCause (S.read_faults shelf.old) (S.read_faults shelf.new) (S.write_faults shelf.old) (S.write_faults shelf.new) result }
 
-    // What was said.
-    ensures said { IsSaid (text_for (call_of (map string_bytes words.now)) result) result (O.text out.old) (O.text out.new) (O.faults out.old) (O.faults out.new) }
+    // What was said: the text of the status, or, where the sink wanted memory, a part of the text of a status that the call had
+    // reached.
+    ensures said { IsSaid (Reaches (call_of (map string_bytes words.now)) (S.names shelf.old) (S.names shelf.new))
+        (text_for (call_of (map string_bytes words.now))) result (O.text out.old) (O.text out.new) (O.faults out.old) (O.faults out.new)
+        (O.wants out.old) (O.wants out.new) }
 {
     match read_words(words) {
         None => say_usage(rt, out),

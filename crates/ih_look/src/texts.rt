@@ -2,7 +2,7 @@
 
 ghost use Rattle.std.specs.Prelude.{◌≡◌, ◌≢◌, ◌⊎◌, IfOk, string_bytes};
 ghost use Rattle.ih_look.specs.Calls.{call_in};
-ghost use Rattle.ih_look.specs.Texts.{name_of, text_of, usage_text, IsSaid};
+ghost use Rattle.ih_look.specs.Texts.{memory_text, name_of, text_of, usage_text, IsPut, IsSaid, MayTell};
 
 use crate::calls::Call;
 use crate::status::{Role, Status};
@@ -45,9 +45,7 @@ fn text_of(alloc: Global, call: &Call<'_>, status: Status) -> Result<String, All
 
 // Puts a text, in one put.
 fn put_text<R: Print, O: Sink>(rt: &R, out: &mut O, status: Status, text: &[u8]) -> Status
-    requires { status ≢ Status.Done }
-    ensures status { (result ≡ status) ⊎ (result ≡ Status.OutOfMemory) }
-    ensures said { IsSaid text.now result (O.text out.old) (O.text out.new) (O.faults out.old) (O.faults out.new) }
+    ensures { IsPut text.now status result (O.text out.old) (O.text out.new) (O.faults out.old) (O.faults out.new) (O.wants out.old) (O.wants out.new) }
 {
     match out.put(rt, text) {
         Ok(()) => status,
@@ -56,10 +54,36 @@ fn put_text<R: Print, O: Sink>(rt: &R, out: &mut O, status: Status, text: &[u8])
     }
 }
 
+// Says that memory ran out. It takes none.
+fn say_memory<R: Print, O: Sink>(rt: &R, out: &mut O) -> Status
+    ensures { IsPut memory_text Status.OutOfMemory result (O.text out.old) (O.text out.new) (O.faults out.old) (O.faults out.new)
+        (O.wants out.old) (O.wants out.new) }
+{
+    put_text(rt, out, Status::OutOfMemory, b"out of memory\n")
+}
+
+// Puts the line of a status. Where there is no memory for it, that is said.
+fn put_line<R: Print, O: Sink>(
+    rt: &R,
+    alloc: Global,
+    call: &Call<'_>,
+    out: &mut O,
+    status: Status,
+) -> Status
+    ensures { IsPut (text_of (call_in call.now) status) status result (O.text out.old) (O.text out.new) (O.faults out.old) (O.faults out.new)
+        (O.wants out.old) (O.wants out.new)
+        ⊎ IsPut memory_text Status.OutOfMemory result (O.text out.old) (O.text out.new) (O.faults out.old) (O.faults out.new)
+        (O.wants out.old) (O.wants out.new) }
+{
+    match text_of(alloc, call, status) {
+        Ok(line) => put_text(rt, out, status, line.into_bytes().as_slice()),
+        Err(_) => say_memory(rt, out),
+    }
+}
+
 /// Says that the words name no call.
 pub fn say_usage<R: Print, O: Sink>(rt: &R, out: &mut O) -> Status
-    ensures status { (result ≡ Status.Usage) ⊎ (result ≡ Status.OutOfMemory) }
-    ensures said { IsSaid usage_text result (O.text out.old) (O.text out.new) (O.faults out.old) (O.faults out.new) }
+    ensures { IsPut usage_text Status.Usage result (O.text out.old) (O.text out.new) (O.faults out.old) (O.faults out.new) (O.wants out.old) (O.wants out.new) }
 {
     put_text(
         rt,
@@ -77,14 +101,13 @@ pub fn conclude<R: Print, O: Sink>(
     out: &mut O,
     status: Status,
 ) -> Status
-    ensures status { (result ≡ status) ⊎ ((status ≢ Status.Done) × (result ≡ Status.OutOfMemory)) }
-    ensures said { IsSaid (text_of (call_in call.now) status) result (O.text out.old) (O.text out.new) (O.faults out.old) (O.faults out.new) }
+    ensures status { MayTell status result }
+    ensures said { IsSaid (MayTell status) (text_of (call_in call.now)) result (O.text out.old) (O.text out.new) (O.faults out.old) (O.faults out.new)
+        (O.wants out.old) (O.wants out.new) }
 {
-    if let Status::Done = status {
-        return status;
-    }
-    match text_of(alloc, call, status) {
-        Ok(text) => put_text(rt, out, status, text.into_bytes().as_slice()),
-        Err(_) => Status::OutOfMemory,
+    match status {
+        Status::Done => status,
+        Status::OutOfMemory => say_memory(rt, out),
+        status => put_line(rt, alloc, call, out, status),
     }
 }

@@ -31,7 +31,8 @@ abbrev pub after_failed_write : MemoryShelf → List ℕ → List ℕ → ℕ �
 after_failed_write s name bytes kept =
     record s { files = stored s.files name (take kept bytes); writes = failed (called s.writes) }
 
--- a sink in memory
+-- a sink in memory, and how often it wanted memory
 pub record MemorySink : Type 0 where
   pub text : List ℕ
   pub puts : Faults
+  pub wants : ℕ

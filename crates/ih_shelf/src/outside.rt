@@ -73,11 +73,13 @@ pub trait Shelf {
 }
 
 /// Where text goes. A sink may tell the text so far, and then goes on telling it. It always counts
-/// its faults, as a shelf does.
+/// its faults, as a shelf does, and in the same way its own wants of memory.
 pub trait Sink {
     ghost text: { Self → Option (List ℕ) };
 
     ghost faults: { Self → ℕ };
+
+    ghost wants: { Self → ℕ };
 
     /// Puts the bytes behind the text. At an error a prefix of them was put there.
     fn put<R: Print>(&mut self, rt: &R, bytes: &[u8]) -> Result<(), WriteError>
@@ -85,7 +87,9 @@ pub trait Sink {
         ensures part { OnErr result
             (Told (MayBeAppended bytes.now) (text self.old) (text self.new)) }
         ensures fault { result ≡ Err WriteError.Fault → Rose (faults self.old) (faults self.new) }
-        ensures count { faults self.old ≤ faults self.new };
+        ensures want { result ≡ Err WriteError.OutOfMemory → Rose (wants self.old) (wants self.new) }
+        ensures count { faults self.old ≤ faults self.new }
+        ensures want_count { wants self.old ≤ wants self.new };
 }
 
 /// What each worker passes outside the turn: `before` once it has priced its attempt and before it

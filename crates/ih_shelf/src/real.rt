@@ -97,7 +97,7 @@ impl Shelf for FileShelf {
     }
 }
 
-/// Standard output. It tells nothing of what it was given, and counts each failure.
+/// Standard output. It tells nothing of what it was given, and counts each failure. It wants no memory.
 #[derive(Drop)]
 pub struct OutSink {
     faults: u64,
@@ -122,16 +122,19 @@ impl OutSink {
 }
 
 impl Sink for OutSink {
-    ghost use Rattle.std.specs.Prelude.{◌≡◌, ◌≤◌, None, OnErr, OnOk};
+    ghost use Rattle.std.specs.Prelude.{◌≡◌, ◌≢◌, ◌≤◌, None, OnErr, OnOk};
     ghost use Rattle.ih_shelf.specs.Outside.{raised};
 
     ghost text = { λ s. None };
 
     ghost faults = { λ s. s };
 
+    ghost wants = { λ s. 0 };
+
     fn put<R: Print>(&mut self, rt: &R, bytes: &[u8]) -> Result<(), WriteError>
         ensures ok { OnOk result (self.new ≡ self.old) }
         ensures err { OnErr result (self.new ≡ raised self.old) }
+        ensures never_wants { result ≢ Err WriteError.OutOfMemory }
 
         // What every sink promises.
         ensures count { self.old ≤ self.new }

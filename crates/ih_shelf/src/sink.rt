@@ -10,6 +10,8 @@ use std::marker::Model;
 pub struct MemSink {
     text: Vec<u8>,
     puts: FaultPlan,
+    // How often a put wanted memory. It stands still at 2^64 - 1.
+    wants: u64,
 }
 
 impl Model for MemSink {
@@ -17,7 +19,7 @@ impl Model for MemSink {
 
     ghost Value = { MemorySink };
 
-    ghost view = { λ s. record { text = s.text.items; puts = s.puts } };
+    ghost view = { λ s. record { text = s.text.items; puts = s.puts; wants = s.wants } };
 }
 
 impl MemSink {
@@ -26,11 +28,12 @@ impl MemSink {
 
     /// No text, and no put that is to fail. It takes no memory.
     pub fn new(alloc: Global) -> MemSink
-        ensures { result ≡ record { text = []; puts = no_faults } }
+        ensures { result ≡ record { text = []; puts = no_faults; wants = 0 } }
     {
         MemSink {
             text: Vec::new(alloc),
             puts: FaultPlan::new(alloc),
+            wants: 0,
         }
     }
 
@@ -55,30 +58,36 @@ impl MemSink {
 impl Sink for MemSink {
     ghost use Rattle.std.specs.Prelude.{◌≡◌, ◌≤◌, ◌↔◌, ◌++◌, Some, IsSome, OnOk};
     ghost use Rattle.ih_shelf.specs.Faults.{due, called, failed};
+    ghost use Rattle.ih_shelf.specs.Outside.{raised};
 
     ghost text = { λ s. Some s.text };
 
     ghost faults = { λ s. s.puts.count };
 
+    ghost wants = { λ s. s.wants };
+
     /// A put that fails as planned puts nothing.
     fn put<R: Print>(&mut self, _rt: &R, bytes: &[u8]) -> Result<(), WriteError>
         ensures fails { (result ≡ Err WriteError.Fault) ↔ IsSome (due self.old.puts) }
         ensures ok { OnOk result
-            (self.new ≡ record { text = self.old.text ++ bytes.now; puts = called self.old.puts }) }
+            (self.new ≡ record self.old { text = self.old.text ++ bytes.now; puts = called self.old.puts }) }
         ensures after_fault { result ≡ Err WriteError.Fault →
             self.new ≡ record self.old { puts = failed (called self.old.puts) } }
-        ensures out_of_memory { result ≡ Err WriteError.OutOfMemory →
-            self.new ≡ record self.old { puts = called self.old.puts } }
+        ensures out_of_memory { result ≡ Err WriteError.OutOfMemory → self.new ≡
+            record self.old { puts = called self.old.puts; wants = raised self.old.wants } }
 
         // What every sink promises.
         ensures count { self.old.puts.count ≤ self.new.puts.count }
+        ensures want_count { self.old.wants ≤ self.new.wants }
     {
         if self.puts.call().is_some() {
             self.puts.fail();
             return Err(WriteError::Fault);
         }
-        self.text
-            .extend_from_slice(bytes)
-            .map_err(|_| WriteError::OutOfMemory)
+        if self.text.extend_from_slice(bytes).is_err() {
+            self.wants = self.wants.saturating_add(1);
+            return Err(WriteError::OutOfMemory);
+        }
+        Ok(())
     }
 }

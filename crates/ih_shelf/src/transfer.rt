@@ -1,6 +1,6 @@
 //! The loops that read and write real files and standard output.
 
-ghost use Rattle.std.specs.Prelude.{◌≡◌, ◌+◌, ◌≤◌, ◌<◌, ℕ, List, IfOk, IfSome, OnOk, length, vec_len};
+ghost use Rattle.std.specs.Prelude.{◌≡◌, ◌≢◌, ◌+◌, ◌≤◌, ◌<◌, ℕ, List, IfOk, IfSome, OnOk, length, vec_len};
 ghost use Rattle.std.specs.Io.KnownBytes.{Appends, Consumes};
 
 use crate::outside::{ReadError, WriteError};
@@ -44,9 +44,10 @@ pub fn read_within<F: Read>(file: &mut F, alloc: Global, limit: u64) -> Result<V
     }
 }
 
-/// Writes all the bytes. A write that fails, or takes nothing, is a fault.
+/// Writes all the bytes. A write that fails, or takes nothing, is a fault. No memory is wanted.
 pub fn write_whole<W: Write>(to: &mut W, bytes: &[u8]) -> Result<(), WriteError>
-    ensures { OnOk result (Appends (W.contents to.old) (W.contents to.new) bytes.now) }
+    ensures whole { OnOk result (Appends (W.contents to.old) (W.contents to.new) bytes.now) }
+    ensures never_wants { result ≢ Err WriteError.OutOfMemory }
 {
     let mut rest = bytes;
     while !rest.is_empty() {

@@ -1,6 +1,6 @@
 -- What the ends of the commands have in common: each may fail to be said, and at each memory may run out.
 use Rattle.std.proofs.Common.{◌≡◌, refl, inl, inr, List, [], ℕ, Option, Some, None}
-use Rattle.std.specs.Prelude.{◌≢◌}
+use Rattle.std.specs.Prelude.{◌≢◌, ◌⊎◌}
 use Rattle.ih_journal.specs.declared.entries.Entry.{Entry}
 use Rattle.ih_journal.specs.declared.refusals.JournalRefusal.{JournalRefusal}
 use Rattle.ih_journal.specs.Base.{Base}
@@ -16,8 +16,9 @@ use Rattle.ih_shelf.specs.Outside.{IsWritten, MayBeWritten, Names, Told}
 use Rattle.ih_top.specs.declared.status.Status.{Status}
 use Rattle.ih_top.specs.declared.status.Status.TheVariants.{Done, Usage, ReadFault, InstanceRefused, StartRefused, NoneFound, WriteFault, OutOfMemory, JournalRefused, Infeasible, TooLong}
 use Rattle.ih_top.specs.declared.status.Role.TheVariants.{Instance, Solution, Journal, Out}
-use Rattle.ih_top.specs.Answers.{unsaid}
-use Rattle.ih_top.specs.Texts.{done_text, memory_text, salvaged_text}
+use Rattle.ih_top.specs.declared.answer.Answer.{Answer}
+use Rattle.ih_top.specs.Answers.{IsConcluded, IsSaid, unsaid}
+use Rattle.ih_top.specs.Texts.{done_text, memory_text, salvaged_text, usage_text}
 use Rattle.ih_top.specs.Inputs.{Reading, EndsUnread}
 use Rattle.ih_top.specs.Rounds.{RoundsEnds}
 use Rattle.ih_top.specs.Chaining.{of_chains}
@@ -27,10 +28,10 @@ use Rattle.ih_top.specs.Checking.{CheckEnds}
 use Rattle.ih_top.specs.Demo.{DemoEnds}
 use Rattle.ih_top.specs.Generating.{GenEnds}
 use Rattle.ih_top.specs.Replaying.{EndsUnreadJournal, HasBest, IsHeadless, IsRefusedJournal, IsReplay, IsSalvage, JournalEnds, JournalRead}
-use Rattle.ih_top.specs.Ends.{CallEnds, Leaves, OutDiffers}
+use Rattle.ih_top.specs.Ends.{CallEnds, Ends, Leaves, OutDiffers, UsageEnds}
 use Rattle.ih_top.proofs.RoundsWriting.{rounds-done-found, rounds-none-begun}
 use Rattle.ih_top.proofs.Advices.{advise-answerable}
-use Rattle.ih_top.proofs.Saying.{IsAnswerable}
+use Rattle.ih_top.proofs.Saying.{IsAnswerable, ended, memory-ended, said-answer}
 use Rattle.ih_top.proofs.Writing.{begun, done-found, none-begun}
 
 -- nothing changes where the names are those that were there
@@ -306,6 +307,32 @@ call-answerable (advise a) old new = beside (Told Unchanged old new) (AdviseEnds
 call-answerable (gen g) old new = gen-answerable g old new
 call-answerable (demo number) old new = beside (Told Unchanged old new) (DemoEnds number) (demo-answerable number)
 
+-- ---- no call
+
+usage-unsaid : (status : Status) (text : List ℕ) → UsageEnds status text → UsageEnds (unsaid status) text
+usage-unsaid Done text h = absurd h
+usage-unsaid Usage text h = h
+usage-unsaid (ReadFault role) text h = h
+usage-unsaid (InstanceRefused e) text h = h
+usage-unsaid (StartRefused e) text h = h
+usage-unsaid NoneFound text h = h
+usage-unsaid (WriteFault role) text h = h
+usage-unsaid OutOfMemory text h = h
+usage-unsaid (JournalRefused e) text h = h
+usage-unsaid Infeasible text h = absurd h
+usage-unsaid (TooLong role) text h = h
+
+usage-answerable : IsAnswerable UsageEnds
+usage-answerable = record { unsaid = λ status text some h. usage-unsaid status text h; memory = λ status text h. refl }
+
+-- the usage was put out, as far as that went
+pub usage-ended : (gained part : List ℕ → Type 0) (a : Answer) (result : Status) → IsSaid Usage usage_text a
+    → IsConcluded a.status a.text.items gained part result → Ends UsageEnds gained part result
+usage-ended gained part a result said concluded =
+    ended UsageEnds usage-answerable gained part a result (said-answer UsageEnds usage-answerable Usage usage_text a refl said) concluded
+
+-- ---- any words
+
 -- the words that name a call keep its solution apart from its journal
 pub out-apart : (words : List (List ℕ)) (call : Call) → call_of words ≡ Some call → OutDiffers call
 out-apart words (solve s) h = names-apart words (solve s) h
@@ -336,6 +363,7 @@ call-memory (gen g) files = (unwritten g.out _ files, refl)
 call-memory (demo number) files = (told-same files files refl, refl)
 
 -- whatever call the words name, and also where they name none
-pub memory-leaves : (call : Option Call) (files : Option Names) (gained part : List ℕ → Type 0) → part memory_text → Leaves call files files gained part OutOfMemory
-memory-leaves None files gained part h = (told-same files files refl, inr h)
-memory-leaves (Some call) files gained part h = (OutOfMemory, memory_text, call-memory call files, h)
+pub memory-leaves : (call : Option Call) (files : Option Names) (gained part : List ℕ → Type 0) → gained memory_text ⊎ part memory_text
+    → Leaves call files files gained part OutOfMemory
+memory-leaves None files gained part h = (told-same files files refl, memory-ended UsageEnds gained part refl h)
+memory-leaves (Some call) files gained part h = memory-ended (CallEnds call files files) gained part (call-memory call files) h

@@ -1,15 +1,13 @@
 -- How an answer with its text becomes the end of the call.
-use Rattle.std.proofs.Common.{◌≡◌, ℕ, refl, sym, ap, ◌∙◌, subst, arith, inl, inr, List, [], ◌++◌, length, Option, Some, None}
-use Rattle.std.specs.Prelude.{◌≢◌, Result, Ok, Err, IfOk}
-use Rattle.std.proofs.lemmas.List.{append-nil, take_all}
+use Rattle.std.proofs.Common.{◌≡◌, ℕ, refl, sym, ◌∙◌, subst, inl, inr, List, [], Some, None}
+use Rattle.std.specs.Prelude.{◌≢◌, ◌⊎◌, Result, Ok, Err, IfOk}
 use Rattle.ih_shelf.specs.declared.outside.WriteError.{WriteError}
 use Rattle.ih_shelf.specs.declared.outside.WriteError.TheVariants.{Fault, OutOfMemory as NoMemory}
-use Rattle.ih_shelf.specs.Outside.{Told, IsAppended}
 use Rattle.ih_top.specs.declared.answer.Answer.{Answer}
 use Rattle.ih_top.specs.declared.status.Status.{Status}
 use Rattle.ih_top.specs.declared.status.Status.TheVariants.{Done, Usage, ReadFault, InstanceRefused, StartRefused, NoneFound, WriteFault, OutOfMemory, JournalRefused, Infeasible, TooLong}
 use Rattle.ih_top.specs.Texts.{memory_text}
-use Rattle.ih_top.specs.Ends.{Ends, GainedPart, HasCause}
+use Rattle.ih_top.specs.Ends.{Ends, HasCause}
 use Rattle.ih_top.specs.Answers.{unsaid, Answers, IsConcluded, HasPutCause, HasFileCause, IsSaid, IsSaidOf, IsUnwritten}
 
 -- ---- the making of a text
@@ -55,17 +53,6 @@ said-cause reads reads' writes writes' status text a (inr h) cause = subst (HasF
 
 -- ---- what is put out
 
--- an empty text is put out where nothing changes
-pub nothing-appended : (old new : Option (List ℕ)) (text : List ℕ) → text ≡ [] → new ≡ old → Told (IsAppended text) old new
-nothing-appended None new text none same = tt
-nothing-appended (Some old) None text none same = absurd (let clash : None ≡ Some old = same in cc)
-nothing-appended (Some old) (Some new) text none same = let here : new ≡ old = cc in here ∙ sym (ap (λ t. old ++ t) none ∙ append-nil old)
-
-pub whole-part : (old new : Option (List ℕ)) (text : List ℕ) → Told (IsAppended text) old new → GainedPart old new text
-whole-part None new text h = tt
-whole-part (Some old) None text h = h
-whole-part (Some old) (Some new) text h = (length text, h ∙ ap (λ t. old ++ t) (sym (take_all (length text) text (omega arith))))
-
 unsaid-other : (status : Status) → status ≢ OutOfMemory → unsaid status ≢ OutOfMemory
 unsaid-other Done other e = absurd (let clash : WriteFault None ≡ OutOfMemory = e in cc)
 unsaid-other Usage other e = other e
@@ -94,23 +81,35 @@ at-status ends gained part (JournalRefused r) text other h g = (text, h, g)
 at-status ends gained part Infeasible text other h g = (text, h, g)
 at-status ends gained part (TooLong role) text other h g = (text, h, g)
 
+-- that memory ran out was said, as far as that went
+pub memory-ended : (ends : Status → List ℕ → Type 0) (gained part : List ℕ → Type 0) → ends OutOfMemory memory_text → gained memory_text ⊎ part memory_text
+    → Ends ends gained part OutOfMemory
+memory-ended ends gained part h (inl g) = inl (memory_text, h, g)
+memory-ended ends gained part h (inr p) = inr (OutOfMemory, memory_text, h, p)
+
+-- whatever the answer tells, memory may run out there
+end-memory : (ends : Status → List ℕ → Type 0) (able : IsAnswerable ends) (a : Answer) → Answers ends a → ends OutOfMemory memory_text
+end-memory ends able a (inl (memory, h)) = h
+end-memory ends able a (inr h) = able.memory a.status a.text.items h
+
 -- the answer's text was put out, as far as that went
 pub ended : (ends : Status → List ℕ → Type 0) (able : IsAnswerable ends) (gained part : List ℕ → Type 0) (a : Answer) (result : Status)
-    → Answers ends a → IsConcluded a.status a.text.items (gained a.text.items) (part a.text.items) (part memory_text) result → Ends ends gained part result
-ended ends able gained part a result (inl (memory, h)) (inl (here, there, rest)) = subst (Ends ends gained part) (sym there) (OutOfMemory, memory_text, h, rest)
-ended ends able gained part a result (inl (memory, h)) (inr (other, rest)) = absurd (other memory)
-ended ends able gained part a result (inr h) (inl (here, there, rest)) =
-    subst (Ends ends gained part) (sym there) (OutOfMemory, memory_text, able.memory a.status a.text.items h, rest)
-ended ends able gained part a result (inr h) (inr (other, inl (there, g))) =
+    → Answers ends a → IsConcluded a.status a.text.items gained part result → Ends ends gained part result
+ended ends able gained part a result h (inl (here, there, rest)) =
+    subst (Ends ends gained part) (sym there) (memory-ended ends gained part (end-memory ends able a h) rest)
+ended ends able gained part a result (inl (memory, h)) (inr (inl (other, there, g))) = absurd (other memory)
+ended ends able gained part a result (inl (memory, h)) (inr (inr (other, some, rest))) = absurd (other memory)
+ended ends able gained part a result (inr h) (inr (inl (other, there, g))) =
     subst (Ends ends gained part) (sym there) (at-status ends gained part a.status a.text.items other h g)
-ended ends able gained part a result (inr h) (inr (other, inr (inl (there, some, g)))) =
+ended ends able gained part a result (inr h) (inr (inr (other, some, inl (there, g)))) =
     subst (Ends ends gained part) (sym there)
     (at-status ends gained part (unsaid a.status) a.text.items (unsaid-other a.status other) (able.unsaid a.status a.text.items some h) g)
-ended ends able gained part a result (inr h) (inr (other, inr (inr (there, p)))) = subst (Ends ends gained part) (sym there) (a.status, a.text.items, h, p)
+ended ends able gained part a result (inr h) (inr (inr (other, some, inr (there, p)))) =
+    subst (Ends ends gained part) (sym there) (inr (a.status, a.text.items, h, p))
 
 -- ---- causes
 
-module _ (reads reads' writes writes' puts puts' : ℕ) where
+module _ (reads reads' writes writes' puts puts' wants wants' : ℕ) where
   file-cause : (status : Status) → HasFileCause reads reads' writes writes' status → HasCause reads reads' writes writes' puts puts' status
   file-cause Done file = tt
   file-cause Usage file = tt
@@ -125,10 +124,10 @@ module _ (reads reads' writes writes' puts puts' : ℕ) where
   file-cause Infeasible file = tt
   file-cause (TooLong role) file = tt
 
-  pub has-cause : (status result : Status) → HasFileCause reads reads' writes writes' status → HasPutCause status puts puts' result
+  pub has-cause : (status result : Status) → HasFileCause reads reads' writes writes' status → HasPutCause status puts puts' wants wants' result
       → HasCause reads reads' writes writes' puts puts' result
   has-cause status result file (inl same) = subst (HasCause reads reads' writes writes' puts puts') (sym same) (file-cause status file)
-  has-cause status result file (inr (inl memory)) = subst (HasCause reads reads' writes writes' puts puts') (sym memory) tt
+  has-cause status result file (inr (inl memory)) = subst (HasCause reads reads' writes writes' puts puts') (sym memory.0) tt
   has-cause status result file (inr (inr (there, rose))) = subst (HasCause reads reads' writes writes' puts puts') (sym there) (by_status status file)
     where
       by_status : (status : Status) → HasFileCause reads reads' writes writes' status → HasCause reads reads' writes writes' puts puts' (unsaid status)

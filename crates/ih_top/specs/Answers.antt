@@ -26,15 +26,18 @@ checked_status false = Infeasible
 abbrev pub Answers : (Status → List ℕ → Type 0) → Answer → Type 0
 Answers ends a = ((a.status ≡ OutOfMemory) × ends OutOfMemory memory_text) ⊎ ends a.status a.text.items
 
--- The sink gained the text, whole or as far as its fault let it, or a part where memory ran out. An empty text isn't put out.
-abbrev pub IsConcluded : Status → List ℕ → Type 0 → Type 0 → Type 0 → Status → Type 0
-IsConcluded status text gained part memory result =
-    ((status ≡ OutOfMemory) × (result ≡ OutOfMemory) × memory)
-    ⊎ ((status ≢ OutOfMemory) × (((result ≡ status) × gained) ⊎ ((result ≡ unsaid status) × (text ≢ []) × gained) ⊎ ((result ≡ OutOfMemory) × part)))
+-- The sink gained the text, or a part where it wanted memory; where memory had run out before, it is the text that says so. An empty
+-- text isn't put out.
+abbrev pub IsConcluded : Status → List ℕ → (List ℕ → Type 0) → (List ℕ → Type 0) → Status → Type 0
+IsConcluded status text gained part result =
+    ((status ≡ OutOfMemory) × (result ≡ OutOfMemory) × (gained memory_text ⊎ part memory_text))
+    ⊎ ((status ≢ OutOfMemory) × (result ≡ status) × gained text)
+    ⊎ ((status ≢ OutOfMemory) × (text ≢ []) × (((result ≡ unsaid status) × gained text) ⊎ ((result ≡ OutOfMemory) × part text)))
 
--- the status is that of an unsaid text only where the sink's count rose
-abbrev pub HasPutCause : Status → ℕ → ℕ → Status → Type 0
-HasPutCause status before now result = (result ≡ status) ⊎ (result ≡ OutOfMemory) ⊎ ((result ≡ unsaid status) × Rose before now)
+-- the status is that of an unsaid text only where the sink's count of faults rose, and `OutOfMemory` only where that of its wants did
+abbrev pub HasPutCause : Status → ℕ → ℕ → ℕ → ℕ → Status → Type 0
+HasPutCause status faults faults' wants wants' result =
+    (result ≡ status) ⊎ ((result ≡ OutOfMemory) × Rose wants wants') ⊎ ((result ≡ unsaid status) × Rose faults faults')
 
 -- a fault of a file is answered only where its count rose; the text isn't put out yet
 abbrev pub HasFileCause : ℕ → ℕ → ℕ → ℕ → Status → Type 0

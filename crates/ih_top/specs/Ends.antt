@@ -1,5 +1,5 @@
 -- How a call of the program ends: what it then has read, written and said, by its status.
-use Rattle.std.specs.Prelude.{◌≡◌, ◌≢◌, ℕ, ◌⊎◌, List, ◌++◌, take, Option, Some, None}
+use Rattle.std.specs.Prelude.{◌≡◌, ◌≢◌, ℕ, ◌⊎◌, List, Option, Some, None}
 use Rattle.ih_tables.specs.declared.drafts.Draft.{Draft}
 use Rattle.ih_plan.specs.Timetable.{Timetable}
 use Rattle.ih_journal.specs.declared.entries.Entry.{Entry}
@@ -8,7 +8,7 @@ use Rattle.ih_journal.specs.Tried.{tries}
 use Rattle.ih_journal.specs.Legal.{IsFull}
 use Rattle.ih_journal.specs.Texts.{lines_from}
 use Rattle.ih_words.specs.Words.{Call, solve, replay, salvage, check, chain, rounds, gen, demo, advise}
-use Rattle.ih_shelf.specs.Outside.{Names, Rose, Told}
+use Rattle.ih_shelf.specs.Outside.{IsAppended, MayBeAppended, Names, Rose, Told}
 use Rattle.ih_top.specs.declared.status.Status.{Status}
 use Rattle.ih_top.specs.declared.status.Status.TheVariants.{Done, Usage, ReadFault, NoneFound, WriteFault, OutOfMemory, Infeasible}
 use Rattle.ih_top.specs.Advising.{AdviseEnds, advise_reading}
@@ -27,16 +27,12 @@ use Rattle.ih_top.specs.Texts.{usage_text, memory_text}
 
 -- The sink gained the text whole; or a prefix of it, where its count of faults rose and the status isn't one that asks for the whole.
 abbrev pub Gained : Status → Option (List ℕ) → Option (List ℕ) → ℕ → ℕ → List ℕ → Type 0
-Gained status None after before now text = Unit {0}
-Gained status (Some old) None before now text = ⊥
-Gained status (Some old) (Some new) before now text =
-    (new ≡ old ++ text) ⊎ ((unsaid status ≡ status) × Rose before now × ((k : ℕ) × (new ≡ old ++ take k text)))
+Gained status old new before now text =
+    Told (IsAppended text) old new ⊎ ((unsaid status ≡ status) × Rose before now × Told (MayBeAppended text) old new)
 
--- the sink gained a prefix of the text
-abbrev pub GainedPart : Option (List ℕ) → Option (List ℕ) → List ℕ → Type 0
-GainedPart None after text = Unit {0}
-GainedPart (Some old) None text = ⊥
-GainedPart (Some old) (Some new) text = (k : ℕ) × (new ≡ old ++ take k text)
+-- the sink's count of wants of memory rose, and it gained a prefix of the text
+abbrev pub GainedPart : Option (List ℕ) → Option (List ℕ) → ℕ → ℕ → List ℕ → Type 0
+GainedPart old new before now text = Rose before now × Told (MayBeAppended text) old new
 
 -- ---- a call with lawful words
 
@@ -59,23 +55,24 @@ OutDiffers (chain c) = c.search.out ≢ c.search.journal
 OutDiffers (rounds r) = r.search.out ≢ r.search.journal
 OutDiffers call = Unit {0}
 
--- At each status the sink gained the text that the call had to say there. Where memory ran out, it gained a prefix of the text that
--- says so, or of the text of a status that the call had reached.
+-- At each status the sink gained the text that the call had to say there. At `OutOfMemory` it may be instead that the sink wanted memory
+-- itself, and gained a part of the text of a status that the call had reached.
 abbrev pub Ends : (Status → List ℕ → Type 0) → (List ℕ → Type 0) → (List ℕ → Type 0) → Status → Type 0
-Ends ends gained part OutOfMemory = (status : Status) × (text : List ℕ) × ends status text × part text
+Ends ends gained part OutOfMemory =
+    ((text : List ℕ) × ends OutOfMemory text × gained text) ⊎ ((status : Status) × (text : List ℕ) × ends status text × part text)
 Ends ends gained part status = (text : List ℕ) × ends status text × gained text
 
 -- ---- any call
 
--- The words name no call: the usage is said.
-abbrev pub Refused : (List ℕ → Type 0) → (List ℕ → Type 0) → Status → Type 0
-Refused gained part Usage = gained usage_text
-Refused gained part OutOfMemory = part usage_text ⊎ part memory_text
-Refused gained part status = ⊥
+-- the words name no call: what is to be said of that, by the status
+abbrev pub UsageEnds : Status → List ℕ → Type 0
+UsageEnds Usage text = text ≡ usage_text
+UsageEnds OutOfMemory text = text ≡ memory_text
+UsageEnds status text = ⊥
 
 -- what the files then hold and what is said, by the call that the words name
 abbrev pub Leaves : Option Call → Option Names → Option Names → (List ℕ → Type 0) → (List ℕ → Type 0) → Status → Type 0
-Leaves None old new gained part status = Told Unchanged old new × Refused gained part status
+Leaves None old new gained part status = Told Unchanged old new × Ends UsageEnds gained part status
 Leaves (Some call) old new gained part status = Ends (CallEnds call old new) gained part status
 
 -- A fault is answered only where its count rose in the call.

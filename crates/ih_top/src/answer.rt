@@ -1,6 +1,6 @@
 //! A command's answer, and how it is said.
 
-ghost use Rattle.std.specs.Prelude.{◌≡◌, ◌≤◌};
+ghost use Rattle.std.specs.Prelude.{◌≡◌, ◌≤◌, ◌⊎◌};
 ghost use Rattle.ih_top.specs.Texts.{memory_text};
 ghost use Rattle.ih_top.specs.Ends.{Gained, GainedPart};
 ghost use Rattle.ih_top.specs.Answers.{unsaid, IsConcluded, HasPutCause};
@@ -28,7 +28,8 @@ fn unsaid(status: Status) -> Status
 /// Says that memory ran out, as far as that goes.
 pub fn conclude_memory<R: Print, O: Sink>(rt: &R, out: &mut O) -> Status
     ensures status { result ≡ Status.OutOfMemory }
-    ensures said { GainedPart (O.text out.old) (O.text out.new) memory_text }
+    ensures said { Gained result (O.text out.old) (O.text out.new) (O.faults out.old) (O.faults out.new) memory_text
+        ⊎ GainedPart (O.text out.old) (O.text out.new) (O.wants out.old) (O.wants out.new) memory_text }
     ensures count { O.faults out.old ≤ O.faults out.new }
 {
     match out.put(rt, b"out of memory\n") {
@@ -40,10 +41,9 @@ pub fn conclude_memory<R: Print, O: Sink>(rt: &R, out: &mut O) -> Status
 /// Puts the answer's text, in one put, and gives the status of the call. An empty text isn't put.
 pub fn conclude<R: Print, O: Sink>(rt: &R, out: &mut O, answer: &Answer) -> Status
     ensures said { IsConcluded answer.now.status answer.now.text.items
-        (Gained result (O.text out.old) (O.text out.new) (O.faults out.old) (O.faults out.new) answer.now.text.items)
-        (GainedPart (O.text out.old) (O.text out.new) answer.now.text.items)
-        (GainedPart (O.text out.old) (O.text out.new) memory_text) result }
-    ensures cause { HasPutCause answer.now.status (O.faults out.old) (O.faults out.new) result }
+        (Gained result (O.text out.old) (O.text out.new) (O.faults out.old) (O.faults out.new))
+        (GainedPart (O.text out.old) (O.text out.new) (O.wants out.old) (O.wants out.new)) result }
+    ensures cause { HasPutCause answer.now.status (O.faults out.old) (O.faults out.new) (O.wants out.old) (O.wants out.new) result }
 {
     if let Status::OutOfMemory = answer.status {
         return conclude_memory(rt, out);
