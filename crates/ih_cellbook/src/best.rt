@@ -42,8 +42,8 @@ pub(crate) fn with_place(
     }
 }
 
-// The best so far, once an entry more stands. Where that isn't accepted, its timetable is the one before, which was looked
-// at.
+// The best so far, once an entry more stands. Where that isn't accepted, its timetable is the one before, which was
+// looked at.
 pub(crate) fn best_after(
     verdict: &Verdict,
     best: Option<(u32, i64)>,
