@@ -12,6 +12,7 @@ pub mod Machine
 pub mod Ranges
 pub mod Scanning
 pub mod Staying
+pub mod Telling
 pub mod TimesRead
 pub mod Unfrozen
 pub mod Versions

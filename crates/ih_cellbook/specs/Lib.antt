@@ -10,3 +10,4 @@ pub mod Offers
 pub mod Recorded
 pub mod Replicas
 pub mod Snapshot
+pub mod Told

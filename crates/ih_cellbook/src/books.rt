@@ -4,6 +4,7 @@ ghost use Rattle.std.specs.Prelude.{◌≡◌, ℕ, ◌<◌, ◌≤◌, length};
 
 use crate::buffers::Buffer;
 use crate::kinds::Logged;
+use crate::news::News;
 use crate::records::Records;
 use ih_journal::{Entry, Options, Verdict};
 use ih_plan::Plan;
@@ -44,6 +45,7 @@ impl<'a, E: Logged> Book<'a, E> {
     ghost use Rattle.ih_cellbook.specs.Legal.{AreExact, AreLegalButDraws};
     ghost use Rattle.ih_cellbook.specs.Laws.{AreFew};
     ghost use Rattle.ih_cellbook.specs.Offers.{IsRightOffer, entry_of};
+    ghost use Rattle.ih_cellbook.specs.Told.{TellsOf};
 
     /// A book without entries over a start, whose bill is `first`. Room for all entries of the search is reserved.
     pub fn new(
@@ -102,6 +104,16 @@ impl<'a, E: Logged> Book<'a, E> {
         ensures count { result ≡ length buffer.new.entries }
     {
         self.records.copy_since(from, buffer)
+    }
+
+    /// Replaces the news by what was accepted from place `from` on: up to the end, or up to where its room for 256
+    /// accepted entries is full. It looks at each of these entries once, and copies the accepted ones alone; it takes
+    /// no memory.
+    pub fn news_since(&self, from: u32, news: &mut News<E>)
+        requires { from ≤ length self.now.entries }
+        ensures { TellsOf self.now.entries from news.new }
+    {
+        self.records.news_since(from, news);
     }
 
     /// The place and the cost of the first of the cheapest feasible timetables: place k is that after k entries. None

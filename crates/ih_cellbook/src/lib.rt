@@ -8,6 +8,7 @@ mod buffers;
 mod counters;
 mod kinds;
 mod laws;
+mod news;
 mod offers;
 mod reads;
 mod records;
@@ -24,6 +25,7 @@ pub use laws::{
     legal_journals_are_short, right_offers_stay_right, schedules_are_legal,
     searches_have_two_journals,
 };
+pub use news::News;
 pub use offers::Offer;
 pub use reads::Reads;
 pub use replicates::{Opens, Replicates};

@@ -8,6 +8,7 @@ use crate::best::{add_price, best_after, with_place};
 use crate::buffers::Buffer;
 use crate::counters::{judge, raise_where};
 use crate::kinds::{Logged, Offers};
+use crate::news::News;
 use ih_footprint::Numbering;
 use ih_journal::{Options, Verdict};
 use ih_plan::Plan;
@@ -123,6 +124,7 @@ impl<'a, E: Logged> Records<'a, E> {
     ghost use Rattle.ih_cellbook.specs.Legal.{AreExact, AreLegalButDraws};
     ghost use Rattle.ih_cellbook.specs.Laws.{AreFew};
     ghost use Rattle.ih_cellbook.specs.Offers.{IsRightOffer, entry_of};
+    ghost use Rattle.ih_cellbook.specs.Told.{TellsOf};
 
     /// Those of a book without entries over a start, whose bill is `first`. Room for all entries is reserved.
     pub(crate) fn new(
@@ -206,6 +208,14 @@ impl<'a, E: Logged> Records<'a, E> {
         ensures count { result ≡ length buffer.new.entries }
     {
         buffer.fill(self.entries.as_slice(), from, self.entries.len() as u32)
+    }
+
+    /// Tells what was accepted from a place on: `Book::news_since` says more.
+    pub(crate) fn news_since(&self, from: u32, news: &mut News<E>)
+        requires { from ≤ length self.now.entries }
+        ensures { TellsOf self.now.entries from news.new }
+    {
+        news.fill(self.entries.as_slice(), from, self.entries.len() as u32);
     }
 
     /// The place and the cost of the first cheapest feasible timetable.
