@@ -1,11 +1,10 @@
 -- Replicas that stand for the first entries of a longer history, as a book has it.
-use Rattle.std.proofs.Common.{◌≡◌, ℕ, zero, suc, ◌+◌, ◌<◌, ◌≤◌, arith, sym, ap, ◌∙◌, subst, List, [], ◌∷◌, ◌++◌, length, take, drop, Some, None}
+use Rattle.std.proofs.Common.{◌≡◌, ℕ, zero, suc, ◌+◌, ◌-◌, ◌<◌, ◌≤◌, arith, sym, ap, ◌∙◌, subst, List, [], ◌∷◌, ◌++◌, length, length-append, take, drop, Some, None}
 use Rattle.std.specs.Prelude.{slice_get, option_map, if◌then◌else◌}
 use Rattle.std.proofs.Math.Seq.{take-add, take-append_seam}
-use Rattle.std.proofs.lemmas.List.{length-take, take-append-drop, take-append-le}
+use Rattle.std.proofs.lemmas.List.{length-drop, length-take, take-append-drop, take-append-le}
 use Rattle.std.proofs.lemmas.Option.{slice_get_within}
 use Rattle.ih_plan.specs.declared.moves.Move.{Move}
-use Rattle.ih_plan.specs.Series.{after_all}
 use Rattle.ih_journal.specs.Tried.{Tried}
 use Rattle.ih_journal.specs.declared.settings.Options.{Options}
 use Rattle.ih_journal.specs.Attempts.{Attempt, attempt_after, is_done, is_done_after, next_attempt}
@@ -16,8 +15,9 @@ use Rattle.ih_cellbook.specs.Laws.{HasNoneBy}
 use Rattle.ih_cellbook.specs.Legal.{AreLegalButDraws}
 use Rattle.ih_cellbook.specs.Offers.{IsRightOffer, next_number}
 use Rattle.ih_cellbook.proofs.Staying.{last_by-others, right-stays}
-use Rattle.ih_cellbook.specs.Replicas.{IsReplicaOf, IsReplicaIn, IsOfferOf, IsRightFor, MayFollow, StandsAfter, StandsAs}
+use Rattle.ih_cellbook.specs.Replicas.{AreUpTo, IsReplicaOf, IsReplicaIn, IsOfferOf, IsRightFor, MayFollow, MayFollowUpTo, StandsAfter, StandsAs, StandsUpTo}
 use Rattle.ih_cellbook.specs.Snapshot.{Snapshot}
+use Rattle.ih_cellbook.specs.Told.{Told, TellsOf}
 
 get-front : (G rest : List Tried) (k : ℕ) (e : Tried) → slice_get G k ≡ Some e → slice_get (G ++ rest) k ≡ Some e
 get-front [] rest k e h = absurd (let no : None ≡ Some e = h in cc)
@@ -56,6 +56,33 @@ module _ (b : Base) (H : List Tried) (r : Snapshot) (stands : IsReplicaIn b H r)
       ∙ ap (take (length (take (r.seen + n) H))) (sym (take-append-drop (r.seen + n) H))
       ∙ take-append_seam (take (r.seen + n) H) (drop (r.seen + n) H) in
       subst (λ G. IsReplicaOf b G s) (part ∙ sym front) taken
+
+  -- the same of what it is told of the book from where it stands
+  module _ (n : Told) (legal : AreLegalButDraws b H) (told : TellsOf H r.seen n) where
+    told-up_to : AreUpTo r n.accepted n.until (take (n.until - r.seen) (drop r.seen H))
+    told-up_to =
+        let since = told.since in
+        let within = told.within in
+        let front = told.front in
+        let taken = length-take (n.until - r.seen) (drop r.seen H) in
+        let left = length-drop r.seen H in
+        record { accepted_are = told.accepted; place = omega (arith, since, within, front, taken, left) }
+
+    pub told-follow : MayFollowUpTo r n.accepted n.until
+    told-follow = (take (n.until - r.seen) (drop r.seen H), told-up_to, next-follow (n.until - r.seen) legal)
+
+    module _ (s : Snapshot) (later : StandsUpTo r n.accepted n.until s) where
+      pub told-further : IsReplicaIn b H s
+      told-further = stands-further (n.until - r.seen) s legal (later (take (n.until - r.seen) (drop r.seen H)) told-up_to)
+
+      pub told-seen : s.seen ≡ n.until
+      told-seen =
+          let part = take (n.until - r.seen) (drop r.seen H) in
+          let seen = (later part told-up_to b (take r.seen H) stands (next-legal (n.until - r.seen) legal)).seen in
+          let both = length-append (take r.seen H) part in
+          let before = stands.seen in
+          let place = told-up_to.place in
+          omega (arith, seen, both, before, place)
 
   pub stands-same : (s : Snapshot) → StandsAs r s → IsReplicaIn b H s
   stands-same s same =

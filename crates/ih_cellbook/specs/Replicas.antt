@@ -1,5 +1,5 @@
 -- Replicas that stand for a history, and the offers that they make.
-use Rattle.std.specs.Prelude.{◌≡◌, ℕ, ◌<◌, ◌≤◌, ◌++◌, ◌⊎◌, List, [], length, take, Some, if◌then◌else◌}
+use Rattle.std.specs.Prelude.{◌≡◌, ℕ, ◌+◌, ◌<◌, ◌≤◌, ◌++◌, ◌⊎◌, List, [], length, take, Some, if◌then◌else◌}
 use Rattle.ih_plan.specs.declared.moves.Move.{Move}
 use Rattle.ih_plan.specs.Series.{price_of_all}
 use Rattle.ih_journal.specs.Tried.{Tried}
@@ -12,6 +12,7 @@ use Rattle.ih_cellbook.specs.Keeping.{IsBase, AreVersions}
 use Rattle.ih_cellbook.specs.Legal.{AreLegalButDraws}
 use Rattle.ih_cellbook.specs.Offers.{IsRightOffer, next_number, reads_after}
 use Rattle.ih_cellbook.specs.Snapshot.{Snapshot}
+use Rattle.ih_cellbook.specs.Told.{accepted_of}
 
 -- The offer has no cells, or those of its move after the entries that it had seen, which are among those of H.
 pub record IsReadFrom (b : Base) (H : List Tried) (o : Offered) : Type 0 where
@@ -43,6 +44,19 @@ MayFollow r es = (b : Base) × (H : List Tried) × IsReplicaOf b H r × AreLegal
 -- Whatever history the first replica stands for, the second stands for it and the entries that follow.
 abbrev pub StandsAfter : Snapshot → List Tried → Snapshot → Type 0
 StandsAfter r es s = (b : Base) (H : List Tried) → IsReplicaOf b H r → AreLegalButDraws b (H ++ es) → IsReplicaOf b (H ++ es) s
+
+-- Entries behind those that the replica stands for, up to a place, of which these are the accepted ones.
+pub record AreUpTo (r : Snapshot) (accepted : List Tried) (until : ℕ) (es : List Tried) : Type 0 where
+  pub accepted_are : accepted ≡ accepted_of es
+  pub place : until ≡ r.seen + length es
+
+-- Some such entries may follow some history that the replica stands for.
+abbrev pub MayFollowUpTo : Snapshot → List Tried → ℕ → Type 0
+MayFollowUpTo r accepted until = (es : List Tried) × AreUpTo r accepted until es × MayFollow r es
+
+-- Whatever such entries follow, the second replica stands for them too.
+abbrev pub StandsUpTo : Snapshot → List Tried → ℕ → Snapshot → Type 0
+StandsUpTo r accepted until s = (es : List Tried) → AreUpTo r accepted until es → StandsAfter r es s
 
 -- The offer of worker w of this number and move, priced after all entries of H.
 pub record IsOfferAfter (b : Base) (H : List Tried) (w n : ℕ) (m : List Move) (o : Offered) : Type 0 where

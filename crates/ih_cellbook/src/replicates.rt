@@ -5,7 +5,8 @@ ghost use Rattle.ih_plan.specs.Timetable.{IsPlanOf};
 ghost use Rattle.ih_plan.specs.Series.{AreMoves};
 ghost use Rattle.ih_journal.specs.Settings.{IsLawful};
 ghost use Rattle.ih_cellbook.specs.Keeping.{base_with};
-ghost use Rattle.ih_cellbook.specs.Replicas.{IsOfferOf, IsReplicaOf, IsRightFor, MayFollow, StandsAfter, StandsAs};
+ghost use Rattle.ih_cellbook.specs.Replicas.{IsOfferOf, IsReplicaOf, IsRightFor};
+ghost use Rattle.ih_cellbook.specs.Replicas.{MayFollow, MayFollowUpTo, StandsAfter, StandsAs, StandsUpTo};
 ghost use Rattle.ih_cellbook.specs.Snapshot.{Snapshot};
 
 use crate::kinds::Logged;
@@ -28,6 +29,14 @@ pub trait Replicates: Drop {
     fn advance(&mut self, entries: &[Self::Entry])
         requires { MayFollow (copied self.old) (map Self.Entry.tried entries.now) }
         ensures replica { StandsAfter (copied self.old) (map Self.Entry.tried entries.now) (copied self.new) }
+        ensures base { (copied self.new).base ≡ (copied self.old).base }
+        ensures worker { (copied self.new).worker ≡ (copied self.old).worker };
+
+    /// Takes over the entries that follow those that it stands for, up to a place, by the accepted ones of them alone:
+    /// the others move its place, and change nothing else.
+    fn follow(&mut self, accepted: &[Self::Entry], until: u32)
+        requires { MayFollowUpTo (copied self.old) (map Self.Entry.tried accepted.now) until }
+        ensures replica { StandsUpTo (copied self.old) (map Self.Entry.tried accepted.now) until (copied self.new) }
         ensures base { (copied self.new).base ≡ (copied self.old).base }
         ensures worker { (copied self.new).worker ≡ (copied self.old).worker };
 

@@ -31,7 +31,7 @@ get-behind [] es k = let same : 0 + k ≡ k = omega arith in ap (slice_get es) s
 get-behind (x ∷ xs) es k = let more : length (x ∷ xs) + k ≡ suc (length xs + k) = omega arith in ap (slice_get (x ∷ xs ++ es)) more ∙ get-behind xs es k
 
 -- the next of them may come after those before it
-legal-next : (b : Base) (H es : List Tried) (k : ℕ) (e : Tried) → AreLegalButDraws b (H ++ es) → slice_get es k ≡ Some e → IsLegalButDraw b (H ++ take k es) e
+pub legal-next : (b : Base) (H es : List Tried) (k : ℕ) (e : Tried) → AreLegalButDraws b (H ++ es) → slice_get es k ≡ Some e → IsLegalButDraw b (H ++ take k es) e
 legal-next b H es k e legal there =
     subst (λ G. IsLegalButDraw b G e) (take-append-add H es k) (legal (length H + k) e (get-behind H es k ∙ there))
 
@@ -108,10 +108,10 @@ module _ (H : List Tried) (r : Snapshot) (stands : IsReplicaOf r.base H r) where
 own-base : (b : Base) (H : List Tried) (r : Snapshot) → IsReplicaOf b H r → IsReplicaOf r.base H r
 own-base b H r stands = subst (λ c. IsReplicaOf c H r) (sym stands.base) stands
 
-can-take : (b : Base) (H : List Tried) (r : Snapshot) (e : Tried) → IsReplicaOf b H r → IsLegalButDraw b H e → CanTake r e
+pub can-take : (b : Base) (H : List Tried) (r : Snapshot) (e : Tried) → IsReplicaOf b H r → IsLegalButDraw b H e → CanTake r e
 can-take b H r e stands legal = can H r (own-base b H r stands) e (subst (λ c. IsLegalButDraw c H e) (sym stands.base) legal)
 
-stands-more : (b : Base) (H : List Tried) (r : Snapshot) (e : Tried) (s : Snapshot) → IsReplicaOf b H r → IsLegalButDraw b H e → HasTaken r e s
+pub stands-more : (b : Base) (H : List Tried) (r : Snapshot) (e : Tried) (s : Snapshot) → IsReplicaOf b H r → IsLegalButDraw b H e → HasTaken r e s
     → IsReplicaOf b (H ++ e ∷ []) s
 stands-more b H r e s stands legal taken =
     subst (λ c. IsReplicaOf c (H ++ e ∷ []) s) stands.base (more H r (own-base b H r stands) e (subst (λ c. IsLegalButDraw c H e) (sym stands.base) legal) s taken)

@@ -20,6 +20,10 @@ impl<'a, E: Logged> Replicates for Replica<'a, E> {
         self.advance(entries);
     }
 
+    fn follow(&mut self, accepted: &[E], until: u32) {
+        self.follow(accepted, until);
+    }
+
     fn price(&mut self, attempt: &E::Attempt, number: u32) {
         self.make(attempt, number);
     }

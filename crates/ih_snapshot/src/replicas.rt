@@ -65,7 +65,8 @@ impl<'a, E: Logged> Replica<'a, E> {
     ghost use Rattle.ih_cellbook.specs.Keeping.{base_with};
     ghost use Rattle.ih_snapshot.specs.Keeping.{CanTake, HasTaken};
     ghost use Rattle.ih_snapshot.specs.Noting.{asks_reads, offer_of, offer_with, reads_of};
-    ghost use Rattle.ih_cellbook.specs.Replicas.{IsReplicaOf, MayFollow, StandsAfter, StandsAs, IsOfferOf, IsRightFor};
+    ghost use Rattle.ih_cellbook.specs.Replicas.{IsReplicaOf, IsOfferOf, IsRightFor};
+    ghost use Rattle.ih_cellbook.specs.Replicas.{MayFollow, MayFollowUpTo, StandsAfter, StandsAs, StandsUpTo};
     ghost use Rattle.ih_snapshot.specs.Lending.{RestsAs};
 
     /// A worker's replica of a search over a start, which fits the instance. It stands for the empty history.
@@ -111,6 +112,21 @@ impl<'a, E: Logged> Replica<'a, E> {
         for entry in entries {
             self.take_over(entry);
         }
+    }
+
+    /// Takes over the entries that follow those that it stands for, up to a place, by the accepted ones of them alone,
+    /// in time of those.
+    pub fn follow(&mut self, accepted: &[E], until: u32)
+        requires follow { MayFollowUpTo self.old (map E.tried accepted.now) until }
+        ensures replica { StandsUpTo self.old (map E.tried accepted.now) until self.new }
+        ensures base { self.new.base ≡ self.old.base }
+        ensures worker { self.new.worker ≡ self.old.worker }
+    {
+        for entry in accepted {
+            self.take_over(entry);
+        }
+        // The others change nothing but the place.
+        self.seen = until;
     }
 
     /// Goes back to the empty history, in time of the whole timetable.
