@@ -1,25 +1,23 @@
 -- A searcher that looks: how far it is then in the history.
 use Rattle.std.proofs.Common.{◌≡◌, ℕ, zero, suc, ◌+◌, ◌<◌, ◌≤◌, sym, ap, ◌∙◌, subst, refl, arith, List, [], ◌∷◌, ◌++◌, append_assoc, length, length-append, take, drop, None, Some}
 use Rattle.std.specs.Prelude.{slice_get}
-use Rattle.std.proofs.Math.Seq.{take-add}
-use Rattle.std.proofs.lemmas.List.{append-nil, length-take, take-append-drop, take-append-le}
+use Rattle.std.proofs.lemmas.List.{append-nil}
 use Rattle.std.proofs.lemmas.Option.{slice_get_within}
 use Rattle.ih_journal.specs.Tried.{Tried}
 use Rattle.ih_journal.specs.declared.entries.Verdict.{Verdict}
 use Rattle.ih_journal.specs.Base.{Base}
-use Rattle.ih_journal.specs.Legal.{IsLegalButDraw}
-use Rattle.ih_journal.proofs.Growth.{take-get}
 use Rattle.ih_journal.specs.Settings.{most_entries}
 use Rattle.ih_cellbook.proofs.EntryLimits.{legal-few}
-use Rattle.ih_cellbook.specs.Copied.{Copied, most_copied}
 use Rattle.ih_cellbook.specs.Laws.{HasNoneBy}
 use Rattle.ih_cellbook.specs.Legal.{AreLegalButDraws}
 use Rattle.ih_cellbook.specs.Offered.{Offered}
 use Rattle.ih_cellbook.specs.Offers.{HasSeenOwn, entry_of}
 use Rattle.ih_cellbook.proofs.Staying.{seen_own-others}
-use Rattle.ih_cellbook.specs.Replicas.{IsReplicaIn, IsReplicaOf, StandsAfter}
+use Rattle.ih_cellbook.specs.Replicas.{IsReplicaIn, IsReplicaOf, StandsUpTo}
 use Rattle.ih_cellbook.specs.Snapshot.{Snapshot}
-use Rattle.ih_cellbook.proofs.Within.{stands-behind}
+use Rattle.ih_cellbook.specs.Told.{Told, TellsOf}
+use Rattle.ih_cellbook.proofs.Telling.{tells-further}
+use Rattle.ih_cellbook.proofs.Within.{stands-behind, told-seen}
 use Rattle.ih_desk.specs.Histories.{EndsWith, GoesOn}
 use Rattle.ih_desk.proofs.Full.{none-both}
 
@@ -66,24 +64,13 @@ ends-longer b o v H G ends =
 pub stays : (b : Base) (w : ℕ) (H G : List Tried) (r : Snapshot) → GoesOn w H G → IsReplicaIn b H r → IsReplicaIn b G r
 stays b w H G r goes stands = subst (λ F. IsReplicaIn b F r) (sym goes.history) (stands-behind b H r stands goes.others)
 
--- what a look from k on shows
-pub shown : (es : List Tried) (buffer before set : Copied) (k s : ℕ) (H : List Tried) → es ≡ buffer.entries
-    → buffer ≡ record { from = set.from; entries = take most_copied (drop set.from H); front = length H } → set ≡ record before { from = k } → k ≡ s → es ≡ take most_copied (drop s H)
-shown es buffer before set k s H taken copied placed same =
-    taken ∙ (ap (λ (x : Copied). x.entries) copied ∙ ap (λ i. take most_copied (drop i H)) (ap (λ (x : Copied). x.from) placed ∙ same))
-
-legal-front : (b : Base) (G : List Tried) (n : ℕ) → AreLegalButDraws b G → AreLegalButDraws b (take n G)
-legal-front b G n legal k e there =
-    let below = slice_get_within (take n G) k e there in
-    let same = sym (ap (take k) (take-append-drop n G)) ∙ take-append-le k (take n G) (drop n G) (omega (arith, below)) in
-    subst (λ F. IsLegalButDraw b F e) same (legal k e (take-get G n k e there))
-
--- once it has taken over what comes next, it has seen more, where there was more
-pub further : (b : Base) (G : List Tried) (r s : Snapshot) → IsReplicaIn b G r → AreLegalButDraws b G → StandsAfter r (take most_copied (drop r.seen G)) s → r.seen < length G → r.seen < s.seen
-further b G r s stands legal after more =
-    let next = subst (AreLegalButDraws b) (take-add r.seen most_copied G) (legal-front b G (r.seen + most_copied) legal) in
-    let seen = (after b (take r.seen G) stands next).seen ∙ ap length (sym (take-add r.seen most_copied G)) ∙ length-take (r.seen + most_copied) G in
-    omega (arith, seen, more)
+-- once it has taken over what it is told, it has seen more, where there was more
+pub further : (b : Base) (G : List Tried) (r : Snapshot) (n : Told) (s : Snapshot) → IsReplicaIn b G r → AreLegalButDraws b G → TellsOf G r.seen n → StandsUpTo r n.accepted n.until s
+    → r.seen < length G → r.seen < s.seen
+further b G r n s stands legal told later more =
+    let seen = told-seen b G r stands n legal told s later in
+    let until = tells-further G r.seen n told more in
+    omega (arith, seen, until)
 
 -- a replica has seen no more than there may be, so a turn is left
 pub has-turn : (b : Base) (H : List Tried) (r : Snapshot) (left : ℕ) → IsReplicaIn b H r → most_entries b.options < left + r.seen → 0 < left

@@ -2,8 +2,8 @@
 use Rattle.std.specs.Prelude.{ℕ, List}
 use Rattle.ih_tables.specs.declared.drafts.Draft.{Draft}
 use Rattle.ih_journal.specs.declared.settings.Options.{Options}
-use Rattle.ih_cellbook.specs.Copied.{Copied}
 use Rattle.ih_cellbook.specs.Snapshot.{Snapshot}
+use Rattle.ih_cellbook.specs.Told.{Told}
 
 -- How far a worker has come in its search.
 pub record Progress : Type 0 where
@@ -14,5 +14,5 @@ pub record Progress : Type 0 where
   -- its draws to come
   pub stream : List ℕ
   pub replica : Snapshot
-  -- what its last turn showed
-  pub buffer : Copied
+  -- what its last turn told
+  pub news : Told

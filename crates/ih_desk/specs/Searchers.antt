@@ -1,5 +1,5 @@
 -- How far a searcher has come.
-use Rattle.std.specs.Prelude.{◌≡◌, ℕ, ◌+◌, false, List, [], ◌∷◌, ◌++◌, length, take, drop}
+use Rattle.std.specs.Prelude.{◌≡◌, ℕ, ◌+◌, false, List, [], ◌∷◌, ◌++◌, length}
 use Rattle.ih_plan.specs.declared.moves.Move.{Move}
 use Rattle.ih_plan.specs.Draws.{stream_at}
 use Rattle.ih_journal.specs.Tried.{Tried}
@@ -7,10 +7,10 @@ use Rattle.ih_journal.specs.declared.entries.Verdict.{Verdict}
 use Rattle.ih_journal.specs.declared.settings.Options.{Options}
 use Rattle.ih_journal.specs.Attempts.{attempt_after, is_done_after, last_by}
 use Rattle.ih_journal.specs.Base.{Base}
-use Rattle.ih_cellbook.specs.Copied.{most_copied}
 use Rattle.ih_cellbook.specs.Laws.{HasNoneBy}
 use Rattle.ih_cellbook.specs.Offers.{HasSeenOwn}
 use Rattle.ih_cellbook.specs.Replicas.{IsReplicaIn, IsReplicaOf}
+use Rattle.ih_cellbook.specs.Told.{TellsOf}
 use Rattle.ih_desk.specs.Progress.{Progress}
 
 -- The searcher is worker w's in a search over b, by attempts of so many moves.
@@ -30,10 +30,9 @@ pub record HasCaughtUp (b : Base) (each w : ℕ) (H : List Tried) (x : Progress)
   pub within : IsWithin b each w H x
   pub seen : HasSeenOwn H w x.replica.seen
 
--- The buffer has what comes in H behind what the replica stands for, as far as there is room.
-abbrev pub Shows : List Tried → Progress → Type 0
-Shows H x =
-    x.buffer ≡ record { from = x.replica.seen; entries = take most_copied (drop x.replica.seen H); front = length H }
+-- The news tell of H from where the replica stands.
+abbrev pub IsToldOf : List Tried → Progress → Type 0
+IsToldOf H x = TellsOf H x.replica.seen x.news
 
 -- nothing was drawn or seen yet
 pub record IsNew (b : Base) (each w : ℕ) (x : Progress) : Type 0 where

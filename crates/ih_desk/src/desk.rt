@@ -4,8 +4,9 @@ ghost use Rattle.std.specs.Prelude.{◌≡◌, ◌≤◌, [], ◌∷◌, ◌++�
 ghost use Rattle.ih_cellbook.specs.Copied.{most_copied};
 ghost use Rattle.ih_cellbook.specs.Legal.{AreLegalButDraws};
 ghost use Rattle.ih_cellbook.specs.Offers.{IsRightOffer, entry_of};
+ghost use Rattle.ih_cellbook.specs.Told.{TellsOf};
 
-use ih_cellbook::{Book, Buffer, Logged, Offers, right_offers_stay_right};
+use ih_cellbook::{Book, Buffer, Logged, News, Offers, right_offers_stay_right};
 use ih_journal::Verdict;
 use ih_turn::{Seat, Turn};
 use std::alloc::Global;
@@ -80,6 +81,30 @@ impl<'a, E: Logged> DeskOver<Turn<Book<'a, E>>> {
         held.give()
     }
 
+    /// As `look`, but the news have what was accepted from place `from` on: up to the end, or up to where their room
+    /// for 256 accepted entries is full.
+    pub fn look_for_news<R: Wait>(
+        &self,
+        rt: &R,
+        seat: Seat<Book<'a, E>>,
+        from: u32,
+        news: &mut News<E>,
+    ) -> Seat<Book<'a, E>>
+        requires own { IsSeatAt self.now seat }
+        requires left { 0 < turns_left seat }
+        requires from { from ≤ length (history seat) }
+        ensures own { IsSeatAt self.now result }
+        ensures number { number_of result ≡ number_of seat.entry }
+        ensures history { GoesOn (number_of seat.entry) (history seat.entry) (history result) }
+        ensures told { TellsOf (history result) from news.new }
+        ensures made { made_count result ≡ made_count seat.entry }
+        ensures left { turns_left result + 1 ≡ turns_left seat.entry }
+    {
+        let held = self.turn.take(rt, seat);
+        tell(held.get(), from, news);
+        held.give()
+    }
+
     /// Offers the next move of the seat's worker, and answers its verdict. The history that the seat has then seen ends
     /// with this entry. It uses one of the seat's turns, waits for it, and takes no memory.
     pub fn offer<R: Wait>(
@@ -105,31 +130,30 @@ impl<'a, E: Logged> DeskOver<Turn<Book<'a, E>>> {
         (held.give(), verdict)
     }
 
-    /// As `offer`, and by the same turn the buffer has what is new: its entries are those from its place `from` on, or
-    /// the first 256 of them where there are more, and its front is the number of all entries, the offer's the last.
+    /// As `offer`, and by the same turn the news have what was accepted of the entries that the offer hadn't seen, its
+    /// own entry the last of them: up to the end, or up to where their room for 256 accepted entries is full.
     pub fn offer_and_look<R: Wait>(
         &self,
         rt: &R,
         seat: Seat<Book<'a, E>>,
         offer: &E::Offer,
-        buffer: &mut Buffer<E>,
+        news: &mut News<E>,
     ) -> (Seat<Book<'a, E>>, Verdict)
         requires own { IsSeatAt self.now seat }
         requires left { 0 < turns_left seat }
         requires worker { (E.Offer.offered offer.now).worker ≡ number_of seat }
         requires right { IsRightOffer (base_of self.now) (history seat) (E.Offer.offered offer.now) }
-        requires from { buffer.old.from ≤ length (history seat) }
         ensures own { IsSeatAt self.now result.0 }
         ensures number { number_of result.0 ≡ number_of seat.entry }
         ensures history { EndsWith (base_of self.now) (E.Offer.offered offer.now) result.1 (history seat.entry) (history result.0) }
-        ensures copied { buffer.new ≡ record { from = buffer.old.from; entries = take most_copied (drop buffer.old.from (history result.0)); front = length (history result.0) } }
+        ensures told { TellsOf (history result.0) (E.Offer.offered offer.now).seen news.new }
         ensures made { made_count result.0 ≡ made_count seat.entry + 1 }
         ensures left { turns_left result.0 + 1 ≡ turns_left seat.entry }
     {
         // For the proof alone.
         right_offers_stay_right();
         let mut held = self.turn.take(rt, seat);
-        let verdict = commit_and_copy(held.get_mut(), offer, buffer);
+        let verdict = commit_and_tell(held.get_mut(), offer, news);
         (held.give(), verdict)
     }
 
@@ -166,6 +190,17 @@ fn copy<E: Logged>(book: &Book<'_, E>, buffer: &mut Buffer<E>)
     book.copy_since(from, buffer);
 }
 
+// Tells what was accepted in a book from a place on.
+fn tell<E: Logged>(book: &Book<'_, E>, from: u32, news: &mut News<E>)
+    requires { from ≤ length book.now.entries }
+    ensures told { TellsOf book.now.entries from news.new }
+    ensures legal { AreLegalButDraws book.now.base book.now.entries }
+{
+    // For the proof alone: the entries are legal.
+    book.entries();
+    book.news_since(from, news);
+}
+
 // Commits an offer to a book.
 fn commit<E: Logged>(book: &mut Book<'_, E>, offer: &E::Offer) -> Verdict
     requires { IsRightOffer book.old.base book.old.entries (E.Offer.offered offer.now) }
@@ -179,20 +214,19 @@ fn commit<E: Logged>(book: &mut Book<'_, E>, offer: &E::Offer) -> Verdict
     verdict
 }
 
-// Commits an offer to a book, and then copies what the book has from the buffer's place on.
-fn commit_and_copy<E: Logged>(
+// Commits an offer to a book, and then tells what was accepted in it of the entries that the offer hadn't seen.
+fn commit_and_tell<E: Logged>(
     book: &mut Book<'_, E>,
     offer: &E::Offer,
-    buffer: &mut Buffer<E>,
+    news: &mut News<E>,
 ) -> Verdict
-    requires right { IsRightOffer book.old.base book.old.entries (E.Offer.offered offer.now) }
-    requires from { buffer.old.from ≤ length book.old.entries }
+    requires { IsRightOffer book.old.base book.old.entries (E.Offer.offered offer.now) }
     ensures base { book.new.base ≡ book.old.base }
     ensures entries { book.new.entries ≡ book.old.entries ++ entry_of book.old.base book.old.entries (E.Offer.offered offer.now) result ∷ [] }
-    ensures copied { buffer.new ≡ record { from = buffer.old.from; entries = take most_copied (drop buffer.old.from book.new.entries); front = length book.new.entries } }
+    ensures told { TellsOf book.new.entries (E.Offer.offered offer.now).seen news.new }
     ensures legal { AreLegalButDraws book.new.base book.new.entries }
 {
     let verdict = commit(book, offer);
-    copy(book, buffer);
+    tell(book, offer.seen(), news);
     verdict
 }

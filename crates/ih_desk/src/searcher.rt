@@ -5,7 +5,7 @@ ghost use Rattle.ih_journal.specs.Attempts.{is_stale};
 
 use crate::desk::DeskOver;
 use crate::passing::Pass;
-use ih_cellbook::{Attempted, Book, Buffer, Logged, Opens, Replicates};
+use ih_cellbook::{Attempted, Book, Logged, News, Opens, Replicates};
 use ih_journal::{Options, Verdict};
 use ih_moves::Stream;
 use ih_plan::Plan;
@@ -25,8 +25,8 @@ pub struct Searcher<'a, C: Replicates> {
     // Its draws to come.
     stream: Stream,
     replica: C,
-    // Room for what a turn shows.
-    buffer: Buffer<C::Entry>,
+    // Room for what a turn tells.
+    news: News<C::Entry>,
 }
 
 impl<'a, C: Replicates> Model for Searcher<'a, C> {
@@ -40,7 +40,7 @@ impl<'a, C: Replicates> Model for Searcher<'a, C> {
       each = s.each;
       stream = s.stream;
       replica = C.copied s.replica;
-      buffer = s.buffer;
+      news = s.news;
     } };
 
     ghost invariant = { λ s. C.Entry.Attempt.may_have s.each };
@@ -82,7 +82,7 @@ impl<'a, C: Opens<'a>> Searcher<'a, C> {
             each,
             stream: Stream::new(options.seed, worker),
             replica: C::open(alloc, inst, start, options, freeze, worker)?,
-            buffer: Buffer::new(alloc)?,
+            news: News::new(alloc)?,
         })
     }
 }
@@ -99,7 +99,7 @@ impl<'a, C: Replicates> Searcher<'a, C> {
     ghost use Rattle.ih_desk.specs.Desks.{base_of, IsSeatAt};
     ghost use Rattle.ih_desk.specs.Finishing.{AreDrawn, HasFinished};
     ghost use Rattle.ih_desk.specs.Histories.{GoesOn};
-    ghost use Rattle.ih_desk.specs.Searchers.{HasAttempted, HasCaughtUp, IsNew, IsNext, IsWithin, Shows, credit};
+    ghost use Rattle.ih_desk.specs.Searchers.{HasAttempted, HasCaughtUp, IsNew, IsNext, IsToldOf, IsWithin, credit};
 
     /// Makes all attempts of the worker, in order, each of its next draws. A stale one is tried again as often as may be.
     pub(crate) fn search<R: Wait, P: Pass>(
@@ -169,7 +169,7 @@ impl<'a, C: Replicates> Searcher<'a, C> {
 
     // Tries an attempt once: prices it on what the replica stands for, offers it, and takes over what was new by that
     // turn, its own entry at least, so that the next try is priced on it. The take-over comes behind the gate's `after`:
-    // what the turn showed stays the same while a gate holds the worker there.
+    // what the turn told stays the same while a gate holds the worker there.
     fn try_once<R: Wait, P: Pass>(
         &mut self,
         rt: &R,
@@ -196,7 +196,7 @@ impl<'a, C: Replicates> Searcher<'a, C> {
         (seat, verdict)
     }
 
-    // Prices the attempt on what the replica stands for, and offers it. The buffer then shows what is new by that turn.
+    // Prices the attempt on what the replica stands for, and offers it. The news are then of that turn.
     fn offer<R: Wait, P: Pass>(
         &mut self,
         rt: &R,
@@ -215,7 +215,7 @@ impl<'a, C: Replicates> Searcher<'a, C> {
         ensures number { number_of result.0 ≡ number_of seat.entry }
         ensures within { IsWithin (base_of desk.now) self.old.each (number_of seat.entry) (history result.0) self.new }
         ensures attempted { HasAttempted (base_of desk.now).options (number_of seat.entry) number (C.Entry.Attempt.moves attempt.now) result.1 (history seat.entry) (history result.0) }
-        ensures shown { Shows (history result.0) self.new }
+        ensures told { IsToldOf (history result.0) self.new }
         ensures new { self.new.replica.seen < length (history result.0) }
         ensures turns { credit (turns_left seat.entry) self.old ≡ credit (turns_left result.0) self.new + 1 }
         ensures stream { self.new.stream ≡ self.old.stream }
@@ -223,13 +223,12 @@ impl<'a, C: Replicates> Searcher<'a, C> {
         let worker = seat.number();
         self.replica.price(attempt, number);
         gate.before(rt, worker, number);
-        self.buffer.set_from(self.replica.seen());
-        let (seat, verdict) = desk.offer_and_look(rt, seat, self.replica.last(), &mut self.buffer);
+        let (seat, verdict) = desk.offer_and_look(rt, seat, self.replica.last(), &mut self.news);
         gate.after(rt, worker, number);
         (seat, verdict)
     }
 
-    // Takes over what the offer's turn showed. Where more was new than the buffer has room for, it looks again until
+    // Takes over what the offer's turn told. Where more was accepted than the news have room for, it looks again until
     // the replica stands for all that there was by that turn, the offer's own entry the last of it.
     fn catch_up<R: Wait>(
         &mut self,
@@ -239,7 +238,7 @@ impl<'a, C: Replicates> Searcher<'a, C> {
     ) -> Seat<Book<'a, C::Entry>>
         requires own { IsSeatAt desk.now seat }
         requires within { IsWithin (base_of desk.now) self.old.each (number_of seat) (history seat) self.old }
-        requires shown { Shows (history seat) self.old }
+        requires told { IsToldOf (history seat) self.old }
         requires new { self.old.replica.seen < length (history seat) }
         requires turns { most_entries (base_of desk.now).options ≤ credit (turns_left seat) self.old }
         ensures own { IsSeatAt desk.now result }
@@ -249,8 +248,8 @@ impl<'a, C: Replicates> Searcher<'a, C> {
         ensures turns { credit (turns_left seat.entry) self.old < credit (turns_left result) self.new }
         ensures stream { self.new.stream ≡ self.old.stream }
     {
-        let goal = self.buffer.front();
-        self.replica.advance(self.buffer.entries());
+        let goal = self.news.front();
+        self.replica.follow(self.news.accepted(), self.news.until());
         let mut next = seat;
         while self.replica.seen() < goal {
             next = self.look(rt, desk, next);
@@ -258,7 +257,7 @@ impl<'a, C: Replicates> Searcher<'a, C> {
         next
     }
 
-    // Looks where there is more to see, and takes over what the look shows.
+    // Looks where there is more to see, and takes over what the look tells.
     fn look<R: Wait>(
         &mut self,
         rt: &R,
@@ -277,9 +276,8 @@ impl<'a, C: Replicates> Searcher<'a, C> {
         ensures turns { credit (turns_left seat.entry) self.old ≤ credit (turns_left result) self.new }
         ensures stream { self.new.stream ≡ self.old.stream }
     {
-        self.buffer.set_from(self.replica.seen());
-        let seat = desk.look(rt, seat, &mut self.buffer);
-        self.replica.advance(self.buffer.entries());
+        let seat = desk.look_for_news(rt, seat, self.replica.seen(), &mut self.news);
+        self.replica.follow(self.news.accepted(), self.news.until());
         seat
     }
 }

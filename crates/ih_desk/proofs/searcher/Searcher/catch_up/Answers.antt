@@ -1,53 +1,53 @@
 use Rattle.std.proofs.Common.{◌≡◌, ◌≤◌, ◌<◌, ◌∙◌, ap, arith, map, refl, sym, subst, length}
 use Rattle.ih_turn.specs.Seats.{history, number_of}
-use Rattle.ih_cellbook.specs.Copied.{Copied, most_copied}
 use Rattle.ih_cellbook.specs.Offers.{HasSeenOwn}
-use Rattle.ih_cellbook.specs.Replicas.{MayFollow, StandsAfter}
-use Rattle.ih_cellbook.proofs.Within.{next-follow, stands-further}
+use Rattle.ih_cellbook.specs.Replicas.{MayFollowUpTo, StandsUpTo}
+use Rattle.ih_cellbook.proofs.Within.{told-follow, told-further}
 use Rattle.ih_desk.specs.Desks.{base_of}
 use Rattle.ih_desk.specs.Histories.{GoesOn}
 use Rattle.ih_desk.specs.Progress.{Progress}
-use Rattle.ih_desk.specs.Searchers.{IsWithin, Shows}
+use Rattle.ih_desk.specs.Searchers.{IsToldOf, IsWithin}
 use Rattle.ih_desk.proofs.Attempting.{same-within}
 use Rattle.ih_desk.proofs.CatchingUp.{further, goes-length, goes_on-further, goes_on-none, own-all, own-goes_on, own-later}
 use Rattle.ih_desk.proofs.searcher.Searcher.catch_up.Goals as goal
 
-pub advance-requires : goal.advance-requires
-advance-requires g c =
+pub follow-requires : goal.follow-requires
+follow-requires g c =
     let b = base_of c.args.desk.now in
     let H = history c.args.seat in
     let r = g.C.Replicates.copied c.self.inside.replica in
+    let n = c.self.inside.news in
     let within = subst (λ (x : Progress). IsWithin b c.args.self.now.each (number_of c.args.seat) H x) (sym c.self.view_is) c.requires.within in
-    let shown = subst (λ (x : Progress). Shows H x) (sym c.self.view_is) c.requires.shown in
-    let is = c.entries.ensures ∙ ap (λ (x : Copied). x.entries) shown in
-    subst (MayFollow r) (sym is) (next-follow b H r within.replica most_copied c.requires.own.legal)
+    let told = subst (λ (x : Progress). IsToldOf H x) (sym c.self.view_is) c.requires.told in
+    subst (λ es. MayFollowUpTo r es c.until.result) (sym c.accepted.ensures)
+    (subst (MayFollowUpTo r n.accepted) (sym c.until.ensures) (told-follow b H r within.replica n c.requires.own.legal told))
 
 pub loop-self-init : goal.loop-self-init
 loop-self-init g c =
     let b = base_of c.args.desk.now in
-    let n = number_of c.args.seat in
+    let w = number_of c.args.seat in
     let H = history c.args.seat in
     let r = g.C.Replicates.copied c.self.inside.replica in
-    let s = g.C.Replicates.copied c.advance.new.self in
-    let es = map g.C.Entry.Logged.tried c.entries.result.now in
-    let within = subst (λ (x : Progress). IsWithin b c.args.self.now.each n H x) (sym c.self.view_is) c.requires.within in
-    let shown = subst (λ (x : Progress). Shows H x) (sym c.self.view_is) c.requires.shown in
-    let is = c.entries.ensures ∙ ap (λ (x : Copied). x.entries) shown in
-    let goal-is : c.front-goal.result ≡ length H = c.front-goal.ensures ∙ ap (λ (x : Copied). x.front) shown in
-    let after = subst (λ es. StandsAfter r es s) is c.advance.ensures.replica in
+    let s = g.C.Replicates.copied c.follow.new.self in
+    let n = c.self.inside.news in
+    let within = subst (λ (x : Progress). IsWithin b c.args.self.now.each w H x) (sym c.self.view_is) c.requires.within in
+    let told = subst (λ (x : Progress). IsToldOf H x) (sym c.self.view_is) c.requires.told in
+    let goal-is : c.front-goal.result ≡ length H = c.front-goal.ensures ∙ told.front in
+    let later = subst (λ es. StandsUpTo r es n.until s) c.accepted.ensures
+    (subst (λ k. StandsUpTo r (map g.C.Entry.Logged.tried c.accepted.result.now) k s) c.until.ensures c.follow.ensures.replica) in
     let new = subst (λ (x : Progress). x.replica.seen < length H) (sym c.self.view_is) c.requires.new in
-    let more : r.seen < s.seen = further b H r s within.replica c.requires.own.legal after new in
+    let more : r.seen < s.seen = further b H r n s within.replica c.requires.own.legal told later new in
     let before = ap (λ (x : Progress). x.replica.seen) c.self.view_is in
     let own = within.own in
     record {
       own = c.requires.own;
       number = refl;
       within = record {
-        own = record { instance = own.instance; options = own.options; each_is = own.each_is; worker = c.advance.ensures.worker ∙ own.worker };
-        replica = stands-further b H r within.replica most_copied s c.requires.own.legal after;
+        own = record { instance = own.instance; options = own.options; each_is = own.each_is; worker = c.follow.ensures.worker ∙ own.worker };
+        replica = told-further b H r within.replica n c.requires.own.legal told s later;
       };
-      goes = goes_on-none n H;
-      seen = subst (HasSeenOwn H n) (sym goal-is) (own-all n H);
+      goes = goes_on-none w H;
+      seen = subst (HasSeenOwn H w) (sym goal-is) (own-all w H);
       reached = omega (arith, goal-is);
       turns = omega (arith, more, before);
       stream = ap (λ (x : Progress). x.stream) c.self.view_is;

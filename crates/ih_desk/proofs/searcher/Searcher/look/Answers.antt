@@ -1,59 +1,72 @@
-use Rattle.std.proofs.Common.{◌<◌, ◌∙◌, arith, length, map, sym, subst}
+use Rattle.std.proofs.Common.{◌≡◌, ◌<◌, ◌≤◌, ◌∙◌, ap, arith, length, map, sym, subst}
 use Rattle.ih_turn.specs.Seats.{history, number_of, turns_left}
-use Rattle.ih_cellbook.specs.Copied.{most_copied}
+use Rattle.ih_cellbook.specs.Replicas.{MayFollowUpTo, StandsUpTo}
+use Rattle.ih_cellbook.specs.Told.{TellsOf}
+use Rattle.ih_cellbook.proofs.Within.{seen-within, told-follow, told-further}
 use Rattle.ih_desk.specs.Desks.{base_of}
-use Rattle.ih_cellbook.specs.Replicas.{MayFollow, StandsAfter}
-use Rattle.ih_cellbook.proofs.Within.{next-follow, stands-further}
 use Rattle.ih_desk.specs.Progress.{Progress}
 use Rattle.ih_desk.specs.Searchers.{IsWithin}
-use Rattle.ih_desk.proofs.CatchingUp.{further, goes-length, has-turn, shown, stays}
+use Rattle.ih_desk.proofs.CatchingUp.{further, goes-length, has-turn, stays}
 use Rattle.ih_desk.proofs.searcher.Searcher.look.Goals as goal
 
-pub look-seat-requires-clause-left : goal.look-seat-requires-clause-left
-look-seat-requires-clause-left g c =
+pub look_for_news-seat-requires-clause-left : goal.look_for_news-seat-requires-clause-left
+look_for_news-seat-requires-clause-left g c =
     has-turn (base_of c.args.desk.now) (history c.args.seat) c.args.self.now.replica (turns_left c.args.seat) c.requires.within.replica c.requires.turns
 
-pub advance-requires : goal.advance-requires
-advance-requires g c =
+pub look_for_news-seat-requires-clause-from : goal.look_for_news-seat-requires-clause-from
+look_for_news-seat-requires-clause-from g c =
     let b = base_of c.args.desk.now in
-    let H = history c.look-seat.result in
+    let H = history c.args.seat in
+    let r = g.C.Replicates.copied c.self.inside.replica in
+    let within = subst (λ (x : Progress). IsWithin b c.args.self.now.each (number_of c.args.seat) H x) (sym c.self.view_is) c.requires.within in
+    subst (λ n. n ≤ length H) (sym c.seen.ensures) (seen-within b H r within.replica)
+
+pub follow-requires : goal.follow-requires
+follow-requires g c =
+    let b = base_of c.args.desk.now in
+    let H = history c.look_for_news-seat.result in
     let r = g.C.Replicates.copied c.self.inside.replica in
     let within = subst (λ (x : Progress). IsWithin b c.args.self.now.each (number_of c.args.seat) (history c.args.seat) x) (sym c.self.view_is) c.requires.within in
-    let es = map g.C.Entry.Logged.tried c.entries.result.now in
-    let stands = stays b (number_of c.args.seat) (history c.args.seat) H r c.look-seat.ensures.history within.replica in
-    let is = shown es c.look-seat.new.buffer c.self.inside.buffer c.set_from.new.self c.seen.result r.seen H c.entries.ensures c.look-seat.ensures.copied c.set_from.ensures c.seen.ensures in
-    subst (MayFollow r) (sym is) (next-follow b H r stands most_copied c.look-seat.ensures.own.legal)
+    let n = c.look_for_news-seat.new.news in
+    let told = subst (λ k. TellsOf H k n) c.seen.ensures c.look_for_news-seat.ensures.told in
+    let stands = stays b (number_of c.args.seat) (history c.args.seat) H r c.look_for_news-seat.ensures.history within.replica in
+    subst (λ es. MayFollowUpTo r es c.until.result) (sym c.accepted.ensures)
+    (subst (MayFollowUpTo r n.accepted) (sym c.until.ensures) (told-follow b H r stands n c.look_for_news-seat.ensures.own.legal told))
 
 pub returns-clause-within : goal.returns-clause-within
 returns-clause-within g c =
     let b = base_of c.args.desk.now in
-    let H = history c.look-seat.result in
+    let H = history c.look_for_news-seat.result in
     let r = g.C.Replicates.copied c.self.inside.replica in
     let within = subst (λ (x : Progress). IsWithin b c.args.self.now.each (number_of c.args.seat) (history c.args.seat) x) (sym c.self.view_is) c.requires.within in
-    let s = g.C.Replicates.copied c.advance.new.self in
-    let es = map g.C.Entry.Logged.tried c.entries.result.now in
-    let stands = stays b (number_of c.args.seat) (history c.args.seat) H r c.look-seat.ensures.history within.replica in
-    let is = shown es c.look-seat.new.buffer c.self.inside.buffer c.set_from.new.self c.seen.result r.seen H c.entries.ensures c.look-seat.ensures.copied c.set_from.ensures c.seen.ensures in
+    let s = g.C.Replicates.copied c.follow.new.self in
+    let n = c.look_for_news-seat.new.news in
+    let told = subst (λ k. TellsOf H k n) c.seen.ensures c.look_for_news-seat.ensures.told in
+    let stands = stays b (number_of c.args.seat) (history c.args.seat) H r c.look_for_news-seat.ensures.history within.replica in
+    let later = subst (λ es. StandsUpTo r es n.until s) c.accepted.ensures
+    (subst (λ k. StandsUpTo r (map g.C.Entry.Logged.tried c.accepted.result.now) k s) c.until.ensures c.follow.ensures.replica) in
     let own = within.own in
     record {
-      own = record { instance = own.instance; options = own.options; each_is = own.each_is; worker = c.advance.ensures.worker ∙ own.worker };
-      replica = stands-further b H r stands most_copied s c.look-seat.ensures.own.legal (subst (λ es. StandsAfter r es s) is c.advance.ensures.replica);
+      own = record { instance = own.instance; options = own.options; each_is = own.each_is; worker = c.follow.ensures.worker ∙ own.worker };
+      replica = told-further b H r stands n c.look_for_news-seat.ensures.own.legal told s later;
     }
 
 further-seen : goal.returns-clause-further
 further-seen g c =
     let b = base_of c.args.desk.now in
-    let H = history c.look-seat.result in
+    let H = history c.look_for_news-seat.result in
     let r = g.C.Replicates.copied c.self.inside.replica in
     let within = subst (λ (x : Progress). IsWithin b c.args.self.now.each (number_of c.args.seat) (history c.args.seat) x) (sym c.self.view_is) c.requires.within in
-    let s = g.C.Replicates.copied c.advance.new.self in
-    let es = map g.C.Entry.Logged.tried c.entries.result.now in
-    let stands = stays b (number_of c.args.seat) (history c.args.seat) H r c.look-seat.ensures.history within.replica in
-    let is = shown es c.look-seat.new.buffer c.self.inside.buffer c.set_from.new.self c.seen.result r.seen H c.entries.ensures c.look-seat.ensures.copied c.set_from.ensures c.seen.ensures in
+    let s = g.C.Replicates.copied c.follow.new.self in
+    let n = c.look_for_news-seat.new.news in
+    let told = subst (λ k. TellsOf H k n) c.seen.ensures c.look_for_news-seat.ensures.told in
+    let stands = stays b (number_of c.args.seat) (history c.args.seat) H r c.look_for_news-seat.ensures.history within.replica in
+    let later = subst (λ es. StandsUpTo r es n.until s) c.accepted.ensures
+    (subst (λ k. StandsUpTo r (map g.C.Entry.Logged.tried c.accepted.result.now) k s) c.until.ensures c.follow.ensures.replica) in
     let new = subst (λ (x : Progress). x.replica.seen < length (history c.args.seat)) (sym c.self.view_is) c.requires.new in
-    let longer = goes-length (number_of c.args.seat) (history c.args.seat) H c.look-seat.ensures.history in
+    let longer = goes-length (number_of c.args.seat) (history c.args.seat) H c.look_for_news-seat.ensures.history in
     subst (λ (x : Progress). x.replica.seen < s.seen) c.self.view_is
-    (further b H r s stands c.look-seat.ensures.own.legal (subst (λ es. StandsAfter r es s) is c.advance.ensures.replica) (omega (arith, new, longer)))
+    (further b H r n s stands c.look_for_news-seat.ensures.own.legal told later (omega (arith, new, longer)))
 
 pub returns-clause-further : goal.returns-clause-further
 returns-clause-further g c = further-seen g c
@@ -61,5 +74,5 @@ returns-clause-further g c = further-seen g c
 pub returns-clause-turns : goal.returns-clause-turns
 returns-clause-turns g c =
     let more = further-seen g c in
-    let used = c.look-seat.ensures.left in
+    let used = c.look_for_news-seat.ensures.left in
     omega (arith, more, used)

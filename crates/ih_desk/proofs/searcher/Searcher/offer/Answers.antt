@@ -1,11 +1,11 @@
 use Rattle.std.proofs.Common.{◌≡◌, ◌<◌, ◌≤◌, ◌∙◌, ap, arith, sym, subst, length, take, drop, Some, ◌++◌}
 use Rattle.ih_turn.specs.Seats.{history, number_of, turns_left}
-use Rattle.ih_cellbook.specs.Copied.{Copied, most_copied}
 use Rattle.ih_cellbook.specs.Laws.{HasNoneBy}
 use Rattle.ih_cellbook.specs.Offered.{Offered}
 use Rattle.ih_cellbook.specs.Offers.{HasSeenOwn, IsRightOffer, next_number}
 use Rattle.ih_desk.specs.Desks.{base_of}
 use Rattle.ih_cellbook.specs.Replicas.{IsReplicaIn}
+use Rattle.ih_cellbook.specs.Told.{TellsOf}
 use Rattle.ih_cellbook.proofs.Within.{offered-right, seen-within, stands-behind, stands-same}
 use Rattle.ih_desk.specs.Progress.{Progress}
 use Rattle.ih_desk.specs.Searchers.{IsWithin}
@@ -16,16 +16,6 @@ use Rattle.ih_desk.proofs.searcher.Searcher.offer.Goals as goal
 pub offer_and_look-seat-requires-clause-left : goal.offer_and_look-seat-requires-clause-left
 offer_and_look-seat-requires-clause-left g c =
     has-turn (base_of c.args.desk.now) (history c.args.seat) c.args.self.now.replica (turns_left c.args.seat) c.requires.caught_up.within.replica c.requires.turns
-
-pub offer_and_look-seat-requires-clause-from : goal.offer_and_look-seat-requires-clause-from
-offer_and_look-seat-requires-clause-from g c =
-    let b = base_of c.args.desk.now in
-    let H = history c.args.seat in
-    let s = g.C.Replicates.copied c.price.new.self in
-    let r = g.C.Replicates.copied c.self.inside.replica in
-    let within = subst (λ (x : Progress). IsWithin b c.args.self.now.each (number_of c.args.seat) H x) (sym c.self.view_is) c.requires.caught_up.within in
-    let most = seen-within b H s (stands-same b H r within.replica s c.price.ensures.same) in
-    subst (λ n. n ≤ length H) (sym (ap (λ (x : Copied). x.from) c.set_from.ensures ∙ c.seen.ensures)) most
 
 pub offer_and_look-seat-requires-clause-right : goal.offer_and_look-seat-requires-clause-right
 offer_and_look-seat-requires-clause-right g c =
@@ -73,11 +63,17 @@ returns-clause-attempted g c =
     (ap (λ (x : Offered). x.number) c.last.ensures ∙ offered.number)
     (ap (λ (x : Offered). x.moves) c.last.ensures ∙ offered.move) c.offer_and_look-seat.ensures.history
 
-pub returns-clause-shown : goal.returns-clause-shown
-returns-clause-shown g c =
+pub returns-clause-told : goal.returns-clause-told
+returns-clause-told g c =
+    let b = base_of c.args.desk.now in
+    let H = history c.args.seat in
     let G = history c.offer_and_look-seat.result.0 in
-    subst (λ n. c.offer_and_look-seat.new.buffer ≡ record { from = n; entries = take most_copied (drop n G); front = length G })
-    (ap (λ (x : Copied). x.from) c.set_from.ensures ∙ c.seen.ensures) c.offer_and_look-seat.ensures.copied
+    let s = g.C.Replicates.copied c.price.new.self in
+    let r = g.C.Replicates.copied c.self.inside.replica in
+    let within = subst (λ (x : Progress). IsWithin b c.args.self.now.each (number_of c.args.seat) H x) (sym c.self.view_is) c.requires.caught_up.within in
+    let stands = within.replica in
+    let same = (c.price.ensures.offer b (take r.seen H) stands).seen ∙ sym (c.price.ensures.same b (take r.seen H) stands).seen in
+    subst (λ n. TellsOf G n c.offer_and_look-seat.new.news) (ap (λ (x : Offered). x.seen) c.last.ensures ∙ same) c.offer_and_look-seat.ensures.told
 
 pub returns-clause-new : goal.returns-clause-new
 returns-clause-new g c =
