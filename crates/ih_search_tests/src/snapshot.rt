@@ -13,7 +13,7 @@ use crate::rounds::{catch_up, offer};
 use crate::steps::{
     FIRST_NURSE, JOIN, SECOND_NURSE, TWICE_STALE, have_prices, hot, is, is_in_range,
 };
-use ih_cellbook::{Book, Buffer};
+use ih_cellbook::{Book, Buffer, News};
 use ih_costs::Ledgers;
 use ih_fixtures::{first_admitted, two_patients};
 use ih_footprint::Numbering;
@@ -56,7 +56,7 @@ fn act(
     book: &mut Book<'_>,
     replica: &mut Replica<'_>,
     options: &Options,
-    buffer: &mut Buffer,
+    news: &mut News,
     step: &Step,
 ) -> Told
     requires instance { inst.now.draft ≡ book.old.base.instance }
@@ -68,7 +68,7 @@ fn act(
 {
     match *step {
         Looks => {
-            let (seen, front) = catch_up(book, replica, buffer);
+            let (seen, front) = catch_up(book, replica, news);
             Seen(seen, front)
         }
         Offers(number, mv) => {
@@ -87,7 +87,7 @@ fn act_by(
     zero: &mut Replica<'_>,
     one: &mut Replica<'_>,
     options: &Options,
-    buffer: &mut Buffer,
+    news: &mut News,
     worker: u32,
     step: &Step,
 ) -> Told
@@ -100,9 +100,9 @@ fn act_by(
     ensures one { IsReplicaIn book.old.base book.new.entries one.new }
 {
     if worker == 0 {
-        act(inst, book, zero, options, buffer, step)
+        act(inst, book, zero, options, news, step)
     } else {
-        act(inst, book, one, options, buffer, step)
+        act(inst, book, one, options, news, step)
     }
 }
 
@@ -113,7 +113,7 @@ fn act_all(
     zero: &mut Replica<'_>,
     one: &mut Replica<'_>,
     options: &Options,
-    buffer: &mut Buffer,
+    news: &mut News,
     rows: &[Row],
 ) -> bool
     requires instance { inst.now.draft ≡ book.old.base.instance }
@@ -123,7 +123,7 @@ fn act_all(
     ensures base { book.new.base ≡ book.old.base }
 {
     for (worker, step, expected) in rows {
-        if act_by(inst, book, zero, one, options, buffer, *worker, step) != *expected {
+        if act_by(inst, book, zero, one, options, news, *worker, step) != *expected {
             return false;
         }
     }
@@ -146,10 +146,10 @@ fn act_first(
     requires empty { book.old.entries ≡ [] }
     ensures base { book.new.base ≡ book.old.base }
 {
-    let mut buffer = Buffer::new(alloc)?;
+    let mut news = News::new(alloc)?;
     let mut zero = Replica::new(alloc, inst, start, options, freeze, 0)?;
     let mut one = Replica::new(alloc, inst, start, options, freeze, 1)?;
-    Ok(act_all(inst, book, &mut zero, &mut one, options, &mut buffer, rows))
+    Ok(act_all(inst, book, &mut zero, &mut one, options, &mut news, rows))
 }
 
 // The bill of the start.
@@ -324,7 +324,8 @@ fn are_raised(book: &Book<'_>, cells: u32) -> bool
     cells > 14 && book.versions(14) == 1 && book.versions(12) == 0
 }
 
-// Whether an accepted entry raises the versions of what it touches and a stale one doesn't, and both are copied.
+// Whether an accepted entry raises the versions of what it touches and a stale one doesn't, and both are copied, but
+// the accepted one alone is told.
 fn accepted_entries_raise_versions(
     alloc: Global,
     inst: &Instance,
@@ -344,11 +345,14 @@ fn accepted_entries_raise_versions(
     let mut buffer = Buffer::new(alloc)?;
     book.copy_since(0, &mut buffer);
     let both = buffer.entries().len() == 2 && buffer.front() == 2;
+    let mut news: News = News::new(alloc)?;
+    book.news_since(0, &mut news);
+    let one = news.accepted().len() == 1 && news.until() == 2 && news.front() == 2;
     if book.entries().len() != 2 {
         return Ok(false);
     }
     book.copy_since(2, &mut buffer);
-    Ok(told && raised && both && buffer.entries().is_empty())
+    Ok(told && raised && both && one && buffer.entries().is_empty())
 }
 
 // A worker's offers of moves that do nothing, each after a look, and then four looks of another.
@@ -376,7 +380,7 @@ fn are_untouched(book: &Book<'_>, cells: u32) -> bool
     true
 }
 
-// Whether looks show 256 entries each, and 600 moves that do nothing touch no cell and change no timetable.
+// Whether looks tell of 256 accepted entries each, and 600 moves that do nothing touch no cell and change no timetable.
 fn looks_show_256_each(alloc: Global, inst: &Instance, start: &Plan) -> Result<bool, AllocError>
     requires { IsPlanOf inst.now.draft start.now }
 {
