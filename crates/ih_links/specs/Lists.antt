@@ -1,5 +1,5 @@
 -- Lists of numbered nodes, one for each head.
-use Rattle.std.specs.Prelude.{◌≡◌, ◌<◌, ℕ, Bool, true, false, ◌||◌, ◌==◌, if◌then◌else◌, List, [], ◌∷◌, Option, Some, None, slice_index_or}
+use Rattle.std.specs.Prelude.{◌≡◌, ◌<◌, ℕ, Bool, true, false, ◌||◌, ◌==◌, if◌then◌else◌, List, [], ◌∷◌, ◌++◌, Option, Some, None, slice_index_or}
 
 -- The list of each head, and how many nodes there are.
 pub record Linked : Type 0 where
@@ -19,6 +19,11 @@ has x (y ∷ ys) = (y == x) || has x ys
 abbrev pub without : ℕ → List ℕ → List ℕ
 without x [] = []
 without x (y ∷ ys) = if y == x then without x ys else y ∷ without x ys
+
+-- the list, and x too where it is there
+abbrev pub with_if : Bool → ℕ → List ℕ → List ℕ
+with_if true x xs = xs ++ x ∷ []
+with_if false x xs = xs
 
 -- no number stands twice in the list
 abbrev pub IsOnce : List ℕ → Type 0

@@ -4,10 +4,12 @@ use Rattle.std.specs.Prelude.{◌||◌, ◌&&◌, ◌==◌, slice_index_or, slic
 use Rattle.std.proofs.lemmas.Bool.{cases_eq, eq-eqb, ne_eqb, eqb-true, or_cases}
 use Rattle.std.proofs.lemmas.List.{get_or-set_same, get_or-set_other, length-set}
 use Rattle.ih_links.specs.Lists.{Linked, has, list_of}
+use Rattle.ih_links.specs.Days.{on_day}
 use Rattle.ih_links.proofs.Members.{has-append, once-append}
 use Rattle.ih_roomdays.specs.declared.rows.Rows.{Rows}
-use Rattle.ih_roomdays.specs.Rows.{AreRows, IsEntered, on_day, persons_at, is_at}
-use Rattle.ih_roomdays.proofs.DaySpans.{or-false, and-false, span-none, span-past, span-more}
+use Rattle.ih_roomdays.specs.Rows.{AreRows, IsEntered, persons_at, is_at}
+use Rattle.ih_links.proofs.Others.{or-false}
+use Rattle.ih_roomdays.proofs.DaySpans.{and-false, span-none, span-past, span-more}
 use Rattle.ih_roomdays.proofs.Replacements.{IsDay, IsReplaced, everywhere}
 use Rattle.ih_plan.specs.Presence.{in_span}
 
@@ -30,7 +32,7 @@ turned x y = elim (cases_eq x y) [
 
 -- Person x is put behind the last of room's list of day k.
 module _ (v : Rows) (rows : AreRows v) (room x k : ℕ) (room_below : room < v.rooms) (k_below : k < v.days) (x_below : x < v.persons) (nowhere : (r : ℕ) → is_at v r k x ≡ false)
-    (old day : Linked) (old_is : old ≡ on_day v k) where
+    (old day : Linked) (old_is : old ≡ on_day v.links.items k) where
   pub free : (r : ℕ) → has x (list_of old r) ≡ false
   free r = ap (λ (l : Linked). has x (list_of l r)) old_is ∙ nowhere r
 
@@ -38,15 +40,15 @@ module _ (v : Rows) (rows : AreRows v) (room x k : ℕ) (room_below : room < v.r
   longer = persons_at v room k ++ x ∷ []
 
   module _ (lists_are : day.lists ≡ slice_set old.lists room (list_of old room ++ x ∷ [])) (nodes_are : day.nodes ≡ old.nodes) where
-    lists-now : day.lists ≡ slice_set (on_day v k).lists room longer
+    lists-now : day.lists ≡ slice_set (on_day v.links.items k).lists room longer
     lists-now = rw old_is at lists_are
 
     pub longer-day : IsDay v room k longer day
     longer-day = record {
-      heads = ap length lists-now ∙ (length-set (on_day v k).lists room longer ∙ rows.each_room k k_below);
+      heads = ap length lists-now ∙ (length-set (on_day v.links.items k).lists room longer ∙ rows.each_room k k_below);
       numbers = nodes_are ∙ (ap (λ (l : Linked). l.nodes) old_is ∙ rows.numbers k k_below);
-      here = ap (λ ls. slice_index_or ls room []) lists-now ∙ get_or-set_same (on_day v k).lists room longer [] (rw (rows.each_room k k_below) room_below);
-      others = λ r ne. ap (λ ls. slice_index_or ls r []) lists-now ∙ get_or-set_other (on_day v k).lists room r longer [] ne;
+      here = ap (λ ls. slice_index_or ls room []) lists-now ∙ get_or-set_same (on_day v.links.items k).lists room longer [] (rw (rows.each_room k k_below) room_below);
+      others = λ r ne. ap (λ ls. slice_index_or ls r []) lists-now ∙ get_or-set_other (on_day v.links.items k).lists room r longer [] ne;
       once = once-append (persons_at v room k) x (rows.once room k k_below) (nowhere room);
       known = λ y there. elim (or_cases (is_at v room k y) (x == y) (sym (has-append y (persons_at v room k) x) ∙ there)) [
         | inl before ↦ rows.known room k y k_below before

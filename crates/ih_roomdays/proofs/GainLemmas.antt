@@ -16,10 +16,9 @@ use Rattle.ih_plan.specs.Persons.{person_of}
 use Rattle.ih_plan.specs.Presence.{covers}
 use Rattle.ih_plan.specs.Cells.{part_at}
 use Rattle.ih_plan.specs.BillOf.{as_bill}
-use Rattle.ih_links.specs.Lists.{without}
+use Rattle.ih_links.specs.Lists.{without, with_if}
 use Rattle.ih_roomdays.specs.declared.bills.RoomDayCounts.{RoomDayCounts}
 use Rattle.ih_roomdays.specs.declared.rows.Rows.{Rows}
-use Rattle.ih_roomdays.specs.Company.{with_if}
 use Rattle.ih_roomdays.specs.Ledger.{IsLedgerOf}
 use Rattle.ih_roomdays.specs.Parts.{room_day_part, room_counts}
 use Rattle.ih_roomdays.specs.Rows.{persons_at}

@@ -5,10 +5,11 @@ use Rattle.std.proofs.lemmas.Bool.{cases_eq, eq-eqb, ne_eqb}
 use Rattle.std.proofs.lemmas.List.{length-map}
 use Rattle.std.proofs.Math.ListN.{get_or-map}
 use Rattle.ih_links.specs.Lists.{Linked, has, list_of, without}
+use Rattle.ih_links.specs.Days.{on_day}
 use Rattle.ih_links.proofs.Members.{apart, has-without_self, has-without_other, length-without, once-without, without-none}
 use Rattle.ih_roomdays.specs.declared.rows.Rows.{Rows}
 use Rattle.ih_roomdays.specs.Profiles.{most_persons}
-use Rattle.ih_roomdays.specs.Rows.{AreRows, IsLeft, on_day, persons_at, is_at}
+use Rattle.ih_roomdays.specs.Rows.{AreRows, IsLeft, persons_at, is_at}
 use Rattle.ih_roomdays.proofs.DaySpans.{and-true, and-false, span-none, span-past, span-more}
 use Rattle.ih_roomdays.proofs.People.{persons-few}
 use Rattle.ih_roomdays.proofs.Replacements.{IsDay, IsReplaced, everywhere}
@@ -27,16 +28,16 @@ left-begin v x a rows = record {
 
 -- Person x is taken out of the room's list of day k; it is in no other.
 module _ (v : Rows) (rows : AreRows v) (room x k : ℕ) (k_below : k < v.days) (there : (r : ℕ) → is_at v r k x ≡ (room == r))
-    (old day : Linked) (old_is : old ≡ on_day v k) (lists_are : day.lists ≡ map (without x) old.lists) (nodes_are : day.nodes ≡ old.nodes) where
-  lists-now : day.lists ≡ map (without x) (on_day v k).lists
+    (old day : Linked) (old_is : old ≡ on_day v.links.items k) (lists_are : day.lists ≡ map (without x) old.lists) (nodes_are : day.nodes ≡ old.nodes) where
+  lists-now : day.lists ≡ map (without x) (on_day v.links.items k).lists
   lists-now = rw old_is at lists_are
 
   all-left : (r : ℕ) → list_of day r ≡ without x (persons_at v r k)
-  all-left r = ap (λ ls. slice_index_or ls r []) lists-now ∙ get_or-map (without x) (on_day v k).lists r []
+  all-left r = ap (λ ls. slice_index_or ls r []) lists-now ∙ get_or-map (without x) (on_day v.links.items k).lists r []
 
   pub shorter-day : IsDay v room k (without x (persons_at v room k)) day
   shorter-day = record {
-    heads = ap length lists-now ∙ (length-map (on_day v k).lists (without x) ∙ rows.each_room k k_below);
+    heads = ap length lists-now ∙ (length-map (on_day v.links.items k).lists (without x) ∙ rows.each_room k k_below);
     numbers = nodes_are ∙ (ap (λ (l : Linked). l.nodes) old_is ∙ rows.numbers k k_below);
     here = all-left room;
     others = λ r ne. all-left r ∙ without-none x (persons_at v r k) (there r ∙ ne_eqb room r (λ e. ne (sym e)));
@@ -97,5 +98,5 @@ there-yet old v room x a k so_far below there r =
     so_far.each r k x below ∙ (ap (λ b. is_at old r k x && not ((x == x) && b)) (span-past a k) ∙ (rw (and-false (x == x)) (and-true (is_at old r k x)) ∙ there r))
 
 -- so it is in a list of the day
-pub linked : (v : Rows) (room x k : ℕ) → ((r : ℕ) → is_at v r k x ≡ (room == r)) → (old : Linked) → old ≡ on_day v k → (r : ℕ) × (has x (list_of old r) ≡ true)
+pub linked : (v : Rows) (room x k : ℕ) → ((r : ℕ) → is_at v r k x ≡ (room == r)) → (old : Linked) → old ≡ on_day v.links.items k → (r : ℕ) × (has x (list_of old r) ≡ true)
 linked v room x k there old old_is = (room, ap (λ (l : Linked). has x (list_of l room)) old_is ∙ (there room ∙ eq-eqb room room refl))

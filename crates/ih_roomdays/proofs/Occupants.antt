@@ -15,7 +15,8 @@ use Rattle.ih_roomdays.specs.declared.rows.Rows.{Rows}
 use Rattle.ih_roomdays.specs.Rows.{AreRows, AreVacant, IsEntered, is_at, of_stay}
 use Rattle.ih_roomdays.specs.Profiles.{AreProfiles}
 use Rattle.ih_roomdays.specs.Ledger.{IsLedgerOf}
-use Rattle.ih_roomdays.proofs.DaySpans.{or-false, and-false}
+use Rattle.ih_links.proofs.Others.{or-false}
+use Rattle.ih_roomdays.proofs.DaySpans.{and-false}
 use Rattle.ih_roomdays.proofs.Standing.{nobody-past}
 use Rattle.ih_roomdays.proofs.StayLemmas.{nowhere, span-covers}
 

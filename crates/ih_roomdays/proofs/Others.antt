@@ -1,7 +1,6 @@
 -- The part of a room and a day with a person there or not, from the list of the others.
-use Rattle.std.proofs.Common.{◌≡◌, ℕ, ◌*◌, ◌<◌, ◌≤◌, refl, arith, sym, ap, subst, ◌∙◌, Bool, true, false, List, length, Option, inl, inr}
-use Rattle.std.specs.Prelude.{◌||◌, ◌==◌, option_map}
-use Rattle.std.proofs.lemmas.Bool.{cases_eq, eq-eqb, ne_eqb, or_right}
+use Rattle.std.proofs.Common.{◌≡◌, ℕ, ◌*◌, ◌<◌, ◌≤◌, arith, sym, ap, ◌∙◌, Bool, true, false, List, length, Option}
+use Rattle.std.specs.Prelude.{option_map}
 use Rattle.ih_tables.specs.declared.drafts.Draft.{Draft}
 use Rattle.ih_tables.specs.declared.ids.PatientNo.{PatientNo}
 use Rattle.ih_tables.specs.declared.ids.RoomNo.{RoomNo}
@@ -16,17 +15,16 @@ use Rattle.ih_plan.specs.Presence.{is_in, is_present, placed_at, present}
 use Rattle.ih_plan.specs.Persons.{person_of}
 use Rattle.ih_plan.specs.Cells.{part_at}
 use Rattle.ih_plan.proofs.Entries.{admission-patient, admission-set}
-use Rattle.ih_links.specs.Lists.{IsOnce, has, without}
-use Rattle.ih_links.proofs.Members.{has-append, has-without_self, has-without_other, length-once, once-append, once-without, without-none}
+use Rattle.ih_links.specs.Lists.{AreNodes, has, without, with_if}
+use Rattle.ih_links.proofs.Members.{length-once, without-none}
+use Rattle.ih_links.proofs.Others.{with-each, with-once, with-known}
 use Rattle.ih_roomdays.specs.declared.profiles.Profile.{Profile}
 use Rattle.ih_roomdays.specs.declared.rows.Rows.{Rows}
-use Rattle.ih_roomdays.specs.Company.{with_if}
 use Rattle.ih_roomdays.specs.Ledger.{IsLedgerOf}
 use Rattle.ih_roomdays.specs.Profiles.{most_persons, profile_of}
 use Rattle.ih_roomdays.specs.Parts.{room_day_part, room_counts}
 use Rattle.ih_roomdays.specs.Rows.{AreRows, is_at, crowd_at, persons_at}
 use Rattle.ih_roomdays.proofs.StayLemmas.{others}
-use Rattle.ih_roomdays.proofs.DaySpans.{or-false}
 use Rattle.ih_roomdays.proofs.Orders.{AreAlike}
 use Rattle.ih_roomdays.proofs.Tallies.{some-there}
 use Rattle.ih_roomdays.proofs.Standing.{has-present, part-alike}
@@ -37,33 +35,16 @@ module _ (v : Rows) (rows : AreRows v) (r d x : ℕ) (day : d < v.days) where
   abbrev pub rest : List ℕ
   rest = without x (persons_at v r d)
 
-  rest-once : IsOnce rest
-  rest-once = once-without x (persons_at v r d) (rows.once r d day)
-
-  pub with-once : (b : Bool) → IsOnce (with_if b x rest)
-  with-once true = once-append rest x rest-once (has-without_self x (persons_at v r d))
-  with-once false = rest-once
-
-  pub has-own : (b : Bool) → has x (with_if b x rest) ≡ b
-  has-own true = has-append x rest x ∙ or_right (has x rest) (x == x) (eq-eqb x x refl)
-  has-own false = has-without_self x (persons_at v r d)
-
-  pub has-other : (b : Bool) (y : ℕ) → (y ≡ x → ⊥) → has y (with_if b x rest) ≡ is_at v r d y
-  has-other b y ne = more b ∙ has-without_other y x (persons_at v r d) ne
-    where
-      more : (b : Bool) → has y (with_if b x rest) ≡ has y rest
-      more true = has-append y rest x ∙ (ap (λ e. has y rest || e) (ne_eqb x y (λ e. ne (sym e))) ∙ or-false (has y rest))
-      more false = refl
-
   -- they are persons of the instance, and few
-  pub with-known : x < v.persons → (b : Bool) (y : ℕ) → has y (with_if b x rest) ≡ true → y < v.persons
-  with-known below b y there = elim (cases_eq y x) [
-    | inl own ↦ rw own below
-    | inr ne ↦ rows.known r d y day (sym (has-other b y ne) ∙ there)
-  ]
+  pub rest-known : x < v.persons → (b : Bool) → AreNodes v.persons (with_if b x rest)
+  rest-known below b = with-known b x (persons_at v r d) (record { below = λ y there. rows.known r d y day there; once = rows.once r d day }) below
 
   pub with-few : x < v.persons → (b : Bool) → length (with_if b x rest) ≤ most_persons
-  with-few below b = let all = length-once v.persons (with_if b x rest) (with-once b) (with-known below b) in let few = rows.few_persons in omega arith
+  with-few below b =
+      let nodes = rest-known below b in
+      let all = length-once v.persons (with_if b x rest) nodes.once nodes.below in
+      let few = rows.few_persons in
+      omega arith
 
   -- where the person isn't there, all are others
   pub rest-all : is_at v r d x ≡ false → rest ≡ persons_at v r d
@@ -88,13 +69,11 @@ module _ (I : Draft) (P : Timetable) (v : Rows) (stands : IsLedgerOf I P v) (p :
   -- at a timetable at which the others are where they were
   part-of : (Q : Timetable) (b : Bool) → ((x : ℕ) → (x ≡ p.0 → ⊥) → is_present I Q r.0 d.0 x ≡ is_present I P r.0 d.0 x) → is_present I Q r.0 d.0 p.0 ≡ b
       → room_day_part (room_counts I r.0 (company b)) ≡ part_at I Q (RoomDay r d)
-  part-of Q b same own = part-alike I Q r d (company b) (with-once v stands.rows r.0 d.0 p.0 within b) alike
+  part-of Q b same own = part-alike I Q r d (company b) (with-once b p.0 (persons_at v r.0 d.0) (stands.rows.once r.0 d.0 within)) alike
     where
       alike : AreAlike (company b) (present I Q r.0 d.0)
-      alike x = elim (cases_eq x p.0) [
-        | inl e ↦ subst (λ y. has y (company b) ≡ has y (present I Q r.0 d.0)) (sym e) (has-own v stands.rows r.0 d.0 p.0 within b ∙ sym (has-present I Q r.0 d.0 p.0 ∙ own))
-        | inr ne ↦ has-other v stands.rows r.0 d.0 p.0 within b x ne ∙ (stands.each r.0 d.0 x day ∙ sym (has-present I Q r.0 d.0 x ∙ same x ne))
-      ]
+      alike = with-each b p.0 (persons_at v r.0 d.0) (λ x. has x (present I Q r.0 d.0)) (has-present I Q r.0 d.0 p.0 ∙ own)
+          (λ x ne. stands.each r.0 d.0 x day ∙ sym (has-present I Q r.0 d.0 x ∙ same x ne))
 
   -- the patient, with this stay, is there
   abbrev there_by : Option Placement → Bool

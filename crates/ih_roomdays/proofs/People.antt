@@ -6,6 +6,7 @@ use Rattle.std.proofs.lemmas.Bool.{cases_lt, ne_eqb, false_from_ne_true}
 use Rattle.std.proofs.lemmas.List.{get_or_read}
 use Rattle.std.proofs.lemmas.Nat.{mul-add-lt}
 use Rattle.ih_links.specs.Lists.{Linked, has, IsOnce}
+use Rattle.ih_links.specs.Days.{on_day}
 use Rattle.ih_links.proofs.Members.{lacks, length-once, once-append}
 use Rattle.ih_plan.proofs.Lists.{has as has_number, has-which_below, which_below-has, has-listed}
 use Rattle.ih_plan.specs.Sums.{which_below, is_listed}
@@ -13,7 +14,7 @@ use Rattle.ih_roomdays.specs.declared.companies.Crowd.{Crowd}
 use Rattle.ih_roomdays.specs.declared.rows.Rows.{Rows}
 use Rattle.ih_roomdays.specs.Company.{IsSmall, nobody}
 use Rattle.ih_roomdays.specs.Profiles.{most_persons}
-use Rattle.ih_roomdays.specs.Rows.{AreRows, empty_day, on_day, persons_at, crowd_at}
+use Rattle.ih_roomdays.specs.Rows.{AreRows, persons_at, crowd_at}
 use Rattle.ih_roomdays.proofs.Tallies.{company-small}
 
 -- two tests of what is in a list agree
@@ -25,8 +26,8 @@ pub has-is_listed : (x : ℕ) (xs : List ℕ) → has x xs ≡ is_listed x xs
 has-is_listed x xs = has-number x xs ∙ has-listed x xs
 
 -- what is read of a day is its lists
-pub day-read : (v : Rows) (d : ℕ) (day : Linked) → AreRows v → d < v.days → day ≡ get_or v.links.items d day → day ≡ on_day v d
-day-read v d day rows below e = get_or_read v.links.items d day (rw rows.each_day below) e (empty_day 0 0)
+pub day-read : (v : Rows) (d : ℕ) (day : Linked) → AreRows v → d < v.days → day ≡ get_or v.links.items d day → day ≡ on_day v.links.items d
+day-read v d day rows below e = get_or_read v.links.items d day (rw rows.each_day below) e (record { lists = []; nodes = 0 })
 
 -- a room and a day have a place among what is kept
 pub place-inside : (v : Rows) (r d : ℕ) → r < v.rooms → d < v.days → r * v.days + d < v.rooms * v.days

@@ -1,15 +1,16 @@
 -- The list of one room and one day is replaced, and what is kept beside it.
-use Rattle.std.proofs.Common.{◌≡◌, ℕ, ◌+◌, ◌*◌, ◌<◌, refl, sym, ap, subst, ◌∙◌, true, List, length, inl, inr}
+use Rattle.std.proofs.Common.{◌≡◌, ℕ, ◌+◌, ◌*◌, ◌<◌, refl, sym, ap, subst, ◌∙◌, true, List, [], length, inl, inr}
 use Rattle.std.specs.Prelude.{slice_index_or, slice_set}
 use Rattle.std.specs.Global.{Vec}
 use Rattle.std.proofs.lemmas.Bool.{cases_eq}
 use Rattle.std.proofs.lemmas.List.{get_or-set_same, get_or-set_other, length-set}
 use Rattle.std.proofs.lemmas.Nat.{same_from_place}
 use Rattle.ih_links.specs.Lists.{Linked, has, list_of, IsOnce}
+use Rattle.ih_links.specs.Days.{on_day}
 use Rattle.ih_roomdays.specs.declared.companies.Crowd.{Crowd}
 use Rattle.ih_roomdays.specs.declared.rows.Rows.{Rows}
 use Rattle.ih_roomdays.specs.Company.{IsCrowd, nobody}
-use Rattle.ih_roomdays.specs.Rows.{AreRows, empty_day, on_day, persons_at, crowd_at}
+use Rattle.ih_roomdays.specs.Rows.{AreRows, persons_at, crowd_at}
 use Rattle.ih_roomdays.proofs.People.{place-inside}
 
 -- A day's lists that differ from those before in the room's list alone: that is xs, whose persons are known, each once.
@@ -48,15 +49,15 @@ module _ (v : Rows) (rows : AreRows v) (room k : ℕ) (room_below : room < v.roo
   abbrev after : Rows
   after = record v { links = links; crowds = crowds }
 
-  today : on_day after k ≡ day
-  today = ap (λ ls. slice_index_or ls k (empty_day 0 0)) links_are ∙ get_or-set_same v.links.items k day (empty_day 0 0) (rw rows.each_day k_below)
+  today : on_day after.links.items k ≡ day
+  today = ap (λ ls. on_day ls k) links_are ∙ get_or-set_same v.links.items k day (record { lists = []; nodes = 0 }) (rw rows.each_day k_below)
 
-  other-day : (d : ℕ) → (d ≡ k → ⊥) → on_day after d ≡ on_day v d
-  other-day d ne = ap (λ ls. slice_index_or ls d (empty_day 0 0)) links_are ∙ get_or-set_other v.links.items k d day (empty_day 0 0) ne
+  other-day : (d : ℕ) → (d ≡ k → ⊥) → on_day after.links.items d ≡ on_day v.links.items d
+  other-day d ne = ap (λ ls. on_day ls d) links_are ∙ get_or-set_other v.links.items k d day (record { lists = []; nodes = 0 }) ne
 
-  every-day : (A : Linked → Type 0) → A day → ((d : ℕ) → d < v.days → A (on_day v d)) → (d : ℕ) → d < v.days → A (on_day after d)
+  every-day : (A : Linked → Type 0) → A day → ((d : ℕ) → d < v.days → A (on_day v.links.items d)) → (d : ℕ) → d < v.days → A (on_day after.links.items d)
   every-day A this others d below = elim (cases_eq d k) [
-    | inl same ↦ subst (λ e. A (on_day after e)) (sym same) (subst A (sym today) this)
+    | inl same ↦ subst (λ e. A (on_day after.links.items e)) (sym same) (subst A (sym today) this)
     | inr other ↦ subst A (sym (other-day d other)) (others d below)
   ]
 

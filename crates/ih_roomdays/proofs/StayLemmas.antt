@@ -19,7 +19,8 @@ use Rattle.ih_roomdays.specs.declared.rows.Rows.{Rows}
 use Rattle.ih_roomdays.specs.Rows.{IsEntered, IsLeft, is_at, of_stay}
 use Rattle.ih_roomdays.specs.Profiles.{AreProfiles}
 use Rattle.ih_roomdays.specs.Ledger.{IsLedgerOf}
-use Rattle.ih_roomdays.proofs.DaySpans.{or-false, and-true, and-false}
+use Rattle.ih_links.proofs.Others.{or-false}
+use Rattle.ih_roomdays.proofs.DaySpans.{and-true, and-false}
 
 -- within the horizon a stay has the days before its end or the horizon's, whichever comes first
 pub span-covers : (a n days d : ℕ) → d < days → in_span a (min (a + n) days) d ≡ covers a n d

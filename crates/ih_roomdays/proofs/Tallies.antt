@@ -1,14 +1,15 @@
 -- What one person more, or one less, makes of what is kept of persons.
-use Rattle.std.proofs.Common.{◌≡◌, ℕ, ◌+◌, ◌-◌, ◌*◌, ◌%◌, ◌^◌, ◌<◌, ◌≤◌, refl, arith, sym, ap, subst, ◌∙◌, true, false, List, [], ◌∷◌, ◌++◌, length, length-append, min, w64, bit_and, bit_or, inl, inr}
-use Rattle.std.specs.Prelude.{◌==◌, sum_by}
+use Rattle.std.proofs.Common.{◌≡◌, ℕ, ◌+◌, ◌-◌, ◌*◌, ◌%◌, ◌^◌, ◌<◌, ◌≤◌, refl, arith, sym, ap, subst, ◌∙◌, true, List, [], ◌∷◌, ◌++◌, length, length-append, min, w64, bit_and, bit_or, inl, inr}
+use Rattle.std.specs.Prelude.{◌==◌}
 use Rattle.std.specs.Int.{bit_at, bit_not}
 use Rattle.std.proofs.Math.Bool.{cond}
 use Rattle.std.proofs.lemmas.Bool.{cases_eq, eq-eqb, ne_eqb}
-use Rattle.std.proofs.lemmas.List.Sums.{sum_by-cons, sum_by_push, sum_by-le}
+use Rattle.std.proofs.lemmas.List.Sums.{sum_by_push, sum_by-le}
 use Rattle.std.proofs.lemmas.Nat.{one_shl, mul-le}
 use Rattle.std.proofs.lemmas.Nat.Bits.{bit_at_and, bit_at_or, bit_at_not, bit_at-zero, bit_at-pow_same, bit_at-pow_other, bit_at_set_same, bit_at_set_other}
 use Rattle.ih_links.specs.Lists.{IsOnce, has, without}
-use Rattle.ih_links.proofs.Members.{has-cases, length-without, without-here, without-there, without-none}
+use Rattle.ih_links.proofs.Members.{length-without}
+use Rattle.ih_links.proofs.Others.{sum-without}
 use Rattle.ih_roomdays.specs.declared.companies.Company.{Company}
 use Rattle.ih_roomdays.specs.declared.companies.Crowd.{Crowd}
 use Rattle.ih_roomdays.specs.declared.profiles.Profiles.{Profiles}
@@ -75,18 +76,6 @@ module _ (p : Profiles) (xs : List ℕ) (x age : ℕ) (age_is : age ≡ age_numb
       ]
 
 -- ---- one less
-
--- a sum over a list is what one gives and the sum over the others
-sum-without : (f : ℕ → ℕ) (x : ℕ) (xs : List ℕ) → IsOnce xs → has x xs ≡ true → sum_by f (without x xs) + f x ≡ sum_by f xs
-sum-without f x [] once there = absurd (cc)
-sum-without f x (y ∷ ys) once there = elim (has-cases x y ys there) [
-  | inl e ↦
-      let rest : without x (y ∷ ys) ≡ ys = without-here x y ys e ∙ without-none x ys (ap (λ z. has z ys) (sym e) ∙ once.0) in
-      rw (rest, sum_by-cons f y ys) (omega (arith, ap f e))
-  | inr later ↦
-      let ne : y ≡ x → ⊥ = λ e. let no : false ≡ true = sym once.0 ∙ (ap (λ z. has z ys) e ∙ later) in absurd (cc) in
-      rw (without-there x y ys ne, sum_by-cons f y (without x ys), sum_by-cons f y ys) (omega (arith, sum-without f x ys once.1 later))
-]
 
 module _ (p : Profiles) (xs : List ℕ) (x : ℕ) (once : IsOnce xs) (there : has x xs ≡ true) (age : ℕ) (age_is : age ≡ age_number p x) (below : age < 64) where
   abbrev kept : ℕ

@@ -1,5 +1,5 @@
 -- What is kept of the persons in a room on a day: sums of their gender numbers, and bits of their age groups.
-use Rattle.std.specs.Prelude.{◌≡◌, ℕ, ◌-◌, ◌*◌, ◌<◌, ◌≤◌, ◌==◌, Bool, true, false, List, [], ◌∷◌, ◌++◌, length, min}
+use Rattle.std.specs.Prelude.{◌≡◌, ℕ, ◌-◌, ◌*◌, ◌<◌, ◌≤◌, ◌==◌, List, length, min}
 use Rattle.std.specs.Int.{bit_at}
 use Rattle.std.specs.List.{count_by, sum_by}
 use Rattle.ih_roomdays.specs.declared.companies.Company.{Company}
@@ -33,8 +33,3 @@ pub record IsSmall (c : Company) : Type 0 where
 -- nobody
 abbrev pub nobody : Crowd
 nobody = record { company = record { ages = 0; squares = 0; genders = 0; count = 0 }; twice = 0 }
-
--- the persons xs, and person x too where it is there
-abbrev pub with_if : Bool → ℕ → List ℕ → List ℕ
-with_if true x xs = xs ++ x ∷ []
-with_if false x xs = xs

@@ -1,6 +1,7 @@
 -- Lists of who is in which room on which day.
-use Rattle.std.specs.Prelude.{◌≡◌, ℕ, ◌+◌, ◌*◌, ◌^◌, ◌<◌, ◌≤◌, Bool, true, false, ◌==◌, ◌&&◌, ◌||◌, not, List, [], length, replicate, slice_index_or}
-use Rattle.ih_links.specs.Lists.{Linked, has, list_of, IsOnce}
+use Rattle.std.specs.Prelude.{◌≡◌, ℕ, ◌+◌, ◌*◌, ◌^◌, ◌<◌, ◌≤◌, Bool, true, false, ◌==◌, ◌&&◌, ◌||◌, not, List, length, slice_index_or}
+use Rattle.ih_links.specs.Lists.{has, list_of, IsOnce}
+use Rattle.ih_links.specs.Days.{on_day}
 use Rattle.ih_roomdays.specs.declared.companies.Crowd.{Crowd}
 use Rattle.ih_roomdays.specs.declared.profiles.Profiles.{Profiles}
 use Rattle.ih_roomdays.specs.declared.rows.Rows.{Rows}
@@ -8,17 +9,9 @@ use Rattle.ih_roomdays.specs.Profiles.{AreInRange, most_persons}
 use Rattle.ih_roomdays.specs.Company.{IsCrowd, nobody}
 use Rattle.ih_plan.specs.Presence.{in_span}
 
--- a day's lists with nobody in any room
-abbrev pub empty_day : ℕ → ℕ → Linked
-empty_day rooms persons = record { lists = replicate rooms []; nodes = persons }
-
--- the lists of day d, one for each room
-abbrev pub on_day : Rows → ℕ → Linked
-on_day v d = slice_index_or v.links.items d (empty_day 0 0)
-
 -- the persons in room r on day d
 abbrev pub persons_at : Rows → ℕ → ℕ → List ℕ
-persons_at v r d = list_of (on_day v d) r
+persons_at v r d = list_of (on_day v.links.items d) r
 
 -- what is kept of them
 abbrev pub crowd_at : Rows → ℕ → ℕ → Crowd
@@ -32,8 +25,8 @@ is_at v r d x = has x (persons_at v r d)
 -- and what is kept beside it is so of its persons.
 pub record AreRows (v : Rows) : Type 0 where
   pub each_day : length v.links.items ≡ v.days
-  pub each_room : (d : ℕ) → d < v.days → length (on_day v d).lists ≡ v.rooms
-  pub numbers : (d : ℕ) → d < v.days → (on_day v d).nodes ≡ v.persons
+  pub each_room : (d : ℕ) → d < v.days → length (on_day v.links.items d).lists ≡ v.rooms
+  pub numbers : (d : ℕ) → d < v.days → (on_day v.links.items d).nodes ≡ v.persons
   pub few_places : v.rooms * v.days < 2 ^ 32
   pub few_persons : v.persons ≤ most_persons
   pub profiles : AreInRange v.persons v.profiles

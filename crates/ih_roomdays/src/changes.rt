@@ -4,10 +4,10 @@ ghost use Rattle.std.specs.Prelude.{◌≡◌, ◌<◌, ◌+◌, ◌^◌, ◌&&�
 ghost use Rattle.ih_tables.specs.Sizes.{patient_count, person_count, room_count};
 ghost use Rattle.ih_plan.specs.Presence.{is_in, placed_at, covers};
 ghost use Rattle.ih_plan.specs.Persons.{person_of};
-ghost use Rattle.ih_links.specs.Lists.{AreNodes, without};
+ghost use Rattle.ih_links.specs.Lists.{AreNodes, without, with_if};
 ghost use Rattle.ih_roomdays.specs.Rows.{AreRows, persons_at, is_at};
 ghost use Rattle.ih_roomdays.specs.declared.profiles.Profiles.{Profiles};
-ghost use Rattle.ih_roomdays.specs.Company.{IsCompany, IsSmall, with_if};
+ghost use Rattle.ih_roomdays.specs.Company.{IsCompany, IsSmall};
 ghost use Rattle.ih_roomdays.specs.Profiles.{AreProfiles, ArePersons, profile_of};
 ghost use Rattle.ih_roomdays.specs.Parts.{room_counts};
 

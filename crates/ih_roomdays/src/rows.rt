@@ -1,12 +1,12 @@
 //! Lists of who is in which room on which day.
 
-ghost use Rattle.std.specs.Prelude.{◌≡◌, ℕ, ◌*◌, ◌^◌, ◌<◌, ◌≤◌, ◌==◌, false, replicate, IfOk};
+ghost use Rattle.std.specs.Prelude.{◌≡◌, ℕ, ◌*◌, ◌^◌, ◌<◌, ◌≤◌, ◌==◌, false, IfOk};
 ghost use Rattle.ih_roomdays.specs.Profiles.{AreInRange, most_persons};
-ghost use Rattle.ih_roomdays.specs.Rows.{AreRows, AreVacant, IsEntered, IsLeft, empty_day, is_at};
+ghost use Rattle.ih_roomdays.specs.Rows.{AreRows, AreVacant, IsEntered, IsLeft, is_at};
 
 use crate::companies::{Crowd, NOBODY, crowd_of};
 use crate::profiles::Profiles;
-use ih_links::Links;
+use ih_links::{Links, empty_days};
 use std::alloc::{AllocError, Global};
 
 /// For each day the persons in each room, and what is kept of them.
@@ -20,17 +20,6 @@ pub struct Rows {
     pub profiles: Profiles,
     /// What is kept of each list's persons: those of room 0 first, rising by day.
     pub crowds: Vec<Crowd>,
-}
-
-// Lists for each day and room, with nobody in any.
-fn vacant(alloc: Global, rooms: u32, days: u32, persons: u32) -> Result<Vec<Links>, AllocError>
-    ensures { IfOk result (λ links. links.items ≡ replicate days (empty_day rooms persons)) }
-{
-    let mut links = Vec::with_capacity(alloc, days as usize)?;
-    for _ in 0..days {
-        links.push(Links::new(alloc, rooms, persons)?)?;
-    }
-    Ok(links)
 }
 
 impl Rows {
@@ -47,7 +36,7 @@ impl Rows {
         requires profiles { AreInRange persons profiles }
         ensures { IfOk result (λ rows. AreVacant rooms days persons profiles rows) }
     {
-        let links = vacant(alloc, rooms, days, persons)?;
+        let links = empty_days(alloc, days, rooms, persons)?;
         let crowds = vec![in alloc; NOBODY; (rooms * days) as usize]?;
         Ok(Rows {
             links,

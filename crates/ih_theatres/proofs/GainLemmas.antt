@@ -13,7 +13,7 @@ use Rattle.ih_tables.specs.declared.cells.Cell.TheVariants.{TheatreDay, SurgeonD
 use Rattle.ih_tables.specs.declared.bills.Bill.{Bill}
 use Rattle.ih_tables.specs.Bills.{sub_bills}
 use Rattle.ih_tables.specs.Sizes.{patient_count, theatre_count}
-use Rattle.ih_links.specs.Lists.{has, without, list_of}
+use Rattle.ih_links.specs.Lists.{has, without, with_if, list_of}
 use Rattle.ih_plan.specs.declared.moves.Placement.{Placement}
 use Rattle.ih_plan.specs.declared.moves.Write.TheVariants.{SetStay}
 use Rattle.ih_plan.specs.Timetable.{Timetable, IsPlanOf, stay_of}
@@ -24,7 +24,7 @@ use Rattle.ih_plan.specs.Cells.{part_at}
 use Rattle.ih_plan.specs.Costs.{operated_in, admitted_on, is_number, surgeon_of, minutes, is_empty, theatre_minutes, surgeon_minutes}
 use Rattle.ih_plan.proofs.Entries.{stay_of-other, stay_of-same}
 use Rattle.ih_theatres.specs.declared.theatres.Theatres.{Theatres}
-use Rattle.ih_theatres.specs.Days.{day_number, theatre_at, with_if}
+use Rattle.ih_theatres.specs.Days.{day_number, theatre_at}
 use Rattle.ih_theatres.specs.Ledger.{IsLedgerOf}
 use Rattle.ih_theatres.specs.Marks.{is_marked}
 use Rattle.ih_theatres.specs.Parts.{theatre_part, surgeon_part}

@@ -11,8 +11,9 @@ use Rattle.ih_tables.specs.declared.ids.SurgeonNo.{SurgeonNo}
 use Rattle.ih_tables.specs.declared.ids.Day.{Day}
 use Rattle.ih_tables.specs.declared.cells.Cell.TheVariants.{TheatreDay, SurgeonDay}
 use Rattle.ih_tables.specs.Sizes.{patient_count, theatre_count}
-use Rattle.ih_links.specs.Lists.{AreNodes, IsOnce, has, without, list_of}
-use Rattle.ih_links.proofs.Members.{apart, has-append, has-here, has-there, has-without_self, has-without_other, length-without, once-append, once-without, without-here, without-there, without-none}
+use Rattle.ih_links.specs.Lists.{AreNodes, IsOnce, has, without, with_if, list_of}
+use Rattle.ih_links.proofs.Members.{apart, has-here, has-there, has-without_self, length-without, without-none}
+use Rattle.ih_links.proofs.Others.{or-false, sum-without, with-each, with-known}
 use Rattle.ih_plan.specs.declared.moves.Placement.{Placement}
 use Rattle.ih_plan.specs.Timetable.{Timetable, IsPlanOf, stay_of}
 use Rattle.ih_plan.specs.Sums.{bit, count_below, which_below}
@@ -21,37 +22,17 @@ use Rattle.ih_plan.specs.Costs.{operated, operated_by, operated_in, admitted_on,
 use Rattle.ih_plan.proofs.Lists.{tagged-keys, tagged-values}
 use Rattle.ih_plan.proofs.SumLemmas.{sum_below-same, sum_below-but}
 use Rattle.ih_theatres.specs.declared.theatres.Theatres.{Theatres}
-use Rattle.ih_theatres.specs.Days.{day_number, theatre_at, with_if}
+use Rattle.ih_theatres.specs.Days.{day_number, theatre_at}
 use Rattle.ih_theatres.specs.Ledger.{IsLedgerOf}
 use Rattle.ih_theatres.specs.Marks.{is_marked, is_unmarked}
 use Rattle.ih_theatres.specs.Parts.{theatre_part, surgeon_part}
 use Rattle.ih_theatres.proofs.DayLemmas.{sum-of_passing, any-of_passing, empty-of_passing}
 use Rattle.ih_theatres.proofs.PartLemmas.{theatre-each, surgeon-each, theatre-known}
 
-or-false : (b : Bool) → (b || false) ≡ b
-or-false true = refl
-or-false false = refl
-
 -- ---- a list without one
 
--- a sum over a list is that over the others, and the one's where it is in the list
-sum-without : (f : ℕ → ℕ) (p : ℕ) (xs : List ℕ) → IsOnce xs → sum_by f xs ≡ sum_by f (without p xs) + (if has p xs then f p else 0)
-sum-without f p [] once = refl
-sum-without f p (x ∷ xs) once = elim (cases_eq x p) [
-  | inl e ↦
-      let gone : sum_by f (without p (x ∷ xs)) ≡ sum_by f xs = ap (sum_by f) (without-here p x xs e ∙ without-none p xs (subst (λ y. has y xs ≡ false) e once.0)) in
-      let there : (if has p (x ∷ xs) then f p else 0) ≡ f p = ap (λ b. if b then f p else 0) (has-here p x xs e) in
-      let mine : f x ≡ f p = ap f e in
-      omega (arith, gone, there, mine, sum_by-cons f x xs)
-  | inr ne ↦
-      let rest = sum-without f p xs once.1 in
-      let kept : sum_by f (without p (x ∷ xs)) ≡ sum_by f (x ∷ without p xs) = ap (sum_by f) (without-there p x xs ne) in
-      let same : (if has p (x ∷ xs) then f p else 0) ≡ (if has p xs then f p else 0) = ap (λ b. if b || has p xs then f p else 0) (ne_eqb x p ne) in
-      omega (arith, rest, kept, same, sum_by-cons f x xs, sum_by-cons f x (without p xs))
-]
-
 pub minutes-there : (I : Draft) (p : ℕ) (xs : List ℕ) → IsOnce xs → has p xs ≡ true → minutes I xs ≡ minutes I (without p xs) + duration_of I p
-minutes-there I p xs once there = sum-without (duration_of I) p xs once ∙ ap (λ b. minutes I (without p xs) + (if b then duration_of I p else 0)) there
+minutes-there I p xs once there = sym (sum-without (duration_of I) p xs once there)
 
 pub minutes-away : (I : Draft) (p : ℕ) (xs : List ℕ) → has p xs ≡ false → minutes I xs ≡ minutes I (without p xs)
 minutes-away I p xs away = ap (minutes I) (sym (without-none p xs away))
@@ -82,39 +63,6 @@ pub with-one : (b : Bool) (x : ℕ) (xs : List ℕ) (used : Bool) → used ≡ n
 with-one true x [] used e = refl
 with-one true x (y ∷ ys) used e = refl
 with-one false x xs used e = e
-
--- The numbers of a list below n, and p there or not.
-module _ {n : ℕ} {xs : List ℕ} (known : AreNodes n xs) (p : ℕ) (below : p < n) where
-  has-own : (b : Bool) → has p (with_if b p (without p xs)) ≡ b
-  has-own true = has-append p (without p xs) p ∙ or_right (has p (without p xs)) (p == p) (eq-eqb p p refl)
-  has-own false = has-without_self p xs
-
-  has-other : (b : Bool) (x : ℕ) → (x ≡ p → ⊥) → has x (with_if b p (without p xs)) ≡ has x xs
-  has-other true x ne =
-      has-append x (without p xs) p ∙ (ap (λ e. has x (without p xs) || e) (ne_eqb p x (λ e. ne (sym e)))
-      ∙ (or-false (has x (without p xs)) ∙ has-without_other x p xs ne))
-  has-other false x ne = has-without_other x p xs ne
-
-  once : (b : Bool) → IsOnce (with_if b p (without p xs))
-  once true = once-append (without p xs) p (once-without p xs known.once) (has-without_self p xs)
-  once false = once-without p xs known.once
-
-  pub some-known : (b : Bool) → AreNodes n (with_if b p (without p xs))
-  some-known b = record {
-    below = λ x there. elim (cases_eq x p) [
-      | inl e ↦ subst (λ y. y < n) (sym e) below
-      | inr ne ↦ known.below x (sym (has-other b x ne) ∙ there)
-    ];
-    once = once b;
-  }
-
-  -- who passes before passes afterwards, and p passes where it is there
-  pub some-each : (b : Bool) (before after : ℕ → Bool) → ((x : ℕ) → has x xs ≡ before x) → ((x : ℕ) → (x ≡ p → ⊥) → after x ≡ before x) → after p ≡ b
-      → (x : ℕ) → has x (with_if b p (without p xs)) ≡ after x
-  some-each b before after each same own x = elim (cases_eq x p) [
-    | inl e ↦ subst (λ y. has y (with_if b p (without p xs)) ≡ after y) (sym e) (has-own b ∙ sym own)
-    | inr ne ↦ has-other b x ne ∙ (each x ∙ sym (same x ne))
-  ]
 
 -- ---- theatres
 
@@ -168,11 +116,10 @@ module _ {I : Draft} {P : Timetable} {l : Theatres} (plan : IsPlanOf I P) (stand
       → theatre_part over used ≡ part_at I Q (TheatreDay t d)
   unfolding part_of content_of operated
   theatre-at t d b over used dh own over_is used_is =
-      let nodes = stands.theatre_days.known (day_number I t.0 d.0) in
-      let before : ℕ → Bool = λ x. operated_in t.0 d.0 (stay_of P x) in
+      let xs = list_of l.theatre_days (day_number I t.0 d.0) in
       let after : ℕ → Bool = λ x. operated_in t.0 d.0 (stay_of Q x) in
-      let some = some-known nodes p.0 known b in
-      let each = some-each nodes p.0 known b before after (theatre-each plan stands t.0 d.0 dh) (λ x ne. ap (operated_in t.0 d.0) (same x ne)) own in
+      let some = with-known b p.0 xs (stands.theatre_days.known (day_number I t.0 d.0)) known in
+      let each = with-each b p.0 xs after own (λ x ne. theatre-each plan stands t.0 d.0 dh x ∙ sym (ap (operated_in t.0 d.0) (same x ne))) in
       let sum = sum-of_passing some after each (duration_of I) in
       let none = empty-of_passing some after each in
       rw (over_is, used_is, sum, none) refl
@@ -209,14 +156,13 @@ module _ {I : Draft} {P : Timetable} {l : Theatres} (plan : IsPlanOf I P) (stand
       → surgeon_part over transfers ≡ part_at I Q (SurgeonDay s d)
   unfolding part_of content_of operated_by
   surgeon-at s d b stay marks over transfers dh now own marked over_is transfers_is =
-      let nodes = stands.surgeon_days.known (day_number I s.0 d.0) in
-      let before : ℕ → Bool = λ x. is_number (surgeon_of I x) s.0 && admitted_on d.0 (stay_of P x) in
+      let xs = list_of l.surgeon_days (day_number I s.0 d.0) in
       let after : ℕ → Bool = λ x. is_number (surgeon_of I x) s.0 && admitted_on d.0 (stay_of Q x) in
-      let some = some-known nodes p.0 known b in
-      let each = some-each nodes p.0 known b before after (surgeon-each plan stands s.0 d.0 dh) (λ x ne. ap (λ o. is_number (surgeon_of I x) s.0 && admitted_on d.0 o) (same x ne))
-      (ap (λ o. is_number (surgeon_of I p.0) s.0 && admitted_on d.0 o) now ∙ own) in
+      let some = with-known b p.0 xs (stands.surgeon_days.known (day_number I s.0 d.0)) known in
+      let each = with-each b p.0 xs after (ap (λ o. is_number (surgeon_of I p.0) s.0 && admitted_on d.0 o) now ∙ own)
+      (λ x ne. surgeon-each plan stands s.0 d.0 dh x ∙ sym (ap (λ o. is_number (surgeon_of I x) s.0 && admitted_on d.0 o) (same x ne))) in
       let sum = sum-of_passing some after each (duration_of I) in
-      let met = theatres-at (list_of l.surgeon_days (day_number I s.0 d.0)) after marks stay b some each now marked in
+      let met = theatres-at xs after marks stay b some each now marked in
       let keys = tagged-keys (theatre_of Q) (which_below (patient_count I) after) in
       let values = tagged-values (theatre_of Q) (which_below (patient_count I) after) in
       rw (over_is, transfers_is, sum, met, keys, values) refl

@@ -1,5 +1,5 @@
 -- Lists of patients by the days of theatres or of surgeons, and what they tell.
-use Rattle.std.specs.Prelude.{◌≡◌, ℕ, ◌+◌, ◌*◌, Bool, true, false, List, [], ◌∷◌, ◌++◌, Option, Some, None, length, option_map, slice_index, slice_index_or}
+use Rattle.std.specs.Prelude.{◌≡◌, ℕ, ◌+◌, ◌*◌, List, Option, Some, None, length, option_map, slice_index, slice_index_or}
 use Rattle.ih_tables.specs.declared.drafts.Draft.{Draft}
 use Rattle.ih_tables.specs.declared.ids.TheatreNo.{TheatreNo}
 use Rattle.ih_tables.specs.Sizes.{patient_count}
@@ -38,8 +38,3 @@ pub record AreMinutes (I : Draft) (v : Linked) (kept : List ℕ) : Type 0 where
 -- the theatre of patient p, in the list of all patients' theatres
 abbrev pub theatre_at : List (Option TheatreNo) → ℕ → Option ℕ
 theatre_at theatres p = option_map (λ (t : TheatreNo). t.0) (slice_index_or theatres p None)
-
--- the patients xs, and patient x too where it is there
-abbrev pub with_if : Bool → ℕ → List ℕ → List ℕ
-with_if true x xs = xs ++ x ∷ []
-with_if false x xs = xs

@@ -2,14 +2,14 @@
 
 ghost use Rattle.std.specs.Prelude.{◌≡◌, ◌<◌, ◌≤◌, ◌+◌, ◌-◌, ◌&&◌, ◌||◌, ℕ, List, not, map, length, slice_index_or, ◌==◌, option_map, IfSome, All, if◌then◌else◌, None};
 ghost use Rattle.std.specs.List.{list_any};
-ghost use Rattle.ih_links.specs.Lists.{list_of, has, without, IsOnce};
+ghost use Rattle.ih_links.specs.Lists.{list_of, has, without, with_if, IsOnce};
 ghost use Rattle.ih_tables.specs.declared.ids.TheatreNo.{TheatreNo};
 ghost use Rattle.ih_tables.specs.Sizes.{patient_count, theatre_count};
 ghost use Rattle.ih_plan.specs.Costs.{minutes, is_empty, is_number, operated_in, admitted_on, surgeon_of};
 ghost use Rattle.ih_plan.specs.Sums.{bit, count_below};
 ghost use Rattle.ih_plan.specs.declared.moves.Placement.{Placement};
 ghost use Rattle.ih_plan.specs.Timetable.{IsPlacement};
-ghost use Rattle.ih_theatres.specs.Days.{theatre_at, with_if};
+ghost use Rattle.ih_theatres.specs.Days.{theatre_at};
 ghost use Rattle.ih_theatres.specs.Marks.{is_marked, is_unmarked, AreBelow};
 
 use crate::marks::{bit, count_marked, is_marked, mark};

@@ -1,7 +1,7 @@
 use Rattle.std.proofs.Common.{[], ◌∷◌, ◌++◌, arith, true, false}
 use Rattle.ih_links.specs.Lists.{without}
 use Rattle.ih_roomdays.specs.Rows.{persons_at}
-use Rattle.ih_roomdays.proofs.Others.{with-few, with-known}
+use Rattle.ih_roomdays.proofs.Others.{rest-known, with-few}
 use Rattle.ih_roomdays.proofs.Tallies.{company-small}
 use Rattle.ih_roomdays.proofs.changes.without_and_with.Goals as goal
 
@@ -28,12 +28,12 @@ pub returns-clause-without : goal.returns-clause-without
 returns-clause-without c =
     let v = c.args.rows.now in
     c.room_counts.ensures v.profiles (without c.args.p.0 (persons_at v c.args.r.0 c.args.d.0)) c.requires.profiles
-    (λ x there. rw (← c.requires.persons) (with-known v c.requires.rows c.args.r.0 c.args.d.0 c.args.p.0 c.requires.day (omega (arith, c.requires.persons)) false x there)) c.others-rest.ensures
+    (λ x there. rw (← c.requires.persons) ((rest-known v c.requires.rows c.args.r.0 c.args.d.0 c.args.p.0 c.requires.day (omega (arith, c.requires.persons)) false).below x there)) c.others-rest.ensures
 
 pub returns-clause-with : goal.returns-clause-with
 returns-clause-with c =
     let v = c.args.rows.now in
     let rest = without c.args.p.0 (persons_at v c.args.r.0 c.args.d.0) in
     c.room_counts-2.ensures v.profiles (rest ++ c.args.p.0 ∷ []) c.requires.profiles
-    (λ x there. rw (← c.requires.persons) (with-known v c.requires.rows c.args.r.0 c.args.d.0 c.args.p.0 c.requires.day (omega (arith, c.requires.persons)) true x there))
+    (λ x there. rw (← c.requires.persons) ((rest-known v c.requires.rows c.args.r.0 c.args.d.0 c.args.p.0 c.requires.day (omega (arith, c.requires.persons)) true).below x there))
     (c.with.ensures v.profiles rest c.args.p.0 c.of-who.ensures.value c.others-rest.ensures)

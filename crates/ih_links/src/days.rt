@@ -1,0 +1,23 @@
+//! Lists of several days.
+
+ghost use Rattle.std.specs.Prelude.{◌≡◌, replicate, IfOk};
+ghost use Rattle.ih_links.specs.Days.{empty_lists};
+
+use crate::Links;
+use std::alloc::{AllocError, Global};
+
+/// For each of so many days, lists that are all empty.
+pub fn empty_days(
+    alloc: Global,
+    days: u32,
+    heads: u32,
+    nodes: u32,
+) -> Result<Vec<Links>, AllocError>
+    ensures { IfOk result (λ all. all.items ≡ replicate days (empty_lists heads nodes)) }
+{
+    let mut all = Vec::with_capacity(alloc, days as usize)?;
+    for _ in 0..days {
+        all.push(Links::new(alloc, heads, nodes)?)?;
+    }
+    Ok(all)
+}
