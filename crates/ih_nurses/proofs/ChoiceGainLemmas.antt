@@ -20,7 +20,7 @@ use Rattle.ih_plan.specs.Sums.{bit, count_below}
 use Rattle.ih_plan.proofs.Entries.{care_of-same}
 use Rattle.ih_plan.proofs.SumLemmas.{sum_below-zero, sum_below-more, sum_below-but, sum_below-same, sum_by-which_below}
 use Rattle.ih_nurses.specs.declared.stretches.Stretch.{Stretch}
-use Rattle.ih_nurses.specs.Choice.{lacking, rise_by_choice}
+use Rattle.ih_nurses.specs.Choice.{rise_by_choice}
 use Rattle.ih_nurses.specs.Counts.{AreCounts, has_just, nursed_in}
 use Rattle.ih_nurses.specs.Gains.{off_in, uncovered_in, missing_in}
 use Rattle.ih_nurses.specs.Stretches.{stretch_in}
@@ -29,8 +29,7 @@ use Rattle.ih_nurses.proofs.DifferenceLemmas.{apart-same}
 use Rattle.ih_nurses.proofs.NewlyLemmas.{any-more, has_other, has_shift, newly_seen, newly_seen_of}
 use Rattle.ih_nurses.proofs.PlacedLemmas.{uncovered-is, missing-is}
 use Rattle.ih_nurses.proofs.RoomChangeLemmas.{IsRoomList, list-alike}
-use Rattle.ih_nurses.proofs.RoomLemmas.{AreAlike, alike-empty, alike-missing, sum-values}
-use Rattle.ih_nurses.proofs.WalkLemmas.{sum-even}
+use Rattle.ih_nurses.proofs.RoomLemmas.{AreAlike, alike-empty, alike-missing}
 
 -- ---- a nurse who is met anew, by counts
 
@@ -176,11 +175,6 @@ off-is : (I : Draft) (Q : Timetable) (r : RoomNo) (k : Shift) → off_in I Q r k
 unfolding part_of content_of
 off-is I Q r k = refl
 
--- the skill that persons lack is missing
-lacking-missing : (I : Draft) (n : Option NurseNo) (skill : ℕ → ℕ) (xs : List ℕ) → sum_by (λ x. lacking I n (skill x)) xs ≡ skill_missing I (number n) (map skill xs)
-lacking-missing I None skill xs = let even = sum-even 0 xs in omega (arith, even)
-lacking-missing I (Some a) skill xs = sym (sum-values (lacking I (Some a)) skill xs)
-
 module _ (I : Draft) (P : Timetable) (r : RoomNo) (k : Shift) (new : Option NurseNo) (plan : IsPlanOf I P) (room : r.0 < room_count I) (shift : k.0 < shift_count I) where
   abbrev chosen : Timetable
   chosen = put (SetCare r k new) P
@@ -218,13 +212,13 @@ module _ (I : Draft) (P : Timetable) (r : RoomNo) (k : Shift) (new : Option Nurs
         uncovered-is I P r k ∙ rw (is, empties) refl in
         apart-same come gone (uncovered_in I chosen r k) (uncovered_in I P r k) (omega (arith, a, b, after, before))
 
-    missing-sum : (n : Option NurseNo) → sum_by (λ x. lacking I n (skill_of I P k.0 x)) (list_of day r.0) ≡ skill_missing I (number n) (map (skill_of I P k.0) (present I P r.0 (day_of k.0)))
-    missing-sum n =
-        lacking-missing I n (skill_of I P k.0) (list_of day r.0)
-        ∙ alike-missing I (number n) (skill_of I P k.0) (list_of day r.0) (present I P r.0 (day_of k.0)) alike
+    missing-sum : (n : Option NurseNo)
+        → skill_missing I (number n) (map (skill_of I P k.0) (list_of day r.0)) ≡ skill_missing I (number n) (map (skill_of I P k.0) (present I P r.0 (day_of k.0)))
+    missing-sum n = alike-missing I (number n) (skill_of I P k.0) (list_of day r.0) (present I P r.0 (day_of k.0)) alike
 
     pub missing-told : (old : Option NurseNo) (come gone : ℕ) → old ≡ choice_of P r.0 k.0
-        → come ≡ sum_by (λ x. lacking I new (skill_of I P k.0 x)) (list_of day r.0) → gone ≡ sum_by (λ x. lacking I old (skill_of I P k.0 x)) (list_of day r.0)
+        → come ≡ skill_missing I (number new) (map (skill_of I P k.0) (list_of day r.0))
+        → gone ≡ skill_missing I (number old) (map (skill_of I P k.0) (list_of day r.0))
         → pos come -ℤ pos gone ≡ rise_by_choice P r k new (λ Q. missing_in I Q r k)
     missing-told old come gone is a b =
         let after : missing_in I chosen r k ≡ skill_missing I (number new) (map (skill_of I P k.0) (present I P r.0 (day_of k.0))) =

@@ -24,6 +24,7 @@ use Rattle.ih_nurses.specs.Stretches.{stretch_in}
 use Rattle.ih_nurses.proofs.AdmitLemmas.{IsAdmission}
 use Rattle.ih_nurses.proofs.NewlyLemmas.{has_shift}
 use Rattle.ih_nurses.proofs.StretchLemmas.{stretch-kept}
+use Rattle.ih_nurses.proofs.WalkLemmas.{if-none}
 
 pub bit-few : (b : Bool) → bit b ≤ 1
 bit-few true = omega arith
@@ -48,10 +49,6 @@ pub first-few : (P : Timetable) (s : Stretch) (m j : ℕ) → first_in P s m j �
 first-few P s m j =
     let most = sum_below-le j 1 (λ i. bit (is_number (care_of P s.room.0 (s.from + i)) m)) (λ i h. bit-few (is_number (care_of P s.room.0 (s.from + i)) m)) in
     omega (arith, most)
-
-if-none : (b : Bool) → ◌≡◌ {A = ℕ} (if b then 0 else 0) 0
-if-none true = refl
-if-none false = refl
 
 module _ (P : Timetable) (x : ℕ) (s : Stretch) where
   -- person x has as many, and nobody else has any

@@ -3,22 +3,19 @@ use Rattle.std.proofs.Common.{◌≡◌, ℕ, ◌+◌, refl, arith, ap, ◌∙�
 use Rattle.std.specs.Prelude.{◌-ℤ◌}
 use Rattle.std.proofs.lemmas.Int.{ints}
 use Rattle.ih_tables.specs.declared.drafts.Draft.{Draft}
-use Rattle.ih_tables.specs.declared.ids.NurseNo.{NurseNo}
 use Rattle.ih_tables.specs.declared.ids.PersonNo.{PersonNo}
-use Rattle.ih_tables.specs.declared.ids.Shift.{Shift}
 use Rattle.ih_tables.specs.declared.bills.Bill.{Bill}
-use Rattle.ih_tables.specs.declared.cells.Cell.TheVariants.{NurseShift, Care}
+use Rattle.ih_tables.specs.declared.cells.Cell.TheVariants.{Care}
 use Rattle.ih_tables.specs.Bills.{sub_bills}
-use Rattle.ih_tables.specs.Works.{max_load}
 use Rattle.ih_plan.specs.Timetable.{Timetable}
 use Rattle.ih_plan.specs.Presence.{admission_of}
 use Rattle.ih_plan.specs.Persons.{person_of}
-use Rattle.ih_plan.specs.Costs.{overload, load_of, distinct_nurses}
+use Rattle.ih_plan.specs.Costs.{distinct_nurses}
 use Rattle.ih_plan.specs.BillOf.{as_bill}
 use Rattle.ih_plan.specs.Cells.{part_at}
 use Rattle.ih_nurses.specs.declared.bills.NursingCosts.{NursingCosts}
 use Rattle.ih_nurses.specs.Stretches.{stretch_in, nurses_over}
-use Rattle.ih_nurses.proofs.BillLemmas.{nursing, nurse-part}
+use Rattle.ih_nurses.proofs.BillLemmas.{nursing}
 use Rattle.ih_nurses.proofs.StretchLemmas.{stretch-part}
 
 -- the bill of these costs
@@ -63,18 +60,9 @@ less-same a b x y e =
     let v = apart-same a.overload b.overload x.overload y.overload e.overload in
     rw (o, u, m, s, v) refl
 
--- the costs of overload alone, and of distinct nurses alone
-abbrev pub overloaded : ℕ → NursingCosts
-overloaded n = record { off = 0; uncovered = 0; missing_skill = 0; nurses_seen = 0; overload = n }
-
+-- the costs of distinct nurses alone
 abbrev pub nursed : ℕ → NursingCosts
 nursed n = record { off = 0; uncovered = 0; missing_skill = 0; nurses_seen = n; overload = 0 }
-
-pub nurse-change : (I : Draft) (P Q : Timetable) (n : NurseNo) (k : Shift) (after before : ℕ) → after ≡ overload (max_load I n.0 k.0) (load_of I Q n.0 k.0)
-    → before ≡ overload (max_load I n.0 k.0) (load_of I P n.0 k.0)
-    → less (overloaded after) (overloaded before) ≡ sub_bills (as_bill (part_at I Q (NurseShift n k))) (as_bill (part_at I P (NurseShift n k)))
-nurse-change I P Q n k after before e f =
-    less-parts (overloaded after) (overloaded before) (nurse-part I Q n k after e) (nurse-part I P n k before f)
 
 -- the distinct nurses of each are those that are told, but for as many on both sides
 pub care-change : (I : Draft) (P Q : Timetable) (x : PersonNo) (after before : ℕ)

@@ -8,9 +8,10 @@ use Rattle.std.proofs.Math.ListN.{get_or-map}
 use Rattle.ih_tables.specs.declared.drafts.Draft.{Draft}
 use Rattle.ih_tables.specs.Sizes.{room_count}
 use Rattle.ih_links.specs.Lists.{Linked, list_of, has, without}
+use Rattle.ih_links.specs.Days.{on_day}
 use Rattle.ih_links.proofs.Members.{has-append, has-without_self, has-without_other}
 use Rattle.ih_plan.specs.Presence.{in_span}
-use Rattle.ih_nurses.specs.Here.{on_day, is_here, AreSized}
+use Rattle.ih_nurses.specs.Here.{is_here, AreSized}
 
 abbrev no_lists : Linked
 no_lists = record { lists = []; nodes = 0 }

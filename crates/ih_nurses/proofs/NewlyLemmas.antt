@@ -8,6 +8,7 @@ use Rattle.ih_tables.specs.declared.ids.RoomNo.{RoomNo}
 use Rattle.ih_tables.specs.declared.ids.Shift.{Shift}
 use Rattle.ih_tables.specs.declared.ids.NurseNo.{NurseNo}
 use Rattle.ih_tables.specs.Sizes.{nurse_count, room_count, shift_count}
+use Rattle.ih_links.proofs.Others.{or-false}
 use Rattle.ih_plan.specs.declared.moves.Write.TheVariants.{SetCare}
 use Rattle.ih_plan.specs.Timetable.{Timetable, IsPlanOf, choice_of, care_of}
 use Rattle.ih_plan.specs.Writes.{put}
@@ -100,10 +101,6 @@ map-same f g a (suc n) e = rw (e a (omega arith) (omega arith), map-same f g (a 
 
 -- ---- one number more
 
-or-none : (b : Bool) → (b || false) ≡ b
-or-none true = refl
-or-none false = refl
-
 or-all : (b : Bool) → (b || true) ≡ true
 or-all true = refl
 or-all false = refl
@@ -115,11 +112,11 @@ bit-not false = refl
 count-fresh : (m : ℕ) (marked : ℕ → Bool) (o : Option NurseNo) → IfSome o (λ a. a.0 < m)
     → count_below m (λ i. marked i || is_number (option_map (λ (a : NurseNo). a.0) o) i) ≡ count_below m marked + fresh marked o
 count-fresh m marked None h =
-    let same = sum_below-same m (λ i. bit (marked i || false)) (λ i. bit (marked i)) (λ i ih. ap bit (or-none (marked i))) in
+    let same = sum_below-same m (λ i. bit (marked i || false)) (λ i. bit (marked i)) (λ i ih. ap bit (or-false (marked i))) in
     omega (arith, same)
 count-fresh m marked (Some a) h =
     let change = sum_below-but m a.0 (λ i. bit (marked i || (a.0 == i))) (λ i. bit (marked i)) h
-    (λ i ih ne. rw (ne_eqb a.0 i (λ e. ne (sym e))) (ap bit (or-none (marked i)))) in
+    (λ i ih ne. rw (ne_eqb a.0 i (λ e. ne (sym e))) (ap bit (or-false (marked i)))) in
     let here : bit (marked a.0 || (a.0 == a.0)) ≡ 1 = rw (eq-eqb a.0 a.0 refl) (ap bit (or-all (marked a.0))) in
     omega (arith, change, here, bit-not (marked a.0))
 

@@ -18,7 +18,7 @@ use Rattle.ih_plan.specs.Costs.{is_empty, skill_missing, skill_level}
 use Rattle.ih_plan.specs.Sums.{bit}
 use Rattle.ih_plan.proofs.SumLemmas.{sum_below-but, sum_by-which_below}
 use Rattle.ih_plan.proofs.Entries.{admission-patient, admission-same, stay_of-other}
-use Rattle.ih_nurses.proofs.WalkLemmas.{sum-even}
+use Rattle.ih_nurses.proofs.WalkLemmas.{if-none, sum-even}
 use Rattle.ih_nurses.proofs.RoomLemmas.{AreAlike, sum-values}
 
 -- ---- what one patient's stay gives to a room in a shift
@@ -83,10 +83,6 @@ others-alike p xs ys alike = more-empty (without p xs) (without p ys) false (ome
 if-bit : (b : Bool) → (if b then 1 else 0) ≡ bit b
 if-bit true = refl
 if-bit false = refl
-
-if-none : (b : Bool) → ◌≡◌ {A = ℕ} (if b then 0 else 0) 0
-if-none true = refl
-if-none false = refl
 
 module _ {I : Draft} {P Q : Timetable} {p : ℕ} (a : IsElse I P Q p) where
   same : (x : ℕ) → (x ≡ p → ⊥) → admission_of I Q x ≡ admission_of I P x

@@ -7,6 +7,7 @@ use Rattle.ih_tables.specs.declared.ids.Shift.{Shift}
 use Rattle.ih_tables.specs.declared.cells.Cell.TheVariants.{RoomShift}
 use Rattle.ih_tables.specs.Sizes.{person_count, room_count, shift_count}
 use Rattle.ih_links.specs.Lists.{Linked, list_of, AreNodes, without}
+use Rattle.ih_links.specs.Days.{on_day}
 use Rattle.ih_plan.specs.Timetable.{Timetable, care_of}
 use Rattle.ih_plan.specs.Presence.{present, day_of, skill_of}
 use Rattle.ih_plan.specs.Costs.{not_working, is_empty, skill_missing}
@@ -14,7 +15,7 @@ use Rattle.ih_plan.specs.BillOf.{as_bill}
 use Rattle.ih_plan.specs.Cells.{part_at}
 use Rattle.ih_plan.specs.Sums.{bit}
 use Rattle.ih_nurses.specs.declared.bills.NursingCosts.{NursingCosts}
-use Rattle.ih_nurses.specs.Here.{AreHere, on_day}
+use Rattle.ih_nurses.specs.Here.{AreHere}
 use Rattle.ih_nurses.proofs.DifferenceLemmas.{bill_in}
 use Rattle.ih_nurses.proofs.HereLemmas.{read-here}
 use Rattle.ih_nurses.proofs.OwnLemmas.{others-alike}

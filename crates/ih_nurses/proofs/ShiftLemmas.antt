@@ -8,6 +8,7 @@ use Rattle.ih_tables.specs.declared.ids.Shift.{Shift}
 use Rattle.ih_tables.specs.declared.ids.NurseNo.{NurseNo}
 use Rattle.ih_tables.specs.Sizes.{person_count, room_count, nurse_count, shift_count}
 use Rattle.ih_links.specs.Lists.{Linked, list_of, has, AreNodes}
+use Rattle.ih_links.specs.Days.{on_day}
 use Rattle.ih_plan.specs.declared.moves.Write.TheVariants.{SetCare}
 use Rattle.ih_plan.specs.Timetable.{Timetable, IsPlanOf, choice_of}
 use Rattle.ih_plan.specs.Writes.{put}
@@ -15,7 +16,7 @@ use Rattle.ih_plan.specs.Presence.{is_present, present, day_of}
 use Rattle.ih_plan.specs.Costs.{is_number}
 use Rattle.ih_plan.proofs.SumLemmas.{sum_below-same, sum_by-which_below}
 use Rattle.ih_plan.proofs.Loads.{room_load}
-use Rattle.ih_nurses.specs.Here.{AreHere, on_day}
+use Rattle.ih_nurses.specs.Here.{AreHere}
 use Rattle.ih_nurses.specs.declared.loads.NurseLoad.{NurseLoad}
 use Rattle.ih_nurses.specs.Loads.{IsTable, AreLoads, load_at, share}
 use Rattle.ih_nurses.proofs.HereLemmas.{read-here}

@@ -1,13 +1,15 @@
 -- The empty timetable's lists and loads.
 use Rattle.std.proofs.Common.{◌≡◌, ℕ, zero, suc, ◌+◌, ◌-◌, ◌*◌, ◌<◌, refl, ap, arith, map, sym, subst, ◌∙◌, Bool, true, false, inl, inr, List, [], ◌∷◌, ◌++◌, replicate, Option, Some, None, min, Result, Ok, Err, IfOk}
-use Rattle.std.specs.Prelude.{◌||◌, ◌&&◌, ◌==◌, nat_lt, slice_get, slice_index_or, option_and_then}
+use Rattle.std.specs.Prelude.{◌||◌, ◌&&◌, ◌==◌, nat_lt, slice_get, option_and_then}
 use Rattle.std.proofs.lemmas.Bool.{cases_eq, cases_lt, eq-eqb, ne_eqb, lt-ltb, le-ltb, and_right}
-use Rattle.std.proofs.lemmas.List.{get_or-replicate, replicate-append-replicate}
+use Rattle.std.proofs.lemmas.List.{get_or-replicate}
 use Rattle.std.proofs.Math.ListN.{length-replicate}
 use Rattle.ih_tables.specs.declared.drafts.Draft.{Draft}
 use Rattle.ih_tables.specs.declared.drafts.Occupant.{Occupant}
 use Rattle.ih_tables.specs.Sizes.{patient_count, occupant_count, person_count, room_count, nurse_count, shift_count}
-use Rattle.ih_links.specs.Lists.{Linked, has}
+use Rattle.ih_links.specs.Lists.{Linked}
+use Rattle.ih_links.specs.Days.{empty_lists}
+use Rattle.ih_links.proofs.EmptyDays.{empty-day, empty-list}
 use Rattle.ih_plan.specs.Timetable.{Timetable, empty, stay_of, care_of}
 use Rattle.ih_plan.specs.Presence.{Admission, admission_of, covers, in_span, is_present}
 use Rattle.ih_plan.specs.Persons.{person_of}
@@ -20,7 +22,7 @@ use Rattle.std.proofs.lemmas.List.FromFn.{map-range_with_len_more, get_or-map-ra
 use Rattle.ih_plan.proofs.SumLemmas.{sum_below-same}
 use Rattle.ih_plan.proofs.SumBounds.{sum_below-none}
 use Rattle.ih_plan.proofs.Loads.{nurse_load}
-use Rattle.ih_nurses.specs.Here.{is_here, AreSized, AreVacant, AreFilled, AreHere}
+use Rattle.ih_nurses.specs.Here.{is_here, AreSized, AreFilled, AreHere}
 use Rattle.ih_nurses.specs.declared.loads.NurseLoad.{NurseLoad}
 use Rattle.ih_nurses.specs.Loads.{AreLoads, entry_at, free_load, most_of}
 use Rattle.ih_nurses.specs.Counts.{AreCounts, count_of, nursed_in}
@@ -87,52 +89,23 @@ counts-none I counts e = record {
   each = λ x n xh nh. rw e (get_or-replicate (person_count I * nurse_count I) (x * nurse_count I + n) 0 0 (count-inside I x n xh nh) ∙ sym (no-count I x n));
 }
 
--- ---- days with nobody
-
--- one list for each room, all empty
-abbrev pub no_persons : Draft → Linked
-no_persons I = record { lists = replicate (room_count I) []; nodes = person_count I }
-
-pub vacant-more : (I : Draft) (here new : List Linked) (d : ℕ) (day : Linked) → here ≡ replicate d (no_persons I) → day.lists ≡ replicate (room_count I) [] → day.nodes ≡ person_count I
-    → new ≡ here ++ day ∷ [] → new ≡ replicate (d + 1) (no_persons I)
-vacant-more I here new d day before lists nodes pushed =
-    let is : day ≡ no_persons I = rw (← lists, ← nodes) refl in
-    rw (pushed, before, is) (replicate-append-replicate d 1 (no_persons I))
-
-nobody-listed : (n r x : ℕ) → has x (slice_index_or (replicate n []) r []) ≡ false
-nobody-listed zero r x = refl
-nobody-listed (suc n) zero x = refl
-nobody-listed (suc n) (suc r) x = nobody-listed n r x
-
-nobody-here : (I : Draft) (n r d x : ℕ) → is_here (replicate n (no_persons I)) r d x ≡ false
-nobody-here I zero r d x = refl
-nobody-here I (suc n) r zero x = nobody-listed (room_count I) r x
-nobody-here I (suc n) r (suc d) x = nobody-here I n r d x
-
-pub vacant-all : (I : Draft) (here : List Linked) → here ≡ replicate I.days (no_persons I) → AreVacant I here
-vacant-all I here e =
-    let day = λ (d : ℕ) (h : d < I.days). get_or-replicate I.days d (no_persons I) (record { lists = []; nodes = 0 }) h in
-    record {
-      sized = record {
-        days = rw e (length-replicate I.days (no_persons I));
-        rooms = λ d h. rw (e, day d h) (length-replicate (room_count I) []);
-        persons = λ d h. rw (e, day d h) refl;
-      };
-      nobody = λ r d x. rw e (nobody-here I I.days r d x);
-    }
-
 -- ---- the occupants, one after the other
 
 pub no-stay : (I : Draft) (p : ℕ) → stay_of (empty I) p ≡ None
 no-stay I p = none-read (patient_count I) p
 
-pub filled-none : (I : Draft) (here : List Linked) → AreVacant I here → AreFilled I here 0
-filled-none I here vacant = record {
-  sized = vacant.sized;
-  each = λ r d x rh dh xh. vacant.nobody r d x ∙ elim (cases_lt x (patient_count I)) [
+-- nobody is in any list of days that are empty
+pub filled-none : (I : Draft) (here : List Linked) → here ≡ replicate I.days (empty_lists (room_count I) (person_count I)) → AreFilled I here 0
+filled-none I here e = record {
+  sized = record {
+    days = rw e (length-replicate I.days (empty_lists (room_count I) (person_count I)));
+    rooms = λ d h. rw (e, empty-day (room_count I) (person_count I) I.days d h) (length-replicate (room_count I) []);
+    persons = λ d h. rw (e, empty-day (room_count I) (person_count I) I.days d h) refl;
+  };
+  each = λ r d x rh dh xh. rw (e, empty-list (room_count I) (person_count I) I.days d r) (elim (cases_lt x (patient_count I)) [
     | inl patient ↦ rw (absent-from I (empty I) x r d patient (no-stay I x)) (sym (and_right (nat_lt x (patient_count I + 0)) false refl))
     | inr past ↦ rw (le-ltb x (patient_count I + 0) (omega arith)) refl
-  ];
+  ]);
 }
 
 -- an occupant is in its room from day 0 on

@@ -1,5 +1,5 @@
 -- What a stay adds to the table of loads, shift by shift.
-use Rattle.std.proofs.Common.{◌≡◌, ℕ, ◌+◌, ◌-◌, ◌*◌, ◌/◌, ◌<◌, ◌≤◌, refl, arith, sym, Bool, true, false, inl, inr, List, Option}
+use Rattle.std.proofs.Common.{◌≡◌, ℕ, ◌+◌, ◌-◌, ◌*◌, ◌/◌, ◌<◌, ◌≤◌, refl, arith, sym, true, false, inl, inr, List, Option}
 use Rattle.std.specs.Prelude.{if◌then◌else◌, nat_lt, nat_le, min, slice_index}
 use Rattle.std.proofs.lemmas.Bool.{cases_eq, cases_lt, eq-eqb, ne_eqb, lt-ltb, le-ltb, le-leb, lt-leb, and_right}
 use Rattle.ih_tables.specs.declared.drafts.Draft.{Draft}
@@ -12,6 +12,7 @@ use Rattle.ih_plan.specs.Presence.{covers, day_of}
 use Rattle.ih_plan.specs.Costs.{is_number}
 use Rattle.ih_nurses.specs.declared.loads.NurseLoad.{NurseLoad}
 use Rattle.ih_nurses.specs.Loads.{IsTable, load_at, share, stay_load}
+use Rattle.ih_nurses.proofs.WalkLemmas.{if-none}
 
 covers-in : (a n days k : ℕ) → 3 * a ≤ k → k < 3 * min (a + n) days → covers a n (day_of k) ≡ true
 covers-in a n days k low high =
@@ -29,13 +30,9 @@ covers-after a n days k low high =
     let above : a + n ≤ k / 3 = omega arith in
     rw (le-ltb (k / 3) (a + n) above) (and_right (nat_le a (k / 3)) false refl)
 
-no-load : (b : Bool) → ◌≡◌ {A = ℕ} (if b then 0 else 0) 0
-no-load true = refl
-no-load false = refl
-
 module _ (I : Draft) (P : Timetable) (p : ℕ) (at : Placement) where
   outside : (m j : ℕ) → covers at.day.0 (person_of I p).length_of_stay (day_of j) ≡ false → stay_load I P p at m j ≡ 0
-  outside m j e = rw e (no-load (is_number (care_of P at.room.0 j) m))
+  outside m j e = rw e (if-none (is_number (care_of P at.room.0 j) m))
 
   -- what the stay gives in the shifts before k
   abbrev pub given_before : ℕ → ℕ → ℕ → ℕ

@@ -1,5 +1,5 @@
 -- What another choice of nurse for a room's shift changes: numbers of the parts of the cells that it touches.
-use Rattle.std.specs.Prelude.{ℕ, ℤ, pos, ◌-◌, ◌-ℤ◌, List, Option, Some, None, sum_by, slice_index}
+use Rattle.std.specs.Prelude.{ℕ, ℤ, pos, ◌-ℤ◌, List, Option, Some, None, sum_by, slice_index}
 use Rattle.ih_tables.specs.declared.drafts.Draft.{Draft}
 use Rattle.ih_tables.specs.declared.cells.Cell.TheVariants.{NurseShift, Care}
 use Rattle.ih_tables.specs.declared.ids.RoomNo.{RoomNo}
@@ -9,7 +9,6 @@ use Rattle.ih_plan.specs.declared.moves.Write.TheVariants.{SetCare}
 use Rattle.ih_plan.specs.Timetable.{Timetable}
 use Rattle.ih_plan.specs.Writes.{put}
 use Rattle.ih_plan.specs.Cells.{part_at}
-use Rattle.ih_plan.specs.Costs.{skill_level}
 
 module _ (I : Draft) (Q : Timetable) where
   -- the workload above its maximum that a nurse has in shift k, and nothing for no nurse
@@ -24,8 +23,3 @@ module _ (I : Draft) (Q : Timetable) where
 -- by how much a number rises with another choice of nurse, or none
 abbrev pub rise_by_choice : Timetable → RoomNo → Shift → Option NurseNo → (Timetable → ℕ) → ℤ
 rise_by_choice P r k new f = pos (f (put (SetCare r k new) P)) -ℤ pos (f P)
-
--- how much a skill is above the nurse's, where there is one
-abbrev pub lacking : Draft → Option NurseNo → ℕ → ℕ
-lacking I None skill = 0
-lacking I (Some a) skill = skill - skill_level I a.0

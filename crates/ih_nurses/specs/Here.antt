@@ -1,14 +1,11 @@
 -- Who is in each room on each day, as lists of persons.
-use Rattle.std.specs.Prelude.{◌≡◌, ◌<◌, ℕ, ◌+◌, Bool, false, nat_lt, ◌&&◌, List, [], length, slice_index_or}
+use Rattle.std.specs.Prelude.{◌≡◌, ◌<◌, ℕ, ◌+◌, Bool, nat_lt, ◌&&◌, List, length}
 use Rattle.ih_tables.specs.declared.drafts.Draft.{Draft}
 use Rattle.ih_tables.specs.Sizes.{patient_count, person_count, room_count}
 use Rattle.ih_links.specs.Lists.{Linked, list_of, has}
+use Rattle.ih_links.specs.Days.{on_day}
 use Rattle.ih_plan.specs.Timetable.{Timetable, empty}
 use Rattle.ih_plan.specs.Presence.{is_present}
-
--- the lists of a day, one for each room
-abbrev pub on_day : List Linked → ℕ → Linked
-on_day here d = slice_index_or here d (record { lists = []; nodes = 0 })
 
 -- person x is in the list of room r on day d
 abbrev pub is_here : List Linked → ℕ → ℕ → ℕ → Bool
@@ -24,11 +21,6 @@ pub record AreSized (I : Draft) (here : List Linked) : Type 0 where
 pub record AreHere (I : Draft) (P : Timetable) (here : List Linked) : Type 0 where
   pub sized : AreSized I here
   pub each : (r d x : ℕ) → r < room_count I → d < I.days → x < person_count I → is_here here r d x ≡ is_present I P r d x
-
--- Each room's list of each day is empty.
-pub record AreVacant (I : Draft) (here : List Linked) : Type 0 where
-  pub sized : AreSized I here
-  pub nobody : (r d x : ℕ) → is_here here r d x ≡ false
 
 -- The lists have the first k occupants where they are present, and nobody else.
 pub record AreFilled (I : Draft) (here : List Linked) (k : ℕ) : Type 0 where

@@ -29,54 +29,6 @@ fn entry_of(inst: &Instance, plan: &Plan, x: u32, k: u32) -> u32
     }
 }
 
-/// The workload that the person makes in the shift.
-#[tactic(auto, unfolding(ih_plan::specs::Persons::person_of))]
-#[inline(always)]
-pub fn workload_of(inst: &Instance, plan: &Plan, x: u32, k: u32) -> u32
-    requires plan { IsPlanOf inst.now.draft plan.now }
-    requires person { x < person_count inst.now.draft }
-    ensures value { result ≡ workload_of inst.now.draft plan.now k x }
-    ensures bound { result ≤ 100000 }
-{
-    let at = entry_of(inst, plan, x, k) as usize;
-    let patients = inst.patients();
-    if x < patients {
-        let a = inst.patient(PatientNo(x));
-        a.workload_produced.as_slice().get(at).copied().unwrap_or(0)
-    } else {
-        let o = inst.occupant(x - patients);
-        o.workload_produced.as_slice().get(at).copied().unwrap_or(0)
-    }
-}
-
-/// The skill that the person requires in the shift.
-#[tactic(auto, unfolding(ih_plan::specs::Persons::person_of))]
-#[inline(always)]
-pub fn skill_of(inst: &Instance, plan: &Plan, x: u32, k: u32) -> u32
-    requires plan { IsPlanOf inst.now.draft plan.now }
-    requires person { x < person_count inst.now.draft }
-    ensures value { result ≡ skill_of inst.now.draft plan.now k x }
-    ensures bound { result ≤ 1000 }
-{
-    let at = entry_of(inst, plan, x, k) as usize;
-    let patients = inst.patients();
-    if x < patients {
-        let a = inst.patient(PatientNo(x));
-        a.skill_level_required
-            .as_slice()
-            .get(at)
-            .copied()
-            .unwrap_or(0)
-    } else {
-        let o = inst.occupant(x - patients);
-        o.skill_level_required
-            .as_slice()
-            .get(at)
-            .copied()
-            .unwrap_or(0)
-    }
-}
-
 /// What is asked of a nurse for a person in a shift.
 #[derive(Clone, Copy)]
 pub struct Asked {

@@ -1,13 +1,13 @@
 //! What the persons in a room give to the bill with each of two choices of nurse, added up by one walk over their list.
 
-ghost use Rattle.std.specs.Prelude.{◌≡◌, ◌<◌, ◌≤◌, ◌-◌, ◌*◌, ℕ, length, sum_by, IfSome};
+ghost use Rattle.std.specs.Prelude.{◌≡◌, ◌<◌, ◌≤◌, ◌-◌, ◌*◌, ◌∷◌, [], ℕ, length, map, sum_by, option_map, IfSome};
 ghost use Rattle.ih_tables.specs.declared.ids.NurseNo.{NurseNo};
 ghost use Rattle.ih_tables.specs.Sizes.{person_count, nurse_count};
 ghost use Rattle.ih_links.specs.Lists.{list_of, AreNodes};
 ghost use Rattle.ih_plan.specs.Timetable.{IsPlanOf};
 ghost use Rattle.ih_plan.specs.Presence.{workload_of, skill_of};
+ghost use Rattle.ih_plan.specs.Costs.{skill_missing};
 ghost use Rattle.ih_nurses.specs.Counts.{has_just};
-ghost use Rattle.ih_nurses.specs.Choice.{lacking};
 
 use crate::counts::count;
 use crate::persons::asked_of;
@@ -34,7 +34,8 @@ pub struct RoomSums {
 #[inline(always)]
 fn level_of(inst: &Instance, n: Option<NurseNo>) -> u32
     requires { IfSome n (λ a. a.0 < nurse_count inst.now.draft) }
-    ensures { (skill : ℕ) → skill ≤ 1000 → skill - result ≡ lacking inst.now.draft n skill }
+    ensures { (skill : ℕ) → skill ≤ 1000
+        → skill - result ≡ skill_missing inst.now.draft (option_map (λ (a : NurseNo). a.0) n) (skill ∷ []) }
 {
     match n {
         None => u32::MAX,
@@ -82,8 +83,10 @@ pub fn room_sums(
     requires new { IfSome new (λ a. a.0 < nurse_count inst.now.draft) }
     requires old { IfSome old (λ a. a.0 < nurse_count inst.now.draft) }
     ensures work { result.work ≡ sum_by (workload_of inst.now.draft plan.now k.0) (list_of persons.now r.0) }
-    ensures new_missing { result.new_missing ≡ sum_by (λ x. lacking inst.now.draft new (skill_of inst.now.draft plan.now k.0 x)) (list_of persons.now r.0) }
-    ensures old_missing { result.old_missing ≡ sum_by (λ x. lacking inst.now.draft old (skill_of inst.now.draft plan.now k.0 x)) (list_of persons.now r.0) }
+    ensures new_missing { result.new_missing ≡ skill_missing inst.now.draft (option_map (λ (a : NurseNo). a.0) new)
+        (map (skill_of inst.now.draft plan.now k.0) (list_of persons.now r.0)) }
+    ensures old_missing { result.old_missing ≡ skill_missing inst.now.draft (option_map (λ (a : NurseNo). a.0) old)
+        (map (skill_of inst.now.draft plan.now k.0) (list_of persons.now r.0)) }
     ensures come { result.come ≡ sum_by (has_just inst.now.draft counts.now 0 new) (list_of persons.now r.0) }
     ensures gone { result.gone ≡ sum_by (has_just inst.now.draft counts.now 1 old) (list_of persons.now r.0) }
     ensures bound { result.work ≤ 256000000 }

@@ -10,7 +10,7 @@ ghost use Rattle.ih_plan.specs.Costs.{skill_missing, not_working, is_empty};
 ghost use Rattle.ih_plan.specs.Sums.{bit};
 
 use crate::bills::NursingCosts;
-use crate::persons::{skill_of, workload_of};
+use crate::persons::asked_of;
 use ih_links::Links;
 use ih_plan::Plan;
 use ih_tables::{Instance, NurseNo, RoomNo, Shift};
@@ -28,7 +28,8 @@ pub fn workload_in(inst: &Instance, plan: &Plan, persons: &Links, r: RoomNo, k: 
     let mut sum = 0;
     let mut at = persons.first(r.0);
     while let Some(x) = at {
-        sum += workload_of(inst, plan, x, k.0);
+        let asked = asked_of(inst, plan, x, k.0);
+        sum += asked.workload;
         at = persons.next(x);
     }
     sum
@@ -53,7 +54,8 @@ fn skill_above(
     let mut sum = 0;
     let mut at = persons.first(r.0);
     while let Some(x) = at {
-        sum += skill_of(inst, plan, x, k.0).saturating_sub(level);
+        let asked = asked_of(inst, plan, x, k.0);
+        sum += asked.skill.saturating_sub(level);
         at = persons.next(x);
     }
     sum

@@ -3,13 +3,13 @@
 ghost use Rattle.std.specs.Prelude.{◌≡◌, ◌<◌, ◌+◌, ◌*◌, IfOk};
 ghost use Rattle.ih_tables.specs.Sizes.{occupant_count, nurse_count, shift_count};
 ghost use Rattle.ih_plan.specs.Timetable.{empty};
-ghost use Rattle.ih_nurses.specs.Here.{AreVacant, AreFilled, AreHere};
+ghost use Rattle.ih_nurses.specs.Here.{AreFilled, AreHere};
 ghost use Rattle.ih_nurses.specs.Loads.{AreLoads, free_load};
 ghost use Rattle.ih_nurses.specs.Counts.{AreCounts};
 
 use crate::loads::NurseLoad;
 use crate::presence::enter_days;
-use ih_links::Links;
+use ih_links::{Links, empty_days};
 use ih_tables::{Instance, NurseNo, Shift};
 use std::alloc::{AllocError, Global};
 
@@ -48,18 +48,6 @@ pub fn no_counts(alloc: Global, inst: &Instance) -> Result<Vec<u8>, AllocError>
     Ok(counts)
 }
 
-// Lists for each day and room, with nobody in any.
-fn vacant(alloc: Global, inst: &Instance) -> Result<Vec<Links>, AllocError>
-    ensures { IfOk result (λ here. AreVacant inst.now.draft here.items) }
-{
-    let days = inst.days();
-    let mut here = Vec::with_capacity(alloc, days as usize)?;
-    for _ in 0..days {
-        here.push(Links::new(alloc, inst.rooms(), inst.persons())?)?;
-    }
-    Ok(here)
-}
-
 // Lists an occupant in its room from day 0 on, within the horizon.
 fn enter_occupant(inst: &Instance, here: &mut [Links], o: u32)
     requires occupant { o < occupant_count inst.now.draft }
@@ -73,7 +61,7 @@ fn enter_occupant(inst: &Instance, here: &mut [Links], o: u32)
 
 // Lists each occupant.
 fn enter_occupants(inst: &Instance, here: &mut [Links])
-    requires { AreVacant inst.now.draft here.old }
+    requires { AreFilled inst.now.draft here.old 0 }
     ensures { AreHere inst.now.draft (empty inst.now.draft) here.new }
 {
     for o in 0..inst.occupants() {
@@ -85,7 +73,7 @@ fn enter_occupants(inst: &Instance, here: &mut [Links])
 pub fn occupants_here(alloc: Global, inst: &Instance) -> Result<Vec<Links>, AllocError>
     ensures { IfOk result (λ here. AreHere inst.now.draft (empty inst.now.draft) here.items) }
 {
-    let mut here = vacant(alloc, inst)?;
+    let mut here = empty_days(alloc, inst.days(), inst.rooms(), inst.persons())?;
     enter_occupants(inst, here.as_mut_slice());
     Ok(here)
 }

@@ -1,7 +1,9 @@
-use Rattle.std.proofs.Common.{◌∙◌, ap, arith, subst}
+use Rattle.std.proofs.Common.{◌∙◌, ap, arith, subst, [], ◌∷◌, Option}
+use Rattle.std.specs.Prelude.{option_map}
+use Rattle.ih_tables.specs.declared.ids.NurseNo.{NurseNo}
 use Rattle.ih_links.specs.Lists.{list_of, AreNodes}
-use Rattle.ih_nurses.specs.Choice.{lacking}
-use Rattle.ih_nurses.proofs.RoomSumLemmas.{room-begins, sum-small}
+use Rattle.ih_plan.specs.Costs.{skill_missing}
+use Rattle.ih_nurses.proofs.RoomSumLemmas.{lack-all, room-begins, sum-small}
 use Rattle.ih_nurses.proofs.WalkLemmas.{sum-inside, sum-below, sum-shrinks, sum-goes_on, sum-ends, sum-most, persons-few}
 use Rattle.ih_nurses.proofs.room_sums.room_sums.Goals as goal
 
@@ -58,13 +60,14 @@ loop-at-smaller c =
 pub loop-at-preserved : goal.loop-at-preserved
 loop-at-preserved c =
     let step = c.next-at.ensures.linked c.args.r.0 (sum-inside c.loop-at.invariant.work_is c.in-Some.is) in
+    let missing = λ (n : Option NurseNo). ap (λ s. skill_missing c.args.inst.now.draft (option_map (λ (a : NurseNo). a.0) n) (s ∷ [])) c.asked_of-asked.ensures.skill in
     record {
       work_is = sum-goes_on c.loop-at.invariant.work_is c.in-Some.is step c.asked_of-asked.result.workload c.asked_of-asked.ensures.workload c.asked_of-asked.ensures.workload_bound;
       new_is = sum-goes_on c.loop-at.invariant.new_is c.in-Some.is step c.saturating_sub-new_missing.result
-          (c.saturating_sub-new_missing.ensures ∙ (c.level_of-new_level.ensures c.asked_of-asked.result.skill c.asked_of-asked.ensures.skill_bound ∙ ap (lacking c.args.inst.now.draft c.args.new) c.asked_of-asked.ensures.skill))
+          (c.saturating_sub-new_missing.ensures ∙ (c.level_of-new_level.ensures c.asked_of-asked.result.skill c.asked_of-asked.ensures.skill_bound ∙ missing c.args.new))
           (omega (arith, c.saturating_sub-new_missing.ensures, c.asked_of-asked.ensures.skill_bound));
       old_is = sum-goes_on c.loop-at.invariant.old_is c.in-Some.is step c.saturating_sub-old_missing.result
-          (c.saturating_sub-old_missing.ensures ∙ (c.level_of-old_level.ensures c.asked_of-asked.result.skill c.asked_of-asked.ensures.skill_bound ∙ ap (lacking c.args.inst.now.draft c.args.old) c.asked_of-asked.ensures.skill))
+          (c.saturating_sub-old_missing.ensures ∙ (c.level_of-old_level.ensures c.asked_of-asked.result.skill c.asked_of-asked.ensures.skill_bound ∙ missing c.args.old))
           (omega (arith, c.saturating_sub-old_missing.ensures, c.asked_of-asked.ensures.skill_bound));
       come_is = sum-goes_on c.loop-at.invariant.come_is c.in-Some.is step c.has_just-come.result c.has_just-come.ensures.value c.has_just-come.ensures.bound;
       gone_is = sum-goes_on c.loop-at.invariant.gone_is c.in-Some.is step c.has_just-gone.result c.has_just-gone.ensures.value c.has_just-gone.ensures.bound;
@@ -74,10 +77,14 @@ pub returns-clause-work : goal.returns-clause-work
 returns-clause-work c = sum-ends c.loop-at.invariant.work_is c.in_default.is
 
 pub returns-clause-new_missing : goal.returns-clause-new_missing
-returns-clause-new_missing c = sum-ends c.loop-at.invariant.new_is c.in_default.is
+returns-clause-new_missing c =
+    sum-ends c.loop-at.invariant.new_is c.in_default.is
+    ∙ lack-all c.args.inst.now.draft c.args.plan.now c.args.k.0 c.args.new (list_of c.args.persons.now c.args.r.0)
 
 pub returns-clause-old_missing : goal.returns-clause-old_missing
-returns-clause-old_missing c = sum-ends c.loop-at.invariant.old_is c.in_default.is
+returns-clause-old_missing c =
+    sum-ends c.loop-at.invariant.old_is c.in_default.is
+    ∙ lack-all c.args.inst.now.draft c.args.plan.now c.args.k.0 c.args.old (list_of c.args.persons.now c.args.r.0)
 
 pub returns-clause-come : goal.returns-clause-come
 returns-clause-come c = sum-ends c.loop-at.invariant.come_is c.in_default.is

@@ -16,4 +16,4 @@ loop-at-smaller c = sum-shrinks c.loop-at.invariant c.in-Some.is (c.next-at.ensu
 pub loop-at-preserved : goal.loop-at-preserved
 loop-at-preserved c =
     sum-goes_on c.loop-at.invariant c.in-Some.is (c.next-at.ensures.linked c.args.r.0 (sum-inside c.loop-at.invariant c.in-Some.is)) c.saturating_sub-sum.result
-    (rw (c.saturating_sub-sum.ensures, c.skill_of.ensures.value) refl) (omega (arith, c.saturating_sub-sum.ensures, c.skill_of.ensures.bound))
+    (rw (c.saturating_sub-sum.ensures, c.asked_of-asked.ensures.skill) refl) (omega (arith, c.saturating_sub-sum.ensures, c.asked_of-asked.ensures.skill_bound))
