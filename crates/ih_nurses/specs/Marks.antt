@@ -1,5 +1,7 @@
--- Marks on the numbers below the length of a list.
-use Rattle.std.specs.Prelude.{ℕ, Bool, false, List, slice_index_or}
+-- Marks on numbers, as the bits of words of 64.
+use Rattle.std.specs.Prelude.{ℕ, ◌/◌, ◌%◌, ◌==◌, Bool, List, slice_index}
+use Rattle.std.specs.Int.{bit_at}
 
-abbrev pub is_marked : List Bool → ℕ → Bool
-is_marked marks i = slice_index_or marks i false
+-- number i is marked
+abbrev pub is_marked : List ℕ → ℕ → Bool
+is_marked words i = bit_at (slice_index words (i / 64)) (i % 64) == 1

@@ -1,6 +1,7 @@
 //! How many distinct nurses a person has over its stay.
 
-ghost use Rattle.std.specs.Prelude.{◌≡◌, ◌<◌, ◌≤◌, ◌+◌, ◌||◌, not, ℕ, length, map, IfSome, option_map};
+ghost use Rattle.std.specs.Prelude.{◌≡◌, ◌<◌, ◌≤◌, ◌+◌, ◌*◌, ◌==◌, ◌||◌, not, ℕ, length, map, IfSome, option_map};
+ghost use Rattle.std.specs.Int.{bit_at};
 ghost use Rattle.std.specs.List.{range_with_len};
 ghost use Rattle.ih_tables.specs.declared.ids.NurseNo.{NurseNo};
 ghost use Rattle.ih_tables.specs.Sizes.{room_count, shift_count};
@@ -23,9 +24,19 @@ fn unmet(met: bool) -> u32
     if met { 0 } else { 1 }
 }
 
+// Whether a bit of a word is 1.
+#[inline(always)]
+fn is_set(word: u64, i: u32) -> bool
+    requires { i < 64 }
+    ensures { result ≡ (bit_at word i == 1) }
+{
+    (word >> i) & 1 == 1
+}
+
 // Marks a nurse, where there is one, and tells how many are new: 1 or 0.
-fn meet(seen: &mut [bool], n: Option<NurseNo>) -> u32
-    requires { IfSome n (λ a. a.0 < length seen.old) }
+#[inline(always)]
+fn meet(seen: &mut [u64], n: Option<NurseNo>) -> u32
+    requires { IfSome n (λ a. a.0 < 64 * length seen.old) }
     ensures len { length seen.new ≡ length seen.old }
     ensures each { (i : ℕ) → is_marked seen.new i ≡ (is_marked seen.old i || is_number (option_map (λ (a : NurseNo). a.0) n) i) }
     ensures count { (m : ℕ) → IfSome n (λ a. a.0 < m) → count_below m (is_marked seen.new) ≡ count_below m (is_marked seen.old) + result }
@@ -34,9 +45,10 @@ fn meet(seen: &mut [bool], n: Option<NurseNo>) -> u32
     match n {
         None => 0,
         Some(a) => {
-            let met = seen[a.0 as usize];
-            seen[a.0 as usize] = true;
-            unmet(met)
+            let place = (a.0 / 64) as usize;
+            let word = seen[place];
+            seen[place] = word | (1 << (a.0 % 64));
+            unmet(is_set(word, a.0 % 64))
         }
     }
 }
@@ -48,7 +60,8 @@ fn seen_in(inst: &Instance, plan: &Plan, r: RoomNo, from: u32, len: u32) -> u32
     requires shifts { from + len ≤ shift_count inst.now.draft }
     ensures { result ≡ distinct_nurses inst.now.draft (map (care_of plan.now r.0) (range_with_len from len)) }
 {
-    let mut seen = [false; 512];
+    // One bit for each nurse that an instance may have.
+    let mut seen = [0u64; 8];
     let mut count = 0;
     for j in 0..len {
         count += meet(&mut seen, nurse_at(inst, plan, r, Shift(from + j)));
