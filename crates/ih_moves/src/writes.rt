@@ -6,7 +6,7 @@ ghost use Rattle.ih_plan.specs.Timetable.{IsPlanOf, choice_of, stay_of};
 ghost use Rattle.ih_plan.specs.Expand.{expand, IsMoveOf, swap_stays};
 ghost use Rattle.ih_moves.specs.Runs.{in_run, run_below};
 
-use ih_plan::{Move, Placement, Plan, Write};
+use ih_plan::{Move, Placement, Plan, Write, nurse_at};
 use ih_tables::{Day, Instance, NurseNo, PatientNo, RoomNo, Shift};
 use std::marker::Model;
 
@@ -61,15 +61,6 @@ impl Writes {
         self.items[self.len] = w;
         self.len += 1;
     }
-}
-
-fn nurse_at(inst: &Instance, plan: &Plan, r: RoomNo, k: Shift) -> Option<NurseNo>
-    requires plan { IsPlanOf inst.now.draft plan.now }
-    requires room { r.0 < room_count inst.now.draft }
-    requires shift { k.0 < shift_count inst.now.draft }
-    ensures { result ≡ choice_of plan.now r.0 k.0 }
-{
-    plan.care(r, k)
 }
 
 fn is_in_run(inst: &Instance, n: NurseNo, d: Day, len: u32, k: u32) -> bool

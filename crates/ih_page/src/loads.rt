@@ -3,50 +3,11 @@
 ghost use Rattle.std.specs.Prelude.{◌≡◌, ◌<◌, ◌≤◌, ◌*◌, if◌then◌else◌, sum_by};
 ghost use Rattle.ih_tables.specs.Sizes.{person_count, room_count, shift_count, nurse_count};
 ghost use Rattle.ih_plan.specs.Timetable.{IsPlanOf, care_of};
-ghost use Rattle.ih_plan.specs.Presence.{is_present, entry_of, workload_of, present, day_of};
+ghost use Rattle.ih_plan.specs.Presence.{is_present, workload_of, present, day_of};
 ghost use Rattle.ih_plan.specs.Costs.{is_number, load_of};
 
-use crate::presence::is_present;
-use ih_plan::Plan;
-use ih_tables::{Instance, NurseNo, PatientNo, RoomNo, Shift};
-
-// Which entry of the person's vectors is the shift's.
-#[tactic(auto, unfolding(ih_plan::specs::Presence::admission_of, ih_plan::specs::Presence::entry_of))]
-fn entry_of(inst: &Instance, plan: &Plan, x: u32, k: u32) -> u32
-    requires plan { IsPlanOf inst.now.draft plan.now }
-    requires person { x < person_count inst.now.draft }
-    ensures { result ≡ entry_of inst.now.draft plan.now x k }
-{
-    let patients = inst.patients();
-    if x < patients {
-        match plan.stay(PatientNo(x)) {
-            None => 0,
-            Some(at) => (k as u64).saturating_sub(3 * at.day.0 as u64) as u32,
-        }
-    } else {
-        let _occupant = inst.occupant(x - patients);
-        k
-    }
-}
-
-// The workload that the person makes in the shift.
-#[tactic(auto, unfolding(ih_plan::specs::Persons::person_of))]
-fn workload_of(inst: &Instance, plan: &Plan, x: u32, k: u32) -> u64
-    requires plan { IsPlanOf inst.now.draft plan.now }
-    requires person { x < person_count inst.now.draft }
-    ensures value { result ≡ workload_of inst.now.draft plan.now k x }
-    ensures bound { result ≤ 4294967296 }
-{
-    let at = entry_of(inst, plan, x, k) as usize;
-    let patients = inst.patients();
-    if x < patients {
-        let a = inst.patient(PatientNo(x));
-        a.workload_produced.as_slice().get(at).copied().unwrap_or(0) as u64
-    } else {
-        let o = inst.occupant(x - patients);
-        o.workload_produced.as_slice().get(at).copied().unwrap_or(0) as u64
-    }
-}
+use ih_plan::{Plan, is_present, workload_of};
+use ih_tables::{Instance, NurseNo, RoomNo, Shift};
 
 // The workload of the person in the room, where it is there in the shift.
 fn workload_there(inst: &Instance, plan: &Plan, r: RoomNo, k: u32, x: u32) -> u64
@@ -56,7 +17,7 @@ fn workload_there(inst: &Instance, plan: &Plan, r: RoomNo, k: u32, x: u32) -> u6
     ensures bound { result ≤ 4294967296 }
 {
     if is_present(inst, plan, r, k / 3, x) {
-        workload_of(inst, plan, x, k)
+        workload_of(inst, plan, x, k) as u64
     } else {
         0
     }

@@ -8,7 +8,7 @@ ghost use Rattle.ih_plan.specs.Persons.{person_of};
 ghost use Rattle.ih_plan.specs.Costs.{genders_differ, age_spread};
 ghost use Rattle.ih_plan.specs.Sums.{lower};
 
-use crate::persons::{age_group, same_gender};
+use ih_plan::{age_group, same_gender};
 use ih_tables::Instance;
 
 fn differs(inst: &Instance, x: u32, others: &[u32]) -> bool

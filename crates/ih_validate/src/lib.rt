@@ -8,7 +8,6 @@ mod loads;
 mod marks;
 mod nurses;
 mod patients;
-mod persons;
 mod presence;
 mod reports;
 mod rolls;

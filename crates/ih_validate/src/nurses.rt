@@ -10,7 +10,7 @@ ghost use Rattle.ih_plan.specs.BillOf.{nurses_seen};
 
 use crate::marks::{count_marked, mark};
 use crate::shifts::nurse_at;
-use ih_plan::Plan;
+use ih_plan::{Plan, counted_shifts};
 use ih_tables::{Instance, PatientNo, RoomNo};
 
 #[tactic(auto, using(ih_plan::proofs::ListSteps::range_steps))]
@@ -28,16 +28,6 @@ fn seen_in(inst: &Instance, plan: &Plan, r: RoomNo, from: u32, len: u32) -> u64
     count_marked(&seen, inst.nurses())
 }
 
-fn counted(inst: &Instance, day: u32, len: u32) -> u32
-    requires day { day < inst.now.draft.days }
-    requires len { len ≤ 100 }
-    ensures count { result ≡ 3 * (min (day + len) inst.now.draft.days - day) }
-    ensures inside { 3 * day + result ≤ shift_count inst.now.draft }
-{
-    let days = inst.days();
-    3 * ((day + len).min(days) - day)
-}
-
 #[tactic(auto, using(ih_plan::proofs::ListSteps::none_steps), unfolding(ih_plan::specs::Presence::admission_of, ih_plan::specs::Presence::shifts_of, ih_plan::specs::Persons::person_of))]
 fn nurses_of(inst: &Instance, plan: &Plan, x: u32) -> u64
     requires plan { IsPlanOf inst.now.draft plan.now }
@@ -51,13 +41,13 @@ fn nurses_of(inst: &Instance, plan: &Plan, x: u32) -> u64
         match plan.stay(PatientNo(x)) {
             None => 0,
             Some(at) => {
-                let count = counted(inst, at.day.0, a.length_of_stay);
+                let count = counted_shifts(inst, at.day.0, a.length_of_stay);
                 seen_in(inst, plan, at.room, 3 * at.day.0, count)
             }
         }
     } else {
         let o = inst.occupant(x - patients);
-        let count = counted(inst, 0, o.length_of_stay);
+        let count = counted_shifts(inst, 0, o.length_of_stay);
         seen_in(inst, plan, o.room_id, 0, count)
     }
 }

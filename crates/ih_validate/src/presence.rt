@@ -5,9 +5,8 @@ ghost use Rattle.ih_plan.specs.Timetable.{IsPlanOf};
 ghost use Rattle.ih_plan.specs.Presence.{present};
 ghost use Rattle.ih_validate.specs.Rolls.{guests_of};
 
-use crate::persons::{is_guest, is_present};
 use crate::rolls::Roll;
-use ih_plan::Plan;
+use ih_plan::{Plan, is_present, stays_in};
 use ih_tables::{Instance, RoomNo};
 
 /// Lists the persons whose room it is.
@@ -17,7 +16,7 @@ pub fn list_guests(inst: &Instance, plan: &Plan, r: RoomNo, out: &mut Roll)
 {
     out.clear();
     for x in 0..inst.persons() {
-        if is_guest(inst, plan, r, x) {
+        if stays_in(inst, plan, r, x) {
             out.push(x);
         }
     }

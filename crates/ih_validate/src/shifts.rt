@@ -10,8 +10,7 @@ ghost use Rattle.ih_plan.specs.Sums.{sum_below, bit};
 ghost use Rattle.ih_validate.specs.Rooms.{bare_shift, skill_gap};
 
 use crate::patients::bit;
-use crate::persons::skill_of;
-use ih_plan::Plan;
+use ih_plan::{Plan, skill_of};
 use ih_tables::{Instance, NurseNo, RoomNo, Shift};
 
 /// The number of the room's nurse in the shift, where it has one.

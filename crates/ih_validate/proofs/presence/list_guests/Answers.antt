@@ -2,14 +2,14 @@ use Rattle.std.proofs.Common.{sym, ◌∙◌}
 use Rattle.ih_plan.specs.Presence.{room_of}
 use Rattle.ih_plan.specs.Costs.{is_number}
 use Rattle.ih_validate.proofs.RollLemmas.{is_roll-none, is_roll-yes, is_roll-no}
-use Rattle.ih_validate.proofs.presence.list_guests.Goals.{then-is_guest, else-is_guest}
+use Rattle.ih_validate.proofs.presence.list_guests.Goals.{then-stays_in, else-stays_in}
 use Rattle.ih_validate.proofs.presence.list_guests.Goals as goal
 
 pub loop-x-init : goal.loop-x-init
 loop-x-init c = rw c.clear.ensures (is_roll-none (λ x. is_number (room_of c.args.inst.now.draft c.args.plan.now x) c.args.r.0))
 
 pub loop-x-preserved : goal.loop-x-preserved
-loop-x-preserved c = elim c.if-is_guest.branch [
-  | then-is_guest w ↦ rw (w.out-is, w.push.ensures) (is_roll-yes c.loop-x.invariant (sym w.if-is_guest.true ∙ c.is_guest.ensures))
-  | else-is_guest w ↦ rw w.out-is (is_roll-no c.loop-x.invariant (sym w.if-is_guest.false ∙ c.is_guest.ensures))
+loop-x-preserved c = elim c.if-stays_in.branch [
+  | then-stays_in w ↦ rw (w.out-is, w.push.ensures) (is_roll-yes c.loop-x.invariant (sym w.if-stays_in.true ∙ c.stays_in.ensures))
+  | else-stays_in w ↦ rw w.out-is (is_roll-no c.loop-x.invariant (sym w.if-stays_in.false ∙ c.stays_in.ensures))
 ]

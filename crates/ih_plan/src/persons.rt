@@ -1,0 +1,221 @@
+//! What is asked of a person by its number (patients come first, then occupants), and of a room in a shift.
+
+ghost use Rattle.std.specs.Prelude.{◌≡◌, ◌<◌, ◌≤◌, ◌+◌, ◌-◌, ◌*◌, min, IfSome};
+ghost use Rattle.std.specs.Str.{bytes_eq};
+ghost use Rattle.ih_tables.specs.Sizes.{person_count, patient_count, room_count, shift_count, nurse_count};
+ghost use Rattle.ih_plan.specs.Timetable.{IsPlanOf, IsPlacement, choice_of};
+ghost use Rattle.ih_plan.specs.Persons.{person_of};
+ghost use Rattle.ih_plan.specs.Presence.{is_present, room_of, entry_of, workload_of, skill_of};
+ghost use Rattle.ih_plan.specs.Costs.{is_number};
+
+use crate::moves::Placement;
+use crate::plans::Plan;
+use ih_tables::{Instance, NurseNo, PatientNo, RoomNo, Shift};
+
+/// Whether the room is the person's, on whatever days.
+#[tactic(auto, unfolding(crate::specs::Presence::admission_of))]
+#[inline(always)]
+pub fn stays_in(inst: &Instance, plan: &Plan, r: RoomNo, x: u32) -> bool
+    requires plan { IsPlanOf inst.now.draft plan.now }
+    requires person { x < person_count inst.now.draft }
+    ensures { result ≡ is_number (room_of inst.now.draft plan.now x) r.0 }
+{
+    let patients = inst.patients();
+    if x < patients {
+        match plan.stay(PatientNo(x)) {
+            None => false,
+            Some(at) => at.room.0 == r.0,
+        }
+    } else {
+        inst.occupant(x - patients).room_id.0 == r.0
+    }
+}
+
+/// Whether the person is in the room on the day.
+#[tactic(auto, unfolding(crate::specs::Presence::admission_of, crate::specs::Persons::person_of))]
+#[inline(always)]
+pub fn is_present(inst: &Instance, plan: &Plan, r: RoomNo, d: u32, x: u32) -> bool
+    requires plan { IsPlanOf inst.now.draft plan.now }
+    requires person { x < person_count inst.now.draft }
+    ensures { result ≡ is_present inst.now.draft plan.now r.0 d x }
+{
+    let patients = inst.patients();
+    if x < patients {
+        let a = inst.patient(PatientNo(x));
+        match plan.stay(PatientNo(x)) {
+            None => false,
+            Some(at) => {
+                at.room.0 == r.0
+                    && at.day.0 <= d
+                    && (d as u64) < at.day.0 as u64 + a.length_of_stay as u64
+            }
+        }
+    } else {
+        let o = inst.occupant(x - patients);
+        o.room_id.0 == r.0 && d < o.length_of_stay
+    }
+}
+
+#[tactic(auto, unfolding(crate::specs::Persons::person_of))]
+#[inline(always)]
+fn gender(inst: &Instance, x: u32) -> &str
+    requires { x < person_count inst.now.draft }
+    ensures { result.now ≡ (person_of inst.now.draft x).gender }
+{
+    let patients = inst.patients();
+    if x < patients {
+        inst.patient(PatientNo(x)).gender.as_str()
+    } else {
+        inst.occupant(x - patients).gender.as_str()
+    }
+}
+
+/// Whether two persons have one gender.
+#[tactic(auto, unfolding(crate::specs::Persons::person_of))]
+#[inline(always)]
+pub fn same_gender(inst: &Instance, x: u32, y: u32) -> bool
+    requires first { x < person_count inst.now.draft }
+    requires second { y < person_count inst.now.draft }
+    ensures { result ≡ bytes_eq (person_of inst.now.draft x).gender (person_of inst.now.draft y).gender }
+{
+    gender(inst, x) == gender(inst, y)
+}
+
+/// The person's age group.
+#[tactic(auto, unfolding(crate::specs::Persons::person_of))]
+#[inline(always)]
+pub fn age_group(inst: &Instance, x: u32) -> u32
+    requires { x < person_count inst.now.draft }
+    ensures value { result ≡ (person_of inst.now.draft x).age_group }
+    ensures bound { result < 64 }
+{
+    let patients = inst.patients();
+    if x < patients {
+        inst.patient(PatientNo(x)).age_group
+    } else {
+        inst.occupant(x - patients).age_group
+    }
+}
+
+// Which entry of the person's vectors is the shift's.
+#[tactic(auto, unfolding(crate::specs::Presence::admission_of, crate::specs::Presence::entry_of))]
+#[inline(always)]
+fn entry_of(inst: &Instance, plan: &Plan, x: u32, k: u32) -> u32
+    requires plan { IsPlanOf inst.now.draft plan.now }
+    requires person { x < person_count inst.now.draft }
+    ensures { result ≡ entry_of inst.now.draft plan.now x k }
+{
+    let patients = inst.patients();
+    if x < patients {
+        match plan.stay(PatientNo(x)) {
+            None => 0,
+            Some(at) => (k as u64).saturating_sub(3 * at.day.0 as u64) as u32,
+        }
+    } else {
+        let _occupant = inst.occupant(x - patients);
+        k
+    }
+}
+
+/// What is asked of a nurse for a person in a shift.
+#[derive(Clone, Copy)]
+pub struct Asked {
+    pub workload: u32,
+    pub skill: u32,
+}
+
+/// What the person asks of a nurse in the shift, by one look-up of the person.
+#[tactic(auto, unfolding(crate::specs::Persons::person_of))]
+#[inline(always)]
+pub fn asked_of(inst: &Instance, plan: &Plan, x: u32, k: u32) -> Asked
+    requires plan { IsPlanOf inst.now.draft plan.now }
+    requires person { x < person_count inst.now.draft }
+    ensures workload { result.workload ≡ workload_of inst.now.draft plan.now k x }
+    ensures skill { result.skill ≡ skill_of inst.now.draft plan.now k x }
+    ensures workload_bound { result.workload ≤ 100000 }
+    ensures skill_bound { result.skill ≤ 1000 }
+{
+    let at = entry_of(inst, plan, x, k) as usize;
+    let patients = inst.patients();
+    if x < patients {
+        let a = inst.patient(PatientNo(x));
+        Asked {
+            workload: a.workload_produced.as_slice().get(at).copied().unwrap_or(0),
+            skill: a
+                .skill_level_required
+                .as_slice()
+                .get(at)
+                .copied()
+                .unwrap_or(0),
+        }
+    } else {
+        let o = inst.occupant(x - patients);
+        Asked {
+            workload: o.workload_produced.as_slice().get(at).copied().unwrap_or(0),
+            skill: o
+                .skill_level_required
+                .as_slice()
+                .get(at)
+                .copied()
+                .unwrap_or(0),
+        }
+    }
+}
+
+/// The workload that the person makes in the shift.
+#[inline(always)]
+pub fn workload_of(inst: &Instance, plan: &Plan, x: u32, k: u32) -> u32
+    requires plan { IsPlanOf inst.now.draft plan.now }
+    requires person { x < person_count inst.now.draft }
+    ensures value { result ≡ workload_of inst.now.draft plan.now k x }
+    ensures bound { result ≤ 100000 }
+{
+    asked_of(inst, plan, x, k).workload
+}
+
+/// The skill that the person requires in the shift.
+#[inline(always)]
+pub fn skill_of(inst: &Instance, plan: &Plan, x: u32, k: u32) -> u32
+    requires plan { IsPlanOf inst.now.draft plan.now }
+    requires person { x < person_count inst.now.draft }
+    ensures value { result ≡ skill_of inst.now.draft plan.now k x }
+    ensures bound { result ≤ 1000 }
+{
+    asked_of(inst, plan, x, k).skill
+}
+
+/// The day after a placement's last counted one: days past the horizon aren't counted.
+#[tactic(auto, unfolding(crate::specs::Persons::person_of))]
+#[inline(always)]
+pub fn end_of(inst: &Instance, p: PatientNo, at: Placement) -> u32
+    requires patient { p.0 < patient_count inst.now.draft }
+    requires placement { IsPlacement inst.now.draft at }
+    ensures value { result ≡ min (at.day.0 + (person_of inst.now.draft p.0).length_of_stay) inst.now.draft.days }
+    ensures order { at.day.0 ≤ result }
+    ensures days { result ≤ inst.now.draft.days }
+{
+    (at.day.0 + inst.patient(p).length_of_stay).min(inst.days())
+}
+
+/// How many shifts of a stay of so many days from a day on are counted.
+#[inline(always)]
+pub fn counted_shifts(inst: &Instance, day: u32, len: u32) -> u32
+    requires day { day < inst.now.draft.days }
+    requires len { len ≤ 100 }
+    ensures count { result ≡ 3 * (min (day + len) inst.now.draft.days - day) }
+    ensures inside { 3 * day + result ≤ shift_count inst.now.draft }
+{
+    3 * ((day + len).min(inst.days()) - day)
+}
+
+/// The room's nurse in the shift, where it has one.
+#[inline(always)]
+pub fn nurse_at(inst: &Instance, plan: &Plan, r: RoomNo, k: Shift) -> Option<NurseNo>
+    requires plan { IsPlanOf inst.now.draft plan.now }
+    requires room { r.0 < room_count inst.now.draft }
+    requires shift { k.0 < shift_count inst.now.draft }
+    ensures choice { result ≡ choice_of plan.now r.0 k.0 }
+    ensures nurse { IfSome result (λ a. a.0 < nurse_count inst.now.draft) }
+{
+    plan.care(r, k)
+}
