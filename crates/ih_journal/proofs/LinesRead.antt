@@ -4,7 +4,7 @@ use Rattle.std.specs.Prelude.{codes}
 use Rattle.std.proofs.lemmas.Fmt.{decimal_nonempty}
 use Rattle.ih_plan.specs.declared.moves.Move.{Move}
 use Rattle.ih_plan.specs.Expand.{IsMoveOf}
-use Rattle.ih_plan.proofs.Base.{B1}
+use Rattle.ih_plan.proofs.Base.{one_room}
 use Rattle.ih_plan.proofs.Prices.{nurse}
 use Rattle.ih_journal.specs.Texts.{move_text}
 use Rattle.ih_journal.specs.Grammar.{IsPrice, IsEntryOf, IsLineOf, IsField, IsRight, IsFirstWrong, Kind, count_kind, move_kind, price_kind, verdict_kind}
@@ -16,7 +16,7 @@ use Rattle.ih_journal.proofs.SmallestRun.{small_options, first_entry, first_pric
 first_is_price : IsPrice first_price
 first_is_price = record { counts = refl; costs = refl; small = search rules }
 
-first_is_entry : IsEntryOf B1 small_options first_entry
+first_is_entry : IsEntryOf one_room small_options first_entry
 first_is_entry = record {
   worker = lit< tt;
   number = lit< tt;
@@ -29,22 +29,22 @@ first_is_entry = record {
 }
 
 -- the line is that of the first entry at place 0
-pub first_line : IsLineOf B1 small_options 0 first_entry (codes "0 0 0 0 nurserun:0,0,0,5 0,0,0,0,0,0,0,0,-3,0,1,1,0,0,0,0,0 accepted")
+pub first_line : IsLineOf one_room small_options 0 first_entry (codes "0 0 0 0 nurserun:0,0,0,5 0,0,0,0,0,0,0,0,-3,0,1,1,0,0,0,0,0 accepted")
 unfolding history_on_literals
 first_line = record { place = lit< tt; entry = first_is_entry; text = refl }
 
-no_number : (k : Kind) (x : List ℕ) → Some count_kind ≡ Some k → Some [] ≡ Some x → IsField B1 k x → ⊥
+no_number : (k : Kind) (x : List ℕ) → Some count_kind ≡ Some k → Some [] ≡ Some x → IsField one_room k x → ⊥
 no_number k x kinds fields fits =
     let kind : count_kind ≡ k = cc in
     let field : [] ≡ x = cc in
-    let P : Kind → Type 0 = λ q. IsField B1 q x in
+    let P : Kind → Type 0 = λ q. IsField one_room q x in
     let number = subst P (sym kind) fits in
     let some = decimal_nonempty number.0 (let small = number.1 in omega arith) in
     let none = ap length (field ∙ number.2) in
     omega (arith, some, none)
 
 -- with two spaces behind the first field, the second is wrong
-pub two_spaces : IsFirstWrong B1 small_options (codes "0  0 0 0 nurserun:0,0,0,5 0,0,0,0,0,0,0,0,-3,0,1,1,0,0,0,0,0 accepted") 2
+pub two_spaces : IsFirstWrong one_room small_options (codes "0  0 0 0 nurserun:0,0,0,5 0,0,0,0,0,0,0,0,-3,0,1,1,0,0,0,0,0 accepted") 2
 unfolding history_on_literals
 two_spaces = record {
   index = 1;
@@ -54,12 +54,12 @@ two_spaces = record {
   field = inl (lit< tt);
 }
   where
-    before : (i : ℕ) → i < 1 → IsRight B1 small_options (codes "0  0 0 0 nurserun:0,0,0,5 0,0,0,0,0,0,0,0,-3,0,1,1,0,0,0,0,0 accepted") i
+    before : (i : ℕ) → i < 1 → IsRight one_room small_options (codes "0  0 0 0 nurserun:0,0,0,5 0,0,0,0,0,0,0,0,-3,0,1,1,0,0,0,0,0 accepted") i
     before zero h = record { kind = count_kind; field = codes "0"; wanted = refl; there = refl; fits = (0, lit< tt, refl) }
     before (suc i) h = absurd (omega arith)
 
 -- with a further field, that one is wrong
-eighth_before : (i : ℕ) → i < 7 → IsRight B1 small_options (codes "0 0 0 0 nurserun:0,0,0,5 0,0,0,0,0,0,0,0,-3,0,1,1,0,0,0,0,0 accepted x") i
+eighth_before : (i : ℕ) → i < 7 → IsRight one_room small_options (codes "0 0 0 0 nurserun:0,0,0,5 0,0,0,0,0,0,0,0,-3,0,1,1,0,0,0,0,0 accepted x") i
 unfolding history_on_literals
 eighth_before zero h = record { kind = count_kind; field = codes "0"; wanted = refl; there = refl; fits = (0, lit< tt, refl) }
 eighth_before (suc zero) h = record { kind = count_kind; field = codes "0"; wanted = refl; there = refl; fits = (0, lit< tt, refl) }
@@ -73,7 +73,7 @@ eighth_before (suc (suc (suc (suc (suc (suc zero)))))) h =
     record { kind = verdict_kind; field = codes "accepted"; wanted = refl; there = refl; fits = (first_entry.verdict, tt, refl) }
 eighth_before (suc (suc (suc (suc (suc (suc (suc i))))))) h = absurd (omega arith)
 
-pub eighth_field : IsFirstWrong B1 small_options (codes "0 0 0 0 nurserun:0,0,0,5 0,0,0,0,0,0,0,0,-3,0,1,1,0,0,0,0,0 accepted x") 8
+pub eighth_field : IsFirstWrong one_room small_options (codes "0 0 0 0 nurserun:0,0,0,5 0,0,0,0,0,0,0,0,-3,0,1,1,0,0,0,0,0 accepted x") 8
 eighth_field = record {
   index = 7;
   number = refl;
@@ -82,14 +82,14 @@ eighth_field = record {
   field = inr (lit< tt);
 }
 
-small_limits : IsLimited B1
+small_limits : IsLimited one_room
 small_limits = record { days = lit≤ tt; patients = lit≤ tt; occupants = lit≤ tt; rooms = lit≤ tt; theatres = lit≤ tt; surgeons = lit≤ tt; nurses = lit≤ tt }
 
 -- shift 3 is past the last of the only day
-pub shift_past_the_last : (m : Move) → IsMoveOf B1 m → codes "nurse:0,3,0" ≡ move_text m → ⊥
+pub shift_past_the_last : (m : Move) → IsMoveOf one_room m → codes "nurse:0,3,0" ≡ move_text m → ⊥
 unfolding history_on_literals
 shift_past_the_last m inside is =
-    let same = moves_differ m (nurse 0 3 0) (move_short B1 m small_limits inside) (search rules) (sym is) in
-    let Inside : Move → Type 0 = λ x. IsMoveOf B1 x in
+    let same = moves_differ m (nurse 0 3 0) (move_short one_room m small_limits inside) (search rules) (sym is) in
+    let Inside : Move → Type 0 = λ x. IsMoveOf one_room x in
     let shift = (subst Inside same inside).1 in
     omega (arith, shift)

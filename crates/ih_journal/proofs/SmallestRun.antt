@@ -5,7 +5,7 @@ use Rattle.ih_tables.specs.declared.bills.Bill.{Bill}
 use Rattle.ih_tables.specs.Bills.{feasible, score}
 use Rattle.ih_plan.specs.Timetable.{empty}
 use Rattle.ih_plan.specs.BillOf.{bill_of}
-use Rattle.ih_plan.proofs.Base.{B1, bill9, weights}
+use Rattle.ih_plan.proofs.Base.{one_room, bill9, weights}
 use Rattle.ih_plan.proofs.Prices.{nurse_run, nurse}
 use Rattle.ih_journal.specs.declared.settings.Options.{Options}
 use Rattle.ih_journal.specs.declared.entries.Entry.{Entry}
@@ -24,7 +24,7 @@ small_options = options 0 1 2 0 0
 
 -- from nothing, on the instance without patients
 abbrev pub small_base : Base
-small_base = base B1 (empty B1) 0 small_options
+small_base = base one_room (empty one_room) 0 small_options
 
 abbrev pub first_price : Bill
 first_price = record {
@@ -93,9 +93,9 @@ pub small_full : IsFull small_base 1 (tries small_history)
 small_full = record { legal = both_legal; done = all_done }
 
 -- the bills of the three places: the start isn't feasible, and the other two cost 12
-pub small_bills : (bill_of B1 (plan_at small_base (tries small_history) 0) ≡ bill9 0 0 0 0 0 0 0 0 3 0 0 0 0 0 0 0 0)
+pub small_bills : (bill_of one_room (plan_at small_base (tries small_history) 0) ≡ bill9 0 0 0 0 0 0 0 0 3 0 0 0 0 0 0 0 0)
     × (cost_at small_base (tries small_history) 1 ≡ pos 12) × (cost_at small_base (tries small_history) 2 ≡ pos 12)
-    × (feasible (bill_of B1 (plan_at small_base (tries small_history) 1)) ≡ true)
+    × (feasible (bill_of one_room (plan_at small_base (tries small_history) 1)) ≡ true)
 unfolding history_on_literals
 small_bills = (refl, refl, refl, refl)
 
@@ -109,7 +109,7 @@ unfolding history_on_literals
 small_journal_with_tries = refl
 
 -- Place 1 is the best: the start isn't feasible, and place 2 costs as much.
-not_at_start : feasible (bill_of B1 (plan_at small_base (tries small_history) 0)) ≡ true → ⊥
+not_at_start : feasible (bill_of one_room (plan_at small_base (tries small_history) 0)) ≡ true → ⊥
 unfolding history_on_literals
 not_at_start h = let no : false ≡ true = h in cc
 

@@ -6,7 +6,7 @@ use Rattle.ih_plan.specs.BillOf.{bill_of}
 use Rattle.ih_plan.specs.Fill.{fill, with_stay, with_care, write_score, without_uncovered}
 use Rattle.ih_plan.specs.declared.moves.Placement.{Placement}
 use Rattle.ih_plan.specs.declared.moves.Write.TheVariants.{SetStay}
-use Rattle.ih_plan.proofs.Base.{B2, at, bill9, weights}
+use Rattle.ih_plan.proofs.Base.{two_patients, at, bill9, weights}
 use Rattle.ih_plan.proofs.Rows.{plan_on_literals}
 
 abbrev pub filled : Timetable
@@ -19,25 +19,25 @@ filled = record {
 
 -- the value of a stay for a patient, where nurses don't count yet
 abbrev pub stay_value : Timetable → ℕ → Placement → ℤ
-stay_value P p at = write_score B2 1000 without_uncovered P (SetStay (record { 0 = p }) (Some at))
+stay_value P p at = write_score two_patients 1000 without_uncovered P (SetStay (record { 0 = p }) (Some at))
 
 -- Two theatres on one day cost more than a day of delay.
-pub first_patient_values : (stay_value (empty B2) 0 (at 1 0 0) ≡ negsuc 965) × (stay_value (empty B2) 0 (at 0 0 0) ≡ negsuc 964)
+pub first_patient_values : (stay_value (empty two_patients) 0 (at 1 0 0) ≡ negsuc 965) × (stay_value (empty two_patients) 0 (at 0 0 0) ≡ negsuc 964)
 unfolding plan_on_literals
 first_patient_values = (refl, refl)
 
-pub second_patient_value : stay_value (record (empty B2) { stays = Some (at 1 0 0) ∷ None ∷ [] }) 1 (at 0 1 0) ≡ negsuc 69
+pub second_patient_value : stay_value (record (empty two_patients) { stays = Some (at 1 0 0) ∷ None ∷ [] }) 1 (at 0 1 0) ≡ negsuc 69
 unfolding plan_on_literals
 second_patient_value = refl
 
-pub example_filled : fill B2 1000 (empty B2) ≡ filled
+pub example_filled : fill two_patients 1000 (empty two_patients) ≡ filled
 unfolding plan_on_literals fill with_stay with_care
 example_filled = refl
 
-pub filled_bill : bill_of B2 filled ≡ bill9 0 0 0 0 0 0 0 0 0 0 0 4 0 2 0 1 0
+pub filled_bill : bill_of two_patients filled ≡ bill9 0 0 0 0 0 0 0 0 0 0 0 4 0 2 0 1 0
 unfolding plan_on_literals
 filled_bill = refl
 
-pub filled_cost : cost weights (bill_of B2 filled) ≡ pos 72
+pub filled_cost : cost weights (bill_of two_patients filled) ≡ pos 72
 unfolding plan_on_literals
 filled_cost = refl

@@ -14,7 +14,7 @@ use Rattle.ih_plan.specs.Draws.{drawn, state_after, stream_state, word_at, move_
 use Rattle.ih_plan.specs.Cells.{cell_in, cell_at, cell_count, number_of, HasParts, content_of, part_of}
 use Rattle.ih_plan.specs.Footprint.{footprint, touches, writes_touch, in_placement, in_choice, looks_at}
 use Rattle.ih_plan.specs.BillOf.{change_of_bill}
-use Rattle.ih_plan.proofs.Base.{B1, B2, X, X_with, at, bill9, weights}
+use Rattle.ih_plan.proofs.Base.{one_room, two_patients, first_admitted, first_admitted_with, at, bill9, weights}
 use Rattle.ih_plan.proofs.Rows.{plan_on_literals}
 
 unfoldable pub draws_on_literals : ⊤
@@ -51,54 +51,54 @@ unfolding draws_on_literals
 last_seed_words = refl
 
 -- the first two draws of seed 0 on the smaller example
-pub first_draw : move_of B1 0 0 0 ≡ nurse_run 0 0 0 5
+pub first_draw : move_of one_room 0 0 0 ≡ nurse_run 0 0 0 5
 unfolding draws_on_literals
 first_draw = refl
 
-pub second_draw : move_of B1 0 0 1 ≡ nurse 0 2 0
+pub second_draw : move_of one_room 0 0 1 ≡ nurse 0 2 0
 unfolding draws_on_literals
 second_draw = refl
 
 -- and on the larger one
-pub first_draw_on_B2 : move_of B2 0 0 0 ≡ nurse_run 1 0 0 5
+pub first_draw_on_two_patients : move_of two_patients 0 0 0 ≡ nurse_run 1 0 0 5
 unfolding draws_on_literals
-first_draw_on_B2 = refl
+first_draw_on_two_patients = refl
 
-pub second_draw_on_B2 : move_of B2 0 0 1 ≡ nurse 1 5 0
+pub second_draw_on_two_patients : move_of two_patients 0 0 1 ≡ nurse 1 5 0
 unfolding draws_on_literals
-second_draw_on_B2 = refl
+second_draw_on_two_patients = refl
 
 -- of the last seed
-pub last_seed_draw : move_of B2 18446744073709551615 0 0 ≡ place 0 1 1 1
+pub last_seed_draw : move_of two_patients 18446744073709551615 0 0 ≡ place 0 1 1 1
 unfolding draws_on_literals
 last_seed_draw = refl
 
 -- its second worker has the stream of seed 0
-pub wrapped_draw : move_of B2 18446744073709551615 1 0 ≡ nurse_run 1 0 0 5
+pub wrapped_draw : move_of two_patients 18446744073709551615 1 0 ≡ nurse_run 1 0 0 5
 unfolding draws_on_literals
 wrapped_draw = refl
 
 -- all cells of the smaller example
-pub cells_of_B1 : map (cell_at B1) (0 ∷ 1 ∷ 2 ∷ 3 ∷ 4 ∷ 5 ∷ 6 ∷ 7 ∷ [])
+pub cells_of_one_room : map (cell_at one_room) (0 ∷ 1 ∷ 2 ∷ 3 ∷ 4 ∷ 5 ∷ 6 ∷ 7 ∷ [])
     ≡ RoomDay (record { 0 = 0 }) (record { 0 = 0 })
     ∷ RoomShift (record { 0 = 0 }) (record { 0 = 0 }) ∷ RoomShift (record { 0 = 0 }) (record { 0 = 1 }) ∷ RoomShift (record { 0 = 0 }) (record { 0 = 2 })
     ∷ NurseShift (record { 0 = 0 }) (record { 0 = 0 }) ∷ NurseShift (record { 0 = 0 }) (record { 0 = 1 }) ∷ NurseShift (record { 0 = 0 }) (record { 0 = 2 })
     ∷ Care (record { 0 = 0 }) ∷ []
 unfolding moves_on_literals
-cells_of_B1 = refl
+cells_of_one_room = refl
 
 -- where each kind of cell begins in the larger one
-pub kinds_of_B2 : map (cell_at B2) (0 ∷ 2 ∷ 6 ∷ 10 ∷ 12 ∷ 24 ∷ 36 ∷ [])
+pub kinds_of_two_patients : map (cell_at two_patients) (0 ∷ 2 ∷ 6 ∷ 10 ∷ 12 ∷ 24 ∷ 36 ∷ [])
     ≡ Stay (record { 0 = 0 }) ∷ RoomDay (record { 0 = 0 }) (record { 0 = 0 }) ∷ TheatreDay (record { 0 = 0 }) (record { 0 = 0 })
     ∷ SurgeonDay (record { 0 = 0 }) (record { 0 = 0 }) ∷ RoomShift (record { 0 = 0 }) (record { 0 = 0 })
     ∷ NurseShift (record { 0 = 0 }) (record { 0 = 0 }) ∷ Care (record { 0 = 0 }) ∷ []
 unfolding moves_on_literals
-kinds_of_B2 = refl
+kinds_of_two_patients = refl
 
-pub numbers : (number_of B2 (RoomShift (record { 0 = 0 }) (record { 0 = 2 })) ≡ 14)
-    × (number_of B2 (NurseShift (record { 0 = 1 }) (record { 0 = 2 })) ≡ 32)
-    × (number_of B2 (Care (record { 0 = 2 })) ≡ 38) × (cell_at B2 38 ≡ Care (record { 0 = 2 }))
-    × (cell_count B1 ≡ 8) × (cell_count B2 ≡ 39)
+pub numbers : (number_of two_patients (RoomShift (record { 0 = 0 }) (record { 0 = 2 })) ≡ 14)
+    × (number_of two_patients (NurseShift (record { 0 = 1 }) (record { 0 = 2 })) ≡ 32)
+    × (number_of two_patients (Care (record { 0 = 2 })) ≡ 38) × (cell_at two_patients 38 ≡ Care (record { 0 = 2 }))
+    × (cell_count one_room ≡ 8) × (cell_count two_patients ≡ 39)
 unfolding moves_on_literals
 numbers = (refl, refl, refl, refl, refl, refl)
 
@@ -106,55 +106,55 @@ numbers = (refl, refl, refl, refl, refl, refl)
 abbrev pub place_1 : Move
 place_1 = place 1 0 0 1
 
-pub price_place : change_of_bill B2 X (after B2 X place_1) ≡ record {
+pub price_place : change_of_bill two_patients first_admitted (after two_patients first_admitted place_1) ≡ record {
   v = pos 1 ∷ pos 0 ∷ pos 0 ∷ pos 0 ∷ pos 0 ∷ pos 0 ∷ pos 1 ∷ pos 0 ∷ pos 0 ∷ [];
   s = pos 1 ∷ pos 6 ∷ pos 1 ∷ pos 3 ∷ pos 1 ∷ pos 1 ∷ pos 0 ∷ negsuc 0 ∷ [];
 }
 unfolding moves_on_literals
 price_place = refl
 
-pub foot_place : footprint B2 X place_1 ≡ 1 ∷ 2 ∷ 8 ∷ 10 ∷ 12 ∷ 13 ∷ 14 ∷ 24 ∷ 25 ∷ 26 ∷ 37 ∷ []
+pub foot_place : footprint two_patients first_admitted place_1 ≡ 1 ∷ 2 ∷ 8 ∷ 10 ∷ 12 ∷ 13 ∷ 14 ∷ 24 ∷ 25 ∷ 26 ∷ 37 ∷ []
 unfolding moves_on_literals
 foot_place = refl
 
 -- The other nurse takes the night shift.
-pub price_nurse : change_of_bill B2 X (after B2 X (nurse 0 2 1)) ≡ record {
+pub price_nurse : change_of_bill two_patients first_admitted (after two_patients first_admitted (nurse 0 2 1)) ≡ record {
   v = pos 0 ∷ pos 0 ∷ pos 0 ∷ pos 0 ∷ pos 0 ∷ pos 0 ∷ pos 0 ∷ pos 0 ∷ pos 0 ∷ [];
   s = pos 0 ∷ negsuc 1 ∷ pos 2 ∷ pos 0 ∷ pos 0 ∷ pos 0 ∷ pos 0 ∷ pos 0 ∷ [];
 }
 unfolding moves_on_literals
 price_nurse = refl
 
-pub foot_nurse : footprint B2 X (nurse 0 2 1) ≡ 14 ∷ 26 ∷ 32 ∷ 36 ∷ 38 ∷ []
+pub foot_nurse : footprint two_patients first_admitted (nurse 0 2 1) ≡ 14 ∷ 26 ∷ 32 ∷ 36 ∷ 38 ∷ []
 unfolding moves_on_literals
 foot_nurse = refl
 
 -- A day for a patient who isn't admitted changes nothing, and was found from the stay alone.
-pub price_setday : change_of_bill B2 X (after B2 X (SetDay (record { 0 = 1 }) (record { 0 = 1 }))) ≡ bill9 0 0 0 0 0 0 0 0 0 0 0 0 0 0 0 0 0
+pub price_setday : change_of_bill two_patients first_admitted (after two_patients first_admitted (SetDay (record { 0 = 1 }) (record { 0 = 1 }))) ≡ bill9 0 0 0 0 0 0 0 0 0 0 0 0 0 0 0 0 0
 unfolding moves_on_literals
 price_setday = refl
 
-pub foot_setday : footprint B2 X (SetDay (record { 0 = 1 }) (record { 0 = 1 })) ≡ 1 ∷ []
+pub foot_setday : footprint two_patients first_admitted (SetDay (record { 0 = 1 }) (record { 0 = 1 })) ≡ 1 ∷ []
 unfolding moves_on_literals
 foot_setday = refl
 
 -- A run of the one nurse covers the one room.
-pub price_run : change_of_bill B1 (empty B1) (after B1 (empty B1) (nurse_run 0 0 0 5)) ≡ record {
+pub price_run : change_of_bill one_room (empty one_room) (after one_room (empty one_room) (nurse_run 0 0 0 5)) ≡ record {
   v = pos 0 ∷ pos 0 ∷ pos 0 ∷ pos 0 ∷ pos 0 ∷ pos 0 ∷ pos 0 ∷ pos 0 ∷ negsuc 2 ∷ [];
   s = pos 0 ∷ pos 1 ∷ pos 1 ∷ pos 0 ∷ pos 0 ∷ pos 0 ∷ pos 0 ∷ pos 0 ∷ [];
 }
 unfolding moves_on_literals
 price_run = refl
 
-pub score_run : score 1000 weights (change_of_bill B1 (empty B1) (after B1 (empty B1) (nurse_run 0 0 0 5))) ≡ negsuc 2987
+pub score_run : score 1000 weights (change_of_bill one_room (empty one_room) (after one_room (empty one_room) (nurse_run 0 0 0 5))) ≡ negsuc 2987
 unfolding moves_on_literals
 score_run = refl
 
 -- the law of parts at the examples
-pub parts_of_X : HasParts B2 X
+pub parts_of_first_admitted : HasParts two_patients first_admitted
 unfolding moves_on_literals content_of part_of
-parts_of_X = refl
+parts_of_first_admitted = refl
 
-pub parts_of_shared_room : HasParts B2 (X_with (Some (at 0 0 1)))
+pub parts_of_shared_room : HasParts two_patients (first_admitted_with (Some (at 0 0 1)))
 unfolding moves_on_literals content_of part_of
 parts_of_shared_room = refl

@@ -7,45 +7,45 @@ use Rattle.ih_plan.specs.Persons.{person_of}
 use Rattle.ih_plan.specs.Presence.{admission_of, present, shifts_of, entry_of}
 use Rattle.ih_plan.specs.Costs.{operated, operated_by, load_of}
 use Rattle.ih_plan.specs.BillOf.{bill_of, gender_mixes, bad_rooms, surgeon_overtime, theatre_overtime, mandatory_left_out, outside_windows, over_capacity, nurses_off, uncovered, mixed_ages, missing_skill, nurses_seen, overloads, open_theatres, transfers, delays, optional_left_out}
-use Rattle.ih_plan.proofs.Base.{B2, B2_with, X, X_with, at, bill9, weights}
+use Rattle.ih_plan.proofs.Base.{two_patients, two_patients_with, first_admitted, first_admitted_with, at, bill9, weights}
 
 unfoldable pub plan_on_literals : ⊤
 unfolding signed_sum sum_below any_below which_below greatest least person_of admission_of present shifts_of entry_of operated operated_by load_of bill_of gender_mixes bad_rooms surgeon_overtime theatre_overtime mandatory_left_out outside_windows over_capacity nurses_off uncovered mixed_ages missing_skill nurses_seen overloads open_theatres transfers delays optional_left_out
 plan_on_literals = tt
 
 -- One patient is admitted, and one nurse has the room: no rule is broken.
-pub example_bill : bill_of B2 X ≡ bill9 0 0 0 0 0 0 0 0 0 1 2 2 0 1 0 0 1
+pub example_bill : bill_of two_patients first_admitted ≡ bill9 0 0 0 0 0 0 0 0 0 1 2 2 0 1 0 0 1
 unfolding plan_on_literals
 example_bill = refl
 
-pub example_cost : cost weights (bill_of B2 X) ≡ pos 159
+pub example_cost : cost weights (bill_of two_patients first_admitted) ≡ pos 159
 unfolding plan_on_literals
 example_cost = refl
 
 -- The surgery takes one minute more than its theatre has.
-pub longer_surgery_bill : bill_of (B2_with 61) X ≡ bill9 0 0 0 1 0 0 0 0 0 1 2 2 0 1 0 0 1
+pub longer_surgery_bill : bill_of (two_patients_with 61) first_admitted ≡ bill9 0 0 0 1 0 0 0 0 0 1 2 2 0 1 0 0 1
 unfolding plan_on_literals
 longer_surgery_bill = refl
 
 -- A second patient of the other gender on the same day and in the same room, in the other theatre.
-pub shared_room_bill : bill_of B2 (X_with (Some (at 0 0 1))) ≡ bill9 1 0 0 0 0 0 1 0 0 2 8 3 3 2 1 0 0
+pub shared_room_bill : bill_of two_patients (first_admitted_with (Some (at 0 0 1))) ≡ bill9 1 0 0 0 0 0 1 0 0 2 8 3 3 2 1 0 0
 unfolding plan_on_literals
 shared_room_bill = refl
 
-pub shared_room_cost : cost weights (bill_of B2 (X_with (Some (at 0 0 1)))) ≡ pos 166
+pub shared_room_cost : cost weights (bill_of two_patients (first_admitted_with (Some (at 0 0 1)))) ≡ pos 166
 unfolding plan_on_literals
 shared_room_cost = refl
 
 -- The same a day later: the two stays have that day alone in common.
-pub shared_day_bill : bill_of B2 (X_with (Some (at 1 0 1))) ≡ bill9 1 0 0 0 0 0 0 0 0 3 8 3 0 2 0 1 0
+pub shared_day_bill : bill_of two_patients (first_admitted_with (Some (at 1 0 1))) ≡ bill9 1 0 0 0 0 0 0 0 0 3 8 3 0 2 0 1 0
 unfolding plan_on_literals
 shared_day_bill = refl
 
-pub shared_day_cost : cost weights (bill_of B2 (X_with (Some (at 1 0 1)))) ≡ pos 165
+pub shared_day_cost : cost weights (bill_of two_patients (first_admitted_with (Some (at 1 0 1)))) ≡ pos 165
 unfolding plan_on_literals
 shared_day_cost = refl
 
 -- Both patients in one theatre, which is too full, and the second in a room without nurses.
-pub shared_theatre_bill : bill_of B2 (X_with (Some (at 0 1 0))) ≡ bill9 0 0 0 40 0 0 0 0 3 1 2 2 0 1 0 0 0
+pub shared_theatre_bill : bill_of two_patients (first_admitted_with (Some (at 0 1 0))) ≡ bill9 0 0 0 40 0 0 0 0 3 1 2 2 0 1 0 0 0
 unfolding plan_on_literals
 shared_theatre_bill = refl
