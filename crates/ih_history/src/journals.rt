@@ -4,7 +4,7 @@ ghost use Rattle.std.specs.Prelude.{◌≡◌, ◌<◌, ◌^◌, All, IfOk, OnOk
 ghost use Rattle.ih_tables.specs.Bills.{IsWithin};
 ghost use Rattle.ih_journal.specs.Texts.{journal, lines_from};
 
-use ih_journal::{Entry, Options, head_line, line};
+use ih_journal::{Entry, LineRoom, Options, head_line};
 use std::alloc::{AllocError, Global};
 
 fn put_lines(options: &Options, entries: &[Entry], out: &mut Vec<u8>) -> Result<(), AllocError>
@@ -12,9 +12,10 @@ fn put_lines(options: &Options, entries: &[Entry], out: &mut Vec<u8>) -> Result<
     requires prices { All (λ e. IsWithin (10 ^ 11) e.price) entries.now }
     ensures { OnOk result (out.new.items ≡ out.old.items ++ lines_from options.now 0 entries.now) }
 {
+    let mut room = LineRoom::new();
     let mut place = 0;
     for entry in entries {
-        line(options, place, entry, out)?;
+        room.put(options, place, entry, out)?;
         place += 1;
     }
     Ok(())

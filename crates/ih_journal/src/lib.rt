@@ -19,7 +19,7 @@ pub use entries::{Entry, Verdict};
 pub use freeze::frozen;
 pub use headings::parse_head;
 pub use laws::lone_workers_have_one_history;
-pub use lines::{head_line, line, put_option};
+pub use lines::{LineRoom, head_line, line, put_option};
 pub use parse::{BadLine, journals_differ, parse_line};
 pub use reading::parse_move;
 pub use refusals::{JournalRefusal, Reason};

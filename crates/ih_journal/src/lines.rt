@@ -113,15 +113,48 @@ fn put_line(room: &mut [u8], options: &Options, place: u32, e: &Entry) -> usize
     put_byte(room, end, b'\n')
 }
 
+/// Room for one line, which many lines in turn are written in.
+#[derive(Drop)]
+pub struct LineRoom {
+    bytes: [u8; LINE_ROOM],
+}
+
+impl LineRoom {
+    ghost use Rattle.std.specs.Prelude.{◌≡◌, ◌++◌, ◌^◌, OnOk, OnErr};
+    ghost use Rattle.ih_tables.specs.Bills.{IsWithin};
+    ghost use Rattle.ih_journal.specs.Texts.{line_text, ended, IsPart};
+
+    /// Room with nothing in it.
+    pub fn new() -> LineRoom {
+        LineRoom {
+            bytes: [0; LINE_ROOM],
+        }
+    }
+
+    /// Appends the line of the entry at a place, as `line` does.
+    #[tactic(auto, using(crate::proofs::Parts::part_none))]
+    pub fn put(
+        &mut self,
+        options: &Options,
+        place: u32,
+        e: &Entry,
+        out: &mut Vec<u8>,
+    ) -> Result<(), AllocError>
+        requires { IsWithin (10 ^ 11) e.now.price }
+        ensures ok { OnOk result (out.new.items ≡ out.old.items ++ ended (line_text options.now place e.now)) }
+        ensures err { OnErr result (IsPart out.old.items out.new.items (ended (line_text options.now place e.now))) }
+    {
+        let len = put_line(&mut self.bytes, options, place, e);
+        out.extend_from_slice(&self.bytes[..len])
+    }
+}
+
 /// Appends the line of the entry at a place, with its line feed. After want of memory `out` holds what it held, followed
 /// by a prefix of that line.
-#[tactic(auto, using(crate::proofs::Parts::part_none))]
 pub fn line(options: &Options, place: u32, e: &Entry, out: &mut Vec<u8>) -> Result<(), AllocError>
     requires { IsWithin (10 ^ 11) e.now.price }
     ensures ok { OnOk result (out.new.items ≡ out.old.items ++ ended (line_text options.now place e.now)) }
     ensures err { OnErr result (IsPart out.old.items out.new.items (ended (line_text options.now place e.now))) }
 {
-    let mut room = [0; LINE_ROOM];
-    let len = put_line(&mut room, options, place, e);
-    out.extend_from_slice(&room[..len])
+    LineRoom::new().put(options, place, e, out)
 }
