@@ -1,7 +1,7 @@
 pub mod Lines
 pub mod ReportExample
 pub mod Sums
-pub mod RollLemmas
+pub mod ListLemmas
 pub mod LoadLemmas
 pub mod MarkLemmas
 pub mod AgeLemmas

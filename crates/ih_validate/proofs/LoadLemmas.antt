@@ -17,7 +17,7 @@ use Rattle.ih_plan.proofs.SumLemmas.{sum_below-zero, sum_below-more, sum_below-s
 use Rattle.ih_plan.proofs.SumBounds.{sum_below-none, sum_below-swap}
 use Rattle.ih_plan.proofs.Loads.{person_load, nurse_load, room_load-sum}
 use Rattle.ih_plan.proofs.Overtime.{from-all}
-use Rattle.ih_validate.specs.Rolls.{carer_in, carer_of}
+use Rattle.ih_validate.specs.Members.{carer_in, carer_of}
 
 -- ---- sums with one term
 

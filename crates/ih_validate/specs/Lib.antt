@@ -1,4 +1,4 @@
 pub mod Report
 pub mod Marks
-pub mod Rolls
+pub mod Members
 pub mod Rooms

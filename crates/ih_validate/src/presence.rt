@@ -3,16 +3,16 @@
 ghost use Rattle.std.specs.Prelude.{◌≡◌};
 ghost use Rattle.ih_plan.specs.Timetable.{IsPlanOf};
 ghost use Rattle.ih_plan.specs.Presence.{present};
-ghost use Rattle.ih_validate.specs.Rolls.{guests_of};
+ghost use Rattle.ih_validate.specs.Members.{residents_of};
 
-use crate::rolls::Roll;
+use crate::number_lists::NumberList;
 use ih_plan::{Plan, is_present, stays_in};
 use ih_tables::{Instance, RoomNo};
 
 /// Lists the persons whose room it is.
-pub fn list_guests(inst: &Instance, plan: &Plan, r: RoomNo, out: &mut Roll)
+pub fn list_residents(inst: &Instance, plan: &Plan, r: RoomNo, out: &mut NumberList)
     requires { IsPlanOf inst.now.draft plan.now }
-    ensures { out.new ≡ guests_of inst.now.draft plan.now r.0 }
+    ensures { out.new ≡ residents_of inst.now.draft plan.now r.0 }
 {
     out.clear();
     for x in 0..inst.persons() {
@@ -23,13 +23,20 @@ pub fn list_guests(inst: &Instance, plan: &Plan, r: RoomNo, out: &mut Roll)
 }
 
 /// Lists those of a room's persons who are there on the day.
-pub fn list_present(inst: &Instance, plan: &Plan, guests: &[u32], r: RoomNo, d: u32, out: &mut Roll)
+pub fn list_present(
+    inst: &Instance,
+    plan: &Plan,
+    residents: &[u32],
+    r: RoomNo,
+    d: u32,
+    out: &mut NumberList,
+)
     requires plan { IsPlanOf inst.now.draft plan.now }
-    requires guests { guests.now ≡ guests_of inst.now.draft plan.now r.0 }
+    requires residents { residents.now ≡ residents_of inst.now.draft plan.now r.0 }
     ensures { out.new ≡ present inst.now.draft plan.now r.0 d }
 {
     out.clear();
-    for x in guests {
+    for x in residents {
         if is_present(inst, plan, r, d, *x) {
             out.push(*x);
         }

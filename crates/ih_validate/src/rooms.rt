@@ -5,13 +5,13 @@ ghost use Rattle.ih_tables.specs.Sizes.{room_count, shift_count};
 ghost use Rattle.ih_plan.specs.Timetable.{IsPlanOf};
 ghost use Rattle.ih_plan.specs.Sums.{sum_below};
 ghost use Rattle.ih_plan.specs.BillOf.{gender_mixes, over_capacity, uncovered, mixed_ages, missing_skill};
-ghost use Rattle.ih_validate.specs.Rolls.{guests_of};
+ghost use Rattle.ih_validate.specs.Members.{residents_of};
 ghost use Rattle.ih_validate.specs.Rooms.{gender_mix, crowding, age_mix, bare_shift, skill_gap};
 
 use crate::days::{age_spread, genders_differ};
+use crate::number_lists::NumberList;
 use crate::patients::bit;
-use crate::presence::{list_guests, list_present};
-use crate::rolls::Roll;
+use crate::presence::{list_present, list_residents};
 use crate::shifts::{missing_skill_on, uncovered_on};
 use ih_plan::Plan;
 use ih_tables::{Instance, RoomNo};
@@ -44,10 +44,16 @@ fn nothing() -> RoomCosts
 }
 
 // The costs of one room: its persons are looked through once a day.
-fn costs_of(inst: &Instance, plan: &Plan, r: RoomNo, guests: &[u32], here: &mut Roll) -> RoomCosts
+fn costs_of(
+    inst: &Instance,
+    plan: &Plan,
+    r: RoomNo,
+    residents: &[u32],
+    here: &mut NumberList,
+) -> RoomCosts
     requires plan { IsPlanOf inst.now.draft plan.now }
     requires room { r.0 < room_count inst.now.draft }
-    requires guests { guests.now ≡ guests_of inst.now.draft plan.now r.0 }
+    requires residents { residents.now ≡ residents_of inst.now.draft plan.now r.0 }
     ensures gender_mixes { result.gender_mixes ≡ sum_below inst.now.draft.days (gender_mix inst.now.draft plan.now r.0) }
     ensures over_capacity { result.over_capacity ≡ sum_below inst.now.draft.days (crowding inst.now.draft plan.now r.0) }
     ensures uncovered { result.uncovered ≡ sum_below (shift_count inst.now.draft) (bare_shift inst.now.draft plan.now r.0) }
@@ -62,7 +68,7 @@ fn costs_of(inst: &Instance, plan: &Plan, r: RoomNo, guests: &[u32], here: &mut 
     let capacity = inst.room(r).capacity as u64;
     let mut costs = nothing();
     for d in 0..inst.days() {
-        list_present(inst, plan, guests, r, d, here);
+        list_present(inst, plan, residents, r, d, here);
         let here = here.as_slice();
         costs.gender_mixes += bit(genders_differ(inst, here));
         costs.over_capacity += (here.len() as u64).saturating_sub(capacity);
@@ -88,13 +94,13 @@ pub fn room_costs(inst: &Instance, plan: &Plan) -> RoomCosts
     ensures few_ages { result.mixed_ages ≤ 458752 }
     ensures few_skills { result.missing_skill ≤ 55050240000 }
 {
-    let mut guests = Roll::new();
-    let mut here = Roll::new();
+    let mut residents = NumberList::new();
+    let mut here = NumberList::new();
     let mut costs = nothing();
     for r in 0..inst.rooms() {
         let r = RoomNo(r);
-        list_guests(inst, plan, r, &mut guests);
-        let room = costs_of(inst, plan, r, guests.as_slice(), &mut here);
+        list_residents(inst, plan, r, &mut residents);
+        let room = costs_of(inst, plan, r, residents.as_slice(), &mut here);
         costs.gender_mixes += room.gender_mixes;
         costs.over_capacity += room.over_capacity;
         costs.uncovered += room.uncovered;

@@ -6,10 +6,10 @@ ghost use Rattle.ih_plan.specs.Timetable.{IsPlanOf, stay_of};
 ghost use Rattle.ih_plan.specs.Costs.{operated_by, minutes, surgeon_minutes, is_number, surgeon_of, admitted_on, theatre_of, theatres_used};
 ghost use Rattle.ih_plan.specs.BillOf.{surgeon_overtime, transfers};
 ghost use Rattle.ih_plan.specs.Sums.{sum_below};
-ghost use Rattle.ih_validate.specs.Rolls.{surgeon_patients};
+ghost use Rattle.ih_validate.specs.Members.{surgeon_patients};
 
 use crate::marks::{count_marked, mark};
-use crate::rolls::Roll;
+use crate::number_lists::NumberList;
 use crate::surgery::minutes;
 use ih_plan::{Placement, Plan};
 use ih_tables::{Instance, PatientNo, SurgeonNo};
@@ -52,7 +52,7 @@ fn is_surgeon_of(inst: &Instance, s: SurgeonNo, p: PatientNo) -> bool
 }
 
 // Lists the surgeon's patients, admitted or not.
-fn list_surgeon(inst: &Instance, s: SurgeonNo, out: &mut Roll)
+fn list_surgeon(inst: &Instance, s: SurgeonNo, out: &mut NumberList)
     ensures { out.new ≡ surgeon_patients inst.now.draft s.0 }
 {
     out.clear();
@@ -70,7 +70,7 @@ fn list_operated_by(
     among: &[u32],
     s: SurgeonNo,
     d: u32,
-    out: &mut Roll,
+    out: &mut NumberList,
 )
     requires plan { IsPlanOf inst.now.draft plan.now }
     requires among { among.now ≡ surgeon_patients inst.now.draft s.0 }
@@ -91,8 +91,8 @@ fn surgeon_overtime_of(inst: &Instance, plan: &Plan, s: SurgeonNo) -> u64
     ensures sum { result ≡ sum_below inst.now.draft.days (λ d. minutes inst.now.draft (operated_by inst.now.draft plan.now s.0 d) - surgeon_minutes inst.now.draft s.0 d) }
     ensures bound { result ≤ 615726511554560 }
 {
-    let mut among = Roll::new();
-    let mut today = Roll::new();
+    let mut among = NumberList::new();
+    let mut today = NumberList::new();
     list_surgeon(inst, s, &mut among);
     let mut sum = 0;
     for d in 0..inst.days() {
@@ -146,8 +146,8 @@ fn transfers_of(inst: &Instance, plan: &Plan, s: SurgeonNo) -> u64
     ensures sum { result ≡ sum_below inst.now.draft.days (λ d. theatres_used inst.now.draft (map (theatre_of plan.now) (operated_by inst.now.draft plan.now s.0 d)) - 1) }
     ensures bound { result ≤ 3584 }
 {
-    let mut among = Roll::new();
-    let mut today = Roll::new();
+    let mut among = NumberList::new();
+    let mut today = NumberList::new();
     list_surgeon(inst, s, &mut among);
     let mut sum = 0;
     for d in 0..inst.days() {

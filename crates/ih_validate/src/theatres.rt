@@ -6,10 +6,10 @@ ghost use Rattle.ih_plan.specs.Timetable.{IsPlanOf};
 ghost use Rattle.ih_plan.specs.Costs.{operated_in, operated, minutes, theatre_minutes, is_number, is_empty, theatre_of};
 ghost use Rattle.ih_plan.specs.BillOf.{theatre_overtime, open_theatres};
 ghost use Rattle.ih_plan.specs.Sums.{sum_below, count_below};
-ghost use Rattle.ih_validate.specs.Rolls.{theatre_patients};
+ghost use Rattle.ih_validate.specs.Members.{theatre_patients};
 
+use crate::number_lists::NumberList;
 use crate::patients::bit;
-use crate::rolls::Roll;
 use crate::surgery::minutes;
 use ih_plan::{Placement, Plan};
 use ih_tables::{Instance, PatientNo, TheatreNo};
@@ -47,7 +47,7 @@ fn is_in_theatre(plan: &Plan, t: TheatreNo, p: PatientNo) -> bool
 }
 
 // Lists the patients with surgery in the theatre, on whatever day.
-fn list_theatre(inst: &Instance, plan: &Plan, t: TheatreNo, out: &mut Roll)
+fn list_theatre(inst: &Instance, plan: &Plan, t: TheatreNo, out: &mut NumberList)
     requires { IsPlanOf inst.now.draft plan.now }
     ensures { out.new ≡ theatre_patients inst.now.draft plan.now t.0 }
 {
@@ -60,7 +60,14 @@ fn list_theatre(inst: &Instance, plan: &Plan, t: TheatreNo, out: &mut Roll)
 }
 
 // Lists those of a theatre's patients who have surgery on the day.
-fn list_operated(inst: &Instance, plan: &Plan, among: &[u32], t: TheatreNo, d: u32, out: &mut Roll)
+fn list_operated(
+    inst: &Instance,
+    plan: &Plan,
+    among: &[u32],
+    t: TheatreNo,
+    d: u32,
+    out: &mut NumberList,
+)
     requires plan { IsPlanOf inst.now.draft plan.now }
     requires among { among.now ≡ theatre_patients inst.now.draft plan.now t.0 }
     ensures { out.new ≡ operated inst.now.draft plan.now t.0 d }
@@ -80,8 +87,8 @@ fn theatre_overtime_of(inst: &Instance, plan: &Plan, t: TheatreNo) -> u64
     ensures sum { result ≡ sum_below inst.now.draft.days (λ d. minutes inst.now.draft (operated inst.now.draft plan.now t.0 d) - theatre_minutes inst.now.draft t.0 d) }
     ensures bound { result ≤ 615726511554560 }
 {
-    let mut among = Roll::new();
-    let mut today = Roll::new();
+    let mut among = NumberList::new();
+    let mut today = NumberList::new();
     list_theatre(inst, plan, t, &mut among);
     let mut sum = 0;
     for d in 0..inst.days() {
@@ -111,8 +118,8 @@ fn open_days(inst: &Instance, plan: &Plan, t: TheatreNo) -> u64
     ensures count { result ≡ count_below inst.now.draft.days (λ d. not (is_empty (operated inst.now.draft plan.now t.0 d))) }
     ensures bound { result ≤ 56 }
 {
-    let mut among = Roll::new();
-    let mut today = Roll::new();
+    let mut among = NumberList::new();
+    let mut today = NumberList::new();
     list_theatre(inst, plan, t, &mut among);
     let mut count = 0;
     for d in 0..inst.days() {

@@ -3,8 +3,8 @@ use Rattle.std.specs.Prelude.{◌&&◌}
 use Rattle.ih_tables.specs.Sizes.{patient_count}
 use Rattle.ih_plan.specs.Timetable.{stay_of}
 use Rattle.ih_plan.specs.Costs.{is_number, surgeon_of, admitted_on}
-use Rattle.ih_validate.specs.Rolls.{surgeon_patients}
-use Rattle.ih_validate.proofs.RollLemmas.{all-among, few-among, few-patients, filter-whole, operated_by-among}
+use Rattle.ih_validate.specs.Members.{surgeon_patients}
+use Rattle.ih_validate.proofs.ListLemmas.{all-among, few-among, few-patients, filter-whole, operated_by-among}
 use Rattle.ih_validate.proofs.surgeons.list_operated_by.Goals as goal
 
 pub is_surgery_by-requires-clause-patient : goal.is_surgery_by-requires-clause-patient

@@ -2,7 +2,7 @@ use Rattle.std.proofs.Common.{◌∙◌, ◌<◌}
 use Rattle.std.proofs.lemmas.List.Elements.{All-same}
 use Rattle.ih_tables.specs.Sizes.{patient_count}
 use Rattle.ih_plan.specs.Costs.{operated_by}
-use Rattle.ih_validate.proofs.RollLemmas.{operated_by-patients}
+use Rattle.ih_validate.proofs.ListLemmas.{operated_by-patients}
 use Rattle.ih_validate.proofs.surgeons.surgeon_overtime_of.Goals as goal
 
 pub minutes-requires-clause-patients : goal.minutes-requires-clause-patients

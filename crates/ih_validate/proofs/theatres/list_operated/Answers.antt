@@ -2,8 +2,8 @@ use Rattle.std.proofs.Common.{◌∙◌, arith}
 use Rattle.ih_tables.specs.Sizes.{patient_count}
 use Rattle.ih_plan.specs.Timetable.{stay_of}
 use Rattle.ih_plan.specs.Costs.{is_number, operated_in, theatre_of}
-use Rattle.ih_validate.specs.Rolls.{theatre_patients}
-use Rattle.ih_validate.proofs.RollLemmas.{all-among, few-among, few-patients, filter-whole, operated-among}
+use Rattle.ih_validate.specs.Members.{theatre_patients}
+use Rattle.ih_validate.proofs.ListLemmas.{all-among, few-among, few-patients, filter-whole, operated-among}
 use Rattle.ih_validate.proofs.theatres.list_operated.Goals as goal
 
 pub stay-requires : goal.stay-requires

@@ -2,7 +2,7 @@ use Rattle.std.proofs.Common.{◌∙◌, ◌<◌}
 use Rattle.std.proofs.lemmas.List.Elements.{All-same}
 use Rattle.ih_tables.specs.Sizes.{patient_count}
 use Rattle.ih_plan.specs.Costs.{operated}
-use Rattle.ih_validate.proofs.RollLemmas.{operated-patients}
+use Rattle.ih_validate.proofs.ListLemmas.{operated-patients}
 use Rattle.ih_validate.proofs.theatres.theatre_overtime_of.Goals as goal
 
 pub minutes-requires-clause-patients : goal.minutes-requires-clause-patients

@@ -4,12 +4,12 @@ use std::marker::Model;
 
 /// Up to 2,560 numbers, as many as there can be persons. It takes no memory.
 #[derive(Drop)]
-pub struct Roll {
+pub struct NumberList {
     numbers: [u32; 2560],
     len: usize,
 }
 
-impl Model for Roll {
+impl Model for NumberList {
     ghost use Rattle.std.specs.Prelude.{List, ℕ, take, ◌≤◌};
 
     ghost Value = { List ℕ };
@@ -19,14 +19,14 @@ impl Model for Roll {
     ghost invariant = { λ r. r.len ≤ 2560 };
 }
 
-impl Roll {
+impl NumberList {
     ghost use Rattle.std.specs.Prelude.{◌≡◌, ◌<◌, ◌≤◌, ◌++◌, ◌∷◌, [], length};
 
     /// Nobody yet.
-    pub fn new() -> Roll
+    pub fn new() -> NumberList
         ensures { result ≡ [] }
     {
-        Roll {
+        NumberList {
             numbers: [0; 2560],
             len: 0,
         }

@@ -14,24 +14,24 @@ use Rattle.ih_plan.specs.Presence.{Admission, admission_of, is_in, covers, is_pr
 use Rattle.ih_plan.specs.Costs.{is_number, operated, operated_by, operated_in, theatre_of, surgeon_of, admitted_on}
 use Rattle.ih_plan.specs.Sums.{which_below}
 use Rattle.ih_plan.proofs.SumLemmas.{which_below-zero, which_below-more}
-use Rattle.ih_validate.specs.Rolls.{guests_of, theatre_patients, surgeon_patients}
+use Rattle.ih_validate.specs.Members.{residents_of, theatre_patients, surgeon_patients}
 
 -- xs are the numbers below n that pass
-pub record IsRoll (p : ℕ → Bool) (n : ℕ) (xs : List ℕ) : Type 0 where
+pub record IsListed (p : ℕ → Bool) (n : ℕ) (xs : List ℕ) : Type 0 where
   pub listed : xs ≡ which_below n p
   pub few : length xs ≤ n
 
-pub is_roll-none : (p : ℕ → Bool) → IsRoll p 0 []
-is_roll-none p = record { listed = sym (which_below-zero p); few = omega arith }
+pub listed-none : (p : ℕ → Bool) → IsListed p 0 []
+listed-none p = record { listed = sym (which_below-zero p); few = omega arith }
 
-pub is_roll-yes : {p : ℕ → Bool} {n : ℕ} {xs : List ℕ} → IsRoll p n xs → true ≡ p n → IsRoll p (n + 1) (xs ++ n ∷ [])
-is_roll-yes {p} {n} {xs} so_far e = record {
+pub listed-yes : {p : ℕ → Bool} {n : ℕ} {xs : List ℕ} → IsListed p n xs → true ≡ p n → IsListed p (n + 1) (xs ++ n ∷ [])
+listed-yes {p} {n} {xs} so_far e = record {
   listed = rw (which_below-more n p, ← e, so_far.listed) refl;
   few = omega (arith, length-append xs (n ∷ []), so_far.few);
 }
 
-pub is_roll-no : {p : ℕ → Bool} {n : ℕ} {xs : List ℕ} → IsRoll p n xs → false ≡ p n → IsRoll p (n + 1) xs
-is_roll-no {p} {n} {xs} so_far e = record {
+pub listed-no : {p : ℕ → Bool} {n : ℕ} {xs : List ℕ} → IsListed p n xs → false ≡ p n → IsListed p (n + 1) xs
+listed-no {p} {n} {xs} so_far e = record {
   listed = rw (which_below-more n p, ← e) so_far.listed;
   few = omega (arith, so_far.few);
 }
@@ -92,9 +92,9 @@ first_passes true b h = refl
 first_passes false b h = h
 
 -- those of a room's persons who are there on a day are all who are
-pub present-guests : (I : Draft) (P : Timetable) (r d : ℕ) → filter (is_present I P r d) (guests_of I P r) ≡ present I P r d
+pub present-residents : (I : Draft) (P : Timetable) (r d : ℕ) → filter (is_present I P r d) (residents_of I P r) ≡ present I P r d
 unfolding present
-present-guests I P r d =
+present-residents I P r d =
     filter-which_below (person_count I) (λ x. is_number (option_map (λ (a : Admission). a.room) (admission_of I P x)) r) (is_present I P r d) (λ x h. in_room (admission_of I P x) (person_of I x).length_of_stay h)
   where
     in_room : (o : Option Admission) (n : ℕ) → is_in o n r d ≡ true → is_number (option_map (λ (a : Admission). a.room) o) r ≡ true

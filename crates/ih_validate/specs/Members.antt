@@ -9,8 +9,8 @@ use Rattle.ih_plan.specs.Costs.{is_number, theatre_of, surgeon_of}
 use Rattle.ih_plan.specs.Sums.{which_below}
 
 -- the persons whose room is r, on whatever days, rising
-abbrev pub guests_of : Draft → Timetable → ℕ → List ℕ
-guests_of I P r = which_below (person_count I) (λ x. is_number (room_of I P x) r)
+abbrev pub residents_of : Draft → Timetable → ℕ → List ℕ
+residents_of I P r = which_below (person_count I) (λ x. is_number (room_of I P x) r)
 
 -- the patients with surgery in theatre t, on whatever day, rising
 abbrev pub theatre_patients : Draft → Timetable → ℕ → List ℕ
