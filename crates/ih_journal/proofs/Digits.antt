@@ -71,8 +71,3 @@ pub minus_text : (bs : List ℕ) (z : ℤ) → IsSmall z → get_or bs 0 0 ≡ 4
     → (n : ℕ) × (1 ≤ n) × (n ≤ 10 ^ 11) × (drop 1 bs ≡ decimal n)
 minus_text bs (pos n) small minus is = let most = small.1 in absurd (digit_first bs n (omega (arith, ints, most)) is minus)
 minus_text bs (negsuc n) small minus is = let least = small.0 in (suc n, omega arith, omega (arith, ints, least), ap (drop 1) is)
-
--- any other is that of a number
-pub plain_text : (bs : List ℕ) (z : ℤ) → IsSmall z → (get_or bs 0 0 ≡ 45 → ⊥) → bs ≡ signed_decimal z → (n : ℕ) × (n ≤ 10 ^ 11) × (bs ≡ decimal n)
-plain_text bs (pos n) small minus is = let most = small.1 in (n, omega (arith, ints, most), is)
-plain_text bs (negsuc n) small minus is = absurd (minus (ap (λ (ds : List ℕ). get_or ds 0 0) is))

@@ -96,15 +96,3 @@ agrees-entry b P e plan fits agrees free = by_case (is_accepted e.verdict) free
     by_case false free = agrees
 
 -- ---- histories
-
--- each timetable of the history agrees with the start on the frozen choices
-pub agree-none : (b : Base) (k : ℕ) → AgreesBefore b (plan_at b [] k)
-unfolding after_entries
-agree-none b k = subst (AgreesBefore b) (sym (plan_at-end b [] k (omega arith))) (agrees-start b)
-
-pub agree-more : (b : Base) (H : List Tried) (e : Tried) → ((k : ℕ) → AgreesBefore b (plan_at b H k)) → AgreesBefore b (after_entry b.instance (plan_after b H) e) → (k : ℕ) → AgreesBefore b (plan_at b (H ++ e ∷ []) k)
-agree-more b H e before here k = by_place (leb_tells k (length H))
-  where
-    by_place : ((nat_le k (length H) ≡ true) × (k ≤ length H)) ⊎ ((nat_le k (length H) ≡ false) × (length H < k)) → AgreesBefore b (plan_at b (H ++ e ∷ []) k)
-    by_place (inl (test, le)) = subst (AgreesBefore b) (sym (plan_at-earlier b H (e ∷ []) k le)) (before k)
-    by_place (inr (test, lt)) = subst (AgreesBefore b) (sym (plan_at-end b (H ++ e ∷ []) k (let n = length-more H e in omega arith) ∙ plan_after-more b H e)) here

@@ -130,19 +130,9 @@ pub has_made-none : (b : Base) (w : ℕ) → HasMade b.options [] w 0
 unfolding last_by
 has_made-none b w = record { attempt = refl; done = refl }
 
-pub has_made-next : (b : Base) (H : List Tried) (w i : ℕ) → HasMade b.options H w i → i < b.options.moves → next_attempt b.options H w ≡ Some (record { number = i; again = 0 })
-unfolding next_attempt is_done
-has_made-next b H w i made h =
-    let more : (b.options.moves == i) ≡ false = ne_eqb b.options.moves i (λ e. omega arith) in
-    rw (made.done, more, made.attempt) refl
-
 pub has_made-all : (b : Base) (H : List Tried) (w : ℕ) → HasMade b.options H w b.options.moves → is_done b.options H w ≡ true
 unfolding is_done
 has_made-all b H w made = made.done ∙ eq-eqb b.options.moves b.options.moves refl
-
-pub has_made-other : (b : Base) (H : List Tried) (e : Tried) (w i : ℕ) → (e.worker ≡ w → ⊥) → HasMade b.options H w i → HasMade b.options (H ++ e ∷ []) w i
-has_made-other b H e w i other made =
-    record { attempt = rw (last_by-other H e w other) made.attempt; done = rw (last_by-other H e w other) made.done }
 
 same-test : (m n : ℕ) → (m == n) ≡ (n == m)
 same-test m n = elim (cases_eq m n) [

@@ -129,10 +129,6 @@ pub left_none : (o : Option (List ℕ)) → left_parted 32 o ≡ [] → o ≡ No
 left_none None h = refl
 left_none (Some rest) h = let some = parted_some 32 rest in let len = ap length h in absurd (omega (arith, some, len))
 
-pub retries_read : (n : ℕ) → 0 < n → (codes "retries=" ++ decimal n) ∷ [] ≡ retries_field n
-retries_read zero h = absurd (omega arith)
-retries_read (suc n) h = refl
-
 -- some retries and nothing behind them
 pub retries_whole : (r n : ℕ) (rest : Option (List ℕ)) → r < 2 ^ 32 → n < 2 ^ 32 → (codes "retries=" ++ decimal n) ∷ left_parted 32 rest ≡ retries_field r → (0 < n) × (rest ≡ None)
 retries_whole zero n rest small other h = absurd (let no : (codes "retries=" ++ decimal n) ∷ left_parted 32 rest ≡ [] = h in cc)

@@ -82,26 +82,6 @@ right_here I o bytes i at at' kind field read wanted next fits =
       few = omega (arith, short, within);
     }
 
-pub wrong_here : (I : Draft) (o : Options) (bytes : List ℕ) (i at : ℕ) (kind : Kind) (field : List ℕ) (rest : List (List ℕ)) → IsRead I o bytes i at
-    → slice_get (kinds o) i ≡ Some kind → fields_from bytes at ≡ field ∷ rest → (IsField I kind field → ⊥) → IsFirstWrong I o bytes (i + 1)
-wrong_here I o bytes i at kind field rest read wanted next misfit =
-    let here = get_here (parted 32 bytes) i field rest (read.left ∙ next) in
-    record {
-      index = i;
-      number = refl;
-      before = read.right;
-      wrong = λ r. misfit (by_both r.kind r.field (sym r.wanted ∙ wanted) (sym r.there ∙ here.0) r.fits);
-      field = inl (slice_get_within (kinds o) i kind wanted);
-    }
-  where
-    by_both : (k : Kind) (x : List ℕ) → Some k ≡ Some kind → Some x ≡ Some field → IsField I k x → IsField I kind field
-    by_both k x same_kind same_field fits =
-        let kinds_same : k ≡ kind = cc in
-        let fields_same : x ≡ field = cc in
-        let P : Kind → Type 0 = λ q. IsField I q field in
-        let Q : List ℕ → Type 0 = λ y. IsField I k y in
-        subst P kinds_same (subst Q fields_same fits)
-
 pub missing : (I : Draft) (o : Options) (bytes : List ℕ) (i at : ℕ) → IsRead I o bytes i at → i < length (kinds o) → fields_from bytes at ≡ []
     → IsFirstWrong I o bytes (i + 1)
 missing I o bytes i at read wanted next =

@@ -45,9 +45,3 @@ one_place (suc m) k x = elim (cases_eq k m) [
   | inl same ↦ rw (same, eq-eqb m m refl) (omega (arith, none_there m m x (omega arith)))
   | inr other ↦ rw (ne_eqb k m other) (omega (arith, one_place m k x))
 ]
-
--- What each number gives to its one place is no more in all places than all gave.
-pub keyed_sum-le : (m n : ℕ) (key f : ℕ → ℕ) → sum_below m (λ i. sum_below n (λ p. if key p == i then f p else 0)) ≤ sum_below n f
-keyed_sum-le m n key f =
-    rw (sum_below-swap m n (λ i p. if key p == i then f p else 0))
-    (sum_below-le_each n (λ p. sum_below m (λ i. if key p == i then f p else 0)) f (λ p h. one_place m (key p) (f p)))

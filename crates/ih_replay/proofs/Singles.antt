@@ -68,10 +68,6 @@ pub as-taken : (P : Base → List Tried → Type 0) (v : Recorded) (A : Replayed
 as-taken P v A legal view h =
     subst (λ (s : Replayed). P s.base (tries s.entries)) view (subst (P v.base) (sym (legal-singles v.base v.entries legal)) h)
 
--- as many entries as the book has
-pub many-taken : (v : Recorded) (A : Replayed) → replayed_of v ≡ A → length A.entries ≡ length v.entries
-many-taken v A view = ap (λ (s : Replayed). length s.entries) (sym view) ∙ length-map v.entries single
-
 -- the book's entries, by what each stands for
 pub entries-taken : (v : Recorded) (A : Replayed) (es : List Entry) → replayed_of v ≡ A → tries es ≡ v.entries → es ≡ A.entries
 entries-taken v A es view is = sym (singles-tries es) ∙ (ap singles is ∙ ap (λ (s : Replayed). s.entries) view)

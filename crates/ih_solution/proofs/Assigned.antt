@@ -35,14 +35,4 @@ pub record HasAssignments (I : Draft) (n : NurseNo) (given : List Assignment) (i
   pub plan : IsPlanOf I Q
   pub rest : with_assignments n (drop i given) Q ≡ with_assignments n given P
 
-pub has_assignments-more : {I : Draft} {n : NurseNo} {given : List Assignment} {i : ℕ} {P Q : Timetable} (a : Assignment) (R : Timetable) → HasAssignments I n given i P Q → i < length given → get_or given i a ≡ a → IsPlanOf I R → R ≡ with_rooms n a.shift a.rooms Q
-    → HasAssignments I n given (i + 1) P R
-has_assignments-more {I} {n} {given} {i} {P} {Q} a R so_far h e plan gives = record {
-  plan = plan;
-  rest =
-      let next : drop i given ≡ a ∷ drop (i + 1) given = drop-cons given i a h ∙ (rw (add-one, e) refl) in
-      ap (with_assignments n (drop (i + 1) given)) gives ∙ sym (ap (λ (rest : List Assignment). with_assignments n rest Q) next) ∙ so_far.rest;
 }
-
-pub has_assignments-all : {I : Draft} {n : NurseNo} {given : List Assignment} {i : ℕ} {P Q : Timetable} → HasAssignments I n given i P Q → length given ≤ i → Q ≡ with_assignments n given P
-has_assignments-all {I} {n} {given} {i} {P} {Q} so_far h = sym (ap (λ (rest : List Assignment). with_assignments n rest Q) (drop_all i given h)) ∙ so_far.rest

@@ -38,10 +38,6 @@ is_sum-day {s} {b} {f} d x so_far e h = record {
   small = omega (arith, so_far.small);
 }
 
--- each of them is a shift of the day
-pub day_of-shift : (d j : ℕ) → j < 3 → day_of (3 * d + j) ≡ d
-day_of-shift d j h = omega arith
-
 pub bit-most : (b : Bool) → bit b ≤ 1
 bit-most true = omega arith
 bit-most false = omega arith

@@ -75,16 +75,3 @@ flag_read E f id o none value = go (one_of id (rows_of f)) refl
     go : (w : Option Text) → one_of id (rows_of f) ≡ w → unwrap_or o false ≡ option_map_or (λ t. bytes_eq t (codes "true")) w false
     go None is = ap (λ x. unwrap_or x false) (none (one_text-rows f id ∙ is))
     go (Some t) is = flag_is E t o (value t (one_text-rows f id ∙ is))
-
--- the number of an argument lies in its range
-pub number_within : (low high : ℕ) (id : Text) (rows : List Row) → HasNumber low high id rows
-    → (low ≤ number_at id rows) × (number_at id rows ≤ high)
-number_within low high id rows has = rw has.1 (has.2.2, has.2.3)
-
--- and so does that of an argument that may be left out
-pub optional_number_within : (high : ℕ) (id : Text) (rows : List Row) → IsNumberIfGiven 0 high id rows → number_at id rows ≤ high
-optional_number_within high id rows given = go (one_of id rows) refl
-  where
-    go : (w : Option Text) → one_of id rows ≡ w → option_map_or number_of w 0 ≤ high
-    go None is = omega arith
-    go (Some t) is = (given t is).3
