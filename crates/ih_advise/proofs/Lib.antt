@@ -1,5 +1,5 @@
 pub mod Choices
 pub mod Least
 pub mod Lines
-pub mod Numbers
+pub mod ChoiceNumbers
 pub mod Places

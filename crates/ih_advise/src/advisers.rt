@@ -10,8 +10,8 @@ use ih_fill::Scorer;
 use ih_tables::Instance;
 use std::alloc::{AllocError, Global};
 
-/// What is advised on each choice of one adviser, in order. There is room for all of it before the adviser begins, so that
-/// no thread takes memory.
+/// What is advised on each choice of one adviser, in order. There is room for all of it before the adviser begins, so
+/// that no thread takes memory.
 #[derive(Drop)]
 pub(crate) struct Adviser {
     pub(crate) found: Vec<Option<Advice>>,
@@ -28,8 +28,8 @@ impl Adviser {
         })
     }
 
-    /// Looks for advice on each of its choices: that with its own number, and from there in steps of as many as there are
-    /// advisers.
+    /// Looks for advice on each of its choices: that with its own number, and from there in steps of as many as there
+    /// are advisers.
     pub(crate) fn advise_all(
         &mut self,
         inst: &Instance,

@@ -55,7 +55,8 @@ fn work_alone<R: Wait, G: Gate>(
     gate.after(rt, number as u32, 0);
 }
 
-// Lets each adviser look for its advice, in a thread of its own where one can be started. All price from one set of ledgers.
+// Lets each adviser look for its advice, in a thread of its own where one can be started. All price from one set of
+// ledgers.
 fn work<R: Threads + Wait + Sync, G: Gate>(
     rt: &R,
     inst: &Instance,
@@ -81,8 +82,8 @@ fn work<R: Threads + Wait + Sync, G: Gate>(
     );
 }
 
-// What is advised on the choice with a number: of n advisers, that with the number modulo n found it, and it is its answer
-// with the number over n.
+// What is advised on the choice with a number: of n advisers, that with the number modulo n found it, and it is its
+// answer with the number over n.
 fn found_of(advisers: &[Adviser], number: usize) -> Option<Advice>
     requires { 0 < length advisers.now }
     ensures { result ≡ found_of advisers.now number }
@@ -136,9 +137,10 @@ fn advise_by<R: Threads + Wait + Sync, G: Gate>(
     gather(alloc, advisers, subject_count(inst))
 }
 
-/// What is advised on a timetable, in the order of the choices: for each choice that one other write may improve, the first
-/// write of least score, by how much it changes the score, and what it changes in the bill. `hard` is the weight of a broken
-/// rule in a score. Whatever the number of workers, from 1 to 64, the advice is the same; each passes the gate once.
+/// What is advised on a timetable, in the order of the choices: for each choice that one other write may improve, the
+/// first write of least score, by how much it changes the score, and what it changes in the bill. `hard` is the weight
+/// of a broken rule in a score. Whatever the number of workers, from 1 to 64, the advice is the same; each passes the
+/// gate once.
 pub fn advise<R: Threads + Wait + Sync, G: Gate>(
     rt: &R,
     alloc: Global,

@@ -9,7 +9,7 @@ use Rattle.ih_plan.specs.declared.moves.Move.{Move}
 use Rattle.ih_plan.specs.Timetable.{Timetable, IsPlanOf}
 use Rattle.ih_plan.specs.Sums.{bit, is_listed, which_below}
 use Rattle.ih_plan.specs.Cells.{cell_at, cell_count}
-use Rattle.ih_plan.proofs.Lists.{has, has-listed, has-which_below, which_below-has, tagged-keys}
+use Rattle.ih_plan.proofs.ListedBelow.{has, has-listed, has-which_below, which_below-has, tagged-keys}
 use Rattle.ih_plan.specs.Series.{all_touch, footprint_of_all}
 use Rattle.ih_journal.specs.Tried.{Tried}
 use Rattle.ih_journal.specs.declared.entries.Verdict.{Verdict}

@@ -2,7 +2,7 @@
 use Rattle.std.proofs.Common.{◌≡◌, refl, [], ◌∷◌, map, List}
 use Rattle.std.specs.Prelude.{⊤}
 use Rattle.ih_plan.specs.Series.{footprint_of_all}
-use Rattle.ih_plan.proofs.Prices.{nurse, place}
+use Rattle.ih_plan.proofs.MoveExamples.{nurse, place}
 use Rattle.ih_journal.specs.Tried.{Tried, tries}
 use Rattle.ih_journal.specs.declared.entries.Verdict.TheVariants.{Accepted}
 use Rattle.ih_journal.specs.Base.{Base}

@@ -4,7 +4,7 @@ use Rattle.std.specs.Prelude.{if◌then◌else◌, ◌==◌, map, sum_by}
 use Rattle.std.proofs.lemmas.Bool.{cases_eq, eq-eqb, ne_eqb}
 use Rattle.std.proofs.lemmas.List.Sums.{sum_by-cons}
 use Rattle.ih_plan.specs.Sums.{bit, sum_below, which_below, is_listed}
-use Rattle.ih_plan.proofs.Lists.{has-listed, has-which_below}
+use Rattle.ih_plan.proofs.ListedBelow.{has-listed, has-which_below}
 use Rattle.ih_plan.proofs.SumLemmas.{sum_below-same, sum_by-which_below}
 use Rattle.ih_plan.proofs.SumBounds.{sum_below-none}
 use Rattle.ih_cellbook.specs.Counters.{times_read}

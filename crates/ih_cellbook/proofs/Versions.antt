@@ -10,7 +10,7 @@ use Rattle.ih_plan.specs.declared.moves.Move.{Move}
 use Rattle.ih_plan.specs.Timetable.{Timetable}
 use Rattle.ih_plan.specs.Sums.{bit}
 use Rattle.ih_plan.specs.Cells.{cell_at, cell_count}
-use Rattle.ih_plan.proofs.Lists.{which_below-filter}
+use Rattle.ih_plan.proofs.ListedBelow.{which_below-filter}
 use Rattle.ih_plan.specs.Series.{all_touch, footprint_of_all}
 use Rattle.ih_journal.specs.Tried.{Tried}
 use Rattle.ih_journal.specs.Base.{Base}

@@ -17,10 +17,10 @@ use Rattle.ih_plan.specs.Sums.{listed}
 use Rattle.ih_plan.specs.BillOf.{Counts, as_bill, change_of_bill}
 use Rattle.ih_plan.specs.Cells.{part_at, part_of, content_of}
 use Rattle.ih_plan.proofs.BillBounds.{change-within}
-use Rattle.ih_plan.proofs.Numbers.{nurse_shift_cell, care_cell}
+use Rattle.ih_plan.proofs.CellNumbers.{nurse_shift_cell, care_cell}
 use Rattle.ih_plan.proofs.Parts.{total, has_parts}
 use Rattle.ih_plan.proofs.PlanRanges.{put-plan}
-use Rattle.ih_footprint.proofs.Prices.{differences-same}
+use Rattle.ih_footprint.proofs.LocalPrices.{differences-same}
 use Rattle.ih_nurses.specs.Choice.{excess_of, seen_by, rise_by_choice}
 use Rattle.ih_costs.specs.StayGain.{rule_at, cost_at}
 use Rattle.ih_costs.specs.ChoiceGain.{choice_told}

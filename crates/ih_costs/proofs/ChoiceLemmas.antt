@@ -18,7 +18,7 @@ use Rattle.ih_plan.specs.Sums.{sum_below}
 use Rattle.ih_plan.specs.BillOf.{Counts}
 use Rattle.ih_plan.specs.Cells.{IsCellOf, part_at, part_of}
 use Rattle.ih_plan.specs.Footprint.{write_touches, in_choice}
-use Rattle.ih_plan.proofs.Numbers.{sum_by_kind, stay_cell, room_day_cell, theatre_day_cell, surgeon_day_cell, room_shift_cell, nurse_shift_cell, care_cell}
+use Rattle.ih_plan.proofs.CellNumbers.{sum_by_kind, stay_cell, room_day_cell, theatre_day_cell, surgeon_day_cell, room_shift_cell, nurse_shift_cell, care_cell}
 use Rattle.ih_plan.proofs.Parts.{total}
 use Rattle.ih_plan.proofs.SumLemmas.{sum_below-same}
 use Rattle.ih_footprint.proofs.Locality.{frame}

@@ -12,7 +12,7 @@ use Rattle.ih_plan.specs.Writes.{put}
 use Rattle.ih_plan.specs.Presence.{covers, day_of}
 use Rattle.ih_plan.specs.BillOf.{Counts}
 use Rattle.ih_plan.specs.Cells.{part_at}
-use Rattle.ih_plan.proofs.Numbers.{room_day_cell, room_shift_cell}
+use Rattle.ih_plan.proofs.CellNumbers.{room_day_cell, room_shift_cell}
 use Rattle.ih_nurses.specs.Choice.{excess_of}
 use Rattle.ih_nurses.specs.Gains.{excess_in, rise_by_placement}
 use Rattle.ih_costs.specs.StayGain.{rule_at, cost_at, of_nurse}

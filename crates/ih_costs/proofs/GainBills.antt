@@ -17,10 +17,10 @@ use Rattle.ih_plan.specs.Sums.{listed}
 use Rattle.ih_plan.specs.BillOf.{Counts, as_bill, bill_of, change_of_bill}
 use Rattle.ih_plan.specs.Cells.{part_at, part_of, content_of}
 use Rattle.ih_plan.proofs.Entries.{stay_of-same}
-use Rattle.ih_plan.proofs.Numbers.{stay_cell, room_day_cell, theatre_day_cell, surgeon_day_cell, room_shift_cell, nurse_shift_cell, care_cell}
+use Rattle.ih_plan.proofs.CellNumbers.{stay_cell, room_day_cell, theatre_day_cell, surgeon_day_cell, room_shift_cell, nurse_shift_cell, care_cell}
 use Rattle.ih_plan.proofs.Parts.{total, has_parts}
 use Rattle.ih_plan.proofs.PlanRanges.{has-range, put-plan}
-use Rattle.ih_footprint.proofs.Prices.{map-same, differences-same}
+use Rattle.ih_footprint.proofs.LocalPrices.{map-same, differences-same}
 use Rattle.ih_costs.specs.StayGain.{rule_at, cost_at, end_of, of_stay, of_care, over_days, of_theatre, of_surgeon, over_shifts, of_nurse, over_loads, gain_of, stay_gain, placement_gain}
 use Rattle.ih_plan.proofs.ChangeSums.{at-by_place, change-same}
 use Rattle.ih_costs.proofs.GainLemmas.{gain_by, number-gain}

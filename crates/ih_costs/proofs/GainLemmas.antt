@@ -19,7 +19,7 @@ use Rattle.ih_plan.specs.Sums.{sum_below}
 use Rattle.ih_plan.specs.BillOf.{Counts}
 use Rattle.ih_plan.specs.Cells.{part_at, part_of}
 use Rattle.ih_plan.specs.Footprint.{write_touches, in_stay, in_placement, is_own}
-use Rattle.ih_plan.proofs.Numbers.{sum_by_kind, stay_cell, room_day_cell, theatre_day_cell, surgeon_day_cell, room_shift_cell, nurse_shift_cell, care_cell}
+use Rattle.ih_plan.proofs.CellNumbers.{sum_by_kind, stay_cell, room_day_cell, theatre_day_cell, surgeon_day_cell, room_shift_cell, nurse_shift_cell, care_cell}
 use Rattle.ih_plan.proofs.Overtime.{from-all}
 use Rattle.ih_plan.proofs.Parts.{total}
 use Rattle.ih_plan.proofs.SumLemmas.{sum_below-same, sum_below-but}

@@ -13,7 +13,7 @@ use Rattle.ih_plan.specs.Costs.{surgeon_of}
 use Rattle.ih_plan.specs.BillOf.{Counts, as_bill}
 use Rattle.ih_plan.specs.Cells.{part_at}
 use Rattle.ih_plan.proofs.Entries.{stay_of-same}
-use Rattle.ih_plan.proofs.Numbers.{stay_cell, theatre_day_cell, surgeon_day_cell, care_cell}
+use Rattle.ih_plan.proofs.CellNumbers.{stay_cell, theatre_day_cell, surgeon_day_cell, care_cell}
 use Rattle.ih_costs.specs.Changes.{stay_part}
 use Rattle.ih_costs.specs.StayGain.{rule_at, cost_at, rise, of_surgeon, over_days, over_shifts, over_loads, of_surgery, placement_gain}
 use Rattle.ih_costs.proofs.ChangeLemmas.{stay-is}

@@ -11,7 +11,7 @@ use Rattle.ih_plan.specs.BillOf.{change_of_bill}
 use Rattle.ih_plan.specs.Cells.{number_in, IsCellIn, cell_at, cell_count}
 use Rattle.ih_plan.specs.Footprint.{touches, footprint}
 use Rattle.ih_plan.specs.Sums.{is_listed}
-use Rattle.ih_plan.proofs.Lists.{which_below-same}
+use Rattle.ih_plan.proofs.ListedBelow.{which_below-same}
 use Rattle.ih_footprint.specs.Gathered.{Gathered, Gathers, settled}
 use Rattle.ih_footprint.proofs.GatherLemmas.{gathers-both, gathers-like, gathers-none, or-none, settled-gathered}
 use Rattle.ih_plan.specs.Series.{after_all, all_touch, footprint_of_all, price_of_all}

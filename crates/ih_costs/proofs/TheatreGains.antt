@@ -17,9 +17,9 @@ use Rattle.ih_plan.specs.Costs.{is_number}
 use Rattle.ih_plan.specs.BillOf.{Counts}
 use Rattle.ih_plan.specs.Cells.{content_of, part_of, part_at, persons_content, nursing_content, load_content}
 use Rattle.ih_plan.proofs.Entries.{stay_of-same, admission-other, admission-set}
-use Rattle.ih_plan.proofs.Lists.{which_below-same, tagged-same}
+use Rattle.ih_plan.proofs.ListedBelow.{which_below-same, tagged-same}
 use Rattle.ih_plan.proofs.Loads.{room_load-same, load_of-same, if-same}
-use Rattle.ih_plan.proofs.Numbers.{stay_cell, room_day_cell, room_shift_cell, nurse_shift_cell, care_cell}
+use Rattle.ih_plan.proofs.CellNumbers.{stay_cell, room_day_cell, room_shift_cell, nurse_shift_cell, care_cell}
 use Rattle.ih_costs.specs.StayGain.{rule_at, cost_at, rise, end_of, of_stay, of_care, of_nurse, over_days, over_shifts, over_loads, of_surgery, placement_gain}
 use Rattle.ih_costs.proofs.DayGains.{placed, without}
 use Rattle.ih_costs.proofs.GainNumbers.{each-told}

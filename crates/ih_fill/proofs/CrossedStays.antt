@@ -30,7 +30,7 @@ use Rattle.ih_plan.proofs.Entries.{stay_of-other, stay_of-same}
 use Rattle.ih_plan.proofs.Parts.{total, has_parts}
 use Rattle.ih_plan.proofs.SumLemmas.{sum_below-same}
 use Rattle.ih_plan.proofs.SumBounds.{sum_below-add}
-use Rattle.ih_footprint.proofs.Prices.{at-listed}
+use Rattle.ih_footprint.proofs.LocalPrices.{at-listed}
 use Rattle.ih_fill.proofs.ScoreLemmas.{AreBalanced}
 
 -- a stay from a day on in a room, with surgery in a theatre
@@ -107,7 +107,9 @@ module _ (I : Draft) (P : Timetable) (p : PatientNo) (plan : IsPlanOf I P) (insi
       ∙ ap (λ f. part_of I (SurgeonDay c e) (theatres_content (tagged (theatre_of (stayed P p (placed d s t))) (which_below (patient_count I) f))))
       (fun_ext (agree_too d r s t c e))
     where
-      agree_too : (d r s t : ℕ) (c : SurgeonNo) (e : Day) (x : ℕ) → (is_number (surgeon_of I x) c.0 && admitted_on e.0 (stay_of (stayed P p (placed d r t)) x)) ≡ (is_number (surgeon_of I x) c.0 && admitted_on e.0 (stay_of (stayed P p (placed d s t)) x))
+      agree_too : (d r s t : ℕ) (c : SurgeonNo) (e : Day) (x : ℕ)
+          → (is_number (surgeon_of I x) c.0 && admitted_on e.0 (stay_of (stayed P p (placed d r t)) x))
+          ≡ (is_number (surgeon_of I x) c.0 && admitted_on e.0 (stay_of (stayed P p (placed d s t)) x))
       agree_too d r s t c e x = ap (λ b. is_number (surgeon_of I x) c.0 && b) (agree (admitted_on e.0) (placed d r t) (placed d s t) refl x)
 
   straight : (g : Counts → ℕ) (a b c d : Counts) → a ≡ c → b ≡ d → g a + g b ≡ g c + g d
@@ -137,7 +139,8 @@ module _ (I : Draft) (P : Timetable) (p : PatientNo) (plan : IsPlanOf I P) (insi
       ∙ sum_below-add (cell_count I) (part (placed d r u)) (part (placed d s t)))
 
   rule-even : (d r s t u k : ℕ) → k < 9
-      → at (bill_of I (stayed P p (placed d r t))).v k +ℤ at (bill_of I (stayed P p (placed d s u))).v k ≡ at (bill_of I (stayed P p (placed d r u))).v k +ℤ at (bill_of I (stayed P p (placed d s t))).v k
+      → at (bill_of I (stayed P p (placed d r t))).v k +ℤ at (bill_of I (stayed P p (placed d s u))).v k
+      ≡ at (bill_of I (stayed P p (placed d r u))).v k +ℤ at (bill_of I (stayed P p (placed d s t))).v k
   rule-even d r s t u k below =
       let all = λ (at : Placement) (j : ℕ). total I (λ c. slice_index (part_at I (stayed P p at) c).v j) in
       let even = summed (λ c. slice_index c.v k) d r s t u in
@@ -145,7 +148,8 @@ module _ (I : Draft) (P : Timetable) (p : PatientNo) (plan : IsPlanOf I P) (insi
       (rw (at-listed 9 (all (placed d r t)) k below, at-listed 9 (all (placed d s u)) k below, at-listed 9 (all (placed d r u)) k below, at-listed 9 (all (placed d s t)) k below) (ap pos even))
 
   cost-even : (d r s t u k : ℕ) → k < 8
-      → at (bill_of I (stayed P p (placed d r t))).s k +ℤ at (bill_of I (stayed P p (placed d s u))).s k ≡ at (bill_of I (stayed P p (placed d r u))).s k +ℤ at (bill_of I (stayed P p (placed d s t))).s k
+      → at (bill_of I (stayed P p (placed d r t))).s k +ℤ at (bill_of I (stayed P p (placed d s u))).s k
+      ≡ at (bill_of I (stayed P p (placed d r u))).s k +ℤ at (bill_of I (stayed P p (placed d s t))).s k
   cost-even d r s t u k below =
       let all = λ (at : Placement) (j : ℕ). total I (λ c. slice_index (part_at I (stayed P p at) c).s j) in
       let even = summed (λ c. slice_index c.s k) d r s t u in

@@ -36,7 +36,8 @@ rooms-more a r = ap (filter (suits a)) (range-more 0 r r (omega arith)) ∙ filt
 
 -- the stays on a day, with one room more
 pub on-more : (f : ℕ → List Write) (a : Patient) (r : ℕ) → suits a r ≡ true → flat_map f (rooms_for a (r + 1)) ≡ flat_map f (rooms_for a r) ++ f r
-on-more f a r e = ap (flat_map f) (rooms-more a r ∙ ap (λ b. rooms_for a r ++ cond b (r ∷ []) []) e) ∙ (flat_map-append f (rooms_for a r) (r ∷ []) ∙ ap (λ ws. flat_map f (rooms_for a r) ++ ws) (append-nil (f r)))
+on-more f a r e = ap (flat_map f) (rooms-more a r ∙ ap (λ b. rooms_for a r ++ cond b (r ∷ []) []) e)
+    ∙ (flat_map-append f (rooms_for a r) (r ∷ []) ∙ ap (λ ws. flat_map f (rooms_for a r) ++ ws) (append-nil (f r)))
 
 pub on-same : (f : ℕ → List Write) (a : Patient) (r : ℕ) → suits a r ≡ false → flat_map f (rooms_for a (r + 1)) ≡ flat_map f (rooms_for a r)
 on-same f a r e = ap (flat_map f) (rooms-more a r ∙ (ap (λ b. rooms_for a r ++ cond b (r ∷ []) []) e ∙ append-nil (rooms_for a r)))
@@ -72,7 +73,8 @@ abbrev write_of : PatientNo → Placement → Write
 write_of p at = SetStay p (Some at)
 
 -- The stays of a patient are those on each day of the window.
-pub stays-are : (I : Draft) (p : PatientNo) (a : Patient) → slice_get I.patients p.0 ≡ Some a → flat_map (λ d. stays_on I p a d (room_count I)) (range_with_len a.surgery_release_day (window_len I a)) ≡ stay_writes I p.0
+pub stays-are : (I : Draft) (p : PatientNo) (a : Patient) → slice_get I.patients p.0 ≡ Some a
+    → flat_map (λ d. stays_on I p a d (room_count I)) (range_with_len a.surgery_release_day (window_len I a)) ≡ stay_writes I p.0
 stays-are I p a e = sym (whole ∙ days)
   where
     rooms : List ℕ
@@ -88,6 +90,7 @@ stays-are I p a e = sym (whole ∙ days)
     whole = rw e refl
 
     days : map (write_of p) (placements I a) ≡ flat_map (λ d. stays_on I p a d (room_count I)) (range_with_len a.surgery_release_day (window_len I a))
-    days = map-flat_map (write_of p) on (range_with_len a.surgery_release_day (window_len I a)) ∙ flat-same (λ d. map (write_of p) (on d)) (λ d. stays_on I p a d (room_count I)) (range_with_len a.surgery_release_day (window_len I a)) (λ d.
+    days = map-flat_map (write_of p) on (range_with_len a.surgery_release_day (window_len I a))
+        ∙ flat-same (λ d. map (write_of p) (on d)) (λ d. stays_on I p a d (room_count I)) (range_with_len a.surgery_release_day (window_len I a)) (λ d.
         map-flat_map (write_of p) (λ r. map (placed d r) theatres) rooms
         ∙ flat-same (λ r. map (write_of p) (map (placed d r) theatres)) (λ r. stays_in p d r (theatre_count I)) rooms (λ r. map-map (write_of p) (placed d r) theatres))

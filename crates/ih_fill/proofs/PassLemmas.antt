@@ -31,7 +31,8 @@ cares-append I hard P (k ∷ ks) ls = cares-append I hard (with_care I hard P k.
 pub stays-more : (I : Draft) (hard : ℕ) (P : Timetable) (waits : ℕ → Bool) (p : ℕ) → waits p ≡ true
     → with_stay I hard (with_stays I hard P (which_below p waits)) p ≡ with_stays I hard P (which_below (p + 1) waits)
 stays-more I hard P waits p e =
-    sym (ap (with_stays I hard P) (which_below-more p waits ∙ ap (λ (b : Bool). if b then which_below p waits ++ p ∷ [] else which_below p waits) e) ∙ stays-append I hard P (which_below p waits) (p ∷ []))
+    sym (ap (with_stays I hard P) (which_below-more p waits ∙ ap (λ (b : Bool). if b then which_below p waits ++ p ∷ [] else which_below p waits) e)
+    ∙ stays-append I hard P (which_below p waits) (p ∷ []))
 
 pub stays-same : (I : Draft) (hard : ℕ) (P : Timetable) (waits : ℕ → Bool) (p : ℕ) → waits p ≡ false
     → with_stays I hard P (which_below p waits) ≡ with_stays I hard P (which_below (p + 1) waits)
@@ -82,5 +83,6 @@ unfolding fill
 all-passes I hard P F0 F1 F2 F3 start first second third =
     ap (λ (F : Scoring). F.plan) third
     ∙ (ap (λ (F : Scoring). with_cares I F.hard F.plan (rooms_by_shift I))
-    (second ∙ ap (λ (F : Scoring). record F { plan = with_stays I F.hard F.plan (waiting I P false) }) (first ∙ ap (λ (F : Scoring). record F { plan = with_stays I F.hard F.plan (waiting I P true) }) start))
+    (second ∙ ap (λ (F : Scoring). record F { plan = with_stays I F.hard F.plan (waiting I P false) })
+    (first ∙ ap (λ (F : Scoring). record F { plan = with_stays I F.hard F.plan (waiting I P true) }) start))
     ∙ ap (λ (Q : Timetable). with_cares I hard Q (rooms_by_shift I)) (sym (stays-append I hard P (waiting I P true) (waiting I P false))))

@@ -80,9 +80,21 @@ less-even x y z u e h = omega (arith, ints)
 -- what four bills add to one
 pub changes-balanced : (a b c d e : Bill) → AreBalanced a b c d → AreBalanced (sub_bills a e) (sub_bills b e) (sub_bills c e) (sub_bills d e)
 changes-balanced a b c d e h = record {
-  v = λ k below. rw (at-place 9 (λ k. at a.v k -ℤ at e.v k) k below, at-place 9 (λ k. at b.v k -ℤ at e.v k) k below, at-place 9 (λ k. at c.v k -ℤ at e.v k) k below, at-place 9 (λ k. at d.v k -ℤ at e.v k) k below)
+  v = λ k below. rw (
+    at-place 9 (λ k. at a.v k -ℤ at e.v k) k below,
+    at-place 9 (λ k. at b.v k -ℤ at e.v k) k below,
+    at-place 9
+        (λ k. at c.v k -ℤ at e.v k) k below,
+    at-place 9 (λ k. at d.v k -ℤ at e.v k) k below,
+  )
       (less-even (at a.v k) (at b.v k) (at c.v k) (at d.v k) (at e.v k) (h.v k below));
-  s = λ k below. rw (at-place 8 (λ k. at a.s k -ℤ at e.s k) k below, at-place 8 (λ k. at b.s k -ℤ at e.s k) k below, at-place 8 (λ k. at c.s k -ℤ at e.s k) k below, at-place 8 (λ k. at d.s k -ℤ at e.s k) k below)
+  s = λ k below. rw (
+    at-place 8 (λ k. at a.s k -ℤ at e.s k) k below,
+    at-place 8 (λ k. at b.s k -ℤ at e.s k) k below,
+    at-place 8
+        (λ k. at c.s k -ℤ at e.s k) k below,
+    at-place 8 (λ k. at d.s k -ℤ at e.s k) k below,
+  )
       (less-even (at a.s k) (at b.s k) (at c.s k) (at d.s k) (at e.s k) (h.s k below));
 }
 

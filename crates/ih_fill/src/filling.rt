@@ -11,11 +11,11 @@ use ih_plan::Plan;
 use ih_tables::Instance;
 use std::alloc::{AllocError, Global};
 
-/// The timetable after a greedy fill, which keeps all choices that are made already. First the patients who aren't admitted,
-/// mandatory ones before optional ones, each get the stay that adds least to the score of the bill, or none where no stay
-/// lowers it; rooms without nurses don't count yet. Then, by shift and by room, each occupied room without a nurse gets the
-/// nurse who adds least, of those who work the shift. Of equal ones the first counts. `hard` is the weight of a broken rule
-/// in a score.
+/// The timetable after a greedy fill, which keeps all choices that are made already. First the patients who aren't
+/// admitted, mandatory ones before optional ones, each get the stay that adds least to the score of the bill, or none
+/// where no stay lowers it; rooms without nurses don't count yet. Then, by shift and by room, each occupied room
+/// without a nurse gets the nurse who adds least, of those who work the shift. Of equal ones the first counts. `hard`
+/// is the weight of a broken rule in a score.
 pub fn fill(alloc: Global, inst: &Instance, hard: u32, plan: &Plan) -> Result<Plan, AllocError>
     requires hard { hard ≤ 1000000 }
     requires plan { IsPlanOf inst.now.draft plan.now }

@@ -1,5 +1,5 @@
-//! The greedy first timetable: patients, then nurses, each by the least change of the bill. What finds the least candidate of
-//! one choice serves others too.
+//! The greedy first timetable: patients, then nurses, each by the least change of the bill. What finds the least
+//! candidate of one choice serves others too.
 #![tactic(auto)]
 
 mod candidates;

@@ -45,7 +45,8 @@ pub fn cheapest_nurse(
 pub fn is_uncovered(scorer: &Scorer<'_>, r: RoomNo, k: Shift) -> bool
     requires room { r.0 < room_count scorer.now.instance }
     requires shift { k.0 < shift_count scorer.now.instance }
-    ensures { result ≡ (is_none (care_of scorer.now.plan r.0 k.0) && not (is_empty (present scorer.now.instance scorer.now.plan r.0 (day_of k.0)))) }
+    ensures { result ≡ (is_none (care_of scorer.now.plan r.0 k.0)
+        && not (is_empty (present scorer.now.instance scorer.now.plan r.0 (day_of k.0)))) }
 {
     scorer.plan().care(r, k).is_none() && scorer.is_occupied(r, k)
 }
@@ -68,7 +69,10 @@ pub fn cover(inst: &Instance, scorer: &mut Scorer<'_>, k: Shift, r: RoomNo)
 fn cover_shift(inst: &Instance, scorer: &mut Scorer<'_>, k: Shift)
     requires instance { scorer.old.instance ≡ inst.now.draft }
     requires shift { k.0 < shift_count inst.now.draft }
-    ensures { scorer.new ≡ record scorer.old { plan = with_cares inst.now.draft scorer.old.hard scorer.old.plan (rooms_in k.0 (room_count inst.now.draft)) } }
+    ensures { scorer.new ≡ record scorer.old {
+      plan = with_cares inst.now.draft scorer.old.hard scorer.old.plan
+          (rooms_in k.0 (room_count inst.now.draft));
+    } }
 {
     for r in 0..inst.rooms() {
         cover(inst, scorer, k, RoomNo(r));
@@ -78,7 +82,10 @@ fn cover_shift(inst: &Instance, scorer: &mut Scorer<'_>, k: Shift)
 /// Gives nurses to the rooms, shift by shift.
 pub fn cover_all(inst: &Instance, scorer: &mut Scorer<'_>)
     requires instance { scorer.old.instance ≡ inst.now.draft }
-    ensures { scorer.new ≡ record scorer.old { plan = with_cares inst.now.draft scorer.old.hard scorer.old.plan (rooms_by_shift inst.now.draft) } }
+    ensures { scorer.new ≡ record scorer.old {
+      plan = with_cares inst.now.draft scorer.old.hard scorer.old.plan
+          (rooms_by_shift inst.now.draft);
+    } }
 {
     for k in 0..inst.shifts() {
         cover_shift(inst, scorer, Shift(k));

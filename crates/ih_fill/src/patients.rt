@@ -45,8 +45,8 @@ fn stay_value(scorer: &Scorer<'_>, p: PatientNo, day: Day, theatre: u32) -> i64
     scorer.stay(p, at).value
 }
 
-// The theatre in which a stay from a day on adds least to the score, the first of equal ones, where there is any. What a
-// stay adds is a part by its room and a part by its theatre, so this is the same theatre for every room.
+// The theatre in which a stay from a day on adds least to the score, the first of equal ones, where there is any. What
+// a stay adds is a part by its room and a part by its theatre, so this is the same theatre for every room.
 fn cheapest_theatre(
     inst: &Instance,
     scorer: &Scorer<'_>,
@@ -56,7 +56,8 @@ fn cheapest_theatre(
     requires instance { scorer.now.instance ≡ inst.now.draft }
     requires patient { p.0 < patient_count inst.now.draft }
     requires day { day.0 < inst.now.draft.days }
-    ensures least { IfSome result (λ t. (r : ℕ) → IsFirstLeast (theatre_value scorer.now p day.0 r) (theatre_count inst.now.draft) t.0) }
+    ensures least { IfSome result
+        (λ t. (r : ℕ) → IsFirstLeast (theatre_value scorer.now p day.0 r) (theatre_count inst.now.draft) t.0) }
     ensures none { IfNone result (theatre_count inst.now.draft ≡ 0) }
 {
     // For the proof alone.
@@ -89,10 +90,14 @@ fn cheapest_on(
     requires instance { scorer.now.instance ≡ inst.now.draft }
     requires patient { p.0 < patient_count inst.now.draft }
     requires day { day.0 < inst.now.draft.days }
-    requires theatre { (r : ℕ) → IsFirstLeast (theatre_value scorer.now p day.0 r) (theatre_count inst.now.draft) theatre.0 }
+    requires theatre { (r : ℕ)
+        → IsFirstLeast (theatre_value scorer.now p day.0 r) (theatre_count inst.now.draft) theatre.0 }
     requires before { before ≡ valued (stay_value scorer.now) before.write }
     requires fits { IsWriteOf inst.now.draft before.write }
-    ensures least { result ≡ valued (stay_value scorer.now) (cheapest (stay_value scorer.now) before.write (stays_on inst.now.draft p patient.now day.0 (room_count inst.now.draft))) }
+    ensures least { result
+        ≡ valued (stay_value scorer.now)
+        (cheapest (stay_value scorer.now) before.write
+        (stays_on inst.now.draft p patient.now day.0 (room_count inst.now.draft))) }
     ensures fits { IsWriteOf inst.now.draft result.write }
 {
     let mut best = before;
@@ -120,7 +125,10 @@ fn cheapest_on_day(
     requires day { day.0 < inst.now.draft.days }
     requires before { before ≡ valued (stay_value scorer.now) before.write }
     requires fits { IsWriteOf inst.now.draft before.write }
-    ensures least { result ≡ valued (stay_value scorer.now) (cheapest (stay_value scorer.now) before.write (stays_on inst.now.draft p patient.now day.0 (room_count inst.now.draft))) }
+    ensures least { result
+        ≡ valued (stay_value scorer.now)
+        (cheapest (stay_value scorer.now) before.write
+        (stays_on inst.now.draft p patient.now day.0 (room_count inst.now.draft))) }
     ensures fits { IsWriteOf inst.now.draft result.write }
 {
     match cheapest_theatre(inst, scorer, p, day) {
@@ -141,7 +149,9 @@ pub fn cheapest_stay(
     requires patient { slice_get inst.now.draft.patients p.0 ≡ Some patient.now }
     requires before { before ≡ valued (stay_value scorer.now) before.write }
     requires fits { IsWriteOf inst.now.draft before.write }
-    ensures least { result ≡ valued (stay_value scorer.now) (cheapest (stay_value scorer.now) before.write (stay_writes inst.now.draft p.0)) }
+    ensures least { result
+        ≡ valued (stay_value scorer.now)
+        (cheapest (stay_value scorer.now) before.write (stay_writes inst.now.draft p.0)) }
     ensures fits { IsWriteOf inst.now.draft result.write }
 {
     let mut best = before;
@@ -178,7 +188,10 @@ pub fn place_all(inst: &Instance, scorer: &mut Scorer<'_>, plan: &Plan, mandator
     requires instance { scorer.old.instance ≡ inst.now.draft }
     requires counts { scorer.old.counts_uncovered ≡ false }
     requires plan { IsPlanOf inst.now.draft plan.now }
-    ensures { scorer.new ≡ record scorer.old { plan = with_stays inst.now.draft scorer.old.hard scorer.old.plan (waiting inst.now.draft plan.now mandatory) } }
+    ensures { scorer.new ≡ record scorer.old {
+      plan = with_stays inst.now.draft scorer.old.hard scorer.old.plan
+          (waiting inst.now.draft plan.now mandatory);
+    } }
 {
     for p in 0..inst.patients() {
         let p = PatientNo(p);

@@ -65,8 +65,8 @@ impl<'a> Scorer<'a> {
     ghost use Rattle.ih_fill.specs.Candidates.{valued};
     ghost use Rattle.ih_fill.specs.Scoring.{stay_value, care_value, view_of};
 
-    /// What scores a timetable. `hard` is the weight of a broken rule; `counts_uncovered` says whether rooms without nurses
-    /// count in what a stay adds.
+    /// What scores a timetable. `hard` is the weight of a broken rule; `counts_uncovered` says whether rooms without
+    /// nurses count in what a stay adds.
     pub fn new(
         alloc: Global,
         inst: &'a Instance,
@@ -76,7 +76,8 @@ impl<'a> Scorer<'a> {
     ) -> Result<Scorer<'a>, AllocError>
         requires plan { IsPlanOf inst.now.draft plan.now }
         requires hard { hard ≤ 1000000 }
-        ensures { IfOk result (λ f. f ≡ record { instance = inst.entry.now.draft; hard = hard; counts_uncovered = counts_uncovered; plan = plan.now }) }
+        ensures { IfOk result
+            (λ f. f ≡ record { instance = inst.entry.now.draft; hard = hard; counts_uncovered = counts_uncovered; plan = plan.now }) }
     {
         let ledgers = Ledgers::new(alloc, inst, plan)?;
         Ok(Scorer {
@@ -135,7 +136,8 @@ impl<'a> Scorer<'a> {
     // A write as a candidate.
     fn valued(&self, write: Write, counts_uncovered: bool) -> Candidate
         requires { IsWriteOf self.now.instance write }
-        ensures { result ≡ valued (write_score self.now.instance self.now.hard (view_of counts_uncovered) self.now.plan) write }
+        ensures { result ≡ valued
+            (write_score self.now.instance self.now.hard (view_of counts_uncovered) self.now.plan) write }
     {
         let value = self.score(&write, counts_uncovered);
         Candidate { write, value }

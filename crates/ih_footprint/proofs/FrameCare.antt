@@ -18,7 +18,7 @@ use Rattle.ih_plan.specs.Costs.{nurse_for, operated, operated_by, is_number}
 use Rattle.ih_plan.specs.Cells.{IsCellOf, content_of, load_content, care_content, nursing_content}
 use Rattle.ih_plan.specs.Footprint.{write_touches, in_choice}
 use Rattle.ih_plan.specs.Sums.{tagged}
-use Rattle.ih_plan.proofs.Lists.{has, tagged-same}
+use Rattle.ih_plan.proofs.ListedBelow.{has, tagged-same}
 use Rattle.ih_plan.proofs.PlanRanges.{has-range}
 use Rattle.ih_plan.proofs.Entries.{care_of-same, care_of-other}
 use Rattle.ih_plan.proofs.Loads.{nurse_load, room_load, load_of-same}

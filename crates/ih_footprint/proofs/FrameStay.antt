@@ -24,7 +24,7 @@ use Rattle.ih_plan.specs.Costs.{operated, operated_by, operated_in, admitted_on,
 use Rattle.ih_plan.specs.Cells.{content_of, stay_content, persons_content, surgeries_content, theatres_content, nursing_content, load_content}
 use Rattle.ih_plan.specs.Footprint.{write_touches, in_stay, in_placement}
 use Rattle.ih_plan.specs.Sums.{tagged}
-use Rattle.ih_plan.proofs.Lists.{which_below-same, which_below-has, tagged-same}
+use Rattle.ih_plan.proofs.ListedBelow.{which_below-same, which_below-has, tagged-same}
 use Rattle.ih_plan.proofs.Entries.{stay_of-other, stay_of-same, admission-patient, admission-other, admission-set}
 use Rattle.ih_plan.proofs.Loads.{person_load, room_load-same, load_of-same, if-same}
 

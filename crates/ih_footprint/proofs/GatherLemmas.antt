@@ -19,7 +19,7 @@ use Rattle.ih_plan.specs.declared.moves.Move.{Move}
 use Rattle.ih_plan.specs.Timetable.{Timetable}
 use Rattle.ih_plan.specs.Footprint.{touches, footprint}
 use Rattle.ih_plan.specs.Sums.{which_below, is_listed}
-use Rattle.ih_plan.proofs.Lists.{which_below-same}
+use Rattle.ih_plan.proofs.ListedBelow.{which_below-same}
 use Rattle.ih_plan.specs.Cells.{number_in, count_in, IsCellIn, IsCellOf, cell_in, cell_at, cell_count}
 use Rattle.ih_footprint.specs.Gathered.{Gathered, Gathers, holds, same_cell, settled}
 use Rattle.ih_footprint.proofs.BitLemmas.{or-assoc}

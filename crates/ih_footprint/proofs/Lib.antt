@@ -4,7 +4,7 @@ pub mod LocalStay
 pub mod LocalCare
 pub mod Locality
 pub mod Ranked
-pub mod Prices
+pub mod LocalPrices
 pub mod BitLemmas
 pub mod WrittenLemmas
 pub mod SetLemmas

@@ -20,7 +20,7 @@ use Rattle.ih_plan.specs.Footprint.{write_touches, in_choice}
 use Rattle.ih_plan.proofs.SumLemmas.{sum_below-but}
 use Rattle.ih_footprint.specs.Laws.{AreSameOn}
 use Rattle.ih_plan.specs.Sums.{tagged}
-use Rattle.ih_plan.proofs.Lists.{has, which_below-agree, has-which_below, tagged-same, tagged-agree, tagged-agree_keys}
+use Rattle.ih_plan.proofs.ListedBelow.{has, which_below-agree, has-which_below, tagged-same, tagged-agree, tagged-agree_keys}
 use Rattle.ih_plan.proofs.Entries.{care_of-same, care_of-other}
 use Rattle.ih_plan.proofs.Loads.{nurse_load, room_load, room_load-same, load_of-same, if-same}
 use Rattle.ih_footprint.proofs.FrameCare.{counted-covers, room_load-kept}
@@ -144,7 +144,8 @@ module _ (I : Draft) (P Q : Timetable) (r : RoomNo) (k : Shift) (n : Option Nurs
   after_care (TheatreDay t d) range e = e
   after_care (SurgeonDay t d) range e = e
   after_care (RoomShift s l) range e =
-      let f : nursing_content (care_of Q s.0 l.0) (tagged (λ x. entry_of I Q x l.0) (present I Q s.0 (day_of l.0))) ≡ nursing_content (care_of P s.0 l.0) (tagged (λ x. entry_of I P x l.0) (present I P s.0 (day_of l.0))) = e in
+      let f : nursing_content (care_of Q s.0 l.0) (tagged (λ x. entry_of I Q x l.0) (present I Q s.0 (day_of l.0)))
+      ≡ nursing_content (care_of P s.0 l.0) (tagged (λ x. entry_of I P x l.0) (present I P s.0 (day_of l.0))) = e in
       let nurse : care_of Q s.0 l.0 ≡ care_of P s.0 l.0 = cc in
       let people : tagged (λ x. entry_of I Q x l.0) (present I Q s.0 (day_of l.0)) ≡ tagged (λ x. entry_of I P x l.0) (present I P s.0 (day_of l.0)) = cc in
       let after = after-nurse s.0 l.0 range.1 nurse in

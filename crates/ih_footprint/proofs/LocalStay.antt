@@ -21,7 +21,7 @@ use Rattle.ih_plan.proofs.SumLemmas.{sum_below-same, sum_below-but}
 use Rattle.ih_plan.proofs.SumBounds.{sum_below-add}
 use Rattle.ih_footprint.specs.Laws.{AreSameOn}
 use Rattle.ih_plan.specs.Sums.{tagged}
-use Rattle.ih_plan.proofs.Lists.{has, which_below-same, which_below-has, which_below-agree, has-which_below, tagged-same, tagged-agree, tagged-agree_keys}
+use Rattle.ih_plan.proofs.ListedBelow.{has, which_below-same, which_below-has, which_below-agree, has-which_below, tagged-same, tagged-agree, tagged-agree_keys}
 use Rattle.ih_plan.proofs.Entries.{stay_of-other, stay_of-same, admission-patient, admission-other, admission-set}
 use Rattle.ih_plan.proofs.Loads.{person_load, room_load, room_load-sum, nurse_load}
 use Rattle.ih_footprint.proofs.FrameStay.{at_room, of_surgeon, in_stay-shift, present-after, present-other}
@@ -103,7 +103,8 @@ module _ (I : Draft) (P Q : Timetable) (p : PatientNo) (s : Option Placement) (p
   unfolding content_of
   same-old r k rh kh h =
       let cell : Cell = RoomShift (record { 0 = r }) (record { 0 = k }) in
-      let e : nursing_content (care_of Q r k) (tagged (λ x. entry_of I Q x k) (present I Q r (day_of k))) ≡ nursing_content (care_of P r k) (tagged (λ x. entry_of I P x k) (present I P r (day_of k))) =
+      let e : nursing_content (care_of Q r k) (tagged (λ x. entry_of I Q x k) (present I Q r (day_of k)))
+      ≡ nursing_content (care_of P r k) (tagged (λ x. entry_of I P x k) (present I P r (day_of k))) =
       same cell (rh, kh) (or_left _ _ (or_right (is_own p.0 cell) _ (in_stay-shift I P p.0 (stay_of P p.0) (record { 0 = r }) (record { 0 = k }) ∙ h))) in
       cc
 
@@ -111,7 +112,8 @@ module _ (I : Draft) (P Q : Timetable) (p : PatientNo) (s : Option Placement) (p
   unfolding content_of
   same-new r k rh kh h =
       let cell : Cell = RoomShift (record { 0 = r }) (record { 0 = k }) in
-      let e : nursing_content (care_of Q r k) (tagged (λ x. entry_of I Q x k) (present I Q r (day_of k))) ≡ nursing_content (care_of P r k) (tagged (λ x. entry_of I P x k) (present I P r (day_of k))) =
+      let e : nursing_content (care_of Q r k) (tagged (λ x. entry_of I Q x k) (present I Q r (day_of k)))
+      ≡ nursing_content (care_of P r k) (tagged (λ x. entry_of I P x k) (present I P r (day_of k))) =
       same cell (rh, kh) (or_right _ _ (in_stay-shift I P p.0 s (record { 0 = r }) (record { 0 = k }) ∙ h)) in
       cc
 
@@ -162,7 +164,8 @@ module _ (I : Draft) (P Q : Timetable) (p : PatientNo) (s : Option Placement) (p
       ])
 
   after-entries : (r k : ℕ) → tagged (λ x. entry_of I Q x k) (present I Q r (day_of k)) ≡ tagged (λ x. entry_of I P x k) (present I P r (day_of k))
-      → tagged (λ x. entry_of I (put (SetStay p s) Q) x k) (present I (put (SetStay p s) Q) r (day_of k)) ≡ tagged (λ x. entry_of I (put (SetStay p s) P) x k) (present I (put (SetStay p s) P) r (day_of k))
+      → tagged (λ x. entry_of I (put (SetStay p s) Q) x k) (present I (put (SetStay p s) Q) r (day_of k))
+      ≡ tagged (λ x. entry_of I (put (SetStay p s) P) x k) (present I (put (SetStay p s) P) r (day_of k))
   unfolding present entry_of
   after-entries r k e =
       let keys = tagged-agree_keys (λ x. entry_of I Q x k) (λ x. entry_of I P x k) (present I Q r (day_of k)) (present I P r (day_of k)) e in
@@ -172,7 +175,9 @@ module _ (I : Draft) (P Q : Timetable) (p : PatientNo) (s : Option Placement) (p
         | inl own ↦ rw (own, admission-set I Q p s planQ known, admission-set I P p s planP known) refl
         | inr other ↦
             let in_list = which_below-has (person_count I) x (is_present I (put (SetStay p s) P) r (day_of k)) h in
-            let before : has x (present I P r (day_of k)) ≡ true = has-which_below (person_count I) x (is_present I P r (day_of k)) in_list.0 ∙ sym (present-other I P p s planP known r (day_of k) x other) ∙ in_list.1 in
+            let before : has x (present I P r (day_of k))
+            ≡ true = has-which_below (person_count I) x (is_present I P r (day_of k)) in_list.0
+            ∙ sym (present-other I P p s planP known r (day_of k) x other) ∙ in_list.1 in
             let before_too : has x (present I Q r (day_of k)) ≡ true = rw keys before in
             rw (admission-other I Q p s x other, admission-other I P p s x other)
             (tagged-agree (λ x. entry_of I Q x k) (λ x. entry_of I P x k) (present I Q r (day_of k)) (present I P r (day_of k)) e x before_too)
@@ -273,11 +278,17 @@ module _ (I : Draft) (P Q : Timetable) (p : PatientNo) (s : Option Placement) (p
   ]
   after_stay (RoomDay r d) range e = ap persons_content (after-present r.0 d.0 (let f : persons_content (present I Q r.0 d.0) ≡ persons_content (present I P r.0 d.0) = e in cc))
   after_stay (TheatreDay t d) range e = ap surgeries_content (after-surgeries t.0 d.0 (let f : surgeries_content (operated I Q t.0 d.0) ≡ surgeries_content (operated I P t.0 d.0) = e in cc))
-  after_stay (SurgeonDay t d) range e = ap theatres_content (after-surgeon t.0 d.0 (let f : theatres_content (tagged (theatre_of Q) (operated_by I Q t.0 d.0)) ≡ theatres_content (tagged (theatre_of P) (operated_by I P t.0 d.0)) = e in cc))
+  after_stay (SurgeonDay t d) range e = ap theatres_content
+      (after-surgeon t.0 d.0
+      (let f : theatres_content (tagged (theatre_of Q) (operated_by I Q t.0 d.0))
+      ≡ theatres_content (tagged (theatre_of P) (operated_by I P t.0 d.0)) = e in cc))
   after_stay (RoomShift r k) range e =
-      let f : nursing_content (care_of Q r.0 k.0) (tagged (λ x. entry_of I Q x k.0) (present I Q r.0 (day_of k.0))) ≡ nursing_content (care_of P r.0 k.0) (tagged (λ x. entry_of I P x k.0) (present I P r.0 (day_of k.0))) = e in
+      let f : nursing_content (care_of Q r.0 k.0) (tagged (λ x. entry_of I Q x k.0) (present I Q r.0 (day_of k.0)))
+      ≡ nursing_content (care_of P r.0 k.0) (tagged (λ x. entry_of I P x k.0) (present I P r.0 (day_of k.0))) = e in
       let nurse : care_of Q r.0 k.0 ≡ care_of P r.0 k.0 = cc in
-      let people = after-entries r.0 k.0 (let f : nursing_content (care_of Q r.0 k.0) (tagged (λ x. entry_of I Q x k.0) (present I Q r.0 (day_of k.0))) ≡ nursing_content (care_of P r.0 k.0) (tagged (λ x. entry_of I P x k.0) (present I P r.0 (day_of k.0))) = e in cc) in
+      let people = after-entries r.0 k.0
+      (let f : nursing_content (care_of Q r.0 k.0) (tagged (λ x. entry_of I Q x k.0) (present I Q r.0 (day_of k.0)))
+      ≡ nursing_content (care_of P r.0 k.0) (tagged (λ x. entry_of I P x k.0) (present I P r.0 (day_of k.0))) = e in cc) in
       cc
   after_stay (NurseShift n k) range e = ap load_content (after-load n.0 k.0 range.1 (let f : load_content (load_of I Q n.0 k.0) ≡ load_content (load_of I P n.0 k.0) = e in cc))
   after_stay (Care x) range e = elim (cases_eq x.0 p.0) [

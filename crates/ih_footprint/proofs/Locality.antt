@@ -95,7 +95,8 @@ module _ (I : Draft) (P Q : Timetable) (passes : Cell → Bool) (same : AreSameO
   seen-choice : (r : RoomNo) (k : Shift) → r.0 < room_count I → k.0 < shift_count I → passes (RoomShift r k) ≡ true → choice_of Q r.0 k.0 ≡ choice_of P r.0 k.0
   unfolding content_of
   seen-choice r k rh kh h =
-      let e : nursing_content (care_of Q r.0 k.0) (tagged (λ x. entry_of I Q x k.0) (present I Q r.0 (day_of k.0))) ≡ nursing_content (care_of P r.0 k.0) (tagged (λ x. entry_of I P x k.0) (present I P r.0 (day_of k.0))) =
+      let e : nursing_content (care_of Q r.0 k.0) (tagged (λ x. entry_of I Q x k.0) (present I Q r.0 (day_of k.0)))
+      ≡ nursing_content (care_of P r.0 k.0) (tagged (λ x. entry_of I P x k.0) (present I P r.0 (day_of k.0))) =
       same (RoomShift r k) (rh, kh) h in
       choice-same (choice_of Q r.0 k.0) (choice_of P r.0 k.0) (cc)
 

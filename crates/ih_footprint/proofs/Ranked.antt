@@ -7,7 +7,7 @@ use Rattle.ih_tables.specs.declared.cells.Cell.{Cell}
 use Rattle.ih_tables.specs.declared.cells.Cell.TheVariants.{Stay, RoomDay, TheatreDay, SurgeonDay, RoomShift, NurseShift, Care}
 use Rattle.ih_tables.specs.Sizes.{Sizes}
 use Rattle.ih_plan.specs.Cells.{cell_in, count_in, number_in, IsCellIn, room_days_from, theatre_days_from, surgeon_days_from, room_shifts_from, nurse_shifts_from, cares_from}
-use Rattle.ih_plan.proofs.Numbers.{at-stay, at-room_day, at-theatre_day, at-surgeon_day, at-room_shift, at-nurse_shift, at-care}
+use Rattle.ih_plan.proofs.CellNumbers.{at-stay, at-room_day, at-theatre_day, at-surgeon_day, at-room_shift, at-nurse_shift, at-care}
 
 row_in : (m r d : ℕ) → m < r * d → (m / d < r) × (m % d < d)
 row_in m r zero h = absurd (let e : r * zero ≡ 0 = omega arith in omega arith)

@@ -11,11 +11,11 @@ use Rattle.ih_plan.specs.Expand.{after, expand, IsMoveOf}
 use Rattle.ih_plan.specs.BillOf.{change_of_bill}
 use Rattle.ih_plan.specs.Cells.{IsCellOf, content_of, cell_at, cell_count}
 use Rattle.ih_plan.specs.Footprint.{touches, writes_touch, looks_at}
-use Rattle.ih_plan.proofs.Lists.{which_below-same}
+use Rattle.ih_plan.proofs.ListedBelow.{which_below-same}
 use Rattle.ih_plan.proofs.PlanRanges.{after-plan, expand-writes}
 use Rattle.ih_footprint.specs.Laws.{AreSameOn}
 use Rattle.ih_footprint.proofs.Locality.{frame_move, local_all, local_move}
-use Rattle.ih_footprint.proofs.Prices.{change_same}
+use Rattle.ih_footprint.proofs.LocalPrices.{change_same}
 use Rattle.ih_footprint.proofs.Ranked.{cell_in-in}
 use Rattle.ih_plan.specs.Series.{AreMoves, after_all, all_touch, expand_all, footprint_of_all, price_of_all}
 use Rattle.ih_plan.proofs.ChangeSums.{change-then, change-same}

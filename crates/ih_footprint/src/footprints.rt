@@ -102,7 +102,8 @@ fn add_cares<M: Members>(
     d: Day,
     out: &mut CellSet,
 )
-    requires members { ArePresent inst.now.draft plan.now (M.rooms members.now) (M.days members.now) (M.persons members.now) }
+    requires members { ArePresent inst.now.draft plan.now (M.rooms members.now) (M.days members.now)
+        (M.persons members.now) }
     requires room { r.0 < room_count inst.now.draft }
     requires day { d.0 < inst.now.draft.days }
     requires sizes { out.old.sizes ≡ sizes_of inst.now.draft }
@@ -156,7 +157,8 @@ fn add_set_care<M: Members>(
 )
     requires plan { IsPlanOf inst.now.draft plan.now }
     requires write { IsWriteOf inst.now.draft (SetCare r k new) }
-    requires members { ArePresent inst.now.draft plan.now (M.rooms members.now) (M.days members.now) (M.persons members.now) }
+    requires members { ArePresent inst.now.draft plan.now (M.rooms members.now) (M.days members.now)
+        (M.persons members.now) }
     requires sizes { out.old.sizes ≡ sizes_of inst.now.draft }
     ensures { Gathers out.old out.new (write_touches inst.now.draft plan.now (SetCare r k new)) }
 {
@@ -169,7 +171,8 @@ fn add_set_care<M: Members>(
 pub fn gather<M: Members>(inst: &Instance, plan: &Plan, members: &M, w: &Write, out: &mut CellSet)
     requires plan { IsPlanOf inst.now.draft plan.now }
     requires write { IsWriteOf inst.now.draft w.now }
-    requires members { ArePresent inst.now.draft plan.now (M.rooms members.now) (M.days members.now) (M.persons members.now) }
+    requires members { ArePresent inst.now.draft plan.now (M.rooms members.now) (M.days members.now)
+        (M.persons members.now) }
     requires sizes { out.old.sizes ≡ sizes_of inst.now.draft }
     ensures { Gathers out.old out.new (write_touches inst.now.draft plan.now w.now) }
 {
@@ -184,7 +187,8 @@ pub fn gather<M: Members>(inst: &Instance, plan: &Plan, members: &M, w: &Write, 
 pub fn foot<M: Members>(inst: &Instance, plan: &Plan, members: &M, w: &Write, out: &mut CellList)
     requires plan { IsPlanOf inst.now.draft plan.now }
     requires write { IsWriteOf inst.now.draft w.now }
-    requires members { ArePresent inst.now.draft plan.now (M.rooms members.now) (M.days members.now) (M.persons members.now) }
+    requires members { ArePresent inst.now.draft plan.now (M.rooms members.now) (M.days members.now)
+        (M.persons members.now) }
     requires sizes { out.old.sizes ≡ sizes_of inst.now.draft }
     ensures gathers { Gathers out.old out.new (write_touches inst.now.draft plan.now w.now) }
     ensures rising { out.new.cells ≡ settled out.new }

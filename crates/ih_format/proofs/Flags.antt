@@ -29,7 +29,8 @@ or_none : (b : Bool) → (b || false) ≡ b
 or_none true = refl
 or_none false = refl
 
-pub are_flagged-more : {A : Type 0} {number : A → ℕ} {n : ℕ} {flags : List Bool} {items : List A} (x : A) → AreFlagged number n flags items → number x < n → AreFlagged number n (set flags (number x) true) (items ++ x ∷ [])
+pub are_flagged-more : {A : Type 0} {number : A → ℕ} {n : ℕ} {flags : List Bool} {items : List A} (x : A) → AreFlagged number n flags items → number x < n
+    → AreFlagged number n (set flags (number x) true) (items ++ x ∷ [])
 are_flagged-more {A} {number} {n} {flags} {items} x so_far h = record {
   len = length-set flags (number x) true ∙ so_far.len;
   same = fun_ext (λ j. one_set flags (number x) j (omega (arith, so_far.len))

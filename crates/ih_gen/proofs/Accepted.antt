@@ -59,7 +59,9 @@ theatres-read days n p few =
     named-reads 0 64 (λ (t : Theatre). t.id) (theatre days) 116 n (theatre_data days) (theatre_with days) p (λ t. refl) (omega arith) few (omega arith)
     (λ t earlier q below none. theatre-reads days t earlier q (omega arith) none)
 
-nurses-read : (days n : ℕ) (s : List ℕ) (p : Place) → n ≤ 512 → nurses days types p (list_data (in_a_row (nurse_data days) (nurse_words days) n s)) ≡ Ok (listed n (λ i. nurse_with days i (begins (nurse_words days) i s)))
+nurses-read : (days n : ℕ) (s : List ℕ) (p : Place) → n ≤ 512
+    → nurses days types p (list_data (in_a_row (nurse_data days) (nurse_words days) n s))
+    ≡ Ok (listed n (λ i. nurse_with days i (begins (nurse_words days) i s)))
 unfolding in_a_row
 nurses-read days n s p few =
     named-reads 0 512 (λ (a : Nurse). a.id) (nurse days (number_in types)) 110 n (λ i. nurse_data days i (begins (nurse_words days) i s)) (λ i. nurse_with days i (begins (nurse_words days) i s)) p
@@ -75,7 +77,8 @@ occupants-read days n m s t p fits few =
     (λ i earlier q below none. occupant-reads days i (begins occupant_words i s) (number_in (names_of_rooms (room_rows m t))) earlier q (omega arith) none (room-known m t i few (omega arith)))
 
 patients-read : (days n m k : ℕ) (s t : List ℕ) (p : Place) → 0 < days → days ≤ 56 → n ≤ 2048 → 25 ≤ m → m ≤ 128 → 10 ≤ k → k ≤ 128
-    → patients days ages (listed k (surgeon_with days)) (room_rows m t) p (list_data (in_a_row (patient_data days) patient_words n s)) ≡ Ok (listed n (λ i. patient_with days i (begins patient_words i s)))
+    → patients days ages (listed k (surgeon_with days)) (room_rows m t) p (list_data (in_a_row (patient_data days) patient_words n s))
+    ≡ Ok (listed n (λ i. patient_with days i (begins patient_words i s)))
 unfolding in_a_row
 patients-read days n m k s t p some month few many_rooms rooms many_surgeons surgeons =
     named-reads 0 2048 (λ (a : Patient). a.id) (patient days (number_in ages) (number_in (names_of_surgeons (listed k (surgeon_with days)))) (number_in (names_of_rooms (room_rows m t)))) 112 n
@@ -148,7 +151,8 @@ unfolding serde_json_on_literals weights
 weights-read p = refl
 
 -- an instance of these six lists, where each list reads
-lists-read : (nurses_data occupants_data theatres_data patients_data rooms_data surgeons_data : Data) (ss : List Surgeon) (ts : List Theatre) (rs : List Room) (ns : List Nurse) (os : List Occupant) (ps : List Patient)
+lists-read : (nurses_data occupants_data theatres_data patients_data rooms_data surgeons_data : Data) (ss : List Surgeon) (ts : List Theatre) (rs : List Room)
+    (ns : List Nurse) (os : List Occupant) (ps : List Patient)
     → surgeons 28 (at_key keys.Surgeons whole) surgeons_data ≡ Ok ss → theatres 28 (at_key keys.OperatingTheaters whole) theatres_data ≡ Ok ts → rooms (at_key keys.Rooms whole) rooms_data ≡ Ok rs
     → nurses 28 types (at_key keys.Nurses whole) nurses_data ≡ Ok ns → occupants 28 ages rs (at_key keys.Occupants whole) occupants_data ≡ Ok os
     → patients 28 ages ss rs (at_key keys.Patients whole) patients_data ≡ Ok ps

@@ -2,7 +2,7 @@ pub mod Accepted
 pub mod Assembly
 pub mod Nesting
 pub mod Readings
-pub mod Rows
+pub mod RowLemmas
 pub mod RowsRead
 pub mod ShiftsRead
 pub mod Streams

@@ -20,7 +20,8 @@ skills-depth s shifts = nested 0 (λ k. number_data (pick s (2 * k + 1) 3)) (ran
 workloads-depth : (s : List ℕ) (shifts : ℕ) → items_depth (items_of (workloads s shifts)) ≤ 0
 workloads-depth s shifts = nested 0 (λ k. number_data (1 + pick s (2 * k) 3)) (range_with_len 0 shifts) (λ k. omega arith)
 
-members-depth : (n : ℕ) (a : PersonPicks) (skills workloads : List Data) → items_depth (items_of skills) ≤ 0 → items_depth (items_of workloads) ≤ 0 → depth (object (occupant_members n a skills workloads)) ≤ 2
+members-depth : (n : ℕ) (a : PersonPicks) (skills workloads : List Data) → items_depth (items_of skills) ≤ 0 → items_depth (items_of workloads) ≤ 0
+    → depth (object (occupant_members n a skills workloads)) ≤ 2
 members-depth n a skills workloads flat even = omega arith
 
 occupant-depth : (n : ℕ) (s : List ℕ) → depth (occupant_data n s) ≤ 2
@@ -28,7 +29,8 @@ occupant-depth n s =
     let shifts = 3 * (person_picks s 5).length_of_stay in
     members-depth n (person_picks s 5) (skills (state_after 3 s) shifts) (workloads (state_after 3 s) shifts) (skills-depth (state_after 3 s) shifts) (workloads-depth (state_after 3 s) shifts)
 
-due-depth : (p : ℕ) (a : PatientPicks) (due : Option ℕ) (skills workloads : List Data) → items_depth (items_of skills) ≤ 0 → items_depth (items_of workloads) ≤ 0 → depth (object (patient_members p a due skills workloads)) ≤ 2
+due-depth : (p : ℕ) (a : PatientPicks) (due : Option ℕ) (skills workloads : List Data) → items_depth (items_of skills) ≤ 0
+    → items_depth (items_of workloads) ≤ 0 → depth (object (patient_members p a due skills workloads)) ≤ 2
 due-depth p a None skills workloads flat even = omega arith
 due-depth p a (Some due) skills workloads flat even = omega arith
 

@@ -69,10 +69,12 @@ age-reads (suc (suc (suc zero))) p h = refl
 age-reads (suc (suc (suc (suc a)))) p h = absurd (omega arith)
 
 work-reads : (s : List ℕ) (stay days : ℕ) (p : Place) → vector (3 * min stay days) 100000 p (list_data (workloads s (3 * stay))) ≡ Ok (listed (3 * min stay days) (λ k. 1 + pick s (2 * k) 3))
-work-reads s stay days p = vector-reads (3 * min stay days) (3 * stay) 100000 (λ k. 1 + pick s (2 * k) 3) p (omega arith) (λ k. let below = pick-below s (2 * k) 3 (omega arith) in omega (arith, below))
+work-reads s stay days p = vector-reads (3 * min stay days) (3 * stay) 100000 (λ k. 1 + pick s (2 * k) 3) p (omega arith)
+    (λ k. let below = pick-below s (2 * k) 3 (omega arith) in omega (arith, below))
 
 skill-reads : (s : List ℕ) (stay days : ℕ) (p : Place) → vector (3 * min stay days) 1000 p (list_data (skills s (3 * stay))) ≡ Ok (listed (3 * min stay days) (λ k. pick s (2 * k + 1) 3))
-skill-reads s stay days p = vector-reads (3 * min stay days) (3 * stay) 1000 (λ k. pick s (2 * k + 1) 3) p (omega arith) (λ k. let below = pick-below s (2 * k + 1) 3 (omega arith) in omega (arith, below))
+skill-reads s stay days p = vector-reads (3 * min stay days) (3 * stay) 1000 (λ k. pick s (2 * k + 1) 3) p (omega arith)
+    (λ k. let below = pick-below s (2 * k + 1) 3 (omega arith) in omega (arith, below))
 
 abbrev pub occupant_with : ℕ → ℕ → List ℕ → Occupant
 occupant_with days n s =
@@ -131,7 +133,9 @@ closed-reads r rooms p small room = rw (known-id 114 r r rooms (at_item 0 p) sma
 -- a mandatory patient, and an optional one
 mandatory-reads : (days p due : ℕ) (s : List ℕ) (surgeons rooms earlier : List ℕ → Option ℕ) (q : Place) → p < 2 ^ 32 → earlier (id 112 p) ≡ None
     → surgeons (id 115 (surgeon_of p)) ≡ Some (surgeon_of p) → rooms (id 114 (pick s 6 25)) ≡ Some (pick s 6 25) → is_mandatory p ≡ true → due ≤ 1000
-    → patient days (number_in ages) surgeons rooms earlier q (object (patient_members p (patient_picks s) (Some due) (skills (state_after 7 s) (3 * (1 + pick s 2 6))) (workloads (state_after 7 s) (3 * (1 + pick s 2 6)))))
+    → patient days (number_in ages) surgeons rooms earlier q
+    (object (patient_members p (patient_picks s) (Some due) (skills (state_after 7 s) (3 * (1 + pick s 2 6)))
+    (workloads (state_after 7 s) (3 * (1 + pick s 2 6)))))
     ≡ Ok (record (patient_with days p s) { surgery_due_day = Some due })
 unfolding serde_json_on_literals patient
 mandatory-reads days p due s surgeons rooms earlier q small none surgeon room e most =
@@ -158,7 +162,9 @@ mandatory-reads days p due s surgeons rooms earlier q small none surgeon room e 
 
 optional-reads : (days p : ℕ) (s : List ℕ) (surgeons rooms earlier : List ℕ → Option ℕ) (q : Place) → p < 2 ^ 32 → earlier (id 112 p) ≡ None
     → surgeons (id 115 (surgeon_of p)) ≡ Some (surgeon_of p) → rooms (id 114 (pick s 6 25)) ≡ Some (pick s 6 25) → is_mandatory p ≡ false
-    → patient days (number_in ages) surgeons rooms earlier q (object (patient_members p (patient_picks s) None (skills (state_after 7 s) (3 * (1 + pick s 2 6))) (workloads (state_after 7 s) (3 * (1 + pick s 2 6)))))
+    → patient days (number_in ages) surgeons rooms earlier q
+    (object (patient_members p (patient_picks s) None (skills (state_after 7 s) (3 * (1 + pick s 2 6)))
+    (workloads (state_after 7 s) (3 * (1 + pick s 2 6)))))
     ≡ Ok (record (patient_with days p s) { surgery_due_day = None })
 unfolding serde_json_on_literals patient
 optional-reads days p s surgeons rooms earlier q small none surgeon room e =
@@ -191,7 +197,9 @@ patient-reads days p s surgeons rooms earlier q some few small none surgeon room
     due = min (pick s 3 28 + pick s 4 8) (days - 1)
 
     by_case : (b : Bool) → is_mandatory p ≡ b
-        → patient days (number_in ages) surgeons rooms earlier q (object (patient_members p (patient_picks s) (if b then Some due else None) (skills (state_after 7 s) (3 * (1 + pick s 2 6))) (workloads (state_after 7 s) (3 * (1 + pick s 2 6)))))
+        → patient days (number_in ages) surgeons rooms earlier q
+        (object (patient_members p (patient_picks s) (if b then Some due else None) (skills (state_after 7 s) (3 * (1 + pick s 2 6)))
+        (workloads (state_after 7 s) (3 * (1 + pick s 2 6)))))
         ≡ Ok (record (patient_with days p s) { surgery_due_day = (if b then Some due else None) })
     by_case true e = mandatory-reads days p due s surgeons rooms earlier q small none surgeon room e (omega arith)
     by_case false e = optional-reads days p s surgeons rooms earlier q small none surgeon room e

@@ -64,7 +64,8 @@ not-loaded : (ws : List WorkedShift) (w : WorkedShift) (k : ℕ) → load_in ws 
 not-loaded [] w k e other = rw (ne_eqb (shift_of w) k other) refl
 not-loaded (v ∷ ws) w k e other = by_case (shift_of v == k) e (λ i. not-loaded ws w k i other)
   where
-    by_case : (b : Bool) → (if b then Some v.max_load else load_in ws k) ≡ None → (load_in ws k ≡ None → load_in (ws ++ w ∷ []) k ≡ None) → (if b then Some v.max_load else load_in (ws ++ w ∷ []) k) ≡ None
+    by_case : (b : Bool) → (if b then Some v.max_load else load_in ws k) ≡ None → (load_in ws k ≡ None → load_in (ws ++ w ∷ []) k ≡ None)
+        → (if b then Some v.max_load else load_in (ws ++ w ∷ []) k) ≡ None
     by_case true i rest = absurd (let no : Some v.max_load ≡ None = i in cc)
     by_case false i rest = rest i
 

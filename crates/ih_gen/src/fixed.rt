@@ -10,7 +10,7 @@ use serde_json::{Value, json};
 use std::alloc::{AllocError, Global};
 
 // The same minutes on each day.
-#[tactic(auto, using(crate::proofs::Rows::listed_steps), unfolding(crate::specs::Generated::each_day))]
+#[tactic(auto, using(crate::proofs::RowLemmas::listed_steps), unfolding(crate::specs::Generated::each_day))]
 fn each_day(alloc: Global, days: u32, minutes: u32) -> Result<Value, AllocError>
     ensures { IfOk result (λ v. view v ≡ each_day days minutes) }
 {
@@ -30,7 +30,7 @@ fn surgeon_value(alloc: Global, days: u32, s: u32) -> Result<Value, AllocError>
 }
 
 // The first `count` surgeons.
-#[tactic(auto, using(crate::proofs::Rows::listed_steps), unfolding(crate::specs::Generated::numbered))]
+#[tactic(auto, using(crate::proofs::RowLemmas::listed_steps), unfolding(crate::specs::Generated::numbered))]
 fn surgeons(alloc: Global, days: u32, count: u32) -> Result<Value, AllocError>
     ensures { IfOk result (λ v. view v ≡ numbered (surgeon_data days) count) }
 {
@@ -50,7 +50,7 @@ fn theatre_value(alloc: Global, days: u32, t: u32) -> Result<Value, AllocError>
 }
 
 // The first `count` operating theatres.
-#[tactic(auto, using(crate::proofs::Rows::listed_steps), unfolding(crate::specs::Generated::numbered))]
+#[tactic(auto, using(crate::proofs::RowLemmas::listed_steps), unfolding(crate::specs::Generated::numbered))]
 fn theatres(alloc: Global, days: u32, count: u32) -> Result<Value, AllocError>
     ensures { IfOk result (λ v. view v ≡ numbered (theatre_data days) count) }
 {

@@ -34,9 +34,9 @@ fn generated_value(alloc: Global, number: u64) -> Result<Value, AllocError>
     with_member(alloc, occupied, "patients", Value::Array(patients))
 }
 
-/// The instance that a number generates, as compact JSON with sorted keys and no line feed at its end: 28 days, 25 rooms,
-/// 50 nurses, 3 occupants, 400 patients, 10 surgeons and 5 operating theatres. All else is picked by the words of one stream
-/// that the number seeds. The reader of instance files takes it, whatever the number.
+/// The instance that a number generates, as compact JSON with sorted keys and no line feed at its end: 28 days, 25
+/// rooms, 50 nurses, 3 occupants, 400 patients, 10 surgeons and 5 operating theatres. All else is picked by the words
+/// of one stream that the number seeds. The reader of instance files takes it, whatever the number.
 #[tactic(auto, using(crate::proofs::WholeNumbers::whole_numbers))]
 pub fn generate(alloc: Global, number: u64) -> Result<Vec<u8>, AllocError>
     ensures written { IfOk result (λ text. text.items ≡ generated number) }

@@ -21,7 +21,7 @@ fn shift_value(alloc: Global, day: u32, turn: u32, load: u32) -> Result<Value, A
 }
 
 // The worked shifts of a nurse: early, late, night, then a day off, and so on.
-#[tactic(auto, using(crate::proofs::Rows::worked_steps))]
+#[tactic(auto, using(crate::proofs::RowLemmas::worked_steps))]
 fn worked_values(
     alloc: Global,
     picks: &mut Picks,
@@ -56,7 +56,7 @@ fn nurse_value(alloc: Global, picks: &mut Picks, days: u32, n: u32) -> Result<Va
 }
 
 /// The first `count` nurses.
-#[tactic(auto, using(crate::proofs::Rows::row_steps))]
+#[tactic(auto, using(crate::proofs::RowLemmas::row_steps))]
 pub fn nurse_values(
     alloc: Global,
     picks: &mut Picks,
@@ -64,7 +64,8 @@ pub fn nurse_values(
     count: u32,
 ) -> Result<Vec<Value>, AllocError>
     requires { days + count < 2 ^ 32 }
-    ensures values { IfOk result (λ v. map view v.items ≡ in_a_row (nurse_data days) (nurse_words days) count picks.old) }
+    ensures values { IfOk result
+        (λ v. map view v.items ≡ in_a_row (nurse_data days) (nurse_words days) count picks.old) }
     ensures rest { OnOk result (picks.new ≡ begins (nurse_words days) count picks.old) }
 {
     let mut values = Vec::new(alloc);

@@ -21,7 +21,9 @@ fn picked_value(
     picked: &PersonPicks,
     needs: Needs,
 ) -> Result<Value, AllocError>
-    ensures { IfOk result (λ v. view v ≡ object (occupant_members number picked.now (map view needs.skills.items) (map view needs.workloads.items))) }
+    ensures { IfOk result
+        (λ v. view v ≡ object
+        (occupant_members number picked.now (map view needs.skills.items) (map view needs.workloads.items))) }
 {
     let person = person_value(alloc, "a", number, picked, needs)?;
     let room = id_value(alloc, "r", number)?;
@@ -39,7 +41,7 @@ fn occupant_value(alloc: Global, picks: &mut Picks, number: u32) -> Result<Value
 }
 
 /// The first `count` occupants.
-#[tactic(auto, using(crate::proofs::Rows::row_steps))]
+#[tactic(auto, using(crate::proofs::RowLemmas::row_steps))]
 pub fn occupant_values(
     alloc: Global,
     picks: &mut Picks,

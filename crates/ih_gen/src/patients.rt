@@ -49,7 +49,9 @@ fn picked_value(
     picked: &PatientPicks,
     needs: Needs,
 ) -> Result<Value, AllocError>
-    ensures { IfOk result (λ v. view v ≡ object (patient_members p picked.now None (map view needs.skills.items) (map view needs.workloads.items))) }
+    ensures { IfOk result
+        (λ v. view v ≡ object
+        (patient_members p picked.now None (map view needs.skills.items) (map view needs.workloads.items))) }
 {
     let person = person_value(alloc, "p", p, &picked.person, needs)?;
     let room = id_value(alloc, "r", picked.incompatible_room)?;
@@ -82,7 +84,7 @@ fn patient_value(alloc: Global, picks: &mut Picks, days: u32, p: u32) -> Result<
 }
 
 /// The first `count` patients.
-#[tactic(auto, using(crate::proofs::Rows::row_steps))]
+#[tactic(auto, using(crate::proofs::RowLemmas::row_steps))]
 pub fn patient_values(
     alloc: Global,
     picks: &mut Picks,

@@ -44,7 +44,7 @@ pub struct Needs {
 }
 
 /// Picks the needs of a stay of so many shifts: for each a workload, then a skill.
-#[tactic(auto, using(crate::proofs::Rows::need_steps))]
+#[tactic(auto, using(crate::proofs::RowLemmas::need_steps))]
 pub fn pick_needs(alloc: Global, picks: &mut Picks, shifts: u32) -> Result<Needs, AllocError>
     ensures workloads { IfOk result (λ needs. map view needs.workloads.items ≡ workloads picks.old shifts) }
     ensures skills { IfOk result (λ needs. map view needs.skills.items ≡ skills picks.old shifts) }
@@ -67,7 +67,9 @@ pub fn person_value(
     picked: &PersonPicks,
     needs: Needs,
 ) -> Result<Value, AllocError>
-    ensures { IfOk result (λ v. view v ≡ object (person_members letter.now number picked.now (map view needs.skills.items) (map view needs.workloads.items))) }
+    ensures { IfOk result
+        (λ v. view v ≡ object
+        (person_members letter.now number picked.now (map view needs.skills.items) (map view needs.workloads.items))) }
 {
     let id = id_value(alloc, letter, number)?;
     json!(in alloc; {

@@ -22,7 +22,7 @@ fn room_value(alloc: Global, picks: &mut Picks, r: u32) -> Result<Value, AllocEr
 }
 
 /// The first `count` rooms.
-#[tactic(auto, using(crate::proofs::Rows::row_steps))]
+#[tactic(auto, using(crate::proofs::RowLemmas::row_steps))]
 pub fn room_values(alloc: Global, picks: &mut Picks, count: u32) -> Result<Vec<Value>, AllocError>
     ensures values { IfOk result (λ v. map view v.items ≡ in_a_row room_data room_words count picks.old) }
     ensures rest { OnOk result (picks.new ≡ begins room_words count picks.old) }

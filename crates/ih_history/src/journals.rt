@@ -21,7 +21,7 @@ fn put_lines(options: &Options, entries: &[Entry], out: &mut Vec<u8>) -> Result<
     Ok(())
 }
 
-/// Appends the text of a journal. After want of memory an unknown text stands behind what was there.
+/// Appends the text of a journal. Where memory runs out, an unknown text stands behind what was there.
 pub fn put_journal(
     options: &Options,
     entries: &[Entry],

@@ -68,7 +68,8 @@ pub fn plan_at<E: Logged>(
     requires start { IsPlanOf inst.now.draft start.now }
     requires inside { place ≤ length entries.now }
     requires moves { All (λ e. AreMoves inst.now.draft e.moves) (map E.tried entries.now) }
-    ensures made { IfOk result (λ plan. plan ≡ after_entries inst.now.draft start.now (take place (map E.tried entries.now))) }
+    ensures made { IfOk result
+        (λ plan. plan ≡ after_entries inst.now.draft start.now (take place (map E.tried entries.now))) }
     ensures fits { IfOk result (IsPlanOf inst.now.draft) }
 {
     let mut plan = start.try_clone(alloc)?;

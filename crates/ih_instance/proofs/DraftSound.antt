@@ -23,7 +23,7 @@ use Rattle.ih_format.specs.Checks.{Check, or_else, number, object, new_name, und
 use Rattle.ih_instance.specs.Instance.{Numbers, room, surgeon, theatre, nurse, occupant, patient, one_spelling, weight, weights, names, surgeons, theatres, rooms, nurses, occupants, patients, names_of_rooms, names_of_surgeons, draft, instance}
 use Rattle.ih_format.specs.Documents.{value_of}
 use Rattle.ih_instance.proofs.Sound.{ok_is, bind_with, key_ok, new_name_sound, named_sound, Rows}
-use Rattle.ih_instance.proofs.Rows.{key_number, room_sound, surgeon_sound, theatre_sound, nurse_sound, occupant_sound, patient_sound}
+use Rattle.ih_instance.proofs.RowLimits.{key_number, room_sound, surgeon_sound, theatre_sound, nurse_sound, occupant_sound, patient_sound}
 
 abbrev IsWeight : ℤ → Type 0
 IsWeight z = (pos 0 ≤ℤ z) × (z ≤ℤ pos 100000)
@@ -44,11 +44,26 @@ weights_sound p d x h =
     bind_with (weight p d keys.SurgeonTransfer) _ x h6 (λ g rg h7.
     bind_with (weight p d keys.PatientDelay) _ x h7 (λ j rj h8.
     bind_with (weight p d keys.UnscheduledOptional) _ x h8 (λ i ri h9.
-    subst (λ (y : Weights). All IsWeight y.w) (ok_is _ x h9) (All-from_recursion IsWeight (map pos (a ∷ b ∷ c ∷ e ∷ f ∷ g ∷ j ∷ i ∷ []))
-    (one p d keys.RoomMixedAge a ra, (one p d keys.RoomNurseSkill b rb, (one p d keys.ContinuityOfCare c rc, (one p d k e re, (one p d keys.OpenOperatingTheater f rf, (one p d keys.SurgeonTransfer g rg, (one p d keys.PatientDelay j rj, (one p d keys.UnscheduledOptional i ri, tt)))))))))))))))))))
+    subst (λ (y : Weights). All IsWeight y.w) (ok_is _ x h9) (All-from_recursion IsWeight (map pos (a ∷ b ∷ c ∷ e ∷ f ∷ g ∷ j ∷ i ∷ [])) (
+      one p d keys.RoomMixedAge a ra,
+      (
+        one p d keys.RoomNurseSkill b rb,
+        (
+          one p d keys.ContinuityOfCare c rc,
+          (
+            one p d k e re,
+            (
+              one p d keys.OpenOperatingTheater f rf,
+              (one p d keys.SurgeonTransfer g rg, (one p d keys.PatientDelay j rj, (one p d keys.UnscheduledOptional i ri, tt))),
+            ),
+          ),
+        ),
+      ),
+    ))))))))))))
 
 -- a list under a key
-listed : {A : Type 0} (low high : ℕ) (name : A → List ℕ) (P : A → Type 0) (row : Numbers → Check A) (p : Place) (d : Data) (k : Key) (xs : List A) → Rows name P row → under p d k (named low high name row) ≡ Ok xs → IsListed low high name xs × All P xs
+listed : {A : Type 0} (low high : ℕ) (name : A → List ℕ) (P : A → Type 0) (row : Numbers → Check A) (p : Place) (d : Data) (k : Key) (xs : List A)
+    → Rows name P row → under p d k (named low high name row) ≡ Ok xs → IsListed low high name xs × All P xs
 listed low high name P row p d k xs rows h =
     let v = key_ok p d k (named low high name row) xs h in
     named_sound low high name P row (at_key k p) v.0 xs rows v.1
@@ -80,7 +95,8 @@ draft_sound p d x h =
     let r = listed 1 128 (λ (y : Room). y.id) (λ y. y.capacity ≤ 1000) room p d keys.Rooms rs room_sound r8 in
     let n = listed 0 512 (λ (y : Nurse). y.id) (IsNurse made) (nurse days (number_in types)) p d keys.Nurses ns (nurse_sound made horizon.least three.0.len.most) r9 in
     let c = listed 0 512 (λ (y : Occupant). y.id) (IsOccupant made) (occupant days (number_in groups) (number_in (names_of_rooms rs))) p d keys.Occupants os (occupant_sound made) r10 in
-    let q = listed 0 2048 (λ (y : Patient). y.id) (IsPatient made) (patient days (number_in groups) (number_in (names_of_surgeons ss)) (number_in (names_of_rooms rs))) p d keys.Patients ps (patient_sound made) r11 in
+    let q = listed 0 2048 (λ (y : Patient). y.id) (IsPatient made)
+    (patient days (number_in groups) (number_in (names_of_surgeons ss)) (number_in (names_of_rooms rs))) p d keys.Patients ps (patient_sound made) r11 in
     subst IsValid (ok_is made x h11) (record {
       days = horizon;
       skills = key_number 1 1000 p d keys.SkillLevels levels r2;

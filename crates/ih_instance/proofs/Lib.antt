@@ -1,5 +1,5 @@
 pub mod Flags
 pub mod Examples
 pub mod Sound
-pub mod Rows
+pub mod RowLimits
 pub mod DraftSound

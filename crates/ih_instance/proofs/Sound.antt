@@ -91,7 +91,9 @@ list_of_sound low high p d ds h =
     subst (λ (xs : List Data). Between low high (length xs)) t.1 (between_sound low high (length a.0) t.0)
 
 -- what each item keeps holds of all of them
-pub keeps : {A : Type 0} (I : List A → Type 0) (check : List A → Check A) (p : Place) → ((done : List A) (q : Place) (d : Data) (x : A) → I done → check done q d ≡ Ok x → I (done ++ x ∷ [])) → (ds : List Data) (done xs : List A) → I done → each_after done check p ds ≡ Ok xs → I xs × (length xs ≡ length done + length ds)
+pub keeps : {A : Type 0} (I : List A → Type 0) (check : List A → Check A) (p : Place)
+    → ((done : List A) (q : Place) (d : Data) (x : A) → I done → check done q d ≡ Ok x → I (done ++ x ∷ [])) → (ds : List Data) (done xs : List A) → I done
+    → each_after done check p ds ≡ Ok xs → I xs × (length xs ≡ length done + length ds)
 unfolding each_after
 keeps I check p step [] done xs i h =
     let e = ok_is done xs h in
@@ -101,7 +103,8 @@ keeps {A} I check p step (d ∷ ds) done xs i h =
     let rest = keeps I check p step ds (done ++ a.0 ∷ []) xs (step done (at_item (length done) p) d a.0 i a.1) a.2 in
     (rest.0, omega (arith, rest.1, length-append done (a.0 ∷ [])))
 
-pub each_sound : {A : Type 0} (P : A → Type 0) (check : List A → Check A) (p : Place) (ds : List Data) (xs : List A) → ((done : List A) (q : Place) (d : Data) (x : A) → check done q d ≡ Ok x → P x) → each check p ds ≡ Ok xs → All P xs × (length xs ≡ length ds)
+pub each_sound : {A : Type 0} (P : A → Type 0) (check : List A → Check A) (p : Place) (ds : List Data) (xs : List A)
+    → ((done : List A) (q : Place) (d : Data) (x : A) → check done q d ≡ Ok x → P x) → each check p ds ≡ Ok xs → All P xs × (length xs ≡ length ds)
 each_sound {A} P check p ds xs row h =
     let k = keeps (λ (ys : List A). All P ys) check p (λ done q d x i e. All-push P done x i (row done q d x e)) ds [] xs (λ k d l. absurd (omega arith)) h in
     (k.0, omega (arith, k.1))
@@ -122,7 +125,8 @@ unfolding number_in
 differs name [] s h k d l = absurd (omega arith)
 differs {A} name (x ∷ xs) s h k d l = here (bytes_eq (name x) s) (bytes_eq-Decides (name x) s) (number_in (map name xs) s) h (λ e. differs name xs s e) k l
   where
-    here : (b : Bool) → Decides b (name x ≡ s) → (o : Option ℕ) → (if b then Some 0 else option_map suc o) ≡ None → (o ≡ None → (k : ℕ) (d : A) → k < length xs → name (get_or xs k d) ≢ s) → (k : ℕ) → k < suc (length xs) → name (get_or (x ∷ xs) k d) ≢ s
+    here : (b : Bool) → Decides b (name x ≡ s) → (o : Option ℕ) → (if b then Some 0 else option_map suc o) ≡ None
+        → (o ≡ None → (k : ℕ) (d : A) → k < length xs → name (get_or xs k d) ≢ s) → (k : ℕ) → k < suc (length xs) → name (get_or (x ∷ xs) k d) ≢ s
     here true t o h f k l = absurd (let no : Some 0 ≡ None = h in cc)
     here false t (Some n) h f k l = absurd (let no : Some (suc n) ≡ None = h in cc)
     here false t None h f zero l = λ e. absurd (let no : false ≡ true = t.1 e in cc)
@@ -137,7 +141,8 @@ pub record IsRead {A : Type 0} (name : A → List ℕ) (P : A → Type 0) (xs : 
 abbrev pub Rows : {A : Type 0} → (A → List ℕ) → (A → Type 0) → (Numbers → Check A) → Type 0
 Rows {A} name P row = (names : List (List ℕ)) (q : Place) (d : Data) (x : A) → row (number_in names) q d ≡ Ok x → (IsName (name x) × (number_in names (name x) ≡ None)) × P x
 
-pub named_sound : {A : Type 0} (low high : ℕ) (name : A → List ℕ) (P : A → Type 0) (row : Numbers → Check A) (p : Place) (d : Data) (xs : List A) → Rows name P row → named low high name row p d ≡ Ok xs → IsListed low high name xs × All P xs
+pub named_sound : {A : Type 0} (low high : ℕ) (name : A → List ℕ) (P : A → Type 0) (row : Numbers → Check A) (p : Place) (d : Data) (xs : List A)
+    → Rows name P row → named low high name row p d ≡ Ok xs → IsListed low high name xs × All P xs
 named_sound {A} low high name P row p d xs rows h =
     let a = bind_ok (list_of low high p d) _ xs h in
     let k = keeps (IsRead name P) (λ done. row (number_in (map name done))) p (λ done q v x i e.

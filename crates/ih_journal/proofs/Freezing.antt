@@ -45,7 +45,8 @@ agrees-start b = record { admitted = λ p h. refl; others = λ p h. h; nurses = 
 
 module _ (b : Base) (P : Timetable) (plan : IsPlanOf b.instance P) (agrees : AgreesBefore b P) where
   -- a stay that isn't frozen is written
-  agrees-stay : (p : PatientNo) (s : Option Placement) → IsWriteOf b.instance (SetStay p s) → is_before b.freeze (stay_of b.start p.0) ≡ false → is_before b.freeze s ≡ false → AgreesBefore b (put (SetStay p s) P)
+  agrees-stay : (p : PatientNo) (s : Option Placement) → IsWriteOf b.instance (SetStay p s) → is_before b.freeze (stay_of b.start p.0) ≡ false
+      → is_before b.freeze s ≡ false → AgreesBefore b (put (SetStay p s) P)
   agrees-stay p s fits free new =
       let sizes = plan.stays in
       let here : stay_of (put (SetStay p s) P) p.0 ≡ s = stay_of-same P p s (omega (arith, fits.0)) in
@@ -55,7 +56,8 @@ module _ (b : Base) (P : Timetable) (plan : IsPlanOf b.instance P) (agrees : Agr
         nurses = agrees.nurses;
       }
     where
-      by_place : (x : ℕ) → is_before b.freeze (stay_of b.start x) ≡ false → stay_of (put (SetStay p s) P) p.0 ≡ s → (((x == p.0) ≡ true) × (x ≡ p.0)) ⊎ (((x == p.0) ≡ false) × (x ≢ p.0)) → is_before b.freeze (stay_of (put (SetStay p s) P) x) ≡ false
+      by_place : (x : ℕ) → is_before b.freeze (stay_of b.start x) ≡ false → stay_of (put (SetStay p s) P) p.0 ≡ s
+          → (((x == p.0) ≡ true) × (x ≡ p.0)) ⊎ (((x == p.0) ≡ false) × (x ≢ p.0)) → is_before b.freeze (stay_of (put (SetStay p s) P) x) ≡ false
       by_place x h here (inl (test, e)) = ap (λ y. is_before b.freeze (stay_of (put (SetStay p s) P) y)) e ∙ ap (is_before b.freeze) here ∙ new
       by_place x h here (inr (test, ne)) = ap (is_before b.freeze) (stay_of-other P p s x ne) ∙ agrees.others x h
 
@@ -74,21 +76,24 @@ agrees-put b P (SetStay p s) plan fits agrees free =
     agrees-stay b P plan agrees p s fits parts.0 parts.1
 agrees-put b P (SetCare r k n) plan fits agrees free = agrees-care b P plan agrees r k n fits free
 
-pub agrees-put_all : (b : Base) (P : Timetable) (ws : List Write) → IsPlanOf b.instance P → AreWritesOf b.instance ws → AgreesBefore b P → list_any (is_frozen_write b.start b.freeze) ws ≡ false → AgreesBefore b (put_all ws P)
+pub agrees-put_all : (b : Base) (P : Timetable) (ws : List Write) → IsPlanOf b.instance P → AreWritesOf b.instance ws → AgreesBefore b P
+    → list_any (is_frozen_write b.start b.freeze) ws ≡ false → AgreesBefore b (put_all ws P)
 agrees-put_all b P [] plan fits agrees free = agrees
 agrees-put_all b P (w ∷ ws) plan fits agrees free =
     let parts = neither (is_frozen_write b.start b.freeze w) (list_any (is_frozen_write b.start b.freeze) ws) free in
     agrees-put_all b (put w P) ws (put-plan b.instance P w plan fits.0) fits.1 (agrees-put b P w plan fits.0 agrees parts.0) parts.1
 
 -- moves in a row of which none is frozen keep the frozen choices
-pub agrees-moves : (b : Base) (P : Timetable) (ms : List Move) → IsPlanOf b.instance P → AreMoves b.instance ms → AgreesBefore b P → is_frozen b P ms ≡ false → AgreesBefore b (after_all b.instance P ms)
+pub agrees-moves : (b : Base) (P : Timetable) (ms : List Move) → IsPlanOf b.instance P → AreMoves b.instance ms → AgreesBefore b P → is_frozen b P ms ≡ false
+    → AgreesBefore b (after_all b.instance P ms)
 unfolding is_frozen
 agrees-moves b P ms plan fits agrees free =
     subst (AgreesBefore b) (sym (after_all-writes b.instance P ms))
     (agrees-put_all b P (expand_all b.instance P ms) plan (expand_all-writes b.instance P ms plan fits) agrees free)
 
 -- an entry whose move is accepted only where it isn't frozen
-pub agrees-entry : (b : Base) (P : Timetable) (e : Tried) → IsPlanOf b.instance P → AreMoves b.instance e.moves → AgreesBefore b P → (is_accepted e.verdict ≡ true → is_frozen b P e.moves ≡ false) → AgreesBefore b (after_entry b.instance P e)
+pub agrees-entry : (b : Base) (P : Timetable) (e : Tried) → IsPlanOf b.instance P → AreMoves b.instance e.moves → AgreesBefore b P
+    → (is_accepted e.verdict ≡ true → is_frozen b P e.moves ≡ false) → AgreesBefore b (after_entry b.instance P e)
 agrees-entry b P e plan fits agrees free = by_case (is_accepted e.verdict) free
   where
     by_case : (c : Bool) → (c ≡ true → is_frozen b P e.moves ≡ false) → AgreesBefore b (if c then after_all b.instance P e.moves else P)

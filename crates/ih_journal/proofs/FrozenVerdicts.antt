@@ -6,8 +6,8 @@ use Rattle.ih_plan.specs.declared.moves.Move.{Move}
 use Rattle.ih_plan.specs.declared.moves.Move.TheVariants.{SetDay, Withdraw}
 use Rattle.ih_plan.specs.BillOf.{bill_of}
 use Rattle.ih_plan.specs.Draws.{move_of}
-use Rattle.ih_plan.proofs.Base.{two_patients, first_admitted, weights}
-use Rattle.ih_plan.proofs.Prices.{place}
+use Rattle.ih_plan.proofs.ExampleWards.{two_patients, first_admitted, weights}
+use Rattle.ih_plan.proofs.MoveExamples.{place}
 use Rattle.ih_journal.specs.declared.entries.Entry.{Entry}
 use Rattle.ih_journal.specs.declared.entries.Verdict.{Verdict}
 use Rattle.ih_journal.specs.declared.entries.Verdict.TheVariants.{Accepted, Frozen}

@@ -19,7 +19,7 @@ pub mod Literals
 pub mod LoneWorkers
 pub mod Mapped
 pub mod MoveTexts
-pub mod Numbers
+pub mod NumberLists
 pub mod Parts
 pub mod PriceTexts
 pub mod Separators

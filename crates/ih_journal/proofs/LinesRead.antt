@@ -4,8 +4,8 @@ use Rattle.std.specs.Prelude.{codes}
 use Rattle.std.proofs.lemmas.Fmt.{decimal_nonempty}
 use Rattle.ih_plan.specs.declared.moves.Move.{Move}
 use Rattle.ih_plan.specs.Expand.{IsMoveOf}
-use Rattle.ih_plan.proofs.Base.{one_room}
-use Rattle.ih_plan.proofs.Prices.{nurse}
+use Rattle.ih_plan.proofs.ExampleWards.{one_room}
+use Rattle.ih_plan.proofs.MoveExamples.{nurse}
 use Rattle.ih_journal.specs.Texts.{move_text}
 use Rattle.ih_journal.specs.Grammar.{IsPrice, IsEntryOf, IsLineOf, IsField, IsRight, IsFirstWrong, Kind, count_kind, move_kind, price_kind, verdict_kind}
 use Rattle.ih_journal.proofs.InRange.{IsLimited, move_short}

@@ -7,7 +7,7 @@ use Rattle.ih_tables.specs.declared.bills.Bill.{Bill}
 use Rattle.ih_plan.specs.declared.moves.Move.{Move}
 use Rattle.ih_plan.specs.Timetable.{Timetable}
 use Rattle.ih_plan.specs.Series.{after_all, all_touch, expand_all, price_of_all}
-use Rattle.ih_plan.proofs.Prices.{draws_on_literals, moves_on_literals}
+use Rattle.ih_plan.proofs.MoveExamples.{draws_on_literals, moves_on_literals}
 use Rattle.ih_journal.specs.declared.settings.Options.{Options}
 use Rattle.ih_journal.specs.declared.entries.Entry.{Entry}
 use Rattle.ih_journal.specs.declared.entries.Verdict.{Verdict}

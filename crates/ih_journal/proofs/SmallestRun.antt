@@ -5,8 +5,8 @@ use Rattle.ih_tables.specs.declared.bills.Bill.{Bill}
 use Rattle.ih_tables.specs.Bills.{feasible, score}
 use Rattle.ih_plan.specs.Timetable.{empty}
 use Rattle.ih_plan.specs.BillOf.{bill_of}
-use Rattle.ih_plan.proofs.Base.{one_room, bill9, weights}
-use Rattle.ih_plan.proofs.Prices.{nurse_run, nurse}
+use Rattle.ih_plan.proofs.ExampleWards.{one_room, bill9, weights}
+use Rattle.ih_plan.proofs.MoveExamples.{nurse_run, nurse}
 use Rattle.ih_journal.specs.declared.settings.Options.{Options}
 use Rattle.ih_journal.specs.declared.entries.Entry.{Entry}
 use Rattle.ih_journal.specs.declared.entries.Verdict.TheVariants.{Accepted}

@@ -7,8 +7,8 @@ use Rattle.ih_tables.specs.Bills.{score, cost}
 use Rattle.ih_plan.specs.BillOf.{bill_of, change_of_bill}
 use Rattle.ih_plan.specs.Draws.{move_of}
 use Rattle.ih_plan.specs.Footprint.{footprint}
-use Rattle.ih_plan.proofs.Base.{two_patients, first_admitted, weights}
-use Rattle.ih_plan.proofs.Prices.{nurse, place}
+use Rattle.ih_plan.proofs.ExampleWards.{two_patients, first_admitted, weights}
+use Rattle.ih_plan.proofs.MoveExamples.{nurse, place}
 use Rattle.ih_journal.specs.declared.entries.Entry.{Entry}
 use Rattle.ih_journal.specs.declared.entries.Verdict.{Verdict}
 use Rattle.ih_journal.specs.declared.entries.Verdict.TheVariants.{Accepted, Stale}

@@ -181,8 +181,16 @@ line-length I o k e l short = by_form o.retries
         omega (arith, all)
     by_form (suc r) =
         let all = joined-length 32 (7 ∷ 2 ∷ 7 ∷ 1 ∷ 7 ∷ 28 ∷ 154 ∷ 42 ∷ [])
-        (decimal k ∷ decimal e.worker ∷ decimal e.number ∷ decimal e.again ∷ decimal e.seen ∷ move_text e.mv ∷ price_text e.price ∷ verdict_text e.verdict ∷ [])
-        (number7 k short.place, (two, (number7 e.number short.number, (one, (number7 e.seen short.seen, (move-length I e.mv l short.move, (price, (verdict-length I e.verdict l short.verdict, tt)))))))) in
+        (decimal k ∷ decimal e.worker ∷ decimal e.number ∷ decimal e.again ∷ decimal e.seen ∷ move_text e.mv ∷ price_text e.price ∷ verdict_text e.verdict ∷ []) (
+          number7 k short.place,
+          (
+            two,
+            (
+              number7 e.number short.number,
+              (one, (number7 e.seen short.seen, (move-length I e.mv l short.move, (price, (verdict-length I e.verdict l short.verdict, tt))))),
+            ),
+          ),
+        ) in
         omega (arith, all)
 
 -- ---- journals

@@ -14,8 +14,12 @@ use crate::settings::Options;
 
 // The number of the next option, where that is the next field.
 fn next_option<'a>(left: Option<&'a [u8]>, name: &str, most: u64) -> Option<(u64, Option<&'a [u8]>)>
-    ensures some { IfSome result (λ r. (r.0 ≤ most) × (left_parted 32 (option_copied left.entry) ≡ (name.now ++ decimal r.0) ∷ left_parted 32 (option_copied r.1))) }
-    ensures none { IfNone result ((n : ℕ) (rest : List (List ℕ)) → n ≤ most → left_parted 32 (option_copied left.entry) ≡ (name.now ++ decimal n) ∷ rest → ⊥) }
+    ensures some { IfSome result
+        (λ r. (r.0 ≤ most) × (left_parted 32 (option_copied left.entry)
+        ≡ (name.now ++ decimal r.0) ∷ left_parted 32 (option_copied r.1))) }
+    ensures none { IfNone result
+        ((n : ℕ) (rest : List (List ℕ)) → n ≤ most
+        → left_parted 32 (option_copied left.entry) ≡ (name.now ++ decimal n) ∷ rest → ⊥) }
 {
     let (field, left) = cut(left?, b' ');
     let n = number_of(field.strip_prefix(name.as_bytes())?, most)?;
@@ -25,7 +29,8 @@ fn next_option<'a>(left: Option<&'a [u8]>, name: &str, most: u64) -> Option<(u64
 // The retries of a heading: those of its last field, where there is one, and else none.
 fn retries_of(left: Option<&[u8]>) -> Option<u32>
     ensures some { IfSome result (λ r. (r < 2 ^ 32) × (left_parted 32 (option_copied left.entry) ≡ retries_field r)) }
-    ensures none { IfNone result ((r : ℕ) → r < 2 ^ 32 → left_parted 32 (option_copied left.entry) ≡ retries_field r → ⊥) }
+    ensures none { IfNone result
+        ((r : ℕ) → r < 2 ^ 32 → left_parted 32 (option_copied left.entry) ≡ retries_field r → ⊥) }
 {
     if left.is_none() {
         return Some(0);
@@ -66,7 +71,8 @@ fn options_of(bytes: &[u8]) -> Option<Options>
     })
 }
 
-/// Reads the heading of a journal, without its line feed. There is none where the bytes are the heading of no lawful options.
+/// Reads the heading of a journal, without its line feed. There is none where the bytes are the heading of no lawful
+/// options.
 pub fn parse_head(bytes: &[u8]) -> Option<Options>
     ensures some { IfSome result (λ o. IsLawful o × (bytes.now ≡ heading o)) }
     ensures only { (o : Options) → IsLawful o → o.seed < 2 ^ 64 → bytes.now ≡ heading o → result ≡ Some o }

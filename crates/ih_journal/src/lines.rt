@@ -57,7 +57,8 @@ fn heading_made(alloc: Global, o: &Options) -> Result<String, AllocError>
     Ok(made)
 }
 
-/// Appends the heading with its line feed. After want of memory `out` holds what it held, followed by a prefix of that line.
+/// Appends the heading with its line feed. Where memory runs out, `out` holds what it held, followed by a prefix of
+/// that line.
 #[tactic(auto, using(crate::proofs::Parts::part_none))]
 pub fn head_line(o: &Options, out: &mut Vec<u8>) -> Result<(), AllocError>
     ensures ok { OnOk result (out.new.items ≡ out.old.items ++ ended (heading o.now)) }
@@ -149,8 +150,8 @@ impl LineRoom {
     }
 }
 
-/// Appends the line of the entry at a place, with its line feed. After want of memory `out` holds what it held, followed
-/// by a prefix of that line.
+/// Appends the line of the entry at a place, with its line feed. Where memory runs out, `out` holds what it held,
+/// followed by a prefix of that line.
 pub fn line(options: &Options, place: u32, e: &Entry, out: &mut Vec<u8>) -> Result<(), AllocError>
     requires { IsWithin (10 ^ 11) e.now.price }
     ensures ok { OnOk result (out.new.items ≡ out.old.items ++ ended (line_text options.now place e.now)) }

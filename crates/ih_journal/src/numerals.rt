@@ -73,8 +73,11 @@ pub fn signed_of(bytes: &[u8]) -> Option<i64>
 /// Reads numbers of 32 bits with the separator between each two into the front of `out`, and says how many there are.
 /// There is none where the bytes aren't such a text of at most as many numbers as `out` has room for.
 pub fn numbers(bytes: &[u8], separator: u8, out: &mut [u32]) -> Option<usize>
-    ensures some { IfSome result (λ n. (n ≤ length out.old) × (parted separator bytes.now ≡ map decimal (take n out.new)) × AreShort (take n out.new)) }
-    ensures none { IfNone result ((ns : List ℕ) → length ns ≤ length out.old → AreShort ns → parted separator bytes.now ≡ map decimal ns → ⊥) }
+    ensures some { IfSome result
+        (λ n. (n ≤ length out.old) × (parted separator bytes.now ≡ map decimal (take n out.new))
+        × AreShort (take n out.new)) }
+    ensures none { IfNone result
+        ((ns : List ℕ) → length ns ≤ length out.old → AreShort ns → parted separator bytes.now ≡ map decimal ns → ⊥) }
 {
     let mut left = bytes;
     for i in 0..out.len() {
@@ -90,8 +93,12 @@ pub fn numbers(bytes: &[u8], separator: u8, out: &mut [u32]) -> Option<usize>
 
 /// The same of a price's numbers, with commas.
 pub fn signed_numbers(bytes: &[u8], out: &mut [i64]) -> Option<usize>
-    ensures some { IfSome result (λ n. (n ≤ length out.old) × (parted 44 bytes.now ≡ map signed_decimal (take n out.new)) × All IsSmall (take n out.new)) }
-    ensures none { IfNone result ((zs : List ℤ) → length zs ≤ length out.old → All IsSmall zs → parted 44 bytes.now ≡ map signed_decimal zs → ⊥) }
+    ensures some { IfSome result
+        (λ n. (n ≤ length out.old) × (parted 44 bytes.now ≡ map signed_decimal (take n out.new))
+        × All IsSmall (take n out.new)) }
+    ensures none { IfNone result
+        ((zs : List ℤ) → length zs ≤ length out.old → All IsSmall zs → parted 44 bytes.now ≡ map signed_decimal zs
+        → ⊥) }
 {
     let mut left = bytes;
     for i in 0..out.len() {

@@ -41,8 +41,10 @@ impl<'a> Line<'a> {
         requires read { IsRead self.now.inst.now.draft self.now.options.now self.now.bytes.now next.index next.at }
         requires wanted { next.index < length (kinds self.now.options.now) }
         ensures index { IfOk result (λ r. r.1.index ≡ next.index + 1) }
-        ensures ok { IfOk result (λ r. fields_from self.now.bytes.now next.at ≡ r.0.now ∷ fields_from self.now.bytes.now r.1.at) }
-        ensures err { IfErr result (λ e. IsFirstWrong self.now.inst.now.draft self.now.options.now self.now.bytes.now e.field) }
+        ensures ok { IfOk result
+            (λ r. fields_from self.now.bytes.now next.at ≡ r.0.now ∷ fields_from self.now.bytes.now r.1.at) }
+        ensures err { IfErr result
+            (λ e. IsFirstWrong self.now.inst.now.draft self.now.options.now self.now.bytes.now e.field) }
     {
         if next.at > self.bytes.len() {
             return Err(BadLine {
@@ -61,8 +63,11 @@ impl<'a> Line<'a> {
         requires read { IsRead self.now.inst.now.draft self.now.options.now self.now.bytes.now next.index next.at }
         requires wanted { slice_get (kinds self.now.options.now) next.index ≡ Some count_kind }
         ensures short { IfOk result (λ r. r.0 < 2 ^ 32) }
-        ensures ok { IfOk result (λ r. Reads self.now.inst.now.draft self.now.options.now self.now.bytes.now next.index next.at (decimal r.0) r.1.index r.1.at) }
-        ensures err { IfErr result (λ e. IsFirstWrong self.now.inst.now.draft self.now.options.now self.now.bytes.now e.field) }
+        ensures ok { IfOk result
+            (λ r. Reads self.now.inst.now.draft self.now.options.now self.now.bytes.now next.index next.at
+            (decimal r.0) r.1.index r.1.at) }
+        ensures err { IfErr result
+            (λ e. IsFirstWrong self.now.inst.now.draft self.now.options.now self.now.bytes.now e.field) }
     {
         let (field, after) = self.field(next)?;
         match number_of(field, u32::MAX as u64) {
@@ -79,10 +84,14 @@ impl<'a> Line<'a> {
         requires third { next.index ≡ 3 }
         ensures short { IfOk result (λ r. r.0 < 2 ^ 32) }
         ensures once { IfOk result (λ r. self.now.options.now.retries ≡ 0 → r.0 ≡ 0) }
-        ensures read { IfOk result (λ r. IsRead self.now.inst.now.draft self.now.options.now self.now.bytes.now r.1.index r.1.at) }
+        ensures read { IfOk result
+            (λ r. IsRead self.now.inst.now.draft self.now.options.now self.now.bytes.now r.1.index r.1.at) }
         ensures index { IfOk result (λ r. r.1.index ≡ 3 + length (again_kind self.now.options.now.retries)) }
-        ensures ok { IfOk result (λ r. fields_from self.now.bytes.now next.at ≡ again_field self.now.options.now.retries r.0 ++ fields_from self.now.bytes.now r.1.at) }
-        ensures err { IfErr result (λ e. IsFirstWrong self.now.inst.now.draft self.now.options.now self.now.bytes.now e.field) }
+        ensures ok { IfOk result
+            (λ r. fields_from self.now.bytes.now next.at
+            ≡ again_field self.now.options.now.retries r.0 ++ fields_from self.now.bytes.now r.1.at) }
+        ensures err { IfErr result
+            (λ e. IsFirstWrong self.now.inst.now.draft self.now.options.now self.now.bytes.now e.field) }
     {
         match self.options.retries {
             0 => Ok((0, next)),
@@ -94,8 +103,11 @@ impl<'a> Line<'a> {
         requires read { IsRead self.now.inst.now.draft self.now.options.now self.now.bytes.now next.index next.at }
         requires wanted { slice_get (kinds self.now.options.now) next.index ≡ Some move_kind }
         ensures inside { IfOk result (λ r. IsMoveOf self.now.inst.now.draft r.0) }
-        ensures ok { IfOk result (λ r. Reads self.now.inst.now.draft self.now.options.now self.now.bytes.now next.index next.at (move_text r.0) r.1.index r.1.at) }
-        ensures err { IfErr result (λ e. IsFirstWrong self.now.inst.now.draft self.now.options.now self.now.bytes.now e.field) }
+        ensures ok { IfOk result
+            (λ r. Reads self.now.inst.now.draft self.now.options.now self.now.bytes.now next.index next.at
+            (move_text r.0) r.1.index r.1.at) }
+        ensures err { IfErr result
+            (λ e. IsFirstWrong self.now.inst.now.draft self.now.options.now self.now.bytes.now e.field) }
     {
         let (field, after) = self.field(next)?;
         match parse_move(self.inst, field) {
@@ -110,8 +122,11 @@ impl<'a> Line<'a> {
         requires read { IsRead self.now.inst.now.draft self.now.options.now self.now.bytes.now next.index next.at }
         requires wanted { slice_get (kinds self.now.options.now) next.index ≡ Some price_kind }
         ensures inside { IfOk result (λ r. IsPrice r.0) }
-        ensures ok { IfOk result (λ r. Reads self.now.inst.now.draft self.now.options.now self.now.bytes.now next.index next.at (price_text r.0) r.1.index r.1.at) }
-        ensures err { IfErr result (λ e. IsFirstWrong self.now.inst.now.draft self.now.options.now self.now.bytes.now e.field) }
+        ensures ok { IfOk result
+            (λ r. Reads self.now.inst.now.draft self.now.options.now self.now.bytes.now next.index next.at
+            (price_text r.0) r.1.index r.1.at) }
+        ensures err { IfErr result
+            (λ e. IsFirstWrong self.now.inst.now.draft self.now.options.now self.now.bytes.now e.field) }
     {
         let (field, after) = self.field(next)?;
         match price_of(field) {
@@ -126,8 +141,11 @@ impl<'a> Line<'a> {
         requires read { IsRead self.now.inst.now.draft self.now.options.now self.now.bytes.now next.index next.at }
         requires wanted { slice_get (kinds self.now.options.now) next.index ≡ Some verdict_kind }
         ensures inside { IfOk result (λ r. IsVerdictOf self.now.inst.now.draft r.0) }
-        ensures ok { IfOk result (λ r. Reads self.now.inst.now.draft self.now.options.now self.now.bytes.now next.index next.at (verdict_text r.0) r.1.index r.1.at) }
-        ensures err { IfErr result (λ e. IsFirstWrong self.now.inst.now.draft self.now.options.now self.now.bytes.now e.field) }
+        ensures ok { IfOk result
+            (λ r. Reads self.now.inst.now.draft self.now.options.now self.now.bytes.now next.index next.at
+            (verdict_text r.0) r.1.index r.1.at) }
+        ensures err { IfErr result
+            (λ e. IsFirstWrong self.now.inst.now.draft self.now.options.now self.now.bytes.now e.field) }
     {
         let (field, after) = self.field(next)?;
         match verdict_of(self.inst, field) {
@@ -142,7 +160,8 @@ impl<'a> Line<'a> {
         requires read { IsRead self.now.inst.now.draft self.now.options.now self.now.bytes.now next.index next.at }
         requires all { next.index ≡ length (kinds self.now.options.now) }
         ensures ok { OnOk result (fields_from self.now.bytes.now next.at ≡ []) }
-        ensures err { IfErr result (λ e. IsFirstWrong self.now.inst.now.draft self.now.options.now self.now.bytes.now e.field) }
+        ensures err { IfErr result
+            (λ e. IsFirstWrong self.now.inst.now.draft self.now.options.now self.now.bytes.now e.field) }
     {
         if next.at > self.bytes.len() {
             Ok(())
@@ -154,8 +173,10 @@ impl<'a> Line<'a> {
     }
 
     fn entry(&self) -> Result<(u32, Entry), BadLine>
-        ensures ok { IfOk result (λ r. IsLineOf self.now.inst.now.draft self.now.options.now r.0 r.1 self.now.bytes.now) }
-        ensures err { IfErr result (λ e. IsFirstWrong self.now.inst.now.draft self.now.options.now self.now.bytes.now e.field) }
+        ensures ok { IfOk result
+            (λ r. IsLineOf self.now.inst.now.draft self.now.options.now r.0 r.1 self.now.bytes.now) }
+        ensures err { IfErr result
+            (λ e. IsFirstWrong self.now.inst.now.draft self.now.options.now self.now.bytes.now e.field) }
     {
         let (place, next) = self.count(Next { index: 0, at: 0 })?;
         let (worker, next) = self.count(next)?;
@@ -179,8 +200,8 @@ impl<'a> Line<'a> {
     }
 }
 
-/// Reads the line of an entry, without its line feed: its place and the entry. Where the bytes are no such line, says which
-/// field is the first that is missing or wrong, or that one is too many.
+/// Reads the line of an entry, without its line feed: its place and the entry. Where the bytes are no such line, says
+/// which field is the first that is missing or wrong, or that one is too many.
 pub fn parse_line(inst: &Instance, options: &Options, bytes: &[u8]) -> Result<(u32, Entry), BadLine>
     ensures ok { IfOk result (λ r. IsLineOf inst.now.draft options.now r.0 r.1 bytes.now) }
     ensures only { (k : ℕ) (e : Entry) → IsLineOf inst.now.draft options.now k e bytes.now → result ≡ Ok (k, e) }

@@ -94,7 +94,8 @@ pub fn price_of(bytes: &[u8]) -> Option<Bill>
 // What a stale verdict carries.
 fn stale_of(inst: &Instance, bytes: &[u8]) -> Option<Verdict>
     ensures some { IfSome result (λ v. IsVerdictOf inst.now.draft v × (bytes.now ≡ verdict_text v)) }
-    ensures none { IfNone result ((v : Verdict) → IsVerdictOf inst.now.draft v → is_stale v ≡ true → bytes.now ≡ verdict_text v → ⊥) }
+    ensures none { IfNone result
+        ((v : Verdict) → IsVerdictOf inst.now.draft v → is_stale v ≡ true → bytes.now ≡ verdict_text v → ⊥) }
 {
     let (name, rest) = cut(bytes, b':');
     if !is(name, "stale") {

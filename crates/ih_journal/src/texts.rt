@@ -165,7 +165,7 @@ pub fn verdict_text(verdict: &Verdict, out: &mut Vec<u8>) -> Result<(), AllocErr
     out.extend_from_slice(&room[..len])
 }
 
-/// Appends the text of a move. After want of memory `out` holds what it held, followed by a prefix of that text.
+/// Appends the text of a move. Where memory runs out, `out` holds what it held, followed by a prefix of that text.
 #[tactic(auto, using(crate::proofs::Parts::part_none))]
 pub fn text(mv: &Move, out: &mut Vec<u8>) -> Result<(), AllocError>
     ensures ok { OnOk result (out.new.items ≡ out.old.items ++ move_text mv.now) }

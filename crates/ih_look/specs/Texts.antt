@@ -48,7 +48,7 @@ abbrev pub IsPut : List ℕ → Status → Status → Option (List ℕ) → Opti
 IsPut text status result old new faults faults' wants wants' =
     ((result ≡ status) × Gained old new faults faults' text) ⊎ ((result ≡ OutOfMemory) × GainedPart old new wants wants' text)
 
--- the statuses that may be told where this one was reached: it, or want of memory for its text
+-- the statuses that may be told where this one was reached: it, or lack of memory for its text
 abbrev pub MayTell : Status → Status → Type 0
 MayTell status told = (told ≡ status) ⊎ ((status ≢ Done) × (told ≡ OutOfMemory))
 

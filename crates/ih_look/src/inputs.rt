@@ -43,7 +43,9 @@ fn read_instance_file<R: Files, S: Shelf>(
 ) -> Result<Instance, Status>
     ensures read { IfOk result (λ i. IfSome (S.names shelf.old) (HasInstance call.now.instance.now i.draft)) }
     ensures unread { IfErr result (IsUnread (S.names shelf.old) (call_in call.now)) }
-    ensures cause { IfErr result (HasCause (S.read_faults shelf.old) (S.read_faults shelf.new) (S.write_faults shelf.old) (S.write_faults shelf.new)) }
+    ensures cause { IfErr result
+        (HasCause (S.read_faults shelf.old) (S.read_faults shelf.new) (S.write_faults shelf.old)
+        (S.write_faults shelf.new)) }
     ensures count { S.read_faults shelf.old ≤ S.read_faults shelf.new }
     ensures other_count { S.write_faults shelf.new ≡ S.write_faults shelf.old }
     ensures kept { S.names shelf.new ≡ S.names shelf.old }
@@ -69,7 +71,9 @@ fn read_plan_file<R: Files, S: Shelf>(
     ensures plan { IfOk result (IsPlanOf inst.now.draft) }
     ensures read { IfOk result (λ p. IfSome (S.names shelf.old) (HasSolution call.now.solution.now inst.now.draft p)) }
     ensures unread { IfErr result (IsUnread (S.names shelf.old) (call_in call.now)) }
-    ensures cause { IfErr result (HasCause (S.read_faults shelf.old) (S.read_faults shelf.new) (S.write_faults shelf.old) (S.write_faults shelf.new)) }
+    ensures cause { IfErr result
+        (HasCause (S.read_faults shelf.old) (S.read_faults shelf.new) (S.write_faults shelf.old)
+        (S.write_faults shelf.new)) }
     ensures count { S.read_faults shelf.old ≤ S.read_faults shelf.new }
     ensures other_count { S.write_faults shelf.new ≡ S.write_faults shelf.old }
     ensures kept { S.names shelf.new ≡ S.names shelf.old }
@@ -94,7 +98,9 @@ pub fn read_inputs<R: Files, S: Shelf>(
     ensures plan { IfOk result (λ i. IsPlanOf i.inst.draft i.plan) }
     ensures read { IfOk result (λ i. HasInputs (S.names shelf.old) (call_in call.now) i.inst.draft i.plan) }
     ensures unread { IfErr result (IsUnread (S.names shelf.old) (call_in call.now)) }
-    ensures cause { IfErr result (HasCause (S.read_faults shelf.old) (S.read_faults shelf.new) (S.write_faults shelf.old) (S.write_faults shelf.new)) }
+    ensures cause { IfErr result
+        (HasCause (S.read_faults shelf.old) (S.read_faults shelf.new) (S.write_faults shelf.old)
+        (S.write_faults shelf.new)) }
     ensures count { S.read_faults shelf.old ≤ S.read_faults shelf.new }
     ensures other_count { S.write_faults shelf.new ≡ S.write_faults shelf.old }
     ensures kept { S.names shelf.new ≡ S.names shelf.old }

@@ -13,8 +13,8 @@ use ih_shelf::{Shelf, Sink};
 use std::alloc::Global;
 use std::rt::Files;
 
-/// Does all that the program does, by the words after its name: reads an instance and a solution, and writes the page of
-/// the timetable. The page is made whole before its file is touched.
+/// Does all that the program does, by the words after its name: reads an instance and a solution, and writes the page
+/// of the timetable. The page is made whole before its file is touched.
 pub fn run_view<R: Files + Print, S: Shelf, O: Sink>(
     rt: &R,
     alloc: Global,
@@ -27,10 +27,11 @@ pub fn run_view<R: Files + Print, S: Shelf, O: Sink>(
     ensures ends { Ends (call_of (map string_bytes words.now)) (S.names shelf.old) (S.names shelf.new) result }
 
     // A fault is answered only where its count rose in this call.
-    ensures cause { HasCause (S.read_faults shelf.old) (S.read_faults shelf.new) (S.write_faults shelf.old) (S.write_faults shelf.new) result }
+    ensures cause { HasCause (S.read_faults shelf.old) (S.read_faults shelf.new) (S.write_faults shelf.old)
+        (S.write_faults shelf.new) result }
 
-    // What was said: the text of the status, or, where the sink wanted memory, a part of the text of a status that the call had
-    // reached.
+    // What was said: the text of the status, or, where the sink wanted memory, a part of the text of a status that the
+    // call had reached.
     ensures said { IsSaid (Reaches (call_of (map string_bytes words.now)) (S.names shelf.old) (S.names shelf.new))
         (text_for (call_of (map string_bytes words.now))) result (O.text out.old) (O.text out.new) (O.faults out.old) (O.faults out.new)
         (O.wants out.old) (O.wants out.new) }

@@ -45,7 +45,8 @@ fn text_of(alloc: Global, call: &Call<'_>, status: Status) -> Result<String, All
 
 // Puts a text, in one put.
 fn put_text<R: Print, O: Sink>(rt: &R, out: &mut O, status: Status, text: &[u8]) -> Status
-    ensures { IsPut text.now status result (O.text out.old) (O.text out.new) (O.faults out.old) (O.faults out.new) (O.wants out.old) (O.wants out.new) }
+    ensures { IsPut text.now status result (O.text out.old) (O.text out.new) (O.faults out.old) (O.faults out.new)
+        (O.wants out.old) (O.wants out.new) }
 {
     match out.put(rt, text) {
         Ok(()) => status,
@@ -56,7 +57,8 @@ fn put_text<R: Print, O: Sink>(rt: &R, out: &mut O, status: Status, text: &[u8])
 
 // Says that memory ran out. It takes none.
 fn say_memory<R: Print, O: Sink>(rt: &R, out: &mut O) -> Status
-    ensures { IsPut memory_text Status.OutOfMemory result (O.text out.old) (O.text out.new) (O.faults out.old) (O.faults out.new)
+    ensures { IsPut memory_text Status.OutOfMemory result (O.text out.old) (O.text out.new) (O.faults out.old)
+        (O.faults out.new)
         (O.wants out.old) (O.wants out.new) }
 {
     put_text(rt, out, Status::OutOfMemory, b"out of memory\n")
@@ -70,7 +72,8 @@ fn put_line<R: Print, O: Sink>(
     out: &mut O,
     status: Status,
 ) -> Status
-    ensures { IsPut (text_of (call_in call.now) status) status result (O.text out.old) (O.text out.new) (O.faults out.old) (O.faults out.new)
+    ensures { IsPut (text_of (call_in call.now) status) status result (O.text out.old) (O.text out.new)
+        (O.faults out.old) (O.faults out.new)
         (O.wants out.old) (O.wants out.new)
         ⊎ IsPut memory_text Status.OutOfMemory result (O.text out.old) (O.text out.new) (O.faults out.old) (O.faults out.new)
         (O.wants out.old) (O.wants out.new) }
@@ -83,7 +86,8 @@ fn put_line<R: Print, O: Sink>(
 
 /// Says that the words name no call.
 pub fn say_usage<R: Print, O: Sink>(rt: &R, out: &mut O) -> Status
-    ensures { IsPut usage_text Status.Usage result (O.text out.old) (O.text out.new) (O.faults out.old) (O.faults out.new) (O.wants out.old) (O.wants out.new) }
+    ensures { IsPut usage_text Status.Usage result (O.text out.old) (O.text out.new) (O.faults out.old)
+        (O.faults out.new) (O.wants out.old) (O.wants out.new) }
 {
     put_text(
         rt,
@@ -102,7 +106,8 @@ pub fn conclude<R: Print, O: Sink>(
     status: Status,
 ) -> Status
     ensures status { MayTell status result }
-    ensures said { IsSaid (MayTell status) (text_of (call_in call.now)) result (O.text out.old) (O.text out.new) (O.faults out.old) (O.faults out.new)
+    ensures said { IsSaid (MayTell status) (text_of (call_in call.now)) result (O.text out.old) (O.text out.new)
+        (O.faults out.old) (O.faults out.new)
         (O.wants out.old) (O.wants out.new) }
 {
     match status {

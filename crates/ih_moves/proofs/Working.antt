@@ -13,14 +13,17 @@ use Rattle.ih_tables.specs.Sizes.{nurse_count}
 use Rattle.ih_tables.specs.Works.{max_load, first_nurses, is_working, working}
 use Rattle.ih_plan.specs.Draws.{choose, choose_nurse}
 use Rattle.ih_plan.specs.Sums.{which_below}
-use Rattle.ih_plan.proofs.Lists.{which_below-filter}
+use Rattle.ih_plan.proofs.ListedBelow.{which_below-filter}
 
 numbers-kept : (p : ℕ → Bool) (xs : List ℕ) → map (λ (n : NurseNo). n.0) (filter (λ (n : NurseNo). p n.0) (map (λ i. record { 0 = i }) xs)) ≡ filter p xs
 numbers-kept p [] = refl
 numbers-kept p (x ∷ xs) = by_case (p x) (numbers-kept p xs)
   where
     by_case : (b : Bool) → map (λ (n : NurseNo). n.0) (filter (λ (n : NurseNo). p n.0) (map (λ i. record { 0 = i }) xs)) ≡ filter p xs
-        → map (λ (n : NurseNo). n.0) (if b then record { 0 = x } ∷ filter (λ (n : NurseNo). p n.0) (map (λ i. record { 0 = i }) xs) else filter (λ (n : NurseNo). p n.0) (map (λ i. record { 0 = i }) xs)) ≡ (if b then x ∷ filter p xs else filter p xs)
+        → map (λ (n : NurseNo). n.0)
+        (if b then record { 0 = x }
+        ∷ filter (λ (n : NurseNo). p n.0) (map (λ i. record { 0 = i }) xs) else filter (λ (n : NurseNo). p n.0) (map (λ i. record { 0 = i }) xs))
+        ≡ (if b then x ∷ filter p xs else filter p xs)
     by_case true e = ap (λ ys. x ∷ ys) e
     by_case false e = e
 
@@ -54,11 +57,13 @@ working-below I k j nurses d listed h =
     (rw listed (All-filter (is_working I k) (λ (a : NurseNo). a.0 < nurse_count I) (first_nurses (nurse_count I)) (nurses-below (nurse_count I))))
 
 -- the choice among them is the choice among their numbers
-chosen : (I : Draft) (u k : ℕ) (nurses : List NurseNo) (o : Option ℕ) → nurses ≡ working I k → o ≡ choose u (length nurses) → option_and_then (slice_get (which_below (nurse_count I) (λ n. is_some (max_load I n k)))) o ≡ choose_nurse I u k
+chosen : (I : Draft) (u k : ℕ) (nurses : List NurseNo) (o : Option ℕ) → nurses ≡ working I k → o ≡ choose u (length nurses)
+    → option_and_then (slice_get (which_below (nurse_count I) (λ n. is_some (max_load I n k)))) o ≡ choose_nurse I u k
 chosen I u k nurses o listed e =
     ap (option_and_then (slice_get (which_below (nurse_count I) (λ n. is_some (max_load I n k))))) (e ∙ ap (choose u) (ap length listed ∙ working-count I k))
 
-pub nurse-chosen : (I : Draft) (u k j : ℕ) (nurses : List NurseNo) (d : NurseNo) → nurses ≡ working I k → Some j ≡ choose u (length nurses) → j < length nurses → Some (get_or nurses j d).0 ≡ choose_nurse I u k
+pub nurse-chosen : (I : Draft) (u k j : ℕ) (nurses : List NurseNo) (d : NurseNo) → nurses ≡ working I k → Some j ≡ choose u (length nurses) → j < length nurses
+    → Some (get_or nurses j d).0 ≡ choose_nurse I u k
 nurse-chosen I u k j nurses d listed e h =
     rw listed (sym (working-found I k j d (rw listed at h))) ∙ chosen I u k nurses (Some j) listed e
 

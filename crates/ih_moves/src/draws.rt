@@ -53,7 +53,8 @@ impl Stream {
         ensures move_drawn { result ≡ draw_at inst.now.draft self.old }
         ensures rest { self.new ≡ state_after 6 self.old }
         ensures inside { IsMoveOf inst.now.draft result }
-        ensures numbered { (seed w i : ℕ) → self.old ≡ stream_at seed w i → (result ≡ move_of inst.now.draft seed w i) × (self.new ≡ stream_at seed w (i + 1)) }
+        ensures numbered { (seed w i : ℕ) → self.old ≡ stream_at seed w i
+            → (result ≡ move_of inst.now.draft seed w i) × (self.new ≡ stream_at seed w (i + 1)) }
     {
         self.draw_six(inst)
     }
@@ -98,8 +99,8 @@ fn last_day(inst: &Instance, a: &Patient) -> u32
     }
 }
 
-/// How many days, from the release day on, a patient may be admitted on: up to the due day of a mandatory one, cut at the
-/// horizon's end.
+/// How many days, from the release day on, a patient may be admitted on: up to the due day of a mandatory one, cut at
+/// the horizon's end.
 pub fn window_len(inst: &Instance, a: &Patient) -> u32
     ensures value { result ≡ window_len inst.now.draft a.now }
     ensures inside { 0 < result → a.now.surgery_release_day + result ≤ inst.now.draft.days }

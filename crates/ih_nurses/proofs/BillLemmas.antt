@@ -12,7 +12,7 @@ use Rattle.ih_plan.specs.Presence.{room_of, shifts_of}
 use Rattle.ih_plan.specs.Costs.{overload, load_of, nurse_for, distinct_nurses}
 use Rattle.ih_plan.specs.BillOf.{as_bill}
 use Rattle.ih_plan.specs.Cells.{part_at, part_of, content_of}
-use Rattle.ih_plan.proofs.Lists.{tagged-values}
+use Rattle.ih_plan.proofs.ListedBelow.{tagged-values}
 
 abbrev pub nursing : ℕ → ℕ → ℕ → ℕ → ℕ → Bill
 nursing off uncovered missing seen over = record {

@@ -17,7 +17,7 @@ use Rattle.ih_plan.specs.Presence.{Admission, admission_of, covers, day_of, is_i
 use Rattle.ih_plan.specs.Costs.{distinct_nurses, is_number, load_of, nurse_for}
 use Rattle.ih_plan.specs.Cells.{part_at, part_of, content_of}
 use Rattle.ih_plan.specs.Sums.{sum_below}
-use Rattle.ih_plan.proofs.Lists.{tagged-values}
+use Rattle.ih_plan.proofs.ListedBelow.{tagged-values}
 use Rattle.ih_plan.proofs.Loads.{room_load}
 use Rattle.ih_plan.proofs.SumBounds.{sum_below-add}
 use Rattle.ih_plan.proofs.SumLemmas.{sum_below-same, sum_by-which_below}

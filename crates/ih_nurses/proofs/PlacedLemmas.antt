@@ -21,7 +21,7 @@ use Rattle.ih_plan.specs.Costs.{is_empty, skill_missing, skill_level, overload, 
 use Rattle.ih_plan.specs.Cells.{part_of, content_of}
 use Rattle.ih_plan.specs.Sums.{bit}
 use Rattle.ih_plan.proofs.Entries.{stay_of-same}
-use Rattle.ih_plan.proofs.Lists.{tagged-both}
+use Rattle.ih_plan.proofs.ListedBelow.{tagged-both}
 use Rattle.ih_nurses.specs.Loads.{given}
 use Rattle.ih_nurses.specs.Gains.{uncovered_in, missing_in, overload_in, rise_by_placement}
 use Rattle.ih_nurses.proofs.GivenLemmas.{load-goes, load-has}

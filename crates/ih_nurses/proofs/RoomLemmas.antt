@@ -15,7 +15,7 @@ use Rattle.ih_plan.specs.Costs.{not_working, is_empty, skill_missing, skill_leve
 use Rattle.ih_plan.specs.BillOf.{as_bill}
 use Rattle.ih_plan.specs.Cells.{part_at, part_of, content_of}
 use Rattle.ih_plan.specs.Sums.{bit, tagged}
-use Rattle.ih_plan.proofs.Lists.{tagged-both}
+use Rattle.ih_plan.proofs.ListedBelow.{tagged-both}
 use Rattle.ih_nurses.specs.Here.{AreHere}
 use Rattle.ih_nurses.proofs.BillLemmas.{nursing}
 use Rattle.ih_nurses.proofs.HereLemmas.{read-here}

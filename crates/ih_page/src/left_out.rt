@@ -60,7 +60,9 @@ fn put_row_of(out: &mut Vec<u8>, inst: &Instance, plan: &Plan, p: u32) -> Result
 #[tactic(auto, using(crate::proofs::Lines::text_steps))]
 fn put_rows(out: &mut Vec<u8>, inst: &Instance, plan: &Plan) -> Result<(), AllocError>
     requires { IsPlanOf inst.now.draft plan.now }
-    ensures { OnOk result (out.new.items ≡ out.old.items ++ lines_below (patient_count inst.now.draft) (left_out_of inst.now.draft plan.now)) }
+    ensures { OnOk result
+        (out.new.items ≡ out.old.items
+        ++ lines_below (patient_count inst.now.draft) (left_out_of inst.now.draft plan.now)) }
 {
     for p in 0..inst.patients() {
         put_row_of(out, inst, plan, p)?;

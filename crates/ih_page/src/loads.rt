@@ -13,7 +13,8 @@ use ih_tables::{Instance, NurseNo, RoomNo, Shift};
 fn workload_there(inst: &Instance, plan: &Plan, r: RoomNo, k: u32, x: u32) -> u64
     requires plan { IsPlanOf inst.now.draft plan.now }
     requires person { x < person_count inst.now.draft }
-    ensures value { result ≡ (if is_present inst.now.draft plan.now r.0 (day_of k) x then workload_of inst.now.draft plan.now k x else 0) }
+    ensures value { result
+        ≡ (if is_present inst.now.draft plan.now r.0 (day_of k) x then workload_of inst.now.draft plan.now k x else 0) }
     ensures bound { result ≤ 4294967296 }
 {
     if is_present(inst, plan, r, k / 3, x) {
@@ -27,7 +28,8 @@ fn workload_there(inst: &Instance, plan: &Plan, r: RoomNo, k: u32, x: u32) -> u6
 #[tactic(auto, using(ih_plan::proofs::SumLemmas::sum_steps), unfolding(ih_plan::specs::Presence::present))]
 fn room_load(inst: &Instance, plan: &Plan, r: RoomNo, k: u32) -> u64
     requires { IsPlanOf inst.now.draft plan.now }
-    ensures sum { result ≡ sum_by (workload_of inst.now.draft plan.now k) (present inst.now.draft plan.now r.0 (day_of k)) }
+    ensures sum { result ≡ sum_by (workload_of inst.now.draft plan.now k)
+        (present inst.now.draft plan.now r.0 (day_of k)) }
     ensures bound { result ≤ 4294967296 * 2560 }
 {
     let mut sum = 0;
@@ -42,7 +44,9 @@ fn share_of(inst: &Instance, plan: &Plan, n: NurseNo, k: u32, r: RoomNo) -> u64
     requires plan { IsPlanOf inst.now.draft plan.now }
     requires room { r.0 < room_count inst.now.draft }
     requires shift { k < shift_count inst.now.draft }
-    ensures value { result ≡ (if is_number (care_of plan.now r.0 k) n.0 then sum_by (workload_of inst.now.draft plan.now k) (present inst.now.draft plan.now r.0 (day_of k)) else 0) }
+    ensures value { result
+        ≡ (if is_number (care_of plan.now r.0 k) n.0 then sum_by (workload_of inst.now.draft plan.now k)
+        (present inst.now.draft plan.now r.0 (day_of k)) else 0) }
     ensures bound { result ≤ 4294967296 * 2560 }
 {
     match plan.care(r, Shift(k)) {

@@ -39,7 +39,8 @@ pub fn put_theatre(out: &mut Vec<u8>, inst: &Instance, t: TheatreNo) -> Result<(
 /// Appends the name of a nurse, where there is one.
 pub fn put_nurse(out: &mut Vec<u8>, inst: &Instance, n: Option<NurseNo>) -> Result<(), AllocError>
     requires { IfSome n (λ a. a.0 < nurse_count inst.now.draft) }
-    ensures { OnOk result (out.new.items ≡ out.old.items ++ nurse_text inst.now.draft (option_map (λ (a : NurseNo). a.0) n)) }
+    ensures { OnOk result
+        (out.new.items ≡ out.old.items ++ nurse_text inst.now.draft (option_map (λ (a : NurseNo). a.0) n)) }
 {
     match n {
         None => put(out, "-"),

@@ -59,7 +59,9 @@ fn put_cell(
 fn put_cells(out: &mut Vec<u8>, inst: &Instance, plan: &Plan, n: u32) -> Result<(), AllocError>
     requires plan { IsPlanOf inst.now.draft plan.now }
     requires nurse { n < nurse_count inst.now.draft }
-    ensures { OnOk result (out.new.items ≡ out.old.items ++ lines_below (shift_count inst.now.draft) (load_cell inst.now.draft plan.now n)) }
+    ensures { OnOk result
+        (out.new.items ≡ out.old.items
+        ++ lines_below (shift_count inst.now.draft) (load_cell inst.now.draft plan.now n)) }
 {
     for k in 0..inst.shifts() {
         put_cell(out, inst, plan, n, k)?;
@@ -91,7 +93,9 @@ fn put_row(out: &mut Vec<u8>, inst: &Instance, plan: &Plan, n: u32) -> Result<()
 #[tactic(auto, using(crate::proofs::Lines::text_steps))]
 fn put_rows(out: &mut Vec<u8>, inst: &Instance, plan: &Plan) -> Result<(), AllocError>
     requires { IsPlanOf inst.now.draft plan.now }
-    ensures { OnOk result (out.new.items ≡ out.old.items ++ lines_below (nurse_count inst.now.draft) (nurse_row inst.now.draft plan.now)) }
+    ensures { OnOk result
+        (out.new.items ≡ out.old.items
+        ++ lines_below (nurse_count inst.now.draft) (nurse_row inst.now.draft plan.now)) }
 {
     for n in 0..inst.nurses() {
         put_row(out, inst, plan, n)?;

@@ -121,7 +121,8 @@ fn put_occupant_in(out: &mut Vec<u8>, inst: &Instance, r: u32, o: u32) -> Result
 
 #[tactic(auto, using(crate::proofs::Lines::text_steps))]
 fn put_occupants(out: &mut Vec<u8>, inst: &Instance, r: u32) -> Result<(), AllocError>
-    ensures { OnOk result (out.new.items ≡ out.old.items ++ lines_below (occupant_count inst.now.draft) (occupant_in inst.now.draft r)) }
+    ensures { OnOk result
+        (out.new.items ≡ out.old.items ++ lines_below (occupant_count inst.now.draft) (occupant_in inst.now.draft r)) }
 {
     for o in 0..inst.occupants() {
         put_occupant_in(out, inst, r, o)?;
@@ -132,7 +133,9 @@ fn put_occupants(out: &mut Vec<u8>, inst: &Instance, r: u32) -> Result<(), Alloc
 #[tactic(auto, using(crate::proofs::Lines::text_steps))]
 fn put_patients(out: &mut Vec<u8>, inst: &Instance, plan: &Plan, r: u32) -> Result<(), AllocError>
     requires { IsPlanOf inst.now.draft plan.now }
-    ensures { OnOk result (out.new.items ≡ out.old.items ++ lines_below (patient_count inst.now.draft) (λ p. patient_in inst.now.draft r p (stay_of plan.now p))) }
+    ensures { OnOk result
+        (out.new.items ≡ out.old.items
+        ++ lines_below (patient_count inst.now.draft) (λ p. patient_in inst.now.draft r p (stay_of plan.now p))) }
 {
     for p in 0..inst.patients() {
         put_patient_in(out, inst, plan, r, p)?;
@@ -164,7 +167,8 @@ fn put_count(
 fn put_counts(out: &mut Vec<u8>, inst: &Instance, plan: &Plan, r: u32) -> Result<(), AllocError>
     requires plan { IsPlanOf inst.now.draft plan.now }
     requires room { r < room_count inst.now.draft }
-    ensures { OnOk result (out.new.items ≡ out.old.items ++ lines_below inst.now.draft.days (count_cell inst.now.draft plan.now r)) }
+    ensures { OnOk result
+        (out.new.items ≡ out.old.items ++ lines_below inst.now.draft.days (count_cell inst.now.draft plan.now r)) }
 {
     for d in 0..inst.days() {
         put_count(out, inst, plan, r, d)?;
@@ -201,7 +205,9 @@ fn put_cares(
     requires plan { IsPlanOf inst.now.draft plan.now }
     requires room { r < room_count inst.now.draft }
     requires shift { j < 3 }
-    ensures { OnOk result (out.new.items ≡ out.old.items ++ lines_below inst.now.draft.days (λ d. nurse_cell inst.now.draft plan.now r (3 * d + j))) }
+    ensures { OnOk result
+        (out.new.items ≡ out.old.items
+        ++ lines_below inst.now.draft.days (λ d. nurse_cell inst.now.draft plan.now r (3 * d + j))) }
 {
     for d in 0..inst.days() {
         put_care(out, inst, plan, r, 3 * d + j)?;
@@ -317,7 +323,8 @@ fn put_room(out: &mut Vec<u8>, inst: &Instance, plan: &Plan, r: u32) -> Result<(
 #[tactic(auto, using(crate::proofs::Lines::text_steps))]
 fn put_all_rooms(out: &mut Vec<u8>, inst: &Instance, plan: &Plan) -> Result<(), AllocError>
     requires { IsPlanOf inst.now.draft plan.now }
-    ensures { OnOk result (out.new.items ≡ out.old.items ++ lines_below (room_count inst.now.draft) (room_text inst.now.draft plan.now)) }
+    ensures { OnOk result
+        (out.new.items ≡ out.old.items ++ lines_below (room_count inst.now.draft) (room_text inst.now.draft plan.now)) }
 {
     for r in 0..inst.rooms() {
         put_room(out, inst, plan, r)?;

@@ -195,7 +195,9 @@ fn put_operations(
     d: u32,
 ) -> Result<(), AllocError>
     requires { IsPlanOf inst.now.draft plan.now }
-    ensures { OnOk result (out.new.items ≡ out.old.items ++ lines_below (patient_count inst.now.draft) (operation inst.now.draft plan.now w d)) }
+    ensures { OnOk result
+        (out.new.items ≡ out.old.items
+        ++ lines_below (patient_count inst.now.draft) (operation inst.now.draft plan.now w d)) }
 {
     for p in 0..inst.patients() {
         put_operation(out, inst, plan, w, d, p)?;
@@ -244,7 +246,8 @@ fn put_cell(
 fn put_cells(out: &mut Vec<u8>, inst: &Instance, plan: &Plan, w: Whose) -> Result<(), AllocError>
     requires plan { IsPlanOf inst.now.draft plan.now }
     requires whose { IsWhoseOf inst.now.draft w }
-    ensures { OnOk result (out.new.items ≡ out.old.items ++ lines_below inst.now.draft.days (surgery_cell inst.now.draft plan.now w)) }
+    ensures { OnOk result
+        (out.new.items ≡ out.old.items ++ lines_below inst.now.draft.days (surgery_cell inst.now.draft plan.now w)) }
 {
     for d in 0..inst.days() {
         put_cell(out, inst, plan, w, d)?;
@@ -267,7 +270,10 @@ fn put_row(out: &mut Vec<u8>, inst: &Instance, plan: &Plan, w: Whose) -> Result<
 #[tactic(auto, using(crate::proofs::Lines::text_steps))]
 fn put_theatre_rows(out: &mut Vec<u8>, inst: &Instance, plan: &Plan) -> Result<(), AllocError>
     requires { IsPlanOf inst.now.draft plan.now }
-    ensures { OnOk result (out.new.items ≡ out.old.items ++ lines_below (theatre_count inst.now.draft) (λ t. surgery_row inst.now.draft plan.now (OfTheatre (record { 0 = t })))) }
+    ensures { OnOk result
+        (out.new.items ≡ out.old.items
+        ++ lines_below (theatre_count inst.now.draft)
+        (λ t. surgery_row inst.now.draft plan.now (OfTheatre (record { 0 = t })))) }
 {
     for t in 0..inst.theatres() {
         put_row(out, inst, plan, Whose::OfTheatre(TheatreNo(t)))?;
@@ -278,7 +284,10 @@ fn put_theatre_rows(out: &mut Vec<u8>, inst: &Instance, plan: &Plan) -> Result<(
 #[tactic(auto, using(crate::proofs::Lines::text_steps))]
 fn put_surgeon_rows(out: &mut Vec<u8>, inst: &Instance, plan: &Plan) -> Result<(), AllocError>
     requires { IsPlanOf inst.now.draft plan.now }
-    ensures { OnOk result (out.new.items ≡ out.old.items ++ lines_below (surgeon_count inst.now.draft) (λ s. surgery_row inst.now.draft plan.now (OfSurgeon (record { 0 = s })))) }
+    ensures { OnOk result
+        (out.new.items ≡ out.old.items
+        ++ lines_below (surgeon_count inst.now.draft)
+        (λ s. surgery_row inst.now.draft plan.now (OfSurgeon (record { 0 = s })))) }
 {
     for s in 0..inst.surgeons() {
         put_row(out, inst, plan, Whose::OfSurgeon(SurgeonNo(s)))?;

@@ -170,7 +170,8 @@ fn put_list(
     requires line { IsLine line }
     requires all { length xs.now ≡ cell_count inst.now.draft }
     requires inside { All (λ n. n < length xs.now) order.now }
-    ensures { OnOk result (out.new.items ≡ out.old.items ++ list_of inst.now.draft plan.now bill.now line xs.now order.now) }
+    ensures { OnOk result
+        (out.new.items ≡ out.old.items ++ list_of inst.now.draft plan.now bill.now line xs.now order.now) }
 {
     put_list_head(out, bill, line)?;
     put_items(out, inst, plan, line, xs, order)?;
@@ -190,7 +191,8 @@ fn put_list_if_any(
     requires line { IsLine line }
     requires all { length xs.now ≡ cell_count inst.now.draft }
     requires inside { All (λ n. n < length xs.now) order.now }
-    ensures { OnOk result (out.new.items ≡ out.old.items ++ list_if_any inst.now.draft plan.now bill.now line xs.now order.now) }
+    ensures { OnOk result
+        (out.new.items ≡ out.old.items ++ list_if_any inst.now.draft plan.now bill.now line xs.now order.now) }
 {
     if order.is_empty() {
         Ok(())
@@ -236,7 +238,8 @@ fn put_rule_lists(
 ) -> Result<(), AllocError>
     requires same { ledgers.now.instance ≡ inst.now.draft }
     requires bill { bill.now ≡ bill_of inst.now.draft ledgers.now.plan }
-    ensures { OnOk result (out.new.items ≡ out.old.items ++ lines_below 9 (λ i. line_list inst.now.draft ledgers.now.plan (Rule i))) }
+    ensures { OnOk result
+        (out.new.items ≡ out.old.items ++ lines_below 9 (λ i. line_list inst.now.draft ledgers.now.plan (Rule i))) }
 {
     for i in 0..9 {
         put_line_list(alloc, out, inst, ledgers, bill, Line::Rule(i))?;
@@ -254,7 +257,8 @@ fn put_cost_lists(
 ) -> Result<(), AllocError>
     requires same { ledgers.now.instance ≡ inst.now.draft }
     requires bill { bill.now ≡ bill_of inst.now.draft ledgers.now.plan }
-    ensures { OnOk result (out.new.items ≡ out.old.items ++ lines_below 8 (λ i. line_list inst.now.draft ledgers.now.plan (Cost i))) }
+    ensures { OnOk result
+        (out.new.items ≡ out.old.items ++ lines_below 8 (λ i. line_list inst.now.draft ledgers.now.plan (Cost i))) }
 {
     for i in 0..8 {
         put_line_list(alloc, out, inst, ledgers, bill, Line::Cost(i))?;

@@ -1,3 +1,3 @@
 pub mod Least
-pub mod Lists
+pub mod CandidateLists
 pub mod Passes

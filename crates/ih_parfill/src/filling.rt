@@ -16,8 +16,8 @@ use std::alloc::{AllocError, Global};
 use std::sync::Wait;
 use std::thread::Threads;
 
-// How many choices are dealt. To start the threads costs more than to price a whole choice, and a share has no short way
-// over rooms and theatres, so what comes after these the caller chooses alone.
+// How many choices are dealt. To start the threads costs more than to price a whole choice, and a share has no short
+// way over rooms and theatres, so what comes after these the caller chooses alone.
 const DEALT: u32 = 32;
 
 // Gives the patient the cheapest stay, where one costs less than none: the workers look for it.
@@ -35,7 +35,8 @@ fn deal_stay<R: Threads + Wait + Sync, G: Gate>(
     requires patient { p.0 < patient_count inst.now.draft }
     requires some { 0 < length shares.old }
     requires few { length shares.old ≤ 64 }
-    ensures made { scorer.new ≡ record scorer.old { plan = with_stay inst.now.draft scorer.old.hard scorer.old.plan p.0 } }
+    ensures made { scorer.new
+        ≡ record scorer.old { plan = with_stay inst.now.draft scorer.old.hard scorer.old.plan p.0 } }
     ensures len { length shares.new ≡ length shares.old }
 {
     share_stays(rt, inst, scorer, p, choice, shares, gate);
@@ -60,7 +61,8 @@ fn place<R: Threads + Wait + Sync, G: Gate>(
     requires patient { p.0 < patient_count inst.now.draft }
     requires some { 0 < length shares.old }
     requires few { length shares.old ≤ 64 }
-    ensures made { scorer.new ≡ record scorer.old { plan = with_stay inst.now.draft scorer.old.hard scorer.old.plan p.0 } }
+    ensures made { scorer.new
+        ≡ record scorer.old { plan = with_stay inst.now.draft scorer.old.hard scorer.old.plan p.0 } }
     ensures len { length shares.new ≡ length shares.old }
 {
     if choice < DEALT {
@@ -70,8 +72,8 @@ fn place<R: Threads + Wait + Sync, G: Gate>(
     }
 }
 
-// Admits, in their order, the mandatory or the optional patients who aren't admitted in a timetable. It gives the number of
-// the next choice.
+// Admits, in their order, the mandatory or the optional patients who aren't admitted in a timetable. It gives the
+// number of the next choice.
 fn place_all<R: Threads + Wait + Sync, G: Gate>(
     rt: &R,
     inst: &Instance,
@@ -88,7 +90,11 @@ fn place_all<R: Threads + Wait + Sync, G: Gate>(
     requires from { from ≤ 2048 }
     requires some { 0 < length shares.old }
     requires few { length shares.old ≤ 64 }
-    ensures made { scorer.new ≡ record scorer.old { plan = with_stays inst.now.draft scorer.old.hard scorer.old.plan (waiting inst.now.draft plan.now mandatory) } }
+    ensures made { scorer.new
+        ≡ record scorer.old {
+          plan = with_stays inst.now.draft scorer.old.hard scorer.old.plan
+              (waiting inst.now.draft plan.now mandatory);
+        } }
     ensures len { length shares.new ≡ length shares.old }
     ensures next { result ≤ from + 2048 }
 {
@@ -119,7 +125,8 @@ fn deal_nurse<R: Threads + Wait + Sync, G: Gate>(
     requires shift { k.0 < shift_count inst.now.draft }
     requires some { 0 < length shares.old }
     requires few { length shares.old ≤ 64 }
-    ensures made { scorer.new ≡ record scorer.old { plan = with_care inst.now.draft scorer.old.hard scorer.old.plan k.0 r.0 } }
+    ensures made { scorer.new
+        ≡ record scorer.old { plan = with_care inst.now.draft scorer.old.hard scorer.old.plan k.0 r.0 } }
     ensures len { length shares.new ≡ length shares.old }
 {
     if is_uncovered(scorer, r, k) {
@@ -146,7 +153,8 @@ fn cover<R: Threads + Wait + Sync, G: Gate>(
     requires shift { k.0 < shift_count inst.now.draft }
     requires some { 0 < length shares.old }
     requires few { length shares.old ≤ 64 }
-    ensures made { scorer.new ≡ record scorer.old { plan = with_care inst.now.draft scorer.old.hard scorer.old.plan k.0 r.0 } }
+    ensures made { scorer.new
+        ≡ record scorer.old { plan = with_care inst.now.draft scorer.old.hard scorer.old.plan k.0 r.0 } }
     ensures len { length shares.new ≡ length shares.old }
 {
     if choice < DEALT {
@@ -171,7 +179,11 @@ fn cover_shift<R: Threads + Wait + Sync, G: Gate>(
     requires from { from < 2 ^ 31 }
     requires some { 0 < length shares.old }
     requires few { length shares.old ≤ 64 }
-    ensures made { scorer.new ≡ record scorer.old { plan = with_cares inst.now.draft scorer.old.hard scorer.old.plan (rooms_in k.0 (room_count inst.now.draft)) } }
+    ensures made { scorer.new
+        ≡ record scorer.old {
+          plan = with_cares inst.now.draft scorer.old.hard scorer.old.plan
+              (rooms_in k.0 (room_count inst.now.draft));
+        } }
     ensures len { length shares.new ≡ length shares.old }
 {
     for r in 0..inst.rooms() {
@@ -192,7 +204,10 @@ fn cover_all<R: Threads + Wait + Sync, G: Gate>(
     requires from { from ≤ 4096 }
     requires some { 0 < length shares.old }
     requires few { length shares.old ≤ 64 }
-    ensures { scorer.new ≡ record scorer.old { plan = with_cares inst.now.draft scorer.old.hard scorer.old.plan (rooms_by_shift inst.now.draft) } }
+    ensures { scorer.new ≡ record scorer.old {
+      plan = with_cares inst.now.draft scorer.old.hard scorer.old.plan
+          (rooms_by_shift inst.now.draft);
+    } }
 {
     for k in 0..inst.shifts() {
         cover_shift(
@@ -231,9 +246,10 @@ fn fill_by_shares<R: Threads + Wait + Sync, G: Gate>(
     scorer.plan().try_clone(alloc)
 }
 
-/// The timetable after the greedy fill of `ih_fill`, whatever the number of workers, from 1 to 64: of each of the first choices
-/// each worker prices its share of the candidates, and passes the gate before and after with the choice's number; the rest
-/// the caller chooses alone. One worker fills alone and passes no gate, and where a room needs no nurse there is no choice.
+/// The timetable after the greedy fill of `ih_fill`, whatever the number of workers, from 1 to 64: of each of the first
+/// choices each worker prices its share of the candidates, and passes the gate before and after with the choice's
+/// number; the rest the caller chooses alone. One worker fills alone and passes no gate, and where a room needs no
+/// nurse there is no choice.
 pub fn par_fill<R: Threads + Wait + Sync, G: Gate>(
     rt: &R,
     alloc: Global,

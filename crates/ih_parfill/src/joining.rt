@@ -18,7 +18,8 @@ use ih_tables::{Instance, Patient, PatientNo, RoomNo, Shift};
 use std::sync::Wait;
 use std::thread::{Threads, for_each_mut};
 
-// The most threads in one join: a thread costs about as much to start as a whole choice to price, so 64 workers share few.
+// The most threads in one join: a thread costs about as much to start as a whole choice to price, so 64 workers share
+// few.
 const MOST_THREADS: usize = 4;
 
 // One worker's look at its share of the stays, between its two passes of the gate.
@@ -59,7 +60,8 @@ pub(crate) fn share_stays<R: Threads + Wait + Sync, G: Gate>(
     requires instance { scorer.now.instance ≡ inst.now.draft }
     requires patient { p.0 < patient_count inst.now.draft }
     requires few { length shares.old ≤ 64 }
-    ensures { AreShares inst.now.draft (stay_value scorer.now) (SetStay p None ∷ stay_writes inst.now.draft p.0) (length shares.old) shares.new }
+    ensures { AreShares inst.now.draft (stay_value scorer.now) (SetStay p None ∷ stay_writes inst.now.draft p.0)
+        (length shares.old) shares.new }
 {
     let workers = shares.len() as u32;
     let patient = inst.patient(p);
@@ -119,7 +121,8 @@ pub(crate) fn share_nurses<R: Threads + Wait + Sync, G: Gate>(
     requires room { r.0 < room_count inst.now.draft }
     requires shift { k.0 < shift_count inst.now.draft }
     requires few { length shares.old ≤ 64 }
-    ensures { AreShares inst.now.draft (care_value scorer.now) (care_writes inst.now.draft r.0 k.0) (length shares.old) shares.new }
+    ensures { AreShares inst.now.draft (care_value scorer.now) (care_writes inst.now.draft r.0 k.0)
+        (length shares.old) shares.new }
 {
     let workers = shares.len() as u32;
     for_each_mut(
@@ -136,7 +139,8 @@ pub(crate) fn share_nurses<R: Threads + Wait + Sync, G: Gate>(
 /// The first least of what was found in all shares.
 pub(crate) fn lowest(shares: &[Option<Found>]) -> Option<Found>
     requires { 0 < length shares.now }
-    ensures { (I : Draft) (v : Write → ℤ) (ws : List Write) → AreShares I v ws (length shares.now) shares.now → IsOfShare I v ws (λ k. Unit {0}) result }
+    ensures { (I : Draft) (v : Write → ℤ) (ws : List Write) → AreShares I v ws (length shares.now) shares.now
+        → IsOfShare I v ws (λ k. Unit {0}) result }
 {
     let mut best = None;
     for w in 0..shares.len() {

@@ -23,7 +23,8 @@ pub(crate) fn least_nurse_of_share(
     requires room { r.0 < room_count inst.now.draft }
     requires shift { k.0 < shift_count inst.now.draft }
     requires some { 0 < workers }
-    ensures { IsOfShare inst.now.draft (care_value scorer.now) (care_writes inst.now.draft r.0 k.0) (IsShare workers worker) result }
+    ensures { IsOfShare inst.now.draft (care_value scorer.now) (care_writes inst.now.draft r.0 k.0)
+        (IsShare workers worker) result }
 {
     let mut share = Share::new(workers, worker);
     for n in 0..inst.nurses() {

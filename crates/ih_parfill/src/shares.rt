@@ -1,5 +1,5 @@
-//! What a worker finds in its share of a choice's candidates: those whose place, modulo the number of workers, is its own
-//! number.
+//! What a worker finds in its share of a choice's candidates: those whose place, modulo the number of workers, is its
+//! own number.
 
 ghost use Rattle.std.specs.Prelude.{◌≡◌, ◌≢◌, ◌↔◌, ◌<◌, ◌+◌, ◌%◌, ◌^◌, ℤ, IsTrue, List, [], ◌∷◌, ◌++◌, None};
 ghost use Rattle.ih_tables.specs.declared.drafts.Draft.{Draft};
@@ -75,7 +75,8 @@ impl Share {
     pub(crate) fn pass(&mut self)
         requires other { self.old.passed % self.old.workers ≢ self.old.worker }
         requires few { self.old.passed + 1 < 2 ^ 32 }
-        ensures looked { (I : Draft) (v : Write → ℤ) (ws : List Write) (x : Write) → HasLooked I v ws self.old → HasLooked I v (ws ++ x ∷ []) self.new }
+        ensures looked { (I : Draft) (v : Write → ℤ) (ws : List Write) (x : Write) → HasLooked I v ws self.old
+            → HasLooked I v (ws ++ x ∷ []) self.new }
         ensures same { self.new ≡ record self.old { passed = self.old.passed + 1 } }
     {
         self.passed += 1;
@@ -84,7 +85,8 @@ impl Share {
     /// Looks at the next candidate, which is its own.
     pub(crate) fn look(&mut self, candidate: Candidate)
         requires few { self.old.passed + 1 < 2 ^ 32 }
-        ensures looked { (I : Draft) (v : Write → ℤ) (ws : List Write) (x : Write) → HasLooked I v ws self.old → candidate ≡ valued v x → IsWriteOf I x
+        ensures looked { (I : Draft) (v : Write → ℤ) (ws : List Write) (x : Write) → HasLooked I v ws self.old
+            → candidate ≡ valued v x → IsWriteOf I x
             → HasLooked I v (ws ++ x ∷ []) self.new }
         ensures passed { self.new.passed ≡ self.old.passed + 1 }
         ensures workers { self.new.workers ≡ self.old.workers }

@@ -49,7 +49,8 @@ fn look_in_room(
     requires some { 0 < share.old.workers }
     requires few { share.old.passed + 64 < 2 ^ 32 }
     ensures looked { (ws : List Write) → HasLooked inst.now.draft (stay_value scorer.now) ws share.old
-        → HasLooked inst.now.draft (stay_value scorer.now) (ws ++ stays_in p day.0 room.0 (theatre_count inst.now.draft)) share.new }
+        → HasLooked inst.now.draft (stay_value scorer.now)
+        (ws ++ stays_in p day.0 room.0 (theatre_count inst.now.draft)) share.new }
     ensures passed { share.new.passed ≤ share.old.passed + 64 }
     ensures workers { share.new.workers ≡ share.old.workers }
     ensures worker { share.new.worker ≡ share.old.worker }
@@ -80,7 +81,8 @@ fn look_on_day(
     requires some { 0 < share.old.workers }
     requires few { share.old.passed + 8192 < 2 ^ 32 }
     ensures looked { (ws : List Write) → HasLooked inst.now.draft (stay_value scorer.now) ws share.old
-        → HasLooked inst.now.draft (stay_value scorer.now) (ws ++ stays_on inst.now.draft p patient.now day.0 (room_count inst.now.draft)) share.new }
+        → HasLooked inst.now.draft (stay_value scorer.now)
+        (ws ++ stays_on inst.now.draft p patient.now day.0 (room_count inst.now.draft)) share.new }
     ensures passed { share.new.passed ≤ share.old.passed + 8192 }
     ensures workers { share.new.workers ≡ share.old.workers }
     ensures worker { share.new.worker ≡ share.old.worker }
@@ -105,7 +107,8 @@ pub(crate) fn least_of_share(
     requires instance { scorer.now.instance ≡ inst.now.draft }
     requires patient { slice_get inst.now.draft.patients p.0 ≡ Some patient.now }
     requires some { 0 < workers }
-    ensures { IsOfShare inst.now.draft (stay_value scorer.now) (SetStay p None ∷ stay_writes inst.now.draft p.0) (IsShare workers worker) result }
+    ensures { IsOfShare inst.now.draft (stay_value scorer.now) (SetStay p None ∷ stay_writes inst.now.draft p.0)
+        (IsShare workers worker) result }
 {
     let mut share = Share::new(workers, worker);
     look_at_none(scorer, p, &mut share);

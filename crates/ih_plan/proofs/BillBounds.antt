@@ -67,7 +67,9 @@ module _ (I : Draft) (valid : IsValid I) where
       occupant None e = omega arith
       occupant (Some a) e = let age = (from-all (IsOccupant I) I.occupants (x - patient_count I) a valid.each_occupant e).age in omega (arith, age, few)
 
-      by_test : (b : Bool) → (if b then option_map_or patient_person (slice_get I.patients x) nobody else option_map_or occupant_person (slice_get I.occupants (x - patient_count I)) nobody).age_group ≤ 64
+      by_test : (b : Bool) →
+          (if b then option_map_or patient_person (slice_get I.patients x) nobody else option_map_or occupant_person
+          (slice_get I.occupants (x - patient_count I)) nobody).age_group ≤ 64
       by_test true = patient (slice_get I.patients x) refl
       by_test false = occupant (slice_get I.occupants (x - patient_count I)) refl
 
@@ -83,7 +85,9 @@ module _ (I : Draft) (valid : IsValid I) where
       occupant None e = omega arith
       occupant (Some a) e = entry-most a.skill_level_required 1000 j (from-all (IsOccupant I) I.occupants (x - patient_count I) a valid.each_occupant e).skill.small
 
-      by_test : (b : Bool) → slice_index (if b then option_map_or patient_person (slice_get I.patients x) nobody else option_map_or occupant_person (slice_get I.occupants (x - patient_count I)) nobody).skill j ≤ 1000
+      by_test : (b : Bool) → slice_index
+          (if b then option_map_or patient_person (slice_get I.patients x) nobody else option_map_or occupant_person
+          (slice_get I.occupants (x - patient_count I)) nobody).skill j ≤ 1000
       by_test true = patient (slice_get I.patients x) refl
       by_test false = occupant (slice_get I.occupants (x - patient_count I)) refl
 

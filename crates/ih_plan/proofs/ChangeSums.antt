@@ -10,7 +10,7 @@ use Rattle.ih_tables.specs.declared.bills.Bill.{Bill}
 use Rattle.ih_tables.specs.Bills.{at, by_place, add_bills, sub_bills, zero_bill}
 use Rattle.ih_plan.specs.Timetable.{Timetable}
 use Rattle.ih_plan.specs.BillOf.{bill_of, change_of_bill}
-use Rattle.ih_plan.proofs.Lists.{has}
+use Rattle.ih_plan.proofs.ListedBelow.{has}
 use Rattle.ih_plan.proofs.PlanRanges.{has-range}
 
 -- ---- one number

@@ -6,8 +6,8 @@ use Rattle.ih_plan.specs.BillOf.{bill_of}
 use Rattle.ih_plan.specs.Fill.{fill, with_stay, with_care, write_score, without_uncovered}
 use Rattle.ih_plan.specs.declared.moves.Placement.{Placement}
 use Rattle.ih_plan.specs.declared.moves.Write.TheVariants.{SetStay}
-use Rattle.ih_plan.proofs.Base.{two_patients, at, bill9, weights}
-use Rattle.ih_plan.proofs.Rows.{plan_on_literals}
+use Rattle.ih_plan.proofs.ExampleWards.{two_patients, at, bill9, weights}
+use Rattle.ih_plan.proofs.BillExamples.{plan_on_literals}
 
 abbrev pub filled : Timetable
 filled = record {

@@ -92,7 +92,9 @@ workload-most I x j valid = by_test (nat_lt x (patient_count I))
     occupant None e = omega arith
     occupant (Some a) e = entry-most a.workload_produced 100000 j (from-all (IsOccupant I) I.occupants (x - patient_count I) a valid.each_occupant e).workload.small
 
-    by_test : (b : Bool) → slice_index (if b then option_map_or patient_person (slice_get I.patients x) nobody else option_map_or occupant_person (slice_get I.occupants (x - patient_count I)) nobody).workload j ≤ 100000
+    by_test : (b : Bool) → slice_index
+        (if b then option_map_or patient_person (slice_get I.patients x) nobody else option_map_or occupant_person
+        (slice_get I.occupants (x - patient_count I)) nobody).workload j ≤ 100000
     by_test true = patient (slice_get I.patients x) refl
     by_test false = occupant (slice_get I.occupants (x - patient_count I)) refl
 
@@ -179,7 +181,8 @@ overloads-most I P valid =
     let each = sum_below-le (shift_count I) (person_count I * 100000) (λ k. sum_below (nurse_count I) (λ n. sum_below (room_count I) (nurse_load I P n k)))
     (λ k h.
     let rooms = sum_below-swap (nurse_count I) (room_count I) (λ n r. nurse_load I P n k r) in
-    let one = sum_below-le_each (room_count I) (λ r. sum_below (nurse_count I) (λ n. nurse_load I P n k r)) (λ r. room_load I P k r) (λ r rh. one_number (nurse_count I) (care_of P r k) (room_load I P k r)) in
+    let one = sum_below-le_each (room_count I) (λ r. sum_below (nurse_count I) (λ n. nurse_load I P n k r)) (λ r. room_load I P k r)
+    (λ r rh. one_number (nurse_count I) (care_of P r k) (room_load I P k r)) in
     omega (arith, rooms, one, shift_load I P k valid)) in
     omega (arith, above, turned, each)
   where

@@ -12,8 +12,8 @@ use Rattle.ih_plan.specs.BillOf.{bill_of, gender_mixes, bad_rooms, surgeon_overt
 use Rattle.ih_plan.specs.Cells.{cell_at, cell_count, content_of, part_of, part_at, HasParts}
 use Rattle.ih_plan.proofs.SumLemmas.{sum_below-same}
 use Rattle.ih_plan.proofs.SumBounds.{sum_below-none}
-use Rattle.ih_plan.proofs.Numbers.{sum_by_kind, stay_cell, room_day_cell, theatre_day_cell, surgeon_day_cell, room_shift_cell, nurse_shift_cell, care_cell}
-use Rattle.ih_plan.proofs.Lists.{tagged-keys, tagged-values, tagged-both}
+use Rattle.ih_plan.proofs.CellNumbers.{sum_by_kind, stay_cell, room_day_cell, theatre_day_cell, surgeon_day_cell, room_shift_cell, nurse_shift_cell, care_cell}
+use Rattle.ih_plan.proofs.ListedBelow.{tagged-keys, tagged-values, tagged-both}
 
 is_empty-tagged : {A : Type 0} (f : ℕ → A) (xs : List ℕ) → is_empty (tagged f xs) ≡ is_empty xs
 is_empty-tagged f [] = refl
@@ -196,7 +196,8 @@ module _ (I : Draft) (P : Timetable) where
 
   sum-missing_skill : total I (λ c. slice_index (part_at I P c).s 1) ≡ missing_skill I P
   unfolding part_of content_of missing_skill
-  sum-missing_skill = by_room_shifts I (λ c. slice_index (part_at I P c).s 1) (λ i. refl) (λ i j. refl) (λ i j. refl) (λ i j. refl) (λ i j. refl) (λ i. refl) ∙ simp (tagged-both (λ x e. slice_index (person_of I x).skill e))
+  sum-missing_skill = by_room_shifts I (λ c. slice_index (part_at I P c).s 1) (λ i. refl) (λ i j. refl) (λ i j. refl) (λ i j. refl) (λ i j. refl) (λ i. refl)
+      ∙ simp (tagged-both (λ x e. slice_index (person_of I x).skill e))
 
   sum-nurses_seen : total I (λ c. slice_index (part_at I P c).s 2) ≡ nurses_seen I P
   unfolding part_of content_of nurses_seen

@@ -19,7 +19,7 @@ use Rattle.ih_plan.specs.declared.moves.Move.TheVariants.{Idle, Place, Withdraw,
 use Rattle.ih_plan.specs.Timetable.{Timetable, empty, IsPlanOf, IsPlacement, stay_of, choice_of, care_place}
 use Rattle.ih_plan.specs.Writes.{put, put_all, IsWriteOf, AreWritesOf, IsInside}
 use Rattle.ih_plan.specs.Expand.{expand, after, IsMoveOf, swap_stays, restay, run_of}
-use Rattle.ih_plan.proofs.Lists.{has}
+use Rattle.ih_plan.proofs.ListedBelow.{has}
 use Rattle.ih_plan.proofs.Entries.{care_of-same, stay_of-other, stay_of-same, slice_get-set_other}
 
 -- what is in a range

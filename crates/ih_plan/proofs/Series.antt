@@ -10,7 +10,7 @@ use Rattle.ih_plan.specs.Expand.{after, expand}
 use Rattle.ih_plan.specs.Writes.{put, put_all, AreWritesOf}
 use Rattle.ih_plan.specs.Cells.{cell_at, cell_count}
 use Rattle.ih_plan.specs.Footprint.{touches, footprint}
-use Rattle.ih_plan.proofs.Lists.{which_below-same}
+use Rattle.ih_plan.proofs.ListedBelow.{which_below-same}
 use Rattle.ih_plan.proofs.PlanRanges.{after-plan, expand-writes}
 use Rattle.ih_plan.specs.Series.{AreMoves, after_all, all_touch, expand_all, footprint_of_all}
 use Rattle.ih_plan.specs.Laws.{AreTheirWrites, IsAlone}

@@ -22,7 +22,7 @@ use Rattle.ih_roomdays.specs.declared.rows.Rows.{Rows}
 use Rattle.ih_roomdays.specs.Ledger.{IsLedgerOf}
 use Rattle.ih_roomdays.specs.Parts.{room_day_part, room_counts}
 use Rattle.ih_roomdays.specs.Rows.{persons_at}
-use Rattle.ih_roomdays.proofs.Others.{part-after}
+use Rattle.ih_roomdays.proofs.OtherPersons.{part-after}
 
 pub gain-is : (I : Draft) (P : Timetable) (v : Rows) → IsLedgerOf I P v → (p : PatientNo) → p.0 < patient_count I → (at : Placement) (d : Day) → d.0 < I.days
     → covers at.day.0 (person_of I p.0).length_of_stay d.0 ≡ true → (less more : RoomDayCounts)

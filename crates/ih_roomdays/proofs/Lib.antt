@@ -8,7 +8,7 @@ pub mod GenderLemmas
 pub mod AgeLemmas
 pub mod Standing
 pub mod StayLemmas
-pub mod Others
+pub mod OtherPersons
 pub mod Occupants
 pub mod Places
 pub mod GainLemmas

@@ -8,7 +8,7 @@ use Rattle.std.proofs.lemmas.Nat.{mul-add-lt}
 use Rattle.ih_links.specs.Lists.{Linked, has, IsOnce}
 use Rattle.ih_links.specs.Days.{on_day}
 use Rattle.ih_links.proofs.Members.{lacks, length-once, once-append}
-use Rattle.ih_plan.proofs.Lists.{has as has_number, has-which_below, which_below-has, has-listed}
+use Rattle.ih_plan.proofs.ListedBelow.{has as has_number, has-which_below, which_below-has, has-listed}
 use Rattle.ih_plan.specs.Sums.{which_below, is_listed}
 use Rattle.ih_roomdays.specs.declared.companies.Crowd.{Crowd}
 use Rattle.ih_roomdays.specs.declared.rows.Rows.{Rows}

@@ -53,7 +53,7 @@ fn end_of(found: Option<(u32, i64)>, count: u32) -> u32
     }
 }
 
-/// Searches once, and appends the journal. After want of memory the journal is to be dropped.
+/// Searches once, and appends the journal. Where memory runs out, the journal is to be dropped.
 pub(crate) fn search_round<R: Threads + Wait + Sync, S: Searcher>(
     rt: &R,
     alloc: Global,

@@ -40,7 +40,7 @@ pub trait Searcher {
         requires once { options.now.retries ≡ 0 }
         ensures full { IfOk result (λ v.
             IsFull (base_with inst.entry.now.draft start.entry.now options.entry.now 0) 1 (tries v.items)) }
-        // an answer comes behind those before it, and want of memory leaves them as they were
+        // an answer comes behind those before it, and lack of memory leaves them as they were
         ensures told { IfOk result (λ v. answers self.new ≡ with_answers (answers self.old) (v.items ∷ [])) }
         ensures kept { OnErr result (answers self.new ≡ answers self.old) }
         ensures ready { ready self.new };

@@ -6,8 +6,8 @@ use std::sync::atomic::{AtomicBool, AtomicU64, Ordering};
 use std::thread::yield_now;
 
 /// A gate that holds two workers, so that worker 0's attempt of each number is offered after worker 1's, though it was
-/// priced before. Only numbers below `numbers` are held: `before(1, m)` waits until `before(0, x)` was called for an x of
-/// m or more, and `before(0, m)` until `after(1, x)` was called for an x of m or more. It takes no memory.
+/// priced before. Only numbers below `numbers` are held: `before(1, m)` waits until `before(0, x)` was called for an x
+/// of m or more, and `before(0, m)` until `after(1, x)` was called for an x of m or more. It takes no memory.
 #[derive(Drop)]
 pub struct HoldGate {
     limit: u64,

@@ -14,7 +14,7 @@ use Rattle.ih_plan.specs.Timetable.{Timetable, stay_of}
 use Rattle.ih_plan.specs.Presence.{day_of}
 use Rattle.ih_plan.specs.Sums.{tagged}
 use Rattle.ih_plan.specs.Cells.{cell_at}
-use Rattle.ih_plan.proofs.Lists.{tagged-same}
+use Rattle.ih_plan.proofs.ListedBelow.{tagged-same}
 use Rattle.ih_plan.specs.Series.{AreMoves, expand_all, footprint_of_all, price_of_all}
 use Rattle.ih_journal.specs.Tried.{Tried}
 use Rattle.ih_journal.specs.Base.{Base}

@@ -10,7 +10,7 @@ use Rattle.ih_plan.specs.declared.moves.Move.{Move}
 use Rattle.ih_plan.specs.Timetable.{Timetable}
 use Rattle.ih_plan.specs.Sums.{bit, tagged}
 use Rattle.ih_plan.specs.Cells.{cell_at, cell_count}
-use Rattle.ih_plan.proofs.Lists.{has, tagged-keys}
+use Rattle.ih_plan.proofs.ListedBelow.{has, tagged-keys}
 use Rattle.ih_plan.proofs.SumLemmas.{sum_below-le, length-which_below}
 use Rattle.ih_plan.specs.Series.{all_touch, footprint_of_all}
 use Rattle.ih_cellbook.specs.Counters.{times_read}

@@ -18,7 +18,8 @@ pub record HasRooms (I : Draft) (n : NurseNo) (k : Shift) (rooms : List RoomNo) 
   pub plan : IsPlanOf I Q
   pub rest : with_rooms n k (drop i rooms) Q ≡ with_rooms n k rooms P
 
-pub has_rooms-more : {I : Draft} {n : NurseNo} {k : Shift} {rooms : List RoomNo} {i : ℕ} {P Q : Timetable} (d : RoomNo) → HasRooms I n k rooms i P Q → i < length rooms → (get_or rooms i d).0 < room_count I → k.0 < shift_count I → n.0 < nurse_count I
+pub has_rooms-more : {I : Draft} {n : NurseNo} {k : Shift} {rooms : List RoomNo} {i : ℕ} {P Q : Timetable} (d : RoomNo) → HasRooms I n k rooms i P Q
+    → i < length rooms → (get_or rooms i d).0 < room_count I → k.0 < shift_count I → n.0 < nurse_count I
     → HasRooms I n k rooms (i + 1) P (put (SetCare (get_or rooms i d) k (Some n)) Q)
 has_rooms-more {I} {n} {k} {rooms} {i} {P} {Q} d so_far h rh kh nh = record {
   plan = care-plan I Q (get_or rooms i d) k n so_far.plan rh kh nh;
@@ -34,5 +35,3 @@ has_rooms-all {I} {n} {k} {rooms} {i} {P} {Q} so_far h = sym (ap (λ (rs : List 
 pub record HasAssignments (I : Draft) (n : NurseNo) (given : List Assignment) (i : ℕ) (P Q : Timetable) : Type 0 where
   pub plan : IsPlanOf I Q
   pub rest : with_assignments n (drop i given) Q ≡ with_assignments n given P
-
-}

@@ -10,12 +10,13 @@ use Rattle.serde_json.specs.Data.{Data}
 use Rattle.ih_tables.specs.declared.refusals.Place.{Place}
 use Rattle.ih_tables.specs.Places.{at_item}
 use Rattle.ih_plan.specs.Sums.{listed}
-use Rattle.ih_plan.proofs.Lists.{has}
+use Rattle.ih_plan.proofs.ListedBelow.{has}
 use Rattle.ih_format.specs.Checks.{Check, ◌>>=◌, each, each_after}
 use Rattle.ih_format.specs.Flags.{is_among}
 
 -- items for numbers, read without a look at those before them
-pub each-map : {A : Type 0} (c : Check A) (f : ℕ → Data) (g : ℕ → A) (p : Place) (xs : List ℕ) (done : List A) → ((q : Place) (x : ℕ) → has x xs ≡ true → c q (f x) ≡ Ok (g x)) → each_after done (λ _. c) p (map f xs) ≡ Ok (done ++ map g xs)
+pub each-map : {A : Type 0} (c : Check A) (f : ℕ → Data) (g : ℕ → A) (p : Place) (xs : List ℕ) (done : List A)
+    → ((q : Place) (x : ℕ) → has x xs ≡ true → c q (f x) ≡ Ok (g x)) → each_after done (λ _. c) p (map f xs) ≡ Ok (done ++ map g xs)
 unfolding each_after
 each-map c f g p [] done h = ap Ok (sym (append-nil done))
 each-map {A} c f g p (x ∷ xs) done h =
@@ -23,7 +24,8 @@ each-map {A} c f g p (x ∷ xs) done h =
     ∙ each-map c f g p xs (done ++ g x ∷ []) (λ q y i. h q y (or_right (x == y) (has y xs) i))
     ∙ ap Ok (append_assoc done (g x ∷ []) (map g xs))
 
-each-from : {A : Type 0} (c : List A → Check A) (f : ℕ → Data) (g : ℕ → A) (p : Place) (a n : ℕ) → ((i : ℕ) → i < a + n → c (listed i g) (at_item i p) (f i) ≡ Ok (g i)) → each_after (listed a g) c p (map f (range_with_len a n)) ≡ Ok (listed (a + n) g)
+each-from : {A : Type 0} (c : List A → Check A) (f : ℕ → Data) (g : ℕ → A) (p : Place) (a n : ℕ)
+    → ((i : ℕ) → i < a + n → c (listed i g) (at_item i p) (f i) ≡ Ok (g i)) → each_after (listed a g) c p (map f (range_with_len a n)) ≡ Ok (listed (a + n) g)
 unfolding each_after
 each-from c f g p a zero h = let same : a ≡ a + 0 = omega arith in ap (λ m. Ok (listed m g)) same
 each-from {A} c f g p a (suc n) h =
@@ -35,7 +37,8 @@ each-from {A} c f g p a (suc n) h =
     ∙ (let same : a + 1 + n ≡ a + suc n = omega arith in ap (λ m. Ok (listed m g)) same)
 
 -- one item for each number, each of which may look at those before it
-pub each-listed : {A : Type 0} (c : List A → Check A) (f : ℕ → Data) (g : ℕ → A) (p : Place) (n : ℕ) → ((i : ℕ) → i < n → c (listed i g) (at_item i p) (f i) ≡ Ok (g i)) → each c p (listed n f) ≡ Ok (listed n g)
+pub each-listed : {A : Type 0} (c : List A → Check A) (f : ℕ → Data) (g : ℕ → A) (p : Place) (n : ℕ)
+    → ((i : ℕ) → i < n → c (listed i g) (at_item i p) (f i) ≡ Ok (g i)) → each c p (listed n f) ≡ Ok (listed n g)
 each-listed c f g p n h = each-from c f g p 0 n (λ i l. h i (omega arith)) ∙ (let same : 0 + n ≡ n = omega arith in ap (λ m. Ok (listed m g)) same)
 
 -- ---- looking into a list with one item for each number
@@ -45,7 +48,8 @@ among-listed {A} number g n k h past = list_any_none (λ (x : A). number x == k)
     let below : i < n = omega (arith, l, length-map-range_with_len g 0 n) in
     rw (get_or-map-range_with_len g 0 n i i d below (omega arith), h i) (ne_eqb i k (λ e. omega arith)))
 
-find-from : {A : Type 0} (q : A → Bool) (g : ℕ → A) (a n k : ℕ) → a ≤ k → k < a + n → q (g k) ≡ true → ((i : ℕ) → i < a + n → i ≢ k → q (g i) ≡ false) → find q (map g (range_with_len a n)) ≡ Some (g k)
+find-from : {A : Type 0} (q : A → Bool) (g : ℕ → A) (a n k : ℕ) → a ≤ k → k < a + n → q (g k) ≡ true → ((i : ℕ) → i < a + n → i ≢ k → q (g i) ≡ false)
+    → find q (map g (range_with_len a n)) ≡ Some (g k)
 find-from q g a zero k low high passes others = absurd (omega arith)
 find-from {A} q g a (suc n) k low high passes others = elim (cases_eq a k) [
   | inl same ↦ (let here : q (g a) ≡ true = rw same passes in rw here (ap (λ i. Some (g i)) same))

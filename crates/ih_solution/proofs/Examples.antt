@@ -12,7 +12,7 @@ use Rattle.ih_tables.specs.Lookups.{number_in}
 use Rattle.ih_format.specs.Checks.{refuse, each_after}
 use Rattle.ih_plan.specs.Sums.{which_below}
 use Rattle.ih_plan.specs.Timetable.{Timetable, empty}
-use Rattle.ih_plan.proofs.Base.{one_room, two_patients, first_admitted}
+use Rattle.ih_plan.proofs.ExampleWards.{one_room, two_patients, first_admitted}
 use Rattle.ih_solution.specs.Reading.{plan_in, listed_plan, patient_row, nurse_row, assignment, stays_of, cares_of}
 use Rattle.ih_solution.specs.Solution.{solution, solution_data, rooms_of, shifts_with_rooms}
 

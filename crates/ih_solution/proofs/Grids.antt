@@ -96,10 +96,12 @@ more_rooms true false true x y = refl
 more_rooms true false false x y = refl
 more_rooms false b c x y = refl
 
-rooms-table : (I : Draft) (n : NurseNo) (k : Shift) (rooms : List RoomNo) (stays : List (Option Placement)) (f : Choices) → 1 ≤ I.days → k.0 < shift_count I → All (λ (r : RoomNo). r.0 < room_count I) rooms
+rooms-table : (I : Draft) (n : NurseNo) (k : Shift) (rooms : List RoomNo) (stays : List (Option Placement)) (f : Choices) → 1 ≤ I.days → k.0 < shift_count I
+    → All (λ (r : RoomNo). r.0 < room_count I) rooms
     → with_rooms n k rooms (table I stays f) ≡ table I stays (over n k.0 rooms f)
 unfolding over
-rooms-table I n k [] stays f some kh within = ap (λ (c : List (Option NurseNo)). record (table I stays f) { cares = c }) (grid-same I f (over n k.0 [] f) some (λ s l sh lh. no_rooms (k.0 == l) (Some n) (f s l)))
+rooms-table I n k [] stays f some kh within = ap (λ (c : List (Option NurseNo)). record (table I stays f) { cares = c })
+    (grid-same I f (over n k.0 [] f) some (λ s l sh lh. no_rooms (k.0 == l) (Some n) (f s l)))
 rooms-table I n k (r ∷ rest) stays f some kh within =
     let rh : r.0 < room_count I = within 0 r (omega arith) in
     let one : Choices = over n k.0 (r ∷ []) f in
@@ -107,7 +109,9 @@ rooms-table I n k (r ∷ rest) stays f some kh within =
     let put_one = rw here at (grid-set I f one r.0 k.0 rh kh (λ s l other. apart s l other)) in
     ap (λ (c : List (Option NurseNo)). with_rooms n k rest (record (table I stays f) { cares = c })) put_one
     ∙ rooms-table I n k rest stays one some kh (λ j d h. within (suc j) d (omega arith))
-    ∙ ap (λ (c : List (Option NurseNo)). record (table I stays f) { cares = c }) (grid-same I (over n k.0 rest one) (over n k.0 (r ∷ rest) f) some (λ s l sh lh. more_rooms (k.0 == l) (r.0 == s) (list_any (λ (x : RoomNo). x.0 == s) rest) (Some n) (f s l)))
+    ∙ ap (λ (c : List (Option NurseNo)). record (table I stays f) { cares = c })
+    (grid-same I (over n k.0 rest one) (over n k.0 (r ∷ rest) f) some
+    (λ s l sh lh. more_rooms (k.0 == l) (r.0 == s) (list_any (λ (x : RoomNo). x.0 == s) rest) (Some n) (f s l)))
   where
     apart : (s l : ℕ) → (s ≡ r.0 → l ≡ k.0 → ⊥) → f s l ≡ over n k.0 (r ∷ []) f s l
     apart s l other = elim (cases_eq k.0 l) [
@@ -129,7 +133,9 @@ assignments-table I n (a ∷ rest) stays f P some fits =
     let one : Choices = over n a.shift.0 a.rooms f in
     ap (with_assignments n rest) (rooms-table I n a.shift a.rooms stays f some fit.shift (λ j d h. (fit.rooms j d h).inside))
     ∙ assignments-table I n rest stays one P some (λ j d h. fits (suc j) d (omega arith))
-    ∙ ap (λ (c : List (Option NurseNo)). record (table I stays f) { cares = c }) (grid-same I (over_all n rest one) (over_all n (a ∷ rest) f) some (λ s l sh lh. more_assignments ((a.shift.0 == l) && list_any (λ (x : RoomNo). x.0 == s) a.rooms) (have rest s l) (Some n) (f s l)))
+    ∙ ap (λ (c : List (Option NurseNo)). record (table I stays f) { cares = c })
+    (grid-same I (over_all n rest one) (over_all n (a ∷ rest) f) some
+    (λ s l sh lh. more_assignments ((a.shift.0 == l) && list_any (λ (x : RoomNo). x.0 == s) a.rooms) (have rest s l) (Some n) (f s l)))
 
 -- ---- one more nurse
 
@@ -153,7 +159,9 @@ pub cares-more : (I : Draft) (rows : List ListedNurse) (row : ListedNurse) (stay
 unfolding over_all
 cares-more I rows row stays some fits =
     assignments-table I row.nurse row.assignments stays (nurse_in rows) _ some fits.assignments
-    ∙ ap (λ (c : List (Option NurseNo)). record (table I stays (nurse_in rows)) { cares = c }) (grid-same I (over_all row.nurse row.assignments (nurse_in rows)) (nurse_in (rows ++ row ∷ [])) some (λ r k rh kh. by_case r k (have row.assignments r k) refl rh kh))
+    ∙ ap (λ (c : List (Option NurseNo)). record (table I stays (nurse_in rows)) { cares = c })
+    (grid-same I (over_all row.nurse row.assignments (nurse_in rows)) (nurse_in (rows ++ row ∷ [])) some
+    (λ r k rh kh. by_case r k (have row.assignments r k) refl rh kh))
   where
     by_case : (r k : ℕ) (b : Bool) → have row.assignments r k ≡ b → r < room_count I → k < shift_count I → (if b then Some row.nurse else nurse_in rows r k) ≡ nurse_in (rows ++ row ∷ []) r k
     by_case r k true h rh kh =

@@ -49,7 +49,8 @@ are_nursed-none I p vs P plan e = record {
   same = rw (← e, ← plan.shifts) refl;
 }
 
-pub are_nursed-more : {I : Draft} {p : Place} {vs : List Value} {i : ℕ} {flags : List Bool} {P Q : Timetable} (v : Value) (row : ListedNurse) (R : Timetable) → 1 ≤ I.days → AreNursed I p vs i flags P Q → i < length vs → v ≡ get_or vs i v
+pub are_nursed-more : {I : Draft} {p : Place} {vs : List Value} {i : ℕ} {flags : List Bool} {P Q : Timetable} (v : Value) (row : ListedNurse) (R : Timetable)
+    → 1 ≤ I.days → AreNursed I p vs i flags P Q → i < length vs → v ≡ get_or vs i v
     → nurse_row I (is_set flags) (has_nurse Q) (at_item i p) (view v) ≡ Ok row → IsListedNurse I Q row → IsPlanOf I R → R ≡ with_assignments row.nurse row.assignments Q
     → AreNursed I p vs (i + 1) (slice_set flags row.nurse.0 true) P R
 unfolding cares_of
@@ -62,7 +63,8 @@ are_nursed-more {I} {p} {vs} {i} {flags} {P} {Q} v row R some so_far h e ok fits
 }
 
 -- where an item is refused, or memory runs out, so is the list
-pub are_nursed-exit : {I : Draft} {p : Place} {vs : List Value} {i : ℕ} {flags : List Bool} {P Q : Timetable} (g : List ListedNurse → Timetable) (v : Value) (e : FormatError) → AreNursed I p vs i flags P Q → i < length vs → v ≡ get_or vs i v
+pub are_nursed-exit : {I : Draft} {p : Place} {vs : List Value} {i : ℕ} {flags : List Bool} {P Q : Timetable} (g : List ListedNurse → Timetable) (v : Value)
+    (e : FormatError) → AreNursed I p vs i flags P Q → i < length vs → v ≡ get_or vs i v
     → Gives (λ (row : ListedNurse). row) (Err e) (nurse_row I (is_set flags) (has_nurse Q) (at_item i p) (view v)) → Gives (λ (R : Timetable). R) (Err e) (seen g (nurse_rows I p (map view vs)))
 are_nursed-exit {I} {p} {vs} {i} {flags} {P} {Q} g v (Refused r) so_far h e fault =
     ap (seen g) (are_read-fault v r so_far.read h e (ap (λ (c : Check ListedNurse). c (at_item i p) (view v)) (sym (as_read so_far)) ∙ fault))

@@ -45,7 +45,8 @@ are_admitted-none I p vs P e = record {
   same = e ∙ no-rows I;
 }
 
-pub are_admitted-more : {I : Draft} {p : Place} {vs : List Value} {i : ℕ} {flags : List Bool} {P : Timetable} (v : Value) (row : ListedStay) → AreAdmitted I p vs i flags P → i < length vs → v ≡ get_or vs i v
+pub are_admitted-more : {I : Draft} {p : Place} {vs : List Value} {i : ℕ} {flags : List Bool} {P : Timetable} (v : Value) (row : ListedStay)
+    → AreAdmitted I p vs i flags P → i < length vs → v ≡ get_or vs i v
     → patient_row I (is_set flags) (at_item i p) (view v) ≡ Ok row → row.patient.0 < patient_count I → is_set flags row.patient.0 ≡ false → IfSome row.stay (IsPlacement I)
     → AreAdmitted I p vs (i + 1) (slice_set flags row.patient.0 true) (put (SetStay row.patient row.stay) P)
 are_admitted-more {I} {p} {vs} {i} {flags} {P} v row so_far h e ok inside new placed = record {
@@ -60,7 +61,8 @@ are_admitted-more {I} {p} {vs} {i} {flags} {P} v row so_far h e ok inside new pl
     some_fits (Some x) h at e = subst (IsPlacement I) (let same : x ≡ at = (let f : Some x ≡ Some at = e in cc) in same) h
     some_fits None h at e = absurd (let no : None ≡ Some at = e in cc)
 
-pub are_admitted-fault : {I : Draft} {p : Place} {vs : List Value} {i : ℕ} {flags : List Bool} {P : Timetable} (v : Value) (r : Refusal) → AreAdmitted I p vs i flags P → i < length vs → v ≡ get_or vs i v
+pub are_admitted-fault : {I : Draft} {p : Place} {vs : List Value} {i : ℕ} {flags : List Bool} {P : Timetable} (v : Value) (r : Refusal)
+    → AreAdmitted I p vs i flags P → i < length vs → v ≡ get_or vs i v
     → patient_row I (is_set flags) (at_item i p) (view v) ≡ Err r → patient_rows I p (map view vs) ≡ Err r
 are_admitted-fault {I} {p} {vs} {i} {flags} {P} v r so_far h e fault =
     are_read-fault v r so_far.read h e (ap (λ (f : ℕ → Bool). patient_row I f (at_item i p) (view v)) (sym so_far.flagged.same) ∙ fault)

@@ -25,11 +25,15 @@ use Rattle.ih_solution.proofs.RowsRead.{stay-reads, row-reads, stay_row, nurse_a
 use Rattle.ih_solution.proofs.WrittenPlan.{rooms-free, same-timetable}
 
 patients-read : (I : Draft) (P : Timetable) (q : Place) → IsValid I → IsPlanOf I P → patients I q (list_data (patients_data I P)) ≡ Ok (listed (patient_count I) (stay_row P))
-patients-read I P q valid plan = rw same_items (each-listed (λ before. patient_row I (is_among (λ (row : ListedStay). row.patient.0) before)) (λ p. stay_data I p (stay_of P p)) (stay_row P) q (patient_count I) (λ p h.
+patients-read I P q valid plan = rw same_items
+    (each-listed (λ before. patient_row I (is_among (λ (row : ListedStay). row.patient.0) before)) (λ p. stay_data I p (stay_of P p)) (stay_row P) q
+    (patient_count I) (λ p h.
     stay-reads I p (stay_of P p) _ (at_item p q) valid h (among-listed (λ (row : ListedStay). row.patient.0) (stay_row P) p p (λ i. refl) (omega arith)) (plan.placed p)))
 
 nurses-read : (I : Draft) (P : Timetable) (q : Place) → IsValid I → nurses I q (list_data (nurses_data I P)) ≡ Ok (listed (nurse_count I) (nurse_as I P))
-nurses-read I P q valid = rw same_items (each-listed (λ before. nurse_row I (is_among (λ (row : ListedNurse). row.nurse.0) before) (has_nurse (timetable_of I [] before))) (nurse_data I P) (nurse_as I P) q (nurse_count I) (λ n h.
+nurses-read I P q valid = rw same_items
+    (each-listed (λ before. nurse_row I (is_among (λ (row : ListedNurse). row.nurse.0) before) (has_nurse (timetable_of I [] before))) (nurse_data I P)
+    (nurse_as I P) q (nurse_count I) (λ n h.
     row-reads I P n _ _ (at_item n q) valid h (among-listed (λ (row : ListedNurse). row.nurse.0) (nurse_as I P) n n (λ i. refl) (omega arith)) (λ k kh. rooms-free I P n k kh)))
 
 data-reads : (I : Draft) (P : Timetable) → IsValid I → IsPlanOf I P → listed_plan I whole (solution_data I P) ≡ Ok P

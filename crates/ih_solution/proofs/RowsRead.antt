@@ -17,7 +17,7 @@ use Rattle.ih_tables.specs.Sizes.{patient_count, room_count, shift_count, nurse_
 use Rattle.ih_tables.specs.Valid.{IsValid}
 use Rattle.ih_plan.specs.declared.moves.Placement.{Placement}
 use Rattle.ih_plan.specs.Timetable.{Timetable, IsPlacement, stay_of}
-use Rattle.ih_plan.proofs.Lists.{has, which_below-has}
+use Rattle.ih_plan.proofs.ListedBelow.{has, which_below-has}
 use Rattle.ih_format.specs.Checks.{number}
 use Rattle.ih_format.proofs.Listing.{same_items}
 use Rattle.ih_solution.specs.Solution.{patient_id, nurse_id, room_id, theatre_id, shift_type_of, stay_data, number_data, list_data, assignment_data, rooms_data, rooms_of, shifts_with_rooms, nurse_data}
@@ -53,15 +53,24 @@ type-reads I k q valid =
     let three = valid.types.len.least in
     rw map-id at (name-reads 3 3 (λ t. t) I.shift_types q (k % 3) valid.types (omega (arith, three)))
 
-pub stay-reads : (I : Draft) (p : ℕ) (stay : Option Placement) (earlier : ℕ → Bool) (q : Place) → IsValid I → p < patient_count I → earlier p ≡ false → ((at : Placement) → stay ≡ Some at → IsPlacement I at)
+pub stay-reads : (I : Draft) (p : ℕ) (stay : Option Placement) (earlier : ℕ → Bool) (q : Place) → IsValid I → p < patient_count I → earlier p ≡ false
+    → ((at : Placement) → stay ≡ Some at → IsPlacement I at)
     → patient_row I earlier q (stay_data I p stay) ≡ Ok (record { patient = record { 0 = p }; stay = stay })
 unfolding serde_json_on_literals patient_row
 stay-reads I p None earlier q valid h new placed = rw (patient-reads I p (at_key keys.Id q) valid h, new) refl
 stay-reads I p (Some at) earlier q valid h new placed =
     let there = placed at refl in
     let some = valid.days.least in
-    let day : number 0 (I.days - 1) (at_key keys.AdmissionDay q) (number_data at.day.0) ≡ Ok at.day.0 = number-reads (I.days - 1) at.day.0 (at_key keys.AdmissionDay q) (omega (arith, there.day, some)) in
-    rw (patient-reads I p (at_key keys.Id q) valid h, new, day, room-reads I at.room.0 (at_key keys.Room q) valid there.room, theatre-reads I at.theatre.0 (at_key keys.OperatingTheater q) valid there.theatre) refl
+    let day : number 0 (I.days - 1) (at_key keys.AdmissionDay q) (number_data at.day.0)
+    ≡ Ok at.day.0 = number-reads (I.days - 1) at.day.0 (at_key keys.AdmissionDay q) (omega (arith, there.day, some)) in
+    rw (
+      patient-reads I p (at_key keys.Id q) valid h,
+      new,
+      day,
+      room-reads I at.room.0 (at_key keys.Room q) valid there.room,
+      theatre-reads I at.theatre.0
+          (at_key keys.OperatingTheater q) valid there.theatre,
+    ) refl
 
 -- ---- nurses
 

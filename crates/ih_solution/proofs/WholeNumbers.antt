@@ -28,6 +28,10 @@ nurse-float I P n = rw (no_floats (λ k. assignment_data I k (rooms_data I P n k
 
 pub solution-float : (I : Draft) (P : Timetable) → has_float (solution_data I P) ≡ false
 unfolding solution_data
-solution-float I P = rw (no_floats (nurse_data I P) (range_with_len 0 (nurse_count I)) (nurse-float I P), no_floats (λ p. stay_data I p (stay_of P p)) (range_with_len 0 (patient_count I)) (λ p. stay-float I p (stay_of P p))) refl
+solution-float I P = rw (
+  no_floats (nurse_data I P) (range_with_len 0 (nurse_count I)) (nurse-float I P),
+  no_floats (λ p. stay_data I p (stay_of P p))
+      (range_with_len 0 (patient_count I)) (λ p. stay-float I p (stay_of P p)),
+) refl
 
 pub ruleset whole_numbers = solution-float

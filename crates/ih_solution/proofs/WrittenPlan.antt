@@ -15,7 +15,7 @@ use Rattle.ih_plan.specs.declared.moves.Placement.{Placement}
 use Rattle.ih_plan.specs.Costs.{is_number, is_empty}
 use Rattle.ih_plan.specs.Sums.{listed}
 use Rattle.ih_plan.specs.Timetable.{Timetable, IsPlanOf, stay_of, choice_of, care_of}
-use Rattle.ih_plan.proofs.Lists.{has, has-which_below, which_below-has}
+use Rattle.ih_plan.proofs.ListedBelow.{has, has-which_below, which_below-has}
 use Rattle.ih_solution.specs.Solution.{rooms_of, shifts_with_rooms}
 use Rattle.ih_solution.specs.Reading.{have, has_nurse, nurse_in, stay_in, stays_of, cares_of, timetable_of}
 use Rattle.ih_solution.specs.declared.reader.rows.ListedStay.{ListedStay}
@@ -41,7 +41,8 @@ any-shifts I P n r k [] = refl
 any-shifts I P n r k (x ∷ xs) = elim (cases_eq x k) [
   | inl same ↦
       let rest = any-shifts I P n r k xs in
-      let here : list_any (λ (y : RoomNo). y.0 == r) (map (λ y. record { 0 = y }) (rooms_of I P n x)) ≡ has r (rooms_of I P n k) = any-rooms r (rooms_of I P n x) ∙ ap (λ y. has r (rooms_of I P n y)) same in
+      let here : list_any (λ (y : RoomNo). y.0 == r) (map (λ y. record { 0 = y }) (rooms_of I P n x))
+      ≡ has r (rooms_of I P n k) = any-rooms r (rooms_of I P n x) ∙ ap (λ y. has r (rooms_of I P n y)) same in
       rw (eq-eqb x k same, here, rest) (either (has r (rooms_of I P n k)) (has k xs))
   | inr differ ↦ rw (ne_eqb x k differ) (any-shifts I P n r k xs)
 ]
@@ -62,13 +63,16 @@ number-is : (o : Option ℕ) (n : ℕ) → is_number o n ≡ true → o ≡ Some
 number-is None n h = absurd (let no : false ≡ true = h in cc)
 number-is (Some m) n h = ap Some (eqb-true m n h)
 
-none-has : (I : Draft) (P : Timetable) (n r k : ℕ) → r < room_count I → k < shift_count I → ((m : ℕ) → m < n → is_number (care_of P r k) m ≡ false) → find (λ (row : ListedNurse). have row.assignments r k) (listed n (nurse_as I P)) ≡ None
-none-has I P n r k rh kh others = find_none (λ (row : ListedNurse). have row.assignments r k) (listed n (nurse_as I P)) (list_any_none (λ (row : ListedNurse). have row.assignments r k) (listed n (nurse_as I P)) (λ i d l.
+none-has : (I : Draft) (P : Timetable) (n r k : ℕ) → r < room_count I → k < shift_count I → ((m : ℕ) → m < n → is_number (care_of P r k) m ≡ false)
+    → find (λ (row : ListedNurse). have row.assignments r k) (listed n (nurse_as I P)) ≡ None
+none-has I P n r k rh kh others = find_none (λ (row : ListedNurse). have row.assignments r k) (listed n (nurse_as I P))
+    (list_any_none (λ (row : ListedNurse). have row.assignments r k) (listed n (nurse_as I P)) (λ i d l.
     let below : i < n = omega (arith, l, length-map-range_with_len (nurse_as I P) 0 n) in
     rw (get_or-map-range_with_len (nurse_as I P) 0 n i i d below (omega arith), row-has I P i r k rh kh) (others i below)))
 
 -- nurse n's rooms have none of the nurses before
-pub rooms-free : (I : Draft) (P : Timetable) (n k : ℕ) → k < shift_count I → (r : ℕ) → has r (rooms_of I P n k) ≡ true → (r < room_count I) × (has_nurse (timetable_of I [] (listed n (nurse_as I P))) r k ≡ false)
+pub rooms-free : (I : Draft) (P : Timetable) (n k : ℕ) → k < shift_count I → (r : ℕ) → has r (rooms_of I P n k) ≡ true
+    → (r < room_count I) × (has_nurse (timetable_of I [] (listed n (nurse_as I P))) r k ≡ false)
 unfolding rooms_of cares_of
 rooms-free I P n k kh r h =
     let there = which_below-has (room_count I) r (λ s. is_number (care_of P s k) n) h in

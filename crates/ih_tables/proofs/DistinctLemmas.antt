@@ -5,7 +5,8 @@ use Rattle.std.proofs.lemmas.List.{get_or-take, get_or_default, take_more, take_
 use Rattle.std.proofs.lemmas.List.Quantifiers.{all_pairs_push}
 
 -- one more item, whose key none of the earlier ones has
-pub distinct_more : {X K : Type 0} (key : X → K) (xs : List X) (i : ℕ) (d : X) (s : K) → i < length xs → s ≡ key (get_or xs i d) → (Any (λ y. key y ≡ s) (take i xs) → IsTrue false) → AllPairs (λ y z. key y ≢ key z) (take i xs) → AllPairs (λ y z. key y ≢ key z) (take (i + 1) xs)
+pub distinct_more : {X K : Type 0} (key : X → K) (xs : List X) (i : ℕ) (d : X) (s : K) → i < length xs → s ≡ key (get_or xs i d)
+    → (Any (λ y. key y ≡ s) (take i xs) → IsTrue false) → AllPairs (λ y z. key y ≢ key z) (take i xs) → AllPairs (λ y z. key y ≢ key z) (take (i + 1) xs)
 distinct_more {X} {K} key xs i d s h is none so_far =
     let Distinct : List X → Type 0 = AllPairs (λ y z. key y ≢ key z) in
     subst Distinct (sym (take_more xs i d h)) (all_pairs_push (λ y z. key y ≢ key z) (take i xs) (get_or xs i d) so_far (λ k e l same.
@@ -13,7 +14,8 @@ distinct_more {X} {K} key xs i d s h is none so_far =
     let no : false ≡ true = none (k, y, l, get_or_default (take i xs) k y e l, same ∙ sym is) in cc))
 
 -- an item whose key an earlier one has
-pub distinct_not : {X K : Type 0} (key : X → K) (xs : List X) (i : ℕ) (d : X) (s : K) → i < length xs → s ≡ key (get_or xs i d) → Any (λ y. key y ≡ s) (take i xs) → AllPairs (λ y z. key y ≢ key z) xs → IsTrue false
+pub distinct_not : {X K : Type 0} (key : X → K) (xs : List X) (i : ℕ) (d : X) (s : K) → i < length xs → s ≡ key (get_or xs i d)
+    → Any (λ y. key y ≡ s) (take i xs) → AllPairs (λ y z. key y ≢ key z) xs → IsTrue false
 distinct_not {X} {K} key xs i d s h is found all =
     let k = found.0 in
     let y = found.1 in

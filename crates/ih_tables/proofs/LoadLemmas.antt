@@ -9,7 +9,9 @@ use Rattle.ih_tables.specs.Sizes.{nurse_count, shift_count}
 use Rattle.ih_tables.specs.Works.{max_load, load_table}
 
 -- one more entry
-pub load_more : (I : Draft) (i : ℕ) (loads : List (Option ℕ)) → loads ≡ map (λ j. max_load I (j / shift_count I) (j % shift_count I)) (range_with_len 0 i) → loads ++ max_load I (i / shift_count I) (i % shift_count I) ∷ [] ≡ map (λ j. max_load I (j / shift_count I) (j % shift_count I)) (range_with_len 0 (i + 1))
+pub load_more : (I : Draft) (i : ℕ) (loads : List (Option ℕ)) → loads ≡ map (λ j. max_load I (j / shift_count I) (j % shift_count I)) (range_with_len 0 i)
+    → loads ++ max_load I (i / shift_count I) (i % shift_count I) ∷ []
+    ≡ map (λ j. max_load I (j / shift_count I) (j % shift_count I)) (range_with_len 0 (i + 1))
 load_more I i loads so_far =
     rw so_far (sym (map-range_with_len_more (λ j. max_load I (j / shift_count I) (j % shift_count I)) 0 i i (omega arith)))
 

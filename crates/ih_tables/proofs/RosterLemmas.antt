@@ -10,12 +10,14 @@ use Rattle.ih_tables.specs.Sizes.{shift_count}
 use Rattle.ih_tables.specs.Works.{max_load, first_nurses, is_working, working, roster_table}
 
 -- one more nurse: one who works, and one who doesn't
-pub working_more : (I : Draft) (k n : ℕ) (nurses : List NurseNo) → nurses ≡ filter (is_working I k) (first_nurses n) → is_some (max_load I n k) ≡ true → nurses ++ record { 0 = n } ∷ [] ≡ filter (is_working I k) (first_nurses (n + 1))
+pub working_more : (I : Draft) (k n : ℕ) (nurses : List NurseNo) → nurses ≡ filter (is_working I k) (first_nurses n) → is_some (max_load I n k) ≡ true
+    → nurses ++ record { 0 = n } ∷ [] ≡ filter (is_working I k) (first_nurses (n + 1))
 working_more I k n nurses so_far works =
     let more = filter_of_map_range_with_len_more (is_working I k) (λ i. record { 0 = i }) 0 n n (omega arith) in
     rw so_far (sym (rw works at more))
 
-pub working_same : (I : Draft) (k n : ℕ) (nurses : List NurseNo) → nurses ≡ filter (is_working I k) (first_nurses n) → is_some (max_load I n k) ≡ false → nurses ≡ filter (is_working I k) (first_nurses (n + 1))
+pub working_same : (I : Draft) (k n : ℕ) (nurses : List NurseNo) → nurses ≡ filter (is_working I k) (first_nurses n) → is_some (max_load I n k) ≡ false
+    → nurses ≡ filter (is_working I k) (first_nurses (n + 1))
 working_same I k n nurses so_far absent =
     let more = filter_of_map_range_with_len_more (is_working I k) (λ i. record { 0 = i }) 0 n n (omega arith) in
     rw so_far (sym (rw (absent, append-nil) at more))

@@ -151,7 +151,8 @@ impl Bill {
         difference
     }
 
-    /// The costs times their weights, summed: below 10^18 in magnitude. Each number of the bill is at most 10^11 in magnitude.
+    /// The costs times their weights, summed: below 10^18 in magnitude. Each number of the bill is at most 10^11 in
+    /// magnitude.
     pub fn cost(&self, w: &Weights) -> i64
         requires within { IsWithin (10 ^ 11) self.now }
         requires weights { (k : ℕ) → k < 8 → (pos 0 ≤ℤ at w.now.w k) × (at w.now.w k ≤ℤ pos 100000) }

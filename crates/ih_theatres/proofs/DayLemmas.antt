@@ -13,8 +13,8 @@ use Rattle.ih_links.specs.Lists.{Linked, AreNodes, IsOnce, list_of, has, without
 use Rattle.ih_links.proofs.Members.{has-append, has-here, has-there, has-cases, has-without_self, has-without_other, once-append, once-without, apart}
 use Rattle.ih_plan.specs.Sums.{sum_below, which_below}
 use Rattle.ih_plan.specs.Costs.{is_empty}
-use Rattle.ih_plan.proofs.Lists.{has-which_below, which_below-has}
-use Rattle.ih_plan.proofs.Lists.{has as holds}
+use Rattle.ih_plan.proofs.ListedBelow.{has-which_below, which_below-has}
+use Rattle.ih_plan.proofs.ListedBelow.{has as holds}
 use Rattle.ih_plan.proofs.SumLemmas.{sum_below-same, sum_below-but, sum_by-which_below}
 use Rattle.ih_plan.proofs.SumBounds.{sum_below-none}
 use Rattle.ih_theatres.specs.Days.{AreDays}

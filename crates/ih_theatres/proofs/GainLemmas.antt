@@ -28,7 +28,7 @@ use Rattle.ih_theatres.specs.Days.{day_number, theatre_at}
 use Rattle.ih_theatres.specs.Ledger.{IsLedgerOf}
 use Rattle.ih_theatres.specs.Marks.{is_marked}
 use Rattle.ih_theatres.specs.Parts.{theatre_part, surgeon_part}
-use Rattle.ih_theatres.proofs.OtherLemmas.{theatre-at, surgeon-at}
+use Rattle.ih_theatres.proofs.OtherPatients.{theatre-at, surgeon-at}
 use Rattle.ih_theatres.proofs.PartLemmas.{theatre-each, surgeon-each}
 
 -- ---- whether the patient, whose stay is known, is in a day's list

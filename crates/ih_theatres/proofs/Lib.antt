@@ -2,7 +2,7 @@ pub mod Told
 pub mod MarkLemmas
 pub mod DayLemmas
 pub mod PartLemmas
-pub mod OtherLemmas
+pub mod OtherPatients
 pub mod MinuteLemmas
 pub mod LedgerLemmas
 pub mod GainLemmas

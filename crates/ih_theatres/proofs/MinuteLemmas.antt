@@ -12,7 +12,7 @@ use Rattle.ih_plan.specs.Costs.{duration_of, minutes}
 use Rattle.ih_theatres.specs.Days.{AreDays, AreMinutes}
 use Rattle.ih_theatres.proofs.Told.{list-most}
 use Rattle.ih_theatres.proofs.DayLemmas.{nodes-append, days-free, days-there, days-away}
-use Rattle.ih_theatres.proofs.OtherLemmas.{minutes-there, minutes-away, more-minutes}
+use Rattle.ih_theatres.proofs.OtherPatients.{minutes-there, minutes-away, more-minutes}
 
 pub blank : {A : Type 0} (n i : ℕ) (d : A) → slice_index_or (replicate n d) i d ≡ d
 blank zero i d = refl

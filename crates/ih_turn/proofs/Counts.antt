@@ -24,18 +24,26 @@ module _ {E : Type 0} (maker : E → ℕ) where
       let all : count_by (mine n) (drop start xs) ≡ count_by (mine n) (drop start seen ++ f.0) = ap (count_by (mine n)) parts in omega arith
 
   -- the count goes up by what was added
-  pub more_count : (n start : ℕ) (xs ys : List E) → start ≤ length xs → AddsAtMostOne maker n xs ys → (length xs ≤ length ys) × (count_by (mine n) (drop start ys) ≡ count_by (mine n) (drop start xs) + (length ys - length xs))
-  more_count n start xs ys long adds = ⊎_elim (λ (same : ys ≡ xs). let l : length ys ≡ length xs = ap length same in let c : count_by (mine n) (drop start ys) ≡ count_by (mine n) (drop start xs) = ap (λ (z : List E). count_by (mine n) (drop start z)) same in (omega arith, omega arith))
+  pub more_count : (n start : ℕ) (xs ys : List E) → start ≤ length xs → AddsAtMostOne maker n xs ys
+      → (length xs ≤ length ys) × (count_by (mine n) (drop start ys) ≡ count_by (mine n) (drop start xs) + (length ys - length xs))
+  more_count n start xs ys long adds = ⊎_elim
+      (λ (same : ys ≡ xs). let l : length ys ≡ length xs = ap length same in let c : count_by (mine n) (drop start ys)
+      ≡ count_by (mine n) (drop start xs) = ap (λ (z : List E). count_by (mine n) (drop start z)) same in (omega arith, omega arith))
       (λ (a : (e : E) × (ys ≡ xs ++ e ∷ []) × (maker e ≡ n)). let l : length ys ≡ length (xs ++ a.0 ∷ []) = ap length a.1 in let l' = length-append xs (a.0 ∷ []) in
-      let parts : drop start ys ≡ drop start xs ++ a.0 ∷ [] = ap (drop start) a.1 ∙ drop-append-le start xs (a.0 ∷ []) long in let all : count_by (mine n) (drop start ys) ≡ count_by (mine n) (drop start xs ++ a.0 ∷ []) = ap (count_by (mine n)) parts in
-      let sum = sum_by_push (λ e. cond (mine n e) 1 0) (drop start xs) a.0 in let one : cond {A = ℕ} (mine n a.0) 1 0 ≡ 1 = ap (λ (b : Bool). cond {A = ℕ} b 1 0) (eq-eqb (maker a.0) n a.2) in (omega arith, omega arith)) adds
+      let parts : drop start ys ≡ drop start xs ++ a.0 ∷ [] = ap (drop start) a.1
+      ∙ drop-append-le start xs (a.0 ∷ []) long in let all : count_by (mine n) (drop start ys)
+      ≡ count_by (mine n) (drop start xs ++ a.0 ∷ []) = ap (count_by (mine n)) parts in
+      let sum = sum_by_push (λ e. cond (mine n e) 1 0) (drop start xs) a.0 in let one : cond {A = ℕ} (mine n a.0) 1 0
+      ≡ 1 = ap (λ (b : Bool). cond {A = ℕ} b 1 0) (eq-eqb (maker a.0) n a.2) in (omega arith, omega arith)) adds
 
 module _ {A E D : Type 0} (maker : E → ℕ) (number : A → ℕ) (view : A → View E D) (start : ℕ) (xs : List E) where
   -- what each seat has made is what was added by its number
-  pub made_at_end : (seats : List A) → ((s : A) → (number s ≡ (view s).number) × ((view s).start ≤ length (view s).seen)) → All (λ s. (view s).start ≡ start) seats → All (λ s. Follows maker (number s) xs (view s).seen) seats
+  pub made_at_end : (seats : List A) → ((s : A) → (number s ≡ (view s).number) × ((view s).start ≤ length (view s).seen))
+      → All (λ s. (view s).start ≡ start) seats → All (λ s. Follows maker (number s) xs (view s).seen) seats
       → All (λ s. made_by maker (view s) ≡ added_by maker (number s) start xs) seats
   made_at_end [] own started follows = All-nil (λ s. made_by maker (view s) ≡ added_by maker (number s) start xs)
-  made_at_end (s ∷ ss) own started follows = let v = view s in let is = (own s).0 in let f : Follows maker v.number xs v.seen = subst (λ (n : ℕ). Follows maker n xs v.seen) is (All-head (λ s. Follows maker (number s) xs (view s).seen) s ss follows) in
+  made_at_end (s ∷ ss) own started follows = let v = view s in let is = (own s).0 in let f : Follows maker v.number xs v.seen = subst
+      (λ (n : ℕ). Follows maker n xs v.seen) is (All-head (λ s. Follows maker (number s) xs (view s).seen) s ss follows) in
       All-cons (λ s. made_by maker (view s) ≡ added_by maker (number s) start xs) s ss
       (sym (same_count maker v.number v.start xs v.seen (own s).1 f) ∙ ap (λ (z : ℕ × ℕ). added_by maker z.0 z.1 xs) (λ i. (sym is i, All-head (λ s. (view s).start ≡ start) s ss started i)))
       (made_at_end ss own (All-tail (λ s. (view s).start ≡ start) s ss started) (All-tail (λ s. Follows maker (number s) xs (view s).seen) s ss follows))

@@ -37,16 +37,19 @@ module _ {A : Type 0} where
 
   -- what holds of the new element and of all others holds of each
   pub on_set : (P : ℕ → A → Type 0) (l : List A) (me : ℕ) (w : A) → P me w → ((j : ℕ) (x : A) → j ≢ me → get_elem? l j ≡ some x → P j x) → (j : ℕ) (x : A) → get_elem? (set l me w) j ≡ some x → P j x
-  on_set P l me w mine others j x e = ⊎_elim (λ (t : (j ≡ me) × (w ≡ x)). subst (λ (z : ℕ × A). P z.0 z.1) (λ i. (sym t.0 i, t.1 i)) mine) (λ (t : (j ≢ me) × (get_elem? l j ≡ some x)). others j x t.0 t.1) (at_set l me j w x e)
+  on_set P l me w mine others j x e = ⊎_elim (λ (t : (j ≡ me) × (w ≡ x)). subst (λ (z : ℕ × A). P z.0 z.1) (λ i. (sym t.0 i, t.1 i)) mine)
+      (λ (t : (j ≢ me) × (get_elem? l j ≡ some x)). others j x t.0 t.1) (at_set l me j w x e)
 
   -- what holds of each element after a write holds of all others before
-  pub before_set : (P : ℕ → A → Type 0) (l : List A) (me : ℕ) (v w : A) → get_elem? l me ≡ some v → P me v → ((j : ℕ) (x : A) → get_elem? (set l me w) j ≡ some x → P j x) → (j : ℕ) (x : A) → get_elem? l j ≡ some x → P j x
+  pub before_set : (P : ℕ → A → Type 0) (l : List A) (me : ℕ) (v w : A) → get_elem? l me ≡ some v → P me v
+      → ((j : ℕ) (x : A) → get_elem? (set l me w) j ≡ some x → P j x) → (j : ℕ) (x : A) → get_elem? l j ≡ some x → P j x
   before_set P l me v w at mine all j x e = dite (ℕ_discrete j me)
       (λ is. let same : v ≡ x = same_at l me v x at (subst (λ (z : ℕ). get_elem? l z ≡ some x) is e) in subst (λ (z : ℕ × A). P z.0 z.1) (λ i. (sym is i, same i)) mine)
       (λ other. all j x (set_else l me j w other ∙ e))
 
   -- an element that is there stays so after a write, where what holds of the old one holds of the new one
-  pub there_set : (P : A → Type 0) (l : List A) (me : ℕ) (v w : A) → get_elem? l me ≡ some v → (P v → P w) → (i : ℕ) × (x : A) × (get_elem? l i ≡ some x) × P x → (i : ℕ) × (x : A) × (get_elem? (set l me w) i ≡ some x) × P x
+  pub there_set : (P : A → Type 0) (l : List A) (me : ℕ) (v w : A) → get_elem? l me ≡ some v → (P v → P w) → (i : ℕ) × (x : A) × (get_elem? l i ≡ some x) × P x
+      → (i : ℕ) × (x : A) × (get_elem? (set l me w) i ≡ some x) × P x
   there_set P l me v w at keeps t = dite (ℕ_discrete t.0 me)
       (λ is. let same : v ≡ t.1 = same_at l me v t.1 at (subst (λ (z : ℕ). get_elem? l z ≡ some t.1) is t.2) in (me, w, set_here l me w (in_range l me v at), keeps (subst P (sym same) t.3)))
       (λ other. (t.0, t.1, set_else l me t.0 w other ∙ t.2, t.3))
@@ -61,7 +64,9 @@ module _ {A : Type 0} where
   -- the rest of a list that was cut earlier holds less
   pub later_rest : (P : A → Type 0) (xs a r b q : List A) → xs ≡ a ++ r → xs ≡ b ++ q → length a ≤ length b → All P r → All P q
   later_rest P xs a r b q p p' le all = let n : ℕ = length b in let s : q ≡ drop n xs = sym (ap (drop n) p' ∙ drop_at b q n refl) in let m : ℕ = n - length a in
-      let t : drop n xs ≡ drop m r = ap (drop n) p ∙ (ap (λ (k : ℕ). drop k (a ++ r)) (let e : n ≡ length a + m = omega arith in e) ∙ (sym (drop-drop m (length a) (a ++ r)) ∙ ap (drop m) (drop_at a r (length a) refl))) in
+      let t : drop n xs ≡ drop m r = ap (drop n) p
+      ∙ (ap (λ (k : ℕ). drop k (a ++ r)) (let e : n ≡ length a + m = omega arith in e)
+      ∙ (sym (drop-drop m (length a) (a ++ r)) ∙ ap (drop m) (drop_at a r (length a) refl))) in
       subst (All P) (sym (s ∙ t)) (All-drop P m r all)
 
 module _ {E D : Type 0} where
@@ -121,11 +126,13 @@ pub one_less : (r t : ℕ) → 0 < r → r * t - t ≡ (r - 1) * t
 one_less zero t h = absurd (omega arith)
 one_less (suc r) t h = let e : suc r * t ≡ r * t + t = suc-mul r t in let f : suc r - 1 ≡ r = omega arith in (let g : suc r * t - t ≡ r * t = omega arith in g) ∙ ap (λ (k : ℕ). k * t) (sym f)
 
-pub one_more_numbered : {A : Type 0} (number : A → ℕ) (P : A → Type 0) (xs : List A) (y : A) → AreNumberedFromOne number P xs → number y ≡ length xs + 1 → P y → AreNumberedFromOne number P (xs ++ y ∷ [])
+pub one_more_numbered : {A : Type 0} (number : A → ℕ) (P : A → Type 0) (xs : List A) (y : A) → AreNumberedFromOne number P xs → number y ≡ length xs + 1 → P y
+    → AreNumberedFromOne number P (xs ++ y ∷ [])
 one_more_numbered number P xs y cut next ok = (
   λ k h. let l = length-append xs (y ∷ []) in let m = length-map xs number in let parts = map-append number xs (y ∷ []) in dite (dec_lt k (length xs))
       (λ before. ap (λ (l : List ℕ). get_or l k 0) parts ∙ (get_or_append_left (map number xs) (number y ∷ []) 0 k (omega arith) ∙ cut.0 k before))
-      (λ after. let last : k ≡ length xs = omega arith in ap (λ (l : List ℕ). get_or l k 0) parts ∙ (get_or_push (map number xs) (number y) 0 k (m ∙ sym last) ∙ (next ∙ ap (λ (z : ℕ). z + 1) (sym last)))),
+      (λ after. let last : k ≡ length xs = omega arith in ap (λ (l : List ℕ). get_or l k 0) parts
+      ∙ (get_or_push (map number xs) (number y) 0 k (m ∙ sym last) ∙ (next ∙ ap (λ (z : ℕ). z + 1) (sym last)))),
   All-push P xs y cut.1 ok,
 )
 

@@ -60,7 +60,8 @@ module _ {B E D : Type 0} (entries : B → List E) (base : B → D) (maker : E �
     -- by one seat alone
     pub apart : (i : ℕ) (v : View E D) → get_elem? views i ≡ maybe.some v → v.waits ≡ true → (j : ℕ) (w : View E D) → get_elem? views j ≡ maybe.some w → w.waits ≡ true → v.ticket ≡ w.ticket → i ≡ j
     -- who has the turn holds the ticket that is served, the slot is empty, and it has seen the whole list
-    pub holder : (i : ℕ) (v : View E D) → get_elem? views i ≡ maybe.some v → v.has_turn ≡ true → (v.spent ≡ false) × (v.waits ≡ true) × (v.ticket ≡ serving) × (homes ≡ maybe.none ∷ []) × (v.seen ≡ kept)
+    pub holder : (i : ℕ) (v : View E D) → get_elem? views i ≡ maybe.some v → v.has_turn ≡ true
+        → (v.spent ≡ false) × (v.waits ≡ true) × (v.ticket ≡ serving) × (homes ≡ maybe.none ∷ []) × (v.seen ≡ kept)
     -- where nobody has the turn, the value is in the slot
     pub home : ((i : ℕ) (v : View E D) → get_elem? views i ≡ maybe.some v → v.has_turn ≡ false) → (b : B) × (homes ≡ maybe.some (Some b) ∷ []) × (entries b ≡ kept) × (base b ≡ base opening)
     -- what each seat knows is so
@@ -76,7 +77,21 @@ module _ {B E D : Type 0} (entries : B → List E) (base : B → D) (maker : E �
 
 -- the view of the first seat
 abbrev pub first_view : {B E D : Type 0} → (B → List E) → (B → D) → B → ℕ → ℕ → View E D
-first_view entries base opening seats turns = record { spent = false; number = 0; seen = entries opening; base = Some (base opening); start = length (entries opening); left = seats * turns; waits = false; ticket = 0; has_turn = false; each = turns; given = 1; joined = [] }
+first_view entries base opening seats turns = record {
+  spent = false;
+  number = 0;
+  seen = entries opening;
+  base = Some (base opening);
+  start = length
+      (entries opening);
+  left = seats * turns;
+  waits = false;
+  ticket = 0;
+  has_turn = false;
+  each = turns;
+  given = 1;
+  joined = [];
+}
 
 -- the longer one, which the other begins
 abbrev pub longer : {E : Type 0} → List E → List E → List E
@@ -189,14 +204,42 @@ pub record Closes {B E D : Type 0} (entries : B → List E) (base : B → D) (ma
 
 -- the first seat, while r of the seats are not split off yet, itself among them
 abbrev pub root_view : {B E D : Type 0} → (B → List E) → (B → D) → B → ℕ → ℕ → ℕ → View E D
-root_view entries base opening left given turns = record { spent = false; number = 0; seen = entries opening; base = Some (base opening); start = length (entries opening); left = left; waits = false; ticket = 0; has_turn = false; each = turns; given = given; joined = [] }
+root_view entries base opening left given turns = record {
+  spent = false;
+  number = 0;
+  seen = entries opening;
+  base = Some (base opening);
+  start = length
+      (entries opening);
+  left = left;
+  waits = false;
+  ticket = 0;
+  has_turn = false;
+  each = turns;
+  given = given;
+  joined = [];
+}
 
 abbrev pub splitting_view : {B E D : Type 0} → (B → List E) → (B → D) → B → ℕ → ℕ → ℕ → View E D
 splitting_view entries base opening r given turns = root_view entries base opening (r * turns) given turns
 
 -- a seat that was split off
 abbrev pub seat_view : {B E D : Type 0} → (B → List E) → (B → D) → B → ℕ → ℕ → View E D
-seat_view entries base opening number turns = record { spent = false; number = number; seen = entries opening; base = Some (base opening); start = length (entries opening); left = turns; waits = false; ticket = 0; has_turn = false; each = 0; given = 0; joined = [] }
+seat_view entries base opening number turns = record {
+  spent = false;
+  number = number;
+  seen = entries opening;
+  base = Some (base opening);
+  start = length
+      (entries opening);
+  left = turns;
+  waits = false;
+  ticket = 0;
+  has_turn = false;
+  each = 0;
+  given = 0;
+  joined = [];
+}
 
 -- their numbers are 1, 2 and so on, and each meets P
 abbrev pub AreNumberedFromOne : {A : Type 0} → (A → ℕ) → (A → Type 0) → List A → Type 0

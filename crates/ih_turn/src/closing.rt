@@ -18,7 +18,8 @@ impl<B: Kept> Turn<B> {
         requires all { (n : ℕ) → n < seat_count self → Contains (map number_of seats.items) n }
         ensures base { B.base result ≡ B.base (opened_with self) }
         ensures seen { All (λ s. Follows B.maker (number_of s) (B.entries result) (history s)) seats.items }
-        ensures made { All (λ s. made_count s ≡ added_by B.maker (number_of s) (length (B.entries (opened_with self))) (B.entries result)) seats.items }
+        ensures made { All (λ s. made_count s
+            ≡ added_by B.maker (number_of s) (length (B.entries (opened_with self))) (B.entries result)) seats.items }
         ensures added { AddsBelow B.maker (seat_count self) (B.entries (opened_with self)) (B.entries result) }
     {
         let root = take_first(&mut seats);
@@ -43,8 +44,10 @@ impl<B: Kept> Turn<B> {
         requires rests { Rests token.old.me.0 × (token.old.me.1 ≡ []) }
         requires others { All (λ s. s.token.table_id ≡ self.now.table.shared.table_id) seats.items }
         ensures own { (token.new.table_id ≡ token.old.table_id) × (token.new.me.1 ≡ []) }
-        ensures rests { (token.new.me.0.spent ≡ false) × (token.new.me.0.waits ≡ false) × (token.new.me.0.has_turn ≡ false) }
-        ensures seen_lists { seen_lists token.new.me.0 ≡ map (λ s. (s.number, s.token.me.0.seen)) seats.items ++ seen_lists token.old.me.0 }
+        ensures rests { (token.new.me.0.spent ≡ false) × (token.new.me.0.waits ≡ false)
+            × (token.new.me.0.has_turn ≡ false) }
+        ensures seen_lists { seen_lists token.new.me.0
+            ≡ map (λ s. (s.number, s.token.me.0.seen)) seats.items ++ seen_lists token.old.me.0 }
     {
         while let Some(other) = seats.pop() {
             let Seat {
@@ -78,7 +81,8 @@ impl<B: Kept> Turn<B> {
 // Takes the seat with the number 0 out of the others.
 fn take_first<B: Kept>(seats: &mut Vec<Seat<B>>) -> Seat<B>
     requires { Contains (map (λ s. s.number) seats.old.items) 0 }
-    ensures { (before : _) × (after : _) × (seats.old.items ≡ before ++ result ∷ after) × (seats.new.items ≡ before ++ after) }
+    ensures { (before : _) × (after : _) × (seats.old.items ≡ before ++ result ∷ after)
+        × (seats.new.items ≡ before ++ after) }
 {
     let count = seats.len();
     for i in 0..count {

@@ -26,8 +26,8 @@ const PASSES: u64 = 32;
 // How often such a seat sleeps before it draws a ticket all the same.
 const NAPS: u32 = 8;
 
-// The microseconds of a sleep, for each seat that sleeps or stands before this one. Long sleeps are wanted: who wakes has
-// much to take over at once, and few seats share a core's cache meanwhile.
+// The microseconds of a sleep, for each seat that sleeps or stands before this one. Long sleeps are wanted: who wakes
+// has much to take over at once, and few seats share a core's cache meanwhile.
 const NAP: u64 = 500;
 
 // How many seats a sleep is lengthened for at most.
@@ -45,8 +45,8 @@ pub struct Holder<'a, B: Kept, P: TableRule<Option<B>, View<B::Entry, B::Base>, 
     seen: u64,
     made: u64,
     left: u64,
-    // The seat is one of the turn's; it took the value out of the slot and has the turn; its numbers are those of what it
-    // knows.
+    // The seat is one of the turn's; it took the value out of the slot and has the turn; its numbers are those of what
+    // it knows.
     ghost own: { token.table_id ≡ turn.now.table.shared.table_id },
     ghost out: { token.me.1 ≡ (0, None) ∷ [] },
     ghost serves: { Serves token.me.0 },
@@ -73,7 +73,8 @@ impl<B: Kept> Turn<B> {
         ensures begins { Follows B.maker (number_of seat) (B.entries (value_of result)) (history seat) }
         ensures base { B.base (value_of result) ≡ B.base (opened_with self.now) }
         ensures list { list_at_take result ≡ B.entries (value_of result) }
-        ensures seat { (turn_of result ≡ self.now) × (holder_number result ≡ number_of seat) × (holder_made result ≡ made_count seat) × (holder_left result + 1 ≡ turns_left seat) }
+        ensures seat { (turn_of result ≡ self.now) × (holder_number result ≡ number_of seat)
+            × (holder_made result ≡ made_count seat) × (holder_left result + 1 ≡ turns_left seat) }
     {
         let Seat {
             mut token,
@@ -108,7 +109,8 @@ impl<B: Kept> Turn<B> {
         ticket: u64,
     ) -> B
         requires own { token.old.table_id ≡ self.now.table.shared.table_id }
-        requires waits { (token.old.me.0.spent ≡ false) × (token.old.me.0.waits ≡ true) × (token.old.me.0.has_turn ≡ false) × (token.old.me.0.ticket ≡ ticket) × (token.old.me.1 ≡ []) }
+        requires waits { (token.old.me.0.spent ≡ false) × (token.old.me.0.waits ≡ true)
+            × (token.old.me.0.has_turn ≡ false) × (token.old.me.0.ticket ≡ ticket) × (token.old.me.1 ≡ []) }
         ensures own { token.new.table_id ≡ token.old.table_id }
         ensures served { token.new.me ≡ (served token.old.me.0 (B.entries result), (0, None) ∷ []) }
         ensures begins { Follows B.maker token.old.me.0.number (B.entries result) token.old.me.0.seen }
@@ -209,7 +211,8 @@ impl<'a, B: Kept> Held<'a, B> {
         ensures own { IsSeatOf (turn_of self.entry) result }
         ensures list { history result ≡ B.entries (value_of self.entry) }
         ensures seat { (number_of result ≡ holder_number self.entry) × (turns_left result ≡ holder_left self.entry) }
-        ensures made { made_count result + length (list_at_take self.entry) ≡ holder_made self.entry + length (B.entries (value_of self.entry)) }
+        ensures made { made_count result + length (list_at_take self.entry)
+            ≡ holder_made self.entry + length (B.entries (value_of self.entry)) }
     {
         let Guard { holder, value } = self;
         let Holder {

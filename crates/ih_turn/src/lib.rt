@@ -3,7 +3,8 @@
 //! Two words and one slot are shared: `ticket` counts the tickets that were handed out, `serving` those that are done
 //! with, and the slot has the value while no seat has the turn. Between any two steps:
 //!
-//! - `serving` is at most `ticket`, and neither can come round to 0 again, since all seats' turns together are few enough;
+//! - `serving` is at most `ticket`, and neither can come round to 0 again, since all seats' turns together are few
+//!   enough;
 //! - each ticket from `serving` on is held by just one seat that waits, and no two seats hold one ticket;
 //! - a seat that has the turn holds the ticket `serving`; then the slot is empty and nobody else can have the turn;
 //! - while nobody has the turn, the value lies in the slot;

@@ -24,7 +24,8 @@ impl<B> Drop for Setup<B> {
     }
 }
 
-/// The rule of a turn: each ticket that isn't done with is held by one seat, and each list that a seat has seen begins the kept one.
+/// The rule of a turn: each ticket that isn't done with is held by one seat, and each list that a seat has seen begins
+/// the kept one.
 #[derive(Drop)]
 pub struct TurnRule<B> {
     marker: PhantomData<B>,

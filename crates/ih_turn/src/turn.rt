@@ -14,7 +14,8 @@ use std::sync::atomic::AtomicU64;
 /// A value that seats take in turns.
 pub type Turn<B> = RuledTurn<B, TurnRule<B>>;
 
-/// A turn under the rule P. The rule is a parameter, since a ghost field of a struct with a field at `TurnRule<B>` cannot cite the bound of B.
+/// A turn under the rule P. The rule is a parameter, since a ghost field of a struct with a field at `TurnRule<B>`
+/// cannot cite the bound of B.
 #[derive(Drop)]
 pub struct RuledTurn<B: Kept, P: TableRule<Option<B>, View<B::Entry, B::Base>, Setup<B>>> {
     pub(crate) table: Table<Option<B>, View<B::Entry, B::Base>, Setup<B>, P, Global>,
@@ -40,8 +41,11 @@ impl<B: Kept> Turn<B> {
         requires some { 1 ≤ seats }
         requires fits { seats * turns + 1 < 2 ^ 64 }
         ensures turn { IfOk result (λ t. (opened_with t.0 ≡ value) × (seat_count t.0 ≡ seats)) }
-        ensures numbers { IfOk result (λ t. (length t.1.items ≡ seats) × ((k : ℕ) → k < seats → slice_index (map number_of t.1.items) k ≡ k)) }
-        ensures fresh { IfOk result (λ t. All (λ s. IsSeatOf t.0 s × (history s ≡ B.entries value) × (made_count s ≡ 0) × (turns_left s ≡ turns)) t.1.items) }
+        ensures numbers { IfOk result
+            (λ t. (length t.1.items ≡ seats) × ((k : ℕ) → k < seats → slice_index (map number_of t.1.items) k ≡ k)) }
+        ensures fresh { IfOk result
+            (λ t. All (λ s. IsSeatOf t.0 s × (history s ≡ B.entries value) × (made_count s ≡ 0)
+            × (turns_left s ≡ turns)) t.1.items) }
         ensures refused { IfErr result (λ b. b ≡ value) }
     {
         let seen = value.len();
@@ -86,12 +90,19 @@ impl<B: Kept> Turn<B> {
         turns: u64,
         row: &mut Vec<Seat<B>>,
     )
-        requires own { (token.old.table_id ≡ self.now.table.shared.table_id) × (token.old.id ≡ 0) × (self.now.table.shared.key.seats ≡ seats) × (1 ≤ seats) }
-        requires first { token.old.me ≡ (first_view B.entries B.base self.now.table.shared.key.opening.value seats turns, []) }
+        requires own { (token.old.table_id ≡ self.now.table.shared.table_id) × (token.old.id ≡ 0)
+            × (self.now.table.shared.key.seats ≡ seats) × (1 ≤ seats) }
+        requires first { token.old.me
+            ≡ (first_view B.entries B.base self.now.table.shared.key.opening.value seats turns, []) }
         requires seen { seen ≡ length (B.entries self.now.table.shared.key.opening.value) }
         requires room { (vec_len row.old ≡ 0) × (seats ≤ vec_capacity row.old) }
-        ensures token { (token.new.table_id ≡ token.old.table_id) × (token.new.me ≡ (splitting_view B.entries B.base self.now.table.shared.key.opening.value 1 seats turns, [])) }
-        ensures row { (vec_len row.new + 1 ≡ seats) × (vec_capacity row.new ≡ vec_capacity row.old) × AreNumberedFromOne (λ s. s.number) (λ s. (s.token.table_id ≡ self.now.table.shared.table_id) × (s.token.me.0 ≡ seat_view B.entries B.base self.now.table.shared.key.opening.value s.number turns) × (made_count s ≡ 0) × (s.left ≡ turns)) row.new.items }
+        ensures token { (token.new.table_id ≡ token.old.table_id)
+            × (token.new.me ≡ (splitting_view B.entries B.base self.now.table.shared.key.opening.value 1 seats turns, [])) }
+        ensures row { (vec_len row.new + 1 ≡ seats) × (vec_capacity row.new ≡ vec_capacity row.old)
+            × AreNumberedFromOne (λ s. s.number)
+            (λ s. (s.token.table_id ≡ self.now.table.shared.table_id)
+            × (s.token.me.0 ≡ seat_view B.entries B.base self.now.table.shared.key.opening.value s.number turns)
+            × (made_count s ≡ 0) × (s.left ≡ turns)) row.new.items }
     {
         for number in 1..seats {
             let next = self.split(token, number, seen, turns);
@@ -107,12 +118,15 @@ impl<B: Kept> Turn<B> {
         seen: u64,
         left: u64,
     ) -> Seat<B>
-        requires own { (token.old.table_id ≡ self.now.table.shared.table_id) × (token.old.id ≡ 0) × (number < self.now.table.shared.key.seats) × (0 < number) }
+        requires own { (token.old.table_id ≡ self.now.table.shared.table_id) × (token.old.id ≡ 0)
+            × (number < self.now.table.shared.key.seats) × (0 < number) }
         requires rests { Rests token.old.me.0 × (token.old.me.1 ≡ []) }
         requires gives { (token.old.me.0.given ≡ number) × (token.old.me.0.each ≡ left) × (left ≤ token.old.me.0.left) }
         requires seen { (seen ≡ length token.old.me.0.seen) × (token.old.me.0.start ≡ seen) }
-        ensures token { (token.new.table_id ≡ token.old.table_id) × (token.new.id ≡ token.old.id) × (token.new.me ≡ (left_view token.old.me.0, [])) }
-        ensures seat { (result.token.table_id ≡ token.old.table_id) × (result.token.me.0 ≡ right_view token.old.me.0) × (result.number ≡ number) × (made_count result ≡ 0) × (result.left ≡ left) }
+        ensures token { (token.new.table_id ≡ token.old.table_id) × (token.new.id ≡ token.old.id)
+            × (token.new.me ≡ (left_view token.old.me.0, [])) }
+        ensures seat { (result.token.table_id ≡ token.old.table_id) × (result.token.me.0 ≡ right_view token.old.me.0)
+            × (result.number ≡ number) × (made_count result ≡ 0) × (result.left ≡ left) }
     {
         let other = self.table.shared.split_seat::<SplitSeat<B>>(token);
         Seat {
@@ -146,8 +160,12 @@ fn table_of<B: Kept>(
     ),
     B,
 >
-    requires { (setup.now.opening.value ≡ value) × (0 < setup.now.seats) × (setup.now.seats * setup.now.turns < 2 ^ 64) }
-    ensures ok { IfOk result (λ t. (t.0.shared.table_id.words ≡ 2) × (t.0.shared.table_id.slots ≡ 1) × (t.1.table_id ≡ t.0.shared.table_id) × (t.1.id ≡ 0) × (t.1.me ≡ (first_view B.entries B.base value setup.now.seats setup.now.turns, [])) × (t.0.shared.key ≡ setup.now)) }
+    requires { (setup.now.opening.value ≡ value) × (0 < setup.now.seats)
+        × (setup.now.seats * setup.now.turns < 2 ^ 64) }
+    ensures ok { IfOk result
+        (λ t. (t.0.shared.table_id.words ≡ 2) × (t.0.shared.table_id.slots ≡ 1) × (t.1.table_id ≡ t.0.shared.table_id)
+        × (t.1.id ≡ 0) × (t.1.me ≡ (first_view B.entries B.base value setup.now.seats setup.now.turns, []))
+        × (t.0.shared.key ≡ setup.now)) }
     ensures err { IfErr result (λ b. b ≡ value) }
 {
     let mut slots = Vec::new(alloc);

@@ -95,7 +95,8 @@ first_passes false b h = h
 pub present-residents : (I : Draft) (P : Timetable) (r d : ℕ) → filter (is_present I P r d) (residents_of I P r) ≡ present I P r d
 unfolding present
 present-residents I P r d =
-    filter-which_below (person_count I) (λ x. is_number (option_map (λ (a : Admission). a.room) (admission_of I P x)) r) (is_present I P r d) (λ x h. in_room (admission_of I P x) (person_of I x).length_of_stay h)
+    filter-which_below (person_count I) (λ x. is_number (option_map (λ (a : Admission). a.room) (admission_of I P x)) r) (is_present I P r d)
+    (λ x h. in_room (admission_of I P x) (person_of I x).length_of_stay h)
   where
     in_room : (o : Option Admission) (n : ℕ) → is_in o n r d ≡ true → is_number (option_map (λ (a : Admission). a.room) o) r ≡ true
     in_room None n h = h
@@ -115,7 +116,8 @@ pub operated_by-among : (I : Draft) (P : Timetable) (s d : ℕ)
     → filter (λ p. is_number (surgeon_of I p) s && admitted_on d (stay_of P p)) (surgeon_patients I s) ≡ operated_by I P s d
 unfolding operated_by
 operated_by-among I P s d =
-    filter-which_below (patient_count I) (λ p. is_number (surgeon_of I p) s) (λ p. is_number (surgeon_of I p) s && admitted_on d (stay_of P p)) (λ p h. first_passes (is_number (surgeon_of I p) s) (admitted_on d (stay_of P p)) h)
+    filter-which_below (patient_count I) (λ p. is_number (surgeon_of I p) s) (λ p. is_number (surgeon_of I p) s && admitted_on d (stay_of P p))
+    (λ p h. first_passes (is_number (surgeon_of I p) s) (admitted_on d (stay_of P p)) h)
 
 pub present-persons : (I : Draft) (P : Timetable) (r d : ℕ) → All (λ x. x < person_count I) (present I P r d)
 unfolding present

@@ -5,8 +5,8 @@ use Rattle.std.specs.Fmt.{digits}
 use Rattle.ih_plan.specs.Timetable.{Timetable, empty}
 use Rattle.ih_plan.specs.Expand.{after}
 use Rattle.ih_plan.specs.BillOf.{bill_of}
-use Rattle.ih_plan.proofs.Base.{one_room, bill9, weights}
-use Rattle.ih_plan.proofs.Prices.{moves_on_literals, nurse_run}
+use Rattle.ih_plan.proofs.ExampleWards.{one_room, bill9, weights}
+use Rattle.ih_plan.proofs.MoveExamples.{moves_on_literals, nurse_run}
 use Rattle.ih_validate.specs.Report.{report, lines_below}
 
 abbrev nursed : Timetable

@@ -48,7 +48,8 @@ fn all_counts(inst: &Instance, plan: &Plan) -> Bill
 }
 
 /// The bill of a timetable, by plain loops over all of it: how often each hard rule is broken, and the eight costs,
-/// unweighted. Each number is at most 10^11. The timetable has the sizes and the ranges of the instance. It takes no memory.
+/// unweighted. Each number is at most 10^11. The timetable has the sizes and the ranges of the instance. It takes no
+/// memory.
 pub fn bill(inst: &Instance, plan: &Plan) -> Bill
     requires { IsPlanOf inst.now.draft plan.now }
     ensures value { result ≡ bill_of inst.now.draft plan.now }

@@ -14,7 +14,8 @@ use ih_tables::Instance;
 fn differs(inst: &Instance, x: u32, others: &[u32]) -> bool
     requires first { x < person_count inst.now.draft }
     requires others { All (λ y. y < person_count inst.now.draft) others.now }
-    ensures { result ≡ list_any (λ y. not (bytes_eq (person_of inst.now.draft x).gender (person_of inst.now.draft y).gender)) others.now }
+    ensures { result ≡ list_any
+        (λ y. not (bytes_eq (person_of inst.now.draft x).gender (person_of inst.now.draft y).gender)) others.now }
 {
     for y in others {
         if !same_gender(inst, x, *y) {

@@ -32,7 +32,9 @@ fn seen_in(inst: &Instance, plan: &Plan, r: RoomNo, from: u32, len: u32) -> u64
 fn nurses_of(inst: &Instance, plan: &Plan, x: u32) -> u64
     requires plan { IsPlanOf inst.now.draft plan.now }
     requires person { x < person_count inst.now.draft }
-    ensures value { result ≡ distinct_nurses inst.now.draft (map (nurse_for plan.now (room_of inst.now.draft plan.now x)) (shifts_of inst.now.draft plan.now x)) }
+    ensures value { result
+        ≡ distinct_nurses inst.now.draft
+        (map (nurse_for plan.now (room_of inst.now.draft plan.now x)) (shifts_of inst.now.draft plan.now x)) }
     ensures bound { result ≤ 512 }
 {
     let patients = inst.patients();

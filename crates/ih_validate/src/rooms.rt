@@ -1,4 +1,5 @@
-//! What rooms cost by who is in them. All persons are looked through once for each room, and then the room's own for each day.
+//! What rooms cost by who is in them. All persons are looked through once for each room, and then the room's own for
+//! each day.
 
 ghost use Rattle.std.specs.Prelude.{◌≡◌, ◌≤◌, ◌<◌};
 ghost use Rattle.ih_tables.specs.Sizes.{room_count, shift_count};
@@ -54,11 +55,15 @@ fn costs_of(
     requires plan { IsPlanOf inst.now.draft plan.now }
     requires room { r.0 < room_count inst.now.draft }
     requires residents { residents.now ≡ residents_of inst.now.draft plan.now r.0 }
-    ensures gender_mixes { result.gender_mixes ≡ sum_below inst.now.draft.days (gender_mix inst.now.draft plan.now r.0) }
-    ensures over_capacity { result.over_capacity ≡ sum_below inst.now.draft.days (crowding inst.now.draft plan.now r.0) }
-    ensures uncovered { result.uncovered ≡ sum_below (shift_count inst.now.draft) (bare_shift inst.now.draft plan.now r.0) }
+    ensures gender_mixes { result.gender_mixes
+        ≡ sum_below inst.now.draft.days (gender_mix inst.now.draft plan.now r.0) }
+    ensures over_capacity { result.over_capacity
+        ≡ sum_below inst.now.draft.days (crowding inst.now.draft plan.now r.0) }
+    ensures uncovered { result.uncovered
+        ≡ sum_below (shift_count inst.now.draft) (bare_shift inst.now.draft plan.now r.0) }
     ensures mixed_ages { result.mixed_ages ≡ sum_below inst.now.draft.days (age_mix inst.now.draft plan.now r.0) }
-    ensures missing_skill { result.missing_skill ≡ sum_below (shift_count inst.now.draft) (skill_gap inst.now.draft plan.now r.0) }
+    ensures missing_skill { result.missing_skill
+        ≡ sum_below (shift_count inst.now.draft) (skill_gap inst.now.draft plan.now r.0) }
     ensures few_mixes { result.gender_mixes ≤ 56 }
     ensures few_over { result.over_capacity ≤ 143360 }
     ensures few_uncovered { result.uncovered ≤ 168 }

@@ -75,7 +75,8 @@ fn skill_missing(inst: &Instance, plan: &Plan, r: RoomNo, k: u32, here: &[u32]) 
     requires shift { k < shift_count inst.now.draft }
     requires persons { All (λ x. x < person_count inst.now.draft) here.now }
     requires few { length here.now ≤ 2560 }
-    ensures sum { result ≡ skill_missing inst.now.draft (care_of plan.now r.0 k) (map (skill_of inst.now.draft plan.now k) here.now) }
+    ensures sum { result ≡ skill_missing inst.now.draft (care_of plan.now r.0 k)
+        (map (skill_of inst.now.draft plan.now k) here.now) }
     ensures bound { result ≤ 2560000 }
 {
     match nurse_at(inst, plan, r, k) {
@@ -88,7 +89,8 @@ fn skill_missing(inst: &Instance, plan: &Plan, r: RoomNo, k: u32, here: &[u32]) 
 fn nurses_off_in(inst: &Instance, plan: &Plan, r: RoomNo) -> u64
     requires plan { IsPlanOf inst.now.draft plan.now }
     requires room { r.0 < room_count inst.now.draft }
-    ensures sum { result ≡ sum_below (shift_count inst.now.draft) (λ k. bit (not_working inst.now.draft k (care_of plan.now r.0 k))) }
+    ensures sum { result ≡ sum_below (shift_count inst.now.draft)
+        (λ k. bit (not_working inst.now.draft k (care_of plan.now r.0 k))) }
     ensures bound { result ≤ 168 }
 {
     let mut sum = 0;

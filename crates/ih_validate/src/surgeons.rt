@@ -88,7 +88,9 @@ fn list_operated_by(
 fn surgeon_overtime_of(inst: &Instance, plan: &Plan, s: SurgeonNo) -> u64
     requires plan { IsPlanOf inst.now.draft plan.now }
     requires surgeon { s.0 < surgeon_count inst.now.draft }
-    ensures sum { result ≡ sum_below inst.now.draft.days (λ d. minutes inst.now.draft (operated_by inst.now.draft plan.now s.0 d) - surgeon_minutes inst.now.draft s.0 d) }
+    ensures sum { result ≡ sum_below inst.now.draft.days
+        (λ d. minutes inst.now.draft
+        (operated_by inst.now.draft plan.now s.0 d) - surgeon_minutes inst.now.draft s.0 d) }
     ensures bound { result ≤ 615726511554560 }
 {
     let mut among = NumberList::new();
@@ -143,7 +145,9 @@ fn theatres_used(inst: &Instance, plan: &Plan, patients: &[u32]) -> u64
 #[tactic(auto, using(ih_plan::proofs::SumLemmas::sum_steps))]
 fn transfers_of(inst: &Instance, plan: &Plan, s: SurgeonNo) -> u64
     requires { IsPlanOf inst.now.draft plan.now }
-    ensures sum { result ≡ sum_below inst.now.draft.days (λ d. theatres_used inst.now.draft (map (theatre_of plan.now) (operated_by inst.now.draft plan.now s.0 d)) - 1) }
+    ensures sum { result ≡ sum_below inst.now.draft.days
+        (λ d. theatres_used inst.now.draft
+        (map (theatre_of plan.now) (operated_by inst.now.draft plan.now s.0 d)) - 1) }
     ensures bound { result ≤ 3584 }
 {
     let mut among = NumberList::new();

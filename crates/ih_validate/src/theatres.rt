@@ -84,7 +84,8 @@ fn list_operated(
 fn theatre_overtime_of(inst: &Instance, plan: &Plan, t: TheatreNo) -> u64
     requires plan { IsPlanOf inst.now.draft plan.now }
     requires theatre { t.0 < theatre_count inst.now.draft }
-    ensures sum { result ≡ sum_below inst.now.draft.days (λ d. minutes inst.now.draft (operated inst.now.draft plan.now t.0 d) - theatre_minutes inst.now.draft t.0 d) }
+    ensures sum { result ≡ sum_below inst.now.draft.days
+        (λ d. minutes inst.now.draft (operated inst.now.draft plan.now t.0 d) - theatre_minutes inst.now.draft t.0 d) }
     ensures bound { result ≤ 615726511554560 }
 {
     let mut among = NumberList::new();
@@ -115,7 +116,8 @@ pub fn theatre_overtime(inst: &Instance, plan: &Plan) -> u64
 #[tactic(auto, using(ih_plan::proofs::SumLemmas::sum_steps))]
 fn open_days(inst: &Instance, plan: &Plan, t: TheatreNo) -> u64
     requires { IsPlanOf inst.now.draft plan.now }
-    ensures count { result ≡ count_below inst.now.draft.days (λ d. not (is_empty (operated inst.now.draft plan.now t.0 d))) }
+    ensures count { result
+        ≡ count_below inst.now.draft.days (λ d. not (is_empty (operated inst.now.draft plan.now t.0 d))) }
     ensures bound { result ≤ 56 }
 {
     let mut among = NumberList::new();

@@ -67,9 +67,11 @@ fn lawful_advise<'a>(matches: &ArgMatches<'a>) -> Option<Advise<'a>>
 
 // Reads the words of `advise`.
 pub(crate) fn read_advise<'a>(alloc: Global, words: &'a [String]) -> Result<Advise<'a>, WordsError>
-    ensures ok { IfOk result (λ a. call_by advise_app lawful_advise (map string_bytes words.entry.now) ≡ Some (advise_call a)) }
+    ensures ok { IfOk result
+        (λ a. call_by advise_app lawful_advise (map string_bytes words.entry.now) ≡ Some (advise_call a)) }
     ensures lawful { IfOk result IsLawfulAdvise }
-    ensures unlawful { IfErr result (λ e. e ≡ WordsError.Unlawful → call_by advise_app lawful_advise (map string_bytes words.entry.now) ≡ None) }
+    ensures unlawful { IfErr result
+        (λ e. e ≡ WordsError.Unlawful → call_by advise_app lawful_advise (map string_bytes words.entry.now) ≡ None) }
 {
     let matches = matches_in(advise_description(alloc)?, words)?;
     lawful_advise(&matches).ok_or(WordsError::Unlawful)

@@ -49,9 +49,11 @@ fn lawful_chain<'a>(matches: &ArgMatches<'a>) -> Option<Chains<'a>>
 
 // Reads the words of `chain`.
 pub(crate) fn read_chain<'a>(alloc: Global, words: &'a [String]) -> Result<Chains<'a>, WordsError>
-    ensures ok { IfOk result (λ c. call_by chain_app lawful_chain (map string_bytes words.entry.now) ≡ Some (chain_call c)) }
+    ensures ok { IfOk result
+        (λ c. call_by chain_app lawful_chain (map string_bytes words.entry.now) ≡ Some (chain_call c)) }
     ensures lawful { IfOk result IsLawfulChain }
-    ensures unlawful { IfErr result (λ e. e ≡ WordsError.Unlawful → call_by chain_app lawful_chain (map string_bytes words.entry.now) ≡ None) }
+    ensures unlawful { IfErr result
+        (λ e. e ≡ WordsError.Unlawful → call_by chain_app lawful_chain (map string_bytes words.entry.now) ≡ None) }
 {
     let matches = matches_in(chain_description(alloc)?, words)?;
     lawful_chain(&matches).ok_or(WordsError::Unlawful)

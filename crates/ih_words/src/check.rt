@@ -49,8 +49,10 @@ fn lawful_check<'a>(matches: &ArgMatches<'a>) -> Option<Check<'a>>
 
 // Reads the words of `check`.
 pub(crate) fn read_check<'a>(alloc: Global, words: &'a [String]) -> Result<Check<'a>, WordsError>
-    ensures ok { IfOk result (λ c. call_by check_app lawful_check (map string_bytes words.entry.now) ≡ Some (check_call c)) }
-    ensures unlawful { IfErr result (λ e. e ≡ WordsError.Unlawful → call_by check_app lawful_check (map string_bytes words.entry.now) ≡ None) }
+    ensures ok { IfOk result
+        (λ c. call_by check_app lawful_check (map string_bytes words.entry.now) ≡ Some (check_call c)) }
+    ensures unlawful { IfErr result
+        (λ e. e ≡ WordsError.Unlawful → call_by check_app lawful_check (map string_bytes words.entry.now) ≡ None) }
 {
     let matches = matches_in(check_description(alloc)?, words)?;
     lawful_check(&matches).ok_or(WordsError::Unlawful)

@@ -26,7 +26,8 @@ pub enum Command<'a> {
     Check(Check<'a>),
     /// Searches by chains of moves, and writes the journal and the best solution.
     Chain(Chains<'a>),
-    /// Searches several times, each time from the best of the search before, and writes the journals and the best solution.
+    /// Searches several times, each time from the best of the search before, and writes the journals and the best
+    /// solution.
     Rounds(Rounds<'a>),
     /// Tells the best single change of each choice of a solution.
     Advise(Advise<'a>),

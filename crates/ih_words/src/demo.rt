@@ -20,7 +20,8 @@ fn demo_description<'a>(alloc: Global) -> Result<Command<'a>, AllocError>
 // Reads the words of `demo`: its number.
 pub(crate) fn read_demo(alloc: Global, words: &[String]) -> Result<u64, WordsError>
     ensures ok { IfOk result (λ number. call_by demo_app lawful_demo (map string_bytes words.now) ≡ Some number) }
-    ensures unlawful { IfErr result (λ e. e ≡ WordsError.Unlawful → call_by demo_app lawful_demo (map string_bytes words.now) ≡ None) }
+    ensures unlawful { IfErr result
+        (λ e. e ≡ WordsError.Unlawful → call_by demo_app lawful_demo (map string_bytes words.now) ≡ None) }
 {
     let matches = matches_in(demo_description(alloc)?, words)?;
     Ok(u64_of(&matches, "NUMBER"))

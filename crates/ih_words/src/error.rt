@@ -27,7 +27,7 @@ impl From<AllocError> for WordsError {
     }
 }
 
-// `clap` answers want of memory as an error of its own. All its other errors are faults of the words.
+// `clap` answers lack of memory as an error of its own. All its other errors are faults of the words.
 impl From<clap::Error> for WordsError {
     ghost from_gives = { λ error e. (e ≡ OutOfMemory) ↔ (kind_of error ≡ ClapOutOfMemory) };
 

@@ -29,7 +29,8 @@ pub(crate) fn names_differ<'a>(
     third: &'a str,
     start: Option<&'a str>,
 ) -> bool
-    ensures { result ≡ all_differ (first.entry.now ∷ second.entry.now ∷ third.entry.now ∷ option_to_list (option_map (λ t. t.now) start.entry)) }
+    ensures { result ≡ all_differ
+        (first.entry.now ∷ second.entry.now ∷ third.entry.now ∷ option_to_list (option_map (λ t. t.now) start.entry)) }
 {
     match start {
         Some(start) => {

@@ -43,7 +43,8 @@ fn gen_in<'a>(matches: &ArgMatches<'a>) -> Gen<'a>
 // Reads the words of `gen`.
 pub(crate) fn read_gen<'a>(alloc: Global, words: &'a [String]) -> Result<Gen<'a>, WordsError>
     ensures ok { IfOk result (λ g. call_by gen_app lawful_gen (map string_bytes words.entry.now) ≡ Some (gen_call g)) }
-    ensures unlawful { IfErr result (λ e. e ≡ WordsError.Unlawful → call_by gen_app lawful_gen (map string_bytes words.entry.now) ≡ None) }
+    ensures unlawful { IfErr result
+        (λ e. e ≡ WordsError.Unlawful → call_by gen_app lawful_gen (map string_bytes words.entry.now) ≡ None) }
 {
     let matches = matches_in(gen_description(alloc)?, words)?;
     Ok(gen_in(&matches))

@@ -16,12 +16,22 @@ pub(crate) fn matches_in<'a>(
 ) -> Result<ArgMatches<'a>, WordsError>
     requires simple { is_simple_and_free (app_of description) ≡ true }
     requires independent { has_independent_rules (app_of description) ≡ true }
-    ensures no_fault { IfOk result (λ m. has_no_fault (app_of description.entry) (map string_bytes words.entry.now) ≡ true) }
-    ensures rows { IfOk result (λ m. rows_of (found_of m) ≡ matches_of (app_of description.entry) (map string_bytes words.entry.now)) }
-    ensures texts { IfOk result (λ m. (k : ℕ) (rule : Rule) → Requires (app_of description.entry) k rule → HasText rule.id (rows_of (found_of m))) }
-    ensures numbers { IfOk result (λ m. (k : ℕ) (rule : Rule) (low high : ℕ) → RequiresNumber (app_of description.entry) k rule low high → HasNumber low high rule.id (rows_of (found_of m))) }
-    ensures optional { IfOk result (λ m. (k : ℕ) (rule : Rule) (low high : ℕ) → TakesNumber (app_of description.entry) k rule low high → IsNumberIfGiven low high rule.id (rows_of (found_of m))) }
-    ensures unlawful { IfErr result (λ e. e ≡ WordsError.Unlawful → has_no_fault (app_of description.entry) (map string_bytes words.entry.now) ≡ false) }
+    ensures no_fault { IfOk result
+        (λ m. has_no_fault (app_of description.entry) (map string_bytes words.entry.now) ≡ true) }
+    ensures rows { IfOk result
+        (λ m. rows_of (found_of m) ≡ matches_of (app_of description.entry) (map string_bytes words.entry.now)) }
+    ensures texts { IfOk result
+        (λ m. (k : ℕ) (rule : Rule) → Requires (app_of description.entry) k rule
+        → HasText rule.id (rows_of (found_of m))) }
+    ensures numbers { IfOk result
+        (λ m. (k : ℕ) (rule : Rule) (low high : ℕ) → RequiresNumber (app_of description.entry) k rule low high
+        → HasNumber low high rule.id (rows_of (found_of m))) }
+    ensures optional { IfOk result
+        (λ m. (k : ℕ) (rule : Rule) (low high : ℕ) → TakesNumber (app_of description.entry) k rule low high
+        → IsNumberIfGiven low high rule.id (rows_of (found_of m))) }
+    ensures unlawful { IfErr result
+        (λ e. e ≡ WordsError.Unlawful → has_no_fault (app_of description.entry) (map string_bytes words.entry.now)
+        ≡ false) }
 {
     let matches = description.try_get_matches_from(words)?;
     Ok(matches)
@@ -80,7 +90,8 @@ pub(crate) fn optional_u32_of(matches: &ArgMatches, id: &str) -> u32
     matches.get_one::<u32>(id).unwrap_or(0)
 }
 
-// The options of a search with so many retries. They are lawful where they come to no more entries than a journal may have.
+// The options of a search with so many retries. They are lawful where they come to no more entries than a journal may
+// have.
 pub(crate) fn options_in(matches: &ArgMatches, retries: u32) -> Options
     requires options { HasOptions (rows_of (found_of matches.now)) }
     requires retries { retries ≤ MAX_RETRIES }

@@ -76,8 +76,12 @@ pub(crate) fn read_replay<'a>(
     name: &'a str,
     words: &'a [String],
 ) -> Result<Replay<'a>, WordsError>
-    ensures ok { IfOk result (λ r. call_by (replay_app name.entry.now) lawful_replay (map string_bytes words.entry.now) ≡ Some (replay_call r)) }
-    ensures unlawful { IfErr result (λ e. e ≡ WordsError.Unlawful → call_by (replay_app name.entry.now) lawful_replay (map string_bytes words.entry.now) ≡ None) }
+    ensures ok { IfOk result
+        (λ r. call_by (replay_app name.entry.now) lawful_replay (map string_bytes words.entry.now)
+        ≡ Some (replay_call r)) }
+    ensures unlawful { IfErr result
+        (λ e. e ≡ WordsError.Unlawful
+        → call_by (replay_app name.entry.now) lawful_replay (map string_bytes words.entry.now) ≡ None) }
 {
     let matches = matches_in(replay_description(alloc, name)?, words)?;
     lawful_replay(&matches).ok_or(WordsError::Unlawful)

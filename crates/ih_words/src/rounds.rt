@@ -49,9 +49,11 @@ fn lawful_rounds<'a>(matches: &ArgMatches<'a>) -> Option<Rounds<'a>>
 
 // Reads the words of `rounds`.
 pub(crate) fn read_rounds<'a>(alloc: Global, words: &'a [String]) -> Result<Rounds<'a>, WordsError>
-    ensures ok { IfOk result (λ r. call_by rounds_app lawful_rounds (map string_bytes words.entry.now) ≡ Some (rounds_call r)) }
+    ensures ok { IfOk result
+        (λ r. call_by rounds_app lawful_rounds (map string_bytes words.entry.now) ≡ Some (rounds_call r)) }
     ensures lawful { IfOk result AreLawful }
-    ensures unlawful { IfErr result (λ e. e ≡ WordsError.Unlawful → call_by rounds_app lawful_rounds (map string_bytes words.entry.now) ≡ None) }
+    ensures unlawful { IfErr result
+        (λ e. e ≡ WordsError.Unlawful → call_by rounds_app lawful_rounds (map string_bytes words.entry.now) ≡ None) }
 {
     let matches = matches_in(rounds_description(alloc)?, words)?;
     lawful_rounds(&matches).ok_or(WordsError::Unlawful)

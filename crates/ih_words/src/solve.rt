@@ -102,9 +102,11 @@ fn lawful_solve<'a>(matches: &ArgMatches<'a>) -> Option<Solve<'a>>
 
 // Reads the words of `solve`.
 pub(crate) fn read_solve<'a>(alloc: Global, words: &'a [String]) -> Result<Solve<'a>, WordsError>
-    ensures ok { IfOk result (λ s. call_by solve_app lawful_solve (map string_bytes words.entry.now) ≡ Some (solve_call s)) }
+    ensures ok { IfOk result
+        (λ s. call_by solve_app lawful_solve (map string_bytes words.entry.now) ≡ Some (solve_call s)) }
     ensures lawful { IfOk result (λ s. IsLawful s.options) }
-    ensures unlawful { IfErr result (λ e. e ≡ WordsError.Unlawful → call_by solve_app lawful_solve (map string_bytes words.entry.now) ≡ None) }
+    ensures unlawful { IfErr result
+        (λ e. e ≡ WordsError.Unlawful → call_by solve_app lawful_solve (map string_bytes words.entry.now) ≡ None) }
 {
     let matches = matches_in(solve_description(alloc)?, words)?;
     lawful_solve(&matches).ok_or(WordsError::Unlawful)

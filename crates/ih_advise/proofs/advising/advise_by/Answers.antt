@@ -7,5 +7,6 @@ pub returns : goal.returns
 returns g c =
     let F = c.args.scorer.now in
     IfOk-weaker c.gather.result _ _
-    (λ v same. same ∙ all-found c.args.inst.now.draft F.hard F.plan (length c.args.advisers.now) c.subject_count.result c.work.new.advisers c.requires.some c.work.ensures c.subject_count.ensures.count)
+    (λ v same. same ∙ all-found c.args.inst.now.draft F.hard F.plan
+    (length c.args.advisers.now) c.subject_count.result c.work.new.advisers c.requires.some c.work.ensures c.subject_count.ensures.count)
     c.gather.ensures

@@ -1,5 +1,5 @@
 use Rattle.std.proofs.Common.{arith}
-use Rattle.ih_advise.proofs.Numbers.{stay-at, is-nurse}
+use Rattle.ih_advise.proofs.ChoiceNumbers.{stay-at, is-nurse}
 use Rattle.ih_advise.proofs.subjects.subject_at.Goals as goal
 
 pub returns-then-number-patients-clause-subject : goal.returns-then-number-patients-clause-subject

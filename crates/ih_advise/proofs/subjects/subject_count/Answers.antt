@@ -1,5 +1,5 @@
 use Rattle.std.proofs.Common.{sym}
-use Rattle.ih_advise.proofs.Numbers.{subjects-length}
+use Rattle.ih_advise.proofs.ChoiceNumbers.{subjects-length}
 use Rattle.ih_advise.proofs.subjects.subject_count.Goals as goal
 
 pub returns-clause-count : goal.returns-clause-count

@@ -36,7 +36,8 @@ loop-r-preserved c =
           let t = c.args.theatre.0 in
           let second : w.stay.result ≡ valued (stay_value F) (at t) = w.stay.ensures in
           let one : w.cheaper-best.result ≡ valued (stay_value F) (cheapest (stay_value F) c.loop-r.best.write (at t ∷ [])) =
-          cheaper-one (stay_value F) (cheapest (stay_value F) before (flat_map f (rooms_for a r))) (at t) c.loop-r.best w.stay.result w.cheaper-best.result c.loop-r.invariant.least second w.cheaper-best.ensures in
+          cheaper-one (stay_value F) (cheapest (stay_value F) before (flat_map f (rooms_for a r)))
+          (at t) c.loop-r.best w.stay.result w.cheaper-best.result c.loop-r.invariant.least second w.cheaper-best.ensures in
           let found : w.cheaper-best.result ≡ valued (stay_value F) (cheapest (stay_value F) c.loop-r.best.write (f r)) =
           one ∙ ap (valued (stay_value F)) (sym (only-first (stay_value F) c.loop-r.best.write at (theatre_count I) t (c.requires.theatre r))) in
           let below = c.loop-r-test.true in

@@ -20,7 +20,8 @@ loop-later-preserved c =
     let f : ℕ → List Write = λ d. stays_on c.args.inst.now.draft c.args.p a d (room_count c.args.inst.now.draft) in
     let before = c.args.before.write in
     record {
-      least = then-least (stay_value F) before (flat_map f (range_with_len from n)) (f (from + n)) c.loop-later.best c.cheapest_on_day-best.result c.loop-later.invariant.least c.cheapest_on_day-best.ensures.least
+      least = then-least (stay_value F) before (flat_map f (range_with_len from n))
+          (f (from + n)) c.loop-later.best c.cheapest_on_day-best.result c.loop-later.invariant.least c.cheapest_on_day-best.ensures.least
           ∙ ap (λ ws. valued (stay_value F) (cheapest (stay_value F) before ws)) (sym (flat-more f from n (from + n) refl));
       fits = c.cheapest_on_day-best.ensures.fits;
     }

@@ -11,19 +11,23 @@ pub returns-in-Withdraw : goal.returns-in-Withdraw
 returns-in-Withdraw c = gathers-like (λ e range. withdraw-looks c.args.mv.now c.in-Withdraw.p c.in-Withdraw.is e) c.add_cell.ensures
 
 pub add_cell-requires-in-SetDay : goal.add_cell-requires-in-SetDay
-add_cell-requires-in-SetDay c = c.requires (Stay c.in-SetDay.p) (sym (set_day-looks c.args.mv.now c.in-SetDay.p c.in-SetDay.field-1 c.in-SetDay.is (Stay c.in-SetDay.p)) ∙ same_cell-self (Stay c.in-SetDay.p))
+add_cell-requires-in-SetDay c = c.requires (Stay c.in-SetDay.p)
+    (sym (set_day-looks c.args.mv.now c.in-SetDay.p c.in-SetDay.field-1 c.in-SetDay.is (Stay c.in-SetDay.p)) ∙ same_cell-self (Stay c.in-SetDay.p))
 
 pub returns-in-SetDay : goal.returns-in-SetDay
 returns-in-SetDay c = gathers-like (λ e range. set_day-looks c.args.mv.now c.in-SetDay.p c.in-SetDay.field-1 c.in-SetDay.is e) c.add_cell-in-SetDay.ensures
 
 pub add_cell-requires-in-SetRoom : goal.add_cell-requires-in-SetRoom
-add_cell-requires-in-SetRoom c = c.requires (Stay c.in-SetRoom.p) (sym (set_room-looks c.args.mv.now c.in-SetRoom.p c.in-SetRoom.field-1 c.in-SetRoom.is (Stay c.in-SetRoom.p)) ∙ same_cell-self (Stay c.in-SetRoom.p))
+add_cell-requires-in-SetRoom c = c.requires (Stay c.in-SetRoom.p)
+    (sym (set_room-looks c.args.mv.now c.in-SetRoom.p c.in-SetRoom.field-1 c.in-SetRoom.is (Stay c.in-SetRoom.p)) ∙ same_cell-self (Stay c.in-SetRoom.p))
 
 pub returns-in-SetRoom : goal.returns-in-SetRoom
 returns-in-SetRoom c = gathers-like (λ e range. set_room-looks c.args.mv.now c.in-SetRoom.p c.in-SetRoom.field-1 c.in-SetRoom.is e) c.add_cell-in-SetRoom.ensures
 
 pub add_cell-requires-in-SetTheatre : goal.add_cell-requires-in-SetTheatre
-add_cell-requires-in-SetTheatre c = c.requires (Stay c.in-SetTheatre.p) (sym (set_theatre-looks c.args.mv.now c.in-SetTheatre.p c.in-SetTheatre.field-1 c.in-SetTheatre.is (Stay c.in-SetTheatre.p)) ∙ same_cell-self (Stay c.in-SetTheatre.p))
+add_cell-requires-in-SetTheatre c = c.requires (Stay c.in-SetTheatre.p)
+    (sym (set_theatre-looks c.args.mv.now c.in-SetTheatre.p c.in-SetTheatre.field-1 c.in-SetTheatre.is (Stay c.in-SetTheatre.p))
+    ∙ same_cell-self (Stay c.in-SetTheatre.p))
 
 pub returns-in-SetTheatre : goal.returns-in-SetTheatre
 returns-in-SetTheatre c = gathers-like (λ e range. set_theatre-looks c.args.mv.now c.in-SetTheatre.p c.in-SetTheatre.field-1 c.in-SetTheatre.is e) c.add_cell-in-SetTheatre.ensures

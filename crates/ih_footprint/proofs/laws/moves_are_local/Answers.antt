@@ -1,4 +1,4 @@
-use Rattle.ih_footprint.proofs.Prices.{move_is_local}
+use Rattle.ih_footprint.proofs.LocalPrices.{move_is_local}
 use Rattle.ih_footprint.proofs.laws.moves_are_local.Goals as goal
 
 pub returns : goal.returns

@@ -11,4 +11,5 @@ pub returns-clause-read : goal.returns-clause-read
 returns-clause-read c =
     let number = c.args.number in
     let shallow : depth (generated_data number) ≤ max_depth = (let five = generated-depth number in omega (arith, five)) in
-    if_ok_both c.to_vec.result _ _ _ (λ v utf8 same. (generated_draft number, reads-back number v.items utf8 (same shallow))) c.to_vec.ensures.utf8 (rw c.in_ok-generated_value.ensures at c.to_vec.ensures.reads_back)
+    if_ok_both c.to_vec.result _ _ _ (λ v utf8 same. (generated_draft number, reads-back number v.items utf8 (same shallow))) c.to_vec.ensures.utf8
+    (rw c.in_ok-generated_value.ensures at c.to_vec.ensures.reads_back)

@@ -5,7 +5,9 @@ use Rattle.ih_history.proofs.journals.put_lines.Goals as goal
 pub loop-entry-preserved : goal.loop-entry-preserved
 loop-entry-preserved c = record {
   place = let here = c.loop-entry.invariant.place in omega arith;
-  rest = rw c.in_ok-put.ensures.ok (next-line c.args.options.now c.loop-entry.out.items c.args.entries.now c.loop-entry.place c.loop-entry.entry-index _ c.loop-entry-test.true ∙ c.loop-entry.invariant.rest);
+  rest = rw c.in_ok-put.ensures.ok
+      (next-line c.args.options.now c.loop-entry.out.items c.args.entries.now c.loop-entry.place c.loop-entry.entry-index _ c.loop-entry-test.true
+      ∙ c.loop-entry.invariant.rest);
 }
 
 pub returns : goal.returns

@@ -16,7 +16,11 @@ returns-in_err-n-clause-none c =
 pub returns-then-n-most-clause-some : goal.returns-then-n-most-clause-some
 returns-then-n-most-clause-some c =
     let no_zero : get_or c.args.bytes.now 0 0 ≡ 48 → length c.args.bytes.now ≡ 1 = λ first.
-    elim c.else-bytes-gt1.branch [ else-bytes-gt1-via-then-bytes-gt1+else-bytes-eq48 w ↦ absurd (w.if-bytes-eq48.false first) | else-bytes-gt1-via-else-bytes-gt1 w ↦ let some = c.in_ok-n.ensures.some.0.0 in omega arith ] in
+    elim c.else-bytes-gt1.branch [
+      | else-bytes-gt1-via-then-bytes-gt1+else-bytes-eq48 w ↦ absurd
+          (w.if-bytes-eq48.false first)
+      | else-bytes-gt1-via-else-bytes-gt1 w ↦ let some = c.in_ok-n.ensures.some.0.0 in omega arith
+    ] in
     (omega arith, number_text c.args.bytes.now c.in_ok-n.n c.in_ok-n.ensures.some.0 c.in_ok-n.ensures.some.1 (omega arith) no_zero)
 
 pub returns-else-n-most-clause-none : goal.returns-else-n-most-clause-none

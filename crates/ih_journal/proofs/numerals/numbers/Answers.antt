@@ -1,6 +1,6 @@
 use Rattle.std.proofs.Common.{arith, ◌<◌, ◌≤◌, ◌^◌, ◌∙◌, sym, length, take, decimal}
 use Rattle.std.proofs.lemmas.Grind.{common_steps}
-use Rattle.ih_journal.proofs.Numbers.{not_texts, too_many}
+use Rattle.ih_journal.proofs.NumberLists.{not_texts, too_many}
 use Rattle.ih_journal.proofs.Separators.{parted_some}
 use Rattle.ih_journal.proofs.numerals.numbers.Goals as goal
 

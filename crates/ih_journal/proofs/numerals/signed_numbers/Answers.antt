@@ -2,7 +2,7 @@ use Rattle.std.proofs.Common.{arith, ◌≤◌, ◌∙◌, sym, length, take}
 use Rattle.std.specs.Fmt.{signed_decimal}
 use Rattle.std.proofs.lemmas.Grind.{common_steps}
 use Rattle.ih_journal.specs.Pieces.{IsSmall}
-use Rattle.ih_journal.proofs.Numbers.{not_texts, too_many}
+use Rattle.ih_journal.proofs.NumberLists.{not_texts, too_many}
 use Rattle.ih_journal.proofs.Separators.{parted_some}
 use Rattle.ih_journal.proofs.numerals.signed_numbers.Goals as goal
 

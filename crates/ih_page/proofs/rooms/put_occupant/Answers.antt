@@ -12,5 +12,6 @@ returns c =
     let told = λ (t : List ℕ). c.put_numbered.new.out.items ++ person_cells c.args.inst.now.draft t a.age_group in
     let barred = λ (n : ℕ). c.put.new.out.items ++ bar_text n 0 a.length_of_stay in
     on_ok_weaker c.put_bar.result
-    (λ d. joins4 _ _ _ _ _ _ _ _ _ (c.in_ok-put_numbered.ensures ∙ ap named c.as_str.ensures) (c.in_ok-put_person.ensures ∙ ap told c.as_str-2.ensures) c.in_ok-put.ensures (d ∙ ap barred c.days.ensures))
+    (λ d. joins4 _ _ _ _ _ _ _ _ _ (c.in_ok-put_numbered.ensures ∙ ap named c.as_str.ensures)
+    (c.in_ok-put_person.ensures ∙ ap told c.as_str-2.ensures) c.in_ok-put.ensures (d ∙ ap barred c.days.ensures))
     c.put_bar.ensures

@@ -42,7 +42,9 @@ loop-n-preserved c =
           let more : map f (which_below (n + 1) works) ≡ behind ++ f n ∷ [] = which-more f n works (answered ∙ w.if-is_some.true) in
           let sum = w.look.ensures.passed in
           record {
-            looked = rw (w.share-is, more) (w.look.ensures.looked I v behind (f n) before.looked w.care.ensures (care-fits I c.args.r c.args.k (record { 0 = n }) c.requires.room c.requires.shift inside));
+            looked = rw (w.share-is, more)
+                (w.look.ensures.looked I v behind (f n) before.looked w.care.ensures
+                (care-fits I c.args.r c.args.k (record { 0 = n }) c.requires.room c.requires.shift inside));
             passed = rw w.share-is (omega (arith, passed, sum));
             workers = rw w.share-is (w.look.ensures.workers ∙ before.workers);
             worker = rw w.share-is (w.look.ensures.worker ∙ before.worker);

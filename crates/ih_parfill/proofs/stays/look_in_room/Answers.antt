@@ -8,7 +8,7 @@ use Rattle.ih_fill.specs.Scoring.{stay_value}
 use Rattle.ih_fill.proofs.CandidateLemmas.{stay-fits}
 use Rattle.ih_parfill.specs.Shares.{HasLooked}
 use Rattle.ih_parfill.specs.declared.shares.Share.{Share}
-use Rattle.ih_parfill.proofs.Lists.{one-more}
+use Rattle.ih_parfill.proofs.CandidateLists.{one-more}
 use Rattle.ih_parfill.proofs.stays.look_in_room.Goals as goal
 use Rattle.ih_parfill.proofs.stays.look_in_room.Goals.{then-is_own, else-is_own}
 

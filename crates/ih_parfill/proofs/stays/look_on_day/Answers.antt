@@ -6,7 +6,7 @@ use Rattle.ih_fill.specs.Candidates.{stays_in, stays_on}
 use Rattle.ih_fill.specs.Scoring.{stay_value}
 use Rattle.ih_fill.proofs.ListLemmas.{suits}
 use Rattle.ih_parfill.specs.Shares.{HasLooked}
-use Rattle.ih_parfill.proofs.Lists.{room-more, room-same}
+use Rattle.ih_parfill.proofs.CandidateLists.{room-more, room-same}
 use Rattle.ih_parfill.proofs.stays.look_on_day.Goals as goal
 use Rattle.ih_parfill.proofs.stays.look_on_day.Goals.{then-suits, else-suits}
 

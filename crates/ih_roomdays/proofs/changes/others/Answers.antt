@@ -1,7 +1,7 @@
 use Rattle.std.proofs.Common.{◌∙◌, sym, subst}
 use Rattle.ih_roomdays.specs.Company.{IsCompany, IsCrowd}
 use Rattle.ih_roomdays.specs.Rows.{persons_at}
-use Rattle.ih_roomdays.proofs.Others.{own-part, rest-all}
+use Rattle.ih_roomdays.proofs.OtherPersons.{own-part, rest-all}
 use Rattle.ih_roomdays.proofs.People.{crowd-read}
 use Rattle.ih_roomdays.proofs.changes.others.Goals as goal
 

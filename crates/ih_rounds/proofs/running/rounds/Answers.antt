@@ -28,5 +28,6 @@ returns-clause-ends g c =
     let count = c.loop-round.auto.round-end in
     let ended = c.loop-round-test.false in
     let same : c.loop-round.round ≡ c.args.rounds = omega (arith, count, ended) in
-    come-all (base_with c.args.inst.now.draft c.args.start.now c.args.options.now 0) c.loop-round.round c.args.rounds (g.S.Searcher.answers c.args.searcher.now) (g.S.Searcher.answers c.loop-round.searcher)
+    come-all (base_with c.args.inst.now.draft c.args.start.now c.args.options.now 0) c.loop-round.round c.args.rounds (g.S.Searcher.answers c.args.searcher.now)
+    (g.S.Searcher.answers c.loop-round.searcher)
     c.args.journal.now.items c.loop-round.journal.items c.loop-round.best c.loop-round.next c.end_with.result same c.loop-round.invariant.come c.end_with.ensures

@@ -11,4 +11,5 @@ returns-clause-read_back c =
     let I = c.args.inst.now.draft in
     let P = c.args.plan.now in
     let shallow : depth (solution_data I P) ≤ max_depth = (let six = solution-depth I P in omega (arith, six)) in
-    if_ok_both c.to_vec.result _ _ _ (λ v utf8 same. reads-back I P v.items c.args.inst.now.valid c.requires utf8 (same shallow)) c.to_vec.ensures.utf8 (rw c.in_ok-solution_value.ensures at c.to_vec.ensures.reads_back)
+    if_ok_both c.to_vec.result _ _ _ (λ v utf8 same. reads-back I P v.items c.args.inst.now.valid c.requires utf8 (same shallow)) c.to_vec.ensures.utf8
+    (rw c.in_ok-solution_value.ensures at c.to_vec.ensures.reads_back)

@@ -1,7 +1,7 @@
 use Rattle.std.proofs.Common.{◌∙◌, ap, nat_lt}
 use Rattle.ih_links.specs.Lists.{has, list_of}
 use Rattle.ih_plan.specs.Sums.{bit}
-use Rattle.ih_theatres.proofs.OtherLemmas.{others-there}
+use Rattle.ih_theatres.proofs.OtherPatients.{others-there}
 use Rattle.ih_theatres.proofs.changes.is_used_by_others.Goals as goal
 
 pub returns : goal.returns

@@ -1,5 +1,5 @@
 use Rattle.std.proofs.Common.{◌∙◌, arith, sym}
-use Rattle.ih_theatres.proofs.OtherLemmas.{minutes-there, minutes-away}
+use Rattle.ih_theatres.proofs.OtherPatients.{minutes-there, minutes-away}
 use Rattle.ih_theatres.proofs.Told.{duration-is}
 use Rattle.ih_theatres.proofs.changes.minutes_but.Goals as goal
 

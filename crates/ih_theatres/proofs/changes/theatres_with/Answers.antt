@@ -3,7 +3,7 @@ use Rattle.std.specs.Prelude.{option_map}
 use Rattle.ih_plan.specs.declared.moves.Placement.{Placement}
 use Rattle.ih_plan.specs.Sums.{bit, count_below}
 use Rattle.ih_theatres.specs.Marks.{is_marked}
-use Rattle.ih_theatres.proofs.OtherLemmas.{count-more, theatre-inside}
+use Rattle.ih_theatres.proofs.OtherPatients.{count-more, theatre-inside}
 use Rattle.ih_theatres.proofs.changes.theatres_with.Goals as goal
 
 pub returns-clause-count : goal.returns-clause-count

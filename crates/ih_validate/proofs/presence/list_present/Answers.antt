@@ -20,5 +20,6 @@ push-requires c =
 pub returns : goal.returns
 returns c =
     c.loop-x.invariant.listed
-    ∙ filter-whole (is_present c.args.inst.now.draft c.args.plan.now c.args.r.0 c.args.d) c.args.residents.now (residents_of c.args.inst.now.draft c.args.plan.now c.args.r.0) c.loop-x.x-index c.loop-x-test.false c.requires.residents
+    ∙ filter-whole (is_present c.args.inst.now.draft c.args.plan.now c.args.r.0 c.args.d) c.args.residents.now
+    (residents_of c.args.inst.now.draft c.args.plan.now c.args.r.0) c.loop-x.x-index c.loop-x-test.false c.requires.residents
     ∙ present-residents c.args.inst.now.draft c.args.plan.now c.args.r.0 c.args.d

@@ -18,12 +18,14 @@ loop-d-init c = rw c.nothing-costs.ensures (record {
 
 pub genders_differ-requires : goal.genders_differ-requires
 genders_differ-requires c =
-    All-same (λ x. x < person_count c.args.inst.now.draft) c.as_slice-here.result.now (present c.args.inst.now.draft c.args.plan.now c.args.r.0 c.loop-d.d) (c.as_slice-here.ensures.value ∙ c.list_present.ensures)
+    All-same (λ x. x < person_count c.args.inst.now.draft) c.as_slice-here.result.now (present c.args.inst.now.draft c.args.plan.now c.args.r.0 c.loop-d.d)
+    (c.as_slice-here.ensures.value ∙ c.list_present.ensures)
     (present-persons c.args.inst.now.draft c.args.plan.now c.args.r.0 c.loop-d.d)
 
 pub age_spread-requires : goal.age_spread-requires
 age_spread-requires c =
-    All-same (λ x. x < person_count c.args.inst.now.draft) c.as_slice-here.result.now (present c.args.inst.now.draft c.args.plan.now c.args.r.0 c.loop-d.d) (c.as_slice-here.ensures.value ∙ c.list_present.ensures)
+    All-same (λ x. x < person_count c.args.inst.now.draft) c.as_slice-here.result.now (present c.args.inst.now.draft c.args.plan.now c.args.r.0 c.loop-d.d)
+    (c.as_slice-here.ensures.value ∙ c.list_present.ensures)
     (present-persons c.args.inst.now.draft c.args.plan.now c.args.r.0 c.loop-d.d)
 
 pub loop-d-preserved : goal.loop-d-preserved

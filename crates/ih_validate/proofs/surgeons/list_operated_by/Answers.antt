@@ -21,5 +21,6 @@ push-requires c =
 pub returns : goal.returns
 returns c =
     c.loop-p.invariant.listed
-    ∙ filter-whole (λ p. is_number (surgeon_of c.args.inst.now.draft p) c.args.s.0 && admitted_on c.args.d (stay_of c.args.plan.now p)) c.args.among.now (surgeon_patients c.args.inst.now.draft c.args.s.0) c.loop-p.p-index c.loop-p-test.false c.requires.among
+    ∙ filter-whole (λ p. is_number (surgeon_of c.args.inst.now.draft p) c.args.s.0 && admitted_on c.args.d (stay_of c.args.plan.now p)) c.args.among.now
+    (surgeon_patients c.args.inst.now.draft c.args.s.0) c.loop-p.p-index c.loop-p-test.false c.requires.among
     ∙ operated_by-among c.args.inst.now.draft c.args.plan.now c.args.s.0 c.args.d

@@ -21,5 +21,6 @@ push-requires c =
 pub returns : goal.returns
 returns c =
     c.loop-p.invariant.listed
-    ∙ filter-whole (λ p. operated_in c.args.t.0 c.args.d (stay_of c.args.plan.now p)) c.args.among.now (theatre_patients c.args.inst.now.draft c.args.plan.now c.args.t.0) c.loop-p.p-index c.loop-p-test.false c.requires.among
+    ∙ filter-whole (λ p. operated_in c.args.t.0 c.args.d (stay_of c.args.plan.now p)) c.args.among.now
+    (theatre_patients c.args.inst.now.draft c.args.plan.now c.args.t.0) c.loop-p.p-index c.loop-p-test.false c.requires.among
     ∙ operated-among c.args.inst.now.draft c.args.plan.now c.args.t.0 c.args.d

@@ -1,6 +1,6 @@
 use Rattle.std.proofs.Common.{◌∙◌, sym, subst}
 use Rattle.ih_roomdays.specs.Ledger.{IsLedgerOf}
-use Rattle.ih_roomdays.proofs.Others.{was-at}
+use Rattle.ih_roomdays.proofs.OtherPersons.{was-at}
 use Rattle.ih_roomdays.proofs.GainLemmas.{gain-is}
 use Rattle.ih_roomdays.proofs.room_days.RoomDays.day_gain.Goals as goal
 

@@ -10,7 +10,8 @@ pub returns-in_err-row-clause-gives : goal.returns-in_err-row-clause-gives
 returns-in_err-row-clause-gives c =
     let here : c.loop-value.i ≡ c.loop-value.value-index = c.loop-value.invariant.1 in
     let p = err_from_is_err_and c.from_residual-in_err-row.result c.from_residual-in_err-row.ensures.1 in
-    rw (p.1, p.2) (are_nursed-exit _ c.value-item.result c.in_err-row.field-0.0 c.loop-value.invariant.0 c.loop-value-test.true c.value-item.is (rw (← here, ← c.item.ensures, ← c.as_slice.ensures.value) c.in_err-row.ensures.gives))
+    rw (p.1, p.2) (are_nursed-exit _ c.value-item.result c.in_err-row.field-0.0 c.loop-value.invariant.0 c.loop-value-test.true c.value-item.is
+    (rw (← here, ← c.item.ensures, ← c.as_slice.ensures.value) c.in_err-row.ensures.gives))
 
 pub loop-value-preserved : goal.loop-value-preserved
 loop-value-preserved c =

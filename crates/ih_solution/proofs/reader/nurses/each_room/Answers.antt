@@ -7,4 +7,5 @@ pub returns-in_err-free_room-clause-gives : goal.returns-in_err-free_room-clause
 returns-in_err-free_room-clause-gives c =
     let here : c.loop-value.i ≡ c.loop-value.value-index = c.loop-value.invariant.2 in
     let p = err_from_is_err_and c.from_residual.result c.from_residual.ensures.1 in
-    rw (p.1, p.2) (are_read-fault c.value-item.result c.in_err-free_room.field-0.0 c.loop-value.invariant.0 c.loop-value-test.true c.value-item.is (rw (← here, ← c.item.ensures) (sym c.in_err-free_room.ensures.gives)))
+    rw (p.1, p.2) (are_read-fault c.value-item.result c.in_err-free_room.field-0.0 c.loop-value.invariant.0 c.loop-value-test.true c.value-item.is
+    (rw (← here, ← c.item.ensures) (sym c.in_err-free_room.ensures.gives)))

@@ -18,9 +18,12 @@ fetch_add-requires g c = let h = c.args.self.holder in let key = h.turn.now.tabl
 
 pub invariant_of-result : goal.invariant_of-result
 invariant_of-result g c = let h = c.args.self.holder in let v = h.token.me.0 in let b = c.args.self.value in let maker = g.B.Kept.maker in let xs = g.B.Kept.entries b in
-    let adds : AddsAtMostOne maker v.number v.seen xs = subst (λ n. AddsAtMostOne maker n v.seen xs) h.number_is c.requires.list in let more = more_count maker v.number v.start v.seen xs h.serves.long adds in let long = h.serves.long in let longer = more.0 in
+    let adds : AddsAtMostOne maker v.number v.seen xs = subst
+    (λ n. AddsAtMostOne maker n v.seen xs) h.number_is c.requires.list in let more = more_count maker v.number v.start v.seen xs h.serves.long adds in let long = h.serves.long in let longer = more.0 in
     let e = c.exchange-gone.ensures.3 ∙ ap (λ l. (v, (0, Some b) ∷ rest l)) h.out in let gone = c.fetch_add.ensures.2 b (ap (λ m. m.1) e) in
-    let w : c.fetch_add.new.seat.me.0 ≡ passed v xs = ap (λ m. m.0) gone ∙ ap (λ m. passed m.0 xs) e in let seen = h.seen_is in let now = c.len-now.ensures in let made = h.made_is in let counted = more.1 in record {
+    let w : c.fetch_add.new.seat.me.0
+    ≡ passed v xs = ap (λ m. m.0) gone
+    ∙ ap (λ m. passed m.0 xs) e in let seen = h.seen_is in let now = c.len-now.ensures in let made = h.made_is in let counted = more.1 in record {
       empty = ap (λ m. m.1) gone;
       rests = subst (λ z. Rests z) (sym w) record { whole = h.serves.whole; free = refl; idle = refl; alone = h.serves.alone; long = omega arith };
       number_is = h.number_is ∙ ap (λ z. z.number) (sym w);

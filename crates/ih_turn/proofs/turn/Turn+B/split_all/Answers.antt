@@ -13,8 +13,12 @@ loop-number-preserved g c = let inv = c.loop-number.invariant in let r : ℕ = i
       told.token.2 ∙ (ap (λ m. (left_view m.0, [])) inv.4 ∙ ap (λ z. (root_view entries base value z (n + 1) turns, [])) (one_less r turns (omega arith))),
       omega arith,
       c.push_reserved.ensures.capacity ∙ inv.6,
-      subst (λ l. AreNumberedFromOne (λ s. s.number) (λ s. (s.token.table_id ≡ c.args.self.now.table.shared.table_id) × (s.token.me.0 ≡ seat_view entries base value s.number turns) × (made_by g.B.Kept.maker s.token.me.0 ≡ 0) × (s.left ≡ turns)) l) (sym c.push_reserved.ensures.items)
-          (one_more_numbered (λ s. s.number) (λ s. (s.token.table_id ≡ c.args.self.now.table.shared.table_id) × (s.token.me.0 ≡ seat_view entries base value s.number turns) × (made_by g.B.Kept.maker s.token.me.0 ≡ 0) × (s.left ≡ turns)) row.items next inv.7
+      subst (λ l. AreNumberedFromOne (λ s. s.number)
+          (λ s. (s.token.table_id ≡ c.args.self.now.table.shared.table_id) × (s.token.me.0 ≡ seat_view entries base value s.number turns)
+          × (made_by g.B.Kept.maker s.token.me.0 ≡ 0) × (s.left ≡ turns)) l) (sym c.push_reserved.ensures.items)
+          (one_more_numbered (λ s. s.number)
+          (λ s. (s.token.table_id ≡ c.args.self.now.table.shared.table_id) × (s.token.me.0 ≡ seat_view entries base value s.number turns)
+          × (made_by g.B.Kept.maker s.token.me.0 ≡ 0) × (s.left ≡ turns)) row.items next inv.7
           (told.seat.2 ∙ (let e : n ≡ length row.items + 1 = omega arith in e))
           (told.seat.0 ∙ (inv.2 ∙ c.requires.own.0), told.seat.1 ∙ (ap (λ m. right_view m.0) inv.4 ∙ ap (λ z. seat_view entries base value z turns) (sym told.seat.2)), told.seat.3, told.seat.4)),
     )

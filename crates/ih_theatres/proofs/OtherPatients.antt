@@ -19,7 +19,7 @@ use Rattle.ih_plan.specs.Timetable.{Timetable, IsPlanOf, stay_of}
 use Rattle.ih_plan.specs.Sums.{bit, count_below, which_below}
 use Rattle.ih_plan.specs.Cells.{part_at, part_of, content_of}
 use Rattle.ih_plan.specs.Costs.{operated, operated_by, operated_in, admitted_on, is_number, surgeon_of, minutes, duration_of, is_empty, theatre_minutes, surgeon_minutes, theatre_of, theatres_used}
-use Rattle.ih_plan.proofs.Lists.{tagged-keys, tagged-values}
+use Rattle.ih_plan.proofs.ListedBelow.{tagged-keys, tagged-values}
 use Rattle.ih_plan.proofs.SumLemmas.{sum_below-same, sum_below-but}
 use Rattle.ih_theatres.specs.declared.theatres.Theatres.{Theatres}
 use Rattle.ih_theatres.specs.Days.{day_number, theatre_at}

@@ -49,7 +49,8 @@ room_sound names p d x h =
     let o = bind_ok (object p d) _ x h in
     let i = bind_ok (under p d keys.Id (new_name (number_in names))) _ x o.2 in
     let c = bind_ok (under p d keys.Capacity (number 0 1000)) _ x i.2 in
-    subst (λ (r : Room). (IsName r.id × (number_in names r.id ≡ None)) × (r.capacity ≤ 1000)) (ok_is _ x c.2) (key_id (number_in names) p d keys.Id i.0 i.1, (key_number 0 1000 p d keys.Capacity c.0 c.1).most)
+    subst (λ (r : Room). (IsName r.id × (number_in names r.id ≡ None)) × (r.capacity ≤ 1000)) (ok_is _ x c.2)
+    (key_id (number_in names) p d keys.Id i.0 i.1, (key_number 0 1000 p d keys.Capacity c.0 c.1).most)
 
 pub surgeon_sound : (days : ℕ) → Rows (λ (s : Surgeon). s.id) (λ s. IsVector days 100000 s.max_surgery_time) (surgeon days)
 unfolding surgeon
@@ -57,7 +58,8 @@ surgeon_sound days names p d x h =
     let o = bind_ok (object p d) _ x h in
     let i = bind_ok (under p d keys.Id (new_name (number_in names))) _ x o.2 in
     let m = bind_ok (under p d keys.MaxSurgeryTime (vector days 100000)) _ x i.2 in
-    subst (λ (s : Surgeon). (IsName s.id × (number_in names s.id ≡ None)) × IsVector days 100000 s.max_surgery_time) (ok_is _ x m.2) (key_id (number_in names) p d keys.Id i.0 i.1, key_vector days 100000 p d keys.MaxSurgeryTime m.0 m.1)
+    subst (λ (s : Surgeon). (IsName s.id × (number_in names s.id ≡ None)) × IsVector days 100000 s.max_surgery_time) (ok_is _ x m.2)
+    (key_id (number_in names) p d keys.Id i.0 i.1, key_vector days 100000 p d keys.MaxSurgeryTime m.0 m.1)
 
 pub theatre_sound : (days : ℕ) → Rows (λ (t : Theatre). t.id) (λ t. IsVector days 100000 t.availability) (theatre days)
 unfolding theatre
@@ -65,7 +67,8 @@ theatre_sound days names p d x h =
     let o = bind_ok (object p d) _ x h in
     let i = bind_ok (under p d keys.Id (new_name (number_in names))) _ x o.2 in
     let m = bind_ok (under p d keys.Availability (vector days 100000)) _ x i.2 in
-    subst (λ (t : Theatre). (IsName t.id × (number_in names t.id ≡ None)) × IsVector days 100000 t.availability) (ok_is _ x m.2) (key_id (number_in names) p d keys.Id i.0 i.1, key_vector days 100000 p d keys.Availability m.0 m.1)
+    subst (λ (t : Theatre). (IsName t.id × (number_in names t.id ≡ None)) × IsVector days 100000 t.availability) (ok_is _ x m.2)
+    (key_id (number_in names) p d keys.Id i.0 i.1, key_vector days 100000 p d keys.Availability m.0 m.1)
 
 pub occupant_sound : (I : Draft) → Rows (λ (o : Occupant). o.id) (IsOccupant I) (occupant I.days (number_in I.age_groups) (number_in (names_of_rooms I.rooms)))
 unfolding occupant
@@ -95,7 +98,9 @@ unworked : (ws : List WorkedShift) (k : ℕ) → is_worked ws k ≡ false → (j
 unworked [] k h j d l = absurd (omega arith)
 unworked (w ∷ ws) k h j d l = here (shift_of w == k) (Decides-eqb (shift_of w) k) h (λ e. unworked ws k e) j l
   where
-    here : (b : Bool) → Decides b (shift_of w ≡ k) → is_some (if b then Some w.max_load else load_in ws k) ≡ false → (is_worked ws k ≡ false → (j : ℕ) (d : WorkedShift) → j < length ws → shift_of (get_or ws j d) ≢ k) → (j : ℕ) → j < suc (length ws) → shift_of (get_or (w ∷ ws) j d) ≢ k
+    here : (b : Bool) → Decides b (shift_of w ≡ k) → is_some (if b then Some w.max_load else load_in ws k) ≡ false
+        → (is_worked ws k ≡ false → (j : ℕ) (d : WorkedShift) → j < length ws → shift_of (get_or ws j d) ≢ k) → (j : ℕ) → j < suc (length ws)
+        → shift_of (get_or (w ∷ ws) j d) ≢ k
     here true t h f j l = absurd (let no : true ≡ false = h in cc)
     here false t h f zero l = λ e. absurd (let no : false ≡ true = t.1 e in cc)
     here false t h f (suc j) l = f h j d (omega arith)
@@ -104,7 +109,8 @@ not_true : (b : Bool) → not b ≡ true → b ≡ false
 not_true true h = absurd (let no : false ≡ true = h in cc)
 not_true false h = refl
 
-worked_sound : (I : Draft) → 1 ≤ I.days → length I.shift_types ≤ 3 → (before : List WorkedShift) (p : Place) (d : Data) (x : WorkedShift) → worked I.days (number_in I.shift_types) (is_worked before) p d ≡ Ok x → IsWorked I x × (is_worked before (shift_of x) ≡ false)
+worked_sound : (I : Draft) → 1 ≤ I.days → length I.shift_types ≤ 3 → (before : List WorkedShift) (p : Place) (d : Data) (x : WorkedShift)
+    → worked I.days (number_in I.shift_types) (is_worked before) p d ≡ Ok x → IsWorked I x × (is_worked before (shift_of x) ≡ false)
 unfolding worked
 worked_sound I some three before p d x h =
     let o = bind_ok (object p d) _ x h in
@@ -164,7 +170,12 @@ due_sound true p d o h =
     let n = key_number 0 1000 p d keys.SurgeryDueDay a.0 a.1 in
     subst (IsDue true) (ok_is (Some a.0) o a.2) (record { has = (λ e. refl, λ e. refl); small = λ j e. let same : a.0 ≡ j = cc in omega (arith, n.most) })
 due_sound false p d o h =
-    subst (IsDue false) (ok_is None o h) (record { has = (λ e. absurd (let no : false ≡ true = e in cc), λ e. absurd (let no : false ≡ true = e in cc)); small = λ n e. absurd (let no : None ≡ Some n = e in cc) })
+    subst (IsDue false) (ok_is None o h)
+    (record {
+      has = (λ e. absurd (let no : false ≡ true = e in cc), λ e. absurd (let no : false ≡ true = e in cc));
+      small = λ n e. absurd
+          (let no : None ≡ Some n = e in cc);
+    })
 
 record AreRooms (rooms : List (List ℕ)) (rs : List RoomNo) : Type 0 where
   pub few : length rs ≤ 1024

@@ -21,7 +21,7 @@ use Rattle.ih_plan.proofs.SumLemmas.{sum_below-same, sum_by-which_below}
 use Rattle.ih_plan.proofs.SumBounds.{sum_below-add}
 use Rattle.ih_footprint.specs.Laws.{AreSameOn}
 use Rattle.ih_footprint.specs.Laws.{IsLocal}
-use Rattle.ih_plan.proofs.Lists.{has, which_below-same}
+use Rattle.ih_plan.proofs.ListedBelow.{has, which_below-same}
 use Rattle.ih_plan.proofs.PlanRanges.{has-range}
 use Rattle.ih_footprint.proofs.Locality.{local_move, frame_move}
 use Rattle.ih_footprint.proofs.Ranked.{cell_in-in}

@@ -14,8 +14,8 @@ use Rattle.ih_plan.specs.Draws.{drawn, state_after, stream_state, word_at, move_
 use Rattle.ih_plan.specs.Cells.{cell_in, cell_at, cell_count, number_of, HasParts, content_of, part_of}
 use Rattle.ih_plan.specs.Footprint.{footprint, touches, writes_touch, in_placement, in_choice, looks_at}
 use Rattle.ih_plan.specs.BillOf.{change_of_bill}
-use Rattle.ih_plan.proofs.Base.{one_room, two_patients, first_admitted, first_admitted_with, at, bill9, weights}
-use Rattle.ih_plan.proofs.Rows.{plan_on_literals}
+use Rattle.ih_plan.proofs.ExampleWards.{one_room, two_patients, first_admitted, first_admitted_with, at, bill9, weights}
+use Rattle.ih_plan.proofs.BillExamples.{plan_on_literals}
 
 unfoldable pub draws_on_literals : ⊤
 unfolding drawn state_after stream_state move_of which_below fill_bytes stream_of word_bytes u32_at
