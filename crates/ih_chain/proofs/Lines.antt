@@ -34,7 +34,7 @@ line-pieces old k e =
     spaced old (decimal k) (decimal e.worker) (decimal e.number) (decimal e.seen) (chain_text e.moves) (price_text e.price)
     (verdict_text e.verdict)
 
--- what a list holds after a call that adds to it, or answers want of memory
+-- what a list holds after a call that adds to it, or answers lack of memory
 pub where-ok : {A E : Type 0} (r : Result A E) (new more old : List ℕ) → new ≡ (if is_ok r then more else old) → OnOk r (new ≡ more)
 where-ok (Ok v) new more old h = h
 where-ok (Err e) new more old h = tt

@@ -27,7 +27,7 @@ fn heading_made(alloc: Global, o: &Options, length: u32) -> Result<String, Alloc
     Ok(made)
 }
 
-/// Appends the heading of a journal of chains of this length, with its line feed. After want of memory `out` holds what
+/// Appends the heading of a journal of chains of this length, with its line feed. Where memory runs out, `out` holds what
 /// it held, followed by a prefix of that line.
 #[tactic(auto, using(ih_journal::proofs::Parts::part_none))]
 pub fn chain_head_line(o: &Options, length: u32, out: &mut Vec<u8>) -> Result<(), AllocError>
@@ -49,7 +49,7 @@ fn put_behind(moves: &[Move], out: &mut Vec<u8>) -> Result<(), AllocError>
     Ok(())
 }
 
-/// Appends the moves of a chain, parted by semicolons. After want of memory an unknown text stands behind what was
+/// Appends the moves of a chain, parted by semicolons. Where memory runs out, an unknown text stands behind what was
 /// there.
 pub fn chain_text(chain: &Chain, out: &mut Vec<u8>) -> Result<(), AllocError>
     ensures { OnOk result (out.new.items ≡ out.old.items ++ chain_text chain.now) }
@@ -71,7 +71,7 @@ fn put_field(n: u32, out: &mut Vec<u8>) -> Result<(), AllocError>
     out.extend_from_slice(b" ")
 }
 
-/// Appends the line of the entry at a place, with its line feed. After want of memory an unknown text stands behind what
+/// Appends the line of the entry at a place, with its line feed. Where memory runs out, an unknown text stands behind what
 /// was there.
 pub fn chain_line(place: u32, entry: &ChainEntry, out: &mut Vec<u8>) -> Result<(), AllocError>
     ensures { OnOk result (out.new.items ≡ out.old.items ++ ended (chain_line place entry.now)) }

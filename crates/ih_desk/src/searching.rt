@@ -121,7 +121,7 @@ where
 }
 
 /// The whole search by attempts of so many moves, as a book with a full history. Between its opening and its end no
-/// call answers want of memory.
+/// call answers lack of memory.
 pub fn search<'a, C: Opens<'a> + Send, R: Threads + Wait + Sync, G: Gate>(
     rt: &R,
     alloc: Global,

@@ -345,7 +345,7 @@ out-apart words (advise a) h = tt
 out-apart words (gen g) h = tt
 out-apart words (demo number) h = tt
 
--- ---- want of memory before anything is done
+-- ---- lack of memory before anything is done
 
 unwritten : (name bytes : List ℕ) (files : Option Names) → Told (MayBeWritten name bytes) files files
 unwritten name bytes None = tt

@@ -51,7 +51,7 @@ module _ (files : Names) (r : Reading) (I : Draft) (P : Timetable) (has : HasInp
       let here : I ≡ J = cc in
       subst (λ (X : Draft). HasSolution name X P files) here (subst (λ o. HasPlan (Some files) o I P) next.named has.plan)
 
-  -- only a fault or want of memory stops the reading
+  -- only a fault or lack of memory stops the reading
   pub accepted : (status : Status) (text : List ℕ) → EndsUnread (Some files) r status text → ((role : Role) × (status ≡ ReadFault role)) ⊎ (status ≡ OutOfMemory)
   accepted Done text h = absurd h
   accepted Usage text h = absurd h

@@ -1,4 +1,4 @@
--- Two calls of rounds with one worker end alike over the same files, where no fault and no want of memory ended them.
+-- Two calls of rounds with one worker end alike over the same files, where no fault and no lack of memory ended them.
 use Rattle.std.proofs.Common.{◌≡◌, ◌∙◌, ℕ, refl, sym, ap, subst, arith, inl, inr, List, Option, Some, None, true, false}
 use Rattle.std.proofs.lemmas.List.{length-map}
 use Rattle.ih_journal.specs.Tried.{tried}

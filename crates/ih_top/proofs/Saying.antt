@@ -66,7 +66,7 @@ unsaid-other (JournalRefused r) other e = other e
 unsaid-other Infeasible other e = absurd (let clash : WriteFault None ≡ OutOfMemory = e in cc)
 unsaid-other (TooLong role) other e = other e
 
--- a status other than want of memory
+-- a status other than lack of memory
 at-status : (ends : Status → List ℕ → Type 0) (gained part : List ℕ → Type 0) (status : Status) (text : List ℕ)
     → status ≢ OutOfMemory → ends status text → gained text → Ends ends gained part status
 at-status ends gained part Done text other h g = (text, h, g)

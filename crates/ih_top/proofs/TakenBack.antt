@@ -37,7 +37,7 @@ use Rattle.ih_top.proofs.JournalLaws.{all-salvaged}
 
 -- ---- ends without a fault
 
--- what only a fault or want of memory brings is want of memory
+-- what only a fault or lack of memory brings is lack of memory
 pub memory-alone : (status : Status) → HasNoFault status → ((role : Role) × (status ≡ ReadFault role)) ⊎ (status ≡ OutOfMemory) → status ≡ OutOfMemory
 memory-alone status calm (inl (role, e)) = absurd (subst HasNoFault e calm)
 memory-alone status calm (inr e) = e

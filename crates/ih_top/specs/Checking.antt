@@ -19,7 +19,7 @@ pub record IsReport (files : Option Names) (c : CheckCall) (text : List ℕ) : T
   pub said : text ≡ report instance.weights (bill_of instance plan)
 
 -- Each case has the whole condition of its status. Where the shelf tells what it holds, no two of them hold of one call, but for
--- faults and for want of memory.
+-- faults and for lack of memory.
 abbrev pub CheckEnds : CheckCall → Option Names → Status → List ℕ → Type 0
 -- the timetable breaks no hard rule
 CheckEnds c files Done text = (r : IsReport files c text) × (feasible (bill_of r.instance r.plan) ≡ true)

@@ -148,7 +148,7 @@ EndsUnreadJournal files r (TooLong Journal) text = HasGiven files r × IfSome fi
 EndsUnreadJournal files r status text = EndsUnread files (replay_reading r) status text
 
 -- Which histories are taken, how a journal is refused and what is said differs between the commands. Each case has the whole
--- condition of its status. Where the shelf tells what it holds, no two of them hold of one call, but for faults and for want of memory.
+-- condition of its status. Where the shelf tells what it holds, no two of them hold of one call, but for faults and for lack of memory.
 abbrev pub JournalEnds : (JournalRead → Base → List Entry → Type 0) → (JournalRead → JournalRefusal → Type 0) → (Base → List Tried → ℕ → List ℕ)
     → ReplayCall → Option Names → Option Names → Status → List ℕ → Type 0
 -- the solution and the report are out

@@ -131,7 +131,7 @@ IsSomewhere kind s old new = Told Unchanged old new ⊎ HasBegun kind s old new 
 -- ---- how it ends
 
 -- How a call ends that makes one search. Each case has the whole condition of its status. Where the shelf tells what it holds, no
--- two of them hold of one call, but for faults and for want of memory.
+-- two of them hold of one call, but for faults and for lack of memory.
 abbrev pub SearchEnds : {X : Type 0} → Kind X → SolveCall → Option Names → Option Names → Status → List ℕ → Type 0
 -- the journal, the first cheapest feasible timetable and its report are out
 SearchEnds kind s old new Done text = IsDone kind s old new text

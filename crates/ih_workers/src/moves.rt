@@ -40,7 +40,7 @@ fn freeze_of(given: &Given<'_>) -> u32
 }
 
 /// The whole search by single moves, as a book with a full history. Between its opening and its end no call answers
-/// want of memory.
+/// lack of memory.
 pub fn search<'a, R: Threads + Wait + Sync, G: Gate>(
     rt: &R,
     alloc: Global,
