@@ -35,7 +35,7 @@ fn nurses(alloc: Global) -> Result<List<Nurse>, AllocError> {
 }
 
 // The occupant's rows.
-fn burden(alloc: Global, occupant: &mut Occupant) -> Result<(), AllocError> {
+fn set_needs(alloc: Global, occupant: &mut Occupant) -> Result<(), AllocError> {
     occupant.id = name(alloc, "a0")?;
     occupant.gender = name(alloc, "A")?;
     occupant.workload_produced = numbers(alloc, &[1, 1, 1])?;
@@ -53,7 +53,7 @@ fn occupants(alloc: Global) -> Result<List<Occupant>, AllocError> {
         skill_level_required: List::new(Vec::new(alloc)),
         room_id: RoomNo(0),
     };
-    burden(alloc, &mut occupant)?;
+    set_needs(alloc, &mut occupant)?;
     Ok(List::new(vec![in alloc; occupant]?))
 }
 

@@ -19,12 +19,12 @@ use Rattle.ih_plan.specs.Cells.{part_of, content_of}
 use Rattle.ih_plan.specs.Sums.{bit, count_below}
 use Rattle.ih_plan.proofs.Entries.{care_of-same}
 use Rattle.ih_plan.proofs.SumLemmas.{sum_below-zero, sum_below-more, sum_below-but, sum_below-same, sum_by-which_below}
-use Rattle.ih_nurses.specs.declared.stretches.Stretch.{Stretch}
+use Rattle.ih_nurses.specs.declared.shift_spans.ShiftSpan.{ShiftSpan}
 use Rattle.ih_nurses.specs.Choice.{rise_by_choice}
 use Rattle.ih_nurses.specs.Counts.{AreCounts, has_just, nursed_in}
 use Rattle.ih_nurses.specs.Gains.{off_in, uncovered_in, missing_in}
-use Rattle.ih_nurses.specs.Stretches.{stretch_in}
-use Rattle.ih_nurses.proofs.CountLemmas.{shift-of, stretch_of, there-shift}
+use Rattle.ih_nurses.specs.ShiftSpans.{shift_span_in}
+use Rattle.ih_nurses.proofs.CountLemmas.{shift-of, shift_span_of, there-shift}
 use Rattle.ih_nurses.proofs.DifferenceLemmas.{apart-same}
 use Rattle.ih_nurses.proofs.NewlyLemmas.{any-more, has_other, has_shift, newly_seen, newly_seen_of}
 use Rattle.ih_nurses.proofs.PlacedLemmas.{uncovered-is, missing-is}
@@ -66,7 +66,7 @@ one-is n = elim (cases_eq n 0) [
   | inr ne ↦ rw (ne_eqb n 0 ne, ne_eqb (n + 1) 1 (λ e. ne (omega arith))) refl
 ]
 
-module _ (P : Timetable) (s : Stretch) (r k m : ℕ) (there : has_shift s r k ≡ true) where
+module _ (P : Timetable) (s : ShiftSpan) (r k m : ℕ) (there : has_shift s r k ≡ true) where
   -- the nurse's shifts but for this one
   abbrev others : ℕ
   others = count_below s.len (λ j. not ((s.from + j) == k) && is_number (care_of P s.room.0 (s.from + j)) m)
@@ -118,20 +118,20 @@ module _ (I : Draft) (P : Timetable) (r : RoomNo) (k : Shift) (counts : List ℕ
         → has_just I counts 0 new x ≡ newly_seen_of I P r.0 k.0 new x
     come-one None nurse other = by_case (admission_of I P x) (person_of I x).length_of_stay
       where
-        by_case : (o : Option Admission) (n : ℕ) → 0 ≡ newly_seen P (stretch_in I o n) r.0 k.0 None
+        by_case : (o : Option Admission) (n : ℕ) → 0 ≡ newly_seen P (shift_span_in I o n) r.0 k.0 None
         by_case None n = refl
         by_case (Some a) n = refl
     come-one (Some a) nurse other = rw (known.each x a.0 person nurse) (by_case (admission_of I P x) (person_of I x).length_of_stay there)
       where
-        by_case : (o : Option Admission) (n : ℕ) → is_in o n r.0 (day_of k.0) ≡ true → bit (nursed_in P (stretch_in I o n) a.0 == 0) ≡ newly_seen P (stretch_in I o n) r.0 k.0 (Some a)
+        by_case : (o : Option Admission) (n : ℕ) → is_in o n r.0 (day_of k.0) ≡ true → bit (nursed_in P (shift_span_in I o n) a.0 == 0) ≡ newly_seen P (shift_span_in I o n) r.0 k.0 (Some a)
         by_case None n h = absurd (let no : false ≡ true = h in cc)
-        by_case (Some b) n h = come-count P (stretch_of I b n) r.0 k.0 a.0 (there-shift I b n r.0 k.0 shift ∙ h) (other-bit (care_of P r.0 k.0) a.0 other)
+        by_case (Some b) n h = come-count P (shift_span_of I b n) r.0 k.0 a.0 (there-shift I b n r.0 k.0 shift ∙ h) (other-bit (care_of P r.0 k.0) a.0 other)
 
     gone-one : (old : Option NurseNo) → IfSome old (λ a. a.0 < nurse_count I) → care_of P r.0 k.0 ≡ number old
         → has_just I counts 1 old x ≡ newly_seen_of I P r.0 k.0 old x
     gone-one None nurse own = by_case (admission_of I P x) (person_of I x).length_of_stay
       where
-        by_case : (o : Option Admission) (n : ℕ) → 0 ≡ newly_seen P (stretch_in I o n) r.0 k.0 None
+        by_case : (o : Option Admission) (n : ℕ) → 0 ≡ newly_seen P (shift_span_in I o n) r.0 k.0 None
         by_case None n = refl
         by_case (Some a) n = refl
     gone-one (Some a) nurse own = rw (known.each x a.0 person nurse) (by_case (admission_of I P x) (person_of I x).length_of_stay there)
@@ -139,9 +139,9 @@ module _ (I : Draft) (P : Timetable) (r : RoomNo) (k : Shift) (counts : List ℕ
         mine : bit (is_number (care_of P r.0 k.0) a.0) ≡ 1
         mine = rw (own, eq-eqb a.0 a.0 refl) refl
 
-        by_case : (o : Option Admission) (n : ℕ) → is_in o n r.0 (day_of k.0) ≡ true → bit (nursed_in P (stretch_in I o n) a.0 == 1) ≡ newly_seen P (stretch_in I o n) r.0 k.0 (Some a)
+        by_case : (o : Option Admission) (n : ℕ) → is_in o n r.0 (day_of k.0) ≡ true → bit (nursed_in P (shift_span_in I o n) a.0 == 1) ≡ newly_seen P (shift_span_in I o n) r.0 k.0 (Some a)
         by_case None n h = absurd (let no : false ≡ true = h in cc)
-        by_case (Some b) n h = gone-count P (stretch_of I b n) r.0 k.0 a.0 (there-shift I b n r.0 k.0 shift ∙ h) mine
+        by_case (Some b) n h = gone-count P (shift_span_of I b n) r.0 k.0 a.0 (there-shift I b n r.0 k.0 shift ∙ h) mine
 
   sum-there : (f g : ℕ → ℕ) → ((x : ℕ) → x < person_count I → is_present I P r.0 (day_of k.0) x ≡ true → f x ≡ g x)
       → sum_by f (present I P r.0 (day_of k.0)) ≡ sum_by g (present I P r.0 (day_of k.0))

@@ -24,11 +24,11 @@ use Rattle.ih_plan.proofs.SumLemmas.{sum_below-same, sum_by-which_below}
 use Rattle.ih_nurses.specs.Choice.{excess_of, seen_by, rise_by_choice}
 use Rattle.ih_nurses.specs.declared.loads.NurseLoad.{NurseLoad}
 use Rattle.ih_nurses.specs.Loads.{AreLoads, load_at, excess_rise}
-use Rattle.ih_nurses.specs.Stretches.{IsStretch, nurses_over, stretch_in}
+use Rattle.ih_nurses.specs.ShiftSpans.{IsShiftSpan, nurses_over, shift_span_in}
 use Rattle.ih_nurses.proofs.CareLemmas.{load-moves}
 use Rattle.ih_nurses.proofs.DifferenceLemmas.{apart-same}
 use Rattle.ih_nurses.proofs.NewlyLemmas.{newly_seen_of, seen-change}
-use Rattle.ih_nurses.proofs.StretchLemmas.{nurses-alike, stretch-kept}
+use Rattle.ih_nurses.proofs.ShiftSpanLemmas.{nurses-alike, shift_span-kept}
 
 -- the number of a nurse, where there is one
 abbrev number : Option NurseNo → Option ℕ
@@ -101,7 +101,7 @@ loads-told I P r k new loads work plan room shift other known total old_nurse ne
 
 -- the distinct nurses of person x
 abbrev seen_of : Draft → Timetable → ℕ → ℕ
-seen_of I P x = distinct_nurses I (nurses_over P (stretch_in I (admission_of I P x) (person_of I x).length_of_stay))
+seen_of I P x = distinct_nurses I (nurses_over P (shift_span_in I (admission_of I P x) (person_of I x).length_of_stay))
 
 seen-part : (I : Draft) (P : Timetable) (x : ℕ) → slice_index (part_at I P (Care (record { 0 = x }))).s 2 ≡ seen_of I P x
 unfolding part_of content_of shifts_of
@@ -109,11 +109,11 @@ seen-part I P x =
     ap (distinct_nurses I) (tagged-values (nurse_for P (room_of I P x)) (shifts_of I P x) ∙ nurses-alike I P (admission_of I P x) (person_of I x).length_of_stay)
 
 -- the stay of who is present is within the horizon, in a room of the instance
-present-stretch : (I : Draft) (P : Timetable) (r k x : ℕ) → r < room_count I → k < shift_count I → is_present I P r (day_of k) x ≡ true
-    → IfSome (stretch_in I (admission_of I P x) (person_of I x).length_of_stay) (IsStretch I)
-present-stretch I P r k x room shift there = by_case (admission_of I P x) (person_of I x).length_of_stay there
+present-shift_span : (I : Draft) (P : Timetable) (r k x : ℕ) → r < room_count I → k < shift_count I → is_present I P r (day_of k) x ≡ true
+    → IfSome (shift_span_in I (admission_of I P x) (person_of I x).length_of_stay) (IsShiftSpan I)
+present-shift_span I P r k x room shift there = by_case (admission_of I P x) (person_of I x).length_of_stay there
   where
-    by_case : (o : Option Admission) (n : ℕ) → is_in o n r (day_of k) ≡ true → IfSome (stretch_in I o n) (IsStretch I)
+    by_case : (o : Option Admission) (n : ℕ) → is_in o n r (day_of k) ≡ true → IfSome (shift_span_in I o n) (IsShiftSpan I)
     by_case None n h = tt
     by_case (Some a) n h =
         let parts = and_parts (a.room == r) (covers a.day n (day_of k)) h in
@@ -130,8 +130,8 @@ module _ (I : Draft) (P : Timetable) (r : RoomNo) (k : Shift) (new : Option Nurs
   seen-moves : (x : ℕ) → is_present I P r.0 (day_of k.0) x ≡ true
       → newly_seen_of I P r.0 k.0 new x + seen_of I P x ≡ seen_of I (put (SetCare r k new) P) x + newly_seen_of I P r.0 k.0 (choice_of P r.0 k.0) x
   seen-moves x here =
-      rw (stretch-kept I P r k new x)
-      (seen-change I P r k new plan room shift nurse (stretch_in I (admission_of I P x) (person_of I x).length_of_stay) (present-stretch I P r.0 k.0 x room shift here))
+      rw (shift_span-kept I P r k new x)
+      (seen-change I P r k new plan room shift nurse (shift_span_in I (admission_of I P x) (person_of I x).length_of_stay) (present-shift_span I P r.0 k.0 x room shift here))
 
   each-moves : (x : ℕ) → there (newly_seen_of I P r.0 k.0 new) x + there (seen_of I P) x ≡ there (seen_of I (put (SetCare r k new) P)) x + there (newly_seen_of I P r.0 k.0 (choice_of P r.0 k.0)) x
   each-moves x = elim (cases_Bool (is_present I P r.0 (day_of k.0) x)) [

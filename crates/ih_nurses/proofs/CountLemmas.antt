@@ -18,12 +18,12 @@ use Rattle.ih_plan.specs.Costs.{is_number}
 use Rattle.ih_plan.specs.Sums.{bit, count_below, sum_below}
 use Rattle.ih_plan.proofs.SumLemmas.{sum_below-zero, sum_below-more, sum_below-but, sum_below-same, sum_below-le}
 use Rattle.ih_plan.proofs.Entries.{admission-patient, admission-same, care_of-same, care_of-other}
-use Rattle.ih_nurses.specs.declared.stretches.Stretch.{Stretch}
+use Rattle.ih_nurses.specs.declared.shift_spans.ShiftSpan.{ShiftSpan}
 use Rattle.ih_nurses.specs.Counts.{AreCounts, count_at, count_of, nursed_in, one_of}
-use Rattle.ih_nurses.specs.Stretches.{stretch_in}
+use Rattle.ih_nurses.specs.ShiftSpans.{shift_span_in}
 use Rattle.ih_nurses.proofs.AdmitLemmas.{IsAdmission}
 use Rattle.ih_nurses.proofs.NewlyLemmas.{has_shift}
-use Rattle.ih_nurses.proofs.StretchLemmas.{stretch-kept}
+use Rattle.ih_nurses.proofs.ShiftSpanLemmas.{shift_span-kept}
 use Rattle.ih_nurses.proofs.WalkLemmas.{if-none}
 
 pub bit-few : (b : Bool) → bit b ≤ 1
@@ -41,16 +41,16 @@ sum_below-fewer (suc n) j f h = elim (cases_eq j (suc n)) [
 
 -- ---- shift by shift
 
--- how many of a stretch's first j shifts nurse m has
-abbrev pub first_in : Timetable → Stretch → ℕ → ℕ → ℕ
+-- how many of the first j shifts of a span of shifts nurse m has
+abbrev pub first_in : Timetable → ShiftSpan → ℕ → ℕ → ℕ
 first_in P s m j = count_below j (λ i. is_number (care_of P s.room.0 (s.from + i)) m)
 
-pub first-few : (P : Timetable) (s : Stretch) (m j : ℕ) → first_in P s m j ≤ j
+pub first-few : (P : Timetable) (s : ShiftSpan) (m j : ℕ) → first_in P s m j ≤ j
 first-few P s m j =
     let most = sum_below-le j 1 (λ i. bit (is_number (care_of P s.room.0 (s.from + i)) m)) (λ i h. bit-few (is_number (care_of P s.room.0 (s.from + i)) m)) in
     omega (arith, most)
 
-module _ (P : Timetable) (x : ℕ) (s : Stretch) where
+module _ (P : Timetable) (x : ℕ) (s : ShiftSpan) where
   -- person x has as many, and nobody else has any
   abbrev pub first_for : ℕ → ℕ → ℕ → ℕ
   first_for y m j = if x == y then first_in P s m j else 0
@@ -71,23 +71,23 @@ module _ (P : Timetable) (x : ℕ) (s : Stretch) where
       one_more false n c = refl
 
 -- the first j shifts are counted
-pub record AreCounted (I : Draft) (P : Timetable) (x : ℕ) (s : Stretch) (old counts : List ℕ) (j : ℕ) : Type 0 where
+pub record AreCounted (I : Draft) (P : Timetable) (x : ℕ) (s : ShiftSpan) (old counts : List ℕ) (j : ℕ) : Type 0 where
   pub len : length counts ≡ length old
   pub each : (y m : ℕ) → m < nurse_count I → count_at I counts y m ≡ count_at I old y m + first_for P x s y m j
 
 -- the first j shifts are no longer counted
-pub record AreUncounted (I : Draft) (P : Timetable) (x : ℕ) (s : Stretch) (old counts : List ℕ) (j : ℕ) : Type 0 where
+pub record AreUncounted (I : Draft) (P : Timetable) (x : ℕ) (s : ShiftSpan) (old counts : List ℕ) (j : ℕ) : Type 0 where
   pub len : length counts ≡ length old
   pub each : (y m : ℕ) → m < nurse_count I → count_at I counts y m + first_for P x s y m j ≡ count_at I old y m
 
-module _ (I : Draft) (P : Timetable) (x : ℕ) (s : Stretch) (old : List ℕ) where
+module _ (I : Draft) (P : Timetable) (x : ℕ) (s : ShiftSpan) (old : List ℕ) where
   pub counted-none : AreCounted I P x s old old 0
   counted-none = record { len = refl; each = λ y m mh. let none = first_for-none P x s y m in omega (arith, none) }
 
   pub uncounted-none : AreUncounted I P x s old old 0
   uncounted-none = record { len = refl; each = λ y m mh. let none = first_for-none P x s y m in omega (arith, none) }
 
-module _ {I : Draft} {P : Timetable} {x : ℕ} {s : Stretch} {old counts : List ℕ} {j : ℕ} where
+module _ {I : Draft} {P : Timetable} {x : ℕ} {s : ShiftSpan} {old counts : List ℕ} {j : ℕ} where
   pub counted-fits : AreCounted I P x s old counts j → ((m : ℕ) → m < nurse_count I → count_at I old x m ≡ 0) → (m : ℕ) → m < nurse_count I → count_at I counts x m ≤ j
   counted-fits so_far none m mh =
       omega (arith, so_far.each x m mh, none m mh, first_for-own P x s m j, first-few P s m j)
@@ -121,7 +121,7 @@ module _ {I : Draft} {P : Timetable} {x : ℕ} {s : Stretch} {old counts : List 
 
 -- ---- another stay
 
-nursed-alike : (P Q : Timetable) → ((r k : ℕ) → care_of Q r k ≡ care_of P r k) → (o : Option Stretch) (m : ℕ) → nursed_in Q o m ≡ nursed_in P o m
+nursed-alike : (P Q : Timetable) → ((r k : ℕ) → care_of Q r k ≡ care_of P r k) → (o : Option ShiftSpan) (m : ℕ) → nursed_in Q o m ≡ nursed_in P o m
 nursed-alike P Q cares None m = refl
 nursed-alike P Q cares (Some s) m =
     sum_below-same s.len (λ j. bit (is_number (care_of Q s.room.0 (s.from + j)) m)) (λ j. bit (is_number (care_of P s.room.0 (s.from + j)) m))
@@ -135,7 +135,7 @@ count-none I P p m patient free = rw (admission-patient I P p patient, free) ref
 pub count-few : (I : Draft) (P : Timetable) (x m : ℕ) → IsValid I → count_of I P x m ≤ 168
 count-few I P x m valid = by_case (admission_of I P x) (person_of I x).length_of_stay
   where
-    by_case : (o : Option Admission) (n : ℕ) → nursed_in P (stretch_in I o n) m ≤ 168
+    by_case : (o : Option Admission) (n : ℕ) → nursed_in P (shift_span_in I o n) m ≤ 168
     by_case None n = omega arith
     by_case (Some a) n =
         let days = valid.days.most in
@@ -143,18 +143,18 @@ count-few I P x m valid = by_case (admission_of I P x) (person_of I x).length_of
 
 module _ {I : Draft} {P Q : Timetable} {p : ℕ} {at : Placement} (a : IsAdmission I P Q p at) where
   -- the patient's counted shifts
-  abbrev pub stretch_at : Option Stretch
-  stretch_at = stretch_in I (Some (placed_at at)) (person_of I p).length_of_stay
+  abbrev pub shift_span_at : Option ShiftSpan
+  shift_span_at = shift_span_in I (Some (placed_at at)) (person_of I p).length_of_stay
 
-  count-placed : (s : Stretch) → Some s ≡ stretch_at → (m : ℕ) → count_of I Q p m ≡ nursed_in Q (Some s) m
+  count-placed : (s : ShiftSpan) → Some s ≡ shift_span_at → (m : ℕ) → count_of I Q p m ≡ nursed_in Q (Some s) m
   count-placed s is m =
-      let placed : count_of I Q p m ≡ nursed_in Q stretch_at m = rw (admission-patient I Q p a.patient, a.after) refl in
+      let placed : count_of I Q p m ≡ nursed_in Q shift_span_at m = rw (admission-patient I Q p a.patient, a.after) refl in
       placed ∙ sym (ap (λ o. nursed_in Q o m) is)
 
   count-other : (y m : ℕ) → (y ≡ p → ⊥) → count_of I Q y m ≡ count_of I P y m
   count-other y m ne =
-      ap (λ o. nursed_in Q (stretch_in I o (person_of I y).length_of_stay) m) (admission-same I Q P y (a.others y ne))
-      ∙ nursed-alike P Q a.cares (stretch_in I (admission_of I P y) (person_of I y).length_of_stay) m
+      ap (λ o. nursed_in Q (shift_span_in I o (person_of I y).length_of_stay) m) (admission-same I Q P y (a.others y ne))
+      ∙ nursed-alike P Q a.cares (shift_span_in I (admission_of I P y) (person_of I y).length_of_stay) m
 
   own : (n : ℕ) → (if p == p then n else 0) ≡ n
   own n = rw (eq-eqb p p refl) refl
@@ -162,7 +162,7 @@ module _ {I : Draft} {P Q : Timetable} {p : ℕ} {at : Placement} (a : IsAdmissi
   other : (y n : ℕ) → (y ≡ p → ⊥) → (if p == y then n else 0) ≡ 0
   other y n ne = rw (ne_eqb p y (λ e. ne (sym e))) refl
 
-  pub counts-added : (s : Stretch) → Some s ≡ stretch_at → (old new : List ℕ) → AreCounts I P old → length new ≡ length old
+  pub counts-added : (s : ShiftSpan) → Some s ≡ shift_span_at → (old new : List ℕ) → AreCounts I P old → length new ≡ length old
       → ((y m : ℕ) → m < nurse_count I → count_at I new y m ≡ count_at I old y m + (if p == y then nursed_in P (Some s) m else 0)) → AreCounts I Q new
   counts-added s is old new known len each = record {
     len = len ∙ known.len;
@@ -177,7 +177,7 @@ module _ {I : Draft} {P Q : Timetable} {p : ℕ} {at : Placement} (a : IsAdmissi
     ];
   }
 
-  pub counts-taken : (s : Stretch) → Some s ≡ stretch_at → (old new : List ℕ) → AreCounts I Q old → length new ≡ length old
+  pub counts-taken : (s : ShiftSpan) → Some s ≡ shift_span_at → (old new : List ℕ) → AreCounts I Q old → length new ≡ length old
       → ((y m : ℕ) → m < nurse_count I → count_at I new y m + (if p == y then nursed_in Q (Some s) m else 0) ≡ count_at I old y m) → AreCounts I P new
   counts-taken s is old new known len each = record {
     len = len ∙ known.len;
@@ -191,7 +191,7 @@ module _ {I : Draft} {P Q : Timetable} {p : ℕ} {at : Placement} (a : IsAdmissi
   }
 
   -- the stay's shifts are counted
-  pub counts-enough : (s : Stretch) → Some s ≡ stretch_at → (old : List ℕ) → AreCounts I Q old → (m : ℕ) → m < nurse_count I → nursed_in Q (Some s) m ≤ count_at I old p m
+  pub counts-enough : (s : ShiftSpan) → Some s ≡ shift_span_at → (old : List ℕ) → AreCounts I Q old → (m : ℕ) → m < nurse_count I → nursed_in Q (Some s) m ≤ count_at I old p m
   counts-enough s is old known m mh =
       let patient = a.patient in
       let person : p < person_count I = omega arith in
@@ -218,26 +218,26 @@ spans a n days k h = elim (cases_lt k (3 * a)) [
 ]
 
 -- the counted shifts of an admission
-abbrev pub stretch_of : Draft → Admission → ℕ → Stretch
-stretch_of I a n = record { room = record { 0 = a.room }; from = 3 * a.day; len = 3 * (min (a.day + n) I.days - a.day) }
+abbrev pub shift_span_of : Draft → Admission → ℕ → ShiftSpan
+shift_span_of I a n = record { room = record { 0 = a.room }; from = 3 * a.day; len = 3 * (min (a.day + n) I.days - a.day) }
 
-pub there-shift : (I : Draft) (a : Admission) (n r k : ℕ) → k < shift_count I → has_shift (stretch_of I a n) r k ≡ is_in (Some a) n r (day_of k)
+pub there-shift : (I : Draft) (a : Admission) (n r k : ℕ) → k < shift_count I → has_shift (shift_span_of I a n) r k ≡ is_in (Some a) n r (day_of k)
 there-shift I a n r k h = ap (λ b. (a.room == r) && b) (spans a.day n I.days k h)
 
--- one shift's place in a stretch that has it
-pub record IsShiftOf (s : Stretch) (r k : ℕ) : Type 0 where
+-- one shift's place in a span of shifts that has it
+pub record IsShiftOf (s : ShiftSpan) (r k : ℕ) : Type 0 where
   pub room : s.room.0 ≡ r
   pub low : s.from ≤ k
   pub high : k < s.from + s.len
 
-pub shift-of : (s : Stretch) (r k : ℕ) → has_shift s r k ≡ true → IsShiftOf s r k
+pub shift-of : (s : ShiftSpan) (r k : ℕ) → has_shift s r k ≡ true → IsShiftOf s r k
 shift-of s r k h =
     let parts = and_parts (s.room.0 == r) (in_span s.from (s.from + s.len) k) h in
     let span = and_parts (nat_le s.from k) (nat_lt k (s.from + s.len)) parts.1 in
     record { room = eqb-true s.room.0 r parts.0; low = leb-true s.from k span.0; high = ltb-true k (s.from + s.len) span.1 }
 
 module _ (I : Draft) (P : Timetable) (r : RoomNo) (k : Shift) (new : Option NurseNo) (plan : IsPlanOf I P) (room : r.0 < room_count I) (shift : k.0 < shift_count I) where
-  nursed-moves : (s : Stretch) → ((j : ℕ) → j < s.len → s.from + j < shift_count I) → has_shift s r.0 k.0 ≡ true → (m : ℕ)
+  nursed-moves : (s : ShiftSpan) → ((j : ℕ) → j < s.len → s.from + j < shift_count I) → has_shift s r.0 k.0 ≡ true → (m : ℕ)
       → nursed_in (put (SetCare r k new) P) (Some s) m + bit (is_number (care_of P r.0 k.0) m)
       ≡ nursed_in P (Some s) m + bit (is_number (option_map (λ (a : NurseNo). a.0) new) m)
   nursed-moves s within h m =
@@ -254,7 +254,7 @@ module _ (I : Draft) (P : Timetable) (r : RoomNo) (k : Shift) (new : Option Nurs
       rw (place, there.room) (ap (λ o. bit (is_number o m)) (care_of-same I P r k new plan room shift)) in
       omega (arith, change, before, after)
 
-  nursed-kept : (s : Stretch) → ((j : ℕ) → j < s.len → s.from + j < shift_count I) → has_shift s r.0 k.0 ≡ false → (m : ℕ)
+  nursed-kept : (s : ShiftSpan) → ((j : ℕ) → j < s.len → s.from + j < shift_count I) → has_shift s r.0 k.0 ≡ false → (m : ℕ)
       → nursed_in (put (SetCare r k new) P) (Some s) m ≡ nursed_in P (Some s) m
   nursed-kept s within h m =
       sum_below-same s.len (λ j. bit (is_number (care_of (put (SetCare r k new) P) s.room.0 (s.from + j)) m)) (λ j. bit (is_number (care_of P s.room.0 (s.from + j)) m))
@@ -262,26 +262,26 @@ module _ (I : Draft) (P : Timetable) (r : RoomNo) (k : Shift) (new : Option Nurs
       (λ same now. absurd (let yes : has_shift s r.0 k.0 ≡ true = rw (eq-eqb s.room.0 r.0 same, le-leb s.from k.0 (omega arith), lt-ltb k.0 (s.from + s.len) (omega arith)) refl in
       let no : true ≡ false = sym yes ∙ h in cc))))
 
-  within-days : (a : Admission) (n j : ℕ) → j < (stretch_of I a n).len → (stretch_of I a n).from + j < shift_count I
+  within-days : (a : Admission) (n j : ℕ) → j < (shift_span_of I a n).len → (shift_span_of I a n).from + j < shift_count I
   within-days a n j h = omega arith
 
   -- who is there has a shift less of the old nurse, and one more of the new
   pub count-moves : (x : ℕ) → is_present I P r.0 (day_of k.0) x ≡ true → (m : ℕ)
       → count_of I (put (SetCare r k new) P) x m + bit (is_number (care_of P r.0 k.0) m)
       ≡ count_of I P x m + bit (is_number (option_map (λ (a : NurseNo). a.0) new) m)
-  count-moves x there m = rw (stretch-kept I P r k new x) (by_case (admission_of I P x) (person_of I x).length_of_stay there)
+  count-moves x there m = rw (shift_span-kept I P r k new x) (by_case (admission_of I P x) (person_of I x).length_of_stay there)
     where
       by_case : (o : Option Admission) (n : ℕ) → is_in o n r.0 (day_of k.0) ≡ true
-          → nursed_in (put (SetCare r k new) P) (stretch_in I o n) m + bit (is_number (care_of P r.0 k.0) m)
-          ≡ nursed_in P (stretch_in I o n) m + bit (is_number (option_map (λ (a : NurseNo). a.0) new) m)
+          → nursed_in (put (SetCare r k new) P) (shift_span_in I o n) m + bit (is_number (care_of P r.0 k.0) m)
+          ≡ nursed_in P (shift_span_in I o n) m + bit (is_number (option_map (λ (a : NurseNo). a.0) new) m)
       by_case None n h = absurd (let no : false ≡ true = h in cc)
-      by_case (Some a) n h = nursed-moves (stretch_of I a n) (within-days a n) (there-shift I a n r.0 k.0 shift ∙ h) m
+      by_case (Some a) n h = nursed-moves (shift_span_of I a n) (within-days a n) (there-shift I a n r.0 k.0 shift ∙ h) m
 
   -- nobody else's counts change
   pub count-kept : (x : ℕ) → is_present I P r.0 (day_of k.0) x ≡ false → (m : ℕ) → count_of I (put (SetCare r k new) P) x m ≡ count_of I P x m
-  count-kept x away m = rw (stretch-kept I P r k new x) (by_case (admission_of I P x) (person_of I x).length_of_stay away)
+  count-kept x away m = rw (shift_span-kept I P r k new x) (by_case (admission_of I P x) (person_of I x).length_of_stay away)
     where
       by_case : (o : Option Admission) (n : ℕ) → is_in o n r.0 (day_of k.0) ≡ false
-          → nursed_in (put (SetCare r k new) P) (stretch_in I o n) m ≡ nursed_in P (stretch_in I o n) m
+          → nursed_in (put (SetCare r k new) P) (shift_span_in I o n) m ≡ nursed_in P (shift_span_in I o n) m
       by_case None n h = refl
-      by_case (Some a) n h = nursed-kept (stretch_of I a n) (within-days a n) (there-shift I a n r.0 k.0 shift ∙ h) m
+      by_case (Some a) n h = nursed-kept (shift_span_of I a n) (within-days a n) (there-shift I a n r.0 k.0 shift ∙ h) m

@@ -14,9 +14,9 @@ use Rattle.ih_plan.specs.Costs.{distinct_nurses}
 use Rattle.ih_plan.specs.BillOf.{as_bill}
 use Rattle.ih_plan.specs.Cells.{part_at}
 use Rattle.ih_nurses.specs.declared.bills.NursingCosts.{NursingCosts}
-use Rattle.ih_nurses.specs.Stretches.{stretch_in, nurses_over}
+use Rattle.ih_nurses.specs.ShiftSpans.{shift_span_in, nurses_over}
 use Rattle.ih_nurses.proofs.BillLemmas.{nursing}
-use Rattle.ih_nurses.proofs.StretchLemmas.{stretch-part}
+use Rattle.ih_nurses.proofs.ShiftSpanLemmas.{shift_span-part}
 
 -- the bill of these costs
 abbrev pub bill_in : NursingCosts → Bill
@@ -66,11 +66,11 @@ nursed n = record { off = 0; uncovered = 0; missing_skill = 0; nurses_seen = n; 
 
 -- the distinct nurses of each are those that are told, but for as many on both sides
 pub care-change : (I : Draft) (P Q : Timetable) (x : PersonNo) (after before : ℕ)
-    → after + distinct_nurses I (nurses_over P (stretch_in I (admission_of I P x.0) (person_of I x.0).length_of_stay))
-    ≡ distinct_nurses I (nurses_over Q (stretch_in I (admission_of I Q x.0) (person_of I x.0).length_of_stay)) + before
+    → after + distinct_nurses I (nurses_over P (shift_span_in I (admission_of I P x.0) (person_of I x.0).length_of_stay))
+    ≡ distinct_nurses I (nurses_over Q (shift_span_in I (admission_of I Q x.0) (person_of I x.0).length_of_stay)) + before
     → less (nursed after) (nursed before) ≡ sub_bills (as_bill (part_at I Q (Care x))) (as_bill (part_at I P (Care x)))
 care-change I P Q x after before e =
-    let q = distinct_nurses I (nurses_over Q (stretch_in I (admission_of I Q x.0) (person_of I x.0).length_of_stay)) in
-    let p = distinct_nurses I (nurses_over P (stretch_in I (admission_of I P x.0) (person_of I x.0).length_of_stay)) in
+    let q = distinct_nurses I (nurses_over Q (shift_span_in I (admission_of I Q x.0) (person_of I x.0).length_of_stay)) in
+    let p = distinct_nurses I (nurses_over P (shift_span_in I (admission_of I P x.0) (person_of I x.0).length_of_stay)) in
     less-same (nursed after) (nursed before) (nursed q) (nursed p) (record { off = refl; uncovered = refl; missing_skill = refl; nurses_seen = e; overload = refl })
-    ∙ less-parts (nursed q) (nursed p) (stretch-part I Q x q refl) (stretch-part I P x p refl)
+    ∙ less-parts (nursed q) (nursed p) (shift_span-part I Q x q refl) (shift_span-part I P x p refl)

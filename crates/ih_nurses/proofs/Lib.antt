@@ -12,7 +12,7 @@ pub mod RoomLemmas
 pub mod StartLemmas
 pub mod WithinLemmas
 pub mod VisitLemmas
-pub mod StretchLemmas
+pub mod ShiftSpanLemmas
 pub mod DifferenceLemmas
 pub mod OwnLemmas
 pub mod GivenLemmas

@@ -19,17 +19,17 @@ use Rattle.ih_plan.specs.Sums.{bit, count_below}
 use Rattle.ih_plan.proofs.SumLemmas.{sum_below-but, sum_below-same}
 use Rattle.ih_plan.proofs.Entries.{care_of-same, care_of-other}
 use Rattle.ih_plan.proofs.PlanRanges.{nurse-inside}
-use Rattle.ih_nurses.specs.declared.stretches.Stretch.{Stretch}
-use Rattle.ih_nurses.specs.Stretches.{IsStretch, nurses_over, stretch_in}
+use Rattle.ih_nurses.specs.declared.shift_spans.ShiftSpan.{ShiftSpan}
+use Rattle.ih_nurses.specs.ShiftSpans.{IsShiftSpan, nurses_over, shift_span_in}
 
 -- ---- a nurse who is met in one shift of a stay alone
 
--- shift k of room r is one of the stretch
-abbrev pub has_shift : Stretch → ℕ → ℕ → Bool
+-- shift k of room r is one of the span of shifts
+abbrev pub has_shift : ShiftSpan → ℕ → ℕ → Bool
 has_shift s r k = (s.room.0 == r) && in_span s.from (s.from + s.len) k
 
--- nurse m has a shift of the stretch other than shift k
-abbrev pub has_other : Timetable → Stretch → ℕ → ℕ → Bool
+-- nurse m has a shift of the span of shifts other than shift k
+abbrev pub has_other : Timetable → ShiftSpan → ℕ → ℕ → Bool
 has_other P s k m = list_any (λ j. not (j == k) && is_number (care_of P s.room.0 j) m) (range_with_len s.from s.len)
 
 -- 1 where there is a nurse who isn't marked
@@ -38,14 +38,14 @@ fresh marked None = 0
 fresh marked (Some a) = bit (not (marked a.0))
 
 -- 1 where a choice for room r in shift k is a nurse who has no other of the shifts, and 0 where not
-abbrev pub newly_seen : Timetable → Option Stretch → ℕ → ℕ → Option NurseNo → ℕ
+abbrev pub newly_seen : Timetable → Option ShiftSpan → ℕ → ℕ → Option NurseNo → ℕ
 newly_seen P None r k n = 0
 newly_seen P (Some s) r k None = 0
 newly_seen P (Some s) r k (Some m) = bit (has_shift s r k && not (has_other P s k m.0))
 
 -- the same over the counted shifts of person x's stay
 abbrev pub newly_seen_of : Draft → Timetable → ℕ → ℕ → Option NurseNo → ℕ → ℕ
-newly_seen_of I P r k n x = newly_seen P (stretch_in I (admission_of I P x) (person_of I x).length_of_stay) r k n
+newly_seen_of I P r k n x = newly_seen P (shift_span_in I (admission_of I P x) (person_of I x).length_of_stay) r k n
 
 -- ---- tests over a range
 
@@ -120,9 +120,9 @@ count-fresh m marked (Some a) h =
     let here : bit (marked a.0 || (a.0 == a.0)) ≡ 1 = rw (eq-eqb a.0 a.0 refl) (ap bit (or-all (marked a.0))) in
     omega (arith, change, here, bit-not (marked a.0))
 
--- ---- the nurses of a stretch
+-- ---- the nurses of a span of shifts
 
-module _ (I : Draft) (P : Timetable) (s : Stretch) (k : ℕ) (o : Option NurseNo) (low : s.from ≤ k) (high : k < s.from + s.len)
+module _ (I : Draft) (P : Timetable) (s : ShiftSpan) (k : ℕ) (o : Option NurseNo) (low : s.from ≤ k) (high : k < s.from + s.len)
     (choice : option_map (λ (a : NurseNo). a.0) o ≡ care_of P s.room.0 k) (nurse : IfSome o (λ a. a.0 < nurse_count I)) where
   -- the distinct nurses are those of the other shifts, and the nurse of shift k where new
   distinct-split : distinct_nurses I (nurses_over P (Some s)) ≡ count_below (nurse_count I) (has_other P s k) + fresh (has_other P s k) o
@@ -133,18 +133,18 @@ module _ (I : Draft) (P : Timetable) (s : Stretch) (k : ℕ) (o : Option NurseNo
       ∙ (any-split (λ j. is_number (care_of P s.room.0 j) n) k s.from s.len low high ∙ rw choice refl)))
       ∙ count-fresh (nurse_count I) (has_other P s k) o nurse
 
-newly-within : (P : Timetable) (s : Stretch) (r k : ℕ) (o : Option NurseNo) → has_shift s r k ≡ true → newly_seen P (Some s) r k o ≡ fresh (has_other P s k) o
+newly-within : (P : Timetable) (s : ShiftSpan) (r k : ℕ) (o : Option NurseNo) → has_shift s r k ≡ true → newly_seen P (Some s) r k o ≡ fresh (has_other P s k) o
 newly-within P s r k None h = refl
 newly-within P s r k (Some a) h = rw h refl
 
-newly-outside : (P : Timetable) (s : Stretch) (r k : ℕ) (o : Option NurseNo) → has_shift s r k ≡ false → newly_seen P (Some s) r k o ≡ 0
+newly-outside : (P : Timetable) (s : ShiftSpan) (r k : ℕ) (o : Option NurseNo) → has_shift s r k ≡ false → newly_seen P (Some s) r k o ≡ 0
 newly-outside P s r k None h = refl
 newly-outside P s r k (Some a) h = rw h refl
 
 module _ (I : Draft) (P : Timetable) (r : RoomNo) (k : Shift) (new : Option NurseNo) (plan : IsPlanOf I P) (room : r.0 < room_count I) (shift : k.0 < shift_count I)
     (nurse : IfSome new (λ a. a.0 < nurse_count I)) where
-  -- the stretch has the shift
-  seen-within : (s : Stretch) → IsStretch I s → has_shift s r.0 k.0 ≡ true
+  -- the span of shifts has the shift
+  seen-within : (s : ShiftSpan) → IsShiftSpan I s → has_shift s r.0 k.0 ≡ true
       → newly_seen P (Some s) r.0 k.0 new + distinct_nurses I (nurses_over P (Some s))
       ≡ distinct_nurses I (nurses_over (put (SetCare r k new) P) (Some s)) + newly_seen P (Some s) r.0 k.0 (choice_of P r.0 k.0)
   seen-within s inside h =
@@ -172,7 +172,7 @@ module _ (I : Draft) (P : Timetable) (r : RoomNo) (k : Shift) (new : Option Nurs
       fresh-same p q (Some a) e = ap (λ b. bit (not b)) (e a.0)
 
   -- it hasn't
-  seen-outside : (s : Stretch) → IsStretch I s → has_shift s r.0 k.0 ≡ false
+  seen-outside : (s : ShiftSpan) → IsShiftSpan I s → has_shift s r.0 k.0 ≡ false
       → nurses_over (put (SetCare r k new) P) (Some s) ≡ nurses_over P (Some s)
   seen-outside s inside h =
       map-same (care_of (put (SetCare r k new) P) s.room.0) (care_of P s.room.0) s.from s.len
@@ -180,7 +180,7 @@ module _ (I : Draft) (P : Timetable) (r : RoomNo) (k : Shift) (new : Option Nurs
       (λ same now. absurd (let yes : has_shift s r.0 k.0 ≡ true = rw (eq-eqb s.room.0 r.0 same, le-leb s.from k.0 (omega arith), lt-ltb k.0 (s.from + s.len) (omega arith)) refl in
       let no : true ≡ false = sym yes ∙ h in cc)))
 
-  pub seen-change : (o : Option Stretch) → IfSome o (IsStretch I)
+  pub seen-change : (o : Option ShiftSpan) → IfSome o (IsShiftSpan I)
       → newly_seen P o r.0 k.0 new + distinct_nurses I (nurses_over P o)
       ≡ distinct_nurses I (nurses_over (put (SetCare r k new) P) o) + newly_seen P o r.0 k.0 (choice_of P r.0 k.0)
   seen-change None inside = omega arith

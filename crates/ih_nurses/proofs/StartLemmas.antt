@@ -26,7 +26,7 @@ use Rattle.ih_nurses.specs.Here.{is_here, AreSized, AreFilled, AreHere}
 use Rattle.ih_nurses.specs.declared.loads.NurseLoad.{NurseLoad}
 use Rattle.ih_nurses.specs.Loads.{AreLoads, entry_at, free_load, most_of}
 use Rattle.ih_nurses.specs.Counts.{AreCounts, count_of, nursed_in}
-use Rattle.ih_nurses.specs.Stretches.{stretch_in}
+use Rattle.ih_nurses.specs.ShiftSpans.{shift_span_in}
 use Rattle.ih_nurses.proofs.HereLemmas.{or-none}
 use Rattle.ih_nurses.proofs.CountSteps.{count-inside}
 use Rattle.ih_nurses.proofs.LoadSteps.{place-inside}
@@ -76,7 +76,7 @@ loads-none I loads e = record {
 no-count : (I : Draft) (x n : ℕ) → count_of I (empty I) x n ≡ 0
 no-count I x n = by_case (admission_of I (empty I) x) (person_of I x).length_of_stay
   where
-    by_case : (o : Option Admission) (days : ℕ) → nursed_in (empty I) (stretch_in I o days) n ≡ 0
+    by_case : (o : Option Admission) (days : ℕ) → nursed_in (empty I) (shift_span_in I o days) n ≡ 0
     by_case None days = refl
     by_case (Some a) days =
         sum_below-same (3 * (min (a.day + days) I.days - a.day)) (λ j. bit (is_number (care_of (empty I) a.room (3 * a.day + j)) n)) (λ j. 0)

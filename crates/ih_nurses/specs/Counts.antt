@@ -8,17 +8,17 @@ use Rattle.ih_plan.specs.Persons.{person_of}
 use Rattle.ih_plan.specs.Presence.{admission_of}
 use Rattle.ih_plan.specs.Costs.{is_number}
 use Rattle.ih_plan.specs.Sums.{bit, count_below}
-use Rattle.ih_nurses.specs.declared.stretches.Stretch.{Stretch}
-use Rattle.ih_nurses.specs.Stretches.{stretch_in}
+use Rattle.ih_nurses.specs.declared.shift_spans.ShiftSpan.{ShiftSpan}
+use Rattle.ih_nurses.specs.ShiftSpans.{shift_span_in}
 
 -- how many of a stay's counted shifts nurse n has
-abbrev pub nursed_in : Timetable → Option Stretch → ℕ → ℕ
+abbrev pub nursed_in : Timetable → Option ShiftSpan → ℕ → ℕ
 nursed_in P None n = 0
 nursed_in P (Some s) n = count_below s.len (λ j. is_number (care_of P s.room.0 (s.from + j)) n)
 
 -- the same of person x's stay
 abbrev pub count_of : Draft → Timetable → ℕ → ℕ → ℕ
-count_of I P x n = nursed_in P (stretch_in I (admission_of I P x) (person_of I x).length_of_stay) n
+count_of I P x n = nursed_in P (shift_span_in I (admission_of I P x) (person_of I x).length_of_stay) n
 
 -- what the table has for person x and nurse n
 abbrev pub count_at : Draft → List ℕ → ℕ → ℕ → ℕ

@@ -3,7 +3,7 @@ pub mod Loads
 pub mod Counts
 pub mod Ledger
 pub mod Marks
-pub mod Stretches
+pub mod ShiftSpans
 pub mod Choice
 pub mod Gains
 pub mod Visits

@@ -14,7 +14,7 @@ ghost use Rattle.ih_nurses.specs.Ledger.{IsLedgerOf};
 use crate::Nurses;
 use crate::bills::{NursingCosts, difference};
 use crate::seen::nurses_over;
-use crate::stretches::stay_stretch;
+use crate::shift_spans::stay_shift_span;
 use ih_plan::Placement;
 use ih_tables::{Bill, Instance, PatientNo};
 
@@ -42,7 +42,7 @@ impl Nurses {
             → result ≡ sub_bills (as_bill (part_at inst.now.draft (put (SetStay p (Some at)) P) (Care (record { 0 = p.0 })))) (as_bill (part_at inst.now.draft (put (SetStay p None) P) (Care (record { 0 = p.0 })))) }
         ensures within { IsWithin (10 ^ 11) result }
     {
-        let stretch = stay_stretch(inst, p, Some(at));
-        difference(nursed(nurses_over(inst, &self.plan, stretch)), nursed(0))
+        let shift_span = stay_shift_span(inst, p, Some(at));
+        difference(nursed(nurses_over(inst, &self.plan, shift_span)), nursed(0))
     }
 }

@@ -11,10 +11,10 @@ ghost use Rattle.ih_nurses.specs.Ledger.{IsLedgerOf, plan_of};
 
 use crate::Nurses;
 use crate::bills::minus;
-use crate::choices::nurse_at;
-use crate::loads::{burden, relief};
+use crate::loads::{excess_with, excess_without};
 use crate::room_sums::room_sums;
 use crate::rooms::{nurse_off, uncovered};
+use ih_plan::nurse_at;
 use ih_tables::{Instance, NurseNo, RoomNo, Shift};
 
 /// What another choice of nurse for a room's shift, or none, changes in the bill.
@@ -58,7 +58,7 @@ impl Nurses {
             → result ≡ rise_by_choice P r k new (λ Q. excess_of inst.now.draft Q k.0 (care_of P r.0 k.0) + excess_of inst.now.draft Q k.0 (option_map (λ (a : NurseNo). a.0) new)) }
     {
         let loads = self.loads.as_slice();
-        relief(inst, loads, old, k, work) + burden(inst, loads, new, k, work)
+        excess_without(inst, loads, old, k, work) + excess_with(inst, loads, new, k, work)
     }
 
     /// What another choice of nurse, or none, for a room's shift would change. It goes once over the persons who are in

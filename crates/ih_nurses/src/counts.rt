@@ -9,12 +9,11 @@ ghost use Rattle.ih_plan.specs.Timetable.{IsPlanOf};
 ghost use Rattle.ih_plan.specs.Writes.{put};
 ghost use Rattle.ih_plan.specs.Presence.{is_present, day_of};
 ghost use Rattle.ih_nurses.specs.Counts.{AreCounts, count_at, nursed_in, one_of};
-ghost use Rattle.ih_nurses.specs.Stretches.{IsStretch};
+ghost use Rattle.ih_nurses.specs.ShiftSpans.{IsShiftSpan};
 
-use crate::choices::nurse_at;
-use crate::stretches::Stretch;
+use crate::shift_spans::ShiftSpan;
 use ih_links::Links;
-use ih_plan::Plan;
+use ih_plan::{Plan, nurse_at};
 use ih_tables::{Instance, NurseNo, RoomNo, Shift};
 
 // Where a nurse's count for a person stands.
@@ -74,10 +73,10 @@ fn take_count(inst: &Instance, counts: &mut [u8], x: u32, n: Option<NurseNo>)
 }
 
 /// Counts the shifts of a person who has none so far.
-pub fn add_stretch(inst: &Instance, plan: &Plan, counts: &mut [u8], x: u32, s: Stretch)
+pub fn add_shift_span(inst: &Instance, plan: &Plan, counts: &mut [u8], x: u32, s: ShiftSpan)
     requires plan { IsPlanOf inst.now.draft plan.now }
     requires person { x < person_count inst.now.draft }
-    requires stretch { IsStretch inst.now.draft s }
+    requires shift_span { IsShiftSpan inst.now.draft s }
     requires table { length counts.old ≡ person_count inst.now.draft * nurse_count inst.now.draft }
     requires none { (m : ℕ) → m < nurse_count inst.now.draft → count_at inst.now.draft counts.old x m ≡ 0 }
     ensures len { length counts.new ≡ length counts.old }
@@ -91,10 +90,10 @@ pub fn add_stretch(inst: &Instance, plan: &Plan, counts: &mut [u8], x: u32, s: S
 }
 
 /// Takes the shifts of a person from its counts.
-pub fn take_stretch(inst: &Instance, plan: &Plan, counts: &mut [u8], x: u32, s: Stretch)
+pub fn take_shift_span(inst: &Instance, plan: &Plan, counts: &mut [u8], x: u32, s: ShiftSpan)
     requires plan { IsPlanOf inst.now.draft plan.now }
     requires person { x < person_count inst.now.draft }
-    requires stretch { IsStretch inst.now.draft s }
+    requires shift_span { IsShiftSpan inst.now.draft s }
     requires table { length counts.old ≡ person_count inst.now.draft * nurse_count inst.now.draft }
     requires enough { (m : ℕ) → m < nurse_count inst.now.draft → nursed_in plan.now (Some s) m ≤ count_at inst.now.draft counts.old x m }
     ensures len { length counts.new ≡ length counts.old }

@@ -9,15 +9,14 @@ mod counts;
 mod loads;
 mod nurses;
 mod own;
-mod persons;
 mod presence;
 mod room_sums;
 mod rooms;
 mod seen;
 mod shift_gains;
+mod shift_spans;
 mod start;
 mod stays;
-mod stretches;
 mod visits;
 
 pub use choice_gains::ChoiceGain;

@@ -104,7 +104,13 @@ pub fn move_load(
 
 /// What a load less changes in the workload above its maximum of a nurse, where there is one.
 #[inline(always)]
-pub fn relief(inst: &Instance, loads: &[NurseLoad], n: Option<NurseNo>, k: Shift, less: u32) -> i64
+pub fn excess_without(
+    inst: &Instance,
+    loads: &[NurseLoad],
+    n: Option<NurseNo>,
+    k: Shift,
+    less: u32,
+) -> i64
     requires table { IsTable inst.now.draft loads.now }
     requires nurse { IfSome n (λ a. a.0 < nurse_count inst.now.draft) }
     requires shift { k.0 < shift_count inst.now.draft }
@@ -125,7 +131,13 @@ pub fn relief(inst: &Instance, loads: &[NurseLoad], n: Option<NurseNo>, k: Shift
 
 /// What a load more changes in the workload above its maximum of a nurse, where there is one.
 #[inline(always)]
-pub fn burden(inst: &Instance, loads: &[NurseLoad], n: Option<NurseNo>, k: Shift, more: u32) -> i64
+pub fn excess_with(
+    inst: &Instance,
+    loads: &[NurseLoad],
+    n: Option<NurseNo>,
+    k: Shift,
+    more: u32,
+) -> i64
     requires table { IsTable inst.now.draft loads.now }
     requires nurse { IfSome n (λ a. a.0 < nurse_count inst.now.draft) }
     requires shift { k.0 < shift_count inst.now.draft }

@@ -14,17 +14,16 @@ ghost use Rattle.ih_plan.specs.Cells.{part_at};
 ghost use Rattle.ih_nurses.specs.Ledger.{IsLedgerOf, plan_of};
 
 use crate::bills::{NursingCosts, bill_of};
-use crate::choices::nurse_at;
-use crate::counts::{add_stretch, move_counts, take_stretch};
+use crate::counts::{add_shift_span, move_counts, take_shift_span};
 use crate::loads::{NurseLoad, load, move_load, overload};
 use crate::presence::{enter_days, leave_days};
 use crate::rooms::{choice_costs, missing_skill, workload_in};
 use crate::seen::nurses_over;
+use crate::shift_spans::{placed_shift_span, shift_span_of};
 use crate::start::{no_counts, no_loads, occupants_here};
-use crate::stays::{add_stay, end_of, take_stay};
-use crate::stretches::{placed_stretch, stretch_of};
+use crate::stays::{add_stay, take_stay};
 use ih_links::Links;
-use ih_plan::{Placement, Plan, Write};
+use ih_plan::{Placement, Plan, Write, end_of, nurse_at};
 use ih_tables::{Bill, Instance, NurseNo, PatientNo, PersonNo, RoomNo, Shift};
 use std::alloc::{AllocError, Global};
 
@@ -76,8 +75,14 @@ impl Nurses {
         let end = end_of(inst, p, at);
         enter_days(inst, self.here.as_mut_slice(), at.room, at.day.0, end, p.0);
         add_stay(inst, &self.plan, self.loads.as_mut_slice(), p, at);
-        let stretch = placed_stretch(inst, p, at);
-        add_stretch(inst, &self.plan, self.counts.as_mut_slice(), p.0, stretch);
+        let shift_span = placed_shift_span(inst, p, at);
+        add_shift_span(
+            inst,
+            &self.plan,
+            self.counts.as_mut_slice(),
+            p.0,
+            shift_span,
+        );
         self.plan.put(&Write::SetStay(p, Some(at)));
     }
 
@@ -91,8 +96,14 @@ impl Nurses {
         let end = end_of(inst, p, at);
         leave_days(inst, self.here.as_mut_slice(), at.room, at.day.0, end, p.0);
         take_stay(inst, &self.plan, self.loads.as_mut_slice(), p, at);
-        let stretch = placed_stretch(inst, p, at);
-        take_stretch(inst, &self.plan, self.counts.as_mut_slice(), p.0, stretch);
+        let shift_span = placed_shift_span(inst, p, at);
+        take_shift_span(
+            inst,
+            &self.plan,
+            self.counts.as_mut_slice(),
+            p.0,
+            shift_span,
+        );
         self.plan.put(&Write::SetStay(p, None));
     }
 
@@ -156,7 +167,7 @@ impl Nurses {
             off: 0,
             uncovered: 0,
             missing_skill: 0,
-            nurses_seen: nurses_over(inst, &self.plan, stretch_of(inst, &self.plan, x.0)),
+            nurses_seen: nurses_over(inst, &self.plan, shift_span_of(inst, &self.plan, x.0)),
             overload: 0,
         })
     }

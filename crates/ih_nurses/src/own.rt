@@ -6,8 +6,8 @@ ghost use Rattle.ih_plan.specs.Timetable.{IsPlanOf, IsPlacement};
 ghost use Rattle.ih_plan.specs.Persons.{person_of};
 ghost use Rattle.ih_nurses.specs.Loads.{stay_load};
 
-use crate::choices::{is_nurse, nurse_at};
-use ih_plan::{Placement, Plan};
+use crate::choices::is_nurse;
+use ih_plan::{Placement, Plan, nurse_at};
 use ih_tables::{Instance, NurseNo, PatientNo, Shift};
 
 /// What a list with an entry for each shift of a stay has for a shift.

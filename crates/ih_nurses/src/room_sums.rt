@@ -10,9 +10,8 @@ ghost use Rattle.ih_plan.specs.Costs.{skill_missing};
 ghost use Rattle.ih_nurses.specs.Counts.{has_just};
 
 use crate::counts::count;
-use crate::persons::asked_of;
 use ih_links::Links;
-use ih_plan::Plan;
+use ih_plan::{Plan, asked_of};
 use ih_tables::{Instance, NurseNo, RoomNo, Shift};
 
 /// What the persons in a room give with a new choice of nurse and with the old one.

@@ -10,9 +10,8 @@ ghost use Rattle.ih_plan.specs.Costs.{skill_missing, not_working, is_empty};
 ghost use Rattle.ih_plan.specs.Sums.{bit};
 
 use crate::bills::NursingCosts;
-use crate::persons::asked_of;
 use ih_links::Links;
-use ih_plan::Plan;
+use ih_plan::{Plan, asked_of};
 use ih_tables::{Instance, NurseNo, RoomNo, Shift};
 
 /// The workload of the persons in a room's list in a shift.

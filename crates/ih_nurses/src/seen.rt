@@ -9,11 +9,10 @@ ghost use Rattle.ih_plan.specs.Timetable.{IsPlanOf, care_of};
 ghost use Rattle.ih_plan.specs.Costs.{distinct_nurses, is_number};
 ghost use Rattle.ih_plan.specs.Sums.{bit, count_below};
 ghost use Rattle.ih_nurses.specs.Marks.{is_marked};
-ghost use Rattle.ih_nurses.specs.Stretches.{IsStretch, nurses_over};
+ghost use Rattle.ih_nurses.specs.ShiftSpans.{IsShiftSpan, nurses_over};
 
-use crate::choices::nurse_at;
-use crate::stretches::Stretch;
-use ih_plan::Plan;
+use crate::shift_spans::ShiftSpan;
+use ih_plan::{Plan, nurse_at};
 use ih_tables::{Instance, NurseNo, RoomNo, Shift};
 
 // 1 where it wasn't met, and 0 where it was.
@@ -71,12 +70,12 @@ fn seen_in(inst: &Instance, plan: &Plan, r: RoomNo, from: u32, len: u32) -> u32
 
 /// The distinct nurses over the shifts of a stay, and 0 where there is none.
 #[tactic(auto, using(ih_plan::proofs::ListSteps::none_steps))]
-pub fn nurses_over(inst: &Instance, plan: &Plan, stretch: Option<Stretch>) -> u32
+pub fn nurses_over(inst: &Instance, plan: &Plan, shift_span: Option<ShiftSpan>) -> u32
     requires plan { IsPlanOf inst.now.draft plan.now }
-    requires stretch { IfSome stretch (IsStretch inst.now.draft) }
-    ensures { result ≡ distinct_nurses inst.now.draft (nurses_over plan.now stretch) }
+    requires shift_span { IfSome shift_span (IsShiftSpan inst.now.draft) }
+    ensures { result ≡ distinct_nurses inst.now.draft (nurses_over plan.now shift_span) }
 {
-    match stretch {
+    match shift_span {
         None => 0,
         Some(s) => seen_in(inst, plan, s.room, s.from, s.len),
     }

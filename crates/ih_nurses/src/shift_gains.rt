@@ -13,12 +13,11 @@ ghost use Rattle.ih_nurses.specs.Visits.{IsVisit};
 ghost use Rattle.ih_nurses.specs.Gains.{uncovered_in, missing_in, overload_in, excess_in, rise_by_placement};
 
 use crate::Nurses;
-use crate::choices::nurse_at;
 use crate::loads::{load, overload};
 use crate::own::entry;
 use crate::rooms::has_others;
 use crate::visits::{Visit, gone};
-use ih_plan::Placement;
+use ih_plan::{Placement, nurse_at};
 use ih_tables::{Instance, NurseNo, PatientNo, RoomNo, Shift};
 
 /// What a shift of a placement's room costs more with the patient there than without.

@@ -6,22 +6,9 @@ ghost use Rattle.ih_plan.specs.Timetable.{IsPlanOf, IsPlacement};
 ghost use Rattle.ih_plan.specs.Persons.{person_of};
 ghost use Rattle.ih_nurses.specs.Loads.{IsTable, load_at, stay_load};
 
-use crate::choices::nurse_at;
 use crate::loads::{NurseLoad, add_load, take_load};
-use ih_plan::{Placement, Plan};
+use ih_plan::{Placement, Plan, end_of, nurse_at};
 use ih_tables::{Instance, PatientNo, Shift};
-
-/// The day on which a patient's stay is over, or the horizon where that comes first.
-#[tactic(auto, unfolding(ih_plan::specs::Persons::person_of))]
-pub fn end_of(inst: &Instance, p: PatientNo, at: Placement) -> u32
-    requires patient { p.0 < patient_count inst.now.draft }
-    requires placement { IsPlacement inst.now.draft at }
-    ensures value { result ≡ min (at.day.0 + (person_of inst.now.draft p.0).length_of_stay) inst.now.draft.days }
-    ensures order { at.day.0 ≤ result }
-    ensures days { result ≤ inst.now.draft.days }
-{
-    (at.day.0 + inst.patient(p).length_of_stay).min(inst.days())
-}
 
 /// The workload that a patient makes in a shift of its stay.
 #[tactic(auto, unfolding(ih_plan::specs::Persons::person_of))]

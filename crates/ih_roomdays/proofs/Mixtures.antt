@@ -9,9 +9,9 @@ use Rattle.ih_plan.specs.Persons.{person_of}
 use Rattle.ih_plan.specs.Costs.{ages, age_spread, genders_differ}
 use Rattle.ih_links.specs.Lists.{has}
 use Rattle.ih_links.proofs.Members.{has-here, has-there}
-use Rattle.ih_roomdays.specs.declared.companies.Company.{Company}
+use Rattle.ih_roomdays.specs.declared.occupancies.Occupancy.{Occupancy}
 use Rattle.ih_roomdays.specs.declared.profiles.Profiles.{Profiles}
-use Rattle.ih_roomdays.specs.Company.{IsCompany}
+use Rattle.ih_roomdays.specs.Occupancy.{IsOccupancy}
 use Rattle.ih_roomdays.specs.Profiles.{AreProfiles, ArePersons, age_number, gender_number}
 use Rattle.ih_roomdays.proofs.Orders.{HaveOne, one-from, one-to}
 use Rattle.ih_roomdays.proofs.Spans.{spread-none, spread-some}
@@ -30,7 +30,7 @@ module _ (I : Draft) (p : Profiles) (xs : List ℕ) (profiles : AreProfiles I p)
       (bytes_eq-Decides (person_of I x).gender (person_of I y).gender).0 (sym (profiles.genders.each x y (known x m) (known y n))
       ∙ eq-eqb (gender_number p x) (gender_number p y) (one x y m n))
 
-  module _ (c : Company) (is : IsCompany p xs c) where
+  module _ (c : Occupancy) (is : IsOccupancy p xs c) where
     pub mixed-told : not (c.count * c.squares == c.genders * c.genders) ≡ genders_differ I xs
     mixed-told = rw (is.count, is.squares, is.genders) (elim (cases_Bool (genders_differ I xs)) [
       | inl mixed ↦ ap not (ne_eqb _ _ (λ e. let no : true ≡ false = sym mixed ∙ one-to I xs (numbers-to (squares-to (gender_number p) xs e)) in absurd (cc))) ∙ sym mixed

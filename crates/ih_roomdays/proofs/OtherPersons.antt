@@ -52,10 +52,10 @@ module _ (v : Rows) (rows : AreRows v) (r d x : ℕ) (day : d < v.days) where
 
   -- who is there has a part in the sums
   pub own-part : is_at v r d x ≡ true → (who : Profile) → who ≡ profile_of v.profiles x
-      → (who.gender ≤ (crowd_at v r d).company.genders) × (who.gender * who.gender ≤ (crowd_at v r d).company.squares)
+      → (who.gender ≤ (crowd_at v r d).occupancy.genders) × (who.gender * who.gender ≤ (crowd_at v r d).occupancy.squares)
   own-part there who own =
       some-there v.profiles (persons_at v r d) x (rows.once r d day) there
-      who.gender (crowd_at v r d).company (ap (λ w. w.gender) own) (rows.kept r d day).company
+      who.gender (crowd_at v r d).occupancy (ap (λ w. w.gender) own) (rows.kept r d day).occupancy
 
 -- ---- the part with another stay
 
@@ -63,15 +63,15 @@ module _ (I : Draft) (P : Timetable) (v : Rows) (stands : IsLedgerOf I P v) (p :
   within : d.0 < v.days
   within = rw stands.days day
 
-  abbrev company : Bool → List ℕ
-  company b = with_if b p.0 (without p.0 (persons_at v r.0 d.0))
+  abbrev occupancy : Bool → List ℕ
+  occupancy b = with_if b p.0 (without p.0 (persons_at v r.0 d.0))
 
   -- at a timetable at which the others are where they were
   part-of : (Q : Timetable) (b : Bool) → ((x : ℕ) → (x ≡ p.0 → ⊥) → is_present I Q r.0 d.0 x ≡ is_present I P r.0 d.0 x) → is_present I Q r.0 d.0 p.0 ≡ b
-      → room_day_part (room_counts I r.0 (company b)) ≡ part_at I Q (RoomDay r d)
-  part-of Q b same own = part-alike I Q r d (company b) (with-once b p.0 (persons_at v r.0 d.0) (stands.rows.once r.0 d.0 within)) alike
+      → room_day_part (room_counts I r.0 (occupancy b)) ≡ part_at I Q (RoomDay r d)
+  part-of Q b same own = part-alike I Q r d (occupancy b) (with-once b p.0 (persons_at v r.0 d.0) (stands.rows.once r.0 d.0 within)) alike
     where
-      alike : AreAlike (company b) (present I Q r.0 d.0)
+      alike : AreAlike (occupancy b) (present I Q r.0 d.0)
       alike = with-each b p.0 (persons_at v r.0 d.0) (λ x. has x (present I Q r.0 d.0)) (has-present I Q r.0 d.0 p.0 ∙ own)
           (λ x ne. stands.each r.0 d.0 x day ∙ sym (has-present I Q r.0 d.0 x ∙ same x ne))
 
@@ -85,6 +85,6 @@ module _ (I : Draft) (P : Timetable) (v : Rows) (stands : IsLedgerOf I P v) (p :
   pub was-at : (s : Option Placement) (b : Bool) → stay_of P p.0 ≡ s → b ≡ there_by s → b ≡ is_at v r.0 d.0 p.0
   was-at s b e was = was ∙ sym (stands.each r.0 d.0 p.0 day ∙ is-there s e)
 
-  pub part-after : (s : Option Placement) (b : Bool) → b ≡ there_by s → room_day_part (room_counts I r.0 (company b)) ≡ part_at I (put (SetStay p s) P) (RoomDay r d)
+  pub part-after : (s : Option Placement) (b : Bool) → b ≡ there_by s → room_day_part (room_counts I r.0 (occupancy b)) ≡ part_at I (put (SetStay p s) P) (RoomDay r d)
   part-after s b will = part-of (put (SetStay p s) P) b (λ x ne. others I P p s r.0 d.0 x ne)
       (ap (λ a. is_in a (person_of I p.0).length_of_stay r.0 d.0) (admission-set I P p s stands.plan known) ∙ sym will)

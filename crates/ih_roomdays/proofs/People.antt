@@ -10,12 +10,12 @@ use Rattle.ih_links.specs.Days.{on_day}
 use Rattle.ih_links.proofs.Members.{lacks, length-once, once-append}
 use Rattle.ih_plan.proofs.ListedBelow.{has as has_number, has-which_below, which_below-has, has-listed}
 use Rattle.ih_plan.specs.Sums.{which_below, is_listed}
-use Rattle.ih_roomdays.specs.declared.companies.Crowd.{Crowd}
+use Rattle.ih_roomdays.specs.declared.occupancies.Crowd.{Crowd}
 use Rattle.ih_roomdays.specs.declared.rows.Rows.{Rows}
-use Rattle.ih_roomdays.specs.Company.{IsSmall, nobody}
+use Rattle.ih_roomdays.specs.Occupancy.{IsSmall, nobody}
 use Rattle.ih_roomdays.specs.Profiles.{most_persons}
 use Rattle.ih_roomdays.specs.Rows.{AreRows, persons_at, crowd_at}
-use Rattle.ih_roomdays.proofs.Tallies.{company-small}
+use Rattle.ih_roomdays.proofs.Tallies.{occupancy-small}
 
 -- two tests of what is in a list agree
 has-number : (x : ℕ) (xs : List ℕ) → has x xs ≡ has_number x xs
@@ -46,9 +46,9 @@ persons-few v r d rows below =
     omega arith
 
 -- so what is kept of them is small
-pub crowd-small : (v : Rows) (r d : ℕ) → AreRows v → d < v.days → IsSmall (crowd_at v r d).company
+pub crowd-small : (v : Rows) (r d : ℕ) → AreRows v → d < v.days → IsSmall (crowd_at v r d).occupancy
 crowd-small v r d rows below =
-    company-small v.persons v.profiles (persons_at v r d) (crowd_at v r d).company rows.profiles (rows.kept r d below).company (persons-few v r d rows below)
+    occupancy-small v.persons v.profiles (persons_at v r d) (crowd_at v r d).occupancy rows.profiles (rows.kept r d below).occupancy (persons-few v r d rows below)
 
 all-apart : (x : ℕ) (xs : List ℕ) → has x xs ≡ false → AllByRecursion (λ y. nat_eq x y ≡ false) xs
 all-apart x [] free = tt

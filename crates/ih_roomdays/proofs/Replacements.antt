@@ -7,9 +7,9 @@ use Rattle.std.proofs.lemmas.List.{get_or-set_same, get_or-set_other, length-set
 use Rattle.std.proofs.lemmas.Nat.{same_from_place}
 use Rattle.ih_links.specs.Lists.{Linked, has, list_of, IsOnce}
 use Rattle.ih_links.specs.Days.{on_day}
-use Rattle.ih_roomdays.specs.declared.companies.Crowd.{Crowd}
+use Rattle.ih_roomdays.specs.declared.occupancies.Crowd.{Crowd}
 use Rattle.ih_roomdays.specs.declared.rows.Rows.{Rows}
-use Rattle.ih_roomdays.specs.Company.{IsCrowd, nobody}
+use Rattle.ih_roomdays.specs.Occupancy.{IsCrowd, nobody}
 use Rattle.ih_roomdays.specs.Rows.{AreRows, persons_at, crowd_at}
 use Rattle.ih_roomdays.proofs.People.{place-inside}
 

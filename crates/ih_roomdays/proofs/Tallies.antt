@@ -10,15 +10,15 @@ use Rattle.std.proofs.lemmas.Nat.Bits.{bit_at_and, bit_at_or, bit_at_not, bit_at
 use Rattle.ih_links.specs.Lists.{IsOnce, has, without}
 use Rattle.ih_links.proofs.Members.{length-without}
 use Rattle.ih_links.proofs.Others.{sum-without}
-use Rattle.ih_roomdays.specs.declared.companies.Company.{Company}
-use Rattle.ih_roomdays.specs.declared.companies.Crowd.{Crowd}
+use Rattle.ih_roomdays.specs.declared.occupancies.Occupancy.{Occupancy}
+use Rattle.ih_roomdays.specs.declared.occupancies.Crowd.{Crowd}
 use Rattle.ih_roomdays.specs.declared.profiles.Profiles.{Profiles}
-use Rattle.ih_roomdays.specs.Company.{IsCompany, IsCrowd, IsSmall, nobody, of_age}
+use Rattle.ih_roomdays.specs.Occupancy.{IsOccupancy, IsCrowd, IsSmall, nobody, of_age}
 use Rattle.ih_roomdays.specs.Profiles.{AreInRange, age_number, gender_number, most_persons}
 
 pub crowd-none : (p : Profiles) → IsCrowd p [] nobody
 crowd-none p = record {
-  company = record { count = refl; genders = refl; squares = refl; ages = λ a below. bit_at-zero a };
+  occupancy = record { count = refl; genders = refl; squares = refl; ages = λ a below. bit_at-zero a };
   twice = λ a below. bit_at-zero a;
 }
 
@@ -45,9 +45,9 @@ module _ (p : Profiles) (xs : List ℕ) (x age : ℕ) (age_is : age ≡ age_numb
   other : (a : ℕ) → (a ≡ age → ⊥) → of_age p a (xs ++ x ∷ []) ≡ of_age p a xs
   other a ne = of_age-other p xs x a (λ e. ne (e ∙ sym age_is))
 
-  pub company-more : (gender : ℕ) (c : Company) → gender ≡ gender_number p x → IsCompany p xs c
-      → IsCompany p (xs ++ x ∷ []) (record { ages = bit_or c.ages shifted; squares = c.squares + gender * gender; genders = c.genders + gender; count = c.count + 1 })
-  company-more gender c gender_is is = record {
+  pub occupancy-more : (gender : ℕ) (c : Occupancy) → gender ≡ gender_number p x → IsOccupancy p xs c
+      → IsOccupancy p (xs ++ x ∷ []) (record { ages = bit_or c.ages shifted; squares = c.squares + gender * gender; genders = c.genders + gender; count = c.count + 1 })
+  occupancy-more gender c gender_is is = record {
     count = ap (λ n. n + 1) is.count ∙ sym (length-append xs (x ∷ []));
     genders = rw (is.genders, gender_is) (sym (sum_by_push (gender_number p) xs x));
     squares = rw (is.squares, gender_is) (sym (sum_by_push (λ y. gender_number p y * gender_number p y) xs x));
@@ -64,11 +64,11 @@ module _ (p : Profiles) (xs : List ℕ) (x age : ℕ) (age_is : age ≡ age_numb
   other-bit : (a : ℕ) → (a ≡ age → ⊥) → bit_at shifted a ≡ 0
   other-bit a ne = rw (one_shl age 64 below) (bit_at-pow_other age a ne)
 
-  pub twice-more : (c : Crowd) → IsCrowd p xs c → (a : ℕ) → a < 64 → bit_at (bit_or c.twice (bit_and c.company.ages shifted)) a ≡ min 1 (of_age p a (xs ++ x ∷ []) - 1)
+  pub twice-more : (c : Crowd) → IsCrowd p xs c → (a : ℕ) → a < 64 → bit_at (bit_or c.twice (bit_and c.occupancy.ages shifted)) a ≡ min 1 (of_age p a (xs ++ x ∷ []) - 1)
   twice-more c is a small =
-      let joined = bit_at_or c.twice (bit_and c.company.ages shifted) a in
-      let both = bit_at_and c.company.ages shifted a in
-      let one = is.company.ages a small in
+      let joined = bit_at_or c.twice (bit_and c.occupancy.ages shifted) a in
+      let both = bit_at_and c.occupancy.ages shifted a in
+      let one = is.occupancy.ages a small in
       let two = is.twice a small in
       elim (cases_eq a age) [
         | inl own ↦ omega (arith, joined, both, one, two, subst (λ b. bit_at shifted b ≡ 1) (sym own) own-bit, more a own)
@@ -92,22 +92,22 @@ module _ (p : Profiles) (xs : List ℕ) (x : ℕ) (once : IsOnce xs) (there : ha
   shifted-small : 1 * 2 ^ age % 2 ^ 64 < 2 ^ 64
   shifted-small = omega arith
 
-  pub company-less : (gender : ℕ) (c : Crowd) → gender ≡ gender_number p x → IsCrowd p xs c
-      → IsCompany p (without x xs) (record {
-        ages = bit_and c.company.ages (bit_or c.twice kept);
-        squares = c.company.squares - gender * gender;
-        genders = c.company.genders - gender;
-        count = c.company.count - 1;
+  pub occupancy-less : (gender : ℕ) (c : Crowd) → gender ≡ gender_number p x → IsCrowd p xs c
+      → IsOccupancy p (without x xs) (record {
+        ages = bit_and c.occupancy.ages (bit_or c.twice kept);
+        squares = c.occupancy.squares - gender * gender;
+        genders = c.occupancy.genders - gender;
+        count = c.occupancy.count - 1;
       })
-  company-less gender c gender_is is = record {
-    count = let e = is.company.count in omega (arith, length-without x xs once there);
-    genders = let e = is.company.genders in rw gender_is (omega (arith, sum-without (gender_number p) x xs once there));
-    squares = let e = is.company.squares in rw gender_is (omega (arith, sum-without (λ y. gender_number p y * gender_number p y) x xs once there));
+  occupancy-less gender c gender_is is = record {
+    count = let e = is.occupancy.count in omega (arith, length-without x xs once there);
+    genders = let e = is.occupancy.genders in rw gender_is (omega (arith, sum-without (gender_number p) x xs once there));
+    squares = let e = is.occupancy.squares in rw gender_is (omega (arith, sum-without (λ y. gender_number p y * gender_number p y) x xs once there));
     ages = λ a small.
-        let both = bit_at_and c.company.ages (bit_or c.twice kept) a in
+        let both = bit_at_and c.occupancy.ages (bit_or c.twice kept) a in
         let either = bit_at_or c.twice kept a in
         let turned = bit_at_not w64 (1 * 2 ^ age % 2 ^ 64) a shifted-small small in
-        let one = is.company.ages a small in
+        let one = is.occupancy.ages a small in
         let two = is.twice a small in
         elim (cases_eq a age) [
           | inl own ↦ omega (arith, both, either, turned, one, two, subst (λ b. bit_at (1 * 2 ^ age % 2 ^ 64) b ≡ 1) (sym own) (own-bit p xs x age age_is below), less a own)
@@ -116,7 +116,7 @@ module _ (p : Profiles) (xs : List ℕ) (x : ℕ) (once : IsOnce xs) (there : ha
   }
 
 -- one of them has a part in the sums
-pub some-there : (p : Profiles) (xs : List ℕ) (x : ℕ) → IsOnce xs → has x xs ≡ true → (gender : ℕ) (c : Company) → gender ≡ gender_number p x → IsCompany p xs c
+pub some-there : (p : Profiles) (xs : List ℕ) (x : ℕ) → IsOnce xs → has x xs ≡ true → (gender : ℕ) (c : Occupancy) → gender ≡ gender_number p x → IsOccupancy p xs c
     → (gender ≤ c.genders) × (gender * gender ≤ c.squares)
 some-there p xs x once there gender c gender_is is =
     let genders = is.genders in
@@ -127,8 +127,8 @@ some-there p xs x once there gender c gender_is is =
 
 -- ---- few persons have small sums
 
-pub company-small : (n : ℕ) (p : Profiles) (xs : List ℕ) (c : Company) → AreInRange n p → IsCompany p xs c → length xs ≤ most_persons → IsSmall c
-company-small n p xs c range is few =
+pub occupancy-small : (n : ℕ) (p : Profiles) (xs : List ℕ) (c : Occupancy) → AreInRange n p → IsOccupancy p xs c → length xs ≤ most_persons → IsSmall c
+occupancy-small n p xs c range is few =
     let count = is.count in
     let each : (x : ℕ) → gender_number p x ≤ most_persons = λ x. let below = range.genders x in omega arith in
     let sum = sum_by-le (gender_number p) most_persons xs (λ i d inside. each _) in

@@ -5,7 +5,7 @@ use Rattle.std.proofs.lemmas.List.{length-replicate}
 use Rattle.ih_links.specs.Days.{empty_lists, on_day}
 use Rattle.ih_links.proofs.EmptyDays.{empty-day, empty-list}
 use Rattle.ih_roomdays.specs.declared.rows.Rows.{Rows}
-use Rattle.ih_roomdays.specs.Company.{nobody}
+use Rattle.ih_roomdays.specs.Occupancy.{nobody}
 use Rattle.ih_roomdays.specs.Profiles.{AreInRange, most_persons}
 use Rattle.ih_roomdays.specs.Rows.{AreVacant, persons_at, crowd_at}
 use Rattle.ih_roomdays.proofs.Tallies.{crowd-none}

@@ -1,5 +1,5 @@
 pub mod Rows
-pub mod Company
+pub mod Occupancy
 pub mod Parts
 pub mod Genders
 pub mod Profiles

@@ -2,11 +2,11 @@
 use Rattle.std.specs.Prelude.{◌≡◌, ℕ, ◌+◌, ◌*◌, ◌^◌, ◌<◌, ◌≤◌, Bool, true, false, ◌==◌, ◌&&◌, ◌||◌, not, List, length, slice_index_or}
 use Rattle.ih_links.specs.Lists.{has, list_of, IsOnce}
 use Rattle.ih_links.specs.Days.{on_day}
-use Rattle.ih_roomdays.specs.declared.companies.Crowd.{Crowd}
+use Rattle.ih_roomdays.specs.declared.occupancies.Crowd.{Crowd}
 use Rattle.ih_roomdays.specs.declared.profiles.Profiles.{Profiles}
 use Rattle.ih_roomdays.specs.declared.rows.Rows.{Rows}
 use Rattle.ih_roomdays.specs.Profiles.{AreInRange, most_persons}
-use Rattle.ih_roomdays.specs.Company.{IsCrowd, nobody}
+use Rattle.ih_roomdays.specs.Occupancy.{IsCrowd, nobody}
 use Rattle.ih_plan.specs.Presence.{in_span}
 
 -- the persons in room r on day d

@@ -7,12 +7,12 @@ ghost use Rattle.ih_plan.specs.Persons.{person_of};
 ghost use Rattle.ih_links.specs.Lists.{AreNodes, without, with_if};
 ghost use Rattle.ih_roomdays.specs.Rows.{AreRows, persons_at, is_at};
 ghost use Rattle.ih_roomdays.specs.declared.profiles.Profiles.{Profiles};
-ghost use Rattle.ih_roomdays.specs.Company.{IsCompany, IsSmall};
+ghost use Rattle.ih_roomdays.specs.Occupancy.{IsOccupancy, IsSmall};
 ghost use Rattle.ih_roomdays.specs.Profiles.{AreProfiles, ArePersons, profile_of};
 ghost use Rattle.ih_roomdays.specs.Parts.{room_counts};
 
 use crate::bills::RoomDayCounts;
-use crate::companies::Company;
+use crate::occupancies::Occupancy;
 use crate::profiles::Profile;
 use crate::rows::Rows;
 use ih_plan::Placement;
@@ -37,33 +37,33 @@ pub fn is_there(inst: &Instance, p: PatientNo, stay: Option<Placement>, r: RoomN
 }
 
 /// What persons of whom this is kept break and cost in a room.
-pub fn room_counts(inst: &Instance, r: RoomNo, company: Company) -> RoomDayCounts
+pub fn room_counts(inst: &Instance, r: RoomNo, occupancy: Occupancy) -> RoomDayCounts
     requires room { r.0 < room_count inst.now.draft }
-    requires small { IsSmall company }
+    requires small { IsSmall occupancy }
     ensures { (p : Profiles) (xs : List ℕ) → AreProfiles inst.now.draft p → ArePersons inst.now.draft xs
-        → IsCompany p xs company → result ≡ room_counts inst.now.draft r.0 xs }
+        → IsOccupancy p xs occupancy → result ≡ room_counts inst.now.draft r.0 xs }
 {
     RoomDayCounts {
-        mixed: company.is_mixed(),
-        over: company.count.saturating_sub(inst.room(r).capacity),
-        spread: company.spread(),
+        mixed: occupancy.is_mixed(),
+        over: occupancy.count.saturating_sub(inst.room(r).capacity),
+        spread: occupancy.spread(),
     }
 }
 
 // What is kept of the persons in a room on a day other than x, who is there or not.
-fn others(rows: &Rows, r: RoomNo, d: Day, x: u32, who: Profile, there: bool) -> Company
+fn others(rows: &Rows, r: RoomNo, d: Day, x: u32, who: Profile, there: bool) -> Occupancy
     requires rows { AreRows rows.now }
     requires room { r.0 < rows.now.rooms }
     requires day { d.0 < rows.now.days }
     requires profile { who ≡ profile_of rows.now.profiles x }
     requires there { there ≡ is_at rows.now r.0 d.0 x }
-    ensures { IsCompany rows.now.profiles (without x (persons_at rows.now r.0 d.0)) result }
+    ensures { IsOccupancy rows.now.profiles (without x (persons_at rows.now r.0 d.0)) result }
 {
     let crowd = rows.crowds[(r.0 * rows.days + d.0) as usize];
     if there {
         crowd.without(who)
     } else {
-        crowd.company
+        crowd.occupancy
     }
 }
 

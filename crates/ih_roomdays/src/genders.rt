@@ -6,7 +6,7 @@ ghost use Rattle.ih_tables.specs.Sizes.{person_count};
 ghost use Rattle.ih_plan.specs.Persons.{person_of};
 ghost use Rattle.ih_roomdays.specs.Genders.{AreGenders};
 
-use crate::persons::same_gender;
+use ih_plan::same_gender;
 use ih_tables::Instance;
 use std::alloc::{AllocError, Global};
 

@@ -3,9 +3,8 @@
 
 mod bills;
 mod changes;
-mod companies;
 mod genders;
-mod persons;
+mod occupancies;
 mod profiles;
 mod room_days;
 mod rows;

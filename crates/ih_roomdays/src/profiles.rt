@@ -4,7 +4,7 @@ ghost use Rattle.std.specs.Prelude.{◌≡◌, ◌<◌, IfOk, length};
 ghost use Rattle.ih_roomdays.specs.Profiles.{AreAges, AreInRange, AreProfiles, most_persons, profile_of};
 
 use crate::genders::gender_numbers;
-use crate::persons::age_group;
+use ih_plan::age_group;
 use ih_tables::Instance;
 use std::alloc::{AllocError, Global};
 

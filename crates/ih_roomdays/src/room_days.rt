@@ -92,7 +92,7 @@ impl RoomDays {
         ensures within { IsWithin (10 ^ 11) result }
     {
         let head = r.0 * self.rows.days + d.0;
-        room_day_bill(room_counts(inst, r, self.rows.crowds[head as usize].company))
+        room_day_bill(room_counts(inst, r, self.rows.crowds[head as usize].occupancy))
     }
 
     /// How much more a placement's room breaks and costs on one of its days with the patient there than without, whose

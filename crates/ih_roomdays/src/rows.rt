@@ -4,7 +4,7 @@ ghost use Rattle.std.specs.Prelude.{◌≡◌, ℕ, ◌*◌, ◌^◌, ◌<◌, �
 ghost use Rattle.ih_roomdays.specs.Profiles.{AreInRange, most_persons};
 ghost use Rattle.ih_roomdays.specs.Rows.{AreRows, AreVacant, IsEntered, IsLeft, is_at};
 
-use crate::companies::{Crowd, NOBODY, crowd_of};
+use crate::occupancies::{Crowd, NOBODY, crowd_of};
 use crate::profiles::Profiles;
 use ih_links::{Links, empty_days};
 use std::alloc::{AllocError, Global};

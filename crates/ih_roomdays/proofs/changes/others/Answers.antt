@@ -1,5 +1,5 @@
 use Rattle.std.proofs.Common.{◌∙◌, sym, subst}
-use Rattle.ih_roomdays.specs.Company.{IsCompany, IsCrowd}
+use Rattle.ih_roomdays.specs.Occupancy.{IsOccupancy, IsCrowd}
 use Rattle.ih_roomdays.specs.Rows.{persons_at}
 use Rattle.ih_roomdays.proofs.OtherPersons.{own-part, rest-all}
 use Rattle.ih_roomdays.proofs.People.{crowd-read}
@@ -30,4 +30,4 @@ returns-else-there c =
     let v = c.args.rows.now in
     let is = crowd-read v c.args.r.0 c.args.d.0 c.index-crowd.result.now c.requires.rows c.requires.room c.requires.day c.index-crowd.ensures in
     rw (rest-all v c.requires.rows c.args.r.0 c.args.d.0 c.args.x c.requires.day (sym c.requires.there ∙ c.if-there.false))
-    (subst (λ k. IsCompany v.profiles (persons_at v c.args.r.0 c.args.d.0) k.company) (sym is) (c.requires.rows.kept c.args.r.0 c.args.d.0 c.requires.day).company)
+    (subst (λ k. IsOccupancy v.profiles (persons_at v c.args.r.0 c.args.d.0) k.occupancy) (sym is) (c.requires.rows.kept c.args.r.0 c.args.d.0 c.requires.day).occupancy)

@@ -2,26 +2,26 @@ use Rattle.std.proofs.Common.{[], ◌∷◌, ◌++◌, arith, true, false}
 use Rattle.ih_links.specs.Lists.{without}
 use Rattle.ih_roomdays.specs.Rows.{persons_at}
 use Rattle.ih_roomdays.proofs.OtherPersons.{rest-known, with-few}
-use Rattle.ih_roomdays.proofs.Tallies.{company-small}
+use Rattle.ih_roomdays.proofs.Tallies.{occupancy-small}
 use Rattle.ih_roomdays.proofs.changes.without_and_with.Goals as goal
 
 pub room_counts-requires-clause-small : goal.room_counts-requires-clause-small
 room_counts-requires-clause-small c =
     let v = c.args.rows.now in
-    company-small v.persons v.profiles (without c.args.p.0 (persons_at v c.args.r.0 c.args.d.0)) c.others-rest.result c.requires.rows.profiles c.others-rest.ensures
+    occupancy-small v.persons v.profiles (without c.args.p.0 (persons_at v c.args.r.0 c.args.d.0)) c.others-rest.result c.requires.rows.profiles c.others-rest.ensures
     (with-few v c.requires.rows c.args.r.0 c.args.d.0 c.args.p.0 c.requires.day (omega (arith, c.requires.persons)) false)
 
 pub with-requires-clause-small : goal.with-requires-clause-small
 with-requires-clause-small c =
     let v = c.args.rows.now in
-    company-small v.persons v.profiles (without c.args.p.0 (persons_at v c.args.r.0 c.args.d.0)) c.others-rest.result c.requires.rows.profiles c.others-rest.ensures
+    occupancy-small v.persons v.profiles (without c.args.p.0 (persons_at v c.args.r.0 c.args.d.0)) c.others-rest.result c.requires.rows.profiles c.others-rest.ensures
     (with-few v c.requires.rows c.args.r.0 c.args.d.0 c.args.p.0 c.requires.day (omega (arith, c.requires.persons)) false)
 
 pub room_counts-requires-2-clause-small : goal.room_counts-requires-2-clause-small
 room_counts-requires-2-clause-small c =
     let v = c.args.rows.now in
     let rest = without c.args.p.0 (persons_at v c.args.r.0 c.args.d.0) in
-    company-small v.persons v.profiles (rest ++ c.args.p.0 ∷ []) c.with.result c.requires.rows.profiles (c.with.ensures v.profiles rest c.args.p.0 c.of-who.ensures.value c.others-rest.ensures)
+    occupancy-small v.persons v.profiles (rest ++ c.args.p.0 ∷ []) c.with.result c.requires.rows.profiles (c.with.ensures v.profiles rest c.args.p.0 c.of-who.ensures.value c.others-rest.ensures)
     (with-few v c.requires.rows c.args.r.0 c.args.d.0 c.args.p.0 c.requires.day (omega (arith, c.requires.persons)) true)
 
 pub returns-clause-without : goal.returns-clause-without

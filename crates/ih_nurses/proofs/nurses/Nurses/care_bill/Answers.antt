@@ -1,8 +1,8 @@
 use Rattle.std.proofs.Common.{◌∙◌, refl}
-use Rattle.ih_nurses.proofs.StretchLemmas.{stretch-part}
+use Rattle.ih_nurses.proofs.ShiftSpanLemmas.{shift_span-part}
 use Rattle.ih_nurses.proofs.nurses.Nurses.care_bill.Goals as goal
 
 pub returns-clause-part : goal.returns-clause-part
 returns-clause-part c = λ P known.
     c.bill_of.ensures.value
-    ∙ stretch-part c.args.inst.now.draft P c.args.x c.nurses_over.result (c.nurses_over.ensures ∙ rw (c.stretch_of.ensures.stretch, known.plan_is) refl)
+    ∙ shift_span-part c.args.inst.now.draft P c.args.x c.nurses_over.result (c.nurses_over.ensures ∙ rw (c.shift_span_of.ensures.shift_span, known.plan_is) refl)

@@ -7,7 +7,7 @@ use Rattle.ih_plan.specs.Writes.{put}
 use Rattle.ih_plan.specs.BillOf.{as_bill}
 use Rattle.ih_plan.specs.Cells.{part_at}
 use Rattle.ih_nurses.proofs.DifferenceLemmas.{less-by, care-change}
-use Rattle.ih_nurses.proofs.StretchLemmas.{care-gain}
+use Rattle.ih_nurses.proofs.ShiftSpanLemmas.{care-gain}
 use Rattle.ih_nurses.proofs.LedgerLemmas.{stands-own}
 use Rattle.ih_nurses.proofs.nurses.Nurses.care_gain.Goals as goal
 
@@ -21,4 +21,4 @@ returns-clause-gain c = λ P known.
     (c.difference.ensures.value
     ∙ (less-by c.nursed.ensures c.nursed-2.ensures
     ∙ care-change I (put (SetStay p None) plan) (put (SetStay p (Some c.args.at)) plan) (record { 0 = p.0 }) c.nurses_over.result 0
-    (care-gain I plan p c.args.at own.fits c.requires.patient c.nurses_over.result (c.nurses_over.ensures ∙ rw (c.stay_stretch-stretch.ensures.stretch) refl))))
+    (care-gain I plan p c.args.at own.fits c.requires.patient c.nurses_over.result (c.nurses_over.ensures ∙ rw (c.stay_shift_span-shift_span.ensures.shift_span) refl))))

@@ -13,8 +13,8 @@ enter_days-requires-clause-free c = rw c.as_mut_slice.ensures.value (not-here c.
 pub add_stay-requires-clause-small : goal.add_stay-requires-clause-small
 add_stay-requires-clause-small c = rw c.as_mut_slice-2.ensures.value (loads-small c.requires.stands.1 c.args.inst.now.valid)
 
-pub add_stretch-requires-clause-none : goal.add_stretch-requires-clause-none
-add_stretch-requires-clause-none c = rw c.as_mut_slice-3.ensures.value (not-counted c.requires.stands.1 c.args.p.0 c.requires.patient c.requires.stands.2)
+pub add_shift_span-requires-clause-none : goal.add_shift_span-requires-clause-none
+add_shift_span-requires-clause-none c = rw c.as_mut_slice-3.ensures.value (not-counted c.requires.stands.1 c.args.p.0 c.requires.patient c.requires.stands.2)
 
 pub returns : goal.returns
 returns c = λ P known.
@@ -26,7 +26,7 @@ returns c = λ P known.
     rw (
       with_items_is c.args.self.now.here c.enter_days.new.here (days ∙ (sym days_before ∙ sym c.args.self.now.here.ok.0)),
       with_items_is c.args.self.now.loads c.add_stay.new.loads (c.add_stay.ensures.table.len ∙ (sym own.loads_are.table.len ∙ sym c.args.self.now.loads.ok.0)),
-      with_items_is c.args.self.now.counts c.add_stretch.new.counts (c.add_stretch.ensures.len ∙ (ap length c.as_mut_slice-3.ensures.value ∙ sym c.args.self.now.counts.ok.0)),
+      with_items_is c.args.self.now.counts c.add_shift_span.new.counts (c.add_shift_span.ensures.len ∙ (ap length c.as_mut_slice-3.ensures.value ∙ sym c.args.self.now.counts.ok.0)),
     )
     (stands-for known (SetStay c.args.p (Some c.args.at)) (record {
       plan_is = c.put.ensures;
@@ -35,7 +35,7 @@ returns c = λ P known.
           (rw (← c.as_mut_slice.ensures.value, ← c.end_of-end.ensures.value) c.enter_days.ensures.each);
       loads_are = loads-added admission c.args.self.now.loads.items c.add_stay.new.loads own.loads_are c.add_stay.ensures.table
           (rw (← c.as_mut_slice-2.ensures.value) c.add_stay.ensures.each);
-      counts_are = counts-added admission c.placed_stretch-stretch.result c.placed_stretch-stretch.ensures.stretch c.args.self.now.counts.items c.add_stretch.new.counts own.counts_are
-          (c.add_stretch.ensures.len ∙ ap length c.as_mut_slice-3.ensures.value)
-          (rw (← c.as_mut_slice-3.ensures.value) c.add_stretch.ensures.each);
+      counts_are = counts-added admission c.placed_shift_span-shift_span.result c.placed_shift_span-shift_span.ensures.shift_span c.args.self.now.counts.items c.add_shift_span.new.counts own.counts_are
+          (c.add_shift_span.ensures.len ∙ ap length c.as_mut_slice-3.ensures.value)
+          (rw (← c.as_mut_slice-3.ensures.value) c.add_shift_span.ensures.each);
     }))

@@ -10,8 +10,8 @@ use Rattle.ih_nurses.proofs.ChoiceLemmas.{load-there, loads-told}
 use Rattle.ih_nurses.proofs.LedgerLemmas.{stands-own, loads-small, all-some}
 use Rattle.ih_nurses.proofs.nurses.Nurses.loads_change.Goals as goal
 
-pub relief-requires-clause-enough : goal.relief-requires-clause-enough
-relief-requires-clause-enough c =
+pub excess_without-requires-clause-enough : goal.excess_without-requires-clause-enough
+excess_without-requires-clause-enough c =
     let I = c.args.inst.now.draft in
     let plan = c.args.self.now.plan in
     let own = stands-own c.requires.stands.1 in
@@ -19,8 +19,8 @@ relief-requires-clause-enough c =
     (load-there I plan c.args.r c.args.k c.args.new own.fits c.requires.room c.requires.shift (c.requires.other plan own)
     c.args.self.now.loads.items c.args.old c.args.work own.loads_are c.requires.old c.requires.old_nurse c.requires.work)
 
-pub burden-requires-clause-fits : goal.burden-requires-clause-fits
-burden-requires-clause-fits c =
+pub excess_with-requires-clause-fits : goal.excess_with-requires-clause-fits
+excess_with-requires-clause-fits c =
     let I = c.args.inst.now.draft in
     rw c.as_slice-loads.ensures.value
     (all-some (λ (a : NurseNo). load_at I c.args.self.now.loads.items a.0 c.args.k.0 + c.args.work < 4294967296) c.args.new
@@ -35,14 +35,14 @@ returns c = λ P known.
     let own = stands-own known in
     let nurse = all-some (λ (a : NurseNo). a.0 < nurse_count I) c.args.new c.requires.nurse in
     let old_nurse = subst (λ o. IfSome o (λ (a : NurseNo). a.0 < nurse_count I)) c.requires.old c.requires.old_nurse in
-    let told : c.relief.result +ℤ c.burden.result ≡ rise_by_choice plan c.args.r c.args.k c.args.new
+    let told : c.excess_without.result +ℤ c.excess_with.result ≡ rise_by_choice plan c.args.r c.args.k c.args.new
     (λ Q. excess_of I Q c.args.k.0 (care_of plan c.args.r.0 c.args.k.0) + excess_of I Q c.args.k.0 (option_map (λ (a : NurseNo). a.0) c.args.new)) =
-    rw (c.relief.ensures.rise, c.burden.ensures.rise, c.as_slice-loads.ensures.value, c.requires.old)
+    rw (c.excess_without.ensures.rise, c.excess_with.ensures.rise, c.as_slice-loads.ensures.value, c.requires.old)
     (loads-told I plan c.args.r c.args.k c.args.new c.args.self.now.loads.items c.args.work own.fits c.requires.room c.requires.shift
     (c.requires.other plan own) own.loads_are c.requires.work old_nurse nurse) in
-    let fits_relief : FitsSigned w64 c.relief.result = search rules in
-    let fits_burden : FitsSigned w64 c.burden.result = search rules in
-    let fits : FitsSigned w64 (c.relief.result +ℤ c.burden.result) = search rules in
-    subst (λ (S : Timetable). to_z w64 (of_z w64 (to_z w64 (of_z w64 c.relief.result) +ℤ to_z w64 (of_z w64 c.burden.result)))
+    let fits_without : FitsSigned w64 c.excess_without.result = search rules in
+    let fits_with : FitsSigned w64 c.excess_with.result = search rules in
+    let fits : FitsSigned w64 (c.excess_without.result +ℤ c.excess_with.result) = search rules in
+    subst (λ (S : Timetable). to_z w64 (of_z w64 (to_z w64 (of_z w64 c.excess_without.result) +ℤ to_z w64 (of_z w64 c.excess_with.result)))
     ≡ rise_by_choice S c.args.r c.args.k c.args.new (λ Q. excess_of I Q c.args.k.0 (care_of S c.args.r.0 c.args.k.0) + excess_of I Q c.args.k.0 (option_map (λ (a : NurseNo). a.0) c.args.new))) known.plan_is
-    (rw (to_z-of_z w64 c.relief.result fits_relief, to_z-of_z w64 c.burden.result fits_burden, to_z-of_z w64 (c.relief.result +ℤ c.burden.result) fits) told)
+    (rw (to_z-of_z w64 c.excess_without.result fits_without, to_z-of_z w64 c.excess_with.result fits_with, to_z-of_z w64 (c.excess_without.result +ℤ c.excess_with.result) fits) told)

@@ -1,6 +1,6 @@
 use Rattle.std.proofs.Common.{◌∙◌, ap, sym, subst}
 use Rattle.ih_plan.specs.BillOf.{as_bill}
-use Rattle.ih_roomdays.specs.Company.{IsCompany, IsSmall}
+use Rattle.ih_roomdays.specs.Occupancy.{IsOccupancy, IsSmall}
 use Rattle.ih_roomdays.specs.Ledger.{IsLedgerOf}
 use Rattle.ih_roomdays.specs.Parts.{room_day_part}
 use Rattle.ih_roomdays.specs.Rows.{persons_at}
@@ -14,7 +14,7 @@ room_counts-requires-clause-small c =
     let v = c.self.inside.rows in
     let stands = subst (λ w. IsLedgerOf I c.requires.stands.0 w) (sym c.self.view_is) c.requires.stands.1 in
     let place = place-known I c.requires.stands.0 v stands c.args.r c.args.d c.requires.room c.requires.day in
-    subst (λ k. IsSmall k.company) (sym (crowd-read v c.args.r.0 c.args.d.0 c.index.result.now stands.rows place.0 place.1 c.index.ensures)) (crowd-small v c.args.r.0 c.args.d.0 stands.rows place.1)
+    subst (λ k. IsSmall k.occupancy) (sym (crowd-read v c.args.r.0 c.args.d.0 c.index.result.now stands.rows place.0 place.1 c.index.ensures)) (crowd-small v c.args.r.0 c.args.d.0 stands.rows place.1)
 
 pub returns-clause-value : goal.returns-clause-value
 returns-clause-value c = λ P stands.
@@ -23,7 +23,7 @@ returns-clause-value c = λ P stands.
     let now = subst (λ w. IsLedgerOf I P w) (sym c.self.view_is) stands in
     let place = place-known I P v now c.args.r c.args.d c.requires.room c.requires.day in
     let is = crowd-read v c.args.r.0 c.args.d.0 c.index.result.now now.rows place.0 place.1 c.index.ensures in
-    let kept = subst (λ k. IsCompany v.profiles (persons_at v c.args.r.0 c.args.d.0) k.company) (sym is) (now.rows.kept c.args.r.0 c.args.d.0 place.1).company in
+    let kept = subst (λ k. IsOccupancy v.profiles (persons_at v c.args.r.0 c.args.d.0) k.occupancy) (sym is) (now.rows.kept c.args.r.0 c.args.d.0 place.1).occupancy in
     c.room_day_bill.ensures.value
     ∙ ap (λ k. as_bill (room_day_part k)) (c.room_counts.ensures v.profiles (persons_at v c.args.r.0 c.args.d.0) now.profiles (persons-known I P v now c.args.r.0 c.args.d.0 place.1) kept)
     ∙ ap as_bill (cell-part I P v now c.args.r c.args.d c.requires.day)

@@ -1,5 +1,5 @@
 use Rattle.std.proofs.Common.{arith, refl, sym, ap, subst, ◌∙◌}
-use Rattle.ih_roomdays.specs.Company.{IsCrowd, IsSmall}
+use Rattle.ih_roomdays.specs.Occupancy.{IsCrowd, IsSmall}
 use Rattle.ih_roomdays.specs.Profiles.{profile_of}
 use Rattle.ih_roomdays.specs.Rows.{persons_at}
 use Rattle.ih_roomdays.proofs.Entries.{entered-more, free, longer-day, nowhere-yet}
@@ -19,7 +19,7 @@ pub with-requires-clause-small : goal.with-requires-clause-small
 with-requires-clause-small c =
     let so_far = c.loop-d.invariant in
     let is = crowd-read c.loop-d.self c.args.room c.loop-d.d c.index.result.now so_far.rows (omega (arith, so_far.rooms)) (omega (arith, so_far.days)) c.index.ensures in
-    subst (λ k. IsSmall k.company) (sym is) (crowd-small c.loop-d.self c.args.room c.loop-d.d so_far.rows (omega (arith, so_far.days)))
+    subst (λ k. IsSmall k.occupancy) (sym is) (crowd-small c.loop-d.self c.args.room c.loop-d.d so_far.rows (omega (arith, so_far.days)))
 
 pub loop-d-preserved : goal.loop-d-preserved
 loop-d-preserved c =

@@ -1,5 +1,5 @@
 use Rattle.std.proofs.Common.{arith, refl, subst}
-use Rattle.ih_roomdays.specs.Company.{IsCrowd}
+use Rattle.ih_roomdays.specs.Occupancy.{IsCrowd}
 use Rattle.ih_roomdays.proofs.Leavings.{few-left, left-more, linked, shorter-day, there-yet}
 use Rattle.ih_roomdays.proofs.People.{day-read}
 use Rattle.ih_roomdays.proofs.Replacements.{replaced}

@@ -1,5 +1,0 @@
-use Rattle.ih_nurses.proofs.CountLemmas.{AreUncounted}
-use Rattle.ih_nurses.proofs.counts.take_stretch.Given as goal
-
-abbrev pub invariant-loop-j : goal.invariant-loop-j
-invariant-loop-j l = AreUncounted l.fn.inst.draft l.fn.plan l.fn.x l.fn.s l.fn.counts l.counts l.j
