@@ -1,4 +1,4 @@
-use Rattle.std.proofs.Common.{◌≡◌, ◌<◌, ◌≤◌, ◌∙◌, ap, arith, length, map, sym, subst}
+use Rattle.std.proofs.Common.{◌<◌, ◌≤◌, ◌∙◌, arith, length, map, sym, subst}
 use Rattle.ih_turn.specs.Seats.{history, number_of, turns_left}
 use Rattle.ih_cellbook.specs.Replicas.{MayFollowUpTo, StandsUpTo}
 use Rattle.ih_cellbook.specs.Told.{TellsOf}
