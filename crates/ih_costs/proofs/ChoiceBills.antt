@@ -1,5 +1,5 @@
 -- The law of choices: what another choice of nurse changes in the bill.
-use Rattle.std.proofs.Common.{◌≡◌, ℕ, ◌+◌, ◌^◌, refl, arith, ap, sym, subst, ◌∙◌, w64, to_z, of_z, List, [], ◌∷◌, Option, Some, None}
+use Rattle.std.proofs.Common.{◌≡◌, ℕ, ◌+◌, ◌^◌, refl, arith, ap, sym, subst, ◌∙◌, List, [], ◌∷◌, Option, Some, None}
 use Rattle.std.specs.Prelude.{ℤ, pos, neg_ℤ, ◌≤ℤ◌, slice_index, sum_by, option_map}
 use Rattle.ih_tables.specs.declared.drafts.Draft.{Draft}
 use Rattle.ih_tables.specs.declared.ids.RoomNo.{RoomNo}
@@ -22,11 +22,13 @@ use Rattle.ih_plan.proofs.Parts.{total, has_parts}
 use Rattle.ih_plan.proofs.PlanRanges.{put-plan}
 use Rattle.ih_footprint.proofs.LocalPrices.{differences-same}
 use Rattle.ih_nurses.specs.Choice.{excess_of, seen_by, rise_by_choice}
+use Rattle.ih_costs.specs.Numbers.{mixed_gender, incompatible_room, surgeon_overrun, theatre_overrun, unscheduled_mandatory, admission_window, room_capacity, nurse_presence, uncovered_room}
+use Rattle.ih_costs.specs.Numbers.{mixed_age, nurse_skill, continuity_of_care, excess_workload, open_theatre, surgeon_transfer, patient_delay, unscheduled_optional}
 use Rattle.ih_costs.specs.StayGain.{rule_at, cost_at}
 use Rattle.ih_costs.specs.ChoiceGain.{choice_told}
 use Rattle.ih_costs.proofs.ChoiceLemmas.{number_of, loads_by, cares_by, choice_by, number-choice}
 use Rattle.ih_costs.proofs.GainBills.{counts-same, nine, eight}
-use Rattle.ih_costs.proofs.GainSteps.{passed-is}
+use Rattle.ih_costs.proofs.GainSteps.{handed, passed-is}
 use Rattle.ih_costs.proofs.SpanSums.{at_place}
 
 -- ---- sums of nothing
@@ -45,8 +47,8 @@ module _ (I : Draft) (P : Timetable) (r : RoomNo) (k : Shift) (new : Option Nurs
   -- the numbers of the choice's cells at a timetable, each of the one kind of cells that has it
   numbers : Timetable → Counts
   numbers Q = record {
-    v = 0 ∷ 0 ∷ 0 ∷ 0 ∷ 0 ∷ 0 ∷ 0 ∷ rule_at 7 (part_at I Q (RoomShift r k)) ∷ rule_at 8 (part_at I Q (RoomShift r k)) ∷ [];
-    s = 0 ∷ cost_at 1 (part_at I Q (RoomShift r k)) ∷ seen_by I Q (present I P r.0 (day_of k.0))
+    v = 0 ∷ 0 ∷ 0 ∷ 0 ∷ 0 ∷ 0 ∷ 0 ∷ rule_at nurse_presence (part_at I Q (RoomShift r k)) ∷ rule_at uncovered_room (part_at I Q (RoomShift r k)) ∷ [];
+    s = 0 ∷ cost_at nurse_skill (part_at I Q (RoomShift r k)) ∷ seen_by I Q (present I P r.0 (day_of k.0))
         ∷ (excess_of I Q k.0 (care_of P r.0 k.0) + excess_of I Q k.0 (number_of new)) ∷ 0 ∷ 0 ∷ 0 ∷ 0 ∷ [];
   }
 
@@ -71,31 +73,40 @@ module _ (I : Draft) (P : Timetable) (r : RoomNo) (k : Shift) (new : Option Nurs
         → choice_by I P r k new Q g ≡ 0
     by_none g room loads cares = by_room g loads cares ∙ room
 
-    seen : choice_by I P r k new Q (cost_at 2) ≡ seen_by I Q (present I P r.0 (day_of k.0))
+    seen : choice_by I P r k new Q (cost_at continuity_of_care) ≡ seen_by I Q (present I P r.0 (day_of k.0))
     unfolding part_of content_of
     seen =
-        let room : cost_at 2 (part_at I Q (RoomShift r k)) ≡ 0 = refl in
-        let loads = loads-none (cost_at 2) (λ n. refl) in
+        let room : cost_at continuity_of_care (part_at I Q (RoomShift r k)) ≡ 0 = refl in
+        let loads = loads-none (cost_at continuity_of_care) (λ n. refl) in
         omega (arith, room, loads)
 
-    load : choice_by I P r k new Q (cost_at 3) ≡ excess_of I Q k.0 (care_of P r.0 k.0) + excess_of I Q k.0 (number_of new)
+    load : choice_by I P r k new Q (cost_at excess_workload) ≡ excess_of I Q k.0 (care_of P r.0 k.0) + excess_of I Q k.0 (number_of new)
     unfolding part_of content_of
     load =
-        let room : cost_at 3 (part_at I Q (RoomShift r k)) ≡ 0 = refl in
-        let cares = cares-none (cost_at 3) (λ x. refl) in
+        let room : cost_at excess_workload (part_at I Q (RoomShift r k)) ≡ 0 = refl in
+        let cares = cares-none (cost_at excess_workload) (λ x. refl) in
         omega (arith, room, cares)
 
     numbers-listed : numbers Q ≡ record { v = listed 9 (λ j. choice_by I P r k new Q (rule_at j)); s = listed 8 (λ j. choice_by I P r k new Q (cost_at j)) }
     unfolding numbers part_of content_of
     numbers-listed = counts-same _ _ _ _
         (nine (λ j. choice_by I P r k new Q (rule_at j)) _ _ _ _ _ _ _ _ _
-        (by_none (rule_at 0) refl (λ n. refl) (λ x. refl)) (by_none (rule_at 1) refl (λ n. refl) (λ x. refl)) (by_none (rule_at 2) refl (λ n. refl) (λ x. refl))
-        (by_none (rule_at 3) refl (λ n. refl) (λ x. refl)) (by_none (rule_at 4) refl (λ n. refl) (λ x. refl)) (by_none (rule_at 5) refl (λ n. refl) (λ x. refl))
-        (by_none (rule_at 6) refl (λ n. refl) (λ x. refl)) (by_room (rule_at 7) (λ n. refl) (λ x. refl)) (by_room (rule_at 8) (λ n. refl) (λ x. refl)))
+        (by_none (rule_at mixed_gender) refl (λ n. refl) (λ x. refl))
+        (by_none (rule_at incompatible_room) refl (λ n. refl) (λ x. refl))
+        (by_none (rule_at surgeon_overrun) refl (λ n. refl) (λ x. refl))
+        (by_none (rule_at theatre_overrun) refl (λ n. refl) (λ x. refl))
+        (by_none (rule_at unscheduled_mandatory) refl (λ n. refl) (λ x. refl))
+        (by_none (rule_at admission_window) refl (λ n. refl) (λ x. refl))
+        (by_none (rule_at room_capacity) refl (λ n. refl) (λ x. refl))
+        (by_room (rule_at nurse_presence) (λ n. refl) (λ x. refl))
+        (by_room (rule_at uncovered_room) (λ n. refl) (λ x. refl)))
         (eight (λ j. choice_by I P r k new Q (cost_at j)) _ _ _ _ _ _ _ _
-        (by_none (cost_at 0) refl (λ n. refl) (λ x. refl)) (by_room (cost_at 1) (λ n. refl) (λ x. refl)) seen load
-        (by_none (cost_at 4) refl (λ n. refl) (λ x. refl)) (by_none (cost_at 5) refl (λ n. refl) (λ x. refl)) (by_none (cost_at 6) refl (λ n. refl) (λ x. refl))
-        (by_none (cost_at 7) refl (λ n. refl) (λ x. refl)))
+        (by_none (cost_at mixed_age) refl (λ n. refl) (λ x. refl))
+        (by_room (cost_at nurse_skill) (λ n. refl) (λ x. refl)) seen load
+        (by_none (cost_at open_theatre) refl (λ n. refl) (λ x. refl))
+        (by_none (cost_at surgeon_transfer) refl (λ n. refl) (λ x. refl))
+        (by_none (cost_at patient_delay) refl (λ n. refl) (λ x. refl))
+        (by_none (cost_at unscheduled_optional) refl (λ n. refl) (λ x. refl)))
 
   numbers-told : sub_bills (as_bill (numbers (put (SetCare r k new) P))) (as_bill (numbers P)) ≡ choice_told I P r k new
   unfolding numbers
@@ -130,9 +141,9 @@ other-number old new ne e =
 
 module _ (I : Draft) (P : Timetable) (r : RoomNo) (k : Shift) (new : Option NurseNo) (off uncovered missing seen load : ℤ)
     (valid : IsValid I) (plan : IsPlanOf I P) (fits : IsWriteOf I (SetCare r k new)) (other : care_of P r.0 k.0 ≡ number_of new → ⊥)
-    (off_is : off ≡ rise_by_choice P r k new (λ Q. rule_at 7 (part_at I Q (RoomShift r k))))
-    (uncovered_is : uncovered ≡ rise_by_choice P r k new (λ Q. rule_at 8 (part_at I Q (RoomShift r k))))
-    (missing_is : missing ≡ rise_by_choice P r k new (λ Q. cost_at 1 (part_at I Q (RoomShift r k))))
+    (off_is : off ≡ rise_by_choice P r k new (λ Q. rule_at nurse_presence (part_at I Q (RoomShift r k))))
+    (uncovered_is : uncovered ≡ rise_by_choice P r k new (λ Q. rule_at uncovered_room (part_at I Q (RoomShift r k))))
+    (missing_is : missing ≡ rise_by_choice P r k new (λ Q. cost_at nurse_skill (part_at I Q (RoomShift r k))))
     (seen_is : seen ≡ rise_by_choice P r k new (λ Q. seen_by I Q (present I P r.0 (day_of k.0))))
     (load_is : load ≡ rise_by_choice P r k new (λ Q. excess_of I Q k.0 (care_of P r.0 k.0) + excess_of I Q k.0 (number_of new))) where
   law : change_of_bill I P (put (SetCare r k new) P) ≡ choice_told I P r k new
@@ -142,18 +153,18 @@ module _ (I : Draft) (P : Timetable) (r : RoomNo) (k : Shift) (new : Option Nurs
   small = subst (IsWithin (10 ^ 11)) law (change-within I P (put (SetCare r k new) P) valid plan (put-plan I P (SetCare r k new) plan fits))
 
   -- a number as it is handed on in 64 bits
-  passed : (told x : ℤ) → x ≡ told → (neg_ℤ (pos (10 ^ 11)) ≤ℤ told) × (told ≤ℤ pos (10 ^ 11)) → to_z w64 (of_z w64 x) ≡ told
-  passed told x e near = ap (λ z. to_z w64 (of_z w64 z)) e ∙ passed-is told near.0 near.1
+  passed : (told x : ℤ) → x ≡ told → (neg_ℤ (pos (10 ^ 11)) ≤ℤ told) × (told ≤ℤ pos (10 ^ 11)) → handed x ≡ told
+  passed told x e near = ap (λ z. handed z) e ∙ passed-is told near.0 near.1
 
   -- The numbers that the nurses' ledger tells are what the bill changes by.
   pub choice-priced : (let b : Bill = record {
-    v = pos 0 ∷ pos 0 ∷ pos 0 ∷ pos 0 ∷ pos 0 ∷ pos 0 ∷ pos 0 ∷ to_z w64 (of_z w64 off) ∷ to_z w64 (of_z w64 uncovered) ∷ [];
-    s = pos 0 ∷ to_z w64 (of_z w64 missing) ∷ to_z w64 (of_z w64 seen) ∷ to_z w64 (of_z w64 load) ∷ pos 0 ∷ pos 0 ∷ pos 0 ∷ pos 0 ∷ [];
+    v = pos 0 ∷ pos 0 ∷ pos 0 ∷ pos 0 ∷ pos 0 ∷ pos 0 ∷ pos 0 ∷ handed off ∷ handed uncovered ∷ [];
+    s = pos 0 ∷ handed missing ∷ handed seen ∷ handed load ∷ pos 0 ∷ pos 0 ∷ pos 0 ∷ pos 0 ∷ [];
   } in b ≡ change_of_bill I P (put (SetCare r k new) P))
   choice-priced =
-      let rule_off = passed (place (choice_told I P r k new).v 7) off off_is (small.v 7 (omega arith)) in
-      let rule_alone = passed (place (choice_told I P r k new).v 8) uncovered uncovered_is (small.v 8 (omega arith)) in
-      let skills = passed (place (choice_told I P r k new).s 1) missing missing_is (small.s 1 (omega arith)) in
-      let cares = passed (place (choice_told I P r k new).s 2) seen seen_is (small.s 2 (omega arith)) in
-      let loads = passed (place (choice_told I P r k new).s 3) load load_is (small.s 3 (omega arith)) in
+      let rule_off = passed (place (choice_told I P r k new).v nurse_presence) off off_is (small.v nurse_presence (omega arith)) in
+      let rule_alone = passed (place (choice_told I P r k new).v uncovered_room) uncovered uncovered_is (small.v uncovered_room (omega arith)) in
+      let skills = passed (place (choice_told I P r k new).s nurse_skill) missing missing_is (small.s nurse_skill (omega arith)) in
+      let cares = passed (place (choice_told I P r k new).s continuity_of_care) seen seen_is (small.s continuity_of_care (omega arith)) in
+      let loads = passed (place (choice_told I P r k new).s excess_workload) load load_is (small.s excess_workload (omega arith)) in
       rw (rule_off, rule_alone, skills, cares, loads) (sym law)

@@ -1,22 +1,25 @@
 -- What a loop over the days or shifts of a placement has added up.
-use Rattle.std.proofs.Common.{◌≡◌, ℕ, ◌+◌, ◌*◌, ◌<◌, ◌≤◌, min, refl, arith, ap, ◌∙◌, true, Option, Some, None}
-use Rattle.std.specs.Prelude.{ℤ, pos, ◌-ℤ◌}
+use Rattle.std.proofs.Common.{◌≡◌, ℕ, ◌+◌, ◌*◌, ◌^◌, ◌<◌, ◌≤◌, min, refl, arith, ap, ◌∙◌, true, Option, Some, None, w64, FitsSigned, to_z}
+use Rattle.std.specs.Prelude.{ℤ, pos, ◌+ℤ◌, ◌-ℤ◌}
 use Rattle.std.proofs.lemmas.Bool.{le-leb, lt-ltb}
 use Rattle.ih_tables.specs.declared.drafts.Draft.{Draft}
 use Rattle.ih_tables.specs.declared.ids.PatientNo.{PatientNo}
 use Rattle.ih_tables.specs.declared.ids.Shift.{Shift}
+use Rattle.ih_tables.specs.declared.bills.Bill.{Bill}
+use Rattle.ih_tables.specs.Bills.{at as place, sub_bills, IsWithin}
 use Rattle.ih_plan.specs.declared.moves.Placement.{Placement}
 use Rattle.ih_plan.specs.declared.moves.Write.TheVariants.{SetStay}
 use Rattle.ih_plan.specs.Timetable.{Timetable, care_of}
 use Rattle.ih_plan.specs.Writes.{put}
 use Rattle.ih_plan.specs.Presence.{covers, day_of}
-use Rattle.ih_plan.specs.BillOf.{Counts}
+use Rattle.ih_plan.specs.BillOf.{Counts, as_bill}
 use Rattle.ih_plan.specs.Cells.{part_at}
 use Rattle.ih_plan.proofs.CellNumbers.{room_day_cell, room_shift_cell}
 use Rattle.ih_nurses.specs.Choice.{excess_of}
 use Rattle.ih_nurses.specs.Gains.{excess_in, rise_by_placement}
+use Rattle.ih_costs.specs.Numbers.{mixed_gender, room_capacity, uncovered_room, mixed_age, nurse_skill, excess_workload}
 use Rattle.ih_costs.specs.StayGain.{rule_at, cost_at, of_nurse}
-use Rattle.ih_costs.proofs.GainSteps.{IsRisen}
+use Rattle.ih_costs.proofs.GainSteps.{IsRisen, handed, rule-risen, rule-fits, cost-risen, cost-fits, count-risen, count-fits}
 
 -- a shift of the counted days is counted
 pub shift-counted : (a n days k : ℕ) → 3 * a ≤ k → k < 3 * min (a + n) days → covers a n (day_of k) ≡ true
@@ -38,9 +41,9 @@ module _ (I : Draft) (P : Timetable) (p : PatientNo) (at : Placement) where
 
   -- the excess workload of the room's nurse in a shift
   abbrev pub excess : Timetable → ℕ → ℕ
-  excess Q k = of_nurse I Q p.0 at (cost_at 3) k (care_of Q at.room.0 k)
+  excess Q k = of_nurse I Q p.0 at (cost_at excess_workload) k (care_of Q at.room.0 k)
 
-  excess-is : (Q : Timetable) (k : ℕ) (n : Option ℕ) → excess_of I Q k n ≡ of_nurse I Q p.0 at (cost_at 3) k n
+  excess-is : (Q : Timetable) (k : ℕ) (n : Option ℕ) → excess_of I Q k n ≡ of_nurse I Q p.0 at (cost_at excess_workload) k n
   excess-is Q k None = refl
   excess-is Q k (Some n) = refl
 
@@ -52,12 +55,60 @@ module _ (I : Draft) (P : Timetable) (p : PatientNo) (at : Placement) where
 
   -- the days before d, with the placement less without
   pub record AreDaysTold (d : ℕ) (m c a : ℤ) : Type 0 where
-    pub mixed : IsRisen at.day.0 d (λ i. rule_at 0 (on_day placed i)) (λ i. rule_at 0 (on_day without i)) m
-    pub crowded : IsRisen at.day.0 d (λ i. rule_at 6 (on_day placed i)) (λ i. rule_at 6 (on_day without i)) c
-    pub ages : IsRisen at.day.0 d (λ i. cost_at 0 (on_day placed i)) (λ i. cost_at 0 (on_day without i)) a
+    pub mixed : IsRisen at.day.0 d (λ i. rule_at mixed_gender (on_day placed i)) (λ i. rule_at mixed_gender (on_day without i)) m
+    pub crowded : IsRisen at.day.0 d (λ i. rule_at room_capacity (on_day placed i)) (λ i. rule_at room_capacity (on_day without i)) c
+    pub ages : IsRisen at.day.0 d (λ i. cost_at mixed_age (on_day placed i)) (λ i. cost_at mixed_age (on_day without i)) a
 
   -- the shifts before k, with the placement less without
   pub record AreShiftsTold (k : ℕ) (a s l : ℤ) : Type 0 where
-    pub alone : IsRisen (3 * at.day.0) k (λ i. rule_at 8 (in_shift placed i)) (λ i. rule_at 8 (in_shift without i)) a
-    pub skill : IsRisen (3 * at.day.0) k (λ i. cost_at 1 (in_shift placed i)) (λ i. cost_at 1 (in_shift without i)) s
+    pub alone : IsRisen (3 * at.day.0) k (λ i. rule_at uncovered_room (in_shift placed i)) (λ i. rule_at uncovered_room (in_shift without i)) a
+    pub skill : IsRisen (3 * at.day.0) k (λ i. cost_at nurse_skill (in_shift placed i)) (λ i. cost_at nurse_skill (in_shift without i)) s
     pub load : IsRisen (3 * at.day.0) k (λ i. excess placed i) (λ i. excess without i) l
+
+  -- one day more, told as a bill
+  module _ (d : ℕ) (m c a : ℤ) (told : AreDaysTold d m c a) (bill : Bill) (next : bill ≡ sub_bills (as_bill (on_day placed d)) (as_bill (on_day without d)))
+      (small : IsWithin (10 ^ 11) bill) (few : d ≤ 200) where
+    pub mixed-fits : FitsSigned w64 (m +ℤ handed (place bill.v mixed_gender))
+    mixed-fits = rule-fits at.day.0 d (on_day placed) (on_day without) mixed_gender m bill next small few (omega arith) told.mixed
+
+    pub crowded-fits : FitsSigned w64 (c +ℤ handed (place bill.v room_capacity))
+    crowded-fits = rule-fits at.day.0 d (on_day placed) (on_day without) room_capacity c bill next small few (omega arith) told.crowded
+
+    pub ages-fit : FitsSigned w64 (a +ℤ handed (place bill.s mixed_age))
+    ages-fit = cost-fits at.day.0 d (on_day placed) (on_day without) mixed_age a bill next small few (omega arith) told.ages
+
+    pub days-more : at.day.0 ≤ d → AreDaysTold (d + 1) (handed (m +ℤ handed (place bill.v mixed_gender)))
+        (handed (c +ℤ handed (place bill.v room_capacity))) (handed (a +ℤ handed (place bill.s mixed_age)))
+    days-more begun = record {
+      mixed = rule-risen at.day.0 d (on_day placed) (on_day without) mixed_gender m bill next small few (omega arith) begun told.mixed;
+      crowded = rule-risen at.day.0 d (on_day placed) (on_day without) room_capacity c bill next small few (omega arith) begun told.crowded;
+      ages = cost-risen at.day.0 d (on_day placed) (on_day without) mixed_age a bill next small few (omega arith) begun told.ages;
+    }
+
+  -- one shift more, told as three numbers
+  module _ (k : ℕ) (a s l : ℤ) (told : AreShiftsTold k a s l) (few : k ≤ 200) where
+    abbrev alone_in : Timetable → ℕ → ℕ
+    alone_in Q i = rule_at uncovered_room (in_shift Q i)
+
+    abbrev skill_in : Timetable → ℕ → ℕ
+    skill_in Q i = cost_at nurse_skill (in_shift Q i)
+
+    pub alone-fits : (n : ℕ) → n < 2 ^ 32 → FitsSigned w64 (a +ℤ to_z w64 n)
+    alone-fits n small = count-fits (3 * at.day.0) k (alone_in placed) (alone_in without) a n told.alone few small
+
+    pub skill-fits : (n : ℕ) → n < 2 ^ 32 → FitsSigned w64 (s +ℤ to_z w64 n)
+    skill-fits n small = count-fits (3 * at.day.0) k (skill_in placed) (skill_in without) s n told.skill few small
+
+    pub load-fits : (n : ℕ) → n < 2 ^ 32 → FitsSigned w64 (l +ℤ to_z w64 n)
+    load-fits n small = count-fits (3 * at.day.0) k (excess placed) (excess without) l n told.load few small
+
+    pub shifts-more : 3 * at.day.0 ≤ k → (alone skill load : ℕ) → alone < 2 ^ 32 → skill < 2 ^ 32 → load < 2 ^ 32
+        → pos alone ≡ pos (alone_in placed k) -ℤ pos (alone_in without k)
+        → pos skill ≡ pos (skill_in placed k) -ℤ pos (skill_in without k)
+        → pos load ≡ rise_by_placement P p at (λ Q. excess_in I Q at.room (record { 0 = k }))
+        → AreShiftsTold (k + 1) (handed (a +ℤ to_z w64 alone)) (handed (s +ℤ to_z w64 skill)) (handed (l +ℤ to_z w64 load))
+    shifts-more begun alone skill load a_small s_small l_small a_is s_is l_is = record {
+      alone = count-risen (3 * at.day.0) k (alone_in placed) (alone_in without) a alone told.alone few a_small begun a_is;
+      skill = count-risen (3 * at.day.0) k (skill_in placed) (skill_in without) s skill told.skill few s_small begun s_is;
+      load = count-risen (3 * at.day.0) k (excess placed) (excess without) l load told.load few l_small begun (excess-rises (record { 0 = k }) (pos load) l_is);
+    }

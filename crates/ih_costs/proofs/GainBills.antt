@@ -21,6 +21,8 @@ use Rattle.ih_plan.proofs.CellNumbers.{stay_cell, room_day_cell, theatre_day_cel
 use Rattle.ih_plan.proofs.Parts.{total, has_parts}
 use Rattle.ih_plan.proofs.PlanRanges.{has-range, put-plan}
 use Rattle.ih_footprint.proofs.LocalPrices.{map-same, differences-same}
+use Rattle.ih_costs.specs.Numbers.{mixed_gender, incompatible_room, surgeon_overrun, theatre_overrun, unscheduled_mandatory, admission_window, room_capacity, nurse_presence, uncovered_room}
+use Rattle.ih_costs.specs.Numbers.{mixed_age, nurse_skill, continuity_of_care, excess_workload, open_theatre, surgeon_transfer, patient_delay, unscheduled_optional}
 use Rattle.ih_costs.specs.StayGain.{rule_at, cost_at, end_of, of_stay, of_care, over_days, of_theatre, of_surgeon, over_shifts, of_nurse, over_loads, gain_of, stay_gain, placement_gain}
 use Rattle.ih_plan.proofs.ChangeSums.{at-by_place, change-same}
 use Rattle.ih_costs.proofs.GainLemmas.{gain_by, number-gain}
@@ -158,80 +160,82 @@ module _ (I : Draft) (Q : Timetable) (p : ℕ) (at : Placement) where
       let z_loads : over_loads I Q p at g ≡ 0 = loads-none g loads in
       omega (arith, z_stays, z_days, z_theatres, z_surgeons, z_shifts, z_loads)
 
-  rule-0 : gain_by I Q p at (rule_at 0) ≡ over_days I Q p at (rule_at 0)
+  mixed_gender-is : gain_by I Q p at (rule_at mixed_gender) ≡ over_days I Q p at (rule_at mixed_gender)
   unfolding part_of content_of
-  rule-0 = by_days (rule_at 0) (λ i. refl) (λ i j. refl) (λ i j. refl) (λ i j. refl) (λ i j. refl) (λ i. refl)
+  mixed_gender-is = by_days (rule_at mixed_gender) (λ i. refl) (λ i j. refl) (λ i j. refl) (λ i j. refl) (λ i j. refl) (λ i. refl)
 
-  rule-1 : gain_by I Q p at (rule_at 1) ≡ of_stay I Q p at (rule_at 1)
+  incompatible_room-is : gain_by I Q p at (rule_at incompatible_room) ≡ of_stay I Q p at (rule_at incompatible_room)
   unfolding part_of content_of
-  rule-1 = by_stays (rule_at 1) (λ i j. refl) (λ i j. refl) (λ i j. refl) (λ i j. refl) (λ i j. refl) (λ i. refl)
+  incompatible_room-is = by_stays (rule_at incompatible_room) (λ i j. refl) (λ i j. refl) (λ i j. refl) (λ i j. refl) (λ i j. refl) (λ i. refl)
 
-  rule-2 : gain_by I Q p at (rule_at 2) ≡ of_surgeon I Q p at (rule_at 2) (surgeon_of I p)
+  surgeon_overrun-is : gain_by I Q p at (rule_at surgeon_overrun) ≡ of_surgeon I Q p at (rule_at surgeon_overrun) (surgeon_of I p)
   unfolding part_of content_of
-  rule-2 = by_surgeons (rule_at 2) (λ i. refl) (λ i j. refl) (λ i j. refl) (λ i j. refl) (λ i j. refl) (λ i. refl)
+  surgeon_overrun-is = by_surgeons (rule_at surgeon_overrun) (λ i. refl) (λ i j. refl) (λ i j. refl) (λ i j. refl) (λ i j. refl) (λ i. refl)
 
-  rule-3 : gain_by I Q p at (rule_at 3) ≡ of_theatre I Q p at (rule_at 3)
+  theatre_overrun-is : gain_by I Q p at (rule_at theatre_overrun) ≡ of_theatre I Q p at (rule_at theatre_overrun)
   unfolding part_of content_of
-  rule-3 = by_theatres (rule_at 3) (λ i. refl) (λ i j. refl) (λ i j. refl) (λ i j. refl) (λ i j. refl) (λ i. refl)
+  theatre_overrun-is = by_theatres (rule_at theatre_overrun) (λ i. refl) (λ i j. refl) (λ i j. refl) (λ i j. refl) (λ i j. refl) (λ i. refl)
 
-  rule-4 : gain_by I Q p at (rule_at 4) ≡ of_stay I Q p at (rule_at 4)
+  unscheduled_mandatory-is : gain_by I Q p at (rule_at unscheduled_mandatory) ≡ of_stay I Q p at (rule_at unscheduled_mandatory)
   unfolding part_of content_of
-  rule-4 = by_stays (rule_at 4) (λ i j. refl) (λ i j. refl) (λ i j. refl) (λ i j. refl) (λ i j. refl) (λ i. refl)
+  unscheduled_mandatory-is = by_stays (rule_at unscheduled_mandatory) (λ i j. refl) (λ i j. refl) (λ i j. refl) (λ i j. refl) (λ i j. refl) (λ i. refl)
 
-  rule-5 : gain_by I Q p at (rule_at 5) ≡ of_stay I Q p at (rule_at 5)
+  admission_window-is : gain_by I Q p at (rule_at admission_window) ≡ of_stay I Q p at (rule_at admission_window)
   unfolding part_of content_of
-  rule-5 = by_stays (rule_at 5) (λ i j. refl) (λ i j. refl) (λ i j. refl) (λ i j. refl) (λ i j. refl) (λ i. refl)
+  admission_window-is = by_stays (rule_at admission_window) (λ i j. refl) (λ i j. refl) (λ i j. refl) (λ i j. refl) (λ i j. refl) (λ i. refl)
 
-  rule-6 : gain_by I Q p at (rule_at 6) ≡ over_days I Q p at (rule_at 6)
+  room_capacity-is : gain_by I Q p at (rule_at room_capacity) ≡ over_days I Q p at (rule_at room_capacity)
   unfolding part_of content_of
-  rule-6 = by_days (rule_at 6) (λ i. refl) (λ i j. refl) (λ i j. refl) (λ i j. refl) (λ i j. refl) (λ i. refl)
+  room_capacity-is = by_days (rule_at room_capacity) (λ i. refl) (λ i j. refl) (λ i j. refl) (λ i j. refl) (λ i j. refl) (λ i. refl)
 
-  rule-7 : gain_by I Q p at (rule_at 7) ≡ over_shifts I Q p at (rule_at 7)
+  nurse_presence-is : gain_by I Q p at (rule_at nurse_presence) ≡ over_shifts I Q p at (rule_at nurse_presence)
   unfolding part_of content_of
-  rule-7 = by_shifts (rule_at 7) (λ i. refl) (λ i j. refl) (λ i j. refl) (λ i j. refl) (λ i j. refl) (λ i. refl)
+  nurse_presence-is = by_shifts (rule_at nurse_presence) (λ i. refl) (λ i j. refl) (λ i j. refl) (λ i j. refl) (λ i j. refl) (λ i. refl)
 
-  rule-8 : gain_by I Q p at (rule_at 8) ≡ over_shifts I Q p at (rule_at 8)
+  uncovered_room-is : gain_by I Q p at (rule_at uncovered_room) ≡ over_shifts I Q p at (rule_at uncovered_room)
   unfolding part_of content_of
-  rule-8 = by_shifts (rule_at 8) (λ i. refl) (λ i j. refl) (λ i j. refl) (λ i j. refl) (λ i j. refl) (λ i. refl)
+  uncovered_room-is = by_shifts (rule_at uncovered_room) (λ i. refl) (λ i j. refl) (λ i j. refl) (λ i j. refl) (λ i j. refl) (λ i. refl)
 
-  cost-0 : gain_by I Q p at (cost_at 0) ≡ over_days I Q p at (cost_at 0)
+  mixed_age-is : gain_by I Q p at (cost_at mixed_age) ≡ over_days I Q p at (cost_at mixed_age)
   unfolding part_of content_of
-  cost-0 = by_days (cost_at 0) (λ i. refl) (λ i j. refl) (λ i j. refl) (λ i j. refl) (λ i j. refl) (λ i. refl)
+  mixed_age-is = by_days (cost_at mixed_age) (λ i. refl) (λ i j. refl) (λ i j. refl) (λ i j. refl) (λ i j. refl) (λ i. refl)
 
-  cost-1 : gain_by I Q p at (cost_at 1) ≡ over_shifts I Q p at (cost_at 1)
+  nurse_skill-is : gain_by I Q p at (cost_at nurse_skill) ≡ over_shifts I Q p at (cost_at nurse_skill)
   unfolding part_of content_of
-  cost-1 = by_shifts (cost_at 1) (λ i. refl) (λ i j. refl) (λ i j. refl) (λ i j. refl) (λ i j. refl) (λ i. refl)
+  nurse_skill-is = by_shifts (cost_at nurse_skill) (λ i. refl) (λ i j. refl) (λ i j. refl) (λ i j. refl) (λ i j. refl) (λ i. refl)
 
-  cost-2 : gain_by I Q p at (cost_at 2) ≡ of_care I Q p at (cost_at 2)
+  continuity_of_care-is : gain_by I Q p at (cost_at continuity_of_care) ≡ of_care I Q p at (cost_at continuity_of_care)
   unfolding part_of content_of
-  cost-2 = by_cares (cost_at 2) (λ i. refl) (λ i j. refl) (λ i j. refl) (λ i j. refl) (λ i j. refl) (λ i j. refl)
+  continuity_of_care-is = by_cares (cost_at continuity_of_care) (λ i. refl) (λ i j. refl) (λ i j. refl) (λ i j. refl) (λ i j. refl) (λ i j. refl)
 
-  cost-3 : gain_by I Q p at (cost_at 3) ≡ over_loads I Q p at (cost_at 3)
+  excess_workload-is : gain_by I Q p at (cost_at excess_workload) ≡ over_loads I Q p at (cost_at excess_workload)
   unfolding part_of content_of
-  cost-3 = by_loads (cost_at 3) (λ i. refl) (λ i j. refl) (λ i j. refl) (λ i j. refl) (λ i j. refl) (λ i. refl)
+  excess_workload-is = by_loads (cost_at excess_workload) (λ i. refl) (λ i j. refl) (λ i j. refl) (λ i j. refl) (λ i j. refl) (λ i. refl)
 
-  cost-4 : gain_by I Q p at (cost_at 4) ≡ of_theatre I Q p at (cost_at 4)
+  open_theatre-is : gain_by I Q p at (cost_at open_theatre) ≡ of_theatre I Q p at (cost_at open_theatre)
   unfolding part_of content_of
-  cost-4 = by_theatres (cost_at 4) (λ i. refl) (λ i j. refl) (λ i j. refl) (λ i j. refl) (λ i j. refl) (λ i. refl)
+  open_theatre-is = by_theatres (cost_at open_theatre) (λ i. refl) (λ i j. refl) (λ i j. refl) (λ i j. refl) (λ i j. refl) (λ i. refl)
 
-  cost-5 : gain_by I Q p at (cost_at 5) ≡ of_surgeon I Q p at (cost_at 5) (surgeon_of I p)
+  surgeon_transfer-is : gain_by I Q p at (cost_at surgeon_transfer) ≡ of_surgeon I Q p at (cost_at surgeon_transfer) (surgeon_of I p)
   unfolding part_of content_of
-  cost-5 = by_surgeons (cost_at 5) (λ i. refl) (λ i j. refl) (λ i j. refl) (λ i j. refl) (λ i j. refl) (λ i. refl)
+  surgeon_transfer-is = by_surgeons (cost_at surgeon_transfer) (λ i. refl) (λ i j. refl) (λ i j. refl) (λ i j. refl) (λ i j. refl) (λ i. refl)
 
-  cost-6 : gain_by I Q p at (cost_at 6) ≡ of_stay I Q p at (cost_at 6)
+  patient_delay-is : gain_by I Q p at (cost_at patient_delay) ≡ of_stay I Q p at (cost_at patient_delay)
   unfolding part_of content_of
-  cost-6 = by_stays (cost_at 6) (λ i j. refl) (λ i j. refl) (λ i j. refl) (λ i j. refl) (λ i j. refl) (λ i. refl)
+  patient_delay-is = by_stays (cost_at patient_delay) (λ i j. refl) (λ i j. refl) (λ i j. refl) (λ i j. refl) (λ i j. refl) (λ i. refl)
 
-  cost-7 : gain_by I Q p at (cost_at 7) ≡ of_stay I Q p at (cost_at 7)
+  unscheduled_optional-is : gain_by I Q p at (cost_at unscheduled_optional) ≡ of_stay I Q p at (cost_at unscheduled_optional)
   unfolding part_of content_of
-  cost-7 = by_stays (cost_at 7) (λ i j. refl) (λ i j. refl) (λ i j. refl) (λ i j. refl) (λ i j. refl) (λ i. refl)
+  unscheduled_optional-is = by_stays (cost_at unscheduled_optional) (λ i j. refl) (λ i j. refl) (λ i j. refl) (λ i j. refl) (λ i j. refl) (λ i. refl)
 
   -- each number of the gain is that number of all cells of the placement
   pub gain-listed : gain_of I Q p at ≡ record { v = listed 9 (λ j. gain_by I Q p at (rule_at j)); s = listed 8 (λ j. gain_by I Q p at (cost_at j)) }
   unfolding gain_of
   gain-listed = counts-same _ _ _ _
-      (nine (λ j. gain_by I Q p at (rule_at j)) _ _ _ _ _ _ _ _ _ rule-0 rule-1 rule-2 rule-3 rule-4 rule-5 rule-6 rule-7 rule-8)
-      (eight (λ j. gain_by I Q p at (cost_at j)) _ _ _ _ _ _ _ _ cost-0 cost-1 cost-2 cost-3 cost-4 cost-5 cost-6 cost-7)
+      (nine (λ j. gain_by I Q p at (rule_at j)) _ _ _ _ _ _ _ _ _ mixed_gender-is incompatible_room-is surgeon_overrun-is theatre_overrun-is
+      unscheduled_mandatory-is admission_window-is room_capacity-is nurse_presence-is uncovered_room-is)
+      (eight (λ j. gain_by I Q p at (cost_at j)) _ _ _ _ _ _ _ _ mixed_age-is nurse_skill-is continuity_of_care-is excess_workload-is
+      open_theatre-is surgeon_transfer-is patient_delay-is unscheduled_optional-is)
 
 -- ---- the law of a placement
 

@@ -16,6 +16,8 @@ use Rattle.ih_plan.specs.Costs.{surgeon_of}
 use Rattle.ih_plan.specs.Cells.{part_of, content_of}
 use Rattle.ih_plan.proofs.BillBounds.{change-within}
 use Rattle.ih_plan.proofs.PlanRanges.{put-plan}
+use Rattle.ih_costs.specs.Numbers.{mixed_gender, incompatible_room, surgeon_overrun, theatre_overrun, unscheduled_mandatory, admission_window, room_capacity, nurse_presence, uncovered_room}
+use Rattle.ih_costs.specs.Numbers.{mixed_age, nurse_skill, continuity_of_care, excess_workload, open_theatre, surgeon_transfer, patient_delay, unscheduled_optional}
 use Rattle.ih_costs.specs.StayGain.{rule_at, cost_at, rise, of_stay, of_care, over_days, of_theatre, of_surgeon, over_shifts, over_loads, gain_of, placement_gain}
 use Rattle.ih_costs.proofs.GainBills.{placement-law}
 
@@ -26,24 +28,24 @@ module _ (I : Draft) (P : Timetable) (p : PatientNo) (at : Placement) where
   -- by how much each number rises with the placement
   abbrev pub numbers : Bill
   numbers = record {
-    v = rise P p at (λ Q. over_days I Q p.0 at (rule_at 0))
-        ∷ rise P p at (λ Q. of_stay I Q p.0 at (rule_at 1))
-        ∷ rise P p at (λ Q. of_surgeon I Q p.0 at (rule_at 2) (surgeon_of I p.0))
-        ∷ rise P p at (λ Q. of_theatre I Q p.0 at (rule_at 3))
-        ∷ rise P p at (λ Q. of_stay I Q p.0 at (rule_at 4))
-        ∷ rise P p at (λ Q. of_stay I Q p.0 at (rule_at 5))
-        ∷ rise P p at (λ Q. over_days I Q p.0 at (rule_at 6))
-        ∷ rise P p at (λ Q. over_shifts I Q p.0 at (rule_at 7))
-        ∷ rise P p at (λ Q. over_shifts I Q p.0 at (rule_at 8))
+    v = rise P p at (λ Q. over_days I Q p.0 at (rule_at mixed_gender))
+        ∷ rise P p at (λ Q. of_stay I Q p.0 at (rule_at incompatible_room))
+        ∷ rise P p at (λ Q. of_surgeon I Q p.0 at (rule_at surgeon_overrun) (surgeon_of I p.0))
+        ∷ rise P p at (λ Q. of_theatre I Q p.0 at (rule_at theatre_overrun))
+        ∷ rise P p at (λ Q. of_stay I Q p.0 at (rule_at unscheduled_mandatory))
+        ∷ rise P p at (λ Q. of_stay I Q p.0 at (rule_at admission_window))
+        ∷ rise P p at (λ Q. over_days I Q p.0 at (rule_at room_capacity))
+        ∷ rise P p at (λ Q. over_shifts I Q p.0 at (rule_at nurse_presence))
+        ∷ rise P p at (λ Q. over_shifts I Q p.0 at (rule_at uncovered_room))
         ∷ [];
-    s = rise P p at (λ Q. over_days I Q p.0 at (cost_at 0))
-        ∷ rise P p at (λ Q. over_shifts I Q p.0 at (cost_at 1))
-        ∷ rise P p at (λ Q. of_care I Q p.0 at (cost_at 2))
-        ∷ rise P p at (λ Q. over_loads I Q p.0 at (cost_at 3))
-        ∷ rise P p at (λ Q. of_theatre I Q p.0 at (cost_at 4))
-        ∷ rise P p at (λ Q. of_surgeon I Q p.0 at (cost_at 5) (surgeon_of I p.0))
-        ∷ rise P p at (λ Q. of_stay I Q p.0 at (cost_at 6))
-        ∷ rise P p at (λ Q. of_stay I Q p.0 at (cost_at 7))
+    s = rise P p at (λ Q. over_days I Q p.0 at (cost_at mixed_age))
+        ∷ rise P p at (λ Q. over_shifts I Q p.0 at (cost_at nurse_skill))
+        ∷ rise P p at (λ Q. of_care I Q p.0 at (cost_at continuity_of_care))
+        ∷ rise P p at (λ Q. over_loads I Q p.0 at (cost_at excess_workload))
+        ∷ rise P p at (λ Q. of_theatre I Q p.0 at (cost_at open_theatre))
+        ∷ rise P p at (λ Q. of_surgeon I Q p.0 at (cost_at surgeon_transfer) (surgeon_of I p.0))
+        ∷ rise P p at (λ Q. of_stay I Q p.0 at (cost_at patient_delay))
+        ∷ rise P p at (λ Q. of_stay I Q p.0 at (cost_at unscheduled_optional))
         ∷ [];
   }
 
@@ -52,9 +54,9 @@ module _ (I : Draft) (P : Timetable) (p : PatientNo) (at : Placement) where
   each-told = refl
 
   -- whether a room's nurses work their shifts
-  pub off-same : rise P p at (λ Q. over_shifts I Q p.0 at (rule_at 7)) ≡ pos 0
+  pub off-same : rise P p at (λ Q. over_shifts I Q p.0 at (rule_at nurse_presence)) ≡ pos 0
   unfolding part_of content_of
-  off-same = no-rise (over_shifts I (put (SetStay p (Some at)) P) p.0 at (rule_at 7))
+  off-same = no-rise (over_shifts I (put (SetStay p (Some at)) P) p.0 at (rule_at nurse_presence))
 
   pub gain-within : IsValid I → IsPlanOf I P → p.0 < patient_count I → IsPlacement I at → IsWithin (10 ^ 11) (placement_gain I P p at)
   gain-within valid plan known fits =

@@ -1,5 +1,5 @@
 -- A gain is put together from what each ledger tells of its cells.
-use Rattle.std.proofs.Common.{◌≡◌, ℕ, ◌<◌, ◌^◌, refl, arith, ap, sym, subst, ◌∙◌, w64, to_z, of_z, List, [], ◌∷◌, length, Some, None}
+use Rattle.std.proofs.Common.{◌≡◌, ℕ, ◌<◌, ◌^◌, refl, arith, ap, sym, subst, ◌∙◌, List, [], ◌∷◌, length, Some, None}
 use Rattle.std.specs.Prelude.{ℤ, pos, slice_get}
 use Rattle.ih_tables.specs.declared.drafts.Draft.{Draft}
 use Rattle.ih_tables.specs.declared.drafts.Patient.{Patient}
@@ -15,11 +15,13 @@ use Rattle.ih_plan.specs.Cells.{part_at}
 use Rattle.ih_plan.proofs.Entries.{stay_of-same}
 use Rattle.ih_plan.proofs.CellNumbers.{stay_cell, theatre_day_cell, surgeon_day_cell, care_cell}
 use Rattle.ih_costs.specs.Changes.{stay_part}
+use Rattle.ih_costs.specs.Numbers.{mixed_gender, incompatible_room, surgeon_overrun, theatre_overrun, unscheduled_mandatory, admission_window, room_capacity, uncovered_room}
+use Rattle.ih_costs.specs.Numbers.{mixed_age, nurse_skill, continuity_of_care, excess_workload, open_theatre, surgeon_transfer, patient_delay, unscheduled_optional}
 use Rattle.ih_costs.specs.StayGain.{rule_at, cost_at, rise, of_surgeon, over_days, over_shifts, over_loads, of_surgery, placement_gain}
 use Rattle.ih_costs.proofs.ChangeLemmas.{stay-is}
 use Rattle.ih_costs.proofs.DayGains.{placed, without}
 use Rattle.ih_costs.proofs.GainNumbers.{numbers, each-told, off-same}
-use Rattle.ih_costs.proofs.GainSteps.{rule-less, cost-less, passed-is}
+use Rattle.ih_costs.proofs.GainSteps.{handed, rule-less, cost-less, passed-is}
 
 pub bill-same : (a b c d : List ℤ) → a ≡ c → b ≡ d → (let x : Bill = record { v = a; s = b } in let y : Bill = record { v = c; s = d } in x ≡ y)
 bill-same a b c d e f = rw (e, f) refl
@@ -33,17 +35,25 @@ pub eight-same : (a0 a1 a2 a3 a4 a5 a6 a7 b0 b1 b2 b3 b4 b5 b6 b7 : ℤ) → a0 
 eight-same a0 a1 a2 a3 a4 a5 a6 a7 b0 b1 b2 b3 b4 b5 b6 b7 e0 e1 e2 e3 e4 e5 e6 e7 = rw (e0, e1, e2, e3, e4, e5, e6, e7) refl
 
 -- numbers that are at most 10^11 in magnitude, as they are handed on in 64 bits
-passed-bill : (x0 x1 x2 x3 x4 x5 x6 x8 y0 y1 y2 y3 y4 y5 y6 y7 : ℤ) → (let b : Bill = record { v = x0 ∷ x1 ∷ x2 ∷ x3 ∷ x4 ∷ x5 ∷ x6 ∷ pos 0 ∷ x8 ∷ []; s = y0 ∷ y1 ∷ y2 ∷ y3 ∷ y4 ∷ y5 ∷ y6 ∷ y7 ∷ [] } in IsWithin (10 ^ 11) b)
+passed-bill : (x0 x1 x2 x3 x4 x5 x6 x8 y0 y1 y2 y3 y4 y5 y6 y7 : ℤ) → (let b : Bill = record {
+  v = x0 ∷ x1 ∷ x2 ∷ x3 ∷ x4 ∷ x5 ∷ x6 ∷ pos 0 ∷ x8 ∷ [];
+  s = y0 ∷ y1 ∷ y2 ∷ y3 ∷ y4 ∷ y5 ∷ y6 ∷ y7 ∷ [];
+} in IsWithin (10 ^ 11) b)
     → (let a : Bill = record {
-      v = to_z w64 (of_z w64 x0) ∷ to_z w64 (of_z w64 x1) ∷ to_z w64 (of_z w64 x2) ∷ to_z w64 (of_z w64 x3) ∷ to_z w64 (of_z w64 x4) ∷ to_z w64 (of_z w64 x5) ∷ to_z w64 (of_z w64 x6) ∷ pos 0 ∷ to_z w64 (of_z w64 x8) ∷ [];
-      s = to_z w64 (of_z w64 y0) ∷ to_z w64 (of_z w64 y1) ∷ to_z w64 (of_z w64 y2) ∷ to_z w64 (of_z w64 y3) ∷ to_z w64 (of_z w64 y4) ∷ to_z w64 (of_z w64 y5) ∷ to_z w64 (of_z w64 y6) ∷ to_z w64 (of_z w64 y7) ∷ [];
+      v = handed x0 ∷ handed x1 ∷ handed x2 ∷ handed x3 ∷ handed x4 ∷ handed x5 ∷ handed x6 ∷ pos 0 ∷ handed x8 ∷ [];
+      s = handed y0 ∷ handed y1 ∷ handed y2 ∷ handed y3 ∷ handed y4 ∷ handed y5 ∷ handed y6 ∷ handed y7 ∷ [];
     } in
     let b : Bill = record { v = x0 ∷ x1 ∷ x2 ∷ x3 ∷ x4 ∷ x5 ∷ x6 ∷ pos 0 ∷ x8 ∷ []; s = y0 ∷ y1 ∷ y2 ∷ y3 ∷ y4 ∷ y5 ∷ y6 ∷ y7 ∷ [] } in
     a ≡ b)
 passed-bill x0 x1 x2 x3 x4 x5 x6 x8 y0 y1 y2 y3 y4 y5 y6 y7 w =
+    let b : Bill = record { v = x0 ∷ x1 ∷ x2 ∷ x3 ∷ x4 ∷ x5 ∷ x6 ∷ pos 0 ∷ x8 ∷ []; s = y0 ∷ y1 ∷ y2 ∷ y3 ∷ y4 ∷ y5 ∷ y6 ∷ y7 ∷ [] } in
+    let v : (k : ℕ) → k < 9 → handed (place b.v k) ≡ place b.v k = λ k h. passed-is (place b.v k) (w.v k h).0 (w.v k h).1 in
+    let s : (k : ℕ) → k < 8 → handed (place b.s k) ≡ place b.s k = λ k h. passed-is (place b.s k) (w.s k h).0 (w.s k h).1 in
     bill-same _ _ _ _
-    (nine-same _ _ _ _ _ _ _ _ _ _ _ _ _ _ _ _ _ _ (passed-is x0 (w.v 0 (omega arith)).0 (w.v 0 (omega arith)).1) (passed-is x1 (w.v 1 (omega arith)).0 (w.v 1 (omega arith)).1) (passed-is x2 (w.v 2 (omega arith)).0 (w.v 2 (omega arith)).1) (passed-is x3 (w.v 3 (omega arith)).0 (w.v 3 (omega arith)).1) (passed-is x4 (w.v 4 (omega arith)).0 (w.v 4 (omega arith)).1) (passed-is x5 (w.v 5 (omega arith)).0 (w.v 5 (omega arith)).1) (passed-is x6 (w.v 6 (omega arith)).0 (w.v 6 (omega arith)).1) refl (passed-is x8 (w.v 8 (omega arith)).0 (w.v 8 (omega arith)).1))
-    (eight-same _ _ _ _ _ _ _ _ _ _ _ _ _ _ _ _ (passed-is y0 (w.s 0 (omega arith)).0 (w.s 0 (omega arith)).1) (passed-is y1 (w.s 1 (omega arith)).0 (w.s 1 (omega arith)).1) (passed-is y2 (w.s 2 (omega arith)).0 (w.s 2 (omega arith)).1) (passed-is y3 (w.s 3 (omega arith)).0 (w.s 3 (omega arith)).1) (passed-is y4 (w.s 4 (omega arith)).0 (w.s 4 (omega arith)).1) (passed-is y5 (w.s 5 (omega arith)).0 (w.s 5 (omega arith)).1) (passed-is y6 (w.s 6 (omega arith)).0 (w.s 6 (omega arith)).1) (passed-is y7 (w.s 7 (omega arith)).0 (w.s 7 (omega arith)).1))
+    (nine-same _ _ _ _ _ _ _ _ _ _ _ _ _ _ _ _ _ _ (v 0 (omega arith)) (v 1 (omega arith)) (v 2 (omega arith)) (v 3 (omega arith))
+    (v 4 (omega arith)) (v 5 (omega arith)) (v 6 (omega arith)) refl (v 8 (omega arith)))
+    (eight-same _ _ _ _ _ _ _ _ _ _ _ _ _ _ _ _ (s 0 (omega arith)) (s 1 (omega arith)) (s 2 (omega arith)) (s 3 (omega arith))
+    (s 4 (omega arith)) (s 5 (omega arith)) (s 6 (omega arith)) (s 7 (omega arith)))
 
 module _ (I : Draft) (P : Timetable) (p : PatientNo) (at : Placement) where
   -- the bill tells what a cell costs with the placement, less what it costs without
@@ -65,27 +75,31 @@ module _ (I : Draft) (P : Timetable) (p : PatientNo) (at : Placement) where
       e ∙ (ap (λ k. sub_bills (as_bill k) (as_bill (stay_part a None))) (sym more) ∙ ap (λ k. sub_bills (as_bill (part_at I (placed I P p at) (stay_cell p.0))) (as_bill k)) (sym less))
 
   -- the same, as the number is handed on in 64 bits
-  rule-passed : (c : Cell) (b : Bill) (k : ℕ) → tells c b → IsWithin (10 ^ 11) b → k < 9 → to_z w64 (of_z w64 (place b.v k)) ≡ rise P p at (λ Q. rule_at k (part_at I Q c))
+  rule-passed : (c : Cell) (b : Bill) (k : ℕ) → tells c b → IsWithin (10 ^ 11) b → k < 9 → handed (place b.v k) ≡ rise P p at (λ Q. rule_at k (part_at I Q c))
   rule-passed c b k e small h = passed-is (place b.v k) (small.v k h).0 (small.v k h).1 ∙ rule-told c b k e h
 
-  cost-passed : (c : Cell) (b : Bill) (k : ℕ) → tells c b → IsWithin (10 ^ 11) b → k < 8 → to_z w64 (of_z w64 (place b.s k)) ≡ rise P p at (λ Q. cost_at k (part_at I Q c))
+  cost-passed : (c : Cell) (b : Bill) (k : ℕ) → tells c b → IsWithin (10 ^ 11) b → k < 8 → handed (place b.s k) ≡ rise P p at (λ Q. cost_at k (part_at I Q c))
   cost-passed c b k e small h = passed-is (place b.s k) (small.s k h).0 (small.s k h).1 ∙ cost-told c b k e h
 
   -- the numbers that rest on the theatre and the surgeon, as they are handed on in 64 bits
   pub surgery-passed : (s : ℕ) (theatre surgeon : Bill) → surgeon_of I p.0 ≡ Some s
       → tells (theatre_day_cell at.theatre.0 at.day.0) theatre → IsWithin (10 ^ 11) theatre
       → tells (surgeon_day_cell s at.day.0) surgeon → IsWithin (10 ^ 11) surgeon → (let b : Bill = record {
-        v = pos 0 ∷ pos 0 ∷ to_z w64 (of_z w64 (place surgeon.v 2)) ∷ to_z w64 (of_z w64 (place theatre.v 3)) ∷ pos 0 ∷ pos 0 ∷ pos 0 ∷ pos 0 ∷ pos 0 ∷ [];
-        s = pos 0 ∷ pos 0 ∷ pos 0 ∷ pos 0 ∷ to_z w64 (of_z w64 (place theatre.s 4)) ∷ to_z w64 (of_z w64 (place surgeon.s 5)) ∷ pos 0 ∷ pos 0 ∷ [];
+        v = pos 0 ∷ pos 0 ∷ handed (place surgeon.v surgeon_overrun) ∷ handed (place theatre.v theatre_overrun) ∷ pos 0 ∷ pos 0 ∷ pos 0 ∷ pos 0 ∷ pos 0 ∷ [];
+        s = pos 0 ∷ pos 0 ∷ pos 0 ∷ pos 0 ∷ handed (place theatre.s open_theatre) ∷ handed (place surgeon.s surgeon_transfer) ∷ pos 0 ∷ pos 0 ∷ [];
       } in b ≡ of_surgery (placement_gain I P p at))
   surgery-passed s theatre surgeon own theatre_is theatre_small surgeon_is surgeon_small =
+      let theatre_rule = λ (k : ℕ) (h : k < 9). rule-passed (theatre_day_cell at.theatre.0 at.day.0) theatre k theatre_is theatre_small h in
+      let theatre_cost = λ (k : ℕ) (h : k < 8). cost-passed (theatre_day_cell at.theatre.0 at.day.0) theatre k theatre_is theatre_small h in
+      let surgeon_rule = λ (k : ℕ) (h : k < 9). rule-passed (surgeon_day_cell s at.day.0) surgeon k surgeon_is surgeon_small h in
+      let surgeon_cost = λ (k : ℕ) (h : k < 8). cost-passed (surgeon_day_cell s at.day.0) surgeon k surgeon_is surgeon_small h in
       bill-same _ _ _ _
       (nine-same _ _ _ _ _ _ _ _ _ _ _ _ _ _ _ _ _ _ refl refl
-      (of_own (rule_at 2) (to_z w64 (of_z w64 (place surgeon.v 2))) (rule-passed (surgeon_day_cell s at.day.0) surgeon 2 surgeon_is surgeon_small (omega arith)))
-      (rule-passed (theatre_day_cell at.theatre.0 at.day.0) theatre 3 theatre_is theatre_small (omega arith)) refl refl refl refl refl)
+      (of_own (rule_at surgeon_overrun) (handed (place surgeon.v surgeon_overrun)) (surgeon_rule surgeon_overrun (omega arith)))
+      (theatre_rule theatre_overrun (omega arith)) refl refl refl refl refl)
       (eight-same _ _ _ _ _ _ _ _ _ _ _ _ _ _ _ _ refl refl refl refl
-      (cost-passed (theatre_day_cell at.theatre.0 at.day.0) theatre 4 theatre_is theatre_small (omega arith))
-      (of_own (cost_at 5) (to_z w64 (of_z w64 (place surgeon.s 5))) (cost-passed (surgeon_day_cell s at.day.0) surgeon 5 surgeon_is surgeon_small (omega arith))) refl refl)
+      (theatre_cost open_theatre (omega arith))
+      (of_own (cost_at surgeon_transfer) (handed (place surgeon.s surgeon_transfer)) (surgeon_cost surgeon_transfer (omega arith))) refl refl)
       ∙ ap of_surgery (sym (each-told I P p at))
     where
       of_own : (g : Counts → ℕ) (z : ℤ) → z ≡ rise P p at (λ Q. of_surgeon I Q p.0 at g (Some s)) → z ≡ rise P p at (λ Q. of_surgeon I Q p.0 at g (surgeon_of I p.0))
@@ -95,32 +109,48 @@ module _ (I : Draft) (P : Timetable) (p : PatientNo) (at : Placement) where
       (own_is : tells (stay_cell p.0) own)
       (surgery_is : surgery ≡ of_surgery (placement_gain I P p at))
       (care_is : tells (care_cell p.0) care)
-      (mixed_is : mixed ≡ rise P p at (λ Q. over_days I Q p.0 at (rule_at 0)))
-      (crowded_is : crowded ≡ rise P p at (λ Q. over_days I Q p.0 at (rule_at 6)))
-      (ages_is : ages ≡ rise P p at (λ Q. over_days I Q p.0 at (cost_at 0)))
-      (alone_is : alone ≡ rise P p at (λ Q. over_shifts I Q p.0 at (rule_at 8)))
-      (skill_is : skill ≡ rise P p at (λ Q. over_shifts I Q p.0 at (cost_at 1)))
-      (load_is : load ≡ rise P p at (λ Q. over_loads I Q p.0 at (cost_at 3))) where
+      (mixed_is : mixed ≡ rise P p at (λ Q. over_days I Q p.0 at (rule_at mixed_gender)))
+      (crowded_is : crowded ≡ rise P p at (λ Q. over_days I Q p.0 at (rule_at room_capacity)))
+      (ages_is : ages ≡ rise P p at (λ Q. over_days I Q p.0 at (cost_at mixed_age)))
+      (alone_is : alone ≡ rise P p at (λ Q. over_shifts I Q p.0 at (rule_at uncovered_room)))
+      (skill_is : skill ≡ rise P p at (λ Q. over_shifts I Q p.0 at (cost_at nurse_skill)))
+      (load_is : load ≡ rise P p at (λ Q. over_loads I Q p.0 at (cost_at excess_workload))) where
+    own-rule : (k : ℕ) → k < 9 → place own.v k ≡ rise P p at (λ Q. rule_at k (part_at I Q (stay_cell p.0)))
+    own-rule k h = rule-told (stay_cell p.0) own k own_is h
+
+    own-cost : (k : ℕ) → k < 8 → place own.s k ≡ rise P p at (λ Q. cost_at k (part_at I Q (stay_cell p.0)))
+    own-cost k h = cost-told (stay_cell p.0) own k own_is h
+
     operated : surgery ≡ of_surgery (numbers I P p at)
     operated = surgery_is ∙ ap of_surgery (each-told I P p at)
 
+    surgery-rule : (k : ℕ) → place surgery.v k ≡ place (of_surgery (numbers I P p at)).v k
+    surgery-rule k = ap (λ b. place b.v k) operated
+
+    surgery-cost : (k : ℕ) → place surgery.s k ≡ place (of_surgery (numbers I P p at)).s k
+    surgery-cost k = ap (λ b. place b.s k) operated
+
     pub parts-gain : (let b : Bill = record {
-      v = mixed ∷ place own.v 1 ∷ place surgery.v 2 ∷ place surgery.v 3 ∷ place own.v 4 ∷ place own.v 5 ∷ crowded ∷ pos 0 ∷ alone ∷ [];
-      s = ages ∷ skill ∷ place care.s 2 ∷ load ∷ place surgery.s 4 ∷ place surgery.s 5 ∷ place own.s 6 ∷ place own.s 7 ∷ [];
+      v = mixed ∷ place own.v incompatible_room ∷ place surgery.v surgeon_overrun ∷ place surgery.v theatre_overrun
+          ∷ place own.v unscheduled_mandatory ∷ place own.v admission_window ∷ crowded ∷ pos 0 ∷ alone ∷ [];
+      s = ages ∷ skill ∷ place care.s continuity_of_care ∷ load ∷ place surgery.s open_theatre ∷ place surgery.s surgeon_transfer
+          ∷ place own.s patient_delay ∷ place own.s unscheduled_optional ∷ [];
     } in b ≡ placement_gain I P p at)
     parts-gain =
         bill-same _ _ _ _
-        (nine-same _ _ _ _ _ _ _ _ _ _ _ _ _ _ _ _ _ _ mixed_is (rule-told (stay_cell p.0) own 1 own_is (omega arith)) (ap (λ b. place b.v 2) operated) (ap (λ b. place b.v 3) operated)
-        (rule-told (stay_cell p.0) own 4 own_is (omega arith)) (rule-told (stay_cell p.0) own 5 own_is (omega arith)) crowded_is (sym (off-same I P p at)) alone_is)
-        (eight-same _ _ _ _ _ _ _ _ _ _ _ _ _ _ _ _ ages_is skill_is (cost-told (care_cell p.0) care 2 care_is (omega arith)) load_is (ap (λ b. place b.s 4) operated) (ap (λ b. place b.s 5) operated)
-        (cost-told (stay_cell p.0) own 6 own_is (omega arith)) (cost-told (stay_cell p.0) own 7 own_is (omega arith)))
+        (nine-same _ _ _ _ _ _ _ _ _ _ _ _ _ _ _ _ _ _ mixed_is (own-rule incompatible_room (omega arith))
+        (surgery-rule surgeon_overrun) (surgery-rule theatre_overrun)
+        (own-rule unscheduled_mandatory (omega arith)) (own-rule admission_window (omega arith)) crowded_is (sym (off-same I P p at)) alone_is)
+        (eight-same _ _ _ _ _ _ _ _ _ _ _ _ _ _ _ _ ages_is skill_is (cost-told (care_cell p.0) care continuity_of_care care_is (omega arith)) load_is
+        (surgery-cost open_theatre) (surgery-cost surgeon_transfer)
+        (own-cost patient_delay (omega arith)) (own-cost unscheduled_optional (omega arith)))
         ∙ sym (each-told I P p at)
 
     -- the same, as the numbers are handed on in 64 bits
     pub parts-passed : IsWithin (10 ^ 11) (placement_gain I P p at) → (let b : Bill = record {
-      v = to_z w64 (of_z w64 mixed) ∷ to_z w64 (of_z w64 (place own.v 1)) ∷ to_z w64 (of_z w64 (place surgery.v 2)) ∷ to_z w64 (of_z w64 (place surgery.v 3))
-          ∷ to_z w64 (of_z w64 (place own.v 4)) ∷ to_z w64 (of_z w64 (place own.v 5)) ∷ to_z w64 (of_z w64 crowded) ∷ pos 0 ∷ to_z w64 (of_z w64 alone) ∷ [];
-      s = to_z w64 (of_z w64 ages) ∷ to_z w64 (of_z w64 skill) ∷ to_z w64 (of_z w64 (place care.s 2)) ∷ to_z w64 (of_z w64 load)
-          ∷ to_z w64 (of_z w64 (place surgery.s 4)) ∷ to_z w64 (of_z w64 (place surgery.s 5)) ∷ to_z w64 (of_z w64 (place own.s 6)) ∷ to_z w64 (of_z w64 (place own.s 7)) ∷ [];
+      v = handed mixed ∷ handed (place own.v incompatible_room) ∷ handed (place surgery.v surgeon_overrun) ∷ handed (place surgery.v theatre_overrun)
+          ∷ handed (place own.v unscheduled_mandatory) ∷ handed (place own.v admission_window) ∷ handed crowded ∷ pos 0 ∷ handed alone ∷ [];
+      s = handed ages ∷ handed skill ∷ handed (place care.s continuity_of_care) ∷ handed load
+          ∷ handed (place surgery.s open_theatre) ∷ handed (place surgery.s surgeon_transfer) ∷ handed (place own.s patient_delay) ∷ handed (place own.s unscheduled_optional) ∷ [];
     } in b ≡ placement_gain I P p at)
     parts-passed small = passed-bill _ _ _ _ _ _ _ _ _ _ _ _ _ _ _ _ (subst (IsWithin (10 ^ 11)) (sym parts-gain) small) ∙ parts-gain

@@ -10,6 +10,10 @@ use Rattle.ih_plan.proofs.ChangeSums.{at-by_place}
 use Rattle.ih_costs.proofs.ChangeSums.{at-counts}
 use Rattle.ih_costs.proofs.SpanSums.{span-none, span-more}
 
+-- a number as it is handed on in 64 bits
+abbrev pub handed : ℤ → ℤ
+handed z = to_z w64 (of_z w64 z)
+
 -- nothing is added up yet
 pub rise-none : (a : ℕ) (f g : ℕ → ℕ) → pos 0 ≡ pos (span_sum a a f) -ℤ pos (span_sum a a g)
 rise-none a f g =
@@ -65,27 +69,27 @@ risen-fits a b f g sum step so_far few low high =
     (omega (arith, ints), omega (arith, ints))
 
 -- the sum with one more, as it is added in 64 bits
-added-fits : (s e : ℤ) → IsNear (s +ℤ e) → neg_ℤ (pos (10 ^ 11)) ≤ℤ e → e ≤ℤ pos (10 ^ 11) → FitsSigned w64 (s +ℤ to_z w64 (of_z w64 e))
+added-fits : (s e : ℤ) → IsNear (s +ℤ e) → neg_ℤ (pos (10 ^ 11)) ≤ℤ e → e ≤ℤ pos (10 ^ 11) → FitsSigned w64 (s +ℤ handed e)
 added-fits s e near low high =
     let least = near.0 in
     let most = near.1 in
     omega (arith, ints)
 
-added-is : (s e : ℤ) → IsNear (s +ℤ e) → neg_ℤ (pos (10 ^ 11)) ≤ℤ e → e ≤ℤ pos (10 ^ 11) → to_z w64 (of_z w64 (s +ℤ to_z w64 (of_z w64 e))) ≡ s +ℤ e
+added-is : (s e : ℤ) → IsNear (s +ℤ e) → neg_ℤ (pos (10 ^ 11)) ≤ℤ e → e ≤ℤ pos (10 ^ 11) → handed (s +ℤ handed e) ≡ s +ℤ e
 added-is s e near low high =
     let least = near.0 in
     let most = near.1 in
     omega (arith, ints)
 
 -- one, as it is handed on in 64 bits
-pub passed-is : (e : ℤ) → neg_ℤ (pos (10 ^ 11)) ≤ℤ e → e ≤ℤ pos (10 ^ 11) → to_z w64 (of_z w64 e) ≡ e
+pub passed-is : (e : ℤ) → neg_ℤ (pos (10 ^ 11)) ≤ℤ e → e ≤ℤ pos (10 ^ 11) → handed e ≡ e
 passed-is e low high = omega (arith, ints)
 
 module _ (a b : ℕ) (f g : ℕ → ℕ) (sum step : ℤ) (so_far : IsRisen a b f g sum) (few : b ≤ 200) (low : neg_ℤ (pos (10 ^ 11)) ≤ℤ step) (high : step ≤ℤ pos (10 ^ 11)) where
-  pub step-fits : FitsSigned w64 (sum +ℤ to_z w64 (of_z w64 step))
+  pub step-fits : FitsSigned w64 (sum +ℤ handed step)
   step-fits = added-fits sum step (risen-fits a b f g sum step so_far few low high) low high
 
-  pub step-risen : a ≤ b → step ≡ pos (f b) -ℤ pos (g b) → IsRisen a (b + 1) f g (to_z w64 (of_z w64 (sum +ℤ to_z w64 (of_z w64 step))))
+  pub step-risen : a ≤ b → step ≡ pos (f b) -ℤ pos (g b) → IsRisen a (b + 1) f g (handed (sum +ℤ handed step))
   step-risen begun next =
       subst (IsRisen a (b + 1) f g) (sym (added-is sum step (risen-fits a b f g sum step so_far few low high) low high))
       (risen-more a b f g sum step begun so_far next low high)
@@ -105,28 +109,28 @@ module _ (a b : ℕ) (f g : ℕ → ℕ) (sum : ℤ) (n : ℕ) (so_far : IsRisen
   pub count-fits : FitsSigned w64 (sum +ℤ to_z w64 n)
   count-fits = subst (λ m. FitsSigned w64 (sum +ℤ to_z w64 m)) (count-bits n small) (step-fits a b f g sum (pos n) so_far few (count-low n) (count-high n small))
 
-  pub count-risen : a ≤ b → pos n ≡ pos (f b) -ℤ pos (g b) → IsRisen a (b + 1) f g (to_z w64 (of_z w64 (sum +ℤ to_z w64 n)))
+  pub count-risen : a ≤ b → pos n ≡ pos (f b) -ℤ pos (g b) → IsRisen a (b + 1) f g (handed (sum +ℤ to_z w64 n))
   count-risen begun next =
-      subst (λ m. IsRisen a (b + 1) f g (to_z w64 (of_z w64 (sum +ℤ to_z w64 m)))) (count-bits n small)
+      subst (λ m. IsRisen a (b + 1) f g (handed (sum +ℤ to_z w64 m))) (count-bits n small)
       (step-risen a b f g sum (pos n) so_far few (count-low n) (count-high n small) begun next)
 
 -- ---- the same, where each day or shift is told as a bill: x with the placement, y without
 
 module _ (a b : ℕ) (x y : ℕ → Counts) (k : ℕ) (sum : ℤ) (bill : Bill) (next : bill ≡ sub_bills (as_bill (x b)) (as_bill (y b))) (small : IsWithin (10 ^ 11) bill) (few : b ≤ 200) where
   pub rule-risen : k < 9 → a ≤ b → IsRisen a b (λ i. rule_at k (x i)) (λ i. rule_at k (y i)) sum
-      → IsRisen a (b + 1) (λ i. rule_at k (x i)) (λ i. rule_at k (y i)) (to_z w64 (of_z w64 (sum +ℤ to_z w64 (of_z w64 (at bill.v k)))))
+      → IsRisen a (b + 1) (λ i. rule_at k (x i)) (λ i. rule_at k (y i)) (handed (sum +ℤ handed (at bill.v k)))
   rule-risen h begun so_far =
       step-risen a b (λ i. rule_at k (x i)) (λ i. rule_at k (y i)) sum (at bill.v k) so_far few (small.v k h).0 (small.v k h).1 begun
       (ap (λ z. at z.v k) next ∙ rule-less (x b) (y b) k h)
 
-  pub rule-fits : k < 9 → IsRisen a b (λ i. rule_at k (x i)) (λ i. rule_at k (y i)) sum → FitsSigned w64 (sum +ℤ to_z w64 (of_z w64 (at bill.v k)))
+  pub rule-fits : k < 9 → IsRisen a b (λ i. rule_at k (x i)) (λ i. rule_at k (y i)) sum → FitsSigned w64 (sum +ℤ handed (at bill.v k))
   rule-fits h so_far = step-fits a b (λ i. rule_at k (x i)) (λ i. rule_at k (y i)) sum (at bill.v k) so_far few (small.v k h).0 (small.v k h).1
 
   pub cost-risen : k < 8 → a ≤ b → IsRisen a b (λ i. cost_at k (x i)) (λ i. cost_at k (y i)) sum
-      → IsRisen a (b + 1) (λ i. cost_at k (x i)) (λ i. cost_at k (y i)) (to_z w64 (of_z w64 (sum +ℤ to_z w64 (of_z w64 (at bill.s k)))))
+      → IsRisen a (b + 1) (λ i. cost_at k (x i)) (λ i. cost_at k (y i)) (handed (sum +ℤ handed (at bill.s k)))
   cost-risen h begun so_far =
       step-risen a b (λ i. cost_at k (x i)) (λ i. cost_at k (y i)) sum (at bill.s k) so_far few (small.s k h).0 (small.s k h).1 begun
       (ap (λ z. at z.s k) next ∙ cost-less (x b) (y b) k h)
 
-  pub cost-fits : k < 8 → IsRisen a b (λ i. cost_at k (x i)) (λ i. cost_at k (y i)) sum → FitsSigned w64 (sum +ℤ to_z w64 (of_z w64 (at bill.s k)))
+  pub cost-fits : k < 8 → IsRisen a b (λ i. cost_at k (x i)) (λ i. cost_at k (y i)) sum → FitsSigned w64 (sum +ℤ handed (at bill.s k))
   cost-fits h so_far = step-fits a b (λ i. cost_at k (x i)) (λ i. cost_at k (y i)) sum (at bill.s k) so_far few (small.s k h).0 (small.s k h).1

@@ -20,6 +20,8 @@ use Rattle.ih_plan.proofs.Entries.{stay_of-same, admission-other, admission-set}
 use Rattle.ih_plan.proofs.ListedBelow.{which_below-same, tagged-same}
 use Rattle.ih_plan.proofs.Loads.{room_load-same, load_of-same, if-same}
 use Rattle.ih_plan.proofs.CellNumbers.{stay_cell, room_day_cell, room_shift_cell, nurse_shift_cell, care_cell}
+use Rattle.ih_costs.specs.Numbers.{mixed_gender, incompatible_room, unscheduled_mandatory, admission_window, room_capacity, nurse_presence, uncovered_room}
+use Rattle.ih_costs.specs.Numbers.{mixed_age, nurse_skill, continuity_of_care, excess_workload, patient_delay, unscheduled_optional}
 use Rattle.ih_costs.specs.StayGain.{rule_at, cost_at, rise, end_of, of_stay, of_care, of_nurse, over_days, over_shifts, over_loads, of_surgery, placement_gain}
 use Rattle.ih_costs.proofs.DayGains.{placed, without}
 use Rattle.ih_costs.proofs.GainNumbers.{each-told}
@@ -31,8 +33,10 @@ use Rattle.ih_costs.proofs.SpanSums.{span-same}
 -- the numbers of a bill that rest neither on theatres nor on surgeons, and 0 for each other
 abbrev beside_surgery : Bill → Bill
 beside_surgery b = record {
-  v = place b.v 0 ∷ place b.v 1 ∷ pos 0 ∷ pos 0 ∷ place b.v 4 ∷ place b.v 5 ∷ place b.v 6 ∷ place b.v 7 ∷ place b.v 8 ∷ [];
-  s = place b.s 0 ∷ place b.s 1 ∷ place b.s 2 ∷ place b.s 3 ∷ pos 0 ∷ pos 0 ∷ place b.s 6 ∷ place b.s 7 ∷ [];
+  v = place b.v mixed_gender ∷ place b.v incompatible_room ∷ pos 0 ∷ pos 0 ∷ place b.v unscheduled_mandatory
+      ∷ place b.v admission_window ∷ place b.v room_capacity ∷ place b.v nurse_presence ∷ place b.v uncovered_room ∷ [];
+  s = place b.s mixed_age ∷ place b.s nurse_skill ∷ place b.s continuity_of_care ∷ place b.s excess_workload
+      ∷ pos 0 ∷ pos 0 ∷ place b.s patient_delay ∷ place b.s unscheduled_optional ∷ [];
 }
 
 no-more : (x y : ℤ) → x ≡ y → x -ℤ y ≡ pos 0
@@ -134,8 +138,10 @@ module _ (I : Draft) (P : Timetable) (p : PatientNo) (at : Placement) (t : Theat
   beside-same =
       ap beside_surgery (each-told I P p other)
       ∙ (bill-same _ _ _ _
-      (nine-same _ _ _ _ _ _ _ _ _ _ _ _ _ _ _ _ _ _ (days (rule_at 0)) (own (rule_at 1)) refl refl (own (rule_at 4)) (own (rule_at 5)) (days (rule_at 6)) (shifts (rule_at 7)) (shifts (rule_at 8)))
-      (eight-same _ _ _ _ _ _ _ _ _ _ _ _ _ _ _ _ (days (cost_at 0)) (shifts (cost_at 1)) (cares (cost_at 2)) (loads (cost_at 3)) refl refl (own (cost_at 6)) (own (cost_at 7)))
+      (nine-same _ _ _ _ _ _ _ _ _ _ _ _ _ _ _ _ _ _ (days (rule_at mixed_gender)) (own (rule_at incompatible_room)) refl refl
+      (own (rule_at unscheduled_mandatory)) (own (rule_at admission_window)) (days (rule_at room_capacity)) (shifts (rule_at nurse_presence)) (shifts (rule_at uncovered_room)))
+      (eight-same _ _ _ _ _ _ _ _ _ _ _ _ _ _ _ _ (days (cost_at mixed_age)) (shifts (cost_at nurse_skill)) (cares (cost_at continuity_of_care)) (loads (cost_at excess_workload))
+      refl refl (own (cost_at patient_delay)) (own (cost_at unscheduled_optional)))
       ∙ ap beside_surgery (sym (each-told I P p at)))
     where
       days : (g : Counts → ℕ) → rise P p other (λ Q. over_days I Q p.0 other g) ≡ rise P p at (λ Q. over_days I Q p.0 at g)

@@ -14,17 +14,18 @@ use Rattle.ih_plan.specs.Presence.{present, day_of}
 use Rattle.ih_plan.specs.BillOf.{change_of_bill}
 use Rattle.ih_plan.specs.Cells.{part_at}
 use Rattle.ih_nurses.specs.Choice.{excess_of, seen_by, rise_by_choice}
+use Rattle.ih_costs.specs.Numbers.{nurse_presence, uncovered_room, nurse_skill}
 use Rattle.ih_costs.specs.StayGain.{rule_at, cost_at}
 
 -- by how much each number rises; rules and costs that rest on no nurses stay
 abbrev pub choice_told : Draft → Timetable → RoomNo → Shift → Option NurseNo → Bill
 choice_told I P r k new = record {
   v = pos 0 ∷ pos 0 ∷ pos 0 ∷ pos 0 ∷ pos 0 ∷ pos 0 ∷ pos 0
-      ∷ rise_by_choice P r k new (λ Q. rule_at 7 (part_at I Q (RoomShift r k)))
-      ∷ rise_by_choice P r k new (λ Q. rule_at 8 (part_at I Q (RoomShift r k)))
+      ∷ rise_by_choice P r k new (λ Q. rule_at nurse_presence (part_at I Q (RoomShift r k)))
+      ∷ rise_by_choice P r k new (λ Q. rule_at uncovered_room (part_at I Q (RoomShift r k)))
       ∷ [];
   s = pos 0
-      ∷ rise_by_choice P r k new (λ Q. cost_at 1 (part_at I Q (RoomShift r k)))
+      ∷ rise_by_choice P r k new (λ Q. cost_at nurse_skill (part_at I Q (RoomShift r k)))
       ∷ rise_by_choice P r k new (λ Q. seen_by I Q (present I P r.0 (day_of k.0)))
       ∷ rise_by_choice P r k new (λ Q.
       excess_of I Q k.0 (care_of P r.0 k.0) + excess_of I Q k.0 (option_map (λ (a : NurseNo). a.0) new))

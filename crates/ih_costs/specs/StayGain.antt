@@ -13,6 +13,8 @@ use Rattle.ih_plan.specs.Persons.{person_of}
 use Rattle.ih_plan.specs.Costs.{surgeon_of}
 use Rattle.ih_plan.specs.Sums.{sum_below}
 use Rattle.ih_plan.specs.BillOf.{Counts, as_bill, change_of_bill}
+use Rattle.ih_costs.specs.Numbers.{mixed_gender, incompatible_room, surgeon_overrun, theatre_overrun, unscheduled_mandatory, admission_window, room_capacity, nurse_presence, uncovered_room}
+use Rattle.ih_costs.specs.Numbers.{mixed_age, nurse_skill, continuity_of_care, excess_workload, open_theatre, surgeon_transfer, patient_delay, unscheduled_optional}
 use Rattle.ih_plan.specs.Cells.{part_at}
 
 -- f a + .. + f (b - 1)
@@ -55,7 +57,8 @@ module _ (I : Draft) (Q : Timetable) (p : ℕ) (at : Placement) (g : Counts → 
 
   -- of the room, over its shifts
   abbrev pub over_shifts : ℕ
-  over_shifts = span_sum (3 * at.day.0) (3 * end_of I p at) (λ k. g (part_at I Q (RoomShift at.room (record { 0 = k }))))
+  over_shifts =
+      span_sum (3 * at.day.0) (3 * end_of I p at) (λ k. g (part_at I Q (RoomShift at.room (record { 0 = k }))))
 
   -- of a nurse in shift k, where there is one
   abbrev pub of_nurse : ℕ → Option ℕ → ℕ
@@ -71,24 +74,40 @@ module _ (I : Draft) (Q : Timetable) (p : ℕ) (at : Placement) (g : Counts → 
 -- what the placement costs at a timetable: each number is summed over the one kind of cells that has it
 unfoldable pub gain_of : Draft → Timetable → ℕ → Placement → Counts
 gain_of I Q p at = record {
-  v = over_days I Q p at (rule_at 0) ∷ of_stay I Q p at (rule_at 1) ∷ of_surgeon I Q p at (rule_at 2) (surgeon_of I p)
-      ∷ of_theatre I Q p at (rule_at 3) ∷ of_stay I Q p at (rule_at 4) ∷ of_stay I Q p at (rule_at 5)
-      ∷ over_days I Q p at (rule_at 6) ∷ over_shifts I Q p at (rule_at 7) ∷ over_shifts I Q p at (rule_at 8) ∷ [];
-  s = over_days I Q p at (cost_at 0) ∷ over_shifts I Q p at (cost_at 1) ∷ of_care I Q p at (cost_at 2)
-      ∷ over_loads I Q p at (cost_at 3) ∷ of_theatre I Q p at (cost_at 4) ∷ of_surgeon I Q p at (cost_at 5) (surgeon_of I p)
-      ∷ of_stay I Q p at (cost_at 6) ∷ of_stay I Q p at (cost_at 7) ∷ [];
+  v = over_days I Q p at (rule_at mixed_gender)
+      ∷ of_stay I Q p at (rule_at incompatible_room)
+      ∷ of_surgeon I Q p at (rule_at surgeon_overrun) (surgeon_of I p)
+      ∷ of_theatre I Q p at (rule_at theatre_overrun)
+      ∷ of_stay I Q p at (rule_at unscheduled_mandatory)
+      ∷ of_stay I Q p at (rule_at admission_window)
+      ∷ over_days I Q p at (rule_at room_capacity)
+      ∷ over_shifts I Q p at (rule_at nurse_presence)
+      ∷ over_shifts I Q p at (rule_at uncovered_room)
+      ∷ [];
+  s = over_days I Q p at (cost_at mixed_age)
+      ∷ over_shifts I Q p at (cost_at nurse_skill)
+      ∷ of_care I Q p at (cost_at continuity_of_care)
+      ∷ over_loads I Q p at (cost_at excess_workload)
+      ∷ of_theatre I Q p at (cost_at open_theatre)
+      ∷ of_surgeon I Q p at (cost_at surgeon_transfer) (surgeon_of I p)
+      ∷ of_stay I Q p at (cost_at patient_delay)
+      ∷ of_stay I Q p at (cost_at unscheduled_optional)
+      ∷ [];
 }
 
 -- what the placement costs once it is made, less what its cells cost without it
 abbrev pub placement_gain : Draft → Timetable → PatientNo → Placement → Bill
 placement_gain I P p at =
-    sub_bills (as_bill (gain_of I (put (SetStay p (Some at)) P) p.0 at)) (as_bill (gain_of I (put (SetStay p None) P) p.0 at))
+    sub_bills (as_bill (gain_of I (put (SetStay p (Some at)) P) p.0 at))
+    (as_bill (gain_of I (put (SetStay p None) P) p.0 at))
 
 -- the numbers of a bill that rest on theatres and surgeons, and 0 for each other
 abbrev pub of_surgery : Bill → Bill
 of_surgery b = record {
-  v = pos 0 ∷ pos 0 ∷ place b.v 2 ∷ place b.v 3 ∷ pos 0 ∷ pos 0 ∷ pos 0 ∷ pos 0 ∷ pos 0 ∷ [];
-  s = pos 0 ∷ pos 0 ∷ pos 0 ∷ pos 0 ∷ place b.s 4 ∷ place b.s 5 ∷ pos 0 ∷ pos 0 ∷ [];
+  v = pos 0 ∷ pos 0 ∷ place b.v surgeon_overrun ∷ place b.v theatre_overrun
+      ∷ pos 0 ∷ pos 0 ∷ pos 0 ∷ pos 0 ∷ pos 0 ∷ [];
+  s = pos 0 ∷ pos 0 ∷ pos 0 ∷ pos 0
+      ∷ place b.s open_theatre ∷ place b.s surgeon_transfer ∷ pos 0 ∷ pos 0 ∷ [];
 }
 
 -- the gain of a stay: nothing where there is none

@@ -14,7 +14,8 @@ impl CellLedgers {
     pub fn choice_price(&self, inst: &Instance, r: RoomNo, k: Shift, new: Option<NurseNo>) -> Bill
         requires stands { AreLedgers inst.now.draft self.now }
         requires write { IsWriteOf inst.now.draft (SetCare r k new) }
-        ensures { result ≡ change_of_bill inst.now.draft (timetable_of self.now) (put (SetCare r k new) (timetable_of self.now)) }
+        ensures { result ≡ change_of_bill inst.now.draft (timetable_of self.now)
+            (put (SetCare r k new) (timetable_of self.now)) }
     {
         let old = self.plan().care(r, k);
         if new == old {

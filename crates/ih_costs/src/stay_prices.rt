@@ -11,8 +11,14 @@ ghost use Rattle.ih_plan.specs.Persons.{person_of};
 ghost use Rattle.ih_costs.specs.CellLedgers.{AreLedgers, timetable_of};
 ghost use Rattle.ih_costs.specs.StayGain.{rise, rule_at, cost_at, over_days, over_shifts, over_loads};
 ghost use Rattle.ih_costs.specs.StayGain.{of_surgery, placement_gain, stay_gain};
+ghost use Rattle.ih_costs.specs.Numbers.{mixed_gender, room_capacity, uncovered_room, mixed_age, nurse_skill, excess_workload};
 
 use crate::cell_ledgers::CellLedgers;
+use crate::numbers::{
+    ADMISSION_WINDOW, CONTINUITY_OF_CARE, INCOMPATIBLE_ROOM, MIXED_AGE, MIXED_GENDER, OPEN_THEATRE,
+    PATIENT_DELAY, ROOM_CAPACITY, SURGEON_OVERRUN, SURGEON_TRANSFER, THEATRE_OVERRUN,
+    UNSCHEDULED_MANDATORY, UNSCHEDULED_OPTIONAL,
+};
 use crate::stays::stay_change;
 use ih_nurses::Visit;
 use ih_plan::Placement;
@@ -61,9 +67,12 @@ impl CellLedgers {
         requires patient { p.0 < patient_count inst.now.draft }
         requires placement { IsPlacement inst.now.draft at }
         requires stay { stay_of (timetable_of self.now) p.0 ≡ old }
-        ensures mixed { result.mixed ≡ rise (timetable_of self.now) p at (λ Q. over_days inst.now.draft Q p.0 at (rule_at 0)) }
-        ensures crowded { result.crowded ≡ rise (timetable_of self.now) p at (λ Q. over_days inst.now.draft Q p.0 at (rule_at 6)) }
-        ensures ages { result.ages ≡ rise (timetable_of self.now) p at (λ Q. over_days inst.now.draft Q p.0 at (cost_at 0)) }
+        ensures mixed { result.mixed
+            ≡ rise (timetable_of self.now) p at (λ Q. over_days inst.now.draft Q p.0 at (rule_at mixed_gender)) }
+        ensures crowded { result.crowded
+            ≡ rise (timetable_of self.now) p at (λ Q. over_days inst.now.draft Q p.0 at (rule_at room_capacity)) }
+        ensures ages { result.ages
+            ≡ rise (timetable_of self.now) p at (λ Q. over_days inst.now.draft Q p.0 at (cost_at mixed_age)) }
     {
         let end = end_of(inst, p, at);
         let mut mixed: i64 = 0;
@@ -71,9 +80,9 @@ impl CellLedgers {
         let mut ages: i64 = 0;
         for d in at.day.0..end {
             let day = self.room_days.day_gain(inst, p, old, at, Day(d));
-            mixed += day.v[0];
-            crowded += day.v[6];
-            ages += day.s[0];
+            mixed += day.v[MIXED_GENDER];
+            crowded += day.v[ROOM_CAPACITY];
+            ages += day.s[MIXED_AGE];
         }
         DaysMore {
             mixed,
@@ -95,9 +104,12 @@ impl CellLedgers {
         requires patient { p.0 < patient_count inst.now.draft }
         requires placement { IsPlacement inst.now.draft at }
         requires stay { stay_of (timetable_of self.now) p.0 ≡ old }
-        ensures alone { result.alone ≡ rise (timetable_of self.now) p at (λ Q. over_shifts inst.now.draft Q p.0 at (rule_at 8)) }
-        ensures skill { result.skill ≡ rise (timetable_of self.now) p at (λ Q. over_shifts inst.now.draft Q p.0 at (cost_at 1)) }
-        ensures load { result.load ≡ rise (timetable_of self.now) p at (λ Q. over_loads inst.now.draft Q p.0 at (cost_at 3)) }
+        ensures alone { result.alone
+            ≡ rise (timetable_of self.now) p at (λ Q. over_shifts inst.now.draft Q p.0 at (rule_at uncovered_room)) }
+        ensures skill { result.skill
+            ≡ rise (timetable_of self.now) p at (λ Q. over_shifts inst.now.draft Q p.0 at (cost_at nurse_skill)) }
+        ensures load { result.load
+            ≡ rise (timetable_of self.now) p at (λ Q. over_loads inst.now.draft Q p.0 at (cost_at excess_workload)) }
     {
         let end = end_of(inst, p, at);
         let visit = Visit::new(inst, p, old, at);
@@ -115,6 +127,7 @@ impl CellLedgers {
 
     // The numbers of a placement's gain that rest on its theatre and its surgeon; the others are 0. The patient's stay
     // is `old` so far.
+    #[inline(always)]
     fn surgery_gain(
         &self,
         inst: &Instance,
@@ -132,8 +145,27 @@ impl CellLedgers {
         let of_theatre = self.theatres.theatre_gain(inst, p, old, at);
         let of_surgeon = self.theatres.surgeon_gain(inst, surgeon, p, old, at);
         Bill {
-            v: [0, 0, of_surgeon.v[2], of_theatre.v[3], 0, 0, 0, 0, 0],
-            s: [0, 0, 0, 0, of_theatre.s[4], of_surgeon.s[5], 0, 0],
+            v: [
+                0,
+                0,
+                of_surgeon.v[SURGEON_OVERRUN],
+                of_theatre.v[THEATRE_OVERRUN],
+                0,
+                0,
+                0,
+                0,
+                0,
+            ],
+            s: [
+                0,
+                0,
+                0,
+                0,
+                of_theatre.s[OPEN_THEATRE],
+                of_surgeon.s[SURGEON_TRANSFER],
+                0,
+                0,
+            ],
         }
     }
 
@@ -154,11 +186,11 @@ impl CellLedgers {
         Bill {
             v: [
                 days.mixed,
-                own.v[1],
-                surgery.v[2],
-                surgery.v[3],
-                own.v[4],
-                own.v[5],
+                own.v[INCOMPATIBLE_ROOM],
+                surgery.v[SURGEON_OVERRUN],
+                surgery.v[THEATRE_OVERRUN],
+                own.v[UNSCHEDULED_MANDATORY],
+                own.v[ADMISSION_WINDOW],
                 days.crowded,
                 0,
                 shifts.alone,
@@ -166,12 +198,12 @@ impl CellLedgers {
             s: [
                 days.ages,
                 shifts.skill,
-                care.s[2],
+                care.s[CONTINUITY_OF_CARE],
                 shifts.load,
-                surgery.s[4],
-                surgery.s[5],
-                own.s[6],
-                own.s[7],
+                surgery.s[OPEN_THEATRE],
+                surgery.s[SURGEON_TRANSFER],
+                own.s[PATIENT_DELAY],
+                own.s[UNSCHEDULED_OPTIONAL],
             ],
         }
     }
@@ -215,7 +247,8 @@ impl CellLedgers {
     pub fn stay_price(&self, inst: &Instance, p: PatientNo, new: Option<Placement>) -> Bill
         requires stands { AreLedgers inst.now.draft self.now }
         requires write { IsWriteOf inst.now.draft (SetStay p new) }
-        ensures { result ≡ change_of_bill inst.now.draft (timetable_of self.now) (put (SetStay p new) (timetable_of self.now)) }
+        ensures { result ≡ change_of_bill inst.now.draft (timetable_of self.now)
+            (put (SetStay p new) (timetable_of self.now)) }
     {
         let old = self.plan().stay(p);
         if new == old {
