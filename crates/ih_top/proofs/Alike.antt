@@ -18,14 +18,15 @@ use Rattle.ih_rounds.proofs.TwoJournals.{lone-rounds}
 use Rattle.ih_words.specs.Solve.{SolveCall}
 use Rattle.ih_shelf.specs.Outside.{Names}
 use Rattle.ih_chain.proofs.Telling.{chain_tries-one}
-use Rattle.ih_top.specs.Chaining.{of_chains}
-use Rattle.ih_top.specs.Demo.{HasSaid, IsDemo, IsShown}
+use Rattle.ih_top.specs.Chain.{of_chains}
+use Rattle.ih_top.specs.Demo.{HasSaid, IsDemo}
 use Rattle.ih_top.specs.Inputs.{HasPlan}
 use Rattle.ih_top.specs.Laws.{DemosShowTheSame, LoneRoundsAreAlike, LoneSearchesAreAlike, LoneSearchesDoTheSame}
-use Rattle.ih_top.specs.Solving.{HasBase, IsDone, IsSearch, Kind, of_moves, solution_at, told_by}
+use Rattle.ih_top.specs.Searches.{HasBase, Kind, solution_at, told_by}
+use Rattle.ih_top.specs.Solve.{of_moves}
 use Rattle.ih_top.specs.Starts.{started}
 use Rattle.ih_top.specs.Texts.{demo_text, done_text}
-use Rattle.ih_top.proofs.Completeness.{base-same, same-plan}
+use Rattle.ih_top.proofs.Accepted.{base-same, same-plan}
 
 -- ---- one base
 

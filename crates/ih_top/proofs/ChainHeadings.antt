@@ -1,5 +1,5 @@
 -- The journal of a search by chains: its length, and its heading, which replay and salvage refuse.
-use Rattle.std.proofs.Common.{◌≡◌, ◌∙◌, ℕ, zero, suc, ◌+◌, ◌*◌, ◌≤◌, refl, sym, ap, subst, arith, inl, inr, List, ◌++◌, length, Some, None}
+use Rattle.std.proofs.Common.{◌≡◌, ◌∙◌, ℕ, zero, suc, ◌+◌, ◌*◌, ◌≤◌, sym, ap, subst, arith, inl, inr, List, length, Some}
 use Rattle.std.specs.Prelude.{slice_index}
 use Rattle.std.proofs.lemmas.List.{length-map}
 use Rattle.std.proofs.Math.Nat.{mul-le-mul_right}
@@ -12,24 +12,25 @@ use Rattle.ih_journal.specs.Texts.{heading}
 use Rattle.ih_journal.specs.Tried.{Tried}
 use Rattle.ih_cellbook.specs.Legal.{AreLegalButDraws}
 use Rattle.ih_cellbook.proofs.EntryLimits.{legal-few}
-use Rattle.ih_chain.specs.declared.entries.ChainEntry.{ChainEntry}
 use Rattle.ih_chain.specs.Entries.{chain_tried, chain_tries}
 use Rattle.ih_chain.specs.Laws.{ChainJournalsAreShort}
 use Rattle.ih_chain.specs.Texts.{chain_heading, chain_journal}
 use Rattle.ih_instance.proofs.DraftSound.{instance_sound}
-use Rattle.ih_words.specs.Chain.{ChainCall}
 use Rattle.ih_words.specs.Replay.{ReplayCall}
 use Rattle.ih_shelf.specs.Outside.{Names, bytes_at}
-use Rattle.ih_top.specs.declared.files.TheConstants.{MAX_JOURNAL}
+use Rattle.ih_top.specs.declared.limits.TheConstants.{MAX_JOURNAL}
 use Rattle.ih_top.specs.declared.status.Status.{Status}
-use Rattle.ih_top.specs.declared.status.Status.TheVariants.{Done, Usage, ReadFault, InstanceRefused, StartRefused, NoneFound, WriteFault, OutOfMemory, JournalRefused, Infeasible, TooLong}
-use Rattle.ih_top.specs.Chaining.{of_chains}
-use Rattle.ih_top.specs.Laws.{ChainJournalsAreHeadless, ChainJournalsFit, ChainsAreRefused, EndsIn, HasNoFault, IsReplayOf, IsWithinLimits}
-use Rattle.ih_top.specs.Replaying.{HasNoHeading, HasRead, IsHeadedBy, IsHeadless, IsRefused, IsRefusedJournal, IsReplay, IsSalvage, JournalEnds, JournalRead, no_heading}
-use Rattle.ih_top.specs.Solving.{IsSearch}
+use Rattle.ih_top.specs.declared.status.Status.TheVariants.{JournalRefused}
+use Rattle.ih_top.specs.Laws.{ChainJournalsAreHeadless, ChainJournalsFit, ChainsAreRefused, EndsIn, HasNoFault}
+use Rattle.ih_top.specs.JournalEnds.{IsRefused, JournalEnds}
+use Rattle.ih_top.specs.JournalFiles.{HasRead, JournalRead}
+use Rattle.ih_top.specs.JournalHeading.{HasNoHeading, IsHeadedBy, IsHeadless, no_heading}
+use Rattle.ih_top.specs.Replay.{IsRefusedJournal, IsReplay}
+use Rattle.ih_top.specs.Salvage.{IsSalvage}
 use Rattle.ih_top.specs.Texts.{done_text, journal_refused_text, salvaged_text}
-use Rattle.ih_top.proofs.Completeness.{journal-accepted, same-bytes}
-use Rattle.ih_top.proofs.TakenBack.{has-read-back, memory-alone, read-back}
+use Rattle.ih_top.proofs.Accepted.{journal-accepted, same-bytes}
+use Rattle.ih_top.proofs.FaultlessEnds.{journal-faultless}
+use Rattle.ih_top.proofs.TakenBack.{has-read-back, read-back}
 
 -- the third letters of the two headings differ
 pub chains-headless : ChainJournalsAreHeadless
@@ -74,18 +75,15 @@ module _ (r : ReplayCall) (there left : Names) (x : JournalRead) (has : HasRead 
       (first : (e : JournalRefusal) → IsRefused refused r (Some there) e → e ≡ no_heading) where
     refused-ends : (status : Status) (text : List ℕ) → HasNoFault status → JournalEnds taken refused said r (Some there) (Some left) status text
         → EndsIn (JournalRefused no_heading) (journal_refused_text no_heading) (Unit {0}) status text
-    refused-ends Done text calm (d, told) = absurd (headed d.read d.base d.history d.given d.taken_is)
-    refused-ends Usage text calm h = absurd h.1
-    refused-ends (ReadFault role) text calm h = absurd calm
-    refused-ends (InstanceRefused e) text calm h = inl (memory-alone (InstanceRefused e) calm (journal-accepted there r x has (InstanceRefused e) text h.1))
-    refused-ends (StartRefused e) text calm h = inl (memory-alone (StartRefused e) calm (journal-accepted there r x has (StartRefused e) text h.1))
-    refused-ends NoneFound text calm (kept, d, told) = absurd (headed d.read d.base d.history d.given d.taken_is)
-    refused-ends (WriteFault role) text calm h = absurd calm
-    refused-ends OutOfMemory text calm h = inl refl
-    refused-ends (JournalRefused e) text calm (kept, is, told) =
-        let here = first e is in inr (ap JournalRefused here, told ∙ ap journal_refused_text here, tt)
-    refused-ends Infeasible text calm h = absurd h.1
-    refused-ends (TooLong role) text calm h = inl (memory-alone (TooLong role) calm (journal-accepted there r x has (TooLong role) text h.1))
+    refused-ends status text calm h = elim (journal-faultless taken refused said r (Some there) (Some left) status text calm h) [
+      | inl memory ↦ inl memory
+      | inr (inl (is, (d, told))) ↦ absurd (headed d.read d.base d.history d.given d.taken_is)
+      | inr (inr (inl (is, (d, told)))) ↦ absurd (headed d.read d.base d.history d.given d.taken_is)
+      | inr (inr (inr (inl refused))) ↦
+          let here = first refused.refusal refused.why in
+          inr (refused.status_is ∙ ap JournalRefused here, refused.said_is ∙ ap journal_refused_text here, tt)
+      | inr (inr (inr (inr unread))) ↦ inl (journal-accepted there r x has status text calm unread)
+    ]
 
   replay-first : (e : JournalRefusal) → IsRefused (IsRefusedJournal r.start) r (Some there) e → e ≡ no_heading
   replay-first e h = elim h.why [

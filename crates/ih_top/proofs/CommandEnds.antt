@@ -1,6 +1,6 @@
 -- What the ends of the commands have in common: each may fail to be said, and at each memory may run out.
-use Rattle.std.proofs.Common.{◌≡◌, refl, inl, inr, List, [], ℕ, Option, Some, None}
-use Rattle.std.specs.Prelude.{◌≢◌, ◌⊎◌}
+use Rattle.std.proofs.Common.{◌≡◌, refl, inl, inr, List, ℕ, Option, Some, None}
+use Rattle.std.specs.Prelude.{◌⊎◌}
 use Rattle.ih_journal.specs.declared.entries.Entry.{Entry}
 use Rattle.ih_journal.specs.declared.refusals.JournalRefusal.{JournalRefusal}
 use Rattle.ih_journal.specs.Base.{Base}
@@ -17,21 +17,26 @@ use Rattle.ih_top.specs.declared.status.Status.{Status}
 use Rattle.ih_top.specs.declared.status.Status.TheVariants.{Done, Usage, ReadFault, InstanceRefused, StartRefused, NoneFound, WriteFault, OutOfMemory, JournalRefused, Infeasible, TooLong}
 use Rattle.ih_top.specs.declared.status.Role.TheVariants.{Instance, Solution, Journal, Out}
 use Rattle.ih_top.specs.declared.answer.Answer.{Answer}
-use Rattle.ih_top.specs.Answers.{IsConcluded, IsSaid, unsaid}
+use Rattle.ih_top.specs.Answers.{IsConcluded, IsSaid}
 use Rattle.ih_top.specs.Texts.{done_text, memory_text, salvaged_text, usage_text}
-use Rattle.ih_top.specs.Inputs.{Reading, EndsUnread}
 use Rattle.ih_top.specs.Rounds.{RoundsEnds}
-use Rattle.ih_top.specs.Chaining.{of_chains}
-use Rattle.ih_top.specs.Solving.{Kind, SearchEnds, Unchanged, of_moves}
-use Rattle.ih_top.specs.Advising.{AdviseEnds}
-use Rattle.ih_top.specs.Checking.{CheckEnds}
+use Rattle.ih_top.specs.Chain.{of_chains}
+use Rattle.ih_top.specs.Searches.{Kind, SearchEnds}
+use Rattle.ih_top.specs.Solve.{of_moves}
+use Rattle.ih_top.specs.Writes.{Unchanged}
+use Rattle.ih_top.specs.Advise.{AdviseEnds}
+use Rattle.ih_top.specs.Check.{CheckEnds}
 use Rattle.ih_top.specs.Demo.{DemoEnds}
-use Rattle.ih_top.specs.Generating.{GenEnds}
-use Rattle.ih_top.specs.Replaying.{EndsUnreadJournal, HasBest, IsHeadless, IsRefusedJournal, IsReplay, IsSalvage, JournalEnds, JournalRead}
+use Rattle.ih_top.specs.Generate.{GenEnds}
+use Rattle.ih_top.specs.JournalEnds.{HasBest, JournalEnds}
+use Rattle.ih_top.specs.JournalFiles.{JournalRead}
+use Rattle.ih_top.specs.JournalHeading.{IsHeadless}
+use Rattle.ih_top.specs.Replay.{IsRefusedJournal, IsReplay}
+use Rattle.ih_top.specs.Salvage.{IsSalvage}
 use Rattle.ih_top.specs.Ends.{CallEnds, Ends, Leaves, OutDiffers, UsageEnds}
 use Rattle.ih_top.proofs.RoundsWriting.{rounds-done-found, rounds-none-begun}
-use Rattle.ih_top.proofs.Advices.{advise-answerable}
-use Rattle.ih_top.proofs.Saying.{IsAnswerable, ended, memory-ended, said-answer}
+use Rattle.ih_top.proofs.AdviseAnswers.{advise-answerable}
+use Rattle.ih_top.proofs.Saying.{IsAnswerable, ended, memory-ended, said-answer, unsaid-by}
 use Rattle.ih_top.proofs.Writing.{begun, done-found, none-begun}
 
 -- nothing changes where the names are those that were there
@@ -40,57 +45,9 @@ told-same None new e = tt
 told-same (Some old) None e = absurd (let clash : None ≡ Some old = e in cc)
 told-same (Some old) (Some new) e = λ n. let same : new ≡ old = cc in cc
 
--- ---- files that aren't as they ought to be
-
-unread-unsaid : (files : Option Names) (r : Reading) (status : Status) (text : List ℕ) → EndsUnread files r status text → EndsUnread files r (unsaid status) text
-unread-unsaid files r Done text h = absurd h
-unread-unsaid files r Usage text h = h
-unread-unsaid files r (ReadFault role) text h = h
-unread-unsaid files r (InstanceRefused e) text h = h
-unread-unsaid files r (StartRefused e) text h = h
-unread-unsaid files r NoneFound text h = h
-unread-unsaid files r (WriteFault role) text h = h
-unread-unsaid files r OutOfMemory text h = h
-unread-unsaid files r (JournalRefused e) text h = h
-unread-unsaid files r Infeasible text h = absurd h
-unread-unsaid files r (TooLong role) text h = h
-
-pub unread-answerable : (files : Option Names) (r : Reading) → IsAnswerable (EndsUnread files r)
-unread-answerable files r = record { unsaid = λ status text some h. unread-unsaid files r status text h; memory = λ status text h. refl }
-
-unread_journal-unsaid : (files : Option Names) (r : ReplayCall) (status : Status) (text : List ℕ) → EndsUnreadJournal files r status text
-    → EndsUnreadJournal files r (unsaid status) text
-unread_journal-unsaid files r Done text h = absurd h
-unread_journal-unsaid files r Usage text h = h
-unread_journal-unsaid files r (ReadFault role) text h = h
-unread_journal-unsaid files r (InstanceRefused e) text h = h
-unread_journal-unsaid files r (StartRefused e) text h = h
-unread_journal-unsaid files r NoneFound text h = h
-unread_journal-unsaid files r (WriteFault role) text h = h
-unread_journal-unsaid files r OutOfMemory text h = h
-unread_journal-unsaid files r (JournalRefused e) text h = h
-unread_journal-unsaid files r Infeasible text h = absurd h
-unread_journal-unsaid files r (TooLong role) text h = h
-
-pub unread_journal-answerable : (files : Option Names) (r : ReplayCall) → IsAnswerable (EndsUnreadJournal files r)
-unread_journal-answerable files r = record { unsaid = λ status text some h. unread_journal-unsaid files r status text h; memory = λ status text h. refl }
-
 -- ---- solve and chain
 
 module _ {X : Type 0} (kind : Kind X) (s : SolveCall) (old new : Option Names) where
-  search-unsaid : (status : Status) (text : List ℕ) → SearchEnds kind s old new status text → SearchEnds kind s old new (unsaid status) text
-  search-unsaid Done text h = h
-  search-unsaid Usage text h = h
-  search-unsaid (ReadFault role) text h = h
-  search-unsaid (InstanceRefused e) text h = h
-  search-unsaid (StartRefused e) text h = h
-  search-unsaid NoneFound text h = h
-  search-unsaid (WriteFault role) text h = h
-  search-unsaid OutOfMemory text h = h
-  search-unsaid (JournalRefused e) text h = h
-  search-unsaid Infeasible text h = absurd h.1
-  search-unsaid (TooLong role) text h = h
-
   search-memory : (status : Status) (text : List ℕ) → SearchEnds kind s old new status text → SearchEnds kind s old new OutOfMemory memory_text
   search-memory Done text h = (inr (inr (done-found kind s old new text h)), refl)
   search-memory Usage text h = (inl h.0, refl)
@@ -109,24 +66,14 @@ module _ {X : Type 0} (kind : Kind X) (s : SolveCall) (old new : Option Names) w
   search-memory (TooLong role) text h = (inl h.0, refl)
 
   pub search-answerable : IsAnswerable (SearchEnds kind s old new)
-  search-answerable = record { unsaid = λ status text some h. search-unsaid status text h; memory = search-memory }
+  search-answerable = record {
+    unsaid = λ status text some h. unsaid-by (SearchEnds kind s old new) text (λ done. done) (λ none. absurd none.1) status h;
+    memory = search-memory;
+  }
 
 -- ---- rounds
 
 module _ (r : RoundsCall) (old new : Option Names) where
-  rounds-unsaid : (status : Status) (text : List ℕ) → RoundsEnds r old new status text → RoundsEnds r old new (unsaid status) text
-  rounds-unsaid Done text h = h
-  rounds-unsaid Usage text h = h
-  rounds-unsaid (ReadFault role) text h = h
-  rounds-unsaid (InstanceRefused e) text h = h
-  rounds-unsaid (StartRefused e) text h = h
-  rounds-unsaid NoneFound text h = h
-  rounds-unsaid (WriteFault role) text h = h
-  rounds-unsaid OutOfMemory text h = h
-  rounds-unsaid (JournalRefused e) text h = h
-  rounds-unsaid Infeasible text h = absurd h.1
-  rounds-unsaid (TooLong role) text h = h
-
   rounds-memory : (status : Status) (text : List ℕ) → RoundsEnds r old new status text → RoundsEnds r old new OutOfMemory memory_text
   rounds-memory Done text h = (inr (inr (rounds-done-found r old new h.0)), refl)
   rounds-memory Usage text h = (inl h.0, refl)
@@ -145,26 +92,19 @@ module _ (r : RoundsCall) (old new : Option Names) where
   rounds-memory (TooLong role) text h = (inl h.0, refl)
 
   pub rounds-answerable : IsAnswerable (RoundsEnds r old new)
-  rounds-answerable = record { unsaid = λ status text some h. rounds-unsaid status text h; memory = rounds-memory }
+  rounds-answerable = record {
+    unsaid = λ status text some h. unsaid-by (RoundsEnds r old new) text (λ done. done) (λ none. absurd none.1) status h;
+    memory = rounds-memory;
+  }
 
 -- ---- check
 
 module _ (c : CheckCall) (files : Option Names) where
-  check-unsaid : (status : Status) (text : List ℕ) → CheckEnds c files status text → CheckEnds c files (unsaid status) text
-  check-unsaid Done text h = h.0
-  check-unsaid Usage text h = h
-  check-unsaid (ReadFault role) text h = h
-  check-unsaid (InstanceRefused e) text h = h
-  check-unsaid (StartRefused e) text h = h
-  check-unsaid NoneFound text h = h
-  check-unsaid (WriteFault role) text h = h
-  check-unsaid OutOfMemory text h = h
-  check-unsaid (JournalRefused e) text h = h
-  check-unsaid Infeasible text h = h.0
-  check-unsaid (TooLong role) text h = h
-
   pub check-answerable : IsAnswerable (CheckEnds c files)
-  check-answerable = record { unsaid = λ status text some h. check-unsaid status text h; memory = λ status text h. refl }
+  check-answerable = record {
+    unsaid = λ status text some h. unsaid-by (CheckEnds c files) text (λ whole. whole.0) (λ broken. broken.0) status h;
+    memory = λ status text h. refl;
+  }
 
 -- ---- replay and salvage
 
@@ -172,19 +112,6 @@ module _ (taken : JournalRead → Base → List Entry → Type 0) (refused : Jou
     (r : ReplayCall) (old new : Option Names) where
   abbrev OfJournal : Status → List ℕ → Type 0
   OfJournal status text = JournalEnds taken refused said r old new status text
-
-  journal-unsaid : (status : Status) (text : List ℕ) → OfJournal status text → OfJournal (unsaid status) text
-  journal-unsaid Done text h = h
-  journal-unsaid Usage text h = h
-  journal-unsaid (ReadFault role) text h = h
-  journal-unsaid (InstanceRefused e) text h = h
-  journal-unsaid (StartRefused e) text h = h
-  journal-unsaid NoneFound text h = h
-  journal-unsaid (WriteFault role) text h = h
-  journal-unsaid OutOfMemory text h = h
-  journal-unsaid (JournalRefused e) text h = h
-  journal-unsaid Infeasible text h = absurd h.1
-  journal-unsaid (TooLong role) text h = h
 
   best-begun : HasBest taken IsWritten r old new → HasBest taken MayBeWritten r old new
   best-begun d = record {
@@ -216,38 +143,14 @@ module _ (taken : JournalRead → Base → List Entry → Type 0) (refused : Jou
   journal-memory (TooLong role) text h = (inl h.0, refl)
 
   pub journal-answerable : IsAnswerable (JournalEnds taken refused said r old new)
-  journal-answerable = record { unsaid = λ status text some h. journal-unsaid status text h; memory = journal-memory }
-
-  -- a call that comes no further than its files changes none
-  pub unread-journal : Told Unchanged old new → (status : Status) (text : List ℕ) → EndsUnreadJournal old r status text → OfJournal status text
-  unread-journal same Done text h = absurd h
-  unread-journal same Usage text h = (same, h)
-  unread-journal same (ReadFault role) text h = (same, h)
-  unread-journal same (InstanceRefused e) text h = (same, h)
-  unread-journal same (StartRefused e) text h = (same, h)
-  unread-journal same NoneFound text h = absurd h
-  unread-journal same (WriteFault role) text h = absurd h
-  unread-journal same OutOfMemory text h = (inl same, h)
-  unread-journal same (JournalRefused e) text h = absurd h
-  unread-journal same Infeasible text h = (same, h)
-  unread-journal same (TooLong role) text h = (same, h)
+  journal-answerable = record {
+    unsaid = λ status text some h. unsaid-by OfJournal text (λ done. done) (λ none. absurd none.1) status h;
+    memory = journal-memory;
+  }
 
 -- ---- gen
 
 module _ (g : GenCall) (old new : Option Names) where
-  gen-unsaid : (status : Status) (text : List ℕ) → text ≢ [] → GenEnds g old new status text → GenEnds g old new (unsaid status) text
-  gen-unsaid Done text some h = absurd (some h.1)
-  gen-unsaid Usage text some h = h
-  gen-unsaid (ReadFault role) text some h = h
-  gen-unsaid (InstanceRefused e) text some h = h
-  gen-unsaid (StartRefused e) text some h = h
-  gen-unsaid NoneFound text some h = h
-  gen-unsaid (WriteFault role) text some h = h
-  gen-unsaid OutOfMemory text some h = h
-  gen-unsaid (JournalRefused e) text some h = h
-  gen-unsaid Infeasible text some h = absurd h
-  gen-unsaid (TooLong role) text some h = h
-
   gen-memory : (status : Status) (text : List ℕ) → GenEnds g old new status text → GenEnds g old new OutOfMemory memory_text
   gen-memory Done text h = (begun g.out _ old new h.0, refl)
   gen-memory Usage text h = absurd h
@@ -266,26 +169,19 @@ module _ (g : GenCall) (old new : Option Names) where
   gen-memory (TooLong role) text h = absurd h
 
   pub gen-answerable : IsAnswerable (GenEnds g old new)
-  gen-answerable = record { unsaid = gen-unsaid; memory = gen-memory }
+  gen-answerable = record {
+    unsaid = λ status text some h. unsaid-by (GenEnds g old new) text (λ done. absurd (some done.1)) (λ none. absurd none) status h;
+    memory = gen-memory;
+  }
 
 -- ---- demo
 
 module _ (number : ℕ) where
-  demo-unsaid : (status : Status) (text : List ℕ) → DemoEnds number status text → DemoEnds number (unsaid status) text
-  demo-unsaid Done text h = h
-  demo-unsaid Usage text h = h
-  demo-unsaid (ReadFault role) text h = h
-  demo-unsaid (InstanceRefused e) text h = h
-  demo-unsaid (StartRefused e) text h = h
-  demo-unsaid NoneFound text h = h
-  demo-unsaid (WriteFault role) text h = h
-  demo-unsaid OutOfMemory text h = h
-  demo-unsaid (JournalRefused e) text h = h
-  demo-unsaid Infeasible text h = absurd h
-  demo-unsaid (TooLong role) text h = h
-
   pub demo-answerable : IsAnswerable (DemoEnds number)
-  demo-answerable = record { unsaid = λ status text some h. demo-unsaid status text h; memory = λ status text h. refl }
+  demo-answerable = record {
+    unsaid = λ status text some h. unsaid-by (DemoEnds number) text (λ shown. shown) (λ none. absurd none) status h;
+    memory = λ status text h. refl;
+  }
 
 -- ---- any command
 
@@ -309,21 +205,11 @@ call-answerable (demo number) old new = beside (Told Unchanged old new) (DemoEnd
 
 -- ---- no call
 
-usage-unsaid : (status : Status) (text : List ℕ) → UsageEnds status text → UsageEnds (unsaid status) text
-usage-unsaid Done text h = absurd h
-usage-unsaid Usage text h = h
-usage-unsaid (ReadFault role) text h = h
-usage-unsaid (InstanceRefused e) text h = h
-usage-unsaid (StartRefused e) text h = h
-usage-unsaid NoneFound text h = h
-usage-unsaid (WriteFault role) text h = h
-usage-unsaid OutOfMemory text h = h
-usage-unsaid (JournalRefused e) text h = h
-usage-unsaid Infeasible text h = absurd h
-usage-unsaid (TooLong role) text h = h
-
 usage-answerable : IsAnswerable UsageEnds
-usage-answerable = record { unsaid = λ status text some h. usage-unsaid status text h; memory = λ status text h. refl }
+usage-answerable = record {
+  unsaid = λ status text some h. unsaid-by UsageEnds text (λ none. absurd none) (λ none. absurd none) status h;
+  memory = λ status text h. refl;
+}
 
 -- the usage was put out, as far as that went
 pub usage-ended : (gained part : List ℕ → Type 0) (a : Answer) (result : Status) → IsSaid Usage usage_text a

@@ -10,23 +10,24 @@ use Rattle.ih_tables.specs.declared.drafts.Draft.{Draft}
 use Rattle.ih_tables.specs.declared.refusals.Refusal.{Refusal}
 use Rattle.ih_plan.specs.Timetable.{Timetable}
 use Rattle.ih_journal.specs.Base.{Base}
-use Rattle.ih_journal.specs.Best.{HasNone, IsBest}
+use Rattle.ih_journal.specs.Best.{IsBest}
 use Rattle.ih_journal.proofs.BestLemmas.{best-or-none}
 use Rattle.ih_instance.specs.Instance.{instance}
 use Rattle.ih_solution.specs.Reading.{plan_in}
 use Rattle.ih_words.specs.Solve.{SolveCall}
 use Rattle.ih_shelf.specs.Outside.{Names, bytes_at}
-use Rattle.ih_top.specs.declared.files.TheConstants.{MAX_FILE}
+use Rattle.ih_top.specs.declared.limits.TheConstants.{MAX_FILE}
 use Rattle.ih_top.specs.declared.status.Role.TheVariants.{Instance, Solution, Journal, Out}
 use Rattle.ih_top.specs.declared.status.Status.{Status}
 use Rattle.ih_top.specs.declared.status.Status.TheVariants.{Done, Usage, ReadFault, InstanceRefused, StartRefused, NoneFound, WriteFault, OutOfMemory, JournalRefused, Infeasible, TooLong}
 use Rattle.ih_top.specs.Inputs.{EndsUnread, HasInputs, IsNext, Reading, solve_reading}
 use Rattle.ih_top.specs.Laws.{EndTheSame, HasNoFault, LoneSearchesEndAlike}
-use Rattle.ih_top.specs.Solving.{HasFoundNone, IsDone, Kind, OthersUnchanged, SearchEnds, Unchanged, told_by}
+use Rattle.ih_top.specs.Searches.{HasFoundNone, IsDone, Kind, SearchEnds, told_by}
+use Rattle.ih_top.specs.Writes.{OthersUnchanged, Unchanged}
 use Rattle.ih_top.specs.Texts.{instance_refused_text, none_found_text, solution_refused_text, too_long_text}
 use Rattle.ih_top.proofs.Alike.{IsTelling, searches-alike, searches-same}
-use Rattle.ih_top.proofs.Completeness.{accepted}
-use Rattle.ih_top.proofs.TakenBack.{memory-alone}
+use Rattle.ih_top.proofs.Accepted.{accepted}
+use Rattle.ih_top.proofs.FaultlessEnds.{IsFaultless, search-faultless}
 
 -- ---- how files are refused follows from them
 
@@ -113,7 +114,7 @@ pub unread : (x : Reading) (old new : Names) (status : Status) (text : List ℕ)
 unread x old new status text calm room kept h = record {
   kept = kept;
   so = refused-so old x status text calm room h;
-  never = λ I P has. room (memory-alone status calm (accepted old x I P has status text h));
+  never = λ I P has. room (accepted old x I P has status text calm h);
 }
 
 pub unread-alike : (x : Reading) (old new other : Names) (status ended : Status) (text told : List ℕ) → IsUnread x old new status text
@@ -128,22 +129,21 @@ unread-alike x old new other status ended text told first second =
 
 abbrev SearchEnd : {X : Type 0} → Kind X → SolveCall → Names → Names → Status → List ℕ → Type 0
 SearchEnd kind s old new status text =
-    IsEnd (IsDone kind s (Some old) (Some new) text) (HasFoundNone kind s (Some old) (Some new) × (text ≡ none_found_text)) (solve_reading s) old new status text
+    IsEnd (IsDone kind s (Some old) (Some new) text) (HasFoundNone kind s (Some old) (Some new) × (text ≡ none_found_text))
+    (solve_reading s) old new status text
 
-module _ {X : Type 0} (kind : Kind X) (s : SolveCall) (old new : Names) where
-  search-end : (status : Status) (text : List ℕ) → HasNoFault status → status ≢ OutOfMemory → SearchEnds kind s (Some old) (Some new) status text
-      → SearchEnd kind s old new status text
-  search-end Done text calm room h = inl (refl, h)
-  search-end Usage text calm room h = absurd h.1
-  search-end (ReadFault role) text calm room h = absurd calm
-  search-end (InstanceRefused e) text calm room h = inr (inr (unread (solve_reading s) old new (InstanceRefused e) text calm room h.0 h.1))
-  search-end (StartRefused e) text calm room h = inr (inr (unread (solve_reading s) old new (StartRefused e) text calm room h.0 h.1))
-  search-end NoneFound text calm room h = inr (inl (refl, h))
-  search-end (WriteFault role) text calm room h = absurd calm
-  search-end OutOfMemory text calm room h = absurd (room refl)
-  search-end (JournalRefused e) text calm room h = absurd h.1
-  search-end Infeasible text calm room h = absurd h.1
-  search-end (TooLong role) text calm room h = inr (inr (unread (solve_reading s) old new (TooLong role) text calm room h.0 h.1))
+-- what no fault ended, nor lack of memory
+pub end-of : (done none : Type 0) (x : Reading) (old new : Names) (status : Status) (text : List ℕ) → HasNoFault status → status ≢ OutOfMemory
+    → IsFaultless done none (Unchanged old new × EndsUnread (Some old) x status text) status → IsEnd done none x old new status text
+end-of done none x old new status text calm room (inl memory) = absurd (room memory)
+end-of done none x old new status text calm room (inr (inl one)) = inl one
+end-of done none x old new status text calm room (inr (inr (inl two))) = inr (inl two)
+end-of done none x old new status text calm room (inr (inr (inr other))) = inr (inr (unread x old new status text calm room other.0 other.1))
+
+search-end : {X : Type 0} (kind : Kind X) (s : SolveCall) (old new : Names) (status : Status) (text : List ℕ) → HasNoFault status → status ≢ OutOfMemory
+    → SearchEnds kind s (Some old) (Some new) status text → SearchEnd kind s old new status text
+search-end kind s old new status text calm room h =
+    end-of _ _ (solve_reading s) old new status text calm room (search-faultless kind s (Some old) (Some new) status text calm h)
 
 -- ---- the same files
 

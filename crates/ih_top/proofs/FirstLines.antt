@@ -1,5 +1,5 @@
 -- The first line of some bytes.
-use Rattle.std.proofs.Common.{◌≡◌, ◌∙◌, ℕ, ◌+◌, ◌<◌, ◌≤◌, ◌^◌, refl, sym, ap, arith, Bool, true, false, Option, Some, None, cond, List, [], ◌∷◌, ◌++◌, append_assoc, length, take, drop, get_or}
+use Rattle.std.proofs.Common.{◌≡◌, ◌∙◌, ℕ, ◌+◌, ◌<◌, ◌^◌, refl, sym, ap, arith, Bool, true, false, Option, Some, None, cond, List, [], ◌∷◌, ◌++◌, append_assoc, length, take, drop, get_or}
 use Rattle.std.specs.Prelude.{◌==◌, IfNone, position, nat_lt}
 use Rattle.std.specs.List.{position_or_len}
 use Rattle.std.proofs.lemmas.Bool.{eqb-true, ltb-false, ltb-true}
@@ -10,8 +10,8 @@ use Rattle.ih_journal.specs.declared.settings.Options.{Options}
 use Rattle.ih_journal.specs.Settings.{IsLawful}
 use Rattle.ih_journal.specs.Texts.{ended, heading}
 use Rattle.ih_journal.proofs.HeadTexts.{heading_lacks, lawful_short}
-use Rattle.ih_top.specs.Journals.{HasLine, HasNoFeed}
-use Rattle.ih_top.specs.Replaying.{HasNoHeading}
+use Rattle.ih_top.specs.JournalLines.{HasLine, HasNoFeed}
+use Rattle.ih_top.specs.JournalHeading.{HasNoHeading}
 
 abbrev pub is_feed : ℕ → Bool
 is_feed b = b == 10
@@ -86,21 +86,12 @@ no-line-in bytes line more lacks is = go line bytes lacks is.joins
     go (c ∷ a) [] none h = ended-some (c ∷ a) more h
     go (c ∷ a) (b ∷ bs) none h = go a bs (All-tail (λ b. (b == 10) ≡ false) b bs none) (let same : b ∷ bs ≡ c ∷ (ended a ++ more) = h in cc)
 
--- a shorter piece is left behind a line
-pub line-shorter : (bytes line more : List ℕ) → HasLine bytes line more → length more < length bytes
-line-shorter bytes line more has = let len = simp (length-append) at (ap length has.joins) in omega (arith, len)
-
 -- what holds where there is nothing
 pub if-none : {X : Type 0} (r : Option X) (A : Type 0) → A → IfNone r A
 if-none None A a = a
 if-none (Some x) A a = tt
 
--- bytes without a line feed have no heading
-pub unended-headless : (bytes : List ℕ) → HasNoFeed bytes → HasNoHeading bytes
-unended-headless bytes lacks o more lawful seed joins =
-    no-line-in bytes (heading o) more lacks (record { joins = joins; first = heading_lacks o (lawful_short o lawful seed) })
-
--- nor have bytes whose first line is none
+-- bytes whose first line is no heading have none
 pub line-headless : (bytes line more : List ℕ) → HasLine bytes line more → ((o : Options) → IsLawful o → o.seed < 2 ^ 64 → line ≡ heading o → ⊥)
     → HasNoHeading bytes
 line-headless bytes line more has never o rest lawful seed joins =

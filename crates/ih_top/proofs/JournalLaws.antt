@@ -1,5 +1,6 @@
 -- What is taken of the journal of a legal history that is cut off or damaged.
-use Rattle.std.proofs.Common.{zero, suc, ◌≡◌, ◌∙◌, ℕ, ◌+◌, ◌<◌, ◌≤◌, refl, sym, ap, ap₂, subst, arith, inl, inr, Bool, true, false, Option, Some, None, List, [], ◌∷◌, ◌++◌, append_assoc, length, take, drop}
+use Rattle.std.proofs.Common.{zero, suc, ◌≡◌, ◌∙◌, ℕ, ◌+◌, ◌<◌, refl, sym, ap, ap₂, subst, arith, inl}
+use Rattle.std.proofs.Common.{inr, Bool, true, false, Option, Some, None, List, [], ◌∷◌, ◌++◌, append_assoc, length, take, drop}
 use Rattle.std.specs.Prelude.{◌==◌, position, slice_get}
 use Rattle.std.specs.List.{count_by, onto_first}
 use Rattle.std.proofs.lemmas.List.{append-nil, append_cancel_left, length-append, take-append-drop, take_all}
@@ -20,7 +21,7 @@ use Rattle.ih_journal.proofs.Mapped.{get-mapped, map-more, map-take}
 use Rattle.ih_journal.proofs.Separators.{parted_some}
 use Rattle.ih_cellbook.specs.Keeping.{IsBase}
 use Rattle.ih_replay.specs.Laws.{LegalJournalsAreTaken, LegalJournalsDiffer, TakenLinesAreOfLegalHistories, Takes, line_texts}
-use Rattle.ih_top.specs.Journals.{Begins, HasLine, HasNoFeed, IsRefusedAt}
+use Rattle.ih_top.specs.JournalLines.{Begins, HasLine, HasNoFeed, IsRefusedAt}
 use Rattle.ih_top.specs.Laws.{RefusedLinesAreNotFull, WholeLinesAreSalvaged}
 use Rattle.ih_top.proofs.FirstLines.{ended-some, first-apart, is_feed, line_here, no_line}
 

@@ -1,7 +1,6 @@
 -- What a journal comes to, and how the call ends then.
-use Rattle.std.proofs.Common.{◌≡◌, ◌∙◌, ℕ, refl, sym, ap, subst, inl, inr, List, [], ◌++◌, Option, Some, None}
+use Rattle.std.proofs.Common.{◌≡◌, ◌∙◌, ℕ, refl, subst, inl, inr, List, Option, Some, None}
 use Rattle.std.specs.Prelude.{Result, Ok, Err, IfOk}
-use Rattle.std.proofs.lemmas.List.{append-nil}
 use Rattle.ih_journal.specs.declared.entries.Entry.{Entry}
 use Rattle.ih_journal.specs.declared.refusals.JournalRefusal.{JournalRefusal}
 use Rattle.ih_journal.specs.Base.{Base}
@@ -11,38 +10,28 @@ use Rattle.ih_words.specs.Start.{StartCall}
 use Rattle.ih_shelf.specs.Outside.{IsWritten, MayBeWritten, Names, Told}
 use Rattle.ih_top.specs.declared.answer.Answer.{Answer}
 use Rattle.ih_top.specs.declared.output.BestOutput.{BestOutput}
-use Rattle.ih_top.specs.declared.replaying.Outcome.{Outcome}
-use Rattle.ih_top.specs.declared.replaying.Outcome.TheVariants.{Refused, Taken}
+use Rattle.ih_top.specs.declared.outcome.Outcome.{Outcome}
+use Rattle.ih_top.specs.declared.outcome.Outcome.TheVariants.{Refused, Taken}
 use Rattle.ih_top.specs.declared.status.Status.{Status}
 use Rattle.ih_top.specs.declared.status.Status.TheVariants.{Done, Usage, ReadFault, InstanceRefused, StartRefused, NoneFound, WriteFault, OutOfMemory, JournalRefused, Infeasible, TooLong}
 use Rattle.ih_top.specs.declared.status.Role.TheVariants.{Instance, Solution, Journal, Out}
-use Rattle.ih_top.specs.Answers.{Answers, unsaid}
-use Rattle.ih_top.specs.Outcomes.{AreFullLines, AreLines, IsLinesOutcome, IsOutcome, IsTaken, OutcomeEnds, WritesBest}
-use Rattle.ih_top.specs.Outputs.{HasBestSaid, IsBestSaid}
-use Rattle.ih_top.specs.Replaying.{HasBest, HasNoBest, HasRead, HasRefusedLine, IsHeadedBy, IsHeadless, IsRefused, IsRefusedJournal, IsReplay, IsSalvage, JournalEnds, JournalRead}
-use Rattle.ih_top.specs.Solving.{Unchanged, solution_at}
+use Rattle.ih_top.specs.Answers.{Answers}
+use Rattle.ih_top.specs.Outcomes.{AreLines, IsLinesOutcome, IsOutcome, IsTaken, OutcomeEnds, WritesBest}
+use Rattle.ih_top.specs.Outputs.{IsBestSaid}
+use Rattle.ih_top.specs.JournalEnds.{HasBest, HasNoBest, IsRefused, JournalEnds}
+use Rattle.ih_top.specs.JournalFiles.{HasRead, JournalRead}
+use Rattle.ih_top.specs.JournalHeading.{IsHeadedBy, IsHeadless}
+use Rattle.ih_top.specs.Replay.{IsRefusedJournal, IsReplay}
+use Rattle.ih_top.specs.Salvage.{IsSalvage}
 use Rattle.ih_top.specs.Texts.{done_text, memory_text, salvaged_text}
-use Rattle.ih_top.proofs.Saying.{IsAnswerable, answers-weaker}
-use Rattle.ih_top.proofs.Writing.{begun, told-weaker}
+use Rattle.ih_top.proofs.Saying.{IsAnswerable, answers-weaker, unsaid-by}
+use Rattle.ih_top.proofs.Writing.{begun}
 
 -- ---- the ends of an outcome
 
 module _ (o : Outcome) (out : List ℕ) (old new : Option Names) where
   writes-begun : WritesBest IsWritten o out old new → WritesBest MayBeWritten o out old new
   writes-begun w = record { best = w.best; is = w.is; written = begun out _ old new w.written }
-
-  outcome-unsaid : (status : Status) (text : List ℕ) → OutcomeEnds o out old new status text → OutcomeEnds o out old new (unsaid status) text
-  outcome-unsaid Done text h = h
-  outcome-unsaid Usage text h = h
-  outcome-unsaid (ReadFault role) text h = h
-  outcome-unsaid (InstanceRefused e) text h = h
-  outcome-unsaid (StartRefused e) text h = h
-  outcome-unsaid NoneFound text h = h
-  outcome-unsaid (WriteFault role) text h = h
-  outcome-unsaid OutOfMemory text h = h
-  outcome-unsaid (JournalRefused e) text h = h
-  outcome-unsaid Infeasible text h = absurd h
-  outcome-unsaid (TooLong role) text h = h
 
   outcome-memory : (status : Status) (text : List ℕ) → OutcomeEnds o out old new status text → OutcomeEnds o out old new OutOfMemory memory_text
   outcome-memory Done text h = (inr (writes-begun h.0), refl)
@@ -62,7 +51,10 @@ module _ (o : Outcome) (out : List ℕ) (old new : Option Names) where
   outcome-memory (TooLong role) text h = absurd h
 
   pub outcome-answerable : IsAnswerable (OutcomeEnds o out old new)
-  outcome-answerable = record { unsaid = λ status text some h. outcome-unsaid status text h; memory = outcome-memory }
+  outcome-answerable = record {
+    unsaid = λ status text some h. unsaid-by (OutcomeEnds o out old new) text (λ done. done) (λ none. absurd none) status h;
+    memory = outcome-memory;
+  }
 
 -- ---- they are those of the call
 

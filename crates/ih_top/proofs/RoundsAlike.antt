@@ -1,8 +1,8 @@
 -- Two calls of rounds with one worker end alike over the same files, where no fault and no lack of memory ended them.
-use Rattle.std.proofs.Common.{◌≡◌, ◌∙◌, ℕ, refl, sym, ap, subst, arith, inl, inr, List, Option, Some, None, true, false}
+use Rattle.std.proofs.Common.{◌≡◌, ◌∙◌, ℕ, refl, sym, ap, subst, arith, inl, inr, List, Some, true, false}
 use Rattle.std.proofs.lemmas.List.{length-map}
 use Rattle.ih_journal.specs.Tried.{tried}
-use Rattle.std.specs.Prelude.{◌≢◌, ◌⊎◌, ◌≤ℤ◌, ◌<ℤ◌, slice_get}
+use Rattle.std.specs.Prelude.{◌≢◌, slice_get}
 use Rattle.std.proofs.lemmas.Bool.{cases_lt}
 use Rattle.std.proofs.lemmas.Int.{ints}
 use Rattle.ih_journal.specs.Base.{Base}
@@ -11,13 +11,14 @@ use Rattle.ih_rounds.specs.Rounds.{Round, journals}
 use Rattle.ih_words.specs.Rounds.{RoundsCall}
 use Rattle.ih_shelf.specs.Outside.{Names}
 use Rattle.ih_top.specs.declared.status.Status.{Status}
-use Rattle.ih_top.specs.declared.status.Status.TheVariants.{Done, Usage, ReadFault, InstanceRefused, StartRefused, NoneFound, WriteFault, OutOfMemory, JournalRefused, Infeasible, TooLong}
+use Rattle.ih_top.specs.declared.status.Status.TheVariants.{Done, NoneFound, OutOfMemory}
 use Rattle.ih_top.specs.Inputs.{solve_reading}
 use Rattle.ih_top.specs.Laws.{EndTheSame, HasNoFault, LoneRoundsEndAlike}
 use Rattle.ih_top.specs.Rounds.{AreDone, HaveFoundNone, RoundsEnds, round_text, solution_in}
 use Rattle.ih_top.specs.Texts.{none_found_text}
 use Rattle.ih_top.proofs.Alike.{rounds-alike}
-use Rattle.ih_top.proofs.EndingAlike.{IsEnd, IsUnread, same-files, unread, unread-alike}
+use Rattle.ih_top.proofs.EndingAlike.{IsEnd, end-of, same-files, unread-alike}
+use Rattle.ih_top.proofs.FaultlessEnds.{rounds-faultless}
 
 -- ---- one best of all
 
@@ -53,20 +54,12 @@ best-and-none b rs q k best none =
 
 -- ---- three kinds of ends
 
-module _ (r : RoundsCall) (old new : Names) where
-  rounds-end : (status : Status) (text : List ℕ) → HasNoFault status → status ≢ OutOfMemory → RoundsEnds r (Some old) (Some new) status text
-      → IsEnd (AreDone r (Some old) (Some new) text) (HaveFoundNone r (Some old) (Some new) × (text ≡ none_found_text)) (solve_reading r.search) old new status text
-  rounds-end Done text calm room h = inl (refl, h)
-  rounds-end Usage text calm room h = absurd h.1
-  rounds-end (ReadFault role) text calm room h = absurd calm
-  rounds-end (InstanceRefused e) text calm room h = inr (inr (unread (solve_reading r.search) old new (InstanceRefused e) text calm room h.0 h.1))
-  rounds-end (StartRefused e) text calm room h = inr (inr (unread (solve_reading r.search) old new (StartRefused e) text calm room h.0 h.1))
-  rounds-end NoneFound text calm room h = inr (inl (refl, h))
-  rounds-end (WriteFault role) text calm room h = absurd calm
-  rounds-end OutOfMemory text calm room h = absurd (room refl)
-  rounds-end (JournalRefused e) text calm room h = absurd h.1
-  rounds-end Infeasible text calm room h = absurd h.1
-  rounds-end (TooLong role) text calm room h = inr (inr (unread (solve_reading r.search) old new (TooLong role) text calm room h.0 h.1))
+rounds-end : (r : RoundsCall) (old new : Names) (status : Status) (text : List ℕ) → HasNoFault status → status ≢ OutOfMemory
+    → RoundsEnds r (Some old) (Some new) status text
+    → IsEnd (AreDone r (Some old) (Some new) text) (HaveFoundNone r (Some old) (Some new) × (text ≡ none_found_text))
+    (solve_reading r.search) old new status text
+rounds-end r old new status text calm room h =
+    end-of _ _ (solve_reading r.search) old new status text calm room (rounds-faultless r (Some old) (Some new) status text calm h)
 
 -- ---- two ends
 

@@ -1,18 +1,24 @@
 -- What the two writes of rounds leave.
-use Rattle.std.proofs.Common.{◌≡◌, ℕ, ◌∙◌, subst, inl, inr, List, Option, Some, None}
-use Rattle.std.specs.Prelude.{◌⊎◌}
+use Rattle.std.proofs.Common.{◌≡◌, ℕ, ◌∙◌, subst, sym, inl, inr, List, Option, Some, None}
+use Rattle.std.specs.Prelude.{◌⊎◌, Result, Ok, Err, IfOk}
+use Rattle.ih_journal.specs.Base.{Base}
 use Rattle.ih_shelf.specs.Outside.{Names, Told}
 use Rattle.ih_rounds.specs.Rounds.{journals}
 use Rattle.ih_words.specs.Rounds.{RoundsCall}
 use Rattle.ih_words.specs.Solve.{SolveCall}
+use Rattle.ih_top.specs.declared.answer.Answer.{Answer}
 use Rattle.ih_top.specs.declared.output.BestOutput.{BestOutput}
 use Rattle.ih_top.specs.declared.output.Output.{Output}
 use Rattle.ih_top.specs.declared.status.Role.TheVariants.{Instance, Solution, Journal, Out}
 use Rattle.ih_top.specs.declared.status.Status.{Status}
 use Rattle.ih_top.specs.declared.status.Status.TheVariants.{Done, Usage, ReadFault, InstanceRefused, StartRefused, NoneFound, WriteFault, OutOfMemory, JournalRefused, Infeasible, TooLong}
-use Rattle.ih_top.specs.Outputs.{OutputEnds, WritesOutput}
-use Rattle.ih_top.specs.Rounds.{AreDone, AreSearches, HasBestOfRounds, HaveBegun, HaveFound, HaveFoundNone, HaveBest, HaveSearched, IsBestOfRounds, IsRoundsOutputOf, RoundsEnds, solution_in}
-use Rattle.ih_top.specs.Solving.{BeginsJournal, BeginsSolution, Unchanged, WritesBoth, WritesJournal}
+use Rattle.ih_top.specs.Answers.{Answers}
+use Rattle.ih_top.specs.Outputs.{MadeEnds, OutputEnds, WritesOutput}
+use Rattle.ih_top.specs.Searches.{HasBase}
+use Rattle.ih_top.proofs.Saying.{answers-weaker}
+use Rattle.ih_top.specs.Rounds.{AreDone, AreSearches, HasBestOfRounds, HaveBegun, HaveFound, HaveFoundNone, HaveBest}
+use Rattle.ih_top.specs.Rounds.{HaveSearched, IsBestOfRounds, IsRoundsOutput, IsRoundsOutputOf, RoundsEnds, solution_in}
+use Rattle.ih_top.specs.Writes.{BeginsJournal, BeginsSolution, Unchanged, WritesBoth, WritesJournal}
 use Rattle.ih_top.proofs.Writing.{both-begun, journal-whole-begun, told-weaker}
 
 -- ---- weaker ends
@@ -116,3 +122,13 @@ module _ (r : RoundsCall) (o : Output) (old new : Option Names) (is : IsRoundsOu
   rounds-ends (JournalRefused e) text h = absurd h
   rounds-ends Infeasible text h = absurd h
   rounds-ends (TooLong role) text h = absurd h
+
+-- what rounds made, or that memory ran out as it was made, is the end of the call that asked for them
+pub made-rounds : {E : Type 0} (r : RoundsCall) (made : Result Output E) (old new : Option Names) (b : Base) → HasBase old r.search b
+    → IfOk made (IsRoundsOutput b r.rounds) → (a : Answer) → Answers (MadeEnds r.search made old new) a → Answers (RoundsEnds r old new) a
+made-rounds r (Ok o) old new b given output =
+    answers-weaker (OutputEnds r.search o old new) (RoundsEnds r old new)
+    (rounds-ends r o old new (record { base = b; given = given; output = output }))
+made-rounds {E} r (Err e) old new b given output =
+    answers-weaker (MadeEnds {E = E} r.search (Err e) old new) (RoundsEnds r old new)
+    (λ status text (memory, same, said). subst (λ t. RoundsEnds r old new t text) (sym memory) (inl same, said))

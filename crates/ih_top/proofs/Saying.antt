@@ -25,6 +25,21 @@ pub record IsAnswerable (ends : Status → List ℕ → Type 0) : Type 0 where
   pub unsaid : (status : Status) (text : List ℕ) → text ≢ [] → ends status text → ends (unsaid status) text
   pub memory : (status : Status) (text : List ℕ) → ends status text → ends OutOfMemory memory_text
 
+-- The text of what was done, and that of what breaks a hard rule, may not be put out; of each other end the status stays.
+pub unsaid-by : (ends : Status → List ℕ → Type 0) (text : List ℕ) → (ends Done text → ends (WriteFault None) text)
+    → (ends Infeasible text → ends (WriteFault None) text) → (status : Status) → ends status text → ends (unsaid status) text
+unsaid-by ends text done broken Done h = done h
+unsaid-by ends text done broken Usage h = h
+unsaid-by ends text done broken (ReadFault role) h = h
+unsaid-by ends text done broken (InstanceRefused e) h = h
+unsaid-by ends text done broken (StartRefused e) h = h
+unsaid-by ends text done broken NoneFound h = h
+unsaid-by ends text done broken (WriteFault role) h = h
+unsaid-by ends text done broken OutOfMemory h = h
+unsaid-by ends text done broken (JournalRefused e) h = h
+unsaid-by ends text done broken Infeasible h = broken h
+unsaid-by ends text done broken (TooLong role) h = h
+
 module _ (ends : Status → List ℕ → Type 0) (able : IsAnswerable ends) where
   -- the answer is the end that was reached, or memory ran out
   pub said-answer : (status : Status) (text : List ℕ) (a : Answer) → ends status text → IsSaid status text a → Answers ends a
@@ -35,21 +50,11 @@ module _ (ends : Status → List ℕ → Type 0) (able : IsAnswerable ends) wher
   unwritten-answer status text Fault a h said = said-answer status text a h said
   unwritten-answer status text NoMemory a h memory = inl (memory, able.memory status text h)
 
-  -- memory ran out before anything was done
-  pub memory-answer : (a : Answer) → ends OutOfMemory memory_text → a.status ≡ OutOfMemory → Answers ends a
-  memory-answer a h memory = inl (memory, h)
-
 -- an answer whose ends all are ends of another family
 pub answers-weaker : (small large : Status → List ℕ → Type 0) → ((status : Status) (text : List ℕ) → small status text → large status text)
     → (a : Answer) → Answers small a → Answers large a
 answers-weaker small large f a (inl (memory, h)) = inl (memory, f OutOfMemory memory_text h)
 answers-weaker small large f a (inr h) = inr (f a.status a.text.items h)
-
--- what is said of a status comes for the same cause
-pub said-cause : (reads reads' writes writes' : ℕ) (status : Status) (text : List ℕ) (a : Answer) → IsSaid status text a → HasFileCause reads reads' writes writes' status
-    → HasFileCause reads reads' writes writes' a.status
-said-cause reads reads' writes writes' status text a (inl memory) cause = subst (HasFileCause reads reads' writes writes') (sym memory) tt
-said-cause reads reads' writes writes' status text a (inr h) cause = subst (HasFileCause reads reads' writes writes') (sym h.0) cause
 
 -- ---- what is put out
 

@@ -1,7 +1,7 @@
 -- What solve writes, replay and salvage take.
-use Rattle.std.proofs.Common.{◌≡◌, ◌∙◌, ℕ, ◌≤◌, ◌+◌, ◌*◌, refl, sym, ap, ap₂, subst, arith, inl, inr, List, [], ◌++◌, length, Option, Some, None}
+use Rattle.std.proofs.Common.{◌≡◌, ◌∙◌, ℕ, ◌≤◌, refl, sym, ap, ap₂, subst, arith, inl, inr, List, [], ◌++◌, length, Option, Some, None}
 use Rattle.std.proofs.lemmas.List.{length-map}
-use Rattle.std.specs.Prelude.{◌⊎◌, Bool, unwrap_or}
+use Rattle.std.specs.Prelude.{Bool, unwrap_or}
 use Rattle.ih_tables.specs.Valid.{IsValid}
 use Rattle.ih_journal.specs.declared.entries.Entry.{Entry}
 use Rattle.ih_journal.specs.declared.refusals.JournalRefusal.{JournalRefusal}
@@ -21,26 +21,26 @@ use Rattle.ih_replay.specs.Laws.{LegalJournalsAreTaken, LegalJournalsDiffer, Tak
 use Rattle.ih_words.specs.Replay.{ReplayCall}
 use Rattle.ih_words.specs.Solve.{SolveCall}
 use Rattle.ih_shelf.specs.Outside.{Names, bytes_at}
-use Rattle.ih_top.specs.declared.files.TheConstants.{MAX_FILE, MAX_JOURNAL}
-use Rattle.ih_top.specs.declared.status.Role.{Role}
+use Rattle.ih_top.specs.declared.limits.TheConstants.{MAX_FILE, MAX_JOURNAL}
 use Rattle.ih_top.specs.declared.status.Status.{Status}
-use Rattle.ih_top.specs.declared.status.Status.TheVariants.{Done, Usage, ReadFault, InstanceRefused, StartRefused, NoneFound, WriteFault, OutOfMemory, JournalRefused, Infeasible, TooLong}
+use Rattle.ih_top.specs.declared.status.Status.TheVariants.{Done, NoneFound}
 use Rattle.ih_top.specs.Inputs.{HasInstance, HasPlan}
-use Rattle.ih_top.specs.Journals.{Begins}
+use Rattle.ih_top.specs.JournalLines.{Begins}
 use Rattle.ih_top.specs.Laws.{EndsIn, HasNoFault, HaveSameBytes, IsReplayOf, JournalsFit, SolvesAreTakenBack, SolvesWithNoneAreTakenBack}
-use Rattle.ih_top.specs.Replaying.{HasRead, IsHeadedBy, IsHeadless, IsRefused, IsRefusedJournal, IsReplay, IsSalvage, JournalEnds, JournalRead}
-use Rattle.ih_top.specs.Solving.{HasBase, IsSearch, of_moves, solution_at}
+use Rattle.ih_top.specs.JournalEnds.{IsRefused, JournalEnds}
+use Rattle.ih_top.specs.JournalFiles.{HasRead, JournalRead}
+use Rattle.ih_top.specs.JournalHeading.{IsHeadedBy, IsHeadless}
+use Rattle.ih_top.specs.Replay.{IsRefusedJournal, IsReplay}
+use Rattle.ih_top.specs.Salvage.{IsSalvage}
+use Rattle.ih_top.specs.Searches.{HasBase, IsSearch, solution_at}
+use Rattle.ih_top.specs.Solve.{of_moves}
 use Rattle.ih_top.specs.Starts.{started}
 use Rattle.ih_top.specs.Texts.{done_text, none_found_text, salvaged_line, salvaged_text}
-use Rattle.ih_top.proofs.Completeness.{journal-accepted, not-headless, not-refused, same-search}
+use Rattle.ih_top.proofs.Accepted.{journal-accepted, not-headless, not-refused, same-search}
+use Rattle.ih_top.proofs.FaultlessEnds.{journal-faultless}
 use Rattle.ih_top.proofs.JournalLaws.{all-salvaged}
 
 -- ---- ends without a fault
-
--- what only a fault or lack of memory brings is lack of memory
-pub memory-alone : (status : Status) → HasNoFault status → ((role : Role) × (status ≡ ReadFault role)) ⊎ (status ≡ OutOfMemory) → status ≡ OutOfMemory
-memory-alone status calm (inl (role, e)) = absurd (subst HasNoFault e calm)
-memory-alone status calm (inr e) = e
 
 ends-as : (wanted : Status) (t u : List ℕ) (X Y : Type 0) (status : Status) (said : List ℕ) → t ≡ u → (X → Y) → EndsIn wanted t X status said → EndsIn wanted u Y status said
 ends-as wanted t u X Y status said e f (inl memory) = inl memory
@@ -136,44 +136,37 @@ module _ (taken_law : LegalJournalsAreTaken) (differ : LegalJournalsDiffer) (tex
     both : (c : Base) (G : List Entry) → (c ≡ b) × (G ≡ H) → ◌≡◌ {A = Base × List Entry} (c, G) (b, H)
     both c G same = rw (same.0, same.1) refl
 
-    best-ends : (k : ℕ) → IsBest b (tries H) k → (status : Status) (text : List ℕ) → HasNoFault status → JournalEnds taken refused said r (Some there) (Some left) status text
+    best-ends : (k : ℕ) → IsBest b (tries H) k → (status : Status) (text : List ℕ) → HasNoFault status
+        → JournalEnds taken refused said r (Some there) (Some left) status text
         → EndsIn Done (said b (tries H) k) (left r.out ≡ Some (solution_at b (tries H) k)) status text
-    best-ends k best Done text calm (d, told) =
-        let same = both d.base d.history (one d.read d.base d.history d.given d.taken_is) in
-        let place = best-one b (tries H) d.place k (subst (λ (t : Base × List Entry). IsBest t.0 (tries t.1) d.place) same d.best) best in
-        inr (
-          refl,
-          told ∙ ap₂ (λ (t : Base × List Entry) (j : ℕ). said t.0 (tries t.1) j) same place,
-          d.written.whole ∙ ap₂ (λ (t : Base × List Entry) (j : ℕ). Some (solution_at t.0 (tries t.1) j)) same place,
-        )
-    best-ends k best Usage text calm h = absurd h.1
-    best-ends k best (ReadFault role) text calm h = absurd calm
-    best-ends k best (InstanceRefused e) text calm h = inl (memory-alone (InstanceRefused e) calm (journal-accepted there r found has (InstanceRefused e) text h.1))
-    best-ends k best (StartRefused e) text calm h = inl (memory-alone (StartRefused e) calm (journal-accepted there r found has (StartRefused e) text h.1))
-    best-ends k best NoneFound text calm (kept, d, told) =
-        let same = both d.base d.history (one d.read d.base d.history d.given d.taken_is) in
-        absurd (best-or-none b (tries H) k best (subst (λ (t : Base × List Entry). HasNone t.0 (tries t.1)) same d.none))
-    best-ends k best (WriteFault role) text calm h = absurd calm
-    best-ends k best OutOfMemory text calm h = inl refl
-    best-ends k best (JournalRefused e) text calm (kept, is, told) = absurd (never e is)
-    best-ends k best Infeasible text calm h = absurd h.1
-    best-ends k best (TooLong role) text calm h = inl (memory-alone (TooLong role) calm (journal-accepted there r found has (TooLong role) text h.1))
+    best-ends k best status text calm h = elim (journal-faultless taken refused said r (Some there) (Some left) status text calm h) [
+      | inl memory ↦ inl memory
+      | inr (inl (is, (d, told))) ↦
+          let same = both d.base d.history (one d.read d.base d.history d.given d.taken_is) in
+          let place = best-one b (tries H) d.place k (subst (λ (t : Base × List Entry). IsBest t.0 (tries t.1) d.place) same d.best) best in
+          inr (
+            is,
+            told ∙ ap₂ (λ (t : Base × List Entry) (j : ℕ). said t.0 (tries t.1) j) same place,
+            d.written.whole ∙ ap₂ (λ (t : Base × List Entry) (j : ℕ). Some (solution_at t.0 (tries t.1) j)) same place,
+          )
+      | inr (inr (inl (is, (d, told)))) ↦
+          let same = both d.base d.history (one d.read d.base d.history d.given d.taken_is) in
+          absurd (best-or-none b (tries H) k best (subst (λ (t : Base × List Entry). HasNone t.0 (tries t.1)) same d.none))
+      | inr (inr (inr (inl refused))) ↦ absurd (never refused.refusal refused.why)
+      | inr (inr (inr (inr unread))) ↦ inl (journal-accepted there r found has status text calm unread)
+    ]
 
-    none-ends : HasNone b (tries H) → (status : Status) (text : List ℕ) → HasNoFault status → JournalEnds taken refused said r (Some there) (Some left) status text
-        → EndsIn NoneFound none_found_text (Unit {0}) status text
-    none-ends none Done text calm (d, told) =
-        let same = both d.base d.history (one d.read d.base d.history d.given d.taken_is) in
-        absurd (best-or-none b (tries H) d.place (subst (λ (t : Base × List Entry). IsBest t.0 (tries t.1) d.place) same d.best) none)
-    none-ends none Usage text calm h = absurd h.1
-    none-ends none (ReadFault role) text calm h = absurd calm
-    none-ends none (InstanceRefused e) text calm h = inl (memory-alone (InstanceRefused e) calm (journal-accepted there r found has (InstanceRefused e) text h.1))
-    none-ends none (StartRefused e) text calm h = inl (memory-alone (StartRefused e) calm (journal-accepted there r found has (StartRefused e) text h.1))
-    none-ends none NoneFound text calm (kept, d, told) = inr (refl, told, tt)
-    none-ends none (WriteFault role) text calm h = absurd calm
-    none-ends none OutOfMemory text calm h = inl refl
-    none-ends none (JournalRefused e) text calm (kept, is, told) = absurd (never e is)
-    none-ends none Infeasible text calm h = absurd h.1
-    none-ends none (TooLong role) text calm h = inl (memory-alone (TooLong role) calm (journal-accepted there r found has (TooLong role) text h.1))
+    none-ends : HasNone b (tries H) → (status : Status) (text : List ℕ) → HasNoFault status
+        → JournalEnds taken refused said r (Some there) (Some left) status text → EndsIn NoneFound none_found_text (Unit {0}) status text
+    none-ends none status text calm h = elim (journal-faultless taken refused said r (Some there) (Some left) status text calm h) [
+      | inl memory ↦ inl memory
+      | inr (inl (is, (d, told))) ↦
+          let same = both d.base d.history (one d.read d.base d.history d.given d.taken_is) in
+          absurd (best-or-none b (tries H) d.place (subst (λ (t : Base × List Entry). IsBest t.0 (tries t.1) d.place) same d.best) none)
+      | inr (inr (inl (is, (d, told)))) ↦ inr (is, told, tt)
+      | inr (inr (inr (inl refused))) ↦ absurd (never refused.refusal refused.why)
+      | inr (inr (inr (inr unread))) ↦ inl (journal-accepted there r found has status text calm unread)
+    ]
 
   replay-never : (e : JournalRefusal) → IsRefused (IsRefusedJournal r.start) r (Some there) e → ⊥
   replay-never e h = not-refused there r found has b H headed search.full e h

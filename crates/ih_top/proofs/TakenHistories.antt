@@ -1,32 +1,22 @@
 -- A replay's history, said of the search that it is given.
-use Rattle.std.proofs.Common.{◌≡◌, ◌∙◌, ℕ, ◌<◌, ◌≤◌, ◌^◌, ◌*◌, ◌+◌, subst, sym, ap, ap₂, arith, List, ◌++◌, length, Option}
-use Rattle.std.proofs.lemmas.List.{length-map}
+use Rattle.std.proofs.Common.{◌≡◌, ◌∙◌, ℕ, subst, ap₂, List, ◌++◌, length, Option}
 use Rattle.ih_tables.specs.Valid.{IsValid}
 use Rattle.ih_journal.specs.declared.entries.Entry.{Entry}
 use Rattle.ih_journal.specs.declared.refusals.JournalRefusal.{JournalRefusal}
 use Rattle.ih_journal.specs.Base.{Base}
-use Rattle.ih_journal.specs.Tried.{Tried, tried, tries}
+use Rattle.ih_journal.specs.Tried.{Tried, tries}
 use Rattle.ih_journal.specs.Frozen.{AgreesBefore}
 use Rattle.ih_journal.specs.History.{plan_at}
 use Rattle.ih_journal.specs.Legal.{IsFull}
 use Rattle.ih_journal.specs.Texts.{lines_from}
 use Rattle.ih_cellbook.specs.Keeping.{IsBase}
-use Rattle.ih_cellbook.specs.Laws.{AreFew}
 use Rattle.ih_cellbook.specs.Legal.{AreExact}
 use Rattle.ih_top.specs.declared.output.BestOutput.{BestOutput}
-use Rattle.ih_top.specs.Journals.{Begins, IsRefusedAt}
+use Rattle.ih_top.specs.JournalLines.{Begins, IsRefusedAt}
 use Rattle.ih_top.specs.Laws.{RefusedLinesAreNotFull}
 use Rattle.ih_top.specs.Outcomes.{AreFullLines, AreLines, AreRefusedLines}
 use Rattle.ih_top.specs.Outputs.{HasBestOutput, HasBestSaid, IsBestSaid}
 use Rattle.ih_top.specs.Texts.{done_text, salvaged_line, salvaged_text}
-
--- a journal has few entries
-pub few-small : (b : Base) (H : List Entry) → IsBase b → AreFew b (tries H) → length H < 2 ^ 31
-few-small b H base few =
-    let most = few.most in
-    let all = base.lawful.entries in
-    let len = length-map H tried in
-    omega (arith, most, all, len)
 
 -- a best that is said to be that of so many lines
 pub salvaged-best : (b : Base) (H : List Tried) (n : ℕ) (o s : BestOutput) → n ≡ length H → IsBestSaid done_text b H o → s.solution.items ≡ o.solution.items

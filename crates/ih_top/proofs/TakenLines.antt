@@ -1,5 +1,5 @@
 -- Lines of a journal, taken one by one.
-use Rattle.std.proofs.Common.{◌≡◌, ◌∙◌, ℕ, ◌+◌, refl, sym, ap, ap₂, subst, inl, inr, arith, List, [], ◌∷◌, ◌++◌, append_assoc, length}
+use Rattle.std.proofs.Common.{◌≡◌, ◌∙◌, ℕ, ◌+◌, sym, ap, subst, inl, arith, List, [], ◌∷◌, ◌++◌, append_assoc, length}
 use Rattle.std.specs.Prelude.{Result, Ok, Err, IfErr}
 use Rattle.std.proofs.lemmas.List.{append-nil}
 use Rattle.ih_journal.specs.declared.entries.Entry.{Entry}
@@ -11,7 +11,7 @@ use Rattle.ih_journal.specs.Legal.{AreLegal}
 use Rattle.ih_journal.specs.Texts.{ended, line_text, lines_from}
 use Rattle.ih_journal.proofs.Growth.{legal-none}
 use Rattle.ih_replay.specs.Refusals.{IsNextLine, IsRefusedFor}
-use Rattle.ih_top.specs.Journals.{Begins, HasLine, HasNoFeed, IsRefusedAt, IsRestRefused}
+use Rattle.ih_top.specs.JournalLines.{Begins, HasLine, HasNoFeed, IsRefusedAt, IsRestRefused}
 use Rattle.ih_top.proofs.FirstLines.{no-line-in, one-line}
 
 -- the lines of one entry more
@@ -69,7 +69,3 @@ joins-none o H bytes none = ap (λ es. lines_from o 0 es ++ bytes) (sym none)
 
 pub legal-nothing : (b : Base) (H : List Entry) → H ≡ [] → AreLegal b 1 (tries H)
 legal-nothing b H none = subst (λ es. AreLegal b 1 (tries es)) (sym none) (legal-none b 1)
-
--- all lines were taken
-pub joins-whole : (o : Options) (H : List Entry) (bytes rest : List ℕ) → bytes ≡ lines_from o 0 H ++ rest → rest ≡ [] → bytes ≡ lines_from o 0 H
-joins-whole o H bytes rest joins none = joins ∙ (ap (λ r. lines_from o 0 H ++ r) none ∙ append-nil (lines_from o 0 H))

@@ -1,20 +1,23 @@
 -- What the two writes of a search leave.
 use Rattle.std.proofs.Common.{◌≡◌, ℕ, sym, ap, ◌∙◌, subst, arith, refl, inl, inr, List, length, Option, Some, None}
-use Rattle.std.specs.Prelude.{◌≢◌, ◌⊎◌}
+use Rattle.std.specs.Prelude.{◌≢◌, ◌⊎◌, Result, Ok, Err, IfOk}
 use Rattle.std.proofs.lemmas.List.{take_all}
 use Rattle.ih_shelf.specs.Outside.{Names, Told, PartOr, IsWritten, MayBeWritten}
 use Rattle.ih_journal.specs.Best.{HasNone}
 use Rattle.ih_words.specs.Solve.{SolveCall}
+use Rattle.ih_journal.specs.Base.{Base}
+use Rattle.ih_top.specs.declared.answer.Answer.{Answer}
 use Rattle.ih_top.specs.declared.output.Output.{Output}
 use Rattle.ih_top.specs.declared.output.BestOutput.{BestOutput}
 use Rattle.ih_top.specs.declared.status.Role.TheVariants.{Instance, Solution, Journal, Out}
 use Rattle.ih_top.specs.declared.status.Status.{Status}
 use Rattle.ih_top.specs.declared.status.Status.TheVariants.{Done, Usage, ReadFault, InstanceRefused, StartRefused, NoneFound, WriteFault, OutOfMemory, JournalRefused, Infeasible, TooLong}
-use Rattle.ih_top.specs.Answers.{unsaid}
-use Rattle.ih_top.specs.Outputs.{IsOutputOf, IsBestOutput, HasBestOutput, OutputEnds, WritesOutput}
-use Rattle.ih_top.specs.Solving.{Unchanged, IsSearch, BeginsJournal, WritesJournal, BeginsSolution, WritesBoth, HasBegun, HasFoundNone, HasFound, IsDone, IsSomewhere, Kind, SearchEnds, solution_at, told_by}
+use Rattle.ih_top.specs.Answers.{Answers}
+use Rattle.ih_top.specs.Outputs.{IsOutput, IsOutputOf, IsBestOutput, HasBestOutput, MadeEnds, OutputEnds, WritesOutput}
+use Rattle.ih_top.specs.Searches.{HasBase, IsSearch, HasBegun, HasFoundNone, HasFound, IsDone, IsSomewhere, Kind, SearchEnds, solution_at, told_by}
+use Rattle.ih_top.specs.Writes.{BeginsJournal, WritesJournal, BeginsSolution, WritesBoth}
 use Rattle.ih_top.specs.Texts.{memory_text}
-use Rattle.ih_top.proofs.Saying.{IsAnswerable}
+use Rattle.ih_top.proofs.Saying.{IsAnswerable, answers-weaker, unsaid-by}
 
 -- ---- what is told of two states
 
@@ -39,11 +42,6 @@ whole-text text old new h = inr (length text, h ∙ ap (λ t. Some t) (sym (take
 pub begun : (name bytes : List ℕ) (old new : Option Names) → Told (IsWritten name bytes) old new → Told (MayBeWritten name bytes) old new
 begun name bytes old new h = told-weaker (IsWritten name bytes) (MayBeWritten name bytes) old new
     (λ x y w. record { part = whole-text bytes (x name) (y name) w.whole; others = w.others }) h
-
--- what isn't touched is begun nowhere
-pub untouched : (name bytes : List ℕ) (old new : Option Names) → Told Unchanged old new → Told (MayBeWritten name bytes) old new
-untouched name bytes old new h = told-weaker Unchanged (MayBeWritten name bytes) old new
-    (λ x y same. record { part = inl (same name); others = λ n apart. same n }) h
 
 pub both-begun : (s : SolveCall) (text solution : List ℕ) (x y : Names) → WritesBoth s text solution x y → BeginsSolution s text solution x y
 both-begun s text solution x y w = record { journal = w.journal; out = whole-text solution (x s.out) (y s.out) w.out; others = w.others }
@@ -104,19 +102,6 @@ module _ (s : SolveCall) (journal : List ℕ) (differ : s.out ≢ s.journal) whe
 -- ---- how a call ends that writes what was made
 
 module _ (s : SolveCall) (o : Output) (old new : Option Names) where
-  output-unsaid : (status : Status) (text : List ℕ) → OutputEnds s o old new status text → OutputEnds s o old new (unsaid status) text
-  output-unsaid Done text h = h
-  output-unsaid Usage text h = h
-  output-unsaid (ReadFault role) text h = h
-  output-unsaid (InstanceRefused e) text h = h
-  output-unsaid (StartRefused e) text h = h
-  output-unsaid NoneFound text h = h
-  output-unsaid (WriteFault role) text h = h
-  output-unsaid OutOfMemory text h = h
-  output-unsaid (JournalRefused e) text h = h
-  output-unsaid Infeasible text h = absurd h
-  output-unsaid (TooLong role) text h = h
-
   both-out : WritesOutput WritesBoth s o old new → WritesOutput BeginsSolution s o old new
   both-out w = record {
     best = w.best;
@@ -146,7 +131,10 @@ module _ (s : SolveCall) (o : Output) (old new : Option Names) where
   output-memory (TooLong role) text h = absurd h
 
   pub output-answerable : IsAnswerable (OutputEnds s o old new)
-  output-answerable = record { unsaid = λ status text some h. output-unsaid status text h; memory = output-memory }
+  output-answerable = record {
+    unsaid = λ status text some h. unsaid-by (OutputEnds s o old new) text (λ done. done) (λ none. absurd none) status h;
+    memory = output-memory;
+  }
 
 -- ---- where a search made it
 
@@ -177,7 +165,9 @@ module _ {X : Type 0} (kind : Kind X) (s : SolveCall) (o : Output) (old new : Op
     base = is.base;
     history = is.output.history;
     search = searched;
-    none = let no-best : HasNone is.base (told_by kind is.output.history) = subst (HasBestOutput is.base (told_by kind is.output.history)) none is.output.best in no-best;
+    none = let no-best : HasNone is.base (told_by kind is.output.history) =
+        subst (HasBestOutput is.base (told_by kind is.output.history)) none is.output.best in
+        no-best;
     written = subst (λ j. Told (WritesJournal s j) old new) is.output.journal written;
   }
 
@@ -231,3 +221,13 @@ module _ {X : Type 0} (kind : Kind X) (s : SolveCall) (o : Output) (old new : Op
   search-ends (JournalRefused e) text h = absurd h
   search-ends Infeasible text h = absurd h
   search-ends (TooLong role) text h = absurd h
+
+-- what a search made, or that memory ran out as it was made, is the end of the call that asked for it
+pub made-answer : {X E : Type 0} (kind : Kind X) (s : SolveCall) (made : Result Output E) (old new : Option Names) (b : Base) → HasBase old s b
+    → IfOk made (IsOutput kind b) → (a : Answer) → Answers (MadeEnds s made old new) a → Answers (SearchEnds kind s old new) a
+made-answer kind s (Ok o) old new b given output =
+    answers-weaker (OutputEnds s o old new) (SearchEnds kind s old new)
+    (search-ends kind s o old new (record { base = b; given = given; output = output }))
+made-answer {X} {E} kind s (Err e) old new b given output =
+    answers-weaker (MadeEnds {E = E} s (Err e) old new) (SearchEnds kind s old new)
+    (λ status text (memory, same, said). subst (λ t. SearchEnds kind s old new t text) (sym memory) (inl same, said))

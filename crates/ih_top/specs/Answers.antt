@@ -1,6 +1,8 @@
 -- A command's answer, and what its status becomes as its text is put out.
 use Rattle.std.specs.Prelude.{◌≡◌, ◌≢◌, ℕ, ◌⊎◌, Bool, true, false, List, [], Some, None, Result, Ok, Err}
 use Rattle.ih_shelf.specs.Outside.{Rose}
+use Rattle.ih_shelf.specs.declared.outside.Shelf.{Ghosts as ShelfGhosts}
+use Rattle.ih_shelf.specs.declared.outside.Sink.{Ghosts as SinkGhosts}
 use Rattle.ih_shelf.specs.declared.outside.WriteError.{WriteError}
 use Rattle.ih_shelf.specs.declared.outside.WriteError.TheVariants.{Fault, OutOfMemory as NoMemory}
 use Rattle.ih_shelf.specs.declared.outside.ReadError.{ReadError}
@@ -26,18 +28,25 @@ checked_status false = Infeasible
 abbrev pub Answers : (Status → List ℕ → Type 0) → Answer → Type 0
 Answers ends a = ((a.status ≡ OutOfMemory) × ends OutOfMemory memory_text) ⊎ ends a.status a.text.items
 
--- The sink gained the text, or a part where it wanted memory; where memory had run out before, it is the text that says so. An empty
--- text isn't put out.
+-- The sink gained the text, or a part where it wanted memory; where memory had run out before, it is the text that says
+-- so. An empty text isn't put out.
 abbrev pub IsConcluded : Status → List ℕ → (List ℕ → Type 0) → (List ℕ → Type 0) → Status → Type 0
 IsConcluded status text gained part result =
     ((status ≡ OutOfMemory) × (result ≡ OutOfMemory) × (gained memory_text ⊎ part memory_text))
     ⊎ ((status ≢ OutOfMemory) × (result ≡ status) × gained text)
-    ⊎ ((status ≢ OutOfMemory) × (text ≢ []) × (((result ≡ unsaid status) × gained text) ⊎ ((result ≡ OutOfMemory) × part text)))
+    ⊎ ((status ≢ OutOfMemory) × (text ≢ [])
+    × (((result ≡ unsaid status) × gained text) ⊎ ((result ≡ OutOfMemory) × part text)))
 
--- the status is that of an unsaid text only where the sink's count of faults rose, and `OutOfMemory` only where that of its wants did
+-- the status is that of an unsaid text only where the sink's count of faults rose, and `OutOfMemory` only where that of
+-- its wants did
 abbrev pub HasPutCause : Status → ℕ → ℕ → ℕ → ℕ → Status → Type 0
 HasPutCause status faults faults' wants wants' result =
     (result ≡ status) ⊎ ((result ≡ OutOfMemory) × Rose wants wants') ⊎ ((result ≡ unsaid status) × Rose faults faults')
+
+-- the same of a put into a sink, by the counts of that
+abbrev pub HasSinkCause : {X : Type 0} → SinkGhosts X → X → X → Status → Status → Type 0
+HasSinkCause sink old new status result =
+    HasPutCause status (sink.faults old) (sink.faults new) (sink.wants old) (sink.wants new) result
 
 -- a fault of a file is answered only where its count rose; the text isn't put out yet
 abbrev pub HasFileCause : ℕ → ℕ → ℕ → ℕ → Status → Type 0
@@ -45,6 +54,12 @@ HasFileCause reads reads' writes writes' (ReadFault role) = Rose reads reads'
 HasFileCause reads reads' writes writes' (WriteFault (Some role)) = Rose writes writes'
 HasFileCause reads reads' writes writes' (WriteFault None) = ⊥
 HasFileCause reads reads' writes writes' status = Unit {0}
+
+-- the same in a call over a shelf, by the counts of that
+abbrev pub HasShelfCause : {X : Type 0} → ShelfGhosts X → X → X → Status → Type 0
+HasShelfCause shelf old new status =
+    HasFileCause (shelf.read_faults old) (shelf.read_faults new) (shelf.write_faults old) (shelf.write_faults new)
+    status
 
 -- the answer has this status and this text, or memory ran out
 abbrev pub IsSaid : Status → List ℕ → Answer → Type 0

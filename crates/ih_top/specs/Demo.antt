@@ -20,15 +20,16 @@ use Rattle.ih_top.specs.Texts.{demo_text, memory_text, none_found_text, verdicts
 abbrev pub demo_options : ℕ → Options
 demo_options number = record { seed = number; workers = 1; moves = 2000; heat = 50; hard = 100000; retries = 0 }
 
--- the search begins with the fill of the empty timetable of the instance that the number generates, and nothing is frozen
+-- the search begins with the fill of the empty timetable of the instance that the number generates, and nothing is
+-- frozen
 pub record IsDemoBase (number : ℕ) (b : Base) : Type 0 where
   pub instance : instance (generated number) ≡ Ok b.instance
   pub start : b.start ≡ fill b.instance 100000 (empty b.instance)
   pub options : b.options ≡ demo_options number
   pub freeze : b.freeze ≡ 0
 
--- A full history over that, whose accepted prices are exact. It has 2000 entries, and none of them is stale, so its text says
--- `of 2000` and `stale 0`.
+-- A full history over that, whose accepted prices are exact. It has 2000 entries, and none of them is stale, so its
+-- text says `of 2000` and `stale 0`.
 pub record IsDemo (number : ℕ) (b : Base) (H : List Entry) : Type 0 where
   pub base : IsDemoBase number b
   pub full : IsFull b 1 (tries H)

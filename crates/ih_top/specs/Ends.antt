@@ -11,21 +11,26 @@ use Rattle.ih_words.specs.Words.{Call, solve, replay, salvage, check, chain, rou
 use Rattle.ih_shelf.specs.Outside.{IsAppended, MayBeAppended, Names, Rose, Told}
 use Rattle.ih_top.specs.declared.status.Status.{Status}
 use Rattle.ih_top.specs.declared.status.Status.TheVariants.{Done, Usage, ReadFault, NoneFound, WriteFault, OutOfMemory, Infeasible}
-use Rattle.ih_top.specs.Advising.{AdviseEnds, advise_reading}
+use Rattle.ih_top.specs.Advise.{AdviseEnds, advise_reading}
 use Rattle.ih_top.specs.Answers.{unsaid}
 use Rattle.ih_top.specs.Inputs.{solve_reading, check_reading, HasInputs}
-use Rattle.ih_top.specs.Solving.{Unchanged, SolveEnds}
-use Rattle.ih_top.specs.Replaying.{HasRead, IsHeadedBy, JournalRead, ReplayEnds, SalvageEnds}
-use Rattle.ih_top.specs.Chaining.{ChainEnds}
-use Rattle.ih_top.specs.Checking.{CheckEnds}
+use Rattle.ih_top.specs.Solve.{SolveEnds}
+use Rattle.ih_top.specs.Writes.{Unchanged}
+use Rattle.ih_top.specs.JournalFiles.{HasRead, JournalRead}
+use Rattle.ih_top.specs.JournalHeading.{IsHeadedBy}
+use Rattle.ih_top.specs.Replay.{ReplayEnds}
+use Rattle.ih_top.specs.Salvage.{SalvageEnds}
+use Rattle.ih_top.specs.Chain.{ChainEnds}
+use Rattle.ih_top.specs.Check.{CheckEnds}
 use Rattle.ih_top.specs.Rounds.{RoundsEnds}
-use Rattle.ih_top.specs.Generating.{GenEnds}
+use Rattle.ih_top.specs.Generate.{GenEnds}
 use Rattle.ih_top.specs.Demo.{DemoEnds}
 use Rattle.ih_top.specs.Texts.{usage_text, memory_text}
 
 -- ---- the sink
 
--- The sink gained the text whole; or a prefix of it, where its count of faults rose and the status isn't one that asks for the whole.
+-- The sink gained the text whole; or a prefix of it, where its count of faults rose and the status isn't one that asks
+-- for the whole.
 abbrev pub Gained : Status → Option (List ℕ) → Option (List ℕ) → ℕ → ℕ → List ℕ → Type 0
 Gained status old new before now text =
     Told (IsAppended text) old new ⊎ ((unsaid status ≡ status) × Rose before now × Told (MayBeAppended text) old new)
@@ -36,7 +41,8 @@ GainedPart old new before now text = Rose before now × Told (MayBeAppended text
 
 -- ---- a call with lawful words
 
--- What a call has read and written, and the text that it had to say, by its status. A check, an advise and a demo write nothing.
+-- What a call has read and written, and the text that it had to say, by its status. A check, an advise and a demo write
+-- nothing.
 abbrev pub CallEnds : Call → Option Names → Option Names → Status → List ℕ → Type 0
 CallEnds (solve s) old new status text = SolveEnds s old new status text
 CallEnds (replay r) old new status text = ReplayEnds r old new status text
@@ -55,11 +61,12 @@ OutDiffers (chain c) = c.search.out ≢ c.search.journal
 OutDiffers (rounds r) = r.search.out ≢ r.search.journal
 OutDiffers call = Unit {0}
 
--- At each status the sink gained the text that the call had to say there. At `OutOfMemory` it may be instead that the sink wanted memory
--- itself, and gained a part of the text of a status that the call had reached.
+-- At each status the sink gained the text that the call had to say there. At `OutOfMemory` it may be instead that the
+-- sink wanted memory itself, and gained a part of the text of a status that the call had reached.
 abbrev pub Ends : (Status → List ℕ → Type 0) → (List ℕ → Type 0) → (List ℕ → Type 0) → Status → Type 0
 Ends ends gained part OutOfMemory =
-    ((text : List ℕ) × ends OutOfMemory text × gained text) ⊎ ((status : Status) × (text : List ℕ) × ends status text × part text)
+    ((text : List ℕ) × ends OutOfMemory text × gained text)
+    ⊎ ((status : Status) × (text : List ℕ) × ends status text × part text)
 Ends ends gained part status = (text : List ℕ) × ends status text × gained text
 
 -- ---- any call
@@ -94,13 +101,14 @@ IsAnswered (advise a) status = (status ≡ Done) ⊎ (status ≡ OutOfMemory)
 IsAnswered (gen g) status = (status ≡ Done) ⊎ (status ≡ OutOfMemory)
 IsAnswered (demo number) status = (status ≡ Done) ⊎ (status ≡ NoneFound) ⊎ (status ≡ OutOfMemory)
 
--- The files that a call reads are as they ought to be: the journal of replay is that of a full history, and that of salvage has
--- its heading. A gen and a demo read none.
+-- The files that a call reads are as they ought to be: the journal of replay is that of a full history, and that of
+-- salvage has its heading. A gen and a demo read none.
 abbrev pub HasFiles : Call → Names → Type 0
 HasFiles (solve s) files = (I : Draft) × (P : Timetable) × HasInputs (Some files) (solve_reading s) I P
 HasFiles (replay r) files = (x : JournalRead) × (b : Base) × (H : List Entry) × HasRead (Some files) r x
     × IsHeadedBy r.start x b (lines_from b.options 0 H) × IsFull b 1 (tries H)
-HasFiles (salvage r) files = (x : JournalRead) × (b : Base) × (bytes : List ℕ) × HasRead (Some files) r x × IsHeadedBy r.start x b bytes
+HasFiles (salvage r) files =
+    (x : JournalRead) × (b : Base) × (bytes : List ℕ) × HasRead (Some files) r x × IsHeadedBy r.start x b bytes
 HasFiles (check c) files = (I : Draft) × (P : Timetable) × HasInputs (Some files) (check_reading c) I P
 HasFiles (chain c) files = (I : Draft) × (P : Timetable) × HasInputs (Some files) (solve_reading c.search) I P
 HasFiles (rounds r) files = (I : Draft) × (P : Timetable) × HasInputs (Some files) (solve_reading r.search) I P

@@ -14,7 +14,7 @@ use Rattle.ih_top.specs.declared.inputs.InputNames.{InputNames}
 use Rattle.ih_top.specs.declared.status.Status.{Status}
 use Rattle.ih_top.specs.declared.status.Status.TheVariants.{ReadFault, InstanceRefused, StartRefused, OutOfMemory, TooLong}
 use Rattle.ih_top.specs.declared.status.Role.TheVariants.{Instance, Solution}
-use Rattle.ih_top.specs.declared.files.TheConstants.{MAX_FILE}
+use Rattle.ih_top.specs.declared.limits.TheConstants.{MAX_FILE}
 use Rattle.ih_top.specs.Texts.{unread_text, too_long_text, instance_refused_text, solution_refused_text, memory_text}
 
 -- the names of these files
@@ -85,13 +85,15 @@ pub record IsSolutionRefused (name : List ℕ) (I : Draft) (e : Refusal) (files 
   pub short : length (bytes_at files name) ≤ MAX_FILE
   pub first : plan_in I (bytes_at files name) ≡ Err e
 
--- How a call ends that comes no further than its files: the status, why it comes, and what is said. The instance comes first, then
--- the timetable; of each file first its length, then its form.
+-- How a call ends that comes no further than its files: the status, why it comes, and what is said. The instance comes
+-- first, then the timetable; of each file first its length, then its form.
 abbrev pub EndsUnread : Option Names → Reading → Status → List ℕ → Type 0
 EndsUnread files r (ReadFault Instance) text = text ≡ unread_text r.instance
 EndsUnread files r (TooLong Instance) text = IfSome files (IsLong r.instance) × (text ≡ too_long_text r.instance)
-EndsUnread files r (InstanceRefused e) text = IfSome files (IsInstanceRefused r.instance e) × (text ≡ instance_refused_text e)
-EndsUnread files r (ReadFault Solution) text = (I : Draft) × (name : List ℕ) × IsNext files r I name × (text ≡ unread_text name)
+EndsUnread files r (InstanceRefused e) text =
+    IfSome files (IsInstanceRefused r.instance e) × (text ≡ instance_refused_text e)
+EndsUnread files r (ReadFault Solution) text =
+    (I : Draft) × (name : List ℕ) × IsNext files r I name × (text ≡ unread_text name)
 EndsUnread files r (TooLong Solution) text = (I : Draft) × (name : List ℕ) × IsNext files r I name
     × IfSome files (IsLong name) × (text ≡ too_long_text name)
 EndsUnread files r (StartRefused e) text = (I : Draft) × (name : List ℕ) × IsNext files r I name

@@ -19,24 +19,30 @@ use Rattle.ih_words.specs.Replay.{ReplayCall}
 use Rattle.ih_words.specs.Rounds.{RoundsCall}
 use Rattle.ih_words.specs.Solve.{SolveCall}
 use Rattle.ih_shelf.specs.Outside.{Names, bytes_at}
-use Rattle.ih_top.specs.declared.files.TheConstants.{MAX_JOURNAL}
+use Rattle.ih_top.specs.declared.limits.TheConstants.{MAX_JOURNAL}
 use Rattle.ih_top.specs.declared.status.Status.{Status}
 use Rattle.ih_top.specs.declared.status.Status.TheVariants.{Done, JournalRefused, NoneFound, OutOfMemory, ReadFault, WriteFault}
-use Rattle.ih_top.specs.Chaining.{of_chains}
+use Rattle.ih_top.specs.Chain.{of_chains}
 use Rattle.ih_top.specs.Demo.{IsShown}
-use Rattle.ih_top.specs.Journals.{Begins, IsRefusedAt}
-use Rattle.ih_top.specs.Replaying.{AreNotFull, HasNoHeading, ReplayEnds, SalvageEnds, no_heading}
+use Rattle.ih_top.specs.JournalLines.{Begins, IsRefusedAt}
+use Rattle.ih_top.specs.JournalHeading.{HasNoHeading, no_heading}
+use Rattle.ih_top.specs.Replay.{AreNotFull, ReplayEnds}
+use Rattle.ih_top.specs.Salvage.{SalvageEnds}
 use Rattle.ih_top.specs.Rounds.{AreSearches, RoundsEnds}
-use Rattle.ih_top.specs.Solving.{HasFoundNone, IsDone, IsSearch, Kind, SearchEnds, of_moves}
+use Rattle.ih_top.specs.Searches.{HasFoundNone, IsDone, IsSearch, Kind, SearchEnds}
+use Rattle.ih_top.specs.Solve.{of_moves}
 use Rattle.ih_top.specs.Texts.{journal_refused_text, none_found_text, salvaged_line}
 
 -- lines that are refused are those of no full history
 abbrev pub RefusedLinesAreNotFull : Type 0
-RefusedLinesAreNotFull = (b : Base) (bytes : List ℕ) (H : List Entry) (e : JournalRefusal) → IsValid b.instance → IsBase b → IsRefusedAt b bytes H e → AreNotFull b bytes
+RefusedLinesAreNotFull = (b : Base) (bytes : List ℕ) (H : List Entry) (e : JournalRefusal) → IsValid b.instance
+    → IsBase b → IsRefusedAt b bytes H e → AreNotFull b bytes
 
--- of the lines of a legal history that are cut off anywhere, each whole one is salvaged: there are as many as line feeds
+-- of the lines of a legal history that are cut off anywhere, each whole one is salvaged: there are as many as line
+-- feeds
 abbrev pub WholeLinesAreSalvaged : Type 0
-WholeLinesAreSalvaged = (b : Base) (G : List Entry) (bytes more : List ℕ) (H : List Entry) (rest : List ℕ) → IsValid b.instance → IsBase b → AreLegal b 1 (tries G)
+WholeLinesAreSalvaged = (b : Base) (G : List Entry) (bytes more : List ℕ) (H : List Entry) (rest : List ℕ)
+    → IsValid b.instance → IsBase b → AreLegal b 1 (tries G)
     → bytes ++ more ≡ lines_from b.options 0 G → Begins b bytes H rest → length H ≡ count_by (λ c. c == 10) bytes
 
 -- no fault brought the status
@@ -60,7 +66,8 @@ pub record DoTheSame (s : SolveCall) (new other : Names) (text told : List ℕ) 
 
 abbrev pub LoneSearchesDoTheSame : {X : Type 0} → Kind X → Type 0
 LoneSearchesDoTheSame kind = (s : SolveCall) (old new other : Names) (text told : List ℕ) → s.options.workers ≡ 1
-    → IsDone kind s (Some old) (Some new) text → IsDone kind s (Some old) (Some other) told → DoTheSame s new other text told
+    → IsDone kind s (Some old) (Some new) text → IsDone kind s (Some old) (Some other) told
+    → DoTheSame s new other text told
 
 -- two calls ended in the same status, said the same and left the same files
 pub record EndTheSame (first second : Status) (text told : List ℕ) (new other : Names) : Type 0 where
@@ -68,9 +75,11 @@ pub record EndTheSame (first second : Status) (text told : List ℕ) (new other 
   pub said : text ≡ told
   pub files : (n : List ℕ) → new n ≡ other n
 
--- However two calls over the same files end, also where a file is refused: with no fault, and memory enough, they end the same.
+-- However two calls over the same files end, also where a file is refused: with no fault, and memory enough, they end
+-- the same.
 abbrev pub LoneSearchesEndAlike : {X : Type 0} → Kind X → Type 0
-LoneSearchesEndAlike kind = (s : SolveCall) (old new other : Names) (status ended : Status) (text told : List ℕ) → s.options.workers ≡ 1
+LoneSearchesEndAlike kind =
+    (s : SolveCall) (old new other : Names) (status ended : Status) (text told : List ℕ) → s.options.workers ≡ 1
     → HasNoFault status → HasNoFault ended → status ≢ OutOfMemory → ended ≢ OutOfMemory
     → SearchEnds kind s (Some old) (Some new) status text → SearchEnds kind s (Some old) (Some other) ended told
     → EndTheSame status ended text told new other
@@ -82,7 +91,8 @@ LoneRoundsAreAlike = (files : Names) (r : RoundsCall) (b c : Base) (rs ss : List
 
 -- However two calls of rounds over the same files end: the same.
 abbrev pub LoneRoundsEndAlike : Type 0
-LoneRoundsEndAlike = (r : RoundsCall) (old new other : Names) (status ended : Status) (text told : List ℕ) → r.search.options.workers ≡ 1
+LoneRoundsEndAlike =
+    (r : RoundsCall) (old new other : Names) (status ended : Status) (text told : List ℕ) → r.search.options.workers ≡ 1
     → HasNoFault status → HasNoFault ended → status ≢ OutOfMemory → ended ≢ OutOfMemory
     → RoundsEnds r (Some old) (Some new) status text → RoundsEnds r (Some old) (Some other) ended told
     → EndTheSame status ended text told new other
@@ -95,7 +105,8 @@ DemosShowTheSame = (number : ℕ) (said told : Option (List ℕ)) → IsShown nu
 
 -- the journal of a search is no longer than replay and salvage may read
 abbrev pub JournalsFit : Type 0
-JournalsFit = (files : Names) (s : SolveCall) (b : Base) (H : List Entry) → IsSearch of_moves (Some files) s b H → length (journal b.options H) ≤ MAX_JOURNAL
+JournalsFit = (files : Names) (s : SolveCall) (b : Base) (H : List Entry) → IsSearch of_moves (Some files) s b H
+    → length (journal b.options H) ≤ MAX_JOURNAL
 
 -- neither names a file, or each names one, under whatever names, and these have the same bytes
 abbrev pub HaveSameBytes : Names → Names → Option (List ℕ) → Option (List ℕ) → Type 0
@@ -103,8 +114,8 @@ HaveSameBytes there before None None = Unit {0}
 HaveSameBytes there before (Some name) (Some other) = bytes_at there name ≡ bytes_at before other
 HaveSameBytes there before file other = ⊥
 
--- The instance and the start are there as the search found them, and the journal as it left it, under whatever names; the start is
--- filled, and choices are frozen, as the search was asked to.
+-- The instance and the start are there as the search found them, and the journal as it left it, under whatever names;
+-- the start is filled, and choices are frozen, as the search was asked to.
 pub record IsReplayOf (s : SolveCall) (r : ReplayCall) (before after there : Names) : Type 0 where
   pub same_instance : bytes_at there r.instance ≡ bytes_at before s.instance
   pub same_start : HaveSameBytes there before r.start.file s.start.file
@@ -116,25 +127,31 @@ pub record IsReplayOf (s : SolveCall) (r : ReplayCall) (before after there : Nam
 abbrev pub EndsIn : Status → List ℕ → Type 0 → Status → List ℕ → Type 0
 EndsIn wanted text left status said = (status ≡ OutOfMemory) ⊎ ((status ≡ wanted) × (said ≡ text) × left)
 
--- After solve wrote its best, replay of its journal writes the same solution and says the same, and salvage says before it that there
--- are so many lines.
-pub record IsTakenBack (s : SolveCall) (r : ReplayCall) (before after there left : Names) (text : List ℕ) (lines : ℕ) (ended : Status) (said : List ℕ) : Type 0 where
-  pub replayed : ReplayEnds r (Some there) (Some left) ended said → EndsIn Done text (left r.out ≡ after s.out) ended said
+-- After solve wrote its best, replay of its journal writes the same solution and says the same, and salvage says before
+-- it that there are so many lines.
+pub record IsTakenBack (s : SolveCall) (r : ReplayCall) (before after there left : Names) (text : List ℕ) (lines : ℕ)
+    (ended : Status) (said : List ℕ) : Type 0 where
+  pub replayed : ReplayEnds r (Some there) (Some left) ended said
+      → EndsIn Done text (left r.out ≡ after s.out) ended said
   pub salvaged : SalvageEnds r (Some there) (Some left) ended said
       → EndsIn Done (salvaged_line lines ++ text) (left r.out ≡ after s.out) ended said
 
 -- where it found none, neither do they
 pub record IsTakenBackAsNone (r : ReplayCall) (there left : Names) (ended : Status) (said : List ℕ) : Type 0 where
-  pub replayed : ReplayEnds r (Some there) (Some left) ended said → EndsIn NoneFound none_found_text (Unit {0}) ended said
-  pub salvaged : SalvageEnds r (Some there) (Some left) ended said → EndsIn NoneFound none_found_text (Unit {0}) ended said
+  pub replayed : ReplayEnds r (Some there) (Some left) ended said
+      → EndsIn NoneFound none_found_text (Unit {0}) ended said
+  pub salvaged : SalvageEnds r (Some there) (Some left) ended said
+      → EndsIn NoneFound none_found_text (Unit {0}) ended said
 
 abbrev pub SolvesAreTakenBack : Type 0
-SolvesAreTakenBack = (s : SolveCall) (r : ReplayCall) (before after there left : Names) (text : List ℕ) (ended : Status) (said : List ℕ)
+SolvesAreTakenBack =
+    (s : SolveCall) (r : ReplayCall) (before after there left : Names) (text : List ℕ) (ended : Status) (said : List ℕ)
     → IsReplayOf s r before after there → HasNoFault ended → (done : IsDone of_moves s (Some before) (Some after) text)
     → IsTakenBack s r before after there left text (length done.history) ended said
 
 abbrev pub SolvesWithNoneAreTakenBack : Type 0
-SolvesWithNoneAreTakenBack = (s : SolveCall) (r : ReplayCall) (before after there left : Names) (ended : Status) (said : List ℕ)
+SolvesWithNoneAreTakenBack =
+    (s : SolveCall) (r : ReplayCall) (before after there left : Names) (ended : Status) (said : List ℕ)
     → IsReplayOf s r before after there → HasNoFault ended → HasFoundNone of_moves s (Some before) (Some after)
     → IsTakenBackAsNone r there left ended said
 
@@ -152,7 +169,8 @@ pub record IsWithinLimits (c : ChainCall) : Type 0 where
 -- the journal of a search by chains is no longer than a journal's file may be
 abbrev pub ChainJournalsFit : Type 0
 ChainJournalsFit = (files : Names) (c : ChainCall) (b : Base) (H : List ChainEntry) → IsWithinLimits c
-    → IsSearch (of_chains c.length) (Some files) c.search b H → length (chain_journal b.options c.length H) ≤ MAX_JOURNAL
+    → IsSearch (of_chains c.length) (Some files) c.search b H
+    → length (chain_journal b.options c.length H) ≤ MAX_JOURNAL
 
 -- After a search by chains wrote its journal, replay and salvage refuse that at its heading, or memory runs out.
 pub record IsRefusedBack (r : ReplayCall) (there left : Names) (ended : Status) (said : List ℕ) : Type 0 where
@@ -162,7 +180,9 @@ pub record IsRefusedBack (r : ReplayCall) (there left : Names) (ended : Status) 
       → EndsIn (JournalRefused no_heading) (journal_refused_text no_heading) (Unit {0}) ended said
 
 abbrev pub ChainsAreRefused : Type 0
-ChainsAreRefused = (c : ChainCall) (r : ReplayCall) (before after there left : Names) (b : Base) (H : List ChainEntry) (ended : Status) (said : List ℕ)
+ChainsAreRefused = (c : ChainCall) (r : ReplayCall) (before after there left : Names) (b : Base) (H : List ChainEntry)
+    (ended : Status) (said : List ℕ)
     → IsWithinLimits c → IsSearch (of_chains c.length) (Some before) c.search b H
-    → after c.search.journal ≡ Some (chain_journal b.options c.length H) → IsReplayOf c.search r before after there → HasNoFault ended
+    → after c.search.journal ≡ Some (chain_journal b.options c.length H) → IsReplayOf c.search r before after there
+    → HasNoFault ended
     → IsRefusedBack r there left ended said

@@ -12,17 +12,19 @@ use Rattle.ih_cellbook.specs.Keeping.{IsBase}
 use Rattle.ih_cellbook.specs.Legal.{AreExact}
 use Rattle.ih_words.specs.Start.{StartCall}
 use Rattle.ih_shelf.specs.Outside.{IsWritten, MayBeWritten, Names, Told}
-use Rattle.ih_top.specs.declared.inputs.Inputs.{Inputs}
 use Rattle.ih_top.specs.declared.output.BestOutput.{BestOutput}
-use Rattle.ih_top.specs.declared.replaying.Outcome.{Outcome}
-use Rattle.ih_top.specs.declared.replaying.Outcome.TheVariants.{Refused, Taken}
+use Rattle.ih_top.specs.declared.outcome.Outcome.{Outcome}
+use Rattle.ih_top.specs.declared.outcome.Outcome.TheVariants.{Refused, Taken}
 use Rattle.ih_top.specs.declared.status.Status.{Status}
 use Rattle.ih_top.specs.declared.status.Status.TheVariants.{Done, NoneFound, WriteFault, OutOfMemory, JournalRefused}
 use Rattle.ih_top.specs.declared.status.Role.TheVariants.{Out}
-use Rattle.ih_top.specs.Journals.{Begins, IsRefusedAt}
+use Rattle.ih_top.specs.JournalLines.{Begins, IsRefusedAt}
 use Rattle.ih_top.specs.Outputs.{HasBestOutput, HasBestSaid}
-use Rattle.ih_top.specs.Replaying.{AreNotFull, IsHeadless, IsRefusedJournal, IsReplay, IsSalvage, JournalRead}
-use Rattle.ih_top.specs.Solving.{Unchanged}
+use Rattle.ih_top.specs.JournalFiles.{JournalRead}
+use Rattle.ih_top.specs.JournalHeading.{IsHeadless}
+use Rattle.ih_top.specs.Replay.{AreNotFull, IsRefusedJournal, IsReplay}
+use Rattle.ih_top.specs.Salvage.{IsSalvage}
+use Rattle.ih_top.specs.Writes.{Unchanged}
 use Rattle.ih_top.specs.Texts.{done_text, journal_refused_text, memory_text, none_found_text, salvaged_text, unwritten_text}
 
 -- ---- the lines of a journal
@@ -60,17 +62,16 @@ IsLinesOutcome b bytes (Taken best) = AreFullLines b bytes best
 
 -- ---- the whole journal
 
-abbrev pub read_from : Inputs → List ℕ → JournalRead
-read_from i bytes = record { instance = i.inst.draft; plan = i.plan; bytes = bytes }
-
 -- a history was taken, and its best was made ready where there is one
-pub record IsTaken (taken : Base → List Entry → Type 0) (said : Base → List Tried → ℕ → List ℕ) (best : Option BestOutput) : Type 0 where
+pub record IsTaken (taken : Base → List Entry → Type 0) (said : Base → List Tried → ℕ → List ℕ)
+    (best : Option BestOutput) : Type 0 where
   pub base : Base
   pub history : List Entry
   pub taken_is : taken base history
   pub output : HasBestSaid said base (tries history) best
 
-abbrev pub IsOutcome : (Base → List Entry → Type 0) → (JournalRefusal → Type 0) → (Base → List Tried → ℕ → List ℕ) → Outcome → Type 0
+abbrev pub IsOutcome : (Base → List Entry → Type 0) → (JournalRefusal → Type 0) → (Base → List Tried → ℕ → List ℕ)
+    → Outcome → Type 0
 IsOutcome taken refused said (Refused e) = refused e
 IsOutcome taken refused said (Taken best) = IsTaken taken said best
 
@@ -83,7 +84,8 @@ IsSalvageOutcome s x o = IsOutcome (IsSalvage s x) (IsHeadless x) salvaged_text 
 -- ---- what is written
 
 -- the solution of the outcome's best is written as far as `writes` says
-pub record WritesBest (writes : List ℕ → List ℕ → Names → Names → Type 0) (o : Outcome) (out : List ℕ) (old new : Option Names) : Type 0 where
+pub record WritesBest (writes : List ℕ → List ℕ → Names → Names → Type 0) (o : Outcome) (out : List ℕ)
+    (old new : Option Names) : Type 0 where
   pub best : BestOutput
   pub is : o ≡ Taken (Some best)
   pub written : Told (writes out best.solution.items) old new
@@ -92,8 +94,11 @@ pub record WritesBest (writes : List ℕ → List ℕ → Names → Names → Ty
 abbrev pub OutcomeEnds : Outcome → List ℕ → Option Names → Option Names → Status → List ℕ → Type 0
 OutcomeEnds o out old new Done text = (w : WritesBest IsWritten o out old new) × (text ≡ w.best.text.items)
 OutcomeEnds o out old new NoneFound text = Told Unchanged old new × (o ≡ Taken None) × (text ≡ none_found_text)
-OutcomeEnds o out old new (JournalRefused e) text = Told Unchanged old new × (o ≡ Refused e) × (text ≡ journal_refused_text e)
-OutcomeEnds o out old new (WriteFault (Some Out)) text = WritesBest MayBeWritten o out old new × (text ≡ unwritten_text out)
+OutcomeEnds o out old new (JournalRefused e) text =
+    Told Unchanged old new × (o ≡ Refused e) × (text ≡ journal_refused_text e)
+OutcomeEnds o out old new (WriteFault (Some Out)) text =
+    WritesBest MayBeWritten o out old new × (text ≡ unwritten_text out)
 OutcomeEnds o out old new (WriteFault None) text = (w : WritesBest IsWritten o out old new) × (text ≡ w.best.text.items)
-OutcomeEnds o out old new OutOfMemory text = (Told Unchanged old new ⊎ WritesBest MayBeWritten o out old new) × (text ≡ memory_text)
+OutcomeEnds o out old new OutOfMemory text =
+    (Told Unchanged old new ⊎ WritesBest MayBeWritten o out old new) × (text ≡ memory_text)
 OutcomeEnds o out old new status text = ⊥

@@ -1,5 +1,5 @@
 -- What a search makes to be written and said.
-use Rattle.std.specs.Prelude.{◌≡◌, ℕ, ◌<◌, ◌^◌, ◌⊎◌, List, Option, Some, None}
+use Rattle.std.specs.Prelude.{◌≡◌, ℕ, ◌<◌, ◌^◌, ◌⊎◌, List, Option, Some, None, Result, Ok, Err}
 use Rattle.ih_journal.specs.Base.{Base}
 use Rattle.ih_journal.specs.Tried.{Tried}
 use Rattle.ih_journal.specs.Frozen.{AgreesBefore}
@@ -18,10 +18,12 @@ use Rattle.ih_top.specs.declared.status.Role.TheVariants.{Journal, Out}
 use Rattle.ih_top.specs.declared.status.Status.{Status}
 use Rattle.ih_top.specs.declared.status.Status.TheVariants.{Done, NoneFound, OutOfMemory, WriteFault}
 use Rattle.ih_top.specs.Texts.{done_text, memory_text, none_found_text, unwritten_text}
-use Rattle.ih_top.specs.Solving.{BeginsJournal, BeginsSolution, HasBase, Kind, WritesBoth, WritesJournal, solution_at, told_by}
+use Rattle.ih_top.specs.Searches.{HasBase, Kind, solution_at, told_by}
+use Rattle.ih_top.specs.Writes.{BeginsJournal, BeginsSolution, Unchanged, WritesBoth, WritesJournal}
 
 -- the best of a history, its solution and what is said of it
-pub record IsBestSaid (said : Base → List Tried → ℕ → List ℕ) (b : Base) (H : List Tried) (o : BestOutput) : Type 0 where
+pub record IsBestSaid (said : Base → List Tried → ℕ → List ℕ) (b : Base) (H : List Tried)
+    (o : BestOutput) : Type 0 where
   pub place : ℕ
   pub best : IsBest b H place
   pub solution : o.solution.items ≡ solution_at b H place
@@ -38,7 +40,8 @@ IsBestOutput b H o = IsBestSaid done_text b H o
 abbrev pub HasBestOutput : Base → List Tried → Option BestOutput → Type 0
 HasBestOutput b H o = HasBestSaid done_text b H o
 
--- the journal of a full history that keeps the frozen choices and whose accepted prices are exact, and its best where there is one
+-- the journal of a full history that keeps the frozen choices and whose accepted prices are exact, and its best where
+-- there is one
 pub record IsOutput {X : Type 0} (kind : Kind X) (b : Base) (o : Output) : Type 0 where
   pub history : List X
   pub given : IsBase b
@@ -58,20 +61,21 @@ pub record IsOutputOf {X : Type 0} (kind : Kind X) (files : Option Names) (s : S
 -- a search from what was read
 abbrev pub base_from : SolveCall → Inputs → Base
 base_from s i = record {
-  instance = i.inst.draft;
-  start = started s.start.fill s.options.hard i.inst.draft i.plan;
+  instance = i.inst.value.draft;
+  start = started s.start.fill s.options.hard i.inst.value.draft i.plan;
   options = s.options;
   freeze = s.start.freeze;
 }
 
 -- a search from what was read, in which nothing is frozen
 abbrev pub plain_base : SolveCall → Inputs → Base
-plain_base s i = base_with i.inst.draft (started s.start.fill s.options.hard i.inst.draft i.plan) s.options 0
+plain_base s i = base_with i.inst.value.draft (started s.start.fill s.options.hard i.inst.value.draft i.plan) s.options 0
 
 -- ---- how it is written
 
 -- the journal and the solution of the best are written, as far as this says
-pub record WritesOutput (writes : SolveCall → List ℕ → List ℕ → Names → Names → Type 0) (s : SolveCall) (o : Output) (old new : Option Names) : Type 0 where
+pub record WritesOutput (writes : SolveCall → List ℕ → List ℕ → Names → Names → Type 0) (s : SolveCall) (o : Output)
+    (old new : Option Names) : Type 0 where
   pub best : BestOutput
   pub is : o.best ≡ Some best
   pub written : Told (writes s o.journal.items best.solution.items) old new
@@ -79,10 +83,19 @@ pub record WritesOutput (writes : SolveCall → List ℕ → List ℕ → Names 
 -- how a call ends that writes what its search made: the journal, then the solution of the best
 abbrev pub OutputEnds : SolveCall → Output → Option Names → Option Names → Status → List ℕ → Type 0
 OutputEnds s o old new Done text = (w : WritesOutput WritesBoth s o old new) × (text ≡ w.best.text.items)
-OutputEnds s o old new NoneFound text = (o.best ≡ None) × Told (WritesJournal s o.journal.items) old new × (text ≡ none_found_text)
-OutputEnds s o old new (WriteFault (Some Journal)) text = Told (BeginsJournal s o.journal.items) old new × (text ≡ unwritten_text s.journal)
-OutputEnds s o old new (WriteFault (Some Out)) text = WritesOutput BeginsSolution s o old new × (text ≡ unwritten_text s.out)
+OutputEnds s o old new NoneFound text =
+    (o.best ≡ None) × Told (WritesJournal s o.journal.items) old new × (text ≡ none_found_text)
+OutputEnds s o old new (WriteFault (Some Journal)) text =
+    Told (BeginsJournal s o.journal.items) old new × (text ≡ unwritten_text s.journal)
+OutputEnds s o old new (WriteFault (Some Out)) text =
+    WritesOutput BeginsSolution s o old new × (text ≡ unwritten_text s.out)
 OutputEnds s o old new (WriteFault None) text = (w : WritesOutput WritesBoth s o old new) × (text ≡ w.best.text.items)
 OutputEnds s o old new OutOfMemory text =
     (Told (BeginsJournal s o.journal.items) old new ⊎ WritesOutput BeginsSolution s o old new) × (text ≡ memory_text)
 OutputEnds s o old new status text = ⊥
+
+-- the same where it made this, or memory ran out as it was made
+abbrev pub MadeEnds : {E : Type 0} → SolveCall → Result Output E → Option Names → Option Names → Status → List ℕ
+    → Type 0
+MadeEnds s (Ok o) old new status text = OutputEnds s o old new status text
+MadeEnds s (Err e) old new status text = (status ≡ OutOfMemory) × Told Unchanged old new × (text ≡ memory_text)

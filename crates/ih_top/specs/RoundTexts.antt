@@ -14,7 +14,9 @@ use Rattle.ih_top.specs.declared.output.BestOutput.{BestOutput}
 -- the place of the best among the entries of its round
 abbrev pub round_line : ℕ → ℕ → ℕ → List ℕ
 round_line round place entries =
-    codes "best " ++ (decimal place ++ (codes " of " ++ (decimal entries ++ (codes " in round " ++ (decimal round ++ codes "\n")))))
+    codes "best "
+    ++ (decimal place
+    ++ (codes " of " ++ (decimal entries ++ (codes " in round " ++ (decimal round ++ codes "\n")))))
 
 abbrev pub round_report : ℕ → ℕ → ℕ → Weights → Bill → List ℕ
 round_report round place entries w b = round_line round place entries ++ report w b
@@ -26,6 +28,7 @@ FitsEnd I NoneFound = Unit {0}
 
 -- the solution of the best, where there is one, and what is said of it
 abbrev pub IsRoundSaid : Draft → RoundsEnd → Option BestOutput → Type 0
-IsRoundSaid I (Found round place count P) (Some o) = (o.solution.items ≡ solution I P) × (o.text.items ≡ round_report round place count I.weights (bill_of I P))
+IsRoundSaid I (Found round place count P) (Some o) =
+    (o.solution.items ≡ solution I P) × (o.text.items ≡ round_report round place count I.weights (bill_of I P))
 IsRoundSaid I NoneFound None = Unit {0}
 IsRoundSaid I end o = ⊥

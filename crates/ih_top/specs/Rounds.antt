@@ -18,14 +18,16 @@ use Rattle.ih_top.specs.declared.status.Status.{Status}
 use Rattle.ih_top.specs.declared.status.Status.TheVariants.{Done, NoneFound, WriteFault, OutOfMemory}
 use Rattle.ih_top.specs.Inputs.{EndsUnread, solve_reading}
 use Rattle.ih_top.specs.RoundTexts.{round_report}
-use Rattle.ih_top.specs.Solving.{BeginsJournal, BeginsSolution, HasBase, Unchanged, WritesBoth, WritesJournal, solution_at}
+use Rattle.ih_top.specs.Searches.{HasBase, solution_at}
+use Rattle.ih_top.specs.Writes.{BeginsJournal, BeginsSolution, Unchanged, WritesBoth, WritesJournal}
 use Rattle.ih_top.specs.Texts.{memory_text, none_found_text, unwritten_text}
 
 -- ---- what rounds make to be written and said
 
 -- the place of the best in round q, and the report on its timetable
 abbrev pub round_text : Base → ℕ → Round → ℕ → List ℕ
-round_text b q r k = round_report q k (length r.history) b.instance.weights (bill_of b.instance (plan_at (base_in b q r) (tries r.history) k))
+round_text b q r k = round_report q k (length r.history) b.instance.weights
+    (bill_of b.instance (plan_at (base_in b q r) (tries r.history) k))
 
 -- the solution file of the timetable at place k of round q
 abbrev pub solution_in : Base → ℕ → Round → ℕ → List ℕ
@@ -67,8 +69,8 @@ pub record IsRoundsOutputOf (files : Option Names) (r : RoundsCall) (o : Output)
 
 -- ---- how they end
 
--- The rounds that the words ask for, over what the files and the words give: each history is full over its start, and each accepted
--- price is the change of the bill at its own place.
+-- The rounds that the words ask for, over what the files and the words give: each history is full over its start, and
+-- each accepted price is the change of the bill at its own place.
 pub record AreSearches (files : Option Names) (r : RoundsCall) (b : Base) (rs : List Round) : Type 0 where
   pub base : HasBase files r.search b
   -- the start is a timetable of the instance, and the options are lawful
@@ -79,21 +81,25 @@ pub record AreSearches (files : Option Names) (r : RoundsCall) (b : Base) (rs : 
   pub exact : HaveExactPrices b rs
 
 -- the journals of the rounds are written, as far as this says
-pub record HaveSearched (writes : SolveCall → List ℕ → Names → Names → Type 0) (r : RoundsCall) (old new : Option Names) : Type 0 where
+pub record HaveSearched (writes : SolveCall → List ℕ → Names → Names → Type 0) (r : RoundsCall)
+    (old new : Option Names) : Type 0 where
   pub base : Base
   pub rounds : List Round
   pub searches : AreSearches old r base rounds
   pub written : Told (writes r.search (journals base.options 0 rounds)) old new
 
--- the journals of the rounds and the solution of the first cheapest feasible timetable of all are written, as far as this says
-pub record HaveBest (writes : SolveCall → List ℕ → List ℕ → Names → Names → Type 0) (r : RoundsCall) (old new : Option Names) : Type 0 where
+-- the journals of the rounds and the solution of the first cheapest feasible timetable of all are written, as far as
+-- this says
+pub record HaveBest (writes : SolveCall → List ℕ → List ℕ → Names → Names → Type 0) (r : RoundsCall)
+    (old new : Option Names) : Type 0 where
   pub base : Base
   pub rounds : List Round
   pub round : ℕ
   pub place : ℕ
   pub searches : AreSearches old r base rounds
   pub best : IsBestOf base rounds round place
-  pub written : Told (writes r.search (journals base.options 0 rounds) (solution_in base round best.round place)) old new
+  pub written : Told
+      (writes r.search (journals base.options 0 rounds) (solution_in base round best.round place)) old new
 
 abbrev pub HaveBegun : RoundsCall → Option Names → Option Names → Type 0
 HaveBegun r old new = HaveSearched BeginsJournal r old new
@@ -117,6 +123,7 @@ RoundsEnds r old new (WriteFault (Some Journal)) text = HaveBegun r old new × (
 RoundsEnds r old new (WriteFault (Some Out)) text = HaveFound r old new × (text ≡ unwritten_text r.search.out)
 -- all is done but that the text couldn't be put out
 RoundsEnds r old new (WriteFault None) text = AreDone r old new text
-RoundsEnds r old new OutOfMemory text = (Told Unchanged old new ⊎ HaveBegun r old new ⊎ HaveFound r old new) × (text ≡ memory_text)
+RoundsEnds r old new OutOfMemory text =
+    (Told Unchanged old new ⊎ HaveBegun r old new ⊎ HaveFound r old new) × (text ≡ memory_text)
 -- the files aren't as they ought to be
 RoundsEnds r old new status text = Told Unchanged old new × EndsUnread old (solve_reading r.search) status text

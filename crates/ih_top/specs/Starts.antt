@@ -13,8 +13,8 @@ abbrev pub started : Bool → ℕ → Draft → Timetable → Timetable
 started false hard I P = P
 started true hard I P = fill I hard P
 
--- A search begins as the words say, on an instance and with a timetable that was read. The fill takes the weight of a broken rule
--- from the options.
+-- A search begins as the words say, on an instance and with a timetable that was read. The fill takes the weight of a
+-- broken rule from the options.
 pub record IsStarted (s : StartCall) (I : Draft) (P : Timetable) (b : Base) : Type 0 where
   pub instance : b.instance ≡ I
   pub start : b.start ≡ started s.fill b.options.hard I P

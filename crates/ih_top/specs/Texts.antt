@@ -62,7 +62,8 @@ reason_text Early = codes "Early"
 
 -- the line of a journal that is refused, and why
 abbrev pub journal_refused_text : JournalRefusal → List ℕ
-journal_refused_text r = codes "journal refused: line " ++ (decimal r.line ++ (codes ": " ++ (reason_text r.reason ++ codes "\n")))
+journal_refused_text r =
+    codes "journal refused: line " ++ (decimal r.line ++ (codes ": " ++ (reason_text r.reason ++ codes "\n")))
 
 -- the place of the best among so many entries
 abbrev pub best_line : ℕ → ℕ → List ℕ
@@ -96,9 +97,14 @@ verdicts_of kind H = count_by (λ (e : Entry). kind e.verdict) H
 
 -- how many moves were accepted, declined and stale
 abbrev pub verdicts_line : ℕ → ℕ → ℕ → List ℕ
-verdicts_line accepted declined stale = codes "accepted " ++ (decimal accepted ++ (codes " declined " ++ (decimal declined ++ (codes " stale " ++ (decimal stale ++ codes "\n")))))
+verdicts_line accepted declined stale =
+    codes "accepted " ++ (decimal accepted ++ (codes " declined " ++ (decimal declined ++ (codes " stale "
+    ++ (decimal stale ++ codes "\n")))))
 
--- the same of a search on the instance of a number
+-- the same of the moves of a history
+abbrev pub counts_line : List Entry → List ℕ
+counts_line H = verdicts_line (verdicts_of is_accepted H) (verdicts_of is_declined H) (verdicts_of is_stale H)
+
+-- what is said of a search on the instance of a number
 abbrev pub demo_text : ℕ → Base → List Entry → ℕ → List ℕ
-demo_text number b H k = demo_line number
-    ++ (verdicts_line (verdicts_of is_accepted H) (verdicts_of is_declined H) (verdicts_of is_stale H) ++ done_text b (tries H) k)
+demo_text number b H k = demo_line number ++ (counts_line H ++ done_text b (tries H) k)

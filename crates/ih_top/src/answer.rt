@@ -3,7 +3,7 @@
 ghost use Rattle.std.specs.Prelude.{◌≡◌, ◌≤◌, ◌⊎◌};
 ghost use Rattle.ih_top.specs.Texts.{memory_text};
 ghost use Rattle.ih_top.specs.Ends.{Gained, GainedPart};
-ghost use Rattle.ih_top.specs.Answers.{unsaid, IsConcluded, HasPutCause};
+ghost use Rattle.ih_top.specs.Answers.{unsaid, IsConcluded, HasSinkCause};
 
 use crate::status::Status;
 use ih_shelf::{Sink, WriteError};
@@ -15,7 +15,7 @@ pub struct Answer {
     pub text: Vec<u8>,
 }
 
-// The status of an answer whose text couldn't be put out: where the text was all that was left to do, this is the fault.
+// The status of an answer whose text couldn't be put out: where that was all that was left to do, it is the fault.
 fn unsaid(status: Status) -> Status
     ensures { result ≡ unsaid status }
 {
@@ -43,7 +43,7 @@ pub fn conclude<R: Print, O: Sink>(rt: &R, out: &mut O, answer: &Answer) -> Stat
     ensures said { IsConcluded answer.now.status answer.now.text.items
         (Gained result (O.text out.old) (O.text out.new) (O.faults out.old) (O.faults out.new))
         (GainedPart (O.text out.old) (O.text out.new) (O.wants out.old) (O.wants out.new)) result }
-    ensures cause { HasPutCause answer.now.status (O.faults out.old) (O.faults out.new) (O.wants out.old) (O.wants out.new) result }
+    ensures cause { HasSinkCause O.Sink out.old out.new answer.now.status result }
 {
     if let Status::OutOfMemory = answer.status {
         return conclude_memory(rt, out);

@@ -2,18 +2,19 @@
 
 ghost use Rattle.std.specs.Prelude.{◌≡◌};
 ghost use Rattle.ih_words.specs.Words.{HasLawfulOptions, command_call};
-ghost use Rattle.ih_top.specs.Answers.{Answers, HasFileCause};
+ghost use Rattle.ih_top.specs.Answers.{Answers, HasShelfCause};
 ghost use Rattle.ih_top.specs.Ends.{CallEnds, OutDiffers};
 
-use crate::advising::advise;
+use crate::advise::advise;
 use crate::answer::Answer;
-use crate::chaining::chain;
-use crate::checking::check;
-use crate::generating::write_instance;
-use crate::replaying::{replay, salvage};
+use crate::chain::chain;
+use crate::check::check;
+use crate::demo::demo;
+use crate::generate::write_instance;
+use crate::replay::replay;
 use crate::rounds::run_rounds;
-use crate::showing::demo;
-use crate::solving::solve;
+use crate::salvage::salvage;
+use crate::solve::solve;
 use ih_shelf::{Gate, Shelf};
 use ih_words::Command;
 use std::alloc::Global;
@@ -32,7 +33,7 @@ pub fn perform<R: Files + Threads + Wait + Sync, S: Shelf, G: Gate>(
     requires differ { OutDiffers (command_call command.now) }
     requires lawful { HasLawfulOptions command.now }
     ensures ends { Answers (CallEnds (command_call command.now) (S.names shelf.old) (S.names shelf.new)) result }
-    ensures cause { HasFileCause (S.read_faults shelf.old) (S.read_faults shelf.new) (S.write_faults shelf.old) (S.write_faults shelf.new) result.status }
+    ensures cause { HasShelfCause S.Shelf shelf.old shelf.new result.status }
 {
     match command {
         Command::Solve(call) => solve(rt, alloc, call, shelf, gate),

@@ -2,11 +2,11 @@
 
 ghost use Rattle.std.specs.Prelude.{◌≡◌, ◌≤◌, IfOk, IfErr, IfSome, Some};
 ghost use Rattle.ih_plan.specs.Timetable.{IsPlanOf};
-ghost use Rattle.ih_top.specs.Answers.{Answers, HasFileCause, IsUnreadFile};
+ghost use Rattle.ih_top.specs.Answers.{Answers, HasShelfCause, IsUnreadFile};
 ghost use Rattle.ih_top.specs.Inputs.{reading_of, HasInstance, HasSolution, HasPlan, HasInputs, EndsUnread};
 
 use crate::answer::Answer;
-use crate::files::MAX_FILE;
+use crate::limits::MAX_FILE;
 use crate::status::Role;
 use crate::texts::{instance_refused, out_of_memory, solution_refused, too_long, unread};
 use ih_instance::{InstanceError, read_instance};
@@ -14,7 +14,7 @@ use ih_plan::Plan;
 use ih_shelf::{ReadError, Shelf};
 use ih_solution::{SolutionError, read_solution};
 use ih_tables::Instance;
-use std::alloc::Global;
+use std::alloc::{AllocError, Global};
 use std::rt::Files;
 
 /// The names of the files.
@@ -27,7 +27,8 @@ pub struct InputNames<'a> {
 /// What the files give.
 #[derive(Drop)]
 pub struct Inputs {
-    pub inst: Instance,
+    // In a place of its own: it is handed on as an address.
+    pub inst: Box<Instance>,
     pub plan: Plan,
 }
 
@@ -42,22 +43,31 @@ pub fn unread_file(alloc: Global, role: Role, name: &str, error: ReadError) -> A
     }
 }
 
+fn boxed(alloc: Global, inst: Instance) -> Result<Box<Instance>, AllocError>
+    ensures { IfOk result (λ i. i.value.draft ≡ inst.draft) }
+{
+    Ok(Box::new(alloc, inst)?)
+}
+
 fn read_instance_file<R: Files, S: Shelf>(
     rt: &R,
     alloc: Global,
     names: &InputNames<'_>,
     shelf: &mut S,
-) -> Result<Instance, Answer>
-    ensures read { IfOk result (λ i. IfSome (S.names shelf.old) (HasInstance names.now.instance.now i.draft)) }
+) -> Result<Box<Instance>, Answer>
+    ensures read { IfOk result (λ i. IfSome (S.names shelf.old) (HasInstance names.now.instance.now i.value.draft)) }
     ensures unread { IfErr result (Answers (EndsUnread (S.names shelf.old) (reading_of names.now))) }
-    ensures cause { IfErr result (λ a. HasFileCause (S.read_faults shelf.old) (S.read_faults shelf.new) (S.write_faults shelf.old) (S.write_faults shelf.new) a.status) }
+    ensures cause { IfErr result (λ a. HasShelfCause S.Shelf shelf.old shelf.new a.status) }
     ensures count { S.read_faults shelf.old ≤ S.read_faults shelf.new }
     ensures other_count { S.write_faults shelf.new ≡ S.write_faults shelf.old }
     ensures kept { S.names shelf.new ≡ S.names shelf.old }
 {
     match shelf.read(rt, alloc, names.instance, MAX_FILE) {
         Ok(bytes) => match read_instance(alloc, bytes.as_slice()) {
-            Ok(inst) => Ok(inst),
+            Ok(inst) => match boxed(alloc, inst) {
+                Ok(inst) => Ok(inst),
+                Err(_) => Err(out_of_memory(alloc)),
+            },
             Err(InstanceError::Refused(refusal)) => Err(instance_refused(alloc, refusal)),
             Err(InstanceError::OutOfMemory) => Err(out_of_memory(alloc)),
         },
@@ -78,7 +88,7 @@ fn read_plan_file<R: Files, S: Shelf>(
     ensures plan { IfOk result (IsPlanOf inst.now.draft) }
     ensures read { IfOk result (λ p. IfSome (S.names shelf.old) (HasSolution name.now inst.now.draft p)) }
     ensures unread { IfErr result (Answers (EndsUnread (S.names shelf.old) (reading_of names.now))) }
-    ensures cause { IfErr result (λ a. HasFileCause (S.read_faults shelf.old) (S.read_faults shelf.new) (S.write_faults shelf.old) (S.write_faults shelf.new) a.status) }
+    ensures cause { IfErr result (λ a. HasShelfCause S.Shelf shelf.old shelf.new a.status) }
     ensures count { S.read_faults shelf.old ≤ S.read_faults shelf.new }
     ensures other_count { S.write_faults shelf.new ≡ S.write_faults shelf.old }
     ensures kept { S.names shelf.new ≡ S.names shelf.old }
@@ -105,7 +115,7 @@ fn read_plan<R: Files, S: Shelf>(
     ensures plan { IfOk result (IsPlanOf inst.now.draft) }
     ensures read { IfOk result (HasPlan (S.names shelf.old) (reading_of names.now).solution inst.now.draft) }
     ensures unread { IfErr result (Answers (EndsUnread (S.names shelf.old) (reading_of names.now))) }
-    ensures cause { IfErr result (λ a. HasFileCause (S.read_faults shelf.old) (S.read_faults shelf.new) (S.write_faults shelf.old) (S.write_faults shelf.new) a.status) }
+    ensures cause { IfErr result (λ a. HasShelfCause S.Shelf shelf.old shelf.new a.status) }
     ensures count { S.read_faults shelf.old ≤ S.read_faults shelf.new }
     ensures other_count { S.write_faults shelf.new ≡ S.write_faults shelf.old }
     ensures kept { S.names shelf.new ≡ S.names shelf.old }
@@ -126,15 +136,15 @@ pub fn read_inputs<R: Files, S: Shelf>(
     names: &InputNames<'_>,
     shelf: &mut S,
 ) -> Result<Inputs, Answer>
-    ensures plan { IfOk result (λ i. IsPlanOf i.inst.draft i.plan) }
-    ensures read { IfOk result (λ i. HasInputs (S.names shelf.old) (reading_of names.now) i.inst.draft i.plan) }
+    ensures plan { IfOk result (λ i. IsPlanOf i.inst.value.draft i.plan) }
+    ensures read { IfOk result (λ i. HasInputs (S.names shelf.old) (reading_of names.now) i.inst.value.draft i.plan) }
     ensures unread { IfErr result (Answers (EndsUnread (S.names shelf.old) (reading_of names.now))) }
-    ensures cause { IfErr result (λ a. HasFileCause (S.read_faults shelf.old) (S.read_faults shelf.new) (S.write_faults shelf.old) (S.write_faults shelf.new) a.status) }
+    ensures cause { IfErr result (λ a. HasShelfCause S.Shelf shelf.old shelf.new a.status) }
     ensures count { S.read_faults shelf.old ≤ S.read_faults shelf.new }
     ensures other_count { S.write_faults shelf.new ≡ S.write_faults shelf.old }
     ensures kept { S.names shelf.new ≡ S.names shelf.old }
 {
     let inst = read_instance_file(rt, alloc, names, shelf)?;
-    let plan = read_plan(rt, alloc, names, &inst, shelf)?;
+    let plan = read_plan(rt, alloc, names, &*inst, shelf)?;
     Ok(Inputs { inst, plan })
 }

@@ -1,14 +1,20 @@
-//! Laws of journals and of whole calls, each on a function that does nothing. A law that follows from others calls theirs.
+//! Laws of journals and of whole calls, each on a function that does nothing. A law that follows from others calls
+//! theirs.
 
-ghost use Rattle.ih_top.specs.Laws.{ChainJournalsAreHeadless, ChainJournalsFit, ChainsAreRefused, DemosShowTheSame, JournalsFit, LoneRoundsAreAlike, LoneRoundsEndAlike, LoneSearchesAreAlike, LoneSearchesDoTheSame, LoneSearchesEndAlike, RefusedLinesAreNotFull, SolvesAreTakenBack, SolvesWithNoneAreTakenBack, WholeLinesAreSalvaged};
+ghost use Rattle.ih_top.specs.Laws.{ChainJournalsAreHeadless, ChainJournalsFit, ChainsAreRefused, DemosShowTheSame};
+ghost use Rattle.ih_top.specs.Laws.{JournalsFit, SolvesAreTakenBack, SolvesWithNoneAreTakenBack};
+ghost use Rattle.ih_top.specs.Laws.{LoneRoundsAreAlike, LoneRoundsEndAlike};
+ghost use Rattle.ih_top.specs.Laws.{LoneSearchesAreAlike, LoneSearchesDoTheSame, LoneSearchesEndAlike};
+ghost use Rattle.ih_top.specs.Laws.{RefusedLinesAreNotFull, WholeLinesAreSalvaged};
 ghost use Rattle.std.specs.Prelude.{ℕ, ◌≡◌};
-ghost use Rattle.ih_journal.specs.declared.settings.TheConstants.{MAX_ENTRIES, MAX_HARD, MAX_HEAT, MAX_MOVES, MAX_RETRIES, MAX_WORKERS};
+ghost use Rattle.ih_journal.specs.declared.settings.TheConstants.{MAX_ENTRIES, MAX_HARD, MAX_HEAT, MAX_MOVES};
+ghost use Rattle.ih_journal.specs.declared.settings.TheConstants.{MAX_RETRIES, MAX_WORKERS};
 ghost use Rattle.ih_words.specs.declared.chain.TheConstants.{MAX_LENGTH};
 ghost use Rattle.ih_words.specs.declared.rounds.TheConstants.{MAX_ROUNDS};
 ghost use Rattle.ih_words.specs.declared.start.TheConstants.{MAX_FREEZE};
-ghost use Rattle.ih_top.specs.declared.files.TheConstants.{MAX_FILE, MAX_JOURNAL};
-ghost use Rattle.ih_top.specs.Chaining.{of_chains};
-ghost use Rattle.ih_top.specs.Solving.{of_moves};
+ghost use Rattle.ih_top.specs.declared.limits.TheConstants.{MAX_FILE, MAX_JOURNAL};
+ghost use Rattle.ih_top.specs.Chain.{of_chains};
+ghost use Rattle.ih_top.specs.Solve.{of_moves};
 
 use ih_cellbook::legal_journals_are_short;
 use ih_chain::chain_journals_are_short;
@@ -48,8 +54,8 @@ pub fn lone_searches_are_alike()
     ensures demo { DemosShowTheSame }
 {}
 
-/// What `solve` writes, `replay` and `salvage` take: over an instance and a start with the same bytes, and with no fault,
-/// they end with the same solution and the same text, or memory runs out. A journal is never too long for that.
+/// What `solve` writes, `replay` and `salvage` take: over an instance and a start with the same bytes, and with no
+/// fault, they end with the same solution and the same text, or memory runs out. A journal is never too long for that.
 pub fn solves_are_taken_back()
     ensures best { SolvesAreTakenBack }
     ensures none { SolvesWithNoneAreTakenBack }
@@ -61,8 +67,8 @@ pub fn solves_are_taken_back()
     legal_journals_are_short();
 }
 
-/// The journal of a search by chains is no longer than a journal's file may be, and has no heading of a journal of single
-/// moves: `replay` and `salvage` refuse it there, with no fault and memory enough.
+/// The journal of a search by chains is no longer than a journal's file may be, and has no heading of a journal of
+/// single moves: `replay` and `salvage` refuse it there, with no fault and memory enough.
 pub fn chains_are_refused()
     ensures headless { ChainJournalsAreHeadless }
     ensures fits { ChainJournalsFit }

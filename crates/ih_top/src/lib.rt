@@ -1,33 +1,37 @@
 //! The program: one call that reads, searches, writes and says what it did.
 #![tactic(auto)]
 
-mod advising;
+mod advise;
 mod answer;
-mod chaining;
-mod checking;
+mod chain;
+mod check;
 mod commands;
-mod files;
-mod generating;
+mod demo;
+mod generate;
 mod inputs;
-mod journals;
+mod journal_files;
+mod journal_heading;
+mod journal_lines;
 mod laws;
+mod limits;
+mod outcome;
 mod output;
-mod replaying;
+mod replay;
 mod rounds;
 mod rounds_output;
 mod running;
-mod showing;
-mod solving;
+mod salvage;
+mod solve;
 mod starts;
 mod status;
 mod texts;
 mod writer;
 
-pub use files::{MAX_FILE, MAX_JOURNAL};
 pub use laws::{
     chains_are_refused, limits_are_these, lone_searches_are_alike, refused_lines_are_not_full,
     solves_are_taken_back, whole_lines_are_salvaged,
 };
+pub use limits::{MAX_FILE, MAX_JOURNAL};
 pub use rounds_output::search_at_desk;
 pub use running::run;
 pub use status::{Role, Status};

@@ -1,7 +1,6 @@
 //! What a search makes to be written and said.
 
-ghost use Rattle.std.specs.Prelude.{◌≡◌, ◌≤◌, ◌<◌, ◌^◌, ◌++◌, IfOk, IfSome, length, string_bytes};
-ghost use Rattle.ih_tables.specs.Bills.{IsWithin};
+ghost use Rattle.std.specs.Prelude.{◌≡◌, ◌<◌, ◌^◌, IfOk, length, string_bytes};
 ghost use Rattle.ih_plan.specs.Timetable.{IsPlanOf};
 ghost use Rattle.ih_plan.specs.BillOf.{bill_of};
 ghost use Rattle.ih_journal.specs.Legal.{AreLegal};
@@ -9,23 +8,18 @@ ghost use Rattle.ih_journal.specs.Best.{BestIs, IsBest};
 ghost use Rattle.ih_journal.specs.Tried.{tries};
 ghost use Rattle.ih_cellbook.specs.Keeping.{IsBase};
 ghost use Rattle.ih_desk.specs.Searching.{base_given};
-ghost use Rattle.ih_top.specs.Texts.{best_line, found_text, salvaged_line};
-ghost use Rattle.ih_top.specs.Outputs.{HasBestOutput, IsBestOutput, IsOutput};
-ghost use Rattle.ih_top.specs.Solving.{of_moves};
+ghost use Rattle.ih_top.specs.Texts.{best_line, found_text};
+ghost use Rattle.ih_top.specs.Outputs.{HasBestOutput, IsBestOutput};
 
 use ih_desk::Given;
-use ih_history::{journal_text, plan_at};
+use ih_history::plan_at;
 use ih_journal::{Entry, Options};
 use ih_plan::Plan;
-use ih_shelf::Gate;
 use ih_solution::write_solution;
 use ih_tables::Instance;
 use ih_validate::{bill, report};
-use ih_workers::search;
 use itoa::Buffer;
 use std::alloc::{AllocError, Global};
-use std::sync::Wait;
-use std::thread::Threads;
 
 /// The best of a history.
 #[derive(Drop)]
@@ -64,7 +58,8 @@ pub fn found_text(
     entries: u32,
 ) -> Result<Vec<u8>, AllocError>
     requires { IsPlanOf inst.now.draft plan.now }
-    ensures { IfOk result (λ text. text.items ≡ found_text place entries inst.now.draft.weights (bill_of inst.now.draft plan.now)) }
+    ensures { IfOk result (λ text. text.items
+        ≡ found_text place entries inst.now.draft.weights (bill_of inst.now.draft plan.now)) }
 {
     let mut text = best_line(alloc, place, entries)?.into_bytes();
     let lines = report(alloc, inst, &bill(inst, plan))?;
@@ -110,51 +105,10 @@ pub fn best_of(
     }
 }
 
-fn salvaged_line(alloc: Global, lines: u32) -> Result<String, AllocError>
-    ensures { IfOk result (λ s. string_bytes s ≡ salvaged_line lines) }
-{
-    let mut buffer = Buffer::new();
-    let lines = buffer.format(lines);
-    format!(in alloc; "salvaged {lines}\n")
-}
-
-/// The same best, said to be that of so many lines of a journal.
-pub fn salvaged(alloc: Global, best: BestOutput, lines: u32) -> Result<BestOutput, AllocError>
-    ensures solution { IfOk result (λ o. o.solution.items ≡ best.solution.items) }
-    ensures text { IfOk result (λ o. o.text.items ≡ salvaged_line lines ++ best.text.items) }
-{
-    let BestOutput { solution, text } = best;
-    let mut said = salvaged_line(alloc, lines)?.into_bytes();
-    said.extend_from_slice(text.as_slice())?;
-    Ok(BestOutput {
-        solution,
-        text: said,
-    })
-}
-
 /// The seed, which has 64 bits.
 pub fn seed_of(options: &Options) -> u64
     ensures seed { result ≡ options.now.seed }
     ensures small { options.now.seed < 2 ^ 64 }
 {
     options.seed
-}
-
-/// Searches, and makes the journal, and the solution and the report of the best.
-pub fn make_output<R: Threads + Wait + Sync, G: Gate>(
-    rt: &R,
-    alloc: Global,
-    given: &Given<'_>,
-    gate: &G,
-) -> Result<Output, AllocError>
-    requires { IsBase (base_given given.now) }
-    ensures { IfOk result (IsOutput of_moves (base_given given.now)) }
-{
-    // For the proof alone: the seed has 64 bits.
-    let _seed = seed_of(&given.options);
-    let book = search(rt, alloc, given, gate)?;
-    let entries = book.entries();
-    let journal = journal_text(alloc, &given.options, entries)?;
-    let best = best_of(alloc, given, entries, book.best())?;
-    Ok(Output { journal, best })
 }

@@ -4,8 +4,7 @@ ghost use Rattle.std.specs.Prelude.{◌≡◌, ◌≢◌, ◌≤◌, IfOk};
 ghost use Rattle.ih_plan.specs.Timetable.{IsPlanOf};
 ghost use Rattle.ih_words.specs.Rounds.{AreLawful, rounds_call};
 ghost use Rattle.ih_words.specs.Solve.{solve_call};
-ghost use Rattle.ih_top.specs.Answers.{Answers, HasFileCause};
-ghost use Rattle.ih_top.specs.Inputs.{solve_reading, HasInputs};
+ghost use Rattle.ih_top.specs.Answers.{Answers, HasShelfCause};
 ghost use Rattle.ih_top.specs.Outputs.{plain_base};
 ghost use Rattle.ih_top.specs.Rounds.{IsRoundsOutput, RoundsEnds};
 
@@ -14,8 +13,7 @@ use crate::inputs::{InputNames, Inputs, read_inputs};
 use crate::output::Output;
 use crate::rounds_output::make_rounds_output;
 use crate::starts::begin;
-use crate::texts::out_of_memory;
-use crate::writer::write_output;
+use crate::writer::write_made;
 use ih_shelf::{Gate, Shelf};
 use ih_words::Rounds;
 use std::alloc::{AllocError, Global};
@@ -31,7 +29,7 @@ fn search_in_rounds<R: Threads + Wait + Sync, G: Gate>(
     inputs: Inputs,
     gate: &G,
 ) -> Result<Output, AllocError>
-    requires plan { IsPlanOf inputs.inst.draft inputs.plan }
+    requires plan { IsPlanOf inputs.inst.value.draft inputs.plan }
     requires lawful { AreLawful call.now }
     ensures { IfOk result (IsRoundsOutput (plain_base (solve_call call.now.search) inputs) call.now.rounds) }
 {
@@ -47,33 +45,12 @@ fn search_in_rounds<R: Threads + Wait + Sync, G: Gate>(
     make_rounds_output(
         rt,
         alloc,
-        &begun.inst,
+        &*begun.inst,
         &begun.plan,
         &search.options,
         call.rounds,
         gate,
     )
-}
-
-fn rounds_from_inputs<R: Files + Threads + Wait + Sync, S: Shelf, G: Gate>(
-    rt: &R,
-    alloc: Global,
-    call: &Rounds<'_>,
-    inputs: Inputs,
-    shelf: &mut S,
-    gate: &G,
-) -> Answer
-    requires inputs { HasInputs (S.names shelf.old) (solve_reading (solve_call call.now.search)) inputs.inst.draft inputs.plan }
-    requires plan { IsPlanOf inputs.inst.draft inputs.plan }
-    requires differ { call.now.search.out.now ≢ call.now.search.journal.now }
-    requires lawful { AreLawful call.now }
-    ensures ends { Answers (RoundsEnds (rounds_call call.now) (S.names shelf.old) (S.names shelf.new)) result }
-    ensures cause { HasFileCause (S.read_faults shelf.old) (S.read_faults shelf.new) (S.write_faults shelf.old) (S.write_faults shelf.new) result.status }
-{
-    match search_in_rounds(rt, alloc, call, inputs, gate) {
-        Ok(output) => write_output(rt, alloc, &call.search, output, shelf),
-        Err(_) => out_of_memory(alloc),
-    }
 }
 
 /// Reads the instance and the start, searches in rounds, and writes their journals and the solution of the best of all.
@@ -87,14 +64,17 @@ pub fn run_rounds<R: Files + Threads + Wait + Sync, S: Shelf, G: Gate>(
     requires differ { call.now.search.out.now ≢ call.now.search.journal.now }
     requires lawful { AreLawful call.now }
     ensures ends { Answers (RoundsEnds (rounds_call call.now) (S.names shelf.old) (S.names shelf.new)) result }
-    ensures cause { HasFileCause (S.read_faults shelf.old) (S.read_faults shelf.new) (S.write_faults shelf.old) (S.write_faults shelf.new) result.status }
+    ensures cause { HasShelfCause S.Shelf shelf.old shelf.new result.status }
 {
     let names = InputNames {
         instance: call.search.instance,
         solution: call.search.start.file,
     };
     match read_inputs(rt, alloc, &names, shelf) {
-        Ok(inputs) => rounds_from_inputs(rt, alloc, call, inputs, shelf, gate),
+        Ok(inputs) => {
+            let made = search_in_rounds(rt, alloc, call, inputs, gate);
+            write_made(rt, alloc, &call.search, made, shelf)
+        }
         Err(answer) => answer,
     }
 }

@@ -50,7 +50,8 @@ fn round_report(
     entries: u32,
 ) -> Result<Vec<u8>, AllocError>
     requires { IsPlanOf inst.now.draft plan.now }
-    ensures { IfOk result (λ text. text.items ≡ round_report round place entries inst.now.draft.weights (bill_of inst.now.draft plan.now)) }
+    ensures { IfOk result (λ text. text.items
+        ≡ round_report round place entries inst.now.draft.weights (bill_of inst.now.draft plan.now)) }
 {
     let mut text = round_line(alloc, round, place, entries)?.into_bytes();
     let lines = report(alloc, inst, &bill(inst, plan))?;
@@ -92,7 +93,8 @@ pub fn search_at_desk<R: Threads + Wait + Sync, G: Gate>(
 ) -> Result<Vec<Entry>, AllocError>
     requires start { IsPlanOf inst.now.draft start.now }
     requires lawful { IsLawful options.now }
-    ensures { IfOk result (λ v. IsFull (base_with inst.entry.now.draft start.entry.now options.entry.now 0) 1 (tries v.items)) }
+    ensures { IfOk result
+        (λ v. IsFull (base_with inst.entry.now.draft start.entry.now options.entry.now 0) 1 (tries v.items)) }
 {
     let given = Given {
         inst,
@@ -106,8 +108,8 @@ pub fn search_at_desk<R: Threads + Wait + Sync, G: Gate>(
     Ok(entries)
 }
 
-/// Searches so many times at a desk, each time from the best of the search before, and makes the journals, and the solution
-/// and the report of the best of all.
+/// Searches so many times at a desk, each time from the best of the search before, and makes the journals, and the
+/// solution and the report of the best of all.
 pub fn make_rounds_output<R: Threads + Wait + Sync, G: Gate>(
     rt: &R,
     alloc: Global,
@@ -131,7 +133,8 @@ pub fn make_rounds_output<R: Threads + Wait + Sync, G: Gate>(
             AllocError,
         >
             requires { IsPlanOf inst.now.draft start.now × IsLawful options.now }
-            ensures { IfOk result (λ v. IsFull (base_with inst.entry.now.draft start.entry.now options.entry.now 0) 1 (tries v.items)) }
+            ensures { IfOk result
+                (λ v. IsFull (base_with inst.entry.now.draft start.entry.now options.entry.now 0) 1 (tries v.items)) }
         { search_at_desk(rt, alloc, inst, start, options, gate) },
     };
     let mut journal = Vec::new(alloc);

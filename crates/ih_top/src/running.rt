@@ -28,8 +28,8 @@ pub fn run<R: Files + Print + Threads + Wait + Sync, S: Shelf, O: Sink, G: Gate>
     out: &mut O,
     gate: &G,
 ) -> Status
-    // What the files then hold, and the text that was put out, by the call that the words name and the status. Where the shelf or
-    // the sink doesn't tell what it holds, nothing is claimed of that.
+    // What the files then hold, and the text that was put out, by the call that the words name and the status. Where
+    // the shelf or the sink does not tell what it holds, nothing is claimed of that.
     ensures leaves { Leaves (call_of (map string_bytes words.now)) (S.names shelf.old) (S.names shelf.new)
         (Gained result (O.text out.old) (O.text out.new) (O.faults out.old) (O.faults out.new))
         (GainedPart (O.text out.old) (O.text out.new) (O.wants out.old) (O.wants out.new)) result }
@@ -38,8 +38,8 @@ pub fn run<R: Files + Print + Threads + Wait + Sync, S: Shelf, O: Sink, G: Gate>
     ensures cause { HasCause (S.read_faults shelf.old) (S.read_faults shelf.new) (S.write_faults shelf.old)
         (S.write_faults shelf.new) (O.faults out.old) (O.faults out.new) result }
 
-    // Where the words are lawful, the files are accepted and no count rose, a search ends with its best or with none, a check with
-    // its report and an advise with its advice, or memory runs out.
+    // Where the words are lawful, the files are accepted and no count rose, a search ends with its best or with none, a
+    // check with its report and an advise with its advice, or memory runs out.
     ensures complete { IsComplete (call_of (map string_bytes words.now)) (S.names shelf.old)
         (Rose (S.read_faults shelf.old) (S.read_faults shelf.new))
         (Rose (S.write_faults shelf.old) (S.write_faults shelf.new))

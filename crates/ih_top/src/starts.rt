@@ -11,8 +11,8 @@ use std::alloc::{AllocError, Global};
 use std::sync::Wait;
 use std::thread::Threads;
 
-/// The inputs with the timetable that a search starts from: their own, or its greedy fill. `hard` is the weight of a broken
-/// hard rule in a score, `workers` how many fill side by side.
+/// The inputs with the timetable that a search starts from: their own, or its greedy fill. `hard` is the weight of a
+/// broken hard rule in a score, `workers` how many fill side by side.
 pub fn begin<R: Threads + Wait + Sync>(
     rt: &R,
     alloc: Global,
@@ -21,18 +21,18 @@ pub fn begin<R: Threads + Wait + Sync>(
     hard: u32,
     workers: u32,
 ) -> Result<Inputs, AllocError>
-    requires plan { IsPlanOf inputs.inst.draft inputs.plan }
+    requires plan { IsPlanOf inputs.inst.value.draft inputs.plan }
     requires hard { hard ≤ 1000000 }
     requires some { 0 < workers }
     requires few { workers ≤ 64 }
-    ensures instance { IfOk result (λ i. i.inst.draft ≡ inputs.inst.draft) }
-    ensures start { IfOk result (λ i. i.plan ≡ started is_filled hard inputs.inst.draft inputs.plan) }
-    ensures plan { IfOk result (λ i. IsPlanOf i.inst.draft i.plan) }
+    ensures instance { IfOk result (λ i. i.inst.value.draft ≡ inputs.inst.value.draft) }
+    ensures start { IfOk result (λ i. i.plan ≡ started is_filled hard inputs.inst.value.draft inputs.plan) }
+    ensures plan { IfOk result (λ i. IsPlanOf i.inst.value.draft i.plan) }
 {
     if !is_filled {
         return Ok(inputs);
     }
     let Inputs { inst, plan } = inputs;
-    let plan = par_fill(rt, alloc, &inst, hard, &plan, workers, &OpenGate)?;
+    let plan = par_fill(rt, alloc, &*inst, hard, &plan, workers, &OpenGate)?;
     Ok(Inputs { inst, plan })
 }

@@ -1,7 +1,8 @@
 //! The answers that carry a text of one line.
 
 ghost use Rattle.std.specs.Prelude.{◌≡◌, Some, string_bytes};
-ghost use Rattle.ih_top.specs.Texts.{none_found_text, instance_refused_text, journal_refused_text, reason_text, solution_refused_text, too_long_text, unread_text, unwritten_text, usage_text};
+ghost use Rattle.ih_top.specs.Texts.{instance_refused_text, journal_refused_text, reason_text, solution_refused_text};
+ghost use Rattle.ih_top.specs.Texts.{none_found_text, too_long_text, unread_text, unwritten_text, usage_text};
 ghost use Rattle.ih_top.specs.Answers.{IsSaid, IsSaidOf, IsUnwritten};
 
 use crate::answer::Answer;

@@ -1,21 +1,21 @@
 //! What a search made, written: the journal, then the solution of the best.
 
-ghost use Rattle.std.specs.Prelude.{◌≢◌, ◌≤◌};
+ghost use Rattle.std.specs.Prelude.{◌≢◌};
 ghost use Rattle.ih_words.specs.Solve.{solve_call};
-ghost use Rattle.ih_top.specs.Answers.{Answers, HasFileCause};
-ghost use Rattle.ih_top.specs.Outputs.{OutputEnds};
+ghost use Rattle.ih_top.specs.Answers.{Answers, HasShelfCause};
+ghost use Rattle.ih_top.specs.Outputs.{MadeEnds, OutputEnds};
 
 use crate::answer::Answer;
 use crate::output::Output;
 use crate::status::{Role, Status};
-use crate::texts::{none_found, unwritten};
+use crate::texts::{none_found, out_of_memory, unwritten};
 use ih_shelf::Shelf;
 use ih_words::Solve;
-use std::alloc::Global;
+use std::alloc::{AllocError, Global};
 use std::rt::Files;
 
-/// Writes the journal, then the solution of the best where there is one.
-pub fn write_output<R: Files, S: Shelf>(
+// Writes the journal, then the solution of the best where there is one.
+fn write_output<R: Files, S: Shelf>(
     rt: &R,
     alloc: Global,
     call: &Solve<'_>,
@@ -24,7 +24,7 @@ pub fn write_output<R: Files, S: Shelf>(
 ) -> Answer
     requires { call.now.out.now ≢ call.now.journal.now }
     ensures ends { Answers (OutputEnds (solve_call call.now) output (S.names shelf.old) (S.names shelf.new)) result }
-    ensures cause { HasFileCause (S.read_faults shelf.old) (S.read_faults shelf.new) (S.write_faults shelf.old) (S.write_faults shelf.new) result.status }
+    ensures cause { HasShelfCause S.Shelf shelf.old shelf.new result.status }
 {
     let Output { journal, best } = output;
     if let Err(error) = shelf.write(rt, call.journal, journal.as_slice()) {
@@ -39,5 +39,23 @@ pub fn write_output<R: Files, S: Shelf>(
     Answer {
         status: Status::Done,
         text: best.text,
+    }
+}
+
+/// Writes what a search made, or says that memory ran out as it was made.
+pub fn write_made<R: Files, S: Shelf>(
+    rt: &R,
+    alloc: Global,
+    call: &Solve<'_>,
+    made: Result<Output, AllocError>,
+    shelf: &mut S,
+) -> Answer
+    requires { call.now.out.now ≢ call.now.journal.now }
+    ensures ends { Answers (MadeEnds (solve_call call.now) made (S.names shelf.old) (S.names shelf.new)) result }
+    ensures cause { HasShelfCause S.Shelf shelf.old shelf.new result.status }
+{
+    match made {
+        Ok(output) => write_output(rt, alloc, call, output, shelf),
+        Err(_) => out_of_memory(alloc),
     }
 }

@@ -1,5 +1,5 @@
-use Rattle.ih_top.specs.Chaining.{of_chains}
-use Rattle.ih_top.specs.Solving.{of_moves}
+use Rattle.ih_top.specs.Chain.{of_chains}
+use Rattle.ih_top.specs.Solve.{of_moves}
 use Rattle.ih_top.proofs.Alike.{chains-telling, demos-same, moves-telling, rounds-alike, searches-alike, searches-same}
 use Rattle.ih_top.proofs.EndingAlike.{searches-end-alike}
 use Rattle.ih_top.proofs.RoundsAlike.{rounds-end-alike}

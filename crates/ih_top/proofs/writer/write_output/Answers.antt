@@ -3,7 +3,7 @@ use Rattle.ih_words.specs.Solve.{SolveCall, solve_call}
 use Rattle.ih_top.specs.declared.status.Status.TheVariants.{NoneFound, WriteFault}
 use Rattle.ih_top.specs.declared.status.Role.TheVariants.{Journal, Out}
 use Rattle.ih_top.specs.Outputs.{OutputEnds}
-use Rattle.ih_top.specs.Solving.{BeginsJournal, BeginsSolution, WritesBoth, WritesJournal}
+use Rattle.ih_top.specs.Writes.{BeginsJournal, BeginsSolution, WritesBoth, WritesJournal}
 use Rattle.ih_shelf.specs.Outside.{IsWritten, MayBeWritten}
 use Rattle.ih_top.specs.Texts.{none_found_text, unwritten_text}
 use Rattle.ih_top.proofs.Saying.{said-answer, unwritten-answer}

@@ -1,0 +1,139 @@
+-- Files that are accepted, and journals: with no fault and memory enough a call comes past them, and finds one thing in them.
+use Rattle.std.proofs.Common.{◌≡◌, ℕ, refl, sym, ◌∙◌, ap, ap₂, subst, arith, inl, inr, List, length, Option, Some, None}
+use Rattle.std.specs.Prelude.{Result, Ok, Err, IfSome}
+use Rattle.ih_tables.specs.declared.drafts.Draft.{Draft}
+use Rattle.ih_tables.specs.declared.refusals.Refusal.{Refusal}
+use Rattle.ih_plan.specs.Timetable.{Timetable}
+use Rattle.ih_journal.specs.declared.entries.Entry.{Entry}
+use Rattle.ih_journal.specs.declared.refusals.JournalRefusal.{JournalRefusal}
+use Rattle.ih_journal.specs.declared.settings.Options.{Options}
+use Rattle.ih_journal.specs.Base.{Base}
+use Rattle.ih_journal.specs.Tried.{tries}
+use Rattle.ih_journal.specs.Legal.{IsFull}
+use Rattle.ih_journal.specs.Texts.{heading, lines_from}
+use Rattle.ih_journal.proofs.HeadTexts.{heading_lacks, headings_differ, lawful_short}
+use Rattle.ih_instance.specs.Instance.{instance}
+use Rattle.ih_solution.specs.Reading.{plan_in}
+use Rattle.ih_words.specs.Replay.{ReplayCall}
+use Rattle.ih_shelf.specs.Outside.{Names, bytes_at}
+use Rattle.ih_top.specs.declared.limits.TheConstants.{MAX_JOURNAL}
+use Rattle.ih_top.specs.declared.status.Status.{Status}
+use Rattle.ih_top.specs.declared.status.Status.TheVariants.{Done, Usage, ReadFault, InstanceRefused, StartRefused, NoneFound, WriteFault, OutOfMemory, JournalRefused, Infeasible, TooLong}
+use Rattle.ih_top.specs.declared.status.Role.TheVariants.{Instance, Solution, Journal, Out}
+use Rattle.ih_top.specs.Inputs.{Reading, EndsUnread, HasInputs, HasPlan, HasSolution, IsLongerThan, IsNext, replay_reading}
+use Rattle.ih_top.specs.Starts.{started}
+use Rattle.ih_top.specs.JournalEnds.{IsRefused}
+use Rattle.ih_top.specs.JournalFiles.{EndsUnreadJournal, HasRead, JournalRead}
+use Rattle.ih_top.specs.JournalHeading.{IsHeadedBy, IsHeadless}
+use Rattle.ih_top.specs.Replay.{IsRefusedJournal}
+use Rattle.ih_top.specs.Laws.{HasNoFault}
+use Rattle.ih_top.proofs.FirstLines.{first-apart}
+
+-- ---- files that are accepted
+
+not-both : {A : Type 0} (r : Result A Refusal) (x : A) (e : Refusal) → r ≡ Ok x → r ≡ Err e → ⊥
+not-both r x e ok err = let clash : Ok x ≡ Err e = sym ok ∙ err in cc
+
+module _ (files : Names) (r : Reading) (I : Draft) (P : Timetable) (has : HasInputs (Some files) r I P) where
+  -- a file for the timetable gives it
+  given : (J : Draft) (name : List ℕ) → IsNext (Some files) r J name → HasSolution name J P files
+  given J name next =
+      let same : Ok I ≡ Ok J = sym has.instance.read ∙ next.instance.read in
+      let here : I ≡ J = cc in
+      subst (λ (X : Draft). HasSolution name X P files) here (subst (λ o. HasPlan (Some files) o I P) next.named has.plan)
+
+  -- with no fault, only lack of memory stops the reading
+  pub accepted : (status : Status) (text : List ℕ) → HasNoFault status → EndsUnread (Some files) r status text → status ≡ OutOfMemory
+  accepted Done text calm h = absurd h
+  accepted Usage text calm h = absurd h
+  accepted (ReadFault role) text calm h = absurd calm
+  accepted (InstanceRefused e) text calm h = absurd (not-both (instance (bytes_at files r.instance)) I e has.instance.read h.0.first)
+  accepted (StartRefused e) text calm (J, name, next, refused, said) =
+      absurd (not-both (plan_in J (bytes_at files name)) P e (given J name next).read refused.first)
+  accepted NoneFound text calm h = absurd h
+  accepted (WriteFault role) text calm h = absurd calm
+  accepted OutOfMemory text calm h = refl
+  accepted (JournalRefused e) text calm h = absurd h
+  accepted Infeasible text calm h = absurd h
+  accepted (TooLong Instance) text calm h = absurd (let short = has.instance.short in let long = h.0 in omega arith)
+  accepted (TooLong Solution) text calm (J, name, next, long, said) = absurd (let short = (given J name next).short in omega arith)
+  accepted (TooLong Journal) text calm h = absurd h
+  accepted (TooLong Out) text calm h = absurd h
+
+-- ---- journals that are accepted
+
+-- a timetable is read from its file in one way
+pub same-plan : (files : Names) (o : Option (List ℕ)) (I : Draft) (P Q : Timetable) → HasPlan (Some files) o I P → HasPlan (Some files) o I Q → P ≡ Q
+same-plan files None I P Q first second = first ∙ sym second
+same-plan files (Some name) I P Q first second = let same : Ok P ≡ Ok Q = sym first.read ∙ second.read in cc
+
+pub base-same : (b c : Base) → b.instance ≡ c.instance → b.start ≡ c.start → b.options ≡ c.options → b.freeze ≡ c.freeze → b ≡ c
+base-same b c i s o f =
+    ap (λ (t : Draft × Timetable × Options × ℕ). let base : Base = record { instance = t.0; start = t.1; options = t.2; freeze = t.3 } in base)
+    (let all : (b.instance, b.start, b.options, b.freeze) ≡ (c.instance, c.start, c.options, c.freeze) = rw (i, s, o, f) refl in all)
+
+module _ (files : Names) (r : ReplayCall) (x : JournalRead) (has : HasRead (Some files) r x) where
+  same-instance : (y : JournalRead) → HasRead (Some files) r y → y.instance ≡ x.instance
+  same-instance y other = let same : Ok y.instance ≡ Ok x.instance = sym other.inputs.instance.read ∙ has.inputs.instance.read in cc
+
+  same-start : (y : JournalRead) → HasRead (Some files) r y → y.plan ≡ x.plan
+  same-start y other = same-plan files r.start.file x.instance y.plan x.plan
+      (subst (λ (J : Draft). HasPlan (Some files) r.start.file J y.plan) (same-instance y other) other.inputs.plan) has.inputs.plan
+
+  pub same-bytes : (y : JournalRead) → HasRead (Some files) r y → y.bytes ≡ x.bytes
+  same-bytes y other = sym other.journal.held ∙ has.journal.held
+
+  module _ (b : Base) (lines : List ℕ) (headed : IsHeadedBy r.start x b lines) where
+    -- a journal with a heading isn't refused for it
+    pub not-headless : (e : JournalRefusal) → IsRefused IsHeadless r (Some files) e → ⊥
+    not-headless e h = h.why.none b.options lines headed.lawful headed.seed (same-bytes h.read h.given ∙ headed.joins)
+
+    -- the heading and the lines are found in one way
+    pub same-search : (y : JournalRead) (c : Base) (more : List ℕ) → HasRead (Some files) r y → IsHeadedBy r.start y c more → (c ≡ b) × (more ≡ lines)
+    same-search y c more other found =
+        let short_b = lawful_short b.options headed.lawful headed.seed in
+        let short_c = lawful_short c.options found.lawful found.seed in
+        let cut = first-apart (heading c.options) (heading b.options) more lines (heading_lacks c.options short_c) (heading_lacks b.options short_b)
+        (sym found.joins ∙ (same-bytes y other ∙ headed.joins)) in
+        let options = headings_differ c.options b.options short_c short_b cut.0 in
+        let instance = found.started.instance ∙ (same-instance y other ∙ sym headed.started.instance) in
+        let start : c.start ≡ b.start = found.started.start
+        ∙ (ap₂ (λ (o : Options) (t : Draft × Timetable). started r.start.fill o.hard t.0 t.1) options
+        (let both : (y.instance, y.plan) ≡ (x.instance, x.plan) = rw (same-instance y other, same-start y other) refl in both)
+        ∙ sym headed.started.start) in
+        (base-same c b instance start options (found.started.freeze ∙ sym headed.started.freeze), cut.1)
+
+  -- the journal of a full history isn't refused
+  pub not-refused : (b : Base) (H : List Entry) → IsHeadedBy r.start x b (lines_from b.options 0 H) → IsFull b 1 (tries H)
+      → (e : JournalRefusal) → IsRefused (IsRefusedJournal r.start) r (Some files) e → ⊥
+  not-refused b H headed full e h = elim h.why [
+    | inl headless ↦ not-headless b (lines_from b.options 0 H) headed e (record { read = h.read; given = h.given; why = headless })
+    | inr line ↦
+        let same = same-search b (lines_from b.options 0 H) headed h.read line.base line.bytes h.given line.headed in
+        line.none H (subst (λ (c : Base). IsFull c 1 (tries H)) (sym same.0) full)
+        (same.1 ∙ ap (λ (c : Base). lines_from c.options 0 H) (sym same.0))
+  ]
+
+  start-accepted : (status : Status) (text : List ℕ) → HasNoFault status → EndsUnread (Some files) (replay_reading r) status text → status ≡ OutOfMemory
+  start-accepted = accepted files (replay_reading r) x.instance x.plan has.inputs
+
+  -- nor is it too long
+  not-long : IfSome (Some files) (IsLongerThan MAX_JOURNAL r.journal) → ⊥
+  not-long long = let short = has.journal.short in let held = ap length has.journal.held in omega (arith, short, long, held)
+
+  -- with no fault, only lack of memory stops the reading
+  pub journal-accepted : (status : Status) (text : List ℕ) → HasNoFault status → EndsUnreadJournal (Some files) r status text → status ≡ OutOfMemory
+  journal-accepted Done text calm h = absurd h
+  journal-accepted Usage text calm h = absurd h
+  journal-accepted (ReadFault role) text calm h = absurd calm
+  journal-accepted (InstanceRefused e) text calm h = start-accepted (InstanceRefused e) text calm h
+  journal-accepted (StartRefused e) text calm h = start-accepted (StartRefused e) text calm h
+  journal-accepted NoneFound text calm h = absurd h
+  journal-accepted (WriteFault role) text calm h = absurd calm
+  journal-accepted OutOfMemory text calm h = refl
+  journal-accepted (JournalRefused e) text calm h = absurd h
+  journal-accepted Infeasible text calm h = absurd h
+  journal-accepted (TooLong Instance) text calm h = start-accepted (TooLong Instance) text calm h
+  journal-accepted (TooLong Solution) text calm h = start-accepted (TooLong Solution) text calm h
+  journal-accepted (TooLong Journal) text calm h = absurd (not-long h.1)
+  journal-accepted (TooLong Out) text calm h = absurd h

@@ -1,0 +1,74 @@
+-- What a run of chains makes to be written and said.
+use Rattle.std.proofs.Common.{◌≡◌, ◌∙◌, ℕ, ◌<◌, ◌^◌, refl, sym, ap, ap₂, arith, false, true, length, List, Option, Some, None}
+use Rattle.std.specs.Prelude.{ℤ}
+use Rattle.std.proofs.lemmas.Bool.{le-ltb}
+use Rattle.std.proofs.lemmas.List.{length-map}
+use Rattle.ih_plan.specs.declared.moves.Placement.{Placement}
+use Rattle.ih_plan.specs.BillOf.{bill_of}
+use Rattle.ih_plan.specs.Timetable.{Timetable, stay_of}
+use Rattle.ih_journal.specs.Base.{Base}
+use Rattle.ih_journal.specs.Best.{BestIs}
+use Rattle.ih_journal.specs.Frozen.{AgreesBefore, is_before}
+use Rattle.ih_journal.specs.History.{plan_at}
+use Rattle.ih_cellbook.specs.Keeping.{IsBase}
+use Rattle.ih_cellbook.proofs.EntryLimits.{legal-few}
+use Rattle.ih_chain.specs.declared.entries.ChainEntry.{ChainEntry}
+use Rattle.ih_chain.specs.Entries.{chain_tried, chain_tries}
+use Rattle.ih_chain.specs.Runs.{IsRunOf, Ran, best_plan}
+use Rattle.ih_solution.specs.Solution.{solution}
+use Rattle.ih_top.specs.declared.output.BestOutput.{BestOutput}
+use Rattle.ih_top.specs.Chain.{IsBestOfRun}
+use Rattle.ih_top.specs.Outputs.{HasBestOutput}
+use Rattle.ih_top.specs.Texts.{found_text}
+
+-- ---- nothing lies before day 0
+
+none-before : (stay : Option Placement) → is_before 0 stay ≡ false
+none-before None = refl
+none-before (Some at) = le-ltb at.day.0 0 (omega arith)
+
+agrees-free : (b : Base) (P : Timetable) → b.freeze ≡ 0 → AgreesBefore b P
+agrees-free b P free = record {
+  admitted = λ p before.
+      let no : false ≡ true = sym (none-before (stay_of b.start p)) ∙ ap (λ n. is_before n (stay_of b.start p)) (sym free) ∙ before in
+      absurd cc;
+  others = λ p before. ap (λ n. is_before n (stay_of P p)) free ∙ none-before (stay_of P p);
+  nurses = λ r k room shift early. absurd (omega (arith, early, free));
+}
+
+pub run-agrees : (b : Base) (H : List ChainEntry) → b.freeze ≡ 0 → (k : ℕ) → AgreesBefore b (plan_at b (chain_tries H) k)
+run-agrees b H free k = agrees-free b (plan_at b (chain_tries H) k) free
+
+-- ---- a run has few entries
+
+pub run-few : (b : Base) (each : ℕ) (r : Ran) → IsBase b → IsRunOf b each r → length r.entries < 2 ^ 31
+run-few b each r base is =
+    let few = (legal-few b (chain_tries r.entries) (λ k e there. (is.full.legal k e there).entry)).most in
+    let most = base.lawful.entries in
+    let len = length-map r.entries chain_tried in
+    omega (arith, few, most, len)
+
+-- ---- its best
+
+pub run-best : (b : Base) (each : ℕ) (r : Ran) (best : Option BestOutput) → IsRunOf b each r
+    → IsBestOfRun b.instance r.best r.plan (length r.entries) best → HasBestOutput b (chain_tries r.entries) best
+run-best b each r best is said = by_case r.best r.plan best is.best is.plan said
+  where
+    by_case : (found : Option (ℕ × ℤ)) (plan : Option Timetable) (o : Option BestOutput) → BestIs b (chain_tries r.entries) found
+        → plan ≡ best_plan b r.entries found → IsBestOfRun b.instance found plan (length r.entries) o
+        → HasBestOutput b (chain_tries r.entries) o
+    by_case None plan None none same said = none
+    by_case None plan (Some o) none same said = absurd said
+    by_case (Some k) None o best same said =
+        absurd (let no : None ≡ Some (plan_at b (chain_tries r.entries) k.0) = same in cc)
+    by_case (Some k) (Some P) None best same said = absurd said
+    by_case (Some k) (Some P) (Some o) best same said =
+        let there : Some P ≡ Some (plan_at b (chain_tries r.entries) k.0) = same in
+        let plan : P ≡ plan_at b (chain_tries r.entries) k.0 = cc in
+        record {
+          place = k.0;
+          best = best.0;
+          solution = said.0 ∙ ap (solution b.instance) plan;
+          text = said.1
+              ∙ ap₂ (λ n Q. found_text k.0 n b.instance.weights (bill_of b.instance Q)) (sym (length-map r.entries chain_tried)) plan;
+        }

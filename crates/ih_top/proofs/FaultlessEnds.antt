@@ -1,0 +1,88 @@
+-- How calls end in which no fault came.
+use Rattle.std.proofs.Common.{◌≡◌, ℕ, refl, inl, inr, List, Option}
+use Rattle.std.specs.Prelude.{◌⊎◌}
+use Rattle.ih_journal.specs.declared.entries.Entry.{Entry}
+use Rattle.ih_journal.specs.declared.refusals.JournalRefusal.{JournalRefusal}
+use Rattle.ih_journal.specs.Base.{Base}
+use Rattle.ih_journal.specs.Tried.{Tried, tries}
+use Rattle.ih_words.specs.Replay.{ReplayCall}
+use Rattle.ih_words.specs.Rounds.{RoundsCall}
+use Rattle.ih_words.specs.Solve.{SolveCall}
+use Rattle.ih_shelf.specs.Outside.{IsWritten, Names, Told}
+use Rattle.ih_top.specs.declared.status.Status.{Status}
+use Rattle.ih_top.specs.declared.status.Status.TheVariants.{Done, Usage, ReadFault, InstanceRefused, StartRefused, NoneFound, WriteFault, OutOfMemory, JournalRefused, Infeasible, TooLong}
+use Rattle.ih_top.specs.Inputs.{EndsUnread, solve_reading}
+use Rattle.ih_top.specs.JournalEnds.{HasBest, HasNoBest, IsRefused, JournalEnds}
+use Rattle.ih_top.specs.JournalFiles.{EndsUnreadJournal, JournalRead}
+use Rattle.ih_top.specs.Laws.{HasNoFault}
+use Rattle.ih_top.specs.Rounds.{AreDone, HaveFoundNone, RoundsEnds}
+use Rattle.ih_top.specs.Searches.{HasFoundNone, IsDone, Kind, SearchEnds}
+use Rattle.ih_top.specs.Texts.{journal_refused_text, none_found_text}
+use Rattle.ih_top.specs.Writes.{Unchanged}
+
+-- memory ran out, or it is done, or it found none, or it came to something else
+abbrev pub IsFaultless : Type 0 → Type 0 → Type 0 → Status → Type 0
+IsFaultless done none other status = (status ≡ OutOfMemory) ⊎ ((status ≡ Done) × done) ⊎ ((status ≡ NoneFound) × none) ⊎ other
+
+module _ {X : Type 0} (kind : Kind X) (s : SolveCall) (old new : Option Names) where
+  pub search-faultless : (status : Status) (text : List ℕ) → HasNoFault status → SearchEnds kind s old new status text
+      → IsFaultless (IsDone kind s old new text) (HasFoundNone kind s old new × (text ≡ none_found_text))
+      (Told Unchanged old new × EndsUnread old (solve_reading s) status text) status
+  search-faultless Done text calm h = inr (inl (refl, h))
+  search-faultless Usage text calm h = inr (inr (inr h))
+  search-faultless (ReadFault role) text calm h = absurd calm
+  search-faultless (InstanceRefused e) text calm h = inr (inr (inr h))
+  search-faultless (StartRefused e) text calm h = inr (inr (inr h))
+  search-faultless NoneFound text calm h = inr (inr (inl (refl, h)))
+  search-faultless (WriteFault role) text calm h = absurd calm
+  search-faultless OutOfMemory text calm h = inl refl
+  search-faultless (JournalRefused e) text calm h = inr (inr (inr h))
+  search-faultless Infeasible text calm h = inr (inr (inr h))
+  search-faultless (TooLong role) text calm h = inr (inr (inr h))
+
+module _ (r : RoundsCall) (old new : Option Names) where
+  pub rounds-faultless : (status : Status) (text : List ℕ) → HasNoFault status → RoundsEnds r old new status text
+      → IsFaultless (AreDone r old new text) (HaveFoundNone r old new × (text ≡ none_found_text))
+      (Told Unchanged old new × EndsUnread old (solve_reading r.search) status text) status
+  rounds-faultless Done text calm h = inr (inl (refl, h))
+  rounds-faultless Usage text calm h = inr (inr (inr h))
+  rounds-faultless (ReadFault role) text calm h = absurd calm
+  rounds-faultless (InstanceRefused e) text calm h = inr (inr (inr h))
+  rounds-faultless (StartRefused e) text calm h = inr (inr (inr h))
+  rounds-faultless NoneFound text calm h = inr (inr (inl (refl, h)))
+  rounds-faultless (WriteFault role) text calm h = absurd calm
+  rounds-faultless OutOfMemory text calm h = inl refl
+  rounds-faultless (JournalRefused e) text calm h = inr (inr (inr h))
+  rounds-faultless Infeasible text calm h = inr (inr (inr h))
+  rounds-faultless (TooLong role) text calm h = inr (inr (inr h))
+
+-- ---- replay and salvage
+
+module _ (taken : JournalRead → Base → List Entry → Type 0) (refused : JournalRead → JournalRefusal → Type 0) (said : Base → List Tried → ℕ → List ℕ)
+    (r : ReplayCall) (old new : Option Names) where
+  -- the journal is refused
+  pub record IsJournalRefused (status : Status) (text : List ℕ) : Type 0 where
+    pub refusal : JournalRefusal
+    pub status_is : status ≡ JournalRefused refusal
+    pub why : IsRefused refused r old refusal
+    pub said_is : text ≡ journal_refused_text refusal
+
+  abbrev JournalFaultless : Status → List ℕ → Type 0
+  JournalFaultless status text =
+      IsFaultless ((d : HasBest taken IsWritten r old new) × (text ≡ said d.base (tries d.history) d.place)) (HasNoBest taken r old × (text ≡ none_found_text))
+      (IsJournalRefused status text ⊎ EndsUnreadJournal old r status text) status
+
+  pub journal-faultless : (status : Status) (text : List ℕ) → HasNoFault status → JournalEnds taken refused said r old new status text
+      → JournalFaultless status text
+  journal-faultless Done text calm h = inr (inl (refl, h))
+  journal-faultless Usage text calm h = inr (inr (inr (inr h.1)))
+  journal-faultless (ReadFault role) text calm h = absurd calm
+  journal-faultless (InstanceRefused e) text calm h = inr (inr (inr (inr h.1)))
+  journal-faultless (StartRefused e) text calm h = inr (inr (inr (inr h.1)))
+  journal-faultless NoneFound text calm (kept, none, told) = inr (inr (inl (refl, (none, told))))
+  journal-faultless (WriteFault role) text calm h = absurd calm
+  journal-faultless OutOfMemory text calm h = inl refl
+  journal-faultless (JournalRefused e) text calm (kept, why, told) =
+      inr (inr (inr (inl (record { refusal = e; status_is = refl; why = why; said_is = told }))))
+  journal-faultless Infeasible text calm h = inr (inr (inr (inr h.1)))
+  journal-faultless (TooLong role) text calm h = inr (inr (inr (inr h.1)))

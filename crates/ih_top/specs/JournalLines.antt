@@ -1,0 +1,48 @@
+-- What a journal's bytes still tell, and why they are refused as a whole journal.
+use Rattle.std.specs.Prelude.{◌≡◌, ◌≢◌, ◌==◌, ℕ, ◌+◌, ◌⊎◌, false, List, [], ◌++◌, All, length}
+use Rattle.ih_journal.specs.declared.entries.Entry.{Entry}
+use Rattle.ih_journal.specs.declared.refusals.JournalRefusal.{JournalRefusal}
+use Rattle.ih_journal.specs.declared.refusals.Reason.{Reason}
+use Rattle.ih_journal.specs.declared.refusals.Reason.TheVariants.{Extra, Grammar, Early}
+use Rattle.ih_journal.specs.Base.{Base}
+use Rattle.ih_journal.specs.Tried.{tries}
+use Rattle.ih_journal.specs.Legal.{AreLegal, IsFull}
+use Rattle.ih_journal.specs.Texts.{ended, lines_from}
+use Rattle.ih_replay.specs.Refusals.{IsGoing, IsNextLine, IsRefusedFor}
+
+-- the bytes have no line feed
+abbrev pub HasNoFeed : List ℕ → Type 0
+HasNoFeed bytes = All (λ b. (b == 10) ≡ false) bytes
+
+-- the bytes begin with this line, and more stands behind its line feed
+pub record HasLine (bytes line more : List ℕ) : Type 0 where
+  pub joins : bytes ≡ ended line ++ more
+  pub first : HasNoFeed line
+
+-- H is the longest legal history whose lines the bytes begin with: the line that follows them isn't that of an entry
+-- that may come next
+pub record Begins (b : Base) (bytes : List ℕ) (H : List Entry) (rest : List ℕ) : Type 0 where
+  pub legal : AreLegal b 1 (tries H)
+  pub joins : bytes ≡ lines_from b.options 0 H ++ rest
+  pub longest : (line more : List ℕ) (e : Entry) → HasLine rest line more → IsNextLine b H line e → ⊥
+
+-- bytes without a line feed come too much where the history is full, and are no line else
+abbrev pub IsUnendedFor : Base → List Entry → Reason → Type 0
+IsUnendedFor b H Extra = IsFull b 1 (tries H)
+IsUnendedFor b H Grammar = (w : ℕ) × IsGoing b (tries H) w
+IsUnendedFor b H reason = ⊥
+
+-- why what follows the lines of H isn't as it ought to be: its first line is refused, or it has no line feed, or
+-- nothing is there
+abbrev pub IsRestRefused : Base → List Entry → List ℕ → Reason → Type 0
+IsRestRefused b H rest reason =
+    ((line : List ℕ) × (more : List ℕ) × HasLine rest line more × IsRefusedFor b H line reason)
+    ⊎ ((rest ≢ []) × HasNoFeed rest × IsUnendedFor b H reason)
+    ⊎ ((rest ≡ []) × (reason ≡ Early) × ((w : ℕ) × IsGoing b (tries H) w))
+
+-- the bytes are refused as the lines of a full history, at the line behind those of H; the heading is line 1
+pub record IsRefusedAt (b : Base) (bytes : List ℕ) (H : List Entry) (e : JournalRefusal) : Type 0 where
+  pub rest : List ℕ
+  pub begins : Begins b bytes H rest
+  pub line : e.line ≡ length H + 2
+  pub reason : IsRestRefused b H rest e.reason

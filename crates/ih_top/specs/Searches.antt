@@ -1,0 +1,110 @@
+-- How a call ends that makes one search: what it then has read and written, and what it had to say, by its status. What
+-- the shelf doesn't tell isn't claimed.
+use Rattle.std.specs.Prelude.{◌≡◌, ℕ, ◌<◌, ◌^◌, ◌⊎◌, List, map, Option, Some, None}
+use Rattle.ih_journal.specs.declared.settings.Options.{Options}
+use Rattle.ih_journal.specs.Base.{Base}
+use Rattle.ih_journal.specs.Tried.{Tried, tried}
+use Rattle.ih_journal.specs.Frozen.{AgreesBefore}
+use Rattle.ih_journal.specs.History.{plan_at}
+use Rattle.ih_journal.specs.Legal.{IsFull}
+use Rattle.ih_journal.specs.Best.{IsBest, HasNone}
+use Rattle.ih_journal.specs.Texts.{journal}
+use Rattle.ih_cellbook.specs.Keeping.{IsBase}
+use Rattle.ih_cellbook.specs.Legal.{AreExact}
+use Rattle.ih_solution.specs.Solution.{solution}
+use Rattle.ih_words.specs.Solve.{SolveCall}
+use Rattle.ih_shelf.specs.Outside.{Names, Told}
+use Rattle.ih_top.specs.declared.status.Status.{Status}
+use Rattle.ih_top.specs.declared.status.Status.TheVariants.{Done, NoneFound, WriteFault, OutOfMemory}
+use Rattle.ih_top.specs.declared.status.Role.TheVariants.{Journal, Out}
+use Rattle.ih_top.specs.Inputs.{solve_reading, EndsUnread}
+use Rattle.ih_top.specs.Starts.{HasStart}
+use Rattle.ih_top.specs.Texts.{none_found_text, memory_text, unwritten_text, done_text}
+use Rattle.ih_top.specs.Writes.{Unchanged, BeginsJournal, WritesJournal, BeginsSolution, WritesBoth}
+
+-- what the files and the words give a search
+pub record HasBase (files : Option Names) (s : SolveCall) (b : Base) : Type 0 where
+  pub start : HasStart files s.instance s.start b
+  pub options : b.options ≡ s.options
+
+-- How a search keeps what it tries: what an entry stands for, its journal, and how many moves an attempt has.
+pub record Kind (X : Type 0) : Type 0 where
+  pub tried : X → Tried
+  pub journal : Options → List X → List ℕ
+  pub each : ℕ
+
+-- what entries of a kind stand for
+abbrev pub told_by : {X : Type 0} → Kind X → List X → List Tried
+told_by kind H = map kind.tried H
+
+-- A full history over what the files and the words give. Each of its timetables agrees with the start on the choices
+-- before the freeze day, and each accepted price is the change of the bill at its own place.
+pub record IsSearch {X : Type 0} (kind : Kind X) (files : Option Names) (s : SolveCall) (b : Base)
+    (H : List X) : Type 0 where
+  pub base : HasBase files s b
+  -- the start is a timetable of the instance, and the options are lawful
+  pub given : IsBase b
+  pub seed : b.options.seed < 2 ^ 64
+  pub full : IsFull b kind.each (told_by kind H)
+  pub agrees : (k : ℕ) → AgreesBefore b (plan_at b (told_by kind H) k)
+  pub exact : AreExact b (told_by kind H)
+
+-- the solution file of the timetable at a place
+abbrev pub solution_at : Base → List Tried → ℕ → List ℕ
+solution_at b H k = solution b.instance (plan_at b H k)
+
+-- the journal of a full history is written or begun
+pub record HasBegun {X : Type 0} (kind : Kind X) (s : SolveCall) (old new : Option Names) : Type 0 where
+  pub base : Base
+  pub history : List X
+  pub search : IsSearch kind old s base history
+  pub written : Told (BeginsJournal s (kind.journal base.options history)) old new
+
+-- the journal of a full history is written, in which no timetable is feasible
+pub record HasFoundNone {X : Type 0} (kind : Kind X) (s : SolveCall) (old new : Option Names) : Type 0 where
+  pub base : Base
+  pub history : List X
+  pub search : IsSearch kind old s base history
+  pub none : HasNone base (told_by kind history)
+  pub written : Told (WritesJournal s (kind.journal base.options history)) old new
+
+-- the journal of a full history is written, and the solution of its first cheapest feasible timetable may be begun
+pub record HasFound {X : Type 0} (kind : Kind X) (s : SolveCall) (old new : Option Names) : Type 0 where
+  pub base : Base
+  pub history : List X
+  pub place : ℕ
+  pub search : IsSearch kind old s base history
+  pub best : IsBest base (told_by kind history) place
+  pub written : Told
+      (BeginsSolution s (kind.journal base.options history) (solution_at base (told_by kind history) place)) old new
+
+-- the journal of a full history and the solution of its first cheapest feasible timetable are written, and this is what
+-- is said of it
+pub record IsDone {X : Type 0} (kind : Kind X) (s : SolveCall) (old new : Option Names) (text : List ℕ) : Type 0 where
+  pub base : Base
+  pub history : List X
+  pub place : ℕ
+  pub search : IsSearch kind old s base history
+  pub best : IsBest base (told_by kind history) place
+  pub written : Told
+      (WritesBoth s (kind.journal base.options history) (solution_at base (told_by kind history) place)) old new
+  pub said : text ≡ done_text base (told_by kind history) place
+
+-- where memory ran out, the files are as far as the call had come
+abbrev pub IsSomewhere : {X : Type 0} → Kind X → SolveCall → Option Names → Option Names → Type 0
+IsSomewhere kind s old new = Told Unchanged old new ⊎ HasBegun kind s old new ⊎ HasFound kind s old new
+
+-- How a call ends that makes one search. Each case has the whole condition of its status. Where the shelf tells what it
+-- holds, no two of them hold of one call, but for faults and for lack of memory.
+abbrev pub SearchEnds : {X : Type 0} → Kind X → SolveCall → Option Names → Option Names → Status → List ℕ → Type 0
+-- the journal, the first cheapest feasible timetable and its report are out
+SearchEnds kind s old new Done text = IsDone kind s old new text
+-- the journal is out, and no timetable of its history is feasible
+SearchEnds kind s old new NoneFound text = HasFoundNone kind s old new × (text ≡ none_found_text)
+SearchEnds kind s old new (WriteFault (Some Journal)) text = HasBegun kind s old new × (text ≡ unwritten_text s.journal)
+SearchEnds kind s old new (WriteFault (Some Out)) text = HasFound kind s old new × (text ≡ unwritten_text s.out)
+-- all is done but that the text couldn't be put out
+SearchEnds kind s old new (WriteFault None) text = IsDone kind s old new text
+SearchEnds kind s old new OutOfMemory text = IsSomewhere kind s old new × (text ≡ memory_text)
+-- the files aren't as they ought to be
+SearchEnds kind s old new status text = Told Unchanged old new × EndsUnread old (solve_reading s) status text

@@ -1,0 +1,63 @@
+//! What a journal begins with: the heading, whose options say what search it is of.
+
+ghost use Rattle.std.specs.Prelude.{◌≡◌, ◌<◌, ◌^◌, ◌++◌, IfNone, IfOk, IfSome};
+ghost use Rattle.ih_plan.specs.Timetable.{IsPlanOf};
+ghost use Rattle.ih_journal.specs.Settings.{IsLawful};
+ghost use Rattle.ih_journal.specs.Texts.{ended, heading};
+ghost use Rattle.ih_words.specs.Start.{start_call};
+ghost use Rattle.ih_top.specs.JournalFiles.{read_from};
+ghost use Rattle.ih_top.specs.JournalHeading.{HasNoHeading, IsBegun};
+
+use crate::inputs::Inputs;
+use crate::journal_lines::first_line;
+use crate::starts::begin;
+use ih_journal::{Options, parse_head};
+use ih_words::Start;
+use std::alloc::{AllocError, Global};
+use std::sync::Wait;
+use std::thread::Threads;
+
+/// A journal whose heading was read.
+#[derive(Drop)]
+pub struct Headed<'a> {
+    /// What its search starts from.
+    pub begun: Inputs,
+    pub options: Options,
+    /// The bytes behind the heading.
+    pub lines: &'a [u8],
+}
+
+/// The options of a journal's heading, and the bytes behind it.
+fn heading_of(bytes: &[u8]) -> Option<(Options, &[u8])>
+    ensures lawful { IfSome result (λ r. IsLawful r.0) }
+    ensures seed { IfSome result (λ r. r.0.seed < 2 ^ 64) }
+    ensures joins { IfSome result (λ r. bytes.now ≡ ended (heading r.0) ++ r.1.now) }
+    ensures none { IfNone result (HasNoHeading bytes.now) }
+{
+    let (line, rest) = first_line(bytes)?;
+    let options = parse_head(line)?;
+    Some((options, rest))
+}
+
+/// Reads the heading, and begins the search that it is of, as the words say.
+pub fn begin_headed<'a, R: Threads + Wait + Sync>(
+    rt: &R,
+    alloc: Global,
+    start: &Start<'_>,
+    inputs: Inputs,
+    bytes: &'a [u8],
+) -> Result<Option<Headed<'a>>, AllocError>
+    requires { IsPlanOf inputs.inst.value.draft inputs.plan }
+    ensures begun { IfOk result (λ h. IfSome h (IsBegun (start_call start.now) (read_from inputs bytes.now))) }
+    ensures none { IfOk result (λ h. IfNone h (HasNoHeading bytes.now)) }
+{
+    let Some((options, lines)) = heading_of(bytes) else {
+        return Ok(None);
+    };
+    let begun = begin(rt, alloc, inputs, start.fill, options.hard, options.workers)?;
+    Ok(Some(Headed {
+        begun,
+        options,
+        lines,
+    }))
+}
