@@ -189,7 +189,8 @@ module _ (b : Base) (H : List Tried) (cs ts : List ℕ) (now : Bill) (found : Op
       unfolding footprint_of_all
       foot-short =
           let len = length-which_below (cell_count b.instance) (λ n. all_touch b.instance (plan_at b H o.seen) o.moves (cell_at b.instance n)) in
-          let most = sum_below-le (cell_count b.instance) 1 (λ n. bit (all_touch b.instance (plan_at b H o.seen) o.moves (cell_at b.instance n))) (λ n h. bit-most (all_touch b.instance (plan_at b H o.seen) o.moves (cell_at b.instance n))) in
+          let most = sum_below-le (cell_count b.instance) 1 (λ n. bit (all_touch b.instance (plan_at b H o.seen) o.moves (cell_at b.instance n)))
+          (λ n h. bit-most (all_touch b.instance (plan_at b H o.seen) o.moves (cell_at b.instance n))) in
           omega (arith, len, most)
         where
           bit-most : (t : Bool) → bit t ≤ 1
@@ -230,7 +231,8 @@ best-stays b H now (Some best) k bill is =
         not_less : (t : Bool) → int_lt (cost b.instance.weights now) best.1 ≡ t → cost_at b H best.0 ≤ℤ cost_at b H (length H) → cost_at b H (length H) ≡ cost b.instance.weights now
             → (if t then Some (k, cost b.instance.weights now) else Some best) ≡ Some best
         not_less false off low cost-is = refl
-        not_less true less low cost-is = let under : cost b.instance.weights now <ℤ best.1 = record { lt = subst T (sym less) tt } in let least = is.1 in absurd (omega (arith, ints, under, low, cost-is, least))
+        not_less true less low cost-is = let under : cost b.instance.weights now <ℤ best.1 = record { lt = subst T (sym less) tt } in let least = is.1 in absurd
+            (omega (arith, ints, under, low, cost-is, least))
 
 -- ---- the offer's entry added
 
@@ -270,7 +272,9 @@ module _ (b : Base) (H : List Tried) (cs ts : List ℕ) (now : Bill) (found : Op
   pub bill-next-in : IsWithin (10 ^ 11) (bill_next v now o.price)
   bill-next-in =
       let moves = legal_but-moves b (H ++ entry_of b H o v ∷ []) (legal_but-more b H (entry_of b H o v) kept.legal legal-next) in
-      subst (IsWithin (10 ^ 11)) (sym bill-next) (bill-within b.instance (plan_after b (H ++ entry_of b H o v ∷ [])) valid (after_entries-plan b.instance b.start (H ++ entry_of b H o v ∷ []) kept.base.start moves))
+      subst (IsWithin (10 ^ 11)) (sym bill-next)
+      (bill-within b.instance (plan_after b (H ++ entry_of b H o v ∷ [])) valid
+      (after_entries-plan b.instance b.start (H ++ entry_of b H o v ∷ []) kept.base.start moves))
 
   module _ (cs' ts' : List ℕ) (now' : Bill) (found' : Option (ℕ × ℤ)) (next : AreNext b H o v cs ts found cs' ts' now' found') (billed : now' ≡ bill_next v now o.price) where
     -- each cell of the footprint is read once

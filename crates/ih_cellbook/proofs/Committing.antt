@@ -176,7 +176,8 @@ pub versions-more : (b : Base) (H : List Tried) (e : Tried) (counter : ℕ → �
 versions-more b H e counter start moves legal versions n h = by_case (is_accepted e.verdict) refl ∙ sym (version-more b H e (cell_at b.instance n))
   where
     by_case : (t : Bool) → is_accepted e.verdict ≡ t
-        → risen_where t counter (reads_after b (take e.seen H) e.moves) n ≡ version b H (cell_at b.instance n) + bit (is_accepted e.verdict && all_touch b.instance (plan_after b H) e.moves (cell_at b.instance n))
+        → risen_where t counter (reads_after b (take e.seen H) e.moves) n
+        ≡ version b H (cell_at b.instance n) + bit (is_accepted e.verdict && all_touch b.instance (plan_after b H) e.moves (cell_at b.instance n))
     by_case false off = let same = versions n h in rw off (omega (arith, same))
     by_case true on =
         let same = versions n h in

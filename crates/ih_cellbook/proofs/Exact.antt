@@ -88,7 +88,8 @@ module _ (b : Base) (H : List Tried) (number seen : ℕ) (m : List Move) (price 
 
   -- The move does the same at its place as where it was priced.
   pub accepted-local : AreLocal b.instance (plan_at b H seen) (plan_after b H) m (all_touch b.instance (plan_at b H seen) m)
-  accepted-local = series_local b.instance (plan_at b H seen) (plan_after b H) m (all_touch b.instance (plan_at b H seen) m) plan_seen (after_entries-plan b.instance b.start H start moves) fits same-there (λ c range touched. touched)
+  accepted-local = series_local b.instance (plan_at b H seen) (plan_after b H) m (all_touch b.instance (plan_at b H seen) m) plan_seen
+      (after_entries-plan b.instance b.start H start moves) fits same-there (λ c range touched. touched)
 
   -- Its price is the change of the bill at its place.
   pub accepted-exact : price ≡ price_of_all b.instance (plan_at b H seen) m → price ≡ price_of_all b.instance (plan_after b H) m

@@ -34,7 +34,9 @@ unfolding core_on_literals
 counters_after_two = refl
 
 -- changed and changed back: the timetable is the start again, and yet the price is stale
-pub changed_back_is_stale : map (λ (e : Tried). e.verdict) (after_events two_workers (offers 1 0 (nurse 0 2 1 ∷ []) ∷ offers 1 1 (nurse 0 2 0 ∷ []) ∷ offers 0 0 (place 1 0 0 1 ∷ []) ∷ [])) ≡ Accepted ∷ Accepted ∷ stale_room 0 2 ∷ []
+pub changed_back_is_stale : map (λ (e : Tried). e.verdict)
+    (after_events two_workers (offers 1 0 (nurse 0 2 1 ∷ []) ∷ offers 1 1 (nurse 0 2 0 ∷ []) ∷ offers 0 0 (place 1 0 0 1 ∷ []) ∷ []))
+    ≡ Accepted ∷ Accepted ∷ stale_room 0 2 ∷ []
 unfolding core_on_literals
 changed_back_is_stale = refl
 
@@ -44,7 +46,8 @@ unfolding core_on_literals
 disjoint_is_accepted = refl
 
 -- with a retry the worker of the stale move looks, and tries it again
-pub stale_then_again : after_events one_retry (offers 1 0 (nurse 0 2 1 ∷ []) ∷ offers 0 0 (place 1 0 0 1 ∷ []) ∷ looks 0 ∷ offers 0 2 (place 1 0 0 1 ∷ []) ∷ []) ≡ tries (nurse_changed ∷ stale_entry ∷ tried_again ∷ [])
+pub stale_then_again : after_events one_retry (offers 1 0 (nurse 0 2 1 ∷ []) ∷ offers 0 0 (place 1 0 0 1 ∷ []) ∷ looks 0 ∷ offers 0 2 (place 1 0 0 1 ∷ []) ∷ [])
+    ≡ tries (nurse_changed ∷ stale_entry ∷ tried_again ∷ [])
 unfolding core_on_literals
 stale_then_again = refl
 

@@ -1,5 +1,5 @@
-//! The best of a history, told from its prices: the bill of each of its timetables is that of the one before it with the
-//! price of an accepted entry added.
+//! The best of a history, told from its prices: the bill of each of its timetables is that of the one before it with
+//! the price of an accepted entry added.
 
 ghost use Rattle.std.specs.Prelude.{◌≡◌, ◌<◌, ◌^◌, false, if◌then◌else◌, length, map};
 ghost use Rattle.ih_tables.specs.Bills.{IsWithin, add_bills, cost, feasible};
@@ -62,12 +62,13 @@ pub(crate) fn best_after(
     }
 }
 
-/// The place and the cost of the first cheapest feasible timetable of a history over a start, whose bill is `first`; none
-/// exactly where no timetable of the history is feasible. It makes no timetable and no further bill.
+/// The place and the cost of the first cheapest feasible timetable of a history over a start, whose bill is `first`;
+/// none exactly where no timetable of the history is feasible. It makes no timetable and no further bill.
 pub fn best_in<E: Logged>(inst: &Instance, first: &Bill, entries: &[E]) -> Option<(u32, i64)>
     requires over { (b : Base) × IsHistoryOver b inst.now.draft first.now (map E.tried entries.now) }
     requires few { length entries.now < 2 ^ 32 }
-    ensures { (b : Base) → IsHistoryOver b inst.now.draft first.now (map E.tried entries.now) → BestIs b (map E.tried entries.now) result }
+    ensures { (b : Base) → IsHistoryOver b inst.now.draft first.now (map E.tried entries.now)
+        → BestIs b (map E.tried entries.now) result }
 {
     let mut now = *first;
     let mut best = with_place(None, 0, &now, inst);

@@ -60,7 +60,8 @@ impl<'a, E: Logged> Book<'a, E> {
         requires first { first.now ≡ bill_of inst.now.draft start.now }
         requires lawful { IsLawful options.now }
         requires retries { options.now.retries ≤ E.most_retries }
-        ensures { IfOk result (λ k. k ≡ record { base = base_with inst.now.draft start.now options.now freeze; entries = [] }) }
+        ensures { IfOk result
+            (λ k. k ≡ record { base = base_with inst.now.draft start.now options.now freeze; entries = [] }) }
     {
         let records = Records::new(alloc, inst, start, first, options, freeze)?;
         Ok(Book {
@@ -75,15 +76,23 @@ impl<'a, E: Logged> Book<'a, E> {
     pub fn commit(&mut self, offer: &E::Offer) -> Verdict
         requires { IsRightOffer self.old.base self.old.entries (E.Offer.offered offer.now) }
         ensures base { self.new.base ≡ self.old.base }
-        ensures entries { self.new.entries ≡ self.old.entries ++ entry_of self.old.base self.old.entries (E.Offer.offered offer.now) result ∷ [] }
-        ensures verdict { result ≡ verdict_on self.old.base self.old.entries (E.Offer.offered offer.now).number (E.Offer.offered offer.now).seen (E.Offer.offered offer.now).moves (E.Offer.offered offer.now).price }
-        ensures legal { IsLegalButDraw self.old.base self.old.entries (entry_of self.old.base self.old.entries (E.Offer.offered offer.now) result) }
+        ensures entries { self.new.entries
+            ≡ self.old.entries ++ entry_of self.old.base self.old.entries (E.Offer.offered offer.now) result ∷ [] }
+        ensures verdict { result
+            ≡ verdict_on self.old.base self.old.entries (E.Offer.offered offer.now).number
+            (E.Offer.offered offer.now).seen (E.Offer.offered offer.now).moves (E.Offer.offered offer.now).price }
+        ensures legal { IsLegalButDraw self.old.base self.old.entries
+            (entry_of self.old.base self.old.entries (E.Offer.offered offer.now) result) }
         // an accepted price, however old, is the change of the bill at this place
         ensures exact { result ≡ Accepted
-            → (E.Offer.offered offer.now).price ≡ change_of_bill self.old.base.instance (plan_after self.old.base self.old.entries) (plan_after self.old.base self.new.entries) }
+            → (E.Offer.offered offer.now).price
+            ≡ change_of_bill self.old.base.instance (plan_after self.old.base self.old.entries)
+            (plan_after self.old.base self.new.entries) }
         // in every legal state of the machine with this history, the worker's offer of this move adds the same entry
         ensures event { (s : State) → s.history ≡ self.old.entries → IsLegalState self.old.base s
-            → self.new.entries ≡ (step self.old.base s (offers (E.Offer.offered offer.now).worker (E.Offer.offered offer.now).seen (E.Offer.offered offer.now).moves)).history }
+            → self.new.entries ≡ (step self.old.base s
+            (offers (E.Offer.offered offer.now).worker (E.Offer.offered offer.now).seen
+            (E.Offer.offered offer.now).moves)).history }
     {
         self.records.commit(offer)
     }
@@ -91,16 +100,23 @@ impl<'a, E: Logged> Book<'a, E> {
     /// The verdict that `commit` would give on the offer. It changes nothing.
     pub fn judge(&self, offer: &E::Offer) -> Verdict
         requires { IsRightOffer self.now.base self.now.entries (E.Offer.offered offer.now) }
-        ensures { result ≡ verdict_on self.now.base self.now.entries (E.Offer.offered offer.now).number (E.Offer.offered offer.now).seen (E.Offer.offered offer.now).moves (E.Offer.offered offer.now).price }
+        ensures { result ≡ verdict_on self.now.base self.now.entries (E.Offer.offered offer.now).number
+            (E.Offer.offered offer.now).seen (E.Offer.offered offer.now).moves (E.Offer.offered offer.now).price }
     {
         self.records.judge(offer)
     }
 
-    /// Replaces the buffer's entries by those from place `from` on, or by the first 256 of them where there are more. Its
-    /// front is then the number of all entries. Answers how many were put; takes no memory.
+    /// Replaces the buffer's entries by those from place `from` on, or by the first 256 of them where there are more.
+    /// Its front is then the number of all entries. Answers how many were put; takes no memory.
     pub fn copy_since(&self, from: u32, buffer: &mut Buffer<E>) -> u32
         requires { from ≤ length self.now.entries }
-        ensures copied { buffer.new ≡ record { from = from; entries = take most_copied (drop from self.now.entries); front = length self.now.entries } }
+        ensures copied { buffer.new
+            ≡ record {
+              from = from;
+              entries = take most_copied
+                  (drop from self.now.entries);
+              front = length self.now.entries;
+            } }
         ensures count { result ≡ length buffer.new.entries }
     {
         self.records.copy_since(from, buffer)

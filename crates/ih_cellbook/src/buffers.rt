@@ -75,7 +75,8 @@ impl<E: Logged> Buffer<E> {
     // Replaces the entries by those from a place on, or by the first 256 of them.
     pub(crate) fn fill(&mut self, entries: &[E], from: u32, front: u32) -> u32
         requires { from ≤ length entries.now }
-        ensures copied { self.new ≡ record { from = from; entries = take most_copied (drop from (map E.tried entries.now)); front = front } }
+        ensures copied { self.new
+            ≡ record { from = from; entries = take most_copied (drop from (map E.tried entries.now)); front = front } }
         ensures count { result ≡ length self.new.entries }
     {
         let rest = &entries[from as usize..];

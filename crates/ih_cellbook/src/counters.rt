@@ -31,7 +31,8 @@ fn first_differing(counters: &[u32], reads: &[(u32, u32)]) -> Option<(u32, u32)>
 fn compare(inst: &Instance, counters: &[u32], reads: &[(u32, u32)]) -> Verdict
     requires count { length counters.now ≡ cell_count inst.now.draft }
     requires reads { All (λ r. r.0 < length counters.now) reads.now }
-    ensures { result ≡ stale_by inst.now.draft (slice_index counters.now) (first_differing (slice_index counters.now) reads.now) }
+    ensures { result ≡ stale_by inst.now.draft (slice_index counters.now)
+        (first_differing (slice_index counters.now) reads.now) }
 {
     match first_differing(counters, reads) {
         Some((cell, version)) => Verdict::Stale {
@@ -55,7 +56,8 @@ pub(crate) fn judge<O: Offers>(
     requires number { (O.offered offer.now).number < options.now.moves }
     requires price { IsWithin (10 ^ 11) (O.offered offer.now).price }
     requires count { length counters.now ≡ cell_count inst.now.draft }
-    requires reads { is_compared inst.now.draft options.now (O.offered offer.now).frozen (O.offered offer.now).number (O.offered offer.now).price ≡ true
+    requires reads { is_compared inst.now.draft options.now (O.offered offer.now).frozen (O.offered offer.now).number
+        (O.offered offer.now).price ≡ true
         → All (λ r. r.0 < length counters.now) (O.offered offer.now).reads.pairs }
     ensures { result ≡ verdict_by_counters inst.now.draft options.now (slice_index counters.now) (O.offered offer.now) }
 {
@@ -83,7 +85,8 @@ fn raise(counters: &mut [u32], reads: &[(u32, u32)])
 /// Where the move was accepted, each counter rises by how often its cell was read.
 pub(crate) fn raise_where(verdict: &Verdict, counters: &mut Vec<u32>, reads: &Reads)
     requires reads { is_accepted verdict.now ≡ true → All (λ r. r.0 < length counters.old.items) reads.now.pairs }
-    requires small { is_accepted verdict.now ≡ true → (n : ℕ) → slice_index counters.old.items n + length reads.now.pairs < 2 ^ 32 }
+    requires small { is_accepted verdict.now ≡ true → (n : ℕ)
+        → slice_index counters.old.items n + length reads.now.pairs < 2 ^ 32 }
     ensures len { length counters.new.items ≡ length counters.old.items }
     ensures each { (n : ℕ) → slice_index counters.new.items n
         ≡ slice_index counters.old.items n + (if is_accepted verdict.now then times_read n reads.now.pairs else 0) }

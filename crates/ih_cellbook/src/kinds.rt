@@ -34,7 +34,8 @@ pub trait Attempted: Copy {
         requires { may_have count }
         ensures inside { AreMoves inst.now.draft (moves result) }
         ensures drawn { (seed w i : ℕ) → stream.old ≡ stream_at seed w i
-            → (moves result ≡ map (move_of inst.now.draft seed w) (range_with_len i count)) × (stream.new ≡ stream_at seed w (i + count)) };
+            → (moves result ≡ map (move_of inst.now.draft seed w) (range_with_len i count))
+            × (stream.new ≡ stream_at seed w (i + count)) };
 
     // The latest freeze day under which it may be tried.
     ghost most_freeze: { ℕ };
@@ -52,7 +53,8 @@ pub trait Attempted: Copy {
         requires plan { IsPlanOf inst.now.draft plan.now }
         requires moves { AreMoves inst.now.draft (moves self.now) }
         requires freeze { freeze ≤ most_freeze }
-        ensures { result ≡ list_any (is_frozen_write start.now freeze) (expand_all inst.now.draft plan.now (moves self.now)) };
+        ensures { result ≡ list_any (is_frozen_write start.now freeze)
+            (expand_all inst.now.draft plan.now (moves self.now)) };
 
     /// Whether it is found to be the same as another.
     fn is_same(&self, other: &Self) -> bool
@@ -88,13 +90,18 @@ pub trait Offers: Drop {
         frozen: bool,
     )
         requires { frozen ≡ true → 0 < Self.Attempt.most_freeze }
-        ensures { offered self.new ≡ record (offered self.old) { worker = worker; number = number; seen = seen; moves = Self.Attempt.moves attempt.now; price = price.now; reads = record (offered self.old).reads { pairs = [] }; frozen = frozen } };
+        ensures { offered self.new
+            ≡ record (offered self.old) { worker = worker; number = number; seen = seen; moves = Self.Attempt.moves attempt.now; price = price.now; reads = record (offered self.old).reads { pairs = [] }; frozen = frozen } };
 
     /// Notes cells with their versions, in place of what was noted.
     fn note(&mut self, cells: &[u32], versions: &[u32])
         requires cells { All (λ n. n < length versions.now) cells.now }
         requires room { length cells.now ≤ (offered self.old).reads.room }
-        ensures { offered self.new ≡ record (offered self.old) { reads = record (offered self.old).reads { pairs = tagged (slice_index versions.now) cells.now } } };
+        ensures { offered self.new
+            ≡ record (offered self.old) {
+              reads = record
+                  (offered self.old).reads { pairs = tagged (slice_index versions.now) cells.now };
+            } };
 
     fn worker(&self) -> u32
         ensures { result ≡ (offered self.now).worker };
@@ -143,7 +150,8 @@ pub trait Logged: Copy {
         verdict: Verdict,
     ) -> Self
         requires { again ≤ most_retries }
-        ensures { tried result ≡ record { worker = worker; number = number; again = again; seen = seen; moves = Self.Attempt.moves attempt.now; price = price.now; verdict = verdict } };
+        ensures { tried result
+            ≡ record { worker = worker; number = number; again = again; seen = seen; moves = Self.Attempt.moves attempt.now; price = price.now; verdict = verdict } };
 
     fn worker(&self) -> u32
         ensures { result ≡ (tried self.now).worker };

@@ -24,7 +24,8 @@ pub fn accepted_prices_are_exact()
 {}
 
 /// In whatever order any number of workers look and offer, on however old a copy each priced its move: every entry is
-/// legal but for its draw, the counters are the versions, and each accepted price is the change of the bill at its place.
+/// legal but for its draw, the counters are the versions, and each accepted price is the change of the bill at its
+/// place.
 pub fn schedules_are_legal(_inst: &Instance)
     ensures { SchedulesAreLegal _inst.now.draft }
 {}
@@ -34,8 +35,8 @@ pub fn legal_histories_are_in_range()
     ensures { LegalHistoriesAreInRange }
 {}
 
-/// Two searches of an instance that differ in their options or in an entry have two journals, also where they begin with
-/// different timetables.
+/// Two searches of an instance that differ in their options or in an entry have two journals, also where they begin
+/// with different timetables.
 pub fn searches_have_two_journals()
     ensures { SearchesHaveTwoJournals }
 {}

@@ -92,8 +92,8 @@ fn touched_ahead(options: &Options, moves: usize) -> usize
     if options.workers == 1 { 0 } else { moves }
 }
 
-// Room for `most` entries, with none in it. That of the first of them is written once here, so that the system gives its
-// pages now, and not one by one while a worker holds the book.
+// Room for `most` entries, with none in it. That of the first of them is written once here, so that the system gives
+// its pages now, and not one by one while a worker holds the book.
 fn room_for<E: Logged>(alloc: Global, first: usize, most: usize) -> Result<Vec<E>, AllocError>
     requires { first ≤ most }
     ensures none { IfOk result (λ v. v.items ≡ []) }
@@ -139,7 +139,8 @@ impl<'a, E: Logged> Records<'a, E> {
         requires first { first.now ≡ bill_of inst.now.draft start.now }
         requires lawful { IsLawful options.now }
         requires retries { options.now.retries ≤ E.most_retries }
-        ensures { IfOk result (λ k. k ≡ record { base = base_with inst.now.draft start.now options.now freeze; entries = [] }) }
+        ensures { IfOk result
+            (λ k. k ≡ record { base = base_with inst.now.draft start.now options.now freeze; entries = [] }) }
     {
         // As many as there are where no try is stale.
         let moves = options.workers as usize * options.moves as usize;
@@ -164,15 +165,23 @@ impl<'a, E: Logged> Records<'a, E> {
     pub(crate) fn commit(&mut self, offer: &E::Offer) -> Verdict
         requires { IsRightOffer self.old.base self.old.entries (E.Offer.offered offer.now) }
         ensures base { self.new.base ≡ self.old.base }
-        ensures entries { self.new.entries ≡ self.old.entries ++ entry_of self.old.base self.old.entries (E.Offer.offered offer.now) result ∷ [] }
-        ensures verdict { result ≡ verdict_on self.old.base self.old.entries (E.Offer.offered offer.now).number (E.Offer.offered offer.now).seen (E.Offer.offered offer.now).moves (E.Offer.offered offer.now).price }
-        ensures legal { IsLegalButDraw self.old.base self.old.entries (entry_of self.old.base self.old.entries (E.Offer.offered offer.now) result) }
+        ensures entries { self.new.entries
+            ≡ self.old.entries ++ entry_of self.old.base self.old.entries (E.Offer.offered offer.now) result ∷ [] }
+        ensures verdict { result
+            ≡ verdict_on self.old.base self.old.entries (E.Offer.offered offer.now).number
+            (E.Offer.offered offer.now).seen (E.Offer.offered offer.now).moves (E.Offer.offered offer.now).price }
+        ensures legal { IsLegalButDraw self.old.base self.old.entries
+            (entry_of self.old.base self.old.entries (E.Offer.offered offer.now) result) }
         // an accepted price, however old, is the change of the bill at this place
         ensures exact { result ≡ Accepted
-            → (E.Offer.offered offer.now).price ≡ change_of_bill self.old.base.instance (plan_after self.old.base self.old.entries) (plan_after self.old.base self.new.entries) }
+            → (E.Offer.offered offer.now).price
+            ≡ change_of_bill self.old.base.instance (plan_after self.old.base self.old.entries)
+            (plan_after self.old.base self.new.entries) }
         // in every legal state of the machine with this history, the worker's offer of this move adds the same entry
         ensures event { (s : State) → s.history ≡ self.old.entries → IsLegalState self.old.base s
-            → self.new.entries ≡ (step self.old.base s (offers (E.Offer.offered offer.now).worker (E.Offer.offered offer.now).seen (E.Offer.offered offer.now).moves)).history }
+            → self.new.entries ≡ (step self.old.base s
+            (offers (E.Offer.offered offer.now).worker (E.Offer.offered offer.now).seen
+            (E.Offer.offered offer.now).moves)).history }
     {
         let verdict = judge(self.inst, &self.options, self.counters.as_slice(), offer);
         let worker = offer.worker();
@@ -196,7 +205,8 @@ impl<'a, E: Logged> Records<'a, E> {
     /// The verdict that `commit` would give.
     pub(crate) fn judge(&self, offer: &E::Offer) -> Verdict
         requires { IsRightOffer self.now.base self.now.entries (E.Offer.offered offer.now) }
-        ensures { result ≡ verdict_on self.now.base self.now.entries (E.Offer.offered offer.now).number (E.Offer.offered offer.now).seen (E.Offer.offered offer.now).moves (E.Offer.offered offer.now).price }
+        ensures { result ≡ verdict_on self.now.base self.now.entries (E.Offer.offered offer.now).number
+            (E.Offer.offered offer.now).seen (E.Offer.offered offer.now).moves (E.Offer.offered offer.now).price }
     {
         judge(self.inst, &self.options, self.counters.as_slice(), offer)
     }
@@ -204,7 +214,13 @@ impl<'a, E: Logged> Records<'a, E> {
     /// Copies entries from a place on: `Book::copy_since` says more.
     pub(crate) fn copy_since(&self, from: u32, buffer: &mut Buffer<E>) -> u32
         requires { from ≤ length self.now.entries }
-        ensures copied { buffer.new ≡ record { from = from; entries = take most_copied (drop from self.now.entries); front = length self.now.entries } }
+        ensures copied { buffer.new
+            ≡ record {
+              from = from;
+              entries = take most_copied
+                  (drop from self.now.entries);
+              front = length self.now.entries;
+            } }
         ensures count { result ≡ length buffer.new.entries }
     {
         buffer.fill(self.entries.as_slice(), from, self.entries.len() as u32)

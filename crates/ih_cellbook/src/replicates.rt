@@ -40,10 +40,12 @@ pub trait Replicates: Drop {
         ensures base { (copied self.new).base ≡ (copied self.old).base }
         ensures worker { (copied self.new).worker ≡ (copied self.old).worker };
 
-    /// Makes the last offer that of its worker for an attempt of this number, priced after the entries that it stands for.
+    /// Makes the last offer that of its worker for an attempt of this number, priced after the entries that it stands
+    /// for.
     fn price(&mut self, attempt: &<Self::Entry as Logged>::Attempt, number: u32)
         requires { AreMoves (copied self.old).base.instance (Self.Entry.Attempt.moves attempt.now) }
-        ensures offer { IsOfferOf (copied self.old) number (Self.Entry.Attempt.moves attempt.now) (copied self.new).last }
+        ensures offer { IsOfferOf (copied self.old) number (Self.Entry.Attempt.moves attempt.now)
+            (copied self.new).last }
         ensures right { IsRightFor (copied self.old) number (copied self.new).last }
         ensures base { (copied self.new).base ≡ (copied self.old).base }
         ensures worker { (copied self.new).worker ≡ (copied self.old).worker }
@@ -69,6 +71,7 @@ pub trait Opens<'a>: Replicates {
         requires start { IsPlanOf inst.now.draft start.now }
         requires lawful { IsLawful options.now }
         requires freeze { freeze ≤ Self.Entry.Attempt.most_freeze }
-        ensures replica { IfOk result (λ r. IsReplicaOf (base_with inst.entry.now.draft start.now options.now freeze) [] (Self.copied r)) }
+        ensures replica { IfOk result
+            (λ r. IsReplicaOf (base_with inst.entry.now.draft start.now options.now freeze) [] (Self.copied r)) }
         ensures worker { IfOk result (λ r. (Self.copied r).worker ≡ worker) };
 }

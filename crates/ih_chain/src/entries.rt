@@ -36,8 +36,8 @@ pub struct ChainOffer {
     pub moves: Chain,
     /// The bill after the chain less the bill before it, after those entries.
     pub price: Bill,
-    /// The cells of the chain's footprint after those entries, rising by number, each with its version there. Nobody asks
-    /// for them where its score is above what its number may cost.
+    /// The cells of the chain's footprint after those entries, rising by number, each with its version there. Nobody
+    /// asks for them where its score is above what its number may cost.
     pub reads: Reads,
 }
 

@@ -7,8 +7,8 @@ pub fn single_chains_have_the_same_line()
     ensures { SinglesHaveTheSameLine }
 {}
 
-/// The journal of a legal history of chains is short: at most 226 bytes for each chain and 29 for each of its moves, and
-/// 128 for the heading.
+/// The journal of a legal history of chains is short: at most 226 bytes for each chain and 29 for each of its moves,
+/// and 128 for the heading.
 pub fn chain_journals_are_short()
     ensures { ChainJournalsAreShort }
 {}

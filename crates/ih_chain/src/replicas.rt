@@ -12,8 +12,8 @@ use ih_tables::Instance;
 use std::alloc::{AllocError, Global};
 use std::marker::Model;
 
-/// One worker's own copy of a search by chains: the timetable after the entries that it has seen, with ledgers that price
-/// chains there, and each cell's version. After `new` no call takes memory.
+/// One worker's own copy of a search by chains: the timetable after the entries that it has seen, with ledgers that
+/// price chains there, and each cell's version. After `new` no call takes memory.
 #[derive(Drop)]
 pub struct ChainReplica<'a> {
     replica: Replica<'a, ChainEntry>,
@@ -71,14 +71,15 @@ impl<'a> ChainReplica<'a> {
         self.replica.seen()
     }
 
-    /// The offer of its worker for a chain of this number, priced after the entries that it stands for. Where the price's
-    /// score is at most what the number may cost, the offer has the cells of the chain's footprint there, each with its
-    /// version, and else none. The chain is made on the ledgers and taken back.
+    /// The offer of its worker for a chain of this number, priced after the entries that it stands for. Where the
+    /// price's score is at most what the number may cost, the offer has the cells of the chain's footprint there, each
+    /// with its version, and else none. The chain is made on the ledgers and taken back.
     pub fn price(&mut self, moves: &Chain, number: u32) -> &ChainOffer
         requires { AreMoves self.old.base.instance moves.now }
         ensures offer { IsOfferOf self.old number moves.now (chain_offered result.now) }
         ensures right { IsRightFor self.old number (chain_offered result.now) }
-        ensures* same { sem 𝓛 (RestsAs self.entry (λ r. (r.base ≡ self.old.base) × (r.worker ≡ self.old.worker) × StandsAs self.old r)) }
+        ensures* same { sem 𝓛
+            (RestsAs self.entry (λ r. (r.base ≡ self.old.base) × (r.worker ≡ self.old.worker) × StandsAs self.old r)) }
     {
         self.make(moves, number);
         self.last()

@@ -18,8 +18,8 @@ use std::alloc::{AllocError, Global};
 use std::sync::Wait;
 use std::thread::Threads;
 
-/// The whole search by chains of so many moves from a start: each worker's draws, chain by chain, in order. No stale chain
-/// is tried again, and nothing is frozen.
+/// The whole search by chains of so many moves from a start: each worker's draws, chain by chain, in order. No stale
+/// chain is tried again, and nothing is frozen.
 pub fn run_chains<R: Threads + Wait + Sync, G: Gate>(
     rt: &R,
     alloc: Global,

@@ -90,7 +90,9 @@ fn best_plan(
     requires start { IsPlanOf inst.now.draft start.now }
     requires inside { IfSome best (λ k. k.0 ≤ length entries.now) }
     requires moves { All (λ e. AreMoves inst.now.draft e.moves) (chain_tries entries.now) }
-    ensures made { IfOk result (λ plan. plan ≡ option_map (λ k. after_entries inst.now.draft start.now (take k.0 (chain_tries entries.now))) best) }
+    ensures made { IfOk result
+        (λ plan. plan ≡ option_map
+        (λ k. after_entries inst.now.draft start.now (take k.0 (chain_tries entries.now))) best) }
     ensures fits { IfOk result (λ plan. IfSome plan (IsPlanOf inst.now.draft)) }
 {
     match best {

@@ -27,8 +27,8 @@ fn heading_made(alloc: Global, o: &Options, length: u32) -> Result<String, Alloc
     Ok(made)
 }
 
-/// Appends the heading of a journal of chains of this length, with its line feed. Where memory runs out, `out` holds what
-/// it held, followed by a prefix of that line.
+/// Appends the heading of a journal of chains of this length, with its line feed. Where memory runs out, `out` holds
+/// what it held, followed by a prefix of that line.
 #[tactic(auto, using(ih_journal::proofs::Parts::part_none))]
 pub fn chain_head_line(o: &Options, length: u32, out: &mut Vec<u8>) -> Result<(), AllocError>
     ensures ok { OnOk result (out.new.items ≡ out.old.items ++ ended (chain_heading o.now length)) }
@@ -71,8 +71,8 @@ fn put_field(n: u32, out: &mut Vec<u8>) -> Result<(), AllocError>
     out.extend_from_slice(b" ")
 }
 
-/// Appends the line of the entry at a place, with its line feed. Where memory runs out, an unknown text stands behind what
-/// was there.
+/// Appends the line of the entry at a place, with its line feed. Where memory runs out, an unknown text stands behind
+/// what was there.
 pub fn chain_line(place: u32, entry: &ChainEntry, out: &mut Vec<u8>) -> Result<(), AllocError>
     ensures { OnOk result (out.new.items ≡ out.old.items ++ ended (chain_line place entry.now)) }
 {

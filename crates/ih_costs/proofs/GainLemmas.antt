@@ -67,7 +67,8 @@ gain_by I Q p at g =
     of_stay I Q p at g + over_days I Q p at g + of_theatre I Q p at g + of_surgeon I Q p at g (surgeon_of I p)
     + over_shifts I Q p at g + over_loads I Q p at g + of_care I Q p at g
 
-module _ (I : Draft) (P : Timetable) (p : PatientNo) (at : Placement) (valid : IsValid I) (plan : IsPlanOf I P) (known : p.0 < patient_count I) (fits : IsPlacement I at) (out : stay_of P p.0 ≡ None) where
+module _ (I : Draft) (P : Timetable) (p : PatientNo) (at : Placement) (valid : IsValid I) (plan : IsPlanOf I P) (known : p.0 < patient_count I)
+    (fits : IsPlacement I at) (out : stay_of P p.0 ≡ None) where
   abbrev placed : Timetable
   placed = put (SetStay p (Some at)) P
 
@@ -136,7 +137,8 @@ module _ (I : Draft) (P : Timetable) (p : PatientNo) (at : Placement) (valid : I
   unfolding in_placement
   room_shifts g =
       let day = fits.day in
-      rows-but_span (room_count I) (shift_count I) at.room.0 (3 * at.day.0) (3 * end_of I p.0 at) (λ r k. g (part_at I placed (room_shift_cell r k))) (λ r k. g (part_at I P (room_shift_cell r k))) fits.room
+      rows-but_span (room_count I) (shift_count I) at.room.0 (3 * at.day.0) (3 * end_of I p.0 at) (λ r k. g (part_at I placed (room_shift_cell r k)))
+      (λ r k. g (part_at I P (room_shift_cell r k))) fits.room
       (omega arith) (omega arith)
       (λ r k rh kh ne. kept g (room_shift_cell r k) refl (and_left (at.room.0 == r) (covers at.day.0 days (day_of k)) (apart_from at.room.0 r ne)))
       (λ k h. kept g (room_shift_cell at.room.0 k) refl (and_right (at.room.0 == at.room.0) (covers at.day.0 days (day_of k)) (not_before at.day.0 days (day_of k) (day_before at.day.0 k h))))
@@ -166,7 +168,8 @@ module _ (I : Draft) (P : Timetable) (p : PatientNo) (at : Placement) (valid : I
       columns-but_span (nurse_count I) (shift_count I) (3 * at.day.0) (3 * end_of I p.0 at) (λ n k. g (part_at I placed (nurse_shift_cell n k))) (λ n k. g (part_at I P (nurse_shift_cell n k)))
       (λ k. of_nurse I placed p.0 at g k (care_of P at.room.0 k)) (λ k. of_nurse I P p.0 at g k (care_of P at.room.0 k))
       (omega arith) (omega arith)
-      (λ n k nh h. kept g (nurse_shift_cell n k) refl (and_right (is_number (care_of P at.room.0 k) n) (covers at.day.0 days (day_of k)) (not_before at.day.0 days (day_of k) (day_before at.day.0 k h))))
+      (λ n k nh h. kept g (nurse_shift_cell n k) refl
+      (and_right (is_number (care_of P at.room.0 k) n) (covers at.day.0 days (day_of k)) (not_before at.day.0 days (day_of k) (day_before at.day.0 k h))))
       (λ n k nh h l. kept g (nurse_shift_cell n k) refl (and_right (is_number (care_of P at.room.0 k) n) (covers at.day.0 days (day_of k))
       (not_behind at.day.0 days I.days (day_of k) (day_behind (end_of I p.0 at) k h) (day_within I.days k l))))
       (λ k h l. one_shift g k (care_of P at.room.0 k) refl)

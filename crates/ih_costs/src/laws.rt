@@ -16,8 +16,8 @@ pub fn choices_are_told(_inst: &Instance)
     ensures { ChoicesAreTold _inst.now.draft }
 {}
 
-/// The writes of a move touch at the timetable before it what they touch one behind the other: none of them changes what a
-/// later one looks at.
+/// The writes of a move touch at the timetable before it what they touch one behind the other: none of them changes
+/// what a later one looks at.
 pub fn moves_touch_at_once(_inst: &Instance)
     ensures { MovesTouchAtOnce _inst.now.draft }
 {}

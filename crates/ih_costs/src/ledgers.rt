@@ -101,7 +101,8 @@ impl<'a> Ledgers<'a> {
         self.cells.part(self.inst, c)
     }
 
-    /// Makes the ledgers stand for a timetable, which fits the instance, in place of theirs. In time of the whole timetable.
+    /// Makes the ledgers stand for a timetable, which fits the instance, in place of theirs. In time of the whole
+    /// timetable.
     pub fn copy_from(&mut self, plan: &Plan)
         requires { IsPlanOf self.old.instance plan.now }
         ensures { self.new ≡ record self.old { plan = plan.now } }
@@ -135,8 +136,8 @@ impl<'a> Ledgers<'a> {
         put_all(self.inst, &mut self.cells, self.writes.as_slice());
     }
 
-    /// Makes a move. In place of what was listed there, `foot` has the cells that the move touched, rising: those of its
-    /// footprint at the timetable before it. It sums no costs.
+    /// Makes a move. In place of what was listed there, `foot` has the cells that the move touched, rising: those of
+    /// its footprint at the timetable before it. It sums no costs.
     pub fn play_noting(&mut self, mv: &Move, foot: &mut CellList)
         requires move_in { IsMoveOf self.old.instance mv.now }
         requires sizes { foot.old.sizes ≡ sizes_of self.old.instance }
@@ -148,12 +149,14 @@ impl<'a> Ledgers<'a> {
         self.play(mv);
     }
 
-    /// What a move would add to the bill, number by number: each is at most 10^11 in magnitude. In place of what was listed
-    /// there, `foot` has the cells of the move's footprint, rising. The ledgers stand for the same timetable as before.
+    /// What a move would add to the bill, number by number: each is at most 10^11 in magnitude. In place of what was
+    /// listed there, `foot` has the cells of the move's footprint, rising. The ledgers stand for the same timetable as
+    /// before.
     pub fn price(&mut self, mv: &Move, foot: &mut CellList) -> Bill
         requires move_in { IsMoveOf self.old.instance mv.now }
         requires sizes { foot.old.sizes ≡ sizes_of self.old.instance }
-        ensures price { result ≡ change_of_bill self.old.instance self.old.plan (after self.old.instance self.old.plan mv.now) }
+        ensures price { result
+            ≡ change_of_bill self.old.instance self.old.plan (after self.old.instance self.old.plan mv.now) }
         ensures within { IsWithin (10 ^ 11) result }
         ensures cells { foot.new.cells ≡ footprint self.old.instance self.old.plan mv.now }
         ensures sizes { foot.new.sizes ≡ foot.old.sizes }
@@ -167,7 +170,8 @@ impl<'a> Ledgers<'a> {
     #[inline(always)]
     pub fn price_alone(&mut self, mv: &Move) -> Bill
         requires { IsMoveOf self.old.instance mv.now }
-        ensures price { result ≡ change_of_bill self.old.instance self.old.plan (after self.old.instance self.old.plan mv.now) }
+        ensures price { result
+            ≡ change_of_bill self.old.instance self.old.plan (after self.old.instance self.old.plan mv.now) }
         ensures within { IsWithin (10 ^ 11) result }
         ensures same { self.new ≡ self.old }
     {

@@ -1,4 +1,5 @@
-//! The price of a move, write by write, and its footprint: ledgers stand for a timetable, try the move and take it back.
+//! The price of a move, write by write, and its footprint: ledgers stand for a timetable, try the move and take it
+//! back.
 #![tactic(auto)]
 
 mod cell_ledgers;

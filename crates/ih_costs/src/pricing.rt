@@ -41,7 +41,8 @@ pub fn put_all(inst: &Instance, ledgers: &mut CellLedgers, writes: &[Write])
 pub fn price_of_write(inst: &Instance, ledgers: &CellLedgers, w: &Write) -> Bill
     requires stands { AreLedgers inst.now.draft ledgers.now }
     requires write { IsWriteOf inst.now.draft w.now }
-    ensures price { result ≡ change_of_bill inst.now.draft (timetable_of ledgers.now) (put w.now (timetable_of ledgers.now)) }
+    ensures price { result
+        ≡ change_of_bill inst.now.draft (timetable_of ledgers.now) (put w.now (timetable_of ledgers.now)) }
     ensures within { IsWithin (10 ^ 11) result }
 {
     match *w {
@@ -57,7 +58,9 @@ fn change_in_turn(inst: &Instance, ledgers: &mut CellLedgers, w: &Write, rest: &
     requires write { IsWriteOf inst.now.draft w.now }
     requires writes { AreWritesOf inst.now.draft rest.now }
     ensures stands { AreLedgersOf inst.now.draft (timetable_of ledgers.old) ledgers.new }
-    ensures change { result ≡ change_of_bill inst.now.draft (timetable_of ledgers.old) (put_all (w.now ∷ rest.now) (timetable_of ledgers.old)) }
+    ensures change { result
+        ≡ change_of_bill inst.now.draft (timetable_of ledgers.old)
+        (put_all (w.now ∷ rest.now) (timetable_of ledgers.old)) }
 {
     let here = price_of_write(inst, ledgers, w);
     match rest.split_first() {
@@ -77,7 +80,8 @@ fn change_after(inst: &Instance, ledgers: &mut CellLedgers, writes: &[Write]) ->
     requires stands { AreLedgers inst.now.draft ledgers.old }
     requires writes { AreWritesOf inst.now.draft writes.now }
     ensures stands { AreLedgersOf inst.now.draft (timetable_of ledgers.old) ledgers.new }
-    ensures change { result ≡ change_of_bill inst.now.draft (timetable_of ledgers.old) (put_all writes.now (timetable_of ledgers.old)) }
+    ensures change { result
+        ≡ change_of_bill inst.now.draft (timetable_of ledgers.old) (put_all writes.now (timetable_of ledgers.old)) }
 {
     match writes.split_first() {
         None => Bill::zero(),
@@ -90,7 +94,9 @@ fn change_after(inst: &Instance, ledgers: &mut CellLedgers, writes: &[Write]) ->
 pub fn price_of(inst: &Instance, ledgers: &mut CellLedgers, writes: &mut Writes, mv: &Move) -> Bill
     requires stands { AreLedgers inst.now.draft ledgers.old }
     requires move_in { IsMoveOf inst.now.draft mv.now }
-    ensures price { result ≡ change_of_bill inst.now.draft (timetable_of ledgers.old) (after inst.now.draft (timetable_of ledgers.old) mv.now) }
+    ensures price { result
+        ≡ change_of_bill inst.now.draft (timetable_of ledgers.old)
+        (after inst.now.draft (timetable_of ledgers.old) mv.now) }
     ensures within { IsWithin (10 ^ 11) result }
     ensures stands { AreLedgersOf inst.now.draft (timetable_of ledgers.old) ledgers.new }
 {

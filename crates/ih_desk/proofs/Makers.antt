@@ -20,7 +20,8 @@ made-all turn seat empty own =
     ∙ ap (λ n. count_by (λ (e : Tried). e.worker == n) (history seat)) (sym seat.number_is)
 
 -- a seat that comes back is one of the desk's
-pub seat-at : (desk : Desk) → IsDesk desk → (turn : RuledTurn Recorded (TurnRule Recorded) Tried Base kept_book) (seat : DeskSeat) → turn ≡ desk.turn → IsSeatOf turn seat → number_of seat < worker_count desk
+pub seat-at : (desk : Desk) → IsDesk desk → (turn : RuledTurn Recorded (TurnRule Recorded) Tried Base kept_book) (seat : DeskSeat) → turn ≡ desk.turn
+    → IsSeatOf turn seat → number_of seat < worker_count desk
     → AreLegalButDraws (base_of desk) (history seat) → IsSeatAt desk seat
 seat-at desk opened turn seat same own number legal = record {
   stands = opened;

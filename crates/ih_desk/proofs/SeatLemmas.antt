@@ -109,7 +109,9 @@ module _ (b : Base) (each : ℕ) (desk : Desk) (seats : List DeskSeat) (opened :
             record {
               own = subst (IsSeatAt desk) last f.own;
               number = subst (λ t. number_of t ≡ k) last number;
-              done = subst (λ t. HasFinished b each k (history t)) last (subst (λ n. HasFinished b each n (history f.last)) number (subst (λ c. HasFinished c each (number_of f.last) (history f.last)) opened.base finished));
+              done = subst (λ t. HasFinished b each k (history t)) last
+                  (subst (λ n. HasFinished b each n (history f.last)) number
+                  (subst (λ c. HasFinished c each (number_of f.last) (history f.last)) opened.base finished));
             }
 
         pub all-back : All (IsSeatAt desk) back

@@ -12,8 +12,8 @@ use ih_turn::{Seat, Turn};
 use std::alloc::Global;
 use std::sync::Wait;
 
-/// What workers share: a turn over a book. Each worker has a seat, which carries the history that it has seen. The turn is a
-/// parameter, since a struct can't hold a turn over a type that has parameters itself.
+/// What workers share: a turn over a book. Each worker has a seat, which carries the history that it has seen. The turn
+/// is a parameter, since a struct can't hold a turn over a type that has parameters itself.
 #[derive(Drop)]
 pub struct DeskOver<T> {
     turn: T,
@@ -31,8 +31,8 @@ impl<'a, E: Logged> DeskOver<Turn<Book<'a, E>>> {
     ghost use Rattle.ih_desk.specs.Desks.{base_of, worker_count, IsDesk, IsSeatAt};
     ghost use Rattle.ih_desk.specs.Histories.{GoesOn, EndsWith};
 
-    /// Opens a desk over a book without entries, with a seat for each worker of its options. Each seat may look or offer
-    /// `turns` times in all.
+    /// Opens a desk over a book without entries, with a seat for each worker of its options. Each seat may look or
+    /// offer `turns` times in all.
     ///
     /// # Errors
     /// The book, where memory runs out.
@@ -47,8 +47,12 @@ impl<'a, E: Logged> DeskOver<Turn<Book<'a, E>>> {
         requires empty { book.entries ≡ [] }
         requires fits { workers * turns + 1 < 2 ^ 64 }
         ensures desk { IfOk result (λ t. IsDesk t.0 × (base_of t.0 ≡ book.entry.base) × (worker_count t.0 ≡ workers)) }
-        ensures numbers { IfOk result (λ t. (length t.1.items ≡ workers) × ((k : ℕ) → k < workers → slice_index (map number_of t.1.items) k ≡ k)) }
-        ensures fresh { IfOk result (λ t. All (λ s. IsSeatAt t.0 s × (history s ≡ []) × (made_count s ≡ 0) × (turns_left s ≡ turns)) t.1.items) }
+        ensures numbers { IfOk result
+            (λ t. (length t.1.items ≡ workers)
+            × ((k : ℕ) → k < workers → slice_index (map number_of t.1.items) k ≡ k)) }
+        ensures fresh { IfOk result
+            (λ t. All (λ s. IsSeatAt t.0 s × (history s ≡ []) × (made_count s ≡ 0)
+            × (turns_left s ≡ turns)) t.1.items) }
         ensures refused { IfErr result (λ b. b ≡ book.entry) }
     {
         match Turn::new(alloc, book, workers, turns) {
@@ -57,9 +61,9 @@ impl<'a, E: Logged> DeskOver<Turn<Book<'a, E>>> {
         }
     }
 
-    /// Looks at the history, which the seat has then seen whole. The buffer's entries are those from its place
-    /// `from` on, or the first 256 of them where there are more, and its front is the number of all entries. It uses one
-    /// of the seat's turns, waits for it, and takes no memory.
+    /// Looks at the history, which the seat has then seen whole. The buffer's entries are those from its place `from`
+    /// on, or the first 256 of them where there are more, and its front is the number of all entries. It uses one of
+    /// the seat's turns, waits for it, and takes no memory.
     pub fn look<R: Wait>(
         &self,
         rt: &R,
@@ -72,7 +76,13 @@ impl<'a, E: Logged> DeskOver<Turn<Book<'a, E>>> {
         ensures own { IsSeatAt self.now result }
         ensures number { number_of result ≡ number_of seat.entry }
         ensures history { GoesOn (number_of seat.entry) (history seat.entry) (history result) }
-        ensures copied { buffer.new ≡ record { from = buffer.old.from; entries = take most_copied (drop buffer.old.from (history result)); front = length (history result) } }
+        ensures copied { buffer.new
+            ≡ record {
+              from = buffer.old.from;
+              entries = take most_copied
+                  (drop buffer.old.from (history result));
+              front = length (history result);
+            } }
         ensures made { made_count result ≡ made_count seat.entry }
         ensures left { turns_left result + 1 ≡ turns_left seat.entry }
     {
@@ -119,7 +129,8 @@ impl<'a, E: Logged> DeskOver<Turn<Book<'a, E>>> {
         requires right { IsRightOffer (base_of self.now) (history seat) (E.Offer.offered offer.now) }
         ensures own { IsSeatAt self.now result.0 }
         ensures number { number_of result.0 ≡ number_of seat.entry }
-        ensures history { EndsWith (base_of self.now) (E.Offer.offered offer.now) result.1 (history seat.entry) (history result.0) }
+        ensures history { EndsWith (base_of self.now) (E.Offer.offered offer.now) result.1 (history seat.entry)
+            (history result.0) }
         ensures made { made_count result.0 ≡ made_count seat.entry + 1 }
         ensures left { turns_left result.0 + 1 ≡ turns_left seat.entry }
     {
@@ -145,7 +156,8 @@ impl<'a, E: Logged> DeskOver<Turn<Book<'a, E>>> {
         requires right { IsRightOffer (base_of self.now) (history seat) (E.Offer.offered offer.now) }
         ensures own { IsSeatAt self.now result.0 }
         ensures number { number_of result.0 ≡ number_of seat.entry }
-        ensures history { EndsWith (base_of self.now) (E.Offer.offered offer.now) result.1 (history seat.entry) (history result.0) }
+        ensures history { EndsWith (base_of self.now) (E.Offer.offered offer.now) result.1 (history seat.entry)
+            (history result.0) }
         ensures told { TellsOf (history result.0) (E.Offer.offered offer.now).seen news.new }
         ensures made { made_count result.0 ≡ made_count seat.entry + 1 }
         ensures left { turns_left result.0 + 1 ≡ turns_left seat.entry }
@@ -168,7 +180,8 @@ impl<'a, E: Logged> DeskOver<Turn<Book<'a, E>>> {
         ensures seen { All (λ s. GoesOn (number_of s) (history s) result.entries) seats.entry.items }
         // each entry is by the worker of a seat, and each seat's worker has as many as the seat made
         ensures makers { All (λ e. e.worker < worker_count self.entry) result.entries }
-        ensures made { All (λ s. count_by (λ e. e.worker == number_of s) result.entries ≡ made_count s) seats.entry.items }
+        ensures made { All (λ s. count_by (λ e. e.worker == number_of s) result.entries
+            ≡ made_count s) seats.entry.items }
     {
         let DeskOver { turn } = self;
         let book = turn.close(seats);
@@ -181,7 +194,13 @@ impl<'a, E: Logged> DeskOver<Turn<Book<'a, E>>> {
 // Copies what a book has from the buffer's place on.
 fn copy<E: Logged>(book: &Book<'_, E>, buffer: &mut Buffer<E>)
     requires { buffer.old.from ≤ length book.now.entries }
-    ensures copied { buffer.new ≡ record { from = buffer.old.from; entries = take most_copied (drop buffer.old.from book.now.entries); front = length book.now.entries } }
+    ensures copied { buffer.new
+        ≡ record {
+          from = buffer.old.from;
+          entries = take most_copied
+              (drop buffer.old.from book.now.entries);
+          front = length book.now.entries;
+        } }
     ensures legal { AreLegalButDraws book.now.base book.now.entries }
 {
     let from = buffer.from();
@@ -205,7 +224,8 @@ fn tell<E: Logged>(book: &Book<'_, E>, from: u32, news: &mut News<E>)
 fn commit<E: Logged>(book: &mut Book<'_, E>, offer: &E::Offer) -> Verdict
     requires { IsRightOffer book.old.base book.old.entries (E.Offer.offered offer.now) }
     ensures base { book.new.base ≡ book.old.base }
-    ensures entries { book.new.entries ≡ book.old.entries ++ entry_of book.old.base book.old.entries (E.Offer.offered offer.now) result ∷ [] }
+    ensures entries { book.new.entries
+        ≡ book.old.entries ++ entry_of book.old.base book.old.entries (E.Offer.offered offer.now) result ∷ [] }
     ensures legal { AreLegalButDraws book.new.base book.new.entries }
 {
     let verdict = book.commit(offer);
@@ -222,7 +242,8 @@ fn commit_and_tell<E: Logged>(
 ) -> Verdict
     requires { IsRightOffer book.old.base book.old.entries (E.Offer.offered offer.now) }
     ensures base { book.new.base ≡ book.old.base }
-    ensures entries { book.new.entries ≡ book.old.entries ++ entry_of book.old.base book.old.entries (E.Offer.offered offer.now) result ∷ [] }
+    ensures entries { book.new.entries
+        ≡ book.old.entries ++ entry_of book.old.base book.old.entries (E.Offer.offered offer.now) result ∷ [] }
     ensures told { TellsOf book.new.entries (E.Offer.offered offer.now).seen news.new }
     ensures legal { AreLegalButDraws book.new.base book.new.entries }
 {

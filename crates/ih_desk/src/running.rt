@@ -56,7 +56,8 @@ fn work_all<D: Sync, W: Work<D> + Send, R: Threads + Wait + Sync, P: Pass + Sync
     gate: &P,
 )
     requires { All (W.ready shared.now) workers.old }
-    ensures { (k : ℕ) (d : W) → k < length workers.old → W.worked shared.now (slice_index_or workers.old k d) (slice_index_or workers.new k d) }
+    ensures { (k : ℕ) (d : W) → k < length workers.old
+        → W.worked shared.now (slice_index_or workers.old k d) (slice_index_or workers.new k d) }
 {
     for_each_mut(rt, workers, MOST_THREADS, &|_, w| w.work(rt, shared, gate));
 }
@@ -74,7 +75,8 @@ where
     <C::Entry as Logged>::Offer: Send,
     <C::Entry as Logged>::Attempt: Send,
     requires { All (MayWork desk.now) workers.old }
-    ensures { (k : ℕ) (d : _) → k < length workers.old → HasWorked desk.now (slice_index_or workers.old k d) (slice_index_or workers.new k d) }
+    ensures { (k : ℕ) (d : _) → k < length workers.old
+        → HasWorked desk.now (slice_index_or workers.old k d) (slice_index_or workers.new k d) }
 {
     let shared = SharedGate { gate };
     work_all(rt, desk, workers, &shared);

@@ -101,7 +101,8 @@ impl<'a, C: Replicates> Searcher<'a, C> {
     ghost use Rattle.ih_desk.specs.Histories.{GoesOn};
     ghost use Rattle.ih_desk.specs.Searchers.{HasAttempted, HasCaughtUp, IsNew, IsNext, IsToldOf, IsWithin, credit};
 
-    /// Makes all attempts of the worker, in order, each of its next draws. A stale one is tried again as often as may be.
+    /// Makes all attempts of the worker, in order, each of its next draws. A stale one is tried again as often as may
+    /// be.
     pub(crate) fn search<R: Wait, P: Pass>(
         &mut self,
         rt: &R,
@@ -143,12 +144,14 @@ impl<'a, C: Replicates> Searcher<'a, C> {
         requires caught_up { HasCaughtUp (base_of desk.now) self.old.each (number_of seat) (history seat) self.old }
         requires move_in { AreMoves (base_of desk.now).instance (C.Entry.Attempt.moves attempt.now) }
         requires next { IsNext (base_of desk.now).options (history seat) (number_of seat) number 0 }
-        requires drawn { C.Entry.Attempt.moves attempt.now ≡ attempt_of (base_of desk.now) self.old.each (number_of seat) number }
+        requires drawn { C.Entry.Attempt.moves attempt.now
+            ≡ attempt_of (base_of desk.now) self.old.each (number_of seat) number }
         requires earlier { AreDrawn (base_of desk.now) self.old.each (number_of seat) (history seat) }
         requires turns { most_entries (base_of desk.now).options < credit (turns_left seat) self.old }
         ensures own { IsSeatAt desk.now result }
         ensures number { number_of result ≡ number_of seat.entry }
-        ensures caught_up { HasCaughtUp (base_of desk.now) self.old.each (number_of seat.entry) (history result) self.new }
+        ensures caught_up { HasCaughtUp (base_of desk.now) self.old.each (number_of seat.entry)
+            (history result) self.new }
         ensures made { HasMade (base_of desk.now).options (history result) (number_of seat.entry) (number + 1) }
         ensures drawn { AreDrawn (base_of desk.now) self.old.each (number_of seat.entry) (history result) }
         ensures turns { credit (turns_left seat.entry) self.old ≤ credit (turns_left result) self.new }
@@ -168,8 +171,8 @@ impl<'a, C: Replicates> Searcher<'a, C> {
     }
 
     // Tries an attempt once: prices it on what the replica stands for, offers it, and takes over what was new by that
-    // turn, its own entry at least, so that the next try is priced on it. The take-over comes behind the gate's `after`:
-    // what the turn told stays the same while a gate holds the worker there.
+    // turn, its own entry at least, so that the next try is priced on it. The take-over comes behind the gate's
+    // `after`: what the turn told stays the same while a gate holds the worker there.
     fn try_once<R: Wait, P: Pass>(
         &mut self,
         rt: &R,
@@ -186,8 +189,10 @@ impl<'a, C: Replicates> Searcher<'a, C> {
         requires turns { most_entries (base_of desk.now).options < credit (turns_left seat) self.old }
         ensures own { IsSeatAt desk.now result.0 }
         ensures number { number_of result.0 ≡ number_of seat.entry }
-        ensures caught_up { HasCaughtUp (base_of desk.now) self.old.each (number_of seat.entry) (history result.0) self.new }
-        ensures attempted { HasAttempted (base_of desk.now).options (number_of seat.entry) number (C.Entry.Attempt.moves attempt.now) result.1 (history seat.entry) (history result.0) }
+        ensures caught_up { HasCaughtUp (base_of desk.now) self.old.each (number_of seat.entry)
+            (history result.0) self.new }
+        ensures attempted { HasAttempted (base_of desk.now).options (number_of seat.entry) number
+            (C.Entry.Attempt.moves attempt.now) result.1 (history seat.entry) (history result.0) }
         ensures turns { credit (turns_left seat.entry) self.old ≤ credit (turns_left result.0) self.new }
         ensures stream { self.new.stream ≡ self.old.stream }
     {
@@ -214,7 +219,8 @@ impl<'a, C: Replicates> Searcher<'a, C> {
         ensures own { IsSeatAt desk.now result.0 }
         ensures number { number_of result.0 ≡ number_of seat.entry }
         ensures within { IsWithin (base_of desk.now) self.old.each (number_of seat.entry) (history result.0) self.new }
-        ensures attempted { HasAttempted (base_of desk.now).options (number_of seat.entry) number (C.Entry.Attempt.moves attempt.now) result.1 (history seat.entry) (history result.0) }
+        ensures attempted { HasAttempted (base_of desk.now).options (number_of seat.entry) number
+            (C.Entry.Attempt.moves attempt.now) result.1 (history seat.entry) (history result.0) }
         ensures told { IsToldOf (history result.0) self.new }
         ensures new { self.new.replica.seen < length (history result.0) }
         ensures turns { credit (turns_left seat.entry) self.old ≡ credit (turns_left result.0) self.new + 1 }
@@ -243,7 +249,8 @@ impl<'a, C: Replicates> Searcher<'a, C> {
         requires turns { most_entries (base_of desk.now).options ≤ credit (turns_left seat) self.old }
         ensures own { IsSeatAt desk.now result }
         ensures number { number_of result ≡ number_of seat.entry }
-        ensures caught_up { HasCaughtUp (base_of desk.now) self.old.each (number_of seat.entry) (history result) self.new }
+        ensures caught_up { HasCaughtUp (base_of desk.now) self.old.each (number_of seat.entry)
+            (history result) self.new }
         ensures history { GoesOn (number_of seat.entry) (history seat.entry) (history result) }
         ensures turns { credit (turns_left seat.entry) self.old < credit (turns_left result) self.new }
         ensures stream { self.new.stream ≡ self.old.stream }

@@ -47,7 +47,8 @@ impl<'a, C: Opens<'a>> Seated<Searcher<'a, C>, Seat<Book<'a, C::Entry>>> {
         requires lawful { IsLawful options.now }
         requires freeze { freeze ≤ C.Entry.Attempt.most_freeze }
         requires each { C.Entry.Attempt.may_have each }
-        ensures new { IfOk result (λ w. IsNewWorker (base_with inst.entry.now.draft start.now options.now freeze) each w seat.entry) }
+        ensures new { IfOk result
+            (λ w. IsNewWorker (base_with inst.entry.now.draft start.now options.now freeze) each w seat.entry) }
         ensures refused { IfErr result (λ s. s ≡ seat.entry) }
     {
         match Searcher::open(alloc, inst, start, options, freeze, each, seat.number()) {
@@ -75,7 +76,8 @@ impl<'a, C: Opens<'a>> Seated<Searcher<'a, C>, Seat<Book<'a, C::Entry>>> {
         requires lawful { IsLawful options.now }
         requires freeze { freeze ≤ C.Entry.Attempt.most_freeze }
         requires single { C.Entry.Attempt.may_have 1 }
-        ensures new { IfOk result (λ w. IsNewWorker (base_with inst.entry.now.draft start.now options.now freeze) 1 w seat.entry) }
+        ensures new { IfOk result
+            (λ w. IsNewWorker (base_with inst.entry.now.draft start.now options.now freeze) 1 w seat.entry) }
         ensures refused { IfErr result (λ s. s ≡ seat.entry) }
     {
         Seated::of(alloc, inst, start, options, freeze, 1, seat)

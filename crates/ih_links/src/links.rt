@@ -1,5 +1,5 @@
-//! Lists of numbered nodes in four vectors, changed in place.
-//! Each head has a gate, which stands behind the nodes, and its list is a ring through that gate: no list has an end to be told apart.
+//! Lists of numbered nodes in four vectors, changed in place. Each head has a gate, which stands behind the nodes, and
+//! its list is a ring through that gate: no list has an end to be told apart.
 
 ghost use Rattle.std.specs.Prelude.{◌≡◌, ℕ, ◌+◌, ◌^◌, ◌<◌, ◌≤◌, true, false, ◌++◌, ◌∷◌, [], length, map, replicate, slice_set, IfOk};
 ghost use Rattle.std.specs.List.{range_with_len};

@@ -129,7 +129,9 @@ workload-most I x j valid = by_test (nat_lt x (patient_count I))
     occupant None e = omega arith
     occupant (Some a) e = entry-most a.workload_produced 100000 j (from-all (IsOccupant I) I.occupants (x - patient_count I) a valid.each_occupant e).workload.small
 
-    by_test : (b : Bool) → slice_index (if b then option_map_or patient_person (slice_get I.patients x) nobody else option_map_or occupant_person (slice_get I.occupants (x - patient_count I)) nobody).workload j ≤ 100000
+    by_test : (b : Bool) → slice_index
+        (if b then option_map_or patient_person (slice_get I.patients x) nobody else option_map_or occupant_person
+        (slice_get I.occupants (x - patient_count I)) nobody).workload j ≤ 100000
     by_test true = patient (slice_get I.patients x) refl
     by_test false = occupant (slice_get I.occupants (x - patient_count I)) refl
 

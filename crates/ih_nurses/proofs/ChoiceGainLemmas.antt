@@ -81,7 +81,8 @@ module _ (P : Timetable) (s : ShiftSpan) (r k m : ℕ) (there : has_shift s r k 
       let high = inside.high in
       let place : s.from + (k - s.from) ≡ k = omega arith in
       let below : k - s.from < s.len = omega arith in
-      let change = sum_below-but s.len (k - s.from) (λ j. bit (is_number (care_of P s.room.0 (s.from + j)) m)) (λ j. bit (not ((s.from + j) == k) && is_number (care_of P s.room.0 (s.from + j)) m)) below
+      let change = sum_below-but s.len (k - s.from) (λ j. bit (is_number (care_of P s.room.0 (s.from + j)) m))
+      (λ j. bit (not ((s.from + j) == k) && is_number (care_of P s.room.0 (s.from + j)) m)) below
       (λ j jh ne. rw (ne_eqb (s.from + j) k (λ e. ne (omega arith))) refl) in
       let own : bit (is_number (care_of P s.room.0 (s.from + (k - s.from))) m) ≡ bit (is_number (care_of P r k) m) = rw (place, inside.room) refl in
       let none : bit (not ((s.from + (k - s.from)) == k) && is_number (care_of P s.room.0 (s.from + (k - s.from))) m) ≡ 0 = rw (place, eq-eqb k k refl) refl in

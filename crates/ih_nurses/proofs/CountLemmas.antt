@@ -247,7 +247,8 @@ module _ (I : Draft) (P : Timetable) (r : RoomNo) (k : Shift) (new : Option Nurs
       let i = k.0 - s.from in
       let place : s.from + (k.0 - s.from) ≡ k.0 = omega arith in
       let inside : k.0 - s.from < s.len = omega arith in
-      let change = sum_below-but s.len (k.0 - s.from) (λ j. bit (is_number (care_of (put (SetCare r k new) P) s.room.0 (s.from + j)) m)) (λ j. bit (is_number (care_of P s.room.0 (s.from + j)) m)) inside
+      let change = sum_below-but s.len (k.0 - s.from) (λ j. bit (is_number (care_of (put (SetCare r k new) P) s.room.0 (s.from + j)) m))
+      (λ j. bit (is_number (care_of P s.room.0 (s.from + j)) m)) inside
       (λ j jh ne. ap (λ o. bit (is_number o m)) (care_of-other I P r k new s.room.0 (s.from + j) plan shift (within j jh) (λ same now. ne (omega arith)))) in
       let before : bit (is_number (care_of P s.room.0 (s.from + (k.0 - s.from))) m) ≡ bit (is_number (care_of P r.0 k.0) m) = rw (place, there.room) refl in
       let after : bit (is_number (care_of (put (SetCare r k new) P) s.room.0 (s.from + (k.0 - s.from))) m) ≡ bit (is_number (option_map (λ (a : NurseNo). a.0) new) m) =

@@ -39,7 +39,9 @@ impl Nurses {
         requires placement { IsPlacement inst.now.draft at }
         requires stands { (P : Timetable) × IsLedgerOf inst.now.draft P self.now }
         ensures gain { (P : Timetable) → IsLedgerOf inst.now.draft P self.now
-            → result ≡ sub_bills (as_bill (part_at inst.now.draft (put (SetStay p (Some at)) P) (Care (record { 0 = p.0 })))) (as_bill (part_at inst.now.draft (put (SetStay p None) P) (Care (record { 0 = p.0 })))) }
+            → result ≡ sub_bills (as_bill
+            (part_at inst.now.draft (put (SetStay p (Some at)) P) (Care (record { 0 = p.0 }))))
+            (as_bill (part_at inst.now.draft (put (SetStay p None) P) (Care (record { 0 = p.0 })))) }
         ensures within { IsWithin (10 ^ 11) result }
     {
         let shift_span = stay_shift_span(inst, p, Some(at));

@@ -51,11 +51,15 @@ impl Nurses {
         requires old_nurse { IfSome old (λ a. a.0 < nurse_count inst.now.draft) }
         requires nurse { (a : NurseNo) → new ≡ Some a → a.0 < nurse_count inst.now.draft }
         requires stands { (P : Timetable) × IsLedgerOf inst.now.draft P self.now }
-        requires other { (P : Timetable) → IsLedgerOf inst.now.draft P self.now → care_of P r.0 k.0 ≢ option_map (λ (a : NurseNo). a.0) new }
-        requires work { work ≡ sum_by (workload_of inst.now.draft (plan_of self.now) k.0) (present inst.now.draft (plan_of self.now) r.0 (day_of k.0)) }
+        requires other { (P : Timetable) → IsLedgerOf inst.now.draft P self.now
+            → care_of P r.0 k.0 ≢ option_map (λ (a : NurseNo). a.0) new }
+        requires work { work ≡ sum_by (workload_of inst.now.draft (plan_of self.now) k.0)
+            (present inst.now.draft (plan_of self.now) r.0 (day_of k.0)) }
         requires bound { work ≤ 256000000 }
         ensures { (P : Timetable) → IsLedgerOf inst.now.draft P self.now
-            → result ≡ rise_by_choice P r k new (λ Q. excess_of inst.now.draft Q k.0 (care_of P r.0 k.0) + excess_of inst.now.draft Q k.0 (option_map (λ (a : NurseNo). a.0) new)) }
+            → result ≡ rise_by_choice P r k new
+            (λ Q. excess_of inst.now.draft Q k.0 (care_of P r.0 k.0) + excess_of inst.now.draft Q k.0
+            (option_map (λ (a : NurseNo). a.0) new)) }
     {
         let loads = self.loads.as_slice();
         excess_without(inst, loads, old, k, work) + excess_with(inst, loads, new, k, work)
@@ -75,7 +79,8 @@ impl Nurses {
         requires shift { k.0 < shift_count inst.now.draft }
         requires nurse { (a : NurseNo) → new ≡ Some a → a.0 < nurse_count inst.now.draft }
         requires stands { (P : Timetable) × IsLedgerOf inst.now.draft P self.now }
-        requires other { (P : Timetable) → IsLedgerOf inst.now.draft P self.now → care_of P r.0 k.0 ≢ option_map (λ (a : NurseNo). a.0) new }
+        requires other { (P : Timetable) → IsLedgerOf inst.now.draft P self.now
+            → care_of P r.0 k.0 ≢ option_map (λ (a : NurseNo). a.0) new }
         ensures off { (P : Timetable) → IsLedgerOf inst.now.draft P self.now
             → result.off ≡ rise_by_choice P r k new (λ Q. off_in inst.now.draft Q r k) }
         ensures uncovered { (P : Timetable) → IsLedgerOf inst.now.draft P self.now
@@ -83,9 +88,12 @@ impl Nurses {
         ensures missing_skill { (P : Timetable) → IsLedgerOf inst.now.draft P self.now
             → result.missing_skill ≡ rise_by_choice P r k new (λ Q. missing_in inst.now.draft Q r k) }
         ensures nurses_seen { (P : Timetable) → IsLedgerOf inst.now.draft P self.now
-            → result.nurses_seen ≡ rise_by_choice P r k new (λ Q. seen_by inst.now.draft Q (present inst.now.draft P r.0 (day_of k.0))) }
+            → result.nurses_seen ≡ rise_by_choice P r k new
+            (λ Q. seen_by inst.now.draft Q (present inst.now.draft P r.0 (day_of k.0))) }
         ensures overload { (P : Timetable) → IsLedgerOf inst.now.draft P self.now
-            → result.overload ≡ rise_by_choice P r k new (λ Q. excess_of inst.now.draft Q k.0 (care_of P r.0 k.0) + excess_of inst.now.draft Q k.0 (option_map (λ (a : NurseNo). a.0) new)) }
+            → result.overload ≡ rise_by_choice P r k new
+            (λ Q. excess_of inst.now.draft Q k.0 (care_of P r.0 k.0) + excess_of inst.now.draft Q k.0
+            (option_map (λ (a : NurseNo). a.0) new)) }
     {
         let persons = &self.here[(k.0 / 3) as usize];
         let old = nurse_at(inst, &self.plan, r, k);

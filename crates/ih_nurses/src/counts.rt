@@ -61,7 +61,8 @@ fn take_count(inst: &Instance, counts: &mut [u8], x: u32, n: Option<NurseNo>)
     requires table { length counts.old ≡ person_count inst.now.draft * nurse_count inst.now.draft }
     requires person { x < person_count inst.now.draft }
     requires nurse { IfSome n (λ a. a.0 < nurse_count inst.now.draft) }
-    requires enough { (m : ℕ) → m < nurse_count inst.now.draft → one_of x n x m ≤ count_at inst.now.draft counts.old x m }
+    requires enough { (m : ℕ) → m < nurse_count inst.now.draft
+        → one_of x n x m ≤ count_at inst.now.draft counts.old x m }
     ensures len { length counts.new ≡ length counts.old }
     ensures each { (y m : ℕ) → m < nurse_count inst.now.draft
         → count_at inst.now.draft counts.new y m + one_of x n y m ≡ count_at inst.now.draft counts.old y m }
@@ -81,7 +82,8 @@ pub fn add_shift_span(inst: &Instance, plan: &Plan, counts: &mut [u8], x: u32, s
     requires none { (m : ℕ) → m < nurse_count inst.now.draft → count_at inst.now.draft counts.old x m ≡ 0 }
     ensures len { length counts.new ≡ length counts.old }
     ensures each { (y m : ℕ) → m < nurse_count inst.now.draft
-        → count_at inst.now.draft counts.new y m ≡ count_at inst.now.draft counts.old y m + (if x == y then nursed_in plan.now (Some s) m else 0) }
+        → count_at inst.now.draft counts.new y m
+        ≡ count_at inst.now.draft counts.old y m + (if x == y then nursed_in plan.now (Some s) m else 0) }
 {
     for j in 0..s.len {
         let nurse = nurse_at(inst, plan, s.room, Shift(s.from + j));
@@ -95,10 +97,12 @@ pub fn take_shift_span(inst: &Instance, plan: &Plan, counts: &mut [u8], x: u32, 
     requires person { x < person_count inst.now.draft }
     requires shift_span { IsShiftSpan inst.now.draft s }
     requires table { length counts.old ≡ person_count inst.now.draft * nurse_count inst.now.draft }
-    requires enough { (m : ℕ) → m < nurse_count inst.now.draft → nursed_in plan.now (Some s) m ≤ count_at inst.now.draft counts.old x m }
+    requires enough { (m : ℕ) → m < nurse_count inst.now.draft
+        → nursed_in plan.now (Some s) m ≤ count_at inst.now.draft counts.old x m }
     ensures len { length counts.new ≡ length counts.old }
     ensures each { (y m : ℕ) → m < nurse_count inst.now.draft
-        → count_at inst.now.draft counts.new y m + (if x == y then nursed_in plan.now (Some s) m else 0) ≡ count_at inst.now.draft counts.old y m }
+        → count_at inst.now.draft counts.new y m + (if x == y then nursed_in plan.now (Some s) m else 0)
+        ≡ count_at inst.now.draft counts.old y m }
 {
     for j in 0..s.len {
         let nurse = nurse_at(inst, plan, s.room, Shift(s.from + j));

@@ -1,4 +1,5 @@
-//! The ledger of nurses: what nurses cost in a room's shift, in a nurse's shift and over a person's stay, without looking through the timetable.
+//! The ledger of nurses: what nurses cost in a room's shift, in a nurse's shift and over a person's stay, without
+//! looking through the timetable.
 #![tactic(auto)]
 
 mod bills;

@@ -67,7 +67,8 @@ pub fn take_load(inst: &Instance, loads: &mut [NurseLoad], n: Option<NurseNo>, k
     requires table { IsTable inst.now.draft loads.old }
     requires nurse { IfSome n (λ a. a.0 < nurse_count inst.now.draft) }
     requires shift { k.0 < shift_count inst.now.draft }
-    requires enough { (m : ℕ) → m < nurse_count inst.now.draft → share n k.0 load m k.0 ≤ load_at inst.now.draft loads.old m k.0 }
+    requires enough { (m : ℕ) → m < nurse_count inst.now.draft
+        → share n k.0 load m k.0 ≤ load_at inst.now.draft loads.old m k.0 }
     ensures table { IsTable inst.now.draft loads.new }
     ensures each { (m j : ℕ) → m < nurse_count inst.now.draft → j < shift_count inst.now.draft
         → load_at inst.now.draft loads.new m j + share n k.0 load m j ≡ load_at inst.now.draft loads.old m j }
@@ -93,10 +94,12 @@ pub fn move_load(
     requires shift { k.0 < shift_count inst.now.draft }
     requires small { (m : ℕ) → m < nurse_count inst.now.draft → load_at inst.now.draft loads.old m k.0 ≤ 256000000 }
     requires load { load ≤ 256000000 }
-    requires enough { (m : ℕ) → m < nurse_count inst.now.draft → share from k.0 load m k.0 ≤ load_at inst.now.draft loads.old m k.0 }
+    requires enough { (m : ℕ) → m < nurse_count inst.now.draft
+        → share from k.0 load m k.0 ≤ load_at inst.now.draft loads.old m k.0 }
     ensures table { IsTable inst.now.draft loads.new }
     ensures each { (m j : ℕ) → m < nurse_count inst.now.draft → j < shift_count inst.now.draft
-        → load_at inst.now.draft loads.new m j + share from k.0 load m j ≡ load_at inst.now.draft loads.old m j + share to k.0 load m j }
+        → load_at inst.now.draft loads.new m j + share from k.0 load m j
+        ≡ load_at inst.now.draft loads.old m j + share to k.0 load m j }
 {
     take_load(inst, loads, from, k, load);
     add_load(inst, loads, to, k, load);

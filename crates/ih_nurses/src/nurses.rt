@@ -41,7 +41,8 @@ pub struct Nurses {
 }
 
 impl Nurses {
-    /// The ledger of the empty timetable: the occupants alone are in rooms, and no room has a nurse. All later calls take no memory.
+    /// The ledger of the empty timetable: the occupants alone are in rooms, and no room has a nurse. All later calls
+    /// take no memory.
     pub fn new(alloc: Global, inst: &Instance) -> Result<Nurses, AllocError>
         ensures { IfOk result (λ ledger. IsLedgerOf inst.now.draft (empty inst.now.draft) ledger) }
     {
@@ -70,7 +71,8 @@ impl Nurses {
         requires patient { p.0 < patient_count inst.now.draft }
         requires placement { IsPlacement inst.now.draft at }
         requires stands { (P : Timetable) × IsLedgerOf inst.now.draft P self.old × (stay_of P p.0 ≡ None) }
-        ensures { (P : Timetable) → IsLedgerOf inst.now.draft P self.old → IsLedgerOf inst.now.draft (put (SetStay p (Some at)) P) self.new }
+        ensures { (P : Timetable) → IsLedgerOf inst.now.draft P self.old
+            → IsLedgerOf inst.now.draft (put (SetStay p (Some at)) P) self.new }
     {
         let end = end_of(inst, p, at);
         enter_days(inst, self.here.as_mut_slice(), at.room, at.day.0, end, p.0);
@@ -91,7 +93,8 @@ impl Nurses {
         requires patient { p.0 < patient_count inst.now.draft }
         requires placement { IsPlacement inst.now.draft at }
         requires stands { (P : Timetable) × IsLedgerOf inst.now.draft P self.old × (stay_of P p.0 ≡ Some at) }
-        ensures { (P : Timetable) → IsLedgerOf inst.now.draft P self.old → IsLedgerOf inst.now.draft (put (SetStay p None) P) self.new }
+        ensures { (P : Timetable) → IsLedgerOf inst.now.draft P self.old
+            → IsLedgerOf inst.now.draft (put (SetStay p None) P) self.new }
     {
         let end = end_of(inst, p, at);
         leave_days(inst, self.here.as_mut_slice(), at.room, at.day.0, end, p.0);
@@ -107,13 +110,15 @@ impl Nurses {
         self.plan.put(&Write::SetStay(p, None));
     }
 
-    /// Replaces the nurse of a room in a shift. It goes over the persons who are in the room on that day, and takes no memory.
+    /// Replaces the nurse of a room in a shift. It goes over the persons who are in the room on that day, and takes no
+    /// memory.
     pub fn set_care(&mut self, inst: &Instance, r: RoomNo, k: Shift, n: Option<NurseNo>)
         requires room { r.0 < room_count inst.now.draft }
         requires shift { k.0 < shift_count inst.now.draft }
         requires nurse { (a : NurseNo) → n ≡ Some a → a.0 < nurse_count inst.now.draft }
         requires stands { (P : Timetable) × IsLedgerOf inst.now.draft P self.old }
-        ensures { (P : Timetable) → IsLedgerOf inst.now.draft P self.old → IsLedgerOf inst.now.draft (put (SetCare r k n) P) self.new }
+        ensures { (P : Timetable) → IsLedgerOf inst.now.draft P self.old
+            → IsLedgerOf inst.now.draft (put (SetCare r k n) P) self.new }
     {
         let persons = &self.here[(k.0 / 3) as usize];
         let load = workload_in(inst, &self.plan, persons, r, k);
@@ -124,12 +129,14 @@ impl Nurses {
         self.plan.put(&Write::SetCare(r, k, n));
     }
 
-    /// A room's part of the bill in a shift: whether its nurse doesn't work the shift, whether persons are present without a nurse, and the required skill above the nurse's. Each number is at most 10^11.
+    /// A room's part of the bill in a shift: whether its nurse doesn't work the shift, whether persons are present
+    /// without a nurse, and the required skill above the nurse's. Each number is at most 10^11.
     pub fn room_shift_bill(&self, inst: &Instance, r: RoomNo, k: Shift) -> Bill
         requires room { r.0 < room_count inst.now.draft }
         requires shift { k.0 < shift_count inst.now.draft }
         requires stands { (P : Timetable) × IsLedgerOf inst.now.draft P self.now }
-        ensures part { (P : Timetable) → IsLedgerOf inst.now.draft P self.now → result ≡ as_bill (part_at inst.now.draft P (RoomShift r k)) }
+        ensures part { (P : Timetable) → IsLedgerOf inst.now.draft P self.now
+            → result ≡ as_bill (part_at inst.now.draft P (RoomShift r k)) }
         ensures within { IsWithin (10 ^ 11) result }
     {
         let persons = &self.here[(k.0 / 3) as usize];
@@ -138,12 +145,14 @@ impl Nurses {
         bill_of(choice_costs(inst, persons, r, k, nurse, missing))
     }
 
-    /// A nurse's part of the bill in a shift: the workload above the maximum, where the shift is worked. Each number is at most 10^11.
+    /// A nurse's part of the bill in a shift: the workload above the maximum, where the shift is worked. Each number is
+    /// at most 10^11.
     pub fn nurse_shift_bill(&self, inst: &Instance, n: NurseNo, k: Shift) -> Bill
         requires nurse { n.0 < nurse_count inst.now.draft }
         requires shift { k.0 < shift_count inst.now.draft }
         requires stands { (P : Timetable) × IsLedgerOf inst.now.draft P self.now }
-        ensures part { (P : Timetable) → IsLedgerOf inst.now.draft P self.now → result ≡ as_bill (part_at inst.now.draft P (NurseShift n k)) }
+        ensures part { (P : Timetable) → IsLedgerOf inst.now.draft P self.now
+            → result ≡ as_bill (part_at inst.now.draft P (NurseShift n k)) }
         ensures within { IsWithin (10 ^ 11) result }
     {
         let load = load(inst, self.loads.as_slice(), n, k);
@@ -160,7 +169,8 @@ impl Nurses {
     pub fn care_bill(&self, inst: &Instance, x: PersonNo) -> Bill
         requires person { x.0 < person_count inst.now.draft }
         requires stands { (P : Timetable) × IsLedgerOf inst.now.draft P self.now }
-        ensures part { (P : Timetable) → IsLedgerOf inst.now.draft P self.now → result ≡ as_bill (part_at inst.now.draft P (Care x)) }
+        ensures part { (P : Timetable) → IsLedgerOf inst.now.draft P self.now
+            → result ≡ as_bill (part_at inst.now.draft P (Care x)) }
         ensures within { IsWithin (10 ^ 11) result }
     {
         bill_of(NursingCosts {

@@ -16,7 +16,8 @@ fn enter_day(inst: &Instance, here: &mut [Links], r: RoomNo, d: u32, x: u32)
     requires person { x < person_count inst.now.draft }
     requires free { (s : ℕ) → s < room_count inst.now.draft → is_here here.old s d x ≡ false }
     ensures sized { AreSized inst.now.draft here.new }
-    ensures each { (s e y : ℕ) → is_here here.new s e y ≡ (is_here here.old s e y || ((r.0 == s) && ((d == e) && (x == y)))) }
+    ensures each { (s e y : ℕ) → is_here here.new s e y
+        ≡ (is_here here.old s e y || ((r.0 == s) && ((d == e) && (x == y)))) }
 {
     here[d as usize].push_back(r.0, x);
 }
@@ -28,9 +29,11 @@ pub fn enter_days(inst: &Instance, here: &mut [Links], r: RoomNo, from: u32, to:
     requires order { from ≤ to }
     requires days { to ≤ inst.now.draft.days }
     requires person { x < person_count inst.now.draft }
-    requires free { (s e : ℕ) → s < room_count inst.now.draft → e < inst.now.draft.days → is_here here.old s e x ≡ false }
+    requires free { (s e : ℕ) → s < room_count inst.now.draft → e < inst.now.draft.days
+        → is_here here.old s e x ≡ false }
     ensures sized { AreSized inst.now.draft here.new }
-    ensures each { (s e y : ℕ) → is_here here.new s e y ≡ (is_here here.old s e y || ((r.0 == s) && (in_span from to e && (x == y)))) }
+    ensures each { (s e y : ℕ) → is_here here.new s e y
+        ≡ (is_here here.old s e y || ((r.0 == s) && (in_span from to e && (x == y)))) }
 {
     for d in from..to {
         enter_day(inst, here, r, d, x);
@@ -57,7 +60,8 @@ pub fn leave_days(inst: &Instance, here: &mut [Links], r: RoomNo, from: u32, to:
     requires person { x < person_count inst.now.draft }
     requires there { (e : ℕ) → in_span from to e ≡ true → is_here here.old r.0 e x ≡ true }
     ensures sized { AreSized inst.now.draft here.new }
-    ensures each { (s e y : ℕ) → is_here here.new s e y ≡ (is_here here.old s e y && not (in_span from to e && (x == y))) }
+    ensures each { (s e y : ℕ) → is_here here.new s e y
+        ≡ (is_here here.old s e y && not (in_span from to e && (x == y))) }
 {
     for d in from..to {
         leave_day(inst, here, r, d, x);

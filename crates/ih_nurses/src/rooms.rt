@@ -74,7 +74,8 @@ pub fn missing_skill(
     requires room { r.0 < length persons.now.lists }
     requires persons { persons.now.nodes ≡ person_count inst.now.draft }
     requires nurse { IfSome n (λ a. a.0 < nurse_count inst.now.draft) }
-    ensures { result ≡ skill_missing inst.now.draft (option_map (λ (a : NurseNo). a.0) n) (map (skill_of inst.now.draft plan.now k.0) (list_of persons.now r.0)) }
+    ensures { result ≡ skill_missing inst.now.draft (option_map (λ (a : NurseNo). a.0) n)
+        (map (skill_of inst.now.draft plan.now k.0) (list_of persons.now r.0)) }
 {
     match n {
         None => 0,
@@ -85,7 +86,8 @@ pub fn missing_skill(
 /// 1 where persons are in a room's list and there is no nurse, and 0 where not.
 pub fn uncovered(persons: &Links, r: RoomNo, n: Option<NurseNo>) -> u32
     requires room { r.0 < length persons.now.lists }
-    ensures value { result ≡ bit (is_none (option_map (λ (a : NurseNo). a.0) n) && not (is_empty (list_of persons.now r.0))) }
+    ensures value { result
+        ≡ bit (is_none (option_map (λ (a : NurseNo). a.0) n) && not (is_empty (list_of persons.now r.0))) }
     ensures nodes { AreNodes persons.now.nodes (list_of persons.now r.0) }
 {
     let occupied = persons.first(r.0).is_some();
@@ -140,7 +142,8 @@ pub fn choice_costs(
     requires nurse { IfSome n (λ a. a.0 < nurse_count inst.now.draft) }
     requires shift { k.0 < shift_count inst.now.draft }
     ensures off { result.off ≡ bit (not_working inst.now.draft k.0 (option_map (λ (a : NurseNo). a.0) n)) }
-    ensures uncovered { result.uncovered ≡ bit (is_none (option_map (λ (a : NurseNo). a.0) n) && not (is_empty (list_of persons.now r.0))) }
+    ensures uncovered { result.uncovered
+        ≡ bit (is_none (option_map (λ (a : NurseNo). a.0) n) && not (is_empty (list_of persons.now r.0))) }
     ensures missing_skill { result.missing_skill ≡ missing_skill }
     ensures seen { result.nurses_seen ≡ 0 }
     ensures overload { result.overload ≡ 0 }

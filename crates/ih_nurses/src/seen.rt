@@ -37,8 +37,10 @@ fn is_set(word: u64, i: u32) -> bool
 fn meet(seen: &mut [u64], n: Option<NurseNo>) -> u32
     requires { IfSome n (λ a. a.0 < 64 * length seen.old) }
     ensures len { length seen.new ≡ length seen.old }
-    ensures each { (i : ℕ) → is_marked seen.new i ≡ (is_marked seen.old i || is_number (option_map (λ (a : NurseNo). a.0) n) i) }
-    ensures count { (m : ℕ) → IfSome n (λ a. a.0 < m) → count_below m (is_marked seen.new) ≡ count_below m (is_marked seen.old) + result }
+    ensures each { (i : ℕ) → is_marked seen.new i
+        ≡ (is_marked seen.old i || is_number (option_map (λ (a : NurseNo). a.0) n) i) }
+    ensures count { (m : ℕ) → IfSome n (λ a. a.0 < m)
+        → count_below m (is_marked seen.new) ≡ count_below m (is_marked seen.old) + result }
     ensures bound { result ≤ 1 }
 {
     match n {

@@ -25,7 +25,8 @@ pub struct ShiftSpan {
 pub fn placed_shift_span(inst: &Instance, p: PatientNo, at: Placement) -> ShiftSpan
     requires patient { p.0 < patient_count inst.now.draft }
     requires placement { IsPlacement inst.now.draft at }
-    ensures shift_span { Some result ≡ shift_span_in inst.now.draft (Some (placed_at at)) (person_of inst.now.draft p.0).length_of_stay }
+    ensures shift_span { Some result
+        ≡ shift_span_in inst.now.draft (Some (placed_at at)) (person_of inst.now.draft p.0).length_of_stay }
     ensures inside { IsShiftSpan inst.now.draft result }
 {
     let a = inst.patient(p);
@@ -41,7 +42,8 @@ pub fn placed_shift_span(inst: &Instance, p: PatientNo, at: Placement) -> ShiftS
 pub fn stay_shift_span(inst: &Instance, p: PatientNo, stay: Option<Placement>) -> Option<ShiftSpan>
     requires patient { p.0 < patient_count inst.now.draft }
     requires stay { IfSome stay (IsPlacement inst.now.draft) }
-    ensures shift_span { result ≡ shift_span_in inst.now.draft (option_map placed_at stay) (person_of inst.now.draft p.0).length_of_stay }
+    ensures shift_span { result
+        ≡ shift_span_in inst.now.draft (option_map placed_at stay) (person_of inst.now.draft p.0).length_of_stay }
     ensures inside { IfSome result (IsShiftSpan inst.now.draft) }
 {
     match stay {
@@ -55,7 +57,9 @@ pub fn stay_shift_span(inst: &Instance, p: PatientNo, stay: Option<Placement>) -
 fn occupant_shift_span(inst: &Instance, plan: &Plan, x: u32) -> Option<ShiftSpan>
     requires occupant { patient_count inst.now.draft ≤ x }
     requires person { x < person_count inst.now.draft }
-    ensures shift_span { result ≡ shift_span_in inst.now.draft (admission_of inst.now.draft plan.now x) (person_of inst.now.draft x).length_of_stay }
+    ensures shift_span { result
+        ≡ shift_span_in inst.now.draft (admission_of inst.now.draft plan.now x)
+        (person_of inst.now.draft x).length_of_stay }
     ensures inside { IfSome result (IsShiftSpan inst.now.draft) }
 {
     let o = inst.occupant(x - inst.patients());
@@ -70,7 +74,9 @@ fn occupant_shift_span(inst: &Instance, plan: &Plan, x: u32) -> Option<ShiftSpan
 pub fn shift_span_of(inst: &Instance, plan: &Plan, x: u32) -> Option<ShiftSpan>
     requires plan { IsPlanOf inst.now.draft plan.now }
     requires person { x < person_count inst.now.draft }
-    ensures shift_span { result ≡ shift_span_in inst.now.draft (admission_of inst.now.draft plan.now x) (person_of inst.now.draft x).length_of_stay }
+    ensures shift_span { result
+        ≡ shift_span_in inst.now.draft (admission_of inst.now.draft plan.now x)
+        (person_of inst.now.draft x).length_of_stay }
     ensures inside { IfSome result (IsShiftSpan inst.now.draft) }
 {
     if x < inst.patients() {

@@ -33,10 +33,12 @@ pub fn add_stay(inst: &Instance, plan: &Plan, loads: &mut [NurseLoad], p: Patien
     requires patient { p.0 < patient_count inst.now.draft }
     requires placement { IsPlacement inst.now.draft at }
     requires table { IsTable inst.now.draft loads.old }
-    requires small { (m j : ℕ) → m < nurse_count inst.now.draft → j < shift_count inst.now.draft → load_at inst.now.draft loads.old m j ≤ 256000000 }
+    requires small { (m j : ℕ) → m < nurse_count inst.now.draft → j < shift_count inst.now.draft
+        → load_at inst.now.draft loads.old m j ≤ 256000000 }
     ensures table { IsTable inst.now.draft loads.new }
     ensures each { (m j : ℕ) → m < nurse_count inst.now.draft → j < shift_count inst.now.draft
-        → load_at inst.now.draft loads.new m j ≡ load_at inst.now.draft loads.old m j + stay_load inst.now.draft plan.now p.0 at m j }
+        → load_at inst.now.draft loads.new m j
+        ≡ load_at inst.now.draft loads.old m j + stay_load inst.now.draft plan.now p.0 at m j }
 {
     let end = end_of(inst, p, at);
     for k in 3 * at.day.0..3 * end {
@@ -56,7 +58,8 @@ pub fn take_stay(inst: &Instance, plan: &Plan, loads: &mut [NurseLoad], p: Patie
         → stay_load inst.now.draft plan.now p.0 at m j ≤ load_at inst.now.draft loads.old m j }
     ensures table { IsTable inst.now.draft loads.new }
     ensures each { (m j : ℕ) → m < nurse_count inst.now.draft → j < shift_count inst.now.draft
-        → load_at inst.now.draft loads.new m j + stay_load inst.now.draft plan.now p.0 at m j ≡ load_at inst.now.draft loads.old m j }
+        → load_at inst.now.draft loads.new m j + stay_load inst.now.draft plan.now p.0 at m j
+        ≡ load_at inst.now.draft loads.old m j }
 {
     let end = end_of(inst, p, at);
     for k in 3 * at.day.0..3 * end {

@@ -23,7 +23,9 @@ done-most o (Some e) h = elim (cases_eq o.moves 0) [
   | inr some ↦ by_case (is_retried o e) (rw (ne_eqb o.moves 0 some) at h)
 ]
   where
-    by_case : (t : Bool) → ((e.number + 1 == o.moves) && not t) ≡ true → o.moves ≤ (let a : Attempt = (if t then record { number = e.number; again = e.again + 1 } else record { number = e.number + 1; again = 0 }) in a.number)
+    by_case : (t : Bool) → ((e.number + 1 == o.moves) && not t) ≡ true
+        → o.moves ≤ (let a : Attempt =
+        (if t then record { number = e.number; again = e.again + 1 } else record { number = e.number + 1; again = 0 }) in a.number)
     by_case true h = absurd (and-false (e.number + 1 == o.moves) h)
       where
         and-false : (t : Bool) → (t && false) ≡ true → ⊥

@@ -161,7 +161,9 @@ takes-one b valid base F [] H G legal to fro = to ∙ sym fro
 takes-one b valid base F (x ∷ xs) H G legal to fro =
     let one : IsNextLine b F x to.0 = to.1 in
     let other : IsNextLine b F x fro.0 = fro.1 in
-    let same : fro.0 ≡ to.0 = (lines_differ b.instance b.options (length F) (length F) fro.0 to.0 x (limits b.instance valid) (next-line-of b F valid base legal x fro.0 other) (next-line-of b F valid base legal x to.0 one)).1 in
+    let same : fro.0 ≡ to.0 =
+    (lines_differ b.instance b.options (length F) (length F) fro.0 to.0 x (limits b.instance valid) (next-line-of b F valid base legal x fro.0 other)
+    (next-line-of b F valid base legal x to.0 one)).1 in
     takes-one b valid base (F ++ to.0 ∷ []) xs H G (legal-longer b F to.0 legal one.legal) to.2 (subst (λ e. Takes b (F ++ e ∷ []) xs G) same fro.2)
 
 -- the pieces but the last, and the last

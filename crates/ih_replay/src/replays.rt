@@ -64,7 +64,8 @@ impl<'a> Replay<'a> {
     ) -> Result<Replay<'a>, AllocError>
         requires start { IsPlanOf inst.now.draft start.now }
         requires lawful { IsLawful options.now }
-        ensures { IfOk result (λ r. r ≡ record { base = base_with inst.now.draft start.now options.now freeze; entries = [] }) }
+        ensures { IfOk result
+            (λ r. r ≡ record { base = base_with inst.now.draft start.now options.now freeze; entries = [] }) }
     {
         let first = bill(inst, start);
         let book = Book::new(alloc, inst, start, &first, options, freeze)?;
@@ -80,11 +81,16 @@ impl<'a> Replay<'a> {
 
     /// Takes a line, without its line feed, where it is that of an entry that may come next, and answers else the first
     /// reason for which it isn't, with its number among the journal's lines: entry 0 is on line 2. A refused line
-    /// changes nothing. It takes no memory, and the time of the entry's move; after a refusal, maybe that of all moves so far.
+    /// changes nothing. It takes no memory, and the time of the entry's move; after a refusal, maybe that of all moves
+    /// so far.
     pub fn step(&mut self, line: &[u8]) -> Result<(), JournalRefusal>
-        ensures taken { OnOk result ((e : Entry) × IsNextLine self.old.base self.old.entries line.now e × (self.new ≡ record self.old { entries = self.old.entries ++ e ∷ [] })) }
+        ensures taken { OnOk result
+            ((e : Entry) × IsNextLine self.old.base self.old.entries line.now e
+            × (self.new ≡ record self.old { entries = self.old.entries ++ e ∷ [] })) }
         ensures next { (e : Entry) → IsNextLine self.old.base self.old.entries line.now e → IsOk result }
-        ensures refused { IfErr result (λ r. (r.line ≡ length self.old.entries + 2) × IsRefusedFor self.old.base self.old.entries line.now r.reason) }
+        ensures refused { IfErr result
+            (λ r. (r.line ≡ length self.old.entries + 2)
+            × IsRefusedFor self.old.base self.old.entries line.now r.reason) }
         ensures same { OnErr result (self.new ≡ self.old) }
     {
         let taken = take_line(

@@ -26,7 +26,8 @@ use ih_tables::{Bill, Instance};
 pub(crate) fn is_full(book: &Book<'_>, options: &Options, workers: &[Worker<'_>]) -> bool
     requires options { options.now ≡ book.now.base.options }
     requires kept { IsReplayed book.now.base book.now.entries workers.now }
-    ensures full { IsTrue result → (w : ℕ) → w < book.now.base.options.workers → is_done book.now.base.options book.now.entries w ≡ true }
+    ensures full { IsTrue result → (w : ℕ) → w < book.now.base.options.workers
+        → is_done book.now.base.options book.now.entries w ≡ true }
     ensures going { IsFalse result → (w : ℕ) × IsGoing book.now.base book.now.entries w }
 {
     for worker in workers {
@@ -41,8 +42,11 @@ pub(crate) fn is_full(book: &Book<'_>, options: &Options, workers: &[Worker<'_>]
 fn read(inst: &Instance, options: &Options, book: &Book<'_>, line: &[u8]) -> Result<Entry, Reason>
     requires instance { inst.now.draft ≡ book.now.base.instance }
     requires options { options.now ≡ book.now.base.options }
-    ensures ok { IfOk result (λ e. IsLineOf book.now.base.instance book.now.base.options (length book.now.entries) e line.now) }
-    ensures only { IfOk result (λ e. (k : ℕ) (f : Entry) → IsLineOf book.now.base.instance book.now.base.options k f line.now → (k ≡ length book.now.entries) × (f ≡ e)) }
+    ensures ok { IfOk result
+        (λ e. IsLineOf book.now.base.instance book.now.base.options (length book.now.entries) e line.now) }
+    ensures only { IfOk result
+        (λ e. (k : ℕ) (f : Entry) → IsLineOf book.now.base.instance book.now.base.options k f line.now
+        → (k ≡ length book.now.entries) × (f ≡ e)) }
     ensures err { IfErr result (IsFirstOf (Passes book.now.base book.now.entries line.now) of_place) }
 {
     match parse_line(inst, options, line) {
@@ -77,8 +81,10 @@ fn is_same_verdict(a: &Verdict, b: &Verdict) -> bool
 // Whether the worker can have seen as many entries as its entry says, its own last one among them.
 fn may_have_seen(book: &Book<'_>, worker: &Worker<'_>, entry: &Entry) -> bool
     requires { IsWorkerIn book.now.base book.now.entries entry.now.worker worker.now }
-    ensures yes { IsTrue result → (entry.now.seen ≤ length book.now.entries) × HasSeenOwn book.now.entries entry.now.worker entry.now.seen }
-    ensures no { IsFalse result → (entry.now.seen ≤ length book.now.entries) × HasSeenOwn book.now.entries entry.now.worker entry.now.seen → ⊥ }
+    ensures yes { IsTrue result → (entry.now.seen ≤ length book.now.entries)
+        × HasSeenOwn book.now.entries entry.now.worker entry.now.seen }
+    ensures no { IsFalse result → (entry.now.seen ≤ length book.now.entries)
+        × HasSeenOwn book.now.entries entry.now.worker entry.now.seen → ⊥ }
 {
     if entry.seen < worker.front {
         return false;
@@ -97,8 +103,10 @@ fn check(
     requires legal { AreLegal book.now.base 1 book.now.entries }
     requires known { entry.now.worker < book.now.base.options.workers }
     requires kept { IsWorkerIn book.now.base book.now.entries entry.now.worker worker.now }
-    ensures ok { OnOk result (AllByRecursion (FitsIn book.now.base book.now.entries (length book.now.entries) entry.now) of_attempt) }
-    ensures err { IfErr result (IsFirstOf (FitsIn book.now.base book.now.entries (length book.now.entries) entry.now) of_attempt) }
+    ensures ok { OnOk result
+        (AllByRecursion (FitsIn book.now.base book.now.entries (length book.now.entries) entry.now) of_attempt) }
+    ensures err { IfErr result
+        (IsFirstOf (FitsIn book.now.base book.now.entries (length book.now.entries) entry.now) of_attempt) }
 {
     if worker.number >= options.moves {
         Err(Reason::Worker)
@@ -144,14 +152,17 @@ fn commit(book: &mut Book<'_>, replica: &mut Replica<'_>, entry: &Entry) -> Resu
     requires replica { IsReplicaIn book.old.base book.old.entries replica.old }
     requires seen { replica.old.seen ≡ entry.now.seen }
     requires own { replica.old.worker ≡ entry.now.worker }
-    requires fits { AllByRecursion (FitsIn book.old.base book.old.entries (length book.old.entries) entry.now) of_attempt }
+    requires fits { AllByRecursion
+        (FitsIn book.old.base book.old.entries (length book.old.entries) entry.now) of_attempt }
     requires move_in { IsMoveOf book.old.base.instance entry.now.mv }
     ensures base { book.new.base ≡ book.old.base }
     ensures replica { IsReplicaIn book.new.base book.new.entries replica.new }
     ensures own { replica.new.worker ≡ replica.old.worker }
-    ensures ok { OnOk result (AllByRecursion (FitsIn book.old.base book.old.entries (length book.old.entries) entry.now) of_offer) }
+    ensures ok { OnOk result
+        (AllByRecursion (FitsIn book.old.base book.old.entries (length book.old.entries) entry.now) of_offer) }
     ensures added { OnOk result (book.new.entries ≡ book.old.entries ++ tried entry.now ∷ []) }
-    ensures err { IfErr result (IsFirstOf (FitsIn book.old.base book.old.entries (length book.old.entries) entry.now) of_offer) }
+    ensures err { IfErr result
+        (IsFirstOf (FitsIn book.old.base book.old.entries (length book.old.entries) entry.now) of_offer) }
     ensures same { OnErr result (book.new.entries ≡ book.old.entries) }
 {
     let offer = replica.price(&entry.mv, entry.number);
@@ -184,7 +195,8 @@ fn take_entry(
     ensures kept { IsWorkerIn book.new.base book.new.entries entry.now.worker worker.new }
     ensures legal { OnOk result (IsLegal book.old.base 1 book.old.entries (tried entry.now)) }
     ensures added { OnOk result (book.new.entries ≡ book.old.entries ++ tried entry.now ∷ []) }
-    ensures err { IfErr result (IsFirstOf (FitsIn book.old.base book.old.entries (length book.old.entries) entry.now) of_entry) }
+    ensures err { IfErr result
+        (IsFirstOf (FitsIn book.old.base book.old.entries (length book.old.entries) entry.now) of_entry) }
     ensures same { OnErr result (book.new.entries ≡ book.old.entries) }
 {
     check(options, book, worker, entry)?;

@@ -64,7 +64,8 @@ once-distinct (x ∷ xs) once = (all-apart x xs once.0, once-distinct xs once.1)
 pub has-passing : (n x : ℕ) (p : ℕ → Bool) → (p x ≡ true → x < n) → has x (which_below n p) ≡ p x
 has-passing n x p inside = has-number x (which_below n p) ∙ elim (cases_lt x n) [
   | inl below ↦ has-which_below n x p below
-  | inr past ↦ false_from_ne_true (has_number x (which_below n p)) (λ m. let q = which_below-has n x p m in omega (arith, q.0)) ∙ sym (false_from_ne_true (p x) (λ m. let q = inside m in omega (arith, q)))
+  | inr past ↦ false_from_ne_true (has_number x (which_below n p)) (λ m. let q = which_below-has n x p m in omega (arith, q.0))
+      ∙ sym (false_from_ne_true (p x) (λ m. let q = inside m in omega (arith, q)))
 ]
 
 pub once-passing : (n : ℕ) (p : ℕ → Bool) → IsOnce (which_below n p)

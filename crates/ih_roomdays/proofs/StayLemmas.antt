@@ -62,12 +62,17 @@ module _ (I : Draft) (P : Timetable) (old new : Rows) (p : PatientNo) (a : Patie
     days = entered.days ∙ stands.days;
     persons = entered.persons ∙ stands.persons;
     profiles = subst (AreProfiles I) (sym entered.profiles) stands.profiles;
-    each = λ r d x below. entered.each r d x (rw stands.days below) ∙ (ap (λ b. b || ((at.room.0 == r) && of_stay p.0 at.day.0 (min (at.day.0 + a.length_of_stay) I.days) d x)) (stands.each r d x below) ∙ each r d x below);
+    each = λ r d x below. entered.each r d x (rw stands.days below)
+        ∙ (ap (λ b. b || ((at.room.0 == r) && of_stay p.0 at.day.0 (min (at.day.0 + a.length_of_stay) I.days) d x)) (stands.each r d x below)
+        ∙ each r d x below);
   }
     where
-      each : (r d x : ℕ) → d < I.days → (is_present I P r d x || ((at.room.0 == r) && of_stay p.0 at.day.0 (min (at.day.0 + a.length_of_stay) I.days) d x)) ≡ is_present I (put (SetStay p (Some at)) P) r d x
+      each : (r d x : ℕ) → d < I.days
+          → (is_present I P r d x || ((at.room.0 == r) && of_stay p.0 at.day.0 (min (at.day.0 + a.length_of_stay) I.days) d x))
+          ≡ is_present I (put (SetStay p (Some at)) P) r d x
       each r d x below = elim (cases_eq x p.0) [
-        | inl own ↦ subst (λ y. (is_present I P r d y || ((at.room.0 == r) && of_stay p.0 at.day.0 (min (at.day.0 + a.length_of_stay) I.days) d y)) ≡ is_present I (put (SetStay p (Some at)) P) r d y) (sym own)
+        | inl own ↦ subst (λ y. (is_present I P r d y || ((at.room.0 == r) && of_stay p.0 at.day.0 (min (at.day.0 + a.length_of_stay) I.days) d y))
+            ≡ is_present I (put (SetStay p (Some at)) P) r d y) (sym own)
             (rw (nowhere I P p.0 r d known none, eq-eqb p.0 p.0 refl, span-covers at.day.0 a.length_of_stay I.days d below) (sym (set-stay (Some at) r d)))
         | inr other ↦ rw (ne_eqb x p.0 other, and-false (at.room.0 == r)) (or-false (is_present I P r d x) ∙ sym (others I P p (Some at) r d x other))
       ]
@@ -80,7 +85,8 @@ module _ (I : Draft) (P : Timetable) (old new : Rows) (p : PatientNo) (a : Patie
     days = gone.days ∙ stands.days;
     persons = gone.persons ∙ stands.persons;
     profiles = subst (AreProfiles I) (sym gone.profiles) stands.profiles;
-    each = λ r d x below. gone.each r d x (rw stands.days below) ∙ (ap (λ b. b && not (of_stay p.0 at.day.0 (min (at.day.0 + a.length_of_stay) I.days) d x)) (stands.each r d x below) ∙ each r d x below);
+    each = λ r d x below. gone.each r d x (rw stands.days below)
+        ∙ (ap (λ b. b && not (of_stay p.0 at.day.0 (min (at.day.0 + a.length_of_stay) I.days) d x)) (stands.each r d x below) ∙ each r d x below);
   }
     where
       away : (q b : Bool) → ((q && b) && not (true && b)) ≡ false
@@ -91,7 +97,8 @@ module _ (I : Draft) (P : Timetable) (old new : Rows) (p : PatientNo) (a : Patie
       each : (r d x : ℕ) → d < I.days → (is_present I P r d x && not (of_stay p.0 at.day.0 (min (at.day.0 + a.length_of_stay) I.days) d x)) ≡ is_present I (put (SetStay p None) P) r d x
       each r d x below = elim (cases_eq x p.0) [
         | inl own ↦ subst (λ y. (is_present I P r d y && not (of_stay p.0 at.day.0 (min (at.day.0 + a.length_of_stay) I.days) d y)) ≡ is_present I (put (SetStay p None) P) r d y) (sym own)
-            (rw (somewhere I P p.0 r d a at patient stay, eq-eqb p.0 p.0 refl, span-covers at.day.0 a.length_of_stay I.days d below) (away (at.room.0 == r) (covers at.day.0 a.length_of_stay d)) ∙ sym (set-stay None r d))
+            (rw (somewhere I P p.0 r d a at patient stay, eq-eqb p.0 p.0 refl, span-covers at.day.0 a.length_of_stay I.days d below)
+            (away (at.room.0 == r) (covers at.day.0 a.length_of_stay d)) ∙ sym (set-stay None r d))
         | inr other ↦ rw (ne_eqb x p.0 other) (and-true (is_present I P r d x) ∙ sym (others I P p None r d x other))
       ]
 

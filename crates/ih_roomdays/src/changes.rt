@@ -85,7 +85,8 @@ pub fn without_and_with(
     requires patient { p.0 < patient_count inst.now.draft }
     requires was { was ≡ is_at rows.now r.0 d.0 p.0 }
     ensures without { result.0 ≡ room_counts inst.now.draft r.0 (without p.0 (persons_at rows.now r.0 d.0)) }
-    ensures with { result.1 ≡ room_counts inst.now.draft r.0 (with_if true p.0 (without p.0 (persons_at rows.now r.0 d.0))) }
+    ensures with { result.1
+        ≡ room_counts inst.now.draft r.0 (with_if true p.0 (without p.0 (persons_at rows.now r.0 d.0))) }
 {
     let who = rows.profiles.of(p.0);
     let rest = others(rows, r, d, p.0, who, was);

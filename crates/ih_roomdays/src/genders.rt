@@ -14,7 +14,8 @@ use std::alloc::{AllocError, Global};
 fn first_alike(inst: &Instance, x: u32) -> u32
     requires { x < person_count inst.now.draft }
     ensures same { bytes_eq (person_of inst.now.draft x).gender (person_of inst.now.draft result).gender ≡ true }
-    ensures first { (y : ℕ) → y < result → bytes_eq (person_of inst.now.draft x).gender (person_of inst.now.draft y).gender ≡ false }
+    ensures first { (y : ℕ) → y < result
+        → bytes_eq (person_of inst.now.draft x).gender (person_of inst.now.draft y).gender ≡ false }
 {
     for y in 0..x {
         if same_gender(inst, x, y) {

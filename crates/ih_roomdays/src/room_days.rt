@@ -67,7 +67,8 @@ impl RoomDays {
         requires patient { p.0 < patient_count inst.now.draft }
         requires placement { IsPlacement inst.now.draft at }
         requires stands { (P : Timetable) × IsLedgerOf inst.now.draft P self.old × (stay_of P p.0 ≡ None) }
-        ensures { (P : Timetable) → IsLedgerOf inst.now.draft P self.old → stay_of P p.0 ≡ None → IsLedgerOf inst.now.draft (put (SetStay p (Some at)) P) self.new }
+        ensures { (P : Timetable) → IsLedgerOf inst.now.draft P self.old → stay_of P p.0 ≡ None
+            → IsLedgerOf inst.now.draft (put (SetStay p (Some at)) P) self.new }
     {
         let to = end_of(inst, at.day.0, inst.patient(p).length_of_stay);
         self.rows.enter(at.room.0, p.0, at.day.0, to);
@@ -77,18 +78,21 @@ impl RoomDays {
     pub fn leave(&mut self, inst: &Instance, p: PatientNo, at: Placement)
         requires patient { p.0 < patient_count inst.now.draft }
         requires stands { (P : Timetable) × IsLedgerOf inst.now.draft P self.old × (stay_of P p.0 ≡ Some at) }
-        ensures { (P : Timetable) → IsLedgerOf inst.now.draft P self.old → stay_of P p.0 ≡ Some at → IsLedgerOf inst.now.draft (put (SetStay p None) P) self.new }
+        ensures { (P : Timetable) → IsLedgerOf inst.now.draft P self.old → stay_of P p.0 ≡ Some at
+            → IsLedgerOf inst.now.draft (put (SetStay p None) P) self.new }
     {
         let to = end_of(inst, at.day.0, inst.patient(p).length_of_stay);
         self.rows.leave(at.room.0, p.0, at.day.0, to);
     }
 
-    /// The part of the bill that the room has on the day: mixed genders, persons above the capacity, and the spread of ages.
+    /// The part of the bill that the room has on the day: mixed genders, persons above the capacity, and the spread of
+    /// ages.
     pub fn cell_bill(&self, inst: &Instance, r: RoomNo, d: Day) -> Bill
         requires room { r.0 < room_count inst.now.draft }
         requires day { d.0 < inst.now.draft.days }
         requires stands { (P : Timetable) × IsLedgerOf inst.now.draft P self.now }
-        ensures value { (P : Timetable) → IsLedgerOf inst.now.draft P self.now → result ≡ as_bill (part_at inst.now.draft P (RoomDay r d)) }
+        ensures value { (P : Timetable) → IsLedgerOf inst.now.draft P self.now
+            → result ≡ as_bill (part_at inst.now.draft P (RoomDay r d)) }
         ensures within { IsWithin (10 ^ 11) result }
     {
         let head = r.0 * self.rows.days + d.0;
@@ -111,7 +115,8 @@ impl RoomDays {
         requires counted { covers at.day.0 (person_of inst.now.draft p.0).length_of_stay d.0 ≡ true }
         requires stands { (P : Timetable) × IsLedgerOf inst.now.draft P self.now × (stay_of P p.0 ≡ old) }
         ensures gain { (P : Timetable) → IsLedgerOf inst.now.draft P self.now → stay_of P p.0 ≡ old
-            → result ≡ sub_bills (as_bill (part_at inst.now.draft (put (SetStay p (Some at)) P) (RoomDay at.room d))) (as_bill (part_at inst.now.draft (put (SetStay p None) P) (RoomDay at.room d))) }
+            → result ≡ sub_bills (as_bill (part_at inst.now.draft (put (SetStay p (Some at)) P) (RoomDay at.room d)))
+            (as_bill (part_at inst.now.draft (put (SetStay p None) P) (RoomDay at.room d))) }
         ensures within { IsWithin (10 ^ 11) result }
     {
         let was = is_there(inst, p, old, at.room, d);

@@ -29,7 +29,8 @@ fn most_at(options: &Options, number: u32) -> i64
     }
 }
 
-/// Whether the verdict on an attempt of this number rests on what its price was read from: it isn't frozen, nor too dear.
+/// Whether the verdict on an attempt of this number rests on what its price was read from: it isn't frozen, nor too
+/// dear.
 pub(crate) fn is_compared(
     inst: &Instance,
     options: &Options,
@@ -47,7 +48,8 @@ pub(crate) fn is_compared(
 // Whether the entry is that of the offer, and the offer read any cells.
 fn is_own<E: Logged>(offer: &E::Offer, entry: &E) -> bool
     ensures { IsTrue result → (0 < length (E.Offer.offered offer.now).reads.pairs)
-        × ((E.tried entry.now).seen ≡ (E.Offer.offered offer.now).seen) × ((E.tried entry.now).moves ≡ (E.Offer.offered offer.now).moves) }
+        × ((E.tried entry.now).seen ≡ (E.Offer.offered offer.now).seen)
+        × ((E.tried entry.now).moves ≡ (E.Offer.offered offer.now).moves) }
 {
     !offer.reads().as_slice().is_empty()
         && entry.worker() == offer.worker()
@@ -69,10 +71,14 @@ pub(crate) fn play<E: Logged>(
     requires count { length versions.old ≡ cell_count ledgers.old.instance }
     requires small { (n : ℕ) → slice_index versions.old n + cell_count ledgers.old.instance < 2 ^ 32 }
     requires own { IsOwnRead ledgers.old.instance ledgers.old.plan (E.Offer.offered last.now) (E.tried entry.now) }
-    ensures made { ledgers.new ≡ record ledgers.old { plan = after_all ledgers.old.instance ledgers.old.plan (E.tried entry.now).moves } }
+    ensures made { ledgers.new
+        ≡ record ledgers.old { plan = after_all ledgers.old.instance ledgers.old.plan (E.tried entry.now).moves } }
     ensures len { length versions.new ≡ length versions.old }
     ensures each { (n : ℕ) → n < cell_count ledgers.old.instance
-        → slice_index versions.new n ≡ slice_index versions.old n + bit (all_touch ledgers.old.instance ledgers.old.plan (E.tried entry.now).moves (cell_at ledgers.old.instance n)) }
+        → slice_index versions.new n
+        ≡ slice_index versions.old n + bit
+        (all_touch ledgers.old.instance ledgers.old.plan (E.tried entry.now).moves
+        (cell_at ledgers.old.instance n)) }
     ensures sizes { foot.new.sizes ≡ foot.old.sizes }
 {
     if is_own(last, entry) {

@@ -81,7 +81,8 @@ impl<'a, E: Logged> Replica<'a, E> {
         requires start { IsPlanOf inst.now.draft start.now }
         requires lawful { IsLawful options.now }
         requires freeze { freeze ≤ E.Attempt.most_freeze }
-        ensures replica { IfOk result (λ r. IsReplicaOf (base_with inst.entry.now.draft start.now options.now freeze) [] r) }
+        ensures replica { IfOk result
+            (λ r. IsReplicaOf (base_with inst.entry.now.draft start.now options.now freeze) [] r) }
         ensures worker { IfOk result (λ r. r.worker ≡ worker) }
     {
         let numbering = Numbering::of(inst);
@@ -164,14 +165,16 @@ impl<'a, E: Logged> Replica<'a, E> {
         self.seen
     }
 
-    /// The offer of its worker for an attempt of this number, priced after the entries that it stands for, and whether the
-    /// attempt writes a choice before the freeze day. Where it doesn't, and the price's score is at most what its number
-    /// may cost, the offer has the cells of the attempt's footprint there, each with its version, and else none.
+    /// The offer of its worker for an attempt of this number, priced after the entries that it stands for, and whether
+    /// the attempt writes a choice before the freeze day. Where it doesn't, and the price's score is at most what its
+    /// number may cost, the offer has the cells of the attempt's footprint there, each with its version, and else none.
     pub fn price(&mut self, attempt: &E::Attempt, number: u32) -> &E::Offer
         requires { AreMoves self.old.base.instance (E.Attempt.moves attempt.now) }
         ensures offer { IsOfferOf self.old number (E.Attempt.moves attempt.now) (E.Offer.offered result.now) }
         ensures right { IsRightFor self.old number (E.Offer.offered result.now) }
-        ensures* same { sem 𝓛 (RestsAs E.row E.Attempt.row E.Offer.row E.Logged E.Attempt.Attempted E.Offer.Offers self.entry (λ r. (r.base ≡ self.old.base) × (r.worker ≡ self.old.worker) × StandsAs self.old r)) }
+        ensures* same { sem 𝓛
+            (RestsAs E.row E.Attempt.row E.Offer.row E.Logged E.Attempt.Attempted E.Offer.Offers self.entry
+            (λ r. (r.base ≡ self.old.base) × (r.worker ≡ self.old.worker) × StandsAs self.old r)) }
     {
         self.make(attempt, number);
         self.last()
@@ -186,10 +189,12 @@ impl<'a, E: Logged> Replica<'a, E> {
         self.read(attempt, compared);
     }
 
-    // Makes the offer for an attempt of this number the last one, without cells. Answers whether its verdict rests on them.
+    // Makes the offer for an attempt of this number the last one, without cells. Answers whether its verdict rests on
+    // them.
     fn fill(&mut self, attempt: &E::Attempt, number: u32) -> bool
         requires { AreMoves self.old.base.instance (E.Attempt.moves attempt.now) }
-        ensures made { self.new ≡ record self.old { last = offer_with self.old number (E.Attempt.moves attempt.now) [] } }
+        ensures made { self.new
+            ≡ record self.old { last = offer_with self.old number (E.Attempt.moves attempt.now) [] } }
         ensures compared { result ≡ asks_reads self.old number (E.Attempt.moves attempt.now) }
     {
         let price = self.ledgers.price_all_alone(attempt.as_slice());

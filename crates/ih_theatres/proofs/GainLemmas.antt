@@ -33,7 +33,8 @@ use Rattle.ih_theatres.proofs.PartLemmas.{theatre-each, surgeon-each}
 
 -- ---- whether the patient, whose stay is known, is in a day's list
 
-module _ {I : Draft} {P : Timetable} {l : Theatres} (plan : IsPlanOf I P) (stands : IsLedgerOf I P l) (p : PatientNo) (old : Option Placement) (stay : stay_of P p.0 ≡ old) (d : Day) (day : d.0 < I.days)
+module _ {I : Draft} {P : Timetable} {l : Theatres} (plan : IsPlanOf I P) (stands : IsLedgerOf I P l) (p : PatientNo) (old : Option Placement)
+    (stay : stay_of P p.0 ≡ old) (d : Day) (day : d.0 < I.days)
     (was : Bool) (today : ℕ) where
   pub theatre-was : (t : TheatreNo) → was ≡ operated_in t.0 d.0 old → today ≡ day_number I t.0 d.0 → was ≡ has p.0 (list_of l.theatre_days today)
   theatre-was t was_is today_is =

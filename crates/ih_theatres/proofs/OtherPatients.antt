@@ -90,7 +90,8 @@ any-with q false x xs = sym (or-false (list_any q xs))
 pub count-more : (n : ℕ) (marks : ℕ) (there : Bool) (o : Option ℕ) → IfSome o (λ m. m < n)
     → count_below n (is_marked marks) + bit (there && is_unmarked marks o) ≡ count_below n (λ t. is_marked marks t || (there && is_number o t))
 count-more n marks false o inside = let e = sum_below-same n (λ t. bit (is_marked marks t)) (λ t. bit (is_marked marks t || false)) (λ t h. ap bit (sym (or-false (is_marked marks t)))) in omega arith
-count-more n marks true None inside = let e = sum_below-same n (λ t. bit (is_marked marks t)) (λ t. bit (is_marked marks t || false)) (λ t h. ap bit (sym (or-false (is_marked marks t)))) in omega arith
+count-more n marks true None inside = let e = sum_below-same n (λ t. bit (is_marked marks t)) (λ t. bit (is_marked marks t || false))
+    (λ t h. ap bit (sym (or-false (is_marked marks t)))) in omega arith
 count-more n marks true (Some m) inside =
     let but = sum_below-but n m (λ t. bit (is_marked marks t)) (λ t. bit (is_marked marks t || (m == t))) inside
     (λ t h ne. ap bit (sym (ap (λ b. is_marked marks t || b) (ne_eqb m t (λ e. ne (sym e))) ∙ or-false (is_marked marks t)))) in

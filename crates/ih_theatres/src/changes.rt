@@ -58,7 +58,8 @@ pub fn is_operated_by(
 pub fn minutes_but(inst: &Instance, all: u32, p: PatientNo, there: bool) -> u32
     requires patient { p.0 < patient_count inst.now.draft }
     requires list { (xs : List ℕ) × IsOnce xs × (all ≡ minutes inst.now.draft xs) × (there ≡ has p.0 xs) }
-    ensures sum { (xs : List ℕ) → IsOnce xs → all ≡ minutes inst.now.draft xs → there ≡ has p.0 xs → result ≡ minutes inst.now.draft (without p.0 xs) }
+    ensures sum { (xs : List ℕ) → IsOnce xs → all ≡ minutes inst.now.draft xs → there ≡ has p.0 xs
+        → result ≡ minutes inst.now.draft (without p.0 xs) }
     ensures bound { result ≤ all }
 {
     if there {
@@ -73,7 +74,8 @@ pub fn minutes_but(inst: &Instance, all: u32, p: PatientNo, there: bool) -> u32
 pub fn minutes_above(inst: &Instance, others: u32, p: PatientNo, there: bool, most: u32) -> u32
     requires patient { p.0 < patient_count inst.now.draft }
     requires bound { others ≤ 204800000 }
-    ensures { (xs : List ℕ) → others ≡ minutes inst.now.draft xs → result ≡ minutes inst.now.draft (with_if there p.0 xs) - most }
+    ensures { (xs : List ℕ) → others ≡ minutes inst.now.draft xs
+        → result ≡ minutes inst.now.draft (with_if there p.0 xs) - most }
 {
     if there {
         (others + inst.patient(p).surgery_duration).saturating_sub(most)
@@ -105,7 +107,8 @@ pub fn theatres_but(links: &Links, head: u32, theatres: &[Option<TheatreNo>], p:
     requires head { head < length links.now.lists }
     requires patients { links.now.nodes ≡ length theatres.now }
     requires known { All (λ t. IfSome t (λ m. m.0 < 64)) theatres.now }
-    ensures { (t : ℕ) → is_marked result t ≡ list_any (λ o. is_number o t) (map (theatre_at theatres.now) (without p.0 (list_of links.now head))) }
+    ensures { (t : ℕ) → is_marked result t
+        ≡ list_any (λ o. is_number o t) (map (theatre_at theatres.now) (without p.0 (list_of links.now head))) }
 {
     let mut used = 0;
     let mut at = links.first(head);
@@ -139,7 +142,8 @@ fn is_one_more(marks: u64, there: bool, stay: Option<Placement>) -> bool
 pub fn theatres_with(marks: u64, there: bool, stay: Option<Placement>) -> u32
     requires { IfSome stay (λ at. at.theatre.0 < 64) }
     ensures count { (n : ℕ) → n ≤ 64 → AreBelow n marks → IfSome stay (λ at. at.theatre.0 < n)
-        → result ≡ count_below n (λ t. is_marked marks t || (there && is_number (option_map (λ (at : Placement). at.theatre.0) stay) t)) }
+        → result ≡ count_below n
+        (λ t. is_marked marks t || (there && is_number (option_map (λ (at : Placement). at.theatre.0) stay) t)) }
     ensures bound { result ≤ 65 }
 {
     count_marked(marks) + bit(is_one_more(marks, there, stay))
@@ -157,8 +161,10 @@ pub fn theatre_counts(
 ) -> DayCounts
     requires patient { p.0 < patient_count inst.now.draft }
     requires bound { others ≤ 204800000 }
-    ensures over { (xs : List ℕ) → others ≡ minutes inst.now.draft xs → result.over ≡ minutes inst.now.draft (with_if there p.0 xs) - most }
-    ensures cost { (xs : List ℕ) → used ≡ not (is_empty xs) → result.cost ≡ bit (not (is_empty (with_if there p.0 xs))) }
+    ensures over { (xs : List ℕ) → others ≡ minutes inst.now.draft xs
+        → result.over ≡ minutes inst.now.draft (with_if there p.0 xs) - most }
+    ensures cost { (xs : List ℕ) → used ≡ not (is_empty xs)
+        → result.cost ≡ bit (not (is_empty (with_if there p.0 xs))) }
 {
     DayCounts {
         over: minutes_above(inst, others, p, there, most),
@@ -182,8 +188,11 @@ pub fn surgeon_counts(
     requires bound { others ≤ 204800000 }
     requires marks { AreBelow (theatre_count inst.now.draft) marks }
     requires placement { IfSome stay (IsPlacement inst.now.draft) }
-    ensures over { (xs : List ℕ) → others ≡ minutes inst.now.draft xs → result.over ≡ minutes inst.now.draft (with_if there p.0 xs) - most }
-    ensures cost { result.cost ≡ count_below (theatre_count inst.now.draft) (λ t. is_marked marks t || (there && is_number (option_map (λ (at : Placement). at.theatre.0) stay) t)) - 1 }
+    ensures over { (xs : List ℕ) → others ≡ minutes inst.now.draft xs
+        → result.over ≡ minutes inst.now.draft (with_if there p.0 xs) - most }
+    ensures cost { result.cost
+        ≡ count_below (theatre_count inst.now.draft)
+        (λ t. is_marked marks t || (there && is_number (option_map (λ (at : Placement). at.theatre.0) stay) t)) - 1 }
 {
     let theatres = theatres_with(marks, there, stay);
     DayCounts {

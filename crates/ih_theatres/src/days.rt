@@ -43,7 +43,8 @@ pub fn theatres_used(links: &Links, head: u32, theatres: &[Option<TheatreNo>]) -
     requires head { head < length links.now.lists }
     requires patients { links.now.nodes ≡ length theatres.now }
     requires known { All (λ t. IfSome t (λ m. m.0 < 64)) theatres.now }
-    ensures { (t : ℕ) → is_marked result t ≡ list_any (λ o. is_number o t) (map (theatre_at theatres.now) (list_of links.now head)) }
+    ensures { (t : ℕ) → is_marked result t
+        ≡ list_any (λ o. is_number o t) (map (theatre_at theatres.now) (list_of links.now head)) }
 {
     let mut used = 0;
     let mut at = links.first(head);

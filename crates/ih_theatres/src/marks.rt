@@ -30,7 +30,8 @@ pub fn is_marked(marks: u64, i: u32) -> bool
 #[inline(always)]
 pub fn mark(marks: u64, t: Option<TheatreNo>) -> u64
     requires { IfSome t (λ m. m.0 < 64) }
-    ensures { (i : ℕ) → is_marked result i ≡ (is_marked marks i || is_number (option_map (λ (m : TheatreNo). m.0) t) i) }
+    ensures { (i : ℕ) → is_marked result i
+        ≡ (is_marked marks i || is_number (option_map (λ (m : TheatreNo). m.0) t) i) }
 {
     match t {
         None => marks,

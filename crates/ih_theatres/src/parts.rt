@@ -49,7 +49,8 @@ pub struct DayCounts {
 
 /// The bill of a theatre's new numbers less that of the old ones.
 pub fn theatre_change(new: DayCounts, old: DayCounts) -> Bill
-    ensures value { result ≡ sub_bills (as_bill (theatre_part new.over new.cost)) (as_bill (theatre_part old.over old.cost)) }
+    ensures value { result
+        ≡ sub_bills (as_bill (theatre_part new.over new.cost)) (as_bill (theatre_part old.over old.cost)) }
     ensures within { IsWithin (10 ^ 11) result }
 {
     Bill {
@@ -60,7 +61,8 @@ pub fn theatre_change(new: DayCounts, old: DayCounts) -> Bill
 
 /// The bill of a surgeon's new numbers less that of the old ones.
 pub fn surgeon_change(new: DayCounts, old: DayCounts) -> Bill
-    ensures value { result ≡ sub_bills (as_bill (surgeon_part new.over new.cost)) (as_bill (surgeon_part old.over old.cost)) }
+    ensures value { result
+        ≡ sub_bills (as_bill (surgeon_part new.over new.cost)) (as_bill (surgeon_part old.over old.cost)) }
     ensures within { IsWithin (10 ^ 11) result }
 {
     Bill {

@@ -92,8 +92,10 @@ impl Theatres {
     pub fn enter(&mut self, inst: &Instance, p: PatientNo, at: Placement)
         requires patient { p.0 < patient_count inst.now.draft }
         requires placement { IsPlacement inst.now.draft at }
-        requires stands { (P : Timetable) × IsPlanOf inst.now.draft P × IsLedgerOf inst.now.draft P self.old × (stay_of P p.0 ≡ None) }
-        ensures { (P : Timetable) → IsPlanOf inst.now.draft P → IsLedgerOf inst.now.draft P self.old → stay_of P p.0 ≡ None
+        requires stands { (P : Timetable) × IsPlanOf inst.now.draft P × IsLedgerOf inst.now.draft P self.old
+            × (stay_of P p.0 ≡ None) }
+        ensures { (P : Timetable) → IsPlanOf inst.now.draft P → IsLedgerOf inst.now.draft P self.old
+            → stay_of P p.0 ≡ None
             → IsLedgerOf inst.now.draft (put (SetStay p (Some at)) P) self.new }
     {
         let patient = inst.patient(p);
@@ -109,8 +111,10 @@ impl Theatres {
     /// Takes out a patient who is admitted with this placement.
     pub fn leave(&mut self, inst: &Instance, p: PatientNo, at: Placement)
         requires patient { p.0 < patient_count inst.now.draft }
-        requires stands { (P : Timetable) × IsPlanOf inst.now.draft P × IsLedgerOf inst.now.draft P self.old × (stay_of P p.0 ≡ Some at) }
-        ensures { (P : Timetable) → IsPlanOf inst.now.draft P → IsLedgerOf inst.now.draft P self.old → stay_of P p.0 ≡ Some at
+        requires stands { (P : Timetable) × IsPlanOf inst.now.draft P × IsLedgerOf inst.now.draft P self.old
+            × (stay_of P p.0 ≡ Some at) }
+        ensures { (P : Timetable) → IsPlanOf inst.now.draft P → IsLedgerOf inst.now.draft P self.old
+            → stay_of P p.0 ≡ Some at
             → IsLedgerOf inst.now.draft (put (SetStay p None) P) self.new }
     {
         let patient = inst.patient(p);
@@ -123,7 +127,8 @@ impl Theatres {
         self.theatres[p.0 as usize] = None;
     }
 
-    /// What a theatre's day costs: the minutes of surgery above the theatre's availability, and 1 where there is surgery.
+    /// What a theatre's day costs: the minutes of surgery above the theatre's availability, and 1 where there is
+    /// surgery.
     pub fn theatre_bill(&self, inst: &Instance, t: TheatreNo, d: Day) -> Bill
         requires theatre { t.0 < theatre_count inst.now.draft }
         requires day { d.0 < inst.now.draft.days }
@@ -138,7 +143,8 @@ impl Theatres {
         theatre_part(over, bit(is_used(&self.theatre_days, today)))
     }
 
-    /// What a surgeon's day costs: the minutes of surgery above the surgeon's maximum, and the theatres of that day less one.
+    /// What a surgeon's day costs: the minutes of surgery above the surgeon's maximum, and the theatres of that day
+    /// less one.
     pub fn surgeon_bill(&self, inst: &Instance, s: SurgeonNo, d: Day) -> Bill
         requires surgeon { s.0 < surgeon_count inst.now.draft }
         requires day { d.0 < inst.now.draft.days }
@@ -167,9 +173,13 @@ impl Theatres {
     ) -> Bill
         requires patient { p.0 < patient_count inst.now.draft }
         requires placement { IsPlacement inst.now.draft at }
-        requires stands { (P : Timetable) × IsPlanOf inst.now.draft P × IsLedgerOf inst.now.draft P self.now × (stay_of P p.0 ≡ old) }
-        ensures gain { (P : Timetable) → IsPlanOf inst.now.draft P → IsLedgerOf inst.now.draft P self.now → stay_of P p.0 ≡ old
-            → result ≡ sub_bills (as_bill (part_at inst.now.draft (put (SetStay p (Some at)) P) (TheatreDay at.theatre at.day))) (as_bill (part_at inst.now.draft (put (SetStay p None) P) (TheatreDay at.theatre at.day))) }
+        requires stands { (P : Timetable) × IsPlanOf inst.now.draft P × IsLedgerOf inst.now.draft P self.now
+            × (stay_of P p.0 ≡ old) }
+        ensures gain { (P : Timetable) → IsPlanOf inst.now.draft P → IsLedgerOf inst.now.draft P self.now
+            → stay_of P p.0 ≡ old
+            → result ≡ sub_bills (as_bill
+            (part_at inst.now.draft (put (SetStay p (Some at)) P) (TheatreDay at.theatre at.day)))
+            (as_bill (part_at inst.now.draft (put (SetStay p None) P) (TheatreDay at.theatre at.day))) }
         ensures within { IsWithin (10 ^ 11) result }
     {
         let was = is_operated_in(old, at.theatre, at.day);
@@ -198,9 +208,12 @@ impl Theatres {
         requires patient { p.0 < patient_count inst.now.draft }
         requires own { surgeon_of inst.now.draft p.0 ≡ Some s.0 }
         requires placement { IsPlacement inst.now.draft at }
-        requires stands { (P : Timetable) × IsPlanOf inst.now.draft P × IsLedgerOf inst.now.draft P self.now × (stay_of P p.0 ≡ old) }
-        ensures gain { (P : Timetable) → IsPlanOf inst.now.draft P → IsLedgerOf inst.now.draft P self.now → stay_of P p.0 ≡ old
-            → result ≡ sub_bills (as_bill (part_at inst.now.draft (put (SetStay p (Some at)) P) (SurgeonDay s at.day))) (as_bill (part_at inst.now.draft (put (SetStay p None) P) (SurgeonDay s at.day))) }
+        requires stands { (P : Timetable) × IsPlanOf inst.now.draft P × IsLedgerOf inst.now.draft P self.now
+            × (stay_of P p.0 ≡ old) }
+        ensures gain { (P : Timetable) → IsPlanOf inst.now.draft P → IsLedgerOf inst.now.draft P self.now
+            → stay_of P p.0 ≡ old
+            → result ≡ sub_bills (as_bill (part_at inst.now.draft (put (SetStay p (Some at)) P) (SurgeonDay s at.day)))
+            (as_bill (part_at inst.now.draft (put (SetStay p None) P) (SurgeonDay s at.day))) }
         ensures within { IsWithin (10 ^ 11) result }
     {
         let was = is_operated_by(inst, p, old, s, at.day);

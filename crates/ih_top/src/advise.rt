@@ -30,7 +30,8 @@ fn text_of<R: Threads + Wait + Sync, G: Gate>(
 ) -> Result<Vec<u8>, AllocError>
     requires lawful { IsLawfulAdvise call.now }
     requires plan { IsPlanOf inputs.now.inst.value.draft inputs.now.plan }
-    ensures { IfOk result (λ v. v.items ≡ advice_text (advice inputs.now.inst.value.draft call.now.hard inputs.now.plan)) }
+    ensures { IfOk result
+        (λ v. v.items ≡ advice_text (advice inputs.now.inst.value.draft call.now.hard inputs.now.plan)) }
 {
     let list = ih_advise::advise(
         rt,
@@ -54,7 +55,8 @@ fn advised<R: Threads + Wait + Sync, G: Gate>(
 ) -> Answer
     requires lawful { IsLawfulAdvise call.now }
     requires plan { IsPlanOf inputs.now.inst.value.draft inputs.now.plan }
-    ensures { IsSaid Status.Done (advice_text (advice inputs.now.inst.value.draft call.now.hard inputs.now.plan)) result }
+    ensures { IsSaid Status.Done
+        (advice_text (advice inputs.now.inst.value.draft call.now.hard inputs.now.plan)) result }
 {
     match text_of(rt, alloc, call, inputs, gate) {
         Ok(text) => Answer {

@@ -10,7 +10,8 @@ work-requires-after_bounds g c κs within =
 
 pub take_seats-requires : goal.take_seats-requires
 take_seats-requires g c =
-    let many = as-many-after (base_given c.args.given.now) c.args.each c.in_ok-desk.desk c.in_ok-desk.seats.items c.in_ok-desk.ensures c.in_ok-workers.workers.items c.in_ok-workers.ensures c.work.new.workers.items c.work.ensures in
+    let many = as-many-after
+    (base_given c.args.given.now) c.args.each c.in_ok-desk.desk c.in_ok-desk.seats.items c.in_ok-desk.ensures c.in_ok-workers.workers.items c.in_ok-workers.ensures c.work.new.workers.items c.work.ensures in
     let none = ap length c.in_ok-back.ensures.items in
     let room = c.in_ok-back.ensures.capacity in
     omega (arith, many, none, room)

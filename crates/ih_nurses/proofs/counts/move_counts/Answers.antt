@@ -25,19 +25,24 @@ add_count-requires-clause-fits c = moved-fits c.args.inst.now.draft c.args.plan.
 
 pub next-at-requires : goal.next-at-requires
 next-at-requires c =
-    let below = moved-below c.args.inst.now.draft c.args.plan.now c.args.r c.args.k c.args.new c.requires.plan c.requires.room c.requires.shift (list_of c.args.persons.now c.args.r.0) c.requires.there c.loop-at.invariant c.in-Some.is in
+    let below = moved-below c.args.inst.now.draft c.args.plan.now c.args.r c.args.k c.args.new c.requires.plan c.requires.room c.requires.shift
+    (list_of c.args.persons.now c.args.r.0) c.requires.there c.loop-at.invariant c.in-Some.is in
     record { node = rw c.requires.persons below }
 
 pub loop-at-smaller : goal.loop-at-smaller
 loop-at-smaller c =
-    let inside = moved-inside c.args.inst.now.draft c.args.plan.now c.args.r c.args.k c.args.new c.requires.plan c.requires.room c.requires.shift (list_of c.args.persons.now c.args.r.0) c.requires.there c.loop-at.invariant c.in-Some.is in
-    moved-shrinks c.args.inst.now.draft c.args.plan.now c.args.r c.args.k c.args.new c.requires.plan c.requires.room c.requires.shift (list_of c.args.persons.now c.args.r.0) c.requires.there c.loop-at.invariant c.in-Some.is
+    let inside = moved-inside c.args.inst.now.draft c.args.plan.now c.args.r c.args.k c.args.new c.requires.plan c.requires.room c.requires.shift
+    (list_of c.args.persons.now c.args.r.0) c.requires.there c.loop-at.invariant c.in-Some.is in
+    moved-shrinks c.args.inst.now.draft c.args.plan.now c.args.r c.args.k c.args.new c.requires.plan c.requires.room c.requires.shift
+    (list_of c.args.persons.now c.args.r.0) c.requires.there c.loop-at.invariant c.in-Some.is
     c.next-at.result (c.next-at.ensures.linked c.args.r.0 inside)
 
 pub loop-at-preserved : goal.loop-at-preserved
 loop-at-preserved c =
-    let inside = moved-inside c.args.inst.now.draft c.args.plan.now c.args.r c.args.k c.args.new c.requires.plan c.requires.room c.requires.shift (list_of c.args.persons.now c.args.r.0) c.requires.there c.loop-at.invariant c.in-Some.is in
-    moved-goes_on c.args.inst.now.draft c.args.plan.now c.args.r c.args.k c.args.new c.requires.plan c.requires.room c.requires.shift (list_of c.args.persons.now c.args.r.0) c.requires.there c.loop-at.invariant c.in-Some.is
+    let inside = moved-inside c.args.inst.now.draft c.args.plan.now c.args.r c.args.k c.args.new c.requires.plan c.requires.room c.requires.shift
+    (list_of c.args.persons.now c.args.r.0) c.requires.there c.loop-at.invariant c.in-Some.is in
+    moved-goes_on c.args.inst.now.draft c.args.plan.now c.args.r c.args.k c.args.new c.requires.plan c.requires.room c.requires.shift
+    (list_of c.args.persons.now c.args.r.0) c.requires.there c.loop-at.invariant c.in-Some.is
     c.nurse_at-old.result c.nurse_at-old.ensures.choice c.take_count.new.counts c.take_count.ensures.len c.take_count.ensures.each
     c.add_count.new.counts c.add_count.ensures.len c.add_count.ensures.each c.next-at.result (c.next-at.ensures.linked c.args.r.0 inside)
 

@@ -14,7 +14,8 @@ pub asked_of-asked-requires-clause-person : goal.asked_of-asked-requires-clause-
 asked_of-asked-requires-clause-person c = sum-below c.loop-at.invariant c.in-Some.is
 
 pub overflow_add-sum : goal.overflow_add-sum
-overflow_add-sum c = omega (arith, sum-fits c.loop-at.invariant c.in-Some.is c.asked_of-asked.result.workload c.asked_of-asked.ensures.workload_bound, persons-few c.args.inst.now.draft c.args.inst.now.valid)
+overflow_add-sum c = omega
+    (arith, sum-fits c.loop-at.invariant c.in-Some.is c.asked_of-asked.result.workload c.asked_of-asked.ensures.workload_bound, persons-few c.args.inst.now.draft c.args.inst.now.valid)
 
 pub next-at-requires : goal.next-at-requires
 next-at-requires c = let below = sum-below c.loop-at.invariant c.in-Some.is in record { node = rw c.requires.persons below }

@@ -8,12 +8,14 @@ use Rattle.ih_replay.proofs.taking.commit.Goals as goal
 pub judge-requires : goal.judge-requires
 judge-requires c =
     let v = c.args.book.now in
-    right-is v.base v.entries c.args.replica.now c.requires.replica c.args.entry.now (offered-of c.price-offer.result.now) c.price-offer.ensures.offer c.requires.seen c.requires.own c.requires.fits c.price-offer.ensures.right
+    right-is v.base v.entries c.args.replica.now c.requires.replica c.args.entry.now
+    (offered-of c.price-offer.result.now) c.price-offer.ensures.offer c.requires.seen c.requires.own c.requires.fits c.price-offer.ensures.right
 
 pub commit-requires : goal.commit-requires
 commit-requires c =
     let v = c.args.book.now in
-    right-is v.base v.entries c.args.replica.now c.requires.replica c.args.entry.now (offered-of c.price-offer.result.now) c.price-offer.ensures.offer c.requires.seen c.requires.own c.requires.fits c.price-offer.ensures.right
+    right-is v.base v.entries c.args.replica.now c.requires.replica c.args.entry.now
+    (offered-of c.price-offer.result.now) c.price-offer.ensures.offer c.requires.seen c.requires.own c.requires.fits c.price-offer.ensures.right
 
 pub returns-then-not-is_same_price-clause-replica : goal.returns-then-not-is_same_price-clause-replica
 returns-then-not-is_same_price-clause-replica c =
@@ -36,26 +38,44 @@ returns-else-not-is_same_verdict-clause-replica c =
 pub returns-then-not-is_same_price-clause-err : goal.returns-then-not-is_same_price-clause-err
 returns-then-not-is_same_price-clause-err c =
     let v = c.args.book.now in
-    let price = price-is v.base v.entries c.args.replica.now c.requires.replica c.args.entry.now (offered-of c.price-offer.result.now) c.price-offer.ensures.offer c.requires.seen c.requires.own c.requires.fits in
+    let price = price-is v.base v.entries c.args.replica.now c.requires.replica c.args.entry.now
+    (offered-of c.price-offer.result.now) c.price-offer.ensures.offer c.requires.seen c.requires.own c.requires.fits in
     record { earlier = []; later = Verdict ∷ []; listed = refl; passed = tt; fails = λ is. c.if-not-is_same_price.ensures.no refl (price ∙ sym is) }
 
 pub returns-then-not-is_same_verdict-clause-err : goal.returns-then-not-is_same_verdict-clause-err
 returns-then-not-is_same_verdict-clause-err c =
     let v = c.args.book.now in
-    let price = price-is v.base v.entries c.args.replica.now c.requires.replica c.args.entry.now (offered-of c.price-offer.result.now) c.price-offer.ensures.offer c.requires.seen c.requires.own c.requires.fits in
-    let judged = judged-as v.base v.entries c.args.replica.now c.requires.replica c.args.entry.now (offered-of c.price-offer.result.now) c.price-offer.ensures.offer c.requires.seen c.requires.own c.requires.fits (c.if-not-is_same_price.ensures.yes refl) in
-    record { earlier = Price ∷ []; later = []; listed = refl; passed = (sym (c.if-not-is_same_price.ensures.yes refl) ∙ price, tt); fails = λ is. c.if-not-is_same_verdict.ensures.no refl (c.judge.ensures ∙ judged ∙ sym is) }
+    let price = price-is v.base v.entries c.args.replica.now c.requires.replica c.args.entry.now
+    (offered-of c.price-offer.result.now) c.price-offer.ensures.offer c.requires.seen c.requires.own c.requires.fits in
+    let judged = judged-as v.base v.entries c.args.replica.now c.requires.replica c.args.entry.now
+    (offered-of c.price-offer.result.now) c.price-offer.ensures.offer c.requires.seen c.requires.own c.requires.fits
+    (c.if-not-is_same_price.ensures.yes refl) in
+    record {
+      earlier = Price
+          ∷ [];
+      later = [];
+      listed = refl;
+      passed =
+          (sym (c.if-not-is_same_price.ensures.yes refl) ∙ price, tt);
+      fails = λ is. c.if-not-is_same_verdict.ensures.no refl
+          (c.judge.ensures ∙ judged ∙ sym is);
+    }
 
 pub returns-else-not-is_same_verdict-clause-ok : goal.returns-else-not-is_same_verdict-clause-ok
 returns-else-not-is_same_verdict-clause-ok c =
     let v = c.args.book.now in
-    let price = price-is v.base v.entries c.args.replica.now c.requires.replica c.args.entry.now (offered-of c.price-offer.result.now) c.price-offer.ensures.offer c.requires.seen c.requires.own c.requires.fits in
-    let judged = judged-as v.base v.entries c.args.replica.now c.requires.replica c.args.entry.now (offered-of c.price-offer.result.now) c.price-offer.ensures.offer c.requires.seen c.requires.own c.requires.fits (c.if-not-is_same_price.ensures.yes refl) in
+    let price = price-is v.base v.entries c.args.replica.now c.requires.replica c.args.entry.now
+    (offered-of c.price-offer.result.now) c.price-offer.ensures.offer c.requires.seen c.requires.own c.requires.fits in
+    let judged = judged-as v.base v.entries c.args.replica.now c.requires.replica c.args.entry.now
+    (offered-of c.price-offer.result.now) c.price-offer.ensures.offer c.requires.seen c.requires.own c.requires.fits
+    (c.if-not-is_same_price.ensures.yes refl) in
     (sym (c.if-not-is_same_price.ensures.yes refl) ∙ price, (sym (c.if-not-is_same_verdict.ensures.yes refl) ∙ c.judge.ensures ∙ judged, tt))
 
 pub returns-else-not-is_same_verdict-clause-added : goal.returns-else-not-is_same_verdict-clause-added
 returns-else-not-is_same_verdict-clause-added c =
     let v = c.args.book.now in
     c.commit.ensures.entries
-    ∙ ap (λ e. v.entries ++ e ∷ []) (entry-is v.base v.entries c.args.replica.now c.requires.replica c.args.entry.now (offered-of c.price-offer.result.now) c.price-offer.ensures.offer c.requires.seen c.requires.own c.requires.fits
+    ∙ ap (λ e. v.entries ++ e ∷ [])
+    (entry-is v.base v.entries c.args.replica.now c.requires.replica c.args.entry.now
+    (offered-of c.price-offer.result.now) c.price-offer.ensures.offer c.requires.seen c.requires.own c.requires.fits
     c.commit.result (c.commit.ensures.verdict ∙ sym c.judge.ensures ∙ c.if-not-is_same_verdict.ensures.yes refl) (c.if-not-is_same_price.ensures.yes refl))

@@ -7,7 +7,8 @@ use Rattle.ih_replay.proofs.taking.is_full.Goals as goal
 pub returns-then-worker-options-clause-going : goal.returns-then-worker-options-clause-going
 returns-then-worker-options-clause-going c off =
     going-at c.args.book.now.base c.args.book.now.entries c.args.workers.now c.requires.kept c.loop-worker.worker-index c.worker-item.result c.loop-worker-test.true
-    (subst (λ (x : Worker). x.number < c.args.book.now.base.options.moves) c.worker-item.is (subst (λ (o : Options). c.worker-item.result.number < o.moves) c.requires.options c.if-worker-options.true))
+    (subst (λ (x : Worker). x.number < c.args.book.now.base.options.moves) c.worker-item.is
+    (subst (λ (o : Options). c.worker-item.result.number < o.moves) c.requires.options c.if-worker-options.true))
 
 pub loop-worker-preserved : goal.loop-worker-preserved
 loop-worker-preserved c =

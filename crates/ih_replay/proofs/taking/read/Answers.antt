@@ -13,13 +13,15 @@ returns-in-Err-clause-err c = record {
   listed = refl;
   passed = tt;
   fails = λ one.
-      let of = subst (λ (o : Options). IsLineOf c.args.inst.now.draft o one.0 one.1 c.args.line.now) (sym c.requires.options) (subst (λ I. IsLineOf I c.args.book.now.base.options one.0 one.1 c.args.line.now) (sym c.requires.instance) one.2) in
+      let of = subst (λ (o : Options). IsLineOf c.args.inst.now.draft o one.0 one.1 c.args.line.now) (sym c.requires.options)
+      (subst (λ I. IsLineOf I c.args.book.now.base.options one.0 one.1 c.args.line.now) (sym c.requires.instance) one.2) in
       absurd (let no = c.in-Err.ensures.only one.0 one.1 of in cc);
 }
 
 pub returns-in-Ok-2-clause-err : goal.returns-in-Ok-2-clause-err
 returns-in-Ok-2-clause-err c =
-    let of = subst (λ (o : Options). IsLineOf c.args.book.now.base.instance o c.in-Ok.place c.in-Ok.entry c.args.line.now) c.requires.options (subst (λ I. IsLineOf I c.args.options.now c.in-Ok.place c.in-Ok.entry c.args.line.now) c.requires.instance c.in-Ok.ensures.ok) in
+    let of = subst (λ (o : Options). IsLineOf c.args.book.now.base.instance o c.in-Ok.place c.in-Ok.entry c.args.line.now) c.requires.options
+    (subst (λ I. IsLineOf I c.args.options.now c.in-Ok.place c.in-Ok.entry c.args.line.now) c.requires.instance c.in-Ok.ensures.ok) in
     record {
       earlier = Grammar ∷ [];
       later = [];

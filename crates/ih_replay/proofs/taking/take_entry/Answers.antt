@@ -39,7 +39,8 @@ returns-clause-kept c =
     let own = own-attempt v.base v.entries c.args.entry.now x c.requires.legal c.requires.kept c.requires.known c.in_ok-check.ensures.ok in
     worker-went v.base c.commit.new.book.base v.entries c.commit.new.book.entries (tried c.args.entry.now) (record x { replica = c.commit.new.replica }) c.pass.new.self
     c.args.inst.now.draft c.args.options.now _ c.commit.ensures.base c.in_ok-commit.ensures.added own.0 own.1 c.requires.kept.draw c.requires.kept.stream c.commit.ensures.replica
-    (c.commit.ensures.own ∙ c.reach.ensures.worker ∙ c.requires.kept.own) c.requires.instance c.requires.options (sym (length-map c.entries.result.now tried) ∙ ap length c.entries.ensures.entries) c.pass.ensures
+    (c.commit.ensures.own ∙ c.reach.ensures.worker ∙ c.requires.kept.own) c.requires.instance c.requires.options
+    (sym (length-map c.entries.result.now tried) ∙ ap length c.entries.ensures.entries) c.pass.ensures
 
 pub returns-clause-legal : goal.returns-clause-legal
 returns-clause-legal c =

@@ -23,7 +23,8 @@ returns-then-entry-options-clause-err c =
 pub take_entry-requires-clause-kept : goal.take_entry-requires-clause-kept
 take_entry-requires-clause-kept c =
     worker-at c.args.book.now.base c.args.book.now.entries c.args.workers.now c.requires.kept c.in_ok-entry.entry.worker _
-    (let known = c.if-entry-options.false in let below : c.in_ok-entry.entry.worker < c.args.options.now.workers = omega (arith, known) in subst (λ (o : Options). c.in_ok-entry.entry.worker < o.workers) c.requires.options below)
+    (let known = c.if-entry-options.false in let below : c.in_ok-entry.entry.worker
+    < c.args.options.now.workers = omega (arith, known) in subst (λ (o : Options). c.in_ok-entry.entry.worker < o.workers) c.requires.options below)
 
 pub returns-clause-kept : goal.returns-clause-kept
 returns-clause-kept c =
@@ -31,7 +32,8 @@ returns-clause-kept c =
     let known = c.if-entry-options.false in
     let below : c.in_ok-entry.entry.worker < c.args.options.now.workers = omega (arith, known) in
     replayed-by v.base c.take_entry.new.book.base v.entries c.take_entry.new.book.entries c.args.workers.now (tried c.in_ok-entry.entry) c.take_entry.new.worker c.take_entry.result c.requires.kept
-    (subst (λ (o : Options). c.in_ok-entry.entry.worker < o.workers) c.requires.options below) c.take_entry.ensures.base c.take_entry.ensures.kept c.take_entry.ensures.legal c.take_entry.ensures.added c.take_entry.ensures.same
+    (subst (λ (o : Options). c.in_ok-entry.entry.worker
+    < o.workers) c.requires.options below) c.take_entry.ensures.base c.take_entry.ensures.kept c.take_entry.ensures.legal c.take_entry.ensures.added c.take_entry.ensures.same
 
 pub returns-clause-err : goal.returns-clause-err
 returns-clause-err c =

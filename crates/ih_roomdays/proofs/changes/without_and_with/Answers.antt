@@ -28,7 +28,9 @@ pub returns-clause-without : goal.returns-clause-without
 returns-clause-without c =
     let v = c.args.rows.now in
     c.room_counts.ensures v.profiles (without c.args.p.0 (persons_at v c.args.r.0 c.args.d.0)) c.requires.profiles
-    (λ x there. rw (← c.requires.persons) ((rest-known v c.requires.rows c.args.r.0 c.args.d.0 c.args.p.0 c.requires.day (omega (arith, c.requires.persons)) false).below x there)) c.others-rest.ensures
+    (λ x there. rw (← c.requires.persons)
+    ((rest-known v c.requires.rows c.args.r.0 c.args.d.0 c.args.p.0 c.requires.day
+    (omega (arith, c.requires.persons)) false).below x there)) c.others-rest.ensures
 
 pub returns-clause-with : goal.returns-clause-with
 returns-clause-with c =

@@ -26,7 +26,8 @@ raise_read-requires-clause-small g c n =
 pub raise-requires-clause-cells : goal.raise-requires-clause-cells
 raise-requires-clause-cells g c =
     let v = c.args.ledgers.now in
-    rw (c.cells.ensures.cells, c.play_all_noting.ensures.cells, c.as_slice-else-is_own.ensures, c.attempt-else-is_own.ensures, c.requires.count) (foot-below v.instance v.plan (g.E.Logged.tried c.args.entry.now).moves)
+    rw (c.cells.ensures.cells, c.play_all_noting.ensures.cells, c.as_slice-else-is_own.ensures, c.attempt-else-is_own.ensures, c.requires.count)
+    (foot-below v.instance v.plan (g.E.Logged.tried c.args.entry.now).moves)
 
 pub raise-requires-clause-small : goal.raise-requires-clause-small
 raise-requires-clause-small g c n =
@@ -41,11 +42,15 @@ returns-then-is_own-clause-each g c n h =
     let same = c.is_own.ensures c.if-is_own.true in
     let own : keys (g.E.Offer.Offers.offered c.args.last.now).reads.pairs ≡ footprint_of_all v.instance v.plan (g.E.Logged.tried c.args.entry.now).moves = c.requires.own same.0 same.1 same.2 in
     c.raise_read.ensures.each n
-    ∙ ap (λ k. slice_index c.args.versions.now n + k) (ap (times_read n) (c.as_slice.ensures ∙ ap (λ (r : Noted). r.pairs) c.reads.ensures) ∙ reads-times v.instance v.plan (g.E.Logged.tried c.args.entry.now).moves (g.E.Offer.Offers.offered c.args.last.now).reads.pairs own n h)
+    ∙ ap (λ k. slice_index c.args.versions.now n + k)
+    (ap (times_read n) (c.as_slice.ensures ∙ ap (λ (r : Noted). r.pairs) c.reads.ensures)
+    ∙ reads-times v.instance v.plan (g.E.Logged.tried c.args.entry.now).moves (g.E.Offer.Offers.offered c.args.last.now).reads.pairs own n h)
 
 pub returns-else-is_own-clause-each : goal.returns-else-is_own-clause-each
 returns-else-is_own-clause-each g c n h =
     let v = c.args.ledgers.now in
     c.raise.ensures.each n
     ∙ ap (λ k. slice_index c.args.versions.now n + k)
-    (ap (times_listed n) (c.cells.ensures.cells ∙ (c.play_all_noting.ensures.cells ∙ ap (footprint_of_all v.instance v.plan) (c.as_slice-else-is_own.ensures ∙ c.attempt-else-is_own.ensures))) ∙ foot-times v.instance v.plan (g.E.Logged.tried c.args.entry.now).moves n h)
+    (ap (times_listed n) (c.cells.ensures.cells
+    ∙ (c.play_all_noting.ensures.cells ∙ ap (footprint_of_all v.instance v.plan) (c.as_slice-else-is_own.ensures ∙ c.attempt-else-is_own.ensures)))
+    ∙ foot-times v.instance v.plan (g.E.Logged.tried c.args.entry.now).moves n h)

@@ -7,5 +7,16 @@ use Rattle.ih_workers.proofs.moves.search.Goals as goal
 
 -- all may cross threads, and every freeze day is one under which a move may be tried
 pub search-requires : goal.search-requires
-search-requires g c κs =
-    (search (sendable, replica_crosses, offer_crosses) depth 20, (search (sendable, entry_crosses) depth 20, (search rules, (search (sendable, offer_crosses) depth 20, (search rules, (search rules, ((refl, tt), (c.requires, (c.requires.lawful.retries, (c.freeze_of-freeze.ensures, refl))))))))))
+search-requires g c κs = (
+  search (sendable, replica_crosses, offer_crosses) depth 20,
+  (
+    search (sendable, entry_crosses) depth 20,
+    (
+      search rules,
+      (
+        search (sendable, offer_crosses) depth 20,
+        (search rules, (search rules, ((refl, tt), (c.requires, (c.requires.lawful.retries, (c.freeze_of-freeze.ensures, refl)))))),
+      ),
+    ),
+  ),
+)

@@ -16,7 +16,8 @@ pub returns-clause-few : goal.returns-clause-few
 returns-clause-few g c = subst (λ (v : Recorded). AreFew v.base v.entries) c.self.view_is (legal-few _ _ c.self.invariant.0.legal)
 
 pub returns-clause-agrees : goal.returns-clause-agrees
-returns-clause-agrees g c = subst (λ (v : Recorded). (k : ℕ) → AgreesBefore v.base (plan_at v.base v.entries k)) c.self.view_is (legal-agrees _ _ c.self.invariant.0.base.start c.self.invariant.0.legal)
+returns-clause-agrees g c = subst (λ (v : Recorded). (k : ℕ) → AgreesBefore v.base (plan_at v.base v.entries k)) c.self.view_is
+    (legal-agrees _ _ c.self.invariant.0.base.start c.self.invariant.0.legal)
 
 pub returns-clause-exact : goal.returns-clause-exact
 returns-clause-exact g c = subst (λ (v : Recorded). AreExact v.base v.entries) c.self.view_is (prices-exact _ _ c.self.invariant.0.base.start c.self.invariant.0.legal)

@@ -28,5 +28,8 @@ returns g c =
     let right = subst (λ (v : Recorded). IsRightOffer v.base v.entries (g.E.Offer.Offers.offered c.args.offer.now)) (sym c.self.view_is) c.requires in
     let judged : c.judge.result ≡ verdict_by_counters c.self.inside.inst.now.draft c.self.inside.options (slice_index c.self.inside.counters.items) (g.E.Offer.Offers.offered c.args.offer.now) =
     c.judge.ensures ∙ ap (λ xs. verdict_by_counters c.self.inside.inst.now.draft c.self.inside.options (slice_index xs) (g.E.Offer.Offers.offered c.args.offer.now)) c.as_slice.ensures.value in
-    subst (λ (v : Recorded). c.judge.result ≡ verdict_on v.base v.entries (g.E.Offer.Offers.offered c.args.offer.now).number (g.E.Offer.Offers.offered c.args.offer.now).seen (g.E.Offer.Offers.offered c.args.offer.now).moves (g.E.Offer.Offers.offered c.args.offer.now).price) c.self.view_is
-    (verdict-is (base_with c.self.inside.inst.now.draft c.self.inside.start.now c.self.inside.options c.self.inside.freeze) (map g.E.Logged.tried c.self.inside.entries.items) c.self.inside.counters.items c.self.inside.tries.items c.self.inside.bill c.self.inside.best c.self.inside.inst.now.valid c.self.invariant.0 (g.E.Offer.Offers.offered c.args.offer.now) right c.judge.result judged)
+    subst (λ (v : Recorded). c.judge.result
+    ≡ verdict_on v.base v.entries (g.E.Offer.Offers.offered c.args.offer.now).number (g.E.Offer.Offers.offered c.args.offer.now).seen
+    (g.E.Offer.Offers.offered c.args.offer.now).moves (g.E.Offer.Offers.offered c.args.offer.now).price) c.self.view_is
+    (verdict-is (base_with c.self.inside.inst.now.draft c.self.inside.start.now c.self.inside.options c.self.inside.freeze)
+    (map g.E.Logged.tried c.self.inside.entries.items) c.self.inside.counters.items c.self.inside.tries.items c.self.inside.bill c.self.inside.best c.self.inside.inst.now.valid c.self.invariant.0 (g.E.Offer.Offers.offered c.args.offer.now) right c.judge.result judged)

@@ -12,14 +12,16 @@ pub try_once-tried-requires-clause-next : goal.try_once-tried-requires-clause-ne
 try_once-tried-requires-clause-next g c =
     let o = (base_of c.args.desk.now).options in
     let H = history c.loop-again.next in
-    let next = subst (λ w. next_number o H w ≡ Some c.args.number) (sym c.loop-again.invariant.number) (next-number o H (number_of c.args.seat) c.args.number c.loop-again.again c.loop-again.invariant.try) in
+    let next = subst (λ w. next_number o H w ≡ Some c.args.number) (sym c.loop-again.invariant.number)
+    (next-number o H (number_of c.args.seat) c.args.number c.loop-again.again c.loop-again.invariant.try) in
     search (rules, next)
 
 pub try_once-last-requires-clause-next : goal.try_once-last-requires-clause-next
 try_once-last-requires-clause-next g c =
     let o = (base_of c.args.desk.now).options in
     let H = history c.loop-again.next in
-    let next = subst (λ w. next_number o H w ≡ Some c.args.number) (sym c.loop-again.invariant.number) (next-number o H (number_of c.args.seat) c.args.number c.loop-again.again c.loop-again.invariant.try) in
+    let next = subst (λ w. next_number o H w ≡ Some c.args.number) (sym c.loop-again.invariant.number)
+    (next-number o H (number_of c.args.seat) c.args.number c.loop-again.again c.loop-again.invariant.try) in
     search (rules, next)
 
 pub returns-then-not-is_stale-clause-made : goal.returns-then-not-is_stale-clause-made
@@ -51,7 +53,9 @@ loop-again-preserved g c =
     let before = c.loop-again.invariant in
     let after = c.try_once-tried.ensures in
     let tried = subst (λ w. HasAttempted b.options w c.args.number (g.C.Entry.Attempt.Attempted.moves c.args.attempt.now) v H G) before.number after.attempted in
-    let left : c.loop-again.again < b.options.retries = subst (λ (o : Options). c.loop-again.again < o.retries) (ap (λ (x : Progress). x.options) c.self.view_is ∙ c.requires.caught_up.within.own.options) c.loop-again-test.true in
+    let left : c.loop-again.again
+    < b.options.retries = subst (λ (o : Options). c.loop-again.again < o.retries)
+    (ap (λ (x : Progress). x.options) c.self.view_is ∙ c.requires.caught_up.within.own.options) c.loop-again-test.true in
     let has = before.turns in
     let used = after.turns in
     record {
@@ -72,7 +76,9 @@ returns-clause-made g c =
     let G = history c.try_once-last.result.0 in
     let v = c.try_once-last.result.1 in
     let tried = subst (λ w. HasAttempted o w c.args.number (g.C.Entry.Attempt.Attempted.moves c.args.attempt.now) v H G) c.loop-again.invariant.number c.try_once-last.ensures.attempted in
-    let spent : o.retries ≤ c.loop-again.again = subst (λ (o : Options). o.retries ≤ c.loop-again.again) (ap (λ (x : Progress). x.options) c.self.view_is ∙ c.requires.caught_up.within.own.options) c.loop-again-test.false in
+    let spent : o.retries
+    ≤ c.loop-again.again = subst (λ (o : Options). o.retries ≤ c.loop-again.again)
+    (ap (λ (x : Progress). x.options) c.self.view_is ∙ c.requires.caught_up.within.own.options) c.loop-again-test.false in
     next-move o n c.args.number c.loop-again.again (g.C.Entry.Attempt.Attempted.moves c.args.attempt.now) v H G c.loop-again.invariant.try tried (inr spent)
 
 pub returns-clause-drawn : goal.returns-clause-drawn

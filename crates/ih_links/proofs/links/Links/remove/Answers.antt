@@ -2,10 +2,12 @@ use Rattle.ih_links.proofs.Calls.{remove-before, remove-after, remove-room, remo
 use Rattle.ih_links.proofs.links.Links.remove.Goals as goal
 
 pub index_mut-requires : goal.index_mut-requires
-index_mut-requires c = rw c.self.inside.next.ok.0 (remove-before c.self.inside.home.items c.self.invariant c.self.view_is c.in-Some.head c.args.node c.index-before.result.now c.index-after.result.now c.home.result c.home.ensures c.in-Some.is c.index-before.ensures c.index-after.ensures)
+index_mut-requires c = rw c.self.inside.next.ok.0
+    (remove-before c.self.inside.home.items c.self.invariant c.self.view_is c.in-Some.head c.args.node c.index-before.result.now c.index-after.result.now c.home.result c.home.ensures c.in-Some.is c.index-before.ensures c.index-after.ensures)
 
 pub index_mut-requires-in-Some : goal.index_mut-requires-in-Some
-index_mut-requires-in-Some c = rw c.self.inside.prev.ok.0 (remove-after c.self.inside.home.items c.self.invariant c.self.view_is c.in-Some.head c.args.node c.index-before.result.now c.index-after.result.now c.home.result c.home.ensures c.in-Some.is c.index-before.ensures c.index-after.ensures)
+index_mut-requires-in-Some c = rw c.self.inside.prev.ok.0
+    (remove-after c.self.inside.home.items c.self.invariant c.self.view_is c.in-Some.head c.args.node c.index-before.result.now c.index-after.result.now c.home.result c.home.ensures c.in-Some.is c.index-before.ensures c.index-after.ensures)
 
 pub overflow_sub-index_mut : goal.overflow_sub-index_mut
 overflow_sub-index_mut c = remove-room c.self.inside.home.items c.self.invariant c.self.view_is c.in-Some.head c.args.node c.index-before.result.now c.index-after.result.now c.home.result c.home.ensures c.in-Some.is c.index-before.ensures c.index-after.ensures c.index_mut-in-Some-3.result.now c.index_mut-in-Some-3.ensures.value

@@ -17,7 +17,9 @@ returns-clause-gain c = λ P known.
     let plan = c.args.self.now.plan in
     let p = c.args.p in
     let own = stands-own known in
-    subst (λ (S : Timetable). c.difference.result ≡ sub_bills (as_bill (part_at I (put (SetStay p (Some c.args.at)) S) (Care (record { 0 = p.0 })))) (as_bill (part_at I (put (SetStay p None) S) (Care (record { 0 = p.0 }))))) known.plan_is
+    subst (λ (S : Timetable). c.difference.result
+    ≡ sub_bills (as_bill (part_at I (put (SetStay p (Some c.args.at)) S) (Care (record { 0 = p.0 }))))
+    (as_bill (part_at I (put (SetStay p None) S) (Care (record { 0 = p.0 }))))) known.plan_is
     (c.difference.ensures.value
     ∙ (less-by c.nursed.ensures c.nursed-2.ensures
     ∙ care-change I (put (SetStay p None) plan) (put (SetStay p (Some c.args.at)) plan) (record { 0 = p.0 }) c.nurses_over.result 0

@@ -70,10 +70,13 @@ returns-clause-nurses_seen c = λ P known.
     let counts = c.args.self.now.counts.items in
     let sums = c.room_sums-sums.ensures in
     let nurse = all-some (λ (a : NurseNo). a.0 < nurse_count I) c.args.new c.requires.nurse in
-    let come = subst (λ cs. c.room_sums-sums.result.come ≡ sum_by (has_just I cs 0 c.args.new) (list_of c.index-persons.result.now c.args.r.0)) c.as_slice-counts.ensures.value c.room_sums-sums.ensures.come
+    let come = subst (λ cs. c.room_sums-sums.result.come
+    ≡ sum_by (has_just I cs 0 c.args.new) (list_of c.index-persons.result.now c.args.r.0)) c.as_slice-counts.ensures.value c.room_sums-sums.ensures.come
     ∙ (sum-in_list I plan here day c.args.r.0 c.args.k.0 (has_just I counts 0 c.args.new) own.here_are c.requires.room c.requires.shift c.index-persons.ensures sums.nodes
     ∙ come-told I plan c.args.r c.args.k counts own.counts_are c.requires.shift c.args.new nurse (c.requires.other plan own)) in
-    let gone = subst (λ cs. c.room_sums-sums.result.gone ≡ sum_by (has_just I cs 1 c.nurse_at-old.result) (list_of c.index-persons.result.now c.args.r.0)) c.as_slice-counts.ensures.value c.room_sums-sums.ensures.gone
+    let gone = subst (λ cs. c.room_sums-sums.result.gone
+    ≡ sum_by (has_just I cs 1 c.nurse_at-old.result)
+    (list_of c.index-persons.result.now c.args.r.0)) c.as_slice-counts.ensures.value c.room_sums-sums.ensures.gone
     ∙ (sum-in_list I plan here day c.args.r.0 c.args.k.0 (has_just I counts 1 c.nurse_at-old.result) own.here_are c.requires.room c.requires.shift c.index-persons.ensures sums.nodes
     ∙ gone-told I plan c.args.r c.args.k counts own.counts_are c.requires.shift c.nurse_at-old.result c.nurse_at-old.ensures.nurse c.nurse_at-old.ensures.choice) in
     let told = cares-told I plan c.args.r c.args.k c.args.new own.fits c.requires.room c.requires.shift nurse c.room_sums-sums.result.come c.room_sums-sums.result.gone come gone in

@@ -56,7 +56,9 @@ returns c = λ P known.
     let own = stands-own known in
     let nurse : care_of plan c.args.at.room.0 k.0 ≡ Some n.0 = ap (λ (S : Timetable). care_of S c.args.at.room.0 k.0) c.requires.stands.1.plan_is ∙ c.requires.stands.2 in
     let all = c.load-all.ensures.work ∙ (ap (λ ls. load_at I ls n.0 k.0) c.as_slice.ensures.value ∙ own.loads_are.each n.0 k.0 c.requires.nurse c.requires.shift) in
-    let come : c.entry-come.result ≡ slice_index (person_of I p.0).workload (k.0 - 3 * c.args.at.day.0) = c.entry-come.ensures ∙ ap (λ list. slice_index list (k.0 - 3 * c.args.at.day.0)) c.requires.visit.workload_is in
+    let come : c.entry-come.result
+    ≡ slice_index (person_of I p.0).workload (k.0 - 3 * c.args.at.day.0) = c.entry-come.ensures
+    ∙ ap (λ list. slice_index list (k.0 - 3 * c.args.at.day.0)) c.requires.visit.workload_is in
     let rise = load-rises I plan k p c.args.at own.fits c.requires.patient c.requires.counted c.requires.placement n nurse
     c.load-all.result.work c.gone-gone.result c.entry-come.result all c.gone-gone.ensures.value come in
     subst (λ (S : Timetable). pos (c.overload.result - c.overload-2.result) ≡ rise_by_placement S p c.args.at (λ Q. overload_in I Q n k)) known.plan_is

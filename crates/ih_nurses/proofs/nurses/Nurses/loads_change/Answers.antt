@@ -44,5 +44,7 @@ returns c = λ P known.
     let fits_with : FitsSigned w64 c.excess_with.result = search rules in
     let fits : FitsSigned w64 (c.excess_without.result +ℤ c.excess_with.result) = search rules in
     subst (λ (S : Timetable). to_z w64 (of_z w64 (to_z w64 (of_z w64 c.excess_without.result) +ℤ to_z w64 (of_z w64 c.excess_with.result)))
-    ≡ rise_by_choice S c.args.r c.args.k c.args.new (λ Q. excess_of I Q c.args.k.0 (care_of S c.args.r.0 c.args.k.0) + excess_of I Q c.args.k.0 (option_map (λ (a : NurseNo). a.0) c.args.new))) known.plan_is
+    ≡ rise_by_choice S c.args.r c.args.k c.args.new
+    (λ Q. excess_of I Q c.args.k.0 (care_of S c.args.r.0 c.args.k.0) + excess_of I Q c.args.k.0
+    (option_map (λ (a : NurseNo). a.0) c.args.new))) known.plan_is
     (rw (to_z-of_z w64 c.excess_without.result fits_without, to_z-of_z w64 c.excess_with.result fits_with, to_z-of_z w64 (c.excess_without.result +ℤ c.excess_with.result) fits) told)

@@ -24,7 +24,8 @@ loop-entry-preserved g c = record {
       let inside : c.loop-entry.entry-index < length (map g.E.Logged.tried es) = subst (λ n. c.loop-entry.entry-index < n) (sym (length-map es g.E.Logged.tried)) c.loop-entry-test.true in
       stands-next b H (map g.E.Logged.tried es) c.loop-entry.entry-index (g.E.Logged.tried c.entry-item.result) c.loop-entry.self
       (c.loop-entry.invariant.stands b H stands legal) legal inside c.take_over.new.self
-      (subst (λ e. HasTaken c.loop-entry.self e c.take_over.new.self) (ap g.E.Logged.tried c.entry-item.is ∙ sym (get_or-map g.E.Logged.tried es c.loop-entry.entry-index c.entry-item.result)) c.take_over.ensures);
+      (subst (λ e. HasTaken c.loop-entry.self e c.take_over.new.self)
+      (ap g.E.Logged.tried c.entry-item.is ∙ sym (get_or-map g.E.Logged.tried es c.loop-entry.entry-index c.entry-item.result)) c.take_over.ensures);
   base = c.take_over.ensures.base ∙ c.loop-entry.invariant.base;
   worker = c.take_over.ensures.worker ∙ c.loop-entry.invariant.worker;
 }

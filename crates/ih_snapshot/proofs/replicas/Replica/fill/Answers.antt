@@ -21,7 +21,10 @@ fill-requires g c h = elim (cases_lt 0 c.self.inside.freeze) [
   | inl some ↦ (let most = c.self.invariant.1 in omega (arith, some, most))
   | inr none ↦
       let zero : c.self.inside.freeze ≡ 0 = omega (arith, none) in
-      let free : c.is_frozen-frozen.result ≡ false = c.is_frozen-frozen.ensures ∙ rw zero (none-frozen c.self.inside.start (expand_all c.self.inside.inst.now.draft c.plan.result.now (g.E.Attempt.Attempted.moves c.args.attempt.now))) in
+      let free : c.is_frozen-frozen.result
+      ≡ false = c.is_frozen-frozen.ensures
+      ∙ rw zero (none-frozen c.self.inside.start
+      (expand_all c.self.inside.inst.now.draft c.plan.result.now (g.E.Attempt.Attempted.moves c.args.attempt.now))) in
       absurd (let no : true ≡ false = sym h ∙ free in cc)
 ]
 
@@ -43,7 +46,8 @@ returns-clause-made g c =
     c.price_all_alone-price.ensures.price ∙ (ap (price_of_all v.instance v.plan) c.as_slice.ensures ∙ ap (λ J. price_of_all J v.plan m) c.self.invariant.0.instance) in
     let frozen = frozen-here r.base c.plan.result.now v.plan m c.is_frozen-frozen.result c.is_frozen-frozen.ensures (c.plan.ensures.value ∙ plan) in
     let made = filled r c.args.number m c.price_all_alone-price.new.self.plan c.price_all_alone-price.result (record r.last.reads { pairs = [] }) c.is_frozen-frozen.result plan price refl frozen in
-    let mine : (let s : Snapshot = record r { plan = c.price_all_alone-price.new.self.plan; last = g.E.Offer.Offers.offered c.fill.new.self } in s) ≡ record r { last = offer_with r c.args.number m [] } =
+    let mine : (let s : Snapshot = record r { plan = c.price_all_alone-price.new.self.plan; last = g.E.Offer.Offers.offered c.fill.new.self } in s)
+    ≡ record r { last = offer_with r c.args.number m [] } =
     ap (λ (o : Offered). let s : Snapshot = record r { plan = c.price_all_alone-price.new.self.plan; last = o } in s) c.fill.ensures ∙ made in
     subst (λ (s : Snapshot). (let t : Snapshot = record r { plan = c.price_all_alone-price.new.self.plan; last = g.E.Offer.Offers.offered c.fill.new.self } in t)
     ≡ record s { last = offer_with s c.args.number m [] }) c.self.view_is mine

@@ -52,7 +52,8 @@ returns-then-wanted g c =
     let reads : (let w : Noted = record r.last.reads { pairs = tagged (slice_index c.as_slice-then-wanted.result.now) c.cells.result.now } in w) ≡ record r.last.reads { pairs = reads_of r m } =
     ap (λ vs. let w : Noted = record r.last.reads { pairs = tagged (slice_index vs) c.cells.result.now } in w) c.as_slice-then-wanted.ensures.value
     ∙ ap (λ ns. let w : Noted = record r.last.reads { pairs = tagged (slice_index c.self.inside.versions.items) ns } in w) cells in
-    let made = read-there r m c.foot_all.new.self.plan (record r.last.reads { pairs = tagged (slice_index c.as_slice-then-wanted.result.now) c.cells.result.now }) c.args.wanted c.if-wanted.true plan reads in
+    let made = read-there r m c.foot_all.new.self.plan
+    (record r.last.reads { pairs = tagged (slice_index c.as_slice-then-wanted.result.now) c.cells.result.now }) c.args.wanted c.if-wanted.true plan reads in
     let mine = ap (λ (o : Offered). let s : Snapshot = record r { plan = c.foot_all.new.self.plan; last = o } in s) c.note.ensures ∙ made in
     subst (λ (s : Snapshot). (let t : Snapshot = record r { plan = c.foot_all.new.self.plan; last = g.E.Offer.Offers.offered c.note.new.self } in t)
     ≡ record s { last = record s.last { reads = record s.last.reads { pairs = if c.args.wanted then reads_of s m else s.last.reads.pairs } } }) c.self.view_is mine

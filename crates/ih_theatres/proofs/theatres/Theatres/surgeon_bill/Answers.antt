@@ -20,7 +20,8 @@ returns-clause-part c = λ P plan stands.
     let planned = surgeon-is stands c.args.d.0 c.day_number-today.result c.requires.day c.args.s.0 c.requires.surgeon c.day_number-today.ensures c.index-planned.result.now c.index-planned.ensures in
     let xs = list_of c.args.self.now.surgeon_days c.day_number-today.result in
     let met : AreMet c.theatres_used-marks.result (theatre_at c.args.self.now.theatres.items) xs = rw c.as_slice.ensures.value at c.theatres_used-marks.ensures in
-    let used = c.count_marked-used.ensures.count (theatre_count c.args.inst.now.draft) c.args.inst.now.valid.theatres.len.most (marks-below c.args.inst.now.valid plan stands c.theatres_used-marks.result xs met)
+    let used = c.count_marked-used.ensures.count (theatre_count c.args.inst.now.draft) c.args.inst.now.valid.theatres.len.most
+    (marks-below c.args.inst.now.valid plan stands c.theatres_used-marks.result xs met)
     ∙ count-met (theatre_count c.args.inst.now.draft) c.theatres_used-marks.result (λ t. list_any (λ o. is_number o t) (map (theatre_at c.args.self.now.theatres.items) xs)) met in
     c.surgeon_part.ensures.value
     ∙ ap as_bill (surgeon-part plan stands c.args.s c.args.d c.saturating_sub-over.result c.saturating_sub.result c.requires.day
