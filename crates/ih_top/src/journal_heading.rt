@@ -4,13 +4,15 @@ ghost use Rattle.std.specs.Prelude.{◌≡◌, ◌<◌, ◌^◌, ◌++◌, IfNon
 ghost use Rattle.ih_plan.specs.Timetable.{IsPlanOf};
 ghost use Rattle.ih_journal.specs.Settings.{IsLawful};
 ghost use Rattle.ih_journal.specs.Texts.{ended, heading};
+ghost use Rattle.ih_desk.specs.Searching.{base_given};
 ghost use Rattle.ih_words.specs.Start.{start_call};
 ghost use Rattle.ih_top.specs.JournalFiles.{read_from};
-ghost use Rattle.ih_top.specs.JournalHeading.{HasNoHeading, IsBegun};
+ghost use Rattle.ih_top.specs.JournalHeading.{HasNoHeading, IsBegun, base_headed};
 
 use crate::inputs::Inputs;
 use crate::journal_lines::first_line;
 use crate::starts::begin;
+use ih_desk::Given;
 use ih_journal::{Options, parse_head};
 use ih_words::Start;
 use std::alloc::{AllocError, Global};
@@ -37,6 +39,18 @@ fn heading_of(bytes: &[u8]) -> Option<(Options, &[u8])>
     let (line, rest) = first_line(bytes)?;
     let options = parse_head(line)?;
     Some((options, rest))
+}
+
+/// What the search of a journal is over.
+pub fn given_of<'a>(headed: &'a Headed<'_>, freeze: u32) -> Given<'a>
+    ensures { base_given result ≡ base_headed freeze headed.now }
+{
+    Given {
+        inst: &*headed.begun.inst,
+        start: &headed.begun.plan,
+        options: headed.options,
+        freeze,
+    }
 }
 
 /// Reads the heading, and begins the search that it is of, as the words say.

@@ -14,7 +14,7 @@ ghost use Rattle.ih_top.specs.Replay.{ReplayEnds};
 use crate::answer::Answer;
 use crate::inputs::Inputs;
 use crate::journal_files::{JournalInputs, read_files};
-use crate::journal_heading::begin_headed;
+use crate::journal_heading::{begin_headed, given_of};
 use crate::journal_lines::take_lines;
 use crate::laws::refused_lines_are_not_full;
 use crate::outcome::{Outcome, headless, write_outcome};
@@ -64,12 +64,7 @@ fn replayed<R: Threads + Wait + Sync>(
     let Some(headed) = found else {
         return Ok(headless());
     };
-    let given = Given {
-        inst: &*headed.begun.inst,
-        start: &headed.begun.plan,
-        options: headed.options,
-        freeze: start.freeze,
-    };
+    let given = given_of(&headed, start.freeze);
     replay_lines(alloc, &given, headed.lines)
 }
 

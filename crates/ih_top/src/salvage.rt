@@ -15,7 +15,7 @@ ghost use Rattle.ih_top.specs.Texts.{salvaged_line};
 use crate::answer::Answer;
 use crate::inputs::Inputs;
 use crate::journal_files::{JournalInputs, read_files};
-use crate::journal_heading::begin_headed;
+use crate::journal_heading::{begin_headed, given_of};
 use crate::journal_lines::take_lines;
 use crate::laws::whole_lines_are_salvaged;
 use crate::outcome::{Outcome, headless, write_outcome};
@@ -89,12 +89,7 @@ fn salvage_journal<R: Threads + Wait + Sync>(
     let Some(headed) = found else {
         return Ok(headless());
     };
-    let given = Given {
-        inst: &*headed.begun.inst,
-        start: &headed.begun.plan,
-        options: headed.options,
-        freeze: start.freeze,
-    };
+    let given = given_of(&headed, start.freeze);
     let best = salvage_lines(alloc, &given, headed.lines)?;
     Ok(Outcome::Taken(best))
 }
