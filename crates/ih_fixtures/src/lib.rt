@@ -1,12 +1,13 @@
-//! Small wards, on which the test crates try the other crates' calls.
+//! Small wards, on which the test crates try the other crates' calls. What is to hold there is handed in, so that no
+//! test owns a ward.
 #![tactic(auto)]
 
+mod error;
 mod parts;
 mod small;
 mod starts;
 mod two;
 
-pub use parts::{name, names, numbers};
-pub use small::{one_room, patient};
-pub use starts::{at, first_admitted, first_day};
-pub use two::{FixtureError, rooms, two_patients, two_patients_draft};
+pub use small::on_one_room;
+pub use starts::{at, first_day, on_first_admitted};
+pub use two::{on_two_patients, two_patients_draft};

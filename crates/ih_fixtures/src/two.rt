@@ -3,6 +3,7 @@
 ghost use Rattle.std.specs.Prelude.{IfOk, IsTrue};
 ghost use Rattle.ih_fixtures.specs.Two.{IsOfTwo};
 
+use crate::error::FixtureError;
 use crate::parts::{bare, fill_in, name, name_kinds, numbers, nurse, room, surgeons, theatre};
 use ih_tables::{
     Draft, Instance, List, Name, Nurse, Occupant, Patient, Room, RoomNo, SurgeonNo, Theatre,
@@ -17,8 +18,8 @@ fn theatres(alloc: Global) -> Result<List<Theatre>, AllocError> {
     Ok(List::new(items))
 }
 
-/// The rooms r0, of this capacity, and r1, of one bed.
-pub fn rooms(alloc: Global, capacity: u32) -> Result<List<Room>, AllocError> {
+// The rooms r0, of this capacity, and r1, of one bed.
+fn rooms(alloc: Global, capacity: u32) -> Result<List<Room>, AllocError> {
     let mut items = Vec::new(alloc);
     for (id, beds) in [("r0", capacity), ("r1", 1)] {
         items.push(room(alloc, id, beds)?)?;
@@ -111,10 +112,15 @@ fn patients(alloc: Global, barred: &[RoomNo]) -> Result<List<Patient>, AllocErro
 }
 
 // Puts everything and everyone into a ward.
-fn furnish(alloc: Global, draft: &mut Draft, barred: &[RoomNo]) -> Result<(), AllocError> {
+fn furnish(
+    alloc: Global,
+    draft: &mut Draft,
+    barred: &[RoomNo],
+    beds: u32,
+) -> Result<(), AllocError> {
     draft.surgeons = surgeons(alloc, &[100, 100])?;
     draft.operating_theaters = theatres(alloc)?;
-    draft.rooms = rooms(alloc, 2)?;
+    draft.rooms = rooms(alloc, beds)?;
     draft.nurses = nurses(alloc)?;
     draft.occupants = occupants(alloc)?;
     draft.patients = patients(alloc, barred)?;
@@ -122,25 +128,16 @@ fn furnish(alloc: Global, draft: &mut Draft, barred: &[RoomNo]) -> Result<(), Al
 }
 
 /// Patients p0 and p1, occupant a0 in r0 on day 0, rooms r0 and r1, theatres t0 and t1, and nurses n0 and n1, who work
-/// all shifts. The barred rooms are those that p1, who is optional, can't have.
-pub fn two_patients_draft(alloc: Global, barred: &[RoomNo]) -> Result<Draft, AllocError> {
+/// all shifts. The barred rooms are those that p1, who is optional, can't have; r0 has so many beds.
+pub fn two_patients_draft(
+    alloc: Global,
+    barred: &[RoomNo],
+    beds: u32,
+) -> Result<Draft, AllocError> {
     let mut draft = bare(alloc, 2);
     name_kinds(alloc, &mut draft)?;
-    furnish(alloc, &mut draft, barred)?;
+    furnish(alloc, &mut draft, barred, beds)?;
     Ok(draft)
-}
-
-/// Why there is no instance.
-#[derive(Debug, Drop)]
-pub enum FixtureError {
-    OutOfMemory,
-    Invalid,
-}
-
-impl From<AllocError> for FixtureError {
-    fn from(_: AllocError) -> FixtureError {
-        FixtureError::OutOfMemory
-    }
 }
 
 fn is_of_two(inst: &Instance) -> bool
@@ -169,10 +166,25 @@ fn sealed(alloc: Global, draft: Draft) -> Result<Instance, FixtureError>
     }
 }
 
-/// The instance of that draft, which is valid.
+/// The instance of that draft with two beds in r0, which is valid.
 pub fn two_patients(alloc: Global, barred: &[RoomNo]) -> Result<Instance, FixtureError>
     ensures { IfOk result (λ i. IsOfTwo i.draft) }
 {
-    let draft = two_patients_draft(alloc, barred)?;
+    let draft = two_patients_draft(alloc, barred, 2)?;
     sealed(alloc, draft)
+}
+
+/// Whether something holds on the ward of two patients, in which these rooms are barred. It is false where memory runs
+/// out.
+pub fn on_two_patients<F: FnOnce(&Instance) -> bool>(
+    alloc: Global,
+    barred: &[RoomNo],
+    holds: F,
+) -> bool
+    requires { (i : _) → IsOfTwo i.now.draft → F.pre holds i }
+{
+    match two_patients(alloc, barred) {
+        Ok(inst) => holds(&inst),
+        Err(_) => false,
+    }
 }

@@ -1,7 +1,7 @@
 //! What generated instances look like.
 
 use ih_gen::generate;
-use std::test::Fail;
+use std::alloc::Global;
 
 // How the instance of 7 begins: its age groups, its days and the first nurse.
 const HEAD: &str =
@@ -11,11 +11,19 @@ const HEAD: &str =
 const TAIL: &str =
     r#"]}],"weights":{"continuity_of_care":5,"nurse_eccessive_workload":1,"open_operating_theater":30,"patient_delay":10,"room_mixed_age":5,"room_nurse_skill":10,"surgeon_transfer":10,"unscheduled_optional":300}}"#;
 
+// Whether a text is as long as the instance of 7, and begins and ends as it does.
+fn is_of_seven(text: &[u8]) -> bool {
+    text.len() == 155912 && text.starts_with(HEAD.as_bytes()) && text.ends_with(TAIL.as_bytes())
+}
+
+fn is_generated(alloc: Global) -> bool {
+    match generate(alloc, 7) {
+        Ok(text) => is_of_seven(text.as_slice()),
+        Err(_) => false,
+    }
+}
+
 #[test]
-fn seven_has_its_text(rt: HostRuntime) -> Result<(), Fail> {
-    let text = generate(rt.alloc(), 7)?;
-    assert_eq!(rt; text.len(), 155912);
-    assert!(rt; text.as_slice().starts_with(HEAD.as_bytes()));
-    assert!(rt; text.as_slice().ends_with(TAIL.as_bytes()));
-    Ok(())
+fn seven_has_its_text(rt: HostRuntime) {
+    assert!(rt; is_generated(rt.alloc()));
 }

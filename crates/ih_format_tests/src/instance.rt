@@ -1,9 +1,8 @@
 //! Two small files, and what is answered for each after one change.
 
 use ih_instance::{InstanceError, read_instance};
-use ih_tables::{Fault, Place, Refusal};
+use ih_tables::{Fault, Instance, Place, Refusal};
 use std::alloc::{AllocError, Global};
-use std::test::Fail;
 
 /// One day, one room, one nurse, one occupant and no patients.
 const SMALL: &str = r#"{"days":1,"skill_levels":3,"shift_types":["early","late","night"],
@@ -42,173 +41,168 @@ const LARGER: &str = r#"{"days":2,"skill_levels":3,"shift_types":["early","late"
 {"day":0,"shift":"night","max_load":3},{"day":1,"shift":"early","max_load":3},
 {"day":1,"shift":"late","max_load":3},{"day":1,"shift":"night","max_load":3}]}]}"#;
 
-/// What is answered for a text in which one part is replaced, or none where there is no such part.
-fn answer(alloc: Global, text: &str, old: &str, new: &str) -> Result<Option<String>, AllocError> {
-    let Some((before, after)) = text.split_once(old) else {
-        return Ok(None);
-    };
-    let changed = format!(in alloc; "{before}{new}{after}")?;
-    let given = match read_instance(alloc, changed.as_bytes()) {
-        Ok(_) => String::from_str(alloc, "accepted")?,
-        Err(e) => format!(in alloc; "{e}")?,
-    };
-    Ok(Some(given))
+// Whether that is said of a file.
+fn says(alloc: Global, error: &InstanceError, wanted: &str) -> bool {
+    match format!(in alloc; "{error}") {
+        Ok(text) => text.as_str() == wanted,
+        Err(_) => false,
+    }
 }
 
-// Whether that is answered.
+// Whether that is answered for a file.
+fn is_read_so(alloc: Global, file: &[u8], wanted: &str) -> bool {
+    match read_instance(alloc, file) {
+        Ok(_) => wanted == "accepted",
+        Err(error) => says(alloc, &error, wanted),
+    }
+}
+
+// The text in which one part is replaced, or none where there is no such part.
+fn changed(alloc: Global, text: &str, old: &str, new: &str) -> Result<Option<String>, AllocError> {
+    match text.split_once(old) {
+        Some((before, after)) => Ok(Some(format!(in alloc; "{before}{new}{after}")?)),
+        None => Ok(None),
+    }
+}
+
+// Whether that is answered for such a text.
 fn is_answered(alloc: Global, text: &str, old: &str, new: &str, wanted: &str) -> bool {
-    match answer(alloc, text, old, new) {
-        Ok(Some(given)) => given.as_str() == wanted,
+    match changed(alloc, text, old, new) {
+        Ok(Some(file)) => is_read_so(alloc, file.as_bytes(), wanted),
         _ => false,
     }
 }
 
-// Changes of the whole text, of the horizon and of what is in the ward.
-fn parts_are_answered(alloc: Global) -> bool {
-    is_answered(alloc, SMALL, r#""days":1"#, r#""days":1"#, "accepted")
-        && is_answered(alloc, SMALL, "}]}]}", "}]}]", "NotJson at $")
-        && is_answered(
-            alloc,
-            SMALL,
-            r#""rooms":[{"id":"r0","capacity":2}],"#,
-            "",
-            "Missing at $.rooms",
-        )
-        && is_answered(
-            alloc,
-            SMALL,
-            r#""rooms":[{"id":"r0","capacity":2}],"#,
-            r#""rooms":[],"#,
-            "Length at $.rooms",
-        )
-        && is_answered(
-            alloc,
-            SMALL,
-            r#""days":1"#,
-            r#""days":0"#,
-            "Range at $.days",
-        )
-        && is_answered(
-            alloc,
-            SMALL,
-            r#""days":1"#,
-            r#""days":1.0"#,
-            "Kind at $.days",
-        )
-        && is_answered(
-            alloc,
-            SMALL,
-            r#""length_of_stay":1"#,
-            r#""length_of_stay":0"#,
-            "Range at $.occupants[0].length_of_stay",
-        )
+/// What stands in a text, what is put in its place, and what is then answered.
+type Change = (&'static str, &'static str, &'static str);
+
+// Whether each of these is answered.
+fn are_answered(alloc: Global, text: &str, changes: &[Change]) -> bool {
+    for (old, new, wanted) in changes {
+        if !is_answered(alloc, text, old, new, wanted) {
+            return false;
+        }
+    }
+    true
 }
 
+// Changes of the whole text, of the horizon and of what is in the ward.
+const PARTS: [Change; 7] = [
+    (r#""days":1"#, r#""days":1"#, "accepted"),
+    ("}]}]}", "}]}]", "NotJson at $"),
+    (
+        r#""rooms":[{"id":"r0","capacity":2}],"#,
+        "",
+        "Missing at $.rooms",
+    ),
+    (
+        r#""rooms":[{"id":"r0","capacity":2}],"#,
+        r#""rooms":[],"#,
+        "Length at $.rooms",
+    ),
+    (r#""days":1"#, r#""days":0"#, "Range at $.days"),
+    (r#""days":1"#, r#""days":1.0"#, "Kind at $.days"),
+    (
+        r#""length_of_stay":1"#,
+        r#""length_of_stay":0"#,
+        "Range at $.occupants[0].length_of_stay",
+    ),
+];
+
 // Changes of names, weights and shifts.
-fn names_are_answered(alloc: Global) -> bool {
-    is_answered(
-        alloc,
-        SMALL,
+const NAMES: [Change; 6] = [
+    (
         r#""child","adult""#,
         r#""child","child""#,
         "Duplicate at $.age_groups[1]",
-    ) && is_answered(
-        alloc,
-        SMALL,
+    ),
+    (
         r#""nurse_eccessive_workload":1,"#,
         r#""nurse_excessive_workload":1,"#,
         "accepted",
-    ) && is_answered(
-        alloc,
-        SMALL,
+    ),
+    (
         r#""nurse_eccessive_workload":1,"#,
         r#""nurse_excessive_workload":1,"nurse_eccessive_workload":1,"#,
         "TwoWeights at $.weights",
-    ) && is_answered(
-        alloc,
-        SMALL,
+    ),
+    (
         r#""nurse_eccessive_workload":1,"#,
         "",
         "Missing at $.weights.nurse_eccessive_workload",
-    ) && is_answered(
-        alloc,
-        SMALL,
+    ),
+    (
         r#""room_id":"r0""#,
         r#""room_id":"""#,
         "Range at $.occupants[0].room_id",
-    ) && is_answered(
-        alloc,
-        SMALL,
+    ),
+    (
         r#""shift":"night""#,
         r#""shift":"late""#,
         "Duplicate at $.nurses[0].working_shifts[2]",
-    )
-}
+    ),
+];
 
 // Changes of patients.
-fn patients_are_answered(alloc: Global) -> bool {
-    is_answered(
-        alloc,
-        LARGER,
-        "[2,2,2,2,2,2]",
-        r#"[2,2,2,2,2,2,"x"]"#,
-        "accepted",
-    ) && is_answered(
-        alloc,
-        LARGER,
+const PATIENTS: [Change; 5] = [
+    ("[2,2,2,2,2,2]", r#"[2,2,2,2,2,2,"x"]"#, "accepted"),
+    (
         "[2,2,2,2,2,2]",
         "[2,2,2,2,2]",
         "Length at $.patients[0].workload_produced",
-    ) && is_answered(
-        alloc,
-        LARGER,
+    ),
+    (
         r#""surgery_due_day":1,"#,
         "",
         "Missing at $.patients[0].surgery_due_day",
-    ) && is_answered(
-        alloc,
-        LARGER,
+    ),
+    (
         r#""surgery_duration":40,"#,
         r#""surgery_due_day":"x","surgery_duration":40,"#,
         "accepted",
-    ) && is_answered(
-        alloc,
-        LARGER,
+    ),
+    (
         r#"40,"surgeon_id":"s0""#,
         r#"40,"surgeon_id":"s1""#,
         "Unknown at $.patients[1].surgeon_id",
-    )
-}
+    ),
+];
 
 #[test]
 fn each_change_has_its_answer(rt: HostRuntime) {
-    let alloc = rt.alloc();
-    assert!(rt; parts_are_answered(alloc));
-    assert!(rt; names_are_answered(alloc));
-    assert!(rt; patients_are_answered(alloc));
+    assert!(rt; are_answered(rt.alloc(), SMALL, &PARTS));
+    assert!(rt; are_answered(rt.alloc(), SMALL, &NAMES));
+    assert!(rt; are_answered(rt.alloc(), LARGER, &PATIENTS));
+}
+
+fn has_sizes(inst: &Instance) -> bool {
+    [inst.patients(), inst.persons(), inst.rooms(), inst.shifts()] == [2, 3, 2, 6]
+}
+
+// Whether the larger text is read, with so many of each.
+fn is_larger_read(alloc: Global) -> bool {
+    match read_instance(alloc, LARGER.as_bytes()) {
+        Ok(inst) => has_sizes(&inst),
+        Err(_) => false,
+    }
+}
+
+// Whether a file without a byte is refused as a whole.
+fn is_nothing_refused(alloc: Global) -> bool {
+    let whole = Refusal {
+        fault: Fault::NotJson,
+        at: Place::whole(),
+    };
+    match read_instance(alloc, b"") {
+        Ok(_) => false,
+        Err(error) => error == InstanceError::Refused(whole),
+    }
 }
 
 #[test]
-fn an_instance_is_read(rt: HostRuntime) -> Result<(), Fail> {
-    let alloc = rt.alloc();
-    let Ok(inst) = read_instance(alloc, LARGER.as_bytes()) else {
-        return Err(Fail::from("refused"));
-    };
-    assert_eq!(rt;
-        [inst.patients(), inst.persons(), inst.rooms(), inst.shifts()],
-        [2, 3, 2, 6]
-    );
-    let Err(error) = read_instance(alloc, b"") else {
-        return Err(Fail::from("accepted"));
-    };
-    assert_eq!(rt;
-        error,
-        InstanceError::Refused(Refusal {
-            fault: Fault::NotJson,
-            at: Place::whole()
-        })
-    );
-    Ok(())
+fn an_instance_is_read(rt: HostRuntime) {
+    assert!(rt; is_larger_read(rt.alloc()));
+    assert!(rt; is_nothing_refused(rt.alloc()));
 }
 
 // The text of the smaller file with a first key more, whose value is so many lists, each inside the one before.
@@ -226,18 +220,12 @@ fn is_answered_nested(alloc: Global, depth: usize, wanted: &str) -> bool {
     }
 }
 
+// A second number of days is the one that counts.
+const REPEATED: [Change; 1] = [(r#"{"days":1"#, r#"{"days":0,"days":1"#, "accepted")];
+
 #[test]
 fn deep_values_and_repeated_keys(rt: HostRuntime) {
-    let alloc = rt.alloc();
-    assert!(rt; is_answered_nested(alloc, 126, "accepted"));
-    assert!(rt; is_answered_nested(alloc, 127, "NotJson at $"));
-    assert!(rt;
-        is_answered(
-            alloc,
-            SMALL,
-            r#"{"days":1"#,
-            r#"{"days":0,"days":1"#,
-            "accepted"
-        )
-    );
+    assert!(rt; is_answered_nested(rt.alloc(), 126, "accepted"));
+    assert!(rt; is_answered_nested(rt.alloc(), 127, "NotJson at $"));
+    assert!(rt; are_answered(rt.alloc(), SMALL, &REPEATED));
 }

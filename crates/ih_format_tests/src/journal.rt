@@ -3,14 +3,13 @@
 ghost use Rattle.std.specs.Prelude.{◌^◌};
 ghost use Rattle.ih_tables.specs.Bills.{IsWithin};
 
-use ih_fixtures::two_patients;
+use ih_fixtures::on_two_patients;
 use ih_journal::{
     BadLine, Entry, Options, Verdict, head_line, line, parse_head, parse_line, parse_move, text,
 };
 use ih_plan::{Move, Placement};
 use ih_tables::{Bill, Cell, Day, Instance, NurseNo, PatientNo, RoomNo, Shift, TheatreNo};
 use std::alloc::Global;
-use std::test::Fail;
 
 fn options(seed: u64, workers: u32, moves: u32, retries: u32) -> Options {
     Options {
@@ -23,20 +22,29 @@ fn options(seed: u64, workers: u32, moves: u32, retries: u32) -> Options {
     }
 }
 
+// Workers, moves and retries, and whether a search may have so many.
+const LIMITS: [(u32, u32, u32, bool); 7] = [
+    (64, 15625, 0, true),
+    (64, 15626, 0, false),
+    (64, 15625, 1, false),
+    (65, 1, 0, false),
+    (0, 0, 0, false),
+    (1, 125_000, 7, true),
+    (1, 1, 8, false),
+];
+
+fn are_limits(rows: &[(u32, u32, u32, bool)]) -> bool {
+    for (workers, moves, retries, lawful) in rows {
+        if options(0, *workers, *moves, *retries).lawful() != *lawful {
+            return false;
+        }
+    }
+    true
+}
+
 #[test]
 fn limits_of_options(rt: HostRuntime) {
-    let cases = [
-        (64, 15625, 0, true),
-        (64, 15626, 0, false),
-        (64, 15625, 1, false),
-        (65, 1, 0, false),
-        (0, 0, 0, false),
-        (1, 125_000, 7, true),
-        (1, 1, 8, false),
-    ];
-    for (workers, moves, retries, lawful) in cases {
-        assert_eq!(rt; options(0, workers, moves, retries).lawful(), lawful);
-    }
+    assert!(rt; are_limits(&LIMITS));
 }
 
 #[test]
@@ -50,9 +58,7 @@ fn heat_falls(rt: HostRuntime) {
         retries: 0,
     };
     assert!(rt; options.lawful());
-    assert_eq!(rt; options.theta(0), 10);
-    assert_eq!(rt; options.theta(1), 6);
-    assert_eq!(rt; options.theta(2), 3);
+    assert!(rt; [options.theta(0), options.theta(1), options.theta(2)] == [10, 6, 3]);
 }
 
 fn heading_is(alloc: Global, options: &Options, text: &str) -> bool {
@@ -60,51 +66,40 @@ fn heading_is(alloc: Global, options: &Options, text: &str) -> bool {
     head_line(options, &mut out).is_ok() && out.as_slice() == text.as_bytes()
 }
 
+// Whether the heading is read, and has this seed and so many workers, moves and retries.
+fn reads_heading(text: &str, seed: u64, workers: u32, moves: u32, retries: u32) -> bool {
+    parse_head(text.as_bytes()) == Some(options(seed, workers, moves, retries))
+}
+
+// Texts that are no headings.
+const NO_HEADINGS: [&str; 7] = [
+    "ihjournal 1 seed=18446744073709551616 workers=64 moves=15625 heat=0 hard=1000",
+    "ihjournal 2 seed=0 workers=1 moves=2 heat=0 hard=1000 retries=0",
+    "ihjournal 1 seed=0 workers=65 moves=2 heat=0 hard=1000",
+    "ihjournal 1 seed=00 workers=1 moves=2 heat=0 hard=1000",
+    "ihjournal 1 seed=0 workers=64 moves=15626 heat=0 hard=1000",
+    "ihjournal 1 seed=0 workers=1 moves=2 heat=0 hard=1000\r",
+    "",
+];
+
+fn are_no_headings(texts: &[&str]) -> bool {
+    for text in texts {
+        if parse_head(text.as_bytes()).is_some() {
+            return false;
+        }
+    }
+    true
+}
+
 #[test]
 fn headings_read(rt: HostRuntime) {
-    let largest = options(u64::MAX, 64, 15625, 0);
-    let cases = [
-        (
-            "ihjournal 1 seed=0 workers=1 moves=2 heat=0 hard=1000",
-            Some(options(0, 1, 2, 0)),
-        ),
-        (
-            "ihjournal 2 seed=0 workers=1 moves=2 heat=0 hard=1000 retries=1",
-            Some(options(0, 1, 2, 1)),
-        ),
-        (
-            "ihjournal 1 seed=18446744073709551615 workers=64 moves=15625 heat=0 hard=1000",
-            Some(largest),
-        ),
-        (
-            "ihjournal 1 seed=18446744073709551616 workers=64 moves=15625 heat=0 hard=1000",
-            None,
-        ),
-        (
-            "ihjournal 2 seed=0 workers=1 moves=2 heat=0 hard=1000 retries=0",
-            None,
-        ),
-        (
-            "ihjournal 1 seed=0 workers=65 moves=2 heat=0 hard=1000",
-            None,
-        ),
-        (
-            "ihjournal 1 seed=00 workers=1 moves=2 heat=0 hard=1000",
-            None,
-        ),
-        (
-            "ihjournal 1 seed=0 workers=64 moves=15626 heat=0 hard=1000",
-            None,
-        ),
-        (
-            "ihjournal 1 seed=0 workers=1 moves=2 heat=0 hard=1000\r",
-            None,
-        ),
-        ("", None),
-    ];
-    for (text, options) in cases {
-        assert_eq!(rt; parse_head(text.as_bytes()), options);
-    }
+    let first = "ihjournal 1 seed=0 workers=1 moves=2 heat=0 hard=1000";
+    let second = "ihjournal 2 seed=0 workers=1 moves=2 heat=0 hard=1000 retries=1";
+    let largest = "ihjournal 1 seed=18446744073709551615 workers=64 moves=15625 heat=0 hard=1000";
+    assert!(rt; reads_heading(first, 0, 1, 2, 0));
+    assert!(rt; reads_heading(second, 0, 1, 2, 1));
+    assert!(rt; reads_heading(largest, u64::MAX, 64, 15625, 0));
+    assert!(rt; are_no_headings(&NO_HEADINGS));
 }
 
 fn line_is(alloc: Global, options: &Options, place: u32, e: &Entry, wanted: &str) -> bool
@@ -203,88 +198,110 @@ fn lines_are_written(rt: HostRuntime) {
 const STALE: &str =
     "1 0 0 0 place:0,1,1,1 0,1,0,0,0,0,0,0,3,-1,0,-1,0,0,0,1,0 stale:roomshift.0.0:0:1";
 
-// Whether the line of a stale entry is read, place, move and verdict.
+// Whether the entry has the move, the price and the verdict of that line.
+fn is_stale_entry(entry: &Entry) -> bool {
+    let verdict = Verdict::Stale {
+        cell: Cell::RoomShift(RoomNo(0), Shift(0)),
+        at_seen: 0,
+        at_place: 1,
+    };
+    entry.mv == place(0, 1, 1, 1)
+        && entry.price.v == [0, 1, 0, 0, 0, 0, 0, 0, 3]
+        && entry.verdict == verdict
+}
+
+// Whether the line of a stale entry is read, place, move, price and verdict.
 fn is_stale_read(inst: &Instance, options: &Options) -> bool {
     match parse_line(inst, options, STALE.as_bytes()) {
-        Ok((1, entry)) => {
-            entry.mv == place(0, 1, 1, 1)
-                && entry.price.v == [0, 1, 0, 0, 0, 0, 0, 0, 3]
-                && entry.verdict
-                    == Verdict::Stale {
-                        cell: Cell::RoomShift(RoomNo(0), Shift(0)),
-                        at_seen: 0,
-                        at_place: 1,
-                    }
-        }
+        Ok((1, entry)) => is_stale_entry(&entry),
         _ => false,
     }
 }
 
-#[test]
-fn lines_are_read(rt: HostRuntime) -> Result<(), Fail> {
-    let alloc = rt.alloc();
-    let inst = two_patients(alloc, &[])?;
-    let options = options(0, 2, 1, 0);
-    assert!(rt; is_stale_read(&inst, &options));
-    let refused = [
-        ("", 1),
-        (
-            "00 0 0 0 idle 0,0,0,0,0,0,0,0,0,0,0,0,0,0,0,0,0 accepted",
-            1,
-        ),
-        (
-            "0 0 0 -1 idle 0,0,0,0,0,0,0,0,0,0,0,0,0,0,0,0,0 accepted",
-            4,
-        ),
-        (
-            "0 0 0 0 place:2,0,0,0 0,0,0,0,0,0,0,0,0,0,0,0,0,0,0,0,0 accepted",
-            5,
-        ),
-        ("0 0 0 0 idle 0,0,0,0,0,0,0,0,0,0,0,0,0,0,0,0 accepted", 6),
-        (
-            "0 0 0 0 idle 0,0,0,0,0,0,0,0,0,0,0,0,0,0,0,0,-0 accepted",
-            6,
-        ),
-        ("0 0 0 0 idle 0,0,0,0,0,0,0,0,0,0,0,0,0,0,0,0,0", 7),
-        (
-            "0 0 0 0 idle 0,0,0,0,0,0,0,0,0,0,0,0,0,0,0,0,0 accepted\r",
-            7,
-        ),
-        (
-            "0 0 0 0 idle 0,0,0,0,0,0,0,0,0,0,0,0,0,0,0,0,0 accepted ",
-            8,
-        ),
-    ];
-    for (text, field) in refused {
-        assert!(rt;
-            match parse_line(&inst, &options, text.as_bytes()) {
-                Ok(_) => false,
-                Err(bad) => bad == BadLine { field },
-            }
-        );
+// Texts that are no lines, and the first field of each that is wrong.
+const NO_LINES: [(&str, u32); 9] = [
+    ("", 1),
+    (
+        "00 0 0 0 idle 0,0,0,0,0,0,0,0,0,0,0,0,0,0,0,0,0 accepted",
+        1,
+    ),
+    (
+        "0 0 0 -1 idle 0,0,0,0,0,0,0,0,0,0,0,0,0,0,0,0,0 accepted",
+        4,
+    ),
+    (
+        "0 0 0 0 place:2,0,0,0 0,0,0,0,0,0,0,0,0,0,0,0,0,0,0,0,0 accepted",
+        5,
+    ),
+    ("0 0 0 0 idle 0,0,0,0,0,0,0,0,0,0,0,0,0,0,0,0 accepted", 6),
+    (
+        "0 0 0 0 idle 0,0,0,0,0,0,0,0,0,0,0,0,0,0,0,0,-0 accepted",
+        6,
+    ),
+    ("0 0 0 0 idle 0,0,0,0,0,0,0,0,0,0,0,0,0,0,0,0,0", 7),
+    (
+        "0 0 0 0 idle 0,0,0,0,0,0,0,0,0,0,0,0,0,0,0,0,0 accepted\r",
+        7,
+    ),
+    (
+        "0 0 0 0 idle 0,0,0,0,0,0,0,0,0,0,0,0,0,0,0,0,0 accepted ",
+        8,
+    ),
+];
+
+fn is_wrong_at(inst: &Instance, options: &Options, text: &str, field: u32) -> bool {
+    match parse_line(inst, options, text.as_bytes()) {
+        Ok(_) => false,
+        Err(bad) => bad == BadLine { field },
     }
-    Ok(())
+}
+
+fn are_no_lines(inst: &Instance, options: &Options, rows: &[(&str, u32)]) -> bool {
+    for (text, field) in rows {
+        if !is_wrong_at(inst, options, text, *field) {
+            return false;
+        }
+    }
+    true
+}
+
+fn lines_read(inst: &Instance) -> bool {
+    let options = options(0, 2, 1, 0);
+    is_stale_read(inst, &options) && are_no_lines(inst, &options, &NO_LINES)
 }
 
 #[test]
-fn moves_are_read(rt: HostRuntime) -> Result<(), Fail> {
-    let alloc = rt.alloc();
-    let inst = two_patients(alloc, &[])?;
-    let cases = [
-        ("idle", Some(Move::Idle)),
-        ("place:0,1,1,1", Some(place(0, 1, 1, 1))),
-        (
-            "swapnurses:5,0,1",
-            Some(Move::SwapNurses(Shift(5), RoomNo(0), RoomNo(1))),
-        ),
-        ("swapnurses:6,0,1", None),
-        ("place:0,1,1", None),
-        ("place:0,1,1,01", None),
-        ("Idle", None),
-        ("", None),
-    ];
-    for (text, mv) in cases {
-        assert_eq!(rt; parse_move(&inst, text.as_bytes()), mv);
+fn lines_are_read(rt: HostRuntime) {
+    assert!(rt; on_two_patients(rt.alloc(), &[], lines_read));
+}
+
+// Texts that are no moves of the ward.
+const NO_MOVES: [&str; 5] = [
+    "swapnurses:6,0,1",
+    "place:0,1,1",
+    "place:0,1,1,01",
+    "Idle",
+    "",
+];
+
+fn are_no_moves(inst: &Instance, texts: &[&str]) -> bool {
+    for text in texts {
+        if parse_move(inst, text.as_bytes()).is_some() {
+            return false;
+        }
     }
-    Ok(())
+    true
+}
+
+fn moves_read(inst: &Instance) -> bool {
+    let swap = Move::SwapNurses(Shift(5), RoomNo(0), RoomNo(1));
+    parse_move(inst, b"idle") == Some(Move::Idle)
+        && parse_move(inst, b"place:0,1,1,1") == Some(place(0, 1, 1, 1))
+        && parse_move(inst, b"swapnurses:5,0,1") == Some(swap)
+        && are_no_moves(inst, &NO_MOVES)
+}
+
+#[test]
+fn moves_are_read(rt: HostRuntime) {
+    assert!(rt; on_two_patients(rt.alloc(), &[], moves_read));
 }

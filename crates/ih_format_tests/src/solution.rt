@@ -1,18 +1,12 @@
 //! An instance of one day, with one patient, one room and one nurse: a solution file is read and written again.
 
-use ih_fixtures::{one_room, patient};
-use ih_solution::{read_solution, write_solution};
-use ih_tables::{Draft, Instance, List};
-use std::alloc::{AllocError, Global};
-use std::test::Fail;
+ghost use Rattle.ih_plan.specs.Timetable.{IsPlanOf};
 
-// The ward of one day, with a patient whose name needs escapes.
-fn example(alloc: Global) -> Result<Draft, AllocError> {
-    let mut draft = one_room(alloc)?;
-    let named = patient(alloc, "p\"\\\u{1f}\n")?;
-    draft.patients = List::new(vec![in alloc; named]?);
-    Ok(draft)
-}
+use ih_fixtures::on_one_room;
+use ih_plan::Plan;
+use ih_solution::{read_solution, write_solution};
+use ih_tables::Instance;
+use std::alloc::Global;
 
 const READ: &str =
     r#"{"patients":[{"room":"r0","operating_theater":"t0","id":"p\"\\\u001F\n","admission_day":0}],
@@ -21,18 +15,36 @@ const READ: &str =
 const WRITTEN: &str =
     r#"{"nurses":[{"assignments":[{"day":0,"rooms":["r0"],"shift":"late"}],"id":"n0"}],"patients":[{"admission_day":0,"id":"p\"\\\u001f\n","operating_theater":"t0","room":"r0"}]}"#;
 
-#[test]
-fn solutions_are_read_and_written(rt: HostRuntime) -> Result<(), Fail> {
-    let alloc = rt.alloc();
-    let draft = example(alloc)?;
-    assert!(rt; draft.is_valid());
-    let inst = Instance::seal(alloc, draft)?;
-    for text in [READ, WRITTEN] {
-        let Ok(plan) = read_solution(alloc, &inst, text.as_bytes()) else {
-            return Err(Fail::from("refused"));
-        };
-        let written = write_solution(alloc, &inst, &plan)?;
-        assert_eq!(rt; written.as_slice(), WRITTEN.as_bytes());
+fn is_written(alloc: Global, inst: &Instance, plan: &Plan) -> bool
+    requires { IsPlanOf inst.now.draft plan.now }
+{
+    match write_solution(alloc, inst, plan) {
+        Ok(text) => text.as_slice() == WRITTEN.as_bytes(),
+        Err(_) => false,
     }
-    Ok(())
+}
+
+// Whether the timetable of a file is read, and then written so.
+fn is_written_again(alloc: Global, inst: &Instance, file: &str) -> bool {
+    match read_solution(alloc, inst, file.as_bytes()) {
+        Ok(plan) => is_written(alloc, inst, &plan),
+        Err(_) => false,
+    }
+}
+
+fn are_written_again(alloc: Global, inst: &Instance) -> bool {
+    is_written_again(alloc, inst, READ) && is_written_again(alloc, inst, WRITTEN)
+}
+
+// The patient's name needs escapes.
+#[test]
+fn solutions_are_read_and_written(rt: HostRuntime) {
+    let alloc = rt.alloc();
+    assert!(rt;
+        on_one_room(
+            alloc,
+            &["p\"\\\u{1f}\n"],
+            |inst| are_written_again(alloc, inst)
+        )
+    );
 }

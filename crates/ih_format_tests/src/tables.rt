@@ -2,9 +2,9 @@
 
 ghost use Rattle.ih_fixtures.specs.Two.{IsOfTwo};
 
-use ih_fixtures::{rooms, two_patients, two_patients_draft};
+use ih_fixtures::{on_two_patients, two_patients_draft};
 use ih_tables::{Bill, Instance, NurseNo, PatientNo, RoomNo, Shift, TheatreNo};
-use std::test::Fail;
+use std::alloc::Global;
 
 /// Threads share an instance.
 fn share<T: Send + Sync>(_x: &T) {}
@@ -42,24 +42,29 @@ fn has_loads(inst: &Instance) -> bool
         && inst.shift_type(2).as_str() == "night"
 }
 
-#[test]
-fn the_example_is_valid(rt: HostRuntime) -> Result<(), Fail> {
-    let alloc = rt.alloc();
-    let inst = two_patients(alloc, &[])?;
-    share(&inst);
-    assert!(rt; has_sizes(&inst));
-    assert!(rt; finds_names(&inst));
-    assert!(rt; has_loads(&inst));
-    Ok(())
+fn is_the_example(inst: &Instance) -> bool
+    requires { IsOfTwo inst.now.draft }
+{
+    share(inst);
+    has_sizes(inst) && finds_names(inst) && has_loads(inst)
 }
 
 #[test]
-fn a_room_of_too_many_beds_is_refused(rt: HostRuntime) -> Result<(), Fail> {
-    let alloc = rt.alloc();
-    let mut wide = two_patients_draft(alloc, &[])?;
-    wide.rooms = rooms(alloc, 1001)?;
-    assert!(rt; !wide.is_valid());
-    Ok(())
+fn the_example_is_valid(rt: HostRuntime) {
+    assert!(rt; on_two_patients(rt.alloc(), &[], is_the_example));
+}
+
+// Whether the example is invalid where its first room has so many beds.
+fn is_too_wide(alloc: Global, beds: u32) -> bool {
+    match two_patients_draft(alloc, &[], beds) {
+        Ok(draft) => !draft.is_valid(),
+        Err(_) => false,
+    }
+}
+
+#[test]
+fn a_room_of_too_many_beds_is_refused(rt: HostRuntime) {
+    assert!(rt; is_too_wide(rt.alloc(), 1001));
 }
 
 #[test]

@@ -1,52 +1,19 @@
 //! Examples of the public calls, with ample memory.
 use ih_journal::Options;
-use ih_words::{Command, Solve, WordsError, read_words};
+use ih_words::{Chains, Command, Replay, Solve, WordsError, read_words};
 use std::alloc::{AllocError, Global};
-use std::test::Fail;
 
-fn owned(alloc: Global, words: &[&str]) -> Result<Vec<String>, AllocError> {
-    let mut all = Vec::new(alloc);
-    for word in words {
-        all.push(format!(in alloc; "{word}")?)?;
+// The words of a line.
+fn words_of(alloc: Global, line: &str) -> Result<Vec<String>, AllocError> {
+    let mut words = Vec::new(alloc);
+    for word in line.split_whitespace() {
+        words.push(String::from_str(alloc, word)?)?;
     }
-    Ok(all)
+    Ok(words)
 }
 
-// Whether these words are those of a search with all its options.
-fn reads_solve(alloc: Global) -> Result<bool, AllocError> {
-    let words = owned(
-        alloc,
-        [
-            "solve",
-            "i",
-            "--seed=+007",
-            "o",
-            "j",
-            "--workers",
-            "64",
-            "--moves",
-            "1953",
-            "--heat",
-            "50",
-            "--hard",
-            "1000000",
-            "--start",
-            "s",
-            "--freeze=56",
-            "--retries",
-            "7",
-        ]
-        .as_slice(),
-    )?;
-    let read = read_words(alloc, words.as_slice());
-    match read {
-        Ok(Command::Solve(solve)) => Ok(is_wanted(&solve)),
-        _ => Ok(false),
-    }
-}
-
-// Whether the call has the names and numbers of those words.
-fn is_wanted(solve: &Solve<'_>) -> bool {
+// Whether the call has the names and numbers of the words below.
+fn is_solve(solve: &Solve<'_>) -> bool {
     let wanted = Options {
         seed: 7,
         workers: 64,
@@ -65,126 +32,128 @@ fn is_wanted(solve: &Solve<'_>) -> bool {
         && !solve.start.fill
 }
 
-fn reads_chain(alloc: Global) -> Result<bool, AllocError> {
-    let words = owned(
-        alloc,
-        [
-            "chain",
-            "i",
-            "o",
-            "--length=8",
-            "j",
-            "--seed",
-            "7",
-            "--workers",
-            "50",
-            "--moves",
-            "2500",
-            "--heat",
-            "50",
-            "--hard",
-            "1000",
-            "--fill",
-        ]
-        .as_slice(),
-    )?;
-    let read = read_words(alloc, words.as_slice());
-    match read {
-        Ok(Command::Chain(chain)) => Ok(
-            chain.length == 8
-                && chain.search.journal == "j"
-                && chain.search.options.moves == 2500
-                && chain.search.start.fill,
-        ),
-        _ => Ok(false),
+fn is_chain(chain: &Chains<'_>) -> bool {
+    chain.length == 8
+        && chain.search.journal == "j"
+        && chain.search.options.moves == 2500
+        && chain.search.start.fill
+}
+
+fn is_replay(replay: &Replay<'_>) -> bool {
+    replay.instance == "i"
+        && replay.journal == "j"
+        && replay.out == "o"
+        && replay.start.fill
+        && replay.start.file.is_none()
+        && replay.start.freeze == 0
+}
+
+fn is_salvage(salvage: &Replay<'_>) -> bool {
+    salvage.instance == "i"
+        && salvage.journal == "j"
+        && salvage.out == "o"
+        && salvage.start.file == Some("s")
+        && !salvage.start.fill
+}
+
+// The name of a command that has the values of its line below.
+fn told(command: &Command<'_>) -> Option<&'static str> {
+    match command {
+        Command::Solve(solve) if is_solve(solve) => Some("solve"),
+        Command::Chain(chain) if is_chain(chain) => Some("chain"),
+        Command::Check(check) if check.instance == "i" && check.solution == "s" => Some("check"),
+        Command::Replay(replay) if is_replay(replay) => Some("replay"),
+        Command::Salvage(salvage) if is_salvage(salvage) => Some("salvage"),
+        Command::Gen(made) if made.number == 7 && made.out == "o" => Some("gen"),
+        Command::Demo(18_446_744_073_709_551_615) => Some("demo"),
+        _ => None,
     }
 }
 
-fn reads_check(alloc: Global) -> Result<bool, AllocError> {
-    let words = owned(alloc, ["check", "i", "s"].as_slice())?;
-    let read = read_words(alloc, words.as_slice());
-    match read {
-        Ok(Command::Check(check)) => Ok(check.instance == "i" && check.solution == "s"),
-        _ => Ok(false),
+// A command's name, and the words behind it.
+const LINES: [(&str, &str); 7] = [
+    (
+        "solve",
+        "solve i --seed=+007 o j --workers 64 --moves 1953 --heat 50 --hard 1000000 --start s --freeze=56 --retries 7",
+    ),
+    (
+        "chain",
+        "chain i o --length=8 j --seed 7 --workers 50 --moves 2500 --heat 50 --hard 1000 --fill",
+    ),
+    ("check", "check i s"),
+    ("replay", "replay i --fill j o"),
+    ("salvage", "salvage i j o --start=s"),
+    ("gen", "gen 7 o"),
+    ("demo", "demo 18446744073709551615"),
+];
+
+// Whether the words are read as that command.
+fn is_command(alloc: Global, words: &[String], name: &str) -> bool {
+    match read_words(alloc, words) {
+        Ok(command) => told(&command) == Some(name),
+        Err(_) => false,
     }
 }
 
-fn reads_replay(alloc: Global) -> Result<bool, AllocError> {
-    let words = owned(alloc, ["replay", "i", "--fill", "j", "o"].as_slice())?;
-    let read = read_words(alloc, words.as_slice());
-    match read {
-        Ok(Command::Replay(replay)) => Ok(
-            replay.instance == "i"
-                && replay.journal == "j"
-                && replay.out == "o"
-                && replay.start.fill
-                && replay.start.file.is_none()
-                && replay.start.freeze == 0,
-        ),
-        _ => Ok(false),
+fn is_read(alloc: Global, line: &str, name: &str) -> bool {
+    match words_of(alloc, line) {
+        Ok(words) => is_command(alloc, words.as_slice(), name),
+        Err(_) => false,
     }
 }
 
-fn reads_salvage(alloc: Global) -> Result<bool, AllocError> {
-    let words = owned(alloc, ["salvage", "i", "j", "o", "--start=s"].as_slice())?;
-    let read = read_words(alloc, words.as_slice());
-    match read {
-        Ok(Command::Salvage(salvage)) => Ok(
-            salvage.instance == "i"
-                && salvage.journal == "j"
-                && salvage.out == "o"
-                && salvage.start.file == Some("s")
-                && !salvage.start.fill,
-        ),
-        _ => Ok(false),
+fn are_read(alloc: Global, rows: &[(&str, &str)]) -> bool {
+    for (name, line) in rows {
+        if !is_read(alloc, line, name) {
+            return false;
+        }
     }
-}
-
-fn reads_gen(alloc: Global) -> Result<bool, AllocError> {
-    let words = owned(alloc, ["gen", "7", "o"].as_slice())?;
-    let read = read_words(alloc, words.as_slice());
-    match read {
-        Ok(Command::Gen(generated)) => Ok(generated.number == 7 && generated.out == "o"),
-        _ => Ok(false),
-    }
-}
-
-fn reads_demo(alloc: Global) -> Result<bool, AllocError> {
-    let words = owned(alloc, ["demo", "18446744073709551615"].as_slice())?;
-    let read = read_words(alloc, words.as_slice());
-    Ok(matches!(&read, Ok(Command::Demo(18_446_744_073_709_551_615))))
+    true
 }
 
 #[test]
-fn commands_have_their_values(rt: HostRuntime) -> Result<(), Fail> {
-    let alloc = rt.alloc();
-    assert!(rt; reads_solve(alloc)?);
-    assert!(rt; reads_chain(alloc)?);
-    assert!(rt; reads_check(alloc)?);
-    assert!(rt; reads_replay(alloc)?);
-    assert!(rt; reads_salvage(alloc)?);
-    assert!(rt; reads_gen(alloc)?);
-    assert!(rt; reads_demo(alloc)?);
-    Ok(())
+fn commands_have_their_values(rt: HostRuntime) {
+    assert!(rt; are_read(rt.alloc(), &LINES));
 }
 
-fn is_unlawful(alloc: Global, list: &[&str]) -> bool {
-    let Ok(words) = owned(alloc, list) else {
-        return false;
-    };
-    let read = read_words(alloc, words.as_slice());
-    matches!(&read, Err(WordsError::Unlawful))
+fn is_unlawful(alloc: Global, line: &str) -> bool {
+    match words_of(alloc, line) {
+        Ok(words) => matches!(
+            read_words(alloc, words.as_slice()),
+            Err(WordsError::Unlawful)
+        ),
+        Err(_) => false,
+    }
+}
+
+// Words that no command has.
+const UNLAWFUL: [&str; 5] = [
+    "",
+    "check i i",
+    "solve --help",
+    "solve i o j",
+    "replay i j o --freeze=0",
+];
+
+fn are_unlawful(alloc: Global, lines: &[&str]) -> bool {
+    for line in lines {
+        if !is_unlawful(alloc, line) {
+            return false;
+        }
+    }
+    true
+}
+
+// Whether that is said of such words.
+fn is_said(alloc: Global) -> bool {
+    match format!(in alloc; "{}", WordsError::Unlawful) {
+        Ok(text) => text.as_str() == "no command has these words",
+        Err(_) => false,
+    }
 }
 
 #[test]
-fn other_words_are_unlawful(rt: HostRuntime) -> Result<(), Fail> {
-    let alloc = rt.alloc();
-    assert!(rt; is_unlawful(alloc, [].as_slice()));
-    assert!(rt; is_unlawful(alloc, ["check", "i", "i"].as_slice()));
-    assert!(rt; is_unlawful(alloc, ["solve", "--help"].as_slice()));
-    assert!(rt; is_unlawful(alloc, ["solve", "i", "o", "j"].as_slice()));
-    assert!(rt; is_unlawful(alloc, ["replay", "i", "j", "o", "--freeze=0"].as_slice()));
-    let text = format!(in alloc; "{}", WordsError::Unlawful)?;
-    assert!(rt; text.as_str() == "no command has these words");
-    Ok(())
+fn other_words_are_unlawful(rt: HostRuntime) {
+    assert!(rt; are_unlawful(rt.alloc(), &UNLAWFUL));
+    assert!(rt; is_said(rt.alloc()));
 }

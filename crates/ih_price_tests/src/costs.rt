@@ -3,14 +3,15 @@
 ghost use Rattle.std.specs.Prelude.{◌≡◌};
 ghost use Rattle.ih_tables.specs.Sizes.{sizes_of};
 ghost use Rattle.ih_plan.specs.Expand.{IsMoveOf};
+ghost use Rattle.ih_plan.specs.Timetable.{IsPlanOf};
 ghost use Rattle.ih_fixtures.specs.Two.{IsOfTwo};
 
 use ih_costs::Ledgers;
-use ih_fixtures::{first_admitted, first_day, two_patients};
+use ih_fixtures::{first_day, on_first_admitted};
 use ih_footprint::{CellList, Numbering};
-use ih_plan::{Move, Write};
+use ih_plan::{Move, Plan, Write};
 use ih_tables::{Bill, Day, Instance, NurseNo, PatientNo, RoomNo, Shift};
-use std::test::Fail;
+use std::alloc::Global;
 
 /// Threads share the ledgers.
 fn share<T: Send + Sync>(_x: &T) {}
@@ -92,15 +93,40 @@ fn bills_follow(inst: &Instance, ledgers: &mut Ledgers<'_>) -> bool
         && ledgers.plan().stay(PatientNo(1)) == None
 }
 
+// Whether prices and then the bills are right, where the list of cells is empty.
+fn are_right(inst: &Instance, ledgers: &mut Ledgers<'_>, foot: &mut CellList) -> bool
+    requires instance { ledgers.old.instance ≡ inst.now.draft }
+    requires sizes { foot.old.sizes ≡ sizes_of inst.now.draft }
+    requires two { IsOfTwo inst.now.draft }
+{
+    prices_are_right(inst, ledgers, foot) && bills_follow(inst, ledgers)
+}
+
+fn hold_with_a_list(alloc: Global, inst: &Instance, ledgers: &mut Ledgers<'_>) -> bool
+    requires instance { ledgers.old.instance ≡ inst.now.draft }
+    requires two { IsOfTwo inst.now.draft }
+{
+    match CellList::new(alloc, Numbering::of(inst)) {
+        Ok(mut foot) => are_right(inst, ledgers, &mut foot),
+        Err(_) => false,
+    }
+}
+
+fn hold(alloc: Global, inst: &Instance, plan: &Plan) -> bool
+    requires two { IsOfTwo inst.now.draft }
+    requires plan { IsPlanOf inst.now.draft plan.now }
+{
+    match Ledgers::new(alloc, inst, plan) {
+        Ok(mut ledgers) => {
+            share(&ledgers);
+            hold_with_a_list(alloc, inst, &mut ledgers)
+        }
+        Err(_) => false,
+    }
+}
+
 #[test]
-fn moves_are_priced_by_what_they_touch_and_bills_follow(rt: HostRuntime) -> Result<(), Fail> {
+fn moves_are_priced_by_what_they_touch_and_bills_follow(rt: HostRuntime) {
     let alloc = rt.alloc();
-    let inst = two_patients(alloc, &[])?;
-    let plan = first_admitted(alloc, &inst)?;
-    let mut ledgers = Ledgers::new(alloc, &inst, &plan)?;
-    share(&ledgers);
-    let mut foot = CellList::new(alloc, Numbering::of(&inst))?;
-    assert!(rt; prices_are_right(&inst, &mut ledgers, &mut foot));
-    assert!(rt; bills_follow(&inst, &mut ledgers));
-    Ok(())
+    assert!(rt; on_first_admitted(alloc, |inst, plan| hold(alloc, inst, plan)));
 }

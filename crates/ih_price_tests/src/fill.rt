@@ -4,11 +4,10 @@ ghost use Rattle.std.specs.Prelude.{IfOk};
 ghost use Rattle.ih_plan.specs.Timetable.{IsPlanOf};
 
 use ih_fill::fill;
-use ih_fixtures::{at, two_patients};
+use ih_fixtures::{at, on_two_patients};
 use ih_plan::Plan;
 use ih_tables::{Instance, NurseNo, PatientNo, RoomNo, Shift};
 use std::alloc::{AllocError, Global};
-use std::test::Fail;
 
 // The fill of the empty timetable.
 #[tactic(auto, using(ih_plan::proofs::PlanRanges::plan_steps))]
@@ -96,20 +95,28 @@ fn one_is_left_out(inst: &Instance, plan: &Plan) -> bool
         && has_none_from(inst, plan, 1, 0)
 }
 
-#[test]
-fn patients_then_nurses_by_least_change(rt: HostRuntime) -> Result<(), Fail> {
-    let alloc = rt.alloc();
-    let inst = two_patients(alloc, &[])?;
-    let plan = filled(alloc, &inst)?;
-    assert!(rt; all_are_placed(&inst, &plan));
-    Ok(())
+fn fills_all(alloc: Global, inst: &Instance) -> bool {
+    match filled(alloc, inst) {
+        Ok(plan) => all_are_placed(inst, &plan),
+        Err(_) => false,
+    }
+}
+
+fn leaves_one_out(alloc: Global, inst: &Instance) -> bool {
+    match filled(alloc, inst) {
+        Ok(plan) => one_is_left_out(inst, &plan),
+        Err(_) => false,
+    }
 }
 
 #[test]
-fn a_patient_without_a_compatible_room_is_left_out(rt: HostRuntime) -> Result<(), Fail> {
+fn patients_then_nurses_by_least_change(rt: HostRuntime) {
     let alloc = rt.alloc();
-    let inst = two_patients(alloc, &[RoomNo(1)])?;
-    let plan = filled(alloc, &inst)?;
-    assert!(rt; one_is_left_out(&inst, &plan));
-    Ok(())
+    assert!(rt; on_two_patients(alloc, &[], |inst| fills_all(alloc, inst)));
+}
+
+#[test]
+fn a_patient_without_a_compatible_room_is_left_out(rt: HostRuntime) {
+    let alloc = rt.alloc();
+    assert!(rt; on_two_patients(alloc, &[RoomNo(1)], |inst| leaves_one_out(alloc, inst)));
 }

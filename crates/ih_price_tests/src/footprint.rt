@@ -6,11 +6,11 @@ ghost use Rattle.ih_tables.specs.Sizes.{sizes_of};
 ghost use Rattle.ih_plan.specs.Cells.{count_in};
 ghost use Rattle.ih_fixtures.specs.Two.{IsOfTwo};
 
-use ih_fixtures::two_patients;
+use ih_fixtures::on_two_patients;
 use ih_footprint::{CellList, Numbering, looks};
 use ih_plan::Move;
 use ih_tables::{Cell, Day, Instance, NurseNo, PatientNo, PersonNo, RoomNo, Shift};
-use std::test::Fail;
+use std::alloc::Global;
 
 // The number is the cell's, and the cell the number's.
 fn are_paired(numbering: &Numbering, n: u32, c: Cell) -> bool
@@ -55,28 +55,47 @@ fn are_looked_at(inst: &Instance, list: &mut CellList) -> bool
 /// Threads share a list.
 fn share<T: Send + Sync>(_x: &T) {}
 
-#[test]
-fn cells_are_numbered_by_kind(rt: HostRuntime) -> Result<(), Fail> {
-    let alloc = rt.alloc();
-    let inst = two_patients(alloc, &[])?;
-    let numbering = Numbering::of(&inst);
-    assert_eq!(rt; numbering.count(), 39);
-    assert!(rt; are_paired(&numbering, 14, Cell::RoomShift(RoomNo(0), Shift(2))));
-    assert!(rt; are_paired(&numbering, 32, Cell::NurseShift(NurseNo(1), Shift(2))));
-    assert!(rt; are_paired(&numbering, 38, Cell::Care(PersonNo(2))));
-    Ok(())
+fn are_numbered(inst: &Instance) -> bool
+    requires { IsOfTwo inst.now.draft }
+{
+    let numbering = Numbering::of(inst);
+    numbering.count() == 39
+        && are_paired(&numbering, 14, Cell::RoomShift(RoomNo(0), Shift(2)))
+        && are_paired(&numbering, 32, Cell::NurseShift(NurseNo(1), Shift(2)))
+        && are_paired(&numbering, 38, Cell::Care(PersonNo(2)))
 }
 
 #[test]
-fn cells_are_listed_once(rt: HostRuntime) -> Result<(), Fail> {
+fn cells_are_numbered_by_kind(rt: HostRuntime) {
+    assert!(rt; on_two_patients(rt.alloc(), &[], are_numbered));
+}
+
+fn gathers(alloc: Global, inst: &Instance) -> bool {
+    let numbering = Numbering::of(inst);
+    if numbering.count() != 39 {
+        return false;
+    }
+    match CellList::new(alloc, numbering) {
+        Ok(mut list) => {
+            share(&list);
+            are_gathered(&mut list)
+        }
+        Err(_) => false,
+    }
+}
+
+fn looks_at(alloc: Global, inst: &Instance) -> bool
+    requires { IsOfTwo inst.now.draft }
+{
+    match CellList::new(alloc, Numbering::of(inst)) {
+        Ok(mut list) => are_looked_at(inst, &mut list),
+        Err(_) => false,
+    }
+}
+
+#[test]
+fn cells_are_listed_once(rt: HostRuntime) {
     let alloc = rt.alloc();
-    let inst = two_patients(alloc, &[])?;
-    let numbering = Numbering::of(&inst);
-    assert_eq!(rt; numbering.count(), 39);
-    let mut gathered = CellList::new(alloc, numbering)?;
-    share(&gathered);
-    assert!(rt; are_gathered(&mut gathered));
-    let mut looked_at = CellList::new(alloc, numbering)?;
-    assert!(rt; are_looked_at(&inst, &mut looked_at));
-    Ok(())
+    assert!(rt; on_two_patients(alloc, &[], |inst| gathers(alloc, inst)));
+    assert!(rt; on_two_patients(alloc, &[], |inst| looks_at(alloc, inst)));
 }

@@ -1,11 +1,10 @@
 //! Two lists over three nodes, and a loop over a list as the crates above write it.
 
-ghost use Rattle.std.specs.Prelude.{◌≡◌, ◌<◌, length, IfOk};
+ghost use Rattle.std.specs.Prelude.{◌≡◌, ◌<◌, [], ◌∷◌, length, IfOk};
 ghost use Rattle.ih_links.specs.Lists.{list_of};
 
 use ih_links::Links;
 use std::alloc::{AllocError, Global};
-use std::test::Fail;
 
 // The nodes of a list, in order.
 fn nodes_of(alloc: Global, links: &Links, head: u32) -> Result<Vec<u32>, AllocError>
@@ -24,22 +23,50 @@ fn nodes_of(alloc: Global, links: &Links, head: u32) -> Result<Vec<u32>, AllocEr
 /// Threads share lists.
 fn share<T: Send + Sync>(_x: &T) {}
 
-#[test]
-fn a_node_leaves_and_the_list_closes_up(rt: HostRuntime) -> Result<(), Fail> {
-    let mut links = Links::new(rt.alloc(), 2, 3)?;
-    share(&links);
+fn has_nodes(alloc: Global, links: &Links, head: u32, wanted: &[u32]) -> bool
+    requires { head < length links.now.lists }
+{
+    match nodes_of(alloc, links, head) {
+        Ok(nodes) => nodes.as_slice() == wanted,
+        Err(_) => false,
+    }
+}
+
+// Whether the first list has just the node 0, and the second one node.
+fn has_closed_up(links: &Links) -> bool
+    requires lists { length links.now.lists ≡ 2 }
+    requires nodes { links.now.nodes ≡ 3 }
+{
+    links.first(0) == Some(0)
+        && links.next(0).is_none()
+        && links.home(2).is_none()
+        && links.len(0) == 1
+        && links.len(1) == 1
+}
+
+fn closes_up(alloc: Global, links: &mut Links) -> bool
+    requires lists { links.old.lists ≡ [] ∷ [] ∷ [] }
+    requires nodes { links.old.nodes ≡ 3 }
+{
     links.push_back(0, 2);
     links.push_back(0, 0);
     links.push_back(1, 1);
-    assert_eq!(rt;
-        nodes_of(rt.alloc(), &links, 0)?.as_slice(),
-        [2, 0].as_slice()
-    );
+    let both = has_nodes(alloc, links, 0, &[2, 0]);
     links.remove(2);
-    assert_eq!(rt; links.first(0), Some(0));
-    assert_eq!(rt; links.next(0), None);
-    assert_eq!(rt; links.home(2), None);
-    assert_eq!(rt; links.len(0), 1);
-    assert_eq!(rt; links.len(1), 1);
-    Ok(())
+    both && has_closed_up(links)
+}
+
+fn lists_close_up(alloc: Global) -> bool {
+    match Links::new(alloc, 2, 3) {
+        Ok(mut links) => {
+            share(&links);
+            closes_up(alloc, &mut links)
+        }
+        Err(_) => false,
+    }
+}
+
+#[test]
+fn a_node_leaves_and_the_list_closes_up(rt: HostRuntime) {
+    assert!(rt; lists_close_up(rt.alloc()));
 }

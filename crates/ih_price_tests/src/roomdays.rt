@@ -5,11 +5,11 @@ ghost use Rattle.ih_plan.specs.Timetable.{empty};
 ghost use Rattle.ih_roomdays.specs.Ledger.{IsLedgerOf};
 ghost use Rattle.ih_fixtures.specs.Two.{IsOfTwo};
 
-use ih_fixtures::{first_day, two_patients};
+use ih_fixtures::{first_day, on_two_patients};
 use ih_plan::Members;
 use ih_roomdays::RoomDays;
 use ih_tables::{Bill, Day, Instance, PatientNo, RoomNo};
-use std::test::Fail;
+use std::alloc::Global;
 
 /// Threads share a ledger.
 fn share<T: Send + Sync>(_x: &T) {}
@@ -46,12 +46,20 @@ fn is_right(inst: &Instance, ledger: &mut RoomDays) -> bool
     both && later == 1 && is(&bill, 0, 0, 1)
 }
 
+fn hold(alloc: Global, inst: &Instance) -> bool
+    requires { IsOfTwo inst.now.draft }
+{
+    match RoomDays::new(alloc, inst) {
+        Ok(mut ledger) => {
+            share(&ledger);
+            is_right(inst, &mut ledger)
+        }
+        Err(_) => false,
+    }
+}
+
 #[test]
-fn a_patient_joins_an_occupant(rt: HostRuntime) -> Result<(), Fail> {
+fn a_patient_joins_an_occupant(rt: HostRuntime) {
     let alloc = rt.alloc();
-    let inst = two_patients(alloc, &[])?;
-    let mut ledger = RoomDays::new(alloc, &inst)?;
-    share(&ledger);
-    assert!(rt; is_right(&inst, &mut ledger));
-    Ok(())
+    assert!(rt; on_two_patients(alloc, &[], |inst| hold(alloc, inst)));
 }

@@ -4,10 +4,10 @@ ghost use Rattle.ih_plan.specs.Timetable.{empty};
 ghost use Rattle.ih_theatres.specs.Ledger.{IsLedgerOf};
 ghost use Rattle.ih_fixtures.specs.Two.{IsOfTwo};
 
-use ih_fixtures::{first_day, two_patients};
+use ih_fixtures::{first_day, on_two_patients};
 use ih_tables::{Bill, Day, Instance, PatientNo, SurgeonNo, TheatreNo};
 use ih_theatres::Theatres;
-use std::test::Fail;
+use std::alloc::Global;
 
 /// Threads share a ledger.
 fn share<T: Send + Sync>(_x: &T) {}
@@ -32,12 +32,20 @@ fn are_right(inst: &Instance, ledger: &mut Theatres) -> bool
     is(&used, OPEN) && is(&alone, NONE)
 }
 
+fn hold(alloc: Global, inst: &Instance) -> bool
+    requires { IsOfTwo inst.now.draft }
+{
+    match Theatres::new(alloc, inst) {
+        Ok(mut ledger) => {
+            share(&ledger);
+            are_right(inst, &mut ledger)
+        }
+        Err(_) => false,
+    }
+}
+
 #[test]
-fn a_surgery_comes(rt: HostRuntime) -> Result<(), Fail> {
+fn a_surgery_comes(rt: HostRuntime) {
     let alloc = rt.alloc();
-    let inst = two_patients(alloc, &[])?;
-    let mut ledger = Theatres::new(alloc, &inst)?;
-    share(&ledger);
-    assert!(rt; are_right(&inst, &mut ledger));
-    Ok(())
+    assert!(rt; on_two_patients(alloc, &[], |inst| hold(alloc, inst)));
 }

@@ -1,9 +1,15 @@
 //! Whole calls of advise, over files in memory.
 
 use crate::examples::{COVERED_SOLUTION, ONE_ADMITTED, TWO_PATIENTS, WARD};
-use crate::whole_calls::{ends, exits_past, lay};
+use crate::script::Event::{Ends, Store};
+use crate::script::{Event, goes};
+use crate::whole_calls::{exits_past, lay};
 use ih_shelf::{HoldGate, MemShelf, MemSink};
 use ih_top::Status;
+use std::alloc::Global;
+use std::rt::Files;
+use std::sync::Wait;
+use std::thread::Threads;
 
 const TURNS: u64 = 100_000_000;
 
@@ -14,51 +20,56 @@ setcare:0,2,1 -16 0,0,0,0,0,0,0,0,0,0,-2,2,0,0,0,0,0
 improvable 2
 ";
 
-// A stay one day later lowers the score by 1, another nurse in the first night by 16, and each is the best of its choice.
+// A stay one day later lowers the score by 1, another nurse in the first night by 16, and each is the best of its
+// choice.
+const BEST_CHANGES: [Event<'static>; 3] = [
+    Store("i", TWO_PATIENTS),
+    Store("s", ONE_ADMITTED),
+    Ends(BY_TWO, Status::Done, TWO_CHANGES),
+];
+
 #[test]
 fn the_best_change_of_each_choice(rt: HostRuntime) {
-    let alloc = rt.alloc();
+    assert!(rt; goes(&rt, rt.alloc(), &BEST_CHANGES));
+}
+
+// Whether advise is done past this gate, says so, and no wait there ended in vain.
+fn advises_past<R: Files + Print + Threads + Wait + Sync>(
+    rt: &R,
+    alloc: Global,
+    shelf: &mut MemShelf,
+    gate: &HoldGate,
+) -> bool {
+    let mut out = MemSink::new(alloc);
+    exits_past(rt, alloc, BY_TWO, shelf, &mut out, gate, Status::Done)
+        && out.bytes() == TWO_CHANGES.as_bytes()
+        && !gate.ran_out()
+}
+
+fn advises_side_by_side<R: Files + Print + Threads + Wait + Sync>(rt: &R, alloc: Global) -> bool {
     let mut shelf = MemShelf::new(alloc);
-    assert!(rt; lay(alloc, &mut shelf, TWO_PATIENTS, ONE_ADMITTED).is_ok());
-    assert!(rt; ends(&rt, alloc, BY_TWO, &mut shelf, Status::Done, TWO_CHANGES));
+    lay(alloc, &mut shelf, TWO_PATIENTS, ONE_ADMITTED).is_ok()
+        && advises_past(rt, alloc, &mut shelf, &HoldGate::new(TURNS, 1))
 }
 
 // Each of two workers looks for its advice before the other is done.
 #[test]
 fn two_workers_look_side_by_side(rt: HostRuntime) {
-    let alloc = rt.alloc();
-    let mut shelf = MemShelf::new(alloc);
-    let mut out = MemSink::new(alloc);
-    let gate = HoldGate::new(TURNS, 1);
-    assert!(rt; lay(alloc, &mut shelf, TWO_PATIENTS, ONE_ADMITTED).is_ok());
-    assert!(rt;
-        exits_past(
-            &rt,
-            alloc,
-            BY_TWO,
-            &mut shelf,
-            &mut out,
-            &gate,
-            Status::Done
-        )
-    );
-    assert!(rt; out.bytes() == TWO_CHANGES.as_bytes() && !gate.ran_out());
+    assert!(rt; advises_side_by_side(&rt, rt.alloc()));
 }
 
 // No single change of the ward's best timetable lowers the score.
+const LOCALLY_BEST: [Event<'static>; 3] = [
+    Store("i", WARD),
+    Store("s", COVERED_SOLUTION),
+    Ends(
+        "advise i s --hard 1000 --workers 1",
+        Status::Done,
+        "locally best\n",
+    ),
+];
+
 #[test]
 fn a_timetable_that_is_locally_best(rt: HostRuntime) {
-    let alloc = rt.alloc();
-    let mut shelf = MemShelf::new(alloc);
-    assert!(rt; lay(alloc, &mut shelf, WARD, COVERED_SOLUTION).is_ok());
-    assert!(rt;
-        ends(
-            &rt,
-            alloc,
-            "advise i s --hard 1000 --workers 1",
-            &mut shelf,
-            Status::Done,
-            "locally best\n"
-        )
-    );
+    assert!(rt; goes(&rt, rt.alloc(), &LOCALLY_BEST));
 }

@@ -1,17 +1,10 @@
 //! Whole calls of searches by chains, over files in memory.
 
 use crate::examples::{COVERED_SOLUTION, FOUND, JOURNAL, SEARCH, WARD};
-use crate::whole_calls::{
-    are_same, ends, ends_saying, exits, has_lines, holds, is_held, lay, lines_behind, reads,
-};
-use crate::worker_tests::has_pairs;
+use crate::script::Event::{Alike, Ends, Exits, Held, Holds, Lines, Pairs, Same, SameLines, Store};
+use crate::script::{Event, goes};
 use ih_journal::{JournalRefusal, Reason};
-use ih_shelf::{MemShelf, MemSink};
 use ih_top::Status;
-use std::alloc::Global;
-use std::rt::Files;
-use std::sync::Wait;
-use std::thread::Threads;
 
 const ONE_PAIR: &str = "chain i o j --seed 0 --workers 1 --moves 1 --heat 0 --hard 1000 --length 2";
 
@@ -27,38 +20,23 @@ const NO_JOURNAL: Status = Status::JournalRefused(JournalRefusal {
     reason: Reason::Heading,
 });
 
-// Whether a search on the ward is done, says this text, and leaves this journal and the covered solution.
-fn leaves_on_ward<R: Files + Print + Threads + Wait + Sync>(
-    rt: &R,
-    alloc: Global,
-    shelf: &mut MemShelf,
-    words: &str,
-    text: &str,
-    journal: &str,
-) -> bool {
-    lay(alloc, shelf, WARD, "").is_ok()
-        && ends(rt, alloc, words, shelf, Status::Done, text)
-        && holds(shelf, "j", Some(journal))
-        && holds(shelf, "o", Some(COVERED_SOLUTION))
-}
-
 // Both moves stand in one line, with one price. A replay takes no journal of chains.
+const TWO_MOVES: [Event<'static>; 6] = [
+    Store("i", WARD),
+    Ends(ONE_PAIR, Status::Done, PAIR_FOUND),
+    Holds("j", Some(PAIR)),
+    Holds("o", Some(COVERED_SOLUTION)),
+    Ends(
+        "replay i j p",
+        NO_JOURNAL,
+        "journal refused: line 1: Heading\n",
+    ),
+    Holds("p", None),
+];
+
 #[test]
 fn a_chain_of_two_moves(rt: HostRuntime) {
-    let alloc = rt.alloc();
-    let mut shelf = MemShelf::new(alloc);
-    assert!(rt; leaves_on_ward(&rt, alloc, &mut shelf, ONE_PAIR, PAIR_FOUND, PAIR));
-    assert!(rt;
-        ends(
-            &rt,
-            alloc,
-            "replay i j p",
-            &mut shelf,
-            NO_JOURNAL,
-            "journal refused: line 1: Heading\n"
-        )
-    );
-    assert!(rt; holds(&shelf, "p", None));
+    assert!(rt; goes(&rt, rt.alloc(), &TWO_MOVES));
 }
 
 const SINGLES: &str = "chain i p k --seed 0 --workers 1 --moves 2 --heat 0 --hard 1000 --length 1";
@@ -69,37 +47,28 @@ const GENERATED_MOVES: &str =
 const GENERATED_SINGLES: &str =
     "chain i p k --seed 5 --workers 1 --moves 500 --heat 50 --hard 100000 --fill --length 1";
 
-// Whether `j` and `k` have the same lines behind their headings, and `o` and `p` the same solution.
-fn are_alike(shelf: &MemShelf) -> bool {
-    match (lines_behind(shelf, "j"), lines_behind(shelf, "k")) {
-        (Some(lines), Some(others)) => lines == others && are_same(shelf, "o", "p"),
-        _ => false,
-    }
-}
+// Both searches leave the same lines behind the heading, and the same solution.
+const SINGLE_MOVES: [Event<'static>; 7] = [
+    Store("i", WARD),
+    Ends(SEARCH, Status::Done, FOUND),
+    Holds("j", Some(JOURNAL)),
+    Holds("o", Some(COVERED_SOLUTION)),
+    Ends(SINGLES, Status::Done, FOUND),
+    SameLines("j", "k"),
+    Same("o", "p"),
+];
 
-// Whether both searches are done, say the same text, and leave the same lines and the same solution.
-fn search_alike<R: Files + Print + Threads + Wait + Sync>(
-    rt: &R,
-    alloc: Global,
-    shelf: &mut MemShelf,
-    first: &str,
-    second: &str,
-) -> bool {
-    let mut out = MemSink::new(alloc);
-    exits(rt, alloc, first, shelf, &mut out, Status::Done)
-        && ends_saying(rt, alloc, second, shelf, Status::Done, out.bytes())
-        && are_alike(shelf)
-}
+const GENERATED_SINGLE_MOVES: [Event<'static>; 4] = [
+    Ends("gen 7 i", Status::Done, ""),
+    Alike(GENERATED_MOVES, GENERATED_SINGLES),
+    SameLines("j", "k"),
+    Same("o", "p"),
+];
 
 #[test]
 fn chains_of_one_move_are_moves(rt: HostRuntime) {
-    let alloc = rt.alloc();
-    let mut shelf = MemShelf::new(alloc);
-    assert!(rt; leaves_on_ward(&rt, alloc, &mut shelf, SEARCH, FOUND, JOURNAL));
-    assert!(rt; ends(&rt, alloc, SINGLES, &mut shelf, Status::Done, FOUND));
-    assert!(rt; are_alike(&shelf));
-    assert!(rt; ends(&rt, alloc, "gen 7 i", &mut shelf, Status::Done, ""));
-    assert!(rt; search_alike(&rt, alloc, &mut shelf, GENERATED_MOVES, GENERATED_SINGLES));
+    assert!(rt; goes(&rt, rt.alloc(), &SINGLE_MOVES));
+    assert!(rt; goes(&rt, rt.alloc(), &GENERATED_SINGLE_MOVES));
 }
 
 const HELD_SINGLE: &str =
@@ -120,98 +89,53 @@ const STALE_PAIR: &str =
 1 0 0 0 place:0,1,1,1;settheatre:1,1 0,1,0,0,0,0,0,0,3,-1,0,-1,0,0,0,1,0 stale:roomshift.0.0:0:1
 ";
 
-// Whether a search of the two patients by two workers that a gate holds leaves this journal.
-fn leaves_held<R: Files + Print + Threads + Wait + Sync>(
-    rt: &R,
-    alloc: Global,
-    words: &str,
-    journal: &str,
-) -> bool {
-    let mut shelf = MemShelf::new(alloc);
-    let mut out = MemSink::new(alloc);
-    is_held(rt, alloc, words, 1, &mut shelf, &mut out)
-        && holds(&shelf, "j", Some(journal))
-        && reads(&out, "best 1 of 2\n", "cost 139\n")
-}
-
 // Worker 0 has priced its chain before worker 1 offers its own, and offers it afterwards: none of its moves is made.
+const STALE_CHAINS: [Event<'static>; 4] = [
+    Held(HELD_SINGLE, 1, "best 1 of 2\n", "cost 139\n", None),
+    Holds("j", Some(STALE_SINGLE)),
+    Held(HELD_PAIR, 1, "best 1 of 2\n", "cost 139\n", None),
+    Holds("j", Some(STALE_PAIR)),
+];
+
 #[test]
 fn a_chain_that_another_made_stale(rt: HostRuntime) {
-    let alloc = rt.alloc();
-    assert!(rt; leaves_held(&rt, alloc, HELD_SINGLE, STALE_SINGLE));
-    assert!(rt; leaves_held(&rt, alloc, HELD_PAIR, STALE_PAIR));
+    assert!(rt; goes(&rt, rt.alloc(), &STALE_CHAINS));
 }
 
 const HUNDRED_HELD: &str =
     "chain i o j --seed 18446744073709551615 --workers 2 --moves 100 --heat 1000000 --hard 1000 --start s --length 3";
 
+const SIDE_BY_SIDE: [Event<'static>; 2] = [Held(HUNDRED_HELD, 100, "", "", None), Pairs("j")];
+
 #[test]
 fn every_chain_beside_another(rt: HostRuntime) {
-    let alloc = rt.alloc();
-    let mut shelf = MemShelf::new(alloc);
-    let mut out = MemSink::new(alloc);
-    assert!(rt; is_held(&rt, alloc, HUNDRED_HELD, 100, &mut shelf, &mut out));
-    assert!(rt; has_pairs(&shelf, "j"));
+    assert!(rt; goes(&rt, rt.alloc(), &SIDE_BY_SIDE));
 }
 
 // Searches by chains from the fill of a generated instance, and how many lines their journals have.
-const SEARCHES: [(&str, u32); 8] = [
-    (
-        "chain i o j --seed 5 --workers 1 --moves 600 --heat 50 --hard 100000 --fill --length 1",
-        601,
-    ),
-    (
-        "chain i o j --seed 5 --workers 1 --moves 200 --heat 50 --hard 100000 --fill --length 8",
-        201,
-    ),
-    (
-        "chain i o j --seed 5 --workers 2 --moves 600 --heat 50 --hard 100000 --fill --length 1",
-        1201,
-    ),
-    (
-        "chain i o j --seed 5 --workers 2 --moves 300 --heat 50 --hard 100000 --fill --length 3",
-        601,
-    ),
-    (
-        "chain i o j --seed 5 --workers 8 --moves 200 --heat 20 --hard 100000 --fill --length 3",
-        1601,
-    ),
-    (
-        "chain i o j --seed 5 --workers 8 --moves 100 --heat 20 --hard 100000 --fill --length 8",
-        801,
-    ),
-    (
-        "chain i o j --seed 5 --workers 64 --moves 50 --heat 20 --hard 100000 --fill --length 1",
-        3201,
-    ),
-    (
-        "chain i o j --seed 5 --workers 64 --moves 30 --heat 20 --hard 100000 --fill --length 8",
-        1921,
-    ),
+const SEARCHES: [Event<'static>; 17] = [
+    Ends("gen 7 i", Status::Done, ""),
+    Exits("chain i o j --seed 5 --workers 1 --moves 600 --heat 50 --hard 100000 --fill --length 1"),
+    Lines("j", 601),
+    Exits("chain i o j --seed 5 --workers 1 --moves 200 --heat 50 --hard 100000 --fill --length 8"),
+    Lines("j", 201),
+    Exits("chain i o j --seed 5 --workers 2 --moves 600 --heat 50 --hard 100000 --fill --length 1"),
+    Lines("j", 1201),
+    Exits("chain i o j --seed 5 --workers 2 --moves 300 --heat 50 --hard 100000 --fill --length 3"),
+    Lines("j", 601),
+    Exits("chain i o j --seed 5 --workers 8 --moves 200 --heat 20 --hard 100000 --fill --length 3"),
+    Lines("j", 1601),
+    Exits("chain i o j --seed 5 --workers 8 --moves 100 --heat 20 --hard 100000 --fill --length 8"),
+    Lines("j", 801),
+    Exits("chain i o j --seed 5 --workers 64 --moves 50 --heat 20 --hard 100000 --fill --length 1"),
+    Lines("j", 3201),
+    Exits("chain i o j --seed 5 --workers 64 --moves 30 --heat 20 --hard 100000 --fill --length 8"),
+    Lines("j", 1921),
 ];
-
-// Whether each of them is done, and its journal has so many lines.
-fn have_lines<R: Files + Print + Threads + Wait + Sync>(
-    rt: &R,
-    alloc: Global,
-    shelf: &mut MemShelf,
-) -> bool {
-    for (words, count) in SEARCHES {
-        let mut out = MemSink::new(alloc);
-        let done = exits(rt, alloc, words, shelf, &mut out, Status::Done);
-        if !done || !has_lines(shelf, "j", count) {
-            return false;
-        }
-    }
-    true
-}
 
 #[test]
 fn any_number_of_workers_by_chains(rt: HostRuntime) {
-    let alloc = rt.alloc();
-    let mut shelf = MemShelf::new(alloc);
-    assert!(rt; ends(&rt, alloc, "gen 7 i", &mut shelf, Status::Done, ""));
-    assert!(rt; have_lines(&rt, alloc, &mut shelf));
+    assert!(rt; goes(&rt, rt.alloc(), &SEARCHES));
 }
 
 const THREES: &str =
@@ -221,11 +145,15 @@ const THREES_AGAIN: &str =
     "chain i p k --seed 5 --workers 1 --moves 300 --heat 50 --hard 100000 --fill --length 3";
 
 // With one worker the same call leaves the same bytes.
+const TWICE: [Event<'static>; 5] = [
+    Ends("gen 7 i", Status::Done, ""),
+    Alike(THREES, THREES_AGAIN),
+    SameLines("j", "k"),
+    Same("o", "p"),
+    Same("j", "k"),
+];
+
 #[test]
 fn one_worker_twice(rt: HostRuntime) {
-    let alloc = rt.alloc();
-    let mut shelf = MemShelf::new(alloc);
-    assert!(rt; ends(&rt, alloc, "gen 7 i", &mut shelf, Status::Done, ""));
-    assert!(rt; search_alike(&rt, alloc, &mut shelf, THREES, THREES_AGAIN));
-    assert!(rt; are_same(&shelf, "j", "k"));
+    assert!(rt; goes(&rt, rt.alloc(), &TWICE));
 }

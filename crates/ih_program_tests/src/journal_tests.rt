@@ -4,11 +4,11 @@ use crate::examples::{
     COVERED_SOLUTION, DEMO, FILLED, FOUND, JOURNAL, NO_MOVES, NOTHING, ONE_ADMITTED, SALVAGED,
     SEARCH, TWO_PATIENTS, WARD,
 };
-use crate::whole_calls::{are_same, ends, exits, holds, lay, store_changed};
+use crate::script::Event::{Change, Ends, FailRead, FailWrite, Holds, Same, Silent, Store};
+use crate::script::{Event, goes};
 use ih_journal::{JournalRefusal, Reason};
-use ih_shelf::{MemShelf, MemSink};
 use ih_top::{Role, Status};
-use std::alloc::{AllocError, Global};
+use std::alloc::Global;
 use std::rt::Files;
 use std::sync::Wait;
 use std::thread::Threads;
@@ -146,196 +146,208 @@ const STALE_ON_DAY_0: &str = "0,0,0,0,0,0 stale:roomday.0.0:0:0";
 
 const STALE_ON_DAY_1: &str = "0,0,0,0,0,0 stale:roomday.1.0:0:0";
 
-// Lays out the ward, and this journal, in which `to` stands where `from` stood.
-fn lay_ward(
-    alloc: Global,
-    shelf: &mut MemShelf,
-    journal: &str,
-    from: &str,
-    to: &str,
-) -> Result<(), AllocError> {
-    lay(alloc, shelf, WARD, "")?;
-    store_changed(alloc, shelf, "j", journal, from, to)
-}
+// A search on the ward, and a replay of its journal, which finds the same and leaves the journal as it was.
+const REPLAYED: [Event<'static>; 7] = [
+    Store("i", WARD),
+    Ends(SEARCH, Status::Done, FOUND),
+    Holds("j", Some(JOURNAL)),
+    Holds("o", Some(COVERED_SOLUTION)),
+    Ends("replay i j p", Status::Done, FOUND),
+    Holds("p", Some(COVERED_SOLUTION)),
+    Holds("j", Some(JOURNAL)),
+];
 
-// Whether a search on the ward leaves this journal.
-fn finds<R: Files + Print + Threads + Wait + Sync>(
-    rt: &R,
-    alloc: Global,
-    words: &str,
-    journal: &str,
-) -> bool {
-    let mut shelf = MemShelf::new(alloc);
-    let laid = lay(alloc, &mut shelf, WARD, "").is_ok();
-    let ended = ends(rt, alloc, words, &mut shelf, Status::Done, FOUND);
-    let held = holds(&shelf, "j", Some(journal)) && holds(&shelf, "o", Some(COVERED_SOLUTION));
-    laid && ended && held
-}
-
-// Whether a call over such files ends with this status and text and leaves this solution.
-fn leaves<R: Files + Print + Threads + Wait + Sync>(
-    rt: &R,
-    alloc: Global,
-    shelf: &mut MemShelf,
-    words: &str,
-    status: Status,
-    text: &str,
-    solution: Option<&str>,
-) -> bool {
-    ends(rt, alloc, words, shelf, status, text) && holds(shelf, "o", solution)
-}
-
-// Whether a replay of this journal finds the same, and leaves the journal as it was.
-fn finds_again<R: Files + Print + Threads + Wait + Sync>(
-    rt: &R,
-    alloc: Global,
-    journal: &str,
-) -> bool {
-    let mut shelf = MemShelf::new(alloc);
-    let laid = lay_ward(alloc, &mut shelf, journal, NOTHING, "").is_ok();
-    let solution = Some(COVERED_SOLUTION);
-    let left = leaves(rt, alloc, &mut shelf, REPLAY, Status::Done, FOUND, solution);
-    let held = holds(&shelf, "j", Some(journal));
-    laid && left && held
-}
+const REPLAYED_RETRIES: [Event<'static>; 7] = [
+    Store("i", WARD),
+    Ends(WITH_RETRIES, Status::Done, FOUND),
+    Holds("j", Some(RETRIED)),
+    Holds("o", Some(COVERED_SOLUTION)),
+    Ends("replay i j p", Status::Done, FOUND),
+    Holds("p", Some(COVERED_SOLUTION)),
+    Holds("j", Some(RETRIED)),
+];
 
 #[test]
 fn replays(rt: HostRuntime) {
-    let alloc = rt.alloc();
-    assert!(rt; finds(&rt, alloc, SEARCH, JOURNAL));
-    assert!(rt; finds_again(&rt, alloc, JOURNAL));
-    assert!(rt; finds(&rt, alloc, WITH_RETRIES, RETRIED));
-    assert!(rt; finds_again(&rt, alloc, RETRIED));
+    assert!(rt; goes(&rt, rt.alloc(), &REPLAYED));
+    assert!(rt; goes(&rt, rt.alloc(), &REPLAYED_RETRIES));
 }
 
-// Whether a replay of this journal, in which `to` stands where `from` stood, is refused so and writes no solution.
-fn refuses_in<R: Files + Print + Threads + Wait + Sync>(
+/// What stands in a journal, what is put in its place, and how the journal is then refused.
+type Row = (&'static str, &'static str, Refused);
+
+// Whether a call over the ward and a journal, in which `to` stands where `from` stood, ends so and leaves this
+// solution.
+fn leaves<R: Files + Print + Threads + Wait + Sync>(
     rt: &R,
     alloc: Global,
-    journal: &str,
-    from: &str,
-    to: &str,
-    refused: &Refused,
-) -> bool {
-    let mut shelf = MemShelf::new(alloc);
-    let laid = lay_ward(alloc, &mut shelf, journal, from, to).is_ok();
-    let status = status_of(refused);
-    let left = leaves(rt, alloc, &mut shelf, REPLAY, status, refused.text, None);
-    laid && left
-}
-
-// The same of the ward's journal.
-fn refuses<R: Files + Print + Threads + Wait + Sync>(
-    rt: &R,
-    alloc: Global,
-    from: &str,
-    to: &str,
-    refused: &Refused,
-) -> bool {
-    refuses_in(rt, alloc, JOURNAL, from, to, refused)
-}
-
-#[test]
-fn refused_headings(rt: HostRuntime) {
-    let alloc = rt.alloc();
-    assert!(rt; refuses(&rt, alloc, JOURNAL, "", &HEADING));
-    assert!(rt; refuses(&rt, alloc, "workers=1", "workers=65", &HEADING));
-    assert!(rt; refuses(&rt, alloc, "seed=0", "seed=00", &HEADING));
-    assert!(rt; refuses(&rt, alloc, "workers=1 moves=2", TOO_MANY, &HEADING));
-    assert!(rt; refuses(&rt, alloc, "hard=1000\n", "hard=1000\r\n", &HEADING));
-}
-
-#[test]
-fn refused_entries(rt: HostRuntime) {
-    let alloc = rt.alloc();
-    assert!(rt; refuses(&rt, alloc, "-3,0,1,1", "-3,0,2,1", &PRICE));
-    assert!(rt; refuses(&rt, alloc, "\n0 0 0 0 ", "\n0 0 1 0 ", &NUMBER));
-    assert!(rt; refuses(&rt, alloc, "\n0 0 0 0 ", "\n1 0 0 0 ", &PLACE));
-    assert!(rt; refuses(&rt, alloc, "\n0 0 0 0 ", "\n0 1 0 0 ", &WORKER));
-    assert!(rt; refuses(&rt, alloc, SECOND_SEEN, "\n1 0 1 0 ", &SEEN));
-    assert!(rt; refuses(&rt, alloc, SECOND_SEEN, "\n1 0 1 2 ", &SEEN));
-    assert!(rt; refuses(&rt, alloc, "nurse:0,2,0", "nurse:0,1,0", &MOVE));
-    assert!(rt; refuses(&rt, alloc, ACCEPTED, DECLINED, &VERDICT));
-    assert!(rt; refuses(&rt, alloc, ACCEPTED, STALE_ON_DAY_0, &VERDICT));
-    assert!(rt; refuses_in(&rt, alloc, RETRIED, FIRST_TRY, SECOND_TRY, &TRY));
-}
-
-#[test]
-fn refused_lines(rt: HostRuntime) {
-    let alloc = rt.alloc();
-    assert!(rt; refuses(&rt, alloc, SECOND_MOVE, "", &EARLY));
-    assert!(rt; refuses(&rt, alloc, SECOND_MOVE, TWICE, &EXTRA));
-    assert!(rt; refuses(&rt, alloc, ACCEPTED_LINE, BEGUN_LINE, &EXTRA));
-    assert!(rt; refuses(&rt, alloc, ACCEPTED_LINE, ACCEPTED, &GRAMMAR));
-    assert!(rt; refuses(&rt, alloc, SECOND_SEEN, WIDE_SEEN, &GRAMMAR));
-    assert!(rt; refuses(&rt, alloc, ACCEPTED, STALE_ON_DAY_1, &GRAMMAR));
-    assert!(rt; refuses(&rt, alloc, ACCEPTED_LINE, CRLF_LINE, &GRAMMAR));
-}
-
-// Whether a salvage of the ward's journal, in which `to` stands where `from` stood, ends so and leaves this solution.
-fn salvages_to<R: Files + Print + Threads + Wait + Sync>(
-    rt: &R,
-    alloc: Global,
-    from: &str,
-    to: &str,
+    words: &str,
+    changed: &(&str, &str, &str),
     status: Status,
     text: &str,
     solution: Option<&str>,
 ) -> bool {
-    let mut shelf = MemShelf::new(alloc);
-    let laid = lay_ward(alloc, &mut shelf, JOURNAL, from, to).is_ok();
-    let left = leaves(rt, alloc, &mut shelf, SALVAGE, status, text, solution);
-    laid && left
+    let (journal, from, to) = *changed;
+    let events = [
+        Store("i", WARD),
+        Change("j", journal, from, to),
+        Ends(words, status, text),
+        Holds("o", solution),
+    ];
+    goes(rt, alloc, events.as_slice())
 }
 
-// Whether such a salvage takes the first entry.
-fn salvages_first<R: Files + Print + Threads + Wait + Sync>(
+// Whether a replay of such a journal is refused so and writes no solution.
+fn refuses<R: Files + Print + Threads + Wait + Sync>(
     rt: &R,
     alloc: Global,
-    from: &str,
-    to: &str,
+    journal: &str,
+    row: &Row,
 ) -> bool {
-    salvages_to(
+    let (from, to, refused) = row;
+    let status = status_of(refused);
+    leaves(
         rt,
         alloc,
-        from,
-        to,
-        Status::Done,
-        SALVAGED,
-        Some(COVERED_SOLUTION),
+        REPLAY,
+        &(journal, from, to),
+        status,
+        refused.text,
+        None,
     )
 }
 
-// Whether such a salvage takes no entry, and no timetable is feasible.
-fn salvages_none<R: Files + Print + Threads + Wait + Sync>(
+fn refuses_all<R: Files + Print + Threads + Wait + Sync>(
     rt: &R,
     alloc: Global,
-    from: &str,
-    to: &str,
+    journal: &str,
+    rows: &[Row],
 ) -> bool {
-    salvages_to(rt, alloc, from, to, Status::NoneFound, "none found\n", None)
+    for row in rows {
+        if !refuses(rt, alloc, journal, row) {
+            return false;
+        }
+    }
+    true
 }
 
-// Whether such a salvage is refused so.
-fn refuses_salvage<R: Files + Print + Threads + Wait + Sync>(
+const HEADINGS: [Row; 5] = [
+    (JOURNAL, "", HEADING),
+    ("workers=1", "workers=65", HEADING),
+    ("seed=0", "seed=00", HEADING),
+    ("workers=1 moves=2", TOO_MANY, HEADING),
+    ("hard=1000\n", "hard=1000\r\n", HEADING),
+];
+
+#[test]
+fn refused_headings(rt: HostRuntime) {
+    assert!(rt; refuses_all(&rt, rt.alloc(), JOURNAL, &HEADINGS));
+}
+
+const ENTRIES: [Row; 9] = [
+    ("-3,0,1,1", "-3,0,2,1", PRICE),
+    ("\n0 0 0 0 ", "\n0 0 1 0 ", NUMBER),
+    ("\n0 0 0 0 ", "\n1 0 0 0 ", PLACE),
+    ("\n0 0 0 0 ", "\n0 1 0 0 ", WORKER),
+    (SECOND_SEEN, "\n1 0 1 0 ", SEEN),
+    (SECOND_SEEN, "\n1 0 1 2 ", SEEN),
+    ("nurse:0,2,0", "nurse:0,1,0", MOVE),
+    (ACCEPTED, DECLINED, VERDICT),
+    (ACCEPTED, STALE_ON_DAY_0, VERDICT),
+];
+
+// Of a journal with retries.
+const TRIES: [Row; 1] = [(FIRST_TRY, SECOND_TRY, TRY)];
+
+#[test]
+fn refused_entries(rt: HostRuntime) {
+    assert!(rt; refuses_all(&rt, rt.alloc(), JOURNAL, &ENTRIES));
+    assert!(rt; refuses_all(&rt, rt.alloc(), RETRIED, &TRIES));
+}
+
+const LINES: [Row; 7] = [
+    (SECOND_MOVE, "", EARLY),
+    (SECOND_MOVE, TWICE, EXTRA),
+    (ACCEPTED_LINE, BEGUN_LINE, EXTRA),
+    (ACCEPTED_LINE, ACCEPTED, GRAMMAR),
+    (SECOND_SEEN, WIDE_SEEN, GRAMMAR),
+    (ACCEPTED, STALE_ON_DAY_1, GRAMMAR),
+    (ACCEPTED_LINE, CRLF_LINE, GRAMMAR),
+];
+
+#[test]
+fn refused_lines(rt: HostRuntime) {
+    assert!(rt; refuses_all(&rt, rt.alloc(), JOURNAL, &LINES));
+}
+
+/// What stands in the ward's journal, what is put in its place, and how a salvage then ends, says and leaves.
+type Salvage = (
+    &'static str,
+    &'static str,
+    Status,
+    &'static str,
+    Option<&'static str>,
+);
+
+// The first three take the first entry. Then none is taken, and no timetable is feasible. The last is refused.
+const SALVAGES: [Salvage; 5] = [
+    (
+        SECOND_MOVE,
+        "1 0 1 1 nurse:0,",
+        Status::Done,
+        SALVAGED,
+        Some(COVERED_SOLUTION),
+    ),
+    (
+        SECOND_MOVE,
+        "",
+        Status::Done,
+        SALVAGED,
+        Some(COVERED_SOLUTION),
+    ),
+    (
+        "nurse:0,2,0",
+        "nurse:0,1,0",
+        Status::Done,
+        SALVAGED,
+        Some(COVERED_SOLUTION),
+    ),
+    (
+        "-3,0,1,1",
+        "-3,0,2,1",
+        Status::NoneFound,
+        "none found\n",
+        None,
+    ),
+    (
+        "seed=0",
+        "seed=00",
+        Status::JournalRefused(JournalRefusal {
+            line: 1,
+            reason: Reason::Heading,
+        }),
+        "journal refused: line 1: Heading\n",
+        None,
+    ),
+];
+
+fn salvages_all<R: Files + Print + Threads + Wait + Sync>(
     rt: &R,
     alloc: Global,
-    from: &str,
-    to: &str,
-    refused: &Refused,
+    rows: &[Salvage],
 ) -> bool {
-    let status = status_of(refused);
-    salvages_to(rt, alloc, from, to, status, refused.text, None)
+    for (from, to, status, text, solution) in rows {
+        let changed = (JOURNAL, *from, *to);
+        if !leaves(rt, alloc, SALVAGE, &changed, *status, text, *solution) {
+            return false;
+        }
+    }
+    true
 }
 
 #[test]
 fn salvages(rt: HostRuntime) {
-    let alloc = rt.alloc();
-    assert!(rt; salvages_first(&rt, alloc, SECOND_MOVE, "1 0 1 1 nurse:0,"));
-    assert!(rt; salvages_first(&rt, alloc, SECOND_MOVE, ""));
-    assert!(rt; salvages_first(&rt, alloc, "nurse:0,2,0", "nurse:0,1,0"));
-    assert!(rt; salvages_none(&rt, alloc, "-3,0,1,1", "-3,0,2,1"));
-    assert!(rt; refuses_salvage(&rt, alloc, "seed=0", "seed=00", &HEADING));
+    assert!(rt; salvages_all(&rt, rt.alloc(), &SALVAGES));
 }
 
 // Whether a call fails whose read of the journal is to fail.
@@ -344,20 +356,14 @@ fn cannot_read<R: Files + Print + Threads + Wait + Sync>(
     alloc: Global,
     words: &str,
 ) -> bool {
-    let mut shelf = MemShelf::new(alloc);
-    let laid = lay_ward(alloc, &mut shelf, JOURNAL, NOTHING, "").is_ok();
-    let planned = shelf.fail_read(2).is_ok();
-    let status = Status::ReadFault(Role::Journal);
-    let left = leaves(
-        rt,
-        alloc,
-        &mut shelf,
-        words,
-        status,
-        "cannot read j\n",
-        None,
-    );
-    laid && planned && left
+    let events = [
+        Store("i", WARD),
+        Store("j", JOURNAL),
+        FailRead(2),
+        Ends(words, Status::ReadFault(Role::Journal), "cannot read j\n"),
+        Holds("o", None),
+    ];
+    goes(rt, alloc, events.as_slice())
 }
 
 // Whether a call fails whose write of the solution is to fail and to leave three bytes.
@@ -366,163 +372,90 @@ fn cannot_write<R: Files + Print + Threads + Wait + Sync>(
     alloc: Global,
     words: &str,
 ) -> bool {
-    let mut shelf = MemShelf::new(alloc);
-    let laid = lay_ward(alloc, &mut shelf, JOURNAL, NOTHING, "").is_ok();
-    let planned = shelf.fail_write(1, 3).is_ok();
-    let status = Status::WriteFault(Some(Role::Out));
-    let left = leaves(
-        rt,
-        alloc,
-        &mut shelf,
-        words,
-        status,
-        "cannot write o\n",
-        Some("{\"n"),
-    );
-    laid && planned && left
+    let events = [
+        Store("i", WARD),
+        Store("j", JOURNAL),
+        FailWrite(1, 3),
+        Ends(
+            words,
+            Status::WriteFault(Some(Role::Out)),
+            "cannot write o\n",
+        ),
+        Holds("o", Some("{\"n")),
+    ];
+    goes(rt, alloc, events.as_slice())
 }
 
 #[test]
 fn journals_that_fail(rt: HostRuntime) {
     let alloc = rt.alloc();
-    assert!(rt; cannot_read(&rt, alloc, REPLAY));
-    assert!(rt; cannot_write(&rt, alloc, REPLAY));
-    assert!(rt; cannot_read(&rt, alloc, SALVAGE));
-    assert!(rt; cannot_write(&rt, alloc, SALVAGE));
-}
-
-// Whether a call ends with this status where the put of its text is to fail, so that nothing is said.
-fn says_nothing<R: Files + Print + Threads + Wait + Sync>(
-    rt: &R,
-    alloc: Global,
-    shelf: &mut MemShelf,
-    words: &str,
-    status: Status,
-) -> bool {
-    let mut out = MemSink::new(alloc);
-    let planned = out.fail_put(1).is_ok();
-    let ended = exits(rt, alloc, words, shelf, &mut out, status);
-    let is_silent = out.bytes().is_empty();
-    planned && ended && is_silent
-}
-
-// The same on the ward with its journal.
-fn says_nothing_on_ward<R: Files + Print + Threads + Wait + Sync>(
-    rt: &R,
-    alloc: Global,
-    words: &str,
-    status: Status,
-) -> bool {
-    let mut shelf = MemShelf::new(alloc);
-    let laid = lay_ward(alloc, &mut shelf, JOURNAL, NOTHING, "").is_ok();
-    let silent = says_nothing(rt, alloc, &mut shelf, words, status);
-    laid && silent
+    assert!(rt; cannot_read(&rt, alloc, REPLAY) && cannot_write(&rt, alloc, REPLAY));
+    assert!(rt; cannot_read(&rt, alloc, SALVAGE) && cannot_write(&rt, alloc, SALVAGE));
 }
 
 const UNPUT: Status = Status::WriteFault(None);
 
-// The same of a check of a timetable in which a surgery is a minute too long.
-fn check_says_nothing<R: Files + Print + Threads + Wait + Sync>(rt: &R, alloc: Global) -> bool {
-    let mut shelf = MemShelf::new(alloc);
-    let laid = lay(alloc, &mut shelf, "", ONE_ADMITTED).is_ok();
-    let from = "\"surgery_duration\":60";
-    let to = "\"surgery_duration\":61";
-    let changed = store_changed(alloc, &mut shelf, "i", TWO_PATIENTS, from, to).is_ok();
-    let silent = says_nothing(rt, alloc, &mut shelf, "check i s", UNPUT);
-    laid && changed && silent
-}
+// Calls whose text can't be put. The last is a check of a timetable in which a surgery is a minute too long.
+const UNSAID: [Event<'static>; 9] = [
+    Store("i", WARD),
+    Store("j", JOURNAL),
+    Silent(NO_MOVES, Status::NoneFound),
+    Silent(SEARCH, UNPUT),
+    Silent(REPLAY, UNPUT),
+    Silent("gen 7 g", Status::Done),
+    Change(
+        "i",
+        TWO_PATIENTS,
+        "\"surgery_duration\":60",
+        "\"surgery_duration\":61",
+    ),
+    Store("s", ONE_ADMITTED),
+    Silent("check i s", UNPUT),
+];
 
 #[test]
 fn texts_that_fail(rt: HostRuntime) {
-    let alloc = rt.alloc();
-    assert!(rt; says_nothing_on_ward(&rt, alloc, NO_MOVES, Status::NoneFound));
-    assert!(rt; says_nothing_on_ward(&rt, alloc, SEARCH, UNPUT));
-    assert!(rt; says_nothing_on_ward(&rt, alloc, REPLAY, UNPUT));
-    assert!(rt; says_nothing_on_ward(&rt, alloc, "gen 7 g", Status::Done));
-    assert!(rt; check_says_nothing(&rt, alloc));
+    assert!(rt; goes(&rt, rt.alloc(), &UNSAID));
 }
 
 // A search from the fill finds it, and a replay from the fill too, but none from the empty timetable.
+const FILLS: [Event<'static>; 5] = [
+    Store("i", TWO_PATIENTS),
+    Ends(NO_MOVES_FILLED, Status::Done, FILLED),
+    Ends("replay i j p --fill", Status::Done, FILLED),
+    Same("p", "o"),
+    Ends("replay i j p", Status::NoneFound, "none found\n"),
+];
+
 #[test]
 fn fills(rt: HostRuntime) {
-    let alloc = rt.alloc();
-    let mut shelf = MemShelf::new(alloc);
-    assert!(rt; lay(alloc, &mut shelf, TWO_PATIENTS, "").is_ok());
-    assert!(rt;
-        ends(
-            &rt,
-            alloc,
-            NO_MOVES_FILLED,
-            &mut shelf,
-            Status::Done,
-            FILLED
-        )
-    );
-    assert!(rt;
-        ends(
-            &rt,
-            alloc,
-            "replay i j p --fill",
-            &mut shelf,
-            Status::Done,
-            FILLED
-        )
-    );
-    assert!(rt; are_same(&shelf, "p", "o"));
-    assert!(rt;
-        ends(
-            &rt,
-            alloc,
-            "replay i j p",
-            &mut shelf,
-            Status::NoneFound,
-            "none found\n"
-        )
-    );
+    assert!(rt; goes(&rt, rt.alloc(), &FILLS));
 }
 
-// Whether the name is there, with no bytes.
-fn is_empty(shelf: &MemShelf, name: &str) -> bool {
-    match shelf.get(name) {
-        Some(bytes) => bytes.is_empty(),
-        None => false,
-    }
-}
+const GENERATES: [Event<'static>; 2] = [
+    Ends("gen 7 i", Status::Done, ""),
+    Ends(NO_MOVES, Status::NoneFound, "none found\n"),
+];
+
+const CANNOT_GENERATE: [Event<'static>; 3] = [
+    FailWrite(1, 0),
+    Ends(
+        "gen 7 i",
+        Status::WriteFault(Some(Role::Out)),
+        "cannot write i\n",
+    ),
+    Holds("i", Some("")),
+];
 
 #[test]
 fn generates(rt: HostRuntime) {
-    let alloc = rt.alloc();
-    let mut shelf = MemShelf::new(alloc);
-    assert!(rt; ends(&rt, alloc, "gen 7 i", &mut shelf, Status::Done, ""));
-    assert!(rt;
-        ends(
-            &rt,
-            alloc,
-            NO_MOVES,
-            &mut shelf,
-            Status::NoneFound,
-            "none found\n"
-        )
-    );
-    let mut failing = MemShelf::new(alloc);
-    assert!(rt; failing.fail_write(1, 0).is_ok());
-    assert!(rt;
-        ends(
-            &rt,
-            alloc,
-            "gen 7 i",
-            &mut failing,
-            Status::WriteFault(Some(Role::Out)),
-            "cannot write i\n"
-        )
-    );
-    assert!(rt; is_empty(&failing, "i"));
+    assert!(rt; goes(&rt, rt.alloc(), &GENERATES));
+    assert!(rt; goes(&rt, rt.alloc(), &CANNOT_GENERATE));
 }
+
+const SHOWS: [Event<'static>; 2] = [Ends("demo 7", Status::Done, DEMO), Silent("demo 7", UNPUT)];
 
 #[test]
 fn shows(rt: HostRuntime) {
-    let alloc = rt.alloc();
-    let mut shelf = MemShelf::new(alloc);
-    assert!(rt; ends(&rt, alloc, "demo 7", &mut shelf, Status::Done, DEMO));
-    assert!(rt; says_nothing(&rt, alloc, &mut shelf, "demo 7", UNPUT));
+    assert!(rt; goes(&rt, rt.alloc(), &SHOWS));
 }

@@ -17,9 +17,15 @@ mod meeting_tests;
 #[cfg(test)]
 mod noted_tests;
 #[cfg(test)]
+mod pairs;
+#[cfg(test)]
 mod rounds_tests;
 #[cfg(test)]
+mod script;
+#[cfg(test)]
 mod tests;
+#[cfg(test)]
+mod view_tests;
 #[cfg(test)]
 mod whole_calls;
 #[cfg(test)]

@@ -1,14 +1,10 @@
 //! Whole calls of searches in rounds, over files in memory.
 
 use crate::examples::{COVERED_SOLUTION, WARD};
-use crate::whole_calls::{ends, holds, is_held};
+use crate::script::Event::{Ends, Held, Holds, Store};
+use crate::script::{Event, goes};
 use ih_journal::{JournalRefusal, Reason};
-use ih_shelf::{MemShelf, MemSink};
 use ih_top::Status;
-use std::alloc::Global;
-use std::rt::Files;
-use std::sync::Wait;
-use std::thread::Threads;
 
 const TWO_ROUNDS: &str =
     "rounds i o j --seed 0 --workers 1 --moves 1 --heat 0 --hard 1000 --rounds 2";
@@ -43,76 +39,40 @@ const ANOTHER_JOURNAL: Status = Status::JournalRefused(JournalRefusal {
     reason: Reason::Extra,
 });
 
-// Whether a call on the ward ends with this status, text, journal and solution.
-fn leaves<R: Files + Print + Threads + Wait + Sync>(
-    rt: &R,
-    alloc: Global,
-    shelf: &mut MemShelf,
-    words: &str,
-    status: Status,
-    text: &str,
-    journal: &str,
-    solution: Option<&str>,
-) -> bool {
-    shelf.store("i", WARD.as_bytes()).is_ok()
-        && ends(rt, alloc, words, shelf, status, text)
-        && holds(shelf, "j", Some(journal))
-        && holds(shelf, "o", solution)
-}
-
 // The first of two rounds that cost the same has the best. A replay reads one journal alone.
+const FIRST_IS_BEST: [Event<'static>; 5] = [
+    Store("i", WARD),
+    Ends(TWO_ROUNDS, Status::Done, FIRST_OF_EQUALS),
+    Holds("j", Some(TWO_JOURNALS)),
+    Holds("o", Some(COVERED_SOLUTION)),
+    Ends(
+        "replay i j p",
+        ANOTHER_JOURNAL,
+        "journal refused: line 3: Extra\n",
+    ),
+];
+
 #[test]
 fn the_first_of_equal_rounds(rt: HostRuntime) {
-    let alloc = rt.alloc();
-    let mut shelf = MemShelf::new(alloc);
-    assert!(rt;
-        leaves(
-            &rt,
-            alloc,
-            &mut shelf,
-            TWO_ROUNDS,
-            Status::Done,
-            FIRST_OF_EQUALS,
-            TWO_JOURNALS,
-            Some(COVERED_SOLUTION)
-        )
-    );
-    assert!(rt;
-        ends(
-            &rt,
-            alloc,
-            "replay i j p",
-            &mut shelf,
-            ANOTHER_JOURNAL,
-            "journal refused: line 3: Extra\n"
-        )
-    );
+    assert!(rt; goes(&rt, rt.alloc(), &FIRST_IS_BEST));
 }
+
+const NONE_IN_ROUNDS: [Event<'static>; 4] = [
+    Store("i", WARD),
+    Ends(NO_MOVES, Status::NoneFound, "none found\n"),
+    Holds("j", Some(TWO_HEADINGS)),
+    Holds("o", None),
+];
 
 #[test]
 fn rounds_without_moves(rt: HostRuntime) {
-    let alloc = rt.alloc();
-    let mut shelf = MemShelf::new(alloc);
-    assert!(rt;
-        leaves(
-            &rt,
-            alloc,
-            &mut shelf,
-            NO_MOVES,
-            Status::NoneFound,
-            "none found\n",
-            TWO_HEADINGS,
-            None
-        )
-    );
+    assert!(rt; goes(&rt, rt.alloc(), &NONE_IN_ROUNDS));
 }
 
 // Worker 0 has priced its move before worker 1 offers its own, and offers it afterwards.
+const HELD_ROUND: [Event<'static>; 2] = [Held(ONE_ROUND, 1, "", "", None), Holds("j", Some(STALE))];
+
 #[test]
 fn a_round_past_a_gate(rt: HostRuntime) {
-    let alloc = rt.alloc();
-    let mut shelf = MemShelf::new(alloc);
-    let mut out = MemSink::new(alloc);
-    assert!(rt; is_held(&rt, alloc, ONE_ROUND, 1, &mut shelf, &mut out));
-    assert!(rt; holds(&shelf, "j", Some(STALE)));
+    assert!(rt; goes(&rt, rt.alloc(), &HELD_ROUND));
 }

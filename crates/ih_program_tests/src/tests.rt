@@ -4,7 +4,9 @@ use crate::examples::{
     CHECKED, COVERED_SOLUTION, COVERED_START, FOUND, FULL_THEATRE, JOURNAL, LONG_SURGERY, NO_MOVES,
     NOTHING, ONE_ADMITTED, OVERLAP, SEARCH, TWO_GENDERS, TWO_PATIENTS, WARD,
 };
-use crate::whole_calls::{ends, holds, lay, status_of, store_changed};
+use crate::script::Event::{Change, Ends, FailRead, FailWrite, Holds, Store};
+use crate::script::{Event, goes};
+use crate::whole_calls::{ends, status_of};
 use ih_shelf::{MemShelf, MemSink, NeverFails, OpenGate};
 use ih_tables::{Fault, Key, Place, Refusal, Step};
 use ih_top::{Role, Status};
@@ -168,310 +170,280 @@ const NURSE: Status = Status::StartRefused(Refusal {
 
 // What a call puts, and leaves under the names of the solution and the journal.
 #[derive(Clone, Copy)]
-struct Left<'a> {
-    text: &'a str,
-    journal: Option<&'a str>,
-    solution: Option<&'a str>,
+struct Left {
+    text: &'static str,
+    journal: Option<&'static str>,
+    solution: Option<&'static str>,
 }
 
-// Whether a call ends with this status and leaves this.
-fn leaves<R: Files + Print + Threads + Wait + Sync>(
-    rt: &R,
-    alloc: Global,
-    shelf: &mut MemShelf,
-    words: &str,
-    status: Status,
-    left: &Left<'_>,
-) -> bool {
-    ends(rt, alloc, words, shelf, status, left.text)
-        && holds(shelf, "j", left.journal)
-        && holds(shelf, "o", left.solution)
-}
+/// An instance and a start beside it, a call, and how it ends and what it leaves.
+type Search = (&'static str, &'static str, &'static str, Status, Left);
 
-// The same on the ward, where a start lies beside it.
-fn leaves_on_ward<R: Files + Print + Threads + Wait + Sync>(
-    rt: &R,
-    alloc: Global,
-    words: &str,
-    status: Status,
-    left: &Left<'_>,
-) -> bool {
-    let mut shelf = MemShelf::new(alloc);
-    let laid = lay(alloc, &mut shelf, WARD, COVERED_START).is_ok();
-    let ended = leaves(rt, alloc, &mut shelf, words, status, left);
-    laid && ended
-}
-
-// The same of two patients, of whom one is admitted, where the call is done.
-fn leaves_of_two<R: Files + Print + Threads + Wait + Sync>(
-    rt: &R,
-    alloc: Global,
-    words: &str,
-    left: &Left<'_>,
-) -> bool {
-    let mut shelf = MemShelf::new(alloc);
-    let laid = lay(alloc, &mut shelf, TWO_PATIENTS, ONE_ADMITTED).is_ok();
-    let ended = leaves(rt, alloc, &mut shelf, words, Status::Done, left);
-    laid && ended
-}
-
-const SEARCHED: Left<'static> = Left {
+const SEARCHED: Left = Left {
     text: FOUND,
     journal: Some(JOURNAL),
     solution: Some(COVERED_SOLUTION),
 };
 
-const NONE_FOUND: Left<'static> = Left {
+const NONE_FOUND: Left = Left {
     text: "none found\n",
     journal: Some(HEADING_ALONE),
     solution: None,
 };
 
-const STAYED_THERE: Left<'static> = Left {
+const STAYED_THERE: Left = Left {
     text: STAYED,
     journal: Some(HEADING_ALONE),
     solution: Some(COVERED_SOLUTION),
 };
 
-const IMPROVED: Left<'static> = Left {
+const IMPROVED: Left = Left {
     text: IMPROVED_BEST,
     journal: Some(IMPROVING),
     solution: Some(IMPROVED_SOLUTION),
 };
 
-const FROZE: Left<'static> = Left {
+const FROZE: Left = Left {
     text: FROZEN_BEST,
     journal: Some(FREEZING),
     solution: Some(START_SOLUTION),
 };
 
-const RETRIED: Left<'static> = Left {
+const RETRIED: Left = Left {
     text: IMPROVED_BEST,
     journal: Some(RETRYING),
     solution: Some(IMPROVED_SOLUTION),
 };
 
 // The last two calls are one and the same: with one worker they leave the same bytes.
+const SEARCHES: [Search; 7] = [
+    (WARD, COVERED_START, SEARCH, Status::Done, SEARCHED),
+    (WARD, COVERED_START, NO_MOVES, Status::NoneFound, NONE_FOUND),
+    (WARD, COVERED_START, STAYING, Status::Done, STAYED_THERE),
+    (TWO_PATIENTS, ONE_ADMITTED, FROZEN_DAY, Status::Done, FROZE),
+    (
+        TWO_PATIENTS,
+        ONE_ADMITTED,
+        WITH_RETRIES,
+        Status::Done,
+        RETRIED,
+    ),
+    (
+        TWO_PATIENTS,
+        ONE_ADMITTED,
+        FROM_START,
+        Status::Done,
+        IMPROVED,
+    ),
+    (
+        TWO_PATIENTS,
+        ONE_ADMITTED,
+        FROM_START,
+        Status::Done,
+        IMPROVED,
+    ),
+];
+
+fn leaves<R: Files + Print + Threads + Wait + Sync>(rt: &R, alloc: Global, row: &Search) -> bool {
+    let (instance, start, words, status, left) = *row;
+    let events = [
+        Store("i", instance),
+        Store("s", start),
+        Ends(words, status, left.text),
+        Holds("j", left.journal),
+        Holds("o", left.solution),
+    ];
+    goes(rt, alloc, events.as_slice())
+}
+
+fn all_leave<R: Files + Print + Threads + Wait + Sync>(
+    rt: &R,
+    alloc: Global,
+    rows: &[Search],
+) -> bool {
+    for row in rows {
+        if !leaves(rt, alloc, row) {
+            return false;
+        }
+    }
+    true
+}
+
 #[test]
 fn searches(rt: HostRuntime) {
-    let alloc = rt.alloc();
-    assert!(rt; leaves_on_ward(&rt, alloc, SEARCH, Status::Done, &SEARCHED));
-    assert!(rt; leaves_on_ward(&rt, alloc, NO_MOVES, Status::NoneFound, &NONE_FOUND));
-    assert!(rt; leaves_on_ward(&rt, alloc, STAYING, Status::Done, &STAYED_THERE));
-    assert!(rt; leaves_of_two(&rt, alloc, FROZEN_DAY, &FROZE));
-    assert!(rt; leaves_of_two(&rt, alloc, WITH_RETRIES, &RETRIED));
-    assert!(rt; leaves_of_two(&rt, alloc, FROM_START, &IMPROVED));
-    assert!(rt; leaves_of_two(&rt, alloc, FROM_START, &IMPROVED));
+    assert!(rt; all_leave(&rt, rt.alloc(), &SEARCHES));
 }
 
-// Lays out the files of two patients, in which `to` stands where `from` stood.
-fn lay_two(alloc: Global, shelf: &mut MemShelf, from: &str, to: &str) -> Result<(), AllocError> {
-    store_changed(alloc, shelf, "i", TWO_PATIENTS, from, to)?;
-    store_changed(alloc, shelf, "s", ONE_ADMITTED, from, to)
-}
+/// What stands in the files of two patients, what is put in its place, and the status and the text of a call then.
+type Answer = (&'static str, &'static str, Status, &'static str);
 
-// Whether a call over such files ends with this status and text and writes nothing.
+// Whether a call over such files ends so and writes nothing.
 fn answers<R: Files + Print + Threads + Wait + Sync>(
     rt: &R,
     alloc: Global,
     words: &str,
-    from: &str,
-    to: &str,
-    status: Status,
-    text: &str,
+    row: &Answer,
 ) -> bool {
-    let mut shelf = MemShelf::new(alloc);
-    let laid = lay_two(alloc, &mut shelf, from, to).is_ok();
-    let left = Left {
-        text,
-        journal: None,
-        solution: None,
-    };
-    let ended = leaves(rt, alloc, &mut shelf, words, status, &left);
-    laid && ended
+    let (from, to, status, text) = *row;
+    let events = [
+        Change("i", TWO_PATIENTS, from, to),
+        Change("s", ONE_ADMITTED, from, to),
+        Ends(words, status, text),
+        Holds("j", None),
+        Holds("o", None),
+    ];
+    goes(rt, alloc, events.as_slice())
 }
 
-// Whether a check of such files reports so, of a solution that breaks a rule.
-fn breaks_rules<R: Files + Print + Threads + Wait + Sync>(
-    rt: &R,
-    alloc: Global,
-    from: &str,
-    to: &str,
-    text: &str,
-) -> bool {
-    answers(rt, alloc, CHECK, from, to, Status::Infeasible, text)
-}
-
-#[test]
-fn checks(rt: HostRuntime) {
-    let alloc = rt.alloc();
-    assert!(rt; answers(&rt, alloc, CHECK, NOTHING, "", Status::Done, CHECKED));
-    assert!(rt; breaks_rules(&rt, alloc, MINUTES, MORE_MINUTES, LONG_SURGERY));
-    assert!(rt; breaks_rules(&rt, alloc, NOT_ADMITTED, IN_FIRST_ROOM, TWO_GENDERS));
-    assert!(rt; breaks_rules(&rt, alloc, NOT_ADMITTED, A_DAY_LATER, OVERLAP));
-    assert!(rt; breaks_rules(&rt, alloc, NOT_ADMITTED, IN_FIRST_THEATRE, FULL_THEATRE));
-}
-
-// Whether both a check and a search do so.
-fn refuse<R: Files + Print + Threads + Wait + Sync>(
-    rt: &R,
-    alloc: Global,
-    from: &str,
-    to: &str,
-    status: Status,
-    text: &str,
-) -> bool {
-    answers(rt, alloc, CHECK, from, to, status, text)
-        && answers(rt, alloc, FROM_START, from, to, status, text)
-}
-
-#[test]
-fn refused_files(rt: HostRuntime) {
-    let alloc = rt.alloc();
-    assert!(rt; refuse(&rt, alloc, TWO_DAYS, NO_DAY, DAYS, DAYS_REFUSED));
-    assert!(rt;
-        refuse(
-            &rt,
-            alloc,
-            WORKLOAD,
-            SHORT_WORKLOAD,
-            WORKLOADS,
-            WORKLOAD_REFUSED
-        )
-    );
-    assert!(rt;
-        refuse(
-            &rt,
-            alloc,
-            ITS_SURGEON,
-            NO_SURGEON,
-            SURGEON,
-            SURGEON_REFUSED
-        )
-    );
-    assert!(rt; refuse(&rt, alloc, ITS_ROOM, NO_ROOM, ROOM, ROOM_REFUSED));
-    assert!(rt;
-        refuse(
-            &rt,
-            alloc,
-            LAST_ASSIGNMENT,
-            ANOTHER_NURSE,
-            NURSE,
-            NURSE_REFUSED
-        )
-    );
-}
-
-// Whether a call on the ward fails whose read of this number, from 1, is to fail, and says this text.
-fn cannot_read<R: Files + Print + Threads + Wait + Sync>(
+fn all_answer<R: Files + Print + Threads + Wait + Sync>(
     rt: &R,
     alloc: Global,
     words: &str,
-    read: u64,
-    role: Role,
-    text: &str,
+    rows: &[Answer],
 ) -> bool {
-    let mut shelf = MemShelf::new(alloc);
-    let laid = lay(alloc, &mut shelf, WARD, COVERED_START).is_ok();
-    let planned = shelf.fail_read(read).is_ok();
-    let left = Left {
-        text,
-        journal: None,
-        solution: None,
-    };
-    let ended = leaves(rt, alloc, &mut shelf, words, Status::ReadFault(role), &left);
-    laid && planned && ended
+    for row in rows {
+        if !answers(rt, alloc, words, row) {
+            return false;
+        }
+    }
+    true
 }
 
-// Whether a search on the ward fails whose write of this number, from 1, is to fail and to leave so many bytes, and leaves this.
-fn cannot_write<R: Files + Print + Threads + Wait + Sync>(
-    rt: &R,
-    alloc: Global,
-    write: u64,
-    kept: u64,
-    role: Role,
-    left: &Left<'_>,
-) -> bool {
-    let mut shelf = MemShelf::new(alloc);
-    let laid = lay(alloc, &mut shelf, WARD, "").is_ok();
-    let planned = shelf.fail_write(write, kept).is_ok();
-    let status = Status::WriteFault(Some(role));
-    let ended = leaves(rt, alloc, &mut shelf, SEARCH, status, left);
-    laid && planned && ended
+// Checks of a solution, and of some that break a rule.
+const CHECKS: [Answer; 5] = [
+    (NOTHING, "", Status::Done, CHECKED),
+    (MINUTES, MORE_MINUTES, Status::Infeasible, LONG_SURGERY),
+    (NOT_ADMITTED, IN_FIRST_ROOM, Status::Infeasible, TWO_GENDERS),
+    (NOT_ADMITTED, A_DAY_LATER, Status::Infeasible, OVERLAP),
+    (
+        NOT_ADMITTED,
+        IN_FIRST_THEATRE,
+        Status::Infeasible,
+        FULL_THEATRE,
+    ),
+];
+
+#[test]
+fn checks(rt: HostRuntime) {
+    assert!(rt; all_answer(&rt, rt.alloc(), CHECK, &CHECKS));
 }
 
-const JOURNAL_BEGUN: Left<'static> = Left {
-    text: "cannot write j\n",
-    journal: Some("ihjournal "),
-    solution: None,
-};
+// Files that both a check and a search refuse.
+const REFUSED: [Answer; 5] = [
+    (TWO_DAYS, NO_DAY, DAYS, DAYS_REFUSED),
+    (WORKLOAD, SHORT_WORKLOAD, WORKLOADS, WORKLOAD_REFUSED),
+    (ITS_SURGEON, NO_SURGEON, SURGEON, SURGEON_REFUSED),
+    (ITS_ROOM, NO_ROOM, ROOM, ROOM_REFUSED),
+    (LAST_ASSIGNMENT, ANOTHER_NURSE, NURSE, NURSE_REFUSED),
+];
 
-const SOLUTION_BEGUN: Left<'static> = Left {
-    text: "cannot write o\n",
-    journal: Some(JOURNAL),
-    solution: Some(""),
-};
+#[test]
+fn refused_files(rt: HostRuntime) {
+    assert!(rt; all_answer(&rt, rt.alloc(), CHECK, &REFUSED));
+    assert!(rt; all_answer(&rt, rt.alloc(), FROM_START, &REFUSED));
+}
+
+const NO_INSTANCE: [Event<'static>; 6] = [
+    Store("i", WARD),
+    Store("s", COVERED_START),
+    FailRead(1),
+    Ends(SEARCH, Status::ReadFault(Role::Instance), "cannot read i\n"),
+    Holds("j", None),
+    Holds("o", None),
+];
+
+const NO_START: [Event<'static>; 6] = [
+    Store("i", WARD),
+    Store("s", COVERED_START),
+    FailRead(2),
+    Ends(
+        STAYING,
+        Status::ReadFault(Role::Solution),
+        "cannot read s\n",
+    ),
+    Holds("j", None),
+    Holds("o", None),
+];
+
+const JOURNAL_BEGUN: [Event<'static>; 5] = [
+    Store("i", WARD),
+    FailWrite(1, 10),
+    Ends(
+        SEARCH,
+        Status::WriteFault(Some(Role::Journal)),
+        "cannot write j\n",
+    ),
+    Holds("j", Some("ihjournal ")),
+    Holds("o", None),
+];
+
+const SOLUTION_BEGUN: [Event<'static>; 5] = [
+    Store("i", WARD),
+    FailWrite(2, 0),
+    Ends(
+        SEARCH,
+        Status::WriteFault(Some(Role::Out)),
+        "cannot write o\n",
+    ),
+    Holds("j", Some(JOURNAL)),
+    Holds("o", Some("")),
+];
 
 #[test]
 fn files_that_fail(rt: HostRuntime) {
-    let alloc = rt.alloc();
-    assert!(rt; cannot_read(&rt, alloc, SEARCH, 1, Role::Instance, "cannot read i\n"));
-    assert!(rt; cannot_read(&rt, alloc, STAYING, 2, Role::Solution, "cannot read s\n"));
-    assert!(rt; cannot_write(&rt, alloc, 1, 10, Role::Journal, &JOURNAL_BEGUN));
-    assert!(rt; cannot_write(&rt, alloc, 2, 0, Role::Out, &SOLUTION_BEGUN));
+    assert!(rt; goes(&rt, rt.alloc(), &NO_INSTANCE));
+    assert!(rt; goes(&rt, rt.alloc(), &NO_START));
+    assert!(rt; goes(&rt, rt.alloc(), &JOURNAL_BEGUN));
+    assert!(rt; goes(&rt, rt.alloc(), &SOLUTION_BEGUN));
 }
-
-const UNREAD: Left<'static> = Left {
-    text: "cannot read i\n",
-    journal: None,
-    solution: None,
-};
 
 // A search whose first read fails, and the same again on the same shelf.
+const ONE_FAULT: [Event<'static>; 9] = [
+    Store("i", WARD),
+    Store("s", COVERED_START),
+    FailRead(1),
+    Ends(SEARCH, Status::ReadFault(Role::Instance), "cannot read i\n"),
+    Holds("j", None),
+    Holds("o", None),
+    Ends(SEARCH, Status::Done, FOUND),
+    Holds("j", Some(JOURNAL)),
+    Holds("o", Some(COVERED_SOLUTION)),
+];
+
 #[test]
 fn one_fault_does_not_go_on(rt: HostRuntime) {
-    let alloc = rt.alloc();
-    let mut shelf = MemShelf::new(alloc);
-    assert!(rt; lay(alloc, &mut shelf, WARD, COVERED_START).is_ok());
-    assert!(rt; shelf.fail_read(1).is_ok());
-    assert!(rt;
-        leaves(
-            &rt,
-            alloc,
-            &mut shelf,
-            SEARCH,
-            Status::ReadFault(Role::Instance),
-            &UNREAD
-        )
-    );
-    assert!(rt; leaves(&rt, alloc, &mut shelf, SEARCH, Status::Done, &SEARCHED));
+    assert!(rt; goes(&rt, rt.alloc(), &ONE_FAULT));
 }
 
-// Whether the search on the ward is done over a shelf that never fails, and leaves its journal and its solution there.
+// Whether the shelf has the journal and the solution of the search on the ward.
+fn has_both(shelf: &NeverFails) -> bool {
+    shelf.get("j") == Some(JOURNAL.as_bytes())
+        && shelf.get("o") == Some(COVERED_SOLUTION.as_bytes())
+}
+
+// Whether the search on the ward is done over a shelf that never fails, and leaves both there.
 fn is_done_on<R: Files + Print + Threads + Wait + Sync>(
     rt: &R,
     alloc: Global,
     shelf: &mut NeverFails,
-    out: &mut MemSink,
 ) -> bool {
-    match status_of(rt, alloc, SEARCH, shelf, out, &OpenGate) {
+    let mut out = MemSink::new(alloc);
+    match status_of(rt, alloc, SEARCH, shelf, &mut out, &OpenGate) {
         Ok(status) => {
-            status == Status::Done
-                && shelf.get("j") == Some(JOURNAL.as_bytes())
-                && shelf.get("o") == Some(COVERED_SOLUTION.as_bytes())
+            status == Status::Done && out.bytes() == FOUND.as_bytes() && has_both(shelf)
         }
         Err(_) => false,
     }
 }
 
+fn is_done_without_faults<R: Files + Print + Threads + Wait + Sync>(rt: &R, alloc: Global) -> bool {
+    let mut shelf = NeverFails::new(alloc);
+    shelf.store("i", WARD.as_bytes()).is_ok() && is_done_on(rt, alloc, &mut shelf)
+}
+
 #[test]
 fn searches_where_no_file_fails(rt: HostRuntime) {
-    let alloc = rt.alloc();
-    let mut shelf = NeverFails::new(alloc);
-    let mut out = MemSink::new(alloc);
-    assert!(rt; shelf.store("i", WARD.as_bytes()).is_ok());
-    assert!(rt; is_done_on(&rt, alloc, &mut shelf, &mut out));
-    assert!(rt; out.bytes() == FOUND.as_bytes());
+    assert!(rt; is_done_without_faults(&rt, rt.alloc()));
 }
 
 // An instance of one byte too many.
@@ -480,19 +452,14 @@ fn lay_long(alloc: Global, shelf: &mut MemShelf) -> Result<(), AllocError> {
     shelf.store("i", spaces.as_slice())
 }
 
+fn is_too_long<R: Files + Print + Threads + Wait + Sync>(rt: &R, alloc: Global) -> bool {
+    let mut shelf = MemShelf::new(alloc);
+    let status = Status::TooLong(Role::Instance);
+    lay_long(alloc, &mut shelf).is_ok()
+        && ends(rt, alloc, CHECK, &mut shelf, status, "too long: i\n")
+}
+
 #[test]
 fn one_byte_too_many(rt: HostRuntime) {
-    let alloc = rt.alloc();
-    let mut shelf = MemShelf::new(alloc);
-    assert!(rt; lay_long(alloc, &mut shelf).is_ok());
-    assert!(rt;
-        ends(
-            &rt,
-            alloc,
-            CHECK,
-            &mut shelf,
-            Status::TooLong(Role::Instance),
-            "too long: i\n"
-        )
-    );
+    assert!(rt; is_too_long(&rt, rt.alloc()));
 }

@@ -9,7 +9,8 @@ use std::rt::Files;
 use std::sync::Wait;
 use std::thread::Threads;
 
-fn words_of(alloc: Global, line: &str) -> Result<Vec<String>, AllocError> {
+/// The words of a line.
+pub fn words_of(alloc: Global, line: &str) -> Result<Vec<String>, AllocError> {
     let mut words = Vec::new(alloc);
     for word in line.split_whitespace() {
         words.push(String::from_str(alloc, word)?)?;
@@ -170,6 +171,14 @@ pub fn holds(shelf: &MemShelf, name: &str, text: Option<&str>) -> bool {
 pub fn are_same(shelf: &MemShelf, name: &str, other: &str) -> bool {
     match (shelf.get(name), shelf.get(other)) {
         (Some(bytes), Some(others)) => bytes == others,
+        _ => false,
+    }
+}
+
+/// Whether the two names have the same lines behind their first ones.
+pub fn have_same_lines(shelf: &MemShelf, name: &str, other: &str) -> bool {
+    match (lines_behind(shelf, name), lines_behind(shelf, other)) {
+        (Some(lines), Some(others)) => lines == others,
         _ => false,
     }
 }

@@ -1,8 +1,8 @@
 //! Words that name a call, and words that name none.
 
 use crate::examples::USAGE;
-use crate::whole_calls::ends;
-use ih_shelf::MemShelf;
+use crate::script::Event::Ends;
+use crate::script::goes;
 use ih_top::{Role, Status};
 use std::alloc::Global;
 use std::rt::Files;
@@ -43,68 +43,84 @@ const ROUNDS_WITH_RETRIES: &str =
 
 const UNCOUNTED_ROUNDS: &str = "rounds i o j --seed 0 --workers 1 --moves 2 --heat 0 --hard 1000";
 
-// Whether the words name a call, which finds no instance.
-fn is_lawful<R: Files + Print + Threads + Wait + Sync>(rt: &R, alloc: Global, words: &str) -> bool {
-    let mut shelf = MemShelf::new(alloc);
-    ends(
-        rt,
-        alloc,
-        words,
-        &mut shelf,
-        Status::ReadFault(Role::Instance),
-        "cannot read i\n",
-    )
-}
-
-// Whether the words name no call.
-fn is_unlawful<R: Files + Print + Threads + Wait + Sync>(
+// Whether each of these lines names a call, which finds no instance.
+fn are_lawful<R: Files + Print + Threads + Wait + Sync>(
     rt: &R,
     alloc: Global,
-    words: &str,
+    lines: &[&str],
 ) -> bool {
-    let mut shelf = MemShelf::new(alloc);
-    ends(rt, alloc, words, &mut shelf, Status::Usage, USAGE)
+    for line in lines {
+        let missing = Ends(line, Status::ReadFault(Role::Instance), "cannot read i\n");
+        if !goes(rt, alloc, &[missing]) {
+            return false;
+        }
+    }
+    true
 }
+
+// Whether none of these lines names a call.
+fn are_unlawful<R: Files + Print + Threads + Wait + Sync>(
+    rt: &R,
+    alloc: Global,
+    lines: &[&str],
+) -> bool {
+    for line in lines {
+        if !goes(rt, alloc, &[Ends(line, Status::Usage, USAGE)]) {
+            return false;
+        }
+    }
+    true
+}
+
+const NO_CALLS: [&str; 10] = [
+    "",
+    ONE_NAME_TWICE,
+    MANY_WORKERS,
+    MANY_MOVES,
+    MANY_TRIES,
+    NO_DAY_FROZEN,
+    "replay i j o --start s --freeze 1 --fill",
+    "salvage i j j",
+    "gen o 7",
+    "demo",
+];
 
 #[test]
 fn unlawful_words(rt: HostRuntime) {
-    let alloc = rt.alloc();
-    assert!(rt; is_unlawful(&rt, alloc, ""));
-    assert!(rt; is_unlawful(&rt, alloc, ONE_NAME_TWICE));
-    assert!(rt; is_unlawful(&rt, alloc, MANY_WORKERS));
-    assert!(rt; is_unlawful(&rt, alloc, MANY_MOVES));
-    assert!(rt; is_unlawful(&rt, alloc, MANY_TRIES));
-    assert!(rt; is_unlawful(&rt, alloc, NO_DAY_FROZEN));
-    assert!(rt; is_unlawful(&rt, alloc, "replay i j o --start s --freeze 1 --fill"));
-    assert!(rt; is_unlawful(&rt, alloc, "salvage i j j"));
-    assert!(rt; is_unlawful(&rt, alloc, "gen o 7"));
-    assert!(rt; is_unlawful(&rt, alloc, "demo"));
-    assert!(rt; is_lawful(&rt, alloc, MOST_MOVES));
+    assert!(rt; are_unlawful(&rt, rt.alloc(), &NO_CALLS));
+    assert!(rt; are_lawful(&rt, rt.alloc(), &[MOST_MOVES]));
 }
 
-// Rounds freeze nothing and try nothing again, there are at most 16, and their product with workers and moves is limited.
+// Rounds freeze nothing and try nothing again, there are at most 16, and their product with workers and moves is
+// limited.
+const NO_CALLS_OF_ROUNDS: [&str; 6] = [
+    NO_ROUNDS,
+    MANY_ROUNDS,
+    ROUNDS_OF_TOO_MANY_MOVES,
+    FROZEN_ROUNDS,
+    ROUNDS_WITH_RETRIES,
+    UNCOUNTED_ROUNDS,
+];
+
 #[test]
 fn unlawful_words_of_rounds(rt: HostRuntime) {
-    let alloc = rt.alloc();
-    assert!(rt; is_lawful(&rt, alloc, MOST_ROUNDS));
-    assert!(rt; is_unlawful(&rt, alloc, NO_ROUNDS));
-    assert!(rt; is_unlawful(&rt, alloc, MANY_ROUNDS));
-    assert!(rt; is_unlawful(&rt, alloc, ROUNDS_OF_TOO_MANY_MOVES));
-    assert!(rt; is_unlawful(&rt, alloc, FROZEN_ROUNDS));
-    assert!(rt; is_unlawful(&rt, alloc, ROUNDS_WITH_RETRIES));
-    assert!(rt; is_unlawful(&rt, alloc, UNCOUNTED_ROUNDS));
+    assert!(rt; are_lawful(&rt, rt.alloc(), &[MOST_ROUNDS]));
+    assert!(rt; are_unlawful(&rt, rt.alloc(), &NO_CALLS_OF_ROUNDS));
 }
+
+const NO_ADVICE: [&str; 6] = [
+    "advise i s --hard 1000",
+    "advise i s --workers 2",
+    "advise i s --hard 1000 --workers 0",
+    "advise i s --hard 1000 --workers 65",
+    "advise i s --hard 1000001 --workers 1",
+    "advise i i --hard 1000 --workers 2",
+];
 
 #[test]
 fn unlawful_words_of_advise(rt: HostRuntime) {
-    let alloc = rt.alloc();
-    assert!(rt; is_lawful(&rt, alloc, "advise i s --hard 0 --workers 64"));
-    assert!(rt; is_unlawful(&rt, alloc, "advise i s --hard 1000"));
-    assert!(rt; is_unlawful(&rt, alloc, "advise i s --workers 2"));
-    assert!(rt; is_unlawful(&rt, alloc, "advise i s --hard 1000 --workers 0"));
-    assert!(rt; is_unlawful(&rt, alloc, "advise i s --hard 1000 --workers 65"));
-    assert!(rt; is_unlawful(&rt, alloc, "advise i s --hard 1000001 --workers 1"));
-    assert!(rt; is_unlawful(&rt, alloc, "advise i i --hard 1000 --workers 2"));
+    assert!(rt; are_lawful(&rt, rt.alloc(), &["advise i s --hard 0 --workers 64"]));
+    assert!(rt; are_unlawful(&rt, rt.alloc(), &NO_ADVICE));
 }
 
 // Words that name a search by chains, which finds no instance.
@@ -131,11 +147,6 @@ const NO_CHAINS: [&str; 10] = [
 
 #[test]
 fn unlawful_words_of_chain(rt: HostRuntime) {
-    let alloc = rt.alloc();
-    for words in CHAINS {
-        assert!(rt; is_lawful(&rt, alloc, words));
-    }
-    for words in NO_CHAINS {
-        assert!(rt; is_unlawful(&rt, alloc, words));
-    }
+    assert!(rt; are_lawful(&rt, rt.alloc(), &CHAINS));
+    assert!(rt; are_unlawful(&rt, rt.alloc(), &NO_CHAINS));
 }

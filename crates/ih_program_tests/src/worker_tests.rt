@@ -1,13 +1,9 @@
 //! Whole calls of several workers, over files in memory.
 
 use crate::examples::{ONE_ADMITTED, TWO_PATIENTS};
-use crate::whole_calls::{are_same, ends_saying, exits, has_lines, holds, is_held, lay, reads};
-use ih_shelf::{MemShelf, MemSink};
+use crate::script::Event::{Alike, Ends, Held, Holds, Lines, Pairs, Same, Store};
+use crate::script::{Event, goes};
 use ih_top::Status;
-use std::alloc::Global;
-use std::rt::Files;
-use std::sync::Wait;
-use std::thread::Threads;
 
 const ONE_EACH: &str =
     "solve i o j --seed 18446744073709551615 --workers 2 --moves 1 --heat 1000000 --hard 1000 --start s";
@@ -56,108 +52,44 @@ const STARTED: &str = "replay i j p --start s";
 const FROZEN: &str = "replay i j p --start s --freeze 1";
 
 // Worker 0 has priced its move before worker 1 offers its own, and offers it afterwards.
+const STALE_PRICE: [Event<'static>; 2] = [
+    Held(ONE_EACH, 1, "best 1 of 2\n", "cost 139\n", None),
+    Holds("j", Some(STALE)),
+];
+
 #[test]
 fn a_price_that_another_made_stale(rt: HostRuntime) {
-    let alloc = rt.alloc();
-    let mut shelf = MemShelf::new(alloc);
-    let mut out = MemSink::new(alloc);
-    assert!(rt; is_held(&rt, alloc, ONE_EACH, 1, &mut shelf, &mut out));
-    assert!(rt; holds(&shelf, "j", Some(STALE)));
-    assert!(rt; reads(&out, "best 1 of 2\n", "cost 139\n"));
+    assert!(rt; goes(&rt, rt.alloc(), &STALE_PRICE));
 }
 
-// Whether the word is there and is this number.
-fn is_number(word: Option<&str>, number: u32) -> bool {
-    match word {
-        Some(text) => match text.parse::<u32>() {
-            Ok(found) => found == number,
-            Err(_) => false,
-        },
-        None => false,
-    }
-}
-
-// Whether the line begins as that of the attempt at this place: worker 1's at even places, and worker 0's at odd ones, priced
-// before that of worker 1.
-fn is_in_turn(line: &str, place: u32) -> bool {
-    let number = place / 2;
-    let worker = 1 - place % 2;
-    let mut words = line.split(' ');
-    is_number(words.next(), place)
-        && is_number(words.next(), worker)
-        && is_number(words.next(), number)
-        && (worker == 1 || is_number(words.next(), number * 2))
-}
-
-// Whether each of a hundred attempts of worker 0 stands right behind that of worker 1, and was priced before it.
-fn stand_side_by_side(journal: &str) -> bool {
-    let mut place: u32 = 0;
-    for line in journal.split('\n').skip(1) {
-        if line.is_empty() {
-            return place == 200;
-        }
-        if !is_in_turn(line, place) {
-            return false;
-        }
-        place = place.saturating_add(1);
-    }
-    false
-}
-
-/// Whether the name has such a journal.
-pub fn has_pairs(shelf: &MemShelf, name: &str) -> bool {
-    match shelf.get(name) {
-        Some(bytes) => match str::from_utf8(bytes) {
-            Ok(journal) => stand_side_by_side(journal),
-            Err(_) => false,
-        },
-        None => false,
-    }
-}
-
-// Whether a replay is done, says the text that the sink has, and writes under `p` the bytes of `o`.
-fn replays_alike<R: Files + Print + Threads + Wait + Sync>(
-    rt: &R,
-    alloc: Global,
-    line: &str,
-    shelf: &mut MemShelf,
-    out: &MemSink,
-) -> bool {
-    ends_saying(rt, alloc, line, shelf, Status::Done, out.bytes()) && are_same(shelf, "p", "o")
-}
+// A replay says what the search said, and finds the same.
+const SIDE_BY_SIDE: [Event<'static>; 3] = [
+    Held(HUNDRED_EACH, 100, "", "", Some(STARTED)),
+    Pairs("j"),
+    Same("p", "o"),
+];
 
 #[test]
 fn every_attempt_beside_another(rt: HostRuntime) {
-    let alloc = rt.alloc();
-    let mut shelf = MemShelf::new(alloc);
-    let mut out = MemSink::new(alloc);
-    assert!(rt; is_held(&rt, alloc, HUNDRED_EACH, 100, &mut shelf, &mut out));
-    assert!(rt; has_pairs(&shelf, "j"));
-    assert!(rt; replays_alike(&rt, alloc, STARTED, &mut shelf, &out));
+    assert!(rt; goes(&rt, rt.alloc(), &SIDE_BY_SIDE));
 }
 
 // The same with a try more: worker 0 takes over what was new by its stale offer, and its move is then accepted.
+const AGAIN: [Event<'static>; 3] = [
+    Held(
+        ONE_EACH_TWICE,
+        1,
+        "best 1 of 3\n",
+        "cost 139\n",
+        Some(STARTED),
+    ),
+    Holds("j", Some(TRIED_AGAIN)),
+    Same("p", "o"),
+];
+
 #[test]
 fn a_stale_move_is_tried_again(rt: HostRuntime) {
-    let alloc = rt.alloc();
-    let mut shelf = MemShelf::new(alloc);
-    let mut out = MemSink::new(alloc);
-    assert!(rt; is_held(&rt, alloc, ONE_EACH_TWICE, 1, &mut shelf, &mut out));
-    assert!(rt; holds(&shelf, "j", Some(TRIED_AGAIN)));
-    assert!(rt; reads(&out, "best 1 of 3\n", "cost 139\n"));
-    assert!(rt; replays_alike(&rt, alloc, STARTED, &mut shelf, &out));
-}
-
-// Whether a search of so many workers with 2,000 moves each, from the fill of a generated instance, is done, and its replay ends alike.
-fn agree_on_generated<R: Files + Print + Threads + Wait + Sync>(
-    rt: &R,
-    alloc: Global,
-    shelf: &mut MemShelf,
-    search: &str,
-) -> bool {
-    let mut out = MemSink::new(alloc);
-    exits(rt, alloc, search, shelf, &mut out, Status::Done)
-        && replays_alike(rt, alloc, "replay i j p --fill", shelf, &out)
+    assert!(rt; goes(&rt, rt.alloc(), &AGAIN));
 }
 
 const GENERATED_ONE: &str =
@@ -175,64 +107,63 @@ const GENERATED_EIGHT: &str =
 const GENERATED_MOST: &str =
     "solve i o j --seed 5 --workers 64 --moves 2000 --heat 20 --hard 100000 --fill --retries 1";
 
+const REFILLED: &str = "replay i j p --fill";
+
+// Searches of so many workers with 2,000 moves each, from the fill of a generated instance. Each replay ends alike.
+const GENERATED: [Event<'static>; 11] = [
+    Ends("gen 7 i", Status::Done, ""),
+    Alike(GENERATED_ONE, REFILLED),
+    Same("p", "o"),
+    Alike(GENERATED_TWO, REFILLED),
+    Same("p", "o"),
+    Alike(GENERATED_THREE, REFILLED),
+    Same("p", "o"),
+    Alike(GENERATED_EIGHT, REFILLED),
+    Same("p", "o"),
+    Alike(GENERATED_MOST, REFILLED),
+    Same("p", "o"),
+];
+
 #[test]
 fn any_number_of_workers_on_a_generated_instance(rt: HostRuntime) {
-    let alloc = rt.alloc();
-    let mut shelf = MemShelf::new(alloc);
-    let mut out = MemSink::new(alloc);
-    assert!(rt; exits(&rt, alloc, "gen 7 i", &mut shelf, &mut out, Status::Done));
-    assert!(rt; agree_on_generated(&rt, alloc, &mut shelf, GENERATED_ONE));
-    assert!(rt; agree_on_generated(&rt, alloc, &mut shelf, GENERATED_TWO));
-    assert!(rt; agree_on_generated(&rt, alloc, &mut shelf, GENERATED_THREE));
-    assert!(rt; agree_on_generated(&rt, alloc, &mut shelf, GENERATED_EIGHT));
-    assert!(rt; agree_on_generated(&rt, alloc, &mut shelf, GENERATED_MOST));
-}
-
-// Whether a search of the two patients is done, and its replay ends alike.
-fn is_replayed<R: Files + Print + Threads + Wait + Sync>(
-    rt: &R,
-    alloc: Global,
-    search: &str,
-    replay: &str,
-    shelf: &mut MemShelf,
-    out: &mut MemSink,
-) -> bool {
-    lay(alloc, shelf, TWO_PATIENTS, ONE_ADMITTED).is_ok()
-        && exits(rt, alloc, search, shelf, out, Status::Done)
-        && replays_alike(rt, alloc, replay, shelf, out)
-}
-
-// The same over a shelf and a sink of its own.
-fn agree<R: Files + Print + Threads + Wait + Sync>(
-    rt: &R,
-    alloc: Global,
-    search: &str,
-    replay: &str,
-) -> bool {
-    let mut shelf = MemShelf::new(alloc);
-    let mut out = MemSink::new(alloc);
-    is_replayed(rt, alloc, search, replay, &mut shelf, &mut out)
+    assert!(rt; goes(&rt, rt.alloc(), &GENERATED));
 }
 
 // Journals of many workers are replayed to the same solution.
+const REPLAYED: [Event<'static>; 16] = [
+    Store("i", TWO_PATIENTS),
+    Store("s", ONE_ADMITTED),
+    Alike(ONE, STARTED),
+    Same("p", "o"),
+    Alike(TWO_WITH_RETRIES, STARTED),
+    Same("p", "o"),
+    Alike(THREE_FROZEN, FROZEN),
+    Same("p", "o"),
+    Alike(EIGHT, STARTED),
+    Same("p", "o"),
+    Alike(EIGHT_WITH_RETRIES, STARTED),
+    Same("p", "o"),
+    Alike(MOST_WITH_RETRIES_FROZEN, FROZEN),
+    Same("p", "o"),
+    Alike(MOST, STARTED),
+    Same("p", "o"),
+];
+
 #[test]
 fn any_number_of_workers(rt: HostRuntime) {
-    let alloc = rt.alloc();
-    assert!(rt; agree(&rt, alloc, ONE, STARTED));
-    assert!(rt; agree(&rt, alloc, TWO_WITH_RETRIES, STARTED));
-    assert!(rt; agree(&rt, alloc, THREE_FROZEN, FROZEN));
-    assert!(rt; agree(&rt, alloc, EIGHT, STARTED));
-    assert!(rt; agree(&rt, alloc, EIGHT_WITH_RETRIES, STARTED));
-    assert!(rt; agree(&rt, alloc, MOST_WITH_RETRIES_FROZEN, FROZEN));
-    assert!(rt; agree(&rt, alloc, MOST, STARTED));
+    assert!(rt; goes(&rt, rt.alloc(), &REPLAYED));
 }
 
 // Two workers with 500 moves each, which no gate holds, leave 1,000 entries, whose replay comes to the same end.
+const THOUSAND_MOVES: [Event<'static>; 5] = [
+    Store("i", TWO_PATIENTS),
+    Store("s", ONE_ADMITTED),
+    Alike(FIVE_HUNDRED_EACH, STARTED),
+    Same("p", "o"),
+    Lines("j", 1001),
+];
+
 #[test]
 fn a_thousand_moves_of_two_workers(rt: HostRuntime) {
-    let alloc = rt.alloc();
-    let mut shelf = MemShelf::new(alloc);
-    let mut out = MemSink::new(alloc);
-    assert!(rt; is_replayed(&rt, alloc, FIVE_HUNDRED_EACH, STARTED, &mut shelf, &mut out));
-    assert!(rt; has_lines(&shelf, "j", 1001));
+    assert!(rt; goes(&rt, rt.alloc(), &THOUSAND_MOVES));
 }

@@ -5,13 +5,12 @@ ghost use Rattle.ih_journal.specs.Settings.{IsLawful};
 ghost use Rattle.ih_plan.specs.Timetable.{IsPlanOf};
 ghost use Rattle.ih_fixtures.specs.Two.{IsOfTwo};
 
-use ih_fixtures::{first_admitted, first_day, two_patients};
+use ih_fixtures::{first_day, on_first_admitted};
 use ih_journal::{JournalRefusal, Options, Reason};
 use ih_plan::Plan;
 use ih_replay::Replay;
 use ih_tables::{Instance, NurseNo, PatientNo, RoomNo, Shift};
-use std::alloc::{AllocError, Global};
-use std::test::Fail;
+use std::alloc::Global;
 
 /// Threads share replays.
 fn share<T: Send + Sync>(_x: &T) {}
@@ -110,28 +109,37 @@ fn search(seed: u64, workers: u32, heat: u32, retries: u32) -> Options {
     }
 }
 
-// Whether a new replay tells what the rows say, its best is then at this place and costs so much, and this nurse has the first
-// room there.
-fn comes_to(
-    alloc: Global,
-    inst: &Instance,
-    start: &Plan,
-    options: &Options,
-    rows: &[Row],
-    best: (u32, i64),
-    nurse: NurseNo,
-) -> Result<bool, AllocError>
+/// Options, rows, and then the best place with its cost, and the nurse whom the first room has there.
+type Journal = (Options, &'static [Row], (u32, i64), NurseNo);
+
+// Whether a new replay tells what the rows say, and then has this best.
+fn comes_out(alloc: Global, inst: &Instance, replay: &mut Replay<'_>, journal: &Journal) -> bool
+    requires instance { replay.old.base.instance ≡ inst.now.draft }
+    requires two { IsOfTwo inst.now.draft }
+{
+    let (_, rows, best, nurse) = journal;
+    replay.best() == Some((0, 159))
+        && tells_all(replay, rows)
+        && replay.best() == Some(*best)
+        && finds(alloc, inst, replay, *nurse)
+}
+
+// The same of a replay of a search with these options.
+fn comes_to(alloc: Global, inst: &Instance, start: &Plan, journal: &Journal) -> bool
     requires start { IsPlanOf inst.now.draft start.now }
     requires two { IsOfTwo inst.now.draft }
 {
+    let options = &journal.0;
     if !options.lawful() {
-        return Ok(false);
+        return false;
     }
-    let mut replay = Replay::new(alloc, inst, start, options, 0)?;
-    share(&replay);
-    let first = replay.best() == Some((0, 159));
-    let told = tells_all(&mut replay, rows);
-    Ok(first && told && replay.best() == Some(best) && finds(alloc, inst, &replay, nurse))
+    match Replay::new(alloc, inst, start, options, 0) {
+        Ok(mut replay) => {
+            share(&replay);
+            comes_out(alloc, inst, &mut replay, journal)
+        }
+        Err(_) => false,
+    }
 }
 
 // A search of seed 7 in which worker 1 looked before worker 0's second entry, and tried its move again. Wrong lines stand
@@ -261,31 +269,25 @@ const SEEN_LESS: [Row; 4] = [
 ];
 
 // Whether the three come out so.
-fn come_out_so(alloc: Global, inst: &Instance, start: &Plan) -> Result<bool, AllocError>
+fn come_out_so(alloc: Global, inst: &Instance, start: &Plan) -> bool
     requires start { IsPlanOf inst.now.draft start.now }
     requires two { IsOfTwo inst.now.draft }
 {
-    let seven = search(7, 2, 1_000_000, 1);
-    let none = search(0, 1, 0, 0);
-    let four = search(4, 2, 1_000_000, 0);
-    Ok(
-        comes_to(
-            alloc,
-            inst,
-            start,
-            &seven,
-            &RIGHT_AND_WRONG,
-            (0, 159),
-            NurseNo(0),
-        )? && comes_to(alloc, inst, start, &none, &CHEAPER, (1, 139), NurseNo(1))?
-            && comes_to(alloc, inst, start, &four, &SEEN_LESS, (0, 159), NurseNo(0))?,
-    )
+    let seven: Journal = (
+        search(7, 2, 1_000_000, 1),
+        &RIGHT_AND_WRONG,
+        (0, 159),
+        NurseNo(0),
+    );
+    let none: Journal = (search(0, 1, 0, 0), &CHEAPER, (1, 139), NurseNo(1));
+    let four: Journal = (search(4, 2, 1_000_000, 0), &SEEN_LESS, (0, 159), NurseNo(0));
+    comes_to(alloc, inst, start, &seven)
+        && comes_to(alloc, inst, start, &none)
+        && comes_to(alloc, inst, start, &four)
 }
 
 #[test]
-fn journals_are_taken_line_by_line(rt: HostRuntime) -> Result<(), Fail> {
-    let inst = two_patients(rt.alloc(), &[])?;
-    let start = first_admitted(rt.alloc(), &inst)?;
-    assert!(rt; come_out_so(rt.alloc(), &inst, &start)?);
-    Ok(())
+fn journals_are_taken_line_by_line(rt: HostRuntime) {
+    let alloc = rt.alloc();
+    assert!(rt; on_first_admitted(alloc, |inst, start| come_out_so(alloc, inst, start)));
 }

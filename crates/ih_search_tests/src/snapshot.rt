@@ -9,40 +9,43 @@ ghost use Rattle.ih_cellbook.specs.Keeping.{base_with};
 ghost use Rattle.ih_cellbook.specs.Replicas.{IsReplicaIn};
 ghost use Rattle.ih_cellbook.specs.Snapshot.{Snapshot};
 
-use crate::rounds::{catch_up, offer};
+use crate::rounds::{catch_up, offer, rests_on};
 use crate::steps::{
     FIRST_NURSE, JOIN, SECOND_NURSE, TWICE_STALE, have_prices, hot, is, is_in_range,
 };
-use ih_cellbook::{Book, Buffer, News};
+use ih_cellbook::{Book, Buffer};
 use ih_costs::Ledgers;
-use ih_fixtures::{first_admitted, two_patients};
+use ih_fixtures::on_first_admitted;
 use ih_footprint::Numbering;
 use ih_journal::{Options, Verdict};
 use ih_plan::{Move, Placement, Plan};
 use ih_snapshot::Replica;
 use ih_tables::{Bill, Cell, Day, Instance, PatientNo, RoomNo, Shift, TheatreNo};
 use std::alloc::{AllocError, Global};
-use std::test::Fail;
 
 /// Threads share replicas.
 fn share<T: Send + Sync>(_x: &T) {}
 
-/// What a worker does: it takes over what is new, or offers its move of a number.
+/// What a worker does: it takes over what is new, offers its move of a number, or prices that, which is to rest on
+/// these cells, each at this version.
 #[derive(Clone, Copy)]
 enum Step {
     Looks,
     Offers(u32, Move),
+    Prices(u32, Move, &'static [(u32, u32)]),
 }
 
-/// What came of it: how many entries the worker has then seen and how many the book has, or the verdict, if it may offer.
+/// What came of it: how many entries the worker has then seen and how many the book has, or the verdict, if it may
+/// offer, or whether the price rests on just these cells.
 #[derive(Clone, Copy, PartialEq)]
 enum Told {
     Seen(u32, u32),
     Said(Option<Verdict>),
+    Rests(bool),
 }
 
-use Step::{Looks, Offers};
-use Told::{Said, Seen};
+use Step::{Looks, Offers, Prices};
+use Told::{Rests, Said, Seen};
 
 /// A worker, what it does, and what comes of it.
 type Row = (u32, Step, Told);
@@ -56,7 +59,7 @@ fn act(
     book: &mut Book<'_>,
     replica: &mut Replica<'_>,
     options: &Options,
-    news: &mut News,
+    buffer: &mut Buffer,
     step: &Step,
 ) -> Told
     requires instance { inst.now.draft ≡ book.old.base.instance }
@@ -68,7 +71,7 @@ fn act(
 {
     match *step {
         Looks => {
-            let (seen, front) = catch_up(book, replica, news);
+            let (seen, front) = catch_up(book, replica, buffer);
             Seen(seen, front)
         }
         Offers(number, mv) => {
@@ -76,6 +79,12 @@ fn act(
                 return Said(None);
             }
             Said(offer(book, replica, options, &mv, number))
+        }
+        Prices(number, mv, reads) => {
+            if !is_in_range(inst, &mv) {
+                return Rests(false);
+            }
+            Rests(rests_on(book, replica, &mv, number, reads))
         }
     }
 }
@@ -87,7 +96,7 @@ fn act_by(
     zero: &mut Replica<'_>,
     one: &mut Replica<'_>,
     options: &Options,
-    news: &mut News,
+    buffer: &mut Buffer,
     worker: u32,
     step: &Step,
 ) -> Told
@@ -100,9 +109,9 @@ fn act_by(
     ensures one { IsReplicaIn book.old.base book.new.entries one.new }
 {
     if worker == 0 {
-        act(inst, book, zero, options, news, step)
+        act(inst, book, zero, options, buffer, step)
     } else {
-        act(inst, book, one, options, news, step)
+        act(inst, book, one, options, buffer, step)
     }
 }
 
@@ -113,7 +122,7 @@ fn act_all(
     zero: &mut Replica<'_>,
     one: &mut Replica<'_>,
     options: &Options,
-    news: &mut News,
+    buffer: &mut Buffer,
     rows: &[Row],
 ) -> bool
     requires instance { inst.now.draft ≡ book.old.base.instance }
@@ -123,7 +132,7 @@ fn act_all(
     ensures base { book.new.base ≡ book.old.base }
 {
     for (worker, step, expected) in rows {
-        if act_by(inst, book, zero, one, options, news, *worker, step) != *expected {
+        if act_by(inst, book, zero, one, options, buffer, *worker, step) != *expected {
             return false;
         }
     }
@@ -146,10 +155,10 @@ fn act_first(
     requires empty { book.old.entries ≡ [] }
     ensures base { book.new.base ≡ book.old.base }
 {
-    let mut news = News::new(alloc)?;
+    let mut buffer = Buffer::new(alloc)?;
     let mut zero = Replica::new(alloc, inst, start, options, freeze, 0)?;
     let mut one = Replica::new(alloc, inst, start, options, freeze, 1)?;
-    Ok(act_all(inst, book, &mut zero, &mut one, options, &mut news, rows))
+    Ok(act_all(inst, book, &mut zero, &mut one, options, &mut buffer, rows))
 }
 
 // The bill of the start.
@@ -160,7 +169,44 @@ fn first_bill(alloc: Global, inst: &Instance, start: &Plan) -> Result<Bill, Allo
     Ok(Ledgers::new(alloc, inst, start)?.total())
 }
 
-// Whether the rows come out so over one book, and the entries at these places then have these prices.
+fn new_book<'a>(
+    alloc: Global,
+    inst: &'a Instance,
+    start: &'a Plan,
+    options: &Options,
+    freeze: u32,
+) -> Result<Book<'a>, AllocError>
+    requires start { IsPlanOf inst.now.draft start.now }
+    requires lawful { IsLawful options.now }
+    ensures { let base = base_with inst.now.draft start.now options.now freeze in
+        IfOk result (λ k. k ≡ record { base = base; entries = [] }) }
+{
+    let first = first_bill(alloc, inst, start)?;
+    Book::new(alloc, inst, start, &first, options, freeze)
+}
+
+// Whether the rows come out so over a new book, and the entries at these places then have these prices.
+fn come_out(
+    alloc: Global,
+    inst: &Instance,
+    start: &Plan,
+    book: &mut Book<'_>,
+    options: &Options,
+    freeze: u32,
+    rows: &[Row],
+    prices: &[Priced],
+) -> bool
+    requires start { IsPlanOf inst.now.draft start.now }
+    requires lawful { IsLawful options.now }
+    requires base { book.old.base ≡ base_with inst.now.draft start.now options.now freeze }
+    requires empty { book.old.entries ≡ [] }
+{
+    match act_first(alloc, inst, start, book, options, freeze, rows) {
+        Ok(told) => told && have_prices(book.entries(), prices),
+        Err(_) => false,
+    }
+}
+
 fn play(
     alloc: Global,
     inst: &Instance,
@@ -169,14 +215,14 @@ fn play(
     freeze: u32,
     rows: &[Row],
     prices: &[Priced],
-) -> Result<bool, AllocError>
+) -> bool
     requires start { IsPlanOf inst.now.draft start.now }
     requires lawful { IsLawful options.now }
 {
-    let first = first_bill(alloc, inst, start)?;
-    let mut book = Book::new(alloc, inst, start, &first, options, freeze)?;
-    let told = act_first(alloc, inst, start, &mut book, options, freeze, rows)?;
-    Ok(told && have_prices(book.entries(), prices))
+    match new_book(alloc, inst, start, options, freeze) {
+        Ok(mut book) => come_out(alloc, inst, start, &mut book, options, freeze, rows, prices),
+        Err(_) => false,
+    }
 }
 
 const ACCEPTED: Told = Said(Some(Verdict::Accepted));
@@ -264,34 +310,31 @@ const FROZEN_PRICES: [Priced; 2] = [
     (2, [0, 0, 0, 0, 0, 0, 0, 0, -3], [0, 0, 0, 0, -1, 0, -1, 1]),
 ];
 
+// A price behind another's entry rests on the same cells, but for the night's nurse, at the versions that the entry
+// raised.
+const BEHIND: [Row; 4] = [
+    (0, Prices(0, JOIN, &READS), Rests(true)),
+    (1, Offers(0, SECOND_NURSE), ACCEPTED),
+    (0, Looks, Seen(1, 1)),
+    (0, Prices(0, JOIN, &READS_BEHIND), Rests(true)),
+];
+
 // Whether each of these comes out so.
-fn come_out_so(alloc: Global, inst: &Instance, start: &Plan) -> Result<bool, AllocError>
+fn come_out_so(alloc: Global, inst: &Instance, start: &Plan) -> bool
     requires { IsPlanOf inst.now.draft start.now }
 {
-    Ok(
-        play(
-            alloc,
-            inst,
-            start,
-            &hot(2, 2, 1),
-            0,
-            &COMES_AGAIN,
-            &AGAIN_PRICES,
-        )? && play(alloc, inst, start, &hot(2, 2, 0), 0, &TRACE, &TRACE_PRICES)?
-            && play(alloc, inst, start, &hot(2, 2, 0), 0, &BOTH, &BOTH_PRICES)?
-            && play(
-                alloc,
-                inst,
-                start,
-                &hot(1, 3, 0),
-                1,
-                &FROZEN,
-                &FROZEN_PRICES,
-            )?,
-    )
+    let twice = hot(2, 2, 1);
+    let once = hot(2, 2, 0);
+    let alone = hot(1, 3, 0);
+    play(alloc, inst, start, &twice, 0, &COMES_AGAIN, &AGAIN_PRICES)
+        && play(alloc, inst, start, &once, 0, &TRACE, &TRACE_PRICES)
+        && play(alloc, inst, start, &once, 0, &BOTH, &BOTH_PRICES)
+        && play(alloc, inst, start, &once, 0, &BEHIND, &[])
+        && play(alloc, inst, start, &alone, 1, &FROZEN, &FROZEN_PRICES)
 }
 
-// What the first worker's price of joining the first patient rests on.
+// What the first worker's price of joining the first patient rests on: the stay, the room and the theatre on the day,
+// the surgeon's day, the room and its nurse in three shifts, and who cares for the patient.
 const READS: [(u32, u32); 11] = [
     (1, 0),
     (2, 0),
@@ -306,14 +349,39 @@ const READS: [(u32, u32); 11] = [
     (37, 0),
 ];
 
-// Whether a price rests on what is read.
-fn rests_on_what_is_read(alloc: Global, inst: &Instance, start: &Plan) -> Result<bool, AllocError>
+// The same once the second nurse has the first room in the first night.
+const READS_BEHIND: [(u32, u32); 11] = [
+    (1, 0),
+    (2, 0),
+    (8, 0),
+    (10, 0),
+    (12, 0),
+    (13, 0),
+    (14, 1),
+    (24, 0),
+    (25, 0),
+    (32, 1),
+    (37, 0),
+];
+
+// Whether the price of joining rests on what is read.
+fn is_priced(inst: &Instance, replica: &mut Replica<'_>) -> bool
+    requires { replica.old.base.instance ≡ inst.now.draft }
+{
+    let price = (CROWDED, [1, 6, 1, 3, 1, 1, 0, -1]);
+    is_in_range(inst, &JOIN) && is(replica.price(&JOIN, 0), (0, 0, 0), &price, &READS)
+}
+
+fn rests_on_what_is_read(alloc: Global, inst: &Instance, start: &Plan) -> bool
     requires { IsPlanOf inst.now.draft start.now }
 {
-    let mut zero: Replica<'_> = Replica::new(alloc, inst, start, &hot(2, 2, 0), 0, 0)?;
-    share(&zero);
-    let price = (CROWDED, [1, 6, 1, 3, 1, 1, 0, -1]);
-    Ok(is_in_range(inst, &JOIN) && is(zero.price(&JOIN, 0), (0, 0, 0), &price, &READS))
+    match Replica::new(alloc, inst, start, &hot(2, 2, 0), 0, 0) {
+        Ok(mut zero) => {
+            share(&zero);
+            is_priced(inst, &mut zero)
+        }
+        Err(_) => false,
+    }
 }
 
 // Whether the versions are those of an accepted entry that changed the first room in the first night, not in the first
@@ -324,35 +392,59 @@ fn are_raised(book: &Book<'_>, cells: u32) -> bool
     cells > 14 && book.versions(14) == 1 && book.versions(12) == 0
 }
 
-// Whether an accepted entry raises the versions of what it touches and a stale one doesn't, and both are copied, but
-// the accepted one alone is told.
-fn accepted_entries_raise_versions(
+// Whether both of two entries are copied, and none behind them.
+fn are_copied(book: &Book<'_>, buffer: &mut Buffer) -> bool {
+    if book.entries().len() != 2 {
+        return false;
+    }
+    book.copy_since(0, buffer);
+    let both = buffer.entries().len() == 2 && buffer.front() == 2;
+    book.copy_since(2, buffer);
+    both && buffer.entries().is_empty()
+}
+
+fn are_kept(alloc: Global, book: &Book<'_>, cells: u32) -> bool
+    requires { cells ≤ cell_count book.now.base.instance }
+{
+    match Buffer::new(alloc) {
+        Ok(mut buffer) => are_raised(book, cells) && are_copied(book, &mut buffer),
+        Err(_) => false,
+    }
+}
+
+// An accepted entry, and one that it makes stale.
+const ONE_STALE: [Row; 2] = [
+    (1, Offers(0, SECOND_NURSE), ACCEPTED),
+    (0, Offers(0, JOIN), ONCE_STALE),
+];
+
+fn raises_versions(
     alloc: Global,
     inst: &Instance,
     start: &Plan,
-) -> Result<bool, AllocError>
+    book: &mut Book<'_>,
+    options: &Options,
+) -> bool
+    requires start { IsPlanOf inst.now.draft start.now }
+    requires lawful { IsLawful options.now }
+    requires base { book.old.base ≡ base_with inst.now.draft start.now options.now 0 }
+    requires empty { book.old.entries ≡ [] }
+{
+    match act_first(alloc, inst, start, book, options, 0, &ONE_STALE) {
+        Ok(told) => told && are_kept(alloc, book, Numbering::of(inst).count()),
+        Err(_) => false,
+    }
+}
+
+// Whether an accepted entry raises the versions of what it touches and a stale one doesn't, and both are copied.
+fn accepted_entries_raise_versions(alloc: Global, inst: &Instance, start: &Plan) -> bool
     requires { IsPlanOf inst.now.draft start.now }
 {
     let options = hot(2, 2, 0);
-    let first = first_bill(alloc, inst, start)?;
-    let mut book = Book::new(alloc, inst, start, &first, &options, 0)?;
-    let rows = [
-        (1, Offers(0, SECOND_NURSE), ACCEPTED),
-        (0, Offers(0, JOIN), ONCE_STALE),
-    ];
-    let told = act_first(alloc, inst, start, &mut book, &options, 0, &rows)?;
-    let raised = are_raised(&book, Numbering::of(inst).count());
-    let mut buffer = Buffer::new(alloc)?;
-    book.copy_since(0, &mut buffer);
-    let both = buffer.entries().len() == 2 && buffer.front() == 2;
-    let mut news: News = News::new(alloc)?;
-    book.news_since(0, &mut news);
-    let one = news.accepted().len() == 1 && news.until() == 2 && news.front() == 2;
-    if book.entries().len() != 2 {
-        return Ok(false);
+    match new_book(alloc, inst, start, &options, 0) {
+        Ok(mut book) => raises_versions(alloc, inst, start, &mut book, &options),
+        Err(_) => false,
     }
-    book.copy_since(2, &mut buffer);
-    Ok(told && raised && both && one && buffer.entries().is_empty())
 }
 
 // A worker's offers of moves that do nothing, each after a look, and then four looks of another.
@@ -380,26 +472,59 @@ fn are_untouched(book: &Book<'_>, cells: u32) -> bool
     true
 }
 
-// Whether looks tell of 256 accepted entries each, and 600 moves that do nothing touch no cell and change no timetable.
-fn looks_show_256_each(alloc: Global, inst: &Instance, start: &Plan) -> Result<bool, AllocError>
+fn are_idle(
+    alloc: Global,
+    inst: &Instance,
+    start: &Plan,
+    book: &mut Book<'_>,
+    options: &Options,
+    rows: &[Row],
+) -> bool
+    requires start { IsPlanOf inst.now.draft start.now }
+    requires lawful { IsLawful options.now }
+    requires base { book.old.base ≡ base_with inst.now.draft start.now options.now 0 }
+    requires empty { book.old.entries ≡ [] }
+{
+    match act_first(alloc, inst, start, book, options, 0, rows) {
+        Ok(told) => {
+            told && book.best() == Some((0, 159))
+                && are_untouched(book, Numbering::of(inst).count())
+        }
+        Err(_) => false,
+    }
+}
+
+fn come_out_idle(alloc: Global, inst: &Instance, start: &Plan, rows: &[Row]) -> bool
     requires { IsPlanOf inst.now.draft start.now }
 {
     let options = hot(2, 700, 0);
-    let first = first_bill(alloc, inst, start)?;
-    let mut book = Book::new(alloc, inst, start, &first, &options, 0)?;
-    let rows = idle_rows(alloc, 600)?;
-    let told = act_first(alloc, inst, start, &mut book, &options, 0, rows.as_slice())?;
-    Ok(told && book.best() == Some((0, 159)) && are_untouched(&book, Numbering::of(inst).count()))
+    match new_book(alloc, inst, start, &options, 0) {
+        Ok(mut book) => are_idle(alloc, inst, start, &mut book, &options, rows),
+        Err(_) => false,
+    }
+}
+
+// Whether looks show 256 entries each, and 600 moves that do nothing touch no cell and change no timetable.
+fn looks_show_256_each(alloc: Global, inst: &Instance, start: &Plan) -> bool
+    requires { IsPlanOf inst.now.draft start.now }
+{
+    match idle_rows(alloc, 600) {
+        Ok(rows) => come_out_idle(alloc, inst, start, rows.as_slice()),
+        Err(_) => false,
+    }
+}
+
+fn hold(alloc: Global, inst: &Instance, start: &Plan) -> bool
+    requires { IsPlanOf inst.now.draft start.now }
+{
+    rests_on_what_is_read(alloc, inst, start)
+        && accepted_entries_raise_versions(alloc, inst, start)
+        && come_out_so(alloc, inst, start)
+        && looks_show_256_each(alloc, inst, start)
 }
 
 #[test]
-fn workers_see_what_others_touched(rt: HostRuntime) -> Result<(), Fail> {
+fn workers_see_what_others_touched(rt: HostRuntime) {
     let alloc = rt.alloc();
-    let inst = two_patients(alloc, &[])?;
-    let start = first_admitted(alloc, &inst)?;
-    assert!(rt; rests_on_what_is_read(alloc, &inst, &start)?);
-    assert!(rt; accepted_entries_raise_versions(alloc, &inst, &start)?);
-    assert!(rt; come_out_so(alloc, &inst, &start)?);
-    assert!(rt; looks_show_256_each(alloc, &inst, &start)?);
-    Ok(())
+    assert!(rt; on_first_admitted(alloc, |inst, start| hold(alloc, inst, start)));
 }
