@@ -9,7 +9,7 @@ ghost use Rattle.ih_cellbook.specs.Offers.{next_number};
 ghost use Rattle.ih_cellbook.specs.Replicas.{IsReplicaIn};
 ghost use Rattle.ih_cellbook.specs.Snapshot.{Snapshot};
 
-use ih_cellbook::{Book, Buffer, Offer};
+use ih_cellbook::{Book, News, Offer};
 use ih_journal::{Entry, Options, Verdict};
 use ih_plan::Move;
 use ih_snapshot::Replica;
@@ -113,19 +113,15 @@ pub(crate) fn rests_on(
     offer.reads.as_slice() == reads
 }
 
-/// The replica takes over what the book has past it, or the first 256 entries of that. Answers how many it has then
-/// seen, and how many the book has.
-pub(crate) fn catch_up(
-    book: &Book<'_>,
-    replica: &mut Replica<'_>,
-    buffer: &mut Buffer,
-) -> (u32, u32)
+/// The replica takes over what the book tells past it, with at most 256 accepted entries. Answers how many entries it
+/// has then seen, and how many the book has.
+pub(crate) fn catch_up(book: &Book<'_>, replica: &mut Replica<'_>, news: &mut News) -> (u32, u32)
     requires replica { IsReplicaIn book.now.base book.now.entries replica.old }
     ensures { IsReplicaIn book.now.base book.now.entries replica.new }
 {
     // For the proof alone: the entries are legal.
     book.entries();
-    book.copy_since(replica.seen(), buffer);
-    replica.advance(buffer.entries());
-    (replica.seen(), buffer.front())
+    book.news_since(replica.seen(), news);
+    replica.follow(news.accepted(), news.until());
+    (replica.seen(), news.front())
 }

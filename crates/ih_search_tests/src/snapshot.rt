@@ -13,7 +13,7 @@ use crate::rounds::{catch_up, offer, rests_on};
 use crate::steps::{
     FIRST_NURSE, JOIN, SECOND_NURSE, TWICE_STALE, have_prices, hot, is, is_in_range,
 };
-use ih_cellbook::{Book, Buffer};
+use ih_cellbook::{Book, Buffer, News};
 use ih_costs::Ledgers;
 use ih_fixtures::on_first_admitted;
 use ih_footprint::Numbering;
@@ -59,7 +59,7 @@ fn act(
     book: &mut Book<'_>,
     replica: &mut Replica<'_>,
     options: &Options,
-    buffer: &mut Buffer,
+    news: &mut News,
     step: &Step,
 ) -> Told
     requires instance { inst.now.draft ≡ book.old.base.instance }
@@ -71,7 +71,7 @@ fn act(
 {
     match *step {
         Looks => {
-            let (seen, front) = catch_up(book, replica, buffer);
+            let (seen, front) = catch_up(book, replica, news);
             Seen(seen, front)
         }
         Offers(number, mv) => {
@@ -96,7 +96,7 @@ fn act_by(
     zero: &mut Replica<'_>,
     one: &mut Replica<'_>,
     options: &Options,
-    buffer: &mut Buffer,
+    news: &mut News,
     worker: u32,
     step: &Step,
 ) -> Told
@@ -109,9 +109,9 @@ fn act_by(
     ensures one { IsReplicaIn book.old.base book.new.entries one.new }
 {
     if worker == 0 {
-        act(inst, book, zero, options, buffer, step)
+        act(inst, book, zero, options, news, step)
     } else {
-        act(inst, book, one, options, buffer, step)
+        act(inst, book, one, options, news, step)
     }
 }
 
@@ -122,7 +122,7 @@ fn act_all(
     zero: &mut Replica<'_>,
     one: &mut Replica<'_>,
     options: &Options,
-    buffer: &mut Buffer,
+    news: &mut News,
     rows: &[Row],
 ) -> bool
     requires instance { inst.now.draft ≡ book.old.base.instance }
@@ -132,7 +132,7 @@ fn act_all(
     ensures base { book.new.base ≡ book.old.base }
 {
     for (worker, step, expected) in rows {
-        if act_by(inst, book, zero, one, options, buffer, *worker, step) != *expected {
+        if act_by(inst, book, zero, one, options, news, *worker, step) != *expected {
             return false;
         }
     }
@@ -155,10 +155,10 @@ fn act_first(
     requires empty { book.old.entries ≡ [] }
     ensures base { book.new.base ≡ book.old.base }
 {
-    let mut buffer = Buffer::new(alloc)?;
+    let mut news = News::new(alloc)?;
     let mut zero = Replica::new(alloc, inst, start, options, freeze, 0)?;
     let mut one = Replica::new(alloc, inst, start, options, freeze, 1)?;
-    Ok(act_all(inst, book, &mut zero, &mut one, options, &mut buffer, rows))
+    Ok(act_all(inst, book, &mut zero, &mut one, options, &mut news, rows))
 }
 
 // The bill of the start.
@@ -403,11 +403,25 @@ fn are_copied(book: &Book<'_>, buffer: &mut Buffer) -> bool {
     both && buffer.entries().is_empty()
 }
 
+// Whether one of two entries is told, and that there are two.
+fn is_told(alloc: Global, book: &Book<'_>) -> bool {
+    match News::new(alloc) {
+        Ok(mut news) => {
+            let news: &mut News = &mut news;
+            book.news_since(0, news);
+            news.accepted().len() == 1 && news.until() == 2 && news.front() == 2
+        }
+        Err(_) => false,
+    }
+}
+
 fn are_kept(alloc: Global, book: &Book<'_>, cells: u32) -> bool
     requires { cells ≤ cell_count book.now.base.instance }
 {
     match Buffer::new(alloc) {
-        Ok(mut buffer) => are_raised(book, cells) && are_copied(book, &mut buffer),
+        Ok(mut buffer) => {
+            are_raised(book, cells) && are_copied(book, &mut buffer) && is_told(alloc, book)
+        }
         Err(_) => false,
     }
 }

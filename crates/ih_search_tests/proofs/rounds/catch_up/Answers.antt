@@ -1,19 +1,26 @@
-use Rattle.std.proofs.Common.{◌∙◌, ap, sym, subst, take, drop}
-use Rattle.ih_cellbook.specs.Copied.{Copied, most_copied}
-use Rattle.ih_cellbook.specs.Replicas.{MayFollow, StandsAfter}
-use Rattle.ih_cellbook.proofs.Within.{next-follow, stands-further}
+use Rattle.std.proofs.Common.{sym, subst}
+use Rattle.ih_cellbook.specs.Replicas.{MayFollowUpTo, StandsUpTo}
+use Rattle.ih_cellbook.specs.Told.{TellsOf}
+use Rattle.ih_cellbook.proofs.Within.{told-follow, told-further}
 use Rattle.ih_search_tests.proofs.rounds.catch_up.Goals as goal
 
-pub advance-requires : goal.advance-requires
-advance-requires c =
+pub follow-requires : goal.follow-requires
+follow-requires c =
     let v = c.args.book.now in
     let r = c.args.replica.now in
-    let copied = c.entries-2.ensures ∙ ap (λ (b : Copied). b.entries) c.copy_since.ensures.copied ∙ ap (λ k. take most_copied (drop k v.entries)) c.seen.ensures in
-    record { follow = subst (MayFollow r) (sym copied) (next-follow v.base v.entries r c.requires.replica most_copied c.entries.ensures.legal) }
+    let n = c.news_since.new.news in
+    let told = subst (λ k. TellsOf v.entries k n) c.seen.ensures c.news_since.ensures in
+    record {
+      follow = subst (λ es. MayFollowUpTo r es c.until.result) (sym c.accepted.ensures)
+          (subst (MayFollowUpTo r n.accepted) (sym c.until.ensures) (told-follow v.base v.entries r c.requires.replica n c.entries.ensures.legal told));
+    }
 
 pub returns : goal.returns
 returns c =
     let v = c.args.book.now in
     let r = c.args.replica.now in
-    let copied = c.entries-2.ensures ∙ ap (λ (b : Copied). b.entries) c.copy_since.ensures.copied ∙ ap (λ k. take most_copied (drop k v.entries)) c.seen.ensures in
-    stands-further v.base v.entries r c.requires.replica most_copied c.advance.new.self c.entries.ensures.legal (subst (λ es. StandsAfter r es c.advance.new.self) copied c.advance.ensures.replica)
+    let s = c.follow.new.self in
+    let n = c.news_since.new.news in
+    let told = subst (λ k. TellsOf v.entries k n) c.seen.ensures c.news_since.ensures in
+    let later = subst (λ es. StandsUpTo r es n.until s) c.accepted.ensures (subst (λ k. StandsUpTo r _ k s) c.until.ensures c.follow.ensures.replica) in
+    told-further v.base v.entries r c.requires.replica n c.entries.ensures.legal told s later
