@@ -178,14 +178,14 @@ type Row = (&'static str, &'static str, Refused);
 
 // Whether a call over the ward and a journal, in which `to` stands where `from` stood, ends so and leaves this
 // solution.
-fn leaves<R: Files + Print + Threads + Wait + Sync>(
+fn leaves<'x, R: Files + Print + Threads + Wait + Sync>(
     rt: &R,
     alloc: Global,
-    words: &str,
-    changed: &(&str, &str, &str),
+    words: &'x str,
+    changed: &(&'x str, &'x str, &'x str),
     status: Status,
-    text: &str,
-    solution: Option<&str>,
+    text: &'x str,
+    solution: Option<&'x str>,
 ) -> bool {
     let (journal, from, to) = *changed;
     let events = [
