@@ -22,5 +22,6 @@ returns c =
     let s = c.follow.new.self in
     let n = c.news_since.new.news in
     let told = subst (λ k. TellsOf v.entries k n) c.seen.ensures c.news_since.ensures in
-    let later = subst (λ es. StandsUpTo r es n.until s) c.accepted.ensures (subst (λ k. StandsUpTo r _ k s) c.until.ensures c.follow.ensures.replica) in
+    let told_by = subst (λ es. StandsUpTo r es c.until.result s) c.accepted.ensures c.follow.ensures.replica in
+    let later = subst (λ k. StandsUpTo r n.accepted k s) c.until.ensures told_by in
     told-further v.base v.entries r c.requires.replica n c.entries.ensures.legal told s later
