@@ -22,8 +22,8 @@ use Rattle.ih_plan.proofs.Parts.{total, has_parts}
 use Rattle.ih_plan.proofs.PlanRanges.{put-plan}
 use Rattle.ih_footprint.proofs.LocalPrices.{differences-same}
 use Rattle.ih_nurses.specs.Choice.{excess_of, seen_by, rise_by_choice}
-use Rattle.ih_costs.specs.Numbers.{mixed_gender, incompatible_room, surgeon_overrun, theatre_overrun, unscheduled_mandatory, admission_window, room_capacity, nurse_presence, uncovered_room}
-use Rattle.ih_costs.specs.Numbers.{mixed_age, nurse_skill, continuity_of_care, excess_workload, open_theatre, surgeon_transfer, patient_delay, unscheduled_optional}
+use Rattle.ih_tables.specs.BillNumbers.{mixed_gender, incompatible_room, surgeon_overrun, theatre_overrun, unscheduled_mandatory, admission_window, room_capacity, nurse_presence, uncovered_room}
+use Rattle.ih_tables.specs.BillNumbers.{mixed_age, nurse_skill, continuity_of_care, excess_workload, open_theatre, surgeon_transfer, patient_delay, unscheduled_optional}
 use Rattle.ih_costs.specs.StayGain.{rule_at, cost_at}
 use Rattle.ih_costs.specs.ChoiceGain.{choice_told}
 use Rattle.ih_costs.proofs.ChoiceLemmas.{number_of, loads_by, cares_by, choice_by, number-choice}

@@ -17,7 +17,7 @@ use Rattle.ih_plan.specs.Cells.{part_at}
 use Rattle.ih_plan.proofs.CellNumbers.{room_day_cell, room_shift_cell}
 use Rattle.ih_nurses.specs.Choice.{excess_of}
 use Rattle.ih_nurses.specs.Gains.{excess_in, rise_by_placement}
-use Rattle.ih_costs.specs.Numbers.{mixed_gender, room_capacity, uncovered_room, mixed_age, nurse_skill, excess_workload}
+use Rattle.ih_tables.specs.BillNumbers.{mixed_gender, room_capacity, uncovered_room, mixed_age, nurse_skill, excess_workload}
 use Rattle.ih_costs.specs.StayGain.{rule_at, cost_at, of_nurse}
 use Rattle.ih_costs.proofs.GainSteps.{IsRisen, handed, rule-risen, rule-fits, cost-risen, cost-fits, count-risen, count-fits}
 

@@ -15,8 +15,8 @@ use Rattle.ih_plan.specs.Cells.{part_at}
 use Rattle.ih_plan.proofs.Entries.{stay_of-same}
 use Rattle.ih_plan.proofs.CellNumbers.{stay_cell, theatre_day_cell, surgeon_day_cell, care_cell}
 use Rattle.ih_costs.specs.Changes.{stay_part}
-use Rattle.ih_costs.specs.Numbers.{mixed_gender, incompatible_room, surgeon_overrun, theatre_overrun, unscheduled_mandatory, admission_window, room_capacity, uncovered_room}
-use Rattle.ih_costs.specs.Numbers.{mixed_age, nurse_skill, continuity_of_care, excess_workload, open_theatre, surgeon_transfer, patient_delay, unscheduled_optional}
+use Rattle.ih_tables.specs.BillNumbers.{mixed_gender, incompatible_room, surgeon_overrun, theatre_overrun, unscheduled_mandatory, admission_window, room_capacity, uncovered_room}
+use Rattle.ih_tables.specs.BillNumbers.{mixed_age, nurse_skill, continuity_of_care, excess_workload, open_theatre, surgeon_transfer, patient_delay, unscheduled_optional}
 use Rattle.ih_costs.specs.StayGain.{rule_at, cost_at, rise, of_surgeon, over_days, over_shifts, over_loads, of_surgery, placement_gain}
 use Rattle.ih_costs.proofs.ChangeLemmas.{stay-is}
 use Rattle.ih_costs.proofs.DayGains.{placed, without}

@@ -14,7 +14,7 @@ use Rattle.ih_plan.specs.Presence.{present, day_of}
 use Rattle.ih_plan.specs.BillOf.{change_of_bill}
 use Rattle.ih_plan.specs.Cells.{part_at}
 use Rattle.ih_nurses.specs.Choice.{excess_of, seen_by, rise_by_choice}
-use Rattle.ih_costs.specs.Numbers.{nurse_presence, uncovered_room, nurse_skill}
+use Rattle.ih_tables.specs.BillNumbers.{nurse_presence, uncovered_room, nurse_skill}
 use Rattle.ih_costs.specs.StayGain.{rule_at, cost_at}
 
 -- by how much each number rises; rules and costs that rest on no nurses stay

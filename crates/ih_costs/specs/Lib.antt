@@ -2,7 +2,6 @@ pub mod Changes
 pub mod CellLedgers
 pub mod ChoiceGain
 pub mod Standing
-pub mod Numbers
 pub mod StayGain
 pub mod AtOnce
 pub mod Undo

@@ -13,8 +13,8 @@ use Rattle.ih_plan.specs.Persons.{person_of}
 use Rattle.ih_plan.specs.Costs.{surgeon_of}
 use Rattle.ih_plan.specs.Sums.{sum_below}
 use Rattle.ih_plan.specs.BillOf.{Counts, as_bill, change_of_bill}
-use Rattle.ih_costs.specs.Numbers.{mixed_gender, incompatible_room, surgeon_overrun, theatre_overrun, unscheduled_mandatory, admission_window, room_capacity, nurse_presence, uncovered_room}
-use Rattle.ih_costs.specs.Numbers.{mixed_age, nurse_skill, continuity_of_care, excess_workload, open_theatre, surgeon_transfer, patient_delay, unscheduled_optional}
+use Rattle.ih_tables.specs.BillNumbers.{mixed_gender, incompatible_room, surgeon_overrun, theatre_overrun, unscheduled_mandatory, admission_window, room_capacity, nurse_presence, uncovered_room}
+use Rattle.ih_tables.specs.BillNumbers.{mixed_age, nurse_skill, continuity_of_care, excess_workload, open_theatre, surgeon_transfer, patient_delay, unscheduled_optional}
 use Rattle.ih_plan.specs.Cells.{part_at}
 
 -- f a + .. + f (b - 1)

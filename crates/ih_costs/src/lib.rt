@@ -8,7 +8,6 @@ mod copies;
 mod feet;
 mod laws;
 mod ledgers;
-mod numbers;
 mod parts;
 mod pricing;
 mod row_feet;

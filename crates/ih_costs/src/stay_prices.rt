@@ -2,6 +2,7 @@
 
 ghost use Rattle.std.specs.Prelude.{◌≡◌, ◌+◌, ◌<◌, ◌≤◌, ◌^◌, min, Some};
 ghost use Rattle.ih_tables.specs.Sizes.{patient_count};
+ghost use Rattle.ih_tables.specs.BillNumbers.{mixed_gender, room_capacity, uncovered_room, mixed_age, nurse_skill, excess_workload};
 ghost use Rattle.ih_tables.specs.Bills.{IsWithin};
 ghost use Rattle.ih_plan.specs.declared.moves.Write.TheVariants.{SetStay};
 ghost use Rattle.ih_plan.specs.Timetable.{IsPlacement, stay_of};
@@ -11,17 +12,16 @@ ghost use Rattle.ih_plan.specs.Persons.{person_of};
 ghost use Rattle.ih_costs.specs.CellLedgers.{AreLedgers, timetable_of};
 ghost use Rattle.ih_costs.specs.StayGain.{rise, rule_at, cost_at, over_days, over_shifts, over_loads};
 ghost use Rattle.ih_costs.specs.StayGain.{of_surgery, placement_gain, stay_gain};
-ghost use Rattle.ih_costs.specs.Numbers.{mixed_gender, room_capacity, uncovered_room, mixed_age, nurse_skill, excess_workload};
 
 use crate::cell_ledgers::CellLedgers;
-use crate::numbers::{
+use crate::stays::stay_change;
+use ih_nurses::Visit;
+use ih_plan::Placement;
+use ih_tables::bill_numbers::{
     ADMISSION_WINDOW, CONTINUITY_OF_CARE, INCOMPATIBLE_ROOM, MIXED_AGE, MIXED_GENDER, OPEN_THEATRE,
     PATIENT_DELAY, ROOM_CAPACITY, SURGEON_OVERRUN, SURGEON_TRANSFER, THEATRE_OVERRUN,
     UNSCHEDULED_MANDATORY, UNSCHEDULED_OPTIONAL,
 };
-use crate::stays::stay_change;
-use ih_nurses::Visit;
-use ih_plan::Placement;
 use ih_tables::{Bill, Day, Instance, PatientNo, Shift};
 
 // What a room has more over the days of a placement: mixed genders, persons above its capacity, spread of ages.

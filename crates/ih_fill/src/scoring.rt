@@ -7,6 +7,7 @@ ghost use Rattle.ih_plan.specs.Fill.{without_uncovered};
 use crate::candidates::Candidate;
 use ih_costs::Ledgers;
 use ih_plan::{Placement, Plan, Write};
+use ih_tables::bill_numbers::UNCOVERED_ROOM;
 use ih_tables::{Bill, Day, Instance, NurseNo, PatientNo, RoomNo, Shift};
 use std::alloc::{AllocError, Global};
 use std::marker::Model;
@@ -39,7 +40,7 @@ fn without_uncovered(bill: &Bill) -> Bill
     ensures within { IsWithin (10 ^ 11) result }
 {
     let mut v = bill.v;
-    v[8] = 0;
+    v[UNCOVERED_ROOM] = 0;
     Bill { v, s: bill.s }
 }
 

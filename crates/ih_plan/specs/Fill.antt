@@ -22,7 +22,7 @@ use Rattle.ih_plan.specs.Sums.{which_below}
 
 -- the bill with no broken rule on uncovered rooms
 abbrev pub without_uncovered : Bill → Bill
-without_uncovered b = record b { v = take 8 b.v ++ pos 0 ∷ [] }
+without_uncovered b = record b { v = take uncovered_room b.v ++ pos 0 ∷ [] }
 
 -- the score of what a write changes in the bill, as `view` shows it
 abbrev pub write_score : Draft → ℕ → (Bill → Bill) → Timetable → Write → ℤ

@@ -1,3 +1,4 @@
+pub mod BillNumbers
 pub mod Bills
 pub mod Lookups
 pub mod Places

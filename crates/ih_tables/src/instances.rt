@@ -1,6 +1,6 @@
 //! A valid instance, with the tables by which its names and loads are found.
 
-ghost use Rattle.std.specs.Prelude.{◌≡◌, map};
+ghost use Rattle.std.specs.Prelude.{◌≡◌, map, IfOk};
 ghost use Rattle.ih_tables.specs.declared.drafts.Room.{Room};
 ghost use Rattle.ih_tables.specs.declared.drafts.Nurse.{Nurse};
 ghost use Rattle.ih_tables.specs.declared.drafts.Patient.{Patient};
@@ -19,23 +19,47 @@ use crate::names::Name;
 use crate::rosters::roster_table;
 use std::alloc::{AllocError, Global};
 
+// The numbers of what a draft has, by ids.
+#[derive(Drop)]
+struct NumbersById {
+    patients: Names,
+    rooms: Names,
+    nurses: Names,
+    theatres: Names,
+    shift_types: Names,
+}
+
+// Those of a valid draft.
+fn numbers_by_id(alloc: Global, draft: &Draft) -> Result<NumbersById, AllocError>
+    requires { IsValid draft.now }
+    ensures patients { IfOk result (λ n. IsIndexOf n.patients (map (λ (p : Patient). p.id) draft.now.patients)) }
+    ensures rooms { IfOk result (λ n. IsIndexOf n.rooms (map (λ (r : Room). r.id) draft.now.rooms)) }
+    ensures nurses { IfOk result (λ n. IsIndexOf n.nurses (map (λ (m : Nurse). m.id) draft.now.nurses)) }
+    ensures theatres { IfOk result (λ n. IsIndexOf n.theatres (map (λ (t : Theatre). t.id) draft.now.operating_theaters)) }
+    ensures shift_types { IfOk result (λ n. IsIndexOf n.shift_types draft.now.shift_types) }
+{
+    Ok(NumbersById {
+        patients: numbers_of(alloc, draft.patients.as_slice())?,
+        rooms: numbers_of(alloc, draft.rooms.as_slice())?,
+        nurses: numbers_of(alloc, draft.nurses.as_slice())?,
+        theatres: numbers_of(alloc, draft.operating_theaters.as_slice())?,
+        shift_types: numbers_of(alloc, draft.shift_types.as_slice())?,
+    })
+}
+
 /// An instance whose data is valid. It never changes, and threads share it.
 #[derive(Drop)]
 pub struct Instance {
     pub draft: Draft,
-    patient_numbers: Names,
-    room_numbers: Names,
-    nurse_numbers: Names,
-    theatre_numbers: Names,
-    shift_type_numbers: Names,
+    numbers: NumbersById,
     loads: List<Option<u32>>,
     rosters: List<List<NurseNo>>,
     pub ghost valid: { IsValid draft },
-    ghost patients_found: { IsIndexOf patient_numbers (map (λ (p : Patient). p.id) draft.patients) },
-    ghost rooms_found: { IsIndexOf room_numbers (map (λ (r : Room). r.id) draft.rooms) },
-    ghost nurses_found: { IsIndexOf nurse_numbers (map (λ (n : Nurse). n.id) draft.nurses) },
-    ghost theatres_found: { IsIndexOf theatre_numbers (map (λ (t : Theatre). t.id) draft.operating_theaters) },
-    ghost shift_types_found: { IsIndexOf shift_type_numbers draft.shift_types },
+    ghost patients_found: { IsIndexOf numbers.patients (map (λ (p : Patient). p.id) draft.patients) },
+    ghost rooms_found: { IsIndexOf numbers.rooms (map (λ (r : Room). r.id) draft.rooms) },
+    ghost nurses_found: { IsIndexOf numbers.nurses (map (λ (n : Nurse). n.id) draft.nurses) },
+    ghost theatres_found: { IsIndexOf numbers.theatres (map (λ (t : Theatre). t.id) draft.operating_theaters) },
+    ghost shift_types_found: { IsIndexOf numbers.shift_types draft.shift_types },
     ghost loads_listed: { loads ≡ load_table draft },
     ghost working_listed: { rosters ≡ roster_table draft },
 }
@@ -56,20 +80,12 @@ impl Instance {
         requires { IsValid draft }
         ensures { IfOk result (λ i. i.draft ≡ draft) }
     {
-        let patient_numbers = numbers_of(alloc, draft.patients.as_slice())?;
-        let room_numbers = numbers_of(alloc, draft.rooms.as_slice())?;
-        let nurse_numbers = numbers_of(alloc, draft.nurses.as_slice())?;
-        let theatre_numbers = numbers_of(alloc, draft.operating_theaters.as_slice())?;
-        let shift_type_numbers = numbers_of(alloc, draft.shift_types.as_slice())?;
+        let numbers = numbers_by_id(alloc, &draft)?;
         let loads = load_table(alloc, &draft)?;
         let rosters = roster_table(alloc, &draft)?;
         Ok(Instance {
             draft,
-            patient_numbers,
-            room_numbers,
-            nurse_numbers,
-            theatre_numbers,
-            shift_type_numbers,
+            numbers,
             loads,
             rosters,
         })
@@ -80,7 +96,7 @@ impl Instance {
         ensures { option_map (λ p. p.0) result
             ≡ number_in (map (λ (p : Patient). p.id) self.now.draft.patients) id.now }
     {
-        self.patient_numbers.find(id).map(PatientNo)
+        self.numbers.patients.find(id).map(PatientNo)
     }
 
     /// The number of the room of this id, if there is one.
@@ -88,7 +104,7 @@ impl Instance {
         ensures { option_map (λ r. r.0) result
             ≡ number_in (map (λ (r : Room). r.id) self.now.draft.rooms) id.now }
     {
-        self.room_numbers.find(id).map(RoomNo)
+        self.numbers.rooms.find(id).map(RoomNo)
     }
 
     /// The number of the operating theatre of this id, if there is one.
@@ -96,7 +112,7 @@ impl Instance {
         ensures { option_map (λ t. t.0) result
             ≡ number_in (map (λ (t : Theatre). t.id) self.now.draft.operating_theaters) id.now }
     {
-        self.theatre_numbers.find(id).map(TheatreNo)
+        self.numbers.theatres.find(id).map(TheatreNo)
     }
 
     /// The number of the nurse of this id, if there is one.
@@ -104,14 +120,14 @@ impl Instance {
         ensures { option_map (λ n. n.0) result
             ≡ number_in (map (λ (n : Nurse). n.id) self.now.draft.nurses) id.now }
     {
-        self.nurse_numbers.find(id).map(NurseNo)
+        self.numbers.nurses.find(id).map(NurseNo)
     }
 
     /// The number of the shift type of this name, if there is one: 0 to 2.
     pub fn find_shift_type(&self, id: &str) -> Option<u32>
         ensures { result ≡ number_in self.now.draft.shift_types id.now }
     {
-        self.shift_type_numbers.find(id)
+        self.numbers.shift_types.find(id)
     }
 
     /// The name of a shift type.

@@ -1,6 +1,7 @@
 //! The tables of an instance: ids, the instance itself, bills, cells and refusals.
 #![tactic(auto)]
 
+pub mod bill_numbers;
 mod bills;
 mod cells;
 mod checks;

@@ -1,4 +1,4 @@
-//! The seventeen numbers of a bill by name: where each stands.
+//! The seventeen numbers of a bill by name: the place of each.
 
 // In `Bill::v`, the broken rules.
 
