@@ -33,7 +33,7 @@ use Rattle.ih_journal.proofs.Mapped.{get-mapped}
 use Rattle.ih_journal.proofs.JournalTexts.{journals-differ}
 use Rattle.ih_journal.proofs.TextLengths.{IsShortEntry, IsShortPrice, IsShortVerdict, journal-length}
 use Rattle.ih_cellbook.specs.Keeping.{IsBase}
-use Rattle.ih_cellbook.specs.Laws.{IsSearchBase, LegalHistoriesAreInRange, LegalJournalsAreShort, SearchesHaveTwoJournals}
+use Rattle.ih_cellbook.specs.Laws.{IsSearchBase, LegalHistoriesAreInRange, LegalJournalsAreShort, JournalsTellSearchesApart}
 use Rattle.ih_cellbook.specs.Legal.{AreLegalButDraws}
 use Rattle.ih_cellbook.proofs.Committing.{footprint-below, legal_but-moves}
 use Rattle.ih_cellbook.proofs.EntryLimits.{legal-few, next-below}
@@ -230,7 +230,7 @@ module _ (b : Base) (H : List Entry) (search : IsSearchBase b) (legal : AreLegal
 pub histories-in-range : LegalHistoriesAreInRange
 histories-in-range b H search legal = in-range b H search legal
 
-pub two-journals : SearchesHaveTwoJournals
+pub two-journals : JournalsTellSearchesApart
 two-journals b c H G one other same legal_H legal_G text =
     journals-differ b.instance one.valid b.options c.options H G (in-range b H one legal_H)
     (subst (λ (I : Draft). IsHistoryOf I c.options G) (sym same) (in-range c G other legal_G)) text

@@ -1,7 +1,7 @@
 //! Laws, each on a function that does nothing.
 
 ghost use Rattle.ih_cellbook.specs.Core.{SchedulesAreLegal};
-ghost use Rattle.ih_cellbook.specs.Laws.{AcceptedPricesAreExact, LegalHistoriesAreFew, LegalHistoriesAreInRange, LegalJournalsAreShort, RightOffersStayRight, SearchesHaveTwoJournals};
+ghost use Rattle.ih_cellbook.specs.Laws.{AcceptedPricesAreExact, LegalHistoriesAreFew, LegalHistoriesAreInRange, LegalJournalsAreShort, RightOffersStayRight, JournalsTellSearchesApart};
 
 use ih_tables::Instance;
 
@@ -37,8 +37,8 @@ pub fn legal_histories_are_in_range()
 
 /// Two searches of an instance that differ in their options or in an entry have two journals, also where they begin
 /// with different timetables.
-pub fn searches_have_two_journals()
-    ensures { SearchesHaveTwoJournals }
+pub fn journals_tell_searches_apart()
+    ensures { JournalsTellSearchesApart }
 {}
 
 /// The journal of a legal history is short: at most 256 bytes for each entry, and 128 for the heading.

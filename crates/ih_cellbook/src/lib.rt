@@ -23,7 +23,7 @@ pub use kinds::{Attempted, Logged, Offers};
 pub use laws::{
     accepted_prices_are_exact, legal_histories_are_few, legal_histories_are_in_range,
     legal_journals_are_short, right_offers_stay_right, schedules_are_legal,
-    searches_have_two_journals,
+    journals_tell_searches_apart,
 };
 pub use news::News;
 pub use offers::Offer;

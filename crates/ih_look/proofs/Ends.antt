@@ -42,9 +42,9 @@ told-cause reads reads' writes writes' status told h (inr memory) = subst (HasCa
 
 -- ---- what is said
 
-module _ (texts : Status → List ℕ) (old new : Option (List ℕ)) (faults faults' wants wants' : ℕ) where
+module _ (texts : Status → List ℕ) (old new : Option (List ℕ)) (faults faults' lacks lacks' : ℕ) where
   said-gained : (reached : Status → Type 0) (status : Status) → status ≢ Done → reached status → Gained old new faults faults' (texts status)
-      → IsSaid reached texts status old new faults faults' wants wants'
+      → IsSaid reached texts status old new faults faults' lacks lacks'
   said-gained reached Done other h g = absurd (other refl)
   said-gained reached Usage other h g = g
   said-gained reached (ReadFault role) other h g = g
@@ -56,15 +56,15 @@ module _ (texts : Status → List ℕ) (old new : Option (List ℕ)) (faults fau
 
   -- the text of a status that was reached was put
   pub said-put : (reached : Status → Type 0) (status result : Status) → status ≢ Done → reached status
-      → IsPut (texts status) status result old new faults faults' wants wants' → IsSaid reached texts result old new faults faults' wants wants'
+      → IsPut (texts status) status result old new faults faults' lacks lacks' → IsSaid reached texts result old new faults faults' lacks lacks'
   said-put reached status result other h (inl (same, g)) =
-      subst (λ s. IsSaid reached texts s old new faults faults' wants wants') (sym same) (said-gained reached status other h g)
+      subst (λ s. IsSaid reached texts s old new faults faults' lacks lacks') (sym same) (said-gained reached status other h g)
   said-put reached status result other h (inr (memory, part)) =
-      subst (λ s. IsSaid reached texts s old new faults faults' wants wants') (sym memory) (inr (status, other, h, part))
+      subst (λ s. IsSaid reached texts s old new faults faults' lacks lacks') (sym memory) (inr (status, other, h, part))
 
   -- what is said where more was reached
   pub said-weaker : (small large : Status → Type 0) → ((status : Status) → small status → large status) → (result : Status)
-      → IsSaid small texts result old new faults faults' wants wants' → IsSaid large texts result old new faults faults' wants wants'
+      → IsSaid small texts result old new faults faults' lacks lacks' → IsSaid large texts result old new faults faults' lacks lacks'
   said-weaker small large f Done h = h
   said-weaker small large f Usage h = h
   said-weaker small large f (ReadFault role) h = h
@@ -77,9 +77,9 @@ module _ (texts : Status → List ℕ) (old new : Option (List ℕ)) (faults fau
 
   -- a line was put, or there was no memory for it
   pub said-line : (status result : Status) → status ≢ Done
-      → IsPut (texts status) status result old new faults faults' wants wants'
-      ⊎ IsPut (texts OutOfMemory) OutOfMemory result old new faults faults' wants wants'
-      → IsSaid (MayTell status) texts result old new faults faults' wants wants'
+      → IsPut (texts status) status result old new faults faults' lacks lacks'
+      ⊎ IsPut (texts OutOfMemory) OutOfMemory result old new faults faults' lacks lacks'
+      → IsSaid (MayTell status) texts result old new faults faults' lacks lacks'
   said-line status result other (inl h) = said-put (MayTell status) status result other (inl refl) h
   said-line status result other (inr h) = said-put (MayTell status) OutOfMemory result memory-other (inr (other, refl)) h
     where
@@ -87,8 +87,8 @@ module _ (texts : Status → List ℕ) (old new : Option (List ℕ)) (faults fau
       memory-other e = let clash : OutOfMemory ≡ Done = e in cc
 
   pub told-line : (status result : Status) → status ≢ Done
-      → IsPut (texts status) status result old new faults faults' wants wants'
-      ⊎ IsPut (texts OutOfMemory) OutOfMemory result old new faults faults' wants wants'
+      → IsPut (texts status) status result old new faults faults' lacks lacks'
+      ⊎ IsPut (texts OutOfMemory) OutOfMemory result old new faults faults' lacks lacks'
       → MayTell status result
   told-line status result other (inl (inl (same, g))) = inl same
   told-line status result other (inl (inr (memory, part))) = inr (other, memory)
@@ -96,16 +96,16 @@ module _ (texts : Status → List ℕ) (old new : Option (List ℕ)) (faults fau
   told-line status result other (inr (inr (memory, part))) = inr (other, memory)
 
 -- the status after a put
-pub put-status : (text : List ℕ) (status result : Status) (old new : Option (List ℕ)) (faults faults' wants wants' : ℕ)
-    → IsPut text status result old new faults faults' wants wants' → (result ≡ status) ⊎ (result ≡ OutOfMemory)
-put-status text status result old new faults faults' wants wants' (inl (same, g)) = inl same
-put-status text status result old new faults faults' wants wants' (inr (memory, part)) = inr memory
+pub put-status : (text : List ℕ) (status result : Status) (old new : Option (List ℕ)) (faults faults' lacks lacks' : ℕ)
+    → IsPut text status result old new faults faults' lacks lacks' → (result ≡ status) ⊎ (result ≡ OutOfMemory)
+put-status text status result old new faults faults' lacks lacks' (inl (same, g)) = inl same
+put-status text status result old new faults faults' lacks lacks' (inr (memory, part)) = inr memory
 
 -- the usage was put
-pub said-usage : (old new : Option (List ℕ)) (faults faults' wants wants' : ℕ) (reached : Status → Type 0) (result : Status) → reached Usage
-    → IsPut usage_text Usage result old new faults faults' wants wants' → IsSaid reached (text_for None) result old new faults faults' wants wants'
-said-usage old new faults faults' wants wants' reached result h put =
-    said-put (text_for None) old new faults faults' wants wants' reached Usage result usage-other h put
+pub said-usage : (old new : Option (List ℕ)) (faults faults' lacks lacks' : ℕ) (reached : Status → Type 0) (result : Status) → reached Usage
+    → IsPut usage_text Usage result old new faults faults' lacks lacks' → IsSaid reached (text_for None) result old new faults faults' lacks lacks'
+said-usage old new faults faults' lacks lacks' reached result h put =
+    said-put (text_for None) old new faults faults' lacks lacks' reached Usage result usage-other h put
   where
     usage-other : Usage ≢ Done
     usage-other e = let clash : Usage ≡ Done = e in cc

@@ -6,7 +6,7 @@ use Rattle.ih_plan.specs.Timetable.{Timetable}
 use Rattle.ih_instance.specs.Instance.{instance}
 use Rattle.ih_solution.specs.Reading.{plan_in}
 use Rattle.ih_page.specs.Page.{page_of}
-use Rattle.ih_shelf.specs.Outside.{Names, Rose, Told, bytes_at, IsWritten, MayBeWritten}
+use Rattle.ih_shelf.specs.Outside.{Names, Rose, IfTold, bytes_at, IsWritten, MayBeWritten}
 use Rattle.ih_shelf.specs.declared.outside.ReadError.{ReadError}
 use Rattle.ih_shelf.specs.declared.outside.ReadError.TheVariants.{Fault as Unreadable, TooLong as Long, OutOfMemory as NoRoom}
 use Rattle.ih_look.specs.declared.status.Role.{Role}
@@ -75,12 +75,12 @@ IsUnread files c status = ⊥
 
 -- The files have what they had, but that the page's file may have a part of the page of these files' timetable.
 abbrev pub IsPartWritten : Call → Option Names → Option Names → Type 0
-IsPartWritten c old new = (I : Draft) × (P : Timetable) × HasInputs old c I P × Told (MayBeWritten c.page (page_of I P)) old new
+IsPartWritten c old new = (I : Draft) × (P : Timetable) × HasInputs old c I P × IfTold (MayBeWritten c.page (page_of I P)) old new
 
 -- What a call has read and written, by its status.
 abbrev pub CallEnds : Call → Option Names → Option Names → Status → Type 0
 -- the page's file has the page of the timetable that the files give, and every other file has what it had
-CallEnds c old new Done = (I : Draft) × (P : Timetable) × HasInputs old c I P × Told (IsWritten c.page (page_of I P)) old new
+CallEnds c old new Done = (I : Draft) × (P : Timetable) × HasInputs old c I P × IfTold (IsWritten c.page (page_of I P)) old new
 CallEnds c old new WriteFault = IsPartWritten c old new
 CallEnds c old new OutOfMemory = (new ≡ old) ⊎ IsPartWritten c old new
 -- the files aren't as they ought to be, and none was touched

@@ -1,7 +1,7 @@
 -- What a call says, by its status.
 use Rattle.std.specs.Prelude.{◌≡◌, ◌≢◌, ℕ, ◌⊎◌, List, [], ◌++◌, Option, Some, None, codes}
 use Rattle.ih_tables.specs.Places.{refusal_text}
-use Rattle.ih_shelf.specs.Outside.{Rose, Told, IsAppended, MayBeAppended}
+use Rattle.ih_shelf.specs.Outside.{Rose, IfTold, IsAppended, MayBeAppended}
 use Rattle.ih_look.specs.declared.status.Role.{Role}
 use Rattle.ih_look.specs.declared.status.Role.TheVariants.{Instance, Solution}
 use Rattle.ih_look.specs.declared.status.Status.{Status}
@@ -37,16 +37,16 @@ text_for (Some c) status = text_of c status
 
 -- the text was put out whole, or a part of it, where the sink's count of faults rose
 abbrev pub Gained : Option (List ℕ) → Option (List ℕ) → ℕ → ℕ → List ℕ → Type 0
-Gained old new faults faults' text = Told (IsAppended text) old new ⊎ (Rose faults faults' × Told (MayBeAppended text) old new)
+Gained old new faults faults' text = IfTold (IsAppended text) old new ⊎ (Rose faults faults' × IfTold (MayBeAppended text) old new)
 
--- the sink's count of wants of memory rose, and a part of the text was put out
+-- the sink's count of lacks of memory rose, and a part of the text was put out
 abbrev pub GainedPart : Option (List ℕ) → Option (List ℕ) → ℕ → ℕ → List ℕ → Type 0
-GainedPart old new wants wants' text = Rose wants wants' × Told (MayBeAppended text) old new
+GainedPart old new lacks lacks' text = Rose lacks lacks' × IfTold (MayBeAppended text) old new
 
 -- one put of a text, with the status that was to be told and the one that it then is: the sink may want memory itself
 abbrev pub IsPut : List ℕ → Status → Status → Option (List ℕ) → Option (List ℕ) → ℕ → ℕ → ℕ → ℕ → Type 0
-IsPut text status result old new faults faults' wants wants' =
-    ((result ≡ status) × Gained old new faults faults' text) ⊎ ((result ≡ OutOfMemory) × GainedPart old new wants wants' text)
+IsPut text status result old new faults faults' lacks lacks' =
+    ((result ≡ status) × Gained old new faults faults' text) ⊎ ((result ≡ OutOfMemory) × GainedPart old new lacks lacks' text)
 
 -- the statuses that may be told where this one was reached: it, or lack of memory for its text
 abbrev pub MayTell : Status → Status → Type 0
@@ -55,8 +55,8 @@ MayTell status told = (told ≡ status) ⊎ ((status ≢ Done) × (told ≡ OutO
 -- What is said at a status, where each has its text: that, and nothing where the page was written. At `OutOfMemory` it may be instead
 -- that the sink wanted memory itself, and gained a part of the text of a status that the call had reached.
 abbrev pub IsSaid : (Status → Type 0) → (Status → List ℕ) → Status → Option (List ℕ) → Option (List ℕ) → ℕ → ℕ → ℕ → ℕ → Type 0
-IsSaid reached texts Done old new faults faults' wants wants' = new ≡ old
-IsSaid reached texts OutOfMemory old new faults faults' wants wants' =
+IsSaid reached texts Done old new faults faults' lacks lacks' = new ≡ old
+IsSaid reached texts OutOfMemory old new faults faults' lacks lacks' =
     (reached OutOfMemory × Gained old new faults faults' (texts OutOfMemory))
-    ⊎ ((status : Status) × (status ≢ Done) × reached status × GainedPart old new wants wants' (texts status))
-IsSaid reached texts status old new faults faults' wants wants' = Gained old new faults faults' (texts status)
+    ⊎ ((status : Status) × (status ≢ Done) × reached status × GainedPart old new lacks lacks' (texts status))
+IsSaid reached texts status old new faults faults' lacks lacks' = Gained old new faults faults' (texts status)

@@ -34,7 +34,7 @@ pub fn run_view<R: Files + Print, S: Shelf, O: Sink>(
     // call had reached.
     ensures said { IsSaid (Reaches (call_of (map string_bytes words.now)) (S.names shelf.old) (S.names shelf.new))
         (text_for (call_of (map string_bytes words.now))) result (O.text out.old) (O.text out.new) (O.faults out.old) (O.faults out.new)
-        (O.wants out.old) (O.wants out.new) }
+        (O.lacks out.old) (O.lacks out.new) }
 {
     match read_words(words) {
         None => say_usage(rt, out),

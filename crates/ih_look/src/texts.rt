@@ -46,7 +46,7 @@ fn text_of(alloc: Global, call: &Call<'_>, status: Status) -> Result<String, All
 // Puts a text, in one put.
 fn put_text<R: Print, O: Sink>(rt: &R, out: &mut O, status: Status, text: &[u8]) -> Status
     ensures { IsPut text.now status result (O.text out.old) (O.text out.new) (O.faults out.old) (O.faults out.new)
-        (O.wants out.old) (O.wants out.new) }
+        (O.lacks out.old) (O.lacks out.new) }
 {
     match out.put(rt, text) {
         Ok(()) => status,
@@ -59,7 +59,7 @@ fn put_text<R: Print, O: Sink>(rt: &R, out: &mut O, status: Status, text: &[u8])
 fn say_memory<R: Print, O: Sink>(rt: &R, out: &mut O) -> Status
     ensures { IsPut memory_text Status.OutOfMemory result (O.text out.old) (O.text out.new) (O.faults out.old)
         (O.faults out.new)
-        (O.wants out.old) (O.wants out.new) }
+        (O.lacks out.old) (O.lacks out.new) }
 {
     put_text(rt, out, Status::OutOfMemory, b"out of memory\n")
 }
@@ -74,9 +74,9 @@ fn put_line<R: Print, O: Sink>(
 ) -> Status
     ensures { IsPut (text_of (call_in call.now) status) status result (O.text out.old) (O.text out.new)
         (O.faults out.old) (O.faults out.new)
-        (O.wants out.old) (O.wants out.new)
+        (O.lacks out.old) (O.lacks out.new)
         ⊎ IsPut memory_text Status.OutOfMemory result (O.text out.old) (O.text out.new) (O.faults out.old) (O.faults out.new)
-        (O.wants out.old) (O.wants out.new) }
+        (O.lacks out.old) (O.lacks out.new) }
 {
     match text_of(alloc, call, status) {
         Ok(line) => put_text(rt, out, status, line.into_bytes().as_slice()),
@@ -87,7 +87,7 @@ fn put_line<R: Print, O: Sink>(
 /// Says that the words name no call.
 pub fn say_usage<R: Print, O: Sink>(rt: &R, out: &mut O) -> Status
     ensures { IsPut usage_text Status.Usage result (O.text out.old) (O.text out.new) (O.faults out.old)
-        (O.faults out.new) (O.wants out.old) (O.wants out.new) }
+        (O.faults out.new) (O.lacks out.old) (O.lacks out.new) }
 {
     put_text(
         rt,
@@ -108,7 +108,7 @@ pub fn conclude<R: Print, O: Sink>(
     ensures status { MayTell status result }
     ensures said { IsSaid (MayTell status) (text_of (call_in call.now)) result (O.text out.old) (O.text out.new)
         (O.faults out.old) (O.faults out.new)
-        (O.wants out.old) (O.wants out.new) }
+        (O.lacks out.old) (O.lacks out.new) }
 {
     match status {
         Status::Done => status,

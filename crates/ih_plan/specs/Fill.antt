@@ -8,6 +8,7 @@ use Rattle.ih_tables.specs.declared.ids.RoomNo.{RoomNo}
 use Rattle.ih_tables.specs.declared.bills.Bill.{Bill}
 use Rattle.ih_tables.specs.Sizes.{patient_count, room_count, theatre_count, nurse_count, shift_count}
 use Rattle.ih_tables.specs.Works.{max_load}
+use Rattle.ih_tables.specs.BillNumbers.{uncovered_room}
 use Rattle.ih_tables.specs.Bills.{score}
 use Rattle.ih_plan.specs.declared.moves.Placement.{Placement}
 use Rattle.ih_plan.specs.declared.moves.Write.{Write}

@@ -3,4 +3,4 @@ pub mod Dearer
 pub mod Leading
 pub mod Parting
 pub mod Runs
-pub mod TwoJournals
+pub mod JournalsApart

@@ -19,8 +19,8 @@ JournalsCanBeParted = (b : Base) (rs ss : List Round) → IsValid b.instance →
     → journals b.options 0 rs ≡ journals b.options 0 ss → histories rs ≡ histories ss
 
 -- Two runs of rounds over the same search base have two journals: the bytes tell each round's start and history.
-abbrev pub RoundsHaveTwoJournals : Type 0
-RoundsHaveTwoJournals = (b : Base) (rs ss : List Round) → IsSearchBase b → AreRounds b rs → AreRounds b ss
+abbrev pub JournalsTellRoundsApart : Type 0
+JournalsTellRoundsApart = (b : Base) (rs ss : List Round) → IsSearchBase b → AreRounds b rs → AreRounds b ss
     → journals b.options 0 rs ≡ journals b.options 0 ss → rs ≡ ss
 
 -- the history of round q has a best, which costs no more than place k of round p

@@ -1,6 +1,6 @@
 //! Laws of rounds, each on a function that does nothing.
 
-ghost use Rattle.ih_rounds.specs.Laws.{JournalsCanBeParted, RoundsGetNoDearer, RoundsHaveTwoJournals};
+ghost use Rattle.ih_rounds.specs.Laws.{JournalsCanBeParted, RoundsGetNoDearer, JournalsTellRoundsApart};
 
 use ih_cellbook::legal_histories_are_in_range;
 
@@ -16,8 +16,8 @@ pub fn journals_can_be_parted()
 
 /// Two runs of rounds that were given the same have two journals: the bytes tell how many rounds there are, where each
 /// starts, and each one's history.
-pub fn rounds_have_two_journals()
-    ensures { RoundsHaveTwoJournals }
+pub fn journals_tell_rounds_apart()
+    ensures { JournalsTellRoundsApart }
 {
     // For the proof alone.
     legal_histories_are_in_range();

@@ -35,4 +35,4 @@ after_failed_write s name bytes kept =
 pub record MemorySink : Type 0 where
   pub text : List ℕ
   pub puts : Faults
-  pub wants : ℕ
+  pub lacks : ℕ

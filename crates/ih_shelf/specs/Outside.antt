@@ -18,10 +18,10 @@ abbrev pub Rose : ℕ → ℕ → Type 0
 Rose before now = raised before ≤ now
 
 -- where the old state is told, so is the new one, and P holds of both
-abbrev pub Told : {X : Type 0} → (X → X → Type 0) → Option X → Option X → Type 0
-Told P None after = Unit {0}
-Told P (Some old) None = ⊥
-Told P (Some old) (Some new) = P old new
+abbrev pub IfTold : {X : Type 0} → (X → X → Type 0) → Option X → Option X → Type 0
+IfTold P None after = Unit {0}
+IfTold P (Some old) None = ⊥
+IfTold P (Some old) (Some new) = P old new
 
 -- every name but one has what it had
 abbrev pub OthersKept : List ℕ → Names → Names → Type 0

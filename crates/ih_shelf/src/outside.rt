@@ -1,7 +1,7 @@
 //! What the program asks of files, of its output and of a gate.
 
 ghost use Rattle.std.specs.Prelude.{◌≡◌, ◌≤◌, ◌<◌, ℕ, List, Option, Some, IfOk, IfSome, OnOk, OnErr, vec_len, length};
-ghost use Rattle.ih_shelf.specs.Outside.{Names, Rose, Told, bytes_at, IsWritten, MayBeWritten, IsAppended, MayBeAppended};
+ghost use Rattle.ih_shelf.specs.Outside.{Names, Rose, IfTold, bytes_at, IsWritten, MayBeWritten, IsAppended, MayBeAppended};
 
 use std::alloc::Global;
 use std::rt::Files;
@@ -63,9 +63,9 @@ pub trait Shelf {
     /// Whatever the answer, every other name has what it had.
     fn write<R: Files>(&mut self, rt: &R, name: &str, bytes: &[u8]) -> Result<(), WriteError>
         ensures whole { OnOk result
-            (Told (IsWritten name.now bytes.now) (names self.old) (names self.new)) }
+            (IfTold (IsWritten name.now bytes.now) (names self.old) (names self.new)) }
         ensures part { OnErr result
-            (Told (MayBeWritten name.now bytes.now) (names self.old) (names self.new)) }
+            (IfTold (MayBeWritten name.now bytes.now) (names self.old) (names self.new)) }
         ensures fault { result ≡ Err WriteError.Fault →
             Rose (write_faults self.old) (write_faults self.new) }
         ensures count { write_faults self.old ≤ write_faults self.new }
@@ -73,23 +73,23 @@ pub trait Shelf {
 }
 
 /// Where text goes. A sink may tell the text so far, and then goes on telling it. It always counts
-/// its faults, as a shelf does, and in the same way its own wants of memory.
+/// its faults, as a shelf does, and in the same way its own lacks of memory.
 pub trait Sink {
     ghost text: { Self → Option (List ℕ) };
 
     ghost faults: { Self → ℕ };
 
-    ghost wants: { Self → ℕ };
+    ghost lacks: { Self → ℕ };
 
     /// Puts the bytes behind the text. At an error a prefix of them was put there.
     fn put<R: Print>(&mut self, rt: &R, bytes: &[u8]) -> Result<(), WriteError>
-        ensures whole { OnOk result (Told (IsAppended bytes.now) (text self.old) (text self.new)) }
+        ensures whole { OnOk result (IfTold (IsAppended bytes.now) (text self.old) (text self.new)) }
         ensures part { OnErr result
-            (Told (MayBeAppended bytes.now) (text self.old) (text self.new)) }
+            (IfTold (MayBeAppended bytes.now) (text self.old) (text self.new)) }
         ensures fault { result ≡ Err WriteError.Fault → Rose (faults self.old) (faults self.new) }
-        ensures want { result ≡ Err WriteError.OutOfMemory → Rose (wants self.old) (wants self.new) }
+        ensures lack { result ≡ Err WriteError.OutOfMemory → Rose (lacks self.old) (lacks self.new) }
         ensures count { faults self.old ≤ faults self.new }
-        ensures want_count { wants self.old ≤ wants self.new };
+        ensures lack_count { lacks self.old ≤ lacks self.new };
 }
 
 /// What each worker passes outside the turn: `before` once it has priced its attempt and before it

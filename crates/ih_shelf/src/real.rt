@@ -129,7 +129,7 @@ impl Sink for OutSink {
 
     ghost faults = { λ s. s };
 
-    ghost wants = { λ s. 0 };
+    ghost lacks = { λ s. 0 };
 
     fn put<R: Print>(&mut self, rt: &R, bytes: &[u8]) -> Result<(), WriteError>
         ensures ok { OnOk result (self.new ≡ self.old) }

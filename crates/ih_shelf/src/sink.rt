@@ -11,7 +11,7 @@ pub struct MemSink {
     text: Vec<u8>,
     puts: FaultPlan,
     // How often a put wanted memory. It stands still at 2^64 - 1.
-    wants: u64,
+    lacks: u64,
 }
 
 impl Model for MemSink {
@@ -19,7 +19,7 @@ impl Model for MemSink {
 
     ghost Value = { MemorySink };
 
-    ghost view = { λ s. record { text = s.text.items; puts = s.puts; wants = s.wants } };
+    ghost view = { λ s. record { text = s.text.items; puts = s.puts; lacks = s.lacks } };
 }
 
 impl MemSink {
@@ -28,12 +28,12 @@ impl MemSink {
 
     /// No text, and no put that is to fail. It takes no memory.
     pub fn new(alloc: Global) -> MemSink
-        ensures { result ≡ record { text = []; puts = no_faults; wants = 0 } }
+        ensures { result ≡ record { text = []; puts = no_faults; lacks = 0 } }
     {
         MemSink {
             text: Vec::new(alloc),
             puts: FaultPlan::new(alloc),
-            wants: 0,
+            lacks: 0,
         }
     }
 
@@ -64,7 +64,7 @@ impl Sink for MemSink {
 
     ghost faults = { λ s. s.puts.count };
 
-    ghost wants = { λ s. s.wants };
+    ghost lacks = { λ s. s.lacks };
 
     /// A put that fails as planned puts nothing.
     fn put<R: Print>(&mut self, _rt: &R, bytes: &[u8]) -> Result<(), WriteError>
@@ -74,18 +74,18 @@ impl Sink for MemSink {
         ensures after_fault { result ≡ Err WriteError.Fault →
             self.new ≡ record self.old { puts = failed (called self.old.puts) } }
         ensures out_of_memory { result ≡ Err WriteError.OutOfMemory → self.new ≡
-            record self.old { puts = called self.old.puts; wants = raised self.old.wants } }
+            record self.old { puts = called self.old.puts; lacks = raised self.old.lacks } }
 
         // What every sink promises.
         ensures count { self.old.puts.count ≤ self.new.puts.count }
-        ensures want_count { self.old.wants ≤ self.new.wants }
+        ensures lack_count { self.old.lacks ≤ self.new.lacks }
     {
         if self.puts.call().is_some() {
             self.puts.fail();
             return Err(WriteError::Fault);
         }
         if self.text.extend_from_slice(bytes).is_err() {
-            self.wants = self.wants.saturating_add(1);
+            self.lacks = self.lacks.saturating_add(1);
             return Err(WriteError::OutOfMemory);
         }
         Ok(())

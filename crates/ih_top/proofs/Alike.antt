@@ -14,7 +14,7 @@ use Rattle.ih_journal.proofs.BestLemmas.{best-one, best-or-none}
 use Rattle.ih_journal.proofs.LoneWorkers.{lone-same}
 use Rattle.ih_journal.proofs.Mapped.{tries-one}
 use Rattle.ih_rounds.specs.Rounds.{AreRounds}
-use Rattle.ih_rounds.proofs.TwoJournals.{lone-rounds}
+use Rattle.ih_rounds.proofs.JournalsApart.{lone-rounds}
 use Rattle.ih_words.specs.Solve.{SolveCall}
 use Rattle.ih_shelf.specs.Outside.{Names}
 use Rattle.ih_chain.proofs.Telling.{chain_tries-one}

@@ -30,7 +30,7 @@ use Rattle.ih_top.specs.Salvage.{IsSalvage}
 use Rattle.ih_top.specs.Texts.{done_text, journal_refused_text, salvaged_text}
 use Rattle.ih_top.proofs.Accepted.{journal-accepted, same-bytes}
 use Rattle.ih_top.proofs.FaultlessEnds.{journal-faultless}
-use Rattle.ih_top.proofs.TakenBack.{has-read-back, read-back}
+use Rattle.ih_top.proofs.ReplayedAlike.{has-read-back, read-back}
 
 -- the third letters of the two headings differ
 pub chains-headless : ChainJournalsAreHeadless

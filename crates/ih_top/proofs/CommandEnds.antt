@@ -12,7 +12,7 @@ use Rattle.ih_words.specs.Replay.{ReplayCall}
 use Rattle.ih_words.specs.Rounds.{RoundsCall}
 use Rattle.ih_words.specs.Words.{Call, call_of, solve, replay, salvage, check, chain, rounds, gen, demo, advise}
 use Rattle.ih_words.proofs.CallNames.{names-apart}
-use Rattle.ih_shelf.specs.Outside.{IsWritten, MayBeWritten, Names, Told}
+use Rattle.ih_shelf.specs.Outside.{IsWritten, MayBeWritten, Names, IfTold}
 use Rattle.ih_top.specs.declared.status.Status.{Status}
 use Rattle.ih_top.specs.declared.status.Status.TheVariants.{Done, Usage, ReadFault, InstanceRefused, StartRefused, NoneFound, WriteFault, OutOfMemory, JournalRefused, Infeasible, TooLong}
 use Rattle.ih_top.specs.declared.status.Role.TheVariants.{Instance, Solution, Journal, Out}
@@ -40,7 +40,7 @@ use Rattle.ih_top.proofs.Saying.{IsAnswerable, ended, memory-ended, said-answer,
 use Rattle.ih_top.proofs.Writing.{begun, done-found, none-begun}
 
 -- nothing changes where the names are those that were there
-pub told-same : (old new : Option Names) → new ≡ old → Told Unchanged old new
+pub told-same : (old new : Option Names) → new ≡ old → IfTold Unchanged old new
 told-same None new e = tt
 told-same (Some old) None e = absurd (let clash : None ≡ Some old = e in cc)
 told-same (Some old) (Some new) e = λ n. let same : new ≡ old = cc in cc
@@ -196,12 +196,12 @@ pub call-answerable : (call : Call) (old new : Option Names) → IsAnswerable (C
 call-answerable (solve s) old new = search-answerable of_moves s old new
 call-answerable (replay r) old new = journal-answerable (IsReplay r.start) (IsRefusedJournal r.start) done_text r old new
 call-answerable (salvage r) old new = journal-answerable (IsSalvage r.start) IsHeadless salvaged_text r old new
-call-answerable (check c) old new = beside (Told Unchanged old new) (CheckEnds c old) (check-answerable c old)
+call-answerable (check c) old new = beside (IfTold Unchanged old new) (CheckEnds c old) (check-answerable c old)
 call-answerable (chain c) old new = search-answerable (of_chains c.length) c.search old new
 call-answerable (rounds r) old new = rounds-answerable r old new
-call-answerable (advise a) old new = beside (Told Unchanged old new) (AdviseEnds a old) (advise-answerable a old)
+call-answerable (advise a) old new = beside (IfTold Unchanged old new) (AdviseEnds a old) (advise-answerable a old)
 call-answerable (gen g) old new = gen-answerable g old new
-call-answerable (demo number) old new = beside (Told Unchanged old new) (DemoEnds number) (demo-answerable number)
+call-answerable (demo number) old new = beside (IfTold Unchanged old new) (DemoEnds number) (demo-answerable number)
 
 -- ---- no call
 
@@ -233,7 +233,7 @@ out-apart words (demo number) h = tt
 
 -- ---- lack of memory before anything is done
 
-unwritten : (name bytes : List ℕ) (files : Option Names) → Told (MayBeWritten name bytes) files files
+unwritten : (name bytes : List ℕ) (files : Option Names) → IfTold (MayBeWritten name bytes) files files
 unwritten name bytes None = tt
 unwritten name bytes (Some names) = record { part = inl refl; others = λ n other. refl }
 

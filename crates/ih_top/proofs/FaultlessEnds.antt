@@ -8,7 +8,7 @@ use Rattle.ih_journal.specs.Tried.{Tried, tries}
 use Rattle.ih_words.specs.Replay.{ReplayCall}
 use Rattle.ih_words.specs.Rounds.{RoundsCall}
 use Rattle.ih_words.specs.Solve.{SolveCall}
-use Rattle.ih_shelf.specs.Outside.{IsWritten, Names, Told}
+use Rattle.ih_shelf.specs.Outside.{IsWritten, Names, IfTold}
 use Rattle.ih_top.specs.declared.status.Status.{Status}
 use Rattle.ih_top.specs.declared.status.Status.TheVariants.{Done, Usage, ReadFault, InstanceRefused, StartRefused, NoneFound, WriteFault, OutOfMemory, JournalRefused, Infeasible, TooLong}
 use Rattle.ih_top.specs.Inputs.{EndsUnread, solve_reading}
@@ -27,7 +27,7 @@ IsFaultless done none other status = (status ≡ OutOfMemory) ⊎ ((status ≡ D
 module _ {X : Type 0} (kind : Kind X) (s : SolveCall) (old new : Option Names) where
   pub search-faultless : (status : Status) (text : List ℕ) → HasNoFault status → SearchEnds kind s old new status text
       → IsFaultless (IsDone kind s old new text) (HasFoundNone kind s old new × (text ≡ none_found_text))
-      (Told Unchanged old new × EndsUnread old (solve_reading s) status text) status
+      (IfTold Unchanged old new × EndsUnread old (solve_reading s) status text) status
   search-faultless Done text calm h = inr (inl (refl, h))
   search-faultless Usage text calm h = inr (inr (inr h))
   search-faultless (ReadFault role) text calm h = absurd calm
@@ -43,7 +43,7 @@ module _ {X : Type 0} (kind : Kind X) (s : SolveCall) (old new : Option Names) w
 module _ (r : RoundsCall) (old new : Option Names) where
   pub rounds-faultless : (status : Status) (text : List ℕ) → HasNoFault status → RoundsEnds r old new status text
       → IsFaultless (AreDone r old new text) (HaveFoundNone r old new × (text ≡ none_found_text))
-      (Told Unchanged old new × EndsUnread old (solve_reading r.search) status text) status
+      (IfTold Unchanged old new × EndsUnread old (solve_reading r.search) status text) status
   rounds-faultless Done text calm h = inr (inl (refl, h))
   rounds-faultless Usage text calm h = inr (inr (inr h))
   rounds-faultless (ReadFault role) text calm h = absurd calm

@@ -7,7 +7,7 @@ use Rattle.ih_journal.specs.Base.{Base}
 use Rattle.ih_journal.specs.Tried.{Tried, tries}
 use Rattle.ih_words.specs.Replay.{ReplayCall}
 use Rattle.ih_words.specs.Start.{StartCall}
-use Rattle.ih_shelf.specs.Outside.{IsWritten, MayBeWritten, Names, Told}
+use Rattle.ih_shelf.specs.Outside.{IsWritten, MayBeWritten, Names, IfTold}
 use Rattle.ih_top.specs.declared.answer.Answer.{Answer}
 use Rattle.ih_top.specs.declared.output.BestOutput.{BestOutput}
 use Rattle.ih_top.specs.declared.outcome.Outcome.{Outcome}
@@ -81,7 +81,7 @@ module _ (taken : JournalRead → Base → List Entry → Type 0) (refused : Jou
             given = given;
             taken_is = t.taken_is;
             best = saved.best;
-            written = subst (λ bytes. Told (writes r.out bytes) old new) saved.solution w.written;
+            written = subst (λ bytes. IfTold (writes r.out bytes) old new) saved.solution w.written;
           },
           saved.text,
         )

@@ -16,7 +16,7 @@ pub mod RoundsAlike
 pub mod RoundsOutputs
 pub mod RoundsWriting
 pub mod Saying
-pub mod TakenBack
+pub mod ReplayedAlike
 pub mod TakenHistories
 pub mod TakenLines
 pub mod Writing

@@ -2,7 +2,7 @@
 use Rattle.std.proofs.Common.{◌≡◌, ℕ, ◌∙◌, subst, sym, inl, inr, List, Option, Some, None}
 use Rattle.std.specs.Prelude.{◌⊎◌, Result, Ok, Err, IfOk}
 use Rattle.ih_journal.specs.Base.{Base}
-use Rattle.ih_shelf.specs.Outside.{Names, Told}
+use Rattle.ih_shelf.specs.Outside.{Names, IfTold}
 use Rattle.ih_rounds.specs.Rounds.{journals}
 use Rattle.ih_words.specs.Rounds.{RoundsCall}
 use Rattle.ih_words.specs.Solve.{SolveCall}
@@ -61,21 +61,21 @@ module _ (r : RoundsCall) (o : Output) (old new : Option Names) (is : IsRoundsOu
     exact = is.output.exact;
   }
 
-  rounds-begun : Told (BeginsJournal r.search o.journal.items) old new → HaveBegun r old new
+  rounds-begun : IfTold (BeginsJournal r.search o.journal.items) old new → HaveBegun r old new
   rounds-begun written = record {
     base = is.base;
     rounds = is.output.rounds;
     searches = searched;
-    written = subst (λ j. Told (BeginsJournal r.search j) old new) is.output.journal written;
+    written = subst (λ j. IfTold (BeginsJournal r.search j) old new) is.output.journal written;
   }
 
-  rounds-none : o.best ≡ None → Told (WritesJournal r.search o.journal.items) old new → HaveFoundNone r old new
+  rounds-none : o.best ≡ None → IfTold (WritesJournal r.search o.journal.items) old new → HaveFoundNone r old new
   rounds-none none written = (
     record {
       base = is.base;
       rounds = is.output.rounds;
       searches = searched;
-      written = subst (λ j. Told (WritesJournal r.search j) old new) is.output.journal written;
+      written = subst (λ j. IfTold (WritesJournal r.search j) old new) is.output.journal written;
     },
     subst (HasBestOfRounds is.base is.output.rounds) none is.output.best,
   )
@@ -94,8 +94,8 @@ module _ (r : RoundsCall) (o : Output) (old new : Option Names) (is : IsRoundsOu
         place = best.place;
         searches = searched;
         best = best.best;
-        written = subst (λ x. Told (writes r.search text_of x) old new) best.solution
-            (subst (λ j. Told (writes r.search j w.best.solution.items) old new) is.output.journal w.written);
+        written = subst (λ x. IfTold (writes r.search text_of x) old new) best.solution
+            (subst (λ j. IfTold (writes r.search j w.best.solution.items) old new) is.output.journal w.written);
       }
 
   rounds-done : (w : WritesOutput WritesBoth r.search o old new) (text : List ℕ) → text ≡ w.best.text.items → AreDone r old new text
@@ -115,8 +115,8 @@ module _ (r : RoundsCall) (o : Output) (old new : Option Names) (is : IsRoundsOu
   rounds-ends (WriteFault (Some Out)) text h = (rounds-written BeginsSolution h.0, h.1)
   rounds-ends OutOfMemory text h = (by_case h.0, h.1)
     where
-      by_case : Told (BeginsJournal r.search o.journal.items) old new ⊎ WritesOutput BeginsSolution r.search o old new
-          → Told Unchanged old new ⊎ HaveBegun r old new ⊎ HaveFound r old new
+      by_case : IfTold (BeginsJournal r.search o.journal.items) old new ⊎ WritesOutput BeginsSolution r.search o old new
+          → IfTold Unchanged old new ⊎ HaveBegun r old new ⊎ HaveFound r old new
       by_case (inl begun) = inr (inl (rounds-begun begun))
       by_case (inr found) = inr (inr (rounds-written BeginsSolution found))
   rounds-ends (JournalRefused e) text h = absurd h

@@ -114,7 +114,7 @@ ended ends able gained part a result (inr h) (inr (inr (other, some, inr (there,
 
 -- ---- causes
 
-module _ (reads reads' writes writes' puts puts' wants wants' : ℕ) where
+module _ (reads reads' writes writes' puts puts' lacks lacks' : ℕ) where
   file-cause : (status : Status) → HasFileCause reads reads' writes writes' status → HasCause reads reads' writes writes' puts puts' status
   file-cause Done file = tt
   file-cause Usage file = tt
@@ -129,7 +129,7 @@ module _ (reads reads' writes writes' puts puts' wants wants' : ℕ) where
   file-cause Infeasible file = tt
   file-cause (TooLong role) file = tt
 
-  pub has-cause : (status result : Status) → HasFileCause reads reads' writes writes' status → HasPutCause status puts puts' wants wants' result
+  pub has-cause : (status result : Status) → HasFileCause reads reads' writes writes' status → HasPutCause status puts puts' lacks lacks' result
       → HasCause reads reads' writes writes' puts puts' result
   has-cause status result file (inl same) = subst (HasCause reads reads' writes writes' puts puts') (sym same) (file-cause status file)
   has-cause status result file (inr (inl memory)) = subst (HasCause reads reads' writes writes' puts puts') (sym memory.0) tt

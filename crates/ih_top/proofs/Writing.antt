@@ -2,7 +2,7 @@
 use Rattle.std.proofs.Common.{◌≡◌, ℕ, sym, ap, ◌∙◌, subst, arith, refl, inl, inr, List, length, Option, Some, None}
 use Rattle.std.specs.Prelude.{◌≢◌, ◌⊎◌, Result, Ok, Err, IfOk}
 use Rattle.std.proofs.lemmas.List.{take_all}
-use Rattle.ih_shelf.specs.Outside.{Names, Told, PartOr, IsWritten, MayBeWritten}
+use Rattle.ih_shelf.specs.Outside.{Names, IfTold, PartOr, IsWritten, MayBeWritten}
 use Rattle.ih_journal.specs.Best.{HasNone}
 use Rattle.ih_words.specs.Solve.{SolveCall}
 use Rattle.ih_journal.specs.Base.{Base}
@@ -21,13 +21,13 @@ use Rattle.ih_top.proofs.Saying.{IsAnswerable, answers-weaker, unsaid-by}
 
 -- ---- what is told of two states
 
-pub told-weaker : {X : Type 0} (P Q : X → X → Type 0) (old new : Option X) → ((x y : X) → P x y → Q x y) → Told P old new → Told Q old new
+pub told-weaker : {X : Type 0} (P Q : X → X → Type 0) (old new : Option X) → ((x y : X) → P x y → Q x y) → IfTold P old new → IfTold Q old new
 told-weaker P Q None new f h = tt
 told-weaker P Q (Some x) None f h = h
 told-weaker P Q (Some x) (Some y) f h = f x y h
 
 pub told-then : {X : Type 0} (P Q R : X → X → Type 0) (old mid new : Option X) → ((x y z : X) → P x y → Q y z → R x z)
-    → Told P old mid → Told Q mid new → Told R old new
+    → IfTold P old mid → IfTold Q mid new → IfTold R old new
 told-then P Q R None mid new f h k = tt
 told-then P Q R (Some x) None new f h k = absurd h
 told-then P Q R (Some x) (Some y) None f h k = k
@@ -39,7 +39,7 @@ pub whole-text : (text : List ℕ) (old new : Option (List ℕ)) → new ≡ Som
 whole-text text old new h = inr (length text, h ∙ ap (λ t. Some t) (sym (take_all (length text) text (omega arith))))
 
 -- what is written whole is begun
-pub begun : (name bytes : List ℕ) (old new : Option Names) → Told (IsWritten name bytes) old new → Told (MayBeWritten name bytes) old new
+pub begun : (name bytes : List ℕ) (old new : Option Names) → IfTold (IsWritten name bytes) old new → IfTold (MayBeWritten name bytes) old new
 begun name bytes old new h = told-weaker (IsWritten name bytes) (MayBeWritten name bytes) old new
     (λ x y w. record { part = whole-text bytes (x name) (y name) w.whole; others = w.others }) h
 
@@ -152,15 +152,15 @@ module _ {X : Type 0} (kind : Kind X) (s : SolveCall) (o : Output) (old new : Op
     exact = is.output.exact;
   }
 
-  journal-begun : Told (BeginsJournal s o.journal.items) old new → HasBegun kind s old new
+  journal-begun : IfTold (BeginsJournal s o.journal.items) old new → HasBegun kind s old new
   journal-begun written = record {
     base = is.base;
     history = is.output.history;
     search = searched;
-    written = subst (λ j. Told (BeginsJournal s j) old new) is.output.journal written;
+    written = subst (λ j. IfTold (BeginsJournal s j) old new) is.output.journal written;
   }
 
-  found-none : o.best ≡ None → Told (WritesJournal s o.journal.items) old new → HasFoundNone kind s old new
+  found-none : o.best ≡ None → IfTold (WritesJournal s o.journal.items) old new → HasFoundNone kind s old new
   found-none none written = record {
     base = is.base;
     history = is.output.history;
@@ -168,7 +168,7 @@ module _ {X : Type 0} (kind : Kind X) (s : SolveCall) (o : Output) (old new : Op
     none = let no-best : HasNone is.base (told_by kind is.output.history) =
         subst (HasBestOutput is.base (told_by kind is.output.history)) none is.output.best in
         no-best;
-    written = subst (λ j. Told (WritesJournal s j) old new) is.output.journal written;
+    written = subst (λ j. IfTold (WritesJournal s j) old new) is.output.journal written;
   }
 
   of-best : (best : BestOutput) → o.best ≡ Some best → IsBestOutput is.base (told_by kind is.output.history) best
@@ -183,8 +183,8 @@ module _ {X : Type 0} (kind : Kind X) (s : SolveCall) (o : Output) (old new : Op
         place = best.place;
         search = searched;
         best = best.best;
-        written = subst (λ x. Told (BeginsSolution s journal x) old new) best.solution
-            (subst (λ j. Told (BeginsSolution s j w.best.solution.items) old new) is.output.journal w.written);
+        written = subst (λ x. IfTold (BeginsSolution s journal x) old new) best.solution
+            (subst (λ j. IfTold (BeginsSolution s j w.best.solution.items) old new) is.output.journal w.written);
       }
 
   all-done : (w : WritesOutput WritesBoth s o old new) (text : List ℕ) → text ≡ w.best.text.items → IsDone kind s old new text
@@ -196,8 +196,8 @@ module _ {X : Type 0} (kind : Kind X) (s : SolveCall) (o : Output) (old new : Op
         place = best.place;
         search = searched;
         best = best.best;
-        written = subst (λ x. Told (WritesBoth s journal x) old new) best.solution
-            (subst (λ j. Told (WritesBoth s j w.best.solution.items) old new) is.output.journal w.written);
+        written = subst (λ x. IfTold (WritesBoth s journal x) old new) best.solution
+            (subst (λ j. IfTold (WritesBoth s j w.best.solution.items) old new) is.output.journal w.written);
         said = said ∙ best.text;
       }
 
@@ -215,7 +215,7 @@ module _ {X : Type 0} (kind : Kind X) (s : SolveCall) (o : Output) (old new : Op
   search-ends (WriteFault (Some Out)) text h = (out-begun h.0, h.1)
   search-ends OutOfMemory text h = (by_case h.0, h.1)
     where
-      by_case : Told (BeginsJournal s o.journal.items) old new ⊎ WritesOutput BeginsSolution s o old new → IsSomewhere kind s old new
+      by_case : IfTold (BeginsJournal s o.journal.items) old new ⊎ WritesOutput BeginsSolution s o old new → IsSomewhere kind s old new
       by_case (inl begun) = inr (inl (journal-begun begun))
       by_case (inr found) = inr (inr (out-begun found))
   search-ends (JournalRefused e) text h = absurd h

@@ -38,15 +38,15 @@ IsConcluded status text gained part result =
     × (((result ≡ unsaid status) × gained text) ⊎ ((result ≡ OutOfMemory) × part text)))
 
 -- the status is that of an unsaid text only where the sink's count of faults rose, and `OutOfMemory` only where that of
--- its wants did
+-- its lacks did
 abbrev pub HasPutCause : Status → ℕ → ℕ → ℕ → ℕ → Status → Type 0
-HasPutCause status faults faults' wants wants' result =
-    (result ≡ status) ⊎ ((result ≡ OutOfMemory) × Rose wants wants') ⊎ ((result ≡ unsaid status) × Rose faults faults')
+HasPutCause status faults faults' lacks lacks' result =
+    (result ≡ status) ⊎ ((result ≡ OutOfMemory) × Rose lacks lacks') ⊎ ((result ≡ unsaid status) × Rose faults faults')
 
 -- the same of a put into a sink, by the counts of that
 abbrev pub HasSinkCause : {X : Type 0} → SinkGhosts X → X → X → Status → Status → Type 0
 HasSinkCause sink old new status result =
-    HasPutCause status (sink.faults old) (sink.faults new) (sink.wants old) (sink.wants new) result
+    HasPutCause status (sink.faults old) (sink.faults new) (sink.lacks old) (sink.lacks new) result
 
 -- a fault of a file is answered only where its count rose; the text isn't put out yet
 abbrev pub HasFileCause : ℕ → ℕ → ℕ → ℕ → Status → Type 0

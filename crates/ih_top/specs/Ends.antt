@@ -8,7 +8,7 @@ use Rattle.ih_journal.specs.Tried.{tries}
 use Rattle.ih_journal.specs.Legal.{IsFull}
 use Rattle.ih_journal.specs.Texts.{lines_from}
 use Rattle.ih_words.specs.Words.{Call, solve, replay, salvage, check, chain, rounds, gen, demo, advise}
-use Rattle.ih_shelf.specs.Outside.{IsAppended, MayBeAppended, Names, Rose, Told}
+use Rattle.ih_shelf.specs.Outside.{IsAppended, MayBeAppended, Names, Rose, IfTold}
 use Rattle.ih_top.specs.declared.status.Status.{Status}
 use Rattle.ih_top.specs.declared.status.Status.TheVariants.{Done, Usage, ReadFault, NoneFound, WriteFault, OutOfMemory, Infeasible}
 use Rattle.ih_top.specs.Advise.{AdviseEnds, advise_reading}
@@ -33,11 +33,11 @@ use Rattle.ih_top.specs.Texts.{usage_text, memory_text}
 -- for the whole.
 abbrev pub Gained : Status → Option (List ℕ) → Option (List ℕ) → ℕ → ℕ → List ℕ → Type 0
 Gained status old new before now text =
-    Told (IsAppended text) old new ⊎ ((unsaid status ≡ status) × Rose before now × Told (MayBeAppended text) old new)
+    IfTold (IsAppended text) old new ⊎ ((unsaid status ≡ status) × Rose before now × IfTold (MayBeAppended text) old new)
 
--- the sink's count of wants of memory rose, and it gained a prefix of the text
+-- the sink's count of lacks of memory rose, and it gained a prefix of the text
 abbrev pub GainedPart : Option (List ℕ) → Option (List ℕ) → ℕ → ℕ → List ℕ → Type 0
-GainedPart old new before now text = Rose before now × Told (MayBeAppended text) old new
+GainedPart old new before now text = Rose before now × IfTold (MayBeAppended text) old new
 
 -- ---- a call with lawful words
 
@@ -47,12 +47,12 @@ abbrev pub CallEnds : Call → Option Names → Option Names → Status → List
 CallEnds (solve s) old new status text = SolveEnds s old new status text
 CallEnds (replay r) old new status text = ReplayEnds r old new status text
 CallEnds (salvage r) old new status text = SalvageEnds r old new status text
-CallEnds (check c) old new status text = Told Unchanged old new × CheckEnds c old status text
+CallEnds (check c) old new status text = IfTold Unchanged old new × CheckEnds c old status text
 CallEnds (chain c) old new status text = ChainEnds c old new status text
 CallEnds (rounds r) old new status text = RoundsEnds r old new status text
-CallEnds (advise a) old new status text = Told Unchanged old new × AdviseEnds a old status text
+CallEnds (advise a) old new status text = IfTold Unchanged old new × AdviseEnds a old status text
 CallEnds (gen g) old new status text = GenEnds g old new status text
-CallEnds (demo number) old new status text = Told Unchanged old new × DemoEnds number status text
+CallEnds (demo number) old new status text = IfTold Unchanged old new × DemoEnds number status text
 
 -- the file of the solution isn't that of the journal
 abbrev pub OutDiffers : Call → Type 0
@@ -79,7 +79,7 @@ UsageEnds status text = ⊥
 
 -- what the files then hold and what is said, by the call that the words name
 abbrev pub Leaves : Option Call → Option Names → Option Names → (List ℕ → Type 0) → (List ℕ → Type 0) → Status → Type 0
-Leaves None old new gained part status = Told Unchanged old new × Ends UsageEnds gained part status
+Leaves None old new gained part status = IfTold Unchanged old new × Ends UsageEnds gained part status
 Leaves (Some call) old new gained part status = Ends (CallEnds call old new) gained part status
 
 -- A fault is answered only where its count rose in the call.

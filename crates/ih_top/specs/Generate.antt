@@ -2,7 +2,7 @@
 use Rattle.std.specs.Prelude.{◌≡◌, ℕ, List, [], Option, Some}
 use Rattle.ih_gen.specs.Generated.{generated}
 use Rattle.ih_words.specs.Generate.{GenCall}
-use Rattle.ih_shelf.specs.Outside.{IsWritten, MayBeWritten, Names, Told}
+use Rattle.ih_shelf.specs.Outside.{IsWritten, MayBeWritten, Names, IfTold}
 use Rattle.ih_top.specs.declared.status.Status.{Status}
 use Rattle.ih_top.specs.declared.status.Status.TheVariants.{Done, WriteFault, OutOfMemory}
 use Rattle.ih_top.specs.declared.status.Role.TheVariants.{Out}
@@ -10,8 +10,8 @@ use Rattle.ih_top.specs.Texts.{memory_text, unwritten_text}
 
 abbrev pub GenEnds : GenCall → Option Names → Option Names → Status → List ℕ → Type 0
 -- the instance is written, and nothing is said
-GenEnds g old new Done text = Told (IsWritten g.out (generated g.number)) old new × (text ≡ [])
+GenEnds g old new Done text = IfTold (IsWritten g.out (generated g.number)) old new × (text ≡ [])
 GenEnds g old new (WriteFault (Some Out)) text =
-    Told (MayBeWritten g.out (generated g.number)) old new × (text ≡ unwritten_text g.out)
-GenEnds g old new OutOfMemory text = Told (MayBeWritten g.out (generated g.number)) old new × (text ≡ memory_text)
+    IfTold (MayBeWritten g.out (generated g.number)) old new × (text ≡ unwritten_text g.out)
+GenEnds g old new OutOfMemory text = IfTold (MayBeWritten g.out (generated g.number)) old new × (text ≡ memory_text)
 GenEnds g old new status text = ⊥

@@ -7,7 +7,7 @@ use Rattle.ih_journal.specs.Base.{Base}
 use Rattle.ih_journal.specs.Tried.{Tried, tries}
 use Rattle.ih_journal.specs.Best.{IsBest, HasNone}
 use Rattle.ih_words.specs.Replay.{ReplayCall}
-use Rattle.ih_shelf.specs.Outside.{IsWritten, MayBeWritten, Names, Told}
+use Rattle.ih_shelf.specs.Outside.{IsWritten, MayBeWritten, Names, IfTold}
 use Rattle.ih_top.specs.declared.status.Status.{Status}
 use Rattle.ih_top.specs.declared.status.Status.TheVariants.{Done, NoneFound, WriteFault, OutOfMemory, JournalRefused}
 use Rattle.ih_top.specs.declared.status.Role.TheVariants.{Out}
@@ -27,7 +27,7 @@ pub record HasBest (taken : JournalRead → Base → List Entry → Type 0)
   pub given : HasRead old r read
   pub taken_is : taken read base history
   pub best : IsBest base (tries history) place
-  pub written : Told (writes r.out (solution_at base (tries history) place)) old new
+  pub written : IfTold (writes r.out (solution_at base (tries history) place)) old new
 
 -- A history was taken from the journal, and no timetable of it is feasible.
 pub record HasNoBest (taken : JournalRead → Base → List Entry → Type 0) (r : ReplayCall)
@@ -56,15 +56,15 @@ abbrev pub JournalEnds : (JournalRead → Base → List Entry → Type 0) → (J
 JournalEnds taken refused said r old new Done text =
     (d : HasBest taken IsWritten r old new) × (text ≡ said d.base (tries d.history) d.place)
 JournalEnds taken refused said r old new NoneFound text =
-    Told Unchanged old new × HasNoBest taken r old × (text ≡ none_found_text)
+    IfTold Unchanged old new × HasNoBest taken r old × (text ≡ none_found_text)
 JournalEnds taken refused said r old new (JournalRefused e) text =
-    Told Unchanged old new × IsRefused refused r old e × (text ≡ journal_refused_text e)
+    IfTold Unchanged old new × IsRefused refused r old e × (text ≡ journal_refused_text e)
 JournalEnds taken refused said r old new (WriteFault (Some Out)) text =
     HasBest taken MayBeWritten r old new × (text ≡ unwritten_text r.out)
 -- all is done but that the text couldn't be put out
 JournalEnds taken refused said r old new (WriteFault None) text =
     (d : HasBest taken IsWritten r old new) × (text ≡ said d.base (tries d.history) d.place)
 JournalEnds taken refused said r old new OutOfMemory text =
-    (Told Unchanged old new ⊎ HasBest taken MayBeWritten r old new) × (text ≡ memory_text)
+    (IfTold Unchanged old new ⊎ HasBest taken MayBeWritten r old new) × (text ≡ memory_text)
 -- the files aren't as they ought to be
-JournalEnds taken refused said r old new status text = Told Unchanged old new × EndsUnreadJournal old r status text
+JournalEnds taken refused said r old new status text = IfTold Unchanged old new × EndsUnreadJournal old r status text

@@ -129,7 +129,7 @@ EndsIn wanted text left status said = (status ≡ OutOfMemory) ⊎ ((status ≡ 
 
 -- After solve wrote its best, replay of its journal writes the same solution and says the same, and salvage says before
 -- it that there are so many lines.
-pub record IsTakenBack (s : SolveCall) (r : ReplayCall) (before after there left : Names) (text : List ℕ) (lines : ℕ)
+pub record IsReplayedAlike (s : SolveCall) (r : ReplayCall) (before after there left : Names) (text : List ℕ) (lines : ℕ)
     (ended : Status) (said : List ℕ) : Type 0 where
   pub replayed : ReplayEnds r (Some there) (Some left) ended said
       → EndsIn Done text (left r.out ≡ after s.out) ended said
@@ -137,23 +137,23 @@ pub record IsTakenBack (s : SolveCall) (r : ReplayCall) (before after there left
       → EndsIn Done (salvaged_line lines ++ text) (left r.out ≡ after s.out) ended said
 
 -- where it found none, neither do they
-pub record IsTakenBackAsNone (r : ReplayCall) (there left : Names) (ended : Status) (said : List ℕ) : Type 0 where
+pub record IsReplayedAsNone (r : ReplayCall) (there left : Names) (ended : Status) (said : List ℕ) : Type 0 where
   pub replayed : ReplayEnds r (Some there) (Some left) ended said
       → EndsIn NoneFound none_found_text (Unit {0}) ended said
   pub salvaged : SalvageEnds r (Some there) (Some left) ended said
       → EndsIn NoneFound none_found_text (Unit {0}) ended said
 
-abbrev pub SolvesAreTakenBack : Type 0
-SolvesAreTakenBack =
+abbrev pub SolvesReplayTheSame : Type 0
+SolvesReplayTheSame =
     (s : SolveCall) (r : ReplayCall) (before after there left : Names) (text : List ℕ) (ended : Status) (said : List ℕ)
     → IsReplayOf s r before after there → HasNoFault ended → (done : IsDone of_moves s (Some before) (Some after) text)
-    → IsTakenBack s r before after there left text (length done.history) ended said
+    → IsReplayedAlike s r before after there left text (length done.history) ended said
 
-abbrev pub SolvesWithNoneAreTakenBack : Type 0
-SolvesWithNoneAreTakenBack =
+abbrev pub SolvesWithNoneReplayTheSame : Type 0
+SolvesWithNoneReplayTheSame =
     (s : SolveCall) (r : ReplayCall) (before after there left : Names) (ended : Status) (said : List ℕ)
     → IsReplayOf s r before after there → HasNoFault ended → HasFoundNone of_moves s (Some before) (Some after)
-    → IsTakenBackAsNone r there left ended said
+    → IsReplayedAsNone r there left ended said
 
 -- ---- journals of chains
 

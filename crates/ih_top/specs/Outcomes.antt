@@ -11,7 +11,7 @@ use Rattle.ih_journal.specs.Texts.{lines_from}
 use Rattle.ih_cellbook.specs.Keeping.{IsBase}
 use Rattle.ih_cellbook.specs.Legal.{AreExact}
 use Rattle.ih_words.specs.Start.{StartCall}
-use Rattle.ih_shelf.specs.Outside.{IsWritten, MayBeWritten, Names, Told}
+use Rattle.ih_shelf.specs.Outside.{IsWritten, MayBeWritten, Names, IfTold}
 use Rattle.ih_top.specs.declared.output.BestOutput.{BestOutput}
 use Rattle.ih_top.specs.declared.outcome.Outcome.{Outcome}
 use Rattle.ih_top.specs.declared.outcome.Outcome.TheVariants.{Refused, Taken}
@@ -88,17 +88,17 @@ pub record WritesBest (writes : List ℕ → List ℕ → Names → Names → Ty
     (old new : Option Names) : Type 0 where
   pub best : BestOutput
   pub is : o ≡ Taken (Some best)
-  pub written : Told (writes out best.solution.items) old new
+  pub written : IfTold (writes out best.solution.items) old new
 
 -- how a call ends that has this outcome, and writes its best under a name
 abbrev pub OutcomeEnds : Outcome → List ℕ → Option Names → Option Names → Status → List ℕ → Type 0
 OutcomeEnds o out old new Done text = (w : WritesBest IsWritten o out old new) × (text ≡ w.best.text.items)
-OutcomeEnds o out old new NoneFound text = Told Unchanged old new × (o ≡ Taken None) × (text ≡ none_found_text)
+OutcomeEnds o out old new NoneFound text = IfTold Unchanged old new × (o ≡ Taken None) × (text ≡ none_found_text)
 OutcomeEnds o out old new (JournalRefused e) text =
-    Told Unchanged old new × (o ≡ Refused e) × (text ≡ journal_refused_text e)
+    IfTold Unchanged old new × (o ≡ Refused e) × (text ≡ journal_refused_text e)
 OutcomeEnds o out old new (WriteFault (Some Out)) text =
     WritesBest MayBeWritten o out old new × (text ≡ unwritten_text out)
 OutcomeEnds o out old new (WriteFault None) text = (w : WritesBest IsWritten o out old new) × (text ≡ w.best.text.items)
 OutcomeEnds o out old new OutOfMemory text =
-    (Told Unchanged old new ⊎ WritesBest MayBeWritten o out old new) × (text ≡ memory_text)
+    (IfTold Unchanged old new ⊎ WritesBest MayBeWritten o out old new) × (text ≡ memory_text)
 OutcomeEnds o out old new status text = ⊥

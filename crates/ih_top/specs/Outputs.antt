@@ -9,7 +9,7 @@ use Rattle.ih_journal.specs.Best.{IsBest, HasNone}
 use Rattle.ih_cellbook.specs.Keeping.{IsBase, base_with}
 use Rattle.ih_cellbook.specs.Legal.{AreExact}
 use Rattle.ih_words.specs.Solve.{SolveCall}
-use Rattle.ih_shelf.specs.Outside.{Names, Told}
+use Rattle.ih_shelf.specs.Outside.{Names, IfTold}
 use Rattle.ih_top.specs.declared.inputs.Inputs.{Inputs}
 use Rattle.ih_top.specs.declared.output.Output.{Output}
 use Rattle.ih_top.specs.declared.output.BestOutput.{BestOutput}
@@ -78,24 +78,24 @@ pub record WritesOutput (writes : SolveCall → List ℕ → List ℕ → Names 
     (old new : Option Names) : Type 0 where
   pub best : BestOutput
   pub is : o.best ≡ Some best
-  pub written : Told (writes s o.journal.items best.solution.items) old new
+  pub written : IfTold (writes s o.journal.items best.solution.items) old new
 
 -- how a call ends that writes what its search made: the journal, then the solution of the best
 abbrev pub OutputEnds : SolveCall → Output → Option Names → Option Names → Status → List ℕ → Type 0
 OutputEnds s o old new Done text = (w : WritesOutput WritesBoth s o old new) × (text ≡ w.best.text.items)
 OutputEnds s o old new NoneFound text =
-    (o.best ≡ None) × Told (WritesJournal s o.journal.items) old new × (text ≡ none_found_text)
+    (o.best ≡ None) × IfTold (WritesJournal s o.journal.items) old new × (text ≡ none_found_text)
 OutputEnds s o old new (WriteFault (Some Journal)) text =
-    Told (BeginsJournal s o.journal.items) old new × (text ≡ unwritten_text s.journal)
+    IfTold (BeginsJournal s o.journal.items) old new × (text ≡ unwritten_text s.journal)
 OutputEnds s o old new (WriteFault (Some Out)) text =
     WritesOutput BeginsSolution s o old new × (text ≡ unwritten_text s.out)
 OutputEnds s o old new (WriteFault None) text = (w : WritesOutput WritesBoth s o old new) × (text ≡ w.best.text.items)
 OutputEnds s o old new OutOfMemory text =
-    (Told (BeginsJournal s o.journal.items) old new ⊎ WritesOutput BeginsSolution s o old new) × (text ≡ memory_text)
+    (IfTold (BeginsJournal s o.journal.items) old new ⊎ WritesOutput BeginsSolution s o old new) × (text ≡ memory_text)
 OutputEnds s o old new status text = ⊥
 
 -- the same where it made this, or memory ran out as it was made
 abbrev pub MadeEnds : {E : Type 0} → SolveCall → Result Output E → Option Names → Option Names → Status → List ℕ
     → Type 0
 MadeEnds s (Ok o) old new status text = OutputEnds s o old new status text
-MadeEnds s (Err e) old new status text = (status ≡ OutOfMemory) × Told Unchanged old new × (text ≡ memory_text)
+MadeEnds s (Err e) old new status text = (status ≡ OutOfMemory) × IfTold Unchanged old new × (text ≡ memory_text)

@@ -10,7 +10,7 @@ use Rattle.ih_rounds.specs.Best.{HaveNone, IsBestOf}
 use Rattle.ih_rounds.specs.Rounds.{AreRounds, Round, base_in, journals}
 use Rattle.ih_words.specs.Rounds.{RoundsCall}
 use Rattle.ih_words.specs.Solve.{SolveCall}
-use Rattle.ih_shelf.specs.Outside.{Names, Told}
+use Rattle.ih_shelf.specs.Outside.{Names, IfTold}
 use Rattle.ih_top.specs.declared.output.BestOutput.{BestOutput}
 use Rattle.ih_top.specs.declared.output.Output.{Output}
 use Rattle.ih_top.specs.declared.status.Role.TheVariants.{Journal, Out}
@@ -86,7 +86,7 @@ pub record HaveSearched (writes : SolveCall → List ℕ → Names → Names →
   pub base : Base
   pub rounds : List Round
   pub searches : AreSearches old r base rounds
-  pub written : Told (writes r.search (journals base.options 0 rounds)) old new
+  pub written : IfTold (writes r.search (journals base.options 0 rounds)) old new
 
 -- the journals of the rounds and the solution of the first cheapest feasible timetable of all are written, as far as
 -- this says
@@ -98,7 +98,7 @@ pub record HaveBest (writes : SolveCall → List ℕ → List ℕ → Names → 
   pub place : ℕ
   pub searches : AreSearches old r base rounds
   pub best : IsBestOf base rounds round place
-  pub written : Told
+  pub written : IfTold
       (writes r.search (journals base.options 0 rounds) (solution_in base round best.round place)) old new
 
 abbrev pub HaveBegun : RoundsCall → Option Names → Option Names → Type 0
@@ -124,6 +124,6 @@ RoundsEnds r old new (WriteFault (Some Out)) text = HaveFound r old new × (text
 -- all is done but that the text couldn't be put out
 RoundsEnds r old new (WriteFault None) text = AreDone r old new text
 RoundsEnds r old new OutOfMemory text =
-    (Told Unchanged old new ⊎ HaveBegun r old new ⊎ HaveFound r old new) × (text ≡ memory_text)
+    (IfTold Unchanged old new ⊎ HaveBegun r old new ⊎ HaveFound r old new) × (text ≡ memory_text)
 -- the files aren't as they ought to be
-RoundsEnds r old new status text = Told Unchanged old new × EndsUnread old (solve_reading r.search) status text
+RoundsEnds r old new status text = IfTold Unchanged old new × EndsUnread old (solve_reading r.search) status text

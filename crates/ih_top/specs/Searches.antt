@@ -13,7 +13,7 @@ use Rattle.ih_cellbook.specs.Keeping.{IsBase}
 use Rattle.ih_cellbook.specs.Legal.{AreExact}
 use Rattle.ih_solution.specs.Solution.{solution}
 use Rattle.ih_words.specs.Solve.{SolveCall}
-use Rattle.ih_shelf.specs.Outside.{Names, Told}
+use Rattle.ih_shelf.specs.Outside.{Names, IfTold}
 use Rattle.ih_top.specs.declared.status.Status.{Status}
 use Rattle.ih_top.specs.declared.status.Status.TheVariants.{Done, NoneFound, WriteFault, OutOfMemory}
 use Rattle.ih_top.specs.declared.status.Role.TheVariants.{Journal, Out}
@@ -58,7 +58,7 @@ pub record HasBegun {X : Type 0} (kind : Kind X) (s : SolveCall) (old new : Opti
   pub base : Base
   pub history : List X
   pub search : IsSearch kind old s base history
-  pub written : Told (BeginsJournal s (kind.journal base.options history)) old new
+  pub written : IfTold (BeginsJournal s (kind.journal base.options history)) old new
 
 -- the journal of a full history is written, in which no timetable is feasible
 pub record HasFoundNone {X : Type 0} (kind : Kind X) (s : SolveCall) (old new : Option Names) : Type 0 where
@@ -66,7 +66,7 @@ pub record HasFoundNone {X : Type 0} (kind : Kind X) (s : SolveCall) (old new : 
   pub history : List X
   pub search : IsSearch kind old s base history
   pub none : HasNone base (told_by kind history)
-  pub written : Told (WritesJournal s (kind.journal base.options history)) old new
+  pub written : IfTold (WritesJournal s (kind.journal base.options history)) old new
 
 -- the journal of a full history is written, and the solution of its first cheapest feasible timetable may be begun
 pub record HasFound {X : Type 0} (kind : Kind X) (s : SolveCall) (old new : Option Names) : Type 0 where
@@ -75,7 +75,7 @@ pub record HasFound {X : Type 0} (kind : Kind X) (s : SolveCall) (old new : Opti
   pub place : ℕ
   pub search : IsSearch kind old s base history
   pub best : IsBest base (told_by kind history) place
-  pub written : Told
+  pub written : IfTold
       (BeginsSolution s (kind.journal base.options history) (solution_at base (told_by kind history) place)) old new
 
 -- the journal of a full history and the solution of its first cheapest feasible timetable are written, and this is what
@@ -86,13 +86,13 @@ pub record IsDone {X : Type 0} (kind : Kind X) (s : SolveCall) (old new : Option
   pub place : ℕ
   pub search : IsSearch kind old s base history
   pub best : IsBest base (told_by kind history) place
-  pub written : Told
+  pub written : IfTold
       (WritesBoth s (kind.journal base.options history) (solution_at base (told_by kind history) place)) old new
   pub said : text ≡ done_text base (told_by kind history) place
 
 -- where memory ran out, the files are as far as the call had come
 abbrev pub IsSomewhere : {X : Type 0} → Kind X → SolveCall → Option Names → Option Names → Type 0
-IsSomewhere kind s old new = Told Unchanged old new ⊎ HasBegun kind s old new ⊎ HasFound kind s old new
+IsSomewhere kind s old new = IfTold Unchanged old new ⊎ HasBegun kind s old new ⊎ HasFound kind s old new
 
 -- How a call ends that makes one search. Each case has the whole condition of its status. Where the shelf tells what it
 -- holds, no two of them hold of one call, but for faults and for lack of memory.
@@ -107,4 +107,4 @@ SearchEnds kind s old new (WriteFault (Some Out)) text = HasFound kind s old new
 SearchEnds kind s old new (WriteFault None) text = IsDone kind s old new text
 SearchEnds kind s old new OutOfMemory text = IsSomewhere kind s old new × (text ≡ memory_text)
 -- the files aren't as they ought to be
-SearchEnds kind s old new status text = Told Unchanged old new × EndsUnread old (solve_reading s) status text
+SearchEnds kind s old new status text = IfTold Unchanged old new × EndsUnread old (solve_reading s) status text

@@ -29,7 +29,7 @@ fn unsaid(status: Status) -> Status
 pub fn conclude_memory<R: Print, O: Sink>(rt: &R, out: &mut O) -> Status
     ensures status { result ≡ Status.OutOfMemory }
     ensures said { Gained result (O.text out.old) (O.text out.new) (O.faults out.old) (O.faults out.new) memory_text
-        ⊎ GainedPart (O.text out.old) (O.text out.new) (O.wants out.old) (O.wants out.new) memory_text }
+        ⊎ GainedPart (O.text out.old) (O.text out.new) (O.lacks out.old) (O.lacks out.new) memory_text }
     ensures count { O.faults out.old ≤ O.faults out.new }
 {
     match out.put(rt, b"out of memory\n") {
@@ -42,7 +42,7 @@ pub fn conclude_memory<R: Print, O: Sink>(rt: &R, out: &mut O) -> Status
 pub fn conclude<R: Print, O: Sink>(rt: &R, out: &mut O, answer: &Answer) -> Status
     ensures said { IsConcluded answer.now.status answer.now.text.items
         (Gained result (O.text out.old) (O.text out.new) (O.faults out.old) (O.faults out.new))
-        (GainedPart (O.text out.old) (O.text out.new) (O.wants out.old) (O.wants out.new)) result }
+        (GainedPart (O.text out.old) (O.text out.new) (O.lacks out.old) (O.lacks out.new)) result }
     ensures cause { HasSinkCause O.Sink out.old out.new answer.now.status result }
 {
     if let Status::OutOfMemory = answer.status {

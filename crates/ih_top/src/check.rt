@@ -6,7 +6,7 @@ ghost use Rattle.ih_plan.specs.BillOf.{bill_of};
 ghost use Rattle.ih_tables.specs.Bills.{feasible};
 ghost use Rattle.ih_validate.specs.Report.{report};
 ghost use Rattle.ih_words.specs.Check.{check_call};
-ghost use Rattle.ih_shelf.specs.Outside.{Told};
+ghost use Rattle.ih_shelf.specs.Outside.{IfTold};
 ghost use Rattle.ih_top.specs.Answers.{Answers, HasShelfCause, IsSaid, checked_status};
 ghost use Rattle.ih_top.specs.Check.{CheckEnds};
 ghost use Rattle.ih_top.specs.Writes.{Unchanged};

@@ -2,7 +2,7 @@
 //! theirs.
 
 ghost use Rattle.ih_top.specs.Laws.{ChainJournalsAreHeadless, ChainJournalsFit, ChainsAreRefused, DemosShowTheSame};
-ghost use Rattle.ih_top.specs.Laws.{JournalsFit, SolvesAreTakenBack, SolvesWithNoneAreTakenBack};
+ghost use Rattle.ih_top.specs.Laws.{JournalsFit, SolvesReplayTheSame, SolvesWithNoneReplayTheSame};
 ghost use Rattle.ih_top.specs.Laws.{LoneRoundsAreAlike, LoneRoundsEndAlike};
 ghost use Rattle.ih_top.specs.Laws.{LoneSearchesAreAlike, LoneSearchesDoTheSame, LoneSearchesEndAlike};
 ghost use Rattle.ih_top.specs.Laws.{RefusedLinesAreNotFull, WholeLinesAreSalvaged};
@@ -56,9 +56,9 @@ pub fn lone_searches_are_alike()
 
 /// What `solve` writes, `replay` and `salvage` take: over an instance and a start with the same bytes, and with no
 /// fault, they end with the same solution and the same text, or memory runs out. A journal is never too long for that.
-pub fn solves_are_taken_back()
-    ensures best { SolvesAreTakenBack }
-    ensures none { SolvesWithNoneAreTakenBack }
+pub fn solves_replay_the_same()
+    ensures best { SolvesReplayTheSame }
+    ensures none { SolvesWithNoneReplayTheSame }
     ensures fits { JournalsFit }
 {
     legal_journals_are_taken();

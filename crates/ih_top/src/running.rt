@@ -32,7 +32,7 @@ pub fn run<R: Files + Print + Threads + Wait + Sync, S: Shelf, O: Sink, G: Gate>
     // the shelf or the sink does not tell what it holds, nothing is claimed of that.
     ensures leaves { Leaves (call_of (map string_bytes words.now)) (S.names shelf.old) (S.names shelf.new)
         (Gained result (O.text out.old) (O.text out.new) (O.faults out.old) (O.faults out.new))
-        (GainedPart (O.text out.old) (O.text out.new) (O.wants out.old) (O.wants out.new)) result }
+        (GainedPart (O.text out.old) (O.text out.new) (O.lacks out.old) (O.lacks out.new)) result }
 
     // A fault is answered only where its count rose in this call.
     ensures cause { HasCause (S.read_faults shelf.old) (S.read_faults shelf.new) (S.write_faults shelf.old)

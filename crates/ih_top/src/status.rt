@@ -27,11 +27,11 @@ pub enum Status {
     ReadFault(Role),
     /// The instance's first refusal.
     InstanceRefused(Refusal),
-    /// The first refusal of the start, or of the solution to be checked.
+    /// The first refusal of a solution file: the start, or the one that is to be checked.
     StartRefused(Refusal),
     /// No timetable of the history is feasible.
     NoneFound,
-    /// A file couldn't be written; without a role, the text couldn't be put out.
+    /// A file could not be written; with no role, it is the text that could not be put out.
     WriteFault(Option<Role>),
     /// Memory ran out.
     OutOfMemory,

@@ -15,7 +15,7 @@ pub returns-in-None-clause-said : goal.returns-in-None-clause-said
 returns-in-None-clause-said g c =
     let files = g.S.Shelf.names c.args.shelf.now in
     subst (λ call. IsSaid (Reaches call files files) (text_for call) c.say_usage.result (g.O.Sink.text c.args.out.now) (g.O.Sink.text c.say_usage.new.out)
-    (g.O.Sink.faults c.args.out.now) (g.O.Sink.faults c.say_usage.new.out) (g.O.Sink.wants c.args.out.now) (g.O.Sink.wants c.say_usage.new.out)) c.in-None.ensures
+    (g.O.Sink.faults c.args.out.now) (g.O.Sink.faults c.say_usage.new.out) (g.O.Sink.lacks c.args.out.now) (g.O.Sink.lacks c.say_usage.new.out)) c.in-None.ensures
     (said-usage _ _ _ _ _ _ (Reaches None files files) c.say_usage.result (refl, refl) c.say_usage.ensures)
 
 pub returns-in-Some-clause-ends : goal.returns-in-Some-clause-ends
@@ -36,6 +36,6 @@ returns-in-Some-clause-said g c =
     let new = g.S.Shelf.names c.look-status.new.shelf in
     let call : Call = call_in c.in-Some.call in
     subst (λ call. IsSaid (Reaches call old new) (text_for call) c.conclude.result (g.O.Sink.text c.args.out.now) (g.O.Sink.text c.conclude.new.out)
-    (g.O.Sink.faults c.args.out.now) (g.O.Sink.faults c.conclude.new.out) (g.O.Sink.wants c.args.out.now) (g.O.Sink.wants c.conclude.new.out)) c.in-Some.ensures
+    (g.O.Sink.faults c.args.out.now) (g.O.Sink.faults c.conclude.new.out) (g.O.Sink.lacks c.args.out.now) (g.O.Sink.lacks c.conclude.new.out)) c.in-Some.ensures
     (said-weaker (text_of call) _ _ _ _ _ _ (MayTell c.look-status.result) (CallEnds call old new)
     (λ told h. told-ends call old new c.look-status.result told c.look-status.ensures.ends h) c.conclude.result c.conclude.ensures.said)

@@ -19,7 +19,7 @@ returns-in-Ok-clause-leaves g c =
     rw c.in-Ok.ensures.ok
     (ended (CallEnds call (g.S.Shelf.names c.args.shelf.now) (g.S.Shelf.names c.perform-answer.new.shelf)) (call-answerable call _ _)
     (Gained result before after (g.O.Sink.faults c.args.out.now) (g.O.Sink.faults c.conclude.new.out))
-    (GainedPart before after (g.O.Sink.wants c.args.out.now) (g.O.Sink.wants c.conclude.new.out)) c.perform-answer.result result
+    (GainedPart before after (g.O.Sink.lacks c.args.out.now) (g.O.Sink.lacks c.conclude.new.out)) c.perform-answer.result result
     c.perform-answer.ensures.ends c.conclude.ensures.said)
 
 pub returns-in-Ok-clause-complete : goal.returns-in-Ok-clause-complete
@@ -31,7 +31,7 @@ returns-in-Ok-clause-complete g c =
     rw c.in-Ok.ensures.ok
     (complete call (g.S.Shelf.names c.args.shelf.now) (g.S.Shelf.names c.perform-answer.new.shelf)
     (Gained result before after (g.O.Sink.faults c.args.out.now) (g.O.Sink.faults c.conclude.new.out))
-    (GainedPart before after (g.O.Sink.wants c.args.out.now) (g.O.Sink.wants c.conclude.new.out)) _ _ _ _ _ _ result
+    (GainedPart before after (g.O.Sink.lacks c.args.out.now) (g.O.Sink.lacks c.conclude.new.out)) _ _ _ _ _ _ result
     (ended (CallEnds call (g.S.Shelf.names c.args.shelf.now) (g.S.Shelf.names c.perform-answer.new.shelf)) (call-answerable call _ _) _ _ c.perform-answer.result result
     c.perform-answer.ensures.ends c.conclude.ensures.said)
     (has-cause _ _ _ _ _ _ _ _ c.perform-answer.result.status result c.perform-answer.ensures.cause c.conclude.ensures.cause))
@@ -42,7 +42,7 @@ returns-in-Err-OutOfMemory-clause-leaves g c =
     let before = g.O.Sink.text c.args.out.now in
     let after = g.O.Sink.text c.conclude_memory.new.out in
     let gained = Gained c.conclude_memory.result before after (g.O.Sink.faults c.args.out.now) (g.O.Sink.faults c.conclude_memory.new.out) in
-    let part = GainedPart before after (g.O.Sink.wants c.args.out.now) (g.O.Sink.wants c.conclude_memory.new.out) in
+    let part = GainedPart before after (g.O.Sink.lacks c.args.out.now) (g.O.Sink.lacks c.conclude_memory.new.out) in
     subst (Leaves (call_of (map string_bytes c.args.words.now)) files files gained part) (sym c.conclude_memory.ensures.status)
     (memory-leaves (call_of (map string_bytes c.args.words.now)) files gained part c.conclude_memory.ensures.said)
 
@@ -55,6 +55,6 @@ returns-in-Err-Unlawful-clause-leaves g c =
     rw (c.in-Err-Unlawful.ensures.unlawful c.in-Err-Unlawful.field-0-is) (
       told-same files files refl,
       usage-ended (Gained result before after (g.O.Sink.faults c.args.out.now) (g.O.Sink.faults c.conclude-in-Err-Unlawful.new.out))
-          (GainedPart before after (g.O.Sink.wants c.args.out.now) (g.O.Sink.wants c.conclude-in-Err-Unlawful.new.out)) c.usage.result result
+          (GainedPart before after (g.O.Sink.lacks c.args.out.now) (g.O.Sink.lacks c.conclude-in-Err-Unlawful.new.out)) c.usage.result result
           c.usage.ensures c.conclude-in-Err-Unlawful.ensures.said,
     )

@@ -13,7 +13,7 @@ use Rattle.ih_journal.proofs.Growth.{AreOfMoves, after_entries-plan, legal-moves
 use Rattle.ih_journal.proofs.LoneWorkers.{lone-same}
 use Rattle.ih_journal.proofs.Mapped.{tries-one}
 use Rattle.ih_cellbook.specs.Laws.{IsSearchBase, LegalHistoriesAreInRange}
-use Rattle.ih_rounds.specs.Laws.{AreInRange, RoundsHaveTwoJournals}
+use Rattle.ih_rounds.specs.Laws.{AreInRange, JournalsTellRoundsApart}
 use Rattle.ih_rounds.specs.Rounds.{AreRounds, Round, StartsFrom, base_in, histories, next_start, options_in}
 use Rattle.ih_rounds.proofs.Leading.{but-draws}
 use Rattle.ih_rounds.proofs.Parting.{rounds-parted}
@@ -115,7 +115,7 @@ as-many [] (s ∷ ss) same = absurd (let no : [] ≡ s.history ∷ histories ss 
 as-many (r ∷ rs) [] same = absurd (let no : r.history ∷ histories rs ≡ [] = same in cc)
 as-many (r ∷ rs) (s ∷ ss) same = ap suc (as-many rs ss (let rest : histories rs ≡ histories ss = cc in rest))
 
-pub rounds-differ : LegalHistoriesAreInRange → RoundsHaveTwoJournals
+pub rounds-differ : LegalHistoriesAreInRange → JournalsTellRoundsApart
 rounds-differ law b rs ss search left right h =
     let same = rounds-parted b rs ss search.valid (in-range law b rs search left) (in-range law b ss search right) h in
     rounds-agree b rs ss left right (λ q r s here there start. history-same rs ss q r s same here there) (as-many rs ss same)

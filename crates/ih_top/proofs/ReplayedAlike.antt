@@ -26,7 +26,7 @@ use Rattle.ih_top.specs.declared.status.Status.{Status}
 use Rattle.ih_top.specs.declared.status.Status.TheVariants.{Done, NoneFound}
 use Rattle.ih_top.specs.Inputs.{HasInstance, HasPlan}
 use Rattle.ih_top.specs.JournalLines.{Begins}
-use Rattle.ih_top.specs.Laws.{EndsIn, HasNoFault, HaveSameBytes, IsReplayOf, JournalsFit, SolvesAreTakenBack, SolvesWithNoneAreTakenBack}
+use Rattle.ih_top.specs.Laws.{EndsIn, HasNoFault, HaveSameBytes, IsReplayOf, JournalsFit, SolvesReplayTheSame, SolvesWithNoneReplayTheSame}
 use Rattle.ih_top.specs.JournalEnds.{IsRefused, JournalEnds}
 use Rattle.ih_top.specs.JournalFiles.{HasRead, JournalRead}
 use Rattle.ih_top.specs.JournalHeading.{IsHeadedBy, IsHeadless}
@@ -192,8 +192,8 @@ module _ (taken_law : LegalJournalsAreTaken) (differ : LegalJournalsDiffer) (tex
       → JournalEnds (IsSalvage r.start) IsHeadless salvaged_text r (Some there) (Some left) status text → EndsIn NoneFound none_found_text (Unit {0}) status text
   salvage-none none status text calm ends = none-ends (IsSalvage r.start) IsHeadless salvaged_text one-salvage salvage-never none status text calm ends
 
-pub solves-taken-back : LegalJournalsAreTaken → LegalJournalsDiffer → TakenLinesAreOfLegalHistories → LegalJournalsAreShort → SolvesAreTakenBack
-solves-taken-back taken_law differ texts short s r before after there left text ended said of calm done =
+pub solves-replayed : LegalJournalsAreTaken → LegalJournalsDiffer → TakenLinesAreOfLegalHistories → LegalJournalsAreShort → SolvesReplayTheSame
+solves-replayed taken_law differ texts short s r before after there left text ended said of calm done =
     let b = done.base in
     let H = done.history in
     let k = done.place in
@@ -207,8 +207,8 @@ solves-taken-back taken_law differ texts short s r before after there left text 
           (salvage-best taken_law differ texts short s r before after there left of b H done.search done.written.journal k done.best ended said calm ends);
     }
 
-pub solves-none-taken-back : LegalJournalsAreTaken → LegalJournalsDiffer → TakenLinesAreOfLegalHistories → LegalJournalsAreShort → SolvesWithNoneAreTakenBack
-solves-none-taken-back taken_law differ texts short s r before after there left ended said of calm found = record {
+pub solves-none-replayed : LegalJournalsAreTaken → LegalJournalsDiffer → TakenLinesAreOfLegalHistories → LegalJournalsAreShort → SolvesWithNoneReplayTheSame
+solves-none-replayed taken_law differ texts short s r before after there left ended said of calm found = record {
   replayed = λ ends. replay-none taken_law differ texts short s r before after there left of found.base found.history found.search found.written.journal found.none ended said calm ends;
   salvaged = λ ends. salvage-none taken_law differ texts short s r before after there left of found.base found.history found.search found.written.journal found.none ended said calm ends;
 }
