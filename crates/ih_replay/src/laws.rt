@@ -8,7 +8,7 @@ pub fn legal_journals_are_taken()
     ensures { LegalJournalsAreTaken }
 {}
 
-/// Two legal histories over one start have different journals.
+/// Two different legal histories over one instance, start, options and freeze day have different journals.
 pub fn legal_journals_differ()
     ensures { LegalJournalsDiffer }
 {}

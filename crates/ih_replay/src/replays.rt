@@ -80,9 +80,9 @@ impl<'a> Replay<'a> {
     }
 
     /// Takes a line, without its line feed, where it is that of an entry that may come next, and answers else the first
-    /// reason for which it isn't, with its number among the journal's lines: entry 0 is on line 2. A refused line
-    /// changes nothing. It takes no memory, and the time of the entry's move; after a refusal, maybe that of all moves
-    /// so far.
+    /// reason for which it isn't, with the line's number in the journal: entry 0 is on line 2. A refused line changes
+    /// nothing. It takes no memory. Its time is that of the accepted entries which the worker's replica hasn't followed
+    /// yet; after a refusal, maybe that of all so far.
     pub fn step(&mut self, line: &[u8]) -> Result<(), JournalRefusal>
         ensures taken { OnOk result
             ((e : Entry) × IsNextLine self.old.base self.old.entries line.now e

@@ -28,7 +28,7 @@ pub struct Worker<'a> {
     pub number: u32,
     /// How often that draw was tried before.
     pub again: u32,
-    /// The place behind the worker's last entry, or 0 where it has none.
+    /// The place behind the worker's own last entry, or 0 where it has none.
     pub front: u32,
 }
 
@@ -36,10 +36,7 @@ pub struct Worker<'a> {
 fn is_retried(options: &Options, entry: &Entry) -> bool
     ensures { result ≡ is_retried options.now (tried entry.now) }
 {
-    match entry.verdict {
-        Verdict::Stale { .. } => entry.again < options.retries,
-        _ => false,
-    }
+    matches!(entry.verdict, Verdict::Stale { .. }) && entry.again < options.retries
 }
 
 impl<'a> Worker<'a> {

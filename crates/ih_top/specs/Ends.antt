@@ -82,7 +82,7 @@ abbrev pub Leaves : Option Call → Option Names → Option Names → (List ℕ 
 Leaves None old new gained part status = IfTold Unchanged old new × Ends UsageEnds gained part status
 Leaves (Some call) old new gained part status = Ends (CallEnds call old new) gained part status
 
--- A fault is answered only where its count rose in the call.
+-- A fault is answered only where its count rose in the call, or stands at the last number of 64 bits.
 abbrev pub HasCause : ℕ → ℕ → ℕ → ℕ → ℕ → ℕ → Status → Type 0
 HasCause reads reads' writes writes' puts puts' (ReadFault role) = Rose reads reads'
 HasCause reads reads' writes writes' puts puts' (WriteFault (Some role)) = Rose writes writes'

@@ -34,12 +34,13 @@ pub fn run<R: Files + Print + Threads + Wait + Sync, S: Shelf, O: Sink, G: Gate>
         (Gained result (O.text out.old) (O.text out.new) (O.faults out.old) (O.faults out.new))
         (GainedPart (O.text out.old) (O.text out.new) (O.lacks out.old) (O.lacks out.new)) result }
 
-    // A fault is answered only where its count rose in this call.
+    // A fault is answered only where its count rose in this call, or stands at the last number of 64 bits.
     ensures cause { HasCause (S.read_faults shelf.old) (S.read_faults shelf.new) (S.write_faults shelf.old)
         (S.write_faults shelf.new) (O.faults out.old) (O.faults out.new) result }
 
-    // Where the words are lawful, the files are accepted and no count rose, a search ends with its best or with none, a
-    // check with its report and an advise with its advice, or memory runs out.
+    // Where the shelf tells what it holds, the words are lawful, the files are as `HasFiles` says and no count rose: a
+    // search, a demo, a replay or a salvage ends with its best or with none, a check with its report, an advise with
+    // its advice, a gen with its file; or memory runs out.
     ensures complete { IsComplete (call_of (map string_bytes words.now)) (S.names shelf.old)
         (Rose (S.read_faults shelf.old) (S.read_faults shelf.new))
         (Rose (S.write_faults shelf.old) (S.write_faults shelf.new))

@@ -1,5 +1,6 @@
 -- The rule of a turn, between any two steps, and what each step does to the view of the seat that steps.
--- Word 0 is `ticket`, the tickets handed out, and word 1 is `serving`, those that are done with. The one slot holds the value.
+-- Word 0 is `ticket`, the tickets handed out, and word 1 is `serving`, those that are done with. The one slot holds the
+-- value.
 use Rattle.std.specs.Prelude.{◌≡◌, ◌≢◌, ℕ, ◌+◌, ◌-◌, ◌*◌, ◌^◌, ◌<◌, ◌≤◌, ◌==◌, ◌⊎◌, true, false, cond, nat_lt, List, [], ◌∷◌, ◌++◌, length, map, drop, slice_index, Option, Some, None, All, count_by}
 use mathlib.Core.Option as maybe
 use lib.ListN.{get_elem?}
@@ -184,11 +185,11 @@ pub record IsOf {B E D : Type 0} (entries : B → List E) (base : B → D) (open
 abbrev pub AddsAtMostOne : {E : Type 0} → (E → ℕ) → ℕ → List E → List E → Type 0
 AddsAtMostOne {E} maker n xs ys = (ys ≡ xs) ⊎ ((e : E) × (ys ≡ xs ++ e ∷ []) × (maker e ≡ n))
 
--- there is a mark with the number n
+-- one of the lists is that of the number n
 abbrev pub HasNumber : {E : Type 0} → List (ℕ × List E) → ℕ → Type 0
 HasNumber {E} ts n = (k : ℕ) × (t : ℕ × List E) × (get_elem? ts k ≡ maybe.some t) × (t.0 ≡ n)
 
--- each number below seats has a mark
+-- one of the lists is that of each number below seats
 abbrev pub Covers : {E D : Type 0} → ℕ → View E D → Type 0
 Covers seats v = (n : ℕ) → n < seats → HasNumber (seen_lists v) n
 
@@ -202,7 +203,7 @@ pub record Closes {B E D : Type 0} (entries : B → List E) (base : B → D) (ma
   pub marked : (k : ℕ) (t : ℕ × List E) → get_elem? (seen_lists v) k ≡ maybe.some t → Follows maker t.0 (entries b) t.1
   pub added : AddsBelow maker seats (entries opening) (entries b)
 
--- the first seat, while r of the seats are not split off yet, itself among them
+-- the first seat, with so many turns left of so many that were given, each seat getting so many
 abbrev pub root_view : {B E D : Type 0} → (B → List E) → (B → D) → B → ℕ → ℕ → ℕ → View E D
 root_view entries base opening left given turns = record {
   spent = false;
@@ -220,6 +221,7 @@ root_view entries base opening left given turns = record {
   joined = [];
 }
 
+-- the first seat, while r of the seats are not split off yet, itself among them
 abbrev pub splitting_view : {B E D : Type 0} → (B → List E) → (B → D) → B → ℕ → ℕ → ℕ → View E D
 splitting_view entries base opening r given turns = root_view entries base opening (r * turns) given turns
 

@@ -1,4 +1,4 @@
-// The value in the hands of a seat: how the seat takes it, and how it passes the turn on.
+//! The value in the hands of a seat: how the seat takes it, and how it passes the turn on.
 // Word 0 of the table is `ticket`, word 1 is `serving`, and slot 0 is the value's.
 ghost use Rattle.std.specs.Prelude.{◌≡◌, ◌+◌, ◌<◌, ◌≤◌, true, false, [], ◌∷◌, None, Some, length};
 ghost use Rattle.ih_turn.specs.Rule.{Follows, Serves, IsOf, AddsAtMostOne, made_by, served};
@@ -57,6 +57,11 @@ pub struct Holder<'a, B: Kept, P: TableRule<Option<B>, View<B::Entry, B::Base>, 
     ghost left_is: { left ≡ token.me.0.left },
 }
 
+// The low half of a word, by which a sleep tells whether the word has changed.
+fn low_half(word: u64) -> u32 {
+    (word % 4_294_967_296) as u32
+}
+
 /// A value, and its holder. It has no ghost field and names no lifetime, so that the value can be lent.
 pub struct Guard<H, B> {
     pub(crate) holder: H,
@@ -66,7 +71,8 @@ pub struct Guard<H, B> {
 impl<B: Kept> Turn<B> {
     ghost use Rattle.ih_turn.specs.Seats.{opened_with, history, number_of, made_count, turns_left, value_of, turn_of, holder_number, holder_made, holder_left, list_at_take, IsSeatOf};
 
-    /// Waits until it is the seat's turn, and lends the value out. It uses one of the seat's turns.
+    /// Waits until it is the seat's turn, and lends the value out. Its list begins with what the seat had seen, and past
+    /// that has nothing of the seat's own. It uses one of the seat's turns.
     pub fn take<R: Wait>(&self, rt: &R, seat: Seat<B>) -> Held<'_, B>
         requires own { IsSeatOf self.now seat }
         requires left { 0 < turns_left seat }
@@ -134,7 +140,7 @@ impl<B: Kept> Turn<B> {
 
     // Waits a little, after so many looks at `serving` in vain, where this seat is so many turns behind. A value is
     // held for a short time, so the next seat sees the turn pass while it spins. Any other gives its core to those
-    // before it, and so does the next where the one that has the turn seems to have none.
+    // before it, and so does the next where the one that has the turn seems to have no core.
     fn pause<R: Wait>(&self, rt: &R, looks: u32, ahead: u64, serving: u64) {
         if ahead == 1 && looks < SPINS {
             spin_loop();
@@ -142,8 +148,9 @@ impl<B: Kept> Turn<B> {
             yield_now();
         } else {
             let nap = Duration::from_micros(NAP * ahead.min(MOST_SEATS));
-            let low = (serving % 4_294_967_296) as u32;
-            self.table.shared.park_timeout(rt, 1, low, nap);
+            self.table
+                .shared
+                .park_timeout(rt, 1, low_half(serving), nap);
         }
     }
 
@@ -159,7 +166,7 @@ impl<B: Kept> Turn<B> {
         }
     }
 
-    // Whether a look finds no seat with a ticket, before others had too many turns or all looks were in vain.
+    // True once no seat has a ticket; false once others had so many turns, or all looks are used up.
     fn comes_free(&self) -> bool {
         let shared = &self.table.shared;
         let first = shared.peek(1);
@@ -184,8 +191,7 @@ impl<B: Kept> Turn<B> {
     fn nap<R: Wait>(&self, rt: &R) {
         let asleep = self.asleep.fetch_add(1, Ordering::SeqCst).wrapping_add(1);
         let nap = Duration::from_micros(NAP * asleep.min(MOST_SEATS));
-        let low = (asleep % 4_294_967_296) as u32;
-        self.asleep.park_timeout(rt, low, nap);
+        self.asleep.park_timeout(rt, low_half(asleep), nap);
         self.asleep.fetch_sub(1, Ordering::SeqCst);
     }
 }

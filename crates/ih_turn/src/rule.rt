@@ -1,4 +1,4 @@
-// The rule of the two words `ticket` and `serving`, of the slot and of all views, and what each step tells.
+//! The rule of the two words `ticket` and `serving`, of the slot and of all views, and what each step tells.
 ghost use Rattle.ih_turn.specs.Rule.{IsTurn, first_view, left_view, right_view, both_views, spent_view, TakesTicket, ReadsServing, PassesTurn};
 
 use crate::kept::Kept;

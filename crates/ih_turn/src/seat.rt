@@ -1,4 +1,4 @@
-// A seat, as its owner sees it.
+//! A seat, as its owner sees it.
 ghost use Rattle.std.specs.Prelude.{◌≡◌, [], length};
 ghost use Rattle.ih_turn.specs.Rule.{Rests, made_by};
 
@@ -43,7 +43,7 @@ impl<B: Kept> Seat<B> {
         self.seen
     }
 
-    /// How many entries the seat has made.
+    /// How many entries the seat has made since the turn was made.
     pub fn made(&self) -> u64
         ensures { result ≡ made_count self.now }
     {

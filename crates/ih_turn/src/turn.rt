@@ -1,4 +1,4 @@
-// A turn, and how it is made: the table with the value in its slot, and a seat for each number.
+//! A turn, and how it is made: the table with the value in its slot, and a seat for each number.
 ghost use Rattle.std.specs.Prelude.{◌≡◌, ℕ, ◌+◌, ◌*◌, ◌^◌, ◌<◌, ◌≤◌, [], ◌∷◌, IfOk, IfErr, length, map, slice_index, vec_len, vec_capacity, All};
 ghost use Rattle.ih_turn.specs.Rule.{Rests, AreNumberedFromOne, first_view, splitting_view, seat_view, left_view, right_view};
 

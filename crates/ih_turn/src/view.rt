@@ -1,4 +1,4 @@
-// What a seat knows.
+//! What a seat knows.
 use std::collections::LinkedList;
 
 /// What a seat knows, for proofs alone: no value of it is ever made.
