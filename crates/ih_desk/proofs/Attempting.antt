@@ -1,4 +1,4 @@
--- What comes after an attempt: the next try of its move, or the next move.
+-- What comes after a try: the next try of its attempt, or the next attempt.
 use Rattle.std.proofs.Common.{◌≡◌, ℕ, zero, suc, ◌+◌, ◌*◌, ◌<◌, ◌≤◌, sym, ap, ◌∙◌, subst, refl, arith, inl, inr, Bool, true, false, List, [], ◌∷◌, ◌++◌, append_assoc, Option, Some, None}
 use Rattle.std.specs.Prelude.{◌⊎◌, ◌&&◌, ◌==◌, not, slice_get}
 use Rattle.std.proofs.lemmas.Bool.{cases_eq, eq-eqb, ne_eqb}
@@ -80,7 +80,7 @@ module _ (o : Options) (w n again : ℕ) (m : List Move) (v : Verdict) (seen H :
   no-retry (inl fresh) = rw (tried.verdict, fresh) refl
   no-retry (inr spent) = rw (tried.verdict, same-try) (grind (arith, nat_tests))
 
-  -- otherwise the next move follows
+  -- otherwise the next attempt follows
   pub next-move : (is_stale v ≡ false) ⊎ (o.retries ≤ again) → HasMade o H w (n + 1)
   next-move ends =
       let over = no-retry ends in

@@ -11,7 +11,8 @@ use Rattle.ih_desk.specs.Histories.{GoesOn}
 abbrev pub AreDrawn : Base → ℕ → ℕ → List Tried → Type 0
 AreDrawn b each w H = (k : ℕ) (e : Tried) → slice_get H k ≡ Some e → e.worker ≡ w → e.moves ≡ attempt_of b each e.worker e.number
 
--- In the legal history H worker w has made its attempts of so many draws, all of them, in order, each with its tries.
+-- In H, which is legal but for its draws, worker w has made its attempts of so many draws, all of them, in order, each
+-- with its tries.
 pub record HasFinished (b : Base) (each w : ℕ) (H : List Tried) : Type 0 where
   pub legal : AreLegalButDraws b H
   pub drawn : AreDrawn b each w H

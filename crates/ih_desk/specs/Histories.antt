@@ -13,7 +13,8 @@ pub record GoesOn (w : ℕ) (seen H : List Tried) : Type 0 where
   pub history : H ≡ seen ++ others
   pub none : HasNoneBy w others
 
--- H begins with what was seen, goes on with entries of other workers, and ends with that of the offer, with this verdict
+-- H begins with what was seen, goes on with entries of other workers, and ends with that of the offer, with this
+-- verdict
 pub record EndsWith (b : Base) (o : Offered) (verdict : Verdict) (seen H : List Tried) : Type 0 where
   pub others : List Tried
   pub history : H ≡ (seen ++ others) ++ entry_of b (seen ++ others) o verdict ∷ []

@@ -2,12 +2,11 @@
 use Rattle.std.specs.Prelude.{◌≡◌, ℕ, ◌+◌, ◌*◌, ◌<◌, List, [], ◌++◌, length, map, slice_index, slice_index_or, All}
 use Rattle.std.specs.List.{AllZip}
 use Rattle.ih_journal.specs.Base.{Base}
-use Rattle.ih_journal.specs.Settings.{most_entries}
 use Rattle.ih_turn.specs.Seats.{history, number_of, made_count, turns_left}
 use Rattle.ih_cellbook.specs.Keeping.{base_with}
 use Rattle.ih_desk.specs.declared.given.Given.{Given}
 use Rattle.ih_desk.specs.Desks.{Desk, DeskSeat, IsDesk, IsSeatAt, base_of, worker_count}
-use Rattle.ih_desk.specs.Workers.{HasWorked, Holds, Worker}
+use Rattle.ih_desk.specs.Workers.{HasWorked, Holds, Worker, enough_turns}
 
 -- what a search is over that is given this
 abbrev pub base_given : Given → Base
@@ -18,7 +17,7 @@ pub record IsFresh (desk : Desk) (s : DeskSeat) : Type 0 where
   pub own : IsSeatAt desk s
   pub history : history s ≡ []
   pub made : made_count s ≡ 0
-  pub turns : turns_left s ≡ 4 * most_entries (base_of desk).options + 16
+  pub turns : turns_left s ≡ enough_turns (base_of desk).options
 
 -- The desk was opened for a search over b, and these are its seats, by number.
 pub record IsOpened (b : Base) (desk : Desk) (seats : List DeskSeat) : Type 0 where

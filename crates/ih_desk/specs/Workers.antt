@@ -2,12 +2,18 @@
 use Rattle.std.specs.Prelude.{◌≡◌, ℕ, ◌+◌, ◌*◌, ◌≤◌, Some}
 use Rattle.ih_turn.specs.Seats.{history, number_of, made_count, turns_left}
 use Rattle.ih_journal.specs.Base.{Base}
+use Rattle.ih_journal.specs.declared.settings.Options.{Options}
 use Rattle.ih_journal.specs.Settings.{most_entries}
 use Rattle.ih_desk.specs.declared.workers.Seated.{Seated}
 use Rattle.ih_desk.specs.Desks.{Desk, DeskSeat, IsSeatAt, base_of}
 use Rattle.ih_desk.specs.Finishing.{HasFinished}
 use Rattle.ih_desk.specs.Progress.{Progress}
 use Rattle.ih_desk.specs.Searchers.{IsNew}
+
+-- The turns that a seat gets: four for each try of each attempt of each worker, and 16. One for each entry of the
+-- history, and one more, would do.
+abbrev pub enough_turns : Options → ℕ
+enough_turns o = 4 * most_entries o + 16
 
 -- a worker, whatever it prices on
 abbrev pub Worker : Type 0
@@ -22,14 +28,13 @@ pub record IsNewWorker (b : Base) (each : ℕ) (w : Worker) (s : DeskSeat) : Typ
   pub seat : Holds w s
   pub searcher : IsNew b each (number_of s) w.searcher
 
--- The worker is new, by attempts of so many moves, and its seat at this desk has made nothing and has turns enough: four
--- for each try of each attempt of each worker, and 16.
+-- The worker is new, by attempts of so many moves, and its seat at this desk has made nothing and has turns enough.
 pub record IsReady (each : ℕ) (desk : Desk) (w : Worker) : Type 0 where
   pub seat : DeskSeat
   pub new : IsNewWorker (base_of desk) each w seat
   pub own : IsSeatAt desk seat
   pub made : made_count seat ≡ 0
-  pub turns : 4 * most_entries (base_of desk).options + 16 ≤ turns_left seat
+  pub turns : enough_turns (base_of desk).options ≤ turns_left seat
 
 -- Afterwards it has a seat at this desk with the same number, and has finished by what that seat made.
 pub record Finishes (each : ℕ) (desk : Desk) (before after : Worker) : Type 0 where

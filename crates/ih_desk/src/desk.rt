@@ -63,7 +63,7 @@ impl<'a, E: Logged> DeskOver<Turn<Book<'a, E>>> {
 
     /// Looks at the history, which the seat has then seen whole. The buffer's entries are those from its place `from`
     /// on, or the first 256 of them where there are more, and its front is the number of all entries. It uses one of
-    /// the seat's turns, waits for it, and takes no memory.
+    /// the seat's turns, waits for it, and takes no memory. For users of the crate: a search looks by `look_for_news`.
     pub fn look<R: Wait>(
         &self,
         rt: &R,
@@ -115,7 +115,7 @@ impl<'a, E: Logged> DeskOver<Turn<Book<'a, E>>> {
         held.give()
     }
 
-    /// Offers the next move of the seat's worker, and answers its verdict. The history that the seat has then seen ends
+    /// Offers the next attempt of the seat's worker, and answers its verdict. The history that the seat has then seen ends
     /// with this entry. It uses one of the seat's turns, waits for it, and takes no memory.
     pub fn offer<R: Wait>(
         &self,

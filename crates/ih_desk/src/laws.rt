@@ -2,8 +2,8 @@
 
 ghost use Rattle.ih_desk.specs.Finishing.{FinishedSearchesAreFull};
 
-/// A legal history is full once each worker has finished by a beginning of it, past which it has nothing of that
-/// worker.
+/// A history that is legal but for its draws is full once each worker has finished by a beginning of it, past which it
+/// has nothing of that worker.
 pub fn finished_searches_are_full()
     ensures { FinishedSearchesAreFull }
 {}

@@ -99,10 +99,11 @@ impl<'a, C: Replicates> Searcher<'a, C> {
     ghost use Rattle.ih_desk.specs.Desks.{base_of, IsSeatAt};
     ghost use Rattle.ih_desk.specs.Finishing.{AreDrawn, HasFinished};
     ghost use Rattle.ih_desk.specs.Histories.{GoesOn};
+    ghost use Rattle.ih_desk.specs.Workers.{enough_turns};
     ghost use Rattle.ih_desk.specs.Searchers.{HasAttempted, HasCaughtUp, IsNew, IsNext, IsToldOf, IsWithin, credit};
 
-    /// Makes all attempts of the worker, in order, each of its next draws. A stale one is tried again as often as may
-    /// be.
+    /// Makes all attempts of the worker, in order, each of its next draws. A stale one is tried again as often as
+    /// `retries` says.
     pub(crate) fn search<R: Wait, P: Pass>(
         &mut self,
         rt: &R,
@@ -113,7 +114,7 @@ impl<'a, C: Replicates> Searcher<'a, C> {
         requires own { IsSeatAt desk.now seat }
         requires new { IsNew (base_of desk.now) self.old.each (number_of seat) self.old }
         requires none { HasNoneBy (number_of seat) (history seat) }
-        requires turns { 4 * most_entries (base_of desk.now).options + 16 ≤ turns_left seat }
+        requires turns { enough_turns (base_of desk.now).options ≤ turns_left seat }
         ensures own { IsSeatAt desk.now result }
         ensures number { number_of result ≡ number_of seat.entry }
         ensures finished { HasFinished (base_of desk.now) self.old.each (number_of seat.entry) (history result) }
@@ -130,7 +131,7 @@ impl<'a, C: Replicates> Searcher<'a, C> {
         next
     }
 
-    // Makes one attempt: it is tried again where it is stale, as often as may be.
+    // Makes one attempt: it is tried again where it is stale, as often as `retries` says.
     fn make<R: Wait, P: Pass>(
         &mut self,
         rt: &R,

@@ -3,10 +3,10 @@
 ghost use Rattle.std.specs.Prelude.{◌≡◌, ◌≤◌, ◌+◌, ◌*◌, [], All, IfOk, length, vec_capacity};
 ghost use Rattle.std.specs.List.{AllZip};
 ghost use Rattle.ih_journal.specs.Legal.{IsFull};
-ghost use Rattle.ih_journal.specs.Settings.{IsLawful, most_entries};
+ghost use Rattle.ih_journal.specs.Settings.{IsLawful};
 ghost use Rattle.ih_cellbook.specs.Keeping.{IsBase};
 ghost use Rattle.ih_desk.specs.Searching.{base_given, IsOpened, HaveFinished, HaveLeft};
-ghost use Rattle.ih_desk.specs.Workers.{IsNewWorker, MayWork};
+ghost use Rattle.ih_desk.specs.Workers.{IsNewWorker, MayWork, enough_turns};
 
 use crate::desk::DeskOver;
 use crate::given::Given;
@@ -23,11 +23,10 @@ use std::alloc::{AllocError, Global};
 use std::sync::Wait;
 use std::thread::Threads;
 
-// The turns of each seat: four for each try of each attempt of each worker, and a few. They are more than enough: a
-// worker takes no more turns than there are entries.
+// The turns of each seat.
 fn turns_of(options: &Options) -> u64
     requires { IsLawful options.now }
-    ensures { result ≡ 4 * most_entries options.now + 16 }
+    ensures { result ≡ enough_turns options.now }
 {
     let tries = options.retries as u64 + 1;
     4 * (options.workers as u64 * options.moves as u64 * tries) + 16

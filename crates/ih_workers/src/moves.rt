@@ -19,7 +19,8 @@ use std::thread::Threads;
 pub type Worker<'a> = WorkerOn<'a, Replica<'a>>;
 
 /// Runs each worker in a call of its own: each makes its draws in order, each tried again exactly after a stale try,
-/// as often as may be. Where a thread can't be started the caller does that worker's search itself. It takes no memory.
+/// as often as `retries` says. Where a thread can't be started the caller does that worker's search itself. It takes no
+/// memory. For users of the crate: `search` runs its workers by the same body.
 pub fn run_workers<'a, R: Threads + Wait + Sync, G: Gate>(
     rt: &R,
     desk: &Desk<'a>,

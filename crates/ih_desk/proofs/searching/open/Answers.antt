@@ -1,6 +1,6 @@
 use Rattle.std.proofs.Common.{◌≡◌, ◌+◌, ◌*◌, ◌∙◌, ap, sym}
 use Rattle.ih_journal.specs.Base.{Base}
-use Rattle.ih_journal.specs.Settings.{most_entries}
+use Rattle.ih_desk.specs.Workers.{enough_turns}
 use Rattle.ih_cellbook.specs.Recorded.{Recorded}
 use Rattle.ih_desk.specs.Desks.{base_of}
 use Rattle.ih_desk.specs.Searching.{base_given}
@@ -21,6 +21,6 @@ returns-in-Ok g c =
             own = s.0;
             history = s.1;
             made = s.2;
-            turns = s.3 ∙ (c.turns_of.ensures ∙ sym (ap (λ (b : Base). 4 * most_entries b.options + 16) base));
+            turns = s.3 ∙ (c.turns_of.ensures ∙ sym (ap (λ (b : Base). enough_turns b.options) base));
           };
     }
