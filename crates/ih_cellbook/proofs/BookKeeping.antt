@@ -23,21 +23,24 @@ use Rattle.ih_plan.proofs.Series.{after_all-plan}
 use Rattle.ih_plan.specs.Series.{after_all, all_touch, footprint_of_all}
 use Rattle.ih_journal.specs.Tried.{Tried}
 use Rattle.ih_journal.specs.declared.entries.Verdict.{Verdict}
+use Rattle.ih_journal.specs.declared.entries.Verdict.TheVariants.{Accepted}
 use Rattle.ih_journal.specs.Settings.{IsLawful, most_entries}
 use Rattle.ih_journal.specs.Attempts.{attempt_after, last_by, next_attempt}
 use Rattle.ih_journal.specs.Base.{Base}
 use Rattle.ih_journal.specs.Best.{BestIs, IsFeasibleAt, best_with, cost_at}
 use Rattle.ih_journal.specs.History.{after_entries, changes_since, is_accepted, after_entry, plan_after, plan_at, version}
-use Rattle.ih_journal.specs.Legal.{IsLegalButDraw, verdict_on}
+use Rattle.ih_journal.specs.Legal.{IsLegalButDraw}
 use Rattle.ih_journal.proofs.BestLemmas.{best-start, best-more}
+use Rattle.ih_journal.proofs.Mapped.{map-more}
 use Rattle.ih_journal.proofs.Growth.{after_entries-plan, last_by-own, last_by-other, plan_after-more, plan_at-end, plan_at-plan}
 use Rattle.ih_cellbook.specs.Offered.{Offered}
 use Rattle.ih_cellbook.specs.Counters.{is_compared, times_read, risen_where, verdict_by_counters}
-use Rattle.ih_cellbook.specs.Keeping.{IsBase, AreVersions, AreTries, IsKept}
+use Rattle.ih_cellbook.specs.Keeping.{IsBase, AreVersions, AreAgain, IsKept}
 use Rattle.ih_cellbook.specs.Laws.{AreFew}
-use Rattle.ih_cellbook.specs.Offers.{IsRightOffer, entry_of, entry_with, reads_after}
+use Rattle.ih_cellbook.specs.Offers.{IsJudged, IsRightOffer, entry_of, entry_with, reads_after}
 use Rattle.ih_cellbook.proofs.Committing.{accepted-compared, accepted-is, attempt-is, entry-legal, footprint-below, legal_but-moves, legal_but-more, legal_but-none, reads-cells, verdict-same, versions-more}
 use Rattle.ih_cellbook.proofs.Exact.{accepted-exact}
+use Rattle.ih_cellbook.proofs.ExactPrices.{exact-last}
 use Rattle.ih_cellbook.proofs.EntryLimits.{again-few, legal-few, next-below}
 use Rattle.ih_cellbook.proofs.TimesRead.{times-once}
 use Rattle.ih_cellbook.proofs.Versions.{version-most}
@@ -90,8 +93,8 @@ add-change I P Q = simp back (whole-bill I Q)
 
 -- ---- opening
 
-pub base-lawful : (b : Base) (H : List Tried) (cs ts : List ℕ) (now : Bill) (found : Option (ℕ × ℤ)) → IsKept b H cs ts now found → IsLawful b.options
-base-lawful b H cs ts now found kept = kept.base.lawful
+pub base-lawful : (b : Base) (H : List Tried) (cs ns : List ℕ) (now : Bill) (found : Option (ℕ × ℤ)) → IsKept b H cs ns now found → IsLawful b.options
+base-lawful b H cs ns now found kept = kept.base.lawful
 
 length-zeros : (n : ℕ) → length {A = ℕ} (replicate n 0) ≡ n
 length-zeros zero = refl
@@ -102,22 +105,22 @@ zeros n zero = refl
 zeros zero (suc count) = refl
 zeros (suc n) (suc count) = zeros n count
 
-pub kept-none : (b : Base) (cs ts : List ℕ) (now : Bill) (found : Option (ℕ × ℤ)) → IsBase b → cs ≡ replicate (cell_count b.instance) 0 → ts ≡ replicate b.options.workers 0
-    → now ≡ bill_of b.instance b.start → found ≡ best_with None 0 (feasible now) (cost b.instance.weights now) → IsKept b [] cs ts now found
+pub kept-none : (b : Base) (cs ns : List ℕ) (now : Bill) (found : Option (ℕ × ℤ)) → IsBase b → cs ≡ replicate (cell_count b.instance) 0 → ns ≡ replicate b.options.workers 0
+    → now ≡ bill_of b.instance b.start → found ≡ best_with None 0 (feasible now) (cost b.instance.weights now) → IsKept b [] cs ns now found
 unfolding after_entries changes_since last_by
-kept-none b cs ts now found base counters tries bill best =
+kept-none b cs ns now found base counters again bill best =
     record {
       base = base;
       legal = legal_but-none b;
       versions = record { len = rw counters (length-zeros (cell_count b.instance)); each = λ n h. rw counters (zeros n (cell_count b.instance)) };
-      tries = record { len = rw tries (length-zeros b.options.workers); each = λ w h. rw tries (zeros w b.options.workers) };
+      again = record { len = rw again (length-zeros b.options.workers); each = λ w h. rw again (zeros w b.options.workers) };
       bill = bill;
       best = rw best (best-start b (feasible now) (cost b.instance.weights now) (ap feasible (sym bill)) (ap (cost b.instance.weights) (sym bill)));
     }
 
 -- ---- an offer that is right, before it is judged
 
-module _ (b : Base) (H : List Tried) (cs ts : List ℕ) (now : Bill) (found : Option (ℕ × ℤ)) (valid : IsValid b.instance) (kept : IsKept b H cs ts now found) where
+module _ (b : Base) (H : List Tried) (cs ns : List ℕ) (now : Bill) (found : Option (ℕ × ℤ)) (valid : IsValid b.instance) (kept : IsKept b H cs ns now found) where
   plan-now : IsPlanOf b.instance (plan_after b H)
   plan-now = after_entries-plan b.instance b.start H kept.base.start (legal_but-moves b H kept.legal)
 
@@ -142,16 +145,9 @@ module _ (b : Base) (H : List Tried) (cs ts : List ℕ) (now : Bill) (found : Op
         | inr past ↦ let none = get_or_past cs n 0 (omega arith) in omega (arith, none)
       ]
 
-  pub tries-small : (w : ℕ) → w < b.options.workers → slice_index ts w ≤ 7
-  tries-small w known =
-      let same = kept.tries.each w known in
-      let few = again-few b H w kept.legal in
-      let most = kept.base.lawful.retries in
-      omega (arith, same, few, most)
-
-  pub tries-few : (w : ℕ) → w < b.options.workers → slice_index ts w ≤ b.options.retries
-  tries-few w known =
-      let same = kept.tries.each w known in
+  pub again-within : (w : ℕ) → w < b.options.workers → slice_index ns w ≤ b.options.retries
+  again-within w known =
+      let same = kept.again.each w known in
       let few = again-few b H w kept.legal in
       omega (arith, same, few)
 
@@ -240,22 +236,40 @@ abbrev pub bill_next : Verdict → Bill → Bill → Bill
 bill_next v now price = if is_accepted v then add_bills now price else now
 
 -- the numbers after an entry are those that the code makes
-pub record AreNext (b : Base) (H : List Tried) (o : Offered) (v : Verdict) (cs ts : List ℕ) (found : Option (ℕ × ℤ)) (cs' ts' : List ℕ) (now' : Bill) (found' : Option (ℕ × ℤ)) : Type 0 where
+pub record AreNext (b : Base) (H : List Tried) (o : Offered) (v : Verdict) (cs ns : List ℕ) (found : Option (ℕ × ℤ)) (cs' ns' : List ℕ) (now' : Bill) (found' : Option (ℕ × ℤ)) : Type 0 where
   pub len : length cs' ≡ length cs
   pub counters : (n : ℕ) → slice_index cs' n ≡ slice_index cs n + (if is_accepted v then times_read n o.reads.pairs else 0)
-  pub again : ts' ≡ slice_set ts o.worker (attempt_after b.options (Some (entry_with o (slice_index ts o.worker) v))).again
+  pub again : ns' ≡ slice_set ns o.worker (attempt_after b.options (Some (entry_with o (slice_index ns o.worker) v))).again
   pub chosen : found' ≡ best_with found (length H + 1) (feasible now') (cost b.instance.weights now')
 
-module _ (b : Base) (H : List Tried) (cs ts : List ℕ) (now : Bill) (found : Option (ℕ × ℤ)) (valid : IsValid b.instance) (kept : IsKept b H cs ts now found)
-    (o : Offered) (right : IsRightOffer b H o) (v : Verdict) (judged : v ≡ verdict_by_counters b.instance b.options (slice_index cs) o) where
-  pub verdict-is : v ≡ verdict_on b H o.number o.seen o.moves o.price
-  verdict-is = judged ∙ verdict-same b H (slice_index cs) o kept.versions.each right
+module _ (b : Base) (H : List Tried) (cs ns : List ℕ) (now : Bill) (found : Option (ℕ × ℤ)) (valid : IsValid b.instance) (kept : IsKept b H cs ns now found)
+    (o : Offered) (v : Verdict) (judged : IsJudged b H o v) where
+  compared : is_accepted v ≡ true → is_compared b.instance b.options o.frozen o.number o.price ≡ true
+  compared on =
+      let same : v ≡ verdict_by_counters b.instance b.options (slice_index cs) o = judged.verdict ∙ sym (verdict-same b H (slice_index cs) o kept.versions.each judged.right) in
+      accepted-compared b.instance b.options (slice_index cs) o (ap is_accepted (sym same) ∙ on)
 
-  pub legal-next : IsLegalButDraw b H (entry_of b H o v)
-  legal-next = entry-legal b H o v right verdict-is
+  pub accepted-in : is_accepted v ≡ true → All (λ (r : ℕ × ℕ). r.0 < length cs) o.reads.pairs
+  accepted-in on = reads-in b H cs ns now found valid kept o judged.right (compared on)
 
-  pub entry-is : entry_with o (slice_index ts o.worker) v ≡ entry_of b H o v
-  entry-is = ap (λ again. entry_with o again v) (kept.tries.each o.worker right.worker)
+  pub accepted-rise : is_accepted v ≡ true → (n : ℕ) → slice_index cs n + length o.reads.pairs < 2 ^ 32
+  accepted-rise on = counters-rise b H cs ns now found valid kept o judged.right (compared on)
+
+  legal-next : IsLegalButDraw b H (entry_of b H o v)
+  legal-next = entry-legal b H o v judged.right judged.verdict
+
+  pub exact-next : v ≡ Accepted → o.price ≡ change_of_bill b.instance (plan_after b H) (plan_after b (H ++ entry_of b H o v ∷ []))
+  exact-next = exact-last b H (entry_of b H o v) kept.base.start (legal_but-moves b H kept.legal) legal-next
+
+  pub entry-is : entry_with o (slice_index ns o.worker) v ≡ entry_of b H o v
+  entry-is = ap (λ again. entry_with o again v) (kept.again.each o.worker judged.right.worker)
+
+  -- the history with the entry that was put behind the others
+  pub grown : {E : Type 0} (f : E → Tried) (old new : List E) (e : E) (again : ℕ) → map f old ≡ H → new ≡ old ++ e ∷ []
+      → f e ≡ entry_with o again v → again ≡ slice_index ns o.worker → map f new ≡ H ++ entry_of b H o v ∷ []
+  grown f old new e again before more is known =
+      ap (map f) more ∙ map-more f old e ∙ ap (λ G. G ++ f e ∷ []) before
+      ∙ ap (λ x. H ++ x ∷ []) (is ∙ ap (λ n. entry_with o n v) known ∙ entry-is)
 
   plan-next : plan_after b (H ++ entry_of b H o v ∷ []) ≡ after_entry b.instance (plan_after b H) (entry_of b H o v)
   plan-next = plan_after-more b H (entry_of b H o v)
@@ -265,7 +279,7 @@ module _ (b : Base) (H : List Tried) (cs ts : List ℕ) (now : Bill) (found : Op
     where
       by_case : (t : Bool) → is_accepted v ≡ t → (if t then add_bills now o.price else now) ≡ bill_of b.instance (if t then after_all b.instance (plan_after b H) o.moves else plan_after b H)
       by_case true on =
-          let exact = accepted-exact b H o.number o.seen o.moves o.price kept.base.start (legal_but-moves b H kept.legal) right.move (sym verdict-is ∙ accepted-is v on) right.price in
+          let exact = accepted-exact b H o.number o.seen o.moves o.price kept.base.start (legal_but-moves b H kept.legal) judged.right.move (sym judged.verdict ∙ accepted-is v on) judged.right.price in
           rw (kept.bill, exact) (add-change b.instance (plan_after b H) (after_all b.instance (plan_after b H) o.moves))
       by_case false off = kept.bill
 
@@ -276,17 +290,16 @@ module _ (b : Base) (H : List Tried) (cs ts : List ℕ) (now : Bill) (found : Op
       (bill-within b.instance (plan_after b (H ++ entry_of b H o v ∷ [])) valid
       (after_entries-plan b.instance b.start (H ++ entry_of b H o v ∷ []) kept.base.start moves))
 
-  module _ (cs' ts' : List ℕ) (now' : Bill) (found' : Option (ℕ × ℤ)) (next : AreNext b H o v cs ts found cs' ts' now' found') (billed : now' ≡ bill_next v now o.price) where
+  module _ (cs' ns' : List ℕ) (now' : Bill) (found' : Option (ℕ × ℤ)) (next : AreNext b H o v cs ns found cs' ns' now' found') (billed : now' ≡ bill_next v now o.price) where
     -- each cell of the footprint is read once
     rises : (n : ℕ) → n < cell_count b.instance → (t : Bool) → is_accepted v ≡ t
         → slice_index cs n + (if t then times_read n o.reads.pairs else 0) ≡ risen_where t (slice_index cs) (reads_after b (take o.seen H) o.moves) n
     unfolding footprint_of_all
     rises n below false off = omega arith
     rises n below true on =
-        let asked = accepted-compared b.instance b.options (slice_index cs) o (ap is_accepted (sym judged) ∙ on) in
         let once = times-once (cell_count b.instance) n (λ n. version b (take o.seen H) (cell_at b.instance n)) (λ n. all_touch b.instance (plan_at b H o.seen) o.moves (cell_at b.instance n)) below in
         let keys = reads-cells b (take o.seen H) o.moves in
-        rw (right.reads asked, keys) (ap (λ k. slice_index cs n + k) once)
+        rw (judged.right.reads (compared on), keys) (ap (λ k. slice_index cs n + k) once)
 
     versions-next : AreVersions b (H ++ entry_of b H o v ∷ []) cs'
     versions-next = record {
@@ -295,34 +308,34 @@ module _ (b : Base) (H : List Tried) (cs ts : List ℕ) (now : Bill) (found : Op
           ∙ versions-more b H (entry_of b H o v) (slice_index cs) kept.base.start (legal_but-moves b H kept.legal) legal-next kept.versions.each n below;
     }
 
-    tries-at : (w : ℕ) → w < b.options.workers → slice_index (slice_set ts o.worker (attempt_after b.options (Some (entry_of b H o v))).again) w
+    again-at : (w : ℕ) → w < b.options.workers → slice_index (slice_set ns o.worker (attempt_after b.options (Some (entry_of b H o v))).again) w
         ≡ (attempt_after b.options (last_by w (H ++ entry_of b H o v ∷ []))).again
-    tries-at w known = elim (cases_eq w o.worker) [
+    again-at w known = elim (cases_eq w o.worker) [
       | inl own ↦
-          let inside : o.worker < length ts = (let len = kept.tries.len in let is = right.worker in omega (arith, len, is)) in
-          rw (own, last_by-own H (entry_of b H o v) o.worker refl) (get_or-set_same ts o.worker (attempt_after b.options (Some (entry_of b H o v))).again 0 inside)
+          let inside : o.worker < length ns = (let len = kept.again.len in let is = judged.right.worker in omega (arith, len, is)) in
+          rw (own, last_by-own H (entry_of b H o v) o.worker refl) (get_or-set_same ns o.worker (attempt_after b.options (Some (entry_of b H o v))).again 0 inside)
       | inr other ↦
           rw (last_by-other H (entry_of b H o v) w (λ e. other (sym e)))
-          (get_or-set_other ts o.worker w (attempt_after b.options (Some (entry_of b H o v))).again 0 other ∙ kept.tries.each w known)
+          (get_or-set_other ns o.worker w (attempt_after b.options (Some (entry_of b H o v))).again 0 other ∙ kept.again.each w known)
     ]
 
-    tries-next : AreTries b (H ++ entry_of b H o v ∷ []) ts'
-    tries-next =
-        let is : ts' ≡ slice_set ts o.worker (attempt_after b.options (Some (entry_of b H o v))).again =
-        next.again ∙ ap (λ e. slice_set ts o.worker (attempt_after b.options (Some e)).again) entry-is in
+    again-next : AreAgain b (H ++ entry_of b H o v ∷ []) ns'
+    again-next =
+        let is : ns' ≡ slice_set ns o.worker (attempt_after b.options (Some (entry_of b H o v))).again =
+        next.again ∙ ap (λ e. slice_set ns o.worker (attempt_after b.options (Some e)).again) entry-is in
         record {
-          len = rw is (length-set ts o.worker (attempt_after b.options (Some (entry_of b H o v))).again ∙ kept.tries.len);
-          each = rw is tries-at;
+          len = rw is (length-set ns o.worker (attempt_after b.options (Some (entry_of b H o v))).again ∙ kept.again.len);
+          each = rw is again-at;
         }
 
-    pub kept-more : IsKept b (H ++ entry_of b H o v ∷ []) cs' ts' now' found'
+    pub kept-more : IsKept b (H ++ entry_of b H o v ∷ []) cs' ns' now' found'
     kept-more =
         let bill = billed ∙ bill-next in
         record {
           base = kept.base;
           legal = legal_but-more b H (entry_of b H o v) kept.legal legal-next;
           versions = versions-next;
-          tries = tries-next;
+          again = again-next;
           bill = bill;
           best = rw next.chosen (best-more b H (entry_of b H o v) (feasible now') (cost b.instance.weights now') (ap feasible (sym bill)) (ap (cost b.instance.weights) (sym bill)) found kept.best);
         }

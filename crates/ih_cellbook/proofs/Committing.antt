@@ -160,7 +160,7 @@ accepted-is Declined h = absurd (let no : false ≡ true = h in cc)
 accepted-is (Stale c k n) h = absurd (let no : false ≡ true = h in cc)
 accepted-is Frozen h = absurd (let no : false ≡ true = h in cc)
 
--- what an accepted move touches at its place it touched where it was priced
+-- what an accepted attempt touches at its place it touched where it was priced
 touched-there : (b : Base) (H : List Tried) (e : Tried) → IsPlanOf b.instance b.start → AreOfMoves b.instance H → IsLegalButDraw b H e → e.verdict ≡ Accepted
     → (n : ℕ) → n < cell_count b.instance
     → is_listed n (map (λ (r : ℕ × ℕ). r.0) (reads_after b (take e.seen H) e.moves)) ≡ all_touch b.instance (plan_after b H) e.moves (cell_at b.instance n)

@@ -1,5 +1,5 @@
--- How many entries a legal history has: at most one for each try of each move of each worker.
-use Rattle.std.proofs.Common.{◌≡◌, ℕ, zero, suc, ◌+◌, ◌*◌, ◌<◌, ◌≤◌, refl, arith, sym, ap, ◌∙◌, subst, Bool, true, false, List, [], ◌∷◌, ◌++◌, length, take, inl, inr, Some, None}
+-- How many entries a legal history has: at most one for each try of each attempt of each worker.
+use Rattle.std.proofs.Common.{◌≡◌, ℕ, zero, suc, ◌+◌, ◌*◌, ◌<◌, ◌≤◌, refl, arith, sym, ap, ◌∙◌, subst, Bool, true, false, List, [], ◌∷◌, ◌++◌, length, take, inl, inr, Some}
 use Rattle.std.specs.Prelude.{◌⊎◌, if◌then◌else◌, ◌&&◌, not, ◌==◌, slice_get}
 use Rattle.std.proofs.Math.Nat.{mul_assoc}
 use Rattle.std.proofs.lemmas.Bool.{cases_eq, cases_lt, le-ltb, eq-eqb, ne_eqb}
@@ -28,7 +28,7 @@ made-more w (x ∷ xs) e = let rest = made-more w xs e in omega (arith, rest)
 
 -- ---- one worker's tries, in order
 
--- the place of a try among all tries of a worker's moves
+-- the place of a try among all tries of a worker's attempts
 abbrev rank : Options → Attempt → ℕ
 rank o a = a.number * (o.retries + 1) + a.again
 

@@ -1,4 +1,4 @@
--- An accepted move does at its place what it did where it was priced, however old that was.
+-- An accepted attempt does at its place what it did where it was priced, however old that was.
 use Rattle.std.proofs.Common.{◌≡◌, ℕ, zero, suc, ◌+◌, refl, arith, sym, ap, ◌∙◌, Bool, true, false, List, [], ◌∷◌, take, drop, Option, Some, None}
 use Rattle.std.specs.Prelude.{if◌then◌else◌, ◌&&◌, int_lt, slice_get}
 use Rattle.std.specs.List.{range_with_len}
@@ -86,7 +86,7 @@ module _ (b : Base) (H : List Tried) (number seen : ℕ) (m : List Move) (price 
       let apart : changed_since b.instance (plan_at b H seen) (drop seen H) c ≡ false = rw touched at here in
       rw later (entries-keep b.instance (plan_at b H seen) (drop seen H) c plan_seen (drop-moves b.instance seen H moves) range apart)
 
-  -- The move does the same at its place as where it was priced.
+  -- The attempt does the same at its place as where it was priced.
   pub accepted-local : AreLocal b.instance (plan_at b H seen) (plan_after b H) m (all_touch b.instance (plan_at b H seen) m)
   accepted-local = series_local b.instance (plan_at b H seen) (plan_after b H) m (all_touch b.instance (plan_at b H seen) m) plan_seen
       (after_entries-plan b.instance b.start H start moves) fits same-there (λ c range touched. touched)

@@ -30,7 +30,7 @@ last-own w es k d h own = sym (last_by-next w es k d h ∙ rw (eq-eqb (slice_ind
 pub last-other : (w : ℕ) (es : List Tried) (k : ℕ) (d : Tried) → k < length es → ((slice_index_or es k d).worker ≡ w → ⊥) → last_by w (take k es) ≡ last_by w (take (k + 1) es)
 last-other w es k d h other = sym (last_by-next w es k d h ∙ rw (ne_eqb (slice_index_or es k d).worker w other) refl)
 
--- the number of the next move, by the last entry
+-- the number of the next attempt, by the last entry
 pub next-is : (o : Options) (H : List Tried) (w n : ℕ) (last : Option Tried) → last ≡ last_by w H → is_done_after o last ≡ false → (attempt_after o last).number ≡ n → next_number o H w ≡ Some n
 unfolding next_attempt is_done
 next-is o H w n last same more number = rw (sym same, more, number) refl

@@ -1,8 +1,8 @@
 -- The bill and the best, as the entries of a legal history are gone over.
-use Rattle.std.proofs.Common.{◌≡◌, ℕ, ◌+◌, ◌≤◌, ◌^◌, refl, sym, ap, ◌∙◌, subst, arith, Bool, true, false, List, [], ◌∷◌, ◌++◌, length, take, Option, Some, None, ℤ}
-use Rattle.std.specs.Prelude.{slice_get, if◌then◌else◌}
+use Rattle.std.proofs.Common.{◌≡◌, ℕ, ◌+◌, ◌<◌, ◌≤◌, ◌^◌, refl, sym, ap, ◌∙◌, subst, arith, Bool, true, false, List, [], ◌∷◌, ◌++◌, length, take, Option, Some, None, ℤ}
+use Rattle.std.specs.Prelude.{slice_get, get_or, map, if◌then◌else◌}
 use Rattle.std.proofs.lemmas.List.{take_all, length-take-le}
-use Rattle.std.proofs.lemmas.Option.{slice_get_within}
+use Rattle.std.proofs.lemmas.Option.{slice_get-get_or, slice_get_within}
 use Rattle.ih_tables.specs.declared.drafts.Draft.{Draft}
 use Rattle.ih_tables.specs.declared.bills.Bill.{Bill}
 use Rattle.ih_tables.specs.Bills.{IsWithin, add_bills, cost, feasible}
@@ -18,6 +18,7 @@ use Rattle.ih_journal.specs.Best.{BestIs, best_with}
 use Rattle.ih_journal.specs.History.{is_accepted, after_entries, after_entry, plan_at, plan_after}
 use Rattle.ih_journal.proofs.BestLemmas.{best-start, best-more}
 use Rattle.ih_journal.proofs.Growth.{plan_after-more, plan_at-plan, take-get}
+use Rattle.ih_journal.proofs.Mapped.{get-mapped}
 use Rattle.ih_cellbook.specs.Legal.{IsHistoryOver}
 use Rattle.ih_cellbook.proofs.Committing.{accepted-is, legal_but-moves}
 use Rattle.ih_cellbook.proofs.ExactPrices.{prices-exact, take-next}
@@ -31,6 +32,10 @@ pub record HasCome (b : Base) (H : List Tried) (k : ℕ) (now : Bill) (best : Op
 -- the bill after an entry
 abbrev pub bill_next : Tried → Bill → Bill
 bill_next e now = if is_accepted e.verdict then add_bills now e.price else now
+
+-- the entry at a place
+pub entry-there : {A : Type 0} (f : A → Tried) (es : List A) (k : ℕ) (x : A) → k < length es → x ≡ get_or es k x → slice_get (map f es) k ≡ Some (f x)
+entry-there f es k x below is = get-mapped f es k x (slice_get-get_or es k x below ∙ ap (λ y. Some y) (sym is))
 
 plan-next : (b : Base) (H : List Tried) (k : ℕ) (e : Tried) → slice_get H k ≡ Some e
     → plan_at b H (k + 1) ≡ after_entry b.instance (plan_at b H k) e

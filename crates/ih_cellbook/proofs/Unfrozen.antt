@@ -1,5 +1,5 @@
 -- Nothing lies before day 0, and the writes of a single move.
-use Rattle.std.proofs.Common.{◌≡◌, refl, arith, ◌∙◌, ap, Bool, false, List, [], ◌∷◌, ◌++◌, Option, Some, None}
+use Rattle.std.proofs.Common.{◌≡◌, refl, arith, ap, false, List, [], ◌∷◌, ◌++◌, Option, Some, None}
 use Rattle.std.specs.List.{list_any}
 use Rattle.std.proofs.lemmas.Bool.{le-ltb}
 use Rattle.ih_tables.specs.declared.drafts.Draft.{Draft}

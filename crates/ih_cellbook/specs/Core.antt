@@ -1,4 +1,4 @@
--- The core of a search as a machine: workers look at the history and offer moves, in any order.
+-- The core of a search as a machine: workers look at the history and offer attempts, in any order.
 use Rattle.std.specs.Prelude.{◌≡◌, ℕ, ◌+◌, ◌==◌, ◌<◌, ◌≤◌, false, List, [], ◌∷◌, ◌++◌, length, take, if◌then◌else◌}
 use Rattle.ih_tables.specs.declared.drafts.Draft.{Draft}
 use Rattle.ih_plan.specs.declared.moves.Move.{Move}
@@ -27,7 +27,7 @@ opening = record { history = []; counters = λ n. 0; fronts = λ w. 0 }
 pub data Event : Type 0 where
   -- a worker looks at the whole history
   looks : ℕ → Event
-  -- a worker offers a move, priced on the first entries alone
+  -- a worker offers an attempt, priced on the first entries alone
   offers : ℕ → ℕ → List Move → Event
 
 -- The worker isn't done; it has seen the first n entries, on which it prices, and they reach past its own last one.
@@ -43,11 +43,11 @@ abbrev pub MayCome : Base → State → Event → Type 0
 MayCome b s (looks w) = Unit {0}
 MayCome b s (offers w seen m) = MayOffer b s w seen m
 
--- the verdict on a worker's next move, whose price, footprint and versions are taken on the first `seen` entries alone
+-- the verdict on a worker's next attempt, whose price, footprint and versions are taken on the first `seen` entries alone
 abbrev pub verdict_in : Base → State → ℕ → ℕ → List Move → Verdict
 verdict_in b s w seen m = verdict_by_counters b.instance b.options s.counters (offer_at b s.history w seen m)
 
--- the entry of that move
+-- the entry of that attempt
 abbrev pub entry_in : Base → State → ℕ → ℕ → List Move → Tried
 entry_in b s w seen m = entry_of b s.history (offer_at b s.history w seen m) (verdict_in b s w seen m)
 

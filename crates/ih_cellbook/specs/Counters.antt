@@ -21,7 +21,7 @@ abbrev pub stale_by : Draft → (ℕ → ℕ) → Option (ℕ × ℕ) → Verdic
 stale_by I counter None = Accepted
 stale_by I counter (Some r) = Stale (cell_at I r.0) r.1 (counter r.0)
 
--- the versions read decide: the move isn't frozen, and its price's score is at most what its number may cost
+-- the versions read decide: the attempt isn't frozen, and its price's score is at most what its number may cost
 abbrev pub is_compared : Draft → Options → Bool → ℕ → Bill → Bool
 is_compared I o frozen number price = not frozen && not (int_lt (theta o number) (score o.hard I.weights price))
 
@@ -32,7 +32,7 @@ verdict_by_counters I o counter offer =
     else if int_lt (theta o offer.number) (score o.hard I.weights offer.price) then Declined
     else stale_by I counter (first_differing counter offer.reads.pairs)
 
--- the counters after a verdict: where the move was accepted, one more for each cell that was read
+-- the counters after a verdict: where the attempt was accepted, one more for each cell that was read
 abbrev pub risen_where : Bool → (ℕ → ℕ) → List (ℕ × ℕ) → ℕ → ℕ
 risen_where false counter reads n = counter n
 risen_where true counter reads n = counter n + bit (is_listed n (map (λ (r : ℕ × ℕ). r.0) reads))

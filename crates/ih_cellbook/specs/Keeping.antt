@@ -28,17 +28,17 @@ pub record AreVersions (b : Base) (H : List Tried) (counters : List ℕ) : Type 
   pub len : length counters ≡ cell_count b.instance
   pub each : (n : ℕ) → n < cell_count b.instance → slice_index counters n ≡ version b H (cell_at b.instance n)
 
--- the tries are those of each worker's next attempt
-pub record AreTries (b : Base) (H : List Tried) (tries : List ℕ) : Type 0 where
-  pub len : length tries ≡ b.options.workers
-  pub each : (w : ℕ) → w < b.options.workers → slice_index tries w ≡ (attempt_after b.options (last_by w H)).again
+-- the numbers are how often each worker's next attempt was tried before
+pub record AreAgain (b : Base) (H : List Tried) (ns : List ℕ) : Type 0 where
+  pub len : length ns ≡ b.options.workers
+  pub each : (w : ℕ) → w < b.options.workers → slice_index ns w ≡ (attempt_after b.options (last_by w H)).again
 
--- all that is promised of a book with these counters and tries, the bill now, and the best found
-pub record IsKept (b : Base) (H : List Tried) (cs ts : List ℕ) (now : Bill) (found : Option (ℕ × ℤ)) : Type 0 where
+-- all that is promised of a book with these counters and numbers of tries, the bill now, and the best found
+pub record IsKept (b : Base) (H : List Tried) (cs ns : List ℕ) (now : Bill) (found : Option (ℕ × ℤ)) : Type 0 where
   pub base : IsBase b
   pub legal : AreLegalButDraws b H
   pub versions : AreVersions b H cs
-  pub tries : AreTries b H ts
+  pub again : AreAgain b H ns
   -- the bill of the timetable after all entries
   pub bill : now ≡ bill_of b.instance (plan_after b H)
   pub best : BestIs b H found

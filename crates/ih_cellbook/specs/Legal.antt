@@ -10,7 +10,7 @@ use Rattle.ih_journal.specs.Base.{Base}
 use Rattle.ih_journal.specs.History.{plan_at}
 use Rattle.ih_journal.specs.Legal.{IsLegalButDraw}
 
--- each entry may come after those before it, whether or not its move was drawn
+-- each entry may come after those before it, whether or not its attempt was drawn
 abbrev pub AreLegalButDraws : Base → List Tried → Type 0
 AreLegalButDraws b H = (k : ℕ) (e : Tried) → slice_get H k ≡ Some e → IsLegalButDraw b (take k H) e
 

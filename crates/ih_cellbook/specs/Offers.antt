@@ -10,14 +10,15 @@ use Rattle.ih_journal.specs.Attempts.{Attempt, attempt_after, last_by, next_atte
 use Rattle.ih_journal.specs.Base.{Base}
 use Rattle.ih_journal.specs.Frozen.{is_frozen}
 use Rattle.ih_journal.specs.History.{plan_after, plan_at, version}
+use Rattle.ih_journal.specs.Legal.{verdict_on}
 use Rattle.ih_cellbook.specs.Offered.{Offered}
 use Rattle.ih_cellbook.specs.Counters.{is_compared}
 
--- the cells of the move's footprint after the entries, rising by number, each with its version there
+-- the cells of the attempt's footprint after the entries, rising by number, each with its version there
 abbrev pub reads_after : Base → List Tried → List Move → List (ℕ × ℕ)
 reads_after b H m = map (λ n. (n, version b H (cell_at b.instance n))) (footprint_of_all b.instance (plan_after b H) m)
 
--- the number of a worker's next move, where the worker isn't done
+-- the number of a worker's next attempt, where the worker isn't done
 abbrev pub next_number : Options → List Tried → ℕ → Option ℕ
 next_number o H w = option_map (λ (a : Attempt). a.number) (next_attempt o H w)
 
@@ -25,10 +26,10 @@ next_number o H w = option_map (λ (a : Attempt). a.number) (next_attempt o H w)
 abbrev pub HasSeenOwn : List Tried → ℕ → ℕ → Type 0
 HasSeenOwn H w seen = (j : ℕ) (e : Tried) → slice_get H j ≡ Some e → e.worker ≡ w → j < seen
 
--- The offer is the worker's next move, priced on the first `seen` of the entries.
+-- The offer is the worker's next attempt, priced on the first `seen` of the entries.
 pub record IsRightOffer (b : Base) (H : List Tried) (o : Offered) : Type 0 where
   pub worker : o.worker < b.options.workers
-  -- the worker isn't done, and this is its next move
+  -- the worker isn't done, and this is its next attempt
   pub number : next_number b.options H o.worker ≡ Some o.number
   pub move : AreMoves b.instance o.moves
   pub seen : o.seen ≤ length H
@@ -38,7 +39,12 @@ pub record IsRightOffer (b : Base) (H : List Tried) (o : Offered) : Type 0 where
   pub reads : is_compared b.instance b.options o.frozen o.number o.price ≡ true → o.reads.pairs ≡ reads_after b (take o.seen H) o.moves
   pub frozen : o.frozen ≡ is_frozen b (plan_at b H o.seen) o.moves
 
--- the next move of a worker that isn't done, priced on the first `seen` of the entries
+-- The offer is right for the entries, and this is the verdict on it.
+pub record IsJudged (b : Base) (H : List Tried) (o : Offered) (v : Verdict) : Type 0 where
+  pub right : IsRightOffer b H o
+  pub verdict : v ≡ verdict_on b H o.number o.seen o.moves o.price
+
+-- the next attempt of a worker that isn't done, priced on the first `seen` of the entries
 abbrev pub offer_at : Base → List Tried → ℕ → ℕ → List Move → Offered
 offer_at b H w seen m = record {
   worker = w;

@@ -14,7 +14,7 @@ use Rattle.ih_cellbook.specs.Offers.{IsRightOffer, next_number, reads_after}
 use Rattle.ih_cellbook.specs.Snapshot.{Snapshot}
 use Rattle.ih_cellbook.specs.Told.{accepted_of}
 
--- The offer has no cells, or those of its move after the entries that it had seen, which are among those of H.
+-- The offer has no cells, or those of its attempt after the entries that it had seen, which are among those of H.
 pub record IsReadFrom (b : Base) (H : List Tried) (o : Offered) : Type 0 where
   pub seen : o.seen ≤ length H
   pub reads : (o.reads.pairs ≡ []) ⊎ (o.reads.pairs ≡ reads_after b (take o.seen H) o.moves)
@@ -58,7 +58,7 @@ MayFollowUpTo r accepted until = (es : List Tried) × AreUpTo r accepted until e
 abbrev pub StandsUpTo : Snapshot → List Tried → ℕ → Snapshot → Type 0
 StandsUpTo r accepted until s = (es : List Tried) → AreUpTo r accepted until es → StandsAfter r es s
 
--- The offer of worker w of this number and move, priced after all entries of H.
+-- The offer of worker w of this number and these moves, priced after all entries of H.
 pub record IsOfferAfter (b : Base) (H : List Tried) (w n : ℕ) (m : List Move) (o : Offered) : Type 0 where
   pub worker : o.worker ≡ w
   pub number : o.number ≡ n
@@ -73,6 +73,6 @@ pub record IsOfferAfter (b : Base) (H : List Tried) (w n : ℕ) (m : List Move) 
 abbrev pub IsOfferOf : Snapshot → ℕ → List Move → Offered → Type 0
 IsOfferOf r n m o = (b : Base) (H : List Tried) → IsReplicaOf b H r → IsOfferAfter b H r.worker n m o
 
--- Where the worker isn't done and its next move has this number, a book with that history takes the offer.
+-- Where the worker isn't done and its next attempt has this number, a book with that history takes the offer.
 abbrev pub IsRightFor : Snapshot → ℕ → Offered → Type 0
 IsRightFor r n o = (b : Base) (H : List Tried) → IsReplicaOf b H r → r.worker < b.options.workers → next_number b.options H r.worker ≡ Some n → IsRightOffer b H o

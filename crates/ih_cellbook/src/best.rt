@@ -22,6 +22,15 @@ pub(crate) fn add_price(verdict: &Verdict, bill: &mut Bill, price: &Bill)
     }
 }
 
+// Adds the price of this entry, where it is accepted.
+fn add_price_of<E: Logged>(entry: &E, bill: &mut Bill)
+    requires { IsWithin (10 ^ 12) (add_bills bill.old (E.tried entry.now).price) }
+    ensures { bill.new
+        ≡ (if is_accepted (E.tried entry.now).verdict then add_bills bill.old (E.tried entry.now).price else bill.old) }
+{
+    add_price(&entry.verdict(), bill, &entry.price());
+}
+
 // The best so far, and one timetable more.
 pub(crate) fn with_place(
     best: Option<(u32, i64)>,
@@ -74,7 +83,7 @@ pub fn best_in<E: Logged>(inst: &Instance, first: &Bill, entries: &[E]) -> Optio
     let mut best = with_place(None, 0, &now, inst);
     let mut place = 0;
     for entry in entries {
-        add_price(&entry.verdict(), &mut now, &entry.price());
+        add_price_of(entry, &mut now);
         place += 1;
         best = with_place(best, place, &now, inst);
     }

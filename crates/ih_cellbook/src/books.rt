@@ -2,10 +2,13 @@
 
 ghost use Rattle.std.specs.Prelude.{◌≡◌, ℕ, ◌<◌, ◌≤◌, length};
 
+use crate::best::{add_price, best_after, with_place};
 use crate::buffers::Buffer;
-use crate::kinds::Logged;
+use crate::counters::{judge, raise_where};
+use crate::kinds::{Logged, Offers};
 use crate::news::News;
-use crate::records::Records;
+use crate::parts::{BookParts, again_after, again_of, entry_from, room_of};
+use ih_footprint::Numbering;
 use ih_journal::{Entry, Options, Verdict};
 use ih_plan::Plan;
 use ih_tables::{Bill, Instance};
@@ -17,15 +20,23 @@ use std::marker::Model;
 #[derive(Drop)]
 pub struct Book<'a, E: Logged = Entry> {
     // In a place of their own: who hands the book over, as a turn does, moves their address alone.
-    records: Box<Records<'a, E>>,
+    parts: Box<BookParts<'a, E>>,
 }
 
 impl<'a, E: Logged> Model for Book<'a, E> {
+    ghost use Rattle.std.specs.Prelude.{◌≤◌, map, vec_capacity};
+    ghost use Rattle.ih_journal.specs.Settings.{most_entries};
     ghost use Rattle.ih_cellbook.specs.Recorded.{Recorded};
+    ghost use Rattle.ih_cellbook.specs.Keeping.{IsKept, base_with};
 
     ghost Value = { Recorded };
 
-    ghost view = { λ k. k.records.value };
+    ghost view = { λ k. let p = k.parts.value in
+        record { base = base_with p.inst.now.draft p.start.now p.options p.freeze; entries = map E.tried p.entries.items } };
+
+    ghost invariant = { λ k. let p = k.parts.value in
+        IsKept (base_with p.inst.now.draft p.start.now p.options p.freeze) (map E.tried p.entries.items) p.counters.items p.again.items p.bill p.best
+        × (most_entries p.options ≤ vec_capacity p.entries) × (p.options.retries ≤ E.most_retries) };
 }
 
 impl<'a, E: Logged> Book<'a, E> {
@@ -44,7 +55,7 @@ impl<'a, E: Logged> Book<'a, E> {
     ghost use Rattle.ih_cellbook.specs.Keeping.{base_with, IsBase};
     ghost use Rattle.ih_cellbook.specs.Legal.{AreExact, AreLegalButDraws};
     ghost use Rattle.ih_cellbook.specs.Laws.{AreFew};
-    ghost use Rattle.ih_cellbook.specs.Offers.{IsRightOffer, entry_of};
+    ghost use Rattle.ih_cellbook.specs.Offers.{IsJudged, IsRightOffer, entry_of};
     ghost use Rattle.ih_cellbook.specs.Told.{TellsOf};
 
     /// A book without entries over a start, whose bill is `first`. Room for all entries of the search is reserved.
@@ -63,9 +74,22 @@ impl<'a, E: Logged> Book<'a, E> {
         ensures { IfOk result
             (λ k. k ≡ record { base = base_with inst.now.draft start.now options.now freeze; entries = [] }) }
     {
-        let records = Records::new(alloc, inst, start, first, options, freeze)?;
+        let entries = room_of(alloc, options)?;
+        let counters = vec![in alloc; 0; Numbering::of(inst).count() as usize]?;
+        let again = vec![in alloc; 0; options.workers as usize]?;
+        let parts = BookParts {
+            inst,
+            start,
+            options: *options,
+            freeze,
+            entries,
+            counters,
+            again,
+            bill: *first,
+            best: with_place(None, 0, first, inst),
+        };
         Ok(Book {
-            records: Box::new(alloc, records)?,
+            parts: Box::new(alloc, parts)?,
         })
     }
 
@@ -88,13 +112,43 @@ impl<'a, E: Logged> Book<'a, E> {
             → (E.Offer.offered offer.now).price
             ≡ change_of_bill self.old.base.instance (plan_after self.old.base self.old.entries)
             (plan_after self.old.base self.new.entries) }
-        // in every legal state of the machine with this history, the worker's offer of this move adds the same entry
+        // in every legal state of the machine with this history, the worker's offer of this attempt adds the same entry
         ensures event { (s : State) → s.history ≡ self.old.entries → IsLegalState self.old.base s
             → self.new.entries ≡ (step self.old.base s
             (offers (E.Offer.offered offer.now).worker (E.Offer.offered offer.now).seen
             (E.Offer.offered offer.now).moves)).history }
     {
-        self.records.commit(offer)
+        let verdict = self.judge(offer);
+        self.add(offer, verdict);
+        verdict
+    }
+
+    // Adds the entry of an offer with its verdict, and what follows from it.
+    fn add(&mut self, offer: &E::Offer, verdict: Verdict)
+        requires { IsJudged self.old.base self.old.entries (E.Offer.offered offer.now) verdict }
+        ensures base { self.new.base ≡ self.old.base }
+        ensures entries { self.new.entries
+            ≡ self.old.entries ++ entry_of self.old.base self.old.entries (E.Offer.offered offer.now) verdict ∷ [] }
+        ensures exact { verdict ≡ Accepted
+            → (E.Offer.offered offer.now).price
+            ≡ change_of_bill self.old.base.instance (plan_after self.old.base self.old.entries)
+            (plan_after self.old.base self.new.entries) }
+    {
+        let parts = &mut *self.parts;
+        let again = again_of(&parts.again, offer);
+        raise_where(&verdict, &mut parts.counters, offer.reads());
+        parts.again[offer.worker() as usize] = again_after(&parts.options, again, &verdict);
+        add_price(&verdict, &mut parts.bill, &offer.price());
+        parts
+            .entries
+            .push_reserved(entry_from(offer, again, verdict));
+        parts.best = best_after(
+            &verdict,
+            parts.best,
+            parts.entries.len() as u32,
+            &parts.bill,
+            parts.inst,
+        );
     }
 
     /// The verdict that `commit` would give on the offer. It changes nothing.
@@ -103,7 +157,8 @@ impl<'a, E: Logged> Book<'a, E> {
         ensures { result ≡ verdict_on self.now.base self.now.entries (E.Offer.offered offer.now).number
             (E.Offer.offered offer.now).seen (E.Offer.offered offer.now).moves (E.Offer.offered offer.now).price }
     {
-        self.records.judge(offer)
+        let parts = &*self.parts;
+        judge(parts.inst, &parts.options, parts.counters.as_slice(), offer)
     }
 
     /// Replaces the buffer's entries by those from place `from` on, or by the first 256 of them where there are more.
@@ -119,7 +174,7 @@ impl<'a, E: Logged> Book<'a, E> {
             } }
         ensures count { result ≡ length buffer.new.entries }
     {
-        self.records.copy_since(from, buffer)
+        buffer.fill(self.entries(), from, self.front())
     }
 
     /// Replaces the news by what was accepted from place `from` on: up to the end, or up to where its room for 256
@@ -129,7 +184,7 @@ impl<'a, E: Logged> Book<'a, E> {
         requires { from ≤ length self.now.entries }
         ensures { TellsOf self.now.entries from news.new }
     {
-        self.records.news_since(from, news);
+        news.fill(self.entries(), from, self.front());
     }
 
     /// The place and the cost of the first of the cheapest feasible timetables: place k is that after k entries. None
@@ -137,7 +192,7 @@ impl<'a, E: Logged> Book<'a, E> {
     pub fn best(&self) -> Option<(u32, i64)>
         ensures { BestIs self.now.base self.now.entries result }
     {
-        self.records.best()
+        self.parts.best
     }
 
     /// The entries so far, each legal but for its draw after those before it.
@@ -149,7 +204,14 @@ impl<'a, E: Logged> Book<'a, E> {
         ensures agrees { (k : ℕ) → AgreesBefore self.now.base (plan_at self.now.base self.now.entries k) }
         ensures exact { AreExact self.now.base self.now.entries }
     {
-        self.records.entries()
+        self.parts.entries.as_slice()
+    }
+
+    // How many entries there are.
+    fn front(&self) -> u32
+        ensures { result ≡ length self.now.entries }
+    {
+        self.parts.entries.len() as u32
     }
 
     /// A cell's version: how many of the entries were accepted and touched it.
@@ -157,6 +219,6 @@ impl<'a, E: Logged> Book<'a, E> {
         requires { cell < cell_count self.now.base.instance }
         ensures { result ≡ version self.now.base self.now.entries (cell_at self.now.base.instance cell) }
     {
-        self.records.versions(cell)
+        self.parts.counters[cell as usize]
     }
 }

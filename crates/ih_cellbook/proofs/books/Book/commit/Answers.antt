@@ -1,10 +1,13 @@
-use Rattle.std.proofs.Common.{◌≡◌, ◌∙◌, subst}
-use Rattle.ih_cellbook.specs.Core.{State, IsLegalState, step, offers}
-use Rattle.ih_cellbook.specs.Recorded.{Recorded}
+use Rattle.std.proofs.Common.{◌∙◌, sym}
+use Rattle.ih_cellbook.proofs.Committing.{entry-legal}
+use Rattle.ih_cellbook.proofs.Machine.{event-same}
 use Rattle.ih_cellbook.proofs.books.Book.commit.Goals as goal
 
+pub returns-clause-legal : goal.returns-clause-legal
+returns-clause-legal g c = entry-legal c.args.self.now.base c.args.self.now.entries (g.E.Offer.Offers.offered c.args.offer.now) c.judge-verdict.result c.requires c.judge-verdict.ensures
+
 pub returns-clause-event : goal.returns-clause-event
-returns-clause-event g c =
-    let o = g.E.Offer.Offers.offered c.args.offer.now in
-    subst (λ (v : Recorded). (s : State) → s.history ≡ v.entries → IsLegalState v.base s → c.commit.new.self.entries ≡ (step v.base s (offers o.worker o.seen o.moves)).history)
-    (c.deref_mut.ensures.value ∙ c.self.view_is) c.commit.ensures.event
+returns-clause-event g c s same legal =
+    c.add.ensures.entries
+    ∙ sym (event-same c.args.self.now.base c.args.self.now.entries (g.E.Offer.Offers.offered c.args.offer.now) c.requires s c.judge-verdict.result same legal.versions
+    c.judge-verdict.ensures)

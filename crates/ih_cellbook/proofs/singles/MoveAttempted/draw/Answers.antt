@@ -1,4 +1,4 @@
-use Rattle.std.proofs.Common.{◌≡◌, ◌+◌, ◌∷◌, ℕ, [], ◌∙◌, ap, map, sym}
+use Rattle.std.proofs.Common.{◌+◌, ◌∷◌, [], ◌∙◌, ap, map, sym}
 use Rattle.std.specs.List.{range_with_len}
 use Rattle.ih_plan.specs.Draws.{move_of, stream_at}
 use Rattle.ih_cellbook.proofs.singles.MoveAttempted.draw.Goals as goal

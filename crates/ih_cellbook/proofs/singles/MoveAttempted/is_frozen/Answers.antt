@@ -1,4 +1,4 @@
-use Rattle.std.proofs.Common.{◌≡◌, ◌∷◌, [], ◌∙◌, ap, sym}
+use Rattle.std.proofs.Common.{◌∷◌, [], ◌∙◌, ap, sym}
 use Rattle.std.specs.List.{list_any}
 use Rattle.ih_journal.specs.Frozen.{is_frozen_write}
 use Rattle.ih_plan.proofs.PlanRanges.{expand-writes}

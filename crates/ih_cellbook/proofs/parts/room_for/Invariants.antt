@@ -1,6 +1,6 @@
 use Rattle.std.proofs.Common.{◌≡◌}
 use Rattle.std.specs.Prelude.{vec_len, vec_capacity}
-use Rattle.ih_cellbook.proofs.records.room_for.Given as goal
+use Rattle.ih_cellbook.proofs.parts.room_for.Given as goal
 
 -- so many entries were written, in the reserved room
 abbrev pub invariant-loop : goal.invariant-loop

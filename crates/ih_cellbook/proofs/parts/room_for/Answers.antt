@@ -1,5 +1,5 @@
 use Rattle.std.proofs.Common.{◌∙◌, arith}
-use Rattle.ih_cellbook.proofs.records.room_for.Goals as goal
+use Rattle.ih_cellbook.proofs.parts.room_for.Goals as goal
 
 pub loop-init : goal.loop-init
 loop-init g c = (c.in_ok-entries.ensures.len, c.in_ok-entries.ensures.exact)
