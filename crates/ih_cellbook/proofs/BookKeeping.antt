@@ -242,27 +242,32 @@ pub record AreNext (b : Base) (H : List Tried) (o : Offered) (v : Verdict) (cs n
   pub again : ns' ≡ slice_set ns o.worker (attempt_after b.options (Some (entry_with o (slice_index ns o.worker) v))).again
   pub chosen : found' ≡ best_with found (length H + 1) (feasible now') (cost b.instance.weights now')
 
-module _ (b : Base) (H : List Tried) (cs ns : List ℕ) (now : Bill) (found : Option (ℕ × ℤ)) (valid : IsValid b.instance) (kept : IsKept b H cs ns now found)
-    (o : Offered) (v : Verdict) (judged : IsJudged b H o v) where
+-- an offer and the verdict on it come to a book
+pub record IsAdding (b : Base) (H : List Tried) (cs ns : List ℕ) (now : Bill) (found : Option (ℕ × ℤ)) (o : Offered) (v : Verdict) : Type 0 where
+  pub valid : IsValid b.instance
+  pub kept : IsKept b H cs ns now found
+  pub judged : IsJudged b H o v
+
+module _ (b : Base) (H : List Tried) (cs ns : List ℕ) (now : Bill) (found : Option (ℕ × ℤ)) (o : Offered) (v : Verdict) (adding : IsAdding b H cs ns now found o v) where
   compared : is_accepted v ≡ true → is_compared b.instance b.options o.frozen o.number o.price ≡ true
   compared on =
-      let same : v ≡ verdict_by_counters b.instance b.options (slice_index cs) o = judged.verdict ∙ sym (verdict-same b H (slice_index cs) o kept.versions.each judged.right) in
+      let same : v ≡ verdict_by_counters b.instance b.options (slice_index cs) o = adding.judged.verdict ∙ sym (verdict-same b H (slice_index cs) o adding.kept.versions.each adding.judged.right) in
       accepted-compared b.instance b.options (slice_index cs) o (ap is_accepted (sym same) ∙ on)
 
   pub accepted-in : is_accepted v ≡ true → All (λ (r : ℕ × ℕ). r.0 < length cs) o.reads.pairs
-  accepted-in on = reads-in b H cs ns now found valid kept o judged.right (compared on)
+  accepted-in on = reads-in b H cs ns now found adding.valid adding.kept o adding.judged.right (compared on)
 
   pub accepted-rise : is_accepted v ≡ true → (n : ℕ) → slice_index cs n + length o.reads.pairs < 2 ^ 32
-  accepted-rise on = counters-rise b H cs ns now found valid kept o judged.right (compared on)
+  accepted-rise on = counters-rise b H cs ns now found adding.valid adding.kept o adding.judged.right (compared on)
 
   legal-next : IsLegalButDraw b H (entry_of b H o v)
-  legal-next = entry-legal b H o v judged.right judged.verdict
+  legal-next = entry-legal b H o v adding.judged.right adding.judged.verdict
 
   pub exact-next : v ≡ Accepted → o.price ≡ change_of_bill b.instance (plan_after b H) (plan_after b (H ++ entry_of b H o v ∷ []))
-  exact-next = exact-last b H (entry_of b H o v) kept.base.start (legal_but-moves b H kept.legal) legal-next
+  exact-next = exact-last b H (entry_of b H o v) adding.kept.base.start (legal_but-moves b H adding.kept.legal) legal-next
 
   pub entry-is : entry_with o (slice_index ns o.worker) v ≡ entry_of b H o v
-  entry-is = ap (λ again. entry_with o again v) (kept.again.each o.worker judged.right.worker)
+  entry-is = ap (λ again. entry_with o again v) (adding.kept.again.each o.worker adding.judged.right.worker)
 
   -- the history with the entry that was put behind the others
   pub grown : {E : Type 0} (f : E → Tried) (old new : List E) (e : E) (again : ℕ) → map f old ≡ H → new ≡ old ++ e ∷ []
@@ -279,16 +284,16 @@ module _ (b : Base) (H : List Tried) (cs ns : List ℕ) (now : Bill) (found : Op
     where
       by_case : (t : Bool) → is_accepted v ≡ t → (if t then add_bills now o.price else now) ≡ bill_of b.instance (if t then after_all b.instance (plan_after b H) o.moves else plan_after b H)
       by_case true on =
-          let exact = accepted-exact b H o.number o.seen o.moves o.price kept.base.start (legal_but-moves b H kept.legal) judged.right.move (sym judged.verdict ∙ accepted-is v on) judged.right.price in
-          rw (kept.bill, exact) (add-change b.instance (plan_after b H) (after_all b.instance (plan_after b H) o.moves))
-      by_case false off = kept.bill
+          let exact = accepted-exact b H o.number o.seen o.moves o.price adding.kept.base.start (legal_but-moves b H adding.kept.legal) adding.judged.right.move (sym adding.judged.verdict ∙ accepted-is v on) adding.judged.right.price in
+          rw (adding.kept.bill, exact) (add-change b.instance (plan_after b H) (after_all b.instance (plan_after b H) o.moves))
+      by_case false off = adding.kept.bill
 
   pub bill-next-in : IsWithin (10 ^ 11) (bill_next v now o.price)
   bill-next-in =
-      let moves = legal_but-moves b (H ++ entry_of b H o v ∷ []) (legal_but-more b H (entry_of b H o v) kept.legal legal-next) in
+      let moves = legal_but-moves b (H ++ entry_of b H o v ∷ []) (legal_but-more b H (entry_of b H o v) adding.kept.legal legal-next) in
       subst (IsWithin (10 ^ 11)) (sym bill-next)
-      (bill-within b.instance (plan_after b (H ++ entry_of b H o v ∷ [])) valid
-      (after_entries-plan b.instance b.start (H ++ entry_of b H o v ∷ []) kept.base.start moves))
+      (bill-within b.instance (plan_after b (H ++ entry_of b H o v ∷ [])) adding.valid
+      (after_entries-plan b.instance b.start (H ++ entry_of b H o v ∷ []) adding.kept.base.start moves))
 
   module _ (cs' ns' : List ℕ) (now' : Bill) (found' : Option (ℕ × ℤ)) (next : AreNext b H o v cs ns found cs' ns' now' found') (billed : now' ≡ bill_next v now o.price) where
     -- each cell of the footprint is read once
@@ -299,24 +304,24 @@ module _ (b : Base) (H : List Tried) (cs ns : List ℕ) (now : Bill) (found : Op
     rises n below true on =
         let once = times-once (cell_count b.instance) n (λ n. version b (take o.seen H) (cell_at b.instance n)) (λ n. all_touch b.instance (plan_at b H o.seen) o.moves (cell_at b.instance n)) below in
         let keys = reads-cells b (take o.seen H) o.moves in
-        rw (judged.right.reads (compared on), keys) (ap (λ k. slice_index cs n + k) once)
+        rw (adding.judged.right.reads (compared on), keys) (ap (λ k. slice_index cs n + k) once)
 
     versions-next : AreVersions b (H ++ entry_of b H o v ∷ []) cs'
     versions-next = record {
-      len = next.len ∙ kept.versions.len;
+      len = next.len ∙ adding.kept.versions.len;
       each = λ n below. next.counters n ∙ rises n below (is_accepted v) refl
-          ∙ versions-more b H (entry_of b H o v) (slice_index cs) kept.base.start (legal_but-moves b H kept.legal) legal-next kept.versions.each n below;
+          ∙ versions-more b H (entry_of b H o v) (slice_index cs) adding.kept.base.start (legal_but-moves b H adding.kept.legal) legal-next adding.kept.versions.each n below;
     }
 
     again-at : (w : ℕ) → w < b.options.workers → slice_index (slice_set ns o.worker (attempt_after b.options (Some (entry_of b H o v))).again) w
         ≡ (attempt_after b.options (last_by w (H ++ entry_of b H o v ∷ []))).again
     again-at w known = elim (cases_eq w o.worker) [
       | inl own ↦
-          let inside : o.worker < length ns = (let len = kept.again.len in let is = judged.right.worker in omega (arith, len, is)) in
+          let inside : o.worker < length ns = (let len = adding.kept.again.len in let is = adding.judged.right.worker in omega (arith, len, is)) in
           rw (own, last_by-own H (entry_of b H o v) o.worker refl) (get_or-set_same ns o.worker (attempt_after b.options (Some (entry_of b H o v))).again 0 inside)
       | inr other ↦
           rw (last_by-other H (entry_of b H o v) w (λ e. other (sym e)))
-          (get_or-set_other ns o.worker w (attempt_after b.options (Some (entry_of b H o v))).again 0 other ∙ kept.again.each w known)
+          (get_or-set_other ns o.worker w (attempt_after b.options (Some (entry_of b H o v))).again 0 other ∙ adding.kept.again.each w known)
     ]
 
     again-next : AreAgain b (H ++ entry_of b H o v ∷ []) ns'
@@ -324,7 +329,7 @@ module _ (b : Base) (H : List Tried) (cs ns : List ℕ) (now : Bill) (found : Op
         let is : ns' ≡ slice_set ns o.worker (attempt_after b.options (Some (entry_of b H o v))).again =
         next.again ∙ ap (λ e. slice_set ns o.worker (attempt_after b.options (Some e)).again) entry-is in
         record {
-          len = rw is (length-set ns o.worker (attempt_after b.options (Some (entry_of b H o v))).again ∙ kept.again.len);
+          len = rw is (length-set ns o.worker (attempt_after b.options (Some (entry_of b H o v))).again ∙ adding.kept.again.len);
           each = rw is again-at;
         }
 
@@ -332,10 +337,10 @@ module _ (b : Base) (H : List Tried) (cs ns : List ℕ) (now : Bill) (found : Op
     kept-more =
         let bill = billed ∙ bill-next in
         record {
-          base = kept.base;
-          legal = legal_but-more b H (entry_of b H o v) kept.legal legal-next;
+          base = adding.kept.base;
+          legal = legal_but-more b H (entry_of b H o v) adding.kept.legal legal-next;
           versions = versions-next;
           again = again-next;
           bill = bill;
-          best = rw next.chosen (best-more b H (entry_of b H o v) (feasible now') (cost b.instance.weights now') (ap feasible (sym bill)) (ap (cost b.instance.weights) (sym bill)) found kept.best);
+          best = rw next.chosen (best-more b H (entry_of b H o v) (feasible now') (cost b.instance.weights now') (ap feasible (sym bill)) (ap (cost b.instance.weights) (sym bill)) found adding.kept.best);
         }
