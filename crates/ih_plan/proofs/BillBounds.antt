@@ -9,20 +9,19 @@ use Rattle.std.proofs.lemmas.List.Sums.{sum_by-cons}
 use Rattle.std.proofs.lemmas.List.FromFn.{get_or-map-range_with_len}
 use Rattle.ih_tables.specs.declared.drafts.Draft.{Draft}
 use Rattle.ih_tables.specs.declared.drafts.Patient.{Patient}
-use Rattle.ih_tables.specs.declared.drafts.Occupant.{Occupant}
 use Rattle.ih_tables.specs.declared.bills.Bill.{Bill}
 use Rattle.ih_tables.specs.Bills.{at, by_place, IsWithin}
 use Rattle.ih_tables.specs.Sizes.{patient_count, person_count, room_count, surgeon_count, theatre_count, nurse_count, shift_count}
-use Rattle.ih_tables.specs.Valid.{IsValid, IsPatient, IsOccupant}
+use Rattle.ih_tables.specs.Valid.{IsValid}
 use Rattle.ih_plan.specs.declared.moves.Placement.{Placement}
 use Rattle.ih_plan.specs.Timetable.{Timetable, IsPlanOf, IsPlacement, stay_of, care_of}
 use Rattle.ih_plan.specs.Sums.{bit, sum_below, count_below, greatest}
-use Rattle.ih_plan.specs.Persons.{person_of, patient_person, occupant_person, nobody}
+use Rattle.ih_plan.specs.Persons.{person_of}
 use Rattle.ih_plan.specs.Presence.{present, is_present, day_of, skill_of, entry_of, room_of, shifts_of}
 use Rattle.ih_plan.specs.Costs.{of_patient, in_bad_room, outside_window, genders_differ, not_working, capacity_of, over_patients, over_room_days, over_room_shifts, delay, ages, age_spread, skill_missing, skill_level, distinct_nurses, theatres_used, nurse_for, is_number, is_empty, operated, operated_by, theatre_of}
 use Rattle.ih_plan.specs.BillOf.{bill_of, change_of_bill, gender_mixes, bad_rooms, surgeon_overtime, theatre_overtime, mandatory_left_out, outside_windows, over_capacity, nurses_off, uncovered, mixed_ages, missing_skill, nurses_seen, overloads, open_theatres, transfers, delays, optional_left_out}
 use Rattle.ih_plan.proofs.SumLemmas.{sum_below-le, length-which_below}
-use Rattle.ih_plan.proofs.Overtime.{from-all, entry-most, surgeon_overtime-most, theatre_overtime-most, overloads-small}
+use Rattle.ih_plan.proofs.Overtime.{of-person, entry-most, surgeon_overtime-most, theatre_overtime-most, overloads-small}
 
 -- ---- sums of bounded numbers
 
@@ -53,43 +52,15 @@ present-most I P r d =
 
 module _ (I : Draft) (valid : IsValid I) where
   age-most : (x : ℕ) → (person_of I x).age_group ≤ 64
-  unfolding person_of
-  age-most x = by_test (nat_lt x (patient_count I))
+  age-most x = of-person I (λ p. p.age_group ≤ 64) x valid (omega arith) (λ a h. let age = h.age in omega (arith, age, few)) (λ o h. let age = h.age in omega (arith, age, few))
     where
       few : length I.age_groups ≤ 64
       few = valid.ages.len.most
 
-      patient : (o : Option Patient) → slice_get I.patients x ≡ o → (option_map_or patient_person o nobody).age_group ≤ 64
-      patient None e = omega arith
-      patient (Some a) e = let age = (from-all (IsPatient I) I.patients x a valid.each_patient e).age in omega (arith, age, few)
-
-      occupant : (o : Option Occupant) → slice_get I.occupants (x - patient_count I) ≡ o → (option_map_or occupant_person o nobody).age_group ≤ 64
-      occupant None e = omega arith
-      occupant (Some a) e = let age = (from-all (IsOccupant I) I.occupants (x - patient_count I) a valid.each_occupant e).age in omega (arith, age, few)
-
-      by_test : (b : Bool) →
-          (if b then option_map_or patient_person (slice_get I.patients x) nobody else option_map_or occupant_person
-          (slice_get I.occupants (x - patient_count I)) nobody).age_group ≤ 64
-      by_test true = patient (slice_get I.patients x) refl
-      by_test false = occupant (slice_get I.occupants (x - patient_count I)) refl
-
   skill-most : (x j : ℕ) → slice_index (person_of I x).skill j ≤ 1000
-  unfolding person_of
-  skill-most x j = by_test (nat_lt x (patient_count I))
-    where
-      patient : (o : Option Patient) → slice_get I.patients x ≡ o → slice_index (option_map_or patient_person o nobody).skill j ≤ 1000
-      patient None e = omega arith
-      patient (Some a) e = entry-most a.skill_level_required 1000 j (from-all (IsPatient I) I.patients x a valid.each_patient e).skill.small
-
-      occupant : (o : Option Occupant) → slice_get I.occupants (x - patient_count I) ≡ o → slice_index (option_map_or occupant_person o nobody).skill j ≤ 1000
-      occupant None e = omega arith
-      occupant (Some a) e = entry-most a.skill_level_required 1000 j (from-all (IsOccupant I) I.occupants (x - patient_count I) a valid.each_occupant e).skill.small
-
-      by_test : (b : Bool) → slice_index
-          (if b then option_map_or patient_person (slice_get I.patients x) nobody else option_map_or occupant_person
-          (slice_get I.occupants (x - patient_count I)) nobody).skill j ≤ 1000
-      by_test true = patient (slice_get I.patients x) refl
-      by_test false = occupant (slice_get I.occupants (x - patient_count I)) refl
+  skill-most x j =
+      of-person I (λ p. slice_index p.skill j ≤ 1000) x valid (omega arith) (λ a h. entry-most a.skill_level_required 1000 j h.skill.small)
+      (λ o h. entry-most o.skill_level_required 1000 j h.skill.small)
 
   greatest-most : (xs : List ℕ) → greatest (ages I xs) ≤ 64
   unfolding greatest

@@ -1,6 +1,8 @@
 pub mod ExampleWards
 pub mod BillBounds
 pub mod Entries
+pub mod Spans
+pub mod Whereabouts
 pub mod FilledExample
 pub mod ListSteps
 pub mod ListedBelow

@@ -11,7 +11,7 @@ use Rattle.ih_tables.specs.declared.drafts.Patient.{Patient}
 use Rattle.ih_plan.specs.declared.moves.Placement.{Placement}
 use Rattle.ih_tables.specs.declared.drafts.Occupant.{Occupant}
 use Rattle.ih_tables.specs.Valid.{IsPatient, IsOccupant}
-use Rattle.ih_plan.specs.Persons.{patient_person, occupant_person, nobody}
+use Rattle.ih_plan.specs.Persons.{Person, patient_person, occupant_person, nobody}
 use Rattle.ih_plan.specs.Presence.{entry_of}
 use Rattle.std.proofs.lemmas.Bool.{cases_lt}
 use Rattle.ih_tables.specs.declared.drafts.Draft.{Draft}
@@ -35,11 +35,11 @@ one_number m None x = omega (arith, sum_below-none m)
 one_number m (Some k) x = one_place m k x
 
 -- a test that holds at one place of each of two
-if-both : (a b : Bool) (x : ℕ) → (if a && b then x else 0) ≡ (if a then (if b then x else 0) else 0)
+pub if-both : (a b : Bool) (x : ℕ) → (if a && b then x else 0) ≡ (if a then (if b then x else 0) else 0)
 if-both true b x = refl
 if-both false b x = refl
 
-if-most : (b : Bool) (x : ℕ) → (if b then x else 0) ≤ x
+pub if-most : (b : Bool) (x : ℕ) → (if b then x else 0) ≤ x
 if-most true x = omega arith
 if-most false x = omega arith
 
@@ -47,7 +47,7 @@ one_day : (m : ℕ) (o : Option Placement) (x : ℕ) → sum_below m (λ d. if a
 one_day m None x = omega (arith, sum_below-none m)
 one_day m (Some at) x = one_place m at.day.0 x
 
-one_room : (m : ℕ) (o : Option Admission) (n d x : ℕ) → sum_below m (λ r. if is_in o n r d then x else 0) ≤ x
+pub one_room : (m : ℕ) (o : Option Admission) (n d x : ℕ) → sum_below m (λ r. if is_in o n r d then x else 0) ≤ x
 one_room m None n d x = omega (arith, sum_below-none m)
 one_room m (Some a) n d x =
     let each = sum_below-le_each m (λ r. if is_in (Some a) n r d then x else 0) (λ r. if a.room == r then x else 0)
@@ -80,23 +80,30 @@ duration-most I p valid = by_case (slice_get I.patients p) refl
     by_case None e = omega arith
     by_case (Some a) e = (from-all (IsPatient I) I.patients p a valid.each_patient e).duration
 
-workload-most : (I : Draft) (x j : ℕ) → IsValid I → slice_index (person_of I x).workload j ≤ 100000
+-- what holds of nobody, of each patient and of each occupant holds of each person
+pub of-person : (I : Draft) (B : Person → Type 0) (x : ℕ) → IsValid I → B nobody → ((a : Patient) → IsPatient I a → B (patient_person a))
+    → ((o : Occupant) → IsOccupant I o → B (occupant_person o)) → B (person_of I x)
 unfolding person_of
-workload-most I x j valid = by_test (nat_lt x (patient_count I))
+of-person I B x valid no_one each_patient each_occupant = by_test (nat_lt x (patient_count I))
   where
-    patient : (o : Option Patient) → slice_get I.patients x ≡ o → slice_index (option_map_or patient_person o nobody).workload j ≤ 100000
-    patient None e = omega arith
-    patient (Some a) e = entry-most a.workload_produced 100000 j (from-all (IsPatient I) I.patients x a valid.each_patient e).workload.small
+    patient : (o : Option Patient) → slice_get I.patients x ≡ o → B (option_map_or patient_person o nobody)
+    patient None e = no_one
+    patient (Some a) e = each_patient a (from-all (IsPatient I) I.patients x a valid.each_patient e)
 
-    occupant : (o : Option Occupant) → slice_get I.occupants (x - patient_count I) ≡ o → slice_index (option_map_or occupant_person o nobody).workload j ≤ 100000
-    occupant None e = omega arith
-    occupant (Some a) e = entry-most a.workload_produced 100000 j (from-all (IsOccupant I) I.occupants (x - patient_count I) a valid.each_occupant e).workload.small
+    occupant : (o : Option Occupant) → slice_get I.occupants (x - patient_count I) ≡ o → B (option_map_or occupant_person o nobody)
+    occupant None e = no_one
+    occupant (Some a) e = each_occupant a (from-all (IsOccupant I) I.occupants (x - patient_count I) a valid.each_occupant e)
 
-    by_test : (b : Bool) → slice_index
+    by_test : (b : Bool) → B
         (if b then option_map_or patient_person (slice_get I.patients x) nobody else option_map_or occupant_person
-        (slice_get I.occupants (x - patient_count I)) nobody).workload j ≤ 100000
+        (slice_get I.occupants (x - patient_count I)) nobody)
     by_test true = patient (slice_get I.patients x) refl
     by_test false = occupant (slice_get I.occupants (x - patient_count I)) refl
+
+pub workload-most : (I : Draft) (x j : ℕ) → IsValid I → slice_index (person_of I x).workload j ≤ 100000
+workload-most I x j valid =
+    of-person I (λ p. slice_index p.workload j ≤ 100000) x valid (omega arith) (λ a h. entry-most a.workload_produced 100000 j h.workload.small)
+    (λ o h. entry-most o.workload_produced 100000 j h.workload.small)
 
 -- ---- sums in another order
 

@@ -1,5 +1,5 @@
 -- The law of parts: a timetable's bill is the sum of the parts of all its cells.
-use Rattle.std.proofs.Common.{◌≡◌, ℕ, refl, arith, ◌∙◌, List, [], ◌∷◌}
+use Rattle.std.proofs.Common.{◌≡◌, ℕ, ◌+◌, refl, arith, ◌∙◌, List, [], ◌∷◌}
 use Rattle.std.specs.Prelude.{slice_index}
 use Rattle.ih_tables.specs.declared.drafts.Draft.{Draft}
 use Rattle.ih_tables.specs.declared.cells.Cell.{Cell}
@@ -32,124 +32,94 @@ total I f = sum_below (cell_count I) (λ n. f (cell_at I n))
 -- ---- a number that one kind of cell alone has
 
 module _ (I : Draft) (f : Cell → ℕ) where
-  by_stays : ((i j : ℕ) → f (room_day_cell i j) ≡ 0)
-      → ((i j : ℕ) → f (theatre_day_cell i j) ≡ 0)
-      → ((i j : ℕ) → f (surgeon_day_cell i j) ≡ 0)
-      → ((i j : ℕ) → f (room_shift_cell i j) ≡ 0)
-      → ((i j : ℕ) → f (nurse_shift_cell i j) ≡ 0)
-      → ((i : ℕ) → f (care_cell i) ≡ 0)
-      → total I f ≡ sum_below (patient_count I) (λ i. f (stay_cell i))
-  by_stays no_room_days no_theatre_days no_surgeon_days no_room_shifts no_nurse_shifts no_cares =
-      let kinds = sum_by_kind (sizes_of I) f in
-      let z_room_days = zero-two (room_count I) (I.days) (λ i j. f (room_day_cell i j)) no_room_days in
-      let z_theatre_days = zero-two (theatre_count I) (I.days) (λ i j. f (theatre_day_cell i j)) no_theatre_days in
-      let z_surgeon_days = zero-two (surgeon_count I) (I.days) (λ i j. f (surgeon_day_cell i j)) no_surgeon_days in
-      let z_room_shifts = zero-two (room_count I) (shift_count I) (λ i j. f (room_shift_cell i j)) no_room_shifts in
-      let z_nurse_shifts = zero-two (nurse_count I) (shift_count I) (λ i j. f (nurse_shift_cell i j)) no_nurse_shifts in
-      let z_cares = zero-one (person_count I) (λ i. f (care_cell i)) no_cares in
-      omega (arith, kinds, z_room_days, z_theatre_days, z_surgeon_days, z_room_shifts, z_nurse_shifts, z_cares)
+  -- the sum over each kind
+  abbrev stays : ℕ
+  stays = sum_below (patient_count I) (λ i. f (stay_cell i))
 
-  by_room_days : ((i : ℕ) → f (stay_cell i) ≡ 0)
-      → ((i j : ℕ) → f (theatre_day_cell i j) ≡ 0)
-      → ((i j : ℕ) → f (surgeon_day_cell i j) ≡ 0)
-      → ((i j : ℕ) → f (room_shift_cell i j) ≡ 0)
-      → ((i j : ℕ) → f (nurse_shift_cell i j) ≡ 0)
-      → ((i : ℕ) → f (care_cell i) ≡ 0)
-      → total I f ≡ sum_below (room_count I) (λ i. sum_below (I.days) (λ j. f (room_day_cell i j)))
-  by_room_days no_stays no_theatre_days no_surgeon_days no_room_shifts no_nurse_shifts no_cares =
-      let kinds = sum_by_kind (sizes_of I) f in
-      let z_stays = zero-one (patient_count I) (λ i. f (stay_cell i)) no_stays in
-      let z_theatre_days = zero-two (theatre_count I) (I.days) (λ i j. f (theatre_day_cell i j)) no_theatre_days in
-      let z_surgeon_days = zero-two (surgeon_count I) (I.days) (λ i j. f (surgeon_day_cell i j)) no_surgeon_days in
-      let z_room_shifts = zero-two (room_count I) (shift_count I) (λ i j. f (room_shift_cell i j)) no_room_shifts in
-      let z_nurse_shifts = zero-two (nurse_count I) (shift_count I) (λ i j. f (nurse_shift_cell i j)) no_nurse_shifts in
-      let z_cares = zero-one (person_count I) (λ i. f (care_cell i)) no_cares in
-      omega (arith, kinds, z_stays, z_theatre_days, z_surgeon_days, z_room_shifts, z_nurse_shifts, z_cares)
+  abbrev room_days : ℕ
+  room_days = sum_below (room_count I) (λ i. sum_below I.days (λ j. f (room_day_cell i j)))
 
-  by_theatre_days : ((i : ℕ) → f (stay_cell i) ≡ 0)
-      → ((i j : ℕ) → f (room_day_cell i j) ≡ 0)
-      → ((i j : ℕ) → f (surgeon_day_cell i j) ≡ 0)
-      → ((i j : ℕ) → f (room_shift_cell i j) ≡ 0)
-      → ((i j : ℕ) → f (nurse_shift_cell i j) ≡ 0)
-      → ((i : ℕ) → f (care_cell i) ≡ 0)
-      → total I f ≡ sum_below (theatre_count I) (λ i. sum_below (I.days) (λ j. f (theatre_day_cell i j)))
-  by_theatre_days no_stays no_room_days no_surgeon_days no_room_shifts no_nurse_shifts no_cares =
-      let kinds = sum_by_kind (sizes_of I) f in
-      let z_stays = zero-one (patient_count I) (λ i. f (stay_cell i)) no_stays in
-      let z_room_days = zero-two (room_count I) (I.days) (λ i j. f (room_day_cell i j)) no_room_days in
-      let z_surgeon_days = zero-two (surgeon_count I) (I.days) (λ i j. f (surgeon_day_cell i j)) no_surgeon_days in
-      let z_room_shifts = zero-two (room_count I) (shift_count I) (λ i j. f (room_shift_cell i j)) no_room_shifts in
-      let z_nurse_shifts = zero-two (nurse_count I) (shift_count I) (λ i j. f (nurse_shift_cell i j)) no_nurse_shifts in
-      let z_cares = zero-one (person_count I) (λ i. f (care_cell i)) no_cares in
-      omega (arith, kinds, z_stays, z_room_days, z_surgeon_days, z_room_shifts, z_nurse_shifts, z_cares)
+  abbrev theatre_days : ℕ
+  theatre_days = sum_below (theatre_count I) (λ i. sum_below I.days (λ j. f (theatre_day_cell i j)))
 
-  by_surgeon_days : ((i : ℕ) → f (stay_cell i) ≡ 0)
-      → ((i j : ℕ) → f (room_day_cell i j) ≡ 0)
-      → ((i j : ℕ) → f (theatre_day_cell i j) ≡ 0)
-      → ((i j : ℕ) → f (room_shift_cell i j) ≡ 0)
-      → ((i j : ℕ) → f (nurse_shift_cell i j) ≡ 0)
-      → ((i : ℕ) → f (care_cell i) ≡ 0)
-      → total I f ≡ sum_below (surgeon_count I) (λ i. sum_below (I.days) (λ j. f (surgeon_day_cell i j)))
-  by_surgeon_days no_stays no_room_days no_theatre_days no_room_shifts no_nurse_shifts no_cares =
-      let kinds = sum_by_kind (sizes_of I) f in
-      let z_stays = zero-one (patient_count I) (λ i. f (stay_cell i)) no_stays in
-      let z_room_days = zero-two (room_count I) (I.days) (λ i j. f (room_day_cell i j)) no_room_days in
-      let z_theatre_days = zero-two (theatre_count I) (I.days) (λ i j. f (theatre_day_cell i j)) no_theatre_days in
-      let z_room_shifts = zero-two (room_count I) (shift_count I) (λ i j. f (room_shift_cell i j)) no_room_shifts in
-      let z_nurse_shifts = zero-two (nurse_count I) (shift_count I) (λ i j. f (nurse_shift_cell i j)) no_nurse_shifts in
-      let z_cares = zero-one (person_count I) (λ i. f (care_cell i)) no_cares in
-      omega (arith, kinds, z_stays, z_room_days, z_theatre_days, z_room_shifts, z_nurse_shifts, z_cares)
+  abbrev surgeon_days : ℕ
+  surgeon_days = sum_below (surgeon_count I) (λ i. sum_below I.days (λ j. f (surgeon_day_cell i j)))
 
-  by_room_shifts : ((i : ℕ) → f (stay_cell i) ≡ 0)
-      → ((i j : ℕ) → f (room_day_cell i j) ≡ 0)
-      → ((i j : ℕ) → f (theatre_day_cell i j) ≡ 0)
-      → ((i j : ℕ) → f (surgeon_day_cell i j) ≡ 0)
-      → ((i j : ℕ) → f (nurse_shift_cell i j) ≡ 0)
-      → ((i : ℕ) → f (care_cell i) ≡ 0)
-      → total I f ≡ sum_below (room_count I) (λ i. sum_below (shift_count I) (λ j. f (room_shift_cell i j)))
-  by_room_shifts no_stays no_room_days no_theatre_days no_surgeon_days no_nurse_shifts no_cares =
-      let kinds = sum_by_kind (sizes_of I) f in
-      let z_stays = zero-one (patient_count I) (λ i. f (stay_cell i)) no_stays in
-      let z_room_days = zero-two (room_count I) (I.days) (λ i j. f (room_day_cell i j)) no_room_days in
-      let z_theatre_days = zero-two (theatre_count I) (I.days) (λ i j. f (theatre_day_cell i j)) no_theatre_days in
-      let z_surgeon_days = zero-two (surgeon_count I) (I.days) (λ i j. f (surgeon_day_cell i j)) no_surgeon_days in
-      let z_nurse_shifts = zero-two (nurse_count I) (shift_count I) (λ i j. f (nurse_shift_cell i j)) no_nurse_shifts in
-      let z_cares = zero-one (person_count I) (λ i. f (care_cell i)) no_cares in
-      omega (arith, kinds, z_stays, z_room_days, z_theatre_days, z_surgeon_days, z_nurse_shifts, z_cares)
+  abbrev room_shifts : ℕ
+  room_shifts = sum_below (room_count I) (λ i. sum_below (shift_count I) (λ j. f (room_shift_cell i j)))
 
-  by_nurse_shifts : ((i : ℕ) → f (stay_cell i) ≡ 0)
-      → ((i j : ℕ) → f (room_day_cell i j) ≡ 0)
-      → ((i j : ℕ) → f (theatre_day_cell i j) ≡ 0)
-      → ((i j : ℕ) → f (surgeon_day_cell i j) ≡ 0)
-      → ((i j : ℕ) → f (room_shift_cell i j) ≡ 0)
-      → ((i : ℕ) → f (care_cell i) ≡ 0)
-      → total I f ≡ sum_below (nurse_count I) (λ i. sum_below (shift_count I) (λ j. f (nurse_shift_cell i j)))
-  by_nurse_shifts no_stays no_room_days no_theatre_days no_surgeon_days no_room_shifts no_cares =
-      let kinds = sum_by_kind (sizes_of I) f in
-      let z_stays = zero-one (patient_count I) (λ i. f (stay_cell i)) no_stays in
-      let z_room_days = zero-two (room_count I) (I.days) (λ i j. f (room_day_cell i j)) no_room_days in
-      let z_theatre_days = zero-two (theatre_count I) (I.days) (λ i j. f (theatre_day_cell i j)) no_theatre_days in
-      let z_surgeon_days = zero-two (surgeon_count I) (I.days) (λ i j. f (surgeon_day_cell i j)) no_surgeon_days in
-      let z_room_shifts = zero-two (room_count I) (shift_count I) (λ i j. f (room_shift_cell i j)) no_room_shifts in
-      let z_cares = zero-one (person_count I) (λ i. f (care_cell i)) no_cares in
-      omega (arith, kinds, z_stays, z_room_days, z_theatre_days, z_surgeon_days, z_room_shifts, z_cares)
+  abbrev nurse_shifts : ℕ
+  nurse_shifts = sum_below (nurse_count I) (λ i. sum_below (shift_count I) (λ j. f (nurse_shift_cell i j)))
 
-  by_cares : ((i : ℕ) → f (stay_cell i) ≡ 0)
-      → ((i j : ℕ) → f (room_day_cell i j) ≡ 0)
-      → ((i j : ℕ) → f (theatre_day_cell i j) ≡ 0)
-      → ((i j : ℕ) → f (surgeon_day_cell i j) ≡ 0)
-      → ((i j : ℕ) → f (room_shift_cell i j) ≡ 0)
-      → ((i j : ℕ) → f (nurse_shift_cell i j) ≡ 0)
-      → total I f ≡ sum_below (person_count I) (λ i. f (care_cell i))
-  by_cares no_stays no_room_days no_theatre_days no_surgeon_days no_room_shifts no_nurse_shifts =
-      let kinds = sum_by_kind (sizes_of I) f in
-      let z_stays = zero-one (patient_count I) (λ i. f (stay_cell i)) no_stays in
-      let z_room_days = zero-two (room_count I) (I.days) (λ i j. f (room_day_cell i j)) no_room_days in
-      let z_theatre_days = zero-two (theatre_count I) (I.days) (λ i j. f (theatre_day_cell i j)) no_theatre_days in
-      let z_surgeon_days = zero-two (surgeon_count I) (I.days) (λ i j. f (surgeon_day_cell i j)) no_surgeon_days in
-      let z_room_shifts = zero-two (room_count I) (shift_count I) (λ i j. f (room_shift_cell i j)) no_room_shifts in
-      let z_nurse_shifts = zero-two (nurse_count I) (shift_count I) (λ i j. f (nurse_shift_cell i j)) no_nurse_shifts in
-      omega (arith, kinds, z_stays, z_room_days, z_theatre_days, z_surgeon_days, z_room_shifts, z_nurse_shifts)
+  abbrev cares : ℕ
+  cares = sum_below (person_count I) (λ i. f (care_cell i))
+
+  -- no cell of a kind has the number
+  abbrev NoStays : Type 0
+  NoStays = (i : ℕ) → f (stay_cell i) ≡ 0
+
+  abbrev NoRoomDays : Type 0
+  NoRoomDays = (i j : ℕ) → f (room_day_cell i j) ≡ 0
+
+  abbrev NoTheatreDays : Type 0
+  NoTheatreDays = (i j : ℕ) → f (theatre_day_cell i j) ≡ 0
+
+  abbrev NoSurgeonDays : Type 0
+  NoSurgeonDays = (i j : ℕ) → f (surgeon_day_cell i j) ≡ 0
+
+  abbrev NoRoomShifts : Type 0
+  NoRoomShifts = (i j : ℕ) → f (room_shift_cell i j) ≡ 0
+
+  abbrev NoNurseShifts : Type 0
+  NoNurseShifts = (i j : ℕ) → f (nurse_shift_cell i j) ≡ 0
+
+  abbrev NoCares : Type 0
+  NoCares = (i : ℕ) → f (care_cell i) ≡ 0
+
+  kinds : total I f ≡ stays + room_days + theatre_days + surgeon_days + room_shifts + nurse_shifts + cares
+  kinds = sum_by_kind (sizes_of I) f
+
+  none-stays : NoStays → stays ≡ 0
+  none-stays = zero-one (patient_count I) (λ i. f (stay_cell i))
+
+  none-room_days : NoRoomDays → room_days ≡ 0
+  none-room_days = zero-two (room_count I) I.days (λ i j. f (room_day_cell i j))
+
+  none-theatre_days : NoTheatreDays → theatre_days ≡ 0
+  none-theatre_days = zero-two (theatre_count I) I.days (λ i j. f (theatre_day_cell i j))
+
+  none-surgeon_days : NoSurgeonDays → surgeon_days ≡ 0
+  none-surgeon_days = zero-two (surgeon_count I) I.days (λ i j. f (surgeon_day_cell i j))
+
+  none-room_shifts : NoRoomShifts → room_shifts ≡ 0
+  none-room_shifts = zero-two (room_count I) (shift_count I) (λ i j. f (room_shift_cell i j))
+
+  none-nurse_shifts : NoNurseShifts → nurse_shifts ≡ 0
+  none-nurse_shifts = zero-two (nurse_count I) (shift_count I) (λ i j. f (nurse_shift_cell i j))
+
+  none-cares : NoCares → cares ≡ 0
+  none-cares = zero-one (person_count I) (λ i. f (care_cell i))
+
+  by_stays : NoRoomDays → NoTheatreDays → NoSurgeonDays → NoRoomShifts → NoNurseShifts → NoCares → total I f ≡ stays
+  by_stays a b c d e g = omega (arith, kinds, none-room_days a, none-theatre_days b, none-surgeon_days c, none-room_shifts d, none-nurse_shifts e, none-cares g)
+
+  by_room_days : NoStays → NoTheatreDays → NoSurgeonDays → NoRoomShifts → NoNurseShifts → NoCares → total I f ≡ room_days
+  by_room_days a b c d e g = omega (arith, kinds, none-stays a, none-theatre_days b, none-surgeon_days c, none-room_shifts d, none-nurse_shifts e, none-cares g)
+
+  by_theatre_days : NoStays → NoRoomDays → NoSurgeonDays → NoRoomShifts → NoNurseShifts → NoCares → total I f ≡ theatre_days
+  by_theatre_days a b c d e g = omega (arith, kinds, none-stays a, none-room_days b, none-surgeon_days c, none-room_shifts d, none-nurse_shifts e, none-cares g)
+
+  by_surgeon_days : NoStays → NoRoomDays → NoTheatreDays → NoRoomShifts → NoNurseShifts → NoCares → total I f ≡ surgeon_days
+  by_surgeon_days a b c d e g = omega (arith, kinds, none-stays a, none-room_days b, none-theatre_days c, none-room_shifts d, none-nurse_shifts e, none-cares g)
+
+  by_room_shifts : NoStays → NoRoomDays → NoTheatreDays → NoSurgeonDays → NoNurseShifts → NoCares → total I f ≡ room_shifts
+  by_room_shifts a b c d e g = omega (arith, kinds, none-stays a, none-room_days b, none-theatre_days c, none-surgeon_days d, none-nurse_shifts e, none-cares g)
+
+  by_nurse_shifts : NoStays → NoRoomDays → NoTheatreDays → NoSurgeonDays → NoRoomShifts → NoCares → total I f ≡ nurse_shifts
+  by_nurse_shifts a b c d e g = omega (arith, kinds, none-stays a, none-room_days b, none-theatre_days c, none-surgeon_days d, none-room_shifts e, none-cares g)
+
+  by_cares : NoStays → NoRoomDays → NoTheatreDays → NoSurgeonDays → NoRoomShifts → NoNurseShifts → total I f ≡ cares
+  by_cares a b c d e g = omega (arith, kinds, none-stays a, none-room_days b, none-theatre_days c, none-surgeon_days d, none-room_shifts e, none-nurse_shifts g)
 
 -- ---- the seventeen numbers
 

@@ -54,9 +54,17 @@ is_present I P r d x = is_in (admission_of I P x) (person_of I x).length_of_stay
 unfoldable pub present : Draft → Timetable → ℕ → ℕ → List ℕ
 present I P r d = which_below (person_count I) (is_present I P r d)
 
+-- the day after the last counted one of a stay of n days from day a on: days past the horizon aren't counted
+abbrev pub end_from : Draft → ℕ → ℕ → ℕ
+end_from I a n = min (a + n) I.days
+
+-- the same of a placement of patient p
+abbrev pub end_of : Draft → ℕ → Placement → ℕ
+end_of I p at = end_from I at.day.0 (person_of I p).length_of_stay
+
 -- the shifts of a stay of n days from day a on, as far as the horizon goes
 abbrev pub shifts_from : Draft → ℕ → ℕ → List ℕ
-shifts_from I a n = range_with_len (3 * a) (3 * (min (a + n) I.days - a))
+shifts_from I a n = range_with_len (3 * a) (3 * (end_from I a n - a))
 
 -- the counted shifts of an admission, and none without one
 abbrev pub shifts_in : Draft → Option Admission → ℕ → List ℕ

@@ -1,11 +1,11 @@
 //! What is asked of a person by its number (patients come first, then occupants), and of a room in a shift.
 
-ghost use Rattle.std.specs.Prelude.{◌≡◌, ◌<◌, ◌≤◌, ◌+◌, ◌-◌, ◌*◌, min, IfSome};
+ghost use Rattle.std.specs.Prelude.{◌≡◌, ◌<◌, ◌≤◌, ◌+◌, ◌-◌, ◌*◌, IfSome};
 ghost use Rattle.std.specs.Str.{bytes_eq};
 ghost use Rattle.ih_tables.specs.Sizes.{person_count, patient_count, room_count, shift_count, nurse_count};
 ghost use Rattle.ih_plan.specs.Timetable.{IsPlanOf, IsPlacement, choice_of};
 ghost use Rattle.ih_plan.specs.Persons.{person_of};
-ghost use Rattle.ih_plan.specs.Presence.{is_present, room_of, entry_of, workload_of, skill_of};
+ghost use Rattle.ih_plan.specs.Presence.{is_present, room_of, entry_of, workload_of, skill_of, end_from, end_of};
 ghost use Rattle.ih_plan.specs.Costs.{is_number};
 
 use crate::moves::Placement;
@@ -184,17 +184,26 @@ pub fn skill_of(inst: &Instance, plan: &Plan, x: u32, k: u32) -> u32
     asked_of(inst, plan, x, k).skill
 }
 
-/// The day after a placement's last counted one: days past the horizon aren't counted.
+/// The day after the last counted one of a stay of so many days from a day on: days past the horizon aren't counted.
+#[inline(always)]
+pub fn end_from(inst: &Instance, day: u32, len: u32) -> u32
+    ensures value { result ≡ end_from inst.now.draft day len }
+    ensures days { result ≤ inst.now.draft.days }
+{
+    (day as u64 + len as u64).min(inst.days() as u64) as u32
+}
+
+/// The same of a patient's placement.
 #[tactic(auto, unfolding(crate::specs::Persons::person_of))]
 #[inline(always)]
 pub fn end_of(inst: &Instance, p: PatientNo, at: Placement) -> u32
     requires patient { p.0 < patient_count inst.now.draft }
     requires placement { IsPlacement inst.now.draft at }
-    ensures value { result ≡ min (at.day.0 + (person_of inst.now.draft p.0).length_of_stay) inst.now.draft.days }
+    ensures value { result ≡ end_of inst.now.draft p.0 at }
     ensures order { at.day.0 ≤ result }
     ensures days { result ≤ inst.now.draft.days }
 {
-    (at.day.0 + inst.patient(p).length_of_stay).min(inst.days())
+    end_from(inst, at.day.0, inst.patient(p).length_of_stay)
 }
 
 /// How many shifts of a stay of so many days from a day on are counted.
@@ -202,10 +211,10 @@ pub fn end_of(inst: &Instance, p: PatientNo, at: Placement) -> u32
 pub fn counted_shifts(inst: &Instance, day: u32, len: u32) -> u32
     requires day { day < inst.now.draft.days }
     requires len { len ≤ 100 }
-    ensures count { result ≡ 3 * (min (day + len) inst.now.draft.days - day) }
+    ensures count { result ≡ 3 * (end_from inst.now.draft day len - day) }
     ensures inside { 3 * day + result ≤ shift_count inst.now.draft }
 {
-    3 * ((day + len).min(inst.days()) - day)
+    3 * (end_from(inst, day, len) - day)
 }
 
 /// The room's nurse in the shift, where it has one.
