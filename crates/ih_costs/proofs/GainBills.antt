@@ -21,9 +21,10 @@ use Rattle.ih_plan.proofs.CellNumbers.{stay_cell, room_day_cell, theatre_day_cel
 use Rattle.ih_plan.proofs.Parts.{total, has_parts}
 use Rattle.ih_plan.proofs.PlanRanges.{has-range, put-plan}
 use Rattle.ih_footprint.proofs.LocalPrices.{map-same, differences-same}
+use Rattle.ih_plan.specs.Presence.{end_of}
 use Rattle.ih_tables.specs.BillNumbers.{mixed_gender, incompatible_room, surgeon_overrun, theatre_overrun, unscheduled_mandatory, admission_window, room_capacity, nurse_presence, uncovered_room}
 use Rattle.ih_tables.specs.BillNumbers.{mixed_age, nurse_skill, continuity_of_care, excess_workload, open_theatre, surgeon_transfer, patient_delay, unscheduled_optional}
-use Rattle.ih_costs.specs.StayGain.{rule_at, cost_at, end_of, of_stay, of_care, over_days, of_theatre, of_surgeon, over_shifts, of_nurse, over_loads, gain_of, stay_gain, placement_gain}
+use Rattle.ih_costs.specs.StayGain.{rule_at, cost_at, of_stay, of_care, over_days, of_theatre, of_surgeon, over_shifts, of_nurse, over_loads, gain_of, stay_gain, placement_gain}
 use Rattle.ih_plan.proofs.ChangeSums.{at-by_place, change-same}
 use Rattle.ih_costs.proofs.GainLemmas.{gain_by, number-gain}
 use Rattle.ih_costs.proofs.SpanSums.{span-zero}

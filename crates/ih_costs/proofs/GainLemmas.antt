@@ -13,7 +13,7 @@ use Rattle.ih_plan.specs.declared.moves.Write.TheVariants.{SetStay}
 use Rattle.ih_plan.specs.Timetable.{Timetable, IsPlanOf, IsPlacement, stay_of, care_of}
 use Rattle.ih_plan.specs.Writes.{put}
 use Rattle.ih_plan.specs.Persons.{person_of}
-use Rattle.ih_plan.specs.Presence.{covers, day_of}
+use Rattle.ih_plan.specs.Presence.{covers, day_of, end_of}
 use Rattle.ih_plan.specs.Costs.{surgeon_of, is_number}
 use Rattle.ih_plan.specs.Sums.{sum_below}
 use Rattle.ih_plan.specs.BillOf.{Counts}
@@ -24,7 +24,7 @@ use Rattle.ih_plan.proofs.Overtime.{from-all}
 use Rattle.ih_plan.proofs.Parts.{total}
 use Rattle.ih_plan.proofs.SumLemmas.{sum_below-same, sum_below-but}
 use Rattle.ih_footprint.proofs.FrameStay.{frame_stay}
-use Rattle.ih_costs.specs.StayGain.{end_of, of_stay, of_care, over_days, of_theatre, of_surgeon, over_shifts, of_nurse, over_loads}
+use Rattle.ih_costs.specs.StayGain.{of_stay, of_care, over_days, of_theatre, of_surgeon, over_shifts, of_nurse, over_loads}
 use Rattle.ih_costs.proofs.SpanSums.{apart_from, rows-but, rows-but_span, columns-but_span}
 
 -- ---- which days and shifts a stay has

@@ -1,6 +1,7 @@
 -- Moves in a row, the first of them and the others.
 use Rattle.std.proofs.Common.{◌≡◌, refl, sym, ap, subst, ◌∙◌, false, List, [], ◌∷◌}
 use Rattle.std.specs.Prelude.{◌||◌}
+use Rattle.std.proofs.Math.Bool.{or-false}
 use Rattle.ih_tables.specs.declared.drafts.Draft.{Draft}
 use Rattle.ih_tables.specs.Bills.{add_bills, zero_bill}
 use Rattle.ih_tables.specs.Sizes.{sizes_of}
@@ -13,7 +14,7 @@ use Rattle.ih_plan.specs.Footprint.{touches, footprint}
 use Rattle.ih_plan.specs.Sums.{is_listed}
 use Rattle.ih_plan.proofs.ListedBelow.{which_below-same}
 use Rattle.ih_footprint.specs.Gathered.{Gathered, Gathers, settled}
-use Rattle.ih_footprint.proofs.GatherLemmas.{gathers-both, gathers-like, gathers-none, or-none, settled-gathered}
+use Rattle.ih_footprint.proofs.GatherLemmas.{gathers-both, gathers-like, gathers-none, settled-gathered}
 use Rattle.ih_plan.specs.Series.{after_all, all_touch, footprint_of_all, price_of_all}
 use Rattle.ih_plan.proofs.ChangeSums.{change-then, change-same}
 
@@ -58,7 +59,7 @@ pub gathers-one-move : (I : Draft) (P : Timetable) (m : Move) (ms : List Move) (
     → Gathers u v (touches I P m) → Gathers u v (all_touch I P ms)
 unfolding all_touch
 gathers-one-move I P m ms u v one first =
-    subst (λ ks. Gathers u v (all_touch I P ks)) (sym one) (gathers-like (λ c range. sym (or-none (touches I P m c))) first)
+    subst (λ ks. Gathers u v (all_touch I P ks)) (sym one) (gathers-like (λ c range. sym (or-false (touches I P m c))) first)
 
 -- what is gathered from nothing is written as their footprint
 pub gathered-series : (I : Draft) (P : Timetable) (ms : List Move) (u w : Gathered) → u.sizes ≡ sizes_of I → u.cells ≡ []
@@ -74,5 +75,5 @@ pub single-footprint : (I : Draft) (P : Timetable) (m : Move) (ms : List Move) �
 unfolding all_touch footprint footprint_of_all
 single-footprint I P m ms one =
     which_below-same (cell_count I) (λ n. touches I P m (cell_at I n)) (λ n. touches I P m (cell_at I n) || false)
-    (λ n h. sym (or-none (touches I P m (cell_at I n))))
+    (λ n h. sym (or-false (touches I P m (cell_at I n))))
     ∙ ap (footprint_of_all I P) (sym one)

@@ -12,7 +12,7 @@ use Rattle.ih_tables.specs.Sizes.{patient_count, person_count}
 use Rattle.ih_plan.specs.declared.moves.Placement.{Placement}
 use Rattle.ih_plan.specs.Timetable.{Timetable, IsPlanOf, care_of}
 use Rattle.ih_plan.specs.Sums.{tagged}
-use Rattle.ih_plan.specs.Presence.{admission_of, is_present, present, day_of, entry_of, shifts_of}
+use Rattle.ih_plan.specs.Presence.{admission_of, is_present, present, day_of, entry_of, shifts_of, end_of}
 use Rattle.ih_plan.specs.Costs.{is_number}
 use Rattle.ih_plan.specs.BillOf.{Counts}
 use Rattle.ih_plan.specs.Cells.{content_of, part_of, part_at, persons_content, nursing_content, load_content}
@@ -22,7 +22,7 @@ use Rattle.ih_plan.proofs.Loads.{room_load-same, load_of-same, if-same}
 use Rattle.ih_plan.proofs.CellNumbers.{stay_cell, room_day_cell, room_shift_cell, nurse_shift_cell, care_cell}
 use Rattle.ih_tables.specs.BillNumbers.{mixed_gender, incompatible_room, unscheduled_mandatory, admission_window, room_capacity, nurse_presence, uncovered_room}
 use Rattle.ih_tables.specs.BillNumbers.{mixed_age, nurse_skill, continuity_of_care, excess_workload, patient_delay, unscheduled_optional}
-use Rattle.ih_costs.specs.StayGain.{rule_at, cost_at, rise, end_of, of_stay, of_care, of_nurse, over_days, over_shifts, over_loads, of_surgery, placement_gain}
+use Rattle.ih_costs.specs.StayGain.{rule_at, cost_at, rise, of_stay, of_care, of_nurse, over_days, over_shifts, over_loads, of_surgery, placement_gain}
 use Rattle.ih_costs.proofs.DayGains.{placed, without}
 use Rattle.ih_costs.proofs.GainNumbers.{each-told}
 use Rattle.ih_costs.proofs.GainParts.{bill-same, nine-same, eight-same}

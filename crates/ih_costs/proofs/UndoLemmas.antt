@@ -1,5 +1,5 @@
 -- A write is taken back by the write of what stood there.
-use Rattle.std.proofs.Common.{◌≡◌, ℕ, zero, suc, refl, sym, ap, ◌∙◌, List, [], ◌∷◌, Option, None}
+use Rattle.std.proofs.Common.{◌≡◌, ℕ, zero, suc, refl, sym, ap, subst, ◌∙◌, List, [], ◌∷◌, Option, None}
 use Rattle.std.specs.Prelude.{slice_get, slice_set, option_and_then, option_map}
 use Rattle.ih_tables.specs.declared.drafts.Draft.{Draft}
 use Rattle.ih_tables.specs.declared.ids.PatientNo.{PatientNo}
@@ -11,7 +11,10 @@ use Rattle.ih_plan.specs.declared.moves.Write.{Write}
 use Rattle.ih_plan.specs.declared.moves.Write.TheVariants.{SetStay, SetCare}
 use Rattle.ih_plan.specs.Timetable.{Timetable, IsPlanOf, stay_of, choice_of, care_place}
 use Rattle.ih_plan.specs.Writes.{put, IsWriteOf}
+use Rattle.ih_costs.specs.declared.cell_ledgers.CellLedgers.{CellLedgers}
+use Rattle.ih_costs.specs.CellLedgers.{AreLedgersOf, timetable_of}
 use Rattle.ih_costs.specs.Undo.{undo_of}
+use Rattle.ih_costs.proofs.StandLemmas.{kept}
 
 -- ---- entries of lists
 
@@ -52,3 +55,10 @@ undone P (SetCare r k n) =
 pub undo-write : (I : Draft) (P : Timetable) (w : Write) → IsPlanOf I P → IsWriteOf I w → IsWriteOf I (undo_of P w)
 undo-write I P (SetStay p s) plan fits = (fits.0, plan.placed p.0)
 undo-write I P (SetCare r k n) plan fits = (fits.0, fits.1, λ m e. plan.nursed r.0 k.0 m.0 (ap (option_map (λ (m : NurseNo). m.0)) e))
+
+-- Ledgers in which a write is made, which keep their timetable, and in which it is then taken back, stand for the timetable before.
+pub taken-back : (I : Draft) (P : Timetable) (w u : Write) (made behind back : CellLedgers) → AreLedgersOf I (put w P) made → AreLedgersOf I (timetable_of made) behind
+    → u ≡ undo_of P w → AreLedgersOf I (put u (timetable_of behind)) back → AreLedgersOf I P back
+taken-back I P w u made behind back stands keeps undo stands_back =
+    let same : timetable_of behind ≡ put w P = kept I (timetable_of made) behind keeps ∙ kept I (put w P) made stands in
+    subst (λ Q. AreLedgersOf I Q back) (ap (put u) same ∙ (ap (λ v. put v (put w P)) undo ∙ undone P w)) stands_back

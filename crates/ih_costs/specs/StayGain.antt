@@ -1,5 +1,5 @@
 -- What a patient's placement costs, told day by day: the parts of the cells that it is in, number by number.
-use Rattle.std.specs.Prelude.{◌≡◌, ℕ, ◌+◌, ◌-◌, ◌*◌, ℤ, pos, ◌-ℤ◌, min, [], ◌∷◌, Option, Some, None, slice_index}
+use Rattle.std.specs.Prelude.{◌≡◌, ℕ, ◌+◌, ◌-◌, ◌*◌, ℤ, pos, ◌-ℤ◌, [], ◌∷◌, Option, Some, None, slice_index}
 use Rattle.ih_tables.specs.declared.drafts.Draft.{Draft}
 use Rattle.ih_tables.specs.declared.cells.Cell.TheVariants.{Stay, RoomDay, TheatreDay, SurgeonDay, RoomShift, NurseShift, Care}
 use Rattle.ih_tables.specs.declared.bills.Bill.{Bill}
@@ -9,7 +9,7 @@ use Rattle.ih_plan.specs.declared.moves.Placement.{Placement}
 use Rattle.ih_plan.specs.declared.moves.Write.TheVariants.{SetStay}
 use Rattle.ih_plan.specs.Timetable.{Timetable, IsPlanOf, stay_of, care_of}
 use Rattle.ih_plan.specs.Writes.{put, IsWriteOf}
-use Rattle.ih_plan.specs.Persons.{person_of}
+use Rattle.ih_plan.specs.Presence.{end_of}
 use Rattle.ih_plan.specs.Costs.{surgeon_of}
 use Rattle.ih_plan.specs.Sums.{sum_below}
 use Rattle.ih_plan.specs.BillOf.{Counts, as_bill, change_of_bill}
@@ -27,10 +27,6 @@ rule_at j c = slice_index c.v j
 
 abbrev pub cost_at : ℕ → Counts → ℕ
 cost_at j c = slice_index c.s j
-
--- the end of a placement's counted days: of those before it, the first is the day of admission
-abbrev pub end_of : Draft → ℕ → Placement → ℕ
-end_of I p at = min (at.day.0 + (person_of I p).length_of_stay) I.days
 
 -- ---- a number of the parts of a placement's cells at a timetable
 

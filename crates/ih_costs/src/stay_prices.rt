@@ -1,6 +1,6 @@
 //! What another stay of a patient, or none, changes in the bill, told day by day.
 
-ghost use Rattle.std.specs.Prelude.{◌≡◌, ◌+◌, ◌<◌, ◌≤◌, ◌^◌, min, Some};
+ghost use Rattle.std.specs.Prelude.{◌≡◌, ◌<◌, ◌^◌, Some};
 ghost use Rattle.ih_tables.specs.Sizes.{patient_count};
 ghost use Rattle.ih_tables.specs.BillNumbers.{mixed_gender, room_capacity, uncovered_room, mixed_age, nurse_skill, excess_workload};
 ghost use Rattle.ih_tables.specs.Bills.{IsWithin};
@@ -8,7 +8,6 @@ ghost use Rattle.ih_plan.specs.declared.moves.Write.TheVariants.{SetStay};
 ghost use Rattle.ih_plan.specs.Timetable.{IsPlacement, stay_of};
 ghost use Rattle.ih_plan.specs.Writes.{put, IsWriteOf};
 ghost use Rattle.ih_plan.specs.BillOf.{change_of_bill};
-ghost use Rattle.ih_plan.specs.Persons.{person_of};
 ghost use Rattle.ih_costs.specs.CellLedgers.{AreLedgers, timetable_of};
 ghost use Rattle.ih_costs.specs.StayGain.{rise, rule_at, cost_at, over_days, over_shifts, over_loads};
 ghost use Rattle.ih_costs.specs.StayGain.{of_surgery, placement_gain, stay_gain};
@@ -16,7 +15,7 @@ ghost use Rattle.ih_costs.specs.StayGain.{of_surgery, placement_gain, stay_gain}
 use crate::cell_ledgers::CellLedgers;
 use crate::stays::stay_change;
 use ih_nurses::Visit;
-use ih_plan::Placement;
+use ih_plan::{Placement, end_of};
 use ih_tables::bill_numbers::{
     ADMISSION_WINDOW, CONTINUITY_OF_CARE, INCOMPATIBLE_ROOM, MIXED_AGE, MIXED_GENDER, OPEN_THEATRE,
     PATIENT_DELAY, ROOM_CAPACITY, SURGEON_OVERRUN, SURGEON_TRANSFER, THEATRE_OVERRUN,
@@ -39,18 +38,6 @@ struct ShiftsMore {
     alone: i64,
     skill: i64,
     load: i64,
-}
-
-// The day after a placement's last counted one: days past the horizon aren't counted.
-#[tactic(auto, unfolding(ih_plan::specs::Persons::person_of))]
-fn end_of(inst: &Instance, p: PatientNo, at: Placement) -> u32
-    requires patient { p.0 < patient_count inst.now.draft }
-    requires placement { IsPlacement inst.now.draft at }
-    ensures value { result ≡ min (at.day.0 + (person_of inst.now.draft p.0).length_of_stay) inst.now.draft.days }
-    ensures order { at.day.0 ≤ result }
-    ensures days { result ≤ inst.now.draft.days }
-{
-    (at.day.0 + inst.patient(p).length_of_stay).min(inst.days())
 }
 
 impl CellLedgers {

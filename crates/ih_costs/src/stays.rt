@@ -6,7 +6,7 @@ ghost use Rattle.ih_plan.specs.Sums.{bit};
 ghost use Rattle.ih_plan.specs.BillOf.{as_bill};
 ghost use Rattle.ih_costs.specs.Changes.{stay_part};
 
-use ih_plan::Placement;
+use ih_plan::{Placement, bit};
 use ih_tables::{Bill, Patient};
 use ih_validate::{delay, in_bad_room, outside_window};
 
@@ -44,22 +44,16 @@ fn is_left(a: &Patient, stay: Option<Placement>) -> bool
     !a.mandatory && stay.is_none()
 }
 
-fn count(b: bool) -> i64
-    ensures { result ≡ pos (bit b) }
-{
-    if b { 1 } else { 0 }
-}
-
 /// What a stay of a patient, or none, costs by itself.
 pub fn stay_bill(a: &Patient, stay: Option<Placement>) -> Bill
     requires { IfSome stay (λ at. at.day.0 < 56) }
     ensures { result ≡ as_bill (stay_part a.now stay) }
 {
-    let bad = count(in_bad_room(a, stay));
-    let out = count(is_out(a, stay));
-    let outside = count(outside_window(a, stay));
+    let bad = bit(in_bad_room(a, stay)) as i64;
+    let out = bit(is_out(a, stay)) as i64;
+    let outside = bit(outside_window(a, stay)) as i64;
     let late = delay(a, stay) as i64;
-    let left = count(is_left(a, stay));
+    let left = bit(is_left(a, stay)) as i64;
     Bill {
         v: [0, bad, 0, 0, out, outside, 0, 0, 0],
         s: [0, 0, 0, 0, 0, 0, late, left],

@@ -1,10 +1,9 @@
 -- The pieces of a footprint, joined.
-use Rattle.std.proofs.Common.{◌≡◌, ℕ, ◌+◌, ◌-◌, ◌*◌, ◌<◌, ◌≤◌, refl, arith, sym, ap, ◌∙◌, Bool, true, false, List, [], ◌∷◌, ◌++◌, inl, inr, Option, Some, None, length, take}
-use Rattle.std.specs.Prelude.{◌||◌, ◌==◌, ◌&&◌, nat_eq, nat_le, min, option_map, slice_get, slice_index}
-use Rattle.std.proofs.lemmas.Bool.{cases_eq, cases_lt, cases_order, eq-eqb, ne_eqb, and_right, le-leb, lt-leb, lt-ltb, le-ltb}
+use Rattle.std.proofs.Common.{◌≡◌, ℕ, ◌+◌, ◌*◌, ◌<◌, ◌≤◌, refl, arith, sym, ap, ◌∙◌, Bool, true, false, List, [], ◌∷◌, ◌++◌, inl, inr, Option, Some, None, length, take}
+use Rattle.std.specs.Prelude.{◌||◌, ◌==◌, ◌&&◌, nat_eq, option_map, slice_get, slice_index}
+use Rattle.std.proofs.lemmas.Bool.{cases_eq, eq-eqb, ne_eqb, and_right}
 use Rattle.std.proofs.lemmas.List.Folds.{list_any-append, list_any_at}
 use Rattle.std.proofs.lemmas.List.{take_more}
-use Rattle.std.proofs.lemmas.Option.{slice_get_past}
 use Rattle.std.proofs.lemmas.Cmp.{nat_eq_equiv}
 use Rattle.ih_tables.specs.declared.drafts.Draft.{Draft}
 use Rattle.ih_tables.specs.declared.drafts.Patient.{Patient}
@@ -15,12 +14,12 @@ use Rattle.ih_tables.specs.declared.ids.Shift.{Shift}
 use Rattle.ih_tables.specs.declared.ids.NurseNo.{NurseNo}
 use Rattle.ih_tables.specs.declared.ids.PatientNo.{PatientNo}
 use Rattle.ih_tables.specs.declared.ids.PersonNo.{PersonNo}
-use Rattle.ih_tables.specs.Sizes.{Sizes, sizes_of, patient_count, person_count, room_count, shift_count}
+use Rattle.ih_tables.specs.Sizes.{Sizes, sizes_of, room_count, shift_count}
 use Rattle.ih_plan.specs.declared.moves.Placement.{Placement}
 use Rattle.ih_plan.specs.declared.moves.Write.TheVariants.{SetStay}
 use Rattle.ih_plan.specs.Timetable.{Timetable, IsPlanOf, care_of, choice_of, stay_of}
 use Rattle.ih_plan.specs.Persons.{person_of}
-use Rattle.ih_plan.specs.Presence.{admission_of, is_in, is_present, day_of, covers, in_span}
+use Rattle.ih_plan.specs.Presence.{is_present, day_of, in_span, end_of}
 use Rattle.ih_plan.specs.Costs.{is_number}
 use Rattle.ih_plan.specs.Cells.{IsCellIn, IsCellOf}
 use Rattle.ih_plan.specs.Footprint.{in_placement, in_stay, in_choice, is_own, write_touches}
@@ -28,8 +27,9 @@ use Rattle.ih_footprint.specs.Gathered.{same_cell}
 use Rattle.ih_footprint.specs.Pieces.{in_shift, in_days, in_room_days, in_room_shifts, in_nurse_shifts, in_nurse, in_cares}
 use Rattle.ih_plan.specs.Present.{ArePresent}
 use Rattle.ih_plan.specs.Sums.{is_listed}
-use Rattle.ih_footprint.proofs.GatherLemmas.{or-none}
-use Rattle.ih_footprint.proofs.RunLemmas.{bool-same, span-true, span-inside}
+use Rattle.std.proofs.Math.Bool.{or-false}
+use Rattle.ih_plan.proofs.Spans.{span-none, span-more, span-covers, span-shifts}
+use Rattle.ih_plan.proofs.Whereabouts.{person-known}
 
 -- ---- a room in a shift
 
@@ -42,7 +42,7 @@ shift-none P r k h _ = refl
 pub shift-some : (P : Timetable) (r : RoomNo) (k : Shift) (n : NurseNo) → choice_of P r.0 k.0 ≡ Some n → (e : Cell)
     → (same_cell (RoomShift r k) e || same_cell (NurseShift n k) e) ≡ in_shift P r.0 k.0 e
 unfolding same_cell in_shift
-shift-some P r k n h (RoomShift s l) = or-none ((r.0 == s.0) && (k.0 == l.0))
+shift-some P r k n h (RoomShift s l) = or-false ((r.0 == s.0) && (k.0 == l.0))
 shift-some P r k n h (NurseShift m l) = rw h refl
 shift-some P r k n h _ = refl
 
@@ -77,15 +77,6 @@ at-shift P r k l n = elim (cases_eq l k) [
     none false true = refl
     none false false = refl
 
-span-more : (a b d : ℕ) → a ≤ b → (in_span a b d || (b == d)) ≡ in_span a (b + 1) d
-span-more a b d h = elim (cases_order b d) [
-  | inl same ↦ rw (same, le-leb a d (omega arith), lt-ltb d (d + 1) (omega arith), le-ltb d d (omega arith), eq-eqb d d refl) refl
-  | inr apart ↦ rw (ne_eqb b d (λ e. elim apart [ inl l ↦ omega arith | inr l ↦ omega arith ])) (elim apart [
-    | inl above ↦ rw (le-ltb d (b + 1) (omega arith), le-ltb d b (omega arith)) (or-none (nat_le a d && false))
-    | inr below ↦ rw (lt-ltb d (b + 1) (omega arith), lt-ltb d b (omega arith)) (or-none (nat_le a d && true))
-  ])
-]
-
 share : (g s t u : Bool) → (s || t) ≡ u → ((g && s) || (g && t)) ≡ (g && u)
 share true s t u e = e
 share false s t u e = refl
@@ -94,14 +85,8 @@ share false s t u e = refl
 pub shifts-more : (P : Timetable) (r a k : ℕ) → a ≤ k → (e : Cell) → (in_nurse_shifts P r a k e || in_nurse (care_of P r k) k e) ≡ in_nurse_shifts P r a (k + 1) e
 unfolding in_nurse_shifts in_nurse
 shifts-more P r a k h (NurseShift n l) =
-    rw (at-shift P r l.0 k n.0) (share (is_number (care_of P r l.0) n.0) (in_span a k l.0) (k == l.0) (in_span a (k + 1) l.0) (span-more a k l.0 h))
+    rw (at-shift P r l.0 k n.0) (share (is_number (care_of P r l.0) n.0) (in_span a k l.0) (k == l.0) (in_span a (k + 1) l.0) (sym (span-more a k l.0 h)))
 shifts-more P r a k h _ = refl
-
-span-none : (a d : ℕ) → in_span a a d ≡ false
-span-none a d = elim (cases_lt d a) [
-  | inl below ↦ rw (lt-leb a d below) refl
-  | inr above ↦ rw (le-ltb d a above) (and_right (nat_le a d) false refl)
-]
 
 -- no shift yet
 pub shifts-none : (P : Timetable) (r a : ℕ) (e : Cell) → in_nurse_shifts P r a a e ≡ false
@@ -109,57 +94,39 @@ unfolding in_nurse_shifts
 shifts-none P r a (NurseShift n k) = and_right (is_number (care_of P r k.0) n.0) (in_span a a k.0) (span-none a k.0)
 shifts-none P r a _ = refl
 
--- a span of days is one of shifts
-span-shifts : (a b k : ℕ) → in_span (3 * a) (3 * b) k ≡ in_span a b (day_of k)
-span-shifts a b k =
-    bool-same (in_span (3 * a) (3 * b) k) (in_span a b (day_of k)) (λ h. let e = span-inside (3 * a) (3 * b) k h in span-true a b (day_of k) (omega arith) (omega arith))
-    (λ h. let e = span-inside a b (day_of k) h in span-true (3 * a) (3 * b) k (omega arith) (omega arith))
-
 -- days are the room's days and shifts and its nurses' shifts
 pub days-pieces : (P : Timetable) (r a b : ℕ) (e : Cell)
     → ((in_room_days r a b e || in_room_shifts r (3 * a) (3 * b) e) || in_nurse_shifts P r (3 * a) (3 * b) e) ≡ in_days P r a b e
 unfolding in_room_days in_room_shifts in_nurse_shifts in_days
-days-pieces P r a b (RoomDay s d) = or-none _ ∙ or-none ((r == s.0) && in_span a b d.0)
-days-pieces P r a b (RoomShift s k) = or-none _ ∙ ap (λ x. (r == s.0) && x) (span-shifts a b k.0)
+days-pieces P r a b (RoomDay s d) = or-false _ ∙ or-false ((r == s.0) && in_span a b d.0)
+days-pieces P r a b (RoomShift s k) = or-false _ ∙ ap (λ x. (r == s.0) && x) (span-shifts a b k.0)
 days-pieces P r a b (NurseShift n k) = ap (λ x. is_number (care_of P r k.0) n.0 && x) (span-shifts a b k.0)
 days-pieces P r a b _ = refl
 
 -- ---- a placement
 
--- within the horizon the days of a stay are those before its end or the horizon's
-span-covers : (a n days d : ℕ) → d < days → in_span a (min (a + n) days) d ≡ covers a n d
-span-covers a n days d h = elim (cases_lt d (a + n)) [
-  | inl below ↦ rw (lt-ltb d (a + n) below, lt-ltb d (min (a + n) days) (omega arith)) refl
-  | inr past ↦ rw (le-ltb d (a + n) past, le-ltb d (min (a + n) days) (omega arith)) refl
-]
-
-pub placement-pieces : (I : Draft) (P : Timetable) (p : ℕ) (at : Placement) (a : Patient) → slice_get I.patients p ≡ Some a → (person_of I p).length_of_stay ≡ a.length_of_stay
+pub placement-pieces : (I : Draft) (P : Timetable) (p : ℕ) (at : Placement) (a : Patient) → slice_get I.patients p ≡ Some a
     → (e : Cell) → IsCellOf I e
-    → ((in_days P at.room.0 at.day.0 (min (at.day.0 + a.length_of_stay) I.days) e || same_cell (TheatreDay at.theatre at.day) e) || same_cell (SurgeonDay a.surgeon_id at.day) e)
+    → ((in_days P at.room.0 at.day.0 (end_of I p at) e || same_cell (TheatreDay at.theatre at.day) e) || same_cell (SurgeonDay a.surgeon_id at.day) e)
     ≡ in_placement I P p at e
 unfolding in_placement in_days same_cell
-placement-pieces I P p at a known stay (Stay q) range = refl
-placement-pieces I P p at a known stay (RoomDay r d) range = rw (stay, span-covers at.day.0 a.length_of_stay I.days d.0 range.1) (or-none _ ∙ or-none _)
-placement-pieces I P p at a known stay (TheatreDay t d) range = or-none ((at.theatre.0 == t.0) && (at.day.0 == d.0))
-placement-pieces I P p at a known stay (SurgeonDay s d) range = rw known refl
-placement-pieces I P p at a known stay (RoomShift r k) range =
+placement-pieces I P p at a known (Stay q) range = refl
+placement-pieces I P p at a known (RoomDay r d) range = rw (span-covers at.day.0 (person_of I p).length_of_stay I.days d.0 range.1) (or-false _ ∙ or-false _)
+placement-pieces I P p at a known (TheatreDay t d) range = or-false ((at.theatre.0 == t.0) && (at.day.0 == d.0))
+placement-pieces I P p at a known (SurgeonDay s d) range = rw known refl
+placement-pieces I P p at a known (RoomShift r k) range =
     let day : day_of k.0 < I.days = (let within = range.1 in omega arith) in
-    rw (stay, span-covers at.day.0 a.length_of_stay I.days (day_of k.0) day) (or-none _ ∙ or-none _)
-placement-pieces I P p at a known stay (NurseShift n k) range =
+    rw (span-covers at.day.0 (person_of I p).length_of_stay I.days (day_of k.0) day) (or-false _ ∙ or-false _)
+placement-pieces I P p at a known (NurseShift n k) range =
     let day : day_of k.0 < I.days = (let within = range.1 in omega arith) in
-    rw (stay, span-covers at.day.0 a.length_of_stay I.days (day_of k.0) day) (or-none _ ∙ or-none _)
-placement-pieces I P p at a known stay (Care x) range = refl
-
--- a patient's length of stay is that of the person
-pub person-stay : (I : Draft) (p : ℕ) (a : Patient) → p < patient_count I → slice_get I.patients p ≡ Some a → (person_of I p).length_of_stay ≡ a.length_of_stay
-unfolding person_of
-person-stay I p a h e = rw (lt-ltb p (patient_count I) h, e) refl
+    rw (span-covers at.day.0 (person_of I p).length_of_stay I.days (day_of k.0) day) (or-false _ ∙ or-false _)
+placement-pieces I P p at a known (Care x) range = refl
 
 -- ---- a patient's own cells
 
 own-pieces : (p : PatientNo) (x : PersonNo) → x.0 ≡ p.0 → (e : Cell) → (same_cell (Stay p) e || same_cell (Care x) e) ≡ is_own p.0 e
 unfolding same_cell
-own-pieces p x h (Stay q) = or-none (p.0 == q.0)
+own-pieces p x h (Stay q) = or-false (p.0 == q.0)
 own-pieces p x h (Care y) = ap (λ i. i == y.0) h
 own-pieces p x h _ = refl
 
@@ -179,7 +146,7 @@ cares-none _ = refl
 -- one more person
 cares-more : (xs : List ℕ) (x : PersonNo) (e : Cell) → (in_cares xs e || same_cell (Care x) e) ≡ in_cares (xs ++ x.0 ∷ []) e
 unfolding in_cares same_cell
-cares-more xs x (Care y) = sym (list_any-append (nat_eq y.0) xs (x.0 ∷ []) ∙ ap (λ b. is_listed y.0 xs || b) (or-none (y.0 == x.0) ∙ nat_eq_equiv.symm y.0 x.0))
+cares-more xs x (Care y) = sym (list_any-append (nat_eq y.0) xs (x.0 ∷ []) ∙ ap (λ b. is_listed y.0 xs || b) (or-false (y.0 == x.0) ∙ nat_eq_equiv.symm y.0 x.0))
 cares-more xs x _ = refl
 
 -- the next person of a list
@@ -187,17 +154,6 @@ pub cares-next : (xs : List ℕ) (i : ℕ) (x : PersonNo) → i < length xs → 
     → (in_cares (take i xs) e || same_cell (Care x) e) ≡ in_cares (take (i + 1) xs) e
 cares-next xs i x inside is e =
     cares-more (take i xs) x e ∙ ap (λ ys. in_cares ys e) (ap (λ y. take i xs ++ y ∷ []) is ∙ sym (take_more xs i 0 inside))
-
--- only persons are present
-present-below : (I : Draft) (P : Timetable) (r d x : ℕ) → is_present I P r d x ≡ true → x < person_count I
-unfolding admission_of
-present-below I P r d x h = elim (cases_lt x (person_count I)) [
-  | inl below ↦ below
-  | inr past ↦
-      let none : slice_get I.occupants (x - patient_count I) ≡ None = slice_get_past I.occupants (x - patient_count I) (omega arith) in
-      let nobody : admission_of I P x ≡ None = rw (le-ltb x (patient_count I) (omega arith), none) refl in
-      absurd (let no : false ≡ true = ap (λ o. is_in o (person_of I x).length_of_stay r d) (sym nobody) ∙ h in cc)
-]
 
 module _ (I : Draft) (P : Timetable) {rooms days : ℕ} {persons : ℕ → ℕ → List ℕ} (present : ArePresent I P rooms days persons) (r d : ℕ) (r_in : r < room_count I) (d_in : d < I.days) where
   -- who is told is who is present
@@ -208,7 +164,7 @@ module _ (I : Draft) (P : Timetable) {rooms days : ℕ} {persons : ℕ → ℕ �
   pub member-in : (i x : ℕ) (z : Sizes) → z ≡ sizes_of I → i < length (persons r d) → x ≡ slice_index (persons r d) i → x < z.patients + z.occupants
   member-in i x z sizes inside is =
       let listed = list_any_at (nat_eq x) (persons r d) i 0 inside (eq-eqb x (slice_index (persons r d) i) is) in
-      rw sizes (present-below I P r d x (sym (told-present x) ∙ listed))
+      rw sizes (person-known I P r d x (sym (told-present x) ∙ listed))
 
 -- ---- a choice
 
@@ -224,7 +180,7 @@ both-nurses false false false = refl
 pub choice-pieces : (I : Draft) (P : Timetable) (r k : ℕ) (n : Option ℕ) (xs : List ℕ) → ((x : ℕ) → is_listed x xs ≡ is_present I P r (day_of k) x) → (e : Cell)
     → ((in_shift P r k e || in_nurse n k e) || in_cares xs e) ≡ in_choice I P r k n e
 unfolding in_choice in_shift in_nurse in_cares
-choice-pieces I P r k n xs h (RoomShift s l) = or-none _ ∙ or-none ((r == s.0) && (k == l.0))
+choice-pieces I P r k n xs h (RoomShift s l) = or-false _ ∙ or-false ((r == s.0) && (k == l.0))
 choice-pieces I P r k n xs h (NurseShift m l) = both-nurses (is_number (care_of P r k) m.0) (is_number n m.0) (k == l.0)
 choice-pieces I P r k n xs h (Care x) = h x.0
 choice-pieces I P r k n xs h _ = refl

@@ -22,7 +22,7 @@ use Rattle.ih_plan.specs.Sums.{which_below, is_listed}
 use Rattle.ih_plan.proofs.ListedBelow.{which_below-same}
 use Rattle.ih_plan.specs.Cells.{number_in, count_in, IsCellIn, IsCellOf, cell_in, cell_at, cell_count}
 use Rattle.ih_footprint.specs.Gathered.{Gathered, Gathers, holds, same_cell, settled}
-use Rattle.ih_footprint.proofs.BitLemmas.{or-assoc}
+use Rattle.std.proofs.Math.Bool.{or-false, or_assoc}
 use Rattle.ih_footprint.proofs.Ranked.{cell_in-number_in, number_in-cell_in, cell_in-in}
 
 -- ---- one cell
@@ -88,18 +88,14 @@ same_number z c e hc he = elim (cases_eq (number_in z e) (number_in z c)) [
       ne_eqb (number_in z e) (number_in z c) other ∙ sym (false_from_ne_true (same_cell c e) (λ h. other (ap (number_in z) (sym (same_cell-true c e h)))))
 ]
 
-pub or-none : (b : Bool) → (b || false) ≡ b
-or-none true = refl
-or-none false = refl
-
 -- a number is added
 pub listed-added : (n i : ℕ) (xs : List ℕ) → is_listed i (if is_listed n xs then xs else xs ++ n ∷ []) ≡ (is_listed i xs || (i == n))
 listed-added n i xs = elim (cases_Bool (is_listed n xs)) [
   | inl there ↦ rw there (elim (cases_eq i n) [
     | inl same ↦ rw (same, there) refl
-    | inr other ↦ rw (ne_eqb i n other) (sym (or-none (is_listed i xs)))
+    | inr other ↦ rw (ne_eqb i n other) (sym (or-false (is_listed i xs)))
   ])
-  | inr gone ↦ rw gone (list_any-append (nat_eq i) xs (n ∷ []) ∙ ap (λ b. is_listed i xs || b) (or-none (i == n)))
+  | inr gone ↦ rw gone (list_any-append (nat_eq i) xs (n ∷ []) ∙ ap (λ b. is_listed i xs || b) (or-false (i == n)))
 ]
 
 pub gathers-one : (v w : Gathered) (c : Cell) (n : ℕ) → IsCellIn v.sizes c → n ≡ number_in v.sizes c → w.sizes ≡ v.sizes
@@ -125,7 +121,7 @@ pub gathers-both : {u v w : Gathered} {p q : Cell → Bool} → Gathers u v p �
 gathers-both {u} {v} {w} {p} {q} one two = record {
   sizes = two.sizes ∙ one.sizes;
   cells = λ c range.
-      two.cells c (subst (λ z. IsCellIn z c) (sym one.sizes) range) ∙ (ap (λ b. b || q c) (one.cells c range) ∙ or-assoc (holds u c) (p c) (q c));
+      two.cells c (subst (λ z. IsCellIn z c) (sym one.sizes) range) ∙ (ap (λ b. b || q c) (one.cells c range) ∙ or_assoc (holds u c) (p c) (q c));
 }
 
 -- from another that has the same cells
@@ -146,7 +142,7 @@ gathers-to {u} {v} {w} sizes same g = record {
 
 -- nothing is gathered
 pub gathers-none : {v : Gathered} {p : Cell → Bool} → ((c : Cell) → p c ≡ false) → Gathers v v p
-gathers-none {v} none = record { sizes = refl; cells = λ c range. sym (ap (λ b. holds v c || b) (none c) ∙ or-none (holds v c)) }
+gathers-none {v} none = record { sizes = refl; cells = λ c range. sym (ap (λ b. holds v c || b) (none c) ∙ or-false (holds v c)) }
 
 -- ---- the list, settled
 

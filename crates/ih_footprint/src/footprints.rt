@@ -17,7 +17,7 @@ ghost use Rattle.ih_plan.specs.Present.{ArePresent};
 
 use crate::cell_lists::CellList;
 use crate::cell_sets::CellSet;
-use ih_plan::{Members, Move, Placement, Plan, Write};
+use ih_plan::{Members, Move, Placement, Plan, Write, end_of};
 use ih_tables::{Cell, Day, Instance, NurseNo, PatientNo, PersonNo, RoomNo, Shift};
 
 // A room in a shift, and the shift of its nurse.
@@ -73,8 +73,7 @@ fn add_placement(inst: &Instance, plan: &Plan, p: PatientNo, at: Placement, out:
     ensures { Gathers out.old out.new (in_placement inst.now.draft plan.now p.0 at) }
 {
     let patient = inst.patient(p);
-    let end = (at.day.0 + patient.length_of_stay).min(inst.days());
-    add_days(inst, plan, at.room, at.day.0, end, out);
+    add_days(inst, plan, at.room, at.day.0, end_of(inst, p, at), out);
     out.add_cell(Cell::TheatreDay(at.theatre, at.day));
     out.add_cell(Cell::SurgeonDay(patient.surgeon_id, at.day));
 }

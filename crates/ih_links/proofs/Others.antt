@@ -2,13 +2,10 @@
 use Rattle.std.proofs.Common.{◌≡◌, ℕ, ◌+◌, ◌<◌, refl, arith, sym, ap, subst, ◌∙◌, Bool, true, false, List, [], ◌∷◌, inl, inr}
 use Rattle.std.specs.Prelude.{◌||◌, ◌==◌, sum_by}
 use Rattle.std.proofs.lemmas.Bool.{cases_eq, eq-eqb, ne_eqb, or_right}
+use Rattle.std.proofs.Math.Bool.{or-false}
 use Rattle.std.proofs.lemmas.List.Sums.{sum_by-cons}
 use Rattle.ih_links.specs.Lists.{has, without, with_if, IsOnce, AreNodes}
 use Rattle.ih_links.proofs.Members.{has-append, has-cases, has-without_self, has-without_other, once-append, once-without, without-here, without-there, without-none}
-
-pub or-false : (b : Bool) → (b || false) ≡ b
-or-false true = refl
-or-false false = refl
 
 -- a sum over a list is what one gives and the sum over the others
 pub sum-without : (f : ℕ → ℕ) (x : ℕ) (xs : List ℕ) → IsOnce xs → has x xs ≡ true → sum_by f (without x xs) + f x ≡ sum_by f xs

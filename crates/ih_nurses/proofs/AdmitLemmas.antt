@@ -1,24 +1,22 @@
 -- What the admission of one patient makes of who is present and of the nurses' loads.
-use Rattle.std.proofs.Common.{◌≡◌, ℕ, ◌+◌, ◌-◌, ◌*◌, ◌<◌, ◌≤◌, refl, arith, sym, ap, ◌∙◌, Bool, true, false, inl, inr, Option, Some, None}
-use Rattle.std.specs.Prelude.{if◌then◌else◌, ◌&&◌, ◌||◌, ◌==◌, slice_get, slice_index, nat_lt}
-use Rattle.std.specs.Option.{option_map_or}
+use Rattle.std.proofs.Common.{◌≡◌, ℕ, ◌+◌, ◌-◌, ◌*◌, ◌<◌, ◌≤◌, refl, arith, sym, ap, ◌∙◌, Bool, true, false, inl, inr, Some, None}
+use Rattle.std.specs.Prelude.{if◌then◌else◌, ◌&&◌, ◌||◌, ◌==◌, slice_index}
 use Rattle.std.proofs.lemmas.Bool.{cases_eq, eq-eqb, ne_eqb, and_right}
 use Rattle.ih_tables.specs.declared.drafts.Draft.{Draft}
-use Rattle.ih_tables.specs.declared.drafts.Patient.{Patient}
-use Rattle.ih_tables.specs.declared.drafts.Occupant.{Occupant}
 use Rattle.ih_tables.specs.Sizes.{patient_count, person_count, room_count}
-use Rattle.ih_tables.specs.Valid.{IsValid, IsPatient, IsOccupant}
+use Rattle.ih_tables.specs.Valid.{IsValid}
 use Rattle.ih_plan.specs.declared.moves.Placement.{Placement}
 use Rattle.ih_plan.specs.Timetable.{Timetable, IsPlacement, stay_of, care_of}
-use Rattle.ih_plan.specs.Persons.{person_of, patient_person, occupant_person, nobody}
-use Rattle.ih_plan.specs.Presence.{Admission, admission_of, is_in, is_present, covers, day_of, entry_of, workload_of}
+use Rattle.ih_plan.specs.Persons.{person_of}
+use Rattle.ih_plan.specs.Presence.{admission_of, is_present, covers, day_of, entry_of, workload_of}
 use Rattle.ih_plan.specs.Costs.{load_of, is_number}
 use Rattle.ih_plan.specs.Sums.{sum_below}
 use Rattle.ih_plan.proofs.SumLemmas.{sum_below-but, sum_below-same, sum_below-le}
-use Rattle.ih_plan.proofs.SumBounds.{sum_below-le_each, sum_below-swap, sum_below-none, one_place}
+use Rattle.ih_plan.proofs.SumBounds.{sum_below-le_each, sum_below-swap}
 use Rattle.ih_plan.proofs.Loads.{person_load, room_load, nurse_load, room_load-sum}
 use Rattle.ih_plan.proofs.Entries.{admission-patient, admission-same}
-use Rattle.ih_plan.proofs.Overtime.{from-all, entry-most}
+use Rattle.ih_plan.proofs.Overtime.{if-both, if-most, one_room, workload-most}
+use Rattle.ih_plan.proofs.Whereabouts.{nowhere, somewhere}
 use Rattle.ih_nurses.specs.Loads.{stay_load}
 use Rattle.ih_nurses.proofs.HereLemmas.{or-none}
 use Rattle.ih_nurses.proofs.WalkLemmas.{persons-few}
@@ -36,31 +34,17 @@ pub record IsAdmission (I : Draft) (P Q : Timetable) (p : ℕ) (at : Placement) 
 abbrev given : Draft → ℕ → Placement → ℕ → ℕ
 given I p at k = if covers at.day.0 (person_of I p).length_of_stay (day_of k) then slice_index (person_of I p).workload (k - 3 * at.day.0) else 0
 
-if-both : (a b : Bool) (x : ℕ) → (if a && b then x else 0) ≡ (if a then (if b then x else 0) else 0)
-if-both true b x = refl
-if-both false b x = refl
-
-if-most : (b : Bool) (x : ℕ) → (if b then x else 0) ≤ x
-if-most true x = omega arith
-if-most false x = omega arith
-
 if-sum : (b : Bool) (x y : ℕ) → (if b then x + y else 0) ≡ (if b then x else 0) + (if b then y else 0)
 if-sum true x y = refl
 if-sum false x y = omega arith
 
 module _ {I : Draft} {P Q : Timetable} {p : ℕ} {at : Placement} (a : IsAdmission I P Q p at) where
-  absent : (r d : ℕ) → is_present I P r d p ≡ false
-  absent r d = rw (admission-patient I P p a.patient, a.before) refl
-
-  there : (r d : ℕ) → is_present I Q r d p ≡ ((at.room.0 == r) && covers at.day.0 (person_of I p).length_of_stay d)
-  there r d = rw (admission-patient I Q p a.patient, a.after) refl
-
   same : (x : ℕ) → (x ≡ p → ⊥) → admission_of I Q x ≡ admission_of I P x
   same x ne = admission-same I Q P x (a.others x ne)
 
   pub present-more : (r d x : ℕ) → is_present I Q r d x ≡ (is_present I P r d x || ((at.room.0 == r) && (covers at.day.0 (person_of I p).length_of_stay d && (p == x))))
   present-more r d x = elim (cases_eq x p) [
-    | inl e ↦ rw (e, there r d, absent r d, eq-eqb p p refl) (by_case (at.room.0 == r) (covers at.day.0 (person_of I p).length_of_stay d))
+    | inl e ↦ rw (e, somewhere I Q p r d at a.patient a.after, nowhere I P p r d a.patient a.before, eq-eqb p p refl) (by_case (at.room.0 == r) (covers at.day.0 (person_of I p).length_of_stay d))
     | inr ne ↦
         rw (same x ne, ne_eqb p x (λ e. ne (sym e)))
         (sym (or-none (is_present I P r d x) ((at.room.0 == r) && (covers at.day.0 (person_of I p).length_of_stay d && false))
@@ -105,35 +89,6 @@ module _ {I : Draft} {P Q : Timetable} {p : ℕ} {at : Placement} (a : IsAdmissi
       omega (arith, change, here)
 
 -- ---- a bound on loads
-
-one_room : (m : ℕ) (o : Option Admission) (n d x : ℕ) → sum_below m (λ r. if is_in o n r d then x else 0) ≤ x
-one_room m None n d x = omega (arith, sum_below-none m)
-one_room m (Some a) n d x =
-    let each = sum_below-le_each m (λ r. if is_in (Some a) n r d then x else 0) (λ r. if a.room == r then x else 0)
-    (λ r h. rw (if-both (a.room == r) (covers a.day n d) x) (inner (a.room == r))) in
-    omega (arith, each, one_place m a.room x)
-  where
-    inner : (b : Bool) → (if b then (if covers a.day n d then x else 0) else 0) ≤ (if b then x else 0)
-    inner true = if-most (covers a.day n d) x
-    inner false = omega arith
-
-pub workload-most : (I : Draft) (x j : ℕ) → IsValid I → slice_index (person_of I x).workload j ≤ 100000
-unfolding person_of
-workload-most I x j valid = by_test (nat_lt x (patient_count I))
-  where
-    patient : (o : Option Patient) → slice_get I.patients x ≡ o → slice_index (option_map_or patient_person o nobody).workload j ≤ 100000
-    patient None e = omega arith
-    patient (Some a) e = entry-most a.workload_produced 100000 j (from-all (IsPatient I) I.patients x a valid.each_patient e).workload.small
-
-    occupant : (o : Option Occupant) → slice_get I.occupants (x - patient_count I) ≡ o → slice_index (option_map_or occupant_person o nobody).workload j ≤ 100000
-    occupant None e = omega arith
-    occupant (Some a) e = entry-most a.workload_produced 100000 j (from-all (IsOccupant I) I.occupants (x - patient_count I) a valid.each_occupant e).workload.small
-
-    by_test : (b : Bool) → slice_index
-        (if b then option_map_or patient_person (slice_get I.patients x) nobody else option_map_or occupant_person
-        (slice_get I.occupants (x - patient_count I)) nobody).workload j ≤ 100000
-    by_test true = patient (slice_get I.patients x) refl
-    by_test false = occupant (slice_get I.occupants (x - patient_count I)) refl
 
 -- nobody adds to the loads of two rooms, so a nurse's load is no more than all persons make
 pub load-most : (I : Draft) (P : Timetable) (n k : ℕ) → IsValid I → load_of I P n k ≤ 256000000

@@ -13,7 +13,7 @@ use Rattle.ih_plan.specs.declared.moves.Write.TheVariants.{SetCare}
 use Rattle.ih_plan.specs.Timetable.{Timetable, IsPlanOf, stay_of, choice_of, care_of}
 use Rattle.ih_plan.specs.Writes.{put}
 use Rattle.ih_plan.specs.Persons.{person_of}
-use Rattle.ih_plan.specs.Presence.{Admission, admission_of, placed_at, covers, day_of, in_span, is_in, is_present}
+use Rattle.ih_plan.specs.Presence.{Admission, admission_of, end_from, placed_at, covers, day_of, in_span, is_in, is_present}
 use Rattle.ih_plan.specs.Costs.{is_number}
 use Rattle.ih_plan.specs.Sums.{bit, count_below, sum_below}
 use Rattle.ih_plan.proofs.SumLemmas.{sum_below-zero, sum_below-more, sum_below-but, sum_below-same, sum_below-le}
@@ -139,7 +139,7 @@ count-few I P x m valid = by_case (admission_of I P x) (person_of I x).length_of
     by_case None n = omega arith
     by_case (Some a) n =
         let days = valid.days.most in
-        omega (arith, days, first-few P (record { room = record { 0 = a.room }; from = 3 * a.day; len = 3 * (min (a.day + n) I.days - a.day) }) m (3 * (min (a.day + n) I.days - a.day)))
+        omega (arith, days, first-few P (record { room = record { 0 = a.room }; from = 3 * a.day; len = 3 * (end_from I a.day n - a.day) }) m (3 * (end_from I a.day n - a.day)))
 
 module _ {I : Draft} {P Q : Timetable} {p : ℕ} {at : Placement} (a : IsAdmission I P Q p at) where
   -- the patient's counted shifts
@@ -219,7 +219,7 @@ spans a n days k h = elim (cases_lt k (3 * a)) [
 
 -- the counted shifts of an admission
 abbrev pub shift_span_of : Draft → Admission → ℕ → ShiftSpan
-shift_span_of I a n = record { room = record { 0 = a.room }; from = 3 * a.day; len = 3 * (min (a.day + n) I.days - a.day) }
+shift_span_of I a n = record { room = record { 0 = a.room }; from = 3 * a.day; len = 3 * (end_from I a.day n - a.day) }
 
 pub there-shift : (I : Draft) (a : Admission) (n r k : ℕ) → k < shift_count I → has_shift (shift_span_of I a n) r k ≡ is_in (Some a) n r (day_of k)
 there-shift I a n r k h = ap (λ b. (a.room == r) && b) (spans a.day n I.days k h)

@@ -1,7 +1,7 @@
 -- What entering and leaving make of the lists of persons.
 use Rattle.std.proofs.Common.{◌≡◌, ℕ, ◌+◌, ◌<◌, ◌≤◌, refl, arith, sym, ap, ◌∙◌, Bool, true, false, inl, inr, List, [], ◌∷◌, ◌++◌, length}
-use Rattle.std.specs.Prelude.{◌||◌, ◌&&◌, ◌==◌, not, map, nat_le, nat_lt, slice_index_or, slice_set}
-use Rattle.std.proofs.lemmas.Bool.{cases_eq, cases_lt, eq-eqb, ne_eqb, and_right, lt-ltb, le-ltb, le-leb, lt-leb}
+use Rattle.std.specs.Prelude.{◌||◌, ◌&&◌, ◌==◌, not, map, slice_index_or, slice_set}
+use Rattle.std.proofs.lemmas.Bool.{cases_eq, cases_lt, eq-eqb, ne_eqb, and_right}
 use Rattle.std.proofs.lemmas.List.{get_or-set_other, get_or_default, get_or_past}
 use Rattle.std.proofs.lemmas.Grind.{get_or-set_at}
 use Rattle.std.proofs.Math.ListN.{get_or-map}
@@ -11,6 +11,7 @@ use Rattle.ih_links.specs.Lists.{Linked, list_of, has, without}
 use Rattle.ih_links.specs.Days.{on_day}
 use Rattle.ih_links.proofs.Members.{has-append, has-without_self, has-without_other}
 use Rattle.ih_plan.specs.Presence.{in_span}
+use Rattle.ih_plan.proofs.Spans.{span-none, span-past, span-more}
 use Rattle.ih_nurses.specs.Here.{is_here, AreSized}
 
 abbrev no_lists : Linked
@@ -84,28 +85,6 @@ module _ (here : List Linked) (d : ℕ) (past old new : Linked) (inside : d < le
 
 -- ---- days in a row
 
--- no day comes before the first
-pub span-none : (a e : ℕ) → in_span a a e ≡ false
-span-none a e = elim (cases_lt e a) [
-  | inl below ↦ rw (lt-leb a e below) refl
-  | inr above ↦ rw (le-leb a e above, le-ltb e a above) refl
-]
-
--- one day more
-pub span-more : (a d e : ℕ) → a ≤ d → in_span a (d + 1) e ≡ (in_span a d e || (d == e))
-span-more a d e h = elim (cases_eq d e) [
-  | inl same ↦
-      rw (← same, le-leb a d h, lt-ltb d (d + 1) (omega arith), eq-eqb d d refl) (by_case (nat_lt d d))
-  | inr other ↦ rw (ne_eqb d e other) (elim (cases_lt e d) [
-    | inl below ↦ rw (lt-ltb e d below, lt-ltb e (d + 1) (omega arith)) (sym (or-none (nat_le a e && true) false refl))
-    | inr above ↦ rw (le-ltb e d above, le-ltb e (d + 1) (omega arith)) (sym (or-none (nat_le a e && false) false refl))
-  ])
-]
-  where
-    by_case : (b : Bool) → true ≡ (b || true)
-    by_case true = refl
-    by_case false = refl
-
 pub enter-more : (b s m e y : Bool) → ((b || (s && (m && y))) || (s && (e && y))) ≡ (b || (s && ((m || e) && y)))
 enter-more true s m e y = refl
 enter-more false false m e y = refl
@@ -142,7 +121,7 @@ entered-more I old here new r from d x h so_far sized each = record {
 -- who wasn't there on a day isn't there before the day is entered
 pub entered-free : (I : Draft) (old here : List Linked) (r from d x s : ℕ) → AreEntered I old here r from d x → is_here old s d x ≡ false → is_here here s d x ≡ false
 entered-free I old here r from d x s so_far free =
-    so_far.each s d x ∙ rw (free, le-ltb d d (omega arith), and_right (nat_le from d) false refl) (and_right (r == s) false refl)
+    so_far.each s d x ∙ rw (free, span-past from d) (and_right (r == s) false refl)
 
 -- left on the days so far
 pub record AreLeft (I : Draft) (old here : List Linked) (from to x : ℕ) : Type 0 where
@@ -164,7 +143,4 @@ left-more I old here new from d x h so_far sized each = record {
 
 pub left-there : (I : Draft) (old here : List Linked) (from d x s : ℕ) → AreLeft I old here from d x → is_here old s d x ≡ true → is_here here s d x ≡ true
 left-there I old here from d x s so_far there =
-    so_far.each s d x ∙ rw (there, le-ltb d d (omega arith), and_right (nat_le from d) false refl) refl
-
-pub span-in : (from to d : ℕ) → from ≤ d → d < to → in_span from to d ≡ true
-span-in from to d h l = rw (le-leb from d h, lt-ltb d to l) refl
+    so_far.each s d x ∙ rw (there, span-past from d) refl

@@ -1,7 +1,7 @@
 -- What a ledger stands for after a patient enters or leaves.
-use Rattle.std.proofs.Common.{◌≡◌, ℕ, ◌+◌, ◌<◌, ◌≤◌, refl, arith, sym, subst, ◌∙◌, Bool, true, false, inl, inr, List, Option, Some, None}
-use Rattle.std.specs.Prelude.{◌&&◌, ◌||◌, ◌==◌, not, min, nat_le, nat_lt, IfSome}
-use Rattle.std.proofs.lemmas.Bool.{cases_lt, lt-ltb, le-ltb, and_parts, eq-eqb, eqb-true, ltb-true}
+use Rattle.std.proofs.Common.{◌≡◌, ℕ, ◌+◌, ◌<◌, ◌≤◌, refl, arith, sym, subst, ◌∙◌, Bool, true, false, List, Option, Some, None}
+use Rattle.std.specs.Prelude.{◌&&◌, ◌||◌, ◌==◌, not, IfSome}
+use Rattle.std.proofs.lemmas.Bool.{and_parts, eq-eqb, eqb-true}
 use Rattle.ih_tables.specs.declared.drafts.Draft.{Draft}
 use Rattle.ih_tables.specs.declared.ids.PatientNo.{PatientNo}
 use Rattle.ih_tables.specs.Sizes.{patient_count, room_count, nurse_count, shift_count}
@@ -12,9 +12,11 @@ use Rattle.ih_plan.specs.declared.moves.Write.TheVariants.{SetStay}
 use Rattle.ih_plan.specs.Timetable.{Timetable, IsPlanOf, IsPlacement, stay_of}
 use Rattle.ih_plan.specs.Writes.{put}
 use Rattle.ih_plan.specs.Persons.{person_of}
-use Rattle.ih_plan.specs.Presence.{is_present, covers, in_span}
-use Rattle.ih_plan.proofs.Entries.{stay_of-other, stay_of-same, admission-patient}
+use Rattle.ih_plan.specs.Presence.{is_present, covers, in_span, end_of}
+use Rattle.ih_plan.proofs.Entries.{stay_of-other, stay_of-same}
 use Rattle.ih_tables.specs.Valid.{IsValid}
+use Rattle.ih_plan.proofs.Spans.{span-inside, span-covers}
+use Rattle.ih_plan.proofs.Whereabouts.{nowhere, somewhere}
 use Rattle.ih_nurses.specs.Ledger.{IsTied}
 use Rattle.ih_nurses.specs.declared.loads.NurseLoad.{NurseLoad}
 use Rattle.ih_nurses.specs.Here.{AreSized, AreHere, is_here}
@@ -22,13 +24,6 @@ use Rattle.ih_nurses.specs.Loads.{IsTable, AreLoads, load_at, stay_load}
 use Rattle.ih_nurses.specs.Counts.{count_at}
 use Rattle.ih_nurses.proofs.CountLemmas.{count-none}
 use Rattle.ih_nurses.proofs.AdmitLemmas.{IsAdmission, present-more, load-more, load-most}
-
--- within the horizon a stay covers the days until it is over
-pub span-covers : (a n days d : ℕ) → d < days → in_span a (min (a + n) days) d ≡ covers a n d
-span-covers a n days d h = elim (cases_lt d (a + n)) [
-  | inl below ↦ rw (lt-ltb d (a + n) below, lt-ltb d (min (a + n) days) (omega arith)) refl
-  | inr above ↦ rw (le-ltb d (a + n) above, le-ltb d (min (a + n) days) (omega arith)) refl
-]
 
 pub admits : (I : Draft) (P : Timetable) (p : PatientNo) (at : Placement) → IsPlanOf I P → p.0 < patient_count I → IsPlacement I at → stay_of P p.0 ≡ None
     → IsAdmission I P (put (SetStay p (Some at)) P) p.0 at
@@ -52,9 +47,6 @@ leaves I P p at plan patient placed there = record {
   cares = λ r k. refl;
 }
 
-pub absent-from : (I : Draft) (P : Timetable) (p r d : ℕ) → p < patient_count I → stay_of P p ≡ None → is_present I P r d p ≡ false
-absent-from I P p r d patient free = rw (admission-patient I P p patient, free) refl
-
 -- out of b || s a list without s is b, where b and s don't meet
 without-own : (b s m : Bool) → (m ≡ true → b ≡ false) → ((b || (s && m)) && not m) ≡ b
 without-own true s true e = absurd (let no : true ≡ false = e refl in cc)
@@ -65,7 +57,7 @@ without-own false false m e = refl
 
 module _ {I : Draft} {P Q : Timetable} {p : ℕ} {at : Placement} (a : IsAdmission I P Q p at) where
   pub here-entered : (old new : List Linked) → AreHere I P old → AreSized I new
-      → ((s e y : ℕ) → is_here new s e y ≡ (is_here old s e y || ((at.room.0 == s) && (in_span at.day.0 (min (at.day.0 + (person_of I p).length_of_stay) I.days) e && (p == y)))))
+      → ((s e y : ℕ) → is_here new s e y ≡ (is_here old s e y || ((at.room.0 == s) && (in_span at.day.0 (end_of I p at) e && (p == y)))))
       → AreHere I Q new
   here-entered old new known sized each = record {
     sized = sized;
@@ -81,14 +73,14 @@ module _ {I : Draft} {P Q : Timetable} {p : ℕ} {at : Placement} (a : IsAdmissi
   }
 
   pub here-left : (old new : List Linked) → AreHere I Q old → AreSized I new
-      → ((s e y : ℕ) → is_here new s e y ≡ (is_here old s e y && not (in_span at.day.0 (min (at.day.0 + (person_of I p).length_of_stay) I.days) e && (p == y))))
+      → ((s e y : ℕ) → is_here new s e y ≡ (is_here old s e y && not (in_span at.day.0 (end_of I p at) e && (p == y))))
       → AreHere I P new
   here-left old new known sized each = record {
     sized = sized;
     each = λ r d x rh dh xh.
         each r d x ∙ rw (known.each r d x rh dh xh, span-covers at.day.0 (person_of I p).length_of_stay I.days d dh, present-more a r d x)
         (without-own (is_present I P r d x) (at.room.0 == r) (covers at.day.0 (person_of I p).length_of_stay d && (p == x))
-        (λ both. let same : p ≡ x = eqb-true p x (and_parts (covers at.day.0 (person_of I p).length_of_stay d) (p == x) both).1 in rw (← same) (absent-from I P p r d a.patient a.before)));
+        (λ both. let same : p ≡ x = eqb-true p x (and_parts (covers at.day.0 (person_of I p).length_of_stay d) (p == x) both).1 in rw (← same) (nowhere I P p r d a.patient a.before)));
   }
 
   pub loads-taken : (old new : List NurseLoad) → AreLoads I Q old → IsTable I new
@@ -110,14 +102,13 @@ module _ {I : Draft} {P Q : Timetable} {p : ℕ} {at : Placement} (a : IsAdmissi
       omega arith
 
   -- on the days of the stay the patient is in the room
-  pub here-there : (old : List Linked) → AreHere I Q old → (e : ℕ) → in_span at.day.0 (min (at.day.0 + (person_of I p).length_of_stay) I.days) e ≡ true → is_here old at.room.0 e p ≡ true
+  pub here-there : (old : List Linked) → AreHere I Q old → (e : ℕ) → in_span at.day.0 (end_of I p at) e ≡ true → is_here old at.room.0 e p ≡ true
   here-there old known e h =
-      let parts = and_parts (nat_le at.day.0 e) (nat_lt e (min (at.day.0 + (person_of I p).length_of_stay) I.days)) h in
-      let below = ltb-true e (min (at.day.0 + (person_of I p).length_of_stay) I.days) parts.1 in
+      let inside = span-inside at.day.0 (end_of I p at) e h in
       let day : e < I.days = omega arith in
       let patient = a.patient in
       let covered = sym (span-covers at.day.0 (person_of I p).length_of_stay I.days e day) ∙ h in
-      known.each at.room.0 e p a.placed.room day (omega arith) ∙ rw (admission-patient I Q p a.patient, a.after, eq-eqb at.room.0 at.room.0 refl) covered
+      known.each at.room.0 e p a.placed.room day (omega arith) ∙ rw (somewhere I Q p at.room.0 e at a.patient a.after, eq-eqb at.room.0 at.room.0 refl) covered
 
 module _ {I : Draft} {P plan : Timetable} {here : List Linked} {loads : List NurseLoad} {counts : List ℕ} (known : IsTied I P plan here loads counts) where
   -- a ledger stands for its own timetable
@@ -131,7 +122,7 @@ module _ {I : Draft} {P plan : Timetable} {here : List Linked} {loads : List Nur
 
   -- who isn't admitted is in no list
   pub not-here : (p : ℕ) → p < patient_count I → stay_of P p ≡ None → (s e : ℕ) → s < room_count I → e < I.days → is_here here s e p ≡ false
-  not-here p patient free s e sh eh = known.here_are.each s e p sh eh (omega arith) ∙ absent-from I P p s e patient free
+  not-here p patient free s e sh eh = known.here_are.each s e p sh eh (omega arith) ∙ nowhere I P p s e patient free
 
   -- who isn't admitted has no counts
   pub not-counted : (p : ℕ) → p < patient_count I → stay_of P p ≡ None → (m : ℕ) → m < nurse_count I → count_at I counts p m ≡ 0

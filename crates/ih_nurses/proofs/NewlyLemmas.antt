@@ -8,7 +8,7 @@ use Rattle.ih_tables.specs.declared.ids.RoomNo.{RoomNo}
 use Rattle.ih_tables.specs.declared.ids.Shift.{Shift}
 use Rattle.ih_tables.specs.declared.ids.NurseNo.{NurseNo}
 use Rattle.ih_tables.specs.Sizes.{nurse_count, room_count, shift_count}
-use Rattle.ih_links.proofs.Others.{or-false}
+use Rattle.std.proofs.Math.Bool.{or-false}
 use Rattle.ih_plan.specs.declared.moves.Write.TheVariants.{SetCare}
 use Rattle.ih_plan.specs.Timetable.{Timetable, IsPlanOf, choice_of, care_of}
 use Rattle.ih_plan.specs.Writes.{put}

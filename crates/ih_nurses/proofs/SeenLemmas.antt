@@ -9,7 +9,7 @@ use Rattle.std.proofs.lemmas.Nat.Bits.{bit_at-zero, bit_at_set_same, bit_at_set_
 use Rattle.std.proofs.Math.ListN.{length-replicate}
 use Rattle.ih_tables.specs.declared.drafts.Draft.{Draft}
 use Rattle.ih_tables.specs.Sizes.{nurse_count}
-use Rattle.ih_links.proofs.Others.{or-false}
+use Rattle.std.proofs.Math.Bool.{or-false}
 use Rattle.ih_plan.specs.Timetable.{Timetable, care_of}
 use Rattle.ih_plan.specs.Costs.{is_number, distinct_nurses}
 use Rattle.ih_plan.specs.Sums.{bit, count_below}

@@ -1,6 +1,6 @@
 -- The empty timetable's lists and loads.
-use Rattle.std.proofs.Common.{◌≡◌, ℕ, zero, suc, ◌+◌, ◌-◌, ◌*◌, ◌<◌, refl, ap, arith, map, sym, subst, ◌∙◌, Bool, true, false, inl, inr, List, [], ◌∷◌, ◌++◌, replicate, Option, Some, None, min, Result, Ok, Err, IfOk}
-use Rattle.std.specs.Prelude.{◌||◌, ◌&&◌, ◌==◌, nat_lt, slice_get, option_and_then}
+use Rattle.std.proofs.Common.{◌≡◌, ℕ, ◌+◌, ◌-◌, ◌*◌, ◌<◌, refl, ap, arith, map, sym, ◌∙◌, Bool, true, false, inl, inr, List, [], ◌∷◌, ◌++◌, replicate, Option, Some, None, Result, Ok, Err, IfOk}
+use Rattle.std.specs.Prelude.{◌||◌, ◌&&◌, ◌==◌, nat_lt, slice_get}
 use Rattle.std.proofs.lemmas.Bool.{cases_eq, cases_lt, eq-eqb, ne_eqb, lt-ltb, le-ltb, and_right}
 use Rattle.std.proofs.lemmas.List.{get_or-replicate}
 use Rattle.std.proofs.Math.ListN.{length-replicate}
@@ -10,8 +10,8 @@ use Rattle.ih_tables.specs.Sizes.{patient_count, occupant_count, person_count, r
 use Rattle.ih_links.specs.Lists.{Linked}
 use Rattle.ih_links.specs.Days.{empty_lists}
 use Rattle.ih_links.proofs.EmptyDays.{empty-day, empty-list}
-use Rattle.ih_plan.specs.Timetable.{Timetable, empty, stay_of, care_of}
-use Rattle.ih_plan.specs.Presence.{Admission, admission_of, covers, in_span, is_present}
+use Rattle.ih_plan.specs.Timetable.{empty, care_of}
+use Rattle.ih_plan.specs.Presence.{Admission, admission_of, covers, end_from, in_span, is_present}
 use Rattle.ih_plan.specs.Persons.{person_of}
 use Rattle.ih_plan.specs.Costs.{load_of, is_number}
 use Rattle.ih_plan.specs.Sums.{bit}
@@ -22,6 +22,8 @@ use Rattle.std.proofs.lemmas.List.FromFn.{map-range_with_len_more, get_or-map-ra
 use Rattle.ih_plan.proofs.SumLemmas.{sum_below-same}
 use Rattle.ih_plan.proofs.SumBounds.{sum_below-none}
 use Rattle.ih_plan.proofs.Loads.{nurse_load}
+use Rattle.ih_plan.proofs.Spans.{span-covers}
+use Rattle.ih_plan.proofs.Whereabouts.{no-stay, no-nurse, nowhere, occupant-there, below-next}
 use Rattle.ih_nurses.specs.Here.{is_here, AreSized, AreFilled, AreHere}
 use Rattle.ih_nurses.specs.declared.loads.NurseLoad.{NurseLoad}
 use Rattle.ih_nurses.specs.Loads.{AreLoads, entry_at, free_load, most_of}
@@ -30,27 +32,17 @@ use Rattle.ih_nurses.specs.ShiftSpans.{shift_span_in}
 use Rattle.ih_nurses.proofs.HereLemmas.{or-none}
 use Rattle.ih_nurses.proofs.CountSteps.{count-inside}
 use Rattle.ih_nurses.proofs.LoadSteps.{place-inside}
-use Rattle.ih_nurses.proofs.LedgerLemmas.{span-covers, absent-from}
 
 -- what holds of the value, where there is one, gives what follows from it
 pub if-ok : {T E : Type 0} (r : Result T E) {A B : T → Type 0} → IfOk r A → ((x : T) → A x → B x) → IfOk r B
 if-ok (Ok x) holds follows = follows x holds
 if-ok (Err e) holds follows = holds
 
--- nothing is read from a list of nothing
-none-read : {X : Type 0} (n i : ℕ) → option_and_then (λ (o : Option X). o) (slice_get (replicate n None) i) ≡ None
-none-read zero i = refl
-none-read (suc n) zero = refl
-none-read (suc n) (suc i) = none-read n i
-
 -- ---- loads
-
-no_nurse : (I : Draft) (r k : ℕ) → care_of (empty I) r k ≡ None
-no_nurse I r k = rw (none-read (shift_count I * room_count I) (shift_count I * r + k)) refl
 
 pub no-load : (I : Draft) (n k : ℕ) → load_of I (empty I) n k ≡ 0
 unfolding load_of
-no-load I n k = sum_below-same (room_count I) (nurse_load I (empty I) n k) (λ r. 0) (λ r h. rw (no_nurse I r k) refl) ∙ sum_below-none (room_count I)
+no-load I n k = sum_below-same (room_count I) (nurse_load I (empty I) n k) (λ r. 0) (λ r h. rw (no-nurse I r k) refl) ∙ sum_below-none (room_count I)
 
 pub loads-more : (I : Draft) (i : ℕ) (loads : List NurseLoad) → loads ≡ map (free_load I) (range_with_len 0 i) → loads ++ free_load I i ∷ [] ≡ map (free_load I) (range_with_len 0 (i + 1))
 loads-more I i loads so_far = rw so_far (sym (map-range_with_len_more (free_load I) 0 i i (omega arith)))
@@ -79,9 +71,9 @@ no-count I x n = by_case (admission_of I (empty I) x) (person_of I x).length_of_
     by_case : (o : Option Admission) (days : ℕ) → nursed_in (empty I) (shift_span_in I o days) n ≡ 0
     by_case None days = refl
     by_case (Some a) days =
-        sum_below-same (3 * (min (a.day + days) I.days - a.day)) (λ j. bit (is_number (care_of (empty I) a.room (3 * a.day + j)) n)) (λ j. 0)
-        (λ j h. ap (λ o. bit (is_number o n)) (no_nurse I a.room (3 * a.day + j)))
-        ∙ sum_below-none (3 * (min (a.day + days) I.days - a.day))
+        sum_below-same (3 * (end_from I a.day days - a.day)) (λ j. bit (is_number (care_of (empty I) a.room (3 * a.day + j)) n)) (λ j. 0)
+        (λ j h. ap (λ o. bit (is_number o n)) (no-nurse I a.room (3 * a.day + j)))
+        ∙ sum_below-none (3 * (end_from I a.day days - a.day))
 
 pub counts-none : (I : Draft) (counts : List ℕ) → counts ≡ replicate (person_count I * nurse_count I) 0 → AreCounts I (empty I) counts
 counts-none I counts e = record {
@@ -90,9 +82,6 @@ counts-none I counts e = record {
 }
 
 -- ---- the occupants, one after the other
-
-pub no-stay : (I : Draft) (p : ℕ) → stay_of (empty I) p ≡ None
-no-stay I p = none-read (patient_count I) p
 
 -- nobody is in any list of days that are empty
 pub filled-none : (I : Draft) (here : List Linked) → here ≡ replicate I.days (empty_lists (room_count I) (person_count I)) → AreFilled I here 0
@@ -103,19 +92,10 @@ filled-none I here e = record {
     persons = λ d h. rw (e, empty-day (room_count I) (person_count I) I.days d h) refl;
   };
   each = λ r d x rh dh xh. rw (e, empty-list (room_count I) (person_count I) I.days d r) (elim (cases_lt x (patient_count I)) [
-    | inl patient ↦ rw (absent-from I (empty I) x r d patient (no-stay I x)) (sym (and_right (nat_lt x (patient_count I + 0)) false refl))
+    | inl patient ↦ rw (nowhere I (empty I) x r d patient (no-stay I x)) (sym (and_right (nat_lt x (patient_count I + 0)) false refl))
     | inr past ↦ rw (le-ltb x (patient_count I + 0) (omega arith)) refl
   ]);
 }
-
--- an occupant is in its room from day 0 on
-occupant-there : (I : Draft) (P : Timetable) (r d k : ℕ) (o : Occupant) → slice_get I.occupants k ≡ Some o
-    → is_present I P r d (patient_count I + k) ≡ ((o.room_id.0 == r) && covers 0 o.length_of_stay d)
-unfolding admission_of person_of
-occupant-there I P r d k o e =
-    let no_patient = le-ltb (patient_count I + k) (patient_count I) (omega arith) in
-    let place : patient_count I + k - patient_count I ≡ k = omega arith in
-    rw (no_patient, place, e) refl
 
 -- who is the next isn't listed yet
 pub next-free : (I : Draft) (here : List Linked) (k : ℕ) → AreFilled I here k → k < occupant_count I → (r d : ℕ) → r < room_count I → d < I.days
@@ -126,16 +106,13 @@ next-free I here k filled kh r d rh dh =
 module _ (I : Draft) (k : ℕ) (o : Occupant) (is : slice_get I.occupants k ≡ Some o) where
   -- listed before, or now
   abbrev both : ℕ → ℕ → ℕ → Bool
-  both r d x = ((nat_lt x (patient_count I + k) && is_present I (empty I) r d x) || ((o.room_id.0 == r) && (in_span 0 (min o.length_of_stay I.days) d && ((patient_count I + k) == x))))
+  both r d x = ((nat_lt x (patient_count I + k) && is_present I (empty I) r d x) || ((o.room_id.0 == r) && (in_span 0 (end_from I 0 o.length_of_stay) d && ((patient_count I + k) == x))))
 
   own : (r d : ℕ) → d < I.days → both r d (patient_count I + k) ≡ (nat_lt (patient_count I + k) (patient_count I + (k + 1)) && is_present I (empty I) r d (patient_count I + k))
   own r d dh =
       let before = le-ltb (patient_count I + k) (patient_count I + k) (omega arith) in
       let now = lt-ltb (patient_count I + k) (patient_count I + (k + 1)) (omega arith) in
-      let whole : 0 + o.length_of_stay ≡ o.length_of_stay = omega arith in
-      let covered : in_span 0 (min o.length_of_stay I.days) d ≡ covers 0 o.length_of_stay d =
-      subst (λ n. in_span 0 (min n I.days) d ≡ covers 0 o.length_of_stay d) whole (span-covers 0 o.length_of_stay I.days d dh) in
-      rw (before, now, eq-eqb (patient_count I + k) (patient_count I + k) refl, covered, occupant-there I (empty I) r d k o is)
+      rw (before, now, eq-eqb (patient_count I + k) (patient_count I + k) refl, span-covers 0 o.length_of_stay I.days d dh, occupant-there I (empty I) r d k o is)
       (by_case (o.room_id.0 == r) (covers 0 o.length_of_stay d))
     where
       by_case : (b c : Bool) → (false || (b && (c && true))) ≡ (true && (b && c))
@@ -145,17 +122,13 @@ module _ (I : Draft) (k : ℕ) (o : Occupant) (is : slice_get I.occupants k ≡ 
 
   other : (r d x : ℕ) → (x ≡ patient_count I + k → ⊥) → both r d x ≡ (nat_lt x (patient_count I + (k + 1)) && is_present I (empty I) r d x)
   other r d x ne =
-      let still : nat_lt x (patient_count I + (k + 1)) ≡ nat_lt x (patient_count I + k) = elim (cases_lt x (patient_count I + k)) [
-        | inl early ↦ lt-ltb x (patient_count I + (k + 1)) (omega arith) ∙ sym (lt-ltb x (patient_count I + k) early)
-        | inr late ↦ le-ltb x (patient_count I + (k + 1)) (omega arith) ∙ sym (le-ltb x (patient_count I + k) late)
-      ] in
-      rw (ne_eqb (patient_count I + k) x (λ e. ne (sym e)), still)
-      (or-none (nat_lt x (patient_count I + k) && is_present I (empty I) r d x) ((o.room_id.0 == r) && (in_span 0 (min o.length_of_stay I.days) d && false))
-      (and_right (o.room_id.0 == r) (in_span 0 (min o.length_of_stay I.days) d && false) (and_right (in_span 0 (min o.length_of_stay I.days) d) false refl)))
+      rw (ne_eqb (patient_count I + k) x (λ e. ne (sym e)), below-next (patient_count I) k x ne)
+      (or-none (nat_lt x (patient_count I + k) && is_present I (empty I) r d x) ((o.room_id.0 == r) && (in_span 0 (end_from I 0 o.length_of_stay) d && false))
+      (and_right (o.room_id.0 == r) (in_span 0 (end_from I 0 o.length_of_stay) d && false) (and_right (in_span 0 (end_from I 0 o.length_of_stay) d) false refl)))
 
   -- with the next occupant
   pub filled-more : (here new : List Linked) → AreFilled I here k → AreSized I new
-      → ((r d x : ℕ) → is_here new r d x ≡ (is_here here r d x || ((o.room_id.0 == r) && (in_span 0 (min o.length_of_stay I.days) d && ((patient_count I + k) == x))))) → AreFilled I new (k + 1)
+      → ((r d x : ℕ) → is_here new r d x ≡ (is_here here r d x || ((o.room_id.0 == r) && (in_span 0 (end_from I 0 o.length_of_stay) d && ((patient_count I + k) == x))))) → AreFilled I new (k + 1)
   filled-more here new filled sized each = record {
     sized = sized;
     each = λ r d x rh dh xh. each r d x ∙ rw (filled.each r d x rh dh xh) (elim (cases_eq x (patient_count I + k)) [

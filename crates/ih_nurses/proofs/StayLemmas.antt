@@ -8,7 +8,7 @@ use Rattle.ih_tables.specs.Sizes.{nurse_count, shift_count}
 use Rattle.ih_plan.specs.declared.moves.Placement.{Placement}
 use Rattle.ih_plan.specs.Timetable.{Timetable, choice_of, care_of}
 use Rattle.ih_plan.specs.Persons.{person_of}
-use Rattle.ih_plan.specs.Presence.{covers, day_of}
+use Rattle.ih_plan.specs.Presence.{covers, day_of, end_of}
 use Rattle.ih_plan.specs.Costs.{is_number}
 use Rattle.ih_nurses.specs.declared.loads.NurseLoad.{NurseLoad}
 use Rattle.ih_nurses.specs.Loads.{IsTable, load_at, share, stay_load}
@@ -44,16 +44,16 @@ module _ (I : Draft) (P : Timetable) (p : ℕ) (at : Placement) where
     | inr above ↦ rw (le-ltb j (3 * at.day.0) above) refl
   ]
 
-  pub given-all : (m j : ℕ) → j < shift_count I → given_before (3 * min (at.day.0 + (person_of I p).length_of_stay) I.days) m j ≡ stay_load I P p at m j
-  given-all m j jh = elim (cases_lt j (3 * min (at.day.0 + (person_of I p).length_of_stay) I.days)) [
-    | inl below ↦ rw (lt-ltb j (3 * min (at.day.0 + (person_of I p).length_of_stay) I.days) below) refl
+  pub given-all : (m j : ℕ) → j < shift_count I → given_before (3 * end_of I p at) m j ≡ stay_load I P p at m j
+  given-all m j jh = elim (cases_lt j (3 * end_of I p at)) [
+    | inl below ↦ rw (lt-ltb j (3 * end_of I p at) below) refl
     | inr above ↦
-        rw (le-ltb j (3 * min (at.day.0 + (person_of I p).length_of_stay) I.days) above)
+        rw (le-ltb j (3 * end_of I p at) above)
         (sym (outside m j (covers-after at.day.0 (person_of I p).length_of_stay I.days j above jh)))
   ]
 
   -- shift k gives its share
-  module _ (k load : ℕ) (nurse : Option NurseNo) (low : 3 * at.day.0 ≤ k) (high : k < 3 * min (at.day.0 + (person_of I p).length_of_stay) I.days)
+  module _ (k load : ℕ) (nurse : Option NurseNo) (low : 3 * at.day.0 ≤ k) (high : k < 3 * end_of I p at)
       (nurse_is : nurse ≡ choice_of P at.room.0 k) (load_is : load ≡ slice_index (person_of I p).workload (k - 3 * at.day.0)) where
     pub share-stay : (m : ℕ) → share nurse k load m k ≡ stay_load I P p at m k
     share-stay m = rw (nurse_is, load_is, eq-eqb k k refl, covers-in at.day.0 (person_of I p).length_of_stay I.days k low high) refl
@@ -80,7 +80,7 @@ pub record AreTaken (I : Draft) (P : Timetable) (p : ℕ) (at : Placement) (old 
 -- shift k is one of the stay, and this is its nurse and its load
 pub record IsStayShift (I : Draft) (P : Timetable) (p : ℕ) (at : Placement) (k load : ℕ) (nurse : Option NurseNo) : Type 0 where
   pub low : 3 * at.day.0 ≤ k
-  pub high : k < 3 * min (at.day.0 + (person_of I p).length_of_stay) I.days
+  pub high : k < 3 * end_of I p at
   pub nurse_is : nurse ≡ choice_of P at.room.0 k
   pub load_is : load ≡ slice_index (person_of I p).workload (k - 3 * at.day.0)
 
@@ -103,7 +103,7 @@ module _ {I : Draft} {P : Timetable} {p : ℕ} {at : Placement} {old loads : Lis
         omega arith;
   }
 
-  pub added-all : AreAdded I P p at old loads (3 * min (at.day.0 + (person_of I p).length_of_stay) I.days)
+  pub added-all : AreAdded I P p at old loads (3 * end_of I p at)
       → (m j : ℕ) → m < nurse_count I → j < shift_count I → load_at I loads m j ≡ load_at I old m j + stay_load I P p at m j
   added-all so_far m j mh jh =
       let all = given-all I P p at m j jh in
@@ -128,7 +128,7 @@ module _ {I : Draft} {P : Timetable} {p : ℕ} {at : Placement} {old loads : Lis
         omega arith;
   }
 
-  pub taken-all : AreTaken I P p at old loads (3 * min (at.day.0 + (person_of I p).length_of_stay) I.days)
+  pub taken-all : AreTaken I P p at old loads (3 * end_of I p at)
       → (m j : ℕ) → m < nurse_count I → j < shift_count I → load_at I loads m j + stay_load I P p at m j ≡ load_at I old m j
   taken-all so_far m j mh jh =
       let all = given-all I P p at m j jh in

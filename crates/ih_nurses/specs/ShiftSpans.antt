@@ -1,16 +1,16 @@
 -- The counted shifts of a stay in its room, and the nurses who have them.
-use Rattle.std.specs.Prelude.{ℕ, ◌+◌, ◌-◌, ◌*◌, ◌<◌, ◌≤◌, min, List, [], Option, Some, None, map}
+use Rattle.std.specs.Prelude.{ℕ, ◌+◌, ◌-◌, ◌*◌, ◌<◌, ◌≤◌, List, [], Option, Some, None, map}
 use Rattle.std.specs.List.{range_with_len}
 use Rattle.ih_tables.specs.declared.drafts.Draft.{Draft}
 use Rattle.ih_tables.specs.Sizes.{room_count, shift_count}
 use Rattle.ih_plan.specs.Timetable.{Timetable, care_of}
-use Rattle.ih_plan.specs.Presence.{Admission}
+use Rattle.ih_plan.specs.Presence.{Admission, end_from}
 use Rattle.ih_nurses.specs.declared.shift_spans.ShiftSpan.{ShiftSpan}
 
 -- the counted shifts of an admission of n days, in its room
 abbrev pub shift_span_in : Draft → Option Admission → ℕ → Option ShiftSpan
 shift_span_in I None n = None
-shift_span_in I (Some a) n = Some (record { room = record { 0 = a.room }; from = 3 * a.day; len = 3 * (min (a.day + n) I.days - a.day) })
+shift_span_in I (Some a) n = Some (record { room = record { 0 = a.room }; from = 3 * a.day; len = 3 * (end_from I a.day n - a.day) })
 
 -- the room and the shifts are in range
 abbrev pub IsShiftSpan : Draft → ShiftSpan → Type 0

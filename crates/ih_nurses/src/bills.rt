@@ -1,8 +1,9 @@
 //! A bill that has the numbers of nursing alone.
 
-ghost use Rattle.std.specs.Prelude.{◌≡◌, ◌^◌, ◌-ℤ◌, ◌≤ℤ◌, neg_ℤ, pos, [], ◌∷◌};
+ghost use Rattle.std.specs.Prelude.{◌≡◌, ◌^◌, ◌-ℤ◌, pos, [], ◌∷◌};
 ghost use Rattle.ih_tables.specs.Bills.{IsWithin};
 
+use ih_plan::rise;
 use ih_tables::Bill;
 
 /// What nursing gives to a bill, or one part of it.
@@ -53,15 +54,6 @@ pub fn bill_of(costs: NursingCosts) -> Bill
     }
 }
 
-/// A number less another.
-pub fn minus(a: u32, b: u32) -> i64
-    ensures value { result ≡ pos a -ℤ pos b }
-    ensures low { neg_ℤ (pos (10 ^ 11)) ≤ℤ result }
-    ensures high { result ≤ℤ pos (10 ^ 11) }
-{
-    a as i64 - b as i64
-}
-
 /// The bill of some costs less that of others. Each of its numbers is at most 10^11 in magnitude.
 pub fn difference(after: NursingCosts, before: NursingCosts) -> Bill
     ensures value { result ≡ record {
@@ -80,14 +72,14 @@ pub fn difference(after: NursingCosts, before: NursingCosts) -> Bill
             0,
             0,
             0,
-            minus(after.off, before.off),
-            minus(after.uncovered, before.uncovered),
+            rise(after.off, before.off),
+            rise(after.uncovered, before.uncovered),
         ],
         s: [
             0,
-            minus(after.missing_skill, before.missing_skill),
-            minus(after.nurses_seen, before.nurses_seen),
-            minus(after.overload, before.overload),
+            rise(after.missing_skill, before.missing_skill),
+            rise(after.nurses_seen, before.nurses_seen),
+            rise(after.overload, before.overload),
             0,
             0,
             0,

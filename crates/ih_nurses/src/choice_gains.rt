@@ -10,11 +10,10 @@ ghost use Rattle.ih_nurses.specs.Gains.{off_in, uncovered_in, missing_in};
 ghost use Rattle.ih_nurses.specs.Ledger.{IsLedgerOf, plan_of};
 
 use crate::Nurses;
-use crate::bills::minus;
 use crate::loads::{excess_with, excess_without};
 use crate::room_sums::room_sums;
 use crate::rooms::{nurse_off, uncovered};
-use ih_plan::nurse_at;
+use ih_plan::{nurse_at, rise};
 use ih_tables::{Instance, NurseNo, RoomNo, Shift};
 
 /// What another choice of nurse for a room's shift, or none, changes in the bill.
@@ -100,10 +99,10 @@ impl Nurses {
         let counts = self.counts.as_slice();
         let sums = room_sums(inst, &self.plan, counts, persons, r, k, new, old);
         ChoiceGain {
-            off: minus(nurse_off(inst, new, k), nurse_off(inst, old, k)),
-            uncovered: minus(uncovered(persons, r, new), uncovered(persons, r, old)),
-            missing_skill: minus(sums.new_missing, sums.old_missing),
-            nurses_seen: minus(sums.come, sums.gone),
+            off: rise(nurse_off(inst, new, k), nurse_off(inst, old, k)),
+            uncovered: rise(uncovered(persons, r, new), uncovered(persons, r, old)),
+            missing_skill: rise(sums.new_missing, sums.old_missing),
+            nurses_seen: rise(sums.come, sums.gone),
             overload: self.loads_change(inst, r, k, old, new, sums.work),
         }
     }

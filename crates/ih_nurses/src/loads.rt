@@ -7,7 +7,7 @@ ghost use Rattle.ih_tables.specs.Works.{max_load};
 ghost use Rattle.ih_plan.specs.Costs.{overload};
 ghost use Rattle.ih_nurses.specs.Loads.{IsTable, load_at, most_of, share, excess_rise};
 
-use crate::bills::minus;
+use ih_plan::rise;
 use ih_tables::{Instance, NurseNo, Shift};
 
 /// A nurse's workload in a shift, and the most that it may be.
@@ -126,7 +126,7 @@ pub fn excess_without(
         return 0;
     };
     let before = load(inst, loads, a, k);
-    minus(
+    rise(
         overload(before, before.work - less),
         overload(before, before.work),
     )
@@ -153,7 +153,7 @@ pub fn excess_with(
         return 0;
     };
     let before = load(inst, loads, a, k);
-    minus(
+    rise(
         overload(before, before.work + more),
         overload(before, before.work),
     )

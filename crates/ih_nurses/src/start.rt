@@ -10,6 +10,7 @@ ghost use Rattle.ih_nurses.specs.Counts.{AreCounts};
 use crate::loads::NurseLoad;
 use crate::presence::enter_days;
 use ih_links::{Links, empty_days};
+use ih_plan::end_from;
 use ih_tables::{Instance, NurseNo, Shift};
 use std::alloc::{AllocError, Global};
 
@@ -55,7 +56,7 @@ fn enter_occupant(inst: &Instance, here: &mut [Links], o: u32)
     ensures { AreFilled inst.now.draft here.new (o + 1) }
 {
     let occupant = inst.occupant(o);
-    let end = occupant.length_of_stay.min(inst.days());
+    let end = end_from(inst, 0, occupant.length_of_stay);
     enter_days(inst, here, occupant.room_id, 0, end, inst.patients() + o);
 }
 

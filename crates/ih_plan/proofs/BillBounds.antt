@@ -1,6 +1,6 @@
 -- Every number of a timetable's bill is at most 10^11, and so is every change of one.
 use Rattle.std.proofs.Common.{◌≡◌, ℕ, zero, suc, ◌-◌, ◌*◌, ◌<◌, ◌≤◌, ◌^◌, refl, arith, Bool, true, false, List, [], ◌∷◌, length, Option, Some, None, pos, ℤ}
-use Rattle.std.specs.Prelude.{if◌then◌else◌, ◌&&◌, not, is_none, nat_lt, slice_get, slice_index, map, ◌≤ℤ◌, ◌-ℤ◌, neg_ℤ}
+use Rattle.std.specs.Prelude.{◌&&◌, not, is_none, slice_get, slice_index, map, ◌≤ℤ◌, ◌-ℤ◌, neg_ℤ}
 use Rattle.std.specs.Option.{option_map_or}
 use Rattle.std.specs.List.{list_any}
 use Rattle.std.proofs.lemmas.Nat.{mul-le}

@@ -1,7 +1,8 @@
 -- Moves in a row by their writes, and a single one.
-use Rattle.std.proofs.Common.{◌≡◌, refl, sym, ap, ◌∙◌, Bool, true, false, List, [], ◌∷◌, ◌++◌}
+use Rattle.std.proofs.Common.{◌≡◌, refl, sym, ◌∙◌, false, List, [], ◌∷◌, ◌++◌}
 use Rattle.std.specs.Prelude.{◌||◌}
 use Rattle.std.proofs.lemmas.List.{append-nil}
+use Rattle.std.proofs.Math.Bool.{or-false}
 use Rattle.ih_tables.specs.declared.drafts.Draft.{Draft}
 use Rattle.ih_plan.specs.declared.moves.Move.{Move}
 use Rattle.ih_plan.specs.declared.moves.Write.{Write}
@@ -53,18 +54,14 @@ their-writes I P ms plan fits = record {
 
 -- ---- a single move
 
-or-none : (b : Bool) → (b || false) ≡ b
-or-none true = refl
-or-none false = refl
-
 pub alone : (I : Draft) (P : Timetable) (m : Move) → IsAlone I P m
 unfolding after_all all_touch expand_all footprint footprint_of_all
 alone I P m = record {
   expanded = append-nil (expand I P m);
-  touched = λ c. or-none (touches I P m c);
+  touched = λ c. or-false (touches I P m c);
   numbers =
       which_below-same (cell_count I) (λ n. touches I P m (cell_at I n) || false) (λ n. touches I P m (cell_at I n))
-      (λ n h. or-none (touches I P m (cell_at I n)));
+      (λ n h. or-false (touches I P m (cell_at I n)));
   afterwards = refl;
   price = refl;
 }

@@ -9,7 +9,7 @@ use Rattle.ih_plan.specs.Timetable.{Timetable, empty, stay_of}
 use Rattle.ih_plan.specs.Writes.{put}
 use Rattle.ih_roomdays.specs.declared.rows.Rows.{Rows}
 use Rattle.ih_roomdays.specs.Ledger.{IsLedgerOf}
-use Rattle.ih_roomdays.proofs.Occupants.{no-stay}
+use Rattle.ih_plan.proofs.Whereabouts.{no-stay}
 
 abbrev pub p0 : PatientNo
 p0 = record { 0 = 0 }

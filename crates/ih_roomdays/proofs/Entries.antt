@@ -8,8 +8,8 @@ use Rattle.ih_links.specs.Days.{on_day}
 use Rattle.ih_links.proofs.Members.{has-append, once-append}
 use Rattle.ih_roomdays.specs.declared.rows.Rows.{Rows}
 use Rattle.ih_roomdays.specs.Rows.{AreRows, IsEntered, persons_at, is_at}
-use Rattle.ih_links.proofs.Others.{or-false}
-use Rattle.ih_roomdays.proofs.DaySpans.{and-false, span-none, span-past, span-more}
+use Rattle.std.proofs.Math.Bool.{or-false, and-false}
+use Rattle.ih_plan.proofs.Spans.{span-none, span-past, span-more}
 use Rattle.ih_roomdays.proofs.Replacements.{IsDay, IsReplaced, everywhere}
 use Rattle.ih_plan.specs.Presence.{in_span}
 

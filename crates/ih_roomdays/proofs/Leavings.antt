@@ -10,7 +10,8 @@ use Rattle.ih_links.proofs.Members.{apart, has-without_self, has-without_other, 
 use Rattle.ih_roomdays.specs.declared.rows.Rows.{Rows}
 use Rattle.ih_roomdays.specs.Profiles.{most_persons}
 use Rattle.ih_roomdays.specs.Rows.{AreRows, IsLeft, persons_at, is_at}
-use Rattle.ih_roomdays.proofs.DaySpans.{and-true, and-false, span-none, span-past, span-more}
+use Rattle.std.proofs.Math.Bool.{and-true, and-false}
+use Rattle.ih_plan.proofs.Spans.{span-none, span-past, span-more}
 use Rattle.ih_roomdays.proofs.People.{persons-few}
 use Rattle.ih_roomdays.proofs.Replacements.{IsDay, IsReplaced, everywhere}
 use Rattle.ih_plan.specs.Presence.{in_span}

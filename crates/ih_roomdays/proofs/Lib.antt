@@ -1,4 +1,3 @@
-pub mod DaySpans
 pub mod Replacements
 pub mod Entries
 pub mod Leavings

@@ -1,24 +1,21 @@
 -- The occupants come into their rooms, one after the other.
-use Rattle.std.proofs.Common.{◌≡◌, ℕ, zero, suc, ◌+◌, ◌-◌, ◌<◌, refl, arith, sym, ap, subst, ◌∙◌, false, Option, Some, None, inl, inr, min, replicate}
-use Rattle.std.specs.Prelude.{◌||◌, ◌&&◌, ◌==◌, nat_lt, slice_get, option_and_then}
+use Rattle.std.proofs.Common.{◌≡◌, ℕ, ◌+◌, ◌<◌, refl, arith, sym, ap, subst, ◌∙◌, false, Some, inl, inr}
+use Rattle.std.specs.Prelude.{◌||◌, ◌&&◌, ◌==◌, nat_lt, slice_get}
 use Rattle.std.proofs.lemmas.Bool.{cases_eq, cases_lt, eq-eqb, ne_eqb, lt-ltb, le-ltb}
 use Rattle.ih_tables.specs.declared.drafts.Draft.{Draft}
 use Rattle.ih_tables.specs.declared.drafts.Occupant.{Occupant}
 use Rattle.ih_tables.specs.Sizes.{patient_count, occupant_count, person_count, room_count}
-use Rattle.ih_plan.specs.declared.moves.Placement.{Placement}
-use Rattle.ih_plan.specs.Timetable.{Timetable, empty, stay_of}
-use Rattle.ih_plan.specs.Presence.{admission_of, covers, is_present}
-use Rattle.ih_plan.specs.Persons.{person_of}
+use Rattle.ih_plan.specs.Timetable.{empty}
+use Rattle.ih_plan.specs.Presence.{is_present, end_from}
 use Rattle.ih_plan.proofs.PlanRanges.{empty-plan}
 use Rattle.ih_roomdays.specs.declared.profiles.Profiles.{Profiles}
 use Rattle.ih_roomdays.specs.declared.rows.Rows.{Rows}
 use Rattle.ih_roomdays.specs.Rows.{AreRows, AreVacant, IsEntered, is_at, of_stay}
 use Rattle.ih_roomdays.specs.Profiles.{AreProfiles}
 use Rattle.ih_roomdays.specs.Ledger.{IsLedgerOf}
-use Rattle.ih_links.proofs.Others.{or-false}
-use Rattle.ih_roomdays.proofs.DaySpans.{and-false}
-use Rattle.ih_roomdays.proofs.Standing.{nobody-past}
-use Rattle.ih_roomdays.proofs.StayLemmas.{nowhere, span-covers}
+use Rattle.std.proofs.Math.Bool.{or-false, and-false}
+use Rattle.ih_plan.proofs.Spans.{span-covers}
+use Rattle.ih_plan.proofs.Whereabouts.{no-stay, nowhere, occupant-there, below-next, nobody-past}
 
 -- The first k occupants are in their rooms, and nobody else is in any.
 pub record IsFilled (I : Draft) (v : Rows) (k : ℕ) : Type 0 where
@@ -28,14 +25,6 @@ pub record IsFilled (I : Draft) (v : Rows) (k : ℕ) : Type 0 where
   pub persons : v.persons ≡ person_count I
   pub profiles : AreProfiles I v.profiles
   pub each : (r d x : ℕ) → d < I.days → is_at v r d x ≡ (nat_lt x (patient_count I + k) && is_present I (empty I) r d x)
-
-pub no-stay : (I : Draft) (p : ℕ) → stay_of (empty I) p ≡ None
-no-stay I p = none (patient_count I) p
-  where
-    none : (n i : ℕ) → option_and_then (λ (o : Option Placement). o) (slice_get (replicate n None) i) ≡ None
-    none zero i = refl
-    none (suc n) zero = refl
-    none (suc n) (suc i) = none n i
 
 pub filled-none : (I : Draft) (v : Rows) (profiles : Profiles) → AreProfiles I profiles → AreVacant (room_count I) I.days (person_count I) profiles v → IsFilled I v 0
 filled-none I v profiles known vacant = record {
@@ -50,21 +39,12 @@ filled-none I v profiles known vacant = record {
   ];
 }
 
--- an occupant is in its room from day 0 on
-occupant-there : (I : Draft) (P : Timetable) (r d k : ℕ) (o : Occupant) → slice_get I.occupants k ≡ Some o
-    → is_present I P r d (patient_count I + k) ≡ ((o.room_id.0 == r) && covers 0 o.length_of_stay d)
-unfolding admission_of person_of
-occupant-there I P r d k o e =
-    let no_patient = le-ltb (patient_count I + k) (patient_count I) (omega arith) in
-    let place : patient_count I + k - patient_count I ≡ k = omega arith in
-    rw (no_patient, place, e) refl
-
 pub next-nowhere : (I : Draft) (v : Rows) (k : ℕ) → IsFilled I v k → (r d : ℕ) → d < I.days → is_at v r d (patient_count I + k) ≡ false
 next-nowhere I v k filled r d below =
     filled.each r d (patient_count I + k) below ∙ rw (le-ltb (patient_count I + k) (patient_count I + k) (omega arith)) refl
 
 pub filled-more : (I : Draft) (v new : Rows) (k : ℕ) (o : Occupant) → IsFilled I v k → slice_get I.occupants k ≡ Some o
-    → IsEntered v new o.room_id.0 (patient_count I + k) 0 (min (0 + o.length_of_stay) I.days) → IsFilled I new (k + 1)
+    → IsEntered v new o.room_id.0 (patient_count I + k) 0 (end_from I 0 o.length_of_stay) → IsFilled I new (k + 1)
 filled-more I v new k o filled is entered = record {
   rows = entered.rows;
   rooms = entered.rooms ∙ filled.rooms;
@@ -72,11 +52,11 @@ filled-more I v new k o filled is entered = record {
   persons = entered.persons ∙ filled.persons;
   profiles = subst (AreProfiles I) (sym entered.profiles) filled.profiles;
   each = λ r d x below. entered.each r d x (rw filled.days below)
-      ∙ (ap (λ b. b || ((o.room_id.0 == r) && of_stay (patient_count I + k) 0 (min (0 + o.length_of_stay) I.days) d x)) (filled.each r d x below) ∙ each r d x below);
+      ∙ (ap (λ b. b || ((o.room_id.0 == r) && of_stay (patient_count I + k) 0 (end_from I 0 o.length_of_stay) d x)) (filled.each r d x below) ∙ each r d x below);
 }
   where
     more : (r d x : ℕ) → Type 0
-    more r d x = ((nat_lt x (patient_count I + k) && is_present I (empty I) r d x) || ((o.room_id.0 == r) && of_stay (patient_count I + k) 0 (min (0 + o.length_of_stay) I.days) d x))
+    more r d x = ((nat_lt x (patient_count I + k) && is_present I (empty I) r d x) || ((o.room_id.0 == r) && of_stay (patient_count I + k) 0 (end_from I 0 o.length_of_stay) d x))
         ≡ (nat_lt x (patient_count I + (k + 1)) && is_present I (empty I) r d x)
 
     own : (r d : ℕ) → d < I.days → more r d (patient_count I + k)
@@ -89,11 +69,7 @@ filled-more I v new k o filled is entered = record {
     each r d x below = elim (cases_eq x (patient_count I + k)) [
       | inl same ↦ subst (more r d) (sym same) (own r d below)
       | inr other ↦
-          let still : nat_lt x (patient_count I + (k + 1)) ≡ nat_lt x (patient_count I + k) = elim (cases_lt x (patient_count I + k)) [
-            | inl early ↦ lt-ltb x (patient_count I + (k + 1)) (omega arith) ∙ sym (lt-ltb x (patient_count I + k) early)
-            | inr late ↦ le-ltb x (patient_count I + (k + 1)) (omega arith) ∙ sym (le-ltb x (patient_count I + k) late)
-          ] in
-          rw (ne_eqb x (patient_count I + k) other, still, and-false (o.room_id.0 == r)) (or-false (nat_lt x (patient_count I + k) && is_present I (empty I) r d x))
+          rw (ne_eqb x (patient_count I + k) other, below-next (patient_count I) k x other, and-false (o.room_id.0 == r)) (or-false (nat_lt x (patient_count I + k) && is_present I (empty I) r d x))
     ]
 
 -- with all occupants the ledger stands for the empty timetable

@@ -24,7 +24,7 @@ use Rattle.ih_roomdays.specs.Ledger.{IsLedgerOf}
 use Rattle.ih_roomdays.specs.Profiles.{most_persons, profile_of}
 use Rattle.ih_roomdays.specs.Parts.{room_day_part, room_counts}
 use Rattle.ih_roomdays.specs.Rows.{AreRows, is_at, crowd_at, persons_at}
-use Rattle.ih_roomdays.proofs.StayLemmas.{others}
+use Rattle.ih_plan.proofs.Whereabouts.{others-stay}
 use Rattle.ih_roomdays.proofs.Orders.{AreAlike}
 use Rattle.ih_roomdays.proofs.Tallies.{some-there}
 use Rattle.ih_roomdays.proofs.Standing.{has-present, part-alike}
@@ -86,5 +86,5 @@ module _ (I : Draft) (P : Timetable) (v : Rows) (stands : IsLedgerOf I P v) (p :
   was-at s b e was = was ∙ sym (stands.each r.0 d.0 p.0 day ∙ is-there s e)
 
   pub part-after : (s : Option Placement) (b : Bool) → b ≡ there_by s → room_day_part (room_counts I r.0 (occupancy b)) ≡ part_at I (put (SetStay p s) P) (RoomDay r d)
-  part-after s b will = part-of (put (SetStay p s) P) b (λ x ne. others I P p s r.0 d.0 x ne)
+  part-after s b will = part-of (put (SetStay p s) P) b (λ x ne. others-stay I P p s r.0 d.0 x ne)
       (ap (λ a. is_in a (person_of I p.0).length_of_stay r.0 d.0) (admission-set I P p s stands.plan known) ∙ sym will)

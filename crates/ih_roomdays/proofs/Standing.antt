@@ -1,16 +1,15 @@
 -- What a ledger tells of the timetable for which it stands.
-use Rattle.std.proofs.Common.{◌≡◌, ℕ, ◌-◌, ◌<◌, ◌≤◌, refl, arith, sym, ◌∙◌, true, false, List, inl, inr}
-use Rattle.std.proofs.lemmas.Bool.{cases_lt, le-ltb}
-use Rattle.std.proofs.lemmas.Option.{slice_get_past}
+use Rattle.std.proofs.Common.{◌≡◌, ℕ, ◌<◌, refl, sym, ◌∙◌, List}
 use Rattle.ih_tables.specs.declared.drafts.Draft.{Draft}
 use Rattle.ih_tables.specs.declared.ids.RoomNo.{RoomNo}
 use Rattle.ih_tables.specs.declared.ids.Day.{Day}
 use Rattle.ih_tables.specs.declared.cells.Cell.TheVariants.{RoomDay}
-use Rattle.ih_tables.specs.Sizes.{patient_count, person_count, room_count}
+use Rattle.ih_tables.specs.Sizes.{person_count, room_count}
 use Rattle.ih_plan.specs.Timetable.{Timetable}
-use Rattle.ih_plan.specs.Presence.{admission_of, is_present, present}
+use Rattle.ih_plan.specs.Presence.{is_present, present}
 use Rattle.ih_plan.specs.Cells.{part_at, part_of, content_of}
 use Rattle.ih_plan.specs.Present.{ArePresent}
+use Rattle.ih_plan.proofs.Whereabouts.{person-known}
 use Rattle.ih_links.specs.Lists.{has, IsOnce}
 use Rattle.ih_roomdays.specs.declared.rows.Rows.{Rows}
 use Rattle.ih_roomdays.specs.Profiles.{ArePersons}
@@ -19,20 +18,6 @@ use Rattle.ih_roomdays.specs.Parts.{room_day_part, room_counts}
 use Rattle.ih_roomdays.specs.Ledger.{IsLedgerOf}
 use Rattle.ih_roomdays.proofs.Orders.{AreAlike, length-alike, spread-alike, genders-alike}
 use Rattle.ih_roomdays.proofs.People.{has-is_listed, once-distinct, has-passing, once-passing}
-
--- a number past the last person's is nobody's
-pub nobody-past : (I : Draft) (P : Timetable) (r d x : ℕ) → person_count I ≤ x → is_present I P r d x ≡ false
-unfolding admission_of
-nobody-past I P r d x past =
-    let no_patient = le-ltb x (patient_count I) (omega arith) in
-    let no_occupant = slice_get_past I.occupants (x - patient_count I) (omega arith) in
-    rw (no_patient, no_occupant) refl
-
-pub person-known : (I : Draft) (P : Timetable) (r d x : ℕ) → is_present I P r d x ≡ true → x < person_count I
-person-known I P r d x there = elim (cases_lt x (person_count I)) [
-  | inl below ↦ below
-  | inr past ↦ absurd (let no : false ≡ true = sym (nobody-past I P r d x past) ∙ there in cc)
-]
 
 pub has-present : (I : Draft) (P : Timetable) (r d x : ℕ) → has x (present I P r d) ≡ is_present I P r d x
 unfolding present

@@ -1,11 +1,11 @@
 //! The part of the bill of a room on a day, and its change.
 
-ghost use Rattle.std.specs.Prelude.{◌≡◌, ◌^◌, ◌≤ℤ◌, ◌-ℤ◌, neg_ℤ, pos};
+ghost use Rattle.std.specs.Prelude.{◌≡◌, ◌^◌};
 ghost use Rattle.ih_tables.specs.Bills.{IsWithin, sub_bills};
 ghost use Rattle.ih_plan.specs.BillOf.{as_bill};
-ghost use Rattle.ih_plan.specs.Sums.{bit};
 ghost use Rattle.ih_roomdays.specs.Parts.{room_day_part};
 
+use ih_plan::{bit, rise};
 use ih_tables::Bill;
 
 /// What a room breaks and costs on a day.
@@ -17,22 +17,6 @@ pub struct RoomDayCounts {
     pub over: u32,
     /// The greatest age group less the least.
     pub spread: u32,
-}
-
-// 1 for true and 0 for false.
-fn bit(yes: bool) -> u32
-    ensures { result ≡ bit yes }
-{
-    if yes { 1 } else { 0 }
-}
-
-// How much more the new number is than the old one.
-fn rise(new: u32, old: u32) -> i64
-    ensures value { result ≡ pos new -ℤ pos old }
-    ensures low { neg_ℤ (pos (10 ^ 11)) ≤ℤ result }
-    ensures high { result ≤ℤ pos (10 ^ 11) }
-{
-    new as i64 - old as i64
 }
 
 /// The bill with these numbers alone.

@@ -1,6 +1,6 @@
 //! The ledger of room days.
 
-ghost use Rattle.std.specs.Prelude.{◌≡◌, ◌<◌, ◌^◌, ◌+◌, true, min, Some, None, IfOk};
+ghost use Rattle.std.specs.Prelude.{◌≡◌, ◌<◌, ◌^◌, true, Some, None, IfOk};
 ghost use Rattle.ih_tables.specs.Bills.{IsWithin, sub_bills};
 ghost use Rattle.ih_tables.specs.Sizes.{patient_count, room_count};
 ghost use Rattle.ih_tables.specs.declared.cells.Cell.TheVariants.{RoomDay};
@@ -17,7 +17,7 @@ use crate::bills::{room_day_bill, room_day_change};
 use crate::changes::{is_there, room_counts, without_and_with};
 use crate::profiles::profiles_of;
 use crate::rows::Rows;
-use ih_plan::{Members, Placement};
+use ih_plan::{Members, Placement, end_from, end_of};
 use ih_tables::{Bill, Day, Instance, PatientNo, PersonNo, RoomNo};
 use std::alloc::{AllocError, Global};
 use std::marker::Model;
@@ -39,13 +39,6 @@ impl Model for RoomDays {
     ghost invariant = { λ a. AreRows a.rows };
 }
 
-// The day after the last counted one of a stay: days past the horizon aren't counted.
-fn end_of(inst: &Instance, from: u32, length: u32) -> u32
-    ensures { result ≡ min (from + length) inst.now.draft.days }
-{
-    (from as u64 + length as u64).min(inst.days() as u64) as u32
-}
-
 impl RoomDays {
     /// The ledger of the empty timetable: the occupants alone are in rooms.
     pub fn new(alloc: Global, inst: &Instance) -> Result<RoomDays, AllocError>
@@ -56,7 +49,7 @@ impl RoomDays {
         let mut rows = Rows::new(alloc, inst.rooms(), inst.days(), inst.persons(), profiles)?;
         for o in 0..inst.occupants() {
             let occupant = inst.occupant(o);
-            let to = end_of(inst, 0, occupant.length_of_stay);
+            let to = end_from(inst, 0, occupant.length_of_stay);
             rows.enter(occupant.room_id.0, patients + o, 0, to);
         }
         Ok(RoomDays { rows })
@@ -70,7 +63,7 @@ impl RoomDays {
         ensures { (P : Timetable) → IsLedgerOf inst.now.draft P self.old → stay_of P p.0 ≡ None
             → IsLedgerOf inst.now.draft (put (SetStay p (Some at)) P) self.new }
     {
-        let to = end_of(inst, at.day.0, inst.patient(p).length_of_stay);
+        let to = end_of(inst, p, at);
         self.rows.enter(at.room.0, p.0, at.day.0, to);
     }
 
@@ -81,7 +74,7 @@ impl RoomDays {
         ensures { (P : Timetable) → IsLedgerOf inst.now.draft P self.old → stay_of P p.0 ≡ Some at
             → IsLedgerOf inst.now.draft (put (SetStay p None) P) self.new }
     {
-        let to = end_of(inst, at.day.0, inst.patient(p).length_of_stay);
+        let to = end_of(inst, p, at);
         self.rows.leave(at.room.0, p.0, at.day.0, to);
     }
 

@@ -13,7 +13,8 @@ use Rattle.ih_tables.specs.declared.cells.Cell.TheVariants.{TheatreDay, SurgeonD
 use Rattle.ih_tables.specs.Sizes.{patient_count, theatre_count}
 use Rattle.ih_links.specs.Lists.{AreNodes, IsOnce, has, without, with_if, list_of}
 use Rattle.ih_links.proofs.Members.{apart, has-here, has-there, has-without_self, length-without, without-none}
-use Rattle.ih_links.proofs.Others.{or-false, sum-without, with-each, with-known}
+use Rattle.std.proofs.Math.Bool.{or-false}
+use Rattle.ih_links.proofs.Others.{sum-without, with-each, with-known}
 use Rattle.ih_plan.specs.declared.moves.Placement.{Placement}
 use Rattle.ih_plan.specs.Timetable.{Timetable, IsPlanOf, stay_of}
 use Rattle.ih_plan.specs.Sums.{bit, count_below, which_below}

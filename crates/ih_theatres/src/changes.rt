@@ -12,10 +12,10 @@ ghost use Rattle.ih_plan.specs.Timetable.{IsPlacement};
 ghost use Rattle.ih_theatres.specs.Days.{theatre_at};
 ghost use Rattle.ih_theatres.specs.Marks.{is_marked, is_unmarked, AreBelow};
 
-use crate::marks::{bit, count_marked, is_marked, mark};
+use crate::marks::{count_marked, is_marked, mark};
 use crate::parts::DayCounts;
 use ih_links::Links;
-use ih_plan::Placement;
+use ih_plan::{Placement, bit};
 use ih_tables::{Day, Instance, PatientNo, SurgeonNo, TheatreNo};
 
 /// A patient with this stay has surgery in the theatre on the day.

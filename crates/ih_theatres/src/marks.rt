@@ -3,19 +3,10 @@
 ghost use Rattle.std.specs.Prelude.{◌≡◌, ◌<◌, ◌≤◌, ◌||◌, ℕ, IfSome, option_map};
 ghost use Rattle.ih_tables.specs.declared.ids.TheatreNo.{TheatreNo};
 ghost use Rattle.ih_plan.specs.Costs.{is_number};
-ghost use Rattle.ih_plan.specs.Sums.{bit, count_below};
+ghost use Rattle.ih_plan.specs.Sums.{count_below};
 ghost use Rattle.ih_theatres.specs.Marks.{is_marked, AreBelow};
 
 use ih_tables::TheatreNo;
-
-/// 1 for true and 0 for false.
-#[inline(always)]
-pub fn bit(yes: bool) -> u32
-    ensures value { result ≡ bit yes }
-    ensures bound { result ≤ 1 }
-{
-    if yes { 1 } else { 0 }
-}
 
 /// The number is marked.
 #[inline(always)]

@@ -1,10 +1,11 @@
 //! The parts of a bill that theatres and surgeons have, and their changes.
 
-ghost use Rattle.std.specs.Prelude.{◌≡◌, ◌^◌, ◌≤ℤ◌, ◌-ℤ◌, neg_ℤ, pos};
+ghost use Rattle.std.specs.Prelude.{◌≡◌, ◌^◌};
 ghost use Rattle.ih_tables.specs.Bills.{IsWithin, sub_bills};
 ghost use Rattle.ih_plan.specs.BillOf.{as_bill};
 ghost use Rattle.ih_theatres.specs.Parts.{theatre_part, surgeon_part};
 
+use ih_plan::rise;
 use ih_tables::Bill;
 
 /// The bill of a theatre's day: minutes above its availability, and 1 where it is used.
@@ -27,15 +28,6 @@ pub fn surgeon_part(over: u32, transfers: u32) -> Bill
         v: [0, 0, over as i64, 0, 0, 0, 0, 0, 0],
         s: [0, 0, 0, 0, 0, transfers as i64, 0, 0],
     }
-}
-
-// How much more the new number is than the old one.
-fn rise(new: u32, old: u32) -> i64
-    ensures value { result ≡ pos new -ℤ pos old }
-    ensures low { neg_ℤ (pos (10 ^ 11)) ≤ℤ result }
-    ensures high { result ≤ℤ pos (10 ^ 11) }
-{
-    new as i64 - old as i64
 }
 
 /// What a day of a theatre, or of a surgeon, breaks and costs.

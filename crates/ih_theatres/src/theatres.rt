@@ -18,10 +18,10 @@ use crate::changes::{
     theatres_but,
 };
 use crate::days::{day_count, day_number, is_used, theatres_used};
-use crate::marks::{bit, count_marked};
+use crate::marks::count_marked;
 use crate::parts::{surgeon_change, surgeon_part, theatre_change, theatre_part};
 use ih_links::Links;
-use ih_plan::Placement;
+use ih_plan::{Placement, bit};
 use ih_tables::{Bill, Day, Instance, PatientNo, SurgeonNo, TheatreNo};
 use std::alloc::{AllocError, Global};
 

@@ -13,7 +13,7 @@ use Rattle.ih_costs.specs.Undo.{undo_of}
 use Rattle.ih_plan.proofs.ChangeSums.{change-then}
 use Rattle.ih_costs.proofs.RowLemmas.{price-more, price-none, single-price}
 use Rattle.ih_costs.proofs.StandLemmas.{kept, plan-fits, stands-own}
-use Rattle.ih_costs.proofs.UndoLemmas.{undone, undo-write}
+use Rattle.ih_costs.proofs.UndoLemmas.{taken-back, undo-write}
 use Rattle.ih_costs.proofs.row_prices.+change_behind.Goals as goal
 
 pub put-requires-in-Some-clause-write : goal.put-requires-in-Some-clause-write
@@ -25,15 +25,10 @@ put-requires-in-Some-clause-write t c =
 
 pub returns-in-Some-clause-stands : goal.returns-in-Some-clause-stands
 returns-in-Some-clause-stands t c =
-    let I = c.args.inst.now.draft in
     let P = timetable_of c.args.ledgers.now in
     let w = c.in-Some.w.now in
-    let made : timetable_of c.change_behind-change.new.ledgers ≡ put w P =
-    kept I (timetable_of c.put.new.self) c.change_behind-change.new.ledgers c.change_behind-change.ensures.stands
-    ∙ kept I (put w P) c.put.new.self c.put.ensures in
-    let undo : c.undo_of-undo.result ≡ undo_of P w = c.undo_of-undo.ensures ∙ ap (λ Q. undo_of Q w) c.plan.ensures in
-    subst (λ Q. AreLedgersOf I Q c.put-in-Some.new.self)
-    (ap (put c.undo_of-undo.result) made ∙ (ap (λ u. put u (put w P)) undo ∙ undone P w)) c.put-in-Some.ensures
+    taken-back c.args.inst.now.draft P w c.undo_of-undo.result c.put.new.self c.change_behind-change.new.ledgers c.put-in-Some.new.self c.put.ensures c.change_behind-change.ensures.stands
+    (c.undo_of-undo.ensures ∙ ap (λ Q. undo_of Q w) c.plan.ensures) c.put-in-Some.ensures
 
 pub returns-in-Some-clause-change : goal.returns-in-Some-clause-change
 returns-in-Some-clause-change t c =

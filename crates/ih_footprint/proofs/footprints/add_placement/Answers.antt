@@ -1,10 +1,9 @@
-use Rattle.std.proofs.Common.{◌+◌, ◌∙◌, ap, subst}
-use Rattle.std.specs.Prelude.{min}
+use Rattle.std.proofs.Common.{subst}
 use Rattle.ih_plan.specs.Cells.{IsCellIn}
 use Rattle.ih_footprint.specs.Gathered.{Gathers}
 use Rattle.ih_footprint.specs.Pieces.{in_days}
 use Rattle.ih_footprint.proofs.GatherLemmas.{gathers-like, gathers-both}
-use Rattle.ih_footprint.proofs.FootLemmas.{placement-pieces, person-stay}
+use Rattle.ih_footprint.proofs.FootLemmas.{placement-pieces}
 use Rattle.ih_footprint.proofs.footprints.add_placement.Goals as goal
 
 pub returns : goal.returns
@@ -12,8 +11,6 @@ returns c =
     let I = c.args.inst.now.draft in
     let at = c.args.at in
     let patient = c.patient-patient.result.now in
-    let end = c.min-end.ensures ∙ ap (min (at.day.0 + patient.length_of_stay)) c.days.ensures in
-    let days = subst (λ to. Gathers c.args.out.now c.add_days.new.out (in_days c.args.plan.now at.room.0 at.day.0 to)) end c.add_days.ensures in
-    let stay = person-stay I c.args.p.0 patient c.requires.patient c.patient-patient.ensures in
-    gathers-like (λ e range. placement-pieces I c.args.plan.now c.args.p.0 at patient c.patient-patient.ensures stay e (subst (λ z. IsCellIn z e) c.requires.sizes range))
+    let days = subst (λ to. Gathers c.args.out.now c.add_days.new.out (in_days c.args.plan.now at.room.0 at.day.0 to)) c.end_of.ensures.value c.add_days.ensures in
+    gathers-like (λ e range. placement-pieces I c.args.plan.now c.args.p.0 at patient c.patient-patient.ensures e (subst (λ z. IsCellIn z e) c.requires.sizes range))
     (gathers-both (gathers-both days c.add_cell.ensures) c.add_cell-2.ensures)

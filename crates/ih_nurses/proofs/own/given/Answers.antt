@@ -2,7 +2,7 @@ use Rattle.std.proofs.Common.{◌≡◌, ◌∙◌, ◌-◌, ◌*◌, ap, arith,
 use Rattle.ih_plan.specs.Timetable.{care_of}
 use Rattle.ih_plan.specs.Persons.{person_of}
 use Rattle.ih_plan.specs.Costs.{is_number}
-use Rattle.ih_nurses.proofs.AdmitLemmas.{workload-most}
+use Rattle.ih_plan.proofs.Overtime.{workload-most}
 use Rattle.ih_nurses.proofs.VisitLemmas.{workload-len, entry-counted}
 use Rattle.ih_nurses.proofs.own.given.Goals as goal
 

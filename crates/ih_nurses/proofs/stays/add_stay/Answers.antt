@@ -1,6 +1,6 @@
-use Rattle.std.proofs.Common.{arith, ◌≡◌, ◌+◌, ◌*◌, ◌<◌, min}
+use Rattle.std.proofs.Common.{arith, ◌≡◌, ◌*◌, ◌<◌}
 use Rattle.ih_tables.specs.Sizes.{shift_count}
-use Rattle.ih_plan.specs.Persons.{person_of}
+use Rattle.ih_plan.specs.Presence.{end_of}
 use Rattle.ih_nurses.proofs.StayLemmas.{added-none, added-more, added-all, added-fits}
 use Rattle.ih_nurses.proofs.stays.add_stay.Goals as goal
 
@@ -21,5 +21,5 @@ loop-k-preserved c =
 
 pub returns-clause-each : goal.returns-clause-each
 returns-clause-each c =
-    let whole : c.loop-k.k ≡ 3 * min (c.args.at.day.0 + (person_of c.args.inst.now.draft c.args.p.0).length_of_stay) c.args.inst.now.draft.days = omega (arith, c.end_of-end.ensures.value) in
+    let whole : c.loop-k.k ≡ 3 * end_of c.args.inst.now.draft c.args.p.0 c.args.at = omega (arith, c.end_of-end.ensures.value) in
     added-all (rw whole at c.loop-k.invariant)

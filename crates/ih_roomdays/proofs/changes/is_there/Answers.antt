@@ -1,6 +1,6 @@
 use Rattle.std.proofs.Common.{◌∙◌, refl, sym}
 use Rattle.std.proofs.lemmas.Bool.{eq-eqb}
-use Rattle.ih_roomdays.proofs.StayLemmas.{stay-length}
+use Rattle.ih_plan.proofs.Whereabouts.{stay-length}
 use Rattle.ih_roomdays.proofs.changes.is_there.Goals as goal
 
 pub returns-then-at-r : goal.returns-then-at-r

@@ -1,5 +1,6 @@
 use Rattle.std.proofs.Common.{◌≡◌, ◌+◌, ◌≤◌, min, arith}
 use Rattle.ih_plan.specs.Persons.{person_of}
+use Rattle.ih_plan.specs.Presence.{end_of}
 use Rattle.ih_costs.specs.CellLedgers.{timetable_of}
 use Rattle.ih_costs.proofs.DayGains.{mixed-fits, crowded-fits, ages-fit, days-more}
 use Rattle.ih_costs.proofs.GainSteps.{risen-none}
@@ -43,20 +44,17 @@ loop-d-preserved c =
 pub returns-clause-mixed : goal.returns-clause-mixed
 returns-clause-mixed c =
     let order = c.end_of-end.ensures.order in
-    let whole : c.loop-d.d ≡ min (c.args.at.day.0 + (person_of c.args.inst.now.draft c.args.p.0).length_of_stay) c.args.inst.now.draft.days =
-    omega (arith, c.end_of-end.ensures.value) in
+    let whole : c.loop-d.d ≡ end_of c.args.inst.now.draft c.args.p.0 c.args.at = omega (arith, c.end_of-end.ensures.value) in
     rw whole at c.loop-d.invariant.mixed.told
 
 pub returns-clause-crowded : goal.returns-clause-crowded
 returns-clause-crowded c =
     let order = c.end_of-end.ensures.order in
-    let whole : c.loop-d.d ≡ min (c.args.at.day.0 + (person_of c.args.inst.now.draft c.args.p.0).length_of_stay) c.args.inst.now.draft.days =
-    omega (arith, c.end_of-end.ensures.value) in
+    let whole : c.loop-d.d ≡ end_of c.args.inst.now.draft c.args.p.0 c.args.at = omega (arith, c.end_of-end.ensures.value) in
     rw whole at c.loop-d.invariant.crowded.told
 
 pub returns-clause-ages : goal.returns-clause-ages
 returns-clause-ages c =
     let order = c.end_of-end.ensures.order in
-    let whole : c.loop-d.d ≡ min (c.args.at.day.0 + (person_of c.args.inst.now.draft c.args.p.0).length_of_stay) c.args.inst.now.draft.days =
-    omega (arith, c.end_of-end.ensures.value) in
+    let whole : c.loop-d.d ≡ end_of c.args.inst.now.draft c.args.p.0 c.args.at = omega (arith, c.end_of-end.ensures.value) in
     rw whole at c.loop-d.invariant.ages.told

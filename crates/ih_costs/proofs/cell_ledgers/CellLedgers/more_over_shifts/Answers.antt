@@ -1,5 +1,6 @@
 use Rattle.std.proofs.Common.{◌≡◌, ◌+◌, ◌*◌, ◌≤◌, min, arith}
 use Rattle.ih_plan.specs.Persons.{person_of}
+use Rattle.ih_plan.specs.Presence.{end_of}
 use Rattle.ih_costs.specs.CellLedgers.{timetable_of}
 use Rattle.ih_costs.proofs.DayGains.{shift-counted, alone-fits, skill-fits, load-fits, shifts-more}
 use Rattle.ih_costs.proofs.GainSteps.{risen-none}
@@ -45,20 +46,17 @@ loop-k-preserved c =
 pub returns-clause-alone : goal.returns-clause-alone
 returns-clause-alone c =
     let order = c.end_of-end.ensures.order in
-    let whole : c.loop-k.k ≡ 3 * min (c.args.at.day.0 + (person_of c.args.inst.now.draft c.args.p.0).length_of_stay) c.args.inst.now.draft.days =
-    omega (arith, c.end_of-end.ensures.value) in
+    let whole : c.loop-k.k ≡ 3 * end_of c.args.inst.now.draft c.args.p.0 c.args.at = omega (arith, c.end_of-end.ensures.value) in
     rw whole at c.loop-k.invariant.alone.told
 
 pub returns-clause-skill : goal.returns-clause-skill
 returns-clause-skill c =
     let order = c.end_of-end.ensures.order in
-    let whole : c.loop-k.k ≡ 3 * min (c.args.at.day.0 + (person_of c.args.inst.now.draft c.args.p.0).length_of_stay) c.args.inst.now.draft.days =
-    omega (arith, c.end_of-end.ensures.value) in
+    let whole : c.loop-k.k ≡ 3 * end_of c.args.inst.now.draft c.args.p.0 c.args.at = omega (arith, c.end_of-end.ensures.value) in
     rw whole at c.loop-k.invariant.skill.told
 
 pub returns-clause-load : goal.returns-clause-load
 returns-clause-load c =
     let order = c.end_of-end.ensures.order in
-    let whole : c.loop-k.k ≡ 3 * min (c.args.at.day.0 + (person_of c.args.inst.now.draft c.args.p.0).length_of_stay) c.args.inst.now.draft.days =
-    omega (arith, c.end_of-end.ensures.value) in
+    let whole : c.loop-k.k ≡ 3 * end_of c.args.inst.now.draft c.args.p.0 c.args.at = omega (arith, c.end_of-end.ensures.value) in
     rw whole at c.loop-k.invariant.load.told

@@ -30,9 +30,9 @@ returns-clause-off c = λ P known.
     let I = c.args.inst.now.draft in
     let plan = c.args.self.now.plan in
     let own = stands-own known in
-    let fits : FitsSigned w64 c.minus.result = search rules in
-    subst (λ (S : Timetable). to_z w64 (of_z w64 c.minus.result) ≡ rise_by_choice S c.args.r c.args.k c.args.new (λ Q. off_in I Q c.args.r c.args.k)) known.plan_is
-    (to_z-of_z w64 c.minus.result fits ∙ (c.minus.ensures.value ∙ off-told I plan c.args.r c.args.k c.args.new own.fits c.requires.room c.requires.shift
+    let fits : FitsSigned w64 c.rise.result = search rules in
+    subst (λ (S : Timetable). to_z w64 (of_z w64 c.rise.result) ≡ rise_by_choice S c.args.r c.args.k c.args.new (λ Q. off_in I Q c.args.r c.args.k)) known.plan_is
+    (to_z-of_z w64 c.rise.result fits ∙ (c.rise.ensures.value ∙ off-told I plan c.args.r c.args.k c.args.new own.fits c.requires.room c.requires.shift
     c.nurse_at-old.result c.nurse_off.result c.nurse_off-2.result c.nurse_at-old.ensures.choice c.nurse_off.ensures c.nurse_off-2.ensures))
 
 pub returns-clause-uncovered : goal.returns-clause-uncovered
@@ -42,9 +42,9 @@ returns-clause-uncovered c = λ P known.
     let own = stands-own known in
     let list : IsRoomList I plan c.args.self.now.here.items c.index-persons.result.now c.args.r.0 c.args.k.0 =
     record { known = own.here_are; room = c.requires.room; shift = c.requires.shift; day_is = c.index-persons.ensures; nodes = c.uncovered.ensures.nodes } in
-    let fits : FitsSigned w64 c.minus-2.result = search rules in
-    subst (λ (S : Timetable). to_z w64 (of_z w64 c.minus-2.result) ≡ rise_by_choice S c.args.r c.args.k c.args.new (λ Q. uncovered_in I Q c.args.r c.args.k)) known.plan_is
-    (to_z-of_z w64 c.minus-2.result fits ∙ (c.minus-2.ensures.value ∙ uncovered-told I plan c.args.r c.args.k c.args.new own.fits c.requires.room c.requires.shift
+    let fits : FitsSigned w64 c.rise-2.result = search rules in
+    subst (λ (S : Timetable). to_z w64 (of_z w64 c.rise-2.result) ≡ rise_by_choice S c.args.r c.args.k c.args.new (λ Q. uncovered_in I Q c.args.r c.args.k)) known.plan_is
+    (to_z-of_z w64 c.rise-2.result fits ∙ (c.rise-2.ensures.value ∙ uncovered-told I plan c.args.r c.args.k c.args.new own.fits c.requires.room c.requires.shift
     c.args.self.now.here.items c.index-persons.result.now list c.nurse_at-old.result c.uncovered.result c.uncovered-2.result c.nurse_at-old.ensures.choice c.uncovered.ensures.value c.uncovered-2.ensures.value))
 
 pub returns-clause-missing_skill : goal.returns-clause-missing_skill
@@ -54,9 +54,9 @@ returns-clause-missing_skill c = λ P known.
     let own = stands-own known in
     let list : IsRoomList I plan c.args.self.now.here.items c.index-persons.result.now c.args.r.0 c.args.k.0 =
     record { known = own.here_are; room = c.requires.room; shift = c.requires.shift; day_is = c.index-persons.ensures; nodes = c.uncovered.ensures.nodes } in
-    let fits : FitsSigned w64 c.minus-3.result = search rules in
-    subst (λ (S : Timetable). to_z w64 (of_z w64 c.minus-3.result) ≡ rise_by_choice S c.args.r c.args.k c.args.new (λ Q. missing_in I Q c.args.r c.args.k)) known.plan_is
-    (to_z-of_z w64 c.minus-3.result fits ∙ (c.minus-3.ensures.value ∙ missing-told I plan c.args.r c.args.k c.args.new own.fits c.requires.room c.requires.shift
+    let fits : FitsSigned w64 c.rise-3.result = search rules in
+    subst (λ (S : Timetable). to_z w64 (of_z w64 c.rise-3.result) ≡ rise_by_choice S c.args.r c.args.k c.args.new (λ Q. missing_in I Q c.args.r c.args.k)) known.plan_is
+    (to_z-of_z w64 c.rise-3.result fits ∙ (c.rise-3.ensures.value ∙ missing-told I plan c.args.r c.args.k c.args.new own.fits c.requires.room c.requires.shift
     c.args.self.now.here.items c.index-persons.result.now list c.nurse_at-old.result c.room_sums-sums.result.new_missing c.room_sums-sums.result.old_missing c.nurse_at-old.ensures.choice
     c.room_sums-sums.ensures.new_missing c.room_sums-sums.ensures.old_missing))
 
@@ -80,6 +80,6 @@ returns-clause-nurses_seen c = λ P known.
     ∙ (sum-in_list I plan here day c.args.r.0 c.args.k.0 (has_just I counts 1 c.nurse_at-old.result) own.here_are c.requires.room c.requires.shift c.index-persons.ensures sums.nodes
     ∙ gone-told I plan c.args.r c.args.k counts own.counts_are c.requires.shift c.nurse_at-old.result c.nurse_at-old.ensures.nurse c.nurse_at-old.ensures.choice) in
     let told = cares-told I plan c.args.r c.args.k c.args.new own.fits c.requires.room c.requires.shift nurse c.room_sums-sums.result.come c.room_sums-sums.result.gone come gone in
-    let fits : FitsSigned w64 c.minus-4.result = search rules in
-    subst (λ (S : Timetable). to_z w64 (of_z w64 c.minus-4.result) ≡ rise_by_choice S c.args.r c.args.k c.args.new (λ Q. seen_by I Q (present I S c.args.r.0 (day_of c.args.k.0)))) known.plan_is
-    (to_z-of_z w64 c.minus-4.result fits ∙ (c.minus-4.ensures.value ∙ told))
+    let fits : FitsSigned w64 c.rise-4.result = search rules in
+    subst (λ (S : Timetable). to_z w64 (of_z w64 c.rise-4.result) ≡ rise_by_choice S c.args.r c.args.k c.args.new (λ Q. seen_by I Q (present I S c.args.r.0 (day_of c.args.k.0)))) known.plan_is
+    (to_z-of_z w64 c.rise-4.result fits ∙ (c.rise-4.ensures.value ∙ told))

@@ -4,7 +4,8 @@ use Rattle.ih_plan.specs.Timetable.{Timetable, care_of}
 use Rattle.ih_plan.specs.Persons.{person_of}
 use Rattle.ih_nurses.specs.Loads.{load_at}
 use Rattle.ih_nurses.specs.Gains.{overload_in, rise_by_placement}
-use Rattle.ih_nurses.proofs.AdmitLemmas.{load-most, workload-most}
+use Rattle.ih_plan.proofs.Overtime.{workload-most}
+use Rattle.ih_nurses.proofs.AdmitLemmas.{load-most}
 use Rattle.ih_nurses.proofs.GivenLemmas.{load-has}
 use Rattle.ih_nurses.proofs.PlacedLemmas.{load-rises, overload-rises}
 use Rattle.ih_nurses.proofs.LedgerLemmas.{stands-own}

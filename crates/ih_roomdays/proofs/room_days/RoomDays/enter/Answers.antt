@@ -1,7 +1,8 @@
 use Rattle.std.proofs.Common.{◌∙◌, sym, subst}
 use Rattle.ih_roomdays.specs.Ledger.{IsLedgerOf}
 use Rattle.ih_roomdays.specs.Rows.{IsEntered}
-use Rattle.ih_roomdays.proofs.StayLemmas.{nowhere, entered-stands}
+use Rattle.ih_plan.proofs.Whereabouts.{nowhere}
+use Rattle.ih_roomdays.proofs.StayLemmas.{entered-stands}
 use Rattle.ih_roomdays.proofs.room_days.RoomDays.enter.Goals as goal
 
 pub enter-requires-clause-nowhere : goal.enter-requires-clause-nowhere
@@ -15,5 +16,5 @@ pub returns : goal.returns
 returns c = λ P stands none.
     let I = c.args.inst.now.draft in
     let now = subst (λ w. IsLedgerOf I P w) (sym c.self.view_is) stands in
-    let entered = subst (λ to. IsEntered c.self.inside.rows c.enter.new.self c.args.at.room.0 c.args.p.0 c.args.at.day.0 to) c.end_of-to.ensures c.enter.ensures in
-    entered-stands I P c.self.inside.rows c.enter.new.self c.args.p c.patient.result.now c.args.at now c.patient.ensures none c.requires.placement entered
+    let entered = subst (λ to. IsEntered c.self.inside.rows c.enter.new.self c.args.at.room.0 c.args.p.0 c.args.at.day.0 to) c.end_of-to.ensures.value c.enter.ensures in
+    entered-stands I P c.self.inside.rows c.enter.new.self c.args.p c.args.at now c.requires.patient none c.requires.placement entered

@@ -17,7 +17,7 @@ enter-requires-clause-room c =
 pub loop-o-preserved : goal.loop-o-preserved
 loop-o-preserved c =
     filled-more c.args.inst.now.draft c.loop-o.rows c.enter.new.self c.loop-o.o c.occupant-occupant.result.now c.loop-o.invariant c.occupant-occupant.ensures
-    (rw (c.patients-patients.ensures, c.end_of-to.ensures) at c.enter.ensures)
+    (rw (c.patients-patients.ensures, c.end_from-to.ensures.value) at c.enter.ensures)
 
 pub returns : goal.returns
 returns c =
