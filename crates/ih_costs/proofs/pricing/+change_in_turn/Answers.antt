@@ -5,7 +5,7 @@ use Rattle.ih_plan.specs.Writes.{put, put_all, AreWritesOf}
 use Rattle.ih_plan.specs.BillOf.{change_of_bill}
 use Rattle.ih_plan.proofs.BillBounds.{change-within, within-more}
 use Rattle.ih_plan.proofs.PlanRanges.{put_all-plan}
-use Rattle.ih_costs.specs.CellLedgers.{AreLedgersOf, timetable_of}
+use Rattle.ih_costs.specs.CellLedgers.{timetable_of}
 use Rattle.ih_costs.specs.Undo.{undo_of}
 use Rattle.ih_plan.proofs.ChangeSums.{change-then}
 use Rattle.ih_costs.proofs.StandLemmas.{kept, plan-fits}

@@ -8,7 +8,7 @@ use Rattle.ih_plan.specs.Expand.{after, expand}
 use Rattle.ih_plan.proofs.PlanRanges.{expand-writes}
 use Rattle.ih_footprint.specs.Gathered.{Gathers}
 use Rattle.ih_plan.specs.Series.{AreMoves, all_touch}
-use Rattle.ih_costs.specs.CellLedgers.{AreLedgersOf, timetable_of}
+use Rattle.ih_costs.specs.CellLedgers.{timetable_of}
 use Rattle.ih_costs.specs.Undo.{undo_of}
 use Rattle.ih_costs.proofs.RowLemmas.{gathers-no-moves, gathers-more-moves, gathers-one-move}
 use Rattle.ih_costs.proofs.StandLemmas.{kept, plan-fits}

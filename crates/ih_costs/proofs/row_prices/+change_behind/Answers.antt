@@ -8,7 +8,7 @@ use Rattle.ih_plan.proofs.BillBounds.{change-within, within-more}
 use Rattle.ih_plan.proofs.PlanRanges.{after-plan, expand-writes}
 use Rattle.ih_plan.specs.Series.{AreMoves, after_all, price_of_all}
 use Rattle.ih_plan.proofs.Series.{after_all-plan}
-use Rattle.ih_costs.specs.CellLedgers.{AreLedgersOf, timetable_of}
+use Rattle.ih_costs.specs.CellLedgers.{timetable_of}
 use Rattle.ih_costs.specs.Undo.{undo_of}
 use Rattle.ih_plan.proofs.ChangeSums.{change-then}
 use Rattle.ih_costs.proofs.RowLemmas.{price-more, price-none, single-price}

@@ -1,5 +1,4 @@
-use Rattle.std.proofs.Common.{◌≡◌, ◌+◌, ◌≤◌, min, arith}
-use Rattle.ih_plan.specs.Persons.{person_of}
+use Rattle.std.proofs.Common.{◌≡◌, ◌≤◌, arith}
 use Rattle.ih_plan.specs.Presence.{end_of}
 use Rattle.ih_costs.specs.CellLedgers.{timetable_of}
 use Rattle.ih_costs.proofs.DayGains.{mixed-fits, crowded-fits, ages-fit, days-more}

@@ -1,4 +1,4 @@
-use Rattle.std.proofs.Common.{◌≡◌, ◌+◌, ◌*◌, ◌≤◌, min, arith}
+use Rattle.std.proofs.Common.{◌≡◌, ◌*◌, ◌≤◌, arith}
 use Rattle.ih_plan.specs.Persons.{person_of}
 use Rattle.ih_plan.specs.Presence.{end_of}
 use Rattle.ih_costs.specs.CellLedgers.{timetable_of}
