@@ -1,28 +1,23 @@
 -- An offer read off a replica is that after the history that the replica stands for.
-use Rattle.std.proofs.Common.{◌≡◌, ℕ, ◌<◌, ◌⊎◌, arith, refl, sym, ap, ◌∙◌, subst, Bool, true, false, List, [], ◌∷◌, take, inl, inr, Option, Some, None}
+use Rattle.std.proofs.Common.{◌≡◌, ℕ, ◌<◌, ◌⊎◌, arith, refl, sym, ap, ◌∙◌, subst, Bool, true, false, List, [], take, inl, inr, Some}
 use Rattle.std.specs.Prelude.{slice_index, if◌then◌else◌}
 use Rattle.std.specs.List.{list_any}
-use Rattle.std.proofs.lemmas.Bool.{le-ltb}
 use Rattle.std.proofs.lemmas.List.{take_all}
 use Rattle.std.proofs.lemmas.Option.{slice_get_within}
 use Rattle.ih_tables.specs.declared.bills.Bill.{Bill}
 use Rattle.ih_plan.specs.declared.moves.Move.{Move}
-use Rattle.ih_plan.specs.declared.moves.Placement.{Placement}
-use Rattle.ih_plan.specs.declared.moves.Write.{Write}
-use Rattle.ih_plan.specs.declared.moves.Write.TheVariants.{SetStay, SetCare}
-use Rattle.ih_plan.specs.Timetable.{Timetable, stay_of}
-use Rattle.ih_plan.specs.Presence.{day_of}
+use Rattle.ih_plan.specs.Timetable.{Timetable}
 use Rattle.ih_plan.specs.Sums.{tagged}
 use Rattle.ih_plan.specs.Cells.{cell_at}
 use Rattle.ih_plan.proofs.ListedBelow.{tagged-same}
 use Rattle.ih_plan.specs.Series.{AreMoves, expand_all, footprint_of_all, price_of_all}
 use Rattle.ih_journal.specs.Tried.{Tried}
 use Rattle.ih_journal.specs.Base.{Base}
-use Rattle.ih_journal.specs.Frozen.{is_before, is_frozen_write}
-use Rattle.ih_journal.specs.Frozen.{is_frozen}
+use Rattle.ih_journal.specs.Frozen.{is_frozen, is_frozen_write}
 use Rattle.ih_journal.specs.History.{plan_after, version}
 use Rattle.ih_cellbook.specs.Counters.{is_compared}
 use Rattle.ih_cellbook.specs.Noted.{Noted}
+use Rattle.ih_cellbook.specs.Offered.{Offered}
 use Rattle.ih_cellbook.specs.Offers.{IsRightOffer, next_number, reads_after}
 use Rattle.ih_cellbook.proofs.Committing.{footprint-below}
 use Rattle.ih_snapshot.specs.Noting.{asks_reads, offer_of, offer_with, reads_of}
@@ -103,18 +98,9 @@ module _ (b : Base) (H : List Tried) (r : Snapshot) (n : ℕ) (m : List Move) (s
 
 -- ---- how it is read off
 
--- no day lies before day 0
-none-before : (stay : Option Placement) → is_before 0 stay ≡ false
-none-before None = refl
-none-before (Some at) = le-ltb at.day.0 0 (omega arith)
-
-free-write : (start : Timetable) (w : Write) → is_frozen_write start 0 w ≡ false
-free-write start (SetStay p new) = rw (none-before (stay_of start p.0), none-before new) refl
-free-write start (SetCare r k n) = le-ltb (day_of k.0) 0 (omega arith)
-
-pub none-frozen : (start : Timetable) (ws : List Write) → list_any (is_frozen_write start 0) ws ≡ false
-none-frozen start [] = refl
-none-frozen start (w ∷ ws) = rw (free-write start w, none-frozen start ws) refl
+-- a replica of these parts
+abbrev pub replica_with : Base → ℕ → ℕ → Timetable → List ℕ → Offered → Snapshot
+replica_with b worker seen plan versions last = record { base = b; worker = worker; seen = seen; plan = plan; versions = versions; last = last }
 
 -- a replica whose last offer has these parts
 pub filled : (r : Snapshot) (n : ℕ) (m : List Move) (P : Timetable) (price : Bill) (reads : Noted) (frozen : Bool) → P ≡ r.plan

@@ -1,8 +1,6 @@
-use Rattle.std.proofs.Common.{◌≡◌, ◌<◌, ◌∙◌, ap, sym, subst, map, length}
-use Rattle.std.specs.Prelude.{slice_index_or}
+use Rattle.std.proofs.Common.{◌<◌, ◌∙◌, ap, sym, subst, map, length}
 use Rattle.std.proofs.Math.ListN.{get_or-map}
 use Rattle.std.proofs.lemmas.List.{length-map}
-use Rattle.ih_journal.specs.Tried.{Tried}
 use Rattle.ih_snapshot.specs.Keeping.{CanTake, HasTaken}
 use Rattle.ih_snapshot.proofs.Advancing.{can-next, stands-next}
 use Rattle.ih_snapshot.proofs.replicas.Replica.advance.Goals as goal

@@ -9,7 +9,8 @@ use Rattle.ih_cellbook.specs.Offered.{Offered}
 use Rattle.ih_costs.specs.Standing.{Standing}
 use Rattle.ih_snapshot.specs.Noting.{asks_reads, offer_with}
 use Rattle.ih_cellbook.specs.Snapshot.{Snapshot}
-use Rattle.ih_snapshot.proofs.Pricing.{filled, frozen-here, none-frozen}
+use Rattle.ih_cellbook.proofs.Unfrozen.{none-frozen}
+use Rattle.ih_snapshot.proofs.Pricing.{filled, frozen-here, replica_with}
 use Rattle.ih_snapshot.proofs.replicas.Replica.fill.Goals as goal
 
 pub is_compared-requires-clause-lawful : goal.is_compared-requires-clause-lawful
@@ -33,14 +34,8 @@ returns-clause-made g c =
     let v = c.self.inside.ledgers in
     let I = c.self.inside.inst.now.draft in
     let m = g.E.Attempt.Attempted.moves c.args.attempt.now in
-    let r : Snapshot = record {
-      base = base_with I c.self.inside.start c.self.inside.options c.self.inside.freeze;
-      worker = c.self.inside.worker;
-      seen = c.self.inside.seen;
-      plan = v.plan;
-      versions = c.self.inside.versions.items;
-      last = g.E.Offer.Offers.offered c.self.inside.last;
-    } in
+    let r = replica_with (base_with I c.self.inside.start c.self.inside.options c.self.inside.freeze) c.self.inside.worker c.self.inside.seen
+    v.plan c.self.inside.versions.items (g.E.Offer.Offers.offered c.self.inside.last) in
     let plan : c.price_all_alone-price.new.self.plan ≡ v.plan = ap (λ (s : Standing). s.plan) c.price_all_alone-price.ensures.same in
     let price : c.price_all_alone-price.result ≡ price_of_all I v.plan m =
     c.price_all_alone-price.ensures.price ∙ (ap (price_of_all v.instance v.plan) c.as_slice.ensures ∙ ap (λ J. price_of_all J v.plan m) c.self.invariant.0.instance) in

@@ -1,4 +1,4 @@
-use Rattle.std.proofs.Common.{◌≡◌, ◌∙◌, [], ap, Bool}
+use Rattle.std.proofs.Common.{◌∙◌, [], ap, Bool}
 use Rattle.std.specs.Prelude.{if◌then◌else◌}
 use Rattle.ih_cellbook.specs.Snapshot.{Snapshot}
 use Rattle.ih_snapshot.specs.Noting.{offer_with, reads_of}

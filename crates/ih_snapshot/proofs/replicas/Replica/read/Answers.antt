@@ -9,7 +9,7 @@ use Rattle.ih_cellbook.specs.Offered.{Offered}
 use Rattle.ih_costs.specs.Standing.{Standing}
 use Rattle.ih_snapshot.specs.Noting.{reads_of}
 use Rattle.ih_cellbook.specs.Snapshot.{Snapshot}
-use Rattle.ih_snapshot.proofs.Pricing.{read-there}
+use Rattle.ih_snapshot.proofs.Pricing.{read-there, replica_with}
 use Rattle.ih_snapshot.proofs.Touching.{listed-below, listed-short}
 use Rattle.ih_snapshot.proofs.replicas.Replica.read.Goals as goal
 
@@ -38,14 +38,8 @@ returns-then-wanted g c =
     let v = c.self.inside.ledgers in
     let I = c.self.inside.inst.now.draft in
     let m = g.E.Attempt.Attempted.moves c.args.attempt.now in
-    let r : Snapshot = record {
-      base = base_with I c.self.inside.start c.self.inside.options c.self.inside.freeze;
-      worker = c.self.inside.worker;
-      seen = c.self.inside.seen;
-      plan = v.plan;
-      versions = c.self.inside.versions.items;
-      last = g.E.Offer.Offers.offered c.self.inside.last;
-    } in
+    let r = replica_with (base_with I c.self.inside.start c.self.inside.options c.self.inside.freeze) c.self.inside.worker c.self.inside.seen
+    v.plan c.self.inside.versions.items (g.E.Offer.Offers.offered c.self.inside.last) in
     let plan : c.foot_all.new.self.plan ≡ v.plan = ap (λ (s : Standing). s.plan) c.foot_all.ensures.same in
     let cells : c.cells.result.now ≡ footprint_of_all I v.plan m =
     c.cells.ensures.cells ∙ (c.foot_all.ensures.cells ∙ (ap (footprint_of_all v.instance v.plan) c.as_slice.ensures ∙ ap (λ J. footprint_of_all J v.plan m) c.self.invariant.0.instance)) in
