@@ -84,8 +84,13 @@ module _ (b : Base) (H : List Tried) (r : Snapshot) (stands : IsReplicaIn b H r)
       )
 
   -- the verdict on the offer is that on the entry, where its price is
-  pub judged-as : o.price ≡ e.price → verdict_on b H o.number o.seen o.moves o.price ≡ verdict_on b H e.number e.seen (e.mv ∷ []) e.price
+  judged-as : o.price ≡ e.price → verdict_on b H o.number o.seen o.moves o.price ≡ verdict_on b H e.number e.seen (e.mv ∷ []) e.price
   judged-as price = rw (there.number, seen-is, there.move, price) refl
+
+  -- so the entry's price is that of its moves there, and the verdict on the offer that on the entry
+  pub follow-is : (v : Verdicts) → o.price ≡ e.price → v ≡ verdict_on b H o.number o.seen o.moves o.price
+      → (e.price ≡ price_of_all b.instance (plan_at b H e.seen) (e.mv ∷ [])) × (v ≡ verdict_on b H e.number e.seen (e.mv ∷ []) e.price)
+  follow-is v price judged = (sym price ∙ price-is, judged ∙ judged-as price)
 
   again-is : (attempt_after b.options (last_by e.worker H)).again ≡ e.again
   again-is =

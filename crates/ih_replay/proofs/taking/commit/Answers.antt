@@ -2,7 +2,7 @@ use Rattle.std.proofs.Common.{◌∙◌, ap, refl, sym, subst, [], ◌∷◌, �
 use Rattle.ih_journal.specs.declared.refusals.Reason.TheVariants.{Price, Verdict}
 use Rattle.ih_cellbook.specs.Replicas.{IsReplicaIn}
 use Rattle.ih_cellbook.proofs.Within.{stands-behind, stands-same}
-use Rattle.ih_replay.proofs.Offering.{entry-is, judged-as, offered-of, price-is, right-is}
+use Rattle.ih_replay.proofs.Offering.{entry-is, follow-is, offered-of, price-is, right-is}
 use Rattle.ih_replay.proofs.taking.commit.Goals as goal
 
 pub judge-requires : goal.judge-requires
@@ -45,31 +45,18 @@ returns-then-not-is_same_price-clause-err c =
 pub returns-then-not-is_same_verdict-clause-err : goal.returns-then-not-is_same_verdict-clause-err
 returns-then-not-is_same_verdict-clause-err c =
     let v = c.args.book.now in
-    let price = price-is v.base v.entries c.args.replica.now c.requires.replica c.args.entry.now
-    (offered-of c.price-offer.result.now) c.price-offer.ensures.offer c.requires.seen c.requires.own c.requires.fits in
-    let judged = judged-as v.base v.entries c.args.replica.now c.requires.replica c.args.entry.now
+    let both = follow-is v.base v.entries c.args.replica.now c.requires.replica c.args.entry.now
     (offered-of c.price-offer.result.now) c.price-offer.ensures.offer c.requires.seen c.requires.own c.requires.fits
-    (c.if-not-is_same_price.ensures.yes refl) in
-    record {
-      earlier = Price
-          ∷ [];
-      later = [];
-      listed = refl;
-      passed =
-          (sym (c.if-not-is_same_price.ensures.yes refl) ∙ price, tt);
-      fails = λ is. c.if-not-is_same_verdict.ensures.no refl
-          (c.judge.ensures ∙ judged ∙ sym is);
-    }
+    c.judge.result (c.if-not-is_same_price.ensures.yes refl) c.judge.ensures in
+    record { earlier = Price ∷ []; later = []; listed = refl; passed = (both.0, tt); fails = λ is. c.if-not-is_same_verdict.ensures.no refl (both.1 ∙ sym is) }
 
 pub returns-else-not-is_same_verdict-clause-ok : goal.returns-else-not-is_same_verdict-clause-ok
 returns-else-not-is_same_verdict-clause-ok c =
     let v = c.args.book.now in
-    let price = price-is v.base v.entries c.args.replica.now c.requires.replica c.args.entry.now
-    (offered-of c.price-offer.result.now) c.price-offer.ensures.offer c.requires.seen c.requires.own c.requires.fits in
-    let judged = judged-as v.base v.entries c.args.replica.now c.requires.replica c.args.entry.now
+    let both = follow-is v.base v.entries c.args.replica.now c.requires.replica c.args.entry.now
     (offered-of c.price-offer.result.now) c.price-offer.ensures.offer c.requires.seen c.requires.own c.requires.fits
-    (c.if-not-is_same_price.ensures.yes refl) in
-    (sym (c.if-not-is_same_price.ensures.yes refl) ∙ price, (sym (c.if-not-is_same_verdict.ensures.yes refl) ∙ c.judge.ensures ∙ judged, tt))
+    c.judge.result (c.if-not-is_same_price.ensures.yes refl) c.judge.ensures in
+    (both.0, (sym (c.if-not-is_same_verdict.ensures.yes refl) ∙ both.1, tt))
 
 pub returns-else-not-is_same_verdict-clause-added : goal.returns-else-not-is_same_verdict-clause-added
 returns-else-not-is_same_verdict-clause-added c =
