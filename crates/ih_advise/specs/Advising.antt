@@ -33,7 +33,8 @@ abbrev pub clearing : Subject → Write
 clearing (StayOf p) = SetStay p None
 clearing (NurseOf k r) = SetCare r k None
 
--- the other writes that may replace the choice: a patient's stays by day, room and theatre; the nurses who work the shift, rising
+-- the other writes that may replace the choice: a patient's stays by day, room and theatre; the nurses who work the
+-- shift, rising
 abbrev pub replacements : Draft → Subject → List Write
 replacements I (StayOf p) = stay_writes I p.0
 replacements I (NurseOf k r) = care_writes I r.0 k.0

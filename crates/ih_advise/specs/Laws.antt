@@ -18,8 +18,8 @@ IsCandidate I s w = (k : ℕ) × (slice_get (clearing s ∷ replacements I s) k 
 abbrev pub IsSubject : Draft → Subject → Type 0
 IsSubject I s = (k : ℕ) × (slice_get (subjects I) k ≡ Some s)
 
--- It is a write that may replace the choice, and lowers the score by so much, with what it changes in the bill. No other has less
--- value, and each that comes before it has more.
+-- It is a write that may replace the choice, and lowers the score by so much, with what it changes in the bill. No
+-- other has less value, and each that comes before it has more.
 pub record IsBestChange (I : Draft) (hard : ℕ) (P : Timetable) (s : Subject) (a : Advice) : Type 0 where
   pub place : ℕ
   pub candidate : slice_get (clearing s ∷ replacements I s) place ≡ Some a.write

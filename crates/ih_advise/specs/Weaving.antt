@@ -7,7 +7,8 @@ use Rattle.ih_advise.specs.declared.choosing.Advice.{Advice}
 use Rattle.ih_advise.specs.declared.subjects.Subject.{Subject}
 use Rattle.ih_advise.specs.Advising.{advice_on, subjects}
 
--- Adviser w of n has found what is advised on its choices: the first is that with number w, and each other n numbers on.
+-- Adviser w of n has found what is advised on its choices: the first is that with number w, and each other n numbers
+-- on.
 pub record HasAnswered (I : Draft) (hard : ℕ) (P : Timetable) (n w : ℕ) (found : List (Option Advice)) : Type 0 where
   pub each : (k : ℕ) (s : Subject) → slice_get (subjects I) (w + k * n) ≡ Some s → slice_get found k ≡ Some (advice_on I hard P s)
 

@@ -1,4 +1,5 @@
--- The machine of workers that look and offer: each event keeps the history legal, the counters right and the prices exact.
+-- The machine of workers that look and offer: each event keeps the history legal, the counters right and the prices
+-- exact.
 use Rattle.std.proofs.Common.{subst, ◌≡◌, ℕ, ◌+◌, ◌≤◌, refl, arith, sym, ap, ◌∙◌, Bool, true, false, List, [], ◌∷◌, ◌++◌, length, Some, None}
 use Rattle.std.specs.Prelude.{option_map, if◌then◌else◌, ◌==◌}
 use Rattle.ih_plan.specs.declared.moves.Move.{Move}

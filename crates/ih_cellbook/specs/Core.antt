@@ -43,7 +43,8 @@ abbrev pub MayCome : Base → State → Event → Type 0
 MayCome b s (looks w) = Unit {0}
 MayCome b s (offers w seen m) = MayOffer b s w seen m
 
--- the verdict on a worker's next attempt, whose price, footprint and versions are taken on the first `seen` entries alone
+-- the verdict on a worker's next attempt, whose price, footprint and versions are taken on the first `seen` entries
+-- alone
 abbrev pub verdict_in : Base → State → ℕ → ℕ → List Move → Verdict
 verdict_in b s w seen m = verdict_by_counters b.instance b.options s.counters (offer_at b s.history w seen m)
 

@@ -11,8 +11,8 @@ pub fn right_offers_stay_right()
     ensures { RightOffersStayRight }
 {}
 
-/// A history that is legal but for its draws has at most one entry for each try of each attempt of each worker, and fewer
-/// where some worker isn't done.
+/// A history that is legal but for its draws has at most one entry for each try of each attempt of each worker, and
+/// fewer where some worker isn't done.
 pub fn legal_histories_are_few()
     ensures { LegalHistoriesAreFew }
 {}
@@ -23,8 +23,8 @@ pub fn accepted_prices_are_exact()
     ensures { AcceptedPricesAreExact }
 {}
 
-/// In whatever order any number of workers look and offer, on however old a copy each priced its attempt: every entry is
-/// legal but for its draw, the counters are the versions, and each accepted price is the change of the bill at its
+/// In whatever order any number of workers look and offer, on however old a copy each priced its attempt: every entry
+/// is legal but for its draw, the counters are the versions, and each accepted price is the change of the bill at its
 /// place.
 pub fn schedules_are_legal(_inst: &Instance)
     ensures { SchedulesAreLegal _inst.now.draft }

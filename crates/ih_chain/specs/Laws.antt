@@ -26,8 +26,8 @@ as_chain e = record {
 abbrev pub SinglesHaveTheSameLine : Type 0
 SinglesHaveTheSameLine = (o : Options) (k : ℕ) (e : Entry) → o.retries ≡ 0 → chain_line k (as_chain e) ≡ line_text o k e
 
--- The journal of a legal history of chains of at most eight moves has at most 226 bytes for each chain and 29 for each of
--- its moves, and 128 for its heading.
+-- The journal of a legal history of chains of at most eight moves has at most 226 bytes for each chain and 29 for each
+-- of its moves, and 128 for its heading.
 abbrev pub ChainJournalsAreShort : Type 0
 ChainJournalsAreShort = (b : Base) (each : ℕ) (H : List ChainEntry) → IsSearchBase b → each ≤ 8 → AreLegal b each (chain_tries H)
     → length (chain_journal b.options each H) ≤ 128 + (226 + 29 * each) * length H

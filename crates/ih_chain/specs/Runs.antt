@@ -23,8 +23,8 @@ pub record Ran : Type 0 where
 abbrev pub best_plan : Base → List ChainEntry → Option (ℕ × ℤ) → Option Timetable
 best_plan b H best = option_map (λ (k : ℕ × ℤ). plan_at b (chain_tries H) k.0) best
 
--- The entries are a full history of chains of so many moves over b, in which each accepted price is exact; the best is that of
--- the history, and there is none exactly where no timetable of it is feasible.
+-- The entries are a full history of chains of so many moves over b, in which each accepted price is exact; the best is
+-- that of the history, and there is none exactly where no timetable of it is feasible.
 pub record IsRunOf (b : Base) (many : ℕ) (r : Ran) : Type 0 where
   pub options : r.options ≡ b.options
   pub each : r.each ≡ many

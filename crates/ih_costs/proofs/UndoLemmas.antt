@@ -56,7 +56,8 @@ pub undo-write : (I : Draft) (P : Timetable) (w : Write) → IsPlanOf I P → Is
 undo-write I P (SetStay p s) plan fits = (fits.0, plan.placed p.0)
 undo-write I P (SetCare r k n) plan fits = (fits.0, fits.1, λ m e. plan.nursed r.0 k.0 m.0 (ap (option_map (λ (m : NurseNo). m.0)) e))
 
--- Ledgers in which a write is made, which keep their timetable, and in which it is then taken back, stand for the timetable before.
+-- Ledgers in which a write is made, which keep their timetable, and in which it is then taken back, stand for the
+-- timetable before.
 pub taken-back : (I : Draft) (P : Timetable) (w u : Write) (made behind back : CellLedgers) → AreLedgersOf I (put w P) made → AreLedgersOf I (timetable_of made) behind
     → u ≡ undo_of P w → AreLedgersOf I (put u (timetable_of behind)) back → AreLedgersOf I P back
 taken-back I P w u made behind back stands keeps undo stands_back =

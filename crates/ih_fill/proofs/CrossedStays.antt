@@ -156,7 +156,8 @@ module _ (I : Draft) (P : Timetable) (p : PatientNo) (plan : IsPlanOf I P) (insi
       rw (has_parts I (stayed P p (placed d r t)), has_parts I (stayed P p (placed d s u)), has_parts I (stayed P p (placed d r u)), has_parts I (stayed P p (placed d s t)))
       (rw (at-listed 8 (all (placed d r t)) k below, at-listed 8 (all (placed d s u)) k below, at-listed 8 (all (placed d r u)) k below, at-listed 8 (all (placed d s t)) k below) (ap pos even))
 
-  -- A stay in room r and theatre t and one in room s and theatre u cost together what they cost with the theatres exchanged.
+  -- A stay in room r and theatre t and one in room s and theatre u cost together what they cost with the theatres
+  -- exchanged.
   pub bills-balanced : (d r s t u : ℕ)
       → AreBalanced (bill_of I (stayed P p (placed d r t))) (bill_of I (stayed P p (placed d s u))) (bill_of I (stayed P p (placed d r u))) (bill_of I (stayed P p (placed d s t)))
   bills-balanced d r s t u = record { v = rule-even d r s t u; s = cost-even d r s t u }

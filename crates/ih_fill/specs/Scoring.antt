@@ -9,7 +9,8 @@ use Rattle.ih_plan.specs.Timetable.{Timetable, stay_of}
 use Rattle.ih_plan.specs.Fill.{write_score, without_uncovered}
 use Rattle.ih_costs.specs.Standing.{Standing}
 
--- The instance, the weight of a broken rule in a score, whether rooms without nurses count in what a stay adds, and the timetable.
+-- The instance, the weight of a broken rule in a score, whether rooms without nurses count in what a stay adds, and the
+-- timetable.
 pub record Scoring : Type 0 where
   pub instance : Draft
   pub hard : ℕ

@@ -62,7 +62,8 @@ frame_all I P (w ∷ ws) c plan fits range h =
     let apart = or_parts (write_touches I P w c) (writes_touch I (put w P) ws c) h in
     frame_all I (put w P) ws c (put-plan I P w plan fits.0) fits.1 range apart.1 ∙ frame I P w c plan fits.0 range apart.0
 
--- Where the contents are the same on cells among which the footprint is, so is the footprint, and so are the contents after.
+-- Where the contents are the same on cells among which the footprint is, so is the footprint, and so are the contents
+-- after.
 pub local_all : (I : Draft) (P Q : Timetable) (ws : List Write) (passes : Cell → Bool) → IsPlanOf I P → IsPlanOf I Q → AreWritesOf I ws
     → AreSameOn I passes P Q → ((c : Cell) → IsCellOf I c → writes_touch I P ws c ≡ true → passes c ≡ true)
     → ((c : Cell) → IsCellOf I c → writes_touch I Q ws c ≡ writes_touch I P ws c) × AreSameOn I passes (put_all ws P) (put_all ws Q)

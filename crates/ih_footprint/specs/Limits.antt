@@ -1,4 +1,5 @@
--- The greatest sizes of an instance, by which the number of a cell stays small, and where the numbers of each kind begin.
+-- The greatest sizes of an instance, by which the number of a cell stays small, and where the numbers of each kind
+-- begin.
 use Rattle.std.specs.Prelude.{◌≡◌, ℕ, ◌≤◌}
 use Rattle.ih_tables.specs.Sizes.{Sizes}
 use Rattle.ih_plan.specs.Cells.{theatre_days_from, surgeon_days_from, room_shifts_from, nurse_shifts_from, cares_from}

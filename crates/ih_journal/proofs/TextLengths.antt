@@ -137,7 +137,8 @@ verdict-length I (Stale c seen place) l h =
 
 -- ---- lines
 
--- The most bytes of the seventeen numbers of a price, each with its sign: see how many digits the numbers of a change have.
+-- The most bytes of the seventeen numbers of a price, each with its sign: see how many digits the numbers of a change
+-- have.
 abbrev pub price_widths : List ℕ
 price_widths = 6 ∷ 6 ∷ 10 ∷ 10 ∷ 6 ∷ 6 ∷ 9 ∷ 6 ∷ 6 ∷ 13 ∷ 13 ∷ 8 ∷ 13 ∷ 6 ∷ 7 ∷ 7 ∷ 6 ∷ []
 

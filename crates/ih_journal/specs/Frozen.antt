@@ -16,8 +16,8 @@ abbrev pub is_before : ℕ → Option Placement → Bool
 is_before freeze None = false
 is_before freeze (Some at) = nat_lt at.day.0 freeze
 
--- The write is of a nurse for a shift before the freeze day, or of a stay of a patient whom the start admits before that day, or to a
--- day before it; also where the entry stays as it is.
+-- The write is of a nurse for a shift before the freeze day, or of a stay of a patient whom the start admits before
+-- that day, or to a day before it; also where the entry stays as it is.
 abbrev pub is_frozen_write : Timetable → ℕ → Write → Bool
 is_frozen_write start freeze (SetStay p new) = is_before freeze (stay_of start p.0) || is_before freeze new
 is_frozen_write start freeze (SetCare r k n) = nat_lt (day_of k.0) freeze

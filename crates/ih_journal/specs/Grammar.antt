@@ -1,4 +1,5 @@
--- The grammar of a journal's lines: which bytes are the line of an entry, and which field of other bytes is the first wrong one.
+-- The grammar of a journal's lines: which bytes are the line of an entry, and which field of other bytes is the first
+-- wrong one.
 use Rattle.std.specs.Prelude.{◌≡◌, ℕ, zero, suc, ◌==◌, ◌+◌, ◌<◌, ◌^◌, ◌⊎◌, List, [], ◌∷◌, ◌++◌, length, Some, slice_get, decimal}
 use Rattle.std.specs.List.{slice_split}
 use Rattle.ih_tables.specs.declared.drafts.Draft.{Draft}

@@ -1,4 +1,5 @@
--- Walking a list from its first node to its last, for loops over `first` and `next`: what is left at each node, and what follows the i-th.
+-- Walking a list from its first node to its last, for loops over `first` and `next`: what is left at each node, and
+-- what follows the i-th.
 use Rattle.std.proofs.Common.{◌≡◌, ℕ, zero, suc, ◌<◌, refl, arith, sym, ap, subst, ◌∙◌, true, false, List, [], ◌∷◌, length, drop, get_or, ◌++◌, inl, inr, Option, Some, None}
 use Rattle.std.specs.Prelude.{IfSome}
 use Rattle.std.proofs.lemmas.Bool.{cases_eq, eq-eqb, ne_eqb}
@@ -60,7 +61,8 @@ rest-step x (y ∷ ys) o m = elim (cases_eq y x) [
   ]
 ]
 
--- A walk over a list that has told so many of its nodes: it is at one of them, and what it told and what is left are the list.
+-- A walk over a list that has told so many of its nodes: it is at one of them, and what it told and what is left are
+-- the list.
 pub record IsWalk (nodes : ℕ) (xs told : List ℕ) (at : Option ℕ) : Type 0 where
   pub known : AreNodes nodes xs
   pub inside : IsAt at xs

@@ -29,7 +29,8 @@ IsPath f g a (x ∷ xs) b = (f a ≡ x) × ((g x ≡ a) × IsPath f g x xs b)
 abbrev pub node_in : ℕ → ℕ → Option ℕ
 node_in n place = if nat_lt place n then Some place else None
 
--- The links are those of the lists: nodes and gates have one place each, each list is a ring through its head's gate, and each node's home is the head of its list.
+-- The links are those of the lists: nodes and gates have one place each, each list is a ring through its head's gate,
+-- and each node's home is the head of its list.
 pub record Tied (next prev : List ℕ) (home : List (Option ℕ)) (len : List ℕ) (lists : List (List ℕ)) : Type 0 where
   pub nexts : length next ≡ length home + length len
   pub prevs : length prev ≡ length home + length len

@@ -1,4 +1,5 @@
--- What another choice of nurse for a room's shift makes of the workloads above the maximum, and of the care of the persons there.
+-- What another choice of nurse for a room's shift makes of the workloads above the maximum, and of the care of the
+-- persons there.
 use Rattle.std.proofs.Common.{◌≡◌, ◌≢◌, ℕ, ◌+◌, ◌-◌, ◌<◌, ◌≤◌, refl, arith, sym, ap, ◌∙◌, true, inl, inr, List, Option, Some, None, pos}
 use Rattle.std.specs.Prelude.{◌-ℤ◌, ◌+ℤ◌, ◌==◌, if◌then◌else◌, nat_le, nat_lt, option_map, slice_index, sum_by, IfSome}
 use Rattle.std.proofs.lemmas.Bool.{cases_Bool, eq-eqb, ne_eqb, eqb-true, leb-true, and_parts}

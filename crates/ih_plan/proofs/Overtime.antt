@@ -1,4 +1,5 @@
--- The numbers of a bill that counting alone doesn't bound: minutes above the surgeons' and theatres' limits, and overloads.
+-- The numbers of a bill that counting alone doesn't bound: minutes above the surgeons' and theatres' limits, and
+-- overloads.
 use Rattle.std.proofs.Common.{◌≡◌, ℕ, ◌-◌, ◌*◌, ◌≤◌, refl, arith, sym, ◌∙◌, Bool, true, false, List, length, inl, inr, Option, Some, None}
 use Rattle.std.specs.Prelude.{if◌then◌else◌, ◌==◌, ◌&&◌, slice_get, slice_index, All}
 use Rattle.std.specs.Option.{option_map_or}

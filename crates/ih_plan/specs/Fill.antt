@@ -84,6 +84,7 @@ with_cares I hard P (kr ∷ krs) = with_cares I hard (with_care I hard P kr.0 kr
 abbrev pub rooms_by_shift : Draft → List (ℕ × ℕ)
 rooms_by_shift I = flat_map (λ k. map (λ r. (k, r)) (range_with_len 0 (room_count I))) (range_with_len 0 (shift_count I))
 
--- Patients first, mandatory ones before optional ones, each with the cheapest stay or none; then each occupied room and shift without a nurse.
+-- Patients first, mandatory ones before optional ones, each with the cheapest stay or none; then each occupied room and
+-- shift without a nurse.
 unfoldable pub fill : Draft → ℕ → Timetable → Timetable
 fill I hard P = with_cares I hard (with_stays I hard P (waiting I P true ++ waiting I P false)) (rooms_by_shift I)

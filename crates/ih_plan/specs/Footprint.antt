@@ -18,7 +18,8 @@ use Rattle.ih_plan.specs.Writes.{put}
 use Rattle.ih_plan.specs.Cells.{cell_count, cell_at}
 use Rattle.ih_plan.specs.Sums.{which_below}
 
--- the cells of a placement of patient p at a timetable: its room on each of its days and shifts, the loads of the nurses there, and its theatre and surgeon on the day of admission
+-- the cells of a placement of patient p at a timetable: its room on each of its days and shifts, the loads of the
+-- nurses there, and its theatre and surgeon on the day of admission
 unfoldable pub in_placement : Draft → Timetable → ℕ → Placement → Cell → Bool
 in_placement I P p at (Stay q) = false
 in_placement I P p at (RoomDay r d) = (at.room.0 == r.0) && covers at.day.0 (person_of I p).length_of_stay d.0
@@ -44,7 +45,8 @@ is_own p (RoomShift r k) = false
 is_own p (NurseShift n k) = false
 is_own p (Care x) = p == x.0
 
--- the cells of a choice of nurse for room r and shift k: that room and shift, the loads of the old nurse and the new, and the nurses of all who are present
+-- the cells of a choice of nurse for room r and shift k: that room and shift, the loads of the old nurse and the new,
+-- and the nurses of all who are present
 unfoldable pub in_choice : Draft → Timetable → ℕ → ℕ → Option ℕ → Cell → Bool
 in_choice I P r k n (Stay q) = false
 in_choice I P r k n (RoomDay s d) = false

@@ -7,7 +7,8 @@ use Rattle.ih_plan.specs.Timetable.{Timetable}
 use Rattle.ih_plan.specs.Presence.{is_present}
 use Rattle.ih_plan.specs.Sums.{is_listed}
 
--- For each room and day of the instance these are the persons who are present at the timetable, each once, in any order.
+-- For each room and day of the instance these are the persons who are present at the timetable, each once, in any
+-- order.
 pub record ArePresent (I : Draft) (P : Timetable) (rooms days : ℕ) (persons : ℕ → ℕ → List ℕ) : Type 0 where
   pub rooms_are : rooms ≡ room_count I
   pub days_are : days ≡ I.days

@@ -1,4 +1,5 @@
--- Numbers are all equal exactly where so many times the sum of their squares is the square of their sum: the one is the other and the squares of all their differences.
+-- Numbers are all equal exactly where so many times the sum of their squares is the square of their sum: the one is the
+-- other and the squares of all their differences.
 use Rattle.std.proofs.Common.{◌≡◌, ℕ, zero, suc, ◌+◌, ◌-◌, ◌*◌, refl, arith, sym, ap, subst, ◌∙◌, true, List, [], ◌∷◌, length, inl, inr}
 use Rattle.std.specs.Prelude.{sum_by}
 use Rattle.std.proofs.lemmas.Bool.{cases_lt}

@@ -9,7 +9,8 @@ use Rattle.ih_roomdays.specs.declared.rows.Rows.{Rows}
 use Rattle.ih_roomdays.specs.Rows.{AreRows, is_at, persons_at}
 use Rattle.ih_roomdays.specs.Profiles.{AreProfiles}
 
--- The ledger stands for the timetable P: it has the instance's rooms, days and persons with their genders and ages, and a person is in a room on a day in the ledger exactly where the timetable has it so.
+-- The ledger stands for the timetable P: it has the instance's rooms, days and persons with their genders and ages, and
+-- a person is in a room on a day in the ledger exactly where the timetable has it so.
 pub record IsLedgerOf (I : Draft) (P : Timetable) (v : Rows) : Type 0 where
   pub plan : IsPlanOf I P
   pub rows : AreRows v

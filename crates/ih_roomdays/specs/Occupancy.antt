@@ -11,8 +11,8 @@ use Rattle.ih_roomdays.specs.Profiles.{gender_number, age_number, most_persons}
 abbrev pub of_age : Profiles → ℕ → List ℕ → ℕ
 of_age p a xs = count_by (λ x. age_number p x == a) xs
 
--- This is so of the persons xs: how many they are, the sums of their gender numbers and of the squares of these, and the
--- bit of an age group is 1 where one of them or more is in it.
+-- This is so of the persons xs: how many they are, the sums of their gender numbers and of the squares of these, and
+-- the bit of an age group is 1 where one of them or more is in it.
 pub record IsOccupancy (p : Profiles) (xs : List ℕ) (c : Occupancy) : Type 0 where
   pub count : c.count ≡ length xs
   pub genders : c.genders ≡ sum_by (gender_number p) xs

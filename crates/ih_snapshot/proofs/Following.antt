@@ -1,4 +1,5 @@
--- A replica that takes over accepted entries alone: the refused ones between them move its place, and change nothing else.
+-- A replica that takes over accepted entries alone: the refused ones between them move its place, and change nothing
+-- else.
 use Rattle.std.proofs.Common.{◌≡◌, ℕ, zero, ◌+◌, ◌<◌, ◌≤◌, arith, add-one, refl, sym, ◌∙◌, subst, Bool, true, false, List, [], ◌∷◌, ◌++◌, length, append_assoc, drop, drop-cons}
 use Rattle.std.specs.Prelude.{slice_index_or}
 use Rattle.std.proofs.lemmas.List.{append-nil}

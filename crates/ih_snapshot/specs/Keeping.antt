@@ -22,7 +22,8 @@ pub record IsOfBase (b : Base) (l : Standing) (vs : List ℕ) (z : Sizes) (o : O
   pub sizes : z ≡ sizes_of b.instance
   pub room : o.reads.room ≡ cell_count b.instance
 
--- If the entry is that of the last offer, and the offer read any cells, they are those that the entry's moves touch at P.
+-- If the entry is that of the last offer, and the offer read any cells, they are those that the entry's moves touch at
+-- P.
 abbrev pub IsOwnRead : Draft → Timetable → Offered → Tried → Type 0
 IsOwnRead I P last e = 0 < length last.reads.pairs → e.seen ≡ last.seen → e.moves ≡ last.moves
     → map (λ (r : ℕ × ℕ). r.0) last.reads.pairs ≡ footprint_of_all I P e.moves
@@ -34,7 +35,8 @@ pub record CanTake (r : Snapshot) (e : Tried) : Type 0 where
   pub small : (n : ℕ) → slice_index r.versions n ≤ 10 ^ 6
   pub own : is_accepted e.verdict ≡ true → IsOwnRead r.base.instance r.plan r.last e
 
--- The second is the first after one entry more: the timetable after it, and versions raised where it is accepted and touches.
+-- The second is the first after one entry more: the timetable after it, and versions raised where it is accepted and
+-- touches.
 pub record HasTaken (r : Snapshot) (e : Tried) (s : Snapshot) : Type 0 where
   pub base : s.base ≡ r.base
   pub worker : s.worker ≡ r.worker

@@ -12,9 +12,9 @@ use atomic_table::Seat as Token;
 impl<B: Kept> Turn<B> {
     ghost use Rattle.ih_turn.specs.Seats.{opened_with, seat_count, history, number_of, made_count, IsSeatOf};
 
-    /// Gives the value back, once all seats have come back. Its list begins with each seat's history, and has nothing of
-    /// that seat's past it; past the list that the turn was made with it has just the entries that the seats made. Its
-    /// base is unchanged.
+    /// Gives the value back, once all seats have come back. Its list begins with each seat's history, and has nothing
+    /// of that seat's past it; past the list that the turn was made with it has just the entries that the seats made.
+    /// Its base is unchanged.
     pub fn close(self, mut seats: Vec<Seat<B>>) -> B
         requires own { All (IsSeatOf self) seats.items }
         requires all { (n : ℕ) → n < seat_count self → Contains (map number_of seats.items) n }

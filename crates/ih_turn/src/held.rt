@@ -71,8 +71,8 @@ pub struct Guard<H, B> {
 impl<B: Kept> Turn<B> {
     ghost use Rattle.ih_turn.specs.Seats.{opened_with, history, number_of, made_count, turns_left, value_of, turn_of, holder_number, holder_made, holder_left, list_at_take, IsSeatOf};
 
-    /// Waits until it is the seat's turn, and lends the value out. Its list begins with what the seat had seen, and past
-    /// that has nothing of the seat's own. It uses one of the seat's turns.
+    /// Waits until it is the seat's turn, and lends the value out. Its list begins with what the seat had seen, and
+    /// past that has nothing of the seat's own. It uses one of the seat's turns.
     pub fn take<R: Wait>(&self, rt: &R, seat: Seat<B>) -> Held<'_, B>
         requires own { IsSeatOf self.now seat }
         requires left { 0 < turns_left seat }
