@@ -21,9 +21,9 @@ pub use books::Book;
 pub use buffers::Buffer;
 pub use kinds::{Attempted, Logged, Offers};
 pub use laws::{
-    accepted_prices_are_exact, legal_histories_are_few, legal_histories_are_in_range,
-    legal_journals_are_short, right_offers_stay_right, schedules_are_legal,
-    journals_tell_searches_apart,
+    accepted_prices_are_exact, journals_tell_searches_apart, legal_histories_are_few,
+    legal_histories_are_in_range, legal_journals_are_short, right_offers_stay_right,
+    schedules_are_legal,
 };
 pub use news::News;
 pub use offers::Offer;

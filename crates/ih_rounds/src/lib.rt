@@ -9,7 +9,7 @@ mod running;
 mod searcher;
 
 pub use calling::SearchBy;
-pub use laws::{journals_can_be_parted, rounds_get_no_dearer, journals_tell_rounds_apart};
+pub use laws::{journals_can_be_parted, journals_tell_rounds_apart, rounds_get_no_dearer};
 pub use noted::Noted;
 pub use running::{RoundsEnd, rounds};
 pub use searcher::Searcher;
