@@ -32,10 +32,14 @@ impl<'a, E: Logged> Model for Book<'a, E> {
     ghost Value = { Recorded };
 
     ghost view = { λ k. let p = k.parts.value in
-        record { base = base_with p.inst.now.draft p.start.now p.options p.freeze; entries = map E.tried p.entries.items } };
+        record {
+          base = base_with p.inst.now.draft p.start.now p.options p.freeze;
+          entries = map E.tried p.entries.items;
+        } };
 
     ghost invariant = { λ k. let p = k.parts.value in
-        IsKept (base_with p.inst.now.draft p.start.now p.options p.freeze) (map E.tried p.entries.items) p.counters.items p.again.items p.bill p.best
+        IsKept (base_with p.inst.now.draft p.start.now p.options p.freeze) (map E.tried p.entries.items)
+        p.counters.items p.again.items p.bill p.best
         × (most_entries p.options ≤ vec_capacity p.entries) × (p.options.retries ≤ E.most_retries) };
 }
 
