@@ -13,6 +13,7 @@ use Rattle.clap.specs.Simple.{app_of, has_simple_rules}
 use Rattle.clap.specs.declared.builder.arg.Arg.{Arg}
 use Rattle.clap.specs.declared.builder.command.Command.{Command}
 use Rattle.clap.specs.declared.builder.command.Command.TheViews.{out-Command}
+use Rattle.ih_words.specs.Distinct.{all_differ}
 use Rattle.ih_words.specs.Rules.{has_independent_rules, is_unreserved}
 use Rattle.ih_words.proofs.Distinct.{distinct}
 
@@ -95,6 +96,21 @@ id_at xs k d = map_at (λ (r : Rule). r.id) (map rule_of xs) k (rule_of d) ∙ a
 ids_length : (xs : List Arg) → length (map (λ (r : Rule). r.id) (map rule_of xs)) ≡ length xs
 ids_length xs = length-map (map rule_of xs) (λ (r : Rule). r.id) ∙ length-map xs rule_of
 
+-- two places with equal ids are one place
+within : (xs : List Arg) (k : ℕ) → k < length xs → k < length (map (λ (r : Rule). r.id) (map rule_of xs))
+within xs k lt = omega (arith, ids_length xs)
+
+unique_at : (xs : List Arg) → all_differ (map (λ (r : Rule). r.id) (map rule_of xs)) ≡ true → (k : ℕ) (d : Arg) → k < length xs
+    → (j : ℕ) (e : Arg) → j < length xs → bytes_eq (slice_index_or xs j e).id.now (slice_index_or xs k d).id.now ≡ true → j ≡ k
+unique_at xs differ k d kl j e jl same = distinct (map (λ (r : Rule). r.id) (map rule_of xs)) differ j k e.id.now d.id.now
+    (within xs j jl) (within xs k kl) (rw (id_at xs j e, id_at xs k d) same)
+
+-- an argument with no range of its own has one value or more
+one_least : (a : Arg) → a.num_vals ≡ None → 1 ≤ least_values a
+one_least a range =
+    let one : least_values a ≡ 1 = ap (λ o. (unwrap_or_range o).start_inclusive) range in
+    omega (arith, one)
+
 -- ---- the argument
 
 -- what clap's own lemmas ask of the argument at place k
@@ -132,7 +148,6 @@ ready old independent k rule at no_range =
     let place = at_place xs k rule at in
     let d = place.0 in
     let range : (slice_index_or xs k d).num_vals ≡ None = ap (λ (r : Rule). r.range) place.2 ∙ no_range in
-    let one : least_values (slice_index_or xs k d) ≡ 1 = ap (λ o. (unwrap_or_range o).start_inclusive) range in
     record {
       d = d;
       within = place.1;
@@ -142,8 +157,7 @@ ready old independent k rule at no_range =
       globals = not-true _ g2.0;
       negates = not-true _ h2.0;
       delim = (all k d place.1).1;
-      least = omega arith;
-      unique = λ j e lt same. distinct (map (λ (r : Rule). r.id) (map rule_of xs)) h3.1 j k e.id.now d.id.now
-          (omega (arith, ids_length xs)) (omega (arith, place.1, ids_length xs)) (rw (id_at xs j e, id_at xs k d) same);
+      least = one_least (slice_index_or xs k d) range;
+      unique = unique_at xs h3.1 k d place.1;
       unreserved = unreserved_at xs h3.0 k d place.1;
     }

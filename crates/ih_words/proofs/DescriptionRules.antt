@@ -1,5 +1,5 @@
 -- The rules of a command's description: what an argument adds to them, and what the rule at a place requires.
-use Rattle.std.proofs.Common.{◌≡◌, ◌∙◌, ap, ap₂, ℕ, Some, false, refl}
+use Rattle.std.proofs.Common.{◌≡◌, ◌∙◌, ap₂, ℕ, Some, false, refl}
 use Rattle.std.specs.Prelude.{slice_get}
 use Rattle.clap.specs.Built.{AddsArg}
 use Rattle.clap.specs.Words.{App, Rule, Text, app_of, rule_of, with_rule}
@@ -13,28 +13,24 @@ pub adds_rule : {old new : Command} {arg : Arg} {app : App} {rule : Rule} → ap
     → app_of new ≡ with_rule app rule
 adds_rule before added local rule = added.shape local ∙ ap₂ with_rule before rule
 
--- an app that is another has its rules
-same_place : {app it : App} {rule : Rule} (k : ℕ) → app ≡ it → slice_get it.top.rules k ≡ Some rule → slice_get app.top.rules k ≡ Some rule
-same_place k is place = ap (λ (a : App). slice_get a.top.rules k) is ∙ place
-
-pub requires_name : {app it : App} {k : ℕ} {id : Text} → app ≡ it → slice_get it.top.rules k ≡ Some (named id)
+pub requires_name : {app : App} {k : ℕ} {id : Text} → slice_get app.top.rules k ≡ Some (named id)
     → Requires app k (named id)
-requires_name is place = record { place = same_place _ is place; required = refl; action = refl; range = refl }
+requires_name place = record { place = place; required = refl; action = refl; range = refl }
 
-pub requires_named_number : {app it : App} {k : ℕ} {id : Text} → app ≡ it → slice_get it.top.rules k ≡ Some (named_number id)
+pub requires_named_number : {app : App} {k : ℕ} {id : Text} → slice_get app.top.rules k ≡ Some (named_number id)
     → RequiresNumber app k (named_number id) 0 18446744073709551615
-requires_named_number is place = record {
-  value = record { place = same_place _ is place; required = refl; action = refl; range = refl };
+requires_named_number place = record {
+  value = record { place = place; required = refl; action = refl; range = refl };
   parser = refl;
 }
 
-pub requires_number : {app it : App} {k : ℕ} {id : Text} {low high : ℕ} → app ≡ it → slice_get it.top.rules k ≡ Some (numbered_option id low high)
+pub requires_number : {app : App} {k : ℕ} {id : Text} {low high : ℕ} → slice_get app.top.rules k ≡ Some (numbered_option id low high)
     → RequiresNumber app k (numbered_option id low high) low high
-requires_number is place = record {
-  value = record { place = same_place _ is place; required = refl; action = refl; range = refl };
+requires_number place = record {
+  value = record { place = place; required = refl; action = refl; range = refl };
   parser = refl;
 }
 
-pub takes_number : {app it : App} {k : ℕ} {id : Text} {high : ℕ} → app ≡ it → slice_get it.top.rules k ≡ Some (optional_number id high)
+pub takes_number : {app : App} {k : ℕ} {id : Text} {high : ℕ} → slice_get app.top.rules k ≡ Some (optional_number id high)
     → TakesNumber app k (optional_number id high) 0 high
-takes_number is place = record { place = same_place _ is place; range = refl; parser = refl }
+takes_number place = record { place = place; range = refl; parser = refl }

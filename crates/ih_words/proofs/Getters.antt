@@ -1,16 +1,16 @@
 -- What the getters of clap's matches read, by the rows of the matches.
-use Rattle.std.proofs.Common.{◌≡◌, ◌∙◌, ◌<◌, ◌≤◌, ◌^◌, ap, sym, ℕ, Bool, true, false, List, [], refl, arith, Option, Some, None, Result, Ok, Err, option_map, codes}
+use Rattle.std.proofs.Common.{◌≡◌, ◌∙◌, ◌<◌, ◌^◌, ap, sym, ℕ, Bool, true, false, List, [], refl, arith, Option, Some, None, Result, Ok, Err, option_map, codes}
 use Rattle.std.specs.Prelude.{IsSome, unwrap_or}
 use Rattle.std.specs.Borrow.{Bor}
 use Rattle.std.specs.Option.{option_map_or}
 use Rattle.std.specs.Str.{bytes_eq}
 use Rattle.std.specs.Str.Parse.{ParsesBool, ParsesUnsigned, digits_value, without_leading_plus}
 use Rattle.std.proofs.lemmas.Slice.Eq.{bytes_eq-Decides}
-use Rattle.clap.specs.Words.{Row, Text, IsUnsignedIn, first_of, first_value, one_of, one_text, rows_of}
+use Rattle.clap.specs.Words.{Text, IsUnsignedIn, first_of, first_value, one_of, one_text, rows_of}
 use Rattle.clap.specs.Matches.{ReadsOne}
 use Rattle.clap.specs.declared.parser.matches.Found.{Found}
 use Rattle.clap.proofs.WalkLemmas.{first_value-rows, one_text-rows}
-use Rattle.ih_words.specs.Matches.{HasNumber, IsNumberIfGiven, flag_at, number_at, number_of, text_at}
+use Rattle.ih_words.specs.Matches.{IsNumberIfGiven, flag_at, number_at, number_of, text_at}
 
 -- the text that `get_str` gives
 pub text_read : (o : Option (Bor Text)) (f : Found) (id t : Text) → option_map (λ s. s.now) o ≡ first_value f id

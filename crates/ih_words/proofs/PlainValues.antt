@@ -1,6 +1,6 @@
 -- What the rules of a plain search say of its matches.
-use Rattle.std.proofs.Common.{◌≡◌, ℕ, List, codes, refl}
-use Rattle.clap.specs.Words.{App, Row, Rule, Text}
+use Rattle.std.proofs.Common.{ℕ, List, codes, refl}
+use Rattle.clap.specs.Words.{Row, Rule, Text}
 use Rattle.ih_journal.specs.declared.settings.TheConstants.{MAX_HARD, MAX_HEAT, MAX_MOVES, MAX_WORKERS}
 use Rattle.ih_words.specs.Arguments.{named, numbered_option, seed_option}
 use Rattle.ih_words.specs.Matches.{HasNumber, HasText}
@@ -8,28 +8,28 @@ use Rattle.ih_words.specs.Plain.{HasPlain, plain_app}
 use Rattle.ih_words.specs.Rules.{Requires, RequiresNumber}
 use Rattle.ih_words.proofs.DescriptionRules.{requires_name, requires_number}
 
-module _ {app : App} {name id : Text} {high : ℕ} (is : app ≡ plain_app name id high) where
+module _ (name id : Text) (high : ℕ) where
   -- its file names and options are there
-  pub has_plain : {rows : List Row} → ((k : ℕ) (rule : Rule) → Requires app k rule → HasText rule.id rows)
-      → ((k : ℕ) (rule : Rule) (low high : ℕ) → RequiresNumber app k rule low high → HasNumber low high rule.id rows)
+  pub has_plain : {rows : List Row} → ((k : ℕ) (rule : Rule) → Requires (plain_app name id high) k rule → HasText rule.id rows)
+      → ((k : ℕ) (rule : Rule) (low most : ℕ) → RequiresNumber (plain_app name id high) k rule low most → HasNumber low most rule.id rows)
       → HasPlain rows
   has_plain texts numbers = record {
     names = record {
-      first = texts 0 (named (codes "INSTANCE")) (requires_name is refl);
-      second = texts 1 (named (codes "OUT")) (requires_name is refl);
-      third = texts 2 (named (codes "JOURNAL")) (requires_name is refl);
+      first = texts 0 (named (codes "INSTANCE")) (requires_name refl);
+      second = texts 1 (named (codes "OUT")) (requires_name refl);
+      third = texts 2 (named (codes "JOURNAL")) (requires_name refl);
     };
     options = record {
-      seed = numbers 3 seed_option 0 18446744073709551615 (requires_number is refl);
-      workers = numbers 4 (numbered_option (codes "workers") 1 MAX_WORKERS) 1 MAX_WORKERS (requires_number is refl);
-      moves = numbers 5 (numbered_option (codes "moves") 0 MAX_MOVES) 0 MAX_MOVES (requires_number is refl);
-      heat = numbers 6 (numbered_option (codes "heat") 0 MAX_HEAT) 0 MAX_HEAT (requires_number is refl);
-      hard = numbers 7 (numbered_option (codes "hard") 0 MAX_HARD) 0 MAX_HARD (requires_number is refl);
+      seed = numbers 3 seed_option 0 18446744073709551615 (requires_number refl);
+      workers = numbers 4 (numbered_option (codes "workers") 1 MAX_WORKERS) 1 MAX_WORKERS (requires_number refl);
+      moves = numbers 5 (numbered_option (codes "moves") 0 MAX_MOVES) 0 MAX_MOVES (requires_number refl);
+      heat = numbers 6 (numbered_option (codes "heat") 0 MAX_HEAT) 0 MAX_HEAT (requires_number refl);
+      hard = numbers 7 (numbered_option (codes "hard") 0 MAX_HARD) 0 MAX_HARD (requires_number refl);
     };
   }
 
   -- and so is its number
   pub has_plain_number : (rows : List Row)
-      → ((k : ℕ) (rule : Rule) (low high : ℕ) → RequiresNumber app k rule low high → HasNumber low high rule.id rows)
+      → ((k : ℕ) (rule : Rule) (low most : ℕ) → RequiresNumber (plain_app name id high) k rule low most → HasNumber low most rule.id rows)
       → HasNumber 1 high id rows
-  has_plain_number rows numbers = numbers 8 (numbered_option id 1 high) 1 high (requires_number is refl)
+  has_plain_number rows numbers = numbers 8 (numbered_option id 1 high) 1 high (requires_number refl)

@@ -5,7 +5,7 @@ ghost use Rattle.ih_words.specs.Advise.{HasAdvise, IsLawfulAdvise, advise_app, a
 ghost use Rattle.ih_words.specs.Matches.{call_by};
 
 use crate::WordsError;
-use crate::arguments::{named, numbered_option};
+use crate::arguments::{named, numbered_option, with};
 use crate::file_names::all_differ;
 use crate::matches::{matches_in, text_of, u32_of};
 use clap::{ArgMatches, Command};
@@ -29,11 +29,11 @@ pub struct Advise<'a> {
 fn advise_description<'a>(alloc: Global) -> Result<Command<'a>, AllocError>
     ensures { IfOk result (λ c. app_of c ≡ advise_app) }
 {
-    Command::new(alloc, "advise")
-        .arg(named(alloc, "INSTANCE"))?
-        .arg(named(alloc, "SOLUTION"))?
-        .arg(numbered_option(alloc, "hard", 0, MAX_HARD))?
-        .arg(numbered_option(alloc, "workers", 1, MAX_WORKERS))
+    let name = Ok(Command::new(alloc, "advise"));
+    let instance = with(name, named(alloc, "INSTANCE"));
+    let solution = with(instance, named(alloc, "SOLUTION"));
+    let hard = with(solution, numbered_option(alloc, "hard", 0, MAX_HARD));
+    with(hard, numbered_option(alloc, "workers", 1, MAX_WORKERS))
 }
 
 // The values of `advise`.
@@ -73,6 +73,6 @@ pub(crate) fn read_advise<'a>(alloc: Global, words: &'a [String]) -> Result<Advi
     ensures unlawful { IfErr result
         (λ e. e ≡ WordsError.Unlawful → call_by advise_app lawful_advise (map string_bytes words.entry.now) ≡ None) }
 {
-    let matches = matches_in(advise_description(alloc)?, words)?;
+    let matches = matches_in(advise_description(alloc), words)?;
     lawful_advise(&matches).ok_or(WordsError::Unlawful)
 }

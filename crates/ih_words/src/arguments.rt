@@ -1,6 +1,6 @@
 //! The rules of the commands' arguments, for `clap`.
 ghost use Rattle.std.specs.Prelude.{◌≡◌, IfOk, false};
-ghost use Rattle.clap.specs.Words.{app_of, rule_of};
+ghost use Rattle.clap.specs.Words.{App, Rule, app_of, rule_of, with_rule};
 ghost use Rattle.ih_words.specs.Arguments.{flag, named, named_number, numbered_option, optional, optional_number, seed_option, with_options};
 
 use clap::{Arg, ArgAction, Command, value_parser};
@@ -67,17 +67,32 @@ pub(crate) fn flag<'a>(alloc: Global, id: &'a str) -> Arg<'a>
     Arg::new(alloc, id).long(id).action(ArgAction::SetTrue)
 }
 
-// The command with the options that a search needs.
+// The description with one argument more, where there was memory for it. Lack of memory is passed on, so that a whole
+// description has no branches.
+pub(crate) fn with<'a>(
+    description: Result<Command<'a>, AllocError>,
+    argument: Arg<'a>,
+) -> Result<Command<'a>, AllocError>
+    requires { argument.global ≡ false }
+    ensures { (app : App) (rule : Rule) → IfOk description.entry (λ c. app_of c ≡ app) → rule_of argument.entry ≡ rule
+        → IfOk result (λ c. app_of c ≡ with_rule app rule) }
+{
+    match description {
+        Ok(command) => command.arg(argument),
+        Err(e) => Err(e),
+    }
+}
+
+// The description with the options that a search needs.
 pub(crate) fn with_options<'a>(
     alloc: Global,
-    command: Command<'a>,
+    description: Result<Command<'a>, AllocError>,
 ) -> Result<Command<'a>, AllocError>
-    ensures { IfOk result (λ c. app_of c ≡ with_options (app_of command.entry)) }
+    ensures { (app : App) → IfOk description.entry (λ c. app_of c ≡ app) → IfOk result (λ c. app_of c ≡ with_options app) }
 {
-    command
-        .arg(seed_option(alloc))?
-        .arg(numbered_option(alloc, "workers", 1, MAX_WORKERS))?
-        .arg(numbered_option(alloc, "moves", 0, MAX_MOVES))?
-        .arg(numbered_option(alloc, "heat", 0, MAX_HEAT))?
-        .arg(numbered_option(alloc, "hard", 0, MAX_HARD))
+    let seed = with(description, seed_option(alloc));
+    let workers = with(seed, numbered_option(alloc, "workers", 1, MAX_WORKERS));
+    let moves = with(workers, numbered_option(alloc, "moves", 0, MAX_MOVES));
+    let heat = with(moves, numbered_option(alloc, "heat", 0, MAX_HEAT));
+    with(heat, numbered_option(alloc, "hard", 0, MAX_HARD))
 }

@@ -55,6 +55,6 @@ pub(crate) fn read_chain<'a>(alloc: Global, words: &'a [String]) -> Result<Chain
     ensures unlawful { IfErr result
         (λ e. e ≡ WordsError.Unlawful → call_by chain_app lawful_chain (map string_bytes words.entry.now) ≡ None) }
 {
-    let matches = matches_in(chain_description(alloc)?, words)?;
+    let matches = matches_in(chain_description(alloc), words)?;
     lawful_chain(&matches).ok_or(WordsError::Unlawful)
 }

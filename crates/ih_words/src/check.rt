@@ -5,7 +5,7 @@ ghost use Rattle.ih_words.specs.Check.{check_app, check_call, lawful_check};
 ghost use Rattle.ih_words.specs.Matches.{HasText, call_by};
 
 use crate::WordsError;
-use crate::arguments::named;
+use crate::arguments::{named, with};
 use crate::file_names::all_differ;
 use crate::matches::{matches_in, text_of};
 use clap::{ArgMatches, Command};
@@ -24,9 +24,8 @@ pub struct Check<'a> {
 fn check_description<'a>(alloc: Global) -> Result<Command<'a>, AllocError>
     ensures { IfOk result (λ c. app_of c ≡ check_app) }
 {
-    Command::new(alloc, "check")
-        .arg(named(alloc, "INSTANCE"))?
-        .arg(named(alloc, "SOLUTION"))
+    let instance = with(Ok(Command::new(alloc, "check")), named(alloc, "INSTANCE"));
+    with(instance, named(alloc, "SOLUTION"))
 }
 
 // The values of `check`, where the file names differ.
@@ -54,6 +53,6 @@ pub(crate) fn read_check<'a>(alloc: Global, words: &'a [String]) -> Result<Check
     ensures unlawful { IfErr result
         (λ e. e ≡ WordsError.Unlawful → call_by check_app lawful_check (map string_bytes words.entry.now) ≡ None) }
 {
-    let matches = matches_in(check_description(alloc)?, words)?;
+    let matches = matches_in(check_description(alloc), words)?;
     lawful_check(&matches).ok_or(WordsError::Unlawful)
 }

@@ -23,6 +23,6 @@ pub(crate) fn read_demo(alloc: Global, words: &[String]) -> Result<u64, WordsErr
     ensures unlawful { IfErr result
         (λ e. e ≡ WordsError.Unlawful → call_by demo_app lawful_demo (map string_bytes words.now) ≡ None) }
 {
-    let matches = matches_in(demo_description(alloc)?, words)?;
+    let matches = matches_in(demo_description(alloc), words)?;
     Ok(u64_of(&matches, "NUMBER"))
 }

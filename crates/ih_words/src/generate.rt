@@ -5,7 +5,7 @@ ghost use Rattle.ih_words.specs.Generate.{gen_app, gen_call, gen_in, lawful_gen}
 ghost use Rattle.ih_words.specs.Matches.{HasNumber, HasText, call_by};
 
 use crate::WordsError;
-use crate::arguments::{named, named_number};
+use crate::arguments::{named, named_number, with};
 use crate::matches::{matches_in, text_of, u64_of};
 use clap::{ArgMatches, Command};
 use std::alloc::{AllocError, Global};
@@ -23,9 +23,11 @@ pub struct Gen<'a> {
 fn gen_description<'a>(alloc: Global) -> Result<Command<'a>, AllocError>
     ensures { IfOk result (λ c. app_of c ≡ gen_app) }
 {
-    Command::new(alloc, "gen")
-        .arg(named_number(alloc, "NUMBER"))?
-        .arg(named(alloc, "OUT"))
+    let number = with(
+        Ok(Command::new(alloc, "gen")),
+        named_number(alloc, "NUMBER"),
+    );
+    with(number, named(alloc, "OUT"))
 }
 
 // The values of `gen`.
@@ -46,6 +48,6 @@ pub(crate) fn read_gen<'a>(alloc: Global, words: &'a [String]) -> Result<Gen<'a>
     ensures unlawful { IfErr result
         (λ e. e ≡ WordsError.Unlawful → call_by gen_app lawful_gen (map string_bytes words.entry.now) ≡ None) }
 {
-    let matches = matches_in(gen_description(alloc)?, words)?;
+    let matches = matches_in(gen_description(alloc), words)?;
     Ok(gen_in(&matches))
 }

@@ -1,6 +1,6 @@
 //! What `clap` reads of the words of a command, and the values that it gives to the arguments.
 ghost use Rattle.std.specs.Prelude.{◌≡◌, ◌≤◌, ℕ, IfErr, IfOk, true, false, map, option_map, string_bytes};
-ghost use Rattle.clap.specs.Words.{Rule, app_of, first_of, found_of, is_simple_and_free, matches_of, rows_of};
+ghost use Rattle.clap.specs.Words.{App, Rule, app_of, first_of, found_of, is_simple_and_free, matches_of, rows_of};
 ghost use Rattle.ih_words.specs.Matches.{HasNumber, HasOptions, HasText, IsNumberIfGiven, flag_at, has_no_fault, is_given, number_at, options_in, text_at};
 ghost use Rattle.ih_journal.specs.Settings.{IsLawful, most_entries};
 ghost use Rattle.ih_words.specs.Rules.{Requires, RequiresNumber, TakesNumber, has_independent_rules};
@@ -8,32 +8,32 @@ ghost use Rattle.ih_words.specs.Rules.{Requires, RequiresNumber, TakesNumber, ha
 use crate::WordsError;
 use clap::ArgMatches;
 use ih_journal::{MAX_ENTRIES, MAX_RETRIES, Options};
+use std::alloc::AllocError;
 
-// What `clap` reads of the words of a command.
+// What `clap` reads of the words of a command with this description.
 pub(crate) fn matches_in<'a>(
-    description: clap::Command<'a>,
+    description: Result<clap::Command<'a>, AllocError>,
     words: &'a [String],
 ) -> Result<ArgMatches<'a>, WordsError>
-    requires simple { is_simple_and_free (app_of description) ≡ true }
-    requires independent { has_independent_rules (app_of description) ≡ true }
-    ensures no_fault { IfOk result
-        (λ m. has_no_fault (app_of description.entry) (map string_bytes words.entry.now) ≡ true) }
-    ensures rows { IfOk result
-        (λ m. rows_of (found_of m) ≡ matches_of (app_of description.entry) (map string_bytes words.entry.now)) }
+    ghost app: { App }
+    requires described { IfOk description (λ d. app_of d ≡ app) }
+    requires simple { is_simple_and_free app ≡ true }
+    requires independent { has_independent_rules app ≡ true }
+    ensures no_fault { IfOk result (λ m. has_no_fault app (map string_bytes words.entry.now) ≡ true) }
+    ensures rows { IfOk result (λ m. rows_of (found_of m) ≡ matches_of app (map string_bytes words.entry.now)) }
     ensures texts { IfOk result
-        (λ m. (k : ℕ) (rule : Rule) → Requires (app_of description.entry) k rule
-        → HasText rule.id (rows_of (found_of m))) }
+        (λ m. (k : ℕ) (rule : Rule) → Requires app k rule → HasText rule.id (rows_of (found_of m))) }
     ensures numbers { IfOk result
-        (λ m. (k : ℕ) (rule : Rule) (low high : ℕ) → RequiresNumber (app_of description.entry) k rule low high
+        (λ m. (k : ℕ) (rule : Rule) (low high : ℕ) → RequiresNumber app k rule low high
         → HasNumber low high rule.id (rows_of (found_of m))) }
     ensures optional { IfOk result
-        (λ m. (k : ℕ) (rule : Rule) (low high : ℕ) → TakesNumber (app_of description.entry) k rule low high
+        (λ m. (k : ℕ) (rule : Rule) (low high : ℕ) → TakesNumber app k rule low high
         → IsNumberIfGiven low high rule.id (rows_of (found_of m))) }
     ensures unlawful { IfErr result
-        (λ e. e ≡ WordsError.Unlawful → has_no_fault (app_of description.entry) (map string_bytes words.entry.now)
-        ≡ false) }
+        (λ e. e ≡ WordsError.Unlawful → has_no_fault app (map string_bytes words.entry.now) ≡ false) }
 {
-    let matches = description.try_get_matches_from(words)?;
+    let command = description?;
+    let matches = command.try_get_matches_from(words)?;
     Ok(matches)
 }
 

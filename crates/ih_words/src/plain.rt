@@ -6,7 +6,7 @@ ghost use Rattle.ih_journal.specs.Settings.{IsLawful, most_entries};
 ghost use Rattle.ih_words.specs.Plain.{HasPlain, IsPlain, is_lawful_plain, plain_app, plain_search_in};
 ghost use Rattle.ih_words.specs.Solve.{solve_call};
 
-use crate::arguments::{flag, numbered_option, optional};
+use crate::arguments::{flag, numbered_option, optional, with};
 use crate::file_names::names_differ;
 use crate::matches::{flag_of, optional_text_of, options_in, text_of};
 use crate::solve::{Solve, search_description};
@@ -25,10 +25,10 @@ pub(crate) fn plain_description<'a>(
 ) -> Result<Command<'a>, AllocError>
     ensures { IfOk result (λ c. app_of c ≡ plain_app name.entry.now id.entry.now high) }
 {
-    search_description(alloc, name)?
-        .arg(numbered_option(alloc, id, 1, high))?
-        .arg(optional(alloc, "start"))?
-        .arg(flag(alloc, "fill"))
+    let search = search_description(alloc, name);
+    let number = with(search, numbered_option(alloc, id, 1, high));
+    let start = with(number, optional(alloc, "start"));
+    with(start, flag(alloc, "fill"))
 }
 
 // The search.

@@ -5,7 +5,7 @@ ghost use Rattle.ih_words.specs.Matches.{HasNames, IsNumberIfGiven, call_by};
 ghost use Rattle.ih_words.specs.Replay.{lawful_replay, replay_app, replay_call, replay_in};
 
 use crate::WordsError;
-use crate::arguments::named;
+use crate::arguments::{named, with};
 use crate::file_names::names_differ;
 use crate::matches::{matches_in, text_of};
 use crate::start::{MAX_FREEZE, Start, freezes_a_file, start_in, with_start};
@@ -29,11 +29,10 @@ pub struct Replay<'a> {
 fn replay_description<'a>(alloc: Global, name: &'a str) -> Result<Command<'a>, AllocError>
     ensures { IfOk result (λ c. app_of c ≡ replay_app name.entry.now) }
 {
-    let files = Command::new(alloc, name)
-        .arg(named(alloc, "INSTANCE"))?
-        .arg(named(alloc, "JOURNAL"))?
-        .arg(named(alloc, "OUT"))?;
-    with_start(alloc, files)
+    let instance = with(Ok(Command::new(alloc, name)), named(alloc, "INSTANCE"));
+    let journal = with(instance, named(alloc, "JOURNAL"));
+    let out = with(journal, named(alloc, "OUT"));
+    with_start(alloc, out)
 }
 
 // The values of `replay` or `salvage`.
@@ -83,6 +82,7 @@ pub(crate) fn read_replay<'a>(
         (λ e. e ≡ WordsError.Unlawful
         → call_by (replay_app name.entry.now) lawful_replay (map string_bytes words.entry.now) ≡ None) }
 {
-    let matches = matches_in(replay_description(alloc, name)?, words)?;
+    let command = replay_description(alloc, name)?;
+    let matches = matches_in(Ok(command), words)?;
     lawful_replay(&matches).ok_or(WordsError::Unlawful)
 }

@@ -55,6 +55,6 @@ pub(crate) fn read_rounds<'a>(alloc: Global, words: &'a [String]) -> Result<Roun
     ensures unlawful { IfErr result
         (λ e. e ≡ WordsError.Unlawful → call_by rounds_app lawful_rounds (map string_bytes words.entry.now) ≡ None) }
 {
-    let matches = matches_in(rounds_description(alloc)?, words)?;
+    let matches = matches_in(rounds_description(alloc), words)?;
     lawful_rounds(&matches).ok_or(WordsError::Unlawful)
 }

@@ -6,7 +6,7 @@ ghost use Rattle.ih_journal.specs.Settings.{IsLawful, most_entries};
 ghost use Rattle.ih_words.specs.Solve.{is_lawful_solve, lawful_solve, search_app, solve_app, solve_call, solve_in};
 
 use crate::WordsError;
-use crate::arguments::{named, optional_number, with_options};
+use crate::arguments::{named, optional_number, with, with_options};
 use crate::file_names::names_differ;
 use crate::matches::{matches_in, optional_u32_of, options_in, text_of};
 use crate::start::{MAX_FREEZE, Start, freezes_a_file, start_in, with_start};
@@ -36,23 +36,19 @@ pub(crate) fn search_description<'a>(
 ) -> Result<Command<'a>, AllocError>
     ensures { IfOk result (λ c. app_of c ≡ search_app name.entry.now) }
 {
-    let files = Command::new(alloc, name)
-        .arg(named(alloc, "INSTANCE"))?
-        .arg(named(alloc, "OUT"))?
-        .arg(named(alloc, "JOURNAL"))?;
-    with_options(alloc, files)
+    let instance = with(Ok(Command::new(alloc, name)), named(alloc, "INSTANCE"));
+    let out = with(instance, named(alloc, "OUT"));
+    let journal = with(out, named(alloc, "JOURNAL"));
+    with_options(alloc, journal)
 }
 
 // `solve INSTANCE OUT JOURNAL` and the options of a search, of which only the last four may be left out.
 fn solve_description<'a>(alloc: Global) -> Result<Command<'a>, AllocError>
     ensures { IfOk result (λ c. app_of c ≡ solve_app) }
 {
-    let search = search_description(alloc, "solve")?.arg(optional_number(
-        alloc,
-        "retries",
-        MAX_RETRIES,
-    ))?;
-    with_start(alloc, search)
+    let search = search_description(alloc, "solve");
+    let retries = with(search, optional_number(alloc, "retries", MAX_RETRIES));
+    with_start(alloc, retries)
 }
 
 // The values of `solve`.
@@ -108,6 +104,6 @@ pub(crate) fn read_solve<'a>(alloc: Global, words: &'a [String]) -> Result<Solve
     ensures unlawful { IfErr result
         (λ e. e ≡ WordsError.Unlawful → call_by solve_app lawful_solve (map string_bytes words.entry.now) ≡ None) }
 {
-    let matches = matches_in(solve_description(alloc)?, words)?;
+    let matches = matches_in(solve_description(alloc), words)?;
     lawful_solve(&matches).ok_or(WordsError::Unlawful)
 }

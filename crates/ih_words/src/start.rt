@@ -1,10 +1,10 @@
 //! What a search starts from, and the first day whose choices it may change: `--start F`, `--freeze DAY` and `--fill`.
 ghost use Rattle.std.specs.Prelude.{◌≡◌, IfOk, codes};
-ghost use Rattle.clap.specs.Words.{app_of, found_of, rows_of};
+ghost use Rattle.clap.specs.Words.{App, app_of, found_of, rows_of};
 ghost use Rattle.ih_words.specs.Matches.{IsNumberIfGiven};
 ghost use Rattle.ih_words.specs.Start.{freezes_a_file, start_call, start_in, with_start};
 
-use crate::arguments::{flag, optional, optional_number};
+use crate::arguments::{flag, optional, optional_number, with};
 use crate::matches::{flag_of, is_given, optional_text_of, optional_u32_of};
 use clap::{ArgMatches, Command};
 use std::alloc::{AllocError, Global};
@@ -23,14 +23,16 @@ pub struct Start<'a> {
     pub freeze: u32,
 }
 
-// The command with `--start F`, `--freeze DAY` and `--fill`.
-pub(crate) fn with_start<'a>(alloc: Global, command: Command<'a>) -> Result<Command<'a>, AllocError>
-    ensures { IfOk result (λ c. app_of c ≡ with_start (app_of command.entry)) }
+// The description with `--start F`, `--freeze DAY` and `--fill`.
+pub(crate) fn with_start<'a>(
+    alloc: Global,
+    description: Result<Command<'a>, AllocError>,
+) -> Result<Command<'a>, AllocError>
+    ensures { (app : App) → IfOk description.entry (λ c. app_of c ≡ app) → IfOk result (λ c. app_of c ≡ with_start app) }
 {
-    command
-        .arg(optional(alloc, "start"))?
-        .arg(optional_number(alloc, "freeze", MAX_FREEZE))?
-        .arg(flag(alloc, "fill"))
+    let start = with(description, optional(alloc, "start"));
+    let freeze = with(start, optional_number(alloc, "freeze", MAX_FREEZE));
+    with(freeze, flag(alloc, "fill"))
 }
 
 // What the search starts from.

@@ -1,47 +1,41 @@
-use Rattle.std.proofs.Common.{◌∙◌, ap, codes, refl}
-use Rattle.clap.specs.Words.{is_simple_and_free}
+use Rattle.std.proofs.Common.{codes, refl}
 use Rattle.clap.proofs.OnLiterals.{clap_on_literals}
 use Rattle.ih_journal.specs.declared.settings.TheConstants.{MAX_HARD, MAX_HEAT, MAX_MOVES, MAX_RETRIES, MAX_WORKERS}
 use Rattle.ih_words.specs.Arguments.{named, numbered_option, optional_number, seed_option}
 use Rattle.ih_words.specs.Distinct.{all_differ}
-use Rattle.ih_words.specs.Rules.{has_independent_rules}
 use Rattle.ih_words.specs.Solve.{solve_app}
 use Rattle.ih_words.specs.declared.start.TheConstants.{MAX_FREEZE}
 use Rattle.ih_words.proofs.DescriptionRules.{requires_name, requires_number, takes_number}
 use Rattle.ih_words.proofs.solve.read_solve.Goals as goal
 
-pub matches_in-requires-clause-simple : goal.matches_in-requires-clause-simple
-unfolding clap_on_literals solve_app
-matches_in-requires-clause-simple c = ap is_simple_and_free c.in_ok-solve_description.ensures ∙ refl
-
-pub matches_in-requires-clause-independent : goal.matches_in-requires-clause-independent
+pub matches_in-requires : goal.matches_in-requires
 unfolding clap_on_literals solve_app all_differ
-matches_in-requires-clause-independent c = ap has_independent_rules c.in_ok-solve_description.ensures ∙ refl
+matches_in-requires c = (c.solve_description.ensures, (refl, refl))
 
 pub lawful_solve-requires-clause-names : goal.lawful_solve-requires-clause-names
 unfolding solve_app
-lawful_solve-requires-clause-names c = let is = c.in_ok-solve_description.ensures in record {
-  first = c.in_ok-matches.ensures.texts 0 (named (codes "INSTANCE")) (requires_name is refl);
-  second = c.in_ok-matches.ensures.texts 1 (named (codes "OUT")) (requires_name is refl);
-  third = c.in_ok-matches.ensures.texts 2 (named (codes "JOURNAL")) (requires_name is refl);
+lawful_solve-requires-clause-names c = record {
+  first = c.in_ok-matches.ensures.texts 0 (named (codes "INSTANCE")) (requires_name refl);
+  second = c.in_ok-matches.ensures.texts 1 (named (codes "OUT")) (requires_name refl);
+  third = c.in_ok-matches.ensures.texts 2 (named (codes "JOURNAL")) (requires_name refl);
 }
 
 pub lawful_solve-requires-clause-options : goal.lawful_solve-requires-clause-options
 unfolding solve_app
-lawful_solve-requires-clause-options c = let is = c.in_ok-solve_description.ensures in record {
-  seed = c.in_ok-matches.ensures.numbers 3 seed_option 0 18446744073709551615 (requires_number is refl);
-  workers = c.in_ok-matches.ensures.numbers 4 (numbered_option (codes "workers") 1 MAX_WORKERS) 1 MAX_WORKERS (requires_number is refl);
-  moves = c.in_ok-matches.ensures.numbers 5 (numbered_option (codes "moves") 0 MAX_MOVES) 0 MAX_MOVES (requires_number is refl);
-  heat = c.in_ok-matches.ensures.numbers 6 (numbered_option (codes "heat") 0 MAX_HEAT) 0 MAX_HEAT (requires_number is refl);
-  hard = c.in_ok-matches.ensures.numbers 7 (numbered_option (codes "hard") 0 MAX_HARD) 0 MAX_HARD (requires_number is refl);
+lawful_solve-requires-clause-options c = record {
+  seed = c.in_ok-matches.ensures.numbers 3 seed_option 0 18446744073709551615 (requires_number refl);
+  workers = c.in_ok-matches.ensures.numbers 4 (numbered_option (codes "workers") 1 MAX_WORKERS) 1 MAX_WORKERS (requires_number refl);
+  moves = c.in_ok-matches.ensures.numbers 5 (numbered_option (codes "moves") 0 MAX_MOVES) 0 MAX_MOVES (requires_number refl);
+  heat = c.in_ok-matches.ensures.numbers 6 (numbered_option (codes "heat") 0 MAX_HEAT) 0 MAX_HEAT (requires_number refl);
+  hard = c.in_ok-matches.ensures.numbers 7 (numbered_option (codes "hard") 0 MAX_HARD) 0 MAX_HARD (requires_number refl);
 }
 
 pub lawful_solve-requires-clause-retries : goal.lawful_solve-requires-clause-retries
 unfolding solve_app
 lawful_solve-requires-clause-retries c =
-    c.in_ok-matches.ensures.optional 8 (optional_number (codes "retries") MAX_RETRIES) 0 MAX_RETRIES (takes_number c.in_ok-solve_description.ensures refl)
+    c.in_ok-matches.ensures.optional 8 (optional_number (codes "retries") MAX_RETRIES) 0 MAX_RETRIES (takes_number refl)
 
 pub lawful_solve-requires-clause-freeze : goal.lawful_solve-requires-clause-freeze
 unfolding solve_app
 lawful_solve-requires-clause-freeze c =
-    c.in_ok-matches.ensures.optional 10 (optional_number (codes "freeze") MAX_FREEZE) 0 MAX_FREEZE (takes_number c.in_ok-solve_description.ensures refl)
+    c.in_ok-matches.ensures.optional 10 (optional_number (codes "freeze") MAX_FREEZE) 0 MAX_FREEZE (takes_number refl)
