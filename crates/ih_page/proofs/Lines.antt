@@ -1,15 +1,18 @@
--- A text of n pieces behind another.
-use Rattle.std.proofs.Common.{◌≡◌, ℕ, ◌+◌, sym, append_assoc, add-one, List, ◌++◌}
+-- A text of n pieces behind another: what a loop over the pieces keeps.
+use Rattle.std.proofs.Common.{◌≡◌, ◌∙◌, ℕ, ◌+◌, ap, sym, append_assoc, add-one, List, ◌++◌}
 use Rattle.std.proofs.lemmas.List.{append-nil}
 use Rattle.ih_validate.specs.Report.{lines_below}
 
-pub none-so-far : (first : List ℕ) (f : ℕ → List ℕ) → first ++ lines_below 0 f ≡ first
+-- at its start
+pub no-lines : (first : List ℕ) (f : ℕ → List ℕ) → first ≡ first ++ lines_below 0 f
 unfolding lines_below
-none-so-far first f = append-nil first
+no-lines first f = sym (append-nil first)
 
--- one piece more
-pub one-more : (first : List ℕ) (n : ℕ) (f : ℕ → List ℕ) → first ++ lines_below (n + 1) f ≡ (first ++ lines_below n f) ++ f n
+one-more : (first : List ℕ) (n : ℕ) (f : ℕ → List ℕ) → first ++ lines_below (n + 1) f ≡ (first ++ lines_below n f) ++ f n
 unfolding lines_below
 one-more first n f = rw add-one (sym (append_assoc first (lines_below n f) (f n)))
 
-pub ruleset text_steps = (none-so-far, one-more)
+-- with each piece that it puts
+pub some-more : (first before after : List ℕ) (n : ℕ) (f : ℕ → List ℕ) → before ≡ first ++ lines_below n f → after ≡ before ++ f n
+    → after ≡ first ++ lines_below (n + 1) f
+some-more first before after n f so_far put = put ∙ (ap (λ xs. xs ++ f n) so_far ∙ sym (one-more first n f))

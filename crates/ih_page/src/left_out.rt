@@ -57,7 +57,6 @@ fn put_row_of(out: &mut Vec<u8>, inst: &Instance, plan: &Plan, p: u32) -> Result
     }
 }
 
-#[tactic(auto, using(crate::proofs::Lines::text_steps))]
 fn put_rows(out: &mut Vec<u8>, inst: &Instance, plan: &Plan) -> Result<(), AllocError>
     requires { IsPlanOf inst.now.draft plan.now }
     ensures { OnOk result

@@ -55,7 +55,6 @@ fn put_cell(
     )
 }
 
-#[tactic(auto, using(crate::proofs::Lines::text_steps))]
 fn put_cells(out: &mut Vec<u8>, inst: &Instance, plan: &Plan, n: u32) -> Result<(), AllocError>
     requires plan { IsPlanOf inst.now.draft plan.now }
     requires nurse { n < nurse_count inst.now.draft }
@@ -90,7 +89,6 @@ fn put_row(out: &mut Vec<u8>, inst: &Instance, plan: &Plan, n: u32) -> Result<()
     put(out, "\n")
 }
 
-#[tactic(auto, using(crate::proofs::Lines::text_steps))]
 fn put_rows(out: &mut Vec<u8>, inst: &Instance, plan: &Plan) -> Result<(), AllocError>
     requires { IsPlanOf inst.now.draft plan.now }
     ensures { OnOk result
@@ -110,7 +108,6 @@ fn put_day(out: &mut Vec<u8>, d: u32) -> Result<(), AllocError>
     put_number(out, d as u64)
 }
 
-#[tactic(auto, using(crate::proofs::Lines::text_steps))]
 fn put_days(out: &mut Vec<u8>, inst: &Instance) -> Result<(), AllocError>
     ensures { OnOk result (out.new.items ≡ out.old.items ++ lines_below inst.now.draft.days wide_day) }
 {

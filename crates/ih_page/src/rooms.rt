@@ -119,7 +119,6 @@ fn put_occupant_in(out: &mut Vec<u8>, inst: &Instance, r: u32, o: u32) -> Result
     }
 }
 
-#[tactic(auto, using(crate::proofs::Lines::text_steps))]
 fn put_occupants(out: &mut Vec<u8>, inst: &Instance, r: u32) -> Result<(), AllocError>
     ensures { OnOk result
         (out.new.items ≡ out.old.items ++ lines_below (occupant_count inst.now.draft) (occupant_in inst.now.draft r)) }
@@ -130,7 +129,6 @@ fn put_occupants(out: &mut Vec<u8>, inst: &Instance, r: u32) -> Result<(), Alloc
     Ok(())
 }
 
-#[tactic(auto, using(crate::proofs::Lines::text_steps))]
 fn put_patients(out: &mut Vec<u8>, inst: &Instance, plan: &Plan, r: u32) -> Result<(), AllocError>
     requires { IsPlanOf inst.now.draft plan.now }
     ensures { OnOk result
@@ -163,7 +161,6 @@ fn put_count(
     )
 }
 
-#[tactic(auto, using(crate::proofs::Lines::text_steps))]
 fn put_counts(out: &mut Vec<u8>, inst: &Instance, plan: &Plan, r: u32) -> Result<(), AllocError>
     requires plan { IsPlanOf inst.now.draft plan.now }
     requires room { r < room_count inst.now.draft }
@@ -194,7 +191,6 @@ fn put_care(
     put_nurse(out, inst, plan.care(RoomNo(r), Shift(k)))
 }
 
-#[tactic(auto, using(crate::proofs::Lines::text_steps))]
 fn put_cares(
     out: &mut Vec<u8>,
     inst: &Instance,
@@ -234,7 +230,6 @@ fn put_shift(
     put(out, "\n")
 }
 
-#[tactic(auto, using(crate::proofs::Lines::text_steps))]
 fn put_shifts(out: &mut Vec<u8>, inst: &Instance, plan: &Plan, r: u32) -> Result<(), AllocError>
     requires plan { IsPlanOf inst.now.draft plan.now }
     requires room { r < room_count inst.now.draft }
@@ -254,7 +249,6 @@ fn put_day(out: &mut Vec<u8>, d: u32) -> Result<(), AllocError>
 }
 
 /// Appends the days as the heads of columns.
-#[tactic(auto, using(crate::proofs::Lines::text_steps))]
 pub fn put_days(out: &mut Vec<u8>, inst: &Instance) -> Result<(), AllocError>
     ensures { OnOk result (out.new.items ≡ out.old.items ++ lines_below inst.now.draft.days day_head) }
 {
@@ -320,7 +314,6 @@ fn put_room(out: &mut Vec<u8>, inst: &Instance, plan: &Plan, r: u32) -> Result<(
     put(out, "</table></div>\n")
 }
 
-#[tactic(auto, using(crate::proofs::Lines::text_steps))]
 fn put_all_rooms(out: &mut Vec<u8>, inst: &Instance, plan: &Plan) -> Result<(), AllocError>
     requires { IsPlanOf inst.now.draft plan.now }
     ensures { OnOk result

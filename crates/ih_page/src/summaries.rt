@@ -145,7 +145,7 @@ fn put_cost(out: &mut Vec<u8>, i: usize, x: i64, w: i64) -> Result<(), AllocErro
     put_product(out, x, w)
 }
 
-#[tactic(auto, using(crate::proofs::Lines::text_steps), unfolding(crate::specs::Summary::rule_rows))]
+#[tactic(auto, unfolding(crate::specs::Summary::rule_rows))]
 fn put_rules(out: &mut Vec<u8>, bill: &Bill) -> Result<(), AllocError>
     ensures { OnOk result (out.new.items ≡ out.old.items ++ rule_rows bill.now) }
 {
@@ -155,7 +155,7 @@ fn put_rules(out: &mut Vec<u8>, bill: &Bill) -> Result<(), AllocError>
     Ok(())
 }
 
-#[tactic(auto, using(crate::proofs::Lines::text_steps), unfolding(crate::specs::Summary::cost_rows))]
+#[tactic(auto, unfolding(crate::specs::Summary::cost_rows))]
 fn put_costs(out: &mut Vec<u8>, inst: &Instance, bill: &Bill) -> Result<(), AllocError>
     requires { IsWithin (10 ^ 11) bill.now }
     ensures { OnOk result (out.new.items ≡ out.old.items ++ cost_rows inst.now.draft.weights bill.now) }

@@ -186,7 +186,6 @@ fn put_operation(
     }
 }
 
-#[tactic(auto, using(crate::proofs::Lines::text_steps))]
 fn put_operations(
     out: &mut Vec<u8>,
     inst: &Instance,
@@ -242,7 +241,6 @@ fn put_cell(
     put_surgery(out, inst, plan, w, d, planned(inst, plan, w, d))
 }
 
-#[tactic(auto, using(crate::proofs::Lines::text_steps))]
 fn put_cells(out: &mut Vec<u8>, inst: &Instance, plan: &Plan, w: Whose) -> Result<(), AllocError>
     requires plan { IsPlanOf inst.now.draft plan.now }
     requires whose { IsWhoseOf inst.now.draft w }
@@ -267,7 +265,6 @@ fn put_row(out: &mut Vec<u8>, inst: &Instance, plan: &Plan, w: Whose) -> Result<
     put(out, "\n")
 }
 
-#[tactic(auto, using(crate::proofs::Lines::text_steps))]
 fn put_theatre_rows(out: &mut Vec<u8>, inst: &Instance, plan: &Plan) -> Result<(), AllocError>
     requires { IsPlanOf inst.now.draft plan.now }
     ensures { OnOk result
@@ -281,7 +278,6 @@ fn put_theatre_rows(out: &mut Vec<u8>, inst: &Instance, plan: &Plan) -> Result<(
     Ok(())
 }
 
-#[tactic(auto, using(crate::proofs::Lines::text_steps))]
 fn put_surgeon_rows(out: &mut Vec<u8>, inst: &Instance, plan: &Plan) -> Result<(), AllocError>
     requires { IsPlanOf inst.now.draft plan.now }
     ensures { OnOk result

@@ -228,7 +228,6 @@ fn put_line_list(
     )
 }
 
-#[tactic(auto, using(crate::proofs::Lines::text_steps))]
 fn put_rule_lists(
     alloc: Global,
     out: &mut Vec<u8>,
@@ -247,7 +246,6 @@ fn put_rule_lists(
     Ok(())
 }
 
-#[tactic(auto, using(crate::proofs::Lines::text_steps))]
 fn put_cost_lists(
     alloc: Global,
     out: &mut Vec<u8>,
@@ -295,6 +293,8 @@ pub fn put_wrong(
     requires bill { bill.now ≡ bill_of inst.now.draft plan.now }
     ensures { OnOk result (out.new.items ≡ out.old.items ++ wrong_text inst.now.draft plan.now) }
 {
-    let ledgers = Ledgers::new(alloc, inst, plan)?;
-    put_lists(alloc, out, inst, &ledgers, bill)
+    match Ledgers::new(alloc, inst, plan) {
+        Ok(ledgers) => put_lists(alloc, out, inst, &ledgers, bill),
+        Err(e) => Err(e),
+    }
 }
