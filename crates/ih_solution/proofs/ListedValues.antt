@@ -1,5 +1,5 @@
 -- What one more number makes of a list of values.
-use Rattle.std.proofs.Common.{◌≡◌, ℕ, ◌+◌, refl, arith, add-one, Bool, true, false, List, [], ◌∷◌, ◌++◌, map, length}
+use Rattle.std.proofs.Common.{◌≡◌, ℕ, ◌+◌, refl, sym, arith, add-one, Bool, true, false, List, [], ◌∷◌, ◌++◌, map, length}
 use Rattle.std.specs.Prelude.{if◌then◌else◌, ◌==◌}
 use Rattle.std.specs.List.{range_with_len}
 use Rattle.std.proofs.lemmas.List.{map-append}
@@ -35,6 +35,11 @@ listed-zero f = refl
 
 pub listed-more : (f : ℕ → Data) (n : ℕ) → map f (range_with_len 0 (n + 1)) ≡ map f (range_with_len 0 n) ++ f n ∷ []
 listed-more f n = map-range_with_len_more f 0 n n (omega arith)
+
+-- what a loop over a list keeps with one value more
+pub listed-made : (f : ℕ → Data) (n : ℕ) (before after : List Value) (v : Value) → map view before ≡ map f (range_with_len 0 n)
+    → view v ≡ f n → after ≡ before ++ v ∷ [] → map view after ≡ map f (range_with_len 0 (n + 1))
+listed-made f n before after v so_far is pushed = rw (pushed, views-more before v, so_far, is) (sym (listed-more f n))
 
 -- Values stand for numbers: there are none of the one exactly where there are none of the other.
 pub empty-views : (f : ℕ → Data) (xs : List ℕ) (vs : List Value) (count : ℕ) → count ≡ length vs → map view vs ≡ map f xs → (count == 0) ≡ is_empty xs

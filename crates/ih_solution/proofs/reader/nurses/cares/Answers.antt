@@ -1,0 +1,5 @@
+use Rattle.std.proofs.Common.{rules}
+use Rattle.ih_solution.proofs.reader.nurses.cares.Goals as goal
+
+pub returns-clause-gives : goal.returns-clause-gives
+returns-clause-gives c = rw (← c.in_ok-value.ensures, ← c.key-at.ensures, c.in_ok-items.ensures.gives) (search rules)
