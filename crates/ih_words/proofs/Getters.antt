@@ -4,13 +4,13 @@ use Rattle.std.specs.Prelude.{IsSome, unwrap_or}
 use Rattle.std.specs.Borrow.{Bor}
 use Rattle.std.specs.Option.{option_map_or}
 use Rattle.std.specs.Str.{bytes_eq}
-use Rattle.std.specs.Str.Parse.{ParsesBool, ParsesUnsigned, digits_value, without_leading_plus}
+use Rattle.std.specs.Str.Parse.{ExplainsUnsignedError, HasUnsignedDigitsIfOk, ParsesBool, ParsesUnsigned, digits_value, without_leading_plus}
 use Rattle.std.proofs.lemmas.Slice.Eq.{bytes_eq-Decides}
 use Rattle.clap.specs.Words.{Text, IsUnsignedIn, first_of, first_value, one_of, one_text, rows_of}
 use Rattle.clap.specs.Matches.{ReadsOne}
 use Rattle.clap.specs.declared.parser.matches.Found.{Found}
 use Rattle.clap.proofs.WalkLemmas.{first_value-rows, one_text-rows}
-use Rattle.ih_words.specs.Matches.{IsNumberIfGiven, flag_at, number_at, number_of, text_at}
+use Rattle.ih_words.specs.Matches.{HasNumber, IsNumberIfGiven, flag_at, number_at, number_of, text_at}
 
 -- the text that `get_str` gives
 pub text_read : (o : Option (Bor Text)) (f : Found) (id t : Text) → option_map (λ s. s.now) o ≡ first_value f id
@@ -43,6 +43,17 @@ pub number_read : (E : Type 0) (G : List ℕ → Result ℕ E → Type 0) (k low
 number_read E G k low high f id t o found passed fits only read =
     reads_number E G k low high t o passed fits only (read t (one_text-rows f id ∙ found))
     ∙ ap (λ w. Some (option_map_or number_of w 0)) (sym found)
+
+-- the same of a number of at most k bits, which is there
+pub unsigned_read : (k high : ℕ) (f : Found) (id : Text) (o : Option ℕ) → HasNumber 0 high id (rows_of f) → high < 2 ^ k
+    → ((u : List ℕ) → one_text f id ≡ Some u
+    → ReadsOne (λ bs r. ParsesUnsigned k 10 bs r × ExplainsUnsignedError 10 bs r × HasUnsignedDigitsIfOk bs r) u o)
+    → IsSome o × ((n : ℕ) → o ≡ Some n → n ≡ number_at id (rows_of f))
+unsigned_read k high f id o has fits read =
+    let is : o ≡ Some (number_at id (rows_of f)) =
+    number_read _ (λ bs r. ParsesUnsigned k 10 bs r × ExplainsUnsignedError 10 bs r × HasUnsignedDigitsIfOk bs r) k 0 high f id
+    has.0 o has.1 has.2 fits (λ u x g. g.0) read in
+    (rw is refl, λ n some. ap (λ w. unwrap_or w 0) (sym some ∙ is))
 
 -- the number that `get_one` gives of an argument that may be left out
 pub optional_number_read : (E : Type 0) (G : List ℕ → Result ℕ E → Type 0) (k low high : ℕ) (f : Found) (id : Text) (o : Option ℕ)
