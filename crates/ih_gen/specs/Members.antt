@@ -20,6 +20,10 @@ person_members letter n a skills workloads =
     (member (codes "skill_level_required") (list_data skills)
     (member (codes "workload_produced") (list_data workloads) no_members)))))
 
+-- the days and the skill levels
+abbrev pub sizes_data : ℕ → Data
+sizes_data days = object (member (codes "days") (number_data days) (member (codes "skill_levels") (number_data 3) no_members))
+
 -- what all generated instances have alike
 abbrev pub fixed_data : ℕ → Data
 fixed_data days = object

@@ -3,8 +3,9 @@
 ghost use Rattle.std.specs.Prelude.{◌≡◌, IfOk};
 ghost use Rattle.serde_json.specs.View.{view};
 ghost use Rattle.ih_gen.specs.Generated.{each_day, surgeon_data, theatre_data, numbered, age_groups_data, shift_types_data, weights_data};
-ghost use Rattle.ih_gen.specs.Members.{fixed_data};
+ghost use Rattle.ih_gen.specs.Members.{fixed_data, sizes_data};
 
+use crate::members::with_member;
 use crate::names::{age_name, id_value, shift_name};
 use serde_json::{Value, json};
 use std::alloc::{AllocError, Global};
@@ -91,22 +92,27 @@ fn weights(alloc: Global) -> Result<Value, AllocError>
     })
 }
 
+// The number of days and of skill levels.
+fn sizes(alloc: Global, days: u32) -> Result<Value, AllocError>
+    ensures { IfOk result (λ v. view v ≡ sizes_data days) }
+{
+    json!(in alloc; {"days": days, "skill_levels": 3u32})
+}
+
 /// Days, names, operating theatres, surgeons and weights.
 pub fn fixed_value(alloc: Global, days: u32) -> Result<Value, AllocError>
     ensures { IfOk result (λ v. view v ≡ fixed_data days) }
 {
-    let age_groups = age_groups(alloc)?;
+    // One part at a time, so that few values are held at once.
+    let sized = sizes(alloc, days)?;
+    let groups = age_groups(alloc)?;
+    let grouped = with_member(alloc, sized, "age_groups", groups)?;
     let theatres = theatres(alloc, days, 5)?;
-    let shift_types = shift_types(alloc)?;
+    let equipped = with_member(alloc, grouped, "operating_theaters", theatres)?;
+    let types = shift_types(alloc)?;
+    let timed = with_member(alloc, equipped, "shift_types", types)?;
     let surgeons = surgeons(alloc, days, 10)?;
+    let staffed = with_member(alloc, timed, "surgeons", surgeons)?;
     let weights = weights(alloc)?;
-    json!(in alloc; {
-        "age_groups": age_groups,
-        "days": days,
-        "operating_theaters": theatres,
-        "shift_types": shift_types,
-        "skill_levels": 3u32,
-        "surgeons": surgeons,
-        "weights": weights,
-    })
+    with_member(alloc, staffed, "weights", weights)
 }

@@ -23,14 +23,14 @@ fn generated_value(alloc: Global, number: u64) -> Result<Value, AllocError>
     ensures { IfOk result (λ v. view v ≡ generated_data number) }
 {
     let mut picks = Picks::of(number);
-    let rooms = room_values(alloc, &mut picks, 25)?;
-    let nurses = nurse_values(alloc, &mut picks, DAYS, 50)?;
-    let occupants = occupant_values(alloc, &mut picks, 3)?;
-    let patients = patient_values(alloc, &mut picks, DAYS, 400)?;
     let fixed = fixed_value(alloc, DAYS)?;
+    let rooms = room_values(alloc, &mut picks, 25)?;
     let housed = with_member(alloc, fixed, "rooms", Value::Array(rooms))?;
+    let nurses = nurse_values(alloc, &mut picks, DAYS, 50)?;
     let staffed = with_member(alloc, housed, "nurses", Value::Array(nurses))?;
+    let occupants = occupant_values(alloc, &mut picks, 3)?;
     let occupied = with_member(alloc, staffed, "occupants", Value::Array(occupants))?;
+    let patients = patient_values(alloc, &mut picks, DAYS, 400)?;
     with_member(alloc, occupied, "patients", Value::Array(patients))
 }
 

@@ -56,13 +56,13 @@ fn picked_value(
     let person = person_value(alloc, "p", p, &picked.person, needs)?;
     let room = id_value(alloc, "r", picked.incompatible_room)?;
     let rooms = json!(in alloc; [room])?;
-    let surgeon = id_value(alloc, "s", (p / 20 + p % 20) % 10)?;
-    let duration = Value::from(picked.duration);
-    let release = Value::from(picked.release_day);
     let barred = with_member(alloc, person, "incompatible_room_ids", rooms)?;
     let graded = with_member(alloc, barred, "mandatory", Value::Bool(p % 20 == 0))?;
+    let surgeon = id_value(alloc, "s", (p / 20 + p % 20) % 10)?;
     let assigned = with_member(alloc, graded, "surgeon_id", surgeon)?;
+    let duration = Value::from(picked.duration);
     let timed = with_member(alloc, assigned, "surgery_duration", duration)?;
+    let release = Value::from(picked.release_day);
     with_member(alloc, timed, "surgery_release_day", release)
 }
 
