@@ -1,7 +1,8 @@
 //! What wards are made of.
 
 use ih_tables::{
-    Day, Draft, List, Name, Nurse, Patient, Room, RoomNo, Surgeon, Theatre, Weights, WorkedShift,
+    Day, Draft, List, Name, Nurse, Patient, Room, RoomNo, Surgeon, SurgeonNo, Theatre, Weights,
+    WorkedShift,
 };
 use std::alloc::{AllocError, Global};
 
@@ -119,4 +120,38 @@ pub fn fill_in(
     patient.workload_produced = numbers(alloc, workload)?;
     patient.skill_level_required = numbers(alloc, skill)?;
     Ok(())
+}
+
+/// An optional child of one day, whose surgery takes 40 minutes.
+pub fn optional(
+    alloc: Global,
+    id: &str,
+    gender: &str,
+    barred: &[RoomNo],
+    skill: u32,
+) -> Result<Patient, AllocError> {
+    let mut patient = Patient {
+        id: Name::new(String::new(alloc)),
+        mandatory: false,
+        gender: Name::new(String::new(alloc)),
+        age_group: 0,
+        length_of_stay: 1,
+        surgery_release_day: 0,
+        surgery_due_day: None,
+        surgery_duration: 40,
+        surgeon_id: SurgeonNo(0),
+        incompatible_room_ids: List::new(Vec::new(alloc)),
+        workload_produced: List::new(Vec::new(alloc)),
+        skill_level_required: List::new(Vec::new(alloc)),
+    };
+    fill_in(
+        alloc,
+        &mut patient,
+        id,
+        gender,
+        barred,
+        &[1; 3],
+        &[skill; 3],
+    )?;
+    Ok(patient)
 }

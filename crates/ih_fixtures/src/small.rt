@@ -1,8 +1,8 @@
 //! A ward of one day.
 
 use crate::error::FixtureError;
-use crate::parts::{bare, fill_in, name_kinds, nurse, room, surgeons, theatre};
-use ih_tables::{Draft, Instance, List, Name, Patient, SurgeonNo};
+use crate::parts::{bare, name_kinds, nurse, optional, room, surgeons, theatre};
+use ih_tables::{Draft, Instance, List, Patient};
 use std::alloc::{AllocError, Global};
 
 // Puts the room and who works there into a ward.
@@ -22,30 +22,10 @@ fn one_room(alloc: Global) -> Result<Draft, AllocError> {
     Ok(draft)
 }
 
-// An optional patient of one day.
-fn patient(alloc: Global, id: &str) -> Result<Patient, AllocError> {
-    let mut patient = Patient {
-        id: Name::new(String::new(alloc)),
-        mandatory: false,
-        gender: Name::new(String::new(alloc)),
-        age_group: 0,
-        length_of_stay: 1,
-        surgery_release_day: 0,
-        surgery_due_day: None,
-        surgery_duration: 40,
-        surgeon_id: SurgeonNo(0),
-        incompatible_room_ids: List::new(Vec::new(alloc)),
-        workload_produced: List::new(Vec::new(alloc)),
-        skill_level_required: List::new(Vec::new(alloc)),
-    };
-    fill_in(alloc, &mut patient, id, "A", &[], &[1; 3], &[0; 3])?;
-    Ok(patient)
-}
-
 fn patients(alloc: Global, ids: &[&str]) -> Result<List<Patient>, AllocError> {
     let mut items = Vec::new(alloc);
     for id in ids {
-        items.push(patient(alloc, id)?)?;
+        items.push(optional(alloc, id, "A", &[], 0)?)?;
     }
     Ok(List::new(items))
 }

@@ -4,7 +4,9 @@ ghost use Rattle.std.specs.Prelude.{IfOk, IsTrue};
 ghost use Rattle.ih_fixtures.specs.Two.{IsOfTwo};
 
 use crate::error::FixtureError;
-use crate::parts::{bare, fill_in, name, name_kinds, numbers, nurse, room, surgeons, theatre};
+use crate::parts::{
+    bare, fill_in, name, name_kinds, numbers, nurse, optional, room, surgeons, theatre,
+};
 use ih_tables::{
     Draft, Instance, List, Name, Nurse, Occupant, Patient, Room, RoomNo, SurgeonNo, Theatre,
 };
@@ -85,29 +87,10 @@ fn mandatory(alloc: Global) -> Result<Patient, AllocError> {
     Ok(patient)
 }
 
-fn optional(alloc: Global, barred: &[RoomNo]) -> Result<Patient, AllocError> {
-    let mut patient = Patient {
-        id: Name::new(String::new(alloc)),
-        mandatory: false,
-        gender: Name::new(String::new(alloc)),
-        age_group: 0,
-        length_of_stay: 1,
-        surgery_release_day: 0,
-        surgery_due_day: None,
-        surgery_duration: 40,
-        surgeon_id: SurgeonNo(0),
-        incompatible_room_ids: List::new(Vec::new(alloc)),
-        workload_produced: List::new(Vec::new(alloc)),
-        skill_level_required: List::new(Vec::new(alloc)),
-    };
-    fill_in(alloc, &mut patient, "p1", "B", barred, &[1; 3], &[2; 3])?;
-    Ok(patient)
-}
-
 fn patients(alloc: Global, barred: &[RoomNo]) -> Result<List<Patient>, AllocError> {
     let mut items = Vec::new(alloc);
     items.push(mandatory(alloc)?)?;
-    items.push(optional(alloc, barred)?)?;
+    items.push(optional(alloc, "p1", "B", barred, 2)?)?;
     Ok(List::new(items))
 }
 
