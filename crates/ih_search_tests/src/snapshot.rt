@@ -10,29 +10,27 @@ ghost use Rattle.ih_cellbook.specs.Replicas.{IsReplicaIn};
 ghost use Rattle.ih_cellbook.specs.Snapshot.{Snapshot};
 
 use crate::rounds::{catch_up, offer, rests_on};
-use crate::steps::{
-    FIRST_NURSE, JOIN, SECOND_NURSE, TWICE_STALE, have_prices, hot, is, is_in_range,
-};
+use crate::steps::{FIRST_NURSE, JOIN, SECOND_NURSE, TWICE_STALE, have_prices, hot, is};
 use ih_cellbook::{Book, Buffer, News};
 use ih_costs::Ledgers;
 use ih_fixtures::on_first_admitted;
 use ih_footprint::Numbering;
-use ih_journal::{Options, Verdict};
-use ih_plan::{Move, Placement, Plan};
+use ih_journal::{Options, Verdict, parse_move};
+use ih_plan::Plan;
 use ih_snapshot::Replica;
-use ih_tables::{Bill, Cell, Day, Instance, PatientNo, RoomNo, Shift, TheatreNo};
+use ih_tables::{Bill, Cell, Instance, RoomNo, Shift};
 use std::alloc::{AllocError, Global};
 
 /// Threads share replicas.
 fn share<T: Send + Sync>(_x: &T) {}
 
-/// What a worker does: it takes over what is new, offers its move of a number, or prices that, which is to rest on
-/// these cells, each at this version.
+/// What a worker does: it takes over what is new, offers its move of a number, by the move's text, or prices that, which is
+/// to rest on these cells, each at this version.
 #[derive(Clone, Copy)]
 enum Step {
     Looks,
-    Offers(u32, Move),
-    Prices(u32, Move, &'static [(u32, u32)]),
+    Offers(u32, &'static str),
+    Prices(u32, &'static str, &'static [(u32, u32)]),
 }
 
 /// What came of it: how many entries the worker has then seen and how many the book has, or the verdict, if it may
@@ -74,18 +72,14 @@ fn act(
             let (seen, front) = catch_up(book, replica, news);
             Seen(seen, front)
         }
-        Offers(number, mv) => {
-            if !is_in_range(inst, &mv) {
-                return Said(None);
-            }
-            Said(offer(book, replica, options, &mv, number))
-        }
-        Prices(number, mv, reads) => {
-            if !is_in_range(inst, &mv) {
-                return Rests(false);
-            }
-            Rests(rests_on(book, replica, &mv, number, reads))
-        }
+        Offers(number, text) => match parse_move(inst, text.as_bytes()) {
+            Some(mv) => Said(offer(book, replica, options, &mv, number)),
+            None => Said(None),
+        },
+        Prices(number, text, reads) => match parse_move(inst, text.as_bytes()) {
+            Some(mv) => Rests(rests_on(book, replica, &mv, number, reads)),
+            None => Rests(false),
+        },
     }
 }
 
@@ -234,23 +228,9 @@ const ONCE_STALE: Told = Said(Some(Verdict::Stale {
 }));
 
 // The second patient has the other room, on the first day or on the second.
-const JOIN_BESIDE: Move = Move::Place(
-    PatientNo(1),
-    Placement {
-        day: Day(0),
-        room: RoomNo(1),
-        theatre: TheatreNo(1),
-    },
-);
+const JOIN_BESIDE: &str = "place:1,0,1,1";
 
-const JOIN_LATER: Move = Move::Place(
-    PatientNo(1),
-    Placement {
-        day: Day(1),
-        room: RoomNo(1),
-        theatre: TheatreNo(1),
-    },
-);
+const JOIN_LATER: &str = "place:1,1,1,1";
 
 // A move is stale where another changed what it read, and is accepted when it comes again. Its worker hasn't seen its own
 // last entry when it offers again at once, and has when it does so after a look, by the same number.
@@ -294,15 +274,11 @@ const BOTH_PRICES: [Priced; 1] = [(1, UNNURSED, [0, 0, 0, 0, 1, 1, 0, -1])];
 
 // The past is frozen.
 const FROZEN: [Row; 5] = [
-    (
-        0,
-        Offers(0, Move::SetDay(PatientNo(0), Day(1))),
-        Said(Some(Verdict::Frozen)),
-    ),
+    (0, Offers(0, "setday:0,1"), Said(Some(Verdict::Frozen))),
     (0, Looks, Seen(1, 1)),
     (0, Offers(1, JOIN_LATER), ACCEPTED),
     (0, Looks, Seen(2, 2)),
-    (0, Offers(2, Move::Withdraw(PatientNo(1))), ACCEPTED),
+    (0, Offers(2, "withdraw:1"), ACCEPTED),
 ];
 
 const FROZEN_PRICES: [Priced; 2] = [
@@ -369,7 +345,10 @@ fn is_priced(inst: &Instance, replica: &mut Replica<'_>) -> bool
     requires { replica.old.base.instance ≡ inst.now.draft }
 {
     let price = (CROWDED, [1, 6, 1, 3, 1, 1, 0, -1]);
-    is_in_range(inst, &JOIN) && is(replica.price(&JOIN, 0), (0, 0, 0), &price, &READS)
+    match parse_move(inst, JOIN.as_bytes()) {
+        Some(join) => is(replica.price(&join, 0), (0, 0, 0), &price, &READS),
+        None => false,
+    }
 }
 
 fn rests_on_what_is_read(alloc: Global, inst: &Instance, start: &Plan) -> bool
@@ -466,7 +445,7 @@ fn idle_rows(alloc: Global, count: u32) -> Result<Vec<Row>, AllocError> {
     let mut rows = Vec::new(alloc);
     for number in 0..count {
         rows.push((1, Looks, Seen(number, number)))?;
-        rows.push((1, Offers(number, Move::Idle), ACCEPTED))?;
+        rows.push((1, Offers(number, "idle"), ACCEPTED))?;
     }
     for seen in [256, 512, 600, 600] {
         rows.push((0, Looks, Seen(seen, 600)))?;

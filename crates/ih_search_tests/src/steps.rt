@@ -1,13 +1,11 @@
 //! The moves and verdicts of the tests on the ward of two patients, of whom the first is admitted, with one nurse in all
 //! shifts.
 
-ghost use Rattle.std.specs.Prelude.{◌≡◌, IsTrue};
-ghost use Rattle.ih_plan.specs.Expand.{IsMoveOf};
+ghost use Rattle.std.specs.Prelude.{◌≡◌};
 
 use ih_cellbook::Offer;
 use ih_journal::{Entry, Options, Verdict};
-use ih_plan::{Move, Placement};
-use ih_tables::{Cell, Day, Instance, NurseNo, PatientNo, RoomNo, Shift, TheatreNo};
+use ih_tables::{Cell, RoomNo, Shift};
 
 /// The options of a hot search, in which no price is too high.
 pub(crate) fn hot(workers: u32, moves: u32, retries: u32) -> Options
@@ -24,20 +22,13 @@ pub(crate) fn hot(workers: u32, moves: u32, retries: u32) -> Options
 }
 
 /// The second patient joins the first, with surgery in the second theatre.
-pub(crate) const JOIN: Move = Move::Place(
-    PatientNo(1),
-    Placement {
-        day: Day(0),
-        room: RoomNo(0),
-        theatre: TheatreNo(1),
-    },
-);
+pub(crate) const JOIN: &str = "place:1,0,0,1";
 
 /// The first nurse has the first room in the first night.
-pub(crate) const FIRST_NURSE: Move = Move::Nurse(RoomNo(0), Shift(2), NurseNo(0));
+pub(crate) const FIRST_NURSE: &str = "nurse:0,2,0";
 
 /// The second nurse has it.
-pub(crate) const SECOND_NURSE: Move = Move::Nurse(RoomNo(0), Shift(2), NurseNo(1));
+pub(crate) const SECOND_NURSE: &str = "nurse:0,2,1";
 
 /// Stale by the first room in the first night, which two entries changed since the move was priced.
 pub(crate) const TWICE_STALE: Verdict = Verdict::Stale {
@@ -45,25 +36,6 @@ pub(crate) const TWICE_STALE: Verdict = Verdict::Stale {
     at_seen: 0,
     at_place: 2,
 };
-
-/// Whether the numbers of a move are in range. It knows the moves of the tests.
-pub(crate) fn is_in_range(inst: &Instance, mv: &Move) -> bool
-    ensures { IsTrue result → IsMoveOf inst.now.draft mv.now }
-{
-    match *mv {
-        Move::Idle => true,
-        Move::Place(p, at) => {
-            p.0 < inst.patients()
-                && at.day.0 < inst.days()
-                && at.room.0 < inst.rooms()
-                && at.theatre.0 < inst.theatres()
-        }
-        Move::Withdraw(p) => p.0 < inst.patients(),
-        Move::SetDay(p, d) => p.0 < inst.patients() && d.0 < inst.days(),
-        Move::Nurse(r, k, n) => { r.0 < inst.rooms() && k.0 < inst.shifts() && n.0 < inst.nurses() }
-        _ => false,
-    }
-}
 
 /// Whether an offer has these numbers: worker, number and seen, the price, and what was read.
 pub(crate) fn is(
