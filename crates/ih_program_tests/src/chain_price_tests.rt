@@ -1,6 +1,6 @@
 //! What accepted chains cost, by full bills.
 
-ghost use Rattle.std.specs.Prelude.{◌≤◌, All};
+ghost use Rattle.std.specs.Prelude.{◌≤◌, All, length};
 ghost use Rattle.ih_plan.specs.Series.{AreMoves};
 ghost use Rattle.ih_plan.specs.Timetable.{IsPlanOf};
 ghost use Rattle.ih_chain.specs.Entries.{chain_tries};
@@ -54,14 +54,27 @@ fn change_of(entry: &ChainEntry) -> Bill {
     }
 }
 
-// Whether each entry's price is the change of the full bill at its place, where the entry was accepted, and nothing changed
-// where it wasn't.
-fn are_exact(
+// The full bill after so many entries.
+fn bill_after(
     alloc: Global,
     inst: &Instance,
     start: &Plan,
     entries: &[ChainEntry],
-) -> Result<bool, AllocError>
+    place: u32,
+) -> Option<Bill>
+    requires start { IsPlanOf inst.now.draft start.now }
+    requires inside { place ≤ length entries.now }
+    requires moves { All (λ e. AreMoves inst.now.draft e.moves) (chain_tries entries.now) }
+{
+    match plan_at(alloc, inst, start, entries, place) {
+        Ok(plan) => Some(bill(inst, &plan)),
+        Err(_) => None,
+    }
+}
+
+// Whether each entry's price is the change of the full bill at its place, where the entry was accepted, and nothing changed
+// where it wasn't.
+fn are_exact(alloc: Global, inst: &Instance, start: &Plan, entries: &[ChainEntry]) -> bool
     requires start { IsPlanOf inst.now.draft start.now }
     requires moves { All (λ e. AreMoves inst.now.draft e.moves) (chain_tries entries.now) }
 {
@@ -70,15 +83,14 @@ fn are_exact(
     for entry in entries {
         place = place.saturating_add(1);
         if place as usize > entries.len() {
-            return Ok(false);
+            return false;
         }
-        let after = bill(inst, &plan_at(alloc, inst, start, entries, place)?);
-        if !is_dearer_by(&after, &before, &change_of(entry)) {
-            return Ok(false);
+        match bill_after(alloc, inst, start, entries, place) {
+            Some(after) if is_dearer_by(&after, &before, &change_of(entry)) => before = after,
+            _ => return false,
         }
-        before = after;
     }
-    Ok(place == 80)
+    place == 80
 }
 
 // Whether all chains of two workers are so.
@@ -94,26 +106,41 @@ fn are_chains_exact<R: Threads + Wait + Sync>(
     requires short { each ≤ 8 }
 {
     let run = run_chains(rt, alloc, inst, start, &OPTIONS, each, &OpenGate)?;
-    are_exact(alloc, inst, start, run.entries())
+    Ok(are_exact(alloc, inst, start, run.entries()))
 }
 
-// The same on the ward of two patients.
-fn are_exact_on_ward<R: Threads + Wait + Sync>(rt: &R, alloc: Global, each: u32) -> bool
-    requires some { 1 ≤ each }
-    requires short { each ≤ 8 }
+// The same from the start of the two patients, for chains of several lengths.
+fn are_exact_at_each<R: Threads + Wait + Sync>(
+    rt: &R,
+    alloc: Global,
+    inst: &Instance,
+    start: &Plan,
+) -> bool
+    requires { IsPlanOf inst.now.draft start.now }
 {
-    let Ok(inst) = read_instance(alloc, TWO_PATIENTS.as_bytes()) else {
-        return false;
-    };
-    let Ok(start) = read_solution(alloc, &inst, ONE_ADMITTED.as_bytes()) else {
-        return false;
-    };
-    matches!(are_chains_exact(rt, alloc, &inst, &start, each), Ok(true))
+    for each in [1, 3, 8] {
+        if !matches!(are_chains_exact(rt, alloc, inst, start, each), Ok(true)) {
+            return false;
+        }
+    }
+    true
+}
+
+fn are_exact_on_two<R: Threads + Wait + Sync>(rt: &R, alloc: Global, inst: &Instance) -> bool {
+    match read_solution(alloc, inst, ONE_ADMITTED.as_bytes()) {
+        Ok(start) => are_exact_at_each(rt, alloc, inst, &start),
+        Err(_) => false,
+    }
+}
+
+fn are_exact_on_ward<R: Threads + Wait + Sync>(rt: &R, alloc: Global) -> bool {
+    match read_instance(alloc, TWO_PATIENTS.as_bytes()) {
+        Ok(inst) => are_exact_on_two(rt, alloc, &inst),
+        Err(_) => false,
+    }
 }
 
 #[test]
 fn accepted_chains_cost_what_the_bills_say(rt: HostRuntime) {
-    for each in [1, 3, 8] {
-        assert!(rt; are_exact_on_ward(&rt, rt.alloc(), each));
-    }
+    assert!(rt; are_exact_on_ward(&rt, rt.alloc()));
 }

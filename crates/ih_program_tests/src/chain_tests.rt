@@ -2,7 +2,7 @@
 
 use crate::examples::{COVERED_SOLUTION, FOUND, JOURNAL, SEARCH, WARD};
 use crate::script::Event::{Alike, Ends, Exits, Held, Holds, Lines, Pairs, Same, SameLines, Store};
-use crate::script::{Event, goes};
+use crate::script::{Event, all_go, goes};
 use ih_journal::{JournalRefusal, Reason};
 use ih_top::Status;
 
@@ -65,10 +65,11 @@ const GENERATED_SINGLE_MOVES: [Event<'static>; 4] = [
     Same("o", "p"),
 ];
 
+const CHAINS_OF_ONE: [&[Event<'static>]; 2] = [&SINGLE_MOVES, &GENERATED_SINGLE_MOVES];
+
 #[test]
 fn chains_of_one_move_are_moves(rt: HostRuntime) {
-    assert!(rt; goes(&rt, rt.alloc(), &SINGLE_MOVES));
-    assert!(rt; goes(&rt, rt.alloc(), &GENERATED_SINGLE_MOVES));
+    assert!(rt; all_go(&rt, rt.alloc(), &CHAINS_OF_ONE));
 }
 
 const HELD_SINGLE: &str =

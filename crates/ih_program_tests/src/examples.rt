@@ -1,5 +1,7 @@
 //! Files and texts that the tests of whole calls share.
 
+use ih_tables::Place;
+
 /// One day, one room, one nurse and one occupant.
 pub const WARD: &str = r#"{"days":1,"skill_levels":3,"shift_types":["early","late","night"],
 "age_groups":["child","adult","old"],
@@ -107,3 +109,11 @@ pub const FILLED: &str =
 /// What is said of the search on the ward, where its journal is cut off inside its third line.
 pub const SALVAGED: &str =
     "salvaged 1\nbest 1 of 1\nV1 0\nV2 0\nV3 0\nV4 0\nV5 0\nV6 0\nV7 0\nV8 0\nV9 0\nS1 0 x 5 = 0\nS2 1 x 10 = 10\nS3 1 x 2 = 2\nS4 0 x 1 = 0\nS5 0 x 30 = 0\nS6 0 x 7 = 0\nS7 0 x 4 = 0\nS8 0 x 100 = 0\ncost 12\n";
+
+/// The place of a file as a whole.
+pub const NOWHERE: Place = Place {
+    section: None,
+    first: None,
+    second: None,
+    last: None,
+};

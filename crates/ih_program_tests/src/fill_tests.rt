@@ -1,6 +1,7 @@
 //! The fill by several workers, of a ward of two patients.
 
 ghost use Rattle.std.specs.Prelude.{◌<◌, ◌≤◌};
+ghost use Rattle.ih_plan.specs.Timetable.{IsPlanOf};
 
 use crate::examples::TWO_PATIENTS;
 use ih_fill::fill;
@@ -10,34 +11,72 @@ use ih_plan::Plan;
 use ih_shelf::{Gate, HoldGate, OpenGate};
 use ih_solution::write_solution;
 use ih_tables::Instance;
-use std::alloc::{AllocError, Global};
+use std::alloc::Global;
 use std::sync::Wait;
 use std::thread::Threads;
 
 const TURNS: u64 = 100_000_000;
 
+// The text of the timetable that one worker makes of the empty one.
+fn filled_alone(alloc: Global, inst: &Instance, empty: &Plan) -> Option<Vec<u8>>
+    requires { IsPlanOf inst.now.draft empty.now }
+{
+    match fill(alloc, inst, 1_000, empty) {
+        Ok(filled) => write_solution(alloc, inst, &filled).ok(),
+        Err(_) => None,
+    }
+}
+
+// That of the timetable that so many workers make of it.
+fn filled_by<R: Threads + Wait + Sync, G: Gate>(
+    rt: &R,
+    alloc: Global,
+    inst: &Instance,
+    empty: &Plan,
+    workers: u32,
+    gate: &G,
+) -> Option<Vec<u8>>
+    requires plan { IsPlanOf inst.now.draft empty.now }
+    requires some { 0 < workers }
+    requires few { workers ≤ 64 }
+{
+    match par_fill(rt, alloc, inst, 1_000, empty, workers, gate) {
+        Ok(filled) => write_solution(alloc, inst, &filled).ok(),
+        Err(_) => None,
+    }
+}
+
+// Whether both texts are there and are one.
+fn are_one(text: &Option<Vec<u8>>, other: &Option<Vec<u8>>) -> bool {
+    match (text, other) {
+        (Some(text), Some(other)) => text.as_slice() == other.as_slice(),
+        _ => false,
+    }
+}
+
 // Whether so many workers fill the empty timetable as one does.
 #[tactic(auto, using(ih_plan::proofs::PlanRanges::plan_steps))]
-fn are_alike<R: Threads + Wait + Sync, G: Gate>(
+fn fill_alike<R: Threads + Wait + Sync, G: Gate>(
     rt: &R,
     alloc: Global,
     inst: &Instance,
     workers: u32,
     gate: &G,
-) -> Result<bool, AllocError>
+) -> bool
     requires some { 0 < workers }
     requires few { workers ≤ 64 }
 {
-    let empty = Plan::empty(alloc, inst)?;
-    let filled = fill(alloc, inst, 1_000, &empty)?;
-    let wanted = write_solution(alloc, inst, &filled)?;
-    let shared = par_fill(rt, alloc, inst, 1_000, &empty, workers, gate)?;
-    let found = write_solution(alloc, inst, &shared)?;
-    Ok(found.as_slice() == wanted.as_slice())
+    match Plan::empty(alloc, inst) {
+        Ok(empty) => are_one(
+            &filled_by(rt, alloc, inst, &empty, workers, gate),
+            &filled_alone(alloc, inst, &empty),
+        ),
+        Err(_) => false,
+    }
 }
 
 // The same on the ward of two patients.
-fn are_alike_on_ward<R: Threads + Wait + Sync, G: Gate>(
+fn fill_ward_alike<R: Threads + Wait + Sync, G: Gate>(
     rt: &R,
     alloc: Global,
     workers: u32,
@@ -46,29 +85,31 @@ fn are_alike_on_ward<R: Threads + Wait + Sync, G: Gate>(
     requires some { 0 < workers }
     requires few { workers ≤ 64 }
 {
-    let Ok(inst) = read_instance(alloc, TWO_PATIENTS.as_bytes()) else {
-        return false;
-    };
-    match are_alike(rt, alloc, &inst, workers, gate) {
-        Ok(alike) => alike,
+    match read_instance(alloc, TWO_PATIENTS.as_bytes()) {
+        Ok(inst) => fill_alike(rt, alloc, &inst, workers, gate),
         Err(_) => false,
     }
+}
+
+fn all_fill_alike<R: Threads + Wait + Sync>(rt: &R, alloc: Global) -> bool {
+    fill_ward_alike(rt, alloc, 1, &OpenGate)
+        && fill_ward_alike(rt, alloc, 2, &OpenGate)
+        && fill_ward_alike(rt, alloc, 64, &OpenGate)
 }
 
 // Both theatres are as cheap for the first patient, and lie in the shares of two workers: the first wins, whoever finds it.
 #[test]
 fn any_number_of_workers_fill_alike(rt: HostRuntime) {
-    let alloc = rt.alloc();
-    assert!(rt; are_alike_on_ward(&rt, alloc, 1, &OpenGate));
-    assert!(rt; are_alike_on_ward(&rt, alloc, 2, &OpenGate));
-    assert!(rt; are_alike_on_ward(&rt, alloc, 64, &OpenGate));
+    assert!(rt; all_fill_alike(&rt, rt.alloc()));
+}
+
+fn fill_side_by_side<R: Threads + Wait + Sync>(rt: &R, alloc: Global) -> bool {
+    let gate = HoldGate::new(TURNS, 1);
+    fill_ward_alike(rt, alloc, 2, &gate) && !gate.ran_out()
 }
 
 // Each of two workers looks at the first choice before the other is done with it.
 #[test]
 fn two_workers_fill_side_by_side(rt: HostRuntime) {
-    let alloc = rt.alloc();
-    let gate = HoldGate::new(TURNS, 1);
-    assert!(rt; are_alike_on_ward(&rt, alloc, 2, &gate));
-    assert!(rt; !gate.ran_out());
+    assert!(rt; fill_side_by_side(&rt, rt.alloc()));
 }

@@ -5,7 +5,7 @@ use crate::examples::{
     SEARCH, TWO_PATIENTS, WARD,
 };
 use crate::script::Event::{Change, Ends, FailRead, FailWrite, Holds, Same, Silent, Store};
-use crate::script::{Event, goes};
+use crate::script::{Event, all_go, goes};
 use ih_journal::{JournalRefusal, Reason};
 use ih_top::{Role, Status};
 use std::alloc::Global;
@@ -167,10 +167,11 @@ const REPLAYED_RETRIES: [Event<'static>; 7] = [
     Holds("j", Some(RETRIED)),
 ];
 
+const REPLAYS: [&[Event<'static>]; 2] = [&REPLAYED, &REPLAYED_RETRIES];
+
 #[test]
 fn replays(rt: HostRuntime) {
-    assert!(rt; goes(&rt, rt.alloc(), &REPLAYED));
-    assert!(rt; goes(&rt, rt.alloc(), &REPLAYED_RETRIES));
+    assert!(rt; all_go(&rt, rt.alloc(), &REPLAYS));
 }
 
 /// What stands in a journal, what is put in its place, and how the journal is then refused.
@@ -259,10 +260,13 @@ const ENTRIES: [Row; 9] = [
 // Of a journal with retries.
 const TRIES: [Row; 1] = [(FIRST_TRY, SECOND_TRY, TRY)];
 
+fn refuses_entries<R: Files + Print + Threads + Wait + Sync>(rt: &R, alloc: Global) -> bool {
+    refuses_all(rt, alloc, JOURNAL, &ENTRIES) && refuses_all(rt, alloc, RETRIED, &TRIES)
+}
+
 #[test]
 fn refused_entries(rt: HostRuntime) {
-    assert!(rt; refuses_all(&rt, rt.alloc(), JOURNAL, &ENTRIES));
-    assert!(rt; refuses_all(&rt, rt.alloc(), RETRIED, &TRIES));
+    assert!(rt; refuses_entries(&rt, rt.alloc()));
 }
 
 const LINES: [Row; 7] = [
@@ -350,47 +354,31 @@ fn salvages(rt: HostRuntime) {
     assert!(rt; salvages_all(&rt, rt.alloc(), &SALVAGES));
 }
 
-// Whether a call fails whose read of the journal is to fail.
-fn cannot_read<R: Files + Print + Threads + Wait + Sync>(
-    rt: &R,
-    alloc: Global,
-    words: &str,
-) -> bool {
+// Whether a call fails whose read of the journal is to fail, and the next one, whose write of the solution is to fail and
+// to leave three bytes.
+fn fails<R: Files + Print + Threads + Wait + Sync>(rt: &R, alloc: Global, words: &str) -> bool {
+    let unread = Status::ReadFault(Role::Journal);
+    let unwritten = Status::WriteFault(Some(Role::Out));
     let events = [
         Store("i", WARD),
         Store("j", JOURNAL),
         FailRead(2),
-        Ends(words, Status::ReadFault(Role::Journal), "cannot read j\n"),
+        Ends(words, unread, "cannot read j\n"),
         Holds("o", None),
-    ];
-    goes(rt, alloc, events.as_slice())
-}
-
-// Whether a call fails whose write of the solution is to fail and to leave three bytes.
-fn cannot_write<R: Files + Print + Threads + Wait + Sync>(
-    rt: &R,
-    alloc: Global,
-    words: &str,
-) -> bool {
-    let events = [
-        Store("i", WARD),
-        Store("j", JOURNAL),
         FailWrite(1, 3),
-        Ends(
-            words,
-            Status::WriteFault(Some(Role::Out)),
-            "cannot write o\n",
-        ),
+        Ends(words, unwritten, "cannot write o\n"),
         Holds("o", Some("{\"n")),
     ];
     goes(rt, alloc, events.as_slice())
 }
 
+fn both_fail<R: Files + Print + Threads + Wait + Sync>(rt: &R, alloc: Global) -> bool {
+    fails(rt, alloc, REPLAY) && fails(rt, alloc, SALVAGE)
+}
+
 #[test]
 fn journals_that_fail(rt: HostRuntime) {
-    let alloc = rt.alloc();
-    assert!(rt; cannot_read(&rt, alloc, REPLAY) && cannot_write(&rt, alloc, REPLAY));
-    assert!(rt; cannot_read(&rt, alloc, SALVAGE) && cannot_write(&rt, alloc, SALVAGE));
+    assert!(rt; both_fail(&rt, rt.alloc()));
 }
 
 const UNPUT: Status = Status::WriteFault(None);
@@ -447,10 +435,11 @@ const CANNOT_GENERATE: [Event<'static>; 3] = [
     Holds("i", Some("")),
 ];
 
+const GENERATIONS: [&[Event<'static>]; 2] = [&GENERATES, &CANNOT_GENERATE];
+
 #[test]
 fn generates(rt: HostRuntime) {
-    assert!(rt; goes(&rt, rt.alloc(), &GENERATES));
-    assert!(rt; goes(&rt, rt.alloc(), &CANNOT_GENERATE));
+    assert!(rt; all_go(&rt, rt.alloc(), &GENERATIONS));
 }
 
 const SHOWS: [Event<'static>; 2] = [Ends("demo 7", Status::Done, DEMO), Silent("demo 7", UNPUT)];

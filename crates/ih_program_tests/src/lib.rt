@@ -13,7 +13,7 @@ mod fill_tests;
 #[cfg(test)]
 mod journal_tests;
 #[cfg(test)]
-mod meeting_tests;
+mod meeting;
 #[cfg(test)]
 mod noted_tests;
 #[cfg(test)]
@@ -26,6 +26,8 @@ mod script;
 mod tests;
 #[cfg(test)]
 mod view_tests;
+#[cfg(test)]
+mod viewing;
 #[cfg(test)]
 mod whole_calls;
 #[cfg(test)]

@@ -12,7 +12,7 @@ use crate::rounds_tests::TWO_JOURNALS;
 use ih_instance::read_instance;
 use ih_journal::{Entry, Options};
 use ih_plan::Plan;
-use ih_rounds::{Noted, RoundsEnd, SearchBy, rounds};
+use ih_rounds::{Noted, RoundsEnd, SearchBy, Searcher, rounds};
 use ih_shelf::OpenGate;
 use ih_tables::Instance;
 use ih_top::search_at_desk;
@@ -29,13 +29,39 @@ const OPTIONS: Options = Options {
     retries: 0,
 };
 
-// Whether two rounds have their best after the only move of the first, their journals, and two answers that are noted.
-fn are_noted<R: Threads + Wait + Sync>(
+// Whether the best comes after the only move of the first round.
+fn is_after_first_move(end: &RoundsEnd) -> bool {
+    match end {
+        RoundsEnd::Found {
+            round,
+            place,
+            count,
+            ..
+        } => (*round, *place, *count) == (0, 1, 1),
+        RoundsEnd::NoneFound => false,
+    }
+}
+
+// Whether two rounds of a searcher have such a best, and their journals.
+fn come_out<R: Threads + Wait + Sync, S: Searcher>(
     rt: &R,
     alloc: Global,
     inst: &Instance,
     start: &Plan,
-) -> Result<bool, AllocError>
+    searcher: &mut S,
+) -> bool
+    requires start { IsPlanOf inst.now.draft start.now }
+    requires ready { S.ready searcher.old }
+{
+    let mut journal = Vec::new(alloc);
+    match rounds(rt, alloc, inst, start, &OPTIONS, 2, searcher, &mut journal) {
+        Ok(end) => is_after_first_move(&end) && journal.as_slice() == TWO_JOURNALS.as_bytes(),
+        Err(_) => false,
+    }
+}
+
+// Whether they do, and two answers are noted.
+fn are_noted<R: Threads + Wait + Sync>(rt: &R, alloc: Global, inst: &Instance, start: &Plan) -> bool
     requires { IsPlanOf inst.now.draft start.now }
 {
     let searcher = SearchBy {
@@ -48,45 +74,26 @@ fn are_noted<R: Threads + Wait + Sync>(
         { search_at_desk(rt, alloc, inst, start, options, &OpenGate) },
     };
     let mut noted = Noted::new(alloc, searcher);
-    let mut journal = Vec::new(alloc);
-    let end = rounds(
-        rt,
-        alloc,
-        inst,
-        start,
-        &OPTIONS,
-        2,
-        &mut noted,
-        &mut journal,
-    )?;
-    let found = match end {
-        RoundsEnd::Found {
-            round,
-            place,
-            count,
-            ..
-        } => round == 0 && place == 1 && count == 1,
-        RoundsEnd::NoneFound => false,
-    };
-    Ok(found && journal.as_slice() == TWO_JOURNALS.as_bytes() && noted.answers().len() == 2)
+    come_out(rt, alloc, inst, start, &mut noted) && noted.answers().len() == 2
 }
 
-// The same on the ward, from the empty timetable.
+// The same from the empty timetable.
+fn are_noted_from_empty<R: Threads + Wait + Sync>(rt: &R, alloc: Global, inst: &Instance) -> bool {
+    match Plan::empty(alloc, inst) {
+        Ok(start) => are_noted(rt, alloc, inst, &start),
+        Err(_) => false,
+    }
+}
+
+// The same on the ward.
 fn are_noted_on_ward<R: Threads + Wait + Sync>(rt: &R, alloc: Global) -> bool {
-    let Ok(inst) = read_instance(alloc, WARD.as_bytes()) else {
-        return false;
-    };
-    let Ok(start) = Plan::empty(alloc, &inst) else {
-        return false;
-    };
-    match are_noted(rt, alloc, &inst, &start) {
-        Ok(noted) => noted,
+    match read_instance(alloc, WARD.as_bytes()) {
+        Ok(inst) => are_noted_from_empty(rt, alloc, &inst),
         Err(_) => false,
     }
 }
 
 #[test]
 fn noted_rounds(rt: HostRuntime) {
-    let alloc = rt.alloc();
-    assert!(rt; are_noted_on_ward(&rt, alloc));
+    assert!(rt; are_noted_on_ward(&rt, rt.alloc()));
 }

@@ -1,10 +1,13 @@
 //! Whole calls in a row over files in memory, and what each leaves, as the rows of a table.
 
+use crate::meeting::meet;
 use crate::pairs::has_pairs;
+use crate::viewing::{has_page, views};
 use crate::whole_calls::{
     are_same, ends, ends_saying, exits, has_lines, have_same_lines, holds, is_held, reads,
     store_changed,
 };
+use ih_look::Status as Viewed;
 use ih_shelf::{MemShelf, MemSink};
 use ih_top::Status;
 use std::alloc::Global;
@@ -34,6 +37,12 @@ pub enum Event<'a> {
     /// A search of the two patients is done past a gate that holds worker 0's attempts of the numbers below this one.
     /// Its text begins and ends so, and the other call, if there is one, then says the same.
     Held(&'a str, u32, &'a str, &'a str, Option<&'a str>),
+    /// A search of the two patients is done past a gate at which so many workers meet, and its replay says the same.
+    Meets(&'a str, u64),
+    /// A call of view ends with this status and says this text.
+    Views(&'a str, Viewed, &'a str),
+    /// A name has a page.
+    Page(&'a str),
     /// A name has just this text, or isn't there.
     Holds(&'a str, Option<&'a str>),
     /// Two names have the same bytes.
@@ -47,8 +56,8 @@ pub enum Event<'a> {
 }
 
 use Event::{
-    Alike, Change, Ends, Exits, FailRead, FailWrite, Held, Holds, Lines, Pairs, Same, SameLines,
-    Silent, Store,
+    Alike, Change, Ends, Exits, FailRead, FailWrite, Held, Holds, Lines, Meets, Page, Pairs, Same,
+    SameLines, Silent, Store, Views,
 };
 
 fn is_done<R: Files + Print + Threads + Wait + Sync>(
@@ -124,6 +133,7 @@ fn is_so(shelf: &MemShelf, event: &Event<'_>) -> bool {
         SameLines(name, other) => have_same_lines(shelf, name, other),
         Lines(name, count) => has_lines(shelf, name, count),
         Pairs(name) => has_pairs(shelf, name),
+        Page(name) => has_page(shelf, name),
         _ => false,
     }
 }
@@ -154,6 +164,8 @@ fn takes<R: Files + Print + Threads + Wait + Sync>(
         Held(line, numbers, start, end, again) => {
             is_held_saying(rt, alloc, shelf, line, numbers, (start, end), again)
         }
+        Meets(line, workers) => meet(rt, alloc, shelf, line, workers),
+        Views(line, status, text) => views(rt, alloc, shelf, line, status, text),
         _ => is_laid(alloc, shelf, event),
     }
 }
@@ -180,4 +192,18 @@ pub fn goes<R: Files + Print + Threads + Wait + Sync>(
 ) -> bool {
     let mut shelf = MemShelf::new(alloc);
     take_all(rt, alloc, &mut shelf, events)
+}
+
+/// The same of several scripts, each from no files on.
+pub fn all_go<R: Files + Print + Threads + Wait + Sync>(
+    rt: &R,
+    alloc: Global,
+    scripts: &[&[Event<'_>]],
+) -> bool {
+    for events in scripts {
+        if !goes(rt, alloc, events) {
+            return false;
+        }
+    }
+    true
 }

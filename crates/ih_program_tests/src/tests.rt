@@ -2,10 +2,10 @@
 
 use crate::examples::{
     CHECKED, COVERED_SOLUTION, COVERED_START, FOUND, FULL_THEATRE, JOURNAL, LONG_SURGERY, NO_MOVES,
-    NOTHING, ONE_ADMITTED, OVERLAP, SEARCH, TWO_GENDERS, TWO_PATIENTS, WARD,
+    NOTHING, NOWHERE, ONE_ADMITTED, OVERLAP, SEARCH, TWO_GENDERS, TWO_PATIENTS, WARD,
 };
 use crate::script::Event::{Change, Ends, FailRead, FailWrite, Holds, Store};
-use crate::script::{Event, goes};
+use crate::script::{Event, all_go, goes};
 use crate::whole_calls::{ends, status_of};
 use ih_shelf::{MemShelf, MemSink, NeverFails, OpenGate};
 use ih_tables::{Fault, Key, Place, Refusal, Step};
@@ -87,9 +87,7 @@ const DAYS: Status = Status::InstanceRefused(Refusal {
     fault: Fault::Range,
     at: Place {
         section: Some(Key::Days),
-        first: None,
-        second: None,
-        last: None,
+        ..NOWHERE
     },
 });
 
@@ -107,8 +105,7 @@ const WORKLOADS: Status = Status::InstanceRefused(Refusal {
             at: Some(0),
             key: Key::WorkloadProduced,
         }),
-        second: None,
-        last: None,
+        ..NOWHERE
     },
 });
 
@@ -126,8 +123,7 @@ const SURGEON: Status = Status::InstanceRefused(Refusal {
             at: Some(1),
             key: Key::SurgeonId,
         }),
-        second: None,
-        last: None,
+        ..NOWHERE
     },
 });
 
@@ -145,8 +141,7 @@ const ROOM: Status = Status::StartRefused(Refusal {
             at: Some(0),
             key: Key::Room,
         }),
-        second: None,
-        last: None,
+        ..NOWHERE
     },
 });
 
@@ -337,10 +332,13 @@ const REFUSED: [Answer; 5] = [
     (LAST_ASSIGNMENT, ANOTHER_NURSE, NURSE, NURSE_REFUSED),
 ];
 
+fn both_refuse<R: Files + Print + Threads + Wait + Sync>(rt: &R, alloc: Global) -> bool {
+    all_answer(rt, alloc, CHECK, &REFUSED) && all_answer(rt, alloc, FROM_START, &REFUSED)
+}
+
 #[test]
 fn refused_files(rt: HostRuntime) {
-    assert!(rt; all_answer(&rt, rt.alloc(), CHECK, &REFUSED));
-    assert!(rt; all_answer(&rt, rt.alloc(), FROM_START, &REFUSED));
+    assert!(rt; both_refuse(&rt, rt.alloc()));
 }
 
 const NO_INSTANCE: [Event<'static>; 6] = [
@@ -389,12 +387,11 @@ const SOLUTION_BEGUN: [Event<'static>; 5] = [
     Holds("o", Some("")),
 ];
 
+const FAULTS: [&[Event<'static>]; 4] = [&NO_INSTANCE, &NO_START, &JOURNAL_BEGUN, &SOLUTION_BEGUN];
+
 #[test]
 fn files_that_fail(rt: HostRuntime) {
-    assert!(rt; goes(&rt, rt.alloc(), &NO_INSTANCE));
-    assert!(rt; goes(&rt, rt.alloc(), &NO_START));
-    assert!(rt; goes(&rt, rt.alloc(), &JOURNAL_BEGUN));
-    assert!(rt; goes(&rt, rt.alloc(), &SOLUTION_BEGUN));
+    assert!(rt; all_go(&rt, rt.alloc(), &FAULTS));
 }
 
 // A search whose first read fails, and the same again on the same shelf.

@@ -1,21 +1,18 @@
 //! Whole calls of view, over files in memory.
 
-use crate::examples::{COVERED_SOLUTION, WARD};
-use crate::whole_calls::{lay, words_of};
-use ih_look::{Role, Status, run_view};
-use ih_shelf::{MemShelf, MemSink};
-use ih_tables::{Fault, Place, Refusal};
+use crate::examples::{COVERED_SOLUTION, NOWHERE, WARD};
+use crate::script::Event::{FailWrite, Holds, Page, Store, Views};
+use crate::script::{Event, goes};
+use ih_look::{Role, Status};
+use ih_tables::{Fault, Refusal};
 use std::alloc::Global;
 use std::rt::Files;
+use std::sync::Wait;
+use std::thread::Threads;
 
 const NOT_JSON: Refusal = Refusal {
     fault: Fault::NotJson,
-    at: Place {
-        section: None,
-        first: None,
-        second: None,
-        last: None,
-    },
+    at: NOWHERE,
 };
 
 const USAGE: &str = "usage: view INSTANCE SOLUTION PAGE\n";
@@ -63,43 +60,22 @@ const NO_PAGES: [Row; 6] = [
     ),
 ];
 
-// Whether a call ends with this status and says this text.
-fn ends<R: Files + Print>(
-    rt: &R,
-    alloc: Global,
-    words: &[String],
-    shelf: &mut MemShelf,
-    status: Status,
-    text: &str,
-) -> bool {
-    let mut out = MemSink::new(alloc);
-    run_view(rt, alloc, words, shelf, &mut out) == status && out.bytes() == text.as_bytes()
-}
-
-// The same of the words of a line.
-fn ends_by<R: Files + Print>(
-    rt: &R,
-    alloc: Global,
-    line: &str,
-    shelf: &mut MemShelf,
-    status: Status,
-    text: &str,
-) -> bool {
-    match words_of(alloc, line) {
-        Ok(words) => ends(rt, alloc, words.as_slice(), shelf, status, text),
-        Err(_) => false,
-    }
-}
-
-fn has_no_page<R: Files + Print>(rt: &R, alloc: Global, row: &Row) -> bool {
+fn has_no_page<R: Files + Print + Threads + Wait + Sync>(rt: &R, alloc: Global, row: &Row) -> bool {
     let (instance, solution, line, status, text) = *row;
-    let mut shelf = MemShelf::new(alloc);
-    lay(alloc, &mut shelf, instance, solution).is_ok()
-        && ends_by(rt, alloc, line, &mut shelf, status, text)
-        && shelf.get("p").is_none()
+    let events = [
+        Store("i", instance),
+        Store("s", solution),
+        Views(line, status, text),
+        Holds("p", None),
+    ];
+    goes(rt, alloc, events.as_slice())
 }
 
-fn have_no_page<R: Files + Print>(rt: &R, alloc: Global, rows: &[Row]) -> bool {
+fn have_no_page<R: Files + Print + Threads + Wait + Sync>(
+    rt: &R,
+    alloc: Global,
+    rows: &[Row],
+) -> bool {
     for row in rows {
         if !has_no_page(rt, alloc, row) {
             return false;
@@ -113,45 +89,30 @@ fn calls_without_a_page(rt: HostRuntime) {
     assert!(rt; have_no_page(&rt, rt.alloc(), &NO_PAGES));
 }
 
-// Whether the name has a page.
-fn is_page(shelf: &MemShelf, name: &str) -> bool {
-    match shelf.get(name) {
-        Some(page) => page.starts_with(b"<!DOCTYPE html>\n") && page.ends_with(b"</main>\n"),
-        None => false,
-    }
-}
-
-// Whether a page is written, in place of an older one where there is one, and nothing is said.
-fn writes_pages<R: Files + Print>(rt: &R, alloc: Global) -> bool {
-    let mut shelf = MemShelf::new(alloc);
-    lay(alloc, &mut shelf, WARD, COVERED_SOLUTION).is_ok()
-        && shelf.store("p", b"an older page").is_ok()
-        && ends_by(rt, alloc, "i s p", &mut shelf, Status::Done, "")
-        && is_page(&shelf, "p")
-}
+// A page is written, in place of an older one where there is one, and nothing is said.
+const WRITTEN: [Event<'static>; 5] = [
+    Store("i", WARD),
+    Store("s", COVERED_SOLUTION),
+    Store("p", "an older page"),
+    Views("i s p", Status::Done, ""),
+    Page("p"),
+];
 
 #[test]
 fn a_page_is_written(rt: HostRuntime) {
-    assert!(rt; writes_pages(&rt, rt.alloc()));
+    assert!(rt; goes(&rt, rt.alloc(), &WRITTEN));
 }
 
-// Whether a page whose write is to fail is cut off, which is said.
-fn fails_to_write<R: Files + Print>(rt: &R, alloc: Global) -> bool {
-    let mut shelf = MemShelf::new(alloc);
-    lay(alloc, &mut shelf, WARD, COVERED_SOLUTION).is_ok()
-        && shelf.fail_write(1, 9).is_ok()
-        && ends_by(
-            rt,
-            alloc,
-            "i s p",
-            &mut shelf,
-            Status::WriteFault,
-            "cannot write p\n",
-        )
-        && shelf.get("p") == Some(b"<!DOCTYPE".as_slice())
-}
+// A page whose write is to fail is cut off, which is said.
+const CUT_OFF: [Event<'static>; 5] = [
+    Store("i", WARD),
+    Store("s", COVERED_SOLUTION),
+    FailWrite(1, 9),
+    Views("i s p", Status::WriteFault, "cannot write p\n"),
+    Holds("p", Some("<!DOCTYPE")),
+];
 
 #[test]
 fn a_page_that_fails(rt: HostRuntime) {
-    assert!(rt; fails_to_write(&rt, rt.alloc()));
+    assert!(rt; goes(&rt, rt.alloc(), &CUT_OFF));
 }

@@ -72,6 +72,16 @@ fn are_unlawful<R: Files + Print + Threads + Wait + Sync>(
     true
 }
 
+// Whether each of the first lines names a call, and none of the others.
+fn are_told_apart<R: Files + Print + Threads + Wait + Sync>(
+    rt: &R,
+    alloc: Global,
+    lawful: &[&str],
+    unlawful: &[&str],
+) -> bool {
+    are_lawful(rt, alloc, lawful) && are_unlawful(rt, alloc, unlawful)
+}
+
 const NO_CALLS: [&str; 10] = [
     "",
     ONE_NAME_TWICE,
@@ -87,8 +97,7 @@ const NO_CALLS: [&str; 10] = [
 
 #[test]
 fn unlawful_words(rt: HostRuntime) {
-    assert!(rt; are_unlawful(&rt, rt.alloc(), &NO_CALLS));
-    assert!(rt; are_lawful(&rt, rt.alloc(), &[MOST_MOVES]));
+    assert!(rt; are_told_apart(&rt, rt.alloc(), &[MOST_MOVES], &NO_CALLS));
 }
 
 // Rounds freeze nothing and try nothing again, there are at most 16, and their product with workers and moves is
@@ -104,9 +113,10 @@ const NO_CALLS_OF_ROUNDS: [&str; 6] = [
 
 #[test]
 fn unlawful_words_of_rounds(rt: HostRuntime) {
-    assert!(rt; are_lawful(&rt, rt.alloc(), &[MOST_ROUNDS]));
-    assert!(rt; are_unlawful(&rt, rt.alloc(), &NO_CALLS_OF_ROUNDS));
+    assert!(rt; are_told_apart(&rt, rt.alloc(), &[MOST_ROUNDS], &NO_CALLS_OF_ROUNDS));
 }
+
+const MOST_ADVISERS: &str = "advise i s --hard 0 --workers 64";
 
 const NO_ADVICE: [&str; 6] = [
     "advise i s --hard 1000",
@@ -119,8 +129,7 @@ const NO_ADVICE: [&str; 6] = [
 
 #[test]
 fn unlawful_words_of_advise(rt: HostRuntime) {
-    assert!(rt; are_lawful(&rt, rt.alloc(), &["advise i s --hard 0 --workers 64"]));
-    assert!(rt; are_unlawful(&rt, rt.alloc(), &NO_ADVICE));
+    assert!(rt; are_told_apart(&rt, rt.alloc(), &[MOST_ADVISERS], &NO_ADVICE));
 }
 
 // Words that name a search by chains, which finds no instance.
@@ -147,6 +156,5 @@ const NO_CHAINS: [&str; 10] = [
 
 #[test]
 fn unlawful_words_of_chain(rt: HostRuntime) {
-    assert!(rt; are_lawful(&rt, rt.alloc(), &CHAINS));
-    assert!(rt; are_unlawful(&rt, rt.alloc(), &NO_CHAINS));
+    assert!(rt; are_told_apart(&rt, rt.alloc(), &CHAINS, &NO_CHAINS));
 }

@@ -1,7 +1,7 @@
 //! Whole calls of several workers, over files in memory.
 
 use crate::examples::{ONE_ADMITTED, TWO_PATIENTS};
-use crate::script::Event::{Alike, Ends, Held, Holds, Lines, Pairs, Same, Store};
+use crate::script::Event::{Alike, Ends, Held, Holds, Lines, Meets, Pairs, Same, Store};
 use crate::script::{Event, goes};
 use ih_top::Status;
 
@@ -166,4 +166,18 @@ const THOUSAND_MOVES: [Event<'static>; 5] = [
 #[test]
 fn a_thousand_moves_of_two_workers(rt: HostRuntime) {
     assert!(rt; goes(&rt, rt.alloc(), &THOUSAND_MOVES));
+}
+
+const THREE_MEET: &str =
+    "solve i o j --seed 5 --workers 3 --moves 20 --heat 300 --hard 1000 --start s";
+
+const MOST_MEET: &str =
+    "solve i o j --seed 5 --workers 64 --moves 3 --heat 300 --hard 1000 --start s";
+
+// No worker offers its first move before all have priced theirs.
+const MEETINGS: [Event<'static>; 2] = [Meets(THREE_MEET, 3), Meets(MOST_MEET, 64)];
+
+#[test]
+fn all_workers_at_once(rt: HostRuntime) {
+    assert!(rt; goes(&rt, rt.alloc(), &MEETINGS));
 }

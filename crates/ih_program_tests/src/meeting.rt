@@ -1,4 +1,4 @@
-//! Searches whose workers are all at work at once: a gate holds each until every one has priced its first move.
+//! A search whose workers are all at work at once: a gate holds each until every one has priced its first move.
 
 use crate::examples::{ONE_ADMITTED, TWO_PATIENTS};
 use crate::whole_calls::{ends_saying, exits_past, lay, lines_behind};
@@ -30,6 +30,10 @@ impl MeetingGate {
             there: AtomicU64::new(0),
             ran_out: AtomicBool::new(false),
         }
+    }
+
+    fn ran_out(&self) -> bool {
+        self.ran_out.load(Ordering::SeqCst)
     }
 
     fn wait_for_all(&self) {
@@ -71,41 +75,40 @@ fn priced_on_the_start(lines: &str) -> u64 {
     firsts
 }
 
-// Whether so many workers meet at the gate, and the replay of their journal says what the search said.
-fn meet<R: Files + Print + Threads + Wait + Sync>(
+// Whether so many first moves of the journal were.
+fn began_together(shelf: &MemShelf, workers: u64) -> bool {
+    match lines_behind(shelf, "j") {
+        Some(lines) => priced_on_the_start(lines) == workers,
+        None => false,
+    }
+}
+
+// Whether the workers of a search meet at this gate, and the replay of their journal says what the search said.
+fn meet_at<R: Files + Print + Threads + Wait + Sync>(
     rt: &R,
     alloc: Global,
+    shelf: &mut MemShelf,
+    search: &str,
+    gate: &MeetingGate,
+) -> bool {
+    let mut out = MemSink::new(alloc);
+    let replay = "replay i j p --start s";
+    exits_past(rt, alloc, search, shelf, &mut out, gate, Status::Done)
+        && began_together(shelf, gate.workers)
+        && ends_saying(rt, alloc, replay, shelf, Status::Done, out.bytes())
+}
+
+/// Whether so many workers of a search of the two patients meet at a gate, and the replay of their journal says what the
+/// search said.
+pub fn meet<R: Files + Print + Threads + Wait + Sync>(
+    rt: &R,
+    alloc: Global,
+    shelf: &mut MemShelf,
     search: &str,
     workers: u64,
 ) -> bool {
-    let mut shelf = MemShelf::new(alloc);
-    let mut out = MemSink::new(alloc);
     let gate = MeetingGate::new(workers);
-    let laid = lay(alloc, &mut shelf, TWO_PATIENTS, ONE_ADMITTED).is_ok();
-    let done = exits_past(rt, alloc, search, &mut shelf, &mut out, &gate, Status::Done);
-    let together = match lines_behind(&shelf, "j") {
-        Some(lines) => priced_on_the_start(lines) == workers,
-        None => false,
-    };
-    let said = out.bytes();
-    let replayed = ends_saying(
-        rt,
-        alloc,
-        "replay i j p --start s",
-        &mut shelf,
-        Status::Done,
-        said,
-    );
-    laid && done && together && replayed && !gate.ran_out.load(Ordering::SeqCst)
-}
-
-const THREE: &str = "solve i o j --seed 5 --workers 3 --moves 20 --heat 300 --hard 1000 --start s";
-
-const MOST: &str = "solve i o j --seed 5 --workers 64 --moves 3 --heat 300 --hard 1000 --start s";
-
-#[test]
-fn all_workers_at_once(rt: HostRuntime) {
-    let alloc = rt.alloc();
-    assert!(rt; meet(&rt, alloc, THREE, 3));
-    assert!(rt; meet(&rt, alloc, MOST, 64));
+    lay(alloc, shelf, TWO_PATIENTS, ONE_ADMITTED).is_ok()
+        && meet_at(rt, alloc, shelf, search, &gate)
+        && !gate.ran_out()
 }
