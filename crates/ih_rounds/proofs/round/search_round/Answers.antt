@@ -1,10 +1,11 @@
-use Rattle.std.proofs.Common.{◌≡◌, ◌≤◌, refl, ap, sym, ◌∙◌, subst, arith, take, List, [], ◌∷◌}
+use Rattle.std.proofs.Common.{◌≡◌, ◌≤◌, refl, ap, sym, ◌∙◌, subst, arith, length, take, List, [], ◌∷◌}
 use Rattle.std.proofs.lemmas.List.{length-map}
 use Rattle.ih_journal.specs.declared.entries.Entry.{Entry}
 use Rattle.ih_journal.specs.Tried.{tried, tries}
 use Rattle.ih_journal.specs.Base.{Base}
 use Rattle.ih_journal.specs.History.{after_entries}
 use Rattle.ih_journal.specs.Legal.{IsFull}
+use Rattle.ih_journal.specs.Settings.{IsLawful}
 use Rattle.ih_cellbook.specs.Keeping.{base_with}
 use Rattle.ih_rounds.specs.Rounds.{next_start}
 use Rattle.ih_rounds.specs.Steps.{end_of}
@@ -17,14 +18,18 @@ use Rattle.ih_rounds.proofs.round.search_round.Goals as goal
 full-slice : (b : Base) (es xs : List Entry) → xs ≡ es → IsFull b 1 (tries es) → IsFull b 1 (tries xs)
 full-slice b es xs is full = subst (λ (ys : List Entry). IsFull b 1 (tries ys)) (sym is) full
 
+-- they are at most a million
+few-slice : (b : Base) (es xs : List Entry) → xs ≡ es → IsLawful b.options → IsFull b 1 (tries es) → length xs ≤ 1000000
+few-slice b es xs is lawful full =
+    let most = short b (tries xs) lawful (full-slice b es xs is full).legal in
+    let many = length-map xs tried in
+    omega (arith, most, many)
+
 pub put_journal-requires-clause-few : goal.put_journal-requires-clause-few
 put_journal-requires-clause-few g c =
     let b = base_with c.args.inst.now.draft c.args.start.now c.args.options.now 0 in
-    let full : IsFull b 1 (tries c.as_slice-entries.result.now) =
-    full-slice b _ _ c.as_slice-entries.ensures.value c.in_ok-answer.ensures.full in
-    let most = short b (tries c.as_slice-entries.result.now) c.requires.lawful full.legal in
-    let many = length-map c.as_slice-entries.result.now tried in
-    omega (arith, most, many)
+    let few = few-slice b _ _ c.as_slice-entries.ensures.value c.requires.lawful c.in_ok-answer.ensures.full in
+    omega (arith, few)
 
 pub put_journal-requires-clause-prices : goal.put_journal-requires-clause-prices
 put_journal-requires-clause-prices g c =
@@ -43,20 +48,14 @@ best_in-found-requires-clause-over g c =
 pub best_in-found-requires-clause-few : goal.best_in-found-requires-clause-few
 best_in-found-requires-clause-few g c =
     let b = base_with c.args.inst.now.draft c.args.start.now c.args.options.now 0 in
-    let full : IsFull b 1 (tries c.as_slice-entries.result.now) =
-    full-slice b _ _ c.as_slice-entries.ensures.value c.in_ok-answer.ensures.full in
-    let most = short b (tries c.as_slice-entries.result.now) c.requires.lawful full.legal in
-    let many = length-map c.as_slice-entries.result.now tried in
-    omega (arith, most, many)
+    let few = few-slice b _ _ c.as_slice-entries.ensures.value c.requires.lawful c.in_ok-answer.ensures.full in
+    omega (arith, few)
 
 pub overflow_cast-count : goal.overflow_cast-count
 overflow_cast-count g c =
     let b = base_with c.args.inst.now.draft c.args.start.now c.args.options.now 0 in
-    let full : IsFull b 1 (tries c.as_slice-entries.result.now) =
-    full-slice b _ _ c.as_slice-entries.ensures.value c.in_ok-answer.ensures.full in
-    let most = short b (tries c.as_slice-entries.result.now) c.requires.lawful full.legal in
-    let many = length-map c.as_slice-entries.result.now tried in
-    omega (arith, most, many)
+    let few = few-slice b _ _ c.as_slice-entries.ensures.value c.requires.lawful c.in_ok-answer.ensures.full in
+    omega (arith, few)
 
 pub plan_at-requires-clause-inside : goal.plan_at-requires-clause-inside
 plan_at-requires-clause-inside g c =
