@@ -20,33 +20,8 @@ use std::thread::Threads;
 // way over rooms and theatres, so what comes after these the caller chooses alone.
 const DEALT: u32 = 32;
 
-// Gives the patient the cheapest stay, where one costs less than none: the workers look for it.
-fn deal_stay<R: Threads + Wait + Sync, G: Gate>(
-    rt: &R,
-    inst: &Instance,
-    scorer: &mut Scorer<'_>,
-    p: PatientNo,
-    choice: u32,
-    shares: &mut [Option<Found>],
-    gate: &G,
-)
-    requires instance { scorer.old.instance ≡ inst.now.draft }
-    requires counts { scorer.old.counts_uncovered ≡ false }
-    requires patient { p.0 < patient_count inst.now.draft }
-    requires some { 0 < length shares.old }
-    requires few { length shares.old ≤ 64 }
-    ensures made { scorer.new
-        ≡ record scorer.old { plan = with_stay inst.now.draft scorer.old.hard scorer.old.plan p.0 } }
-    ensures len { length shares.new ≡ length shares.old }
-{
-    share_stays(rt, inst, scorer, p, choice, shares, gate);
-    let Some(found) = lowest(shares) else {
-        unreachable!()
-    };
-    scorer.put(&found.candidate.write);
-}
-
-// The same, by the workers or by the caller alone.
+// Gives the patient the cheapest stay, where one costs less than none: the workers look for it, or, past the choices that
+// are dealt, the caller alone.
 fn place<R: Threads + Wait + Sync, G: Gate>(
     rt: &R,
     inst: &Instance,
@@ -65,11 +40,15 @@ fn place<R: Threads + Wait + Sync, G: Gate>(
         ≡ record scorer.old { plan = with_stay inst.now.draft scorer.old.hard scorer.old.plan p.0 } }
     ensures len { length shares.new ≡ length shares.old }
 {
-    if choice < DEALT {
-        deal_stay(rt, inst, scorer, p, choice, shares, gate);
-    } else {
+    if choice >= DEALT {
         ih_fill::place(inst, scorer, p);
+        return;
     }
+    share_stays(rt, inst, scorer, p, choice, shares, gate);
+    let Some(found) = lowest(shares) else {
+        unreachable!()
+    };
+    scorer.put(&found.candidate.write);
 }
 
 // Admits, in their order, the mandatory or the optional patients who aren't admitted in a timetable. It gives the
@@ -109,35 +88,8 @@ fn place_all<R: Threads + Wait + Sync, G: Gate>(
     choice
 }
 
-// Gives the room a nurse in the shift, where it needs one: the workers look for it.
-fn deal_nurse<R: Threads + Wait + Sync, G: Gate>(
-    rt: &R,
-    inst: &Instance,
-    scorer: &mut Scorer<'_>,
-    k: Shift,
-    r: RoomNo,
-    choice: u32,
-    shares: &mut [Option<Found>],
-    gate: &G,
-)
-    requires instance { scorer.old.instance ≡ inst.now.draft }
-    requires room { r.0 < room_count inst.now.draft }
-    requires shift { k.0 < shift_count inst.now.draft }
-    requires some { 0 < length shares.old }
-    requires few { length shares.old ≤ 64 }
-    ensures made { scorer.new
-        ≡ record scorer.old { plan = with_care inst.now.draft scorer.old.hard scorer.old.plan k.0 r.0 } }
-    ensures len { length shares.new ≡ length shares.old }
-{
-    if is_uncovered(scorer, r, k) {
-        share_nurses(rt, inst, scorer, r, k, choice, shares, gate);
-        if let Some(found) = lowest(shares) {
-            scorer.put(&found.candidate.write);
-        }
-    }
-}
-
-// The same, by the workers or by the caller alone.
+// Gives the room a nurse in the shift, where it needs one: the workers look for it, or, past the choices that are dealt,
+// the caller alone.
 fn cover<R: Threads + Wait + Sync, G: Gate>(
     rt: &R,
     inst: &Instance,
@@ -157,10 +109,15 @@ fn cover<R: Threads + Wait + Sync, G: Gate>(
         ≡ record scorer.old { plan = with_care inst.now.draft scorer.old.hard scorer.old.plan k.0 r.0 } }
     ensures len { length shares.new ≡ length shares.old }
 {
-    if choice < DEALT {
-        deal_nurse(rt, inst, scorer, k, r, choice, shares, gate);
-    } else {
+    if choice >= DEALT {
         ih_fill::cover(inst, scorer, k, r);
+        return;
+    }
+    if is_uncovered(scorer, r, k) {
+        share_nurses(rt, inst, scorer, r, k, choice, shares, gate);
+        if let Some(found) = lowest(shares) {
+            scorer.put(&found.candidate.write);
+        }
     }
 }
 

@@ -8,7 +8,7 @@ use Rattle.ih_fill.specs.Scoring.{care_value}
 use Rattle.ih_fill.proofs.PassLemmas.{needs_nurse, nurse-given, nurse-left}
 use Rattle.ih_parfill.specs.Shares.{AreShares}
 use Rattle.ih_parfill.proofs.Least.{least-none, least-found}
-use Rattle.ih_parfill.proofs.filling.deal_nurse.Goals as goal
+use Rattle.ih_parfill.proofs.filling.cover.Goals as goal
 
 pub put-requires : goal.put-requires
 put-requires g c =

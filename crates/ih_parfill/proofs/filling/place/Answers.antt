@@ -10,7 +10,7 @@ use Rattle.ih_fill.specs.Scoring.{stay_value}
 use Rattle.ih_parfill.specs.Shares.{AreShares}
 use Rattle.ih_parfill.proofs.Least.{never-none, least-found}
 use Rattle.ih_parfill.proofs.Passes.{stay-found}
-use Rattle.ih_parfill.proofs.filling.deal_stay.Goals as goal
+use Rattle.ih_parfill.proofs.filling.place.Goals as goal
 
 pub unreachable-requires : goal.unreachable-requires
 unreachable-requires g c =
