@@ -20,8 +20,8 @@ use std::thread::Threads;
 // way over rooms and theatres, so what comes after these the caller chooses alone.
 const DEALT: u32 = 32;
 
-// Gives the patient the cheapest stay, where one costs less than none: the workers look for it, or, past the choices that
-// are dealt, the caller alone.
+// Gives the patient the cheapest stay, where one costs less than none: the workers look for it, or, past the
+// choices that are dealt, the caller alone.
 fn place<R: Threads + Wait + Sync, G: Gate>(
     rt: &R,
     inst: &Instance,
@@ -88,8 +88,8 @@ fn place_all<R: Threads + Wait + Sync, G: Gate>(
     choice
 }
 
-// Gives the room a nurse in the shift, where it needs one: the workers look for it, or, past the choices that are dealt,
-// the caller alone.
+// Gives the room a nurse in the shift, where it needs one: the workers look for it, or, past the choices that are
+// dealt, the caller alone.
 fn cover<R: Threads + Wait + Sync, G: Gate>(
     rt: &R,
     inst: &Instance,
