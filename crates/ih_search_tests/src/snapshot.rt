@@ -24,8 +24,8 @@ use std::alloc::{AllocError, Global};
 /// Threads share replicas.
 fn share<T: Send + Sync>(_x: &T) {}
 
-/// What a worker does: it takes over what is new, offers its move of a number, by the move's text, or prices that, which is
-/// to rest on these cells, each at this version.
+/// What a worker does: it takes over what is new, offers its move of a number, by the move's text, or prices that,
+/// which is to rest on these cells, each at this version.
 #[derive(Clone, Copy)]
 enum Step {
     Looks,
