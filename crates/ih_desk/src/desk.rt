@@ -115,8 +115,8 @@ impl<'a, E: Logged> DeskOver<Turn<Book<'a, E>>> {
         held.give()
     }
 
-    /// Offers the next attempt of the seat's worker, and answers its verdict. The history that the seat has then seen ends
-    /// with this entry. It uses one of the seat's turns, waits for it, and takes no memory.
+    /// Offers the next attempt of the seat's worker, and answers its verdict. The history that the seat has then seen
+    /// ends with this entry. It uses one of the seat's turns, waits for it, and takes no memory.
     pub fn offer<R: Wait>(
         &self,
         rt: &R,

@@ -63,7 +63,8 @@ fn work_all<D: Sync, W: Work<D> + Send, R: Threads + Wait + Sync, P: Pass + Sync
 }
 
 /// Runs each worker in a call of its own: each makes its draws in order, each tried again exactly after a stale try, as
-/// often as `retries` says. Where a thread can't be started the caller does that worker's search itself. It takes no memory.
+/// often as `retries` says. Where a thread can't be started the caller does that worker's search itself. It takes no
+/// memory.
 pub fn run_all<'a, C: Replicates + Send, R: Threads + Wait + Sync, G: Gate>(
     rt: &R,
     desk: &DeskOver<Turn<Book<'a, C::Entry>>>,

@@ -1,4 +1,5 @@
--- The instance that a number generates, as JSON without spaces; the keys of an object stand in the order of their bytes.
+-- The instance that a number generates, as JSON without spaces; the keys of an object stand in the order of their
+-- bytes.
 use Rattle.std.specs.Prelude.{ℕ, ◌+◌, ◌-◌, ◌*◌, ◌/◌, ◌%◌, ◌==◌, nat_lt, min, Bool, List, [], ◌∷◌, ◌++◌, codes, decimal, map, Option, Some, None, if◌then◌else◌}
 use Rattle.serde_json.specs.Data.{Data, boolean, string, object, Members, no_members, member}
 use Rattle.serde_json.specs.Written.{compact_text}

@@ -62,7 +62,8 @@ pub record IsSolutionRefused (name : List ℕ) (I : Draft) (e : Refusal) (files 
   pub short : length (bytes_at files name) ≤ MAX_FILE
   pub first : plan_in I (bytes_at files name) ≡ Err e
 
--- Why a call comes no further than its files: the instance comes first, then the solution; of each first its length, then its form.
+-- Why a call comes no further than its files: the instance comes first, then the solution; of each first its length,
+-- then its form.
 abbrev pub IsUnread : Option Names → Call → Status → Type 0
 IsUnread files c (ReadFault Instance) = Unit {0}
 IsUnread files c (TooLong Instance) = IfSome files (IsLong c.instance)

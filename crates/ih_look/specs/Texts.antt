@@ -52,8 +52,9 @@ IsPut text status result old new faults faults' lacks lacks' =
 abbrev pub MayTell : Status → Status → Type 0
 MayTell status told = (told ≡ status) ⊎ ((status ≢ Done) × (told ≡ OutOfMemory))
 
--- What is said at a status, where each has its text: that, and nothing where the page was written. At `OutOfMemory` it may be instead
--- that the sink wanted memory itself, and gained a part of the text of a status that the call had reached.
+-- What is said at a status, where each has its text: that, and nothing where the page was written. At `OutOfMemory` it
+-- may be instead that the sink wanted memory itself, and gained a part of the text of a status that the call had
+-- reached.
 abbrev pub IsSaid : (Status → Type 0) → (Status → List ℕ) → Status → Option (List ℕ) → Option (List ℕ) → ℕ → ℕ → ℕ → ℕ → Type 0
 IsSaid reached texts Done old new faults faults' lacks lacks' = new ≡ old
 IsSaid reached texts OutOfMemory old new faults faults' lacks lacks' =

@@ -28,8 +28,8 @@ listed_sum I P l = sum_by (slice_index (amounts I P l)) (dearest_first (amounts 
 abbrev pub ListsSum : Draft → Timetable → Type 0
 ListsSum I P = (l : Line) → IsLine l → pos (listed_sum I P l) ≡ number_in (bill_of I P) l
 
--- A page is the opening, which is one for all timetables and has its few tags, and behind it a text whose tags are
--- the page's own: so no text of a file, such as an id, makes a tag, and within one it could stand at most as digits where
+-- A page is the opening, which is one for all timetables and has its few tags, and behind it a text whose tags are the
+-- page's own: so no text of a file, such as an id, makes a tag, and within one it could stand at most as digits where
 -- the page has a number.
 pub record TagsAreOwn (I : Draft) (P : Timetable) : Type 0 where
   pub rest : List ℕ

@@ -1,5 +1,5 @@
-//! A timetable into which a stay and a choice of nurse are written, and which is empty again once an empty one is copied
-//! into it.
+//! A timetable into which a stay and a choice of nurse are written, and which is empty again once an empty one is
+//! copied into it.
 
 ghost use Rattle.std.specs.Prelude.{◌≡◌};
 ghost use Rattle.ih_plan.specs.Timetable.{empty};

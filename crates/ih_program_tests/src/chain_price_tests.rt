@@ -72,8 +72,8 @@ fn bill_after(
     }
 }
 
-// Whether each entry's price is the change of the full bill at its place, where the entry was accepted, and nothing changed
-// where it wasn't.
+// Whether each entry's price is the change of the full bill at its place, where the entry was accepted, and nothing
+// changed where it wasn't.
 fn are_exact(alloc: Global, inst: &Instance, start: &Plan, entries: &[ChainEntry]) -> bool
     requires start { IsPlanOf inst.now.draft start.now }
     requires moves { All (λ e. AreMoves inst.now.draft e.moves) (chain_tries entries.now) }

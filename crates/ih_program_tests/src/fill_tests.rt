@@ -97,7 +97,8 @@ fn all_fill_alike<R: Threads + Wait + Sync>(rt: &R, alloc: Global) -> bool {
         && fill_ward_alike(rt, alloc, 64, &OpenGate)
 }
 
-// Both theatres are as cheap for the first patient, and lie in the shares of two workers: the first wins, whoever finds it.
+// Both theatres are as cheap for the first patient, and lie in the shares of two workers: the first wins, whoever finds
+// it.
 #[test]
 fn any_number_of_workers_fill_alike(rt: HostRuntime) {
     assert!(rt; all_fill_alike(&rt, rt.alloc()));

@@ -354,8 +354,8 @@ fn salvages(rt: HostRuntime) {
     assert!(rt; salvages_all(&rt, rt.alloc(), &SALVAGES));
 }
 
-// Whether a call fails whose read of the journal is to fail, and the next one, whose write of the solution is to fail and
-// to leave three bytes.
+// Whether a call fails whose read of the journal is to fail, and the next one, whose write of the solution is to fail
+// and to leave three bytes.
 fn fails<R: Files + Print + Threads + Wait + Sync>(rt: &R, alloc: Global, words: &str) -> bool {
     let unread = Status::ReadFault(Role::Journal);
     let unwritten = Status::WriteFault(Some(Role::Out));

@@ -98,8 +98,8 @@ fn meet_at<R: Files + Print + Threads + Wait + Sync>(
         && ends_saying(rt, alloc, replay, shelf, Status::Done, out.bytes())
 }
 
-/// Whether so many workers of a search of the two patients meet at a gate, and the replay of their journal says what the
-/// search said.
+/// Whether so many workers of a search of the two patients meet at a gate, and the replay of their journal says what
+/// the search said.
 pub fn meet<R: Files + Print + Threads + Wait + Sync>(
     rt: &R,
     alloc: Global,

@@ -13,8 +13,8 @@ fn is_number(word: Option<&str>, number: u32) -> bool {
     }
 }
 
-// Whether the line begins as that of the attempt at this place: worker 1's at even places, and worker 0's at odd ones, priced
-// before that of worker 1.
+// Whether the line begins as that of the attempt at this place: worker 1's at even places, and worker 0's at odd ones,
+// priced before that of worker 1.
 fn is_in_turn(line: &str, place: u32) -> bool {
     let number = place / 2;
     let worker = 1 - place % 2;

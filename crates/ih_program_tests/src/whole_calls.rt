@@ -1,5 +1,5 @@
-//! What the tests of whole calls share: files in memory, and calls by the words of a line. Where memory runs out, what a test
-//! asks for is not so.
+//! What the tests of whole calls share: files in memory, and calls by the words of a line. Where memory runs out, what
+//! a test asks for is not so.
 
 use crate::examples::{ONE_ADMITTED, TWO_PATIENTS};
 use ih_shelf::{Gate, HoldGate, MemShelf, MemSink, OpenGate, Shelf};

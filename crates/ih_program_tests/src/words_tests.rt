@@ -139,8 +139,8 @@ const CHAINS: [&str; 3] = [
     "chain i o j --seed 0 --workers 2 --moves 2 --heat 0 --hard 1000 --length 8 --start s",
 ];
 
-// A chain has 1 to 8 moves, which are said, and their product with workers and moves is limited. Chains freeze nothing and
-// try nothing again.
+// A chain has 1 to 8 moves, which are said, and their product with workers and moves is limited. Chains freeze nothing
+// and try nothing again.
 const NO_CHAINS: [&str; 10] = [
     "chain i o j --seed 0 --workers 1 --moves 2 --heat 0 --hard 1000",
     "chain i o j --seed 0 --workers 1 --moves 2 --heat 0 --hard 1000 --length 0",

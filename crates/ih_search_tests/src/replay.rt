@@ -15,8 +15,8 @@ use std::alloc::Global;
 /// Threads share replays.
 fn share<T: Send + Sync>(_x: &T) {}
 
-/// What comes of a line: it is taken, or refused for a reason, and then nothing changes. There is no line where the journal is
-/// short, since the next one is missing, or whole.
+/// What comes of a line: it is taken, or refused for a reason, and then nothing changes. There is no line where the
+/// journal is short, since the next one is missing, or whole.
 #[derive(Clone, Copy)]
 enum Told {
     Taken,
@@ -142,8 +142,8 @@ fn comes_to(alloc: Global, inst: &Instance, start: &Plan, journal: &Journal) -> 
     }
 }
 
-// A search of seed 7 in which worker 1 looked before worker 0's second entry, and tried its move again. Wrong lines stand
-// between its five, each with its first reason.
+// A search of seed 7 in which worker 1 looked before worker 0's second entry, and tried its move again. Wrong lines
+// stand between its five, each with its first reason.
 const RIGHT_AND_WRONG: [Row; 24] = [
     (Short, ""),
     (Refused(Reason::Grammar), "0 0 0 0 0 nurse:0,2,0 accepted"),
@@ -247,8 +247,8 @@ const CHEAPER: [Row; 2] = [
     ),
 ];
 
-// The first lines of a search of seed 4 without retries, in which worker 1 saw nothing at first: a line that had seen less is
-// taken after a refused one.
+// The first lines of a search of seed 4 without retries, in which worker 1 saw nothing at first: a line that had seen
+// less is taken after a refused one.
 const SEEN_LESS: [Row; 4] = [
     (
         Taken,

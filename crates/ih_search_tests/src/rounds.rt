@@ -60,8 +60,8 @@ fn none_by(entries: &[Entry], worker: u32) -> bool
     true
 }
 
-// Whether the offer's worker isn't done after these entries, this is its next move, and the offer has seen all entries of
-// its worker.
+// Whether the offer's worker isn't done after these entries, this is its next move, and the offer has seen all entries
+// of its worker.
 fn may_come(entries: &[Entry], options: &Options, offer: &Offer) -> bool
     requires { offer.now.seen ≤ length entries.now }
     ensures { IsTrue result → (offer.now.worker < options.now.workers)

@@ -232,8 +232,8 @@ const JOIN_BESIDE: &str = "place:1,0,1,1";
 
 const JOIN_LATER: &str = "place:1,1,1,1";
 
-// A move is stale where another changed what it read, and is accepted when it comes again. Its worker hasn't seen its own
-// last entry when it offers again at once, and has when it does so after a look, by the same number.
+// A move is stale where another changed what it read, and is accepted when it comes again. Its worker hasn't seen its
+// own last entry when it offers again at once, and has when it does so after a look, by the same number.
 const COMES_AGAIN: [Row; 6] = [
     (1, Offers(0, SECOND_NURSE), ACCEPTED),
     (0, Offers(0, JOIN), ONCE_STALE),

@@ -1,5 +1,5 @@
-//! The moves and verdicts of the tests on the ward of two patients, of whom the first is admitted, with one nurse in all
-//! shifts.
+//! The moves and verdicts of the tests on the ward of two patients, of whom the first is admitted, with one nurse in
+//! all shifts.
 
 ghost use Rattle.std.specs.Prelude.{◌≡◌};
 

@@ -125,8 +125,8 @@ fn has(seat: &Seat<Numbers>, seen: u64, made: u64, left: u64) -> bool {
     seat.seen() == seen && seat.made() == made && seat.left() == left
 }
 
-// The first of two seats adds the number 5, and the second none. Answers the list in the end, and none where a seat counts
-// otherwise.
+// The first of two seats adds the number 5, and the second none. Answers the list in the end, and none where a seat
+// counts otherwise.
 fn five_alone<R: Wait>(
     rt: &R,
     alloc: Global,

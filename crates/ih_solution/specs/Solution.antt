@@ -1,5 +1,6 @@
--- The solution file of a timetable, in the competition's form: each patient's stay, and each nurse's rooms shift by shift.
--- It is JSON without spaces; the keys of an object stand in the order of their bytes, so `nurses` come before `patients`.
+-- The solution file of a timetable, in the competition's form: each patient's stay, and each nurse's rooms shift by
+-- shift. It is JSON without spaces; the keys of an object stand in the order of their bytes, so `nurses` come before
+-- `patients`.
 use Rattle.std.specs.Prelude.{ℕ, ◌/◌, ◌%◌, not, List, [], codes, map, Option, Some, None, slice_get}
 use Rattle.std.specs.Option.{option_map_or}
 use Rattle.serde_json.specs.Data.{Data, unsigned, number, string, array, object, no_members, member}

@@ -1,4 +1,5 @@
--- Files that are accepted, and journals: with no fault and memory enough a call comes past them, and finds one thing in them.
+-- Files that are accepted, and journals: with no fault and memory enough a call comes past them, and finds one thing in
+-- them.
 use Rattle.std.proofs.Common.{◌≡◌, ℕ, refl, sym, ◌∙◌, ap, ap₂, subst, arith, inl, inr, List, length, Option, Some, None}
 use Rattle.std.specs.Prelude.{Result, Ok, Err, IfSome}
 use Rattle.ih_tables.specs.declared.drafts.Draft.{Draft}

@@ -1,4 +1,5 @@
--- Two calls with one search and one worker end alike over the same files, where no fault and no lack of memory ended them.
+-- Two calls with one search and one worker end alike over the same files, where no fault and no lack of memory ended
+-- them.
 use Rattle.std.proofs.Common.{◌≡◌, ◌∙◌, ℕ, ◌<◌, ◌≤◌, refl, sym, ap, ap₂, subst, arith, inl, inr, Bool, true, false, List, [], length, Option, Some, None}
 use Rattle.std.specs.Prelude.{◌≢◌, ◌⊎◌, Result, Ok, Err}
 use Rattle.std.specs.Bool.{Decides}

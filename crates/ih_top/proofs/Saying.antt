@@ -20,12 +20,14 @@ said_by view status text (Err e) a made memory = inl memory
 
 -- ---- families of ends
 
--- Of each end whose text couldn't be put out, and of each at which memory ran out as its text was made, the family has that end too.
+-- Of each end whose text couldn't be put out, and of each at which memory ran out as its text was made, the family has
+-- that end too.
 pub record IsAnswerable (ends : Status → List ℕ → Type 0) : Type 0 where
   pub unsaid : (status : Status) (text : List ℕ) → text ≢ [] → ends status text → ends (unsaid status) text
   pub memory : (status : Status) (text : List ℕ) → ends status text → ends OutOfMemory memory_text
 
--- The text of what was done, and that of what breaks a hard rule, may not be put out; of each other end the status stays.
+-- The text of what was done, and that of what breaks a hard rule, may not be put out; of each other end the status
+-- stays.
 pub unsaid-by : (ends : Status → List ℕ → Type 0) (text : List ℕ) → (ends Done text → ends (WriteFault None) text)
     → (ends Infeasible text → ends (WriteFault None) text) → (status : Status) → ends status text → ends (unsaid status) text
 unsaid-by ends text done broken Done h = done h

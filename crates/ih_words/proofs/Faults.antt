@@ -30,7 +30,8 @@ fault_at app words e h other = not_empty (fault_of app words) e h other
 pub simple_of : (app : App) → is_simple_and_free app ≡ true → is_simple app ≡ true
 simple_of app h = (and_parts (is_simple app) _ h).0
 
--- an error that is made of clap's, and that is lack of memory exactly where clap's is, tells a fault of the words otherwise
+-- an error that is made of clap's, and that is lack of memory exactly where clap's is, tells a fault of the words
+-- otherwise
 pub unlawful_at : {X : Type 0} (app : App) (words : List Text) (error : Error) (r : Result X WordsError) → HasKind (fault_of app words) error
     → IsErrAnd r (λ e. (e ≡ WordsOutOfMemory) ↔ (kind_of error ≡ OutOfMemory))
     → IfErr r (λ e. e ≡ Unlawful → has_no_fault app words ≡ false)

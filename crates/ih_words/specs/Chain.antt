@@ -22,8 +22,8 @@ pub record ChainCall : Type 0 where
 abbrev pub chain_call : Chains → ChainCall
 chain_call c = record { search = solve_call c.search; length = c.length }
 
--- The options are lawful, no stale chain is tried again, and nothing is frozen; each chain has one move or more, and all
--- chains together have at most a million moves.
+-- The options are lawful, no stale chain is tried again, and nothing is frozen; each chain has one move or more, and
+-- all chains together have at most a million moves.
 pub record IsLawfulChain (c : Chains) : Type 0 where
   pub search : IsPlain c.search
   pub some : 1 ≤ c.length

@@ -1,5 +1,5 @@
--- The commands `replay` and `salvage`, which have the same arguments: their description for `clap`, their values and when these
--- are lawful.
+-- The commands `replay` and `salvage`, which have the same arguments: their description for `clap`, their values and
+-- when these are lawful.
 use Rattle.std.specs.Prelude.{◌&&◌, List, ◌∷◌, Option, Some, None, codes, if◌then◌else◌}
 use Rattle.clap.specs.Words.{App, Row, Text, new_app, with_rule}
 use Rattle.ih_words.specs.Arguments.{named}

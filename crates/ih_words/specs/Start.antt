@@ -1,4 +1,5 @@
--- What a search starts from, and the first day whose choices it may change: the options `--start F`, `--freeze DAY` and `--fill`.
+-- What a search starts from, and the first day whose choices it may change: the options `--start F`, `--freeze DAY` and
+-- `--fill`.
 use Rattle.std.specs.Prelude.{◌&&◌, ◌||◌, not, ℕ, Bool, List, Option, option_map, option_to_list, codes}
 use Rattle.clap.specs.Words.{App, Row, Text, first_of, with_rule}
 use Rattle.ih_words.specs.Arguments.{flag, optional, optional_number}

@@ -39,8 +39,8 @@ command_call (AdviseCommand a) = advise (advise_call a)
 command_call (GenCommand g) = gen (gen_call g)
 command_call (DemoCommand number) = demo number
 
--- The options of a search, where the command has them, are within their limits. Rounds and chains freeze nothing and try
--- nothing again.
+-- The options of a search, where the command has them, are within their limits. Rounds and chains freeze nothing and
+-- try nothing again.
 abbrev pub HasLawfulOptions : Command → Type 0
 HasLawfulOptions (SolveCommand s) = IsLawful s.options
 HasLawfulOptions (ChainCommand c) = IsLawfulChain c
