@@ -22,6 +22,9 @@ pub struct DeskOver<T> {
 /// A desk over a book of such entries.
 pub type DeskOf<'a, E> = DeskOver<Turn<Book<'a, E>>>;
 
+/// A worker's seat at such a desk.
+pub type DeskSeat<'a, E> = Seat<Book<'a, E>>;
+
 /// A desk over a book of moves.
 pub type Desk<'a> = DeskOver<Turn<Book<'a>>>;
 
@@ -41,7 +44,7 @@ impl<'a, E: Logged> DeskOver<Turn<Book<'a, E>>> {
         book: Book<'a, E>,
         workers: u32,
         turns: u64,
-    ) -> Result<(DeskOver<Turn<Book<'a, E>>>, Vec<Seat<Book<'a, E>>>), Book<'a, E>>
+    ) -> Result<(DeskOf<'a, E>, Vec<DeskSeat<'a, E>>), Book<'a, E>>
         requires some { 1 ≤ workers }
         requires workers { workers ≡ book.base.options.workers }
         requires empty { book.entries ≡ [] }
@@ -67,9 +70,9 @@ impl<'a, E: Logged> DeskOver<Turn<Book<'a, E>>> {
     pub fn look<R: Wait>(
         &self,
         rt: &R,
-        seat: Seat<Book<'a, E>>,
+        seat: DeskSeat<'a, E>,
         buffer: &mut Buffer<E>,
-    ) -> Seat<Book<'a, E>>
+    ) -> DeskSeat<'a, E>
         requires own { IsSeatAt self.now seat }
         requires left { 0 < turns_left seat }
         requires from { buffer.old.from ≤ length (history seat) }
@@ -96,10 +99,10 @@ impl<'a, E: Logged> DeskOver<Turn<Book<'a, E>>> {
     pub fn look_for_news<R: Wait>(
         &self,
         rt: &R,
-        seat: Seat<Book<'a, E>>,
+        seat: DeskSeat<'a, E>,
         from: u32,
         news: &mut News<E>,
-    ) -> Seat<Book<'a, E>>
+    ) -> DeskSeat<'a, E>
         requires own { IsSeatAt self.now seat }
         requires left { 0 < turns_left seat }
         requires from { from ≤ length (history seat) }
@@ -120,9 +123,9 @@ impl<'a, E: Logged> DeskOver<Turn<Book<'a, E>>> {
     pub fn offer<R: Wait>(
         &self,
         rt: &R,
-        seat: Seat<Book<'a, E>>,
+        seat: DeskSeat<'a, E>,
         offer: &E::Offer,
-    ) -> (Seat<Book<'a, E>>, Verdict)
+    ) -> (DeskSeat<'a, E>, Verdict)
         requires own { IsSeatAt self.now seat }
         requires left { 0 < turns_left seat }
         requires worker { (E.Offer.offered offer.now).worker ≡ number_of seat }
@@ -146,10 +149,10 @@ impl<'a, E: Logged> DeskOver<Turn<Book<'a, E>>> {
     pub fn offer_and_look<R: Wait>(
         &self,
         rt: &R,
-        seat: Seat<Book<'a, E>>,
+        seat: DeskSeat<'a, E>,
         offer: &E::Offer,
         news: &mut News<E>,
-    ) -> (Seat<Book<'a, E>>, Verdict)
+    ) -> (DeskSeat<'a, E>, Verdict)
         requires own { IsSeatAt self.now seat }
         requires left { 0 < turns_left seat }
         requires worker { (E.Offer.offered offer.now).worker ≡ number_of seat }
@@ -170,7 +173,7 @@ impl<'a, E: Logged> DeskOver<Turn<Book<'a, E>>> {
     }
 
     /// Gives the book back, once all seats have come back. It has just the entries that they made.
-    pub fn close(self, seats: Vec<Seat<Book<'a, E>>>) -> Book<'a, E>
+    pub fn close(self, seats: Vec<DeskSeat<'a, E>>) -> Book<'a, E>
         requires desk { IsDesk self }
         requires own { All (IsSeatAt self) seats.items }
         requires all { (n : ℕ) → n < worker_count self → Contains (map number_of seats.items) n }

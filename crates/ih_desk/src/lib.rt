@@ -10,7 +10,7 @@ mod searcher;
 mod searching;
 mod workers;
 
-pub use desk::{Desk, DeskOf, DeskOver};
+pub use desk::{Desk, DeskOf, DeskOver, DeskSeat};
 pub use given::Given;
 pub use laws::finished_searches_are_full;
 pub use running::run_all;

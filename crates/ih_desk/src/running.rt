@@ -3,18 +3,14 @@
 ghost use Rattle.std.specs.Prelude.{ℕ, ◌<◌, All, length, slice_index_or};
 ghost use Rattle.ih_desk.specs.Workers.{HasWorked, MayWork};
 
-use crate::desk::DeskOver;
+use crate::desk::DeskOf;
 use crate::passing::{Pass, SharedGate};
-use crate::searcher::Searcher;
-use crate::workers::Seated;
-use ih_cellbook::{Book, Logged, Replicates};
+use crate::workers::WorkerOn;
+use ih_cellbook::{Logged, Replicates};
+use ih_journal::MAX_WORKERS;
 use ih_shelf::Gate;
-use ih_turn::{Seat, Turn};
 use std::sync::Wait;
 use std::thread::{Threads, for_each_mut};
-
-// The most threads that a search starts.
-const MOST_THREADS: usize = 64;
 
 /// Something that does its work beside others, at a shared D. No bound of its method is on threads: a trait's method
 /// can't hand such a bound on.
@@ -28,18 +24,12 @@ trait Work<D> {
         ensures { worked shared.now self.old self.new };
 }
 
-impl<'a, C: Replicates> Work<DeskOver<Turn<Book<'a, C::Entry>>>>
-    for Seated<Searcher<'a, C>, Seat<Book<'a, C::Entry>>> {
+impl<'a, C: Replicates> Work<DeskOf<'a, C::Entry>> for WorkerOn<'a, C> {
     ghost ready = { MayWork };
 
     ghost worked = { HasWorked };
 
-    fn work<R: Wait, P: Pass>(
-        &mut self,
-        rt: &R,
-        shared: &DeskOver<Turn<Book<'a, C::Entry>>>,
-        gate: &P,
-    ) {
+    fn work<R: Wait, P: Pass>(&mut self, rt: &R, shared: &DeskOf<'a, C::Entry>, gate: &P) {
         let Some(seat) = self.seat.take() else {
             unreachable!()
         };
@@ -59,7 +49,12 @@ fn work_all<D: Sync, W: Work<D> + Send, R: Threads + Wait + Sync, P: Pass + Sync
     ensures { (k : ℕ) (d : W) → k < length workers.old
         → W.worked shared.now (slice_index_or workers.old k d) (slice_index_or workers.new k d) }
 {
-    for_each_mut(rt, workers, MOST_THREADS, &|_, w| w.work(rt, shared, gate));
+    for_each_mut(
+        rt,
+        workers,
+        MAX_WORKERS as usize,
+        &|_, w| w.work(rt, shared, gate),
+    );
 }
 
 /// Runs each worker in a call of its own: each makes its draws in order, each tried again exactly after a stale try, as
@@ -67,8 +62,8 @@ fn work_all<D: Sync, W: Work<D> + Send, R: Threads + Wait + Sync, P: Pass + Sync
 /// memory.
 pub fn run_all<'a, C: Replicates + Send, R: Threads + Wait + Sync, G: Gate>(
     rt: &R,
-    desk: &DeskOver<Turn<Book<'a, C::Entry>>>,
-    workers: &mut [Seated<Searcher<'a, C>, Seat<Book<'a, C::Entry>>>],
+    desk: &DeskOf<'a, C::Entry>,
+    workers: &mut [WorkerOn<'a, C>],
     gate: &G,
 )
 where

@@ -3,14 +3,13 @@
 ghost use Rattle.std.specs.Prelude.{◌≡◌};
 ghost use Rattle.ih_journal.specs.Attempts.{is_stale};
 
-use crate::desk::DeskOver;
+use crate::desk::{DeskOf, DeskSeat};
 use crate::passing::Pass;
-use ih_cellbook::{Attempted, Book, Logged, News, Opens, Replicates};
+use ih_cellbook::{Attempted, Logged, News, Opens, Replicates};
 use ih_journal::{Options, Verdict};
 use ih_moves::Stream;
 use ih_plan::Plan;
 use ih_tables::Instance;
-use ih_turn::{Seat, Turn};
 use std::alloc::{AllocError, Global};
 use std::marker::Model;
 use std::sync::Wait;
@@ -107,10 +106,10 @@ impl<'a, C: Replicates> Searcher<'a, C> {
     pub(crate) fn search<R: Wait, P: Pass>(
         &mut self,
         rt: &R,
-        desk: &DeskOver<Turn<Book<'a, C::Entry>>>,
-        seat: Seat<Book<'a, C::Entry>>,
+        desk: &DeskOf<'a, C::Entry>,
+        seat: DeskSeat<'a, C::Entry>,
         gate: &P,
-    ) -> Seat<Book<'a, C::Entry>>
+    ) -> DeskSeat<'a, C::Entry>
         requires own { IsSeatAt desk.now seat }
         requires new { IsNew (base_of desk.now) self.old.each (number_of seat) self.old }
         requires none { HasNoneBy (number_of seat) (history seat) }
@@ -135,12 +134,12 @@ impl<'a, C: Replicates> Searcher<'a, C> {
     fn make<R: Wait, P: Pass>(
         &mut self,
         rt: &R,
-        desk: &DeskOver<Turn<Book<'a, C::Entry>>>,
-        seat: Seat<Book<'a, C::Entry>>,
+        desk: &DeskOf<'a, C::Entry>,
+        seat: DeskSeat<'a, C::Entry>,
         gate: &P,
         number: u32,
         attempt: &<C::Entry as Logged>::Attempt,
-    ) -> Seat<Book<'a, C::Entry>>
+    ) -> DeskSeat<'a, C::Entry>
         requires own { IsSeatAt desk.now seat }
         requires caught_up { HasCaughtUp (base_of desk.now) self.old.each (number_of seat) (history seat) self.old }
         requires move_in { AreMoves (base_of desk.now).instance (C.Entry.Attempt.moves attempt.now) }
@@ -177,12 +176,12 @@ impl<'a, C: Replicates> Searcher<'a, C> {
     fn try_once<R: Wait, P: Pass>(
         &mut self,
         rt: &R,
-        desk: &DeskOver<Turn<Book<'a, C::Entry>>>,
-        seat: Seat<Book<'a, C::Entry>>,
+        desk: &DeskOf<'a, C::Entry>,
+        seat: DeskSeat<'a, C::Entry>,
         gate: &P,
         number: u32,
         attempt: &<C::Entry as Logged>::Attempt,
-    ) -> (Seat<Book<'a, C::Entry>>, Verdict)
+    ) -> (DeskSeat<'a, C::Entry>, Verdict)
         requires own { IsSeatAt desk.now seat }
         requires caught_up { HasCaughtUp (base_of desk.now) self.old.each (number_of seat) (history seat) self.old }
         requires move_in { AreMoves (base_of desk.now).instance (C.Entry.Attempt.moves attempt.now) }
@@ -206,12 +205,12 @@ impl<'a, C: Replicates> Searcher<'a, C> {
     fn offer<R: Wait, P: Pass>(
         &mut self,
         rt: &R,
-        desk: &DeskOver<Turn<Book<'a, C::Entry>>>,
-        seat: Seat<Book<'a, C::Entry>>,
+        desk: &DeskOf<'a, C::Entry>,
+        seat: DeskSeat<'a, C::Entry>,
         gate: &P,
         number: u32,
         attempt: &<C::Entry as Logged>::Attempt,
-    ) -> (Seat<Book<'a, C::Entry>>, Verdict)
+    ) -> (DeskSeat<'a, C::Entry>, Verdict)
         requires own { IsSeatAt desk.now seat }
         requires caught_up { HasCaughtUp (base_of desk.now) self.old.each (number_of seat) (history seat) self.old }
         requires move_in { AreMoves (base_of desk.now).instance (C.Entry.Attempt.moves attempt.now) }
@@ -240,9 +239,9 @@ impl<'a, C: Replicates> Searcher<'a, C> {
     fn catch_up<R: Wait>(
         &mut self,
         rt: &R,
-        desk: &DeskOver<Turn<Book<'a, C::Entry>>>,
-        seat: Seat<Book<'a, C::Entry>>,
-    ) -> Seat<Book<'a, C::Entry>>
+        desk: &DeskOf<'a, C::Entry>,
+        seat: DeskSeat<'a, C::Entry>,
+    ) -> DeskSeat<'a, C::Entry>
         requires own { IsSeatAt desk.now seat }
         requires within { IsWithin (base_of desk.now) self.old.each (number_of seat) (history seat) self.old }
         requires told { IsToldOf (history seat) self.old }
@@ -269,9 +268,9 @@ impl<'a, C: Replicates> Searcher<'a, C> {
     fn look<R: Wait>(
         &mut self,
         rt: &R,
-        desk: &DeskOver<Turn<Book<'a, C::Entry>>>,
-        seat: Seat<Book<'a, C::Entry>>,
-    ) -> Seat<Book<'a, C::Entry>>
+        desk: &DeskOf<'a, C::Entry>,
+        seat: DeskSeat<'a, C::Entry>,
+    ) -> DeskSeat<'a, C::Entry>
         requires own { IsSeatAt desk.now seat }
         requires within { IsWithin (base_of desk.now) self.old.each (number_of seat) (history seat) self.old }
         requires new { self.old.replica.seen < length (history seat) }

@@ -8,16 +8,14 @@ ghost use Rattle.ih_cellbook.specs.Keeping.{IsBase};
 ghost use Rattle.ih_desk.specs.Searching.{base_given, IsOpened, HaveFinished, HaveLeft};
 ghost use Rattle.ih_desk.specs.Workers.{IsNewWorker, MayWork, enough_turns};
 
-use crate::desk::DeskOver;
+use crate::desk::{DeskOf, DeskOver, DeskSeat};
 use crate::given::Given;
 use crate::laws::finished_searches_are_full;
 use crate::running::run_all;
-use crate::searcher::Searcher;
-use crate::workers::Seated;
+use crate::workers::{Seated, WorkerOn};
 use ih_cellbook::{Book, Logged, Opens, Replicates};
 use ih_journal::Options;
 use ih_shelf::Gate;
-use ih_turn::{Seat, Turn};
 use ih_validate::bill;
 use std::alloc::{AllocError, Global};
 use std::sync::Wait;
@@ -36,7 +34,7 @@ fn turns_of(options: &Options) -> u64
 fn open<'a, E: Logged>(
     alloc: Global,
     given: &Given<'a>,
-) -> Result<(DeskOver<Turn<Book<'a, E>>>, Vec<Seat<Book<'a, E>>>), AllocError>
+) -> Result<(DeskOf<'a, E>, Vec<DeskSeat<'a, E>>), AllocError>
     requires given { IsBase (base_given given.now) }
     requires retries { given.now.options.retries ≤ E.most_retries }
     ensures { IfOk result (λ t. IsOpened (base_given given.entry.now) t.0 t.1.items) }
@@ -62,8 +60,8 @@ fn seat_workers<'a, C: Opens<'a>>(
     alloc: Global,
     given: &Given<'a>,
     each: u32,
-    seats: Vec<Seat<Book<'a, C::Entry>>>,
-) -> Result<Vec<Seated<Searcher<'a, C>, Seat<Book<'a, C::Entry>>>>, AllocError>
+    seats: Vec<DeskSeat<'a, C::Entry>>,
+) -> Result<Vec<WorkerOn<'a, C>>, AllocError>
     requires given { IsBase (base_given given.now) }
     requires freeze { given.now.freeze ≤ C.Entry.Attempt.most_freeze }
     requires each { C.Entry.Attempt.may_have each }
@@ -89,8 +87,8 @@ fn seat_workers<'a, C: Opens<'a>>(
 
 // The seats of the workers, in their order, behind the seats that are there. It takes no memory.
 fn take_seats<'a, C: Replicates>(
-    workers: &mut Vec<Seated<Searcher<'a, C>, Seat<Book<'a, C::Entry>>>>,
-    seats: &mut Vec<Seat<Book<'a, C::Entry>>>,
+    workers: &mut Vec<WorkerOn<'a, C>>,
+    seats: &mut Vec<DeskSeat<'a, C::Entry>>,
 )
     requires { length seats.old.items + length workers.old.items ≤ vec_capacity seats.old }
     ensures left { HaveLeft workers.old.items seats.old.items seats.new.items }
@@ -105,8 +103,8 @@ fn take_seats<'a, C: Replicates>(
 // Lets the workers do their searches, each in a call of its own.
 fn work<'a, C: Replicates + Send, R: Threads + Wait + Sync, G: Gate>(
     rt: &R,
-    desk: &DeskOver<Turn<Book<'a, C::Entry>>>,
-    workers: &mut Vec<Seated<Searcher<'a, C>, Seat<Book<'a, C::Entry>>>>,
+    desk: &DeskOf<'a, C::Entry>,
+    workers: &mut Vec<WorkerOn<'a, C>>,
     gate: &G,
 )
 where
@@ -140,10 +138,8 @@ where
     ensures full { IfOk result (λ k. IsFull (base_given given.entry.now) each k.entries) }
 {
     let (desk, seats) = open::<C::Entry>(alloc, given)?;
-    let mut back: Vec<Seat<Book<'a, C::Entry>>> = Vec::with_capacity(alloc, seats.len())?;
-    let mut workers: Vec<Seated<Searcher<'a, C>, Seat<Book<'a, C::Entry>>>> = seat_workers(
-        alloc, given, each, seats,
-    )?;
+    let mut back: Vec<DeskSeat<'a, C::Entry>> = Vec::with_capacity(alloc, seats.len())?;
+    let mut workers: Vec<WorkerOn<'a, C>> = seat_workers(alloc, given, each, seats)?;
     work(rt, &desk, &mut workers, gate);
     take_seats(&mut workers, &mut back);
     // For the proof alone.

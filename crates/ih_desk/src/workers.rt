@@ -2,12 +2,12 @@
 
 ghost use Rattle.std.specs.Prelude.{IsSome};
 
+use crate::desk::DeskSeat;
 use crate::searcher::Searcher;
-use ih_cellbook::{Book, Opens, Replicates};
+use ih_cellbook::{Opens, Replicates};
 use ih_journal::Options;
 use ih_plan::Plan;
 use ih_tables::Instance;
-use ih_turn::Seat;
 use std::alloc::Global;
 
 /// One of the workers of a search, with its seat at the desk. Both are parameters, since a struct can't hold a seat of
@@ -21,9 +21,9 @@ pub struct Seated<S, T> {
 }
 
 /// A worker that prices on such replicas.
-pub type WorkerOn<'a, C> = Seated<Searcher<'a, C>, Seat<Book<'a, <C as Replicates>::Entry>>>;
+pub type WorkerOn<'a, C> = Seated<Searcher<'a, C>, DeskSeat<'a, <C as Replicates>::Entry>>;
 
-impl<'a, C: Opens<'a>> Seated<Searcher<'a, C>, Seat<Book<'a, C::Entry>>> {
+impl<'a, C: Opens<'a>> WorkerOn<'a, C> {
     ghost use Rattle.std.specs.Prelude.{◌≡◌, ◌≤◌, IfOk, IfErr};
     ghost use Rattle.ih_plan.specs.Timetable.{IsPlanOf};
     ghost use Rattle.ih_journal.specs.Settings.{IsLawful};
@@ -41,8 +41,8 @@ impl<'a, C: Opens<'a>> Seated<Searcher<'a, C>, Seat<Book<'a, C::Entry>>> {
         options: &Options,
         freeze: u32,
         each: u32,
-        seat: Seat<Book<'a, C::Entry>>,
-    ) -> Result<Seated<Searcher<'a, C>, Seat<Book<'a, C::Entry>>>, Seat<Book<'a, C::Entry>>>
+        seat: DeskSeat<'a, C::Entry>,
+    ) -> Result<WorkerOn<'a, C>, DeskSeat<'a, C::Entry>>
         requires start { IsPlanOf inst.now.draft start.now }
         requires lawful { IsLawful options.now }
         requires freeze { freeze ≤ C.Entry.Attempt.most_freeze }
@@ -70,8 +70,8 @@ impl<'a, C: Opens<'a>> Seated<Searcher<'a, C>, Seat<Book<'a, C::Entry>>> {
         start: &Plan,
         options: &Options,
         freeze: u32,
-        seat: Seat<Book<'a, C::Entry>>,
-    ) -> Result<Seated<Searcher<'a, C>, Seat<Book<'a, C::Entry>>>, Seat<Book<'a, C::Entry>>>
+        seat: DeskSeat<'a, C::Entry>,
+    ) -> Result<WorkerOn<'a, C>, DeskSeat<'a, C::Entry>>
         requires start { IsPlanOf inst.now.draft start.now }
         requires lawful { IsLawful options.now }
         requires freeze { freeze ≤ C.Entry.Attempt.most_freeze }

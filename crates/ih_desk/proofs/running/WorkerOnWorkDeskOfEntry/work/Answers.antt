@@ -4,7 +4,7 @@ use Rattle.ih_cellbook.specs.Laws.{HasNoneBy}
 use Rattle.ih_desk.specs.Desks.{DeskSeat, base_of}
 use Rattle.ih_desk.proofs.Makers.{none-made}
 use Rattle.ih_desk.specs.Finishing.{HasFinished}
-use Rattle.ih_desk.proofs.running.SeatedSearcherSeatBookEntryWorkDeskOverTurnBookEntry.work.Goals as goal
+use Rattle.ih_desk.proofs.running.WorkerOnWorkDeskOfEntry.work.Goals as goal
 
 pub search-seat-requires-clause-none : goal.search-seat-requires-clause-none
 search-seat-requires-clause-none g c =
