@@ -1,16 +1,17 @@
-//! A gate as one worker passes it. It needn't be shared, so that the search of one worker knows nothing of threads.
+//! What one worker calls of a gate. `Gate` is `Sync`, since threads share it; `Pass` has its two methods and no such
+//! bound, since the search of one worker needs no threads.
 
 use ih_shelf::Gate;
 use std::sync::Wait;
 
-/// What a worker passes before and after each offer.
+/// What a worker calls before and after each offer.
 pub(crate) trait Pass {
     fn before<R: Wait>(&self, rt: &R, worker: u32, number: u32);
 
     fn after<R: Wait>(&self, rt: &R, worker: u32, number: u32);
 }
 
-/// A gate that workers share.
+/// A gate that workers share, as each of them calls it.
 pub(crate) struct SharedGate<'g, G> {
     pub(crate) gate: &'g G,
 }

@@ -30,7 +30,8 @@ impl<'a, C: Opens<'a>> WorkerOn<'a, C> {
     ghost use Rattle.ih_cellbook.specs.Keeping.{base_with};
     ghost use Rattle.ih_desk.specs.Workers.{IsNewWorker};
 
-    /// A worker with this seat, in a search over a start by attempts of so many moves. It has drawn and seen nothing.
+    /// A worker with this seat, in a search over a start by attempts of `each` moves. It has drawn and seen nothing.
+    /// `new` is for attempts of one move.
     ///
     /// # Errors
     /// The seat, where memory runs out.
@@ -60,7 +61,7 @@ impl<'a, C: Opens<'a>> WorkerOn<'a, C> {
         }
     }
 
-    /// A worker with this seat, in a search over a start by single moves. It has drawn and seen nothing.
+    /// As `of`, for attempts of one move: a worker of a search by single moves.
     ///
     /// # Errors
     /// The seat, where memory runs out.
