@@ -17,7 +17,7 @@ use Rattle.ih_cellbook.specs.Replicas.{IsReplicaIn, IsReplicaOf, StandsUpTo}
 use Rattle.ih_cellbook.specs.Snapshot.{Snapshot}
 use Rattle.ih_cellbook.specs.Told.{Told, TellsOf}
 use Rattle.ih_cellbook.proofs.Telling.{tells-further}
-use Rattle.ih_cellbook.proofs.Within.{stands-behind, told-seen}
+use Rattle.ih_cellbook.proofs.Within.{stands-behind, told-further, told-seen}
 use Rattle.ih_desk.specs.Histories.{EndsWith, GoesOn}
 use Rattle.ih_desk.proofs.Full.{none-both}
 
@@ -71,6 +71,17 @@ further b G r n s stands legal told later more =
     let seen = told-seen b G r stands n legal told s later in
     let until = tells-further G r.seen n told more in
     omega (arith, seen, until)
+
+-- a replica that takes over what a look told: it stands for a beginning still, and has seen more, where there was more
+pub taken-over : (b : Base) (w : ℕ) (H G : List Tried) (r : Snapshot) (n : Told) (seen until : ℕ) (accepted : List Tried) (s : Snapshot)
+    → seen ≡ r.seen → accepted ≡ n.accepted → until ≡ n.until → IsReplicaIn b H r → GoesOn w H G → AreLegalButDraws b G → TellsOf G seen n
+    → StandsUpTo r accepted until s → IsReplicaIn b G s × (r.seen < length H → r.seen < s.seen)
+taken-over b w H G r n seen until accepted s same all end stands goes legal tells later =
+    let told = subst (λ k. TellsOf G k n) same tells in
+    let behind = stays b w H G r goes stands in
+    let up = subst (λ es. StandsUpTo r es n.until s) all (subst (λ k. StandsUpTo r accepted k s) end later) in
+    let longer = goes-length w H G goes in
+    (told-further b G r behind n legal told s up, λ new. further b G r n s behind legal told up (omega (arith, new, longer)))
 
 -- a replica has seen no more than there may be, so a turn is left
 pub has-turn : (b : Base) (H : List Tried) (r : Snapshot) (left : ℕ) → IsReplicaIn b H r → most_entries b.options < left + r.seen → 0 < left

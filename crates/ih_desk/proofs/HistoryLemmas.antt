@@ -32,25 +32,33 @@ legal-none b H none = subst (AreLegalButDraws b) (sym none) (λ k e there. absur
 pub legal-same : (b c : Base) (H G : List Tried) → b ≡ c → H ≡ G → AreLegalButDraws b H → AreLegalButDraws c G
 legal-same b c H G base same legal = subst (λ x. AreLegalButDraws x G) base (subst (AreLegalButDraws b) same legal)
 
--- what was lent out begins with what the seat had seen, and past that has nothing by the offer's worker
-pub lent-follows : (worker number : ℕ) (seen : List Tried) (taken lent : Recorded) → worker ≡ number → lent ≡ taken
-    → Follows (λ e. e.worker) number taken.entries seen → Follows (λ e. e.worker) worker lent.entries seen
-lent-follows worker number seen taken lent same value begins =
-    subst (λ (k : Recorded). Follows (λ e. e.worker) worker k.entries seen) (sym value) (subst (λ n. Follows (λ e. e.worker) n taken.entries seen) (sym same) begins)
+-- What was lent out, to whom: all that the two lemmas below know of it.
+module _ (c : Base) (o : Offered) (n : ℕ) (seen : List Tried) (taken lent : Recorded) (value : lent ≡ taken) (base : taken.base ≡ c)
+    (own : o.worker ≡ n) (begins : Follows (λ e. e.worker) n taken.entries seen) where
+  lent-base : lent.base ≡ c
+  lent-base = ap (λ (k : Recorded). k.base) value ∙ base
 
--- an offer that is right for what the seat has seen is right for the book
-pub right-further : RightOffersStayRight → (b c : Base) (o : Offered) (seen H : List Tried) → b ≡ c → Follows (λ e. e.worker) o.worker H seen → IsRightOffer c seen o → IsRightOffer b H o
-right-further stays b c o seen H base follows right =
-    subst (λ x. IsRightOffer x H o) (sym base)
-    (subst (λ G. IsRightOffer c G o) (sym follows.1) (stays c seen follows.0 o right (none_by-others o.worker follows.0 follows.2)))
+  -- it begins with what the seat had seen, and past that has nothing by the offer's worker
+  lent-follows : Follows (λ e. e.worker) o.worker lent.entries seen
+  lent-follows =
+      subst (λ (k : Recorded). Follows (λ e. e.worker) o.worker k.entries seen) (sym value) (subst (λ w. Follows (λ e. e.worker) w taken.entries seen) (sym own) begins)
 
--- the book's history with the entry of the offer
-pub ends_with : (b c : Base) (o : Offered) (v : Verdict) (seen H G : List Tried) → b ≡ c → Follows (λ e. e.worker) o.worker H seen → G ≡ H ++ entry_of b H o v ∷ [] → EndsWith c o v seen G
-ends_with b c o v seen H G base follows grown = record {
-  others = follows.0;
-  history = grown ∙ (ap (λ x. H ++ entry_of x H o v ∷ []) base ∙ ap (λ F. F ++ entry_of c F o v ∷ []) follows.1);
-  none = none_by-others o.worker follows.0 follows.2;
-}
+  -- an offer that is right for what the seat has seen is right for the book
+  pub right-lent : RightOffersStayRight → IsRightOffer c seen o → IsRightOffer lent.base lent.entries o
+  right-lent stays right =
+      let follows = lent-follows in
+      subst (λ x. IsRightOffer x lent.entries o) (sym lent-base)
+      (subst (λ G. IsRightOffer c G o) (sym follows.1) (stays c seen follows.0 o right (none_by-others o.worker follows.0 follows.2)))
+
+  -- the book's history with the entry of the offer
+  pub ends-lent : (v : Verdict) (G : List Tried) → G ≡ lent.entries ++ entry_of lent.base lent.entries o v ∷ [] → EndsWith c o v seen G
+  ends-lent v G grown =
+      let follows = lent-follows in
+      record {
+        others = follows.0;
+        history = grown ∙ (ap (λ x. lent.entries ++ entry_of x lent.entries o v ∷ []) lent-base ∙ ap (λ F. F ++ entry_of c F o v ∷ []) follows.1);
+        none = none_by-others o.worker follows.0 follows.2;
+      }
 
 pub index-map : {X : Type 0} (f : X → ℕ) (xs : List X) (k : ℕ) (d : X) → k < length xs → slice_index (map f xs) k ≡ f (slice_index_or xs k d)
 index-map f [] k d l = absurd (omega arith)

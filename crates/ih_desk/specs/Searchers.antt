@@ -1,16 +1,20 @@
 -- How far a searcher has come.
-use Rattle.std.specs.Prelude.{◌≡◌, ℕ, ◌+◌, false, List, [], ◌∷◌, ◌++◌}
+use Rattle.std.specs.Prelude.{◌≡◌, ℕ, ◌+◌, ◌<◌, false, List, [], ◌∷◌, ◌++◌}
 use Rattle.ih_plan.specs.declared.moves.Move.{Move}
 use Rattle.ih_plan.specs.Draws.{stream_at}
+use Rattle.ih_plan.specs.Series.{AreMoves}
 use Rattle.ih_journal.specs.Tried.{Tried}
 use Rattle.ih_journal.specs.declared.entries.Verdict.{Verdict}
 use Rattle.ih_journal.specs.declared.settings.Options.{Options}
 use Rattle.ih_journal.specs.Attempts.{attempt_after, is_done_after, last_by}
 use Rattle.ih_journal.specs.Base.{Base}
+use Rattle.ih_journal.specs.Settings.{most_entries}
+use Rattle.ih_turn.specs.Seats.{history, number_of, turns_left}
 use Rattle.ih_cellbook.specs.Laws.{HasNoneBy}
 use Rattle.ih_cellbook.specs.Offers.{HasSeenOwn}
 use Rattle.ih_cellbook.specs.Replicas.{IsReplicaIn, IsReplicaOf}
 use Rattle.ih_cellbook.specs.Told.{TellsOf}
+use Rattle.ih_desk.specs.Desks.{Desk, DeskSeat, IsSeatAt, base_of}
 use Rattle.ih_desk.specs.Progress.{Progress}
 
 -- The searcher is worker w's in a search over b, by attempts of so many moves.
@@ -44,6 +48,13 @@ pub record IsNew (b : Base) (each w : ℕ) (x : Progress) : Type 0 where
 -- this never gets less; and there are at most `most_entries` to see.
 abbrev pub credit : ℕ → Progress → ℕ
 credit left x = left + x.replica.seen
+
+-- At this seat the searcher may try these moves: it has caught up, and has turns for all that there may be to see.
+pub record MayTry (desk : Desk) (seat : DeskSeat) (m : List Move) (x : Progress) : Type 0 where
+  pub own : IsSeatAt desk seat
+  pub caught_up : HasCaughtUp (base_of desk) x.each (number_of seat) (history seat) x
+  pub moves : AreMoves (base_of desk).instance m
+  pub turns : most_entries (base_of desk).options < credit (turns_left seat) x
 
 -- worker w's next attempt is this try of the attempt with this number
 pub record IsNext (o : Options) (H : List Tried) (w number again : ℕ) : Type 0 where

@@ -88,7 +88,6 @@ impl<'a, C: Opens<'a>> Searcher<'a, C> {
 
 impl<'a, C: Replicates> Searcher<'a, C> {
     ghost use Rattle.std.specs.Prelude.{◌+◌, ◌*◌, ◌<◌, ◌≤◌, Some, length};
-    ghost use Rattle.ih_plan.specs.Series.{AreMoves};
     ghost use Rattle.ih_journal.specs.Attempts.{HasMade};
     ghost use Rattle.ih_journal.specs.Legal.{attempt_of};
     ghost use Rattle.ih_journal.specs.Settings.{most_entries};
@@ -99,7 +98,8 @@ impl<'a, C: Replicates> Searcher<'a, C> {
     ghost use Rattle.ih_desk.specs.Finishing.{AreDrawn, HasFinished};
     ghost use Rattle.ih_desk.specs.Histories.{GoesOn};
     ghost use Rattle.ih_desk.specs.Workers.{enough_turns};
-    ghost use Rattle.ih_desk.specs.Searchers.{HasAttempted, HasCaughtUp, IsNew, IsNext, IsToldOf, IsWithin, credit};
+    ghost use Rattle.ih_desk.specs.Searchers.{HasAttempted, HasCaughtUp, IsNew, IsNext, IsToldOf, IsWithin};
+    ghost use Rattle.ih_desk.specs.Searchers.{MayTry, credit};
 
     /// Makes all attempts of the worker, in order, each of its next draws. A stale one is tried again as often as
     /// `retries` says.
@@ -140,14 +140,11 @@ impl<'a, C: Replicates> Searcher<'a, C> {
         number: u32,
         attempt: &<C::Entry as Logged>::Attempt,
     ) -> DeskSeat<'a, C::Entry>
-        requires own { IsSeatAt desk.now seat }
-        requires caught_up { HasCaughtUp (base_of desk.now) self.old.each (number_of seat) (history seat) self.old }
-        requires move_in { AreMoves (base_of desk.now).instance (C.Entry.Attempt.moves attempt.now) }
+        requires may { MayTry desk.now seat (C.Entry.Attempt.moves attempt.now) self.old }
         requires next { IsNext (base_of desk.now).options (history seat) (number_of seat) number 0 }
         requires drawn { C.Entry.Attempt.moves attempt.now
             ≡ attempt_of (base_of desk.now) self.old.each (number_of seat) number }
         requires earlier { AreDrawn (base_of desk.now) self.old.each (number_of seat) (history seat) }
-        requires turns { most_entries (base_of desk.now).options < credit (turns_left seat) self.old }
         ensures own { IsSeatAt desk.now result }
         ensures number { number_of result ≡ number_of seat.entry }
         ensures caught_up { HasCaughtUp (base_of desk.now) self.old.each (number_of seat.entry)
@@ -182,11 +179,8 @@ impl<'a, C: Replicates> Searcher<'a, C> {
         number: u32,
         attempt: &<C::Entry as Logged>::Attempt,
     ) -> (DeskSeat<'a, C::Entry>, Verdict)
-        requires own { IsSeatAt desk.now seat }
-        requires caught_up { HasCaughtUp (base_of desk.now) self.old.each (number_of seat) (history seat) self.old }
-        requires move_in { AreMoves (base_of desk.now).instance (C.Entry.Attempt.moves attempt.now) }
+        requires may { MayTry desk.now seat (C.Entry.Attempt.moves attempt.now) self.old }
         requires next { next_number (base_of desk.now).options (history seat) (number_of seat) ≡ Some number }
-        requires turns { most_entries (base_of desk.now).options < credit (turns_left seat) self.old }
         ensures own { IsSeatAt desk.now result.0 }
         ensures number { number_of result.0 ≡ number_of seat.entry }
         ensures caught_up { HasCaughtUp (base_of desk.now) self.old.each (number_of seat.entry)
@@ -211,11 +205,8 @@ impl<'a, C: Replicates> Searcher<'a, C> {
         number: u32,
         attempt: &<C::Entry as Logged>::Attempt,
     ) -> (DeskSeat<'a, C::Entry>, Verdict)
-        requires own { IsSeatAt desk.now seat }
-        requires caught_up { HasCaughtUp (base_of desk.now) self.old.each (number_of seat) (history seat) self.old }
-        requires move_in { AreMoves (base_of desk.now).instance (C.Entry.Attempt.moves attempt.now) }
+        requires may { MayTry desk.now seat (C.Entry.Attempt.moves attempt.now) self.old }
         requires next { next_number (base_of desk.now).options (history seat) (number_of seat) ≡ Some number }
-        requires turns { most_entries (base_of desk.now).options < credit (turns_left seat) self.old }
         ensures own { IsSeatAt desk.now result.0 }
         ensures number { number_of result.0 ≡ number_of seat.entry }
         ensures within { IsWithin (base_of desk.now) self.old.each (number_of seat.entry) (history result.0) self.new }

@@ -1,12 +1,12 @@
-use Rattle.std.proofs.Common.{◌<◌, ◌≤◌, ◌∙◌, arith, length, map, sym, subst}
+use Rattle.std.proofs.Common.{◌<◌, ◌≤◌, ◌∙◌, arith, length, sym, subst}
 use Rattle.ih_turn.specs.Seats.{history, number_of, turns_left}
-use Rattle.ih_cellbook.specs.Replicas.{MayFollowUpTo, StandsUpTo}
+use Rattle.ih_cellbook.specs.Replicas.{MayFollowUpTo}
 use Rattle.ih_cellbook.specs.Told.{TellsOf}
-use Rattle.ih_cellbook.proofs.Within.{seen-within, told-follow, told-further}
+use Rattle.ih_cellbook.proofs.Within.{seen-within, told-follow}
 use Rattle.ih_desk.specs.Desks.{base_of}
 use Rattle.ih_desk.specs.Progress.{Progress}
 use Rattle.ih_desk.specs.Searchers.{IsWithin}
-use Rattle.ih_desk.proofs.CatchingUp.{further, goes-length, has-turn, stays}
+use Rattle.ih_desk.proofs.CatchingUp.{has-turn, stays, taken-over}
 use Rattle.ih_desk.proofs.searcher.Searcher.look.Goals as goal
 
 pub look_for_news-seat-requires-clause-left : goal.look_for_news-seat-requires-clause-left
@@ -36,37 +36,31 @@ follow-requires g c =
 pub returns-clause-within : goal.returns-clause-within
 returns-clause-within g c =
     let b = base_of c.args.desk.now in
-    let H = history c.look_for_news-seat.result in
+    let H = history c.args.seat in
     let r = g.C.Replicates.copied c.self.inside.replica in
-    let within = subst (λ (x : Progress). IsWithin b c.args.self.now.each (number_of c.args.seat) (history c.args.seat) x) (sym c.self.view_is) c.requires.within in
+    let within = subst (λ (x : Progress). IsWithin b c.args.self.now.each (number_of c.args.seat) H x) (sym c.self.view_is) c.requires.within in
+    let look = c.look_for_news-seat.ensures in
     let s = g.C.Replicates.copied c.follow.new.self in
-    let n = c.look_for_news-seat.new.news in
-    let told = subst (λ k. TellsOf H k n) c.seen.ensures c.look_for_news-seat.ensures.told in
-    let stands = stays b (number_of c.args.seat) (history c.args.seat) H r c.look_for_news-seat.ensures.history within.replica in
-    let later = subst (λ es. StandsUpTo r es n.until s) c.accepted.ensures
-    (subst (λ k. StandsUpTo r (map g.C.Entry.Logged.tried c.accepted.result.now) k s) c.until.ensures c.follow.ensures.replica) in
+    let taken = taken-over b (number_of c.args.seat) H (history c.look_for_news-seat.result) r c.look_for_news-seat.new.news _ c.until.result _ s
+    c.seen.ensures c.accepted.ensures c.until.ensures within.replica look.history look.own.legal look.told c.follow.ensures.replica in
     let own = within.own in
     record {
       own = record { instance = own.instance; options = own.options; each_is = own.each_is; worker = c.follow.ensures.worker ∙ own.worker };
-      replica = told-further b H r stands n c.look_for_news-seat.ensures.own.legal told s later;
+      replica = taken.0;
     }
 
 further-seen : goal.returns-clause-further
 further-seen g c =
     let b = base_of c.args.desk.now in
-    let H = history c.look_for_news-seat.result in
+    let H = history c.args.seat in
     let r = g.C.Replicates.copied c.self.inside.replica in
-    let within = subst (λ (x : Progress). IsWithin b c.args.self.now.each (number_of c.args.seat) (history c.args.seat) x) (sym c.self.view_is) c.requires.within in
+    let within = subst (λ (x : Progress). IsWithin b c.args.self.now.each (number_of c.args.seat) H x) (sym c.self.view_is) c.requires.within in
+    let look = c.look_for_news-seat.ensures in
     let s = g.C.Replicates.copied c.follow.new.self in
-    let n = c.look_for_news-seat.new.news in
-    let told = subst (λ k. TellsOf H k n) c.seen.ensures c.look_for_news-seat.ensures.told in
-    let stands = stays b (number_of c.args.seat) (history c.args.seat) H r c.look_for_news-seat.ensures.history within.replica in
-    let later = subst (λ es. StandsUpTo r es n.until s) c.accepted.ensures
-    (subst (λ k. StandsUpTo r (map g.C.Entry.Logged.tried c.accepted.result.now) k s) c.until.ensures c.follow.ensures.replica) in
-    let new = subst (λ (x : Progress). x.replica.seen < length (history c.args.seat)) (sym c.self.view_is) c.requires.new in
-    let longer = goes-length (number_of c.args.seat) (history c.args.seat) H c.look_for_news-seat.ensures.history in
-    subst (λ (x : Progress). x.replica.seen < s.seen) c.self.view_is
-    (further b H r n s stands c.look_for_news-seat.ensures.own.legal told later (omega (arith, new, longer)))
+    let taken = taken-over b (number_of c.args.seat) H (history c.look_for_news-seat.result) r c.look_for_news-seat.new.news _ c.until.result _ s
+    c.seen.ensures c.accepted.ensures c.until.ensures within.replica look.history look.own.legal look.told c.follow.ensures.replica in
+    let new = subst (λ (x : Progress). x.replica.seen < length H) (sym c.self.view_is) c.requires.new in
+    subst (λ (x : Progress). x.replica.seen < s.seen) c.self.view_is (taken.1 new)
 
 pub returns-clause-further : goal.returns-clause-further
 returns-clause-further g c = further-seen g c

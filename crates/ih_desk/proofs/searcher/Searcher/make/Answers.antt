@@ -55,7 +55,7 @@ loop-again-preserved g c =
     let tried = subst (λ w. HasAttempted b.options w c.args.number (g.C.Entry.Attempt.Attempted.moves c.args.attempt.now) v H G) before.number after.attempted in
     let left : c.loop-again.again
     < b.options.retries = subst (λ (o : Options). c.loop-again.again < o.retries)
-    (ap (λ (x : Progress). x.options) c.self.view_is ∙ c.requires.caught_up.within.own.options) c.loop-again-test.true in
+    (ap (λ (x : Progress). x.options) c.self.view_is ∙ c.requires.may.caught_up.within.own.options) c.loop-again-test.true in
     let has = before.turns in
     let used = after.turns in
     record {
@@ -78,7 +78,7 @@ returns-clause-made g c =
     let tried = subst (λ w. HasAttempted o w c.args.number (g.C.Entry.Attempt.Attempted.moves c.args.attempt.now) v H G) c.loop-again.invariant.number c.try_once-last.ensures.attempted in
     let spent : o.retries
     ≤ c.loop-again.again = subst (λ (o : Options). o.retries ≤ c.loop-again.again)
-    (ap (λ (x : Progress). x.options) c.self.view_is ∙ c.requires.caught_up.within.own.options) c.loop-again-test.false in
+    (ap (λ (x : Progress). x.options) c.self.view_is ∙ c.requires.may.caught_up.within.own.options) c.loop-again-test.false in
     next-move o n c.args.number c.loop-again.again (g.C.Entry.Attempt.Attempted.moves c.args.attempt.now) v H G c.loop-again.invariant.try tried (inr spent)
 
 pub returns-clause-drawn : goal.returns-clause-drawn

@@ -15,21 +15,21 @@ use Rattle.ih_desk.proofs.searcher.Searcher.offer.Goals as goal
 
 pub offer_and_look-seat-requires-clause-left : goal.offer_and_look-seat-requires-clause-left
 offer_and_look-seat-requires-clause-left g c =
-    has-turn (base_of c.args.desk.now) (history c.args.seat) c.args.self.now.replica (turns_left c.args.seat) c.requires.caught_up.within.replica c.requires.turns
+    has-turn (base_of c.args.desk.now) (history c.args.seat) c.args.self.now.replica (turns_left c.args.seat) c.requires.may.caught_up.within.replica c.requires.may.turns
 
 pub offer_and_look-seat-requires-clause-right : goal.offer_and_look-seat-requires-clause-right
 offer_and_look-seat-requires-clause-right g c =
     let b = base_of c.args.desk.now in
     let H = history c.args.seat in
     let r = g.C.Replicates.copied c.self.inside.replica in
-    let within = subst (λ (x : Progress). IsWithin b c.args.self.now.each (number_of c.args.seat) H x) (sym c.self.view_is) c.requires.caught_up.within in
+    let within = subst (λ (x : Progress). IsWithin b c.args.self.now.each (number_of c.args.seat) H x) (sym c.self.view_is) c.requires.may.caught_up.within in
     let o = (g.C.Replicates.copied c.price.new.self).last in
     let stands = within.replica in
-    let seen = subst (λ (x : Progress). HasSeenOwn H (number_of c.args.seat) x.replica.seen) (sym c.self.view_is) c.requires.caught_up.seen in
+    let seen = subst (λ (x : Progress). HasSeenOwn H (number_of c.args.seat) x.replica.seen) (sym c.self.view_is) c.requires.may.caught_up.seen in
     let offered = c.price.ensures.offer b (take r.seen H) stands in
     let own = sym (offered.worker ∙ within.own.worker) in
     let right = offered-right b H r stands c.args.number (g.C.Entry.Attempt.Attempted.moves c.args.attempt.now) o c.price.ensures.offer c.price.ensures.right (
-      subst (λ w. w < b.options.workers) own c.requires.own.number,
+      subst (λ w. w < b.options.workers) own c.requires.may.own.number,
       subst (λ w. next_number b.options H w ≡ Some o.number) own (c.requires.next ∙ ap (λ k. Some k) (sym offered.number)),
       subst (λ w. HasNoneBy w (drop o.seen H)) own (subst (λ k. HasNoneBy (number_of c.args.seat) (drop k H)) (stands.seen ∙ sym offered.seen) (none-past (number_of c.args.seat) r.seen H seen)),
     ) in
@@ -41,7 +41,7 @@ returns-clause-within g c =
     let H = history c.args.seat in
     let s = g.C.Replicates.copied c.price.new.self in
     let r = g.C.Replicates.copied c.self.inside.replica in
-    let within = subst (λ (x : Progress). IsWithin b c.args.self.now.each (number_of c.args.seat) H x) (sym c.self.view_is) c.requires.caught_up.within in
+    let within = subst (λ (x : Progress). IsWithin b c.args.self.now.each (number_of c.args.seat) H x) (sym c.self.view_is) c.requires.may.caught_up.within in
     let own = within.own in
     let ends = c.offer_and_look-seat.ensures.history in
     let stands = stands-same b H r within.replica s c.price.ensures.same in
@@ -55,7 +55,7 @@ returns-clause-attempted g c =
     let b = base_of c.args.desk.now in
     let H = history c.args.seat in
     let r = g.C.Replicates.copied c.self.inside.replica in
-    let within = subst (λ (x : Progress). IsWithin b c.args.self.now.each (number_of c.args.seat) H x) (sym c.self.view_is) c.requires.caught_up.within in
+    let within = subst (λ (x : Progress). IsWithin b c.args.self.now.each (number_of c.args.seat) H x) (sym c.self.view_is) c.requires.may.caught_up.within in
     let o = g.C.Entry.Offer.Offers.offered c.last.result.now in
     let offered = c.price.ensures.offer b (take r.seen H) within.replica in
     attempted b (number_of c.args.seat) c.args.number (g.C.Entry.Attempt.Attempted.moves c.args.attempt.now) o c.offer_and_look-seat.result.1 H (history c.offer_and_look-seat.result.0)
@@ -70,7 +70,7 @@ returns-clause-told g c =
     let G = history c.offer_and_look-seat.result.0 in
     let s = g.C.Replicates.copied c.price.new.self in
     let r = g.C.Replicates.copied c.self.inside.replica in
-    let within = subst (λ (x : Progress). IsWithin b c.args.self.now.each (number_of c.args.seat) H x) (sym c.self.view_is) c.requires.caught_up.within in
+    let within = subst (λ (x : Progress). IsWithin b c.args.self.now.each (number_of c.args.seat) H x) (sym c.self.view_is) c.requires.may.caught_up.within in
     let stands = within.replica in
     let same = (c.price.ensures.offer b (take r.seen H) stands).seen ∙ sym (c.price.ensures.same b (take r.seen H) stands).seen in
     subst (λ n. TellsOf G n c.offer_and_look-seat.new.news) (ap (λ (x : Offered). x.seen) c.last.ensures ∙ same) c.offer_and_look-seat.ensures.told
@@ -81,7 +81,7 @@ returns-clause-new g c =
     let H = history c.args.seat in
     let s = g.C.Replicates.copied c.price.new.self in
     let r = g.C.Replicates.copied c.self.inside.replica in
-    let within = subst (λ (x : Progress). IsWithin b c.args.self.now.each (number_of c.args.seat) H x) (sym c.self.view_is) c.requires.caught_up.within in
+    let within = subst (λ (x : Progress). IsWithin b c.args.self.now.each (number_of c.args.seat) H x) (sym c.self.view_is) c.requires.may.caught_up.within in
     let most = seen-within b H s (stands-same b H r within.replica s c.price.ensures.same) in
     let longer = ends-longer b (g.C.Entry.Offer.Offers.offered c.last.result.now) c.offer_and_look-seat.result.1 H (history c.offer_and_look-seat.result.0) c.offer_and_look-seat.ensures.history in
     omega (arith, most, longer)
@@ -92,7 +92,7 @@ returns-clause-turns g c =
     let H = history c.args.seat in
     let s = g.C.Replicates.copied c.price.new.self in
     let r = g.C.Replicates.copied c.self.inside.replica in
-    let within = subst (λ (x : Progress). IsWithin b c.args.self.now.each (number_of c.args.seat) H x) (sym c.self.view_is) c.requires.caught_up.within in
+    let within = subst (λ (x : Progress). IsWithin b c.args.self.now.each (number_of c.args.seat) H x) (sym c.self.view_is) c.requires.may.caught_up.within in
     let same = (c.price.ensures.same b (take r.seen H) within.replica).seen ∙ sym within.replica.seen in
     let before = ap (λ (x : Progress). x.replica.seen) c.self.view_is in
     let used = c.offer_and_look-seat.ensures.left in

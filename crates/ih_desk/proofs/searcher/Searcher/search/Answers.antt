@@ -31,12 +31,6 @@ loop-number-init g c =
       turns = omega (arith, turns);
     }
 
-pub make-next-requires-clause-turns : goal.make-next-requires-clause-turns
-make-next-requires-clause-turns g c =
-    let left = c.loop-number.invariant.turns in
-    let same = ap (λ (x : Progress). x.replica.seen) c.self-in-loop-number.view_is in
-    omega (arith, left, same)
-
 pub loop-number-preserved : goal.loop-number-preserved
 loop-number-preserved g c =
     let b = base_of c.args.desk.now in
