@@ -1,9 +1,10 @@
 -- Seats and workers, one by one.
-use Rattle.std.proofs.Common.{◌≡◌, ℕ, zero, suc, ◌<◌, arith, refl, sym, ap, ◌∙◌, subst, List, [], ◌∷◌, ◌++◌, length, map, Some, None, get_or}
+use Rattle.std.proofs.Common.{◌≡◌, ℕ, zero, suc, ◌<◌, arith, refl, sym, ap, ◌∙◌, subst, List, [], ◌∷◌, ◌++◌, length, map, take, drop, Some, None, get_or}
 use Rattle.std.specs.Prelude.{All, slice_get, slice_index}
 use Rattle.std.specs.List.{AllZip}
 use Rattle.std.proofs.lemmas.Option.{slice_get-get_or, slice_get_within}
 use Rattle.std.proofs.lemmas.Slice.Zip.{AllZip-long}
+use Rattle.std.proofs.Math.Seq.{take-append_seam}
 use Rattle.ih_journal.specs.Tried.{Tried}
 use Rattle.ih_journal.specs.Base.{Base}
 use Rattle.ih_journal.specs.Legal.{IsFull}
@@ -48,6 +49,18 @@ index-at [] k x there = absurd (let no : None ≡ Some x = there in cc)
 index-at (y ∷ ys) zero x there = cc
 index-at (y ∷ ys) (suc k) x there = index-at ys k x there
 
+-- ---- the workers behind the slice that ran them
+
+pub all-finished : (desk : Desk) (len : ℕ) (items slice news : List Worker) → slice ≡ items → len ≡ length items → length news ≡ length slice
+    → ((k : ℕ) (d : Worker) → k < length slice → HasWorked desk (get_or slice k d) (get_or news k d))
+    → HaveFinished desk items (take len (news ++ drop (length news) items))
+all-finished desk len items slice news value long as-long worked =
+    let many : length news ≡ length items = as-long ∙ ap length value in
+    let rest = drop (length news) items in
+    let same : take len (news ++ rest) ≡ news = ap (λ n. take n (news ++ rest)) (long ∙ sym many) ∙ take-append_seam news rest in
+    subst (HaveFinished desk items) (sym same)
+    (record { len = many; each = λ k d h. subst (λ ws. HasWorked desk (get_or ws k d) (get_or news k d)) value (worked k d (subst (λ ws. k < length ws) (sym value) h)) })
+
 -- ---- the workers before their search
 
 module _ (b : Base) (each : ℕ) (desk : Desk) (seats : List DeskSeat) (opened : IsOpened b desk seats) where
@@ -82,9 +95,9 @@ module _ (b : Base) (each : ℕ) (desk : Desk) (seats : List DeskSeat) (opened :
       pub as-many-after : length after ≡ length seats
       as-many-after = finished.len ∙ as-many
 
-      module _ (back : List DeskSeat) (left : HaveLeft after [] back) where
+      module _ (first back : List DeskSeat) (none : first ≡ []) (left : HaveLeft after first back) where
         left-zip : AllZip Holds after back
-        left-zip = subst (AllZip Holds after) (sym left.joins) left.each
+        left-zip = subst (AllZip Holds after) (sym (left.joins ∙ ap (λ ss. ss ++ left.added) none)) left.each
 
         as-many-back : length back ≡ length seats
         as-many-back = AllZip-long Holds after back left-zip ∙ as-many-after

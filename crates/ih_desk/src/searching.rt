@@ -1,12 +1,12 @@
 //! The search: workers side by side at one desk, each in a call of its own.
 
-ghost use Rattle.std.specs.Prelude.{◌≡◌, ◌≤◌, ◌+◌, ◌*◌, [], All, IfOk, length, vec_capacity};
+ghost use Rattle.std.specs.Prelude.{◌≡◌, ◌≤◌, ◌+◌, ◌*◌, [], IfOk, length, vec_capacity};
 ghost use Rattle.std.specs.List.{AllZip};
 ghost use Rattle.ih_journal.specs.Legal.{IsFull};
 ghost use Rattle.ih_journal.specs.Settings.{IsLawful};
 ghost use Rattle.ih_cellbook.specs.Keeping.{IsBase};
-ghost use Rattle.ih_desk.specs.Searching.{base_given, IsOpened, HaveFinished, HaveLeft};
-ghost use Rattle.ih_desk.specs.Workers.{IsNewWorker, MayWork, enough_turns};
+ghost use Rattle.ih_desk.specs.Searching.{base_given, IsOpened, HaveLeft};
+ghost use Rattle.ih_desk.specs.Workers.{IsNewWorker, enough_turns};
 
 use crate::desk::{DeskOf, DeskOver, DeskSeat};
 use crate::given::Given;
@@ -100,23 +100,6 @@ fn take_seats<'a, C: Replicates>(
     }
 }
 
-// Lets the workers do their searches, each in a call of its own.
-fn work<'a, C: Replicates + Send, R: Threads + Wait + Sync, G: Gate>(
-    rt: &R,
-    desk: &DeskOf<'a, C::Entry>,
-    workers: &mut Vec<WorkerOn<'a, C>>,
-    gate: &G,
-)
-where
-    C::Entry: Send,
-    <C::Entry as Logged>::Offer: Send,
-    <C::Entry as Logged>::Attempt: Send,
-    requires { All (MayWork desk.now) workers.old.items }
-    ensures { HaveFinished desk.now workers.old.items workers.new.items }
-{
-    run_all(rt, desk, workers.as_mut_slice(), gate);
-}
-
 /// The whole search by attempts of so many moves, as a book with a full history. Between its opening and its end no
 /// call answers lack of memory.
 pub fn search<'a, C: Opens<'a> + Send, R: Threads + Wait + Sync, G: Gate>(
@@ -140,7 +123,7 @@ where
     let (desk, seats) = open::<C::Entry>(alloc, given)?;
     let mut back: Vec<DeskSeat<'a, C::Entry>> = Vec::with_capacity(alloc, seats.len())?;
     let mut workers: Vec<WorkerOn<'a, C>> = seat_workers(alloc, given, each, seats)?;
-    work(rt, &desk, &mut workers, gate);
+    run_all(rt, &desk, workers.as_mut_slice(), gate);
     take_seats(&mut workers, &mut back);
     // For the proof alone.
     finished_searches_are_full();
