@@ -49,18 +49,6 @@ index-at [] k x there = absurd (let no : None ≡ Some x = there in cc)
 index-at (y ∷ ys) zero x there = cc
 index-at (y ∷ ys) (suc k) x there = index-at ys k x there
 
--- ---- the workers behind the slice that ran them
-
-pub all-finished : (desk : Desk) (len : ℕ) (items slice news : List Worker) → slice ≡ items → len ≡ length items → length news ≡ length slice
-    → ((k : ℕ) (d : Worker) → k < length slice → HasWorked desk (get_or slice k d) (get_or news k d))
-    → HaveFinished desk items (take len (news ++ drop (length news) items))
-all-finished desk len items slice news value long as-long worked =
-    let many : length news ≡ length items = as-long ∙ ap length value in
-    let rest = drop (length news) items in
-    let same : take len (news ++ rest) ≡ news = ap (λ n. take n (news ++ rest)) (long ∙ sym many) ∙ take-append_seam news rest in
-    subst (HaveFinished desk items) (sym same)
-    (record { len = many; each = λ k d h. subst (λ ws. HasWorked desk (get_or ws k d) (get_or news k d)) value (worked k d (subst (λ ws. k < length ws) (sym value) h)) })
-
 -- ---- the workers before their search
 
 module _ (b : Base) (each : ℕ) (desk : Desk) (seats : List DeskSeat) (opened : IsOpened b desk seats) where
@@ -91,7 +79,20 @@ module _ (b : Base) (each : ℕ) (desk : Desk) (seats : List DeskSeat) (opened :
 
     -- ---- and after it
 
-    module _ (after : List Worker) (finished : HaveFinished desk workers after) where
+    module _ (len : ℕ) (slice news : List Worker) (value : slice ≡ workers) (long : len ≡ length workers) (as-long : length news ≡ length slice)
+        (worked : (k : ℕ) (d : Worker) → k < length slice → HasWorked desk (get_or slice k d) (get_or news k d)) where
+      -- what the vector holds behind the slice by which they ran
+      abbrev after : List Worker
+      after = take len (news ++ drop (length news) workers)
+
+      finished : HaveFinished desk workers after
+      finished =
+          let many : length news ≡ length workers = as-long ∙ ap length value in
+          let rest = drop (length news) workers in
+          let same : after ≡ news = ap (λ n. take n (news ++ rest)) (long ∙ sym many) ∙ take-append_seam news rest in
+          subst (HaveFinished desk workers) (sym same)
+          (record { len = many; each = λ k d h. subst (λ ws. HasWorked desk (get_or ws k d) (get_or news k d)) value (worked k d (subst (λ ws. k < length ws) (sym value) h)) })
+
       pub as-many-after : length after ≡ length seats
       as-many-after = finished.len ∙ as-many
 
