@@ -1,5 +1,5 @@
 -- A search of workers at one desk: what it is given, and who sits where.
-use Rattle.std.specs.Prelude.{◌≡◌, ℕ, ◌+◌, ◌*◌, ◌<◌, List, [], ◌++◌, length, map, slice_index, slice_index_or, All}
+use Rattle.std.specs.Prelude.{◌≡◌, ℕ, ◌<◌, List, [], ◌++◌, length, map, slice_index, slice_index_or, All}
 use Rattle.std.specs.List.{AllZip}
 use Rattle.ih_journal.specs.Base.{Base}
 use Rattle.ih_turn.specs.Seats.{history, number_of, made_count, turns_left}

@@ -1,4 +1,4 @@
-use Rattle.std.proofs.Common.{◌≡◌, ◌+◌, ◌*◌, ◌∙◌, ap, sym}
+use Rattle.std.proofs.Common.{◌≡◌, ◌∙◌, ap, sym}
 use Rattle.ih_journal.specs.Base.{Base}
 use Rattle.ih_desk.specs.Workers.{enough_turns}
 use Rattle.ih_cellbook.specs.Recorded.{Recorded}
