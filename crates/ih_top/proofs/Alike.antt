@@ -73,15 +73,15 @@ rounds-alike files r b c rs ss lone first second =
 
 pub searches-same : {X : Type 0} (kind : Kind X) → IsTelling kind → LoneSearchesDoTheSame kind
 searches-same {X} kind telling s old new other text told lone first second =
-    let same = searches-alike kind telling old s first.base second.base first.history second.history lone first.search second.search in
-    let both : (first.base, first.history) ≡ (second.base, second.history) = rw (same.0, same.1) refl in
-    let place : first.place ≡ second.place = best-one second.base (told_by kind second.history) first.place second.place
-    (subst (λ (t : Base × List X). IsBest t.0 (told_by kind t.1) first.place) both first.best) second.best in
+    let same = searches-alike kind telling old s first.0.base second.0.base first.0.history second.0.history lone first.0.search second.0.search in
+    let both : (first.0.base, first.0.history) ≡ (second.0.base, second.0.history) = rw (same.0, same.1) refl in
+    let place : first.0.place ≡ second.0.place = best-one second.0.base (told_by kind second.0.history) first.0.place second.0.place
+    (subst (λ (t : Base × List X). IsBest t.0 (told_by kind t.1) first.0.place) both first.0.best) second.0.best in
     record {
-      journal = first.written.journal ∙ (ap (λ (t : Base × List X). Some (kind.journal t.0.options t.1)) both ∙ sym second.written.journal);
-      solution = first.written.out
-          ∙ (ap₂ (λ (t : Base × List X) (k : ℕ). Some (solution_at t.0 (told_by kind t.1) k)) both place ∙ sym second.written.out);
-      said = first.said ∙ (ap₂ (λ (t : Base × List X) (k : ℕ). done_text t.0 (told_by kind t.1) k) both place ∙ sym second.said);
+      journal = first.0.written.journal ∙ (ap (λ (t : Base × List X). Some (kind.journal t.0.options t.1)) both ∙ sym second.0.written.journal);
+      solution = first.0.written.out
+          ∙ (ap₂ (λ (t : Base × List X) (k : ℕ). Some (solution_at t.0 (told_by kind t.1) k)) both place ∙ sym second.0.written.out);
+      said = first.1 ∙ (ap₂ (λ (t : Base × List X) (k : ℕ). done_text t.0 (told_by kind t.1) k) both place ∙ sym second.1);
     }
 
 one-demo : (number : ℕ) (b c : Base) (H G : List Entry) → IsDemo number b H → IsDemo number c G → (b ≡ c) × (H ≡ G)

@@ -49,13 +49,13 @@ told-same (Some old) (Some new) e = λ n. let same : new ≡ old = cc in cc
 
 module _ {X : Type 0} (kind : Kind X) (s : SolveCall) (old new : Option Names) where
   search-memory : (status : Status) (text : List ℕ) → SearchEnds kind s old new status text → SearchEnds kind s old new OutOfMemory memory_text
-  search-memory Done text h = (inr (inr (done-found kind s old new text h)), refl)
+  search-memory Done text h = (inr (inr (done-found kind s old new h.0)), refl)
   search-memory Usage text h = (inl h.0, refl)
   search-memory (ReadFault role) text h = (inl h.0, refl)
   search-memory (InstanceRefused e) text h = (inl h.0, refl)
   search-memory (StartRefused e) text h = (inl h.0, refl)
-  search-memory NoneFound text h = (inr (inl (none-begun kind s old new h.0)), refl)
-  search-memory (WriteFault None) text h = (inr (inr (done-found kind s old new text h)), refl)
+  search-memory NoneFound text h = (inr (inl (none-begun kind s old new h.0.0)), refl)
+  search-memory (WriteFault None) text h = (inr (inr (done-found kind s old new h.0)), refl)
   search-memory (WriteFault (Some Instance)) text h = (inl h.0, refl)
   search-memory (WriteFault (Some Solution)) text h = (inl h.0, refl)
   search-memory (WriteFault (Some Journal)) text h = (inr (inl h.0), refl)

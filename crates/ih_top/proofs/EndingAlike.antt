@@ -172,9 +172,9 @@ module _ {X : Type 0} (kind : Kind X) (telling : IsTelling kind) (s : SolveCall)
   -- the one found its best and the other found none
   not-both-ways : (here there : Names) (said : List ℕ) → IsDone kind s (Some old) (Some here) said → HasFoundNone kind s (Some old) (Some there) → ⊥
   not-both-ways here there said done none =
-      let same = searches-alike kind telling old s done.base none.base done.history none.history lone done.search none.search in
-      let both : ◌≡◌ {A = Base × List X} (done.base, done.history) (none.base, none.history) = rw (same.0, same.1) refl in
-      best-or-none none.base (told_by kind none.history) done.place (subst (λ (t : Base × List X). IsBest t.0 (told_by kind t.1) done.place) both done.best) none.none
+      let same = searches-alike kind telling old s done.0.base none.0.base done.0.history none.0.history lone done.0.search none.0.search in
+      let both : ◌≡◌ {A = Base × List X} (done.0.base, done.0.history) (none.0.base, none.0.history) = rw (same.0, same.1) refl in
+      best-or-none none.0.base (told_by kind none.0.history) done.0.place (subst (λ (t : Base × List X). IsBest t.0 (told_by kind t.1) done.0.place) both done.0.best) none.1
 
   both-done : status ≡ Done → IsDone kind s (Some old) (Some new) text → ended ≡ Done → IsDone kind s (Some old) (Some other) told
       → EndTheSame status ended text told new other
@@ -183,31 +183,31 @@ module _ {X : Type 0} (kind : Kind X) (telling : IsTelling kind) (s : SolveCall)
       record {
         status = one ∙ sym two;
         said = same.said;
-        files = same-files s old new other same.journal same.solution first.written.others second.written.others;
+        files = same-files s old new other same.journal same.solution first.0.written.others second.0.written.others;
       }
 
   both-none : status ≡ NoneFound → HasFoundNone kind s (Some old) (Some new) → text ≡ none_found_text
       → ended ≡ NoneFound → HasFoundNone kind s (Some old) (Some other) → told ≡ none_found_text → EndTheSame status ended text told new other
   both-none one first said two second also =
-      let same = searches-alike kind telling old s first.base second.base first.history second.history lone first.search second.search in
-      let both : ◌≡◌ {A = Base × List X} (first.base, first.history) (second.base, second.history) = rw (same.0, same.1) refl in
+      let same = searches-alike kind telling old s first.0.base second.0.base first.0.history second.0.history lone first.0.search second.0.search in
+      let both : ◌≡◌ {A = Base × List X} (first.0.base, first.0.history) (second.0.base, second.0.history) = rw (same.0, same.1) refl in
       record {
         status = one ∙ sym two;
         said = said ∙ sym also;
         files = same-files s old new other
-            (first.written.journal ∙ (ap (λ (t : Base × List X). Some (kind.journal t.0.options t.1)) both ∙ sym second.written.journal))
-            (first.written.out ∙ sym second.written.out) first.written.others second.written.others;
+            (first.0.written.journal ∙ (ap (λ (t : Base × List X). Some (kind.journal t.0.options t.1)) both ∙ sym second.0.written.journal))
+            (first.0.written.out ∙ sym second.0.written.out) first.0.written.others second.0.written.others;
       }
 
   same-ends : SearchEnd kind s old new status text → SearchEnd kind s old other ended told → EndTheSame status ended text told new other
   same-ends (inl one) (inl two) = both-done one.0 one.1 two.0 two.1
   same-ends (inl one) (inr (inl two)) = absurd (not-both-ways new other text one.1 two.1.0)
-  same-ends (inl one) (inr (inr two)) = let start = one.1.search.base.start in absurd (two.never one.1.base.instance start.plan start.inputs)
+  same-ends (inl one) (inr (inr two)) = let start = one.1.0.search.base.start in absurd (two.never one.1.0.base.instance start.plan start.inputs)
   same-ends (inr (inl one)) (inl two) = absurd (not-both-ways other new told two.1 one.1.0)
   same-ends (inr (inl one)) (inr (inl two)) = both-none one.0 one.1.0 one.1.1 two.0 two.1.0 two.1.1
-  same-ends (inr (inl one)) (inr (inr two)) = let start = one.1.0.search.base.start in absurd (two.never one.1.0.base.instance start.plan start.inputs)
-  same-ends (inr (inr one)) (inl two) = let start = two.1.search.base.start in absurd (one.never two.1.base.instance start.plan start.inputs)
-  same-ends (inr (inr one)) (inr (inl two)) = let start = two.1.0.search.base.start in absurd (one.never two.1.0.base.instance start.plan start.inputs)
+  same-ends (inr (inl one)) (inr (inr two)) = let start = one.1.0.0.search.base.start in absurd (two.never one.1.0.0.base.instance start.plan start.inputs)
+  same-ends (inr (inr one)) (inl two) = let start = two.1.0.search.base.start in absurd (one.never two.1.0.base.instance start.plan start.inputs)
+  same-ends (inr (inr one)) (inr (inl two)) = let start = two.1.0.0.search.base.start in absurd (one.never two.1.0.0.base.instance start.plan start.inputs)
   same-ends (inr (inr one)) (inr (inr two)) = unread-alike (solve_reading s) old new other status ended text told one two
 
 pub searches-end-alike : {X : Type 0} (kind : Kind X) → IsTelling kind → LoneSearchesEndAlike kind

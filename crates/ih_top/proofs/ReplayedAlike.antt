@@ -194,21 +194,21 @@ module _ (taken_law : LegalJournalsAreTaken) (differ : LegalJournalsDiffer) (tex
 
 pub solves-replayed : LegalJournalsAreTaken → LegalJournalsDiffer → TakenLinesAreOfLegalHistories → LegalJournalsAreShort → SolvesReplayTheSame
 solves-replayed taken_law differ texts short s r before after there left text ended said of calm done =
-    let b = done.base in
-    let H = done.history in
-    let k = done.place in
-    let out : (left r.out ≡ Some (solution_at b (tries H) k)) → left r.out ≡ after s.out = λ same. same ∙ sym done.written.out in
+    let b = done.0.base in
+    let H = done.0.history in
+    let k = done.0.place in
+    let out : (left r.out ≡ Some (solution_at b (tries H) k)) → left r.out ≡ after s.out = λ same. same ∙ sym done.0.written.out in
     record {
-      replayed = λ ends. ends-as Done (done_text b (tries H) k) text (left r.out ≡ Some (solution_at b (tries H) k)) (left r.out ≡ after s.out) ended said (sym done.said) out
-          (replay-best taken_law differ texts short s r before after there left of b H done.search done.written.journal k done.best ended said calm ends);
+      replayed = λ ends. ends-as Done (done_text b (tries H) k) text (left r.out ≡ Some (solution_at b (tries H) k)) (left r.out ≡ after s.out) ended said (sym done.1) out
+          (replay-best taken_law differ texts short s r before after there left of b H done.0.search done.0.written.journal k done.0.best ended said calm ends);
       salvaged = λ ends.
           ends-as Done (salvaged_text b (tries H) k) (salvaged_line (length H) ++ text) (left r.out ≡ Some (solution_at b (tries H) k)) (left r.out ≡ after s.out) ended said
-          (ap₂ (λ n t. salvaged_line n ++ t) (length-map H tried) (sym done.said)) out
-          (salvage-best taken_law differ texts short s r before after there left of b H done.search done.written.journal k done.best ended said calm ends);
+          (ap₂ (λ n t. salvaged_line n ++ t) (length-map H tried) (sym done.1)) out
+          (salvage-best taken_law differ texts short s r before after there left of b H done.0.search done.0.written.journal k done.0.best ended said calm ends);
     }
 
 pub solves-none-replayed : LegalJournalsAreTaken → LegalJournalsDiffer → TakenLinesAreOfLegalHistories → LegalJournalsAreShort → SolvesWithNoneReplayTheSame
 solves-none-replayed taken_law differ texts short s r before after there left ended said of calm found = record {
-  replayed = λ ends. replay-none taken_law differ texts short s r before after there left of found.base found.history found.search found.written.journal found.none ended said calm ends;
-  salvaged = λ ends. salvage-none taken_law differ texts short s r before after there left of found.base found.history found.search found.written.journal found.none ended said calm ends;
+  replayed = λ ends. replay-none taken_law differ texts short s r before after there left of found.0.base found.0.history found.0.search found.0.written.journal found.1 ended said calm ends;
+  salvaged = λ ends. salvage-none taken_law differ texts short s r before after there left of found.0.base found.0.history found.0.search found.0.written.journal found.1 ended said calm ends;
 }

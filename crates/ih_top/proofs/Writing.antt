@@ -14,7 +14,7 @@ use Rattle.ih_top.specs.declared.status.Status.{Status}
 use Rattle.ih_top.specs.declared.status.Status.TheVariants.{Done, Usage, ReadFault, InstanceRefused, StartRefused, NoneFound, WriteFault, OutOfMemory, JournalRefused, Infeasible, TooLong}
 use Rattle.ih_top.specs.Answers.{Answers}
 use Rattle.ih_top.specs.Outputs.{IsOutput, IsOutputOf, IsBestOutput, HasBestOutput, MadeEnds, OutputEnds, WritesOutput}
-use Rattle.ih_top.specs.Searches.{HasBase, IsSearch, HasBegun, HasFoundNone, HasFound, IsDone, IsSomewhere, Kind, SearchEnds, solution_at, told_by}
+use Rattle.ih_top.specs.Searches.{HasBase, IsSearch, HasSearched, HasFoundBest, HasBegun, HasFoundNone, HasFound, IsDone, IsSomewhere, Kind, SearchEnds, solution_at, told_by}
 use Rattle.ih_top.specs.Writes.{BeginsJournal, WritesJournal, BeginsSolution, WritesBoth}
 use Rattle.ih_top.specs.Texts.{memory_text}
 use Rattle.ih_top.proofs.Saying.{IsAnswerable, answers-weaker, unsaid-by}
@@ -49,9 +49,8 @@ both-begun s text solution x y w = record { journal = w.journal; out = whole-tex
 pub journal-whole-begun : (s : SolveCall) (text : List ℕ) (x y : Names) → WritesJournal s text x y → BeginsJournal s text x y
 journal-whole-begun s text x y w = record { journal = whole-text text (x s.journal) (y s.journal) w.journal; out = w.out; others = w.others }
 
-pub done-found : {X : Type 0} (kind : Kind X) (s : SolveCall) (old new : Option Names) (text : List ℕ) → IsDone kind s old new text
-    → HasFound kind s old new
-done-found kind s old new text done =
+pub done-found : {X : Type 0} (kind : Kind X) (s : SolveCall) (old new : Option Names) → HasFoundBest WritesBoth kind s old new → HasFound kind s old new
+done-found kind s old new done =
     let journal = kind.journal done.base.options done.history in
     let solution = solution_at done.base (told_by kind done.history) done.place in
     record {
@@ -64,7 +63,7 @@ done-found kind s old new text done =
           (both-begun s journal solution) done.written;
     }
 
-pub none-begun : {X : Type 0} (kind : Kind X) (s : SolveCall) (old new : Option Names) → HasFoundNone kind s old new → HasBegun kind s old new
+pub none-begun : {X : Type 0} (kind : Kind X) (s : SolveCall) (old new : Option Names) → HasSearched WritesJournal kind s old new → HasBegun kind s old new
 none-begun kind s old new found =
     let journal = kind.journal found.base.options found.history in
     record {
@@ -152,30 +151,28 @@ module _ {X : Type 0} (kind : Kind X) (s : SolveCall) (o : Output) (old new : Op
     exact = is.output.exact;
   }
 
-  journal-begun : IfTold (BeginsJournal s o.journal.items) old new → HasBegun kind s old new
-  journal-begun written = record {
+  journal-written : (writes : SolveCall → List ℕ → Names → Names → Type 0) → IfTold (writes s o.journal.items) old new
+      → HasSearched writes kind s old new
+  journal-written writes written = record {
     base = is.base;
     history = is.output.history;
     search = searched;
-    written = subst (λ j. IfTold (BeginsJournal s j) old new) is.output.journal written;
+    written = subst (λ j. IfTold (writes s j) old new) is.output.journal written;
   }
 
   found-none : o.best ≡ None → IfTold (WritesJournal s o.journal.items) old new → HasFoundNone kind s old new
-  found-none none written = record {
-    base = is.base;
-    history = is.output.history;
-    search = searched;
-    none = let no-best : HasNone is.base (told_by kind is.output.history) =
-        subst (HasBestOutput is.base (told_by kind is.output.history)) none is.output.best in
-        no-best;
-    written = subst (λ j. IfTold (WritesJournal s j) old new) is.output.journal written;
-  }
+  unfolding journal-written
+  found-none none written =
+      let no-best : HasNone is.base (told_by kind is.output.history) =
+      subst (HasBestOutput is.base (told_by kind is.output.history)) none is.output.best in
+      (journal-written WritesJournal written, no-best)
 
   of-best : (best : BestOutput) → o.best ≡ Some best → IsBestOutput is.base (told_by kind is.output.history) best
   of-best best some = subst (HasBestOutput is.base (told_by kind is.output.history)) some is.output.best
 
-  out-begun : WritesOutput BeginsSolution s o old new → HasFound kind s old new
-  out-begun w =
+  best-written : (writes : SolveCall → List ℕ → List ℕ → Names → Names → Type 0) → WritesOutput writes s o old new
+      → HasFoundBest writes kind s old new
+  best-written writes w =
       let best = of-best w.best w.is in
       record {
         base = is.base;
@@ -183,23 +180,13 @@ module _ {X : Type 0} (kind : Kind X) (s : SolveCall) (o : Output) (old new : Op
         place = best.place;
         search = searched;
         best = best.best;
-        written = subst (λ x. IfTold (BeginsSolution s journal x) old new) best.solution
-            (subst (λ j. IfTold (BeginsSolution s j w.best.solution.items) old new) is.output.journal w.written);
+        written = subst (λ x. IfTold (writes s journal x) old new) best.solution
+            (subst (λ j. IfTold (writes s j w.best.solution.items) old new) is.output.journal w.written);
       }
 
   all-done : (w : WritesOutput WritesBoth s o old new) (text : List ℕ) → text ≡ w.best.text.items → IsDone kind s old new text
-  all-done w text said =
-      let best = of-best w.best w.is in
-      record {
-        base = is.base;
-        history = is.output.history;
-        place = best.place;
-        search = searched;
-        best = best.best;
-        written = subst (λ x. IfTold (WritesBoth s journal x) old new) best.solution
-            (subst (λ j. IfTold (WritesBoth s j w.best.solution.items) old new) is.output.journal w.written);
-        said = said ∙ best.text;
-      }
+  unfolding best-written of-best
+  all-done w text said = (best-written WritesBoth w, said ∙ (of-best w.best w.is).text)
 
   pub search-ends : (status : Status) (text : List ℕ) → OutputEnds s o old new status text → SearchEnds kind s old new status text
   search-ends Done text h = all-done h.0 text h.1
@@ -211,13 +198,13 @@ module _ {X : Type 0} (kind : Kind X) (s : SolveCall) (o : Output) (old new : Op
   search-ends (WriteFault None) text h = all-done h.0 text h.1
   search-ends (WriteFault (Some Instance)) text h = absurd h
   search-ends (WriteFault (Some Solution)) text h = absurd h
-  search-ends (WriteFault (Some Journal)) text h = (journal-begun h.0, h.1)
-  search-ends (WriteFault (Some Out)) text h = (out-begun h.0, h.1)
+  search-ends (WriteFault (Some Journal)) text h = (journal-written BeginsJournal h.0, h.1)
+  search-ends (WriteFault (Some Out)) text h = (best-written BeginsSolution h.0, h.1)
   search-ends OutOfMemory text h = (by_case h.0, h.1)
     where
       by_case : IfTold (BeginsJournal s o.journal.items) old new ⊎ WritesOutput BeginsSolution s o old new → IsSomewhere kind s old new
-      by_case (inl begun) = inr (inl (journal-begun begun))
-      by_case (inr found) = inr (inr (out-begun found))
+      by_case (inl begun) = inr (inl (journal-written BeginsJournal begun))
+      by_case (inr found) = inr (inr (best-written BeginsSolution found))
   search-ends (JournalRefused e) text h = absurd h
   search-ends Infeasible text h = absurd h
   search-ends (TooLong role) text h = absurd h

@@ -147,7 +147,7 @@ abbrev pub SolvesReplayTheSame : Type 0
 SolvesReplayTheSame =
     (s : SolveCall) (r : ReplayCall) (before after there left : Names) (text : List ℕ) (ended : Status) (said : List ℕ)
     → IsReplayOf s r before after there → HasNoFault ended → (done : IsDone of_moves s (Some before) (Some after) text)
-    → IsReplayedAlike s r before after there left text (length done.history) ended said
+    → IsReplayedAlike s r before after there left text (length done.0.history) ended said
 
 abbrev pub SolvesWithNoneReplayTheSame : Type 0
 SolvesWithNoneReplayTheSame =

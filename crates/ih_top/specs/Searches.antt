@@ -53,42 +53,42 @@ pub record IsSearch {X : Type 0} (kind : Kind X) (files : Option Names) (s : Sol
 abbrev pub solution_at : Base → List Tried → ℕ → List ℕ
 solution_at b H k = solution b.instance (plan_at b H k)
 
--- the journal of a full history is written or begun
-pub record HasBegun {X : Type 0} (kind : Kind X) (s : SolveCall) (old new : Option Names) : Type 0 where
+-- the journal of a full history is written, as far as this says
+pub record HasSearched {X : Type 0} (writes : SolveCall → List ℕ → Names → Names → Type 0) (kind : Kind X) (s : SolveCall)
+    (old new : Option Names) : Type 0 where
   pub base : Base
   pub history : List X
   pub search : IsSearch kind old s base history
-  pub written : IfTold (BeginsJournal s (kind.journal base.options history)) old new
+  pub written : IfTold (writes s (kind.journal base.options history)) old new
 
--- the journal of a full history is written, in which no timetable is feasible
-pub record HasFoundNone {X : Type 0} (kind : Kind X) (s : SolveCall) (old new : Option Names) : Type 0 where
-  pub base : Base
-  pub history : List X
-  pub search : IsSearch kind old s base history
-  pub none : HasNone base (told_by kind history)
-  pub written : IfTold (WritesJournal s (kind.journal base.options history)) old new
-
--- the journal of a full history is written, and the solution of its first cheapest feasible timetable may be begun
-pub record HasFound {X : Type 0} (kind : Kind X) (s : SolveCall) (old new : Option Names) : Type 0 where
+-- the journal of a full history and the solution of its first cheapest feasible timetable are written, as far as this
+-- says
+pub record HasFoundBest {X : Type 0} (writes : SolveCall → List ℕ → List ℕ → Names → Names → Type 0) (kind : Kind X)
+    (s : SolveCall) (old new : Option Names) : Type 0 where
   pub base : Base
   pub history : List X
   pub place : ℕ
   pub search : IsSearch kind old s base history
   pub best : IsBest base (told_by kind history) place
   pub written : IfTold
-      (BeginsSolution s (kind.journal base.options history) (solution_at base (told_by kind history) place)) old new
+      (writes s (kind.journal base.options history) (solution_at base (told_by kind history) place)) old new
 
--- the journal of a full history and the solution of its first cheapest feasible timetable are written, and this is what
--- is said of it
-pub record IsDone {X : Type 0} (kind : Kind X) (s : SolveCall) (old new : Option Names) (text : List ℕ) : Type 0 where
-  pub base : Base
-  pub history : List X
-  pub place : ℕ
-  pub search : IsSearch kind old s base history
-  pub best : IsBest base (told_by kind history) place
-  pub written : IfTold
-      (WritesBoth s (kind.journal base.options history) (solution_at base (told_by kind history) place)) old new
-  pub said : text ≡ done_text base (told_by kind history) place
+-- the journal is written or begun
+abbrev pub HasBegun : {X : Type 0} → Kind X → SolveCall → Option Names → Option Names → Type 0
+HasBegun kind s old new = HasSearched BeginsJournal kind s old new
+
+-- the journal is written, and no timetable of its history is feasible
+abbrev pub HasFoundNone : {X : Type 0} → Kind X → SolveCall → Option Names → Option Names → Type 0
+HasFoundNone kind s old new = (h : HasSearched WritesJournal kind s old new) × HasNone h.base (told_by kind h.history)
+
+-- the journal is written, and the solution may be begun
+abbrev pub HasFound : {X : Type 0} → Kind X → SolveCall → Option Names → Option Names → Type 0
+HasFound kind s old new = HasFoundBest BeginsSolution kind s old new
+
+-- both are written, and this is what is said of it
+abbrev pub IsDone : {X : Type 0} → Kind X → SolveCall → Option Names → Option Names → List ℕ → Type 0
+IsDone kind s old new text =
+    (h : HasFoundBest WritesBoth kind s old new) × (text ≡ done_text h.base (told_by kind h.history) h.place)
 
 -- where memory ran out, the files are as far as the call had come
 abbrev pub IsSomewhere : {X : Type 0} → Kind X → SolveCall → Option Names → Option Names → Type 0

@@ -13,7 +13,7 @@ ghost use Rattle.ih_top.specs.Outputs.{IsOutput, plain_base};
 use crate::answer::Answer;
 use crate::inputs::{InputNames, Inputs, read_inputs};
 use crate::output::{BestOutput, Output, found_text, seed_of};
-use crate::starts::begin;
+use crate::starts::begin_search;
 use crate::writer::write_made;
 use ih_chain::{ChainRun, run_chains};
 use ih_journal::Options;
@@ -89,14 +89,7 @@ fn search_by_chains<R: Threads + Wait + Sync, G: Gate>(
     ensures { IfOk result (IsOutput (of_chains call.now.length) (plain_base (solve_call call.now.search) inputs)) }
 {
     let search = &call.search;
-    let begun = begin(
-        rt,
-        alloc,
-        inputs,
-        search.start.fill,
-        search.options.hard,
-        search.options.workers,
-    )?;
+    let begun = begin_search(rt, alloc, search, inputs)?;
     make_chain_output(
         rt,
         alloc,

@@ -12,7 +12,7 @@ use crate::answer::Answer;
 use crate::inputs::{InputNames, Inputs, read_inputs};
 use crate::output::Output;
 use crate::rounds_output::make_rounds_output;
-use crate::starts::begin;
+use crate::starts::begin_search;
 use crate::writer::write_made;
 use ih_shelf::{Gate, Shelf};
 use ih_words::Rounds;
@@ -34,14 +34,7 @@ fn search_in_rounds<R: Threads + Wait + Sync, G: Gate>(
     ensures { IfOk result (IsRoundsOutput (plain_base (solve_call call.now.search) inputs) call.now.rounds) }
 {
     let search = &call.search;
-    let begun = begin(
-        rt,
-        alloc,
-        inputs,
-        search.start.fill,
-        search.options.hard,
-        search.options.workers,
-    )?;
+    let begun = begin_search(rt, alloc, search, inputs)?;
     make_rounds_output(
         rt,
         alloc,

@@ -13,7 +13,7 @@ ghost use Rattle.ih_top.specs.Solve.{SolveEnds, of_moves};
 use crate::answer::Answer;
 use crate::inputs::{InputNames, Inputs, read_inputs};
 use crate::output::{Output, best_of, seed_of};
-use crate::starts::begin;
+use crate::starts::begin_search;
 use crate::writer::write_made;
 use ih_desk::Given;
 use ih_history::journal_text;
@@ -56,14 +56,7 @@ fn search_from<R: Threads + Wait + Sync, G: Gate>(
     requires lawful { IsLawful call.now.options }
     ensures { IfOk result (IsOutput of_moves (base_from (solve_call call.now) inputs)) }
 {
-    let begun = begin(
-        rt,
-        alloc,
-        inputs,
-        call.start.fill,
-        call.options.hard,
-        call.options.workers,
-    )?;
+    let begun = begin_search(rt, alloc, call, inputs)?;
     let given = Given {
         inst: &*begun.inst,
         start: &begun.plan,

@@ -2,11 +2,13 @@
 
 ghost use Rattle.std.specs.Prelude.{◌≡◌, ◌<◌, ◌≤◌, IfOk};
 ghost use Rattle.ih_plan.specs.Timetable.{IsPlanOf};
+ghost use Rattle.ih_journal.specs.Settings.{IsLawful};
 ghost use Rattle.ih_top.specs.Starts.{started};
 
 use crate::inputs::Inputs;
 use ih_parfill::par_fill;
 use ih_shelf::OpenGate;
+use ih_words::Solve;
 use std::alloc::{AllocError, Global};
 use std::sync::Wait;
 use std::thread::Threads;
@@ -35,4 +37,29 @@ pub fn begin<R: Threads + Wait + Sync>(
     let Inputs { inst, plan } = inputs;
     let plan = par_fill(rt, alloc, &*inst, hard, &plan, workers, &OpenGate)?;
     Ok(Inputs { inst, plan })
+}
+
+/// The inputs with the timetable that the call's search starts from.
+pub fn begin_search<R: Threads + Wait + Sync>(
+    rt: &R,
+    alloc: Global,
+    call: &Solve<'_>,
+    inputs: Inputs,
+) -> Result<Inputs, AllocError>
+    requires plan { IsPlanOf inputs.inst.value.draft inputs.plan }
+    requires lawful { IsLawful call.now.options }
+    ensures instance { IfOk result (λ i. i.inst.value.draft ≡ inputs.inst.value.draft) }
+    ensures start { IfOk result
+        (λ i. i.plan ≡ started call.now.start.fill call.now.options.hard inputs.inst.value.draft inputs.plan) }
+    ensures plan { IfOk result (λ i. IsPlanOf i.inst.value.draft i.plan) }
+{
+    let options = &call.options;
+    begin(
+        rt,
+        alloc,
+        inputs,
+        call.start.fill,
+        options.hard,
+        options.workers,
+    )
 }
