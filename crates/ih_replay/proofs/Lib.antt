@@ -3,9 +3,9 @@ mod Checking
 mod Firsts
 mod Going
 mod Journals
+mod Keeping
 mod Lines
 mod Offering
-mod Passing
 mod Reaching
 mod Refusing
 mod Singles

@@ -22,14 +22,14 @@ pub record IsWorkerIn (b : Base) (H : List Tried) (w : ℕ) (x : Worker) : Type 
   pub draw : x.draw ≡ move_of b.instance b.options.seed w x.number
   pub stream : x.stream ≡ stream_at b.options.seed w (x.number + 1)
   -- the place behind the worker's last entry
-  pub front : (n : ℕ) → (x.front ≤ n) ↔ HasSeenOwn H w n
+  pub own_end : (n : ℕ) → (x.own_end ≤ n) ↔ HasSeenOwn H w n
 
--- The worker after an entry of its next attempt, at the place before `front`: it tries the draw again, or draws the
+-- The worker after an entry of its next attempt, at the place before `own_end`: it tries the draw again, or draws the
 -- next one.
-abbrev pub passed : Draft → Options → Worker → Tried → ℕ → Worker
-passed I o x e front =
-    if is_retried o e then record x { again = x.again + 1; front = front }
-    else record x { number = x.number + 1; again = 0; draw = draw_at I x.stream; stream = state_after 6 x.stream; front = front }
+abbrev pub gone_on : Draft → Options → Worker → Tried → ℕ → Worker
+gone_on I o x e own_end =
+    if is_retried o e then record x { again = x.again + 1; own_end = own_end }
+    else record x { number = x.number + 1; again = 0; draw = draw_at I x.stream; stream = state_after 6 x.stream; own_end = own_end }
 
 -- The history is legal, and each worker's own is kept.
 pub record IsReplayed (b : Base) (H : List Tried) (xs : List Worker) : Type 0 where

@@ -56,7 +56,7 @@ fn read(inst: &Instance, options: &Options, book: &Book<'_>, line: &[u8]) -> Res
     }
 }
 
-// What `==` tells of two moves, prices or verdicts.
+// For the proof alone: `==` of two moves, prices or verdicts, with what its answer tells as clauses.
 fn is_same_move(a: &Move, b: &Move) -> bool
     ensures yes { IsTrue result → a.now ≡ b.now }
     ensures no { IsFalse result → a.now ≢ b.now }
@@ -86,7 +86,7 @@ fn may_have_seen(book: &Book<'_>, worker: &Worker<'_>, entry: &Entry) -> bool
     ensures no { IsFalse result → (entry.now.seen ≤ length book.now.entries)
         × HasSeenOwn book.now.entries entry.now.worker entry.now.seen → ⊥ }
 {
-    if entry.seen < worker.front {
+    if entry.seen < worker.own_end {
         return false;
     }
     entry.seen as usize <= book.entries().len()
@@ -202,8 +202,8 @@ fn take_entry(
     check(options, book, worker, entry)?;
     reach(book, &mut worker.replica, entry.seen);
     commit(book, &mut worker.replica, entry)?;
-    let front = book.entries().len() as u32;
-    worker.pass(inst, options, entry, front);
+    let own_end = book.entries().len() as u32;
+    worker.go_on(inst, options, entry, own_end);
     Ok(())
 }
 

@@ -6,7 +6,7 @@ ghost use Rattle.ih_journal.specs.Attempts.{is_retried};
 ghost use Rattle.ih_journal.specs.Settings.{IsLawful};
 ghost use Rattle.ih_journal.specs.Tried.{tried};
 ghost use Rattle.ih_cellbook.specs.Keeping.{base_with};
-ghost use Rattle.ih_replay.specs.Keeping.{IsReplayed, IsWorkerIn, passed};
+ghost use Rattle.ih_replay.specs.Keeping.{IsReplayed, IsWorkerIn, gone_on};
 
 use ih_journal::{Entry, Options, Verdict};
 use ih_moves::Stream;
@@ -29,7 +29,7 @@ pub struct Worker<'a> {
     /// How often that draw was tried before.
     pub again: u32,
     /// The place behind the worker's own last entry, or 0 where it has none.
-    pub front: u32,
+    pub own_end: u32,
 }
 
 // Whether the entry's move is to be tried again.
@@ -62,15 +62,15 @@ impl<'a> Worker<'a> {
             draw,
             number: 0,
             again: 0,
-            front: 0,
+            own_end: 0,
         })
     }
 
-    /// Goes on to the attempt that follows an entry of the worker at the place before `front`.
-    pub fn pass(&mut self, inst: &Instance, options: &Options, entry: &Entry, front: u32)
+    /// Goes on to the attempt that follows an entry of the worker at the place before `own_end`.
+    pub fn go_on(&mut self, inst: &Instance, options: &Options, entry: &Entry, own_end: u32)
         requires number { self.old.number < 2 ^ 31 }
         requires again { self.old.again < 2 ^ 31 }
-        ensures { self.new ≡ passed inst.now.draft options.now self.old (tried entry.now) front }
+        ensures { self.new ≡ gone_on inst.now.draft options.now self.old (tried entry.now) own_end }
     {
         if is_retried(options, entry) {
             self.again += 1;
@@ -79,7 +79,7 @@ impl<'a> Worker<'a> {
             self.again = 0;
             self.draw = self.stream.draw(inst);
         }
-        self.front = front;
+        self.own_end = own_end;
     }
 }
 

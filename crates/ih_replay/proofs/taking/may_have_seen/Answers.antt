@@ -6,7 +6,7 @@ use Rattle.ih_replay.proofs.taking.may_have_seen.Goals as goal
 
 pub returns-then-entry-worker-clause-no : goal.returns-then-entry-worker-clause-no
 returns-then-entry-worker-clause-no c off may =
-    let most = (c.requires.front c.args.entry.now.seen).1 may.1 in
+    let most = (c.requires.own_end c.args.entry.now.seen).1 may.1 in
     let less = c.if-entry-worker.true in
     omega (arith, most, less)
 
@@ -16,7 +16,7 @@ returns-clause-yes c on =
     let many = length-map c.entries.result.now tried in
     let most = leb-true c.args.entry.now.seen (length c.entries.result.now) on in
     let some = c.if-entry-worker.false in
-    (omega (arith, len, many, most), (c.requires.front c.args.entry.now.seen).0 (omega (arith, some)))
+    (omega (arith, len, many, most), (c.requires.own_end c.args.entry.now.seen).0 (omega (arith, some)))
 
 pub returns-clause-no : goal.returns-clause-no
 returns-clause-no c off may =

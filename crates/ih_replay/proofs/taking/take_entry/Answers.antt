@@ -6,7 +6,7 @@ use Rattle.ih_replay.specs.Refusals.{FitsIn, of_attempt, of_offer}
 use Rattle.ih_replay.proofs.Checking.{own-attempt, small}
 use Rattle.ih_replay.proofs.Firsts.{all-append, first-before, first-behind}
 use Rattle.ih_replay.proofs.Offering.{legal-of}
-use Rattle.ih_replay.proofs.Passing.{worker-moved, worker-went}
+use Rattle.ih_replay.proofs.Keeping.{worker-moved, worker-went}
 use Rattle.ih_replay.proofs.taking.take_entry.Goals as goal
 
 pub returns-in_err-check-clause-err : goal.returns-in_err-check-clause-err
@@ -27,8 +27,8 @@ returns-in_err-commit-clause-kept c =
     worker-moved v.base c.commit.new.book.base v.entries c.commit.new.book.entries c.args.entry.now.worker c.args.worker.now c.commit.new.replica c.requires.kept
     c.commit.ensures.base c.in_err-commit.ensures.same c.commit.ensures.replica (c.commit.ensures.own ∙ c.reach.ensures.worker ∙ c.requires.kept.own)
 
-pub pass-requires-clause-number : goal.pass-requires-clause-number
-pass-requires-clause-number c =
+pub go_on-requires-clause-number : goal.go_on-requires-clause-number
+go_on-requires-clause-number c =
     let v = c.args.book.now in
     (small v.base v.entries c.args.entry.now c.args.worker.now c.requires.legal c.requires.kept c.requires.known c.in_ok-check.ensures.ok c.requires.base).0
 
@@ -37,10 +37,10 @@ returns-clause-kept c =
     let v = c.args.book.now in
     let x = c.args.worker.now in
     let own = own-attempt v.base v.entries c.args.entry.now x c.requires.legal c.requires.kept c.requires.known c.in_ok-check.ensures.ok in
-    worker-went v.base c.commit.new.book.base v.entries c.commit.new.book.entries (tried c.args.entry.now) (record x { replica = c.commit.new.replica }) c.pass.new.self
+    worker-went v.base c.commit.new.book.base v.entries c.commit.new.book.entries (tried c.args.entry.now) (record x { replica = c.commit.new.replica }) c.go_on.new.self
     c.args.inst.now.draft c.args.options.now _ c.commit.ensures.base c.in_ok-commit.ensures.added own.0 own.1 c.requires.kept.draw c.requires.kept.stream c.commit.ensures.replica
     (c.commit.ensures.own ∙ c.reach.ensures.worker ∙ c.requires.kept.own) c.requires.instance c.requires.options
-    (sym (length-map c.entries.result.now tried) ∙ ap length c.entries.ensures.entries) c.pass.ensures
+    (sym (length-map c.entries.result.now tried) ∙ ap length c.entries.ensures.entries) c.go_on.ensures
 
 pub returns-clause-legal : goal.returns-clause-legal
 returns-clause-legal c =

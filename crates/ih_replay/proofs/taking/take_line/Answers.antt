@@ -3,7 +3,7 @@ use Rattle.std.proofs.lemmas.Result.{err_from_is_err_and, IfErr-weaker}
 use Rattle.ih_journal.specs.declared.settings.Options.{Options}
 use Rattle.ih_journal.specs.Tried.{tried}
 use Rattle.ih_replay.proofs.Going.{worker-at}
-use Rattle.ih_replay.proofs.Passing.{replayed-by}
+use Rattle.ih_replay.proofs.Keeping.{replayed-by}
 use Rattle.ih_replay.proofs.Refusing.{refused-entry, refused-extra, refused-read, refused-worker}
 use Rattle.ih_replay.proofs.taking.take_line.Goals as goal
 

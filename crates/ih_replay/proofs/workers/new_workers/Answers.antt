@@ -1,6 +1,6 @@
 use Rattle.std.proofs.Common.{◌∙◌, arith, ap, length, length-append}
 use Rattle.ih_cellbook.specs.Keeping.{base_with}
-use Rattle.ih_replay.proofs.Passing.{workers-more}
+use Rattle.ih_replay.proofs.Keeping.{workers-more}
 use Rattle.ih_replay.proofs.workers.new_workers.Goals as goal
 
 pub loop-worker-preserved : goal.loop-worker-preserved

@@ -19,7 +19,7 @@ use Rattle.ih_cellbook.specs.Replicas.{IsReplicaIn, IsReplicaOf}
 use Rattle.ih_cellbook.specs.Snapshot.{Snapshot}
 use Rattle.ih_cellbook.proofs.Within.{stands-behind}
 use Rattle.ih_replay.specs.declared.workers.Worker.{Worker}
-use Rattle.ih_replay.specs.Keeping.{IsReplayed, IsWorkerIn, passed}
+use Rattle.ih_replay.specs.Keeping.{IsReplayed, IsWorkerIn, gone_on}
 
 -- ---- what a worker must have seen
 
@@ -64,16 +64,16 @@ pub stream-start : (seed w : ℕ) → stream_at seed w 0 ≡ stream_state seed w
 unfolding state_after
 stream-start seed w = refl
 
-pub worker-none : (b : Base) (w : ℕ) (x : Worker) → IsReplicaOf b [] x.replica → x.replica.worker ≡ w → x.number ≡ 0 → x.again ≡ 0 → x.front ≡ 0
+pub worker-none : (b : Base) (w : ℕ) (x : Worker) → IsReplicaOf b [] x.replica → x.replica.worker ≡ w → x.number ≡ 0 → x.again ≡ 0 → x.own_end ≡ 0
     → x.draw ≡ move_of b.instance b.options.seed w 0 → x.stream ≡ stream_at b.options.seed w 1 → IsWorkerIn b [] w x
 unfolding last_by
-worker-none b w x stands own number again front draw stream = record {
+worker-none b w x stands own number again own_end draw stream = record {
   replica = empty-in b [] x.replica stands;
   own = own;
   attempt = rw (number, again) refl;
   draw = rw number draw;
   stream = rw number stream;
-  front = λ n. rw front (seen-none w n);
+  own_end = λ n. rw own_end (seen-none w n);
 }
 
 pub worker-other : (b : Base) (H : List Tried) (e : Tried) (w : ℕ) (x : Worker) → (e.worker ≡ w → ⊥) → IsWorkerIn b H w x → IsWorkerIn b (H ++ e ∷ []) w x
@@ -83,9 +83,9 @@ worker-other b H e w x other kept = record {
   attempt = rw (last_by-other H e w other) kept.attempt;
   draw = kept.draw;
   stream = kept.stream;
-  front = λ n. (
-    λ most. (seen-other H e w n other).0 ((kept.front n).0 most),
-    λ seen. (kept.front n).1 ((seen-other H e w n other).1 seen),
+  own_end = λ n. (
+    λ most. (seen-other H e w n other).0 ((kept.own_end n).0 most),
+    λ seen. (kept.own_end n).1 ((seen-other H e w n other).1 seen),
   );
 }
 
@@ -95,7 +95,7 @@ pub worker-moved : (b c : Base) (H G : List Tried) (w : ℕ) (x : Worker) (s : S
 worker-moved b c H G w x s kept base same stands own =
     let y : Worker = record x { replica = s } in
     let here : IsReplicaIn b H s = subst (λ F. IsReplicaIn b F s) same (subst (λ d. IsReplicaIn d G s) base stands) in
-    let moved : IsWorkerIn b H w y = record { replica = here; own = own; attempt = kept.attempt; draw = kept.draw; stream = kept.stream; front = kept.front } in
+    let moved : IsWorkerIn b H w y = record { replica = here; own = own; attempt = kept.attempt; draw = kept.draw; stream = kept.stream; own_end = kept.own_end } in
     subst (λ d. IsWorkerIn d G w y) (sym base) (subst (λ F. IsWorkerIn b F w y) (sym same) moved)
 
 move-next : (I : Draft) (seed w i : ℕ) (s : List ℕ) → s ≡ stream_at seed w i → draw_at I s ≡ move_of I seed w i
@@ -106,44 +106,44 @@ move-next I seed w i s e = ap (draw_at I) e
 module _ (b : Base) (H : List Tried) (e : Tried) (x : Worker) (number : e.number ≡ x.number) (again : e.again ≡ x.again)
     (draw : x.draw ≡ move_of b.instance b.options.seed e.worker x.number) (stream : x.stream ≡ stream_at b.options.seed e.worker (x.number + 1))
     (replica : IsReplicaIn b (H ++ e ∷ []) x.replica) (own : x.replica.worker ≡ e.worker) where
-  attempt-passed : (t : Bool) → is_retried b.options e ≡ t
-      → attempt_after b.options (Some e) ≡ (let y : Worker = (if t then record x { again = x.again + 1; front = length H + 1 }
-      else record x { number = x.number + 1; again = 0; draw = draw_at b.instance x.stream; stream = state_after 6 x.stream; front = length H + 1 }) in record { number = y.number; again = y.again })
-  attempt-passed true on = rw (on, number, again) refl
-  attempt-passed false off = rw (off, number) refl
+  attempt-gone-on : (t : Bool) → is_retried b.options e ≡ t
+      → attempt_after b.options (Some e) ≡ (let y : Worker = (if t then record x { again = x.again + 1; own_end = length H + 1 }
+      else record x { number = x.number + 1; again = 0; draw = draw_at b.instance x.stream; stream = state_after 6 x.stream; own_end = length H + 1 }) in record { number = y.number; again = y.again })
+  attempt-gone-on true on = rw (on, number, again) refl
+  attempt-gone-on false off = rw (off, number) refl
 
   worker-by : (t : Bool) → is_retried b.options e ≡ t
-      → IsWorkerIn b (H ++ e ∷ []) e.worker (if t then record x { again = x.again + 1; front = length H + 1 }
-      else record x { number = x.number + 1; again = 0; draw = draw_at b.instance x.stream; stream = state_after 6 x.stream; front = length H + 1 })
+      → IsWorkerIn b (H ++ e ∷ []) e.worker (if t then record x { again = x.again + 1; own_end = length H + 1 }
+      else record x { number = x.number + 1; again = 0; draw = draw_at b.instance x.stream; stream = state_after 6 x.stream; own_end = length H + 1 })
   worker-by true on = record {
     replica = replica;
     own = own;
-    attempt = ap (attempt_after b.options) (last_by-own H e e.worker refl) ∙ attempt-passed true on;
+    attempt = ap (attempt_after b.options) (last_by-own H e e.worker refl) ∙ attempt-gone-on true on;
     draw = draw;
     stream = stream;
-    front = seen-own H e;
+    own_end = seen-own H e;
   }
   worker-by false off = record {
     replica = replica;
     own = own;
-    attempt = ap (attempt_after b.options) (last_by-own H e e.worker refl) ∙ attempt-passed false off;
+    attempt = ap (attempt_after b.options) (last_by-own H e e.worker refl) ∙ attempt-gone-on false off;
     draw = move-next b.instance b.options.seed e.worker (x.number + 1) x.stream stream;
     stream = ap (state_after 6) stream ∙ sym (stream-next b.options.seed e.worker (x.number + 1));
-    front = seen-own H e;
+    own_end = seen-own H e;
   }
 
-  pub worker-passed : IsWorkerIn b (H ++ e ∷ []) e.worker (passed b.instance b.options x e (length H + 1))
-  worker-passed = worker-by (is_retried b.options e) refl
+  pub worker-gone-on : IsWorkerIn b (H ++ e ∷ []) e.worker (gone_on b.instance b.options x e (length H + 1))
+  worker-gone-on = worker-by (is_retried b.options e) refl
 
 -- the worker as the code leaves it
-pub worker-went : (b c : Base) (H G : List Tried) (e : Tried) (x y : Worker) (I : Draft) (o : Options) (front : ℕ) → c ≡ b → G ≡ H ++ e ∷ [] → e.number ≡ x.number → e.again ≡ x.again
+pub worker-went : (b c : Base) (H G : List Tried) (e : Tried) (x y : Worker) (I : Draft) (o : Options) (own_end : ℕ) → c ≡ b → G ≡ H ++ e ∷ [] → e.number ≡ x.number → e.again ≡ x.again
     → x.draw ≡ move_of b.instance b.options.seed e.worker x.number → x.stream ≡ stream_at b.options.seed e.worker (x.number + 1) → IsReplicaIn c G x.replica → x.replica.worker ≡ e.worker
-    → I ≡ b.instance → o ≡ b.options → front ≡ length G → y ≡ passed I o x e front → IsWorkerIn c G e.worker y
-worker-went b c H G e x y I o front base same number again draw stream stands own inst opts at made =
+    → I ≡ b.instance → o ≡ b.options → own_end ≡ length G → y ≡ gone_on I o x e own_end → IsWorkerIn c G e.worker y
+worker-went b c H G e x y I o own_end base same number again draw stream stands own inst opts at made =
     let here : IsReplicaIn b (H ++ e ∷ []) x.replica = subst (λ F. IsReplicaIn b F x.replica) same (subst (λ d. IsReplicaIn d G x.replica) base stands) in
-    let went = worker-passed b H e x number again draw stream here own in
-    let is : y ≡ passed b.instance b.options x e (length H + 1) =
-    made ∙ ap (λ J. passed J o x e front) inst ∙ ap (λ p. passed b.instance p x e front) opts ∙ ap (passed b.instance b.options x e) (at ∙ ap length same ∙ length-more H e) in
+    let went = worker-gone-on b H e x number again draw stream here own in
+    let is : y ≡ gone_on b.instance b.options x e (length H + 1) =
+    made ∙ ap (λ J. gone_on J o x e own_end) inst ∙ ap (λ p. gone_on b.instance p x e own_end) opts ∙ ap (gone_on b.instance b.options x e) (at ∙ ap length same ∙ length-more H e) in
     subst (λ d. IsWorkerIn d G e.worker y) (sym base) (subst (λ F. IsWorkerIn b F e.worker y) (sym same) (subst (IsWorkerIn b (H ++ e ∷ []) e.worker) (sym is) went))
 
 -- ---- all workers
