@@ -76,23 +76,27 @@ module _ {B E D : Type 0} (entries : B → List E) (base : B → D) (maker : E �
   abbrev pub IsTurn : State (Option B) (View E D) → Type 0
   IsTurn s = (length s.words ≡ 2) × Turns (slice_index s.words 0) (slice_index s.words 1) s.homes s.views
 
--- the view of the first seat
-abbrev pub first_view : {B E D : Type 0} → (B → List E) → (B → D) → B → ℕ → ℕ → View E D
-first_view entries base opening seats turns = record {
+-- the first seat, with so many turns left of so many that were given, each seat getting so many
+abbrev pub root_view : {B E D : Type 0} → (B → List E) → (B → D) → B → ℕ → ℕ → ℕ → View E D
+root_view entries base opening left given turns = record {
   spent = false;
   number = 0;
   seen = entries opening;
   base = Some (base opening);
   start = length
       (entries opening);
-  left = seats * turns;
+  left = left;
   waits = false;
   ticket = 0;
   has_turn = false;
   each = turns;
-  given = 1;
+  given = given;
   joined = [];
 }
+
+-- the view of the first seat, which has all turns and has split off none
+abbrev pub first_view : {B E D : Type 0} → (B → List E) → (B → D) → B → ℕ → ℕ → View E D
+first_view entries base opening seats turns = root_view entries base opening (seats * turns) 1 turns
 
 -- the longer one, which the other begins
 abbrev pub longer : {E : Type 0} → List E → List E → List E
@@ -203,45 +207,13 @@ pub record Closes {B E D : Type 0} (entries : B → List E) (base : B → D) (ma
   pub marked : (k : ℕ) (t : ℕ × List E) → get_elem? (seen_lists v) k ≡ maybe.some t → Follows maker t.0 (entries b) t.1
   pub added : AddsBelow maker seats (entries opening) (entries b)
 
--- the first seat, with so many turns left of so many that were given, each seat getting so many
-abbrev pub root_view : {B E D : Type 0} → (B → List E) → (B → D) → B → ℕ → ℕ → ℕ → View E D
-root_view entries base opening left given turns = record {
-  spent = false;
-  number = 0;
-  seen = entries opening;
-  base = Some (base opening);
-  start = length
-      (entries opening);
-  left = left;
-  waits = false;
-  ticket = 0;
-  has_turn = false;
-  each = turns;
-  given = given;
-  joined = [];
-}
-
 -- the first seat, while r of the seats are not split off yet, itself among them
 abbrev pub splitting_view : {B E D : Type 0} → (B → List E) → (B → D) → B → ℕ → ℕ → ℕ → View E D
 splitting_view entries base opening r given turns = root_view entries base opening (r * turns) given turns
 
--- a seat that was split off
+-- a seat that was split off, which splits off none
 abbrev pub seat_view : {B E D : Type 0} → (B → List E) → (B → D) → B → ℕ → ℕ → View E D
-seat_view entries base opening number turns = record {
-  spent = false;
-  number = number;
-  seen = entries opening;
-  base = Some (base opening);
-  start = length
-      (entries opening);
-  left = turns;
-  waits = false;
-  ticket = 0;
-  has_turn = false;
-  each = 0;
-  given = 0;
-  joined = [];
-}
+seat_view entries base opening number turns = record (root_view entries base opening turns 0 0) { number = number }
 
 -- their numbers are 1, 2 and so on, and each meets P
 abbrev pub AreNumberedFromOne : {A : Type 0} → (A → ℕ) → (A → Type 0) → List A → Type 0
