@@ -1,10 +1,11 @@
--- First words that are no command's name.
-use Rattle.std.proofs.Common.{◌≡◌, Bool, true, false, List, refl, codes, Some, None}
-use Rattle.std.specs.Prelude.{slice_get}
+-- First words that are a command's name, or none's.
+use Rattle.std.proofs.Common.{◌≡◌, ◌∙◌, ap, sym, Bool, true, false, List, map, refl, codes, Some, None, Global, String, option_map, string_bytes}
+use Rattle.std.specs.Prelude.{option_and_then, slice_get}
 use Rattle.std.specs.Str.{bytes_eq}
+use Rattle.std.proofs.lemmas.Option.{slice_get-map}
 use Rattle.std.proofs.lemmas.Slice.Eq.{bytes_eq-Decides}
 use Rattle.clap.specs.Words.{Text}
-use Rattle.ih_words.specs.Words.{call_of}
+use Rattle.ih_words.specs.Words.{call_named, call_of}
 
 other : (s t : Text) → (s ≡ t → ⊥) → bytes_eq s t ≡ false
 other s t differs = go (bytes_eq s t) refl
@@ -25,11 +26,29 @@ pub record IsOther (name : Text) : Type 0 where
   pub gen : name ≡ codes "gen" → ⊥
   pub demo : name ≡ codes "demo" → ⊥
 
--- words whose first is no command's name name no call
-pub other_name : (words : List Text) (name : Text) → slice_get words 0 ≡ Some name → IsOther name → call_of words ≡ None
+first_name : (words : List (String Global)) {s : String Global} {name : Text} → slice_get words 0 ≡ Some s → name ≡ string_bytes s
+    → slice_get (map string_bytes words) 0 ≡ Some name
+first_name words first told = slice_get-map string_bytes words 0 ∙ ap (option_map string_bytes) first ∙ ap Some (sym told)
+
+-- words whose first is a command's name give what that command gives
+pub by_name : (words : List (String Global)) {s : String Global} {name : Text} (command : Text) → slice_get words 0 ≡ Some s
+    → name ≡ string_bytes s → name ≡ command → call_of (map string_bytes words) ≡ call_named command (map string_bytes words)
 unfolding call_of
-other_name words name first apart = rw (
-  first,
+by_name words command first told is =
+    ap (option_and_then (λ name. call_named name (map string_bytes words))) (first_name words first told ∙ ap Some is)
+
+-- no words name no call
+pub no_name : (words : List (String Global)) → slice_get words 0 ≡ None → call_of (map string_bytes words) ≡ None
+unfolding call_of
+no_name words none =
+    ap (option_and_then (λ name. call_named name (map string_bytes words))) (slice_get-map string_bytes words 0 ∙ ap (option_map string_bytes) none)
+
+-- words whose first is no command's name name no call
+pub other_name : (words : List (String Global)) {s : String Global} {name : Text} → slice_get words 0 ≡ Some s → name ≡ string_bytes s
+    → IsOther name → call_of (map string_bytes words) ≡ None
+unfolding call_of
+other_name words {name = name} first told apart = rw (
+  first_name words first told,
   other name _ apart.solve,
   other name _ apart.replay,
   other name _ apart.salvage,

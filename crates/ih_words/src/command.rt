@@ -48,7 +48,6 @@ pub enum Command<'a> {
 ///   file of a start or with `--fill`, or the journals could come to more than `MAX_ENTRIES` entries,
 ///   or chains to more moves than that.
 /// - `OutOfMemory` where memory ran out.
-#[tactic(auto, unfolding(crate::specs::Words::call_of))]
 pub fn read_words<'a>(alloc: Global, words: &'a [String]) -> Result<Command<'a>, WordsError>
     ensures ok { IfOk result (λ c. call_of (map string_bytes words.entry.now) ≡ Some (command_call c)) }
     ensures lawful { IfOk result HasLawfulOptions }
