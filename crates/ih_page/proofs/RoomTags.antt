@@ -11,7 +11,7 @@ use Rattle.ih_tables.specs.Sizes.{patient_count}
 use Rattle.ih_plan.specs.declared.moves.Placement.{Placement}
 use Rattle.ih_plan.specs.Timetable.{Timetable, stay_of}
 use Rattle.ih_page.specs.Html.{escaped, numbered}
-use Rattle.ih_page.specs.Rooms.{age_text, theatre_text, shift_type_text, nurse_text, wide_cell, bar_cell, bar_text, person_cells, patient_row, occupant_row, patient_in, occupant_in, marked, place_text, count_cell, nurse_cell, shift_row, day_head, room_title, room_head, count_row, person_rows, room_text, rooms_text}
+use Rattle.ih_page.specs.Rooms.{age_text, theatre_text, shift_type_text, nurse_text, wide_cell, bar_cell, bar_text, person_cells, patient_row, occupant_row, patient_in, occupant_in, marked, place_text, count_cell, nurse_cell, shift_row, day_head, room_title, heads_and_days, room_head, count_row, person_rows, room_text, rooms_text}
 use Rattle.ih_page.proofs.Scans.{Own, all-below, if-any, by_pieces}
 use Rattle.ih_page.proofs.NamesAndNumbers.{name, names_and_numbers}
 
@@ -93,7 +93,7 @@ pub day : (d : ℕ) → Own (day_head d)
 day d = simp (by_pieces, names_and_numbers) refl
 
 head : (I : Draft) (r : ℕ) (a : Room) → Own (room_head I r a)
-unfolding room_head room_title numbered
+unfolding room_head heads_and_days room_title numbered
 head I r a = simp (by_pieces, names_and_numbers, all-below day_head day) refl
 
 room : (I : Draft) (P : Timetable) (r : ℕ) → Own (room_text I P r)

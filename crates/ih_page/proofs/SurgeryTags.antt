@@ -8,7 +8,7 @@ use Rattle.ih_plan.specs.Timetable.{Timetable}
 use Rattle.ih_page.specs.declared.surgery.Whose.{Whose}
 use Rattle.ih_page.specs.declared.surgery.Whose.TheVariants.{OfTheatre, OfSurgeon}
 use Rattle.ih_page.specs.Html.{escaped, numbered}
-use Rattle.ih_page.specs.Rooms.{marked, place_text, day_head}
+use Rattle.ih_page.specs.Rooms.{marked, place_text, day_head, heads_and_days}
 use Rattle.ih_page.specs.Surgery.{surgeon_text, whose_text, share_text, minutes_text, name_link, operation, surgery_cell, surgery_row, theatres_text, surgeons_text}
 use Rattle.ih_page.proofs.Scans.{Own, all-below, if-any, by_pieces}
 use Rattle.ih_page.proofs.NamesAndNumbers.{name, names_and_numbers}
@@ -46,7 +46,7 @@ surgeon : (I : Draft) (P : Timetable) (s : ℕ) → Own (surgery_row I P (OfSurg
 surgeon I P s = row I P (OfSurgeon (record { 0 = s }))
 
 pub theatres-own : (I : Draft) (P : Timetable) → Own (theatres_text I P)
-unfolding theatres_text
+unfolding theatres_text heads_and_days
 theatres-own I P =
     simp (
       by_pieces,
@@ -55,7 +55,7 @@ theatres-own I P =
     ) refl
 
 pub surgeons-own : (I : Draft) (P : Timetable) → Own (surgeons_text I P)
-unfolding surgeons_text
+unfolding surgeons_text heads_and_days
 surgeons-own I P =
     simp (
       by_pieces,

@@ -108,9 +108,12 @@ day_head d = codes "<th>" ++ decimal d
 unfoldable pub room_title : ℕ → Room → List ℕ
 room_title r a = numbered (codes "<h3 id=r") r (codes ">") a.id ++ (codes ", capacity " ++ (decimal a.capacity ++ codes "</h3>\n"))
 
+-- the heads of a table's columns, of which the last are the days
+unfoldable pub heads_and_days : Draft → List ℕ → List ℕ
+heads_and_days I heads = heads ++ (lines_below I.days day_head ++ codes "\n")
+
 unfoldable pub room_head : Draft → ℕ → Room → List ℕ
-room_head I r a =
-    room_title r a ++ (codes "<div><table><tr><th>person<th>gender<th>age<th>theatre" ++ (lines_below I.days day_head ++ codes "\n"))
+room_head I r a = room_title r a ++ heads_and_days I (codes "<div><table><tr><th>person<th>gender<th>age<th>theatre")
 
 -- how many are in a room, by days
 unfoldable pub count_row : Draft → Timetable → ℕ → List ℕ

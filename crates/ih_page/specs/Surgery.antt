@@ -12,7 +12,7 @@ use Rattle.ih_validate.specs.Report.{lines_below}
 use Rattle.ih_page.specs.declared.surgery.Whose.{Whose}
 use Rattle.ih_page.specs.declared.surgery.Whose.TheVariants.{OfTheatre, OfSurgeon}
 use Rattle.ih_page.specs.Html.{escaped, numbered}
-use Rattle.ih_page.specs.Rooms.{theatre_text, marked, place_text, day_head}
+use Rattle.ih_page.specs.Rooms.{theatre_text, marked, place_text, heads_and_days}
 
 -- it is one of the instance's
 abbrev pub IsWhoseOf : Draft → Whose → Type 0
@@ -86,10 +86,10 @@ surgery_row I P w = codes "<tr><th>" ++ (whose_text I w ++ (lines_below I.days (
 
 unfoldable pub theatres_text : Draft → Timetable → List ℕ
 theatres_text I P =
-    codes "<h2>Theatres by days, in minutes</h2>\n<div><table><tr><th>theatre" ++ (lines_below I.days day_head ++ (codes "\n"
-    ++ (lines_below (theatre_count I) (λ t. surgery_row I P (OfTheatre (record { 0 = t }))) ++ codes "</table></div>\n")))
+    heads_and_days I (codes "<h2>Theatres by days, in minutes</h2>\n<div><table><tr><th>theatre")
+    ++ (lines_below (theatre_count I) (λ t. surgery_row I P (OfTheatre (record { 0 = t }))) ++ codes "</table></div>\n")
 
 unfoldable pub surgeons_text : Draft → Timetable → List ℕ
 surgeons_text I P =
-    codes "<h2>Surgeons by days, in minutes</h2>\n<div><table><tr><th>surgeon" ++ (lines_below I.days day_head ++ (codes "\n"
-    ++ (lines_below (surgeon_count I) (λ s. surgery_row I P (OfSurgeon (record { 0 = s }))) ++ codes "</table></div>\n")))
+    heads_and_days I (codes "<h2>Surgeons by days, in minutes</h2>\n<div><table><tr><th>surgeon")
+    ++ (lines_below (surgeon_count I) (λ s. surgery_row I P (OfSurgeon (record { 0 = s }))) ++ codes "</table></div>\n")

@@ -68,6 +68,8 @@ abbrev pub line_list : Draft → Timetable → Line → List ℕ
 line_list I P l = list_if_any I P (bill_of I P) l (amounts I P l) (dearest_first (amounts I P l))
 
 -- Rules come before costs.
+abbrev pub line_lists : Draft → Timetable → List ℕ
+line_lists I P = lines_below 9 (λ i. line_list I P (Rule i)) ++ lines_below 8 (λ i. line_list I P (Cost i))
+
 unfoldable pub wrong_text : Draft → Timetable → List ℕ
-wrong_text I P =
-    codes "<h2 id=wrong>What is wrong, and where</h2>\n" ++ (lines_below 9 (λ i. line_list I P (Rule i)) ++ lines_below 8 (λ i. line_list I P (Cost i)))
+wrong_text I P = codes "<h2 id=wrong>What is wrong, and where</h2>\n" ++ line_lists I P

@@ -5,7 +5,7 @@ ghost use Rattle.std.specs.Option.{option_map_or};
 ghost use Rattle.ih_tables.specs.Sizes.{patient_count, occupant_count, room_count, shift_count};
 ghost use Rattle.ih_plan.specs.Timetable.{IsPlanOf, IsPlacement, stay_of};
 ghost use Rattle.ih_validate.specs.Report.{lines_below};
-ghost use Rattle.ih_page.specs.Rooms.{wide_cell, gap_text, bar_cell, bar_text, person_cells, patient_row, occupant_row, patient_in, occupant_in, count_cell, nurse_cell, shift_row, day_head, room_title, room_head, count_row, person_rows, room_text, rooms_text};
+ghost use Rattle.ih_page.specs.Rooms.{wide_cell, gap_text, bar_cell, bar_text, person_cells, patient_row, occupant_row, patient_in, occupant_in, count_cell, nurse_cell, shift_row, day_head, heads_and_days, room_title, room_head, count_row, person_rows, room_text, rooms_text};
 
 use crate::names::{put_age, put_marked, put_nurse, put_place, put_shift_type, put_theatre};
 use crate::presence::head_count;
@@ -248,14 +248,23 @@ fn put_day(out: &mut Vec<u8>, d: u32) -> Result<(), AllocError>
     put_number(out, d as u64)
 }
 
-/// Appends the days as the heads of columns.
-pub fn put_days(out: &mut Vec<u8>, inst: &Instance) -> Result<(), AllocError>
+fn put_days(out: &mut Vec<u8>, inst: &Instance) -> Result<(), AllocError>
     ensures { OnOk result (out.new.items ≡ out.old.items ++ lines_below inst.now.draft.days day_head) }
 {
     for d in 0..inst.days() {
         put_day(out, d)?;
     }
     Ok(())
+}
+
+/// Appends the heads of a table's columns, of which the last are the days.
+#[tactic(auto, unfolding(crate::specs::Rooms::heads_and_days))]
+pub fn put_heads_and_days(out: &mut Vec<u8>, inst: &Instance, heads: &str) -> Result<(), AllocError>
+    ensures { OnOk result (out.new.items ≡ out.old.items ++ heads_and_days inst.now.draft heads.now) }
+{
+    put(out, heads)?;
+    put_days(out, inst)?;
+    put(out, "\n")
 }
 
 #[tactic(auto, unfolding(crate::specs::Rooms::room_title))]
@@ -273,12 +282,11 @@ fn put_room_head(out: &mut Vec<u8>, inst: &Instance, r: u32, a: &Room) -> Result
     ensures { OnOk result (out.new.items ≡ out.old.items ++ room_head inst.now.draft r a.now) }
 {
     put_title(out, r, a)?;
-    put(
+    put_heads_and_days(
         out,
+        inst,
         "<div><table><tr><th>person<th>gender<th>age<th>theatre",
-    )?;
-    put_days(out, inst)?;
-    put(out, "\n")
+    )
 }
 
 #[tactic(auto, unfolding(crate::specs::Rooms::count_row))]

@@ -1,6 +1,6 @@
 //! The head of a page.
 
-ghost use Rattle.std.specs.Prelude.{◌≡◌, ◌<◌, ◌≤◌, ◌≤ℤ◌, ◌*ℤ◌, ◌^◌, ◌++◌, ℕ, pos, neg_ℤ, OnOk, length};
+ghost use Rattle.std.specs.Prelude.{◌≡◌, ◌<◌, ◌≤◌, ◌≤ℤ◌, ◌^◌, ◌++◌, ℕ, pos, neg_ℤ, OnOk, length};
 ghost use Rattle.ih_tables.specs.Bills.{at, AreWithin, IsWithin};
 ghost use Rattle.ih_validate.specs.Report.{lines_below};
 ghost use Rattle.ih_page.specs.Summary.{rule_name, cost_name, line_text, line_link, line_name, line_head, product_text, hard_text, rule_row, cost_row, rule_rows, cost_rows, verdict_text, verdict_of, summary};
@@ -106,16 +106,6 @@ fn put_rule(out: &mut Vec<u8>, i: usize, x: i64) -> Result<(), AllocError>
     put(out, hard_text())
 }
 
-fn times(x: i64, w: i64) -> i64
-    requires low { neg_ℤ (pos (10 ^ 11)) ≤ℤ x }
-    requires high { x ≤ℤ pos (10 ^ 11) }
-    requires weight_low { pos 0 ≤ℤ w }
-    requires weight_high { w ≤ℤ pos 100000 }
-    ensures { result ≡ x *ℤ w }
-{
-    x * w
-}
-
 #[tactic(auto, unfolding(crate::specs::Summary::product_text))]
 fn put_product(out: &mut Vec<u8>, x: i64, w: i64) -> Result<(), AllocError>
     requires low { neg_ℤ (pos (10 ^ 11)) ≤ℤ x }
@@ -126,7 +116,7 @@ fn put_product(out: &mut Vec<u8>, x: i64, w: i64) -> Result<(), AllocError>
 {
     put_signed(out, w)?;
     put(out, "<td>")?;
-    put_signed(out, times(x, w))?;
+    put_signed(out, x * w)?;
     put(out, "\n")
 }
 

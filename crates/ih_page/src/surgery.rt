@@ -9,7 +9,7 @@ ghost use Rattle.ih_page.specs.declared.surgery.Whose.TheVariants.{OfTheatre, Of
 ghost use Rattle.ih_page.specs.Surgery.{IsWhoseOf, has_surgery, planned, limit_of, letter_of, number_of, whose_text, share, share_text, name_link, minutes_text, patient_link, operation, surgery_of, surgery_cell, surgery_row, theatres_text, surgeons_text};
 
 use crate::names::{put_marked, put_place, put_theatre};
-use crate::rooms::put_days;
+use crate::rooms::put_heads_and_days;
 use crate::texts::{put, put_escaped, put_number, put_numbered};
 use ih_plan::Plan;
 use ih_tables::{Instance, Patient, PatientNo, SurgeonNo, TheatreNo};
@@ -297,12 +297,11 @@ pub fn put_theatres(out: &mut Vec<u8>, inst: &Instance, plan: &Plan) -> Result<(
     requires { IsPlanOf inst.now.draft plan.now }
     ensures { OnOk result (out.new.items ≡ out.old.items ++ theatres_text inst.now.draft plan.now) }
 {
-    put(
+    put_heads_and_days(
         out,
+        inst,
         "<h2>Theatres by days, in minutes</h2>\n<div><table><tr><th>theatre",
     )?;
-    put_days(out, inst)?;
-    put(out, "\n")?;
     put_theatre_rows(out, inst, plan)?;
     put(out, "</table></div>\n")
 }
@@ -313,12 +312,11 @@ pub fn put_surgeons(out: &mut Vec<u8>, inst: &Instance, plan: &Plan) -> Result<(
     requires { IsPlanOf inst.now.draft plan.now }
     ensures { OnOk result (out.new.items ≡ out.old.items ++ surgeons_text inst.now.draft plan.now) }
 {
-    put(
+    put_heads_and_days(
         out,
+        inst,
         "<h2>Surgeons by days, in minutes</h2>\n<div><table><tr><th>surgeon",
     )?;
-    put_days(out, inst)?;
-    put(out, "\n")?;
     put_surgeon_rows(out, inst, plan)?;
     put(out, "</table></div>\n")
 }

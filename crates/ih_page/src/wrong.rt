@@ -5,10 +5,8 @@ ghost use Rattle.ih_tables.specs.Sizes.{patient_count};
 ghost use Rattle.ih_plan.specs.Timetable.{IsPlanOf, stay_of};
 ghost use Rattle.ih_plan.specs.BillOf.{bill_of};
 ghost use Rattle.ih_plan.specs.Cells.{IsCellOf, cell_at, cell_count, part_at};
-ghost use Rattle.ih_validate.specs.Report.{lines_below};
-ghost use Rattle.ih_page.specs.declared.bill_lines.Line.TheVariants.{Rule, Cost};
 ghost use Rattle.ih_page.specs.BillLines.{IsLine, count_in};
-ghost use Rattle.ih_page.specs.Wrong.{amounts, before_release, is_early, cell_link, item, items_of, list_name, list_head, list_of, list_if_any, line_list, wrong_text};
+ghost use Rattle.ih_page.specs.Wrong.{amounts, before_release, is_early, cell_link, item, items_of, list_name, list_head, list_of, list_if_any, line_list, line_lists, wrong_text};
 
 use crate::bill_lines::{
     Line, full_name, magnitude, number_in, put_amount, put_fold, put_short_name,
@@ -228,7 +226,8 @@ fn put_line_list(
     )
 }
 
-fn put_rule_lists(
+// The lists of the rules, then those of the costs.
+fn put_line_lists(
     alloc: Global,
     out: &mut Vec<u8>,
     inst: &Instance,
@@ -237,29 +236,13 @@ fn put_rule_lists(
 ) -> Result<(), AllocError>
     requires same { ledgers.now.instance ≡ inst.now.draft }
     requires bill { bill.now ≡ bill_of inst.now.draft ledgers.now.plan }
-    ensures { OnOk result
-        (out.new.items ≡ out.old.items ++ lines_below 9 (λ i. line_list inst.now.draft ledgers.now.plan (Rule i))) }
+    ensures { OnOk result (out.new.items ≡ out.old.items ++ line_lists inst.now.draft ledgers.now.plan) }
 {
-    for i in 0..9 {
-        put_line_list(alloc, out, inst, ledgers, bill, Line::Rule(i))?;
+    for rule in 0..9 {
+        put_line_list(alloc, out, inst, ledgers, bill, Line::Rule(rule))?;
     }
-    Ok(())
-}
-
-fn put_cost_lists(
-    alloc: Global,
-    out: &mut Vec<u8>,
-    inst: &Instance,
-    ledgers: &Ledgers<'_>,
-    bill: &Bill,
-) -> Result<(), AllocError>
-    requires same { ledgers.now.instance ≡ inst.now.draft }
-    requires bill { bill.now ≡ bill_of inst.now.draft ledgers.now.plan }
-    ensures { OnOk result
-        (out.new.items ≡ out.old.items ++ lines_below 8 (λ i. line_list inst.now.draft ledgers.now.plan (Cost i))) }
-{
-    for i in 0..8 {
-        put_line_list(alloc, out, inst, ledgers, bill, Line::Cost(i))?;
+    for cost in 0..8 {
+        put_line_list(alloc, out, inst, ledgers, bill, Line::Cost(cost))?;
     }
     Ok(())
 }
@@ -277,8 +260,7 @@ fn put_lists(
     ensures { OnOk result (out.new.items ≡ out.old.items ++ wrong_text inst.now.draft ledgers.now.plan) }
 {
     put(out, "<h2 id=wrong>What is wrong, and where</h2>\n")?;
-    put_rule_lists(alloc, out, inst, ledgers, bill)?;
-    put_cost_lists(alloc, out, inst, ledgers, bill)
+    put_line_lists(alloc, out, inst, ledgers, bill)
 }
 
 /// Appends the lists of what is wrong, and where.

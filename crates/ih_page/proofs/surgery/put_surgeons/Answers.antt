@@ -1,8 +1,8 @@
 use Rattle.std.proofs.lemmas.Result.{on_ok_weaker}
 use Rattle.ih_page.specs.Surgery.{surgeons_text}
-use Rattle.ih_page.proofs.Joins.{joins5}
+use Rattle.ih_page.proofs.Joins.{joins3}
 use Rattle.ih_page.proofs.surgery.put_surgeons.Goals as goal
 
 pub returns : goal.returns
 unfolding surgeons_text
-returns c = on_ok_weaker c.put-3.result (λ d. joins5 _ _ _ _ _ _ _ _ _ _ _ c.in_ok-put.ensures c.in_ok-put_days.ensures c.in_ok-put-2.ensures c.in_ok-put_surgeon_rows.ensures d) c.put-3.ensures
+returns c = on_ok_weaker c.put.result (λ d. joins3 _ _ _ _ _ _ _ c.in_ok-put_heads_and_days.ensures c.in_ok-put_surgeon_rows.ensures d) c.put.ensures

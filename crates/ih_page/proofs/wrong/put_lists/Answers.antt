@@ -1,8 +1,8 @@
 use Rattle.std.proofs.lemmas.Result.{on_ok_weaker}
 use Rattle.ih_page.specs.Wrong.{wrong_text}
-use Rattle.ih_page.proofs.Joins.{joins3}
+use Rattle.ih_page.proofs.Joins.{joins2}
 use Rattle.ih_page.proofs.wrong.put_lists.Goals as goal
 
 pub returns : goal.returns
 unfolding wrong_text
-returns c = on_ok_weaker c.put_cost_lists.result (λ d. joins3 _ _ _ _ _ _ _ c.in_ok-put.ensures c.in_ok-put_rule_lists.ensures d) c.put_cost_lists.ensures
+returns c = on_ok_weaker c.put_line_lists.result (λ d. joins2 _ _ _ _ _ c.in_ok-put.ensures d) c.put_line_lists.ensures
