@@ -37,7 +37,7 @@ map_at f (x ∷ xs) (suc k) d = map_at f xs k d
 -- an argument of a list, by its rule
 at_place : (xs : List Arg) (k : ℕ) (r : Rule) → slice_get (map rule_of xs) k ≡ Some r
     → (d : Arg) × (k < length xs) × (rule_of (slice_index_or xs k d) ≡ r)
-at_place [] k r is = cc
+at_place [] k r is = absurd (let no-way : None ≡ Some r = is in cc)
 at_place (x ∷ xs) zero r is = (x, omega arith, ap (λ o. unwrap_or o r) is)
 at_place (x ∷ xs) (suc k) r is =
     let more = at_place xs k r is in
