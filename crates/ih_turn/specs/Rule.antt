@@ -76,7 +76,7 @@ module _ {B E D : Type 0} (entries : B → List E) (base : B → D) (maker : E �
   abbrev pub IsTurn : State (Option B) (View E D) → Type 0
   IsTurn s = (length s.words ≡ 2) × Turns (slice_index s.words 0) (slice_index s.words 1) s.homes s.views
 
--- the first seat, with so many turns left of so many that were given, each seat getting so many
+-- the first seat, with so many turns left, whose next split-off seat gets this number and so many turns
 abbrev pub root_view : {B E D : Type 0} → (B → List E) → (B → D) → B → ℕ → ℕ → ℕ → View E D
 root_view entries base opening left given turns = record {
   spent = false;
