@@ -116,6 +116,26 @@ fn shelf_that_never_fails(rt: HostRuntime) -> Result<(), Fail> {
     Ok(())
 }
 
+// Whether a file of over a million bytes, which is read in many pieces, comes back where that many are allowed, and is
+// too long where one less is.
+fn is_long<R: Files, S: Shelf>(rt: &R, alloc: Global, shelf: &mut S, name: &str) -> bool {
+    match vec![in alloc; 7u8; 1_100_000] {
+        Ok(bytes) => {
+            shelf.write(rt, name, bytes.as_slice()).is_ok()
+                && reads(rt, alloc, shelf, name, 1_100_000, bytes.as_slice())
+                && is_too_long(rt, alloc, shelf, name, 1_099_999)
+        }
+        Err(_) => false,
+    }
+}
+
+// Whether a write faults: where there is no such folder, on a device that is full, and on a folder.
+fn writes_fault<R: Files>(rt: &R, shelf: &mut FileShelf) -> bool {
+    shelf.write(rt, "no such folder/file", b"x") == Err(WriteError::Fault)
+        && shelf.write(rt, "/dev/full", b"x") == Err(WriteError::Fault)
+        && shelf.write(rt, ".", b"x") == Err(WriteError::Fault)
+}
+
 #[test]
 fn real_files(rt: HostRuntime) {
     let alloc = rt.alloc();
@@ -123,9 +143,11 @@ fn real_files(rt: HostRuntime) {
     let mut shelf = FileShelf::new();
     assert!(rt; comes_back(&rt, alloc, &mut shelf, name));
     assert!(rt; is_too_long(&rt, alloc, &mut shelf, name, 4));
+    assert!(rt; is_long(&rt, alloc, &mut shelf, name));
     assert!(rt; fs::remove_file(&rt, name).is_ok());
     assert!(rt; faults(&rt, alloc, &mut shelf, name));
-    assert!(rt; shelf.write(&rt, "no such folder/file", b"x") == Err(WriteError::Fault));
+    assert!(rt; faults(&rt, alloc, &mut shelf, "."));
+    assert!(rt; writes_fault(&rt, &mut shelf));
 }
 
 // Whether a planned fault leaves the bytes that were put before.
