@@ -1,20 +1,21 @@
 -- The solution of a lawful call goes to another file than its journal.
-use Rattle.std.proofs.Common.{◌≡◌, refl, sym, ◌∙◌, subst, Bool, true, false, List, ◌∷◌, Option, Some, None}
+use Rattle.std.proofs.Common.{◌≡◌, refl, ap, sym, ◌∙◌, subst, Bool, true, false, List, ◌∷◌, Option, Some, None}
 use Rattle.std.specs.Prelude.{◌≢◌, ◌&&◌, not, codes, if◌then◌else◌, option_and_then, option_map, slice_get}
 use Rattle.std.specs.List.{list_any}
 use Rattle.std.specs.Str.{bytes_eq}
 use Rattle.std.proofs.lemmas.Slice.Eq.{bytes_eq-Decides}
 use Rattle.std.proofs.lemmas.Bool.{and_parts, or_parts, not-true}
-use Rattle.clap.specs.Words.{Text, matches_of}
+use Rattle.clap.specs.Words.{App, Text, matches_of}
 use Rattle.ih_words.specs.Advise.{advise_app, lawful_advise}
-use Rattle.ih_words.specs.Chain.{chain_app, chain_in, is_lawful_chain, lawful_chain}
+use Rattle.ih_words.specs.Chain.{chain_app, lawful_chain}
 use Rattle.ih_words.specs.Check.{check_app, lawful_check}
 use Rattle.ih_words.specs.Demo.{demo_app, lawful_demo}
 use Rattle.ih_words.specs.Distinct.{all_differ}
 use Rattle.ih_words.specs.Generate.{gen_app, lawful_gen}
-use Rattle.ih_words.specs.Matches.{call_by, has_no_fault}
+use Rattle.ih_words.specs.Matches.{call_by, has_no_fault, number_at}
+use Rattle.ih_words.specs.Plain.{PlainCall, is_lawful_plain, lawful_plain, plain_search_in}
 use Rattle.ih_words.specs.Replay.{lawful_replay, replay_app}
-use Rattle.ih_words.specs.Rounds.{is_lawful_rounds, lawful_rounds, rounds_app, rounds_in}
+use Rattle.ih_words.specs.Rounds.{lawful_rounds, rounds_app}
 use Rattle.ih_words.specs.Solve.{SolveCall, is_lawful_solve, lawful_solve, solve_app, solve_files, solve_in}
 use Rattle.ih_words.specs.Start.{freezes_a_file, start_files}
 use Rattle.ih_words.specs.Words.{Call, call_of, call_named, chain, check, demo, gen, replay, rounds, salvage, solve, advise}
@@ -52,6 +53,13 @@ lawful make true true x apart call e = subst HasNamesApart (let f : Some (make x
 lawful make true false x apart call e = absurd (let no-way : None ≡ Some call = e in cc)
 lawful make false is-lawful x apart call e = absurd (let no-way : None ≡ Some call = e in cc)
 
+-- a call may be changed before it is asked whether it is lawful
+moved : {A B : Type 0} (of : A → B) (no-fault is-lawful : Bool) (x : A) → (if no-fault then option_map of (if is-lawful then Some x else None) else None)
+    ≡ (if no-fault then if is-lawful then Some (of x) else None else None)
+moved of true true x = refl
+moved of true false x = refl
+moved of false is-lawful x = refl
+
 -- the command whose name this is, or one of the rest
 either : (t : Bool) (o rest : Option Call) (call : Call) → (o ≡ Some call → HasNamesApart call) → (rest ≡ Some call → HasNamesApart call)
     → (if t then o else rest) ≡ Some call → HasNamesApart call
@@ -67,17 +75,23 @@ module _ (words : List Text) (call : Call) where
       lawful solve (has_no_fault solve_app words) (freezes_a_file rows && is_lawful_solve (solve_in rows)) (solve_in rows)
       (λ h. files-apart (solve_in rows) (and_parts (all_differ (solve_files (solve_in rows))) _ (and_parts (freezes_a_file rows) _ h).1).0) call
 
+  -- a command with a plain search
+  by_plain : {A : Type 0} (make : A → Call) (of : PlainCall → A) (app : App) (id : Text)
+      → ((c : PlainCall) → c.search.out ≢ c.search.journal → HasNamesApart (make (of c)))
+      → option_map make (call_by app (λ rows. option_map of (lawful_plain id rows)) words) ≡ Some call → HasNamesApart call
+  by_plain make of app id apart e =
+      let rows = matches_of app words in
+      let c : PlainCall = record { search = plain_search_in rows; number = number_at id rows } in
+      let no-fault = has_no_fault app words in
+      let is-lawful = is_lawful_plain c.search c.number in
+      lawful make no-fault is-lawful (of c) (λ h. apart c (files-apart c.search (and_parts (all_differ (solve_files c.search)) _ h).0)) call
+      (ap (option_map make) (sym (moved of no-fault is-lawful c)) ∙ e)
+
   by_chain : option_map chain (call_by chain_app lawful_chain words) ≡ Some call → HasNamesApart call
-  by_chain =
-      let rows = matches_of chain_app words in
-      lawful chain (has_no_fault chain_app words) (is_lawful_chain (chain_in rows)) (chain_in rows)
-      (λ h. files-apart (chain_in rows).search (and_parts (all_differ (solve_files (chain_in rows).search)) _ h).0) call
+  by_chain = by_plain chain (λ c. record { search = c.search; length = c.number }) chain_app (codes "length") (λ c h. h)
 
   by_rounds : option_map rounds (call_by rounds_app lawful_rounds words) ≡ Some call → HasNamesApart call
-  by_rounds =
-      let rows = matches_of rounds_app words in
-      lawful rounds (has_no_fault rounds_app words) (is_lawful_rounds (rounds_in rows)) (rounds_in rows)
-      (λ h. files-apart (rounds_in rows).search (and_parts (all_differ (solve_files (rounds_in rows).search)) _ h).0) call
+  by_rounds = by_plain rounds (λ c. record { search = c.search; rounds = c.number }) rounds_app (codes "rounds") (λ c h. h)
 
   by_name : (name : Text) → call_named name words ≡ Some call → HasNamesApart call
   by_name name =

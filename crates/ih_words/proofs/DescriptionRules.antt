@@ -1,12 +1,18 @@
 -- The rules of a command's description: what an argument adds to them, and what the rule at a place requires.
-use Rattle.std.proofs.Common.{◌≡◌, ◌∙◌, ap₂, ℕ, Some, false, refl}
+use Rattle.std.proofs.Common.{◌≡◌, ◌∙◌, ap₂, ℕ, [], Result, Ok, Err, Some, false, refl}
+use Rattle.std.specs.declared.alloc.AllocError.{AllocError}
 use Rattle.std.specs.Prelude.{slice_get}
 use Rattle.clap.specs.Built.{AddsArg}
-use Rattle.clap.specs.Words.{App, Rule, Text, app_of, rule_of, with_rule}
+use Rattle.clap.specs.Words.{App, Rule, Text, app_of, new_app, rule_of, with_rule}
 use Rattle.clap.specs.declared.builder.arg.Arg.{Arg}
 use Rattle.clap.specs.declared.builder.command.Command.{Command}
 use Rattle.ih_words.specs.Arguments.{named, named_number, numbered_option, optional_number}
 use Rattle.ih_words.specs.Rules.{Requires, RequiresNumber, TakesNumber}
+
+-- the app of a description, where there is one
+abbrev pub app_in : Result Command AllocError → App
+app_in (Ok command) = app_of command
+app_in (Err _) = new_app []
 
 -- an argument adds its rule
 pub adds_rule : {old new : Command} {arg : Arg} {app : App} {rule : Rule} → app_of old ≡ app → AddsArg old arg new → arg.global ≡ false → rule_of arg ≡ rule

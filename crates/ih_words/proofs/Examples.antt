@@ -9,9 +9,10 @@ use Rattle.ih_words.specs.Demo.{demo_app}
 use Rattle.ih_words.specs.Distinct.{all_differ}
 use Rattle.ih_words.specs.Generate.{gen_app}
 use Rattle.ih_words.specs.Matches.{has_no_fault}
+use Rattle.ih_words.specs.Plain.{plain_app}
 use Rattle.ih_words.specs.Replay.{replay_app}
 use Rattle.ih_words.specs.Rounds.{rounds_app}
-use Rattle.ih_words.specs.Solve.{solve_app}
+use Rattle.ih_words.specs.Solve.{SolveCall, solve_app}
 use Rattle.ih_words.specs.Words.{Call, call_of, chain, check, demo, gen, replay, rounds, salvage, solve, advise}
 
 -- solve i OUT j, the words of the seed, and the other options
@@ -40,6 +41,16 @@ search_call seed workers moves retries start freeze = Some (solve (record {
 -- the same, from the empty timetable
 abbrev call_with : ℕ → ℕ → ℕ → Option Call
 call_with seed workers moves = search_call seed workers moves 0 None 0
+
+-- such a search by one worker with seed 0, from the filled timetable of file s
+abbrev filled_search : ℕ → SolveCall
+filled_search moves = record {
+  instance = codes "i";
+  out = codes "o";
+  journal = codes "j";
+  options = record { seed = 0; workers = 1; moves = moves; heat = 0; hard = 1000; retries = 0 };
+  start = record { file = Some (codes "s"); fill = true; freeze = 0 };
+}
 
 lawful : call_of small_search ≡ call_with 0 1 2
 unfolding clap_on_literals call_of has_no_fault solve_app all_differ
@@ -138,13 +149,7 @@ retries_make_too_many_entries : call_of (words_of (codes "o") (seed_words (codes
 unfolding clap_on_literals call_of has_no_fault solve_app all_differ
 retries_make_too_many_entries = refl
 
-filled : call_of (small_search ++ codes "--start" ∷ codes "s" ∷ codes "--fill" ∷ []) ≡ Some (solve (record {
-  instance = codes "i";
-  out = codes "o";
-  journal = codes "j";
-  options = record { seed = 0; workers = 1; moves = 2; heat = 0; hard = 1000; retries = 0 };
-  start = record { file = Some (codes "s"); fill = true; freeze = 0 };
-}))
+filled : call_of (small_search ++ codes "--start" ∷ codes "s" ∷ codes "--fill" ∷ []) ≡ Some (solve (filled_search 2))
 unfolding clap_on_literals call_of has_no_fault solve_app all_differ
 filled = refl
 
@@ -170,91 +175,45 @@ salvaged_into_the_journal : call_of (codes "salvage" ∷ codes "i" ∷ codes "j"
 unfolding clap_on_literals call_of has_no_fault replay_app all_differ
 salvaged_into_the_journal = refl
 
--- rounds i o j with the options of a small search, and further words
-abbrev rounds_words : Text → List Text → List Text
-rounds_words moves more = codes "rounds" ∷ codes "i" ∷ codes "o" ∷ codes "j" ∷ (seed_words (codes "0")
+-- COMMAND i o j with the options of a small search, and further words
+abbrev plain_words : Text → Text → List Text → List Text
+plain_words command moves more = command ∷ codes "i" ∷ codes "o" ∷ codes "j" ∷ (seed_words (codes "0")
     ++ codes "--workers" ∷ codes "1" ∷ codes "--moves" ∷ moves ∷ codes "--heat" ∷ codes "0" ∷ codes "--hard" ∷ codes "1000" ∷ more)
 
-in_rounds : call_of (rounds_words (codes "62500") (codes "--rounds" ∷ codes "16" ∷ codes "--start" ∷ codes "s" ∷ codes "--fill" ∷ []))
-    ≡ Some (rounds (record {
-      search = record {
-        instance = codes "i";
-        out = codes "o";
-        journal = codes "j";
-        options = record { seed = 0; workers = 1; moves = 62500; heat = 0; hard = 1000; retries = 0 };
-        start = record { file = Some (codes "s"); fill = true; freeze = 0 };
-      };
-      rounds = 16;
-    }))
-unfolding clap_on_literals call_of has_no_fault rounds_app all_differ
+in_rounds : call_of (plain_words (codes "rounds") (codes "62500") (codes "--rounds" ∷ codes "16" ∷ codes "--start" ∷ codes "s" ∷ codes "--fill" ∷ []))
+    ≡ Some (rounds (record { search = filled_search 62500; rounds = 16 }))
+unfolding clap_on_literals call_of has_no_fault rounds_app plain_app all_differ
 in_rounds = refl
 
-rounds_make_too_many_entries : call_of (rounds_words (codes "62501") (codes "--rounds" ∷ codes "16" ∷ [])) ≡ None
-unfolding clap_on_literals call_of has_no_fault rounds_app all_differ
-rounds_make_too_many_entries = refl
-
-too_many_rounds : call_of (rounds_words (codes "2") (codes "--rounds" ∷ codes "17" ∷ [])) ≡ None
-unfolding clap_on_literals call_of has_no_fault rounds_app all_differ
-too_many_rounds = refl
-
-no_round : call_of (rounds_words (codes "2") (codes "--rounds" ∷ codes "0" ∷ [])) ≡ None
-unfolding clap_on_literals call_of has_no_fault rounds_app all_differ
-no_round = refl
-
-rounds_without_their_number : call_of (rounds_words (codes "2") []) ≡ None
-unfolding clap_on_literals call_of has_no_fault rounds_app all_differ
-rounds_without_their_number = refl
-
-rounds_with_retries : call_of (rounds_words (codes "2") (codes "--rounds" ∷ codes "2" ∷ codes "--retries" ∷ codes "0" ∷ [])) ≡ None
-unfolding clap_on_literals call_of has_no_fault rounds_app all_differ
-rounds_with_retries = refl
-
-rounds_with_a_freeze_day : call_of (rounds_words (codes "2") (codes "--rounds" ∷ codes "2" ∷ codes "--start" ∷ codes "s" ∷ codes "--freeze" ∷ codes "1" ∷ [])) ≡ None
-unfolding clap_on_literals call_of has_no_fault rounds_app all_differ
-rounds_with_a_freeze_day = refl
-
--- chain i o j with the options of a small search, and further words
-abbrev chain_words : Text → List Text → List Text
-chain_words moves more = codes "chain" ∷ codes "i" ∷ codes "o" ∷ codes "j" ∷ (seed_words (codes "0")
-    ++ codes "--workers" ∷ codes "1" ∷ codes "--moves" ∷ moves ∷ codes "--heat" ∷ codes "0" ∷ codes "--hard" ∷ codes "1000" ∷ more)
-
-in_chains : call_of (chain_words (codes "125000") (codes "--length" ∷ codes "8" ∷ codes "--start" ∷ codes "s" ∷ codes "--fill" ∷ []))
-    ≡ Some (chain (record {
-      search = record {
-        instance = codes "i";
-        out = codes "o";
-        journal = codes "j";
-        options = record { seed = 0; workers = 1; moves = 125000; heat = 0; hard = 1000; retries = 0 };
-        start = record { file = Some (codes "s"); fill = true; freeze = 0 };
-      };
-      length = 8;
-    }))
-unfolding clap_on_literals call_of has_no_fault chain_app all_differ
+in_chains : call_of (plain_words (codes "chain") (codes "125000") (codes "--length" ∷ codes "8" ∷ codes "--start" ∷ codes "s" ∷ codes "--fill" ∷ []))
+    ≡ Some (chain (record { search = filled_search 125000; length = 8 }))
+unfolding clap_on_literals call_of has_no_fault chain_app plain_app all_differ
 in_chains = refl
 
-chains_make_too_many_moves : call_of (chain_words (codes "125001") (codes "--length" ∷ codes "8" ∷ [])) ≡ None
-unfolding clap_on_literals call_of has_no_fault chain_app all_differ
-chains_make_too_many_moves = refl
+-- Words with too many entries, with the highest number and one more, with 0, without a number, with retries, and with a
+-- freeze day.
+abbrev unlawful_words : Text → Text → Text → Text → Text → List (List Text)
+unlawful_words command id moves highest above =
+    plain_words command moves (id ∷ highest ∷ [])
+    ∷ plain_words command (codes "2") (id ∷ above ∷ [])
+    ∷ plain_words command (codes "2") (id ∷ codes "0" ∷ [])
+    ∷ plain_words command (codes "2") []
+    ∷ plain_words command (codes "2") (id ∷ codes "2" ∷ codes "--retries" ∷ codes "0" ∷ [])
+    ∷ plain_words command (codes "2") (id ∷ codes "2" ∷ codes "--start" ∷ codes "s" ∷ codes "--freeze" ∷ codes "1" ∷ [])
+    ∷ []
 
-too_long_a_chain : call_of (chain_words (codes "2") (codes "--length" ∷ codes "9" ∷ [])) ≡ None
-unfolding clap_on_literals call_of has_no_fault chain_app all_differ
-too_long_a_chain = refl
+-- each of them names no call
+abbrev NameNone : List (List Text) → Type 0
+NameNone [] = Unit {0}
+NameNone (words ∷ more) = (call_of words ≡ None) × NameNone more
 
-chains_of_nothing : call_of (chain_words (codes "2") (codes "--length" ∷ codes "0" ∷ [])) ≡ None
-unfolding clap_on_literals call_of has_no_fault chain_app all_differ
-chains_of_nothing = refl
+unlawful_rounds : NameNone (unlawful_words (codes "rounds") (codes "--rounds") (codes "62501") (codes "16") (codes "17"))
+unfolding clap_on_literals call_of has_no_fault rounds_app plain_app all_differ
+unlawful_rounds = (refl, (refl, (refl, (refl, (refl, (refl, tt))))))
 
-chains_without_their_length : call_of (chain_words (codes "2") []) ≡ None
-unfolding clap_on_literals call_of has_no_fault chain_app all_differ
-chains_without_their_length = refl
-
-chains_with_retries : call_of (chain_words (codes "2") (codes "--length" ∷ codes "2" ∷ codes "--retries" ∷ codes "0" ∷ [])) ≡ None
-unfolding clap_on_literals call_of has_no_fault chain_app all_differ
-chains_with_retries = refl
-
-chains_with_a_freeze_day : call_of (chain_words (codes "2") (codes "--length" ∷ codes "2" ∷ codes "--start" ∷ codes "s" ∷ codes "--freeze" ∷ codes "1" ∷ [])) ≡ None
-unfolding clap_on_literals call_of has_no_fault chain_app all_differ
-chains_with_a_freeze_day = refl
+unlawful_chains : NameNone (unlawful_words (codes "chain") (codes "--length") (codes "125001") (codes "8") (codes "9"))
+unfolding clap_on_literals call_of has_no_fault chain_app plain_app all_differ
+unlawful_chains = (refl, (refl, (refl, (refl, (refl, (refl, tt))))))
 
 generated : call_of (codes "gen" ∷ codes "+007" ∷ codes "o" ∷ []) ≡ Some (gen (record { number = 7; out = codes "o" }))
 unfolding clap_on_literals call_of has_no_fault gen_app all_differ

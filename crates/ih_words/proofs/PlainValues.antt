@@ -1,10 +1,11 @@
 -- What the rules of a plain search say of its matches.
-use Rattle.std.proofs.Common.{ℕ, List, codes, refl}
-use Rattle.clap.specs.Words.{Row, Rule, Text}
+use Rattle.std.proofs.Common.{◌≡◌, ◌≤◌, ℕ, Bool, true, false, List, Option, None, option_map, codes, refl}
+use Rattle.std.specs.Prelude.{if◌then◌else◌}
+use Rattle.clap.specs.Words.{App, Row, Rule, Text, matches_of}
 use Rattle.ih_journal.specs.declared.settings.TheConstants.{MAX_HARD, MAX_HEAT, MAX_MOVES, MAX_WORKERS}
 use Rattle.ih_words.specs.Arguments.{named, numbered_option, seed_option}
-use Rattle.ih_words.specs.Matches.{HasNumber, HasText}
-use Rattle.ih_words.specs.Plain.{HasPlain, plain_app}
+use Rattle.ih_words.specs.Matches.{HasNumber, HasText, call_by, has_no_fault, number_at}
+use Rattle.ih_words.specs.Plain.{HasPlain, PlainCall, lawful_plain, plain_app}
 use Rattle.ih_words.specs.Rules.{Requires, RequiresNumber}
 use Rattle.ih_words.proofs.DescriptionRules.{requires_name, requires_number}
 
@@ -13,6 +14,7 @@ module _ (name id : Text) (high : ℕ) where
   pub has_plain : {rows : List Row} → ((k : ℕ) (rule : Rule) → Requires (plain_app name id high) k rule → HasText rule.id rows)
       → ((k : ℕ) (rule : Rule) (low most : ℕ) → RequiresNumber (plain_app name id high) k rule low most → HasNumber low most rule.id rows)
       → HasPlain rows
+  unfolding plain_app
   has_plain texts numbers = record {
     names = record {
       first = texts 0 (named (codes "INSTANCE")) (requires_name refl);
@@ -32,4 +34,18 @@ module _ (name id : Text) (high : ℕ) where
   pub has_plain_number : (rows : List Row)
       → ((k : ℕ) (rule : Rule) (low most : ℕ) → RequiresNumber (plain_app name id high) k rule low most → HasNumber low most rule.id rows)
       → HasNumber 1 high id rows
+  unfolding plain_app
   has_plain_number rows numbers = numbers 8 (numbered_option id 1 high) 1 high (requires_number refl)
+
+  -- which is within its limits
+  pub plain_number-within : (rows : List Row) → HasNumber 1 high id rows → (1 ≤ number_at id rows) × (number_at id rows ≤ high)
+  plain_number-within rows has = rw has.1 (has.2.2, has.2.3)
+
+-- a call may be changed before it is asked whether the words have a fault
+pub moved : {A : Type 0} (of : PlainCall → A) (app : App) (id : Text) (words : List Text)
+    → call_by app (λ rows. option_map of (lawful_plain id rows)) words ≡ option_map of (call_by app (lawful_plain id) words)
+moved of app id words = go (has_no_fault app words) (lawful_plain id (matches_of app words))
+  where
+    go : (b : Bool) (o : Option PlainCall) → (if b then option_map of o else None) ≡ option_map of (if b then o else None)
+    go true o = refl
+    go false o = refl

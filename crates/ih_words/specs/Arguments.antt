@@ -1,8 +1,10 @@
 -- The rules of the commands' arguments, for `clap`. What `clap`'s contracts call an app is a command's name
 -- with the rules of its arguments, in the order in which they were added.
-use Rattle.std.specs.Prelude.{ℕ, Some, true, codes}
-use Rattle.clap.specs.Words.{App, Rule, Text, new_rule, with_rule}
+use Rattle.std.specs.Prelude.{◌≡◌, ℕ, Result, IfOk, Some, true, codes}
+use Rattle.std.specs.declared.alloc.AllocError.{AllocError}
+use Rattle.clap.specs.Words.{App, Rule, Text, app_of, new_rule, with_rule}
 use Rattle.clap.specs.declared.builder.action.ArgAction.TheVariants.{Set, SetTrue}
+use Rattle.clap.specs.declared.builder.command.Command.{Command}
 use Rattle.clap.specs.declared.builder.value_parser.ValueParser.TheVariants.{Unsigned}
 use Rattle.ih_journal.specs.declared.settings.TheConstants.{MAX_HARD, MAX_HEAT, MAX_MOVES, MAX_WORKERS}
 
@@ -42,3 +44,7 @@ with_options app = with_rule (with_rule (with_rule (with_rule (with_rule app
     (numbered_option (codes "moves") 0 MAX_MOVES))
     (numbered_option (codes "heat") 0 MAX_HEAT))
     (numbered_option (codes "hard") 0 MAX_HARD)
+
+-- where the old description is that of an app, the new one is that of what f makes of it
+abbrev pub IsChanged : (App → App) → Result Command AllocError → Result Command AllocError → Type 0
+IsChanged f old new = (app : App) → IfOk old (λ c. app_of c ≡ app) → IfOk new (λ c. app_of c ≡ f app)

@@ -1,10 +1,9 @@
 -- The command `chain`: its description for `clap`, its values and when they are lawful.
-use Rattle.std.specs.Prelude.{ℕ, ◌≤◌, ◌*◌, Bool, List, Option, Some, None, codes, if◌then◌else◌}
+use Rattle.std.specs.Prelude.{ℕ, ◌≤◌, ◌*◌, List, Option, option_map, codes}
 use Rattle.clap.specs.Words.{App, Row}
 use Rattle.ih_journal.specs.Settings.{most_entries}
 use Rattle.ih_journal.specs.declared.settings.TheConstants.{MAX_ENTRIES}
-use Rattle.ih_words.specs.Matches.{number_at}
-use Rattle.ih_words.specs.Plain.{IsPlain, is_lawful_plain, plain_app, plain_search_in}
+use Rattle.ih_words.specs.Plain.{IsPlain, lawful_plain, plain_app}
 use Rattle.ih_words.specs.Solve.{SolveCall, solve_call}
 use Rattle.ih_words.specs.declared.chain.Chains.{Chains}
 use Rattle.ih_words.specs.declared.chain.TheConstants.{MAX_LENGTH}
@@ -30,14 +29,7 @@ pub record IsLawfulChain (c : Chains) : Type 0 where
   pub short : c.length ≤ MAX_LENGTH
   pub few : most_entries c.search.options * c.length ≤ MAX_ENTRIES
 
--- the call of chain, by `clap`'s matches
-abbrev pub chain_in : List Row → ChainCall
-chain_in rows = record { search = plain_search_in rows; length = number_at (codes "length") rows }
-
--- the file names of the call differ, and its chains have together at most a million moves
-abbrev pub is_lawful_chain : ChainCall → Bool
-is_lawful_chain c = is_lawful_plain c.search c.length
-
--- the call of chain, by `clap`'s matches, where it is lawful
+-- the call of chain, by `clap`'s matches, where its file names differ, and its chains have together at most a million
+-- moves
 abbrev pub lawful_chain : List Row → Option ChainCall
-lawful_chain rows = if is_lawful_chain (chain_in rows) then Some (chain_in rows) else None
+lawful_chain rows = option_map (λ c. record { search = c.search; length = c.number }) (lawful_plain (codes "length") rows)

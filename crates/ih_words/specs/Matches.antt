@@ -1,11 +1,13 @@
 -- What `clap` reads of the words of a command, and the values that it gives to the arguments, by their ids.
-use Rattle.std.specs.Prelude.{◌≡◌, ℕ, Bool, false, List, [], Option, Some, None, is_some, unwrap_or, codes, if◌then◌else◌}
+use Rattle.std.specs.Prelude.{◌≡◌, ℕ, Bool, false, List, [], Option, Some, None, Result, Ok, Err, is_some, unwrap_or, codes, if◌then◌else◌}
 use Rattle.std.specs.Option.{option_map_or}
 use Rattle.std.specs.Str.{bytes_eq}
 use Rattle.std.specs.Str.Parse.{digits_value, without_leading_plus}
 use Rattle.clap.specs.Walk.{is_empty}
 use Rattle.clap.specs.Words.{App, IsUnsignedIn, Row, Text, fault_of, first_of, matches_of, one_of}
 use Rattle.ih_journal.specs.declared.settings.Options.{Options}
+use Rattle.ih_words.specs.declared.error.WordsError.{WordsError}
+use Rattle.ih_words.specs.declared.error.WordsError.TheVariants.{Unlawful}
 use Rattle.ih_journal.specs.declared.settings.TheConstants.{MAX_HARD, MAX_HEAT, MAX_MOVES, MAX_WORKERS}
 
 -- `clap` finds no fault in the words, by the description of their command
@@ -15,6 +17,11 @@ has_no_fault app words = is_empty (fault_of app words)
 -- what the words ask of a command: `clap` finds no fault in them, and the values that its matches give are lawful
 abbrev pub call_by : {A : Type 0} → App → (List Row → Option A) → List Text → Option A
 call_by app lawful words = if has_no_fault app words then lawful (matches_of app words) else None
+
+-- what reading words answers: the call that they ask for, or that they are unlawful, and then they ask for none
+abbrev pub IsAnswer : {A B : Type 0} → (B → A) → Option A → Result B WordsError → Type 0
+IsAnswer call asked (Ok x) = asked ≡ Some (call x)
+IsAnswer call asked (Err e) = e ≡ Unlawful → asked ≡ None
 
 -- the text of an argument
 abbrev pub text_at : Text → List Row → Text

@@ -1,17 +1,17 @@
 -- Searches that freeze nothing and try no stale move again, and whose journal's length rests on one more number: what
 -- `rounds` and `chain` share.
-use Rattle.std.specs.Prelude.{◌≡◌, ◌&&◌, ◌*◌, ℕ, nat_le, Bool, List, codes}
+use Rattle.std.specs.Prelude.{◌≡◌, ◌≤◌, ◌&&◌, ◌*◌, ℕ, nat_le, Bool, List, Option, Some, None, codes, if◌then◌else◌}
 use Rattle.clap.specs.Words.{App, Row, Text, first_of, with_rule}
 use Rattle.ih_journal.specs.Settings.{IsLawful, most_entries}
 use Rattle.ih_journal.specs.declared.settings.TheConstants.{MAX_ENTRIES}
 use Rattle.ih_words.specs.Arguments.{flag, numbered_option, optional}
 use Rattle.ih_words.specs.Distinct.{all_differ}
-use Rattle.ih_words.specs.Matches.{HasNames, HasOptions, flag_at, options_in, text_at}
-use Rattle.ih_words.specs.Solve.{SolveCall, search_app, solve_files}
+use Rattle.ih_words.specs.Matches.{HasNames, HasOptions, flag_at, number_at, options_in, text_at}
+use Rattle.ih_words.specs.Solve.{SolveCall, search_app, solve_call, solve_files}
 use Rattle.ih_words.specs.declared.solve.Solve.{Solve}
 
 -- NAME INSTANCE OUT JOURNAL --seed N --workers N --moves N --heat N --hard N --ID N [--start F] [--fill]
-abbrev pub plain_app : Text → Text → ℕ → App
+unfoldable pub plain_app : Text → Text → ℕ → App
 plain_app name id high = with_rule (with_rule (with_rule (search_app name)
     (numbered_option id 1 high))
     (optional (codes "start")))
@@ -22,6 +22,21 @@ pub record IsPlain (s : Solve) : Type 0 where
   pub lawful : IsLawful s.options
   pub once : s.options.retries ≡ 0
   pub unfrozen : s.start.freeze ≡ 0
+
+-- such a search with a number: its entries, so many times taken, are at most a million
+pub record IsPlainWith (s : Solve) (times : ℕ) : Type 0 where
+  pub search : IsPlain s
+  pub some : 1 ≤ times
+  pub few : most_entries s.options * times ≤ MAX_ENTRIES
+
+-- what a call of such a command asks for
+pub record PlainCall : Type 0 where
+  pub search : SolveCall
+  pub number : ℕ
+
+-- the call that such a search with its number stands for
+abbrev pub plain_call : Solve × ℕ → PlainCall
+plain_call p = record { search = solve_call p.0; number = p.1 }
 
 -- the file names and the options of a search are there
 pub record HasPlain (rows : List Row) : Type 0 where
@@ -41,3 +56,9 @@ plain_search_in rows = record {
 -- the file names of the search differ, and its entries, so many times taken, are at most a million
 abbrev pub is_lawful_plain : SolveCall → ℕ → Bool
 is_lawful_plain s times = all_differ (solve_files s) && nat_le (most_entries s.options * times) MAX_ENTRIES
+
+-- the call, by `clap`'s matches, where it is lawful
+abbrev pub lawful_plain : Text → List Row → Option PlainCall
+lawful_plain id rows =
+    let call : PlainCall = record { search = plain_search_in rows; number = number_at id rows } in
+    if is_lawful_plain call.search call.number then Some call else None

@@ -1,8 +1,7 @@
 -- The command `rounds`: its description for `clap`, its values and when they are lawful.
-use Rattle.std.specs.Prelude.{ℕ, Bool, List, Option, Some, None, codes, if◌then◌else◌}
+use Rattle.std.specs.Prelude.{ℕ, List, Option, option_map, codes}
 use Rattle.clap.specs.Words.{App, Row}
-use Rattle.ih_words.specs.Matches.{number_at}
-use Rattle.ih_words.specs.Plain.{IsPlain, is_lawful_plain, plain_app, plain_search_in}
+use Rattle.ih_words.specs.Plain.{IsPlain, lawful_plain, plain_app}
 use Rattle.ih_words.specs.Solve.{SolveCall, solve_call}
 use Rattle.ih_words.specs.declared.rounds.Rounds.{Rounds}
 use Rattle.ih_words.specs.declared.rounds.TheConstants.{MAX_ROUNDS}
@@ -24,14 +23,7 @@ rounds_call r = record { search = solve_call r.search; rounds = r.rounds }
 abbrev pub AreLawful : Rounds → Type 0
 AreLawful r = IsPlain r.search
 
--- the call of rounds, by `clap`'s matches
-abbrev pub rounds_in : List Row → RoundsCall
-rounds_in rows = record { search = plain_search_in rows; rounds = number_at (codes "rounds") rows }
-
--- the file names of the call differ, and its journals have together at most a million entries
-abbrev pub is_lawful_rounds : RoundsCall → Bool
-is_lawful_rounds r = is_lawful_plain r.search r.rounds
-
--- the call of rounds, by `clap`'s matches, where it is lawful
+-- the call of rounds, by `clap`'s matches, where its file names differ, and its journals have together at most a million
+-- entries
 abbrev pub lawful_rounds : List Row → Option RoundsCall
-lawful_rounds rows = if is_lawful_rounds (rounds_in rows) then Some (rounds_in rows) else None
+lawful_rounds rows = option_map (λ c. record { search = c.search; rounds = c.number }) (lawful_plain (codes "rounds") rows)

@@ -1,8 +1,8 @@
 //! The command `advise`: its description for `clap`, its values and when they are lawful.
-ghost use Rattle.std.specs.Prelude.{◌≡◌, IfErr, IfOk, IfSome, None, Some, map, option_map, string_bytes};
+ghost use Rattle.std.specs.Prelude.{◌≡◌, IfOk, IfSome, map, option_map, string_bytes};
 ghost use Rattle.clap.specs.Words.{app_of, found_of, rows_of};
 ghost use Rattle.ih_words.specs.Advise.{HasAdvise, IsLawfulAdvise, advise_app, advise_call, advise_in, lawful_advise};
-ghost use Rattle.ih_words.specs.Matches.{call_by};
+ghost use Rattle.ih_words.specs.Matches.{IsAnswer, call_by};
 
 use crate::WordsError;
 use crate::arguments::{named, numbered_option, with};
@@ -67,11 +67,8 @@ fn lawful_advise<'a>(matches: &ArgMatches<'a>) -> Option<Advise<'a>>
 
 // Reads the words of `advise`.
 pub(crate) fn read_advise<'a>(alloc: Global, words: &'a [String]) -> Result<Advise<'a>, WordsError>
-    ensures ok { IfOk result
-        (λ a. call_by advise_app lawful_advise (map string_bytes words.entry.now) ≡ Some (advise_call a)) }
+    ensures read { IsAnswer advise_call (call_by advise_app lawful_advise (map string_bytes words.entry.now)) result }
     ensures lawful { IfOk result IsLawfulAdvise }
-    ensures unlawful { IfErr result
-        (λ e. e ≡ WordsError.Unlawful → call_by advise_app lawful_advise (map string_bytes words.entry.now) ≡ None) }
 {
     let matches = matches_in(advise_description(alloc), words)?;
     lawful_advise(&matches).ok_or(WordsError::Unlawful)

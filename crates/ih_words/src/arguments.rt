@@ -1,7 +1,8 @@
 //! The rules of the commands' arguments, for `clap`.
 ghost use Rattle.std.specs.Prelude.{◌≡◌, IfOk, false};
 ghost use Rattle.clap.specs.Words.{App, Rule, app_of, rule_of, with_rule};
-ghost use Rattle.ih_words.specs.Arguments.{flag, named, named_number, numbered_option, optional, optional_number, seed_option, with_options};
+ghost use Rattle.ih_words.specs.Arguments.{IsChanged, flag, named, named_number, numbered_option, optional};
+ghost use Rattle.ih_words.specs.Arguments.{optional_number, seed_option, with_options};
 
 use clap::{Arg, ArgAction, Command, value_parser};
 use ih_journal::{MAX_HARD, MAX_HEAT, MAX_MOVES, MAX_WORKERS};
@@ -88,7 +89,7 @@ pub(crate) fn with_options<'a>(
     alloc: Global,
     description: Result<Command<'a>, AllocError>,
 ) -> Result<Command<'a>, AllocError>
-    ensures { (app : App) → IfOk description.entry (λ c. app_of c ≡ app) → IfOk result (λ c. app_of c ≡ with_options app) }
+    ensures { IsChanged with_options description.entry result }
 {
     let seed = with(description, seed_option(alloc));
     let workers = with(seed, numbered_option(alloc, "workers", 1, MAX_WORKERS));

@@ -1,8 +1,8 @@
 //! The command `check`: its description for `clap`, its values and when they are lawful.
-ghost use Rattle.std.specs.Prelude.{◌≡◌, IfErr, IfOk, None, Some, codes, map, option_map, string_bytes};
+ghost use Rattle.std.specs.Prelude.{◌≡◌, IfOk, codes, map, option_map, string_bytes};
 ghost use Rattle.clap.specs.Words.{app_of, found_of, rows_of};
 ghost use Rattle.ih_words.specs.Check.{check_app, check_call, lawful_check};
-ghost use Rattle.ih_words.specs.Matches.{HasText, call_by};
+ghost use Rattle.ih_words.specs.Matches.{HasText, IsAnswer, call_by};
 
 use crate::WordsError;
 use crate::arguments::{named, with};
@@ -48,10 +48,7 @@ fn lawful_check<'a>(matches: &ArgMatches<'a>) -> Option<Check<'a>>
 
 // Reads the words of `check`.
 pub(crate) fn read_check<'a>(alloc: Global, words: &'a [String]) -> Result<Check<'a>, WordsError>
-    ensures ok { IfOk result
-        (λ c. call_by check_app lawful_check (map string_bytes words.entry.now) ≡ Some (check_call c)) }
-    ensures unlawful { IfErr result
-        (λ e. e ≡ WordsError.Unlawful → call_by check_app lawful_check (map string_bytes words.entry.now) ≡ None) }
+    ensures { IsAnswer check_call (call_by check_app lawful_check (map string_bytes words.entry.now)) result }
 {
     let matches = matches_in(check_description(alloc), words)?;
     lawful_check(&matches).ok_or(WordsError::Unlawful)

@@ -1,8 +1,8 @@
 //! The command `demo`: its description for `clap` and its value.
-ghost use Rattle.std.specs.Prelude.{◌≡◌, IfErr, IfOk, None, Some, map, string_bytes};
+ghost use Rattle.std.specs.Prelude.{◌≡◌, IfOk, map, string_bytes};
 ghost use Rattle.clap.specs.Words.{app_of};
 ghost use Rattle.ih_words.specs.Demo.{demo_app, lawful_demo};
-ghost use Rattle.ih_words.specs.Matches.{call_by};
+ghost use Rattle.ih_words.specs.Matches.{IsAnswer, call_by};
 
 use crate::WordsError;
 use crate::arguments::named_number;
@@ -19,9 +19,7 @@ fn demo_description<'a>(alloc: Global) -> Result<Command<'a>, AllocError>
 
 // Reads the words of `demo`: its number.
 pub(crate) fn read_demo(alloc: Global, words: &[String]) -> Result<u64, WordsError>
-    ensures ok { IfOk result (λ number. call_by demo_app lawful_demo (map string_bytes words.now) ≡ Some number) }
-    ensures unlawful { IfErr result
-        (λ e. e ≡ WordsError.Unlawful → call_by demo_app lawful_demo (map string_bytes words.now) ≡ None) }
+    ensures { IsAnswer (λ number. number) (call_by demo_app lawful_demo (map string_bytes words.now)) result }
 {
     let matches = matches_in(demo_description(alloc), words)?;
     Ok(u64_of(&matches, "NUMBER"))

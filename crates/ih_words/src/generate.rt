@@ -1,8 +1,8 @@
 //! The command `gen`: its description for `clap` and its values.
-ghost use Rattle.std.specs.Prelude.{◌≡◌, IfErr, IfOk, None, Some, codes, map, string_bytes};
+ghost use Rattle.std.specs.Prelude.{◌≡◌, IfOk, codes, map, string_bytes};
 ghost use Rattle.clap.specs.Words.{app_of, found_of, rows_of};
 ghost use Rattle.ih_words.specs.Generate.{gen_app, gen_call, gen_in, lawful_gen};
-ghost use Rattle.ih_words.specs.Matches.{HasNumber, HasText, call_by};
+ghost use Rattle.ih_words.specs.Matches.{HasNumber, HasText, IsAnswer, call_by};
 
 use crate::WordsError;
 use crate::arguments::{named, named_number, with};
@@ -44,9 +44,7 @@ fn gen_in<'a>(matches: &ArgMatches<'a>) -> Gen<'a>
 
 // Reads the words of `gen`.
 pub(crate) fn read_gen<'a>(alloc: Global, words: &'a [String]) -> Result<Gen<'a>, WordsError>
-    ensures ok { IfOk result (λ g. call_by gen_app lawful_gen (map string_bytes words.entry.now) ≡ Some (gen_call g)) }
-    ensures unlawful { IfErr result
-        (λ e. e ≡ WordsError.Unlawful → call_by gen_app lawful_gen (map string_bytes words.entry.now) ≡ None) }
+    ensures { IsAnswer gen_call (call_by gen_app lawful_gen (map string_bytes words.entry.now)) result }
 {
     let matches = matches_in(gen_description(alloc), words)?;
     Ok(gen_in(&matches))

@@ -1,14 +1,18 @@
 //! Searches that freeze nothing and try no stale move again, and whose journal's length rests on one more number: what
 //! `rounds` and `chain` share.
-ghost use Rattle.std.specs.Prelude.{◌≡◌, ◌≤◌, ◌*◌, IfOk, nat_le, true};
-ghost use Rattle.clap.specs.Words.{app_of, found_of, rows_of};
+ghost use Rattle.std.specs.Prelude.{◌≡◌, ◌≤◌, ◌*◌, IfOk, IfSome, nat_le, true, map, option_map, string_bytes};
+ghost use Rattle.clap.specs.Words.{app_of, found_of, is_simple_and_free, rows_of};
 ghost use Rattle.ih_journal.specs.Settings.{IsLawful, most_entries};
-ghost use Rattle.ih_words.specs.Plain.{HasPlain, IsPlain, is_lawful_plain, plain_app, plain_search_in};
+ghost use Rattle.ih_words.specs.Matches.{HasNumber, IsAnswer, call_by, number_at};
+ghost use Rattle.ih_words.specs.Plain.{HasPlain, IsPlain, IsPlainWith, is_lawful_plain, lawful_plain, plain_app};
+ghost use Rattle.ih_words.specs.Plain.{plain_call, plain_search_in};
+ghost use Rattle.ih_words.specs.Rules.{has_independent_rules};
 ghost use Rattle.ih_words.specs.Solve.{solve_call};
 
+use crate::WordsError;
 use crate::arguments::{flag, numbered_option, optional, with};
 use crate::file_names::names_differ;
-use crate::matches::{flag_of, optional_text_of, options_in, text_of};
+use crate::matches::{flag_of, matches_in, optional_text_of, options_in, text_of, u32_of};
 use crate::solve::{Solve, search_description};
 use crate::start::Start;
 use clap::{ArgMatches, Command};
@@ -17,7 +21,7 @@ use std::alloc::{AllocError, Global};
 
 // `NAME INSTANCE OUT JOURNAL`, the options of a search, a required `--id N` from 1 to `high`, and `--start F` and
 // `--fill`, which may be left out.
-pub(crate) fn plain_description<'a>(
+fn plain_description<'a>(
     alloc: Global,
     name: &'a str,
     id: &'a str,
@@ -32,7 +36,7 @@ pub(crate) fn plain_description<'a>(
 }
 
 // The search.
-pub(crate) fn plain_search_in<'a>(matches: &ArgMatches<'a>) -> Solve<'a>
+fn plain_search_in<'a>(matches: &ArgMatches<'a>) -> Solve<'a>
     requires { HasPlain (rows_of (found_of matches.now)) }
     ensures value { solve_call result ≡ plain_search_in (rows_of (found_of matches.now)) }
     ensures limits { most_entries result.options ≤ MAX_ENTRIES → IsLawful result.options }
@@ -65,7 +69,7 @@ fn have_few_entries(options: &Options, times: u32) -> bool
 }
 
 // The file names differ, and the entries of the search, so many times taken, are few enough.
-pub(crate) fn is_lawful_plain(search: &Solve, times: u32) -> bool
+fn is_lawful_plain(search: &Solve, times: u32) -> bool
     requires some { 1 ≤ times }
     requires limits { most_entries search.now.options ≤ MAX_ENTRIES → IsLawful search.now.options }
     requires once { search.now.options.retries ≡ 0 }
@@ -80,4 +84,42 @@ pub(crate) fn is_lawful_plain(search: &Solve, times: u32) -> bool
         search.journal,
         search.start.file,
     ) && have_few_entries(&search.options, times)
+}
+
+// The search and the number, where the file names differ and the entries are few enough.
+fn lawful_plain<'a>(matches: &ArgMatches<'a>, id: &str) -> Option<(Solve<'a>, u32)>
+    requires search { HasPlain (rows_of (found_of matches.now)) }
+    requires number { HasNumber 1 4294967295 id.now (rows_of (found_of matches.now)) }
+    ensures value { option_map plain_call result ≡ lawful_plain id.now (rows_of (found_of matches.now)) }
+    ensures number { IfSome result (λ p. p.1 ≡ number_at id.now (rows_of (found_of matches.now))) }
+    ensures lawful { IfSome result (λ p. IsPlainWith p.0 p.1) }
+{
+    let search = plain_search_in(matches);
+    let number = u32_of(matches, id);
+    if is_lawful_plain(&search, number) {
+        Some((search, number))
+    } else {
+        None
+    }
+}
+
+// Reads the words of the command `name`, whose number is `--id N` from 1 to `high`: the search and the number.
+pub(crate) fn read_plain<'a>(
+    alloc: Global,
+    name: &'a str,
+    id: &'a str,
+    high: u32,
+    words: &'a [String],
+) -> Result<(Solve<'a>, u32), WordsError>
+    requires simple { is_simple_and_free (plain_app name.now id.now high) ≡ true }
+    requires independent { has_independent_rules (plain_app name.now id.now high) ≡ true }
+    ensures read { IsAnswer plain_call
+        (call_by (plain_app name.entry.now id.entry.now high) (lawful_plain id.entry.now)
+        (map string_bytes words.entry.now)) result }
+    ensures most { IfOk result (λ p. p.1 ≤ high) }
+    ensures lawful { IfOk result (λ p. IsPlainWith p.0 p.1) }
+{
+    let command = plain_description(alloc, name, id, high)?;
+    let matches = matches_in(Ok(command), words)?;
+    lawful_plain(&matches, id).ok_or(WordsError::Unlawful)
 }

@@ -1,7 +1,7 @@
 //! The commands `replay` and `salvage`: their description for `clap`, their values and when these are lawful.
-ghost use Rattle.std.specs.Prelude.{◌≡◌, IfErr, IfOk, None, Some, codes, map, option_map, string_bytes};
+ghost use Rattle.std.specs.Prelude.{◌≡◌, IfOk, codes, map, option_map, string_bytes};
 ghost use Rattle.clap.specs.Words.{app_of, found_of, rows_of};
-ghost use Rattle.ih_words.specs.Matches.{HasNames, IsNumberIfGiven, call_by};
+ghost use Rattle.ih_words.specs.Matches.{HasNames, IsNumberIfGiven, IsAnswer, call_by};
 ghost use Rattle.ih_words.specs.Replay.{lawful_replay, replay_app, replay_call, replay_in};
 
 use crate::WordsError;
@@ -75,12 +75,8 @@ pub(crate) fn read_replay<'a>(
     name: &'a str,
     words: &'a [String],
 ) -> Result<Replay<'a>, WordsError>
-    ensures ok { IfOk result
-        (λ r. call_by (replay_app name.entry.now) lawful_replay (map string_bytes words.entry.now)
-        ≡ Some (replay_call r)) }
-    ensures unlawful { IfErr result
-        (λ e. e ≡ WordsError.Unlawful
-        → call_by (replay_app name.entry.now) lawful_replay (map string_bytes words.entry.now) ≡ None) }
+    ensures { IsAnswer replay_call
+        (call_by (replay_app name.entry.now) lawful_replay (map string_bytes words.entry.now)) result }
 {
     let command = replay_description(alloc, name)?;
     let matches = matches_in(Ok(command), words)?;

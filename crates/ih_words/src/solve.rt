@@ -1,7 +1,7 @@
 //! The command `solve`: its description for `clap`, its values and when they are lawful.
-ghost use Rattle.std.specs.Prelude.{◌≡◌, ◌≤◌, IfSome, IfErr, IfOk, None, Some, true, codes, map, option_map, string_bytes};
+ghost use Rattle.std.specs.Prelude.{◌≡◌, ◌≤◌, IfSome, IfOk, true, codes, map, option_map, string_bytes};
 ghost use Rattle.clap.specs.Words.{app_of, found_of, rows_of};
-ghost use Rattle.ih_words.specs.Matches.{HasNames, HasOptions, IsNumberIfGiven, call_by};
+ghost use Rattle.ih_words.specs.Matches.{HasNames, HasOptions, IsNumberIfGiven, IsAnswer, call_by};
 ghost use Rattle.ih_journal.specs.Settings.{IsLawful, most_entries};
 ghost use Rattle.ih_words.specs.Solve.{is_lawful_solve, lawful_solve, search_app, solve_app, solve_call, solve_in};
 
@@ -98,11 +98,8 @@ fn lawful_solve<'a>(matches: &ArgMatches<'a>) -> Option<Solve<'a>>
 
 // Reads the words of `solve`.
 pub(crate) fn read_solve<'a>(alloc: Global, words: &'a [String]) -> Result<Solve<'a>, WordsError>
-    ensures ok { IfOk result
-        (λ s. call_by solve_app lawful_solve (map string_bytes words.entry.now) ≡ Some (solve_call s)) }
+    ensures read { IsAnswer solve_call (call_by solve_app lawful_solve (map string_bytes words.entry.now)) result }
     ensures lawful { IfOk result (λ s. IsLawful s.options) }
-    ensures unlawful { IfErr result
-        (λ e. e ≡ WordsError.Unlawful → call_by solve_app lawful_solve (map string_bytes words.entry.now) ≡ None) }
 {
     let matches = matches_in(solve_description(alloc), words)?;
     lawful_solve(&matches).ok_or(WordsError::Unlawful)

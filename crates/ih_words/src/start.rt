@@ -1,6 +1,7 @@
 //! What a search starts from, and the first day whose choices it may change: `--start F`, `--freeze DAY` and `--fill`.
-ghost use Rattle.std.specs.Prelude.{◌≡◌, IfOk, codes};
-ghost use Rattle.clap.specs.Words.{App, app_of, found_of, rows_of};
+ghost use Rattle.std.specs.Prelude.{◌≡◌, codes};
+ghost use Rattle.clap.specs.Words.{found_of, rows_of};
+ghost use Rattle.ih_words.specs.Arguments.{IsChanged};
 ghost use Rattle.ih_words.specs.Matches.{IsNumberIfGiven};
 ghost use Rattle.ih_words.specs.Start.{freezes_a_file, start_call, start_in, with_start};
 
@@ -28,7 +29,7 @@ pub(crate) fn with_start<'a>(
     alloc: Global,
     description: Result<Command<'a>, AllocError>,
 ) -> Result<Command<'a>, AllocError>
-    ensures { (app : App) → IfOk description.entry (λ c. app_of c ≡ app) → IfOk result (λ c. app_of c ≡ with_start app) }
+    ensures { IsChanged with_start description.entry result }
 {
     let start = with(description, optional(alloc, "start"));
     let freeze = with(start, optional_number(alloc, "freeze", MAX_FREEZE));

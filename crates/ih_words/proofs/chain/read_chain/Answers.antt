@@ -1,20 +1,25 @@
-use Rattle.std.proofs.Common.{codes, refl}
+use Rattle.std.proofs.Common.{◌∙◌, ap, codes, option_map, refl}
+use Rattle.std.proofs.lemmas.Result.{err_from_is_err_and}
 use Rattle.clap.proofs.OnLiterals.{clap_on_literals}
+use Rattle.ih_words.specs.Chain.{ChainCall, chain_app}
 use Rattle.ih_words.specs.Distinct.{all_differ}
-use Rattle.ih_words.specs.Chain.{chain_app}
-use Rattle.ih_words.specs.declared.chain.TheConstants.{MAX_LENGTH}
-use Rattle.ih_words.proofs.PlainValues.{has_plain, has_plain_number}
+use Rattle.ih_words.specs.Plain.{PlainCall, plain_app}
+use Rattle.ih_words.proofs.PlainValues.{moved}
 use Rattle.ih_words.proofs.chain.read_chain.Goals as goal
 
-pub matches_in-requires : goal.matches_in-requires
-unfolding clap_on_literals chain_app all_differ
-matches_in-requires c = (c.chain_description.ensures, (refl, refl))
+pub read_plain-requires : goal.read_plain-requires
+unfolding clap_on_literals plain_app all_differ
+read_plain-requires c = record { simple = refl; independent = refl }
 
-pub lawful_chain-requires-clause-search : goal.lawful_chain-requires-clause-search
-unfolding chain_app
-lawful_chain-requires-clause-search c =
-    has_plain (codes "chain") (codes "length") MAX_LENGTH c.in_ok-matches.ensures.texts c.in_ok-matches.ensures.numbers
+abbrev of : PlainCall → ChainCall
+of c = record { search = c.search; length = c.number }
 
-pub lawful_chain-requires-clause-length : goal.lawful_chain-requires-clause-length
+pub returns-clause-read : goal.returns-clause-read
 unfolding chain_app
-lawful_chain-requires-clause-length c = has_plain_number (codes "chain") (codes "length") MAX_LENGTH _ c.in_ok-matches.ensures.numbers
+returns-clause-read c = moved of _ (codes "length") _ ∙ ap (option_map of) c.in_ok-search.ensures.read
+
+pub returns-in_err-search-clause-read : goal.returns-in_err-search-clause-read
+unfolding chain_app
+returns-in_err-search-clause-read c =
+    let p = err_from_is_err_and c.from_residual.result c.from_residual.ensures.1 in
+    rw (p.1, p.2) (λ e. moved of _ (codes "length") _ ∙ ap (option_map of) (c.in_err-search.ensures.read e))

@@ -1,20 +1,25 @@
-use Rattle.std.proofs.Common.{codes, refl}
+use Rattle.std.proofs.Common.{◌∙◌, ap, codes, option_map, refl}
+use Rattle.std.proofs.lemmas.Result.{err_from_is_err_and}
 use Rattle.clap.proofs.OnLiterals.{clap_on_literals}
 use Rattle.ih_words.specs.Distinct.{all_differ}
-use Rattle.ih_words.specs.Rounds.{rounds_app}
-use Rattle.ih_words.specs.declared.rounds.TheConstants.{MAX_ROUNDS}
-use Rattle.ih_words.proofs.PlainValues.{has_plain, has_plain_number}
+use Rattle.ih_words.specs.Plain.{PlainCall, plain_app}
+use Rattle.ih_words.specs.Rounds.{RoundsCall, rounds_app}
+use Rattle.ih_words.proofs.PlainValues.{moved}
 use Rattle.ih_words.proofs.rounds.read_rounds.Goals as goal
 
-pub matches_in-requires : goal.matches_in-requires
-unfolding clap_on_literals rounds_app all_differ
-matches_in-requires c = (c.rounds_description.ensures, (refl, refl))
+pub read_plain-requires : goal.read_plain-requires
+unfolding clap_on_literals plain_app all_differ
+read_plain-requires c = record { simple = refl; independent = refl }
 
-pub lawful_rounds-requires-clause-search : goal.lawful_rounds-requires-clause-search
-unfolding rounds_app
-lawful_rounds-requires-clause-search c =
-    has_plain (codes "rounds") (codes "rounds") MAX_ROUNDS c.in_ok-matches.ensures.texts c.in_ok-matches.ensures.numbers
+abbrev of : PlainCall → RoundsCall
+of c = record { search = c.search; rounds = c.number }
 
-pub lawful_rounds-requires-clause-rounds : goal.lawful_rounds-requires-clause-rounds
+pub returns-clause-read : goal.returns-clause-read
 unfolding rounds_app
-lawful_rounds-requires-clause-rounds c = has_plain_number (codes "rounds") (codes "rounds") MAX_ROUNDS _ c.in_ok-matches.ensures.numbers
+returns-clause-read c = moved of _ (codes "rounds") _ ∙ ap (option_map of) c.in_ok-search.ensures.read
+
+pub returns-in_err-search-clause-read : goal.returns-in_err-search-clause-read
+unfolding rounds_app
+returns-in_err-search-clause-read c =
+    let p = err_from_is_err_and c.from_residual.result c.from_residual.ensures.1 in
+    rw (p.1, p.2) (λ e. moved of _ (codes "rounds") _ ∙ ap (option_map of) (c.in_err-search.ensures.read e))
