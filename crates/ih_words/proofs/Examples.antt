@@ -1,5 +1,5 @@
 -- Words that are written out, and the calls that they name, computed.
-use Rattle.std.proofs.Common.{◌≡◌, ℕ, [], ◌∷◌, ◌++◌, List, refl, true, false, Option, Some, None, codes}
+use Rattle.std.proofs.Common.{◌≡◌, ℕ, [], ◌∷◌, ◌++◌, List, refl, map, true, false, Option, Some, None, codes}
 use Rattle.clap.specs.Words.{Text}
 use Rattle.clap.proofs.OnLiterals.{clap_on_literals}
 use Rattle.ih_words.specs.Advise.{advise_app}
@@ -60,22 +60,6 @@ no_words : call_of [] ≡ None
 unfolding call_of
 no_words = refl
 
-equal_names : call_of (words_of (codes "j") (seed_words (codes "0")) (codes "1") (codes "2")) ≡ None
-unfolding clap_on_literals call_of has_no_fault solve_app all_differ
-equal_names = refl
-
-too_many_workers : call_of (words_of (codes "o") (seed_words (codes "0")) (codes "65") (codes "2")) ≡ None
-unfolding clap_on_literals call_of has_no_fault solve_app all_differ
-too_many_workers = refl
-
-no_worker : call_of (words_of (codes "o") (seed_words (codes "0")) (codes "0") (codes "2")) ≡ None
-unfolding clap_on_literals call_of has_no_fault solve_app all_differ
-no_worker = refl
-
-too_many_entries : call_of (words_of (codes "o") (seed_words (codes "0")) (codes "64") (codes "15626")) ≡ None
-unfolding clap_on_literals call_of has_no_fault solve_app all_differ
-too_many_entries = refl
-
 a_million_entries : call_of (words_of (codes "o") (seed_words (codes "0")) (codes "64") (codes "15625")) ≡ call_with 0 64 15625
 unfolding clap_on_literals call_of has_no_fault solve_app all_differ
 a_million_entries = refl
@@ -89,77 +73,59 @@ largest_seed : call_of (words_of (codes "o") (seed_words (codes "184467440737095
 unfolding clap_on_literals call_of has_no_fault solve_app all_differ
 largest_seed = refl
 
-minus : call_of (words_of (codes "o") (seed_words (codes "-0")) (codes "1") (codes "2")) ≡ None
-unfolding clap_on_literals call_of has_no_fault solve_app all_differ
-minus = refl
+-- none of the words names a call
+abbrev NameNone : List (List Text) → Type 0
+NameNone [] = Unit {0}
+NameNone (words ∷ more) = (call_of words ≡ None) × NameNone more
 
-minus_after_equals : call_of (words_of (codes "o") (codes "--seed=-0" ∷ []) (codes "1") (codes "2")) ≡ None
+-- equal file names; 65 workers, and none; too many entries; a seed below 0, written in two ways, and no seed; entries
+-- that are too many with what is tried again
+unlawful_searches : NameNone (words_of (codes "j") (seed_words (codes "0")) (codes "1") (codes "2")
+    ∷ words_of (codes "o") (seed_words (codes "0")) (codes "65") (codes "2")
+    ∷ words_of (codes "o") (seed_words (codes "0")) (codes "0") (codes "2")
+    ∷ words_of (codes "o") (seed_words (codes "0")) (codes "64") (codes "15626")
+    ∷ words_of (codes "o") (seed_words (codes "-0")) (codes "1") (codes "2")
+    ∷ words_of (codes "o") (codes "--seed=-0" ∷ []) (codes "1") (codes "2")
+    ∷ words_of (codes "o") [] (codes "1") (codes "2")
+    ∷ (words_of (codes "o") (seed_words (codes "0")) (codes "64") (codes "15625") ++ codes "--retries" ∷ codes "1" ∷ [])
+    ∷ [])
 unfolding clap_on_literals call_of has_no_fault solve_app all_differ
-minus_after_equals = refl
+unlawful_searches = (refl, (refl, (refl, (refl, (refl, (refl, (refl, (refl, tt))))))))
 
-no_seed : call_of (words_of (codes "o") [] (codes "1") (codes "2")) ≡ None
+-- calls for help and for the version; the journal as the start, and two starts; a freeze day without a start, and one
+-- that is too late; too many retries; a filled start that is frozen; a flag with a value
+unlawful_options : NameNone (map (λ more. small_search ++ more) ((codes "--help" ∷ [])
+    ∷ (codes "--version" ∷ [])
+    ∷ (codes "--start" ∷ codes "j" ∷ [])
+    ∷ (codes "--start" ∷ codes "s" ∷ codes "--start" ∷ codes "t" ∷ [])
+    ∷ (codes "--freeze" ∷ codes "0" ∷ [])
+    ∷ (codes "--start" ∷ codes "s" ∷ codes "--freeze" ∷ codes "57" ∷ [])
+    ∷ (codes "--retries" ∷ codes "8" ∷ [])
+    ∷ (codes "--start" ∷ codes "s" ∷ codes "--fill" ∷ codes "--freeze" ∷ codes "0" ∷ [])
+    ∷ (codes "--fill=true" ∷ [])
+    ∷ []))
 unfolding clap_on_literals call_of has_no_fault solve_app all_differ
-no_seed = refl
-
-help : call_of (small_search ++ codes "--help" ∷ []) ≡ None
-unfolding clap_on_literals call_of has_no_fault solve_app all_differ
-help = refl
-
-version : call_of (small_search ++ codes "--version" ∷ []) ≡ None
-unfolding clap_on_literals call_of has_no_fault solve_app all_differ
-version = refl
+unlawful_options = (refl, (refl, (refl, (refl, (refl, (refl, (refl, (refl, (refl, tt)))))))))
 
 with_start : call_of (small_search ++ codes "--start" ∷ codes "s" ∷ []) ≡ search_call 0 1 2 0 (Some (codes "s")) 0
 unfolding clap_on_literals call_of has_no_fault solve_app all_differ
 with_start = refl
 
-start_is_journal : call_of (small_search ++ codes "--start" ∷ codes "j" ∷ []) ≡ None
-unfolding clap_on_literals call_of has_no_fault solve_app all_differ
-start_is_journal = refl
-
 empty_start : call_of (small_search ++ codes "--start=" ∷ []) ≡ search_call 0 1 2 0 (Some []) 0
 unfolding clap_on_literals call_of has_no_fault solve_app all_differ
 empty_start = refl
-
-two_starts : call_of (small_search ++ codes "--start" ∷ codes "s" ∷ codes "--start" ∷ codes "t" ∷ []) ≡ None
-unfolding clap_on_literals call_of has_no_fault solve_app all_differ
-two_starts = refl
 
 frozen_start : call_of (small_search ++ codes "--freeze" ∷ codes "56" ∷ codes "--start" ∷ codes "s" ∷ []) ≡ search_call 0 1 2 0 (Some (codes "s")) 56
 unfolding clap_on_literals call_of has_no_fault solve_app all_differ
 frozen_start = refl
 
-freeze_without_start : call_of (small_search ++ codes "--freeze" ∷ codes "0" ∷ []) ≡ None
-unfolding clap_on_literals call_of has_no_fault solve_app all_differ
-freeze_without_start = refl
-
-freeze_too_late : call_of (small_search ++ codes "--start" ∷ codes "s" ∷ codes "--freeze" ∷ codes "57" ∷ []) ≡ None
-unfolding clap_on_literals call_of has_no_fault solve_app all_differ
-freeze_too_late = refl
-
 with_retries : call_of (small_search ++ codes "--retries" ∷ codes "7" ∷ []) ≡ search_call 0 1 2 7 None 0
 unfolding clap_on_literals call_of has_no_fault solve_app all_differ
 with_retries = refl
 
-too_many_retries : call_of (small_search ++ codes "--retries" ∷ codes "8" ∷ []) ≡ None
-unfolding clap_on_literals call_of has_no_fault solve_app all_differ
-too_many_retries = refl
-
-retries_make_too_many_entries : call_of (words_of (codes "o") (seed_words (codes "0")) (codes "64") (codes "15625") ++ codes "--retries" ∷ codes "1" ∷ []) ≡ None
-unfolding clap_on_literals call_of has_no_fault solve_app all_differ
-retries_make_too_many_entries = refl
-
 filled : call_of (small_search ++ codes "--start" ∷ codes "s" ∷ codes "--fill" ∷ []) ≡ Some (solve (filled_search 2))
 unfolding clap_on_literals call_of has_no_fault solve_app all_differ
 filled = refl
-
-filled_and_frozen : call_of (small_search ++ codes "--start" ∷ codes "s" ∷ codes "--fill" ∷ codes "--freeze" ∷ codes "0" ∷ []) ≡ None
-unfolding clap_on_literals call_of has_no_fault solve_app all_differ
-filled_and_frozen = refl
-
-fill_with_a_value : call_of (small_search ++ codes "--fill=true" ∷ []) ≡ None
-unfolding clap_on_literals call_of has_no_fault solve_app all_differ
-fill_with_a_value = refl
 
 replayed : call_of (codes "replay" ∷ codes "i" ∷ codes "j" ∷ codes "o" ∷ codes "--start" ∷ codes "s" ∷ codes "--freeze" ∷ codes "1" ∷ [])
     ≡ Some (replay (record { instance = codes "i"; journal = codes "j"; out = codes "o"; start = record { file = Some (codes "s"); fill = false; freeze = 1 } }))
@@ -201,11 +167,6 @@ unlawful_words command id moves highest above =
     ∷ plain_words command (codes "2") (id ∷ codes "2" ∷ codes "--retries" ∷ codes "0" ∷ [])
     ∷ plain_words command (codes "2") (id ∷ codes "2" ∷ codes "--start" ∷ codes "s" ∷ codes "--freeze" ∷ codes "1" ∷ [])
     ∷ []
-
--- each of them names no call
-abbrev NameNone : List (List Text) → Type 0
-NameNone [] = Unit {0}
-NameNone (words ∷ more) = (call_of words ≡ None) × NameNone more
 
 unlawful_rounds : NameNone (unlawful_words (codes "rounds") (codes "--rounds") (codes "62501") (codes "16") (codes "17"))
 unfolding clap_on_literals call_of has_no_fault rounds_app plain_app all_differ
