@@ -8,14 +8,14 @@ ghost use Rattle.ih_format.specs.Gives.{Gives, seen};
 ghost use Rattle.ih_format.specs.Flags.{is_set};
 ghost use Rattle.ih_format.specs.Checks.{each, under};
 ghost use Rattle.ih_solution.specs.Assigned.{IsFree, IsAssignment, IsListedNurse};
-ghost use Rattle.ih_solution.specs.Reading.{has_nurse, free_room, free_rooms, assignment, assignments, new_one, nurse_named, nurse_row, nurse_rows, nurses, cares_of};
+ghost use Rattle.ih_solution.specs.Reading.{has_nurse, free_room, free_rooms, assignment, assignments, nurse_row, nurse_rows, nurses, cares_of};
 
 use crate::reader::assigned::assign_all;
 use crate::reader::rows::{Assignment, ListedNurse};
 use crate::reader::{lists, references};
 use ih_format::{FormatError, keys, kinds};
 use ih_plan::Plan;
-use ih_tables::{Fault, Instance, Key, List, NurseNo, Place, Refusal, RoomNo, Shift};
+use ih_tables::{Fault, Instance, Key, List, Place, Refusal, RoomNo, Shift};
 use serde_json::Value;
 use std::alloc::Global;
 
@@ -145,26 +145,7 @@ fn assignments(
     each_assignment(alloc, inst, plan, lists::items(value, at)?, at)
 }
 
-/// A nurse whom no earlier item has.
-fn new_nurse(
-    inst: &Instance,
-    value: &Value,
-    earlier: &[bool],
-    at: Place,
-) -> Result<NurseNo, Refusal>
-    requires { length earlier.now ≡ nurse_count inst.now.draft }
-    ensures inside { IfOk result (λ n. n.0 < nurse_count inst.now.draft) }
-    ensures new { IfOk result (λ n. is_set earlier.now n.0 ≡ false) }
-    ensures gives { seen (λ n. n.0) result
-        ≡ new_one (nurse_named inst.now.draft) (is_set earlier.now) at (view value.now) }
-{
-    let nurse = references::nurse(inst, value, at)?;
-    if earlier[nurse.0 as usize] {
-        return Err(kinds::refusal(Fault::Duplicate, at));
-    }
-    Ok(nurse)
-}
-
+/// A nurse whom no earlier item has, with the assignments.
 #[tactic(auto, unfolding(crate::specs::Reading::nurse_row))]
 fn nurse_row(
     alloc: Global,
@@ -183,7 +164,11 @@ fn nurse_row(
 {
     let _ = kinds::object(value, at)?;
     let id = kinds::value_of(value, Key::Id, at)?;
-    let nurse = new_nurse(inst, id, earlier, at.key(Key::Id))?;
+    let nurse = references::nurse(inst, id, at.key(Key::Id))?;
+    if earlier[nurse.0 as usize] {
+        let refusal = kinds::refusal(Fault::Duplicate, at.key(Key::Id));
+        return Err(FormatError::Refused(refusal));
+    }
     let assignments = assignments(alloc, inst, plan, value, at)?;
     Ok(ListedNurse { nurse, assignments })
 }

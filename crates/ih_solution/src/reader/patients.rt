@@ -7,13 +7,13 @@ ghost use Rattle.ih_plan.specs.Timetable.{IsPlanOf, IsPlacement};
 ghost use Rattle.ih_format.specs.Gives.{Gives, seen};
 ghost use Rattle.ih_format.specs.Flags.{is_set};
 ghost use Rattle.ih_format.specs.Checks.{under};
-ghost use Rattle.ih_solution.specs.Reading.{no_day, admission_day, placement_on, new_one, patient_named, patient_row, patient_rows, patients, timetable_of};
+ghost use Rattle.ih_solution.specs.Reading.{no_day, admission_day, placement_on, patient_row, patient_rows, patients, timetable_of};
 
 use crate::reader::rows::ListedStay;
 use crate::reader::{lists, references};
 use ih_format::{FormatError, kinds};
 use ih_plan::{Placement, Plan, Write};
-use ih_tables::{Day, Fault, Instance, Key, PatientNo, Place, Refusal};
+use ih_tables::{Day, Fault, Instance, Key, Place, Refusal};
 use serde_json::Value;
 use std::alloc::Global;
 
@@ -64,26 +64,7 @@ fn placement_on(
     }))
 }
 
-/// A patient whom no earlier item has.
-fn new_patient(
-    inst: &Instance,
-    value: &Value,
-    earlier: &[bool],
-    at: Place,
-) -> Result<PatientNo, Refusal>
-    requires { length earlier.now ≡ patient_count inst.now.draft }
-    ensures inside { IfOk result (λ p. p.0 < patient_count inst.now.draft) }
-    ensures new { IfOk result (λ p. is_set earlier.now p.0 ≡ false) }
-    ensures gives { seen (λ p. p.0) result
-        ≡ new_one (patient_named inst.now.draft) (is_set earlier.now) at (view value.now) }
-{
-    let patient = references::patient(inst, value, at)?;
-    if earlier[patient.0 as usize] {
-        return Err(kinds::refusal(Fault::Duplicate, at));
-    }
-    Ok(patient)
-}
-
+/// A patient whom no earlier item has, with the stay.
 #[tactic(auto, unfolding(crate::specs::Reading::patient_row))]
 fn patient_row(
     inst: &Instance,
@@ -99,7 +80,10 @@ fn patient_row(
 {
     let _ = kinds::object(value, at)?;
     let id = kinds::value_of(value, Key::Id, at)?;
-    let patient = new_patient(inst, id, earlier, at.key(Key::Id))?;
+    let patient = references::patient(inst, id, at.key(Key::Id))?;
+    if earlier[patient.0 as usize] {
+        return Err(kinds::refusal(Fault::Duplicate, at.key(Key::Id)));
+    }
     let day = kinds::value_of(value, Key::AdmissionDay, at)?;
     let day = admission_day(inst, day, at.key(Key::AdmissionDay))?;
     let stay = placement_on(inst, value, day, at)?;
