@@ -1,6 +1,7 @@
 //! The commands, as callers see them, and how they are read.
 ghost use Rattle.std.specs.Prelude.{◌≡◌, IfErr, IfOk, None, Some, map, string_bytes};
-ghost use Rattle.ih_words.specs.Words.{HasLawfulOptions, call_of, command_call};
+ghost use Rattle.ih_words.specs.Matches.{IsAnswer};
+ghost use Rattle.ih_words.specs.Words.{HasLawfulOptions, call_named, call_of, command_call};
 
 use crate::advise::read_advise;
 use crate::chain::read_chain;
@@ -37,6 +38,25 @@ pub enum Command<'a> {
     Demo(u64),
 }
 
+// Reads the words of the command that has the name.
+fn read_named<'a>(alloc: Global, name: &str, words: &'a [String]) -> Result<Command<'a>, WordsError>
+    ensures read { IsAnswer command_call (call_named name.now (map string_bytes words.entry.now)) result }
+    ensures lawful { IfOk result HasLawfulOptions }
+{
+    match name {
+        "solve" => Ok(Command::Solve(read_solve(alloc, words)?)),
+        "replay" => Ok(Command::Replay(read_replay(alloc, "replay", words)?)),
+        "salvage" => Ok(Command::Salvage(read_replay(alloc, "salvage", words)?)),
+        "check" => Ok(Command::Check(read_check(alloc, words)?)),
+        "chain" => Ok(Command::Chain(read_chain(alloc, words)?)),
+        "rounds" => Ok(Command::Rounds(read_rounds(alloc, words)?)),
+        "advise" => Ok(Command::Advise(read_advise(alloc, words)?)),
+        "gen" => Ok(Command::Gen(read_gen(alloc, words)?)),
+        "demo" => Ok(Command::Demo(read_demo(alloc, words)?)),
+        _ => Err(WordsError::Unlawful),
+    }
+}
+
 /// The command that the words give, with its values. The words are those after the program's name.
 /// The first is the command's name, and `clap` reads them all. A number is written in digits, with
 /// or without leading zeros and a plus sign.
@@ -56,16 +76,5 @@ pub fn read_words<'a>(alloc: Global, words: &'a [String]) -> Result<Command<'a>,
     let Some(name) = words.first() else {
         return Err(WordsError::Unlawful);
     };
-    match name.as_str() {
-        "solve" => Ok(Command::Solve(read_solve(alloc, words)?)),
-        "replay" => Ok(Command::Replay(read_replay(alloc, "replay", words)?)),
-        "salvage" => Ok(Command::Salvage(read_replay(alloc, "salvage", words)?)),
-        "check" => Ok(Command::Check(read_check(alloc, words)?)),
-        "chain" => Ok(Command::Chain(read_chain(alloc, words)?)),
-        "rounds" => Ok(Command::Rounds(read_rounds(alloc, words)?)),
-        "advise" => Ok(Command::Advise(read_advise(alloc, words)?)),
-        "gen" => Ok(Command::Gen(read_gen(alloc, words)?)),
-        "demo" => Ok(Command::Demo(read_demo(alloc, words)?)),
-        _ => Err(WordsError::Unlawful),
-    }
+    read_named(alloc, name.as_str(), words)
 }
