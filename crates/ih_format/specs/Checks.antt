@@ -5,6 +5,7 @@ use Rattle.serde_json.specs.Find.{get, as_bool, as_number, as_u64, as_str, as_ar
 use Rattle.ih_tables.specs.declared.refusals.Refusal.{Refusal}
 use Rattle.ih_tables.specs.declared.refusals.Place.{Place}
 use Rattle.ih_tables.specs.declared.refusals.Key.{Key}
+use Rattle.ih_tables.specs.declared.refusals.Key.TheVariants.{Id}
 use Rattle.ih_tables.specs.declared.refusals.Fault.{Fault}
 use Rattle.ih_tables.specs.declared.refusals.Fault.TheVariants.{Missing, Kind, Range, Length, Duplicate, Unknown}
 use Rattle.ih_tables.specs.Places.{key_name, at_key, at_item}
@@ -77,6 +78,10 @@ reference numbers p d = text p d >>= λ s. or_else Unknown p (numbers s)
 -- the value of a key of an object
 abbrev pub under : {A : Type 0} → Place → Data → Key → Check A → Checked A
 under p d k check = or_else Missing (at_key k p) (get (key_name k) d) >>= check (at_key k p)
+
+-- the id of an object, which no earlier item has
+abbrev pub new_id : (List ℕ → Option ℕ) → Check (List ℕ)
+new_id earlier p d = object p d >>= λ o. under p d Id (new_name earlier)
 
 -- each item in turn, which may look at those before it
 unfoldable pub each_after : {A : Type 0} → List A → (List A → Check A) → Place → List Data → Checked (List A)

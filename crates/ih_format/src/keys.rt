@@ -1,10 +1,10 @@
 //! The keys of an object, each read with its kind. A key that isn't there is Missing at the key.
 
-ghost use Rattle.std.specs.Prelude.{◌≡◌, ◌≤◌, IfOk, None};
+ghost use Rattle.std.specs.Prelude.{◌≡◌, ◌≤◌, IfOk};
 ghost use Rattle.serde_json.specs.View.{view};
 ghost use Rattle.ih_tables.specs.Lookups.{finds};
 ghost use Rattle.ih_format.specs.Gives.{Gives};
-ghost use Rattle.ih_format.specs.Checks.{number, text, truth, new_name, reference, under};
+ghost use Rattle.ih_format.specs.Checks.{number, text, truth, reference, under};
 
 use crate::errors::FormatError;
 use crate::kinds;
@@ -44,15 +44,5 @@ pub fn text(alloc: Global, object: &Value, key: Key, at: Place) -> Result<Name, 
 {
     let value = kinds::value_of(object, key, at)?;
     let text = kinds::text(value, at.key(key))?;
-    Ok(Name::new(String::from_str(alloc, text)?))
-}
-
-/// The id of an object, which no earlier one has.
-pub fn id(alloc: Global, object: &Value, earlier: &Names, at: Place) -> Result<Name, FormatError>
-    ensures new { IfOk result (λ s. finds earlier.now s ≡ None) }
-    ensures gives { Gives (λ s. s) result (under at (view object.now) Key.Id (new_name (finds earlier.now))) }
-{
-    let value = kinds::value_of(object, Key::Id, at)?;
-    let text = kinds::new_name(value, earlier, at.key(Key::Id))?;
     Ok(Name::new(String::from_str(alloc, text)?))
 }

@@ -6,6 +6,8 @@ mod errors;
 pub mod keys;
 pub mod kinds;
 pub mod reads;
-pub mod vectors;
+mod rows;
+mod vectors;
 
 pub use errors::FormatError;
+pub use rows::Row;

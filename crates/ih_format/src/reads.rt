@@ -11,32 +11,22 @@ ghost use Rattle.ih_format.specs.Checks.{Check, each_named, named, under};
 
 use crate::errors::FormatError;
 use crate::kinds;
-use ih_tables::{Key, List, Names, Place};
+use crate::rows::Row;
+use ih_tables::{HasId, Key, List, Names, Place};
 use serde_json::Value;
 use std::alloc::Global;
 
 /// The reader of one kind of item.
 pub trait Reads {
-    type Item: Drop;
-
-    // An item's id.
-    ghost name: { Self.Item → Items ℕ };
+    type Item: HasId + Drop;
 
     // How an item is read, where the ids of earlier items have these numbers.
     ghost reading: { Self → (Items ℕ → Option ℕ) → Check Self.Item };
 
-    fn name<'a>(&self, item: &'a Self::Item) -> &'a str
-        ensures { result.now ≡ name item.now };
-
-    fn read(
-        &self,
-        alloc: Global,
-        value: &Value,
-        earlier: &Names,
-        at: Place,
-    ) -> Result<Self::Item, FormatError>
-        ensures new { IfOk result (λ x. finds earlier.now (name x) ≡ None) }
-        ensures gives { Gives (λ x. x) result (reading self.now (finds earlier.now) at (view value.now)) };
+    fn read(&self, alloc: Global, row: Row) -> Result<Self::Item, FormatError>
+        ensures new { IfOk result (λ x. finds row.entry.earlier.now (Self.Item.id x) ≡ None) }
+        ensures gives { Gives (λ x. x) result
+            (reading self.now (finds row.entry.earlier.now) row.entry.at (view row.entry.value.now)) };
 }
 
 /// Items in their order, each whole before the next, and the numbers of their ids.
@@ -49,15 +39,20 @@ pub fn each<R: Reads>(
 ) -> Result<(List<R::Item>, Names), FormatError>
     requires { length values.now < 2 ^ 32 }
     ensures few { IfOk result (λ x. length x.0 ≤ length values.now) }
-    ensures numbers { IfOk result (λ x. IsIndexOf x.1 (map R.name x.0)) }
-    ensures gives { Gives (λ x. x.0) result (each_named R.name (R.reading reader.now) at (map view values.now)) }
+    ensures numbers { IfOk result (λ x. IsIndexOf x.1 (map R.Item.id x.0)) }
+    ensures gives { Gives (λ x. x.0) result (each_named R.Item.id (R.reading reader.now) at (map view values.now)) }
 {
     let mut items = Vec::new(alloc);
     let mut numbers = Names::new(alloc);
     let mut i = 0;
     for value in values {
-        let item = reader.read(alloc, value, &numbers, at.item(i))?;
-        numbers.add(alloc, reader.name(&item), i)?;
+        let row = Row {
+            value,
+            earlier: &numbers,
+            at: at.item(i),
+        };
+        let item = reader.read(alloc, row)?;
+        numbers.add(alloc, item.id(), i)?;
         items.push(item)?;
         i += 1;
     }
@@ -75,8 +70,8 @@ pub fn list<R: Reads>(
 ) -> Result<(List<R::Item>, Names), FormatError>
     requires { high < 2 ^ 32 }
     ensures few { IfOk result (λ x. length x.0 ≤ high) }
-    ensures numbers { IfOk result (λ x. IsIndexOf x.1 (map R.name x.0)) }
-    ensures gives { Gives (λ x. x.0) result (named low high R.name (R.reading reader.now) at (view value.now)) }
+    ensures numbers { IfOk result (λ x. IsIndexOf x.1 (map R.Item.id x.0)) }
+    ensures gives { Gives (λ x. x.0) result (named low high R.Item.id (R.reading reader.now) at (view value.now)) }
 {
     let values = kinds::list_of(value, low, high, at)?;
     each(alloc, reader, values, at)
@@ -94,9 +89,9 @@ pub fn under<R: Reads>(
 ) -> Result<(List<R::Item>, Names), FormatError>
     requires { high < 2 ^ 32 }
     ensures few { IfOk result (λ x. length x.0 ≤ high) }
-    ensures numbers { IfOk result (λ x. IsIndexOf x.1 (map R.name x.0)) }
+    ensures numbers { IfOk result (λ x. IsIndexOf x.1 (map R.Item.id x.0)) }
     ensures gives { Gives (λ x. x.0) result
-        (under at (view object.now) key (named low high R.name (R.reading reader.now))) }
+        (under at (view object.now) key (named low high R.Item.id (R.reading reader.now))) }
 {
     let value = kinds::value_of(object, key, at)?;
     list(alloc, reader, value, low, high, at.key(key))
@@ -112,7 +107,7 @@ pub fn items_under<R: Reads>(
     at: Place,
 ) -> Result<List<R::Item>, FormatError>
     requires { high < 2 ^ 32 }
-    ensures { Gives (λ x. x) result (under at (view object.now) key (named 0 high R.name (R.reading reader.now))) }
+    ensures { Gives (λ x. x) result (under at (view object.now) key (named 0 high R.Item.id (R.reading reader.now))) }
 {
     let (items, _) = under(alloc, reader, object, key, 0, high, at)?;
     Ok(items)

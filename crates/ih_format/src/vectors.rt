@@ -3,11 +3,11 @@
 ghost use Rattle.std.specs.Prelude.{◌≡◌, ◌<◌, ◌^◌, ◌≤◌, map, length};
 ghost use Rattle.serde_json.specs.View.{view};
 ghost use Rattle.ih_format.specs.Gives.{Gives};
-ghost use Rattle.ih_format.specs.Checks.{number, vector, each, under};
+ghost use Rattle.ih_format.specs.Checks.{number, vector, each};
 
 use crate::errors::FormatError;
 use crate::kinds;
-use ih_tables::{Key, List, Place};
+use ih_tables::{List, Place};
 use serde_json::Value;
 use std::alloc::Global;
 
@@ -25,7 +25,7 @@ fn numbers(alloc: Global, values: &[Value], high: u32, at: Place) -> Result<List
     Ok(List::new(read))
 }
 
-fn vector(
+pub(crate) fn vector(
     alloc: Global,
     value: &Value,
     n: usize,
@@ -37,20 +37,4 @@ fn vector(
 {
     let values = kinds::first_items(value, n, at)?;
     numbers(alloc, values, high, at)
-}
-
-/// The first numbers of a list under a key.
-pub fn under(
-    alloc: Global,
-    object: &Value,
-    key: Key,
-    n: usize,
-    high: u32,
-    at: Place,
-) -> Result<List<u32>, FormatError>
-    requires { n < 2 ^ 32 }
-    ensures { Gives (λ xs. xs) result (under at (view object.now) key (vector n high)) }
-{
-    let value = kinds::value_of(object, key, at)?;
-    vector(alloc, value, n, high, at.key(key))
 }

@@ -24,7 +24,7 @@ use Rattle.ih_tables.specs.Lookups.{number_in}
 use Rattle.ih_tables.specs.Works.{load_in, shift_of}
 use Rattle.ih_tables.specs.Places.{at_key}
 use Rattle.ih_tables.specs.Valid.{Between, IsName, IsVector, IsWorked, IsNurse, IsOccupant, IsPatient}
-use Rattle.ih_format.specs.Checks.{number, text, truth, object, list, list_of, vector, new_name, reference, under}
+use Rattle.ih_format.specs.Checks.{number, text, truth, object, list, list_of, vector, new_id, new_name, reference, under}
 use Rattle.ih_instance.specs.Instance.{Numbers, room, surgeon, theatre, is_worked, worked, worked_shifts, nurse, occupant, patient, due_day, room_number, room_numbers, names_of_rooms, names_of_surgeons}
 use Rattle.ih_instance.proofs.Sound.{ok_is, bind_ok, bind_with, where_so_ok, key_ok, number_sound, text_sound, new_name_sound, reference_sound, vector_sound, each_sound, keeps, Rows, list_of_sound}
 
@@ -34,8 +34,11 @@ key_number low high p d k n h = let v = key_ok p d k (number low high) n h in nu
 key_text : (p : Place) (d : Data) (k : Key) (s : List ℕ) → under p d k text ≡ Ok s → IsName s
 key_text p d k s h = let v = key_ok p d k text s h in text_sound (at_key k p) v.0 s v.1
 
-key_id : (f : Numbers) (p : Place) (d : Data) (k : Key) (s : List ℕ) → under p d k (new_name f) ≡ Ok s → IsName s × (f s ≡ None)
-key_id f p d k s h = let v = key_ok p d k (new_name f) s h in new_name_sound f (at_key k p) v.0 s v.1
+new_id_sound : (f : Numbers) (p : Place) (d : Data) (s : List ℕ) → new_id f p d ≡ Ok s → IsName s × (f s ≡ None)
+new_id_sound f p d s h =
+    let o = bind_ok (object p d) _ s h in
+    let v = key_ok p d keys.Id (new_name f) s o.2 in
+    new_name_sound f (at_key keys.Id p) v.0 s v.1
 
 key_reference : (names : List (List ℕ)) (p : Place) (d : Data) (k : Key) (n : ℕ) → under p d k (reference (number_in names)) ≡ Ok n → n < length names
 key_reference names p d k n h = let v = key_ok p d k (reference (number_in names)) n h in reference_sound names (at_key k p) v.0 n v.1
@@ -46,35 +49,31 @@ key_vector n high p d k xs h = let v = key_ok p d k (vector n high) xs h in vect
 pub room_sound : Rows (λ (r : Room). r.id) (λ r. r.capacity ≤ 1000) room
 unfolding room
 room_sound names p d x h =
-    let o = bind_ok (object p d) _ x h in
-    let i = bind_ok (under p d keys.Id (new_name (number_in names))) _ x o.2 in
+    let i = bind_ok (new_id (number_in names) p d) _ x h in
     let c = bind_ok (under p d keys.Capacity (number 0 1000)) _ x i.2 in
     subst (λ (r : Room). (IsName r.id × (number_in names r.id ≡ None)) × (r.capacity ≤ 1000)) (ok_is _ x c.2)
-    (key_id (number_in names) p d keys.Id i.0 i.1, (key_number 0 1000 p d keys.Capacity c.0 c.1).most)
+    (new_id_sound (number_in names) p d i.0 i.1, (key_number 0 1000 p d keys.Capacity c.0 c.1).most)
 
 pub surgeon_sound : (days : ℕ) → Rows (λ (s : Surgeon). s.id) (λ s. IsVector days 100000 s.max_surgery_time) (surgeon days)
 unfolding surgeon
 surgeon_sound days names p d x h =
-    let o = bind_ok (object p d) _ x h in
-    let i = bind_ok (under p d keys.Id (new_name (number_in names))) _ x o.2 in
+    let i = bind_ok (new_id (number_in names) p d) _ x h in
     let m = bind_ok (under p d keys.MaxSurgeryTime (vector days 100000)) _ x i.2 in
     subst (λ (s : Surgeon). (IsName s.id × (number_in names s.id ≡ None)) × IsVector days 100000 s.max_surgery_time) (ok_is _ x m.2)
-    (key_id (number_in names) p d keys.Id i.0 i.1, key_vector days 100000 p d keys.MaxSurgeryTime m.0 m.1)
+    (new_id_sound (number_in names) p d i.0 i.1, key_vector days 100000 p d keys.MaxSurgeryTime m.0 m.1)
 
 pub theatre_sound : (days : ℕ) → Rows (λ (t : Theatre). t.id) (λ t. IsVector days 100000 t.availability) (theatre days)
 unfolding theatre
 theatre_sound days names p d x h =
-    let o = bind_ok (object p d) _ x h in
-    let i = bind_ok (under p d keys.Id (new_name (number_in names))) _ x o.2 in
+    let i = bind_ok (new_id (number_in names) p d) _ x h in
     let m = bind_ok (under p d keys.Availability (vector days 100000)) _ x i.2 in
     subst (λ (t : Theatre). (IsName t.id × (number_in names t.id ≡ None)) × IsVector days 100000 t.availability) (ok_is _ x m.2)
-    (key_id (number_in names) p d keys.Id i.0 i.1, key_vector days 100000 p d keys.Availability m.0 m.1)
+    (new_id_sound (number_in names) p d i.0 i.1, key_vector days 100000 p d keys.Availability m.0 m.1)
 
 pub occupant_sound : (I : Draft) → Rows (λ (o : Occupant). o.id) (IsOccupant I) (occupant I.days (number_in I.age_groups) (number_in (names_of_rooms I.rooms)))
 unfolding occupant
 occupant_sound I names p d x h =
-    let o = bind_ok (object p d) _ x h in
-    let i = bind_ok (under p d keys.Id (new_name (number_in names))) _ x o.2 in
+    let i = bind_ok (new_id (number_in names) p d) _ x h in
     let g = bind_ok (under p d keys.Gender text) _ x i.2 in
     let a = bind_ok (under p d keys.AgeGroup (reference (number_in I.age_groups))) _ x g.2 in
     let s = bind_ok (under p d keys.LengthOfStay (number 1 100)) _ x a.2 in
@@ -83,7 +82,7 @@ occupant_sound I names p d x h =
     let r = bind_ok (under p d keys.RoomId (reference (number_in (names_of_rooms I.rooms)))) _ x k.2 in
     let below = key_reference (names_of_rooms I.rooms) p d keys.RoomId r.0 r.1 in
     subst (λ (y : Occupant). (IsName y.id × (number_in names y.id ≡ None)) × IsOccupant I y) (ok_is _ x r.2) (
-      key_id (number_in names) p d keys.Id i.0 i.1,
+      new_id_sound (number_in names) p d i.0 i.1,
       record {
         gender = key_text p d keys.Gender g.0 g.1;
         age = key_reference I.age_groups p d keys.AgeGroup a.0 a.1;
@@ -145,14 +144,13 @@ shifts_sound I some three p d ws h =
 pub nurse_sound : (I : Draft) → 1 ≤ I.days → length I.shift_types ≤ 3 → Rows (λ (n : Nurse). n.id) (IsNurse I) (nurse I.days (number_in I.shift_types))
 unfolding nurse
 nurse_sound I some three names p d x h =
-    let o = bind_ok (object p d) _ x h in
-    let i = bind_ok (under p d keys.Id (new_name (number_in names))) _ x o.2 in
+    let i = bind_ok (new_id (number_in names) p d) _ x h in
     let s = bind_ok (under p d keys.SkillLevel (number 0 1000)) _ x i.2 in
     let w = bind_ok (under p d keys.WorkingShifts (worked_shifts I.days (number_in I.shift_types))) _ x s.2 in
     let v = key_ok p d keys.WorkingShifts (worked_shifts I.days (number_in I.shift_types)) w.0 w.1 in
     let ws = shifts_sound I some three (at_key keys.WorkingShifts p) v.0 w.0 v.1 in
     subst (λ (n : Nurse). (IsName n.id × (number_in names n.id ≡ None)) × IsNurse I n) (ok_is _ x w.2) (
-      key_id (number_in names) p d keys.Id i.0 i.1,
+      new_id_sound (number_in names) p d i.0 i.1,
       record {
         skill = (key_number 0 1000 p d keys.SkillLevel s.0 s.1).most;
         shifts = ws.each;
@@ -193,8 +191,7 @@ rooms_sound names p d rs h =
 pub patient_sound : (I : Draft) → Rows (λ (y : Patient). y.id) (IsPatient I) (patient I.days (number_in I.age_groups) (number_in (names_of_surgeons I.surgeons)) (number_in (names_of_rooms I.rooms)))
 unfolding patient
 patient_sound I names p d x h =
-    bind_with (object p d) _ x h (λ o ro h0.
-    bind_with (under p d keys.Id (new_name (number_in names))) _ x h0 (λ i ri h1.
+    bind_with (new_id (number_in names) p d) _ x h (λ i ri h1.
     bind_with (under p d keys.Mandatory truth) _ x h1 (λ m rm h2.
     bind_with (under p d keys.Gender text) _ x h2 (λ g rg h3.
     bind_with (under p d keys.AgeGroup (reference (number_in I.age_groups))) _ x h3 (λ a ra h4.
@@ -211,7 +208,7 @@ patient_sound I names p d x h =
     let v = key_ok p d keys.IncompatibleRoomIds (room_numbers (number_in (names_of_rooms I.rooms))) c rc in
     let closed = rooms_sound (names_of_rooms I.rooms) (at_key keys.IncompatibleRoomIds p) v.0 c v.1 in
     subst (λ (y : Patient). (IsName y.id × (number_in names y.id ≡ None)) × IsPatient I y) (ok_is _ x h12) (
-      key_id (number_in names) p d keys.Id i ri,
+      new_id_sound (number_in names) p d i ri,
       record {
         gender = key_text p d keys.Gender g rg;
         age = key_reference I.age_groups p d keys.AgeGroup a ra;
@@ -226,4 +223,4 @@ patient_sound I names p d x h =
         workload = key_vector (3 * min s I.days) 100000 p d keys.WorkloadProduced w rw_;
         skill = key_vector (3 * min s I.days) 1000 p d keys.SkillLevelRequired k rk;
       },
-    ))))))))))))))
+    )))))))))))))

@@ -19,7 +19,7 @@ use Rattle.ih_tables.specs.declared.refusals.Fault.TheVariants.{Duplicate, TwoWe
 use Rattle.ih_tables.specs.Places.{key_name}
 use Rattle.ih_tables.specs.Lookups.{number_in}
 use Rattle.ih_tables.specs.Works.{load_in}
-use Rattle.ih_format.specs.Checks.{Checked, Check, ◌>>=◌, where_so, number, text, truth, object, list, list_of, new_name, reference, under, each, vector, named}
+use Rattle.ih_format.specs.Checks.{Checked, Check, ◌>>=◌, where_so, number, text, truth, object, list, list_of, new_id, new_name, reference, under, each, vector, named}
 use Rattle.ih_format.specs.Documents.{document}
 
 -- how the numbers of names are looked up
@@ -59,22 +59,19 @@ weights p d = do
 
 unfoldable pub surgeon : ℕ → Numbers → Check Surgeon
 surgeon days earlier p d = do
-  o ← object p d
-  id ← under p d keys.Id (new_name earlier)
+  id ← new_id earlier p d
   minutes ← under p d keys.MaxSurgeryTime (vector days 100000)
   Ok (record { id = id; max_surgery_time = minutes })
 
 unfoldable pub theatre : ℕ → Numbers → Check Theatre
 theatre days earlier p d = do
-  o ← object p d
-  id ← under p d keys.Id (new_name earlier)
+  id ← new_id earlier p d
   minutes ← under p d keys.Availability (vector days 100000)
   Ok (record { id = id; availability = minutes })
 
 unfoldable pub room : Numbers → Check Room
 room earlier p d = do
-  o ← object p d
-  id ← under p d keys.Id (new_name earlier)
+  id ← new_id earlier p d
   capacity ← under p d keys.Capacity (number 0 1000)
   Ok (record { id = id; capacity = capacity })
 
@@ -99,16 +96,14 @@ worked_shifts days types p d = list p d >>= each_worked days types p
 
 unfoldable pub nurse : ℕ → Numbers → Numbers → Check Nurse
 nurse days types earlier p d = do
-  o ← object p d
-  id ← under p d keys.Id (new_name earlier)
+  id ← new_id earlier p d
   skill ← under p d keys.SkillLevel (number 0 1000)
   shifts ← under p d keys.WorkingShifts (worked_shifts days types)
   Ok (record { id = id; skill_level = skill; working_shifts = shifts })
 
 unfoldable pub occupant : ℕ → Numbers → Numbers → Numbers → Check Occupant
 occupant days groups rooms earlier p d = do
-  o ← object p d
-  id ← under p d keys.Id (new_name earlier)
+  id ← new_id earlier p d
   gender ← under p d keys.Gender text
   age ← under p d keys.AgeGroup (reference groups)
   stay ← under p d keys.LengthOfStay (number 1 100)
@@ -129,8 +124,7 @@ room_numbers rooms p d = list_of 0 1024 p d >>= each (λ _. room_number rooms) p
 
 unfoldable pub patient : ℕ → Numbers → Numbers → Numbers → Numbers → Check Patient
 patient days groups surgeons rooms earlier p d = do
-  o ← object p d
-  id ← under p d keys.Id (new_name earlier)
+  id ← new_id earlier p d
   mandatory ← under p d keys.Mandatory truth
   gender ← under p d keys.Gender text
   age ← under p d keys.AgeGroup (reference groups)

@@ -8,7 +8,7 @@ ghost use Rattle.ih_format.specs.Checks.{each, under};
 ghost use Rattle.ih_instance.specs.Instance.{patient, due_day, room_number, room_numbers};
 
 use ih_format::reads::Reads;
-use ih_format::{FormatError, keys, kinds, vectors};
+use ih_format::{FormatError, Row, keys, kinds};
 use ih_tables::{Key, List, Names, Patient, Place, Refusal, RoomNo, SurgeonNo};
 use serde_json::Value;
 use std::alloc::Global;
@@ -88,50 +88,23 @@ pub struct Patients<'a> {
 impl<'a> Reads for Patients<'a> {
     type Item = Patient;
 
-    ghost name = { λ p. p.id };
-
     ghost reading = { λ r. patient r.days (finds r.groups.now) (finds r.surgeons.now) (finds r.rooms.now) };
 
-    fn name<'b>(&self, item: &'b Patient) -> &'b str {
-        item.id.as_str()
-    }
-
     #[tactic(auto, unfolding(crate::specs::Instance::patient))]
-    fn read(
-        &self,
-        alloc: Global,
-        value: &Value,
-        earlier: &Names,
-        at: Place,
-    ) -> Result<Patient, FormatError> {
-        let _ = kinds::object(value, at)?;
-        let id = keys::id(alloc, value, earlier, at)?;
-        let mandatory = keys::truth(value, Key::Mandatory, at)?;
-        let gender = keys::text(alloc, value, Key::Gender, at)?;
-        let age_group = keys::reference(value, Key::AgeGroup, self.groups, at)?;
-        let length_of_stay = keys::number(value, Key::LengthOfStay, 1, 100, at)?;
-        let surgery_release_day = keys::number(value, Key::SurgeryReleaseDay, 0, 1000, at)?;
-        let surgery_due_day = due_day(value, mandatory, at)?;
-        let surgery_duration = keys::number(value, Key::SurgeryDuration, 0, 100_000, at)?;
-        let surgeon = keys::reference(value, Key::SurgeonId, self.surgeons, at)?;
-        let incompatible_room_ids = closed_rooms(alloc, value, self.rooms, at)?;
+    fn read(&self, alloc: Global, row: Row) -> Result<Patient, FormatError> {
+        let id = row.id(alloc)?;
+        let mandatory = keys::truth(row.value, Key::Mandatory, row.at)?;
+        let gender = keys::text(alloc, row.value, Key::Gender, row.at)?;
+        let age_group = keys::reference(row.value, Key::AgeGroup, self.groups, row.at)?;
+        let length_of_stay = keys::number(row.value, Key::LengthOfStay, 1, 100, row.at)?;
+        let surgery_release_day = keys::number(row.value, Key::SurgeryReleaseDay, 0, 1000, row.at)?;
+        let surgery_due_day = due_day(row.value, mandatory, row.at)?;
+        let surgery_duration = keys::number(row.value, Key::SurgeryDuration, 0, 100_000, row.at)?;
+        let surgeon = keys::reference(row.value, Key::SurgeonId, self.surgeons, row.at)?;
+        let incompatible_room_ids = closed_rooms(alloc, row.value, self.rooms, row.at)?;
         let entries = 3 * length_of_stay.min(self.days) as usize;
-        let workload_produced = vectors::under(
-            alloc,
-            value,
-            Key::WorkloadProduced,
-            entries,
-            100_000,
-            at,
-        )?;
-        let skill_level_required = vectors::under(
-            alloc,
-            value,
-            Key::SkillLevelRequired,
-            entries,
-            1000,
-            at,
-        )?;
+        let workload_produced = row.vector(alloc, Key::WorkloadProduced, entries, 100_000)?;
+        let skill_level_required = row.vector(alloc, Key::SkillLevelRequired, entries, 1000)?;
         Ok(Patient {
             id,
             mandatory,

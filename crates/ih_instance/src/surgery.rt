@@ -7,9 +7,8 @@ ghost use Rattle.ih_format.specs.Gives.{Gives};
 ghost use Rattle.ih_instance.specs.Instance.{surgeon, theatre};
 
 use ih_format::reads::Reads;
-use ih_format::{FormatError, keys, kinds, vectors};
-use ih_tables::{Key, Names, Place, Surgeon, Theatre};
-use serde_json::Value;
+use ih_format::{FormatError, Row};
+use ih_tables::{Key, Surgeon, Theatre};
 use std::alloc::Global;
 
 /// The reader of surgeons.
@@ -21,33 +20,12 @@ pub struct Surgeons {
 impl Reads for Surgeons {
     type Item = Surgeon;
 
-    ghost name = { λ s. s.id };
-
     ghost reading = { λ r. surgeon r.days };
 
-    fn name<'b>(&self, item: &'b Surgeon) -> &'b str {
-        item.id.as_str()
-    }
-
     #[tactic(auto, unfolding(crate::specs::Instance::surgeon))]
-    fn read(
-        &self,
-        alloc: Global,
-        value: &Value,
-        earlier: &Names,
-        at: Place,
-    ) -> Result<Surgeon, FormatError> {
-        let _ = kinds::object(value, at)?;
-        let id = keys::id(alloc, value, earlier, at)?;
-        let days = self.days as usize;
-        let max_surgery_time = vectors::under(
-            alloc,
-            value,
-            Key::MaxSurgeryTime,
-            days,
-            100_000,
-            at,
-        )?;
+    fn read(&self, alloc: Global, row: Row) -> Result<Surgeon, FormatError> {
+        let id = row.id(alloc)?;
+        let max_surgery_time = row.vector(alloc, Key::MaxSurgeryTime, self.days as usize, 100_000)?;
         Ok(Surgeon {
             id,
             max_surgery_time,
@@ -64,26 +42,12 @@ pub struct Theatres {
 impl Reads for Theatres {
     type Item = Theatre;
 
-    ghost name = { λ t. t.id };
-
     ghost reading = { λ r. theatre r.days };
 
-    fn name<'b>(&self, item: &'b Theatre) -> &'b str {
-        item.id.as_str()
-    }
-
     #[tactic(auto, unfolding(crate::specs::Instance::theatre))]
-    fn read(
-        &self,
-        alloc: Global,
-        value: &Value,
-        earlier: &Names,
-        at: Place,
-    ) -> Result<Theatre, FormatError> {
-        let _ = kinds::object(value, at)?;
-        let id = keys::id(alloc, value, earlier, at)?;
-        let days = self.days as usize;
-        let availability = vectors::under(alloc, value, Key::Availability, days, 100_000, at)?;
+    fn read(&self, alloc: Global, row: Row) -> Result<Theatre, FormatError> {
+        let id = row.id(alloc)?;
+        let availability = row.vector(alloc, Key::Availability, self.days as usize, 100_000)?;
         Ok(Theatre { id, availability })
     }
 }

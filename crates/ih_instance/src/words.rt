@@ -7,9 +7,8 @@ ghost use Rattle.ih_format.specs.Gives.{Gives};
 ghost use Rattle.ih_format.specs.Checks.{new_name};
 
 use ih_format::reads::Reads;
-use ih_format::{FormatError, kinds};
-use ih_tables::{Name, Names, Place};
-use serde_json::Value;
+use ih_format::{FormatError, Row, kinds};
+use ih_tables::Name;
 use std::alloc::Global;
 
 /// The reader of such items.
@@ -19,22 +18,10 @@ pub struct Words;
 impl Reads for Words {
     type Item = Name;
 
-    ghost name = { λ s. s };
-
     ghost reading = { λ _. new_name };
 
-    fn name<'b>(&self, item: &'b Name) -> &'b str {
-        item.as_str()
-    }
-
-    fn read(
-        &self,
-        alloc: Global,
-        value: &Value,
-        earlier: &Names,
-        at: Place,
-    ) -> Result<Name, FormatError> {
-        let text = kinds::new_name(value, earlier, at)?;
+    fn read(&self, alloc: Global, row: Row) -> Result<Name, FormatError> {
+        let text = kinds::new_name(row.value, row.earlier, row.at)?;
         Ok(Name::new(String::from_str(alloc, text)?))
     }
 }

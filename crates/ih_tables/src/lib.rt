@@ -24,6 +24,6 @@ pub use drafts::{Draft, Nurse, Occupant, Patient, Room, Surgeon, Theatre, Worked
 pub use ids::{Day, NurseNo, PatientNo, PersonNo, RoomNo, Shift, SurgeonNo, TheatreNo};
 pub use instances::Instance;
 pub use lists::List;
-pub use lookups::Names;
+pub use lookups::{HasId, Names};
 pub use names::Name;
 pub use refusals::{Fault, Key, Place, Refusal, Step};
