@@ -8,11 +8,12 @@ ghost use Rattle.ih_gen.specs.Generated.{generated_data, generated};
 
 use crate::fixed::fixed_value;
 use crate::members::with_member;
-use crate::nurses::nurse_values;
-use crate::occupants::occupant_values;
-use crate::patients::patient_values;
+use crate::nurses::Nurses;
+use crate::occupants::Occupants;
+use crate::patients::Patients;
 use crate::picks::Picks;
-use crate::rooms::room_values;
+use crate::rooms::Rooms;
+use crate::rows::rows;
 use serde_json::Value;
 use std::alloc::{AllocError, Global};
 
@@ -24,13 +25,13 @@ fn generated_value(alloc: Global, number: u64) -> Result<Value, AllocError>
 {
     let mut picks = Picks::of(number);
     let fixed = fixed_value(alloc, DAYS)?;
-    let rooms = room_values(alloc, &mut picks, 25)?;
+    let rooms = rows(alloc, &Rooms, &mut picks, 25)?;
     let housed = with_member(alloc, fixed, "rooms", Value::Array(rooms))?;
-    let nurses = nurse_values(alloc, &mut picks, DAYS, 50)?;
+    let nurses = rows(alloc, &Nurses { days: DAYS }, &mut picks, 50)?;
     let staffed = with_member(alloc, housed, "nurses", Value::Array(nurses))?;
-    let occupants = occupant_values(alloc, &mut picks, 3)?;
+    let occupants = rows(alloc, &Occupants, &mut picks, 3)?;
     let occupied = with_member(alloc, staffed, "occupants", Value::Array(occupants))?;
-    let patients = patient_values(alloc, &mut picks, DAYS, 400)?;
+    let patients = rows(alloc, &Patients { days: DAYS }, &mut picks, 400)?;
     with_member(alloc, occupied, "patients", Value::Array(patients))
 }
 

@@ -11,5 +11,6 @@ mod patients;
 mod persons;
 mod picks;
 mod rooms;
+mod rows;
 
 pub use instances::generate;

@@ -1,14 +1,15 @@
 //! The nurses and their worked shifts.
 
-ghost use Rattle.std.specs.Prelude.{◌≡◌, ◌+◌, ◌<◌, ◌≤◌, ◌^◌, ◌==◌, IfOk, OnOk, map};
+ghost use Rattle.std.specs.Prelude.{◌≡◌, ◌==◌, IfOk, OnOk, map};
 ghost use Rattle.serde_json.specs.View.{view};
 ghost use Rattle.ih_plan.specs.Draws.{state_after};
 ghost use Rattle.ih_plan.specs.Sums.{which_below, count_below};
-ghost use Rattle.ih_gen.specs.Words.{begins, in_a_row, pick};
+ghost use Rattle.ih_gen.specs.Words.{pick};
 ghost use Rattle.ih_gen.specs.Generated.{turn_of, works, shift_data, worked_data, nurse_data, nurse_words};
 
 use crate::names::{id_value, shift_name};
 use crate::picks::Picks;
+use crate::rows::Makes;
 use serde_json::{Value, json};
 use std::alloc::{AllocError, Global};
 
@@ -28,13 +29,13 @@ fn worked_values(
     days: u32,
     n: u32,
 ) -> Result<Vec<Value>, AllocError>
-    requires { days + n < 2 ^ 32 }
-    ensures values { IfOk result (λ v. map view v.items ≡ map (worked_data n picks.old) (which_below days (works n))) }
+    ensures values { IfOk result
+        (λ v. map view v.items ≡ map (worked_data n picks.old) (which_below days (works n))) }
     ensures rest { OnOk result (picks.new ≡ state_after (count_below days (works n)) picks.old) }
 {
     let mut values = Vec::new(alloc);
     for day in 0..days {
-        let turn = (n + day) % 4;
+        let turn = ((u64::from(n) + u64::from(day)) % 4) as u32;
         if turn < 3 {
             let load = 5 + picks.pick(11);
             values.push(shift_value(alloc, day, turn, load)?)?;
@@ -43,34 +44,21 @@ fn worked_values(
     Ok(values)
 }
 
-#[tactic(auto, using(crate::proofs::Streams::stream_steps))]
-fn nurse_value(alloc: Global, picks: &mut Picks, days: u32, n: u32) -> Result<Value, AllocError>
-    requires { days + n < 2 ^ 32 }
-    ensures value { IfOk result (λ v. view v ≡ nurse_data days n picks.old) }
-    ensures rest { OnOk result (picks.new ≡ state_after (nurse_words days n picks.old) picks.old) }
-{
-    let skill = picks.pick(3);
-    let shifts = worked_values(alloc, picks, days, n)?;
-    let id = id_value(alloc, "n", n)?;
-    json!(in alloc; {"id": id, "skill_level": skill, "working_shifts": shifts})
+/// Nurses on so many days.
+pub struct Nurses {
+    pub days: u32,
 }
 
-/// The first `count` nurses.
-#[tactic(auto, using(crate::proofs::RowLemmas::row_steps))]
-pub fn nurse_values(
-    alloc: Global,
-    picks: &mut Picks,
-    days: u32,
-    count: u32,
-) -> Result<Vec<Value>, AllocError>
-    requires { days + count < 2 ^ 32 }
-    ensures values { IfOk result
-        (λ v. map view v.items ≡ in_a_row (nurse_data days) (nurse_words days) count picks.old) }
-    ensures rest { OnOk result (picks.new ≡ begins (nurse_words days) count picks.old) }
-{
-    let mut values = Vec::new(alloc);
-    for n in 0..count {
-        values.push(nurse_value(alloc, picks, days, n)?)?;
+impl Makes for Nurses {
+    ghost thing = { λ kind. nurse_data kind.days };
+
+    ghost words = { λ kind. nurse_words kind.days };
+
+    #[tactic(auto, using(crate::proofs::Streams::stream_steps))]
+    fn make(&self, alloc: Global, picks: &mut Picks, n: u32) -> Result<Value, AllocError> {
+        let skill = picks.pick(3);
+        let shifts = worked_values(alloc, picks, self.days, n)?;
+        let id = id_value(alloc, "n", n)?;
+        json!(in alloc; {"id": id, "skill_level": skill, "working_shifts": shifts})
     }
-    Ok(values)
 }

@@ -4,13 +4,13 @@ ghost use Rattle.std.specs.Prelude.{◌≡◌, ◌<◌, ◌≤◌, None, IfOk, O
 ghost use Rattle.serde_json.specs.Data.{object};
 ghost use Rattle.serde_json.specs.View.{view};
 ghost use Rattle.ih_plan.specs.Draws.{state_after};
-ghost use Rattle.ih_gen.specs.Words.{begins, in_a_row};
 ghost use Rattle.ih_gen.specs.Generated.{patient_picks, patient_members, patient_data, patient_words};
 
 use crate::members::with_member;
 use crate::names::id_value;
 use crate::persons::{Needs, PersonPicks, person_value, pick_needs, pick_person};
 use crate::picks::Picks;
+use crate::rows::Makes;
 use serde_json::{Value, json};
 use std::alloc::{AllocError, Global};
 
@@ -66,38 +66,27 @@ fn picked_value(
     with_member(alloc, timed, "surgery_release_day", release)
 }
 
-#[tactic(auto, using(crate::proofs::Streams::stream_steps))]
-fn patient_value(alloc: Global, picks: &mut Picks, days: u32, p: u32) -> Result<Value, AllocError>
-    requires { 0 < days }
-    ensures value { IfOk result (λ v. view v ≡ patient_data days p picks.old) }
-    ensures rest { OnOk result (picks.new ≡ state_after (patient_words p picks.old) picks.old) }
-{
-    let picked = patient_picks(picks);
-    let needs = pick_needs(alloc, picks, 3 * picked.person.length_of_stay)?;
-    let value = picked_value(alloc, p, &picked, needs)?;
-    if p % 20 == 0 {
-        let due = (picked.release_day + picked.slack).min(days - 1);
-        with_member(alloc, value, "surgery_due_day", Value::from(due))
-    } else {
-        Ok(value)
-    }
+/// Patients of a horizon of so many days.
+pub struct Patients {
+    pub days: u32,
+    pub ghost some: { 0 < days },
 }
 
-/// The first `count` patients.
-#[tactic(auto, using(crate::proofs::RowLemmas::row_steps))]
-pub fn patient_values(
-    alloc: Global,
-    picks: &mut Picks,
-    days: u32,
-    count: u32,
-) -> Result<Vec<Value>, AllocError>
-    requires { 0 < days }
-    ensures values { IfOk result (λ v. map view v.items ≡ in_a_row (patient_data days) patient_words count picks.old) }
-    ensures rest { OnOk result (picks.new ≡ begins patient_words count picks.old) }
-{
-    let mut values = Vec::new(alloc);
-    for p in 0..count {
-        values.push(patient_value(alloc, picks, days, p)?)?;
+impl Makes for Patients {
+    ghost thing = { λ kind. patient_data kind.days };
+
+    ghost words = { λ _. patient_words };
+
+    #[tactic(auto, using(crate::proofs::Streams::stream_steps))]
+    fn make(&self, alloc: Global, picks: &mut Picks, p: u32) -> Result<Value, AllocError> {
+        let picked = patient_picks(picks);
+        let needs = pick_needs(alloc, picks, 3 * picked.person.length_of_stay)?;
+        let value = picked_value(alloc, p, &picked, needs)?;
+        if p % 20 == 0 {
+            let due = (picked.release_day + picked.slack).min(self.days - 1);
+            with_member(alloc, value, "surgery_due_day", Value::from(due))
+        } else {
+            Ok(value)
+        }
     }
-    Ok(values)
 }
