@@ -31,7 +31,7 @@ pub trait Reads {
 
 /// Items in their order, each whole before the next, and the numbers of their ids.
 #[tactic(auto, using(crate::proofs::Named::naming))]
-pub fn each<R: Reads>(
+fn each<R: Reads>(
     alloc: Global,
     reader: &R,
     values: &[Value],
@@ -59,25 +59,7 @@ pub fn each<R: Reads>(
     Ok((List::new(items), numbers))
 }
 
-/// A list of low to high such items.
-pub fn list<R: Reads>(
-    alloc: Global,
-    reader: &R,
-    value: &Value,
-    low: usize,
-    high: usize,
-    at: Place,
-) -> Result<(List<R::Item>, Names), FormatError>
-    requires { high < 2 ^ 32 }
-    ensures few { IfOk result (λ x. length x.0 ≤ high) }
-    ensures numbers { IfOk result (λ x. IsIndexOf x.1 (map R.Item.id x.0)) }
-    ensures gives { Gives (λ x. x.0) result (named low high R.Item.id (R.reading reader.now) at (view value.now)) }
-{
-    let values = kinds::list_of(value, low, high, at)?;
-    each(alloc, reader, values, at)
-}
-
-/// The list under a key.
+/// The list under a key, of low to high such items.
 pub fn under<R: Reads>(
     alloc: Global,
     reader: &R,
@@ -94,7 +76,9 @@ pub fn under<R: Reads>(
         (under at (view object.now) key (named low high R.Item.id (R.reading reader.now))) }
 {
     let value = kinds::value_of(object, key, at)?;
-    list(alloc, reader, value, low, high, at.key(key))
+    let at = at.key(key);
+    let values = kinds::list_of(value, low, high, at)?;
+    each(alloc, reader, values, at)
 }
 
 /// The items of the list under a key, without their numbers.

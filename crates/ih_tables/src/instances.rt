@@ -35,7 +35,8 @@ fn numbers_by_id(alloc: Global, draft: &Draft) -> Result<NumbersById, AllocError
     ensures patients { IfOk result (λ n. IsIndexOf n.patients (map (λ (p : Patient). p.id) draft.now.patients)) }
     ensures rooms { IfOk result (λ n. IsIndexOf n.rooms (map (λ (r : Room). r.id) draft.now.rooms)) }
     ensures nurses { IfOk result (λ n. IsIndexOf n.nurses (map (λ (m : Nurse). m.id) draft.now.nurses)) }
-    ensures theatres { IfOk result (λ n. IsIndexOf n.theatres (map (λ (t : Theatre). t.id) draft.now.operating_theaters)) }
+    ensures theatres { IfOk result
+        (λ n. IsIndexOf n.theatres (map (λ (t : Theatre). t.id) draft.now.operating_theaters)) }
     ensures shift_types { IfOk result (λ n. IsIndexOf n.shift_types draft.now.shift_types) }
 {
     Ok(NumbersById {
