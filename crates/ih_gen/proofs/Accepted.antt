@@ -25,7 +25,7 @@ use Rattle.ih_format.specs.Documents.{value_of}
 use Rattle.ih_instance.specs.Instance.{room, surgeon, theatre, nurse, occupant, patient, names_of_rooms, names_of_surgeons, rooms, surgeons, theatres, nurses, occupants, patients, names, weights, draft, instance}
 use Rattle.ih_solution.specs.Solution.{number_data, list_data}
 use Rattle.ih_gen.specs.Words.{stream_of, pick, begins, in_a_row}
-use Rattle.ih_gen.specs.Generated.{room_data, room_words, surgeon_data, theatre_data, numbered, nurse_data, nurse_words, occupant_data, occupant_words, surgeon_of, patient_data, patient_words, age_groups_data, shift_types_data, weights_data, generated_data}
+use Rattle.ih_gen.specs.Generated.{room_data, room_words, surgeon_data, theatre_data, numbered, nurse_data, nurse_words, occupant_data, occupant_words, surgeon_of, patient_data, patient_words, age_groups_data, shift_types_data, weights_data, generated_data, nurse_stream, occupant_stream, patient_stream}
 use Rattle.ih_gen.proofs.Readings.{id, id-found, pick-below, names-of, named-reads}
 use Rattle.ih_gen.proofs.RowsRead.{ages, room_of, room-reads, surgeon_with, surgeon-reads, theatre_with, theatre-reads, occupant_with, occupant-reads, patient_with, patient-reads}
 use Rattle.ih_gen.proofs.ShiftsRead.{types, nurse_with, nurse-reads}
@@ -126,17 +126,13 @@ draft_of ss ts rs ns os ps = record {
 -- what is read of the instance that a number generates
 unfoldable pub generated_draft : ℕ → Draft
 generated_draft number =
-    let s = stream_of number in
-    let after_rooms = begins room_words 25 s in
-    let after_nurses = begins (nurse_words 28) 50 after_rooms in
-    let after_occupants = begins occupant_words 3 after_nurses in
     draft_of
     (listed 10 (surgeon_with 28))
     (listed 5 (theatre_with 28))
-    (room_rows 25 s)
-    (listed 50 (λ i. nurse_with 28 i (begins (nurse_words 28) i after_rooms)))
-    (listed 3 (λ i. occupant_with 28 i (begins occupant_words i after_nurses)))
-    (listed 400 (λ i. patient_with 28 i (begins patient_words i after_occupants)))
+    (room_rows 25 (stream_of number))
+    (listed 50 (λ i. nurse_with 28 i (begins (nurse_words 28) i (nurse_stream number))))
+    (listed 3 (λ i. occupant_with 28 i (begins occupant_words i (occupant_stream number))))
+    (listed 400 (λ i. patient_with 28 i (begins patient_words i (patient_stream number))))
 
 types-read : (p : Place) → names 3 3 p shift_types_data ≡ Ok types
 unfolding serde_json_on_literals number_in each_after types
@@ -174,17 +170,13 @@ lists-read nurses_data occupants_data theatres_data patients_data rooms_data sur
 data-reads : (number : ℕ) → draft whole (generated_data number) ≡ Ok (generated_draft number)
 unfolding generated_data generated_draft
 data-reads number =
-    let s = stream_of number in
-    let after_rooms = begins room_words 25 s in
-    let after_nurses = begins (nurse_words 28) 50 after_rooms in
-    let after_occupants = begins occupant_words 3 after_nurses in
     lists-read _ _ _ _ _ _ _ _ _ _ _ _
     (surgeons-read 28 10 (at_key keys.Surgeons whole) (omega arith))
     (theatres-read 28 5 (at_key keys.OperatingTheaters whole) (omega arith))
-    (rooms-read 25 s (at_key keys.Rooms whole) (omega arith) (omega arith))
-    (nurses-read 28 50 after_rooms (at_key keys.Nurses whole) (omega arith))
-    (occupants-read 28 3 25 after_nurses s (at_key keys.Occupants whole) (omega arith) (omega arith))
-    (patients-read 28 400 25 10 after_occupants s (at_key keys.Patients whole) (omega arith) (omega arith) (omega arith) (omega arith) (omega arith) (omega arith) (omega arith))
+    (rooms-read 25 (stream_of number) (at_key keys.Rooms whole) (omega arith) (omega arith))
+    (nurses-read 28 50 (nurse_stream number) (at_key keys.Nurses whole) (omega arith))
+    (occupants-read 28 3 25 (occupant_stream number) (stream_of number) (at_key keys.Occupants whole) (omega arith) (omega arith))
+    (patients-read 28 400 25 10 (patient_stream number) (stream_of number) (at_key keys.Patients whole) (omega arith) (omega arith) (omega arith) (omega arith) (omega arith) (omega arith) (omega arith))
 
 pub reads-back : (number : ℕ) (bytes : List ℕ) → IsUtf8 bytes → read bytes ≡ Some (generated_data number) → instance bytes ≡ Ok (generated_draft number)
 reads-back number bytes utf8 same =

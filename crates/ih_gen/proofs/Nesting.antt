@@ -10,7 +10,7 @@ use Rattle.ih_solution.proofs.Nesting.{nested}
 use Rattle.ih_gen.specs.declared.patients.PatientPicks.{PatientPicks}
 use Rattle.ih_gen.specs.declared.persons.PersonPicks.{PersonPicks}
 use Rattle.ih_gen.specs.Words.{stream_of, pick, begins, in_a_row}
-use Rattle.ih_gen.specs.Generated.{works, worked_data, room_data, room_words, nurse_data, nurse_words, person_picks, occupant_members, occupant_data, occupant_words, skills, workloads, patient_picks, patient_members, patient_data, patient_words, due_day, each_day, surgeon_data, theatre_data, numbered, generated_data}
+use Rattle.ih_gen.specs.Generated.{works, worked_data, room_data, room_words, nurse_data, nurse_words, person_picks, occupant_members, occupant_data, occupant_words, skills, workloads, patient_picks, patient_members, patient_data, patient_words, due_day, each_day, surgeon_data, theatre_data, numbered, generated_data, nurse_stream, occupant_stream, patient_stream}
 
 -- ---- persons
 
@@ -59,12 +59,6 @@ numbered-depth thing n h =
     let items = nested 2 thing (range_with_len 0 n) h in
     omega (arith, items)
 
-surgeons-depth : (days n : ℕ) → depth (numbered (surgeon_data days) n) ≤ 3
-surgeons-depth days n = numbered-depth (surgeon_data days) n (λ s. let minutes = each_day-depth days 480 in omega (arith, minutes))
-
-theatres-depth : (days n : ℕ) → depth (numbered (theatre_data days) n) ≤ 3
-theatres-depth days n = numbered-depth (theatre_data days) n (λ t. let minutes = each_day-depth days 600 in omega (arith, minutes))
-
 -- ---- the file
 
 row-depth : (m : ℕ) (thing : ℕ → List ℕ → Data) (words : ℕ → List ℕ → ℕ) (n : ℕ) (s : List ℕ) → ((i : ℕ) (t : List ℕ) → depth (thing i t) ≤ m)
@@ -75,14 +69,10 @@ row-depth m thing words n s h = nested m (λ i. thing i (begins words i s)) (ran
 pub generated-depth : (number : ℕ) → depth (generated_data number) ≤ 5
 unfolding generated_data
 generated-depth number =
-    let s = stream_of number in
-    let after_rooms = begins room_words 25 s in
-    let after_nurses = begins (nurse_words 28) 50 after_rooms in
-    let after_occupants = begins occupant_words 3 after_nurses in
-    let rooms = row-depth 1 room_data room_words 25 s (λ r t. omega arith) in
-    let nurses = row-depth 3 (nurse_data 28) (nurse_words 28) 50 after_rooms (nurse-depth 28) in
-    let occupants = row-depth 2 occupant_data occupant_words 3 after_nurses occupant-depth in
-    let patients = row-depth 2 (patient_data 28) patient_words 400 after_occupants (patient-depth 28) in
-    let surgeons = surgeons-depth 28 10 in
-    let theatres = theatres-depth 28 5 in
+    let rooms = row-depth 1 room_data room_words 25 (stream_of number) (λ r t. omega arith) in
+    let nurses = row-depth 3 (nurse_data 28) (nurse_words 28) 50 (nurse_stream number) (nurse-depth 28) in
+    let occupants = row-depth 2 occupant_data occupant_words 3 (occupant_stream number) occupant-depth in
+    let patients = row-depth 2 (patient_data 28) patient_words 400 (patient_stream number) (patient-depth 28) in
+    let surgeons = numbered-depth (surgeon_data 28) 10 (λ s. let minutes = each_day-depth 28 480 in omega (arith, minutes)) in
+    let theatres = numbered-depth (theatre_data 28) 5 (λ t. let minutes = each_day-depth 28 600 in omega (arith, minutes)) in
     omega (arith, rooms, nurses, occupants, patients, surgeons, theatres)

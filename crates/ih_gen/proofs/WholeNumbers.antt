@@ -12,7 +12,7 @@ use Rattle.ih_solution.proofs.WholeNumbers.{no_floats}
 use Rattle.ih_gen.specs.declared.patients.PatientPicks.{PatientPicks}
 use Rattle.ih_gen.specs.declared.persons.PersonPicks.{PersonPicks}
 use Rattle.ih_gen.specs.Words.{stream_of, pick, begins, in_a_row}
-use Rattle.ih_gen.specs.Generated.{works, worked_data, room_data, room_words, nurse_data, nurse_words, person_picks, occupant_members, occupant_data, occupant_words, skills, workloads, patient_picks, patient_members, patient_data, patient_words, due_day, each_day, surgeon_data, theatre_data, numbered, generated_data}
+use Rattle.ih_gen.specs.Generated.{works, worked_data, room_data, room_words, nurse_data, nurse_words, person_picks, occupant_members, occupant_data, occupant_words, skills, workloads, patient_picks, patient_members, patient_data, patient_words, due_day, each_day, surgeon_data, theatre_data, numbered, generated_data, nurse_stream, occupant_stream, patient_stream}
 
 -- ---- persons
 
@@ -55,12 +55,6 @@ numbered-float : (thing : ℕ → Data) (n : ℕ) → ((i : ℕ) → has_float (
 unfolding numbered
 numbered-float thing n h = no_floats thing (range_with_len 0 n) h
 
-surgeons-float : (days n : ℕ) → has_float (numbered (surgeon_data days) n) ≡ false
-surgeons-float days n = numbered-float (surgeon_data days) n (λ s. rw (each_day-float days 480) refl)
-
-theatres-float : (days n : ℕ) → has_float (numbered (theatre_data days) n) ≡ false
-theatres-float days n = numbered-float (theatre_data days) n (λ t. rw (each_day-float days 600) refl)
-
 -- ---- the file
 
 row-float : (thing : ℕ → List ℕ → Data) (words : ℕ → List ℕ → ℕ) (n : ℕ) (s : List ℕ) → ((i : ℕ) (t : List ℕ) → has_float (thing i t) ≡ false)
@@ -71,17 +65,13 @@ row-float thing words n s h = no_floats (λ i. thing i (begins words i s)) (rang
 pub generated-float : (number : ℕ) → has_float (generated_data number) ≡ false
 unfolding generated_data
 generated-float number =
-    let rooms = stream_of number in
-    let nurses = begins room_words 25 rooms in
-    let occupants = begins (nurse_words 28) 50 nurses in
-    let patients = begins occupant_words 3 occupants in
     rw (
-      row-float (nurse_data 28) (nurse_words 28) 50 nurses (nurse-float 28),
-      row-float occupant_data occupant_words 3 occupants occupant-float,
-      theatres-float 28 5,
-      row-float (patient_data 28) patient_words 400 patients (patient-float 28),
-      row-float room_data room_words 25 rooms (λ r s. refl),
-      surgeons-float 28 10,
+      row-float (nurse_data 28) (nurse_words 28) 50 (nurse_stream number) (nurse-float 28),
+      row-float occupant_data occupant_words 3 (occupant_stream number) occupant-float,
+      numbered-float (theatre_data 28) 5 (λ t. rw (each_day-float 28 600) refl),
+      row-float (patient_data 28) patient_words 400 (patient_stream number) (patient-float 28),
+      row-float room_data room_words 25 (stream_of number) (λ r s. refl),
+      numbered-float (surgeon_data 28) 10 (λ s. rw (each_day-float 28 480) refl),
     ) refl
 
 pub ruleset whole_numbers = generated-float

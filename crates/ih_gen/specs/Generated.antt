@@ -187,21 +187,25 @@ weights_data = object
     (member (codes "surgeon_transfer") (number_data 10)
     (member (codes "unscheduled_optional") (number_data 300) no_members))))))))
 
--- The picks are made in this order: rooms, nurses, occupants, patients.
+-- The picks are made in this order: rooms, nurses, occupants, patients; from these words the last three are made.
+abbrev pub nurse_stream : ℕ → List ℕ
+nurse_stream number = begins room_words 25 (stream_of number)
+
+abbrev pub occupant_stream : ℕ → List ℕ
+occupant_stream number = begins (nurse_words 28) 50 (nurse_stream number)
+
+abbrev pub patient_stream : ℕ → List ℕ
+patient_stream number = begins occupant_words 3 (occupant_stream number)
+
 unfoldable pub generated_data : ℕ → Data
-generated_data number =
-    let rooms = stream_of number in
-    let nurses = begins room_words 25 rooms in
-    let occupants = begins (nurse_words 28) 50 nurses in
-    let patients = begins occupant_words 3 occupants in
-    object
+generated_data number = object
     (member (codes "age_groups") age_groups_data
     (member (codes "days") (number_data 28)
-    (member (codes "nurses") (list_data (in_a_row (nurse_data 28) (nurse_words 28) 50 nurses))
-    (member (codes "occupants") (list_data (in_a_row occupant_data occupant_words 3 occupants))
+    (member (codes "nurses") (list_data (in_a_row (nurse_data 28) (nurse_words 28) 50 (nurse_stream number)))
+    (member (codes "occupants") (list_data (in_a_row occupant_data occupant_words 3 (occupant_stream number)))
     (member (codes "operating_theaters") (numbered (theatre_data 28) 5)
-    (member (codes "patients") (list_data (in_a_row (patient_data 28) patient_words 400 patients))
-    (member (codes "rooms") (list_data (in_a_row room_data room_words 25 rooms))
+    (member (codes "patients") (list_data (in_a_row (patient_data 28) patient_words 400 (patient_stream number)))
+    (member (codes "rooms") (list_data (in_a_row room_data room_words 25 (stream_of number)))
     (member (codes "shift_types") shift_types_data
     (member (codes "skill_levels") (number_data 3)
     (member (codes "surgeons") (numbered (surgeon_data 28) 10)

@@ -3,7 +3,7 @@ use Rattle.std.specs.Prelude.{ℕ, List, codes}
 use Rattle.serde_json.specs.Data.{Data, string, object, Members, no_members, member, put}
 use Rattle.ih_solution.specs.Solution.{number_data, list_data}
 use Rattle.ih_gen.specs.declared.persons.PersonPicks.{PersonPicks}
-use Rattle.ih_gen.specs.Generated.{id_data, age_name, gender_name, age_groups_data, shift_types_data, theatre_data, surgeon_data, numbered, weights_data}
+use Rattle.ih_gen.specs.Generated.{id_data, each_day, age_name, gender_name, age_groups_data, shift_types_data, theatre_data, surgeon_data, numbered, weights_data}
 
 -- the object with one member more, or in place of the one of that key; any other value as it is
 abbrev pub with_member : List ℕ → Data → Data → Data
@@ -19,6 +19,14 @@ person_members letter n a skills workloads =
     (member (codes "length_of_stay") (number_data a.length_of_stay)
     (member (codes "skill_level_required") (list_data skills)
     (member (codes "workload_produced") (list_data workloads) no_members)))))
+
+-- a thing with an id alone
+abbrev pub named_data : List ℕ → ℕ → Data
+named_data letter n = object (member (codes "id") (id_data letter n) no_members)
+
+-- the same with minutes under a key, as many on each day
+abbrev pub minutes_data : List ℕ → List ℕ → ℕ → ℕ → ℕ → Data
+minutes_data letter key minutes days n = with_member key (each_day days minutes) (named_data letter n)
 
 -- the days and the skill levels
 abbrev pub sizes_data : ℕ → Data

@@ -2,8 +2,8 @@
 
 ghost use Rattle.std.specs.Prelude.{◌≡◌, IfOk};
 ghost use Rattle.serde_json.specs.View.{view};
-ghost use Rattle.ih_gen.specs.Generated.{each_day, surgeon_data, theatre_data, numbered, age_groups_data, shift_types_data, weights_data};
-ghost use Rattle.ih_gen.specs.Members.{fixed_data, sizes_data};
+ghost use Rattle.ih_gen.specs.Generated.{each_day, numbered, age_groups_data, shift_types_data, weights_data};
+ghost use Rattle.ih_gen.specs.Members.{fixed_data, minutes_data, named_data, sizes_data};
 
 use crate::members::with_member;
 use crate::names::{age_name, id_value, shift_name};
@@ -22,42 +22,31 @@ fn each_day(alloc: Global, days: u32, minutes: u32) -> Result<Value, AllocError>
     Ok(Value::Array(values))
 }
 
-fn surgeon_value(alloc: Global, days: u32, s: u32) -> Result<Value, AllocError>
-    ensures { IfOk result (λ v. view v ≡ surgeon_data days s) }
+// A thing with an id alone.
+fn named_value(alloc: Global, letter: &str, n: u32) -> Result<Value, AllocError>
+    ensures { IfOk result (λ v. view v ≡ named_data letter.now n) }
 {
-    let id = id_value(alloc, "s", s)?;
-    let minutes = each_day(alloc, days, 480)?;
-    json!(in alloc; {"id": id, "max_surgery_time": minutes})
+    let id = id_value(alloc, letter, n)?;
+    json!(in alloc; {"id": id})
 }
 
-// The first `count` surgeons.
+// The first `count` things of a letter, each with the same minutes on each day under a key.
 #[tactic(auto, using(crate::proofs::RowLemmas::listed_steps), unfolding(crate::specs::Generated::numbered))]
-fn surgeons(alloc: Global, days: u32, count: u32) -> Result<Value, AllocError>
-    ensures { IfOk result (λ v. view v ≡ numbered (surgeon_data days) count) }
+fn with_minutes(
+    alloc: Global,
+    letter: &str,
+    key: &str,
+    minutes: u32,
+    days: u32,
+    count: u32,
+) -> Result<Value, AllocError>
+    ensures { IfOk result (λ v. view v ≡ numbered (minutes_data letter.now key.now minutes days) count) }
 {
     let mut values = Vec::new(alloc);
-    for s in 0..count {
-        values.push(surgeon_value(alloc, days, s)?)?;
-    }
-    Ok(Value::Array(values))
-}
-
-fn theatre_value(alloc: Global, days: u32, t: u32) -> Result<Value, AllocError>
-    ensures { IfOk result (λ v. view v ≡ theatre_data days t) }
-{
-    let id = id_value(alloc, "t", t)?;
-    let minutes = each_day(alloc, days, 600)?;
-    json!(in alloc; {"availability": minutes, "id": id})
-}
-
-// The first `count` operating theatres.
-#[tactic(auto, using(crate::proofs::RowLemmas::listed_steps), unfolding(crate::specs::Generated::numbered))]
-fn theatres(alloc: Global, days: u32, count: u32) -> Result<Value, AllocError>
-    ensures { IfOk result (λ v. view v ≡ numbered (theatre_data days) count) }
-{
-    let mut values = Vec::new(alloc);
-    for t in 0..count {
-        values.push(theatre_value(alloc, days, t)?)?;
+    for n in 0..count {
+        let thing = named_value(alloc, letter, n)?;
+        let each_day = each_day(alloc, days, minutes)?;
+        values.push(with_member(alloc, thing, key, each_day)?)?;
     }
     Ok(Value::Array(values))
 }
@@ -107,11 +96,11 @@ pub fn fixed_value(alloc: Global, days: u32) -> Result<Value, AllocError>
     let sized = sizes(alloc, days)?;
     let groups = age_groups(alloc)?;
     let grouped = with_member(alloc, sized, "age_groups", groups)?;
-    let theatres = theatres(alloc, days, 5)?;
+    let theatres = with_minutes(alloc, "t", "availability", 600, days, 5)?;
     let equipped = with_member(alloc, grouped, "operating_theaters", theatres)?;
     let types = shift_types(alloc)?;
     let timed = with_member(alloc, equipped, "shift_types", types)?;
-    let surgeons = surgeons(alloc, days, 10)?;
+    let surgeons = with_minutes(alloc, "s", "max_surgery_time", 480, days, 10)?;
     let staffed = with_member(alloc, timed, "surgeons", surgeons)?;
     let weights = weights(alloc)?;
     with_member(alloc, staffed, "weights", weights)

@@ -5,25 +5,21 @@ use Rattle.serde_json.specs.Data.{Data}
 use Rattle.ih_solution.specs.Solution.{list_data}
 use Rattle.ih_gen.specs.Words.{stream_of, begins, in_a_row}
 use Rattle.ih_gen.specs.Members.{fixed_data}
-use Rattle.ih_gen.specs.Generated.{room_data, room_words, nurse_data, nurse_words, occupant_data, occupant_words, patient_data, patient_words}
+use Rattle.ih_gen.specs.Generated.{room_data, room_words, nurse_data, nurse_words, occupant_data, occupant_words, patient_data, patient_words, nurse_stream, occupant_stream, patient_stream}
 use Rattle.ih_gen.proofs.Assembly.{put-known, list-known, whole}
 use Rattle.ih_gen.proofs.instances.generated_value.Goals as goal
 
 pub returns : goal.returns
 returns c =
     let number = c.args.number in
-    let s : List ℕ = stream_of number in
-    let after_rooms : List ℕ = begins room_words 25 s in
-    let after_nurses : List ℕ = begins (nurse_words 28) 50 after_rooms in
-    let after_occupants : List ℕ = begins occupant_words 3 after_nurses in
-    let start : c.of-picks.result ≡ s = c.of-picks.ensures in
-    let first : c.rows.new.picks ≡ after_rooms = c.in_ok-rooms.ensures.rest ∙ ap (begins room_words 25) start in
-    let second : c.rows-2.new.picks ≡ after_nurses = c.in_ok-nurses.ensures.rest ∙ ap (begins (nurse_words 28) 50) first in
-    let third : c.rows-3.new.picks ≡ after_occupants = c.in_ok-occupants.ensures.rest ∙ ap (begins occupant_words 3) second in
-    let rooms : List Data = in_a_row room_data room_words 25 s in
-    let nurses : List Data = in_a_row (nurse_data 28) (nurse_words 28) 50 after_rooms in
-    let occupants : List Data = in_a_row occupant_data occupant_words 3 after_nurses in
-    let patients : List Data = in_a_row (patient_data 28) patient_words 400 after_occupants in
+    let start : c.of-picks.result ≡ stream_of number = c.of-picks.ensures in
+    let first : c.rows.new.picks ≡ nurse_stream number = c.in_ok-rooms.ensures.rest ∙ ap (begins room_words 25) start in
+    let second : c.rows-2.new.picks ≡ occupant_stream number = c.in_ok-nurses.ensures.rest ∙ ap (begins (nurse_words 28) 50) first in
+    let third : c.rows-3.new.picks ≡ patient_stream number = c.in_ok-occupants.ensures.rest ∙ ap (begins occupant_words 3) second in
+    let rooms : List Data = in_a_row room_data room_words 25 (stream_of number) in
+    let nurses : List Data = in_a_row (nurse_data 28) (nurse_words 28) 50 (nurse_stream number) in
+    let occupants : List Data = in_a_row occupant_data occupant_words 3 (occupant_stream number) in
+    let patients : List Data = in_a_row (patient_data 28) patient_words 400 (patient_stream number) in
     let housed = put-known (codes "rooms") _ _ _ (list_data rooms) (fixed_data 28) c.in_ok-housed.ensures
     (list-known c.in_ok-rooms.rooms rooms (c.in_ok-rooms.ensures.values ∙ ap (in_a_row room_data room_words 25) start)) c.in_ok-fixed.ensures in
     let staffed = put-known (codes "nurses") _ _ _ (list_data nurses) _ c.in_ok-staffed.ensures

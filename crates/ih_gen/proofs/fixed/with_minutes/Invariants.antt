@@ -1,0 +1,8 @@
+use Rattle.std.proofs.Common.{◌≡◌, map}
+use Rattle.serde_json.specs.View.{view}
+use Rattle.ih_plan.specs.Sums.{listed}
+use Rattle.ih_gen.specs.Members.{minutes_data}
+use Rattle.ih_gen.proofs.fixed.with_minutes.Given as goal
+
+abbrev pub invariant-loop-n : goal.invariant-loop-n
+invariant-loop-n l = map view l.values.items ≡ listed l.n (minutes_data l.letter l.key l.minutes l.days)
