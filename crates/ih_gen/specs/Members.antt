@@ -1,9 +1,16 @@
 -- Objects that are made member by member.
-use Rattle.std.specs.Prelude.{ℕ, List, codes}
+use Rattle.std.specs.Prelude.{◌≡◌, ℕ, List, Result, IfOk, codes}
+use Rattle.std.specs.declared.alloc.AllocError.{AllocError}
 use Rattle.serde_json.specs.Data.{Data, string, object, Members, no_members, member, put}
+use Rattle.serde_json.specs.View.{view}
+use Rattle.serde_json.specs.declared.value.Value.{Value}
 use Rattle.ih_solution.specs.Solution.{number_data, list_data}
 use Rattle.ih_gen.specs.declared.persons.PersonPicks.{PersonPicks}
 use Rattle.ih_gen.specs.Generated.{id_data, each_day, age_name, gender_name, age_groups_data, shift_types_data, theatre_data, surgeon_data, numbered, weights_data}
+
+-- the value that was made, where there was memory for it, is this
+abbrev pub IsMade : Data → Result Value AllocError → Type 0
+IsMade d made = IfOk made (λ v. view v ≡ d)
 
 -- the object with one member more, or in place of the one of that key; any other value as it is
 abbrev pub with_member : List ℕ → Data → Data → Data

@@ -1,9 +1,7 @@
 //! What is alike in all generated instances.
 
-ghost use Rattle.std.specs.Prelude.{◌≡◌, IfOk};
-ghost use Rattle.serde_json.specs.View.{view};
 ghost use Rattle.ih_gen.specs.Generated.{each_day, numbered, age_groups_data, shift_types_data, weights_data};
-ghost use Rattle.ih_gen.specs.Members.{fixed_data, minutes_data, named_data, sizes_data};
+ghost use Rattle.ih_gen.specs.Members.{IsMade, fixed_data, minutes_data, named_data, sizes_data};
 
 use crate::members::with_member;
 use crate::names::{age_name, id_value, shift_name};
@@ -13,7 +11,7 @@ use std::alloc::{AllocError, Global};
 // The same minutes on each day.
 #[tactic(auto, using(crate::proofs::RowLemmas::listed_steps), unfolding(crate::specs::Generated::each_day))]
 fn each_day(alloc: Global, days: u32, minutes: u32) -> Result<Value, AllocError>
-    ensures { IfOk result (λ v. view v ≡ each_day days minutes) }
+    ensures { IsMade (each_day days minutes) result }
 {
     let mut values = Vec::new(alloc);
     for _day in 0..days {
@@ -24,7 +22,7 @@ fn each_day(alloc: Global, days: u32, minutes: u32) -> Result<Value, AllocError>
 
 // A thing with an id alone.
 fn named_value(alloc: Global, letter: &str, n: u32) -> Result<Value, AllocError>
-    ensures { IfOk result (λ v. view v ≡ named_data letter.now n) }
+    ensures { IsMade (named_data letter.now n) result }
 {
     let id = id_value(alloc, letter, n)?;
     json!(in alloc; {"id": id})
@@ -40,7 +38,7 @@ fn with_minutes(
     days: u32,
     count: u32,
 ) -> Result<Value, AllocError>
-    ensures { IfOk result (λ v. view v ≡ numbered (minutes_data letter.now key.now minutes days) count) }
+    ensures { IsMade (numbered (minutes_data letter.now key.now minutes days) count) result }
 {
     let mut values = Vec::new(alloc);
     for n in 0..count {
@@ -53,21 +51,21 @@ fn with_minutes(
 
 // The names of the age groups.
 fn age_groups(alloc: Global) -> Result<Value, AllocError>
-    ensures { IfOk result (λ v. view v ≡ age_groups_data) }
+    ensures { IsMade age_groups_data result }
 {
     json!(in alloc; [age_name(0), age_name(1), age_name(2), age_name(3)])
 }
 
 // The names of the shift types.
 fn shift_types(alloc: Global) -> Result<Value, AllocError>
-    ensures { IfOk result (λ v. view v ≡ shift_types_data) }
+    ensures { IsMade shift_types_data result }
 {
     json!(in alloc; [shift_name(0), shift_name(1), shift_name(2)])
 }
 
 // The weights of the costs.
 fn weights(alloc: Global) -> Result<Value, AllocError>
-    ensures { IfOk result (λ v. view v ≡ weights_data) }
+    ensures { IsMade weights_data result }
 {
     json!(in alloc; {
         "continuity_of_care": 5u32,
@@ -83,14 +81,14 @@ fn weights(alloc: Global) -> Result<Value, AllocError>
 
 // The number of days and of skill levels.
 fn sizes(alloc: Global, days: u32) -> Result<Value, AllocError>
-    ensures { IfOk result (λ v. view v ≡ sizes_data days) }
+    ensures { IsMade (sizes_data days) result }
 {
     json!(in alloc; {"days": days, "skill_levels": 3u32})
 }
 
 /// Days, names, operating theatres, surgeons and weights.
 pub fn fixed_value(alloc: Global, days: u32) -> Result<Value, AllocError>
-    ensures { IfOk result (λ v. view v ≡ fixed_data days) }
+    ensures { IsMade (fixed_data days) result }
 {
     // One part at a time, so that few values are held at once.
     let sized = sizes(alloc, days)?;

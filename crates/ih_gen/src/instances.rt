@@ -1,10 +1,10 @@
 //! The text of a generated instance.
 
 ghost use Rattle.std.specs.Prelude.{◌≡◌, IfOk, Ok};
-ghost use Rattle.serde_json.specs.View.{view};
 ghost use Rattle.ih_tables.specs.declared.drafts.Draft.{Draft};
 ghost use Rattle.ih_instance.specs.Instance.{instance};
 ghost use Rattle.ih_gen.specs.Generated.{generated_data, generated};
+ghost use Rattle.ih_gen.specs.Members.{IsMade};
 
 use crate::fixed::fixed_value;
 use crate::members::with_member;
@@ -21,7 +21,7 @@ const DAYS: u32 = 28;
 
 // The whole instance as a JSON value.
 fn generated_value(alloc: Global, number: u64) -> Result<Value, AllocError>
-    ensures { IfOk result (λ v. view v ≡ generated_data number) }
+    ensures { IsMade (generated_data number) result }
 {
     let mut picks = Picks::of(number);
     let fixed = fixed_value(alloc, DAYS)?;

@@ -1,8 +1,7 @@
 //! Objects that are made member by member.
 
-ghost use Rattle.std.specs.Prelude.{◌≡◌, IfOk};
 ghost use Rattle.serde_json.specs.View.{view};
-ghost use Rattle.ih_gen.specs.Members.{with_member};
+ghost use Rattle.ih_gen.specs.Members.{IsMade, with_member};
 
 use serde_json::{Value, put};
 use std::alloc::{AllocError, Global};
@@ -14,7 +13,7 @@ pub fn with_member(
     key: &str,
     member: Value,
 ) -> Result<Value, AllocError>
-    ensures { IfOk result (λ v. view v ≡ with_member key.now (view member) (view value)) }
+    ensures { IsMade (with_member key.now (view member) (view value)) result }
 {
     match value {
         Value::Object(mut members) => {

@@ -1,8 +1,8 @@
 //! Names and ids.
 
-ghost use Rattle.std.specs.Prelude.{◌≡◌, IfOk};
-ghost use Rattle.serde_json.specs.View.{view};
+ghost use Rattle.std.specs.Prelude.{◌≡◌};
 ghost use Rattle.ih_gen.specs.Generated.{age_name, gender_name, shift_name, id_data};
+ghost use Rattle.ih_gen.specs.Members.{IsMade};
 
 use itoa::Buffer;
 use serde_json::Value;
@@ -43,7 +43,7 @@ pub fn shift_name(number: u32) -> &'static str
 
 /// An id: a letter and a number.
 pub fn id_value(alloc: Global, letter: &str, number: u32) -> Result<Value, AllocError>
-    ensures { IfOk result (λ v. view v ≡ id_data letter.now number) }
+    ensures { IsMade (id_data letter.now number) result }
 {
     let mut buffer = Buffer::new();
     let digits = buffer.format(number);

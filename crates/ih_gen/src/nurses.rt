@@ -1,11 +1,12 @@
 //! The nurses and their worked shifts.
 
-ghost use Rattle.std.specs.Prelude.{◌≡◌, ◌==◌, IfOk, OnOk, map};
+ghost use Rattle.std.specs.Prelude.{◌≡◌, IfOk, OnOk, map};
 ghost use Rattle.serde_json.specs.View.{view};
 ghost use Rattle.ih_plan.specs.Draws.{state_after};
 ghost use Rattle.ih_plan.specs.Sums.{which_below, count_below};
 ghost use Rattle.ih_gen.specs.Words.{pick};
 ghost use Rattle.ih_gen.specs.Generated.{turn_of, works, shift_data, worked_data, nurse_data, nurse_words};
+ghost use Rattle.ih_gen.specs.Members.{IsMade};
 
 use crate::names::{id_value, shift_name};
 use crate::picks::Picks;
@@ -15,7 +16,7 @@ use std::alloc::{AllocError, Global};
 
 // A shift of a type on a day, with the maximum load.
 fn shift_value(alloc: Global, day: u32, turn: u32, load: u32) -> Result<Value, AllocError>
-    ensures { IfOk result (λ v. view v ≡ shift_data day turn load) }
+    ensures { IsMade (shift_data day turn load) result }
 {
     let shift = shift_name(turn);
     json!(in alloc; {"day": day, "max_load": load, "shift": shift})

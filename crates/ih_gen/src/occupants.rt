@@ -1,10 +1,11 @@
 //! The occupants.
 
-ghost use Rattle.std.specs.Prelude.{◌≡◌, IfOk, OnOk, map};
+ghost use Rattle.std.specs.Prelude.{map};
 ghost use Rattle.serde_json.specs.Data.{object};
 ghost use Rattle.serde_json.specs.View.{view};
 ghost use Rattle.ih_plan.specs.Draws.{state_after};
 ghost use Rattle.ih_gen.specs.Generated.{occupant_members, occupant_data, occupant_words};
+ghost use Rattle.ih_gen.specs.Members.{IsMade};
 
 use crate::members::with_member;
 use crate::names::id_value;
@@ -21,9 +22,8 @@ fn picked_value(
     picked: &PersonPicks,
     needs: Needs,
 ) -> Result<Value, AllocError>
-    ensures { IfOk result
-        (λ v. view v ≡ object
-        (occupant_members number picked.now (map view needs.skills.items) (map view needs.workloads.items))) }
+    ensures { IsMade (object
+        (occupant_members number picked.now (map view needs.skills.items) (map view needs.workloads.items))) result }
 {
     let person = person_value(alloc, "a", number, picked, needs)?;
     let room = id_value(alloc, "r", number)?;

@@ -1,10 +1,11 @@
 //! The patients.
 
-ghost use Rattle.std.specs.Prelude.{◌≡◌, ◌<◌, ◌≤◌, None, IfOk, OnOk, map};
+ghost use Rattle.std.specs.Prelude.{◌≡◌, ◌<◌, ◌≤◌, None, map};
 ghost use Rattle.serde_json.specs.Data.{object};
 ghost use Rattle.serde_json.specs.View.{view};
 ghost use Rattle.ih_plan.specs.Draws.{state_after};
 ghost use Rattle.ih_gen.specs.Generated.{patient_picks, patient_members, patient_data, patient_words};
+ghost use Rattle.ih_gen.specs.Members.{IsMade};
 
 use crate::members::with_member;
 use crate::names::id_value;
@@ -49,9 +50,8 @@ fn picked_value(
     picked: &PatientPicks,
     needs: Needs,
 ) -> Result<Value, AllocError>
-    ensures { IfOk result
-        (λ v. view v ≡ object
-        (patient_members p picked.now None (map view needs.skills.items) (map view needs.workloads.items))) }
+    ensures { IsMade (object
+        (patient_members p picked.now None (map view needs.skills.items) (map view needs.workloads.items))) result }
 {
     let person = person_value(alloc, "p", p, &picked.person, needs)?;
     let room = id_value(alloc, "r", picked.incompatible_room)?;

@@ -5,7 +5,7 @@ ghost use Rattle.serde_json.specs.Data.{object};
 ghost use Rattle.serde_json.specs.View.{view};
 ghost use Rattle.ih_plan.specs.Draws.{state_after};
 ghost use Rattle.ih_gen.specs.Generated.{person_picks, workloads, skills};
-ghost use Rattle.ih_gen.specs.Members.{person_members};
+ghost use Rattle.ih_gen.specs.Members.{IsMade, person_members};
 
 use crate::names::{age_name, gender_name, id_value};
 use crate::picks::Picks;
@@ -67,9 +67,9 @@ pub fn person_value(
     picked: &PersonPicks,
     needs: Needs,
 ) -> Result<Value, AllocError>
-    ensures { IfOk result
-        (λ v. view v ≡ object
-        (person_members letter.now number picked.now (map view needs.skills.items) (map view needs.workloads.items))) }
+    ensures { IsMade
+        (object (person_members letter.now number picked.now
+        (map view needs.skills.items) (map view needs.workloads.items))) result }
 {
     let id = id_value(alloc, letter, number)?;
     json!(in alloc; {

@@ -5,6 +5,7 @@ ghost use Rattle.serde_json.specs.Data.{Data};
 ghost use Rattle.serde_json.specs.View.{view};
 ghost use Rattle.ih_plan.specs.Draws.{state_after};
 ghost use Rattle.ih_gen.specs.Words.{begins, in_a_row};
+ghost use Rattle.ih_gen.specs.Members.{IsMade};
 
 use crate::picks::Picks;
 use serde_json::Value;
@@ -19,7 +20,7 @@ pub trait Makes {
     ghost words: { Self → ℕ → List ℕ → ℕ };
 
     fn make(&self, alloc: Global, picks: &mut Picks, n: u32) -> Result<Value, AllocError>
-        ensures value { IfOk result (λ v. view v ≡ thing self.now n picks.old) }
+        ensures value { IsMade (thing self.now n picks.old) result }
         ensures rest { OnOk result (picks.new ≡ state_after (words self.now n picks.old) picks.old) };
 }
 
