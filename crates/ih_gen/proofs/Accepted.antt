@@ -22,7 +22,7 @@ use Rattle.ih_tables.specs.Places.{at_key, whole}
 use Rattle.ih_plan.specs.Sums.{listed}
 use Rattle.ih_format.specs.Checks.{each_after}
 use Rattle.ih_format.specs.Documents.{value_of}
-use Rattle.ih_instance.specs.Instance.{room, surgeon, theatre, nurse, occupant, patient, names_of_rooms, names_of_surgeons, rooms, surgeons, theatres, nurses, occupants, patients, names, weights, draft, instance}
+use Rattle.ih_instance.specs.Instance.{room, surgeon, theatre, nurse, occupant, patient, names_of_rooms, names_of_surgeons, rooms, surgeons, theatres, nurses, occupants, patients, names, weights, draft, instance, draft_with}
 use Rattle.ih_solution.specs.Solution.{number_data, list_data}
 use Rattle.ih_gen.specs.Words.{stream_of, pick, begins, in_a_row}
 use Rattle.ih_gen.specs.Generated.{room_data, room_words, surgeon_data, theatre_data, numbered, nurse_data, nurse_words, occupant_data, occupant_words, surgeon_of, patient_data, patient_words, age_groups_data, shift_types_data, weights_data, generated_data, nurse_stream, occupant_stream, patient_stream}
@@ -109,19 +109,7 @@ usual_weights = record { w = pos 5 ∷ pos 10 ∷ pos 5 ∷ pos 1 ∷ pos 30 ∷
 
 -- what is read of it, where this is read of the lists
 abbrev draft_of : List Surgeon → List Theatre → List Room → List Nurse → List Occupant → List Patient → Draft
-draft_of ss ts rs ns os ps = record {
-  days = 28;
-  skill_levels = 3;
-  shift_types = types;
-  age_groups = ages;
-  weights = usual_weights;
-  surgeons = ss;
-  operating_theaters = ts;
-  rooms = rs;
-  nurses = ns;
-  occupants = os;
-  patients = ps;
-}
+draft_of ss ts rs ns os ps = draft_with 28 3 types ages usual_weights ss ts rs ns os ps
 
 -- what is read of the instance that a number generates
 unfoldable pub generated_draft : ℕ → Draft

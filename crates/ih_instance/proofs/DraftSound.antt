@@ -20,7 +20,7 @@ use Rattle.ih_tables.specs.Lookups.{number_in}
 use Rattle.ih_tables.specs.Places.{at_key, whole}
 use Rattle.ih_tables.specs.Valid.{IsListed, IsVector, IsNurse, IsOccupant, IsPatient, IsValid}
 use Rattle.ih_format.specs.Checks.{Check, or_else, number, object, new_name, under, named}
-use Rattle.ih_instance.specs.Instance.{Numbers, room, surgeon, theatre, nurse, occupant, patient, one_spelling, weight, weights, names, surgeons, theatres, rooms, nurses, occupants, patients, names_of_rooms, names_of_surgeons, draft, instance}
+use Rattle.ih_instance.specs.Instance.{Numbers, room, surgeon, theatre, nurse, occupant, patient, one_spelling, weight, weights, names, surgeons, theatres, rooms, nurses, occupants, patients, names_of_rooms, names_of_surgeons, draft, draft_with, instance}
 use Rattle.ih_format.specs.Documents.{value_of}
 use Rattle.ih_instance.proofs.Sound.{ok_is, bind_with, key_ok, new_name_sound, named_sound, Rows}
 use Rattle.ih_instance.proofs.RowLimits.{key_number, room_sound, surgeon_sound, theatre_sound, nurse_sound, occupant_sound, patient_sound}
@@ -86,7 +86,7 @@ draft_sound p d x h =
     bind_with (under p d keys.Nurses (nurses days types)) _ x h8 (λ ns r9 h9.
     bind_with (under p d keys.Occupants (occupants days groups rs)) _ x h9 (λ os r10 h10.
     bind_with (under p d keys.Patients (patients days groups ss rs)) _ x h10 (λ ps r11 h11.
-    let made : Draft = record { days = days; skill_levels = levels; shift_types = types; age_groups = groups; weights = ws; surgeons = ss; operating_theaters = ts; rooms = rs; nurses = ns; occupants = os; patients = ps } in
+    let made = draft_with days levels types groups ws ss ts rs ns os ps in
     let horizon = key_number 1 56 p d keys.Days days r1 in
     let three = listed 3 3 (λ (s : List ℕ). s) (λ _. Unit {0}) new_name p d keys.ShiftTypes types words r3 in
     let w = key_ok p d keys.Weights weights ws r5 in

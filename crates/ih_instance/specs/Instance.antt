@@ -182,6 +182,23 @@ patients days groups ss rs = named 0 2048 (λ (p : Patient). p.id) (patient days
 
 -- ---- the whole
 
+-- the data of these parts
+abbrev pub draft_with : ℕ → ℕ → List (List ℕ) → List (List ℕ) → Weights → List Surgeon → List Theatre → List Room → List Nurse → List Occupant
+    → List Patient → Draft
+draft_with days levels types groups ws ss ts rs ns os ps = record {
+  days = days;
+  skill_levels = levels;
+  shift_types = types;
+  age_groups = groups;
+  weights = ws;
+  surgeons = ss;
+  operating_theaters = ts;
+  rooms = rs;
+  nurses = ns;
+  occupants = os;
+  patients = ps;
+}
+
 unfoldable pub draft : Check Draft
 draft p d = do
   o ← object p d
@@ -196,19 +213,7 @@ draft p d = do
   ns ← under p d keys.Nurses (nurses days types)
   os ← under p d keys.Occupants (occupants days groups rs)
   ps ← under p d keys.Patients (patients days groups ss rs)
-  Ok (record {
-    days = days;
-    skill_levels = levels;
-    shift_types = types;
-    age_groups = groups;
-    weights = ws;
-    surgeons = ss;
-    operating_theaters = ts;
-    rooms = rs;
-    nurses = ns;
-    occupants = os;
-    patients = ps;
-  })
+  Ok (draft_with days levels types groups ws ss ts rs ns os ps)
 
 -- the data of an instance file, or its first refusal
 abbrev pub instance : List ℕ → Checked Draft
