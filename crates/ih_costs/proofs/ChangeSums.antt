@@ -14,12 +14,7 @@ at-counts (x ∷ xs) (suc k) = at-counts xs k
 
 apart : (x y : ℤ) → (neg_ℤ (pos (10 ^ 11)) ≤ℤ x) × (x ≤ℤ pos (10 ^ 11)) → (neg_ℤ (pos (10 ^ 11)) ≤ℤ y) × (y ≤ℤ pos (10 ^ 11))
     → (neg_ℤ (pos (10 ^ 12)) ≤ℤ (x -ℤ y)) × ((x -ℤ y) ≤ℤ pos (10 ^ 12))
-apart x y hx hy =
-    let a = hx.0 in
-    let b = hx.1 in
-    let c = hy.0 in
-    let d = hy.1 in
-    (omega (arith, ints), omega (arith, ints))
+apart x y hx hy = (omega (arith, ints, hx.0, hy.1), omega (arith, ints, hx.1, hy.0))
 
 pub less-within : (a b : Bill) → IsWithin (10 ^ 11) a → IsWithin (10 ^ 11) b → IsWithin (10 ^ 12) (sub_bills a b)
 less-within a b ha hb = record {

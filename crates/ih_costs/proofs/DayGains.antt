@@ -19,7 +19,7 @@ use Rattle.ih_nurses.specs.Choice.{excess_of}
 use Rattle.ih_nurses.specs.Gains.{excess_in, rise_by_placement}
 use Rattle.ih_tables.specs.BillNumbers.{mixed_gender, room_capacity, uncovered_room, mixed_age, nurse_skill, excess_workload}
 use Rattle.ih_costs.specs.StayGain.{rule_at, cost_at, of_nurse}
-use Rattle.ih_costs.proofs.GainSteps.{IsRisen, handed, rule-risen, rule-fits, cost-risen, cost-fits, count-risen, count-fits}
+use Rattle.ih_costs.proofs.GainSteps.{IsRisen, handed, rule-less, cost-less, step-risen, step-fits, count-risen, count-fits}
 
 -- a shift of the counted days is counted
 pub shift-counted : (a n days k : ℕ) → 3 * a ≤ k → k < 3 * min (a + n) days → covers a n (day_of k) ≡ true
@@ -69,20 +69,26 @@ module _ (I : Draft) (P : Timetable) (p : PatientNo) (at : Placement) where
   module _ (d : ℕ) (m c a : ℤ) (told : AreDaysTold d m c a) (bill : Bill) (next : bill ≡ sub_bills (as_bill (on_day placed d)) (as_bill (on_day without d)))
       (small : IsWithin (10 ^ 11) bill) (few : d ≤ 200) where
     pub mixed-fits : FitsSigned w64 (m +ℤ handed (place bill.v mixed_gender))
-    mixed-fits = rule-fits at.day.0 d (on_day placed) (on_day without) mixed_gender m bill next small few (omega arith) told.mixed
+    mixed-fits = step-fits _ _ _ _ _ _ told.mixed few (small.v mixed_gender (omega arith))
 
     pub crowded-fits : FitsSigned w64 (c +ℤ handed (place bill.v room_capacity))
-    crowded-fits = rule-fits at.day.0 d (on_day placed) (on_day without) room_capacity c bill next small few (omega arith) told.crowded
+    crowded-fits = step-fits _ _ _ _ _ _ told.crowded few (small.v room_capacity (omega arith))
 
     pub ages-fit : FitsSigned w64 (a +ℤ handed (place bill.s mixed_age))
-    ages-fit = cost-fits at.day.0 d (on_day placed) (on_day without) mixed_age a bill next small few (omega arith) told.ages
+    ages-fit = step-fits _ _ _ _ _ _ told.ages few (small.s mixed_age (omega arith))
+
+    rule-next : (k : ℕ) → k < 9 → place bill.v k ≡ pos (rule_at k (on_day placed d)) -ℤ pos (rule_at k (on_day without d))
+    rule-next k h = ap (λ b. place b.v k) next ∙ rule-less (on_day placed d) (on_day without d) k h
+
+    cost-next : (k : ℕ) → k < 8 → place bill.s k ≡ pos (cost_at k (on_day placed d)) -ℤ pos (cost_at k (on_day without d))
+    cost-next k h = ap (λ b. place b.s k) next ∙ cost-less (on_day placed d) (on_day without d) k h
 
     pub days-more : at.day.0 ≤ d → AreDaysTold (d + 1) (handed (m +ℤ handed (place bill.v mixed_gender)))
         (handed (c +ℤ handed (place bill.v room_capacity))) (handed (a +ℤ handed (place bill.s mixed_age)))
     days-more begun = record {
-      mixed = rule-risen at.day.0 d (on_day placed) (on_day without) mixed_gender m bill next small few (omega arith) begun told.mixed;
-      crowded = rule-risen at.day.0 d (on_day placed) (on_day without) room_capacity c bill next small few (omega arith) begun told.crowded;
-      ages = cost-risen at.day.0 d (on_day placed) (on_day without) mixed_age a bill next small few (omega arith) begun told.ages;
+      mixed = step-risen _ _ _ _ _ _ told.mixed few (small.v mixed_gender (omega arith)) begun (rule-next mixed_gender (omega arith));
+      crowded = step-risen _ _ _ _ _ _ told.crowded few (small.v room_capacity (omega arith)) begun (rule-next room_capacity (omega arith));
+      ages = step-risen _ _ _ _ _ _ told.ages few (small.s mixed_age (omega arith)) begun (cost-next mixed_age (omega arith));
     }
 
   -- one shift more, told as three numbers

@@ -70,12 +70,15 @@ module _ (I : Draft) (Q : Timetable) (p : ℕ) (at : Placement) where
   days-none : (g : Counts → ℕ) → no_days g → over_days I Q p at g ≡ 0
   days-none g e = span-zero at.day.0 (end_of I p at) (λ d. g (part_at I Q (room_day_cell at.room.0 d))) (e at.room.0)
 
-  shifts-none : (g : Counts → ℕ) → no_shifts g → over_shifts I Q p at g ≡ 0
-  shifts-none g e = span-zero (3 * at.day.0) (3 * end_of I p at) (λ k. g (part_at I Q (room_shift_cell at.room.0 k))) (e at.room.0)
+  theatre-none : (g : Counts → ℕ) → no_theatres g → of_theatre I Q p at g ≡ 0
+  theatre-none g e = e at.theatre.0 at.day.0
 
   surgeon-none : (g : Counts → ℕ) → no_surgeons g → (o : Option ℕ) → of_surgeon I Q p at g o ≡ 0
   surgeon-none g e None = refl
   surgeon-none g e (Some s) = e s at.day.0
+
+  shifts-none : (g : Counts → ℕ) → no_shifts g → over_shifts I Q p at g ≡ 0
+  shifts-none g e = span-zero (3 * at.day.0) (3 * end_of I p at) (λ k. g (part_at I Q (room_shift_cell at.room.0 k))) (e at.room.0)
 
   nurse-none : (g : Counts → ℕ) → no_loads g → (k : ℕ) (o : Option ℕ) → of_nurse I Q p at g k o ≡ 0
   nurse-none g e k None = refl
@@ -87,156 +90,61 @@ module _ (I : Draft) (Q : Timetable) (p : ℕ) (at : Placement) where
   by_stays : (g : Counts → ℕ) → no_days g → no_theatres g → no_surgeons g → no_shifts g → no_loads g → no_cares g
       → gain_by I Q p at g ≡ of_stay I Q p at g
   by_stays g days theatres surgeons shifts loads cares =
-      let z_days : over_days I Q p at g ≡ 0 = days-none g days in
-      let z_theatres : of_theatre I Q p at g ≡ 0 = theatres at.theatre.0 at.day.0 in
-      let z_surgeons : of_surgeon I Q p at g (surgeon_of I p) ≡ 0 = surgeon-none g surgeons (surgeon_of I p) in
-      let z_shifts : over_shifts I Q p at g ≡ 0 = shifts-none g shifts in
-      let z_loads : over_loads I Q p at g ≡ 0 = loads-none g loads in
-      let z_cares : of_care I Q p at g ≡ 0 = cares p in
-      omega (arith, z_days, z_theatres, z_surgeons, z_shifts, z_loads, z_cares)
+      omega (arith, days-none g days, theatre-none g theatres, surgeon-none g surgeons (surgeon_of I p), shifts-none g shifts, loads-none g loads, cares p)
 
   by_days : (g : Counts → ℕ) → no_stays g → no_theatres g → no_surgeons g → no_shifts g → no_loads g → no_cares g
       → gain_by I Q p at g ≡ over_days I Q p at g
   by_days g stays theatres surgeons shifts loads cares =
-      let z_stays : of_stay I Q p at g ≡ 0 = stays p in
-      let z_theatres : of_theatre I Q p at g ≡ 0 = theatres at.theatre.0 at.day.0 in
-      let z_surgeons : of_surgeon I Q p at g (surgeon_of I p) ≡ 0 = surgeon-none g surgeons (surgeon_of I p) in
-      let z_shifts : over_shifts I Q p at g ≡ 0 = shifts-none g shifts in
-      let z_loads : over_loads I Q p at g ≡ 0 = loads-none g loads in
-      let z_cares : of_care I Q p at g ≡ 0 = cares p in
-      omega (arith, z_stays, z_theatres, z_surgeons, z_shifts, z_loads, z_cares)
+      omega (arith, stays p, theatre-none g theatres, surgeon-none g surgeons (surgeon_of I p), shifts-none g shifts, loads-none g loads, cares p)
 
   by_theatres : (g : Counts → ℕ) → no_stays g → no_days g → no_surgeons g → no_shifts g → no_loads g → no_cares g
       → gain_by I Q p at g ≡ of_theatre I Q p at g
   by_theatres g stays days surgeons shifts loads cares =
-      let z_stays : of_stay I Q p at g ≡ 0 = stays p in
-      let z_days : over_days I Q p at g ≡ 0 = days-none g days in
-      let z_surgeons : of_surgeon I Q p at g (surgeon_of I p) ≡ 0 = surgeon-none g surgeons (surgeon_of I p) in
-      let z_shifts : over_shifts I Q p at g ≡ 0 = shifts-none g shifts in
-      let z_loads : over_loads I Q p at g ≡ 0 = loads-none g loads in
-      let z_cares : of_care I Q p at g ≡ 0 = cares p in
-      omega (arith, z_stays, z_days, z_surgeons, z_shifts, z_loads, z_cares)
+      omega (arith, stays p, days-none g days, surgeon-none g surgeons (surgeon_of I p), shifts-none g shifts, loads-none g loads, cares p)
 
   by_surgeons : (g : Counts → ℕ) → no_stays g → no_days g → no_theatres g → no_shifts g → no_loads g → no_cares g
       → gain_by I Q p at g ≡ of_surgeon I Q p at g (surgeon_of I p)
   by_surgeons g stays days theatres shifts loads cares =
-      let z_stays : of_stay I Q p at g ≡ 0 = stays p in
-      let z_days : over_days I Q p at g ≡ 0 = days-none g days in
-      let z_theatres : of_theatre I Q p at g ≡ 0 = theatres at.theatre.0 at.day.0 in
-      let z_shifts : over_shifts I Q p at g ≡ 0 = shifts-none g shifts in
-      let z_loads : over_loads I Q p at g ≡ 0 = loads-none g loads in
-      let z_cares : of_care I Q p at g ≡ 0 = cares p in
-      omega (arith, z_stays, z_days, z_theatres, z_shifts, z_loads, z_cares)
+      omega (arith, stays p, days-none g days, theatre-none g theatres, shifts-none g shifts, loads-none g loads, cares p)
 
   by_shifts : (g : Counts → ℕ) → no_stays g → no_days g → no_theatres g → no_surgeons g → no_loads g → no_cares g
       → gain_by I Q p at g ≡ over_shifts I Q p at g
   by_shifts g stays days theatres surgeons loads cares =
-      let z_stays : of_stay I Q p at g ≡ 0 = stays p in
-      let z_days : over_days I Q p at g ≡ 0 = days-none g days in
-      let z_theatres : of_theatre I Q p at g ≡ 0 = theatres at.theatre.0 at.day.0 in
-      let z_surgeons : of_surgeon I Q p at g (surgeon_of I p) ≡ 0 = surgeon-none g surgeons (surgeon_of I p) in
-      let z_loads : over_loads I Q p at g ≡ 0 = loads-none g loads in
-      let z_cares : of_care I Q p at g ≡ 0 = cares p in
-      omega (arith, z_stays, z_days, z_theatres, z_surgeons, z_loads, z_cares)
+      omega (arith, stays p, days-none g days, theatre-none g theatres, surgeon-none g surgeons (surgeon_of I p), loads-none g loads, cares p)
 
   by_loads : (g : Counts → ℕ) → no_stays g → no_days g → no_theatres g → no_surgeons g → no_shifts g → no_cares g
       → gain_by I Q p at g ≡ over_loads I Q p at g
   by_loads g stays days theatres surgeons shifts cares =
-      let z_stays : of_stay I Q p at g ≡ 0 = stays p in
-      let z_days : over_days I Q p at g ≡ 0 = days-none g days in
-      let z_theatres : of_theatre I Q p at g ≡ 0 = theatres at.theatre.0 at.day.0 in
-      let z_surgeons : of_surgeon I Q p at g (surgeon_of I p) ≡ 0 = surgeon-none g surgeons (surgeon_of I p) in
-      let z_shifts : over_shifts I Q p at g ≡ 0 = shifts-none g shifts in
-      let z_cares : of_care I Q p at g ≡ 0 = cares p in
-      omega (arith, z_stays, z_days, z_theatres, z_surgeons, z_shifts, z_cares)
+      omega (arith, stays p, days-none g days, theatre-none g theatres, surgeon-none g surgeons (surgeon_of I p), shifts-none g shifts, cares p)
 
   by_cares : (g : Counts → ℕ) → no_stays g → no_days g → no_theatres g → no_surgeons g → no_shifts g → no_loads g
       → gain_by I Q p at g ≡ of_care I Q p at g
   by_cares g stays days theatres surgeons shifts loads =
-      let z_stays : of_stay I Q p at g ≡ 0 = stays p in
-      let z_days : over_days I Q p at g ≡ 0 = days-none g days in
-      let z_theatres : of_theatre I Q p at g ≡ 0 = theatres at.theatre.0 at.day.0 in
-      let z_surgeons : of_surgeon I Q p at g (surgeon_of I p) ≡ 0 = surgeon-none g surgeons (surgeon_of I p) in
-      let z_shifts : over_shifts I Q p at g ≡ 0 = shifts-none g shifts in
-      let z_loads : over_loads I Q p at g ≡ 0 = loads-none g loads in
-      omega (arith, z_stays, z_days, z_theatres, z_surgeons, z_shifts, z_loads)
-
-  mixed_gender-is : gain_by I Q p at (rule_at mixed_gender) ≡ over_days I Q p at (rule_at mixed_gender)
-  unfolding part_of content_of
-  mixed_gender-is = by_days (rule_at mixed_gender) (λ i. refl) (λ i j. refl) (λ i j. refl) (λ i j. refl) (λ i j. refl) (λ i. refl)
-
-  incompatible_room-is : gain_by I Q p at (rule_at incompatible_room) ≡ of_stay I Q p at (rule_at incompatible_room)
-  unfolding part_of content_of
-  incompatible_room-is = by_stays (rule_at incompatible_room) (λ i j. refl) (λ i j. refl) (λ i j. refl) (λ i j. refl) (λ i j. refl) (λ i. refl)
-
-  surgeon_overrun-is : gain_by I Q p at (rule_at surgeon_overrun) ≡ of_surgeon I Q p at (rule_at surgeon_overrun) (surgeon_of I p)
-  unfolding part_of content_of
-  surgeon_overrun-is = by_surgeons (rule_at surgeon_overrun) (λ i. refl) (λ i j. refl) (λ i j. refl) (λ i j. refl) (λ i j. refl) (λ i. refl)
-
-  theatre_overrun-is : gain_by I Q p at (rule_at theatre_overrun) ≡ of_theatre I Q p at (rule_at theatre_overrun)
-  unfolding part_of content_of
-  theatre_overrun-is = by_theatres (rule_at theatre_overrun) (λ i. refl) (λ i j. refl) (λ i j. refl) (λ i j. refl) (λ i j. refl) (λ i. refl)
-
-  unscheduled_mandatory-is : gain_by I Q p at (rule_at unscheduled_mandatory) ≡ of_stay I Q p at (rule_at unscheduled_mandatory)
-  unfolding part_of content_of
-  unscheduled_mandatory-is = by_stays (rule_at unscheduled_mandatory) (λ i j. refl) (λ i j. refl) (λ i j. refl) (λ i j. refl) (λ i j. refl) (λ i. refl)
-
-  admission_window-is : gain_by I Q p at (rule_at admission_window) ≡ of_stay I Q p at (rule_at admission_window)
-  unfolding part_of content_of
-  admission_window-is = by_stays (rule_at admission_window) (λ i j. refl) (λ i j. refl) (λ i j. refl) (λ i j. refl) (λ i j. refl) (λ i. refl)
-
-  room_capacity-is : gain_by I Q p at (rule_at room_capacity) ≡ over_days I Q p at (rule_at room_capacity)
-  unfolding part_of content_of
-  room_capacity-is = by_days (rule_at room_capacity) (λ i. refl) (λ i j. refl) (λ i j. refl) (λ i j. refl) (λ i j. refl) (λ i. refl)
-
-  nurse_presence-is : gain_by I Q p at (rule_at nurse_presence) ≡ over_shifts I Q p at (rule_at nurse_presence)
-  unfolding part_of content_of
-  nurse_presence-is = by_shifts (rule_at nurse_presence) (λ i. refl) (λ i j. refl) (λ i j. refl) (λ i j. refl) (λ i j. refl) (λ i. refl)
-
-  uncovered_room-is : gain_by I Q p at (rule_at uncovered_room) ≡ over_shifts I Q p at (rule_at uncovered_room)
-  unfolding part_of content_of
-  uncovered_room-is = by_shifts (rule_at uncovered_room) (λ i. refl) (λ i j. refl) (λ i j. refl) (λ i j. refl) (λ i j. refl) (λ i. refl)
-
-  mixed_age-is : gain_by I Q p at (cost_at mixed_age) ≡ over_days I Q p at (cost_at mixed_age)
-  unfolding part_of content_of
-  mixed_age-is = by_days (cost_at mixed_age) (λ i. refl) (λ i j. refl) (λ i j. refl) (λ i j. refl) (λ i j. refl) (λ i. refl)
-
-  nurse_skill-is : gain_by I Q p at (cost_at nurse_skill) ≡ over_shifts I Q p at (cost_at nurse_skill)
-  unfolding part_of content_of
-  nurse_skill-is = by_shifts (cost_at nurse_skill) (λ i. refl) (λ i j. refl) (λ i j. refl) (λ i j. refl) (λ i j. refl) (λ i. refl)
-
-  continuity_of_care-is : gain_by I Q p at (cost_at continuity_of_care) ≡ of_care I Q p at (cost_at continuity_of_care)
-  unfolding part_of content_of
-  continuity_of_care-is = by_cares (cost_at continuity_of_care) (λ i. refl) (λ i j. refl) (λ i j. refl) (λ i j. refl) (λ i j. refl) (λ i j. refl)
-
-  excess_workload-is : gain_by I Q p at (cost_at excess_workload) ≡ over_loads I Q p at (cost_at excess_workload)
-  unfolding part_of content_of
-  excess_workload-is = by_loads (cost_at excess_workload) (λ i. refl) (λ i j. refl) (λ i j. refl) (λ i j. refl) (λ i j. refl) (λ i. refl)
-
-  open_theatre-is : gain_by I Q p at (cost_at open_theatre) ≡ of_theatre I Q p at (cost_at open_theatre)
-  unfolding part_of content_of
-  open_theatre-is = by_theatres (cost_at open_theatre) (λ i. refl) (λ i j. refl) (λ i j. refl) (λ i j. refl) (λ i j. refl) (λ i. refl)
-
-  surgeon_transfer-is : gain_by I Q p at (cost_at surgeon_transfer) ≡ of_surgeon I Q p at (cost_at surgeon_transfer) (surgeon_of I p)
-  unfolding part_of content_of
-  surgeon_transfer-is = by_surgeons (cost_at surgeon_transfer) (λ i. refl) (λ i j. refl) (λ i j. refl) (λ i j. refl) (λ i j. refl) (λ i. refl)
-
-  patient_delay-is : gain_by I Q p at (cost_at patient_delay) ≡ of_stay I Q p at (cost_at patient_delay)
-  unfolding part_of content_of
-  patient_delay-is = by_stays (cost_at patient_delay) (λ i j. refl) (λ i j. refl) (λ i j. refl) (λ i j. refl) (λ i j. refl) (λ i. refl)
-
-  unscheduled_optional-is : gain_by I Q p at (cost_at unscheduled_optional) ≡ of_stay I Q p at (cost_at unscheduled_optional)
-  unfolding part_of content_of
-  unscheduled_optional-is = by_stays (cost_at unscheduled_optional) (λ i j. refl) (λ i j. refl) (λ i j. refl) (λ i j. refl) (λ i j. refl) (λ i. refl)
+      omega (arith, stays p, days-none g days, theatre-none g theatres, surgeon-none g surgeons (surgeon_of I p), shifts-none g shifts, loads-none g loads)
 
   -- each number of the gain is that number of all cells of the placement
   pub gain-listed : gain_of I Q p at ≡ record { v = listed 9 (λ j. gain_by I Q p at (rule_at j)); s = listed 8 (λ j. gain_by I Q p at (cost_at j)) }
-  unfolding gain_of
+  unfolding gain_of part_of content_of
   gain-listed = counts-same _ _ _ _
-      (nine (λ j. gain_by I Q p at (rule_at j)) _ _ _ _ _ _ _ _ _ mixed_gender-is incompatible_room-is surgeon_overrun-is theatre_overrun-is
-      unscheduled_mandatory-is admission_window-is room_capacity-is nurse_presence-is uncovered_room-is)
-      (eight (λ j. gain_by I Q p at (cost_at j)) _ _ _ _ _ _ _ _ mixed_age-is nurse_skill-is continuity_of_care-is excess_workload-is
-      open_theatre-is surgeon_transfer-is patient_delay-is unscheduled_optional-is)
+      (nine (λ j. gain_by I Q p at (rule_at j)) _ _ _ _ _ _ _ _ _
+      (by_days (rule_at mixed_gender) (λ i. refl) (λ i j. refl) (λ i j. refl) (λ i j. refl) (λ i j. refl) (λ i. refl))
+      (by_stays (rule_at incompatible_room) (λ i j. refl) (λ i j. refl) (λ i j. refl) (λ i j. refl) (λ i j. refl) (λ i. refl))
+      (by_surgeons (rule_at surgeon_overrun) (λ i. refl) (λ i j. refl) (λ i j. refl) (λ i j. refl) (λ i j. refl) (λ i. refl))
+      (by_theatres (rule_at theatre_overrun) (λ i. refl) (λ i j. refl) (λ i j. refl) (λ i j. refl) (λ i j. refl) (λ i. refl))
+      (by_stays (rule_at unscheduled_mandatory) (λ i j. refl) (λ i j. refl) (λ i j. refl) (λ i j. refl) (λ i j. refl) (λ i. refl))
+      (by_stays (rule_at admission_window) (λ i j. refl) (λ i j. refl) (λ i j. refl) (λ i j. refl) (λ i j. refl) (λ i. refl))
+      (by_days (rule_at room_capacity) (λ i. refl) (λ i j. refl) (λ i j. refl) (λ i j. refl) (λ i j. refl) (λ i. refl))
+      (by_shifts (rule_at nurse_presence) (λ i. refl) (λ i j. refl) (λ i j. refl) (λ i j. refl) (λ i j. refl) (λ i. refl))
+      (by_shifts (rule_at uncovered_room) (λ i. refl) (λ i j. refl) (λ i j. refl) (λ i j. refl) (λ i j. refl) (λ i. refl)))
+      (eight (λ j. gain_by I Q p at (cost_at j)) _ _ _ _ _ _ _ _
+      (by_days (cost_at mixed_age) (λ i. refl) (λ i j. refl) (λ i j. refl) (λ i j. refl) (λ i j. refl) (λ i. refl))
+      (by_shifts (cost_at nurse_skill) (λ i. refl) (λ i j. refl) (λ i j. refl) (λ i j. refl) (λ i j. refl) (λ i. refl))
+      (by_cares (cost_at continuity_of_care) (λ i. refl) (λ i j. refl) (λ i j. refl) (λ i j. refl) (λ i j. refl) (λ i j. refl))
+      (by_loads (cost_at excess_workload) (λ i. refl) (λ i j. refl) (λ i j. refl) (λ i j. refl) (λ i j. refl) (λ i. refl))
+      (by_theatres (cost_at open_theatre) (λ i. refl) (λ i j. refl) (λ i j. refl) (λ i j. refl) (λ i j. refl) (λ i. refl))
+      (by_surgeons (cost_at surgeon_transfer) (λ i. refl) (λ i j. refl) (λ i j. refl) (λ i j. refl) (λ i j. refl) (λ i. refl))
+      (by_stays (cost_at patient_delay) (λ i j. refl) (λ i j. refl) (λ i j. refl) (λ i j. refl) (λ i j. refl) (λ i. refl))
+      (by_stays (cost_at unscheduled_optional) (λ i j. refl) (λ i j. refl) (λ i j. refl) (λ i j. refl) (λ i j. refl) (λ i. refl)))
 
 -- ---- the law of a placement
 

@@ -85,14 +85,14 @@ added-is s e near low high =
 pub passed-is : (e : ℤ) → neg_ℤ (pos (10 ^ 11)) ≤ℤ e → e ≤ℤ pos (10 ^ 11) → handed e ≡ e
 passed-is e low high = omega (arith, ints)
 
-module _ (a b : ℕ) (f g : ℕ → ℕ) (sum step : ℤ) (so_far : IsRisen a b f g sum) (few : b ≤ 200) (low : neg_ℤ (pos (10 ^ 11)) ≤ℤ step) (high : step ≤ℤ pos (10 ^ 11)) where
+module _ (a b : ℕ) (f g : ℕ → ℕ) (sum step : ℤ) (so_far : IsRisen a b f g sum) (few : b ≤ 200) (near : (neg_ℤ (pos (10 ^ 11)) ≤ℤ step) × (step ≤ℤ pos (10 ^ 11))) where
   pub step-fits : FitsSigned w64 (sum +ℤ handed step)
-  step-fits = added-fits sum step (risen-fits a b f g sum step so_far few low high) low high
+  step-fits = added-fits sum step (risen-fits a b f g sum step so_far few near.0 near.1) near.0 near.1
 
   pub step-risen : a ≤ b → step ≡ pos (f b) -ℤ pos (g b) → IsRisen a (b + 1) f g (handed (sum +ℤ handed step))
   step-risen begun next =
-      subst (IsRisen a (b + 1) f g) (sym (added-is sum step (risen-fits a b f g sum step so_far few low high) low high))
-      (risen-more a b f g sum step begun so_far next low high)
+      subst (IsRisen a (b + 1) f g) (sym (added-is sum step (risen-fits a b f g sum step so_far few near.0 near.1) near.0 near.1))
+      (risen-more a b f g sum step begun so_far next near.0 near.1)
 
 -- ---- the same, where each day or shift is told as a number of 32 bits
 
@@ -107,30 +107,9 @@ count-high n small = omega (arith, ints)
 
 module _ (a b : ℕ) (f g : ℕ → ℕ) (sum : ℤ) (n : ℕ) (so_far : IsRisen a b f g sum) (few : b ≤ 200) (small : n < 2 ^ 32) where
   pub count-fits : FitsSigned w64 (sum +ℤ to_z w64 n)
-  count-fits = subst (λ m. FitsSigned w64 (sum +ℤ to_z w64 m)) (count-bits n small) (step-fits a b f g sum (pos n) so_far few (count-low n) (count-high n small))
+  count-fits = subst (λ m. FitsSigned w64 (sum +ℤ to_z w64 m)) (count-bits n small) (step-fits a b f g sum (pos n) so_far few (count-low n, count-high n small))
 
   pub count-risen : a ≤ b → pos n ≡ pos (f b) -ℤ pos (g b) → IsRisen a (b + 1) f g (handed (sum +ℤ to_z w64 n))
   count-risen begun next =
       subst (λ m. IsRisen a (b + 1) f g (handed (sum +ℤ to_z w64 m))) (count-bits n small)
-      (step-risen a b f g sum (pos n) so_far few (count-low n) (count-high n small) begun next)
-
--- ---- the same, where each day or shift is told as a bill: x with the placement, y without
-
-module _ (a b : ℕ) (x y : ℕ → Counts) (k : ℕ) (sum : ℤ) (bill : Bill) (next : bill ≡ sub_bills (as_bill (x b)) (as_bill (y b))) (small : IsWithin (10 ^ 11) bill) (few : b ≤ 200) where
-  pub rule-risen : k < 9 → a ≤ b → IsRisen a b (λ i. rule_at k (x i)) (λ i. rule_at k (y i)) sum
-      → IsRisen a (b + 1) (λ i. rule_at k (x i)) (λ i. rule_at k (y i)) (handed (sum +ℤ handed (at bill.v k)))
-  rule-risen h begun so_far =
-      step-risen a b (λ i. rule_at k (x i)) (λ i. rule_at k (y i)) sum (at bill.v k) so_far few (small.v k h).0 (small.v k h).1 begun
-      (ap (λ z. at z.v k) next ∙ rule-less (x b) (y b) k h)
-
-  pub rule-fits : k < 9 → IsRisen a b (λ i. rule_at k (x i)) (λ i. rule_at k (y i)) sum → FitsSigned w64 (sum +ℤ handed (at bill.v k))
-  rule-fits h so_far = step-fits a b (λ i. rule_at k (x i)) (λ i. rule_at k (y i)) sum (at bill.v k) so_far few (small.v k h).0 (small.v k h).1
-
-  pub cost-risen : k < 8 → a ≤ b → IsRisen a b (λ i. cost_at k (x i)) (λ i. cost_at k (y i)) sum
-      → IsRisen a (b + 1) (λ i. cost_at k (x i)) (λ i. cost_at k (y i)) (handed (sum +ℤ handed (at bill.s k)))
-  cost-risen h begun so_far =
-      step-risen a b (λ i. cost_at k (x i)) (λ i. cost_at k (y i)) sum (at bill.s k) so_far few (small.s k h).0 (small.s k h).1 begun
-      (ap (λ z. at z.s k) next ∙ cost-less (x b) (y b) k h)
-
-  pub cost-fits : k < 8 → IsRisen a b (λ i. cost_at k (x i)) (λ i. cost_at k (y i)) sum → FitsSigned w64 (sum +ℤ handed (at bill.s k))
-  cost-fits h so_far = step-fits a b (λ i. cost_at k (x i)) (λ i. cost_at k (y i)) sum (at bill.s k) so_far few (small.s k h).0 (small.s k h).1
+      (step-risen a b f g sum (pos n) so_far few (count-low n, count-high n small) begun next)

@@ -16,6 +16,8 @@ use Rattle.ih_plan.specs.BillOf.{Counts, as_bill, change_of_bill}
 use Rattle.ih_tables.specs.BillNumbers.{mixed_gender, incompatible_room, surgeon_overrun, theatre_overrun, unscheduled_mandatory, admission_window, room_capacity, nurse_presence, uncovered_room}
 use Rattle.ih_tables.specs.BillNumbers.{mixed_age, nurse_skill, continuity_of_care, excess_workload, open_theatre, surgeon_transfer, patient_delay, unscheduled_optional}
 use Rattle.ih_plan.specs.Cells.{part_at}
+use Rattle.ih_costs.specs.declared.stay_prices.DaysMore.{DaysMore}
+use Rattle.ih_costs.specs.declared.stay_prices.ShiftsMore.{ShiftsMore}
 
 -- f a + .. + f (b - 1)
 unfoldable pub span_sum : ℕ → ℕ → (ℕ → ℕ) → ℕ
@@ -121,3 +123,19 @@ StaysGain I = (P : Timetable) (p : PatientNo) (new : Option Placement) → IsPla
 -- by how much a number rises with the placement
 abbrev pub rise : Timetable → PatientNo → Placement → (Timetable → ℕ) → ℤ
 rise P p at f = pos (f (put (SetStay p (Some at)) P)) -ℤ pos (f (put (SetStay p None) P))
+
+-- what a room has more over the days of the placement with the patient there than without, and what it and its nurses
+-- have more over the shifts
+abbrev pub days_more : Draft → Timetable → PatientNo → Placement → DaysMore
+days_more I P p at = record {
+  mixed = rise P p at (λ Q. over_days I Q p.0 at (rule_at mixed_gender));
+  crowded = rise P p at (λ Q. over_days I Q p.0 at (rule_at room_capacity));
+  ages = rise P p at (λ Q. over_days I Q p.0 at (cost_at mixed_age));
+}
+
+abbrev pub shifts_more : Draft → Timetable → PatientNo → Placement → ShiftsMore
+shifts_more I P p at = record {
+  alone = rise P p at (λ Q. over_shifts I Q p.0 at (rule_at uncovered_room));
+  skill = rise P p at (λ Q. over_shifts I Q p.0 at (cost_at nurse_skill));
+  load = rise P p at (λ Q. over_loads I Q p.0 at (cost_at excess_workload));
+}

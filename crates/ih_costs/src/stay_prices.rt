@@ -2,15 +2,13 @@
 
 ghost use Rattle.std.specs.Prelude.{◌≡◌, ◌<◌, ◌^◌, Some};
 ghost use Rattle.ih_tables.specs.Sizes.{patient_count};
-ghost use Rattle.ih_tables.specs.BillNumbers.{mixed_gender, room_capacity, uncovered_room, mixed_age, nurse_skill, excess_workload};
 ghost use Rattle.ih_tables.specs.Bills.{IsWithin};
 ghost use Rattle.ih_plan.specs.declared.moves.Write.TheVariants.{SetStay};
 ghost use Rattle.ih_plan.specs.Timetable.{IsPlacement, stay_of};
 ghost use Rattle.ih_plan.specs.Writes.{put, IsWriteOf};
 ghost use Rattle.ih_plan.specs.BillOf.{change_of_bill};
 ghost use Rattle.ih_costs.specs.CellLedgers.{AreLedgers, timetable_of};
-ghost use Rattle.ih_costs.specs.StayGain.{rise, rule_at, cost_at, over_days, over_shifts, over_loads};
-ghost use Rattle.ih_costs.specs.StayGain.{of_surgery, placement_gain, stay_gain};
+ghost use Rattle.ih_costs.specs.StayGain.{days_more, of_surgery, placement_gain, shifts_more, stay_gain};
 
 use crate::cell_ledgers::CellLedgers;
 use crate::stays::stay_change;
@@ -54,12 +52,7 @@ impl CellLedgers {
         requires patient { p.0 < patient_count inst.now.draft }
         requires placement { IsPlacement inst.now.draft at }
         requires stay { stay_of (timetable_of self.now) p.0 ≡ old }
-        ensures mixed { result.mixed
-            ≡ rise (timetable_of self.now) p at (λ Q. over_days inst.now.draft Q p.0 at (rule_at mixed_gender)) }
-        ensures crowded { result.crowded
-            ≡ rise (timetable_of self.now) p at (λ Q. over_days inst.now.draft Q p.0 at (rule_at room_capacity)) }
-        ensures ages { result.ages
-            ≡ rise (timetable_of self.now) p at (λ Q. over_days inst.now.draft Q p.0 at (cost_at mixed_age)) }
+        ensures { result ≡ days_more inst.now.draft (timetable_of self.now) p at }
     {
         let end = end_of(inst, p, at);
         let mut mixed: i64 = 0;
@@ -91,12 +84,7 @@ impl CellLedgers {
         requires patient { p.0 < patient_count inst.now.draft }
         requires placement { IsPlacement inst.now.draft at }
         requires stay { stay_of (timetable_of self.now) p.0 ≡ old }
-        ensures alone { result.alone
-            ≡ rise (timetable_of self.now) p at (λ Q. over_shifts inst.now.draft Q p.0 at (rule_at uncovered_room)) }
-        ensures skill { result.skill
-            ≡ rise (timetable_of self.now) p at (λ Q. over_shifts inst.now.draft Q p.0 at (cost_at nurse_skill)) }
-        ensures load { result.load
-            ≡ rise (timetable_of self.now) p at (λ Q. over_loads inst.now.draft Q p.0 at (cost_at excess_workload)) }
+        ensures { result ≡ shifts_more inst.now.draft (timetable_of self.now) p at }
     {
         let end = end_of(inst, p, at);
         let visit = Visit::new(inst, p, old, at);

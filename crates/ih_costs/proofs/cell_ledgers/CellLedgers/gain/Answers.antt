@@ -1,5 +1,7 @@
-use Rattle.std.proofs.Common.{◌<◌, ◌^◌, sym, subst, arith, length}
+use Rattle.std.proofs.Common.{◌<◌, ◌^◌, ap, sym, subst, arith, length}
 use Rattle.ih_tables.specs.Bills.{IsWithin}
+use Rattle.ih_costs.specs.declared.stay_prices.DaysMore.{DaysMore}
+use Rattle.ih_costs.specs.declared.stay_prices.ShiftsMore.{ShiftsMore}
 use Rattle.ih_costs.specs.CellLedgers.{timetable_of}
 use Rattle.ih_costs.proofs.GainNumbers.{gain-within}
 use Rattle.ih_costs.proofs.GainParts.{own-gain, parts-passed}
@@ -14,6 +16,8 @@ returns-clause-gain c =
     let plan = plan-fits I P c.args.self.now stands in
     let sizes = plan.stays in
     let patient = c.requires.patient in
+    let days = c.more_over_days-days.ensures in
+    let shifts = c.more_over_shifts-shifts.ensures in
     let inside : c.args.p.0 < length P.stays = omega arith in
     parts-passed I P c.args.p c.args.at c.stay_change-own.result c.surgery_gain-surgery.result c.care_gain-care.result
     c.more_over_days-days.result.mixed c.more_over_days-days.result.crowded c.more_over_days-days.result.ages
@@ -21,8 +25,8 @@ returns-clause-gain c =
     (own-gain I P c.args.p c.args.at c.patient.result.now c.stay_change-own.result c.patient.ensures inside c.stay_change-own.ensures)
     c.surgery_gain-surgery.ensures
     (c.care_gain-care.ensures.gain P stands.nurses)
-    c.more_over_days-days.ensures.mixed c.more_over_days-days.ensures.crowded c.more_over_days-days.ensures.ages
-    c.more_over_shifts-shifts.ensures.alone c.more_over_shifts-shifts.ensures.skill c.more_over_shifts-shifts.ensures.load
+    (ap (λ (m : DaysMore). m.mixed) days) (ap (λ (m : DaysMore). m.crowded) days) (ap (λ (m : DaysMore). m.ages) days)
+    (ap (λ (m : ShiftsMore). m.alone) shifts) (ap (λ (m : ShiftsMore). m.skill) shifts) (ap (λ (m : ShiftsMore). m.load) shifts)
     (gain-within I P c.args.p c.args.at c.args.inst.now.valid plan c.requires.patient c.requires.placement)
 
 pub returns-clause-within : goal.returns-clause-within

@@ -1,4 +1,4 @@
-use Rattle.std.proofs.Common.{◌≡◌, ◌≤◌, arith}
+use Rattle.std.proofs.Common.{◌≡◌, ◌≤◌, refl, arith}
 use Rattle.ih_plan.specs.Presence.{end_of}
 use Rattle.ih_costs.specs.CellLedgers.{timetable_of}
 use Rattle.ih_costs.proofs.DayGains.{mixed-fits, crowded-fits, ages-fit, days-more}
@@ -10,27 +10,18 @@ loop-d-init c = record { mixed = risen-none _ _ _; crowded = risen-none _ _ _; a
 
 pub overflow_add-mixed : goal.overflow_add-mixed
 overflow_add-mixed c =
-    let P = timetable_of c.args.self.now in
-    let days = c.args.inst.now.valid.days in
-    let few : c.loop-d.d ≤ 200 = omega arith in
-    mixed-fits c.args.inst.now.draft P c.args.p c.args.at c.loop-d.d _ _ _ c.loop-d.invariant c.day_gain-day.result
-    (c.day_gain-day.ensures.gain P c.requires.stands.room_days c.requires.stay) c.day_gain-day.ensures.within few
+    mixed-fits _ _ _ _ _ _ _ _ c.loop-d.invariant _ (c.day_gain-day.ensures.gain _ c.requires.stands.room_days c.requires.stay)
+    c.day_gain-day.ensures.within (omega (arith, c.args.inst.now.valid.days.most))
 
 pub overflow_add-crowded : goal.overflow_add-crowded
 overflow_add-crowded c =
-    let P = timetable_of c.args.self.now in
-    let days = c.args.inst.now.valid.days in
-    let few : c.loop-d.d ≤ 200 = omega arith in
-    crowded-fits c.args.inst.now.draft P c.args.p c.args.at c.loop-d.d _ _ _ c.loop-d.invariant c.day_gain-day.result
-    (c.day_gain-day.ensures.gain P c.requires.stands.room_days c.requires.stay) c.day_gain-day.ensures.within few
+    crowded-fits _ _ _ _ _ _ _ _ c.loop-d.invariant _ (c.day_gain-day.ensures.gain _ c.requires.stands.room_days c.requires.stay)
+    c.day_gain-day.ensures.within (omega (arith, c.args.inst.now.valid.days.most))
 
 pub overflow_add-ages : goal.overflow_add-ages
 overflow_add-ages c =
-    let P = timetable_of c.args.self.now in
-    let days = c.args.inst.now.valid.days in
-    let few : c.loop-d.d ≤ 200 = omega arith in
-    ages-fit c.args.inst.now.draft P c.args.p c.args.at c.loop-d.d _ _ _ c.loop-d.invariant c.day_gain-day.result
-    (c.day_gain-day.ensures.gain P c.requires.stands.room_days c.requires.stay) c.day_gain-day.ensures.within few
+    ages-fit _ _ _ _ _ _ _ _ c.loop-d.invariant _ (c.day_gain-day.ensures.gain _ c.requires.stands.room_days c.requires.stay)
+    c.day_gain-day.ensures.within (omega (arith, c.args.inst.now.valid.days.most))
 
 pub loop-d-preserved : goal.loop-d-preserved
 loop-d-preserved c =
@@ -40,20 +31,10 @@ loop-d-preserved c =
     days-more c.args.inst.now.draft P c.args.p c.args.at c.loop-d.d _ _ _ c.loop-d.invariant c.day_gain-day.result
     (c.day_gain-day.ensures.gain P c.requires.stands.room_days c.requires.stay) c.day_gain-day.ensures.within few (omega arith)
 
-pub returns-clause-mixed : goal.returns-clause-mixed
-returns-clause-mixed c =
+pub returns : goal.returns
+returns c =
+    let I = c.args.inst.now.draft in
     let order = c.end_of-end.ensures.order in
-    let whole : c.loop-d.d ≡ end_of c.args.inst.now.draft c.args.p.0 c.args.at = omega (arith, c.end_of-end.ensures.value) in
-    rw whole at c.loop-d.invariant.mixed.told
-
-pub returns-clause-crowded : goal.returns-clause-crowded
-returns-clause-crowded c =
-    let order = c.end_of-end.ensures.order in
-    let whole : c.loop-d.d ≡ end_of c.args.inst.now.draft c.args.p.0 c.args.at = omega (arith, c.end_of-end.ensures.value) in
-    rw whole at c.loop-d.invariant.crowded.told
-
-pub returns-clause-ages : goal.returns-clause-ages
-returns-clause-ages c =
-    let order = c.end_of-end.ensures.order in
-    let whole : c.loop-d.d ≡ end_of c.args.inst.now.draft c.args.p.0 c.args.at = omega (arith, c.end_of-end.ensures.value) in
-    rw whole at c.loop-d.invariant.ages.told
+    let whole : c.loop-d.d ≡ end_of I c.args.p.0 c.args.at = omega (arith, c.end_of-end.ensures.value) in
+    let told = rw whole at c.loop-d.invariant in
+    rw (told.mixed.told, told.crowded.told, told.ages.told) refl

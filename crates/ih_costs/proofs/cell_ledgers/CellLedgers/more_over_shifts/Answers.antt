@@ -1,4 +1,4 @@
-use Rattle.std.proofs.Common.{◌≡◌, ◌*◌, ◌≤◌, arith}
+use Rattle.std.proofs.Common.{◌≡◌, ◌*◌, ◌≤◌, refl, arith}
 use Rattle.ih_plan.specs.Persons.{person_of}
 use Rattle.ih_plan.specs.Presence.{end_of}
 use Rattle.ih_costs.specs.CellLedgers.{timetable_of}
@@ -16,21 +16,15 @@ shift_gain-gain-requires-clause-counted c =
 
 pub overflow_add-alone : goal.overflow_add-alone
 overflow_add-alone c =
-    let days = c.args.inst.now.valid.days in
-    let few : c.loop-k.k ≤ 200 = omega arith in
-    alone-fits c.args.inst.now.draft (timetable_of c.args.self.now) c.args.p c.args.at c.loop-k.k _ _ _ c.loop-k.invariant few c.shift_gain-gain.result.alone (omega arith)
+    alone-fits _ _ _ _ _ _ _ _ c.loop-k.invariant (omega (arith, c.args.inst.now.valid.days.most)) c.shift_gain-gain.result.alone (omega arith)
 
 pub overflow_add-skill : goal.overflow_add-skill
 overflow_add-skill c =
-    let days = c.args.inst.now.valid.days in
-    let few : c.loop-k.k ≤ 200 = omega arith in
-    skill-fits c.args.inst.now.draft (timetable_of c.args.self.now) c.args.p c.args.at c.loop-k.k _ _ _ c.loop-k.invariant few c.shift_gain-gain.result.skill (omega arith)
+    skill-fits _ _ _ _ _ _ _ _ c.loop-k.invariant (omega (arith, c.args.inst.now.valid.days.most)) c.shift_gain-gain.result.skill (omega arith)
 
 pub overflow_add-load : goal.overflow_add-load
 overflow_add-load c =
-    let days = c.args.inst.now.valid.days in
-    let few : c.loop-k.k ≤ 200 = omega arith in
-    load-fits c.args.inst.now.draft (timetable_of c.args.self.now) c.args.p c.args.at c.loop-k.k _ _ _ c.loop-k.invariant few c.shift_gain-gain.result.load (omega arith)
+    load-fits _ _ _ _ _ _ _ _ c.loop-k.invariant (omega (arith, c.args.inst.now.valid.days.most)) c.shift_gain-gain.result.load (omega arith)
 
 pub loop-k-preserved : goal.loop-k-preserved
 loop-k-preserved c =
@@ -43,20 +37,10 @@ loop-k-preserved c =
     shifts-more c.args.inst.now.draft P c.args.p c.args.at c.loop-k.k _ _ _ c.loop-k.invariant few (omega arith)
     gain.alone gain.skill gain.load (omega arith) (omega arith) (omega arith) (told.alone P stands) (told.skill P stands) (told.load P stands)
 
-pub returns-clause-alone : goal.returns-clause-alone
-returns-clause-alone c =
+pub returns : goal.returns
+returns c =
+    let I = c.args.inst.now.draft in
     let order = c.end_of-end.ensures.order in
-    let whole : c.loop-k.k ≡ 3 * end_of c.args.inst.now.draft c.args.p.0 c.args.at = omega (arith, c.end_of-end.ensures.value) in
-    rw whole at c.loop-k.invariant.alone.told
-
-pub returns-clause-skill : goal.returns-clause-skill
-returns-clause-skill c =
-    let order = c.end_of-end.ensures.order in
-    let whole : c.loop-k.k ≡ 3 * end_of c.args.inst.now.draft c.args.p.0 c.args.at = omega (arith, c.end_of-end.ensures.value) in
-    rw whole at c.loop-k.invariant.skill.told
-
-pub returns-clause-load : goal.returns-clause-load
-returns-clause-load c =
-    let order = c.end_of-end.ensures.order in
-    let whole : c.loop-k.k ≡ 3 * end_of c.args.inst.now.draft c.args.p.0 c.args.at = omega (arith, c.end_of-end.ensures.value) in
-    rw whole at c.loop-k.invariant.load.told
+    let whole : c.loop-k.k ≡ 3 * end_of I c.args.p.0 c.args.at = omega (arith, c.end_of-end.ensures.value) in
+    let told = rw whole at c.loop-k.invariant in
+    rw (told.alone.told, told.skill.told, told.load.told) refl
