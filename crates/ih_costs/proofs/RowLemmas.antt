@@ -1,13 +1,16 @@
 -- Moves in a row, the first of them and the others.
-use Rattle.std.proofs.Common.{◌≡◌, refl, sym, ap, subst, ◌∙◌, false, List, [], ◌∷◌}
+use Rattle.std.proofs.Common.{◌≡◌, refl, sym, ap, subst, ◌∙◌, false, List, [], ◌∷◌, length}
 use Rattle.std.specs.Prelude.{◌||◌}
 use Rattle.std.proofs.Math.Bool.{or-false}
+use Rattle.std.proofs.lemmas.List.{nil_from_length}
 use Rattle.ih_tables.specs.declared.drafts.Draft.{Draft}
 use Rattle.ih_tables.specs.Bills.{add_bills, zero_bill}
 use Rattle.ih_tables.specs.Sizes.{sizes_of}
 use Rattle.ih_plan.specs.declared.moves.Move.{Move}
+use Rattle.ih_plan.specs.declared.moves.Write.{Write}
 use Rattle.ih_plan.specs.Timetable.{Timetable}
-use Rattle.ih_plan.specs.Expand.{after}
+use Rattle.ih_plan.specs.Writes.{put_all}
+use Rattle.ih_plan.specs.Expand.{after, expand}
 use Rattle.ih_plan.specs.BillOf.{change_of_bill}
 use Rattle.ih_plan.specs.Cells.{number_in, IsCellIn, cell_at, cell_count}
 use Rattle.ih_plan.specs.Footprint.{touches, footprint}
@@ -17,6 +20,14 @@ use Rattle.ih_footprint.specs.Gathered.{Gathered, Gathers, settled}
 use Rattle.ih_footprint.proofs.GatherLemmas.{gathers-both, gathers-like, gathers-none, settled-gathered}
 use Rattle.ih_plan.specs.Series.{after_all, all_touch, footprint_of_all, price_of_all}
 use Rattle.ih_plan.proofs.ChangeSums.{change-then, change-same}
+
+-- the first of some, where no others are later
+pub alone : {m : Move} {ms later : List Move} → ms ≡ m ∷ later → length later ≡ 0 → ms ≡ m ∷ []
+alone {m} {ms} {later} first none = first ∙ ap (λ ks. m ∷ ks) (nil_from_length later none)
+
+-- a move that is made where the timetable is P
+pub made-there : (I : Draft) {P R : Timetable} (m : Move) {ws : List Write} → R ≡ P → ws ≡ expand I R m → put_all ws R ≡ after I P m
+made-there I {P} {R} m {ws} same made = ap (λ xs. put_all xs R) made ∙ ap (λ Q. after I Q m) same
 
 -- ---- what they leave
 

@@ -58,8 +58,8 @@ undo-write I P (SetCare r k n) plan fits = (fits.0, fits.1, λ m e. plan.nursed 
 
 -- Ledgers in which a write is made, which keep their timetable, and in which it is then taken back, stand for the
 -- timetable before.
-pub taken-back : (I : Draft) (P : Timetable) (w u : Write) (made behind back : CellLedgers) → AreLedgersOf I (put w P) made → AreLedgersOf I (timetable_of made) behind
+pub taken-back : {I : Draft} {P : Timetable} (w : Write) {u : Write} {made behind back : CellLedgers} → AreLedgersOf I (put w P) made → AreLedgersOf I (timetable_of made) behind
     → u ≡ undo_of P w → AreLedgersOf I (put u (timetable_of behind)) back → AreLedgersOf I P back
-taken-back I P w u made behind back stands keeps undo stands_back =
+taken-back {I} {P} w {u} {made} {behind} {back} stands keeps undo stands_back =
     let same : timetable_of behind ≡ put w P = kept I (timetable_of made) behind keeps ∙ kept I (put w P) made stands in
     subst (λ Q. AreLedgersOf I Q back) (ap (put u) same ∙ (ap (λ v. put v (put w P)) undo ∙ undone P w)) stands_back

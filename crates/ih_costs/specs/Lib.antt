@@ -1,6 +1,7 @@
 pub mod Changes
 pub mod CellLedgers
 pub mod ChoiceGain
+pub mod Scratch
 pub mod Standing
 pub mod StayGain
 pub mod AtOnce

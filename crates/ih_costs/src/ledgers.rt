@@ -3,12 +3,13 @@
 use crate::cell_ledgers::CellLedgers;
 use crate::copies::copy_plan;
 use crate::feet::foot_of;
-use crate::pricing::{price_of, price_of_write, put_all};
+use crate::pricing::{expand_here, price_of, price_of_write, put_all};
 use crate::row_feet::gather_behind;
 use crate::row_prices::change_behind;
 use crate::rows::{play_in_row, play_in_row_noting};
+use crate::scratch::Scratch;
 use ih_footprint::{CellList, CellSet, Numbering};
-use ih_moves::{Writes, expand};
+use ih_moves::Writes;
 use ih_plan::{Members, Move, Plan, Write};
 use ih_tables::{Bill, Cell, Day, Instance, RoomNo};
 use ih_validate::bill;
@@ -20,15 +21,12 @@ use std::marker::Model;
 pub struct Ledgers<'a> {
     inst: &'a Instance,
     cells: CellLedgers,
-    // Room for the writes of a move.
-    writes: Writes,
-    // Where the cells of a move are gathered. It has none between calls.
-    set: CellSet,
+    // No cells are gathered in it between calls.
+    scratch: Scratch,
 }
 
 impl<'a> Model for Ledgers<'a> {
-    ghost use Rattle.std.specs.Prelude.{◌≡◌, []};
-    ghost use Rattle.ih_tables.specs.Sizes.{sizes_of};
+    ghost use Rattle.ih_costs.specs.Scratch.{IsFree};
     ghost use Rattle.ih_costs.specs.Standing.{Standing};
     ghost use Rattle.ih_costs.specs.CellLedgers.{AreLedgers, timetable_of};
 
@@ -36,7 +34,7 @@ impl<'a> Model for Ledgers<'a> {
 
     ghost view = { λ l. record { instance = l.inst.now.draft; plan = timetable_of l.cells } };
 
-    ghost invariant = { λ l. AreLedgers l.inst.now.draft l.cells × (l.set.cells ≡ []) × (l.set.sizes ≡ sizes_of l.inst.now.draft) };
+    ghost invariant = { λ l. AreLedgers l.inst.now.draft l.cells × IsFree l.inst.now.draft l.scratch };
 }
 
 impl<'a> Ledgers<'a> {
@@ -63,8 +61,10 @@ impl<'a> Ledgers<'a> {
         Ok(Ledgers {
             inst,
             cells,
-            writes: Writes::new(),
-            set: CellSet::new(alloc, Numbering::of(inst))?,
+            scratch: Scratch {
+                writes: Writes::new(),
+                set: CellSet::new(alloc, Numbering::of(inst))?,
+            },
         })
     }
 
@@ -132,8 +132,8 @@ impl<'a> Ledgers<'a> {
         requires { IsMoveOf self.old.instance mv.now }
         ensures { self.new ≡ record self.old { plan = after self.old.instance self.old.plan mv.now } }
     {
-        expand(self.inst, self.cells.plan(), mv, &mut self.writes);
-        put_all(self.inst, &mut self.cells, self.writes.as_slice());
+        expand_here(self.inst, &self.cells, mv, &mut self.scratch.writes);
+        put_all(self.inst, &mut self.cells, self.scratch.writes.as_slice());
     }
 
     /// Makes a move. In place of what was listed there, `foot` has the cells that the move touched, rising: those of
@@ -175,7 +175,7 @@ impl<'a> Ledgers<'a> {
         ensures within { IsWithin (10 ^ 11) result }
         ensures same { self.new ≡ self.old }
     {
-        price_of(self.inst, &mut self.cells, &mut self.writes, mv)
+        price_of(self.inst, &mut self.cells, &mut self.scratch.writes, mv)
     }
 
     /// Lists the cells of a move's footprint in `foot`, rising, in place of what was listed there.
@@ -186,14 +186,7 @@ impl<'a> Ledgers<'a> {
         ensures sizes { foot.new.sizes ≡ foot.old.sizes }
         ensures same { self.new ≡ self.old }
     {
-        foot_of(
-            self.inst,
-            &self.cells,
-            &mut self.writes,
-            &mut self.set,
-            mv,
-            foot,
-        );
+        foot_of(self.inst, &self.cells, &mut self.scratch, mv, foot);
     }
 
     /// What moves in a row would add to the bill together, number by number: each is at most 10^11 in magnitude. In
@@ -232,7 +225,13 @@ impl<'a> Ledgers<'a> {
         ensures within { IsWithin (10 ^ 11) result }
         ensures same { self.new ≡ self.old }
     {
-        change_behind(self.inst, &mut self.cells, &[], moves, &mut self.writes)
+        change_behind(
+            self.inst,
+            &mut self.cells,
+            &[],
+            moves,
+            &mut self.scratch.writes,
+        )
     }
 
     /// Lists the cells of the footprints of moves in a row in `foot`, rising, in place of what was listed there. Each
@@ -263,11 +262,10 @@ impl<'a> Ledgers<'a> {
             &mut self.cells,
             &[],
             moves,
-            &mut self.writes,
-            &mut self.set,
+            &mut self.scratch,
             foot,
         );
-        foot.take_from(&mut self.set);
+        foot.take_from(&mut self.scratch.set);
     }
 
     /// Makes moves, in order.
@@ -275,7 +273,7 @@ impl<'a> Ledgers<'a> {
         requires { AreMoves self.old.instance moves.now }
         ensures { self.new ≡ record self.old { plan = after_all self.old.instance self.old.plan moves.now } }
     {
-        play_in_row(self.inst, &mut self.cells, moves, &mut self.writes);
+        play_in_row(self.inst, &mut self.cells, moves, &mut self.scratch.writes);
     }
 
     /// Makes moves, in order. In place of what was listed there, `foot` has the cells of their footprints, each move's
@@ -287,14 +285,7 @@ impl<'a> Ledgers<'a> {
         ensures cells { foot.new.cells ≡ footprint_of_all self.old.instance self.old.plan moves.now }
         ensures sizes { foot.new.sizes ≡ foot.old.sizes }
     {
-        play_in_row_noting(
-            self.inst,
-            &mut self.cells,
-            moves,
-            &mut self.writes,
-            &mut self.set,
-            foot,
-        );
-        foot.take_from(&mut self.set);
+        play_in_row_noting(self.inst, &mut self.cells, moves, &mut self.scratch, foot);
+        foot.take_from(&mut self.scratch.set);
     }
 }

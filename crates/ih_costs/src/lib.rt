@@ -13,6 +13,7 @@ mod pricing;
 mod row_feet;
 mod row_prices;
 mod rows;
+mod scratch;
 mod stay_prices;
 mod stays;
 

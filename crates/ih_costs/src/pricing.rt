@@ -1,10 +1,10 @@
 //! What a move changes in the bill: each of its writes is priced where it would be made.
 
-ghost use Rattle.std.specs.Prelude.{◌≡◌, ◌^◌, ◌∷◌};
+ghost use Rattle.std.specs.Prelude.{◌≡◌, ◌≤◌, ◌^◌, ◌∷◌, length};
 ghost use Rattle.ih_tables.specs.Bills.{IsWithin};
 ghost use Rattle.ih_plan.specs.Timetable.{IsPlanOf};
 ghost use Rattle.ih_plan.specs.Writes.{put, put_all, IsWriteOf, AreWritesOf};
-ghost use Rattle.ih_plan.specs.Expand.{after, IsMoveOf};
+ghost use Rattle.ih_plan.specs.Expand.{after, expand, IsMoveOf};
 ghost use Rattle.ih_plan.specs.BillOf.{change_of_bill};
 ghost use Rattle.ih_costs.specs.CellLedgers.{AreLedgers, AreLedgersOf, timetable_of};
 ghost use Rattle.ih_costs.specs.Undo.{undo_of};
@@ -14,8 +14,20 @@ use ih_moves::{Writes, expand};
 use ih_plan::{Move, Plan, Write};
 use ih_tables::{Bill, Instance};
 
-/// The write that brings back what a write replaces.
-pub fn undo_of(inst: &Instance, plan: &Plan, w: &Write) -> Write
+/// The writes of a move at the ledgers' timetable, in place of what `writes` held.
+#[inline(always)]
+pub fn expand_here(inst: &Instance, ledgers: &CellLedgers, mv: &Move, writes: &mut Writes)
+    requires stands { AreLedgers inst.now.draft ledgers.now }
+    requires move_in { IsMoveOf inst.now.draft mv.now }
+    ensures made { writes.new ≡ expand inst.now.draft (timetable_of ledgers.now) mv.now }
+    ensures fits { AreWritesOf inst.now.draft writes.new }
+    ensures few { length writes.new ≤ 21 }
+{
+    expand(inst, ledgers.plan(), mv, writes);
+}
+
+// The write that brings back what a write replaces.
+fn undo_of(inst: &Instance, plan: &Plan, w: &Write) -> Write
     requires plan { IsPlanOf inst.now.draft plan.now }
     requires write { IsWriteOf inst.now.draft w.now }
     ensures { result ≡ undo_of plan.now w.now }
@@ -24,6 +36,20 @@ pub fn undo_of(inst: &Instance, plan: &Plan, w: &Write) -> Write
         Write::SetStay(p, _) => Write::SetStay(p, plan.stay(p)),
         Write::SetCare(r, k, _) => Write::SetCare(r, k, plan.care(r, k)),
     }
+}
+
+/// Makes a write, and tells the one that takes it back.
+#[inline(always)]
+pub fn put_for_now(inst: &Instance, ledgers: &mut CellLedgers, w: &Write) -> Write
+    requires stands { AreLedgers inst.now.draft ledgers.old }
+    requires write { IsWriteOf inst.now.draft w.now }
+    ensures stands { AreLedgersOf inst.now.draft (put w.now (timetable_of ledgers.old)) ledgers.new }
+    ensures undo { result ≡ undo_of (timetable_of ledgers.old) w.now }
+    ensures fits { IsWriteOf inst.now.draft result }
+{
+    let undo = undo_of(inst, ledgers.plan(), w);
+    ledgers.put(inst, w);
+    undo
 }
 
 /// Makes writes, in order.
@@ -66,8 +92,7 @@ fn change_in_turn(inst: &Instance, ledgers: &mut CellLedgers, w: &Write, rest: &
     match rest.split_first() {
         None => here,
         Some((next, later)) => {
-            let undo = undo_of(inst, ledgers.plan(), w);
-            ledgers.put(inst, w);
+            let undo = put_for_now(inst, ledgers, w);
             let further = change_in_turn(inst, ledgers, next, later);
             ledgers.put(inst, &undo);
             here.add(&further)
@@ -100,6 +125,6 @@ pub fn price_of(inst: &Instance, ledgers: &mut CellLedgers, writes: &mut Writes,
     ensures within { IsWithin (10 ^ 11) result }
     ensures stands { AreLedgersOf inst.now.draft (timetable_of ledgers.old) ledgers.new }
 {
-    expand(inst, ledgers.plan(), mv, writes);
+    expand_here(inst, ledgers, mv, writes);
     change_after(inst, ledgers, writes.as_slice())
 }

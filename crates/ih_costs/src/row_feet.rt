@@ -9,51 +9,50 @@ ghost use Rattle.ih_costs.specs.CellLedgers.{AreLedgers, AreLedgersOf, timetable
 
 use crate::cell_ledgers::CellLedgers;
 use crate::feet::gather_move;
-use crate::pricing::undo_of;
-use ih_footprint::{CellList, CellSet};
-use ih_moves::{Writes, expand};
+use crate::pricing::{expand_here, put_for_now};
+use crate::scratch::Scratch;
+use ih_footprint::CellList;
+use ih_moves::Writes;
 use ih_plan::{Move, Write};
 use ih_tables::Instance;
 
 /// Gathers the footprints of moves in a row, behind some writes: these are made first, and taken back in the end.
-/// Each move but the last is made too, so that the next one's cells are gathered behind it. `writes` is room for the
-/// writes of one move, and `looked` for the cells that they are chosen by.
+/// Each move but the last is made too, so that the next one's cells are gathered behind it. `looked` is room for the
+/// cells that a move's writes are chosen by.
 pub fn gather_behind(
     inst: &Instance,
     ledgers: &mut CellLedgers,
     behind: &[Write],
     moves: &[Move],
-    writes: &mut Writes,
-    set: &mut CellSet,
+    scratch: &mut Scratch,
     looked: &mut CellList,
 )
     requires stands { AreLedgers inst.now.draft ledgers.old }
     requires behind { AreWritesOf inst.now.draft behind.now }
     requires moves { AreMoves inst.now.draft moves.now }
-    requires set { set.old.sizes ≡ sizes_of inst.now.draft }
+    requires set { scratch.old.set.sizes ≡ sizes_of inst.now.draft }
     requires sizes { looked.old.sizes ≡ sizes_of inst.now.draft }
     ensures stands { AreLedgersOf inst.now.draft (timetable_of ledgers.old) ledgers.new }
-    ensures gathers { Gathers set.old set.new
+    ensures gathers { Gathers scratch.old.set scratch.new.set
         (all_touch inst.now.draft (put_all behind.now (timetable_of ledgers.old)) moves.now) }
     ensures sizes { looked.new.sizes ≡ looked.old.sizes }
 {
     match behind.split_first() {
         Some((w, rest)) => {
-            let undo = undo_of(inst, ledgers.plan(), w);
-            ledgers.put(inst, w);
-            gather_behind(inst, ledgers, rest, moves, writes, set, looked);
+            let undo = put_for_now(inst, ledgers, w);
+            gather_behind(inst, ledgers, rest, moves, scratch, looked);
             ledgers.put(inst, &undo);
         }
         None => match moves.split_first() {
             None => {}
             Some((mv, later)) => {
-                gather_move(inst, ledgers, writes, set, mv, looked);
+                gather_move(inst, ledgers, scratch, mv, looked);
                 if later.len() == 0 {
                     return;
                 }
                 let mut made = Writes::new();
-                expand(inst, ledgers.plan(), mv, &mut made);
-                gather_behind(inst, ledgers, made.as_slice(), later, writes, set, looked);
+                expand_here(inst, ledgers, mv, &mut made);
+                gather_behind(inst, ledgers, made.as_slice(), later, scratch, looked);
             }
         },
     }

@@ -6,8 +6,8 @@ ghost use Rattle.ih_plan.specs.Series.{AreMoves, price_of_all};
 ghost use Rattle.ih_costs.specs.CellLedgers.{AreLedgers, AreLedgersOf, timetable_of};
 
 use crate::cell_ledgers::CellLedgers;
-use crate::pricing::{price_of, undo_of};
-use ih_moves::{Writes, expand};
+use crate::pricing::{expand_here, price_of, put_for_now};
+use ih_moves::Writes;
 use ih_plan::{Move, Write};
 use ih_tables::{Bill, Instance};
 
@@ -28,8 +28,7 @@ pub fn change_behind(
 {
     match behind.split_first() {
         Some((w, rest)) => {
-            let undo = undo_of(inst, ledgers.plan(), w);
-            ledgers.put(inst, w);
+            let undo = put_for_now(inst, ledgers, w);
             let change = change_behind(inst, ledgers, rest, moves, writes);
             ledgers.put(inst, &undo);
             change
@@ -42,7 +41,7 @@ pub fn change_behind(
                     return here;
                 }
                 let mut made = Writes::new();
-                expand(inst, ledgers.plan(), mv, &mut made);
+                expand_here(inst, ledgers, mv, &mut made);
                 let further = change_behind(inst, ledgers, made.as_slice(), later, writes);
                 here.add(&further)
             }

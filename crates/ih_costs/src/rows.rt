@@ -8,9 +8,10 @@ ghost use Rattle.ih_costs.specs.CellLedgers.{AreLedgers, AreLedgersOf, timetable
 
 use crate::cell_ledgers::CellLedgers;
 use crate::feet::gather_move;
-use crate::pricing::put_all;
-use ih_footprint::{CellList, CellSet};
-use ih_moves::{Writes, expand};
+use crate::pricing::{expand_here, put_all};
+use crate::scratch::Scratch;
+use ih_footprint::CellList;
+use ih_moves::Writes;
 use ih_plan::Move;
 use ih_tables::Instance;
 
@@ -23,7 +24,7 @@ pub fn play_in_row(inst: &Instance, ledgers: &mut CellLedgers, moves: &[Move], w
     match moves.split_first() {
         None => {}
         Some((mv, later)) => {
-            expand(inst, ledgers.plan(), mv, writes);
+            expand_here(inst, ledgers, mv, writes);
             put_all(inst, ledgers, writes.as_slice());
             play_in_row(inst, ledgers, later, writes);
         }
@@ -35,25 +36,24 @@ pub fn play_in_row_noting(
     inst: &Instance,
     ledgers: &mut CellLedgers,
     moves: &[Move],
-    writes: &mut Writes,
-    set: &mut CellSet,
+    scratch: &mut Scratch,
     looked: &mut CellList,
 )
     requires stands { AreLedgers inst.now.draft ledgers.old }
     requires moves { AreMoves inst.now.draft moves.now }
-    requires set { set.old.sizes ≡ sizes_of inst.now.draft }
+    requires set { scratch.old.set.sizes ≡ sizes_of inst.now.draft }
     requires sizes { looked.old.sizes ≡ sizes_of inst.now.draft }
     ensures stands { AreLedgersOf inst.now.draft
         (after_all inst.now.draft (timetable_of ledgers.old) moves.now) ledgers.new }
-    ensures gathers { Gathers set.old set.new (all_touch inst.now.draft (timetable_of ledgers.old) moves.now) }
+    ensures gathers { Gathers scratch.old.set scratch.new.set (all_touch inst.now.draft (timetable_of ledgers.old) moves.now) }
     ensures sizes { looked.new.sizes ≡ looked.old.sizes }
 {
     match moves.split_first() {
         None => {}
         Some((mv, later)) => {
-            gather_move(inst, ledgers, writes, set, mv, looked);
-            put_all(inst, ledgers, writes.as_slice());
-            play_in_row_noting(inst, ledgers, later, writes, set, looked);
+            gather_move(inst, ledgers, scratch, mv, looked);
+            put_all(inst, ledgers, scratch.writes.as_slice());
+            play_in_row_noting(inst, ledgers, later, scratch, looked);
         }
     }
 }

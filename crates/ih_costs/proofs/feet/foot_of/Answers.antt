@@ -6,5 +6,5 @@ use Rattle.ih_costs.proofs.feet.foot_of.Goals as goal
 pub returns-clause-cells : goal.returns-clause-cells
 returns-clause-cells c =
     c.take_from.ensures.cells
-    ∙ gathered-footprint c.args.inst.now.draft (timetable_of c.args.ledgers.now) c.args.mv.now c.args.set.now c.gather_move.new.set
-    c.requires.set c.requires.empty c.gather_move.ensures.gathers
+    ∙ gathered-footprint c.args.inst.now.draft (timetable_of c.args.ledgers.now) c.args.mv.now c.args.scratch.now.set c.gather_move.new.scratch.set
+    c.requires.free.sizes c.requires.free.empty c.gather_move.ensures.gathers

@@ -4,7 +4,6 @@ use Rattle.ih_plan.specs.declared.moves.Write.{Write}
 use Rattle.ih_plan.specs.Sums.{is_listed}
 use Rattle.ih_plan.specs.Expand.{expand}
 use Rattle.ih_plan.specs.Cells.{IsCellIn}
-use Rattle.ih_plan.proofs.PlanRanges.{expand-writes}
 use Rattle.ih_footprint.specs.Gathered.{Gathers}
 use Rattle.ih_footprint.proofs.LookLemmas.{looks-inside}
 use Rattle.ih_costs.specs.CellLedgers.{timetable_of}
@@ -18,19 +17,16 @@ looks-requires c = λ e looked.
     subst (λ z. IsCellIn z e) (sym (c.clear.ensures.sizes ∙ c.requires.sizes)) (looks-inside c.args.inst.now.draft c.args.mv.now c.requires.move_in e looked)
 
 pub gather_all-requires-clause-writes : goal.gather_all-requires-clause-writes
-gather_all-requires-clause-writes c =
-    let I = c.args.inst.now.draft in
-    let P = timetable_of c.args.ledgers.now in
-    rw (c.as_slice.ensures, c.expand.ensures.made, c.plan.ensures) (expand-writes I P c.args.mv.now (plan-fits I P c.args.ledgers.now c.requires.stands) c.requires.move_in)
+gather_all-requires-clause-writes c = rw c.as_slice.ensures c.expand_here.ensures.fits
 
 pub returns-clause-gathers : goal.returns-clause-gathers
 returns-clause-gathers c =
     let I = c.args.inst.now.draft in
     let P = timetable_of c.args.ledgers.now in
     let m = c.args.mv.now in
-    let writes : c.as_slice.result.now ≡ expand I P m = c.as_slice.ensures ∙ c.expand.ensures.made ∙ ap (λ Q. expand I Q m) c.plan.ensures in
-    gathered-touches I P m c.args.set.now c.clear.new.self c.looks.new.out c.add_all.new.self c.gather_all.new.cells
+    let writes : c.as_slice.result.now ≡ expand I P m = c.as_slice.ensures ∙ c.expand_here.ensures.made in
+    gathered-touches I P m c.args.scratch.now.set c.clear.new.self c.looks.new.out c.add_all.new.self c.gather_all.new.cells
     (plan-fits I P c.args.ledgers.now c.requires.stands) c.requires.move_in
     (c.clear.ensures.sizes ∙ c.requires.sizes) c.clear.ensures.cells c.looks.ensures c.requires.set c.add_all.ensures.sizes
-    (λ n. c.add_all.ensures.cells n ∙ ap (λ ns. is_listed n c.args.set.now.cells || is_listed n ns) c.cells.ensures.cells)
+    (λ n. c.add_all.ensures.cells n ∙ ap (λ ns. is_listed n c.args.scratch.now.set.cells || is_listed n ns) c.cells.ensures.cells)
     (subst (λ (ws : List Write). Gathers c.add_all.new.self c.gather_all.new.cells (touch_at_once I P ws)) writes c.gather_all.ensures)

@@ -6,17 +6,10 @@ use Rattle.ih_plan.specs.BillOf.{change_of_bill}
 use Rattle.ih_plan.proofs.BillBounds.{change-within, within-more}
 use Rattle.ih_plan.proofs.PlanRanges.{put_all-plan}
 use Rattle.ih_costs.specs.CellLedgers.{timetable_of}
-use Rattle.ih_costs.specs.Undo.{undo_of}
 use Rattle.ih_plan.proofs.ChangeSums.{change-then}
 use Rattle.ih_costs.proofs.StandLemmas.{kept, plan-fits}
-use Rattle.ih_costs.proofs.UndoLemmas.{taken-back, undo-write}
+use Rattle.ih_costs.proofs.UndoLemmas.{taken-back}
 use Rattle.ih_costs.proofs.pricing.+change_in_turn.Goals as goal
-
-pub put-requires-in-Some-clause-write : goal.put-requires-in-Some-clause-write
-put-requires-in-Some-clause-write t c =
-    let I = c.args.inst.now.draft in
-    let P = timetable_of c.args.ledgers.now in
-    rw (c.undo_of-undo.ensures, c.plan.ensures) (undo-write I P c.args.w.now (plan-fits I P c.args.ledgers.now c.requires.stands) c.requires.write)
 
 -- the change of the first write, and of the others behind it
 pub add-requires : goal.add-requires
@@ -28,7 +21,7 @@ add-requires t c =
     let R = put_all ws Q in
     let valid = c.args.inst.now.valid in
     let plan = plan-fits I P c.args.ledgers.now c.requires.stands in
-    let made = kept I Q c.put.new.self c.put.ensures in
+    let made = kept I Q c.put_for_now-undo.new.ledgers c.put_for_now-undo.ensures.stands in
     let further = c.change_in_turn-further.ensures.change ∙ ap (λ T. change_of_bill I T (put_all ws T)) made in
     let writes : AreWritesOf I (c.args.w.now ∷ ws) = (c.requires.write, subst (AreWritesOf I) c.in-Some.ensures.cases.0 c.requires.writes) in
     rw (c.price_of_write-here.ensures.price, further, change-then I P Q R)
@@ -44,10 +37,7 @@ returns-in-None-clause-change t c =
 
 pub returns-in-Some-clause-stands : goal.returns-in-Some-clause-stands
 returns-in-Some-clause-stands t c =
-    let P = timetable_of c.args.ledgers.now in
-    let w = c.args.w.now in
-    taken-back c.args.inst.now.draft P w c.undo_of-undo.result c.put.new.self c.change_in_turn-further.new.ledgers c.put-in-Some.new.self c.put.ensures c.change_in_turn-further.ensures.stands
-    (c.undo_of-undo.ensures ∙ ap (λ Q. undo_of Q w) c.plan.ensures) c.put-in-Some.ensures
+    taken-back c.args.w.now c.put_for_now-undo.ensures.stands c.change_in_turn-further.ensures.stands c.put_for_now-undo.ensures.undo c.put.ensures
 
 pub returns-in-Some-clause-change : goal.returns-in-Some-clause-change
 returns-in-Some-clause-change t c =
@@ -55,7 +45,7 @@ returns-in-Some-clause-change t c =
     let P = timetable_of c.args.ledgers.now in
     let w = c.args.w.now in
     let ws = c.in-Some.next.now ∷ c.in-Some.later.now in
-    let made = kept I (put w P) c.put.new.self c.put.ensures in
+    let made = kept I (put w P) c.put_for_now-undo.new.ledgers c.put_for_now-undo.ensures.stands in
     let further = c.change_in_turn-further.ensures.change ∙ ap (λ T. change_of_bill I T (put_all ws T)) made in
     c.add.ensures
     ∙ (ap (λ b. add_bills b c.change_in_turn-further.result) c.price_of_write-here.ensures.price

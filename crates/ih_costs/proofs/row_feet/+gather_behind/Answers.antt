@@ -3,46 +3,34 @@ use Rattle.std.proofs.lemmas.List.{nil_from_length}
 use Rattle.ih_plan.specs.declared.moves.Move.{Move}
 use Rattle.ih_plan.specs.declared.moves.Write.{Write}
 use Rattle.ih_plan.specs.Timetable.{Timetable}
-use Rattle.ih_plan.specs.Writes.{put, put_all, AreWritesOf}
-use Rattle.ih_plan.specs.Expand.{after, expand}
-use Rattle.ih_plan.proofs.PlanRanges.{expand-writes}
+use Rattle.ih_plan.specs.Writes.{put, put_all}
+use Rattle.ih_plan.specs.Expand.{after}
 use Rattle.ih_footprint.specs.Gathered.{Gathers}
 use Rattle.ih_plan.specs.Series.{AreMoves, all_touch}
 use Rattle.ih_costs.specs.CellLedgers.{timetable_of}
-use Rattle.ih_costs.specs.Undo.{undo_of}
-use Rattle.ih_costs.proofs.RowLemmas.{gathers-no-moves, gathers-more-moves, gathers-one-move}
-use Rattle.ih_costs.proofs.StandLemmas.{kept, plan-fits}
-use Rattle.ih_costs.proofs.UndoLemmas.{taken-back, undo-write}
+use Rattle.ih_costs.proofs.RowLemmas.{alone, gathers-no-moves, gathers-more-moves, gathers-one-move}
+use Rattle.ih_costs.proofs.StandLemmas.{kept}
+use Rattle.ih_costs.proofs.UndoLemmas.{taken-back}
 use Rattle.ih_costs.proofs.row_feet.+gather_behind.Goals as goal
-
-pub put-requires-in-Some-clause-write : goal.put-requires-in-Some-clause-write
-put-requires-in-Some-clause-write t c =
-    let I = c.args.inst.now.draft in
-    let P = timetable_of c.args.ledgers.now in
-    let behind : AreWritesOf I (c.in-Some.w.now ∷ c.in-Some.rest.now) = subst (AreWritesOf I) c.in-Some.ensures.cases.0 c.requires.behind in
-    rw (c.undo_of-undo.ensures, c.plan.ensures) (undo-write I P c.in-Some.w.now (plan-fits I P c.args.ledgers.now c.requires.stands) behind.0)
 
 pub returns-in-Some-clause-stands : goal.returns-in-Some-clause-stands
 returns-in-Some-clause-stands t c =
-    let P = timetable_of c.args.ledgers.now in
-    let w = c.in-Some.w.now in
-    taken-back c.args.inst.now.draft P w c.undo_of-undo.result c.put.new.self c.gather_behind.new.ledgers c.put-in-Some.new.self c.put.ensures c.gather_behind.ensures.stands
-    (c.undo_of-undo.ensures ∙ ap (λ Q. undo_of Q w) c.plan.ensures) c.put-in-Some.ensures
+    taken-back c.in-Some.w.now c.put_for_now-undo.ensures.stands c.gather_behind.ensures.stands c.put_for_now-undo.ensures.undo c.put.ensures
 
 pub returns-in-Some-clause-gathers : goal.returns-in-Some-clause-gathers
 returns-in-Some-clause-gathers t c =
     let I = c.args.inst.now.draft in
     let P = timetable_of c.args.ledgers.now in
     let ms = c.args.moves.now in
-    let u = c.args.set.now in
-    let v = c.gather_behind.new.set in
-    let made = kept I (put c.in-Some.w.now P) c.put.new.self c.put.ensures in
+    let u = c.args.scratch.now.set in
+    let v = c.gather_behind.new.scratch.set in
+    let made = kept I (put c.in-Some.w.now P) c.put_for_now-undo.new.ledgers c.put_for_now-undo.ensures.stands in
     subst (λ (ws : List Write). Gathers u v (all_touch I (put_all ws P) ms)) (sym c.in-Some.ensures.cases.0)
     (subst (λ (Q : Timetable). Gathers u v (all_touch I (put_all c.in-Some.rest.now Q) ms)) made c.gather_behind.ensures.gathers)
 
 pub returns-in-None-split_first-clause-gathers : goal.returns-in-None-split_first-clause-gathers
 returns-in-None-split_first-clause-gathers t c =
-    gathers-no-moves c.args.inst.now.draft _ c.args.moves.now c.args.set.now (nil_from_length c.args.moves.now c.in-None-split_first.ensures.cases)
+    gathers-no-moves c.args.inst.now.draft _ c.args.moves.now c.args.scratch.now.set (nil_from_length c.args.moves.now c.in-None-split_first.ensures.cases)
 
 -- a last move isn't made
 pub returns-then-later-eq0-clause-gathers : goal.returns-then-later-eq0-clause-gathers
@@ -50,23 +38,17 @@ returns-then-later-eq0-clause-gathers t c =
     let I = c.args.inst.now.draft in
     let P = timetable_of c.args.ledgers.now in
     let m = c.in-Some-split_first.mv.now in
-    let u = c.args.set.now in
-    let v = c.gather_move.new.set in
+    let u = c.args.scratch.now.set in
+    let v = c.gather_move.new.scratch.set in
     let none : c.args.behind.now ≡ [] = nil_from_length c.args.behind.now c.in-None.ensures.cases in
-    let last : c.in-Some-split_first.later.now ≡ [] = nil_from_length c.in-Some-split_first.later.now c.if-later-eq0.true in
     subst (λ (ws : List Write). Gathers u v (all_touch I (put_all ws P) c.args.moves.now)) (sym none)
-    (gathers-one-move I P m c.args.moves.now u v (c.in-Some-split_first.ensures.cases.0 ∙ ap (λ ms. m ∷ ms) last) c.gather_move.ensures.gathers)
+    (gathers-one-move I P m c.args.moves.now u v (alone c.in-Some-split_first.ensures.cases.0 c.if-later-eq0.true) c.gather_move.ensures.gathers)
 
 pub gather_behind-requires-in-Some-split_first : goal.gather_behind-requires-in-Some-split_first
 gather_behind-requires-in-Some-split_first t c =
-    let I = c.args.inst.now.draft in
-    let P = timetable_of c.args.ledgers.now in
-    let m = c.in-Some-split_first.mv.now in
-    let fits : AreMoves I (m ∷ c.in-Some-split_first.later.now) =
-    subst (AreMoves I) c.in-Some-split_first.ensures.cases.0 c.requires.moves in
-    let made : c.as_slice.result.now ≡ expand I P m =
-    c.as_slice.ensures ∙ (c.expand.ensures.made ∙ ap (λ Q. expand I Q m) c.plan-in-Some-split_first.ensures) in
-    let few = c.expand.ensures.few in
+    let fits : AreMoves c.args.inst.now.draft (c.in-Some-split_first.mv.now ∷ c.in-Some-split_first.later.now) =
+    subst (AreMoves _) c.in-Some-split_first.ensures.cases.0 c.requires.moves in
+    let few = c.expand_here.ensures.few in
     let short = ap length c.as_slice.ensures in
     let more = ap length c.in-Some-split_first.ensures.cases.0 in
     let less = c.decreases in (
@@ -74,7 +56,7 @@ gather_behind-requires-in-Some-split_first t c =
       (
         c.requires.stands,
         (
-          subst (AreWritesOf I) (sym made) (expand-writes I P m (plan-fits I P c.args.ledgers.now c.requires.stands) fits.0),
+          rw c.as_slice.ensures c.expand_here.ensures.fits,
           (
             fits.1,
             (c.gather_move.ensures.gathers.sizes ∙ c.requires.set, c.gather_move.ensures.sizes ∙ c.requires.sizes),
@@ -89,12 +71,12 @@ returns-else-later-eq0-clause-gathers t c =
     let P = timetable_of c.args.ledgers.now in
     let m = c.in-Some-split_first.mv.now in
     let ms = c.in-Some-split_first.later.now in
-    let u = c.args.set.now in
-    let v = c.gather_move.new.set in
-    let w = c.gather_behind-in-Some-split_first.new.set in
+    let u = c.args.scratch.now.set in
+    let v = c.gather_move.new.scratch.set in
+    let w = c.gather_behind-in-Some-split_first.new.scratch.set in
     let none : c.args.behind.now ≡ [] = nil_from_length c.args.behind.now c.in-None.ensures.cases in
     let made : put_all c.as_slice.result.now P ≡ after I P m =
-    ap (λ ws. put_all ws P) (c.as_slice.ensures ∙ (c.expand.ensures.made ∙ ap (λ Q. expand I Q m) c.plan-in-Some-split_first.ensures)) in
+    ap (λ ws. put_all ws P) (c.as_slice.ensures ∙ c.expand_here.ensures.made) in
     let others : Gathers v w (all_touch I (after I P m) ms) =
     subst (λ Q. Gathers v w (all_touch I Q ms)) made c.gather_behind-in-Some-split_first.ensures.gathers in
     let whole : Gathers u w (all_touch I P (m ∷ ms)) = gathers-more-moves I P m ms u v w c.gather_move.ensures.gathers others in

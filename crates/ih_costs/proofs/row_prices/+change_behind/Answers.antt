@@ -1,40 +1,29 @@
 use Rattle.std.proofs.Common.{◌≡◌, ◌∷◌, [], ◌^◌, ◌∙◌, sym, ap, subst, arith, length}
 use Rattle.std.proofs.lemmas.List.{nil_from_length}
 use Rattle.ih_tables.specs.Bills.{add_bills}
-use Rattle.ih_plan.specs.Writes.{put, put_all, AreWritesOf}
-use Rattle.ih_plan.specs.Expand.{after, expand}
+use Rattle.ih_plan.specs.Writes.{put, put_all}
+use Rattle.ih_plan.specs.Expand.{after}
 use Rattle.ih_plan.specs.BillOf.{change_of_bill}
 use Rattle.ih_plan.proofs.BillBounds.{change-within, within-more}
-use Rattle.ih_plan.proofs.PlanRanges.{after-plan, expand-writes}
+use Rattle.ih_plan.proofs.PlanRanges.{after-plan}
 use Rattle.ih_plan.specs.Series.{AreMoves, after_all, price_of_all}
 use Rattle.ih_plan.proofs.Series.{after_all-plan}
 use Rattle.ih_costs.specs.CellLedgers.{timetable_of}
-use Rattle.ih_costs.specs.Undo.{undo_of}
 use Rattle.ih_plan.proofs.ChangeSums.{change-then}
-use Rattle.ih_costs.proofs.RowLemmas.{price-more, price-none, single-price}
+use Rattle.ih_costs.proofs.RowLemmas.{alone, made-there, price-more, price-none, single-price}
 use Rattle.ih_costs.proofs.StandLemmas.{kept, plan-fits, stands-own}
-use Rattle.ih_costs.proofs.UndoLemmas.{taken-back, undo-write}
+use Rattle.ih_costs.proofs.UndoLemmas.{taken-back}
 use Rattle.ih_costs.proofs.row_prices.+change_behind.Goals as goal
-
-pub put-requires-in-Some-clause-write : goal.put-requires-in-Some-clause-write
-put-requires-in-Some-clause-write t c =
-    let I = c.args.inst.now.draft in
-    let P = timetable_of c.args.ledgers.now in
-    let behind : AreWritesOf I (c.in-Some.w.now ∷ c.in-Some.rest.now) = subst (AreWritesOf I) c.in-Some.ensures.cases.0 c.requires.behind in
-    rw (c.undo_of-undo.ensures, c.plan.ensures) (undo-write I P c.in-Some.w.now (plan-fits I P c.args.ledgers.now c.requires.stands) behind.0)
 
 pub returns-in-Some-clause-stands : goal.returns-in-Some-clause-stands
 returns-in-Some-clause-stands t c =
-    let P = timetable_of c.args.ledgers.now in
-    let w = c.in-Some.w.now in
-    taken-back c.args.inst.now.draft P w c.undo_of-undo.result c.put.new.self c.change_behind-change.new.ledgers c.put-in-Some.new.self c.put.ensures c.change_behind-change.ensures.stands
-    (c.undo_of-undo.ensures ∙ ap (λ Q. undo_of Q w) c.plan.ensures) c.put-in-Some.ensures
+    taken-back c.in-Some.w.now c.put_for_now-undo.ensures.stands c.change_behind-change.ensures.stands c.put_for_now-undo.ensures.undo c.put.ensures
 
 pub returns-in-Some-clause-change : goal.returns-in-Some-clause-change
 returns-in-Some-clause-change t c =
     let I = c.args.inst.now.draft in
     let P = timetable_of c.args.ledgers.now in
-    let made = kept I (put c.in-Some.w.now P) c.put.new.self c.put.ensures in
+    let made = kept I (put c.in-Some.w.now P) c.put_for_now-undo.new.ledgers c.put_for_now-undo.ensures.stands in
     c.change_behind-change.ensures.change
     ∙ (ap (λ Q. price_of_all I (put_all c.in-Some.rest.now Q) c.args.moves.now) made
     ∙ ap (λ ws. price_of_all I (put_all ws P) c.args.moves.now) (sym c.in-Some.ensures.cases.0))
@@ -56,10 +45,7 @@ add-requires t c =
     let plan = plan-fits I P c.args.ledgers.now c.requires.stands in
     let fits : AreMoves I (m ∷ ms) = subst (AreMoves I) c.in-Some-split_first.ensures.cases.0 c.requires.moves in
     let same : timetable_of L ≡ P = kept I P L c.price_of-here.ensures.stands in
-    let made : put_all c.as_slice.result.now (timetable_of L) ≡ after I P m =
-    ap (λ ws. put_all ws (timetable_of L))
-    (c.as_slice.ensures ∙ (c.expand.ensures.made ∙ ap (λ Q. expand I Q m) (c.plan-in-Some-split_first.ensures ∙ same)))
-    ∙ ap (put_all (expand I P m)) same in
+    let made = made-there I m same (c.as_slice.ensures ∙ c.expand_here.ensures.made) in
     let further : c.change_behind-further.result ≡ price_of_all I (after I P m) ms =
     c.change_behind-further.ensures.change ∙ ap (λ Q. price_of_all I Q ms) made in
     rw (c.price_of-here.ensures.price, further, change-then I P (after I P m) (after_all I (after I P m) ms))
@@ -75,10 +61,7 @@ returns-else-later-eq0-clause-change t c =
     let L = c.price_of-here.new.ledgers in
     let none : c.args.behind.now ≡ [] = nil_from_length c.args.behind.now c.in-None.ensures.cases in
     let same : timetable_of L ≡ P = kept I P L c.price_of-here.ensures.stands in
-    let made : put_all c.as_slice.result.now (timetable_of L) ≡ after I P m =
-    ap (λ ws. put_all ws (timetable_of L))
-    (c.as_slice.ensures ∙ (c.expand.ensures.made ∙ ap (λ Q. expand I Q m) (c.plan-in-Some-split_first.ensures ∙ same)))
-    ∙ ap (put_all (expand I P m)) same in
+    let made = made-there I m same (c.as_slice.ensures ∙ c.expand_here.ensures.made) in
     let further : c.change_behind-further.result ≡ price_of_all I (after I P m) ms =
     c.change_behind-further.ensures.change ∙ ap (λ Q. price_of_all I Q ms) made in
     c.add.ensures
@@ -95,9 +78,8 @@ returns-then-later-eq0-clause-change t c =
     let P = timetable_of c.args.ledgers.now in
     let m = c.in-Some-split_first.mv.now in
     let none : c.args.behind.now ≡ [] = nil_from_length c.args.behind.now c.in-None.ensures.cases in
-    let last : c.in-Some-split_first.later.now ≡ [] = nil_from_length c.in-Some-split_first.later.now c.if-later-eq0.true in
     c.price_of-here.ensures.price
-    ∙ (single-price I P m c.args.moves.now (c.in-Some-split_first.ensures.cases.0 ∙ ap (λ ms. m ∷ ms) last)
+    ∙ (single-price I P m c.args.moves.now (alone c.in-Some-split_first.ensures.cases.0 c.if-later-eq0.true)
     ∙ ap (λ ws. price_of_all I (put_all ws P) c.args.moves.now) (sym none))
 
 pub change_behind-further-requires : goal.change_behind-further-requires
@@ -107,16 +89,13 @@ change_behind-further-requires t c =
     let m = c.in-Some-split_first.mv.now in
     let L = c.price_of-here.new.ledgers in
     let fits : AreMoves I (m ∷ c.in-Some-split_first.later.now) = subst (AreMoves I) c.in-Some-split_first.ensures.cases.0 c.requires.moves in
-    let same : timetable_of L ≡ P = kept I P L c.price_of-here.ensures.stands in
-    let made : c.as_slice.result.now ≡ expand I P m =
-    c.as_slice.ensures ∙ (c.expand.ensures.made ∙ ap (λ Q. expand I Q m) (c.plan-in-Some-split_first.ensures ∙ same)) in
-    let few = c.expand.ensures.few in
+    let few = c.expand_here.ensures.few in
     let short = ap length c.as_slice.ensures in
     let more = ap length c.in-Some-split_first.ensures.cases.0 in
     let less = c.decreases in (
       omega (arith, few, short, more, less),
       (
         stands-own I P L c.price_of-here.ensures.stands,
-        (subst (AreWritesOf I) (sym made) (expand-writes I P m (plan-fits I P c.args.ledgers.now c.requires.stands) fits.0), fits.1),
+        (rw c.as_slice.ensures c.expand_here.ensures.fits, fits.1),
       ),
     )

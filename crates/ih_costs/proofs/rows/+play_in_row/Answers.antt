@@ -1,20 +1,15 @@
 use Rattle.std.proofs.Common.{◌≡◌, ◌∷◌, [], ◌∙◌, sym, ap, subst}
 use Rattle.std.proofs.lemmas.List.{nil_from_length}
 use Rattle.ih_plan.specs.Writes.{put_all}
-use Rattle.ih_plan.specs.Expand.{after, expand}
-use Rattle.ih_plan.proofs.PlanRanges.{expand-writes}
-use Rattle.ih_plan.specs.Series.{AreMoves, after_all}
+use Rattle.ih_plan.specs.Expand.{after}
+use Rattle.ih_plan.specs.Series.{after_all}
 use Rattle.ih_costs.specs.CellLedgers.{AreLedgersOf, timetable_of}
 use Rattle.ih_costs.proofs.RowLemmas.{after-none, after-more}
-use Rattle.ih_costs.proofs.StandLemmas.{kept, plan-fits}
+use Rattle.ih_costs.proofs.StandLemmas.{kept}
 use Rattle.ih_costs.proofs.rows.+play_in_row.Goals as goal
 
 pub put_all-requires-clause-writes : goal.put_all-requires-clause-writes
-put_all-requires-clause-writes t c =
-    let I = c.args.inst.now.draft in
-    let P = timetable_of c.args.ledgers.now in
-    let fits : AreMoves I (c.in-Some.mv.now ∷ c.in-Some.later.now) = subst (AreMoves I) c.in-Some.ensures.cases.0 c.requires.moves in
-    rw (c.as_slice.ensures, c.expand.ensures.made, c.plan.ensures) (expand-writes I P c.in-Some.mv.now (plan-fits I P c.args.ledgers.now c.requires.stands) fits.0)
+put_all-requires-clause-writes t c = rw c.as_slice.ensures c.expand_here.ensures.fits
 
 pub returns-in-None : goal.returns-in-None
 returns-in-None t c =
@@ -26,7 +21,7 @@ returns-in-Some t c =
     let I = c.args.inst.now.draft in
     let P = timetable_of c.args.ledgers.now in
     let m = c.in-Some.mv.now in
-    let made = c.as_slice.ensures ∙ (c.expand.ensures.made ∙ ap (λ Q. expand I Q m) c.plan.ensures) in
+    let made = c.as_slice.ensures ∙ c.expand_here.ensures.made in
     let there : timetable_of c.put_all.new.ledgers ≡ after I P m = kept I _ c.put_all.new.ledgers c.put_all.ensures ∙ ap (λ ws. put_all ws P) made in
     subst (λ Q. AreLedgersOf I Q c.play_in_row.new.ledgers)
     (ap (λ Q. after_all I Q c.in-Some.later.now) there ∙ (after-more I P m c.in-Some.later.now ∙ ap (after_all I P) (sym c.in-Some.ensures.cases.0))) c.play_in_row.ensures

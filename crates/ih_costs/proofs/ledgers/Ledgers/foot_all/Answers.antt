@@ -1,11 +1,6 @@
-use Rattle.std.proofs.Common.{◌≡◌, ◌∷◌, [], ◌∙◌, ap}
-use Rattle.std.proofs.lemmas.List.{nil_from_length}
-use Rattle.ih_costs.proofs.RowLemmas.{single-footprint}
+use Rattle.std.proofs.Common.{◌∙◌}
+use Rattle.ih_costs.proofs.RowLemmas.{alone, single-footprint}
 use Rattle.ih_costs.proofs.ledgers.Ledgers.foot_all.Goals as goal
 
 pub returns-in-Some-clause-cells : goal.returns-in-Some-clause-cells
-returns-in-Some-clause-cells c =
-    let m = c.in-Some.mv.now in
-    let none : c.in-Some.later.now ≡ [] = nil_from_length c.in-Some.later.now c.if-later-eq0.true in
-    c.foot.ensures.cells
-    ∙ single-footprint c.args.self.now.instance c.args.self.now.plan m c.args.moves.now (c.in-Some.ensures.cases.0 ∙ ap (λ ms. m ∷ ms) none)
+returns-in-Some-clause-cells c = c.foot.ensures.cells ∙ single-footprint _ _ _ _ (alone c.in-Some.ensures.cases.0 c.if-later-eq0.true)
