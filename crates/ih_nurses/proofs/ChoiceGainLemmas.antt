@@ -115,13 +115,17 @@ number o = option_map (λ (a : NurseNo). a.0) o
 
 module _ (I : Draft) (P : Timetable) (r : RoomNo) (k : Shift) (counts : List ℕ) (known : AreCounts I P counts) (shift : k.0 < shift_count I) where
   module _ (x : ℕ) (person : x < person_count I) (there : is_present I P r.0 (day_of k.0) x ≡ true) where
-    come-one : (new : Option NurseNo) → IfSome new (λ a. a.0 < nurse_count I) → care_of P r.0 k.0 ≢ number new
-        → has_just I counts 0 new x ≡ newly_seen_of I P r.0 k.0 new x
-    come-one None nurse other = by_case (admission_of I P x) (person_of I x).length_of_stay
+    -- without a nurse there is none whom the person sees anew
+    none-newly : 0 ≡ newly_seen_of I P r.0 k.0 None x
+    none-newly = by_case (admission_of I P x) (person_of I x).length_of_stay
       where
         by_case : (o : Option Admission) (n : ℕ) → 0 ≡ newly_seen P (shift_span_in I o n) r.0 k.0 None
         by_case None n = refl
         by_case (Some a) n = refl
+
+    come-one : (new : Option NurseNo) → IfSome new (λ a. a.0 < nurse_count I) → care_of P r.0 k.0 ≢ number new
+        → has_just I counts 0 new x ≡ newly_seen_of I P r.0 k.0 new x
+    come-one None nurse other = none-newly
     come-one (Some a) nurse other = rw (known.each x a.0 person nurse) (by_case (admission_of I P x) (person_of I x).length_of_stay there)
       where
         by_case : (o : Option Admission) (n : ℕ) → is_in o n r.0 (day_of k.0) ≡ true → bit (nursed_in P (shift_span_in I o n) a.0 == 0) ≡ newly_seen P (shift_span_in I o n) r.0 k.0 (Some a)
@@ -130,11 +134,7 @@ module _ (I : Draft) (P : Timetable) (r : RoomNo) (k : Shift) (counts : List ℕ
 
     gone-one : (old : Option NurseNo) → IfSome old (λ a. a.0 < nurse_count I) → care_of P r.0 k.0 ≡ number old
         → has_just I counts 1 old x ≡ newly_seen_of I P r.0 k.0 old x
-    gone-one None nurse own = by_case (admission_of I P x) (person_of I x).length_of_stay
-      where
-        by_case : (o : Option Admission) (n : ℕ) → 0 ≡ newly_seen P (shift_span_in I o n) r.0 k.0 None
-        by_case None n = refl
-        by_case (Some a) n = refl
+    gone-one None nurse own = none-newly
     gone-one (Some a) nurse own = rw (known.each x a.0 person nurse) (by_case (admission_of I P x) (person_of I x).length_of_stay there)
       where
         mine : bit (is_number (care_of P r.0 k.0) a.0) ≡ 1

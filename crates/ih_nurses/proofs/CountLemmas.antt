@@ -162,14 +162,15 @@ module _ {I : Draft} {P Q : Timetable} {p : ℕ} {at : Placement} (a : IsAdmissi
   other : (y n : ℕ) → (y ≡ p → ⊥) → (if p == y then n else 0) ≡ 0
   other y n ne = rw (ne_eqb p y (λ e. ne (sym e))) refl
 
+  person : p < person_count I
+  person = let patient = a.patient in omega arith
+
   pub counts-added : (s : ShiftSpan) → Some s ≡ shift_span_at → (old new : List ℕ) → AreCounts I P old → length new ≡ length old
       → ((y m : ℕ) → m < nurse_count I → count_at I new y m ≡ count_at I old y m + (if p == y then nursed_in P (Some s) m else 0)) → AreCounts I Q new
   counts-added s is old new known len each = record {
     len = len ∙ known.len;
     each = λ y m yh mh. elim (cases_eq y p) [
       | inl same ↦
-          let patient = a.patient in
-          let person : p < person_count I = omega arith in
           let before = known.each p m person mh ∙ count-none I P p m a.patient a.before in
           let after = count-placed s is m ∙ nursed-alike P Q a.cares (Some s) m in
           rw same (omega (arith, each p m mh, own (nursed_in P (Some s) m), before, after))
@@ -183,8 +184,6 @@ module _ {I : Draft} {P Q : Timetable} {p : ℕ} {at : Placement} (a : IsAdmissi
     len = len ∙ known.len;
     each = λ y m yh mh. elim (cases_eq y p) [
       | inl same ↦
-          let patient = a.patient in
-          let person : p < person_count I = omega arith in
           rw same (omega (arith, each p m mh, own (nursed_in Q (Some s) m), known.each p m person mh, count-placed s is m, count-none I P p m a.patient a.before))
       | inr ne ↦ omega (arith, each y m mh, other y (nursed_in Q (Some s) m) ne, known.each y m yh mh, count-other y m ne)
     ];
@@ -193,8 +192,6 @@ module _ {I : Draft} {P Q : Timetable} {p : ℕ} {at : Placement} (a : IsAdmissi
   -- the stay's shifts are counted
   pub counts-enough : (s : ShiftSpan) → Some s ≡ shift_span_at → (old : List ℕ) → AreCounts I Q old → (m : ℕ) → m < nurse_count I → nursed_in Q (Some s) m ≤ count_at I old p m
   counts-enough s is old known m mh =
-      let patient = a.patient in
-      let person : p < person_count I = omega arith in
       omega (arith, known.each p m person mh, count-placed s is m)
 
 -- ---- another choice of nurse

@@ -30,6 +30,13 @@ covers-after a n days k low high =
     let above : a + n ≤ k / 3 = omega arith in
     rw (le-ltb (k / 3) (a + n) above) (and_right (nat_le a (k / 3)) false refl)
 
+-- shift k is one of the stay, and this is its nurse and its load
+pub record IsStayShift (I : Draft) (P : Timetable) (p : ℕ) (at : Placement) (k load : ℕ) (nurse : Option NurseNo) : Type 0 where
+  pub low : 3 * at.day.0 ≤ k
+  pub high : k < 3 * end_of I p at
+  pub nurse_is : nurse ≡ choice_of P at.room.0 k
+  pub load_is : load ≡ slice_index (person_of I p).workload (k - 3 * at.day.0)
+
 module _ (I : Draft) (P : Timetable) (p : ℕ) (at : Placement) where
   outside : (m j : ℕ) → covers at.day.0 (person_of I p).length_of_stay (day_of j) ≡ false → stay_load I P p at m j ≡ 0
   outside m j e = rw e (if-none (is_number (care_of P at.room.0 j) m))
@@ -53,14 +60,13 @@ module _ (I : Draft) (P : Timetable) (p : ℕ) (at : Placement) where
   ]
 
   -- shift k gives its share
-  module _ (k load : ℕ) (nurse : Option NurseNo) (low : 3 * at.day.0 ≤ k) (high : k < 3 * end_of I p at)
-      (nurse_is : nurse ≡ choice_of P at.room.0 k) (load_is : load ≡ slice_index (person_of I p).workload (k - 3 * at.day.0)) where
+  module _ {k load : ℕ} {nurse : Option NurseNo} (now : IsStayShift I P p at k load nurse) where
     pub share-stay : (m : ℕ) → share nurse k load m k ≡ stay_load I P p at m k
-    share-stay m = rw (nurse_is, load_is, eq-eqb k k refl, covers-in at.day.0 (person_of I p).length_of_stay I.days k low high) refl
+    share-stay m = rw (now.nurse_is, now.load_is, eq-eqb k k refl, covers-in at.day.0 (person_of I p).length_of_stay I.days k now.low now.high) refl
 
     pub given-more : (m j : ℕ) → given_before (k + 1) m j ≡ given_before k m j + share nurse k load m j
     given-more m j = elim (cases_eq j k) [
-      | inl now ↦ rw (now, lt-ltb k (k + 1) (omega arith), le-ltb k k (omega arith)) (let s = share-stay m in omega arith)
+      | inl same ↦ rw (same, lt-ltb k (k + 1) (omega arith), le-ltb k k (omega arith)) (let s = share-stay m in omega arith)
       | inr other ↦ rw (ne_eqb j k other) (elim (cases_lt j k) [
         | inl below ↦ rw (lt-ltb j k below, lt-ltb j (k + 1) (omega arith)) (omega arith)
         | inr above ↦ rw (le-ltb j k above, le-ltb j (k + 1) (omega arith)) (omega arith)
@@ -77,13 +83,6 @@ pub record AreTaken (I : Draft) (P : Timetable) (p : ℕ) (at : Placement) (old 
   pub table : IsTable I loads
   pub each : (m j : ℕ) → m < nurse_count I → j < shift_count I → load_at I loads m j + given_before I P p at k m j ≡ load_at I old m j
 
--- shift k is one of the stay, and this is its nurse and its load
-pub record IsStayShift (I : Draft) (P : Timetable) (p : ℕ) (at : Placement) (k load : ℕ) (nurse : Option NurseNo) : Type 0 where
-  pub low : 3 * at.day.0 ≤ k
-  pub high : k < 3 * end_of I p at
-  pub nurse_is : nurse ≡ choice_of P at.room.0 k
-  pub load_is : load ≡ slice_index (person_of I p).workload (k - 3 * at.day.0)
-
 module _ {I : Draft} {P : Timetable} {p : ℕ} {at : Placement} {old : List NurseLoad} where
   pub added-none : IsTable I old → AreAdded I P p at old old (3 * at.day.0)
   added-none table = record { table = table; each = λ m j mh jh. let none = given-none I P p at m j in omega arith }
@@ -96,19 +95,13 @@ module _ {I : Draft} {P : Timetable} {p : ℕ} {at : Placement} {old loads : Lis
       → ((m j : ℕ) → m < nurse_count I → j < shift_count I → load_at I new m j ≡ load_at I loads m j + share nurse k load m j) → AreAdded I P p at old new (k + 1)
   added-more {k} {load} {nurse} so_far now new table each = record {
     table = table;
-    each = λ m j mh jh.
-        let more = given-more I P p at k load nurse now.low now.high now.nurse_is now.load_is m j in
-        let before = so_far.each m j mh jh in
-        let step = each m j mh jh in
-        omega arith;
+    each = λ m j mh jh. omega (arith, given-more I P p at now m j, so_far.each m j mh jh, each m j mh jh);
   }
 
   pub added-all : AreAdded I P p at old loads (3 * end_of I p at)
       → (m j : ℕ) → m < nurse_count I → j < shift_count I → load_at I loads m j ≡ load_at I old m j + stay_load I P p at m j
   added-all so_far m j mh jh =
-      let all = given-all I P p at m j jh in
-      let each = so_far.each m j mh jh in
-      omega arith
+      omega (arith, given-all I P p at m j jh, so_far.each m j mh jh)
 
   -- the number that is added to is as it was
   pub added-fits : {k : ℕ} → AreAdded I P p at old loads k → k < shift_count I → (m : ℕ) → m < nurse_count I → load_at I loads m k ≡ load_at I old m k
@@ -121,19 +114,13 @@ module _ {I : Draft} {P : Timetable} {p : ℕ} {at : Placement} {old loads : Lis
       → ((m j : ℕ) → m < nurse_count I → j < shift_count I → load_at I new m j + share nurse k load m j ≡ load_at I loads m j) → AreTaken I P p at old new (k + 1)
   taken-more {k} {load} {nurse} so_far now new table each = record {
     table = table;
-    each = λ m j mh jh.
-        let more = given-more I P p at k load nurse now.low now.high now.nurse_is now.load_is m j in
-        let before = so_far.each m j mh jh in
-        let step = each m j mh jh in
-        omega arith;
+    each = λ m j mh jh. omega (arith, given-more I P p at now m j, so_far.each m j mh jh, each m j mh jh);
   }
 
   pub taken-all : AreTaken I P p at old loads (3 * end_of I p at)
       → (m j : ℕ) → m < nurse_count I → j < shift_count I → load_at I loads m j + stay_load I P p at m j ≡ load_at I old m j
   taken-all so_far m j mh jh =
-      let all = given-all I P p at m j jh in
-      let each = so_far.each m j mh jh in
-      omega arith
+      omega (arith, given-all I P p at m j jh, so_far.each m j mh jh)
 
   -- there is enough to take from
   pub taken-enough : {k load : ℕ} {nurse : Option NurseNo} → AreTaken I P p at old loads k → IsStayShift I P p at k load nurse → k < shift_count I
@@ -142,6 +129,6 @@ module _ {I : Draft} {P : Timetable} {p : ℕ} {at : Placement} {old loads : Lis
   taken-enough {k} {load} {nurse} so_far now kh enough m mh =
       let each = so_far.each m k mh kh in
       let none : given_before I P p at k m k ≡ 0 = rw (le-ltb k k (omega arith)) refl in
-      let here = share-stay I P p at k load nurse now.low now.high now.nurse_is now.load_is m in
+      let here = share-stay I P p at now m in
       let most = enough m k mh kh in
       omega arith

@@ -1,35 +1,22 @@
 -- A patient's lists, which have an entry for each shift of its stay.
-use Rattle.std.proofs.Common.{◌≡◌, ℕ, ◌+◌, ◌-◌, ◌*◌, ◌/◌, ◌<◌, ◌≤◌, refl, arith, sym, true, false, inl, inr, List, length, Option, Some, None}
-use Rattle.std.specs.Prelude.{if◌then◌else◌, nat_le, nat_lt, slice_get, slice_index}
-use Rattle.std.specs.Option.{option_map_or}
+use Rattle.std.proofs.Common.{◌≡◌, ℕ, ◌+◌, ◌-◌, ◌*◌, ◌/◌, ◌<◌, ◌≤◌, refl, arith, sym, true, false, inl, inr, List, length}
+use Rattle.std.specs.Prelude.{if◌then◌else◌, nat_le, nat_lt, slice_index}
 use Rattle.std.proofs.lemmas.Bool.{cases_lt, lt-ltb, le-ltb, le-leb, leb-true, ltb-true, and_parts, and_right}
 use Rattle.std.proofs.lemmas.List.{get_or_past}
 use Rattle.ih_tables.specs.declared.drafts.Draft.{Draft}
-use Rattle.ih_tables.specs.declared.drafts.Patient.{Patient}
-use Rattle.ih_tables.specs.Sizes.{patient_count, shift_count}
-use Rattle.ih_tables.specs.Valid.{IsValid, IsPatient, vector_len}
-use Rattle.ih_plan.specs.Persons.{person_of, patient_person, nobody}
+use Rattle.ih_tables.specs.Sizes.{shift_count}
+use Rattle.ih_tables.specs.Valid.{IsValid, vector_len}
+use Rattle.ih_plan.specs.Persons.{person_of}
 use Rattle.ih_plan.specs.Presence.{covers, day_of}
-use Rattle.ih_plan.proofs.Overtime.{from-all}
+use Rattle.ih_plan.proofs.Overtime.{of-person}
 
-module _ (I : Draft) (p : ℕ) (valid : IsValid I) (patient : p < patient_count I) where
+module _ (I : Draft) (p : ℕ) (valid : IsValid I) where
   pub workload-len : length (person_of I p).workload ≡ vector_len I (person_of I p).length_of_stay
-  unfolding person_of
-  workload-len = rw (lt-ltb p (patient_count I) patient) (by_case (slice_get I.patients p) refl)
-    where
-      by_case : (o : Option Patient) → slice_get I.patients p ≡ o
-          → length (option_map_or patient_person o nobody).workload ≡ vector_len I (option_map_or patient_person o nobody).length_of_stay
-      by_case None e = omega arith
-      by_case (Some a) e = (from-all (IsPatient I) I.patients p a valid.each_patient e).workload.len
+  workload-len =
+      of-person I (λ x. length x.workload ≡ vector_len I x.length_of_stay) p valid (omega arith) (λ a ok. ok.workload.len) (λ o ok. ok.workload.len)
 
   pub skill-len : length (person_of I p).skill ≡ vector_len I (person_of I p).length_of_stay
-  unfolding person_of
-  skill-len = rw (lt-ltb p (patient_count I) patient) (by_case (slice_get I.patients p) refl)
-    where
-      by_case : (o : Option Patient) → slice_get I.patients p ≡ o
-          → length (option_map_or patient_person o nobody).skill ≡ vector_len I (option_map_or patient_person o nobody).length_of_stay
-      by_case None e = omega arith
-      by_case (Some a) e = (from-all (IsPatient I) I.patients p a valid.each_patient e).skill.len
+  skill-len = of-person I (λ x. length x.skill ≡ vector_len I x.length_of_stay) p valid (omega arith) (λ a ok. ok.skill.len) (λ o ok. ok.skill.len)
 
 -- a list with an entry for each shift of a stay has one for a shift that counts
 pub entry-inside : (I : Draft) (a stay k len : ℕ) → len ≡ vector_len I stay → covers a stay (day_of k) ≡ true → k < shift_count I → k - 3 * a < len

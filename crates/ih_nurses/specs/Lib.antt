@@ -7,3 +7,4 @@ pub mod ShiftSpans
 pub mod Choice
 pub mod Gains
 pub mod Visits
+pub mod Bills

@@ -1,7 +1,8 @@
 //! A bill that has the numbers of nursing alone.
 
-ghost use Rattle.std.specs.Prelude.{◌≡◌, ◌^◌, ◌-ℤ◌, pos, [], ◌∷◌};
+ghost use Rattle.std.specs.Prelude.{◌≡◌, ◌^◌, ◌-ℤ◌, pos};
 ghost use Rattle.ih_tables.specs.Bills.{IsWithin};
+ghost use Rattle.ih_nurses.specs.Bills.{nursing_bill};
 
 use ih_plan::rise;
 use ih_tables::Bill;
@@ -23,10 +24,8 @@ pub struct NursingCosts {
 
 /// The bill of these costs. Each of its numbers is at most 10^11.
 pub fn bill_of(costs: NursingCosts) -> Bill
-    ensures value { result ≡ record {
-      v = pos 0 ∷ pos 0 ∷ pos 0 ∷ pos 0 ∷ pos 0 ∷ pos 0 ∷ pos 0 ∷ pos costs.off ∷ pos costs.uncovered ∷ [];
-      s = pos 0 ∷ pos costs.missing_skill ∷ pos costs.nurses_seen ∷ pos costs.overload ∷ pos 0 ∷ pos 0 ∷ pos 0 ∷ pos 0 ∷ [];
-    } }
+    ensures value { result ≡ nursing_bill (pos costs.off) (pos costs.uncovered) (pos costs.missing_skill)
+        (pos costs.nurses_seen) (pos costs.overload) }
     ensures within { IsWithin (10 ^ 11) result }
 {
     Bill {
@@ -56,11 +55,9 @@ pub fn bill_of(costs: NursingCosts) -> Bill
 
 /// The bill of some costs less that of others. Each of its numbers is at most 10^11 in magnitude.
 pub fn difference(after: NursingCosts, before: NursingCosts) -> Bill
-    ensures value { result ≡ record {
-      v = pos 0 ∷ pos 0 ∷ pos 0 ∷ pos 0 ∷ pos 0 ∷ pos 0 ∷ pos 0 ∷ (pos after.off -ℤ pos before.off) ∷ (pos after.uncovered -ℤ pos before.uncovered) ∷ [];
-      s = pos 0 ∷ (pos after.missing_skill -ℤ pos before.missing_skill) ∷ (pos after.nurses_seen -ℤ pos before.nurses_seen) ∷ (pos after.overload -ℤ pos before.overload)
-          ∷ pos 0 ∷ pos 0 ∷ pos 0 ∷ pos 0 ∷ [];
-    } }
+    ensures value { result ≡ nursing_bill (pos after.off -ℤ pos before.off)
+        (pos after.uncovered -ℤ pos before.uncovered) (pos after.missing_skill -ℤ pos before.missing_skill)
+        (pos after.nurses_seen -ℤ pos before.nurses_seen) (pos after.overload -ℤ pos before.overload) }
     ensures within { IsWithin (10 ^ 11) result }
 {
     Bill {

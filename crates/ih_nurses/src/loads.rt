@@ -51,7 +51,8 @@ pub fn add_load(inst: &Instance, loads: &mut [NurseLoad], n: Option<NurseNo>, k:
     requires table { IsTable inst.now.draft loads.old }
     requires nurse { IfSome n (λ a. a.0 < nurse_count inst.now.draft) }
     requires shift { k.0 < shift_count inst.now.draft }
-    requires fits { (m : ℕ) → m < nurse_count inst.now.draft → load_at inst.now.draft loads.old m k.0 + load < 2 ^ 32 }
+    requires fits { (m : ℕ) → m < nurse_count inst.now.draft
+        → load_at inst.now.draft loads.old m k.0 + load < 2 ^ 32 }
     ensures table { IsTable inst.now.draft loads.new }
     ensures each { (m j : ℕ) → m < nurse_count inst.now.draft → j < shift_count inst.now.draft
         → load_at inst.now.draft loads.new m j ≡ load_at inst.now.draft loads.old m j + share n k.0 load m j }
@@ -92,7 +93,8 @@ pub fn move_load(
     requires from { IfSome from (λ a. a.0 < nurse_count inst.now.draft) }
     requires to { IfSome to (λ a. a.0 < nurse_count inst.now.draft) }
     requires shift { k.0 < shift_count inst.now.draft }
-    requires small { (m : ℕ) → m < nurse_count inst.now.draft → load_at inst.now.draft loads.old m k.0 ≤ 256000000 }
+    requires small { (m : ℕ) → m < nurse_count inst.now.draft
+        → load_at inst.now.draft loads.old m k.0 ≤ 256000000 }
     requires load { load ≤ 256000000 }
     requires enough { (m : ℕ) → m < nurse_count inst.now.draft
         → share from k.0 load m k.0 ≤ load_at inst.now.draft loads.old m k.0 }

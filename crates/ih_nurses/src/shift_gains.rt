@@ -17,7 +17,7 @@ use crate::loads::{load, overload};
 use crate::own::entry;
 use crate::rooms::has_others;
 use crate::visits::{Visit, gone};
-use ih_plan::{Placement, nurse_at};
+use ih_plan::{Placement, bit, nurse_at};
 use ih_tables::{Instance, NurseNo, PatientNo, RoomNo, Shift};
 
 /// What a shift of a placement's room costs more with the patient there than without.
@@ -52,11 +52,7 @@ impl Nurses {
         ensures { (P : Timetable) → IsLedgerOf inst.now.draft P self.now
             → result ≡ bit (is_empty (without p.0 (present inst.now.draft P r.0 (day_of k.0)))) }
     {
-        if has_others(&self.here[(k.0 / 3) as usize], r, p.0) {
-            0
-        } else {
-            1
-        }
+        bit(!has_others(&self.here[(k.0 / 3) as usize], r, p.0))
     }
 
     // The workload above the maximum that comes with the patient to the nurse who has the room in the shift.

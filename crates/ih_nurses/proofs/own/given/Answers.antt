@@ -13,7 +13,7 @@ returns-then-is_nurse-clause-value c =
     let k = c.args.k.0 in
     let person = person_of I c.args.p.0 in
     let nursed : is_number (care_of c.args.plan.now at.room.0 k) c.args.n.0 ≡ true = rw c.nurse_at.ensures.choice at (sym c.is_nurse.ensures ∙ c.if-is_nurse.true) in
-    let len = workload-len I c.args.p.0 c.args.inst.now.valid c.requires.patient in
+    let len = workload-len I c.args.p.0 c.args.inst.now.valid in
     rw nursed
     (c.entry_or_none.ensures ∙ (ap (λ list. slice_index list (k - 3 * at.day.0)) c.requires.workload ∙ sym (entry-counted I at.day.0 person.length_of_stay k person.workload len (omega arith))))
 

@@ -16,7 +16,7 @@ pub entry-come-requires-clause-inside : goal.entry-come-requires-clause-inside
 entry-come-requires-clause-inside c =
     let I = c.args.inst.now.draft in
     let person = person_of I c.args.p.0 in
-    let len = workload-len I c.args.p.0 c.args.inst.now.valid c.requires.patient in
+    let len = workload-len I c.args.p.0 c.args.inst.now.valid in
     rw c.requires.visit.workload_is (entry-inside I c.args.at.day.0 person.length_of_stay c.args.k.0 (length person.workload) len c.requires.counted c.requires.shift)
 
 pub gone-gone-requires-clause-small : goal.gone-gone-requires-clause-small

@@ -13,7 +13,7 @@ pub skill_gain-requires-clause-inside : goal.skill_gain-requires-clause-inside
 skill_gain-requires-clause-inside c =
     let I = c.args.inst.now.draft in
     let person = person_of I c.args.p.0 in
-    let len = skill-len I c.args.p.0 c.args.inst.now.valid c.requires.patient in
+    let len = skill-len I c.args.p.0 c.args.inst.now.valid in
     rw c.requires.visit.skill_is (entry-inside I c.args.at.day.0 person.length_of_stay c.args.k.0 (length person.skill) len c.requires.counted c.requires.shift)
 
 pub returns-in-None-clause-alone : goal.returns-in-None-clause-alone
