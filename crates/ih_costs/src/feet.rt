@@ -34,8 +34,8 @@ fn gather_all(inst: &Instance, ledgers: &CellLedgers, writes: &[Write], cells: &
     }
 }
 
-/// Gathers the cells of a move's footprint in the set of `scratch`, which then has the move's writes. `looked` is room for
-/// the cells that these are chosen by.
+/// Gathers the cells of a move's footprint in the set of `scratch`, which then has the move's writes. `looked` is room
+/// for the cells that these are chosen by.
 #[inline(always)]
 pub fn gather_move(
     inst: &Instance,
@@ -50,7 +50,8 @@ pub fn gather_move(
     requires sizes { looked.old.sizes ≡ sizes_of inst.now.draft }
     ensures made { scratch.new.writes ≡ expand inst.now.draft (timetable_of ledgers.now) mv.now }
     ensures fits { AreWritesOf inst.now.draft scratch.new.writes }
-    ensures gathers { Gathers scratch.old.set scratch.new.set (touches inst.now.draft (timetable_of ledgers.now) mv.now) }
+    ensures gathers { Gathers scratch.old.set scratch.new.set
+        (touches inst.now.draft (timetable_of ledgers.now) mv.now) }
     ensures sizes { looked.new.sizes ≡ looked.old.sizes }
 {
     looked.clear();
@@ -60,8 +61,8 @@ pub fn gather_move(
     gather_all(inst, ledgers, scratch.writes.as_slice(), &mut scratch.set);
 }
 
-/// Lists the cells of a move's footprint in `foot`, rising, in place of what was listed. The set of `scratch`, where they
-/// are gathered, has none before and after.
+/// Lists the cells of a move's footprint in `foot`, rising, in place of what was listed. The set of `scratch`, where
+/// they are gathered, has none before and after.
 pub fn foot_of(
     inst: &Instance,
     ledgers: &CellLedgers,

@@ -45,7 +45,8 @@ pub fn play_in_row_noting(
     requires sizes { looked.old.sizes ≡ sizes_of inst.now.draft }
     ensures stands { AreLedgersOf inst.now.draft
         (after_all inst.now.draft (timetable_of ledgers.old) moves.now) ledgers.new }
-    ensures gathers { Gathers scratch.old.set scratch.new.set (all_touch inst.now.draft (timetable_of ledgers.old) moves.now) }
+    ensures gathers { Gathers scratch.old.set scratch.new.set
+        (all_touch inst.now.draft (timetable_of ledgers.old) moves.now) }
     ensures sizes { looked.new.sizes ≡ looked.old.sizes }
 {
     match moves.split_first() {

@@ -16,9 +16,6 @@ pub looks-requires : goal.looks-requires
 looks-requires c = λ e looked.
     subst (λ z. IsCellIn z e) (sym (c.clear.ensures.sizes ∙ c.requires.sizes)) (looks-inside c.args.inst.now.draft c.args.mv.now c.requires.move_in e looked)
 
-pub gather_all-requires-clause-writes : goal.gather_all-requires-clause-writes
-gather_all-requires-clause-writes c = rw c.as_slice.ensures c.expand_here.ensures.fits
-
 pub returns-clause-gathers : goal.returns-clause-gathers
 returns-clause-gathers c =
     let I = c.args.inst.now.draft in

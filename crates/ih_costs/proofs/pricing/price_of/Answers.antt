@@ -8,9 +8,6 @@ use Rattle.ih_costs.specs.CellLedgers.{timetable_of}
 use Rattle.ih_costs.proofs.StandLemmas.{plan-fits}
 use Rattle.ih_costs.proofs.pricing.price_of.Goals as goal
 
-pub change_after-requires-clause-writes : goal.change_after-requires-clause-writes
-change_after-requires-clause-writes c = rw c.as_slice.ensures c.expand_here.ensures.fits
-
 pub returns-clause-price : goal.returns-clause-price
 returns-clause-price c =
     let I = c.args.inst.now.draft in

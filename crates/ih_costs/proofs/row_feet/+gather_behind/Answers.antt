@@ -47,12 +47,8 @@ returns-then-later-eq0-clause-gathers t c =
 pub gather_behind-requires-in-Some-split_first : goal.gather_behind-requires-in-Some-split_first
 gather_behind-requires-in-Some-split_first t c =
     let fits : AreMoves c.args.inst.now.draft (c.in-Some-split_first.mv.now ∷ c.in-Some-split_first.later.now) =
-    subst (AreMoves _) c.in-Some-split_first.ensures.cases.0 c.requires.moves in
-    let few = c.expand_here.ensures.few in
-    let short = ap length c.as_slice.ensures in
-    let more = ap length c.in-Some-split_first.ensures.cases.0 in
-    let less = c.decreases in (
-      omega (arith, few, short, more, less),
+    subst (AreMoves _) c.in-Some-split_first.ensures.cases.0 c.requires.moves in (
+      omega (arith, c.expand_here.ensures.few, ap length c.as_slice.ensures, ap length c.in-Some-split_first.ensures.cases.0, c.decreases),
       (
         c.requires.stands,
         (

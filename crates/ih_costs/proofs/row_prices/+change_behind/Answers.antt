@@ -88,12 +88,8 @@ change_behind-further-requires t c =
     let P = timetable_of c.args.ledgers.now in
     let m = c.in-Some-split_first.mv.now in
     let L = c.price_of-here.new.ledgers in
-    let fits : AreMoves I (m ∷ c.in-Some-split_first.later.now) = subst (AreMoves I) c.in-Some-split_first.ensures.cases.0 c.requires.moves in
-    let few = c.expand_here.ensures.few in
-    let short = ap length c.as_slice.ensures in
-    let more = ap length c.in-Some-split_first.ensures.cases.0 in
-    let less = c.decreases in (
-      omega (arith, few, short, more, less),
+    let fits : AreMoves I (m ∷ c.in-Some-split_first.later.now) = subst (AreMoves I) c.in-Some-split_first.ensures.cases.0 c.requires.moves in (
+      omega (arith, c.expand_here.ensures.few, ap length c.as_slice.ensures, ap length c.in-Some-split_first.ensures.cases.0, c.decreases),
       (
         stands-own I P L c.price_of-here.ensures.stands,
         (rw c.as_slice.ensures c.expand_here.ensures.fits, fits.1),

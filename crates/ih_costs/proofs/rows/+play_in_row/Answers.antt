@@ -8,9 +8,6 @@ use Rattle.ih_costs.proofs.RowLemmas.{after-none, after-more}
 use Rattle.ih_costs.proofs.StandLemmas.{kept}
 use Rattle.ih_costs.proofs.rows.+play_in_row.Goals as goal
 
-pub put_all-requires-clause-writes : goal.put_all-requires-clause-writes
-put_all-requires-clause-writes t c = rw c.as_slice.ensures c.expand_here.ensures.fits
-
 pub returns-in-None : goal.returns-in-None
 returns-in-None t c =
     let none : c.args.moves.now ≡ [] = nil_from_length c.args.moves.now c.in-None.ensures.cases in

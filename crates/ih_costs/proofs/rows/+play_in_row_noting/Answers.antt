@@ -10,9 +10,6 @@ use Rattle.ih_costs.proofs.RowLemmas.{after-none, after-more, gathers-no-moves, 
 use Rattle.ih_costs.proofs.StandLemmas.{kept}
 use Rattle.ih_costs.proofs.rows.+play_in_row_noting.Goals as goal
 
-pub put_all-requires-clause-writes : goal.put_all-requires-clause-writes
-put_all-requires-clause-writes t c = rw c.as_slice.ensures c.gather_move.ensures.fits
-
 pub returns-in-None-clause-stands : goal.returns-in-None-clause-stands
 returns-in-None-clause-stands t c =
     let none : c.args.moves.now ≡ [] = nil_from_length c.args.moves.now c.in-None.ensures.cases in
