@@ -65,17 +65,14 @@ chosen-in I P r k n z plan sizes inside e =
 
 -- ---- shifts in a row
 
+pub neither : (b c : Bool) → (b && false) ≡ (c && false)
+neither b c = and_right b false refl ∙ sym (and_right c false refl)
+
 at-shift : (P : Timetable) (r k l n : ℕ) → (is_number (care_of P r l) n && (l == k)) ≡ (is_number (care_of P r k) n && (l == k))
 at-shift P r k l n = elim (cases_eq l k) [
   | inl same ↦ rw same refl
-  | inr other ↦ rw (ne_eqb l k other) (none (is_number (care_of P r l) n) (is_number (care_of P r k) n))
+  | inr other ↦ rw (ne_eqb l k other) (neither (is_number (care_of P r l) n) (is_number (care_of P r k) n))
 ]
-  where
-    none : (b c : Bool) → (b && false) ≡ (c && false)
-    none true true = refl
-    none true false = refl
-    none false true = refl
-    none false false = refl
 
 share : (g s t u : Bool) → (s || t) ≡ u → ((g && s) || (g && t)) ≡ (g && u)
 share true s t u e = e

@@ -119,19 +119,10 @@ module _ (I : Draft) (P : Timetable) (p : PatientNo) (s : Option Placement) (pla
   there-load r k old new x = rw (present-each r (day_of k) old new x) (if-same (is_present I P r (day_of k) x) (workload_of I (put (SetStay p s) P) k x) (workload_of I P k x) 0
       (λ h. rw (admission-other I P p s x (there-other r (day_of k) old new x h)) refl))
 
-  surgery-apart : (t d : ℕ) → operated_in t d (stay_of P p.0) ≡ false → operated_in t d s ≡ false
-      → (x : ℕ) → operated_in t d (stay_of (put (SetStay p s) P) x) ≡ operated_in t d (stay_of P x)
-  surgery-apart t d old new x =
-      let sizes = plan.stays in
-      let inside : p.0 < length P.stays = omega arith in
-      elim (cases_eq x p.0) [
-        | inl same ↦ rw (same, stay_of-same P p s inside, old) new
-        | inr other ↦ rw (stay_of-other P p s x other) refl
-      ]
-
-  patient-apart : (t d : ℕ) → of_surgeon I t d p.0 (stay_of P p.0) ≡ false → of_surgeon I t d p.0 s ≡ false
-      → (x : ℕ) → of_surgeon I t d x (stay_of (put (SetStay p s) P) x) ≡ of_surgeon I t d x (stay_of P x)
-  patient-apart t d old new x =
+  -- a test of each patient's stay that p passes neither before nor after
+  test-apart : (passes : ℕ → Option Placement → Bool) → passes p.0 (stay_of P p.0) ≡ false → passes p.0 s ≡ false
+      → (x : ℕ) → passes x (stay_of (put (SetStay p s) P) x) ≡ passes x (stay_of P x)
+  test-apart passes old new x =
       let sizes = plan.stays in
       let inside : p.0 < length P.stays = omega arith in
       elim (cases_eq x p.0) [
@@ -143,7 +134,7 @@ module _ (I : Draft) (P : Timetable) (p : PatientNo) (s : Option Placement) (pla
       → tagged (theatre_of (put (SetStay p s) P)) (operated_by I (put (SetStay p s) P) t d) ≡ tagged (theatre_of P) (operated_by I P t d)
   unfolding operated_by
   patients-apart t d old new =
-      let same = which_below-same (patient_count I) (λ x. of_surgeon I t d x (stay_of (put (SetStay p s) P) x)) (λ x. of_surgeon I t d x (stay_of P x)) (λ x h. patient-apart t d old new x) in
+      let same = which_below-same (patient_count I) (λ x. of_surgeon I t d x (stay_of (put (SetStay p s) P) x)) (λ x. of_surgeon I t d x (stay_of P x)) (λ x h. test-apart (of_surgeon I t d) old new x) in
       rw same (tagged-same (theatre_of (put (SetStay p s) P)) (theatre_of P) (which_below (patient_count I) (λ x. of_surgeon I t d x (stay_of P x)))
       (λ x h. rw (stay_of-other P p s x (λ e.
       let here : of_surgeon I t d p.0 (stay_of P p.0) ≡ true = rw e at (which_below-has (patient_count I) x (λ x. of_surgeon I t d x (stay_of P x)) h).1 in
@@ -161,7 +152,7 @@ module _ (I : Draft) (P : Timetable) (p : PatientNo) (s : Option Placement) (pla
   frame_stay (TheatreDay t d) h =
       let apart = none_of false (in_stay I P p.0 (stay_of P p.0) (TheatreDay t d)) (in_stay I P p.0 s (TheatreDay t d)) h in
       ap surgeries_content (which_below-same (patient_count I) (λ x. operated_in t.0 d.0 (stay_of (put (SetStay p s) P) x)) (λ x. operated_in t.0 d.0 (stay_of P x))
-      (λ x xh. surgery-apart t.0 d.0 (sym (in_stay-theatre I P p.0 (stay_of P p.0) t d) ∙ apart.1) (sym (in_stay-theatre I P p.0 s t d) ∙ apart.2) x))
+      (λ x xh. test-apart (λ x o. operated_in t.0 d.0 o) (sym (in_stay-theatre I P p.0 (stay_of P p.0) t d) ∙ apart.1) (sym (in_stay-theatre I P p.0 s t d) ∙ apart.2) x))
   frame_stay (SurgeonDay t d) h =
       let apart = none_of false (in_stay I P p.0 (stay_of P p.0) (SurgeonDay t d)) (in_stay I P p.0 s (SurgeonDay t d)) h in
       ap theatres_content (patients-apart t.0 d.0 (sym (in_stay-surgeon I P p.0 (stay_of P p.0) t d) ∙ apart.1) (sym (in_stay-surgeon I P p.0 s t d) ∙ apart.2))

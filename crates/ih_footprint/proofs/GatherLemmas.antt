@@ -1,18 +1,10 @@
 -- What calls in a row gather.
 use Rattle.std.proofs.Common.{◌≡◌, ℕ, refl, sym, ap, subst, ◌∙◌, Bool, true, false, List, [], ◌∷◌, ◌++◌, inl, inr}
-use Rattle.std.specs.Prelude.{◌||◌, ◌==◌, nat_eq, if◌then◌else◌}
+use Rattle.std.specs.Prelude.{◌||◌, ◌&&◌, ◌==◌, nat_eq, if◌then◌else◌}
 use Rattle.std.proofs.lemmas.Bool.{cases_Bool, cases_eq, eq-eqb, ne_eqb, eqb-true, and_parts, and_from, false_from_ne_true}
 use Rattle.std.proofs.lemmas.List.Folds.{list_any-append}
 use Rattle.ih_tables.specs.declared.cells.Cell.{Cell}
 use Rattle.ih_tables.specs.declared.cells.Cell.TheVariants.{Stay, RoomDay, TheatreDay, SurgeonDay, RoomShift, NurseShift, Care}
-use Rattle.ih_tables.specs.declared.ids.RoomNo.{RoomNo}
-use Rattle.ih_tables.specs.declared.ids.Day.{Day}
-use Rattle.ih_tables.specs.declared.ids.PatientNo.{PatientNo}
-use Rattle.ih_tables.specs.declared.ids.TheatreNo.{TheatreNo}
-use Rattle.ih_tables.specs.declared.ids.SurgeonNo.{SurgeonNo}
-use Rattle.ih_tables.specs.declared.ids.PersonNo.{PersonNo}
-use Rattle.ih_tables.specs.declared.ids.Shift.{Shift}
-use Rattle.ih_tables.specs.declared.ids.NurseNo.{NurseNo}
 use Rattle.ih_tables.specs.Sizes.{Sizes, sizes_of}
 use Rattle.ih_tables.specs.declared.drafts.Draft.{Draft}
 use Rattle.ih_plan.specs.declared.moves.Move.{Move}
@@ -20,12 +12,16 @@ use Rattle.ih_plan.specs.Timetable.{Timetable}
 use Rattle.ih_plan.specs.Footprint.{touches, footprint}
 use Rattle.ih_plan.specs.Sums.{which_below, is_listed}
 use Rattle.ih_plan.proofs.ListedBelow.{which_below-same}
+use Rattle.ih_plan.proofs.CellNumbers.{stay_cell, room_day_cell, theatre_day_cell, surgeon_day_cell, room_shift_cell, nurse_shift_cell, care_cell}
 use Rattle.ih_plan.specs.Cells.{number_in, count_in, IsCellIn, IsCellOf, cell_in, cell_at, cell_count}
 use Rattle.ih_footprint.specs.Gathered.{Gathered, Gathers, holds, same_cell, settled}
 use Rattle.std.proofs.Math.Bool.{or-false, or_assoc}
 use Rattle.ih_footprint.proofs.Ranked.{cell_in-number_in, number_in-cell_in, cell_in-in}
 
 -- ---- one cell
+
+both-same : (cell : ℕ → ℕ → Cell) (a b c d : ℕ) → ((a == c) && (b == d)) ≡ true → cell a b ≡ cell c d
+both-same cell a b c d h = let parts = and_parts (a == c) (b == d) h in rw (eqb-true a c parts.0, eqb-true b d parts.1) refl
 
 pub same_cell-self : (c : Cell) → same_cell c c ≡ true
 unfolding same_cell
@@ -39,43 +35,13 @@ same_cell-self (Care x) = eq-eqb x.0 x.0 refl
 
 same_cell-true : (c e : Cell) → same_cell c e ≡ true → c ≡ e
 unfolding same_cell
-same_cell-true (Stay a) (Stay c) h = ap (λ n. let o : PatientNo = record { 0 = n } in Stay o) (eqb-true a.0 c.0 h)
-same_cell-true (RoomDay a b) (RoomDay c d) h =
-    let parts = and_parts (a.0 == c.0) (b.0 == d.0) h in
-    let one = eqb-true a.0 c.0 parts.0 in
-    let two = eqb-true b.0 d.0 parts.1 in
-    let first : a ≡ c = ap (λ n. let o : RoomNo = record { 0 = n } in o) one in
-    let second : b ≡ d = ap (λ n. let o : Day = record { 0 = n } in o) two in
-    cc
-same_cell-true (TheatreDay a b) (TheatreDay c d) h =
-    let parts = and_parts (a.0 == c.0) (b.0 == d.0) h in
-    let one = eqb-true a.0 c.0 parts.0 in
-    let two = eqb-true b.0 d.0 parts.1 in
-    let first : a ≡ c = ap (λ n. let o : TheatreNo = record { 0 = n } in o) one in
-    let second : b ≡ d = ap (λ n. let o : Day = record { 0 = n } in o) two in
-    cc
-same_cell-true (SurgeonDay a b) (SurgeonDay c d) h =
-    let parts = and_parts (a.0 == c.0) (b.0 == d.0) h in
-    let one = eqb-true a.0 c.0 parts.0 in
-    let two = eqb-true b.0 d.0 parts.1 in
-    let first : a ≡ c = ap (λ n. let o : SurgeonNo = record { 0 = n } in o) one in
-    let second : b ≡ d = ap (λ n. let o : Day = record { 0 = n } in o) two in
-    cc
-same_cell-true (RoomShift a b) (RoomShift c d) h =
-    let parts = and_parts (a.0 == c.0) (b.0 == d.0) h in
-    let one = eqb-true a.0 c.0 parts.0 in
-    let two = eqb-true b.0 d.0 parts.1 in
-    let first : a ≡ c = ap (λ n. let o : RoomNo = record { 0 = n } in o) one in
-    let second : b ≡ d = ap (λ n. let o : Shift = record { 0 = n } in o) two in
-    cc
-same_cell-true (NurseShift a b) (NurseShift c d) h =
-    let parts = and_parts (a.0 == c.0) (b.0 == d.0) h in
-    let one = eqb-true a.0 c.0 parts.0 in
-    let two = eqb-true b.0 d.0 parts.1 in
-    let first : a ≡ c = ap (λ n. let o : NurseNo = record { 0 = n } in o) one in
-    let second : b ≡ d = ap (λ n. let o : Shift = record { 0 = n } in o) two in
-    cc
-same_cell-true (Care a) (Care c) h = ap (λ n. let o : PersonNo = record { 0 = n } in Care o) (eqb-true a.0 c.0 h)
+same_cell-true (Stay a) (Stay c) h = ap stay_cell (eqb-true a.0 c.0 h)
+same_cell-true (RoomDay a b) (RoomDay c d) h = both-same room_day_cell a.0 b.0 c.0 d.0 h
+same_cell-true (TheatreDay a b) (TheatreDay c d) h = both-same theatre_day_cell a.0 b.0 c.0 d.0 h
+same_cell-true (SurgeonDay a b) (SurgeonDay c d) h = both-same surgeon_day_cell a.0 b.0 c.0 d.0 h
+same_cell-true (RoomShift a b) (RoomShift c d) h = both-same room_shift_cell a.0 b.0 c.0 d.0 h
+same_cell-true (NurseShift a b) (NurseShift c d) h = both-same nurse_shift_cell a.0 b.0 c.0 d.0 h
+same_cell-true (Care a) (Care c) h = ap care_cell (eqb-true a.0 c.0 h)
 same_cell-true _ _ h = absurd (let no : false ≡ true = h in cc)
 
 -- cells in range are the same where their numbers are

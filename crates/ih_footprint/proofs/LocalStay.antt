@@ -24,6 +24,7 @@ use Rattle.ih_plan.specs.Sums.{tagged}
 use Rattle.ih_plan.proofs.ListedBelow.{has, which_below-same, which_below-has, which_below-agree, has-which_below, tagged-same, tagged-agree, tagged-agree_keys}
 use Rattle.ih_plan.proofs.Entries.{stay_of-other, stay_of-same, admission-patient, admission-other, admission-set}
 use Rattle.ih_plan.proofs.Loads.{person_load, room_load, room_load-sum, nurse_load}
+use Rattle.ih_footprint.proofs.FootLemmas.{neither}
 use Rattle.ih_footprint.proofs.FrameStay.{at_room, of_surgeon, in_stay-shift, present-after, present-other}
 use Rattle.ih_footprint.proofs.FrameCare.{counted-present}
 
@@ -117,6 +118,12 @@ module _ (I : Draft) (P Q : Timetable) (p : PatientNo) (s : Option Placement) (p
       same cell (rh, kh) (or_right _ _ (in_stay-shift I P p.0 s (record { 0 = r }) (record { 0 = k }) ∙ h)) in
       cc
 
+  insideP : p.0 < length P.stays
+  insideP = let sizes = planP.stays in omega arith
+
+  insideQ : p.0 < length Q.stays
+  insideQ = let sizes = planQ.stays in omega arith
+
   placed-old : (at : Placement) → stay_of P p.0 ≡ Some at → IsPlacement I at
   placed-old at e = planP.placed p.0 at e
 
@@ -133,18 +140,12 @@ module _ (I : Draft) (P Q : Timetable) (p : PatientNo) (s : Option Placement) (p
   part-same (Some at) fits choice (RoomShift r k) range = refl
   part-same (Some at) fits choice (NurseShift n k) range = by_case (covers at.day.0 (person_of I p.0).length_of_stay (day_of k.0)) refl
     where
-      none : (b c : Bool) → (b && false) ≡ (c && false)
-      none true true = refl
-      none true false = refl
-      none false true = refl
-      none false false = refl
-
       by_case : (b : Bool) → covers at.day.0 (person_of I p.0).length_of_stay (day_of k.0) ≡ b
           → (is_number (care_of Q at.room.0 k.0) n.0 && b) ≡ (is_number (care_of P at.room.0 k.0) n.0 && b)
       by_case true e =
           let there = and_from (at.room.0 == at.room.0) (covers at.day.0 (person_of I p.0).length_of_stay (day_of k.0)) (eq-eqb at.room.0 at.room.0 refl) e in
           rw (choice at.room.0 k.0 (fits at refl).room range.1 there) refl
-      by_case false e = none (is_number (care_of Q at.room.0 k.0) n.0) (is_number (care_of P at.room.0 k.0) n.0)
+      by_case false e = neither (is_number (care_of Q at.room.0 k.0) n.0) (is_number (care_of P at.room.0 k.0) n.0)
   part-same (Some at) fits choice (Care x) range = refl
 
   pub touches_stay-same : (c : Cell) → IsCellOf I c → write_touches I Q (SetStay p s) c ≡ write_touches I P (SetStay p s) c
@@ -186,10 +187,6 @@ module _ (I : Draft) (P Q : Timetable) (p : PatientNo) (s : Option Placement) (p
   after-surgeries : (t d : ℕ) → operated I Q t d ≡ operated I P t d → operated I (put (SetStay p s) Q) t d ≡ operated I (put (SetStay p s) P) t d
   unfolding operated
   after-surgeries t d e =
-      let sizeP = planP.stays in
-      let sizeQ = planQ.stays in
-      let insideP : p.0 < length P.stays = omega arith in
-      let insideQ : p.0 < length Q.stays = omega arith in
       which_below-same (patient_count I) (λ x. operated_in t d (stay_of (put (SetStay p s) Q) x)) (λ x. operated_in t d (stay_of (put (SetStay p s) P) x)) (λ x xh.
       elim (cases_eq x p.0) [
         | inl own ↦ rw (own, stay_of-same P p s insideP, stay_of-same Q p s insideQ) refl
@@ -201,10 +198,6 @@ module _ (I : Draft) (P Q : Timetable) (p : PatientNo) (s : Option Placement) (p
       → tagged (theatre_of (put (SetStay p s) Q)) (operated_by I (put (SetStay p s) Q) t d) ≡ tagged (theatre_of (put (SetStay p s) P)) (operated_by I (put (SetStay p s) P) t d)
   unfolding operated_by
   after-surgeon t d e =
-      let sizeP = planP.stays in
-      let sizeQ = planQ.stays in
-      let insideP : p.0 < length P.stays = omega arith in
-      let insideQ : p.0 < length Q.stays = omega arith in
       let testP = λ (x : ℕ). of_surgeon I t d x (stay_of P x) in
       let testQ = λ (x : ℕ). of_surgeon I t d x (stay_of Q x) in
       let newP = λ (x : ℕ). of_surgeon I t d x (stay_of (put (SetStay p s) P) x) in
@@ -269,10 +262,6 @@ module _ (I : Draft) (P Q : Timetable) (p : PatientNo) (s : Option Placement) (p
   unfolding content_of
   after_stay (Stay q) range e = elim (cases_eq q.0 p.0) [
     | inl own ↦
-        let sizeP = planP.stays in
-        let sizeQ = planQ.stays in
-        let insideP : p.0 < length P.stays = omega arith in
-        let insideQ : p.0 < length Q.stays = omega arith in
         rw (own, stay_of-same P p s insideP, stay_of-same Q p s insideQ) refl
     | inr other ↦ rw (stay_of-other P p s q.0 other, stay_of-other Q p s q.0 other) e
   ]

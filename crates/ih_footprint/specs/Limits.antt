@@ -21,3 +21,20 @@ pub record AreFirsts (z : Sizes) (first_theatre_day first_surgeon_day first_room
   pub room_shifts : first_room_shift ≡ room_shifts_from z
   pub nurse_shifts : first_nurse_shift ≡ nurse_shifts_from z
   pub cares : first_care ≡ cares_from z
+
+-- the sizes with these numbers
+abbrev pub as_sizes : (days patients occupants rooms theatres surgeons nurses : ℕ) → Sizes
+as_sizes days patients occupants rooms theatres surgeons nurses = record {
+  days = days;
+  patients = patients;
+  occupants = occupants;
+  rooms = rooms;
+  theatres = theatres;
+  surgeons = surgeons;
+  nurses = nurses;
+}
+
+-- Within the limits, and these begin where they do for the sizes.
+abbrev pub AreLaidOut : Sizes → (first_theatre_day first_surgeon_day first_room_shift first_nurse_shift first_care : ℕ) → Type 0
+AreLaidOut z first_theatre_day first_surgeon_day first_room_shift first_nurse_shift first_care =
+    AreLimited z × AreFirsts z first_theatre_day first_surgeon_day first_room_shift first_nurse_shift first_care

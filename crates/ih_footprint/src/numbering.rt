@@ -27,20 +27,13 @@ pub struct Numbering {
 impl Model for Numbering {
     ghost use Rattle.std.proofs.Common.{refl};
     ghost use Rattle.ih_tables.specs.Sizes.{Sizes};
-    ghost use Rattle.ih_plan.specs.Cells.{theatre_days_from, surgeon_days_from, room_shifts_from, nurse_shifts_from, cares_from};
-    ghost use Rattle.ih_footprint.specs.Limits.{AreLimited, AreFirsts};
+    ghost use Rattle.ih_plan.specs.Cells.{theatre_days_from, surgeon_days_from, room_shifts_from};
+    ghost use Rattle.ih_plan.specs.Cells.{nurse_shifts_from, cares_from};
+    ghost use Rattle.ih_footprint.specs.Limits.{AreLaidOut, as_sizes};
 
     ghost Value = { Sizes };
 
-    ghost view = { λ n. record {
-      days = n.days;
-      patients = n.patients;
-      occupants = n.occupants;
-      rooms = n.rooms;
-      theatres = n.theatres;
-      surgeons = n.surgeons;
-      nurses = n.nurses;
-    } };
+    ghost view = { λ n. as_sizes n.days n.patients n.occupants n.rooms n.theatres n.surgeons n.nurses };
 
     ghost inverse = { λ z. record {
       days = z.days;
@@ -57,25 +50,11 @@ impl Model for Numbering {
       first_care = cares_from z;
     } };
 
-    ghost invariant = { λ n. AreLimited (record {
-      days = n.days;
-      patients = n.patients;
-      occupants = n.occupants;
-      rooms = n.rooms;
-      theatres = n.theatres;
-      surgeons = n.surgeons;
-      nurses = n.nurses;
-    }) × AreFirsts (record {
-      days = n.days;
-      patients = n.patients;
-      occupants = n.occupants;
-      rooms = n.rooms;
-      theatres = n.theatres;
-      surgeons = n.surgeons;
-      nurses = n.nurses;
-    }) n.first_theatre_day n.first_surgeon_day n.first_room_shift n.first_nurse_shift n.first_care };
+    ghost invariant = { λ n. AreLaidOut (as_sizes n.days n.patients n.occupants n.rooms n.theatres n.surgeons n.nurses)
+        n.first_theatre_day n.first_surgeon_day n.first_room_shift n.first_nurse_shift n.first_care };
 
-    ghost inverse_ok = { λ a h. rw (h.1.theatre_days, h.1.surgeon_days, h.1.room_shifts, h.1.nurse_shifts, h.1.cares) refl };
+    ghost inverse_ok = { λ a h. let firsts = h.1 in
+        rw (firsts.theatre_days, firsts.surgeon_days, firsts.room_shifts, firsts.nurse_shifts, firsts.cares) refl };
 }
 
 impl Numbering {
