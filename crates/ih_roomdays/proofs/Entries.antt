@@ -10,7 +10,7 @@ use Rattle.ih_roomdays.specs.declared.rows.Rows.{Rows}
 use Rattle.ih_roomdays.specs.Rows.{AreRows, IsEntered, persons_at, is_at}
 use Rattle.std.proofs.Math.Bool.{or-false, and-false}
 use Rattle.ih_plan.proofs.Spans.{span-none, span-past, span-more}
-use Rattle.ih_roomdays.proofs.Replacements.{IsDay, IsReplaced, everywhere}
+use Rattle.ih_roomdays.proofs.Replacements.{IsDay, IsReplaced, everywhere, replaced-then}
 use Rattle.ih_plan.specs.Presence.{in_span}
 
 -- before the first day nothing is changed
@@ -75,16 +75,9 @@ module _ (v new : Rows) (room x k : ℕ) (longer : IsReplaced v new room k (pers
       ]
 
   pub entered-more : (old : Rows) (a : ℕ) → a ≤ k → IsEntered old v room x a k → IsEntered old new room x a (k + 1)
-  entered-more old a order so_far = record {
-    rows = longer.rows;
-    rooms = longer.rooms ∙ so_far.rooms;
-    days = longer.days ∙ so_far.days;
-    persons = longer.persons ∙ so_far.persons;
-    profiles = longer.profiles ∙ so_far.profiles;
-    each = λ r d y below.
-        each-after r d y (rw so_far.days below) ∙ (ap (λ b. b || ((room == r) && ((y == x) && (k == d)))) (so_far.each r d y below)
-        ∙ (grown (is_at old r d y) (room == r) (y == x) (in_span a k d) (k == d) ∙ sym (ap (λ b. is_at old r d y || ((room == r) && ((y == x) && b))) (span-more a k d order))));
-  }
+  entered-more old a order so_far =
+      replaced-then (λ r d y was. was || ((room == r) && ((y == x) && (k == d)))) so_far longer each-after
+      (λ r d y was. grown was (room == r) (y == x) (in_span a k d) (k == d) ∙ sym (ap (λ b. was || ((room == r) && ((y == x) && b))) (span-more a k d order)))
     where
       grown : (f p q s e : Bool) → ((f || (p && (q && s))) || (p && (q && e))) ≡ (f || (p && (q && (s || e))))
       grown true p q s e = refl

@@ -13,7 +13,7 @@ use Rattle.ih_roomdays.specs.Rows.{AreRows, IsLeft, persons_at, is_at}
 use Rattle.std.proofs.Math.Bool.{and-true, and-false}
 use Rattle.ih_plan.proofs.Spans.{span-none, span-past, span-more}
 use Rattle.ih_roomdays.proofs.People.{persons-few}
-use Rattle.ih_roomdays.proofs.Replacements.{IsDay, IsReplaced, everywhere}
+use Rattle.ih_roomdays.proofs.Replacements.{IsDay, IsReplaced, everywhere, replaced-then}
 use Rattle.ih_plan.specs.Presence.{in_span}
 
 -- before the first day nothing is changed
@@ -76,16 +76,9 @@ module _ (v new : Rows) (room x k : ℕ) (there : (r : ℕ) → is_at v r k x �
       ]
 
   pub left-more : (old : Rows) (a : ℕ) → a ≤ k → IsLeft old v x a k → IsLeft old new x a (k + 1)
-  left-more old a order so_far = record {
-    rows = shorter.rows;
-    rooms = shorter.rooms ∙ so_far.rooms;
-    days = shorter.days ∙ so_far.days;
-    persons = shorter.persons ∙ so_far.persons;
-    profiles = shorter.profiles ∙ so_far.profiles;
-    each = λ r d y below.
-        each-after r d y (rw so_far.days below) ∙ (ap (λ b. b && not ((y == x) && (k == d))) (so_far.each r d y below)
-        ∙ (shrunk (is_at old r d y) (y == x) (in_span a k d) (k == d) ∙ sym (ap (λ b. is_at old r d y && not ((y == x) && b)) (span-more a k d order))));
-  }
+  left-more old a order so_far =
+      replaced-then (λ r d y was. was && not ((y == x) && (k == d))) so_far shorter each-after
+      (λ r d y was. shrunk was (y == x) (in_span a k d) (k == d) ∙ sym (ap (λ b. was && not ((y == x) && b)) (span-more a k d order)))
     where
       shrunk : (f q s e : Bool) → ((f && not (q && s)) && not (q && e)) ≡ (f && not (q && (s || e)))
       shrunk false q s e = refl

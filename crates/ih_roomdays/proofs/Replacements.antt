@@ -1,5 +1,5 @@
 -- The list of one room and one day is replaced, and what is kept beside it.
-use Rattle.std.proofs.Common.{◌≡◌, ℕ, ◌+◌, ◌*◌, ◌<◌, refl, sym, ap, subst, ◌∙◌, true, List, [], length, inl, inr}
+use Rattle.std.proofs.Common.{◌≡◌, ℕ, ◌+◌, ◌*◌, ◌<◌, refl, sym, ap, subst, ◌∙◌, Bool, true, List, [], length, inl, inr}
 use Rattle.std.specs.Prelude.{slice_index_or, slice_set}
 use Rattle.std.specs.Global.{Vec}
 use Rattle.std.proofs.lemmas.Bool.{cases_eq}
@@ -10,7 +10,7 @@ use Rattle.ih_links.specs.Days.{on_day}
 use Rattle.ih_roomdays.specs.declared.occupancies.Crowd.{Crowd}
 use Rattle.ih_roomdays.specs.declared.rows.Rows.{Rows}
 use Rattle.ih_roomdays.specs.Occupancy.{IsCrowd, nobody}
-use Rattle.ih_roomdays.specs.Rows.{AreRows, persons_at, crowd_at}
+use Rattle.ih_roomdays.specs.Rows.{AreRows, AreChanged, persons_at, crowd_at, is_at}
 use Rattle.ih_roomdays.proofs.People.{place-inside}
 
 -- A day's lists that differ from those before in the room's list alone: that is xs, whose persons are known, each once.
@@ -31,6 +31,18 @@ pub record IsReplaced (before after : Rows) (room k : ℕ) (xs : List ℕ) : Typ
   pub profiles : after.profiles ≡ before.profiles
   pub here : persons_at after room k ≡ xs
   pub others : (r d : ℕ) → (r ≡ room → d ≡ k → ⊥) → persons_at after r d ≡ persons_at before r d
+
+-- a change, and then the lists of one day
+pub replaced-then : {old v new : Rows} {room k : ℕ} {xs : List ℕ} {f h : ℕ → ℕ → ℕ → Bool → Bool} (g : ℕ → ℕ → ℕ → Bool → Bool) → AreChanged old v f → IsReplaced v new room k xs
+    → ((r d y : ℕ) → d < v.days → is_at new r d y ≡ g r d y (is_at v r d y)) → ((r d y : ℕ) (was : Bool) → g r d y (f r d y was) ≡ h r d y was) → AreChanged old new h
+replaced-then {old} g so_far step each both = record {
+  rows = step.rows;
+  rooms = step.rooms ∙ so_far.rooms;
+  days = step.days ∙ so_far.days;
+  persons = step.persons ∙ so_far.persons;
+  profiles = step.profiles ∙ so_far.profiles;
+  each = λ r d y below. each r d y (rw so_far.days below) ∙ (ap (g r d y) (so_far.each r d y below) ∙ both r d y (is_at old r d y));
+}
 
 -- what holds of the room's day and of each other one
 pub everywhere : (room k days : ℕ) (A : ℕ → ℕ → Type 0) → A room k → ((r d : ℕ) → d < days → (r ≡ room → d ≡ k → ⊥) → A r d) → (r d : ℕ) → d < days → A r d

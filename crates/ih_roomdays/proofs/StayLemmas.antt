@@ -7,14 +7,14 @@ use Rattle.ih_tables.specs.declared.ids.PatientNo.{PatientNo}
 use Rattle.ih_tables.specs.Sizes.{patient_count}
 use Rattle.ih_plan.specs.declared.moves.Placement.{Placement}
 use Rattle.ih_plan.specs.declared.moves.Write.TheVariants.{SetStay}
-use Rattle.ih_plan.specs.Timetable.{Timetable, IsPlacement, stay_of}
+use Rattle.ih_plan.specs.Timetable.{Timetable, IsPlacement, IsPlanOf, stay_of}
 use Rattle.ih_plan.specs.Writes.{put}
 use Rattle.ih_plan.specs.Presence.{covers, end_of, is_in, is_present, placed_at}
 use Rattle.ih_plan.specs.Persons.{person_of}
 use Rattle.ih_plan.proofs.Entries.{admission-set}
 use Rattle.ih_plan.proofs.PlanRanges.{put-plan, stay-plan}
 use Rattle.ih_roomdays.specs.declared.rows.Rows.{Rows}
-use Rattle.ih_roomdays.specs.Rows.{IsEntered, IsLeft, is_at, of_stay}
+use Rattle.ih_roomdays.specs.Rows.{AreChanged, IsEntered, IsLeft, is_at, of_stay}
 use Rattle.ih_roomdays.specs.Profiles.{AreProfiles}
 use Rattle.ih_roomdays.specs.Ledger.{IsLedgerOf}
 use Rattle.std.proofs.Math.Bool.{or-false, and-true, and-false}
@@ -25,18 +25,20 @@ module _ (I : Draft) (P : Timetable) (old new : Rows) (p : PatientNo) (at : Plac
   set-stay : (s : Option Placement) (r d : ℕ) → is_present I (put (SetStay p s) P) r d p.0 ≡ is_in (option_map placed_at s) (person_of I p.0).length_of_stay r d
   set-stay s r d = rw (admission-set I P p s stands.plan known) refl
 
-  pub entered-stands : stay_of P p.0 ≡ None → IsPlacement I at → IsEntered old new at.room.0 p.0 at.day.0 (end_of I p.0 at) → IsLedgerOf I (put (SetStay p (Some at)) P) new
-  entered-stands none fits entered = record {
-    plan = stay-plan I P p at stands.plan known fits;
-    rows = entered.rows;
-    rooms = entered.rooms ∙ stands.rooms;
-    days = entered.days ∙ stands.days;
-    persons = entered.persons ∙ stands.persons;
-    profiles = subst (AreProfiles I) (sym entered.profiles) stands.profiles;
-    each = λ r d x below. entered.each r d x (rw stands.days below)
-        ∙ (ap (λ b. b || ((at.room.0 == r) && of_stay p.0 at.day.0 (end_of I p.0 at) d x)) (stands.each r d x below)
-        ∙ each r d x below);
+  changed-stands : {Q : Timetable} {now : ℕ → ℕ → ℕ → Bool → Bool} → AreChanged old new now → IsPlanOf I Q
+      → ((r d x : ℕ) → d < I.days → now r d x (is_present I P r d x) ≡ is_present I Q r d x) → IsLedgerOf I Q new
+  changed-stands {Q} {now} changed plan each = record {
+    plan = plan;
+    rows = changed.rows;
+    rooms = changed.rooms ∙ stands.rooms;
+    days = changed.days ∙ stands.days;
+    persons = changed.persons ∙ stands.persons;
+    profiles = subst (AreProfiles I) (sym changed.profiles) stands.profiles;
+    each = λ r d x below. changed.each r d x (rw stands.days below) ∙ (ap (now r d x) (stands.each r d x below) ∙ each r d x below);
   }
+
+  pub entered-stands : stay_of P p.0 ≡ None → IsPlacement I at → IsEntered old new at.room.0 p.0 at.day.0 (end_of I p.0 at) → IsLedgerOf I (put (SetStay p (Some at)) P) new
+  entered-stands none fits entered = changed-stands entered (stay-plan I P p at stands.plan known fits) each
     where
       each : (r d x : ℕ) → d < I.days
           → (is_present I P r d x || ((at.room.0 == r) && of_stay p.0 at.day.0 (end_of I p.0 at) d x))
@@ -49,16 +51,8 @@ module _ (I : Draft) (P : Timetable) (old new : Rows) (p : PatientNo) (at : Plac
       ]
 
   pub left-stands : stay_of P p.0 ≡ Some at → IsLeft old new p.0 at.day.0 (end_of I p.0 at) → IsLedgerOf I (put (SetStay p None) P) new
-  left-stands stay gone = record {
-    plan = put-plan I P (SetStay p None) stands.plan (known, λ s e. absurd (let no : None ≡ Some s = e in cc));
-    rows = gone.rows;
-    rooms = gone.rooms ∙ stands.rooms;
-    days = gone.days ∙ stands.days;
-    persons = gone.persons ∙ stands.persons;
-    profiles = subst (AreProfiles I) (sym gone.profiles) stands.profiles;
-    each = λ r d x below. gone.each r d x (rw stands.days below)
-        ∙ (ap (λ b. b && not (of_stay p.0 at.day.0 (end_of I p.0 at) d x)) (stands.each r d x below) ∙ each r d x below);
-  }
+  left-stands stay gone =
+      changed-stands gone (put-plan I P (SetStay p None) stands.plan (known, λ s e. absurd (let no : None ≡ Some s = e in cc))) each
     where
       away : (q b : Bool) → ((q && b) && not (true && b)) ≡ false
       away true true = refl

@@ -48,20 +48,19 @@ pub record AreVacant (rooms days persons : ℕ) (profiles : Profiles) (v : Rows)
 abbrev pub of_stay : ℕ → ℕ → ℕ → ℕ → ℕ → Bool
 of_stay x a b d y = (y == x) && in_span a b d
 
--- Afterwards person x is in the room too, from day a on and before day b.
-pub record IsEntered (before after : Rows) (room x a b : ℕ) : Type 0 where
+-- Afterwards a person is in a room on a day where `now` has it so, by whether it was there before.
+pub record AreChanged (before after : Rows) (now : (room day person : ℕ) (was : Bool) → Bool) : Type 0 where
   pub rows : AreRows after
   pub rooms : after.rooms ≡ before.rooms
   pub days : after.days ≡ before.days
   pub persons : after.persons ≡ before.persons
   pub profiles : after.profiles ≡ before.profiles
-  pub each : (r d y : ℕ) → d < before.days → is_at after r d y ≡ (is_at before r d y || ((room == r) && of_stay x a b d y))
+  pub each : (r d y : ℕ) → d < before.days → is_at after r d y ≡ now r d y (is_at before r d y)
+
+-- Afterwards person x is in the room too, from day a on and before day b.
+abbrev pub IsEntered : (before after : Rows) (room x a b : ℕ) → Type 0
+IsEntered before after room x a b = AreChanged before after (λ r d y was. was || ((room == r) && of_stay x a b d y))
 
 -- Afterwards person x is in no room from day a on and before day b.
-pub record IsLeft (before after : Rows) (x a b : ℕ) : Type 0 where
-  pub rows : AreRows after
-  pub rooms : after.rooms ≡ before.rooms
-  pub days : after.days ≡ before.days
-  pub persons : after.persons ≡ before.persons
-  pub profiles : after.profiles ≡ before.profiles
-  pub each : (r d y : ℕ) → d < before.days → is_at after r d y ≡ (is_at before r d y && not (of_stay x a b d y))
+abbrev pub IsLeft : (before after : Rows) (x a b : ℕ) → Type 0
+IsLeft before after x a b = AreChanged before after (λ r d y was. was && not (of_stay x a b d y))

@@ -73,8 +73,8 @@ impl Occupancy {
     #[inline(always)]
     pub fn is_mixed(self) -> bool
         requires small { IsSmall self }
-        ensures { (I : Draft) (p : Profiles) (xs : List ℕ) → AreProfiles I p → ArePersons I xs → IsOccupancy p xs self
-            → result ≡ genders_differ I xs }
+        ensures { (I : Draft) (p : Profiles) (xs : List ℕ) → AreProfiles I p → ArePersons I xs
+            → IsOccupancy p xs self → result ≡ genders_differ I xs }
     {
         self.count as u64 * self.squares != square(self.genders)
     }
@@ -82,8 +82,8 @@ impl Occupancy {
     /// The greatest of their age groups less the least.
     #[inline(always)]
     pub fn spread(self) -> u32
-        ensures { (I : Draft) (p : Profiles) (xs : List ℕ) → AreProfiles I p → ArePersons I xs → IsOccupancy p xs self
-            → result ≡ age_spread I xs }
+        ensures { (I : Draft) (p : Profiles) (xs : List ℕ) → AreProfiles I p → ArePersons I xs
+            → IsOccupancy p xs self → result ≡ age_spread I xs }
     {
         if self.ages == 0 {
             0
@@ -116,8 +116,8 @@ impl Crowd {
         requires genders { who.gender ≤ self.occupancy.genders }
         requires squares { who.gender * who.gender ≤ self.occupancy.squares }
         requires age { who.age < 64 }
-        ensures { (p : Profiles) (xs : List ℕ) (x : ℕ) → who ≡ profile_of p x → IsCrowd p xs self → IsOnce xs
-            → has x xs ≡ true → IsOccupancy p (without x xs) result }
+        ensures { (p : Profiles) (xs : List ℕ) (x : ℕ) → who ≡ profile_of p x → IsCrowd p xs self
+            → IsOnce xs → has x xs ≡ true → IsOccupancy p (without x xs) result }
     {
         // Its age group stays where somebody else is in it too.
         Occupancy {

@@ -108,7 +108,8 @@ impl RoomDays {
         requires counted { covers at.day.0 (person_of inst.now.draft p.0).length_of_stay d.0 ≡ true }
         requires stands { (P : Timetable) × IsLedgerOf inst.now.draft P self.now × (stay_of P p.0 ≡ old) }
         ensures gain { (P : Timetable) → IsLedgerOf inst.now.draft P self.now → stay_of P p.0 ≡ old
-            → result ≡ sub_bills (as_bill (part_at inst.now.draft (put (SetStay p (Some at)) P) (RoomDay at.room d)))
+            → result ≡ sub_bills (as_bill
+            (part_at inst.now.draft (put (SetStay p (Some at)) P) (RoomDay at.room d)))
             (as_bill (part_at inst.now.draft (put (SetStay p None) P) (RoomDay at.room d))) }
         ensures within { IsWithin (10 ^ 11) result }
     {
