@@ -87,13 +87,13 @@ both-rise a b c d = omega (arith, ints)
 pub loads-told : (I : Draft) (P : Timetable) (r : RoomNo) (k : Shift) (new : Option NurseNo) (loads : List NurseLoad) (work : ℕ) → IsPlanOf I P → r.0 < room_count I → k.0 < shift_count I
     → care_of P r.0 k.0 ≢ number new → AreLoads I P loads → work ≡ room_load I P k.0 r.0
     → IfSome (choice_of P r.0 k.0) (λ a. a.0 < nurse_count I) → IfSome new (λ a. a.0 < nurse_count I)
-    → excess_rise I loads (choice_of P r.0 k.0) k.0 (λ load. load - work) +ℤ excess_rise I loads new k.0 (λ load. load + work)
+    → excess_rise I loads (choice_of P r.0 k.0) k.0 (λ load. load - work + 0) +ℤ excess_rise I loads new k.0 (λ load. load - 0 + work)
     ≡ rise_by_choice P r k new (λ Q. excess_of I Q k.0 (care_of P r.0 k.0) + excess_of I Q k.0 (number new))
 loads-told I P r k new loads work plan room shift other known total old_nurse new_nurse =
     let Q : Timetable = put (SetCare r k new) P in
-    let gone = excess-told I P Q k.0 loads (choice_of P r.0 k.0) (λ load. load - work) known shift old_nurse
+    let gone = excess-told I P Q k.0 loads (choice_of P r.0 k.0) (λ load. load - work + 0) known shift old_nurse
     (λ a is. let step = load-gone I P r k new plan room shift other a is in omega (arith, step, total)) in
-    let come = excess-told I P Q k.0 loads new (λ load. load + work) known shift new_nurse
+    let come = excess-told I P Q k.0 loads new (λ load. load - 0 + work) known shift new_nurse
     (λ a is. let step = load-come I P r k new plan room shift other a is in omega (arith, step, total)) in
     rw (gone, come)
     (both-rise (excess_of I Q k.0 (care_of P r.0 k.0)) (excess_of I P k.0 (care_of P r.0 k.0)) (excess_of I Q k.0 (number new)) (excess_of I P k.0 (number new)))

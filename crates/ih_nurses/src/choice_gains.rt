@@ -10,7 +10,7 @@ ghost use Rattle.ih_nurses.specs.Gains.{off_in, uncovered_in, missing_in};
 ghost use Rattle.ih_nurses.specs.Ledger.{IsLedgerOf, plan_of};
 
 use crate::Nurses;
-use crate::loads::{excess_with, excess_without};
+use crate::loads::excess_change;
 use crate::room_sums::room_sums;
 use crate::rooms::{nurse_off, uncovered};
 use ih_plan::{nurse_at, rise};
@@ -61,7 +61,9 @@ impl Nurses {
             (option_map (λ (a : NurseNo). a.0) new)) }
     {
         let loads = self.loads.as_slice();
-        excess_without(inst, loads, old, k, work) + excess_with(inst, loads, new, k, work)
+        let gone = excess_change(inst, loads, old, k, work, 0);
+        let come = excess_change(inst, loads, new, k, 0, work);
+        gone + come
     }
 
     /// What another choice of nurse, or none, for a room's shift would change. It goes once over the persons who are in

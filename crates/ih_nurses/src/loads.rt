@@ -107,47 +107,22 @@ pub fn move_load(
     add_load(inst, loads, to, k, load);
 }
 
-/// What a load less changes in the workload above its maximum of a nurse, where there is one.
+/// What changes in the workload above its maximum of a nurse, where there is one, when one load goes and another comes.
 #[inline(always)]
-pub fn excess_without(
+pub fn excess_change(
     inst: &Instance,
     loads: &[NurseLoad],
     n: Option<NurseNo>,
     k: Shift,
     less: u32,
-) -> i64
-    requires table { IsTable inst.now.draft loads.now }
-    requires nurse { IfSome n (λ a. a.0 < nurse_count inst.now.draft) }
-    requires shift { k.0 < shift_count inst.now.draft }
-    requires enough { IfSome n (λ a. less ≤ load_at inst.now.draft loads.now a.0 k.0) }
-    ensures rise { result ≡ excess_rise inst.now.draft loads.now n k.0 (λ load. load - less) }
-    ensures low { neg_ℤ (pos (10 ^ 11)) ≤ℤ result }
-    ensures high { result ≤ℤ pos (10 ^ 11) }
-{
-    let Some(a) = n else {
-        return 0;
-    };
-    let before = load(inst, loads, a, k);
-    rise(
-        overload(before, before.work - less),
-        overload(before, before.work),
-    )
-}
-
-/// What a load more changes in the workload above its maximum of a nurse, where there is one.
-#[inline(always)]
-pub fn excess_with(
-    inst: &Instance,
-    loads: &[NurseLoad],
-    n: Option<NurseNo>,
-    k: Shift,
     more: u32,
 ) -> i64
     requires table { IsTable inst.now.draft loads.now }
     requires nurse { IfSome n (λ a. a.0 < nurse_count inst.now.draft) }
     requires shift { k.0 < shift_count inst.now.draft }
-    requires fits { IfSome n (λ a. load_at inst.now.draft loads.now a.0 k.0 + more < 2 ^ 32) }
-    ensures rise { result ≡ excess_rise inst.now.draft loads.now n k.0 (λ load. load + more) }
+    requires enough { IfSome n (λ a. less ≤ load_at inst.now.draft loads.now a.0 k.0) }
+    requires fits { IfSome n (λ a. load_at inst.now.draft loads.now a.0 k.0 - less + more < 2 ^ 32) }
+    ensures rise { result ≡ excess_rise inst.now.draft loads.now n k.0 (λ load. load - less + more) }
     ensures low { neg_ℤ (pos (10 ^ 11)) ≤ℤ result }
     ensures high { result ≤ℤ pos (10 ^ 11) }
 {
@@ -156,7 +131,7 @@ pub fn excess_with(
     };
     let before = load(inst, loads, a, k);
     rise(
-        overload(before, before.work + more),
+        overload(before, before.work - less + more),
         overload(before, before.work),
     )
 }
