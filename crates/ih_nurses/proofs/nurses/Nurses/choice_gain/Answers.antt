@@ -45,7 +45,7 @@ returns-clause-uncovered c = λ P known.
     let fits : FitsSigned w64 c.rise-2.result = search rules in
     subst (λ (S : Timetable). to_z w64 (of_z w64 c.rise-2.result) ≡ rise_by_choice S c.args.r c.args.k c.args.new (λ Q. uncovered_in I Q c.args.r c.args.k)) known.plan_is
     (to_z-of_z w64 c.rise-2.result fits ∙ (c.rise-2.ensures.value ∙ uncovered-told I plan c.args.r c.args.k c.args.new own.fits c.requires.room c.requires.shift
-    c.args.self.now.here.items c.index-persons.result.now list c.nurse_at-old.result c.uncovered.result c.uncovered-2.result c.nurse_at-old.ensures.choice c.uncovered.ensures.value c.uncovered-2.ensures.value))
+    _ _ list c.nurse_at-old.result c.uncovered.result c.uncovered-2.result c.nurse_at-old.ensures.choice c.uncovered.ensures.value c.uncovered-2.ensures.value))
 
 pub returns-clause-missing_skill : goal.returns-clause-missing_skill
 returns-clause-missing_skill c = λ P known.
@@ -57,7 +57,7 @@ returns-clause-missing_skill c = λ P known.
     let fits : FitsSigned w64 c.rise-3.result = search rules in
     subst (λ (S : Timetable). to_z w64 (of_z w64 c.rise-3.result) ≡ rise_by_choice S c.args.r c.args.k c.args.new (λ Q. missing_in I Q c.args.r c.args.k)) known.plan_is
     (to_z-of_z w64 c.rise-3.result fits ∙ (c.rise-3.ensures.value ∙ missing-told I plan c.args.r c.args.k c.args.new own.fits c.requires.room c.requires.shift
-    c.args.self.now.here.items c.index-persons.result.now list c.nurse_at-old.result c.room_sums-sums.result.new_missing c.room_sums-sums.result.old_missing c.nurse_at-old.ensures.choice
+    _ _ list c.nurse_at-old.result c.room_sums-sums.result.new_missing c.room_sums-sums.result.old_missing c.nurse_at-old.ensures.choice
     c.room_sums-sums.ensures.new_missing c.room_sums-sums.ensures.old_missing))
 
 pub returns-clause-nurses_seen : goal.returns-clause-nurses_seen

@@ -35,7 +35,7 @@ returns c = λ P known.
           (rw (← c.as_mut_slice.ensures.value, ← c.end_of-end.ensures.value) c.enter_days.ensures.each);
       loads_are = loads-added admission c.args.self.now.loads.items c.add_stay.new.loads own.loads_are c.add_stay.ensures.table
           (rw (← c.as_mut_slice-2.ensures.value) c.add_stay.ensures.each);
-      counts_are = counts-added admission c.placed_shift_span-shift_span.result c.placed_shift_span-shift_span.ensures.shift_span c.args.self.now.counts.items c.add_shift_span.new.counts own.counts_are
+      counts_are = counts-added admission c.placed_shift_span-shift_span.result c.placed_shift_span-shift_span.ensures.shift_span _ _ own.counts_are
           (c.add_shift_span.ensures.len ∙ ap length c.as_mut_slice-3.ensures.value)
           (rw (← c.as_mut_slice-3.ensures.value) c.add_shift_span.ensures.each);
     }))

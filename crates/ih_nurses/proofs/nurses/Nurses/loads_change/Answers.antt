@@ -61,4 +61,4 @@ returns c = λ P known.
     ≡ rise_by_choice S c.args.r c.args.k c.args.new
     (λ Q. excess_of I Q c.args.k.0 (care_of S c.args.r.0 c.args.k.0) + excess_of I Q c.args.k.0
     (option_map (λ (a : NurseNo). a.0) c.args.new))) known.plan_is
-    (rw (to_z-of_z w64 c.excess_change-gone.result fits_without, to_z-of_z w64 c.excess_change-come.result fits_with, to_z-of_z w64 (c.excess_change-gone.result +ℤ c.excess_change-come.result) fits) told)
+    (rw (to_z-of_z w64 _ fits_without, to_z-of_z w64 _ fits_with, to_z-of_z w64 _ fits) told)

@@ -24,7 +24,7 @@ move_load-requires-clause-enough c =
 pub move_counts-requires-clause-there : goal.move_counts-requires-clause-there
 move_counts-requires-clause-there c =
     let own = stands-own c.requires.stands.1 in
-    list-there c.args.inst.now.draft c.args.self.now.plan c.args.self.now.here.items c.index-persons.result.now c.args.r.0 c.args.k.0 own.here_are c.requires.room c.requires.shift c.index-persons.ensures
+    list-there _ _ c.args.self.now.here.items c.index-persons.result.now c.args.r.0 c.args.k.0 own.here_are c.requires.room c.requires.shift c.index-persons.ensures
 
 pub move_counts-requires-clause-counts : goal.move_counts-requires-clause-counts
 move_counts-requires-clause-counts c = rw c.as_mut_slice-counts.ensures.value (stands-own c.requires.stands.1).counts_are
