@@ -4,7 +4,7 @@ use Rattle.std.specs.Prelude.{map, slice_index, slice_index_or, slice_set}
 use Rattle.std.proofs.lemmas.List.{get_or_default, length-map, map-set}
 use Rattle.std.proofs.lemmas.Bool.{eq-eqb, ne_eqb, lt-ltb, le-ltb, both_ways}
 use Rattle.ih_links.specs.Lists.{AreNodes, Linked, list_of, has, without, is_at, following, first_of}
-use Rattle.ih_links.specs.Ring.{Tied, home_of, homes_of, lists_of, node_in}
+use Rattle.ih_links.specs.Ring.{IsRinged, Tied, home_of, homes_of, lists_of, node_in}
 use Rattle.ih_links.proofs.Members.{is_at-true}
 use Rattle.ih_links.proofs.Ties.{tied-lists, node-below, tied-first, tied-following, last-below, room, tied-pushed, before-below, after-below, filled, tied-passed, head-known}
 
@@ -27,7 +27,7 @@ module _ (node : ℕ) (v : Linked) {h : ℕ} (found : Option ℕ) (found_is : (k
   pub free-home : ((k : ℕ) → has node (list_of v k) ≡ false) → ⊥
   free-home free = both_ways (has node (list_of v h)) (free h) home-linked
 
-module _ {next prev len : List ℕ} {v : Linked} (raw : List ℕ) (tied : Tied next prev (homes_of raw) len (lists_of next (homes_of raw) len))
+module _ {next prev len : List ℕ} {v : Linked} (raw : List ℕ) (tied : IsRinged next prev (homes_of raw) len)
     (view_is : ◌≡◌ {A = Linked} (record { lists = lists_of next (homes_of raw) len; nodes = length raw }) v) where
   abbrev home : List (Option ℕ)
   home = homes_of raw

@@ -40,3 +40,7 @@ pub record Tied (next prev : List ℕ) (home : List (Option ℕ)) (len : List �
   pub homes : (h x : ℕ) → has x (slice_index_or lists h []) ≡ is_at h (slice_index_or home x None)
   pub once : (h : ℕ) → IsOnce (slice_index_or lists h [])
   pub few : length home + length len ≤ 2 ^ 16
+
+-- The links are those of the lists that they give.
+abbrev pub IsRinged : (next prev : List ℕ) (home : List (Option ℕ)) (len : List ℕ) → Type 0
+IsRinged next prev home len = Tied next prev home len (lists_of next home len)

@@ -27,13 +27,16 @@ pub struct Links {
 impl Model for Links {
     ghost use Rattle.std.specs.Prelude.{length};
     ghost use Rattle.ih_links.specs.Lists.{Linked};
-    ghost use Rattle.ih_links.specs.Ring.{lists_of, homes_of, Tied};
+    ghost use Rattle.ih_links.specs.Ring.{lists_of, homes_of, IsRinged};
 
     ghost Value = { Linked };
 
-    ghost view = { λ a. record { lists = lists_of a.next.items (homes_of a.home.items) a.len.items; nodes = length a.home.items } };
+    ghost view = { λ a. record {
+      lists = lists_of a.next.items (homes_of a.home.items) a.len.items;
+      nodes = length a.home.items;
+    } };
 
-    ghost invariant = { λ a. Tied a.next.items a.prev.items (homes_of a.home.items) a.len.items (lists_of a.next.items (homes_of a.home.items) a.len.items) };
+    ghost invariant = { λ a. IsRinged a.next.items a.prev.items (homes_of a.home.items) a.len.items };
 }
 
 // Places that are each a ring of their own.

@@ -4,14 +4,16 @@ use Rattle.ih_links.proofs.links.Links.push_back.Goals as goal
 
 pub index_mut-requires : goal.index_mut-requires
 index_mut-requires c = rw c.self.inside.next.ok.0
-    (push-last c.self.inside.home.items c.self.invariant c.self.view_is c.args.head c.args.node c.gate-gate.result c.index-last.result.now c.requires.head c.requires.node c.requires.free c.gate-gate.ensures c.index-last.ensures)
+    (push-last c.self.inside.home.items c.self.invariant c.self.view_is _ _ _ _ c.requires.head c.requires.node c.requires.free c.gate-gate.ensures c.index-last.ensures)
 
 pub overflow_add-index_mut : goal.overflow_add-index_mut
-overflow_add-index_mut c = omega
-    (arith, push-room c.self.inside.home.items c.self.invariant c.self.view_is c.args.head c.args.node c.gate-gate.result c.index-last.result.now c.requires.head c.requires.node c.requires.free c.gate-gate.ensures c.index-last.ensures c.index_mut-6.result.now c.index_mut-6.ensures.value)
+overflow_add-index_mut c =
+    omega (arith, push-room c.self.inside.home.items c.self.invariant c.self.view_is _ _ _ _ c.requires.head c.requires.node c.requires.free c.gate-gate.ensures c.index-last.ensures _ c.index_mut-6.ensures.value)
 
 pub invariant_of-self : goal.invariant_of-self
-invariant_of-self c = push-tied c.self.inside.home.items c.self.invariant c.self.view_is c.args.head c.args.node c.gate-gate.result c.index-last.result.now c.requires.head c.requires.node c.requires.free c.gate-gate.ensures c.index-last.ensures c.index_mut-6.result.now c.index_mut-6.ensures.value
+invariant_of-self c =
+    push-tied c.self.inside.home.items c.self.invariant c.self.view_is _ _ _ _ c.requires.head c.requires.node c.requires.free c.gate-gate.ensures c.index-last.ensures _ c.index_mut-6.ensures.value
 
 pub returns-clause-lists : goal.returns-clause-lists
-returns-clause-lists c = push-lists c.self.inside.home.items c.self.invariant c.self.view_is c.args.head c.args.node c.gate-gate.result c.index-last.result.now c.requires.head c.requires.node c.requires.free c.gate-gate.ensures c.index-last.ensures c.index_mut-6.result.now c.index_mut-6.ensures.value
+returns-clause-lists c =
+    push-lists c.self.inside.home.items c.self.invariant c.self.view_is _ _ _ _ c.requires.head c.requires.node c.requires.free c.gate-gate.ensures c.index-last.ensures _ c.index_mut-6.ensures.value
