@@ -134,7 +134,8 @@ module _ (I : Draft) (P : Timetable) (p : PatientNo) (s : Option Placement) (pla
       → tagged (theatre_of (put (SetStay p s) P)) (operated_by I (put (SetStay p s) P) t d) ≡ tagged (theatre_of P) (operated_by I P t d)
   unfolding operated_by
   patients-apart t d old new =
-      let same = which_below-same (patient_count I) (λ x. of_surgeon I t d x (stay_of (put (SetStay p s) P) x)) (λ x. of_surgeon I t d x (stay_of P x)) (λ x h. test-apart (of_surgeon I t d) old new x) in
+      let same = which_below-same (patient_count I) (λ x. of_surgeon I t d x (stay_of (put (SetStay p s) P) x)) (λ x. of_surgeon I t d x (stay_of P x))
+      (λ x h. test-apart (of_surgeon I t d) old new x) in
       rw same (tagged-same (theatre_of (put (SetStay p s) P)) (theatre_of P) (which_below (patient_count I) (λ x. of_surgeon I t d x (stay_of P x)))
       (λ x h. rw (stay_of-other P p s x (λ e.
       let here : of_surgeon I t d p.0 (stay_of P p.0) ≡ true = rw e at (which_below-has (patient_count I) x (λ x. of_surgeon I t d x (stay_of P x)) h).1 in
