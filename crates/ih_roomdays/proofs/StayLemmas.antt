@@ -70,5 +70,6 @@ module _ (I : Draft) (P : Timetable) (old new : Rows) (p : PatientNo) (at : Plac
   -- on each day of the stay the patient is in the room of the placement, and in no other
   pub is-there : stay_of P p.0 ≡ Some at → (r d : ℕ) → at.day.0 ≤ d → d < end_of I p.0 at → is_at old r d p.0 ≡ (at.room.0 == r)
   is-there stay r d late early =
-      let counted = and_from (nat_le at.day.0 d) (nat_lt d (at.day.0 + (person_of I p.0).length_of_stay)) (le-leb at.day.0 d late) (lt-ltb d (at.day.0 + (person_of I p.0).length_of_stay) (omega arith)) in
+      let past : ℕ = at.day.0 + (person_of I p.0).length_of_stay in
+      let counted = and_from (nat_le at.day.0 d) (nat_lt d past) (le-leb at.day.0 d late) (lt-ltb d past (omega arith)) in
       stands.each r d p.0 (omega arith) ∙ (somewhere I P p.0 r d at known stay ∙ rw counted (and-true (at.room.0 == r)))
