@@ -20,54 +20,35 @@ use Rattle.ih_plan.specs.Costs.{of_patient, in_bad_room, outside_window, genders
 use Rattle.ih_plan.specs.BillOf.{bill_of, change_of_bill, gender_mixes, bad_rooms, surgeon_overtime, theatre_overtime, mandatory_left_out, outside_windows, over_capacity, nurses_off, uncovered, mixed_ages, missing_skill, nurses_seen, overloads, open_theatres, transfers, delays, optional_left_out}
 use Rattle.ih_plan.proofs.SumLemmas.{sum_below-le, length-which_below}
 use Rattle.ih_plan.proofs.Overtime.{surgeon_overtime-most, theatre_overtime-most}
-use Rattle.ih_plan.proofs.BillBounds.{bill-counts}
+use Rattle.ih_plan.proofs.BillBounds.{bill-counts, bit-most, count-most, rows-most, few-patients, few-persons, few-days}
 use Rattle.ih_journal.proofs.TextLengths.{IsShortPrice}
 
 -- ---- sums of bounded numbers
-
-bit-most : (b : Bool) → bit b ≤ 1
-bit-most true = omega arith
-bit-most false = omega arith
-
-count-most : (n : ℕ) (p : ℕ → Bool) → count_below n p ≤ n
-count-most n p = let all = sum_below-le n 1 (λ i. bit (p i)) (λ i h. bit-most (p i)) in omega (arith, all)
-
-rows-most : (m n b : ℕ) (f : ℕ → ℕ → ℕ) → ((i j : ℕ) → f i j ≤ b) → sum_below m (λ i. sum_below n (λ j. f i j)) ≤ m * (n * b)
-rows-most m n b f h = sum_below-le m (n * b) (λ i. sum_below n (λ j. f i j)) (λ i l. sum_below-le n b (f i) (λ j k. h i j))
 
 table-most : (m n b x y z : ℕ) → m ≤ x → n ≤ y → b ≤ z → m * (n * b) ≤ x * (y * z)
 table-most m n b x y z hm hn hb = mul-le m (n * b) x (y * z) hm (mul-le n b y z hn hb)
 
 module _ (I : Draft) (valid : IsValid I) where
-  few-patients : patient_count I ≤ 2048
-  few-patients = valid.patients.len.most
-
-  few-persons : person_count I ≤ 2560
-  few-persons = let one = valid.patients.len.most in let two = valid.occupants.len.most in omega arith
-
-  few-days : I.days ≤ 56
-  few-days = valid.days.most
-
   few-shifts : shift_count I ≤ 168
-  few-shifts = let days = few-days in omega (arith, days)
+  few-shifts = omega (arith, few-days I valid)
 
   module _ (P : Timetable) where
     over-days : (b z : ℕ) (f : ℕ → List ℕ → ℕ) → b ≤ z → ((r d : ℕ) → f r (present I P r d) ≤ b) → over_room_days I P f ≤ 128 * (56 * z)
     over-days b z f le h =
-        let all = rows-most (room_count I) I.days b (λ r d. f r (present I P r d)) h in
-        let most = table-most (room_count I) I.days b 128 56 z valid.rooms.len.most few-days le in
+        let all = rows-most (room_count I) I.days b (λ r d. f r (present I P r d)) (λ r d l. h r d) in
+        let most = table-most (room_count I) I.days b 128 56 z valid.rooms.len.most (few-days I valid) le in
         omega (arith, all, most)
 
     over-shifts : (f : ℕ → Option ℕ → List ℕ → Bool) → over_room_shifts I P (λ k n xs. bit (f k n xs)) ≤ 21504
     over-shifts f =
-        let all = rows-most (room_count I) (shift_count I) 1 (λ r k. bit (f k (care_of P r k) (present I P r (day_of k)))) (λ r k. bit-most (f k (care_of P r k) (present I P r (day_of k)))) in
+        let all = rows-most (room_count I) (shift_count I) 1 (λ r k. bit (f k (care_of P r k) (present I P r (day_of k)))) (λ r k l. bit-most (f k (care_of P r k) (present I P r (day_of k)))) in
         let most = table-most (room_count I) (shift_count I) 1 128 168 1 valid.rooms.len.most few-shifts (omega arith) in
         omega (arith, all, most)
 
     each-patient : (b : ℕ) (f : Patient → Option Placement → ℕ) → ((p : ℕ) (a : Patient) → f a (stay_of P p) ≤ b) → over_patients I P f ≤ 2048 * b
     each-patient b f h =
         let all = sum_below-le (patient_count I) b (λ p. of_patient I p (λ a. f a (stay_of P p))) (λ p l. by_case p (slice_get I.patients p)) in
-        let few = mul-le (patient_count I) b 2048 b few-patients (omega arith) in
+        let few = mul-le (patient_count I) b 2048 b (few-patients I valid) (omega arith) in
         omega (arith, all, few)
       where
         by_case : (p : ℕ) (o : Option Patient) → option_map_or (λ a. f a (stay_of P p)) o 0 ≤ b
@@ -89,10 +70,10 @@ module _ (I : Draft) (valid : IsValid I) where
     bad_rooms-few = patients-few (λ a stay. in_bad_room a stay)
 
     surgeon_overtime-few : surgeon_overtime I P ≤ 204800000
-    surgeon_overtime-few = let most = surgeon_overtime-most I P valid in let few = few-patients in omega (arith, most, few)
+    surgeon_overtime-few = let most = surgeon_overtime-most I P valid in let few = few-patients I valid in omega (arith, most, few)
 
     theatre_overtime-few : theatre_overtime I P ≤ 204800000
-    theatre_overtime-few = let most = theatre_overtime-most I P valid in let few = few-patients in omega (arith, most, few)
+    theatre_overtime-few = let most = theatre_overtime-most I P valid in let few = few-patients I valid in omega (arith, most, few)
 
     mandatory_left_out-few : mandatory_left_out I P ≤ 2048
     unfolding mandatory_left_out
@@ -107,7 +88,7 @@ module _ (I : Draft) (valid : IsValid I) where
     present-few r d =
         let len = length-which_below (person_count I) (is_present I P r d) in
         let most = count-most (person_count I) (is_present I P r d) in
-        let few = few-persons in
+        let few = few-persons I valid in
         omega (arith, len, most, few)
 
     over_capacity-few : over_capacity I P ≤ 18350080
@@ -128,7 +109,7 @@ module _ (I : Draft) (valid : IsValid I) where
     nurses_seen-few =
         let all = sum_below-le (person_count I) (nurse_count I) (λ x. distinct_nurses I (map (nurse_for P (room_of I P x)) (shifts_of I P x)))
         (λ x l. count-most (nurse_count I) (λ n. list_any (λ o. is_number o n) (map (nurse_for P (room_of I P x)) (shifts_of I P x)))) in
-        let few = mul-le (person_count I) (nurse_count I) 2560 512 few-persons valid.nurses.len.most in
+        let few = mul-le (person_count I) (nurse_count I) 2560 512 (few-persons I valid) valid.nurses.len.most in
         omega (arith, all, few)
 
     open_theatres-few : open_theatres I P ≤ 3584
@@ -136,15 +117,15 @@ module _ (I : Draft) (valid : IsValid I) where
     open_theatres-few =
         let all = sum_below-le (theatre_count I) I.days (λ t. count_below I.days (λ d. not (is_empty (operated I P t d))))
         (λ t l. count-most I.days (λ d. not (is_empty (operated I P t d)))) in
-        let few = mul-le (theatre_count I) I.days 64 56 valid.theatres.len.most few-days in
+        let few = mul-le (theatre_count I) I.days 64 56 valid.theatres.len.most (few-days I valid) in
         omega (arith, all, few)
 
     transfers-few : transfers I P ≤ 458752
     unfolding transfers
     transfers-few =
         let all = rows-most (surgeon_count I) I.days (theatre_count I) (λ s d. theatres_used I (map (theatre_of P) (operated_by I P s d)) - 1)
-        (λ s d. less-most (theatre_count I) (λ t. list_any (λ o. is_number o t) (map (theatre_of P) (operated_by I P s d)))) in
-        let most = table-most (surgeon_count I) I.days (theatre_count I) 128 56 64 valid.surgeons.len.most few-days valid.theatres.len.most in
+        (λ s d l. less-most (theatre_count I) (λ t. list_any (λ o. is_number o t) (map (theatre_of P) (operated_by I P s d)))) in
+        let most = table-most (surgeon_count I) I.days (theatre_count I) 128 56 64 valid.surgeons.len.most (few-days I valid) valid.theatres.len.most in
         omega (arith, all, most)
       where
         less-most : (n : ℕ) (p : ℕ → Bool) → count_below n p - 1 ≤ n
@@ -156,7 +137,7 @@ module _ (I : Draft) (valid : IsValid I) where
       where
         by_case : (a : Patient) (o : Option Placement) → ((at : Placement) → o ≡ Some at → IsPlacement I at) → delay a o ≤ 56
         by_case a None h = omega arith
-        by_case a (Some x) h = let day = (h x refl).day in let few = few-days in omega (arith, day, few)
+        by_case a (Some x) h = let day = (h x refl).day in let few = few-days I valid in omega (arith, day, few)
 
     optional_left_out-few : optional_left_out I P ≤ 2048
     unfolding optional_left_out

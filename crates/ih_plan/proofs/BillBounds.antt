@@ -6,11 +6,10 @@ use Rattle.std.specs.List.{list_any}
 use Rattle.std.proofs.lemmas.Nat.{mul-le}
 use Rattle.std.proofs.lemmas.Int.{ints}
 use Rattle.std.proofs.lemmas.List.Sums.{sum_by-cons}
-use Rattle.std.proofs.lemmas.List.FromFn.{get_or-map-range_with_len}
 use Rattle.ih_tables.specs.declared.drafts.Draft.{Draft}
 use Rattle.ih_tables.specs.declared.drafts.Patient.{Patient}
 use Rattle.ih_tables.specs.declared.bills.Bill.{Bill}
-use Rattle.ih_tables.specs.Bills.{at, by_place, IsWithin}
+use Rattle.ih_tables.specs.Bills.{at, IsWithin}
 use Rattle.ih_tables.specs.Sizes.{patient_count, person_count, room_count, surgeon_count, theatre_count, nurse_count, shift_count}
 use Rattle.ih_tables.specs.Valid.{IsValid}
 use Rattle.ih_plan.specs.declared.moves.Placement.{Placement}
@@ -20,19 +19,20 @@ use Rattle.ih_plan.specs.Persons.{person_of}
 use Rattle.ih_plan.specs.Presence.{present, is_present, day_of, skill_of, entry_of, room_of, shifts_of}
 use Rattle.ih_plan.specs.Costs.{of_patient, in_bad_room, outside_window, genders_differ, not_working, capacity_of, over_patients, over_room_days, over_room_shifts, delay, ages, age_spread, skill_missing, skill_level, distinct_nurses, theatres_used, nurse_for, is_number, is_empty, operated, operated_by, theatre_of}
 use Rattle.ih_plan.specs.BillOf.{bill_of, change_of_bill, gender_mixes, bad_rooms, surgeon_overtime, theatre_overtime, mandatory_left_out, outside_windows, over_capacity, nurses_off, uncovered, mixed_ages, missing_skill, nurses_seen, overloads, open_theatres, transfers, delays, optional_left_out}
+use Rattle.ih_plan.proofs.ChangeSums.{at-by_place}
 use Rattle.ih_plan.proofs.SumLemmas.{sum_below-le, length-which_below}
 use Rattle.ih_plan.proofs.Overtime.{of-person, entry-most, surgeon_overtime-most, theatre_overtime-most, overloads-small}
 
 -- ---- sums of bounded numbers
 
-bit-most : (b : Bool) → bit b ≤ 1
+pub bit-most : (b : Bool) → bit b ≤ 1
 bit-most true = omega arith
 bit-most false = omega arith
 
-count-most : (n : ℕ) (p : ℕ → Bool) → count_below n p ≤ n
+pub count-most : (n : ℕ) (p : ℕ → Bool) → count_below n p ≤ n
 count-most n p = let all = sum_below-le n 1 (λ i. bit (p i)) (λ i h. bit-most (p i)) in omega (arith, all)
 
-rows-most : (m n b : ℕ) (f : ℕ → ℕ → ℕ) → ((i j : ℕ) → j < n → f i j ≤ b) → sum_below m (λ i. sum_below n (λ j. f i j)) ≤ m * (n * b)
+pub rows-most : (m n b : ℕ) (f : ℕ → ℕ → ℕ) → ((i j : ℕ) → j < n → f i j ≤ b) → sum_below m (λ i. sum_below n (λ j. f i j)) ≤ m * (n * b)
 rows-most m n b f h = sum_below-le m (n * b) (λ i. sum_below n (λ j. f i j)) (λ i l. sum_below-le n b (f i) (λ j k. h i j k))
 
 patients-most : (I : Draft) (P : Timetable) (b : ℕ) (f : Patient → Option Placement → ℕ) → ((p : ℕ) (a : Patient) → f a (stay_of P p) ≤ b) → over_patients I P f ≤ patient_count I * b
@@ -51,6 +51,15 @@ present-most I P r d =
     omega (arith, len, count-most (person_count I) (is_present I P r d))
 
 module _ (I : Draft) (valid : IsValid I) where
+  pub few-patients : patient_count I ≤ 2048
+  few-patients = valid.patients.len.most
+
+  pub few-persons : person_count I ≤ 2560
+  few-persons = let one = valid.patients.len.most in let two = valid.occupants.len.most in omega arith
+
+  pub few-days : I.days ≤ 56
+  few-days = valid.days.most
+
   age-most : (x : ℕ) → (person_of I x).age_group ≤ 64
   age-most x = of-person I (λ p. p.age_group ≤ 64) x valid (omega arith) (λ a h. let age = h.age in omega (arith, age, few)) (λ o h. let age = h.age in omega (arith, age, few))
     where
@@ -90,26 +99,17 @@ count-in : (x : ℕ) → x ≤ 10 ^ 11 → (pos 0 ≤ℤ pos x) × (pos x ≤ℤ
 count-in x h = (omega (arith, ints), omega (arith, ints))
 
 module _ (I : Draft) (P : Timetable) (valid : IsValid I) where
-  few-patients : patient_count I ≤ 2048
-  few-patients = valid.patients.len.most
-
-  few-persons : person_count I ≤ 2560
-  few-persons = let one = valid.patients.len.most in let two = valid.occupants.len.most in omega arith
-
-  few-days : I.days ≤ 56
-  few-days = valid.days.most
-
   room-days-most : (b : ℕ) (f : ℕ → List ℕ → ℕ) → ((r : ℕ) (xs : List ℕ) → length xs ≤ person_count I → f r xs ≤ b) → over_room_days I P f ≤ 128 * (56 * b)
   room-days-most b f h =
       let all = rows-most (room_count I) I.days b (λ r d. f r (present I P r d)) (λ r d l. h r (present I P r d) (present-most I P r d)) in
-      let days = mul-le I.days b 56 b few-days (omega arith) in
+      let days = mul-le I.days b 56 b (few-days I valid) (omega arith) in
       let rooms = mul-le (room_count I) (I.days * b) 128 (56 * b) valid.rooms.len.most days in
       omega (arith, all, rooms)
 
   room-shifts-most : (b : ℕ) (f : ℕ → Option ℕ → List ℕ → ℕ) → ((k : ℕ) (n : Option ℕ) (r : ℕ) → f k n (present I P r (day_of k)) ≤ b) → over_room_shifts I P f ≤ 128 * (168 * b)
   room-shifts-most b f h =
       let all = rows-most (room_count I) (shift_count I) b (λ r k. f k (care_of P r k) (present I P r (day_of k))) (λ r k l. h k (care_of P r k) r) in
-      let short : shift_count I ≤ 168 = omega (arith, few-days) in
+      let short : shift_count I ≤ 168 = omega (arith, few-days I valid) in
       let shifts = mul-le (shift_count I) b 168 b short (omega arith) in
       let rooms = mul-le (room_count I) (shift_count I * b) 128 (168 * b) valid.rooms.len.most shifts in
       omega (arith, all, rooms)
@@ -117,7 +117,7 @@ module _ (I : Draft) (P : Timetable) (valid : IsValid I) where
   each-patient : (b : ℕ) (f : Patient → Option Placement → ℕ) → ((p : ℕ) (a : Patient) → f a (stay_of P p) ≤ b) → over_patients I P f ≤ 2048 * b
   each-patient b f h =
       let all = patients-most I P b f h in
-      let few = mul-le (patient_count I) b 2048 b few-patients (omega arith) in
+      let few = mul-le (patient_count I) b 2048 b (few-patients I valid) (omega arith) in
       omega (arith, all, few)
 
   missing-small : missing_skill I P ≤ 10 ^ 11
@@ -127,7 +127,7 @@ module _ (I : Draft) (P : Timetable) (valid : IsValid I) where
       (λ k n r.
       let one = missing-most I valid n k P (present I P r (day_of k)) in
       let len = present-most I P r (day_of k) in
-      omega (arith, one, len, few-persons)) in
+      omega (arith, one, len, few-persons I valid)) in
       omega (arith, all)
 
   seen-small : nurses_seen I P ≤ 10 ^ 11
@@ -135,7 +135,7 @@ module _ (I : Draft) (P : Timetable) (valid : IsValid I) where
   seen-small =
       let all = sum_below-le (person_count I) (nurse_count I) (λ x. distinct_nurses I (map (nurse_for P (room_of I P x)) (shifts_of I P x)))
       (λ x l. count-most (nurse_count I) (λ n. list_any (λ o. is_number o n) (map (nurse_for P (room_of I P x)) (shifts_of I P x)))) in
-      let few = mul-le (person_count I) (nurse_count I) 2560 512 few-persons valid.nurses.len.most in
+      let few = mul-le (person_count I) (nurse_count I) 2560 512 (few-persons I valid) valid.nurses.len.most in
       omega (arith, all, few)
 
   open-small : open_theatres I P ≤ 10 ^ 11
@@ -143,7 +143,7 @@ module _ (I : Draft) (P : Timetable) (valid : IsValid I) where
   open-small =
       let all = sum_below-le (theatre_count I) I.days (λ t. count_below I.days (λ d. not (is_empty (operated I P t d))))
       (λ t l. count-most I.days (λ d. not (is_empty (operated I P t d)))) in
-      let few = mul-le (theatre_count I) I.days 64 56 valid.theatres.len.most few-days in
+      let few = mul-le (theatre_count I) I.days 64 56 valid.theatres.len.most (few-days I valid) in
       omega (arith, all, few)
 
   transfers-small : transfers I P ≤ 10 ^ 11
@@ -151,7 +151,7 @@ module _ (I : Draft) (P : Timetable) (valid : IsValid I) where
   transfers-small =
       let all = rows-most (surgeon_count I) I.days (theatre_count I) (λ s d. theatres_used I (map (theatre_of P) (operated_by I P s d)) - 1)
       (λ s d l. less-most (theatre_count I) (λ t. list_any (λ o. is_number o t) (map (theatre_of P) (operated_by I P s d)))) in
-      let days = mul-le I.days (theatre_count I) 56 64 few-days valid.theatres.len.most in
+      let days = mul-le I.days (theatre_count I) 56 64 (few-days I valid) valid.theatres.len.most in
       let few = mul-le (surgeon_count I) (I.days * theatre_count I) 128 (56 * 64) valid.surgeons.len.most days in
       omega (arith, all, few)
     where
@@ -164,16 +164,20 @@ module _ (I : Draft) (P : Timetable) (valid : IsValid I) where
     where
       by_case : (a : Patient) (o : Option Placement) → ((at : Placement) → o ≡ Some at → IsPlacement I at) → delay a o ≤ 56
       by_case a None h = omega arith
-      by_case a (Some x) h = let day = (h x refl).day in omega (arith, day, few-days)
+      by_case a (Some x) h = let day = (h x refl).day in omega (arith, day, few-days I valid)
 
   overtime-small : surgeon_overtime I P ≤ 10 ^ 11
-  overtime-small = omega (arith, surgeon_overtime-most I P valid, few-patients)
+  overtime-small = omega (arith, surgeon_overtime-most I P valid, few-patients I valid)
 
   theatres-small : theatre_overtime I P ≤ 10 ^ 11
-  theatres-small = omega (arith, theatre_overtime-most I P valid, few-patients)
+  theatres-small = omega (arith, theatre_overtime-most I P valid, few-patients I valid)
 
   days-small : (b : ℕ) (f : ℕ → List ℕ → ℕ) → b ≤ 2560 → ((r : ℕ) (xs : List ℕ) → length xs ≤ person_count I → f r xs ≤ b) → over_room_days I P f ≤ 10 ^ 11
   days-small b f l h = omega (arith, room-days-most b f h)
+
+  capacity-small : over_capacity I P ≤ 10 ^ 11
+  unfolding over_capacity
+  capacity-small = days-small 2560 (λ r xs. length xs - capacity_of I r) (omega arith) (λ r xs h. omega (arith, h, few-persons I valid))
 
   bits-small : (f : ℕ → Option ℕ → List ℕ → Bool) → over_room_shifts I P (λ k n xs. bit (f k n xs)) ≤ 10 ^ 11
   bits-small f =
@@ -194,7 +198,7 @@ module _ (I : Draft) (P : Timetable) (valid : IsValid I) where
     rules-in (suc (suc (suc zero))) l = count-in (theatre_overtime I P) theatres-small
     rules-in (suc (suc (suc (suc zero)))) l = count-in (mandatory_left_out I P) (patients-small (λ a stay. a.mandatory && is_none stay))
     rules-in (suc (suc (suc (suc (suc zero))))) l = count-in (outside_windows I P) (patients-small outside_window)
-    rules-in (suc (suc (suc (suc (suc (suc zero)))))) l = count-in (over_capacity I P) (days-small 2560 (λ r xs. length xs - capacity_of I r) (omega arith) (λ r xs h. omega (arith, h, few-persons)))
+    rules-in (suc (suc (suc (suc (suc (suc zero)))))) l = count-in (over_capacity I P) capacity-small
     rules-in (suc (suc (suc (suc (suc (suc (suc zero))))))) l = count-in (nurses_off I P) (bits-small (λ k n xs. not_working I k n))
     rules-in (suc (suc (suc (suc (suc (suc (suc (suc zero)))))))) l = count-in (uncovered I P) (bits-small (λ k n xs. is_none n && not (is_empty xs)))
     rules-in (suc (suc (suc (suc (suc (suc (suc (suc (suc k))))))))) l = absurd (omega arith)
@@ -227,15 +231,7 @@ pub bill-within : (I : Draft) (P : Timetable) → IsValid I → IsPlanOf I P →
 bill-within I P valid plan = counts-within (bill_of I P) (bill-counts I P valid plan)
 
 apart-in : (x y : ℤ) → (pos 0 ≤ℤ x) × (x ≤ℤ pos (10 ^ 11)) → (pos 0 ≤ℤ y) × (y ≤ℤ pos (10 ^ 11)) → (neg_ℤ (pos (10 ^ 11)) ≤ℤ (x -ℤ y)) × ((x -ℤ y) ≤ℤ pos (10 ^ 11))
-apart-in x y hx hy =
-    let a = hx.0 in
-    let b = hx.1 in
-    let c = hy.0 in
-    let d = hy.1 in
-    (omega (arith, ints), omega (arith, ints))
-
-by_place-at : (n : ℕ) (f : ℕ → ℤ) (k : ℕ) → k < n → at (by_place n f) k ≡ f k
-by_place-at n f k h = get_or-map-range_with_len f 0 n k k (pos 0) h (omega arith)
+apart-in x y hx hy = (omega (arith, ints, hx.0, hy.1), omega (arith, ints, hx.1, hy.0))
 
 -- the change from one bill to another
 pub change-within : (I : Draft) (P Q : Timetable) → IsValid I → IsPlanOf I P → IsPlanOf I Q → IsWithin (10 ^ 11) (change_of_bill I P Q)
@@ -243,8 +239,8 @@ change-within I P Q valid planP planQ =
     let old = bill-counts I P valid planP in
     let new = bill-counts I Q valid planQ in
     record {
-      v = λ k l. rw (by_place-at 9 (λ k. at (bill_of I Q).v k -ℤ at (bill_of I P).v k) k l) (apart-in (at (bill_of I Q).v k) (at (bill_of I P).v k) (new.v k l) (old.v k l));
-      s = λ k l. rw (by_place-at 8 (λ k. at (bill_of I Q).s k -ℤ at (bill_of I P).s k) k l) (apart-in (at (bill_of I Q).s k) (at (bill_of I P).s k) (new.s k l) (old.s k l));
+      v = λ k l. rw (at-by_place 9 (λ k. at (bill_of I Q).v k -ℤ at (bill_of I P).v k) k l) (apart-in (at (bill_of I Q).v k) (at (bill_of I P).v k) (new.v k l) (old.v k l));
+      s = λ k l. rw (at-by_place 8 (λ k. at (bill_of I Q).s k -ℤ at (bill_of I P).s k) k l) (apart-in (at (bill_of I Q).s k) (at (bill_of I P).s k) (new.s k l) (old.s k l));
     }
 
 -- what is within a bound is within a larger one

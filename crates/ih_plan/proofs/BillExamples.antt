@@ -1,6 +1,7 @@
 -- The bills of small timetables, computed from the definitions.
-use Rattle.std.proofs.Common.{◌≡◌, refl, pos, Some}
+use Rattle.std.proofs.Common.{◌≡◌, ℕ, refl, pos, Some}
 use Rattle.std.specs.Prelude.{⊤}
+use Rattle.ih_tables.specs.declared.bills.Bill.{Bill}
 use Rattle.ih_tables.specs.Bills.{cost, signed_sum}
 use Rattle.ih_plan.specs.Sums.{sum_below, any_below, which_below, greatest, least}
 use Rattle.ih_plan.specs.Persons.{person_of}
@@ -14,38 +15,27 @@ unfolding signed_sum sum_below any_below which_below greatest least person_of ad
 plan_on_literals = tt
 
 -- One patient is admitted, and one nurse has the room: no rule is broken.
-pub example_bill : bill_of two_patients first_admitted ≡ bill9 0 0 0 0 0 0 0 0 0 1 2 2 0 1 0 0 1
+pub example : (bill_of two_patients first_admitted ≡ bill9 0 0 0 0 0 0 0 0 0 1 2 2 0 1 0 0 1) × (cost weights (bill_of two_patients first_admitted) ≡ pos 159)
 unfolding plan_on_literals
-example_bill = refl
-
-pub example_cost : cost weights (bill_of two_patients first_admitted) ≡ pos 159
-unfolding plan_on_literals
-example_cost = refl
+example = (refl, refl)
 
 -- The surgery takes one minute more than its theatre has.
-pub longer_surgery_bill : bill_of (two_patients_with 61) first_admitted ≡ bill9 0 0 0 1 0 0 0 0 0 1 2 2 0 1 0 0 1
+pub longer_surgery : bill_of (two_patients_with 61) first_admitted ≡ bill9 0 0 0 1 0 0 0 0 0 1 2 2 0 1 0 0 1
 unfolding plan_on_literals
-longer_surgery_bill = refl
+longer_surgery = refl
 
--- A second patient of the other gender on the same day and in the same room, in the other theatre.
-pub shared_room_bill : bill_of two_patients (first_admitted_with (Some (at 0 0 1))) ≡ bill9 1 0 0 0 0 0 1 0 0 2 8 3 3 2 1 0 0
-unfolding plan_on_literals
-shared_room_bill = refl
+-- The second patient is admitted too.
+abbrev both_at : ℕ → ℕ → ℕ → Bill
+both_at d r t = bill_of two_patients (first_admitted_with (Some (at d r t)))
 
-pub shared_room_cost : cost weights (bill_of two_patients (first_admitted_with (Some (at 0 0 1)))) ≡ pos 166
+-- It is of the other gender, on the same day and in the same room, in the other theatre; and the same a day later,
+-- where the two stays have that day alone in common.
+pub shared_room : (both_at 0 0 1 ≡ bill9 1 0 0 0 0 0 1 0 0 2 8 3 3 2 1 0 0) × (cost weights (both_at 0 0 1) ≡ pos 166)
+    × (both_at 1 0 1 ≡ bill9 1 0 0 0 0 0 0 0 0 3 8 3 0 2 0 1 0) × (cost weights (both_at 1 0 1) ≡ pos 165)
 unfolding plan_on_literals
-shared_room_cost = refl
+shared_room = (refl, refl, refl, refl)
 
--- The same a day later: the two stays have that day alone in common.
-pub shared_day_bill : bill_of two_patients (first_admitted_with (Some (at 1 0 1))) ≡ bill9 1 0 0 0 0 0 0 0 0 3 8 3 0 2 0 1 0
+-- Both are in one theatre, which is too full, and the second in a room without nurses.
+pub shared_theatre : both_at 0 1 0 ≡ bill9 0 0 0 40 0 0 0 0 3 1 2 2 0 1 0 0 0
 unfolding plan_on_literals
-shared_day_bill = refl
-
-pub shared_day_cost : cost weights (bill_of two_patients (first_admitted_with (Some (at 1 0 1)))) ≡ pos 165
-unfolding plan_on_literals
-shared_day_cost = refl
-
--- Both patients in one theatre, which is too full, and the second in a room without nurses.
-pub shared_theatre_bill : bill_of two_patients (first_admitted_with (Some (at 0 1 0))) ≡ bill9 0 0 0 40 0 0 0 0 3 1 2 2 0 1 0 0 0
-unfolding plan_on_literals
-shared_theatre_bill = refl
+shared_theatre = refl

@@ -50,33 +50,17 @@ pub last_seed_words : map (word_at (stream_state 18446744073709551615 0)) (0 ∷
 unfolding draws_on_literals
 last_seed_words = refl
 
--- the first two draws of seed 0 on the smaller example
-pub first_draw : move_of one_room 0 0 0 ≡ nurse_run 0 0 0 5
+-- the first two draws of seed 0 on the smaller example, and on the larger one
+pub first_draws : (move_of one_room 0 0 0 ≡ nurse_run 0 0 0 5) × (move_of one_room 0 0 1 ≡ nurse 0 2 0)
+    × (move_of two_patients 0 0 0 ≡ nurse_run 1 0 0 5) × (move_of two_patients 0 0 1 ≡ nurse 1 5 0)
 unfolding draws_on_literals
-first_draw = refl
+first_draws = (refl, refl, refl, refl)
 
-pub second_draw : move_of one_room 0 0 1 ≡ nurse 0 2 0
+-- the first draw of the last seed, whose second worker has the stream of seed 0
+pub last_seed_draws : (move_of two_patients 18446744073709551615 0 0 ≡ place 0 1 1 1)
+    × (move_of two_patients 18446744073709551615 1 0 ≡ nurse_run 1 0 0 5)
 unfolding draws_on_literals
-second_draw = refl
-
--- and on the larger one
-pub first_draw_on_two_patients : move_of two_patients 0 0 0 ≡ nurse_run 1 0 0 5
-unfolding draws_on_literals
-first_draw_on_two_patients = refl
-
-pub second_draw_on_two_patients : move_of two_patients 0 0 1 ≡ nurse 1 5 0
-unfolding draws_on_literals
-second_draw_on_two_patients = refl
-
--- of the last seed
-pub last_seed_draw : move_of two_patients 18446744073709551615 0 0 ≡ place 0 1 1 1
-unfolding draws_on_literals
-last_seed_draw = refl
-
--- its second worker has the stream of seed 0
-pub wrapped_draw : move_of two_patients 18446744073709551615 1 0 ≡ nurse_run 1 0 0 5
-unfolding draws_on_literals
-wrapped_draw = refl
+last_seed_draws = (refl, refl)
 
 -- all cells of the smaller example
 pub cells_of_one_room : map (cell_at one_room) (0 ∷ 1 ∷ 2 ∷ 3 ∷ 4 ∷ 5 ∷ 6 ∷ 7 ∷ [])

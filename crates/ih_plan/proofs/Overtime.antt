@@ -74,7 +74,7 @@ entry-most xs high j all = elim (cases_lt j (length xs)) [
   | inr past ↦ rw (get_or_past xs j 0 past) (omega arith)
 ]
 
-duration-most : (I : Draft) (p : ℕ) → IsValid I → duration_of I p ≤ 100000
+pub duration-most : (I : Draft) (p : ℕ) → IsValid I → duration_of I p ≤ 100000
 duration-most I p valid = by_case (slice_get I.patients p) refl
   where
     by_case : (o : Option Patient) → slice_get I.patients p ≡ o → option_map_or (λ (a : Patient). a.surgery_duration) o 0 ≤ 100000

@@ -35,15 +35,20 @@ abbrev pub in_stay : Draft → Timetable → ℕ → Option Placement → Cell �
 in_stay I P p None c = false
 in_stay I P p (Some at) c = in_placement I P p at c
 
+-- the cell of patient p's stay
+abbrev pub is_stay : ℕ → Cell → Bool
+is_stay p (Stay q) = p == q.0
+is_stay p (RoomDay r d) = false
+is_stay p (TheatreDay t d) = false
+is_stay p (SurgeonDay s d) = false
+is_stay p (RoomShift r k) = false
+is_stay p (NurseShift n k) = false
+is_stay p (Care x) = false
+
 -- the cells of patient p's own stay and nurses
 abbrev pub is_own : ℕ → Cell → Bool
-is_own p (Stay q) = p == q.0
-is_own p (RoomDay r d) = false
-is_own p (TheatreDay t d) = false
-is_own p (SurgeonDay s d) = false
-is_own p (RoomShift r k) = false
-is_own p (NurseShift n k) = false
 is_own p (Care x) = p == x.0
+is_own p c = is_stay p c
 
 -- the cells of a choice of nurse for room r and shift k: that room and shift, the loads of the old nurse and the new,
 -- and the nurses of all who are present
@@ -65,16 +70,6 @@ write_touches I P (SetCare r k n) c = in_choice I P r.0 k.0 (option_map (λ (m :
 unfoldable pub writes_touch : Draft → Timetable → List Write → Cell → Bool
 writes_touch I P [] c = false
 writes_touch I P (w ∷ ws) c = write_touches I P w c || writes_touch I (put w P) ws c
-
--- the cell of patient p's stay
-abbrev pub is_stay : ℕ → Cell → Bool
-is_stay p (Stay q) = p == q.0
-is_stay p (RoomDay r d) = false
-is_stay p (TheatreDay t d) = false
-is_stay p (SurgeonDay s d) = false
-is_stay p (RoomShift r k) = false
-is_stay p (NurseShift n k) = false
-is_stay p (Care x) = false
 
 -- the cell of room r in shift k
 abbrev pub is_room_shift : ℕ → ℕ → Cell → Bool

@@ -14,29 +14,26 @@ pub record Person : Type 0 where
   pub workload : List ℕ
   pub skill : List ℕ
 
--- a patient as a person
-abbrev pub patient_person : Patient → Person
-patient_person p = record {
-  gender = p.gender;
-  age_group = p.age_group;
-  length_of_stay = p.length_of_stay;
-  workload = p.workload_produced;
-  skill = p.skill_level_required;
+-- the person of whom this is asked
+abbrev pub person_with : List ℕ → ℕ → ℕ → List ℕ → List ℕ → Person
+person_with gender age_group stay workload skill = record {
+  gender = gender;
+  age_group = age_group;
+  length_of_stay = stay;
+  workload = workload;
+  skill = skill;
 }
 
--- an occupant as a person
+-- a patient, and an occupant, as a person
+abbrev pub patient_person : Patient → Person
+patient_person p = person_with p.gender p.age_group p.length_of_stay p.workload_produced p.skill_level_required
+
 abbrev pub occupant_person : Occupant → Person
-occupant_person o = record {
-  gender = o.gender;
-  age_group = o.age_group;
-  length_of_stay = o.length_of_stay;
-  workload = o.workload_produced;
-  skill = o.skill_level_required;
-}
+occupant_person o = person_with o.gender o.age_group o.length_of_stay o.workload_produced o.skill_level_required
 
 -- what stands for a number that is no person's
 abbrev pub nobody : Person
-nobody = record { gender = []; age_group = 0; length_of_stay = 0; workload = []; skill = [] }
+nobody = person_with [] 0 0 [] []
 
 -- person x: the patient of that number, or the occupant whose number is x less the number of patients
 unfoldable pub person_of : Draft → ℕ → Person

@@ -108,29 +108,24 @@ module _ {I : Draft} {P : Timetable} {l : Theatres} (valid : IsValid I) (plan : 
 -- ---- what is kept for a day
 
 module _ {I : Draft} {P : Timetable} {l : Theatres} (stands : IsLedgerOf I P l) (d h : ℕ) (day : d < I.days) where
+  here : (rows row : ℕ) → row < rows → h ≡ day_number I row d → h < rows * I.days
+  here rows row inside today = rw today (day-below I rows row d inside day)
+
   -- of theatre t
-  module _ (t : ℕ) (inside : t < theatre_count I) (today : h ≡ day_number I t d) where
-    t_here : h < theatre_count I * I.days
-    t_here = rw today (day-below I (theatre_count I) t d inside day)
+  module _ (t : ℕ) (inside : t < theatre_count I) (today : h ≡ day_number I t d) (x : ℕ) (read : x ≡ slice_index_or l.theatre_minutes.items h x) where
+    pub theatre-is : x ≡ minutes I (list_of l.theatre_days h)
+    theatre-is = kept-is stands.theatre_days stands.theatre_minutes h (here (theatre_count I) t inside today) x read
 
-    module _ (x : ℕ) (read : x ≡ slice_index_or l.theatre_minutes.items h x) where
-      pub theatre-is : x ≡ minutes I (list_of l.theatre_days h)
-      theatre-is = kept-is stands.theatre_days stands.theatre_minutes h t_here x read
-
-      pub theatre-most : IsValid I → x ≤ 204800000
-      theatre-most = kept-most stands.theatre_days stands.theatre_minutes h t_here x read
+    pub theatre-most : IsValid I → x ≤ 204800000
+    theatre-most = kept-most stands.theatre_days stands.theatre_minutes h (here (theatre_count I) t inside today) x read
 
   -- of surgeon s
-  module _ (s : ℕ) (inside : s < surgeon_count I) (today : h ≡ day_number I s d) where
-    s_here : h < surgeon_count I * I.days
-    s_here = rw today (day-below I (surgeon_count I) s d inside day)
+  module _ (s : ℕ) (inside : s < surgeon_count I) (today : h ≡ day_number I s d) (x : ℕ) (read : x ≡ slice_index_or l.surgeon_minutes.items h x) where
+    pub surgeon-is : x ≡ minutes I (list_of l.surgeon_days h)
+    surgeon-is = kept-is stands.surgeon_days stands.surgeon_minutes h (here (surgeon_count I) s inside today) x read
 
-    module _ (x : ℕ) (read : x ≡ slice_index_or l.surgeon_minutes.items h x) where
-      pub surgeon-is : x ≡ minutes I (list_of l.surgeon_days h)
-      surgeon-is = kept-is stands.surgeon_days stands.surgeon_minutes h s_here x read
-
-      pub surgeon-most : IsValid I → x ≤ 204800000
-      surgeon-most = kept-most stands.surgeon_days stands.surgeon_minutes h s_here x read
+    pub surgeon-most : IsValid I → x ≤ 204800000
+    surgeon-most = kept-most stands.surgeon_days stands.surgeon_minutes h (here (surgeon_count I) s inside today) x read
 
 -- ---- a patient comes or goes
 

@@ -6,9 +6,9 @@ use Rattle.std.proofs.lemmas.List.Sums.{sum_by-le}
 use Rattle.ih_tables.specs.declared.drafts.Draft.{Draft}
 use Rattle.ih_tables.specs.declared.drafts.Patient.{Patient}
 use Rattle.ih_tables.specs.Sizes.{patient_count}
-use Rattle.ih_tables.specs.Valid.{IsValid, IsPatient}
+use Rattle.ih_tables.specs.Valid.{IsValid}
 use Rattle.ih_plan.specs.Costs.{duration_of, minutes}
-use Rattle.ih_plan.proofs.Overtime.{from-all}
+use Rattle.ih_plan.proofs.Overtime.{duration-most}
 use Rattle.ih_links.specs.Lists.{AreNodes, following, first_of}
 use Rattle.ih_links.proofs.Members.{length-once}
 use Rattle.ih_links.proofs.Walks.{IsWalk, walk-begins, walk-goes_on, walk-ends}
@@ -34,13 +34,6 @@ pub told-ends : {Q : List ℕ → Type 0} {nodes : ℕ} {xs : List ℕ} {at : Op
 told-ends {Q} {nodes} {xs} t past = subst Q (walk-ends nodes xs t.told (subst (IsWalk nodes xs t.told) past t.walk)) t.so_far
 
 -- ---- minutes
-
-duration-most : (I : Draft) (p : ℕ) → IsValid I → duration_of I p ≤ 100000
-duration-most I p valid = by_case (slice_get I.patients p) refl
-  where
-    by_case : (o : Option Patient) → slice_get I.patients p ≡ o → option_map_or (λ (a : Patient). a.surgery_duration) o 0 ≤ 100000
-    by_case None e = omega arith
-    by_case (Some a) e = (from-all (IsPatient I) I.patients p a valid.each_patient e).duration
 
 -- n patients' minutes
 pub minutes-most : (I : Draft) (xs : List ℕ) (n : ℕ) → IsValid I → length xs ≤ n → minutes I xs ≤ n * 100000

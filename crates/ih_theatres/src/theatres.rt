@@ -212,7 +212,8 @@ impl Theatres {
             × (stay_of P p.0 ≡ old) }
         ensures gain { (P : Timetable) → IsPlanOf inst.now.draft P → IsLedgerOf inst.now.draft P self.now
             → stay_of P p.0 ≡ old
-            → result ≡ sub_bills (as_bill (part_at inst.now.draft (put (SetStay p (Some at)) P) (SurgeonDay s at.day)))
+            → result ≡ sub_bills (as_bill
+            (part_at inst.now.draft (put (SetStay p (Some at)) P) (SurgeonDay s at.day)))
             (as_bill (part_at inst.now.draft (put (SetStay p None) P) (SurgeonDay s at.day))) }
         ensures within { IsWithin (10 ^ 11) result }
     {

@@ -11,9 +11,8 @@ overflow_add-index_mut c =
 
 pub index_mut-requires-2 : goal.index_mut-requires-2
 index_mut-requires-2 c =
-    let s = c.requires.stands in
     rw (c.args.self.now.surgeon_minutes.ok.0, c.day_number-surgeon_day.ensures)
-    (surgeon-below c.args.inst.now.valid s.1 s.2 c.args.p c.requires.patient c.args.at c.patient-patient.result.now c.patient-patient.ensures c.requires.placement)
+    (surgeon-below c.args.inst.now.valid c.requires.stands.1 c.requires.stands.2 c.args.p c.requires.patient c.args.at _ c.patient-patient.ensures c.requires.placement)
 
 pub overflow_add-index_mut-2 : goal.overflow_add-index_mut-2
 overflow_add-index_mut-2 c =

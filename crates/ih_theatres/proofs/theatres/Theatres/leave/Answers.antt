@@ -15,9 +15,8 @@ remove-requires-2 c =
 pub index_mut-requires : goal.index_mut-requires
 index_mut-requires c =
     let s = c.requires.stands in
-    rw (c.args.self.now.theatre_minutes.ok.0, c.day_number-theatre_day.ensures)
-    (theatre-below c.args.inst.now.valid s.1 s.2 c.args.p c.requires.patient c.args.at c.patient-patient.result.now c.patient-patient.ensures
-    (s.1.placed c.args.p.0 c.args.at s.3))
+    let fits = s.1.placed c.args.p.0 c.args.at s.3 in
+    rw (c.args.self.now.theatre_minutes.ok.0, c.day_number-theatre_day.ensures) (theatre-below c.args.inst.now.valid s.1 s.2 c.args.p c.requires.patient c.args.at _ c.patient-patient.ensures fits)
 
 pub overflow_sub-index_mut : goal.overflow_sub-index_mut
 overflow_sub-index_mut c =
@@ -29,9 +28,8 @@ overflow_sub-index_mut c =
 pub index_mut-requires-2 : goal.index_mut-requires-2
 index_mut-requires-2 c =
     let s = c.requires.stands in
-    rw (c.args.self.now.surgeon_minutes.ok.0, c.day_number-surgeon_day.ensures)
-    (surgeon-below c.args.inst.now.valid s.1 s.2 c.args.p c.requires.patient c.args.at c.patient-patient.result.now c.patient-patient.ensures
-    (s.1.placed c.args.p.0 c.args.at s.3))
+    let fits = s.1.placed c.args.p.0 c.args.at s.3 in
+    rw (c.args.self.now.surgeon_minutes.ok.0, c.day_number-surgeon_day.ensures) (surgeon-below c.args.inst.now.valid s.1 s.2 c.args.p c.requires.patient c.args.at _ c.patient-patient.ensures fits)
 
 pub overflow_sub-index_mut-2 : goal.overflow_sub-index_mut-2
 overflow_sub-index_mut-2 c =

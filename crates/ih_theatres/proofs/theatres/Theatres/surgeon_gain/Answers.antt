@@ -19,14 +19,12 @@ minutes_but-others-requires-clause-list c =
 pub surgeon_counts-without-requires-clause-bound : goal.surgeon_counts-without-requires-clause-bound
 surgeon_counts-without-requires-clause-bound c =
     let s = c.requires.stands in
-    let most = surgeon-most s.2 c.args.at.day.0 c.day_number-today.result c.requires.placement.day c.args.s.0 c.requires.surgeon c.day_number-today.ensures c.index-planned.result.now c.index-planned.ensures c.args.inst.now.valid in
-    omega (arith, c.minutes_but-others.ensures.bound)
+    omega (arith, c.minutes_but-others.ensures.bound, surgeon-most s.2 _ _ c.requires.placement.day _ c.requires.surgeon c.day_number-today.ensures _ c.index-planned.ensures c.args.inst.now.valid)
 
 pub surgeon_counts-with-requires-clause-bound : goal.surgeon_counts-with-requires-clause-bound
 surgeon_counts-with-requires-clause-bound c =
     let s = c.requires.stands in
-    let most = surgeon-most s.2 c.args.at.day.0 c.day_number-today.result c.requires.placement.day c.args.s.0 c.requires.surgeon c.day_number-today.ensures c.index-planned.result.now c.index-planned.ensures c.args.inst.now.valid in
-    omega (arith, c.minutes_but-others.ensures.bound)
+    omega (arith, c.minutes_but-others.ensures.bound, surgeon-most s.2 _ _ c.requires.placement.day _ c.requires.surgeon c.day_number-today.ensures _ c.index-planned.ensures c.args.inst.now.valid)
 
 pub theatres_but-used-requires-clause-known : goal.theatres_but-used-requires-clause-known
 theatres_but-used-requires-clause-known c =
@@ -55,7 +53,7 @@ returns-clause-gain c = λ P plan stands stay.
     (surgeon-was plan stands c.args.p c.args.old stay at.day inside c.is_operated_by-was.result c.day_number-today.result c.args.s
     c.is_operated_by-was.ensures c.day_number-today.ensures) in
     c.surgeon_change.ensures.value
-    ∙ surgeon-gain plan stands c.args.p c.requires.patient at inside c.args.s c.requires.own c.day_number-today.result c.surgeon_minutes-most.result c.day_number-today.ensures c.surgeon_minutes-most.ensures
+    ∙ surgeon-gain plan stands c.args.p c.requires.patient at inside c.args.s c.requires.own _ _ c.day_number-today.ensures c.surgeon_minutes-most.ensures
     c.theatres_but-used.result (rw c.as_slice.ensures.value at c.theatres_but-used.ensures) _ _ _ _
     (c.surgeon_counts-without.ensures.over others sum) c.surgeon_counts-without.ensures.cost
     (c.surgeon_counts-with.ensures.over others sum) c.surgeon_counts-with.ensures.cost

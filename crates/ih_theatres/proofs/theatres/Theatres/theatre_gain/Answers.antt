@@ -18,19 +18,13 @@ minutes_but-others-requires-clause-list c =
 
 pub theatre_counts-without-requires-clause-bound : goal.theatre_counts-without-requires-clause-bound
 theatre_counts-without-requires-clause-bound c =
-    let s = c.requires.stands in
-    let at = c.args.at in
     let fits = c.requires.placement in
-    let most = theatre-most s.2 at.day.0 c.day_number-today.result fits.day at.theatre.0 fits.theatre c.day_number-today.ensures c.index-planned.result.now c.index-planned.ensures c.args.inst.now.valid in
-    omega (arith, c.minutes_but-others.ensures.bound)
+    omega (arith, c.minutes_but-others.ensures.bound, theatre-most c.requires.stands.2 _ _ fits.day _ fits.theatre c.day_number-today.ensures _ c.index-planned.ensures c.args.inst.now.valid)
 
 pub theatre_counts-with-requires-clause-bound : goal.theatre_counts-with-requires-clause-bound
 theatre_counts-with-requires-clause-bound c =
-    let s = c.requires.stands in
-    let at = c.args.at in
     let fits = c.requires.placement in
-    let most = theatre-most s.2 at.day.0 c.day_number-today.result fits.day at.theatre.0 fits.theatre c.day_number-today.ensures c.index-planned.result.now c.index-planned.ensures c.args.inst.now.valid in
-    omega (arith, c.minutes_but-others.ensures.bound)
+    omega (arith, c.minutes_but-others.ensures.bound, theatre-most c.requires.stands.2 _ _ fits.day _ fits.theatre c.day_number-today.ensures _ c.index-planned.ensures c.args.inst.now.valid)
 
 pub is_used_by_others-used-requires-clause-once : goal.is_used_by_others-used-requires-clause-once
 is_used_by_others-used-requires-clause-once c = (c.requires.stands.2.theatre_days.known c.day_number-today.result).once
