@@ -5,7 +5,6 @@ use Rattle.std.proofs.lemmas.Bool.{cases_eq, cases_lt, eq-eqb, or_left, or_right
 use Rattle.std.proofs.lemmas.Int.{ints}
 use Rattle.std.proofs.lemmas.Nat.{mul-le}
 use Rattle.std.proofs.lemmas.List.{get_or_past, get_or-set_same, get_or-set_other, length-set, length-map}
-use Rattle.std.proofs.lemmas.List.FromFn.{get_or-map-range_with_len}
 use Rattle.std.proofs.lemmas.List.Elements.{All-nil, All-cons}
 use Rattle.ih_tables.specs.declared.drafts.Draft.{Draft}
 use Rattle.ih_tables.specs.declared.bills.Bill.{Bill}
@@ -17,6 +16,7 @@ use Rattle.ih_plan.specs.BillOf.{bill_of, change_of_bill}
 use Rattle.ih_plan.specs.Sums.{bit}
 use Rattle.ih_plan.specs.Cells.{cell_at, cell_count}
 use Rattle.ih_plan.proofs.BillBounds.{bill-within, change-within}
+use Rattle.ih_plan.proofs.ChangeSums.{at-by_place}
 use Rattle.ih_plan.proofs.ListedBelow.{has}
 use Rattle.ih_plan.proofs.SumLemmas.{sum_below-le, length-which_below}
 use Rattle.ih_plan.proofs.Series.{after_all-plan}
@@ -62,21 +62,13 @@ few-cells I valid =
 
 -- ---- sums of bills
 
-by_place-at : (n : ℕ) (f : ℕ → ℤ) (k : ℕ) → k < n → at (by_place n f) k ≡ f k
-by_place-at n f k h = get_or-map-range_with_len f 0 n k k (pos 0) h (omega arith)
-
 sum-in : (x y : ℤ) → (neg_ℤ (pos (10 ^ 11)) ≤ℤ x) × (x ≤ℤ pos (10 ^ 11)) → (neg_ℤ (pos (10 ^ 11)) ≤ℤ y) × (y ≤ℤ pos (10 ^ 11)) → (neg_ℤ (pos (10 ^ 12)) ≤ℤ (x +ℤ y)) × ((x +ℤ y) ≤ℤ pos (10 ^ 12))
-sum-in x y hx hy =
-    let a = hx.0 in
-    let b = hx.1 in
-    let c = hy.0 in
-    let d = hy.1 in
-    (omega (arith, ints), omega (arith, ints))
+sum-in x y hx hy = (omega (arith, ints, hx.0, hy.0), omega (arith, ints, hx.1, hy.1))
 
 pub sum-within : (a b : Bill) → IsWithin (10 ^ 11) a → IsWithin (10 ^ 11) b → IsWithin (10 ^ 12) (add_bills a b)
 sum-within a b ha hb = record {
-  v = λ k l. rw (by_place-at 9 (λ k. at a.v k +ℤ at b.v k) k l) (sum-in (at a.v k) (at b.v k) (ha.v k l) (hb.v k l));
-  s = λ k l. rw (by_place-at 8 (λ k. at a.s k +ℤ at b.s k) k l) (sum-in (at a.s k) (at b.s k) (ha.s k l) (hb.s k l));
+  v = λ k l. rw (at-by_place 9 (λ k. at a.v k +ℤ at b.v k) k l) (sum-in (at a.v k) (at b.v k) (ha.v k l) (hb.v k l));
+  s = λ k l. rw (at-by_place 8 (λ k. at a.s k +ℤ at b.s k) k l) (sum-in (at a.s k) (at b.s k) (ha.s k l) (hb.s k l));
 }
 
 back : (x y : ℤ) → x +ℤ (y -ℤ x) ≡ y
