@@ -95,11 +95,14 @@ pub record AreCounts (b : Bill) : Type 0 where
   pub v : (k : ℕ) → k < 9 → (pos 0 ≤ℤ at b.v k) × (at b.v k ≤ℤ pos (10 ^ 11))
   pub s : (k : ℕ) → k < 8 → (pos 0 ≤ℤ at b.s k) × (at b.s k ≤ℤ pos (10 ^ 11))
 
+large : {x most : ℕ} → x ≤ most → most ≤ 10 ^ 11 → x ≤ 10 ^ 11
+large h few = omega (arith, h, few)
+
 count-in : (x : ℕ) → x ≤ 10 ^ 11 → (pos 0 ≤ℤ pos x) × (pos x ≤ℤ pos (10 ^ 11))
 count-in x h = (omega (arith, ints), omega (arith, ints))
 
 module _ (I : Draft) (P : Timetable) (valid : IsValid I) where
-  room-days-most : (b : ℕ) (f : ℕ → List ℕ → ℕ) → ((r : ℕ) (xs : List ℕ) → length xs ≤ person_count I → f r xs ≤ b) → over_room_days I P f ≤ 128 * (56 * b)
+  pub room-days-most : (b : ℕ) (f : ℕ → List ℕ → ℕ) → ((r : ℕ) (xs : List ℕ) → length xs ≤ person_count I → f r xs ≤ b) → over_room_days I P f ≤ 128 * (56 * b)
   room-days-most b f h =
       let all = rows-most (room_count I) I.days b (λ r d. f r (present I P r d)) (λ r d l. h r (present I P r d) (present-most I P r d)) in
       let days = mul-le I.days b 56 b (few-days I valid) (omega arith) in
@@ -130,25 +133,25 @@ module _ (I : Draft) (P : Timetable) (valid : IsValid I) where
       omega (arith, one, len, few-persons I valid)) in
       omega (arith, all)
 
-  seen-small : nurses_seen I P ≤ 10 ^ 11
+  pub nurses_seen-few : nurses_seen I P ≤ 1310720
   unfolding nurses_seen
-  seen-small =
+  nurses_seen-few =
       let all = sum_below-le (person_count I) (nurse_count I) (λ x. distinct_nurses I (map (nurse_for P (room_of I P x)) (shifts_of I P x)))
       (λ x l. count-most (nurse_count I) (λ n. list_any (λ o. is_number o n) (map (nurse_for P (room_of I P x)) (shifts_of I P x)))) in
       let few = mul-le (person_count I) (nurse_count I) 2560 512 (few-persons I valid) valid.nurses.len.most in
       omega (arith, all, few)
 
-  open-small : open_theatres I P ≤ 10 ^ 11
+  pub open_theatres-few : open_theatres I P ≤ 3584
   unfolding open_theatres
-  open-small =
+  open_theatres-few =
       let all = sum_below-le (theatre_count I) I.days (λ t. count_below I.days (λ d. not (is_empty (operated I P t d))))
       (λ t l. count-most I.days (λ d. not (is_empty (operated I P t d)))) in
       let few = mul-le (theatre_count I) I.days 64 56 valid.theatres.len.most (few-days I valid) in
       omega (arith, all, few)
 
-  transfers-small : transfers I P ≤ 10 ^ 11
+  pub transfers-few : transfers I P ≤ 458752
   unfolding transfers
-  transfers-small =
+  transfers-few =
       let all = rows-most (surgeon_count I) I.days (theatre_count I) (λ s d. theatres_used I (map (theatre_of P) (operated_by I P s d)) - 1)
       (λ s d l. less-most (theatre_count I) (λ t. list_any (λ o. is_number o t) (map (theatre_of P) (operated_by I P s d)))) in
       let days = mul-le I.days (theatre_count I) 56 64 (few-days I valid) valid.theatres.len.most in
@@ -158,19 +161,19 @@ module _ (I : Draft) (P : Timetable) (valid : IsValid I) where
       less-most : (n : ℕ) (p : ℕ → Bool) → count_below n p - 1 ≤ n
       less-most n p = omega (arith, count-most n p)
 
-  delays-small : IsPlanOf I P → delays I P ≤ 10 ^ 11
+  pub delays-few : IsPlanOf I P → delays I P ≤ 114688
   unfolding delays
-  delays-small plan = let all = each-patient 56 delay (λ p a. by_case a (stay_of P p) (plan.placed p)) in omega (arith, all)
+  delays-few plan = let all = each-patient 56 delay (λ p a. by_case a (stay_of P p) (plan.placed p)) in omega (arith, all)
     where
       by_case : (a : Patient) (o : Option Placement) → ((at : Placement) → o ≡ Some at → IsPlacement I at) → delay a o ≤ 56
       by_case a None h = omega arith
       by_case a (Some x) h = let day = (h x refl).day in omega (arith, day, few-days I valid)
 
-  overtime-small : surgeon_overtime I P ≤ 10 ^ 11
-  overtime-small = omega (arith, surgeon_overtime-most I P valid, few-patients I valid)
+  pub surgeon_overtime-few : surgeon_overtime I P ≤ 204800000
+  surgeon_overtime-few = omega (arith, surgeon_overtime-most I P valid, few-patients I valid)
 
-  theatres-small : theatre_overtime I P ≤ 10 ^ 11
-  theatres-small = omega (arith, theatre_overtime-most I P valid, few-patients I valid)
+  pub theatre_overtime-few : theatre_overtime I P ≤ 204800000
+  theatre_overtime-few = omega (arith, theatre_overtime-most I P valid, few-patients I valid)
 
   days-small : (b : ℕ) (f : ℕ → List ℕ → ℕ) → b ≤ 2560 → ((r : ℕ) (xs : List ℕ) → length xs ≤ person_count I → f r xs ≤ b) → over_room_days I P f ≤ 10 ^ 11
   days-small b f l h = omega (arith, room-days-most b f h)
@@ -179,13 +182,13 @@ module _ (I : Draft) (P : Timetable) (valid : IsValid I) where
   unfolding over_capacity
   capacity-small = days-small 2560 (λ r xs. length xs - capacity_of I r) (omega arith) (λ r xs h. omega (arith, h, few-persons I valid))
 
-  bits-small : (f : ℕ → Option ℕ → List ℕ → Bool) → over_room_shifts I P (λ k n xs. bit (f k n xs)) ≤ 10 ^ 11
-  bits-small f =
+  pub bits-few : (f : ℕ → Option ℕ → List ℕ → Bool) → over_room_shifts I P (λ k n xs. bit (f k n xs)) ≤ 21504
+  bits-few f =
       let all = room-shifts-most 1 (λ k n xs. bit (f k n xs)) (λ k n r. bit-most (f k n (present I P r (day_of k)))) in
       omega (arith, all)
 
-  patients-small : (f : Patient → Option Placement → Bool) → over_patients I P (λ a stay. bit (f a stay)) ≤ 10 ^ 11
-  patients-small f =
+  pub patients-few : (f : Patient → Option Placement → Bool) → over_patients I P (λ a stay. bit (f a stay)) ≤ 2048
+  patients-few f =
       let all = each-patient 1 (λ a stay. bit (f a stay)) (λ p a. bit-most (f a (stay_of P p))) in
       omega (arith, all)
 
@@ -193,26 +196,26 @@ module _ (I : Draft) (P : Timetable) (valid : IsValid I) where
     rules-in : (k : ℕ) → k < 9 → (pos 0 ≤ℤ at (bill_of I P).v k) × (at (bill_of I P).v k ≤ℤ pos (10 ^ 11))
     unfolding bill_of gender_mixes bad_rooms mandatory_left_out outside_windows over_capacity nurses_off uncovered
     rules-in zero l = count-in (gender_mixes I P) (days-small 1 (λ r xs. bit (genders_differ I xs)) (omega arith) (λ r xs h. bit-most (genders_differ I xs)))
-    rules-in (suc zero) l = count-in (bad_rooms I P) (patients-small (λ a stay. in_bad_room a stay))
-    rules-in (suc (suc zero)) l = count-in (surgeon_overtime I P) overtime-small
-    rules-in (suc (suc (suc zero))) l = count-in (theatre_overtime I P) theatres-small
-    rules-in (suc (suc (suc (suc zero)))) l = count-in (mandatory_left_out I P) (patients-small (λ a stay. a.mandatory && is_none stay))
-    rules-in (suc (suc (suc (suc (suc zero))))) l = count-in (outside_windows I P) (patients-small outside_window)
+    rules-in (suc zero) l = count-in (bad_rooms I P) (large (patients-few (λ a stay. in_bad_room a stay)) (omega arith))
+    rules-in (suc (suc zero)) l = count-in (surgeon_overtime I P) (large surgeon_overtime-few (omega arith))
+    rules-in (suc (suc (suc zero))) l = count-in (theatre_overtime I P) (large theatre_overtime-few (omega arith))
+    rules-in (suc (suc (suc (suc zero)))) l = count-in (mandatory_left_out I P) (large (patients-few (λ a stay. a.mandatory && is_none stay)) (omega arith))
+    rules-in (suc (suc (suc (suc (suc zero))))) l = count-in (outside_windows I P) (large (patients-few outside_window) (omega arith))
     rules-in (suc (suc (suc (suc (suc (suc zero)))))) l = count-in (over_capacity I P) capacity-small
-    rules-in (suc (suc (suc (suc (suc (suc (suc zero))))))) l = count-in (nurses_off I P) (bits-small (λ k n xs. not_working I k n))
-    rules-in (suc (suc (suc (suc (suc (suc (suc (suc zero)))))))) l = count-in (uncovered I P) (bits-small (λ k n xs. is_none n && not (is_empty xs)))
+    rules-in (suc (suc (suc (suc (suc (suc (suc zero))))))) l = count-in (nurses_off I P) (large (bits-few (λ k n xs. not_working I k n)) (omega arith))
+    rules-in (suc (suc (suc (suc (suc (suc (suc (suc zero)))))))) l = count-in (uncovered I P) (large (bits-few (λ k n xs. is_none n && not (is_empty xs))) (omega arith))
     rules-in (suc (suc (suc (suc (suc (suc (suc (suc (suc k))))))))) l = absurd (omega arith)
 
     costs-in : (k : ℕ) → k < 8 → (pos 0 ≤ℤ at (bill_of I P).s k) × (at (bill_of I P).s k ≤ℤ pos (10 ^ 11))
     unfolding bill_of mixed_ages optional_left_out
     costs-in zero l = count-in (mixed_ages I P) (days-small 64 (λ r xs. age_spread I xs) (omega arith) (λ r xs h. spread-most I valid xs))
     costs-in (suc zero) l = count-in (missing_skill I P) missing-small
-    costs-in (suc (suc zero)) l = count-in (nurses_seen I P) seen-small
+    costs-in (suc (suc zero)) l = count-in (nurses_seen I P) (large nurses_seen-few (omega arith))
     costs-in (suc (suc (suc zero))) l = count-in (overloads I P) (overloads-small I P valid)
-    costs-in (suc (suc (suc (suc zero)))) l = count-in (open_theatres I P) open-small
-    costs-in (suc (suc (suc (suc (suc zero))))) l = count-in (transfers I P) transfers-small
-    costs-in (suc (suc (suc (suc (suc (suc zero)))))) l = count-in (delays I P) (delays-small plan)
-    costs-in (suc (suc (suc (suc (suc (suc (suc zero))))))) l = count-in (optional_left_out I P) (patients-small (λ a stay. not a.mandatory && is_none stay))
+    costs-in (suc (suc (suc (suc zero)))) l = count-in (open_theatres I P) (large open_theatres-few (omega arith))
+    costs-in (suc (suc (suc (suc (suc zero))))) l = count-in (transfers I P) (large transfers-few (omega arith))
+    costs-in (suc (suc (suc (suc (suc (suc zero)))))) l = count-in (delays I P) (large (delays-few plan) (omega arith))
+    costs-in (suc (suc (suc (suc (suc (suc (suc zero))))))) l = count-in (optional_left_out I P) (large (patients-few (λ a stay. not a.mandatory && is_none stay)) (omega arith))
     costs-in (suc (suc (suc (suc (suc (suc (suc (suc k)))))))) l = absurd (omega arith)
 
     pub bill-counts : AreCounts (bill_of I P)
