@@ -1,7 +1,6 @@
 -- The law of gains: what another stay changes in the bill.
 use Rattle.std.proofs.Common.{◌≡◌, ℕ, ◌*◌, ◌<◌, refl, arith, ap, sym, subst, ◌∙◌, List, [], ◌∷◌, Option, Some, None, length}
 use Rattle.std.specs.Prelude.{ℤ, ◌-ℤ◌, slice_index}
-use Rattle.std.specs.List.{range_with_len}
 use Rattle.std.proofs.lemmas.Int.{ints}
 use Rattle.ih_tables.specs.declared.drafts.Draft.{Draft}
 use Rattle.ih_tables.specs.declared.ids.PatientNo.{PatientNo}
@@ -19,13 +18,13 @@ use Rattle.ih_plan.specs.Cells.{part_at, part_of, content_of}
 use Rattle.ih_plan.proofs.Entries.{stay_of-same}
 use Rattle.ih_plan.proofs.CellNumbers.{stay_cell, room_day_cell, theatre_day_cell, surgeon_day_cell, room_shift_cell, nurse_shift_cell, care_cell}
 use Rattle.ih_plan.proofs.Parts.{total, has_parts}
-use Rattle.ih_plan.proofs.PlanRanges.{has-range, put-plan}
-use Rattle.ih_footprint.proofs.LocalPrices.{map-same, differences-same}
+use Rattle.ih_plan.proofs.PlanRanges.{put-plan}
+use Rattle.ih_footprint.proofs.LocalPrices.{differences-same}
 use Rattle.ih_plan.specs.Presence.{end_of}
 use Rattle.ih_tables.specs.BillNumbers.{mixed_gender, incompatible_room, surgeon_overrun, theatre_overrun, unscheduled_mandatory, admission_window, room_capacity, nurse_presence, uncovered_room}
 use Rattle.ih_tables.specs.BillNumbers.{mixed_age, nurse_skill, continuity_of_care, excess_workload, open_theatre, surgeon_transfer, patient_delay, unscheduled_optional}
 use Rattle.ih_costs.specs.StayGain.{rule_at, cost_at, of_stay, of_care, over_days, of_theatre, of_surgeon, over_shifts, of_nurse, over_loads, gain_of, stay_gain, placement_gain}
-use Rattle.ih_plan.proofs.ChangeSums.{at-by_place, change-same}
+use Rattle.ih_plan.proofs.ChangeSums.{change-same, places-by}
 use Rattle.ih_costs.proofs.GainLemmas.{gain_by, number-gain}
 use Rattle.ih_costs.proofs.SpanSums.{span-zero}
 use Rattle.ih_costs.proofs.UndoLemmas.{stay-twice, undone}
@@ -183,10 +182,7 @@ less-less a b c = omega (arith, ints)
 
 places-less-less : (m : ℕ) (a b c : ℕ → ℤ) → by_place m (λ k. place (by_place m (λ k. c k -ℤ a k)) k -ℤ place (by_place m (λ k. b k -ℤ a k)) k) ≡ by_place m (λ k. c k -ℤ b k)
 places-less-less m a b c =
-    map-same (λ k. place (by_place m (λ k. c k -ℤ a k)) k -ℤ place (by_place m (λ k. b k -ℤ a k)) k) (λ k. c k -ℤ b k) (range_with_len 0 m)
-    (λ k h. let range = has-range 0 m k h in
-    let inside : k < m = omega arith in
-    rw (at-by_place m (λ k. c k -ℤ a k) k inside, at-by_place m (λ k. b k -ℤ a k) k inside) (less-less (a k) (b k) (c k)))
+    places-by m (λ x y. x -ℤ y) (λ k. c k -ℤ a k) (λ k. b k -ℤ a k) (λ k. c k -ℤ b k) (λ k. less-less (a k) (b k) (c k))
 
 -- two changes from one timetable
 change-between : (I : Draft) (P Q R : Timetable) → sub_bills (change_of_bill I P R) (change_of_bill I P Q) ≡ change_of_bill I Q R

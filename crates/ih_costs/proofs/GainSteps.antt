@@ -1,9 +1,8 @@
 -- Steps of a loop that adds up a gain over days or shifts, from what a ledger tells of each.
-use Rattle.std.proofs.Common.{◌≡◌, ℕ, ◌+◌, ◌*◌, ◌^◌, ◌<◌, ◌≤◌, refl, arith, ap, sym, subst, ◌∙◌, w64, FitsSigned, to_z, of_z}
+use Rattle.std.proofs.Common.{◌≡◌, ℕ, ◌+◌, ◌*◌, ◌^◌, ◌<◌, ◌≤◌, refl, arith, sym, subst, ◌∙◌, w64, FitsSigned, to_z, of_z}
 use Rattle.std.specs.Prelude.{ℤ, pos, neg_ℤ, ◌+ℤ◌, ◌-ℤ◌, ◌≤ℤ◌, map}
 use Rattle.std.proofs.lemmas.Int.{ints}
-use Rattle.ih_tables.specs.declared.bills.Bill.{Bill}
-use Rattle.ih_tables.specs.Bills.{at, sub_bills, IsWithin}
+use Rattle.ih_tables.specs.Bills.{at, sub_bills}
 use Rattle.ih_plan.specs.BillOf.{Counts, as_bill}
 use Rattle.ih_costs.specs.StayGain.{span_sum, rule_at, cost_at}
 use Rattle.ih_plan.proofs.ChangeSums.{at-by_place}

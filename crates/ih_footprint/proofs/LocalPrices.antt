@@ -1,8 +1,8 @@
 -- A move has one price at all timetables that agree on its footprint.
-use Rattle.std.proofs.Common.{◌≡◌, ℕ, ◌+◌, ◌<◌, refl, arith, sym, ap, ◌∙◌, Bool, true, false, List, [], ◌∷◌, length, inl, inr}
+use Rattle.std.proofs.Common.{◌≡◌, ℕ, ◌+◌, ◌<◌, refl, arith, sym, ap, ◌∙◌, Bool, true, false, length, inl, inr}
 use Rattle.std.specs.Prelude.{pos, ◌-ℤ◌, map, slice_index, if◌then◌else◌, sum_by}
 use Rattle.std.specs.List.{range_with_len}
-use Rattle.std.proofs.lemmas.Bool.{cases_Bool, eq-eqb, or_left, or_right}
+use Rattle.std.proofs.lemmas.Bool.{cases_Bool}
 use Rattle.std.proofs.lemmas.List.{get_or-map}
 use Rattle.std.proofs.lemmas.List.FromFn.{get_or-map-range_with_len, length-map-range_with_len}
 use Rattle.std.proofs.lemmas.Int.{ints}
@@ -21,7 +21,8 @@ use Rattle.ih_plan.proofs.SumLemmas.{sum_below-same, sum_by-which_below}
 use Rattle.ih_plan.proofs.SumBounds.{sum_below-add}
 use Rattle.ih_footprint.specs.Laws.{AreSameOn}
 use Rattle.ih_footprint.specs.Laws.{IsLocal}
-use Rattle.ih_plan.proofs.ListedBelow.{has, which_below-same}
+use Rattle.ih_plan.proofs.ChangeSums.{map-same}
+use Rattle.ih_plan.proofs.ListedBelow.{which_below-same}
 use Rattle.ih_plan.proofs.PlanRanges.{has-range}
 use Rattle.ih_footprint.proofs.Locality.{local_move, frame_move}
 use Rattle.ih_footprint.proofs.Ranked.{cell_in-in}
@@ -29,13 +30,6 @@ use Rattle.ih_plan.proofs.Parts.{total, has_parts}
 
 difference-same : (a b c d : ℕ) → a + d ≡ b + c → pos a -ℤ pos b ≡ pos c -ℤ pos d
 difference-same a b c d e = omega (arith, ints)
-
-pub map-same : {A : Type 0} (f g : ℕ → A) (xs : List ℕ) → ((i : ℕ) → has i xs ≡ true → f i ≡ g i) → map f xs ≡ map g xs
-map-same f g [] e = refl
-map-same f g (x ∷ xs) e =
-    let first : f x ≡ g x = e x (or_left _ (has x xs) (eq-eqb x x refl)) in
-    let rest = map-same f g xs (λ i h. e i (or_right _ (has i xs) h)) in
-    cc
 
 pub at-listed : (m : ℕ) (f : ℕ → ℕ) (k : ℕ) → k < m → at (map pos (listed m f)) k ≡ pos (f k)
 at-listed m f k h =

@@ -18,12 +18,21 @@ use Rattle.ih_plan.proofs.PlanRanges.{has-range}
 pub at-by_place : (n : ℕ) (f : ℕ → ℤ) (k : ℕ) → k < n → at (by_place n f) k ≡ f k
 at-by_place n f k h = get_or-map-range_with_len f 0 n k k (pos 0) h (omega arith)
 
-map-same : {A : Type 0} (f g : ℕ → A) (xs : List ℕ) → ((i : ℕ) → has i xs ≡ true → f i ≡ g i) → map f xs ≡ map g xs
+pub map-same : {A : Type 0} (f g : ℕ → A) (xs : List ℕ) → ((i : ℕ) → has i xs ≡ true → f i ≡ g i) → map f xs ≡ map g xs
 map-same f g [] e = refl
 map-same f g (x ∷ xs) e =
     let first : f x ≡ g x = e x (or_left _ (has x xs) (eq-eqb x x refl)) in
     let rest = map-same f g xs (λ i h. e i (or_right _ (has i xs) h)) in
     cc
+
+-- two lists, place by place
+pub places-by : (m : ℕ) (op : ℤ → ℤ → ℤ) (f g h : ℕ → ℤ) → ((k : ℕ) → op (f k) (g k) ≡ h k)
+    → by_place m (λ k. op (at (by_place m f) k) (at (by_place m g) k)) ≡ by_place m h
+places-by m op f g h e =
+    map-same (λ k. op (at (by_place m f) k) (at (by_place m g) k)) h (range_with_len 0 m)
+    (λ k listed. let range = has-range 0 m k listed in
+    let inside : k < m = omega arith in
+    rw (at-by_place m f k inside, at-by_place m g k inside) (e k))
 
 -- ---- one change behind another
 
@@ -34,12 +43,7 @@ places-then-less : (m : ℕ) (a b c : ℕ → ℤ)
     → by_place m (λ k. at (by_place m (λ k. b k -ℤ a k)) k +ℤ at (by_place m (λ k. c k -ℤ b k)) k)
     ≡ by_place m (λ k. c k -ℤ a k)
 places-then-less m a b c =
-    map-same (λ k. at (by_place m (λ k. b k -ℤ a k)) k +ℤ at (by_place m (λ k. c k -ℤ b k)) k) (λ k. c k -ℤ a k)
-    (range_with_len 0 m)
-    (λ k h. let range = has-range 0 m k h in
-    let inside : k < m = omega arith in
-    rw (at-by_place m (λ k. b k -ℤ a k) k inside, at-by_place m (λ k. c k -ℤ b k) k inside)
-    (then-less (a k) (b k) (c k)))
+    places-by m (λ x y. x +ℤ y) (λ k. b k -ℤ a k) (λ k. c k -ℤ b k) (λ k. c k -ℤ a k) (λ k. then-less (a k) (b k) (c k))
 
 pub change-then : (I : Draft) (P Q R : Timetable)
     → add_bills (change_of_bill I P Q) (change_of_bill I Q R) ≡ change_of_bill I P R
