@@ -1,14 +1,11 @@
 //! What a placement gives to a patient's care, told without making it.
 
-ghost use Rattle.std.specs.Prelude.{◌≡◌, ◌<◌, ◌^◌, Some, None};
+ghost use Rattle.std.specs.Prelude.{◌≡◌, ◌<◌, ◌^◌};
 ghost use Rattle.ih_tables.specs.declared.cells.Cell.TheVariants.{Care};
 ghost use Rattle.ih_tables.specs.Sizes.{patient_count};
-ghost use Rattle.ih_tables.specs.Bills.{IsWithin, sub_bills};
-ghost use Rattle.ih_plan.specs.declared.moves.Write.TheVariants.{SetStay};
+ghost use Rattle.ih_tables.specs.Bills.{IsWithin};
 ghost use Rattle.ih_plan.specs.Timetable.{Timetable, IsPlacement};
-ghost use Rattle.ih_plan.specs.Writes.{put};
-ghost use Rattle.ih_plan.specs.BillOf.{as_bill};
-ghost use Rattle.ih_plan.specs.Cells.{part_at};
+ghost use Rattle.ih_plan.specs.Cells.{gain_at};
 ghost use Rattle.ih_nurses.specs.Ledger.{IsLedgerOf};
 
 use crate::Nurses;
@@ -39,9 +36,7 @@ impl Nurses {
         requires placement { IsPlacement inst.now.draft at }
         requires stands { (P : Timetable) × IsLedgerOf inst.now.draft P self.now }
         ensures gain { (P : Timetable) → IsLedgerOf inst.now.draft P self.now
-            → result ≡ sub_bills (as_bill
-            (part_at inst.now.draft (put (SetStay p (Some at)) P) (Care (record { 0 = p.0 }))))
-            (as_bill (part_at inst.now.draft (put (SetStay p None) P) (Care (record { 0 = p.0 })))) }
+            → result ≡ gain_at inst.now.draft P p at (Care (record { 0 = p.0 })) }
         ensures within { IsWithin (10 ^ 11) result }
     {
         let shift_span = stay_shift_span(inst, p, Some(at));

@@ -1,12 +1,17 @@
 -- The cells of an instance, their numbers, what a timetable has in them, and the part of the bill of each content.
-use Rattle.std.specs.Prelude.{ℕ, slice_index, ◌+◌, ◌-◌, ◌*◌, ◌/◌, ◌%◌, ◌<◌, nat_lt, ◌≡◌, not, List, [], ◌∷◌, length, map, Option, if◌then◌else◌, is_none, ◌&&◌}
+use Rattle.std.specs.Prelude.{ℕ, slice_index, ◌+◌, ◌-◌, ◌*◌, ◌/◌, ◌%◌, ◌<◌, nat_lt, ◌≡◌, not, List, [], ◌∷◌, length, map, Option, Some, None, if◌then◌else◌, is_none, ◌&&◌}
 use Rattle.ih_tables.specs.declared.drafts.Draft.{Draft}
+use Rattle.ih_tables.specs.declared.bills.Bill.{Bill}
 use Rattle.ih_tables.specs.declared.cells.Cell.{Cell}
 use Rattle.ih_tables.specs.declared.cells.Cell.TheVariants.{Stay, RoomDay, TheatreDay, SurgeonDay, RoomShift, NurseShift, Care}
+use Rattle.ih_tables.specs.declared.ids.PatientNo.{PatientNo}
+use Rattle.ih_tables.specs.Bills.{sub_bills}
 use Rattle.ih_tables.specs.Sizes.{Sizes, sizes_of}
 use Rattle.ih_tables.specs.Works.{max_load}
 use Rattle.ih_plan.specs.declared.moves.Placement.{Placement}
+use Rattle.ih_plan.specs.declared.moves.Write.TheVariants.{SetStay}
 use Rattle.ih_plan.specs.Timetable.{Timetable, stay_of, care_of}
+use Rattle.ih_plan.specs.Writes.{put}
 use Rattle.ih_plan.specs.Presence.{day_of, present, shifts_of, room_of, entry_of}
 use Rattle.ih_plan.specs.Persons.{person_of}
 use Rattle.ih_plan.specs.Costs.{of_patient, nurse_for, in_bad_room, outside_window, delay, genders_differ, capacity_of, age_spread, operated, operated_by, minutes, surgeon_minutes, theatre_minutes, theatre_of, theatres_used, not_working, is_empty, skill_missing, load_of, overload, distinct_nurses}
@@ -164,6 +169,11 @@ part_of I c content = no_counts
 -- the part of the bill that a cell has at a timetable
 abbrev pub part_at : Draft → Timetable → Cell → Counts
 part_at I P c = part_of I c (content_of I P c)
+
+-- what a cell costs once patient p has the placement, less what it costs without the patient
+abbrev pub gain_at : Draft → Timetable → PatientNo → Placement → Cell → Bill
+gain_at I P p at c =
+    sub_bills (as_bill (part_at I (put (SetStay p (Some at)) P) c)) (as_bill (part_at I (put (SetStay p None) P) c))
 
 -- number by number, the sum over the cells
 abbrev pub sum_cells : Draft → (Cell → Counts) → Counts

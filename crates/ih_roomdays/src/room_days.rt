@@ -1,7 +1,7 @@
 //! The ledger of room days.
 
 ghost use Rattle.std.specs.Prelude.{◌≡◌, ◌<◌, ◌^◌, true, Some, None, IfOk};
-ghost use Rattle.ih_tables.specs.Bills.{IsWithin, sub_bills};
+ghost use Rattle.ih_tables.specs.Bills.{IsWithin};
 ghost use Rattle.ih_tables.specs.Sizes.{patient_count, room_count};
 ghost use Rattle.ih_tables.specs.declared.cells.Cell.TheVariants.{RoomDay};
 ghost use Rattle.ih_plan.specs.declared.moves.Write.TheVariants.{SetStay};
@@ -9,7 +9,7 @@ ghost use Rattle.ih_plan.specs.Timetable.{Timetable, IsPlacement, empty, stay_of
 ghost use Rattle.ih_plan.specs.Writes.{put};
 ghost use Rattle.ih_plan.specs.Persons.{person_of};
 ghost use Rattle.ih_plan.specs.Presence.{covers};
-ghost use Rattle.ih_plan.specs.Cells.{part_at};
+ghost use Rattle.ih_plan.specs.Cells.{gain_at, part_at};
 ghost use Rattle.ih_plan.specs.BillOf.{as_bill};
 ghost use Rattle.ih_roomdays.specs.Ledger.{IsLedgerOf, LedgersTell};
 
@@ -108,9 +108,7 @@ impl RoomDays {
         requires counted { covers at.day.0 (person_of inst.now.draft p.0).length_of_stay d.0 ≡ true }
         requires stands { (P : Timetable) × IsLedgerOf inst.now.draft P self.now × (stay_of P p.0 ≡ old) }
         ensures gain { (P : Timetable) → IsLedgerOf inst.now.draft P self.now → stay_of P p.0 ≡ old
-            → result ≡ sub_bills (as_bill
-            (part_at inst.now.draft (put (SetStay p (Some at)) P) (RoomDay at.room d)))
-            (as_bill (part_at inst.now.draft (put (SetStay p None) P) (RoomDay at.room d))) }
+            → result ≡ gain_at inst.now.draft P p at (RoomDay at.room d) }
         ensures within { IsWithin (10 ^ 11) result }
     {
         let was = is_there(inst, p, old, at.room, d);

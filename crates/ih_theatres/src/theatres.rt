@@ -2,7 +2,7 @@
 
 ghost use Rattle.std.specs.Prelude.{◌≡◌, ◌<◌, ◌-◌, ◌^◌, Some, None, IfOk, not};
 ghost use Rattle.ih_tables.specs.Sizes.{patient_count, theatre_count, surgeon_count};
-ghost use Rattle.ih_tables.specs.Bills.{IsWithin, sub_bills};
+ghost use Rattle.ih_tables.specs.Bills.{IsWithin};
 ghost use Rattle.ih_tables.specs.declared.cells.Cell.TheVariants.{TheatreDay, SurgeonDay};
 ghost use Rattle.ih_plan.specs.declared.moves.Write.TheVariants.{SetStay};
 ghost use Rattle.ih_plan.specs.Timetable.{Timetable, empty, stay_of, IsPlanOf, IsPlacement};
@@ -10,7 +10,7 @@ ghost use Rattle.ih_plan.specs.Writes.{put};
 ghost use Rattle.ih_plan.specs.BillOf.{as_bill};
 ghost use Rattle.ih_plan.specs.Sums.{bit};
 ghost use Rattle.ih_plan.specs.Costs.{surgeon_of, theatre_minutes, surgeon_minutes};
-ghost use Rattle.ih_plan.specs.Cells.{part_at};
+ghost use Rattle.ih_plan.specs.Cells.{gain_at, part_at};
 ghost use Rattle.ih_theatres.specs.Ledger.{IsLedgerOf};
 
 use crate::changes::{
@@ -177,9 +177,7 @@ impl Theatres {
             × (stay_of P p.0 ≡ old) }
         ensures gain { (P : Timetable) → IsPlanOf inst.now.draft P → IsLedgerOf inst.now.draft P self.now
             → stay_of P p.0 ≡ old
-            → result ≡ sub_bills (as_bill
-            (part_at inst.now.draft (put (SetStay p (Some at)) P) (TheatreDay at.theatre at.day)))
-            (as_bill (part_at inst.now.draft (put (SetStay p None) P) (TheatreDay at.theatre at.day))) }
+            → result ≡ gain_at inst.now.draft P p at (TheatreDay at.theatre at.day) }
         ensures within { IsWithin (10 ^ 11) result }
     {
         let was = is_operated_in(old, at.theatre, at.day);
@@ -212,9 +210,7 @@ impl Theatres {
             × (stay_of P p.0 ≡ old) }
         ensures gain { (P : Timetable) → IsPlanOf inst.now.draft P → IsLedgerOf inst.now.draft P self.now
             → stay_of P p.0 ≡ old
-            → result ≡ sub_bills (as_bill
-            (part_at inst.now.draft (put (SetStay p (Some at)) P) (SurgeonDay s at.day)))
-            (as_bill (part_at inst.now.draft (put (SetStay p None) P) (SurgeonDay s at.day))) }
+            → result ≡ gain_at inst.now.draft P p at (SurgeonDay s at.day) }
         ensures within { IsWithin (10 ^ 11) result }
     {
         let was = is_operated_by(inst, p, old, s, at.day);
