@@ -1,5 +1,5 @@
 -- The bills of nursing are the parts of the cells, and their numbers are small.
-use Rattle.std.proofs.Common.{◌≡◌, ℕ, refl, [], ◌∷◌, map, pos}
+use Rattle.std.proofs.Common.{◌≡◌, ℕ, refl, map, pos}
 use Rattle.ih_tables.specs.declared.drafts.Draft.{Draft}
 use Rattle.ih_tables.specs.declared.ids.NurseNo.{NurseNo}
 use Rattle.ih_tables.specs.declared.ids.PersonNo.{PersonNo}
@@ -13,12 +13,10 @@ use Rattle.ih_plan.specs.Costs.{overload, load_of, nurse_for, distinct_nurses}
 use Rattle.ih_plan.specs.BillOf.{as_bill}
 use Rattle.ih_plan.specs.Cells.{part_at, part_of, content_of}
 use Rattle.ih_plan.proofs.ListedBelow.{tagged-values}
+use Rattle.ih_nurses.specs.Bills.{nursing_bill}
 
 abbrev pub nursing : ℕ → ℕ → ℕ → ℕ → ℕ → Bill
-nursing off uncovered missing seen over = record {
-  v = pos 0 ∷ pos 0 ∷ pos 0 ∷ pos 0 ∷ pos 0 ∷ pos 0 ∷ pos 0 ∷ pos off ∷ pos uncovered ∷ [];
-  s = pos 0 ∷ pos missing ∷ pos seen ∷ pos over ∷ pos 0 ∷ pos 0 ∷ pos 0 ∷ pos 0 ∷ [];
-}
+nursing off uncovered missing seen over = nursing_bill (pos off) (pos uncovered) (pos missing) (pos seen) (pos over)
 
 pub nurse-part : (I : Draft) (P : Timetable) (n : NurseNo) (k : Shift) (over : ℕ) → over ≡ overload (max_load I n.0 k.0) (load_of I P n.0 k.0)
     → nursing 0 0 0 0 over ≡ as_bill (part_at I P (NurseShift n k))

@@ -1,5 +1,5 @@
 -- The differences of two bills of nursing.
-use Rattle.std.proofs.Common.{◌≡◌, ℕ, ◌+◌, refl, arith, ap, ◌∙◌, [], ◌∷◌, pos}
+use Rattle.std.proofs.Common.{◌≡◌, ℕ, ◌+◌, refl, arith, ap, ◌∙◌, pos}
 use Rattle.std.specs.Prelude.{◌-ℤ◌}
 use Rattle.std.proofs.lemmas.Int.{ints}
 use Rattle.ih_tables.specs.declared.drafts.Draft.{Draft}
@@ -14,6 +14,7 @@ use Rattle.ih_plan.specs.Costs.{distinct_nurses}
 use Rattle.ih_plan.specs.BillOf.{as_bill}
 use Rattle.ih_plan.specs.Cells.{part_at}
 use Rattle.ih_nurses.specs.declared.bills.NursingCosts.{NursingCosts}
+use Rattle.ih_nurses.specs.Bills.{nursing_bill}
 use Rattle.ih_nurses.specs.ShiftSpans.{shift_span_in, nurses_over}
 use Rattle.ih_nurses.proofs.BillLemmas.{nursing}
 use Rattle.ih_nurses.proofs.ShiftSpanLemmas.{shift_span-part}
@@ -24,11 +25,9 @@ bill_in a = nursing a.off a.uncovered a.missing_skill a.nurses_seen a.overload
 
 -- their difference, number by number
 abbrev pub less : NursingCosts → NursingCosts → Bill
-less a b = record {
-  v = pos 0 ∷ pos 0 ∷ pos 0 ∷ pos 0 ∷ pos 0 ∷ pos 0 ∷ pos 0 ∷ (pos a.off -ℤ pos b.off) ∷ (pos a.uncovered -ℤ pos b.uncovered) ∷ [];
-  s = pos 0 ∷ (pos a.missing_skill -ℤ pos b.missing_skill) ∷ (pos a.nurses_seen -ℤ pos b.nurses_seen) ∷ (pos a.overload -ℤ pos b.overload)
-      ∷ pos 0 ∷ pos 0 ∷ pos 0 ∷ pos 0 ∷ [];
-}
+less a b =
+    nursing_bill (pos a.off -ℤ pos b.off) (pos a.uncovered -ℤ pos b.uncovered) (pos a.missing_skill -ℤ pos b.missing_skill)
+    (pos a.nurses_seen -ℤ pos b.nurses_seen) (pos a.overload -ℤ pos b.overload)
 
 pub less-bills : (a b : NursingCosts) → less a b ≡ sub_bills (bill_in a) (bill_in b)
 less-bills a b = refl
