@@ -1,6 +1,6 @@
 -- What a stay adds to the bill is a part by its room and its day, and a part by its theatre and its day.
 use mathlib.Core.Path.{fun_ext}
-use Rattle.std.proofs.Common.{◌≡◌, ℕ, ◌+◌, ◌-◌, ◌<◌, refl, sym, ◌∙◌, ap, arith, List, length, Option, Some, pos, inl, inr}
+use Rattle.std.proofs.Common.{◌≡◌, ℕ, ◌+◌, ◌-◌, ◌<◌, refl, sym, ◌∙◌, ap, arith, List, length, map, Option, Some, pos, inl, inr}
 use Rattle.std.specs.Prelude.{◌+ℤ◌, ◌&&◌, nat_lt, slice_get, slice_index, option_map, sum_by, if◌then◌else◌}
 use Rattle.std.proofs.lemmas.Bool.{cases_eq}
 use Rattle.ih_tables.specs.declared.drafts.Draft.{Draft}
@@ -22,7 +22,7 @@ use Rattle.ih_plan.specs.Timetable.{Timetable, IsPlanOf, stay_of, care_of}
 use Rattle.ih_plan.specs.Writes.{put}
 use Rattle.ih_plan.specs.Persons.{person_of}
 use Rattle.ih_plan.specs.Presence.{Admission, day_of, placed_at, stays_at, admission_of, is_in, present, shifts_in, shifts_of, entry_in, entry_of}
-use Rattle.ih_plan.specs.Sums.{sum_below, which_below, tagged}
+use Rattle.ih_plan.specs.Sums.{listed, sum_below, which_below, tagged}
 use Rattle.ih_plan.specs.Costs.{surgeon_of, is_number, operated_in, admitted_on, operated, operated_by, theatre_of, nurse_for, load_of}
 use Rattle.ih_plan.specs.BillOf.{Counts, bill_of}
 use Rattle.ih_plan.specs.Cells.{Content, persons_content, surgeries_content, theatres_content, nursing_content, load_content, care_content, stay_content, content_of, part_of, part_at, cell_at, cell_count}
@@ -31,7 +31,7 @@ use Rattle.ih_plan.proofs.Parts.{total, has_parts}
 use Rattle.ih_plan.proofs.SumLemmas.{sum_below-same}
 use Rattle.ih_plan.proofs.SumBounds.{sum_below-add}
 use Rattle.ih_footprint.proofs.LocalPrices.{at-listed}
-use Rattle.ih_fill.proofs.ScoreLemmas.{AreBalanced}
+use Rattle.ih_fill.proofs.ScoreLemmas.{AreBalanced, AreEven}
 
 -- a stay from a day on in a room, with surgery in a theatre
 abbrev pub placed : ℕ → ℕ → ℕ → Placement
@@ -138,26 +138,21 @@ module _ (I : Draft) (P : Timetable) (p : PatientNo) (plan : IsPlanOf I P) (insi
       ∙ (sum_below-same (cell_count I) (λ n. part (placed d r t) n + part (placed d s u) n) (λ n. part (placed d r u) n + part (placed d s t) n) (λ n h. crossed g d r s t u (cell_at I n))
       ∙ sum_below-add (cell_count I) (part (placed d r u)) (part (placed d s t)))
 
-  rule-even : (d r s t u k : ℕ) → k < 9
-      → at (bill_of I (stayed P p (placed d r t))).v k +ℤ at (bill_of I (stayed P p (placed d s u))).v k
-      ≡ at (bill_of I (stayed P p (placed d r u))).v k +ℤ at (bill_of I (stayed P p (placed d s t))).v k
-  rule-even d r s t u k below =
-      let all = λ (at : Placement) (j : ℕ). total I (λ c. slice_index (part_at I (stayed P p at) c).v j) in
-      let even = summed (λ c. slice_index c.v k) d r s t u in
-      rw (has_parts I (stayed P p (placed d r t)), has_parts I (stayed P p (placed d s u)), has_parts I (stayed P p (placed d r u)), has_parts I (stayed P p (placed d s t)))
-      (rw (at-listed 9 (all (placed d r t)) k below, at-listed 9 (all (placed d s u)) k below, at-listed 9 (all (placed d r u)) k below, at-listed 9 (all (placed d s t)) k below) (ap pos even))
+  -- some numbers of the parts, over all cells
+  abbrev totals : Placement → (Counts → List ℕ) → ℕ → ℕ
+  totals x g j = total I (λ c. slice_index (g (part_at I (stayed P p x) c)) j)
 
-  cost-even : (d r s t u k : ℕ) → k < 8
-      → at (bill_of I (stayed P p (placed d r t))).s k +ℤ at (bill_of I (stayed P p (placed d s u))).s k
-      ≡ at (bill_of I (stayed P p (placed d r u))).s k +ℤ at (bill_of I (stayed P p (placed d s t))).s k
-  cost-even d r s t u k below =
-      let all = λ (at : Placement) (j : ℕ). total I (λ c. slice_index (part_at I (stayed P p at) c).s j) in
-      let even = summed (λ c. slice_index c.s k) d r s t u in
-      rw (has_parts I (stayed P p (placed d r t)), has_parts I (stayed P p (placed d s u)), has_parts I (stayed P p (placed d r u)), has_parts I (stayed P p (placed d s t)))
-      (rw (at-listed 8 (all (placed d r t)) k below, at-listed 8 (all (placed d s u)) k below, at-listed 8 (all (placed d r u)) k below, at-listed 8 (all (placed d s t)) k below) (ap pos even))
+  totals-even : (m : ℕ) (g : Counts → List ℕ) (d r s t u k : ℕ) → k < m
+      → AreEven (at (map pos (listed m (totals (placed d r t) g))) k) (at (map pos (listed m (totals (placed d s u) g))) k)
+      (at (map pos (listed m (totals (placed d r u) g))) k) (at (map pos (listed m (totals (placed d s t) g))) k)
+  totals-even m g d r s t u k below =
+      rw (at-listed m (totals (placed d r t) g) k below, at-listed m (totals (placed d s u) g) k below, at-listed m (totals (placed d r u) g) k below, at-listed m (totals (placed d s t) g) k below)
+      (ap pos (summed (λ c. slice_index (g c) k) d r s t u))
 
   -- A stay in room r and theatre t and one in room s and theatre u cost together what they cost with the theatres
   -- exchanged.
   pub bills-balanced : (d r s t u : ℕ)
       → AreBalanced (bill_of I (stayed P p (placed d r t))) (bill_of I (stayed P p (placed d s u))) (bill_of I (stayed P p (placed d r u))) (bill_of I (stayed P p (placed d s t)))
-  bills-balanced d r s t u = record { v = rule-even d r s t u; s = cost-even d r s t u }
+  bills-balanced d r s t u =
+      rw (has_parts I (stayed P p (placed d r t)), has_parts I (stayed P p (placed d s u)), has_parts I (stayed P p (placed d r u)), has_parts I (stayed P p (placed d s t)))
+      (record { v = totals-even 9 (λ c. c.v) d r s t u; s = totals-even 8 (λ c. c.s) d r s t u })

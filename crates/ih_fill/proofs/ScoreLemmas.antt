@@ -77,25 +77,17 @@ at-place m f k h = get_or-map-range_with_len f 0 m k k (pos 0) h (omega arith)
 less-even : (x y z u e : ℤ) → AreEven x y z u → AreEven (x -ℤ e) (y -ℤ e) (z -ℤ e) (u -ℤ e)
 less-even x y z u e h = omega (arith, ints)
 
+less-places : (m k : ℕ) (x y z u e : ℕ → ℤ) → k < m → AreEven (x k) (y k) (z k) (u k)
+    → AreEven (at (by_place m (λ j. x j -ℤ e j)) k) (at (by_place m (λ j. y j -ℤ e j)) k) (at (by_place m (λ j. z j -ℤ e j)) k) (at (by_place m (λ j. u j -ℤ e j)) k)
+less-places m k x y z u e below h =
+    rw (at-place m (λ j. x j -ℤ e j) k below, at-place m (λ j. y j -ℤ e j) k below, at-place m (λ j. z j -ℤ e j) k below, at-place m (λ j. u j -ℤ e j) k below)
+    (less-even (x k) (y k) (z k) (u k) (e k) h)
+
 -- what four bills add to one
 pub changes-balanced : (a b c d e : Bill) → AreBalanced a b c d → AreBalanced (sub_bills a e) (sub_bills b e) (sub_bills c e) (sub_bills d e)
 changes-balanced a b c d e h = record {
-  v = λ k below. rw (
-    at-place 9 (λ k. at a.v k -ℤ at e.v k) k below,
-    at-place 9 (λ k. at b.v k -ℤ at e.v k) k below,
-    at-place 9
-        (λ k. at c.v k -ℤ at e.v k) k below,
-    at-place 9 (λ k. at d.v k -ℤ at e.v k) k below,
-  )
-      (less-even (at a.v k) (at b.v k) (at c.v k) (at d.v k) (at e.v k) (h.v k below));
-  s = λ k below. rw (
-    at-place 8 (λ k. at a.s k -ℤ at e.s k) k below,
-    at-place 8 (λ k. at b.s k -ℤ at e.s k) k below,
-    at-place 8
-        (λ k. at c.s k -ℤ at e.s k) k below,
-    at-place 8 (λ k. at d.s k -ℤ at e.s k) k below,
-  )
-      (less-even (at a.s k) (at b.s k) (at c.s k) (at d.s k) (at e.s k) (h.s k below));
+  v = λ k below. less-places 9 k (at a.v) (at b.v) (at c.v) (at d.v) (at e.v) below (h.v k below);
+  s = λ k below. less-places 8 k (at a.s) (at b.s) (at c.s) (at d.s) (at e.s) below (h.s k below);
 }
 
 -- the first n numbers, and 0 after them

@@ -77,41 +77,7 @@ fn cheapest_theatre(
     Some(TheatreNo(best))
 }
 
-// The cheapest of the one before and the stays from a day on, where the theatre is the cheapest one.
-fn cheapest_on(
-    inst: &Instance,
-    scorer: &Scorer<'_>,
-    p: PatientNo,
-    patient: &Patient,
-    day: Day,
-    theatre: TheatreNo,
-    before: Candidate,
-) -> Candidate
-    requires instance { scorer.now.instance ≡ inst.now.draft }
-    requires patient { p.0 < patient_count inst.now.draft }
-    requires day { day.0 < inst.now.draft.days }
-    requires theatre { (r : ℕ)
-        → IsFirstLeast (theatre_value scorer.now p day.0 r) (theatre_count inst.now.draft) theatre.0 }
-    requires before { before ≡ valued (stay_value scorer.now) before.write }
-    requires fits { IsWriteOf inst.now.draft before.write }
-    ensures least { result
-        ≡ valued (stay_value scorer.now)
-        (cheapest (stay_value scorer.now) before.write
-        (stays_on inst.now.draft p patient.now day.0 (room_count inst.now.draft))) }
-    ensures fits { IsWriteOf inst.now.draft result.write }
-{
-    let mut best = before;
-    for r in 0..inst.rooms() {
-        let room = RoomNo(r);
-        if suits(patient, room) {
-            let at = Placement { day, room, theatre };
-            best = cheaper(best, scorer.stay(p, at));
-        }
-    }
-    best
-}
-
-// The cheapest of the one before and the stays from a day on.
+// The cheapest of the one before and the stays from a day on, all with surgery in the theatre that is cheapest there.
 fn cheapest_on_day(
     inst: &Instance,
     scorer: &Scorer<'_>,
@@ -131,10 +97,18 @@ fn cheapest_on_day(
         (stays_on inst.now.draft p patient.now day.0 (room_count inst.now.draft))) }
     ensures fits { IsWriteOf inst.now.draft result.write }
 {
-    match cheapest_theatre(inst, scorer, p, day) {
-        None => before,
-        Some(theatre) => cheapest_on(inst, scorer, p, patient, day, theatre, before),
+    let Some(theatre) = cheapest_theatre(inst, scorer, p, day) else {
+        return before;
+    };
+    let mut best = before;
+    for r in 0..inst.rooms() {
+        let room = RoomNo(r);
+        if suits(patient, room) {
+            let at = Placement { day, room, theatre };
+            best = cheaper(best, scorer.stay(p, at));
+        }
     }
+    best
 }
 
 /// The cheapest of the one before and the stays from any day of the window on: the first on a tie.

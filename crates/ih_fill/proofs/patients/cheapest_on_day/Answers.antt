@@ -1,14 +1,66 @@
-use Rattle.std.proofs.Common.{◌∙◌, sym, ap}
-use Rattle.ih_tables.specs.Sizes.{room_count}
+use Rattle.std.proofs.Common.{◌≡◌, ◌<◌, ◌∙◌, sym, ap, subst, arith, ℕ, List, [], ◌∷◌, Some, true, false}
+use Rattle.std.specs.Prelude.{flat_map}
+use Rattle.ih_tables.specs.Sizes.{room_count, theatre_count}
+use Rattle.ih_plan.specs.declared.moves.Write.{Write}
+use Rattle.ih_plan.specs.declared.moves.Write.TheVariants.{SetStay}
+use Rattle.ih_plan.specs.Writes.{IsWriteOf}
 use Rattle.ih_plan.specs.Fill.{cheapest}
-use Rattle.ih_fill.specs.Candidates.{valued}
+use Rattle.ih_fill.specs.declared.candidates.Candidate.{Candidate}
+use Rattle.ih_fill.specs.Candidates.{valued, stays_in, rooms_for}
 use Rattle.ih_fill.specs.Scoring.{stay_value}
-use Rattle.ih_fill.proofs.TheatreLemmas.{no-stays}
+use Rattle.ih_fill.proofs.CandidateLemmas.{then-least, cheaper-either, stay-fits}
+use Rattle.ih_fill.proofs.TheatreLemmas.{only-first, cheaper-one, no-stays}
+use Rattle.ih_fill.proofs.ListLemmas.{suits, on-more, on-same}
 use Rattle.ih_fill.proofs.patients.cheapest_on_day.Goals as goal
+use Rattle.ih_fill.proofs.patients.cheapest_on_day.Goals.{then-suits, else-suits}
 
-pub returns-in-None-clause-least : goal.returns-in-None-clause-least
-returns-in-None-clause-least c =
+pub stay-requires-clause-placed : goal.stay-requires-clause-placed
+stay-requires-clause-placed c =
+    let below = c.loop-r-test.true in
+    let count = c.rooms-r-end.ensures in
+    let inside : c.loop-r.r < room_count c.args.inst.now.draft = omega (arith, below, count) in
+    rw c.requires.instance (record { day = c.requires.day; room = inside; theatre = (c.in-Some.ensures.least c.loop-r.r).inside })
+
+pub loop-r-preserved : goal.loop-r-preserved
+loop-r-preserved c =
     let I = c.args.inst.now.draft in
-    let none = c.in-None.ensures.none in
+    let F = c.args.scorer.now in
+    let a = c.args.patient.now in
+    let r = c.loop-r.r in
+    let f : ℕ → List Write = λ r. stays_in c.args.p c.args.day.0 r (theatre_count I) in
+    let before = c.args.before.write in
+    elim c.if-suits.branch [
+      | then-suits w ↦
+          let yes : suits a r ≡ true = sym c.suits.ensures ∙ w.if-suits.true in
+          let at : ℕ → Write = λ t. SetStay c.args.p (Some (record { day = c.args.day; room = record { 0 = r }; theatre = record { 0 = t } })) in
+          let t = c.in-Some.theatre.0 in
+          let second : w.stay.result ≡ valued (stay_value F) (at t) = w.stay.ensures in
+          let one : w.cheaper-best.result ≡ valued (stay_value F) (cheapest (stay_value F) c.loop-r.best.write (at t ∷ [])) =
+          cheaper-one (stay_value F) (cheapest (stay_value F) before (flat_map f (rooms_for a r)))
+          (at t) c.loop-r.best w.stay.result w.cheaper-best.result c.loop-r.invariant.least second w.cheaper-best.ensures in
+          let found : w.cheaper-best.result ≡ valued (stay_value F) (cheapest (stay_value F) c.loop-r.best.write (f r)) =
+          one ∙ ap (valued (stay_value F)) (sym (only-first (stay_value F) c.loop-r.best.write at (theatre_count I) t (c.in-Some.ensures.least r))) in
+          let below = c.loop-r-test.true in
+          let count = c.rooms-r-end.ensures in
+          let inside : r < room_count I = omega (arith, below, count) in
+          let fits : IsWriteOf I (at t) = stay-fits I c.args.p _ c.requires.patient (record { day = c.requires.day; room = inside; theatre = (c.in-Some.ensures.least r).inside }) in
+          record {
+            least = w.best-is ∙ (then-least (stay_value F) before (flat_map f (rooms_for a r)) (f r) c.loop-r.best w.cheaper-best.result c.loop-r.invariant.least found
+                ∙ ap (λ ws. valued (stay_value F) (cheapest (stay_value F) before ws)) (sym (on-more f a r yes)));
+            fits = subst (λ (b : Candidate). IsWriteOf I b.write) (sym (w.best-is ∙ w.cheaper-best.ensures))
+                (cheaper-either (IsWriteOf I) c.loop-r.best w.stay.result c.loop-r.invariant.fits (subst (λ (b : Candidate). IsWriteOf I b.write) (sym second) fits));
+          }
+      | else-suits w ↦
+          let no : suits a r ≡ false = sym c.suits.ensures ∙ w.if-suits.false in
+          record {
+            least = w.best-is ∙ (c.loop-r.invariant.least ∙ ap (λ ws. valued (stay_value F) (cheapest (stay_value F) before ws)) (sym (on-same f a r no)));
+            fits = subst (λ (b : Candidate). IsWriteOf I b.write) (sym w.best-is) c.loop-r.invariant.fits;
+          }
+    ]
+
+pub returns-in_default-clause-least : goal.returns-in_default-clause-least
+returns-in_default-clause-least c =
+    let I = c.args.inst.now.draft in
+    let none = c.in_default.ensures.none in
     c.requires.before
     ∙ ap (λ ws. valued (stay_value c.args.scorer.now) (cheapest (stay_value c.args.scorer.now) c.args.before.write ws)) (sym (no-stays I c.args.p c.args.patient.now c.args.day.0 (room_count I) none))
