@@ -14,7 +14,7 @@ use Rattle.ih_fill.specs.declared.candidates.Candidate.{Candidate}
 use Rattle.ih_fill.specs.Candidates.{valued, least_of}
 use Rattle.ih_parfill.specs.declared.shares.Found.{Found}
 use Rattle.ih_parfill.specs.declared.shares.Share.{Share}
-use Rattle.ih_parfill.specs.Shares.{HasLooked, IsBefore, IsFirstOf, IsLeastOf, IsLower, IsOfShare, IsShare}
+use Rattle.ih_parfill.specs.Shares.{AreShares, HasLooked, IsBefore, IsFirstOf, IsLeastOf, IsLower, IsOfShare, IsShare}
 
 before-trans : (x y z : ℤ) (p q k : ℕ) → IsBefore x p y q → IsBefore y q z k → IsBefore x p z k
 before-trans x y z p q k (inl less) (inl under) = inl (omega (arith, ints))
@@ -48,6 +48,12 @@ inside (z ∷ xs) x (suc k) h = let rest = inside xs x k h in omega arith
 module _ (v : Write → ℤ) where
   -- ---- the lower of two
 
+  in_writes : (ws : List Write) (S R : ℕ → Type 0) (a b : Found) → IsFirstOf v ws S a → IsFirstOf v ws R b → IsBefore a.candidate.value a.place b.candidate.value b.place
+      → IsBefore (v a.candidate.write) a.place (v b.candidate.write) b.place
+  in_writes ws S R a b first second h =
+      subst (λ x. IsBefore x a.place (v b.candidate.write) b.place) (ap (λ (c : Candidate). c.value) first.value)
+      (subst (λ y. IsBefore a.candidate.value a.place y b.place) (ap (λ (c : Candidate). c.value) second.value) h)
+
   -- the lower of the first least of some places and of others is the first least of all of them
   pub lower-joins : (ws : List Write) (S R : ℕ → Type 0) (a b r : Option Found) → IsLower a b r → IsLeastOf v ws S a → IsLeastOf v ws R b
       → IsLeastOf v ws (λ k. S k ⊎ R k) r
@@ -76,29 +82,17 @@ module _ (v : Write → ℤ) where
     value = first.value;
     first = λ k x h there. elim h [
       | inl s ↦ first.first k x s there
-      | inr t ↦ before-trans (v a.candidate.write) (v b.candidate.write) (v x) a.place b.place k (in_writes a b first second left.1) (second.first k x t there)
+      | inr t ↦ before-trans (v a.candidate.write) (v b.candidate.write) (v x) a.place b.place k (in_writes ws S R a b first second left.1) (second.first k x t there)
     ];
   })
-    where
-      in_writes : (a b : Found) → IsFirstOf v ws S a → IsFirstOf v ws R b → IsBefore a.candidate.value a.place b.candidate.value b.place
-          → IsBefore (v a.candidate.write) a.place (v b.candidate.write) b.place
-      in_writes a b first second h =
-          subst (λ x. IsBefore x a.place (v b.candidate.write) b.place) (ap (λ (c : Candidate). c.value) first.value)
-          (subst (λ y. IsBefore a.candidate.value a.place y b.place) (ap (λ (c : Candidate). c.value) second.value) h)
   lower-joins ws S R (Some a) (Some b) r (inr right) first second = rw right.0 (record {
     there = second.there;
     value = second.value;
     first = λ k x h there. elim h [
-      | inl s ↦ before-trans (v b.candidate.write) (v a.candidate.write) (v x) b.place a.place k (in_writes a b first second right.1) (first.first k x s there)
+      | inl s ↦ before-trans (v b.candidate.write) (v a.candidate.write) (v x) b.place a.place k (in_writes ws R S b a second first right.1) (first.first k x s there)
       | inr t ↦ second.first k x t there
     ];
   })
-    where
-      in_writes : (a b : Found) → IsFirstOf v ws S a → IsFirstOf v ws R b → IsBefore b.candidate.value b.place a.candidate.value a.place
-          → IsBefore (v b.candidate.write) b.place (v a.candidate.write) a.place
-      in_writes a b first second h =
-          subst (λ x. IsBefore x b.place (v a.candidate.write) a.place) (ap (λ (c : Candidate). c.value) second.value)
-          (subst (λ y. IsBefore b.candidate.value b.place y a.place) (ap (λ (c : Candidate). c.value) first.value) h)
 
   -- the same candidates at places that are named otherwise
   pub same-places : (ws : List Write) (S R : ℕ → Type 0) (o : Option Found) → ((k : ℕ) → R k → k < length ws → S k) → IsLeastOf v ws S o → IsLeastOf v ws R o
@@ -213,6 +207,10 @@ module _ (v : Write → ℤ) where
     least = same-places ws (IsOfFirst n m) (λ k. Unit {0}) best (λ k t within. let small = mod-lt k some in omega (arith, small, most)) found.least;
     fits = found.fits;
   }
+
+  -- there are as many shares as there are
+  pub as-many : (I : Draft) (ws : List Write) (n : ℕ) (shares : List (Option Found)) → AreShares I v ws n shares → AreShares I v ws (length shares) shares
+  as-many I ws n shares all = subst (λ m. AreShares I v ws m shares) (sym all.len) all
 
   -- ---- the first least of all is the cheapest
 

@@ -6,7 +6,7 @@ ghost use Rattle.ih_plan.specs.Timetable.{IsPlanOf};
 ghost use Rattle.ih_plan.specs.Fill.{fill, rooms_by_shift, waiting, with_care, with_cares, with_stay, with_stays};
 ghost use Rattle.ih_fill.specs.Candidates.{rooms_in};
 
-use crate::joining::{lowest, share_nurses, share_stays};
+use crate::joining::{Choice, deal, lowest};
 use crate::shares::Found;
 use ih_fill::{Scorer, fill, is_uncovered, is_waiting};
 use ih_plan::Plan;
@@ -44,7 +44,7 @@ fn place<R: Threads + Wait + Sync, G: Gate>(
         ih_fill::place(inst, scorer, p);
         return;
     }
-    share_stays(rt, inst, scorer, p, choice, shares, gate);
+    deal(rt, inst, scorer, Choice::Stay(p), choice, shares, gate);
     let Some(found) = lowest(shares) else {
         unreachable!()
     };
@@ -114,7 +114,7 @@ fn cover<R: Threads + Wait + Sync, G: Gate>(
         return;
     }
     if is_uncovered(scorer, r, k) {
-        share_nurses(rt, inst, scorer, r, k, choice, shares, gate);
+        deal(rt, inst, scorer, Choice::Nurse(r, k), choice, shares, gate);
         if let Some(found) = lowest(shares) {
             scorer.put(&found.candidate.write);
         }
