@@ -1,5 +1,5 @@
 -- The best of a choice's candidates, from the least of the nurses and from the least of the stays.
-use Rattle.std.proofs.Common.{◌≡◌, refl, sym, ap, ◌∙◌, arith, Bool, true, false, List, [], ◌∷◌, Some, None}
+use Rattle.std.proofs.Common.{◌≡◌, refl, sym, ap, ◌∙◌, subst, arith, Bool, true, false, List, [], ◌∷◌, Option, Some, None}
 use Rattle.std.specs.Prelude.{ℕ, ℤ, pos, ◌<ℤ◌, ◌≤ℤ◌, int_lt, if◌then◌else◌}
 use Rattle.std.proofs.lemmas.Int.{ints}
 use Rattle.ih_tables.specs.declared.bills.Bill.{Bill}
@@ -37,20 +37,34 @@ module _ (v : Write → ℤ) where
   joined w x [] = refl
   joined w x (y ∷ ys) = pick w x (cheapest v y ys) (cheapest v x (y ∷ ys)) (cheapest v w (y ∷ ys)) (joined x y ys) (joined w y ys)
 
-  pub none-best : (w : Write) (ws : List Write) → None ≡ least_of v ws → valued v w ≡ valued v (cheapest v w ws)
+  none-best : (w : Write) (ws : List Write) → None ≡ least_of v ws → valued v w ≡ valued v (cheapest v w ws)
   none-best w [] e = refl
   none-best w (x ∷ xs) e = absurd (let no : None ≡ Some (valued v (cheapest v x xs)) = e in cc)
 
-  pub some-best : (w : Write) (ws : List Write) (least : Candidate) → Some least ≡ least_of v ws → cheaper (valued v w) least ≡ valued v (cheapest v w ws)
+  some-best : (w : Write) (ws : List Write) (least : Candidate) → Some least ≡ least_of v ws → cheaper (valued v w) least ≡ valued v (cheapest v w ws)
   some-best w [] least e = absurd (let no : Some least ≡ None = e in cc)
   some-best w (x ∷ xs) least e =
       let same : least ≡ valued v (cheapest v x xs) = (let e : Some least ≡ Some (valued v (cheapest v x xs)) = e in cc) in
       ap (cheaper (valued v w)) same ∙ (cheaper-more v w (cheapest v x xs) [] ∙ ap (valued v) (sym (joined w x xs)))
 
 -- what is scored is the change of the whole bill
-pub care-whole : (F : Scoring) → care_value F ≡ value_of F.instance F.hard F.plan
+care-whole : (F : Scoring) → care_value F ≡ value_of F.instance F.hard F.plan
 unfolding care_value
 care-whole F = refl
+
+-- no nurse, or the cheapest one where that is less
+abbrev pub with_nurse : Candidate → Option Candidate → Candidate
+with_nurse none None = none
+with_nurse none (Some nurse) = cheaper none nurse
+
+pub nurse-best : (I : Draft) (F : Scoring) (w : Write) (ws : List Write) (none : Candidate) (nurse : Option Candidate) → F.instance ≡ I → none ≡ valued (care_value F) w
+    → nurse ≡ least_of (care_value F) ws → with_nurse none nurse ≡ valued (value_of I F.hard F.plan) (cheapest (value_of I F.hard F.plan) w ws)
+nurse-best I F w ws none nurse same is least =
+    subst (λ (f : Write → ℤ). with_nurse none nurse ≡ valued f (cheapest f w ws)) (care-whole F ∙ ap (λ (J : Draft). value_of J F.hard F.plan) same) (either nurse least)
+  where
+    either : (o : Option Candidate) → o ≡ least_of (care_value F) ws → with_nurse none o ≡ valued (care_value F) (cheapest (care_value F) w ws)
+    either None e = is ∙ none-best (care_value F) w ws e
+    either (Some x) e = ap (λ (y : Candidate). cheaper y x) is ∙ some-best (care_value F) w ws x e
 
 pub stay-whole : (F : Scoring) → F.counts_uncovered ≡ true → stay_value F ≡ value_of F.instance F.hard F.plan
 unfolding stay_value

@@ -10,15 +10,13 @@ use crate::advisers::Adviser;
 use crate::choosing::Advice;
 use crate::subjects::subject_count;
 use ih_fill::Scorer;
+use ih_journal::MAX_WORKERS;
 use ih_plan::Plan;
 use ih_shelf::Gate;
 use ih_tables::Instance;
 use std::alloc::{AllocError, Global};
 use std::sync::Wait;
 use std::thread::{Threads, for_each_mut};
-
-// The most threads that are started.
-const MOST_THREADS: usize = 64;
 
 // An adviser for each number, each with room for what it finds.
 fn new_advisers(alloc: Global, count: usize, most: usize) -> Result<Vec<Adviser>, AllocError>
@@ -74,7 +72,7 @@ fn work<R: Threads + Wait + Sync, G: Gate>(
     for_each_mut(
         rt,
         advisers,
-        MOST_THREADS,
+        MAX_WORKERS as usize,
         &|number, adviser|
             requires { (scorer.now.instance ≡ inst.now.draft) × (scorer.now.counts_uncovered ≡ true) × (count ≤ 64)
                 × (number < count) × IsReady inst.now.draft count adviser.now }
