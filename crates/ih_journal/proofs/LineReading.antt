@@ -109,6 +109,24 @@ one_more I o bytes i at read all inside =
       field = inr (omega (arith, len));
     }
 
+-- a field that is not of its kind
+pub wrong_here : (I : Draft) (o : Options) (bytes : List ℕ) (i at at' : ℕ) (kind : Kind) (field : List ℕ) → IsRead I o bytes i at
+    → slice_get (kinds o) i ≡ Some kind → fields_from bytes at ≡ field ∷ fields_from bytes at' → (IsField I kind field → ⊥) → IsFirstWrong I o bytes (i + 1)
+wrong_here I o bytes i at at' kind field read wanted next other =
+    let here = get_here (parted 32 bytes) i field (fields_from bytes at') (read.left ∙ next) in
+    record {
+      index = i;
+      number = refl;
+      before = read.right;
+      wrong = λ r.
+          let kinds-are : Some r.kind ≡ Some kind = sym r.wanted ∙ wanted in
+          let fields-are : Some r.field ≡ Some field = sym r.there ∙ here.0 in
+          let same-kind : r.kind ≡ kind = cc in
+          let same-field : r.field ≡ field = cc in
+          other (subst (IsField I kind) same-field (subst (λ (k : Kind). IsField I k r.field) same-kind r.fits));
+      field = inl (slice_get_within (kinds o) i kind wanted);
+    }
+
 -- a right field, and the next one
 pub reads_on : (I : Draft) (o : Options) (bytes : List ℕ) (i at i' at' : ℕ) (kind : Kind) (field text : List ℕ) → IsRead I o bytes i at
     → slice_get (kinds o) i ≡ Some kind → i' ≡ i + 1 → fields_from bytes at ≡ field ∷ fields_from bytes at' → field ≡ text → IsField I kind text

@@ -6,6 +6,7 @@ pub mod Grammar
 pub mod History
 pub mod Laws
 pub mod Legal
+pub mod Lines
 pub mod Names
 pub mod Pieces
 pub mod Settings

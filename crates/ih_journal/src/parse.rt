@@ -1,11 +1,13 @@
 //! Reading a line of a journal, field by field.
 
-ghost use Rattle.std.specs.Prelude.{◌≡◌, ◌+◌, ◌++◌, ◌<◌, ◌^◌, ℕ, [], ◌∷◌, length, IfOk, IfErr, OnOk, Ok, Some, slice_get, decimal};
+ghost use Rattle.std.specs.Prelude.{◌≡◌, ◌+◌, ◌++◌, ◌<◌, ◌^◌, ℕ, List, [], ◌∷◌, length, IfOk, IfErr, IfSome, IfNone, OnOk, Ok, decimal};
+ghost use Rattle.ih_tables.specs.declared.drafts.Draft.{Draft};
 ghost use Rattle.ih_plan.specs.Expand.{IsMoveOf};
 ghost use Rattle.ih_journal.specs.declared.entries.Entry.{Entry};
 ghost use Rattle.ih_journal.specs.Texts.{again_field, move_text, price_text, verdict_text};
-ghost use Rattle.ih_journal.specs.Grammar.{JournalsDiffer, IsLineOf, IsFirstWrong, IsPrice, IsVerdictOf, kinds, again_kind, count_kind, move_kind, price_kind, verdict_kind};
-ghost use Rattle.ih_journal.specs.Pieces.{IsRead, Reads, fields_from};
+ghost use Rattle.ih_journal.specs.Grammar.{JournalsDiffer, Kind, IsField, IsLineOf, IsFirstWrong, IsPrice, IsVerdictOf, kinds, again_kind, count_kind, move_kind, price_kind, verdict_kind};
+ghost use Rattle.ih_journal.specs.Lines.{IsAt, HasRead, NamesWrong, Wants};
+ghost use Rattle.ih_journal.specs.Pieces.{fields_from};
 
 use crate::entries::{Entry, Verdict};
 use crate::numerals::{cut, number_of};
@@ -28,6 +30,69 @@ struct Next {
     at: usize,
 }
 
+// What a field of a line is the text of.
+trait Piece: Sized {
+    ghost kind: { Kind };
+
+    ghost inside: { Draft → Self → Type 0 };
+
+    ghost text: { Self → List ℕ };
+
+    fn of(inst: &Instance, field: &[u8]) -> Option<Self>
+        ensures some { IfSome result (λ x. inside inst.now.draft x × (field.now ≡ text x)
+            × IsField inst.now.draft kind field.now) }
+        ensures none { IfNone result (IsField inst.now.draft kind field.now → ⊥) };
+}
+
+impl Piece for u32 {
+    ghost kind = { count_kind };
+
+    ghost inside = { λ I n. n < 2 ^ 32 };
+
+    ghost text = { decimal };
+
+    fn of(_inst: &Instance, field: &[u8]) -> Option<Self> {
+        let n = number_of(field, u32::MAX as u64)?;
+        Some(n as u32)
+    }
+}
+
+impl Piece for Move {
+    ghost kind = { move_kind };
+
+    ghost inside = { IsMoveOf };
+
+    ghost text = { move_text };
+
+    fn of(inst: &Instance, field: &[u8]) -> Option<Self> {
+        parse_move(inst, field)
+    }
+}
+
+impl Piece for Bill {
+    ghost kind = { price_kind };
+
+    ghost inside = { λ I b. IsPrice b };
+
+    ghost text = { price_text };
+
+    fn of(_inst: &Instance, field: &[u8]) -> Option<Self> {
+        price_of(field)
+    }
+}
+
+impl Piece for Verdict {
+    ghost kind = { verdict_kind };
+
+    ghost inside = { IsVerdictOf };
+
+    ghost text = { verdict_text };
+
+    fn of(inst: &Instance, field: &[u8]) -> Option<Self> {
+        verdict_of(inst, field)
+    }
+}
+
 // A line that is read for an instance, in the form that the options ask for.
 #[derive(Clone, Copy)]
 struct Line<'a> {
@@ -38,13 +103,12 @@ struct Line<'a> {
 
 impl<'a> Line<'a> {
     fn field(&self, next: Next) -> Result<(&'a [u8], Next), BadLine>
-        requires read { IsRead self.now.inst.now.draft self.now.options.now self.now.bytes.now next.index next.at }
+        requires read { IsAt self.now next }
         requires wanted { next.index < length (kinds self.now.options.now) }
         ensures index { IfOk result (λ r. r.1.index ≡ next.index + 1) }
         ensures ok { IfOk result
             (λ r. fields_from self.now.bytes.now next.at ≡ r.0.now ∷ fields_from self.now.bytes.now r.1.at) }
-        ensures err { IfErr result
-            (λ e. IsFirstWrong self.now.inst.now.draft self.now.options.now self.now.bytes.now e.field) }
+        ensures err { IfErr result (NamesWrong self.now) }
     {
         if next.at > self.bytes.len() {
             return Err(BadLine {
@@ -59,19 +123,17 @@ impl<'a> Line<'a> {
         Ok((field, after))
     }
 
-    fn count(&self, next: Next) -> Result<(u32, Next), BadLine>
-        requires read { IsRead self.now.inst.now.draft self.now.options.now self.now.bytes.now next.index next.at }
-        requires wanted { slice_get (kinds self.now.options.now) next.index ≡ Some count_kind }
-        ensures short { IfOk result (λ r. r.0 < 2 ^ 32) }
-        ensures ok { IfOk result
-            (λ r. Reads self.now.inst.now.draft self.now.options.now self.now.bytes.now next.index next.at
-            (decimal r.0) r.1.index r.1.at) }
-        ensures err { IfErr result
-            (λ e. IsFirstWrong self.now.inst.now.draft self.now.options.now self.now.bytes.now e.field) }
+    // The next field as a value of its kind.
+    fn piece<T: Piece>(&self, next: Next) -> Result<(T, Next), BadLine>
+        requires read { IsAt self.now next }
+        requires wanted { Wants self.now next T.kind }
+        ensures inside { IfOk result (λ r. T.inside self.now.inst.now.draft r.0) }
+        ensures ok { IfOk result (λ r. HasRead self.now next (T.text r.0) r.1) }
+        ensures err { IfErr result (NamesWrong self.now) }
     {
         let (field, after) = self.field(next)?;
-        match number_of(field, u32::MAX as u64) {
-            Some(n) => Ok((n as u32, after)),
+        match T::of(self.inst, field) {
+            Some(value) => Ok((value, after)),
             None => Err(BadLine {
                 field: next.index + 1,
             }),
@@ -80,88 +142,28 @@ impl<'a> Line<'a> {
 
     // The try, which stands in a line only where moves are tried again.
     fn again(&self, next: Next) -> Result<(u32, Next), BadLine>
-        requires read { IsRead self.now.inst.now.draft self.now.options.now self.now.bytes.now next.index next.at }
+        requires read { IsAt self.now next }
         requires third { next.index ≡ 3 }
         ensures short { IfOk result (λ r. r.0 < 2 ^ 32) }
         ensures once { IfOk result (λ r. self.now.options.now.retries ≡ 0 → r.0 ≡ 0) }
-        ensures read { IfOk result
-            (λ r. IsRead self.now.inst.now.draft self.now.options.now self.now.bytes.now r.1.index r.1.at) }
+        ensures read { IfOk result (λ r. IsAt self.now r.1) }
         ensures index { IfOk result (λ r. r.1.index ≡ 3 + length (again_kind self.now.options.now.retries)) }
         ensures ok { IfOk result
             (λ r. fields_from self.now.bytes.now next.at
             ≡ again_field self.now.options.now.retries r.0 ++ fields_from self.now.bytes.now r.1.at) }
-        ensures err { IfErr result
-            (λ e. IsFirstWrong self.now.inst.now.draft self.now.options.now self.now.bytes.now e.field) }
+        ensures err { IfErr result (NamesWrong self.now) }
     {
         match self.options.retries {
             0 => Ok((0, next)),
-            _ => self.count(next),
-        }
-    }
-
-    fn mv(&self, next: Next) -> Result<(Move, Next), BadLine>
-        requires read { IsRead self.now.inst.now.draft self.now.options.now self.now.bytes.now next.index next.at }
-        requires wanted { slice_get (kinds self.now.options.now) next.index ≡ Some move_kind }
-        ensures inside { IfOk result (λ r. IsMoveOf self.now.inst.now.draft r.0) }
-        ensures ok { IfOk result
-            (λ r. Reads self.now.inst.now.draft self.now.options.now self.now.bytes.now next.index next.at
-            (move_text r.0) r.1.index r.1.at) }
-        ensures err { IfErr result
-            (λ e. IsFirstWrong self.now.inst.now.draft self.now.options.now self.now.bytes.now e.field) }
-    {
-        let (field, after) = self.field(next)?;
-        match parse_move(self.inst, field) {
-            Some(mv) => Ok((mv, after)),
-            None => Err(BadLine {
-                field: next.index + 1,
-            }),
-        }
-    }
-
-    fn price(&self, next: Next) -> Result<(Bill, Next), BadLine>
-        requires read { IsRead self.now.inst.now.draft self.now.options.now self.now.bytes.now next.index next.at }
-        requires wanted { slice_get (kinds self.now.options.now) next.index ≡ Some price_kind }
-        ensures inside { IfOk result (λ r. IsPrice r.0) }
-        ensures ok { IfOk result
-            (λ r. Reads self.now.inst.now.draft self.now.options.now self.now.bytes.now next.index next.at
-            (price_text r.0) r.1.index r.1.at) }
-        ensures err { IfErr result
-            (λ e. IsFirstWrong self.now.inst.now.draft self.now.options.now self.now.bytes.now e.field) }
-    {
-        let (field, after) = self.field(next)?;
-        match price_of(field) {
-            Some(price) => Ok((price, after)),
-            None => Err(BadLine {
-                field: next.index + 1,
-            }),
-        }
-    }
-
-    fn verdict(&self, next: Next) -> Result<(Verdict, Next), BadLine>
-        requires read { IsRead self.now.inst.now.draft self.now.options.now self.now.bytes.now next.index next.at }
-        requires wanted { slice_get (kinds self.now.options.now) next.index ≡ Some verdict_kind }
-        ensures inside { IfOk result (λ r. IsVerdictOf self.now.inst.now.draft r.0) }
-        ensures ok { IfOk result
-            (λ r. Reads self.now.inst.now.draft self.now.options.now self.now.bytes.now next.index next.at
-            (verdict_text r.0) r.1.index r.1.at) }
-        ensures err { IfErr result
-            (λ e. IsFirstWrong self.now.inst.now.draft self.now.options.now self.now.bytes.now e.field) }
-    {
-        let (field, after) = self.field(next)?;
-        match verdict_of(self.inst, field) {
-            Some(verdict) => Ok((verdict, after)),
-            None => Err(BadLine {
-                field: next.index + 1,
-            }),
+            _ => self.piece(next),
         }
     }
 
     fn end(&self, next: Next) -> Result<(), BadLine>
-        requires read { IsRead self.now.inst.now.draft self.now.options.now self.now.bytes.now next.index next.at }
+        requires read { IsAt self.now next }
         requires all { next.index ≡ length (kinds self.now.options.now) }
         ensures ok { OnOk result (fields_from self.now.bytes.now next.at ≡ []) }
-        ensures err { IfErr result
-            (λ e. IsFirstWrong self.now.inst.now.draft self.now.options.now self.now.bytes.now e.field) }
+        ensures err { IfErr result (NamesWrong self.now) }
     {
         if next.at > self.bytes.len() {
             Ok(())
@@ -175,17 +177,16 @@ impl<'a> Line<'a> {
     fn entry(&self) -> Result<(u32, Entry), BadLine>
         ensures ok { IfOk result
             (λ r. IsLineOf self.now.inst.now.draft self.now.options.now r.0 r.1 self.now.bytes.now) }
-        ensures err { IfErr result
-            (λ e. IsFirstWrong self.now.inst.now.draft self.now.options.now self.now.bytes.now e.field) }
+        ensures err { IfErr result (NamesWrong self.now) }
     {
-        let (place, next) = self.count(Next { index: 0, at: 0 })?;
-        let (worker, next) = self.count(next)?;
-        let (number, next) = self.count(next)?;
+        let (place, next) = self.piece(Next { index: 0, at: 0 })?;
+        let (worker, next) = self.piece(next)?;
+        let (number, next) = self.piece(next)?;
         let (again, next) = self.again(next)?;
-        let (seen, next) = self.count(next)?;
-        let (mv, next) = self.mv(next)?;
-        let (price, next) = self.price(next)?;
-        let (verdict, next) = self.verdict(next)?;
+        let (seen, next) = self.piece(next)?;
+        let (mv, next) = self.piece(next)?;
+        let (price, next) = self.piece(next)?;
+        let (verdict, next) = self.piece(next)?;
         self.end(next)?;
         let entry = Entry {
             worker,

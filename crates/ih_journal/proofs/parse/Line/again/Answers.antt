@@ -8,5 +8,5 @@ fourth : (retries : ℕ) → slice_get (count_kind ∷ count_kind ∷ count_kind
 fourth zero = refl
 fourth (suc retries) = refl
 
-pub count-requires-clause-wanted : goal.count-requires-clause-wanted
-count-requires-clause-wanted c = rw c.requires.third (fourth c.args.self.now.options.now.retries)
+pub piece-requires-clause-wanted : goal.piece-requires-clause-wanted
+piece-requires-clause-wanted c = rw c.requires.third (fourth c.args.self.now.options.now.retries)
