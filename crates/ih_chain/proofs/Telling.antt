@@ -1,9 +1,10 @@
 -- What entries of chains stand for tells the entries.
-use Rattle.std.proofs.Common.{◌≡◌, ℕ, refl, ap, ap₂, List, [], ◌∷◌}
+use Rattle.std.proofs.Common.{◌≡◌, ℕ, refl, ap, List}
 use Rattle.ih_tables.specs.declared.bills.Bill.{Bill}
 use Rattle.ih_plan.specs.declared.moves.Move.{Move}
 use Rattle.ih_journal.specs.declared.entries.Verdict.{Verdict}
 use Rattle.ih_journal.specs.Tried.{Tried}
+use Rattle.ih_journal.proofs.Mapped.{map-injective}
 use Rattle.ih_chain.specs.declared.entries.ChainEntry.{ChainEntry}
 use Rattle.ih_chain.specs.Entries.{chain_tried, chain_tries}
 
@@ -21,11 +22,4 @@ tried-one e f h =
     (ap (λ (t : Tried). t.moves) h) (ap (λ (t : Tried). t.price) h) (ap (λ (t : Tried). t.verdict) h)
 
 pub chain_tries-one : (H G : List ChainEntry) → chain_tries H ≡ chain_tries G → H ≡ G
-chain_tries-one [] [] h = refl
-chain_tries-one [] (f ∷ fs) h = absurd (let no : [] ≡ chain_tried f ∷ chain_tries fs = h in cc)
-chain_tries-one (e ∷ es) [] h = absurd (let no : chain_tried e ∷ chain_tries es ≡ [] = h in cc)
-chain_tries-one (e ∷ es) (f ∷ fs) h =
-    let both : chain_tried e ∷ chain_tries es ≡ chain_tried f ∷ chain_tries fs = h in
-    let first : chain_tried e ≡ chain_tried f = cc in
-    let rest : chain_tries es ≡ chain_tries fs = cc in
-    ap₂ (λ x xs. x ∷ xs) (tried-one e f first) (chain_tries-one es fs rest)
+chain_tries-one H G h = map-injective chain_tried (λ _. Unit {0}) H G (λ e f _ _. tried-one e f) (λ k d lt. tt) (λ k d lt. tt) h

@@ -1,5 +1,5 @@
 -- The texts of cells by their names and numbers.
-use Rattle.std.proofs.Common.{◌≡◌, ℕ, ◌<◌, ◌≤◌, refl, sym, ◌∙◌, ap, arith, true, List, [], ◌∷◌, map, length, decimal, Option, Some, None, lit<, lit≤}
+use Rattle.std.proofs.Common.{◌≡◌, ℕ, ◌<◌, ◌≤◌, refl, sym, ◌∙◌, ap, arith, true, List, [], ◌∷◌, map, length, decimal, Some, None, lit<, lit≤}
 use Rattle.std.specs.Prelude.{codes, IfSome, IfNone, slice_index, ◌==◌}
 use Rattle.std.proofs.lemmas.Bool.{eqb-true}
 use Rattle.std.proofs.lemmas.List.{length-map}
@@ -10,7 +10,7 @@ use Rattle.ih_journal.specs.Texts.{cell_text, dotted}
 use Rattle.ih_journal.specs.Grammar.{parted}
 use Rattle.ih_journal.specs.Names.{cell_name, cell_numbers, cell_named, cell_of_one, cell_of_two, AreShort}
 use Rattle.ih_journal.proofs.Lacking.{Lacks, lacks, lacks_known, parted_joined, parted_text, lacks_joined, numbers_lack, IsMark, plain, plain_lacks, low_mark, dot, colon}
-use Rattle.ih_journal.proofs.Spelling.{spelled_by, either_way, choice, along, one, two, none_where}
+use Rattle.ih_journal.proofs.Spelling.{IsCut, IsSpelled, spelled_by, some_where, either_way, choice, along, one, two, none_where}
 use Rattle.ih_journal.proofs.MoveTexts.{shorts_injective}
 
 dotted_parted : (name ns : List ℕ) → lacks 46 name ≡ true → AreShort ns → parted 46 (dotted name ns) ≡ name ∷ map decimal ns
@@ -35,24 +35,23 @@ cell_dotted (NurseShift n k) bs short is = record { parts = ap (parted 46) is �
 cell_dotted (Care x) bs short is = record { parts = ap (parted 46) is ∙ dotted_parted (codes "care") (x.0 ∷ []) refl short; few = lit≤ tt; some = lit< tt; made = refl }
 
 -- the text and the numbers are those of the cell
-pub record Spells (name ns : List ℕ) (c : Cell) : Type 0 where
-  pub text : dotted name ns ≡ cell_text c
-  pub numbers : cell_numbers c ≡ ns
+abbrev Spells : List ℕ → List ℕ → Cell → Type 0
+Spells = IsSpelled dotted cell_text cell_numbers
 
 of_one : (name : List ℕ) (a : ℕ) → spelled_by Spells name (a ∷ []) (cell_of_one name a)
 unfolding cell_text
 of_one name a =
-    choice Spells name (codes "stay") (a ∷ []) (Stay (record { 0 = a })) _ (record { text = refl; numbers = refl })
-    (choice Spells name (codes "care") (a ∷ []) (Care (record { 0 = a })) None (record { text = refl; numbers = refl }) tt)
+    choice Spells name (codes "stay") (a ∷ []) (Stay (record { 0 = a })) _ (record { text_is = refl; numbers_are = refl })
+    (choice Spells name (codes "care") (a ∷ []) (Care (record { 0 = a })) None (record { text_is = refl; numbers_are = refl }) tt)
 
 of_two : (name : List ℕ) (a b : ℕ) → spelled_by Spells name (a ∷ b ∷ []) (cell_of_two name a b)
 unfolding cell_text
 of_two name a b =
-    choice Spells name (codes "roomday") (a ∷ b ∷ []) (RoomDay (record { 0 = a }) (record { 0 = b })) _ (record { text = refl; numbers = refl })
-    (choice Spells name (codes "theatreday") (a ∷ b ∷ []) (TheatreDay (record { 0 = a }) (record { 0 = b })) _ (record { text = refl; numbers = refl })
-    (choice Spells name (codes "surgeonday") (a ∷ b ∷ []) (SurgeonDay (record { 0 = a }) (record { 0 = b })) _ (record { text = refl; numbers = refl })
-    (choice Spells name (codes "roomshift") (a ∷ b ∷ []) (RoomShift (record { 0 = a }) (record { 0 = b })) _ (record { text = refl; numbers = refl })
-    (choice Spells name (codes "nurseshift") (a ∷ b ∷ []) (NurseShift (record { 0 = a }) (record { 0 = b })) None (record { text = refl; numbers = refl }) tt))))
+    choice Spells name (codes "roomday") (a ∷ b ∷ []) (RoomDay (record { 0 = a }) (record { 0 = b })) _ (record { text_is = refl; numbers_are = refl })
+    (choice Spells name (codes "theatreday") (a ∷ b ∷ []) (TheatreDay (record { 0 = a }) (record { 0 = b })) _ (record { text_is = refl; numbers_are = refl })
+    (choice Spells name (codes "surgeonday") (a ∷ b ∷ []) (SurgeonDay (record { 0 = a }) (record { 0 = b })) _ (record { text_is = refl; numbers_are = refl })
+    (choice Spells name (codes "roomshift") (a ∷ b ∷ []) (RoomShift (record { 0 = a }) (record { 0 = b })) _ (record { text_is = refl; numbers_are = refl })
+    (choice Spells name (codes "nurseshift") (a ∷ b ∷ []) (NurseShift (record { 0 = a }) (record { 0 = b })) None (record { text_is = refl; numbers_are = refl }) tt))))
 
 -- what a name and numbers give has their text
 pub cell_spelled : (name ns : List ℕ) → spelled_by Spells name ns (cell_named name ns)
@@ -61,12 +60,6 @@ cell_spelled name ns =
     either_way Spells (length ns == 1) name ns _ _ (λ h. along Spells name _ ns _ (one ns (eqb-true (length ns) 1 h)) (of_one name (slice_index ns 0)))
     (either_way Spells (length ns == 2) name ns _ None (λ h. along Spells name _ ns _ (two ns (eqb-true (length ns) 2 h)) (of_two name (slice_index ns 0) (slice_index ns 1))) tt)
 
--- the bytes are parted as a name and numbers
-pub record IsCut (bs name rest ns : List ℕ) : Type 0 where
-  pub cut : parted 46 bs ≡ name ∷ parted 46 rest
-  pub read : parted 46 rest ≡ map decimal ns
-  pub short : AreShort ns
-
 -- the numbers behind the name are those of the cell
 pub numbers_of : (c : Cell) (bs name : List ℕ) (rest : List (List ℕ)) → IsDotted c bs → parted 46 bs ≡ name ∷ rest → (name ≡ cell_name c) × (rest ≡ map decimal (cell_numbers c))
 numbers_of c bs name rest is cut =
@@ -74,25 +67,22 @@ numbers_of c bs name rest is cut =
     (cc, cc)
 
 -- the cell whose text the bytes are is read
-pub cell_read : (c : Cell) (bs name rest ns : List ℕ) → AreShort (cell_numbers c) → IsDotted c bs → IsCut bs name rest ns → cell_named name ns ≡ Some c
+pub cell_read : (c : Cell) (bs name rest ns : List ℕ) → AreShort (cell_numbers c) → IsDotted c bs → IsCut 46 46 bs name rest ns → cell_named name ns ≡ Some c
 cell_read c bs name rest ns short is cut =
     let parts = numbers_of c bs name (parted 46 rest) is cut.cut in
     let same = shorts_injective ns (cell_numbers c) cut.short short (sym cut.read ∙ parts.1) in
     rw (parts.0, same) is.made
 
-cut_text : (bs name rest ns : List ℕ) → IsCut bs name rest ns → bs ≡ dotted name ns
+cut_text : (bs name rest ns : List ℕ) → IsCut 46 46 bs name rest ns → bs ≡ dotted name ns
 cut_text bs name rest ns cut = parted_text 46 bs (name ∷ map decimal ns) (cut.cut ∙ ap (λ (r : List (List ℕ)). name ∷ r) cut.read)
 
 -- what is read has the bytes as its text
-pub read_some : (bs name rest ns : List ℕ) → IsCut bs name rest ns → IfSome (cell_named name ns) (λ c. (bs ≡ cell_text c) × AreShort (cell_numbers c))
-read_some bs name rest ns cut = by_spelling (cell_named name ns) (cell_spelled name ns)
-  where
-    by_spelling : (r : Option Cell) → spelled_by Spells name ns r → IfSome r (λ c. (bs ≡ cell_text c) × AreShort (cell_numbers c))
-    by_spelling None h = tt
-    by_spelling (Some c) h = (cut_text bs name rest ns cut ∙ h.text, rw h.numbers cut.short)
+pub read_some : (bs name rest ns : List ℕ) → IsCut 46 46 bs name rest ns → IfSome (cell_named name ns) (λ c. (bs ≡ cell_text c) × AreShort (cell_numbers c))
+read_some bs name rest ns cut =
+    some_where dotted cell_text cell_numbers (cell_named name ns) bs name ns (cut_text bs name rest ns cut) cut.short (cell_spelled name ns)
 
 -- nothing is read only of bytes that are the text of no cell
-pub read_none : (bs name rest ns : List ℕ) → IsCut bs name rest ns
+pub read_none : (bs name rest ns : List ℕ) → IsCut 46 46 bs name rest ns
     → IfNone (cell_named name ns) ((c : Cell) → AreShort (cell_numbers c) → bs ≡ cell_text c → ⊥)
 read_none bs name rest ns cut =
     none_where (cell_named name ns) (λ c. AreShort (cell_numbers c)) (λ c. bs ≡ cell_text c)
@@ -135,28 +125,20 @@ cell_lacks m c mark ne known short =
     (lacks_joined m 46 (cell_name c ∷ map decimal (cell_numbers c)) ne
     (All-cons (Lacks m) (cell_name c) (map decimal (cell_numbers c)) known (numbers_lack m (cell_numbers c) mark short)))
 
-no_colon : (c : Cell) → lacks 58 (cell_name c) ≡ true
-no_colon (Stay p) = refl
-no_colon (RoomDay r d) = refl
-no_colon (TheatreDay t d) = refl
-no_colon (SurgeonDay s d) = refl
-no_colon (RoomShift r k) = refl
-no_colon (NurseShift n k) = refl
-no_colon (Care x) = refl
-
-cell_name_plain : (c : Cell) → plain (cell_name c) ≡ true
-cell_name_plain (Stay p) = refl
-cell_name_plain (RoomDay r d) = refl
-cell_name_plain (TheatreDay t d) = refl
-cell_name_plain (SurgeonDay s d) = refl
-cell_name_plain (RoomShift r k) = refl
-cell_name_plain (NurseShift n k) = refl
-cell_name_plain (Care x) = refl
+-- no cell's name has a colon, and each is plain
+cell_names : (c : Cell) → (lacks 58 (cell_name c) ≡ true) × (plain (cell_name c) ≡ true)
+cell_names (Stay p) = (refl, refl)
+cell_names (RoomDay r d) = (refl, refl)
+cell_names (TheatreDay t d) = (refl, refl)
+cell_names (SurgeonDay s d) = (refl, refl)
+cell_names (RoomShift r k) = (refl, refl)
+cell_names (NurseShift n k) = (refl, refl)
+cell_names (Care x) = (refl, refl)
 
 pub cell_lacks_colon : (c : Cell) → AreShort (cell_numbers c) → Lacks 58 (cell_text c)
-cell_lacks_colon c short = cell_lacks 58 c colon (λ e. omega (arith, e)) (lacks_known 58 (cell_name c) (no_colon c)) short
+cell_lacks_colon c short = cell_lacks 58 c colon (λ e. omega (arith, e)) (lacks_known 58 (cell_name c) (cell_names c).0) short
 
 -- no cell's text has a space or a line feed
 pub cell_lacks_low : (m : ℕ) (c : Cell) → m ≤ 32 → AreShort (cell_numbers c) → Lacks m (cell_text c)
 cell_lacks_low m c low short =
-    cell_lacks m c (low_mark m low) (λ e. omega (arith, e, low)) (plain_lacks m (cell_name c) low (cell_name_plain c)) short
+    cell_lacks m c (low_mark m low) (λ e. omega (arith, e, low)) (plain_lacks m (cell_name c) low (cell_names c).1) short

@@ -106,18 +106,6 @@ dot = record { digit = λ d. let low = d.0 in omega (arith, low); minus = λ e. 
 pub space : IsMark 32
 space = record { digit = λ d. let low = d.0 in omega (arith, low); minus = λ e. omega (arith, e) }
 
--- numbers by their texts
-pub texts_injective : {A : Type 0} (text : A → List ℕ) (P : A → Type 0) (xs ys : List A) → ((x y : A) → P x → P y → text x ≡ text y → x ≡ y)
-    → All P xs → All P ys → map text xs ≡ map text ys → xs ≡ ys
-texts_injective text P [] [] one all others h = refl
-texts_injective text P [] (y ∷ ys) one all others h = absurd (let no : [] ≡ text y ∷ map text ys = h in cc)
-texts_injective text P (x ∷ xs) [] one all others h = absurd (let no : text x ∷ map text xs ≡ [] = h in cc)
-texts_injective text P (x ∷ xs) (y ∷ ys) one all others h =
-    let same : text x ∷ map text xs ≡ text y ∷ map text ys = h in
-    let first : x ≡ y = one x y (All-head P x xs all) (All-head P y ys others) cc in
-    let rest : xs ≡ ys = texts_injective text P xs ys one (All-tail P x xs all) (All-tail P y ys others) cc in
-    cc
-
 -- a piece and what stands behind its separator
 pub cut_joined : (c : ℕ) (bs front rest : List ℕ) → parted c bs ≡ front ∷ parted c rest → bs ≡ front ++ (c ∷ rest)
 cut_joined c bs front rest h =

@@ -1,6 +1,7 @@
 -- Lists of what each element of a list stands for.
-use Rattle.std.proofs.Common.{◌≡◌, ℕ, zero, suc, ◌*◌, refl, ap, ap₂, arith, List, [], ◌∷◌, ◌++◌, take, drop, map, Some, None}
-use Rattle.std.specs.Prelude.{slice_get}
+use Rattle.std.proofs.Common.{◌≡◌, ℕ, zero, suc, ◌*◌, refl, ap, arith, List, [], ◌∷◌, ◌++◌, take, drop, map, Some, None}
+use Rattle.std.specs.Prelude.{slice_get, All}
+use Rattle.std.proofs.lemmas.List.Elements.{All-head, All-tail}
 use Rattle.ih_plan.specs.Draws.{move_of}
 use Rattle.ih_plan.specs.declared.moves.Move.{Move}
 use Rattle.ih_tables.specs.declared.bills.Bill.{Bill}
@@ -36,6 +37,18 @@ mapped-get f [] n y h = absurd (let no : None ≡ Some y = h in cc)
 mapped-get f (x ∷ xs) zero y h = (x, refl, (let same : Some (f x) ≡ Some y = h in cc))
 mapped-get f (x ∷ xs) (suc n) y h = mapped-get f xs n y h
 
+-- what each element of a list is mapped to tells the list, where it tells the element
+pub map-injective : {A B : Type 0} (f : A → B) (P : A → Type 0) (xs ys : List A) → ((x y : A) → P x → P y → f x ≡ f y → x ≡ y)
+    → All P xs → All P ys → map f xs ≡ map f ys → xs ≡ ys
+map-injective f P [] [] one all others h = refl
+map-injective f P [] (y ∷ ys) one all others h = absurd (let no : [] ≡ f y ∷ map f ys = h in cc)
+map-injective f P (x ∷ xs) [] one all others h = absurd (let no : f x ∷ map f xs ≡ [] = h in cc)
+map-injective f P (x ∷ xs) (y ∷ ys) one all others h =
+    let same : f x ∷ map f xs ≡ f y ∷ map f ys = h in
+    let first : x ≡ y = one x y (All-head P x xs all) (All-head P y ys others) cc in
+    let rest : xs ≡ ys = map-injective f P xs ys one (All-tail P x xs all) (All-tail P y ys others) cc in
+    cc
+
 -- an attempt of one move is a draw
 pub attempt-one : (b : Base) (w i : ℕ) → attempt_of b 1 w i ≡ move_of b.instance b.options.seed w i ∷ []
 attempt-one b w i = let same : i * 1 ≡ i = omega arith in ap (λ k. move_of b.instance b.options.seed w k ∷ []) same
@@ -58,11 +71,4 @@ tried-one e f h =
     (ap (λ (t : Tried). t.seen) h) mv (ap (λ (t : Tried). t.price) h) (ap (λ (t : Tried). t.verdict) h)
 
 pub tries-one : (H G : List Entry) → tries H ≡ tries G → H ≡ G
-tries-one [] [] h = refl
-tries-one [] (f ∷ fs) h = absurd (let no : [] ≡ tried f ∷ tries fs = h in cc)
-tries-one (e ∷ es) [] h = absurd (let no : tried e ∷ tries es ≡ [] = h in cc)
-tries-one (e ∷ es) (f ∷ fs) h =
-    let both : tried e ∷ tries es ≡ tried f ∷ tries fs = h in
-    let first : tried e ≡ tried f = cc in
-    let rest : tries es ≡ tries fs = cc in
-    ap₂ (λ x xs. x ∷ xs) (tried-one e f first) (tries-one es fs rest)
+tries-one H G h = map-injective tried (λ _. Unit {0}) H G (λ e f _ _. tried-one e f) (λ k d lt. tt) (λ k d lt. tt) h

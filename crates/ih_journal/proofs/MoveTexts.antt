@@ -1,5 +1,5 @@
 -- The texts of moves by their names and numbers.
-use Rattle.std.proofs.Common.{◌≡◌, ◌⊎◌, inl, inr, ℕ, ◌<◌, ◌≤◌, ◌^◌, refl, sym, ◌∙◌, ap, arith, true, false, List, [], ◌∷◌, ◌++◌, map, length, decimal, Option, Some, None, lit<, lit≤}
+use Rattle.std.proofs.Common.{◌≡◌, ◌⊎◌, inl, inr, ℕ, ◌<◌, ◌≤◌, ◌^◌, refl, sym, ◌∙◌, ap, arith, true, false, List, [], ◌∷◌, ◌++◌, map, length, decimal, Some, None, lit<, lit≤}
 use Rattle.std.specs.Prelude.{codes, IfNone, IfSome, slice_index, ◌==◌}
 use Rattle.std.proofs.lemmas.Bool.{eqb-true, ne_eqb}
 use Rattle.std.proofs.lemmas.Fmt.{decimal_injective}
@@ -9,8 +9,9 @@ use Rattle.ih_plan.specs.declared.moves.Move.TheVariants.{Idle, Place, Withdraw,
 use Rattle.ih_journal.specs.Texts.{move_text, named, numbers}
 use Rattle.ih_journal.specs.Grammar.{parted}
 use Rattle.ih_journal.specs.Names.{move_name, move_numbers, move_named, move_of_one, move_of_two, move_of_three, move_of_four, AreShort}
-use Rattle.ih_journal.proofs.Spelling.{spelled_by, either_way, choice, along, one, two, three, four, none_where}
-use Rattle.ih_journal.proofs.Lacking.{Lacks, lacks, lacks_known, parted_joined, parted_text, cut_joined, lacks_joined, numbers_lack, texts_injective, plain, plain_lacks, low_mark, colon, comma}
+use Rattle.ih_journal.proofs.Spelling.{IsCut, IsSpelled, spelled_by, some_where, either_way, choice, along, one, two, three, four, none_where}
+use Rattle.ih_journal.proofs.Mapped.{map-injective}
+use Rattle.ih_journal.proofs.Lacking.{Lacks, lacks, lacks_known, parted_joined, parted_text, cut_joined, lacks_joined, numbers_lack, plain, plain_lacks, low_mark, colon, comma}
 
 -- a name, a colon and numbers, parted
 named_parted : (name : List ℕ) (ns : List ℕ) → lacks 58 name ≡ true → AreShort ns → parted 58 (named name ns) ≡ name ∷ numbers ns ∷ []
@@ -31,7 +32,7 @@ numbers_parted (n ∷ ns) some short = parted_joined 44 (decimal n) (map decimal
 
 pub shorts_injective : (ms ns : List ℕ) → AreShort ms → AreShort ns → map decimal ms ≡ map decimal ns → ms ≡ ns
 shorts_injective ms ns a b h =
-    texts_injective decimal (λ n. n < 2 ^ 32) ms ns (λ m n small other e. decimal_injective m n (omega arith) (omega arith) e) a b h
+    map-injective decimal (λ n. n < 2 ^ 32) ms ns (λ m n small other e. decimal_injective m n (omega arith) (omega arith) e) a b h
 
 -- the bytes are the text of a move with numbers
 pub record IsNamed (m : Move) (bs : List ℕ) : Type 0 where
@@ -56,34 +57,33 @@ move_cases (SwapNurses k a b) bs short is = inr (record { parts = ap (parted 58)
 -- ---- a move that was made of a name and numbers
 
 -- the text and the numbers are those of the move
-pub record Spells (name ns : List ℕ) (m : Move) : Type 0 where
-  pub text : named name ns ≡ move_text m
-  pub numbers : move_numbers m ≡ ns
+abbrev Spells : List ℕ → List ℕ → Move → Type 0
+Spells = IsSpelled named move_text move_numbers
 
 of_one : (name : List ℕ) (a : ℕ) → spelled_by Spells name (a ∷ []) (move_of_one name a)
 unfolding move_text
-of_one name a = choice Spells name (codes "withdraw") (a ∷ []) (Withdraw (record { 0 = a })) None (record { text = refl; numbers = refl }) tt
+of_one name a = choice Spells name (codes "withdraw") (a ∷ []) (Withdraw (record { 0 = a })) None (record { text_is = refl; numbers_are = refl }) tt
 
 of_two : (name : List ℕ) (a b : ℕ) → spelled_by Spells name (a ∷ b ∷ []) (move_of_two name a b)
 unfolding move_text
 of_two name a b =
-    choice Spells name (codes "setday") (a ∷ b ∷ []) (SetDay (record { 0 = a }) (record { 0 = b })) _ (record { text = refl; numbers = refl })
-    (choice Spells name (codes "setroom") (a ∷ b ∷ []) (SetRoom (record { 0 = a }) (record { 0 = b })) _ (record { text = refl; numbers = refl })
-    (choice Spells name (codes "settheatre") (a ∷ b ∷ []) (SetTheatre (record { 0 = a }) (record { 0 = b })) _ (record { text = refl; numbers = refl })
-    (choice Spells name (codes "swaprooms") (a ∷ b ∷ []) (SwapRooms (record { 0 = a }) (record { 0 = b })) None (record { text = refl; numbers = refl }) tt)))
+    choice Spells name (codes "setday") (a ∷ b ∷ []) (SetDay (record { 0 = a }) (record { 0 = b })) _ (record { text_is = refl; numbers_are = refl })
+    (choice Spells name (codes "setroom") (a ∷ b ∷ []) (SetRoom (record { 0 = a }) (record { 0 = b })) _ (record { text_is = refl; numbers_are = refl })
+    (choice Spells name (codes "settheatre") (a ∷ b ∷ []) (SetTheatre (record { 0 = a }) (record { 0 = b })) _ (record { text_is = refl; numbers_are = refl })
+    (choice Spells name (codes "swaprooms") (a ∷ b ∷ []) (SwapRooms (record { 0 = a }) (record { 0 = b })) None (record { text_is = refl; numbers_are = refl }) tt)))
 
 of_three : (name : List ℕ) (a b c : ℕ) → spelled_by Spells name (a ∷ b ∷ c ∷ []) (move_of_three name a b c)
 unfolding move_text
 of_three name a b c =
-    choice Spells name (codes "nurse") (a ∷ b ∷ c ∷ []) (Nurse (record { 0 = a }) (record { 0 = b }) (record { 0 = c })) _ (record { text = refl; numbers = refl })
-    (choice Spells name (codes "swapnurses") (a ∷ b ∷ c ∷ []) (SwapNurses (record { 0 = a }) (record { 0 = b }) (record { 0 = c })) None (record { text = refl; numbers = refl }) tt)
+    choice Spells name (codes "nurse") (a ∷ b ∷ c ∷ []) (Nurse (record { 0 = a }) (record { 0 = b }) (record { 0 = c })) _ (record { text_is = refl; numbers_are = refl })
+    (choice Spells name (codes "swapnurses") (a ∷ b ∷ c ∷ []) (SwapNurses (record { 0 = a }) (record { 0 = b }) (record { 0 = c })) None (record { text_is = refl; numbers_are = refl }) tt)
 
 of_four : (name : List ℕ) (a b c d : ℕ) → spelled_by Spells name (a ∷ b ∷ c ∷ d ∷ []) (move_of_four name a b c d)
 unfolding move_text
 of_four name a b c d =
     choice Spells name (codes "place") (a ∷ b ∷ c ∷ d ∷ [])
-    (Place (record { 0 = a }) (record { day = record { 0 = b }; room = record { 0 = c }; theatre = record { 0 = d } })) _ (record { text = refl; numbers = refl })
-    (choice Spells name (codes "nurserun") (a ∷ b ∷ c ∷ d ∷ []) (NurseRun (record { 0 = a }) (record { 0 = b }) (record { 0 = c }) d) None (record { text = refl; numbers = refl }) tt)
+    (Place (record { 0 = a }) (record { day = record { 0 = b }; room = record { 0 = c }; theatre = record { 0 = d } })) _ (record { text_is = refl; numbers_are = refl })
+    (choice Spells name (codes "nurserun") (a ∷ b ∷ c ∷ d ∷ []) (NurseRun (record { 0 = a }) (record { 0 = b }) (record { 0 = c }) d) None (record { text_is = refl; numbers_are = refl }) tt)
 
 -- what a name and numbers give has their text
 pub move_spelled : (name ns : List ℕ) → spelled_by Spells name ns (move_named name ns)
@@ -97,12 +97,6 @@ move_spelled name ns =
 
 -- ---- bytes that were cut at a colon and then read as numbers
 
--- the bytes are parted as a name and numbers
-pub record IsCut (bs name rest ns : List ℕ) : Type 0 where
-  pub cut : parted 58 bs ≡ name ∷ parted 58 rest
-  pub read : parted 44 rest ≡ map decimal ns
-  pub short : AreShort ns
-
 -- the rest behind a name's colon is the text of the move's numbers
 pub rest_of : (m : Move) (bs name rest : List ℕ) → IsNamed m bs → parted 58 bs ≡ name ∷ parted 58 rest → (name ≡ move_name m) × (rest ≡ numbers (move_numbers m))
 rest_of m bs name rest is cut =
@@ -111,27 +105,24 @@ rest_of m bs name rest is cut =
     (cc, parted_text 58 rest (numbers (move_numbers m) ∷ []) tail)
 
 -- the move whose text the bytes are is read
-pub move_read : (m : Move) (bs name rest ns : List ℕ) → AreShort (move_numbers m) → IsNamed m bs → IsCut bs name rest ns → move_named name ns ≡ Some m
+pub move_read : (m : Move) (bs name rest ns : List ℕ) → AreShort (move_numbers m) → IsNamed m bs → IsCut 58 44 bs name rest ns → move_named name ns ≡ Some m
 move_read m bs name rest ns short is cut =
     let parts = rest_of m bs name rest is cut.cut in
     let texts = sym cut.read ∙ ap (parted 44) parts.1 ∙ numbers_parted (move_numbers m) is.some short in
     let same = shorts_injective ns (move_numbers m) cut.short short texts in
     rw (parts.0, same) is.made
 
-cut_text : (bs name rest ns : List ℕ) → IsCut bs name rest ns → bs ≡ named name ns
+cut_text : (bs name rest ns : List ℕ) → IsCut 58 44 bs name rest ns → bs ≡ named name ns
 cut_text bs name rest ns cut =
     cut_joined 58 bs name rest cut.cut ∙ ap (λ (r : List ℕ). name ++ (58 ∷ r)) (parted_text 44 rest (map decimal ns) cut.read)
 
 -- what is read has the bytes as its text
-pub read_some : (bs name rest ns : List ℕ) → IsCut bs name rest ns → IfSome (move_named name ns) (λ m. (bs ≡ move_text m) × AreShort (move_numbers m))
-read_some bs name rest ns cut = by_spelling (move_named name ns) (move_spelled name ns)
-  where
-    by_spelling : (r : Option Move) → spelled_by Spells name ns r → IfSome r (λ m. (bs ≡ move_text m) × AreShort (move_numbers m))
-    by_spelling None h = tt
-    by_spelling (Some m) h = (cut_text bs name rest ns cut ∙ h.text, rw h.numbers cut.short)
+pub read_some : (bs name rest ns : List ℕ) → IsCut 58 44 bs name rest ns → IfSome (move_named name ns) (λ m. (bs ≡ move_text m) × AreShort (move_numbers m))
+read_some bs name rest ns cut =
+    some_where named move_text move_numbers (move_named name ns) bs name ns (cut_text bs name rest ns cut) cut.short (move_spelled name ns)
 
 -- nothing is read only of bytes that are the text of no move
-pub read_none : (bs name rest ns : List ℕ) → (bs ≡ codes "idle" → ⊥) → IsCut bs name rest ns
+pub read_none : (bs name rest ns : List ℕ) → (bs ≡ codes "idle" → ⊥) → IsCut 58 44 bs name rest ns
     → IfNone (move_named name ns) ((m : Move) → AreShort (move_numbers m) → bs ≡ move_text m → ⊥)
 read_none bs name rest ns not_idle cut = none_where (move_named name ns) (λ m. AreShort (move_numbers m)) (λ m. bs ≡ move_text m) each
   where

@@ -14,7 +14,8 @@ use Rattle.ih_tables.specs.Bills.{AreWithin}
 use Rattle.ih_journal.specs.Texts.{price_text}
 use Rattle.ih_journal.specs.Grammar.{parted, IsPrice}
 use Rattle.ih_journal.specs.Pieces.{IsSmall}
-use Rattle.ih_journal.proofs.Lacking.{parted_joined, parted_text, signed_lack, comma, texts_injective}
+use Rattle.ih_journal.proofs.Mapped.{map-injective}
+use Rattle.ih_journal.proofs.Lacking.{parted_joined, parted_text, signed_lack, comma}
 
 -- the seventeen numbers of a price
 abbrev pub all_of : Bill → List ℤ
@@ -75,7 +76,7 @@ pub prices_differ : (a b : Bill) → IsPrice a → IsPrice b → price_text a �
 prices_differ a b price_a price_b h =
     let w = price_priced a (price_text a) price_a refl in
     let x = price_priced b (price_text a) price_b h in
-    let same = texts_injective signed_decimal IsSmall (all_of a) (all_of b) small_signed w.small x.small (sym w.parts ∙ x.parts) in
+    let same = map-injective signed_decimal IsSmall (all_of a) (all_of b) small_signed w.small x.small (sym w.parts ∙ x.parts) in
     let counts : a.v ≡ b.v = sym (front_of 9 a.v a.s price_a.counts) ∙ ap (take 9) same ∙ front_of 9 b.v b.s price_b.counts in
     let costs : a.s ≡ b.s = sym (back_of 9 a.v a.s price_a.counts) ∙ ap (drop 9) same ∙ back_of 9 b.v b.s price_b.counts in
     ap2 counts costs

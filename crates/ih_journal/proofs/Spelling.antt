@@ -1,8 +1,10 @@
 -- Values that are made of a name and numbers, by choices between names.
-use Rattle.std.proofs.Common.{◌≡◌, ℕ, sym, arith, Bool, true, false, cond, List, [], ◌∷◌, length, Option, Some, None, subst, refl}
-use Rattle.std.specs.Prelude.{IfNone, slice_index}
+use Rattle.std.proofs.Common.{◌≡◌, ℕ, sym, arith, Bool, true, false, cond, List, [], ◌∷◌, map, length, decimal, Option, Some, None, subst, refl, ◌∙◌}
+use Rattle.std.specs.Prelude.{IfNone, IfSome, slice_index}
 use Rattle.std.specs.Str.{bytes_eq}
 use Rattle.std.proofs.lemmas.Slice.Eq.{bytes_eq-Decides}
+use Rattle.ih_journal.specs.Grammar.{parted}
+use Rattle.ih_journal.specs.Names.{AreShort}
 
 -- what was made of a name and numbers, if anything, is spelled by them
 abbrev pub spelled_by : {A : Type 0} → (List ℕ → List ℕ → A → Type 0) → List ℕ → List ℕ → Option A → Type 0
@@ -51,6 +53,23 @@ four (a ∷ b ∷ []) h = absurd (omega arith)
 four (a ∷ b ∷ c ∷ []) h = absurd (omega arith)
 four (a ∷ b ∷ c ∷ d ∷ []) h = refl
 four (a ∷ b ∷ c ∷ d ∷ e ∷ r) h = absurd (omega arith)
+
+-- the text and the numbers are those of the value
+pub record IsSpelled {A : Type 0} (spell : List ℕ → List ℕ → List ℕ) (text numbers : A → List ℕ) (name ns : List ℕ) (x : A) : Type 0 where
+  pub text_is : spell name ns ≡ text x
+  pub numbers_are : numbers x ≡ ns
+
+-- the bytes are parted as a name and numbers: it stands between the name and the numbers, and that between numbers
+pub record IsCut (it that : ℕ) (bs name rest ns : List ℕ) : Type 0 where
+  pub cut : parted it bs ≡ name ∷ parted it rest
+  pub read : parted that rest ≡ map decimal ns
+  pub short : AreShort ns
+
+-- what is read of bytes that spell it has them as its text
+pub some_where : {A : Type 0} (spell : List ℕ → List ℕ → List ℕ) (text numbers : A → List ℕ) (r : Option A) (bs name ns : List ℕ)
+    → bs ≡ spell name ns → AreShort ns → spelled_by (IsSpelled spell text numbers) name ns r → IfSome r (λ x. (bs ≡ text x) × AreShort (numbers x))
+some_where spell text numbers None bs name ns is short h = tt
+some_where spell text numbers (Some x) bs name ns is short h = (is ∙ h.text_is, rw h.numbers_are short)
 
 -- nothing is there only where nothing may be
 pub none_where : {A : Type 0} (r : Option A) (P Q : A → Type 0) → ((m : A) → P m → Q m → r ≡ Some m) → IfNone r ((m : A) → P m → Q m → ⊥)
