@@ -31,7 +31,7 @@ use Rattle.ih_journal.proofs.Growth.{plan_at-plan, take-get}
 use Rattle.ih_journal.proofs.InRange.{limits}
 use Rattle.ih_journal.proofs.Mapped.{get-mapped}
 use Rattle.ih_journal.proofs.JournalTexts.{journals-differ}
-use Rattle.ih_journal.proofs.TextLengths.{IsShortEntry, IsShortPrice, IsShortVerdict, journal-length}
+use Rattle.ih_journal.proofs.TextLengths.{IsShortPrice, IsShortTried, IsShortVerdict, journal-length}
 use Rattle.ih_cellbook.specs.Keeping.{IsBase}
 use Rattle.ih_cellbook.specs.Laws.{IsSearchBase, LegalHistoriesAreInRange, LegalJournalsAreShort, JournalsTellSearchesApart}
 use Rattle.ih_cellbook.specs.Legal.{AreLegalButDraws}
@@ -46,18 +46,7 @@ verdict-of I Declined h = tt
 verdict-of I Frozen h = tt
 verdict-of I (Stale c seen place) h = (h.0, (let less = h.1 in omega (arith, less)), (let less = h.2 in omega (arith, less)))
 
--- the numbers of what is tried are short, and what it names is in range, whatever number of moves it has
-pub record IsShortTried (I : Draft) (k : ℕ) (e : Tried) : Type 0 where
-  pub place : k < 10 ^ 7
-  pub worker : e.worker < 10 ^ 2
-  pub number : e.number < 10 ^ 7
-  pub again : e.again < 10
-  pub seen : e.seen < 10 ^ 7
-  pub move : AreMoves I e.moves
-  pub price : IsShortPrice e.price
-  pub verdict : IsShortVerdict I e.verdict
-
--- they are those of an entry of a journal, whatever number of moves it has
+-- what is tried is as an entry of a journal, whatever number of moves it has
 pub record IsTriedOf (I : Draft) (o : Options) (e : Tried) : Type 0 where
   pub worker : e.worker < 2 ^ 32
   pub number : e.number < 2 ^ 32
@@ -191,18 +180,6 @@ each-short b H search legal k e there =
 
 -- ---- a history of single moves
 
-entry-short : (I : Draft) (k : ℕ) (e : Entry) → IsShortTried I k (tried e) → IsShortEntry I k e
-entry-short I k e h = record {
-  place = h.place;
-  worker = h.worker;
-  number = h.number;
-  again = h.again;
-  seen = h.seen;
-  move = h.move.0;
-  price = h.price;
-  verdict = h.verdict;
-}
-
 pub entry-of : (I : Draft) (o : Options) (e : Entry) → IsTriedOf I o (tried e) → IsEntryOf I o e
 entry-of I o e h = record {
   worker = h.worker;
@@ -238,4 +215,4 @@ two-journals b c H G one other same legal_H legal_G text =
 pub journals-short : LegalJournalsAreShort
 journals-short b H search legal =
     journal-length b.instance b.options H (limits b.instance search.valid) search.base.lawful search.seed
-    (λ k e there. entry-short b.instance k e (each-short b (tries H) search legal k (tried e) (get-mapped tried H k e there)))
+    (λ k e there. each-short b (tries H) search legal k (tried e) (get-mapped tried H k e there))

@@ -15,9 +15,9 @@ use Rattle.ih_journal.specs.Settings.{IsLawful}
 use Rattle.ih_journal.specs.Texts.{ended, move_text, option_text, price_text, verdict_text}
 use Rattle.ih_journal.proofs.InRange.{IsLimited, limits}
 use Rattle.ih_journal.proofs.Mapped.{get-mapped}
-use Rattle.ih_journal.proofs.TextLengths.{ended-length, hard-length, heat-length, joined-length, move-length, moves-length, number2, option-length, price-length, seed-length, verdict-length, workers-length}
+use Rattle.ih_journal.proofs.TextLengths.{IsShortTried, ended-length, hard-length, heat-length, joined-length, move-length, moves-length, number2, option-length, price-length, seed-length, verdict-length, workers-length}
 use Rattle.ih_cellbook.specs.Laws.{IsSearchBase}
-use Rattle.ih_cellbook.proofs.Ranges.{IsShortTried, each-short}
+use Rattle.ih_cellbook.proofs.Ranges.{each-short}
 use Rattle.ih_chain.specs.declared.entries.ChainEntry.{ChainEntry}
 use Rattle.ih_chain.specs.Entries.{chain_tried, chain_tries}
 use Rattle.ih_chain.specs.Laws.{ChainJournalsAreShort}

@@ -2,6 +2,7 @@
 use Rattle.std.proofs.Common.{◌≡◌, ℕ, zero, suc, ◌+◌, ◌<◌, ◌≤◌, refl, sym, ap, ◌∙◌, arith, subst, inl, inr, Bool, true, false, List, [], ◌∷◌, ◌++◌, length, length-append, take, drop, Option, Some, None}
 use Rattle.std.specs.Prelude.{◌&&◌, ◌⊎◌, ◌==◌, if◌then◌else◌, slice_get, find, int_lt}
 use Rattle.std.specs.List.{range_with_len}
+use Rattle.std.proofs.Math.Bool.{and-true}
 use Rattle.std.proofs.Math.Seq.{take-append_seam}
 use Rattle.std.proofs.lemmas.List.{take-append-le, take_all, drop_all}
 use Rattle.std.proofs.lemmas.Bool.{cases_eq, eq-eqb, ne_eqb}
@@ -134,7 +135,7 @@ pub has_made-all : (b : Base) (H : List Tried) (w : ℕ) → HasMade b.options H
 unfolding is_done
 has_made-all b H w made = made.done ∙ eq-eqb b.options.moves b.options.moves refl
 
-same-test : (m n : ℕ) → (m == n) ≡ (n == m)
+pub same-test : (m n : ℕ) → (m == n) ≡ (n == m)
 same-test m n = elim (cases_eq m n) [
   | inl same ↦ rw (eq-eqb m n same, eq-eqb n m (sym same)) refl
   | inr other ↦ rw (ne_eqb m n other, ne_eqb n m (λ e. other (sym e))) refl
@@ -148,10 +149,6 @@ has_made-own b H e w i own number fresh h =
       attempt = rw (last, fresh, number) refl;
       done = rw (last, some, fresh, number) (and-true (i + 1 == b.options.moves) ∙ same-test (i + 1) b.options.moves);
     }
-  where
-    and-true : (t : Bool) → (t && true) ≡ t
-    and-true true = refl
-    and-true false = refl
 
 -- a worker with a next attempt isn't done, and the attempt is what follows its last entry
 pub attempt-parts : (o : Options) (G : List Tried) (w : ℕ) (a : Attempt) → next_attempt o G w ≡ Some a → (is_done o G w ≡ false) × (attempt_after o (last_by w G) ≡ a)

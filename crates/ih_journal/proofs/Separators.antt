@@ -29,11 +29,11 @@ signed-joined x xs ys =
 
 -- ---- the first separator
 
-at_some : (b : Bool) (x i : ℕ) → cond b (Some x) None ≡ Some i → (b ≡ true) × (x ≡ i)
+pub at_some : (b : Bool) (x i : ℕ) → cond b (Some x) None ≡ Some i → (b ≡ true) × (x ≡ i)
 at_some true x i h = let same : Some x ≡ Some i = h in (refl, cc)
 at_some false x i h = absurd (let no : None ≡ Some i = h in cc)
 
-at_none : (b : Bool) (x : ℕ) → cond b (Some x) None ≡ None → b ≡ false
+pub at_none : (b : Bool) (x : ℕ) → cond b (Some x) None ≡ None → b ≡ false
 at_none true x h = absurd (let no : Some x ≡ None = h in cc)
 at_none false x h = refl
 

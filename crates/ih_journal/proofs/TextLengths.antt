@@ -13,6 +13,8 @@ use Rattle.ih_plan.specs.declared.moves.Move.{Move}
 use Rattle.ih_plan.specs.declared.moves.Move.TheVariants.{Idle, Place, Withdraw, SetDay, SetRoom, SetTheatre, SwapRooms, Nurse, NurseRun, SwapNurses}
 use Rattle.ih_plan.specs.Expand.{IsMoveOf}
 use Rattle.ih_plan.specs.Cells.{IsCellOf}
+use Rattle.ih_plan.specs.Series.{AreMoves}
+use Rattle.ih_journal.specs.Tried.{Tried, tried}
 use Rattle.ih_journal.specs.declared.settings.Options.{Options}
 use Rattle.ih_journal.specs.declared.entries.Entry.{Entry}
 use Rattle.ih_journal.specs.declared.entries.Verdict.{Verdict}
@@ -149,18 +151,19 @@ IsShortPrice b = Fit price_widths (map signed_decimal (b.v ++ b.s))
 pub price-length : (b : Bill) → IsShortPrice b → length (price_text b) ≤ 154
 price-length b h = let all = joined-length 44 price_widths (map signed_decimal (b.v ++ b.s)) h in omega (arith, all)
 
-pub record IsShortEntry (I : Draft) (k : ℕ) (e : Entry) : Type 0 where
+-- the numbers of what is tried are short, and what it names is in range, whatever number of moves it has
+pub record IsShortTried (I : Draft) (k : ℕ) (e : Tried) : Type 0 where
   pub place : k < 10 ^ 7
   pub worker : e.worker < 10 ^ 2
   pub number : e.number < 10 ^ 7
   pub again : e.again < 10
   pub seen : e.seen < 10 ^ 7
-  pub move : IsMoveOf I e.mv
+  pub move : AreMoves I e.moves
   pub price : IsShortPrice e.price
   pub verdict : IsShortVerdict I e.verdict
 
 -- the line of such an entry, without its line feed
-line-length : (I : Draft) (o : Options) (k : ℕ) (e : Entry) → IsLimited I → IsShortEntry I k e → length (line_text o k e) ≤ 255
+line-length : (I : Draft) (o : Options) (k : ℕ) (e : Entry) → IsLimited I → IsShortTried I k (tried e) → length (line_text o k e) ≤ 255
 unfolding fields
 line-length I o k e l short = by_form o.retries
   where
@@ -178,7 +181,7 @@ line-length I o k e l short = by_form o.retries
     by_form zero =
         let all = joined-length 32 (7 ∷ 2 ∷ 7 ∷ 7 ∷ 28 ∷ 154 ∷ 42 ∷ [])
         (decimal k ∷ decimal e.worker ∷ decimal e.number ∷ decimal e.seen ∷ move_text e.mv ∷ price_text e.price ∷ verdict_text e.verdict ∷ [])
-        (number7 k short.place, (two, (number7 e.number short.number, (number7 e.seen short.seen, (move-length I e.mv l short.move, (price, (verdict-length I e.verdict l short.verdict, tt))))))) in
+        (number7 k short.place, (two, (number7 e.number short.number, (number7 e.seen short.seen, (move-length I e.mv l short.move.0, (price, (verdict-length I e.verdict l short.verdict, tt))))))) in
         omega (arith, all)
     by_form (suc r) =
         let all = joined-length 32 (7 ∷ 2 ∷ 7 ∷ 1 ∷ 7 ∷ 28 ∷ 154 ∷ 42 ∷ [])
@@ -188,7 +191,7 @@ line-length I o k e l short = by_form o.retries
             two,
             (
               number7 e.number short.number,
-              (one, (number7 e.seen short.seen, (move-length I e.mv l short.move, (price, (verdict-length I e.verdict l short.verdict, tt))))),
+              (one, (number7 e.seen short.seen, (move-length I e.mv l short.move.0, (price, (verdict-length I e.verdict l short.verdict, tt))))),
             ),
           ),
         ) in
@@ -199,7 +202,7 @@ line-length I o k e l short = by_form o.retries
 pub ended-length : (text : List ℕ) → length (ended text) ≡ length text + 1
 ended-length text = length-append text (10 ∷ [])
 
-pub lines-length : (I : Draft) (o : Options) (k : ℕ) (H : List Entry) → IsLimited I → ((j : ℕ) (e : Entry) → slice_get H j ≡ Some e → IsShortEntry I (k + j) e)
+pub lines-length : (I : Draft) (o : Options) (k : ℕ) (H : List Entry) → IsLimited I → ((j : ℕ) (e : Entry) → slice_get H j ≡ Some e → IsShortTried I (k + j) (tried e))
     → length (lines_from o k H) ≤ 256 * length H
 unfolding lines_from
 lines-length I o k [] l short = omega arith
@@ -217,34 +220,25 @@ option-length name w n some h small =
     let all = length-append name (61 ∷ decimal n) in
     omega (arith, number, all)
 
+seven-digits : (name : List ℕ) (n : ℕ) → n < 10 ^ 7 → length (option_text name n) ≤ length name + 8
+seven-digits name n small = option-length name 7 n (omega arith) small (omega (arith, small))
+
 -- the options of a heading
 module _ (o : Options) (lawful : IsLawful o) (seed : o.seed < 2 ^ 64) where
   pub seed-length : length (option_text (codes "seed") o.seed) ≤ 25
   seed-length = let n = option-length (codes "seed") 20 o.seed (omega arith) (omega (arith, seed)) seed in omega (arith, n)
 
   pub workers-length : length (option_text (codes "workers") o.workers) ≤ 15
-  workers-length =
-      let most = lawful.workers in
-      let n = option-length (codes "workers") 7 o.workers (omega arith) (omega (arith, most)) (omega (arith, most)) in
-      omega (arith, n)
+  workers-length = let n = seven-digits (codes "workers") o.workers (let most = lawful.workers in omega (arith, most)) in omega (arith, n)
 
   pub moves-length : length (option_text (codes "moves") o.moves) ≤ 13
-  moves-length =
-      let most = lawful.moves in
-      let n = option-length (codes "moves") 7 o.moves (omega arith) (omega (arith, most)) (omega (arith, most)) in
-      omega (arith, n)
+  moves-length = let n = seven-digits (codes "moves") o.moves (let most = lawful.moves in omega (arith, most)) in omega (arith, n)
 
   pub heat-length : length (option_text (codes "heat") o.heat) ≤ 12
-  heat-length =
-      let most = lawful.heat in
-      let n = option-length (codes "heat") 7 o.heat (omega arith) (omega (arith, most)) (omega (arith, most)) in
-      omega (arith, n)
+  heat-length = let n = seven-digits (codes "heat") o.heat (let most = lawful.heat in omega (arith, most)) in omega (arith, n)
 
   pub hard-length : length (option_text (codes "hard") o.hard) ≤ 12
-  hard-length =
-      let most = lawful.hard in
-      let n = option-length (codes "hard") 7 o.hard (omega arith) (omega (arith, most)) (omega (arith, most)) in
-      omega (arith, n)
+  hard-length = let n = seven-digits (codes "hard") o.hard (let most = lawful.hard in omega (arith, most)) in omega (arith, n)
 
 heading-length : (o : Options) → IsLawful o → o.seed < 2 ^ 64 → length (heading o) ≤ 127
 unfolding heading
@@ -288,7 +282,7 @@ heading-length o lawful seed = by_form o.retries lawful.retries
 
 -- the journal of a search's options and its entries
 pub journal-length : (I : Draft) (o : Options) (H : List Entry) → IsLimited I → IsLawful o → o.seed < 2 ^ 64
-    → ((j : ℕ) (e : Entry) → slice_get H j ≡ Some e → IsShortEntry I j e) → length (journal o H) ≤ 128 + 256 * length H
+    → ((j : ℕ) (e : Entry) → slice_get H j ≡ Some e → IsShortTried I j (tried e)) → length (journal o H) ≤ 128 + 256 * length H
 journal-length I o H l lawful seed short =
     let first = heading-length o lawful seed in
     let end = ended-length (heading o) in
