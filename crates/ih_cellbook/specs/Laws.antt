@@ -22,8 +22,8 @@ HasNoneBy w es = (k : ℕ) (e : Tried) → slice_get es k ≡ Some e → e.worke
 abbrev pub RightOffersStayRight : Type 0
 RightOffersStayRight = (b : Base) (H es : List Tried) (o : Offered) → IsRightOffer b H o → HasNoneBy o.worker es → IsRightOffer b (H ++ es) o
 
--- A legal history has at most one entry for each try of each attempt of each worker, and fewer where some worker isn't
--- done.
+-- A history that is legal but for its draws has at most one entry for each try of each attempt of each worker, and
+-- fewer where some worker isn't done.
 pub record AreFew (b : Base) (H : List Tried) : Type 0 where
   pub most : length H ≤ most_entries b.options
   pub fewer : (w : ℕ) → w < b.options.workers → is_done b.options H w ≡ false → length H < most_entries b.options
