@@ -15,6 +15,7 @@ use Rattle.ih_plan.specs.Timetable.{Timetable, IsPlanOf}
 use Rattle.ih_plan.specs.BillOf.{bill_of, change_of_bill}
 use Rattle.ih_plan.specs.Sums.{bit}
 use Rattle.ih_plan.specs.Cells.{cell_at, cell_count}
+use Rattle.ih_plan.proofs.ChangeSums.{at-by_place}
 use Rattle.ih_plan.proofs.BillBounds.{bill-within, change-within}
 use Rattle.ih_plan.proofs.ChangeSums.{at-by_place}
 use Rattle.ih_plan.proofs.ListedBelow.{has}
