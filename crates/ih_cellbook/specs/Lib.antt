@@ -9,5 +9,6 @@ pub mod Offered
 pub mod Offers
 pub mod Recorded
 pub mod Replicas
+pub mod Singles
 pub mod Snapshot
 pub mod Told

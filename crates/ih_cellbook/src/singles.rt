@@ -65,11 +65,11 @@ impl Attempted for Move {
 }
 
 impl Offers for Offer {
-    ghost use Rattle.std.specs.Prelude.{[], ◌∷◌};
+    ghost use Rattle.ih_cellbook.specs.Singles.{offered_of};
 
     type Attempt = Move;
 
-    ghost offered = { λ o. record { worker = o.worker; number = o.number; seen = o.seen; moves = o.mv ∷ []; price = o.price; reads = o.reads; frozen = o.frozen } };
+    ghost offered = { offered_of };
 
     fn blank(alloc: Global, worker: u32, cells: u32) -> Result<Offer, AllocError> {
         Ok(Offer {
@@ -140,8 +140,8 @@ impl Offers for Offer {
 }
 
 impl Logged for Entry {
-    ghost use Rattle.std.specs.Prelude.{[], ◌∷◌};
     ghost use Rattle.ih_journal.specs.declared.settings.TheConstants.{MAX_RETRIES};
+    ghost use Rattle.ih_journal.specs.Tried.{tried};
 
     type Attempt = Move;
 
@@ -149,7 +149,7 @@ impl Logged for Entry {
 
     ghost most_retries = { MAX_RETRIES };
 
-    ghost tried = { λ e. record { worker = e.worker; number = e.number; again = e.again; seen = e.seen; moves = e.mv ∷ []; price = e.price; verdict = e.verdict } };
+    ghost tried = { tried };
 
     fn blank() -> Entry {
         Entry {

@@ -13,6 +13,7 @@ use Rattle.ih_journal.specs.Base.{Base}
 use Rattle.ih_journal.specs.History.{plan_at}
 use Rattle.ih_journal.proofs.Mapped.{attempt-one}
 use Rattle.ih_journal.specs.Legal.{IsLegal, verdict_on}
+use Rattle.ih_cellbook.specs.Singles.{offered_of}
 use Rattle.ih_cellbook.specs.declared.offers.Offer.{Offer}
 use Rattle.ih_cellbook.specs.Offered.{Offered}
 use Rattle.ih_cellbook.specs.Laws.{HasNoneBy}
@@ -40,18 +41,6 @@ legal-of b H e fits all = record {
 }
 
 -- ---- the offer
-
--- what an offer of one move stands for
-abbrev pub offered-of : Offer → Offered
-offered-of o = record {
-  worker = o.worker;
-  number = o.number;
-  seen = o.seen;
-  moves = o.mv ∷ [];
-  price = o.price;
-  reads = o.reads;
-  frozen = o.frozen;
-}
 
 get-behind : (H : List Tried) (n k : ℕ) → slice_get (drop n H) k ≡ slice_get H (n + k)
 get-behind H zero k = let same : k ≡ 0 + k = omega arith in ap (slice_get H) same

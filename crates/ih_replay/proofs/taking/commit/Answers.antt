@@ -2,20 +2,21 @@ use Rattle.std.proofs.Common.{◌∙◌, ap, refl, sym, subst, [], ◌∷◌, �
 use Rattle.ih_journal.specs.declared.refusals.Reason.TheVariants.{Price, Verdict}
 use Rattle.ih_cellbook.specs.Replicas.{IsReplicaIn}
 use Rattle.ih_cellbook.proofs.Within.{stands-behind, stands-same}
-use Rattle.ih_replay.proofs.Offering.{entry-is, follow-is, offered-of, price-is, right-is}
+use Rattle.ih_cellbook.specs.Singles.{offered_of}
+use Rattle.ih_replay.proofs.Offering.{entry-is, follow-is, price-is, right-is}
 use Rattle.ih_replay.proofs.taking.commit.Goals as goal
 
 pub judge-requires : goal.judge-requires
 judge-requires c =
     let v = c.args.book.now in
     right-is v.base v.entries c.args.replica.now c.requires.replica c.args.entry.now
-    (offered-of c.price-offer.result.now) c.price-offer.ensures.offer c.requires.seen c.requires.own c.requires.fits c.price-offer.ensures.right
+    (offered_of c.price-offer.result.now) c.price-offer.ensures.offer c.requires.seen c.requires.own c.requires.fits c.price-offer.ensures.right
 
 pub commit-requires : goal.commit-requires
 commit-requires c =
     let v = c.args.book.now in
     right-is v.base v.entries c.args.replica.now c.requires.replica c.args.entry.now
-    (offered-of c.price-offer.result.now) c.price-offer.ensures.offer c.requires.seen c.requires.own c.requires.fits c.price-offer.ensures.right
+    (offered_of c.price-offer.result.now) c.price-offer.ensures.offer c.requires.seen c.requires.own c.requires.fits c.price-offer.ensures.right
 
 pub returns-then-not-is_same_price-clause-replica : goal.returns-then-not-is_same_price-clause-replica
 returns-then-not-is_same_price-clause-replica c =
@@ -39,14 +40,14 @@ pub returns-then-not-is_same_price-clause-err : goal.returns-then-not-is_same_pr
 returns-then-not-is_same_price-clause-err c =
     let v = c.args.book.now in
     let price = price-is v.base v.entries c.args.replica.now c.requires.replica c.args.entry.now
-    (offered-of c.price-offer.result.now) c.price-offer.ensures.offer c.requires.seen c.requires.own c.requires.fits in
+    (offered_of c.price-offer.result.now) c.price-offer.ensures.offer c.requires.seen c.requires.own c.requires.fits in
     record { earlier = []; later = Verdict ∷ []; listed = refl; passed = tt; fails = λ is. c.if-not-is_same_price.ensures.no refl (price ∙ sym is) }
 
 pub returns-then-not-is_same_verdict-clause-err : goal.returns-then-not-is_same_verdict-clause-err
 returns-then-not-is_same_verdict-clause-err c =
     let v = c.args.book.now in
     let both = follow-is v.base v.entries c.args.replica.now c.requires.replica c.args.entry.now
-    (offered-of c.price-offer.result.now) c.price-offer.ensures.offer c.requires.seen c.requires.own c.requires.fits
+    (offered_of c.price-offer.result.now) c.price-offer.ensures.offer c.requires.seen c.requires.own c.requires.fits
     c.judge.result (c.if-not-is_same_price.ensures.yes refl) c.judge.ensures in
     record { earlier = Price ∷ []; later = []; listed = refl; passed = (both.0, tt); fails = λ is. c.if-not-is_same_verdict.ensures.no refl (both.1 ∙ sym is) }
 
@@ -54,7 +55,7 @@ pub returns-else-not-is_same_verdict-clause-ok : goal.returns-else-not-is_same_v
 returns-else-not-is_same_verdict-clause-ok c =
     let v = c.args.book.now in
     let both = follow-is v.base v.entries c.args.replica.now c.requires.replica c.args.entry.now
-    (offered-of c.price-offer.result.now) c.price-offer.ensures.offer c.requires.seen c.requires.own c.requires.fits
+    (offered_of c.price-offer.result.now) c.price-offer.ensures.offer c.requires.seen c.requires.own c.requires.fits
     c.judge.result (c.if-not-is_same_price.ensures.yes refl) c.judge.ensures in
     (both.0, (sym (c.if-not-is_same_verdict.ensures.yes refl) ∙ both.1, tt))
 
@@ -64,5 +65,5 @@ returns-else-not-is_same_verdict-clause-added c =
     c.commit.ensures.entries
     ∙ ap (λ e. v.entries ++ e ∷ [])
     (entry-is v.base v.entries c.args.replica.now c.requires.replica c.args.entry.now
-    (offered-of c.price-offer.result.now) c.price-offer.ensures.offer c.requires.seen c.requires.own c.requires.fits
+    (offered_of c.price-offer.result.now) c.price-offer.ensures.offer c.requires.seen c.requires.own c.requires.fits
     c.commit.result (c.commit.ensures.verdict ∙ sym c.judge.ensures ∙ c.if-not-is_same_verdict.ensures.yes refl) (c.if-not-is_same_price.ensures.yes refl))
