@@ -1,6 +1,7 @@
 -- A worker's next attempt: there is one exactly where its number is below the moves.
-use Rattle.std.proofs.Common.{◌≡◌, ℕ, ◌+◌, ◌<◌, ◌≤◌, refl, arith, ap, ◌∙◌, inl, inr, Bool, true, false, List, Option, Some, None}
+use Rattle.std.proofs.Common.{◌≡◌, ℕ, ◌+◌, ◌<◌, ◌≤◌, refl, sym, arith, ap, ◌∙◌, inl, inr, Bool, true, false, List, Option, Some, None}
 use Rattle.std.specs.Prelude.{if◌then◌else◌, ◌&&◌, ◌==◌, not, option_map}
+use Rattle.std.proofs.Math.Bool.{and-false}
 use Rattle.std.proofs.lemmas.Bool.{cases_eq, ne_eqb}
 use Rattle.ih_journal.specs.Tried.{Tried}
 use Rattle.ih_journal.specs.declared.settings.Options.{Options}
@@ -26,11 +27,7 @@ done-most o (Some e) h = elim (cases_eq o.moves 0) [
     by_case : (t : Bool) → ((e.number + 1 == o.moves) && not t) ≡ true
         → o.moves ≤ (let a : Attempt =
         (if t then record { number = e.number; again = e.again + 1 } else record { number = e.number + 1; again = 0 }) in a.number)
-    by_case true h = absurd (and-false (e.number + 1 == o.moves) h)
-      where
-        and-false : (t : Bool) → (t && false) ≡ true → ⊥
-        and-false true h = let no : false ≡ true = h in cc
-        and-false false h = let no : false ≡ true = h in cc
+    by_case true h = absurd (let no : false ≡ true = sym (and-false (e.number + 1 == o.moves)) ∙ h in cc)
     by_case false h = elim (cases_eq (e.number + 1) o.moves) [
       | inl last ↦ omega (arith, last)
       | inr other ↦ absurd (let no : false ≡ true = rw (ne_eqb (e.number + 1) o.moves other) at h in cc)
