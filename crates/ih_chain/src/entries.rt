@@ -42,11 +42,11 @@ pub struct ChainOffer {
 }
 
 impl Offers for ChainOffer {
-    ghost use Rattle.std.specs.Prelude.{false};
+    ghost use Rattle.ih_chain.specs.Entries.{chain_offered};
 
     type Attempt = Chain;
 
-    ghost offered = { λ o. record { worker = o.worker; number = o.number; seen = o.seen; moves = o.moves; price = o.price; reads = o.reads; frozen = false } };
+    ghost offered = { chain_offered };
 
     fn blank(alloc: Global, worker: u32, cells: u32) -> Result<ChainOffer, AllocError> {
         Ok(ChainOffer {
@@ -115,13 +115,15 @@ impl Offers for ChainOffer {
 }
 
 impl Logged for ChainEntry {
+    ghost use Rattle.ih_chain.specs.Entries.{chain_tried};
+
     type Attempt = Chain;
 
     type Offer = ChainOffer;
 
     ghost most_retries = { 0 };
 
-    ghost tried = { λ e. record { worker = e.worker; number = e.number; again = 0; seen = e.seen; moves = e.moves; price = e.price; verdict = e.verdict } };
+    ghost tried = { chain_tried };
 
     fn blank() -> ChainEntry {
         ChainEntry {
