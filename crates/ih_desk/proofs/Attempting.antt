@@ -1,6 +1,7 @@
 -- What comes after a try: the next try of its attempt, or the next attempt.
-use Rattle.std.proofs.Common.{◌≡◌, ℕ, zero, suc, ◌+◌, ◌*◌, ◌<◌, ◌≤◌, sym, ap, ◌∙◌, subst, refl, arith, inl, inr, Bool, true, false, List, [], ◌∷◌, ◌++◌, append_assoc, Option, Some, None}
-use Rattle.std.specs.Prelude.{◌⊎◌, ◌&&◌, ◌==◌, not, slice_get}
+use Rattle.std.proofs.Common.{◌≡◌, ℕ, zero, suc, ◌+◌, ◌*◌, ◌<◌, ◌≤◌, sym, ap, ◌∙◌, subst, refl, arith, inl, inr, true, false, List, [], ◌∷◌, ◌++◌, append_assoc, Option, Some, None}
+use Rattle.std.specs.Prelude.{◌⊎◌, ◌==◌, slice_get}
+use Rattle.std.proofs.Math.Bool.{and-false, and-true}
 use Rattle.std.proofs.lemmas.Bool.{cases_eq, eq-eqb, ne_eqb}
 use Rattle.std.proofs.lemmas.Bool.Decides.{nat_tests}
 use Rattle.std.proofs.lemmas.List.{append-nil}
@@ -12,16 +13,18 @@ use Rattle.ih_journal.specs.declared.settings.Options.{Options}
 use Rattle.ih_journal.specs.Attempts.{Attempt, HasMade, attempt_after, is_done_after, is_retried, is_stale, last_by}
 use Rattle.ih_journal.specs.Base.{Base}
 use Rattle.ih_journal.specs.Legal.{attempt_of}
-use Rattle.ih_journal.proofs.Growth.{last_by-own}
+use Rattle.ih_journal.proofs.Growth.{last_by-own, same-test}
 use Rattle.ih_cellbook.specs.Laws.{HasNoneBy}
 use Rattle.ih_cellbook.specs.Offered.{Offered}
 use Rattle.ih_cellbook.specs.Offers.{entry_of, next_number}
 use Rattle.ih_cellbook.proofs.Staying.{last_by-others}
 use Rattle.ih_cellbook.proofs.LastEntries.{next-is, none-last}
-use Rattle.ih_desk.specs.Histories.{EndsWith, GoesOn}
+use Rattle.ih_turn.specs.Rule.{GoesOn}
+use Rattle.ih_desk.specs.Histories.{EndsWith}
 use Rattle.ih_desk.specs.Finishing.{AreDrawn}
 use Rattle.ih_desk.specs.Progress.{Progress}
 use Rattle.ih_desk.specs.Searchers.{HasAttempted, HasCaughtUp, IsNext, IsWithin}
+use Rattle.ih_desk.proofs.HistoryLemmas.{none_by-others}
 use Rattle.ih_desk.proofs.Full.{drawn-others, get-append, none-both}
 
 -- a searcher that goes on, named by what it was before
@@ -30,6 +33,10 @@ same-within b each earlier w n H x same number within = subst (λ e. IsWithin b 
 
 pub same-caught_up : (b : Base) (each earlier w n : ℕ) (H : List Tried) (x : Progress) → each ≡ earlier → w ≡ n → HasCaughtUp b each w H x → HasCaughtUp b earlier n H x
 same-caught_up b each earlier w n H x same number caught = subst (λ e. HasCaughtUp b e n H x) same (subst (λ v. HasCaughtUp b each v H x) number caught)
+
+pub same-attempted : (o : Options) (w n number : ℕ) (m : List Move) (v : Verdict) (seen H : List Tried) → w ≡ n → HasAttempted o w number m v seen H
+    → HasAttempted o n number m v seen H
+same-attempted o w n number m v seen H same tried = subst (λ x. HasAttempted o x number m v seen H) same tried
 
 -- a worker that isn't done has moves to make
 some-moves : (o : Options) (l : Option Tried) → is_done_after o l ≡ false → (o.moves == 0) ≡ false
@@ -45,20 +52,6 @@ next-begun o H w n made below = record { attempt = made.attempt; not_done = made
 pub next-number : (o : Options) (H : List Tried) (w n again : ℕ) → IsNext o H w n again → next_number o H w ≡ Some n
 next-number o H w n again next = next-is o H w n (last_by w H) refl next.not_done (ap (λ (a : Attempt). a.number) next.attempt)
 
-and-not : (t : Bool) → (t && not true) ≡ false
-and-not true = refl
-and-not false = refl
-
-and-true : (t : Bool) → (t && true) ≡ t
-and-true true = refl
-and-true false = refl
-
-same-test : (m n : ℕ) → (m == n) ≡ (n == m)
-same-test m n = elim (cases_eq m n) [
-  | inl same ↦ rw (eq-eqb m n same, eq-eqb n m (sym same)) refl
-  | inr other ↦ rw (ne_eqb m n other, ne_eqb n m (λ e. other (sym e))) refl
-]
-
 module _ (o : Options) (w n again : ℕ) (m : List Move) (v : Verdict) (seen H : List Tried) (next : IsNext o seen w n again) (tried : HasAttempted o w n m v seen H) where
   last : last_by w H ≡ Some tried.entry
   last = ap (last_by w) tried.history
@@ -73,7 +66,7 @@ module _ (o : Options) (w n again : ℕ) (m : List Move) (v : Verdict) (seen H :
       let retried : is_retried o tried.entry ≡ true = rw (tried.verdict, stale, same-try) (grind (arith, nat_tests)) in
       record {
         attempt = rw (last, retried, tried.number, same-try) refl;
-        not_done = rw (last, some-moves o (last_by w seen) next.not_done, retried) (and-not (tried.entry.number + 1 == o.moves));
+        not_done = rw (last, some-moves o (last_by w seen) next.not_done, retried) (and-false (tried.entry.number + 1 == o.moves));
       }
 
   no-retry : (is_stale v ≡ false) ⊎ (o.retries ≤ again) → is_retried o tried.entry ≡ false
@@ -139,14 +132,14 @@ pub one-later : (i each : ℕ) → i * each + each ≡ (i + 1) * each
 one-later i each = grind arith
 
 -- an attempt, behind which others added more
-pub attempted-later : (o : Options) (w n : ℕ) (m : List Move) (v : Verdict) (H G F : List Tried) → HasAttempted o w n m v H G → GoesOn w G F → HasAttempted o w n m v H F
+pub attempted-later : (o : Options) (w n : ℕ) (m : List Move) (v : Verdict) (H G F : List Tried) → HasAttempted o w n m v H G → GoesOn (λ e. e.worker) w G F → HasAttempted o w n m v H F
 attempted-later o w n m v H G F tried goes = record {
   others = tried.others;
   entry = tried.entry;
   later = tried.later ++ goes.others;
   history = goes.history ∙ (ap (λ X. X ++ goes.others) tried.history ∙ append_assoc ((H ++ tried.others) ++ tried.entry ∷ []) tried.later goes.others);
   none = tried.none;
-  none_later = none-both w tried.later goes.others tried.none_later goes.none;
+  none_later = none-both w tried.later goes.others tried.none_later (none_by-others w goes.others goes.none);
   worker = tried.worker;
   number = tried.number;
   again = tried.again;

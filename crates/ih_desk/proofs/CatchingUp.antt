@@ -1,7 +1,8 @@
 -- A searcher that looks: how far it is then in the history.
-use Rattle.std.proofs.Common.{◌≡◌, ℕ, zero, suc, ◌+◌, ◌<◌, ◌≤◌, sym, ap, ◌∙◌, subst, refl, arith, List, [], ◌∷◌, ◌++◌, append_assoc, length, length-append, take, drop, None, Some}
+use Rattle.std.proofs.Common.{◌≡◌, ◌≢◌, ℕ, zero, suc, ◌+◌, ◌<◌, ◌≤◌, sym, ap, ◌∙◌, subst, refl, arith, List, [], ◌∷◌, ◌++◌, append_assoc, length, length-append, take, drop}
 use Rattle.std.specs.Prelude.{slice_get}
 use Rattle.std.proofs.lemmas.List.{append-nil}
+use Rattle.std.proofs.lemmas.List.Elements.{All-append, All-nil}
 use Rattle.std.proofs.lemmas.Option.{slice_get_within}
 use Rattle.ih_journal.specs.Tried.{Tried}
 use Rattle.ih_journal.specs.declared.entries.Verdict.{Verdict}
@@ -18,8 +19,9 @@ use Rattle.ih_cellbook.specs.Snapshot.{Snapshot}
 use Rattle.ih_cellbook.specs.Told.{Told, TellsOf}
 use Rattle.ih_cellbook.proofs.Telling.{tells-further}
 use Rattle.ih_cellbook.proofs.Within.{stands-behind, told-further, told-seen}
-use Rattle.ih_desk.specs.Histories.{EndsWith, GoesOn}
-use Rattle.ih_desk.proofs.Full.{none-both}
+use Rattle.ih_turn.specs.Rule.{GoesOn}
+use Rattle.ih_desk.specs.Histories.{EndsWith}
+use Rattle.ih_desk.proofs.HistoryLemmas.{none_by-others}
 
 get-drop : (n : ℕ) (H : List Tried) (k : ℕ) → slice_get (drop n H) k ≡ slice_get H (n + k)
 get-drop zero H k = let same : k ≡ 0 + k = omega arith in ap (slice_get H) same
@@ -36,20 +38,20 @@ own-all w H k e there by = slice_get_within H k e there
 pub own-later : (w s t : ℕ) (H : List Tried) → HasSeenOwn H w s → s ≤ t → HasSeenOwn H w t
 own-later w s t H own h k e there by = let below = own k e there by in omega arith
 
-pub own-goes_on : (w s : ℕ) (H G : List Tried) → GoesOn w H G → HasSeenOwn H w s → HasSeenOwn G w s
-own-goes_on w s H G goes own = subst (λ F. HasSeenOwn F w s) (sym goes.history) (seen_own-others w s H goes.others goes.none own)
+pub own-goes_on : (w s : ℕ) (H G : List Tried) → GoesOn (λ e. e.worker) w H G → HasSeenOwn H w s → HasSeenOwn G w s
+own-goes_on w s H G goes own = subst (λ F. HasSeenOwn F w s) (sym goes.history) (seen_own-others w s H goes.others (none_by-others w goes.others goes.none) own)
 
-pub goes_on-none : (w : ℕ) (H : List Tried) → GoesOn w H H
-goes_on-none w H = record { others = []; history = sym (append-nil H); none = λ k e there by. absurd (let no : None ≡ Some e = there in cc) }
+pub goes_on-none : (w : ℕ) (H : List Tried) → GoesOn (λ e. e.worker) w H H
+goes_on-none w H = record { others = []; history = sym (append-nil H); none = All-nil (λ e. e.worker ≢ w) }
 
-pub goes_on-further : (w : ℕ) (H G F : List Tried) → GoesOn w H G → GoesOn w G F → GoesOn w H F
+pub goes_on-further : (w : ℕ) (H G F : List Tried) → GoesOn (λ e. e.worker) w H G → GoesOn (λ e. e.worker) w G F → GoesOn (λ e. e.worker) w H F
 goes_on-further w H G F one two = record {
   others = one.others ++ two.others;
   history = two.history ∙ (ap (λ X. X ++ two.others) one.history ∙ append_assoc H one.others two.others);
-  none = none-both w one.others two.others one.none two.none;
+  none = All-append (λ e. e.worker ≢ w) one.others two.others one.none two.none;
 }
 
-pub goes-length : (w : ℕ) (H G : List Tried) → GoesOn w H G → length H ≤ length G
+pub goes-length : (w : ℕ) (H G : List Tried) → GoesOn (λ e. e.worker) w H G → length H ≤ length G
 goes-length w H G goes = let both = ap length goes.history ∙ length-append H goes.others in omega (arith, both)
 
 -- an offer adds its own entry at least
@@ -61,7 +63,7 @@ ends-longer b o v H G ends =
     omega (arith, all, last, before)
 
 -- the replica stays where it is while others go on
-pub stays : (b : Base) (w : ℕ) (H G : List Tried) (r : Snapshot) → GoesOn w H G → IsReplicaIn b H r → IsReplicaIn b G r
+pub stays : (b : Base) (w : ℕ) (H G : List Tried) (r : Snapshot) → GoesOn (λ e. e.worker) w H G → IsReplicaIn b H r → IsReplicaIn b G r
 stays b w H G r goes stands = subst (λ F. IsReplicaIn b F r) (sym goes.history) (stands-behind b H r stands goes.others)
 
 -- once it has taken over what it is told, it has seen more, where there was more
@@ -74,7 +76,7 @@ further b G r n s stands legal told later more =
 
 -- a replica that takes over what a look told: it stands for a beginning still, and has seen more, where there was more
 pub taken-over : (b : Base) (w : ℕ) (H G : List Tried) (r : Snapshot) (n : Told) (seen until : ℕ) (accepted : List Tried) (s : Snapshot)
-    → seen ≡ r.seen → accepted ≡ n.accepted → until ≡ n.until → IsReplicaIn b H r → GoesOn w H G → AreLegalButDraws b G → TellsOf G seen n
+    → seen ≡ r.seen → accepted ≡ n.accepted → until ≡ n.until → IsReplicaIn b H r → GoesOn (λ e. e.worker) w H G → AreLegalButDraws b G → TellsOf G seen n
     → StandsUpTo r accepted until s → IsReplicaIn b G s × (r.seen < length H → r.seen < s.seen)
 taken-over b w H G r n seen until accepted s same all end stands goes legal tells later =
     let told = subst (λ k. TellsOf G k n) same tells in

@@ -9,7 +9,8 @@ use Rattle.ih_journal.specs.Legal.{IsFull}
 use Rattle.ih_cellbook.specs.Laws.{HasNoneBy}
 use Rattle.ih_cellbook.specs.Legal.{AreLegalButDraws}
 use Rattle.ih_cellbook.proofs.Staying.{last_by-others}
-use Rattle.ih_desk.specs.Histories.{GoesOn}
+use Rattle.ih_turn.specs.Rule.{GoesOn}
+use Rattle.ih_desk.proofs.HistoryLemmas.{none_by-others}
 use Rattle.ih_desk.specs.Finishing.{AreDrawn, HasFinished}
 
 -- an entry of a longer history is an earlier one, or one of those behind
@@ -38,14 +39,14 @@ drawn-others b each w H es none drawn k e there own = elim (get-append H es k e 
 ]
 
 pub full : (b : Base) (each : ℕ) (H : List Tried) → AreLegalButDraws b H
-    → ((w : ℕ) → w < b.options.workers → (seen : List Tried) × GoesOn w seen H × HasFinished b each w seen) → IsFull b each H
+    → ((w : ℕ) → w < b.options.workers → (seen : List Tried) × GoesOn (λ e. e.worker) w seen H × HasFinished b each w seen) → IsFull b each H
 full b each H legal all = record {
   legal = λ k e there.
       let entry = legal k e there in
       let mine = all e.worker entry.worker in
-      let drawn = drawn-others b each e.worker mine.0 mine.1.others mine.1.none mine.2.drawn in
+      let drawn = drawn-others b each e.worker mine.0 mine.1.others (none_by-others e.worker mine.1.others mine.1.none) mine.2.drawn in
       record { entry = entry; drawn = drawn k e (ap (λ G. slice_get G k) (sym mine.1.history) ∙ there) refl };
   done = λ w known.
       let mine = all w known in
-      ap (λ G. is_done b.options G w) mine.1.history ∙ (done-others b.options w mine.0 mine.1.others mine.1.none ∙ mine.2.done);
+      ap (λ G. is_done b.options G w) mine.1.history ∙ (done-others b.options w mine.0 mine.1.others (none_by-others w mine.1.others mine.1.none) ∙ mine.2.done);
 }

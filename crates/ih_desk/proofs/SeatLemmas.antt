@@ -11,7 +11,7 @@ use Rattle.ih_journal.specs.Legal.{IsFull}
 use Rattle.ih_cellbook.specs.Legal.{AreLegalButDraws}
 use Rattle.ih_turn.specs.Seats.{history, number_of}
 use Rattle.ih_desk.specs.Desks.{Desk, DeskSeat, IsSeatAt, base_of, worker_count}
-use Rattle.ih_desk.specs.Histories.{GoesOn}
+use Rattle.ih_turn.specs.Rule.{GoesOn}
 use Rattle.ih_desk.specs.Finishing.{FinishedSearchesAreFull, HasFinished}
 use Rattle.ih_desk.proofs.HistoryLemmas.{index-get}
 use Rattle.ih_desk.proofs.Lengths.{may-work}
@@ -150,10 +150,10 @@ module _ (b : Base) (each : ℕ) (desk : Desk) (seats : List DeskSeat) (opened :
             let there = map-at number_of back n s.0 s.1 in
             (n, slice_get_within (map number_of back) n (number_of s.0) there, index-get (map number_of back) n (number_of s.0) n there ∙ (back-at n s.0 s.1).number)
 
-        pub full-back : FinishedSearchesAreFull → (H : List Tried) → AreLegalButDraws b H → All (λ s. GoesOn (number_of s) (history s) H) back → IsFull b each H
+        pub full-back : FinishedSearchesAreFull → (H : List Tried) → AreLegalButDraws b H → All (λ s. GoesOn (λ e. e.worker) (number_of s) (history s) H) back → IsFull b each H
         full-back law H legal seen =
             law b each H legal (λ w below.
             let s = seat-of w below in
             let t = back-at w s.0 s.1 in
-            let goes = subst (λ u. GoesOn (number_of u) (history u) H) (index-get back w s.0 s.0 s.1) (seen w s.0 (slice_get_within back w s.0 s.1)) in
-            (history s.0, subst (λ n. GoesOn n (history s.0) H) t.number goes, t.done))
+            let goes = subst (λ u. GoesOn (λ e. e.worker) (number_of u) (history u) H) (index-get back w s.0 s.0 s.1) (seen w s.0 (slice_get_within back w s.0 s.1)) in
+            (history s.0, subst (λ n. GoesOn (λ e. e.worker) n (history s.0) H) t.number goes, t.done))

@@ -5,7 +5,7 @@ use Rattle.ih_journal.specs.Attempts.{is_done}
 use Rattle.ih_journal.specs.Base.{Base}
 use Rattle.ih_journal.specs.Legal.{IsFull, attempt_of}
 use Rattle.ih_cellbook.specs.Legal.{AreLegalButDraws}
-use Rattle.ih_desk.specs.Histories.{GoesOn}
+use Rattle.ih_turn.specs.Rule.{GoesOn}
 
 -- each entry of worker w has the draws of its number, so many of them
 abbrev pub AreDrawn : Base → ℕ → ℕ → List Tried → Type 0
@@ -20,5 +20,5 @@ pub record HasFinished (b : Base) (each w : ℕ) (H : List Tried) : Type 0 where
 
 abbrev pub FinishedSearchesAreFull : Type 0
 FinishedSearchesAreFull = (b : Base) (each : ℕ) (H : List Tried) → AreLegalButDraws b H
-    → ((w : ℕ) → w < b.options.workers → (seen : List Tried) × GoesOn w seen H × HasFinished b each w seen)
+    → ((w : ℕ) → w < b.options.workers → (seen : List Tried) × GoesOn (λ e. e.worker) w seen H × HasFinished b each w seen)
     → IsFull b each H

@@ -1,17 +1,11 @@
--- How the history that a seat has seen goes on.
-use Rattle.std.specs.Prelude.{◌≡◌, ℕ, List, [], ◌∷◌, ◌++◌}
+-- How the history that a seat has seen goes on where its worker offers.
+use Rattle.std.specs.Prelude.{◌≡◌, List, [], ◌∷◌, ◌++◌}
 use Rattle.ih_journal.specs.Tried.{Tried}
 use Rattle.ih_journal.specs.declared.entries.Verdict.{Verdict}
 use Rattle.ih_journal.specs.Base.{Base}
 use Rattle.ih_cellbook.specs.Offered.{Offered}
 use Rattle.ih_cellbook.specs.Laws.{HasNoneBy}
 use Rattle.ih_cellbook.specs.Offers.{entry_of}
-
--- H begins with what was seen, and past that has no entry by worker w
-pub record GoesOn (w : ℕ) (seen H : List Tried) : Type 0 where
-  pub others : List Tried
-  pub history : H ≡ seen ++ others
-  pub none : HasNoneBy w others
 
 -- H begins with what was seen, goes on with entries of other workers, and ends with that of the offer, with this
 -- verdict

@@ -10,7 +10,7 @@ pub record Progress : Type 0 where
   pub instance : Draft
   pub options : Options
   -- how many moves each of its attempts has
-  pub each : ℕ
+  pub moves_each : ℕ
   -- its draws to come
   pub stream : List ℕ
   pub replica : Snapshot

@@ -18,15 +18,15 @@ use Rattle.ih_desk.specs.Desks.{Desk, DeskSeat, IsSeatAt, base_of}
 use Rattle.ih_desk.specs.Progress.{Progress}
 
 -- The searcher is worker w's in a search over b, by attempts of so many moves.
-pub record IsOf (b : Base) (each w : ℕ) (x : Progress) : Type 0 where
+pub record IsSearcherOf (b : Base) (each w : ℕ) (x : Progress) : Type 0 where
   pub instance : x.instance ≡ b.instance
   pub options : x.options ≡ b.options
-  pub each_is : x.each ≡ each
+  pub each_is : x.moves_each ≡ each
   pub worker : x.replica.worker ≡ w
 
 -- It prices on a beginning of the history H.
 pub record IsWithin (b : Base) (each w : ℕ) (H : List Tried) (x : Progress) : Type 0 where
-  pub own : IsOf b each w x
+  pub own : IsSearcherOf b each w x
   pub replica : IsReplicaIn b H x.replica
 
 -- It does, and has seen all that its worker made, so that its next price may be offered.
@@ -40,7 +40,7 @@ IsToldOf H x = TellsOf H x.replica.seen x.news
 
 -- nothing was drawn or seen yet
 pub record IsNew (b : Base) (each w : ℕ) (x : Progress) : Type 0 where
-  pub own : IsOf b each w x
+  pub own : IsSearcherOf b each w x
   pub replica : IsReplicaOf b [] x.replica
   pub stream : x.stream ≡ stream_at b.options.seed w 0
 
@@ -52,7 +52,7 @@ credit left x = left + x.replica.seen
 -- At this seat the searcher may try these moves: it has caught up, and has turns for all that there may be to see.
 pub record MayTry (desk : Desk) (seat : DeskSeat) (m : List Move) (x : Progress) : Type 0 where
   pub own : IsSeatAt desk seat
-  pub caught_up : HasCaughtUp (base_of desk) x.each (number_of seat) (history seat) x
+  pub caught_up : HasCaughtUp (base_of desk) x.moves_each (number_of seat) (history seat) x
   pub moves : AreMoves (base_of desk).instance m
   pub turns : most_entries (base_of desk).options < credit (turns_left seat) x
 

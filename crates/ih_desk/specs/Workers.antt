@@ -4,7 +4,7 @@ use Rattle.ih_turn.specs.Seats.{history, number_of, made_count, turns_left}
 use Rattle.ih_journal.specs.Base.{Base}
 use Rattle.ih_journal.specs.declared.settings.Options.{Options}
 use Rattle.ih_journal.specs.Settings.{most_entries}
-use Rattle.ih_desk.specs.declared.workers.Seated.{Seated}
+use Rattle.ih_desk.specs.declared.seated_workers.Seated.{Seated}
 use Rattle.ih_desk.specs.Desks.{Desk, DeskSeat, IsSeatAt, base_of}
 use Rattle.ih_desk.specs.Finishing.{HasFinished}
 use Rattle.ih_desk.specs.Progress.{Progress}
@@ -48,7 +48,7 @@ pub record Finishes (each : ℕ) (desk : Desk) (before after : Worker) : Type 0 
 
 -- both, by attempts of as many moves as the worker itself says
 abbrev pub MayWork : Desk → Worker → Type 0
-MayWork desk w = IsReady w.searcher.each desk w
+MayWork desk w = IsReady w.searcher.moves_each desk w
 
 abbrev pub HasWorked : Desk → Worker → Worker → Type 0
-HasWorked desk before after = Finishes before.searcher.each desk before after
+HasWorked desk before after = Finishes before.searcher.moves_each desk before after

@@ -32,7 +32,8 @@ impl<'a, E: Logged> DeskOver<Turn<Book<'a, E>>> {
     ghost use Rattle.std.specs.Prelude.{ℕ, ◌+◌, ◌*◌, ◌^◌, ◌<◌, ◌==◌, IfOk, IfErr, map, slice_index, All, Contains, count_by};
     ghost use Rattle.ih_turn.specs.Seats.{history, number_of, made_count, turns_left};
     ghost use Rattle.ih_desk.specs.Desks.{base_of, worker_count, IsDesk, IsSeatAt};
-    ghost use Rattle.ih_desk.specs.Histories.{GoesOn, EndsWith};
+    ghost use Rattle.ih_turn.specs.Rule.{GoesOn};
+    ghost use Rattle.ih_desk.specs.Turns.{HasLooked, HasOffered, MayLook, MayOffer};
 
     /// Opens a desk over a book without entries, with a seat for each worker of its options. Each seat may look or
     /// offer `turns` times in all.
@@ -73,12 +74,8 @@ impl<'a, E: Logged> DeskOver<Turn<Book<'a, E>>> {
         seat: DeskSeat<'a, E>,
         buffer: &mut Buffer<E>,
     ) -> DeskSeat<'a, E>
-        requires own { IsSeatAt self.now seat }
-        requires left { 0 < turns_left seat }
-        requires from { buffer.old.from ≤ length (history seat) }
-        ensures own { IsSeatAt self.now result }
-        ensures number { number_of result ≡ number_of seat.entry }
-        ensures history { GoesOn (number_of seat.entry) (history seat.entry) (history result) }
+        requires may { MayLook self.now buffer.old.from seat }
+        ensures looked { HasLooked self.now seat.entry result }
         ensures copied { buffer.new
             ≡ record {
               from = buffer.old.from;
@@ -86,8 +83,6 @@ impl<'a, E: Logged> DeskOver<Turn<Book<'a, E>>> {
                   (drop buffer.old.from (history result));
               front = length (history result);
             } }
-        ensures made { made_count result ≡ made_count seat.entry }
-        ensures left { turns_left result + 1 ≡ turns_left seat.entry }
     {
         let held = self.turn.take(rt, seat);
         copy(held.get(), buffer);
@@ -103,15 +98,9 @@ impl<'a, E: Logged> DeskOver<Turn<Book<'a, E>>> {
         from: u32,
         news: &mut News<E>,
     ) -> DeskSeat<'a, E>
-        requires own { IsSeatAt self.now seat }
-        requires left { 0 < turns_left seat }
-        requires from { from ≤ length (history seat) }
-        ensures own { IsSeatAt self.now result }
-        ensures number { number_of result ≡ number_of seat.entry }
-        ensures history { GoesOn (number_of seat.entry) (history seat.entry) (history result) }
+        requires may { MayLook self.now from seat }
+        ensures looked { HasLooked self.now seat.entry result }
         ensures told { TellsOf (history result) from news.new }
-        ensures made { made_count result ≡ made_count seat.entry }
-        ensures left { turns_left result + 1 ≡ turns_left seat.entry }
     {
         let held = self.turn.take(rt, seat);
         tell(held.get(), from, news);
@@ -126,16 +115,8 @@ impl<'a, E: Logged> DeskOver<Turn<Book<'a, E>>> {
         seat: DeskSeat<'a, E>,
         offer: &E::Offer,
     ) -> (DeskSeat<'a, E>, Verdict)
-        requires own { IsSeatAt self.now seat }
-        requires left { 0 < turns_left seat }
-        requires worker { (E.Offer.offered offer.now).worker ≡ number_of seat }
-        requires right { IsRightOffer (base_of self.now) (history seat) (E.Offer.offered offer.now) }
-        ensures own { IsSeatAt self.now result.0 }
-        ensures number { number_of result.0 ≡ number_of seat.entry }
-        ensures history { EndsWith (base_of self.now) (E.Offer.offered offer.now) result.1 (history seat.entry)
-            (history result.0) }
-        ensures made { made_count result.0 ≡ made_count seat.entry + 1 }
-        ensures left { turns_left result.0 + 1 ≡ turns_left seat.entry }
+        requires may { MayOffer self.now (E.Offer.offered offer.now) seat }
+        ensures offered { HasOffered self.now (E.Offer.offered offer.now) result.1 seat.entry result.0 }
     {
         // For the proof alone.
         right_offers_stay_right();
@@ -153,17 +134,9 @@ impl<'a, E: Logged> DeskOver<Turn<Book<'a, E>>> {
         offer: &E::Offer,
         news: &mut News<E>,
     ) -> (DeskSeat<'a, E>, Verdict)
-        requires own { IsSeatAt self.now seat }
-        requires left { 0 < turns_left seat }
-        requires worker { (E.Offer.offered offer.now).worker ≡ number_of seat }
-        requires right { IsRightOffer (base_of self.now) (history seat) (E.Offer.offered offer.now) }
-        ensures own { IsSeatAt self.now result.0 }
-        ensures number { number_of result.0 ≡ number_of seat.entry }
-        ensures history { EndsWith (base_of self.now) (E.Offer.offered offer.now) result.1 (history seat.entry)
-            (history result.0) }
+        requires may { MayOffer self.now (E.Offer.offered offer.now) seat }
+        ensures offered { HasOffered self.now (E.Offer.offered offer.now) result.1 seat.entry result.0 }
         ensures told { TellsOf (history result.0) (E.Offer.offered offer.now).seen news.new }
-        ensures made { made_count result.0 ≡ made_count seat.entry + 1 }
-        ensures left { turns_left result.0 + 1 ≡ turns_left seat.entry }
     {
         // For the proof alone.
         right_offers_stay_right();
@@ -180,7 +153,7 @@ impl<'a, E: Logged> DeskOver<Turn<Book<'a, E>>> {
         ensures base { result.base ≡ base_of self.entry }
         ensures legal { AreLegalButDraws result.base result.entries }
         // each seat's history begins it, and past that nothing is by the seat's worker
-        ensures seen { All (λ s. GoesOn (number_of s) (history s) result.entries) seats.entry.items }
+        ensures seen { All (λ s. GoesOn (λ e. e.worker) (number_of s) (history s) result.entries) seats.entry.items }
         // each entry is by the worker of a seat, and each seat's worker has as many as the seat made
         ensures makers { All (λ e. e.worker < worker_count self.entry) result.entries }
         ensures made { All (λ s. count_by (λ e. e.worker == number_of s) result.entries

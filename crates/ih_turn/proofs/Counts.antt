@@ -5,7 +5,7 @@ use Rattle.std.proofs.lemmas.List.{drop-append-le}
 use Rattle.std.proofs.lemmas.List.Elements.{All-nil, All-cons, All-head, All-tail}
 use Rattle.std.proofs.lemmas.List.Sums.{sum_by-cons, sum_by-append, sum_by_push}
 use Rattle.ih_turn.specs.declared.view.View.{View}
-use Rattle.ih_turn.specs.Rule.{Follows, AddsAtMostOne, added_by, made_by}
+use Rattle.ih_turn.specs.Rule.{GoesOn, AddsAtMostOne, added_by, made_by}
 
 module _ {E : Type 0} (maker : E → ℕ) where
   abbrev mine : ℕ → E → Bool
@@ -18,10 +18,10 @@ module _ {E : Type 0} (maker : E → ℕ) where
       let more = none_count n xs (All-tail (λ e. maker e ≢ n) x xs all) in let sum = sum_by-cons (λ e. cond (mine n e) 1 0) x xs in omega arith
 
   -- what is past the entries that a seat had seen adds nothing to its own
-  pub same_count : (n start : ℕ) (xs seen : List E) → start ≤ length seen → Follows maker n xs seen → count_by (mine n) (drop start xs) ≡ count_by (mine n) (drop start seen)
-  same_count n start xs seen long f = let parts : drop start xs ≡ drop start seen ++ f.0 = ap (drop start) f.1 ∙ drop-append-le start seen f.0 long in
-      let sum = sum_by-append (λ e. cond (mine n e) 1 0) (drop start seen) f.0 in let none = none_count n f.0 f.2 in
-      let all : count_by (mine n) (drop start xs) ≡ count_by (mine n) (drop start seen ++ f.0) = ap (count_by (mine n)) parts in omega arith
+  pub same_count : (n start : ℕ) (xs seen : List E) → start ≤ length seen → GoesOn maker n seen xs → count_by (mine n) (drop start xs) ≡ count_by (mine n) (drop start seen)
+  same_count n start xs seen long f = let parts : drop start xs ≡ drop start seen ++ f.others = ap (drop start) f.history ∙ drop-append-le start seen f.others long in
+      let sum = sum_by-append (λ e. cond (mine n e) 1 0) (drop start seen) f.others in let none = none_count n f.others f.none in
+      let all : count_by (mine n) (drop start xs) ≡ count_by (mine n) (drop start seen ++ f.others) = ap (count_by (mine n)) parts in omega arith
 
   -- the count goes up by what was added
   pub more_count : (n start : ℕ) (xs ys : List E) → start ≤ length xs → AddsAtMostOne maker n xs ys
@@ -39,11 +39,11 @@ module _ {E : Type 0} (maker : E → ℕ) where
 module _ {A E D : Type 0} (maker : E → ℕ) (number : A → ℕ) (view : A → View E D) (start : ℕ) (xs : List E) where
   -- what each seat has made is what was added by its number
   pub made_at_end : (seats : List A) → ((s : A) → (number s ≡ (view s).number) × ((view s).start ≤ length (view s).seen))
-      → All (λ s. (view s).start ≡ start) seats → All (λ s. Follows maker (number s) xs (view s).seen) seats
+      → All (λ s. (view s).start ≡ start) seats → All (λ s. GoesOn maker (number s) (view s).seen xs) seats
       → All (λ s. made_by maker (view s) ≡ added_by maker (number s) start xs) seats
   made_at_end [] own started follows = All-nil (λ s. made_by maker (view s) ≡ added_by maker (number s) start xs)
-  made_at_end (s ∷ ss) own started follows = let v = view s in let is = (own s).0 in let f : Follows maker v.number xs v.seen = subst
-      (λ (n : ℕ). Follows maker n xs v.seen) is (All-head (λ s. Follows maker (number s) xs (view s).seen) s ss follows) in
+  made_at_end (s ∷ ss) own started follows = let v = view s in let is = (own s).0 in let f : GoesOn maker v.number v.seen xs = subst
+      (λ (n : ℕ). GoesOn maker n v.seen xs) is (All-head (λ s. GoesOn maker (number s) (view s).seen xs) s ss follows) in
       All-cons (λ s. made_by maker (view s) ≡ added_by maker (number s) start xs) s ss
       (sym (same_count maker v.number v.start xs v.seen (own s).1 f) ∙ ap (λ (z : ℕ × ℕ). added_by maker z.0 z.1 xs) (λ i. (sym is i, All-head (λ s. (view s).start ≡ start) s ss started i)))
-      (made_at_end ss own (All-tail (λ s. (view s).start ≡ start) s ss started) (All-tail (λ s. Follows maker (number s) xs (view s).seen) s ss follows))
+      (made_at_end ss own (All-tail (λ s. (view s).start ≡ start) s ss started) (All-tail (λ s. GoesOn maker (number s) (view s).seen xs) s ss follows))

@@ -12,8 +12,8 @@ use Rattle.std.proofs.lemmas.List.Elements.{All-nil, All-weaker}
 use Rattle.atomic_table.specs.Table.{State, opening, Splits, Joins, Final, Seen}
 use Rattle.atomic_table.proofs.Lists.{set_else, at_longer}
 use Rattle.ih_turn.specs.declared.view.View.{View}
-use Rattle.ih_turn.specs.Rule.{Follows, HoldsTicket, IsGiven, all_left, Knows, Turns, IsTurn, first_view, spent_view, left_view, right_view, both_views, seen_lists, with_own, Covers, AddsBelow, Closes}
-use Rattle.ih_turn.proofs.Views.{not_true, same_at, on_set, there_set, on_push, before_set, later_rest, all_left_set, all_left_push, follows_itself}
+use Rattle.ih_turn.specs.Rule.{GoesOn, HoldsTicket, IsGiven, all_left, Knows, Turns, IsTurn, first_view, spent_view, remaining_view, split_off_view, both_views, seen_lists, with_own, Covers, AddsBelow, Closes}
+use Rattle.ih_turn.proofs.Views.{not_true, same_at, on_set, there_set, on_push, before_set, later_rest, all_left_set, all_left_push, goes_on-itself}
 
 abbrev Owners : Type 0
 Owners = ℕ → maybe.Option ℕ
@@ -84,7 +84,7 @@ module _ {B E D : Type 0} (entries : B → List E) (base : B → D) (maker : E �
             long = le_refl (length (entries value));
             numbered = some;
             owned = refl;
-            seen = follows_itself maker 0
+            seen = goes_on-itself maker 0
                 (entries value);
             takes_in = λ k t e. absurd (maybe.some-ne-none t (sym e));
           })
@@ -96,8 +96,8 @@ module _ {B E D : Type 0} (entries : B → List E) (base : B → D) (maker : E �
   )
 
   -- a seat with a new number is split off the first one
-  pub splits : (v : V) → v.spent ≡ false → v.waits ≡ false → v.has_turn ≡ false → 0 < v.given → v.given < seats → v.each ≤ v.left → Splits Rule 0 v (left_view v) (right_view v)
-  splits v live free idle gave more some st r at = let t : ℕ = get_or st.words 0 0 in let s : ℕ = get_or st.words 1 0 in let vs : List V = st.views in let w : V = left_view v in let u : V = right_view v in let ws : List V = set vs 0 w in let g : ℕ = v.given in
+  pub splits : (v : V) → v.spent ≡ false → v.waits ≡ false → v.has_turn ≡ false → 0 < v.given → v.given < seats → v.each ≤ v.left → Splits Rule 0 v (remaining_view v) (split_off_view v)
+  splits v live free idle gave more some st r at = let t : ℕ = get_or st.words 0 0 in let s : ℕ = get_or st.words 1 0 in let vs : List V = st.views in let w : V = remaining_view v in let u : V = split_off_view v in let ws : List V = set vs 0 w in let g : ℕ = v.given in
       let q = r.1 in let k : ℕ = length vs in let owner : Owners = given_to g k q.owner in let kv = q.each 0 v at live in let unowned =
       (q.gives 0 v at gave).1 in let end : length ws ≡ k = length-set vs 0 w in
       let not_new : (n i : ℕ) → q.owner n ≡ maybe.some i → n ≢ g = λ n i own same. maybe.some-ne-none i (sym own ∙ unowned n (omega arith)) in
@@ -136,12 +136,12 @@ module _ {B E D : Type 0} (entries : B → List E) (base : B → D) (maker : E �
                 long = kv.long;
                 numbered = more;
                 owned = given_here g k q.owner ∙ ap maybe.some (sym end);
-                seen = (
-                  kv.seen.0,
-                  kv.seen.1,
-                  later_rest (λ e. maker e ≢ g) q.kept (entries value) q.grown.0 v.seen kv.seen.0 q.grown.1 kv.seen.1 (let a = kv.started in let b = kv.long in omega arith)
-                      (All-weaker (λ e. IsGiven seats q.owner (maker e)) (λ e. maker e ≢ g) (λ e is same. is.1 (unowned (maker e) (omega arith))) q.grown.0 q.grown.2),
-                );
+                seen = record {
+                  others = kv.seen.others;
+                  history = kv.seen.history;
+                  none = later_rest (λ e. maker e ≢ g) q.kept (entries value) q.grown.0 v.seen kv.seen.others q.grown.1 kv.seen.history (let a = kv.started in let b = kv.long in omega arith)
+                      (All-weaker (λ e. IsGiven seats q.owner (maker e)) (λ e. maker e ≢ g) (λ e is same. is.1 (unowned (maker e) (omega arith))) q.grown.0 q.grown.2);
+                };
                 takes_in = λ j y e. absurd (maybe.some-ne-none y (sym e));
               })
               (on_set (λ i x. x.spent ≡ false → K q.kept owner i x) vs 0 w
@@ -155,7 +155,7 @@ module _ {B E D : Type 0} (entries : B → List E) (base : B → D) (maker : E �
       )
 
   abbrev Joined : List E → Owners → ℕ → ℕ × List E → Type 0
-  Joined kept owner i t = (t.0 < seats) × (owner t.0 ≡ maybe.some i) × Follows maker t.0 kept t.1
+  Joined kept owner i t = (t.0 < seats) × (owner t.0 ≡ maybe.some i) × GoesOn maker t.0 t.1 kept
 
   takes_more : (kept : List E) (owner : Owners) (i : ℕ) (one : ℕ × List E) (ts : List (ℕ × List E)) → Joined kept owner i one
       → ((k : ℕ) (t : ℕ × List E) → get_elem? ts k ≡ maybe.some t → Joined kept owner i t)
@@ -220,13 +220,13 @@ module _ {B E D : Type 0} (entries : B → List E) (base : B → D) (maker : E �
                 long = either_list (λ l. v.start ≤ length l) longer_there v.seen u.seen (λ more. let a = ltb-true (length v.seen) (length u.seen) more in let b = hold.long in omega arith) hold.long;
                 numbered = hold.numbered;
                 owned = hold.owned;
-                seen = either_list (Follows maker v.number q.kept) longer_there v.seen u.seen
-                    (λ more. let a = ltb-true (length v.seen) (length u.seen) more in (
-                      ku.seen.0,
-                      ku.seen.1,
-                      later_rest (λ e. maker e ≢ v.number) q.kept v.seen kv.seen.0 u.seen ku.seen.0 kv.seen.1 ku.seen.1
-                          (let b : length v.seen ≤ length u.seen = omega arith in b) kv.seen.2,
-                    )) hold.seen;
+                seen = either_list (λ l. GoesOn maker v.number l q.kept) longer_there v.seen u.seen
+                    (λ more. let a = ltb-true (length v.seen) (length u.seen) more in record {
+                      others = ku.seen.others;
+                      history = ku.seen.history;
+                      none = later_rest (λ e. maker e ≢ v.number) q.kept v.seen kv.seen.others u.seen ku.seen.others kv.seen.history ku.seen.history
+                          (let b : length v.seen ≤ length u.seen = omega arith in b) kv.seen.none;
+                    }) hold.seen;
                 takes_in = takes_more q.kept owner id (u.number, u.seen) (seen_lists v) (ku.numbered, taken_here o id (q.owner u.number) ku.owned, ku.seen) (seen_lists_known q.kept owner id v hold);
               })
               (λ i y _ e far h. keeps_on i y far (q.each i y e h)) j x at' other h);
@@ -258,11 +258,11 @@ module _ {B E D : Type 0} (entries : B → List E) (base : B → D) (maker : E �
         sym f.3 ∙ ap length h.1,
         record {
           based = h.3;
-          marked = λ k t e. subst (λ (l : List E). Follows maker t.0 l t.1) to (known k t e).2;
+          marked = λ k t e. subst (λ (l : List E). GoesOn maker t.0 t.1 l) to (known k t e).2;
           added = subst (λ (l : List E). AddsBelow maker seats (entries value) l) to
               (q.grown.0, q.grown.1, All-weaker (λ e. IsGiven seats q.owner (maker e)) (λ e. maker e < seats) (λ e is. is.0) q.grown.0 q.grown.2);
         },
       )
 
-  pub splits_at : (id : ℕ) (v : V) → id ≡ 0 → v.spent ≡ false → v.waits ≡ false → v.has_turn ≡ false → 0 < v.given → v.given < seats → v.each ≤ v.left → Splits Rule id v (left_view v) (right_view v)
-  splits_at id v is live free idle gave more some = subst (λ (z : ℕ). Splits Rule z v (left_view v) (right_view v)) (sym is) (splits v live free idle gave more some)
+  pub splits_at : (id : ℕ) (v : V) → id ≡ 0 → v.spent ≡ false → v.waits ≡ false → v.has_turn ≡ false → 0 < v.given → v.given < seats → v.each ≤ v.left → Splits Rule id v (remaining_view v) (split_off_view v)
+  splits_at id v is live free idle gave more some = subst (λ (z : ℕ). Splits Rule z v (remaining_view v) (split_off_view v)) (sym is) (splits v live free idle gave more some)

@@ -1,5 +1,5 @@
 -- Each step of a turn keeps the rule.
-use Rattle.std.proofs.Common.{◌≡◌, ℕ, ◌+◌, ◌%◌, ◌^◌, ◌<◌, ◌≤◌, ◌≢◌, true, false, List, [], ◌∷◌, ◌++◌, length, get_or, set, sym, refl, ap, ◌∙◌, subst, ⊎_elim, append_assoc, length-set, length-append, get_or-set_other, get_or-set_same, arith}
+use Rattle.std.proofs.Common.{◌≡◌, Bool, ℕ, ◌+◌, ◌%◌, ◌^◌, ◌<◌, ◌≤◌, ◌≢◌, true, false, List, [], ◌∷◌, ◌++◌, length, get_or, set, sym, refl, ap, ◌∙◌, subst, ⊎_elim, append_assoc, length-set, length-append, get_or-set_other, get_or-set_same, arith}
 use Rattle.std.specs.Prelude.{Option, Some}
 use mathlib.Core.Option as maybe
 use mathlib.Core.Logic.{dite}
@@ -11,8 +11,8 @@ use Rattle.std.proofs.lemmas.List.Elements.{All-push}
 use Rattle.atomic_table.specs.Table.{State, Me, Act, Step, rest, step, keeps, takes, gives, stepped, carried_after, Valid, Allows}
 use Rattle.atomic_table.proofs.Lists.{set_here, set_again}
 use Rattle.ih_turn.specs.declared.view.View.{View}
-use Rattle.ih_turn.specs.Rule.{Follows, HoldsTicket, IsGiven, Knows, Turns, IsTurn, queued, served, passed, TakesTicket, ReadsServing, PassesTurn, AddsAtMostOne}
-use Rattle.ih_turn.proofs.Views.{not_true, in_range, same_at, on_set, there_set, before_set, all_left_set, left_within, follows_itself, follows_more, some_same, nothing_there, in_hand}
+use Rattle.ih_turn.specs.Rule.{GoesOn, HoldsTicket, IsGiven, Knows, Turns, IsTurn, queued, served, passed, TakesTicket, ReadsServing, PassesTurn, AddsAtMostOne}
+use Rattle.ih_turn.proofs.Views.{not_true, in_range, same_at, on_set, there_set, before_set, all_left_set, left_within, goes_on-itself, goes_on-more, some_same, nothing_there, in_hand}
 
 module _ {B E D : Type 0} (entries : B → List E) (base : B → D) (maker : E → ℕ) (opening : B) (seats turns : ℕ) where
   abbrev V : Type 0
@@ -85,18 +85,32 @@ module _ {B E D : Type 0} (entries : B → List E) (base : B → D) (maker : E �
   none_serves t s hs vs id v r at waits idle is i x e = not_true x.has_turn (λ h. let k = r.holder i x e h in let same = r.apart i x e k.1 id v at waits (k.2 ∙ sym is) in
       let v' = same_at vs id x v (subst (λ (z : ℕ). get_elem? vs z ≡ maybe.some x) same e) at in let wrong : false ≡ true = sym idle ∙ (ap (λ (z : V). z.has_turn) (sym v') ∙ h) in absurd (cc))
 
+  -- a seat that has seen the whole list, whether or not it has the turn and a ticket
+  knows_all : (old kept : List E) (owner : ℕ → maybe.Option ℕ) (i : ℕ) (v : V) (has waits : Bool) → K old owner i v → v.start ≤ length kept
+      → ((k : ℕ) (t : ℕ × List E) → get_elem? v.joined k ≡ maybe.some t → (t.0 < seats) × (owner t.0 ≡ maybe.some i) × GoesOn maker t.0 t.1 kept)
+      → K kept owner i (record v { has_turn = has; waits = waits; seen = kept })
+  knows_all old kept owner i v has waits k long joined = record {
+    based = k.based;
+    started = k.started;
+    long = long;
+    numbered = k.numbered;
+    owned = k.owned;
+    seen = goes_on-itself maker v.number kept;
+    takes_in = joined;
+  }
+
   abbrev Served : ℕ → ℕ → Homes → List V → ℕ → V → B → Type 0
   Served t s hs vs id v b = (hs ≡ maybe.some (Some b) ∷ []) × Ok t s (maybe.none ∷ []) (set vs id (served v (entries b)))
-      × Follows maker v.number (entries b) v.seen × (v.base ≡ Some (base b)) × (v.start ≤ length (entries b))
+      × GoesOn maker v.number v.seen (entries b) × (v.base ≡ Some (base b)) × (v.start ≤ length (entries b))
 
   -- a seat whose ticket is served takes the slot
   look_step : (t s : ℕ) (hs : Homes) (vs : List V) (id : ℕ) (v : V) → Ok t s hs vs → get_elem? vs id ≡ maybe.some v → v.spent ≡ false → v.waits ≡ true
       → v.has_turn ≡ false → v.ticket ≡ s → (b : B) × Served t s hs vs id v b
   look_step t s hs vs id v r at live waits idle is = let h = r.home (none_serves t s hs vs id v r at waits idle is) in let b : B = h.0 in let w : V = served v
       (entries b) in let k = r.each id v at live in
-      let same : r.kept ≡ entries b = sym h.2 in let follows : Follows maker v.number (entries b) v.seen = subst (λ (l : List E). Follows maker v.number l v.seen) same k.seen in
+      let same : r.kept ≡ entries b = sym h.2 in let follows : GoesOn maker v.number v.seen (entries b) = subst (λ (l : List E). GoesOn maker v.number v.seen l) same k.seen in
       let longer : length (entries b)
-      ≡ length (v.seen ++ follows.0) = ap length follows.1 in let sum = length-append v.seen follows.0 in let long = k.long in let long' : v.start
+      ≡ length (v.seen ++ follows.others) = ap length follows.history in let sum = length-append v.seen follows.others in let long = k.long in let long' : v.start
       ≤ length (entries b) = omega arith in (
         b,
         (
@@ -118,16 +132,8 @@ module _ {B E D : Type 0} (entries : B → List E) (base : B → D) (maker : E �
                 (λ j x _ e q. let wrong : false ≡ true = sym (none_serves t s hs vs id v r at waits idle is j x e) ∙ q in absurd (cc));
             home = λ none. let wrong : true ≡ false = none id w (set_here vs id w (in_range vs id v at)) in absurd (cc);
             each = on_set (λ i x. x.spent ≡ false → K r.kept r.owner i x) vs id w
-                (λ _. record {
-                  based = k.based;
-                  started = k.started;
-                  long = long';
-                  numbered = k.numbered;
-                  owned = k.owned;
-                  seen = subst
-                      (λ (l : List E). Follows maker v.number r.kept l) same (follows_itself maker v.number r.kept);
-                  takes_in = k.takes_in;
-                })
+                (λ _. subst (λ (l : List E). K r.kept r.owner id (served v l)) same
+                (knows_all r.kept r.kept r.owner id v true v.waits k (let e = ap length same in omega (arith, e, long')) k.takes_in))
                 (λ j x _ e q. r.each j x e q);
             gives = on_set (λ i x. 0 < x.given → (i ≡ 0) × ((m : ℕ) → x.given ≤ m → r.owner m ≡ maybe.none)) vs id w (λ q. r.gives id v at q) (λ j x _ e q. r.gives j x e q);
             grown = r.grown;
@@ -162,10 +168,10 @@ module _ {B E D : Type 0} (entries : B → List E) (base : B → D) (maker : E �
   -- what a seat knows stays so where another adds an entry
   knows_more : (kept kept' : List E) (owner : ℕ → maybe.Option ℕ) (n i j : ℕ) (x : V) → AddsAtMostOne maker n kept kept' → owner n ≡ maybe.some i → j ≢ i → K kept owner j x → K kept' owner j x
   knows_more kept kept' owner n i j x adds mine other k =
-      let more : (m : ℕ) (seen : List E) → owner m ≡ maybe.some j → Follows maker m kept seen → Follows maker m kept' seen =
-      λ m seen own f. ⊎_elim (λ (same : kept' ≡ kept). subst (λ (l : List E). Follows maker m l seen) (sym same) f)
-      (λ (a : (e : E) × (kept' ≡ kept ++ e ∷ []) × (maker e ≡ n)). subst (λ (l : List E). Follows maker m l seen) (sym a.1)
-      (follows_more maker m kept seen a.0 (λ eq. other (maybe.some-injective j i (sym own ∙ (ap owner (sym eq ∙ a.2) ∙ mine)))) f)) adds in
+      let more : (m : ℕ) (seen : List E) → owner m ≡ maybe.some j → GoesOn maker m seen kept → GoesOn maker m seen kept' =
+      λ m seen own f. ⊎_elim (λ (same : kept' ≡ kept). subst (λ (l : List E). GoesOn maker m seen l) (sym same) f)
+      (λ (a : (e : E) × (kept' ≡ kept ++ e ∷ []) × (maker e ≡ n)). subst (λ (l : List E). GoesOn maker m seen l) (sym a.1)
+      (goes_on-more maker m kept seen a.0 (λ eq. other (maybe.some-injective j i (sym own ∙ (ap owner (sym eq ∙ a.2) ∙ mine)))) f)) adds in
       record { based = k.based; started = k.started; long = k.long; numbered = k.numbered; owned = k.owned; seen = more x.number x.seen k.owned k.seen; takes_in = λ q u e. let g = k.takes_in q u e in (g.0, g.1, more u.0 u.1 g.1 g.2) }
 
   -- the seat that has the turn puts the slot back and passes the turn on
@@ -195,15 +201,8 @@ module _ {B E D : Type 0} (entries : B → List E) (base : B → D) (maker : E �
               (λ j x other e q. let a = r.holder j x e q in absurd (later j x other e a.1 a.2));
           home = λ _. (b, refl, refl, some_same (base b) (base opening) (sym based ∙ k.based));
           each = on_set (λ i x. x.spent ≡ false → K (entries b) r.owner i x) vs id w
-              (λ _. record {
-                based = k.based;
-                started = k.started;
-                long = long';
-                numbered = k.numbered;
-                owned = k.owned;
-                seen = follows_itself maker v.number (entries b);
-                takes_in = λ q u e. absurd (nothing_there u q (subst (λ (l : List (ℕ × List E)). get_elem? l q ≡ maybe.some u) alone e));
-              })
+              (λ _. knows_all r.kept (entries b) r.owner id v false false k long'
+              (λ q u e. absurd (nothing_there u q (subst (λ (l : List (ℕ × List E)). get_elem? l q ≡ maybe.some u) alone e))))
               (λ j x other e q. knows_more r.kept (entries b) r.owner v.number id j x adds' k.owned other (r.each j x e q));
           gives = on_set (λ i x. 0 < x.given → (i ≡ 0) × ((m : ℕ) → x.given ≤ m → r.owner m ≡ maybe.none)) vs id w (λ q. r.gives id v at q) (λ j x _ e q. r.gives j x e q);
           grown = ⊎_elim (λ (same : entries b ≡ r.kept). (r.grown.0, same ∙ r.grown.1, r.grown.2))
@@ -237,7 +236,7 @@ module _ {B E D : Type 0} (entries : B → List E) (base : B → D) (maker : E �
       )
 
   abbrev Got : V → M → B → Type 0
-  Got v w b = (w ≡ (served v (entries b), (0, Some b) ∷ [])) × Follows maker v.number (entries b) v.seen × (v.base ≡ Some (base b)) × (v.start ≤ length (entries b))
+  Got v w b = (w ≡ (served v (entries b), (0, Some b) ∷ [])) × GoesOn maker v.number v.seen (entries b) × (v.base ≡ Some (base b)) × (v.start ≤ length (entries b))
 
   -- what the look told, where the ticket was served
   pub looked : (st : Step (Option B)) (m m' : M) (n ticket : ℕ) (w : M) → m ≡ m' → ReadsServing entries base maker st m n w → n ≡ ticket → m'.0.ticket ≡ ticket → m'.1 ≡ [] → (b : B) × Got m'.0 w b

@@ -9,7 +9,7 @@ use Rattle.std.proofs.lemmas.List.{append-nil, drop_at, drop-drop, map-append, g
 use Rattle.std.proofs.lemmas.List.Elements.{All-nil, All-cons, All-push, All-drop, All-append, All-head, All-tail, All-weaker}
 use Rattle.atomic_table.proofs.Lists.{at_set, set_else, set_here}
 use Rattle.ih_turn.specs.declared.view.View.{View}
-use Rattle.ih_turn.specs.Rule.{Follows, AreNumberedFromOne, HasNumber, all_left}
+use Rattle.ih_turn.specs.Rule.{GoesOn, AreNumberedFromOne, HasNumber, all_left}
 
 pub not_true : (b : Bool) → (b ≡ true → ⊥) → b ≡ false
 not_true true never = absurd (never refl)
@@ -85,11 +85,15 @@ module _ {E D : Type 0} where
   left_within (x ∷ xs) (suc i) v e = let h = left_within xs i v e in omega arith
 
 module _ {E : Type 0} (maker : E → ℕ) where
-  pub follows_itself : (n : ℕ) (xs : List E) → Follows maker n xs xs
-  follows_itself n xs = ([], sym (append-nil xs), All-nil (λ e. maker e ≢ n))
+  pub goes_on-itself : (n : ℕ) (xs : List E) → GoesOn maker n xs xs
+  goes_on-itself n xs = record { others = []; history = sym (append-nil xs); none = All-nil (λ e. maker e ≢ n) }
 
-  pub follows_more : (n : ℕ) (xs seen : List E) (e : E) → maker e ≢ n → Follows maker n xs seen → Follows maker n (xs ++ e ∷ []) seen
-  follows_more n xs seen e other f = (f.0 ++ e ∷ [], ap (λ (l : List E). l ++ e ∷ []) f.1 ∙ append_assoc seen f.0 (e ∷ []), All-push (λ x. maker x ≢ n) f.0 e f.2 other)
+  pub goes_on-more : (n : ℕ) (xs seen : List E) (e : E) → maker e ≢ n → GoesOn maker n seen xs → GoesOn maker n seen (xs ++ e ∷ [])
+  goes_on-more n xs seen e other f = record {
+    others = f.others ++ e ∷ [];
+    history = ap (λ (l : List E). l ++ e ∷ []) f.history ∙ append_assoc seen f.others (e ∷ []);
+    none = All-push (λ x. maker x ≢ n) f.others e f.none other;
+  }
 
 pub map_more : {A C : Type 0} (f : A → C) (xs ys : List A) (y : A) (ts zs : List C) → zs ≡ map f xs ++ ts → xs ≡ ys ++ y ∷ [] → zs ≡ map f ys ++ f y ∷ ts
 map_more f xs ys y ts zs e cut = e ∙ (ap (λ l. l ++ ts) (ap (map f) cut ∙ map-append f ys (y ∷ [])) ∙ append_assoc (map f ys) (f y ∷ []) ts)

@@ -1,15 +1,17 @@
 -- The rule of a turn, between any two steps, and what each step does to the view of the seat that steps.
 -- Word 0 is `ticket`, the tickets handed out, and word 1 is `serving`, those that are done with. The one slot holds the
 -- value.
-use Rattle.std.specs.Prelude.{◌≡◌, ◌≢◌, ℕ, ◌+◌, ◌-◌, ◌*◌, ◌^◌, ◌<◌, ◌≤◌, ◌==◌, ◌⊎◌, true, false, cond, nat_lt, List, [], ◌∷◌, ◌++◌, length, map, drop, slice_index, Option, Some, None, All, count_by}
+use Rattle.std.specs.Prelude.{◌≡◌, ◌≢◌, ℕ, ◌+◌, ◌-◌, ◌*◌, ◌^◌, ◌<◌, ◌≤◌, ◌==◌, ◌⊎◌, Bool, true, false, cond, nat_lt, List, [], ◌∷◌, ◌++◌, length, map, drop, slice_index, Option, Some, None, All, count_by}
 use mathlib.Core.Option as maybe
 use lib.ListN.{get_elem?}
 use Rattle.atomic_table.specs.Table.{State, Me, Step}
 use Rattle.ih_turn.specs.declared.view.View.{View}
 
--- xs begins with seen, and past that has no entry by n
-abbrev pub Follows : {E : Type 0} → (E → ℕ) → ℕ → List E → List E → Type 0
-Follows {E} maker n xs seen = (rest : List E) × (xs ≡ seen ++ rest) × All (λ e. maker e ≢ n) rest
+-- xs begins with what was seen, and past that has no entry by n
+pub record GoesOn {E : Type 0} (maker : E → ℕ) (n : ℕ) (seen xs : List E) : Type 0 where
+  pub others : List E
+  pub history : xs ≡ seen ++ others
+  pub none : All (λ e. maker e ≢ n) others
 
 -- the number n belongs to some seat
 abbrev pub IsGiven : ℕ → (ℕ → maybe.Option ℕ) → ℕ → Type 0
@@ -40,9 +42,9 @@ module _ {B E D : Type 0} (entries : B → List E) (base : B → D) (maker : E �
     pub numbered : v.number < seats
     pub owned : owner v.number ≡ maybe.some i
     -- the kept list begins with what the seat has seen, and what follows isn't the seat's
-    pub seen : Follows maker v.number kept v.seen
+    pub seen : GoesOn maker v.number v.seen kept
     -- so it is with each seat that this one has taken in
-    pub takes_in : (k : ℕ) (t : ℕ × List E) → get_elem? v.joined k ≡ maybe.some t → (t.0 < seats) × (owner t.0 ≡ maybe.some i) × Follows maker t.0 kept t.1
+    pub takes_in : (k : ℕ) (t : ℕ × List E) → get_elem? v.joined k ≡ maybe.some t → (t.0 < seats) × (owner t.0 ≡ maybe.some i) × GoesOn maker t.0 t.1 kept
 
   -- the two words, the slot and the views
   pub record Turns (ticket serving : ℕ) (homes : List (maybe.Option (Option B))) (views : List (View E D)) : Type 0 where
@@ -113,12 +115,12 @@ module _ {E D : Type 0} where
   spent_view = record { spent = true; number = 0; seen = []; base = None; start = 0; left = 0; waits = false; ticket = 0; has_turn = false; each = 0; given = 0; joined = [] }
 
   -- a seat from which another was split off: that one's turns are gone from its own
-  abbrev pub left_view : View E D → View E D
-  left_view v = record v { left = v.left - v.each; given = v.given + 1 }
+  abbrev pub remaining_view : View E D → View E D
+  remaining_view v = record v { left = v.left - v.each; given = v.given + 1 }
 
   -- the seat that was split off: it has the next number and its turns
-  abbrev pub right_view : View E D → View E D
-  right_view v = record v { number = v.given; left = v.each; waits = false; has_turn = false; each = 0; given = 0; joined = [] }
+  abbrev pub split_off_view : View E D → View E D
+  split_off_view v = record v { number = v.given; left = v.each; waits = false; has_turn = false; each = 0; given = 0; joined = [] }
 
   -- each number with the list that its seat had seen, once the view's seat takes in others, its own among them
   abbrev pub seen_lists : View E D → List (ℕ × List E)
@@ -147,7 +149,7 @@ module _ {E D : Type 0} where
   -- where the ticket is served, the seat has the slot with the value b in its hands
   abbrev pub ReadsServing : {B : Type 0} → (B → List E) → (B → D) → (E → ℕ) → Step (Option B) → Me (Option B) (View E D) → ℕ → Me (Option B) (View E D) → Type 0
   ReadsServing {B} entries base maker st m n w =
-      (n ≡ m.0.ticket → (b : B) × (w ≡ (served m.0 (entries b), (0, Some b) ∷ m.1)) × Follows maker m.0.number (entries b) m.0.seen × (m.0.base ≡ Some (base b)) × (m.0.start ≤ length (entries b)))
+      (n ≡ m.0.ticket → (b : B) × (w ≡ (served m.0 (entries b), (0, Some b) ∷ m.1)) × GoesOn maker m.0.number m.0.seen (entries b) × (m.0.base ≡ Some (base b)) × (m.0.start ≤ length (entries b)))
       × (n ≢ m.0.ticket → w ≡ m)
 
   -- the seat that put the value back has passed the turn on, and has seen the list that it put back
@@ -162,26 +164,25 @@ added_by maker n start xs = count_by (λ e. maker e == n) (drop start xs)
 abbrev pub made_by : {E D : Type 0} → (E → ℕ) → View E D → ℕ
 made_by maker v = added_by maker v.number v.start v.seen
 
--- the seat holds neither a ticket nor the turn, and has taken in no other
-pub record Rests {E D : Type 0} (v : View E D) : Type 0 where
-  -- it wasn't taken in by another, holds no ticket, hasn't the turn, has taken in no other, and its list has only grown
+-- the seat has the turn, or holds not even a ticket, and has taken in no other
+pub record Stands {E D : Type 0} (has : Bool) (v : View E D) : Type 0 where
+  -- it wasn't taken in by another, has a ticket and the turn or neither, has taken in no other, and its list has only grown
   pub whole : v.spent ≡ false
-  pub free : v.waits ≡ false
-  pub idle : v.has_turn ≡ false
+  pub ticket : v.waits ≡ has
+  pub turn : v.has_turn ≡ has
   pub alone : v.joined ≡ []
   pub long : v.start ≤ length v.seen
+
+-- the seat holds neither a ticket nor the turn
+abbrev pub Rests : {E D : Type 0} → View E D → Type 0
+Rests v = Stands false v
 
 -- the seat has the turn
-pub record Serves {E D : Type 0} (v : View E D) : Type 0 where
-  -- it wasn't taken in by another, holds a ticket, has the turn, has taken in no other, and its list has only grown
-  pub whole : v.spent ≡ false
-  pub waiting : v.waits ≡ true
-  pub serving : v.has_turn ≡ true
-  pub alone : v.joined ≡ []
-  pub long : v.start ≤ length v.seen
+abbrev pub Serves : {E D : Type 0} → View E D → Type 0
+Serves v = Stands true v
 
 -- the view is of a seat of the turn that was made with the value opening
-pub record IsOf {B E D : Type 0} (entries : B → List E) (base : B → D) (opening : B) (v : View E D) : Type 0 where
+pub record IsViewOf {B E D : Type 0} (entries : B → List E) (base : B → D) (opening : B) (v : View E D) : Type 0 where
   pub based : v.base ≡ Some (base opening)
   pub started : v.start ≡ length (entries opening)
 
@@ -204,7 +205,7 @@ AddsBelow {E} maker seats xs ys = (rest : List E) × (ys ≡ xs ++ rest) × All 
 -- the value at the end, where a seat with the view v has taken in all others
 pub record Closes {B E D : Type 0} (entries : B → List E) (base : B → D) (maker : E → ℕ) (opening : B) (seats : ℕ) (v : View E D) (b : B) : Type 0 where
   pub based : base b ≡ base opening
-  pub marked : (k : ℕ) (t : ℕ × List E) → get_elem? (seen_lists v) k ≡ maybe.some t → Follows maker t.0 (entries b) t.1
+  pub marked : (k : ℕ) (t : ℕ × List E) → get_elem? (seen_lists v) k ≡ maybe.some t → GoesOn maker t.0 t.1 (entries b)
   pub added : AddsBelow maker seats (entries opening) (entries b)
 
 -- the first seat, while r of the seats are not split off yet, itself among them

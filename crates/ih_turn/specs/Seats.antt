@@ -5,7 +5,7 @@ use Rattle.ih_turn.specs.declared.seat.Seat.{Seat}
 use Rattle.ih_turn.specs.declared.turn.RuledTurn.{RuledTurn}
 use Rattle.ih_turn.specs.declared.held.Holder.{Holder}
 use Rattle.ih_turn.specs.declared.held.Guard.{Guard}
-use Rattle.ih_turn.specs.Rule.{IsOf, made_by}
+use Rattle.ih_turn.specs.Rule.{IsViewOf, made_by}
 
 module _ {B E D P : Type 0} {k : Ghosts B E D} where
   -- the value that the turn was made with
@@ -35,7 +35,7 @@ module _ {B E D : Type 0} {k : Ghosts B E D} where
 
   -- the seat is one of this turn's
   abbrev pub IsSeatOf : {P : Type 0} → RuledTurn B P E D k → Seat B E D k → Type 0
-  IsSeatOf turn seat = (seat.token.table_id ≡ turn.table.shared.table_id) × IsOf k.entries k.base (opened_with turn) seat.token.me.0
+  IsSeatOf turn seat = (seat.token.table_id ≡ turn.table.shared.table_id) × IsViewOf k.entries k.base (opened_with turn) seat.token.me.0
 
 -- the value that is held
 abbrev pub value_of : {H B : Type 0} → Guard H B → B

@@ -1,6 +1,6 @@
 //! How a turn is closed: all seats are joined into the one with the number 0, which then takes the value out.
 ghost use Rattle.std.specs.Prelude.{◌≡◌, ℕ, ◌<◌, false, [], ◌∷◌, ◌++◌, length, map, All, Contains};
-ghost use Rattle.ih_turn.specs.Rule.{Follows, Rests, AddsBelow, Covers, Closes, seen_lists, added_by};
+ghost use Rattle.ih_turn.specs.Rule.{GoesOn, Rests, AddsBelow, Covers, Closes, seen_lists, added_by};
 
 use crate::kept::Kept;
 use crate::rule::JoinSeat;
@@ -19,7 +19,7 @@ impl<B: Kept> Turn<B> {
         requires own { All (IsSeatOf self) seats.items }
         requires all { (n : ℕ) → n < seat_count self → Contains (map number_of seats.items) n }
         ensures base { B.base result ≡ B.base (opened_with self) }
-        ensures seen { All (λ s. Follows B.maker (number_of s) (B.entries result) (history s)) seats.items }
+        ensures seen { All (λ s. GoesOn B.maker (number_of s) (history s) (B.entries result)) seats.items }
         ensures made { All (λ s. made_count s
             ≡ added_by B.maker (number_of s) (length (B.entries (opened_with self))) (B.entries result)) seats.items }
         ensures added { AddsBelow B.maker (seat_count self) (B.entries (opened_with self)) (B.entries result) }

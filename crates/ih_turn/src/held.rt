@@ -1,7 +1,7 @@
 //! The value in the hands of a seat: how the seat takes it, and how it passes the turn on.
 // Word 0 of the table is `ticket`, word 1 is `serving`, and slot 0 is the value's.
 ghost use Rattle.std.specs.Prelude.{◌≡◌, ◌+◌, ◌<◌, ◌≤◌, true, false, [], ◌∷◌, None, Some, length};
-ghost use Rattle.ih_turn.specs.Rule.{Follows, Serves, IsOf, AddsAtMostOne, made_by, served};
+ghost use Rattle.ih_turn.specs.Rule.{GoesOn, Serves, IsViewOf, AddsAtMostOne, made_by, served};
 
 use crate::kept::Kept;
 use crate::rule::{PassTurn, ReadServing, Setup, TakeTicket, TurnRule};
@@ -50,7 +50,7 @@ pub struct Holder<'a, B: Kept, P: TableRule<Option<B>, View<B::Entry, B::Base>, 
     ghost own: { token.table_id ≡ turn.now.table.shared.table_id },
     ghost out: { token.me.1 ≡ (0, None) ∷ [] },
     ghost serves: { Serves token.me.0 },
-    ghost is_of: { IsOf B.entries B.base turn.now.table.shared.key.opening.value token.me.0 },
+    ghost is_of: { IsViewOf B.entries B.base turn.now.table.shared.key.opening.value token.me.0 },
     ghost number_is: { number ≡ token.me.0.number },
     ghost seen_is: { seen ≡ length token.me.0.seen },
     ghost made_is: { made ≡ made_by B.maker token.me.0 },
@@ -76,7 +76,7 @@ impl<B: Kept> Turn<B> {
     pub fn take<R: Wait>(&self, rt: &R, seat: Seat<B>) -> Held<'_, B>
         requires own { IsSeatOf self.now seat }
         requires left { 0 < turns_left seat }
-        ensures begins { Follows B.maker (number_of seat) (B.entries (value_of result)) (history seat) }
+        ensures begins { GoesOn B.maker (number_of seat) (history seat) (B.entries (value_of result)) }
         ensures base { B.base (value_of result) ≡ B.base (opened_with self.now) }
         ensures list { list_at_take result ≡ B.entries (value_of result) }
         ensures seat { (turn_of result ≡ self.now) × (holder_number result ≡ number_of seat)
@@ -119,7 +119,7 @@ impl<B: Kept> Turn<B> {
             × (token.old.me.0.has_turn ≡ false) × (token.old.me.0.ticket ≡ ticket) × (token.old.me.1 ≡ []) }
         ensures own { token.new.table_id ≡ token.old.table_id }
         ensures served { token.new.me ≡ (served token.old.me.0 (B.entries result), (0, None) ∷ []) }
-        ensures begins { Follows B.maker token.old.me.0.number (B.entries result) token.old.me.0.seen }
+        ensures begins { GoesOn B.maker token.old.me.0.number token.old.me.0.seen (B.entries result) }
         ensures base { token.old.me.0.base ≡ Some (B.base result) }
         ensures long { token.old.me.0.start ≤ length (B.entries result) }
     {

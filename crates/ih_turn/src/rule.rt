@@ -1,5 +1,5 @@
 //! The rule of the two words `ticket` and `serving`, of the slot and of all views, and what each step tells.
-ghost use Rattle.ih_turn.specs.Rule.{IsTurn, first_view, left_view, right_view, both_views, spent_view, TakesTicket, ReadsServing, PassesTurn};
+ghost use Rattle.ih_turn.specs.Rule.{IsTurn, first_view, remaining_view, split_off_view, both_views, spent_view, TakesTicket, ReadsServing, PassesTurn};
 
 use crate::kept::Kept;
 use crate::view::View;
@@ -70,9 +70,9 @@ pub struct SplitSeat<B> {
 }
 
 impl<B: Kept> Split<View<B::Entry, B::Base>> for SplitSeat<B> {
-    ghost left = { left_view };
+    ghost left = { remaining_view };
 
-    ghost right = { right_view };
+    ghost right = { split_off_view };
 }
 
 /// A seat is taken in by another.

@@ -1,6 +1,6 @@
 //! A turn, and how it is made: the table with the value in its slot, and a seat for each number.
 ghost use Rattle.std.specs.Prelude.{◌≡◌, ℕ, ◌+◌, ◌*◌, ◌^◌, ◌<◌, ◌≤◌, [], ◌∷◌, IfOk, IfErr, length, map, slice_index, vec_len, vec_capacity, All};
-ghost use Rattle.ih_turn.specs.Rule.{Rests, AreNumberedFromOne, first_view, splitting_view, seat_view, left_view, right_view};
+ghost use Rattle.ih_turn.specs.Rule.{Rests, AreNumberedFromOne, first_view, splitting_view, seat_view, remaining_view, split_off_view};
 
 use crate::kept::Kept;
 use crate::rule::{Setup, SplitSeat, TurnRule};
@@ -124,8 +124,8 @@ impl<B: Kept> Turn<B> {
         requires gives { (token.old.me.0.given ≡ number) × (token.old.me.0.each ≡ left) × (left ≤ token.old.me.0.left) }
         requires seen { (seen ≡ length token.old.me.0.seen) × (token.old.me.0.start ≡ seen) }
         ensures token { (token.new.table_id ≡ token.old.table_id) × (token.new.id ≡ token.old.id)
-            × (token.new.me ≡ (left_view token.old.me.0, [])) }
-        ensures seat { (result.token.table_id ≡ token.old.table_id) × (result.token.me.0 ≡ right_view token.old.me.0)
+            × (token.new.me ≡ (remaining_view token.old.me.0, [])) }
+        ensures seat { (result.token.table_id ≡ token.old.table_id) × (result.token.me.0 ≡ split_off_view token.old.me.0)
             × (result.number ≡ number) × (made_count result ≡ 0) × (result.left ≡ left) }
     {
         let other = self.table.shared.split_seat::<SplitSeat<B>>(token);

@@ -2,7 +2,7 @@ use Rattle.std.proofs.Common.{◌≡◌, ◌∷◌, ◌++◌, [], length, map, a
 use Rattle.std.specs.Prelude.{All}
 use Rattle.std.proofs.lemmas.List.Elements.{All-same, All-map, All-contains, All-weaker}
 use Rattle.ih_turn.specs.Seats.{IsSeatOf}
-use Rattle.ih_turn.specs.Rule.{Follows, HasNumber, seen_lists, with_own}
+use Rattle.ih_turn.specs.Rule.{GoesOn, HasNumber, seen_lists, with_own}
 use Rattle.ih_turn.proofs.Views.{all_close, have_close, all_without}
 use Rattle.ih_turn.proofs.Counts.{made_at_end}
 use Rattle.ih_turn.proofs.closing.Turn+B.close.Goals as goal
@@ -33,8 +33,8 @@ pub returns-clause-seen : goal.returns-clause-seen
 returns-clause-seen g c = let r = c.take_first-root.result in let f = c.take_first-root.ensures in let v = r.token.me.0 in let ts = seen_lists c.join_all.new.token.me.0 in let xs = g.B.Kept.entries c.take_out.result in let maker = g.B.Kept.maker in
     let own = ap (with_own v.number v.seen) r.rests.alone ∙ ap (λ n. (n, v.seen) ∷ []) (sym r.number_is) in
     let is = c.join_all.ensures.seen_lists ∙ (ap (λ l. map (λ s. (s.number, s.token.me.0.seen)) l ++ seen_lists v) f.3 ∙ ap (λ l. map (λ s. (s.number, s.token.me.0.seen)) (f.0 ++ f.1) ++ l) own) in
-    All-same (λ s. Follows maker s.number xs s.token.me.0.seen) c.args.seats.items (f.0 ++ r ∷ f.1) f.2
-    (all_close (λ s. s.number) (λ s. s.token.me.0.seen) f.0 f.1 r ts is (λ t. Follows maker t.0 xs t.1) c.take_out.ensures.marked)
+    All-same (λ s. GoesOn maker s.number s.token.me.0.seen xs) c.args.seats.items (f.0 ++ r ∷ f.1) f.2
+    (all_close (λ s. s.number) (λ s. s.token.me.0.seen) f.0 f.1 r ts is (λ t. GoesOn maker t.0 t.1 xs) c.take_out.ensures.marked)
 
 pub returns-clause-made : goal.returns-clause-made
 returns-clause-made g c = made_at_end g.B.Kept.maker (λ s. s.number) (λ s. s.token.me.0) (length (g.B.Kept.entries c.args.self.table.shared.key.opening.value))

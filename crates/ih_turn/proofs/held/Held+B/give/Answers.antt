@@ -12,7 +12,7 @@ fetch_add-requires g c = let h = c.args.self.holder in let key = h.turn.now.tabl
     let e = c.exchange-gone.ensures.3 ∙ ap (λ l. (v, (0, Some b) ∷ rest l)) h.out in (
       search rules,
       search rules,
-      passes_at g.B.Kept.entries g.B.Kept.base maker key.opening.value key.seats key.turns h.turn.now.table.shared.table_id.slots c.exchange-gone.new.seat.id c.exchange-gone.new.seat.me v b e h.serves.serving h.serves.alone (omega arith)
+      passes_at g.B.Kept.entries g.B.Kept.base maker key.opening.value key.seats key.turns h.turn.now.table.shared.table_id.slots c.exchange-gone.new.seat.id c.exchange-gone.new.seat.me v b e h.serves.turn h.serves.alone (omega arith)
           (h.is_of.based ∙ ap Some (sym c.requires.base)) adds,
     )
 
@@ -25,7 +25,7 @@ invariant_of-result g c = let h = c.args.self.holder in let v = h.token.me.0 in 
     ≡ passed v xs = ap (λ m. m.0) gone
     ∙ ap (λ m. passed m.0 xs) e in let seen = h.seen_is in let now = c.len-now.ensures in let made = h.made_is in let counted = more.1 in record {
       empty = ap (λ m. m.1) gone;
-      rests = subst (λ z. Rests z) (sym w) record { whole = h.serves.whole; free = refl; idle = refl; alone = h.serves.alone; long = omega arith };
+      rests = subst (λ z. Rests z) (sym w) record { whole = h.serves.whole; ticket = refl; turn = refl; alone = h.serves.alone; long = omega arith };
       number_is = h.number_is ∙ ap (λ z. z.number) (sym w);
       seen_is = now ∙ ap (λ z. length z.seen) (sym w);
       made_is = (let sum : h.made + (c.len-now.result - h.seen) ≡ made_by maker (passed v xs) = omega arith in sum ∙ ap (λ z. made_by maker z) (sym w));

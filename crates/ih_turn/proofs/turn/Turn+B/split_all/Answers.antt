@@ -1,5 +1,5 @@
 use Rattle.std.proofs.Common.{◌≡◌, ℕ, ◌+◌, ◌-◌, [], length, arith, ap, ◌∙◌, sym, subst}
-use Rattle.ih_turn.specs.Rule.{AreNumberedFromOne, made_by, root_view, left_view, right_view, seat_view}
+use Rattle.ih_turn.specs.Rule.{AreNumberedFromOne, made_by, root_view, remaining_view, split_off_view, seat_view}
 use Rattle.ih_turn.proofs.Views.{one_less, one_more_numbered}
 use Rattle.ih_turn.proofs.turn.Turn+B.split_all.Goals as goal
 
@@ -10,7 +10,7 @@ loop-number-preserved g c = let inv = c.loop-number.invariant in let r : ℕ = i
       omega arith,
       told.token.0 ∙ inv.2,
       told.token.1 ∙ inv.3,
-      told.token.2 ∙ (ap (λ m. (left_view m.0, [])) inv.4 ∙ ap (λ z. (root_view entries base value z (n + 1) turns, [])) (one_less r turns (omega arith))),
+      told.token.2 ∙ (ap (λ m. (remaining_view m.0, [])) inv.4 ∙ ap (λ z. (root_view entries base value z (n + 1) turns, [])) (one_less r turns (omega arith))),
       omega arith,
       c.push_reserved.ensures.capacity ∙ inv.6,
       subst (λ l. AreNumberedFromOne (λ s. s.number)
@@ -20,5 +20,5 @@ loop-number-preserved g c = let inv = c.loop-number.invariant in let r : ℕ = i
           (λ s. (s.token.table_id ≡ c.args.self.now.table.shared.table_id) × (s.token.me.0 ≡ seat_view entries base value s.number turns)
           × (made_by g.B.Kept.maker s.token.me.0 ≡ 0) × (s.left ≡ turns)) row.items next inv.7
           (told.seat.2 ∙ (let e : n ≡ length row.items + 1 = omega arith in e))
-          (told.seat.0 ∙ (inv.2 ∙ c.requires.own.0), told.seat.1 ∙ (ap (λ m. right_view m.0) inv.4 ∙ ap (λ z. seat_view entries base value z turns) (sym told.seat.2)), told.seat.3, told.seat.4)),
+          (told.seat.0 ∙ (inv.2 ∙ c.requires.own.0), told.seat.1 ∙ (ap (λ m. split_off_view m.0) inv.4 ∙ ap (λ z. seat_view entries base value z turns) (sym told.seat.2)), told.seat.3, told.seat.4)),
     )

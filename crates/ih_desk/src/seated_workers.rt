@@ -1,0 +1,99 @@
+//! A worker: a searcher and its seat.
+
+ghost use Rattle.std.specs.Prelude.{IsSome};
+
+use crate::desk::DeskSeat;
+use crate::worker_loop::Searcher;
+use ih_cellbook::{Opens, Replicates};
+use ih_journal::Options;
+use ih_plan::Plan;
+use ih_tables::Instance;
+use std::alloc::Global;
+
+/// One of the workers of a search, with its seat at the desk. Both are parameters, since a struct can't hold a seat of
+/// a type that has parameters itself.
+#[derive(Drop)]
+pub struct Seated<S, T> {
+    pub(crate) searcher: S,
+    // A seat can't be moved out of a reference, so it is taken out of here for each call. It is there between calls.
+    pub(crate) seat: Option<T>,
+    ghost seated: { IsSome seat },
+}
+
+/// A worker that prices on such replicas.
+pub type WorkerOn<'a, C> = Seated<Searcher<'a, C>, DeskSeat<'a, <C as Replicates>::Entry>>;
+
+impl<'a, C: Opens<'a>> WorkerOn<'a, C> {
+    ghost use Rattle.std.specs.Prelude.{◌≡◌, ◌≤◌, IfOk, IfErr};
+    ghost use Rattle.ih_plan.specs.Timetable.{IsPlanOf};
+    ghost use Rattle.ih_journal.specs.Settings.{IsLawful};
+    ghost use Rattle.ih_cellbook.specs.Keeping.{base_with};
+    ghost use Rattle.ih_desk.specs.Workers.{IsNewWorker};
+
+    /// A worker with this seat, in a search over a start by attempts of `each` moves. It has drawn and seen nothing.
+    /// `new` is for attempts of one move.
+    ///
+    /// # Errors
+    /// The seat, where memory runs out.
+    pub fn of(
+        alloc: Global,
+        inst: &'a Instance,
+        start: &Plan,
+        options: &Options,
+        freeze: u32,
+        each: u32,
+        seat: DeskSeat<'a, C::Entry>,
+    ) -> Result<WorkerOn<'a, C>, DeskSeat<'a, C::Entry>>
+        requires start { IsPlanOf inst.now.draft start.now }
+        requires lawful { IsLawful options.now }
+        requires freeze { freeze ≤ C.Entry.Attempt.most_freeze }
+        requires each { C.Entry.Attempt.may_have each }
+        ensures new { IfOk result
+            (λ w. IsNewWorker (base_with inst.entry.now.draft start.now options.now freeze) each w seat.entry) }
+        ensures refused { IfErr result (λ s. s ≡ seat.entry) }
+    {
+        match Searcher::open(alloc, inst, start, options, freeze, each, seat.number()) {
+            Ok(searcher) => Ok(Seated {
+                searcher,
+                seat: Some(seat),
+            }),
+            Err(_) => Err(seat),
+        }
+    }
+
+    /// As `of`, for attempts of one move: a worker of a search by single moves.
+    ///
+    /// # Errors
+    /// The seat, where memory runs out.
+    pub fn new(
+        alloc: Global,
+        inst: &'a Instance,
+        start: &Plan,
+        options: &Options,
+        freeze: u32,
+        seat: DeskSeat<'a, C::Entry>,
+    ) -> Result<WorkerOn<'a, C>, DeskSeat<'a, C::Entry>>
+        requires start { IsPlanOf inst.now.draft start.now }
+        requires lawful { IsLawful options.now }
+        requires freeze { freeze ≤ C.Entry.Attempt.most_freeze }
+        requires single { C.Entry.Attempt.may_have 1 }
+        ensures new { IfOk result
+            (λ w. IsNewWorker (base_with inst.entry.now.draft start.now options.now freeze) 1 w seat.entry) }
+        ensures refused { IfErr result (λ s. s ≡ seat.entry) }
+    {
+        Seated::of(alloc, inst, start, options, freeze, 1, seat)
+    }
+}
+
+impl<S: Drop, T> Seated<S, T> {
+    ghost use Rattle.ih_desk.specs.Workers.{Holds};
+
+    /// The worker's seat.
+    pub fn into_seat(self) -> T
+        ensures { Holds self result }
+    {
+        let Seated { searcher: _, seat } = self;
+        let Some(seat) = seat else { unreachable!() };
+        seat
+    }
+}
