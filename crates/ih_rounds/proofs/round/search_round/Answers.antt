@@ -27,41 +27,36 @@ few-slice b es xs is lawful full =
 
 pub put_journal-requires-clause-few : goal.put_journal-requires-clause-few
 put_journal-requires-clause-few g c =
-    let b = base_with c.args.inst.now.draft c.args.start.now c.args.options.now 0 in
-    let few = few-slice b _ _ c.as_slice-entries.ensures.value c.requires.lawful c.in_ok-answer.ensures.full in
+    let few = few-slice _ _ _ c.as_slice-entries.ensures.value c.requires.lawful c.in_ok-answer.ensures.full in
     omega (arith, few)
 
 pub put_journal-requires-clause-prices : goal.put_journal-requires-clause-prices
 put_journal-requires-clause-prices g c =
     let b = base_with c.args.inst.now.draft c.args.start.now c.args.options.now 0 in
-    let full : IsFull b 1 (tries c.as_slice-entries.result.now) =
-    full-slice b _ _ c.as_slice-entries.ensures.value c.in_ok-answer.ensures.full in
+    let full = full-slice b _ _ c.as_slice-entries.ensures.value c.in_ok-answer.ensures.full in
     prices-in b 1 c.as_slice-entries.result.now full.legal c.requires.start c.args.inst.now.valid
 
 pub best_in-found-requires-clause-over : goal.best_in-found-requires-clause-over
 best_in-found-requires-clause-over g c =
     let b = base_with c.args.inst.now.draft c.args.start.now c.args.options.now 0 in
-    let full : IsFull b 1 (tries c.as_slice-entries.result.now) =
-    full-slice b _ _ c.as_slice-entries.ensures.value c.in_ok-answer.ensures.full in
+    let full = full-slice b _ _ c.as_slice-entries.ensures.value c.in_ok-answer.ensures.full in
     (b, over b (tries c.as_slice-entries.result.now) c.bill.result c.requires.start c.bill.ensures.value full.legal)
 
 pub best_in-found-requires-clause-few : goal.best_in-found-requires-clause-few
 best_in-found-requires-clause-few g c =
-    let b = base_with c.args.inst.now.draft c.args.start.now c.args.options.now 0 in
-    let few = few-slice b _ _ c.as_slice-entries.ensures.value c.requires.lawful c.in_ok-answer.ensures.full in
+    let few = few-slice _ _ _ c.as_slice-entries.ensures.value c.requires.lawful c.in_ok-answer.ensures.full in
     omega (arith, few)
 
 pub overflow_cast-count : goal.overflow_cast-count
 overflow_cast-count g c =
-    let b = base_with c.args.inst.now.draft c.args.start.now c.args.options.now 0 in
-    let few = few-slice b _ _ c.as_slice-entries.ensures.value c.requires.lawful c.in_ok-answer.ensures.full in
+    let few = few-slice _ _ _ c.as_slice-entries.ensures.value c.requires.lawful c.in_ok-answer.ensures.full in
     omega (arith, few)
 
 pub plan_at-requires-clause-inside : goal.plan_at-requires-clause-inside
 plan_at-requires-clause-inside g c =
     let b = base_with c.args.inst.now.draft c.args.start.now c.args.options.now 0 in
     let H = c.as_slice-entries.result.now in
-    let full : IsFull b 1 (tries H) = full-slice b _ _ c.as_slice-entries.ensures.value c.in_ok-answer.ensures.full in
+    let full = full-slice b _ _ c.as_slice-entries.ensures.value c.in_ok-answer.ensures.full in
     let best = c.best_in-found.ensures b (over b (tries H) c.bill.result c.requires.start c.bill.ensures.value full.legal) in
     let many = length-map H tried in
     rw c.end_of.ensures (subst (λ n. end_of c.best_in-found.result n ≤ n) many (end-inside b (tries H) c.best_in-found.result best))
@@ -69,15 +64,14 @@ plan_at-requires-clause-inside g c =
 pub plan_at-requires-clause-moves : goal.plan_at-requires-clause-moves
 plan_at-requires-clause-moves g c =
     let b = base_with c.args.inst.now.draft c.args.start.now c.args.options.now 0 in
-    let full : IsFull b 1 (tries c.as_slice-entries.result.now) =
-    full-slice b _ _ c.as_slice-entries.ensures.value c.in_ok-answer.ensures.full in
+    let full = full-slice b _ _ c.as_slice-entries.ensures.value c.in_ok-answer.ensures.full in
     moves-in b 1 (tries c.as_slice-entries.result.now) full.legal
 
 pub returns-clause-round : goal.returns-clause-round
 returns-clause-round g c =
     let b = base_with c.args.inst.now.draft c.args.start.now c.args.options.now 0 in
     let H = c.as_slice-entries.result.now in
-    let full : IsFull b 1 (tries H) = full-slice b _ _ c.as_slice-entries.ensures.value c.in_ok-answer.ensures.full in
+    let full = full-slice b _ _ c.as_slice-entries.ensures.value c.in_ok-answer.ensures.full in
     let found = c.best_in-found.result in
     let next : c.in_ok-next.next ≡ next_start b (tries H) found =
     c.in_ok-next.ensures.made
