@@ -10,19 +10,12 @@ use Rattle.ih_journal.specs.declared.settings.Options.{Options}
 use Rattle.ih_journal.specs.Settings.{IsLawful}
 use Rattle.ih_journal.specs.Texts.{ended, heading}
 use Rattle.ih_journal.proofs.HeadTexts.{heading_lacks, lawful_short}
+use Rattle.ih_journal.proofs.Separators.{at_none, at_some}
 use Rattle.ih_top.specs.JournalLines.{HasLine, HasNoFeed}
 use Rattle.ih_top.specs.JournalHeading.{HasNoHeading}
 
 abbrev pub is_feed : ℕ → Bool
 is_feed b = b == 10
-
-at_some : (b : Bool) (x i : ℕ) → cond b (Some x) None ≡ Some i → (b ≡ true) × (x ≡ i)
-at_some true x i h = let same : Some x ≡ Some i = h in (refl, cc)
-at_some false x i h = absurd (let no : None ≡ Some i = h in cc)
-
-at_none : (b : Bool) (x : ℕ) → cond b (Some x) None ≡ None → b ≡ false
-at_none true x h = absurd (let no : Some x ≡ None = h in cc)
-at_none false x h = refl
 
 -- bytes with a line feed begin with the line before it
 pub line_here : (bytes : List ℕ) (i : ℕ) → position is_feed bytes ≡ Some i → (i < length bytes) × HasLine bytes (take i bytes) (drop (i + 1) bytes)
