@@ -104,8 +104,8 @@ pub fn nurse(
     })
 }
 
-/// Gives a patient names and rows.
-pub fn fill_in(
+// Gives a patient names and rows.
+fn fill_in(
     alloc: Global,
     patient: &mut Patient,
     id: &str,
@@ -122,13 +122,14 @@ pub fn fill_in(
     Ok(())
 }
 
-/// An optional child of one day, whose surgery takes 40 minutes.
-pub fn optional(
+/// An optional child of one day, whose surgery takes 40 minutes, with these names and rows.
+pub fn patient(
     alloc: Global,
     id: &str,
     gender: &str,
     barred: &[RoomNo],
-    skill: u32,
+    workload: &[u32],
+    skill: &[u32],
 ) -> Result<Patient, AllocError> {
     let mut patient = Patient {
         id: Name::new(String::new(alloc)),
@@ -144,14 +145,6 @@ pub fn optional(
         workload_produced: List::new(Vec::new(alloc)),
         skill_level_required: List::new(Vec::new(alloc)),
     };
-    fill_in(
-        alloc,
-        &mut patient,
-        id,
-        gender,
-        barred,
-        &[1; 3],
-        &[skill; 3],
-    )?;
+    fill_in(alloc, &mut patient, id, gender, barred, workload, skill)?;
     Ok(patient)
 }

@@ -1,7 +1,7 @@
 //! A ward of one day.
 
 use crate::error::FixtureError;
-use crate::parts::{bare, name_kinds, nurse, optional, room, surgeons, theatre};
+use crate::parts::{bare, name_kinds, nurse, patient, room, surgeons, theatre};
 use ih_tables::{Draft, Instance, List, Patient};
 use std::alloc::{AllocError, Global};
 
@@ -25,7 +25,7 @@ fn one_room(alloc: Global) -> Result<Draft, AllocError> {
 fn patients(alloc: Global, ids: &[&str]) -> Result<List<Patient>, AllocError> {
     let mut items = Vec::new(alloc);
     for id in ids {
-        items.push(optional(alloc, id, "A", &[], 0)?)?;
+        items.push(patient(alloc, id, "A", &[], &[1; 3], &[0; 3])?)?;
     }
     Ok(List::new(items))
 }

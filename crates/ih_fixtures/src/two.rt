@@ -4,12 +4,8 @@ ghost use Rattle.std.specs.Prelude.{IfOk, IsTrue};
 ghost use Rattle.ih_fixtures.specs.Two.{IsOfTwo};
 
 use crate::error::FixtureError;
-use crate::parts::{
-    bare, fill_in, name, name_kinds, numbers, nurse, optional, room, surgeons, theatre,
-};
-use ih_tables::{
-    Draft, Instance, List, Name, Nurse, Occupant, Patient, Room, RoomNo, SurgeonNo, Theatre,
-};
+use crate::parts::{bare, name, name_kinds, numbers, nurse, patient, room, surgeons, theatre};
+use ih_tables::{Draft, Instance, List, Name, Nurse, Occupant, Patient, Room, RoomNo, Theatre};
 use std::alloc::{AllocError, Global};
 
 fn theatres(alloc: Global) -> Result<List<Theatre>, AllocError> {
@@ -61,36 +57,19 @@ fn occupants(alloc: Global) -> Result<List<Occupant>, AllocError> {
 }
 
 fn mandatory(alloc: Global) -> Result<Patient, AllocError> {
-    let mut patient = Patient {
-        id: Name::new(String::new(alloc)),
-        mandatory: true,
-        gender: Name::new(String::new(alloc)),
-        age_group: 2,
-        length_of_stay: 5,
-        surgery_release_day: 0,
-        surgery_due_day: Some(1),
-        surgery_duration: 60,
-        surgeon_id: SurgeonNo(0),
-        incompatible_room_ids: List::new(Vec::new(alloc)),
-        workload_produced: List::new(Vec::new(alloc)),
-        skill_level_required: List::new(Vec::new(alloc)),
-    };
-    fill_in(
-        alloc,
-        &mut patient,
-        "p0",
-        "A",
-        &[RoomNo(1)],
-        &[2; 6],
-        &[0; 6],
-    )?;
+    let mut patient = patient(alloc, "p0", "A", &[RoomNo(1)], &[2; 6], &[0; 6])?;
+    patient.mandatory = true;
+    patient.age_group = 2;
+    patient.length_of_stay = 5;
+    patient.surgery_due_day = Some(1);
+    patient.surgery_duration = 60;
     Ok(patient)
 }
 
 fn patients(alloc: Global, barred: &[RoomNo]) -> Result<List<Patient>, AllocError> {
     let mut items = Vec::new(alloc);
     items.push(mandatory(alloc)?)?;
-    items.push(optional(alloc, "p1", "B", barred, 2)?)?;
+    items.push(patient(alloc, "p1", "B", barred, &[1; 3], &[2; 3])?)?;
     Ok(List::new(items))
 }
 

@@ -7,14 +7,11 @@ ghost use Rattle.ih_plan.specs.Timetable.{IsPlanOf};
 ghost use Rattle.ih_fixtures.specs.Two.{IsOfTwo};
 
 use ih_costs::Ledgers;
-use ih_fixtures::{first_day, on_first_admitted};
+use ih_fixtures::{first_day, on_first_admitted, share};
 use ih_footprint::{CellList, Numbering};
 use ih_plan::{Move, Plan, Write};
 use ih_tables::{Bill, Day, Instance, NurseNo, PatientNo, RoomNo, Shift};
 use std::alloc::Global;
-
-/// Threads share the ledgers.
-fn share<T: Send + Sync>(_x: &T) {}
 
 // Whether a bill has these numbers.
 fn is(bill: &Bill, broken: [i64; 9], soft: [i64; 8]) -> bool {

@@ -6,7 +6,7 @@ ghost use Rattle.ih_tables.specs.Sizes.{sizes_of};
 ghost use Rattle.ih_plan.specs.Cells.{count_in};
 ghost use Rattle.ih_fixtures.specs.Two.{IsOfTwo};
 
-use ih_fixtures::on_two_patients;
+use ih_fixtures::{on_two_patients, share};
 use ih_footprint::{CellList, Numbering, looks};
 use ih_plan::Move;
 use ih_tables::{Cell, Day, Instance, NurseNo, PatientNo, PersonNo, RoomNo, Shift};
@@ -51,9 +51,6 @@ fn are_looked_at(inst: &Instance, list: &mut CellList) -> bool
     list.settle();
     list.cells() == [1, 14, 20].as_slice()
 }
-
-/// Threads share a list.
-fn share<T: Send + Sync>(_x: &T) {}
 
 fn are_numbered(inst: &Instance) -> bool
     requires { IsOfTwo inst.now.draft }

@@ -3,6 +3,7 @@
 ghost use Rattle.std.specs.Prelude.{◌≡◌, ◌<◌, [], ◌∷◌, length, IfOk};
 ghost use Rattle.ih_links.specs.Lists.{list_of};
 
+use ih_fixtures::share;
 use ih_links::Links;
 use std::alloc::{AllocError, Global};
 
@@ -19,9 +20,6 @@ fn nodes_of(alloc: Global, links: &Links, head: u32) -> Result<Vec<u32>, AllocEr
     }
     Ok(nodes)
 }
-
-/// Threads share lists.
-fn share<T: Send + Sync>(_x: &T) {}
 
 fn has_nodes(alloc: Global, links: &Links, head: u32, wanted: &[u32]) -> bool
     requires { head < length links.now.lists }

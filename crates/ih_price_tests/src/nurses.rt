@@ -4,13 +4,10 @@ ghost use Rattle.ih_plan.specs.Timetable.{empty};
 ghost use Rattle.ih_nurses.specs.Ledger.{IsLedgerOf};
 ghost use Rattle.ih_fixtures.specs.Two.{IsOfTwo};
 
-use ih_fixtures::{first_day, on_two_patients};
+use ih_fixtures::{first_day, on_two_patients, share};
 use ih_nurses::Nurses;
 use ih_tables::{Bill, Instance, NurseNo, PatientNo, PersonNo, RoomNo, Shift};
 use std::alloc::Global;
-
-/// Threads share a ledger.
-fn share<T: Send + Sync>(_x: &T) {}
 
 // Whether the bill has these numbers: broken rules, then costs.
 fn is(bill: &Bill, broken: [i64; 9], costs: [i64; 8]) -> bool {

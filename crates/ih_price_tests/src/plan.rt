@@ -5,13 +5,10 @@ ghost use Rattle.std.specs.Prelude.{◌≡◌};
 ghost use Rattle.ih_plan.specs.Timetable.{empty};
 ghost use Rattle.ih_fixtures.specs.Two.{IsOfTwo};
 
-use ih_fixtures::{first_day, on_two_patients};
+use ih_fixtures::{first_day, on_two_patients, share};
 use ih_plan::{Plan, Write};
 use ih_tables::{Instance, NurseNo, PatientNo, RoomNo, Shift};
 use std::alloc::Global;
-
-/// Threads share a timetable.
-fn share<T: Send + Sync>(_x: &T) {}
 
 // Whether a stay and a choice of nurse are written into an empty timetable, and gone once another empty one is copied
 // into it.

@@ -5,14 +5,11 @@ ghost use Rattle.ih_plan.specs.Timetable.{empty};
 ghost use Rattle.ih_roomdays.specs.Ledger.{IsLedgerOf};
 ghost use Rattle.ih_fixtures.specs.Two.{IsOfTwo};
 
-use ih_fixtures::{first_day, on_two_patients};
+use ih_fixtures::{first_day, on_two_patients, share};
 use ih_plan::Members;
 use ih_roomdays::RoomDays;
 use ih_tables::{Bill, Day, Instance, PatientNo, RoomNo};
 use std::alloc::Global;
-
-/// Threads share a ledger.
-fn share<T: Send + Sync>(_x: &T) {}
 
 fn is(bill: &Bill, mixed: i64, over: i64, spread: i64) -> bool {
     bill.v == [mixed, 0, 0, 0, 0, 0, over, 0, 0] && bill.s == [spread, 0, 0, 0, 0, 0, 0, 0]

@@ -4,13 +4,10 @@ ghost use Rattle.ih_plan.specs.Timetable.{empty};
 ghost use Rattle.ih_theatres.specs.Ledger.{IsLedgerOf};
 ghost use Rattle.ih_fixtures.specs.Two.{IsOfTwo};
 
-use ih_fixtures::{first_day, on_two_patients};
+use ih_fixtures::{first_day, on_two_patients, share};
 use ih_tables::{Bill, Day, Instance, PatientNo, SurgeonNo, TheatreNo};
 use ih_theatres::Theatres;
 use std::alloc::Global;
-
-/// Threads share a ledger.
-fn share<T: Send + Sync>(_x: &T) {}
 
 const NONE: [i64; 8] = [0; 8];
 

@@ -4,29 +4,20 @@ use Rattle.ih_price_tests.proofs.roomdays.is_right.Goals as goal
 
 pub are_there-both-requires-clause-rooms : goal.are_there-both-requires-clause-rooms
 are_there-both-requires-clause-rooms c =
-    let I = c.args.inst.now.draft in
-    let stands = first-in I c.requires.two.patients c.first_day-here.result c.requires.new c.enter.ensures in
-    room-there I _ _ c.requires.two.rooms stands
+    room-there c.args.inst.now.draft _ _ c.requires.two.rooms (first-in c.args.inst.now.draft c.requires.two.patients c.first_day-here.result c.requires.new c.enter.ensures)
 
 pub are_there-both-requires-clause-days : goal.are_there-both-requires-clause-days
 are_there-both-requires-clause-days c =
-    let I = c.args.inst.now.draft in
-    let stands = first-in I c.requires.two.patients c.first_day-here.result c.requires.new c.enter.ensures in
-    day-there I _ _ 0 c.requires.two.days (omega arith) stands
+    day-there c.args.inst.now.draft _ _ 0 c.requires.two.days (omega arith) (first-in c.args.inst.now.draft c.requires.two.patients c.first_day-here.result c.requires.new c.enter.ensures)
 
 pub count-later-requires-clause-room : goal.count-later-requires-clause-room
 count-later-requires-clause-room c =
-    let I = c.args.inst.now.draft in
-    let stands = first-in I c.requires.two.patients c.first_day-here.result c.requires.new c.enter.ensures in
-    room-there I _ _ c.requires.two.rooms stands
+    room-there c.args.inst.now.draft _ _ c.requires.two.rooms (first-in c.args.inst.now.draft c.requires.two.patients c.first_day-here.result c.requires.new c.enter.ensures)
 
 pub count-later-requires-clause-day : goal.count-later-requires-clause-day
 count-later-requires-clause-day c =
-    let I = c.args.inst.now.draft in
-    let stands = first-in I c.requires.two.patients c.first_day-here.result c.requires.new c.enter.ensures in
-    day-there I _ _ 1 c.requires.two.days (omega arith) stands
+    day-there c.args.inst.now.draft _ _ 1 c.requires.two.days (omega arith) (first-in c.args.inst.now.draft c.requires.two.patients c.first_day-here.result c.requires.new c.enter.ensures)
 
 pub cell_bill-bill-requires-clause-stands : goal.cell_bill-bill-requires-clause-stands
 cell_bill-bill-requires-clause-stands c =
-    let I = c.args.inst.now.draft in
-    (_, first-in I c.requires.two.patients c.first_day-here.result c.requires.new c.enter.ensures)
+    (_, first-in c.args.inst.now.draft c.requires.two.patients c.first_day-here.result c.requires.new c.enter.ensures)
