@@ -39,19 +39,13 @@ row : (I : Draft) (P : Timetable) (w : Whose) → Own (surgery_row I P w)
 unfolding surgery_row
 row I P w = simp (by_pieces, whose, all-below (surgery_cell I P w) (cell I P w)) refl
 
-theatre : (I : Draft) (P : Timetable) (t : ℕ) → Own (surgery_row I P (OfTheatre (record { 0 = t })))
-theatre I P t = row I P (OfTheatre (record { 0 = t }))
-
-surgeon : (I : Draft) (P : Timetable) (s : ℕ) → Own (surgery_row I P (OfSurgeon (record { 0 = s })))
-surgeon I P s = row I P (OfSurgeon (record { 0 = s }))
-
 pub theatres-own : (I : Draft) (P : Timetable) → Own (theatres_text I P)
 unfolding theatres_text heads_and_days
 theatres-own I P =
     simp (
       by_pieces,
       all-below day_head day,
-      all-below (λ t. surgery_row I P (OfTheatre (record { 0 = t }))) (theatre I P),
+      all-below (λ t. surgery_row I P (OfTheatre (record { 0 = t }))) (λ t. row I P (OfTheatre (record { 0 = t }))),
     ) refl
 
 pub surgeons-own : (I : Draft) (P : Timetable) → Own (surgeons_text I P)
@@ -60,5 +54,5 @@ surgeons-own I P =
     simp (
       by_pieces,
       all-below day_head day,
-      all-below (λ s. surgery_row I P (OfSurgeon (record { 0 = s }))) (surgeon I P),
+      all-below (λ s. surgery_row I P (OfSurgeon (record { 0 = s }))) (λ s. row I P (OfSurgeon (record { 0 = s }))),
     ) refl

@@ -3,9 +3,9 @@
 ghost use Rattle.std.specs.Prelude.{◌≡◌, ◌<◌, ◌++◌, OnOk};
 ghost use Rattle.ih_tables.specs.Sizes.{patient_count};
 ghost use Rattle.ih_plan.specs.Timetable.{IsPlanOf};
-ghost use Rattle.ih_validate.specs.Report.{lines_below};
 ghost use Rattle.ih_page.specs.LeftOut.{last_day, need_text, window_text, left_out_row, left_out_of, left_out};
 
+use crate::loops::put_below;
 use crate::texts::{put, put_number, put_numbered};
 use ih_plan::Plan;
 use ih_tables::{Instance, Patient, PatientNo};
@@ -57,18 +57,6 @@ fn put_row_of(out: &mut Vec<u8>, inst: &Instance, plan: &Plan, p: u32) -> Result
     }
 }
 
-fn put_rows(out: &mut Vec<u8>, inst: &Instance, plan: &Plan) -> Result<(), AllocError>
-    requires { IsPlanOf inst.now.draft plan.now }
-    ensures { OnOk result
-        (out.new.items ≡ out.old.items
-        ++ lines_below (patient_count inst.now.draft) (left_out_of inst.now.draft plan.now)) }
-{
-    for p in 0..inst.patients() {
-        put_row_of(out, inst, plan, p)?;
-    }
-    Ok(())
-}
-
 /// Appends the table of the patients who are left out.
 #[tactic(auto, unfolding(crate::specs::LeftOut::left_out))]
 pub fn put_left_out(out: &mut Vec<u8>, inst: &Instance, plan: &Plan) -> Result<(), AllocError>
@@ -79,6 +67,10 @@ pub fn put_left_out(out: &mut Vec<u8>, inst: &Instance, plan: &Plan) -> Result<(
         out,
         "<h2 id=left>Patients who are left out</h2>\n<table><tr><th>patient<th>need<th>window\n",
     )?;
-    put_rows(out, inst, plan)?;
+    put_below(
+        out,
+        inst.patients(),
+        |out, p| put_row_of(out, inst, plan, p),
+    )?;
     put(out, "</table>\n")
 }

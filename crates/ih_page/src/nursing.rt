@@ -3,10 +3,10 @@
 ghost use Rattle.std.specs.Prelude.{◌≡◌, ◌<◌, ◌++◌, OnOk};
 ghost use Rattle.ih_tables.specs.Sizes.{nurse_count, shift_count};
 ghost use Rattle.ih_plan.specs.Timetable.{IsPlanOf};
-ghost use Rattle.ih_validate.specs.Report.{lines_below};
 ghost use Rattle.ih_page.specs.Nursing.{load_text, load_cell, nurse_head, nurse_row, nurses_text, wide_day};
 
 use crate::loads::load_of;
+use crate::loops::put_below;
 use crate::names::{put_marked, put_place};
 use crate::texts::{put, put_escaped, put_number};
 use ih_plan::Plan;
@@ -55,19 +55,6 @@ fn put_cell(
     )
 }
 
-fn put_cells(out: &mut Vec<u8>, inst: &Instance, plan: &Plan, n: u32) -> Result<(), AllocError>
-    requires plan { IsPlanOf inst.now.draft plan.now }
-    requires nurse { n < nurse_count inst.now.draft }
-    ensures { OnOk result
-        (out.new.items ≡ out.old.items
-        ++ lines_below (shift_count inst.now.draft) (load_cell inst.now.draft plan.now n)) }
-{
-    for k in 0..inst.shifts() {
-        put_cell(out, inst, plan, n, k)?;
-    }
-    Ok(())
-}
-
 #[tactic(auto, unfolding(crate::specs::Nursing::nurse_head))]
 fn put_head(out: &mut Vec<u8>, a: &Nurse) -> Result<(), AllocError>
     ensures { OnOk result (out.new.items ≡ out.old.items ++ nurse_head a.now) }
@@ -85,20 +72,8 @@ fn put_row(out: &mut Vec<u8>, inst: &Instance, plan: &Plan, n: u32) -> Result<()
     ensures { OnOk result (out.new.items ≡ out.old.items ++ nurse_row inst.now.draft plan.now n) }
 {
     put_head(out, inst.nurse(NurseNo(n)))?;
-    put_cells(out, inst, plan, n)?;
+    put_below(out, inst.shifts(), |out, k| put_cell(out, inst, plan, n, k))?;
     put(out, "\n")
-}
-
-fn put_rows(out: &mut Vec<u8>, inst: &Instance, plan: &Plan) -> Result<(), AllocError>
-    requires { IsPlanOf inst.now.draft plan.now }
-    ensures { OnOk result
-        (out.new.items ≡ out.old.items
-        ++ lines_below (nurse_count inst.now.draft) (nurse_row inst.now.draft plan.now)) }
-{
-    for n in 0..inst.nurses() {
-        put_row(out, inst, plan, n)?;
-    }
-    Ok(())
 }
 
 fn put_day(out: &mut Vec<u8>, d: u32) -> Result<(), AllocError>
@@ -106,15 +81,6 @@ fn put_day(out: &mut Vec<u8>, d: u32) -> Result<(), AllocError>
 {
     put(out, "<th colspan=3>")?;
     put_number(out, d as u64)
-}
-
-fn put_days(out: &mut Vec<u8>, inst: &Instance) -> Result<(), AllocError>
-    ensures { OnOk result (out.new.items ≡ out.old.items ++ lines_below inst.now.draft.days wide_day) }
-{
-    for d in 0..inst.days() {
-        put_day(out, d)?;
-    }
-    Ok(())
 }
 
 /// Appends the table of the nurses.
@@ -127,8 +93,8 @@ pub fn put_nurses(out: &mut Vec<u8>, inst: &Instance, plan: &Plan) -> Result<(),
         out,
         "<h2>Nurses by shifts: workload of the maximum</h2>\n<div><table><tr><th>nurse<th>skill",
     )?;
-    put_days(out, inst)?;
+    put_below(out, inst.days(), |out, d| put_day(out, d))?;
     put(out, "\n")?;
-    put_rows(out, inst, plan)?;
+    put_below(out, inst.nurses(), |out, n| put_row(out, inst, plan, n))?;
     put(out, "</table></div>\n")
 }

@@ -4,9 +4,9 @@ ghost use Rattle.std.specs.Prelude.{◌≡◌, ◌<◌, ◌+◌, ◌*◌, ◌++�
 ghost use Rattle.std.specs.Option.{option_map_or};
 ghost use Rattle.ih_tables.specs.Sizes.{patient_count, occupant_count, room_count, shift_count};
 ghost use Rattle.ih_plan.specs.Timetable.{IsPlanOf, IsPlacement, stay_of};
-ghost use Rattle.ih_validate.specs.Report.{lines_below};
 ghost use Rattle.ih_page.specs.Rooms.{wide_cell, gap_text, bar_cell, bar_text, person_cells, patient_row, occupant_row, patient_in, occupant_in, count_cell, nurse_cell, shift_row, day_head, heads_and_days, room_title, room_head, count_row, person_rows, room_text, rooms_text};
 
+use crate::loops::put_below;
 use crate::names::{put_age, put_marked, put_nurse, put_place, put_shift_type, put_theatre};
 use crate::presence::head_count;
 use crate::texts::{put, put_escaped, put_number, put_numbered};
@@ -119,28 +119,6 @@ fn put_occupant_in(out: &mut Vec<u8>, inst: &Instance, r: u32, o: u32) -> Result
     }
 }
 
-fn put_occupants(out: &mut Vec<u8>, inst: &Instance, r: u32) -> Result<(), AllocError>
-    ensures { OnOk result
-        (out.new.items ≡ out.old.items ++ lines_below (occupant_count inst.now.draft) (occupant_in inst.now.draft r)) }
-{
-    for o in 0..inst.occupants() {
-        put_occupant_in(out, inst, r, o)?;
-    }
-    Ok(())
-}
-
-fn put_patients(out: &mut Vec<u8>, inst: &Instance, plan: &Plan, r: u32) -> Result<(), AllocError>
-    requires { IsPlanOf inst.now.draft plan.now }
-    ensures { OnOk result
-        (out.new.items ≡ out.old.items
-        ++ lines_below (patient_count inst.now.draft) (λ p. patient_in inst.now.draft r p (stay_of plan.now p))) }
-{
-    for p in 0..inst.patients() {
-        put_patient_in(out, inst, plan, r, p)?;
-    }
-    Ok(())
-}
-
 fn put_count(
     out: &mut Vec<u8>,
     inst: &Instance,
@@ -161,18 +139,6 @@ fn put_count(
     )
 }
 
-fn put_counts(out: &mut Vec<u8>, inst: &Instance, plan: &Plan, r: u32) -> Result<(), AllocError>
-    requires plan { IsPlanOf inst.now.draft plan.now }
-    requires room { r < room_count inst.now.draft }
-    ensures { OnOk result
-        (out.new.items ≡ out.old.items ++ lines_below inst.now.draft.days (count_cell inst.now.draft plan.now r)) }
-{
-    for d in 0..inst.days() {
-        put_count(out, inst, plan, r, d)?;
-    }
-    Ok(())
-}
-
 fn put_care(
     out: &mut Vec<u8>,
     inst: &Instance,
@@ -191,26 +157,6 @@ fn put_care(
     put_nurse(out, inst, plan.care(RoomNo(r), Shift(k)))
 }
 
-fn put_cares(
-    out: &mut Vec<u8>,
-    inst: &Instance,
-    plan: &Plan,
-    r: u32,
-    j: u32,
-) -> Result<(), AllocError>
-    requires plan { IsPlanOf inst.now.draft plan.now }
-    requires room { r < room_count inst.now.draft }
-    requires shift { j < 3 }
-    ensures { OnOk result
-        (out.new.items ≡ out.old.items
-        ++ lines_below inst.now.draft.days (λ d. nurse_cell inst.now.draft plan.now r (3 * d + j))) }
-{
-    for d in 0..inst.days() {
-        put_care(out, inst, plan, r, 3 * d + j)?;
-    }
-    Ok(())
-}
-
 fn put_shift(
     out: &mut Vec<u8>,
     inst: &Instance,
@@ -226,19 +172,12 @@ fn put_shift(
     put(out, "<tr><th>")?;
     put_shift_type(out, inst, j)?;
     put(out, "<td colspan=3>nurse")?;
-    put_cares(out, inst, plan, r, j)?;
+    put_below(
+        out,
+        inst.days(),
+        |out, d| put_care(out, inst, plan, r, 3 * d + j),
+    )?;
     put(out, "\n")
-}
-
-fn put_shifts(out: &mut Vec<u8>, inst: &Instance, plan: &Plan, r: u32) -> Result<(), AllocError>
-    requires plan { IsPlanOf inst.now.draft plan.now }
-    requires room { r < room_count inst.now.draft }
-    ensures { OnOk result (out.new.items ≡ out.old.items ++ lines_below 3 (shift_row inst.now.draft plan.now r)) }
-{
-    for j in 0..3 {
-        put_shift(out, inst, plan, r, j)?;
-    }
-    Ok(())
 }
 
 fn put_day(out: &mut Vec<u8>, d: u32) -> Result<(), AllocError>
@@ -248,22 +187,13 @@ fn put_day(out: &mut Vec<u8>, d: u32) -> Result<(), AllocError>
     put_number(out, d as u64)
 }
 
-fn put_days(out: &mut Vec<u8>, inst: &Instance) -> Result<(), AllocError>
-    ensures { OnOk result (out.new.items ≡ out.old.items ++ lines_below inst.now.draft.days day_head) }
-{
-    for d in 0..inst.days() {
-        put_day(out, d)?;
-    }
-    Ok(())
-}
-
 /// Appends the heads of a table's columns, of which the last are the days.
 #[tactic(auto, unfolding(crate::specs::Rooms::heads_and_days))]
 pub fn put_heads_and_days(out: &mut Vec<u8>, inst: &Instance, heads: &str) -> Result<(), AllocError>
     ensures { OnOk result (out.new.items ≡ out.old.items ++ heads_and_days inst.now.draft heads.now) }
 {
     put(out, heads)?;
-    put_days(out, inst)?;
+    put_below(out, inst.days(), |out, d| put_day(out, d))?;
     put(out, "\n")
 }
 
@@ -296,7 +226,7 @@ fn put_count_row(out: &mut Vec<u8>, inst: &Instance, plan: &Plan, r: u32) -> Res
     ensures { OnOk result (out.new.items ≡ out.old.items ++ count_row inst.now.draft plan.now r) }
 {
     put(out, "<tr><th>persons<td colspan=3>count")?;
-    put_counts(out, inst, plan, r)?;
+    put_below(out, inst.days(), |out, d| put_count(out, inst, plan, r, d))?;
     put(out, "\n")
 }
 
@@ -305,8 +235,16 @@ fn put_persons(out: &mut Vec<u8>, inst: &Instance, plan: &Plan, r: u32) -> Resul
     requires { IsPlanOf inst.now.draft plan.now }
     ensures { OnOk result (out.new.items ≡ out.old.items ++ person_rows inst.now.draft plan.now r) }
 {
-    put_occupants(out, inst, r)?;
-    put_patients(out, inst, plan, r)
+    put_below(
+        out,
+        inst.occupants(),
+        |out, o| put_occupant_in(out, inst, r, o),
+    )?;
+    put_below(
+        out,
+        inst.patients(),
+        |out, p| put_patient_in(out, inst, plan, r, p),
+    )
 }
 
 #[tactic(auto, unfolding(crate::specs::Rooms::room_text))]
@@ -318,19 +256,8 @@ fn put_room(out: &mut Vec<u8>, inst: &Instance, plan: &Plan, r: u32) -> Result<(
     put_room_head(out, inst, r, inst.room(RoomNo(r)))?;
     put_persons(out, inst, plan, r)?;
     put_count_row(out, inst, plan, r)?;
-    put_shifts(out, inst, plan, r)?;
+    put_below(out, 3, |out, j| put_shift(out, inst, plan, r, j))?;
     put(out, "</table></div>\n")
-}
-
-fn put_all_rooms(out: &mut Vec<u8>, inst: &Instance, plan: &Plan) -> Result<(), AllocError>
-    requires { IsPlanOf inst.now.draft plan.now }
-    ensures { OnOk result
-        (out.new.items ≡ out.old.items ++ lines_below (room_count inst.now.draft) (room_text inst.now.draft plan.now)) }
-{
-    for r in 0..inst.rooms() {
-        put_room(out, inst, plan, r)?;
-    }
-    Ok(())
 }
 
 /// Appends the tables of the rooms.
@@ -340,5 +267,5 @@ pub fn put_rooms(out: &mut Vec<u8>, inst: &Instance, plan: &Plan) -> Result<(), 
     ensures { OnOk result (out.new.items ≡ out.old.items ++ rooms_text inst.now.draft plan.now) }
 {
     put(out, "<h2>Rooms by days</h2>\n")?;
-    put_all_rooms(out, inst, plan)
+    put_below(out, inst.rooms(), |out, r| put_room(out, inst, plan, r))
 }

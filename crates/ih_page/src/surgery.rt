@@ -4,10 +4,10 @@ ghost use Rattle.std.specs.Prelude.{◌≡◌, ◌<◌, ◌≤◌, ◌*◌, ◌+
 ghost use Rattle.ih_tables.specs.Sizes.{patient_count, theatre_count, surgeon_count};
 ghost use Rattle.ih_plan.specs.Timetable.{IsPlanOf};
 ghost use Rattle.ih_plan.specs.Costs.{duration_of};
-ghost use Rattle.ih_validate.specs.Report.{lines_below};
 ghost use Rattle.ih_page.specs.declared.surgery.Whose.TheVariants.{OfTheatre, OfSurgeon};
 ghost use Rattle.ih_page.specs.Surgery.{IsWhoseOf, has_surgery, planned, limit_of, letter_of, number_of, whose_text, share, share_text, name_link, minutes_text, patient_link, operation, surgery_of, surgery_cell, surgery_row, theatres_text, surgeons_text};
 
+use crate::loops::put_below;
 use crate::names::{put_marked, put_place, put_theatre};
 use crate::rooms::put_heads_and_days;
 use crate::texts::{put, put_escaped, put_number, put_numbered};
@@ -186,24 +186,6 @@ fn put_operation(
     }
 }
 
-fn put_operations(
-    out: &mut Vec<u8>,
-    inst: &Instance,
-    plan: &Plan,
-    w: Whose,
-    d: u32,
-) -> Result<(), AllocError>
-    requires { IsPlanOf inst.now.draft plan.now }
-    ensures { OnOk result
-        (out.new.items ≡ out.old.items
-        ++ lines_below (patient_count inst.now.draft) (operation inst.now.draft plan.now w d)) }
-{
-    for p in 0..inst.patients() {
-        put_operation(out, inst, plan, w, d, p)?;
-    }
-    Ok(())
-}
-
 fn put_surgery(
     out: &mut Vec<u8>,
     inst: &Instance,
@@ -221,7 +203,11 @@ fn put_surgery(
         return put(out, ">");
     }
     put_minutes(out, limit_of(inst, w, d), n)?;
-    put_operations(out, inst, plan, w, d)
+    put_below(
+        out,
+        inst.patients(),
+        |out, p| put_operation(out, inst, plan, w, d, p),
+    )
 }
 
 #[tactic(auto, unfolding(crate::specs::Surgery::surgery_cell))]
@@ -241,18 +227,6 @@ fn put_cell(
     put_surgery(out, inst, plan, w, d, planned(inst, plan, w, d))
 }
 
-fn put_cells(out: &mut Vec<u8>, inst: &Instance, plan: &Plan, w: Whose) -> Result<(), AllocError>
-    requires plan { IsPlanOf inst.now.draft plan.now }
-    requires whose { IsWhoseOf inst.now.draft w }
-    ensures { OnOk result
-        (out.new.items ≡ out.old.items ++ lines_below inst.now.draft.days (surgery_cell inst.now.draft plan.now w)) }
-{
-    for d in 0..inst.days() {
-        put_cell(out, inst, plan, w, d)?;
-    }
-    Ok(())
-}
-
 #[tactic(auto, unfolding(crate::specs::Surgery::surgery_row))]
 fn put_row(out: &mut Vec<u8>, inst: &Instance, plan: &Plan, w: Whose) -> Result<(), AllocError>
     requires plan { IsPlanOf inst.now.draft plan.now }
@@ -261,34 +235,8 @@ fn put_row(out: &mut Vec<u8>, inst: &Instance, plan: &Plan, w: Whose) -> Result<
 {
     put(out, "<tr><th>")?;
     put_whose(out, inst, w)?;
-    put_cells(out, inst, plan, w)?;
+    put_below(out, inst.days(), |out, d| put_cell(out, inst, plan, w, d))?;
     put(out, "\n")
-}
-
-fn put_theatre_rows(out: &mut Vec<u8>, inst: &Instance, plan: &Plan) -> Result<(), AllocError>
-    requires { IsPlanOf inst.now.draft plan.now }
-    ensures { OnOk result
-        (out.new.items ≡ out.old.items
-        ++ lines_below (theatre_count inst.now.draft)
-        (λ t. surgery_row inst.now.draft plan.now (OfTheatre (record { 0 = t })))) }
-{
-    for t in 0..inst.theatres() {
-        put_row(out, inst, plan, Whose::OfTheatre(TheatreNo(t)))?;
-    }
-    Ok(())
-}
-
-fn put_surgeon_rows(out: &mut Vec<u8>, inst: &Instance, plan: &Plan) -> Result<(), AllocError>
-    requires { IsPlanOf inst.now.draft plan.now }
-    ensures { OnOk result
-        (out.new.items ≡ out.old.items
-        ++ lines_below (surgeon_count inst.now.draft)
-        (λ s. surgery_row inst.now.draft plan.now (OfSurgeon (record { 0 = s })))) }
-{
-    for s in 0..inst.surgeons() {
-        put_row(out, inst, plan, Whose::OfSurgeon(SurgeonNo(s)))?;
-    }
-    Ok(())
 }
 
 /// Appends the table of the theatres.
@@ -302,7 +250,11 @@ pub fn put_theatres(out: &mut Vec<u8>, inst: &Instance, plan: &Plan) -> Result<(
         inst,
         "<h2>Theatres by days, in minutes</h2>\n<div><table><tr><th>theatre",
     )?;
-    put_theatre_rows(out, inst, plan)?;
+    put_below(
+        out,
+        inst.theatres(),
+        |out, t| put_row(out, inst, plan, Whose::OfTheatre(TheatreNo(t))),
+    )?;
     put(out, "</table></div>\n")
 }
 
@@ -317,6 +269,10 @@ pub fn put_surgeons(out: &mut Vec<u8>, inst: &Instance, plan: &Plan) -> Result<(
         inst,
         "<h2>Surgeons by days, in minutes</h2>\n<div><table><tr><th>surgeon",
     )?;
-    put_surgeon_rows(out, inst, plan)?;
+    put_below(
+        out,
+        inst.surgeons(),
+        |out, s| put_row(out, inst, plan, Whose::OfSurgeon(SurgeonNo(s))),
+    )?;
     put(out, "</table></div>\n")
 }

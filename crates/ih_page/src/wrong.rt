@@ -6,12 +6,13 @@ ghost use Rattle.ih_plan.specs.Timetable.{IsPlanOf, stay_of};
 ghost use Rattle.ih_plan.specs.BillOf.{bill_of};
 ghost use Rattle.ih_plan.specs.Cells.{IsCellOf, cell_at, cell_count, part_at};
 ghost use Rattle.ih_page.specs.BillLines.{IsLine, count_in};
-ghost use Rattle.ih_page.specs.Wrong.{amounts, before_release, is_early, cell_link, item, items_of, list_name, list_head, list_of, list_if_any, line_list, line_lists, wrong_text};
+ghost use Rattle.ih_page.specs.Wrong.{amounts, before_release, is_early, cell_link, item, items_of, list_name, list_head, list_of, line_list, line_lists, wrong_text};
 
 use crate::bill_lines::{
     Line, full_name, magnitude, number_in, put_amount, put_fold, put_short_name,
 };
 use crate::cell_names::{put_cell, put_cell_place};
+use crate::loops::put_below;
 use crate::order::dearest_first;
 use crate::texts::{put, put_signed};
 use ih_costs::Ledgers;
@@ -176,30 +177,7 @@ fn put_list(
     put(out, "</ul></details>\n")
 }
 
-fn put_list_if_any(
-    out: &mut Vec<u8>,
-    inst: &Instance,
-    plan: &Plan,
-    bill: &Bill,
-    line: Line,
-    xs: &[u64],
-    order: &[u32],
-) -> Result<(), AllocError>
-    requires plan { IsPlanOf inst.now.draft plan.now }
-    requires line { IsLine line }
-    requires all { length xs.now ≡ cell_count inst.now.draft }
-    requires inside { All (λ n. n < length xs.now) order.now }
-    ensures { OnOk result
-        (out.new.items ≡ out.old.items ++ list_if_any inst.now.draft plan.now bill.now line xs.now order.now) }
-{
-    if order.is_empty() {
-        Ok(())
-    } else {
-        put_list(out, inst, plan, bill, line, xs, order)
-    }
-}
-
-// The list of a line of the report.
+// The list of a line of the report, where there is anything in it.
 fn put_line_list(
     alloc: Global,
     out: &mut Vec<u8>,
@@ -215,7 +193,10 @@ fn put_line_list(
 {
     let xs = amounts(alloc, inst, ledgers, line)?;
     let order = dearest_first(alloc, xs.as_slice())?;
-    put_list_if_any(
+    if order.is_empty() {
+        return Ok(());
+    }
+    put_list(
         out,
         inst,
         ledgers.plan(),
@@ -238,13 +219,12 @@ fn put_line_lists(
     requires bill { bill.now ≡ bill_of inst.now.draft ledgers.now.plan }
     ensures { OnOk result (out.new.items ≡ out.old.items ++ line_lists inst.now.draft ledgers.now.plan) }
 {
-    for rule in 0..9 {
-        put_line_list(alloc, out, inst, ledgers, bill, Line::Rule(rule))?;
-    }
-    for cost in 0..8 {
-        put_line_list(alloc, out, inst, ledgers, bill, Line::Cost(cost))?;
-    }
-    Ok(())
+    put_below(out, 9, |out, i| {
+        put_line_list(alloc, out, inst, ledgers, bill, Line::Rule(i as usize))
+    })?;
+    put_below(out, 8, |out, i| {
+        put_line_list(alloc, out, inst, ledgers, bill, Line::Cost(i as usize))
+    })
 }
 
 #[tactic(auto, unfolding(crate::specs::Wrong::wrong_text))]

@@ -1,8 +1,8 @@
-use Rattle.std.proofs.Common.{◌∙◌, sym, ap, ◌++◌, [], Option}
+use Rattle.std.proofs.Common.{rules, ◌∙◌, sym, ap, ◌++◌, [], Option}
 use Rattle.std.specs.Option.{option_map_or}
 use Rattle.std.proofs.lemmas.Result.{on_ok_weaker}
 use Rattle.ih_tables.specs.declared.drafts.Room.{Room}
-use Rattle.ih_page.specs.Rooms.{room_head, room_text}
+use Rattle.ih_page.specs.Rooms.{shift_row, room_head, room_text}
 use Rattle.ih_page.proofs.Joins.{joins5}
 use Rattle.ih_page.proofs.rooms.put_room.Goals as goal
 
@@ -13,4 +13,4 @@ returns c =
     on_ok_weaker c.put.result
     (λ d. joins5 _ _ _ _ _ _ _ _ _ _ _
     (c.in_ok-put_room_head.ensures
-    ∙ ap named (sym c.room.ensures)) c.in_ok-put_persons.ensures c.in_ok-put_count_row.ensures c.in_ok-put_shifts.ensures d) c.put.ensures
+    ∙ ap named (sym c.room.ensures)) c.in_ok-put_persons.ensures c.in_ok-put_count_row.ensures (c.in_ok-put_below.ensures (shift_row c.args.inst.now.draft c.args.plan.now c.args.r) (search rules)) d) c.put.ensures

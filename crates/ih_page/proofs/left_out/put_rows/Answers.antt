@@ -1,8 +1,0 @@
-use Rattle.ih_page.proofs.Lines.{no-lines, some-more}
-use Rattle.ih_page.proofs.left_out.put_rows.Goals as goal
-
-pub loop-p-init : goal.loop-p-init
-loop-p-init c = no-lines _ _
-
-pub loop-p-preserved : goal.loop-p-preserved
-loop-p-preserved c = some-more _ _ _ _ _ c.loop-p.invariant c.in_ok-put_row_of.ensures

@@ -1,8 +1,0 @@
-use Rattle.ih_page.proofs.Lines.{no-lines, some-more}
-use Rattle.ih_page.proofs.rooms.put_cares.Goals as goal
-
-pub loop-d-init : goal.loop-d-init
-loop-d-init c = no-lines _ _
-
-pub loop-d-preserved : goal.loop-d-preserved
-loop-d-preserved c = some-more _ _ _ _ _ c.loop-d.invariant c.in_ok-put_care.ensures
