@@ -7,6 +7,7 @@ use Rattle.ih_instance.specs.Instance.{instance}
 use Rattle.ih_solution.specs.Reading.{plan_in}
 use Rattle.ih_page.specs.Page.{page_of}
 use Rattle.ih_shelf.specs.Outside.{Names, Rose, IfTold, bytes_at, IsWritten, MayBeWritten}
+use Rattle.ih_shelf.specs.declared.outside.Shelf.{Ghosts as ShelfGhosts}
 use Rattle.ih_shelf.specs.declared.outside.ReadError.{ReadError}
 use Rattle.ih_shelf.specs.declared.outside.ReadError.TheVariants.{Fault as Unreadable, TooLong as Long, OutOfMemory as NoRoom}
 use Rattle.ih_look.specs.declared.status.Role.{Role}
@@ -102,3 +103,8 @@ abbrev pub HasCause : ℕ → ℕ → ℕ → ℕ → Status → Type 0
 HasCause reads reads' writes writes' (ReadFault role) = Rose reads reads'
 HasCause reads reads' writes writes' WriteFault = Rose writes writes'
 HasCause reads reads' writes writes' status = Unit {0}
+
+-- the same in a call over a shelf, by the counts of that
+abbrev pub HasShelfCause : {X : Type 0} → ShelfGhosts X → X → X → Status → Type 0
+HasShelfCause shelf old new status =
+    HasCause (shelf.read_faults old) (shelf.read_faults new) (shelf.write_faults old) (shelf.write_faults new) status

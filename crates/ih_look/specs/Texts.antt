@@ -2,6 +2,7 @@
 use Rattle.std.specs.Prelude.{◌≡◌, ◌≢◌, ℕ, ◌⊎◌, List, [], ◌++◌, Option, Some, None, codes}
 use Rattle.ih_tables.specs.Places.{refusal_text}
 use Rattle.ih_shelf.specs.Outside.{Rose, IfTold, IsAppended, MayBeAppended}
+use Rattle.ih_shelf.specs.declared.outside.Sink.{Ghosts as SinkGhosts}
 use Rattle.ih_look.specs.declared.status.Role.{Role}
 use Rattle.ih_look.specs.declared.status.Role.TheVariants.{Instance, Solution}
 use Rattle.ih_look.specs.declared.status.Status.{Status}
@@ -48,6 +49,12 @@ abbrev pub IsPut : List ℕ → Status → Status → Option (List ℕ) → Opti
 IsPut text status result old new faults faults' lacks lacks' =
     ((result ≡ status) × Gained old new faults faults' text) ⊎ ((result ≡ OutOfMemory) × GainedPart old new lacks lacks' text)
 
+-- the same of a put into a sink, by what that tells and counts
+abbrev pub IsPutInto : {X : Type 0} → SinkGhosts X → X → X → List ℕ → Status → Status → Type 0
+IsPutInto sink old new text status result =
+    IsPut text status result (sink.text old) (sink.text new) (sink.faults old) (sink.faults new)
+    (sink.lacks old) (sink.lacks new)
+
 -- the statuses that may be told where this one was reached: it, or lack of memory for its text
 abbrev pub MayTell : Status → Status → Type 0
 MayTell status told = (told ≡ status) ⊎ ((status ≢ Done) × (told ≡ OutOfMemory))
@@ -61,3 +68,9 @@ IsSaid reached texts OutOfMemory old new faults faults' lacks lacks' =
     (reached OutOfMemory × Gained old new faults faults' (texts OutOfMemory))
     ⊎ ((status : Status) × (status ≢ Done) × reached status × GainedPart old new lacks lacks' (texts status))
 IsSaid reached texts status old new faults faults' lacks lacks' = Gained old new faults faults' (texts status)
+
+-- the same of what is said to a sink, by what that tells and counts
+abbrev pub IsSaidTo : {X : Type 0} → SinkGhosts X → X → X → (Status → Type 0) → (Status → List ℕ) → Status → Type 0
+IsSaidTo sink old new reached texts result =
+    IsSaid reached texts result (sink.text old) (sink.text new) (sink.faults old) (sink.faults new)
+    (sink.lacks old) (sink.lacks new)

@@ -3,7 +3,7 @@
 ghost use Rattle.std.specs.Prelude.{◌≡◌, ◌≤◌, IfOk, IfErr, IfSome};
 ghost use Rattle.ih_plan.specs.Timetable.{IsPlanOf};
 ghost use Rattle.ih_look.specs.Calls.{call_in};
-ghost use Rattle.ih_look.specs.Ends.{HasCause, HasInputs, HasInstance, HasSolution, IsUnread, why_unread};
+ghost use Rattle.ih_look.specs.Ends.{HasInputs, HasInstance, HasShelfCause, HasSolution, IsUnread, why_unread};
 
 use crate::calls::Call;
 use crate::status::{Role, Status};
@@ -43,9 +43,7 @@ fn read_instance_file<R: Files, S: Shelf>(
 ) -> Result<Instance, Status>
     ensures read { IfOk result (λ i. IfSome (S.names shelf.old) (HasInstance call.now.instance.now i.draft)) }
     ensures unread { IfErr result (IsUnread (S.names shelf.old) (call_in call.now)) }
-    ensures cause { IfErr result
-        (HasCause (S.read_faults shelf.old) (S.read_faults shelf.new) (S.write_faults shelf.old)
-        (S.write_faults shelf.new)) }
+    ensures cause { IfErr result (HasShelfCause S.Shelf shelf.old shelf.new) }
     ensures count { S.read_faults shelf.old ≤ S.read_faults shelf.new }
     ensures other_count { S.write_faults shelf.new ≡ S.write_faults shelf.old }
     ensures kept { S.names shelf.new ≡ S.names shelf.old }
@@ -71,9 +69,7 @@ fn read_plan_file<R: Files, S: Shelf>(
     ensures plan { IfOk result (IsPlanOf inst.now.draft) }
     ensures read { IfOk result (λ p. IfSome (S.names shelf.old) (HasSolution call.now.solution.now inst.now.draft p)) }
     ensures unread { IfErr result (IsUnread (S.names shelf.old) (call_in call.now)) }
-    ensures cause { IfErr result
-        (HasCause (S.read_faults shelf.old) (S.read_faults shelf.new) (S.write_faults shelf.old)
-        (S.write_faults shelf.new)) }
+    ensures cause { IfErr result (HasShelfCause S.Shelf shelf.old shelf.new) }
     ensures count { S.read_faults shelf.old ≤ S.read_faults shelf.new }
     ensures other_count { S.write_faults shelf.new ≡ S.write_faults shelf.old }
     ensures kept { S.names shelf.new ≡ S.names shelf.old }
@@ -98,9 +94,7 @@ pub fn read_inputs<R: Files, S: Shelf>(
     ensures plan { IfOk result (λ i. IsPlanOf i.inst.draft i.plan) }
     ensures read { IfOk result (λ i. HasInputs (S.names shelf.old) (call_in call.now) i.inst.draft i.plan) }
     ensures unread { IfErr result (IsUnread (S.names shelf.old) (call_in call.now)) }
-    ensures cause { IfErr result
-        (HasCause (S.read_faults shelf.old) (S.read_faults shelf.new) (S.write_faults shelf.old)
-        (S.write_faults shelf.new)) }
+    ensures cause { IfErr result (HasShelfCause S.Shelf shelf.old shelf.new) }
     ensures count { S.read_faults shelf.old ≤ S.read_faults shelf.new }
     ensures other_count { S.write_faults shelf.new ≡ S.write_faults shelf.old }
     ensures kept { S.names shelf.new ≡ S.names shelf.old }

@@ -3,7 +3,7 @@
 ghost use Rattle.std.specs.Prelude.{◌≡◌};
 ghost use Rattle.ih_plan.specs.Timetable.{IsPlanOf};
 ghost use Rattle.ih_look.specs.Calls.{call_in};
-ghost use Rattle.ih_look.specs.Ends.{CallEnds, HasCause, HasInputs};
+ghost use Rattle.ih_look.specs.Ends.{CallEnds, HasInputs, HasShelfCause};
 
 use crate::calls::Call;
 use crate::inputs::{Inputs, read_inputs};
@@ -24,8 +24,7 @@ fn write_page<R: Files, S: Shelf>(
     requires plan { IsPlanOf inputs.now.inst.draft inputs.now.plan }
     requires read { HasInputs (S.names shelf.old) (call_in call.now) inputs.now.inst.draft inputs.now.plan }
     ensures ends { CallEnds (call_in call.now) (S.names shelf.old) (S.names shelf.new) result }
-    ensures cause { HasCause (S.read_faults shelf.old) (S.read_faults shelf.new) (S.write_faults shelf.old)
-        (S.write_faults shelf.new) result }
+    ensures cause { HasShelfCause S.Shelf shelf.old shelf.new result }
 {
     let Ok(text) = page(alloc, &inputs.inst, &inputs.plan) else {
         return Status::OutOfMemory;
@@ -40,8 +39,7 @@ fn write_page<R: Files, S: Shelf>(
 /// Reads an instance and a solution, and writes the page of its timetable.
 pub fn look<R: Files, S: Shelf>(rt: &R, alloc: Global, call: &Call<'_>, shelf: &mut S) -> Status
     ensures ends { CallEnds (call_in call.now) (S.names shelf.old) (S.names shelf.new) result }
-    ensures cause { HasCause (S.read_faults shelf.old) (S.read_faults shelf.new) (S.write_faults shelf.old)
-        (S.write_faults shelf.new) result }
+    ensures cause { HasShelfCause S.Shelf shelf.old shelf.new result }
 {
     match read_inputs(rt, alloc, call, shelf) {
         Ok(inputs) => write_page(rt, alloc, call, &inputs, shelf),

@@ -2,8 +2,8 @@
 
 ghost use Rattle.std.specs.Prelude.{map, string_bytes};
 ghost use Rattle.ih_look.specs.Calls.{call_of};
-ghost use Rattle.ih_look.specs.Ends.{Ends, HasCause, Reaches};
-ghost use Rattle.ih_look.specs.Texts.{text_for, IsSaid};
+ghost use Rattle.ih_look.specs.Ends.{Ends, HasShelfCause, Reaches};
+ghost use Rattle.ih_look.specs.Texts.{text_for, IsSaidTo};
 
 use crate::calls::read_words;
 use crate::looking::look;
@@ -27,14 +27,13 @@ pub fn run_view<R: Files + Print, S: Shelf, O: Sink>(
     ensures ends { Ends (call_of (map string_bytes words.now)) (S.names shelf.old) (S.names shelf.new) result }
 
     // A fault is answered only where its count rose in this call.
-    ensures cause { HasCause (S.read_faults shelf.old) (S.read_faults shelf.new) (S.write_faults shelf.old)
-        (S.write_faults shelf.new) result }
+    ensures cause { HasShelfCause S.Shelf shelf.old shelf.new result }
 
     // What was said: the text of the status, or, where the sink wanted memory, a part of the text of a status that the
     // call had reached.
-    ensures said { IsSaid (Reaches (call_of (map string_bytes words.now)) (S.names shelf.old) (S.names shelf.new))
-        (text_for (call_of (map string_bytes words.now))) result (O.text out.old) (O.text out.new) (O.faults out.old) (O.faults out.new)
-        (O.lacks out.old) (O.lacks out.new) }
+    ensures said { IsSaidTo O.Sink out.old out.new
+        (Reaches (call_of (map string_bytes words.now)) (S.names shelf.old) (S.names shelf.new))
+        (text_for (call_of (map string_bytes words.now))) result }
 {
     match read_words(words) {
         None => say_usage(rt, out),

@@ -2,7 +2,7 @@
 
 ghost use Rattle.std.specs.Prelude.{◌≡◌, ◌≢◌, ◌⊎◌, IfOk, string_bytes};
 ghost use Rattle.ih_look.specs.Calls.{call_in};
-ghost use Rattle.ih_look.specs.Texts.{memory_text, name_of, text_of, usage_text, IsPut, IsSaid, MayTell};
+ghost use Rattle.ih_look.specs.Texts.{memory_text, name_of, text_of, usage_text, IsPutInto, IsSaidTo, MayTell};
 
 use crate::calls::Call;
 use crate::status::{Role, Status};
@@ -45,8 +45,7 @@ fn text_of(alloc: Global, call: &Call<'_>, status: Status) -> Result<String, All
 
 // Puts a text, in one put.
 fn put_text<R: Print, O: Sink>(rt: &R, out: &mut O, status: Status, text: &[u8]) -> Status
-    ensures { IsPut text.now status result (O.text out.old) (O.text out.new) (O.faults out.old) (O.faults out.new)
-        (O.lacks out.old) (O.lacks out.new) }
+    ensures { IsPutInto O.Sink out.old out.new text.now status result }
 {
     match out.put(rt, text) {
         Ok(()) => status,
@@ -57,9 +56,7 @@ fn put_text<R: Print, O: Sink>(rt: &R, out: &mut O, status: Status, text: &[u8])
 
 // Says that memory ran out. It takes none.
 fn say_memory<R: Print, O: Sink>(rt: &R, out: &mut O) -> Status
-    ensures { IsPut memory_text Status.OutOfMemory result (O.text out.old) (O.text out.new) (O.faults out.old)
-        (O.faults out.new)
-        (O.lacks out.old) (O.lacks out.new) }
+    ensures { IsPutInto O.Sink out.old out.new memory_text Status.OutOfMemory result }
 {
     put_text(rt, out, Status::OutOfMemory, b"out of memory\n")
 }
@@ -72,11 +69,8 @@ fn put_line<R: Print, O: Sink>(
     out: &mut O,
     status: Status,
 ) -> Status
-    ensures { IsPut (text_of (call_in call.now) status) status result (O.text out.old) (O.text out.new)
-        (O.faults out.old) (O.faults out.new)
-        (O.lacks out.old) (O.lacks out.new)
-        ⊎ IsPut memory_text Status.OutOfMemory result (O.text out.old) (O.text out.new) (O.faults out.old) (O.faults out.new)
-        (O.lacks out.old) (O.lacks out.new) }
+    ensures { IsPutInto O.Sink out.old out.new (text_of (call_in call.now) status) status result
+        ⊎ IsPutInto O.Sink out.old out.new memory_text Status.OutOfMemory result }
 {
     match text_of(alloc, call, status) {
         Ok(line) => put_text(rt, out, status, line.into_bytes().as_slice()),
@@ -86,8 +80,7 @@ fn put_line<R: Print, O: Sink>(
 
 /// Says that the words name no call.
 pub fn say_usage<R: Print, O: Sink>(rt: &R, out: &mut O) -> Status
-    ensures { IsPut usage_text Status.Usage result (O.text out.old) (O.text out.new) (O.faults out.old)
-        (O.faults out.new) (O.lacks out.old) (O.lacks out.new) }
+    ensures { IsPutInto O.Sink out.old out.new usage_text Status.Usage result }
 {
     put_text(
         rt,
@@ -106,9 +99,7 @@ pub fn conclude<R: Print, O: Sink>(
     status: Status,
 ) -> Status
     ensures status { MayTell status result }
-    ensures said { IsSaid (MayTell status) (text_of (call_in call.now)) result (O.text out.old) (O.text out.new)
-        (O.faults out.old) (O.faults out.new)
-        (O.lacks out.old) (O.lacks out.new) }
+    ensures said { IsSaidTo O.Sink out.old out.new (MayTell status) (text_of (call_in call.now)) result }
 {
     match status {
         Status::Done => status,
