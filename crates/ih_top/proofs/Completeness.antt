@@ -1,5 +1,5 @@
 -- A call whose files are accepted, and in which no count rose, comes to its end.
-use Rattle.std.proofs.Common.{◌≡◌, ℕ, refl, inl, inr, List, length, Option, Some, None}
+use Rattle.std.proofs.Common.{◌≡◌, ℕ, refl, inl, inr, List, Option, Some, None}
 use Rattle.std.specs.Prelude.{◌⊎◌}
 use Rattle.ih_tables.specs.declared.drafts.Draft.{Draft}
 use Rattle.ih_plan.specs.Timetable.{Timetable}

@@ -1,14 +1,16 @@
 -- What a journal comes to, and how the call ends then.
-use Rattle.std.proofs.Common.{◌≡◌, ◌∙◌, ℕ, refl, subst, inl, inr, List, Option, Some, None}
-use Rattle.std.specs.Prelude.{Result, Ok, Err, IfOk}
+use Rattle.std.proofs.Common.{◌≡◌, ◌∙◌, ℕ, refl, sym, subst, inl, inr, List, Option, Some, None}
+use Rattle.std.specs.Prelude.{Result, Ok, Err, IfOk, IfSome}
 use Rattle.ih_journal.specs.declared.entries.Entry.{Entry}
 use Rattle.ih_journal.specs.declared.refusals.JournalRefusal.{JournalRefusal}
 use Rattle.ih_journal.specs.Base.{Base}
 use Rattle.ih_journal.specs.Tried.{Tried, tries}
+use Rattle.ih_cellbook.specs.Keeping.{IsBase}
 use Rattle.ih_words.specs.Replay.{ReplayCall}
 use Rattle.ih_words.specs.Start.{StartCall}
 use Rattle.ih_shelf.specs.Outside.{IsWritten, MayBeWritten, Names, IfTold}
 use Rattle.ih_top.specs.declared.answer.Answer.{Answer}
+use Rattle.ih_top.specs.declared.journal_heading.Headed.{Headed}
 use Rattle.ih_top.specs.declared.output.BestOutput.{BestOutput}
 use Rattle.ih_top.specs.declared.outcome.Outcome.{Outcome}
 use Rattle.ih_top.specs.declared.outcome.Outcome.TheVariants.{Refused, Taken}
@@ -20,7 +22,7 @@ use Rattle.ih_top.specs.Outcomes.{AreLines, IsLinesOutcome, IsOutcome, IsTaken, 
 use Rattle.ih_top.specs.Outputs.{IsBestSaid}
 use Rattle.ih_top.specs.JournalEnds.{HasBest, HasNoBest, IsRefused, JournalEnds}
 use Rattle.ih_top.specs.JournalFiles.{HasRead, JournalRead}
-use Rattle.ih_top.specs.JournalHeading.{IsHeadedBy, IsHeadless}
+use Rattle.ih_top.specs.JournalHeading.{IsBegun, IsHeadedBy, IsHeadless, base_headed}
 use Rattle.ih_top.specs.Replay.{IsRefusedJournal, IsReplay}
 use Rattle.ih_top.specs.Salvage.{IsSalvage}
 use Rattle.ih_top.specs.Texts.{done_text, memory_text, salvaged_text}
@@ -114,6 +116,18 @@ module _ (taken : JournalRead → Base → List Entry → Type 0) (refused : Jou
 
     pub outcome-answer : (a : Answer) → Answers (OutcomeEnds o r.out old new) a → Answers (JournalEnds taken refused said r old new) a
     outcome-answer a h = answers-weaker (OutcomeEnds o r.out old new) OfCall outcome-ends a h
+
+-- ---- a journal whose heading was read
+
+module _ (s : StartCall) (x : JournalRead) (o : Option Headed) (h : Headed) (is : o ≡ Some h) (begun : IfSome o (IsBegun s x)) where
+  headed-begun : IsBegun s x h
+  headed-begun = subst (λ (o : Option Headed). IfSome o (IsBegun s x)) is begun
+
+  pub headed-by : IsHeadedBy s x (base_headed s.freeze h) h.lines.now
+  headed-by = headed-begun.headed
+
+  pub headed-base : (b : Base) → b ≡ base_headed s.freeze h → IsBase b
+  headed-base b same = subst IsBase (sym same) (record { start = headed-begun.plan; lawful = headed-by.lawful })
 
 -- ---- what the lines come to is what the journal comes to
 

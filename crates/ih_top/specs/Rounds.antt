@@ -1,10 +1,15 @@
 -- How a call of rounds ends: as one of solve, with the journals of all rounds and the best of all their timetables.
 use Rattle.std.specs.Prelude.{◌≡◌, ℕ, ◌<◌, ◌^◌, ◌⊎◌, List, length, Option, Some, None, slice_get}
+use Rattle.ih_tables.specs.declared.drafts.Draft.{Draft}
 use Rattle.ih_plan.specs.BillOf.{bill_of}
+use Rattle.ih_plan.specs.Timetable.{Timetable}
+use Rattle.ih_journal.specs.declared.entries.Entry.{Entry}
+use Rattle.ih_journal.specs.declared.settings.Options.{Options}
 use Rattle.ih_journal.specs.Base.{Base}
+use Rattle.ih_journal.specs.Legal.{IsFull}
 use Rattle.ih_journal.specs.Tried.{tries}
 use Rattle.ih_journal.specs.History.{plan_at}
-use Rattle.ih_cellbook.specs.Keeping.{IsBase}
+use Rattle.ih_cellbook.specs.Keeping.{IsBase, base_with}
 use Rattle.ih_cellbook.specs.Legal.{AreExact}
 use Rattle.ih_rounds.specs.Best.{HaveNone, IsBestOf}
 use Rattle.ih_rounds.specs.Rounds.{AreRounds, Round, base_in, journals}
@@ -21,6 +26,10 @@ use Rattle.ih_top.specs.RoundTexts.{round_report}
 use Rattle.ih_top.specs.Searches.{HasBase, solution_at}
 use Rattle.ih_top.specs.Writes.{BeginsJournal, BeginsSolution, Unchanged, WritesBoth, WritesJournal}
 use Rattle.ih_top.specs.Texts.{memory_text, none_found_text, unwritten_text}
+
+-- a full history of a search in which nothing is frozen
+abbrev pub IsFullFrom : Draft → Timetable → Options → List Entry → Type 0
+IsFullFrom I P o H = IsFull (base_with I P o 0) 1 (tries H)
 
 -- ---- what rounds make to be written and said
 

@@ -3,14 +3,12 @@
 ghost use Rattle.std.specs.Prelude.{◌≡◌, IfOk, string_bytes};
 ghost use Rattle.ih_plan.specs.BillOf.{bill_of};
 ghost use Rattle.ih_plan.specs.Timetable.{IsPlanOf};
-ghost use Rattle.ih_journal.specs.Legal.{IsFull};
-ghost use Rattle.ih_journal.specs.Tried.{tries};
 ghost use Rattle.ih_journal.specs.Settings.{IsLawful};
 ghost use Rattle.ih_cellbook.specs.Keeping.{base_with};
 ghost use Rattle.ih_rounds.specs.Ends.{IsFound};
 ghost use Rattle.ih_rounds.specs.Rounds.{Round};
 ghost use Rattle.ih_top.specs.RoundTexts.{IsRoundSaid, FitsEnd, round_line, round_report};
-ghost use Rattle.ih_top.specs.Rounds.{IsRoundsOutput};
+ghost use Rattle.ih_top.specs.Rounds.{IsFullFrom, IsRoundsOutput};
 
 use crate::output::{BestOutput, Output, seed_of};
 use ih_cellbook::accepted_prices_are_exact;
@@ -93,8 +91,7 @@ pub fn search_at_desk<R: Threads + Wait + Sync, G: Gate>(
 ) -> Result<Vec<Entry>, AllocError>
     requires start { IsPlanOf inst.now.draft start.now }
     requires lawful { IsLawful options.now }
-    ensures { IfOk result
-        (λ v. IsFull (base_with inst.entry.now.draft start.entry.now options.entry.now 0) 1 (tries v.items)) }
+    ensures { IfOk result (λ v. IsFullFrom inst.entry.now.draft start.entry.now options.entry.now v.items) }
 {
     let given = Given {
         inst,
@@ -133,8 +130,7 @@ pub fn make_rounds_output<R: Threads + Wait + Sync, G: Gate>(
             AllocError,
         >
             requires { IsPlanOf inst.now.draft start.now × IsLawful options.now }
-            ensures { IfOk result
-                (λ v. IsFull (base_with inst.entry.now.draft start.entry.now options.entry.now 0) 1 (tries v.items)) }
+            ensures { IfOk result (λ v. IsFullFrom inst.entry.now.draft start.entry.now options.entry.now v.items) }
         { search_at_desk(rt, alloc, inst, start, options, gate) },
     };
     let mut journal = Vec::new(alloc);

@@ -1,63 +1,44 @@
-use Rattle.std.proofs.Common.{◌≡◌, ◌∙◌, ap, refl, subst, sym, Some}
+use Rattle.std.proofs.Common.{◌∙◌, ap, subst, sym, Some}
 use Rattle.ih_plan.specs.Fill.{fill}
 use Rattle.ih_journal.specs.Base.{Base}
 use Rattle.ih_journal.specs.Best.{BestIs}
-use Rattle.ih_journal.specs.Legal.{AreLegal, IsFull}
+use Rattle.ih_journal.specs.Legal.{AreLegal}
 use Rattle.ih_journal.specs.Tried.{tries}
-use Rattle.ih_cellbook.specs.Legal.{AreExact}
-use Rattle.ih_top.specs.Demo.{IsDemo}
+use Rattle.ih_cellbook.specs.Keeping.{base_with}
 use Rattle.ih_top.specs.Outputs.{HasBestOutput}
-use Rattle.ih_top.proofs.DemoSearches.{demo-said, is-demo}
+use Rattle.ih_top.proofs.DemoSearches.{demo-said, searched-demo}
 use Rattle.ih_top.proofs.demo.search_from_fill.Goals as goal
 
 pub best_of-requires-clause-legal : goal.best_of-requires-clause-legal
 best_of-requires-clause-legal g c =
-    let b : Base = record { instance = c.args.inst.now.draft; start = c.in_ok-start.start; options = c.demo_options-options.result; freeze = 0 } in
+    let b : Base = base_with c.args.inst.now.draft c.in_ok-start.start c.demo_options-options.result 0 in
     subst (AreLegal b 1) (sym c.entries-entries.ensures.entries) c.in_ok-book.ensures.full.legal
 
 pub best_of-requires-clause-best : goal.best_of-requires-clause-best
 best_of-requires-clause-best g c =
-    let b : Base = record { instance = c.args.inst.now.draft; start = c.in_ok-start.start; options = c.demo_options-options.result; freeze = 0 } in
+    let b : Base = base_with c.args.inst.now.draft c.in_ok-start.start c.demo_options-options.result 0 in
     subst (λ es. BestIs b es c.best.result) (sym c.entries-entries.ensures.entries)
     (subst (λ (d : Base). BestIs d c.in_ok-book.book.entries c.best.result) c.in_ok-book.ensures.base c.best.ensures)
 
 pub returns-in-None : goal.returns-in-None
 returns-in-None g c =
-    let I = c.args.inst.now.draft in
-    let b : Base = record { instance = I; start = c.in_ok-start.start; options = c.demo_options-options.result; freeze = 0 } in
+    let b : Base = base_with c.args.inst.now.draft c.in_ok-start.start c.demo_options-options.result 0 in
     let es = c.entries-entries.result.now in
-    let is : tries es ≡ c.in_ok-book.book.entries = c.entries-entries.ensures.entries in
-    record {
-      base = b;
-      history = es;
-      demo = is-demo c.args.number b es
-          (record {
-            instance = c.requires;
-            start = c.in_ok-start.ensures.filled ∙ ap (fill I 100000) c.in_ok-empty.ensures;
-            options = c.demo_options-options.ensures;
-            freeze = refl;
-          })
-          (subst (IsFull b 1) (sym is) c.in_ok-book.ensures.full)
-          (subst (AreExact b) (sym is) (subst (λ (d : Base). AreExact d c.in_ok-book.book.entries) c.in_ok-book.ensures.base c.entries-entries.ensures.exact));
-      said_is = subst (HasBestOutput b (tries es)) c.in-None.is c.in_ok-best_of.ensures;
-    }
+    let demo =
+    searched-demo c.args.number c.args.inst.now.draft c.in_ok-start.start c.demo_options-options.result _ es c.in_ok-book.book.entries c.requires
+    (c.in_ok-start.ensures.filled ∙ ap (fill c.args.inst.now.draft 100000) c.in_ok-empty.ensures) c.demo_options-options.ensures
+    c.entries-entries.ensures.entries c.in_ok-book.ensures.full c.in_ok-book.ensures.base c.entries-entries.ensures.exact in
+    record { base = b; history = es; demo = demo; said_is = subst (HasBestOutput b (tries es)) c.in-None.is c.in_ok-best_of.ensures }
 
 pub returns : goal.returns
 returns g c =
-    let I = c.args.inst.now.draft in
-    let b : Base = record { instance = I; start = c.in_ok-start.start; options = c.demo_options-options.result; freeze = 0 } in
+    let b : Base = base_with c.args.inst.now.draft c.in_ok-start.start c.demo_options-options.result 0 in
     let es = c.entries-entries.result.now in
-    let is : tries es ≡ c.in_ok-book.book.entries = c.entries-entries.ensures.entries in
     let best : HasBestOutput b (tries es) (Some c.in-Some.best) = subst (HasBestOutput b (tries es)) c.in-Some.is c.in_ok-best_of.ensures in
-    let demo : IsDemo c.args.number b es = is-demo c.args.number b es
-    (record {
-      instance = c.requires;
-      start = c.in_ok-start.ensures.filled ∙ ap (fill I 100000) c.in_ok-empty.ensures;
-      options = c.demo_options-options.ensures;
-      freeze = refl;
-    })
-    (subst (IsFull b 1) (sym is) c.in_ok-book.ensures.full)
-    (subst (AreExact b) (sym is) (subst (λ (d : Base). AreExact d c.in_ok-book.book.entries) c.in_ok-book.ensures.base c.entries-entries.ensures.exact)) in
+    let demo =
+    searched-demo c.args.number c.args.inst.now.draft c.in_ok-start.start c.demo_options-options.result _ es c.in_ok-book.book.entries c.requires
+    (c.in_ok-start.ensures.filled ∙ ap (fill c.args.inst.now.draft 100000) c.in_ok-empty.ensures) c.demo_options-options.ensures
+    c.entries-entries.ensures.entries c.in_ok-book.ensures.full c.in_ok-book.ensures.base c.entries-entries.ensures.exact in
     record {
       base = b;
       history = es;
