@@ -7,4 +7,8 @@ use Rattle.ih_page.proofs.left_out.put_left_out.Goals as goal
 
 pub returns : goal.returns
 unfolding left_out
-returns c = on_ok_weaker c.put-2.result (λ d. joins3 _ _ _ _ _ _ _ c.in_ok-put.ensures (counted _ _ _ _ _ c.patients.ensures (c.in_ok-put_below.ensures (left_out_of c.args.inst.now.draft c.args.plan.now) (search rules))) d) c.put-2.ensures
+returns c =
+    on_ok_weaker c.put-2.result
+    (λ d. joins3 _ _ _ _ _ _ _ c.in_ok-put.ensures
+    (counted _ _ _ _ _ c.patients.ensures (c.in_ok-put_below.ensures (left_out_of c.args.inst.now.draft c.args.plan.now) (search rules))) d)
+    c.put-2.ensures

@@ -7,4 +7,9 @@ use Rattle.ih_page.proofs.nursing.put_nurses.Goals as goal
 
 pub returns : goal.returns
 unfolding nurses_text
-returns c = on_ok_weaker c.put-3.result (λ d. joins5 _ _ _ _ _ _ _ _ _ _ _ c.in_ok-put.ensures (counted _ _ _ _ _ c.days.ensures (c.in_ok-put_below.ensures wide_day (search rules))) c.in_ok-put-2.ensures (counted _ _ _ _ _ c.nurses.ensures (c.in_ok-put_below-2.ensures (nurse_row c.args.inst.now.draft c.args.plan.now) (search rules))) d) c.put-3.ensures
+returns c =
+    on_ok_weaker c.put-3.result
+    (λ d. joins5 _ _ _ _ _ _ _ _ _ _ _ c.in_ok-put.ensures
+    (counted _ _ _ _ _ c.days.ensures (c.in_ok-put_below.ensures wide_day (search rules))) c.in_ok-put-2.ensures
+    (counted _ _ _ _ _ c.nurses.ensures (c.in_ok-put_below-2.ensures (nurse_row c.args.inst.now.draft c.args.plan.now) (search rules))) d)
+    c.put-3.ensures

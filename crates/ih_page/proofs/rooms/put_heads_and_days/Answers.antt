@@ -7,4 +7,8 @@ use Rattle.ih_page.proofs.rooms.put_heads_and_days.Goals as goal
 
 pub returns : goal.returns
 unfolding heads_and_days
-returns c = on_ok_weaker c.put-2.result (λ d. joins3 _ _ _ _ _ _ _ c.in_ok-put.ensures (counted _ _ _ _ _ c.days.ensures (c.in_ok-put_below.ensures day_head (search rules))) d) c.put-2.ensures
+returns c =
+    on_ok_weaker c.put-2.result
+    (λ d. joins3 _ _ _ _ _ _ _ c.in_ok-put.ensures
+    (counted _ _ _ _ _ c.days.ensures (c.in_ok-put_below.ensures day_head (search rules))) d)
+    c.put-2.ensures

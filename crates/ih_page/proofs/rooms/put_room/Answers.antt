@@ -13,4 +13,5 @@ returns c =
     on_ok_weaker c.put.result
     (λ d. joins5 _ _ _ _ _ _ _ _ _ _ _
     (c.in_ok-put_room_head.ensures
-    ∙ ap named (sym c.room.ensures)) c.in_ok-put_persons.ensures c.in_ok-put_count_row.ensures (c.in_ok-put_below.ensures (shift_row c.args.inst.now.draft c.args.plan.now c.args.r) (search rules)) d) c.put.ensures
+    ∙ ap named (sym c.room.ensures)) c.in_ok-put_persons.ensures c.in_ok-put_count_row.ensures
+    (c.in_ok-put_below.ensures (shift_row c.args.inst.now.draft c.args.plan.now c.args.r) (search rules)) d) c.put.ensures

@@ -7,4 +7,7 @@ use Rattle.ih_page.proofs.rooms.put_rooms.Goals as goal
 
 pub returns : goal.returns
 unfolding rooms_text
-returns c = on_ok_weaker c.put_below.result (λ d. joins2 _ _ _ _ _ c.in_ok-put.ensures (counted _ _ _ _ _ c.rooms.ensures d)) (c.put_below.ensures (room_text c.args.inst.now.draft c.args.plan.now) (search rules))
+returns c =
+    on_ok_weaker c.put_below.result
+    (λ d. joins2 _ _ _ _ _ c.in_ok-put.ensures
+    (counted _ _ _ _ _ c.rooms.ensures d)) (c.put_below.ensures (room_text c.args.inst.now.draft c.args.plan.now) (search rules))

@@ -6,4 +6,8 @@ use Rattle.ih_page.proofs.Joins.{joins5}
 use Rattle.ih_page.proofs.rooms.put_shift.Goals as goal
 
 pub returns : goal.returns
-returns c = on_ok_weaker c.put-3.result (λ d. joins5 _ _ _ _ _ _ _ _ _ _ _ c.in_ok-put.ensures c.in_ok-put_shift_type.ensures c.in_ok-put-2.ensures (counted _ _ _ _ _ c.days.ensures (c.in_ok-put_below.ensures (λ d. nurse_cell c.args.inst.now.draft c.args.plan.now c.args.r (3 * d + c.args.j)) (search rules))) d) c.put-3.ensures
+returns c =
+    on_ok_weaker c.put-3.result
+    (λ d. joins5 _ _ _ _ _ _ _ _ _ _ _ c.in_ok-put.ensures c.in_ok-put_shift_type.ensures c.in_ok-put-2.ensures
+    (counted _ _ _ _ _ c.days.ensures (c.in_ok-put_below.ensures (λ d. nurse_cell c.args.inst.now.draft c.args.plan.now c.args.r (3 * d + c.args.j)) (search rules))) d)
+    c.put-3.ensures
