@@ -1,45 +1,9 @@
-//! Two small files, and what is answered for each after one change.
+//! What is answered for the files of two small instances after one change.
 
+use ih_fixtures::{TWO_PATIENTS, WARD};
 use ih_instance::{InstanceError, read_instance};
 use ih_tables::{Fault, Instance, Place, Refusal};
 use std::alloc::{AllocError, Global};
-
-/// One day, one room, one nurse, one occupant and no patients.
-const SMALL: &str = r#"{"days":1,"skill_levels":3,"shift_types":["early","late","night"],
-"age_groups":["child","adult","old"],
-"weights":{"room_mixed_age":5,"room_nurse_skill":10,"continuity_of_care":2,
-"nurse_eccessive_workload":1,"open_operating_theater":30,"surgeon_transfer":7,
-"patient_delay":4,"unscheduled_optional":100},
-"occupants":[{"id":"a0","gender":"A","age_group":"adult","length_of_stay":1,
-"workload_produced":[2,1,1],"skill_level_required":[1,0,2],"room_id":"r0"}],
-"patients":[],"surgeons":[],"operating_theaters":[],
-"rooms":[{"id":"r0","capacity":2}],
-"nurses":[{"id":"n0","skill_level":1,"working_shifts":[
-{"day":0,"shift":"early","max_load":2},{"day":0,"shift":"late","max_load":2},
-{"day":0,"shift":"night","max_load":2}]}]}"#;
-
-/// Two days, with a mandatory patient who stays past the horizon and an optional one.
-const LARGER: &str = r#"{"days":2,"skill_levels":3,"shift_types":["early","late","night"],
-"age_groups":["child","adult","old"],
-"weights":{"room_mixed_age":5,"room_nurse_skill":10,"continuity_of_care":2,
-"nurse_eccessive_workload":1,"open_operating_theater":30,"surgeon_transfer":7,
-"patient_delay":4,"unscheduled_optional":100},
-"occupants":[{"id":"a0","gender":"A","age_group":"adult","length_of_stay":1,
-"workload_produced":[1,1,1],"skill_level_required":[0,0,2],"room_id":"r0"}],
-"patients":[{"id":"p0","mandatory":true,"gender":"A","age_group":"old","length_of_stay":5,
-"surgery_release_day":0,"surgery_due_day":1,"surgery_duration":60,"surgeon_id":"s0",
-"incompatible_room_ids":["r1"],"workload_produced":[2,2,2,2,2,2],
-"skill_level_required":[0,0,0,0,0,0]},
-{"id":"p1","mandatory":false,"gender":"B","age_group":"child","length_of_stay":1,
-"surgery_release_day":0,"surgery_duration":40,"surgeon_id":"s0",
-"incompatible_room_ids":[],"workload_produced":[1,1,1],"skill_level_required":[2,2,2]}],
-"surgeons":[{"id":"s0","max_surgery_time":[100,100]}],
-"operating_theaters":[{"id":"t0","availability":[60,60]},{"id":"t1","availability":[60,60]}],
-"rooms":[{"id":"r0","capacity":2},{"id":"r1","capacity":1}],
-"nurses":[{"id":"n0","skill_level":0,"working_shifts":[
-{"day":0,"shift":"early","max_load":3},{"day":0,"shift":"late","max_load":3},
-{"day":0,"shift":"night","max_load":3},{"day":1,"shift":"early","max_load":3},
-{"day":1,"shift":"late","max_load":3},{"day":1,"shift":"night","max_load":3}]}]}"#;
 
 // Whether that is said of a file.
 fn says(alloc: Global, error: &InstanceError, wanted: &str) -> bool {
@@ -78,12 +42,7 @@ type Change = (&'static str, &'static str, &'static str);
 
 // Whether each of these is answered.
 fn are_answered(alloc: Global, text: &str, changes: &[Change]) -> bool {
-    for (old, new, wanted) in changes {
-        if !is_answered(alloc, text, old, new, wanted) {
-            return false;
-        }
-    }
-    true
+    changes.iter().all(|(old, new, wanted)| is_answered(alloc, text, old, new, wanted))
 }
 
 // Changes of the whole text, of the horizon and of what is in the ward.
@@ -170,18 +129,18 @@ const PATIENTS: [Change; 5] = [
 
 #[test]
 fn each_change_has_its_answer(rt: HostRuntime) {
-    assert!(rt; are_answered(rt.alloc(), SMALL, &PARTS));
-    assert!(rt; are_answered(rt.alloc(), SMALL, &NAMES));
-    assert!(rt; are_answered(rt.alloc(), LARGER, &PATIENTS));
+    assert!(rt; are_answered(rt.alloc(), WARD, &PARTS));
+    assert!(rt; are_answered(rt.alloc(), WARD, &NAMES));
+    assert!(rt; are_answered(rt.alloc(), TWO_PATIENTS, &PATIENTS));
 }
 
 fn has_sizes(inst: &Instance) -> bool {
     [inst.patients(), inst.persons(), inst.rooms(), inst.shifts()] == [2, 3, 2, 6]
 }
 
-// Whether the larger text is read, with so many of each.
-fn is_larger_read(alloc: Global) -> bool {
-    match read_instance(alloc, LARGER.as_bytes()) {
+// Whether the ward of two patients is read, with so many of each.
+fn is_read(alloc: Global) -> bool {
+    match read_instance(alloc, TWO_PATIENTS.as_bytes()) {
         Ok(inst) => has_sizes(&inst),
         Err(_) => false,
     }
@@ -201,11 +160,11 @@ fn is_nothing_refused(alloc: Global) -> bool {
 
 #[test]
 fn an_instance_is_read(rt: HostRuntime) {
-    assert!(rt; is_larger_read(rt.alloc()));
+    assert!(rt; is_read(rt.alloc()));
     assert!(rt; is_nothing_refused(rt.alloc()));
 }
 
-// The text of the smaller file with a first key more, whose value is so many lists, each inside the one before.
+// The text of the ward of one day with a first key more, whose value is so many lists, each inside the one before.
 fn nested(alloc: Global, depth: usize) -> Result<String, AllocError> {
     let open = "[".repeat(alloc, depth)?;
     let close = "]".repeat(alloc, depth)?;
@@ -215,7 +174,7 @@ fn nested(alloc: Global, depth: usize) -> Result<String, AllocError> {
 // Whether that is answered for such a file.
 fn is_answered_nested(alloc: Global, depth: usize, wanted: &str) -> bool {
     match nested(alloc, depth) {
-        Ok(first) => is_answered(alloc, SMALL, r#"{"days":1"#, first.as_str(), wanted),
+        Ok(first) => is_answered(alloc, WARD, r#"{"days":1"#, first.as_str(), wanted),
         Err(_) => false,
     }
 }
@@ -227,5 +186,5 @@ const REPEATED: [Change; 1] = [(r#"{"days":1"#, r#"{"days":0,"days":1"#, "accept
 fn deep_values_and_repeated_keys(rt: HostRuntime) {
     assert!(rt; is_answered_nested(rt.alloc(), 126, "accepted"));
     assert!(rt; is_answered_nested(rt.alloc(), 127, "NotJson at $"));
-    assert!(rt; are_answered(rt.alloc(), SMALL, &REPEATED));
+    assert!(rt; are_answered(rt.alloc(), WARD, &REPEATED));
 }

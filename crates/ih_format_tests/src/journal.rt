@@ -34,12 +34,10 @@ const LIMITS: [(u32, u32, u32, bool); 7] = [
 ];
 
 fn are_limits(rows: &[(u32, u32, u32, bool)]) -> bool {
-    for (workers, moves, retries, lawful) in rows {
-        if options(0, *workers, *moves, *retries).lawful() != *lawful {
-            return false;
-        }
-    }
-    true
+    rows.iter().all(|(workers, moves, retries, lawful)| options(
+        0, *workers, *moves, *retries,
+    ).lawful()
+        == *lawful)
 }
 
 #[test]
@@ -83,12 +81,9 @@ const NO_HEADINGS: [&str; 7] = [
 ];
 
 fn are_no_headings(texts: &[&str]) -> bool {
-    for text in texts {
-        if parse_head(text.as_bytes()).is_some() {
-            return false;
-        }
-    }
-    true
+    texts
+        .iter()
+        .all(|text| parse_head(text.as_bytes()).is_none())
 }
 
 #[test]
@@ -118,39 +113,39 @@ fn place(p: u32, day: u32, room: u32, theatre: u32) -> Move {
     Move::Place(PatientNo(p), at)
 }
 
+const FIRST: Entry = Entry {
+    worker: 0,
+    number: 0,
+    again: 0,
+    seen: 0,
+    mv: Move::NurseRun(NurseNo(0), RoomNo(0), Day(0), 5),
+    price: Bill {
+        v: [0, 0, 0, 0, 0, 0, 0, 0, -3],
+        s: [0, 1, 1, 0, 0, 0, 0, 0],
+    },
+    verdict: Verdict::Accepted,
+};
+
+const BY_ANOTHER: Verdict = Verdict::Stale {
+    cell: Cell::RoomShift(RoomNo(0), Shift(0)),
+    at_seen: 0,
+    at_place: 1,
+};
+
 fn is_first_line(alloc: Global) -> bool {
-    let entry = Entry {
-        worker: 0,
-        number: 0,
-        again: 0,
-        seen: 0,
-        mv: Move::NurseRun(NurseNo(0), RoomNo(0), Day(0), 5),
-        price: Bill {
-            v: [0, 0, 0, 0, 0, 0, 0, 0, -3],
-            s: [0, 1, 1, 0, 0, 0, 0, 0],
-        },
-        verdict: Verdict::Accepted,
-    };
     let wanted = "0 0 0 0 nurserun:0,0,0,5 0,0,0,0,0,0,0,0,-3,0,1,1,0,0,0,0,0 accepted\n";
-    line_is(alloc, &options(0, 1, 2, 0), 0, &entry, wanted)
+    line_is(alloc, &options(0, 1, 2, 0), 0, &FIRST, wanted)
 }
 
 fn is_stale_line(alloc: Global) -> bool {
     let entry = Entry {
-        worker: 0,
-        number: 0,
-        again: 0,
-        seen: 0,
         mv: place(0, 1, 1, 1),
         price: Bill {
             v: [0, 1, 0, 0, 0, 0, 0, 0, 3],
             s: [-1, 0, -1, 0, 0, 0, 1, 0],
         },
-        verdict: Verdict::Stale {
-            cell: Cell::RoomShift(RoomNo(0), Shift(0)),
-            at_seen: 0,
-            at_place: 1,
-        },
+        verdict: BY_ANOTHER,
+        ..FIRST
     };
     let wanted =
         "1 0 0 0 place:0,1,1,1 0,1,0,0,0,0,0,0,3,-1,0,-1,0,0,0,1,0 stale:roomshift.0.0:0:1\n";
@@ -159,8 +154,6 @@ fn is_stale_line(alloc: Global) -> bool {
 
 fn is_retried_line(alloc: Global) -> bool {
     let entry = Entry {
-        worker: 0,
-        number: 0,
         again: 1,
         seen: 2,
         mv: place(1, 0, 0, 1),
@@ -168,7 +161,7 @@ fn is_retried_line(alloc: Global) -> bool {
             v: [1, 0, 0, 0, 0, 0, 1, 0, 0],
             s: [1, 4, 2, 2, 1, 1, 0, -1],
         },
-        verdict: Verdict::Accepted,
+        ..FIRST
     };
     let wanted = "2 0 0 1 2 place:1,0,0,1 1,0,0,0,0,0,1,0,0,1,4,2,2,1,1,0,-1 accepted\n";
     line_is(alloc, &options(0, 2, 2, 1), 2, &entry, wanted)
@@ -200,14 +193,9 @@ const STALE: &str =
 
 // Whether the entry has the move, the price and the verdict of that line.
 fn is_stale_entry(entry: &Entry) -> bool {
-    let verdict = Verdict::Stale {
-        cell: Cell::RoomShift(RoomNo(0), Shift(0)),
-        at_seen: 0,
-        at_place: 1,
-    };
     entry.mv == place(0, 1, 1, 1)
         && entry.price.v == [0, 1, 0, 0, 0, 0, 0, 0, 3]
-        && entry.verdict == verdict
+        && entry.verdict == BY_ANOTHER
 }
 
 // Whether the line of a stale entry is read, place, move, price and verdict.
@@ -257,12 +245,8 @@ fn is_wrong_at(inst: &Instance, options: &Options, text: &str, field: u32) -> bo
 }
 
 fn are_no_lines(inst: &Instance, options: &Options, rows: &[(&str, u32)]) -> bool {
-    for (text, field) in rows {
-        if !is_wrong_at(inst, options, text, *field) {
-            return false;
-        }
-    }
-    true
+    rows.iter()
+        .all(|(text, field)| is_wrong_at(inst, options, text, *field))
 }
 
 fn lines_read(inst: &Instance) -> bool {
@@ -285,12 +269,9 @@ const NO_MOVES: [&str; 5] = [
 ];
 
 fn are_no_moves(inst: &Instance, texts: &[&str]) -> bool {
-    for text in texts {
-        if parse_move(inst, text.as_bytes()).is_some() {
-            return false;
-        }
-    }
-    true
+    texts
+        .iter()
+        .all(|text| parse_move(inst, text.as_bytes()).is_none())
 }
 
 fn moves_read(inst: &Instance) -> bool {

@@ -2,12 +2,9 @@
 
 ghost use Rattle.ih_fixtures.specs.Two.{IsOfTwo};
 
-use ih_fixtures::{on_two_patients, two_patients_draft};
+use ih_fixtures::{on_two_patients, share, two_patients_draft};
 use ih_tables::{Bill, Instance, NurseNo, PatientNo, RoomNo, Shift, TheatreNo};
 use std::alloc::Global;
-
-/// Threads share an instance.
-fn share<T: Send + Sync>(_x: &T) {}
 
 // Whether there are as many of each kind as in the ward of two patients, in the order in which they are counted.
 fn has_sizes(inst: &Instance) -> bool {
