@@ -8,7 +8,7 @@ use Rattle.std.proofs.lemmas.Option.{slice_get-map}
 use Rattle.std.proofs.Math.Nat.{div-lt_iff_lt-mul, mod-add-div', mod-lt}
 use Rattle.ih_tables.specs.declared.drafts.Draft.{Draft}
 use Rattle.ih_tables.specs.Sizes.{patient_count, room_count, shift_count}
-use Rattle.ih_plan.specs.Fill.{rooms_by_shift}
+use Rattle.ih_fill.specs.Fill.{rooms_by_shift}
 use Rattle.ih_advise.specs.declared.subjects.Subject.{Subject}
 use Rattle.ih_advise.specs.declared.subjects.Subject.TheVariants.{StayOf, NurseOf}
 use Rattle.ih_advise.specs.Advising.{nurse_of, subjects}

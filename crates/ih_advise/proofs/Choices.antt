@@ -8,7 +8,7 @@ use Rattle.ih_plan.specs.declared.moves.Write.{Write}
 use Rattle.ih_plan.specs.Timetable.{Timetable}
 use Rattle.ih_plan.specs.Writes.{put}
 use Rattle.ih_plan.specs.BillOf.{change_of_bill}
-use Rattle.ih_plan.specs.Fill.{cheapest, write_score}
+use Rattle.ih_fill.specs.Fill.{cheapest, write_score}
 use Rattle.ih_fill.specs.declared.candidates.Candidate.{Candidate}
 use Rattle.ih_fill.specs.Candidates.{valued, least_of}
 use Rattle.ih_fill.specs.Scoring.{Scoring, care_value, stay_value, view_of}

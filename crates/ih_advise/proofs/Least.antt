@@ -1,23 +1,17 @@
 -- The best write of a choice is least, and where nothing is advised no candidate lowers the score.
 use Rattle.std.proofs.Common.{◌≡◌, ℕ, zero, suc, ◌<◌, refl, sym, ap, ◌∙◌, subst, arith, Bool, true, false, List, [], ◌∷◌, Option, Some, None}
-use Rattle.std.specs.Prelude.{ℤ, pos, ◌≤ℤ◌, ◌<ℤ◌, int_lt, filter_map, slice_get, if◌then◌else◌, T, not}
+use Rattle.std.specs.Prelude.{ℤ, pos, ◌≤ℤ◌, ◌<ℤ◌, int_lt, filter_map, slice_get, if◌then◌else◌}
 use Rattle.std.specs.List.{cons_option}
-use Rattle.std.specs.Int.Signed.{lt_z_no}
 use Rattle.std.proofs.lemmas.Int.{ints}
 use Rattle.ih_tables.specs.declared.drafts.Draft.{Draft}
 use Rattle.ih_plan.specs.declared.moves.Write.{Write}
 use Rattle.ih_plan.specs.Timetable.{Timetable}
-use Rattle.ih_plan.specs.Fill.{cheapest}
+use Rattle.ih_fill.specs.Fill.{cheapest}
+use Rattle.ih_plan.proofs.TestLemmas.{below, not-below}
 use Rattle.ih_advise.specs.declared.choosing.Advice.{Advice}
 use Rattle.ih_advise.specs.declared.subjects.Subject.{Subject}
 use Rattle.ih_advise.specs.Advising.{advice, advice_on, advised, best_write, clearing, replacements, subjects, value_of}
 use Rattle.ih_advise.specs.Laws.{IsBestChange, IsCandidate, IsSubject}
-
-below : (x y : ℤ) → int_lt x y ≡ true → x <ℤ y
-below x y h = record { lt = subst T (sym h) tt }
-
-not-below : (x y : ℤ) → int_lt x y ≡ false → y ≤ℤ x
-not-below x y h = lt_z_no {a = x} {b = y} (subst (λ t. T (not t)) (sym h) tt)
 
 -- the cheapest costs no more than any of the writes
 pub cheapest-least : (v : Write → ℤ) (w : Write) (ws : List Write) (k : ℕ) (x : Write) → slice_get (w ∷ ws) k ≡ Some x → v (cheapest v w ws) ≤ℤ v x

@@ -11,6 +11,7 @@ use Rattle.std.proofs.lemmas.List.Elements.{filter_map-append}
 use Rattle.std.proofs.Math.Nat.{mod-add-div', mod-lt, mul-le-mul_right}
 use Rattle.ih_tables.specs.declared.drafts.Draft.{Draft}
 use Rattle.ih_plan.specs.Timetable.{Timetable}
+use Rattle.ih_plan.proofs.ReadLemmas.{get-last}
 use Rattle.ih_fill.proofs.ListLemmas.{range-more}
 use Rattle.ih_advise.specs.declared.advisers.Adviser.{Adviser}
 use Rattle.ih_advise.specs.declared.choosing.Advice.{Advice}
@@ -22,10 +23,6 @@ get-earlier : {A : Type 0} (xs : List A) (x : A) (k : ℕ) → k < length xs →
 get-earlier [] x k h = absurd (omega arith)
 get-earlier (z ∷ zs) x zero h = refl
 get-earlier (z ∷ zs) x (suc k) h = get-earlier zs x k (omega arith)
-
-get-last : {A : Type 0} (xs : List A) (x : A) → slice_get (xs ++ x ∷ []) (length xs) ≡ Some x
-get-last [] x = refl
-get-last (z ∷ zs) x = get-last zs x
 
 get-some : {A : Type 0} (xs : List A) (k : ℕ) → k < length xs → (x : A) × (slice_get xs k ≡ Some x)
 get-some [] k h = absurd (omega arith)

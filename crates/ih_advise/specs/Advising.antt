@@ -8,7 +8,7 @@ use Rattle.ih_plan.specs.declared.moves.Write.TheVariants.{SetStay, SetCare}
 use Rattle.ih_plan.specs.Timetable.{Timetable}
 use Rattle.ih_plan.specs.Writes.{put}
 use Rattle.ih_plan.specs.BillOf.{change_of_bill}
-use Rattle.ih_plan.specs.Fill.{cheapest, care_writes, rooms_by_shift, stay_writes, write_score}
+use Rattle.ih_fill.specs.Fill.{cheapest, care_writes, rooms_by_shift, stay_writes, write_score}
 use Rattle.ih_fill.specs.declared.candidates.Candidate.{Candidate}
 use Rattle.ih_fill.specs.Candidates.{valued}
 use Rattle.ih_advise.specs.declared.choosing.Advice.{Advice}

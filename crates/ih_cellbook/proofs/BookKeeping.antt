@@ -11,11 +11,11 @@ use Rattle.ih_tables.specs.declared.bills.Bill.{Bill}
 use Rattle.ih_tables.specs.Bills.{at, by_place, IsWithin, add_bills, feasible, cost}
 use Rattle.ih_tables.specs.Sizes.{shift_count, room_count, theatre_count, surgeon_count, nurse_count}
 use Rattle.ih_tables.specs.Valid.{IsValid}
+use Rattle.ih_tables.proofs.BillLemmas.{at-by_place}
 use Rattle.ih_plan.specs.Timetable.{Timetable, IsPlanOf}
 use Rattle.ih_plan.specs.BillOf.{bill_of, change_of_bill}
 use Rattle.ih_plan.specs.Sums.{bit}
 use Rattle.ih_plan.specs.Cells.{cell_at, cell_count}
-use Rattle.ih_plan.proofs.ChangeSums.{at-by_place}
 use Rattle.ih_plan.proofs.BillBounds.{bill-within, change-within}
 use Rattle.ih_plan.proofs.ChangeSums.{at-by_place}
 use Rattle.ih_plan.proofs.ListedBelow.{has}

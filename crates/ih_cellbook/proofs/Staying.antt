@@ -1,7 +1,8 @@
 -- An offer that is right stays right while others add entries.
 use Rattle.ih_plan.specs.Series.{price_of_all}
-use Rattle.std.proofs.Common.{◌≡◌, ℕ, zero, suc, refl, arith, sym, ap, ◌∙◌, false, List, [], ◌∷◌, ◌++◌, length-append, inl, inr, Option, Some, None}
-use Rattle.std.specs.Prelude.{◌⊎◌, if◌then◌else◌, ◌==◌, option_map, slice_get}
+use Rattle.ih_plan.proofs.ReadLemmas.{get-append}
+use Rattle.std.proofs.Common.{◌≡◌, ℕ, suc, refl, arith, sym, ap, ◌∙◌, subst, take, false, List, [], ◌∷◌, ◌++◌, length-append, inl, inr, Option, Some, None}
+use Rattle.std.specs.Prelude.{if◌then◌else◌, ◌==◌, option_map}
 use Rattle.std.proofs.lemmas.List.{take-append-le}
 use Rattle.std.proofs.lemmas.Bool.{ne_eqb}
 use Rattle.ih_journal.specs.declared.settings.Options.{Options}
@@ -13,6 +14,8 @@ use Rattle.ih_journal.proofs.Growth.{plan_at-earlier}
 use Rattle.ih_cellbook.specs.Offered.{Offered}
 use Rattle.ih_cellbook.specs.Laws.{HasNoneBy}
 use Rattle.ih_cellbook.specs.Offers.{IsRightOffer, HasSeenOwn, next_number, reads_after}
+use Rattle.ih_cellbook.specs.Replicas.{IsReplicaOf, IsReplicaIn}
+use Rattle.ih_cellbook.specs.Snapshot.{Snapshot}
 
 else_last-none : (o : Option Tried) → else_last None o ≡ o
 else_last-none o = refl
@@ -30,13 +33,6 @@ pub last_by-others : (w : ℕ) (H es : List Tried) → HasNoneBy w es → last_b
 unfolding last_by
 last_by-others w [] es none = last_by-none w es none
 last_by-others w (x ∷ xs) es none = rw (last_by-others w xs es none) refl
-
--- an entry of the longer history is an earlier one, or one of the others
-get-append : (H es : List Tried) (j : ℕ) (e : Tried) → slice_get (H ++ es) j ≡ Some e
-    → (slice_get H j ≡ Some e) ⊎ ((k : ℕ) × (slice_get es k ≡ Some e))
-get-append [] es j e h = inr (j, h)
-get-append (x ∷ xs) es zero e h = inl h
-get-append (x ∷ xs) es (suc j) e h = get-append xs es j e h
 
 pub seen_own-others : (w seen : ℕ) (H es : List Tried) → HasNoneBy w es → HasSeenOwn H w seen → HasSeenOwn (H ++ es) w seen
 seen_own-others w seen H es none own j e h by = elim (get-append H es j e h) [
@@ -64,3 +60,7 @@ right-stays b H es o right none =
       reads = λ asked. right.reads asked ∙ sym (ap (λ G. reads_after b G o.moves) front);
       frozen = right.frozen ∙ sym (ap (λ P. is_frozen b P o.moves) there);
     }
+
+-- a replica of the empty history stands for a beginning of any
+pub new-within : (b : Base) (H : List Tried) (r : Snapshot) → IsReplicaOf b [] r → IsReplicaIn b H r
+new-within b H r stands = subst (λ k. IsReplicaOf b (take k H) r) (sym stands.seen) stands

@@ -1,5 +1,5 @@
 -- How often a cell is read: once where it is in the footprint.
-use Rattle.std.proofs.Common.{◌≡◌, ℕ, zero, suc, ◌+◌, ◌<◌, refl, arith, sym, ap, ◌∙◌, subst, Bool, true, false, List, [], ◌∷◌, inl, inr}
+use Rattle.std.proofs.Common.{◌≡◌, ℕ, zero, suc, ◌+◌, ◌<◌, refl, arith, sym, ap, ◌∙◌, subst, Bool, List, [], ◌∷◌, inl, inr}
 use Rattle.std.specs.Prelude.{if◌then◌else◌, ◌==◌, map, sum_by}
 use Rattle.std.proofs.lemmas.Bool.{cases_eq, eq-eqb, ne_eqb}
 use Rattle.std.proofs.lemmas.List.Sums.{sum_by-cons}
@@ -7,6 +7,7 @@ use Rattle.ih_plan.specs.Sums.{bit, sum_below, which_below, is_listed}
 use Rattle.ih_plan.proofs.ListedBelow.{has-listed, has-which_below}
 use Rattle.ih_plan.proofs.SumLemmas.{sum_below-same, sum_by-which_below}
 use Rattle.ih_plan.proofs.SumBounds.{sum_below-none}
+use Rattle.ih_plan.proofs.TestLemmas.{if-bit, if-none}
 use Rattle.ih_cellbook.specs.Counters.{times_read}
 
 abbrev one-at : ℕ → ℕ → ℕ
@@ -20,20 +21,12 @@ times-keys n f (x ∷ xs) =
     let right = sum_by-cons (one-at n) x xs in
     left ∙ ap (λ k. one-at n x + k) rest ∙ sym right
 
-neither : (t : Bool) (n : ℕ) → (if t then n else n) ≡ n
-neither true n = refl
-neither false n = refl
-
-either : (t : Bool) → (if t then 1 else 0) ≡ bit t
-either true = refl
-either false = refl
-
 last-picked : (N : ℕ) (p : ℕ → Bool) → sum_below (suc N) (λ i. if p i then one-at N i else 0) ≡ bit (p N)
 unfolding sum_below
 last-picked N p =
-    let before = sum_below-same N (λ i. if p i then one-at N i else 0) (λ i. 0) (λ i l. rw (ne_eqb i N (λ e. omega arith)) (neither (p i) 0)) in
+    let before = sum_below-same N (λ i. if p i then one-at N i else 0) (λ i. 0) (λ i l. rw (ne_eqb i N (λ e. omega arith)) (if-none (p i))) in
     let none = sum_below-none N in
-    let here : (if p N then one-at N N else 0) ≡ bit (p N) = rw (eq-eqb N N refl) (either (p N)) in
+    let here : (if p N then one-at N N else 0) ≡ bit (p N) = rw (eq-eqb N N refl) (if-bit (p N)) in
     omega (arith, before, none, here)
 
 picked : (N n : ℕ) (p : ℕ → Bool) → n < N → sum_below N (λ i. if p i then one-at n i else 0) ≡ bit (p n)
@@ -43,7 +36,7 @@ picked (suc N) n p h = elim (cases_eq n N) [
   | inl last ↦ subst (λ k. sum_below (suc N) (λ i. if p i then one-at k i else 0) ≡ bit (p k)) (sym last) (last-picked N p)
   | inr other ↦
       let rest = picked N n p (omega arith) in
-      let here : (if p N then one-at n N else 0) ≡ 0 = rw (ne_eqb N n (λ e. other (sym e))) (neither (p N) 0) in
+      let here : (if p N then one-at n N else 0) ≡ 0 = rw (ne_eqb N n (λ e. other (sym e))) (if-none (p N)) in
       omega (arith, rest, here)
 ]
 

@@ -13,7 +13,7 @@ use Rattle.ih_plan.specs.Expand.{expand}
 use Rattle.ih_plan.specs.Series.{expand_all}
 use Rattle.ih_journal.specs.Frozen.{is_before, is_frozen_write}
 
-none-before : (stay : Option Placement) → is_before 0 stay ≡ false
+pub none-before : (stay : Option Placement) → is_before 0 stay ≡ false
 none-before None = refl
 none-before (Some at) = le-ltb at.day.0 0 (omega arith)
 

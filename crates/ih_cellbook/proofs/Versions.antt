@@ -1,5 +1,5 @@
 -- Versions tell what changed: a cell's version rose exactly where an entry since was accepted and touched it.
-use Rattle.std.proofs.Common.{◌≡◌, ℕ, ◌+◌, ◌≤◌, refl, arith, ap, ◌∙◌, Bool, true, false, List, [], ◌∷◌, ◌++◌, length, take, drop, inl, inr}
+use Rattle.std.proofs.Common.{◌≡◌, ℕ, ◌+◌, ◌≤◌, refl, arith, ap, ◌∙◌, Bool, List, [], ◌∷◌, ◌++◌, length, take, drop, inl, inr}
 use Rattle.std.specs.Prelude.{◌&&◌, ◌==◌, not, find}
 use Rattle.std.specs.List.{range_with_len}
 use Rattle.std.proofs.lemmas.Bool.{cases_Bool, eq-eqb, ne_eqb}
@@ -12,6 +12,7 @@ use Rattle.ih_plan.specs.Sums.{bit}
 use Rattle.ih_plan.specs.Cells.{cell_at, cell_count}
 use Rattle.ih_plan.proofs.ListedBelow.{which_below-filter}
 use Rattle.ih_plan.specs.Series.{all_touch, footprint_of_all}
+use Rattle.ih_plan.proofs.TestLemmas.{bit-most}
 use Rattle.ih_journal.specs.Tried.{Tried}
 use Rattle.ih_journal.specs.Base.{Base}
 use Rattle.ih_journal.specs.History.{after_entry, changes, changed_since, changes_since, version, plan_at, plan_after}
@@ -55,10 +56,6 @@ unfolding changes_since
 version-more b H e c =
     let parts = changes_since-append b.instance b.start H (e ∷ []) c in
     omega (arith, parts)
-
-bit-most : (b : Bool) → bit b ≤ 1
-bit-most true = omega arith
-bit-most false = omega arith
 
 changes_since-most : (I : Draft) (P : Timetable) (es : List Tried) (c : Cell) → changes_since I P es c ≤ length es
 unfolding changes_since

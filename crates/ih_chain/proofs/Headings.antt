@@ -1,16 +1,11 @@
 -- The heading of a journal of chains, piece by piece.
-use Rattle.std.proofs.Common.{◌≡◌, ℕ, List, [], ◌∷◌, ◌++◌, append_assoc, sym, ◌∙◌}
+use Rattle.std.proofs.Common.{◌≡◌, ℕ, List, [], ◌∷◌, ◌++◌, append_assoc}
 use Rattle.std.specs.Prelude.{codes}
-use Rattle.std.specs.List.{join_with_byte, concat}
-use Rattle.std.proofs.lemmas.List.{append-nil}
+use Rattle.std.specs.List.{join_with_byte}
 use Rattle.ih_journal.specs.declared.settings.Options.{Options}
 use Rattle.ih_journal.specs.Texts.{ended, option_text}
-use Rattle.ih_journal.proofs.LinePieces.{appended}
+use Rattle.ih_journal.proofs.LinePieces.{appended, appended-is}
 use Rattle.ih_chain.specs.Texts.{chain_heading}
-
-pub appended-is : (old : List ℕ) (xs : List (List ℕ)) → appended old xs ≡ old ++ concat xs
-appended-is old [] = sym (append-nil old)
-appended-is old (x ∷ xs) = appended-is (old ++ x) xs ∙ append_assoc old x (concat xs)
 
 spaced : (title version a b c d e f : List ℕ)
     → ended (join_with_byte 32 (title ∷ version ∷ a ∷ b ∷ c ∷ d ∷ e ∷ f ∷ []))

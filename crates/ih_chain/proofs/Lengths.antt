@@ -1,7 +1,6 @@
 -- How long the texts of chains are: of their moves, of lines and of journals.
 use Rattle.std.proofs.Common.{◌≡◌, ℕ, suc, ◌+◌, ◌*◌, ◌<◌, ◌≤◌, ◌^◌, refl, arith, ap, ◌∙◌, List, [], ◌∷◌, length, decimal, Some}
 use Rattle.std.specs.Prelude.{codes, slice_get}
-use Rattle.std.proofs.lemmas.Fmt.{length-decimal-le}
 use Rattle.std.proofs.lemmas.List.{length-append}
 use Rattle.std.proofs.lemmas.List.FromFn.{length-map-range_with_len}
 use Rattle.ih_tables.specs.declared.drafts.Draft.{Draft}
@@ -15,17 +14,13 @@ use Rattle.ih_journal.specs.Settings.{IsLawful}
 use Rattle.ih_journal.specs.Texts.{ended, move_text, option_text, price_text, verdict_text}
 use Rattle.ih_journal.proofs.InRange.{IsLimited, limits}
 use Rattle.ih_journal.proofs.Mapped.{get-mapped}
-use Rattle.ih_journal.proofs.TextLengths.{IsShortTried, ended-length, hard-length, heat-length, joined-length, move-length, moves-length, number2, option-length, price-length, seed-length, verdict-length, workers-length}
+use Rattle.ih_journal.proofs.TextLengths.{IsShortTried, ended-length, hard-length, heat-length, joined-length, move-length, moves-length, number2, option-length, price-length, seed-length, verdict-length, workers-length, number7}
 use Rattle.ih_cellbook.specs.Laws.{IsSearchBase}
 use Rattle.ih_cellbook.proofs.Ranges.{each-short}
 use Rattle.ih_chain.specs.declared.entries.ChainEntry.{ChainEntry}
 use Rattle.ih_chain.specs.Entries.{chain_tried, chain_tries}
 use Rattle.ih_chain.specs.Laws.{ChainJournalsAreShort}
 use Rattle.ih_chain.specs.Texts.{chain_fields, chain_heading, chain_line, chain_lines_from, chain_text}
-
--- numbers of at most seven digits
-number7 : (n : ℕ) → n < 10 ^ 7 → length (decimal n) ≤ 7
-number7 n h = length-decimal-le 7 n (omega arith) h (omega (arith, h))
 
 -- the moves of a chain, each with a semicolon
 moves-text-length : (I : Draft) (ms : List Move) → IsLimited I → AreMoves I ms → length (chain_text ms) ≤ 29 * length ms

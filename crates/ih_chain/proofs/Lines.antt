@@ -3,14 +3,13 @@ use Rattle.std.proofs.Common.{◌≡◌, ℕ, ◌+◌, ◌<◌, ◌≤◌, sym, 
 use Rattle.std.specs.Prelude.{OnOk, codes, if◌then◌else◌, is_ok}
 use Rattle.std.specs.List.{join_with_byte}
 use Rattle.std.proofs.lemmas.List.{append-nil, drop_all, drop_more}
-use Rattle.ih_journal.proofs.LinePieces.{appended}
+use Rattle.ih_journal.proofs.LinePieces.{appended, appended-is}
 use Rattle.ih_journal.specs.declared.entries.Entry.{Entry}
 use Rattle.ih_journal.specs.declared.settings.Options.{Options}
 use Rattle.ih_journal.specs.Texts.{again_field, ended, fields, line_text, move_text, price_text, verdict_text}
 use Rattle.ih_chain.specs.declared.entries.ChainEntry.{ChainEntry}
 use Rattle.ih_chain.specs.Laws.{as_chain}
 use Rattle.ih_chain.specs.Texts.{chain_fields, chain_line, chain_lines_from, chain_text}
-use Rattle.ih_chain.proofs.Headings.{appended-is}
 
 pub same-line : (o : Options) (k : ℕ) (e : Entry) → o.retries ≡ 0 → chain_line k (as_chain e) ≡ line_text o k e
 unfolding fields chain_fields

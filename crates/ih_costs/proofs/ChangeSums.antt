@@ -4,7 +4,7 @@ use Rattle.std.specs.Prelude.{pos, ℤ, ◌-ℤ◌, ◌≤ℤ◌, neg_ℤ, map, 
 use Rattle.std.proofs.lemmas.Int.{ints}
 use Rattle.ih_tables.specs.declared.bills.Bill.{Bill}
 use Rattle.ih_tables.specs.Bills.{at, sub_bills, IsWithin}
-use Rattle.ih_plan.proofs.ChangeSums.{at-by_place}
+use Rattle.ih_tables.proofs.BillLemmas.{at-by_place}
 
 -- a number of a list, as it is in a bill
 pub at-counts : (xs : List ℕ) (k : ℕ) → at (map pos xs) k ≡ pos (slice_index xs k)

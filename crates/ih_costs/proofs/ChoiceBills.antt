@@ -20,13 +20,14 @@ use Rattle.ih_plan.proofs.BillBounds.{change-within}
 use Rattle.ih_plan.proofs.CellNumbers.{nurse_shift_cell, care_cell}
 use Rattle.ih_plan.proofs.Parts.{total, has_parts}
 use Rattle.ih_plan.proofs.PlanRanges.{put-plan}
+use Rattle.ih_plan.proofs.Entries.{number_of_nurse}
 use Rattle.ih_footprint.proofs.LocalPrices.{differences-same}
 use Rattle.ih_nurses.specs.Choice.{excess_of, seen_by, rise_by_choice}
 use Rattle.ih_tables.specs.BillNumbers.{mixed_gender, incompatible_room, surgeon_overrun, theatre_overrun, unscheduled_mandatory, admission_window, room_capacity, nurse_presence, uncovered_room}
 use Rattle.ih_tables.specs.BillNumbers.{mixed_age, nurse_skill, continuity_of_care, excess_workload, open_theatre, surgeon_transfer, patient_delay, unscheduled_optional}
 use Rattle.ih_costs.specs.StayGain.{rule_at, cost_at}
 use Rattle.ih_costs.specs.ChoiceGain.{choice_told}
-use Rattle.ih_costs.proofs.ChoiceLemmas.{number_of, loads_by, cares_by, choice_by, number-choice}
+use Rattle.ih_costs.proofs.ChoiceLemmas.{loads_by, cares_by, choice_by, number-choice}
 use Rattle.ih_costs.proofs.GainBills.{counts-same, nine, eight}
 use Rattle.ih_costs.proofs.GainSteps.{handed, passed-is}
 use Rattle.ih_costs.proofs.SpanSums.{at_place}
@@ -49,14 +50,14 @@ module _ (I : Draft) (P : Timetable) (r : RoomNo) (k : Shift) (new : Option Nurs
   numbers Q = record {
     v = 0 ∷ 0 ∷ 0 ∷ 0 ∷ 0 ∷ 0 ∷ 0 ∷ rule_at nurse_presence (part_at I Q (RoomShift r k)) ∷ rule_at uncovered_room (part_at I Q (RoomShift r k)) ∷ [];
     s = 0 ∷ cost_at nurse_skill (part_at I Q (RoomShift r k)) ∷ seen_by I Q (present I P r.0 (day_of k.0))
-        ∷ (excess_of I Q k.0 (care_of P r.0 k.0) + excess_of I Q k.0 (number_of new)) ∷ 0 ∷ 0 ∷ 0 ∷ 0 ∷ [];
+        ∷ (excess_of I Q k.0 (care_of P r.0 k.0) + excess_of I Q k.0 (number_of_nurse new)) ∷ 0 ∷ 0 ∷ 0 ∷ 0 ∷ [];
   }
 
   module _ (Q : Timetable) where
     loads-none : (g : Counts → ℕ) → ((n : ℕ) → g (part_at I Q (nurse_shift_cell n k.0)) ≡ 0) → loads_by I P r k new Q g ≡ 0
     loads-none g e =
         let old = nowhere (λ n. g (part_at I Q (nurse_shift_cell n k.0))) e (care_of P r.0 k.0) in
-        let later = nowhere (λ n. g (part_at I Q (nurse_shift_cell n k.0))) e (number_of new) in
+        let later = nowhere (λ n. g (part_at I Q (nurse_shift_cell n k.0))) e (number_of_nurse new) in
         omega (arith, old, later)
 
     cares-none : (g : Counts → ℕ) → ((x : ℕ) → g (part_at I Q (care_cell x)) ≡ 0) → cares_by I P r k new Q g ≡ 0
@@ -80,7 +81,7 @@ module _ (I : Draft) (P : Timetable) (r : RoomNo) (k : Shift) (new : Option Nurs
         let loads = loads-none (cost_at continuity_of_care) (λ n. refl) in
         omega (arith, room, loads)
 
-    load : choice_by I P r k new Q (cost_at excess_workload) ≡ excess_of I Q k.0 (care_of P r.0 k.0) + excess_of I Q k.0 (number_of new)
+    load : choice_by I P r k new Q (cost_at excess_workload) ≡ excess_of I Q k.0 (care_of P r.0 k.0) + excess_of I Q k.0 (number_of_nurse new)
     unfolding part_of content_of
     load =
         let room : cost_at excess_workload (part_at I Q (RoomShift r k)) ≡ 0 = refl in
@@ -113,7 +114,7 @@ module _ (I : Draft) (P : Timetable) (r : RoomNo) (k : Shift) (new : Option Nurs
   numbers-told = refl
 
   -- Another nurse for a room's shift, or none, changes the bill by what is told of it.
-  pub choice-law : IsPlanOf I P → IsWriteOf I (SetCare r k new) → (care_of P r.0 k.0 ≡ number_of new → ⊥)
+  pub choice-law : IsPlanOf I P → IsWriteOf I (SetCare r k new) → (care_of P r.0 k.0 ≡ number_of_nurse new → ⊥)
       → change_of_bill I P (put (SetCare r k new) P) ≡ choice_told I P r k new
   choice-law plan fits other =
       let Q = put (SetCare r k new) P in
@@ -130,22 +131,22 @@ module _ (I : Draft) (P : Timetable) (r : RoomNo) (k : Shift) (new : Option Nurs
 -- ---- the price of a choice
 
 -- a choice is known by the nurse's number
-numbered : (o : Option NurseNo) → option_map (λ (n : ℕ). let a : NurseNo = record { 0 = n } in a) (number_of o) ≡ o
+numbered : (o : Option NurseNo) → option_map (λ (n : ℕ). let a : NurseNo = record { 0 = n } in a) (number_of_nurse o) ≡ o
 numbered None = refl
 numbered (Some a) = refl
 
 -- two choices that differ have other numbers
-pub other-number : (old new : Option NurseNo) → (new ≡ old → ⊥) → number_of old ≡ number_of new → ⊥
+pub other-number : (old new : Option NurseNo) → (new ≡ old → ⊥) → number_of_nurse old ≡ number_of_nurse new → ⊥
 other-number old new ne e =
     ne (sym (numbered new) ∙ (ap (option_map (λ (n : ℕ). let a : NurseNo = record { 0 = n } in a)) (sym e) ∙ numbered old))
 
 module _ (I : Draft) (P : Timetable) (r : RoomNo) (k : Shift) (new : Option NurseNo) (off uncovered missing seen load : ℤ)
-    (valid : IsValid I) (plan : IsPlanOf I P) (fits : IsWriteOf I (SetCare r k new)) (other : care_of P r.0 k.0 ≡ number_of new → ⊥)
+    (valid : IsValid I) (plan : IsPlanOf I P) (fits : IsWriteOf I (SetCare r k new)) (other : care_of P r.0 k.0 ≡ number_of_nurse new → ⊥)
     (off_is : off ≡ rise_by_choice P r k new (λ Q. rule_at nurse_presence (part_at I Q (RoomShift r k))))
     (uncovered_is : uncovered ≡ rise_by_choice P r k new (λ Q. rule_at uncovered_room (part_at I Q (RoomShift r k))))
     (missing_is : missing ≡ rise_by_choice P r k new (λ Q. cost_at nurse_skill (part_at I Q (RoomShift r k))))
     (seen_is : seen ≡ rise_by_choice P r k new (λ Q. seen_by I Q (present I P r.0 (day_of k.0))))
-    (load_is : load ≡ rise_by_choice P r k new (λ Q. excess_of I Q k.0 (care_of P r.0 k.0) + excess_of I Q k.0 (number_of new))) where
+    (load_is : load ≡ rise_by_choice P r k new (λ Q. excess_of I Q k.0 (care_of P r.0 k.0) + excess_of I Q k.0 (number_of_nurse new))) where
   law : change_of_bill I P (put (SetCare r k new) P) ≡ choice_told I P r k new
   law = choice-law I P r k new plan fits other
 

@@ -1,6 +1,6 @@
 -- What another choice of nurse changes in a number of the bill, by the cells that it touches.
 use Rattle.std.proofs.Common.{◌≡◌, ℕ, ◌+◌, ◌<◌, refl, arith, ap, subst, false, Option, Some, None}
-use Rattle.std.specs.Prelude.{◌==◌, ◌||◌, option_map, sum_by}
+use Rattle.std.specs.Prelude.{◌==◌, ◌||◌, sum_by}
 use Rattle.std.proofs.lemmas.Bool.{and_left, and_right}
 use Rattle.ih_tables.specs.declared.drafts.Draft.{Draft}
 use Rattle.ih_tables.specs.declared.ids.RoomNo.{RoomNo}
@@ -21,19 +21,16 @@ use Rattle.ih_plan.specs.Footprint.{write_touches, in_choice}
 use Rattle.ih_plan.proofs.CellNumbers.{sum_by_kind, stay_cell, room_day_cell, theatre_day_cell, surgeon_day_cell, room_shift_cell, nurse_shift_cell, care_cell}
 use Rattle.ih_plan.proofs.Parts.{total}
 use Rattle.ih_plan.proofs.SumLemmas.{sum_below-same}
+use Rattle.ih_plan.proofs.Entries.{number_of_nurse}
 use Rattle.ih_footprint.proofs.Locality.{frame}
 use Rattle.ih_costs.proofs.SpanSums.{apart_from, at_place, sum_below-but_places, sum_below-passing, rows-same, rows-but, columns-but}
-
--- the number of the new nurse, where there is one
-abbrev pub number_of : Option NurseNo → Option ℕ
-number_of new = option_map (λ (a : NurseNo). a.0) new
 
 module _ (I : Draft) (P : Timetable) (r : RoomNo) (k : Shift) (new : Option NurseNo) where
   -- a number of the parts of the old nurse and the new in the shift
   abbrev pub loads_by : Timetable → (Counts → ℕ) → ℕ
   loads_by Q g =
       let load = λ (n : ℕ). g (part_at I Q (nurse_shift_cell n k.0)) in
-      at_place load (care_of P r.0 k.0) + at_place load (number_of new)
+      at_place load (care_of P r.0 k.0) + at_place load (number_of_nurse new)
 
   -- the same of who is in the room on that day
   abbrev pub cares_by : Timetable → (Counts → ℕ) → ℕ
@@ -82,33 +79,33 @@ module _ (I : Draft) (P : Timetable) (r : RoomNo) (k : Shift) (new : Option Nurs
         (λ l lh ne. kept g (room_shift_cell r.0 l) (fits.0, lh) (and_right (r.0 == r.0) (k.0 == l) (apart_from k.0 l ne)))
 
     -- a nurse who is neither the old one nor the new
-    other_nurse : (g : Counts → ℕ) (n : ℕ) → n < nurse_count I → is_number (care_of P r.0 k.0) n ≡ false → is_number (number_of new) n ≡ false
+    other_nurse : (g : Counts → ℕ) (n : ℕ) → n < nurse_count I → is_number (care_of P r.0 k.0) n ≡ false → is_number (number_of_nurse new) n ≡ false
         → g (part_at I chosen (nurse_shift_cell n k.0)) ≡ g (part_at I P (nurse_shift_cell n k.0))
     unfolding in_choice
     other_nurse g n h old later =
-        let neither : (is_number (care_of P r.0 k.0) n || is_number (number_of new) n) ≡ false = rw (old, later) refl in
-        kept g (nurse_shift_cell n k.0) (h, fits.1) (and_right (k.0 == k.0) (is_number (care_of P r.0 k.0) n || is_number (number_of new) n) neither)
+        let neither : (is_number (care_of P r.0 k.0) n || is_number (number_of_nurse new) n) ≡ false = rw (old, later) refl in
+        kept g (nurse_shift_cell n k.0) (h, fits.1) (and_right (k.0 == k.0) (is_number (care_of P r.0 k.0) n || is_number (number_of_nurse new) n) neither)
 
     -- the new nurse is one of the instance's
-    new-inside : (n : ℕ) → number_of new ≡ Some n → n < nurse_count I
+    new-inside : (n : ℕ) → number_of_nurse new ≡ Some n → n < nurse_count I
     new-inside n = by_case new refl
       where
-        by_case : (o : Option NurseNo) → new ≡ o → number_of o ≡ Some n → n < nurse_count I
+        by_case : (o : Option NurseNo) → new ≡ o → number_of_nurse o ≡ Some n → n < nurse_count I
         by_case None e h = absurd (let no : None ≡ Some n = h in cc)
         by_case (Some a) e h =
             let same : a.0 ≡ n = (let f : Some a.0 ≡ Some n = h in cc) in
             subst (λ m. m < nurse_count I) same (fits.2 a e)
 
-    nurse_shifts : (g : Counts → ℕ) → (care_of P r.0 k.0 ≡ number_of new → ⊥)
+    nurse_shifts : (g : Counts → ℕ) → (care_of P r.0 k.0 ≡ number_of_nurse new → ⊥)
         → sum_below (nurse_count I) (λ n. sum_below (shift_count I) (λ l. g (part_at I chosen (nurse_shift_cell n l)))) + loads_by P g
         ≡ sum_below (nurse_count I) (λ n. sum_below (shift_count I) (λ l. g (part_at I P (nurse_shift_cell n l)))) + loads_by chosen g
     unfolding in_choice
     nurse_shifts g other =
         columns-but (nurse_count I) (shift_count I) k.0 (λ n l. g (part_at I chosen (nurse_shift_cell n l))) (λ n l. g (part_at I P (nurse_shift_cell n l)))
         (loads_by chosen g) (loads_by P g) fits.1
-        (λ n l nh lh ne. kept g (nurse_shift_cell n l) (nh, lh) (and_left (k.0 == l) (is_number (care_of P r.0 k.0) n || is_number (number_of new) n) (apart_from k.0 l ne)))
+        (λ n l nh lh ne. kept g (nurse_shift_cell n l) (nh, lh) (and_left (k.0 == l) (is_number (care_of P r.0 k.0) n || is_number (number_of_nurse new) n) (apart_from k.0 l ne)))
         (sum_below-but_places (nurse_count I) (λ n. g (part_at I chosen (nurse_shift_cell n k.0))) (λ n. g (part_at I P (nurse_shift_cell n k.0)))
-        (care_of P r.0 k.0) (number_of new) other (plan.nursed r.0 k.0) new-inside (other_nurse g))
+        (care_of P r.0 k.0) (number_of_nurse new) other (plan.nursed r.0 k.0) new-inside (other_nurse g))
 
     cares : (g : Counts → ℕ) → sum_below (person_count I) (λ x. g (part_at I chosen (care_cell x))) + cares_by P g
         ≡ sum_below (person_count I) (λ x. g (part_at I P (care_cell x))) + cares_by chosen g
@@ -118,7 +115,7 @@ module _ (I : Draft) (P : Timetable) (r : RoomNo) (k : Shift) (new : Option Nurs
         (λ x h apart. kept g (care_cell x) h apart)
 
     -- a number of the bill changes by that number of the choice's cells
-    pub number-choice : (g : Counts → ℕ) → (care_of P r.0 k.0 ≡ number_of new → ⊥)
+    pub number-choice : (g : Counts → ℕ) → (care_of P r.0 k.0 ≡ number_of_nurse new → ⊥)
         → total I (λ c. g (part_at I chosen c)) + choice_by P g ≡ total I (λ c. g (part_at I P c)) + choice_by chosen g
     number-choice g other =
         let later = sum_by_kind (sizes_of I) (λ c. g (part_at I chosen c)) in

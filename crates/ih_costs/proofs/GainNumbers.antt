@@ -18,8 +18,9 @@ use Rattle.ih_plan.proofs.BillBounds.{change-within}
 use Rattle.ih_plan.proofs.PlanRanges.{put-plan}
 use Rattle.ih_tables.specs.BillNumbers.{mixed_gender, incompatible_room, surgeon_overrun, theatre_overrun, unscheduled_mandatory, admission_window, room_capacity, nurse_presence, uncovered_room}
 use Rattle.ih_tables.specs.BillNumbers.{mixed_age, nurse_skill, continuity_of_care, excess_workload, open_theatre, surgeon_transfer, patient_delay, unscheduled_optional}
-use Rattle.ih_costs.specs.StayGain.{rule_at, cost_at, rise, of_stay, of_care, over_days, of_theatre, of_surgeon, over_shifts, over_loads, gain_of, placement_gain}
+use Rattle.ih_costs.specs.StayGain.{rule_at, cost_at, of_stay, of_care, over_days, of_theatre, of_surgeon, over_shifts, over_loads, gain_of, placement_gain}
 use Rattle.ih_costs.proofs.GainBills.{placement-law}
+use Rattle.ih_nurses.specs.Gains.{rise_by_placement as rise}
 
 no-rise : (a : ℕ) → pos a -ℤ pos a ≡ pos 0
 no-rise a = omega (arith, ints)

@@ -17,11 +17,12 @@ use Rattle.ih_plan.proofs.CellNumbers.{stay_cell, theatre_day_cell, surgeon_day_
 use Rattle.ih_costs.specs.Changes.{stay_part}
 use Rattle.ih_tables.specs.BillNumbers.{mixed_gender, incompatible_room, surgeon_overrun, theatre_overrun, unscheduled_mandatory, admission_window, room_capacity, uncovered_room}
 use Rattle.ih_tables.specs.BillNumbers.{mixed_age, nurse_skill, continuity_of_care, excess_workload, open_theatre, surgeon_transfer, patient_delay, unscheduled_optional}
-use Rattle.ih_costs.specs.StayGain.{rule_at, cost_at, rise, of_surgeon, over_days, over_shifts, over_loads, of_surgery, placement_gain}
+use Rattle.ih_costs.specs.StayGain.{rule_at, cost_at, of_surgeon, over_days, over_shifts, over_loads, of_surgery, placement_gain}
 use Rattle.ih_costs.proofs.ChangeLemmas.{stay-is}
 use Rattle.ih_costs.proofs.DayGains.{placed, without}
 use Rattle.ih_costs.proofs.GainNumbers.{numbers, each-told, off-same}
 use Rattle.ih_costs.proofs.GainSteps.{handed, rule-less, cost-less, passed-is}
+use Rattle.ih_nurses.specs.Gains.{rise_by_placement as rise}
 
 pub bill-same : (a b c d : List ℤ) → a ≡ c → b ≡ d → (let x : Bill = record { v = a; s = b } in let y : Bill = record { v = c; s = d } in x ≡ y)
 bill-same a b c d e f = rw (e, f) refl

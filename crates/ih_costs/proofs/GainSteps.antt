@@ -3,9 +3,9 @@ use Rattle.std.proofs.Common.{◌≡◌, ℕ, ◌+◌, ◌*◌, ◌^◌, ◌<◌
 use Rattle.std.specs.Prelude.{ℤ, pos, neg_ℤ, ◌+ℤ◌, ◌-ℤ◌, ◌≤ℤ◌, map}
 use Rattle.std.proofs.lemmas.Int.{ints}
 use Rattle.ih_tables.specs.Bills.{at, sub_bills}
+use Rattle.ih_tables.proofs.BillLemmas.{at-by_place}
 use Rattle.ih_plan.specs.BillOf.{Counts, as_bill}
 use Rattle.ih_costs.specs.StayGain.{span_sum, rule_at, cost_at}
-use Rattle.ih_plan.proofs.ChangeSums.{at-by_place}
 use Rattle.ih_costs.proofs.ChangeSums.{at-counts}
 use Rattle.ih_costs.proofs.SpanSums.{span-none, span-more}
 

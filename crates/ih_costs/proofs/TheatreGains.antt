@@ -22,11 +22,12 @@ use Rattle.ih_plan.proofs.Loads.{room_load-same, load_of-same, if-same}
 use Rattle.ih_plan.proofs.CellNumbers.{stay_cell, room_day_cell, room_shift_cell, nurse_shift_cell, care_cell}
 use Rattle.ih_tables.specs.BillNumbers.{mixed_gender, incompatible_room, unscheduled_mandatory, admission_window, room_capacity, nurse_presence, uncovered_room}
 use Rattle.ih_tables.specs.BillNumbers.{mixed_age, nurse_skill, continuity_of_care, excess_workload, patient_delay, unscheduled_optional}
-use Rattle.ih_costs.specs.StayGain.{rule_at, cost_at, rise, of_stay, of_care, of_nurse, over_days, over_shifts, over_loads, of_surgery, placement_gain}
+use Rattle.ih_costs.specs.StayGain.{rule_at, cost_at, of_stay, of_care, of_nurse, over_days, over_shifts, over_loads, of_surgery, placement_gain}
 use Rattle.ih_costs.proofs.DayGains.{placed, without}
 use Rattle.ih_costs.proofs.GainNumbers.{each-told}
 use Rattle.ih_costs.proofs.GainParts.{bill-same, nine-same, eight-same}
 use Rattle.ih_costs.proofs.SpanSums.{span-same}
+use Rattle.ih_nurses.specs.Gains.{rise_by_placement as rise}
 
 -- ---- bills that are the same but for theatres and surgeons
 

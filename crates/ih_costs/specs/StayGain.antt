@@ -1,5 +1,5 @@
 -- What a patient's placement costs, told day by day: the parts of the cells that it is in, number by number.
-use Rattle.std.specs.Prelude.{◌≡◌, ℕ, ◌+◌, ◌-◌, ◌*◌, ℤ, pos, ◌-ℤ◌, [], ◌∷◌, Option, Some, None, slice_index}
+use Rattle.std.specs.Prelude.{◌≡◌, ℕ, ◌+◌, ◌-◌, ◌*◌, pos, [], ◌∷◌, Option, Some, None, slice_index}
 use Rattle.ih_tables.specs.declared.drafts.Draft.{Draft}
 use Rattle.ih_tables.specs.declared.cells.Cell.TheVariants.{Stay, RoomDay, TheatreDay, SurgeonDay, RoomShift, NurseShift, Care}
 use Rattle.ih_tables.specs.declared.bills.Bill.{Bill}
@@ -18,6 +18,7 @@ use Rattle.ih_tables.specs.BillNumbers.{mixed_age, nurse_skill, continuity_of_ca
 use Rattle.ih_plan.specs.Cells.{part_at}
 use Rattle.ih_costs.specs.declared.stay_prices.DaysMore.{DaysMore}
 use Rattle.ih_costs.specs.declared.stay_prices.ShiftsMore.{ShiftsMore}
+use Rattle.ih_nurses.specs.Gains.{rise_by_placement as rise}
 
 -- f a + .. + f (b - 1)
 unfoldable pub span_sum : ℕ → ℕ → (ℕ → ℕ) → ℕ
@@ -119,10 +120,6 @@ StaysGain I = (P : Timetable) (p : PatientNo) (new : Option Placement) → IsPla
     → change_of_bill I P (put (SetStay p new) P) ≡ sub_bills (stay_gain I P p new) (stay_gain I P p (stay_of P p.0))
 
 -- ---- a number of the gain
-
--- by how much a number rises with the placement
-abbrev pub rise : Timetable → PatientNo → Placement → (Timetable → ℕ) → ℤ
-rise P p at f = pos (f (put (SetStay p (Some at)) P)) -ℤ pos (f (put (SetStay p None) P))
 
 -- what a room has more over the days of the placement with the patient there than without, and what it and its nurses
 -- have more over the shifts

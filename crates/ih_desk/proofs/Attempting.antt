@@ -6,14 +6,15 @@ use Rattle.std.proofs.lemmas.Bool.{cases_eq, eq-eqb, ne_eqb}
 use Rattle.std.proofs.lemmas.Bool.Decides.{nat_tests}
 use Rattle.std.proofs.lemmas.List.{append-nil}
 use Rattle.ih_plan.specs.declared.moves.Move.{Move}
-use Rattle.ih_plan.specs.Draws.{state_after, stream_at, stream_state}
+use Rattle.ih_plan.proofs.ReadLemmas.{get-append}
+use Rattle.ih_plan.proofs.TestLemmas.{equal-swap}
 use Rattle.ih_journal.specs.Tried.{Tried}
 use Rattle.ih_journal.specs.declared.entries.Verdict.{Verdict}
 use Rattle.ih_journal.specs.declared.settings.Options.{Options}
 use Rattle.ih_journal.specs.Attempts.{Attempt, HasMade, attempt_after, is_done_after, is_retried, is_stale, last_by}
 use Rattle.ih_journal.specs.Base.{Base}
 use Rattle.ih_journal.specs.Legal.{attempt_of}
-use Rattle.ih_journal.proofs.Growth.{last_by-own, same-test}
+use Rattle.ih_journal.proofs.Growth.{last_by-own}
 use Rattle.ih_cellbook.specs.Laws.{HasNoneBy}
 use Rattle.ih_cellbook.specs.Offered.{Offered}
 use Rattle.ih_cellbook.specs.Offers.{entry_of, next_number}
@@ -25,7 +26,7 @@ use Rattle.ih_desk.specs.Finishing.{AreDrawn}
 use Rattle.ih_desk.specs.Progress.{Progress}
 use Rattle.ih_desk.specs.Searchers.{HasAttempted, HasCaughtUp, IsNext, IsWithin}
 use Rattle.ih_desk.proofs.HistoryLemmas.{none_by-others}
-use Rattle.ih_desk.proofs.Full.{drawn-others, get-append, none-both}
+use Rattle.ih_desk.proofs.Full.{drawn-others, none-both}
 
 -- a searcher that goes on, named by what it was before
 pub same-within : (b : Base) (each earlier w n : ℕ) (H : List Tried) (x : Progress) → each ≡ earlier → w ≡ n → IsWithin b each w H x → IsWithin b earlier n H x
@@ -79,7 +80,7 @@ module _ (o : Options) (w n again : ℕ) (m : List Move) (v : Verdict) (seen H :
       let over = no-retry ends in
       record {
         attempt = rw (last, over, tried.number) refl;
-        done = rw (last, some-moves o (last_by w seen) next.not_done, over, tried.number) (and-true (n + 1 == o.moves) ∙ same-test (n + 1) o.moves);
+        done = rw (last, some-moves o (last_by w seen) next.not_done, over, tried.number) (and-true (n + 1 == o.moves) ∙ equal-swap (n + 1) o.moves);
       }
 
 -- the entry of a drawn move is drawn
@@ -119,10 +120,6 @@ attempted b w n m offer v seen H own number move ends =
       moves = move;
       verdict = refl;
     }
-
-pub stream-start : (seed w : ℕ) → stream_at seed w 0 ≡ stream_state seed w
-unfolding state_after
-stream-start seed w = refl
 
 -- so many draws for each attempt, one attempt later
 pub none-drawn : (each : ℕ) → 0 ≡ 0 * each

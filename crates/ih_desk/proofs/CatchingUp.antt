@@ -14,7 +14,7 @@ use Rattle.ih_cellbook.specs.Legal.{AreLegalButDraws}
 use Rattle.ih_cellbook.specs.Offered.{Offered}
 use Rattle.ih_cellbook.specs.Offers.{HasSeenOwn, entry_of}
 use Rattle.ih_cellbook.proofs.Staying.{seen_own-others}
-use Rattle.ih_cellbook.specs.Replicas.{IsReplicaIn, IsReplicaOf, StandsUpTo}
+use Rattle.ih_cellbook.specs.Replicas.{IsReplicaIn, StandsUpTo}
 use Rattle.ih_cellbook.specs.Snapshot.{Snapshot}
 use Rattle.ih_cellbook.specs.Told.{Told, TellsOf}
 use Rattle.ih_cellbook.proofs.Telling.{tells-further}
@@ -88,10 +88,6 @@ taken-over b w H G r n seen until accepted s same all end stands goes legal tell
 -- a replica has seen no more than there may be, so a turn is left
 pub has-turn : (b : Base) (H : List Tried) (r : Snapshot) (left : ℕ) → IsReplicaIn b H r → most_entries b.options < left + r.seen → 0 < left
 has-turn b H r left stands has = let few = (legal-few b (take r.seen H) stands.legal).most in let seen = stands.seen in omega (arith, few, seen, has)
-
--- a replica of the empty history stands for a beginning of any
-pub new-within : (b : Base) (H : List Tried) (r : Snapshot) → IsReplicaOf b [] r → IsReplicaIn b H r
-new-within b H r stands = subst (λ k. IsReplicaOf b (take k H) r) (sym stands.seen) stands
 
 -- a worker that made nothing has seen all that it made
 pub own-none : (w s : ℕ) (H : List Tried) → HasNoneBy w H → HasSeenOwn H w s

@@ -1,6 +1,6 @@
 -- A history is full once each worker has finished by a beginning of it.
-use Rattle.std.proofs.Common.{◌≡◌, ℕ, zero, suc, ◌<◌, sym, ap, ◌∙◌, refl, inl, inr, List, [], ◌∷◌, ◌++◌, Some}
-use Rattle.std.specs.Prelude.{◌⊎◌, slice_get}
+use Rattle.std.proofs.Common.{◌≡◌, ℕ, ◌<◌, sym, ap, ◌∙◌, refl, inl, inr, List, ◌++◌}
+use Rattle.std.specs.Prelude.{slice_get}
 use Rattle.ih_journal.specs.Tried.{Tried}
 use Rattle.ih_journal.specs.declared.settings.Options.{Options}
 use Rattle.ih_journal.specs.Attempts.{is_done, is_done_after}
@@ -12,13 +12,7 @@ use Rattle.ih_cellbook.proofs.Staying.{last_by-others}
 use Rattle.ih_turn.specs.Rule.{GoesOn}
 use Rattle.ih_desk.proofs.HistoryLemmas.{none_by-others}
 use Rattle.ih_desk.specs.Finishing.{AreDrawn, HasFinished}
-
--- an entry of a longer history is an earlier one, or one of those behind
-pub get-append : (H es : List Tried) (j : ℕ) (e : Tried) → slice_get (H ++ es) j ≡ Some e
-    → (slice_get H j ≡ Some e) ⊎ ((k : ℕ) × (slice_get es k ≡ Some e))
-get-append [] es j e h = inr (j, h)
-get-append (x ∷ xs) es zero e h = inl h
-get-append (x ∷ xs) es (suc j) e h = get-append xs es j e h
+use Rattle.ih_plan.proofs.ReadLemmas.{get-append}
 
 -- others' entries, and others' after them
 pub none-both : (w : ℕ) (es fs : List Tried) → HasNoneBy w es → HasNoneBy w fs → HasNoneBy w (es ++ fs)

@@ -13,7 +13,7 @@ use Rattle.ih_plan.specs.Writes.{IsWriteOf}
 use Rattle.std.specs.Prelude.{ℤ, int_lt, if◌then◌else◌, Option, Some, None}
 use Rattle.ih_plan.specs.declared.moves.Write.{Write}
 use Rattle.ih_plan.specs.Timetable.{Timetable}
-use Rattle.ih_plan.specs.Fill.{cheapest, cheapest_of}
+use Rattle.ih_fill.specs.Fill.{cheapest, cheapest_of}
 use Rattle.ih_fill.specs.declared.candidates.Candidate.{Candidate}
 use Rattle.ih_fill.specs.Candidates.{valued, least_of, put_candidate}
 

@@ -32,10 +32,7 @@ use Rattle.ih_plan.proofs.SumLemmas.{sum_below-same}
 use Rattle.ih_plan.proofs.SumBounds.{sum_below-add}
 use Rattle.ih_footprint.proofs.LocalPrices.{at-listed}
 use Rattle.ih_fill.proofs.ScoreLemmas.{AreBalanced, AreEven}
-
--- a stay from a day on in a room, with surgery in a theatre
-abbrev pub placed : ℕ → ℕ → ℕ → Placement
-placed d r t = record { day = record { 0 = d }; room = record { 0 = r }; theatre = record { 0 = t } }
+use Rattle.ih_fill.specs.Candidates.{placed}
 
 -- the timetable with patient p there
 abbrev pub stayed : Timetable → PatientNo → Placement → Timetable

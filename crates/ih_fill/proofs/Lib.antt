@@ -1,5 +1,6 @@
 pub mod CandidateLemmas
 pub mod CrossedStays
+pub mod FilledExample
 pub mod ListLemmas
 pub mod PassLemmas
 pub mod ScoreLemmas

@@ -3,7 +3,7 @@ use Rattle.std.proofs.Common.{◌≡◌, ℕ, ◌+◌, refl, sym, ◌∙◌, ap,
 use Rattle.std.specs.Prelude.{not, filter, flat_map, cond, Some, ◌==◌, slice_get, if◌then◌else◌}
 use Rattle.std.specs.List.{range_with_len, list_any}
 use Rattle.std.proofs.lemmas.Grind.{flat_map-append}
-use Rattle.std.proofs.lemmas.List.{map-append, append-nil}
+use Rattle.std.proofs.lemmas.List.{map-append, append-nil, map-id}
 use Rattle.std.proofs.lemmas.List.Elements.{filter-append}
 use Rattle.std.proofs.lemmas.List.FromFn.{map-range_with_len_more}
 use Rattle.ih_tables.specs.declared.drafts.Draft.{Draft}
@@ -17,15 +17,11 @@ use Rattle.ih_plan.specs.declared.moves.Write.TheVariants.{SetStay}
 use Rattle.ih_plan.specs.Sums.{which_below}
 use Rattle.ih_plan.proofs.SumLemmas.{which_below-more}
 use Rattle.ih_plan.specs.Draws.{window_len}
-use Rattle.ih_plan.specs.Fill.{stay_writes, placements}
-use Rattle.ih_fill.specs.Candidates.{stays_in, stays_on, rooms_for}
-
-map-same : (xs : List ℕ) → map (λ (i : ℕ). i) xs ≡ xs
-map-same [] = refl
-map-same (x ∷ xs) = ap (λ (ys : List ℕ). x ∷ ys) (map-same xs)
+use Rattle.ih_fill.specs.Fill.{stay_writes, placements}
+use Rattle.ih_fill.specs.Candidates.{stays_in, stays_on, rooms_for, placed}
 
 pub range-more : (a n j : ℕ) → a + n ≡ j → range_with_len a (n + 1) ≡ range_with_len a n ++ j ∷ []
-range-more a n j e = sym (map-same (range_with_len a (n + 1))) ∙ (map-range_with_len_more (λ (i : ℕ). i) a n j e ∙ ap (λ (xs : List ℕ). xs ++ j ∷ []) (map-same (range_with_len a n)))
+range-more a n j e = sym (map-id (range_with_len a (n + 1))) ∙ (map-range_with_len_more (λ (i : ℕ). i) a n j e ∙ ap (λ (xs : List ℕ). xs ++ j ∷ []) (map-id (range_with_len a n)))
 
 -- whether room r suits a patient
 abbrev pub suits : Patient → ℕ → Bool
@@ -64,10 +60,6 @@ flat-same f g (x ∷ xs) h = ap (λ ys. ys ++ flat_map f xs) (h x) ∙ ap (λ ys
 map-map : {A B : Type 0} (g : A → B) (f : ℕ → A) (xs : List ℕ) → map g (map f xs) ≡ map (λ x. g (f x)) xs
 map-map g f [] = refl
 map-map g f (x ∷ xs) = ap (λ ys. g (f x) ∷ ys) (map-map g f xs)
-
--- where the patient is
-abbrev placed : ℕ → ℕ → ℕ → Placement
-placed d r t = record { day = record { 0 = d }; room = record { 0 = r }; theatre = record { 0 = t } }
 
 abbrev write_of : PatientNo → Placement → Write
 write_of p at = SetStay p (Some at)

@@ -8,7 +8,7 @@ use Rattle.ih_plan.specs.Timetable.{Timetable, care_of}
 use Rattle.ih_plan.specs.Writes.{put}
 use Rattle.ih_plan.specs.Presence.{present, day_of}
 use Rattle.ih_plan.specs.Costs.{is_empty}
-use Rattle.ih_plan.specs.Fill.{cheapest, stay_writes, care_writes, with_stay, with_stays, with_care, with_cares, waiting, rooms_by_shift, fill, write_score}
+use Rattle.ih_fill.specs.Fill.{cheapest, stay_writes, care_writes, with_stay, with_stays, with_care, with_cares, waiting, rooms_by_shift, fill, write_score}
 use Rattle.ih_fill.specs.declared.candidates.Candidate.{Candidate}
 use Rattle.ih_fill.specs.Scoring.{Scoring, stay_value, care_value, view_of}
 use Rattle.ih_fill.proofs.CandidateLemmas.{put-least}

@@ -3,12 +3,12 @@ use Rattle.std.proofs.Common.{◌≡◌, ℕ, zero, suc, ◌<◌, ◌≤◌, ref
 use Rattle.std.specs.Prelude.{ℤ, pos, negsuc, ◌+ℤ◌, ◌-ℤ◌, ◌*ℤ◌, int_lt}
 use Rattle.std.proofs.lemmas.Int.{ints}
 use Rattle.std.proofs.lemmas.Bool.{cases_lt}
-use Rattle.std.proofs.lemmas.List.FromFn.{get_or-map-range_with_len}
 use Rattle.std.proofs.Math.IntN.{*ℤ_comm, *ℤ-zero, suc_ℤ-*ℤ, pred_ℤ-*ℤ}
 use Rattle.ih_tables.specs.declared.bills.Bill.{Bill}
 use Rattle.ih_tables.specs.declared.bills.Weights.{Weights}
 use Rattle.ih_tables.specs.Bills.{at, by_place, signed_sum, sub_bills, score, cost}
-use Rattle.ih_plan.specs.Fill.{without_uncovered}
+use Rattle.ih_tables.proofs.BillLemmas.{at-by_place}
+use Rattle.ih_fill.specs.Fill.{without_uncovered}
 use Rattle.ih_fill.specs.Scoring.{view_of}
 
 -- the sums of two pairs are the same
@@ -71,16 +71,13 @@ scores-even hard w a b c d h =
     (rw (*ℤ_comm (pos hard) (signed_sum 9 (at a.v)), *ℤ_comm (pos hard) (signed_sum 9 (at b.v)), *ℤ_comm (pos hard) (signed_sum 9 (at c.v)), *ℤ_comm (pos hard) (signed_sum 9 (at d.v))) scaled)
     costs
 
-at-place : (m : ℕ) (f : ℕ → ℤ) (k : ℕ) → k < m → at (by_place m f) k ≡ f k
-at-place m f k h = get_or-map-range_with_len f 0 m k k (pos 0) h (omega arith)
-
 less-even : (x y z u e : ℤ) → AreEven x y z u → AreEven (x -ℤ e) (y -ℤ e) (z -ℤ e) (u -ℤ e)
 less-even x y z u e h = omega (arith, ints)
 
 less-places : (m k : ℕ) (x y z u e : ℕ → ℤ) → k < m → AreEven (x k) (y k) (z k) (u k)
     → AreEven (at (by_place m (λ j. x j -ℤ e j)) k) (at (by_place m (λ j. y j -ℤ e j)) k) (at (by_place m (λ j. z j -ℤ e j)) k) (at (by_place m (λ j. u j -ℤ e j)) k)
 less-places m k x y z u e below h =
-    rw (at-place m (λ j. x j -ℤ e j) k below, at-place m (λ j. y j -ℤ e j) k below, at-place m (λ j. z j -ℤ e j) k below, at-place m (λ j. u j -ℤ e j) k below)
+    rw (at-by_place m (λ j. x j -ℤ e j) k below, at-by_place m (λ j. y j -ℤ e j) k below, at-by_place m (λ j. z j -ℤ e j) k below, at-by_place m (λ j. u j -ℤ e j) k below)
     (less-even (x k) (y k) (z k) (u k) (e k) h)
 
 -- what four bills add to one

@@ -11,13 +11,13 @@ use Rattle.ih_tables.specs.Sizes.{patient_count, theatre_count}
 use Rattle.ih_plan.specs.declared.moves.Write.{Write}
 use Rattle.ih_plan.specs.Timetable.{IsPlanOf}
 use Rattle.ih_plan.specs.BillOf.{bill_of}
-use Rattle.ih_plan.specs.Fill.{cheapest}
+use Rattle.ih_fill.specs.Fill.{cheapest}
 use Rattle.ih_fill.specs.declared.candidates.Candidate.{Candidate}
-use Rattle.ih_fill.specs.Candidates.{valued, stays_in, stays_on, rooms_for}
+use Rattle.ih_fill.specs.Candidates.{valued, stays_in, stays_on, rooms_for, placed}
 use Rattle.ih_fill.specs.Scoring.{Scoring, stay_value, view_of}
 use Rattle.ih_fill.specs.Theatres.{theatre_value, IsFirstLeast}
 use Rattle.ih_fill.proofs.CandidateLemmas.{cheaper, cheapest-append, cheaper-more}
-use Rattle.ih_fill.proofs.CrossedStays.{placed, stayed, bills-balanced}
+use Rattle.ih_fill.proofs.CrossedStays.{stayed, bills-balanced}
 use Rattle.ih_fill.proofs.ScoreLemmas.{AreEven, changes-balanced, viewed-balanced, scores-even, order-even}
 use Rattle.ih_plan.specs.BillOf.{change_of_bill}
 

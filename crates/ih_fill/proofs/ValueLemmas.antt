@@ -7,7 +7,7 @@ use Rattle.ih_tables.specs.Bills.{score}
 use Rattle.ih_plan.specs.declared.moves.Write.{Write}
 use Rattle.ih_plan.specs.Writes.{put}
 use Rattle.ih_plan.specs.BillOf.{change_of_bill}
-use Rattle.ih_plan.specs.Fill.{write_score}
+use Rattle.ih_fill.specs.Fill.{write_score}
 use Rattle.ih_costs.specs.Standing.{Standing}
 use Rattle.ih_fill.specs.Candidates.{valued}
 use Rattle.ih_fill.specs.Scoring.{Scoring, stay_value, care_value, view_of}

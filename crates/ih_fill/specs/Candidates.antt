@@ -10,7 +10,8 @@ use Rattle.ih_plan.specs.declared.moves.Write.{Write}
 use Rattle.ih_plan.specs.declared.moves.Write.TheVariants.{SetStay}
 use Rattle.ih_plan.specs.Timetable.{Timetable}
 use Rattle.ih_plan.specs.Writes.{put}
-use Rattle.ih_plan.specs.Fill.{cheapest}
+use Rattle.ih_fill.specs.Fill.{cheapest}
+use Rattle.ih_plan.specs.declared.moves.Placement.{Placement}
 use Rattle.ih_fill.specs.declared.candidates.Candidate.{Candidate}
 
 -- a write with its value
@@ -27,9 +28,13 @@ abbrev pub put_candidate : Option Candidate → Timetable → Timetable
 put_candidate None P = P
 put_candidate (Some c) P = put c.write P
 
+-- a stay from day d on in room r, with surgery in theatre t
+abbrev pub placed : ℕ → ℕ → ℕ → Placement
+placed d r t = record { day = record { 0 = d }; room = record { 0 = r }; theatre = record { 0 = t } }
+
 -- patient p in a room from a day on, operated on in each of the first n theatres
 abbrev pub stays_in : PatientNo → ℕ → ℕ → ℕ → List Write
-stays_in p d r n = map (λ t. SetStay p (Some (record { day = record { 0 = d }; room = record { 0 = r }; theatre = record { 0 = t } }))) (range_with_len 0 n)
+stays_in p d r n = map (λ t. SetStay p (Some (placed d r t))) (range_with_len 0 n)
 
 -- the rooms below n that suit a patient, rising
 abbrev pub rooms_for : Patient → ℕ → List ℕ

@@ -1,3 +1,4 @@
+pub mod Fill
 pub mod Candidates
 pub mod Scoring
 pub mod Theatres

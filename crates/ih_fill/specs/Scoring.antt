@@ -6,7 +6,7 @@ use Rattle.ih_tables.specs.declared.drafts.Patient.{Patient}
 use Rattle.ih_tables.specs.declared.bills.Bill.{Bill}
 use Rattle.ih_plan.specs.declared.moves.Write.{Write}
 use Rattle.ih_plan.specs.Timetable.{Timetable, stay_of}
-use Rattle.ih_plan.specs.Fill.{write_score, without_uncovered}
+use Rattle.ih_fill.specs.Fill.{write_score, without_uncovered}
 use Rattle.ih_costs.specs.Standing.{Standing}
 
 -- The instance, the weight of a broken rule in a score, whether rooms without nurses count in what a stay adds, and the

@@ -3,10 +3,11 @@ use Rattle.std.specs.Prelude.{◌≡◌, ℕ, ◌<◌, ℤ, int_lt, true, false,
 use Rattle.ih_tables.specs.declared.ids.PatientNo.{PatientNo}
 use Rattle.ih_plan.specs.declared.moves.Write.TheVariants.{SetStay}
 use Rattle.ih_fill.specs.Scoring.{Scoring, stay_value}
+use Rattle.ih_fill.specs.Candidates.{placed}
 
 -- what patient p's stay from day d on in room r adds to the score, with surgery in theatre t
 abbrev pub theatre_value : Scoring → PatientNo → ℕ → ℕ → ℕ → ℤ
-theatre_value F p d r t = stay_value F (SetStay p (Some (record { day = record { 0 = d }; room = record { 0 = r }; theatre = record { 0 = t } })))
+theatre_value F p d r t = stay_value F (SetStay p (Some (placed d r t)))
 
 -- The function is least at i, of the numbers below n, and at none before i.
 pub record IsFirstLeast (f : ℕ → ℤ) (n i : ℕ) : Type 0 where

@@ -2,7 +2,7 @@
 
 ghost use Rattle.std.specs.Prelude.{◌≡◌, ◌≤◌, IfOk};
 ghost use Rattle.ih_plan.specs.Timetable.{IsPlanOf};
-ghost use Rattle.ih_plan.specs.Fill.{fill};
+ghost use Rattle.ih_fill.specs.Fill.{fill};
 
 use crate::nurses::cover_all;
 use crate::patients::place_all;

@@ -6,7 +6,7 @@ ghost use Rattle.ih_plan.specs.Timetable.{care_of};
 ghost use Rattle.ih_plan.specs.Writes.{IsWriteOf};
 ghost use Rattle.ih_plan.specs.Presence.{present, day_of};
 ghost use Rattle.ih_plan.specs.Costs.{is_empty};
-ghost use Rattle.ih_plan.specs.Fill.{care_writes, with_care, with_cares, rooms_by_shift};
+ghost use Rattle.ih_fill.specs.Fill.{care_writes, with_care, with_cares, rooms_by_shift};
 ghost use Rattle.ih_fill.specs.Candidates.{least_of, rooms_in};
 ghost use Rattle.ih_fill.specs.Scoring.{care_value};
 

@@ -2,7 +2,7 @@
 
 ghost use Rattle.std.specs.Prelude.{◌≡◌, ◌≤◌, ◌^◌};
 ghost use Rattle.ih_tables.specs.Bills.{IsWithin, score};
-ghost use Rattle.ih_plan.specs.Fill.{without_uncovered};
+ghost use Rattle.ih_fill.specs.Fill.{without_uncovered};
 
 use crate::candidates::Candidate;
 use ih_costs::Ledgers;
@@ -62,7 +62,7 @@ impl<'a> Scorer<'a> {
     ghost use Rattle.ih_plan.specs.Presence.{present, day_of};
     ghost use Rattle.ih_plan.specs.Costs.{is_empty};
     ghost use Rattle.ih_plan.specs.BillOf.{change_of_bill};
-    ghost use Rattle.ih_plan.specs.Fill.{write_score};
+    ghost use Rattle.ih_fill.specs.Fill.{write_score};
     ghost use Rattle.ih_fill.specs.Candidates.{valued};
     ghost use Rattle.ih_fill.specs.Scoring.{stay_value, care_value, view_of};
 

@@ -21,12 +21,9 @@ use Rattle.ih_plan.proofs.SumLemmas.{sum_below-but}
 use Rattle.ih_footprint.specs.Laws.{AreSameOn}
 use Rattle.ih_plan.specs.Sums.{tagged}
 use Rattle.ih_plan.proofs.ListedBelow.{has, which_below-agree, has-which_below, tagged-same, tagged-agree, tagged-agree_keys}
-use Rattle.ih_plan.proofs.Entries.{care_of-same, care_of-other}
+use Rattle.ih_plan.proofs.Entries.{care_of-same, care_of-other, number_of_nurse}
 use Rattle.ih_plan.proofs.Loads.{nurse_load, room_load, room_load-same, load_of-same, if-same}
 use Rattle.ih_footprint.proofs.FrameCare.{counted-covers, room_load-kept}
-
-abbrev pub number_of_nurse : Option NurseNo → Option ℕ
-number_of_nurse n = option_map (λ (m : NurseNo). m.0) n
 
 -- one timetable
 module _ (I : Draft) (P : Timetable) (r : RoomNo) (k : Shift) (n : Option NurseNo) (plan : IsPlanOf I P)

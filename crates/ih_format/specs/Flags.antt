@@ -2,9 +2,6 @@
 use Rattle.std.specs.Prelude.{ℕ, ◌==◌, Bool, false, List, slice_index_or}
 use Rattle.std.specs.List.{list_any}
 
-abbrev pub is_set : List Bool → ℕ → Bool
-is_set flags k = slice_index_or flags k false
-
 -- one of the items has this number
 abbrev pub is_among : {A : Type 0} → (A → ℕ) → List A → ℕ → Bool
 is_among number items k = list_any (λ x. number x == k) items

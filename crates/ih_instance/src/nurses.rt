@@ -5,7 +5,7 @@ ghost use Rattle.serde_json.specs.View.{view};
 ghost use Rattle.ih_tables.specs.Lookups.{finds};
 ghost use Rattle.ih_tables.specs.Works.{shift_of};
 ghost use Rattle.ih_format.specs.Gives.{Gives};
-ghost use Rattle.ih_instance.specs.Flags.{is_taken};
+ghost use Rattle.ih_tables.specs.Marks.{is_marked};
 ghost use Rattle.ih_instance.specs.Instance.{worked, each_worked, worked_shifts, nurse};
 ghost use Rattle.ih_format.specs.Checks.{under};
 
@@ -30,10 +30,10 @@ impl<'a> Nurses<'a> {
     #[tactic(auto, unfolding(crate::specs::Instance::worked))]
     fn worked(&self, value: &Value, taken: &[bool], at: Place) -> Result<WorkedShift, Refusal>
         requires { length taken.now ≡ 168 }
-        ensures free { IfOk result (λ w. is_taken taken.now (shift_of w) ≡ false) }
+        ensures free { IfOk result (λ w. is_marked taken.now (shift_of w) ≡ false) }
         ensures inside { IfOk result (λ w. shift_of w < 168) }
         ensures gives { result
-            ≡ worked self.now.days (finds self.now.types.now) (is_taken taken.now) at (view value.now) }
+            ≡ worked self.now.days (finds self.now.types.now) (is_marked taken.now) at (view value.now) }
     {
         let _ = kinds::object(value, at)?;
         let day = keys::number(value, Key::Day, 0, self.days - 1, at)?;

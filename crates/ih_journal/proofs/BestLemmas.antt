@@ -1,11 +1,11 @@
 -- The best of a history, as the history grows.
 use Rattle.std.proofs.Common.{◌≡◌, ℕ, ◌+◌, ◌<◌, ◌≤◌, refl, sym, ap, ◌∙◌, arith, subst, inl, inr, Bool, true, false, List, [], ◌∷◌, ◌++◌, length, Option, Some, None, ℤ}
-use Rattle.std.specs.Int.Signed.{lt_z_no}
-use Rattle.std.specs.Prelude.{if◌then◌else◌, T, not, int_lt, ◌≤ℤ◌, ◌<ℤ◌, ◌⊎◌}
+use Rattle.std.specs.Prelude.{if◌then◌else◌, int_lt, ◌≤ℤ◌, ◌<ℤ◌, ◌⊎◌}
 use Rattle.std.proofs.lemmas.Int.{ints}
 use Rattle.std.proofs.lemmas.Bool.{cases_lt}
 use Rattle.ih_tables.specs.Bills.{feasible, cost}
 use Rattle.ih_plan.specs.BillOf.{bill_of}
+use Rattle.ih_plan.proofs.TestLemmas.{below, not-below}
 use Rattle.ih_journal.specs.Tried.{Tried}
 use Rattle.ih_journal.specs.Base.{Base}
 use Rattle.ih_journal.specs.History.{plan_at, plan_after}
@@ -119,12 +119,6 @@ module _ (b : Base) (H : List Tried) (e : Tried) (f : Bool) (c : ℤ)
         ];
         first = λ j h there. let low : j ≤ length H = omega arith in rw (own, same-cost b H e j low) (less j low (works-earlier j low there));
       }
-
-  below : (x y : ℤ) → int_lt x y ≡ true → x <ℤ y
-  below x y h = record { lt = subst T (sym h) tt }
-
-  not-below : (x y : ℤ) → int_lt x y ≡ false → y ≤ℤ x
-  not-below x y h = lt_z_no {a = x} {b = y} (subst (λ t. T (not t)) (sym h) tt)
 
   more-false : (best : Option (ℕ × ℤ)) → f ≡ false → BestIs b H best → BestIs b (H ++ e ∷ []) best
   more-false None never none = none-more never none

@@ -11,7 +11,8 @@ use Rattle.ih_plan.specs.Timetable.{Timetable, IsPlanOf}
 use Rattle.ih_plan.specs.Sums.{bit}
 use Rattle.ih_plan.specs.Costs.{in_bad_room, outside_window, genders_differ, not_working, capacity_of, is_empty}
 use Rattle.ih_plan.specs.BillOf.{bill_of, change_of_bill, gender_mixes, bad_rooms, surgeon_overtime, theatre_overtime, mandatory_left_out, outside_windows, over_capacity, nurses_off, uncovered, mixed_ages, missing_skill, nurses_seen, overloads, open_theatres, transfers, delays, optional_left_out}
-use Rattle.ih_plan.proofs.BillBounds.{bill-counts, bit-most, few-persons, room-days-most, bits-few, patients-few, surgeon_overtime-few, theatre_overtime-few, nurses_seen-few, open_theatres-few, transfers-few, delays-few}
+use Rattle.ih_plan.proofs.BillBounds.{bill-counts, few-persons, room-days-most, bits-few, patients-few, surgeon_overtime-few, theatre_overtime-few, nurses_seen-few, open_theatres-few, transfers-few, delays-few}
+use Rattle.ih_plan.proofs.TestLemmas.{bit-most}
 use Rattle.ih_journal.proofs.TextLengths.{IsShortPrice}
 
 -- ---- the numbers

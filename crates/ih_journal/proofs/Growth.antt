@@ -5,7 +5,7 @@ use Rattle.std.specs.List.{range_with_len}
 use Rattle.std.proofs.Math.Bool.{and-true}
 use Rattle.std.proofs.Math.Seq.{take-append_seam}
 use Rattle.std.proofs.lemmas.List.{take-append-le, take_all, drop_all}
-use Rattle.std.proofs.lemmas.Bool.{cases_eq, eq-eqb, ne_eqb}
+use Rattle.std.proofs.lemmas.Bool.{eq-eqb, ne_eqb}
 use Rattle.ih_tables.specs.declared.drafts.Draft.{Draft}
 use Rattle.ih_tables.specs.declared.bills.Bill.{Bill}
 use Rattle.ih_tables.specs.Bills.{score}
@@ -14,6 +14,7 @@ use Rattle.ih_plan.specs.declared.moves.Move.{Move}
 use Rattle.ih_plan.specs.Cells.{cell_at, cell_count}
 use Rattle.ih_plan.proofs.Series.{after_all-plan}
 use Rattle.ih_plan.specs.Series.{AreMoves, after_all, all_touch}
+use Rattle.ih_plan.proofs.TestLemmas.{equal-swap}
 use Rattle.ih_journal.specs.Tried.{Tried}
 use Rattle.ih_journal.specs.declared.entries.Verdict.{Verdict}
 use Rattle.ih_journal.specs.declared.entries.Verdict.TheVariants.{Accepted, Declined, Frozen}
@@ -135,19 +136,13 @@ pub has_made-all : (b : Base) (H : List Tried) (w : ℕ) → HasMade b.options H
 unfolding is_done
 has_made-all b H w made = made.done ∙ eq-eqb b.options.moves b.options.moves refl
 
-pub same-test : (m n : ℕ) → (m == n) ≡ (n == m)
-same-test m n = elim (cases_eq m n) [
-  | inl same ↦ rw (eq-eqb m n same, eq-eqb n m (sym same)) refl
-  | inr other ↦ rw (ne_eqb m n other, ne_eqb n m (λ e. other (sym e))) refl
-]
-
 pub has_made-own : (b : Base) (H : List Tried) (e : Tried) (w i : ℕ) → e.worker ≡ w → e.number ≡ i → is_stale e.verdict ≡ false → i < b.options.moves → HasMade b.options (H ++ e ∷ []) w (i + 1)
 has_made-own b H e w i own number fresh h =
     let some : (b.options.moves == 0) ≡ false = ne_eqb b.options.moves 0 (λ z. omega arith) in
     let last = last_by-own H e w own in
     record {
       attempt = rw (last, fresh, number) refl;
-      done = rw (last, some, fresh, number) (and-true (i + 1 == b.options.moves) ∙ same-test (i + 1) b.options.moves);
+      done = rw (last, some, fresh, number) (and-true (i + 1 == b.options.moves) ∙ equal-swap (i + 1) b.options.moves);
     }
 
 -- a worker with a next attempt isn't done, and the attempt is what follows its last entry

@@ -15,7 +15,7 @@ abbrev pub appended : List ℕ → List (List ℕ) → List ℕ
 appended old [] = old
 appended old (x ∷ xs) = appended (old ++ x) xs
 
-appended-is : (old : List ℕ) (xs : List (List ℕ)) → appended old xs ≡ old ++ concat xs
+pub appended-is : (old : List ℕ) (xs : List (List ℕ)) → appended old xs ≡ old ++ concat xs
 appended-is old [] = sym (append-nil old)
 appended-is old (x ∷ xs) = appended-is (old ++ x) xs ∙ append_assoc old x (concat xs)
 

@@ -20,6 +20,7 @@ use Rattle.ih_journal.proofs.MoveTexts.{move_lacks, moves_differ}
 use Rattle.ih_journal.proofs.PriceTexts.{price_priced, all_of, prices_differ}
 use Rattle.ih_journal.proofs.VerdictTexts.{verdict_lacks, verdicts_differ}
 use Rattle.ih_journal.proofs.Lacking.{Lacks, lacks_decimal, lacks_joined, signed_lack, parted_joined, parted_text, low_mark, head_of, tail_of}
+use Rattle.ih_journal.proofs.Literals.{entry}
 
 -- ---- what was read field by field is a line
 
@@ -123,16 +124,11 @@ no_wrong I o k e bytes f l line wrong =
 
 -- ---- two lines with one text are one entry at one place
 
-entry_of : ℕ → ℕ → ℕ → ℕ → Move → Bill → Verdict → Entry
-entry_of worker number again seen mv price verdict =
-    record { worker = worker; number = number; again = again; seen = seen; mv = mv; price = price; verdict = verdict }
-
 same_entry : (e d : Entry) → e.worker ≡ d.worker → e.number ≡ d.number → e.again ≡ d.again → e.seen ≡ d.seen → e.mv ≡ d.mv → e.price ≡ d.price → e.verdict ≡ d.verdict → e ≡ d
-unfolding entry_of
 same_entry e d worker number again seen mv price verdict = all worker number again seen mv price verdict
   where
     all : {a a' b b' c c' s s' : ℕ} {m m' : Move} {p p' : Bill} {v v' : Verdict} → a ≡ a' → b ≡ b' → c ≡ c' → s ≡ s' → m ≡ m' → p ≡ p' → v ≡ v'
-        → entry_of a b c s m p v ≡ entry_of a' b' c' s' m' p' v'
+        → entry a b c s m p v ≡ entry a' b' c' s' m' p' v'
     all ea eb ec es em ep ev = rw (ea, eb, ec, es, em, ep, ev) refl
 
 number_same : (m n : ℕ) → m < 2 ^ 32 → n < 2 ^ 32 → decimal m ≡ decimal n → m ≡ n

@@ -60,7 +60,7 @@ number2 n h = length-decimal-le 2 n (omega arith) h (omega (arith, h))
 number4 : (n : ℕ) → n < 10 ^ 4 → length (decimal n) ≤ 4
 number4 n h = length-decimal-le 4 n (omega arith) h (omega (arith, h))
 
-number7 : (n : ℕ) → n < 10 ^ 7 → length (decimal n) ≤ 7
+pub number7 : (n : ℕ) → n < 10 ^ 7 → length (decimal n) ≤ 7
 number7 n h = length-decimal-le 7 n (omega arith) h (omega (arith, h))
 
 -- ---- moves and cells

@@ -13,7 +13,7 @@ use Rattle.ih_links.proofs.Paths.{walk-path, last-in, before-in, behind-in, path
 path-along : (f g : ℕ → ℕ) (a a' : ℕ) (xs xs' : List ℕ) → a' ≡ a → xs' ≡ xs → IsPath f g a xs a → IsPath f g a' xs' a'
 path-along f g a a' xs xs' e e' p = rw (e, e') p
 
-or-false : (b c : Bool) → c ≡ false → (b || c) ≡ b
+pub or-false : (b c : Bool) → c ≡ false → (b || c) ≡ b
 or-false true c e = refl
 or-false false c e = e
 

@@ -5,6 +5,7 @@ use Rattle.std.specs.List.{range_with_len}
 use Rattle.std.proofs.Common.{inl, inr, min}
 use Rattle.std.proofs.lemmas.Bool.{leb-true, ltb-true, cases_lt}
 use Rattle.std.proofs.lemmas.List.FromFn.{filter_of_map_range_with_len_more}
+use Rattle.std.proofs.lemmas.List.{map-id}
 use Rattle.ih_tables.specs.declared.drafts.Draft.{Draft}
 use Rattle.ih_tables.specs.declared.ids.NurseNo.{NurseNo}
 use Rattle.ih_tables.specs.declared.ids.RoomNo.{RoomNo}
@@ -13,14 +14,10 @@ use Rattle.ih_plan.specs.declared.moves.Write.{Write}
 use Rattle.ih_plan.specs.declared.moves.Write.TheVariants.{SetCare}
 use Rattle.ih_moves.specs.Runs.{in_run, run_below}
 
-map-same : (xs : List ℕ) → map (λ (i : ℕ). i) xs ≡ xs
-map-same [] = refl
-map-same (x ∷ xs) = ap (λ (ys : List ℕ). x ∷ ys) (map-same xs)
-
 filter-more : (p : ℕ → Bool) (n : ℕ) → filter p (range_with_len 0 (n + 1)) ≡ filter p (range_with_len 0 n) ++ cond (p n) (n ∷ []) []
 filter-more p n =
     let e = filter_of_map_range_with_len_more p (λ (i : ℕ). i) 0 n n (omega arith) in
-    rw (← map-same (range_with_len 0 (n + 1)), ← map-same (range_with_len 0 n)) e
+    rw (← map-id (range_with_len 0 (n + 1)), ← map-id (range_with_len 0 n)) e
 
 map-push : (f : ℕ → Write) (xs : List ℕ) (y : ℕ) → map f (xs ++ y ∷ []) ≡ map f xs ++ f y ∷ []
 map-push f [] y = refl

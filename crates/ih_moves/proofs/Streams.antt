@@ -1,7 +1,12 @@
 -- A worker's stream from one draw to the next.
-use Rattle.std.proofs.Common.{◌≡◌, ℕ, zero, suc, ◌+◌, ◌*◌, ap, arith, List}
+use Rattle.std.proofs.Common.{◌≡◌, ℕ, zero, suc, ◌+◌, ◌*◌, refl, ap, arith, List}
 use Rattle.rand_xoshiro.specs.Xoshiro256.{next_state}
 use Rattle.ih_plan.specs.Draws.{state_after, stream_state, stream_at}
+
+-- an opened stream has drawn nothing
+pub stream-start : (seed w : ℕ) → stream_at seed w 0 ≡ stream_state seed w
+unfolding state_after
+stream-start seed w = refl
 
 state_after-add : (a b : ℕ) (s : List ℕ) → state_after (a + b) s ≡ state_after a (state_after b s)
 unfolding state_after

@@ -15,11 +15,12 @@ use Rattle.ih_plan.proofs.SumLemmas.{sum_below-but, sum_below-same, sum_below-le
 use Rattle.ih_plan.proofs.SumBounds.{sum_below-le_each, sum_below-swap}
 use Rattle.ih_plan.proofs.Loads.{person_load, room_load, nurse_load, room_load-sum}
 use Rattle.ih_plan.proofs.Entries.{admission-patient, admission-same}
-use Rattle.ih_plan.proofs.Overtime.{if-both, if-most, one_room, workload-most}
+use Rattle.ih_plan.proofs.Overtime.{if-both, one_room, workload-most}
 use Rattle.ih_plan.proofs.Whereabouts.{nowhere, somewhere}
+use Rattle.ih_plan.proofs.TestLemmas.{if-most}
 use Rattle.ih_nurses.specs.Loads.{stay_load}
-use Rattle.ih_nurses.proofs.HereLemmas.{or-none}
 use Rattle.ih_nurses.proofs.WalkLemmas.{persons-few}
+use Rattle.ih_links.proofs.Ties.{or-false}
 
 -- Q is P with patient p admitted.
 pub record IsAdmission (I : Draft) (P Q : Timetable) (p : ℕ) (at : Placement) : Type 0 where
@@ -47,7 +48,7 @@ module _ {I : Draft} {P Q : Timetable} {p : ℕ} {at : Placement} (a : IsAdmissi
     | inl e ↦ rw (e, somewhere I Q p r d at a.patient a.after, nowhere I P p r d a.patient a.before, eq-eqb p p refl) (by_case (at.room.0 == r) (covers at.day.0 (person_of I p).length_of_stay d))
     | inr ne ↦
         rw (same x ne, ne_eqb p x (λ e. ne (sym e)))
-        (sym (or-none (is_present I P r d x) ((at.room.0 == r) && (covers at.day.0 (person_of I p).length_of_stay d && false))
+        (sym (or-false (is_present I P r d x) ((at.room.0 == r) && (covers at.day.0 (person_of I p).length_of_stay d && false))
         (and_right (at.room.0 == r) (covers at.day.0 (person_of I p).length_of_stay d && false) (and_right (covers at.day.0 (person_of I p).length_of_stay d) false refl))))
   ]
     where

@@ -1,6 +1,6 @@
 -- What one walk over a room's list adds up is what another choice of nurse changes.
 use Rattle.std.proofs.Common.{◌≡◌, ◌≢◌, ℕ, zero, suc, ◌+◌, ◌-◌, ◌<◌, refl, arith, sym, ap, subst, ◌∙◌, Bool, true, false, inl, inr, List, map, Option, Some, None, pos}
-use Rattle.std.specs.Prelude.{◌-ℤ◌, ◌==◌, ◌&&◌, ◌||◌, not, is_none, if◌then◌else◌, option_map, sum_by, IfSome}
+use Rattle.std.specs.Prelude.{◌-ℤ◌, ◌==◌, ◌&&◌, ◌||◌, not, is_none, if◌then◌else◌, sum_by, IfSome}
 use Rattle.std.specs.List.{list_any, range_with_len}
 use Rattle.std.proofs.lemmas.Bool.{cases_eq, cases_Bool, eq-eqb, ne_eqb}
 use Rattle.ih_tables.specs.declared.drafts.Draft.{Draft}
@@ -17,7 +17,7 @@ use Rattle.ih_plan.specs.Presence.{Admission, admission_of, entry_of, day_of, is
 use Rattle.ih_plan.specs.Costs.{is_empty, is_number, not_working, skill_missing}
 use Rattle.ih_plan.specs.Cells.{part_of, content_of}
 use Rattle.ih_plan.specs.Sums.{bit, count_below}
-use Rattle.ih_plan.proofs.Entries.{care_of-same}
+use Rattle.ih_plan.proofs.Entries.{care_of-same, number_of_nurse}
 use Rattle.ih_plan.proofs.SumLemmas.{sum_below-zero, sum_below-more, sum_below-but, sum_below-same, sum_by-which_below}
 use Rattle.ih_nurses.specs.declared.shift_spans.ShiftSpan.{ShiftSpan}
 use Rattle.ih_nurses.specs.Choice.{rise_by_choice}
@@ -109,10 +109,6 @@ other-bit (Some n) m ne = rw (ne_eqb n m (λ e. ne (ap Some e))) refl
 
 -- ---- sums over those who are present
 
--- the number of a nurse, where there is one
-abbrev number : Option NurseNo → Option ℕ
-number o = option_map (λ (a : NurseNo). a.0) o
-
 module _ (I : Draft) (P : Timetable) (r : RoomNo) (k : Shift) (counts : List ℕ) (known : AreCounts I P counts) (shift : k.0 < shift_count I) where
   module _ (x : ℕ) (person : x < person_count I) (there : is_present I P r.0 (day_of k.0) x ≡ true) where
     -- without a nurse there is none whom the person sees anew
@@ -123,7 +119,7 @@ module _ (I : Draft) (P : Timetable) (r : RoomNo) (k : Shift) (counts : List ℕ
         by_case None n = refl
         by_case (Some a) n = refl
 
-    come-one : (new : Option NurseNo) → IfSome new (λ a. a.0 < nurse_count I) → care_of P r.0 k.0 ≢ number new
+    come-one : (new : Option NurseNo) → IfSome new (λ a. a.0 < nurse_count I) → care_of P r.0 k.0 ≢ number_of_nurse new
         → has_just I counts 0 new x ≡ newly_seen_of I P r.0 k.0 new x
     come-one None nurse other = none-newly
     come-one (Some a) nurse other = rw (known.each x a.0 person nurse) (by_case (admission_of I P x) (person_of I x).length_of_stay there)
@@ -132,7 +128,7 @@ module _ (I : Draft) (P : Timetable) (r : RoomNo) (k : Shift) (counts : List ℕ
         by_case None n h = absurd (let no : false ≡ true = h in cc)
         by_case (Some b) n h = come-count P (shift_span_of I b n) r.0 k.0 a.0 (there-shift I b n r.0 k.0 shift ∙ h) (other-bit (care_of P r.0 k.0) a.0 other)
 
-    gone-one : (old : Option NurseNo) → IfSome old (λ a. a.0 < nurse_count I) → care_of P r.0 k.0 ≡ number old
+    gone-one : (old : Option NurseNo) → IfSome old (λ a. a.0 < nurse_count I) → care_of P r.0 k.0 ≡ number_of_nurse old
         → has_just I counts 1 old x ≡ newly_seen_of I P r.0 k.0 old x
     gone-one None nurse own = none-newly
     gone-one (Some a) nurse own = rw (known.each x a.0 person nurse) (by_case (admission_of I P x) (person_of I x).length_of_stay there)
@@ -158,7 +154,7 @@ module _ (I : Draft) (P : Timetable) (r : RoomNo) (k : Shift) (counts : List ℕ
       ∙ sym (sum_by-which_below g (person_count I) (is_present I P r.0 (day_of k.0))))
 
   -- those whose count of the new nurse is 0 meet that nurse anew
-  pub come-told : (new : Option NurseNo) → IfSome new (λ a. a.0 < nurse_count I) → care_of P r.0 k.0 ≢ number new
+  pub come-told : (new : Option NurseNo) → IfSome new (λ a. a.0 < nurse_count I) → care_of P r.0 k.0 ≢ number_of_nurse new
       → sum_by (has_just I counts 0 new) (present I P r.0 (day_of k.0)) ≡ sum_by (newly_seen_of I P r.0 k.0 new) (present I P r.0 (day_of k.0))
   come-told new nurse other = sum-there (has_just I counts 0 new) (newly_seen_of I P r.0 k.0 new) (λ x h here. come-one x h here new nurse other)
 
@@ -166,7 +162,7 @@ module _ (I : Draft) (P : Timetable) (r : RoomNo) (k : Shift) (counts : List ℕ
   pub gone-told : (old : Option NurseNo) → IfSome old (λ a. a.0 < nurse_count I) → old ≡ choice_of P r.0 k.0
       → sum_by (has_just I counts 1 old) (present I P r.0 (day_of k.0)) ≡ sum_by (newly_seen_of I P r.0 k.0 (choice_of P r.0 k.0)) (present I P r.0 (day_of k.0))
   gone-told old nurse is =
-      let own : care_of P r.0 k.0 ≡ number old = ap number (sym is) in
+      let own : care_of P r.0 k.0 ≡ number_of_nurse old = ap number_of_nurse (sym is) in
       sum-there (has_just I counts 1 old) (newly_seen_of I P r.0 k.0 old) (λ x h here. gone-one x h here old nurse own)
       ∙ ap (λ o. sum_by (newly_seen_of I P r.0 k.0 o) (present I P r.0 (day_of k.0))) is
 
@@ -180,14 +176,14 @@ module _ (I : Draft) (P : Timetable) (r : RoomNo) (k : Shift) (new : Option Nurs
   abbrev chosen : Timetable
   chosen = put (SetCare r k new) P
 
-  care-new : care_of chosen r.0 k.0 ≡ number new
+  care-new : care_of chosen r.0 k.0 ≡ number_of_nurse new
   care-new = care_of-same I P r k new plan room shift
 
-  pub off-told : (old : Option NurseNo) (come gone : ℕ) → old ≡ choice_of P r.0 k.0 → come ≡ bit (not_working I k.0 (number new)) → gone ≡ bit (not_working I k.0 (number old))
+  pub off-told : (old : Option NurseNo) (come gone : ℕ) → old ≡ choice_of P r.0 k.0 → come ≡ bit (not_working I k.0 (number_of_nurse new)) → gone ≡ bit (not_working I k.0 (number_of_nurse old))
       → pos come -ℤ pos gone ≡ rise_by_choice P r k new (λ Q. off_in I Q r k)
   off-told old come gone is a b =
       let after = off-is I chosen r k ∙ ap (λ n. bit (not_working I k.0 n)) care-new in
-      let before = off-is I P r k ∙ ap (λ o. bit (not_working I k.0 (number o))) (sym is) in
+      let before = off-is I P r k ∙ ap (λ o. bit (not_working I k.0 (number_of_nurse o))) (sym is) in
       apart-same come gone (off_in I chosen r k) (off_in I P r k) (omega (arith, a, b, after, before))
 
   present-same : present I chosen r.0 (day_of k.0) ≡ present I P r.0 (day_of k.0)
@@ -203,27 +199,27 @@ module _ (I : Draft) (P : Timetable) (r : RoomNo) (k : Shift) (new : Option Nurs
     alike = list-alike I P here day r.0 k.0 list
 
     pub uncovered-told : (old : Option NurseNo) (come gone : ℕ) → old ≡ choice_of P r.0 k.0
-        → come ≡ bit (is_none (number new) && not (is_empty (list_of day r.0))) → gone ≡ bit (is_none (number old) && not (is_empty (list_of day r.0)))
+        → come ≡ bit (is_none (number_of_nurse new) && not (is_empty (list_of day r.0))) → gone ≡ bit (is_none (number_of_nurse old) && not (is_empty (list_of day r.0)))
         → pos come -ℤ pos gone ≡ rise_by_choice P r k new (λ Q. uncovered_in I Q r k)
     uncovered-told old come gone is a b =
         let empties = alike-empty (list_of day r.0) (present I P r.0 (day_of k.0)) alike in
-        let after : uncovered_in I chosen r k ≡ bit (is_none (number new) && not (is_empty (list_of day r.0))) =
+        let after : uncovered_in I chosen r k ≡ bit (is_none (number_of_nurse new) && not (is_empty (list_of day r.0))) =
         uncovered-is I chosen r k ∙ rw (care-new, present-same, empties) refl in
-        let before : uncovered_in I P r k ≡ bit (is_none (number old) && not (is_empty (list_of day r.0))) =
+        let before : uncovered_in I P r k ≡ bit (is_none (number_of_nurse old) && not (is_empty (list_of day r.0))) =
         uncovered-is I P r k ∙ rw (is, empties) refl in
         apart-same come gone (uncovered_in I chosen r k) (uncovered_in I P r k) (omega (arith, a, b, after, before))
 
     missing-sum : (n : Option NurseNo)
-        → skill_missing I (number n) (map (skill_of I P k.0) (list_of day r.0)) ≡ skill_missing I (number n) (map (skill_of I P k.0) (present I P r.0 (day_of k.0)))
-    missing-sum n = alike-missing I (number n) (skill_of I P k.0) (list_of day r.0) (present I P r.0 (day_of k.0)) alike
+        → skill_missing I (number_of_nurse n) (map (skill_of I P k.0) (list_of day r.0)) ≡ skill_missing I (number_of_nurse n) (map (skill_of I P k.0) (present I P r.0 (day_of k.0)))
+    missing-sum n = alike-missing I (number_of_nurse n) (skill_of I P k.0) (list_of day r.0) (present I P r.0 (day_of k.0)) alike
 
     pub missing-told : (old : Option NurseNo) (come gone : ℕ) → old ≡ choice_of P r.0 k.0
-        → come ≡ skill_missing I (number new) (map (skill_of I P k.0) (list_of day r.0))
-        → gone ≡ skill_missing I (number old) (map (skill_of I P k.0) (list_of day r.0))
+        → come ≡ skill_missing I (number_of_nurse new) (map (skill_of I P k.0) (list_of day r.0))
+        → gone ≡ skill_missing I (number_of_nurse old) (map (skill_of I P k.0) (list_of day r.0))
         → pos come -ℤ pos gone ≡ rise_by_choice P r k new (λ Q. missing_in I Q r k)
     missing-told old come gone is a b =
-        let after : missing_in I chosen r k ≡ skill_missing I (number new) (map (skill_of I P k.0) (present I P r.0 (day_of k.0))) =
+        let after : missing_in I chosen r k ≡ skill_missing I (number_of_nurse new) (map (skill_of I P k.0) (present I P r.0 (day_of k.0))) =
         missing-is I chosen r k ∙ rw (care-new, present-same, skills-same (present I P r.0 (day_of k.0))) refl in
-        let before : missing_in I P r k ≡ skill_missing I (number old) (map (skill_of I P k.0) (present I P r.0 (day_of k.0))) =
+        let before : missing_in I P r k ≡ skill_missing I (number_of_nurse old) (map (skill_of I P k.0) (present I P r.0 (day_of k.0))) =
         missing-is I P r k ∙ rw is refl in
         apart-same come gone (missing_in I chosen r k) (missing_in I P r k) (omega (arith, a, b, after, before, missing-sum new, missing-sum old))

@@ -1,7 +1,7 @@
 -- What another choice of nurse for a room's shift makes of the workloads above the maximum, and of the care of the
 -- persons there.
 use Rattle.std.proofs.Common.{◌≡◌, ◌≢◌, ℕ, ◌+◌, ◌-◌, ◌<◌, ◌≤◌, refl, arith, sym, ap, ◌∙◌, true, inl, inr, List, Option, Some, None, pos}
-use Rattle.std.specs.Prelude.{◌-ℤ◌, ◌+ℤ◌, ◌==◌, if◌then◌else◌, nat_le, nat_lt, option_map, slice_index, sum_by, IfSome}
+use Rattle.std.specs.Prelude.{◌-ℤ◌, ◌+ℤ◌, ◌==◌, if◌then◌else◌, nat_le, nat_lt, slice_index, sum_by, IfSome}
 use Rattle.std.proofs.lemmas.Bool.{cases_Bool, eq-eqb, ne_eqb, eqb-true, leb-true, and_parts}
 use Rattle.std.proofs.lemmas.Int.{ints}
 use Rattle.ih_tables.specs.declared.drafts.Draft.{Draft}
@@ -22,6 +22,7 @@ use Rattle.ih_plan.proofs.ListedBelow.{tagged-values}
 use Rattle.ih_plan.proofs.Loads.{room_load}
 use Rattle.ih_plan.proofs.SumBounds.{sum_below-add}
 use Rattle.ih_plan.proofs.SumLemmas.{sum_below-same, sum_by-which_below}
+use Rattle.ih_plan.proofs.Entries.{number_of_nurse}
 use Rattle.ih_nurses.specs.Choice.{excess_of, seen_by, rise_by_choice}
 use Rattle.ih_nurses.specs.declared.loads.NurseLoad.{NurseLoad}
 use Rattle.ih_nurses.specs.Loads.{AreLoads, load_at, excess_rise}
@@ -30,10 +31,6 @@ use Rattle.ih_nurses.proofs.CareLemmas.{load-moves}
 use Rattle.ih_nurses.proofs.DifferenceLemmas.{apart-same}
 use Rattle.ih_nurses.proofs.NewlyLemmas.{newly_seen_of, seen-change}
 use Rattle.ih_nurses.proofs.ShiftSpanLemmas.{nurses-alike, shift_span-kept}
-
--- the number of a nurse, where there is one
-abbrev number : Option NurseNo → Option ℕ
-number o = option_map (λ (a : NurseNo). a.0) o
 
 -- ---- workloads
 
@@ -45,23 +42,23 @@ if-own : (n w : ℕ) → (if n == n then w else 0) ≡ w
 if-own n w = rw (eq-eqb n n refl) refl
 
 module _ (I : Draft) (P : Timetable) (r : RoomNo) (k : Shift) (new : Option NurseNo) (plan : IsPlanOf I P) (room : r.0 < room_count I) (shift : k.0 < shift_count I)
-    (other : care_of P r.0 k.0 ≢ number new) where
+    (other : care_of P r.0 k.0 ≢ number_of_nurse new) where
   -- the nurse whose shift it is loses the room's load
   load-gone : (a : NurseNo) → choice_of P r.0 k.0 ≡ Some a → load_of I (put (SetCare r k new) P) a.0 k.0 + room_load I P k.0 r.0 ≡ load_of I P a.0 k.0
   load-gone a is =
       let moves = load-moves I P r k new plan room shift a.0 in
-      let mine : care_of P r.0 k.0 ≡ Some a.0 = ap number is in
+      let mine : care_of P r.0 k.0 ≡ Some a.0 = ap number_of_nurse is in
       let before : (if is_number (care_of P r.0 k.0) a.0 then room_load I P k.0 r.0 else 0) ≡ room_load I P k.0 r.0 = rw mine (if-own a.0 (room_load I P k.0 r.0)) in
-      let after = if-other (number new) a.0 (room_load I P k.0 r.0) (λ e. other (mine ∙ sym e)) in
+      let after = if-other (number_of_nurse new) a.0 (room_load I P k.0 r.0) (λ e. other (mine ∙ sym e)) in
       omega (arith, moves, before, after)
 
   -- the nurse whose shift it would be takes it
   load-come : (a : NurseNo) → new ≡ Some a → load_of I (put (SetCare r k new) P) a.0 k.0 ≡ load_of I P a.0 k.0 + room_load I P k.0 r.0
   load-come a is =
       let moves = load-moves I P r k new plan room shift a.0 in
-      let mine : number new ≡ Some a.0 = ap number is in
+      let mine : number_of_nurse new ≡ Some a.0 = ap number_of_nurse is in
       let before = if-other (care_of P r.0 k.0) a.0 (room_load I P k.0 r.0) (λ e. other (e ∙ sym mine)) in
-      let after : (if is_number (number new) a.0 then room_load I P k.0 r.0 else 0) ≡ room_load I P k.0 r.0 = rw mine (if-own a.0 (room_load I P k.0 r.0)) in
+      let after : (if is_number (number_of_nurse new) a.0 then room_load I P k.0 r.0 else 0) ≡ room_load I P k.0 r.0 = rw mine (if-own a.0 (room_load I P k.0 r.0)) in
       omega (arith, moves, before, after)
 
   -- the table has the room's load for the nurse whose shift it is
@@ -76,7 +73,7 @@ module _ (I : Draft) (P : Timetable) (r : RoomNo) (k : Shift) (new : Option Nurs
 -- what is told from the table is the rise of the part
 excess-told : (I : Draft) (P Q : Timetable) (k : ℕ) (loads : List NurseLoad) (o : Option NurseNo) (after : ℕ → ℕ) → AreLoads I P loads → k < shift_count I
     → IfSome o (λ a. a.0 < nurse_count I) → ((a : NurseNo) → o ≡ Some a → load_of I Q a.0 k ≡ after (load_of I P a.0 k))
-    → excess_rise I loads o k after ≡ pos (excess_of I Q k (number o)) -ℤ pos (excess_of I P k (number o))
+    → excess_rise I loads o k after ≡ pos (excess_of I Q k (number_of_nurse o)) -ℤ pos (excess_of I P k (number_of_nurse o))
 unfolding part_of content_of
 excess-told I P Q k loads None after known shift nurse e = refl
 excess-told I P Q k loads (Some a) after known shift nurse e = rw (e a refl, known.each a.0 k nurse shift) refl
@@ -85,10 +82,10 @@ both-rise : (a b c d : ℕ) → (pos a -ℤ pos b) +ℤ (pos c -ℤ pos d) ≡ p
 both-rise a b c d = omega (arith, ints)
 
 pub loads-told : (I : Draft) (P : Timetable) (r : RoomNo) (k : Shift) (new : Option NurseNo) (loads : List NurseLoad) (work : ℕ) → IsPlanOf I P → r.0 < room_count I → k.0 < shift_count I
-    → care_of P r.0 k.0 ≢ number new → AreLoads I P loads → work ≡ room_load I P k.0 r.0
+    → care_of P r.0 k.0 ≢ number_of_nurse new → AreLoads I P loads → work ≡ room_load I P k.0 r.0
     → IfSome (choice_of P r.0 k.0) (λ a. a.0 < nurse_count I) → IfSome new (λ a. a.0 < nurse_count I)
     → excess_rise I loads (choice_of P r.0 k.0) k.0 (λ load. load - work + 0) +ℤ excess_rise I loads new k.0 (λ load. load - 0 + work)
-    ≡ rise_by_choice P r k new (λ Q. excess_of I Q k.0 (care_of P r.0 k.0) + excess_of I Q k.0 (number new))
+    ≡ rise_by_choice P r k new (λ Q. excess_of I Q k.0 (care_of P r.0 k.0) + excess_of I Q k.0 (number_of_nurse new))
 loads-told I P r k new loads work plan room shift other known total old_nurse new_nurse =
     let Q : Timetable = put (SetCare r k new) P in
     let gone = excess-told I P Q k.0 loads (choice_of P r.0 k.0) (λ load. load - work + 0) known shift old_nurse
@@ -96,7 +93,7 @@ loads-told I P r k new loads work plan room shift other known total old_nurse ne
     let come = excess-told I P Q k.0 loads new (λ load. load - 0 + work) known shift new_nurse
     (λ a is. let step = load-come I P r k new plan room shift other a is in omega (arith, step, total)) in
     rw (gone, come)
-    (both-rise (excess_of I Q k.0 (care_of P r.0 k.0)) (excess_of I P k.0 (care_of P r.0 k.0)) (excess_of I Q k.0 (number new)) (excess_of I P k.0 (number new)))
+    (both-rise (excess_of I Q k.0 (care_of P r.0 k.0)) (excess_of I P k.0 (care_of P r.0 k.0)) (excess_of I Q k.0 (number_of_nurse new)) (excess_of I P k.0 (number_of_nurse new)))
 
 -- ---- care
 

@@ -18,17 +18,13 @@ use Rattle.ih_plan.specs.Costs.{is_number}
 use Rattle.ih_plan.specs.Sums.{bit, count_below, sum_below}
 use Rattle.ih_plan.proofs.SumLemmas.{sum_below-zero, sum_below-more, sum_below-but, sum_below-same, sum_below-le}
 use Rattle.ih_plan.proofs.Entries.{admission-patient, admission-same, care_of-same, care_of-other}
+use Rattle.ih_plan.proofs.TestLemmas.{bit-most, if-none}
 use Rattle.ih_nurses.specs.declared.shift_spans.ShiftSpan.{ShiftSpan}
 use Rattle.ih_nurses.specs.Counts.{AreCounts, count_at, count_of, nursed_in, one_of}
 use Rattle.ih_nurses.specs.ShiftSpans.{shift_span_in}
 use Rattle.ih_nurses.proofs.AdmitLemmas.{IsAdmission}
 use Rattle.ih_nurses.proofs.NewlyLemmas.{has_shift}
 use Rattle.ih_nurses.proofs.ShiftSpanLemmas.{shift_span-kept}
-use Rattle.ih_nurses.proofs.WalkLemmas.{if-none}
-
-pub bit-few : (b : Bool) → bit b ≤ 1
-bit-few true = omega arith
-bit-few false = omega arith
 
 -- a sum over fewer numbers isn't more
 sum_below-fewer : (n j : ℕ) (f : ℕ → ℕ) → j ≤ n → sum_below j f ≤ sum_below n f
@@ -47,7 +43,7 @@ first_in P s m j = count_below j (λ i. is_number (care_of P s.room.0 (s.from + 
 
 pub first-few : (P : Timetable) (s : ShiftSpan) (m j : ℕ) → first_in P s m j ≤ j
 first-few P s m j =
-    let most = sum_below-le j 1 (λ i. bit (is_number (care_of P s.room.0 (s.from + i)) m)) (λ i h. bit-few (is_number (care_of P s.room.0 (s.from + i)) m)) in
+    let most = sum_below-le j 1 (λ i. bit (is_number (care_of P s.room.0 (s.from + i)) m)) (λ i h. bit-most (is_number (care_of P s.room.0 (s.from + i)) m)) in
     omega (arith, most)
 
 module _ (P : Timetable) (x : ℕ) (s : ShiftSpan) where

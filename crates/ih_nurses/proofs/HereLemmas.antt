@@ -10,16 +10,13 @@ use Rattle.ih_tables.specs.Sizes.{room_count}
 use Rattle.ih_links.specs.Lists.{Linked, list_of, has, without}
 use Rattle.ih_links.specs.Days.{on_day}
 use Rattle.ih_links.proofs.Members.{has-append, has-without_self, has-without_other}
+use Rattle.ih_links.proofs.Ties.{or-false}
 use Rattle.ih_plan.specs.Presence.{in_span}
 use Rattle.ih_plan.proofs.Spans.{span-none, span-past, span-more}
 use Rattle.ih_nurses.specs.Here.{is_here, AreSized}
 
 abbrev no_lists : Linked
 no_lists = record { lists = []; nodes = 0 }
-
-pub or-none : (b c : Bool) → c ≡ false → (b || c) ≡ b
-or-none true c e = refl
-or-none false c e = e
 
 pub and-all : (b c : Bool) → c ≡ true → (b && c) ≡ b
 and-all true c e = e
@@ -53,7 +50,7 @@ module _ (here : List Linked) (d : ℕ) (past old new : Linked) (inside : d < le
           rw (lists, get_or-set_at old.lists r s (list_of old r ++ x ∷ []) [] same room, has-append y (list_of old r) x, same, eq-eqb r r refl) refl
       | inr other ↦
           rw (lists, get_or-set_other old.lists r s (list_of old r ++ x ∷ []) [] other, ne_eqb r s (λ e. other (sym e)))
-          (sym (or-none (has y (list_of old s)) false refl))
+          (sym (or-false (has y (list_of old s)) false refl))
     ]
 
     pub entered : (s e y : ℕ) → is_here (slice_set here d new) s e y ≡ (is_here here s e y || ((r == s) && ((d == e) && (x == y))))
@@ -61,7 +58,7 @@ module _ (here : List Linked) (d : ℕ) (past old new : Linked) (inside : d < le
       | inl same ↦ rw (written-here e same, same, read-here, eq-eqb d d refl) (pushed-here s y)
       | inr other ↦
           rw (written-there e other, ne_eqb d e (λ f. other (sym f)))
-          (sym (or-none (is_here here s e y) ((r == s) && false) (and_right (r == s) false refl)))
+          (sym (or-false (is_here here s e y) ((r == s) && false) (and_right (r == s) false refl)))
     ]
 
   module _ (x : ℕ) (lists : new.lists ≡ map (without x) old.lists) where
@@ -108,7 +105,7 @@ pub record AreEntered (I : Draft) (old here : List Linked) (r from to x : ℕ) :
 pub entered-none : (I : Draft) (old : List Linked) (r from x : ℕ) → AreSized I old → AreEntered I old old r from from x
 entered-none I old r from x sized = record {
   sized = sized;
-  each = λ s e y. rw (span-none from e) (sym (or-none (is_here old s e y) ((r == s) && false) (and_right (r == s) false refl)));
+  each = λ s e y. rw (span-none from e) (sym (or-false (is_here old s e y) ((r == s) && false) (and_right (r == s) false refl)));
 }
 
 pub entered-more : (I : Draft) (old here new : List Linked) (r from d x : ℕ) → from ≤ d → AreEntered I old here r from d x → AreSized I new

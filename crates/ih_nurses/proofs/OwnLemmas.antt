@@ -18,7 +18,8 @@ use Rattle.ih_plan.specs.Costs.{is_empty, skill_missing, skill_level}
 use Rattle.ih_plan.specs.Sums.{bit}
 use Rattle.ih_plan.proofs.SumLemmas.{sum_below-but, sum_by-which_below}
 use Rattle.ih_plan.proofs.Entries.{admission-patient, admission-same, stay_of-other}
-use Rattle.ih_nurses.proofs.WalkLemmas.{if-none, sum-even}
+use Rattle.ih_plan.proofs.TestLemmas.{if-none, if-bit}
+use Rattle.ih_nurses.proofs.WalkLemmas.{sum-even}
 use Rattle.ih_nurses.proofs.RoomLemmas.{AreAlike, sum-values}
 
 -- ---- what one patient's stay gives to a room in a shift
@@ -79,10 +80,6 @@ length-but p (x ∷ xs) = elim (cases_eq x p) [
 -- two lists with the same persons have the same others than p
 pub others-alike : (p : ℕ) (xs ys : List ℕ) → AreAlike xs ys → not (is_empty (without p xs)) ≡ not (is_empty (without p ys))
 others-alike p xs ys alike = more-empty (without p xs) (without p ys) false (omega (arith, length-but p xs, length-but p ys, alike (but p)))
-
-if-bit : (b : Bool) → (if b then 1 else 0) ≡ bit b
-if-bit true = refl
-if-bit false = refl
 
 module _ {I : Draft} {P Q : Timetable} {p : ℕ} (a : IsElse I P Q p) where
   same : (x : ℕ) → (x ≡ p → ⊥) → admission_of I Q x ≡ admission_of I P x

@@ -22,17 +22,17 @@ use Rattle.ih_plan.specs.Cells.{part_of, content_of}
 use Rattle.ih_plan.specs.Sums.{bit}
 use Rattle.ih_plan.proofs.Entries.{stay_of-same}
 use Rattle.ih_plan.proofs.ListedBelow.{tagged-both}
+use Rattle.ih_plan.proofs.Parts.{is_empty-tagged}
 use Rattle.ih_nurses.specs.Loads.{given}
 use Rattle.ih_nurses.specs.Gains.{uncovered_in, missing_in, overload_in, rise_by_placement}
 use Rattle.ih_nurses.proofs.GivenLemmas.{load-goes, load-has}
 use Rattle.ih_nurses.proofs.OwnLemmas.{is_housed, own_missing, else-put, occupied-own, missing-own}
-use Rattle.ih_nurses.proofs.RoomLemmas.{empty-tagged}
 
 -- ---- the numbers of the parts
 
 pub uncovered-is : (I : Draft) (Q : Timetable) (r : RoomNo) (k : Shift) → uncovered_in I Q r k ≡ bit (is_none (care_of Q r.0 k.0) && not (is_empty (present I Q r.0 (day_of k.0))))
 unfolding part_of content_of
-uncovered-is I Q r k = ap (λ e. bit (is_none (care_of Q r.0 k.0) && not e)) (empty-tagged (λ x. entry_of I Q x k.0) (present I Q r.0 (day_of k.0)))
+uncovered-is I Q r k = ap (λ e. bit (is_none (care_of Q r.0 k.0) && not e)) (is_empty-tagged (λ x. entry_of I Q x k.0) (present I Q r.0 (day_of k.0)))
 
 pub missing-is : (I : Draft) (Q : Timetable) (r : RoomNo) (k : Shift) → missing_in I Q r k ≡ skill_missing I (care_of Q r.0 k.0) (map (skill_of I Q k.0) (present I Q r.0 (day_of k.0)))
 unfolding part_of content_of

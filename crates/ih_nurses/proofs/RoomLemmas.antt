@@ -14,8 +14,9 @@ use Rattle.ih_plan.specs.Presence.{present, day_of, skill_of, entry_of}
 use Rattle.ih_plan.specs.Costs.{not_working, is_empty, skill_missing, skill_level}
 use Rattle.ih_plan.specs.BillOf.{as_bill}
 use Rattle.ih_plan.specs.Cells.{part_at, part_of, content_of}
-use Rattle.ih_plan.specs.Sums.{bit, tagged}
+use Rattle.ih_plan.specs.Sums.{bit}
 use Rattle.ih_plan.proofs.ListedBelow.{tagged-both}
+use Rattle.ih_plan.proofs.Parts.{is_empty-tagged}
 use Rattle.ih_nurses.specs.Here.{AreHere}
 use Rattle.ih_nurses.proofs.BillLemmas.{nursing}
 use Rattle.ih_nurses.proofs.HereLemmas.{read-here}
@@ -33,10 +34,6 @@ empty-same [] [] e = refl
 empty-same [] (y ∷ ys) e = absurd (omega (arith, e))
 empty-same (x ∷ xs) [] e = absurd (omega (arith, e))
 empty-same (x ∷ xs) (y ∷ ys) e = refl
-
-pub empty-tagged : {A : Type 0} (f : ℕ → A) (xs : List ℕ) → is_empty (tagged f xs) ≡ is_empty xs
-empty-tagged f [] = refl
-empty-tagged f (x ∷ xs) = refl
 
 -- the lists give the same sums
 abbrev pub AreAlike : List ℕ → List ℕ → Type 0
@@ -57,7 +54,7 @@ pub room-part : (I : Draft) (P : Timetable) (r : RoomNo) (k : Shift) (off uncove
 unfolding part_of content_of
 room-part I P r k off uncovered missing o u m =
     let skills = tagged-both (λ x at. slice_index (person_of I x).skill at) (λ x. entry_of I P x k.0) (present I P r.0 (day_of k.0)) in
-    let empties = empty-tagged (λ x. entry_of I P x k.0) (present I P r.0 (day_of k.0)) in
+    let empties = is_empty-tagged (λ x. entry_of I P x k.0) (present I P r.0 (day_of k.0)) in
     rw (o, u, m, skills, empties) refl
 
 -- the same where the persons are those of the room's list

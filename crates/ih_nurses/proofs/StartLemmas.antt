@@ -10,6 +10,7 @@ use Rattle.ih_tables.specs.Sizes.{patient_count, occupant_count, person_count, r
 use Rattle.ih_links.specs.Lists.{Linked}
 use Rattle.ih_links.specs.Days.{empty_lists}
 use Rattle.ih_links.proofs.EmptyDays.{empty-day, empty-list}
+use Rattle.ih_links.proofs.Ties.{or-false}
 use Rattle.ih_plan.specs.Timetable.{empty, care_of}
 use Rattle.ih_plan.specs.Presence.{Admission, admission_of, covers, end_from, in_span, is_present}
 use Rattle.ih_plan.specs.Persons.{person_of}
@@ -29,7 +30,6 @@ use Rattle.ih_nurses.specs.declared.loads.NurseLoad.{NurseLoad}
 use Rattle.ih_nurses.specs.Loads.{AreLoads, entry_at, free_load, most_of}
 use Rattle.ih_nurses.specs.Counts.{AreCounts, count_of, nursed_in}
 use Rattle.ih_nurses.specs.ShiftSpans.{shift_span_in}
-use Rattle.ih_nurses.proofs.HereLemmas.{or-none}
 use Rattle.ih_nurses.proofs.CountSteps.{count-inside}
 use Rattle.ih_nurses.proofs.LoadSteps.{place-inside}
 
@@ -123,7 +123,7 @@ module _ (I : Draft) (k : ℕ) (o : Occupant) (is : slice_get I.occupants k ≡ 
   other : (r d x : ℕ) → (x ≡ patient_count I + k → ⊥) → both r d x ≡ (nat_lt x (patient_count I + (k + 1)) && is_present I (empty I) r d x)
   other r d x ne =
       rw (ne_eqb (patient_count I + k) x (λ e. ne (sym e)), below-next (patient_count I) k x ne)
-      (or-none (nat_lt x (patient_count I + k) && is_present I (empty I) r d x) ((o.room_id.0 == r) && (in_span 0 (end_from I 0 o.length_of_stay) d && false))
+      (or-false (nat_lt x (patient_count I + k) && is_present I (empty I) r d x) ((o.room_id.0 == r) && (in_span 0 (end_from I 0 o.length_of_stay) d && false))
       (and_right (o.room_id.0 == r) (in_span 0 (end_from I 0 o.length_of_stay) d && false) (and_right (in_span 0 (end_from I 0 o.length_of_stay) d) false refl)))
 
   -- with the next occupant

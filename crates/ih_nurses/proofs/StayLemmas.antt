@@ -10,9 +10,9 @@ use Rattle.ih_plan.specs.Timetable.{Timetable, choice_of, care_of}
 use Rattle.ih_plan.specs.Persons.{person_of}
 use Rattle.ih_plan.specs.Presence.{covers, day_of, end_of}
 use Rattle.ih_plan.specs.Costs.{is_number}
+use Rattle.ih_plan.proofs.TestLemmas.{if-none}
 use Rattle.ih_nurses.specs.declared.loads.NurseLoad.{NurseLoad}
 use Rattle.ih_nurses.specs.Loads.{IsTable, load_at, share, stay_load}
-use Rattle.ih_nurses.proofs.WalkLemmas.{if-none}
 
 covers-in : (a n days k : ℕ) → 3 * a ≤ k → k < 3 * min (a + n) days → covers a n (day_of k) ≡ true
 covers-in a n days k low high =

@@ -13,11 +13,6 @@ use Rattle.ih_plan.specs.Sums.{sum_below}
 use Rattle.ih_plan.proofs.SumLemmas.{sum_below-but}
 use Rattle.ih_plan.proofs.SumBounds.{sum_below-none}
 
--- nothing, whatever the test
-pub if-none : (b : Bool) → ◌≡◌ {A = ℕ} (if b then 0 else 0) 0
-if-none true = refl
-if-none false = refl
-
 -- what the nodes met so far give, each at most b, is what all give but for the rest
 pub record IsSumWalk (n b : ℕ) (f : ℕ → ℕ) (xs : List ℕ) (sum : ℕ) (at : Option ℕ) : Type 0 where
   pub known : AreNodes n xs

@@ -1,7 +1,6 @@
 -- The first least of candidates, share by share.
 use Rattle.std.proofs.Common.{◌≡◌, ℕ, zero, suc, ◌+◌, ◌%◌, ◌<◌, ◌≤◌, refl, sym, ap, ◌∙◌, subst, arith, inl, inr, Bool, true, false, List, [], ◌∷◌, ◌++◌, length, Option, Some, None}
-use Rattle.std.specs.Prelude.{ℤ, ◌<ℤ◌, ◌≤ℤ◌, ◌⊎◌, int_lt, if◌then◌else◌, IfSome, slice_get, T, not}
-use Rattle.std.specs.Int.Signed.{lt_z_no}
+use Rattle.std.specs.Prelude.{ℤ, ◌<ℤ◌, ◌≤ℤ◌, ◌⊎◌, int_lt, if◌then◌else◌, IfSome, slice_get}
 use Rattle.std.proofs.lemmas.Int.{ints}
 use Rattle.std.proofs.lemmas.Bool.{cases_lt}
 use Rattle.std.proofs.lemmas.List.{length-append}
@@ -9,7 +8,8 @@ use Rattle.std.proofs.Math.Nat.{mod-lt}
 use Rattle.ih_tables.specs.declared.drafts.Draft.{Draft}
 use Rattle.ih_plan.specs.declared.moves.Write.{Write}
 use Rattle.ih_plan.specs.Writes.{IsWriteOf}
-use Rattle.ih_plan.specs.Fill.{cheapest}
+use Rattle.ih_fill.specs.Fill.{cheapest}
+use Rattle.ih_plan.proofs.TestLemmas.{below, not-below}
 use Rattle.ih_fill.specs.declared.candidates.Candidate.{Candidate}
 use Rattle.ih_fill.specs.Candidates.{valued, least_of}
 use Rattle.ih_parfill.specs.declared.shares.Found.{Found}
@@ -213,12 +213,6 @@ module _ (v : Write → ℤ) where
   as-many I ws n shares all = subst (λ m. AreShares I v ws m shares) (sym all.len) all
 
   -- ---- the first least of all is the cheapest
-
-  below : (x y : ℤ) → int_lt x y ≡ true → x <ℤ y
-  below x y h = record { lt = subst T (sym h) tt }
-
-  not-below : (x y : ℤ) → int_lt x y ≡ false → y ≤ℤ x
-  not-below x y h = lt_z_no {a = x} {b = y} (subst (λ t. T (not t)) (sym h) tt)
 
   -- a write that none of the others is below stays
   stays : (w : Write) (ws : List Write) → ((k : ℕ) (x : Write) → slice_get ws k ≡ Some x → v w ≤ℤ v x) → cheapest v w ws ≡ w

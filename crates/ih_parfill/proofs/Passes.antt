@@ -3,7 +3,7 @@ use Rattle.std.proofs.Common.{◌≡◌, refl, false, ◌∷◌, Some, None}
 use Rattle.ih_tables.specs.declared.ids.PatientNo.{PatientNo}
 use Rattle.ih_plan.specs.declared.moves.Write.TheVariants.{SetStay}
 use Rattle.ih_plan.specs.Writes.{put}
-use Rattle.ih_plan.specs.Fill.{cheapest, stay_writes, with_stay}
+use Rattle.ih_fill.specs.Fill.{cheapest, stay_writes, with_stay}
 use Rattle.ih_fill.specs.declared.candidates.Candidate.{Candidate}
 use Rattle.ih_fill.specs.Candidates.{least_of, valued}
 use Rattle.ih_fill.specs.Scoring.{Scoring, stay_value}

@@ -4,7 +4,7 @@ use Rattle.ih_tables.specs.declared.drafts.Draft.{Draft}
 use Rattle.ih_tables.specs.Sizes.{patient_count, room_count, shift_count}
 use Rattle.ih_plan.specs.declared.moves.Write.{Write}
 use Rattle.ih_plan.specs.declared.moves.Write.TheVariants.{SetStay}
-use Rattle.ih_plan.specs.Fill.{care_writes, stay_writes}
+use Rattle.ih_fill.specs.Fill.{care_writes, stay_writes}
 use Rattle.ih_fill.specs.Scoring.{Scoring, care_value, stay_value}
 use Rattle.ih_parfill.specs.declared.joining.Choice.{Choice}
 use Rattle.ih_parfill.specs.declared.joining.Choice.TheVariants.{Nurse, Stay}

@@ -3,7 +3,7 @@
 ghost use Rattle.std.specs.Prelude.{◌≡◌, ◌<◌, ◌≤◌, ◌+◌, ◌^◌, false, length, IfOk};
 ghost use Rattle.ih_tables.specs.Sizes.{patient_count, room_count, shift_count};
 ghost use Rattle.ih_plan.specs.Timetable.{IsPlanOf};
-ghost use Rattle.ih_plan.specs.Fill.{fill, rooms_by_shift, waiting, with_care, with_cares, with_stay, with_stays};
+ghost use Rattle.ih_fill.specs.Fill.{fill, rooms_by_shift, waiting, with_care, with_cares, with_stay, with_stays};
 ghost use Rattle.ih_fill.specs.Candidates.{rooms_in};
 
 use crate::joining::{Choice, deal, lowest};

@@ -1,5 +1,5 @@
 -- Every number of a timetable's bill is at most 10^11, and so is every change of one.
-use Rattle.std.proofs.Common.{◌≡◌, ℕ, zero, suc, ◌-◌, ◌*◌, ◌<◌, ◌≤◌, ◌^◌, refl, arith, Bool, true, false, List, [], ◌∷◌, length, Option, Some, None, pos, ℤ}
+use Rattle.std.proofs.Common.{◌≡◌, ℕ, zero, suc, ◌-◌, ◌*◌, ◌<◌, ◌≤◌, ◌^◌, refl, arith, Bool, List, [], ◌∷◌, length, Option, Some, None, pos, ℤ}
 use Rattle.std.specs.Prelude.{◌&&◌, not, is_none, slice_get, slice_index, map, ◌≤ℤ◌, ◌-ℤ◌, neg_ℤ}
 use Rattle.std.specs.Option.{option_map_or}
 use Rattle.std.specs.List.{list_any}
@@ -12,6 +12,7 @@ use Rattle.ih_tables.specs.declared.bills.Bill.{Bill}
 use Rattle.ih_tables.specs.Bills.{at, IsWithin}
 use Rattle.ih_tables.specs.Sizes.{patient_count, person_count, room_count, surgeon_count, theatre_count, nurse_count, shift_count}
 use Rattle.ih_tables.specs.Valid.{IsValid}
+use Rattle.ih_tables.proofs.BillLemmas.{at-by_place}
 use Rattle.ih_plan.specs.declared.moves.Placement.{Placement}
 use Rattle.ih_plan.specs.Timetable.{Timetable, IsPlanOf, IsPlacement, stay_of, care_of}
 use Rattle.ih_plan.specs.Sums.{bit, sum_below, count_below, greatest}
@@ -19,15 +20,11 @@ use Rattle.ih_plan.specs.Persons.{person_of}
 use Rattle.ih_plan.specs.Presence.{present, is_present, day_of, skill_of, entry_of, room_of, shifts_of}
 use Rattle.ih_plan.specs.Costs.{of_patient, in_bad_room, outside_window, genders_differ, not_working, capacity_of, over_patients, over_room_days, over_room_shifts, delay, ages, age_spread, skill_missing, skill_level, distinct_nurses, theatres_used, nurse_for, is_number, is_empty, operated, operated_by, theatre_of}
 use Rattle.ih_plan.specs.BillOf.{bill_of, change_of_bill, gender_mixes, bad_rooms, surgeon_overtime, theatre_overtime, mandatory_left_out, outside_windows, over_capacity, nurses_off, uncovered, mixed_ages, missing_skill, nurses_seen, overloads, open_theatres, transfers, delays, optional_left_out}
-use Rattle.ih_plan.proofs.ChangeSums.{at-by_place}
 use Rattle.ih_plan.proofs.SumLemmas.{sum_below-le, length-which_below}
 use Rattle.ih_plan.proofs.Overtime.{of-person, entry-most, surgeon_overtime-most, theatre_overtime-most, overloads-small}
+use Rattle.ih_plan.proofs.TestLemmas.{bit-most}
 
 -- ---- sums of bounded numbers
-
-pub bit-most : (b : Bool) → bit b ≤ 1
-bit-most true = omega arith
-bit-most false = omega arith
 
 pub count-most : (n : ℕ) (p : ℕ → Bool) → count_below n p ≤ n
 count-most n p = let all = sum_below-le n 1 (λ i. bit (p i)) (λ i h. bit-most (p i)) in omega (arith, all)

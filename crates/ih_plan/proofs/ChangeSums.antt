@@ -4,19 +4,16 @@ use Rattle.std.specs.Prelude.{pos, ℤ, ◌+ℤ◌, ◌-ℤ◌}
 use Rattle.std.specs.List.{range_with_len}
 use Rattle.std.proofs.lemmas.Bool.{eq-eqb, or_left, or_right}
 use Rattle.std.proofs.lemmas.Int.{ints}
-use Rattle.std.proofs.lemmas.List.FromFn.{get_or-map-range_with_len}
 use Rattle.ih_tables.specs.declared.drafts.Draft.{Draft}
 use Rattle.ih_tables.specs.declared.bills.Bill.{Bill}
 use Rattle.ih_tables.specs.Bills.{at, by_place, add_bills, sub_bills, zero_bill}
+use Rattle.ih_tables.proofs.BillLemmas.{at-by_place}
 use Rattle.ih_plan.specs.Timetable.{Timetable}
 use Rattle.ih_plan.specs.BillOf.{bill_of, change_of_bill}
 use Rattle.ih_plan.proofs.ListedBelow.{has}
 use Rattle.ih_plan.proofs.PlanRanges.{has-range}
 
 -- ---- one number
-
-pub at-by_place : (n : ℕ) (f : ℕ → ℤ) (k : ℕ) → k < n → at (by_place n f) k ≡ f k
-at-by_place n f k h = get_or-map-range_with_len f 0 n k k (pos 0) h (omega arith)
 
 pub map-same : {A : Type 0} (f g : ℕ → A) (xs : List ℕ) → ((i : ℕ) → has i xs ≡ true → f i ≡ g i) → map f xs ≡ map g xs
 map-same f g [] e = refl

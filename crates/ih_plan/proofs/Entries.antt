@@ -15,6 +15,10 @@ use Rattle.ih_plan.specs.Timetable.{Timetable, IsPlanOf, stay_of, care_of, care_
 use Rattle.ih_plan.specs.Writes.{put}
 use Rattle.ih_plan.specs.Presence.{admission_of, placed_at, shifts_of}
 
+-- the number of a nurse, where there is one
+abbrev pub number_of_nurse : Option NurseNo → Option ℕ
+number_of_nurse n = option_map (λ (m : NurseNo). m.0) n
+
 pub slice_get-set_other : {X : Type 0} (xs : List X) (i j : ℕ) (v : X) → (j ≡ i → ⊥) → slice_get (slice_set xs i v) j ≡ slice_get xs j
 slice_get-set_other [] i j v ne = refl
 slice_get-set_other (x ∷ xs) zero zero v ne = absurd (ne refl)

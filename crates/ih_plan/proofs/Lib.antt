@@ -1,9 +1,10 @@
 pub mod ExampleWards
 pub mod BillBounds
+pub mod TestLemmas
+pub mod ReadLemmas
 pub mod Entries
 pub mod Spans
 pub mod Whereabouts
-pub mod FilledExample
 pub mod ListSteps
 pub mod ListedBelow
 pub mod CellNumbers

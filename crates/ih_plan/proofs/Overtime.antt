@@ -28,6 +28,7 @@ use Rattle.ih_plan.specs.BillOf.{surgeon_overtime, theatre_overtime, overloads}
 use Rattle.ih_plan.proofs.SumLemmas.{sum_below-same, sum_below-le, sum_by-which_below}
 use Rattle.ih_plan.proofs.SumBounds.{sum_below-le_each, sum_below-swap, sum_below-none, one_place}
 use Rattle.ih_plan.proofs.Loads.{room_load, person_load, nurse_load, room_load-sum}
+use Rattle.ih_plan.proofs.TestLemmas.{if-most}
 
 -- ---- a number at one place
 
@@ -39,10 +40,6 @@ one_number m (Some k) x = one_place m k x
 pub if-both : (a b : Bool) (x : ℕ) → (if a && b then x else 0) ≡ (if a then (if b then x else 0) else 0)
 if-both true b x = refl
 if-both false b x = refl
-
-pub if-most : (b : Bool) (x : ℕ) → (if b then x else 0) ≤ x
-if-most true x = omega arith
-if-most false x = omega arith
 
 one_day : (m : ℕ) (o : Option Placement) (x : ℕ) → sum_below m (λ d. if admitted_on d o then x else 0) ≤ x
 one_day m None x = omega (arith, sum_below-none m)

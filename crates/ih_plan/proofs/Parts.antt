@@ -15,7 +15,7 @@ use Rattle.ih_plan.proofs.SumBounds.{sum_below-none}
 use Rattle.ih_plan.proofs.CellNumbers.{sum_by_kind, stay_cell, room_day_cell, theatre_day_cell, surgeon_day_cell, room_shift_cell, nurse_shift_cell, care_cell}
 use Rattle.ih_plan.proofs.ListedBelow.{tagged-keys, tagged-values, tagged-both}
 
-is_empty-tagged : {A : Type 0} (f : ℕ → A) (xs : List ℕ) → is_empty (tagged f xs) ≡ is_empty xs
+pub is_empty-tagged : {A : Type 0} (f : ℕ → A) (xs : List ℕ) → is_empty (tagged f xs) ≡ is_empty xs
 is_empty-tagged f [] = refl
 is_empty-tagged f (x ∷ xs) = refl
 

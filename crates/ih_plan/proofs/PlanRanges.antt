@@ -1,5 +1,5 @@
 -- Writes and moves in range leave a timetable of the instance in range.
-use Rattle.std.proofs.Common.{◌≡◌, ℕ, zero, suc, ◌+◌, ◌<◌, ◌≤◌, refl, arith, sym, ap, subst, ◌∙◌, Bool, true, false, List, [], ◌∷◌, inl, inr, length, replicate, Option, Some, None, ◌*◌, mul_comm}
+use Rattle.std.proofs.Common.{◌≡◌, ℕ, zero, suc, ◌+◌, ◌<◌, ◌≤◌, refl, arith, sym, ap, subst, ◌∙◌, Bool, true, false, List, [], ◌∷◌, inl, inr, length, Option, Some, None, ◌*◌, mul_comm}
 use Rattle.std.specs.Prelude.{◌||◌, ◌==◌, if◌then◌else◌, option_map, option_and_then, slice_get, map, filter, IfSome}
 use Rattle.std.specs.List.{range_with_len}
 use Rattle.std.proofs.lemmas.Bool.{cases_eq, or_left, or_right, or_cases, eq-eqb, eqb-true}
@@ -21,6 +21,7 @@ use Rattle.ih_plan.specs.Writes.{put, put_all, IsWriteOf, AreWritesOf, IsInside}
 use Rattle.ih_plan.specs.Expand.{expand, after, IsMoveOf, swap_stays, restay, run_of}
 use Rattle.ih_plan.proofs.ListedBelow.{has}
 use Rattle.ih_plan.proofs.Entries.{care_of-same, stay_of-other, stay_of-same, slice_get-set_other}
+use Rattle.ih_plan.proofs.ReadLemmas.{none-copies}
 
 -- what is in a range
 pub has-range : (a n i : ℕ) → has i (range_with_len a n) ≡ true → (a ≤ i) × (i < a + n)
@@ -150,18 +151,13 @@ after-plan I P m plan fits = put_all-plan I P (expand I P m) plan (expand-writes
 
 -- ---- the empty timetable
 
-no-entry : {X : Type 0} (n i : ℕ) → option_and_then (λ (o : Option X). o) (slice_get (replicate n None) i) ≡ None
-no-entry zero i = refl
-no-entry (suc n) zero = refl
-no-entry (suc n) (suc i) = no-entry n i
-
 pub empty-plan : (I : Draft) → IsPlanOf I (empty I)
 empty-plan I = record {
   stays = length-replicate (patient_count I) None;
   shifts = refl;
   cares = length-replicate (shift_count I * room_count I) None;
-  placed = λ p at e. absurd (let no : None ≡ Some at = sym (no-entry (patient_count I) p) ∙ e in cc);
-  nursed = λ r k n e. absurd (let no : None ≡ Some n = sym (ap (option_map (λ (m : NurseNo). m.0)) (no-entry (shift_count I * room_count I) (care_place (empty I) r k))) ∙ e in cc);
+  placed = λ p at e. absurd (let no : None ≡ Some at = sym (none-copies (patient_count I) p) ∙ e in cc);
+  nursed = λ r k n e. absurd (let no : None ≡ Some n = sym (ap (option_map (λ (m : NurseNo). m.0)) (none-copies (shift_count I * room_count I) (care_place (empty I) r k))) ∙ e in cc);
 }
 
 -- ---- where a write goes

@@ -1,6 +1,6 @@
 -- Where persons are: patients by their stays, occupants in their rooms, and nobody else anywhere.
-use Rattle.std.proofs.Common.{◌≡◌, ℕ, zero, suc, ◌+◌, ◌-◌, ◌*◌, ◌<◌, ◌≤◌, refl, arith, sym, ap, ◌∙◌, true, false, inl, inr, Option, Some, None, replicate}
-use Rattle.std.specs.Prelude.{◌&&◌, ◌==◌, nat_lt, slice_get, option_and_then}
+use Rattle.std.proofs.Common.{◌≡◌, ℕ, ◌+◌, ◌-◌, ◌*◌, ◌<◌, ◌≤◌, refl, arith, sym, ap, ◌∙◌, true, false, inl, inr, Option, Some, None}
+use Rattle.std.specs.Prelude.{◌&&◌, ◌==◌, nat_lt, slice_get}
 use Rattle.std.proofs.lemmas.Bool.{cases_lt, lt-ltb, le-ltb}
 use Rattle.std.proofs.lemmas.Option.{slice_get_within, slice_get_past}
 use Rattle.ih_tables.specs.declared.drafts.Draft.{Draft}
@@ -15,20 +15,15 @@ use Rattle.ih_plan.specs.Writes.{put}
 use Rattle.ih_plan.specs.Persons.{person_of}
 use Rattle.ih_plan.specs.Presence.{admission_of, covers, is_in, is_present}
 use Rattle.ih_plan.proofs.Entries.{admission-patient, admission-other}
+use Rattle.ih_plan.proofs.ReadLemmas.{none-copies}
 
 -- ---- the empty timetable
 
--- nothing is read from a list of nothing
-none-read : {X : Type 0} (n i : ℕ) → option_and_then (λ (o : Option X). o) (slice_get (replicate n None) i) ≡ None
-none-read zero i = refl
-none-read (suc n) zero = refl
-none-read (suc n) (suc i) = none-read n i
-
 pub no-stay : (I : Draft) (p : ℕ) → stay_of (empty I) p ≡ None
-no-stay I p = none-read (patient_count I) p
+no-stay I p = none-copies (patient_count I) p
 
 pub no-nurse : (I : Draft) (r k : ℕ) → care_of (empty I) r k ≡ None
-no-nurse I r k = rw (none-read (shift_count I * room_count I) (shift_count I * r + k)) refl
+no-nurse I r k = rw (none-copies (shift_count I * room_count I) (shift_count I * r + k)) refl
 
 -- ---- patients
 

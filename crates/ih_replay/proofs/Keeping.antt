@@ -1,10 +1,10 @@
 -- What is kept of workers once an entry is added.
-use Rattle.std.proofs.Common.{◌≡◌, ℕ, zero, suc, ◌+◌, ◌<◌, ◌≤◌, refl, arith, sym, ap, ◌∙◌, subst, inl, inr, Bool, true, false, List, [], ◌∷◌, ◌++◌, length, take, Some, None}
+use Rattle.std.proofs.Common.{◌≡◌, ℕ, zero, suc, ◌+◌, ◌<◌, ◌≤◌, refl, arith, sym, ap, ◌∙◌, subst, inl, inr, Bool, true, false, List, [], ◌∷◌, ◌++◌, length, Some, None}
 use Rattle.std.specs.Prelude.{if◌then◌else◌, slice_get, slice_set, ◌↔◌, ◌⊎◌, Result, Ok, Err, OnOk, OnErr}
 use Rattle.std.proofs.lemmas.Bool.{cases_eq}
 use Rattle.std.proofs.lemmas.List.{length-set}
 use Rattle.ih_tables.specs.declared.drafts.Draft.{Draft}
-use Rattle.ih_plan.specs.Draws.{draw_at, move_of, state_after, stream_at, stream_state}
+use Rattle.ih_plan.specs.Draws.{draw_at, move_of, state_after, stream_at}
 use Rattle.ih_plan.proofs.Entries.{slice_get-set_other, slice_get-set_same}
 use Rattle.ih_moves.proofs.Streams.{stream-next}
 use Rattle.ih_journal.specs.Tried.{Tried}
@@ -18,6 +18,7 @@ use Rattle.ih_cellbook.specs.Offers.{HasSeenOwn}
 use Rattle.ih_cellbook.specs.Replicas.{IsReplicaIn, IsReplicaOf}
 use Rattle.ih_cellbook.specs.Snapshot.{Snapshot}
 use Rattle.ih_cellbook.proofs.Within.{stands-behind}
+use Rattle.ih_cellbook.proofs.Staying.{new-within}
 use Rattle.ih_replay.specs.declared.workers.Worker.{Worker}
 use Rattle.ih_replay.specs.Keeping.{IsReplayed, IsWorkerIn, gone_on}
 
@@ -55,20 +56,11 @@ seen-none w n = (λ h j f there own. absurd (let no : None ≡ Some f = there in
 
 -- ---- one worker
 
--- a replica that stands for the empty history stands for the beginning of any
-pub empty-in : (b : Base) (H : List Tried) (s : Snapshot) → IsReplicaOf b [] s → IsReplicaIn b H s
-empty-in b H s stands = subst (λ n. IsReplicaOf b (take n H) s) (sym stands.seen) stands
-
--- an opened stream has drawn nothing
-pub stream-start : (seed w : ℕ) → stream_at seed w 0 ≡ stream_state seed w
-unfolding state_after
-stream-start seed w = refl
-
 pub worker-none : (b : Base) (w : ℕ) (x : Worker) → IsReplicaOf b [] x.replica → x.replica.worker ≡ w → x.number ≡ 0 → x.again ≡ 0 → x.own_end ≡ 0
     → x.draw ≡ move_of b.instance b.options.seed w 0 → x.stream ≡ stream_at b.options.seed w 1 → IsWorkerIn b [] w x
 unfolding last_by
 worker-none b w x stands own number again own_end draw stream = record {
-  replica = empty-in b [] x.replica stands;
+  replica = new-within b [] x.replica stands;
   own = own;
   attempt = rw (number, again) refl;
   draw = rw number draw;

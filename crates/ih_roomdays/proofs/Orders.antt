@@ -11,6 +11,7 @@ use Rattle.ih_plan.specs.Costs.{age_spread, genders_differ}
 use Rattle.ih_plan.specs.Sums.{greatest, least}
 use Rattle.ih_links.specs.Lists.{has, without, IsOnce}
 use Rattle.ih_links.proofs.Members.{has-here, has-there, has-cases, has-without_self, has-without_other, once-without, length-without}
+use Rattle.ih_roomdays.proofs.GenderLemmas.{gender_of}
 
 -- both lists have the same numbers
 abbrev pub AreAlike : List ℕ → List ℕ → Type 0
@@ -91,9 +92,6 @@ spread-alike I xs ys alike =
     rw (high, low) refl
 
 -- ---- genders
-
-abbrev gender_of : Draft → ℕ → List ℕ
-gender_of I x = (person_of I x).gender
 
 abbrev differ : Draft → ℕ → ℕ → Bool
 differ I x y = not (bytes_eq (gender_of I x) (gender_of I y))

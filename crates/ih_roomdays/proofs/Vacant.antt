@@ -1,5 +1,5 @@
 -- Rows in which nobody is.
-use Rattle.std.proofs.Common.{◌≡◌, ℕ, zero, suc, ◌+◌, ◌*◌, ◌^◌, ◌<◌, ◌≤◌, refl, ap, ◌∙◌, [], length, replicate}
+use Rattle.std.proofs.Common.{◌≡◌, ℕ, ◌+◌, ◌*◌, ◌^◌, ◌<◌, ◌≤◌, refl, ap, ◌∙◌, [], length, replicate}
 use Rattle.std.specs.Prelude.{slice_index_or}
 use Rattle.std.proofs.lemmas.List.{length-replicate}
 use Rattle.ih_links.specs.Days.{empty_lists, on_day}
@@ -9,12 +9,7 @@ use Rattle.ih_roomdays.specs.Occupancy.{nobody}
 use Rattle.ih_roomdays.specs.Profiles.{AreInRange, most_persons}
 use Rattle.ih_roomdays.specs.Rows.{AreVacant, persons_at, crowd_at}
 use Rattle.ih_roomdays.proofs.Tallies.{crowd-none}
-
--- copies of one thing are that wherever they are read
-all-alike : {A : Type 0} (n i : ℕ) (a : A) → slice_index_or (replicate n a) i a ≡ a
-all-alike zero i a = refl
-all-alike (suc n) zero a = refl
-all-alike (suc n) (suc i) a = all-alike n i a
+use Rattle.ih_plan.proofs.ReadLemmas.{index-copies}
 
 pub vacant : (v : Rows) → v.rooms * v.days < 2 ^ 32 → v.persons ≤ most_persons → AreInRange v.persons v.profiles
     → v.links.items ≡ replicate v.days (empty_lists v.rooms v.persons) → v.crowds.items ≡ replicate (v.rooms * v.days) nobody
@@ -46,4 +41,4 @@ vacant v few_places few_persons profiles links crowds = record {
     empty r d = rw links (empty-list v.rooms v.persons v.days d r)
 
     none : (r d : ℕ) → crowd_at v r d ≡ nobody
-    none r d = ap (λ cs. slice_index_or cs (r * v.days + d) nobody) crowds ∙ all-alike (v.rooms * v.days) (r * v.days + d) nobody
+    none r d = ap (λ cs. slice_index_or cs (r * v.days + d) nobody) crowds ∙ index-copies (v.rooms * v.days) (r * v.days + d) nobody

@@ -1,7 +1,6 @@
 -- The best of all rounds, as one more is searched.
 use Rattle.std.proofs.Common.{◌≡◌, ℕ, zero, suc, ◌<◌, ◌≤◌, refl, sym, ap, ◌∙◌, subst, arith, inl, inr, Bool, true, false, List, [], ◌∷◌, ◌++◌, length, Option, Some, None, ℤ}
-use Rattle.std.specs.Prelude.{slice_get, ◌⊎◌, ◌≤ℤ◌, ◌<ℤ◌, int_lt, if◌then◌else◌, T, not}
-use Rattle.std.specs.Int.Signed.{lt_z_no}
+use Rattle.std.specs.Prelude.{slice_get, ◌⊎◌, ◌≤ℤ◌, ◌<ℤ◌, int_lt, if◌then◌else◌, not}
 use Rattle.std.proofs.lemmas.Int.{ints}
 use Rattle.std.proofs.lemmas.List.{length-map}
 use Rattle.std.proofs.lemmas.Option.{slice_get_within}
@@ -11,6 +10,8 @@ use Rattle.ih_journal.specs.Base.{Base}
 use Rattle.ih_journal.specs.Best.{BestIs, IsBest, HasNone}
 use Rattle.ih_rounds.specs.Best.{HaveNone, IsBestOf, IsFeasibleIn, cost_in}
 use Rattle.ih_plan.specs.Timetable.{IsPlanOf, Timetable}
+use Rattle.ih_plan.proofs.TestLemmas.{below, not-below}
+use Rattle.ih_plan.proofs.ReadLemmas.{get-last}
 use Rattle.ih_rounds.specs.declared.running.Held.{Held}
 use Rattle.ih_rounds.specs.Ends.{HoldsBest, better_of}
 use Rattle.ih_rounds.specs.Rounds.{Round, base_in, next_start}
@@ -19,10 +20,6 @@ pub get-earlier : {X : Type 0} (xs : List X) (x y : X) (k : ℕ) → slice_get x
 get-earlier [] x y k h = absurd (let no : None ≡ Some y = h in cc)
 get-earlier (z ∷ zs) x y zero h = h
 get-earlier (z ∷ zs) x y (suc k) h = get-earlier zs x y k h
-
-pub get-last : {X : Type 0} (xs : List X) (x : X) → slice_get (xs ++ x ∷ []) (length xs) ≡ Some x
-get-last [] x = refl
-get-last (z ∷ zs) x = get-last zs x
 
 pub get-more : {X : Type 0} (xs : List X) (x y : X) (k : ℕ) → slice_get (xs ++ x ∷ []) k ≡ Some y → (slice_get xs k ≡ Some y) ⊎ ((length xs ≡ k) × (x ≡ y))
 get-more [] x y zero h = inr (refl, (let e : Some x ≡ Some y = h in cc))
@@ -39,12 +36,6 @@ in-tries H j h = let many = length-map H tried in omega (arith, h, many)
 
 in-entries : (H : List Entry) (j : ℕ) → j ≤ length (tries H) → j ≤ length H
 in-entries H j h = let many = length-map H tried in omega (arith, h, many)
-
-below : (x y : ℤ) → int_lt x y ≡ true → x <ℤ y
-below x y h = record { lt = subst T (sym h) tt }
-
-not-below : (x y : ℤ) → int_lt x y ≡ false → y ≤ℤ x
-not-below x y h = lt_z_no {a = x} {b = y} (subst (λ t. T (not t)) (sym h) tt)
 
 module _ (b : Base) (rs : List Round) (r : Round) where
   none-more : HaveNone b rs → HasNone (base_in b (length rs) r) (tries r.history) → HaveNone b (rs ++ r ∷ [])

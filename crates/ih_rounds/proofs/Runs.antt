@@ -2,6 +2,7 @@
 use Rattle.std.proofs.Common.{◌≡◌, ℕ, zero, suc, ◌+◌, refl, sym, ap, ◌∙◌, subst, arith, inl, inr, List, [], ◌∷◌, ◌++◌, length, Option, Some, None}
 use Rattle.std.proofs.lemmas.List.{append_assoc, append-nil, map-append, length-append}
 use Rattle.ih_plan.specs.Timetable.{Timetable, IsPlanOf}
+use Rattle.ih_plan.proofs.ReadLemmas.{get-last}
 use Rattle.ih_journal.specs.declared.entries.Entry.{Entry}
 use Rattle.ih_journal.specs.declared.settings.Options.{Options}
 use Rattle.ih_journal.specs.Base.{Base}
@@ -14,7 +15,7 @@ use Rattle.ih_rounds.specs.Ends.{Ends, HaveRun, HoldsBest, better_of, end_with}
 use Rattle.ih_rounds.specs.Rounds.{AreRounds, IsRound, Round, StartsFrom, histories, journals, options_in}
 use Rattle.ih_rounds.specs.Steps.{HasRound}
 use Rattle.ih_rounds.specs.Telling.{Answers, with_answers}
-use Rattle.ih_rounds.proofs.BestOf.{get-earlier, get-last, get-more, held-more}
+use Rattle.ih_rounds.proofs.BestOf.{get-earlier, get-more, held-more}
 
 -- so many rounds were searched, the next starts from P, and this is the best so far
 pub record HaveComeTo (b : Base) (count : ℕ) (before after : Answers) (old new : List ℕ) (best : Option Held) (P : Timetable) : Type 0 where

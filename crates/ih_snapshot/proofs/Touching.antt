@@ -1,5 +1,5 @@
 -- The cells of a footprint, listed or read: each is one of the instance's, and each is there once.
-use Rattle.std.proofs.Common.{◌≡◌, ℕ, ◌+◌, ◌<◌, ◌≤◌, arith, refl, sym, ap, ◌∙◌, Bool, true, false, List, [], ◌∷◌, length}
+use Rattle.std.proofs.Common.{◌≡◌, ℕ, ◌+◌, ◌<◌, ◌≤◌, arith, refl, sym, ap, ◌∙◌, true, List, [], ◌∷◌, length}
 use Rattle.std.specs.Prelude.{if◌then◌else◌, ◌==◌, map, All}
 use Rattle.std.proofs.lemmas.Bool.{eq-eqb, or_left, or_right}
 use Rattle.std.proofs.lemmas.List.{length-map}
@@ -13,6 +13,7 @@ use Rattle.ih_plan.specs.Cells.{cell_at, cell_count}
 use Rattle.ih_plan.proofs.ListedBelow.{has, tagged-keys}
 use Rattle.ih_plan.proofs.SumLemmas.{sum_below-le, length-which_below}
 use Rattle.ih_plan.specs.Series.{all_touch, footprint_of_all}
+use Rattle.ih_plan.proofs.TestLemmas.{bit-most}
 use Rattle.ih_cellbook.specs.Counters.{times_read}
 use Rattle.ih_cellbook.proofs.Committing.{footprint-below, footprint-touches}
 use Rattle.ih_cellbook.proofs.TimesRead.{times-once}
@@ -52,10 +53,6 @@ module _ (I : Draft) (P : Timetable) (m : List Move) where
       let most = sum_below-le (cell_count I) 1 (λ n. bit (all_touch I P m (cell_at I n))) (λ n h. bit-most (all_touch I P m (cell_at I n))) in
       omega (arith, len, most)
     where
-      bit-most : (t : Bool) → bit t ≤ 1
-      bit-most true = omega arith
-      bit-most false = omega arith
-
   pub foot-times : (n : ℕ) → n < cell_count I → times_listed n (footprint_of_all I P m) ≡ bit (all_touch I P m (cell_at I n))
   unfolding footprint_of_all
   foot-times n h =

@@ -9,7 +9,8 @@ use Rattle.ih_tables.specs.Places.{at_item}
 use Rattle.ih_tables.specs.Sizes.{nurse_count, shift_count}
 use Rattle.ih_plan.specs.Timetable.{Timetable, IsPlanOf}
 use Rattle.ih_format.specs.Checks.{Check}
-use Rattle.ih_format.specs.Flags.{is_set, is_among}
+use Rattle.ih_format.specs.Flags.{is_among}
+use Rattle.ih_tables.specs.Marks.{is_marked}
 use Rattle.ih_format.specs.Gives.{Gives, seen}
 use Rattle.ih_format.specs.declared.errors.FormatError.{FormatError}
 use Rattle.ih_format.specs.declared.errors.FormatError.TheVariants.{Refused, OutOfMemory}
@@ -36,7 +37,7 @@ pub record AreNursed (I : Draft) (p : Place) (vs : List Value) (i : ℕ) (flags 
 
 -- the flags and the timetable stand for the rows read so far
 as_read : {I : Draft} {p : Place} {vs : List Value} {i : ℕ} {flags : List Bool} {P Q : Timetable} (so_far : AreNursed I p vs i flags P Q)
-    → nurse_row I (is_set flags) (has_nurse Q) ≡ row_after I so_far.rows
+    → nurse_row I (is_marked flags) (has_nurse Q) ≡ row_after I so_far.rows
 as_read {I} {p} {vs} {i} {flags} {P} {Q} so_far =
     ap (λ (f : ℕ → Bool). nurse_row I f (has_nurse Q)) so_far.flagged.same ∙ ap (λ (R : Timetable). nurse_row I (is_among number so_far.rows) (has_nurse R)) so_far.same
 
@@ -51,7 +52,7 @@ are_nursed-none I p vs P plan e = record {
 
 pub are_nursed-more : {I : Draft} {p : Place} {vs : List Value} {i : ℕ} {flags : List Bool} {P Q : Timetable} (v : Value) (row : ListedNurse) (R : Timetable)
     → 1 ≤ I.days → AreNursed I p vs i flags P Q → i < length vs → v ≡ get_or vs i v
-    → nurse_row I (is_set flags) (has_nurse Q) (at_item i p) (view v) ≡ Ok row → IsListedNurse I Q row → IsPlanOf I R → R ≡ with_assignments row.nurse row.assignments Q
+    → nurse_row I (is_marked flags) (has_nurse Q) (at_item i p) (view v) ≡ Ok row → IsListedNurse I Q row → IsPlanOf I R → R ≡ with_assignments row.nurse row.assignments Q
     → AreNursed I p vs (i + 1) (slice_set flags row.nurse.0 true) P R
 unfolding cares_of
 are_nursed-more {I} {p} {vs} {i} {flags} {P} {Q} v row R some so_far h e ok fits plan gives = record {
@@ -65,7 +66,7 @@ are_nursed-more {I} {p} {vs} {i} {flags} {P} {Q} v row R some so_far h e ok fits
 -- where an item is refused, or memory runs out, so is the list
 pub are_nursed-exit : {I : Draft} {p : Place} {vs : List Value} {i : ℕ} {flags : List Bool} {P Q : Timetable} (g : List ListedNurse → Timetable) (v : Value)
     (e : FormatError) → AreNursed I p vs i flags P Q → i < length vs → v ≡ get_or vs i v
-    → Gives (λ (row : ListedNurse). row) (Err e) (nurse_row I (is_set flags) (has_nurse Q) (at_item i p) (view v)) → Gives (λ (R : Timetable). R) (Err e) (seen g (nurse_rows I p (map view vs)))
+    → Gives (λ (row : ListedNurse). row) (Err e) (nurse_row I (is_marked flags) (has_nurse Q) (at_item i p) (view v)) → Gives (λ (R : Timetable). R) (Err e) (seen g (nurse_rows I p (map view vs)))
 are_nursed-exit {I} {p} {vs} {i} {flags} {P} {Q} g v (Refused r) so_far h e fault =
     ap (seen g) (are_read-fault v r so_far.read h e (ap (λ (c : Check ListedNurse). c (at_item i p) (view v)) (sym (as_read so_far)) ∙ fault))
 are_nursed-exit g v OutOfMemory so_far h e fault = tt

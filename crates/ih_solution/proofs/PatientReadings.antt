@@ -14,7 +14,8 @@ use Rattle.ih_plan.specs.Timetable.{Timetable, empty, IsPlanOf, IsPlacement}
 use Rattle.ih_plan.specs.Writes.{put}
 use Rattle.ih_plan.proofs.PlanRanges.{empty-plan, put-plan}
 use Rattle.ih_format.specs.Checks.{Check}
-use Rattle.ih_format.specs.Flags.{is_set, is_among}
+use Rattle.ih_format.specs.Flags.{is_among}
+use Rattle.ih_tables.specs.Marks.{is_marked}
 use Rattle.ih_format.specs.Gives.{seen}
 use Rattle.ih_format.proofs.Flags.{AreFlagged, are_flagged-none, are_flagged-more}
 use Rattle.ih_format.proofs.Items.{AreRead, are_read-none, are_read-more, are_read-fault, are_read-all}
@@ -47,7 +48,7 @@ are_admitted-none I p vs P e = record {
 
 pub are_admitted-more : {I : Draft} {p : Place} {vs : List Value} {i : ℕ} {flags : List Bool} {P : Timetable} (v : Value) (row : ListedStay)
     → AreAdmitted I p vs i flags P → i < length vs → v ≡ get_or vs i v
-    → patient_row I (is_set flags) (at_item i p) (view v) ≡ Ok row → row.patient.0 < patient_count I → is_set flags row.patient.0 ≡ false → IfSome row.stay (IsPlacement I)
+    → patient_row I (is_marked flags) (at_item i p) (view v) ≡ Ok row → row.patient.0 < patient_count I → is_marked flags row.patient.0 ≡ false → IfSome row.stay (IsPlacement I)
     → AreAdmitted I p vs (i + 1) (slice_set flags row.patient.0 true) (put (SetStay row.patient row.stay) P)
 are_admitted-more {I} {p} {vs} {i} {flags} {P} v row so_far h e ok inside new placed = record {
   rows = so_far.rows ++ row ∷ [];
@@ -63,7 +64,7 @@ are_admitted-more {I} {p} {vs} {i} {flags} {P} v row so_far h e ok inside new pl
 
 pub are_admitted-fault : {I : Draft} {p : Place} {vs : List Value} {i : ℕ} {flags : List Bool} {P : Timetable} (v : Value) (r : Refusal)
     → AreAdmitted I p vs i flags P → i < length vs → v ≡ get_or vs i v
-    → patient_row I (is_set flags) (at_item i p) (view v) ≡ Err r → patient_rows I p (map view vs) ≡ Err r
+    → patient_row I (is_marked flags) (at_item i p) (view v) ≡ Err r → patient_rows I p (map view vs) ≡ Err r
 are_admitted-fault {I} {p} {vs} {i} {flags} {P} v r so_far h e fault =
     are_read-fault v r so_far.read h e (ap (λ (f : ℕ → Bool). patient_row I f (at_item i p) (view v)) (sym so_far.flagged.same) ∙ fault)
 

@@ -1,4 +1,5 @@
 pub mod BillLemmas
+pub mod MarkLemmas
 pub mod DistinctLemmas
 pub mod IndexLemmas
 pub mod LoadLemmas

@@ -1,5 +1,6 @@
 pub mod BillNumbers
 pub mod Bills
+pub mod Marks
 pub mod Lookups
 pub mod Places
 pub mod Sizes

@@ -60,7 +60,8 @@ fn total(a: &[i64]) -> i64
     sum
 }
 
-fn times(x: i64, w: i64) -> i64
+/// A number of a bill times its weight.
+pub fn times(x: i64, w: i64) -> i64
     requires low { neg_ℤ (pos (10 ^ 11)) ≤ℤ x }
     requires high { x ≤ℤ pos (10 ^ 11) }
     requires weight_low { pos 0 ≤ℤ w }

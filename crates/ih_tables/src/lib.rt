@@ -18,7 +18,7 @@ mod refusals;
 mod rosters;
 mod validity;
 
-pub use bills::{Bill, Weights};
+pub use bills::{Bill, Weights, times};
 pub use cells::Cell;
 pub use drafts::{Draft, Nurse, Occupant, Patient, Room, Surgeon, Theatre, WorkedShift};
 pub use ids::{Day, NurseNo, PatientNo, PersonNo, RoomNo, Shift, SurgeonNo, TheatreNo};

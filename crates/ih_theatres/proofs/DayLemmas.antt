@@ -7,6 +7,7 @@ use Rattle.std.proofs.Math.ListN.{get_or-map}
 use Rattle.std.proofs.lemmas.List.{length-set, length-map, get_or-set_same, get_or-set_other}
 use Rattle.std.proofs.lemmas.Bool.{cases_eq, eq-eqb, eqb-true, ne_eqb, or_cases, or_left, or_right}
 use Rattle.std.proofs.lemmas.List.Sums.{sum_by-cons}
+use Rattle.std.proofs.Math.Bool.{or-false}
 use Rattle.ih_tables.specs.declared.drafts.Draft.{Draft}
 use Rattle.ih_tables.specs.Sizes.{patient_count}
 use Rattle.ih_links.specs.Lists.{Linked, AreNodes, IsOnce, list_of, has, without, is_at}
@@ -80,16 +81,12 @@ module _ {I : Draft} {n : ℕ} {day : ℕ → Option ℕ} {v : Linked} (a : AreD
         here : (x : ℕ) → (has x (list_of v h) || (p == x)) ≡ is_at h (later x)
         here x = elim (cases_eq x p) [
           | inl e ↦ rw (e, eq-eqb p p refl, some, eq-eqb h h refl) (any (has p (list_of v h)))
-          | inr ne ↦ rw (ne_eqb p x (λ e. ne (sym e)), others x ne, a.each h x) (none_more (is_at h (day x)))
+          | inr ne ↦ rw (ne_eqb p x (λ e. ne (sym e)), others x ne, a.each h x) (or-false (is_at h (day x)))
         ]
           where
             any : (b : Bool) → (b || true) ≡ true
             any true = refl
             any false = refl
-
-            none_more : (b : Bool) → (b || false) ≡ b
-            none_more true = refl
-            none_more false = refl
 
         elsewhere : (g x : ℕ) → (g ≡ h → ⊥) → has x (list_of v g) ≡ is_at g (later x)
         elsewhere g x other = a.each g x ∙ elim (cases_eq x p) [

@@ -21,6 +21,7 @@ use Rattle.ih_plan.specs.Writes.{put}
 use Rattle.ih_plan.specs.Costs.{surgeon_of, duration_of, is_number, minutes}
 use Rattle.ih_plan.proofs.Entries.{stay_of-other, stay_of-same}
 use Rattle.ih_plan.proofs.Overtime.{from-all}
+use Rattle.ih_plan.proofs.ReadLemmas.{index-copies}
 use Rattle.ih_theatres.specs.declared.theatres.Theatres.{Theatres}
 use Rattle.ih_theatres.specs.Days.{AreDays, day_number, theatre_at, theatre_day, surgeon_day}
 use Rattle.ih_theatres.specs.Marks.{AreBelow}
@@ -28,7 +29,7 @@ use Rattle.ih_theatres.proofs.MarkLemmas.{AreMet}
 use Rattle.ih_theatres.specs.Ledger.{IsLedgerOf, theatre_in}
 use Rattle.ih_theatres.proofs.Told.{duration-is}
 use Rattle.ih_theatres.proofs.DayLemmas.{days-linked, days-entered, days-left}
-use Rattle.ih_theatres.proofs.MinuteLemmas.{blank, kept-below, kept-is, kept-most, kept-room, kept-enough, minutes-none, minutes-entered, minutes-left}
+use Rattle.ih_theatres.proofs.MinuteLemmas.{kept-below, kept-is, kept-most, kept-room, kept-enough, minutes-none, minutes-entered, minutes-left}
 use Rattle.ih_theatres.proofs.PartLemmas.{stay-read, theatre-known}
 
 -- ---- days
@@ -47,7 +48,7 @@ surgeon-known I p a is = ap (option_map (λ (a : Patient). a.surgeon_id.0)) is
 -- ---- the empty timetable
 
 pub nobody : (I : Draft) (p : ℕ) → stay_of (empty I) p ≡ None
-nobody I p = stay-read (replicate (patient_count I) None) p ∙ blank (patient_count I) p None
+nobody I p = stay-read (replicate (patient_count I) None) p ∙ index-copies (patient_count I) p None
 
 nowhere : (n : ℕ) → replicate n None ≡ map theatre_in (replicate n None)
 nowhere zero = refl
@@ -57,8 +58,8 @@ days-none : (I : Draft) (n : ℕ) (day : ℕ → Option ℕ) (v : Linked) → ((
 days-none I n day v none lists nodes = record {
   heads = ap length lists ∙ length-replicate (n * I.days) [];
   nodes = nodes;
-  each = λ h x. ap (λ ls. has x (slice_index_or ls h [])) lists ∙ (ap (has x) (blank (n * I.days) h []) ∙ ap (is_at h) (sym (none x)));
-  known = λ h. rw (lists, blank {A = List ℕ} (n * I.days) h []) record { below = λ x there. absurd (cc); once = tt };
+  each = λ h x. ap (λ ls. has x (slice_index_or ls h [])) lists ∙ (ap (has x) (index-copies (n * I.days) h []) ∙ ap (is_at h) (sym (none x)));
+  known = λ h. rw (lists, index-copies {A = List ℕ} (n * I.days) h []) record { below = λ x there. absurd (cc); once = tt };
 }
 
 pub ledger-new : (I : Draft) (l : Theatres) → l.theatres.items ≡ replicate (patient_count I) None

@@ -10,6 +10,7 @@ use Rattle.ih_tables.specs.declared.ids.TheatreNo.{TheatreNo}
 use Rattle.ih_links.specs.Lists.{without}
 use Rattle.ih_links.proofs.Members.{without-here, without-there}
 use Rattle.std.specs.List.{list_any}
+use Rattle.std.proofs.Math.Bool.{or-false}
 use Rattle.ih_plan.specs.Sums.{bit, count_below, sum_below}
 use Rattle.ih_plan.specs.Costs.{is_number}
 use Rattle.ih_plan.proofs.SumLemmas.{sum_below-same, sum_below-zero, sum_below-more}
@@ -25,16 +26,12 @@ unmarked i = ap (λ b. b == 1) (bit_at-zero i)
 pub marked-more : (marks m : ℕ) → m < 64 → (i : ℕ) → is_marked (bit_or marks (1 * 2 ^ m % 2 ^ 64)) i ≡ (is_marked marks i || (m == i))
 marked-more marks m few i = elim (cases_eq i m) [
   | inl same ↦ rw (same, bit_at_set_same w64 marks m few, eq-eqb m m refl) (any (bit_at marks m == 1))
-  | inr other ↦ rw (bit_at_set_other w64 marks m few i other, ne_eqb m i (λ e. other (sym e))) (none_more (bit_at marks i == 1))
+  | inr other ↦ rw (bit_at_set_other w64 marks m few i other, ne_eqb m i (λ e. other (sym e))) (sym (or-false (bit_at marks i == 1)))
 ]
   where
     any : (b : Bool) → true ≡ (b || true)
     any true = refl
     any false = refl
-
-    none_more : (b : Bool) → b ≡ (b || false)
-    none_more true = refl
-    none_more false = refl
 
 -- ---- how many are marked
 

@@ -1,5 +1,5 @@
 -- The minutes that are kept for each list of patients, where a patient comes or goes.
-use Rattle.std.proofs.Common.{◌≡◌, ℕ, zero, suc, ◌+◌, ◌-◌, ◌*◌, ◌≤◌, ◌<◌, refl, arith, sym, ap, ◌∙◌, List, [], ◌∷◌, ◌++◌, inl, inr, Option, Some, None, length, replicate}
+use Rattle.std.proofs.Common.{◌≡◌, ℕ, ◌+◌, ◌-◌, ◌*◌, ◌≤◌, ◌<◌, arith, sym, ap, ◌∙◌, List, [], ◌∷◌, ◌++◌, inl, inr, Option, Some, None, length, replicate}
 use Rattle.std.specs.Prelude.{map, slice_set, slice_index, slice_index_or}
 use Rattle.std.proofs.Math.ListN.{get_or-map}
 use Rattle.std.proofs.lemmas.List.{length-set, length-map, length-replicate, get_or_default, get_or-set_same, get_or-set_other}
@@ -9,21 +9,17 @@ use Rattle.ih_tables.specs.Sizes.{patient_count}
 use Rattle.ih_tables.specs.Valid.{IsValid}
 use Rattle.ih_links.specs.Lists.{Linked, list_of, without}
 use Rattle.ih_plan.specs.Costs.{duration_of, minutes}
+use Rattle.ih_plan.proofs.ReadLemmas.{index-copies}
 use Rattle.ih_theatres.specs.Days.{AreDays, AreMinutes}
 use Rattle.ih_theatres.proofs.Told.{list-most}
 use Rattle.ih_theatres.proofs.DayLemmas.{nodes-append, days-free, days-there, days-away}
 use Rattle.ih_theatres.proofs.OtherPatients.{minutes-there, minutes-away, more-minutes}
 
-pub blank : {A : Type 0} (n i : ℕ) (d : A) → slice_index_or (replicate n d) i d ≡ d
-blank zero i d = refl
-blank (suc n) zero d = refl
-blank (suc n) (suc i) d = blank n i d
-
 -- nobody is in any list
 pub minutes-none : (I : Draft) (n : ℕ) (v : Linked) (kept : List ℕ) → v.lists ≡ replicate n [] → kept ≡ replicate n 0 → AreMinutes I v kept
 minutes-none I n v kept lists zeros = record {
   len = ap length zeros ∙ (length-replicate n 0 ∙ sym (ap length lists ∙ length-replicate n []));
-  sums = λ h. ap (λ ms. slice_index ms h) zeros ∙ (blank n h 0 ∙ sym (ap (λ ls. minutes I (slice_index_or ls h [])) lists ∙ ap (minutes I) (blank n h [])));
+  sums = λ h. ap (λ ms. slice_index ms h) zeros ∙ (index-copies n h 0 ∙ sym (ap (λ ls. minutes I (slice_index_or ls h [])) lists ∙ ap (minutes I) (index-copies n h [])));
 }
 
 module _ {I : Draft} {n : ℕ} {day : ℕ → Option ℕ} {v : Linked} {kept : List ℕ} (days : AreDays I n day v) (a : AreMinutes I v kept) (h : ℕ) (below : h < n * I.days) where

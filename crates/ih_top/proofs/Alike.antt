@@ -2,7 +2,7 @@
 use Rattle.std.proofs.Common.{◌≡◌, ◌∙◌, ℕ, refl, sym, ap, ap₂, subst, List, Option, Some, None}
 use Rattle.std.specs.Prelude.{Ok}
 use Rattle.ih_tables.specs.declared.drafts.Draft.{Draft}
-use Rattle.ih_plan.specs.Fill.{fill}
+use Rattle.ih_fill.specs.Fill.{fill}
 use Rattle.ih_plan.specs.Timetable.{Timetable, empty}
 use Rattle.ih_journal.specs.declared.entries.Entry.{Entry}
 use Rattle.ih_journal.specs.declared.settings.Options.{Options}

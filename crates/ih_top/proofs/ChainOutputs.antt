@@ -1,9 +1,7 @@
 -- What a run of chains makes to be written and said.
-use Rattle.std.proofs.Common.{◌≡◌, ◌∙◌, ℕ, ◌<◌, ◌^◌, refl, sym, ap, ap₂, arith, false, true, length, List, Option, Some, None}
+use Rattle.std.proofs.Common.{◌≡◌, ◌∙◌, ℕ, ◌<◌, ◌^◌, sym, ap, ap₂, arith, false, true, length, List, Option, Some, None}
 use Rattle.std.specs.Prelude.{ℤ}
-use Rattle.std.proofs.lemmas.Bool.{le-ltb}
 use Rattle.std.proofs.lemmas.List.{length-map}
-use Rattle.ih_plan.specs.declared.moves.Placement.{Placement}
 use Rattle.ih_plan.specs.BillOf.{bill_of}
 use Rattle.ih_plan.specs.Timetable.{Timetable, stay_of}
 use Rattle.ih_journal.specs.Base.{Base}
@@ -12,6 +10,7 @@ use Rattle.ih_journal.specs.Frozen.{AgreesBefore, is_before}
 use Rattle.ih_journal.specs.History.{plan_at}
 use Rattle.ih_cellbook.specs.Keeping.{IsBase}
 use Rattle.ih_cellbook.proofs.EntryLimits.{legal-few}
+use Rattle.ih_cellbook.proofs.Unfrozen.{none-before}
 use Rattle.ih_chain.specs.declared.entries.ChainEntry.{ChainEntry}
 use Rattle.ih_chain.specs.Entries.{chain_tried, chain_tries}
 use Rattle.ih_chain.specs.Runs.{IsRunOf, Ran, best_plan}
@@ -22,10 +21,6 @@ use Rattle.ih_top.specs.Outputs.{HasBestOutput}
 use Rattle.ih_top.specs.Texts.{found_text}
 
 -- ---- nothing lies before day 0
-
-none-before : (stay : Option Placement) → is_before 0 stay ≡ false
-none-before None = refl
-none-before (Some at) = le-ltb at.day.0 0 (omega arith)
 
 agrees-free : (b : Base) (P : Timetable) → b.freeze ≡ 0 → AgreesBefore b P
 agrees-free b P free = record {

@@ -10,8 +10,7 @@ use Rattle.ih_words.specs.Check.{CheckCall}
 use Rattle.ih_words.specs.Generate.{GenCall}
 use Rattle.ih_words.specs.Replay.{ReplayCall}
 use Rattle.ih_words.specs.Rounds.{RoundsCall}
-use Rattle.ih_words.specs.Words.{Call, call_of, solve, replay, salvage, check, chain, rounds, gen, demo, advise}
-use Rattle.ih_words.proofs.CallNames.{names-apart}
+use Rattle.ih_words.specs.Words.{Call, solve, replay, salvage, check, chain, rounds, gen, demo, advise}
 use Rattle.ih_shelf.specs.Outside.{IsWritten, MayBeWritten, Names, IfTold}
 use Rattle.ih_top.specs.declared.status.Status.{Status}
 use Rattle.ih_top.specs.declared.status.Status.TheVariants.{Done, Usage, ReadFault, InstanceRefused, StartRefused, NoneFound, WriteFault, OutOfMemory, JournalRefused, Infeasible, TooLong}
@@ -33,7 +32,7 @@ use Rattle.ih_top.specs.JournalFiles.{JournalRead}
 use Rattle.ih_top.specs.JournalHeading.{IsHeadless}
 use Rattle.ih_top.specs.Replay.{IsRefusedJournal, IsReplay}
 use Rattle.ih_top.specs.Salvage.{IsSalvage}
-use Rattle.ih_top.specs.Ends.{CallEnds, Ends, Leaves, OutDiffers, UsageEnds}
+use Rattle.ih_top.specs.Ends.{CallEnds, Ends, Leaves, UsageEnds}
 use Rattle.ih_top.proofs.RoundsWriting.{rounds-done-found, rounds-none-begun}
 use Rattle.ih_top.proofs.AdviseAnswers.{advise-answerable}
 use Rattle.ih_top.proofs.Saying.{IsAnswerable, ended, memory-ended, said-answer, unsaid-by}
@@ -218,18 +217,6 @@ usage-ended gained part a result said concluded =
     ended UsageEnds usage-answerable gained part a result (said-answer UsageEnds usage-answerable Usage usage_text a refl said) concluded
 
 -- ---- any words
-
--- the words that name a call keep its solution apart from its journal
-pub out-apart : (words : List (List ℕ)) (call : Call) → call_of words ≡ Some call → OutDiffers call
-out-apart words (solve s) h = names-apart words (solve s) h
-out-apart words (replay r) h = tt
-out-apart words (salvage r) h = tt
-out-apart words (check c) h = tt
-out-apart words (chain c) h = names-apart words (chain c) h
-out-apart words (rounds r) h = names-apart words (rounds r) h
-out-apart words (advise a) h = tt
-out-apart words (gen g) h = tt
-out-apart words (demo number) h = tt
 
 -- ---- lack of memory before anything is done
 

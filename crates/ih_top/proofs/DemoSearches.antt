@@ -6,7 +6,7 @@ use Rattle.std.proofs.lemmas.List.Sums.{sum_by-cons}
 use Rattle.ih_tables.specs.declared.drafts.Draft.{Draft}
 use Rattle.ih_instance.specs.Instance.{instance}
 use Rattle.ih_gen.specs.Generated.{generated}
-use Rattle.ih_plan.specs.Fill.{fill}
+use Rattle.ih_fill.specs.Fill.{fill}
 use Rattle.ih_plan.specs.Timetable.{Timetable, empty}
 use Rattle.ih_journal.specs.declared.entries.Entry.{Entry}
 use Rattle.ih_journal.specs.declared.settings.Options.{Options}

@@ -1,6 +1,6 @@
 -- How a call of demo ends: what it had to say, by its status. It touches no file.
 use Rattle.std.specs.Prelude.{◌≡◌, ℕ, List, length, Option, Some, None, Ok}
-use Rattle.ih_plan.specs.Fill.{fill}
+use Rattle.ih_fill.specs.Fill.{fill}
 use Rattle.ih_plan.specs.Timetable.{empty}
 use Rattle.ih_journal.specs.declared.entries.Entry.{Entry}
 use Rattle.ih_journal.specs.declared.settings.Options.{Options}

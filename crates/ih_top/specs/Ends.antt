@@ -1,5 +1,5 @@
 -- How a call of the program ends: what it then has read, written and said, by its status.
-use Rattle.std.specs.Prelude.{◌≡◌, ◌≢◌, ℕ, ◌⊎◌, List, Option, Some, None}
+use Rattle.std.specs.Prelude.{◌≡◌, ℕ, ◌⊎◌, List, Option, Some, None}
 use Rattle.ih_tables.specs.declared.drafts.Draft.{Draft}
 use Rattle.ih_plan.specs.Timetable.{Timetable}
 use Rattle.ih_journal.specs.declared.entries.Entry.{Entry}
@@ -53,13 +53,6 @@ CallEnds (rounds r) old new status text = RoundsEnds r old new status text
 CallEnds (advise a) old new status text = IfTold Unchanged old new × AdviseEnds a old status text
 CallEnds (gen g) old new status text = GenEnds g old new status text
 CallEnds (demo number) old new status text = IfTold Unchanged old new × DemoEnds number status text
-
--- the file of the solution isn't that of the journal
-abbrev pub OutDiffers : Call → Type 0
-OutDiffers (solve s) = s.out ≢ s.journal
-OutDiffers (chain c) = c.search.out ≢ c.search.journal
-OutDiffers (rounds r) = r.search.out ≢ r.search.journal
-OutDiffers call = Unit {0}
 
 -- At each status the sink gained the text that the call had to say there. At `OutOfMemory` it may be instead that the
 -- sink wanted memory itself, and gained a part of the text of a status that the call had reached.

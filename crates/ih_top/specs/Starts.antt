@@ -1,7 +1,7 @@
 -- What a search starts from, by the files and the words.
 use Rattle.std.specs.Prelude.{◌≡◌, ℕ, Bool, true, false, List, Option}
 use Rattle.ih_tables.specs.declared.drafts.Draft.{Draft}
-use Rattle.ih_plan.specs.Fill.{fill}
+use Rattle.ih_fill.specs.Fill.{fill}
 use Rattle.ih_plan.specs.Timetable.{Timetable}
 use Rattle.ih_journal.specs.Base.{Base}
 use Rattle.ih_words.specs.Start.{StartCall}

@@ -1,9 +1,9 @@
 //! The commands, each by its own module.
 
 ghost use Rattle.std.specs.Prelude.{◌≡◌};
-ghost use Rattle.ih_words.specs.Words.{HasLawfulOptions, command_call};
+ghost use Rattle.ih_words.specs.Words.{HasLawfulOptions, command_call, OutDiffers};
 ghost use Rattle.ih_top.specs.Answers.{Answers, HasShelfCause};
-ghost use Rattle.ih_top.specs.Ends.{CallEnds, OutDiffers};
+ghost use ghost use Rattle.ih_top.specs.Ends.{CallEnds};
 
 use crate::advise::advise;
 use crate::answer::Answer;

@@ -1,5 +1,5 @@
 -- The workload of each nurse, person by person in place of room by room.
-use Rattle.std.proofs.Common.{◌≡◌, ℕ, zero, suc, ◌+◌, ◌-◌, ◌*◌, ◌<◌, ◌≤◌, refl, arith, sym, subst, ◌∙◌, Bool, true, false, List, length, replicate, Option, Some, None}
+use Rattle.std.proofs.Common.{◌≡◌, ℕ, ◌+◌, ◌-◌, ◌*◌, ◌<◌, ◌≤◌, refl, arith, sym, subst, ◌∙◌, Bool, true, false, List, length, replicate, Option, Some, None}
 use Rattle.std.specs.Prelude.{if◌then◌else◌, ◌==◌, ◌&&◌, nat_lt, slice_get, slice_index, option_map}
 use Rattle.std.proofs.lemmas.Bool.{eq-eqb, ne_eqb}
 use Rattle.std.proofs.Math.ListN.{length-replicate}
@@ -17,14 +17,11 @@ use Rattle.ih_plan.proofs.SumLemmas.{sum_below-zero, sum_below-more, sum_below-s
 use Rattle.ih_plan.proofs.SumBounds.{sum_below-none, sum_below-swap}
 use Rattle.ih_plan.proofs.Loads.{person_load, nurse_load, room_load-sum}
 use Rattle.ih_plan.proofs.Overtime.{from-all}
+use Rattle.ih_plan.proofs.TestLemmas.{if-none, if-most}
+use Rattle.ih_plan.proofs.ReadLemmas.{index-copies}
 use Rattle.ih_validate.specs.Members.{carer_in, carer_of}
 
 -- ---- sums with one term
-
--- nothing, either way
-nothing : (b : Bool) → ◌≡◌ {A = ℕ} (if b then 0 else 0) 0
-nothing true = refl
-nothing false = refl
 
 -- a sum whose terms but one are 0
 sum-at : (m k : ℕ) (f : ℕ → ℕ) → k < m → ((i : ℕ) → i < m → (i ≡ k → ⊥) → f i ≡ 0) → sum_below m f ≡ f k
@@ -74,15 +71,15 @@ one_room : (I : Draft) (P : Timetable) (n k w len : ℕ) (o : Option Admission) 
     → sum_below (room_count I) (λ r. if is_number (care_of P r k) n then (if is_in o len r (day_of k) then w else 0) else 0)
     ≡ (if is_number (carer_in P o len k) n then w else 0)
 one_room I P n k w len None h =
-    sum_below-same (room_count I) (λ r. if is_number (care_of P r k) n then 0 else 0) (λ r. 0) (λ r l. nothing (is_number (care_of P r k) n)) ∙ sum_below-none (room_count I)
+    sum_below-same (room_count I) (λ r. if is_number (care_of P r k) n then 0 else 0) (λ r. 0) (λ r l. if-none (is_number (care_of P r k) n)) ∙ sum_below-none (room_count I)
 one_room I P n k w len (Some a) h =
     sum-at (room_count I) a.room (λ r. if is_number (care_of P r k) n then (if (a.room == r) && covers a.day len (day_of k) then w else 0) else 0) (h a refl)
-    (λ i l ne. rw (ne_eqb a.room i (λ e. ne (sym e))) (nothing (is_number (care_of P i k) n)))
+    (λ i l ne. rw (ne_eqb a.room i (λ e. ne (sym e))) (if-none (is_number (care_of P i k) n)))
     ∙ rw (eq-eqb a.room a.room refl) (by_case (covers a.day len (day_of k)))
   where
     by_case : (b : Bool) → (if is_number (care_of P a.room k) n then (if b then w else 0) else 0) ≡ (if is_number (if b then care_of P a.room k else None) n then w else 0)
     by_case true = refl
-    by_case false = nothing (is_number (care_of P a.room k) n)
+    by_case false = if-none (is_number (care_of P a.room k) n)
 
 abbrev room_part : Draft → Timetable → ℕ → ℕ → ℕ → ℕ → ℕ
 room_part I P n k r x = if is_number (care_of P r k) n then person_load I P k r x else 0
@@ -101,15 +98,6 @@ load-by_person I P n k valid plan = sym (
 
 -- ---- the table of loads
 
-zeros : (n i : ℕ) → slice_index (replicate n 0) i ≡ 0
-zeros zero i = refl
-zeros (suc n) zero = refl
-zeros (suc n) (suc i) = zeros n i
-
-at_most : (b : Bool) (x : ℕ) → (if b then x else 0) ≤ x
-at_most true x = omega arith
-at_most false x = omega arith
-
 -- the table has what the first x persons add
 pub record AreLoads (I : Draft) (P : Timetable) (k x : ℕ) (loads : List ℕ) : Type 0 where
   pub len : length loads ≡ 512
@@ -119,8 +107,8 @@ pub record AreLoads (I : Draft) (P : Timetable) (k x : ℕ) (loads : List ℕ) :
 pub are_loads-none : (I : Draft) (P : Timetable) (k : ℕ) → AreLoads I P k 0 (replicate 512 0)
 are_loads-none I P k = record {
   len = length-replicate {A = ℕ} 512 0;
-  each = λ n. zeros 512 n ∙ sym (sum_below-zero (nurse_part I P n k));
-  small = λ n. omega (arith, zeros 512 n);
+  each = λ n. index-copies {X = ℕ} 512 n 0 ∙ sym (sum_below-zero (nurse_part I P n k));
+  small = λ n. omega (arith, index-copies {X = ℕ} 512 n 0);
 }
 
 pub are_loads-more : {I : Draft} {P : Timetable} {k x : ℕ} {loads : List ℕ} (new : List ℕ) (carer : Option ℕ) (load : ℕ) → AreLoads I P k x loads
@@ -129,5 +117,5 @@ pub are_loads-more : {I : Draft} {P : Timetable} {k x : ℕ} {loads : List ℕ} 
 are_loads-more {I} {P} {k} {x} {loads} new carer load so_far who much most long added = record {
   len = long ∙ so_far.len;
   each = λ n. added n ∙ rw (so_far.each n, sum_below-more x (nurse_part I P n k), who, much) refl;
-  small = λ n. omega (arith, added n, so_far.small n, at_most (is_number carer n) load);
+  small = λ n. omega (arith, added n, so_far.small n, if-most (is_number carer n) load);
 }

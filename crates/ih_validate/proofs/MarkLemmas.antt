@@ -1,14 +1,8 @@
 -- Marks on the numbers that were met.
-use Rattle.std.proofs.Common.{◌≡◌, ℕ, zero, suc, refl, ap, Bool, false, List, replicate}
+use Rattle.std.proofs.Common.{◌≡◌, ℕ, ap, Bool, List}
 use Rattle.ih_plan.specs.Sums.{bit, count_below}
 use Rattle.ih_plan.proofs.SumLemmas.{sum_below-same}
-use Rattle.ih_validate.specs.Marks.{is_marked}
-
--- no number is marked yet
-pub unmarked : (n i : ℕ) → is_marked (replicate n false) i ≡ false
-unmarked zero i = refl
-unmarked (suc n) zero = refl
-unmarked (suc n) (suc i) = unmarked n i
+use Rattle.ih_tables.specs.Marks.{is_marked}
 
 -- the numbers that are marked are as many as those that were met
 pub count-met : (n : ℕ) (marks : List Bool) (met : ℕ → Bool) → ((i : ℕ) → is_marked marks i ≡ met i) → count_below n (is_marked marks) ≡ count_below n met

@@ -1,6 +1,6 @@
 -- Sums so far of bounded terms, as a loop over the numbers below n keeps them.
-use Rattle.std.proofs.Common.{◌≡◌, ℕ, suc, ◌+◌, ◌*◌, ◌<◌, ◌≤◌, arith, refl, sym, Bool, true, false}
-use Rattle.ih_plan.specs.Sums.{sum_below, bit}
+use Rattle.std.proofs.Common.{◌≡◌, ℕ, suc, ◌+◌, ◌*◌, ◌<◌, ◌≤◌, arith, refl, sym}
+use Rattle.ih_plan.specs.Sums.{sum_below}
 use Rattle.ih_plan.specs.Presence.{day_of}
 use Rattle.ih_plan.proofs.SumLemmas.{sum_below-zero, sum_below-more}
 
@@ -37,7 +37,3 @@ is_sum-day {s} {b} {f} d x so_far e h = record {
       omega (arith, so_far.value, day, terms);
   small = omega (arith, so_far.small);
 }
-
-pub bit-most : (b : Bool) → bit b ≤ 1
-bit-most true = omega arith
-bit-most false = omega arith

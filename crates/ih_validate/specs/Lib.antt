@@ -1,4 +1,3 @@
 pub mod Report
-pub mod Marks
 pub mod Members
 pub mod Rooms

@@ -3,7 +3,7 @@
 ghost use Rattle.std.specs.Prelude.{◌≡◌, ◌<◌, ◌≤◌, ◌||◌, ℕ, length, IfSome};
 ghost use Rattle.ih_plan.specs.Costs.{is_number};
 ghost use Rattle.ih_plan.specs.Sums.{count_below};
-ghost use Rattle.ih_validate.specs.Marks.{is_marked};
+ghost use Rattle.ih_tables.specs.Marks.{is_marked};
 
 use crate::patients::bit;
 

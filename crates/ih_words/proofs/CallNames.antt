@@ -18,14 +18,7 @@ use Rattle.ih_words.specs.Replay.{lawful_replay, replay_app}
 use Rattle.ih_words.specs.Rounds.{lawful_rounds, rounds_app}
 use Rattle.ih_words.specs.Solve.{SolveCall, is_lawful_solve, lawful_solve, solve_app, solve_files, solve_in}
 use Rattle.ih_words.specs.Start.{freezes_a_file, start_files}
-use Rattle.ih_words.specs.Words.{Call, call_of, call_named, chain, check, demo, gen, replay, rounds, salvage, solve, advise}
-
--- the file of the solution isn't that of the journal, where a call writes both
-abbrev pub HasNamesApart : Call → Type 0
-HasNamesApart (solve s) = s.out ≢ s.journal
-HasNamesApart (chain c) = c.search.out ≢ c.search.journal
-HasNamesApart (rounds r) = r.search.out ≢ r.search.journal
-HasNamesApart call = Unit {0}
+use Rattle.ih_words.specs.Words.{Call, call_of, call_named, chain, check, demo, gen, replay, rounds, salvage, solve, advise, OutDiffers}
 
 files-apart : (s : SolveCall) → all_differ (solve_files s) ≡ true → s.out ≢ s.journal
 unfolding all_differ
@@ -41,15 +34,15 @@ files-apart s differ same =
 -- ---- what the values of a command give
 
 -- a command all of whose calls have their names apart
-any : {A : Type 0} (make : A → Call) → ((x : A) → HasNamesApart (make x)) → (o : Option A) (call : Call)
-    → option_map make o ≡ Some call → HasNamesApart call
+any : {A : Type 0} (make : A → Call) → ((x : A) → OutDiffers (make x)) → (o : Option A) (call : Call)
+    → option_map make o ≡ Some call → OutDiffers call
 any make apart None call e = absurd (let no-way : None ≡ Some call = e in cc)
-any make apart (Some x) call e = subst HasNamesApart (let f : Some (make x) ≡ Some call = e in cc) (apart x)
+any make apart (Some x) call e = subst OutDiffers (let f : Some (make x) ≡ Some call = e in cc) (apart x)
 
 -- a command whose lawful calls do
-lawful : {A : Type 0} (make : A → Call) (no-fault is-lawful : Bool) (x : A) → (is-lawful ≡ true → HasNamesApart (make x)) → (call : Call)
-    → option_map make (if no-fault then if is-lawful then Some x else None else None) ≡ Some call → HasNamesApart call
-lawful make true true x apart call e = subst HasNamesApart (let f : Some (make x) ≡ Some call = e in cc) (apart refl)
+lawful : {A : Type 0} (make : A → Call) (no-fault is-lawful : Bool) (x : A) → (is-lawful ≡ true → OutDiffers (make x)) → (call : Call)
+    → option_map make (if no-fault then if is-lawful then Some x else None else None) ≡ Some call → OutDiffers call
+lawful make true true x apart call e = subst OutDiffers (let f : Some (make x) ≡ Some call = e in cc) (apart refl)
 lawful make true false x apart call e = absurd (let no-way : None ≡ Some call = e in cc)
 lawful make false is-lawful x apart call e = absurd (let no-way : None ≡ Some call = e in cc)
 
@@ -61,15 +54,15 @@ moved of true false x = refl
 moved of false is-lawful x = refl
 
 -- the command whose name this is, or one of the rest
-either : (t : Bool) (o rest : Option Call) (call : Call) → (o ≡ Some call → HasNamesApart call) → (rest ≡ Some call → HasNamesApart call)
-    → (if t then o else rest) ≡ Some call → HasNamesApart call
+either : (t : Bool) (o rest : Option Call) (call : Call) → (o ≡ Some call → OutDiffers call) → (rest ≡ Some call → OutDiffers call)
+    → (if t then o else rest) ≡ Some call → OutDiffers call
 either true o rest call own others e = own e
 either false o rest call own others e = others e
 
 -- ---- the commands
 
 module _ (words : List Text) (call : Call) where
-  by_solve : option_map solve (call_by solve_app lawful_solve words) ≡ Some call → HasNamesApart call
+  by_solve : option_map solve (call_by solve_app lawful_solve words) ≡ Some call → OutDiffers call
   by_solve =
       let rows = matches_of solve_app words in
       lawful solve (has_no_fault solve_app words) (freezes_a_file rows && is_lawful_solve (solve_in rows)) (solve_in rows)
@@ -77,8 +70,8 @@ module _ (words : List Text) (call : Call) where
 
   -- a command with a plain search
   by_plain : {A : Type 0} (make : A → Call) (of : PlainCall → A) (app : App) (id : Text)
-      → ((c : PlainCall) → c.search.out ≢ c.search.journal → HasNamesApart (make (of c)))
-      → option_map make (call_by app (λ rows. option_map of (lawful_plain id rows)) words) ≡ Some call → HasNamesApart call
+      → ((c : PlainCall) → c.search.out ≢ c.search.journal → OutDiffers (make (of c)))
+      → option_map make (call_by app (λ rows. option_map of (lawful_plain id rows)) words) ≡ Some call → OutDiffers call
   by_plain make of app id apart e =
       let rows = matches_of app words in
       let c : PlainCall = record { search = plain_search_in rows; number = number_at id rows } in
@@ -87,13 +80,13 @@ module _ (words : List Text) (call : Call) where
       lawful make no-fault is-lawful (of c) (λ h. apart c (files-apart c.search (and_parts (all_differ (solve_files c.search)) _ h).0)) call
       (ap (option_map make) (sym (moved of no-fault is-lawful c)) ∙ e)
 
-  by_chain : option_map chain (call_by chain_app lawful_chain words) ≡ Some call → HasNamesApart call
+  by_chain : option_map chain (call_by chain_app lawful_chain words) ≡ Some call → OutDiffers call
   by_chain = by_plain chain (λ c. record { search = c.search; length = c.number }) chain_app (codes "length") (λ c h. h)
 
-  by_rounds : option_map rounds (call_by rounds_app lawful_rounds words) ≡ Some call → HasNamesApart call
+  by_rounds : option_map rounds (call_by rounds_app lawful_rounds words) ≡ Some call → OutDiffers call
   by_rounds = by_plain rounds (λ c. record { search = c.search; rounds = c.number }) rounds_app (codes "rounds") (λ c h. h)
 
-  by_name : (name : Text) → call_named name words ≡ Some call → HasNamesApart call
+  by_name : (name : Text) → call_named name words ≡ Some call → OutDiffers call
   by_name name =
       either (bytes_eq name (codes "solve")) _ _ call by_solve
       (either (bytes_eq name (codes "replay")) _ _ call (any replay (λ x. tt) (call_by (replay_app (codes "replay")) lawful_replay words) call)
@@ -106,11 +99,11 @@ module _ (words : List Text) (call : Call) where
       (either (bytes_eq name (codes "demo")) _ _ call (any demo (λ x. tt) (call_by demo_app lawful_demo words) call)
       (λ e. absurd (let no-way : None ≡ Some call = e in cc))))))))))
 
-  by_first : (o : Option Text) → option_and_then (λ name. call_named name words) o ≡ Some call → HasNamesApart call
+  by_first : (o : Option Text) → option_and_then (λ name. call_named name words) o ≡ Some call → OutDiffers call
   by_first None e = absurd (let no-way : None ≡ Some call = e in cc)
   by_first (Some name) e = by_name name e
 
 -- the solution and the journal of the call that the words name go to two files
-pub names-apart : (words : List Text) (call : Call) → call_of words ≡ Some call → HasNamesApart call
+pub names-apart : (words : List Text) (call : Call) → call_of words ≡ Some call → OutDiffers call
 unfolding call_of
 names-apart words call e = by_first words call (slice_get words 0) e

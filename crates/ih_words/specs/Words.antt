@@ -1,5 +1,5 @@
 -- Which call the words of a command line name. The words are those after the program's name.
-use Rattle.std.specs.Prelude.{ℕ, List, Option, None, codes, if◌then◌else◌, option_and_then, option_map, slice_get}
+use Rattle.std.specs.Prelude.{ℕ, ◌≢◌, List, Option, None, codes, if◌then◌else◌, option_and_then, option_map, slice_get}
 use Rattle.std.specs.Str.{bytes_eq}
 use Rattle.clap.specs.Words.{Text}
 use Rattle.ih_journal.specs.Settings.{IsLawful}
@@ -26,6 +26,13 @@ pub data Call : Type 0 where
   advise : AdviseCall → Call
   gen : GenCall → Call
   demo : ℕ → Call
+
+-- the file of the solution isn't that of the journal, where a call writes both
+abbrev pub OutDiffers : Call → Type 0
+OutDiffers (solve s) = s.out ≢ s.journal
+OutDiffers (chain c) = c.search.out ≢ c.search.journal
+OutDiffers (rounds r) = r.search.out ≢ r.search.journal
+OutDiffers call = Unit {0}
 
 -- the call that a command's values stand for
 abbrev pub command_call : Command → Call

@@ -5,7 +5,7 @@ ghost use Rattle.serde_json.specs.View.{view};
 ghost use Rattle.ih_tables.specs.Sizes.{nurse_count, room_count, shift_count};
 ghost use Rattle.ih_plan.specs.Timetable.{IsPlanOf};
 ghost use Rattle.ih_format.specs.Gives.{Gives, seen};
-ghost use Rattle.ih_format.specs.Flags.{is_set};
+ghost use Rattle.ih_tables.specs.Marks.{is_marked};
 ghost use Rattle.ih_format.specs.Checks.{each, under};
 ghost use Rattle.ih_solution.specs.Assigned.{IsFree, IsAssignment, IsListedNurse};
 ghost use Rattle.ih_solution.specs.Reading.{has_nurse, free_room, free_rooms, assignment, assignments, nurse_row, nurse_rows, nurses, cares_of};
@@ -157,10 +157,10 @@ fn nurse_row(
 ) -> Result<ListedNurse, FormatError>
     requires plan { IsPlanOf inst.now.draft plan.now }
     requires earlier { length earlier.now ≡ nurse_count inst.now.draft }
-    ensures new { IfOk result (λ row. is_set earlier.now row.nurse.0 ≡ false) }
+    ensures new { IfOk result (λ row. is_marked earlier.now row.nurse.0 ≡ false) }
     ensures fits { IfOk result (IsListedNurse inst.now.draft plan.now) }
     ensures gives { Gives (λ row. row) result
-        (nurse_row inst.now.draft (is_set earlier.now) (has_nurse plan.now) at (view value.now)) }
+        (nurse_row inst.now.draft (is_marked earlier.now) (has_nurse plan.now) at (view value.now)) }
 {
     let _ = kinds::object(value, at)?;
     let id = kinds::value_of(value, Key::Id, at)?;

@@ -5,7 +5,7 @@ ghost use Rattle.serde_json.specs.View.{view};
 ghost use Rattle.ih_tables.specs.Sizes.{patient_count};
 ghost use Rattle.ih_plan.specs.Timetable.{IsPlanOf, IsPlacement};
 ghost use Rattle.ih_format.specs.Gives.{Gives, seen};
-ghost use Rattle.ih_format.specs.Flags.{is_set};
+ghost use Rattle.ih_tables.specs.Marks.{is_marked};
 ghost use Rattle.ih_format.specs.Checks.{under};
 ghost use Rattle.ih_solution.specs.Reading.{no_day, admission_day, placement_on, patient_row, patient_rows, patients, timetable_of};
 
@@ -74,9 +74,9 @@ fn patient_row(
 ) -> Result<ListedStay, Refusal>
     requires { length earlier.now ≡ patient_count inst.now.draft }
     ensures inside { IfOk result (λ row. row.patient.0 < patient_count inst.now.draft) }
-    ensures new { IfOk result (λ row. is_set earlier.now row.patient.0 ≡ false) }
+    ensures new { IfOk result (λ row. is_marked earlier.now row.patient.0 ≡ false) }
     ensures placed { IfOk result (λ row. IfSome row.stay (IsPlacement inst.now.draft)) }
-    ensures gives { result ≡ patient_row inst.now.draft (is_set earlier.now) at (view value.now) }
+    ensures gives { result ≡ patient_row inst.now.draft (is_marked earlier.now) at (view value.now) }
 {
     let _ = kinds::object(value, at)?;
     let id = kinds::value_of(value, Key::Id, at)?;

@@ -3,7 +3,7 @@ use Rattle.std.specs.Prelude.{ℤ}
 use Rattle.ih_tables.specs.declared.drafts.Draft.{Draft}
 use Rattle.ih_plan.specs.declared.moves.Write.{Write}
 use Rattle.ih_plan.specs.declared.moves.Write.TheVariants.{SetStay}
-use Rattle.ih_plan.specs.Fill.{cheapest, stay_writes}
+use Rattle.ih_fill.specs.Fill.{cheapest, stay_writes}
 use Rattle.ih_fill.specs.declared.candidates.Candidate.{Candidate}
 use Rattle.ih_fill.specs.Candidates.{valued}
 use Rattle.ih_fill.specs.Scoring.{stay_value}

@@ -4,7 +4,7 @@ use Rattle.ih_tables.specs.declared.drafts.Draft.{Draft}
 use Rattle.ih_plan.specs.declared.moves.Write.{Write}
 use Rattle.ih_plan.specs.declared.moves.Write.TheVariants.{SetCare}
 use Rattle.ih_plan.specs.Writes.{IsWriteOf}
-use Rattle.ih_plan.specs.Fill.{care_writes}
+use Rattle.ih_fill.specs.Fill.{care_writes}
 use Rattle.ih_fill.specs.declared.candidates.Candidate.{Candidate}
 use Rattle.ih_fill.specs.Candidates.{least_of, valued}
 use Rattle.ih_fill.specs.Scoring.{care_value}

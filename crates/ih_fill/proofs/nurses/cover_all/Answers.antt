@@ -1,7 +1,7 @@
 use Rattle.std.proofs.Common.{◌∙◌, ap}
 use Rattle.ih_tables.specs.Sizes.{room_count}
 use Rattle.ih_plan.specs.Timetable.{Timetable}
-use Rattle.ih_plan.specs.Fill.{with_cares}
+use Rattle.ih_fill.specs.Fill.{with_cares}
 use Rattle.ih_fill.specs.Candidates.{rooms_in}
 use Rattle.ih_fill.specs.Scoring.{Scoring}
 use Rattle.ih_fill.proofs.PassLemmas.{shifts-more}

@@ -2,7 +2,7 @@ use Rattle.std.proofs.Common.{◌≡◌}
 use Rattle.std.specs.Prelude.{flat_map}
 use Rattle.std.specs.List.{range_with_len}
 use Rattle.ih_tables.specs.Sizes.{room_count}
-use Rattle.ih_plan.specs.Fill.{with_cares}
+use Rattle.ih_fill.specs.Fill.{with_cares}
 use Rattle.ih_fill.specs.Candidates.{rooms_in}
 use Rattle.ih_fill.proofs.nurses.cover_all.Given as goal
 

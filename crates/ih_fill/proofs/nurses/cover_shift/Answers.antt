@@ -1,6 +1,6 @@
 use Rattle.std.proofs.Common.{◌∙◌, ap}
 use Rattle.ih_plan.specs.Timetable.{Timetable}
-use Rattle.ih_plan.specs.Fill.{with_care}
+use Rattle.ih_fill.specs.Fill.{with_care}
 use Rattle.ih_fill.specs.Scoring.{Scoring}
 use Rattle.ih_fill.proofs.PassLemmas.{cares-more}
 use Rattle.ih_fill.proofs.nurses.cover_shift.Goals as goal

@@ -1,5 +1,5 @@
 use Rattle.std.proofs.Common.{◌≡◌}
-use Rattle.ih_plan.specs.Fill.{with_cares}
+use Rattle.ih_fill.specs.Fill.{with_cares}
 use Rattle.ih_fill.specs.Candidates.{rooms_in}
 use Rattle.ih_fill.proofs.nurses.cover_shift.Given as goal
 

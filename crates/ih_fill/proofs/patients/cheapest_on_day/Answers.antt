@@ -4,7 +4,7 @@ use Rattle.ih_tables.specs.Sizes.{room_count, theatre_count}
 use Rattle.ih_plan.specs.declared.moves.Write.{Write}
 use Rattle.ih_plan.specs.declared.moves.Write.TheVariants.{SetStay}
 use Rattle.ih_plan.specs.Writes.{IsWriteOf}
-use Rattle.ih_plan.specs.Fill.{cheapest}
+use Rattle.ih_fill.specs.Fill.{cheapest}
 use Rattle.ih_fill.specs.declared.candidates.Candidate.{Candidate}
 use Rattle.ih_fill.specs.Candidates.{valued, stays_in, rooms_for}
 use Rattle.ih_fill.specs.Scoring.{stay_value}

@@ -2,7 +2,7 @@ use Rattle.std.proofs.Common.{◌≡◌, ◌∙◌, sym, ap}
 use Rattle.ih_tables.specs.declared.drafts.Draft.{Draft}
 use Rattle.ih_plan.specs.Timetable.{Timetable}
 use Rattle.ih_plan.specs.Writes.{put}
-use Rattle.ih_plan.specs.Fill.{cheapest, stay_writes, with_stay}
+use Rattle.ih_fill.specs.Fill.{cheapest, stay_writes, with_stay}
 use Rattle.ih_fill.specs.Candidates.{valued}
 use Rattle.ih_fill.specs.Scoring.{stay_value}
 use Rattle.ih_fill.proofs.PassLemmas.{stay-placed}

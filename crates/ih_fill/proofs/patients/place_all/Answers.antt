@@ -1,6 +1,6 @@
 use Rattle.std.proofs.Common.{◌∙◌, sym, ap, refl}
 use Rattle.ih_plan.specs.Timetable.{Timetable}
-use Rattle.ih_plan.specs.Fill.{with_stay}
+use Rattle.ih_fill.specs.Fill.{with_stay}
 use Rattle.ih_plan.specs.Sums.{which_below}
 use Rattle.ih_fill.specs.Scoring.{Scoring, is_waiting}
 use Rattle.ih_fill.proofs.PassLemmas.{stays-more, stays-same}

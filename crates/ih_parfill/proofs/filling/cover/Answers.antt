@@ -2,7 +2,7 @@ use Rattle.std.proofs.Common.{◌≡◌, ◌∙◌, sym, ap, subst, true, false,
 use Rattle.ih_tables.specs.declared.drafts.Draft.{Draft}
 use Rattle.ih_plan.specs.Timetable.{Timetable}
 use Rattle.ih_plan.specs.Writes.{IsWriteOf}
-use Rattle.ih_plan.specs.Fill.{care_writes, with_care}
+use Rattle.ih_fill.specs.Fill.{care_writes, with_care}
 use Rattle.ih_fill.specs.Candidates.{least_of}
 use Rattle.ih_fill.specs.Scoring.{care_value}
 use Rattle.ih_fill.proofs.PassLemmas.{needs_nurse, nurse-given, nurse-left}

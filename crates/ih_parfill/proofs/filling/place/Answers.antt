@@ -3,7 +3,7 @@ use Rattle.ih_tables.specs.declared.drafts.Draft.{Draft}
 use Rattle.ih_plan.specs.declared.moves.Write.TheVariants.{SetStay}
 use Rattle.ih_plan.specs.Timetable.{Timetable}
 use Rattle.ih_plan.specs.Writes.{IsWriteOf}
-use Rattle.ih_plan.specs.Fill.{stay_writes, with_stay}
+use Rattle.ih_fill.specs.Fill.{stay_writes, with_stay}
 use Rattle.ih_fill.specs.Candidates.{least_of}
 use Rattle.ih_fill.specs.Scoring.{stay_value}
 use Rattle.ih_parfill.proofs.Least.{as-many, never-none, least-found}

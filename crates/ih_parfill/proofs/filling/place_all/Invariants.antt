@@ -1,5 +1,5 @@
 use Rattle.std.proofs.Common.{◌≡◌, ◌≤◌, ◌+◌}
-use Rattle.ih_plan.specs.Fill.{with_stays}
+use Rattle.ih_fill.specs.Fill.{with_stays}
 use Rattle.ih_plan.specs.Sums.{which_below}
 use Rattle.ih_fill.specs.Scoring.{is_waiting}
 use Rattle.ih_parfill.proofs.filling.place_all.Given as goal

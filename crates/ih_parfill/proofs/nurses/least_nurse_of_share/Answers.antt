@@ -5,7 +5,7 @@ use Rattle.ih_tables.specs.Works.{max_load}
 use Rattle.ih_plan.specs.declared.moves.Write.{Write}
 use Rattle.ih_plan.specs.declared.moves.Write.TheVariants.{SetCare}
 use Rattle.ih_plan.specs.Sums.{which_below}
-use Rattle.ih_plan.specs.Fill.{care_writes}
+use Rattle.ih_fill.specs.Fill.{care_writes}
 use Rattle.ih_fill.specs.Scoring.{care_value}
 use Rattle.ih_fill.proofs.CandidateLemmas.{care-fits}
 use Rattle.ih_fill.proofs.ListLemmas.{which-more, which-same}

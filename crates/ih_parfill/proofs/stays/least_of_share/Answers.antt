@@ -6,7 +6,7 @@ use Rattle.ih_tables.specs.Sizes.{room_count}
 use Rattle.ih_plan.specs.declared.moves.Write.{Write}
 use Rattle.ih_plan.specs.declared.moves.Write.TheVariants.{SetStay}
 use Rattle.ih_plan.specs.Draws.{window_len}
-use Rattle.ih_plan.specs.Fill.{stay_writes}
+use Rattle.ih_fill.specs.Fill.{stay_writes}
 use Rattle.ih_fill.specs.Candidates.{stays_on}
 use Rattle.ih_fill.specs.Scoring.{stay_value}
 use Rattle.ih_fill.proofs.ListLemmas.{flat-more, stays-are}

@@ -1,5 +1,5 @@
 use Rattle.std.proofs.Common.{◌∙◌, ap, subst, sym, Some}
-use Rattle.ih_plan.specs.Fill.{fill}
+use Rattle.ih_fill.specs.Fill.{fill}
 use Rattle.ih_journal.specs.Base.{Base}
 use Rattle.ih_journal.specs.Best.{BestIs}
 use Rattle.ih_journal.specs.Legal.{AreLegal}

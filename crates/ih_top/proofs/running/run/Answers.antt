@@ -1,14 +1,15 @@
 use Rattle.std.proofs.Common.{refl, subst, sym}
 use Rattle.std.specs.Prelude.{map, string_bytes}
 use Rattle.ih_words.specs.Words.{Call, call_of, command_call}
+use Rattle.ih_words.proofs.CallNames.{names-apart}
 use Rattle.ih_top.specs.Ends.{CallEnds, Gained, GainedPart, Leaves}
-use Rattle.ih_top.proofs.CommandEnds.{call-answerable, memory-leaves, out-apart, told-same, usage-ended}
+use Rattle.ih_top.proofs.CommandEnds.{call-answerable, memory-leaves, told-same, usage-ended}
 use Rattle.ih_top.proofs.Saying.{ended, has-cause}
 use Rattle.ih_top.proofs.Completeness.{complete}
 use Rattle.ih_top.proofs.running.run.Goals as goal
 
 pub perform-answer-requires-clause-differ : goal.perform-answer-requires-clause-differ
-perform-answer-requires-clause-differ g c κs within = out-apart (map string_bytes c.args.words.now) (command_call c.in-Ok.command) c.in-Ok.ensures.ok
+perform-answer-requires-clause-differ g c κs within = names-apart (map string_bytes c.args.words.now) (command_call c.in-Ok.command) c.in-Ok.ensures.ok
 
 pub returns-in-Ok-clause-leaves : goal.returns-in-Ok-clause-leaves
 returns-in-Ok-clause-leaves g c =

@@ -2,7 +2,7 @@ use Rattle.std.proofs.Common.{◌≡◌, ℕ, length, map}
 use Rattle.std.specs.List.{list_any, range_with_len}
 use Rattle.ih_plan.specs.Costs.{is_number}
 use Rattle.ih_plan.specs.Timetable.{care_of}
-use Rattle.ih_validate.specs.Marks.{is_marked}
+use Rattle.ih_tables.specs.Marks.{is_marked}
 use Rattle.ih_validate.proofs.nurses.seen_in.Given as goal
 
 abbrev pub invariant-loop-j : goal.invariant-loop-j

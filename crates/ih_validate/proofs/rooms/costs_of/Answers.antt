@@ -2,8 +2,9 @@ use Rattle.std.proofs.Common.{◌≡◌, ◌∙◌, ◌<◌, arith, refl}
 use Rattle.std.proofs.lemmas.List.Elements.{All-same}
 use Rattle.ih_tables.specs.Sizes.{person_count}
 use Rattle.ih_plan.specs.Presence.{present}
+use Rattle.ih_plan.proofs.TestLemmas.{bit-most}
 use Rattle.ih_validate.specs.Rooms.{gender_mix, crowding, age_mix, bare_shift, skill_gap}
-use Rattle.ih_validate.proofs.Sums.{is_sum-none, is_sum-more, is_sum-day, bit-most}
+use Rattle.ih_validate.proofs.Sums.{is_sum-none, is_sum-more, is_sum-day}
 use Rattle.ih_validate.proofs.ListLemmas.{present-persons}
 use Rattle.ih_validate.proofs.rooms.costs_of.Goals as goal
 

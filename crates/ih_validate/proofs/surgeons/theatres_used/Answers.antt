@@ -3,12 +3,13 @@ use Rattle.std.proofs.Math.ListN.{length-replicate}
 use Rattle.std.proofs.lemmas.List.{take_all}
 use Rattle.std.specs.List.{list_any}
 use Rattle.ih_tables.specs.Sizes.{theatre_count}
+use Rattle.ih_tables.proofs.MarkLemmas.{none-marked}
 use Rattle.ih_plan.specs.Costs.{is_number, theatre_of}
-use Rattle.ih_validate.proofs.MarkLemmas.{unmarked, count-met}
+use Rattle.ih_validate.proofs.MarkLemmas.{count-met}
 use Rattle.ih_validate.proofs.surgeons.theatres_used.Goals as goal
 
 pub loop-p-init : goal.loop-p-init
-loop-p-init c = record { len = length-replicate 64 false; each = λ t. unmarked 64 t }
+loop-p-init c = record { len = length-replicate 64 false; each = λ t. none-marked 64 t }
 
 pub returns-clause-count : goal.returns-clause-count
 returns-clause-count c =

@@ -1,7 +1,7 @@
 use Rattle.std.proofs.Common.{◌≡◌, ℕ, length, map, take}
 use Rattle.std.specs.List.{list_any}
 use Rattle.ih_plan.specs.Costs.{is_number, theatre_of}
-use Rattle.ih_validate.specs.Marks.{is_marked}
+use Rattle.ih_tables.specs.Marks.{is_marked}
 use Rattle.ih_validate.proofs.surgeons.theatres_used.Given as goal
 
 abbrev pub invariant-loop-p : goal.invariant-loop-p

@@ -1,6 +1,6 @@
 use Rattle.std.proofs.Common.{◌∙◌, refl, sym}
-use Rattle.ih_desk.proofs.Attempting.{stream-start}
 use Rattle.ih_desk.proofs.worker_loop.Searcher.open.Goals as goal
+use Rattle.ih_moves.proofs.Streams.{stream-start}
 
 pub returns : goal.returns
 returns g c = record {

@@ -8,8 +8,9 @@ use Rattle.ih_desk.specs.Desks.{base_of}
 use Rattle.ih_desk.specs.Finishing.{AreDrawn}
 use Rattle.ih_desk.specs.Progress.{Progress}
 use Rattle.ih_desk.proofs.Attempting.{drawn-none, made-none, none-drawn, one-later, same-caught_up}
-use Rattle.ih_desk.proofs.CatchingUp.{new-within, own-none}
+use Rattle.ih_desk.proofs.CatchingUp.{own-none}
 use Rattle.ih_desk.proofs.worker_loop.Searcher.search.Goals as goal
+use Rattle.ih_cellbook.proofs.Staying.{new-within}
 
 pub loop-number-init : goal.loop-number-init
 loop-number-init g c =

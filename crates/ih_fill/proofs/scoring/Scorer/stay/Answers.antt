@@ -1,7 +1,7 @@
 use Rattle.std.proofs.Common.{◌∙◌, ap, Some}
 use Rattle.ih_plan.specs.declared.moves.Write.{Write}
 use Rattle.ih_plan.specs.declared.moves.Write.TheVariants.{SetStay}
-use Rattle.ih_plan.specs.Fill.{write_score}
+use Rattle.ih_fill.specs.Fill.{write_score}
 use Rattle.ih_fill.specs.Candidates.{valued}
 use Rattle.ih_fill.specs.Scoring.{Scoring, view_of}
 use Rattle.ih_fill.proofs.CandidateLemmas.{stay-fits}

@@ -1,7 +1,8 @@
 use Rattle.std.proofs.Common.{◌∙◌, refl, sym}
 use Rattle.ih_cellbook.specs.Keeping.{base_with}
-use Rattle.ih_replay.proofs.Keeping.{stream-start, worker-none}
+use Rattle.ih_replay.proofs.Keeping.{worker-none}
 use Rattle.ih_replay.proofs.workers.Worker.new.Goals as goal
+use Rattle.ih_moves.proofs.Streams.{stream-start}
 
 pub returns : goal.returns
 returns c =

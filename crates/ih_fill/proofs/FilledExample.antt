@@ -3,7 +3,7 @@ use Rattle.std.proofs.Common.{◌≡◌, refl, Some, None, [], ◌∷◌, pos, n
 use Rattle.ih_tables.specs.Bills.{cost}
 use Rattle.ih_plan.specs.Timetable.{empty, Timetable}
 use Rattle.ih_plan.specs.BillOf.{bill_of}
-use Rattle.ih_plan.specs.Fill.{fill, with_stay, with_care, write_score, without_uncovered}
+use Rattle.ih_fill.specs.Fill.{fill, with_stay, with_care, write_score, without_uncovered}
 use Rattle.ih_plan.specs.declared.moves.Placement.{Placement}
 use Rattle.ih_plan.specs.declared.moves.Write.TheVariants.{SetStay}
 use Rattle.ih_plan.proofs.ExampleWards.{two_patients, at, bill9, weights}
