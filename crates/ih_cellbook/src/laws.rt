@@ -1,7 +1,8 @@
 //! Laws, each on a function that does nothing.
 
 ghost use Rattle.ih_cellbook.specs.Core.{SchedulesAreLegal};
-ghost use Rattle.ih_cellbook.specs.Laws.{AcceptedPricesAreExact, LegalHistoriesAreFew, LegalHistoriesAreInRange, LegalJournalsAreShort, RightOffersStayRight, JournalsTellSearchesApart};
+ghost use Rattle.ih_cellbook.specs.Laws.{AcceptedPricesAreExact, LegalHistoriesAreFew, LegalHistoriesAreInRange};
+ghost use Rattle.ih_cellbook.specs.Laws.{LegalJournalsAreShort, RightOffersStayRight, JournalsTellSearchesApart};
 
 use ih_tables::Instance;
 

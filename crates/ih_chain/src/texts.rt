@@ -1,6 +1,7 @@
 //! The texts of chains and of their journal: its heading and its lines.
 
-ghost use Rattle.std.specs.Prelude.{◌≡◌, ◌<◌, ◌^◌, ◌++◌, ◌∷◌, [], IfOk, OnOk, OnErr, decimal, length, map, string_bytes};
+ghost use Rattle.std.specs.Prelude.{◌≡◌, ◌<◌, ◌^◌, ◌++◌, ◌∷◌, [], IfOk, OnOk, OnErr, decimal, length, map};
+ghost use Rattle.std.specs.Prelude.{string_bytes};
 ghost use Rattle.ih_journal.specs.Pieces.{marked};
 ghost use Rattle.ih_journal.specs.Texts.{ended, move_text, IsPart};
 ghost use Rattle.ih_chain.specs.Texts.{chain_heading, chain_journal, chain_line, chain_lines_from, chain_text};

@@ -29,7 +29,8 @@ pub type DeskSeat<'a, E> = Seat<Book<'a, E>>;
 pub type Desk<'a> = DeskOver<Turn<Book<'a>>>;
 
 impl<'a, E: Logged> DeskOver<Turn<Book<'a, E>>> {
-    ghost use Rattle.std.specs.Prelude.{ℕ, ◌+◌, ◌*◌, ◌^◌, ◌<◌, ◌==◌, IfOk, IfErr, map, slice_index, All, Contains, count_by};
+    ghost use Rattle.std.specs.Prelude.{ℕ, ◌+◌, ◌*◌, ◌^◌, ◌<◌, ◌==◌, IfOk, IfErr, map, slice_index, All, Contains};
+    ghost use Rattle.std.specs.Prelude.{count_by};
     ghost use Rattle.ih_turn.specs.Seats.{history, number_of, made_count, turns_left};
     ghost use Rattle.ih_desk.specs.Desks.{base_of, worker_count, IsDesk, IsSeatAt};
     ghost use Rattle.ih_turn.specs.Rule.{GoesOn};

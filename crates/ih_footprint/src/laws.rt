@@ -1,7 +1,8 @@
 //! The laws, each on a function that does nothing: what is outside a footprint stays, and what is done rests on the
 //! footprint's contents alone.
 
-ghost use Rattle.ih_footprint.specs.Laws.{WritesKeepTheRest, WritesInARowKeepTheRest, MovesKeepTheRest, WritesAreLocal, WritesInARowAreLocal, MovesAreLocal, SeriesKeepTheRest, SeriesAreLocal};
+ghost use Rattle.ih_footprint.specs.Laws.{WritesKeepTheRest, WritesInARowKeepTheRest, MovesKeepTheRest, WritesAreLocal};
+ghost use Rattle.ih_footprint.specs.Laws.{WritesInARowAreLocal, MovesAreLocal, SeriesKeepTheRest, SeriesAreLocal};
 
 use ih_tables::Instance;
 

@@ -8,7 +8,8 @@ ghost use Rattle.ih_tables.specs.Lookups.{finds};
 ghost use Rattle.serde_json.specs.Find.{get};
 ghost use Rattle.ih_tables.specs.declared.refusals.Fault.TheVariants.{Missing};
 ghost use Rattle.ih_format.specs.Gives.{seen};
-ghost use Rattle.ih_format.specs.Checks.{number, text, truth, object, list, list_of, first_items, new_name, reference, or_else};
+ghost use Rattle.ih_format.specs.Checks.{number, text, truth, object, list, list_of, first_items, new_name, reference};
+ghost use Rattle.ih_format.specs.Checks.{or_else};
 
 use ih_tables::{Fault, Key, Names, Place, Refusal};
 use serde_json::Value;

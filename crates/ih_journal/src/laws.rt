@@ -1,6 +1,7 @@
 //! Laws of histories, each on a function that does nothing.
 
-ghost use Rattle.ih_journal.specs.Laws.{LoneWorkersAreNeverStale, LoneWorkersHaveOneHistory, LoneWorkersMakeEachAttemptOnce};
+ghost use Rattle.ih_journal.specs.Laws.{LoneWorkersAreNeverStale, LoneWorkersHaveOneHistory};
+ghost use Rattle.ih_journal.specs.Laws.{LoneWorkersMakeEachAttemptOnce};
 
 /// With one worker there is one full history over what a search is given: nothing in it is stale, and it has one entry
 /// for each attempt.

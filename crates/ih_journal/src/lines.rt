@@ -1,8 +1,10 @@
 //! Writing a journal: its heading and its lines.
 
-ghost use Rattle.std.specs.Prelude.{◌≡◌, ◌+◌, ◌≤◌, ◌++◌, ◌∷◌, ◌^◌, OnOk, OnErr, IfOk, length, take, decimal, string_bytes};
+ghost use Rattle.std.specs.Prelude.{◌≡◌, ◌+◌, ◌≤◌, ◌++◌, ◌∷◌, ◌^◌, OnOk, OnErr, IfOk, length, take, decimal};
+ghost use Rattle.std.specs.Prelude.{string_bytes};
 ghost use Rattle.ih_tables.specs.Bills.{IsWithin};
-ghost use Rattle.ih_journal.specs.Texts.{heading, option_text, retries_field, line_text, again_field, version_text, ended, IsPart};
+ghost use Rattle.ih_journal.specs.Texts.{heading, option_text, retries_field, line_text, again_field, version_text};
+ghost use Rattle.ih_journal.specs.Texts.{ended, IsPart};
 ghost use Rattle.ih_journal.specs.Pieces.{marked};
 
 use crate::entries::Entry;

@@ -4,7 +4,8 @@ ghost use Rattle.std.specs.Prelude.{◌≡◌, ◌↔◌, IsTrue};
 ghost use Rattle.std.specs.Str.{bytes_eq};
 ghost use Rattle.ih_plan.specs.Expand.{IsMoveOf};
 ghost use Rattle.ih_plan.specs.Cells.{IsCellOf};
-ghost use Rattle.ih_journal.specs.Names.{move_of_one, move_of_two, move_of_three, move_of_four, move_named, cell_of_one, cell_of_two, cell_named};
+ghost use Rattle.ih_journal.specs.Names.{move_of_one, move_of_two, move_of_three, move_of_four, move_named};
+ghost use Rattle.ih_journal.specs.Names.{cell_of_one, cell_of_two, cell_named};
 
 use ih_plan::{Move, Placement};
 use ih_tables::{

@@ -1,6 +1,7 @@
 //! Reading numbers, and lists of numbers parted by a separator.
 
-ghost use Rattle.std.specs.Prelude.{◌≡◌, ℕ, ◌≤◌, ◌<◌, ◌^◌, ◌∷◌, IfSome, IfNone, List, length, take, map, decimal, All, ℤ, ◌==◌, position};
+ghost use Rattle.std.specs.Prelude.{◌≡◌, ℕ, ◌≤◌, ◌<◌, ◌^◌, ◌∷◌, IfSome, IfNone, List, length, take, map, decimal, All};
+ghost use Rattle.std.specs.Prelude.{ℤ, ◌==◌, position};
 ghost use Rattle.std.specs.Fmt.{signed_decimal};
 ghost use Rattle.std.specs.Option.{option_copied};
 ghost use Rattle.std.specs.Str.Parse.{IsNumeral, digits_value};

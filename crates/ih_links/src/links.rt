@@ -1,7 +1,8 @@
 //! Lists of numbered nodes in four vectors, changed in place. Each head has a gate, which stands behind the nodes, and
 //! its list is a ring through that gate: no list has an end to be told apart.
 
-ghost use Rattle.std.specs.Prelude.{◌≡◌, ℕ, ◌+◌, ◌^◌, ◌<◌, ◌≤◌, true, false, ◌++◌, ◌∷◌, [], length, map, replicate, slice_set, IfOk};
+ghost use Rattle.std.specs.Prelude.{◌≡◌, ℕ, ◌+◌, ◌^◌, ◌<◌, ◌≤◌, true, false, ◌++◌, ◌∷◌, [], length, map, replicate};
+ghost use Rattle.std.specs.Prelude.{slice_set, IfOk};
 ghost use Rattle.std.specs.List.{range_with_len};
 ghost use Rattle.ih_links.specs.Lists.{has, without, following, is_at, list_of, first_of, AreNodes};
 ghost use Rattle.ih_links.specs.Ring.{node_in};

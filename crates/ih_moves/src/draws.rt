@@ -3,7 +3,9 @@
 ghost use Rattle.std.specs.Prelude.{◌≡◌, ◌<◌, ◌≤◌, ◌+◌, ◌%◌, ℕ, Some, IfSome};
 ghost use Rattle.rand_xoshiro.specs.Xoshiro256.{plus_plus};
 ghost use Rattle.ih_tables.specs.Sizes.{patient_count, shift_count, nurse_count};
-ghost use Rattle.ih_plan.specs.Draws.{choose, last_day, window_len, choose_day, choose_nurse, drawn, drawn_place, drawn_withdrawal, drawn_day, drawn_room, drawn_theatre, drawn_room_swap, drawn_nurse_swap, drawn_nurse, drawn_run, draw};
+ghost use Rattle.ih_plan.specs.Draws.{choose, last_day, window_len, choose_day, choose_nurse, drawn, drawn_place};
+ghost use Rattle.ih_plan.specs.Draws.{drawn_withdrawal, drawn_day, drawn_room, drawn_theatre, drawn_room_swap};
+ghost use Rattle.ih_plan.specs.Draws.{drawn_nurse_swap, drawn_nurse, drawn_run, draw};
 ghost use Rattle.ih_plan.specs.Expand.{IsMoveOf};
 
 use ih_plan::{Move, Placement};

@@ -1,7 +1,8 @@
 //! The seventeen numbers of a bill, and what is said of a cell's amount of each.
 
 ghost use Rattle.std.specs.Prelude.{◌≡◌, ◌++◌, OnOk, unsigned_abs};
-ghost use Rattle.ih_page.specs.BillLines.{IsLine, number_in, short_name, full_name, fold_text, rule_one, cost_one, rule_many, cost_many, one_text, many_text, amount_text};
+ghost use Rattle.ih_page.specs.BillLines.{IsLine, number_in, short_name, full_name, fold_text, rule_one, cost_one};
+ghost use Rattle.ih_page.specs.BillLines.{rule_many, cost_many, one_text, many_text, amount_text};
 
 use crate::summaries::{cost_name, put_line, rule_name};
 use crate::texts::{put, put_number};

@@ -4,7 +4,8 @@ ghost use Rattle.std.specs.Prelude.{◌≡◌, ◌<◌, ◌++◌, OnOk};
 ghost use Rattle.ih_tables.specs.Sizes.{person_count, room_count, surgeon_count, shift_count};
 ghost use Rattle.ih_plan.specs.Cells.{IsCellOf};
 ghost use Rattle.ih_page.specs.Surgery.{surgeon_text};
-ghost use Rattle.ih_page.specs.CellNames.{person_place, cell_place, person_text, room_called, day_text, shift_text, cell_text};
+ghost use Rattle.ih_page.specs.CellNames.{person_place, cell_place, person_text, room_called, day_text, shift_text};
+ghost use Rattle.ih_page.specs.CellNames.{cell_text};
 
 use crate::names::{put_nurse, put_place, put_shift_type, put_theatre};
 use crate::texts::{put, put_escaped, put_number};

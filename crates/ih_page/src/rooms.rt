@@ -4,7 +4,10 @@ ghost use Rattle.std.specs.Prelude.{◌≡◌, ◌<◌, ◌+◌, ◌*◌, ◌++�
 ghost use Rattle.std.specs.Option.{option_map_or};
 ghost use Rattle.ih_tables.specs.Sizes.{patient_count, occupant_count, room_count, shift_count};
 ghost use Rattle.ih_plan.specs.Timetable.{IsPlanOf, IsPlacement, stay_of};
-ghost use Rattle.ih_page.specs.Rooms.{wide_cell, gap_text, bar_cell, bar_text, person_cells, patient_row, occupant_row, patient_in, occupant_in, count_cell, nurse_cell, shift_row, day_head, heads_and_days, room_title, room_head, count_row, person_rows, room_text, rooms_text};
+ghost use Rattle.ih_page.specs.Rooms.{wide_cell, gap_text, bar_cell, bar_text, person_cells, patient_row, occupant_row};
+ghost use Rattle.ih_page.specs.Rooms.{patient_in, occupant_in, count_cell, nurse_cell, shift_row, day_head};
+ghost use Rattle.ih_page.specs.Rooms.{heads_and_days, room_title, room_head, count_row, person_rows, room_text};
+ghost use Rattle.ih_page.specs.Rooms.{rooms_text};
 
 use crate::loops::put_below;
 use crate::names::{put_age, put_marked, put_nurse, put_place, put_shift_type, put_theatre};

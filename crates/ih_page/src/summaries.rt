@@ -3,7 +3,9 @@
 ghost use Rattle.std.specs.Prelude.{◌≡◌, ◌<◌, ◌≤◌, ◌≤ℤ◌, ◌^◌, ◌++◌, ℕ, pos, neg_ℤ, OnOk, length};
 ghost use Rattle.ih_tables.specs.Bills.{at, AreWithin, IsWithin};
 ghost use Rattle.ih_validate.specs.Report.{lines_below};
-ghost use Rattle.ih_page.specs.Summary.{rule_name, cost_name, line_text, line_link, line_name, line_head, product_text, hard_text, rule_row, cost_row, rule_rows, cost_rows, verdict_text, verdict_of, summary};
+ghost use Rattle.ih_page.specs.Summary.{rule_name, cost_name, line_text, line_link, line_name, line_head, product_text};
+ghost use Rattle.ih_page.specs.Summary.{hard_text, rule_row, cost_row, rule_rows, cost_rows, verdict_text, verdict_of};
+ghost use Rattle.ih_page.specs.Summary.{summary};
 
 use crate::texts::{put, put_number, put_signed};
 use ih_tables::{Bill, Instance};

@@ -5,7 +5,9 @@ ghost use Rattle.ih_tables.specs.Sizes.{patient_count, theatre_count, surgeon_co
 ghost use Rattle.ih_plan.specs.Timetable.{IsPlanOf};
 ghost use Rattle.ih_plan.specs.Costs.{duration_of};
 ghost use Rattle.ih_page.specs.declared.surgery.Whose.TheVariants.{OfTheatre, OfSurgeon};
-ghost use Rattle.ih_page.specs.Surgery.{IsWhoseOf, has_surgery, planned, limit_of, letter_of, number_of, whose_text, share, share_text, name_link, minutes_text, patient_link, operation, surgery_of, surgery_cell, surgery_row, theatres_text, surgeons_text};
+ghost use Rattle.ih_page.specs.Surgery.{IsWhoseOf, has_surgery, planned, limit_of, letter_of, number_of, whose_text};
+ghost use Rattle.ih_page.specs.Surgery.{share, share_text, name_link, minutes_text, patient_link, operation};
+ghost use Rattle.ih_page.specs.Surgery.{surgery_of, surgery_cell, surgery_row, theatres_text, surgeons_text};
 
 use crate::loops::put_below;
 use crate::names::{put_marked, put_place, put_theatre};

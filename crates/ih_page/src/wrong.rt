@@ -6,7 +6,8 @@ ghost use Rattle.ih_plan.specs.Timetable.{IsPlanOf, stay_of};
 ghost use Rattle.ih_plan.specs.BillOf.{bill_of};
 ghost use Rattle.ih_plan.specs.Cells.{IsCellOf, cell_at, cell_count, part_at};
 ghost use Rattle.ih_page.specs.BillLines.{IsLine, count_in};
-ghost use Rattle.ih_page.specs.Wrong.{amounts, before_release, is_early, cell_link, item, items_of, list_name, list_head, list_of, line_list, line_lists, wrong_text};
+ghost use Rattle.ih_page.specs.Wrong.{amounts, before_release, is_early, cell_link, item, items_of, list_name};
+ghost use Rattle.ih_page.specs.Wrong.{list_head, list_of, line_list, line_lists, wrong_text};
 
 use crate::bill_lines::{
     Line, full_name, magnitude, number_in, put_amount, put_fold, put_short_name,

@@ -1,7 +1,8 @@
 //! How a line is judged: it is read, checked against its worker's next attempt, priced on that worker's replica, and
 //! added to the book.
 
-ghost use Rattle.std.specs.Prelude.{◌≡◌, ◌<◌, ◌≤◌, ◌≢◌, ℕ, ◌++◌, ◌∷◌, [], true, IsTrue, IsFalse, IfOk, IfErr, OnOk, OnErr, length, Some};
+ghost use Rattle.std.specs.Prelude.{◌≡◌, ◌<◌, ◌≤◌, ◌≢◌, ℕ, ◌++◌, ◌∷◌, [], true, IsTrue, IsFalse, IfOk, IfErr, OnOk};
+ghost use Rattle.std.specs.Prelude.{OnErr, length, Some};
 ghost use Rattle.std.specs.List.{AllByRecursion};
 ghost use Rattle.ih_plan.specs.Expand.{IsMoveOf};
 ghost use Rattle.ih_journal.specs.Attempts.{is_done};
@@ -13,7 +14,8 @@ ghost use Rattle.ih_cellbook.specs.Replicas.{IsReplicaIn};
 ghost use Rattle.ih_cellbook.specs.Offers.{HasSeenOwn};
 ghost use Rattle.ih_cellbook.specs.Keeping.{IsBase};
 ghost use Rattle.ih_replay.specs.Keeping.{IsReplayed, IsWorkerIn};
-ghost use Rattle.ih_replay.specs.Refusals.{FitsIn, IsFirstOf, IsGoing, Passes, in_order, of_attempt, of_entry, of_offer, of_place};
+ghost use Rattle.ih_replay.specs.Refusals.{FitsIn, IsFirstOf, IsGoing, Passes, in_order, of_attempt, of_entry};
+ghost use Rattle.ih_replay.specs.Refusals.{of_offer, of_place};
 
 use crate::workers::Worker;
 use ih_cellbook::Book;

@@ -1,7 +1,8 @@
 //! What the program asks of files, of its output and of a gate.
 
 ghost use Rattle.std.specs.Prelude.{◌≡◌, ◌≤◌, ◌<◌, ℕ, List, Option, Some, IfOk, IfSome, OnOk, OnErr, vec_len, length};
-ghost use Rattle.ih_shelf.specs.Outside.{Names, Rose, IfTold, bytes_at, IsWritten, MayBeWritten, IsAppended, MayBeAppended};
+ghost use Rattle.ih_shelf.specs.Outside.{Names, Rose, IfTold, bytes_at, IsWritten, MayBeWritten, IsAppended};
+ghost use Rattle.ih_shelf.specs.Outside.{MayBeAppended};
 
 use std::alloc::Global;
 use std::rt::Files;

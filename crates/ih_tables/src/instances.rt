@@ -67,7 +67,8 @@ pub struct Instance {
 
 impl Instance {
     ghost use Rattle.std.specs.Prelude.{◌≡◌, ◌<◌, ◌*◌, ◌+◌, Some, IfOk, slice_get};
-    ghost use Rattle.ih_tables.specs.Sizes.{patient_count, occupant_count, room_count, nurse_count, surgeon_count, theatre_count, person_count, shift_count};
+    ghost use Rattle.ih_tables.specs.Sizes.{patient_count, occupant_count, room_count, nurse_count, surgeon_count};
+    ghost use Rattle.ih_tables.specs.Sizes.{theatre_count, person_count, shift_count};
     ghost use Rattle.ih_tables.specs.Works.{max_load, working};
     ghost use Rattle.std.specs.Prelude.{option_map, map};
     ghost use Rattle.ih_tables.specs.Lookups.{number_in};

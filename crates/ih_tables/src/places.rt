@@ -1,7 +1,8 @@
 //! Places in a file.
 
 ghost use Rattle.std.specs.Prelude.{Some};
-ghost use Rattle.ih_tables.specs.Places.{fault_name, refusal_text, key_name, step_text, item_text, section_text, place_text};
+ghost use Rattle.ih_tables.specs.Places.{fault_name, refusal_text, key_name, step_text, item_text, section_text};
+ghost use Rattle.ih_tables.specs.Places.{place_text};
 
 use crate::refusals::{Fault, Key, Place, Refusal, Step};
 use std::fmt;

@@ -1,6 +1,7 @@
 //! Whether plain data is a valid instance.
 
-ghost use Rattle.std.specs.Prelude.{◌≡◌, ◌≢◌, ◌<◌, ◌≤◌, ◌≤ℤ◌, ◌+◌, ◌*◌, ◌↔◌, pos, Some, IsTrue, IsSome, All, AllPairs, Any, List as Items, ℕ, length};
+ghost use Rattle.std.specs.Prelude.{◌≡◌, ◌≢◌, ◌<◌, ◌≤◌, ◌≤ℤ◌, ◌+◌, ◌*◌, ◌↔◌, pos, Some, IsTrue, IsSome, All, AllPairs};
+ghost use Rattle.std.specs.Prelude.{Any, List as Items, ℕ, length};
 ghost use Rattle.ih_tables.specs.Valid.{Between, IsListed, IsNurse, IsOccupant, IsPatient, IsValid, IsVector, IsWorked};
 ghost use Rattle.ih_tables.specs.Sizes.{room_count};
 ghost use Rattle.ih_tables.specs.Works.{shift_of};

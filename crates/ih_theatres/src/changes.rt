@@ -1,6 +1,7 @@
 //! What a patient's stay makes of the bill of a day of a theatre or a surgeon, without the change being made.
 
-ghost use Rattle.std.specs.Prelude.{◌≡◌, ◌<◌, ◌≤◌, ◌+◌, ◌-◌, ◌&&◌, ◌||◌, ℕ, List, not, map, length, slice_index_or, ◌==◌, option_map, IfSome, All, if◌then◌else◌, None};
+ghost use Rattle.std.specs.Prelude.{◌≡◌, ◌<◌, ◌≤◌, ◌+◌, ◌-◌, ◌&&◌, ◌||◌, ℕ, List, not, map, length, slice_index_or};
+ghost use Rattle.std.specs.Prelude.{◌==◌, option_map, IfSome, All, if◌then◌else◌, None};
 ghost use Rattle.std.specs.List.{list_any};
 ghost use Rattle.ih_links.specs.Lists.{list_of, has, without, with_if, IsOnce};
 ghost use Rattle.ih_tables.specs.declared.ids.TheatreNo.{TheatreNo};

@@ -69,7 +69,8 @@ pub struct Guard<H, B> {
 }
 
 impl<B: Kept> Turn<B> {
-    ghost use Rattle.ih_turn.specs.Seats.{opened_with, history, number_of, made_count, turns_left, value_of, turn_of, holder_number, holder_made, holder_left, list_at_take, IsSeatOf};
+    ghost use Rattle.ih_turn.specs.Seats.{opened_with, history, number_of, made_count, turns_left, value_of, turn_of};
+    ghost use Rattle.ih_turn.specs.Seats.{holder_number, holder_made, holder_left, list_at_take, IsSeatOf};
 
     /// Waits until it is the seat's turn, and lends the value out. Its list begins with what the seat had seen, and
     /// past that has nothing of the seat's own. It uses one of the seat's turns.
@@ -208,7 +209,8 @@ impl<H, B> Guard<H, B> {
 }
 
 impl<'a, B: Kept> Held<'a, B> {
-    ghost use Rattle.ih_turn.specs.Seats.{opened_with, history, number_of, made_count, turns_left, value_of, turn_of, holder_number, holder_made, holder_left, list_at_take, IsSeatOf};
+    ghost use Rattle.ih_turn.specs.Seats.{opened_with, history, number_of, made_count, turns_left, value_of, turn_of};
+    ghost use Rattle.ih_turn.specs.Seats.{holder_number, holder_made, holder_left, list_at_take, IsSeatOf};
 
     /// Puts the value back and passes the turn on. One entry may have been added to the value's list, by the seat.
     pub fn give(self) -> Seat<B>

@@ -1,5 +1,6 @@
 //! The rule of the two words `ticket` and `serving`, of the slot and of all views, and what each step tells.
-ghost use Rattle.ih_turn.specs.Rule.{IsTurn, first_view, remaining_view, split_off_view, both_views, spent_view, TakesTicket, ReadsServing, PassesTurn};
+ghost use Rattle.ih_turn.specs.Rule.{IsTurn, first_view, remaining_view, split_off_view, both_views, spent_view};
+ghost use Rattle.ih_turn.specs.Rule.{TakesTicket, ReadsServing, PassesTurn};
 
 use crate::kept::Kept;
 use crate::view::View;

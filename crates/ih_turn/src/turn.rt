@@ -1,6 +1,8 @@
 //! A turn, and how it is made: the table with the value in its slot, and a seat for each number.
-ghost use Rattle.std.specs.Prelude.{◌≡◌, ℕ, ◌+◌, ◌*◌, ◌^◌, ◌<◌, ◌≤◌, [], ◌∷◌, IfOk, IfErr, length, map, slice_index, vec_len, vec_capacity, All};
-ghost use Rattle.ih_turn.specs.Rule.{Rests, AreNumberedFromOne, first_view, splitting_view, seat_view, remaining_view, split_off_view};
+ghost use Rattle.std.specs.Prelude.{◌≡◌, ℕ, ◌+◌, ◌*◌, ◌^◌, ◌<◌, ◌≤◌, [], ◌∷◌, IfOk, IfErr, length, map, slice_index};
+ghost use Rattle.std.specs.Prelude.{vec_len, vec_capacity, All};
+ghost use Rattle.ih_turn.specs.Rule.{Rests, AreNumberedFromOne, first_view, splitting_view, seat_view, remaining_view};
+ghost use Rattle.ih_turn.specs.Rule.{split_off_view};
 
 use crate::kept::Kept;
 use crate::rule::{Setup, SplitSeat, TurnRule};
@@ -26,7 +28,8 @@ pub struct RuledTurn<B: Kept, P: TableRule<Option<B>, View<B::Entry, B::Base>, S
 }
 
 impl<B: Kept> Turn<B> {
-    ghost use Rattle.ih_turn.specs.Seats.{opened_with, seat_count, history, number_of, made_count, turns_left, IsSeatOf};
+    ghost use Rattle.ih_turn.specs.Seats.{opened_with, seat_count, history, number_of, made_count, turns_left};
+    ghost use Rattle.ih_turn.specs.Seats.{IsSeatOf};
 
     /// A turn that keeps the value, and its seats with the numbers from 0, each with `turns` turns.
     ///

@@ -8,7 +8,8 @@ ghost use Rattle.ih_format.specs.Gives.{Gives, seen};
 ghost use Rattle.ih_tables.specs.Marks.{is_marked};
 ghost use Rattle.ih_format.specs.Checks.{each, under};
 ghost use Rattle.ih_solution.specs.Assigned.{IsFree, IsAssignment, IsListedNurse};
-ghost use Rattle.ih_solution.specs.Reading.{has_nurse, free_room, free_rooms, assignment, assignments, nurse_row, nurse_rows, nurses, cares_of};
+ghost use Rattle.ih_solution.specs.Reading.{has_nurse, free_room, free_rooms, assignment, assignments, nurse_row};
+ghost use Rattle.ih_solution.specs.Reading.{nurse_rows, nurses, cares_of};
 
 use crate::reader::assigned::assign_all;
 use crate::reader::rows::{Assignment, ListedNurse};

@@ -7,7 +7,8 @@ ghost use Rattle.ih_plan.specs.Timetable.{IsPlanOf, IsPlacement};
 ghost use Rattle.ih_format.specs.Gives.{Gives, seen};
 ghost use Rattle.ih_tables.specs.Marks.{is_marked};
 ghost use Rattle.ih_format.specs.Checks.{under};
-ghost use Rattle.ih_solution.specs.Reading.{no_day, admission_day, placement_on, patient_row, patient_rows, patients, timetable_of};
+ghost use Rattle.ih_solution.specs.Reading.{no_day, admission_day, placement_on, patient_row, patient_rows, patients};
+ghost use Rattle.ih_solution.specs.Reading.{timetable_of};
 
 use crate::reader::rows::ListedStay;
 use crate::reader::{lists, references};
