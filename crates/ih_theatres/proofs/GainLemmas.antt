@@ -10,7 +10,6 @@ use Rattle.ih_tables.specs.declared.ids.SurgeonNo.{SurgeonNo}
 use Rattle.ih_tables.specs.declared.ids.Day.{Day}
 use Rattle.ih_tables.specs.declared.cells.Cell.{Cell}
 use Rattle.ih_tables.specs.declared.cells.Cell.TheVariants.{TheatreDay, SurgeonDay}
-use Rattle.ih_tables.specs.declared.bills.Bill.{Bill}
 use Rattle.ih_tables.specs.Bills.{sub_bills}
 use Rattle.ih_tables.specs.Sizes.{patient_count, theatre_count}
 use Rattle.ih_links.specs.Lists.{has, without, with_if, list_of}
@@ -20,7 +19,7 @@ use Rattle.ih_plan.specs.Timetable.{Timetable, IsPlanOf, stay_of}
 use Rattle.ih_plan.specs.Writes.{put}
 use Rattle.ih_plan.specs.BillOf.{as_bill, Counts}
 use Rattle.ih_plan.specs.Sums.{bit, count_below}
-use Rattle.ih_plan.specs.Cells.{part_at}
+use Rattle.ih_plan.specs.Cells.{part_at, gain_at}
 use Rattle.ih_plan.specs.Costs.{operated_in, admitted_on, is_number, surgeon_of, minutes, is_empty, theatre_minutes, surgeon_minutes}
 use Rattle.ih_plan.proofs.Entries.{stay_of-other, stay_of-same}
 use Rattle.ih_theatres.specs.declared.theatres.Theatres.{Theatres}
@@ -48,12 +47,8 @@ module _ {I : Draft} {P : Timetable} {l : Theatres} (plan : IsPlanOf I P) (stand
 
 -- ---- the gains
 
--- the cell's part with the placement less that without it
-abbrev pub gain_in : Draft → Timetable → PatientNo → Placement → Cell → Bill
-gain_in I P p at c = sub_bills (as_bill (part_at I (put (SetStay p (Some at)) P) c)) (as_bill (part_at I (put (SetStay p None) P) c))
-
 from-parts : (I : Draft) (P : Timetable) (p : PatientNo) (at : Placement) (c : Cell) (less more : Counts) → less ≡ part_at I (put (SetStay p None) P) c
-    → more ≡ part_at I (put (SetStay p (Some at)) P) c → sub_bills (as_bill more) (as_bill less) ≡ gain_in I P p at c
+    → more ≡ part_at I (put (SetStay p (Some at)) P) c → sub_bills (as_bill more) (as_bill less) ≡ gain_at I P p at c
 from-parts I P p at c less more from to =
     ap (λ k. sub_bills (as_bill k) (as_bill less)) to ∙ ap (λ k. sub_bills (as_bill (part_at I (put (SetStay p (Some at)) P) c)) (as_bill k)) from
 
@@ -77,7 +72,7 @@ module _ {I : Draft} {P : Timetable} {l : Theatres} (plan : IsPlanOf I P) (stand
     pub theatre-gain : (over_less used_less over_more used_more : ℕ)
         → over_less ≡ minutes I (patients false) - most → used_less ≡ bit (not (is_empty (patients false)))
         → over_more ≡ minutes I (patients true) - most → used_more ≡ bit (not (is_empty (patients true)))
-        → sub_bills (as_bill (theatre_part over_more used_more)) (as_bill (theatre_part over_less used_less)) ≡ gain_in I P p at (TheatreDay at.theatre at.day)
+        → sub_bills (as_bill (theatre_part over_more used_more)) (as_bill (theatre_part over_less used_less)) ≡ gain_at I P p at (TheatreDay at.theatre at.day)
     theatre-gain over_less used_less over_more used_more ol ul om um =
         from-parts I P p at (TheatreDay at.theatre at.day) (theatre_part over_less used_less) (theatre_part over_more used_more)
         (theatre-day None false refl over_less used_less ol ul)
@@ -100,7 +95,7 @@ module _ {I : Draft} {P : Timetable} {l : Theatres} (plan : IsPlanOf I P) (stand
     pub surgeon-gain : (over_less transfers_less over_more transfers_more : ℕ)
         → over_less ≡ minutes I (operated_then false) - most → transfers_less ≡ theatres_then false None - 1
         → over_more ≡ minutes I (operated_then true) - most → transfers_more ≡ theatres_then true (Some at) - 1
-        → sub_bills (as_bill (surgeon_part over_more transfers_more)) (as_bill (surgeon_part over_less transfers_less)) ≡ gain_in I P p at (SurgeonDay s at.day)
+        → sub_bills (as_bill (surgeon_part over_more transfers_more)) (as_bill (surgeon_part over_less transfers_less)) ≡ gain_at I P p at (SurgeonDay s at.day)
     surgeon-gain over_less transfers_less over_more transfers_more ol tl om tm =
         let same : is_number (surgeon_of I p.0) s.0 ≡ true = ap (λ o. is_number o s.0) is_own ∙ eq-eqb s.0 s.0 refl in
         from-parts I P p at (SurgeonDay s at.day) (surgeon_part over_less transfers_less) (surgeon_part over_more transfers_more)
