@@ -1,7 +1,7 @@
 -- What a stay adds to the bill is a part by its room and its day, and a part by its theatre and its day.
 use mathlib.Core.Path.{fun_ext}
 use Rattle.std.proofs.Common.{◌≡◌, ℕ, ◌+◌, ◌-◌, ◌<◌, refl, sym, ◌∙◌, ap, arith, List, length, map, Option, Some, pos, inl, inr}
-use Rattle.std.specs.Prelude.{◌+ℤ◌, ◌&&◌, nat_lt, slice_get, slice_index, option_map, sum_by, if◌then◌else◌}
+use Rattle.std.specs.Prelude.{◌&&◌, nat_lt, slice_get, slice_index, option_map, sum_by, if◌then◌else◌}
 use Rattle.std.proofs.lemmas.Bool.{cases_eq}
 use Rattle.ih_tables.specs.declared.drafts.Draft.{Draft}
 use Rattle.ih_tables.specs.declared.ids.PatientNo.{PatientNo}
