@@ -91,7 +91,15 @@ pub trait Offers: Drop {
     )
         requires { frozen ≡ true → 0 < Self.Attempt.most_freeze }
         ensures { offered self.new
-            ≡ record (offered self.old) { worker = worker; number = number; seen = seen; moves = Self.Attempt.moves attempt.now; price = price.now; reads = record (offered self.old).reads { pairs = [] }; frozen = frozen } };
+            ≡ record (offered self.old) {
+              worker = worker;
+              number = number;
+              seen = seen;
+              moves = Self.Attempt.moves attempt.now;
+              price = price.now;
+              reads = record (offered self.old).reads { pairs = [] };
+              frozen = frozen;
+            } };
 
     /// Notes cells with their versions, in place of what was noted.
     fn note(&mut self, cells: &[u32], versions: &[u32])
@@ -151,7 +159,15 @@ pub trait Logged: Copy {
     ) -> Self
         requires { again ≤ most_retries }
         ensures { tried result
-            ≡ record { worker = worker; number = number; again = again; seen = seen; moves = Self.Attempt.moves attempt.now; price = price.now; verdict = verdict } };
+            ≡ record {
+              worker = worker;
+              number = number;
+              again = again;
+              seen = seen;
+              moves = Self.Attempt.moves attempt.now;
+              price = price.now;
+              verdict = verdict;
+            } };
 
     fn worker(&self) -> u32
         ensures { result ≡ (tried self.now).worker };

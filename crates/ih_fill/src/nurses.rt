@@ -56,7 +56,8 @@ pub fn cover(inst: &Instance, scorer: &mut Scorer<'_>, k: Shift, r: RoomNo)
     requires instance { scorer.old.instance ≡ inst.now.draft }
     requires room { r.0 < room_count inst.now.draft }
     requires shift { k.0 < shift_count inst.now.draft }
-    ensures { scorer.new ≡ record scorer.old { plan = with_care inst.now.draft scorer.old.hard scorer.old.plan k.0 r.0 } }
+    ensures { scorer.new
+        ≡ record scorer.old { plan = with_care inst.now.draft scorer.old.hard scorer.old.plan k.0 r.0 } }
 {
     if is_uncovered(scorer, r, k) {
         if let Some(best) = cheapest_nurse(inst, scorer, r, k) {

@@ -78,7 +78,12 @@ impl<'a> Scorer<'a> {
         requires plan { IsPlanOf inst.now.draft plan.now }
         requires hard { hard ≤ 1000000 }
         ensures { IfOk result
-            (λ f. f ≡ record { instance = inst.entry.now.draft; hard = hard; counts_uncovered = counts_uncovered; plan = plan.now }) }
+            (λ f. f ≡ record {
+              instance = inst.entry.now.draft;
+              hard = hard;
+              counts_uncovered = counts_uncovered;
+              plan = plan.now;
+            }) }
     {
         let ledgers = Ledgers::new(alloc, inst, plan)?;
         Ok(Scorer {

@@ -69,7 +69,8 @@ impl<B: Kept> Turn<B> {
         requires own { token.table_id ≡ self.table.shared.table_id }
         requires rests { (token.me.0.spent ≡ false) × (token.me.0.has_turn ≡ false) }
         requires all { Covers self.table.shared.key.seats token.me.0 }
-        ensures { Closes B.entries B.base B.maker self.table.shared.key.opening.value self.table.shared.key.seats token.me.0 result }
+        ensures { Closes B.entries B.base B.maker
+            self.table.shared.key.opening.value self.table.shared.key.seats token.me.0 result }
     {
         let RuledTurn { table, asleep: _ } = self;
         let mut closed = table.close_with(token);

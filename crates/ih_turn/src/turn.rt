@@ -100,7 +100,8 @@ impl<B: Kept> Turn<B> {
         requires seen { seen ≡ length (B.entries self.now.table.shared.key.opening.value) }
         requires room { (vec_len row.old ≡ 0) × (seats ≤ vec_capacity row.old) }
         ensures token { (token.new.table_id ≡ token.old.table_id)
-            × (token.new.me ≡ (splitting_view B.entries B.base self.now.table.shared.key.opening.value 1 seats turns, [])) }
+            × (token.new.me
+            ≡ (splitting_view B.entries B.base self.now.table.shared.key.opening.value 1 seats turns, [])) }
         ensures row { (vec_len row.new + 1 ≡ seats) × (vec_capacity row.new ≡ vec_capacity row.old)
             × AreNumberedFromOne (λ s. s.number)
             (λ s. (s.token.table_id ≡ self.now.table.shared.table_id)
@@ -128,7 +129,8 @@ impl<B: Kept> Turn<B> {
         requires seen { (seen ≡ length token.old.me.0.seen) × (token.old.me.0.start ≡ seen) }
         ensures token { (token.new.table_id ≡ token.old.table_id) × (token.new.id ≡ token.old.id)
             × (token.new.me ≡ (remaining_view token.old.me.0, [])) }
-        ensures seat { (result.token.table_id ≡ token.old.table_id) × (result.token.me.0 ≡ split_off_view token.old.me.0)
+        ensures seat { (result.token.table_id ≡ token.old.table_id)
+            × (result.token.me.0 ≡ split_off_view token.old.me.0)
             × (result.number ≡ number) × (made_count result ≡ 0) × (result.left ≡ left) }
     {
         let other = self.table.shared.split_seat::<SplitSeat<B>>(token);

@@ -33,7 +33,8 @@ pub struct RoomCosts {
 }
 
 fn nothing() -> RoomCosts
-    ensures { result ≡ record { gender_mixes = 0; over_capacity = 0; uncovered = 0; mixed_ages = 0; missing_skill = 0 } }
+    ensures { result
+        ≡ record { gender_mixes = 0; over_capacity = 0; uncovered = 0; mixed_ages = 0; missing_skill = 0 } }
 {
     RoomCosts {
         gender_mixes: 0,
