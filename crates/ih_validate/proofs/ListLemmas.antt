@@ -81,9 +81,6 @@ few-among n p xs e h = rw e (omega (arith, which_below-short n p))
 pub filter-whole : (q : ℕ → Bool) (xs ys : List ℕ) (i : ℕ) → length xs ≤ i → xs ≡ ys → filter q (take i xs) ≡ filter q ys
 filter-whole q xs ys i h e = rw (take_all i xs h, e) refl
 
-pub few-persons : (I : Draft) → IsValid I → person_count I ≤ 2560
-few-persons I valid = let one = valid.patients.len.most in let two = valid.occupants.len.most in omega arith
-
 pub few-patients : (I : Draft) → IsValid I → patient_count I ≤ 2560
 few-patients I valid = let one = valid.patients.len.most in omega arith
 

@@ -2,8 +2,9 @@ use Rattle.std.proofs.Common.{◌∙◌, arith}
 use Rattle.ih_tables.specs.Sizes.{person_count}
 use Rattle.ih_plan.specs.Presence.{is_present, room_of}
 use Rattle.ih_plan.specs.Costs.{is_number}
+use Rattle.ih_plan.proofs.BillBounds.{few-persons}
 use Rattle.ih_validate.specs.Members.{residents_of}
-use Rattle.ih_validate.proofs.ListLemmas.{all-among, few-among, few-persons, filter-whole, present-residents}
+use Rattle.ih_validate.proofs.ListLemmas.{all-among, few-among, filter-whole, present-residents}
 use Rattle.ih_validate.proofs.presence.list_present.Goals as goal
 
 pub is_present-requires-clause-person : goal.is_present-requires-clause-person
