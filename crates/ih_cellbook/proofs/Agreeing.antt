@@ -14,7 +14,7 @@ use Rattle.ih_journal.specs.Base.{Base}
 use Rattle.ih_journal.specs.Frozen.{is_frozen_write}
 use Rattle.ih_journal.specs.Frozen.{AgreesBefore, is_frozen}
 use Rattle.ih_journal.specs.History.{after_entries, is_accepted, plan_after, plan_at}
-use Rattle.ih_journal.specs.Legal.{IsLegalButDraw, first_changed, stale_or_accepted, verdict_on}
+use Rattle.ih_journal.specs.Legal.{IsLegalButDraw, first_touched, stale_or_accepted, verdict_on}
 use Rattle.ih_journal.proofs.Freezing.{agrees-start, agrees-entry}
 use Rattle.ih_journal.proofs.Growth.{AreOfMoves, after_entries-plan, plan_after-more, take-get}
 use Rattle.ih_cellbook.specs.Legal.{AreLegalButDraws}
@@ -27,7 +27,7 @@ use Rattle.std.specs.Prelude.{drop}
 free-seen : (b : Base) (H : List Tried) (number seen : ℕ) (m : List Move) (price : Bill) → verdict_on b H number seen m price ≡ Accepted → is_frozen b (plan_at b H seen) m ≡ false
 unfolding verdict_on
 free-seen b H number seen m price = by_case (is_frozen b (plan_at b H seen) m)
-    (if int_lt (theta b.options number) (score b.options.hard b.instance.weights price) then Declined else stale_or_accepted b H seen (first_changed b.instance (plan_at b H seen) (drop seen H) m))
+    (if int_lt (theta b.options number) (score b.options.hard b.instance.weights price) then Declined else stale_or_accepted b H seen (first_touched b.instance (plan_at b H seen) (drop seen H) m))
   where
     by_case : (f : Bool) (v : Verdict) → (if f then Frozen else v) ≡ Accepted → f ≡ false
     by_case true v h = absurd (let no : Frozen ≡ Accepted = h in cc)

@@ -29,7 +29,7 @@ use Rattle.ih_journal.specs.Settings.{IsLawful, most_entries}
 use Rattle.ih_journal.specs.Attempts.{attempt_after, last_by, next_attempt}
 use Rattle.ih_journal.specs.Base.{Base}
 use Rattle.ih_journal.specs.Best.{BestIs, IsFeasibleAt, best_with, cost_at}
-use Rattle.ih_journal.specs.History.{after_entries, changes_since, is_accepted, after_entry, plan_after, plan_at, version}
+use Rattle.ih_journal.specs.History.{after_entries, touches_since, is_accepted, after_entry, plan_after, plan_at, version}
 use Rattle.ih_journal.specs.Legal.{IsLegalButDraw}
 use Rattle.ih_journal.proofs.BestLemmas.{best-start, best-more}
 use Rattle.ih_journal.proofs.Mapped.{map-more}
@@ -100,7 +100,7 @@ zeros (suc n) (suc count) = zeros n count
 
 pub kept-none : (b : Base) (cs ns : List ℕ) (now : Bill) (found : Option (ℕ × ℤ)) → IsBase b → cs ≡ replicate (cell_count b.instance) 0 → ns ≡ replicate b.options.workers 0
     → now ≡ bill_of b.instance b.start → found ≡ best_with None 0 (feasible now) (cost b.instance.weights now) → IsKept b [] cs ns now found
-unfolding after_entries changes_since last_by
+unfolding after_entries touches_since last_by
 kept-none b cs ns now found base counters again bill best =
     record {
       base = base;

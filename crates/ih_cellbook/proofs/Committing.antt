@@ -19,7 +19,7 @@ use Rattle.ih_journal.specs.Attempts.{Attempt, attempt_after, last_by, is_done, 
 use Rattle.ih_journal.specs.Base.{Base}
 use Rattle.ih_journal.specs.Settings.{theta}
 use Rattle.ih_journal.specs.History.{is_accepted, plan_at, plan_after, version}
-use Rattle.ih_journal.specs.Legal.{IsLegalButDraw, verdict_on, stale_or_accepted, first_changed}
+use Rattle.ih_journal.specs.Legal.{IsLegalButDraw, verdict_on, stale_or_accepted, first_touched}
 use Rattle.ih_journal.proofs.Growth.{AreOfMoves, get-more}
 use Rattle.ih_footprint.proofs.Ranked.{cell_in-in}
 use Rattle.ih_cellbook.specs.Offered.{Offered}
@@ -52,7 +52,7 @@ reads-cells b H m = tagged-keys (λ n. version b H (cell_at b.instance n)) (foot
 
 module _ (b : Base) (H : List Tried) (counter : ℕ → ℕ) (seen : ℕ) (m : List Move) (versions : AreVersionsBy b H counter) where
   first-is : first_differing counter (reads_after b (take seen H) m)
-      ≡ option_map (λ n. (n, version b (take seen H) (cell_at b.instance n))) (first_changed b.instance (plan_at b H seen) (drop seen H) m)
+      ≡ option_map (λ n. (n, version b (take seen H) (cell_at b.instance n))) (first_touched b.instance (plan_at b H seen) (drop seen H) m)
   first-is =
       let foot = footprint_of_all b.instance (plan_at b H seen) m in
       find-pairs (λ (r : ℕ × ℕ). not (counter r.0 == r.1)) (λ n. version b (take seen H) (cell_at b.instance n)) (footprint_of_all b.instance (plan_at b H seen) m)
@@ -61,16 +61,16 @@ module _ (b : Base) (H : List Tried) (counter : ℕ → ℕ) (seen : ℕ) (m : L
       (λ n h. ap (λ k. not (k == version b (take seen H) (cell_at b.instance n))) (versions n (footprint-below b.instance (plan_at b H seen) m n h)))
       ∙ first_risen b H seen m)
 
-  first-below : (n : ℕ) → first_changed b.instance (plan_at b H seen) (drop seen H) m ≡ Some n → n < cell_count b.instance
+  first-below : (n : ℕ) → first_touched b.instance (plan_at b H seen) (drop seen H) m ≡ Some n → n < cell_count b.instance
   first-below n e =
       footprint-below b.instance (plan_at b H seen) m n
       (find-listed (λ i. rose b H seen (cell_at b.instance i)) (footprint_of_all b.instance (plan_at b H seen) m) n (first_risen b H seen m ∙ e))
 
   stale-same : stale_by b.instance counter (first_differing counter (reads_after b (take seen H) m))
-      ≡ stale_or_accepted b H seen (first_changed b.instance (plan_at b H seen) (drop seen H) m)
-  stale-same = ap (stale_by b.instance counter) first-is ∙ by_case (first_changed b.instance (plan_at b H seen) (drop seen H) m) refl
+      ≡ stale_or_accepted b H seen (first_touched b.instance (plan_at b H seen) (drop seen H) m)
+  stale-same = ap (stale_by b.instance counter) first-is ∙ by_case (first_touched b.instance (plan_at b H seen) (drop seen H) m) refl
     where
-      by_case : (o : Option ℕ) → first_changed b.instance (plan_at b H seen) (drop seen H) m ≡ o
+      by_case : (o : Option ℕ) → first_touched b.instance (plan_at b H seen) (drop seen H) m ≡ o
           → stale_by b.instance counter (option_map (λ n. (n, version b (take seen H) (cell_at b.instance n))) o) ≡ stale_or_accepted b H seen o
       by_case None e = refl
       by_case (Some n) e = ap (Stale (cell_at b.instance n) (version b (take seen H) (cell_at b.instance n))) (versions n (first-below n e))
@@ -86,11 +86,11 @@ verdict-same b H counter o versions right =
     told : Verdict
     told =
         if int_lt (theta b.options o.number) (score b.options.hard b.instance.weights o.price) then Declined
-        else stale_or_accepted b H o.seen (first_changed b.instance (plan_at b H o.seen) (drop o.seen H) o.moves)
+        else stale_or_accepted b H o.seen (first_touched b.instance (plan_at b H o.seen) (drop o.seen H) o.moves)
 
     by_case : (f d : Bool) → ((not f && not d) ≡ true → o.reads.pairs ≡ reads_after b (take o.seen H) o.moves)
         → (if f then Frozen else if d then Declined else stale_by b.instance counter (first_differing counter o.reads.pairs))
-        ≡ (if f then Frozen else if d then Declined else stale_or_accepted b H o.seen (first_changed b.instance (plan_at b H o.seen) (drop o.seen H) o.moves))
+        ≡ (if f then Frozen else if d then Declined else stale_or_accepted b H o.seen (first_touched b.instance (plan_at b H o.seen) (drop o.seen H) o.moves))
     by_case true d asked = refl
     by_case false true asked = refl
     by_case false false asked =

@@ -18,8 +18,8 @@ use Rattle.ih_journal.specs.declared.entries.Verdict.TheVariants.{Accepted, Decl
 use Rattle.ih_journal.specs.Settings.{theta}
 use Rattle.ih_journal.specs.Base.{Base}
 use Rattle.ih_journal.specs.Frozen.{is_frozen}
-use Rattle.ih_journal.specs.History.{is_accepted, after_entry, after_entries, changes, changed_since, plan_at, plan_after}
-use Rattle.ih_journal.specs.Legal.{verdict_on, stale_or_accepted, first_changed}
+use Rattle.ih_journal.specs.History.{is_accepted, after_entry, after_entries, touches_accepted, touched_since, plan_at, plan_after}
+use Rattle.ih_journal.specs.Legal.{verdict_on, stale_or_accepted, first_touched}
 use Rattle.ih_journal.proofs.HistoryLemmas.{after_entries-append}
 use Rattle.ih_journal.proofs.Growth.{AreOfMoves, after_entry-plan, after_entries-plan, plan_at-plan}
 use Rattle.ih_footprint.specs.Laws.{AreSameOn}
@@ -29,7 +29,7 @@ use Rattle.ih_footprint.proofs.Ranked.{cell_in-number_in, number_in-in}
 use Rattle.ih_cellbook.proofs.Finds.{find-none, range-has}
 
 -- an entry that doesn't change a cell leaves its content
-entry-keeps : (I : Draft) (P : Timetable) (e : Tried) (c : Cell) → IsPlanOf I P → AreMoves I e.moves → IsCellOf I c → changes I P e c ≡ false
+entry-keeps : (I : Draft) (P : Timetable) (e : Tried) (c : Cell) → IsPlanOf I P → AreMoves I e.moves → IsCellOf I c → touches_accepted I P e c ≡ false
     → content_of I (after_entry I P e) c ≡ content_of I P c
 entry-keeps I P e c plan fits range h = by_case (is_accepted e.verdict) h
   where
@@ -38,12 +38,12 @@ entry-keeps I P e c plan fits range h = by_case (is_accepted e.verdict) h
     by_case false apart = refl
 
 -- a cell that no entry changes keeps its content
-pub entries-keep : (I : Draft) (P : Timetable) (es : List Tried) (c : Cell) → IsPlanOf I P → AreOfMoves I es → IsCellOf I c → changed_since I P es c ≡ false
+pub entries-keep : (I : Draft) (P : Timetable) (es : List Tried) (c : Cell) → IsPlanOf I P → AreOfMoves I es → IsCellOf I c → touched_since I P es c ≡ false
     → content_of I (after_entries I P es) c ≡ content_of I P c
-unfolding after_entries changed_since
+unfolding after_entries touched_since
 entries-keep I P [] c plan fits range h = refl
 entries-keep I P (e ∷ es) c plan fits range h =
-    let apart = or_parts (changes I P e c) (changed_since I (after_entry I P e) es c) h in
+    let apart = or_parts (touches_accepted I P e c) (touched_since I (after_entry I P e) es c) h in
     entries-keep I (after_entry I P e) es c (after_entry-plan I P e plan (fits 0 e refl)) (λ k f g. fits (suc k) f g) range apart.1
     ∙ entry-keeps I P e c plan (fits 0 e refl) range apart.0
 
@@ -63,10 +63,10 @@ drop-moves I n H fits k e h = fits (n + k) e (drop-get H n k e h)
 
 module _ (b : Base) (H : List Tried) (number seen : ℕ) (m : List Move) (price : Bill) (start : IsPlanOf b.instance b.start) (moves : AreOfMoves b.instance H)
     (fits : AreMoves b.instance m) (accepted : verdict_on b H number seen m price ≡ Accepted) where
-  none-changed : first_changed b.instance (plan_at b H seen) (drop seen H) m ≡ None
+  none-changed : first_touched b.instance (plan_at b H seen) (drop seen H) m ≡ None
   unfolding verdict_on
   none-changed =
-      accepted-first b H (first_changed b.instance (plan_at b H seen) (drop seen H) m) seen (is_frozen b (plan_at b H seen) m)
+      accepted-first b H (first_touched b.instance (plan_at b H seen) (drop seen H) m) seen (is_frozen b (plan_at b H seen) m)
       (int_lt (theta b.options number) (score b.options.hard b.instance.weights price)) accepted
 
   plan_seen : IsPlanOf b.instance (plan_at b H seen)
@@ -76,14 +76,14 @@ module _ (b : Base) (H : List Tried) (number seen : ℕ) (m : List Move) (price 
   later = ap (after_entries b.instance b.start) (sym (take-append-drop seen H)) ∙ after_entries-append b.instance b.start (take seen H) (drop seen H)
 
   same-there : AreSameOn b.instance (all_touch b.instance (plan_at b H seen) m) (plan_at b H seen) (plan_after b H)
-  unfolding first_changed
+  unfolding first_touched
   same-there c range touched =
       let n : ℕ = number_of b.instance c in
       let inside = number_in-in (sizes_of b.instance) c range in
-      let test = λ (n : ℕ). all_touch b.instance (plan_at b H seen) m (cell_at b.instance n) && changed_since b.instance (plan_at b H seen) (drop seen H) (cell_at b.instance n) in
+      let test = λ (n : ℕ). all_touch b.instance (plan_at b H seen) m (cell_at b.instance n) && touched_since b.instance (plan_at b H seen) (drop seen H) (cell_at b.instance n) in
       let off : test n ≡ false = find-none test (range_with_len 0 (cell_count b.instance)) none-changed n (range-has 0 (cell_count b.instance) n (omega arith) (omega arith)) in
-      let here : (all_touch b.instance (plan_at b H seen) m c && changed_since b.instance (plan_at b H seen) (drop seen H) c) ≡ false = rw (cell_in-number_in (sizes_of b.instance) c range) at off in
-      let apart : changed_since b.instance (plan_at b H seen) (drop seen H) c ≡ false = rw touched at here in
+      let here : (all_touch b.instance (plan_at b H seen) m c && touched_since b.instance (plan_at b H seen) (drop seen H) c) ≡ false = rw (cell_in-number_in (sizes_of b.instance) c range) at off in
+      let apart : touched_since b.instance (plan_at b H seen) (drop seen H) c ≡ false = rw touched at here in
       rw later (entries-keep b.instance (plan_at b H seen) (drop seen H) c plan_seen (drop-moves b.instance seen H moves) range apart)
 
   -- The attempt does the same at its place as where it was priced.

@@ -7,7 +7,7 @@ use Rattle.ih_plan.specs.Series.{price_of_all}
 use Rattle.ih_journal.specs.Tried.{Tried}
 use Rattle.ih_journal.specs.Attempts.{is_done, Attempt, attempt_after, last_by, next_attempt}
 use Rattle.ih_journal.specs.Base.{Base}
-use Rattle.ih_journal.specs.History.{changes_since, plan_at}
+use Rattle.ih_journal.specs.History.{touches_since, plan_at}
 use Rattle.ih_journal.specs.Legal.{IsLegalButDraw}
 use Rattle.ih_journal.proofs.Growth.{length-more}
 use Rattle.ih_journal.specs.declared.entries.Verdict.{Verdict}
@@ -75,7 +75,7 @@ module _ (b : Base) (base : IsBase b) (s : State) (legal : IsLegalState b s) whe
   step-legal (offers w n m) may = offer-legal w n m may
 
 opening-legal : (b : Base) → IsLegalState b opening
-unfolding changes_since
+unfolding touches_since
 opening-legal b = record {
   legal = legal_but-none b;
   versions = λ n h. refl;

@@ -23,7 +23,7 @@ use Rattle.ih_journal.specs.Base.{Base}
 use Rattle.ih_journal.specs.Frozen.{is_frozen}
 use Rattle.ih_journal.specs.Grammar.{IsEntryOf, IsHistoryOf, IsPrice, IsVerdictOf}
 use Rattle.ih_journal.specs.History.{plan_at, version}
-use Rattle.ih_journal.specs.Legal.{IsLegalButDraw, first_changed, stale_or_accepted, verdict_on}
+use Rattle.ih_journal.specs.Legal.{IsLegalButDraw, first_touched, stale_or_accepted, verdict_on}
 use Rattle.ih_journal.specs.Settings.{theta}
 use Rattle.ih_journal.specs.declared.settings.Options.{Options}
 use Rattle.ih_journal.proofs.ChangeDigits.{change-short}
@@ -63,7 +63,7 @@ module _ (b : Base) (H : List Tried) (valid : IsValid b.instance) (base : IsBase
   pub short : length H ≤ 10 ^ 6
   short = let few = (legal-few b H history).most in let most = base.lawful.entries in omega (arith, few, most)
 
-  below-found : (seen n : ℕ) (m : List Move) → first_changed b.instance (plan_at b H seen) (drop seen H) m ≡ Some n → n < cell_count b.instance
+  below-found : (seen n : ℕ) (m : List Move) → first_touched b.instance (plan_at b H seen) (drop seen H) m ≡ Some n → n < cell_count b.instance
   below-found seen n m e =
       footprint-below b.instance (plan_at b H seen) m n
       (find-listed (λ i. rose b H seen (cell_at b.instance i)) (footprint_of_all b.instance (plan_at b H seen) m) n (first_risen b H seen m ∙ e))
@@ -74,7 +74,7 @@ module _ (b : Base) (H : List Tried) (valid : IsValid b.instance) (base : IsBase
   take-short : (n : ℕ) (G : List Tried) → length G ≤ 10 ^ 6 → length (take n G) ≤ 10 ^ 6
   take-short n G h = let len = length-take n G in omega (arith, len, h)
 
-  stale-in : (seen : ℕ) (m : List Move) (found : Option ℕ) → first_changed b.instance (plan_at b H seen) (drop seen H) m ≡ found
+  stale-in : (seen : ℕ) (m : List Move) (found : Option ℕ) → first_touched b.instance (plan_at b H seen) (drop seen H) m ≡ found
       → IsShortVerdict b.instance (stale_or_accepted b H seen found)
   stale-in seen m None e = tt
   stale-in seen m (Some n) e = (
@@ -88,10 +88,10 @@ module _ (b : Base) (H : List Tried) (valid : IsValid b.instance) (base : IsBase
   verdict-in number seen m price = by_case (is_frozen b (plan_at b H seen) m) (int_lt (theta b.options number) (score b.options.hard b.instance.weights price))
     where
       by_case : (f d : Bool) → IsShortVerdict b.instance (if f then Frozen else if d then Declined
-          else stale_or_accepted b H seen (first_changed b.instance (plan_at b H seen) (drop seen H) m))
+          else stale_or_accepted b H seen (first_touched b.instance (plan_at b H seen) (drop seen H) m))
       by_case true d = tt
       by_case false true = tt
-      by_case false false = stale-in seen m (first_changed b.instance (plan_at b H seen) (drop seen H) m) refl
+      by_case false false = stale-in seen m (first_touched b.instance (plan_at b H seen) (drop seen H) m) refl
 
   module _ (e : Tried) (legal : IsLegalButDraw b H e) where
     below : (e.number < b.options.moves) × (e.again ≤ b.options.retries)

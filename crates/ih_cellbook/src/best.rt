@@ -12,7 +12,7 @@ use crate::kinds::Logged;
 use ih_journal::Verdict;
 use ih_tables::{Bill, Instance};
 
-// Adds the price of an entry, where it is accepted.
+// Adds the price of an entry, where it is accepted. A bill and a price are at most 10^11 each.
 pub(crate) fn add_price(verdict: &Verdict, bill: &mut Bill, price: &Bill)
     requires { IsWithin (10 ^ 12) (add_bills bill.old price.now) }
     ensures { bill.new ≡ (if is_accepted verdict.now then add_bills bill.old price.now else bill.old) }

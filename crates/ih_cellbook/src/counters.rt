@@ -82,7 +82,8 @@ fn raise(counters: &mut [u32], reads: &[(u32, u32)])
     }
 }
 
-/// Where the attempt was accepted, each counter rises by how often its cell was read.
+/// Where the attempt was accepted, each counter rises by how often its cell was read: once, since a footprint lists no
+/// cell twice.
 pub(crate) fn raise_where(verdict: &Verdict, counters: &mut Vec<u32>, reads: &Reads)
     requires reads { is_accepted verdict.now ≡ true → All (λ r. r.0 < length counters.old.items) reads.now.pairs }
     requires small { is_accepted verdict.now ≡ true → (n : ℕ)

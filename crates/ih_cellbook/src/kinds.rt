@@ -37,7 +37,7 @@ pub trait Attempted: Copy {
             → (moves result ≡ map (move_of inst.now.draft seed w) (range_with_len i count))
             × (stream.new ≡ stream_at seed w (i + count)) };
 
-    // The latest freeze day under which it may be tried.
+    // The latest freeze day under which it may be tried: any for single moves, day 0 for chains, which freeze nothing.
     ghost most_freeze: { ℕ };
 
     /// Whether one of the writes changes a choice before the freeze day.
@@ -56,7 +56,7 @@ pub trait Attempted: Copy {
         ensures { result ≡ list_any (is_frozen_write start.now freeze)
             (expand_all inst.now.draft plan.now (moves self.now)) };
 
-    /// Whether it is found to be the same as another.
+    /// Whether it is found to be the same as another. An answer of no says nothing.
     fn is_same(&self, other: &Self) -> bool
         ensures { IsTrue result → moves self.now ≡ moves other.now };
 }
@@ -144,7 +144,7 @@ pub trait Logged: Copy {
 
     ghost tried: { Self → Tried };
 
-    /// An entry of nobody.
+    /// An entry of nobody, with which room is written ahead.
     fn blank() -> Self;
 
     /// The entry of one try.

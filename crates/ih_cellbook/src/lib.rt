@@ -1,5 +1,5 @@
-//! The book that workers share: it takes offers priced on older copies, and accepts exactly where nothing has changed
-//! that a price was read from.
+//! The book that workers share: it takes offers priced on older copies. Of those neither frozen nor declined it accepts
+//! exactly the ones of whose footprint no accepted entry has touched a cell since.
 #![tactic(auto)]
 
 mod best;

@@ -1,4 +1,4 @@
--- What priced ledgers stand for.
+-- What ledgers stand for.
 use Rattle.ih_tables.specs.declared.drafts.Draft.{Draft}
 use Rattle.ih_plan.specs.Timetable.{Timetable}
 

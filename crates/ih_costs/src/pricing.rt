@@ -63,7 +63,7 @@ pub fn put_all(inst: &Instance, ledgers: &mut CellLedgers, writes: &[Write])
     }
 }
 
-/// What a write changes in the bill, without the cells that it touches. It isn't made.
+/// What a write changes in the bill. It isn't made, and its cells aren't listed.
 pub fn price_of_write(inst: &Instance, ledgers: &CellLedgers, w: &Write) -> Bill
     requires stands { AreLedgers inst.now.draft ledgers.now }
     requires write { IsWriteOf inst.now.draft w.now }

@@ -50,6 +50,7 @@ pub fn gather_behind(
                 if later.len() == 0 {
                     return;
                 }
+                // Expanded anew, into a list of its own: the calls behind this one write over the other.
                 let mut made = Writes::new();
                 expand_here(inst, ledgers, mv, &mut made);
                 gather_behind(inst, ledgers, made.as_slice(), later, scratch, looked);

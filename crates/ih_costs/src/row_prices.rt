@@ -40,6 +40,7 @@ pub fn change_behind(
                 if later.len() == 0 {
                     return here;
                 }
+                // Expanded anew, into a list of its own: the calls behind this one write over the other.
                 let mut made = Writes::new();
                 expand_here(inst, ledgers, mv, &mut made);
                 let further = change_behind(inst, ledgers, made.as_slice(), later, writes);

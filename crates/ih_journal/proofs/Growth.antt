@@ -23,8 +23,8 @@ use Rattle.ih_journal.specs.Base.{Base}
 use Rattle.ih_journal.specs.Frozen.{is_frozen}
 use Rattle.ih_journal.specs.declared.settings.Options.{Options}
 use Rattle.ih_journal.specs.Attempts.{Attempt, attempt_after, last_by, else_last, when_by, is_stale, is_done, next_attempt, HasMade}
-use Rattle.ih_journal.specs.History.{is_accepted, after_entry, after_entries, plan_after, plan_at, changed_since}
-use Rattle.ih_journal.specs.Legal.{verdict_on, first_changed, IsLegal, AreLegal}
+use Rattle.ih_journal.specs.History.{is_accepted, after_entry, after_entries, plan_after, plan_at, touched_since}
+use Rattle.ih_journal.specs.Legal.{verdict_on, first_touched, IsLegal, AreLegal}
 use Rattle.ih_journal.proofs.HistoryLemmas.{after_entries-append}
 
 -- ---- timetables
@@ -156,8 +156,8 @@ attempt-parts o G w a = by_case (is_done o G w)
 
 -- ---- verdicts on what nobody came before
 
-none-changed : (I : Draft) (P : Timetable) (m : List Move) (xs : List ℕ) → find (λ n. all_touch I P m (cell_at I n) && changed_since I P [] (cell_at I n)) xs ≡ None
-unfolding changed_since
+none-changed : (I : Draft) (P : Timetable) (m : List Move) (xs : List ℕ) → find (λ n. all_touch I P m (cell_at I n) && touched_since I P [] (cell_at I n)) xs ≡ None
+unfolding touched_since
 none-changed I P m [] = refl
 none-changed I P m (x ∷ xs) = rw (and-false (all_touch I P m (cell_at I x))) (none-changed I P m xs)
   where
@@ -174,7 +174,7 @@ verdict_at_once b P number m price =
 
 pub verdict_on-end : (b : Base) (H : List Tried) (number seen : ℕ) (m : List Move) (price : Bill) → seen ≡ length H
     → verdict_on b H number seen m price ≡ verdict_at_once b (plan_after b H) number m price
-unfolding verdict_on first_changed
+unfolding verdict_on first_touched
 verdict_on-end b H number seen m price end =
     let none : drop seen H ≡ [] = drop_all seen H (omega arith) in
     let here = plan_at-end b H seen (omega arith) in

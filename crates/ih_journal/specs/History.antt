@@ -32,19 +32,19 @@ abbrev pub plan_at : Base → List Tried → ℕ → Timetable
 plan_at b H k = plan_after b (take k H)
 
 -- an entry at timetable P is accepted and touches the cell
-abbrev pub changes : Draft → Timetable → Tried → Cell → Bool
-changes I P e c = is_accepted e.verdict && all_touch I P e.moves c
+abbrev pub touches_accepted : Draft → Timetable → Tried → Cell → Bool
+touches_accepted I P e c = is_accepted e.verdict && all_touch I P e.moves c
 
 -- some of the entries that follow P is accepted and touches the cell
-unfoldable pub changed_since : Draft → Timetable → List Tried → Cell → Bool
-changed_since I P [] c = false
-changed_since I P (e ∷ es) c = changes I P e c || changed_since I (after_entry I P e) es c
+unfoldable pub touched_since : Draft → Timetable → List Tried → Cell → Bool
+touched_since I P [] c = false
+touched_since I P (e ∷ es) c = touches_accepted I P e c || touched_since I (after_entry I P e) es c
 
 -- how many of the entries that follow P are accepted and touch the cell
-unfoldable pub changes_since : Draft → Timetable → List Tried → Cell → ℕ
-changes_since I P [] c = 0
-changes_since I P (e ∷ es) c = bit (changes I P e c) + changes_since I (after_entry I P e) es c
+unfoldable pub touches_since : Draft → Timetable → List Tried → Cell → ℕ
+touches_since I P [] c = 0
+touches_since I P (e ∷ es) c = bit (touches_accepted I P e c) + touches_since I (after_entry I P e) es c
 
 -- the version of a cell after the whole list
 abbrev pub version : Base → List Tried → Cell → ℕ
-version b H c = changes_since b.instance b.start H c
+version b H c = touches_since b.instance b.start H c

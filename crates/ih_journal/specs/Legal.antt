@@ -16,12 +16,12 @@ use Rattle.ih_journal.specs.Base.{Base}
 use Rattle.ih_journal.specs.Frozen.{is_frozen}
 use Rattle.ih_plan.specs.Draws.{move_of}
 use Rattle.ih_journal.specs.Attempts.{next_attempt, is_done}
-use Rattle.ih_journal.specs.History.{plan_at, version, changed_since}
+use Rattle.ih_journal.specs.History.{plan_at, version, touched_since}
 
--- the first cell, by number, that the move touches at P and that one of the entries that follow P changed
-unfoldable pub first_changed : Draft → Timetable → List Tried → List Move → Option ℕ
-first_changed I P es m =
-    find (λ n. all_touch I P m (cell_at I n) && changed_since I P es (cell_at I n)) (range_with_len 0 (cell_count I))
+-- the first cell, by number, that the moves touch at P and that an accepted one of the entries that follow P touches
+unfoldable pub first_touched : Draft → Timetable → List Tried → List Move → Option ℕ
+first_touched I P es m =
+    find (λ n. all_touch I P m (cell_at I n) && touched_since I P es (cell_at I n)) (range_with_len 0 (cell_count I))
 
 abbrev pub stale_or_accepted : Base → List Tried → ℕ → Option ℕ → Verdict
 stale_or_accepted b H seen None = Accepted
@@ -35,7 +35,7 @@ verdict_on b H number seen m price =
     then Frozen
     else if int_lt (theta b.options number) (score b.options.hard b.instance.weights price)
     then Declined
-    else stale_or_accepted b H seen (first_changed b.instance (plan_at b H seen) (drop seen H) m)
+    else stale_or_accepted b H seen (first_touched b.instance (plan_at b H seen) (drop seen H) m)
 
 -- e may come after the entries H, but for its draw
 pub record IsLegalButDraw (b : Base) (H : List Tried) (e : Tried) : Type 0 where

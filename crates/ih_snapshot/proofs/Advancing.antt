@@ -10,7 +10,7 @@ use Rattle.ih_plan.specs.Cells.{cell_at, cell_count}
 use Rattle.ih_plan.specs.Series.{footprint_of_all}
 use Rattle.ih_journal.specs.Tried.{Tried}
 use Rattle.ih_journal.specs.Base.{Base}
-use Rattle.ih_journal.specs.History.{after_entry, changes, is_accepted, plan_at, version}
+use Rattle.ih_journal.specs.History.{after_entry, touches_accepted, is_accepted, plan_at, version}
 use Rattle.ih_journal.specs.Legal.{IsLegalButDraw}
 use Rattle.ih_journal.proofs.Growth.{length-more, plan_after-more}
 use Rattle.ih_cellbook.specs.Legal.{AreLegalButDraws}
@@ -76,8 +76,8 @@ module _ (H : List Tried) (r : Snapshot) (stands : IsReplicaOf r.base H r) where
       each-more : (n : ℕ) → n < cell_count r.base.instance → slice_index s.versions n ≡ version r.base (H ++ e ∷ []) (cell_at r.base.instance n)
       each-more n h =
           taken.each n h
-          ∙ ap (λ k. k + bit (changes r.base.instance r.plan e (cell_at r.base.instance n))) (stands.versions.each n h)
-          ∙ ap (λ P. version r.base H (cell_at r.base.instance n) + bit (changes r.base.instance P e (cell_at r.base.instance n))) stands.plan
+          ∙ ap (λ k. k + bit (touches_accepted r.base.instance r.plan e (cell_at r.base.instance n))) (stands.versions.each n h)
+          ∙ ap (λ P. version r.base H (cell_at r.base.instance n) + bit (touches_accepted r.base.instance P e (cell_at r.base.instance n))) stands.plan
           ∙ sym (version-more r.base H e (cell_at r.base.instance n))
 
       last-more : IsReadFrom r.base (H ++ e ∷ []) s.last

@@ -8,7 +8,7 @@ use Rattle.ih_plan.specs.Sums.{bit}
 use Rattle.ih_plan.specs.Series.{AreMoves, footprint_of_all}
 use Rattle.ih_journal.specs.Tried.{Tried}
 use Rattle.ih_journal.specs.Base.{Base}
-use Rattle.ih_journal.specs.History.{after_entry, changes, is_accepted}
+use Rattle.ih_journal.specs.History.{after_entry, touches_accepted, is_accepted}
 use Rattle.ih_costs.specs.Standing.{Standing}
 use Rattle.ih_cellbook.specs.Offered.{Offered}
 use Rattle.ih_cellbook.specs.Keeping.{IsBase}
@@ -44,4 +44,4 @@ pub record HasTaken (r : Snapshot) (e : Tried) (s : Snapshot) : Type 0 where
   pub seen : s.seen ≡ r.seen + 1
   pub plan : s.plan ≡ after_entry r.base.instance r.plan e
   pub len : length s.versions ≡ length r.versions
-  pub each : (n : ℕ) → n < cell_count r.base.instance → slice_index s.versions n ≡ slice_index r.versions n + bit (changes r.base.instance r.plan e (cell_at r.base.instance n))
+  pub each : (n : ℕ) → n < cell_count r.base.instance → slice_index s.versions n ≡ slice_index r.versions n + bit (touches_accepted r.base.instance r.plan e (cell_at r.base.instance n))

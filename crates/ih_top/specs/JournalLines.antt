@@ -26,7 +26,7 @@ pub record Begins (b : Base) (bytes : List ℕ) (H : List Entry) (rest : List �
   pub joins : bytes ≡ lines_from b.options 0 H ++ rest
   pub longest : (line more : List ℕ) (e : Entry) → HasLine rest line more → IsNextLine b H line e → ⊥
 
--- bytes without a line feed come too much where the history is full, and are no line else
+-- bytes without a line feed are `Extra` where the history is full, and else `Grammar`
 abbrev pub IsUnendedFor : Base → List Entry → Reason → Type 0
 IsUnendedFor b H Extra = IsFull b 1 (tries H)
 IsUnendedFor b H Grammar = (w : ℕ) × IsGoing b (tries H) w

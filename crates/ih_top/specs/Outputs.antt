@@ -73,7 +73,7 @@ plain_base s i = base_with i.inst.value.draft (started s.start.fill s.options.ha
 
 -- ---- how it is written
 
--- the journal and the solution of the best are written, as far as this says
+-- the journal and the solution of the best are written, as far as `writes` says
 pub record WritesOutput (writes : SolveCall → List ℕ → List ℕ → Names → Names → Type 0) (s : SolveCall) (o : Output)
     (old new : Option Names) : Type 0 where
   pub best : BestOutput

@@ -89,7 +89,7 @@ pub record AreSearches (files : Option Names) (r : RoundsCall) (b : Base) (rs : 
   pub legal : AreRounds b rs
   pub exact : HaveExactPrices b rs
 
--- the journals of the rounds are written, as far as this says
+-- the journals of the rounds are written, as far as `writes` says
 pub record HaveSearched (writes : SolveCall → List ℕ → Names → Names → Type 0) (r : RoundsCall)
     (old new : Option Names) : Type 0 where
   pub base : Base

@@ -17,8 +17,8 @@ use Rattle.ih_top.specs.JournalEnds.{JournalEnds}
 use Rattle.ih_top.specs.JournalFiles.{JournalRead}
 use Rattle.ih_top.specs.JournalHeading.{IsHeadedBy, IsHeadless}
 
--- H is the longest legal history of the search whose lines follow the journal's heading; the same holds of its
--- timetables and prices.
+-- H is the longest legal history of the search whose lines follow the journal's heading. Each of its timetables agrees
+-- with the start before the freeze day, and each accepted price is exact at its place.
 pub record IsSalvage (s : StartCall) (x : JournalRead) (b : Base) (H : List Entry) : Type 0 where
   pub bytes : List ℕ
   pub rest : List ℕ

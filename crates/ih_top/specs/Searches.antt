@@ -52,7 +52,7 @@ pub record IsSearch {X : Type 0} (kind : Kind X) (files : Option Names) (s : Sol
 abbrev pub solution_at : Base → List Tried → ℕ → List ℕ
 solution_at b H k = solution b.instance (plan_at b H k)
 
--- the journal of a full history is written, as far as this says
+-- the journal of a full history is written, as far as `writes` says
 pub record HasSearched {X : Type 0} (writes : SolveCall → List ℕ → Names → Names → Type 0) (kind : Kind X) (s : SolveCall)
     (old new : Option Names) : Type 0 where
   pub base : Base
@@ -60,8 +60,8 @@ pub record HasSearched {X : Type 0} (writes : SolveCall → List ℕ → Names �
   pub search : IsSearch kind old s base history
   pub written : IfTold (writes s (kind.journal base.options history)) old new
 
--- the journal of a full history and the solution of its first cheapest feasible timetable are written, as far as this
--- says
+-- the journal of a full history and the solution of its first cheapest feasible timetable are written, as far as
+-- `writes` says
 pub record HasFoundBest {X : Type 0} (writes : SolveCall → List ℕ → List ℕ → Names → Names → Type 0) (kind : Kind X)
     (s : SolveCall) (old new : Option Names) : Type 0 where
   pub base : Base

@@ -77,7 +77,7 @@ pub fn chains_are_refused()
     chain_journals_are_short();
 }
 
-/// The limits of words and files are these numbers: the definitions speak of them by name, so a changed constant would
+/// The limits of words and files are these numbers: where a definition speaks of them by name, a changed constant would
 /// change what is promised, and not break it.
 pub fn limits_are_these()
     ensures workers { MAX_WORKERS ≡ 64 }

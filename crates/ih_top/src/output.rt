@@ -105,7 +105,7 @@ pub fn best_of(
     }
 }
 
-/// The seed, which has 64 bits.
+/// The seed. A call of this tells the proof that it has 64 bits.
 pub fn seed_of(options: &Options) -> u64
     ensures seed { result ≡ options.now.seed }
     ensures small { options.now.seed < 2 ^ 64 }

@@ -18,8 +18,8 @@ use std::thread::Threads;
 
 /// Does all that the program does, by the words after its name.
 ///
-/// The words are read first, then the files, then the search is made; the journal is written, then the solution of the
-/// best, and at last one text is put out. Where one of these fails, nothing later is done but to say so.
+/// The words are read first, then the files, then the command does its work: a search writes its journal, then the
+/// solution of its best. At last one text is put out. Where one of these fails, nothing later is done but to say so.
 pub fn run<R: Files + Print + Threads + Wait + Sync, S: Shelf, O: Sink, G: Gate>(
     rt: &R,
     alloc: Global,

@@ -1,9 +1,9 @@
 -- Lists of the numbers below n that pass, and what more tests leave of them.
-use Rattle.std.proofs.Common.{◌≡◌, ℕ, zero, suc, ◌+◌, ◌<◌, ◌≤◌, refl, arith, sym, ◌∙◌, Bool, true, false, List, [], ◌∷◌, ◌++◌, length, take, length-append}
+use Rattle.std.proofs.Common.{◌≡◌, ℕ, zero, suc, ◌+◌, ◌<◌, ◌≤◌, refl, arith, ◌∙◌, Bool, true, false, List, [], ◌∷◌, ◌++◌, length, length-append}
 use Rattle.std.specs.Prelude.{if◌then◌else◌, All, ◌&&◌, ◌==◌, Option, Some, None, option_map}
 use Rattle.std.specs.List.{filter}
 use Rattle.std.proofs.lemmas.List.Elements.{filter-append, All-push, All-nil, All-weaker}
-use Rattle.std.proofs.lemmas.List.{append-nil, take_all}
+use Rattle.std.proofs.lemmas.List.{append-nil}
 use Rattle.ih_tables.specs.declared.drafts.Draft.{Draft}
 use Rattle.ih_tables.specs.Sizes.{patient_count, person_count}
 use Rattle.ih_tables.specs.Valid.{IsValid}
@@ -13,16 +13,13 @@ use Rattle.ih_plan.specs.Persons.{person_of}
 use Rattle.ih_plan.specs.Presence.{Admission, admission_of, is_in, covers, is_present, present}
 use Rattle.ih_plan.specs.Costs.{is_number, operated, operated_by, operated_in, theatre_of, surgeon_of, admitted_on}
 use Rattle.ih_plan.specs.Sums.{which_below}
-use Rattle.ih_plan.proofs.SumLemmas.{which_below-zero, which_below-more}
+use Rattle.ih_plan.proofs.SumLemmas.{which_below-more}
 use Rattle.ih_validate.specs.Members.{residents_of, theatre_patients, surgeon_patients}
 
 -- xs are the numbers below n that pass
 pub record IsListed (p : ℕ → Bool) (n : ℕ) (xs : List ℕ) : Type 0 where
   pub listed : xs ≡ which_below n p
   pub few : length xs ≤ n
-
-pub listed-none : (p : ℕ → Bool) → IsListed p 0 []
-listed-none p = record { listed = sym (which_below-zero p); few = omega arith }
 
 pub listed-yes : {p : ℕ → Bool} {n : ℕ} {xs : List ℕ} → IsListed p n xs → true ≡ p n → IsListed p (n + 1) (xs ++ n ∷ [])
 listed-yes {p} {n} {xs} so_far e = record {
@@ -76,10 +73,6 @@ all-among n p xs e = rw e (which_below-All n p)
 
 pub few-among : (n : ℕ) (p : ℕ → Bool) (xs : List ℕ) → xs ≡ which_below n p → n ≤ 2560 → length xs ≤ 2560
 few-among n p xs e h = rw e (omega (arith, which_below-short n p))
-
--- a loop over a list ends with all of it
-pub filter-whole : (q : ℕ → Bool) (xs ys : List ℕ) (i : ℕ) → length xs ≤ i → xs ≡ ys → filter q (take i xs) ≡ filter q ys
-filter-whole q xs ys i h e = rw (take_all i xs h, e) refl
 
 pub few-patients : (I : Draft) → IsValid I → patient_count I ≤ 2560
 few-patients I valid = let one = valid.patients.len.most in omega arith

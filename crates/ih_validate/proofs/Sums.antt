@@ -1,7 +1,6 @@
 -- Sums so far of bounded terms, as a loop over the numbers below n keeps them.
-use Rattle.std.proofs.Common.{◌≡◌, ℕ, suc, ◌+◌, ◌*◌, ◌<◌, ◌≤◌, arith, refl, sym}
+use Rattle.std.proofs.Common.{◌≡◌, ℕ, suc, ◌+◌, ◌*◌, ◌≤◌, arith, refl, sym}
 use Rattle.ih_plan.specs.Sums.{sum_below}
-use Rattle.ih_plan.specs.Presence.{day_of}
 use Rattle.ih_plan.proofs.SumLemmas.{sum_below-zero, sum_below-more}
 
 -- s is the sum of the first n terms, and is at most n times b

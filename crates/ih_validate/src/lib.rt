@@ -13,6 +13,7 @@ mod presence;
 mod reports;
 mod rooms;
 mod shifts;
+mod summing;
 mod surgeons;
 mod surgery;
 mod theatres;

@@ -5,7 +5,7 @@ ghost use Rattle.ih_plan.specs.Costs.{is_number};
 ghost use Rattle.ih_plan.specs.Sums.{count_below};
 ghost use Rattle.ih_tables.specs.Marks.{is_marked};
 
-use crate::patients::bit;
+use crate::summing::bit;
 
 /// Marks the number, where there is one.
 pub fn mark(marks: &mut [bool], n: Option<u32>)

@@ -20,7 +20,9 @@ impl Model for NumberList {
 }
 
 impl NumberList {
-    ghost use Rattle.std.specs.Prelude.{◌≡◌, ◌<◌, ◌≤◌, ◌++◌, ◌∷◌, [], length};
+    ghost use Rattle.std.specs.Prelude.{◌≡◌, ◌<◌, ◌≤◌, ◌^◌, ◌++◌, ◌∷◌, [], ℕ, Bool, All, length};
+    ghost use Rattle.std.specs.List.{filter};
+    ghost use Rattle.ih_plan.specs.Sums.{which_below};
 
     /// Nobody yet.
     pub fn new() -> NumberList
@@ -62,5 +64,35 @@ impl NumberList {
     {
         self.numbers[self.len] = x;
         self.len += 1;
+    }
+
+    /// Lists the numbers below a count that are kept, rising.
+    pub fn list_below<F: Fn(u32) -> bool>(&mut self, count: u32, keep: F)
+        requires few { count ≤ 2560 }
+        requires callable { (i : ℕ) → i < count → F.pre keep i }
+        ensures { (p : ℕ → Bool) → ((i : ℕ) (b : Bool) → i < count → F.post keep i b → b ≡ p i)
+            → self.new ≡ which_below count p }
+    {
+        self.clear();
+        for x in 0..count {
+            if keep(x) {
+                self.push(x);
+            }
+        }
+    }
+
+    /// Lists those of some numbers that are kept, in their order.
+    pub fn list_among<F: Fn(u32) -> bool>(&mut self, among: &[u32], keep: F)
+        requires few { length among.now ≤ 2560 }
+        requires callable { (most : ℕ) × All (λ i. i < most) among.now × ((i : ℕ) → i < most → F.pre keep i) }
+        ensures { (p : ℕ → Bool) → ((i : ℕ) (b : Bool) → i < 2 ^ 32 → F.post keep i b → b ≡ p i)
+            → self.new ≡ filter p among.now }
+    {
+        self.clear();
+        for x in among {
+            if keep(*x) {
+                self.push(*x);
+            }
+        }
     }
 }

@@ -10,6 +10,7 @@ ghost use Rattle.ih_plan.specs.BillOf.{nurses_seen};
 
 use crate::marks::{count_marked, mark};
 use crate::shifts::nurse_at;
+use crate::summing::sum_below;
 use ih_plan::{Plan, counted_shifts};
 use ih_tables::{Instance, PatientNo, RoomNo};
 
@@ -54,15 +55,11 @@ fn nurses_of(inst: &Instance, plan: &Plan, x: u32) -> u64
     }
 }
 
-#[tactic(auto, using(ih_plan::proofs::SumLemmas::sum_steps), unfolding(ih_plan::specs::BillOf::nurses_seen))]
+#[tactic(auto, unfolding(ih_plan::specs::BillOf::nurses_seen))]
 pub fn nurses_seen(inst: &Instance, plan: &Plan) -> u64
     requires { IsPlanOf inst.now.draft plan.now }
     ensures value { result ≡ nurses_seen inst.now.draft plan.now }
     ensures bound { result ≤ 512 * 2560 }
 {
-    let mut sum = 0;
-    for x in 0..inst.persons() {
-        sum += nurses_of(inst, plan, x);
-    }
-    sum
+    sum_below(inst.persons(), 512, |x| nurses_of(inst, plan, x))
 }

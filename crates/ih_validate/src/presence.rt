@@ -14,12 +14,7 @@ pub fn list_residents(inst: &Instance, plan: &Plan, r: RoomNo, out: &mut NumberL
     requires { IsPlanOf inst.now.draft plan.now }
     ensures { out.new ≡ residents_of inst.now.draft plan.now r.0 }
 {
-    out.clear();
-    for x in 0..inst.persons() {
-        if stays_in(inst, plan, r, x) {
-            out.push(x);
-        }
-    }
+    out.list_below(inst.persons(), |x| stays_in(inst, plan, r, x));
 }
 
 /// Lists those of a room's persons who are there on the day.
@@ -35,10 +30,5 @@ pub fn list_present(
     requires residents { residents.now ≡ residents_of inst.now.draft plan.now r.0 }
     ensures { out.new ≡ present inst.now.draft plan.now r.0 d }
 {
-    out.clear();
-    for x in residents {
-        if is_present(inst, plan, r, d, *x) {
-            out.push(*x);
-        }
-    }
+    out.list_among(residents, |x| is_present(inst, plan, r, d, x));
 }

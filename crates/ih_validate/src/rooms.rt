@@ -11,9 +11,9 @@ ghost use Rattle.ih_validate.specs.Rooms.{gender_mix, crowding, age_mix, bare_sh
 
 use crate::days::{age_spread, genders_differ};
 use crate::number_lists::NumberList;
-use crate::patients::bit;
 use crate::presence::{list_present, list_residents};
 use crate::shifts::{missing_skill_on, uncovered_on};
+use crate::summing::bit;
 use ih_plan::Plan;
 use ih_tables::{Instance, RoomNo};
 

@@ -10,7 +10,7 @@ ghost use Rattle.ih_plan.specs.BillOf.{nurses_off};
 ghost use Rattle.ih_plan.specs.Sums.{sum_below, bit};
 ghost use Rattle.ih_validate.specs.Rooms.{bare_shift, skill_gap};
 
-use crate::patients::bit;
+use crate::summing::{bit, sum_below};
 use ih_plan::{Plan, skill_of};
 use ih_tables::{Instance, NurseNo, RoomNo, Shift};
 
@@ -86,7 +86,6 @@ fn skill_missing(inst: &Instance, plan: &Plan, r: RoomNo, k: u32, here: &[u32]) 
     }
 }
 
-#[tactic(auto, using(ih_plan::proofs::SumLemmas::sum_steps))]
 fn nurses_off_in(inst: &Instance, plan: &Plan, r: RoomNo) -> u64
     requires plan { IsPlanOf inst.now.draft plan.now }
     requires room { r.0 < room_count inst.now.draft }
@@ -94,28 +93,19 @@ fn nurses_off_in(inst: &Instance, plan: &Plan, r: RoomNo) -> u64
         (λ k. bit (not_working inst.now.draft k (care_of plan.now r.0 k))) }
     ensures bound { result ≤ 168 }
 {
-    let mut sum = 0;
-    for k in 0..inst.shifts() {
-        sum += bit(is_off(inst, plan, r, k));
-    }
-    sum
+    sum_below(inst.shifts(), 1, |k| bit(is_off(inst, plan, r, k)))
 }
 
-#[tactic(auto, using(ih_plan::proofs::SumLemmas::sum_steps), unfolding(ih_plan::specs::BillOf::nurses_off))]
+#[tactic(auto, unfolding(ih_plan::specs::BillOf::nurses_off))]
 pub fn nurses_off(inst: &Instance, plan: &Plan) -> u64
     requires { IsPlanOf inst.now.draft plan.now }
     ensures value { result ≡ nurses_off inst.now.draft plan.now }
     ensures bound { result ≤ 21504 }
 {
-    let mut sum = 0;
-    for r in 0..inst.rooms() {
-        sum += nurses_off_in(inst, plan, RoomNo(r));
-    }
-    sum
+    sum_below(inst.rooms(), 168, |r| nurses_off_in(inst, plan, RoomNo(r)))
 }
 
 /// The shifts of a day in which the room is occupied and has no nurse.
-#[tactic(auto, using(ih_plan::proofs::SumLemmas::sum_steps))]
 pub fn uncovered_on(inst: &Instance, plan: &Plan, r: RoomNo, d: u32, here: &[u32]) -> u64
     requires plan { IsPlanOf inst.now.draft plan.now }
     requires room { r.0 < room_count inst.now.draft }
@@ -124,11 +114,7 @@ pub fn uncovered_on(inst: &Instance, plan: &Plan, r: RoomNo, d: u32, here: &[u32
     ensures sum { result ≡ sum_below 3 (λ j. bare_shift inst.now.draft plan.now r.0 (3 * d + j)) }
     ensures bound { result ≤ 3 }
 {
-    let mut sum = 0;
-    for j in 0..3 {
-        sum += bit(is_uncovered(inst, plan, r, 3 * d + j, here));
-    }
-    sum
+    sum_below(3, 1, |j| bit(is_uncovered(inst, plan, r, 3 * d + j, here)))
 }
 
 /// The required skill above the nurses', for each person who is here in each shift of the day.

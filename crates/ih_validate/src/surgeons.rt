@@ -11,6 +11,7 @@ ghost use Rattle.ih_validate.specs.Members.{surgeon_patients};
 
 use crate::marks::{count_marked, mark};
 use crate::number_lists::NumberList;
+use crate::summing::sum_below;
 use crate::surgery::minutes;
 use ih_plan::{Placement, Plan};
 use ih_tables::{Instance, PatientNo, SurgeonNo};
@@ -56,12 +57,7 @@ fn is_surgeon_of(inst: &Instance, s: SurgeonNo, p: PatientNo) -> bool
 fn list_surgeon(inst: &Instance, s: SurgeonNo, out: &mut NumberList)
     ensures { out.new ≡ surgeon_patients inst.now.draft s.0 }
 {
-    out.clear();
-    for p in 0..inst.patients() {
-        if is_surgeon_of(inst, s, PatientNo(p)) {
-            out.push(p);
-        }
-    }
+    out.list_below(inst.patients(), |p| is_surgeon_of(inst, s, PatientNo(p)));
 }
 
 // Lists those of a surgeon's patients who are admitted on the day.
@@ -77,12 +73,7 @@ fn list_operated_by(
     requires among { among.now ≡ surgeon_patients inst.now.draft s.0 }
     ensures { out.new ≡ operated_by inst.now.draft plan.now s.0 d }
 {
-    out.clear();
-    for p in among {
-        if is_surgery_by(inst, plan, s, d, PatientNo(*p)) {
-            out.push(*p);
-        }
-    }
+    out.list_among(among, |p| is_surgery_by(inst, plan, s, d, PatientNo(p)));
 }
 
 #[tactic(auto, using(ih_plan::proofs::SumLemmas::sum_steps))]
@@ -106,17 +97,17 @@ fn surgeon_overtime_of(inst: &Instance, plan: &Plan, s: SurgeonNo) -> u64
 }
 
 /// Minutes of surgery above each surgeon's maximum of a day.
-#[tactic(auto, using(ih_plan::proofs::SumLemmas::sum_steps), unfolding(ih_plan::specs::BillOf::surgeon_overtime))]
+#[tactic(auto, unfolding(ih_plan::specs::BillOf::surgeon_overtime))]
 pub fn surgeon_overtime(inst: &Instance, plan: &Plan) -> u64
     requires { IsPlanOf inst.now.draft plan.now }
     ensures value { result ≡ surgeon_overtime inst.now.draft plan.now }
     ensures bound { result ≤ 615726511554560 * 128 }
 {
-    let mut sum = 0;
-    for s in 0..inst.surgeons() {
-        sum += surgeon_overtime_of(inst, plan, SurgeonNo(s));
-    }
-    sum
+    sum_below(
+        inst.surgeons(),
+        615726511554560,
+        |s| surgeon_overtime_of(inst, plan, SurgeonNo(s)),
+    )
 }
 
 fn theatre_at(plan: &Plan, p: PatientNo) -> Option<u32>
@@ -163,15 +154,15 @@ fn transfers_of(inst: &Instance, plan: &Plan, s: SurgeonNo) -> u64
 }
 
 /// For each surgeon and day with surgery, the distinct theatres less one.
-#[tactic(auto, using(ih_plan::proofs::SumLemmas::sum_steps), unfolding(ih_plan::specs::BillOf::transfers))]
+#[tactic(auto, unfolding(ih_plan::specs::BillOf::transfers))]
 pub fn transfers(inst: &Instance, plan: &Plan) -> u64
     requires { IsPlanOf inst.now.draft plan.now }
     ensures value { result ≡ transfers inst.now.draft plan.now }
     ensures bound { result ≤ 458752 }
 {
-    let mut sum = 0;
-    for s in 0..inst.surgeons() {
-        sum += transfers_of(inst, plan, SurgeonNo(s));
-    }
-    sum
+    sum_below(
+        inst.surgeons(),
+        3584,
+        |s| transfers_of(inst, plan, SurgeonNo(s)),
+    )
 }

@@ -2,22 +2,23 @@
 
 ghost use Rattle.std.specs.Prelude.{◌≡◌, ◌<◌, ◌≤◌, ◌-◌, ◌*◌, ℕ, not, length};
 ghost use Rattle.ih_tables.specs.Sizes.{theatre_count};
-ghost use Rattle.ih_plan.specs.Timetable.{IsPlanOf};
+ghost use Rattle.ih_plan.specs.Timetable.{IsPlanOf, stay_of};
 ghost use Rattle.ih_plan.specs.Costs.{operated_in, operated, minutes, theatre_minutes, is_number, is_empty, theatre_of};
 ghost use Rattle.ih_plan.specs.BillOf.{theatre_overtime, open_theatres};
 ghost use Rattle.ih_plan.specs.Sums.{sum_below, count_below};
 ghost use Rattle.ih_validate.specs.Members.{theatre_patients};
 
 use crate::number_lists::NumberList;
-use crate::patients::bit;
+use crate::summing::{bit, sum_below};
 use crate::surgery::minutes;
-use ih_plan::{Placement, Plan};
+use ih_plan::Plan;
 use ih_tables::{Instance, PatientNo, TheatreNo};
 
-fn operated_in(t: TheatreNo, d: u32, stay: Option<Placement>) -> bool
-    ensures { result ≡ operated_in t.0 d stay }
+fn is_operated_in(plan: &Plan, t: TheatreNo, d: u32, p: PatientNo) -> bool
+    requires { p.0 < length plan.now.stays }
+    ensures { result ≡ operated_in t.0 d (stay_of plan.now p.0) }
 {
-    match stay {
+    match plan.stay(p) {
         None => false,
         Some(at) => at.theatre.0 == t.0 && at.day.0 == d,
     }
@@ -51,12 +52,7 @@ fn list_theatre(inst: &Instance, plan: &Plan, t: TheatreNo, out: &mut NumberList
     requires { IsPlanOf inst.now.draft plan.now }
     ensures { out.new ≡ theatre_patients inst.now.draft plan.now t.0 }
 {
-    out.clear();
-    for p in 0..inst.patients() {
-        if is_in_theatre(plan, t, PatientNo(p)) {
-            out.push(p);
-        }
-    }
+    out.list_below(inst.patients(), |p| is_in_theatre(plan, t, PatientNo(p)));
 }
 
 // Lists those of a theatre's patients who have surgery on the day.
@@ -72,12 +68,7 @@ fn list_operated(
     requires among { among.now ≡ theatre_patients inst.now.draft plan.now t.0 }
     ensures { out.new ≡ operated inst.now.draft plan.now t.0 d }
 {
-    out.clear();
-    for p in among {
-        if operated_in(t, d, plan.stay(PatientNo(*p))) {
-            out.push(*p);
-        }
-    }
+    out.list_among(among, |p| is_operated_in(plan, t, d, PatientNo(p)));
 }
 
 #[tactic(auto, using(ih_plan::proofs::SumLemmas::sum_steps))]
@@ -100,17 +91,17 @@ fn theatre_overtime_of(inst: &Instance, plan: &Plan, t: TheatreNo) -> u64
 }
 
 /// Minutes of surgery above each theatre's availability of a day.
-#[tactic(auto, using(ih_plan::proofs::SumLemmas::sum_steps), unfolding(ih_plan::specs::BillOf::theatre_overtime))]
+#[tactic(auto, unfolding(ih_plan::specs::BillOf::theatre_overtime))]
 pub fn theatre_overtime(inst: &Instance, plan: &Plan) -> u64
     requires { IsPlanOf inst.now.draft plan.now }
     ensures value { result ≡ theatre_overtime inst.now.draft plan.now }
     ensures bound { result ≤ 615726511554560 * 64 }
 {
-    let mut sum = 0;
-    for t in 0..inst.theatres() {
-        sum += theatre_overtime_of(inst, plan, TheatreNo(t));
-    }
-    sum
+    sum_below(
+        inst.theatres(),
+        615726511554560,
+        |t| theatre_overtime_of(inst, plan, TheatreNo(t)),
+    )
 }
 
 #[tactic(auto, using(ih_plan::proofs::SumLemmas::sum_steps))]
@@ -132,15 +123,11 @@ fn open_days(inst: &Instance, plan: &Plan, t: TheatreNo) -> u64
 }
 
 /// Theatres and days with surgery.
-#[tactic(auto, using(ih_plan::proofs::SumLemmas::sum_steps), unfolding(ih_plan::specs::BillOf::open_theatres))]
+#[tactic(auto, unfolding(ih_plan::specs::BillOf::open_theatres))]
 pub fn open_theatres(inst: &Instance, plan: &Plan) -> u64
     requires { IsPlanOf inst.now.draft plan.now }
     ensures value { result ≡ open_theatres inst.now.draft plan.now }
     ensures bound { result ≤ 3584 }
 {
-    let mut count = 0;
-    for t in 0..inst.theatres() {
-        count += open_days(inst, plan, TheatreNo(t));
-    }
-    count
+    sum_below(inst.theatres(), 56, |t| open_days(inst, plan, TheatreNo(t)))
 }
