@@ -1,9 +1,10 @@
 //! Whole calls of advise, over files in memory.
 
-use crate::examples::{COVERED_SOLUTION, ONE_ADMITTED, TWO_PATIENTS, WARD};
+use crate::examples::{COVERED_SOLUTION, ONE_ADMITTED};
 use crate::script::Event::{Ends, Store};
 use crate::script::{Event, goes};
 use crate::whole_calls::{exits_past, lay};
+use ih_fixtures::{TWO_PATIENTS, WARD};
 use ih_shelf::{HoldGate, MemShelf, MemSink};
 use ih_top::Status;
 use std::alloc::Global;

@@ -5,8 +5,9 @@ ghost use Rattle.ih_plan.specs.Series.{AreMoves};
 ghost use Rattle.ih_plan.specs.Timetable.{IsPlanOf};
 ghost use Rattle.ih_chain.specs.Entries.{chain_tries};
 
-use crate::examples::{ONE_ADMITTED, TWO_PATIENTS};
+use crate::examples::ONE_ADMITTED;
 use ih_chain::{ChainEntry, run_chains};
+use ih_fixtures::TWO_PATIENTS;
 use ih_history::plan_at;
 use ih_instance::read_instance;
 use ih_journal::{Options, Verdict};

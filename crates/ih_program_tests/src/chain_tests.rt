@@ -1,8 +1,9 @@
 //! Whole calls of searches by chains, over files in memory.
 
-use crate::examples::{COVERED_SOLUTION, FOUND, JOURNAL, SEARCH, WARD};
+use crate::examples::{COVERED_SOLUTION, FOUND, JOURNAL, SEARCH};
 use crate::script::Event::{Alike, Ends, Exits, Held, Holds, Lines, Pairs, Same, SameLines, Store};
 use crate::script::{Event, all_go, goes};
+use ih_fixtures::WARD;
 use ih_journal::{JournalRefusal, Reason};
 use ih_top::Status;
 

@@ -3,8 +3,8 @@
 ghost use Rattle.std.specs.Prelude.{◌<◌, ◌≤◌};
 ghost use Rattle.ih_plan.specs.Timetable.{IsPlanOf};
 
-use crate::examples::TWO_PATIENTS;
 use ih_fill::fill;
+use ih_fixtures::TWO_PATIENTS;
 use ih_instance::read_instance;
 use ih_parfill::par_fill;
 use ih_plan::Plan;

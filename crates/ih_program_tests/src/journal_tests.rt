@@ -2,10 +2,11 @@
 
 use crate::examples::{
     COVERED_SOLUTION, DEMO, FILLED, FOUND, JOURNAL, NO_MOVES, NOTHING, ONE_ADMITTED, SALVAGED,
-    SEARCH, TWO_PATIENTS, WARD,
+    SEARCH,
 };
 use crate::script::Event::{Change, Ends, FailRead, FailWrite, Holds, Same, Silent, Store};
 use crate::script::{Event, all_go, goes};
+use ih_fixtures::{TWO_PATIENTS, WARD};
 use ih_journal::{JournalRefusal, Reason};
 use ih_top::{Role, Status};
 use std::alloc::Global;
@@ -146,32 +147,32 @@ const STALE_ON_DAY_0: &str = "0,0,0,0,0,0 stale:roomday.0.0:0:0";
 
 const STALE_ON_DAY_1: &str = "0,0,0,0,0,0 stale:roomday.1.0:0:0";
 
-// A search on the ward, and a replay of its journal, which finds the same and leaves the journal as it was.
-const REPLAYED: [Event<'static>; 7] = [
-    Store("i", WARD),
-    Ends(SEARCH, Status::Done, FOUND),
-    Holds("j", Some(JOURNAL)),
-    Holds("o", Some(COVERED_SOLUTION)),
-    Ends("replay i j p", Status::Done, FOUND),
-    Holds("p", Some(COVERED_SOLUTION)),
-    Holds("j", Some(JOURNAL)),
-];
+// Whether a search on the ward leaves this journal, and its replay finds the same and leaves the journal as it was.
+fn replays<R: Files + Print + Threads + Wait + Sync>(
+    rt: &R,
+    alloc: Global,
+    search: &str,
+    journal: &str,
+) -> bool {
+    let events = [
+        Store("i", WARD),
+        Ends(search, Status::Done, FOUND),
+        Holds("j", Some(journal)),
+        Holds("o", Some(COVERED_SOLUTION)),
+        Ends("replay i j p", Status::Done, FOUND),
+        Holds("p", Some(COVERED_SOLUTION)),
+        Holds("j", Some(journal)),
+    ];
+    goes(rt, alloc, events.as_slice())
+}
 
-const REPLAYED_RETRIES: [Event<'static>; 7] = [
-    Store("i", WARD),
-    Ends(WITH_RETRIES, Status::Done, FOUND),
-    Holds("j", Some(RETRIED)),
-    Holds("o", Some(COVERED_SOLUTION)),
-    Ends("replay i j p", Status::Done, FOUND),
-    Holds("p", Some(COVERED_SOLUTION)),
-    Holds("j", Some(RETRIED)),
-];
-
-const REPLAYS: [&[Event<'static>]; 2] = [&REPLAYED, &REPLAYED_RETRIES];
+fn replays_both<R: Files + Print + Threads + Wait + Sync>(rt: &R, alloc: Global) -> bool {
+    replays(rt, alloc, SEARCH, JOURNAL) && replays(rt, alloc, WITH_RETRIES, RETRIED)
+}
 
 #[test]
-fn replays(rt: HostRuntime) {
-    assert!(rt; all_go(&rt, rt.alloc(), &REPLAYS));
+fn journals_are_replayed(rt: HostRuntime) {
+    assert!(rt; replays_both(&rt, rt.alloc()));
 }
 
 /// What stands in a journal, what is put in its place, and how the journal is then refused.
@@ -224,12 +225,7 @@ fn refuses_all<R: Files + Print + Threads + Wait + Sync>(
     journal: &str,
     rows: &[Row],
 ) -> bool {
-    for row in rows {
-        if !refuses(rt, alloc, journal, row) {
-            return false;
-        }
-    }
-    true
+    rows.iter().all(|row| refuses(rt, alloc, journal, row))
 }
 
 const HEADINGS: [Row; 5] = [

@@ -1,7 +1,8 @@
 //! A search whose workers are all at work at once: a gate holds each until every one has priced its first move.
 
-use crate::examples::{ONE_ADMITTED, TWO_PATIENTS};
+use crate::examples::ONE_ADMITTED;
 use crate::whole_calls::{ends_saying, exits_past, lay, lines_behind};
+use ih_fixtures::TWO_PATIENTS;
 use ih_shelf::{Gate, MemShelf, MemSink};
 use ih_top::Status;
 use std::alloc::Global;

@@ -2,13 +2,11 @@
 
 ghost use Rattle.std.specs.Prelude.{◌≡◌, IfOk};
 ghost use Rattle.ih_plan.specs.Timetable.{IsPlanOf};
-ghost use Rattle.ih_journal.specs.Legal.{IsFull};
 ghost use Rattle.ih_journal.specs.Settings.{IsLawful};
-ghost use Rattle.ih_journal.specs.Tried.{tries};
-ghost use Rattle.ih_cellbook.specs.Keeping.{base_with};
+ghost use Rattle.ih_top.specs.Rounds.{IsFullFrom};
 
-use crate::examples::WARD;
 use crate::rounds_tests::TWO_JOURNALS;
+use ih_fixtures::WARD;
 use ih_instance::read_instance;
 use ih_journal::{Entry, Options};
 use ih_plan::Plan;
@@ -70,7 +68,7 @@ fn are_noted<R: Threads + Wait + Sync>(rt: &R, alloc: Global, inst: &Instance, s
             AllocError,
         >
             requires { IsPlanOf inst.now.draft start.now × IsLawful options.now }
-            ensures { IfOk result (λ v. IsFull (base_with inst.entry.now.draft start.entry.now options.entry.now 0) 1 (tries v.items)) }
+            ensures { IfOk result (λ v. IsFullFrom inst.entry.now.draft start.entry.now options.entry.now v.items) }
         { search_at_desk(rt, alloc, inst, start, options, &OpenGate) },
     };
     let mut noted = Noted::new(alloc, searcher);

@@ -1,8 +1,10 @@
 //! Whole calls of searches in rounds, over files in memory.
 
-use crate::examples::{COVERED_SOLUTION, WARD};
+use crate::examples::COVERED_SOLUTION;
 use crate::script::Event::{Ends, Held, Holds, Store};
 use crate::script::{Event, goes};
+use crate::worker_tests::STALE;
+use ih_fixtures::WARD;
 use ih_journal::{JournalRefusal, Reason};
 use ih_top::Status;
 
@@ -28,11 +30,6 @@ ihjournal 1 seed=64 workers=1 moves=0 heat=0 hard=1000
 
 const ONE_ROUND: &str =
     "rounds i o j --seed 18446744073709551615 --workers 2 --moves 1 --heat 1000000 --hard 1000 --start s --rounds 1";
-
-const STALE: &str = "ihjournal 1 seed=18446744073709551615 workers=2 moves=1 heat=1000000 hard=1000
-0 1 0 0 nurserun:1,0,0,5 0,0,0,0,0,0,0,0,0,0,-2,0,0,0,0,0,0 accepted
-1 0 0 0 place:0,1,1,1 0,1,0,0,0,0,0,0,3,-1,0,-1,0,0,0,1,0 stale:roomshift.0.0:0:1
-";
 
 const ANOTHER_JOURNAL: Status = Status::JournalRefused(JournalRefusal {
     line: 3,

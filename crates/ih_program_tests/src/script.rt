@@ -34,6 +34,8 @@ pub enum Event<'a> {
     Silent(&'a str, Status),
     /// Two calls are done and say the same text.
     Alike(&'a str, &'a str),
+    /// A search and a replay of its journal are done, say the same text and leave the same solution.
+    Replays(&'a str, &'a str),
     /// A search of the two patients is done past a gate that holds worker 0's attempts of the numbers below this one.
     /// Its text begins and ends so, and the other call, if there is one, then says the same.
     Held(&'a str, u32, &'a str, &'a str, Option<&'a str>),
@@ -56,8 +58,8 @@ pub enum Event<'a> {
 }
 
 use Event::{
-    Alike, Change, Ends, Exits, FailRead, FailWrite, Held, Holds, Lines, Meets, Page, Pairs, Same,
-    SameLines, Silent, Store, Views,
+    Alike, Change, Ends, Exits, FailRead, FailWrite, Held, Holds, Lines, Meets, Page, Pairs,
+    Replays, Same, SameLines, Silent, Store, Views,
 };
 
 fn is_done<R: Files + Print + Threads + Wait + Sync>(
@@ -161,6 +163,9 @@ fn takes<R: Files + Print + Threads + Wait + Sync>(
         Exits(line) => is_done(rt, alloc, shelf, line),
         Silent(line, status) => is_silent(rt, alloc, shelf, line, status),
         Alike(first, second) => are_alike(rt, alloc, shelf, first, second),
+        Replays(search, replay) => {
+            are_alike(rt, alloc, shelf, search, replay) && are_same(shelf, "p", "o")
+        }
         Held(line, numbers, start, end, again) => {
             is_held_saying(rt, alloc, shelf, line, numbers, (start, end), again)
         }
@@ -170,20 +175,6 @@ fn takes<R: Files + Print + Threads + Wait + Sync>(
     }
 }
 
-fn take_all<R: Files + Print + Threads + Wait + Sync>(
-    rt: &R,
-    alloc: Global,
-    shelf: &mut MemShelf,
-    events: &[Event<'_>],
-) -> bool {
-    for event in events {
-        if !takes(rt, alloc, shelf, event) {
-            return false;
-        }
-    }
-    true
-}
-
 /// Whether each event comes out so, from no files on.
 pub fn goes<R: Files + Print + Threads + Wait + Sync>(
     rt: &R,
@@ -191,7 +182,12 @@ pub fn goes<R: Files + Print + Threads + Wait + Sync>(
     events: &[Event<'_>],
 ) -> bool {
     let mut shelf = MemShelf::new(alloc);
-    take_all(rt, alloc, &mut shelf, events)
+    for event in events {
+        if !takes(rt, alloc, &mut shelf, event) {
+            return false;
+        }
+    }
+    true
 }
 
 /// The same of several scripts, each from no files on.
@@ -200,10 +196,5 @@ pub fn all_go<R: Files + Print + Threads + Wait + Sync>(
     alloc: Global,
     scripts: &[&[Event<'_>]],
 ) -> bool {
-    for events in scripts {
-        if !goes(rt, alloc, events) {
-            return false;
-        }
-    }
-    true
+    scripts.iter().all(|events| goes(rt, alloc, events))
 }

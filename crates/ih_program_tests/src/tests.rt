@@ -2,11 +2,12 @@
 
 use crate::examples::{
     CHECKED, COVERED_SOLUTION, COVERED_START, FOUND, FULL_THEATRE, JOURNAL, LONG_SURGERY, NO_MOVES,
-    NOTHING, NOWHERE, ONE_ADMITTED, OVERLAP, SEARCH, TWO_GENDERS, TWO_PATIENTS, WARD,
+    NOTHING, NOWHERE, ONE_ADMITTED, OVERLAP, SEARCH, TWO_GENDERS,
 };
 use crate::script::Event::{Change, Ends, FailRead, FailWrite, Holds, Store};
 use crate::script::{Event, all_go, goes};
 use crate::whole_calls::{ends, status_of};
+use ih_fixtures::{TWO_PATIENTS, WARD};
 use ih_shelf::{MemShelf, MemSink, NeverFails, OpenGate};
 use ih_tables::{Fault, Key, Place, Refusal, Step};
 use ih_top::{Role, Status};
@@ -81,106 +82,39 @@ const TWO_DAYS: &str = "\"days\":2";
 
 const NO_DAY: &str = "\"days\":0";
 
-const DAYS_REFUSED: &str = "instance refused: Range at $.days\n";
-
-const DAYS: Status = Status::InstanceRefused(Refusal {
-    fault: Fault::Range,
-    at: Place {
-        section: Some(Key::Days),
-        ..NOWHERE
-    },
-});
-
 const WORKLOAD: &str = "[2,2,2,2,2,2]";
 
 const SHORT_WORKLOAD: &str = "[2,2,2,2,2]";
-
-const WORKLOAD_REFUSED: &str = "instance refused: Length at $.patients[0].workload_produced\n";
-
-const WORKLOADS: Status = Status::InstanceRefused(Refusal {
-    fault: Fault::Length,
-    at: Place {
-        section: Some(Key::Patients),
-        first: Some(Step {
-            at: Some(0),
-            key: Key::WorkloadProduced,
-        }),
-        ..NOWHERE
-    },
-});
 
 const ITS_SURGEON: &str = "40,\"surgeon_id\":\"s0\"";
 
 const NO_SURGEON: &str = "40,\"surgeon_id\":\"s9\"";
 
-const SURGEON_REFUSED: &str = "instance refused: Unknown at $.patients[1].surgeon_id\n";
-
-const SURGEON: Status = Status::InstanceRefused(Refusal {
-    fault: Fault::Unknown,
-    at: Place {
-        section: Some(Key::Patients),
-        first: Some(Step {
-            at: Some(1),
-            key: Key::SurgeonId,
-        }),
-        ..NOWHERE
-    },
-});
-
 const ITS_ROOM: &str = "\"room\":\"r0\"";
 
 const NO_ROOM: &str = "\"room\":\"r7\"";
 
-const ROOM_REFUSED: &str = "solution refused: Unknown at $.patients[0].room\n";
-
-const ROOM: Status = Status::StartRefused(Refusal {
-    fault: Fault::Unknown,
-    at: Place {
-        section: Some(Key::Patients),
-        first: Some(Step {
-            at: Some(0),
-            key: Key::Room,
-        }),
-        ..NOWHERE
-    },
-});
-
-const NURSE_REFUSED: &str = "solution refused: TwoNurses at $.nurses[1].assignments[0].rooms[0]\n";
-
-const NURSE: Status = Status::StartRefused(Refusal {
-    fault: Fault::TwoNurses,
-    at: Place {
-        section: Some(Key::Nurses),
-        first: Some(Step {
-            at: Some(1),
-            key: Key::Assignments,
-        }),
-        second: Some(Step {
-            at: Some(0),
-            key: Key::Rooms,
-        }),
-        last: Some(0),
-    },
-});
-
-// What a call puts, and leaves under the names of the solution and the journal.
+// How a call ends, what it puts, and what it leaves under the names of the solution and the journal.
 #[derive(Clone, Copy)]
 struct Left {
+    status: Status,
     text: &'static str,
     journal: Option<&'static str>,
     solution: Option<&'static str>,
 }
 
 /// An instance and a start beside it, a call, and how it ends and what it leaves.
-type Search = (&'static str, &'static str, &'static str, Status, Left);
+type Search = (&'static str, &'static str, &'static str, Left);
 
 const SEARCHED: Left = Left {
+    status: Status::Done,
     text: FOUND,
     journal: Some(JOURNAL),
     solution: Some(COVERED_SOLUTION),
 };
 
 const NONE_FOUND: Left = Left {
+    status: Status::NoneFound,
     text: "none found\n",
     journal: Some(HEADING_ALONE),
     solution: None,
@@ -189,84 +123,54 @@ const NONE_FOUND: Left = Left {
 const STAYED_THERE: Left = Left {
     text: STAYED,
     journal: Some(HEADING_ALONE),
-    solution: Some(COVERED_SOLUTION),
+    ..SEARCHED
 };
 
 const IMPROVED: Left = Left {
     text: IMPROVED_BEST,
     journal: Some(IMPROVING),
     solution: Some(IMPROVED_SOLUTION),
+    ..SEARCHED
 };
 
 const FROZE: Left = Left {
     text: FROZEN_BEST,
     journal: Some(FREEZING),
     solution: Some(START_SOLUTION),
+    ..SEARCHED
 };
 
 const RETRIED: Left = Left {
-    text: IMPROVED_BEST,
     journal: Some(RETRYING),
-    solution: Some(IMPROVED_SOLUTION),
+    ..IMPROVED
 };
 
 // The last two calls are one and the same: with one worker they leave the same bytes.
 const SEARCHES: [Search; 7] = [
-    (WARD, COVERED_START, SEARCH, Status::Done, SEARCHED),
-    (WARD, COVERED_START, NO_MOVES, Status::NoneFound, NONE_FOUND),
-    (WARD, COVERED_START, STAYING, Status::Done, STAYED_THERE),
-    (TWO_PATIENTS, ONE_ADMITTED, FROZEN_DAY, Status::Done, FROZE),
-    (
-        TWO_PATIENTS,
-        ONE_ADMITTED,
-        WITH_RETRIES,
-        Status::Done,
-        RETRIED,
-    ),
-    (
-        TWO_PATIENTS,
-        ONE_ADMITTED,
-        FROM_START,
-        Status::Done,
-        IMPROVED,
-    ),
-    (
-        TWO_PATIENTS,
-        ONE_ADMITTED,
-        FROM_START,
-        Status::Done,
-        IMPROVED,
-    ),
+    (WARD, COVERED_START, SEARCH, SEARCHED),
+    (WARD, COVERED_START, NO_MOVES, NONE_FOUND),
+    (WARD, COVERED_START, STAYING, STAYED_THERE),
+    (TWO_PATIENTS, ONE_ADMITTED, FROZEN_DAY, FROZE),
+    (TWO_PATIENTS, ONE_ADMITTED, WITH_RETRIES, RETRIED),
+    (TWO_PATIENTS, ONE_ADMITTED, FROM_START, IMPROVED),
+    (TWO_PATIENTS, ONE_ADMITTED, FROM_START, IMPROVED),
 ];
 
 fn leaves<R: Files + Print + Threads + Wait + Sync>(rt: &R, alloc: Global, row: &Search) -> bool {
-    let (instance, start, words, status, left) = *row;
+    let (instance, start, words, left) = *row;
     let events = [
         Store("i", instance),
         Store("s", start),
-        Ends(words, status, left.text),
+        Ends(words, left.status, left.text),
         Holds("j", left.journal),
         Holds("o", left.solution),
     ];
     goes(rt, alloc, events.as_slice())
 }
 
-fn all_leave<R: Files + Print + Threads + Wait + Sync>(
-    rt: &R,
-    alloc: Global,
-    rows: &[Search],
-) -> bool {
-    for row in rows {
-        if !leaves(rt, alloc, row) {
-            return false;
-        }
-    }
-    true
-}
-
 #[test]
 fn searches(rt: HostRuntime) {
-    assert!(rt; all_leave(&rt, rt.alloc(), &SEARCHES));
+    assert!(rt; SEARCHES.iter().all(|row| leaves(&rt, rt.alloc(), row)));
 }
 
 /// What stands in the files of two patients, what is put in its place, and the status and the text of a call then.
@@ -290,20 +194,6 @@ fn answers<R: Files + Print + Threads + Wait + Sync>(
     goes(rt, alloc, events.as_slice())
 }
 
-fn all_answer<R: Files + Print + Threads + Wait + Sync>(
-    rt: &R,
-    alloc: Global,
-    words: &str,
-    rows: &[Answer],
-) -> bool {
-    for row in rows {
-        if !answers(rt, alloc, words, row) {
-            return false;
-        }
-    }
-    true
-}
-
 // Checks of a solution, and of some that break a rule.
 const CHECKS: [Answer; 5] = [
     (NOTHING, "", Status::Done, CHECKED),
@@ -320,35 +210,98 @@ const CHECKS: [Answer; 5] = [
 
 #[test]
 fn checks(rt: HostRuntime) {
-    assert!(rt; all_answer(&rt, rt.alloc(), CHECK, &CHECKS));
+    assert!(rt;
+        CHECKS
+            .iter()
+            .all(|row| answers(&rt, rt.alloc(), CHECK, row))
+    );
 }
 
+// What is refused at a key of a patient.
+fn at_patient(fault: Fault, patient: u32, key: Key) -> Refusal {
+    let at = Some(patient);
+    Refusal {
+        fault,
+        at: Place {
+            section: Some(Key::Patients),
+            first: Some(Step { at, key }),
+            ..NOWHERE
+        },
+    }
+}
+
+const DAYS: Refusal = Refusal {
+    fault: Fault::Range,
+    at: Place {
+        section: Some(Key::Days),
+        ..NOWHERE
+    },
+};
+
+const NURSE: Refusal = Refusal {
+    fault: Fault::TwoNurses,
+    at: Place {
+        section: Some(Key::Nurses),
+        first: Some(Step {
+            at: Some(1),
+            key: Key::Assignments,
+        }),
+        second: Some(Step {
+            at: Some(0),
+            key: Key::Rooms,
+        }),
+        last: Some(0),
+    },
+};
+
 // Files that both a check and a search refuse.
-const REFUSED: [Answer; 5] = [
-    (TWO_DAYS, NO_DAY, DAYS, DAYS_REFUSED),
-    (WORKLOAD, SHORT_WORKLOAD, WORKLOADS, WORKLOAD_REFUSED),
-    (ITS_SURGEON, NO_SURGEON, SURGEON, SURGEON_REFUSED),
-    (ITS_ROOM, NO_ROOM, ROOM, ROOM_REFUSED),
-    (LAST_ASSIGNMENT, ANOTHER_NURSE, NURSE, NURSE_REFUSED),
-];
+fn refused() -> [Answer; 5] {
+    let workload = at_patient(Fault::Length, 0, Key::WorkloadProduced);
+    let surgeon = at_patient(Fault::Unknown, 1, Key::SurgeonId);
+    let room = at_patient(Fault::Unknown, 0, Key::Room);
+    [
+        (
+            TWO_DAYS,
+            NO_DAY,
+            Status::InstanceRefused(DAYS),
+            "instance refused: Range at $.days\n",
+        ),
+        (
+            WORKLOAD,
+            SHORT_WORKLOAD,
+            Status::InstanceRefused(workload),
+            "instance refused: Length at $.patients[0].workload_produced\n",
+        ),
+        (
+            ITS_SURGEON,
+            NO_SURGEON,
+            Status::InstanceRefused(surgeon),
+            "instance refused: Unknown at $.patients[1].surgeon_id\n",
+        ),
+        (
+            ITS_ROOM,
+            NO_ROOM,
+            Status::StartRefused(room),
+            "solution refused: Unknown at $.patients[0].room\n",
+        ),
+        (
+            LAST_ASSIGNMENT,
+            ANOTHER_NURSE,
+            Status::StartRefused(NURSE),
+            "solution refused: TwoNurses at $.nurses[1].assignments[0].rooms[0]\n",
+        ),
+    ]
+}
 
 fn both_refuse<R: Files + Print + Threads + Wait + Sync>(rt: &R, alloc: Global) -> bool {
-    all_answer(rt, alloc, CHECK, &REFUSED) && all_answer(rt, alloc, FROM_START, &REFUSED)
+    refused().iter().all(|row| answers(rt, alloc, CHECK, row)
+        && answers(rt, alloc, FROM_START, row))
 }
 
 #[test]
 fn refused_files(rt: HostRuntime) {
     assert!(rt; both_refuse(&rt, rt.alloc()));
 }
-
-const NO_INSTANCE: [Event<'static>; 6] = [
-    Store("i", WARD),
-    Store("s", COVERED_START),
-    FailRead(1),
-    Ends(SEARCH, Status::ReadFault(Role::Instance), "cannot read i\n"),
-    Holds("j", None),
-    Holds("o", None),
-];
 
 const NO_START: [Event<'static>; 6] = [
     Store("i", WARD),
@@ -363,14 +316,14 @@ const NO_START: [Event<'static>; 6] = [
     Holds("o", None),
 ];
 
+const NO_JOURNAL: Status = Status::WriteFault(Some(Role::Journal));
+
+const NO_SOLUTION: Status = Status::WriteFault(Some(Role::Out));
+
 const JOURNAL_BEGUN: [Event<'static>; 5] = [
     Store("i", WARD),
     FailWrite(1, 10),
-    Ends(
-        SEARCH,
-        Status::WriteFault(Some(Role::Journal)),
-        "cannot write j\n",
-    ),
+    Ends(SEARCH, NO_JOURNAL, "cannot write j\n"),
     Holds("j", Some("ihjournal ")),
     Holds("o", None),
 ];
@@ -378,23 +331,12 @@ const JOURNAL_BEGUN: [Event<'static>; 5] = [
 const SOLUTION_BEGUN: [Event<'static>; 5] = [
     Store("i", WARD),
     FailWrite(2, 0),
-    Ends(
-        SEARCH,
-        Status::WriteFault(Some(Role::Out)),
-        "cannot write o\n",
-    ),
+    Ends(SEARCH, NO_SOLUTION, "cannot write o\n"),
     Holds("j", Some(JOURNAL)),
     Holds("o", Some("")),
 ];
 
-const FAULTS: [&[Event<'static>]; 4] = [&NO_INSTANCE, &NO_START, &JOURNAL_BEGUN, &SOLUTION_BEGUN];
-
-#[test]
-fn files_that_fail(rt: HostRuntime) {
-    assert!(rt; all_go(&rt, rt.alloc(), &FAULTS));
-}
-
-// A search whose first read fails, and the same again on the same shelf.
+// A search whose first read fails, and the same again on the same shelf: one fault doesn't go on.
 const ONE_FAULT: [Event<'static>; 9] = [
     Store("i", WARD),
     Store("s", COVERED_START),
@@ -407,9 +349,11 @@ const ONE_FAULT: [Event<'static>; 9] = [
     Holds("o", Some(COVERED_SOLUTION)),
 ];
 
+const FAULTS: [&[Event<'static>]; 4] = [&ONE_FAULT, &NO_START, &JOURNAL_BEGUN, &SOLUTION_BEGUN];
+
 #[test]
-fn one_fault_does_not_go_on(rt: HostRuntime) {
-    assert!(rt; goes(&rt, rt.alloc(), &ONE_FAULT));
+fn files_that_fail(rt: HostRuntime) {
+    assert!(rt; all_go(&rt, rt.alloc(), &FAULTS));
 }
 
 // Whether the shelf has the journal and the solution of the search on the ward.

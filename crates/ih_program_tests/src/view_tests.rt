@@ -1,8 +1,9 @@
 //! Whole calls of view, over files in memory.
 
-use crate::examples::{COVERED_SOLUTION, NOWHERE, WARD};
+use crate::examples::{COVERED_SOLUTION, NOWHERE};
 use crate::script::Event::{FailWrite, Holds, Page, Store, Views};
 use crate::script::{Event, goes};
+use ih_fixtures::WARD;
 use ih_look::{Role, Status};
 use ih_tables::{Fault, Refusal};
 use std::alloc::Global;
@@ -71,22 +72,9 @@ fn has_no_page<R: Files + Print + Threads + Wait + Sync>(rt: &R, alloc: Global, 
     goes(rt, alloc, events.as_slice())
 }
 
-fn have_no_page<R: Files + Print + Threads + Wait + Sync>(
-    rt: &R,
-    alloc: Global,
-    rows: &[Row],
-) -> bool {
-    for row in rows {
-        if !has_no_page(rt, alloc, row) {
-            return false;
-        }
-    }
-    true
-}
-
 #[test]
 fn calls_without_a_page(rt: HostRuntime) {
-    assert!(rt; have_no_page(&rt, rt.alloc(), &NO_PAGES));
+    assert!(rt; NO_PAGES.iter().all(|row| has_no_page(&rt, rt.alloc(), row)));
 }
 
 // A page is written, in place of an older one where there is one, and nothing is said.

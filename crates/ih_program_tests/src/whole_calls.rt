@@ -1,7 +1,8 @@
 //! What the tests of whole calls share: files in memory, and calls by the words of a line. Where memory runs out, what
 //! a test asks for is not so.
 
-use crate::examples::{ONE_ADMITTED, TWO_PATIENTS};
+use crate::examples::ONE_ADMITTED;
+use ih_fixtures::TWO_PATIENTS;
 use ih_shelf::{Gate, HoldGate, MemShelf, MemSink, OpenGate, Shelf};
 use ih_top::{Status, run};
 use std::alloc::{AllocError, Global};

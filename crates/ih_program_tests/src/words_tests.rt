@@ -9,86 +9,25 @@ use std::rt::Files;
 use std::sync::Wait;
 use std::thread::Threads;
 
-const ONE_NAME_TWICE: &str = "solve i o o --seed 0 --workers 1 --moves 2 --heat 0 --hard 1000";
-
-const MANY_WORKERS: &str = "solve i o j --seed 0 --workers 65 --moves 2 --heat 0 --hard 1000";
-
-const MANY_MOVES: &str = "solve i o j --seed 0 --workers 64 --moves 15626 --heat 0 --hard 1000";
-
-const MANY_TRIES: &str =
-    "solve i o j --seed 0 --workers 64 --moves 15625 --heat 0 --hard 1000 --retries 1";
-
-const NO_DAY_FROZEN: &str =
-    "solve i o j --seed 0 --workers 1 --moves 2 --heat 0 --hard 1000 --freeze 0";
-
-const MOST_MOVES: &str = "solve i o j --seed 0 --workers 64 --moves 15625 --heat 0 --hard 1000";
-
-const MOST_ROUNDS: &str =
-    "rounds i o j --seed 0 --workers 50 --moves 1250 --heat 0 --hard 1000 --rounds 16";
-
-const NO_ROUNDS: &str =
-    "rounds i o j --seed 0 --workers 1 --moves 2 --heat 0 --hard 1000 --rounds 0";
-
-const MANY_ROUNDS: &str =
-    "rounds i o j --seed 0 --workers 1 --moves 2 --heat 0 --hard 1000 --rounds 17";
-
-const ROUNDS_OF_TOO_MANY_MOVES: &str =
-    "rounds i o j --seed 0 --workers 50 --moves 1251 --heat 0 --hard 1000 --rounds 16";
-
-const FROZEN_ROUNDS: &str =
-    "rounds i o j --seed 0 --workers 1 --moves 2 --heat 0 --hard 1000 --rounds 2 --start s --freeze 1";
-
-const ROUNDS_WITH_RETRIES: &str =
-    "rounds i o j --seed 0 --workers 1 --moves 2 --heat 0 --hard 1000 --rounds 2 --retries 1";
-
-const UNCOUNTED_ROUNDS: &str = "rounds i o j --seed 0 --workers 1 --moves 2 --heat 0 --hard 1000";
-
-// Whether each of these lines names a call, which finds no instance.
-fn are_lawful<R: Files + Print + Threads + Wait + Sync>(
-    rt: &R,
-    alloc: Global,
-    lines: &[&str],
-) -> bool {
-    for line in lines {
-        let missing = Ends(line, Status::ReadFault(Role::Instance), "cannot read i\n");
-        if !goes(rt, alloc, &[missing]) {
-            return false;
-        }
-    }
-    true
-}
-
-// Whether none of these lines names a call.
-fn are_unlawful<R: Files + Print + Threads + Wait + Sync>(
-    rt: &R,
-    alloc: Global,
-    lines: &[&str],
-) -> bool {
-    for line in lines {
-        if !goes(rt, alloc, &[Ends(line, Status::Usage, USAGE)]) {
-            return false;
-        }
-    }
-    true
-}
-
-// Whether each of the first lines names a call, and none of the others.
+// Whether each of the first lines names a call, which finds no instance, and none of the others names one.
 fn are_told_apart<R: Files + Print + Threads + Wait + Sync>(
     rt: &R,
     alloc: Global,
     lawful: &[&str],
     unlawful: &[&str],
 ) -> bool {
-    are_lawful(rt, alloc, lawful) && are_unlawful(rt, alloc, unlawful)
+    let missing = Status::ReadFault(Role::Instance);
+    lawful.iter().all(|line| goes(rt, alloc, &[Ends(line, missing, "cannot read i\n")]))
+        && unlawful.iter().all(|line| goes(rt, alloc, &[Ends(line, Status::Usage, USAGE)]))
 }
 
 const NO_CALLS: [&str; 10] = [
     "",
-    ONE_NAME_TWICE,
-    MANY_WORKERS,
-    MANY_MOVES,
-    MANY_TRIES,
-    NO_DAY_FROZEN,
+    "solve i o o --seed 0 --workers 1 --moves 2 --heat 0 --hard 1000",
+    "solve i o j --seed 0 --workers 65 --moves 2 --heat 0 --hard 1000",
+    "solve i o j --seed 0 --workers 64 --moves 15626 --heat 0 --hard 1000",
+    "solve i o j --seed 0 --workers 64 --moves 15625 --heat 0 --hard 1000 --retries 1",
+    "solve i o j --seed 0 --workers 1 --moves 2 --heat 0 --hard 1000 --freeze 0",
     "replay i j o --start s --freeze 1 --fill",
     "salvage i j j",
     "gen o 7",
@@ -97,26 +36,38 @@ const NO_CALLS: [&str; 10] = [
 
 #[test]
 fn unlawful_words(rt: HostRuntime) {
-    assert!(rt; are_told_apart(&rt, rt.alloc(), &[MOST_MOVES], &NO_CALLS));
+    assert!(rt;
+        are_told_apart(
+            &rt,
+            rt.alloc(),
+            &["solve i o j --seed 0 --workers 64 --moves 15625 --heat 0 --hard 1000"],
+            &NO_CALLS
+        )
+    );
 }
 
 // Rounds freeze nothing and try nothing again, there are at most 16, and their product with workers and moves is
 // limited.
 const NO_CALLS_OF_ROUNDS: [&str; 6] = [
-    NO_ROUNDS,
-    MANY_ROUNDS,
-    ROUNDS_OF_TOO_MANY_MOVES,
-    FROZEN_ROUNDS,
-    ROUNDS_WITH_RETRIES,
-    UNCOUNTED_ROUNDS,
+    "rounds i o j --seed 0 --workers 1 --moves 2 --heat 0 --hard 1000 --rounds 0",
+    "rounds i o j --seed 0 --workers 1 --moves 2 --heat 0 --hard 1000 --rounds 17",
+    "rounds i o j --seed 0 --workers 50 --moves 1251 --heat 0 --hard 1000 --rounds 16",
+    "rounds i o j --seed 0 --workers 1 --moves 2 --heat 0 --hard 1000 --rounds 2 --start s --freeze 1",
+    "rounds i o j --seed 0 --workers 1 --moves 2 --heat 0 --hard 1000 --rounds 2 --retries 1",
+    "rounds i o j --seed 0 --workers 1 --moves 2 --heat 0 --hard 1000",
 ];
 
 #[test]
 fn unlawful_words_of_rounds(rt: HostRuntime) {
-    assert!(rt; are_told_apart(&rt, rt.alloc(), &[MOST_ROUNDS], &NO_CALLS_OF_ROUNDS));
+    assert!(rt;
+        are_told_apart(
+            &rt,
+            rt.alloc(),
+            &["rounds i o j --seed 0 --workers 50 --moves 1250 --heat 0 --hard 1000 --rounds 16"],
+            &NO_CALLS_OF_ROUNDS
+        )
+    );
 }
-
-const MOST_ADVISERS: &str = "advise i s --hard 0 --workers 64";
 
 const NO_ADVICE: [&str; 6] = [
     "advise i s --hard 1000",
@@ -129,7 +80,14 @@ const NO_ADVICE: [&str; 6] = [
 
 #[test]
 fn unlawful_words_of_advise(rt: HostRuntime) {
-    assert!(rt; are_told_apart(&rt, rt.alloc(), &[MOST_ADVISERS], &NO_ADVICE));
+    assert!(rt;
+        are_told_apart(
+            &rt,
+            rt.alloc(),
+            &["advise i s --hard 0 --workers 64"],
+            &NO_ADVICE
+        )
+    );
 }
 
 // Words that name a search by chains, which finds no instance.

@@ -1,8 +1,9 @@
 //! Whole calls of several workers, over files in memory.
 
-use crate::examples::{ONE_ADMITTED, TWO_PATIENTS};
-use crate::script::Event::{Alike, Ends, Held, Holds, Lines, Meets, Pairs, Same, Store};
+use crate::examples::ONE_ADMITTED;
+use crate::script::Event::{Ends, Held, Holds, Lines, Meets, Pairs, Replays, Same, Store};
 use crate::script::{Event, goes};
+use ih_fixtures::TWO_PATIENTS;
 use ih_top::Status;
 
 const ONE_EACH: &str =
@@ -11,10 +12,9 @@ const ONE_EACH: &str =
 const HUNDRED_EACH: &str =
     "solve i o j --seed 18446744073709551615 --workers 2 --moves 100 --heat 1000000 --hard 1000 --start s";
 
-const FIVE_HUNDRED_EACH: &str =
-    "solve i o j --seed 5 --workers 2 --moves 500 --heat 300 --hard 1000 --start s";
-
-const STALE: &str = "ihjournal 1 seed=18446744073709551615 workers=2 moves=1 heat=1000000 hard=1000
+/// What two workers leave of whom worker 1 made the price of worker 0 stale.
+pub const STALE: &str =
+    "ihjournal 1 seed=18446744073709551615 workers=2 moves=1 heat=1000000 hard=1000
 0 1 0 0 nurserun:1,0,0,5 0,0,0,0,0,0,0,0,0,0,-2,0,0,0,0,0,0 accepted
 1 0 0 0 place:0,1,1,1 0,1,0,0,0,0,0,0,3,-1,0,-1,0,0,0,1,0 stale:roomshift.0.0:0:1
 ";
@@ -28,24 +28,6 @@ const TRIED_AGAIN: &str =
 1 0 0 0 0 place:0,1,1,1 0,1,0,0,0,0,0,0,3,-1,0,-1,0,0,0,1,0 stale:roomshift.0.0:0:1
 2 0 0 1 2 place:0,1,1,1 0,1,0,0,0,0,0,0,3,-1,0,-1,0,0,0,1,0 accepted
 ";
-
-const ONE: &str = "solve i o j --seed 5 --workers 1 --moves 30 --heat 300 --hard 1000 --start s";
-
-const TWO_WITH_RETRIES: &str =
-    "solve i o j --seed 5 --workers 2 --moves 30 --heat 300 --hard 1000 --start s --retries 1";
-
-const THREE_FROZEN: &str =
-    "solve i o j --seed 5 --workers 3 --moves 30 --heat 300 --hard 1000 --start s --freeze 1";
-
-const EIGHT: &str = "solve i o j --seed 5 --workers 8 --moves 30 --heat 300 --hard 1000 --start s";
-
-const EIGHT_WITH_RETRIES: &str =
-    "solve i o j --seed 5 --workers 8 --moves 30 --heat 300 --hard 1000 --start s --retries 3";
-
-const MOST_WITH_RETRIES_FROZEN: &str =
-    "solve i o j --seed 5 --workers 64 --moves 30 --heat 300 --hard 1000 --start s --retries 1 --freeze 1";
-
-const MOST: &str = "solve i o j --seed 5 --workers 64 --moves 30 --heat 300 --hard 1000 --start s";
 
 const STARTED: &str = "replay i j p --start s";
 
@@ -92,36 +74,31 @@ fn a_stale_move_is_tried_again(rt: HostRuntime) {
     assert!(rt; goes(&rt, rt.alloc(), &AGAIN));
 }
 
-const GENERATED_ONE: &str =
-    "solve i o j --seed 5 --workers 1 --moves 2000 --heat 50 --hard 100000 --fill";
-
-const GENERATED_TWO: &str =
-    "solve i o j --seed 5 --workers 2 --moves 2000 --heat 50 --hard 100000 --fill --retries 1";
-
-const GENERATED_THREE: &str =
-    "solve i o j --seed 5 --workers 3 --moves 2000 --heat 0 --hard 100000 --fill";
-
-const GENERATED_EIGHT: &str =
-    "solve i o j --seed 5 --workers 8 --moves 2000 --heat 50 --hard 100000 --fill --retries 3";
-
-const GENERATED_MOST: &str =
-    "solve i o j --seed 5 --workers 64 --moves 2000 --heat 20 --hard 100000 --fill --retries 1";
-
 const REFILLED: &str = "replay i j p --fill";
 
 // Searches of so many workers with 2,000 moves each, from the fill of a generated instance. Each replay ends alike.
-const GENERATED: [Event<'static>; 11] = [
+const GENERATED: [Event<'static>; 6] = [
     Ends("gen 7 i", Status::Done, ""),
-    Alike(GENERATED_ONE, REFILLED),
-    Same("p", "o"),
-    Alike(GENERATED_TWO, REFILLED),
-    Same("p", "o"),
-    Alike(GENERATED_THREE, REFILLED),
-    Same("p", "o"),
-    Alike(GENERATED_EIGHT, REFILLED),
-    Same("p", "o"),
-    Alike(GENERATED_MOST, REFILLED),
-    Same("p", "o"),
+    Replays(
+        "solve i o j --seed 5 --workers 1 --moves 2000 --heat 50 --hard 100000 --fill",
+        REFILLED,
+    ),
+    Replays(
+        "solve i o j --seed 5 --workers 2 --moves 2000 --heat 50 --hard 100000 --fill --retries 1",
+        REFILLED,
+    ),
+    Replays(
+        "solve i o j --seed 5 --workers 3 --moves 2000 --heat 0 --hard 100000 --fill",
+        REFILLED,
+    ),
+    Replays(
+        "solve i o j --seed 5 --workers 8 --moves 2000 --heat 50 --hard 100000 --fill --retries 3",
+        REFILLED,
+    ),
+    Replays(
+        "solve i o j --seed 5 --workers 64 --moves 2000 --heat 20 --hard 100000 --fill --retries 1",
+        REFILLED,
+    ),
 ];
 
 #[test]
@@ -130,23 +107,37 @@ fn any_number_of_workers_on_a_generated_instance(rt: HostRuntime) {
 }
 
 // Journals of many workers are replayed to the same solution.
-const REPLAYED: [Event<'static>; 16] = [
+const REPLAYED: [Event<'static>; 9] = [
     Store("i", TWO_PATIENTS),
     Store("s", ONE_ADMITTED),
-    Alike(ONE, STARTED),
-    Same("p", "o"),
-    Alike(TWO_WITH_RETRIES, STARTED),
-    Same("p", "o"),
-    Alike(THREE_FROZEN, FROZEN),
-    Same("p", "o"),
-    Alike(EIGHT, STARTED),
-    Same("p", "o"),
-    Alike(EIGHT_WITH_RETRIES, STARTED),
-    Same("p", "o"),
-    Alike(MOST_WITH_RETRIES_FROZEN, FROZEN),
-    Same("p", "o"),
-    Alike(MOST, STARTED),
-    Same("p", "o"),
+    Replays(
+        "solve i o j --seed 5 --workers 1 --moves 30 --heat 300 --hard 1000 --start s",
+        STARTED,
+    ),
+    Replays(
+        "solve i o j --seed 5 --workers 2 --moves 30 --heat 300 --hard 1000 --start s --retries 1",
+        STARTED,
+    ),
+    Replays(
+        "solve i o j --seed 5 --workers 3 --moves 30 --heat 300 --hard 1000 --start s --freeze 1",
+        FROZEN,
+    ),
+    Replays(
+        "solve i o j --seed 5 --workers 8 --moves 30 --heat 300 --hard 1000 --start s",
+        STARTED,
+    ),
+    Replays(
+        "solve i o j --seed 5 --workers 8 --moves 30 --heat 300 --hard 1000 --start s --retries 3",
+        STARTED,
+    ),
+    Replays(
+        "solve i o j --seed 5 --workers 64 --moves 30 --heat 300 --hard 1000 --start s --retries 1 --freeze 1",
+        FROZEN,
+    ),
+    Replays(
+        "solve i o j --seed 5 --workers 64 --moves 30 --heat 300 --hard 1000 --start s",
+        STARTED,
+    ),
 ];
 
 #[test]
@@ -155,11 +146,13 @@ fn any_number_of_workers(rt: HostRuntime) {
 }
 
 // Two workers with 500 moves each, which no gate holds, leave 1,000 entries, whose replay comes to the same end.
-const THOUSAND_MOVES: [Event<'static>; 5] = [
+const THOUSAND_MOVES: [Event<'static>; 4] = [
     Store("i", TWO_PATIENTS),
     Store("s", ONE_ADMITTED),
-    Alike(FIVE_HUNDRED_EACH, STARTED),
-    Same("p", "o"),
+    Replays(
+        "solve i o j --seed 5 --workers 2 --moves 500 --heat 300 --hard 1000 --start s",
+        STARTED,
+    ),
     Lines("j", 1001),
 ];
 
@@ -168,14 +161,17 @@ fn a_thousand_moves_of_two_workers(rt: HostRuntime) {
     assert!(rt; goes(&rt, rt.alloc(), &THOUSAND_MOVES));
 }
 
-const THREE_MEET: &str =
-    "solve i o j --seed 5 --workers 3 --moves 20 --heat 300 --hard 1000 --start s";
-
-const MOST_MEET: &str =
-    "solve i o j --seed 5 --workers 64 --moves 3 --heat 300 --hard 1000 --start s";
-
 // No worker offers its first move before all have priced theirs.
-const MEETINGS: [Event<'static>; 2] = [Meets(THREE_MEET, 3), Meets(MOST_MEET, 64)];
+const MEETINGS: [Event<'static>; 2] = [
+    Meets(
+        "solve i o j --seed 5 --workers 3 --moves 20 --heat 300 --hard 1000 --start s",
+        3,
+    ),
+    Meets(
+        "solve i o j --seed 5 --workers 64 --moves 3 --heat 300 --hard 1000 --start s",
+        64,
+    ),
+];
 
 #[test]
 fn all_workers_at_once(rt: HostRuntime) {

@@ -5,15 +5,12 @@ ghost use Rattle.ih_journal.specs.Settings.{IsLawful};
 ghost use Rattle.ih_plan.specs.Timetable.{IsPlanOf};
 ghost use Rattle.ih_fixtures.specs.Two.{IsOfTwo};
 
-use ih_fixtures::{first_day, on_first_admitted};
+use ih_fixtures::{first_day, on_first_admitted, share};
 use ih_journal::{JournalRefusal, Options, Reason};
 use ih_plan::Plan;
 use ih_replay::Replay;
 use ih_tables::{Instance, NurseNo, PatientNo, RoomNo, Shift};
 use std::alloc::Global;
-
-/// Threads share replays.
-fn share<T: Send + Sync>(_x: &T) {}
 
 /// What comes of a line: it is taken, or refused for a reason, and then nothing changes. There is no line where the
 /// journal is short, since the next one is missing, or whole.

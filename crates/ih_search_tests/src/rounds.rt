@@ -39,7 +39,8 @@ fn is_retried(options: &Options, entry: &Entry) -> bool
 
 // Whether a worker with this last entry isn't done, and its next move has this number.
 fn is_next(options: &Options, last: &Option<Entry>, number: u32) -> bool
-    ensures { IsTrue result → (is_done_after options.now (option_map tried last.now) ≡ false) × ((attempt_after options.now (option_map tried last.now)).number ≡ number) }
+    ensures { let before = option_map tried last.now in IsTrue result
+        → (is_done_after options.now before ≡ false) × ((attempt_after options.now before).number ≡ number) }
 {
     match last {
         None => options.moves > 0 && number == 0,
@@ -87,7 +88,8 @@ pub(crate) fn offer(
     requires move_in { IsMoveOf book.old.base.instance mv.now }
     ensures base { book.new.base ≡ book.old.base }
     ensures replica { IsReplicaIn book.old.base book.new.entries replica.new }
-    ensures others { (r : Snapshot) → IsReplicaIn book.old.base book.old.entries r → IsReplicaIn book.old.base book.new.entries r }
+    ensures others { (r : Snapshot) → IsReplicaIn book.old.base book.old.entries r
+        → IsReplicaIn book.old.base book.new.entries r }
 {
     let offer = replica.price(mv, number);
     if may_come(book.entries(), options, offer) {

@@ -13,16 +13,13 @@ use crate::rounds::{catch_up, offer, rests_on};
 use crate::steps::{FIRST_NURSE, JOIN, SECOND_NURSE, TWICE_STALE, have_prices, hot, is};
 use ih_cellbook::{Book, Buffer, News};
 use ih_costs::Ledgers;
-use ih_fixtures::on_first_admitted;
+use ih_fixtures::{on_first_admitted, share};
 use ih_footprint::Numbering;
 use ih_journal::{Options, Verdict, parse_move};
 use ih_plan::Plan;
 use ih_snapshot::Replica;
 use ih_tables::{Bill, Cell, Instance, RoomNo, Shift};
 use std::alloc::{AllocError, Global};
-
-/// Threads share replicas.
-fn share<T: Send + Sync>(_x: &T) {}
 
 /// What a worker does: it takes over what is new, offers its move of a number, by the move's text, or prices that,
 /// which is to rest on these cells, each at this version.
@@ -65,7 +62,8 @@ fn act(
     requires replica { IsReplicaIn book.old.base book.old.entries replica.old }
     ensures base { book.new.base ≡ book.old.base }
     ensures replica { IsReplicaIn book.old.base book.new.entries replica.new }
-    ensures others { (r : Snapshot) → IsReplicaIn book.old.base book.old.entries r → IsReplicaIn book.old.base book.new.entries r }
+    ensures others { (r : Snapshot) → IsReplicaIn book.old.base book.old.entries r
+        → IsReplicaIn book.old.base book.new.entries r }
 {
     match *step {
         Looks => {

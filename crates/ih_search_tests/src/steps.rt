@@ -9,7 +9,8 @@ use ih_tables::{Cell, RoomNo, Shift};
 
 /// The options of a hot search, in which no price is too high.
 pub(crate) fn hot(workers: u32, moves: u32, retries: u32) -> Options
-    ensures { result ≡ record { seed = 0; workers = workers; moves = moves; heat = 1000000; hard = 1000; retries = retries } }
+    ensures { result
+        ≡ record { seed = 0; workers = workers; moves = moves; heat = 1000000; hard = 1000; retries = retries } }
 {
     Options {
         seed: 0,
