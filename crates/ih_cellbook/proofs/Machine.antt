@@ -16,7 +16,7 @@ use Rattle.ih_cellbook.specs.Offered.{Offered}
 use Rattle.ih_cellbook.specs.Counters.{verdict_by_counters}
 use Rattle.ih_cellbook.specs.Offers.{entry_of}
 use Rattle.ih_cellbook.proofs.Committing.{AreVersionsBy}
-use Rattle.ih_cellbook.specs.Core.{State, Event, looks, offers, opening, MayOffer, MayCome, step, run_from, IsScheduleFrom, IsLegalState, entry_in, verdict_in, front_at}
+use Rattle.ih_cellbook.specs.Core.{State, Event, looks, offers, opening, MayOffer, MayCome, step, run_from, IsScheduleFrom, IsLegalState, entry_in, verdict_in, seen_by_at}
 use Rattle.ih_cellbook.specs.Keeping.{IsBase}
 use Rattle.ih_cellbook.specs.Offers.{IsRightOffer, offer_at}
 use Rattle.ih_cellbook.proofs.Committing.{entry-legal, legal_but-moves, legal_but-more, legal_but-none, verdict-same, versions-more}
@@ -25,11 +25,11 @@ use Rattle.ih_cellbook.proofs.ExactPrices.{prices-exact}
 -- ---- events
 
 -- what a worker of the machine offers is right for the history
-pub offer_at-right : (b : Base) (s : State) (w n : ℕ) (m : List Move) → MayOffer b s w n m → ((v : ℕ) → s.fronts v ≤ length s.history) → IsRightOffer b s.history (offer_at b s.history w n m)
+pub offer_at-right : (b : Base) (s : State) (w n : ℕ) (m : List Move) → MayOffer b s w n m → ((v : ℕ) → s.seen_by v ≤ length s.history) → IsRightOffer b s.history (offer_at b s.history w n m)
 unfolding next_attempt
-offer_at-right b s w n m may fronts =
+offer_at-right b s w n m may seen_by =
     let known = may.seen in
-    let most = fronts w in
+    let most = seen_by w in
     record {
       worker = may.worker;
       number = rw may.not_done refl;
@@ -41,10 +41,10 @@ offer_at-right b s w n m may fronts =
       frozen = refl;
     }
 
-front-most : (fronts : ℕ → ℕ) (w front most : ℕ) → ((v : ℕ) → fronts v ≤ most) → front ≤ most → (v : ℕ) → front_at fronts w front v ≤ most
-front-most fronts w front most h new v = by_case (v == w)
+front-most : (seen_by : ℕ → ℕ) (w front most : ℕ) → ((v : ℕ) → seen_by v ≤ most) → front ≤ most → (v : ℕ) → seen_by_at seen_by w front v ≤ most
+front-most seen_by w front most h new v = by_case (v == w)
   where
-    by_case : (t : Bool) → (if t then front else fronts v) ≤ most
+    by_case : (t : Bool) → (if t then front else seen_by v) ≤ most
     by_case true = new
     by_case false = h v
 
@@ -54,12 +54,12 @@ module _ (b : Base) (base : IsBase b) (s : State) (legal : IsLegalState b s) whe
     legal = legal.legal;
     versions = legal.versions;
     exact = legal.exact;
-    fronts = front-most s.fronts w (length s.history) (length s.history) legal.fronts (omega arith);
+    seen_by = front-most s.seen_by w (length s.history) (length s.history) legal.seen_by (omega arith);
   }
 
   offer-legal : (w n : ℕ) (m : List Move) → MayOffer b s w n m → IsLegalState b (step b s (offers w n m))
   offer-legal w n m may =
-      let right = offer_at-right b s w n m may legal.fronts in
+      let right = offer_at-right b s w n m may legal.seen_by in
       let one : IsLegalButDraw b s.history (entry_in b s w n m) =
       entry-legal b s.history (offer_at b s.history w n m) (verdict_in b s w n m) right (verdict-same b s.history s.counters (offer_at b s.history w n m) legal.versions right) in
       let len = length-more s.history (entry_in b s w n m) in
@@ -67,7 +67,7 @@ module _ (b : Base) (base : IsBase b) (s : State) (legal : IsLegalState b s) whe
         legal = legal_but-more b s.history (entry_in b s w n m) legal.legal one;
         versions = versions-more b s.history (entry_in b s w n m) s.counters base.start (legal_but-moves b s.history legal.legal) one legal.versions;
         exact = prices-exact b (s.history ++ entry_in b s w n m ∷ []) base.start (legal_but-more b s.history (entry_in b s w n m) legal.legal one);
-        fronts = front-most s.fronts w (length s.history + 1) (length (s.history ++ entry_in b s w n m ∷ [])) (λ v. let most = legal.fronts v in omega (arith, len, most)) (omega (arith, len));
+        seen_by = front-most s.seen_by w (length s.history + 1) (length (s.history ++ entry_in b s w n m ∷ [])) (λ v. let most = legal.seen_by v in omega (arith, len, most)) (omega (arith, len));
       }
 
   step-legal : (v : Event) → MayCome b s v → IsLegalState b (step b s v)
@@ -80,7 +80,7 @@ opening-legal b = record {
   legal = legal_but-none b;
   versions = λ n h. refl;
   exact = λ k e h accepted. absurd (let no : None ≡ Some e = h in cc);
-  fronts = λ w. omega arith;
+  seen_by = λ w. omega arith;
 }
 
 run-legal : (b : Base) (base : IsBase b) (events : List Event) (s : State) → IsLegalState b s → IsScheduleFrom b s events → IsLegalState b (run_from b s events)

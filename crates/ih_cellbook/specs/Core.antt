@@ -18,11 +18,11 @@ use Rattle.ih_cellbook.specs.Offers.{HasSeenOwn, entry_of, offer_at, reads_after
 pub record State : Type 0 where
   pub history : List Tried
   pub counters : ℕ → ℕ
-  pub fronts : ℕ → ℕ
+  pub seen_by : ℕ → ℕ
 
 -- nothing was offered yet
 abbrev pub opening : State
-opening = record { history = []; counters = λ n. 0; fronts = λ w. 0 }
+opening = record { history = []; counters = λ n. 0; seen_by = λ w. 0 }
 
 pub data Event : Type 0 where
   -- a worker looks at the whole history
@@ -35,7 +35,7 @@ pub record MayOffer (b : Base) (s : State) (w n : ℕ) (m : List Move) : Type 0 
   pub worker : w < b.options.workers
   pub not_done : is_done b.options s.history w ≡ false
   pub move : AreMoves b.instance m
-  pub seen : n ≤ s.fronts w
+  pub seen : n ≤ s.seen_by w
   pub after_own : HasSeenOwn s.history w n
 
 -- the event may come in this state
@@ -56,17 +56,17 @@ entry_in b s w seen m = entry_of b s.history (offer_at b s.history w seen m) (ve
 abbrev pub counters_in : Base → State → ℕ → ℕ → List Move → ℕ → ℕ
 counters_in b s w seen m = risen_where (is_accepted (verdict_in b s w seen m)) s.counters (reads_after b (take seen s.history) m)
 
--- one worker's front is moved on, the others' stay
-abbrev pub front_at : (ℕ → ℕ) → ℕ → ℕ → ℕ → ℕ
-front_at fronts w front v = if v == w then front else fronts v
+-- what one worker has seen is moved on, the others' stays
+abbrev pub seen_by_at : (ℕ → ℕ) → ℕ → ℕ → ℕ → ℕ
+seen_by_at seen_by w front v = if v == w then front else seen_by v
 
 -- the state after an event
 abbrev pub step : Base → State → Event → State
-step b s (looks w) = record s { fronts = front_at s.fronts w (length s.history) }
+step b s (looks w) = record s { seen_by = seen_by_at s.seen_by w (length s.history) }
 step b s (offers w seen m) = record {
   history = s.history ++ entry_in b s w seen m ∷ [];
   counters = counters_in b s w seen m;
-  fronts = front_at s.fronts w (length s.history + 1);
+  seen_by = seen_by_at s.seen_by w (length s.history + 1);
 }
 
 -- the state after a schedule
@@ -85,7 +85,7 @@ pub record IsLegalState (b : Base) (s : State) : Type 0 where
   pub versions : (n : ℕ) → n < cell_count b.instance → s.counters n ≡ version b s.history (cell_at b.instance n)
   pub exact : AreExact b s.history
   -- nobody has seen more than there is
-  pub fronts : (w : ℕ) → s.fronts w ≤ length s.history
+  pub seen_by : (w : ℕ) → s.seen_by w ≤ length s.history
 
 -- every schedule, of any number of workers, leads to such a state
 abbrev pub SchedulesAreLegal : Draft → Type 0

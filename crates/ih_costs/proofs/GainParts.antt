@@ -14,7 +14,7 @@ use Rattle.ih_plan.specs.BillOf.{Counts, as_bill}
 use Rattle.ih_plan.specs.Cells.{part_at}
 use Rattle.ih_plan.proofs.Entries.{stay_of-same}
 use Rattle.ih_plan.proofs.CellNumbers.{stay_cell, theatre_day_cell, surgeon_day_cell, care_cell}
-use Rattle.ih_costs.specs.Changes.{stay_part}
+use Rattle.ih_costs.specs.StayPart.{stay_part}
 use Rattle.ih_tables.specs.BillNumbers.{mixed_gender, incompatible_room, surgeon_overrun, theatre_overrun, unscheduled_mandatory, admission_window, room_capacity, uncovered_room}
 use Rattle.ih_tables.specs.BillNumbers.{mixed_age, nurse_skill, continuity_of_care, excess_workload, open_theatre, surgeon_transfer, patient_delay, unscheduled_optional}
 use Rattle.ih_costs.specs.StayGain.{rule_at, cost_at, of_surgeon, over_days, over_shifts, over_loads, of_surgery, placement_gain}

@@ -1,4 +1,4 @@
-pub mod Changes
+pub mod StayPart
 pub mod CellLedgers
 pub mod ChoiceGain
 pub mod Scratch

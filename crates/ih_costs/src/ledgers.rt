@@ -137,7 +137,7 @@ impl<'a> Ledgers<'a> {
     }
 
     /// Makes a move. In place of what was listed there, `foot` has the cells that the move touched, rising: those of
-    /// its footprint at the timetable before it. It sums no costs.
+    /// its footprint at the timetable before it. It sums no costs. For users of the crate.
     pub fn play_noting(&mut self, mv: &Move, foot: &mut CellList)
         requires move_in { IsMoveOf self.old.instance mv.now }
         requires sizes { foot.old.sizes ≡ sizes_of self.old.instance }
@@ -191,7 +191,7 @@ impl<'a> Ledgers<'a> {
 
     /// What moves in a row would add to the bill together, number by number: each is at most 10^11 in magnitude. In
     /// place of what was listed there, `foot` has the cells of their footprints, each move's at the timetable where it
-    /// would be made, rising. The ledgers stand for the same timetable as before.
+    /// would be made, rising. The ledgers stand for the same timetable as before. For users of the crate.
     pub fn price_all(&mut self, moves: &[Move], foot: &mut CellList) -> Bill
         requires moves { AreMoves self.old.instance moves.now }
         requires sizes { foot.old.sizes ≡ sizes_of self.old.instance }

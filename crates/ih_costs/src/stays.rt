@@ -4,14 +4,14 @@ ghost use Rattle.std.specs.Prelude.{◌≡◌, ◌<◌, ◌&&◌, not, is_none, 
 ghost use Rattle.ih_tables.specs.Bills.{sub_bills};
 ghost use Rattle.ih_plan.specs.Sums.{bit};
 ghost use Rattle.ih_plan.specs.BillOf.{as_bill};
-ghost use Rattle.ih_costs.specs.Changes.{stay_part};
+ghost use Rattle.ih_costs.specs.StayPart.{stay_part};
 
 use ih_plan::{Placement, bit};
 use ih_tables::{Bill, Patient};
 use ih_validate::{delay, in_bad_room, outside_window};
 
 // How much more the new mark counts than the old one.
-fn rise(new: bool, old: bool) -> i64
+fn mark_rise(new: bool, old: bool) -> i64
     ensures { result ≡ pos (bit new) -ℤ pos (bit old) }
 {
     match (new, old) {
@@ -22,7 +22,7 @@ fn rise(new: bool, old: bool) -> i64
 }
 
 // How many days more the new delay has than the old one.
-fn days_more(new: u64, old: u64) -> i64
+fn delay_rise(new: u64, old: u64) -> i64
     requires new { new < 56 }
     requires old { old < 56 }
     ensures { result ≡ pos new -ℤ pos old }
@@ -66,11 +66,11 @@ pub fn stay_change(a: &Patient, new: Option<Placement>, old: Option<Placement>) 
     requires old { IfSome old (λ at. at.day.0 < 56) }
     ensures { result ≡ sub_bills (as_bill (stay_part a.now new)) (as_bill (stay_part a.now old)) }
 {
-    let bad = rise(in_bad_room(a, new), in_bad_room(a, old));
-    let out = rise(is_out(a, new), is_out(a, old));
-    let outside = rise(outside_window(a, new), outside_window(a, old));
-    let late = days_more(delay(a, new), delay(a, old));
-    let left = rise(is_left(a, new), is_left(a, old));
+    let bad = mark_rise(in_bad_room(a, new), in_bad_room(a, old));
+    let out = mark_rise(is_out(a, new), is_out(a, old));
+    let outside = mark_rise(outside_window(a, new), outside_window(a, old));
+    let late = delay_rise(delay(a, new), delay(a, old));
+    let left = mark_rise(is_left(a, new), is_left(a, old));
     Bill {
         v: [0, bad, 0, 0, out, outside, 0, 0, 0],
         s: [0, 0, 0, 0, 0, 0, late, left],

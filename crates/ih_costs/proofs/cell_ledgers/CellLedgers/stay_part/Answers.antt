@@ -1,7 +1,7 @@
 use Rattle.std.proofs.Common.{◌≡◌, ◌∙◌, ap, sym}
 use Rattle.ih_plan.specs.Timetable.{stay_of}
 use Rattle.ih_plan.specs.BillOf.{as_bill}
-use Rattle.ih_costs.specs.Changes.{stay_part}
+use Rattle.ih_costs.specs.StayPart.{stay_part}
 use Rattle.ih_costs.specs.CellLedgers.{timetable_of}
 use Rattle.ih_costs.proofs.ChangeLemmas.{stay-is}
 use Rattle.ih_costs.proofs.cell_ledgers.CellLedgers.stay_part.Goals as goal
