@@ -59,7 +59,7 @@ days-none I n day v none lists nodes = record {
   heads = ap length lists ∙ length-replicate (n * I.days) [];
   nodes = nodes;
   each = λ h x. ap (λ ls. has x (slice_index_or ls h [])) lists ∙ (ap (has x) (index-copies (n * I.days) h []) ∙ ap (is_at h) (sym (none x)));
-  known = λ h. rw (lists, index-copies {A = List ℕ} (n * I.days) h []) record { below = λ x there. absurd (cc); once = tt };
+  known = λ h. rw (lists, index-copies {X = List ℕ} (n * I.days) h []) record { below = λ x there. absurd (cc); once = tt };
 }
 
 pub ledger-new : (I : Draft) (l : Theatres) → l.theatres.items ≡ replicate (patient_count I) None
