@@ -17,7 +17,6 @@ use Rattle.ih_plan.specs.BillOf.{bill_of, change_of_bill}
 use Rattle.ih_plan.specs.Sums.{bit}
 use Rattle.ih_plan.specs.Cells.{cell_at, cell_count}
 use Rattle.ih_plan.proofs.BillBounds.{bill-within, change-within}
-use Rattle.ih_plan.proofs.ChangeSums.{at-by_place}
 use Rattle.ih_plan.proofs.ListedBelow.{has}
 use Rattle.ih_plan.proofs.SumLemmas.{sum_below-le, length-which_below}
 use Rattle.ih_plan.proofs.Series.{after_all-plan}
