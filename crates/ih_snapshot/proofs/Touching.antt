@@ -52,7 +52,7 @@ module _ (I : Draft) (P : Timetable) (m : List Move) where
       let len = length-which_below (cell_count I) (λ n. all_touch I P m (cell_at I n)) in
       let most = sum_below-le (cell_count I) 1 (λ n. bit (all_touch I P m (cell_at I n))) (λ n h. bit-most (all_touch I P m (cell_at I n))) in
       omega (arith, len, most)
-    where
+
   pub foot-times : (n : ℕ) → n < cell_count I → times_listed n (footprint_of_all I P m) ≡ bit (all_touch I P m (cell_at I n))
   unfolding footprint_of_all
   foot-times n h =
