@@ -148,11 +148,11 @@ const STALE_ON_DAY_0: &str = "0,0,0,0,0,0 stale:roomday.0.0:0:0";
 const STALE_ON_DAY_1: &str = "0,0,0,0,0,0 stale:roomday.1.0:0:0";
 
 // Whether a search on the ward leaves this journal, and its replay finds the same and leaves the journal as it was.
-fn replays<R: Files + Print + Threads + Wait + Sync>(
+fn replays<'x, R: Files + Print + Threads + Wait + Sync>(
     rt: &R,
     alloc: Global,
-    search: &str,
-    journal: &str,
+    search: &'x str,
+    journal: &'x str,
 ) -> bool {
     let events = [
         Store("i", WARD),
