@@ -1,8 +1,7 @@
 //! One of those who look for advice side by side, and what it finds.
 
 ghost use Rattle.std.specs.Prelude.{◌≡◌, ◌<◌, ◌≤◌, ◌*◌, [], true, length, vec_capacity, IfOk};
-ghost use Rattle.ih_advise.specs.Advising.{subjects};
-ghost use Rattle.ih_advise.specs.Weaving.{HasAnswered};
+ghost use Rattle.ih_advise.specs.{Advising.subjects, Weaving.HasAnswered};
 
 use crate::choosing::{Advice, advice_on};
 use crate::subjects::{subject_at, subject_count};

@@ -3,9 +3,7 @@
 
 ghost use Rattle.std.specs.Prelude.{◌≡◌, ◌<◌, ◌^◌, false, if◌then◌else◌, length, map};
 ghost use Rattle.ih_tables.specs.Bills.{IsWithin, add_bills, cost, feasible};
-ghost use Rattle.ih_journal.specs.Base.{Base};
-ghost use Rattle.ih_journal.specs.Best.{BestIs, best_with};
-ghost use Rattle.ih_journal.specs.History.{is_accepted};
+ghost use Rattle.ih_journal.specs.{Base.Base, Best.BestIs, Best.best_with, History.is_accepted};
 ghost use Rattle.ih_cellbook.specs.Legal.{IsHistoryOver};
 
 use crate::kinds::Logged;

@@ -26,8 +26,7 @@ pub struct Book<'a, E: Logged = Entry> {
 impl<'a, E: Logged> Model for Book<'a, E> {
     ghost use Rattle.std.specs.Prelude.{◌≤◌, map, vec_capacity};
     ghost use Rattle.ih_journal.specs.Settings.{most_entries};
-    ghost use Rattle.ih_cellbook.specs.Recorded.{Recorded};
-    ghost use Rattle.ih_cellbook.specs.Keeping.{IsKept, base_with};
+    ghost use Rattle.ih_cellbook.specs.{Recorded.Recorded, Keeping.IsKept, Keeping.base_with};
 
     ghost Value = { Recorded };
 
@@ -45,22 +44,15 @@ impl<'a, E: Logged> Model for Book<'a, E> {
 
 impl<'a, E: Logged> Book<'a, E> {
     ghost use Rattle.std.specs.Prelude.{◌+◌, ◌++◌, ◌∷◌, [], take, drop, IfOk, map};
-    ghost use Rattle.ih_plan.specs.BillOf.{bill_of, change_of_bill};
-    ghost use Rattle.ih_plan.specs.Timetable.{IsPlanOf};
-    ghost use Rattle.ih_plan.specs.Cells.{cell_at, cell_count};
-    ghost use Rattle.ih_journal.specs.Settings.{IsLawful};
-    ghost use Rattle.ih_journal.specs.Best.{BestIs};
-    ghost use Rattle.ih_journal.specs.declared.entries.Verdict.TheVariants.{Accepted};
-    ghost use Rattle.ih_journal.specs.Frozen.{AgreesBefore};
+    ghost use Rattle.ih_plan.specs.{BillOf.bill_of, BillOf.change_of_bill, Timetable.IsPlanOf, Cells.cell_at};
+    ghost use Rattle.ih_plan.specs.{Cells.cell_count};
     ghost use Rattle.ih_journal.specs.History.{plan_after, plan_at, version};
-    ghost use Rattle.ih_journal.specs.Legal.{IsLegalButDraw, verdict_on};
-    ghost use Rattle.ih_cellbook.specs.Copied.{most_copied};
+    ghost use Rattle.ih_journal.specs.{Settings.IsLawful, Best.BestIs, declared.entries.Verdict.TheVariants.Accepted};
+    ghost use Rattle.ih_journal.specs.{Frozen.AgreesBefore, Legal.IsLegalButDraw, Legal.verdict_on};
     ghost use Rattle.ih_cellbook.specs.Core.{State, IsLegalState, step, offers};
-    ghost use Rattle.ih_cellbook.specs.Keeping.{base_with, IsBase};
-    ghost use Rattle.ih_cellbook.specs.Legal.{AreExact, AreLegalButDraws};
-    ghost use Rattle.ih_cellbook.specs.Laws.{AreFew};
     ghost use Rattle.ih_cellbook.specs.Offers.{IsJudged, IsRightOffer, entry_of};
-    ghost use Rattle.ih_cellbook.specs.Told.{TellsOf};
+    ghost use Rattle.ih_cellbook.specs.{Copied.most_copied, Keeping.base_with, Keeping.IsBase, Legal.AreExact};
+    ghost use Rattle.ih_cellbook.specs.{Legal.AreLegalButDraws, Laws.AreFew, Told.TellsOf};
 
     /// A book without entries over a start, whose bill is `first`. Room for all entries of the search is reserved.
     pub fn new(

@@ -3,8 +3,7 @@
 ghost use Rattle.std.specs.Prelude.{◌≡◌, true, ℕ, ◌+◌, ◌<◌, ◌^◌, length, slice_index, if◌then◌else◌, All, IfSome};
 ghost use Rattle.ih_tables.specs.Bills.{IsWithin};
 ghost use Rattle.ih_plan.specs.Cells.{cell_count};
-ghost use Rattle.ih_journal.specs.Settings.{IsLawful};
-ghost use Rattle.ih_journal.specs.History.{is_accepted};
+ghost use Rattle.ih_journal.specs.{Settings.IsLawful, History.is_accepted};
 ghost use Rattle.ih_cellbook.specs.Counters.{first_differing, is_compared, stale_by, times_read, verdict_by_counters};
 
 use crate::kinds::Offers;

@@ -2,13 +2,9 @@
 
 ghost use Rattle.std.specs.Prelude.{◌≡◌, ℕ, ◌+◌, ◌<◌, ◌≤◌, [], List, All, IfOk, IsTrue, true, length, map, slice_index};
 ghost use Rattle.std.specs.List.{list_any, range_with_len};
-ghost use Rattle.ih_plan.specs.Draws.{move_of, stream_at};
-ghost use Rattle.ih_plan.specs.Timetable.{IsPlanOf};
-ghost use Rattle.ih_plan.specs.Sums.{tagged};
-ghost use Rattle.ih_plan.specs.Series.{AreMoves, expand_all};
-ghost use Rattle.ih_journal.specs.Frozen.{is_frozen_write};
-ghost use Rattle.ih_plan.specs.declared.moves.Move.{Move};
-ghost use Rattle.ih_journal.specs.Tried.{Tried};
+ghost use Rattle.ih_plan.specs.{Draws.move_of, Draws.stream_at, Timetable.IsPlanOf, Sums.tagged, Series.AreMoves};
+ghost use Rattle.ih_plan.specs.{Series.expand_all, declared.moves.Move.Move};
+ghost use Rattle.ih_journal.specs.{Frozen.is_frozen_write, Tried.Tried};
 ghost use Rattle.ih_cellbook.specs.Offered.{Offered};
 
 use crate::reads::Reads;

@@ -1,10 +1,8 @@
 //! What a book keeps: the entries of all workers, and what is needed to judge the next one.
 
 ghost use Rattle.std.specs.Prelude.{◌≡◌, ◌<◌, ◌≤◌, [], length, slice_index, vec_capacity, Some, IfOk};
-ghost use Rattle.ih_journal.specs.Attempts.{attempt_after};
-ghost use Rattle.ih_journal.specs.Settings.{IsLawful, most_entries};
-ghost use Rattle.ih_cellbook.specs.Offered.{Offered};
-ghost use Rattle.ih_cellbook.specs.Offers.{entry_with};
+ghost use Rattle.ih_journal.specs.{Attempts.attempt_after, Settings.IsLawful, Settings.most_entries};
+ghost use Rattle.ih_cellbook.specs.{Offered.Offered, Offers.entry_with};
 
 use crate::kinds::{Logged, Offers};
 use ih_journal::{Options, Verdict};

@@ -1,13 +1,11 @@
 //! What a worker needs of its own copy of a search, so that whoever runs workers needn't stand on the ledgers.
 
 ghost use Rattle.std.specs.Prelude.{◌≡◌, ◌≤◌, [], IfOk, map};
-ghost use Rattle.ih_plan.specs.Timetable.{IsPlanOf};
-ghost use Rattle.ih_plan.specs.Series.{AreMoves};
+ghost use Rattle.ih_plan.specs.{Timetable.IsPlanOf, Series.AreMoves};
 ghost use Rattle.ih_journal.specs.Settings.{IsLawful};
-ghost use Rattle.ih_cellbook.specs.Keeping.{base_with};
-ghost use Rattle.ih_cellbook.specs.Replicas.{IsOfferOf, IsReplicaOf, IsRightFor};
-ghost use Rattle.ih_cellbook.specs.Replicas.{MayFollow, MayFollowUpTo, StandsAfter, StandsAs, StandsUpTo};
-ghost use Rattle.ih_cellbook.specs.Snapshot.{Snapshot};
+ghost use Rattle.ih_cellbook.specs.Replicas.{IsOfferOf, IsReplicaOf, IsRightFor, MayFollow, MayFollowUpTo, StandsAfter};
+ghost use Rattle.ih_cellbook.specs.Replicas.{StandsAs, StandsUpTo};
+ghost use Rattle.ih_cellbook.specs.{Keeping.base_with, Snapshot.Snapshot};
 
 use crate::kinds::Logged;
 use ih_journal::Options;

@@ -2,8 +2,7 @@
 
 ghost use Rattle.std.specs.Prelude.{◌≡◌};
 ghost use Rattle.std.specs.List.{list_any};
-ghost use Rattle.ih_plan.specs.Timetable.{IsPlanOf};
-ghost use Rattle.ih_plan.specs.Writes.{AreWritesOf};
+ghost use Rattle.ih_plan.specs.{Timetable.IsPlanOf, Writes.AreWritesOf};
 ghost use Rattle.ih_journal.specs.Frozen.{is_frozen_write};
 
 use crate::kinds::{Attempted, Logged, Offers};
@@ -140,8 +139,7 @@ impl Offers for Offer {
 }
 
 impl Logged for Entry {
-    ghost use Rattle.ih_journal.specs.declared.settings.TheConstants.{MAX_RETRIES};
-    ghost use Rattle.ih_journal.specs.Tried.{tried};
+    ghost use Rattle.ih_journal.specs.{declared.settings.TheConstants.MAX_RETRIES, Tried.tried};
 
     type Attempt = Move;
 

@@ -29,13 +29,11 @@ impl<'a> Model for ChainReplica<'a> {
 
 impl<'a> ChainReplica<'a> {
     ghost use Rattle.std.specs.Borrow.{sem};
-    ghost use Rattle.ih_plan.specs.Timetable.{IsPlanOf};
-    ghost use Rattle.ih_plan.specs.Series.{AreMoves};
+    ghost use Rattle.ih_plan.specs.{Timetable.IsPlanOf, Series.AreMoves};
     ghost use Rattle.ih_journal.specs.Settings.{IsLawful};
     ghost use Rattle.ih_cellbook.specs.Keeping.{base_with};
     ghost use Rattle.ih_cellbook.specs.Replicas.{IsOfferOf, IsReplicaOf, IsRightFor, MayFollow, StandsAfter, StandsAs};
-    ghost use Rattle.ih_chain.specs.Entries.{chain_offered, chain_tries};
-    ghost use Rattle.ih_chain.specs.Lending.{RestsAs};
+    ghost use Rattle.ih_chain.specs.{Entries.chain_offered, Entries.chain_tries, Lending.RestsAs};
 
     /// A worker's replica of a search over a start, which fits the instance. It stands for the empty history.
     pub fn new(

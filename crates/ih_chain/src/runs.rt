@@ -1,13 +1,10 @@
 //! What a search by chains has made: its entries, their best and their journal.
 
 ghost use Rattle.std.specs.Prelude.{◌≡◌, ◌≤◌, All, IfOk, IfSome, length, option_map, take};
-ghost use Rattle.ih_plan.specs.Series.{AreMoves};
-ghost use Rattle.ih_plan.specs.Timetable.{IsPlanOf};
-ghost use Rattle.ih_journal.specs.History.{after_entries};
-ghost use Rattle.ih_journal.specs.Legal.{IsFull};
+ghost use Rattle.ih_plan.specs.{Series.AreMoves, Timetable.IsPlanOf};
+ghost use Rattle.ih_journal.specs.{History.after_entries, Legal.IsFull};
 ghost use Rattle.ih_cellbook.specs.Keeping.{base_with};
-ghost use Rattle.ih_chain.specs.Entries.{chain_tries};
-ghost use Rattle.ih_chain.specs.Runs.{IsRunOf};
+ghost use Rattle.ih_chain.specs.{Entries.chain_tries, Runs.IsRunOf};
 
 use crate::entries::ChainEntry;
 use crate::texts::chain_journal_text;

@@ -1,12 +1,10 @@
 //! Three ledgers that stand for one timetable.
 
 ghost use Rattle.std.specs.Prelude.{◌≡◌, ◌<◌, None, Some, IfOk};
-ghost use Rattle.ih_tables.specs.Sizes.{patient_count};
-ghost use Rattle.ih_tables.specs.declared.ids.NurseNo.{NurseNo};
-ghost use Rattle.ih_plan.specs.declared.moves.Placement.{Placement};
-ghost use Rattle.ih_plan.specs.declared.moves.Write.TheVariants.{SetStay, SetCare};
+ghost use Rattle.ih_tables.specs.{Sizes.patient_count, declared.ids.NurseNo.NurseNo};
 ghost use Rattle.ih_plan.specs.Timetable.{empty, stay_of, IsPlacement};
-ghost use Rattle.ih_plan.specs.Writes.{put, IsWriteOf};
+ghost use Rattle.ih_plan.specs.{declared.moves.Placement.Placement, declared.moves.Write.TheVariants.SetStay};
+ghost use Rattle.ih_plan.specs.{declared.moves.Write.TheVariants.SetCare, Writes.put, Writes.IsWriteOf};
 ghost use Rattle.ih_costs.specs.CellLedgers.{AreLedgers, AreLedgersOf, timetable_of};
 
 use ih_nurses::Nurses;

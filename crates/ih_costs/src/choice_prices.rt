@@ -1,9 +1,8 @@
 //! What another choice of nurse for a room's shift, or none, changes in the bill, told by the cells that it touches.
 
 ghost use Rattle.std.specs.Prelude.{◌≡◌};
-ghost use Rattle.ih_plan.specs.declared.moves.Write.TheVariants.{SetCare};
-ghost use Rattle.ih_plan.specs.Writes.{put, IsWriteOf};
-ghost use Rattle.ih_plan.specs.BillOf.{change_of_bill};
+ghost use Rattle.ih_plan.specs.{declared.moves.Write.TheVariants.SetCare, Writes.put, Writes.IsWriteOf};
+ghost use Rattle.ih_plan.specs.{BillOf.change_of_bill};
 ghost use Rattle.ih_costs.specs.CellLedgers.{AreLedgers, timetable_of};
 
 use crate::cell_ledgers::CellLedgers;

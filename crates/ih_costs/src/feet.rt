@@ -3,13 +3,11 @@
 ghost use Rattle.std.specs.Prelude.{◌≡◌};
 ghost use Rattle.std.specs.List.{list_any};
 ghost use Rattle.ih_tables.specs.Sizes.{sizes_of};
-ghost use Rattle.ih_plan.specs.Writes.{AreWritesOf};
-ghost use Rattle.ih_plan.specs.Expand.{expand, IsMoveOf};
-ghost use Rattle.ih_plan.specs.Footprint.{touches, footprint};
+ghost use Rattle.ih_plan.specs.{Writes.AreWritesOf, Expand.expand, Expand.IsMoveOf, Footprint.touches};
+ghost use Rattle.ih_plan.specs.{Footprint.footprint};
 ghost use Rattle.ih_footprint.specs.Gathered.{Gathers};
-ghost use Rattle.ih_costs.specs.CellLedgers.{AreLedgers, timetable_of};
-ghost use Rattle.ih_costs.specs.AtOnce.{touch_at_once};
-ghost use Rattle.ih_costs.specs.Scratch.{IsFree};
+ghost use Rattle.ih_costs.specs.{CellLedgers.AreLedgers, CellLedgers.timetable_of, AtOnce.touch_at_once};
+ghost use Rattle.ih_costs.specs.{Scratch.IsFree};
 
 use crate::cell_ledgers::CellLedgers;
 use crate::pricing::expand_here;

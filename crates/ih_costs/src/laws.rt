@@ -1,8 +1,6 @@
 //! The laws that prices and footprints are told by, each on a function that does nothing.
 
-ghost use Rattle.ih_costs.specs.AtOnce.{MovesTouchAtOnce};
-ghost use Rattle.ih_costs.specs.ChoiceGain.{ChoicesAreTold};
-ghost use Rattle.ih_costs.specs.StayGain.{StaysGain};
+ghost use Rattle.ih_costs.specs.{AtOnce.MovesTouchAtOnce, ChoiceGain.ChoicesAreTold, StayGain.StaysGain};
 
 use ih_tables::Instance;
 

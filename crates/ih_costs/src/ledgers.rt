@@ -26,9 +26,8 @@ pub struct Ledgers<'a> {
 }
 
 impl<'a> Model for Ledgers<'a> {
-    ghost use Rattle.ih_costs.specs.Scratch.{IsFree};
-    ghost use Rattle.ih_costs.specs.Standing.{Standing};
-    ghost use Rattle.ih_costs.specs.CellLedgers.{AreLedgers, timetable_of};
+    ghost use Rattle.ih_costs.specs.{Scratch.IsFree, Standing.Standing, CellLedgers.AreLedgers};
+    ghost use Rattle.ih_costs.specs.{CellLedgers.timetable_of};
 
     ghost Value = { Standing };
 
@@ -39,17 +38,12 @@ impl<'a> Model for Ledgers<'a> {
 
 impl<'a> Ledgers<'a> {
     ghost use Rattle.std.specs.Prelude.{◌≡◌, ◌<◌, ◌^◌, not, IfOk};
-    ghost use Rattle.ih_tables.specs.Sizes.{room_count, sizes_of};
-    ghost use Rattle.ih_tables.specs.Bills.{IsWithin};
-    ghost use Rattle.ih_plan.specs.Timetable.{IsPlanOf};
-    ghost use Rattle.ih_plan.specs.Writes.{put, IsWriteOf};
-    ghost use Rattle.ih_plan.specs.Expand.{after, IsMoveOf};
+    ghost use Rattle.ih_tables.specs.{Sizes.room_count, Sizes.sizes_of, Bills.IsWithin};
     ghost use Rattle.ih_plan.specs.BillOf.{as_bill, bill_of, change_of_bill};
-    ghost use Rattle.ih_plan.specs.Cells.{IsCellOf, part_at};
-    ghost use Rattle.ih_plan.specs.Costs.{is_empty};
-    ghost use Rattle.ih_plan.specs.Footprint.{footprint};
-    ghost use Rattle.ih_plan.specs.Presence.{present};
     ghost use Rattle.ih_plan.specs.Series.{AreMoves, after_all, footprint_of_all, price_of_all};
+    ghost use Rattle.ih_plan.specs.{Timetable.IsPlanOf, Writes.put, Writes.IsWriteOf, Expand.after, Expand.IsMoveOf};
+    ghost use Rattle.ih_plan.specs.{Cells.IsCellOf, Cells.part_at, Costs.is_empty, Footprint.footprint};
+    ghost use Rattle.ih_plan.specs.{Presence.present};
 
     /// Ledgers that stand for a timetable, which fits the instance.
     pub fn new(alloc: Global, inst: &'a Instance, plan: &Plan) -> Result<Ledgers<'a>, AllocError>

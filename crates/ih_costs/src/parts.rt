@@ -1,10 +1,8 @@
 //! Each cell's part of the bill.
 
 ghost use Rattle.std.specs.Prelude.{◌≡◌, ◌<◌};
-ghost use Rattle.ih_tables.specs.Sizes.{patient_count};
-ghost use Rattle.ih_tables.specs.declared.cells.Cell.TheVariants.{Stay};
-ghost use Rattle.ih_plan.specs.BillOf.{as_bill};
-ghost use Rattle.ih_plan.specs.Cells.{IsCellOf, part_at};
+ghost use Rattle.ih_tables.specs.{Sizes.patient_count, declared.cells.Cell.TheVariants.Stay};
+ghost use Rattle.ih_plan.specs.{BillOf.as_bill, Cells.IsCellOf, Cells.part_at};
 ghost use Rattle.ih_costs.specs.CellLedgers.{AreLedgers, timetable_of};
 
 use crate::cell_ledgers::CellLedgers;

@@ -2,10 +2,9 @@
 
 ghost use Rattle.std.specs.Prelude.{◌≡◌, ◌≤◌, ◌^◌, ◌∷◌, length};
 ghost use Rattle.ih_tables.specs.Bills.{IsWithin};
-ghost use Rattle.ih_plan.specs.Timetable.{IsPlanOf};
 ghost use Rattle.ih_plan.specs.Writes.{put, put_all, IsWriteOf, AreWritesOf};
 ghost use Rattle.ih_plan.specs.Expand.{after, expand, IsMoveOf};
-ghost use Rattle.ih_plan.specs.BillOf.{change_of_bill};
+ghost use Rattle.ih_plan.specs.{Timetable.IsPlanOf, BillOf.change_of_bill};
 ghost use Rattle.ih_costs.specs.CellLedgers.{AreLedgers, AreLedgersOf, timetable_of};
 ghost use Rattle.ih_costs.specs.Undo.{undo_of};
 

@@ -1,8 +1,7 @@
 //! What moves in a row change in the bill: each is priced where it would be made.
 
 ghost use Rattle.std.specs.Prelude.{◌≡◌};
-ghost use Rattle.ih_plan.specs.Writes.{put_all, AreWritesOf};
-ghost use Rattle.ih_plan.specs.Series.{AreMoves, price_of_all};
+ghost use Rattle.ih_plan.specs.{Writes.put_all, Writes.AreWritesOf, Series.AreMoves, Series.price_of_all};
 ghost use Rattle.ih_costs.specs.CellLedgers.{AreLedgers, AreLedgersOf, timetable_of};
 
 use crate::cell_ledgers::CellLedgers;

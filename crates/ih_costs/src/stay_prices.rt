@@ -1,12 +1,9 @@
 //! What another stay of a patient, or none, changes in the bill, told day by day.
 
 ghost use Rattle.std.specs.Prelude.{◌≡◌, ◌<◌, ◌^◌, Some};
-ghost use Rattle.ih_tables.specs.Sizes.{patient_count};
-ghost use Rattle.ih_tables.specs.Bills.{IsWithin};
-ghost use Rattle.ih_plan.specs.declared.moves.Write.TheVariants.{SetStay};
-ghost use Rattle.ih_plan.specs.Timetable.{IsPlacement, stay_of};
-ghost use Rattle.ih_plan.specs.Writes.{put, IsWriteOf};
-ghost use Rattle.ih_plan.specs.BillOf.{change_of_bill};
+ghost use Rattle.ih_tables.specs.{Sizes.patient_count, Bills.IsWithin};
+ghost use Rattle.ih_plan.specs.{declared.moves.Write.TheVariants.SetStay, Timetable.IsPlacement, Timetable.stay_of};
+ghost use Rattle.ih_plan.specs.{Writes.put, Writes.IsWriteOf, BillOf.change_of_bill};
 ghost use Rattle.ih_costs.specs.CellLedgers.{AreLedgers, timetable_of};
 ghost use Rattle.ih_costs.specs.StayGain.{days_more, of_surgery, placement_gain, shifts_more, stay_gain};
 

@@ -2,8 +2,7 @@
 
 ghost use Rattle.std.specs.Prelude.{◌≡◌, ◌<◌, ◌&&◌, not, is_none, pos, ◌-ℤ◌, IfSome};
 ghost use Rattle.ih_tables.specs.Bills.{sub_bills};
-ghost use Rattle.ih_plan.specs.Sums.{bit};
-ghost use Rattle.ih_plan.specs.BillOf.{as_bill};
+ghost use Rattle.ih_plan.specs.{Sums.bit, BillOf.as_bill};
 ghost use Rattle.ih_costs.specs.StayPart.{stay_part};
 
 use ih_plan::{Placement, bit};

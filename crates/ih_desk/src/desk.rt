@@ -1,10 +1,8 @@
 //! The desk: it keeps the book behind a turn, and hands it out to nobody.
 
 ghost use Rattle.std.specs.Prelude.{◌≡◌, ◌≤◌, [], ◌∷◌, ◌++◌, length, take, drop};
-ghost use Rattle.ih_cellbook.specs.Copied.{most_copied};
-ghost use Rattle.ih_cellbook.specs.Legal.{AreLegalButDraws};
-ghost use Rattle.ih_cellbook.specs.Offers.{IsRightOffer, entry_of};
-ghost use Rattle.ih_cellbook.specs.Told.{TellsOf};
+ghost use Rattle.ih_cellbook.specs.{Copied.most_copied, Legal.AreLegalButDraws, Offers.IsRightOffer, Offers.entry_of};
+ghost use Rattle.ih_cellbook.specs.{Told.TellsOf};
 
 use ih_cellbook::{Book, Buffer, Logged, News, Offers, right_offers_stay_right};
 use ih_journal::Verdict;
@@ -32,8 +30,8 @@ impl<'a, E: Logged> DeskOver<Turn<Book<'a, E>>> {
     ghost use Rattle.std.specs.Prelude.{ℕ, ◌+◌, ◌*◌, ◌^◌, ◌<◌, ◌==◌, IfOk, IfErr, map, slice_index, All, Contains};
     ghost use Rattle.std.specs.Prelude.{count_by};
     ghost use Rattle.ih_turn.specs.Seats.{history, number_of, made_count, turns_left};
-    ghost use Rattle.ih_desk.specs.Desks.{base_of, worker_count, IsDesk, IsSeatAt};
     ghost use Rattle.ih_turn.specs.Rule.{GoesOn};
+    ghost use Rattle.ih_desk.specs.Desks.{base_of, worker_count, IsDesk, IsSeatAt};
     ghost use Rattle.ih_desk.specs.Turns.{HasLooked, HasOffered, MayLook, MayOffer};
 
     /// Opens a desk over a book without entries, with a seat for each worker of its options. Each seat may look or

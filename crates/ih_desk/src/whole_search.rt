@@ -2,8 +2,7 @@
 
 ghost use Rattle.std.specs.Prelude.{◌≡◌, ◌≤◌, ◌+◌, ◌*◌, [], IfOk, length, vec_capacity};
 ghost use Rattle.std.specs.List.{AllZip};
-ghost use Rattle.ih_journal.specs.Legal.{IsFull};
-ghost use Rattle.ih_journal.specs.Settings.{IsLawful};
+ghost use Rattle.ih_journal.specs.{Legal.IsFull, Settings.IsLawful};
 ghost use Rattle.ih_cellbook.specs.Keeping.{IsBase};
 ghost use Rattle.ih_desk.specs.Searching.{base_given, IsOpened, HaveLeft};
 ghost use Rattle.ih_desk.specs.Workers.{IsNewWorker, enough_turns};

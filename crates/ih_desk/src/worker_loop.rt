@@ -88,18 +88,14 @@ impl<'a, C: Opens<'a>> Searcher<'a, C> {
 
 impl<'a, C: Replicates> Searcher<'a, C> {
     ghost use Rattle.std.specs.Prelude.{◌+◌, ◌*◌, ◌<◌, ◌≤◌, Some, length};
-    ghost use Rattle.ih_journal.specs.Attempts.{HasMade};
-    ghost use Rattle.ih_journal.specs.Legal.{attempt_of};
-    ghost use Rattle.ih_journal.specs.Settings.{most_entries};
+    ghost use Rattle.ih_journal.specs.{Attempts.HasMade, Legal.attempt_of, Settings.most_entries};
     ghost use Rattle.ih_turn.specs.Seats.{history, number_of, turns_left};
-    ghost use Rattle.ih_cellbook.specs.Laws.{HasNoneBy};
-    ghost use Rattle.ih_cellbook.specs.Offers.{next_number};
-    ghost use Rattle.ih_desk.specs.Desks.{base_of, IsSeatAt};
-    ghost use Rattle.ih_desk.specs.Finishing.{AreDrawn, HasFinished};
     ghost use Rattle.ih_turn.specs.Rule.{GoesOn};
-    ghost use Rattle.ih_desk.specs.Workers.{enough_turns};
-    ghost use Rattle.ih_desk.specs.Searchers.{HasAttempted, HasCaughtUp, IsNew, IsNext, IsToldOf, IsWithin};
-    ghost use Rattle.ih_desk.specs.Searchers.{MayTry, credit};
+    ghost use Rattle.ih_cellbook.specs.{Laws.HasNoneBy, Offers.next_number};
+    ghost use Rattle.ih_desk.specs.Searchers.{HasAttempted, HasCaughtUp, IsNew, IsNext, IsToldOf, IsWithin, MayTry};
+    ghost use Rattle.ih_desk.specs.Searchers.{credit};
+    ghost use Rattle.ih_desk.specs.{Desks.base_of, Desks.IsSeatAt, Finishing.AreDrawn, Finishing.HasFinished};
+    ghost use Rattle.ih_desk.specs.{Workers.enough_turns};
 
     /// Makes all attempts of the worker, in order, each of its next draws. A stale one is tried again as often as
     /// `retries` says.

@@ -2,13 +2,9 @@
 
 ghost use Rattle.std.specs.Prelude.{◌≡◌, ◌<◌, ◌==◌, ◌&&◌, not, is_none, IfSome};
 ghost use Rattle.ih_tables.specs.Sizes.{room_count, shift_count};
-ghost use Rattle.ih_plan.specs.Timetable.{care_of};
-ghost use Rattle.ih_plan.specs.Writes.{IsWriteOf};
-ghost use Rattle.ih_plan.specs.Presence.{present, day_of};
-ghost use Rattle.ih_plan.specs.Costs.{is_empty};
+ghost use Rattle.ih_plan.specs.{Timetable.care_of, Writes.IsWriteOf, Presence.present, Presence.day_of, Costs.is_empty};
 ghost use Rattle.ih_fill.specs.Fill.{care_writes, with_care, with_cares, rooms_by_shift};
-ghost use Rattle.ih_fill.specs.Candidates.{least_of, rooms_in};
-ghost use Rattle.ih_fill.specs.Scoring.{care_value};
+ghost use Rattle.ih_fill.specs.{Candidates.least_of, Candidates.rooms_in, Scoring.care_value};
 
 use crate::candidates::{Candidate, cheaper};
 use crate::scoring::Scorer;

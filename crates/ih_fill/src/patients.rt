@@ -4,12 +4,10 @@ ghost use Rattle.std.specs.Prelude.{◌≡◌, ◌<◌, ◌==◌, ℕ, not, fals
 ghost use Rattle.std.specs.List.{list_any};
 ghost use Rattle.ih_tables.specs.Sizes.{patient_count, room_count, theatre_count};
 ghost use Rattle.ih_tables.specs.declared.ids.RoomNo.{RoomNo};
-ghost use Rattle.ih_plan.specs.Timetable.{IsPlanOf};
-ghost use Rattle.ih_plan.specs.Writes.{IsWriteOf};
+ghost use Rattle.ih_plan.specs.{Timetable.IsPlanOf, Writes.IsWriteOf};
 ghost use Rattle.ih_fill.specs.Fill.{cheapest, stay_writes, with_stay, with_stays, waiting};
-ghost use Rattle.ih_fill.specs.Candidates.{valued, stays_on};
-ghost use Rattle.ih_fill.specs.Scoring.{stay_value, is_waiting};
-ghost use Rattle.ih_fill.specs.Theatres.{theatre_value, IsFirstLeast};
+ghost use Rattle.ih_fill.specs.{Candidates.valued, Candidates.stays_on, Scoring.stay_value, Scoring.is_waiting};
+ghost use Rattle.ih_fill.specs.{Theatres.theatre_value, Theatres.IsFirstLeast};
 
 use crate::candidates::{Candidate, cheaper};
 use crate::scoring::Scorer;

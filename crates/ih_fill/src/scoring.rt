@@ -56,15 +56,11 @@ fn score_of(inst: &Instance, hard: u32, bill: &Bill) -> i64
 impl<'a> Scorer<'a> {
     ghost use Rattle.std.specs.Prelude.{◌≡◌, ◌≤◌, ◌<◌, Some, None, true, not, IfOk};
     ghost use Rattle.ih_tables.specs.Sizes.{patient_count, room_count, nurse_count, shift_count};
-    ghost use Rattle.ih_plan.specs.declared.moves.Write.TheVariants.{SetStay, SetCare};
-    ghost use Rattle.ih_plan.specs.Timetable.{IsPlanOf, IsPlacement};
-    ghost use Rattle.ih_plan.specs.Writes.{put, IsWriteOf};
-    ghost use Rattle.ih_plan.specs.Presence.{present, day_of};
-    ghost use Rattle.ih_plan.specs.Costs.{is_empty};
-    ghost use Rattle.ih_plan.specs.BillOf.{change_of_bill};
-    ghost use Rattle.ih_fill.specs.Fill.{write_score};
-    ghost use Rattle.ih_fill.specs.Candidates.{valued};
+    ghost use Rattle.ih_plan.specs.{declared.moves.Write.TheVariants.SetStay, declared.moves.Write.TheVariants.SetCare};
+    ghost use Rattle.ih_plan.specs.{Timetable.IsPlanOf, Timetable.IsPlacement, Writes.put, Writes.IsWriteOf};
+    ghost use Rattle.ih_plan.specs.{Presence.present, Presence.day_of, Costs.is_empty, BillOf.change_of_bill};
     ghost use Rattle.ih_fill.specs.Scoring.{stay_value, care_value, view_of};
+    ghost use Rattle.ih_fill.specs.{Fill.write_score, Candidates.valued};
 
     /// What scores a timetable. `hard` is the weight of a broken rule; `counts_uncovered` says whether rooms without
     /// nurses count in what a stay adds.

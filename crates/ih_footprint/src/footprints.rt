@@ -1,19 +1,15 @@
 //! The footprint of a write, and the cells that a move looks at, gathered into a list of cells.
 
 ghost use Rattle.std.specs.Prelude.{◌≡◌, ◌<◌, ◌≤◌, option_map, Some, true};
-ghost use Rattle.ih_tables.specs.declared.cells.Cell.{Cell};
-ghost use Rattle.ih_tables.specs.declared.ids.NurseNo.{NurseNo};
 ghost use Rattle.ih_tables.specs.Sizes.{patient_count, room_count, shift_count, nurse_count, sizes_of};
-ghost use Rattle.ih_plan.specs.Timetable.{IsPlanOf, IsPlacement};
-ghost use Rattle.ih_plan.specs.declared.moves.Placement.{Placement};
-ghost use Rattle.ih_plan.specs.declared.moves.Write.TheVariants.{SetStay, SetCare};
-ghost use Rattle.ih_plan.specs.declared.moves.Move.TheVariants.{SwapRooms, SwapNurses};
-ghost use Rattle.ih_plan.specs.Writes.{IsWriteOf};
-ghost use Rattle.ih_plan.specs.Cells.{IsCellIn};
+ghost use Rattle.ih_tables.specs.{declared.cells.Cell.Cell, declared.ids.NurseNo.NurseNo};
 ghost use Rattle.ih_plan.specs.Footprint.{write_touches, in_placement, in_stay, looks_at};
+ghost use Rattle.ih_plan.specs.{Timetable.IsPlanOf, Timetable.IsPlacement, declared.moves.Placement.Placement};
+ghost use Rattle.ih_plan.specs.{declared.moves.Write.TheVariants.SetStay, declared.moves.Write.TheVariants.SetCare};
+ghost use Rattle.ih_plan.specs.{declared.moves.Move.TheVariants.SwapRooms, declared.moves.Move.TheVariants.SwapNurses};
+ghost use Rattle.ih_plan.specs.{Writes.IsWriteOf, Cells.IsCellIn, Present.ArePresent};
 ghost use Rattle.ih_footprint.specs.Gathered.{settled, Gathers};
 ghost use Rattle.ih_footprint.specs.Pieces.{in_shift, in_days, in_nurse_shifts, in_nurse, in_cares};
-ghost use Rattle.ih_plan.specs.Present.{ArePresent};
 
 use crate::cell_lists::CellList;
 use crate::cell_sets::CellSet;

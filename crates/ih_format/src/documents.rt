@@ -2,11 +2,8 @@
 
 ghost use Rattle.std.specs.Prelude.{◌≡◌};
 ghost use Rattle.serde_json.specs.View.{view};
-ghost use Rattle.ih_tables.specs.Places.{whole};
-ghost use Rattle.ih_tables.specs.declared.refusals.Fault.TheVariants.{NotJson};
-ghost use Rattle.ih_format.specs.Checks.{or_else};
-ghost use Rattle.ih_format.specs.Documents.{value_of};
-ghost use Rattle.ih_format.specs.Gives.{Gives};
+ghost use Rattle.ih_tables.specs.{Places.whole, declared.refusals.Fault.TheVariants.NotJson};
+ghost use Rattle.ih_format.specs.{Checks.or_else, Documents.value_of, Gives.Gives};
 
 use crate::errors::FormatError;
 use crate::kinds;

@@ -2,11 +2,9 @@
 //! limits Range, or Length for a list. None of these takes memory.
 
 ghost use Rattle.std.specs.Prelude.{◌≡◌, ◌≤◌, map, length, IfOk, None};
-ghost use Rattle.serde_json.specs.View.{view};
-ghost use Rattle.ih_tables.specs.Places.{key_name, at_key};
-ghost use Rattle.ih_tables.specs.Lookups.{finds};
-ghost use Rattle.serde_json.specs.Find.{get};
-ghost use Rattle.ih_tables.specs.declared.refusals.Fault.TheVariants.{Missing};
+ghost use Rattle.serde_json.specs.{View.view, Find.get};
+ghost use Rattle.ih_tables.specs.{Places.key_name, Places.at_key, Lookups.finds};
+ghost use Rattle.ih_tables.specs.{declared.refusals.Fault.TheVariants.Missing};
 ghost use Rattle.ih_format.specs.Gives.{seen};
 ghost use Rattle.ih_format.specs.Checks.{number, text, truth, object, list, list_of, first_items, new_name, reference};
 ghost use Rattle.ih_format.specs.Checks.{or_else};

@@ -3,8 +3,7 @@
 ghost use Rattle.std.specs.Prelude.{◌≡◌, IfOk, Ok};
 ghost use Rattle.ih_tables.specs.declared.drafts.Draft.{Draft};
 ghost use Rattle.ih_instance.specs.Instance.{instance};
-ghost use Rattle.ih_gen.specs.Generated.{generated_data, generated};
-ghost use Rattle.ih_gen.specs.Members.{IsMade};
+ghost use Rattle.ih_gen.specs.{Generated.generated_data, Generated.generated, Members.IsMade};
 
 use crate::fixed::fixed_value;
 use crate::members::with_member;

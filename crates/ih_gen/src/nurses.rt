@@ -2,11 +2,9 @@
 
 ghost use Rattle.std.specs.Prelude.{◌≡◌, IfOk, OnOk, map};
 ghost use Rattle.serde_json.specs.View.{view};
-ghost use Rattle.ih_plan.specs.Draws.{state_after};
-ghost use Rattle.ih_plan.specs.Sums.{which_below, count_below};
-ghost use Rattle.ih_gen.specs.Words.{pick};
+ghost use Rattle.ih_plan.specs.{Draws.state_after, Sums.which_below, Sums.count_below};
 ghost use Rattle.ih_gen.specs.Generated.{turn_of, works, shift_data, worked_data, nurse_data, nurse_words};
-ghost use Rattle.ih_gen.specs.Members.{IsMade};
+ghost use Rattle.ih_gen.specs.{Words.pick, Members.IsMade};
 
 use crate::names::{id_value, shift_name};
 use crate::picks::Picks;

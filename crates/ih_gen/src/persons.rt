@@ -1,8 +1,7 @@
 //! What occupants and patients have alike.
 
 ghost use Rattle.std.specs.Prelude.{◌≡◌, ◌*◌, ◌<◌, ◌≤◌, IfOk, OnOk, map};
-ghost use Rattle.serde_json.specs.Data.{object};
-ghost use Rattle.serde_json.specs.View.{view};
+ghost use Rattle.serde_json.specs.{Data.object, View.view};
 ghost use Rattle.ih_plan.specs.Draws.{state_after};
 ghost use Rattle.ih_gen.specs.Generated.{person_picks, workloads, skills};
 ghost use Rattle.ih_gen.specs.Members.{IsMade, person_members};

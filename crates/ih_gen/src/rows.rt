@@ -1,11 +1,9 @@
 //! Things of one kind that are made of picks, one after the other.
 
 ghost use Rattle.std.specs.Prelude.{◌≡◌, ℕ, List, IfOk, OnOk, map};
-ghost use Rattle.serde_json.specs.Data.{Data};
-ghost use Rattle.serde_json.specs.View.{view};
+ghost use Rattle.serde_json.specs.{Data.Data, View.view};
 ghost use Rattle.ih_plan.specs.Draws.{state_after};
-ghost use Rattle.ih_gen.specs.Words.{begins, in_a_row};
-ghost use Rattle.ih_gen.specs.Members.{IsMade};
+ghost use Rattle.ih_gen.specs.{Words.begins, Words.in_a_row, Members.IsMade};
 
 use crate::picks::Picks;
 use serde_json::Value;

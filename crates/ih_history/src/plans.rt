@@ -1,10 +1,8 @@
 //! The timetable at a place of a history.
 
 ghost use Rattle.std.specs.Prelude.{◌≡◌, ◌≤◌, All, IfOk, length, map, take};
-ghost use Rattle.ih_plan.specs.Timetable.{IsPlanOf};
-ghost use Rattle.ih_plan.specs.Writes.{put_all, AreWritesOf};
-ghost use Rattle.ih_plan.specs.Expand.{after, IsMoveOf};
-ghost use Rattle.ih_plan.specs.Series.{after_all, AreMoves};
+ghost use Rattle.ih_plan.specs.{Timetable.IsPlanOf, Writes.put_all, Writes.AreWritesOf, Expand.after, Expand.IsMoveOf};
+ghost use Rattle.ih_plan.specs.{Series.after_all, Series.AreMoves};
 ghost use Rattle.ih_journal.specs.History.{after_entries, after_entry};
 
 use ih_cellbook::{Attempted, Logged};

@@ -2,12 +2,9 @@
 
 ghost use Rattle.std.specs.Prelude.{◌≡◌, ◌<◌, ◌≤◌, ◌+◌, ◌*◌, ℕ, List as Items, Some, IfOk, false, map, length};
 ghost use Rattle.serde_json.specs.View.{view};
-ghost use Rattle.ih_tables.specs.Lookups.{finds};
-ghost use Rattle.ih_tables.specs.Works.{shift_of};
-ghost use Rattle.ih_format.specs.Gives.{Gives};
-ghost use Rattle.ih_tables.specs.Marks.{is_marked};
+ghost use Rattle.ih_tables.specs.{Lookups.finds, Works.shift_of, Marks.is_marked};
+ghost use Rattle.ih_format.specs.{Gives.Gives, Checks.under};
 ghost use Rattle.ih_instance.specs.Instance.{worked, each_worked, worked_shifts, nurse};
-ghost use Rattle.ih_format.specs.Checks.{under};
 
 use ih_format::reads::Reads;
 use ih_format::{FormatError, Row, keys, kinds};

@@ -3,8 +3,7 @@
 ghost use Rattle.std.specs.Prelude.{◌≡◌, ◌<◌, ◌≤◌, ◌^◌, IfOk, None, map, length};
 ghost use Rattle.serde_json.specs.View.{view};
 ghost use Rattle.ih_tables.specs.Lookups.{finds};
-ghost use Rattle.ih_format.specs.Gives.{Gives};
-ghost use Rattle.ih_format.specs.Checks.{each, under};
+ghost use Rattle.ih_format.specs.{Gives.Gives, Checks.each, Checks.under};
 ghost use Rattle.ih_instance.specs.Instance.{patient, due_day, room_number, room_numbers};
 
 use ih_format::reads::Reads;

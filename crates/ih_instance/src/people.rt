@@ -3,8 +3,7 @@
 ghost use Rattle.std.specs.Prelude.{◌≡◌, ◌<◌, ◌≤◌, ℕ, List as Items, map, length};
 ghost use Rattle.serde_json.specs.View.{view};
 ghost use Rattle.ih_tables.specs.Lookups.{IsIndexOf};
-ghost use Rattle.ih_format.specs.Gives.{Gives};
-ghost use Rattle.ih_format.specs.Checks.{under};
+ghost use Rattle.ih_format.specs.{Gives.Gives, Checks.under};
 ghost use Rattle.ih_instance.specs.Instance.{nurses, occupants, patients, names_of_rooms, names_of_surgeons};
 
 use crate::nurses::Nurses;

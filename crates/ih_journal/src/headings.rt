@@ -2,10 +2,8 @@
 
 ghost use Rattle.std.specs.Prelude.{◌≡◌, ◌++◌, ◌≤◌, ◌<◌, ◌^◌, ℕ, List, ◌∷◌, IfSome, IfNone, Some, decimal};
 ghost use Rattle.std.specs.Option.{option_copied};
-ghost use Rattle.ih_journal.specs.declared.settings.Options.{Options};
-ghost use Rattle.ih_journal.specs.Settings.{IsLawful};
-ghost use Rattle.ih_journal.specs.Texts.{heading, retries_field};
-ghost use Rattle.ih_journal.specs.Pieces.{left_parted, AreShortOptions};
+ghost use Rattle.ih_journal.specs.{declared.settings.Options.Options, Settings.IsLawful, Texts.heading};
+ghost use Rattle.ih_journal.specs.{Texts.retries_field, Pieces.left_parted, Pieces.AreShortOptions};
 
 use crate::lines::version;
 use crate::named::is;

@@ -2,8 +2,7 @@
 
 ghost use Rattle.std.specs.Prelude.{◌≡◌, ◌↔◌, IsTrue};
 ghost use Rattle.std.specs.Str.{bytes_eq};
-ghost use Rattle.ih_plan.specs.Expand.{IsMoveOf};
-ghost use Rattle.ih_plan.specs.Cells.{IsCellOf};
+ghost use Rattle.ih_plan.specs.{Expand.IsMoveOf, Cells.IsCellOf};
 ghost use Rattle.ih_journal.specs.Names.{move_of_one, move_of_two, move_of_three, move_of_four, move_named};
 ghost use Rattle.ih_journal.specs.Names.{cell_of_one, cell_of_two, cell_named};
 

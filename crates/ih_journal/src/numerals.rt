@@ -2,12 +2,8 @@
 
 ghost use Rattle.std.specs.Prelude.{◌≡◌, ℕ, ◌≤◌, ◌<◌, ◌^◌, ◌∷◌, IfSome, IfNone, List, length, take, map, decimal, All};
 ghost use Rattle.std.specs.Prelude.{ℤ, ◌==◌, position};
-ghost use Rattle.std.specs.Fmt.{signed_decimal};
-ghost use Rattle.std.specs.Option.{option_copied};
-ghost use Rattle.std.specs.Str.Parse.{IsNumeral, digits_value};
-ghost use Rattle.ih_journal.specs.Grammar.{parted};
-ghost use Rattle.ih_journal.specs.Names.{AreShort};
-ghost use Rattle.ih_journal.specs.Pieces.{left_parted, IsSmall};
+ghost use Rattle.std.specs.{Fmt.signed_decimal, Option.option_copied, Str.Parse.IsNumeral, Str.Parse.digits_value};
+ghost use Rattle.ih_journal.specs.{Grammar.parted, Names.AreShort, Pieces.left_parted, Pieces.IsSmall};
 
 // The greatest magnitude of a number of a price.
 const MOST: u64 = 100_000_000_000;

@@ -4,12 +4,11 @@ ghost use Rattle.std.specs.Prelude.{◌≡◌, ◌+◌, ◌++◌, ◌<◌, ◌^�
 ghost use Rattle.std.specs.Prelude.{OnOk, Ok, decimal};
 ghost use Rattle.ih_tables.specs.declared.drafts.Draft.{Draft};
 ghost use Rattle.ih_plan.specs.Expand.{IsMoveOf};
-ghost use Rattle.ih_journal.specs.declared.entries.Entry.{Entry};
 ghost use Rattle.ih_journal.specs.Texts.{again_field, move_text, price_text, verdict_text};
 ghost use Rattle.ih_journal.specs.Grammar.{JournalsDiffer, Kind, IsField, IsLineOf, IsFirstWrong, IsPrice, IsVerdictOf};
 ghost use Rattle.ih_journal.specs.Grammar.{kinds, again_kind, count_kind, move_kind, price_kind, verdict_kind};
 ghost use Rattle.ih_journal.specs.Lines.{IsAt, HasRead, NamesWrong, Wants};
-ghost use Rattle.ih_journal.specs.Pieces.{fields_from};
+ghost use Rattle.ih_journal.specs.{declared.entries.Entry.Entry, Pieces.fields_from};
 
 use crate::entries::{Entry, Verdict};
 use crate::numerals::{cut, number_of};

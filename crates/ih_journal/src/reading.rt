@@ -1,16 +1,12 @@
 //! Reading moves, cells, prices and verdicts.
 
 ghost use Rattle.std.specs.Prelude.{◌≡◌, IfSome, IfNone, Some, true, length, take, drop};
-ghost use Rattle.ih_plan.specs.declared.moves.Move.{Move};
-ghost use Rattle.ih_plan.specs.Expand.{IsMoveOf};
-ghost use Rattle.ih_plan.specs.Cells.{IsCellOf};
-ghost use Rattle.ih_tables.specs.declared.cells.Cell.{Cell};
-ghost use Rattle.ih_tables.specs.declared.bills.Bill.{Bill};
-ghost use Rattle.ih_journal.specs.declared.entries.Verdict.{Verdict};
+ghost use Rattle.ih_plan.specs.{declared.moves.Move.Move, Expand.IsMoveOf, Cells.IsCellOf};
+ghost use Rattle.ih_tables.specs.{declared.cells.Cell.Cell, declared.bills.Bill.Bill};
 ghost use Rattle.ih_journal.specs.Texts.{move_text, cell_text, price_text, verdict_text};
 ghost use Rattle.ih_journal.specs.Names.{move_numbers, cell_numbers, AreShort};
-ghost use Rattle.ih_journal.specs.Grammar.{IsPrice, IsVerdictOf};
-ghost use Rattle.ih_journal.specs.Attempts.{is_stale};
+ghost use Rattle.ih_journal.specs.{declared.entries.Verdict.Verdict, Grammar.IsPrice, Grammar.IsVerdictOf};
+ghost use Rattle.ih_journal.specs.{Attempts.is_stale};
 
 use crate::entries::Verdict;
 use crate::named::{cell_named, has_cell, has_move, is, move_named};

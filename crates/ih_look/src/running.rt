@@ -1,9 +1,8 @@
 //! The one call that does all that the program does.
 
 ghost use Rattle.std.specs.Prelude.{map, string_bytes};
-ghost use Rattle.ih_look.specs.Calls.{call_of};
 ghost use Rattle.ih_look.specs.Ends.{Ends, HasShelfCause, Reaches};
-ghost use Rattle.ih_look.specs.Texts.{text_for, IsSaidTo};
+ghost use Rattle.ih_look.specs.{Calls.call_of, Texts.text_for, Texts.IsSaidTo};
 
 use crate::calls::read_words;
 use crate::looking::look;

@@ -1,11 +1,8 @@
 //! What a placement gives to a patient's care, told without making it.
 
 ghost use Rattle.std.specs.Prelude.{◌≡◌, ◌<◌, ◌^◌};
-ghost use Rattle.ih_tables.specs.declared.cells.Cell.TheVariants.{Care};
-ghost use Rattle.ih_tables.specs.Sizes.{patient_count};
-ghost use Rattle.ih_tables.specs.Bills.{IsWithin};
-ghost use Rattle.ih_plan.specs.Timetable.{Timetable, IsPlacement};
-ghost use Rattle.ih_plan.specs.Cells.{gain_at};
+ghost use Rattle.ih_tables.specs.{declared.cells.Cell.TheVariants.Care, Sizes.patient_count, Bills.IsWithin};
+ghost use Rattle.ih_plan.specs.{Timetable.Timetable, Timetable.IsPlacement, Cells.gain_at};
 ghost use Rattle.ih_nurses.specs.Ledger.{IsLedgerOf};
 
 use crate::Nurses;

@@ -4,10 +4,8 @@ ghost use Rattle.std.specs.Prelude.{◌≡◌, ◌<◌, ◌≤◌, ◌+◌, ◌*
 ghost use Rattle.ih_tables.specs.declared.ids.NurseNo.{NurseNo};
 ghost use Rattle.ih_tables.specs.Sizes.{person_count, room_count, shift_count, nurse_count};
 ghost use Rattle.ih_links.specs.Lists.{list_of, has};
-ghost use Rattle.ih_plan.specs.declared.moves.Write.TheVariants.{SetCare};
-ghost use Rattle.ih_plan.specs.Timetable.{IsPlanOf};
-ghost use Rattle.ih_plan.specs.Writes.{put};
-ghost use Rattle.ih_plan.specs.Presence.{is_present, day_of};
+ghost use Rattle.ih_plan.specs.{declared.moves.Write.TheVariants.SetCare, Timetable.IsPlanOf, Writes.put};
+ghost use Rattle.ih_plan.specs.{Presence.is_present, Presence.day_of};
 ghost use Rattle.ih_nurses.specs.Counts.{AreCounts, count_at, nursed_in, one_of};
 ghost use Rattle.ih_nurses.specs.ShiftSpans.{IsShiftSpan};
 

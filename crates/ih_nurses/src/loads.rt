@@ -1,9 +1,7 @@
 //! The table of loads: the workload of each nurse in each shift, beside the most that it may be.
 
 ghost use Rattle.std.specs.Prelude.{◌≡◌, ◌<◌, ◌≤◌, ◌+◌, ◌-◌, ◌*◌, ◌^◌, ◌≤ℤ◌, ℕ, neg_ℤ, pos, Option, IfSome};
-ghost use Rattle.ih_tables.specs.declared.ids.NurseNo.{NurseNo};
-ghost use Rattle.ih_tables.specs.Sizes.{nurse_count, shift_count};
-ghost use Rattle.ih_tables.specs.Works.{max_load};
+ghost use Rattle.ih_tables.specs.{declared.ids.NurseNo.NurseNo, Sizes.nurse_count, Sizes.shift_count, Works.max_load};
 ghost use Rattle.ih_plan.specs.Costs.{overload};
 ghost use Rattle.ih_nurses.specs.Loads.{IsTable, load_at, most_of, share, excess_rise};
 

@@ -1,16 +1,12 @@
 //! The ledger of nurses.
 
 ghost use Rattle.std.specs.Prelude.{◌≡◌, ◌<◌, ◌^◌, None, Some, IfOk};
-ghost use Rattle.ih_tables.specs.declared.drafts.Draft.{Draft};
-ghost use Rattle.ih_tables.specs.declared.ids.NurseNo.{NurseNo};
 ghost use Rattle.ih_tables.specs.declared.cells.Cell.TheVariants.{RoomShift, NurseShift, Care};
 ghost use Rattle.ih_tables.specs.Sizes.{patient_count, person_count, room_count, shift_count, nurse_count};
-ghost use Rattle.ih_tables.specs.Bills.{IsWithin};
-ghost use Rattle.ih_plan.specs.declared.moves.Write.TheVariants.{SetStay, SetCare};
+ghost use Rattle.ih_tables.specs.{declared.drafts.Draft.Draft, declared.ids.NurseNo.NurseNo, Bills.IsWithin};
 ghost use Rattle.ih_plan.specs.Timetable.{Timetable, IsPlacement, stay_of, empty};
-ghost use Rattle.ih_plan.specs.Writes.{put};
-ghost use Rattle.ih_plan.specs.BillOf.{as_bill};
-ghost use Rattle.ih_plan.specs.Cells.{part_at};
+ghost use Rattle.ih_plan.specs.{declared.moves.Write.TheVariants.SetStay, declared.moves.Write.TheVariants.SetCare};
+ghost use Rattle.ih_plan.specs.{Writes.put, BillOf.as_bill, Cells.part_at};
 ghost use Rattle.ih_nurses.specs.Ledger.{IsLedgerOf, plan_of};
 
 use crate::bills::{NursingCosts, bill_of};

@@ -2,8 +2,7 @@
 
 ghost use Rattle.std.specs.Prelude.{◌≡◌, ◌<◌, ◌≤◌, ◌-◌, ◌*◌, length, slice_index};
 ghost use Rattle.ih_tables.specs.Sizes.{patient_count, shift_count};
-ghost use Rattle.ih_plan.specs.Timetable.{IsPlanOf, IsPlacement};
-ghost use Rattle.ih_plan.specs.Persons.{person_of};
+ghost use Rattle.ih_plan.specs.{Timetable.IsPlanOf, Timetable.IsPlacement, Persons.person_of};
 ghost use Rattle.ih_nurses.specs.Loads.{stay_load};
 
 use crate::choices::is_nurse;

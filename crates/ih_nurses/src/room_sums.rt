@@ -1,12 +1,9 @@
 //! What the persons in a room give to the bill with each of two choices of nurse, added up by one walk over their list.
 
 ghost use Rattle.std.specs.Prelude.{◌≡◌, ◌<◌, ◌≤◌, ◌-◌, ◌*◌, ◌∷◌, [], ℕ, length, map, sum_by, option_map, IfSome};
-ghost use Rattle.ih_tables.specs.declared.ids.NurseNo.{NurseNo};
-ghost use Rattle.ih_tables.specs.Sizes.{person_count, nurse_count};
+ghost use Rattle.ih_tables.specs.{declared.ids.NurseNo.NurseNo, Sizes.person_count, Sizes.nurse_count};
 ghost use Rattle.ih_links.specs.Lists.{list_of, AreNodes};
-ghost use Rattle.ih_plan.specs.Timetable.{IsPlanOf};
-ghost use Rattle.ih_plan.specs.Presence.{workload_of, skill_of};
-ghost use Rattle.ih_plan.specs.Costs.{skill_missing};
+ghost use Rattle.ih_plan.specs.{Timetable.IsPlanOf, Presence.workload_of, Presence.skill_of, Costs.skill_missing};
 ghost use Rattle.ih_nurses.specs.Counts.{has_just};
 
 use crate::counts::count;

@@ -4,10 +4,8 @@ ghost use Rattle.std.specs.Prelude.{◌≡◌, ◌<◌, ◌≤◌, ◌-◌, leng
 ghost use Rattle.ih_tables.specs.declared.ids.NurseNo.{NurseNo};
 ghost use Rattle.ih_tables.specs.Sizes.{person_count, nurse_count, shift_count};
 ghost use Rattle.ih_links.specs.Lists.{list_of, without, AreNodes};
-ghost use Rattle.ih_plan.specs.Timetable.{IsPlanOf};
-ghost use Rattle.ih_plan.specs.Presence.{workload_of, skill_of};
 ghost use Rattle.ih_plan.specs.Costs.{skill_missing, not_working, is_empty};
-ghost use Rattle.ih_plan.specs.Sums.{bit};
+ghost use Rattle.ih_plan.specs.{Timetable.IsPlanOf, Presence.workload_of, Presence.skill_of, Sums.bit};
 
 use crate::bills::NursingCosts;
 use ih_links::Links;

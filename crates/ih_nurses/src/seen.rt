@@ -1,15 +1,11 @@
 //! How many distinct nurses a person has over its stay.
 
 ghost use Rattle.std.specs.Prelude.{◌≡◌, ◌<◌, ◌≤◌, ◌+◌, ◌*◌, ◌==◌, ◌||◌, not, ℕ, length, map, IfSome, option_map};
-ghost use Rattle.std.specs.Int.{bit_at};
-ghost use Rattle.std.specs.List.{range_with_len};
-ghost use Rattle.ih_tables.specs.declared.ids.NurseNo.{NurseNo};
-ghost use Rattle.ih_tables.specs.Sizes.{room_count, shift_count};
-ghost use Rattle.ih_plan.specs.Timetable.{IsPlanOf, care_of};
-ghost use Rattle.ih_plan.specs.Costs.{distinct_nurses, is_number};
-ghost use Rattle.ih_plan.specs.Sums.{bit, count_below};
-ghost use Rattle.ih_nurses.specs.Marks.{is_marked};
-ghost use Rattle.ih_nurses.specs.ShiftSpans.{IsShiftSpan, nurses_over};
+ghost use Rattle.std.specs.{Int.bit_at, List.range_with_len};
+ghost use Rattle.ih_tables.specs.{declared.ids.NurseNo.NurseNo, Sizes.room_count, Sizes.shift_count};
+ghost use Rattle.ih_plan.specs.{Timetable.IsPlanOf, Timetable.care_of, Costs.distinct_nurses, Costs.is_number};
+ghost use Rattle.ih_plan.specs.{Sums.bit, Sums.count_below};
+ghost use Rattle.ih_nurses.specs.{Marks.is_marked, ShiftSpans.IsShiftSpan, ShiftSpans.nurses_over};
 
 use crate::shift_spans::ShiftSpan;
 use ih_plan::{Plan, nurse_at};

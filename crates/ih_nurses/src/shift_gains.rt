@@ -4,13 +4,10 @@ ghost use Rattle.std.specs.Prelude.{◌≡◌, ◌<◌, ◌≤◌, ◌-◌, ◌*
 ghost use Rattle.ih_tables.specs.Sizes.{patient_count, room_count, shift_count, nurse_count};
 ghost use Rattle.ih_links.specs.Lists.{without};
 ghost use Rattle.ih_plan.specs.Timetable.{Timetable, IsPlacement, stay_of, care_of};
-ghost use Rattle.ih_plan.specs.Persons.{person_of};
 ghost use Rattle.ih_plan.specs.Presence.{covers, day_of, present};
-ghost use Rattle.ih_plan.specs.Costs.{is_empty, skill_level};
-ghost use Rattle.ih_plan.specs.Sums.{bit};
-ghost use Rattle.ih_nurses.specs.Ledger.{IsLedgerOf, plan_of};
-ghost use Rattle.ih_nurses.specs.Visits.{IsVisit};
+ghost use Rattle.ih_plan.specs.{Persons.person_of, Costs.is_empty, Costs.skill_level, Sums.bit};
 ghost use Rattle.ih_nurses.specs.Gains.{uncovered_in, missing_in, overload_in, excess_in, rise_by_placement};
+ghost use Rattle.ih_nurses.specs.{Ledger.IsLedgerOf, Ledger.plan_of, Visits.IsVisit};
 
 use crate::Nurses;
 use crate::loads::{load, overload};

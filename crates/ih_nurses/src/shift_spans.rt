@@ -2,9 +2,8 @@
 
 ghost use Rattle.std.specs.Prelude.{◌≡◌, ◌<◌, ◌≤◌, ◌-◌, ◌+◌, ◌*◌, min, Some, IfSome, option_map};
 ghost use Rattle.ih_tables.specs.Sizes.{patient_count, person_count, shift_count};
-ghost use Rattle.ih_plan.specs.Timetable.{IsPlanOf, IsPlacement};
-ghost use Rattle.ih_plan.specs.Persons.{person_of};
-ghost use Rattle.ih_plan.specs.Presence.{admission_of, placed_at};
+ghost use Rattle.ih_plan.specs.{Timetable.IsPlanOf, Timetable.IsPlacement, Persons.person_of, Presence.admission_of};
+ghost use Rattle.ih_plan.specs.{Presence.placed_at};
 ghost use Rattle.ih_nurses.specs.ShiftSpans.{shift_span_in, IsShiftSpan};
 
 use ih_plan::{Placement, Plan, counted_shifts};

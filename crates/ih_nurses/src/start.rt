@@ -3,9 +3,7 @@
 ghost use Rattle.std.specs.Prelude.{◌≡◌, ◌<◌, ◌+◌, ◌*◌, IfOk};
 ghost use Rattle.ih_tables.specs.Sizes.{occupant_count, nurse_count, shift_count};
 ghost use Rattle.ih_plan.specs.Timetable.{empty};
-ghost use Rattle.ih_nurses.specs.Here.{AreFilled, AreHere};
-ghost use Rattle.ih_nurses.specs.Loads.{AreLoads, free_load};
-ghost use Rattle.ih_nurses.specs.Counts.{AreCounts};
+ghost use Rattle.ih_nurses.specs.{Here.AreFilled, Here.AreHere, Loads.AreLoads, Loads.free_load, Counts.AreCounts};
 
 use crate::loads::NurseLoad;
 use crate::presence::enter_days;

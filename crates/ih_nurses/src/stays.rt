@@ -2,8 +2,7 @@
 
 ghost use Rattle.std.specs.Prelude.{◌≡◌, ◌<◌, ◌≤◌, ◌+◌, ◌-◌, ◌*◌, ℕ, slice_index, min};
 ghost use Rattle.ih_tables.specs.Sizes.{patient_count, nurse_count, shift_count};
-ghost use Rattle.ih_plan.specs.Timetable.{IsPlanOf, IsPlacement};
-ghost use Rattle.ih_plan.specs.Persons.{person_of};
+ghost use Rattle.ih_plan.specs.{Timetable.IsPlanOf, Timetable.IsPlacement, Persons.person_of};
 ghost use Rattle.ih_nurses.specs.Loads.{IsTable, load_at, stay_load};
 
 use crate::loads::{NurseLoad, add_load, take_load};

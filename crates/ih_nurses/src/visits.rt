@@ -3,10 +3,8 @@
 ghost use Rattle.std.specs.Prelude.{◌≡◌, ◌<◌, ◌≤◌, ◌-◌, ◌*◌, true, Some, slice_index, IfSome};
 ghost use Rattle.ih_tables.specs.Sizes.{patient_count, shift_count};
 ghost use Rattle.ih_plan.specs.Timetable.{IsPlanOf, IsPlacement, stay_of, care_of};
-ghost use Rattle.ih_plan.specs.Persons.{person_of};
-ghost use Rattle.ih_plan.specs.Presence.{covers, day_of};
-ghost use Rattle.ih_nurses.specs.Loads.{given};
-ghost use Rattle.ih_nurses.specs.Visits.{IsBefore, IsVisit};
+ghost use Rattle.ih_plan.specs.{Persons.person_of, Presence.covers, Presence.day_of};
+ghost use Rattle.ih_nurses.specs.{Loads.given, Visits.IsBefore, Visits.IsVisit};
 
 use crate::own::given;
 use ih_plan::{Placement, Plan};

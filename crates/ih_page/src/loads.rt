@@ -2,9 +2,8 @@
 
 ghost use Rattle.std.specs.Prelude.{◌≡◌, ◌<◌, ◌≤◌, ◌*◌, if◌then◌else◌, sum_by};
 ghost use Rattle.ih_tables.specs.Sizes.{person_count, room_count, shift_count, nurse_count};
-ghost use Rattle.ih_plan.specs.Timetable.{IsPlanOf, care_of};
 ghost use Rattle.ih_plan.specs.Presence.{is_present, workload_of, present, day_of};
-ghost use Rattle.ih_plan.specs.Costs.{is_number, load_of};
+ghost use Rattle.ih_plan.specs.{Timetable.IsPlanOf, Timetable.care_of, Costs.is_number, Costs.load_of};
 
 use ih_plan::{Plan, is_present, workload_of};
 use ih_tables::{Instance, NurseNo, RoomNo, Shift};

@@ -1,8 +1,7 @@
 //! The names of what an instance has, as they stand in a page.
 
 ghost use Rattle.std.specs.Prelude.{◌≡◌, ◌<◌, ◌++◌, OnOk, option_map, IfSome};
-ghost use Rattle.ih_tables.specs.declared.ids.NurseNo.{NurseNo};
-ghost use Rattle.ih_tables.specs.Sizes.{nurse_count, theatre_count};
+ghost use Rattle.ih_tables.specs.{declared.ids.NurseNo.NurseNo, Sizes.nurse_count, Sizes.theatre_count};
 ghost use Rattle.ih_page.specs.Rooms.{age_text, theatre_text, shift_type_text, nurse_text, marked, place_text};
 
 use crate::texts::{put, put_escaped, put_number};

@@ -2,9 +2,7 @@
 
 ghost use Rattle.std.specs.Prelude.{◌≡◌, ◌<◌};
 ghost use Rattle.ih_tables.specs.Sizes.{person_count};
-ghost use Rattle.ih_plan.specs.Timetable.{IsPlanOf};
-ghost use Rattle.ih_plan.specs.Presence.{is_present};
-ghost use Rattle.ih_plan.specs.Sums.{bit};
+ghost use Rattle.ih_plan.specs.{Timetable.IsPlanOf, Presence.is_present, Sums.bit};
 ghost use Rattle.ih_page.specs.Rooms.{head_count};
 
 use ih_plan::{Plan, is_present};

@@ -2,8 +2,7 @@
 
 ghost use Rattle.std.specs.Prelude.{◌≡◌, ◌<◌, ◌≤◌, ◌*◌, ◌++◌, OnOk, if◌then◌else◌};
 ghost use Rattle.ih_tables.specs.Sizes.{patient_count, theatre_count, surgeon_count};
-ghost use Rattle.ih_plan.specs.Timetable.{IsPlanOf};
-ghost use Rattle.ih_plan.specs.Costs.{duration_of};
+ghost use Rattle.ih_plan.specs.{Timetable.IsPlanOf, Costs.duration_of};
 ghost use Rattle.ih_page.specs.declared.surgery.Whose.TheVariants.{OfTheatre, OfSurgeon};
 ghost use Rattle.ih_page.specs.Surgery.{IsWhoseOf, has_surgery, planned, limit_of, letter_of, number_of, whose_text};
 ghost use Rattle.ih_page.specs.Surgery.{share, share_text, name_link, minutes_text, patient_link, operation};

@@ -2,9 +2,8 @@
 
 ghost use Rattle.std.specs.Prelude.{◌≡◌, ◌<◌, ◌^◌, ◌++◌, OnOk, IfOk, All, length};
 ghost use Rattle.ih_tables.specs.Sizes.{patient_count};
-ghost use Rattle.ih_plan.specs.Timetable.{IsPlanOf, stay_of};
-ghost use Rattle.ih_plan.specs.BillOf.{bill_of};
 ghost use Rattle.ih_plan.specs.Cells.{IsCellOf, cell_at, cell_count, part_at};
+ghost use Rattle.ih_plan.specs.{Timetable.IsPlanOf, Timetable.stay_of, BillOf.bill_of};
 ghost use Rattle.ih_page.specs.BillLines.{IsLine, count_in};
 ghost use Rattle.ih_page.specs.Wrong.{amounts, before_release, is_early, cell_link, item, items_of, list_name};
 ghost use Rattle.ih_page.specs.Wrong.{list_head, list_of, line_list, line_lists, wrong_text};

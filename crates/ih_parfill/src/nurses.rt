@@ -2,8 +2,7 @@
 
 ghost use Rattle.std.specs.Prelude.{◌≡◌, ◌<◌};
 ghost use Rattle.ih_tables.specs.Sizes.{room_count, shift_count};
-ghost use Rattle.ih_fill.specs.Fill.{care_writes};
-ghost use Rattle.ih_fill.specs.Scoring.{care_value};
+ghost use Rattle.ih_fill.specs.{Fill.care_writes, Scoring.care_value};
 ghost use Rattle.ih_parfill.specs.Shares.{IsOfShare, IsShare};
 
 use crate::shares::{Found, Share};

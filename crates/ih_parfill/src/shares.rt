@@ -3,8 +3,7 @@
 
 ghost use Rattle.std.specs.Prelude.{◌≡◌, ◌≢◌, ◌↔◌, ◌<◌, ◌+◌, ◌%◌, ◌^◌, ℤ, IsTrue, List, [], ◌∷◌, ◌++◌, None};
 ghost use Rattle.ih_tables.specs.declared.drafts.Draft.{Draft};
-ghost use Rattle.ih_plan.specs.declared.moves.Write.{Write};
-ghost use Rattle.ih_plan.specs.Writes.{IsWriteOf};
+ghost use Rattle.ih_plan.specs.{declared.moves.Write.Write, Writes.IsWriteOf};
 ghost use Rattle.ih_fill.specs.Candidates.{valued};
 ghost use Rattle.ih_parfill.specs.Shares.{HasLooked, IsLower};
 

@@ -4,9 +4,8 @@ ghost use Rattle.std.specs.Prelude.{◌≡◌, ◌<◌, ◌≤◌, ◌+◌, ◌-
 ghost use Rattle.std.specs.Str.{bytes_eq};
 ghost use Rattle.ih_tables.specs.Sizes.{person_count, patient_count, room_count, shift_count, nurse_count};
 ghost use Rattle.ih_plan.specs.Timetable.{IsPlanOf, IsPlacement, choice_of};
-ghost use Rattle.ih_plan.specs.Persons.{person_of};
 ghost use Rattle.ih_plan.specs.Presence.{is_present, room_of, entry_of, workload_of, skill_of, end_from, end_of};
-ghost use Rattle.ih_plan.specs.Costs.{is_number};
+ghost use Rattle.ih_plan.specs.{Persons.person_of, Costs.is_number};
 
 use crate::moves::Placement;
 use crate::plans::Plan;

@@ -2,8 +2,7 @@
 
 ghost use Rattle.std.specs.Prelude.{◌≡◌};
 ghost use Rattle.ih_tables.specs.Sizes.{sizes_of};
-ghost use Rattle.ih_plan.specs.Expand.{IsMoveOf};
-ghost use Rattle.ih_plan.specs.Timetable.{IsPlanOf};
+ghost use Rattle.ih_plan.specs.{Expand.IsMoveOf, Timetable.IsPlanOf};
 ghost use Rattle.ih_fixtures.specs.Two.{IsOfTwo};
 
 use ih_costs::Ledgers;

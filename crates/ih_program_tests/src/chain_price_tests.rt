@@ -1,8 +1,7 @@
 //! What accepted chains cost, by full bills.
 
 ghost use Rattle.std.specs.Prelude.{◌≤◌, All, length};
-ghost use Rattle.ih_plan.specs.Series.{AreMoves};
-ghost use Rattle.ih_plan.specs.Timetable.{IsPlanOf};
+ghost use Rattle.ih_plan.specs.{Series.AreMoves, Timetable.IsPlanOf};
 ghost use Rattle.ih_chain.specs.Entries.{chain_tries};
 
 use crate::examples::ONE_ADMITTED;

@@ -26,8 +26,7 @@ pub struct Replay<'a> {
 }
 
 impl<'a> Model for Replay<'a> {
-    ghost use Rattle.ih_replay.specs.Keeping.{IsReplay};
-    ghost use Rattle.ih_replay.specs.Replayed.{Replayed, replayed_of};
+    ghost use Rattle.ih_replay.specs.{Keeping.IsReplay, Replayed.Replayed, Replayed.replayed_of};
 
     ghost Value = { Replayed };
 
@@ -39,17 +38,10 @@ impl<'a> Model for Replay<'a> {
 impl<'a> Replay<'a> {
     ghost use Rattle.std.specs.Prelude.{◌≡◌, ℕ, ◌+◌, ◌++◌, ◌∷◌, [], length, IfOk, IfErr, OnOk, OnErr, IsOk, IfSome};
     ghost use Rattle.ih_plan.specs.Timetable.{IsPlanOf};
-    ghost use Rattle.ih_journal.specs.declared.entries.Entry.{Entry};
-    ghost use Rattle.ih_journal.specs.declared.refusals.Reason.TheVariants.{Early};
-    ghost use Rattle.ih_journal.specs.Settings.{IsLawful};
-    ghost use Rattle.ih_journal.specs.Tried.{tries};
-    ghost use Rattle.ih_journal.specs.Best.{BestIs};
-    ghost use Rattle.ih_journal.specs.Frozen.{AgreesBefore};
-    ghost use Rattle.ih_journal.specs.History.{plan_at};
-    ghost use Rattle.ih_journal.specs.Legal.{AreLegal, IsFull};
-    ghost use Rattle.ih_cellbook.specs.Keeping.{base_with, IsBase};
-    ghost use Rattle.ih_cellbook.specs.Laws.{AreFew};
-    ghost use Rattle.ih_cellbook.specs.Legal.{AreExact};
+    ghost use Rattle.ih_journal.specs.{declared.entries.Entry.Entry, declared.refusals.Reason.TheVariants.Early};
+    ghost use Rattle.ih_journal.specs.{Settings.IsLawful, Tried.tries, Best.BestIs, Frozen.AgreesBefore};
+    ghost use Rattle.ih_journal.specs.{History.plan_at, Legal.AreLegal, Legal.IsFull};
+    ghost use Rattle.ih_cellbook.specs.{Keeping.base_with, Keeping.IsBase, Laws.AreFew, Legal.AreExact};
     ghost use Rattle.ih_replay.specs.Bests.{BestPlanIs};
     ghost use Rattle.ih_replay.specs.Refusals.{IsGoing, IsNextLine, IsRefusedFor};
 

@@ -5,14 +5,9 @@ ghost use Rattle.std.specs.Prelude.{◌≡◌, ◌<◌, ◌≤◌, ◌≢◌, �
 ghost use Rattle.std.specs.Prelude.{OnErr, length, Some};
 ghost use Rattle.std.specs.List.{AllByRecursion};
 ghost use Rattle.ih_plan.specs.Expand.{IsMoveOf};
-ghost use Rattle.ih_journal.specs.Attempts.{is_done};
-ghost use Rattle.ih_journal.specs.Grammar.{IsLineOf};
-ghost use Rattle.ih_journal.specs.Legal.{AreLegal, IsLegal};
-ghost use Rattle.ih_journal.specs.Texts.{line_text};
-ghost use Rattle.ih_journal.specs.Tried.{tried};
-ghost use Rattle.ih_cellbook.specs.Replicas.{IsReplicaIn};
-ghost use Rattle.ih_cellbook.specs.Offers.{HasSeenOwn};
-ghost use Rattle.ih_cellbook.specs.Keeping.{IsBase};
+ghost use Rattle.ih_journal.specs.{Attempts.is_done, Grammar.IsLineOf, Legal.AreLegal, Legal.IsLegal, Texts.line_text};
+ghost use Rattle.ih_journal.specs.{Tried.tried};
+ghost use Rattle.ih_cellbook.specs.{Replicas.IsReplicaIn, Offers.HasSeenOwn, Keeping.IsBase};
 ghost use Rattle.ih_replay.specs.Keeping.{IsReplayed, IsWorkerIn};
 ghost use Rattle.ih_replay.specs.Refusals.{FitsIn, IsFirstOf, IsGoing, Passes, in_order, of_attempt, of_entry};
 ghost use Rattle.ih_replay.specs.Refusals.{of_offer, of_place};

@@ -2,9 +2,7 @@
 
 ghost use Rattle.std.specs.Prelude.{◌≡◌, ◌<◌, ◌^◌, [], IfOk};
 ghost use Rattle.ih_plan.specs.Timetable.{IsPlanOf};
-ghost use Rattle.ih_journal.specs.Attempts.{is_retried};
-ghost use Rattle.ih_journal.specs.Settings.{IsLawful};
-ghost use Rattle.ih_journal.specs.Tried.{tried};
+ghost use Rattle.ih_journal.specs.{Attempts.is_retried, Settings.IsLawful, Tried.tried};
 ghost use Rattle.ih_cellbook.specs.Keeping.{base_with};
 ghost use Rattle.ih_replay.specs.Keeping.{IsReplayed, IsWorkerIn, gone_on};
 

@@ -6,10 +6,9 @@ ghost use Rattle.ih_plan.specs.Presence.{is_in, placed_at, covers};
 ghost use Rattle.ih_plan.specs.Persons.{person_of};
 ghost use Rattle.ih_links.specs.Lists.{AreNodes, without, with_if};
 ghost use Rattle.ih_roomdays.specs.Rows.{AreRows, persons_at, is_at};
-ghost use Rattle.ih_roomdays.specs.declared.profiles.Profiles.{Profiles};
-ghost use Rattle.ih_roomdays.specs.Occupancy.{IsOccupancy, IsSmall};
 ghost use Rattle.ih_roomdays.specs.Profiles.{AreProfiles, ArePersons, profile_of};
-ghost use Rattle.ih_roomdays.specs.Parts.{room_counts};
+ghost use Rattle.ih_roomdays.specs.{declared.profiles.Profiles.Profiles, Occupancy.IsOccupancy, Occupancy.IsSmall};
+ghost use Rattle.ih_roomdays.specs.{Parts.room_counts};
 
 use crate::bills::RoomDayCounts;
 use crate::occupancies::Occupancy;

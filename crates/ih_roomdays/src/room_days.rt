@@ -1,16 +1,11 @@
 //! The ledger of room days.
 
 ghost use Rattle.std.specs.Prelude.{◌≡◌, ◌<◌, ◌^◌, true, Some, None, IfOk};
-ghost use Rattle.ih_tables.specs.Bills.{IsWithin};
-ghost use Rattle.ih_tables.specs.Sizes.{patient_count, room_count};
-ghost use Rattle.ih_tables.specs.declared.cells.Cell.TheVariants.{RoomDay};
-ghost use Rattle.ih_plan.specs.declared.moves.Write.TheVariants.{SetStay};
+ghost use Rattle.ih_tables.specs.{Bills.IsWithin, Sizes.patient_count, Sizes.room_count};
+ghost use Rattle.ih_tables.specs.{declared.cells.Cell.TheVariants.RoomDay};
 ghost use Rattle.ih_plan.specs.Timetable.{Timetable, IsPlacement, empty, stay_of};
-ghost use Rattle.ih_plan.specs.Writes.{put};
-ghost use Rattle.ih_plan.specs.Persons.{person_of};
-ghost use Rattle.ih_plan.specs.Presence.{covers};
-ghost use Rattle.ih_plan.specs.Cells.{gain_at, part_at};
-ghost use Rattle.ih_plan.specs.BillOf.{as_bill};
+ghost use Rattle.ih_plan.specs.{declared.moves.Write.TheVariants.SetStay, Writes.put, Persons.person_of};
+ghost use Rattle.ih_plan.specs.{Presence.covers, Cells.gain_at, Cells.part_at, BillOf.as_bill};
 ghost use Rattle.ih_roomdays.specs.Ledger.{IsLedgerOf, LedgersTell};
 
 use crate::bills::{room_day_bill, room_day_change};
@@ -29,8 +24,7 @@ pub struct RoomDays {
 }
 
 impl Model for RoomDays {
-    ghost use Rattle.ih_roomdays.specs.declared.rows.Rows.{Rows};
-    ghost use Rattle.ih_roomdays.specs.Rows.{AreRows};
+    ghost use Rattle.ih_roomdays.specs.{declared.rows.Rows.Rows, Rows.AreRows};
 
     ghost Value = { Rows };
 

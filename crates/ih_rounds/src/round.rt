@@ -4,8 +4,7 @@ ghost use Rattle.std.specs.Prelude.{◌≡◌, IfOk};
 ghost use Rattle.ih_plan.specs.Timetable.{IsPlanOf};
 ghost use Rattle.ih_journal.specs.Settings.{IsLawful};
 ghost use Rattle.ih_cellbook.specs.Keeping.{base_with};
-ghost use Rattle.ih_rounds.specs.Rounds.{options_in};
-ghost use Rattle.ih_rounds.specs.Steps.{HasRound, end_of};
+ghost use Rattle.ih_rounds.specs.{Rounds.options_in, Steps.HasRound, Steps.end_of};
 
 use crate::searcher::Searcher;
 use ih_cellbook::best_in;

@@ -12,9 +12,7 @@ pub trait Searcher {
     ghost use Rattle.std.specs.Prelude.{◌≡◌, [], ◌∷◌, IfOk, OnErr};
     ghost use Rattle.std.specs.Thread.{IsSync};
     ghost use Rattle.ih_plan.specs.Timetable.{IsPlanOf};
-    ghost use Rattle.ih_journal.specs.Legal.{IsFull};
-    ghost use Rattle.ih_journal.specs.Settings.{IsLawful};
-    ghost use Rattle.ih_journal.specs.Tried.{tries};
+    ghost use Rattle.ih_journal.specs.{Legal.IsFull, Settings.IsLawful, Tried.tries};
     ghost use Rattle.ih_cellbook.specs.Keeping.{base_with};
     ghost use Rattle.ih_rounds.specs.Telling.{Answers, with_answers};
 

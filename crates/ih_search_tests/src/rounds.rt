@@ -4,10 +4,7 @@ ghost use Rattle.std.specs.Prelude.{◌≡◌, ◌<◌, ◌≤◌, IsTrue, Some,
 ghost use Rattle.ih_plan.specs.Expand.{IsMoveOf};
 ghost use Rattle.ih_journal.specs.Attempts.{attempt_after, is_done_after, is_retried, last_by};
 ghost use Rattle.ih_journal.specs.Tried.{tried, tries};
-ghost use Rattle.ih_cellbook.specs.Laws.{HasNoneBy};
-ghost use Rattle.ih_cellbook.specs.Offers.{next_number};
-ghost use Rattle.ih_cellbook.specs.Replicas.{IsReplicaIn};
-ghost use Rattle.ih_cellbook.specs.Snapshot.{Snapshot};
+ghost use Rattle.ih_cellbook.specs.{Laws.HasNoneBy, Offers.next_number, Replicas.IsReplicaIn, Snapshot.Snapshot};
 
 use ih_cellbook::{Book, News, Offer};
 use ih_journal::{Entry, Options, Verdict};

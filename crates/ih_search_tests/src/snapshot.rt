@@ -1,13 +1,9 @@
 //! What workers see of each other over one book.
 
 ghost use Rattle.std.specs.Prelude.{◌≡◌, ◌≤◌, [], IfOk};
-ghost use Rattle.ih_plan.specs.Timetable.{IsPlanOf};
-ghost use Rattle.ih_plan.specs.BillOf.{bill_of};
-ghost use Rattle.ih_plan.specs.Cells.{cell_count};
+ghost use Rattle.ih_plan.specs.{Timetable.IsPlanOf, BillOf.bill_of, Cells.cell_count};
 ghost use Rattle.ih_journal.specs.Settings.{IsLawful};
-ghost use Rattle.ih_cellbook.specs.Keeping.{base_with};
-ghost use Rattle.ih_cellbook.specs.Replicas.{IsReplicaIn};
-ghost use Rattle.ih_cellbook.specs.Snapshot.{Snapshot};
+ghost use Rattle.ih_cellbook.specs.{Keeping.base_with, Replicas.IsReplicaIn, Snapshot.Snapshot};
 
 use crate::rounds::{catch_up, offer, rests_on};
 use crate::steps::{FIRST_NURSE, JOIN, SECOND_NURSE, TWICE_STALE, have_prices, hot, is};

@@ -27,9 +27,7 @@ impl Model for MemShelf {
 
 impl MemShelf {
     ghost use Rattle.std.specs.Prelude.{◌≡◌, ◌+◌, ◌-◌, ◌^◌, min, OnOk, OnErr, option_copied};
-    ghost use Rattle.ih_shelf.specs.Stored.{names_of, stored};
-    ghost use Rattle.ih_shelf.specs.Faults.{planned};
-    ghost use Rattle.ih_shelf.specs.Memory.{empty_shelf};
+    ghost use Rattle.ih_shelf.specs.{Stored.names_of, Stored.stored, Faults.planned, Memory.empty_shelf};
 
     /// No files, and no call that is to fail. It takes no memory.
     pub fn new(alloc: Global) -> MemShelf
@@ -98,10 +96,8 @@ fn first_of(bytes: &[u8], kept: u64) -> &[u8]
 
 impl Shelf for MemShelf {
     ghost use Rattle.std.specs.Prelude.{◌≡◌, ◌<◌, ◌≤◌, ◌↔◌, Some, None, IsTrue, IsSomeAnd, IfOk, OnOk, vec_len, length};
-    ghost use Rattle.ih_shelf.specs.Stored.{names_of};
-    ghost use Rattle.ih_shelf.specs.Outside.{bytes_at};
-    ghost use Rattle.ih_shelf.specs.Faults.{due, called};
     ghost use Rattle.ih_shelf.specs.Memory.{read_fails, after_read, after_write, after_failed_write};
+    ghost use Rattle.ih_shelf.specs.{Stored.names_of, Outside.bytes_at, Faults.due, Faults.called};
 
     ghost names = { λ s. Some (names_of s.files) };
 

@@ -52,8 +52,7 @@ impl NeverFails {
 
 impl Shelf for NeverFails {
     ghost use Rattle.std.specs.Prelude.{◌≡◌, ◌≢◌, ◌<◌, ◌≤◌, Some, IfOk, OnOk, OnErr, vec_len, length};
-    ghost use Rattle.ih_shelf.specs.Outside.{bytes_at};
-    ghost use Rattle.ih_shelf.specs.Stored.{names_of, stored};
+    ghost use Rattle.ih_shelf.specs.{Outside.bytes_at, Stored.names_of, Stored.stored};
 
     ghost names = { λ s. Some (names_of s) };
 

@@ -1,11 +1,9 @@
 //! Attempts on a replica: how an accepted one is made.
 
 ghost use Rattle.std.specs.Prelude.{◌≡◌, ℕ, ◌+◌, ◌<◌, ◌^◌, IsTrue, length, slice_index};
-ghost use Rattle.ih_tables.specs.Bills.{IsWithin};
-ghost use Rattle.ih_tables.specs.Sizes.{sizes_of};
-ghost use Rattle.ih_plan.specs.Cells.{cell_at, cell_count};
-ghost use Rattle.ih_plan.specs.Sums.{bit};
+ghost use Rattle.ih_tables.specs.{Bills.IsWithin, Sizes.sizes_of};
 ghost use Rattle.ih_plan.specs.Series.{AreMoves, after_all, all_touch};
+ghost use Rattle.ih_plan.specs.{Cells.cell_at, Cells.cell_count, Sums.bit};
 ghost use Rattle.ih_journal.specs.Settings.{IsLawful, theta};
 ghost use Rattle.ih_cellbook.specs.Counters.{is_compared};
 ghost use Rattle.ih_snapshot.specs.Keeping.{IsOwnRead};

@@ -38,9 +38,8 @@ pub struct Replica<'a, E: Logged = Entry> {
 
 impl<'a, E: Logged> Model for Replica<'a, E> {
     ghost use Rattle.std.specs.Prelude.{◌≤◌};
-    ghost use Rattle.ih_cellbook.specs.Keeping.{base_with};
+    ghost use Rattle.ih_cellbook.specs.{Keeping.base_with, Snapshot.Snapshot};
     ghost use Rattle.ih_snapshot.specs.Keeping.{IsOfBase};
-    ghost use Rattle.ih_cellbook.specs.Snapshot.{Snapshot};
 
     ghost Value = { Snapshot };
 
@@ -59,15 +58,13 @@ impl<'a, E: Logged> Model for Replica<'a, E> {
 impl<'a, E: Logged> Replica<'a, E> {
     ghost use Rattle.std.specs.Prelude.{◌≡◌, ◌≤◌, [], map, IfOk, if◌then◌else◌};
     ghost use Rattle.std.specs.Borrow.{sem};
-    ghost use Rattle.ih_plan.specs.Timetable.{IsPlanOf};
-    ghost use Rattle.ih_plan.specs.Series.{AreMoves};
+    ghost use Rattle.ih_plan.specs.{Timetable.IsPlanOf, Series.AreMoves};
     ghost use Rattle.ih_journal.specs.Settings.{IsLawful};
     ghost use Rattle.ih_cellbook.specs.Keeping.{base_with};
-    ghost use Rattle.ih_snapshot.specs.Keeping.{CanTake, HasTaken};
+    ghost use Rattle.ih_cellbook.specs.Replicas.{IsReplicaOf, IsOfferOf, IsRightFor, MayFollow, MayFollowUpTo};
+    ghost use Rattle.ih_cellbook.specs.Replicas.{StandsAfter, StandsAs, StandsUpTo};
     ghost use Rattle.ih_snapshot.specs.Noting.{asks_reads, offer_of, offer_with, reads_of};
-    ghost use Rattle.ih_cellbook.specs.Replicas.{IsReplicaOf, IsOfferOf, IsRightFor};
-    ghost use Rattle.ih_cellbook.specs.Replicas.{MayFollow, MayFollowUpTo, StandsAfter, StandsAs, StandsUpTo};
-    ghost use Rattle.ih_snapshot.specs.Lending.{RestsAs};
+    ghost use Rattle.ih_snapshot.specs.{Keeping.CanTake, Keeping.HasTaken, Lending.RestsAs};
 
     /// A worker's replica of a search over a start, which fits the instance. It stands for the empty history.
     pub fn new(

@@ -3,8 +3,7 @@
 ghost use Rattle.std.specs.Prelude.{◌≡◌, ◌<◌, ◌==◌, IfOk, map, vec_len};
 ghost use Rattle.serde_json.specs.View.{view};
 ghost use Rattle.ih_tables.specs.Sizes.{nurse_count, room_count, shift_count};
-ghost use Rattle.ih_plan.specs.Timetable.{IsPlanOf, care_of};
-ghost use Rattle.ih_plan.specs.Costs.{is_number, is_empty};
+ghost use Rattle.ih_plan.specs.{Timetable.IsPlanOf, Timetable.care_of, Costs.is_number, Costs.is_empty};
 ghost use Rattle.ih_solution.specs.Solution.{rooms_of, rooms_data, assignment_data, assignments_data, nurse_data};
 ghost use Rattle.ih_solution.specs.Solution.{nurses_data};
 

@@ -3,8 +3,7 @@
 ghost use Rattle.std.specs.Prelude.{◌≡◌, IfOk, Ok};
 ghost use Rattle.serde_json.specs.View.{view};
 ghost use Rattle.ih_plan.specs.Timetable.{IsPlanOf};
-ghost use Rattle.ih_solution.specs.Reading.{plan_in};
-ghost use Rattle.ih_solution.specs.Solution.{solution, solution_data};
+ghost use Rattle.ih_solution.specs.{Reading.plan_in, Solution.solution, Solution.solution_data};
 
 use crate::nurses::nurse_values;
 use crate::patients::patient_values;

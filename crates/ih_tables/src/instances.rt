@@ -1,13 +1,9 @@
 //! A valid instance, with the tables by which its names and loads are found.
 
 ghost use Rattle.std.specs.Prelude.{◌≡◌, map, IfOk};
-ghost use Rattle.ih_tables.specs.declared.drafts.Room.{Room};
-ghost use Rattle.ih_tables.specs.declared.drafts.Nurse.{Nurse};
-ghost use Rattle.ih_tables.specs.declared.drafts.Patient.{Patient};
-ghost use Rattle.ih_tables.specs.declared.drafts.Theatre.{Theatre};
-ghost use Rattle.ih_tables.specs.Lookups.{IsIndexOf};
-ghost use Rattle.ih_tables.specs.Valid.{IsValid};
-ghost use Rattle.ih_tables.specs.Works.{load_table, roster_table};
+ghost use Rattle.ih_tables.specs.{declared.drafts.Room.Room, declared.drafts.Nurse.Nurse};
+ghost use Rattle.ih_tables.specs.{declared.drafts.Patient.Patient, declared.drafts.Theatre.Theatre, Lookups.IsIndexOf};
+ghost use Rattle.ih_tables.specs.{Valid.IsValid, Works.load_table, Works.roster_table};
 
 use crate::bills::Weights;
 use crate::drafts::{Draft, Nurse, Occupant, Patient, Room, Surgeon, Theatre};
@@ -66,16 +62,12 @@ pub struct Instance {
 }
 
 impl Instance {
-    ghost use Rattle.std.specs.Prelude.{◌≡◌, ◌<◌, ◌*◌, ◌+◌, Some, IfOk, slice_get};
+    ghost use Rattle.std.specs.Prelude.{◌≡◌, ◌<◌, ◌*◌, ◌+◌, Some, IfOk, slice_get, option_map, map};
     ghost use Rattle.ih_tables.specs.Sizes.{patient_count, occupant_count, room_count, nurse_count, surgeon_count};
     ghost use Rattle.ih_tables.specs.Sizes.{theatre_count, person_count, shift_count};
-    ghost use Rattle.ih_tables.specs.Works.{max_load, working};
-    ghost use Rattle.std.specs.Prelude.{option_map, map};
-    ghost use Rattle.ih_tables.specs.Lookups.{number_in};
-    ghost use Rattle.ih_tables.specs.declared.drafts.Room.{Room};
-    ghost use Rattle.ih_tables.specs.declared.drafts.Nurse.{Nurse};
-    ghost use Rattle.ih_tables.specs.declared.drafts.Patient.{Patient};
-    ghost use Rattle.ih_tables.specs.declared.drafts.Theatre.{Theatre};
+    ghost use Rattle.ih_tables.specs.{Works.max_load, Works.working, Lookups.number_in, declared.drafts.Room.Room};
+    ghost use Rattle.ih_tables.specs.{declared.drafts.Nurse.Nurse, declared.drafts.Patient.Patient};
+    ghost use Rattle.ih_tables.specs.{declared.drafts.Theatre.Theatre};
 
     /// The instance with the data of a valid draft.
     pub fn seal(alloc: Global, draft: Draft) -> Result<Instance, AllocError>

@@ -1,9 +1,8 @@
 //! The table of the nurses' maximum loads, made once so that a look-up takes one step.
 
 ghost use Rattle.std.specs.Prelude.{◌≡◌, ◌<◌, ◌*◌, ◌/◌, ◌%◌, IfOk};
-ghost use Rattle.ih_tables.specs.Sizes.{nurse_count, shift_count};
-ghost use Rattle.ih_tables.specs.Valid.{IsValid};
 ghost use Rattle.ih_tables.specs.Works.{load_in, max_load, load_table};
+ghost use Rattle.ih_tables.specs.{Sizes.nurse_count, Sizes.shift_count, Valid.IsValid};
 
 use crate::drafts::{Draft, WorkedShift};
 use crate::lists::List;

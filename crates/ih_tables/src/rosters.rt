@@ -1,8 +1,7 @@
 //! The table of the nurses who work each shift, made once so that one of them is found in one step.
 
 ghost use Rattle.std.specs.Prelude.{◌≡◌, IfOk};
-ghost use Rattle.ih_tables.specs.Valid.{IsValid};
-ghost use Rattle.ih_tables.specs.Works.{working, roster_table};
+ghost use Rattle.ih_tables.specs.{Valid.IsValid, Works.working, Works.roster_table};
 
 use crate::drafts::Draft;
 use crate::ids::NurseNo;

@@ -3,8 +3,7 @@
 ghost use Rattle.std.specs.Prelude.{◌≡◌, ◌≢◌, ◌<◌, ◌≤◌, ◌≤ℤ◌, ◌+◌, ◌*◌, ◌↔◌, pos, Some, IsTrue, IsSome, All, AllPairs};
 ghost use Rattle.std.specs.Prelude.{Any, List as Items, ℕ, length};
 ghost use Rattle.ih_tables.specs.Valid.{Between, IsListed, IsNurse, IsOccupant, IsPatient, IsValid, IsVector, IsWorked};
-ghost use Rattle.ih_tables.specs.Sizes.{room_count};
-ghost use Rattle.ih_tables.specs.Works.{shift_of};
+ghost use Rattle.ih_tables.specs.{Sizes.room_count, Works.shift_of};
 
 use crate::bills::Weights;
 use crate::checks::{are_at_most, between, is_listed, is_name, is_vector};

@@ -4,12 +4,9 @@ ghost use Rattle.std.specs.Prelude.{◌≡◌, ◌<◌, ◌≤◌, ◌+◌, ◌-
 ghost use Rattle.std.specs.Prelude.{◌==◌, option_map, IfSome, All, if◌then◌else◌, None};
 ghost use Rattle.std.specs.List.{list_any};
 ghost use Rattle.ih_links.specs.Lists.{list_of, has, without, with_if, IsOnce};
-ghost use Rattle.ih_tables.specs.declared.ids.TheatreNo.{TheatreNo};
-ghost use Rattle.ih_tables.specs.Sizes.{patient_count, theatre_count};
+ghost use Rattle.ih_tables.specs.{declared.ids.TheatreNo.TheatreNo, Sizes.patient_count, Sizes.theatre_count};
 ghost use Rattle.ih_plan.specs.Costs.{minutes, is_empty, is_number, operated_in, admitted_on, surgeon_of};
-ghost use Rattle.ih_plan.specs.Sums.{bit, count_below};
-ghost use Rattle.ih_plan.specs.declared.moves.Placement.{Placement};
-ghost use Rattle.ih_plan.specs.Timetable.{IsPlacement};
+ghost use Rattle.ih_plan.specs.{Sums.bit, Sums.count_below, declared.moves.Placement.Placement, Timetable.IsPlacement};
 ghost use Rattle.ih_theatres.specs.Days.{theatre_at};
 ghost use Rattle.ih_theatres.specs.Marks.{is_marked, is_unmarked, AreBelow};
 

@@ -5,8 +5,7 @@ ghost use Rattle.std.specs.List.{list_any};
 ghost use Rattle.ih_links.specs.Lists.{list_of};
 ghost use Rattle.ih_tables.specs.declared.ids.TheatreNo.{TheatreNo};
 ghost use Rattle.ih_plan.specs.Costs.{is_empty, is_number};
-ghost use Rattle.ih_theatres.specs.Days.{day_number, theatre_at};
-ghost use Rattle.ih_theatres.specs.Marks.{is_marked};
+ghost use Rattle.ih_theatres.specs.{Days.day_number, Days.theatre_at, Marks.is_marked};
 
 use crate::marks::mark;
 use ih_links::Links;

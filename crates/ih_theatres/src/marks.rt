@@ -2,8 +2,7 @@
 
 ghost use Rattle.std.specs.Prelude.{◌≡◌, ◌<◌, ◌≤◌, ◌||◌, ℕ, IfSome, option_map};
 ghost use Rattle.ih_tables.specs.declared.ids.TheatreNo.{TheatreNo};
-ghost use Rattle.ih_plan.specs.Costs.{is_number};
-ghost use Rattle.ih_plan.specs.Sums.{count_below};
+ghost use Rattle.ih_plan.specs.{Costs.is_number, Sums.count_below};
 ghost use Rattle.ih_theatres.specs.Marks.{is_marked, AreBelow};
 
 use ih_tables::TheatreNo;

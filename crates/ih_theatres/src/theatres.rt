@@ -2,15 +2,12 @@
 
 ghost use Rattle.std.specs.Prelude.{◌≡◌, ◌<◌, ◌-◌, ◌^◌, Some, None, IfOk, not};
 ghost use Rattle.ih_tables.specs.Sizes.{patient_count, theatre_count, surgeon_count};
-ghost use Rattle.ih_tables.specs.Bills.{IsWithin};
-ghost use Rattle.ih_tables.specs.declared.cells.Cell.TheVariants.{TheatreDay, SurgeonDay};
-ghost use Rattle.ih_plan.specs.declared.moves.Write.TheVariants.{SetStay};
+ghost use Rattle.ih_tables.specs.{Bills.IsWithin, declared.cells.Cell.TheVariants.TheatreDay};
+ghost use Rattle.ih_tables.specs.{declared.cells.Cell.TheVariants.SurgeonDay};
 ghost use Rattle.ih_plan.specs.Timetable.{Timetable, empty, stay_of, IsPlanOf, IsPlacement};
-ghost use Rattle.ih_plan.specs.Writes.{put};
-ghost use Rattle.ih_plan.specs.BillOf.{as_bill};
-ghost use Rattle.ih_plan.specs.Sums.{bit};
 ghost use Rattle.ih_plan.specs.Costs.{surgeon_of, theatre_minutes, surgeon_minutes};
-ghost use Rattle.ih_plan.specs.Cells.{gain_at, part_at};
+ghost use Rattle.ih_plan.specs.{declared.moves.Write.TheVariants.SetStay, Writes.put, BillOf.as_bill, Sums.bit};
+ghost use Rattle.ih_plan.specs.{Cells.gain_at, Cells.part_at};
 ghost use Rattle.ih_theatres.specs.Ledger.{IsLedgerOf};
 
 use crate::changes::{

@@ -2,8 +2,7 @@
 
 ghost use Rattle.std.specs.Prelude.{◌≡◌, IfOk};
 ghost use Rattle.ih_plan.specs.Timetable.{IsPlanOf};
-ghost use Rattle.ih_advise.specs.Advising.{advice};
-ghost use Rattle.ih_advise.specs.Texts.{advice_text};
+ghost use Rattle.ih_advise.specs.{Advising.advice, Texts.advice_text};
 ghost use Rattle.ih_words.specs.Advise.{IsLawfulAdvise, advise_call};
 ghost use Rattle.ih_top.specs.Advise.{AdviseEnds};
 ghost use Rattle.ih_top.specs.Answers.{Answers, HasShelfCause, IsSaid};

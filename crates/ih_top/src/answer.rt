@@ -1,9 +1,8 @@
 //! A command's answer, and how it is said.
 
 ghost use Rattle.std.specs.Prelude.{◌≡◌, ◌≤◌, ◌⊎◌};
-ghost use Rattle.ih_top.specs.Texts.{memory_text};
-ghost use Rattle.ih_top.specs.Ends.{Gained, GainedPart};
 ghost use Rattle.ih_top.specs.Answers.{unsaid, IsConcluded, HasSinkCause};
+ghost use Rattle.ih_top.specs.{Texts.memory_text, Ends.Gained, Ends.GainedPart};
 
 use crate::status::Status;
 use ih_shelf::{Sink, WriteError};

@@ -4,11 +4,9 @@ ghost use Rattle.std.specs.Prelude.{◌≡◌, ◌≢◌, ◌<◌, ◌≤◌, �
 ghost use Rattle.ih_plan.specs.Timetable.{IsPlanOf};
 ghost use Rattle.ih_journal.specs.Settings.{IsLawful, most_entries};
 ghost use Rattle.ih_cellbook.specs.Keeping.{base_with};
-ghost use Rattle.ih_words.specs.Chain.{IsLawfulChain, chain_call};
-ghost use Rattle.ih_words.specs.Solve.{solve_call};
-ghost use Rattle.ih_top.specs.Answers.{Answers, HasShelfCause};
+ghost use Rattle.ih_words.specs.{Chain.IsLawfulChain, Chain.chain_call, Solve.solve_call};
 ghost use Rattle.ih_top.specs.Chain.{ChainEnds, IsBestOfRun, of_chains};
-ghost use Rattle.ih_top.specs.Outputs.{IsOutput, plain_base};
+ghost use Rattle.ih_top.specs.{Answers.Answers, Answers.HasShelfCause, Outputs.IsOutput, Outputs.plain_base};
 
 use crate::answer::Answer;
 use crate::inputs::{InputNames, Inputs, read_inputs};

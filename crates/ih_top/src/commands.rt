@@ -2,8 +2,7 @@
 
 ghost use Rattle.std.specs.Prelude.{◌≡◌};
 ghost use Rattle.ih_words.specs.Words.{HasLawfulOptions, command_call, OutDiffers};
-ghost use Rattle.ih_top.specs.Answers.{Answers, HasShelfCause};
-ghost use Rattle.ih_top.specs.Ends.{CallEnds};
+ghost use Rattle.ih_top.specs.{Answers.Answers, Answers.HasShelfCause, Ends.CallEnds};
 
 use crate::advise::advise;
 use crate::answer::Answer;

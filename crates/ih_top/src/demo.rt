@@ -1,8 +1,7 @@
 //! The command `demo`: a search on a generated instance, without files.
 
 ghost use Rattle.std.specs.Prelude.{◌≡◌, ◌++◌, ℕ, IfOk, Ok, option_map, string_bytes};
-ghost use Rattle.ih_journal.specs.Attempts.{is_stale};
-ghost use Rattle.ih_journal.specs.History.{is_accepted};
+ghost use Rattle.ih_journal.specs.{Attempts.is_stale, History.is_accepted};
 ghost use Rattle.ih_gen.specs.Generated.{generated};
 ghost use Rattle.ih_instance.specs.Instance.{instance};
 ghost use Rattle.ih_top.specs.Answers.{Answers, HasFileCause};

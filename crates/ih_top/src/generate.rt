@@ -1,8 +1,7 @@
 //! The command `gen`.
 
 ghost use Rattle.ih_words.specs.Generate.{gen_call};
-ghost use Rattle.ih_top.specs.Answers.{Answers, HasShelfCause};
-ghost use Rattle.ih_top.specs.Generate.{GenEnds};
+ghost use Rattle.ih_top.specs.{Answers.Answers, Answers.HasShelfCause, Generate.GenEnds};
 
 use crate::answer::Answer;
 use crate::status::{Role, Status};

@@ -3,9 +3,8 @@
 ghost use Rattle.std.specs.Prelude.{◌≡◌, ◌≤◌, IfErr, IfOk, IfSome};
 ghost use Rattle.ih_plan.specs.Timetable.{IsPlanOf};
 ghost use Rattle.ih_words.specs.Replay.{replay_call};
-ghost use Rattle.ih_top.specs.Answers.{Answers, HasShelfCause};
-ghost use Rattle.ih_top.specs.Inputs.{HasInputs, replay_reading};
 ghost use Rattle.ih_top.specs.JournalFiles.{EndsUnreadJournal, HasBytes, HasRead, read_from};
+ghost use Rattle.ih_top.specs.{Answers.Answers, Answers.HasShelfCause, Inputs.HasInputs, Inputs.replay_reading};
 
 use crate::answer::Answer;
 use crate::inputs::{InputNames, Inputs, read_inputs, unread_file};

@@ -2,8 +2,7 @@
 
 ghost use Rattle.std.specs.Prelude.{◌≡◌, ◌<◌, ◌^◌, ◌++◌, IfNone, IfOk, IfSome};
 ghost use Rattle.ih_plan.specs.Timetable.{IsPlanOf};
-ghost use Rattle.ih_journal.specs.Settings.{IsLawful};
-ghost use Rattle.ih_journal.specs.Texts.{ended, heading};
+ghost use Rattle.ih_journal.specs.{Settings.IsLawful, Texts.ended, Texts.heading};
 ghost use Rattle.ih_desk.specs.Searching.{base_given};
 ghost use Rattle.ih_words.specs.Start.{start_call};
 ghost use Rattle.ih_top.specs.JournalFiles.{read_from};

@@ -2,19 +2,16 @@
 //! theirs.
 
 ghost use Rattle.ih_top.specs.Laws.{ChainJournalsAreHeadless, ChainJournalsFit, ChainsAreRefused, DemosShowTheSame};
-ghost use Rattle.ih_top.specs.Laws.{JournalsFit, SolvesReplayTheSame, SolvesWithNoneReplayTheSame};
-ghost use Rattle.ih_top.specs.Laws.{LoneRoundsAreAlike, LoneRoundsEndAlike};
-ghost use Rattle.ih_top.specs.Laws.{LoneSearchesAreAlike, LoneSearchesDoTheSame, LoneSearchesEndAlike};
-ghost use Rattle.ih_top.specs.Laws.{RefusedLinesAreNotFull, WholeLinesAreSalvaged};
+ghost use Rattle.ih_top.specs.Laws.{JournalsFit, SolvesReplayTheSame, SolvesWithNoneReplayTheSame, LoneRoundsAreAlike};
+ghost use Rattle.ih_top.specs.Laws.{LoneRoundsEndAlike, LoneSearchesAreAlike, LoneSearchesDoTheSame};
+ghost use Rattle.ih_top.specs.Laws.{LoneSearchesEndAlike, RefusedLinesAreNotFull, WholeLinesAreSalvaged};
+ghost use Rattle.ih_top.specs.{declared.limits.TheConstants.MAX_FILE, declared.limits.TheConstants.MAX_JOURNAL};
+ghost use Rattle.ih_top.specs.{Chain.of_chains, Solve.of_moves};
 ghost use Rattle.std.specs.Prelude.{ℕ, ◌≡◌};
 ghost use Rattle.ih_journal.specs.declared.settings.TheConstants.{MAX_ENTRIES, MAX_HARD, MAX_HEAT, MAX_MOVES};
 ghost use Rattle.ih_journal.specs.declared.settings.TheConstants.{MAX_RETRIES, MAX_WORKERS};
-ghost use Rattle.ih_words.specs.declared.chain.TheConstants.{MAX_LENGTH};
-ghost use Rattle.ih_words.specs.declared.rounds.TheConstants.{MAX_ROUNDS};
-ghost use Rattle.ih_words.specs.declared.start.TheConstants.{MAX_FREEZE};
-ghost use Rattle.ih_top.specs.declared.limits.TheConstants.{MAX_FILE, MAX_JOURNAL};
-ghost use Rattle.ih_top.specs.Chain.{of_chains};
-ghost use Rattle.ih_top.specs.Solve.{of_moves};
+ghost use Rattle.ih_words.specs.{declared.chain.TheConstants.MAX_LENGTH, declared.rounds.TheConstants.MAX_ROUNDS};
+ghost use Rattle.ih_words.specs.{declared.start.TheConstants.MAX_FREEZE};
 
 use ih_cellbook::legal_journals_are_short;
 use ih_chain::chain_journals_are_short;

@@ -1,8 +1,7 @@
 //! What a journal comes to, and how that is written.
 
 ghost use Rattle.std.specs.Prelude.{◌≡◌};
-ghost use Rattle.ih_top.specs.Answers.{Answers, HasShelfCause};
-ghost use Rattle.ih_top.specs.Outcomes.{OutcomeEnds};
+ghost use Rattle.ih_top.specs.{Answers.Answers, Answers.HasShelfCause, Outcomes.OutcomeEnds};
 
 use crate::answer::Answer;
 use crate::output::BestOutput;

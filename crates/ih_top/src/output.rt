@@ -1,15 +1,11 @@
 //! What a search makes to be written and said.
 
 ghost use Rattle.std.specs.Prelude.{◌≡◌, ◌<◌, ◌^◌, IfOk, length, string_bytes};
-ghost use Rattle.ih_plan.specs.Timetable.{IsPlanOf};
-ghost use Rattle.ih_plan.specs.BillOf.{bill_of};
-ghost use Rattle.ih_journal.specs.Legal.{AreLegal};
-ghost use Rattle.ih_journal.specs.Best.{BestIs, IsBest};
-ghost use Rattle.ih_journal.specs.Tried.{tries};
+ghost use Rattle.ih_plan.specs.{Timetable.IsPlanOf, BillOf.bill_of};
+ghost use Rattle.ih_journal.specs.{Legal.AreLegal, Best.BestIs, Best.IsBest, Tried.tries};
 ghost use Rattle.ih_cellbook.specs.Keeping.{IsBase};
 ghost use Rattle.ih_desk.specs.Searching.{base_given};
-ghost use Rattle.ih_top.specs.Texts.{best_line, found_text};
-ghost use Rattle.ih_top.specs.Outputs.{HasBestOutput, IsBestOutput};
+ghost use Rattle.ih_top.specs.{Texts.best_line, Texts.found_text, Outputs.HasBestOutput, Outputs.IsBestOutput};
 
 use ih_desk::Given;
 use ih_history::plan_at;

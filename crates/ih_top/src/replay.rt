@@ -4,12 +4,9 @@ ghost use Rattle.std.specs.Prelude.{◌≡◌, IfOk};
 ghost use Rattle.ih_plan.specs.Timetable.{IsPlanOf};
 ghost use Rattle.ih_cellbook.specs.Keeping.{IsBase};
 ghost use Rattle.ih_desk.specs.Searching.{base_given};
-ghost use Rattle.ih_words.specs.Replay.{replay_call};
-ghost use Rattle.ih_words.specs.Start.{start_call};
-ghost use Rattle.ih_top.specs.Answers.{Answers, HasShelfCause};
-ghost use Rattle.ih_top.specs.JournalFiles.{read_from};
-ghost use Rattle.ih_top.specs.Outcomes.{IsLinesOutcome, IsReplayOutcome};
-ghost use Rattle.ih_top.specs.Replay.{ReplayEnds};
+ghost use Rattle.ih_words.specs.{Replay.replay_call, Start.start_call};
+ghost use Rattle.ih_top.specs.{Answers.Answers, Answers.HasShelfCause, JournalFiles.read_from, Outcomes.IsLinesOutcome};
+ghost use Rattle.ih_top.specs.{Outcomes.IsReplayOutcome, Replay.ReplayEnds};
 
 use crate::answer::Answer;
 use crate::inputs::Inputs;

@@ -2,11 +2,9 @@
 
 ghost use Rattle.std.specs.Prelude.{◌≡◌, ◌≢◌, ◌≤◌, IfOk};
 ghost use Rattle.ih_plan.specs.Timetable.{IsPlanOf};
-ghost use Rattle.ih_words.specs.Rounds.{AreLawful, rounds_call};
-ghost use Rattle.ih_words.specs.Solve.{solve_call};
-ghost use Rattle.ih_top.specs.Answers.{Answers, HasShelfCause};
-ghost use Rattle.ih_top.specs.Outputs.{plain_base};
-ghost use Rattle.ih_top.specs.Rounds.{IsRoundsOutput, RoundsEnds};
+ghost use Rattle.ih_words.specs.{Rounds.AreLawful, Rounds.rounds_call, Solve.solve_call};
+ghost use Rattle.ih_top.specs.{Answers.Answers, Answers.HasShelfCause, Outputs.plain_base, Rounds.IsRoundsOutput};
+ghost use Rattle.ih_top.specs.{Rounds.RoundsEnds};
 
 use crate::answer::Answer;
 use crate::inputs::{InputNames, Inputs, read_inputs};

@@ -1,12 +1,10 @@
 //! What searches in rounds make to be written and said.
 
 ghost use Rattle.std.specs.Prelude.{◌≡◌, IfOk, string_bytes};
-ghost use Rattle.ih_plan.specs.BillOf.{bill_of};
-ghost use Rattle.ih_plan.specs.Timetable.{IsPlanOf};
+ghost use Rattle.ih_plan.specs.{BillOf.bill_of, Timetable.IsPlanOf};
 ghost use Rattle.ih_journal.specs.Settings.{IsLawful};
 ghost use Rattle.ih_cellbook.specs.Keeping.{base_with};
-ghost use Rattle.ih_rounds.specs.Ends.{IsFound};
-ghost use Rattle.ih_rounds.specs.Rounds.{Round};
+ghost use Rattle.ih_rounds.specs.{Ends.IsFound, Rounds.Round};
 ghost use Rattle.ih_top.specs.RoundTexts.{IsRoundSaid, FitsEnd, round_line, round_report};
 ghost use Rattle.ih_top.specs.Rounds.{IsFullFrom, IsRoundsOutput};
 

@@ -6,9 +6,8 @@ ghost use Rattle.ih_journal.specs.Settings.{IsLawful};
 ghost use Rattle.ih_cellbook.specs.Keeping.{IsBase};
 ghost use Rattle.ih_desk.specs.Searching.{base_given};
 ghost use Rattle.ih_words.specs.Solve.{solve_call};
-ghost use Rattle.ih_top.specs.Answers.{Answers, HasShelfCause};
-ghost use Rattle.ih_top.specs.Outputs.{IsOutput, base_from};
-ghost use Rattle.ih_top.specs.Solve.{SolveEnds, of_moves};
+ghost use Rattle.ih_top.specs.{Answers.Answers, Answers.HasShelfCause, Outputs.IsOutput, Outputs.base_from};
+ghost use Rattle.ih_top.specs.{Solve.SolveEnds, Solve.of_moves};
 
 use crate::answer::Answer;
 use crate::inputs::{InputNames, Inputs, read_inputs};

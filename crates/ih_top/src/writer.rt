@@ -2,8 +2,7 @@
 
 ghost use Rattle.std.specs.Prelude.{◌≢◌};
 ghost use Rattle.ih_words.specs.Solve.{solve_call};
-ghost use Rattle.ih_top.specs.Answers.{Answers, HasShelfCause};
-ghost use Rattle.ih_top.specs.Outputs.{MadeEnds, OutputEnds};
+ghost use Rattle.ih_top.specs.{Answers.Answers, Answers.HasShelfCause, Outputs.MadeEnds, Outputs.OutputEnds};
 
 use crate::answer::Answer;
 use crate::output::Output;

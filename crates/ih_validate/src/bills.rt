@@ -1,8 +1,7 @@
 //! The bill: all seventeen numbers, each summed over the whole timetable.
 
 ghost use Rattle.std.specs.Prelude.{◌≡◌, ◌<◌, ◌^◌, pos};
-ghost use Rattle.ih_plan.specs.Timetable.{IsPlanOf};
-ghost use Rattle.ih_plan.specs.BillOf.{bill_of};
+ghost use Rattle.ih_plan.specs.{Timetable.IsPlanOf, BillOf.bill_of};
 ghost use Rattle.ih_tables.specs.Bills.{IsWithin};
 
 use crate::{loads, nurses, patients, rooms, shifts, surgeons, theatres};

@@ -1,12 +1,9 @@
 //! What the persons who are in a room on a day cost.
 
 ghost use Rattle.std.specs.Prelude.{◌≡◌, ◌<◌, ◌≤◌, ℕ, not, All};
-ghost use Rattle.std.specs.List.{list_any};
-ghost use Rattle.std.specs.Str.{bytes_eq};
+ghost use Rattle.std.specs.{List.list_any, Str.bytes_eq};
 ghost use Rattle.ih_tables.specs.Sizes.{person_count};
-ghost use Rattle.ih_plan.specs.Persons.{person_of};
-ghost use Rattle.ih_plan.specs.Costs.{genders_differ, age_spread};
-ghost use Rattle.ih_plan.specs.Sums.{lower};
+ghost use Rattle.ih_plan.specs.{Persons.person_of, Costs.genders_differ, Costs.age_spread, Sums.lower};
 
 use ih_plan::{age_group, same_gender};
 use ih_tables::Instance;

@@ -1,7 +1,6 @@
 //! The law of parts, on a function that does nothing.
 
-ghost use Rattle.ih_plan.specs.Timetable.{Timetable};
-ghost use Rattle.ih_plan.specs.Cells.{HasParts};
+ghost use Rattle.ih_plan.specs.{Timetable.Timetable, Cells.HasParts};
 
 use ih_tables::Instance;
 

@@ -1,8 +1,7 @@
 //! Marks on numbers, by which distinct ones are counted.
 
 ghost use Rattle.std.specs.Prelude.{◌≡◌, ◌<◌, ◌≤◌, ◌||◌, ℕ, length, IfSome};
-ghost use Rattle.ih_plan.specs.Costs.{is_number};
-ghost use Rattle.ih_plan.specs.Sums.{count_below};
+ghost use Rattle.ih_plan.specs.{Costs.is_number, Sums.count_below};
 ghost use Rattle.ih_tables.specs.Marks.{is_marked};
 
 use crate::summing::bit;

@@ -3,10 +3,8 @@
 ghost use Rattle.std.specs.Prelude.{◌≡◌, ◌<◌, ◌≤◌, ◌-◌, ◌+◌, ◌*◌, ℕ, map, min};
 ghost use Rattle.std.specs.List.{range_with_len};
 ghost use Rattle.ih_tables.specs.Sizes.{person_count, room_count, shift_count};
-ghost use Rattle.ih_plan.specs.Timetable.{IsPlanOf, care_of};
-ghost use Rattle.ih_plan.specs.Presence.{shifts_of, room_of};
-ghost use Rattle.ih_plan.specs.Costs.{nurse_for, distinct_nurses};
-ghost use Rattle.ih_plan.specs.BillOf.{nurses_seen};
+ghost use Rattle.ih_plan.specs.{Timetable.IsPlanOf, Timetable.care_of, Presence.shifts_of, Presence.room_of};
+ghost use Rattle.ih_plan.specs.{Costs.nurse_for, Costs.distinct_nurses, BillOf.nurses_seen};
 
 use crate::marks::{count_marked, mark};
 use crate::shifts::nurse_at;

@@ -1,8 +1,7 @@
 //! Who is in a room: those who are there on some day, and those of them who are there on a given day.
 
 ghost use Rattle.std.specs.Prelude.{◌≡◌};
-ghost use Rattle.ih_plan.specs.Timetable.{IsPlanOf};
-ghost use Rattle.ih_plan.specs.Presence.{present};
+ghost use Rattle.ih_plan.specs.{Timetable.IsPlanOf, Presence.present};
 ghost use Rattle.ih_validate.specs.Members.{residents_of};
 
 use crate::number_lists::NumberList;

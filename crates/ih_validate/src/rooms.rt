@@ -3,9 +3,8 @@
 
 ghost use Rattle.std.specs.Prelude.{◌≡◌, ◌≤◌, ◌<◌};
 ghost use Rattle.ih_tables.specs.Sizes.{room_count, shift_count};
-ghost use Rattle.ih_plan.specs.Timetable.{IsPlanOf};
-ghost use Rattle.ih_plan.specs.Sums.{sum_below};
 ghost use Rattle.ih_plan.specs.BillOf.{gender_mixes, over_capacity, uncovered, mixed_ages, missing_skill};
+ghost use Rattle.ih_plan.specs.{Timetable.IsPlanOf, Sums.sum_below};
 ghost use Rattle.ih_validate.specs.Members.{residents_of};
 ghost use Rattle.ih_validate.specs.Rooms.{gender_mix, crowding, age_mix, bare_shift, skill_gap};
 

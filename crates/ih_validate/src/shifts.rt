@@ -3,11 +3,9 @@
 ghost use Rattle.std.specs.Prelude.{◌≡◌, ◌<◌, ◌≤◌, ◌-◌, ◌+◌, ◌*◌, ◌&&◌, ℕ, not, map, is_none, sum_by, IfSome, All};
 ghost use Rattle.std.specs.Prelude.{length};
 ghost use Rattle.ih_tables.specs.Sizes.{person_count, room_count, shift_count, nurse_count};
-ghost use Rattle.ih_plan.specs.Timetable.{IsPlanOf, care_of};
-ghost use Rattle.ih_plan.specs.Presence.{present, skill_of};
 ghost use Rattle.ih_plan.specs.Costs.{not_working, skill_missing, skill_level, is_empty};
-ghost use Rattle.ih_plan.specs.BillOf.{nurses_off};
-ghost use Rattle.ih_plan.specs.Sums.{sum_below, bit};
+ghost use Rattle.ih_plan.specs.{Timetable.IsPlanOf, Timetable.care_of, Presence.present, Presence.skill_of};
+ghost use Rattle.ih_plan.specs.{BillOf.nurses_off, Sums.sum_below, Sums.bit};
 ghost use Rattle.ih_validate.specs.Rooms.{bare_shift, skill_gap};
 
 use crate::summing::{bit, sum_below};

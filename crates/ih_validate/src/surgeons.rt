@@ -2,11 +2,10 @@
 
 ghost use Rattle.std.specs.Prelude.{◌≡◌, ◌<◌, ◌≤◌, ◌-◌, ◌*◌, ◌&&◌, ℕ, map, length, All};
 ghost use Rattle.ih_tables.specs.Sizes.{patient_count, surgeon_count};
-ghost use Rattle.ih_plan.specs.Timetable.{IsPlanOf, stay_of};
 ghost use Rattle.ih_plan.specs.Costs.{operated_by, minutes, surgeon_minutes, is_number, surgeon_of, admitted_on};
 ghost use Rattle.ih_plan.specs.Costs.{theatre_of, theatres_used};
-ghost use Rattle.ih_plan.specs.BillOf.{surgeon_overtime, transfers};
-ghost use Rattle.ih_plan.specs.Sums.{sum_below};
+ghost use Rattle.ih_plan.specs.{Timetable.IsPlanOf, Timetable.stay_of, BillOf.surgeon_overtime, BillOf.transfers};
+ghost use Rattle.ih_plan.specs.{Sums.sum_below};
 ghost use Rattle.ih_validate.specs.Members.{surgeon_patients};
 
 use crate::marks::{count_marked, mark};

@@ -2,10 +2,9 @@
 
 ghost use Rattle.std.specs.Prelude.{◌≡◌, ◌<◌, ◌≤◌, ◌-◌, ◌*◌, ℕ, not, length};
 ghost use Rattle.ih_tables.specs.Sizes.{theatre_count};
-ghost use Rattle.ih_plan.specs.Timetable.{IsPlanOf, stay_of};
 ghost use Rattle.ih_plan.specs.Costs.{operated_in, operated, minutes, theatre_minutes, is_number, is_empty, theatre_of};
-ghost use Rattle.ih_plan.specs.BillOf.{theatre_overtime, open_theatres};
-ghost use Rattle.ih_plan.specs.Sums.{sum_below, count_below};
+ghost use Rattle.ih_plan.specs.{Timetable.IsPlanOf, Timetable.stay_of, BillOf.theatre_overtime, BillOf.open_theatres};
+ghost use Rattle.ih_plan.specs.{Sums.sum_below, Sums.count_below};
 ghost use Rattle.ih_validate.specs.Members.{theatre_patients};
 
 use crate::number_lists::NumberList;

@@ -1,8 +1,7 @@
 //! The command `demo`: its description for `clap` and its value.
 ghost use Rattle.std.specs.Prelude.{◌≡◌, IfOk, map, string_bytes};
 ghost use Rattle.clap.specs.Words.{app_of};
-ghost use Rattle.ih_words.specs.Demo.{demo_app, lawful_demo};
-ghost use Rattle.ih_words.specs.Matches.{IsAnswer, call_by};
+ghost use Rattle.ih_words.specs.{Demo.demo_app, Demo.lawful_demo, Matches.IsAnswer, Matches.call_by};
 
 use crate::WordsError;
 use crate::arguments::named_number;

@@ -1,7 +1,6 @@
 //! Why words give no command.
 ghost use Rattle.std.specs.Prelude.{◌≡◌, ◌↔◌};
-ghost use Rattle.clap.specs.Words.{kind_of};
-ghost use Rattle.clap.specs.declared.error.kind.ErrorKind.TheVariants.{OutOfMemory as ClapOutOfMemory};
+ghost use Rattle.clap.specs.{Words.kind_of, declared.error.kind.ErrorKind.TheVariants.OutOfMemory as ClapOutOfMemory};
 ghost use Rattle.ih_words.specs.declared.error.WordsError.TheVariants.{OutOfMemory};
 
 use clap::error::ErrorKind;

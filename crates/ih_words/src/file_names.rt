@@ -1,7 +1,6 @@
 //! File names of one call, which have to differ.
 ghost use Rattle.std.specs.Prelude.{◌∷◌, ◌≡◌, map, option_map, option_to_list};
-ghost use Rattle.std.specs.List.{list_any};
-ghost use Rattle.std.specs.Str.{bytes_eq};
+ghost use Rattle.std.specs.{List.list_any, Str.bytes_eq};
 ghost use Rattle.ih_words.specs.Distinct.{all_differ};
 
 // The name is one of the names.

@@ -3,8 +3,8 @@ ghost use Rattle.std.specs.Prelude.{◌≡◌, ◌≤◌, ℕ, IfErr, IfOk, true
 ghost use Rattle.clap.specs.Words.{App, Rule, app_of, first_of, found_of, is_simple_and_free, matches_of, rows_of};
 ghost use Rattle.ih_words.specs.Matches.{HasNumber, HasOptions, HasText, IsNumberIfGiven, flag_at, has_no_fault};
 ghost use Rattle.ih_words.specs.Matches.{is_given, number_at, options_in, text_at};
-ghost use Rattle.ih_journal.specs.Settings.{IsLawful, most_entries};
 ghost use Rattle.ih_words.specs.Rules.{Requires, RequiresNumber, TakesNumber, has_independent_rules};
+ghost use Rattle.ih_journal.specs.Settings.{IsLawful, most_entries};
 
 use crate::WordsError;
 use clap::ArgMatches;

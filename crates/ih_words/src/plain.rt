@@ -6,8 +6,7 @@ ghost use Rattle.ih_journal.specs.Settings.{IsLawful, most_entries};
 ghost use Rattle.ih_words.specs.Matches.{HasNumber, IsAnswer, call_by, number_at};
 ghost use Rattle.ih_words.specs.Plain.{HasPlain, IsPlain, IsPlainWith, is_lawful_plain, lawful_plain, plain_app};
 ghost use Rattle.ih_words.specs.Plain.{plain_call, plain_search_in};
-ghost use Rattle.ih_words.specs.Rules.{has_independent_rules};
-ghost use Rattle.ih_words.specs.Solve.{solve_call};
+ghost use Rattle.ih_words.specs.{Rules.has_independent_rules, Solve.solve_call};
 
 use crate::WordsError;
 use crate::arguments::{flag, numbered_option, optional, with};

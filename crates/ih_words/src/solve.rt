@@ -2,8 +2,8 @@
 ghost use Rattle.std.specs.Prelude.{◌≡◌, ◌≤◌, IfSome, IfOk, true, codes, map, option_map, string_bytes};
 ghost use Rattle.clap.specs.Words.{app_of, found_of, rows_of};
 ghost use Rattle.ih_words.specs.Matches.{HasNames, HasOptions, IsNumberIfGiven, IsAnswer, call_by};
-ghost use Rattle.ih_journal.specs.Settings.{IsLawful, most_entries};
 ghost use Rattle.ih_words.specs.Solve.{is_lawful_solve, lawful_solve, search_app, solve_app, solve_call, solve_in};
+ghost use Rattle.ih_journal.specs.Settings.{IsLawful, most_entries};
 
 use crate::WordsError;
 use crate::arguments::{named, optional_number, with, with_options};

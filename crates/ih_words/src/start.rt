@@ -1,9 +1,8 @@
 //! What a search starts from, and the first day whose choices it may change: `--start F`, `--freeze DAY` and `--fill`.
 ghost use Rattle.std.specs.Prelude.{◌≡◌, codes};
 ghost use Rattle.clap.specs.Words.{found_of, rows_of};
-ghost use Rattle.ih_words.specs.Arguments.{IsChanged};
-ghost use Rattle.ih_words.specs.Matches.{IsNumberIfGiven};
 ghost use Rattle.ih_words.specs.Start.{freezes_a_file, start_call, start_in, with_start};
+ghost use Rattle.ih_words.specs.{Arguments.IsChanged, Matches.IsNumberIfGiven};
 
 use crate::arguments::{flag, optional, optional_number, with};
 use crate::matches::{flag_of, is_given, optional_text_of, optional_u32_of};

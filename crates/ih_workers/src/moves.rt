@@ -3,8 +3,7 @@
 ghost use Rattle.std.specs.Prelude.{◌≡◌, ℕ, ◌<◌, ◌≤◌, ◌^◌, All, IfOk, length, slice_index_or};
 ghost use Rattle.ih_journal.specs.Legal.{IsFull};
 ghost use Rattle.ih_cellbook.specs.Keeping.{IsBase};
-ghost use Rattle.ih_desk.specs.Searching.{base_given};
-ghost use Rattle.ih_desk.specs.Workers.{IsReady, Finishes};
+ghost use Rattle.ih_desk.specs.{Searching.base_given, Workers.IsReady, Workers.Finishes};
 
 use ih_cellbook::Book;
 use ih_desk::{Desk, Given, WorkerOn, run_all};

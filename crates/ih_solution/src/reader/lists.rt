@@ -2,8 +2,7 @@
 
 ghost use Rattle.std.specs.Prelude.{◌≡◌, ◌<◌, ◌^◌, false, map, length, replicate, IfOk};
 ghost use Rattle.serde_json.specs.View.{view};
-ghost use Rattle.ih_format.specs.Gives.{Gives};
-ghost use Rattle.ih_format.specs.Checks.{list};
+ghost use Rattle.ih_format.specs.{Gives.Gives, Checks.list};
 
 use ih_format::{FormatError, kinds};
 use ih_tables::Place;

@@ -3,10 +3,9 @@
 ghost use Rattle.std.specs.Prelude.{◌≡◌, ◌<◌, ◌^◌, false, IfOk, All, [], map, length};
 ghost use Rattle.serde_json.specs.View.{view};
 ghost use Rattle.ih_tables.specs.Sizes.{nurse_count, room_count, shift_count};
-ghost use Rattle.ih_plan.specs.Timetable.{IsPlanOf};
-ghost use Rattle.ih_format.specs.Gives.{Gives, seen};
 ghost use Rattle.ih_tables.specs.Marks.{is_marked};
-ghost use Rattle.ih_format.specs.Checks.{each, under};
+ghost use Rattle.ih_plan.specs.Timetable.{IsPlanOf};
+ghost use Rattle.ih_format.specs.{Gives.Gives, Gives.seen, Checks.each, Checks.under};
 ghost use Rattle.ih_solution.specs.Assigned.{IsFree, IsAssignment, IsListedNurse};
 ghost use Rattle.ih_solution.specs.Reading.{has_nurse, free_room, free_rooms, assignment, assignments, nurse_row};
 ghost use Rattle.ih_solution.specs.Reading.{nurse_rows, nurses, cares_of};

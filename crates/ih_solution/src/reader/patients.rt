@@ -2,11 +2,9 @@
 
 ghost use Rattle.std.specs.Prelude.{◌≡◌, ◌<◌, ◌^◌, false, IfOk, IfSome, [], map, length};
 ghost use Rattle.serde_json.specs.View.{view};
-ghost use Rattle.ih_tables.specs.Sizes.{patient_count};
+ghost use Rattle.ih_tables.specs.{Sizes.patient_count, Marks.is_marked};
 ghost use Rattle.ih_plan.specs.Timetable.{IsPlanOf, IsPlacement};
-ghost use Rattle.ih_format.specs.Gives.{Gives, seen};
-ghost use Rattle.ih_tables.specs.Marks.{is_marked};
-ghost use Rattle.ih_format.specs.Checks.{under};
+ghost use Rattle.ih_format.specs.{Gives.Gives, Gives.seen, Checks.under};
 ghost use Rattle.ih_solution.specs.Reading.{no_day, admission_day, placement_on, patient_row, patient_rows, patients};
 ghost use Rattle.ih_solution.specs.Reading.{timetable_of};
 

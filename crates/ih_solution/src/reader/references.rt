@@ -4,8 +4,7 @@ ghost use Rattle.std.specs.Prelude.{◌≡◌, ◌<◌, IfOk};
 ghost use Rattle.serde_json.specs.View.{view};
 ghost use Rattle.ih_tables.specs.Sizes.{patient_count, room_count, nurse_count, theatre_count};
 ghost use Rattle.ih_tables.specs.declared.refusals.Fault.TheVariants.{Unknown};
-ghost use Rattle.ih_format.specs.Gives.{seen};
-ghost use Rattle.ih_format.specs.Checks.{or_else};
+ghost use Rattle.ih_format.specs.{Gives.seen, Checks.or_else};
 ghost use Rattle.ih_solution.specs.Reading.{patient_named, room_named, nurse_named, theatre_named, shift_type_named};
 
 use ih_format::kinds;
