@@ -31,6 +31,15 @@ side-node home u h = let e = lt-ltb u (length home) h in rw e refl
 side-gate : (home : List (Option ℕ)) (h : ℕ) → side home (length home + h) ≡ Some h
 side-gate home h = let e = le-ltb (length home + h) (length home) (omega arith) in rw e (ap (λ k. Some k) (omega arith))
 
+-- Two sets of tables, each as long as its counterpart.
+record SameSizes (next prev : List ℕ) (home : List (Option ℕ)) (len : List ℕ) (ls : List (List ℕ))
+    (next' prev' : List ℕ) (home' : List (Option ℕ)) (len' : List ℕ) (ls' : List (List ℕ)) : Type 0 where
+  nexts : length next' ≡ length next
+  prevs : length prev' ≡ length prev
+  homes : length home' ≡ length home
+  lens : length len' ≡ length len
+  lists : length ls' ≡ length ls
+
 module _ (next prev : List ℕ) (home : List (Option ℕ)) (len : List ℕ) (ls : List (List ℕ)) (t : Tied next prev home len ls) where
   pub tied-lists : lists_of next home len ≡ ls
   tied-lists = sym (fill_by_all (λ h. walk (slice_index next) (slice_index len h) (slice_index next (length home + h))) ls (length len) [] t.count each)
@@ -100,6 +109,30 @@ module _ (next prev : List ℕ) (home : List (Option ℕ)) (len : List ℕ) (ls 
     | inl q ↦ inl (let e = q.0 in omega arith, q.1)
     | inr q ↦ inr (node-below h (slice_index next x) q.0, q.1)
   ]
+
+  -- tables of the same sizes are tied too, where each list is again a path of its own
+  still-tied : (next' prev' : List ℕ) (home' : List (Option ℕ)) (len' : List ℕ) (ls' : List (List ℕ))
+      → SameSizes next prev home len ls next' prev' home' len' ls'
+      → ((h : ℕ) → h < length len → IsPath (slice_index next') (slice_index prev') (length home' + h) (slice_index_or ls' h []) (length home' + h))
+      → ((h : ℕ) → h < length len → slice_index len' h ≡ length (slice_index_or ls' h []))
+      → ((h x : ℕ) → has x (slice_index_or ls' h []) ≡ is_at h (slice_index_or home' x None))
+      → ((h : ℕ) → IsOnce (slice_index_or ls' h []))
+      → Tied next' prev' home' len' ls'
+  still-tied next' prev' home' len' ls' same path lens homes once =
+      let nexts = t.nexts in
+      let prevs = t.prevs in
+      let count = t.count in
+      let few = t.few in
+      record {
+        nexts = omega arith;
+        prevs = omega arith;
+        count = omega arith;
+        path = λ h below. path h (omega arith);
+        lens = λ h below. lens h (omega arith);
+        homes = homes;
+        once = once;
+        few = omega arith;
+      }
 
   module _ (head node : ℕ) (head_below : head < length len) (node_below : node < length home) (free : (h : ℕ) → has node (slice_index_or ls h []) ≡ false) where
     abbrev gate : ℕ
@@ -221,27 +254,11 @@ module _ (next prev : List ℕ) (home : List (Option ℕ)) (len : List ℕ) (ls 
 
     pub tied-pushed : Tied next' prev' home' (slice_set len head (slice_index len head + 1)) ls'
     tied-pushed =
-        let n = t.nexts in
-        let p = t.prevs in
-        let c = t.count in
-        let f = t.few in
-        let n1 = length-set next last node in
-        let n2 = length-set (slice_set next last node) node gate in
-        let p1 = length-set prev node last in
-        let p2 = length-set (slice_set prev node last) gate node in
-        let h1 = length-set home node (Some head) in
-        let l1 = length-set len head (slice_index len head + 1) in
-        let c1 = length-set ls head longer in
-        record {
-          nexts = omega arith;
-          prevs = omega arith;
-          count = omega arith;
-          path = λ h below. push-path h (omega arith);
-          lens = λ h below. push-lens h (omega arith);
-          homes = push-homes;
-          once = push-once;
-          few = omega arith;
-        }
+        let nexts = length-set (slice_set next last node) node gate ∙ length-set next last node in
+        let prevs = length-set (slice_set prev node last) gate node ∙ length-set prev node last in
+        still-tied next' prev' home' (slice_set len head (slice_index len head + 1)) ls'
+        (record { nexts = nexts; prevs = prevs; homes = length-set home node (Some head); lens = length-set len head (slice_index len head + 1); lists = length-set ls head longer })
+        push-path push-lens push-homes push-once
 
   module _ (head node : ℕ) (at : slice_index_or home node None ≡ Some head) where
     abbrev before : ℕ
@@ -340,22 +357,12 @@ module _ (next prev : List ℕ) (home : List (Option ℕ)) (len : List ℕ) (ls 
 
     pub tied-passed : Tied next- prev- home- (slice_set len head (slice_index len head - 1)) ls-
     tied-passed =
-        let n = t.nexts in
-        let p = t.prevs in
-        let c = t.count in
-        let f = t.few in
-        let n1 = length-set next before after in
-        let p1 = length-set prev after before in
-        let h1 = length-set home node None in
-        let l1 = length-set len head (slice_index len head - 1) in
-        let c1 = length-map ls (without node) in
-        record {
-          nexts = omega arith;
-          prevs = omega arith;
-          count = omega arith;
-          path = λ h below. pass-path h (omega arith);
-          lens = λ h below. pass-lens h (omega arith);
-          homes = pass-homes;
-          once = λ h. rw (list-less h) (once-without node (slice_index_or ls h []) (t.once h));
-          few = omega arith;
-        }
+        still-tied next- prev- home- (slice_set len head (slice_index len head - 1)) ls-
+        (record {
+          nexts = length-set next before after;
+          prevs = length-set prev after before;
+          homes = length-set home node None;
+          lens = length-set len head (slice_index len head - 1);
+          lists = length-map ls (without node);
+        })
+        pass-path pass-lens pass-homes (λ h. rw (list-less h) (once-without node (slice_index_or ls h []) (t.once h)))
