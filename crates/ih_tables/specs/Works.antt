@@ -22,7 +22,8 @@ max_load I n k = option_and_then (λ (w : Nurse). load_in w.working_shifts k) (s
 
 -- the maximum loads of all nurses and shifts, nurse by nurse
 abbrev pub load_table : Draft → List (Option ℕ)
-load_table I = map (λ j. max_load I (j / shift_count I) (j % shift_count I)) (range_with_len 0 (nurse_count I * shift_count I))
+load_table I =
+    map (λ j. max_load I (j / shift_count I) (j % shift_count I)) (range_with_len 0 (nurse_count I * shift_count I))
 
 -- the first n nurses
 abbrev pub first_nurses : ℕ → List NurseNo

@@ -2,7 +2,8 @@
 
 ghost use Rattle.std.specs.Prelude.{◌≡◌, ◌≢◌, ◌<◌, ◌≤◌, ◌≤ℤ◌, ◌+◌, ◌*◌, ◌↔◌, pos, Some, IsTrue, IsSome, All, AllPairs};
 ghost use Rattle.std.specs.Prelude.{Any, List as Items, ℕ, length};
-ghost use Rattle.ih_tables.specs.Valid.{Between, IsListed, IsNurse, IsOccupant, IsPatient, IsValid, IsVector, IsWorked};
+ghost use Rattle.ih_tables.specs.Valid.{Between, IsListed, IsName, IsNurse, IsOccupant, IsPatient, IsValid, IsVector};
+ghost use Rattle.ih_tables.specs.Valid.{IsWorked, vector_len};
 ghost use Rattle.ih_tables.specs.{Sizes.room_count, Works.shift_of};
 
 use crate::bills::Weights;
@@ -82,15 +83,33 @@ fn are_nurses(inst: &Draft, ns: &[Nurse]) -> bool
     ns.iter().all(|n| is_nurse(inst, n))
 }
 
+/// What is asked of the gender, the age group and the length of stay of any person.
+fn is_person(inst: &Draft, gender: &str, age_group: u32, stay: u32) -> bool
+    ensures { IsTrue result ↔ (IsName gender.now
+        × (age_group < length inst.now.age_groups)
+        × Between 1 100 stay) }
+{
+    is_name(gender)
+        && (age_group as usize) < inst.age_groups.as_slice().len()
+        && between(1, 100, stay as usize)
+}
+
+/// Whether these are what a person asks of a nurse, shift by shift of a stay: the workload, and the skill required.
+fn is_asked(inst: &Draft, stay: u32, workload: &[u32], skill: &[u32]) -> bool
+    ensures { IsTrue result ↔ (IsVector (vector_len inst.now stay) 100000 workload.now
+        × IsVector (vector_len inst.now stay) 1000 skill.now) }
+{
+    let entries = 3 * stay.min(inst.days) as usize;
+    is_vector(entries, 100_000, workload) && is_vector(entries, 1000, skill)
+}
+
 fn is_occupant(inst: &Draft, o: &Occupant) -> bool
     ensures { IsTrue result ↔ IsOccupant inst.now o.now }
 {
-    let entries = 3 * o.length_of_stay.min(inst.days) as usize;
-    is_name(o.gender.as_str())
-        && (o.age_group as usize) < inst.age_groups.as_slice().len()
-        && between(1, 100, o.length_of_stay as usize)
-        && is_vector(entries, 100_000, o.workload_produced.as_slice())
-        && is_vector(entries, 1000, o.skill_level_required.as_slice())
+    let stay = o.length_of_stay;
+    let workload = o.workload_produced.as_slice();
+    is_person(inst, o.gender.as_str(), o.age_group, stay)
+        && is_asked(inst, stay, workload, o.skill_level_required.as_slice())
         && (o.room_id.0 as usize) < inst.rooms.as_slice().len()
 }
 
@@ -119,18 +138,16 @@ fn are_rooms(inst: &Draft, rs: &[RoomNo]) -> bool
 fn is_patient(inst: &Draft, p: &Patient) -> bool
     ensures { IsTrue result ↔ IsPatient inst.now p.now }
 {
-    let entries = 3 * p.length_of_stay.min(inst.days) as usize;
-    is_name(p.gender.as_str())
-        && (p.age_group as usize) < inst.age_groups.as_slice().len()
-        && between(1, 100, p.length_of_stay as usize)
+    let stay = p.length_of_stay;
+    let workload = p.workload_produced.as_slice();
+    is_person(inst, p.gender.as_str(), p.age_group, stay)
         && p.surgery_release_day <= 1000
         && is_due_right(p.mandatory, p.surgery_due_day)
         && p.surgery_duration <= 100_000
         && (p.surgeon_id.0 as usize) < inst.surgeons.as_slice().len()
         && p.incompatible_room_ids.as_slice().len() <= 1024
         && are_rooms(inst, p.incompatible_room_ids.as_slice())
-        && is_vector(entries, 100_000, p.workload_produced.as_slice())
-        && is_vector(entries, 1000, p.skill_level_required.as_slice())
+        && is_asked(inst, stay, workload, p.skill_level_required.as_slice())
 }
 
 fn are_patients(inst: &Draft, ps: &[Patient]) -> bool
