@@ -11,7 +11,9 @@ use Rattle.ih_plan.specs.BillOf.{bill_of, gender_mixes, bad_rooms, surgeon_overt
 use Rattle.ih_plan.proofs.ExampleWards.{two_patients, two_patients_with, first_admitted, first_admitted_with, at, bill9, weights}
 
 unfoldable pub plan_on_literals : ⊤
-unfolding signed_sum sum_below any_below which_below greatest least person_of admission_of present shifts_of entry_of operated operated_by load_of bill_of gender_mixes bad_rooms surgeon_overtime theatre_overtime mandatory_left_out outside_windows over_capacity nurses_off uncovered mixed_ages missing_skill nurses_seen overloads open_theatres transfers delays optional_left_out
+unfolding signed_sum sum_below any_below which_below greatest least person_of admission_of present shifts_of entry_of
+    operated operated_by load_of bill_of gender_mixes bad_rooms surgeon_overtime theatre_overtime mandatory_left_out outside_windows over_capacity nurses_off uncovered
+    mixed_ages missing_skill nurses_seen overloads open_theatres transfers delays optional_left_out
 plan_on_literals = tt
 
 -- One patient is admitted, and one nurse has the room: no rule is broken.

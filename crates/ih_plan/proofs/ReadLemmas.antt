@@ -1,5 +1,5 @@
 -- What is read from a list: behind its end, from two lists in a row, and from copies of one thing.
-use Rattle.std.proofs.Common.{◌≡◌, ℕ, zero, suc, ◌<◌, refl, arith, List, [], ◌∷◌, ◌++◌, length, ◌⊎◌, inl, inr, replicate, Option, Some, None}
+use Rattle.std.proofs.Common.{◌≡◌, ℕ, zero, suc, refl, List, [], ◌∷◌, ◌++◌, length, ◌⊎◌, inl, inr, replicate, Option, Some, None}
 use Rattle.std.specs.Prelude.{slice_get, slice_index_or, option_and_then}
 
 -- an entry of two lists in a row is one of the first, or one of the second

@@ -67,7 +67,8 @@ missing_skill I P = over_room_shifts I P (λ k n xs. skill_missing I n (map (ski
 
 -- distinct nurses of each person's stay
 unfoldable pub nurses_seen : Draft → Timetable → ℕ
-nurses_seen I P = sum_below (person_count I) (λ x. distinct_nurses I (map (nurse_for P (room_of I P x)) (shifts_of I P x)))
+nurses_seen I P =
+    sum_below (person_count I) (λ x. distinct_nurses I (map (nurse_for P (room_of I P x)) (shifts_of I P x)))
 
 -- workload above the maximum of each nurse and worked shift
 unfoldable pub overloads : Draft → Timetable → ℕ
@@ -82,7 +83,8 @@ open_theatres I P =
 -- for each surgeon and day with surgery, the distinct theatres less one
 unfoldable pub transfers : Draft → Timetable → ℕ
 transfers I P =
-    sum_below (surgeon_count I) (λ s. sum_below I.days (λ d. theatres_used I (map (theatre_of P) (operated_by I P s d)) - 1))
+    sum_below (surgeon_count I) (λ s. sum_below I.days
+    (λ d. theatres_used I (map (theatre_of P) (operated_by I P s d)) - 1))
 
 -- days between release and admission
 unfoldable pub delays : Draft → Timetable → ℕ

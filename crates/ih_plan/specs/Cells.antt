@@ -18,7 +18,8 @@ use Rattle.ih_plan.specs.Costs.{of_patient, nurse_for, in_bad_room, outside_wind
 use Rattle.ih_plan.specs.BillOf.{Counts, as_bill, bill_of}
 use Rattle.ih_plan.specs.Sums.{bit, sum_below, tagged, listed}
 
--- ---- numbers: stays first, then room days, theatre days, surgeon days, room shifts, nurse shifts and cares, each by its first index, then its second
+-- ---- numbers: stays first, then room days, theatre days, surgeon days, room shifts, nurse shifts and cares, each by
+-- its first index, then its second
 
 -- where the numbers of each kind begin
 abbrev pub room_days_from : Sizes → ℕ
@@ -136,9 +137,11 @@ no_counts = record { v = 0 ∷ 0 ∷ 0 ∷ 0 ∷ 0 ∷ 0 ∷ 0 ∷ 0 ∷ 0 ∷ [
 -- the part of the bill of a cell's content
 unfoldable pub part_of : Draft → Cell → Content → Counts
 part_of I (Stay p) (stay_content stay) = record {
-  v = 0 ∷ of_patient I p.0 (λ a. bit (in_bad_room a stay)) ∷ 0 ∷ 0 ∷ of_patient I p.0 (λ a. bit (a.mandatory && is_none stay))
+  v = 0 ∷ of_patient I p.0 (λ a. bit (in_bad_room a stay)) ∷ 0 ∷ 0
+      ∷ of_patient I p.0 (λ a. bit (a.mandatory && is_none stay))
       ∷ of_patient I p.0 (λ a. bit (outside_window a stay)) ∷ 0 ∷ 0 ∷ 0 ∷ [];
-  s = 0 ∷ 0 ∷ 0 ∷ 0 ∷ 0 ∷ 0 ∷ of_patient I p.0 (λ a. delay a stay) ∷ of_patient I p.0 (λ a. bit (not a.mandatory && is_none stay)) ∷ [];
+  s = 0 ∷ 0 ∷ 0 ∷ 0 ∷ 0 ∷ 0 ∷ of_patient I p.0 (λ a. delay a stay)
+      ∷ of_patient I p.0 (λ a. bit (not a.mandatory && is_none stay)) ∷ [];
 }
 part_of I (RoomDay r d) (persons_content xs) = record {
   v = bit (genders_differ I xs) ∷ 0 ∷ 0 ∷ 0 ∷ 0 ∷ 0 ∷ (length xs - capacity_of I r.0) ∷ 0 ∷ 0 ∷ [];

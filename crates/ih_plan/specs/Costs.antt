@@ -33,7 +33,8 @@ after_due (Some due) d = nat_lt due d
 -- admitted before the release day, or, where mandatory, after the due day
 abbrev pub outside_window : Patient → Option Placement → Bool
 outside_window p None = false
-outside_window p (Some at) = nat_lt at.day.0 p.surgery_release_day || (p.mandatory && after_due p.surgery_due_day at.day.0)
+outside_window p (Some at) =
+    nat_lt at.day.0 p.surgery_release_day || (p.mandatory && after_due p.surgery_due_day at.day.0)
 
 -- days from release to admission
 abbrev pub delay : Patient → Option Placement → ℕ
@@ -114,7 +115,8 @@ surgeon_minutes I s d = option_map_or (λ (a : Surgeon). slice_index a.max_surge
 
 -- the minutes that theatre t is available on day d
 abbrev pub theatre_minutes : Draft → ℕ → ℕ → ℕ
-theatre_minutes I t d = option_map_or (λ (a : Theatre). slice_index a.availability d) (slice_get I.operating_theaters t) 0
+theatre_minutes I t d =
+    option_map_or (λ (a : Theatre). slice_index a.availability d) (slice_get I.operating_theaters t) 0
 
 -- the theatre of patient p, where admitted
 abbrev pub theatre_of : Timetable → ℕ → Option ℕ
@@ -147,7 +149,8 @@ skill_missing I (Some n) skills = sum_by (λ s. s - skill_level I n) skills
 
 -- the sum over all rooms and shifts of what the nurse and the persons present give
 abbrev pub over_room_shifts : Draft → Timetable → (ℕ → Option ℕ → List ℕ → ℕ) → ℕ
-over_room_shifts I P f = sum_below (room_count I) (λ r. sum_below (shift_count I) (λ k. f k (care_of P r k) (present I P r (day_of k))))
+over_room_shifts I P f =
+    sum_below (room_count I) (λ r. sum_below (shift_count I) (λ k. f k (care_of P r k) (present I P r (day_of k))))
 
 -- the workload of nurse n's rooms in shift k
 unfoldable pub load_of : Draft → Timetable → ℕ → ℕ → ℕ

@@ -25,7 +25,9 @@ choose u n = if n == 0 then None else Some (u % n)
 -- a day of patient p's window
 abbrev pub choose_day : Draft → ℕ → ℕ → Option ℕ
 choose_day I u p =
-    option_and_then (λ (a : Patient). option_map (λ j. a.surgery_release_day + j) (choose u (window_len I a))) (slice_get I.patients p)
+    option_and_then
+    (λ (a : Patient). option_map (λ j. a.surgery_release_day + j) (choose u (window_len I a)))
+    (slice_get I.patients p)
 
 -- a nurse who works shift k
 abbrev pub choose_nurse : Draft → ℕ → ℕ → Option ℕ
@@ -37,6 +39,13 @@ infixl 10 ◌>>=◌
 abbrev ◌>>=◌ : {A B : Type 0} → Option A → (A → Option B) → Option B
 o >>= f = option_and_then f o
 
+-- what is made of two choices, each among so many by a word of its own
+abbrev choose_two : ℕ → ℕ → ℕ → ℕ → (ℕ → ℕ → Move) → Option Move
+choose_two u m v n made = do
+  i ← choose u m
+  j ← choose v n
+  Some (made i j)
+
 -- the moves by kind: none where there is nothing to choose from
 abbrev pub drawn_place : Draft → ℕ → ℕ → ℕ → ℕ → Option Move
 drawn_place I u1 u2 u3 u4 = do
@@ -44,7 +53,11 @@ drawn_place I u1 u2 u3 u4 = do
   d ← choose_day I u2 p
   r ← choose u3 (room_count I)
   t ← choose u4 (theatre_count I)
-  Some (Place (record { 0 = p }) (record { day = record { 0 = d }; room = record { 0 = r }; theatre = record { 0 = t } }))
+  Some (Place (record { 0 = p }) (record {
+    day = record { 0 = d };
+    room = record { 0 = r };
+    theatre = record { 0 = t };
+  }))
 
 abbrev pub drawn_withdrawal : Draft → ℕ → Option Move
 drawn_withdrawal I u1 = do
@@ -58,22 +71,16 @@ drawn_day I u1 u2 = do
   Some (SetDay (record { 0 = p }) (record { 0 = d }))
 
 abbrev pub drawn_room : Draft → ℕ → ℕ → Option Move
-drawn_room I u1 u2 = do
-  p ← choose u1 (patient_count I)
-  r ← choose u2 (room_count I)
-  Some (SetRoom (record { 0 = p }) (record { 0 = r }))
+drawn_room I u1 u2 =
+    choose_two u1 (patient_count I) u2 (room_count I) (λ p r. SetRoom (record { 0 = p }) (record { 0 = r }))
 
 abbrev pub drawn_theatre : Draft → ℕ → ℕ → Option Move
-drawn_theatre I u1 u2 = do
-  p ← choose u1 (patient_count I)
-  t ← choose u2 (theatre_count I)
-  Some (SetTheatre (record { 0 = p }) (record { 0 = t }))
+drawn_theatre I u1 u2 =
+    choose_two u1 (patient_count I) u2 (theatre_count I) (λ p t. SetTheatre (record { 0 = p }) (record { 0 = t }))
 
 abbrev pub drawn_room_swap : Draft → ℕ → ℕ → Option Move
-drawn_room_swap I u1 u2 = do
-  p ← choose u1 (patient_count I)
-  q ← choose u2 (patient_count I)
-  Some (SwapRooms (record { 0 = p }) (record { 0 = q }))
+drawn_room_swap I u1 u2 =
+    choose_two u1 (patient_count I) u2 (patient_count I) (λ p q. SwapRooms (record { 0 = p }) (record { 0 = q }))
 
 abbrev pub drawn_nurse_swap : Draft → ℕ → ℕ → ℕ → Option Move
 drawn_nurse_swap I u1 u2 u3 = do

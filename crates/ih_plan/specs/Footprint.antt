@@ -25,7 +25,8 @@ in_placement I P p at (Stay q) = false
 in_placement I P p at (RoomDay r d) = (at.room.0 == r.0) && covers at.day.0 (person_of I p).length_of_stay d.0
 in_placement I P p at (TheatreDay t d) = (at.theatre.0 == t.0) && (at.day.0 == d.0)
 in_placement I P p at (SurgeonDay s d) = is_number (surgeon_of I p) s.0 && (at.day.0 == d.0)
-in_placement I P p at (RoomShift r k) = (at.room.0 == r.0) && covers at.day.0 (person_of I p).length_of_stay (day_of k.0)
+in_placement I P p at (RoomShift r k) =
+    (at.room.0 == r.0) && covers at.day.0 (person_of I p).length_of_stay (day_of k.0)
 in_placement I P p at (NurseShift n k) =
     is_number (care_of P at.room.0 k.0) n.0 && covers at.day.0 (person_of I p).length_of_stay (day_of k.0)
 in_placement I P p at (Care x) = false

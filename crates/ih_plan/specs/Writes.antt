@@ -21,7 +21,8 @@ put_all (w ∷ ws) P = put_all ws (put w P)
 -- the write is in range
 abbrev pub IsWriteOf : Draft → Write → Type 0
 IsWriteOf I (SetStay p stay) = (p.0 < patient_count I) × ((at : Placement) → stay ≡ Some at → IsPlacement I at)
-IsWriteOf I (SetCare r k care) = (r.0 < room_count I) × (k.0 < shift_count I) × ((n : NurseNo) → care ≡ Some n → n.0 < nurse_count I)
+IsWriteOf I (SetCare r k care) = (r.0 < room_count I) × (k.0 < shift_count I)
+    × ((n : NurseNo) → care ≡ Some n → n.0 < nurse_count I)
 
 -- each write is in range
 abbrev pub AreWritesOf : Draft → List Write → Type 0
