@@ -1,10 +1,10 @@
 //! A worker's stream of moves.
 
-ghost use Rattle.std.specs.Prelude.{◌≡◌, ◌<◌, ◌≤◌, ◌+◌, ◌%◌, ℕ, Some, IfSome};
+ghost use Rattle.std.specs.Prelude.{◌≡◌, ◌<◌, ◌≤◌, ◌+◌, ◌%◌, ◌⊎◌, ℕ, None, Some, IfSome};
 ghost use Rattle.rand_xoshiro.specs.Xoshiro256.{plus_plus};
 ghost use Rattle.ih_tables.specs.Sizes.{patient_count, shift_count, nurse_count};
 ghost use Rattle.ih_plan.specs.Draws.{choose, last_day, window_len, choose_day, choose_nurse, drawn, drawn_place};
-ghost use Rattle.ih_plan.specs.Draws.{drawn_withdrawal, drawn_day, drawn_room, drawn_theatre, drawn_room_swap};
+ghost use Rattle.ih_plan.specs.Draws.{drawn_withdrawal, drawn_day};
 ghost use Rattle.ih_plan.specs.Draws.{drawn_nurse_swap, drawn_nurse, drawn_run, draw};
 ghost use Rattle.ih_plan.specs.Expand.{IsMoveOf};
 
@@ -89,6 +89,17 @@ fn choose(u: u64, n: u32) -> Option<u32>
     }
 }
 
+// Two choices, each among so many by a word of its own.
+fn choose_two(u: u64, m: u32, v: u64, n: u32) -> Option<(u32, u32)>
+    ensures none { result ≡ None → (choose u m ≡ None) ⊎ (choose v n ≡ None) }
+    ensures both { (i j : ℕ) → result ≡ Some (i, j) → (choose u m ≡ Some i) × (choose v n ≡ Some j) }
+    ensures below { IfSome result (λ c. (c.0 < m) × (c.1 < n)) }
+{
+    let i = choose(u, m)?;
+    let j = choose(v, n)?;
+    Some((i, j))
+}
+
 fn last_day(inst: &Instance, a: &Patient) -> u32
     ensures value { result ≡ last_day inst.now.draft a.now }
     ensures below { result < inst.now.draft.days }
@@ -157,33 +168,6 @@ fn draw_day(inst: &Instance, u1: u64, u2: u64) -> Option<Move>
     Some(Move::SetDay(PatientNo(p), Day(d)))
 }
 
-fn draw_room(inst: &Instance, u1: u64, u2: u64) -> Option<Move>
-    ensures value { result ≡ drawn_room inst.now.draft u1 u2 }
-    ensures inside { IfSome result (IsMoveOf inst.now.draft) }
-{
-    let p = choose(u1, inst.patients())?;
-    let r = choose(u2, inst.rooms())?;
-    Some(Move::SetRoom(PatientNo(p), RoomNo(r)))
-}
-
-fn draw_theatre(inst: &Instance, u1: u64, u2: u64) -> Option<Move>
-    ensures value { result ≡ drawn_theatre inst.now.draft u1 u2 }
-    ensures inside { IfSome result (IsMoveOf inst.now.draft) }
-{
-    let p = choose(u1, inst.patients())?;
-    let t = choose(u2, inst.theatres())?;
-    Some(Move::SetTheatre(PatientNo(p), TheatreNo(t)))
-}
-
-fn draw_room_swap(inst: &Instance, u1: u64, u2: u64) -> Option<Move>
-    ensures value { result ≡ drawn_room_swap inst.now.draft u1 u2 }
-    ensures inside { IfSome result (IsMoveOf inst.now.draft) }
-{
-    let p = choose(u1, inst.patients())?;
-    let q = choose(u2, inst.patients())?;
-    Some(Move::SwapRooms(PatientNo(p), PatientNo(q)))
-}
-
 fn draw_nurse_swap(inst: &Instance, u1: u64, u2: u64, u3: u64) -> Option<Move>
     ensures value { result ≡ drawn_nurse_swap inst.now.draft u1 u2 u3 }
     ensures inside { IfSome result (IsMoveOf inst.now.draft) }
@@ -226,11 +210,14 @@ fn drawn(inst: &Instance, kind: u64, u1: u64, u2: u64, u3: u64, u4: u64) -> Opti
     } else if kind < 6 {
         draw_day(inst, u1, u2)
     } else if kind < 8 {
-        draw_room(inst, u1, u2)
+        let (p, r) = choose_two(u1, inst.patients(), u2, inst.rooms())?;
+        Some(Move::SetRoom(PatientNo(p), RoomNo(r)))
     } else if kind == 8 {
-        draw_theatre(inst, u1, u2)
+        let (p, t) = choose_two(u1, inst.patients(), u2, inst.theatres())?;
+        Some(Move::SetTheatre(PatientNo(p), TheatreNo(t)))
     } else if kind == 9 {
-        draw_room_swap(inst, u1, u2)
+        let (p, q) = choose_two(u1, inst.patients(), u2, inst.patients())?;
+        Some(Move::SwapRooms(PatientNo(p), PatientNo(q)))
     } else if kind < 12 {
         draw_nurse_swap(inst, u1, u2, u3)
     } else if kind < 15 {
