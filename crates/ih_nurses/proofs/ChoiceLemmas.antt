@@ -1,15 +1,16 @@
 -- What another choice of nurse for a room's shift makes of the workloads above the maximum, and of the care of the
 -- persons there.
-use Rattle.std.proofs.Common.{◌≡◌, ◌≢◌, ℕ, ◌+◌, ◌-◌, ◌<◌, ◌≤◌, refl, arith, sym, ap, ◌∙◌, true, inl, inr, List, Option, Some, None, pos}
-use Rattle.std.specs.Prelude.{◌-ℤ◌, ◌+ℤ◌, ◌==◌, if◌then◌else◌, nat_le, nat_lt, slice_index, sum_by, IfSome}
+use Rattle.std.proofs.Common.{◌≡◌, ◌≢◌, ℕ, ◌+◌, ◌-◌, ◌<◌, ◌≤◌, refl, arith, sym, ap, subst, ◌∙◌, true, inl, inr, List, ℤ, Option, Some, None, pos, of_z, to_z, w64}
+use Rattle.std.specs.Prelude.{FitsSigned, ◌-ℤ◌, ◌+ℤ◌, ◌==◌, if◌then◌else◌, nat_le, nat_lt, slice_index, sum_by, IfSome}
 use Rattle.std.proofs.lemmas.Bool.{cases_Bool, eq-eqb, ne_eqb, eqb-true, leb-true, and_parts}
-use Rattle.std.proofs.lemmas.Int.{ints}
+use Rattle.std.proofs.lemmas.Int.{ints, to_z-of_z}
 use Rattle.ih_tables.specs.declared.drafts.Draft.{Draft}
 use Rattle.ih_tables.specs.declared.ids.RoomNo.{RoomNo}
 use Rattle.ih_tables.specs.declared.ids.Shift.{Shift}
 use Rattle.ih_tables.specs.declared.ids.NurseNo.{NurseNo}
 use Rattle.ih_tables.specs.declared.cells.Cell.TheVariants.{Care}
 use Rattle.ih_tables.specs.Sizes.{person_count, room_count, shift_count, nurse_count}
+use Rattle.ih_links.specs.Lists.{Linked}
 use Rattle.ih_plan.specs.declared.moves.Write.TheVariants.{SetCare}
 use Rattle.ih_plan.specs.Timetable.{Timetable, IsPlanOf, care_of, choice_of}
 use Rattle.ih_plan.specs.Writes.{put}
@@ -23,6 +24,7 @@ use Rattle.ih_plan.proofs.Loads.{room_load}
 use Rattle.ih_plan.proofs.SumBounds.{sum_below-add}
 use Rattle.ih_plan.proofs.SumLemmas.{sum_below-same, sum_by-which_below}
 use Rattle.ih_plan.proofs.Entries.{number_of_nurse}
+use Rattle.ih_nurses.specs.Ledger.{IsTied}
 use Rattle.ih_nurses.specs.Choice.{excess_of, seen_by, rise_by_choice}
 use Rattle.ih_nurses.specs.declared.loads.NurseLoad.{NurseLoad}
 use Rattle.ih_nurses.specs.Loads.{AreLoads, load_at, excess_rise}
@@ -159,3 +161,9 @@ module _ (I : Draft) (P : Timetable) (r : RoomNo) (k : Shift) (new : Option Nurs
       let right = sum_below-add (person_count I) (there (seen_of I Q)) (there before) in
       apart-same come gone (seen_by I Q (present I P r.0 (day_of k.0))) (seen_by I P (present I P r.0 (day_of k.0)))
       (omega (arith, come_is, gone_is, a, b, p, q, moves, left, right))
+
+-- a rise that is told of the timetable that is kept, as a signed number of 64 bits, is one at each that it stands for
+pub rise-for : {I : Draft} {P plan : Timetable} {here : List Linked} {loads : List NurseLoad} {counts : List ℕ} → IsTied I P plan here loads counts
+    → (r : RoomNo) (k : Shift) (new : Option NurseNo) (f : Timetable → Timetable → ℕ) (z : ℤ) → FitsSigned w64 z → z ≡ rise_by_choice plan r k new (f plan)
+    → to_z w64 (of_z w64 z) ≡ rise_by_choice P r k new (f P)
+rise-for known r k new f z fits e = subst (λ (S : Timetable). to_z w64 (of_z w64 z) ≡ rise_by_choice S r k new (f S)) known.plan_is (to_z-of_z w64 z fits ∙ e)

@@ -108,6 +108,14 @@ module _ {I : Draft} {P : Timetable} {x : ℕ} {s : ShiftSpan} {old counts : Lis
     each = λ y m mh. omega (arith, each y m mh, so_far.each y m mh, first_for-more P x s y m j nurse is);
   }
 
+  pub counted-all : j ≡ s.len → AreCounted I P x s old counts j
+      → (y m : ℕ) → m < nurse_count I → count_at I counts y m ≡ count_at I old y m + first_for P x s y m s.len
+  counted-all all so_far = (rw all at so_far).each
+
+  pub uncounted-all : j ≡ s.len → AreUncounted I P x s old counts j
+      → (y m : ℕ) → m < nurse_count I → count_at I counts y m + first_for P x s y m s.len ≡ count_at I old y m
+  uncounted-all all so_far = (rw all at so_far).each
+
   pub uncounted-more : AreUncounted I P x s old counts j → (nurse : Option NurseNo) → nurse ≡ choice_of P s.room.0 (s.from + j) → (new : List ℕ) → length new ≡ length counts
       → ((y m : ℕ) → m < nurse_count I → count_at I new y m + one_of x nurse y m ≡ count_at I counts y m) → AreUncounted I P x s old new (j + 1)
   uncounted-more so_far nurse is new len each = record {

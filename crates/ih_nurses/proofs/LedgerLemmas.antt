@@ -1,15 +1,16 @@
 -- What a ledger stands for after a patient enters or leaves.
-use Rattle.std.proofs.Common.{◌≡◌, ℕ, ◌+◌, ◌<◌, ◌≤◌, refl, arith, sym, subst, ◌∙◌, Bool, true, false, List, Option, Some, None}
-use Rattle.std.specs.Prelude.{◌&&◌, ◌||◌, ◌==◌, not, IfSome}
+use Rattle.std.proofs.Common.{◌≡◌, ℕ, ◌+◌, ◌<◌, ◌≤◌, refl, arith, ap, sym, subst, ◌∙◌, Bool, true, false, List, Option, Some, None}
+use Rattle.std.specs.Prelude.{◌&&◌, ◌||◌, ◌==◌, not, option_map, IfSome}
 use Rattle.std.proofs.lemmas.Bool.{and_parts, eq-eqb, eqb-true}
 use Rattle.ih_tables.specs.declared.drafts.Draft.{Draft}
+use Rattle.ih_tables.specs.declared.ids.NurseNo.{NurseNo}
 use Rattle.ih_tables.specs.declared.ids.PatientNo.{PatientNo}
 use Rattle.ih_tables.specs.Sizes.{patient_count, room_count, nurse_count, shift_count}
 use Rattle.ih_links.specs.Lists.{Linked}
 use Rattle.ih_plan.specs.declared.moves.Placement.{Placement}
 use Rattle.ih_plan.specs.declared.moves.Write.{Write}
 use Rattle.ih_plan.specs.declared.moves.Write.TheVariants.{SetStay}
-use Rattle.ih_plan.specs.Timetable.{Timetable, IsPlanOf, IsPlacement, stay_of}
+use Rattle.ih_plan.specs.Timetable.{Timetable, IsPlanOf, IsPlacement, stay_of, care_of, choice_of}
 use Rattle.ih_plan.specs.Writes.{put}
 use Rattle.ih_plan.specs.Persons.{person_of}
 use Rattle.ih_plan.specs.Presence.{is_present, covers, in_span, end_of}
@@ -21,7 +22,7 @@ use Rattle.ih_nurses.specs.Ledger.{IsTied}
 use Rattle.ih_nurses.specs.declared.loads.NurseLoad.{NurseLoad}
 use Rattle.ih_nurses.specs.Here.{AreSized, AreHere, is_here}
 use Rattle.ih_nurses.specs.Loads.{IsTable, AreLoads, load_at, stay_load}
-use Rattle.ih_nurses.specs.Counts.{count_at}
+use Rattle.ih_nurses.specs.Counts.{AreCounts, count_at}
 use Rattle.ih_nurses.proofs.CountLemmas.{count-none}
 use Rattle.ih_nurses.proofs.AdmitLemmas.{IsAdmission, present-more, load-more, load-most}
 
@@ -115,10 +116,18 @@ module _ {I : Draft} {P plan : Timetable} {here : List Linked} {loads : List Nur
   pub stands-own : IsTied I plan plan here loads counts
   stands-own = subst (λ (S : Timetable). IsTied I S plan here loads counts) (sym known.plan_is) known
 
-  -- what is shown for its own timetable holds for each for which it stands
-  pub stands-for : (w : Write) {next : Timetable} {new_here : List Linked} {new_loads : List NurseLoad} {new_counts : List ℕ}
-      → IsTied I (put w plan) next new_here new_loads new_counts → IsTied I (put w P) next new_here new_loads new_counts
-  stands-for w {next} {new_here} {new_loads} {new_counts} after = subst (λ (S : Timetable). IsTied I (put w S) next new_here new_loads new_counts) known.plan_is after
+  -- tables that fit its own timetable after a write make it stand for each that it stood for, after that write
+  pub stands-for : (w : Write) {next : Timetable} {new_here kept_here : List Linked} {new_loads kept_loads : List NurseLoad} {new_counts kept_counts : List ℕ}
+      → kept_here ≡ new_here → kept_loads ≡ new_loads → kept_counts ≡ new_counts → next ≡ put w plan → IsPlanOf I (put w plan)
+      → AreHere I (put w plan) new_here → AreLoads I (put w plan) new_loads → AreCounts I (put w plan) new_counts
+      → IsTied I (put w P) next kept_here kept_loads kept_counts
+  stands-for w {next} {new_here} {kept_here} {new_loads} {kept_loads} {new_counts} {kept_counts} a b e plan_is fits here_are loads_are counts_are =
+      rw (a, b, e) (subst (λ (S : Timetable). IsTied I (put w S) next new_here new_loads new_counts) known.plan_is
+      (record { plan_is = plan_is; fits = fits; here_are = here_are; loads_are = loads_are; counts_are = counts_are }))
+
+  -- the nurse whom the timetable that is kept chooses
+  pub cared : (r k : ℕ) {n : Option NurseNo} → n ≡ choice_of plan r k → option_map (λ (a : NurseNo). a.0) n ≡ care_of P r k
+  cared r k e = ap (option_map (λ (a : NurseNo). a.0)) (e ∙ ap (λ (S : Timetable). choice_of S r k) known.plan_is)
 
   -- who isn't admitted is in no list
   pub not-here : (p : ℕ) → p < patient_count I → stay_of P p ≡ None → (s e : ℕ) → s < room_count I → e < I.days → is_here here s e p ≡ false

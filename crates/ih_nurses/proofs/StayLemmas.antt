@@ -37,6 +37,10 @@ pub record IsStayShift (I : Draft) (P : Timetable) (p : ℕ) (at : Placement) (k
   pub nurse_is : nurse ≡ choice_of P at.room.0 k
   pub load_is : load ≡ slice_index (person_of I p).workload (k - 3 * at.day.0)
 
+pub stay-shift : {I : Draft} {P : Timetable} {p : ℕ} {at : Placement} {k end load : ℕ} {nurse : Option NurseNo} → 3 * at.day.0 ≤ k → k < 3 * end → end ≡ end_of I p at
+    → nurse ≡ choice_of P at.room.0 k → load ≡ slice_index (person_of I p).workload (k - 3 * at.day.0) → IsStayShift I P p at k load nurse
+stay-shift low high end nurse load = record { low = low; high = omega arith; nurse_is = nurse; load_is = load }
+
 module _ (I : Draft) (P : Timetable) (p : ℕ) (at : Placement) where
   outside : (m j : ℕ) → covers at.day.0 (person_of I p).length_of_stay (day_of j) ≡ false → stay_load I P p at m j ≡ 0
   outside m j e = rw e (if-none (is_number (care_of P at.room.0 j) m))
@@ -91,17 +95,18 @@ module _ {I : Draft} {P : Timetable} {p : ℕ} {at : Placement} {old : List Nurs
   taken-none table = record { table = table; each = λ m j mh jh. let none = given-none I P p at m j in omega arith }
 
 module _ {I : Draft} {P : Timetable} {p : ℕ} {at : Placement} {old loads : List NurseLoad} where
-  pub added-more : {k load : ℕ} {nurse : Option NurseNo} → AreAdded I P p at old loads k → IsStayShift I P p at k load nurse → (new : List NurseLoad) → IsTable I new
+  pub added-more : {k load : ℕ} {nurse : Option NurseNo} → AreAdded I P p at old loads k → IsStayShift I P p at k load nurse → {new : List NurseLoad} → IsTable I new
       → ((m j : ℕ) → m < nurse_count I → j < shift_count I → load_at I new m j ≡ load_at I loads m j + share nurse k load m j) → AreAdded I P p at old new (k + 1)
-  added-more {k} {load} {nurse} so_far now new table each = record {
+  added-more {k} {load} {nurse} so_far now {new} table each = record {
     table = table;
     each = λ m j mh jh. omega (arith, given-more I P p at now m j, so_far.each m j mh jh, each m j mh jh);
   }
 
-  pub added-all : AreAdded I P p at old loads (3 * end_of I p at)
+  pub added-all : {k end : ℕ} → k ≡ 3 * end → end ≡ end_of I p at → AreAdded I P p at old loads k
       → (m j : ℕ) → m < nurse_count I → j < shift_count I → load_at I loads m j ≡ load_at I old m j + stay_load I P p at m j
-  added-all so_far m j mh jh =
-      omega (arith, given-all I P p at m j jh, so_far.each m j mh jh)
+  added-all {k} {end} whole is so_far m j mh jh =
+      let all : k ≡ 3 * end_of I p at = omega arith in
+      omega (arith, given-all I P p at m j jh, (rw all at so_far).each m j mh jh)
 
   -- the number that is added to is as it was
   pub added-fits : {k : ℕ} → AreAdded I P p at old loads k → k < shift_count I → (m : ℕ) → m < nurse_count I → load_at I loads m k ≡ load_at I old m k
@@ -110,17 +115,18 @@ module _ {I : Draft} {P : Timetable} {p : ℕ} {at : Placement} {old loads : Lis
       let none : given_before I P p at k m k ≡ 0 = rw (le-ltb k k (omega arith)) refl in
       omega arith
 
-  pub taken-more : {k load : ℕ} {nurse : Option NurseNo} → AreTaken I P p at old loads k → IsStayShift I P p at k load nurse → (new : List NurseLoad) → IsTable I new
+  pub taken-more : {k load : ℕ} {nurse : Option NurseNo} → AreTaken I P p at old loads k → IsStayShift I P p at k load nurse → {new : List NurseLoad} → IsTable I new
       → ((m j : ℕ) → m < nurse_count I → j < shift_count I → load_at I new m j + share nurse k load m j ≡ load_at I loads m j) → AreTaken I P p at old new (k + 1)
-  taken-more {k} {load} {nurse} so_far now new table each = record {
+  taken-more {k} {load} {nurse} so_far now {new} table each = record {
     table = table;
     each = λ m j mh jh. omega (arith, given-more I P p at now m j, so_far.each m j mh jh, each m j mh jh);
   }
 
-  pub taken-all : AreTaken I P p at old loads (3 * end_of I p at)
+  pub taken-all : {k end : ℕ} → k ≡ 3 * end → end ≡ end_of I p at → AreTaken I P p at old loads k
       → (m j : ℕ) → m < nurse_count I → j < shift_count I → load_at I loads m j + stay_load I P p at m j ≡ load_at I old m j
-  taken-all so_far m j mh jh =
-      omega (arith, given-all I P p at m j jh, so_far.each m j mh jh)
+  taken-all {k} {end} whole is so_far m j mh jh =
+      let all : k ≡ 3 * end_of I p at = omega arith in
+      omega (arith, given-all I P p at m j jh, (rw all at so_far).each m j mh jh)
 
   -- there is enough to take from
   pub taken-enough : {k load : ℕ} {nurse : Option NurseNo} → AreTaken I P p at old loads k → IsStayShift I P p at k load nurse → k < shift_count I

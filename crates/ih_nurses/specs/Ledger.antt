@@ -1,8 +1,13 @@
 -- What ties a ledger of nurses to the timetable that it stands for.
-use Rattle.std.specs.Prelude.{◌≡◌, ℕ, List}
+use Rattle.std.specs.Prelude.{◌≡◌, ◌^◌, ℕ, List}
 use Rattle.ih_tables.specs.declared.drafts.Draft.{Draft}
+use Rattle.ih_tables.specs.declared.bills.Bill.{Bill}
+use Rattle.ih_tables.specs.declared.cells.Cell.{Cell}
+use Rattle.ih_tables.specs.Bills.{IsWithin}
 use Rattle.ih_links.specs.Lists.{Linked}
 use Rattle.ih_plan.specs.Timetable.{Timetable, IsPlanOf}
+use Rattle.ih_plan.specs.BillOf.{as_bill}
+use Rattle.ih_plan.specs.Cells.{part_at}
 use Rattle.ih_nurses.specs.declared.nurses.Nurses.{Nurses}
 use Rattle.ih_nurses.specs.declared.loads.NurseLoad.{NurseLoad}
 use Rattle.ih_nurses.specs.Here.{AreHere}
@@ -26,3 +31,8 @@ IsLedgerOf I P ledger = IsTied I P ledger.plan ledger.here.items ledger.loads.it
 -- the timetable that the ledger keeps
 abbrev pub plan_of : Nurses → Timetable
 plan_of ledger = ledger.plan
+
+-- The bill is a cell's part, at whichever timetable the ledger stands for, and each of its numbers is at most 10^11.
+pub record TellsPart (I : Draft) (ledger : Nurses) (c : Cell) (b : Bill) : Type 0 where
+  pub part : (P : Timetable) → IsLedgerOf I P ledger → b ≡ as_bill (part_at I P c)
+  pub within : IsWithin (10 ^ 11) b

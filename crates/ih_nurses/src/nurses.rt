@@ -1,19 +1,20 @@
 //! The ledger of nurses.
 
-ghost use Rattle.std.specs.Prelude.{◌≡◌, ◌<◌, ◌^◌, None, Some, IfOk};
+ghost use Rattle.std.specs.Prelude.{◌≡◌, ◌<◌, None, Some, IfOk};
 ghost use Rattle.ih_tables.specs.declared.cells.Cell.TheVariants.{RoomShift, NurseShift, Care};
 ghost use Rattle.ih_tables.specs.Sizes.{patient_count, person_count, room_count, shift_count, nurse_count};
-ghost use Rattle.ih_tables.specs.{declared.drafts.Draft.Draft, declared.ids.NurseNo.NurseNo, Bills.IsWithin};
+ghost use Rattle.ih_tables.specs.{declared.drafts.Draft.Draft, declared.ids.NurseNo.NurseNo};
 ghost use Rattle.ih_plan.specs.Timetable.{Timetable, IsPlacement, stay_of, empty};
 ghost use Rattle.ih_plan.specs.{declared.moves.Write.TheVariants.SetStay, declared.moves.Write.TheVariants.SetCare};
-ghost use Rattle.ih_plan.specs.{Writes.put, BillOf.as_bill, Cells.part_at};
-ghost use Rattle.ih_nurses.specs.Ledger.{IsLedgerOf, plan_of};
+ghost use Rattle.ih_plan.specs.{Writes.put};
+ghost use Rattle.ih_nurses.specs.Ledger.{IsLedgerOf, TellsPart, plan_of};
 
 use crate::bills::{NursingCosts, bill_of};
 use crate::counts::{add_shift_span, move_counts, take_shift_span};
 use crate::loads::{NurseLoad, load, move_load, overload};
 use crate::presence::{enter_days, leave_days};
-use crate::rooms::{choice_costs, missing_skill, workload_in};
+use crate::room_sums::room_sums;
+use crate::rooms::{choice_costs, workload_in};
 use crate::seen::nurses_over;
 use crate::shift_spans::{placed_shift_span, shift_span_of};
 use crate::start::{no_counts, no_loads, occupants_here};
@@ -73,13 +74,13 @@ impl Nurses {
         let end = end_of(inst, p, at);
         enter_days(inst, self.here.as_mut_slice(), at.room, at.day.0, end, p.0);
         add_stay(inst, &self.plan, self.loads.as_mut_slice(), p, at);
-        let shift_span = placed_shift_span(inst, p, at);
+        let counts = self.counts.as_mut_slice();
         add_shift_span(
             inst,
             &self.plan,
-            self.counts.as_mut_slice(),
+            counts,
             p.0,
-            shift_span,
+            placed_shift_span(inst, p, at),
         );
         self.plan.put(&Write::SetStay(p, Some(at)));
     }
@@ -95,13 +96,13 @@ impl Nurses {
         let end = end_of(inst, p, at);
         leave_days(inst, self.here.as_mut_slice(), at.room, at.day.0, end, p.0);
         take_stay(inst, &self.plan, self.loads.as_mut_slice(), p, at);
-        let shift_span = placed_shift_span(inst, p, at);
+        let counts = self.counts.as_mut_slice();
         take_shift_span(
             inst,
             &self.plan,
-            self.counts.as_mut_slice(),
+            counts,
             p.0,
-            shift_span,
+            placed_shift_span(inst, p, at),
         );
         self.plan.put(&Write::SetStay(p, None));
     }
@@ -131,14 +132,13 @@ impl Nurses {
         requires room { r.0 < room_count inst.now.draft }
         requires shift { k.0 < shift_count inst.now.draft }
         requires stands { (P : Timetable) × IsLedgerOf inst.now.draft P self.now }
-        ensures part { (P : Timetable) → IsLedgerOf inst.now.draft P self.now
-            → result ≡ as_bill (part_at inst.now.draft P (RoomShift r k)) }
-        ensures within { IsWithin (10 ^ 11) result }
+        ensures { TellsPart inst.now.draft self.now (RoomShift r k) result }
     {
         let persons = &self.here[(k.0 / 3) as usize];
         let nurse = nurse_at(inst, &self.plan, r, k);
-        let missing = missing_skill(inst, &self.plan, persons, r, k, nurse);
-        bill_of(choice_costs(inst, persons, r, k, nurse, missing))
+        let counts = self.counts.as_slice();
+        let sums = room_sums(inst, &self.plan, counts, persons, r, k, nurse, nurse);
+        bill_of(choice_costs(inst, persons, r, k, nurse, sums.new_missing))
     }
 
     /// A nurse's part of the bill in a shift: the workload above the maximum, where the shift is worked. Each number is
@@ -147,9 +147,7 @@ impl Nurses {
         requires nurse { n.0 < nurse_count inst.now.draft }
         requires shift { k.0 < shift_count inst.now.draft }
         requires stands { (P : Timetable) × IsLedgerOf inst.now.draft P self.now }
-        ensures part { (P : Timetable) → IsLedgerOf inst.now.draft P self.now
-            → result ≡ as_bill (part_at inst.now.draft P (NurseShift n k)) }
-        ensures within { IsWithin (10 ^ 11) result }
+        ensures { TellsPart inst.now.draft self.now (NurseShift n k) result }
     {
         let load = load(inst, self.loads.as_slice(), n, k);
         bill_of(NursingCosts {
@@ -165,9 +163,7 @@ impl Nurses {
     pub fn care_bill(&self, inst: &Instance, x: PersonNo) -> Bill
         requires person { x.0 < person_count inst.now.draft }
         requires stands { (P : Timetable) × IsLedgerOf inst.now.draft P self.now }
-        ensures part { (P : Timetable) → IsLedgerOf inst.now.draft P self.now
-            → result ≡ as_bill (part_at inst.now.draft P (Care x)) }
-        ensures within { IsWithin (10 ^ 11) result }
+        ensures { TellsPart inst.now.draft self.now (Care x) result }
     {
         bill_of(NursingCosts {
             off: 0,

@@ -1,11 +1,11 @@
 //! What the persons in a room and its nurse give, by a walk over the persons' list.
 
-ghost use Rattle.std.specs.Prelude.{◌≡◌, ◌<◌, ◌≤◌, ◌-◌, length, sum_by, map, option_map, is_none, not, ◌&&◌, IfSome};
+ghost use Rattle.std.specs.Prelude.{◌≡◌, ◌<◌, ◌≤◌, length, sum_by, option_map, is_none, not, ◌&&◌, IfSome};
 ghost use Rattle.ih_tables.specs.declared.ids.NurseNo.{NurseNo};
 ghost use Rattle.ih_tables.specs.Sizes.{person_count, nurse_count, shift_count};
 ghost use Rattle.ih_links.specs.Lists.{list_of, without, AreNodes};
-ghost use Rattle.ih_plan.specs.Costs.{skill_missing, not_working, is_empty};
-ghost use Rattle.ih_plan.specs.{Timetable.IsPlanOf, Presence.workload_of, Presence.skill_of, Sums.bit};
+ghost use Rattle.ih_plan.specs.Costs.{not_working, is_empty};
+ghost use Rattle.ih_plan.specs.{Timetable.IsPlanOf, Presence.workload_of, Sums.bit};
 
 use crate::bills::NursingCosts;
 use ih_links::Links;
@@ -30,55 +30,6 @@ pub fn workload_in(inst: &Instance, plan: &Plan, persons: &Links, r: RoomNo, k: 
         at = persons.next(x);
     }
     sum
-}
-
-// The required skills above a level of the persons in a room's list in a shift.
-fn skill_above(
-    inst: &Instance,
-    plan: &Plan,
-    persons: &Links,
-    r: RoomNo,
-    k: Shift,
-    level: u32,
-) -> u32
-    requires plan { IsPlanOf inst.now.draft plan.now }
-    requires room { r.0 < length persons.now.lists }
-    requires persons { persons.now.nodes ≡ person_count inst.now.draft }
-    ensures sum { result ≡ sum_by (λ x. skill_of inst.now.draft plan.now k.0 x - level) (list_of persons.now r.0) }
-    ensures bound { result ≤ 2560000 }
-    ensures nodes { AreNodes (person_count inst.now.draft) (list_of persons.now r.0) }
-{
-    let mut sum = 0;
-    let mut at = persons.first(r.0);
-    while let Some(x) = at {
-        let asked = asked_of(inst, plan, x, k.0);
-        sum += asked.skill.saturating_sub(level);
-        at = persons.next(x);
-    }
-    sum
-}
-
-/// The required skills above the nurse's of the persons in a room's list in a shift, and 0 where there is no nurse.
-#[inline(always)]
-pub fn missing_skill(
-    inst: &Instance,
-    plan: &Plan,
-    persons: &Links,
-    r: RoomNo,
-    k: Shift,
-    n: Option<NurseNo>,
-) -> u32
-    requires plan { IsPlanOf inst.now.draft plan.now }
-    requires room { r.0 < length persons.now.lists }
-    requires persons { persons.now.nodes ≡ person_count inst.now.draft }
-    requires nurse { IfSome n (λ a. a.0 < nurse_count inst.now.draft) }
-    ensures { result ≡ skill_missing inst.now.draft (option_map (λ (a : NurseNo). a.0) n)
-        (map (skill_of inst.now.draft plan.now k.0) (list_of persons.now r.0)) }
-{
-    match n {
-        None => 0,
-        Some(a) => skill_above(inst, plan, persons, r, k, inst.nurse(a).skill_level),
-    }
 }
 
 /// 1 where persons are in a room's list and there is no nurse, and 0 where not.

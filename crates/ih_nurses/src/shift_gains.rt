@@ -21,11 +21,11 @@ use ih_tables::{Instance, NurseNo, PatientNo, RoomNo, Shift};
 #[derive(Clone, Copy)]
 pub struct ShiftGain {
     /// 1 where the room has no nurse, and nobody but the patient, and 0 where not.
-    pub alone: u32,
+    pub uncovered: u32,
     /// The skill above the nurse's that the patient requires.
-    pub skill: u32,
+    pub missing_skill: u32,
     /// The workload above the nurse's maximum that comes with the patient.
-    pub load: u32,
+    pub overload: u32,
 }
 
 // The skill above the nurse's that the patient requires in a shift of the placement.
@@ -54,30 +54,22 @@ impl Nurses {
 
     // The workload above the maximum that comes with the patient to the nurse who has the room in the shift.
     #[inline(always)]
-    fn load_gain(
-        &self,
-        inst: &Instance,
-        n: NurseNo,
-        k: Shift,
-        p: PatientNo,
-        at: Placement,
-        visit: &Visit<'_>,
-    ) -> u32
+    fn load_gain(&self, inst: &Instance, n: NurseNo, k: Shift, visit: &Visit<'_>) -> u32
         requires nurse { n.0 < nurse_count inst.now.draft }
         requires shift { k.0 < shift_count inst.now.draft }
-        requires patient { p.0 < patient_count inst.now.draft }
-        requires placement { IsPlacement inst.now.draft at }
-        requires counted { covers at.day.0 (person_of inst.now.draft p.0).length_of_stay (day_of k.0) ≡ true }
+        requires patient { visit.now.p.0 < patient_count inst.now.draft }
+        requires placement { IsPlacement inst.now.draft visit.now.at }
+        requires counted { covers visit.now.at.day.0 (person_of inst.now.draft visit.now.p.0).length_of_stay (day_of k.0) ≡ true }
         requires stands { (P : Timetable) × IsLedgerOf inst.now.draft P self.now
-            × (care_of P at.room.0 k.0 ≡ Some n.0) }
-        requires visit { IsVisit inst.now.draft p.0 (stay_of (plan_of self.now) p.0) at
+            × (care_of P visit.now.at.room.0 k.0 ≡ Some n.0) }
+        requires visit { IsVisit inst.now.draft visit.now.p.0 (stay_of (plan_of self.now) visit.now.p.0) visit.now.at
             visit.now.workload.now visit.now.skill.now visit.now.before }
         ensures { (P : Timetable) → IsLedgerOf inst.now.draft P self.now
-            → pos result ≡ rise_by_placement P p at (λ Q. overload_in inst.now.draft Q n k) }
+            → pos result ≡ rise_by_placement P visit.now.p visit.now.at (λ Q. overload_in inst.now.draft Q n k) }
     {
         let all = load(inst, self.loads.as_slice(), n, k);
-        let come = entry(visit.workload, at, k);
-        let gone = gone(inst, &self.plan, p, at, visit, n, k, come);
+        let come = entry(visit.workload, visit.at, k);
+        let gone = gone(inst, &self.plan, visit, n, k, come);
         let without = all.work - gone;
         let with = without + come;
         overload(all, with) - overload(all, without)
@@ -85,38 +77,34 @@ impl Nurses {
 
     /// What a shift of a placement's room costs more with the patient there than without.
     #[inline(always)]
-    pub fn shift_gain(
-        &self,
-        inst: &Instance,
-        k: Shift,
-        p: PatientNo,
-        at: Placement,
-        visit: &Visit<'_>,
-    ) -> ShiftGain
+    pub fn shift_gain(&self, inst: &Instance, k: Shift, visit: &Visit<'_>) -> ShiftGain
         requires shift { k.0 < shift_count inst.now.draft }
-        requires patient { p.0 < patient_count inst.now.draft }
-        requires placement { IsPlacement inst.now.draft at }
-        requires counted { covers at.day.0 (person_of inst.now.draft p.0).length_of_stay (day_of k.0) ≡ true }
+        requires patient { visit.now.p.0 < patient_count inst.now.draft }
+        requires placement { IsPlacement inst.now.draft visit.now.at }
+        requires counted { covers visit.now.at.day.0 (person_of inst.now.draft visit.now.p.0).length_of_stay (day_of k.0) ≡ true }
         requires stands { (P : Timetable) × IsLedgerOf inst.now.draft P self.now }
-        requires visit { IsVisit inst.now.draft p.0 (stay_of (plan_of self.now) p.0) at
+        requires visit { IsVisit inst.now.draft visit.now.p.0 (stay_of (plan_of self.now) visit.now.p.0) visit.now.at
             visit.now.workload.now visit.now.skill.now visit.now.before }
-        ensures alone { (P : Timetable) → IsLedgerOf inst.now.draft P self.now
-            → pos result.alone ≡ rise_by_placement P p at (λ Q. uncovered_in inst.now.draft Q at.room k) }
-        ensures skill { (P : Timetable) → IsLedgerOf inst.now.draft P self.now
-            → pos result.skill ≡ rise_by_placement P p at (λ Q. missing_in inst.now.draft Q at.room k) }
-        ensures load { (P : Timetable) → IsLedgerOf inst.now.draft P self.now
-            → pos result.load ≡ rise_by_placement P p at (λ Q. excess_in inst.now.draft Q at.room k) }
+        ensures uncovered { (P : Timetable) → IsLedgerOf inst.now.draft P self.now
+            → pos result.uncovered ≡ rise_by_placement P visit.now.p visit.now.at
+            (λ Q. uncovered_in inst.now.draft Q visit.now.at.room k) }
+        ensures missing_skill { (P : Timetable) → IsLedgerOf inst.now.draft P self.now
+            → pos result.missing_skill ≡ rise_by_placement P visit.now.p visit.now.at
+            (λ Q. missing_in inst.now.draft Q visit.now.at.room k) }
+        ensures overload { (P : Timetable) → IsLedgerOf inst.now.draft P self.now
+            → pos result.overload ≡ rise_by_placement P visit.now.p visit.now.at
+            (λ Q. excess_in inst.now.draft Q visit.now.at.room k) }
     {
-        match nurse_at(inst, &self.plan, at.room, k) {
+        match nurse_at(inst, &self.plan, visit.at.room, k) {
             None => ShiftGain {
-                alone: self.alone_gain(inst, at.room, k, p),
-                skill: 0,
-                load: 0,
+                uncovered: self.alone_gain(inst, visit.at.room, k, visit.p),
+                missing_skill: 0,
+                overload: 0,
             },
             Some(n) => ShiftGain {
-                alone: 0,
-                skill: skill_gain(inst, n, k, at, visit.skill),
-                load: self.load_gain(inst, n, k, p, at, visit),
+                uncovered: 0,
+                missing_skill: skill_gain(inst, n, k, visit.at, visit.skill),
+                overload: self.load_gain(inst, n, k, visit),
             },
         }
     }

@@ -24,6 +24,8 @@ pub enum Before {
 /// What is the same in every shift of a patient's placement.
 #[derive(Clone, Copy)]
 pub struct Visit<'a> {
+    pub(crate) p: PatientNo,
+    pub(crate) at: Placement,
     // What the patient asks of a nurse in each shift of a stay, from the first on.
     pub(crate) workload: &'a [u32],
     pub(crate) skill: &'a [u32],
@@ -61,10 +63,14 @@ impl<'a> Visit<'a> {
         requires patient { p.0 < patient_count inst.now.draft }
         requires old { IfSome old (IsPlacement inst.now.draft) }
         requires placement { IsPlacement inst.now.draft at }
-        ensures { IsVisit inst.now.draft p.0 old at result.workload.now result.skill.now result.before }
+        ensures patient { result.p ≡ p }
+        ensures placement { result.at ≡ at }
+        ensures visit { IsVisit inst.now.draft p.0 old at result.workload.now result.skill.now result.before }
     {
         let a = inst.patient(p);
         Visit {
+            p,
+            at,
             workload: a.workload_produced.as_slice(),
             skill: a.skill_level_required.as_slice(),
             before: present_stay(inst, p, old, at),
@@ -75,31 +81,22 @@ impl<'a> Visit<'a> {
 /// The workload that the patient's present stay gives, in a shift of a placement, to the nurse who has the placement's
 /// room. The patient makes the workload `come` in that shift of the placement.
 #[inline(always)]
-pub fn gone(
-    inst: &Instance,
-    plan: &Plan,
-    p: PatientNo,
-    at: Placement,
-    visit: &Visit<'_>,
-    n: NurseNo,
-    k: Shift,
-    come: u32,
-) -> u32
+pub fn gone(inst: &Instance, plan: &Plan, visit: &Visit<'_>, n: NurseNo, k: Shift, come: u32) -> u32
     requires plan { IsPlanOf inst.now.draft plan.now }
-    requires patient { p.0 < patient_count inst.now.draft }
-    requires counted { covers at.day.0 (person_of inst.now.draft p.0).length_of_stay (day_of k.0) ≡ true }
+    requires patient { visit.now.p.0 < patient_count inst.now.draft }
+    requires counted { covers visit.now.at.day.0 (person_of inst.now.draft visit.now.p.0).length_of_stay (day_of k.0) ≡ true }
     requires shift { k.0 < shift_count inst.now.draft }
-    requires nurse { care_of plan.now at.room.0 k.0 ≡ Some n.0 }
-    requires visit { IsVisit inst.now.draft p.0 (stay_of plan.now p.0) at
+    requires nurse { care_of plan.now visit.now.at.room.0 k.0 ≡ Some n.0 }
+    requires visit { IsVisit inst.now.draft visit.now.p.0 (stay_of plan.now visit.now.p.0) visit.now.at
         visit.now.workload.now visit.now.skill.now visit.now.before }
-    requires come { come ≡ slice_index (person_of inst.now.draft p.0).workload (k.0 - 3 * at.day.0) }
+    requires come { come ≡ slice_index (person_of inst.now.draft visit.now.p.0).workload (k.0 - 3 * visit.now.at.day.0) }
     requires small { come ≤ 100000 }
-    ensures value { result ≡ given inst.now.draft plan.now p.0 (stay_of plan.now p.0) n.0 k.0 }
+    ensures value { result ≡ given inst.now.draft plan.now visit.now.p.0 (stay_of plan.now visit.now.p.0) n.0 k.0 }
     ensures bound { result ≤ 100000 }
 {
     match visit.before {
         Before::Apart => 0,
         Before::Same => come,
-        Before::Other(stay) => given(inst, plan, p, visit.workload, stay, n, k),
+        Before::Other(stay) => given(inst, plan, visit.p, visit.workload, stay, n, k),
     }
 }

@@ -1,5 +1,5 @@
-use Rattle.std.proofs.Common.{arith, ◌≡◌}
-use Rattle.ih_nurses.proofs.CountLemmas.{counted-none, counted-fits, counted-more}
+use Rattle.std.proofs.Common.{arith}
+use Rattle.ih_nurses.proofs.CountLemmas.{counted-none, counted-fits, counted-more, counted-all}
 use Rattle.ih_nurses.proofs.counts.add_shift_span.Goals as goal
 
 pub loop-j-init : goal.loop-j-init
@@ -15,7 +15,4 @@ pub loop-j-preserved : goal.loop-j-preserved
 loop-j-preserved c = counted-more c.loop-j.invariant c.nurse_at-nurse.result c.nurse_at-nurse.ensures.choice c.add_count.new.counts c.add_count.ensures.len c.add_count.ensures.each
 
 pub returns-clause-each : goal.returns-clause-each
-returns-clause-each c =
-    let all : c.loop-j.j ≡ c.args.s.len = omega arith in
-    let whole = rw all at c.loop-j.invariant in
-    whole.each
+returns-clause-each c = counted-all (omega arith) c.loop-j.invariant

@@ -1,5 +1,5 @@
-use Rattle.std.proofs.Common.{arith, ◌≡◌}
-use Rattle.ih_nurses.proofs.CountLemmas.{uncounted-none, uncounted-enough, uncounted-more}
+use Rattle.std.proofs.Common.{arith}
+use Rattle.ih_nurses.proofs.CountLemmas.{uncounted-none, uncounted-enough, uncounted-more, uncounted-all}
 use Rattle.ih_nurses.proofs.counts.take_shift_span.Goals as goal
 
 pub loop-j-init : goal.loop-j-init
@@ -13,7 +13,4 @@ pub loop-j-preserved : goal.loop-j-preserved
 loop-j-preserved c = uncounted-more c.loop-j.invariant c.nurse_at-nurse.result c.nurse_at-nurse.ensures.choice c.take_count.new.counts c.take_count.ensures.len c.take_count.ensures.each
 
 pub returns-clause-each : goal.returns-clause-each
-returns-clause-each c =
-    let all : c.loop-j.j ≡ c.args.s.len = omega arith in
-    let whole = rw all at c.loop-j.invariant in
-    whole.each
+returns-clause-each c = uncounted-all (omega arith) c.loop-j.invariant

@@ -1,4 +1,4 @@
-use Rattle.std.proofs.Common.{◌∙◌, ap, arith, subst, [], ◌∷◌, Option}
+use Rattle.std.proofs.Common.{◌≤◌, ◌∙◌, ap, arith, subst, [], ◌∷◌, Option}
 use Rattle.std.specs.Prelude.{option_map}
 use Rattle.ih_tables.specs.declared.ids.NurseNo.{NurseNo}
 use Rattle.ih_links.specs.Lists.{list_of, AreNodes}
@@ -27,19 +27,13 @@ overflow_add-work c =
 
 pub overflow_add-new_missing : goal.overflow_add-new_missing
 overflow_add-new_missing c =
-    omega (
-      arith,
-      sum-small c.args.inst.now.draft c.args.inst.now.valid c.loop-at.invariant.new_is c.in-Some.is (omega arith) c.saturating_sub-new_missing.result
-          (omega (arith, c.saturating_sub-new_missing.ensures, c.asked_of-asked.ensures.skill_bound)),
-    )
+    let small : c.saturating_sub-new_missing.result ≤ 1000 = omega (arith, c.saturating_sub-new_missing.ensures, c.asked_of-asked.ensures.skill_bound) in
+    omega (arith, sum-small c.args.inst.now.draft c.args.inst.now.valid c.loop-at.invariant.new_is c.in-Some.is (omega arith) c.saturating_sub-new_missing.result small)
 
 pub overflow_add-old_missing : goal.overflow_add-old_missing
 overflow_add-old_missing c =
-    omega (
-      arith,
-      sum-small c.args.inst.now.draft c.args.inst.now.valid c.loop-at.invariant.old_is c.in-Some.is (omega arith) c.saturating_sub-old_missing.result
-          (omega (arith, c.saturating_sub-old_missing.ensures, c.asked_of-asked.ensures.skill_bound)),
-    )
+    let small : c.saturating_sub-old_missing.result ≤ 1000 = omega (arith, c.saturating_sub-old_missing.ensures, c.asked_of-asked.ensures.skill_bound) in
+    omega (arith, sum-small c.args.inst.now.draft c.args.inst.now.valid c.loop-at.invariant.old_is c.in-Some.is (omega arith) c.saturating_sub-old_missing.result small)
 
 pub overflow_add-come : goal.overflow_add-come
 overflow_add-come c =

@@ -1,7 +1,6 @@
-use Rattle.std.proofs.Common.{arith, ◌≡◌, ◌*◌, ◌<◌}
+use Rattle.std.proofs.Common.{arith, ◌<◌}
 use Rattle.ih_tables.specs.Sizes.{shift_count}
-use Rattle.ih_plan.specs.Presence.{end_of}
-use Rattle.ih_nurses.proofs.StayLemmas.{added-none, added-more, added-all, added-fits}
+use Rattle.ih_nurses.proofs.StayLemmas.{stay-shift, added-none, added-more, added-all, added-fits}
 use Rattle.ih_nurses.proofs.stays.add_stay.Goals as goal
 
 pub loop-k-init : goal.loop-k-init
@@ -15,11 +14,7 @@ add_load-requires-clause-fits c = λ m mh.
 
 pub loop-k-preserved : goal.loop-k-preserved
 loop-k-preserved c =
-    added-more c.loop-k.invariant
-    (record { low = omega arith; high = omega (arith, c.end_of-end.ensures.value); nurse_is = c.nurse_at-nurse.ensures.choice; load_is = c.workload-load.ensures.value })
-    c.add_load.new.loads c.add_load.ensures.table c.add_load.ensures.each
+    added-more c.loop-k.invariant (stay-shift (omega arith) (omega arith) c.end_of-end.ensures.value c.nurse_at-nurse.ensures.choice c.workload-load.ensures.value) c.add_load.ensures.table c.add_load.ensures.each
 
 pub returns-clause-each : goal.returns-clause-each
-returns-clause-each c =
-    let whole : c.loop-k.k ≡ 3 * end_of c.args.inst.now.draft c.args.p.0 c.args.at = omega (arith, c.end_of-end.ensures.value) in
-    added-all (rw whole at c.loop-k.invariant)
+returns-clause-each c = added-all (omega arith) c.end_of-end.ensures.value c.loop-k.invariant

@@ -1,17 +1,16 @@
-use Rattle.std.proofs.Common.{◌≡◌, ◌<◌, ◌∙◌, of_z, rules, subst, to_z, w64}
-use Rattle.std.specs.Prelude.{FitsSigned, sum_by}
-use Rattle.std.proofs.lemmas.Int.{to_z-of_z}
+use Rattle.std.proofs.Common.{◌≡◌, ◌<◌, ◌∙◌, rules, subst}
+use Rattle.std.specs.Prelude.{sum_by}
 use Rattle.ih_tables.specs.declared.ids.NurseNo.{NurseNo}
 use Rattle.ih_tables.specs.Sizes.{nurse_count}
 use Rattle.ih_links.specs.Lists.{list_of}
-use Rattle.ih_plan.specs.Timetable.{Timetable}
 use Rattle.ih_plan.specs.Presence.{present, day_of, workload_of}
-use Rattle.ih_nurses.specs.Choice.{seen_by, rise_by_choice}
+use Rattle.ih_nurses.specs.Choice.{seen_by}
 use Rattle.ih_nurses.specs.Counts.{has_just}
 use Rattle.ih_nurses.specs.Gains.{off_in, uncovered_in, missing_in}
 use Rattle.ih_nurses.proofs.ChoiceLemmas.{cares-told}
 use Rattle.ih_nurses.proofs.ChoiceGainLemmas.{off-told, uncovered-told, missing-told, come-told, gone-told}
 use Rattle.ih_nurses.proofs.LedgerLemmas.{stands-own, all-some}
+use Rattle.ih_nurses.proofs.ChoiceLemmas.{rise-for}
 use Rattle.ih_nurses.proofs.RoomChangeLemmas.{IsRoomList}
 use Rattle.ih_nurses.proofs.ShiftLemmas.{sum-in_list}
 use Rattle.ih_nurses.proofs.nurses.Nurses.choice_gain.Goals as goal
@@ -25,48 +24,22 @@ loads_change-requires-clause-work c =
     ∙ sum-in_list I plan c.args.self.now.here.items c.index-persons.result.now c.args.r.0 c.args.k.0
     (workload_of I plan c.args.k.0) own.here_are c.requires.room c.requires.shift c.index-persons.ensures c.room_sums-sums.ensures.nodes
 
-pub returns-clause-off : goal.returns-clause-off
-returns-clause-off c = λ P known.
+pub returns : goal.returns
+returns c =
     let I = c.args.inst.now.draft in
     let plan = c.args.self.now.plan in
-    let own = stands-own known in
-    let fits : FitsSigned w64 c.rise.result = search rules in
-    subst (λ (S : Timetable). to_z w64 (of_z w64 c.rise.result) ≡ rise_by_choice S c.args.r c.args.k c.args.new (λ Q. off_in I Q c.args.r c.args.k)) known.plan_is
-    (to_z-of_z w64 c.rise.result fits ∙ (c.rise.ensures.value ∙ off-told I plan c.args.r c.args.k c.args.new own.fits c.requires.room c.requires.shift
-    c.nurse_at-old.result c.nurse_off.result c.nurse_off-2.result c.nurse_at-old.ensures.choice c.nurse_off.ensures c.nurse_off-2.ensures))
-
-pub returns-clause-uncovered : goal.returns-clause-uncovered
-returns-clause-uncovered c = λ P known.
-    let I = c.args.inst.now.draft in
-    let plan = c.args.self.now.plan in
-    let own = stands-own known in
-    let list : IsRoomList I plan c.args.self.now.here.items c.index-persons.result.now c.args.r.0 c.args.k.0 =
-    record { known = own.here_are; room = c.requires.room; shift = c.requires.shift; day_is = c.index-persons.ensures; nodes = c.uncovered.ensures.nodes } in
-    let fits : FitsSigned w64 c.rise-2.result = search rules in
-    subst (λ (S : Timetable). to_z w64 (of_z w64 c.rise-2.result) ≡ rise_by_choice S c.args.r c.args.k c.args.new (λ Q. uncovered_in I Q c.args.r c.args.k)) known.plan_is
-    (to_z-of_z w64 c.rise-2.result fits ∙ (c.rise-2.ensures.value ∙ uncovered-told I plan c.args.r c.args.k c.args.new own.fits c.requires.room c.requires.shift
-    _ _ list c.nurse_at-old.result c.uncovered.result c.uncovered-2.result c.nurse_at-old.ensures.choice c.uncovered.ensures.value c.uncovered-2.ensures.value))
-
-pub returns-clause-missing_skill : goal.returns-clause-missing_skill
-returns-clause-missing_skill c = λ P known.
-    let I = c.args.inst.now.draft in
-    let plan = c.args.self.now.plan in
-    let own = stands-own known in
-    let list : IsRoomList I plan c.args.self.now.here.items c.index-persons.result.now c.args.r.0 c.args.k.0 =
-    record { known = own.here_are; room = c.requires.room; shift = c.requires.shift; day_is = c.index-persons.ensures; nodes = c.uncovered.ensures.nodes } in
-    let fits : FitsSigned w64 c.rise-3.result = search rules in
-    subst (λ (S : Timetable). to_z w64 (of_z w64 c.rise-3.result) ≡ rise_by_choice S c.args.r c.args.k c.args.new (λ Q. missing_in I Q c.args.r c.args.k)) known.plan_is
-    (to_z-of_z w64 c.rise-3.result fits ∙ (c.rise-3.ensures.value ∙ missing-told I plan c.args.r c.args.k c.args.new own.fits c.requires.room c.requires.shift
-    _ _ list c.nurse_at-old.result c.room_sums-sums.result.new_missing c.room_sums-sums.result.old_missing c.nurse_at-old.ensures.choice
-    c.room_sums-sums.ensures.new_missing c.room_sums-sums.ensures.old_missing))
-
-pub returns-clause-nurses_seen : goal.returns-clause-nurses_seen
-returns-clause-nurses_seen c = λ P known.
-    let I = c.args.inst.now.draft in
-    let plan = c.args.self.now.plan in
-    let own = stands-own known in
-    let here = c.args.self.now.here.items in
+    let own = stands-own c.requires.stands.1 in
     let day = c.index-persons.result.now in
+    let list : IsRoomList I plan c.args.self.now.here.items day c.args.r.0 c.args.k.0 =
+    record { known = own.here_are; room = c.requires.room; shift = c.requires.shift; day_is = c.index-persons.ensures; nodes = c.uncovered.ensures.nodes } in
+    let off = off-told I plan c.args.r c.args.k c.args.new own.fits c.requires.room c.requires.shift
+    c.nurse_at-old.result c.nurse_off.result c.nurse_off-2.result c.nurse_at-old.ensures.choice c.nurse_off.ensures c.nurse_off-2.ensures in
+    let uncovered = uncovered-told I plan c.args.r c.args.k c.args.new own.fits c.requires.room c.requires.shift _ _ list
+    c.nurse_at-old.result c.uncovered.result c.uncovered-2.result c.nurse_at-old.ensures.choice c.uncovered.ensures.value c.uncovered-2.ensures.value in
+    let missing = missing-told I plan c.args.r c.args.k c.args.new own.fits c.requires.room c.requires.shift _ _ list c.nurse_at-old.result
+    c.room_sums-sums.result.new_missing c.room_sums-sums.result.old_missing c.nurse_at-old.ensures.choice
+    c.room_sums-sums.ensures.new_missing c.room_sums-sums.ensures.old_missing in
+    let here = c.args.self.now.here.items in
     let counts = c.args.self.now.counts.items in
     let sums = c.room_sums-sums.ensures in
     let nurse = all-some (λ (a : NurseNo). a.0 < nurse_count I) c.args.new c.requires.nurse in
@@ -80,6 +53,11 @@ returns-clause-nurses_seen c = λ P known.
     ∙ (sum-in_list I plan here day c.args.r.0 c.args.k.0 (has_just I counts 1 c.nurse_at-old.result) own.here_are c.requires.room c.requires.shift c.index-persons.ensures sums.nodes
     ∙ gone-told I plan c.args.r c.args.k counts own.counts_are c.requires.shift c.nurse_at-old.result c.nurse_at-old.ensures.nurse c.nurse_at-old.ensures.choice) in
     let told = cares-told I plan c.args.r c.args.k c.args.new own.fits c.requires.room c.requires.shift nurse c.room_sums-sums.result.come c.room_sums-sums.result.gone come gone in
-    let fits : FitsSigned w64 c.rise-4.result = search rules in
-    subst (λ (S : Timetable). to_z w64 (of_z w64 c.rise-4.result) ≡ rise_by_choice S c.args.r c.args.k c.args.new (λ Q. seen_by I Q (present I S c.args.r.0 (day_of c.args.k.0)))) known.plan_is
-    (to_z-of_z w64 c.rise-4.result fits ∙ (c.rise-4.ensures.value ∙ told))
+    record {
+      off = λ P known. rise-for known c.args.r c.args.k c.args.new (λ S Q. off_in I Q c.args.r c.args.k) c.rise.result (search rules) (c.rise.ensures.value ∙ off);
+      uncovered = λ P known. rise-for known c.args.r c.args.k c.args.new (λ S Q. uncovered_in I Q c.args.r c.args.k) c.rise-2.result (search rules) (c.rise-2.ensures.value ∙ uncovered);
+      missing_skill = λ P known. rise-for known c.args.r c.args.k c.args.new (λ S Q. missing_in I Q c.args.r c.args.k) c.rise-3.result (search rules) (c.rise-3.ensures.value ∙ missing);
+      nurses_seen = λ P known.
+          rise-for known c.args.r c.args.k c.args.new (λ S Q. seen_by I Q (present I S c.args.r.0 (day_of c.args.k.0))) c.rise-4.result (search rules) (c.rise-4.ensures.value ∙ told);
+      overload = search rules;
+    }

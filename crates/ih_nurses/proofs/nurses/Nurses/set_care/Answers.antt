@@ -1,4 +1,4 @@
-use Rattle.std.proofs.Common.{◌≡◌, ◌∙◌, sym}
+use Rattle.std.proofs.Common.{◌≡◌, ◌∙◌, refl, sym}
 use Rattle.std.proofs.lemmas.List.{with_items_is}
 use Rattle.ih_plan.specs.declared.moves.Write.TheVariants.{SetCare}
 use Rattle.ih_plan.specs.Presence.{workload_of}
@@ -40,16 +40,13 @@ returns c = λ P known.
     let total : c.workload_in-load.result ≡ room_load c.args.inst.now.draft c.args.self.now.plan c.args.k.0 c.args.r.0 =
     c.workload_in-load.ensures.sum ∙ sum-in_list c.args.inst.now.draft c.args.self.now.plan c.args.self.now.here.items c.index-persons.result.now c.args.r.0 c.args.k.0
     (workload_of c.args.inst.now.draft c.args.self.now.plan c.args.k.0) own.here_are c.requires.room c.requires.shift c.index-persons.ensures c.workload_in-load.ensures.nodes in
-    rw (
-      with_items_is c.args.self.now.loads c.move_load.new.loads (c.move_load.ensures.table.len ∙ (sym own.loads_are.table.len ∙ sym c.args.self.now.loads.ok.0)),
-      with_items_is c.args.self.now.counts c.move_counts.new.counts (c.move_counts.ensures.len ∙ (sym own.counts_are.len ∙ sym c.args.self.now.counts.ok.0)),
-    )
-    (stands-for known (SetCare c.args.r c.args.k c.args.n) (record {
-      plan_is = c.put.ensures;
-      fits = put-plan c.args.inst.now.draft c.args.self.now.plan (SetCare c.args.r c.args.k c.args.n) own.fits (c.requires.room, c.requires.shift, c.requires.nurse);
-      here_are = here-kept c.args.inst.now.draft c.args.self.now.plan c.args.r c.args.k c.args.n c.args.self.now.here.items own.here_are;
-      loads_are = loads-moved c.args.inst.now.draft c.args.self.now.plan c.args.r c.args.k c.args.n c.nurse_at-old.result own.fits c.requires.room c.requires.shift
-          c.nurse_at-old.ensures.choice c.workload_in-load.result total c.args.self.now.loads.items own.loads_are c.move_load.new.loads c.move_load.ensures.table
-          (rw (← c.as_mut_slice.ensures.value) c.move_load.ensures.each);
-      counts_are = c.move_counts.ensures;
-    }))
+    stands-for known (SetCare c.args.r c.args.k c.args.n) refl
+    (with_items_is c.args.self.now.loads c.move_load.new.loads (c.move_load.ensures.table.len ∙ (sym own.loads_are.table.len ∙ sym c.args.self.now.loads.ok.0)))
+    (with_items_is c.args.self.now.counts c.move_counts.new.counts (c.move_counts.ensures.len ∙ (sym own.counts_are.len ∙ sym c.args.self.now.counts.ok.0)))
+    c.put.ensures
+    (put-plan c.args.inst.now.draft c.args.self.now.plan (SetCare c.args.r c.args.k c.args.n) own.fits (c.requires.room, c.requires.shift, c.requires.nurse))
+    (here-kept c.args.inst.now.draft c.args.self.now.plan c.args.r c.args.k c.args.n c.args.self.now.here.items own.here_are)
+    (loads-moved c.args.inst.now.draft c.args.self.now.plan c.args.r c.args.k c.args.n c.nurse_at-old.result own.fits c.requires.room c.requires.shift
+    c.nurse_at-old.ensures.choice c.workload_in-load.result total c.args.self.now.loads.items own.loads_are c.move_load.new.loads c.move_load.ensures.table
+    (rw (← c.as_mut_slice.ensures.value) c.move_load.ensures.each))
+    c.move_counts.ensures
