@@ -20,9 +20,11 @@ pub record AreSized (I : Draft) (here : List Linked) : Type 0 where
 -- Each room's list of each day has just the persons who are present.
 pub record AreHere (I : Draft) (P : Timetable) (here : List Linked) : Type 0 where
   pub sized : AreSized I here
-  pub each : (r d x : ℕ) → r < room_count I → d < I.days → x < person_count I → is_here here r d x ≡ is_present I P r d x
+  pub each : (r d x : ℕ) → r < room_count I → d < I.days → x < person_count I
+      → is_here here r d x ≡ is_present I P r d x
 
 -- The lists have the first k occupants where they are present, and nobody else.
 pub record AreFilled (I : Draft) (here : List Linked) (k : ℕ) : Type 0 where
   pub sized : AreSized I here
-  pub each : (r d x : ℕ) → r < room_count I → d < I.days → x < person_count I → is_here here r d x ≡ (nat_lt x (patient_count I + k) && is_present I (empty I) r d x)
+  pub each : (r d x : ℕ) → r < room_count I → d < I.days → x < person_count I
+      → is_here here r d x ≡ (nat_lt x (patient_count I + k) && is_present I (empty I) r d x)

@@ -2,10 +2,11 @@
 use Rattle.std.specs.Prelude.{◌≡◌, ◌<◌, ℕ, ℤ, pos, ◌-ℤ◌, ◌+◌, ◌-◌, ◌*◌, ◌/◌, ◌%◌, ◌^◌, ◌==◌, ◌&&◌, if◌then◌else◌, List, length, Option, Some, None, slice_index, slice_index_or, option_map}
 use Rattle.ih_tables.specs.declared.drafts.Draft.{Draft}
 use Rattle.ih_tables.specs.declared.ids.NurseNo.{NurseNo}
-use Rattle.ih_tables.specs.Sizes.{nurse_count, shift_count}
+use Rattle.ih_tables.specs.declared.ids.PatientNo.{PatientNo}
+use Rattle.ih_tables.specs.Sizes.{patient_count, nurse_count, shift_count}
 use Rattle.ih_tables.specs.Works.{max_load}
 use Rattle.ih_plan.specs.declared.moves.Placement.{Placement}
-use Rattle.ih_plan.specs.Timetable.{Timetable, care_of}
+use Rattle.ih_plan.specs.Timetable.{Timetable, IsPlanOf, IsPlacement, care_of}
 use Rattle.ih_plan.specs.Persons.{person_of}
 use Rattle.ih_plan.specs.Presence.{covers, day_of}
 use Rattle.ih_plan.specs.Costs.{load_of, is_number, overload}
@@ -36,11 +37,19 @@ free_load I j = record { work = 0; most = most_of (max_load I (j / shift_count I
 abbrev pub share : Option NurseNo → ℕ → ℕ → ℕ → ℕ → ℕ
 share n k load m j = if (j == k) && is_number (option_map (λ (a : NurseNo). a.0) n) m then load else 0
 
+-- The timetable fits the instance, which has the patient and what the placement names.
+pub record IsStayOf (I : Draft) (P : Timetable) (p : PatientNo) (at : Placement) : Type 0 where
+  pub plan : IsPlanOf I P
+  pub patient : p.0 < patient_count I
+  pub placement : IsPlacement I at
+
 -- what a stay of patient p gives to nurse n in shift k
 abbrev pub stay_load : Draft → Timetable → ℕ → Placement → ℕ → ℕ → ℕ
 stay_load I P p at n k =
     if is_number (care_of P at.room.0 k) n
-    then (if covers at.day.0 (person_of I p).length_of_stay (day_of k) then slice_index (person_of I p).workload (k - 3 * at.day.0) else 0)
+    then (if covers at.day.0 (person_of I p).length_of_stay (day_of k)
+    then slice_index (person_of I p).workload (k - 3 * at.day.0)
+    else 0)
     else 0
 
 -- the same of a stay where there is one
@@ -52,7 +61,8 @@ given I P p (Some at) n k = stay_load I P p at n k
 abbrev pub excess_rise : Draft → List NurseLoad → Option NurseNo → ℕ → (ℕ → ℕ) → ℤ
 excess_rise I loads None k after = pos 0
 excess_rise I loads (Some a) k after =
-    pos (overload (max_load I a.0 k) (after (load_at I loads a.0 k))) -ℤ pos (overload (max_load I a.0 k) (load_at I loads a.0 k))
+    pos (overload (max_load I a.0 k) (after (load_at I loads a.0 k)))
+    -ℤ pos (overload (max_load I a.0 k) (load_at I loads a.0 k))
 
 -- The table has a place for each nurse and shift, and the most there is the nurse's maximum.
 pub record IsTable (I : Draft) (loads : List NurseLoad) : Type 0 where

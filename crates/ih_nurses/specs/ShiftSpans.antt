@@ -10,7 +10,8 @@ use Rattle.ih_nurses.specs.declared.shift_spans.ShiftSpan.{ShiftSpan}
 -- the counted shifts of an admission of n days, in its room
 abbrev pub shift_span_in : Draft → Option Admission → ℕ → Option ShiftSpan
 shift_span_in I None n = None
-shift_span_in I (Some a) n = Some (record { room = record { 0 = a.room }; from = 3 * a.day; len = 3 * (end_from I a.day n - a.day) })
+shift_span_in I (Some a) n =
+    Some (record { room = record { 0 = a.room }; from = 3 * a.day; len = 3 * (end_from I a.day n - a.day) })
 
 -- the room and the shifts are in range
 abbrev pub IsShiftSpan : Draft → ShiftSpan → Type 0

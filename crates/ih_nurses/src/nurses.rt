@@ -74,14 +74,8 @@ impl Nurses {
         let end = end_of(inst, p, at);
         enter_days(inst, self.here.as_mut_slice(), at.room, at.day.0, end, p.0);
         add_stay(inst, &self.plan, self.loads.as_mut_slice(), p, at);
-        let counts = self.counts.as_mut_slice();
-        add_shift_span(
-            inst,
-            &self.plan,
-            counts,
-            p.0,
-            placed_shift_span(inst, p, at),
-        );
+        let shifts = placed_shift_span(inst, p, at);
+        add_shift_span(inst, &self.plan, self.counts.as_mut_slice(), p.0, shifts);
         self.plan.put(&Write::SetStay(p, Some(at)));
     }
 
@@ -96,14 +90,8 @@ impl Nurses {
         let end = end_of(inst, p, at);
         leave_days(inst, self.here.as_mut_slice(), at.room, at.day.0, end, p.0);
         take_stay(inst, &self.plan, self.loads.as_mut_slice(), p, at);
-        let counts = self.counts.as_mut_slice();
-        take_shift_span(
-            inst,
-            &self.plan,
-            counts,
-            p.0,
-            placed_shift_span(inst, p, at),
-        );
+        let shifts = placed_shift_span(inst, p, at);
+        take_shift_span(inst, &self.plan, self.counts.as_mut_slice(), p.0, shifts);
         self.plan.put(&Write::SetStay(p, None));
     }
 

@@ -2,8 +2,8 @@
 
 ghost use Rattle.std.specs.Prelude.{◌≡◌, ◌<◌, ◌≤◌, ◌+◌, ◌-◌, ◌*◌, ℕ, slice_index, min};
 ghost use Rattle.ih_tables.specs.Sizes.{patient_count, nurse_count, shift_count};
-ghost use Rattle.ih_plan.specs.{Timetable.IsPlanOf, Timetable.IsPlacement, Persons.person_of};
-ghost use Rattle.ih_nurses.specs.Loads.{IsTable, load_at, stay_load};
+ghost use Rattle.ih_plan.specs.{Persons.person_of};
+ghost use Rattle.ih_nurses.specs.Loads.{IsStayOf, IsTable, load_at, stay_load};
 
 use crate::loads::{NurseLoad, add_load, take_load};
 use ih_plan::{Placement, Plan, end_of, nurse_at};
@@ -28,9 +28,7 @@ pub fn workload(inst: &Instance, p: PatientNo, at: Placement, k: u32) -> u32
 
 /// Adds a stay to the loads of its room's nurses.
 pub fn add_stay(inst: &Instance, plan: &Plan, loads: &mut [NurseLoad], p: PatientNo, at: Placement)
-    requires plan { IsPlanOf inst.now.draft plan.now }
-    requires patient { p.0 < patient_count inst.now.draft }
-    requires placement { IsPlacement inst.now.draft at }
+    requires stay { IsStayOf inst.now.draft plan.now p at }
     requires table { IsTable inst.now.draft loads.old }
     requires small { (m j : ℕ) → m < nurse_count inst.now.draft → j < shift_count inst.now.draft
         → load_at inst.now.draft loads.old m j ≤ 256000000 }
@@ -49,9 +47,7 @@ pub fn add_stay(inst: &Instance, plan: &Plan, loads: &mut [NurseLoad], p: Patien
 
 /// Takes a stay from the loads of its room's nurses.
 pub fn take_stay(inst: &Instance, plan: &Plan, loads: &mut [NurseLoad], p: PatientNo, at: Placement)
-    requires plan { IsPlanOf inst.now.draft plan.now }
-    requires patient { p.0 < patient_count inst.now.draft }
-    requires placement { IsPlacement inst.now.draft at }
+    requires stay { IsStayOf inst.now.draft plan.now p at }
     requires table { IsTable inst.now.draft loads.old }
     requires enough { (m j : ℕ) → m < nurse_count inst.now.draft → j < shift_count inst.now.draft
         → stay_load inst.now.draft plan.now p.0 at m j ≤ load_at inst.now.draft loads.old m j }

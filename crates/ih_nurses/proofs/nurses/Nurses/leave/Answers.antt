@@ -25,7 +25,7 @@ take_shift_span-requires-clause-enough c =
     let own = stands-own c.requires.stands.1 in
     let there = subst (λ S. stay_of S c.args.p.0 ≡ Some c.args.at) (sym c.requires.stands.1.plan_is) c.requires.stands.2 in
     let admission = leaves c.args.inst.now.draft c.args.self.now.plan c.args.p c.args.at own.fits c.requires.patient c.requires.placement there in
-    rw c.as_mut_slice-counts.ensures.value (counts-enough admission c.placed_shift_span.result c.placed_shift_span.ensures.shift_span c.args.self.now.counts.items own.counts_are)
+    rw c.as_mut_slice-3.ensures.value (counts-enough admission c.placed_shift_span-shifts.result c.placed_shift_span-shifts.ensures.shift_span c.args.self.now.counts.items own.counts_are)
 
 pub returns : goal.returns
 returns c = λ P known.
@@ -35,9 +35,9 @@ returns c = λ P known.
     stands-for known (SetStay c.args.p None)
     (with_items_is c.args.self.now.here c.leave_days.new.here (c.leave_days.ensures.sized.days ∙ (sym own.here_are.sized.days ∙ sym c.args.self.now.here.ok.0)))
     (with_items_is c.args.self.now.loads c.take_stay.new.loads (c.take_stay.ensures.table.len ∙ (sym own.loads_are.table.len ∙ sym c.args.self.now.loads.ok.0)))
-    (with_items_is c.args.self.now.counts c.take_shift_span.new.counts (c.take_shift_span.ensures.len ∙ (ap length c.as_mut_slice-counts.ensures.value ∙ sym c.args.self.now.counts.ok.0)))
+    (with_items_is c.args.self.now.counts c.take_shift_span.new.counts (c.take_shift_span.ensures.len ∙ (ap length c.as_mut_slice-3.ensures.value ∙ sym c.args.self.now.counts.ok.0)))
     c.put.ensures (put-plan c.args.inst.now.draft c.args.self.now.plan (SetStay c.args.p None) own.fits (c.requires.patient, λ at e. absurd (let no : None ≡ Some at = e in cc)))
     (here-left admission _ _ own.here_are c.leave_days.ensures.sized (rw (← c.as_mut_slice.ensures.value, ← c.end_of-end.ensures.value) c.leave_days.ensures.each))
     (loads-taken admission _ _ own.loads_are c.take_stay.ensures.table (rw (← c.as_mut_slice-2.ensures.value) c.take_stay.ensures.each))
-    (counts-taken admission c.placed_shift_span.result c.placed_shift_span.ensures.shift_span _ _ own.counts_are
-    (c.take_shift_span.ensures.len ∙ ap length c.as_mut_slice-counts.ensures.value) (rw (← c.as_mut_slice-counts.ensures.value) c.take_shift_span.ensures.each))
+    (counts-taken admission c.placed_shift_span-shifts.result c.placed_shift_span-shifts.ensures.shift_span _ _ own.counts_are
+    (c.take_shift_span.ensures.len ∙ ap length c.as_mut_slice-3.ensures.value) (rw (← c.as_mut_slice-3.ensures.value) c.take_shift_span.ensures.each))
