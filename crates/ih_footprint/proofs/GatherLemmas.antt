@@ -90,31 +90,11 @@ gathers-both {u} {v} {w} {p} {q} one two = record {
       two.cells c (subst (λ z. IsCellIn z c) (sym one.sizes) range) ∙ (ap (λ b. b || q c) (one.cells c range) ∙ or_assoc (holds u c) (p c) (q c));
 }
 
--- from another that has the same cells
-pub gathers-from : {u v w : Gathered} {p : Cell → Bool} → v.sizes ≡ u.sizes → ((i : ℕ) → is_listed i v.cells ≡ is_listed i u.cells) → Gathers v w p → Gathers u w p
-gathers-from {u} {v} {w} {p} sizes same g = record {
-  sizes = g.sizes ∙ sizes;
-  cells = λ c range.
-      g.cells c (subst (λ z. IsCellIn z c) (sym sizes) range)
-      ∙ ap (λ b. b || p c) (ap (λ z. is_listed (number_in z c) v.cells) sizes ∙ same (number_in u.sizes c));
-}
-
--- into another that has the same cells
-pub gathers-to : {u v w : Gathered} {p : Cell → Bool} → w.sizes ≡ v.sizes → w.cells ≡ v.cells → Gathers u v p → Gathers u w p
-gathers-to {u} {v} {w} sizes same g = record {
-  sizes = sizes ∙ g.sizes;
-  cells = λ c range. ap (λ z. is_listed (number_in z c) w.cells) sizes ∙ (ap (is_listed (number_in v.sizes c)) same ∙ g.cells c range);
-}
-
 -- nothing is gathered
 pub gathers-none : {v : Gathered} {p : Cell → Bool} → ((c : Cell) → p c ≡ false) → Gathers v v p
 gathers-none {v} none = record { sizes = refl; cells = λ c range. sym (ap (λ b. holds v c || b) (none c) ∙ or-false (holds v c)) }
 
 -- ---- the list, settled
-
-pub rising-like : {v w : Gathered} → w.sizes ≡ v.sizes → w.cells ≡ v.cells → v.cells ≡ settled v → w.cells ≡ settled w
-rising-like {v} {w} sizes same rising =
-    same ∙ (rising ∙ sym (ap (λ z. which_below (count_in z) (λ n. is_listed n w.cells)) sizes ∙ ap (λ xs. which_below (count_in v.sizes) (λ n. is_listed n xs)) same))
 
 -- where the list has just the cells that pass, its numbers are theirs, rising
 pub settled-gathered : (I : Draft) (v : Gathered) (passes : Cell → Bool) → v.sizes ≡ sizes_of I → ((c : Cell) → IsCellOf I c → holds v c ≡ passes c)

@@ -21,8 +21,9 @@ WritesKeepTheRest I = (P : Timetable) (w : Write) (c : Cell) → IsPlanOf I P �
 
 -- Nor do writes in a row outside theirs.
 abbrev pub WritesInARowKeepTheRest : Draft → Type 0
-WritesInARowKeepTheRest I = (P : Timetable) (ws : List Write) (c : Cell) → IsPlanOf I P → AreWritesOf I ws → IsCellOf I c
-    → writes_touch I P ws c ≡ false → content_of I (put_all ws P) c ≡ content_of I P c
+WritesInARowKeepTheRest I = (P : Timetable) (ws : List Write) (c : Cell)
+    → IsPlanOf I P → AreWritesOf I ws → IsCellOf I c → writes_touch I P ws c ≡ false
+    → content_of I (put_all ws P) c ≡ content_of I P c
 
 -- Nor does a move.
 abbrev pub MovesKeepTheRest : Draft → Type 0
@@ -38,11 +39,13 @@ AreSameOn I passes P Q = (c : Cell) → IsCellOf I c → passes c ≡ true → c
 -- A write touches the same cells at Q as at P, and a cell with one content before has one content after.
 pub record IsLocalWrite (I : Draft) (P Q : Timetable) (w : Write) : Type 0 where
   pub touched : (c : Cell) → IsCellOf I c → write_touches I Q w c ≡ write_touches I P w c
-  pub afterwards : (c : Cell) → IsCellOf I c → content_of I Q c ≡ content_of I P c → content_of I (put w Q) c ≡ content_of I (put w P) c
+  pub afterwards : (c : Cell) → IsCellOf I c → content_of I Q c ≡ content_of I P c
+      → content_of I (put w Q) c ≡ content_of I (put w P) c
 
 -- So it is where both have the same contents on the write's footprint.
 abbrev pub WritesAreLocal : Draft → Type 0
-WritesAreLocal I = (P Q : Timetable) (w : Write) → IsPlanOf I P → IsPlanOf I Q → IsWriteOf I w → AreSameOn I (write_touches I P w) P Q → IsLocalWrite I P Q w
+WritesAreLocal I = (P Q : Timetable) (w : Write) → IsPlanOf I P → IsPlanOf I Q → IsWriteOf I w
+    → AreSameOn I (write_touches I P w) P Q → IsLocalWrite I P Q w
 
 -- Writes in a row touch the same cells at Q as at P, and each cell that passes has one content after them.
 pub record AreLocalWrites (I : Draft) (P Q : Timetable) (ws : List Write) (passes : Cell → Bool) : Type 0 where
@@ -51,7 +54,8 @@ pub record AreLocalWrites (I : Draft) (P Q : Timetable) (ws : List Write) (passe
 
 -- So it is where both have the same contents on cells among which the footprint is.
 abbrev pub WritesInARowAreLocal : Draft → Type 0
-WritesInARowAreLocal I = (P Q : Timetable) (ws : List Write) (passes : Cell → Bool) → IsPlanOf I P → IsPlanOf I Q → AreWritesOf I ws → AreSameOn I passes P Q
+WritesInARowAreLocal I = (P Q : Timetable) (ws : List Write) (passes : Cell → Bool)
+    → IsPlanOf I P → IsPlanOf I Q → AreWritesOf I ws → AreSameOn I passes P Q
     → ((c : Cell) → IsCellOf I c → writes_touch I P ws c ≡ true → passes c ≡ true) → AreLocalWrites I P Q ws passes
 
 -- What a move does at Q is what it does at P: its writes, its footprint, the contents after it there, and its price.
@@ -64,7 +68,8 @@ pub record IsLocal (I : Draft) (P Q : Timetable) (m : Move) : Type 0 where
 
 -- So it is where both have the same contents on the move's footprint.
 abbrev pub MovesAreLocal : Draft → Type 0
-MovesAreLocal I = (P Q : Timetable) (m : Move) → IsPlanOf I P → IsPlanOf I Q → IsMoveOf I m → AreSameOn I (touches I P m) P Q → IsLocal I P Q m
+MovesAreLocal I = (P Q : Timetable) (m : Move) → IsPlanOf I P → IsPlanOf I Q → IsMoveOf I m
+    → AreSameOn I (touches I P m) P Q → IsLocal I P Q m
 
 -- ---- moves in a row
 
@@ -84,6 +89,7 @@ pub record AreLocal (I : Draft) (P Q : Timetable) (ms : List Move) (passes : Cel
 
 -- So it is where both have the same contents on cells among which the footprint is.
 abbrev pub SeriesAreLocal : Draft → Type 0
-SeriesAreLocal I = (P Q : Timetable) (ms : List Move) (passes : Cell → Bool) → IsPlanOf I P → IsPlanOf I Q → AreMoves I ms
-    → AreSameOn I passes P Q → ((c : Cell) → IsCellOf I c → all_touch I P ms c ≡ true → passes c ≡ true)
+SeriesAreLocal I = (P Q : Timetable) (ms : List Move) (passes : Cell → Bool)
+    → IsPlanOf I P → IsPlanOf I Q → AreMoves I ms → AreSameOn I passes P Q
+    → ((c : Cell) → IsCellOf I c → all_touch I P ms c ≡ true → passes c ≡ true)
     → AreLocal I P Q ms passes

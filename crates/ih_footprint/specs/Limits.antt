@@ -15,7 +15,8 @@ pub record AreLimited (z : Sizes) : Type 0 where
   pub nurses : z.nurses ≤ 512
 
 -- where the numbers of each kind of cell but the first two begin
-pub record AreFirsts (z : Sizes) (first_theatre_day first_surgeon_day first_room_shift first_nurse_shift first_care : ℕ) : Type 0 where
+pub record AreFirsts (z : Sizes)
+    (first_theatre_day first_surgeon_day first_room_shift first_nurse_shift first_care : ℕ) : Type 0 where
   pub theatre_days : first_theatre_day ≡ theatre_days_from z
   pub surgeon_days : first_surgeon_day ≡ surgeon_days_from z
   pub room_shifts : first_room_shift ≡ room_shifts_from z
@@ -35,6 +36,7 @@ as_sizes days patients occupants rooms theatres surgeons nurses = record {
 }
 
 -- Within the limits, and these begin where they do for the sizes.
-abbrev pub AreLaidOut : Sizes → (first_theatre_day first_surgeon_day first_room_shift first_nurse_shift first_care : ℕ) → Type 0
+abbrev pub AreLaidOut : Sizes
+    → (first_theatre_day first_surgeon_day first_room_shift first_nurse_shift first_care : ℕ) → Type 0
 AreLaidOut z first_theatre_day first_surgeon_day first_room_shift first_nurse_shift first_care =
     AreLimited z × AreFirsts z first_theatre_day first_surgeon_day first_room_shift first_nurse_shift first_care
