@@ -44,6 +44,14 @@ pub record AreVacant (rooms days persons : ℕ) (profiles : Profiles) (v : Rows)
   pub profiles_are : v.profiles ≡ profiles
   pub nobody : (r d x : ℕ) → is_at v r d x ≡ false
 
+-- The room and person x are among the rows', and so are the days from day a on and before day b.
+pub record HasSpan (v : Rows) (room x a b : ℕ) : Type 0 where
+  pub rows : AreRows v
+  pub room_below : room < v.rooms
+  pub person : x < v.persons
+  pub order : a ≤ b
+  pub within : b ≤ v.days
+
 -- y is x, and day d is from day a on and before day b
 abbrev pub of_stay : ℕ → ℕ → ℕ → ℕ → ℕ → Bool
 of_stay x a b d y = (y == x) && in_span a b d

@@ -2,7 +2,7 @@
 
 ghost use Rattle.std.specs.Prelude.{◌≡◌, ℕ, ◌*◌, ◌^◌, ◌<◌, ◌≤◌, ◌==◌, false, IfOk};
 ghost use Rattle.ih_roomdays.specs.Profiles.{AreInRange, most_persons};
-ghost use Rattle.ih_roomdays.specs.Rows.{AreRows, AreVacant, IsEntered, IsLeft, is_at};
+ghost use Rattle.ih_roomdays.specs.Rows.{AreVacant, HasSpan, IsEntered, IsLeft, is_at};
 
 use crate::occupancies::{Crowd, NOBODY, crowd_of};
 use crate::profiles::Profiles;
@@ -50,11 +50,7 @@ impl Rows {
 
     /// Brings a person into a room, from one day on and before another.
     pub fn enter(&mut self, room: u32, x: u32, from: u32, to: u32)
-        requires rows { AreRows self.old }
-        requires room { room < self.old.rooms }
-        requires person { x < self.old.persons }
-        requires order { from ≤ to }
-        requires within { to ≤ self.old.days }
+        requires span { HasSpan self.old room x from to }
         requires nowhere { (r d : ℕ) → d < self.old.days → is_at self.old r d x ≡ false }
         ensures { IsEntered self.old self.new room x from to }
     {
@@ -68,11 +64,7 @@ impl Rows {
 
     /// Takes a person out of the room that it is in, from one day on and before another.
     pub fn leave(&mut self, room: u32, x: u32, from: u32, to: u32)
-        requires rows { AreRows self.old }
-        requires room { room < self.old.rooms }
-        requires person { x < self.old.persons }
-        requires order { from ≤ to }
-        requires within { to ≤ self.old.days }
+        requires span { HasSpan self.old room x from to }
         requires there { (r d : ℕ) → from ≤ d → d < to → is_at self.old r d x ≡ (room == r) }
         ensures { IsLeft self.old self.new x from to }
     {

@@ -8,11 +8,18 @@ use Rattle.ih_roomdays.proofs.room_days.RoomDays.new.Goals as goal
 pub loop-o-init : goal.loop-o-init
 loop-o-init c = filled-none c.args.inst.now.draft c.in_ok-rows.rows c.in_ok-profiles.profiles c.in_ok-profiles.ensures (rw (c.rooms.ensures, c.days.ensures, c.persons.ensures) at c.in_ok-rows.ensures)
 
-pub enter-requires-clause-room : goal.enter-requires-clause-room
-enter-requires-clause-room c =
+pub enter-requires-clause-span : goal.enter-requires-clause-span
+enter-requires-clause-span c =
     let I = c.args.inst.now.draft in
     let occupant = from-all (IsOccupant I) I.occupants c.loop-o.o c.occupant-occupant.result.now c.args.inst.now.valid.each_occupant c.occupant-occupant.ensures in
-    rw c.loop-o.invariant.rooms occupant.room
+    let filled = c.loop-o.invariant in
+    record {
+      rows = filled.rows;
+      room_below = rw filled.rooms occupant.room;
+      person = omega (arith, filled.persons);
+      order = omega arith;
+      within = omega (arith, filled.days);
+    }
 
 pub loop-o-preserved : goal.loop-o-preserved
 loop-o-preserved c =
