@@ -61,9 +61,9 @@ module _ (I : Draft) (P : Timetable) (p : PatientNo) (at : Placement) where
 
   -- the shifts before k, with the placement less without
   pub record AreShiftsTold (k : ℕ) (a s l : ℤ) : Type 0 where
-    pub alone : IsRisen (3 * at.day.0) k (λ i. rule_at uncovered_room (in_shift placed i)) (λ i. rule_at uncovered_room (in_shift without i)) a
-    pub skill : IsRisen (3 * at.day.0) k (λ i. cost_at nurse_skill (in_shift placed i)) (λ i. cost_at nurse_skill (in_shift without i)) s
-    pub load : IsRisen (3 * at.day.0) k (λ i. excess placed i) (λ i. excess without i) l
+    pub uncovered : IsRisen (3 * at.day.0) k (λ i. rule_at uncovered_room (in_shift placed i)) (λ i. rule_at uncovered_room (in_shift without i)) a
+    pub missing_skill : IsRisen (3 * at.day.0) k (λ i. cost_at nurse_skill (in_shift placed i)) (λ i. cost_at nurse_skill (in_shift without i)) s
+    pub overload : IsRisen (3 * at.day.0) k (λ i. excess placed i) (λ i. excess without i) l
 
   -- one day more, told as a bill
   module _ (d : ℕ) (m c a : ℤ) (told : AreDaysTold d m c a) (bill : Bill) (next : bill ≡ sub_bills (as_bill (on_day placed d)) (as_bill (on_day without d)))
@@ -99,14 +99,14 @@ module _ (I : Draft) (P : Timetable) (p : PatientNo) (at : Placement) where
     abbrev skill_in : Timetable → ℕ → ℕ
     skill_in Q i = cost_at nurse_skill (in_shift Q i)
 
-    pub alone-fits : (n : ℕ) → n < 2 ^ 32 → FitsSigned w64 (a +ℤ to_z w64 n)
-    alone-fits n small = count-fits (3 * at.day.0) k (alone_in placed) (alone_in without) a n told.alone few small
+    pub uncovered-fits : (n : ℕ) → n < 2 ^ 32 → FitsSigned w64 (a +ℤ to_z w64 n)
+    uncovered-fits n small = count-fits (3 * at.day.0) k (alone_in placed) (alone_in without) a n told.uncovered few small
 
-    pub skill-fits : (n : ℕ) → n < 2 ^ 32 → FitsSigned w64 (s +ℤ to_z w64 n)
-    skill-fits n small = count-fits (3 * at.day.0) k (skill_in placed) (skill_in without) s n told.skill few small
+    pub missing_skill-fits : (n : ℕ) → n < 2 ^ 32 → FitsSigned w64 (s +ℤ to_z w64 n)
+    missing_skill-fits n small = count-fits (3 * at.day.0) k (skill_in placed) (skill_in without) s n told.missing_skill few small
 
-    pub load-fits : (n : ℕ) → n < 2 ^ 32 → FitsSigned w64 (l +ℤ to_z w64 n)
-    load-fits n small = count-fits (3 * at.day.0) k (excess placed) (excess without) l n told.load few small
+    pub overload-fits : (n : ℕ) → n < 2 ^ 32 → FitsSigned w64 (l +ℤ to_z w64 n)
+    overload-fits n small = count-fits (3 * at.day.0) k (excess placed) (excess without) l n told.overload few small
 
     pub shifts-more : 3 * at.day.0 ≤ k → (alone skill load : ℕ) → alone < 2 ^ 32 → skill < 2 ^ 32 → load < 2 ^ 32
         → pos alone ≡ pos (alone_in placed k) -ℤ pos (alone_in without k)
@@ -114,7 +114,7 @@ module _ (I : Draft) (P : Timetable) (p : PatientNo) (at : Placement) where
         → pos load ≡ rise_by_placement P p at (λ Q. excess_in I Q at.room (record { 0 = k }))
         → AreShiftsTold (k + 1) (handed (a +ℤ to_z w64 alone)) (handed (s +ℤ to_z w64 skill)) (handed (l +ℤ to_z w64 load))
     shifts-more begun alone skill load a_small s_small l_small a_is s_is l_is = record {
-      alone = count-risen (3 * at.day.0) k (alone_in placed) (alone_in without) a alone told.alone few a_small begun a_is;
-      skill = count-risen (3 * at.day.0) k (skill_in placed) (skill_in without) s skill told.skill few s_small begun s_is;
-      load = count-risen (3 * at.day.0) k (excess placed) (excess without) l load told.load few l_small begun (excess-rises (record { 0 = k }) (pos load) l_is);
+      uncovered = count-risen (3 * at.day.0) k (alone_in placed) (alone_in without) a alone told.uncovered few a_small begun a_is;
+      missing_skill = count-risen (3 * at.day.0) k (skill_in placed) (skill_in without) s skill told.missing_skill few s_small begun s_is;
+      overload = count-risen (3 * at.day.0) k (excess placed) (excess without) l load told.overload few l_small begun (excess-rises (record { 0 = k }) (pos load) l_is);
     }

@@ -184,15 +184,15 @@ places-less-less : (m : ℕ) (a b c : ℕ → ℤ) → by_place m (λ k. place (
 places-less-less m a b c =
     places-by m (λ x y. x -ℤ y) (λ k. c k -ℤ a k) (λ k. b k -ℤ a k) (λ k. c k -ℤ b k) (λ k. less-less (a k) (b k) (c k))
 
--- two changes from one timetable
-change-between : (I : Draft) (P Q R : Timetable) → sub_bills (change_of_bill I P R) (change_of_bill I P Q) ≡ change_of_bill I Q R
-change-between I P Q R =
-    let a = bill_of I P in
-    let b = bill_of I Q in
-    let c = bill_of I R in
+less-less-bills : (a b c : Bill) → sub_bills (sub_bills c a) (sub_bills b a) ≡ sub_bills c b
+less-less-bills a b c =
     let v = places-less-less 9 (λ k. place a.v k) (λ k. place b.v k) (λ k. place c.v k) in
     let s = places-less-less 8 (λ k. place a.s k) (λ k. place b.s k) (λ k. place c.s k) in
     cc
+
+-- two changes from one timetable
+change-between : (I : Draft) (P Q R : Timetable) → sub_bills (change_of_bill I P R) (change_of_bill I P Q) ≡ change_of_bill I Q R
+change-between I P Q R = less-less-bills (bill_of I P) (bill_of I Q) (bill_of I R)
 
 -- the stay that stands there is written again
 pub stay-again : (P : Timetable) (p : PatientNo) → put (SetStay p (stay_of P p.0)) P ≡ P

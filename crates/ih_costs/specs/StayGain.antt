@@ -1,13 +1,14 @@
 -- What a patient's placement costs, told day by day: the parts of the cells that it is in, number by number.
-use Rattle.std.specs.Prelude.{◌≡◌, ℕ, ◌+◌, ◌-◌, ◌*◌, pos, [], ◌∷◌, Option, Some, None, slice_index}
+use Rattle.std.specs.Prelude.{◌≡◌, ℕ, ◌+◌, ◌-◌, ◌*◌, ◌<◌, pos, [], ◌∷◌, Option, Some, None, slice_index}
 use Rattle.ih_tables.specs.declared.drafts.Draft.{Draft}
 use Rattle.ih_tables.specs.declared.cells.Cell.TheVariants.{Stay, RoomDay, TheatreDay, SurgeonDay, RoomShift, NurseShift, Care}
 use Rattle.ih_tables.specs.declared.bills.Bill.{Bill}
 use Rattle.ih_tables.specs.declared.ids.PatientNo.{PatientNo}
+use Rattle.ih_tables.specs.Sizes.{patient_count}
 use Rattle.ih_tables.specs.Bills.{at as place, sub_bills, zero_bill}
 use Rattle.ih_plan.specs.declared.moves.Placement.{Placement}
 use Rattle.ih_plan.specs.declared.moves.Write.TheVariants.{SetStay}
-use Rattle.ih_plan.specs.Timetable.{Timetable, IsPlanOf, stay_of, care_of}
+use Rattle.ih_plan.specs.Timetable.{Timetable, IsPlacement, IsPlanOf, stay_of, care_of}
 use Rattle.ih_plan.specs.Writes.{put, IsWriteOf}
 use Rattle.ih_plan.specs.Presence.{end_of}
 use Rattle.ih_plan.specs.Costs.{surgeon_of}
@@ -16,8 +17,10 @@ use Rattle.ih_plan.specs.BillOf.{Counts, as_bill, change_of_bill}
 use Rattle.ih_tables.specs.BillNumbers.{mixed_gender, incompatible_room, surgeon_overrun, theatre_overrun, unscheduled_mandatory, admission_window, room_capacity, nurse_presence, uncovered_room}
 use Rattle.ih_tables.specs.BillNumbers.{mixed_age, nurse_skill, continuity_of_care, excess_workload, open_theatre, surgeon_transfer, patient_delay, unscheduled_optional}
 use Rattle.ih_plan.specs.Cells.{part_at}
+use Rattle.ih_costs.specs.declared.cell_ledgers.CellLedgers.{CellLedgers}
 use Rattle.ih_costs.specs.declared.stay_prices.DaysMore.{DaysMore}
 use Rattle.ih_costs.specs.declared.stay_prices.ShiftsMore.{ShiftsMore}
+use Rattle.ih_costs.specs.CellLedgers.{AreLedgers, timetable_of}
 use Rattle.ih_nurses.specs.Gains.{rise_by_placement as rise}
 
 -- f a + .. + f (b - 1)
@@ -67,6 +70,13 @@ module _ (I : Draft) (Q : Timetable) (p : ℕ) (at : Placement) (g : Counts → 
   -- of the room's nurses, over its shifts
   abbrev pub over_loads : ℕ
   over_loads = span_sum (3 * at.day.0) (3 * end_of I p at) (λ k. of_nurse k (care_of Q at.room.0 k))
+
+-- The ledgers stand for a timetable that has patient p's stay so, and the placement is one of the instance.
+pub record IsTrial (I : Draft) (l : CellLedgers) (p : PatientNo) (old : Option Placement) (at : Placement) : Type 0 where
+  pub stands : AreLedgers I l
+  pub patient : p.0 < patient_count I
+  pub placement : IsPlacement I at
+  pub stay : stay_of (timetable_of l) p.0 ≡ old
 
 -- ---- the gain
 
@@ -132,7 +142,7 @@ days_more I P p at = record {
 
 abbrev pub shifts_more : Draft → Timetable → PatientNo → Placement → ShiftsMore
 shifts_more I P p at = record {
-  alone = rise P p at (λ Q. over_shifts I Q p.0 at (rule_at uncovered_room));
-  skill = rise P p at (λ Q. over_shifts I Q p.0 at (cost_at nurse_skill));
-  load = rise P p at (λ Q. over_loads I Q p.0 at (cost_at excess_workload));
+  uncovered = rise P p at (λ Q. over_shifts I Q p.0 at (rule_at uncovered_room));
+  missing_skill = rise P p at (λ Q. over_shifts I Q p.0 at (cost_at nurse_skill));
+  overload = rise P p at (λ Q. over_loads I Q p.0 at (cost_at excess_workload));
 }

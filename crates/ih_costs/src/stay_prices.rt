@@ -1,11 +1,11 @@
 //! What another stay of a patient, or none, changes in the bill, told day by day.
 
-ghost use Rattle.std.specs.Prelude.{◌≡◌, ◌<◌, ◌^◌, Some};
-ghost use Rattle.ih_tables.specs.{Sizes.patient_count, Bills.IsWithin};
-ghost use Rattle.ih_plan.specs.{declared.moves.Write.TheVariants.SetStay, Timetable.IsPlacement, Timetable.stay_of};
+ghost use Rattle.std.specs.Prelude.{◌≡◌, ◌^◌, Some};
+ghost use Rattle.ih_tables.specs.{Bills.IsWithin};
+ghost use Rattle.ih_plan.specs.{declared.moves.Write.TheVariants.SetStay, Timetable.stay_of};
 ghost use Rattle.ih_plan.specs.{Writes.put, Writes.IsWriteOf, BillOf.change_of_bill};
 ghost use Rattle.ih_costs.specs.CellLedgers.{AreLedgers, timetable_of};
-ghost use Rattle.ih_costs.specs.StayGain.{days_more, of_surgery, placement_gain, shifts_more, stay_gain};
+ghost use Rattle.ih_costs.specs.StayGain.{IsTrial, days_more, of_surgery, placement_gain, shifts_more, stay_gain};
 
 use crate::cell_ledgers::CellLedgers;
 use crate::stays::stay_change;
@@ -30,27 +30,26 @@ struct DaysMore {
 // and excess workload.
 #[derive(Clone, Copy)]
 struct ShiftsMore {
-    alone: i64,
-    skill: i64,
-    load: i64,
+    uncovered: i64,
+    missing_skill: i64,
+    overload: i64,
+}
+
+// A placement of a patient that is tried, whose stay is `old` so far.
+#[derive(Clone, Copy)]
+struct Trial {
+    p: PatientNo,
+    old: Option<Placement>,
+    at: Placement,
 }
 
 impl CellLedgers {
-    // What the room has more over the days of a placement with the patient there than without. The patient's stay is
-    // `old` so far.
-    fn more_over_days(
-        &self,
-        inst: &Instance,
-        p: PatientNo,
-        old: Option<Placement>,
-        at: Placement,
-    ) -> DaysMore
-        requires stands { AreLedgers inst.now.draft self.now }
-        requires patient { p.0 < patient_count inst.now.draft }
-        requires placement { IsPlacement inst.now.draft at }
-        requires stay { stay_of (timetable_of self.now) p.0 ≡ old }
-        ensures { result ≡ days_more inst.now.draft (timetable_of self.now) p at }
+    // What the room has more over the days of a placement with the patient there than without.
+    fn more_over_days(&self, inst: &Instance, trial: &Trial) -> DaysMore
+        requires { IsTrial inst.now.draft self.now trial.now.p trial.now.old trial.now.at }
+        ensures { result ≡ days_more inst.now.draft (timetable_of self.now) trial.now.p trial.now.at }
     {
+        let Trial { p, old, at } = *trial;
         let end = end_of(inst, p, at);
         let mut mixed: i64 = 0;
         let mut crowded: i64 = 0;
@@ -68,51 +67,38 @@ impl CellLedgers {
         }
     }
 
-    // What the room and its nurses have more over the shifts of a placement with the patient there than without. The
-    // patient's stay is `old` so far.
-    fn more_over_shifts(
-        &self,
-        inst: &Instance,
-        p: PatientNo,
-        old: Option<Placement>,
-        at: Placement,
-    ) -> ShiftsMore
-        requires stands { AreLedgers inst.now.draft self.now }
-        requires patient { p.0 < patient_count inst.now.draft }
-        requires placement { IsPlacement inst.now.draft at }
-        requires stay { stay_of (timetable_of self.now) p.0 ≡ old }
-        ensures { result ≡ shifts_more inst.now.draft (timetable_of self.now) p at }
+    // What the room and its nurses have more over the shifts of a placement with the patient there than without.
+    fn more_over_shifts(&self, inst: &Instance, trial: &Trial) -> ShiftsMore
+        requires { IsTrial inst.now.draft self.now trial.now.p trial.now.old trial.now.at }
+        ensures { result ≡ shifts_more inst.now.draft (timetable_of self.now) trial.now.p trial.now.at }
     {
+        let Trial { p, old, at } = *trial;
         let end = end_of(inst, p, at);
         let visit = Visit::new(inst, p, old, at);
-        let mut alone: i64 = 0;
-        let mut skill: i64 = 0;
-        let mut load: i64 = 0;
+        let mut uncovered: i64 = 0;
+        let mut missing_skill: i64 = 0;
+        let mut overload: i64 = 0;
         for k in 3 * at.day.0..3 * end {
-            let gain = self.nurses.shift_gain(inst, Shift(k), p, at, &visit);
-            alone += gain.alone as i64;
-            skill += gain.skill as i64;
-            load += gain.load as i64;
+            let gain = self.nurses.shift_gain(inst, Shift(k), &visit);
+            uncovered += gain.uncovered as i64;
+            missing_skill += gain.missing_skill as i64;
+            overload += gain.overload as i64;
         }
-        ShiftsMore { alone, skill, load }
+        ShiftsMore {
+            uncovered,
+            missing_skill,
+            overload,
+        }
     }
 
-    // The numbers of a placement's gain that rest on its theatre and its surgeon; the others are 0. The patient's stay
-    // is `old` so far.
+    // The numbers of a placement's gain that rest on its theatre and its surgeon; the others are 0.
     #[inline(always)]
-    fn surgery_gain(
-        &self,
-        inst: &Instance,
-        p: PatientNo,
-        old: Option<Placement>,
-        at: Placement,
-    ) -> Bill
-        requires stands { AreLedgers inst.now.draft self.now }
-        requires patient { p.0 < patient_count inst.now.draft }
-        requires placement { IsPlacement inst.now.draft at }
-        requires stay { stay_of (timetable_of self.now) p.0 ≡ old }
-        ensures { result ≡ of_surgery (placement_gain inst.now.draft (timetable_of self.now) p at) }
+    fn surgery_gain(&self, inst: &Instance, trial: &Trial) -> Bill
+        requires { IsTrial inst.now.draft self.now trial.now.p trial.now.old trial.now.at }
+        ensures { result
+            ≡ of_surgery (placement_gain inst.now.draft (timetable_of self.now) trial.now.p trial.now.at) }
     {
+        let Trial { p, old, at } = *trial;
         let surgeon = inst.patient(p).surgeon_id;
         let of_theatre = self.theatres.theatre_gain(inst, p, old, at);
         let of_surgeon = self.theatres.surgeon_gain(inst, surgeon, p, old, at);
@@ -141,20 +127,17 @@ impl CellLedgers {
         }
     }
 
-    // What a placement costs once it is made, less what its cells cost without it. The patient's stay is `old` so far.
-    fn gain(&self, inst: &Instance, p: PatientNo, old: Option<Placement>, at: Placement) -> Bill
-        requires stands { AreLedgers inst.now.draft self.now }
-        requires patient { p.0 < patient_count inst.now.draft }
-        requires placement { IsPlacement inst.now.draft at }
-        requires stay { stay_of (timetable_of self.now) p.0 ≡ old }
-        ensures gain { result ≡ placement_gain inst.now.draft (timetable_of self.now) p at }
+    // What a placement costs once it is made, less what its cells cost without it.
+    fn gain(&self, inst: &Instance, trial: &Trial) -> Bill
+        requires { IsTrial inst.now.draft self.now trial.now.p trial.now.old trial.now.at }
+        ensures gain { result ≡ placement_gain inst.now.draft (timetable_of self.now) trial.now.p trial.now.at }
         ensures within { IsWithin (10 ^ 11) result }
     {
-        let own = stay_change(inst.patient(p), Some(at), None);
-        let surgery = self.surgery_gain(inst, p, old, at);
-        let care = self.nurses.care_gain(inst, p, at);
-        let days = self.more_over_days(inst, p, old, at);
-        let shifts = self.more_over_shifts(inst, p, old, at);
+        let own = stay_change(inst.patient(trial.p), trial.at);
+        let surgery = self.surgery_gain(inst, trial);
+        let care = self.nurses.care_gain(inst, trial.p, trial.at);
+        let days = self.more_over_days(inst, trial);
+        let shifts = self.more_over_shifts(inst, trial);
         Bill {
             v: [
                 days.mixed,
@@ -165,13 +148,13 @@ impl CellLedgers {
                 own.v[ADMISSION_WINDOW],
                 days.crowded,
                 0,
-                shifts.alone,
+                shifts.uncovered,
             ],
             s: [
                 days.ages,
-                shifts.skill,
+                shifts.missing_skill,
                 care.s[CONTINUITY_OF_CARE],
-                shifts.load,
+                shifts.overload,
                 surgery.s[OPEN_THEATRE],
                 surgery.s[SURGEON_TRANSFER],
                 own.s[PATIENT_DELAY],
@@ -196,7 +179,7 @@ impl CellLedgers {
     {
         match stay {
             None => Bill::zero(),
-            Some(at) => self.gain(inst, p, old, at),
+            Some(at) => self.gain(inst, &Trial { p, old, at }),
         }
     }
 
@@ -210,8 +193,9 @@ impl CellLedgers {
         ensures { result ≡ change_of_bill inst.now.draft (timetable_of self.now)
             (put (SetStay p (Some to)) (timetable_of self.now)) }
     {
-        let after = self.surgery_gain(inst, p, Some(from), to);
-        let before = self.surgery_gain(inst, p, Some(from), from);
+        let old = Some(from);
+        let after = self.surgery_gain(inst, &Trial { p, old, at: to });
+        let before = self.surgery_gain(inst, &Trial { p, old, at: from });
         after.sub(&before)
     }
 

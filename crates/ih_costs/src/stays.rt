@@ -1,6 +1,6 @@
 //! What a stay of a patient costs by itself, and what another stay changes in it.
 
-ghost use Rattle.std.specs.Prelude.{◌≡◌, ◌<◌, ◌&&◌, not, is_none, pos, ◌-ℤ◌, IfSome};
+ghost use Rattle.std.specs.Prelude.{◌≡◌, ◌<◌, ◌&&◌, not, is_none, pos, ◌-ℤ◌, None, Some, IfSome};
 ghost use Rattle.ih_tables.specs.Bills.{sub_bills};
 ghost use Rattle.ih_plan.specs.{Sums.bit, BillOf.as_bill};
 ghost use Rattle.ih_costs.specs.StayPart.{stay_part};
@@ -59,17 +59,17 @@ pub fn stay_bill(a: &Patient, stay: Option<Placement>) -> Bill
     }
 }
 
-/// What another stay of a patient, or none, changes in what the stay costs by itself.
-pub fn stay_change(a: &Patient, new: Option<Placement>, old: Option<Placement>) -> Bill
-    requires new { IfSome new (λ at. at.day.0 < 56) }
-    requires old { IfSome old (λ at. at.day.0 < 56) }
-    ensures { result ≡ sub_bills (as_bill (stay_part a.now new)) (as_bill (stay_part a.now old)) }
+/// What a placement of a patient costs by itself, less what it costs to leave the patient out.
+pub fn stay_change(a: &Patient, at: Placement) -> Bill
+    requires { at.day.0 < 56 }
+    ensures { result ≡ sub_bills (as_bill (stay_part a.now (Some at))) (as_bill (stay_part a.now None)) }
 {
-    let bad = mark_rise(in_bad_room(a, new), in_bad_room(a, old));
-    let out = mark_rise(is_out(a, new), is_out(a, old));
-    let outside = mark_rise(outside_window(a, new), outside_window(a, old));
-    let late = delay_rise(delay(a, new), delay(a, old));
-    let left = mark_rise(is_left(a, new), is_left(a, old));
+    let stay = Some(at);
+    let bad = mark_rise(in_bad_room(a, stay), false);
+    let out = mark_rise(is_out(a, stay), is_out(a, None));
+    let outside = mark_rise(outside_window(a, stay), false);
+    let late = delay_rise(delay(a, stay), 0);
+    let left = mark_rise(is_left(a, stay), is_left(a, None));
     Bill {
         v: [0, bad, 0, 0, out, outside, 0, 0, 0],
         s: [0, 0, 0, 0, 0, 0, late, left],

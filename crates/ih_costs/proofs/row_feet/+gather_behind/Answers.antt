@@ -8,7 +8,7 @@ use Rattle.ih_plan.specs.Expand.{after}
 use Rattle.ih_footprint.specs.Gathered.{Gathers}
 use Rattle.ih_plan.specs.Series.{AreMoves, all_touch}
 use Rattle.ih_costs.specs.CellLedgers.{timetable_of}
-use Rattle.ih_costs.proofs.RowLemmas.{alone, gathers-no-moves, gathers-more-moves, gathers-one-move}
+use Rattle.ih_costs.proofs.RowLemmas.{alone, gathers-behind, gathers-no-moves, gathers-one-move}
 use Rattle.ih_costs.proofs.StandLemmas.{kept}
 use Rattle.ih_costs.proofs.UndoLemmas.{taken-back}
 use Rattle.ih_costs.proofs.row_feet.+gather_behind.Goals as goal
@@ -63,18 +63,6 @@ gather_behind-requires-in-Some-split_first t c =
 
 pub returns-else-later-eq0-clause-gathers : goal.returns-else-later-eq0-clause-gathers
 returns-else-later-eq0-clause-gathers t c =
-    let I = c.args.inst.now.draft in
     let P = timetable_of c.args.ledgers.now in
-    let m = c.in-Some-split_first.mv.now in
-    let ms = c.in-Some-split_first.later.now in
-    let u = c.args.scratch.now.set in
-    let v = c.gather_move.new.scratch.set in
-    let w = c.gather_behind-in-Some-split_first.new.scratch.set in
-    let none : c.args.behind.now ≡ [] = nil_from_length c.args.behind.now c.in-None.ensures.cases in
-    let made : put_all c.as_slice.result.now P ≡ after I P m =
-    ap (λ ws. put_all ws P) (c.as_slice.ensures ∙ c.expand_here.ensures.made) in
-    let others : Gathers v w (all_touch I (after I P m) ms) =
-    subst (λ Q. Gathers v w (all_touch I Q ms)) made c.gather_behind-in-Some-split_first.ensures.gathers in
-    let whole : Gathers u w (all_touch I P (m ∷ ms)) = gathers-more-moves I P m ms u v w c.gather_move.ensures.gathers others in
-    subst (λ (ws : List Write). Gathers u w (all_touch I (put_all ws P) c.args.moves.now)) (sym none)
-    (subst (λ (ks : List Move). Gathers u w (all_touch I P ks)) (sym c.in-Some-split_first.ensures.cases.0) whole)
+    gathers-behind c.args.inst.now.draft P (nil_from_length c.args.behind.now c.in-None.ensures.cases) c.in-Some-split_first.ensures.cases.0
+    (ap (λ ws. put_all ws P) (c.as_slice.ensures ∙ c.expand_here.ensures.made)) c.gather_move.ensures.gathers c.gather_behind-in-Some-split_first.ensures.gathers

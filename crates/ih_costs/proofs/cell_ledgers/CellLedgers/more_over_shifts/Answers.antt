@@ -2,29 +2,39 @@ use Rattle.std.proofs.Common.{◌≡◌, ◌*◌, ◌≤◌, refl, arith}
 use Rattle.ih_plan.specs.Persons.{person_of}
 use Rattle.ih_plan.specs.Presence.{end_of}
 use Rattle.ih_costs.specs.CellLedgers.{timetable_of}
-use Rattle.ih_costs.proofs.DayGains.{shift-counted, alone-fits, skill-fits, load-fits, shifts-more}
+use Rattle.ih_costs.proofs.DayGains.{shift-counted, uncovered-fits, missing_skill-fits, overload-fits, shifts-more}
 use Rattle.ih_costs.proofs.GainSteps.{risen-none}
 use Rattle.ih_costs.proofs.cell_ledgers.CellLedgers.more_over_shifts.Goals as goal
 
 pub loop-k-init : goal.loop-k-init
-loop-k-init c = record { alone = risen-none _ _ _; skill = risen-none _ _ _; load = risen-none _ _ _ }
+loop-k-init c = record { uncovered = risen-none _ _ _; missing_skill = risen-none _ _ _; overload = risen-none _ _ _ }
+
+pub shift_gain-gain-requires-clause-patient : goal.shift_gain-gain-requires-clause-patient
+shift_gain-gain-requires-clause-patient c = rw c.new-visit.ensures.patient c.requires.patient
+
+pub shift_gain-gain-requires-clause-placement : goal.shift_gain-gain-requires-clause-placement
+shift_gain-gain-requires-clause-placement c = rw c.new-visit.ensures.placement c.requires.placement
+
+pub shift_gain-gain-requires-clause-visit : goal.shift_gain-gain-requires-clause-visit
+shift_gain-gain-requires-clause-visit c = rw (c.new-visit.ensures.patient, c.new-visit.ensures.placement, c.requires.stay) c.new-visit.ensures.visit
 
 pub shift_gain-gain-requires-clause-counted : goal.shift_gain-gain-requires-clause-counted
 shift_gain-gain-requires-clause-counted c =
-    shift-counted c.args.at.day.0 (person_of c.args.inst.now.draft c.args.p.0).length_of_stay c.args.inst.now.draft.days c.loop-k.k (omega arith)
-    (omega (arith, c.end_of-end.ensures.value, c.loop-k-test.true))
+    rw (c.new-visit.ensures.patient, c.new-visit.ensures.placement)
+    (shift-counted c.args.trial.now.at.day.0 (person_of c.args.inst.now.draft c.args.trial.now.p.0).length_of_stay c.args.inst.now.draft.days c.loop-k.k (omega arith)
+    (omega (arith, c.end_of-end.ensures.value, c.loop-k-test.true)))
 
-pub overflow_add-alone : goal.overflow_add-alone
-overflow_add-alone c =
-    alone-fits _ _ _ _ _ _ _ _ c.loop-k.invariant (omega (arith, c.args.inst.now.valid.days.most)) c.shift_gain-gain.result.alone (omega arith)
+pub overflow_add-uncovered : goal.overflow_add-uncovered
+overflow_add-uncovered c =
+    uncovered-fits _ _ _ _ _ _ _ _ c.loop-k.invariant (omega (arith, c.args.inst.now.valid.days.most)) c.shift_gain-gain.result.uncovered (omega arith)
 
-pub overflow_add-skill : goal.overflow_add-skill
-overflow_add-skill c =
-    skill-fits _ _ _ _ _ _ _ _ c.loop-k.invariant (omega (arith, c.args.inst.now.valid.days.most)) c.shift_gain-gain.result.skill (omega arith)
+pub overflow_add-missing_skill : goal.overflow_add-missing_skill
+overflow_add-missing_skill c =
+    missing_skill-fits _ _ _ _ _ _ _ _ c.loop-k.invariant (omega (arith, c.args.inst.now.valid.days.most)) c.shift_gain-gain.result.missing_skill (omega arith)
 
-pub overflow_add-load : goal.overflow_add-load
-overflow_add-load c =
-    load-fits _ _ _ _ _ _ _ _ c.loop-k.invariant (omega (arith, c.args.inst.now.valid.days.most)) c.shift_gain-gain.result.load (omega arith)
+pub overflow_add-overload : goal.overflow_add-overload
+overflow_add-overload c =
+    overload-fits _ _ _ _ _ _ _ _ c.loop-k.invariant (omega (arith, c.args.inst.now.valid.days.most)) c.shift_gain-gain.result.overload (omega arith)
 
 pub loop-k-preserved : goal.loop-k-preserved
 loop-k-preserved c =
@@ -34,13 +44,16 @@ loop-k-preserved c =
     let gain = c.shift_gain-gain.result in
     let told = c.shift_gain-gain.ensures in
     let stands = c.requires.stands.nurses in
-    shifts-more c.args.inst.now.draft P c.args.p c.args.at c.loop-k.k _ _ _ c.loop-k.invariant few (omega arith)
-    gain.alone gain.skill gain.load (omega arith) (omega arith) (omega arith) (told.alone P stands) (told.skill P stands) (told.load P stands)
+    let uncovered = rw (c.new-visit.ensures.patient, c.new-visit.ensures.placement) at (told.uncovered P stands) in
+    let missing = rw (c.new-visit.ensures.patient, c.new-visit.ensures.placement) at (told.missing_skill P stands) in
+    let overload = rw (c.new-visit.ensures.patient, c.new-visit.ensures.placement) at (told.overload P stands) in
+    shifts-more c.args.inst.now.draft P c.args.trial.now.p c.args.trial.now.at c.loop-k.k _ _ _ c.loop-k.invariant few (omega arith)
+    gain.uncovered gain.missing_skill gain.overload (omega arith) (omega arith) (omega arith) uncovered missing overload
 
 pub returns : goal.returns
 returns c =
     let I = c.args.inst.now.draft in
     let order = c.end_of-end.ensures.order in
-    let whole : c.loop-k.k ≡ 3 * end_of I c.args.p.0 c.args.at = omega (arith, c.end_of-end.ensures.value) in
+    let whole : c.loop-k.k ≡ 3 * end_of I c.args.trial.now.p.0 c.args.trial.now.at = omega (arith, c.end_of-end.ensures.value) in
     let told = rw whole at c.loop-k.invariant in
-    rw (told.alone.told, told.skill.told, told.load.told) refl
+    rw (told.uncovered.told, told.missing_skill.told, told.overload.told) refl

@@ -11,8 +11,8 @@ use Rattle.ih_costs.proofs.cell_ledgers.CellLedgers.surgery_gain.Goals as goal
 pub surgeon_gain-of_surgeon-requires-clause-surgeon : goal.surgeon_gain-of_surgeon-requires-clause-surgeon
 surgeon_gain-of_surgeon-requires-clause-surgeon c =
     let I = c.args.inst.now.draft in
-    let own : surgeon_of I c.args.p.0 ≡ Some c.patient.result.now.surgeon_id.0 = ap (option_map (λ (a : Patient). a.surgeon_id.0)) c.patient.ensures in
-    surgeon-in I c.args.p.0 c.patient.result.now.surgeon_id.0 c.args.inst.now.valid own
+    let own : surgeon_of I c.args.trial.now.p.0 ≡ Some c.patient.result.now.surgeon_id.0 = ap (option_map (λ (a : Patient). a.surgeon_id.0)) c.patient.ensures in
+    surgeon-in I c.args.trial.now.p.0 c.patient.result.now.surgeon_id.0 c.args.inst.now.valid own
 
 pub returns : goal.returns
 returns c =
@@ -20,7 +20,7 @@ returns c =
     let P = timetable_of c.args.self.now in
     let stands = c.requires.stands in
     let plan = plan-fits I P c.args.self.now stands in
-    let own : surgeon_of I c.args.p.0 ≡ Some c.patient.result.now.surgeon_id.0 = ap (option_map (λ (a : Patient). a.surgeon_id.0)) c.patient.ensures in
-    surgery-passed I P c.args.p c.args.at c.patient.result.now.surgeon_id.0 c.theatre_gain-of_theatre.result c.surgeon_gain-of_surgeon.result own
+    let own : surgeon_of I c.args.trial.now.p.0 ≡ Some c.patient.result.now.surgeon_id.0 = ap (option_map (λ (a : Patient). a.surgeon_id.0)) c.patient.ensures in
+    surgery-passed I P c.args.trial.now.p c.args.trial.now.at c.patient.result.now.surgeon_id.0 c.theatre_gain-of_theatre.result c.surgeon_gain-of_surgeon.result own
     (c.theatre_gain-of_theatre.ensures.gain P plan stands.theatres c.requires.stay) c.theatre_gain-of_theatre.ensures.within
     (c.surgeon_gain-of_surgeon.ensures.gain P plan stands.theatres c.requires.stay) c.surgeon_gain-of_surgeon.ensures.within

@@ -9,12 +9,23 @@ use Rattle.ih_costs.proofs.StandLemmas.{plan-fits}
 use Rattle.ih_costs.proofs.TheatreGains.{gains-apart}
 use Rattle.ih_costs.proofs.cell_ledgers.CellLedgers.theatre_price.Goals as goal
 
-pub surgery_gain-after-requires-clause-placement : goal.surgery_gain-after-requires-clause-placement
-surgery_gain-after-requires-clause-placement c = c.requires.write.1 c.args.to refl
+pub surgery_gain-after-requires : goal.surgery_gain-after-requires
+surgery_gain-after-requires c = record {
+  stands = c.requires.stands;
+  patient = c.requires.write.0;
+  placement = c.requires.write.1 c.args.to refl;
+  stay = c.requires.stay;
+}
 
-pub surgery_gain-before-requires-clause-placement : goal.surgery_gain-before-requires-clause-placement
-surgery_gain-before-requires-clause-placement c =
-    (plan-fits c.args.inst.now.draft (timetable_of c.args.self.now) c.args.self.now c.requires.stands).placed c.args.p.0 c.args.from c.requires.stay
+pub surgery_gain-before-requires : goal.surgery_gain-before-requires
+surgery_gain-before-requires c =
+    let plan = plan-fits c.args.inst.now.draft (timetable_of c.args.self.now) c.args.self.now c.requires.stands in
+    record {
+      stands = c.requires.stands;
+      patient = c.requires.write.0;
+      placement = plan.placed c.args.p.0 c.args.from c.requires.stay;
+      stay = c.requires.stay;
+    }
 
 pub sub-requires : goal.sub-requires
 sub-requires c =
