@@ -67,10 +67,10 @@ unfolding all_touch
 gathers-more-moves I P m ms u v w first others = gathers-like (λ c range. refl) (gathers-both first others)
 
 -- the first of moves is gathered, and then the others, past the writes that it makes
-pub gathers-behind : (I : Draft) (P : Timetable) {u v w : Gathered} {ws made : List Write} {moves ms : List Move} {m : Move}
+pub gathers-behind : (I : Draft) (P : Timetable) (made : List Write) {u v w : Gathered} {ws : List Write} {moves ms : List Move} {m : Move}
     → ws ≡ [] → moves ≡ m ∷ ms → put_all made P ≡ after I P m → Gathers u v (touches I P m)
     → Gathers v w (all_touch I (put_all made P) ms) → Gathers u w (all_touch I (put_all ws P) moves)
-gathers-behind I P {u} {v} {w} {ws} {made} {moves} {ms} {m} none first there one others =
+gathers-behind I P made {u} {v} {w} {ws} {moves} {ms} {m} none first there one others =
     let past : Gathers v w (all_touch I (after I P m) ms) = subst (λ (Q : Timetable). Gathers v w (all_touch I Q ms)) there others in
     let whole = gathers-more-moves I P m ms u v w one past in
     subst (λ (ks : List Write). Gathers u w (all_touch I (put_all ks P) moves)) (sym none)

@@ -64,5 +64,5 @@ gather_behind-requires-in-Some-split_first t c =
 pub returns-else-later-eq0-clause-gathers : goal.returns-else-later-eq0-clause-gathers
 returns-else-later-eq0-clause-gathers t c =
     let P = timetable_of c.args.ledgers.now in
-    gathers-behind c.args.inst.now.draft P (nil_from_length c.args.behind.now c.in-None.ensures.cases) c.in-Some-split_first.ensures.cases.0
+    gathers-behind c.args.inst.now.draft P c.as_slice.result.now (nil_from_length c.args.behind.now c.in-None.ensures.cases) c.in-Some-split_first.ensures.cases.0
     (ap (λ ws. put_all ws P) (c.as_slice.ensures ∙ c.expand_here.ensures.made)) c.gather_move.ensures.gathers c.gather_behind-in-Some-split_first.ensures.gathers
