@@ -50,13 +50,10 @@ impl CellLedgers {
         requires patient { p.0 < patient_count inst.now.draft }
         ensures { AreLedgersOf inst.now.draft (put (SetStay p None) (timetable_of self.old)) self.new }
     {
-        match self.plan().stay(p) {
-            None => {}
-            Some(at) => {
-                self.room_days.leave(inst, p, at);
-                self.theatres.leave(inst, p, at);
-                self.nurses.leave(inst, p, at);
-            }
+        if let Some(at) = self.plan().stay(p) {
+            self.room_days.leave(inst, p, at);
+            self.theatres.leave(inst, p, at);
+            self.nurses.leave(inst, p, at);
         }
     }
 
@@ -68,13 +65,10 @@ impl CellLedgers {
         requires out { stay_of (timetable_of self.old) p.0 ≡ None }
         ensures { AreLedgersOf inst.now.draft (put (SetStay p stay) (timetable_of self.old)) self.new }
     {
-        match stay {
-            None => {}
-            Some(at) => {
-                self.room_days.enter(inst, p, at);
-                self.theatres.enter(inst, p, at);
-                self.nurses.enter(inst, p, at);
-            }
+        if let Some(at) = stay {
+            self.room_days.enter(inst, p, at);
+            self.theatres.enter(inst, p, at);
+            self.nurses.enter(inst, p, at);
         }
     }
 

@@ -1,10 +1,8 @@
 use Rattle.std.proofs.Common.{◌≡◌, ◌∷◌, [], ◌∙◌, sym, ap, subst, arith, length, List}
 use Rattle.std.proofs.lemmas.List.{nil_from_length}
-use Rattle.ih_plan.specs.declared.moves.Move.{Move}
 use Rattle.ih_plan.specs.declared.moves.Write.{Write}
 use Rattle.ih_plan.specs.Timetable.{Timetable}
 use Rattle.ih_plan.specs.Writes.{put, put_all}
-use Rattle.ih_plan.specs.Expand.{after}
 use Rattle.ih_footprint.specs.Gathered.{Gathers}
 use Rattle.ih_plan.specs.Series.{AreMoves, all_touch}
 use Rattle.ih_costs.specs.CellLedgers.{timetable_of}
