@@ -1,9 +1,9 @@
 -- What a move off the frozen choices leaves: the timetable agrees with the start on them as before.
-use Rattle.std.proofs.Common.{◌≡◌, ℕ, ◌<◌, ◌≤◌, refl, sym, ap, ◌∙◌, subst, arith, inl, inr, Bool, true, false, List, [], ◌∷◌, ◌++◌, length, Option, Some, None}
-use Rattle.std.specs.Prelude.{◌||◌, ◌⊎◌, ◌≢◌, if◌then◌else◌, option_map, nat_lt, nat_le, ◌==◌}
+use Rattle.std.proofs.Common.{◌≡◌, ℕ, refl, sym, ap, ◌∙◌, subst, arith, inl, inr, Bool, true, false, List, [], ◌∷◌, Option, Some, None}
+use Rattle.std.specs.Prelude.{◌||◌, ◌⊎◌, ◌≢◌, if◌then◌else◌, option_map, nat_lt, ◌==◌}
 use Rattle.std.specs.List.{list_any}
 use Rattle.std.proofs.lemmas.Bool.{lt-ltb}
-use Rattle.std.proofs.lemmas.Bool.Decides.{eqb_tells, leb_tells}
+use Rattle.std.proofs.lemmas.Bool.Decides.{eqb_tells}
 use Rattle.ih_tables.specs.declared.ids.NurseNo.{NurseNo}
 use Rattle.ih_tables.specs.declared.ids.PatientNo.{PatientNo}
 use Rattle.ih_tables.specs.declared.ids.RoomNo.{RoomNo}
@@ -23,8 +23,7 @@ use Rattle.ih_journal.specs.Tried.{Tried}
 use Rattle.ih_journal.specs.Base.{Base}
 use Rattle.ih_journal.specs.Frozen.{is_before, is_frozen_write}
 use Rattle.ih_journal.specs.Frozen.{AgreesBefore, is_frozen}
-use Rattle.ih_journal.specs.History.{after_entries, after_entry, plan_after, plan_at, is_accepted}
-use Rattle.ih_journal.proofs.Growth.{plan_after-more, plan_at-earlier, plan_at-end, length-more}
+use Rattle.ih_journal.specs.History.{after_entry, is_accepted}
 
 neither : (a b : Bool) → (a || b) ≡ false → (a ≡ false) × (b ≡ false)
 neither true b h = absurd (let no : true ≡ false = h in cc)

@@ -5,17 +5,12 @@ use Rattle.std.proofs.lemmas.Fmt.{decimal_injective}
 use Rattle.std.proofs.lemmas.List.Elements.{All-nil, All-cons, All-append}
 use Rattle.ih_journal.specs.declared.settings.Options.{Options}
 use Rattle.ih_journal.specs.Settings.{IsLawful}
-use Rattle.ih_journal.specs.Texts.{heading, option_text, version_text, retries_field}
+use Rattle.ih_journal.specs.Texts.{heading, option_text, options_from, version_text, retries_field}
 use Rattle.ih_journal.specs.Grammar.{parted}
 use Rattle.ih_journal.specs.Pieces.{AreShortOptions, left_parted}
 use Rattle.ih_journal.proofs.Separators.{parted_some}
-use Rattle.ih_journal.proofs.Lacking.{Lacks, lacks_decimal, lacks_joined, parted_joined, parted_text, plain, plain_lacks, low_mark, head_of, tail_of}
+use Rattle.ih_journal.proofs.Lacking.{Lacks, lacks_decimal, lacks_joined, parted_joined, parted_text, plain, plain_lacks, low_mark, head_of, tail_of, same_tails}
 use Rattle.std.proofs.lemmas.Bool.{ne_eqb}
-
--- the options behind the version
-abbrev pub options_from : Options → List (List ℕ)
-options_from o = option_text (codes "seed") o.seed ∷ option_text (codes "workers") o.workers ∷ option_text (codes "moves") o.moves
-    ∷ option_text (codes "heat") o.heat ∷ option_text (codes "hard") o.hard ∷ retries_field o.retries
 
 option_lacks : (m : ℕ) (name : List ℕ) (n : ℕ) → m ≤ 32 → plain name ≡ true → n < 2 ^ 64 → Lacks m (option_text name n)
 option_lacks m name n low known small =
@@ -62,14 +57,19 @@ unfolding heading
 heading_lacks o short =
     lacks_joined 10 32 (codes "ihjournal" ∷ version_text o.retries ∷ options_from o) (λ e. omega (arith, e)) (heading_fields_lack 10 o (omega arith) short)
 
--- fields that were read are those of a heading
-pub heading_read : (o : Options) (bytes title version : List ℕ) (r0 r1 r2 r3 r4 r5 r6 : List (List ℕ)) → parted 32 bytes ≡ title ∷ r0 → title ≡ codes "ihjournal"
-    → r0 ≡ version ∷ r1 → version ≡ version_text o.retries → r1 ≡ (codes "seed=" ++ decimal o.seed) ∷ r2 → r2 ≡ (codes "workers=" ++ decimal o.workers) ∷ r3
-    → r3 ≡ (codes "moves=" ++ decimal o.moves) ∷ r4 → r4 ≡ (codes "heat=" ++ decimal o.heat) ∷ r5 → r5 ≡ (codes "hard=" ++ decimal o.hard) ∷ r6
-    → r6 ≡ retries_field o.retries → bytes ≡ heading o
+-- fields that were read are those of options
+pub options_read : (seed workers moves heat hard retries : ℕ) (r1 r2 r3 r4 r5 r6 : List (List ℕ)) → r1 ≡ (codes "seed=" ++ decimal seed) ∷ r2
+    → r2 ≡ (codes "workers=" ++ decimal workers) ∷ r3 → r3 ≡ (codes "moves=" ++ decimal moves) ∷ r4 → r4 ≡ (codes "heat=" ++ decimal heat) ∷ r5
+    → r5 ≡ (codes "hard=" ++ decimal hard) ∷ r6 → r6 ≡ retries_field retries
+    → r1 ≡ options_from (record { seed = seed; workers = workers; moves = moves; heat = heat; hard = hard; retries = retries })
+options_read seed workers moves heat hard retries r1 r2 r3 r4 r5 r6 f1 f2 f3 f4 f5 f6 = rw (f1, f2, f3, f4, f5, f6) refl
+
+-- and with a title and a number those of a heading
+pub heading_read : (o : Options) (bytes title version : List ℕ) (r0 r1 : List (List ℕ)) → parted 32 bytes ≡ title ∷ r0 → title ≡ codes "ihjournal"
+    → r0 ≡ version ∷ r1 → version ≡ version_text o.retries → r1 ≡ options_from o → bytes ≡ heading o
 unfolding heading
-heading_read o bytes title version r0 r1 r2 r3 r4 r5 r6 f0 is_title f1 is_version f2 f3 f4 f5 f6 f7 =
-    parted_text 32 bytes (codes "ihjournal" ∷ version_text o.retries ∷ options_from o) (f0 ∙ rw (f1, f2, f3, f4, f5, f6, f7, is_title, is_version) refl)
+heading_read o bytes title version r0 r1 f0 is_title f1 is_version f2 =
+    parted_text 32 bytes (codes "ihjournal" ∷ version_text o.retries ∷ options_from o) (f0 ∙ rw (f1, f2, is_title, is_version) refl)
 
 -- lawful options are short
 pub lawful_short : (o : Options) → IsLawful o → o.seed < 2 ^ 64 → AreShortOptions o
@@ -90,7 +90,7 @@ behind (c ∷ name) x y h = behind name x y (tail_of h)
 option_same : (name : List ℕ) (m n : ℕ) → m < 2 ^ 64 → n < 2 ^ 64 → option_text name m ≡ option_text name n → m ≡ n
 option_same name m n small other h = decimal_injective m n small other (tail_of (behind name (61 ∷ decimal m) (61 ∷ decimal n) h))
 
-pub retries_same : (r s : ℕ) → r < 2 ^ 32 → s < 2 ^ 32 → retries_field r ≡ retries_field s → r ≡ s
+retries_same : (r s : ℕ) → r < 2 ^ 32 → s < 2 ^ 32 → retries_field r ≡ retries_field s → r ≡ s
 retries_same zero zero small other h = refl
 retries_same zero (suc s) small other h = absurd (let no : [] ≡ option_text (codes "retries") (suc s) ∷ [] = h in cc)
 retries_same (suc r) zero small other h = absurd (let no : option_text (codes "retries") (suc r) ∷ [] ≡ [] = h in cc)
@@ -106,11 +106,8 @@ same_options o p seed workers moves heat hard retries = all seed workers moves h
     all : {a a' b b' c c' d d' e e' f f' : ℕ} → a ≡ a' → b ≡ b' → c ≡ c' → d ≡ d' → e ≡ e' → f ≡ f' → options_made a b c d e f ≡ options_made a' b' c' d' e' f'
     all ea eb ec ed ee ef = rw (ea, eb, ec, ed, ee, ef) refl
 
-pub headings_differ : (o p : Options) → AreShortOptions o → AreShortOptions p → heading o ≡ heading p → o ≡ p
-headings_differ o p a b h =
-    let parts = sym (heading_parted o (heading o) a refl) ∙ heading_parted p (heading o) b h in
-    let version = tail_of parts in
-    let seed = tail_of version in
+pub options_differ : (o p : Options) → AreShortOptions o → AreShortOptions p → options_from o ≡ options_from p → o ≡ p
+options_differ o p a b seed =
     let workers = tail_of seed in
     let moves = tail_of workers in
     let heat = tail_of moves in
@@ -122,6 +119,9 @@ headings_differ o p a b h =
     (option_same (codes "heat") o.heat p.heat (let x = a.heat in omega arith) (let x = b.heat in omega arith) (head_of heat))
     (option_same (codes "hard") o.hard p.hard (let x = a.hard in omega arith) (let x = b.hard in omega arith) (head_of hard))
     (retries_same o.retries p.retries a.retries b.retries (tail_of hard))
+
+pub headings_differ : (o p : Options) → AreShortOptions o → AreShortOptions p → heading o ≡ heading p → o ≡ p
+headings_differ o p a b h = options_differ o p a b (tail_of (same_tails (heading_parted o (heading o) a refl) (heading_parted p (heading o) b h)))
 
 -- ---- the last field
 

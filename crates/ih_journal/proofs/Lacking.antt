@@ -125,6 +125,10 @@ head_of h = cc
 pub tail_of : {A : Type 0} {x y : A} {xs ys : List A} → x ∷ xs ≡ y ∷ ys → xs ≡ ys
 tail_of h = cc
 
+-- what is behind the first of one list that is told in two ways
+pub same_tails : {A : Type 0} {x y : A} {all xs ys : List A} → all ≡ x ∷ xs → all ≡ y ∷ ys → xs ≡ ys
+same_tails a b = tail_of (sym a ∙ b)
+
 pub four_lack : (m : ℕ) (a b c d : List ℕ) → Lacks m a → Lacks m b → Lacks m c → Lacks m d → All (Lacks m) (a ∷ b ∷ c ∷ d ∷ [])
 four_lack m a b c d la lb lc ld =
     All-cons (Lacks m) a (b ∷ c ∷ d ∷ []) la (All-cons (Lacks m) b (c ∷ d ∷ []) lb (All-cons (Lacks m) c (d ∷ []) lc (All-cons (Lacks m) d [] ld (All-nil (Lacks m)))))

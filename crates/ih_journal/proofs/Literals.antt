@@ -20,7 +20,8 @@ use Rattle.ih_journal.specs.Texts.{move_text, cell_text, fields, heading, lines_
 
 -- every definition that a worked example computes
 unfoldable pub history_on_literals : ⊤
-unfolding digits moves_on_literals draws_on_literals after_all all_touch expand_all is_frozen last_by is_done next_attempt after_entries touched_since touches_since verdict_on first_touched move_text cell_text fields heading lines_from
+unfolding digits moves_on_literals draws_on_literals after_all all_touch expand_all is_frozen last_by is_done next_attempt after_entries
+    touched_since touches_since verdict_on first_touched move_text cell_text fields heading lines_from
 history_on_literals = tt
 
 -- the options of a search with a hard weight of 1,000: seed, workers, moves, heat, retries

@@ -273,7 +273,8 @@ heading-length o lawful seed = by_form o.retries lawful.retries
         omega (arith, all)
     by_form (suc r) few =
         let version : length (codes "2") ≤ 1 = omega arith in
-        let retries : length (option_text (codes "retries") (suc r)) ≤ 9 = (let n = option-length (codes "retries") 1 (suc r) (omega arith) (omega (arith, few)) (omega (arith, few)) in omega (arith, n)) in
+        let retries : length (option_text (codes "retries") (suc r)) ≤ 9 =
+        (let n = option-length (codes "retries") 1 (suc r) (omega arith) (omega (arith, few)) (omega (arith, few)) in omega (arith, n)) in
         let all = joined-length 32 (9 ∷ 1 ∷ 25 ∷ 15 ∷ 13 ∷ 12 ∷ 12 ∷ 9 ∷ [])
         (codes "ihjournal" ∷ codes "2" ∷ option_text (codes "seed") o.seed ∷ option_text (codes "workers") o.workers ∷ option_text (codes "moves") o.moves
         ∷ option_text (codes "heat") o.heat ∷ option_text (codes "hard") o.hard ∷ option_text (codes "retries") (suc r) ∷ [])

@@ -39,7 +39,8 @@ is_done_after o (Some e) = if o.moves == 0 then true else (e.number + 1 == o.mov
 abbrev pub attempt_after : Options → Option Tried → Attempt
 attempt_after o None = record { number = 0; again = 0 }
 attempt_after o (Some e) =
-    if is_retried o e then record { number = e.number; again = e.again + 1 } else record { number = e.number + 1; again = 0 }
+    if is_retried o e then record { number = e.number; again = e.again + 1 }
+    else record { number = e.number + 1; again = 0 }
 
 -- worker w has made all its attempts
 unfoldable pub is_done : Options → List Tried → ℕ → Bool

@@ -59,7 +59,8 @@ pub record IsHistoryOf (I : Draft) (o : Options) (H : List Entry) : Type 0 where
 
 -- No two searches of an instance have one journal: its bytes name the options and the history.
 abbrev pub JournalsDiffer : Type 0
-JournalsDiffer = (I : Draft) → IsValid I → (o p : Options) (H G : List Entry) → IsHistoryOf I o H → IsHistoryOf I p G → journal o H ≡ journal p G
+JournalsDiffer = (I : Draft) → IsValid I → (o p : Options) (H G : List Entry)
+    → IsHistoryOf I o H → IsHistoryOf I p G → journal o H ≡ journal p G
     → (o ≡ p) × (H ≡ G)
 
 -- ---- fields
@@ -79,7 +80,8 @@ again_kind (suc retries) = count_kind ∷ []
 
 -- the fields of a line, in order
 abbrev pub kinds : Options → List Kind
-kinds o = count_kind ∷ count_kind ∷ count_kind ∷ again_kind o.retries ++ count_kind ∷ move_kind ∷ price_kind ∷ verdict_kind ∷ []
+kinds o = count_kind ∷ count_kind ∷ count_kind
+    ∷ again_kind o.retries ++ count_kind ∷ move_kind ∷ price_kind ∷ verdict_kind ∷ []
 
 -- the field is the text of a value of its kind, in range
 abbrev pub IsField : Draft → Kind → List ℕ → Type 0

@@ -16,7 +16,8 @@ Wants line next kind = slice_get (kinds line.options.now) next.index ≡ Some ki
 
 -- The next field is this text, it is right, and another one is then the next.
 abbrev pub HasRead : Line → Next → List ℕ → Next → Type 0
-HasRead line next text after = Reads line.inst.now.draft line.options.now line.bytes.now next.index next.at text after.index after.at
+HasRead line next text after =
+    Reads line.inst.now.draft line.options.now line.bytes.now next.index next.at text after.index after.at
 
 -- It names the first field that is wrong.
 abbrev pub NamesWrong : Line → BadLine → Type 0

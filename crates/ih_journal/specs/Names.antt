@@ -55,63 +55,59 @@ cell_numbers (Care x) = x.0 ∷ []
 abbrev pub AreShort : List ℕ → Type 0
 AreShort ns = All (λ n. n < 2 ^ 32) ns
 
--- the move with one number
-abbrev pub move_of_one : List ℕ → ℕ → Option Move
-move_of_one name a = if bytes_eq name (codes "withdraw") then Some (Withdraw (record { 0 = a })) else None
+-- what has this name in a table
+abbrev pub by_name : {A : Type 0} → List ℕ → List (List ℕ × A) → Option A
+by_name name [] = None
+by_name name (e ∷ es) = if bytes_eq name e.0 then Some e.1 else by_name name es
 
--- the move with two numbers
-abbrev pub move_of_two : List ℕ → ℕ → ℕ → Option Move
-move_of_two name a b =
-    if bytes_eq name (codes "setday") then Some (SetDay (record { 0 = a }) (record { 0 = b }))
-    else if bytes_eq name (codes "setroom") then Some (SetRoom (record { 0 = a }) (record { 0 = b }))
-    else if bytes_eq name (codes "settheatre") then Some (SetTheatre (record { 0 = a }) (record { 0 = b }))
-    else if bytes_eq name (codes "swaprooms") then Some (SwapRooms (record { 0 = a }) (record { 0 = b }))
-    else None
+-- the moves with one number, by name; with two numbers, three and four
+abbrev pub moves_of_one : ℕ → List (List ℕ × Move)
+moves_of_one a = (codes "withdraw", Withdraw (record { 0 = a })) ∷ []
 
--- the move with three numbers
-abbrev pub move_of_three : List ℕ → ℕ → ℕ → ℕ → Option Move
-move_of_three name a b c =
-    if bytes_eq name (codes "nurse") then Some (Nurse (record { 0 = a }) (record { 0 = b }) (record { 0 = c }))
-    else if bytes_eq name (codes "swapnurses") then Some (SwapNurses (record { 0 = a }) (record { 0 = b }) (record { 0 = c }))
-    else None
+abbrev pub moves_of_two : ℕ → ℕ → List (List ℕ × Move)
+moves_of_two a b =
+    (codes "setday", SetDay (record { 0 = a }) (record { 0 = b }))
+    ∷ (codes "setroom", SetRoom (record { 0 = a }) (record { 0 = b }))
+    ∷ (codes "settheatre", SetTheatre (record { 0 = a }) (record { 0 = b }))
+    ∷ (codes "swaprooms", SwapRooms (record { 0 = a }) (record { 0 = b })) ∷ []
 
--- the move with four numbers
-abbrev pub move_of_four : List ℕ → ℕ → ℕ → ℕ → ℕ → Option Move
-move_of_four name a b c d =
-    if bytes_eq name (codes "place")
-    then Some (Place (record { 0 = a }) (record { day = record { 0 = b }; room = record { 0 = c }; theatre = record { 0 = d } }))
-    else if bytes_eq name (codes "nurserun") then Some (NurseRun (record { 0 = a }) (record { 0 = b }) (record { 0 = c }) d)
-    else None
+abbrev pub moves_of_three : ℕ → ℕ → ℕ → List (List ℕ × Move)
+moves_of_three a b c =
+    (codes "nurse", Nurse (record { 0 = a }) (record { 0 = b }) (record { 0 = c }))
+    ∷ (codes "swapnurses", SwapNurses (record { 0 = a }) (record { 0 = b }) (record { 0 = c })) ∷ []
+
+abbrev pub moves_of_four : ℕ → ℕ → ℕ → ℕ → List (List ℕ × Move)
+moves_of_four a b c d = (
+  codes "place",
+  Place (record { 0 = a }) (record { day = record { 0 = b }; room = record { 0 = c }; theatre = record { 0 = d } }),
+)
+    ∷ (codes "nurserun", NurseRun (record { 0 = a }) (record { 0 = b }) (record { 0 = c }) d) ∷ []
 
 -- the move with a name and numbers
 unfoldable pub move_named : List ℕ → List ℕ → Option Move
 move_named name ns =
-    if length ns == 1 then move_of_one name (slice_index ns 0)
-    else if length ns == 2 then move_of_two name (slice_index ns 0) (slice_index ns 1)
-    else if length ns == 3 then move_of_three name (slice_index ns 0) (slice_index ns 1) (slice_index ns 2)
-    else if length ns == 4 then move_of_four name (slice_index ns 0) (slice_index ns 1) (slice_index ns 2) (slice_index ns 3)
+    if length ns == 1 then by_name name (moves_of_one (slice_index ns 0))
+    else if length ns == 2 then by_name name (moves_of_two (slice_index ns 0) (slice_index ns 1))
+    else if length ns == 3 then by_name name (moves_of_three (slice_index ns 0) (slice_index ns 1) (slice_index ns 2))
+    else if length ns == 4
+    then by_name name (moves_of_four (slice_index ns 0) (slice_index ns 1) (slice_index ns 2) (slice_index ns 3))
     else None
 
--- the cell with one number
-abbrev pub cell_of_one : List ℕ → ℕ → Option Cell
-cell_of_one name a =
-    if bytes_eq name (codes "stay") then Some (Stay (record { 0 = a }))
-    else if bytes_eq name (codes "care") then Some (Care (record { 0 = a }))
-    else None
+-- the cells with one number, and with two
+abbrev pub cells_of_one : ℕ → List (List ℕ × Cell)
+cells_of_one a = (codes "stay", Stay (record { 0 = a })) ∷ (codes "care", Care (record { 0 = a })) ∷ []
 
--- the cell with two numbers
-abbrev pub cell_of_two : List ℕ → ℕ → ℕ → Option Cell
-cell_of_two name a b =
-    if bytes_eq name (codes "roomday") then Some (RoomDay (record { 0 = a }) (record { 0 = b }))
-    else if bytes_eq name (codes "theatreday") then Some (TheatreDay (record { 0 = a }) (record { 0 = b }))
-    else if bytes_eq name (codes "surgeonday") then Some (SurgeonDay (record { 0 = a }) (record { 0 = b }))
-    else if bytes_eq name (codes "roomshift") then Some (RoomShift (record { 0 = a }) (record { 0 = b }))
-    else if bytes_eq name (codes "nurseshift") then Some (NurseShift (record { 0 = a }) (record { 0 = b }))
-    else None
+abbrev pub cells_of_two : ℕ → ℕ → List (List ℕ × Cell)
+cells_of_two a b =
+    (codes "roomday", RoomDay (record { 0 = a }) (record { 0 = b }))
+    ∷ (codes "theatreday", TheatreDay (record { 0 = a }) (record { 0 = b }))
+    ∷ (codes "surgeonday", SurgeonDay (record { 0 = a }) (record { 0 = b }))
+    ∷ (codes "roomshift", RoomShift (record { 0 = a }) (record { 0 = b }))
+    ∷ (codes "nurseshift", NurseShift (record { 0 = a }) (record { 0 = b })) ∷ []
 
 -- the cell with a name and numbers
 unfoldable pub cell_named : List ℕ → List ℕ → Option Cell
 cell_named name ns =
-    if length ns == 1 then cell_of_one name (slice_index ns 0)
-    else if length ns == 2 then cell_of_two name (slice_index ns 0) (slice_index ns 1)
+    if length ns == 1 then by_name name (cells_of_one (slice_index ns 0))
+    else if length ns == 2 then by_name name (cells_of_two (slice_index ns 0) (slice_index ns 1))
     else None

@@ -1,8 +1,9 @@
 -- Texts piece by piece, as they are written and read.
-use Rattle.std.specs.Prelude.{◌≡◌, ℕ, ◌<◌, ◌≤◌, ◌+◌, ◌^◌, nat_lt, List, [], ◌∷◌, length, drop, flat_map, Option, Some, None, if◌then◌else◌, ℤ, pos, neg_ℤ, ◌≤ℤ◌}
+use Rattle.std.specs.Prelude.{◌≡◌, ℕ, ◌<◌, ◌≤◌, ◌+◌, ◌^◌, nat_lt, List, [], ◌∷◌, length, drop, flat_map, Option, Some, None, if◌then◌else◌, ℤ, pos, neg_ℤ, ◌≤ℤ◌, map, decimal}
 use Rattle.ih_tables.specs.declared.drafts.Draft.{Draft}
 use Rattle.ih_journal.specs.declared.settings.Options.{Options}
 use Rattle.ih_journal.specs.Grammar.{parted, IsRight}
+use Rattle.ih_journal.specs.Names.{AreShort}
 
 -- each piece with the separator before it
 abbrev pub marked : ℕ → List (List ℕ) → List ℕ
@@ -12,6 +13,13 @@ marked c pieces = flat_map (λ (x : List ℕ). c ∷ x) pieces
 abbrev pub left_parted : ℕ → Option (List ℕ) → List (List ℕ)
 left_parted c None = []
 left_parted c (Some rest) = parted c rest
+
+-- The bytes are parted as a name and numbers of 32 bits: one separator stands behind the name, the other between numbers.
+pub record IsCut (behind between : ℕ) (bs name ns : List ℕ) : Type 0 where
+  pub rest : List ℕ
+  pub cut : parted behind bs ≡ name ∷ parted behind rest
+  pub read : parted between rest ≡ map decimal ns
+  pub short : AreShort ns
 
 -- a number of a price
 abbrev pub IsSmall : ℤ → Type 0

@@ -92,10 +92,15 @@ abbrev pub retries_field : ℕ → List (List ℕ)
 retries_field zero = []
 retries_field (suc retries) = option_text (codes "retries") (suc retries) ∷ []
 
+-- the options behind the version
+abbrev pub options_from : Options → List (List ℕ)
+options_from o =
+    option_text (codes "seed") o.seed ∷ option_text (codes "workers") o.workers ∷ option_text (codes "moves") o.moves
+    ∷ option_text (codes "heat") o.heat ∷ option_text (codes "hard") o.hard ∷ retries_field o.retries
+
 -- the heading of a journal: what the search was asked to do, without its line feed
 unfoldable pub heading : Options → List ℕ
-heading o = join_with_byte 32 (codes "ihjournal" ∷ version_text o.retries ∷ option_text (codes "seed") o.seed ∷ option_text (codes "workers") o.workers
-    ∷ option_text (codes "moves") o.moves ∷ option_text (codes "heat") o.heat ∷ option_text (codes "hard") o.hard ∷ retries_field o.retries)
+heading o = join_with_byte 32 (codes "ihjournal" ∷ version_text o.retries ∷ options_from o)
 
 -- a text with its line feed
 abbrev pub ended : List ℕ → List ℕ

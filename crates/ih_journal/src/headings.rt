@@ -3,7 +3,7 @@
 ghost use Rattle.std.specs.Prelude.{◌≡◌, ◌++◌, ◌≤◌, ◌<◌, ◌^◌, ℕ, List, ◌∷◌, IfSome, IfNone, Some, decimal};
 ghost use Rattle.std.specs.Option.{option_copied};
 ghost use Rattle.ih_journal.specs.{declared.settings.Options.Options, Settings.IsLawful, Texts.heading};
-ghost use Rattle.ih_journal.specs.{Texts.retries_field, Pieces.left_parted, Pieces.AreShortOptions};
+ghost use Rattle.ih_journal.specs.{Texts.retries_field, Pieces.left_parted, Pieces.AreShortOptions, Texts.options_from};
 
 use crate::lines::version;
 use crate::named::is;
@@ -41,6 +41,29 @@ fn retries_of(left: Option<&[u8]>) -> Option<u32>
     }
 }
 
+// The options that a heading's fields tell, behind the number of its form.
+fn options_told(left: Option<&[u8]>) -> Option<Options>
+    ensures some { IfSome result
+        (λ o. AreShortOptions o × (left_parted 32 (option_copied left.entry) ≡ options_from o)) }
+    ensures none { IfNone result
+        ((o : Options) → AreShortOptions o → left_parted 32 (option_copied left.entry) ≡ options_from o → ⊥) }
+{
+    let (seed, left) = next_option(left, "seed=", u64::MAX)?;
+    let (workers, left) = next_option(left, "workers=", u32::MAX as u64)?;
+    let (moves, left) = next_option(left, "moves=", u32::MAX as u64)?;
+    let (heat, left) = next_option(left, "heat=", u32::MAX as u64)?;
+    let (hard, left) = next_option(left, "hard=", u32::MAX as u64)?;
+    let retries = retries_of(left)?;
+    Some(Options {
+        seed,
+        workers: workers as u32,
+        moves: moves as u32,
+        heat: heat as u32,
+        hard: hard as u32,
+        retries,
+    })
+}
+
 fn options_of(bytes: &[u8]) -> Option<Options>
     ensures some { IfSome result (λ o. AreShortOptions o × (bytes.now ≡ heading o)) }
     ensures none { IfNone result ((o : Options) → AreShortOptions o → bytes.now ≡ heading o → ⊥) }
@@ -50,23 +73,11 @@ fn options_of(bytes: &[u8]) -> Option<Options>
         return None;
     }
     let (number, left) = cut(left?, b' ');
-    let (seed, left) = next_option(left, "seed=", u64::MAX)?;
-    let (workers, left) = next_option(left, "workers=", u32::MAX as u64)?;
-    let (moves, left) = next_option(left, "moves=", u32::MAX as u64)?;
-    let (heat, left) = next_option(left, "heat=", u32::MAX as u64)?;
-    let (hard, left) = next_option(left, "hard=", u32::MAX as u64)?;
-    let retries = retries_of(left)?;
-    if !is(number, version(retries)) {
+    let options = options_told(left)?;
+    if !is(number, version(options.retries)) {
         return None;
     }
-    Some(Options {
-        seed,
-        workers: workers as u32,
-        moves: moves as u32,
-        heat: heat as u32,
-        hard: hard as u32,
-        retries,
-    })
+    Some(options)
 }
 
 /// Reads the heading of a journal, without its line feed. There is none where the bytes are the heading of no lawful

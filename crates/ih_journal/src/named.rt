@@ -3,8 +3,8 @@
 ghost use Rattle.std.specs.Prelude.{◌≡◌, ◌↔◌, IsTrue};
 ghost use Rattle.std.specs.Str.{bytes_eq};
 ghost use Rattle.ih_plan.specs.{Expand.IsMoveOf, Cells.IsCellOf};
-ghost use Rattle.ih_journal.specs.Names.{move_of_one, move_of_two, move_of_three, move_of_four, move_named};
-ghost use Rattle.ih_journal.specs.Names.{cell_of_one, cell_of_two, cell_named};
+ghost use Rattle.ih_journal.specs.Names.{by_name, moves_of_one, moves_of_two, moves_of_three, moves_of_four, move_named};
+ghost use Rattle.ih_journal.specs.Names.{cells_of_one, cells_of_two, cell_named};
 
 use ih_plan::{Move, Placement};
 use ih_tables::{
@@ -19,7 +19,7 @@ pub fn is(name: &[u8], text: &str) -> bool
 }
 
 fn move_of_one(name: &[u8], a: u32) -> Option<Move>
-    ensures { result ≡ move_of_one name.now a }
+    ensures { result ≡ by_name name.now (moves_of_one a) }
 {
     if is(name, "withdraw") {
         Some(Move::Withdraw(PatientNo(a)))
@@ -29,7 +29,7 @@ fn move_of_one(name: &[u8], a: u32) -> Option<Move>
 }
 
 fn move_of_two(name: &[u8], a: u32, b: u32) -> Option<Move>
-    ensures { result ≡ move_of_two name.now a b }
+    ensures { result ≡ by_name name.now (moves_of_two a b) }
 {
     if is(name, "setday") {
         Some(Move::SetDay(PatientNo(a), Day(b)))
@@ -45,7 +45,7 @@ fn move_of_two(name: &[u8], a: u32, b: u32) -> Option<Move>
 }
 
 fn move_of_three(name: &[u8], a: u32, b: u32, c: u32) -> Option<Move>
-    ensures { result ≡ move_of_three name.now a b c }
+    ensures { result ≡ by_name name.now (moves_of_three a b c) }
 {
     if is(name, "nurse") {
         Some(Move::Nurse(RoomNo(a), Shift(b), NurseNo(c)))
@@ -57,7 +57,7 @@ fn move_of_three(name: &[u8], a: u32, b: u32, c: u32) -> Option<Move>
 }
 
 fn move_of_four(name: &[u8], a: u32, b: u32, c: u32, d: u32) -> Option<Move>
-    ensures { result ≡ move_of_four name.now a b c d }
+    ensures { result ≡ by_name name.now (moves_of_four a b c d) }
 {
     if is(name, "place") {
         let at = Placement {
@@ -88,7 +88,7 @@ pub fn move_named(name: &[u8], ns: &[u32]) -> Option<Move>
 }
 
 fn cell_of_one(name: &[u8], a: u32) -> Option<Cell>
-    ensures { result ≡ cell_of_one name.now a }
+    ensures { result ≡ by_name name.now (cells_of_one a) }
 {
     if is(name, "stay") {
         Some(Cell::Stay(PatientNo(a)))
@@ -100,7 +100,7 @@ fn cell_of_one(name: &[u8], a: u32) -> Option<Cell>
 }
 
 fn cell_of_two(name: &[u8], a: u32, b: u32) -> Option<Cell>
-    ensures { result ≡ cell_of_two name.now a b }
+    ensures { result ≡ by_name name.now (cells_of_two a b) }
 {
     if is(name, "roomday") {
         Some(Cell::RoomDay(RoomNo(a), Day(b)))

@@ -1,10 +1,10 @@
 //! Reading moves, cells, prices and verdicts.
 
-ghost use Rattle.std.specs.Prelude.{◌≡◌, IfSome, IfNone, Some, true, length, take, drop};
+ghost use Rattle.std.specs.Prelude.{◌≡◌, ◌≤◌, ℕ, List, IfSome, IfNone, Some, true, length, take, drop};
 ghost use Rattle.ih_plan.specs.{declared.moves.Move.Move, Expand.IsMoveOf, Cells.IsCellOf};
 ghost use Rattle.ih_tables.specs.{declared.cells.Cell.Cell, declared.bills.Bill.Bill};
 ghost use Rattle.ih_journal.specs.Texts.{move_text, cell_text, price_text, verdict_text};
-ghost use Rattle.ih_journal.specs.Names.{move_numbers, cell_numbers, AreShort};
+ghost use Rattle.ih_journal.specs.{Names.move_numbers, Names.cell_numbers, Names.AreShort, Pieces.IsCut};
 ghost use Rattle.ih_journal.specs.{declared.entries.Verdict.Verdict, Grammar.IsPrice, Grammar.IsVerdictOf};
 ghost use Rattle.ih_journal.specs.{Attempts.is_stale};
 
@@ -14,6 +14,24 @@ use crate::numerals::{cut, number_of, numbers, signed_numbers};
 use ih_plan::Move;
 use ih_tables::{Bill, Cell, Instance};
 
+// The name before the first separator, and how many numbers stand behind it, with the other separator between each two.
+// They go into the front of `out`.
+fn name_and_numbers<'a>(
+    bytes: &'a [u8],
+    behind: u8,
+    between: u8,
+    out: &mut [u32],
+) -> Option<(&'a [u8], usize)>
+    ensures some { IfSome result
+        (λ r. (r.1 ≤ length out.old) × IsCut behind between bytes.entry.now r.0.now (take r.1 out.new)) }
+    ensures none { IfNone result ((name ns : List ℕ) → length ns ≤ length out.old
+        → IsCut behind between bytes.entry.now name ns → ⊥) }
+{
+    let (name, rest) = cut(bytes, behind);
+    let count = numbers(rest?, between, out)?;
+    Some((name, count))
+}
+
 // A move whose numbers have at most 32 bits.
 fn spelled_move(bytes: &[u8]) -> Option<Move>
     ensures some { IfSome result (λ m. (bytes.now ≡ move_text m) × AreShort (move_numbers m)) }
@@ -22,9 +40,8 @@ fn spelled_move(bytes: &[u8]) -> Option<Move>
     if is(bytes, "idle") {
         return Some(Move::Idle);
     }
-    let (name, rest) = cut(bytes, b':');
     let mut ns = [0; 4];
-    let count = numbers(rest?, b',', &mut ns)?;
+    let (name, count) = name_and_numbers(bytes, b':', b',', &mut ns)?;
     move_named(name, &ns[..count])
 }
 
@@ -42,9 +59,8 @@ fn spelled_cell(bytes: &[u8]) -> Option<Cell>
     ensures some { IfSome result (λ c. (bytes.now ≡ cell_text c) × AreShort (cell_numbers c)) }
     ensures none { IfNone result ((c : Cell) → AreShort (cell_numbers c) → bytes.now ≡ cell_text c → ⊥) }
 {
-    let (name, rest) = cut(bytes, b'.');
     let mut ns = [0; 2];
-    let count = numbers(rest?, b'.', &mut ns)?;
+    let (name, count) = name_and_numbers(bytes, b'.', b'.', &mut ns)?;
     cell_named(name, &ns[..count])
 }
 

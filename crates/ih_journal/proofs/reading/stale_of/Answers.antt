@@ -2,7 +2,7 @@ use Rattle.std.proofs.Common.{◌∙◌, ap, sym, arith, ℕ, ◌<◌, ◌^◌, 
 use Rattle.std.specs.Prelude.{codes}
 use Rattle.std.proofs.lemmas.Slice.Eq.{bytes_eq-Decides}
 use Rattle.ih_journal.proofs.InRange.{limits}
-use Rattle.ih_journal.proofs.Lacking.{head_of, tail_of, parted_text}
+use Rattle.ih_journal.proofs.Lacking.{head_of, same_tails, parted_text}
 use Rattle.ih_journal.proofs.VerdictTexts.{stale_text, stale_read}
 use Rattle.ih_journal.proofs.reading.stale_of.Goals as goal
 
@@ -11,57 +11,46 @@ returns-in_err-rest-clause-none c =
     rw c.from_residual.ensures
     (λ v inside stale is.
     let text = stale_text c.args.inst.now.draft v c.args.bytes.now (limits _ c.args.inst.now.valid) inside stale is in
-    let one = rw c.in_err-rest.was at c.cut.ensures in
-    let no = tail_of (sym one ∙ text.parts) in cc)
+    let no = same_tails (rw c.in_err-rest.was at c.cut.ensures) text.parts in cc)
 
 pub returns-in_err-rest-2-clause-none : goal.returns-in_err-rest-2-clause-none
 returns-in_err-rest-2-clause-none c =
     rw c.from_residual-in_err-rest-2.ensures
     (λ v inside stale is.
     let text = stale_text c.args.inst.now.draft v c.args.bytes.now (limits _ c.args.inst.now.valid) inside stale is in
-    let one = rw c.in_ok-rest.was at c.cut.ensures in
-    let two = rw c.in_err-rest-2.was at c.cut-2.ensures in
-    let no = tail_of (sym two ∙ tail_of (sym one ∙ text.parts)) in cc)
+    let no = same_tails (rw c.in_err-rest-2.was at c.cut-2.ensures) (same_tails (rw c.in_ok-rest.was at c.cut.ensures) text.parts) in cc)
 
 pub returns-in_err-cell-clause-none : goal.returns-in_err-cell-clause-none
 returns-in_err-cell-clause-none c =
     rw c.from_residual-in_err-cell.ensures
     (λ v inside stale is.
     let text = stale_text c.args.inst.now.draft v c.args.bytes.now (limits _ c.args.inst.now.valid) inside stale is in
-    let one = rw c.in_ok-rest.was at c.cut.ensures in
-    c.in_err-cell.ensures.none text.cell text.inside (head_of (sym c.cut-2.ensures ∙ tail_of (sym one ∙ text.parts))))
+    c.in_err-cell.ensures.none text.cell text.inside (head_of (sym c.cut-2.ensures ∙ same_tails (rw c.in_ok-rest.was at c.cut.ensures) text.parts)))
 
 pub returns-in_err-at_seen-clause-none : goal.returns-in_err-at_seen-clause-none
 returns-in_err-at_seen-clause-none c =
     rw c.from_residual-in_err-at_seen.ensures
     (λ v inside stale is.
     let text = stale_text c.args.inst.now.draft v c.args.bytes.now (limits _ c.args.inst.now.valid) inside stale is in
-    let one = rw c.in_ok-rest.was at c.cut.ensures in
-    let two = rw c.in_ok-rest-2.was at c.cut-2.ensures in
-    let short = text.seen_short in
-    c.in_err-at_seen.ensures.none text.seen (omega arith) (head_of (sym c.cut-3.ensures ∙ tail_of (sym two ∙ tail_of (sym one ∙ text.parts)))))
+    c.in_err-at_seen.ensures.none text.seen (omega (arith, text.seen_short))
+    (head_of (sym c.cut-3.ensures ∙ same_tails (rw c.in_ok-rest-2.was at c.cut-2.ensures) (same_tails (rw c.in_ok-rest.was at c.cut.ensures) text.parts))))
 
 pub returns-in_err-rest-3-clause-none : goal.returns-in_err-rest-3-clause-none
 returns-in_err-rest-3-clause-none c =
     rw c.from_residual-in_err-rest-3.ensures
     (λ v inside stale is.
     let text = stale_text c.args.inst.now.draft v c.args.bytes.now (limits _ c.args.inst.now.valid) inside stale is in
-    let one = rw c.in_ok-rest.was at c.cut.ensures in
-    let two = rw c.in_ok-rest-2.was at c.cut-2.ensures in
-    let three = rw c.in_err-rest-3.was at c.cut-3.ensures in
-    let no = tail_of (sym three ∙ tail_of (sym two ∙ tail_of (sym one ∙ text.parts))) in cc)
+    let no = same_tails (rw c.in_err-rest-3.was at c.cut-3.ensures)
+    (same_tails (rw c.in_ok-rest-2.was at c.cut-2.ensures) (same_tails (rw c.in_ok-rest.was at c.cut.ensures) text.parts)) in cc)
 
 pub returns-in_err-at_place-clause-none : goal.returns-in_err-at_place-clause-none
 returns-in_err-at_place-clause-none c =
     rw c.from_residual-in_err-at_place.ensures
     (λ v inside stale is.
     let text = stale_text c.args.inst.now.draft v c.args.bytes.now (limits _ c.args.inst.now.valid) inside stale is in
-    let one = rw c.in_ok-rest.was at c.cut.ensures in
-    let two = rw c.in_ok-rest-2.was at c.cut-2.ensures in
-    let three = rw c.in_ok-rest-3.was at c.cut-3.ensures in
-    let short = text.place_short in
-    let last = tail_of (sym three ∙ tail_of (sym two ∙ tail_of (sym one ∙ text.parts))) in
-    c.in_err-at_place.ensures.none text.place (omega arith) (parted_text 58 c.in_ok-rest-3.field-0.now _ last))
+    let last = same_tails (rw c.in_ok-rest-3.was at c.cut-3.ensures)
+    (same_tails (rw c.in_ok-rest-2.was at c.cut-2.ensures) (same_tails (rw c.in_ok-rest.was at c.cut.ensures) text.parts)) in
+    c.in_err-at_place.ensures.none text.place (omega (arith, text.place_short)) (parted_text 58 c.in_ok-rest-3.field-0.now _ last))
 
 pub returns-clause-some : goal.returns-clause-some
 returns-clause-some c =
