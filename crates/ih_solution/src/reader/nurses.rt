@@ -19,158 +19,133 @@ use ih_tables::{Fault, Instance, Key, List, Place, Refusal, RoomNo, Shift};
 use serde_json::Value;
 use std::alloc::Global;
 
-/// A room that no nurse has in the shift; else TwoNurses.
-#[tactic(auto, using(crate::proofs::ListedValues::place_steps))]
-fn free_room(
-    inst: &Instance,
-    plan: &Plan,
-    k: Shift,
-    value: &Value,
-    at: Place,
-) -> Result<RoomNo, Refusal>
-    requires plan { IsPlanOf inst.now.draft plan.now }
-    requires shift { k.0 < shift_count inst.now.draft }
-    ensures free { IfOk result (IsFree inst.now.draft plan.now k.0) }
-    ensures gives { result ≡ free_room inst.now.draft (has_nurse plan.now) k.0 at (view value.now) }
-{
-    let room = references::room(inst, value, at)?;
-    if plan.care(room, k).is_some() {
-        return Err(kinds::refusal(Fault::TwoNurses, at));
+/// What the nurses' items are read with: the instance, and the timetable of what was read so far.
+#[derive(Drop)]
+struct Reader<'a> {
+    alloc: Global,
+    inst: &'a Instance,
+    plan: &'a Plan,
+}
+
+impl<'a> Reader<'a> {
+    /// A room that no nurse has in the shift; else TwoNurses.
+    #[tactic(auto, using(crate::proofs::ListedValues::place_steps))]
+    fn free_room(&self, k: Shift, value: &Value, at: Place) -> Result<RoomNo, Refusal>
+        requires plan { IsPlanOf self.now.inst.now.draft self.now.plan.now }
+        requires shift { k.0 < shift_count self.now.inst.now.draft }
+        ensures free { IfOk result (IsFree self.now.inst.now.draft self.now.plan.now k.0) }
+        ensures gives { result
+            ≡ free_room self.now.inst.now.draft (has_nurse self.now.plan.now) k.0 at (view value.now) }
+    {
+        let room = references::room(self.inst, value, at)?;
+        if self.plan.care(room, k).is_some() {
+            return Err(kinds::refusal(Fault::TwoNurses, at));
+        }
+        Ok(room)
     }
-    Ok(room)
-}
 
-#[tactic(auto, using(crate::proofs::References::reading_all))]
-fn each_room(
-    alloc: Global,
-    inst: &Instance,
-    plan: &Plan,
-    k: Shift,
-    values: &[Value],
-    at: Place,
-) -> Result<List<RoomNo>, FormatError>
-    requires few { length values.now < 2 ^ 32 }
-    requires plan { IsPlanOf inst.now.draft plan.now }
-    requires shift { k.0 < shift_count inst.now.draft }
-    ensures free { IfOk result (All (IsFree inst.now.draft plan.now k.0)) }
-    ensures gives { Gives (λ xs. xs) result
-        (each (λ _. free_room inst.now.draft (has_nurse plan.now) k.0) at (map view values.now)) }
-{
-    let mut rooms = Vec::new(alloc);
-    let mut i = 0;
-    for value in values {
-        rooms.push(free_room(inst, plan, k, value, at.item(i))?)?;
-        i += 1;
+    #[tactic(auto, using(crate::proofs::References::reading_all))]
+    fn each_room(&self, k: Shift, values: &[Value], at: Place) -> Result<List<RoomNo>, FormatError>
+        requires few { length values.now < 2 ^ 32 }
+        requires plan { IsPlanOf self.now.inst.now.draft self.now.plan.now }
+        requires shift { k.0 < shift_count self.now.inst.now.draft }
+        ensures free { IfOk result (All (IsFree self.now.inst.now.draft self.now.plan.now k.0)) }
+        ensures gives { Gives (λ xs. xs) result
+            (each (λ _. free_room self.now.inst.now.draft (has_nurse self.now.plan.now) k.0) at (map view values.now)) }
+    {
+        let mut rooms = Vec::new(self.alloc);
+        let mut i = 0;
+        for value in values {
+            rooms.push(self.free_room(k, value, at.item(i))?)?;
+            i += 1;
+        }
+        Ok(List::new(rooms))
     }
-    Ok(List::new(rooms))
-}
 
-fn rooms(
-    alloc: Global,
-    inst: &Instance,
-    plan: &Plan,
-    k: Shift,
-    object: &Value,
-    at: Place,
-) -> Result<List<RoomNo>, FormatError>
-    requires plan { IsPlanOf inst.now.draft plan.now }
-    requires shift { k.0 < shift_count inst.now.draft }
-    ensures free { IfOk result (All (IsFree inst.now.draft plan.now k.0)) }
-    ensures gives { Gives (λ xs. xs) result
-        (under at (view object.now) Key.Rooms (free_rooms inst.now.draft (has_nurse plan.now) k.0)) }
-{
-    let value = kinds::value_of(object, Key::Rooms, at)?;
-    let at = at.key(Key::Rooms);
-    each_room(alloc, inst, plan, k, lists::items(value, at)?, at)
-}
-
-#[tactic(auto, unfolding(crate::specs::Reading::assignment))]
-fn assignment(
-    alloc: Global,
-    inst: &Instance,
-    plan: &Plan,
-    value: &Value,
-    at: Place,
-) -> Result<Assignment, FormatError>
-    requires plan { IsPlanOf inst.now.draft plan.now }
-    ensures fits { IfOk result (IsAssignment inst.now.draft plan.now) }
-    ensures gives { Gives (λ a. a) result (assignment inst.now.draft (has_nurse plan.now) at (view value.now)) }
-{
-    let _ = kinds::object(value, at)?;
-    let day = keys::number(value, Key::Day, 0, inst.days() - 1, at)?;
-    let shift = kinds::value_of(value, Key::Shift, at)?;
-    let shift = references::shift_type(inst, shift, at.key(Key::Shift))?;
-    let shift = Shift(3 * day + shift);
-    let rooms = rooms(alloc, inst, plan, shift, value, at)?;
-    Ok(Assignment { shift, rooms })
-}
-
-#[tactic(auto, using(crate::proofs::References::reading_all))]
-fn each_assignment(
-    alloc: Global,
-    inst: &Instance,
-    plan: &Plan,
-    values: &[Value],
-    at: Place,
-) -> Result<List<Assignment>, FormatError>
-    requires few { length values.now < 2 ^ 32 }
-    requires plan { IsPlanOf inst.now.draft plan.now }
-    ensures fits { IfOk result (All (IsAssignment inst.now.draft plan.now)) }
-    ensures gives { Gives (λ xs. xs) result
-        (each (λ _. assignment inst.now.draft (has_nurse plan.now)) at (map view values.now)) }
-{
-    let mut given = Vec::new(alloc);
-    let mut i = 0;
-    for value in values {
-        given.push(assignment(alloc, inst, plan, value, at.item(i))?)?;
-        i += 1;
+    fn rooms(&self, k: Shift, object: &Value, at: Place) -> Result<List<RoomNo>, FormatError>
+        requires plan { IsPlanOf self.now.inst.now.draft self.now.plan.now }
+        requires shift { k.0 < shift_count self.now.inst.now.draft }
+        ensures free { IfOk result (All (IsFree self.now.inst.now.draft self.now.plan.now k.0)) }
+        ensures gives { Gives (λ xs. xs) result
+            (under at (view object.now) Key.Rooms
+            (free_rooms self.now.inst.now.draft (has_nurse self.now.plan.now) k.0)) }
+    {
+        let value = kinds::value_of(object, Key::Rooms, at)?;
+        let at = at.key(Key::Rooms);
+        self.each_room(k, lists::items(value, at)?, at)
     }
-    Ok(List::new(given))
-}
 
-fn assignments(
-    alloc: Global,
-    inst: &Instance,
-    plan: &Plan,
-    object: &Value,
-    at: Place,
-) -> Result<List<Assignment>, FormatError>
-    requires plan { IsPlanOf inst.now.draft plan.now }
-    ensures fits { IfOk result (All (IsAssignment inst.now.draft plan.now)) }
-    ensures gives { Gives (λ xs. xs) result
-        (under at (view object.now) Key.Assignments (assignments inst.now.draft (has_nurse plan.now))) }
-{
-    let value = kinds::value_of(object, Key::Assignments, at)?;
-    let at = at.key(Key::Assignments);
-    each_assignment(alloc, inst, plan, lists::items(value, at)?, at)
-}
-
-/// A nurse whom no earlier item has, with the assignments.
-#[tactic(auto, unfolding(crate::specs::Reading::nurse_row))]
-fn nurse_row(
-    alloc: Global,
-    inst: &Instance,
-    plan: &Plan,
-    value: &Value,
-    earlier: &[bool],
-    at: Place,
-) -> Result<ListedNurse, FormatError>
-    requires plan { IsPlanOf inst.now.draft plan.now }
-    requires earlier { length earlier.now ≡ nurse_count inst.now.draft }
-    ensures new { IfOk result (λ row. is_marked earlier.now row.nurse.0 ≡ false) }
-    ensures fits { IfOk result (IsListedNurse inst.now.draft plan.now) }
-    ensures gives { Gives (λ row. row) result
-        (nurse_row inst.now.draft (is_marked earlier.now) (has_nurse plan.now) at (view value.now)) }
-{
-    let _ = kinds::object(value, at)?;
-    let id = kinds::value_of(value, Key::Id, at)?;
-    let nurse = references::nurse(inst, id, at.key(Key::Id))?;
-    if earlier[nurse.0 as usize] {
-        let refusal = kinds::refusal(Fault::Duplicate, at.key(Key::Id));
-        return Err(FormatError::Refused(refusal));
+    #[tactic(auto, unfolding(crate::specs::Reading::assignment))]
+    fn assignment(&self, value: &Value, at: Place) -> Result<Assignment, FormatError>
+        requires plan { IsPlanOf self.now.inst.now.draft self.now.plan.now }
+        ensures fits { IfOk result (IsAssignment self.now.inst.now.draft self.now.plan.now) }
+        ensures gives { Gives (λ a. a) result
+            (assignment self.now.inst.now.draft (has_nurse self.now.plan.now) at (view value.now)) }
+    {
+        let _ = kinds::object(value, at)?;
+        let day = keys::number(value, Key::Day, 0, self.inst.days() - 1, at)?;
+        let shift = kinds::value_of(value, Key::Shift, at)?;
+        let shift = references::shift_type(self.inst, shift, at.key(Key::Shift))?;
+        let shift = Shift(3 * day + shift);
+        let rooms = self.rooms(shift, value, at)?;
+        Ok(Assignment { shift, rooms })
     }
-    let assignments = assignments(alloc, inst, plan, value, at)?;
-    Ok(ListedNurse { nurse, assignments })
+
+    #[tactic(auto, using(crate::proofs::References::reading_all))]
+    fn each_assignment(&self, values: &[Value], at: Place) -> Result<List<Assignment>, FormatError>
+        requires few { length values.now < 2 ^ 32 }
+        requires plan { IsPlanOf self.now.inst.now.draft self.now.plan.now }
+        ensures fits { IfOk result (All (IsAssignment self.now.inst.now.draft self.now.plan.now)) }
+        ensures gives { Gives (λ xs. xs) result
+            (each (λ _. assignment self.now.inst.now.draft (has_nurse self.now.plan.now)) at (map view values.now)) }
+    {
+        let mut given = Vec::new(self.alloc);
+        let mut i = 0;
+        for value in values {
+            given.push(self.assignment(value, at.item(i))?)?;
+            i += 1;
+        }
+        Ok(List::new(given))
+    }
+
+    fn assignments(&self, object: &Value, at: Place) -> Result<List<Assignment>, FormatError>
+        requires plan { IsPlanOf self.now.inst.now.draft self.now.plan.now }
+        ensures fits { IfOk result (All (IsAssignment self.now.inst.now.draft self.now.plan.now)) }
+        ensures gives { Gives (λ xs. xs) result
+            (under at (view object.now) Key.Assignments
+            (assignments self.now.inst.now.draft (has_nurse self.now.plan.now))) }
+    {
+        let value = kinds::value_of(object, Key::Assignments, at)?;
+        let at = at.key(Key::Assignments);
+        self.each_assignment(lists::items(value, at)?, at)
+    }
+
+    /// A nurse whom no earlier item has, with the assignments.
+    #[tactic(auto, unfolding(crate::specs::Reading::nurse_row))]
+    fn nurse_row(
+        &self,
+        value: &Value,
+        earlier: &[bool],
+        at: Place,
+    ) -> Result<ListedNurse, FormatError>
+        requires plan { IsPlanOf self.now.inst.now.draft self.now.plan.now }
+        requires earlier { length earlier.now ≡ nurse_count self.now.inst.now.draft }
+        ensures new { IfOk result (λ row. is_marked earlier.now row.nurse.0 ≡ false) }
+        ensures fits { IfOk result (IsListedNurse self.now.inst.now.draft self.now.plan.now) }
+        ensures gives { Gives (λ row. row) result
+            (nurse_row self.now.inst.now.draft (is_marked earlier.now)
+            (has_nurse self.now.plan.now) at (view value.now)) }
+    {
+        let _ = kinds::object(value, at)?;
+        let id = kinds::value_of(value, Key::Id, at)?;
+        let nurse = references::nurse(self.inst, id, at.key(Key::Id))?;
+        if earlier[nurse.0 as usize] {
+            let refusal = kinds::refusal(Fault::Duplicate, at.key(Key::Id));
+            return Err(FormatError::Refused(refusal));
+        }
+        let assignments = self.assignments(value, at)?;
+        Ok(ListedNurse { nurse, assignments })
+    }
 }
 
 /// The timetable with the assignments of the nurses' items.
@@ -192,7 +167,12 @@ fn each_nurse(
     let mut listed = lists::no_flags(alloc, inst.nurses())?;
     let mut i = 0;
     for value in values {
-        let row = nurse_row(alloc, inst, &plan, value, listed.as_slice(), at.item(i))?;
+        let reader = Reader {
+            alloc,
+            inst,
+            plan: &plan,
+        };
+        let row = reader.nurse_row(value, listed.as_slice(), at.item(i))?;
         listed[row.nurse.0 as usize] = true;
         assign_all(inst, &mut plan, &row);
         i += 1;

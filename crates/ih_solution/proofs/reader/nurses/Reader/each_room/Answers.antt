@@ -1,7 +1,7 @@
 use Rattle.std.proofs.Common.{◌≡◌, sym}
 use Rattle.ih_format.proofs.Items.{are_read-fault}
 use Rattle.std.proofs.lemmas.Result.{err_from_is_err_and}
-use Rattle.ih_solution.proofs.reader.nurses.each_room.Goals as goal
+use Rattle.ih_solution.proofs.reader.nurses.Reader.each_room.Goals as goal
 
 pub returns-in_err-free_room-clause-gives : goal.returns-in_err-free_room-clause-gives
 returns-in_err-free_room-clause-gives c =

@@ -1,4 +1,4 @@
-use Rattle.ih_solution.proofs.reader.nurses.rooms.Goals as goal
+use Rattle.ih_solution.proofs.reader.nurses.Reader.rooms.Goals as goal
 
 pub returns-clause-gives : goal.returns-clause-gives
 returns-clause-gives c = rw (← c.in_ok-value.ensures, ← c.key-at.ensures, c.in_ok-items.ensures.gives) c.each_room.ensures.gives
