@@ -24,7 +24,7 @@ use Rattle.ih_tables.specs.Lookups.{number_in}
 use Rattle.ih_tables.specs.Works.{load_in, shift_of}
 use Rattle.ih_tables.specs.Places.{at_key}
 use Rattle.ih_tables.specs.Valid.{Between, IsName, IsVector, IsWorked, IsNurse, IsOccupant, IsPatient}
-use Rattle.ih_format.specs.Checks.{number, text, truth, object, list, list_of, vector, new_id, new_name, reference, under}
+use Rattle.ih_format.specs.Checks.{Check, ◌>>=◌, number, text, truth, object, list, list_of, vector, new_id, new_name, reference, under}
 use Rattle.ih_instance.specs.Instance.{Numbers, room, surgeon, theatre, is_worked, worked, worked_shifts, nurse, occupant, patient, due_day, room_number, room_numbers, names_of_rooms, names_of_surgeons}
 use Rattle.ih_instance.proofs.Sound.{ok_is, bind_ok, bind_with, where_so_ok, key_ok, number_sound, text_sound, new_name_sound, reference_sound, vector_sound, each_sound, keeps, Rows, list_of_sound}
 
@@ -46,29 +46,33 @@ key_reference names p d k n h = let v = key_ok p d k (reference (number_in names
 key_vector : (n high : ℕ) (p : Place) (d : Data) (k : Key) (xs : List ℕ) → under p d k (vector n high) ≡ Ok xs → IsVector n high xs
 key_vector n high p d k xs h = let v = key_ok p d k (vector n high) xs h in vector_sound n high (at_key k p) v.0 xs v.1
 
+-- a row of a new name and of what is read at one key
+row_sound : {A B : Type 0} (name : B → List ℕ) (P : B → Type 0) (k : Key) (read : Check A) (make : List ℕ → A → B) → ((s : List ℕ) (a : A) → name (make s a) ≡ s)
+    → ((p : Place) (d : Data) (s : List ℕ) (a : A) → under p d k read ≡ Ok a → P (make s a))
+    → Rows name P (λ earlier p d. new_id earlier p d >>= λ s. under p d k read >>= λ a. Ok (make s a))
+row_sound name P k read make named fits names p d x h =
+    let i = bind_ok (new_id (number_in names) p d) _ x h in
+    let a = bind_ok (under p d k read) _ x i.2 in
+    let new = new_id_sound (number_in names) p d i.0 i.1 in
+    subst (λ y. (IsName (name y) × (number_in names (name y) ≡ None)) × P y) (ok_is _ x a.2) (rw (named i.0 a.0) new, fits p d i.0 a.0 a.1)
+
 pub room_sound : Rows (λ (r : Room). r.id) (λ r. r.capacity ≤ 1000) room
 unfolding room
-room_sound names p d x h =
-    let i = bind_ok (new_id (number_in names) p d) _ x h in
-    let c = bind_ok (under p d keys.Capacity (number 0 1000)) _ x i.2 in
-    subst (λ (r : Room). (IsName r.id × (number_in names r.id ≡ None)) × (r.capacity ≤ 1000)) (ok_is _ x c.2)
-    (new_id_sound (number_in names) p d i.0 i.1, (key_number 0 1000 p d keys.Capacity c.0 c.1).most)
+room_sound =
+    row_sound (λ (r : Room). r.id) (λ r. r.capacity ≤ 1000) keys.Capacity (number 0 1000) (λ s n. record { id = s; capacity = n }) (λ s n. refl)
+    (λ p d s n h. (key_number 0 1000 p d keys.Capacity n h).most)
 
 pub surgeon_sound : (days : ℕ) → Rows (λ (s : Surgeon). s.id) (λ s. IsVector days 100000 s.max_surgery_time) (surgeon days)
 unfolding surgeon
-surgeon_sound days names p d x h =
-    let i = bind_ok (new_id (number_in names) p d) _ x h in
-    let m = bind_ok (under p d keys.MaxSurgeryTime (vector days 100000)) _ x i.2 in
-    subst (λ (s : Surgeon). (IsName s.id × (number_in names s.id ≡ None)) × IsVector days 100000 s.max_surgery_time) (ok_is _ x m.2)
-    (new_id_sound (number_in names) p d i.0 i.1, key_vector days 100000 p d keys.MaxSurgeryTime m.0 m.1)
+surgeon_sound days =
+    row_sound (λ (s : Surgeon). s.id) (λ s. IsVector days 100000 s.max_surgery_time) keys.MaxSurgeryTime (vector days 100000)
+    (λ s ms. record { id = s; max_surgery_time = ms }) (λ s ms. refl) (λ p d s ms h. key_vector days 100000 p d keys.MaxSurgeryTime ms h)
 
 pub theatre_sound : (days : ℕ) → Rows (λ (t : Theatre). t.id) (λ t. IsVector days 100000 t.availability) (theatre days)
 unfolding theatre
-theatre_sound days names p d x h =
-    let i = bind_ok (new_id (number_in names) p d) _ x h in
-    let m = bind_ok (under p d keys.Availability (vector days 100000)) _ x i.2 in
-    subst (λ (t : Theatre). (IsName t.id × (number_in names t.id ≡ None)) × IsVector days 100000 t.availability) (ok_is _ x m.2)
-    (new_id_sound (number_in names) p d i.0 i.1, key_vector days 100000 p d keys.Availability m.0 m.1)
+theatre_sound days =
+    row_sound (λ (t : Theatre). t.id) (λ t. IsVector days 100000 t.availability) keys.Availability (vector days 100000)
+    (λ s ms. record { id = s; availability = ms }) (λ s ms. refl) (λ p d s ms h. key_vector days 100000 p d keys.Availability ms h)
 
 pub occupant_sound : (I : Draft) → Rows (λ (o : Occupant). o.id) (IsOccupant I) (occupant I.days (number_in I.age_groups) (number_in (names_of_rooms I.rooms)))
 unfolding occupant
