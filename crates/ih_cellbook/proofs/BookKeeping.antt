@@ -276,7 +276,8 @@ module _ (b : Base) (H : List Tried) (cs ns : List ℕ) (now : Bill) (found : Op
     where
       by_case : (t : Bool) → is_accepted v ≡ t → (if t then add_bills now o.price else now) ≡ bill_of b.instance (if t then after_all b.instance (plan_after b H) o.moves else plan_after b H)
       by_case true on =
-          let exact = accepted-exact b H o.number o.seen o.moves o.price adding.kept.base.start (legal_but-moves b H adding.kept.legal) adding.judged.right.move (sym adding.judged.verdict ∙ accepted-is v on) adding.judged.right.price in
+          let exact = accepted-exact b H o.number o.seen o.moves o.price adding.kept.base.start (legal_but-moves b H adding.kept.legal) adding.judged.right.move
+          (sym adding.judged.verdict ∙ accepted-is v on) adding.judged.right.price in
           rw (adding.kept.bill, exact) (add-change b.instance (plan_after b H) (after_all b.instance (plan_after b H) o.moves))
       by_case false off = adding.kept.bill
 
@@ -334,5 +335,6 @@ module _ (b : Base) (H : List Tried) (cs ns : List ℕ) (now : Bill) (found : Op
           versions = versions-next;
           again = again-next;
           bill = bill;
-          best = rw next.chosen (best-more b H (entry_of b H o v) (feasible now') (cost b.instance.weights now') (ap feasible (sym bill)) (ap (cost b.instance.weights) (sym bill)) found adding.kept.best);
+          best = rw next.chosen
+              (best-more b H (entry_of b H o v) (feasible now') (cost b.instance.weights now') (ap feasible (sym bill)) (ap (cost b.instance.weights) (sym bill)) found adding.kept.best);
         }

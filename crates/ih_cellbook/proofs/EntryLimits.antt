@@ -10,7 +10,7 @@ use Rattle.ih_plan.proofs.SumLemmas.{sum_below-le, sum_below-same}
 use Rattle.ih_plan.proofs.SumBounds.{sum_below-add, sum_below-none}
 use Rattle.ih_journal.specs.declared.settings.Options.{Options}
 use Rattle.ih_journal.specs.Tried.{Tried}
-use Rattle.ih_journal.specs.Attempts.{Attempt, attempt_after, last_by, is_done, is_retried, is_stale, next_attempt}
+use Rattle.ih_journal.specs.Attempts.{TryNumber, attempt_after, last_by, is_done, is_retried, is_stale, next_attempt}
 use Rattle.ih_journal.specs.Base.{Base}
 use Rattle.ih_journal.specs.Legal.{IsLegalButDraw}
 use Rattle.ih_journal.proofs.Growth.{attempt-parts, last_by-own, last_by-other}
@@ -29,7 +29,7 @@ made-more w (x ∷ xs) e = let rest = made-more w xs e in omega (arith, rest)
 -- ---- one worker's tries, in order
 
 -- the place of a try among all tries of a worker's attempts
-abbrev rank : Options → Attempt → ℕ
+abbrev rank : Options → TryNumber → ℕ
 rank o a = a.number * (o.retries + 1) + a.again
 
 -- how far worker w has come in the entries G
@@ -61,13 +61,13 @@ module _ (o : Options) (e : Tried) (below : e.number < o.moves) (few : e.again �
   row-is = omega arith
 
   try-next : (t : Bool) → (t ≡ true → e.again < o.retries)
-      → let a : Attempt = (if t then record { number = e.number; again = e.again + 1 } else record { number = e.number + 1; again = 0 }) in
+      → let a : TryNumber = (if t then record { number = e.number; again = e.again + 1 } else record { number = e.number + 1; again = 0 }) in
       (e.number * (o.retries + 1) + e.again + 1 ≤ rank o a) × (rank o a ≤ o.moves * (o.retries + 1)) × (a.again ≤ o.retries)
   try-next true h = let less = h refl in let row = next-row in let is = row-is in (omega arith, omega (arith, less, row, is), omega (arith, less))
   try-next false h = let row = next-row in let is = row-is in (omega (arith, is), omega (arith, row), omega arith)
 
   not-last : (t : Bool) → (if o.moves == 0 then true else (e.number + 1 == o.moves) && not t) ≡ false
-      → (let a : Attempt = (if t then record { number = e.number; again = e.again + 1 } else record { number = e.number + 1; again = 0 }) in a.number) < o.moves
+      → (let a : TryNumber = (if t then record { number = e.number; again = e.again + 1 } else record { number = e.number + 1; again = 0 }) in a.number) < o.moves
   not-last true h = below
   not-last false h = elim (cases_eq (e.number + 1) o.moves) [
     | inl last ↦ absurd (let some : (o.moves == 0) ≡ false = ne_eqb o.moves 0 (λ z. omega arith) in let no : true ≡ false = rw (some, eq-eqb (e.number + 1) o.moves last) at h in cc)
@@ -105,9 +105,9 @@ along-own b G e w own legal along =
     let last = last_by-own G e w own in
     let attempt = legal.attempt in
     let parts = attempt-parts b.options G w (record { number = e.number; again = e.again }) (ap (next_attempt b.options G) (sym own) ∙ attempt) in
-    let below : e.number < b.options.moves = subst (λ (a : Attempt). a.number < b.options.moves) parts.1 (along.more parts.0) in
-    let few : e.again ≤ b.options.retries = subst (λ (a : Attempt). a.again ≤ b.options.retries) parts.1 along.again in
-    let before : made w G ≤ e.number * (b.options.retries + 1) + e.again = subst (λ (a : Attempt). made w G ≤ rank b.options a) parts.1 along.most in
+    let below : e.number < b.options.moves = subst (λ (a : TryNumber). a.number < b.options.moves) parts.1 (along.more parts.0) in
+    let few : e.again ≤ b.options.retries = subst (λ (a : TryNumber). a.again ≤ b.options.retries) parts.1 along.again in
+    let before : made w G ≤ e.number * (b.options.retries + 1) + e.again = subst (λ (a : TryNumber). made w G ≤ rank b.options a) parts.1 along.most in
     let next = try-next b.options e below few (is_retried b.options e) (retried-less b.options e) in
     let count = made-more w G e in
     let one : bit (e.worker == w) ≡ 1 = rw (eq-eqb e.worker w own) refl in
@@ -207,13 +207,13 @@ legal-few b H legal =
     }
 
 -- the numbers of a worker's next try
-pub next-below : (b : Base) (H : List Tried) (w : ℕ) (a : Attempt) → AreLegalButDraws b H → next_attempt b.options H w ≡ Some a
+pub next-below : (b : Base) (H : List Tried) (w : ℕ) (a : TryNumber) → AreLegalButDraws b H → next_attempt b.options H w ≡ Some a
     → (a.number < b.options.moves) × (a.again ≤ b.options.retries) × (is_done b.options H w ≡ false)
 next-below b H w a legal e =
     let parts = attempt-parts b.options H w a e in
     let along = along-all b H w legal in (
-      subst (λ (x : Attempt). x.number < b.options.moves) parts.1 (along.more parts.0),
-      subst (λ (x : Attempt). x.again ≤ b.options.retries) parts.1 along.again,
+      subst (λ (x : TryNumber). x.number < b.options.moves) parts.1 (along.more parts.0),
+      subst (λ (x : TryNumber). x.again ≤ b.options.retries) parts.1 along.again,
       parts.0,
     )
 

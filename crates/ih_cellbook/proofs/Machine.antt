@@ -5,7 +5,7 @@ use Rattle.std.specs.Prelude.{option_map, if◌then◌else◌, ◌==◌}
 use Rattle.ih_plan.specs.declared.moves.Move.{Move}
 use Rattle.ih_plan.specs.Series.{price_of_all}
 use Rattle.ih_journal.specs.Tried.{Tried}
-use Rattle.ih_journal.specs.Attempts.{is_done, Attempt, attempt_after, last_by, next_attempt}
+use Rattle.ih_journal.specs.Attempts.{is_done, TryNumber, attempt_after, last_by, next_attempt}
 use Rattle.ih_journal.specs.Base.{Base}
 use Rattle.ih_journal.specs.History.{touches_since, plan_at}
 use Rattle.ih_journal.specs.Legal.{IsLegalButDraw}
@@ -99,7 +99,7 @@ module _ (b : Base) (H : List Tried) (o : Offered) (right : IsRightOffer b H o) 
   unfolding next_attempt
   number-is = by_case (is_done b.options H o.worker) right.number
     where
-      by_case : (t : Bool) → option_map (λ (a : Attempt). a.number) (if t then None else Some (attempt_after b.options (last_by o.worker H))) ≡ Some o.number
+      by_case : (t : Bool) → option_map (λ (a : TryNumber). a.number) (if t then None else Some (attempt_after b.options (last_by o.worker H))) ≡ Some o.number
           → (attempt_after b.options (last_by o.worker H)).number ≡ o.number
       by_case true h = absurd (let no : None ≡ Some o.number = h in cc)
       by_case false h = let e : Some (attempt_after b.options (last_by o.worker H)).number ≡ Some o.number = h in cc

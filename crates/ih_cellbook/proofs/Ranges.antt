@@ -21,7 +21,7 @@ use Rattle.ih_journal.specs.Tried.{Tried, tried, tries}
 use Rattle.ih_journal.specs.declared.entries.Verdict.TheVariants.{Accepted, Declined, Stale, Frozen}
 use Rattle.ih_journal.specs.Base.{Base}
 use Rattle.ih_journal.specs.Frozen.{is_frozen}
-use Rattle.ih_journal.specs.Grammar.{IsEntryOf, IsHistoryOf, IsPrice, IsVerdictOf}
+use Rattle.ih_journal.specs.Grammar.{IsEntryOf, IsHistoryOf, IsPrice, IsTriedOf, IsVerdictOf}
 use Rattle.ih_journal.specs.History.{plan_at, version}
 use Rattle.ih_journal.specs.Legal.{IsLegalButDraw, first_touched, stale_or_accepted, verdict_on}
 use Rattle.ih_journal.specs.Settings.{theta}
@@ -45,17 +45,6 @@ verdict-of I Accepted h = tt
 verdict-of I Declined h = tt
 verdict-of I Frozen h = tt
 verdict-of I (Stale c seen place) h = (h.0, (let less = h.1 in omega (arith, less)), (let less = h.2 in omega (arith, less)))
-
--- what is tried is as an entry of a journal, whatever number of moves it has
-pub record IsTriedOf (I : Draft) (o : Options) (e : Tried) : Type 0 where
-  pub worker : e.worker < 2 ^ 32
-  pub number : e.number < 2 ^ 32
-  pub again : e.again < 2 ^ 32
-  pub once : o.retries ≡ 0 → e.again ≡ 0
-  pub seen : e.seen < 2 ^ 32
-  pub move : AreMoves I e.moves
-  pub price : IsPrice e.price
-  pub verdict : IsVerdictOf I e.verdict
 
 -- ---- an entry that may come next
 
@@ -134,7 +123,7 @@ module _ (b : Base) (H : List Tried) (valid : IsValid b.instance) (base : IsBase
           verdict = subst (IsShortVerdict b.instance) (sym legal.verdict) (verdict-in e.number e.seen e.moves e.price);
         }
 
-    pub entry-in : IsTriedOf b.instance b.options e
+    pub entry-in : IsTriedOf b.instance b.options (AreMoves b.instance e.moves) e
     entry-in =
         let few = short-in in
         let worker = few.worker in
@@ -180,7 +169,7 @@ each-short b H search legal k e there =
 
 -- ---- a history of single moves
 
-pub entry-of : (I : Draft) (o : Options) (e : Entry) → IsTriedOf I o (tried e) → IsEntryOf I o e
+pub entry-of : (I : Draft) (o : Options) (e : Entry) → IsTriedOf I o (AreMoves I (e.mv ∷ [])) (tried e) → IsEntryOf I o e
 entry-of I o e h = record {
   worker = h.worker;
   number = h.number;

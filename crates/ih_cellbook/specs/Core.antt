@@ -54,7 +54,8 @@ entry_in b s w seen m = entry_of b s.history (offer_at b s.history w seen m) (ve
 
 -- the counters after it: where it is accepted, those of its footprint are one more
 abbrev pub counters_in : Base → State → ℕ → ℕ → List Move → ℕ → ℕ
-counters_in b s w seen m = risen_where (is_accepted (verdict_in b s w seen m)) s.counters (reads_after b (take seen s.history) m)
+counters_in b s w seen m = risen_where (is_accepted (verdict_in b s w seen m)) s.counters
+    (reads_after b (take seen s.history) m)
 
 -- what one worker has seen is moved on, the others' stays
 abbrev pub seen_by_at : (ℕ → ℕ) → ℕ → ℕ → ℕ → ℕ

@@ -20,7 +20,8 @@ HasNoneBy w es = (k : ℕ) (e : Tried) → slice_get es k ≡ Some e → e.worke
 
 -- An offer that is right for a history stays right while others add entries.
 abbrev pub RightOffersStayRight : Type 0
-RightOffersStayRight = (b : Base) (H es : List Tried) (o : Offered) → IsRightOffer b H o → HasNoneBy o.worker es → IsRightOffer b (H ++ es) o
+RightOffersStayRight = (b : Base) (H es : List Tried) (o : Offered) → IsRightOffer b H o → HasNoneBy o.worker es
+    → IsRightOffer b (H ++ es) o
 
 -- A history that is legal but for its draws has at most one entry for each try of each attempt of each worker, and
 -- fewer where some worker isn't done.
@@ -43,7 +44,8 @@ pub record IsSearchBase (b : Base) : Type 0 where
 
 -- What is legal is in range, so a journal may have it.
 abbrev pub LegalHistoriesAreInRange : Type 0
-LegalHistoriesAreInRange = (b : Base) (H : List Entry) → IsSearchBase b → AreLegalButDraws b (tries H) → IsHistoryOf b.instance b.options H
+LegalHistoriesAreInRange = (b : Base) (H : List Entry) → IsSearchBase b → AreLegalButDraws b (tries H)
+    → IsHistoryOf b.instance b.options H
 
 -- Two searches of an instance have two journals, whatever they begin with: the bytes name the options and the entries.
 abbrev pub JournalsTellSearchesApart : Type 0

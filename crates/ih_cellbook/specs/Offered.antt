@@ -13,3 +13,7 @@ pub record Offered : Type 0 where
   pub price : Bill
   pub reads : Noted
   pub frozen : Bool
+
+-- the offer of these
+abbrev pub offered_by : ℕ → ℕ → ℕ → List Move → Bill → Noted → Bool → Offered
+offered_by w n s ms p r f = record { worker = w; number = n; seen = s; moves = ms; price = p; reads = r; frozen = f }

@@ -4,9 +4,9 @@ use Rattle.ih_plan.specs.Cells.{cell_at}
 use Rattle.ih_plan.specs.declared.moves.Move.{Move}
 use Rattle.ih_plan.specs.Series.{AreMoves, footprint_of_all, price_of_all}
 use Rattle.ih_journal.specs.declared.settings.Options.{Options}
-use Rattle.ih_journal.specs.Tried.{Tried}
+use Rattle.ih_journal.specs.Tried.{Tried, tried_by}
 use Rattle.ih_journal.specs.declared.entries.Verdict.{Verdict}
-use Rattle.ih_journal.specs.Attempts.{Attempt, attempt_after, last_by, next_attempt}
+use Rattle.ih_journal.specs.Attempts.{TryNumber, attempt_after, last_by, next_attempt}
 use Rattle.ih_journal.specs.Base.{Base}
 use Rattle.ih_journal.specs.Frozen.{is_frozen}
 use Rattle.ih_journal.specs.History.{plan_after, plan_at, version}
@@ -20,7 +20,7 @@ reads_after b H m = map (λ n. (n, version b H (cell_at b.instance n))) (footpri
 
 -- the number of a worker's next attempt, where the worker isn't done
 abbrev pub next_number : Options → List Tried → ℕ → Option ℕ
-next_number o H w = option_map (λ (a : Attempt). a.number) (next_attempt o H w)
+next_number o H w = option_map (λ (a : TryNumber). a.number) (next_attempt o H w)
 
 -- each entry of worker w has a place below seen
 abbrev pub HasSeenOwn : List Tried → ℕ → ℕ → Type 0
@@ -36,7 +36,8 @@ pub record IsRightOffer (b : Base) (H : List Tried) (o : Offered) : Type 0 where
   pub after_own : HasSeenOwn H o.worker o.seen
   pub price : o.price ≡ price_of_all b.instance (plan_at b H o.seen) o.moves
   -- asked for only where the offer is neither frozen nor too dear
-  pub reads : is_compared b.instance b.options o.frozen o.number o.price ≡ true → o.reads.pairs ≡ reads_after b (take o.seen H) o.moves
+  pub reads : is_compared b.instance b.options o.frozen o.number o.price ≡ true
+      → o.reads.pairs ≡ reads_after b (take o.seen H) o.moves
   pub frozen : o.frozen ≡ is_frozen b (plan_at b H o.seen) o.moves
 
 -- The offer is right for the entries, and this is the verdict on it.
@@ -70,4 +71,4 @@ entry_of b H o verdict = record {
 
 -- the entry of an offer with this try and verdict
 abbrev pub entry_with : Offered → ℕ → Verdict → Tried
-entry_with o again v = record { worker = o.worker; number = o.number; again = again; seen = o.seen; moves = o.moves; price = o.price; verdict = v }
+entry_with o again v = tried_by o.worker o.number again o.seen o.moves o.price v

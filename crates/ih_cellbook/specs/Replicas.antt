@@ -43,7 +43,8 @@ MayFollow r es = (b : Base) × (H : List Tried) × IsReplicaOf b H r × AreLegal
 
 -- Whatever history the first replica stands for, the second stands for it and the entries that follow.
 abbrev pub StandsAfter : Snapshot → List Tried → Snapshot → Type 0
-StandsAfter r es s = (b : Base) (H : List Tried) → IsReplicaOf b H r → AreLegalButDraws b (H ++ es) → IsReplicaOf b (H ++ es) s
+StandsAfter r es s = (b : Base) (H : List Tried) → IsReplicaOf b H r → AreLegalButDraws b (H ++ es)
+    → IsReplicaOf b (H ++ es) s
 
 -- Entries behind those that the replica stands for, up to a place, of which these are the accepted ones.
 pub record AreUpTo (r : Snapshot) (accepted : List Tried) (until : ℕ) (es : List Tried) : Type 0 where
@@ -75,4 +76,5 @@ IsOfferOf r n m o = (b : Base) (H : List Tried) → IsReplicaOf b H r → IsOffe
 
 -- Where the worker isn't done and its next attempt has this number, a book with that history takes the offer.
 abbrev pub IsRightFor : Snapshot → ℕ → Offered → Type 0
-IsRightFor r n o = (b : Base) (H : List Tried) → IsReplicaOf b H r → r.worker < b.options.workers → next_number b.options H r.worker ≡ Some n → IsRightOffer b H o
+IsRightFor r n o = (b : Base) (H : List Tried) → IsReplicaOf b H r → r.worker < b.options.workers
+    → next_number b.options H r.worker ≡ Some n → IsRightOffer b H o

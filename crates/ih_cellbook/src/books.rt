@@ -91,8 +91,8 @@ impl<'a, E: Logged> Book<'a, E> {
 
     /// Adds the entry of an offer that is right for this history, and answers its verdict: frozen; else declined, where
     /// the price's score is above what its number may cost; else stale by the first cell of its footprint that an
-    /// accepted entry touched which the worker hadn't seen; else accepted. It compares the versions that were read with those that
-    /// stand here, in time of the footprint, and takes no memory.
+    /// accepted entry touched which the worker hadn't seen; else accepted. It compares the versions that were read with
+    /// those that stand here, in time of the footprint, and takes no memory.
     pub fn commit(&mut self, offer: &E::Offer) -> Verdict
         requires { IsRightOffer self.old.base self.old.entries (E.Offer.offered offer.now) }
         ensures base { self.new.base ≡ self.old.base }

@@ -7,7 +7,7 @@ use ih_journal::Entry;
 use std::alloc::{AllocError, Global};
 use std::marker::Model;
 
-/// The most entries of one copy.
+/// The most entries that are copied or told at once.
 pub(crate) const MOST_COPIED: usize = 256;
 
 /// Entries of a book from a place on, as far as there is room, and how many entries the book had then.

@@ -69,8 +69,8 @@ pub(crate) fn judge<O: Offers>(
     }
 }
 
-// Each counter rises by how often its cell was read.
-fn raise(counters: &mut [u32], reads: &[(u32, u32)])
+/// Each counter rises by how often its cell was read.
+pub fn raise_read(counters: &mut [u32], reads: &[(u32, u32)])
     requires reads { All (λ r. r.0 < length counters.old) reads.now }
     requires small { (n : ℕ) → slice_index counters.old n + length reads.now < 2 ^ 32 }
     ensures len { length counters.new ≡ length counters.old }
@@ -92,6 +92,6 @@ pub(crate) fn raise_where(verdict: &Verdict, counters: &mut Vec<u32>, reads: &Re
         ≡ slice_index counters.old.items n + (if is_accepted verdict.now then times_read n reads.now.pairs else 0) }
 {
     if let Verdict::Accepted = *verdict {
-        raise(counters.as_mut_slice(), reads.as_slice());
+        raise_read(counters.as_mut_slice(), reads.as_slice());
     }
 }

@@ -19,6 +19,7 @@ mod singles;
 pub use best::best_in;
 pub use books::Book;
 pub use buffers::Buffer;
+pub use counters::raise_read;
 pub use kinds::{Attempted, Logged, Offers};
 pub use laws::{
     accepted_prices_are_exact, journals_tell_searches_apart, legal_histories_are_few,

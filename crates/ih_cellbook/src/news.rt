@@ -3,13 +3,11 @@
 ghost use Rattle.std.specs.Prelude.{◌≡◌, ◌+◌, ◌<◌, ◌≤◌, ◌++◌, ◌∷◌, [], length, map, vec_capacity, IfOk};
 ghost use Rattle.ih_cellbook.specs.Told.{accepted_between, accepted_of, most_told, TellsOf};
 
+use crate::buffers::MOST_COPIED;
 use crate::kinds::Logged;
 use ih_journal::{Entry, Verdict};
 use std::alloc::{AllocError, Global};
 use std::marker::Model;
-
-// The most accepted entries that are told at once.
-const MOST_TOLD: usize = 256;
 
 /// The entries that were accepted among those of a book from a place on, the place up to which it tells, and how many
 /// entries the book had then.
@@ -57,7 +55,7 @@ fn list_accepted<E: Logged>(list: &mut Vec<E>, entries: &[E], from: u32, front: 
 {
     list.clear();
     let mut until = from;
-    while until < front && list.len() < MOST_TOLD {
+    while until < front && list.len() < MOST_COPIED {
         put_accepted(list, &entries[until as usize]);
         until += 1;
     }
@@ -70,7 +68,7 @@ impl<E: Logged> News<E> {
         ensures { IfOk result (λ n. n ≡ record { accepted = []; until = 0; front = 0 }) }
     {
         Ok(News {
-            accepted: Vec::with_capacity(alloc, MOST_TOLD)?,
+            accepted: Vec::with_capacity(alloc, MOST_COPIED)?,
             until: 0,
             front: 0,
         })

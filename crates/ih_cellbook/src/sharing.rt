@@ -39,11 +39,11 @@ pub struct Try {
 }
 
 impl Model for Try {
-    ghost use Rattle.ih_journal.specs.Tried.{Tried};
+    ghost use Rattle.ih_journal.specs.Tried.{Tried, tried_by};
 
     ghost Value = { Tried };
 
-    ghost view = { λ t. record { worker = t.worker; number = t.number; again = t.again; seen = t.seen; moves = t.moves; price = t.price; verdict = t.verdict } };
+    ghost view = { λ t. tried_by t.worker t.number t.again t.seen t.moves t.price t.verdict };
 }
 
 impl<'a, E: Logged> Kept for Book<'a, E> {

@@ -29,9 +29,11 @@ SinglesHaveTheSameLine = (o : Options) (k : ℕ) (e : Entry) → o.retries ≡ 0
 -- The journal of a legal history of chains of at most eight moves has at most 226 bytes for each chain and 29 for each
 -- of its moves, and 128 for its heading.
 abbrev pub ChainJournalsAreShort : Type 0
-ChainJournalsAreShort = (b : Base) (each : ℕ) (H : List ChainEntry) → IsSearchBase b → each ≤ 8 → AreLegal b each (chain_tries H)
+ChainJournalsAreShort = (b : Base) (each : ℕ) (H : List ChainEntry) → IsSearchBase b → each ≤ 8
+    → AreLegal b each (chain_tries H)
     → length (chain_journal b.options each H) ≤ 128 + (226 + 29 * each) * length H
 
 -- A legal history of chains of one move is one of single moves.
 abbrev pub SinglesAreHistoriesOfMoves : Type 0
-SinglesAreHistoriesOfMoves = (b : Base) (H : List ChainEntry) → AreLegal b 1 (chain_tries H) → (G : List Entry) × (tries G ≡ chain_tries H)
+SinglesAreHistoriesOfMoves = (b : Base) (H : List ChainEntry) → AreLegal b 1 (chain_tries H) → (G : List Entry)
+    × (tries G ≡ chain_tries H)

@@ -35,7 +35,13 @@ impl Model for ChainRun {
 
     ghost Value = { Ran };
 
-    ghost view = { λ r. record { options = r.options; each = r.each; entries = r.entries.items; best = r.best; plan = r.plan } };
+    ghost view = { λ r. record {
+      options = r.options;
+      each = r.each;
+      entries = r.entries.items;
+      best = r.best;
+      plan = r.plan;
+    } };
 
     ghost invariant = { λ r. length r.entries.items < 2 ^ 31 };
 }

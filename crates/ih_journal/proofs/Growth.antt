@@ -22,7 +22,7 @@ use Rattle.ih_journal.specs.Settings.{theta}
 use Rattle.ih_journal.specs.Base.{Base}
 use Rattle.ih_journal.specs.Frozen.{is_frozen}
 use Rattle.ih_journal.specs.declared.settings.Options.{Options}
-use Rattle.ih_journal.specs.Attempts.{Attempt, attempt_after, last_by, else_last, when_by, is_stale, is_done, next_attempt, HasMade}
+use Rattle.ih_journal.specs.Attempts.{TryNumber, attempt_after, last_by, else_last, when_by, is_stale, is_done, next_attempt, HasMade}
 use Rattle.ih_journal.specs.History.{is_accepted, after_entry, after_entries, plan_after, plan_at, touched_since}
 use Rattle.ih_journal.specs.Legal.{verdict_on, first_touched, IsLegal, AreLegal}
 use Rattle.ih_journal.proofs.HistoryLemmas.{after_entries-append}
@@ -146,7 +146,7 @@ has_made-own b H e w i own number fresh h =
     }
 
 -- a worker with a next attempt isn't done, and the attempt is what follows its last entry
-pub attempt-parts : (o : Options) (G : List Tried) (w : ℕ) (a : Attempt) → next_attempt o G w ≡ Some a → (is_done o G w ≡ false) × (attempt_after o (last_by w G) ≡ a)
+pub attempt-parts : (o : Options) (G : List Tried) (w : ℕ) (a : TryNumber) → next_attempt o G w ≡ Some a → (is_done o G w ≡ false) × (attempt_after o (last_by w G) ≡ a)
 unfolding next_attempt
 attempt-parts o G w a = by_case (is_done o G w)
   where

@@ -6,7 +6,7 @@ use Rattle.ih_journal.specs.declared.entries.Verdict.{Verdict}
 use Rattle.ih_journal.specs.declared.entries.Verdict.TheVariants.{Stale}
 
 -- one try of a worker's move: the move's number among its draws, and how often it was tried before
-pub record Attempt : Type 0 where
+pub record TryNumber : Type 0 where
   pub number : ℕ
   pub again : ℕ
 
@@ -36,7 +36,7 @@ is_done_after o None = o.moves == 0
 is_done_after o (Some e) = if o.moves == 0 then true else (e.number + 1 == o.moves) && not (is_retried o e)
 
 -- what follows a worker's last entry
-abbrev pub attempt_after : Options → Option Tried → Attempt
+abbrev pub attempt_after : Options → Option Tried → TryNumber
 attempt_after o None = record { number = 0; again = 0 }
 attempt_after o (Some e) =
     if is_retried o e then record { number = e.number; again = e.again + 1 }
@@ -47,7 +47,7 @@ unfoldable pub is_done : Options → List Tried → ℕ → Bool
 is_done o H w = is_done_after o (last_by w H)
 
 -- the next attempt of worker w, where it isn't done
-unfoldable pub next_attempt : Options → List Tried → ℕ → Option Attempt
+unfoldable pub next_attempt : Options → List Tried → ℕ → Option TryNumber
 next_attempt o H w = if is_done o H w then None else Some (attempt_after o (last_by w H))
 
 -- worker w has made its moves below i, and none of them is to be tried again

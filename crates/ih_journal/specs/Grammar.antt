@@ -14,6 +14,7 @@ use Rattle.ih_journal.specs.declared.entries.Verdict.{Verdict}
 use Rattle.ih_journal.specs.declared.entries.Verdict.TheVariants.{Stale}
 use Rattle.ih_tables.specs.Valid.{IsValid}
 use Rattle.ih_journal.specs.Settings.{IsLawful}
+use Rattle.ih_journal.specs.Tried.{Tried, tried}
 use Rattle.ih_journal.specs.Texts.{move_text, price_text, verdict_text, line_text, journal}
 
 -- the pieces that the bytes have between separators: one more than there are separators
@@ -33,16 +34,20 @@ abbrev pub IsVerdictOf : Draft → Verdict → Type 0
 IsVerdictOf I (Stale c seen place) = IsCellOf I c × (seen < 2 ^ 32) × (place < 2 ^ 32)
 IsVerdictOf I v = Unit {0}
 
--- Each number of the entry has at most 32 bits, without retries nothing is tried again, and what it names is in range.
-pub record IsEntryOf (I : Draft) (o : Options) (e : Entry) : Type 0 where
+-- Each number of the try has at most 32 bits, without retries nothing is tried again, and what it names is in range: of
+-- its moves that is what is asked of them.
+pub record IsTriedOf (I : Draft) (o : Options) (Moves : Type 0) (e : Tried) : Type 0 where
   pub worker : e.worker < 2 ^ 32
   pub number : e.number < 2 ^ 32
   pub again : e.again < 2 ^ 32
   pub once : o.retries ≡ 0 → e.again ≡ 0
   pub seen : e.seen < 2 ^ 32
-  pub move : IsMoveOf I e.mv
+  pub move : Moves
   pub price : IsPrice e.price
   pub verdict : IsVerdictOf I e.verdict
+
+abbrev pub IsEntryOf : Draft → Options → Entry → Type 0
+IsEntryOf I o e = IsTriedOf I o (IsMoveOf I e.mv) (tried e)
 
 -- the bytes are the line of entry e at place k, without its line feed
 pub record IsLineOf (I : Draft) (o : Options) (k : ℕ) (e : Entry) (bytes : List ℕ) : Type 0 where

@@ -17,17 +17,13 @@ pub record Tried : Type 0 where
   pub price : Bill
   pub verdict : Verdict
 
+-- the try of these
+abbrev pub tried_by : ℕ → ℕ → ℕ → ℕ → List Move → Bill → Verdict → Tried
+tried_by w n a s ms p v = record { worker = w; number = n; again = a; seen = s; moves = ms; price = p; verdict = v }
+
 -- what an entry of one move stands for
 abbrev pub tried : Entry → Tried
-tried e = record {
-  worker = e.worker;
-  number = e.number;
-  again = e.again;
-  seen = e.seen;
-  moves = e.mv ∷ [];
-  price = e.price;
-  verdict = e.verdict;
-}
+tried e = tried_by e.worker e.number e.again e.seen (e.mv ∷ []) e.price e.verdict
 
 -- what entries of one move each stand for
 abbrev pub tries : List Entry → List Tried

@@ -1,7 +1,7 @@
 use Rattle.std.proofs.Common.{◌≡◌, ℕ, ◌+◌, take, length}
 use Rattle.std.specs.Prelude.{slice_index}
 use Rattle.ih_cellbook.specs.Counters.{times_read}
-use Rattle.ih_cellbook.proofs.counters.raise.Given as goal
+use Rattle.ih_cellbook.proofs.counters.raise_read.Given as goal
 
 abbrev pub invariant-loop-cell : goal.invariant-loop-cell
 invariant-loop-cell l = record {
