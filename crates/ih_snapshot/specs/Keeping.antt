@@ -44,4 +44,6 @@ pub record HasTaken (r : Snapshot) (e : Tried) (s : Snapshot) : Type 0 where
   pub seen : s.seen ≡ r.seen + 1
   pub plan : s.plan ≡ after_entry r.base.instance r.plan e
   pub len : length s.versions ≡ length r.versions
-  pub each : (n : ℕ) → n < cell_count r.base.instance → slice_index s.versions n ≡ slice_index r.versions n + bit (touches_accepted r.base.instance r.plan e (cell_at r.base.instance n))
+  pub each : (n : ℕ) → n < cell_count r.base.instance
+      → slice_index s.versions n ≡ slice_index r.versions n + bit
+      (touches_accepted r.base.instance r.plan e (cell_at r.base.instance n))

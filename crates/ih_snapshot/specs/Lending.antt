@@ -11,7 +11,8 @@ use Rattle.ih_cellbook.specs.declared.kinds.Attempted.{Ghosts as AttemptedGhosts
 use Rattle.ih_cellbook.specs.declared.kinds.Offers.{Ghosts as OffersGhosts}
 
 -- P holds of the replica then. `named 0` is the place of the replica's lifetime in the signature.
-abbrev pub RestsAs : (E A O : RattleType) → LoggedGhosts E.Denot A.Denot O.Denot → AttemptedGhosts A.Denot → OffersGhosts O.Denot A.Denot → MutBor Snapshot → (Snapshot → Type 0) → Fml
+abbrev pub RestsAs : (E A O : RattleType) → LoggedGhosts E.Denot A.Denot O.Denot → AttemptedGhosts A.Denot
+    → OffersGhosts O.Denot A.Denot → MutBor Snapshot → (Snapshot → Type 0) → Fml
 RestsAs E A O e a o r P =
     let row = the_row (record { mir = named 0; lft = [] }) E A O e a o in
     follows_so row row r.ghost_name none (λ _ _. ⊤) P

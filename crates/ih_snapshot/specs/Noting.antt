@@ -19,7 +19,8 @@ reads_of r m = tagged (slice_index r.versions) (footprint_of_all r.base.instance
 -- the verdict on the attempt of this number rests on them
 abbrev pub asks_reads : Snapshot → ℕ → List Move → Bool
 asks_reads r number m =
-    is_compared r.base.instance r.base.options (is_frozen r.base r.plan m) number (price_of_all r.base.instance r.plan m)
+    is_compared r.base.instance r.base.options (is_frozen r.base r.plan m) number
+    (price_of_all r.base.instance r.plan m)
 
 -- the offer of this number and moves, by the timetable that the replica keeps, with these cells
 abbrev pub offer_with : Snapshot → ℕ → List Move → List (ℕ × ℕ) → Offered

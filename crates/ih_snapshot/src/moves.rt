@@ -8,8 +8,8 @@ ghost use Rattle.ih_journal.specs.Settings.{IsLawful, theta};
 ghost use Rattle.ih_cellbook.specs.Counters.{is_compared};
 ghost use Rattle.ih_snapshot.specs.Keeping.{IsOwnRead};
 
-use crate::notes::{raise, raise_read};
-use ih_cellbook::{Attempted, Logged, Offers};
+use crate::notes::raise;
+use ih_cellbook::{Attempted, Logged, Offers, raise_read};
 use ih_costs::Ledgers;
 use ih_footprint::CellList;
 use ih_journal::Options;

@@ -52,7 +52,9 @@ impl<'a, E: Logged> Model for Replica<'a, E> {
       last = E.Offer.offered r.last;
     } };
 
-    ghost invariant = { λ r. IsOfBase (base_with r.inst.now.draft r.start r.options r.freeze) r.ledgers r.versions.items r.foot.sizes (E.Offer.offered r.last) × (r.freeze ≤ E.Attempt.most_freeze) };
+    ghost invariant = { λ r.
+        IsOfBase (base_with r.inst.now.draft r.start r.options r.freeze) r.ledgers r.versions.items r.foot.sizes
+        (E.Offer.offered r.last) × (r.freeze ≤ E.Attempt.most_freeze) };
 }
 
 impl<'a, E: Logged> Replica<'a, E> {
