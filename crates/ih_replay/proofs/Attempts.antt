@@ -5,14 +5,14 @@ use Rattle.std.proofs.Math.Bool.{and-false}
 use Rattle.std.proofs.lemmas.Bool.{cases_eq, ne_eqb}
 use Rattle.ih_journal.specs.Tried.{Tried}
 use Rattle.ih_journal.specs.declared.settings.Options.{Options}
-use Rattle.ih_journal.specs.Attempts.{Attempt, attempt_after, is_done, is_done_after, is_retried, last_by, next_attempt}
+use Rattle.ih_journal.specs.Attempts.{TryNumber, attempt_after, is_done, is_done_after, is_retried, last_by, next_attempt}
 use Rattle.ih_journal.specs.Base.{Base}
 use Rattle.ih_cellbook.specs.Legal.{AreLegalButDraws}
 use Rattle.ih_cellbook.specs.Offers.{next_number}
 use Rattle.ih_cellbook.proofs.EntryLimits.{next-below}
 
-pub number-of : (o : Options) (H : List Tried) (w : ℕ) (a : Attempt) → next_attempt o H w ≡ Some a → next_number o H w ≡ Some a.number
-number-of o H w a e = ap (option_map (λ (a : Attempt). a.number)) e
+pub number-of : (o : Options) (H : List Tried) (w : ℕ) (a : TryNumber) → next_attempt o H w ≡ Some a → next_number o H w ≡ Some a.number
+number-of o H w a e = ap (option_map (λ (a : TryNumber). a.number)) e
 
 done-most : (o : Options) (l : Option Tried) → is_done_after o l ≡ true → o.moves ≤ (attempt_after o l).number
 done-most o None h = elim (cases_eq o.moves 0) [
@@ -25,7 +25,7 @@ done-most o (Some e) h = elim (cases_eq o.moves 0) [
 ]
   where
     by_case : (t : Bool) → ((e.number + 1 == o.moves) && not t) ≡ true
-        → o.moves ≤ (let a : Attempt =
+        → o.moves ≤ (let a : TryNumber =
         (if t then record { number = e.number; again = e.again + 1 } else record { number = e.number + 1; again = 0 }) in a.number)
     by_case true h = absurd (let no : false ≡ true = sym (and-false (e.number + 1 == o.moves)) ∙ h in cc)
     by_case false h = elim (cases_eq (e.number + 1) o.moves) [
@@ -40,7 +40,7 @@ attempt-going o H w going = rw going refl
 module _ (b : Base) (H : List Tried) (w n again : ℕ) (legal : AreLegalButDraws b H) (next : attempt_after b.options (last_by w H) ≡ record { number = n; again = again }) where
   pub going-below : is_done b.options H w ≡ false → n < b.options.moves
   going-below going =
-      let attempt = attempt-going b.options H w going ∙ ap (λ (a : Attempt). Some a) next in
+      let attempt = attempt-going b.options H w going ∙ ap (λ (a : TryNumber). Some a) next in
       (next-below b H w (record { number = n; again = again }) legal attempt).0
 
   pub below-going : n < b.options.moves → is_done b.options H w ≡ false
@@ -50,7 +50,7 @@ module _ (b : Base) (H : List Tried) (w n again : ℕ) (legal : AreLegalButDraws
       by_case : (t : Bool) → is_done_after b.options (last_by w H) ≡ t → t ≡ false
       by_case true done =
           let most = done-most b.options (last_by w H) done in
-          let number : (attempt_after b.options (last_by w H)).number ≡ n = ap (λ (a : Attempt). a.number) next in
+          let number : (attempt_after b.options (last_by w H)).number ≡ n = ap (λ (a : TryNumber). a.number) next in
           absurd (omega (arith, most, number, below))
       by_case false going = refl
 
@@ -62,4 +62,4 @@ module _ (b : Base) (H : List Tried) (w n again : ℕ) (legal : AreLegalButDraws
       by_case false going = let below = going-below going in absurd (omega (arith, below, past))
 
   pub next-is : n < b.options.moves → next_attempt b.options H w ≡ Some (record { number = n; again = again })
-  next-is below = attempt-going b.options H w (below-going below) ∙ ap (λ (a : Attempt). Some a) next
+  next-is below = attempt-going b.options H w (below-going below) ∙ ap (λ (a : TryNumber). Some a) next

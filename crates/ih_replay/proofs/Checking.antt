@@ -5,7 +5,7 @@ use Rattle.ih_plan.specs.Draws.{move_of}
 use Rattle.ih_journal.specs.declared.entries.Entry.{Entry}
 use Rattle.ih_journal.specs.Tried.{Tried}
 use Rattle.ih_journal.specs.declared.refusals.Reason.TheVariants.{Worker, Number, Try, Seen, Move}
-use Rattle.ih_journal.specs.Attempts.{Attempt, next_attempt}
+use Rattle.ih_journal.specs.Attempts.{TryNumber, next_attempt}
 use Rattle.ih_journal.specs.Base.{Base}
 use Rattle.ih_journal.specs.Legal.{AreLegal}
 use Rattle.ih_cellbook.specs.Keeping.{IsBase}
@@ -20,7 +20,7 @@ use Rattle.ih_replay.proofs.Lines.{legal-but}
 some-same : (m n : ℕ) → Some m ≡ Some n → m ≡ n
 some-same m n h = cc
 
-same-attempt : (a b : Attempt) → Some a ≡ Some b → a ≡ b
+same-attempt : (a b : TryNumber) → Some a ≡ Some b → a ≡ b
 same-attempt a b h = cc
 
 module _ (b : Base) (H : List Tried) (e : Entry) (x : Workers) (legal : AreLegal b 1 H) (kept : IsWorkerIn b H e.worker x) (known : e.worker < b.options.workers) where
@@ -65,7 +65,7 @@ module _ (b : Base) (H : List Tried) (e : Entry) (x : Workers) (legal : AreLegal
         later = Seen ∷ Move ∷ [];
         listed = refl;
         passed = (going below, (own-number, tt));
-        fails = λ is. other (ap (λ (a : Attempt). a.again) (same-attempt (record { number = e.number; again = e.again }) (record { number = x.number; again = x.again }) (sym is ∙ next below)));
+        fails = λ is. other (ap (λ (a : TryNumber). a.again) (same-attempt (record { number = e.number; again = e.again }) (record { number = x.number; again = x.again }) (sym is ∙ next below)));
       }
 
       module _ (again : e.again ≡ x.again) where
@@ -109,7 +109,7 @@ module _ (b : Base) (H : List Tried) (e : Entry) (x : Workers) (legal : AreLegal
     pub own-attempt : (e.number ≡ x.number) × (e.again ≡ x.again)
     own-attempt =
         let same = same-attempt (record { number = e.number; again = e.again }) (record { number = x.number; again = x.again }) (sym all.1.1.0 ∙ next below-all) in
-        (ap (λ (a : Attempt). a.number) same, ap (λ (a : Attempt). a.again) same)
+        (ap (λ (a : TryNumber). a.number) same, ap (λ (a : TryNumber). a.again) same)
 
     pub small : IsBase b → (x.number < 2 ^ 31) × (x.again < 2 ^ 31)
     small base =

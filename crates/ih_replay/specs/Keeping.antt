@@ -29,7 +29,13 @@ pub record IsWorkerIn (b : Base) (H : List Tried) (w : ℕ) (x : Worker) : Type 
 abbrev pub gone_on : Draft → Options → Worker → Tried → ℕ → Worker
 gone_on I o x e own_end =
     if is_retried o e then record x { again = x.again + 1; own_end = own_end }
-    else record x { number = x.number + 1; again = 0; draw = draw_at I x.stream; stream = state_after 6 x.stream; own_end = own_end }
+    else record x {
+      number = x.number + 1;
+      again = 0;
+      draw = draw_at I x.stream;
+      stream = state_after 6 x.stream;
+      own_end = own_end;
+    }
 
 -- The history is legal, and each worker's own is kept.
 pub record IsReplayed (b : Base) (H : List Tried) (xs : List Worker) : Type 0 where

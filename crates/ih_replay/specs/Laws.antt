@@ -29,7 +29,8 @@ TakenLinesAreOfLegalHistories = (b : Base) (lines : List (List ℕ)) (G : List E
 -- The bytes that follow a journal's heading, and a last piece of them that has no line feed: of a legal history's
 -- journal that may be cut off anywhere, each whole line is taken. Where nothing is cut off, that leads to the whole
 -- history, and the last piece is empty.
-pub record IsTakenAsFar (b : Base) (G : List Entry) (more : List ℕ) (lines : List (List ℕ)) (last : List ℕ) : Type 0 where
+pub record IsTakenAsFar (b : Base) (G : List Entry) (more : List ℕ) (lines : List (List ℕ))
+    (last : List ℕ) : Type 0 where
   pub taken : Takes b [] lines (take (length lines) G)
   pub whole : more ≡ [] → (last ≡ []) × (length lines ≡ length G)
 

@@ -2,8 +2,8 @@
 
 ghost use Rattle.std.specs.Prelude.{◌≡◌, ◌<◌, ◌^◌, [], IfOk};
 ghost use Rattle.ih_plan.specs.Timetable.{IsPlanOf};
-ghost use Rattle.ih_journal.specs.{Attempts.is_retried, Settings.IsLawful, Tried.tried};
-ghost use Rattle.ih_cellbook.specs.Keeping.{base_with};
+ghost use Rattle.ih_journal.specs.{Attempts.is_retried, Base.Base, Settings.IsLawful, Tried.tried};
+ghost use Rattle.ih_cellbook.specs.{Keeping.base_with, Replicas.IsReplicaOf};
 ghost use Rattle.ih_replay.specs.Keeping.{IsReplayed, IsWorkerIn, gone_on};
 
 use ih_journal::{Entry, Options, Verdict};
@@ -38,30 +38,21 @@ fn is_retried(options: &Options, entry: &Entry) -> bool
 }
 
 impl<'a> Worker<'a> {
-    /// A worker that has made no attempt.
-    pub fn new(
-        alloc: Global,
-        inst: &'a Instance,
-        start: &Plan,
-        options: &Options,
-        freeze: u32,
-        worker: u32,
-    ) -> Result<Worker<'a>, AllocError>
-        requires start { IsPlanOf inst.now.draft start.now }
-        requires lawful { IsLawful options.now }
-        ensures { IfOk result (IsWorkerIn (base_with inst.entry.now.draft start.now options.now freeze) [] worker) }
+    /// A worker that has made no attempt, by its replica.
+    pub fn new(inst: &Instance, options: &Options, worker: u32, replica: Replica<'a>) -> Worker<'a>
+        ensures { (b : Base) → b.instance ≡ inst.now.draft → b.options ≡ options.now
+            → IsReplicaOf b [] replica.entry → replica.entry.worker ≡ worker → IsWorkerIn b [] worker result }
     {
-        let replica = Replica::new(alloc, inst, start, options, freeze, worker)?;
         let mut stream = Stream::new(options.seed, worker);
         let draw = stream.draw(inst);
-        Ok(Worker {
+        Worker {
             replica,
             stream,
             draw,
             number: 0,
             again: 0,
             own_end: 0,
-        })
+        }
     }
 
     /// Goes on to the attempt that follows an entry of the worker at the place before `own_end`.
@@ -95,7 +86,8 @@ pub fn new_workers<'a>(
 {
     let mut workers = Vec::with_capacity(alloc, options.workers as usize)?;
     for worker in 0..options.workers {
-        workers.push(Worker::new(alloc, inst, start, options, freeze, worker)?)?;
+        let replica = Replica::new(alloc, inst, start, options, freeze, worker)?;
+        workers.push(Worker::new(inst, options, worker, replica))?;
     }
     Ok(workers)
 }

@@ -45,17 +45,13 @@ returns-then-not-is_same_price-clause-err c =
 
 pub returns-then-not-is_same_verdict-clause-err : goal.returns-then-not-is_same_verdict-clause-err
 returns-then-not-is_same_verdict-clause-err c =
-    let v = c.args.book.now in
-    let both = follow-is v.base v.entries c.args.replica.now c.requires.replica c.args.entry.now
-    (offered_of c.price-offer.result.now) c.price-offer.ensures.offer c.requires.seen c.requires.own c.requires.fits
+    let both = follow-is _ _ _ c.requires.replica c.args.entry.now (offered_of c.price-offer.result.now) c.price-offer.ensures.offer c.requires.seen c.requires.own c.requires.fits
     c.judge.result (c.if-not-is_same_price.ensures.yes refl) c.judge.ensures in
     record { earlier = Price ∷ []; later = []; listed = refl; passed = (both.0, tt); fails = λ is. c.if-not-is_same_verdict.ensures.no refl (both.1 ∙ sym is) }
 
 pub returns-else-not-is_same_verdict-clause-ok : goal.returns-else-not-is_same_verdict-clause-ok
 returns-else-not-is_same_verdict-clause-ok c =
-    let v = c.args.book.now in
-    let both = follow-is v.base v.entries c.args.replica.now c.requires.replica c.args.entry.now
-    (offered_of c.price-offer.result.now) c.price-offer.ensures.offer c.requires.seen c.requires.own c.requires.fits
+    let both = follow-is _ _ _ c.requires.replica c.args.entry.now (offered_of c.price-offer.result.now) c.price-offer.ensures.offer c.requires.seen c.requires.own c.requires.fits
     c.judge.result (c.if-not-is_same_price.ensures.yes refl) c.judge.ensures in
     (both.0, (sym (c.if-not-is_same_verdict.ensures.yes refl) ∙ both.1, tt))
 

@@ -1,4 +1,4 @@
-use Rattle.std.proofs.Common.{◌∙◌, arith, ap, length, length-append}
+use Rattle.std.proofs.Common.{◌∙◌, arith, ap, refl, length, length-append}
 use Rattle.ih_cellbook.specs.Keeping.{base_with}
 use Rattle.ih_replay.proofs.Keeping.{workers-more}
 use Rattle.ih_replay.proofs.workers.new_workers.Goals as goal
@@ -6,8 +6,10 @@ use Rattle.ih_replay.proofs.workers.new_workers.Goals as goal
 pub loop-worker-preserved : goal.loop-worker-preserved
 loop-worker-preserved c =
     let many = c.loop-worker.invariant.many in
+    let b = base_with c.args.inst.now.draft c.args.start.now c.args.options.now c.args.freeze in
+    let new = c.new.ensures b refl refl c.in_ok-replica.ensures.replica c.in_ok-replica.ensures.worker in
     record {
       many = ap length c.in_ok-push.ensures.items ∙ length-append c.loop-worker.workers.items _ ∙ omega (arith, many);
       each = rw c.in_ok-push.ensures.items
-          (workers-more (base_with c.args.inst.now.draft c.args.start.now c.args.options.now c.args.freeze) c.loop-worker.workers.items c.loop-worker.worker _ many c.loop-worker.invariant.each c.in_ok-new.ensures);
+          (workers-more b c.loop-worker.workers.items c.loop-worker.worker _ many c.loop-worker.invariant.each new);
     }
