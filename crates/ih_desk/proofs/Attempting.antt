@@ -11,7 +11,7 @@ use Rattle.ih_plan.proofs.TestLemmas.{equal-swap}
 use Rattle.ih_journal.specs.Tried.{Tried}
 use Rattle.ih_journal.specs.declared.entries.Verdict.{Verdict}
 use Rattle.ih_journal.specs.declared.settings.Options.{Options}
-use Rattle.ih_journal.specs.Attempts.{Attempt, HasMade, attempt_after, is_done_after, is_retried, is_stale, last_by}
+use Rattle.ih_journal.specs.Attempts.{TryNumber, HasMade, attempt_after, is_done_after, is_retried, is_stale, last_by}
 use Rattle.ih_journal.specs.Base.{Base}
 use Rattle.ih_journal.specs.Legal.{attempt_of}
 use Rattle.ih_journal.proofs.Growth.{last_by-own}
@@ -51,7 +51,7 @@ pub next-begun : (o : Options) (H : List Tried) (w n : ℕ) → HasMade o H w n 
 next-begun o H w n made below = record { attempt = made.attempt; not_done = made.done ∙ ne_eqb o.moves n (λ e. omega arith) }
 
 pub next-number : (o : Options) (H : List Tried) (w n again : ℕ) → IsNext o H w n again → next_number o H w ≡ Some n
-next-number o H w n again next = next-is o H w n (last_by w H) refl next.not_done (ap (λ (a : Attempt). a.number) next.attempt)
+next-number o H w n again next = next-is o H w n (last_by w H) refl next.not_done (ap (λ (a : TryNumber). a.number) next.attempt)
 
 module _ (o : Options) (w n again : ℕ) (m : List Move) (v : Verdict) (seen H : List Tried) (next : IsNext o seen w n again) (tried : HasAttempted o w n m v seen H) where
   last : last_by w H ≡ Some tried.entry
@@ -59,7 +59,7 @@ module _ (o : Options) (w n again : ℕ) (m : List Move) (v : Verdict) (seen H :
       ∙ (last_by-others w ((seen ++ tried.others) ++ tried.entry ∷ []) tried.later tried.none_later ∙ last_by-own (seen ++ tried.others) tried.entry w tried.worker)
 
   same-try : tried.entry.again ≡ again
-  same-try = tried.again ∙ ap (λ (a : Attempt). a.again) next.attempt
+  same-try = tried.again ∙ ap (λ (a : TryNumber). a.again) next.attempt
 
   -- a stale move that has tries left is tried again
   pub next-try : is_stale v ≡ true → again < o.retries → IsNext o H w n (again + 1)

@@ -8,7 +8,7 @@ use ih_cellbook::{Opens, Replicates};
 use ih_journal::Options;
 use ih_plan::Plan;
 use ih_tables::Instance;
-use std::alloc::Global;
+use std::alloc::{AllocError, Global};
 
 /// One of the workers of a search, with its seat at the desk. Both are parameters, since a struct can't hold a seat of
 /// a type that has parameters itself.
@@ -24,35 +24,23 @@ pub struct Seated<S, T> {
 pub type WorkerOn<'a, C> = Seated<Searcher<'a, C>, DeskSeat<'a, <C as Replicates>::Entry>>;
 
 impl<'a, C: Opens<'a>> WorkerOn<'a, C> {
-    ghost use Rattle.std.specs.Prelude.{◌≡◌, ◌≤◌, IfOk, IfErr};
+    ghost use Rattle.std.specs.Prelude.{◌≡◌, ◌≤◌, ℕ, IfOk, IfErr};
     ghost use Rattle.ih_plan.specs.Timetable.{IsPlanOf};
-    ghost use Rattle.ih_journal.specs.Settings.{IsLawful};
+    ghost use Rattle.ih_journal.specs.{Base.Base, Settings.IsLawful};
+    ghost use Rattle.ih_turn.specs.Seats.{number_of};
     ghost use Rattle.ih_cellbook.specs.Keeping.{base_with};
-    ghost use Rattle.ih_desk.specs.Workers.{IsNewWorker};
+    ghost use Rattle.ih_desk.specs.{Searchers.IsNew, Workers.IsNewWorker};
 
-    /// A worker with this seat, in a search over a start by attempts of `each` moves. It has drawn and seen nothing.
-    /// `new` is for attempts of one move.
-    ///
-    /// # Errors
-    /// The seat, where memory runs out.
-    pub fn of(
-        alloc: Global,
-        inst: &'a Instance,
-        start: &Plan,
-        options: &Options,
-        freeze: u32,
-        each: u32,
+    // The searcher with a seat; the seat alone, where the searcher's memory ran out.
+    pub(crate) fn seated(
+        opened: Result<Searcher<'a, C>, AllocError>,
         seat: DeskSeat<'a, C::Entry>,
     ) -> Result<WorkerOn<'a, C>, DeskSeat<'a, C::Entry>>
-        requires start { IsPlanOf inst.now.draft start.now }
-        requires lawful { IsLawful options.now }
-        requires freeze { freeze ≤ C.Entry.Attempt.most_freeze }
-        requires each { C.Entry.Attempt.may_have each }
-        ensures new { IfOk result
-            (λ w. IsNewWorker (base_with inst.entry.now.draft start.now options.now freeze) each w seat.entry) }
+        ensures new { (b : Base) (each : ℕ) → IfOk opened.entry (IsNew b each (number_of seat.entry))
+            → IfOk result (λ w. IsNewWorker b each w seat.entry) }
         ensures refused { IfErr result (λ s. s ≡ seat.entry) }
     {
-        match Searcher::open(alloc, inst, start, options, freeze, each, seat.number()) {
+        match opened {
             Ok(searcher) => Ok(Seated {
                 searcher,
                 seat: Some(seat),
@@ -61,7 +49,7 @@ impl<'a, C: Opens<'a>> WorkerOn<'a, C> {
         }
     }
 
-    /// As `of`, for attempts of one move: a worker of a search by single moves.
+    /// A worker with this seat, in a search over a start by single moves. It has drawn and seen nothing.
     ///
     /// # Errors
     /// The seat, where memory runs out.
@@ -81,7 +69,8 @@ impl<'a, C: Opens<'a>> WorkerOn<'a, C> {
             (λ w. IsNewWorker (base_with inst.entry.now.draft start.now options.now freeze) 1 w seat.entry) }
         ensures refused { IfErr result (λ s. s ≡ seat.entry) }
     {
-        Seated::of(alloc, inst, start, options, freeze, 1, seat)
+        let opened = Searcher::open(alloc, inst, start, options, freeze, 1, seat.number());
+        Seated::seated(opened, seat)
     }
 }
 

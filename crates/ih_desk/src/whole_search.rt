@@ -12,6 +12,7 @@ use crate::given::Given;
 use crate::laws::finished_searches_are_full;
 use crate::seated_workers::{Seated, WorkerOn};
 use crate::side_by_side::run_all;
+use crate::worker_loop::Searcher;
 use ih_cellbook::{Book, Logged, Opens, Replicates};
 use ih_journal::Options;
 use ih_shelf::Gate;
@@ -68,15 +69,16 @@ fn seat_workers<'a, C: Opens<'a>>(
 {
     let mut workers = Vec::with_capacity(alloc, seats.len())?;
     for seat in seats {
-        let Ok(worker) = Seated::of(
+        let opened = Searcher::open(
             alloc,
             given.inst,
             given.start,
             &given.options,
             given.freeze,
             each,
-            seat,
-        ) else {
+            seat.number(),
+        );
+        let Ok(worker) = Seated::seated(opened, seat) else {
             return Err(AllocError);
         };
         workers.push(worker)?;
