@@ -42,7 +42,8 @@ between low high n = nat_le low n && nat_le n high
 -- ---- kinds
 
 abbrev pub number : ℕ → ℕ → Check ℕ
-number low high p d = or_else Kind p (option_and_then as_u64 (as_number d)) >>= λ n. where_so (between low high n) Range p n
+number low high p d = or_else Kind p (option_and_then as_u64 (as_number d)) >>= λ n. where_so
+    (between low high n) Range p n
 
 abbrev pub text : Check (List ℕ)
 text p d = or_else Kind p (as_str d) >>= λ s. where_so (between 1 100 (length s)) Range p s
@@ -86,7 +87,8 @@ new_id earlier p d = object p d >>= λ o. under p d Id (new_name earlier)
 -- each item in turn, which may look at those before it
 unfoldable pub each_after : {A : Type 0} → List A → (List A → Check A) → Place → List Data → Checked (List A)
 each_after done check p [] = Ok done
-each_after done check p (d ∷ ds) = check done (at_item (length done) p) d >>= λ x. each_after (done ++ x ∷ []) check p ds
+each_after done check p (d ∷ ds) = check done (at_item (length done) p) d >>= λ x. each_after
+    (done ++ x ∷ []) check p ds
 
 abbrev pub each : {A : Type 0} → (List A → Check A) → Place → List Data → Checked (List A)
 each check p ds = each_after [] check p ds
@@ -100,7 +102,8 @@ abbrev pub vector : ℕ → ℕ → Check (List ℕ)
 vector n high p d = first_items n p d >>= each (λ _. number 0 high) p
 
 -- items of names: each is read with the numbers of the names before it
-abbrev pub each_named : {A : Type 0} → (A → List ℕ) → ((List ℕ → Option ℕ) → Check A) → Place → List Data → Checked (List A)
+abbrev pub each_named : {A : Type 0} → (A → List ℕ) → ((List ℕ → Option ℕ) → Check A) → Place → List Data
+    → Checked (List A)
 each_named name row p ds = each (λ done. row (number_in (map name done))) p ds
 
 -- a list of low to high such items
