@@ -33,10 +33,13 @@ has d k = is_some (get (key_name k) d)
 
 -- the spelling of the fourth weight that is there, and the first where neither is
 abbrev pub spelling : Data → Key
-spelling d = if has d keys.NurseExcessiveWorkload && not (has d keys.NurseEccessiveWorkload) then keys.NurseExcessiveWorkload else keys.NurseEccessiveWorkload
+spelling d =
+    if has d keys.NurseExcessiveWorkload && not (has d keys.NurseEccessiveWorkload) then keys.NurseExcessiveWorkload
+    else keys.NurseEccessiveWorkload
 
 abbrev pub one_spelling : Check Key
-one_spelling p d = where_so (not (has d keys.NurseEccessiveWorkload && has d keys.NurseExcessiveWorkload)) TwoWeights p (spelling d)
+one_spelling p d = where_so (not (has d keys.NurseEccessiveWorkload && has d keys.NurseExcessiveWorkload)) TwoWeights p
+    (spelling d)
 
 abbrev pub weight : Place → Data → Key → Checked ℕ
 weight p d k = under p d k (number 0 100000)
@@ -86,7 +89,8 @@ worked days types taken p d = do
   day ← under p d keys.Day (number 0 (days - 1))
   shift ← under p d keys.Shift (reference types)
   load ← under p d keys.MaxLoad (number 0 100000)
-  where_so (not (taken (3 * day + shift))) Duplicate p (record { day = record { 0 = day }; shift = shift; max_load = load })
+  where_so (not (taken (3 * day + shift))) Duplicate p
+      (record { day = record { 0 = day }; shift = shift; max_load = load })
 
 abbrev pub each_worked : ℕ → Numbers → Place → List Data → Checked (List WorkedShift)
 each_worked days types p ds = each (λ before. worked days types (is_worked before)) p ds
@@ -114,7 +118,8 @@ occupant days groups rooms earlier p d = do
 
 -- the due day of a mandatory patient
 abbrev pub due_day : Bool → Place → Data → Checked (Option ℕ)
-due_day mandatory p d = if mandatory then (under p d keys.SurgeryDueDay (number 0 1000) >>= λ n. Ok (Some n)) else Ok None
+due_day mandatory p d =
+    if mandatory then (under p d keys.SurgeryDueDay (number 0 1000) >>= λ n. Ok (Some n)) else Ok None
 
 abbrev pub room_number : Numbers → Check RoomNo
 room_number rooms p d = reference rooms p d >>= λ n. Ok (record { 0 = n })
@@ -175,15 +180,18 @@ abbrev pub nurses : ℕ → List (List ℕ) → Check (List Nurse)
 nurses days types = named 0 512 (λ (n : Nurse). n.id) (nurse days (number_in types))
 
 abbrev pub occupants : ℕ → List (List ℕ) → List Room → Check (List Occupant)
-occupants days groups rs = named 0 512 (λ (o : Occupant). o.id) (occupant days (number_in groups) (number_in (names_of_rooms rs)))
+occupants days groups rs = named 0 512 (λ (o : Occupant). o.id)
+    (occupant days (number_in groups) (number_in (names_of_rooms rs)))
 
 abbrev pub patients : ℕ → List (List ℕ) → List Surgeon → List Room → Check (List Patient)
-patients days groups ss rs = named 0 2048 (λ (p : Patient). p.id) (patient days (number_in groups) (number_in (names_of_surgeons ss)) (number_in (names_of_rooms rs)))
+patients days groups ss rs = named 0 2048 (λ (p : Patient). p.id)
+    (patient days (number_in groups) (number_in (names_of_surgeons ss)) (number_in (names_of_rooms rs)))
 
 -- ---- the whole
 
 -- the data of these parts
-abbrev pub draft_with : ℕ → ℕ → List (List ℕ) → List (List ℕ) → Weights → List Surgeon → List Theatre → List Room → List Nurse → List Occupant
+abbrev pub draft_with : ℕ → ℕ → List (List ℕ) → List (List ℕ) → Weights → List Surgeon → List Theatre → List Room
+    → List Nurse → List Occupant
     → List Patient → Draft
 draft_with days levels types groups ws ss ts rs ns os ps = record {
   days = days;

@@ -6,10 +6,11 @@ ghost use Rattle.serde_json.specs.View.{view};
 ghost use Rattle.ih_format.specs.Gives.{Gives};
 ghost use Rattle.ih_instance.specs.Instance.{draft, instance};
 
+use crate::people::People;
 use crate::rooms::Rooms;
 use crate::surgery::{Surgeons, Theatres};
+use crate::weights;
 use crate::words::Words;
-use crate::{people, weights};
 use ih_format::{FormatError, documents, keys, kinds, reads};
 use ih_tables::{Draft, Instance, Key, Place};
 use serde_json::Value;
@@ -36,9 +37,19 @@ fn draft(alloc: Global, value: &Value, at: Place) -> Result<Draft, FormatError>
         at,
     )?;
     let rooms = reads::under(alloc, &Rooms, value, Key::Rooms, 1, 128, at)?;
-    let nurses = people::nurses(alloc, value, days, &types, at)?;
-    let occupants = people::occupants(alloc, value, days, &groups, &rooms, at)?;
-    let patients = people::patients(alloc, value, days, &groups, &surgeons, &rooms, at)?;
+    let people = People {
+        alloc,
+        object: value,
+        at,
+        days,
+        types: &types,
+        groups: &groups,
+        surgeons: &surgeons,
+        rooms: &rooms,
+    };
+    let nurses = people.nurses()?;
+    let occupants = people.occupants()?;
+    let patients = people.patients()?;
     Ok(Draft {
         days,
         skill_levels,

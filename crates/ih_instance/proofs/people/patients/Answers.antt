@@ -1,4 +1,0 @@
-use Rattle.ih_instance.proofs.people.patients.Goals as goal
-
-pub returns : goal.returns
-returns c = rw (← c.requires.groups.same, ← c.requires.surgeons.same, ← c.requires.rooms.same) c.items_under.ensures
