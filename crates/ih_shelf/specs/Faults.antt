@@ -1,11 +1,7 @@
 -- Faults that are planned for calls of one kind, and the count of those that came.
 use Rattle.std.specs.Prelude.{◌==◌, ℕ, ◌+◌, ◌-◌, ◌^◌, nat_lt, List, [], ◌∷◌, Option, Some, None, if◌then◌else◌}
+use Rattle.ih_shelf.specs.declared.faults.PlannedFault.{PlannedFault}
 use Rattle.ih_shelf.specs.Outside.{raised}
-
--- the call of a number, counted from 1, is to fail and to keep so many bytes
-pub record PlannedFault : Type 0 where
-  pub number : ℕ
-  pub kept : ℕ
 
 -- the calls made so far, the planned faults, the newest first, and how many calls failed
 pub record Faults : Type 0 where

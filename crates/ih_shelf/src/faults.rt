@@ -6,21 +6,14 @@ ghost use Rattle.ih_shelf.specs.Faults.{kept_by};
 use std::alloc::{AllocError, Global};
 use std::marker::Model;
 
+/// The call of a number, counted from 1, is to fail and to keep so many bytes.
 #[derive(Drop)]
-struct FailingCall {
+pub struct PlannedFault {
     number: u64,
     kept: u64,
 }
 
-impl Model for FailingCall {
-    ghost use Rattle.ih_shelf.specs.Faults.{PlannedFault};
-
-    ghost Value = { PlannedFault };
-
-    ghost view = { λ f. record { number = f.number; kept = f.kept } };
-}
-
-fn find(plan: &[FailingCall], number: u64) -> Option<u64>
+fn find(plan: &[PlannedFault], number: u64) -> Option<u64>
     ensures { result ≡ kept_by plan.now number }
 {
     for call in plan {
@@ -36,7 +29,7 @@ fn find(plan: &[FailingCall], number: u64) -> Option<u64>
 #[derive(Drop)]
 pub struct FaultPlan {
     calls: u64,
-    plan: Vec<FailingCall>,
+    plan: Vec<PlannedFault>,
     count: u64,
 }
 
@@ -67,7 +60,7 @@ impl FaultPlan {
         ensures ok { OnOk result (self.new ≡ planned self.old number kept) }
         ensures err { OnErr result (self.new ≡ self.old) }
     {
-        self.plan.insert(0, FailingCall { number, kept })?;
+        self.plan.insert(0, PlannedFault { number, kept })?;
         Ok(())
     }
 

@@ -15,7 +15,7 @@ mod transfer;
 pub use gate::OpenGate;
 pub use hold::HoldGate;
 pub use memory::MemShelf;
-pub use never_fails::NeverFails;
 pub use outside::{Gate, ReadError, Shelf, Sink, WriteError};
 pub use real::{FileShelf, OutSink};
 pub use sink::MemSink;
+pub use stored::NeverFails;

@@ -4,7 +4,7 @@ ghost use Rattle.std.specs.Prelude.{◌≡◌, take};
 
 use crate::faults::FaultPlan;
 use crate::outside::{ReadError, Shelf, WriteError};
-use crate::stored::{StoredFiles, copy_within};
+use crate::stored::{NeverFails, copy_within};
 use std::alloc::{AllocError, Global};
 use std::marker::Model;
 use std::rt::Files;
@@ -12,7 +12,7 @@ use std::rt::Files;
 /// Files in memory, some of whose reads and writes fail on demand.
 #[derive(Drop)]
 pub struct MemShelf {
-    files: StoredFiles,
+    files: NeverFails,
     reads: FaultPlan,
     writes: FaultPlan,
 }
@@ -34,7 +34,7 @@ impl MemShelf {
         ensures { result ≡ empty_shelf }
     {
         MemShelf {
-            files: StoredFiles::new(alloc),
+            files: NeverFails::new(alloc),
             reads: FaultPlan::new(alloc),
             writes: FaultPlan::new(alloc),
         }

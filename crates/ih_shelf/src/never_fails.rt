@@ -1,54 +1,9 @@
-//! A shelf in memory whose reads and writes never fail, for tests.
+//! What the shelf that never fails does as a shelf.
 
 use crate::outside::{ReadError, Shelf, WriteError};
-use crate::stored::{StoredFiles, copy_within};
-use std::alloc::{AllocError, Global};
-use std::marker::Model;
+use crate::stored::{NeverFails, copy_within};
+use std::alloc::Global;
 use std::rt::Files;
-
-/// Files in memory. There is never a fault.
-#[derive(Drop)]
-pub struct NeverFails {
-    files: StoredFiles,
-}
-
-impl Model for NeverFails {
-    ghost use Rattle.std.specs.Prelude.{List};
-    ghost use Rattle.ih_shelf.specs.Stored.{NamedFile};
-
-    ghost Value = { List NamedFile };
-
-    ghost view = { λ s. s.files };
-}
-
-impl NeverFails {
-    ghost use Rattle.std.specs.Prelude.{◌≡◌, [], OnOk, OnErr, option_copied};
-    ghost use Rattle.ih_shelf.specs.Stored.{names_of, stored};
-
-    /// No files. It takes no memory.
-    pub fn new(alloc: Global) -> NeverFails
-        ensures { result ≡ [] }
-    {
-        NeverFails {
-            files: StoredFiles::new(alloc),
-        }
-    }
-
-    /// Sets a name.
-    pub fn store(&mut self, name: &str, bytes: &[u8]) -> Result<(), AllocError>
-        ensures ok { OnOk result (self.new ≡ stored self.old name.now bytes.now) }
-        ensures err { OnErr result (self.new ≡ self.old) }
-    {
-        self.files.store(name, bytes)
-    }
-
-    /// The bytes of a name, if it is there.
-    pub fn get(&self, name: &str) -> Option<&[u8]>
-        ensures { option_copied result ≡ names_of self.now name.now }
-    {
-        self.files.get(name)
-    }
-}
 
 impl Shelf for NeverFails {
     ghost use Rattle.std.specs.Prelude.{◌≡◌, ◌≢◌, ◌<◌, ◌≤◌, Some, IfOk, OnOk, OnErr, vec_len, length};
@@ -75,7 +30,7 @@ impl Shelf for NeverFails {
         ensures never_faults { result ≢ Err ReadError.Fault }
         ensures kept { self.new ≡ self.old }
     {
-        match self.files.get(name) {
+        match self.get(name) {
             None => Ok(Vec::new(alloc)),
             Some(bytes) => copy_within(alloc, bytes, limit),
         }
@@ -86,8 +41,6 @@ impl Shelf for NeverFails {
         ensures err { OnErr result (self.new ≡ self.old) }
         ensures never_faults { result ≢ Err WriteError.Fault }
     {
-        self.files
-            .store(name, bytes)
-            .map_err(|_| WriteError::OutOfMemory)
+        self.store(name, bytes).map_err(|_| WriteError::OutOfMemory)
     }
 }

@@ -46,14 +46,15 @@ fn find<'a>(files: &'a [StoredFile], name: &str) -> Option<&'a [u8]>
     None
 }
 
-/// The files that were stored, the newest first, of which the first of a name counts.
+/// A shelf in memory whose reads and writes never fail, for tests: the files that were stored, the
+/// newest first, of which the first of a name counts.
 #[derive(Drop)]
-pub struct StoredFiles {
+pub struct NeverFails {
     alloc: Global,
     files: Vec<StoredFile>,
 }
 
-impl Model for StoredFiles {
+impl Model for NeverFails {
     ghost use Rattle.std.specs.Prelude.{List};
     ghost use Rattle.ih_shelf.specs.Stored.{NamedFile};
 
@@ -62,19 +63,21 @@ impl Model for StoredFiles {
     ghost view = { λ s. s.files.items };
 }
 
-impl StoredFiles {
+impl NeverFails {
     ghost use Rattle.std.specs.Prelude.{◌≡◌, [], OnOk, OnErr, option_copied};
     ghost use Rattle.ih_shelf.specs.Stored.{names_of, stored};
 
-    pub fn new(alloc: Global) -> StoredFiles
+    /// No files. It takes no memory.
+    pub fn new(alloc: Global) -> NeverFails
         ensures { result ≡ [] }
     {
-        StoredFiles {
+        NeverFails {
             alloc,
             files: Vec::new(alloc),
         }
     }
 
+    /// The bytes of a name, if it is there.
     pub fn get(&self, name: &str) -> Option<&[u8]>
         ensures { option_copied result ≡ names_of self.now name.now }
     {
