@@ -2,7 +2,7 @@
 use Rattle.std.proofs.Common.{◌≡◌, ℕ, zero, suc, ◌+◌, ◌<◌, ◌≤◌, refl, arith, ◌∙◌, Bool, true, false, List, [], ◌∷◌, ◌++◌, length, length-append}
 use Rattle.std.specs.Prelude.{if◌then◌else◌, All, ◌&&◌, ◌==◌, Option, Some, None, option_map}
 use Rattle.std.specs.List.{filter}
-use Rattle.std.proofs.lemmas.List.Elements.{filter-append, All-push, All-nil, All-weaker}
+use Rattle.std.proofs.lemmas.List.Elements.{filter-append, All-push, All-nil, All-same, All-weaker}
 use Rattle.std.proofs.lemmas.List.{append-nil}
 use Rattle.ih_tables.specs.declared.drafts.Draft.{Draft}
 use Rattle.ih_tables.specs.Sizes.{patient_count, person_count}
@@ -11,10 +11,13 @@ use Rattle.ih_plan.specs.declared.moves.Placement.{Placement}
 use Rattle.ih_plan.specs.Timetable.{Timetable, stay_of}
 use Rattle.ih_plan.specs.Persons.{person_of}
 use Rattle.ih_plan.specs.Presence.{Admission, admission_of, is_in, covers, is_present, present}
-use Rattle.ih_plan.specs.Costs.{is_number, operated, operated_by, operated_in, theatre_of, surgeon_of, admitted_on}
+use Rattle.ih_plan.specs.Costs.{is_number, operated, operated_by, operated_in, surgeon_of, admitted_on}
 use Rattle.ih_plan.specs.Sums.{which_below}
 use Rattle.ih_plan.proofs.SumLemmas.{which_below-more}
-use Rattle.ih_validate.specs.Members.{residents_of, theatre_patients, surgeon_patients}
+use Rattle.ih_validate.specs.declared.surgery.Whose.{Whose}
+use Rattle.ih_validate.specs.declared.surgery.Whose.TheVariants.{OfTheatre, OfSurgeon}
+use Rattle.ih_validate.specs.Members.{residents_of}
+use Rattle.ih_validate.specs.Surgery.{AreOperated, has_surgery, is_patient_of, operated_on, patients_of}
 
 -- xs are the numbers below n that pass
 pub record IsListed (p : ℕ → Bool) (n : ℕ) (xs : List ℕ) : Type 0 where
@@ -92,31 +95,33 @@ present-residents I P r d =
     in_room None n h = h
     in_room (Some a) n h = first_passes (a.room == r) (covers a.day n d) h
 
--- the same of a theatre's patients and of a surgeon's
-pub operated-among : (I : Draft) (P : Timetable) (t d : ℕ) → filter (λ p. operated_in t d (stay_of P p)) (theatre_patients I P t) ≡ operated I P t d
-unfolding operated
-operated-among I P t d =
-    filter-which_below (patient_count I) (λ p. is_number (theatre_of P p) t) (λ p. operated_in t d (stay_of P p)) (λ p h. in_theatre (stay_of P p) h)
+-- the same of those who have surgery in a theatre, or by a surgeon
+pub operated-among : (I : Draft) (P : Timetable) (w : Whose) (d : ℕ)
+    → filter (has_surgery I P w d) (patients_of I P w) ≡ operated_on I P w d
+unfolding operated operated_by
+operated-among I P (OfTheatre t) d =
+    filter-which_below (patient_count I) (is_patient_of I P (OfTheatre t)) (has_surgery I P (OfTheatre t) d)
+    (λ p h. in_theatre (stay_of P p) h)
   where
-    in_theatre : (o : Option Placement) → operated_in t d o ≡ true → is_number (option_map (λ (at : Placement). at.theatre.0) o) t ≡ true
+    in_theatre : (o : Option Placement) → operated_in t.0 d o ≡ true → is_number (option_map (λ (at : Placement). at.theatre.0) o) t.0 ≡ true
     in_theatre None h = h
-    in_theatre (Some at) h = first_passes (at.theatre.0 == t) (at.day.0 == d) h
-
-pub operated_by-among : (I : Draft) (P : Timetable) (s d : ℕ)
-    → filter (λ p. is_number (surgeon_of I p) s && admitted_on d (stay_of P p)) (surgeon_patients I s) ≡ operated_by I P s d
-unfolding operated_by
-operated_by-among I P s d =
-    filter-which_below (patient_count I) (λ p. is_number (surgeon_of I p) s) (λ p. is_number (surgeon_of I p) s && admitted_on d (stay_of P p))
-    (λ p h. first_passes (is_number (surgeon_of I p) s) (admitted_on d (stay_of P p)) h)
+    in_theatre (Some at) h = first_passes (at.theatre.0 == t.0) (at.day.0 == d) h
+operated-among I P (OfSurgeon s) d =
+    filter-which_below (patient_count I) (is_patient_of I P (OfSurgeon s)) (has_surgery I P (OfSurgeon s) d)
+    (λ p h. first_passes (is_number (surgeon_of I p) s.0) (admitted_on d (stay_of P p)) h)
 
 pub present-persons : (I : Draft) (P : Timetable) (r d : ℕ) → All (λ x. x < person_count I) (present I P r d)
 unfolding present
 present-persons I P r d = which_below-All (person_count I) (is_present I P r d)
 
-pub operated-patients : (I : Draft) (P : Timetable) (t d : ℕ) → All (λ p. p < patient_count I) (operated I P t d)
-unfolding operated
-operated-patients I P t d = which_below-All (patient_count I) (λ p. operated_in t d (stay_of P p))
+pub operated-patients : (I : Draft) (P : Timetable) (w : Whose) (d : ℕ) → All (λ p. p < patient_count I) (operated_on I P w d)
+unfolding operated operated_by
+operated-patients I P (OfTheatre t) d = which_below-All (patient_count I) (has_surgery I P (OfTheatre t) d)
+operated-patients I P (OfSurgeon s) d = which_below-All (patient_count I) (has_surgery I P (OfSurgeon s) d)
 
-pub operated_by-patients : (I : Draft) (P : Timetable) (s d : ℕ) → All (λ p. p < patient_count I) (operated_by I P s d)
-unfolding operated_by
-operated_by-patients I P s d = which_below-All (patient_count I) (λ p. is_number (surgeon_of I p) s && admitted_on d (stay_of P p))
+-- those of the patients who have surgery on the day, as a list of them is made
+pub are-operated : (I : Draft) (P : Timetable) (w : Whose) (d : ℕ) (among today ps : List ℕ) → among ≡ patients_of I P w
+    → today ≡ filter (has_surgery I P w d) among → ps ≡ today → length ps ≤ 2560 → AreOperated I P w d ps
+are-operated I P w d among today ps all some same few =
+    let these = same ∙ some ∙ rw all (operated-among I P w d) in
+    record { these = these; patients = All-same (λ p. p < patient_count I) ps _ these (operated-patients I P w d); few = few }

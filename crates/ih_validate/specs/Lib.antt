@@ -1,3 +1,5 @@
 pub mod Report
 pub mod Members
 pub mod Rooms
+pub mod Surgery
+pub mod Stays

@@ -1,24 +1,16 @@
--- Who is looked at for a room, a theatre or a surgeon, and who nurses a person.
+-- Who is looked at for a room, and who nurses a person.
 use Rattle.std.specs.Prelude.{ℕ, List, Option, Some, None, if◌then◌else◌}
 use Rattle.ih_tables.specs.declared.drafts.Draft.{Draft}
-use Rattle.ih_tables.specs.Sizes.{patient_count, person_count}
+use Rattle.ih_tables.specs.Sizes.{person_count}
 use Rattle.ih_plan.specs.Timetable.{Timetable, care_of}
 use Rattle.ih_plan.specs.Persons.{person_of}
 use Rattle.ih_plan.specs.Presence.{Admission, admission_of, room_of, covers, day_of}
-use Rattle.ih_plan.specs.Costs.{is_number, theatre_of, surgeon_of}
+use Rattle.ih_plan.specs.Costs.{is_number}
 use Rattle.ih_plan.specs.Sums.{which_below}
 
 -- the persons whose room is r, on whatever days, rising
 abbrev pub residents_of : Draft → Timetable → ℕ → List ℕ
 residents_of I P r = which_below (person_count I) (λ x. is_number (room_of I P x) r)
-
--- the patients with surgery in theatre t, on whatever day, rising
-abbrev pub theatre_patients : Draft → Timetable → ℕ → List ℕ
-theatre_patients I P t = which_below (patient_count I) (λ p. is_number (theatre_of P p) t)
-
--- the patients of surgeon s, admitted or not, rising
-abbrev pub surgeon_patients : Draft → ℕ → List ℕ
-surgeon_patients I s = which_below (patient_count I) (λ p. is_number (surgeon_of I p) s)
 
 -- the nurse in shift k of a person who stays n days, while the person is there
 abbrev pub carer_in : Timetable → Option Admission → ℕ → ℕ → Option ℕ

@@ -4,7 +4,10 @@ ghost use Rattle.std.specs.Prelude.{◌≡◌, ◌<◌, ◌^◌, pos};
 ghost use Rattle.ih_plan.specs.{Timetable.IsPlanOf, BillOf.bill_of};
 ghost use Rattle.ih_tables.specs.Bills.{IsWithin};
 
-use crate::{loads, nurses, patients, rooms, shifts, surgeons, theatres};
+use crate::overtime::overtime;
+use crate::patients::{StayCost, cost_of_stays};
+use crate::surgery::Kind;
+use crate::{loads, nurses, rooms, shifts, surgeons, theatres};
 use ih_plan::Plan;
 use ih_tables::{Bill, Instance};
 
@@ -24,11 +27,11 @@ fn all_counts(inst: &Instance, plan: &Plan) -> Bill
     Bill {
         v: [
             signed(rooms.gender_mixes),
-            signed(patients::bad_rooms(inst, plan)),
-            signed(surgeons::surgeon_overtime(inst, plan)),
-            signed(theatres::theatre_overtime(inst, plan)),
-            signed(patients::mandatory_left_out(inst, plan)),
-            signed(patients::outside_windows(inst, plan)),
+            signed(cost_of_stays(inst, plan, StayCost::BadRoom)),
+            signed(overtime(inst, plan, Kind::Surgeons)),
+            signed(overtime(inst, plan, Kind::Theatres)),
+            signed(cost_of_stays(inst, plan, StayCost::MandatoryLeftOut)),
+            signed(cost_of_stays(inst, plan, StayCost::OutsideWindow)),
             signed(rooms.over_capacity),
             signed(shifts::nurses_off(inst, plan)),
             signed(rooms.uncovered),
@@ -40,8 +43,8 @@ fn all_counts(inst: &Instance, plan: &Plan) -> Bill
             signed(loads::overloads(inst, plan)),
             signed(theatres::open_theatres(inst, plan)),
             signed(surgeons::transfers(inst, plan)),
-            signed(patients::delays(inst, plan)),
-            signed(patients::optional_left_out(inst, plan)),
+            signed(cost_of_stays(inst, plan, StayCost::Delay)),
+            signed(cost_of_stays(inst, plan, StayCost::OptionalLeftOut)),
         ],
     }
 }

@@ -84,23 +84,15 @@ fn skill_missing(inst: &Instance, plan: &Plan, r: RoomNo, k: u32, here: &[u32]) 
     }
 }
 
-fn nurses_off_in(inst: &Instance, plan: &Plan, r: RoomNo) -> u64
-    requires plan { IsPlanOf inst.now.draft plan.now }
-    requires room { r.0 < room_count inst.now.draft }
-    ensures sum { result ≡ sum_below (shift_count inst.now.draft)
-        (λ k. bit (not_working inst.now.draft k (care_of plan.now r.0 k))) }
-    ensures bound { result ≤ 168 }
-{
-    sum_below(inst.shifts(), 1, |k| bit(is_off(inst, plan, r, k)))
-}
-
 #[tactic(auto, unfolding(ih_plan::specs::BillOf::nurses_off))]
 pub fn nurses_off(inst: &Instance, plan: &Plan) -> u64
     requires { IsPlanOf inst.now.draft plan.now }
     ensures value { result ≡ nurses_off inst.now.draft plan.now }
     ensures bound { result ≤ 21504 }
 {
-    sum_below(inst.rooms(), 168, |r| nurses_off_in(inst, plan, RoomNo(r)))
+    sum_below(inst.rooms(), 168, |r| {
+        sum_below(inst.shifts(), 1, |k| bit(is_off(inst, plan, RoomNo(r), k)))
+    })
 }
 
 /// The shifts of a day in which the room is occupied and has no nurse.

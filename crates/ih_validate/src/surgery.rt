@@ -1,21 +1,128 @@
-//! Minutes of surgery.
+//! Surgeries by theatres and by surgeons, day by day.
 
-ghost use Rattle.std.specs.Prelude.{◌≡◌, ◌<◌, ◌≤◌, ◌*◌, length, All};
+ghost use Rattle.std.specs.Prelude.{◌≡◌, ◌<◌, ◌≤◌, ◌*◌, ◌^◌, ℕ, slice_index};
 ghost use Rattle.ih_tables.specs.Sizes.{patient_count};
-ghost use Rattle.ih_plan.specs.Costs.{minutes};
+ghost use Rattle.ih_plan.specs.{Timetable.IsPlanOf, Sums.sum_below};
+ghost use Rattle.ih_validate.specs.Surgery.{AreOperated, IsWhoseOf, count_of, has_surgery, is_patient_of, limit_of, one_of};
 
-use ih_tables::{Instance, PatientNo};
+use crate::number_lists::NumberList;
+use ih_plan::Plan;
+use ih_tables::{Instance, PatientNo, SurgeonNo, TheatreNo};
 
-/// The minutes of surgery of patients.
-pub fn minutes(inst: &Instance, patients: &[u32]) -> u64
-    requires patients { All (λ p. p < patient_count inst.now.draft) patients.now }
-    requires few { length patients.now ≤ 2560 }
-    ensures sum { result ≡ minutes inst.now.draft patients.now }
-    ensures bound { result ≤ 4294967296 * 2560 }
+/// All theatres, or all surgeons.
+#[derive(Clone, Copy)]
+pub enum Kind {
+    Theatres,
+    Surgeons,
+}
+
+/// How many there are.
+pub fn count_of(inst: &Instance, kind: Kind) -> u32
+    ensures { result ≡ count_of inst.now.draft kind }
 {
+    match kind {
+        Kind::Theatres => inst.theatres(),
+        Kind::Surgeons => inst.surgeons(),
+    }
+}
+
+/// Whose surgeries are looked at.
+#[derive(Clone, Copy)]
+pub enum Whose {
+    OfTheatre(TheatreNo),
+    OfSurgeon(SurgeonNo),
+}
+
+/// The theatre or the surgeon of a number.
+pub fn one_of(kind: Kind, number: u32) -> Whose
+    ensures { result ≡ one_of kind number }
+{
+    match kind {
+        Kind::Theatres => Whose::OfTheatre(TheatreNo(number)),
+        Kind::Surgeons => Whose::OfSurgeon(SurgeonNo(number)),
+    }
+}
+
+fn is_patient_of(inst: &Instance, plan: &Plan, w: Whose, p: PatientNo) -> bool
+    requires plan { IsPlanOf inst.now.draft plan.now }
+    requires patient { p.0 < patient_count inst.now.draft }
+    ensures { result ≡ is_patient_of inst.now.draft plan.now w p.0 }
+{
+    match w {
+        Whose::OfTheatre(t) => match plan.stay(p) {
+            None => false,
+            Some(at) => at.theatre.0 == t.0,
+        },
+        Whose::OfSurgeon(s) => inst.patient(p).surgeon_id.0 == s.0,
+    }
+}
+
+/// Whether the patient has surgery there, or by the surgeon, on the day.
+pub fn has_surgery(inst: &Instance, plan: &Plan, w: Whose, d: u32, p: PatientNo) -> bool
+    requires plan { IsPlanOf inst.now.draft plan.now }
+    requires patient { p.0 < patient_count inst.now.draft }
+    ensures { result ≡ has_surgery inst.now.draft plan.now w d p.0 }
+{
+    match plan.stay(p) {
+        None => match w {
+            Whose::OfTheatre(_) => false,
+            Whose::OfSurgeon(_) => false,
+        },
+        Some(at) => match w {
+            Whose::OfTheatre(t) => at.theatre.0 == t.0 && at.day.0 == d,
+            Whose::OfSurgeon(s) => inst.patient(p).surgeon_id.0 == s.0 && at.day.0 == d,
+        },
+    }
+}
+
+fn on_day(numbers: &[u32], d: u32) -> u64
+    ensures { result ≡ slice_index numbers.now d }
+{
+    numbers.get(d as usize).copied().unwrap_or(0) as u64
+}
+
+/// The minutes of surgery that there may be on the day.
+pub fn limit_of(inst: &Instance, w: Whose, d: u32) -> u64
+    requires { IsWhoseOf inst.now.draft w }
+    ensures { result ≡ limit_of inst.now.draft w d }
+{
+    match w {
+        Whose::OfTheatre(t) => on_day(inst.theatre(t).availability.as_slice(), d),
+        Whose::OfSurgeon(s) => on_day(inst.surgeon(s).max_surgery_time.as_slice(), d),
+    }
+}
+
+/// The sum of what each day costs by who has surgery then, each at most so much. All patients are looked through once,
+/// and then the theatre's or the surgeon's own for each day.
+pub fn sum_days<F: Fn(u32, &[u32]) -> u64>(
+    inst: &Instance,
+    plan: &Plan,
+    w: Whose,
+    most: u64,
+    each: F,
+) -> u64
+    requires plan { IsPlanOf inst.now.draft plan.now }
+    requires callable { (d : ℕ) (ps : _) → AreOperated inst.now.draft plan.now w d ps.now → F.pre each d ps }
+    requires few { (d : ℕ) (ps : _) (x : ℕ) → F.post each d ps x → x ≤ most }
+    requires fits { inst.now.draft.days * most < 2 ^ 64 }
+    ensures sum { (f : ℕ → ℕ)
+        → ((d : ℕ) (ps : _) (x : ℕ) → AreOperated inst.now.draft plan.now w d ps.now → F.post each d ps x → x ≡ f d)
+        → result ≡ sum_below inst.now.draft.days f }
+    ensures bound { result ≤ inst.now.draft.days * most }
+{
+    let mut among = NumberList::new();
+    let mut today = NumberList::new();
+    among.list_below(
+        inst.patients(),
+        |p| is_patient_of(inst, plan, w, PatientNo(p)),
+    );
     let mut sum = 0;
-    for p in patients {
-        sum += inst.patient(PatientNo(*p)).surgery_duration as u64;
+    for d in 0..inst.days() {
+        today.list_among(
+            among.as_slice(),
+            |p| has_surgery(inst, plan, w, d, PatientNo(p)),
+        );
+        sum += each(d, today.as_slice());
     }
     sum
 }
