@@ -1,16 +1,15 @@
 -- The command `advise`: its description for `clap`, its values and when they are lawful.
 use Rattle.std.specs.Prelude.{ℕ, ◌≤◌, List, [], ◌∷◌, Option, Some, None, codes, if◌then◌else◌}
-use Rattle.clap.specs.Words.{App, Row, Text, new_app, with_rule}
+use Rattle.clap.specs.Words.{App, Row, Text, with_rule}
 use Rattle.ih_journal.specs.declared.settings.TheConstants.{MAX_HARD, MAX_WORKERS}
-use Rattle.ih_words.specs.Arguments.{named, numbered_option}
+use Rattle.ih_words.specs.Arguments.{files_app, numbered_option}
 use Rattle.ih_words.specs.Distinct.{all_differ}
-use Rattle.ih_words.specs.Matches.{HasNumber, HasText, number_at, text_at}
+use Rattle.ih_words.specs.Matches.{HasFiles, HasNumber, number_at, text_at}
 use Rattle.ih_words.specs.declared.advise.Advise.{Advise}
 
 -- advise INSTANCE SOLUTION --hard N --workers N
 unfoldable pub advise_app : App
-advise_app = with_rule (with_rule (with_rule (with_rule (new_app (codes "advise"))
-    (named (codes "INSTANCE"))) (named (codes "SOLUTION")))
+advise_app = with_rule (with_rule (files_app (codes "advise"))
     (numbered_option (codes "hard") 0 MAX_HARD))
     (numbered_option (codes "workers") 1 MAX_WORKERS)
 
@@ -33,8 +32,7 @@ pub record IsLawfulAdvise (a : Advise) : Type 0 where
 
 -- the file names and the options are there, and the options are within their limits
 pub record HasAdvise (rows : List Row) : Type 0 where
-  pub instance : HasText (codes "INSTANCE") rows
-  pub solution : HasText (codes "SOLUTION") rows
+  pub files : HasFiles rows
   pub hard : HasNumber 0 MAX_HARD (codes "hard") rows
   pub workers : HasNumber 1 MAX_WORKERS (codes "workers") rows
 

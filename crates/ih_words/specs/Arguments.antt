@@ -2,7 +2,7 @@
 -- with the rules of its arguments, in the order in which they were added.
 use Rattle.std.specs.Prelude.{◌≡◌, ℕ, Result, IfOk, Some, true, codes}
 use Rattle.std.specs.declared.alloc.AllocError.{AllocError}
-use Rattle.clap.specs.Words.{App, Rule, Text, app_of, new_rule, with_rule}
+use Rattle.clap.specs.Words.{App, Rule, Text, app_of, new_app, new_rule, with_rule}
 use Rattle.clap.specs.declared.builder.action.ArgAction.TheVariants.{Set, SetTrue}
 use Rattle.clap.specs.declared.builder.command.Command.{Command}
 use Rattle.clap.specs.declared.builder.value_parser.ValueParser.TheVariants.{Unsigned}
@@ -35,6 +35,10 @@ optional_number id high = record (optional id) { parser = Some (Unsigned 0 high)
 -- the flag `--id`
 abbrev pub flag : Text → Rule
 flag id = record (new_rule id) { long = Some id; action = Some SetTrue }
+
+-- NAME INSTANCE SOLUTION
+abbrev pub files_app : Text → App
+files_app name = with_rule (with_rule (new_app name) (named (codes "INSTANCE"))) (named (codes "SOLUTION"))
 
 -- the app with the options that a search needs
 abbrev pub with_options : App → App

@@ -32,4 +32,5 @@ pub record IsLawfulChain (c : Chains) : Type 0 where
 -- the call of chain, by `clap`'s matches, where its file names differ, and its chains have together at most a million
 -- moves
 abbrev pub lawful_chain : List Row → Option ChainCall
-lawful_chain rows = option_map (λ c. record { search = c.search; length = c.number }) (lawful_plain (codes "length") rows)
+lawful_chain rows =
+    option_map (λ c. record { search = c.search; length = c.number }) (lawful_plain (codes "length") rows)

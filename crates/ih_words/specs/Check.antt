@@ -1,15 +1,14 @@
 -- The command `check`: its description for `clap`, its values and when they are lawful.
 use Rattle.std.specs.Prelude.{List, [], ◌∷◌, Option, Some, None, codes, if◌then◌else◌}
-use Rattle.clap.specs.Words.{App, Row, Text, new_app, with_rule}
-use Rattle.ih_words.specs.Arguments.{named}
+use Rattle.clap.specs.Words.{App, Row, Text}
+use Rattle.ih_words.specs.Arguments.{files_app}
 use Rattle.ih_words.specs.Distinct.{all_differ}
 use Rattle.ih_words.specs.Matches.{text_at}
 use Rattle.ih_words.specs.declared.check.Check.{Check}
 
 -- check INSTANCE SOLUTION
 unfoldable pub check_app : App
-check_app = with_rule (with_rule (new_app (codes "check"))
-    (named (codes "INSTANCE"))) (named (codes "SOLUTION"))
+check_app = files_app (codes "check")
 
 -- what a call of check asks for; a file's name is its bytes
 pub record CheckCall : Type 0 where

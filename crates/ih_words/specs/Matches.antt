@@ -61,6 +61,11 @@ pub record HasNames (rows : List Row) (a b c : Text) : Type 0 where
   pub second : HasText b rows
   pub third : HasText c rows
 
+-- the names of an instance's file and of a solution's are there
+pub record HasFiles (rows : List Row) : Type 0 where
+  pub instance : HasText (codes "INSTANCE") rows
+  pub solution : HasText (codes "SOLUTION") rows
+
 -- each option that a search needs is there, and within its own limits
 pub record HasOptions (rows : List Row) : Type 0 where
   pub seed : HasNumber 0 18446744073709551615 (codes "seed") rows

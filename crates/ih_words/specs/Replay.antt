@@ -44,4 +44,5 @@ replay_files r = r.instance ∷ r.journal ∷ r.out ∷ start_files r.start
 
 -- the call of replay or salvage, by `clap`'s matches, where its file names differ, and its freeze day is lawful
 abbrev pub lawful_replay : List Row → Option ReplayCall
-lawful_replay rows = if freezes_a_file rows && all_differ (replay_files (replay_in rows)) then Some (replay_in rows) else None
+lawful_replay rows =
+    if freezes_a_file rows && all_differ (replay_files (replay_in rows)) then Some (replay_in rows) else None

@@ -23,7 +23,8 @@ rounds_call r = record { search = solve_call r.search; rounds = r.rounds }
 abbrev pub AreLawful : Rounds → Type 0
 AreLawful r = IsPlain r.search
 
--- the call of rounds, by `clap`'s matches, where its file names differ, and its journals have together at most a million
--- entries
+-- the call of rounds, by `clap`'s matches, where its file names differ, and its journals have together at most a
+-- million entries
 abbrev pub lawful_rounds : List Row → Option RoundsCall
-lawful_rounds rows = option_map (λ c. record { search = c.search; rounds = c.number }) (lawful_plain (codes "rounds") rows)
+lawful_rounds rows =
+    option_map (λ c. record { search = c.search; rounds = c.number }) (lawful_plain (codes "rounds") rows)

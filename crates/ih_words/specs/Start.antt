@@ -28,7 +28,11 @@ start_call s = record { file = option_map (λ t. t.now) s.file; fill = s.fill; f
 
 -- the start, by `clap`'s matches
 abbrev pub start_in : List Row → StartCall
-start_in rows = record { file = first_of (codes "start") rows; fill = flag_at (codes "fill") rows; freeze = number_at (codes "freeze") rows }
+start_in rows = record {
+  file = first_of (codes "start") rows;
+  fill = flag_at (codes "fill") rows;
+  freeze = number_at (codes "freeze") rows;
+}
 
 -- the file of the start, where one is named
 abbrev pub start_files : StartCall → List Text
@@ -36,4 +40,5 @@ start_files s = option_to_list s.file
 
 -- a freeze day is given only where the timetable of a file is taken as it is
 abbrev pub freezes_a_file : List Row → Bool
-freezes_a_file rows = not (is_given (codes "freeze") rows) || (is_given (codes "start") rows && not (flag_at (codes "fill") rows))
+freezes_a_file rows =
+    not (is_given (codes "freeze") rows) || (is_given (codes "start") rows && not (flag_at (codes "fill") rows))

@@ -5,7 +5,7 @@ ghost use Rattle.ih_words.specs.Advise.{HasAdvise, IsLawfulAdvise, advise_app, a
 ghost use Rattle.ih_words.specs.Matches.{IsAnswer, call_by};
 
 use crate::WordsError;
-use crate::arguments::{named, numbered_option, with};
+use crate::arguments::{files_description, numbered_option, with};
 use crate::file_names::all_differ;
 use crate::matches::{matches_in, text_of, u32_of};
 use clap::{ArgMatches, Command};
@@ -29,10 +29,8 @@ pub struct Advise<'a> {
 fn advise_description<'a>(alloc: Global) -> Result<Command<'a>, AllocError>
     ensures { IfOk result (λ c. app_of c ≡ advise_app) }
 {
-    let name = Ok(Command::new(alloc, "advise"));
-    let instance = with(name, named(alloc, "INSTANCE"));
-    let solution = with(instance, named(alloc, "SOLUTION"));
-    let hard = with(solution, numbered_option(alloc, "hard", 0, MAX_HARD));
+    let files = files_description(alloc, "advise");
+    let hard = with(files, numbered_option(alloc, "hard", 0, MAX_HARD));
     with(hard, numbered_option(alloc, "workers", 1, MAX_WORKERS))
 }
 

@@ -1,7 +1,7 @@
 //! The rules of the commands' arguments, for `clap`.
 ghost use Rattle.std.specs.Prelude.{◌≡◌, IfOk, false};
 ghost use Rattle.clap.specs.Words.{App, Rule, app_of, rule_of, with_rule};
-ghost use Rattle.ih_words.specs.Arguments.{IsChanged, flag, named, named_number, numbered_option, optional};
+ghost use Rattle.ih_words.specs.Arguments.{IsChanged, files_app, flag, named, named_number, numbered_option, optional};
 ghost use Rattle.ih_words.specs.Arguments.{optional_number, seed_option, with_options};
 
 use clap::{Arg, ArgAction, Command, value_parser};
@@ -82,6 +82,14 @@ pub(crate) fn with<'a>(
         Ok(command) => command.arg(argument),
         Err(e) => Err(e),
     }
+}
+
+// `NAME INSTANCE SOLUTION`.
+pub(crate) fn files_description<'a>(alloc: Global, name: &'a str) -> Result<Command<'a>, AllocError>
+    ensures { IfOk result (λ c. app_of c ≡ files_app name.entry.now) }
+{
+    let instance = with(Ok(Command::new(alloc, name)), named(alloc, "INSTANCE"));
+    with(instance, named(alloc, "SOLUTION"))
 }
 
 // The description with the options that a search needs.

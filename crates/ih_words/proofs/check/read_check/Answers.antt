@@ -8,14 +8,11 @@ use Rattle.ih_words.proofs.check.read_check.Goals as goal
 
 pub matches_in-requires : goal.matches_in-requires
 unfolding clap_on_literals check_app all_differ
-matches_in-requires c = (c.check_description.ensures, (refl, refl))
+matches_in-requires c = (c.files_description.ensures, (refl, refl))
 
-pub lawful_check-requires-clause-instance : goal.lawful_check-requires-clause-instance
+pub lawful_check-requires : goal.lawful_check-requires
 unfolding check_app
-lawful_check-requires-clause-instance c =
-    c.in_ok-matches.ensures.texts 0 (named (codes "INSTANCE")) (requires_name refl)
-
-pub lawful_check-requires-clause-solution : goal.lawful_check-requires-clause-solution
-unfolding check_app
-lawful_check-requires-clause-solution c =
-    c.in_ok-matches.ensures.texts 1 (named (codes "SOLUTION")) (requires_name refl)
+lawful_check-requires c = record {
+  instance = c.in_ok-matches.ensures.texts 0 (named (codes "INSTANCE")) (requires_name refl);
+  solution = c.in_ok-matches.ensures.texts 1 (named (codes "SOLUTION")) (requires_name refl);
+}
