@@ -1,12 +1,13 @@
 -- The rules of a command's description: what an argument adds to them, and what the rule at a place requires.
-use Rattle.std.proofs.Common.{◌≡◌, ◌∙◌, ap₂, ℕ, [], Result, Ok, Err, Some, false, refl}
+use Rattle.std.proofs.Common.{◌≡◌, ◌∙◌, ap₂, ℕ, [], Result, Ok, Err, Some, false, refl, List, codes}
 use Rattle.std.specs.declared.alloc.AllocError.{AllocError}
 use Rattle.std.specs.Prelude.{slice_get}
 use Rattle.clap.specs.Built.{AddsArg}
-use Rattle.clap.specs.Words.{App, Rule, Text, app_of, new_app, rule_of, with_rule}
+use Rattle.clap.specs.Words.{App, Row, Rule, Text, app_of, new_app, rule_of, with_rule}
 use Rattle.clap.specs.declared.builder.arg.Arg.{Arg}
 use Rattle.clap.specs.declared.builder.command.Command.{Command}
 use Rattle.ih_words.specs.Arguments.{named, named_number, numbered_option, optional_number}
+use Rattle.ih_words.specs.Matches.{HasFiles, HasText}
 use Rattle.ih_words.specs.Rules.{Requires, RequiresNumber, TakesNumber}
 
 -- the app of a description, where there is one
@@ -22,6 +23,14 @@ adds_rule before added local rule = added.shape local ∙ ap₂ with_rule before
 pub requires_name : {app : App} {k : ℕ} {id : Text} → slice_get app.top.rules k ≡ Some (named id)
     → Requires app k (named id)
 requires_name place = record { place = place; required = refl; action = refl; range = refl }
+
+-- the two files of a command that begins with them are there
+pub has_files : {app : App} {rows : List Row} → ((k : ℕ) (rule : Rule) → Requires app k rule → HasText rule.id rows)
+    → Requires app 0 (named (codes "INSTANCE")) → Requires app 1 (named (codes "SOLUTION")) → HasFiles rows
+has_files texts first second = record {
+  instance = texts 0 (named (codes "INSTANCE")) first;
+  solution = texts 1 (named (codes "SOLUTION")) second;
+}
 
 pub requires_named_number : {app : App} {k : ℕ} {id : Text} → slice_get app.top.rules k ≡ Some (named_number id)
     → RequiresNumber app k (named_number id) 0 18446744073709551615

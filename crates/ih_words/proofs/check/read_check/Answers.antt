@@ -1,9 +1,8 @@
-use Rattle.std.proofs.Common.{codes, refl}
+use Rattle.std.proofs.Common.{refl}
 use Rattle.clap.proofs.OnLiterals.{clap_on_literals}
-use Rattle.ih_words.specs.Arguments.{named}
 use Rattle.ih_words.specs.Check.{check_app}
 use Rattle.ih_words.specs.Distinct.{all_differ}
-use Rattle.ih_words.proofs.DescriptionRules.{requires_name}
+use Rattle.ih_words.proofs.DescriptionRules.{has_files, requires_name}
 use Rattle.ih_words.proofs.check.read_check.Goals as goal
 
 pub matches_in-requires : goal.matches_in-requires
@@ -12,7 +11,4 @@ matches_in-requires c = (c.files_description.ensures, (refl, refl))
 
 pub lawful_check-requires : goal.lawful_check-requires
 unfolding check_app
-lawful_check-requires c = record {
-  instance = c.in_ok-matches.ensures.texts 0 (named (codes "INSTANCE")) (requires_name refl);
-  solution = c.in_ok-matches.ensures.texts 1 (named (codes "SOLUTION")) (requires_name refl);
-}
+lawful_check-requires c = has_files c.in_ok-matches.ensures.texts (requires_name refl) (requires_name refl)
