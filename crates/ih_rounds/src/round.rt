@@ -1,19 +1,21 @@
 //! One round: a search, its journal, and where it leads.
 
-ghost use Rattle.std.specs.Prelude.{◌≡◌, ◌∷◌, [], IfOk};
+ghost use Rattle.std.specs.Prelude.{◌≡◌, IfOk};
 ghost use Rattle.ih_plan.specs.Timetable.{IsPlanOf};
-ghost use Rattle.ih_journal.specs.{Legal.IsFull, Settings.IsLawful, Tried.tries};
+ghost use Rattle.ih_journal.specs.Settings.{IsLawful};
 ghost use Rattle.ih_cellbook.specs.Keeping.{base_with};
-ghost use Rattle.ih_rounds.specs.{Rounds.options_in, Steps.HasRound, Steps.end_of, Telling.Answers};
-ghost use Rattle.ih_rounds.specs.{Telling.with_answers};
+ghost use Rattle.ih_rounds.specs.{Rounds.options_in, Steps.HasRound, Steps.end_of};
 
+use crate::searcher::Searcher;
 use ih_cellbook::best_in;
 use ih_history::{plan_at, put_journal};
-use ih_journal::{Entry, Options};
+use ih_journal::Options;
 use ih_plan::Plan;
 use ih_tables::Instance;
 use ih_validate::bill;
 use std::alloc::{AllocError, Global};
+use std::sync::Wait;
+use std::thread::Threads;
 
 /// What a round comes to.
 #[derive(Drop)]
@@ -50,23 +52,26 @@ fn end_of(found: Option<(u32, i64)>, count: u32) -> u32
     }
 }
 
-/// Appends the journal of a round's history, and says what it comes to. Where memory runs out, the journal is to be
-/// dropped.
-pub(crate) fn outcome_of(
+/// Searches once, and appends the journal. Where memory runs out, the journal is to be dropped.
+pub(crate) fn search_round<R: Threads + Wait + Sync, S: Searcher>(
+    rt: &R,
     alloc: Global,
     inst: &Instance,
     start: &Plan,
     options: &Options,
-    entries: &[Entry],
+    searcher: &mut S,
     journal: &mut Vec<u8>,
 ) -> Result<RoundOutcome, AllocError>
+    requires ready { S.ready searcher.old }
     requires start { IsPlanOf inst.now.draft start.now }
     requires lawful { IsLawful options.now }
-    requires full { IsFull (base_with inst.now.draft start.now options.now 0) 1 (tries entries.now) }
-    ensures { IfOk result (λ o. (before after : Answers) → after ≡ with_answers before (entries.now ∷ [])
-        → HasRound (base_with inst.now.draft start.now options.now 0) before after
-        journal.old.items journal.new.items o) }
+    requires once { options.now.retries ≡ 0 }
+    ensures round { IfOk result (HasRound (base_with inst.entry.now.draft start.entry.now options.entry.now 0)
+        (S.answers searcher.old) (S.answers searcher.new) journal.old.items journal.new.items) }
+    ensures ready { S.ready searcher.new }
 {
+    let answer = searcher.search(rt, alloc, inst, start, options)?;
+    let entries = answer.as_slice();
     put_journal(options, entries, journal)?;
     let found = best_in(inst, &bill(inst, start), entries);
     let count = entries.len() as u32;

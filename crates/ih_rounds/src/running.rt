@@ -6,7 +6,7 @@ ghost use Rattle.ih_journal.specs.Settings.{IsLawful};
 ghost use Rattle.ih_cellbook.specs.Keeping.{base_with};
 ghost use Rattle.ih_rounds.specs.Ends.{Ends, better_of, end_with, keeps};
 
-use crate::round::{options_in, outcome_of};
+use crate::round::{options_in, search_round};
 use crate::searcher::Searcher;
 use ih_journal::Options;
 use ih_plan::Plan;
@@ -124,8 +124,7 @@ pub fn rounds<R: Threads + Wait + Sync, S: Searcher>(
     let mut best = None;
     for round in 0..rounds {
         let own = options_in(options, round);
-        let answer = searcher.search(rt, alloc, inst, &next, &own)?;
-        let outcome = outcome_of(alloc, inst, &next, &own, answer.as_slice(), journal)?;
+        let outcome = search_round(rt, alloc, inst, &next, &own, searcher, journal)?;
         best = better(
             alloc,
             best,
