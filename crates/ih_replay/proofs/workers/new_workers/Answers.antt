@@ -7,7 +7,7 @@ pub loop-worker-preserved : goal.loop-worker-preserved
 loop-worker-preserved c =
     let many = c.loop-worker.invariant.many in
     let b = base_with c.args.inst.now.draft c.args.start.now c.args.options.now c.args.freeze in
-    let new = c.new.ensures b refl refl c.in_ok-replica.ensures.replica c.in_ok-replica.ensures.worker in
+    let new = c.new-in-loop-worker.ensures b refl refl c.in_ok-replica.ensures.replica c.in_ok-replica.ensures.worker in
     record {
       many = ap length c.in_ok-push.ensures.items ∙ length-append c.loop-worker.workers.items _ ∙ omega (arith, many);
       each = rw c.in_ok-push.ensures.items
