@@ -2,18 +2,4 @@
 #![tactic(auto)]
 
 #[cfg(test)]
-mod generated;
-#[cfg(test)]
-mod instance;
-#[cfg(test)]
-mod journal;
-#[cfg(test)]
-mod shelf;
-#[cfg(test)]
-mod solution;
-#[cfg(test)]
-mod tables;
-#[cfg(test)]
-mod validate;
-#[cfg(test)]
-mod words;
+mod tests;

@@ -2,20 +2,4 @@
 #![tactic(auto)]
 
 #[cfg(test)]
-mod costs;
-#[cfg(test)]
-mod fill;
-#[cfg(test)]
-mod footprint;
-#[cfg(test)]
-mod links;
-#[cfg(test)]
-mod moves;
-#[cfg(test)]
-mod nurses;
-#[cfg(test)]
-mod plan;
-#[cfg(test)]
-mod roomdays;
-#[cfg(test)]
-mod theatres;
+mod tests;

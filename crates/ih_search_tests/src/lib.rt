@@ -2,14 +2,4 @@
 #![tactic(auto)]
 
 #[cfg(test)]
-mod cellbook;
-#[cfg(test)]
-mod replay;
-#[cfg(test)]
-mod rounds;
-#[cfg(test)]
-mod snapshot;
-#[cfg(test)]
-mod steps;
-#[cfg(test)]
-mod turn;
+mod tests;

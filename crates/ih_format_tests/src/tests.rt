@@ -1,0 +1,10 @@
+//! The tests, by what they are of.
+
+mod generated;
+mod instance;
+mod journal;
+mod shelf;
+mod solution;
+mod tables;
+mod validate;
+mod words;

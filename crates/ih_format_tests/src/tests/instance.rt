@@ -1,0 +1,190 @@
+//! What is answered for the files of two small instances after one change.
+
+use ih_fixtures::{TWO_PATIENTS, WARD};
+use ih_instance::{InstanceError, read_instance};
+use ih_tables::{Fault, Instance, Place, Refusal};
+use std::alloc::{AllocError, Global};
+
+// Whether that is said of a file.
+fn says(alloc: Global, error: &InstanceError, wanted: &str) -> bool {
+    match format!(in alloc; "{error}") {
+        Ok(text) => text.as_str() == wanted,
+        Err(_) => false,
+    }
+}
+
+// Whether that is answered for a file.
+fn is_read_so(alloc: Global, file: &[u8], wanted: &str) -> bool {
+    match read_instance(alloc, file) {
+        Ok(_) => wanted == "accepted",
+        Err(error) => says(alloc, &error, wanted),
+    }
+}
+
+// The text in which one part is replaced, or none where there is no such part.
+fn changed(alloc: Global, text: &str, old: &str, new: &str) -> Result<Option<String>, AllocError> {
+    match text.split_once(old) {
+        Some((before, after)) => Ok(Some(format!(in alloc; "{before}{new}{after}")?)),
+        None => Ok(None),
+    }
+}
+
+// Whether that is answered for such a text.
+fn is_answered(alloc: Global, text: &str, old: &str, new: &str, wanted: &str) -> bool {
+    match changed(alloc, text, old, new) {
+        Ok(Some(file)) => is_read_so(alloc, file.as_bytes(), wanted),
+        _ => false,
+    }
+}
+
+/// What stands in a text, what is put in its place, and what is then answered.
+type Change = (&'static str, &'static str, &'static str);
+
+// Whether each of these is answered.
+fn are_answered(alloc: Global, text: &str, changes: &[Change]) -> bool {
+    changes.iter().all(|(old, new, wanted)| is_answered(alloc, text, old, new, wanted))
+}
+
+// Changes of the whole text, of the horizon and of what is in the ward.
+const PARTS: [Change; 7] = [
+    (r#""days":1"#, r#""days":1"#, "accepted"),
+    ("}]}]}", "}]}]", "NotJson at $"),
+    (
+        r#""rooms":[{"id":"r0","capacity":2}],"#,
+        "",
+        "Missing at $.rooms",
+    ),
+    (
+        r#""rooms":[{"id":"r0","capacity":2}],"#,
+        r#""rooms":[],"#,
+        "Length at $.rooms",
+    ),
+    (r#""days":1"#, r#""days":0"#, "Range at $.days"),
+    (r#""days":1"#, r#""days":1.0"#, "Kind at $.days"),
+    (
+        r#""length_of_stay":1"#,
+        r#""length_of_stay":0"#,
+        "Range at $.occupants[0].length_of_stay",
+    ),
+];
+
+// Changes of names, weights and shifts.
+const NAMES: [Change; 6] = [
+    (
+        r#""child","adult""#,
+        r#""child","child""#,
+        "Duplicate at $.age_groups[1]",
+    ),
+    (
+        r#""nurse_eccessive_workload":1,"#,
+        r#""nurse_excessive_workload":1,"#,
+        "accepted",
+    ),
+    (
+        r#""nurse_eccessive_workload":1,"#,
+        r#""nurse_excessive_workload":1,"nurse_eccessive_workload":1,"#,
+        "TwoWeights at $.weights",
+    ),
+    (
+        r#""nurse_eccessive_workload":1,"#,
+        "",
+        "Missing at $.weights.nurse_eccessive_workload",
+    ),
+    (
+        r#""room_id":"r0""#,
+        r#""room_id":"""#,
+        "Range at $.occupants[0].room_id",
+    ),
+    (
+        r#""shift":"night""#,
+        r#""shift":"late""#,
+        "Duplicate at $.nurses[0].working_shifts[2]",
+    ),
+];
+
+// Changes of patients.
+const PATIENTS: [Change; 5] = [
+    ("[2,2,2,2,2,2]", r#"[2,2,2,2,2,2,"x"]"#, "accepted"),
+    (
+        "[2,2,2,2,2,2]",
+        "[2,2,2,2,2]",
+        "Length at $.patients[0].workload_produced",
+    ),
+    (
+        r#""surgery_due_day":1,"#,
+        "",
+        "Missing at $.patients[0].surgery_due_day",
+    ),
+    (
+        r#""surgery_duration":40,"#,
+        r#""surgery_due_day":"x","surgery_duration":40,"#,
+        "accepted",
+    ),
+    (
+        r#"40,"surgeon_id":"s0""#,
+        r#"40,"surgeon_id":"s1""#,
+        "Unknown at $.patients[1].surgeon_id",
+    ),
+];
+
+#[test]
+fn each_change_has_its_answer(rt: HostRuntime) {
+    assert!(rt; are_answered(rt.alloc(), WARD, &PARTS));
+    assert!(rt; are_answered(rt.alloc(), WARD, &NAMES));
+    assert!(rt; are_answered(rt.alloc(), TWO_PATIENTS, &PATIENTS));
+}
+
+fn has_sizes(inst: &Instance) -> bool {
+    [inst.patients(), inst.persons(), inst.rooms(), inst.shifts()] == [2, 3, 2, 6]
+}
+
+// Whether the ward of two patients is read, with so many of each.
+fn is_read(alloc: Global) -> bool {
+    read_instance(alloc, TWO_PATIENTS.as_bytes()).is_ok_and(|inst| has_sizes(&inst))
+}
+
+// Whether a file without a byte is refused as a whole.
+fn is_nothing_refused(alloc: Global) -> bool {
+    let whole = Refusal {
+        fault: Fault::NotJson,
+        at: Place::whole(),
+    };
+    match read_instance(alloc, b"") {
+        Ok(_) => false,
+        Err(error) => error == InstanceError::Refused(whole),
+    }
+}
+
+#[test]
+fn an_instance_is_read(rt: HostRuntime) {
+    assert!(rt; is_read(rt.alloc()));
+    assert!(rt; is_nothing_refused(rt.alloc()));
+}
+
+// The text of the ward of one day with a first key more, whose value is so many lists, each inside the one before.
+fn nested(alloc: Global, depth: usize) -> Result<String, AllocError> {
+    let open = "[".repeat(alloc, depth)?;
+    let close = "]".repeat(alloc, depth)?;
+    format!(in alloc; "{{\"x\":{open}{close},\"days\":1")
+}
+
+// Whether that is answered for such a file.
+fn is_answered_nested(alloc: Global, depth: usize, wanted: &str) -> bool {
+    nested(alloc, depth).is_ok_and(|first| is_answered(
+        alloc,
+        WARD,
+        r#"{"days":1"#,
+        first.as_str(),
+        wanted,
+    ))
+}
+
+// A second number of days is the one that counts.
+const REPEATED: [Change; 1] = [(r#"{"days":1"#, r#"{"days":0,"days":1"#, "accepted")];
+
+#[test]
+fn deep_values_and_repeated_keys(rt: HostRuntime) {
+    assert!(rt; is_answered_nested(rt.alloc(), 126, "accepted"));
+    assert!(rt; is_answered_nested(rt.alloc(), 127, "NotJson at $"));
+    assert!(rt; are_answered(rt.alloc(), WARD, &REPEATED));
+}

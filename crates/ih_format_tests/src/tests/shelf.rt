@@ -1,0 +1,208 @@
+//! Examples of each shelf, sink and gate.
+
+use ih_shelf::{
+    FileShelf, Gate, HoldGate, MemShelf, MemSink, NeverFails, OpenGate, OutSink, ReadError, Shelf,
+    Sink, WriteError,
+};
+use std::alloc::{AllocError, Global};
+use std::fs;
+use std::rt::Files;
+use std::sync::Wait;
+use std::test::Fail;
+
+// Whether just these bytes are read under a name.
+fn reads<R: Files, S: Shelf>(
+    rt: &R,
+    alloc: Global,
+    shelf: &mut S,
+    name: &str,
+    limit: u64,
+    wanted: &[u8],
+) -> bool {
+    shelf
+        .read(rt, alloc, name, limit)
+        .is_ok_and(|bytes| bytes.as_slice() == wanted)
+}
+
+fn is_too_long<R: Files, S: Shelf>(
+    rt: &R,
+    alloc: Global,
+    shelf: &mut S,
+    name: &str,
+    limit: u64,
+) -> bool {
+    matches!(shelf.read(rt, alloc, name, limit), Err(ReadError::TooLong))
+}
+
+fn faults<R: Files, S: Shelf>(rt: &R, alloc: Global, shelf: &mut S, name: &str) -> bool {
+    matches!(shelf.read(rt, alloc, name, 9), Err(ReadError::Fault))
+}
+
+// Whether what is written under a name is read again.
+fn comes_back<R: Files, S: Shelf>(rt: &R, alloc: Global, shelf: &mut S, name: &str) -> bool {
+    shelf.write(rt, name, b"old bytes").is_ok()
+        && shelf.write(rt, name, b"bytes").is_ok()
+        && reads(rt, alloc, shelf, name, 5, b"bytes")
+}
+
+// Whether a shelf with four bytes under one name gives these, and faults where there are none.
+fn gives_four<R: Files>(rt: &R, alloc: Global, shelf: &mut MemShelf) -> bool {
+    is_too_long(rt, alloc, shelf, "a", 3)
+        && reads(rt, alloc, shelf, "a", 4, b"abcd")
+        && shelf.faults() == 0
+        && faults(rt, alloc, shelf, "b")
+        && shelf.faults() == 1
+}
+
+// Whether it then takes bytes under another name, and a planned fault cuts off the next ones.
+fn takes_two<R: Files>(rt: &R, shelf: &mut MemShelf) -> bool {
+    shelf.write(rt, "c", b"xy").is_ok()
+        && shelf.get("c") == Some(b"xy".as_slice())
+        && shelf.fail_write(2, 1).is_ok()
+        && shelf.write(rt, "c", b"pq") == Err(WriteError::Fault)
+        && shelf.get("c") == Some(b"p".as_slice())
+        && shelf.get("a") == Some(b"abcd".as_slice())
+        && shelf.faults() == 2
+}
+
+// A shelf in memory whose one file has these bytes.
+fn holding(alloc: Global, bytes: &[u8]) -> Result<MemShelf, AllocError> {
+    let mut shelf = MemShelf::new(alloc);
+    shelf.store("a", bytes)?;
+    Ok(shelf)
+}
+
+#[test]
+fn memory_shelf(rt: HostRuntime) -> Result<(), Fail> {
+    let mut shelf = holding(rt.alloc(), b"abcd")?;
+    assert!(rt; gives_four(&rt, rt.alloc(), &mut shelf));
+    assert!(rt; takes_two(&rt, &mut shelf));
+    Ok(())
+}
+
+// Three reads were made when the fifth is planned to fail. After the fault, reads go on as before.
+fn faults_once<R: Files>(rt: &R, alloc: Global, shelf: &mut MemShelf) -> bool {
+    for nth in 1..7u32 {
+        if nth == 4 && shelf.fail_read(5).is_err() {
+            return false;
+        }
+        if faults(rt, alloc, shelf, "a") != (nth == 5) {
+            return false;
+        }
+    }
+    shelf.faults() == 1
+}
+
+#[test]
+fn planned_fault_comes_once(rt: HostRuntime) -> Result<(), Fail> {
+    let mut shelf = holding(rt.alloc(), b"x")?;
+    assert!(rt; faults_once(&rt, rt.alloc(), &mut shelf));
+    Ok(())
+}
+
+// Whether a shelf that never fails has four bytes under one name, and nothing under any other.
+fn has_four<R: Files>(rt: &R, alloc: Global, shelf: &mut NeverFails) -> bool {
+    shelf.get("a") == Some(b"abcd".as_slice())
+        && shelf.get("b").is_none()
+        && reads(rt, alloc, shelf, "b", 0, b"")
+        && is_too_long(rt, alloc, shelf, "a", 3)
+        && comes_back(rt, alloc, shelf, "a")
+}
+
+#[test]
+fn shelf_that_never_fails(rt: HostRuntime) -> Result<(), Fail> {
+    let alloc = rt.alloc();
+    let mut shelf = NeverFails::new(alloc);
+    shelf.store("a", b"abcd")?;
+    assert!(rt; has_four(&rt, alloc, &mut shelf));
+    Ok(())
+}
+
+// Whether a file of over a million bytes, which is read in many pieces, comes back where that many are allowed, and is
+// too long where one less is.
+fn is_long<R: Files, S: Shelf>(rt: &R, alloc: Global, shelf: &mut S, name: &str) -> bool {
+    vec![in alloc; 7u8; 1_100_000].is_ok_and(|bytes| {
+        shelf.write(rt, name, bytes.as_slice()).is_ok()
+            && reads(rt, alloc, shelf, name, 1_100_000, bytes.as_slice())
+            && is_too_long(rt, alloc, shelf, name, 1_099_999)
+    })
+}
+
+// Whether a write faults: where there is no such folder, on a device that is full, and on a folder.
+fn writes_fault<R: Files>(rt: &R, shelf: &mut FileShelf) -> bool {
+    shelf.write(rt, "no such folder/file", b"x") == Err(WriteError::Fault)
+        && shelf.write(rt, "/dev/full", b"x") == Err(WriteError::Fault)
+        && shelf.write(rt, ".", b"x") == Err(WriteError::Fault)
+}
+
+#[test]
+fn real_files(rt: HostRuntime) {
+    let alloc = rt.alloc();
+    let name = "ih_shelf_test_file";
+    let mut shelf = FileShelf::new();
+    assert!(rt; comes_back(&rt, alloc, &mut shelf, name));
+    assert!(rt; is_too_long(&rt, alloc, &mut shelf, name, 4));
+    assert!(rt; is_long(&rt, alloc, &mut shelf, name));
+    assert!(rt; fs::remove_file(&rt, name).is_ok());
+    assert!(rt; faults(&rt, alloc, &mut shelf, name));
+    assert!(rt; faults(&rt, alloc, &mut shelf, "."));
+    assert!(rt; writes_fault(&rt, &mut shelf));
+}
+
+// Whether a planned fault leaves the bytes that were put before.
+fn keeps_bytes<R: Print>(rt: &R, sink: &mut MemSink) -> bool {
+    sink.put(rt, b"xy").is_ok()
+        && sink.bytes() == b"xy".as_slice()
+        && sink.fail_put(2).is_ok()
+        && sink.put(rt, b"pq") == Err(WriteError::Fault)
+        && sink.bytes() == b"xy".as_slice()
+        && sink.put(rt, b"z").is_ok()
+        && sink.bytes() == b"xyz".as_slice()
+}
+
+#[test]
+fn sinks(rt: HostRuntime) {
+    let mut sink = MemSink::new(rt.alloc());
+    assert!(rt; keeps_bytes(&rt, &mut sink));
+    assert!(rt; OutSink::new().put(&rt, b"to standard output\n").is_ok());
+}
+
+fn pass<R: Wait, G: Gate>(rt: &R, gate: &G) {
+    gate.before(rt, 0, 1);
+    gate.after(rt, 0, 1);
+}
+
+// Whether a gate that holds worker 0 at number 2 lets it on once the other worker came, and holds it until then.
+fn holds_until_the_other_came<R: Wait>(rt: &R) -> bool {
+    let gate = HoldGate::new(10, 2);
+    gate.after(rt, 1, 0);
+    gate.before(rt, 0, 0);
+    gate.before(rt, 1, 0);
+    let first = gate.ran_out();
+    gate.before(rt, 0, 2);
+    gate.before(rt, 1, 1);
+    gate.before(rt, 2, 1);
+    let second = gate.ran_out();
+    gate.before(rt, 0, 1);
+    let third = gate.ran_out();
+    gate.after(rt, 1, 1);
+    gate.before(rt, 0, 1);
+    !first && !second && third && gate.ran_out()
+}
+
+fn holds_each_number_for_itself<R: Wait>(rt: &R) -> bool {
+    let gate = HoldGate::new(10, 3);
+    gate.after(rt, 1, 1);
+    gate.before(rt, 0, 1);
+    gate.before(rt, 1, 1);
+    let first = gate.ran_out();
+    gate.before(rt, 1, 2);
+    !first && gate.ran_out()
+}
+
+#[test]
+fn gates(rt: HostRuntime) {
+    pass(&rt, &OpenGate);
+    assert!(rt; holds_until_the_other_came(&rt));
+    assert!(rt; holds_each_number_for_itself(&rt));
+}

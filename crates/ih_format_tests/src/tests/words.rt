@@ -1,0 +1,153 @@
+//! Examples of the public calls, with ample memory.
+use ih_journal::Options;
+use ih_words::{Chains, Command, Replay, Solve, WordsError, read_words};
+use std::alloc::{AllocError, Global};
+
+// The words of a line.
+fn words_of(alloc: Global, line: &str) -> Result<Vec<String>, AllocError> {
+    let mut words = Vec::new(alloc);
+    for word in line.split_whitespace() {
+        words.push(String::from_str(alloc, word)?)?;
+    }
+    Ok(words)
+}
+
+// Whether the call has the names and numbers of the words below.
+fn is_solve(solve: &Solve<'_>) -> bool {
+    let wanted = Options {
+        seed: 7,
+        workers: 64,
+        moves: 1953,
+        heat: 50,
+        hard: 1_000_000,
+        retries: 7,
+    };
+    wanted.lawful()
+        && solve.instance == "i"
+        && solve.out == "o"
+        && solve.journal == "j"
+        && solve.options == wanted
+        && solve.start.file == Some("s")
+        && solve.start.freeze == 56
+        && !solve.start.fill
+}
+
+fn is_chain(chain: &Chains<'_>) -> bool {
+    chain.length == 8
+        && chain.search.journal == "j"
+        && chain.search.options.moves == 2500
+        && chain.search.start.fill
+}
+
+fn is_replay(replay: &Replay<'_>) -> bool {
+    replay.instance == "i"
+        && replay.journal == "j"
+        && replay.out == "o"
+        && replay.start.fill
+        && replay.start.file.is_none()
+        && replay.start.freeze == 0
+}
+
+fn is_salvage(salvage: &Replay<'_>) -> bool {
+    salvage.instance == "i"
+        && salvage.journal == "j"
+        && salvage.out == "o"
+        && salvage.start.file == Some("s")
+        && !salvage.start.fill
+}
+
+// The name of a command that has the values of its line below.
+fn told(command: &Command<'_>) -> Option<&'static str> {
+    match command {
+        Command::Solve(solve) if is_solve(solve) => Some("solve"),
+        Command::Chain(chain) if is_chain(chain) => Some("chain"),
+        Command::Check(check) if check.instance == "i" && check.solution == "s" => Some("check"),
+        Command::Replay(replay) if is_replay(replay) => Some("replay"),
+        Command::Salvage(salvage) if is_salvage(salvage) => Some("salvage"),
+        Command::Gen(made) if made.number == 7 && made.out == "o" => Some("gen"),
+        Command::Demo(18_446_744_073_709_551_615) => Some("demo"),
+        _ => None,
+    }
+}
+
+// A command's name, and the words behind it.
+const LINES: [(&str, &str); 7] = [
+    (
+        "solve",
+        "solve i --seed=+007 o j --workers 64 --moves 1953 --heat 50 --hard 1000000 --start s --freeze=56 --retries 7",
+    ),
+    (
+        "chain",
+        "chain i o --length=8 j --seed 7 --workers 50 --moves 2500 --heat 50 --hard 1000 --fill",
+    ),
+    ("check", "check i s"),
+    ("replay", "replay i --fill j o"),
+    ("salvage", "salvage i j o --start=s"),
+    ("gen", "gen 7 o"),
+    ("demo", "demo 18446744073709551615"),
+];
+
+// Whether the words are read as that command.
+fn is_command(alloc: Global, words: &[String], name: &str) -> bool {
+    read_words(alloc, words).is_ok_and(|command| told(&command) == Some(name))
+}
+
+fn is_read(alloc: Global, line: &str, name: &str) -> bool {
+    words_of(alloc, line).is_ok_and(|words| is_command(alloc, words.as_slice(), name))
+}
+
+fn are_read(alloc: Global, rows: &[(&str, &str)]) -> bool {
+    for (name, line) in rows {
+        if !is_read(alloc, line, name) {
+            return false;
+        }
+    }
+    true
+}
+
+#[test]
+fn commands_have_their_values(rt: HostRuntime) {
+    assert!(rt; are_read(rt.alloc(), &LINES));
+}
+
+fn is_unlawful(alloc: Global, line: &str) -> bool {
+    match words_of(alloc, line) {
+        Ok(words) => matches!(
+            read_words(alloc, words.as_slice()),
+            Err(WordsError::Unlawful)
+        ),
+        Err(_) => false,
+    }
+}
+
+// Words that no command has.
+const UNLAWFUL: [&str; 5] = [
+    "",
+    "check i i",
+    "solve --help",
+    "solve i o j",
+    "replay i j o --freeze=0",
+];
+
+fn are_unlawful(alloc: Global, lines: &[&str]) -> bool {
+    for line in lines {
+        if !is_unlawful(alloc, line) {
+            return false;
+        }
+    }
+    true
+}
+
+// Whether that is said of such words.
+fn is_said(alloc: Global) -> bool {
+    match format!(in alloc; "{}", WordsError::Unlawful) {
+        Ok(text) => text.as_str() == "no command has these words",
+        Err(_) => false,
+    }
+}
+
+#[test]
+fn other_words_are_unlawful(rt: HostRuntime) {
+    assert!(rt; are_unlawful(rt.alloc(), &UNLAWFUL));
+    assert!(rt; is_said(rt.alloc()));
+}

@@ -1,0 +1,11 @@
+use Rattle.std.proofs.Common.{◌<◌, arith}
+use Rattle.ih_tables.specs.Sizes.{room_count, shift_count}
+use Rattle.ih_plan.proofs.PlanRanges.{choice-inside}
+use Rattle.ih_price_tests.proofs.tests.fill.has.Goals as goal
+
+pub care-requires : goal.care-requires
+care-requires c =
+    let I = c.args.inst.now.draft in
+    let room : c.args.r < room_count I = (let rooms = c.rooms.ensures in let below = c.if-r-rooms.false in omega (arith, rooms, below)) in
+    let shift : c.args.k < shift_count I = (let shifts = c.shifts.ensures in let below = c.if-k-shifts.false in omega (arith, shifts, below)) in
+    choice-inside I c.args.plan.now c.args.r c.args.k c.requires room shift

@@ -1,0 +1,11 @@
+//! The tests, by what they are of.
+
+mod costs;
+mod fill;
+mod footprint;
+mod links;
+mod moves;
+mod nurses;
+mod plan;
+mod roomdays;
+mod theatres;

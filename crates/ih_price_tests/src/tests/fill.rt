@@ -1,0 +1,116 @@
+//! The fill of a ward of two patients, two rooms and two nurses over two days.
+
+ghost use Rattle.std.specs.Prelude.{IfOk};
+ghost use Rattle.ih_plan.specs.Timetable.{IsPlanOf};
+
+use ih_fill::fill;
+use ih_fixtures::{at, on_two_patients};
+use ih_plan::Plan;
+use ih_tables::{Instance, NurseNo, PatientNo, RoomNo, Shift};
+use std::alloc::{AllocError, Global};
+
+// The fill of the empty timetable.
+#[tactic(auto, using(ih_plan::proofs::PlanRanges::plan_steps))]
+fn filled(alloc: Global, inst: &Instance) -> Result<Plan, AllocError>
+    ensures { IfOk result (IsPlanOf inst.now.draft) }
+{
+    let empty = Plan::empty(alloc, inst)?;
+    fill(alloc, inst, 1_000, &empty)
+}
+
+// Whether a patient is in this room from this day on, with surgery in the first theatre.
+fn is_placed(inst: &Instance, plan: &Plan, p: u32, day: u32, room: u32) -> bool
+    requires { IsPlanOf inst.now.draft plan.now }
+{
+    p < inst.patients() && plan.stay(PatientNo(p)) == Some(at(day, room, 0))
+}
+
+// Whether a patient isn't admitted.
+fn is_out(inst: &Instance, plan: &Plan, p: u32) -> bool
+    requires { IsPlanOf inst.now.draft plan.now }
+{
+    p < inst.patients() && plan.stay(PatientNo(p)).is_none()
+}
+
+// Whether a room has this nurse in a shift.
+fn has(inst: &Instance, plan: &Plan, r: u32, k: u32, nurse: u32) -> bool
+    requires { IsPlanOf inst.now.draft plan.now }
+{
+    if r >= inst.rooms() {
+        return false;
+    }
+    if k >= inst.shifts() {
+        return false;
+    }
+    plan.care(RoomNo(r), Shift(k)) == Some(NurseNo(nurse))
+}
+
+// Whether a room has no nurse in the shifts from one on.
+fn has_none_from(inst: &Instance, plan: &Plan, r: u32, first: u32) -> bool
+    requires { IsPlanOf inst.now.draft plan.now }
+{
+    if r >= inst.rooms() {
+        return false;
+    }
+    for k in first..inst.shifts() {
+        if plan.care(RoomNo(r), Shift(k)).is_some() {
+            return false;
+        }
+    }
+    true
+}
+
+// Whether the first room has the first nurse but in the third shift, in which the occupant needs the other's skill.
+fn is_skilled(inst: &Instance, plan: &Plan) -> bool
+    requires { IsPlanOf inst.now.draft plan.now }
+{
+    has(inst, plan, 0, 0, 0)
+        && has(inst, plan, 0, 1, 0)
+        && has(inst, plan, 0, 2, 1)
+        && has(inst, plan, 0, 3, 0)
+        && has(inst, plan, 0, 4, 0)
+        && has(inst, plan, 0, 5, 0)
+}
+
+// Whether both patients and then both nurses are where they change the bill least.
+fn all_are_placed(inst: &Instance, plan: &Plan) -> bool
+    requires { IsPlanOf inst.now.draft plan.now }
+{
+    is_placed(inst, plan, 0, 1, 0)
+        && is_placed(inst, plan, 1, 0, 1)
+        && is_skilled(inst, plan)
+        && has(inst, plan, 1, 0, 1)
+        && has(inst, plan, 1, 2, 1)
+        && has_none_from(inst, plan, 1, 3)
+}
+
+// Whether the second patient is left out: the first room has patients of another gender on both days, and the second is
+// barred.
+fn one_is_left_out(inst: &Instance, plan: &Plan) -> bool
+    requires { IsPlanOf inst.now.draft plan.now }
+{
+    is_placed(inst, plan, 0, 1, 0)
+        && is_out(inst, plan, 1)
+        && is_skilled(inst, plan)
+        && has_none_from(inst, plan, 1, 0)
+}
+
+fn fills_all(alloc: Global, inst: &Instance) -> bool {
+    filled(alloc, inst).is_ok_and(|plan| all_are_placed(inst, &plan))
+}
+
+fn leaves_one_out(alloc: Global, inst: &Instance) -> bool {
+    filled(alloc, inst).is_ok_and(|plan| one_is_left_out(inst, &plan))
+}
+
+#[test]
+fn patients_then_nurses_by_least_change(rt: HostRuntime) {
+    let alloc = rt.alloc();
+    assert!(rt; on_two_patients(alloc, &[], |inst| fills_all(alloc, inst)));
+}
+
+#[test]
+fn a_patient_without_a_compatible_room_is_left_out(rt: HostRuntime) {
+    let alloc = rt.alloc();
+    assert!(rt; on_two_patients(alloc, &[RoomNo(1)], |inst| leaves_one_out(alloc, inst)));
+}

@@ -1,0 +1,92 @@
+//! The cells of an instance of two patients, an occupant, two rooms, two theatres, a surgeon and two nurses over two
+//! days: their numbers, lists of them, and which of them moves look at.
+
+ghost use Rattle.std.specs.Prelude.{◌≡◌, ◌<◌};
+ghost use Rattle.ih_tables.specs.Sizes.{sizes_of};
+ghost use Rattle.ih_plan.specs.Cells.{count_in};
+ghost use Rattle.ih_fixtures.specs.Two.{IsOfTwo};
+
+use ih_fixtures::{on_two_patients, share};
+use ih_footprint::{CellList, Numbering, looks};
+use ih_plan::Move;
+use ih_tables::{Cell, Day, Instance, NurseNo, PatientNo, PersonNo, RoomNo, Shift};
+use std::alloc::Global;
+
+// The number is the cell's, and the cell the number's.
+fn are_paired(numbering: &Numbering, n: u32, c: Cell) -> bool
+    requires { n < count_in numbering.now }
+{
+    let found = numbering.cell(n);
+    found == c && numbering.number(found) == n
+}
+
+// A cell comes once however often it is added, the cells rise once they are settled, and a cleared list takes them
+// anew.
+fn are_gathered(list: &mut CellList) -> bool
+    requires { count_in list.old.sizes ≡ 39 }
+{
+    list.add(14);
+    list.add(2);
+    list.add(14);
+    let added = list.len() == 2 && list.cells() == [14, 2].as_slice();
+    list.settle();
+    let settled = list.cells() == [2, 14].as_slice();
+    list.clear();
+    let cleared = list.len() == 0;
+    list.add(14);
+    added && settled && cleared && list.cells() == [14].as_slice()
+}
+
+// A swap looks at both rooms in the shift, a change of day at the patient's stay, and a choice of a nurse at nothing.
+fn are_looked_at(inst: &Instance, list: &mut CellList) -> bool
+    requires sizes { list.old.sizes ≡ sizes_of inst.now.draft }
+    requires two { IsOfTwo inst.now.draft }
+{
+    let swap = Move::SwapNurses(Shift(2), RoomNo(0), RoomNo(1));
+    looks(&swap, list);
+    let later = Move::SetDay(PatientNo(1), Day(1));
+    looks(&later, list);
+    let choice = Move::Nurse(RoomNo(0), Shift(0), NurseNo(1));
+    looks(&choice, list);
+    list.settle();
+    list.cells() == [1, 14, 20].as_slice()
+}
+
+fn are_numbered(inst: &Instance) -> bool
+    requires { IsOfTwo inst.now.draft }
+{
+    let numbering = Numbering::of(inst);
+    numbering.count() == 39
+        && are_paired(&numbering, 14, Cell::RoomShift(RoomNo(0), Shift(2)))
+        && are_paired(&numbering, 32, Cell::NurseShift(NurseNo(1), Shift(2)))
+        && are_paired(&numbering, 38, Cell::Care(PersonNo(2)))
+}
+
+#[test]
+fn cells_are_numbered_by_kind(rt: HostRuntime) {
+    assert!(rt; on_two_patients(rt.alloc(), &[], are_numbered));
+}
+
+fn gathers(alloc: Global, inst: &Instance) -> bool {
+    let numbering = Numbering::of(inst);
+    if numbering.count() != 39 {
+        return false;
+    }
+    CellList::new(alloc, numbering).is_ok_and(|mut list| {
+        share(&list);
+        are_gathered(&mut list)
+    })
+}
+
+fn looks_at(alloc: Global, inst: &Instance) -> bool
+    requires { IsOfTwo inst.now.draft }
+{
+    CellList::new(alloc, Numbering::of(inst)).is_ok_and(|mut list| are_looked_at(inst, &mut list))
+}
+
+#[test]
+fn cells_are_listed_once(rt: HostRuntime) {
+    let alloc = rt.alloc();
+    assert!(rt; on_two_patients(alloc, &[], |inst| gathers(alloc, inst)));
+    assert!(rt; on_two_patients(alloc, &[], |inst| looks_at(alloc, inst)));
+}

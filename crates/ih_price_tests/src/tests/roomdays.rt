@@ -1,0 +1,59 @@
+//! An occupant and a patient in one room.
+
+ghost use Rattle.std.specs.Prelude.{◌<◌};
+ghost use Rattle.ih_plan.specs.Timetable.{empty};
+ghost use Rattle.ih_roomdays.specs.Ledger.{IsLedgerOf};
+ghost use Rattle.ih_fixtures.specs.Two.{IsOfTwo};
+
+use ih_fixtures::{first_day, on_two_patients, share};
+use ih_plan::Members;
+use ih_roomdays::RoomDays;
+use ih_tables::{Bill, Day, Instance, PatientNo, RoomNo};
+use std::alloc::Global;
+
+fn is(bill: &Bill, mixed: i64, over: i64, spread: i64) -> bool {
+    bill.v == [mixed, 0, 0, 0, 0, 0, over, 0, 0] && bill.s == [spread, 0, 0, 0, 0, 0, 0, 0]
+}
+
+// Whether two persons are in the first room on the first day, and just these, in any order.
+fn are_there(ledger: &RoomDays, x: u32, y: u32) -> bool
+    requires rooms { 0 < ledger.now.rooms }
+    requires days { 0 < ledger.now.days }
+{
+    let count = ledger.count(RoomNo(0), Day(0));
+    if count == 2 {
+        let a = ledger.member(RoomNo(0), Day(0), 0);
+        let b = ledger.member(RoomNo(0), Day(0), 1);
+        (a.0 == x && b.0 == y) || (a.0 == y && b.0 == x)
+    } else {
+        false
+    }
+}
+
+// Whether the ledger is right once the first patient has entered.
+fn is_right(inst: &Instance, ledger: &mut RoomDays) -> bool
+    requires new { IsLedgerOf inst.now.draft (empty inst.now.draft) ledger.old }
+    requires two { IsOfTwo inst.now.draft }
+{
+    let here = first_day(0);
+    ledger.enter(inst, PatientNo(0), here);
+    let both = are_there(ledger, 0, 2);
+    let later = ledger.count(RoomNo(0), Day(1));
+    let bill = ledger.cell_bill(inst, RoomNo(0), Day(0));
+    both && later == 1 && is(&bill, 0, 0, 1)
+}
+
+fn hold(alloc: Global, inst: &Instance) -> bool
+    requires { IsOfTwo inst.now.draft }
+{
+    RoomDays::new(alloc, inst).is_ok_and(|mut ledger| {
+        share(&ledger);
+        is_right(inst, &mut ledger)
+    })
+}
+
+#[test]
+fn a_patient_joins_an_occupant(rt: HostRuntime) {
+    let alloc = rt.alloc();
+    assert!(rt; on_two_patients(alloc, &[], |inst| hold(alloc, inst)));
+}

@@ -1,0 +1,45 @@
+//! A surgery of one patient, which opens its theatre.
+
+ghost use Rattle.ih_plan.specs.Timetable.{empty};
+ghost use Rattle.ih_theatres.specs.Ledger.{IsLedgerOf};
+ghost use Rattle.ih_fixtures.specs.Two.{IsOfTwo};
+
+use ih_fixtures::{first_day, on_two_patients, share};
+use ih_tables::{Bill, Day, Instance, PatientNo, SurgeonNo, TheatreNo};
+use ih_theatres::Theatres;
+use std::alloc::Global;
+
+const NONE: [i64; 8] = [0; 8];
+
+const OPEN: [i64; 8] = [0, 0, 0, 0, 1, 0, 0, 0];
+
+fn is(bill: &Bill, costs: [i64; 8]) -> bool {
+    bill.v == [0; 9] && bill.s == costs
+}
+
+// Whether each bill is right once the first patient has entered.
+fn are_right(inst: &Instance, ledger: &mut Theatres) -> bool
+    requires new { IsLedgerOf inst.now.draft (empty inst.now.draft) ledger.old }
+    requires two { IsOfTwo inst.now.draft }
+{
+    let here = first_day(0);
+    ledger.enter(inst, PatientNo(0), here);
+    let used = ledger.theatre_bill(inst, TheatreNo(0), Day(0));
+    let alone = ledger.surgeon_bill(inst, SurgeonNo(0), Day(0));
+    is(&used, OPEN) && is(&alone, NONE)
+}
+
+fn hold(alloc: Global, inst: &Instance) -> bool
+    requires { IsOfTwo inst.now.draft }
+{
+    Theatres::new(alloc, inst).is_ok_and(|mut ledger| {
+        share(&ledger);
+        are_right(inst, &mut ledger)
+    })
+}
+
+#[test]
+fn a_surgery_comes(rt: HostRuntime) {
+    let alloc = rt.alloc();
+    assert!(rt; on_two_patients(alloc, &[], |inst| hold(alloc, inst)));
+}

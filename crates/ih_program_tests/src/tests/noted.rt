@@ -1,0 +1,97 @@
+//! Rounds over a searcher whose answers are kept.
+
+ghost use Rattle.std.specs.Prelude.{◌≡◌, IfOk};
+ghost use Rattle.ih_plan.specs.Timetable.{IsPlanOf};
+ghost use Rattle.ih_journal.specs.Settings.{IsLawful};
+ghost use Rattle.ih_top.specs.Rounds.{IsFullFrom};
+
+use crate::tests::rounds::TWO_JOURNALS;
+use ih_fixtures::WARD;
+use ih_instance::read_instance;
+use ih_journal::{Entry, Options};
+use ih_plan::Plan;
+use ih_rounds::{Noted, RoundsEnd, SearchBy, Searcher, rounds};
+use ih_shelf::OpenGate;
+use ih_tables::Instance;
+use ih_top::search_at_desk;
+use std::alloc::{AllocError, Global};
+use std::sync::Wait;
+use std::thread::Threads;
+
+const OPTIONS: Options = Options {
+    seed: 0,
+    workers: 1,
+    moves: 1,
+    heat: 0,
+    hard: 1_000,
+    retries: 0,
+};
+
+// Whether the best comes after the only move of the first round.
+fn is_after_first_move(end: &RoundsEnd) -> bool {
+    match end {
+        RoundsEnd::Found {
+            round,
+            place,
+            count,
+            ..
+        } => (*round, *place, *count) == (0, 1, 1),
+        RoundsEnd::NoneFound => false,
+    }
+}
+
+// Whether two rounds of a searcher have such a best, and their journals.
+fn come_out<R: Threads + Wait + Sync, S: Searcher>(
+    rt: &R,
+    alloc: Global,
+    inst: &Instance,
+    start: &Plan,
+    searcher: &mut S,
+) -> bool
+    requires start { IsPlanOf inst.now.draft start.now }
+    requires ready { S.ready searcher.old }
+{
+    let mut journal = Vec::new(alloc);
+    match rounds(rt, alloc, inst, start, &OPTIONS, 2, searcher, &mut journal) {
+        Ok(end) => is_after_first_move(&end) && journal.as_slice() == TWO_JOURNALS.as_bytes(),
+        Err(_) => false,
+    }
+}
+
+// Whether they do, and two answers are noted.
+fn are_noted<R: Threads + Wait + Sync>(rt: &R, alloc: Global, inst: &Instance, start: &Plan) -> bool
+    requires { IsPlanOf inst.now.draft start.now }
+{
+    let searcher = SearchBy {
+        search: |alloc: Global, inst: &Instance, start: &Plan, options: &Options| -> Result<
+            Vec<Entry>,
+            AllocError,
+        >
+            requires { IsPlanOf inst.now.draft start.now × IsLawful options.now }
+            ensures { IfOk result (λ v. IsFullFrom inst.entry.now.draft start.entry.now options.entry.now v.items) }
+        { search_at_desk(rt, alloc, inst, start, options, &OpenGate) },
+    };
+    let mut noted = Noted::new(alloc, searcher);
+    come_out(rt, alloc, inst, start, &mut noted) && noted.answers().len() == 2
+}
+
+// The same from the empty timetable.
+fn are_noted_from_empty<R: Threads + Wait + Sync>(rt: &R, alloc: Global, inst: &Instance) -> bool {
+    match Plan::empty(alloc, inst) {
+        Ok(start) => are_noted(rt, alloc, inst, &start),
+        Err(_) => false,
+    }
+}
+
+// The same on the ward.
+fn are_noted_on_ward<R: Threads + Wait + Sync>(rt: &R, alloc: Global) -> bool {
+    match read_instance(alloc, WARD.as_bytes()) {
+        Ok(inst) => are_noted_from_empty(rt, alloc, &inst),
+        Err(_) => false,
+    }
+}
+
+#[test]
+fn noted_rounds(rt: HostRuntime) {
+    assert!(rt; are_noted_on_ward(&rt, rt.alloc()));
+}

@@ -1,7 +1,0 @@
-use Rattle.ih_cellbook.proofs.Within.{stands-same}
-use Rattle.ih_search_tests.proofs.rounds.rests_on.Goals as goal
-
-pub returns : goal.returns
-returns c =
-    let v = c.args.book.now in
-    stands-same v.base v.entries c.args.replica.now c.requires.replica c.price-offer.follows.lender-at-none c.price-offer.follows.holds-at-none.2

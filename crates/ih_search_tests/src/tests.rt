@@ -1,0 +1,8 @@
+//! The tests, by what they are of, and the steps that several share.
+
+mod cellbook;
+mod replay;
+mod rounds;
+mod snapshot;
+mod steps;
+mod turn;

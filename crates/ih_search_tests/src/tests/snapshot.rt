@@ -1,0 +1,533 @@
+//! What workers see of each other over one book.
+
+ghost use Rattle.std.specs.Prelude.{◌≡◌, ◌≤◌, [], IfOk};
+ghost use Rattle.ih_plan.specs.{Timetable.IsPlanOf, BillOf.bill_of, Cells.cell_count};
+ghost use Rattle.ih_journal.specs.Settings.{IsLawful};
+ghost use Rattle.ih_cellbook.specs.{Keeping.base_with, Replicas.IsReplicaIn, Snapshot.Snapshot};
+
+use crate::tests::rounds::{catch_up, offer, rests_on};
+use crate::tests::steps::{FIRST_NURSE, JOIN, SECOND_NURSE, TWICE_STALE, have_prices, hot, is};
+use ih_cellbook::{Book, Buffer, News};
+use ih_costs::Ledgers;
+use ih_fixtures::{on_first_admitted, share};
+use ih_footprint::Numbering;
+use ih_journal::{Options, Verdict, parse_move};
+use ih_plan::Plan;
+use ih_snapshot::Replica;
+use ih_tables::{Bill, Cell, Instance, RoomNo, Shift};
+use std::alloc::{AllocError, Global};
+
+/// What a worker does: it takes over what is new, offers its move of a number, by the move's text, or prices that,
+/// which is to rest on these cells, each at this version.
+#[derive(Clone, Copy)]
+enum Step {
+    Looks,
+    Offers(u32, &'static str),
+    Prices(u32, &'static str, &'static [(u32, u32)]),
+}
+
+/// What came of it: how many entries the worker has then seen and how many the book has, or the verdict, if it may
+/// offer, or whether the price rests on just these cells.
+#[derive(Clone, Copy, PartialEq)]
+enum Told {
+    Seen(u32, u32),
+    Said(Option<Verdict>),
+    Rests(bool),
+}
+
+use Step::{Looks, Offers, Prices};
+use Told::{Rests, Said, Seen};
+
+/// A worker, what it does, and what comes of it.
+type Row = (u32, Step, Told);
+
+/// A place, and the price of the entry there.
+type Priced = (usize, [i64; 9], [i64; 8]);
+
+// A worker's step.
+fn act(
+    inst: &Instance,
+    book: &mut Book<'_>,
+    replica: &mut Replica<'_>,
+    options: &Options,
+    news: &mut News,
+    step: &Step,
+) -> Told
+    requires instance { inst.now.draft ≡ book.old.base.instance }
+    requires options { options.now ≡ book.old.base.options }
+    requires replica { IsReplicaIn book.old.base book.old.entries replica.old }
+    ensures base { book.new.base ≡ book.old.base }
+    ensures replica { IsReplicaIn book.old.base book.new.entries replica.new }
+    ensures others { (r : Snapshot) → IsReplicaIn book.old.base book.old.entries r
+        → IsReplicaIn book.old.base book.new.entries r }
+{
+    match *step {
+        Looks => {
+            let (seen, front) = catch_up(book, replica, news);
+            Seen(seen, front)
+        }
+        Offers(number, text) => match parse_move(inst, text.as_bytes()) {
+            Some(mv) => Said(offer(book, replica, options, &mv, number)),
+            None => Said(None),
+        },
+        Prices(number, text, reads) => match parse_move(inst, text.as_bytes()) {
+            Some(mv) => Rests(rests_on(book, replica, &mv, number, reads)),
+            None => Rests(false),
+        },
+    }
+}
+
+/// Two workers' replicas, and what a look brings to either.
+#[derive(Drop)]
+struct Workers<'a> {
+    zero: Replica<'a>,
+    one: Replica<'a>,
+    news: News,
+}
+
+// A step of one of two workers.
+fn act_by(
+    inst: &Instance,
+    book: &mut Book<'_>,
+    workers: &mut Workers<'_>,
+    options: &Options,
+    worker: u32,
+    step: &Step,
+) -> Told
+    requires instance { inst.now.draft ≡ book.old.base.instance }
+    requires options { options.now ≡ book.old.base.options }
+    requires zero { IsReplicaIn book.old.base book.old.entries workers.old.zero }
+    requires one { IsReplicaIn book.old.base book.old.entries workers.old.one }
+    ensures base { book.new.base ≡ book.old.base }
+    ensures zero { IsReplicaIn book.old.base book.new.entries workers.new.zero }
+    ensures one { IsReplicaIn book.old.base book.new.entries workers.new.one }
+{
+    if worker == 0 {
+        act(
+            inst,
+            book,
+            &mut workers.zero,
+            options,
+            &mut workers.news,
+            step,
+        )
+    } else {
+        act(
+            inst,
+            book,
+            &mut workers.one,
+            options,
+            &mut workers.news,
+            step,
+        )
+    }
+}
+
+// Whether each row's step of one of two workers tells what the row says.
+fn act_all(
+    inst: &Instance,
+    book: &mut Book<'_>,
+    workers: &mut Workers<'_>,
+    options: &Options,
+    rows: &[Row],
+) -> bool
+    requires instance { inst.now.draft ≡ book.old.base.instance }
+    requires options { options.now ≡ book.old.base.options }
+    requires zero { IsReplicaIn book.old.base book.old.entries workers.old.zero }
+    requires one { IsReplicaIn book.old.base book.old.entries workers.old.one }
+    ensures base { book.new.base ≡ book.old.base }
+{
+    for (worker, step, expected) in rows {
+        if act_by(inst, book, workers, options, *worker, step) != *expected {
+            return false;
+        }
+    }
+    true
+}
+
+/// What holds of the book after all steps: the entries at these places have these prices, the versions of what an
+/// accepted entry touched are raised and entries are copied, or nothing was touched.
+#[derive(Clone, Copy)]
+enum After<'a> {
+    HasPrices(&'a [Priced]),
+    IsRaised,
+    IsUntouched,
+}
+
+use After::{HasPrices, IsRaised, IsUntouched};
+
+/// A search: over what, from where, by which options, before which day nothing may change, its steps, and what then
+/// holds.
+#[derive(Clone, Copy)]
+struct Search<'a> {
+    inst: &'a Instance,
+    start: &'a Plan,
+    options: Options,
+    freeze: u32,
+    rows: &'a [Row],
+    after: After<'a>,
+}
+
+// The same with two new workers over a new book.
+fn act_first(alloc: Global, search: &Search<'_>, book: &mut Book<'_>) -> Result<bool, AllocError>
+    requires start { IsPlanOf search.now.inst.now.draft search.now.start.now }
+    requires lawful { IsLawful search.now.options }
+    requires base { book.old.base
+        ≡ base_with search.now.inst.now.draft search.now.start.now search.now.options search.now.freeze }
+    requires empty { book.old.entries ≡ [] }
+    ensures base { book.new.base ≡ book.old.base }
+{
+    let (inst, start, options) = (search.inst, search.start, &search.options);
+    let mut workers = Workers {
+        zero: Replica::new(alloc, inst, start, options, search.freeze, 0)?,
+        one: Replica::new(alloc, inst, start, options, search.freeze, 1)?,
+        news: News::new(alloc)?,
+    };
+    Ok(act_all(inst, book, &mut workers, options, search.rows))
+}
+
+// The bill of the start.
+fn first_bill(alloc: Global, inst: &Instance, start: &Plan) -> Result<Bill, AllocError>
+    requires { IsPlanOf inst.now.draft start.now }
+    ensures { IfOk result (λ b. b ≡ bill_of inst.now.draft start.now) }
+{
+    Ok(Ledgers::new(alloc, inst, start)?.total())
+}
+
+fn new_book<'a>(alloc: Global, search: &Search<'a>) -> Result<Book<'a>, AllocError>
+    requires start { IsPlanOf search.now.inst.now.draft search.now.start.now }
+    requires lawful { IsLawful search.now.options }
+    ensures { let s = search.now in let base = base_with s.inst.now.draft s.start.now s.options s.freeze in
+        IfOk result (λ k. k ≡ record { base = base; entries = [] }) }
+{
+    let first = first_bill(alloc, search.inst, search.start)?;
+    Book::new(
+        alloc,
+        search.inst,
+        search.start,
+        &first,
+        &search.options,
+        search.freeze,
+    )
+}
+
+fn holds(alloc: Global, book: &Book<'_>, cells: u32, after: After<'_>) -> bool
+    requires { cells ≤ cell_count book.now.base.instance }
+{
+    match after {
+        HasPrices(prices) => have_prices(book.entries(), prices),
+        IsRaised => are_kept(alloc, book, cells),
+        IsUntouched => is_as_begun(book, cells),
+    }
+}
+
+// Whether the rows come out so over a new book, and what is to hold then does.
+fn come_out(alloc: Global, search: &Search<'_>, book: &mut Book<'_>) -> bool
+    requires start { IsPlanOf search.now.inst.now.draft search.now.start.now }
+    requires lawful { IsLawful search.now.options }
+    requires base { book.old.base
+        ≡ base_with search.now.inst.now.draft search.now.start.now search.now.options search.now.freeze }
+    requires empty { book.old.entries ≡ [] }
+{
+    let cells = Numbering::of(search.inst).count();
+    match act_first(alloc, search, book) {
+        Ok(told) => told && holds(alloc, book, cells, search.after),
+        Err(_) => false,
+    }
+}
+
+// The same over a book that is made.
+fn plays(
+    alloc: Global,
+    inst: &Instance,
+    start: &Plan,
+    options: Options,
+    freeze: u32,
+    rows: &[Row],
+    after: After<'_>,
+) -> bool
+    requires start { IsPlanOf inst.now.draft start.now }
+    requires lawful { IsLawful options }
+{
+    let search = Search {
+        inst,
+        start,
+        options,
+        freeze,
+        rows,
+        after,
+    };
+    match new_book(alloc, &search) {
+        Ok(mut book) => come_out(alloc, &search, &mut book),
+        Err(_) => false,
+    }
+}
+
+const ACCEPTED: Told = Said(Some(Verdict::Accepted));
+
+const ONCE_STALE: Told = Said(Some(Verdict::Stale {
+    cell: Cell::RoomShift(RoomNo(0), Shift(2)),
+    at_seen: 0,
+    at_place: 1,
+}));
+
+// The second patient has the other room, on the first day or on the second.
+const JOIN_BESIDE: &str = "place:1,0,1,1";
+
+const JOIN_LATER: &str = "place:1,1,1,1";
+
+// A move is stale where another changed what it read, and is accepted when it comes again. Its worker hasn't seen its
+// own last entry when it offers again at once, and has when it does so after a look, by the same number.
+const COMES_AGAIN: [Row; 6] = [
+    (1, Offers(0, SECOND_NURSE), ACCEPTED),
+    (0, Offers(0, JOIN), ONCE_STALE),
+    (0, Offers(0, JOIN), Said(None)),
+    (0, Looks, Seen(2, 2)),
+    (0, Looks, Seen(2, 2)),
+    (0, Offers(0, JOIN), ACCEPTED),
+];
+
+const AGAIN_PRICES: [Priced; 2] = [
+    (0, [0; 9], [0, -2, 2, 0, 0, 0, 0, 0]),
+    (2, CROWDED, [1, 4, 2, 2, 1, 1, 0, -1]),
+];
+
+// Of the second patient joining the first.
+const CROWDED: [i64; 9] = [1, 0, 0, 0, 0, 0, 1, 0, 0];
+
+// Of three shifts without a nurse.
+const UNNURSED: [i64; 9] = [0, 0, 0, 0, 0, 0, 0, 0, 3];
+
+// A nurse who came back leaves a trace.
+const TRACE: [Row; 4] = [
+    (1, Offers(0, SECOND_NURSE), ACCEPTED),
+    (1, Looks, Seen(1, 1)),
+    (1, Offers(1, FIRST_NURSE), ACCEPTED),
+    (0, Offers(0, JOIN), Said(Some(TWICE_STALE))),
+];
+
+const TRACE_PRICES: [Priced; 1] = [(1, [0; 9], [0, 2, -2, 0, 0, 0, 0, 0])];
+
+// Moves that touch nothing in common are both made.
+const BOTH: [Row; 2] = [
+    (1, Offers(0, SECOND_NURSE), ACCEPTED),
+    (0, Offers(0, JOIN_BESIDE), ACCEPTED),
+];
+
+const BOTH_PRICES: [Priced; 1] = [(1, UNNURSED, [0, 0, 0, 0, 1, 1, 0, -1])];
+
+// The past is frozen.
+const FROZEN: [Row; 5] = [
+    (0, Offers(0, "setday:0,1"), Said(Some(Verdict::Frozen))),
+    (0, Looks, Seen(1, 1)),
+    (0, Offers(1, JOIN_LATER), ACCEPTED),
+    (0, Looks, Seen(2, 2)),
+    (0, Offers(2, "withdraw:1"), ACCEPTED),
+];
+
+const FROZEN_PRICES: [Priced; 2] = [
+    (1, UNNURSED, [0, 0, 0, 0, 1, 0, 1, -1]),
+    (2, [0, 0, 0, 0, 0, 0, 0, 0, -3], [0, 0, 0, 0, -1, 0, -1, 1]),
+];
+
+// A price behind another's entry rests on the same cells, but for the night's nurse, at the versions that the entry
+// raised.
+const BEHIND: [Row; 4] = [
+    (0, Prices(0, JOIN, &READS), Rests(true)),
+    (1, Offers(0, SECOND_NURSE), ACCEPTED),
+    (0, Looks, Seen(1, 1)),
+    (0, Prices(0, JOIN, &READS_BEHIND), Rests(true)),
+];
+
+// Whether each of these comes out so.
+fn come_out_so(alloc: Global, inst: &Instance, start: &Plan) -> bool
+    requires { IsPlanOf inst.now.draft start.now }
+{
+    let (once, twice) = (hot(2, 2, 0), hot(2, 2, 1));
+    plays(
+        alloc,
+        inst,
+        start,
+        twice,
+        0,
+        &COMES_AGAIN,
+        HasPrices(&AGAIN_PRICES),
+    ) && plays(
+        alloc,
+        inst,
+        start,
+        once,
+        0,
+        &TRACE,
+        HasPrices(&TRACE_PRICES),
+    ) && plays(alloc, inst, start, once, 0, &BOTH, HasPrices(&BOTH_PRICES))
+        && plays(alloc, inst, start, once, 0, &BEHIND, HasPrices(&[]))
+        && plays(alloc, inst, start, once, 0, &ONE_STALE, IsRaised)
+        && plays(
+            alloc,
+            inst,
+            start,
+            hot(1, 3, 0),
+            1,
+            &FROZEN,
+            HasPrices(&FROZEN_PRICES),
+        )
+}
+
+// What the first worker's price of joining the first patient rests on: the stay, the room and the theatre on the day,
+// the surgeon's day, the room and its nurse in three shifts, and who cares for the patient.
+const READS: [(u32, u32); 11] = [
+    (1, 0),
+    (2, 0),
+    (8, 0),
+    (10, 0),
+    (12, 0),
+    (13, 0),
+    (14, 0),
+    (24, 0),
+    (25, 0),
+    (26, 0),
+    (37, 0),
+];
+
+// The same once the second nurse has the first room in the first night.
+const READS_BEHIND: [(u32, u32); 11] = [
+    (1, 0),
+    (2, 0),
+    (8, 0),
+    (10, 0),
+    (12, 0),
+    (13, 0),
+    (14, 1),
+    (24, 0),
+    (25, 0),
+    (32, 1),
+    (37, 0),
+];
+
+// Whether the price of joining rests on what is read.
+fn is_priced(inst: &Instance, replica: &mut Replica<'_>) -> bool
+    requires { replica.old.base.instance ≡ inst.now.draft }
+{
+    let price = (CROWDED, [1, 6, 1, 3, 1, 1, 0, -1]);
+    match parse_move(inst, JOIN.as_bytes()) {
+        Some(join) => is(replica.price(&join, 0), (0, 0, 0), &price, &READS),
+        None => false,
+    }
+}
+
+fn rests_on_what_is_read(alloc: Global, inst: &Instance, start: &Plan) -> bool
+    requires { IsPlanOf inst.now.draft start.now }
+{
+    match Replica::new(alloc, inst, start, &hot(2, 2, 0), 0, 0) {
+        Ok(mut zero) => {
+            share(&zero);
+            is_priced(inst, &mut zero)
+        }
+        Err(_) => false,
+    }
+}
+
+// Whether the versions are those of an accepted entry that changed the first room in the first night, not in the first
+// morning.
+fn are_raised(book: &Book<'_>, cells: u32) -> bool
+    requires { cells ≤ cell_count book.now.base.instance }
+{
+    cells > 14 && book.versions(14) == 1 && book.versions(12) == 0
+}
+
+// Whether both of two entries are copied, and none behind them.
+fn are_copied(book: &Book<'_>, buffer: &mut Buffer) -> bool {
+    if book.entries().len() != 2 {
+        return false;
+    }
+    book.copy_since(0, buffer);
+    let both = buffer.entries().len() == 2 && buffer.front() == 2;
+    book.copy_since(2, buffer);
+    both && buffer.entries().is_empty()
+}
+
+// Whether one of two entries is told, and that there are two.
+fn is_told(alloc: Global, book: &Book<'_>) -> bool {
+    match News::new(alloc) {
+        Ok(mut news) => {
+            book.news_since(0, &mut news);
+            news.accepted().len() == 1 && news.until() == 2 && news.front() == 2
+        }
+        Err(_) => false,
+    }
+}
+
+fn are_kept(alloc: Global, book: &Book<'_>, cells: u32) -> bool
+    requires { cells ≤ cell_count book.now.base.instance }
+{
+    match Buffer::new(alloc) {
+        Ok(mut buffer) => {
+            are_raised(book, cells) && are_copied(book, &mut buffer) && is_told(alloc, book)
+        }
+        Err(_) => false,
+    }
+}
+
+// An accepted entry, and one that it makes stale.
+const ONE_STALE: [Row; 2] = [
+    (1, Offers(0, SECOND_NURSE), ACCEPTED),
+    (0, Offers(0, JOIN), ONCE_STALE),
+];
+
+// A worker's offers of moves that do nothing, each after a look, and then four looks of another.
+fn idle_rows(alloc: Global, count: u32) -> Result<Vec<Row>, AllocError> {
+    let mut rows = Vec::new(alloc);
+    for number in 0..count {
+        rows.push((1, Looks, Seen(number, number)))?;
+        rows.push((1, Offers(number, "idle"), ACCEPTED))?;
+    }
+    for seen in [256, 512, 600, 600] {
+        rows.push((0, Looks, Seen(seen, 600)))?;
+    }
+    Ok(rows)
+}
+
+// Whether no cell has a version yet.
+fn are_untouched(book: &Book<'_>, cells: u32) -> bool
+    requires { cells ≤ cell_count book.now.base.instance }
+{
+    for cell in 0..cells {
+        if book.versions(cell) != 0 {
+            return false;
+        }
+    }
+    true
+}
+
+// Whether the book's best is the start, and no cell has a version yet.
+fn is_as_begun(book: &Book<'_>, cells: u32) -> bool
+    requires { cells ≤ cell_count book.now.base.instance }
+{
+    book.best() == Some((0, 159)) && are_untouched(book, cells)
+}
+
+// Whether looks show 256 entries each, and 600 moves that do nothing touch no cell and change no timetable.
+fn looks_show_256_each(alloc: Global, inst: &Instance, start: &Plan) -> bool
+    requires { IsPlanOf inst.now.draft start.now }
+{
+    let options = hot(2, 700, 0);
+    match idle_rows(alloc, 600) {
+        Ok(rows) => plays(alloc, inst, start, options, 0, rows.as_slice(), IsUntouched),
+        Err(_) => false,
+    }
+}
+
+fn hold(alloc: Global, inst: &Instance, start: &Plan) -> bool
+    requires { IsPlanOf inst.now.draft start.now }
+{
+    rests_on_what_is_read(alloc, inst, start)
+        && come_out_so(alloc, inst, start)
+        && looks_show_256_each(alloc, inst, start)
+}
+
+#[test]
+fn workers_see_what_others_touched(rt: HostRuntime) {
+    let alloc = rt.alloc();
+    assert!(rt; on_first_admitted(alloc, |inst, start| hold(alloc, inst, start)));
+}
