@@ -3,7 +3,7 @@ use Rattle.std.proofs.Common.{ℕ, Bool, true, false, refl, Option, Some, None}
 use Rattle.ih_tables.specs.declared.drafts.Draft.{Draft}
 use Rattle.ih_tables.specs.declared.drafts.Patient.{Patient}
 use Rattle.ih_plan.specs.Timetable.{Timetable}
-use Rattle.ih_page.specs.Html.{numbered}
+use Rattle.ih_page.specs.Html.{labelled, numbered}
 use Rattle.ih_page.specs.LeftOut.{last_day, need_text, window_text, left_out_row, left_out_of, left_out}
 use Rattle.ih_page.proofs.Scans.{Own, all-below, if-any, by_pieces}
 use Rattle.ih_page.proofs.NamesAndNumbers.{number, names_and_numbers}
@@ -17,7 +17,7 @@ need true = refl
 need false = refl
 
 row : (p : ℕ) (a : Patient) → Own (left_out_row p a)
-unfolding numbered window_text
+unfolding numbered labelled window_text
 row p a = simp (by_pieces, names_and_numbers, need, last-day) refl
 
 of : (I : Draft) (P : Timetable) (p : ℕ) → Own (left_out_of I P p)

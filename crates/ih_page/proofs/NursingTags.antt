@@ -5,13 +5,14 @@ use Rattle.ih_tables.specs.declared.drafts.Nurse.{Nurse}
 use Rattle.ih_tables.specs.Works.{max_load}
 use Rattle.ih_plan.specs.Timetable.{Timetable}
 use Rattle.ih_plan.specs.Costs.{load_of}
-use Rattle.ih_page.specs.Rooms.{marked, place_text}
-use Rattle.ih_page.specs.Nursing.{load_text, load_cell, nurse_head, nurse_row, wide_day, nurses_text}
+use Rattle.ih_page.specs.Html.{labelled}
+use Rattle.ih_page.specs.Rooms.{marked, place_text, cell_at, heads_and_days}
+use Rattle.ih_page.specs.Nursing.{load_text, load_cell, nurse_head, nurse_row, nurses_text}
 use Rattle.ih_page.proofs.Scans.{Own, all-below, if-any, by_pieces}
 use Rattle.ih_page.proofs.NamesAndNumbers.{names_and_numbers}
 
-cell-of : (most : Option ℕ) (n k load : ℕ) → Own (codes "<td id=" ++ (place_text (codes "n") n k ++ load_text most load))
-unfolding marked place_text
+cell-of : (most : Option ℕ) (n k load : ℕ) → Own (cell_at (codes "n") n k ++ load_text most load)
+unfolding cell_at marked place_text
 cell-of None n k load = simp (by_pieces, names_and_numbers) refl
 cell-of (Some most) n k load = simp (by_pieces, names_and_numbers) refl
 
@@ -26,9 +27,10 @@ row : (I : Draft) (P : Timetable) (n : ℕ) → Own (nurse_row I P n)
 unfolding nurse_row
 row I P n = simp (by_pieces, if-any nurse_head head, all-below (load_cell I P n) (cell I P n)) refl
 
-wide-day : (d : ℕ) → Own (wide_day d)
+wide-day : (d : ℕ) → Own (labelled (codes "<th colspan=3>") d)
+unfolding labelled
 wide-day d = simp (by_pieces, names_and_numbers) refl
 
 pub nurses-own : (I : Draft) (P : Timetable) → Own (nurses_text I P)
-unfolding nurses_text
-nurses-own I P = simp (by_pieces, all-below wide_day wide-day, all-below (nurse_row I P) (row I P)) refl
+unfolding nurses_text heads_and_days
+nurses-own I P = simp (by_pieces, all-below (labelled (codes "<th colspan=3>")) wide-day, all-below (nurse_row I P) (row I P)) refl

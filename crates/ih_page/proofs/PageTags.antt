@@ -14,7 +14,7 @@ use Rattle.ih_page.proofs.SummaryTags.{summary-own}
 use Rattle.ih_page.proofs.WrongTags.{wrong-own}
 use Rattle.ih_page.proofs.LeftOutTags.{left-out-own}
 use Rattle.ih_page.proofs.RoomTags.{rooms-own}
-use Rattle.ih_page.proofs.SurgeryTags.{theatres-own, surgeons-own}
+use Rattle.ih_page.proofs.SurgeryTags.{surgery-own}
 use Rattle.ih_page.proofs.NursingTags.{nurses-own}
 
 -- a page behind its opening
@@ -24,7 +24,7 @@ rest_of I P = summary I.weights (bill_of I P) ++ (wrong_text I P ++ (tables I P 
 rest-own : (I : Draft) (P : Timetable) → Own (rest_of I P)
 unfolding tables
 rest-own I P =
-    simp (by_pieces, summary-own, wrong-own, left-out-own, rooms-own, theatres-own, surgeons-own, nurses-own) refl
+    simp (by_pieces, summary-own, wrong-own, left-out-own, rooms-own, surgery-own, nurses-own) refl
 
 pub tags-own : (I : Draft) (P : Timetable) → TagsAreOwn I P
 unfolding page_of opening

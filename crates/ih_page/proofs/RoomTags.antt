@@ -1,5 +1,5 @@
 -- The tags of the rooms are the page's own.
-use Rattle.std.proofs.Common.{ℕ, ◌+◌, ◌*◌, Bool, true, false, List, [], refl, Option, Some, None}
+use Rattle.std.proofs.Common.{ℕ, ◌+◌, ◌*◌, Bool, true, false, List, [], codes, refl, Option, Some, None}
 use Rattle.std.specs.Prelude.{◌==◌, slice_get, if◌then◌else◌}
 use Rattle.ih_tables.specs.declared.drafts.Draft.{Draft}
 use Rattle.ih_tables.specs.declared.drafts.Nurse.{Nurse}
@@ -10,8 +10,8 @@ use Rattle.ih_tables.specs.declared.drafts.Theatre.{Theatre}
 use Rattle.ih_tables.specs.Sizes.{patient_count}
 use Rattle.ih_plan.specs.declared.moves.Placement.{Placement}
 use Rattle.ih_plan.specs.Timetable.{Timetable, stay_of}
-use Rattle.ih_page.specs.Html.{escaped, numbered}
-use Rattle.ih_page.specs.Rooms.{age_text, theatre_text, shift_type_text, nurse_text, wide_cell, bar_cell, bar_text, person_cells, patient_row, occupant_row, patient_in, occupant_in, marked, place_text, count_cell, nurse_cell, shift_row, day_head, room_title, heads_and_days, room_head, count_row, person_rows, room_text, rooms_text}
+use Rattle.ih_page.specs.Html.{escaped, labelled, numbered}
+use Rattle.ih_page.specs.Rooms.{age_text, theatre_text, shift_type_text, nurse_text, wide_cell, bar_cell, bar_text, person_cells, patient_row, occupant_row, patient_in, occupant_in, marked, place_text, cell_at, count_cell, nurse_cell, shift_row, room_title, heads_and_days, room_head, count_row, person_rows, room_text, rooms_text}
 use Rattle.ih_page.proofs.Scans.{Own, all-below, if-any, by_pieces}
 use Rattle.ih_page.proofs.NamesAndNumbers.{name, names_and_numbers}
 
@@ -34,7 +34,7 @@ nurse-name I (Some n) = if-any (λ (a : Nurse). escaped a.id) (λ a. name a.id) 
 -- who is in a room
 
 bar : (h d n : ℕ) → Own (bar_text h d n)
-unfolding bar_text wide_cell bar_cell
+unfolding bar_text wide_cell bar_cell labelled
 bar h d n = simp (by_pieces, names_and_numbers) refl
 
 cells : (I : Draft) (gender : List ℕ) (age : ℕ) → Own (person_cells I gender age)
@@ -74,7 +74,7 @@ persons I P r =
 -- the other rows
 
 count : (I : Draft) (P : Timetable) (r d : ℕ) → Own (count_cell I P r d)
-unfolding marked place_text
+unfolding cell_at marked place_text
 count I P r d = simp (by_pieces, names_and_numbers) refl
 
 count-row : (I : Draft) (P : Timetable) (r : ℕ) → Own (count_row I P r)
@@ -82,19 +82,20 @@ unfolding count_row
 count-row I P r = simp (by_pieces, all-below (count_cell I P r) (count I P r)) refl
 
 nurse : (I : Draft) (P : Timetable) (r k : ℕ) → Own (nurse_cell I P r k)
-unfolding place_text
+unfolding cell_at place_text
 nurse I P r k = simp (by_pieces, names_and_numbers, nurse-name) refl
 
 shift : (I : Draft) (P : Timetable) (r j : ℕ) → Own (shift_row I P r j)
 shift I P r j =
     simp (by_pieces, shift-name, all-below (λ d. nurse_cell I P r (3 * d + j)) (λ d. nurse I P r (3 * d + j))) refl
 
-pub day : (d : ℕ) → Own (day_head d)
+pub day : (d : ℕ) → Own (labelled (codes "<th>") d)
+unfolding labelled
 day d = simp (by_pieces, names_and_numbers) refl
 
 head : (I : Draft) (r : ℕ) (a : Room) → Own (room_head I r a)
 unfolding room_head heads_and_days room_title numbered
-head I r a = simp (by_pieces, names_and_numbers, all-below day_head day) refl
+head I r a = simp (by_pieces, names_and_numbers, all-below (labelled (codes "<th>")) day) refl
 
 room : (I : Draft) (P : Timetable) (r : ℕ) → Own (room_text I P r)
 unfolding room_text

@@ -1,15 +1,18 @@
 -- The tags of theatres and surgeons are the page's own.
-use Rattle.std.proofs.Common.{ℕ, refl}
+use Rattle.std.proofs.Common.{ℕ, codes, refl}
 use Rattle.std.specs.Prelude.{slice_get}
 use Rattle.ih_tables.specs.declared.drafts.Draft.{Draft}
 use Rattle.ih_tables.specs.declared.drafts.Patient.{Patient}
 use Rattle.ih_tables.specs.declared.drafts.Surgeon.{Surgeon}
 use Rattle.ih_plan.specs.Timetable.{Timetable}
-use Rattle.ih_page.specs.declared.surgery.Whose.{Whose}
-use Rattle.ih_page.specs.declared.surgery.Whose.TheVariants.{OfTheatre, OfSurgeon}
-use Rattle.ih_page.specs.Html.{escaped, numbered}
-use Rattle.ih_page.specs.Rooms.{marked, place_text, day_head, heads_and_days}
-use Rattle.ih_page.specs.Surgery.{surgeon_text, whose_text, share_text, minutes_text, name_link, operation, surgery_cell, surgery_row, theatres_text, surgeons_text}
+use Rattle.ih_validate.specs.declared.surgery.Whose.{Whose}
+use Rattle.ih_validate.specs.declared.surgery.Whose.TheVariants.{OfTheatre, OfSurgeon}
+use Rattle.ih_validate.specs.Surgery.{one_of}
+use Rattle.ih_validate.specs.declared.surgery.Kind.{Kind}
+use Rattle.ih_validate.specs.declared.surgery.Kind.TheVariants.{Theatres, Surgeons}
+use Rattle.ih_page.specs.Html.{escaped, labelled, numbered}
+use Rattle.ih_page.specs.Rooms.{marked, place_text, cell_at, heads_and_days}
+use Rattle.ih_page.specs.Surgery.{surgeon_text, whose_text, share_text, minutes_text, name_link, operation, surgery_cell, surgery_row, heads_of, surgery_text}
 use Rattle.ih_page.proofs.Scans.{Own, all-below, if-any, by_pieces}
 use Rattle.ih_page.proofs.NamesAndNumbers.{name, names_and_numbers}
 use Rattle.ih_page.proofs.RoomTags.{theatre-name, day}
@@ -29,7 +32,7 @@ operated : (I : Draft) (P : Timetable) (w : Whose) (d p : ℕ) → Own (operatio
 operated I P w d p = simp (by_pieces, if-any (name_link p) (link p)) refl
 
 cell : (I : Draft) (P : Timetable) (w : Whose) (d : ℕ) → Own (surgery_cell I P w d)
-unfolding surgery_cell place_text marked minutes_text share_text
+unfolding surgery_cell cell_at place_text marked minutes_text share_text
 cell I P (OfTheatre t) d =
     simp (by_pieces, names_and_numbers, all-below (operation I P (OfTheatre t) d) (operated I P (OfTheatre t) d)) refl
 cell I P (OfSurgeon s) d =
@@ -39,20 +42,16 @@ row : (I : Draft) (P : Timetable) (w : Whose) → Own (surgery_row I P w)
 unfolding surgery_row
 row I P w = simp (by_pieces, whose, all-below (surgery_cell I P w) (cell I P w)) refl
 
-pub theatres-own : (I : Draft) (P : Timetable) → Own (theatres_text I P)
-unfolding theatres_text heads_and_days
-theatres-own I P =
-    simp (
-      by_pieces,
-      all-below day_head day,
-      all-below (λ t. surgery_row I P (OfTheatre (record { 0 = t }))) (λ t. row I P (OfTheatre (record { 0 = t }))),
-    ) refl
+heads : (kind : Kind) → Own (heads_of kind)
+heads Theatres = refl
+heads Surgeons = refl
 
-pub surgeons-own : (I : Draft) (P : Timetable) → Own (surgeons_text I P)
-unfolding surgeons_text heads_and_days
-surgeons-own I P =
+pub surgery-own : (I : Draft) (P : Timetable) (kind : Kind) → Own (surgery_text I P kind)
+unfolding surgery_text heads_and_days
+surgery-own I P kind =
     simp (
       by_pieces,
-      all-below day_head day,
-      all-below (λ s. surgery_row I P (OfSurgeon (record { 0 = s }))) (λ s. row I P (OfSurgeon (record { 0 = s }))),
+      heads kind,
+      all-below (labelled (codes "<th>")) day,
+      all-below (λ i. surgery_row I P (one_of kind i)) (λ i. row I P (one_of kind i)),
     ) refl

@@ -10,10 +10,11 @@ use Rattle.ih_plan.specs.BillOf.{bill_of}
 use Rattle.ih_plan.specs.Cells.{cell_at}
 use Rattle.ih_page.specs.declared.bill_lines.Line.{Line}
 use Rattle.ih_page.specs.declared.bill_lines.Line.TheVariants.{Rule, Cost}
+use Rattle.ih_page.specs.Html.{labelled}
 use Rattle.ih_page.specs.Summary.{line_text}
 use Rattle.ih_page.specs.BillLines.{rule_one, cost_one, rule_many, cost_many, amount_text}
 use Rattle.ih_page.specs.Rooms.{place_text}
-use Rattle.ih_page.specs.CellNames.{person_place, patient_name, occupant_name, room_name, person_text, room_called, day_text, shift_text}
+use Rattle.ih_page.specs.CellNames.{patient_name, occupant_name, room_name, person_text, room_called, day_text, shift_text}
 use Rattle.ih_page.specs.Order.{dearest_first}
 use Rattle.ih_page.specs.Wrong.{amounts, cell_link, item, item_at, list_name, list_head, items_of, list_of, list_if_any, line_list, wrong_text}
 use Rattle.ih_page.proofs.Scans.{Own, all-below, all-of, if-any, by_pieces}
@@ -61,7 +62,7 @@ unfolding room_called
 room I r = if-any room_name (λ a. simp (by_pieces, names_and_numbers) refl) (slice_get I.rooms r)
 
 day : (d : ℕ) → Own (day_text d)
-unfolding day_text
+unfolding labelled
 day d = simp (by_pieces, names_and_numbers) refl
 
 shift : (I : Draft) (k : ℕ) → Own (shift_text I k)
@@ -69,7 +70,7 @@ unfolding shift_text
 shift I k = simp (by_pieces, day, shift-name) refl
 
 link : (I : Draft) (c : Cell) → Own (cell_link I c)
-unfolding cell_link person_place place_text
+unfolding cell_link labelled place_text
 link I (Stay p) = simp (by_pieces, names_and_numbers, person) refl
 link I (RoomDay r d) = simp (by_pieces, names_and_numbers, room, day) refl
 link I (TheatreDay t d) = simp (by_pieces, names_and_numbers, theatre-name, day) refl
@@ -93,12 +94,12 @@ unfolding list_head list_name line_text
 fold (Rule i) b = simp (by_pieces, names_and_numbers, rule-name) refl
 fold (Cost i) b = simp (by_pieces, names_and_numbers, cost-name) refl
 
-list : (I : Draft) (P : Timetable) (b : Bill) (l : Line) (xs ns : List ℕ) → Own (list_if_any I P b l xs ns)
+list : (I : Draft) (P : Timetable) (l : Line) (xs ns : List ℕ) → Own (list_if_any I P l xs ns)
 unfolding list_of
-list I P b l xs ns = simp (by_pieces, fold, items) refl
+list I P l xs ns = simp (by_pieces, fold, items) refl
 
 line : (I : Draft) (P : Timetable) (l : Line) → Own (line_list I P l)
-line I P l = list I P (bill_of I P) l (amounts I P l) (dearest_first (amounts I P l))
+line I P l = list I P l (amounts I P l) (dearest_first (amounts I P l))
 
 pub wrong-own : (I : Draft) (P : Timetable) → Own (wrong_text I P)
 unfolding wrong_text

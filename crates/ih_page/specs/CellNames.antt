@@ -1,5 +1,5 @@
 -- What a cell is called, and where it stands in the page.
-use Rattle.std.specs.Prelude.{ℕ, ◌-◌, ◌/◌, ◌%◌, Some, List, [], ◌++◌, nat_lt, codes, decimal, slice_get, if◌then◌else◌}
+use Rattle.std.specs.Prelude.{ℕ, ◌-◌, ◌/◌, ◌%◌, Some, List, [], ◌++◌, nat_lt, codes, slice_get, if◌then◌else◌}
 use Rattle.std.specs.Option.{option_map_or}
 use Rattle.ih_tables.specs.declared.cells.Cell.{Cell}
 use Rattle.ih_tables.specs.declared.cells.Cell.TheVariants.{Stay, RoomDay, TheatreDay, SurgeonDay, RoomShift, NurseShift, Care}
@@ -8,13 +8,13 @@ use Rattle.ih_tables.specs.declared.drafts.Occupant.{Occupant}
 use Rattle.ih_tables.specs.declared.drafts.Patient.{Patient}
 use Rattle.ih_tables.specs.declared.drafts.Room.{Room}
 use Rattle.ih_tables.specs.Sizes.{patient_count}
-use Rattle.ih_page.specs.Html.{escaped}
+use Rattle.ih_page.specs.Html.{escaped, labelled}
 use Rattle.ih_page.specs.Rooms.{theatre_text, place_text, shift_type_text, nurse_text}
 use Rattle.ih_page.specs.Surgery.{surgeon_text}
 
 -- the row of a person
-unfoldable pub person_place : ℕ → List ℕ
-person_place x = codes "p" ++ decimal x
+abbrev pub person_place : ℕ → List ℕ
+person_place x = labelled (codes "p") x
 
 abbrev pub cell_place : Cell → List ℕ
 cell_place (Stay p) = person_place p.0
@@ -42,8 +42,8 @@ person_text I x =
 unfoldable pub room_called : Draft → ℕ → List ℕ
 room_called I r = option_map_or room_name (slice_get I.rooms r) []
 
-unfoldable pub day_text : ℕ → List ℕ
-day_text d = codes ", day " ++ decimal d
+abbrev pub day_text : ℕ → List ℕ
+day_text d = labelled (codes ", day ") d
 
 unfoldable pub shift_text : Draft → ℕ → List ℕ
 shift_text I k = day_text (k / 3) ++ (codes ", " ++ shift_type_text I (k % 3))

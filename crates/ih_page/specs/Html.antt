@@ -11,6 +11,10 @@ escaped_byte b =
 unfoldable pub escaped : List ℕ → List ℕ
 escaped text = flat_map escaped_byte text
 
+-- a number behind a text of the page's own
+unfoldable pub labelled : List ℕ → ℕ → List ℕ
+labelled text n = text ++ decimal n
+
 -- a name from a file behind a tag with a number
 unfoldable pub numbered : List ℕ → ℕ → List ℕ → List ℕ → List ℕ
 numbered tag n rest name = tag ++ (decimal n ++ (rest ++ escaped name))

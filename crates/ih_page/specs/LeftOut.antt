@@ -6,7 +6,7 @@ use Rattle.ih_tables.specs.declared.drafts.Patient.{Patient}
 use Rattle.ih_tables.specs.Sizes.{patient_count}
 use Rattle.ih_plan.specs.Timetable.{Timetable, stay_of}
 use Rattle.ih_validate.specs.Report.{lines_below}
-use Rattle.ih_page.specs.Html.{numbered}
+use Rattle.ih_page.specs.Html.{labelled, numbered}
 
 -- the last day of a window, where there is one
 abbrev pub last_day : Option ℕ → List ℕ
@@ -19,7 +19,8 @@ need_text false = codes "optional"
 
 -- from the release day to the due day
 unfoldable pub window_text : Patient → List ℕ
-window_text a = codes "<td>" ++ (decimal a.surgery_release_day ++ (codes " to " ++ (last_day a.surgery_due_day ++ codes "\n")))
+window_text a =
+    labelled (codes "<td>") a.surgery_release_day ++ (codes " to " ++ (last_day a.surgery_due_day ++ codes "\n"))
 
 -- the row of patient a, whose number is p
 abbrev pub left_out_row : ℕ → Patient → List ℕ

@@ -9,7 +9,7 @@ use Rattle.ih_plan.specs.Timetable.{Timetable}
 use Rattle.ih_plan.specs.Costs.{load_of}
 use Rattle.ih_validate.specs.Report.{lines_below}
 use Rattle.ih_page.specs.Html.{escaped}
-use Rattle.ih_page.specs.Rooms.{marked, place_text}
+use Rattle.ih_page.specs.Rooms.{marked, cell_at, heads_and_days}
 
 -- a workload and its maximum; nothing where the shift isn't worked and there is no workload
 abbrev pub load_text : Option ℕ → ℕ → List ℕ
@@ -18,7 +18,7 @@ load_text (Some most) load = marked most load ++ (codes "/" ++ decimal most)
 
 -- the workload of nurse n in shift k
 abbrev pub load_cell : Draft → Timetable → ℕ → ℕ → List ℕ
-load_cell I P n k = codes "<td id=" ++ (place_text (codes "n") n k ++ load_text (max_load I n k) (load_of I P n k))
+load_cell I P n k = cell_at (codes "n") n k ++ load_text (max_load I n k) (load_of I P n k)
 
 -- a nurse's name and skill
 unfoldable pub nurse_head : Nurse → List ℕ
@@ -28,11 +28,8 @@ unfoldable pub nurse_row : Draft → Timetable → ℕ → List ℕ
 nurse_row I P n =
     option_map_or nurse_head (slice_get I.nurses n) [] ++ (lines_below (shift_count I) (load_cell I P n) ++ codes "\n")
 
--- a day as the head of three columns
-abbrev pub wide_day : ℕ → List ℕ
-wide_day d = codes "<th colspan=3>" ++ decimal d
-
 unfoldable pub nurses_text : Draft → Timetable → List ℕ
 nurses_text I P =
-    codes "<h2>Nurses by shifts: workload of the maximum</h2>\n<div><table><tr><th>nurse<th>skill" ++ (lines_below I.days wide_day
-    ++ (codes "\n" ++ (lines_below (nurse_count I) (nurse_row I P) ++ codes "</table></div>\n")))
+    heads_and_days I
+    (codes "<h2>Nurses by shifts: workload of the maximum</h2>\n<div><table><tr><th>nurse<th>skill") (codes "<th colspan=3>")
+    ++ (lines_below (nurse_count I) (nurse_row I P) ++ codes "</table></div>\n")

@@ -3,10 +3,11 @@ use Rattle.std.specs.Prelude.{ℕ, List, ◌++◌, codes}
 use Rattle.ih_tables.specs.declared.drafts.Draft.{Draft}
 use Rattle.ih_plan.specs.Timetable.{Timetable}
 use Rattle.ih_plan.specs.BillOf.{bill_of}
+use Rattle.ih_validate.specs.declared.surgery.Kind.TheVariants.{Theatres, Surgeons}
 use Rattle.ih_page.specs.Summary.{summary}
 use Rattle.ih_page.specs.LeftOut.{left_out}
 use Rattle.ih_page.specs.Rooms.{rooms_text}
-use Rattle.ih_page.specs.Surgery.{theatres_text, surgeons_text}
+use Rattle.ih_page.specs.Surgery.{surgery_text}
 use Rattle.ih_page.specs.Nursing.{nurses_text}
 use Rattle.ih_page.specs.Wrong.{wrong_text}
 
@@ -16,7 +17,7 @@ opening = codes "<!DOCTYPE html>\n<html lang=en><meta charset=utf-8><meta name=v
 
 -- who is left out, rooms, theatres, surgeons and nurses
 unfoldable pub tables : Draft → Timetable → List ℕ
-tables I P = left_out I P ++ (rooms_text I P ++ (theatres_text I P ++ (surgeons_text I P ++ nurses_text I P)))
+tables I P = left_out I P ++ (rooms_text I P ++ (surgery_text I P Theatres ++ (surgery_text I P Surgeons ++ nurses_text I P)))
 
 -- The page: whether the timetable is feasible, its numbers, what is wrong, and the tables.
 unfoldable pub page_of : Draft → Timetable → List ℕ

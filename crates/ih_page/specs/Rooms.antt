@@ -14,7 +14,7 @@ use Rattle.ih_plan.specs.Presence.{is_present}
 use Rattle.ih_plan.specs.Costs.{capacity_of}
 use Rattle.ih_plan.specs.Sums.{count_below}
 use Rattle.ih_validate.specs.Report.{lines_below}
-use Rattle.ih_page.specs.Html.{escaped, numbered}
+use Rattle.ih_page.specs.Html.{escaped, labelled, numbered}
 
 -- the name of an age group
 abbrev pub age_text : Draft → ℕ → List ℕ
@@ -35,7 +35,7 @@ nurse_text I (Some n) = option_map_or (λ (a : Nurse). escaped a.id) (slice_get 
 
 -- an empty cell of n columns
 unfoldable pub wide_cell : ℕ → List ℕ
-wide_cell n = codes "<td colspan=" ++ (decimal n ++ codes ">")
+wide_cell n = labelled (codes "<td colspan=") n ++ codes ">"
 
 -- the days before a stay
 abbrev pub gap_text : ℕ → List ℕ
@@ -43,7 +43,7 @@ gap_text d = if d == 0 then [] else wide_cell d
 
 -- a bar of m columns that says n
 unfoldable pub bar_cell : ℕ → ℕ → List ℕ
-bar_cell m n = codes "<td class=b colspan=" ++ (decimal m ++ (codes ">" ++ (decimal n ++ codes "\n")))
+bar_cell m n = labelled (codes "<td class=b colspan=") m ++ (labelled (codes ">") n ++ codes "\n")
 
 -- the bar of a stay of n days from day d on, as far as the horizon of h days goes, with its length in days
 unfoldable pub bar_text : ℕ → ℕ → ℕ → List ℕ
@@ -68,12 +68,14 @@ occupant_row I x a =
 -- the row of patient p in room r, where its stay is there
 abbrev pub patient_in : Draft → ℕ → ℕ → Option Placement → List ℕ
 patient_in I r p None = []
-patient_in I r p (Some at) = if at.room.0 == r then option_map_or (patient_row I p at) (slice_get I.patients p) [] else []
+patient_in I r p (Some at) =
+    if at.room.0 == r then option_map_or (patient_row I p at) (slice_get I.patients p) [] else []
 
 -- the row of occupant o in room r, where it is there
 abbrev pub occupant_in : Draft → ℕ → ℕ → List ℕ
 occupant_in I r o =
-    option_map_or (λ (a : Occupant). if a.room_id.0 == r then occupant_row I (patient_count I + o) a else []) (slice_get I.occupants o) []
+    option_map_or (λ (a : Occupant). if a.room_id.0 == r then occupant_row I (patient_count I + o) a else [])
+    (slice_get I.occupants o) []
 
 -- how many persons are in room r on day d
 abbrev pub head_count : Draft → Timetable → ℕ → ℕ → ℕ
@@ -87,33 +89,36 @@ marked limit n = if nat_lt limit n then (codes " class=x>!" ++ decimal n) else (
 unfoldable pub place_text : List ℕ → ℕ → ℕ → List ℕ
 place_text letter i j = letter ++ (decimal i ++ (codes "-" ++ decimal j))
 
+-- the begin of a cell that has a place
+unfoldable pub cell_at : List ℕ → ℕ → ℕ → List ℕ
+cell_at letter i j = codes "<td id=" ++ place_text letter i j
+
 -- how many are in a room on a day
 abbrev pub count_cell : Draft → Timetable → ℕ → ℕ → List ℕ
-count_cell I P r d = codes "<td id=" ++ (place_text (codes "d") r d ++ marked (capacity_of I r) (head_count I P r d))
+count_cell I P r d = cell_at (codes "d") r d ++ marked (capacity_of I r) (head_count I P r d)
 
 -- the nurse of a room in a shift
 abbrev pub nurse_cell : Draft → Timetable → ℕ → ℕ → List ℕ
-nurse_cell I P r k = codes "<td id=" ++ (place_text (codes "s") r k ++ (codes ">" ++ nurse_text I (care_of P r k)))
+nurse_cell I P r k = cell_at (codes "s") r k ++ (codes ">" ++ nurse_text I (care_of P r k))
 
 -- a room's nurses in the shifts of type j, by days
 abbrev pub shift_row : Draft → Timetable → ℕ → ℕ → List ℕ
 shift_row I P r j =
-    codes "<tr><th>" ++ (shift_type_text I j ++ (codes "<td colspan=3>nurse" ++ (lines_below I.days (λ d. nurse_cell I P r (3 * d + j)) ++ codes "\n")))
-
--- the days as the heads of columns
-abbrev pub day_head : ℕ → List ℕ
-day_head d = codes "<th>" ++ decimal d
+    codes "<tr><th>" ++ (shift_type_text I j ++ (codes "<td colspan=3>nurse"
+    ++ (lines_below I.days (λ d. nurse_cell I P r (3 * d + j)) ++ codes "\n")))
 
 -- a room's name and capacity
 unfoldable pub room_title : ℕ → Room → List ℕ
-room_title r a = numbered (codes "<h3 id=r") r (codes ">") a.id ++ (codes ", capacity " ++ (decimal a.capacity ++ codes "</h3>\n"))
+room_title r a =
+    numbered (codes "<h3 id=r") r (codes ">") a.id ++ (labelled (codes ", capacity ") a.capacity ++ codes "</h3>\n")
 
--- the heads of a table's columns, of which the last are the days
-unfoldable pub heads_and_days : Draft → List ℕ → List ℕ
-heads_and_days I heads = heads ++ (lines_below I.days day_head ++ codes "\n")
+-- the heads of a table's columns, of which the last are the days, each with this tag
+unfoldable pub heads_and_days : Draft → List ℕ → List ℕ → List ℕ
+heads_and_days I heads tag = heads ++ (lines_below I.days (labelled tag) ++ codes "\n")
 
 unfoldable pub room_head : Draft → ℕ → Room → List ℕ
-room_head I r a = room_title r a ++ heads_and_days I (codes "<div><table><tr><th>person<th>gender<th>age<th>theatre")
+room_head I r a =
+    room_title r a ++ heads_and_days I (codes "<div><table><tr><th>person<th>gender<th>age<th>theatre") (codes "<th>")
 
 -- how many are in a room, by days
 unfoldable pub count_row : Draft → Timetable → ℕ → List ℕ
@@ -121,11 +126,13 @@ count_row I P r = codes "<tr><th>persons<td colspan=3>count" ++ (lines_below I.d
 
 -- who is in a room on some days: the occupants, then the patients
 unfoldable pub person_rows : Draft → Timetable → ℕ → List ℕ
-person_rows I P r = lines_below (occupant_count I) (occupant_in I r) ++ lines_below (patient_count I) (λ p. patient_in I r p (stay_of P p))
+person_rows I P r =
+    lines_below (occupant_count I) (occupant_in I r) ++ lines_below (patient_count I) (λ p. patient_in I r p (stay_of P p))
 
 unfoldable pub room_text : Draft → Timetable → ℕ → List ℕ
 room_text I P r =
-    option_map_or (room_head I r) (slice_get I.rooms r) [] ++ (person_rows I P r ++ (count_row I P r ++ (lines_below 3 (shift_row I P r) ++ codes "</table></div>\n")))
+    option_map_or (room_head I r) (slice_get I.rooms r) []
+    ++ (person_rows I P r ++ (count_row I P r ++ (lines_below 3 (shift_row I P r) ++ codes "</table></div>\n")))
 
 unfoldable pub rooms_text : Draft → Timetable → List ℕ
 rooms_text I P = codes "<h2>Rooms by days</h2>\n" ++ lines_below (room_count I) (room_text I P)

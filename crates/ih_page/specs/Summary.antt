@@ -53,7 +53,9 @@ rule_row i x = line_head (codes "V") i (rule_name i) x ++ (codes "<td>" ++ (sign
 
 -- a cost's row: its number, its weight and their product
 abbrev pub cost_row : ℕ → ℤ → ℤ → List ℕ
-cost_row i x w = line_head (codes "S") i (cost_name i) x ++ (codes "<td>" ++ (signed_decimal x ++ (codes "<td>" ++ product_text x w)))
+cost_row i x w =
+    line_head (codes "S") i (cost_name i) x
+    ++ (codes "<td>" ++ (signed_decimal x ++ (codes "<td>" ++ product_text x w)))
 
 abbrev pub verdict_text : Bool → List ℕ
 verdict_text true = codes "<h1>Feasible timetable</h1>\n"

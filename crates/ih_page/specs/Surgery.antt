@@ -1,37 +1,29 @@
 -- Theatres and surgeons by days: the minutes of surgery beside their limit, and the patients.
-use Rattle.std.specs.Prelude.{ℕ, ◌*◌, ◌/◌, min, Bool, ◌&&◌, ◌<◌, List, [], ◌++◌, ◌==◌, codes, decimal, slice_get, if◌then◌else◌}
+use Rattle.std.specs.Prelude.{ℕ, ◌*◌, ◌/◌, min, List, [], ◌++◌, ◌==◌, codes, decimal, slice_get, if◌then◌else◌}
 use Rattle.std.specs.Option.{option_map_or}
 use Rattle.ih_tables.specs.declared.drafts.Draft.{Draft}
 use Rattle.ih_tables.specs.declared.drafts.Patient.{Patient}
 use Rattle.ih_tables.specs.declared.drafts.Surgeon.{Surgeon}
-use Rattle.ih_tables.specs.Sizes.{patient_count, theatre_count, surgeon_count}
-use Rattle.ih_plan.specs.Timetable.{Timetable, stay_of}
-use Rattle.ih_plan.specs.Costs.{operated_in, admitted_on, surgeon_of, is_number, duration_of, theatre_minutes, surgeon_minutes}
+use Rattle.ih_tables.specs.Sizes.{patient_count}
+use Rattle.ih_plan.specs.Timetable.{Timetable}
+use Rattle.ih_plan.specs.Costs.{duration_of}
 use Rattle.ih_plan.specs.Sums.{sum_below}
 use Rattle.ih_validate.specs.Report.{lines_below}
-use Rattle.ih_page.specs.declared.surgery.Whose.{Whose}
-use Rattle.ih_page.specs.declared.surgery.Whose.TheVariants.{OfTheatre, OfSurgeon}
+use Rattle.ih_validate.specs.Surgery.{count_of, has_surgery, limit_of, one_of}
+use Rattle.ih_validate.specs.declared.surgery.Kind.{Kind}
+use Rattle.ih_validate.specs.declared.surgery.Kind.TheVariants.{Theatres, Surgeons}
+use Rattle.ih_validate.specs.declared.surgery.Whose.{Whose}
+use Rattle.ih_validate.specs.declared.surgery.Whose.TheVariants.{OfTheatre, OfSurgeon}
 use Rattle.ih_page.specs.Html.{escaped, numbered}
-use Rattle.ih_page.specs.Rooms.{theatre_text, marked, place_text, heads_and_days}
+use Rattle.ih_page.specs.Rooms.{theatre_text, marked, cell_at, heads_and_days}
 
--- it is one of the instance's
-abbrev pub IsWhoseOf : Draft → Whose → Type 0
-IsWhoseOf I (OfTheatre t) = t.0 < theatre_count I
-IsWhoseOf I (OfSurgeon s) = s.0 < surgeon_count I
-
--- patient p has surgery there, or by the surgeon, on day d
-abbrev pub has_surgery : Draft → Timetable → Whose → ℕ → ℕ → Bool
-has_surgery I P (OfTheatre t) d p = operated_in t.0 d (stay_of P p)
-has_surgery I P (OfSurgeon s) d p = is_number (surgeon_of I p) s.0 && admitted_on d (stay_of P p)
+-- the minutes of patient p's surgery, where it is there on day d
+abbrev pub minutes_of : Draft → Timetable → Whose → ℕ → ℕ → ℕ
+minutes_of I P w d p = if has_surgery I P w d p then duration_of I p else 0
 
 -- the minutes of surgery of a day
 abbrev pub planned : Draft → Timetable → Whose → ℕ → ℕ
-planned I P w d = sum_below (patient_count I) (λ p. if has_surgery I P w d p then duration_of I p else 0)
-
--- the minutes that there may be
-abbrev pub limit_of : Draft → Whose → ℕ → ℕ
-limit_of I (OfTheatre t) d = theatre_minutes I t.0 d
-limit_of I (OfSurgeon s) d = surgeon_minutes I s.0 d
+planned I P w d = sum_below (patient_count I) (minutes_of I P w d)
 
 abbrev pub letter_of : Whose → List ℕ
 letter_of (OfTheatre t) = codes "t"
@@ -79,17 +71,17 @@ surgery_of I P w d n =
     if n == 0 then codes ">" else (minutes_text (limit_of I w d) n ++ lines_below (patient_count I) (operation I P w d))
 
 unfoldable pub surgery_cell : Draft → Timetable → Whose → ℕ → List ℕ
-surgery_cell I P w d = codes "<td id=" ++ (place_text (letter_of w) (number_of w) d ++ surgery_of I P w d (planned I P w d))
+surgery_cell I P w d = cell_at (letter_of w) (number_of w) d ++ surgery_of I P w d (planned I P w d)
 
 unfoldable pub surgery_row : Draft → Timetable → Whose → List ℕ
 surgery_row I P w = codes "<tr><th>" ++ (whose_text I w ++ (lines_below I.days (surgery_cell I P w) ++ codes "\n"))
 
-unfoldable pub theatres_text : Draft → Timetable → List ℕ
-theatres_text I P =
-    heads_and_days I (codes "<h2>Theatres by days, in minutes</h2>\n<div><table><tr><th>theatre")
-    ++ (lines_below (theatre_count I) (λ t. surgery_row I P (OfTheatre (record { 0 = t }))) ++ codes "</table></div>\n")
+abbrev pub heads_of : Kind → List ℕ
+heads_of Theatres = codes "<h2>Theatres by days, in minutes</h2>\n<div><table><tr><th>theatre"
+heads_of Surgeons = codes "<h2>Surgeons by days, in minutes</h2>\n<div><table><tr><th>surgeon"
 
-unfoldable pub surgeons_text : Draft → Timetable → List ℕ
-surgeons_text I P =
-    heads_and_days I (codes "<h2>Surgeons by days, in minutes</h2>\n<div><table><tr><th>surgeon")
-    ++ (lines_below (surgeon_count I) (λ s. surgery_row I P (OfSurgeon (record { 0 = s }))) ++ codes "</table></div>\n")
+-- the table of the theatres, or of the surgeons
+unfoldable pub surgery_text : Draft → Timetable → Kind → List ℕ
+surgery_text I P kind =
+    heads_and_days I (heads_of kind) (codes "<th>")
+    ++ (lines_below (count_of I kind) (λ i. surgery_row I P (one_of kind i)) ++ codes "</table></div>\n")

@@ -57,15 +57,15 @@ unfoldable pub items_of : Draft → Timetable → Line → List ℕ → List ℕ
 items_of I P l xs ns = flat_map (item_at I P l xs) ns
 
 -- the same, under their head
-unfoldable pub list_of : Draft → Timetable → Bill → Line → List ℕ → List ℕ → List ℕ
-list_of I P b l xs ns = list_head b l ++ (items_of I P l xs ns ++ codes "</ul></details>\n")
+unfoldable pub list_of : Draft → Timetable → Line → List ℕ → List ℕ → List ℕ
+list_of I P l xs ns = list_head (bill_of I P) l ++ (items_of I P l xs ns ++ codes "</ul></details>\n")
 
 -- the same, and nothing where there are none
-abbrev pub list_if_any : Draft → Timetable → Bill → Line → List ℕ → List ℕ → List ℕ
-list_if_any I P b l xs ns = if is_empty ns then [] else list_of I P b l xs ns
+abbrev pub list_if_any : Draft → Timetable → Line → List ℕ → List ℕ → List ℕ
+list_if_any I P l xs ns = if is_empty ns then [] else list_of I P l xs ns
 
 abbrev pub line_list : Draft → Timetable → Line → List ℕ
-line_list I P l = list_if_any I P (bill_of I P) l (amounts I P l) (dearest_first (amounts I P l))
+line_list I P l = list_if_any I P l (amounts I P l) (dearest_first (amounts I P l))
 
 -- Rules come before costs.
 abbrev pub line_lists : Draft → Timetable → List ℕ

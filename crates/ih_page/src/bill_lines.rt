@@ -5,9 +5,8 @@ ghost use Rattle.ih_page.specs.BillLines.{IsLine, number_in, short_name, full_na
 ghost use Rattle.ih_page.specs.BillLines.{rule_many, cost_many, one_text, many_text, amount_text};
 
 use crate::summaries::{cost_name, put_line, rule_name};
-use crate::texts::{put, put_number};
+use crate::texts::{Put, put, put_number};
 use ih_tables::Bill;
-use std::alloc::AllocError;
 
 /// One of the nine rules or of the eight costs, by its place.
 #[derive(Clone, Copy)]
@@ -39,7 +38,7 @@ pub fn magnitude(bill: &Bill, line: Line) -> u64
 }
 
 /// Appends V1 to V9, or S1 to S8.
-pub fn put_short_name(out: &mut Vec<u8>, line: Line) -> Result<(), AllocError>
+pub fn put_short_name(out: &mut Vec<u8>, line: Line) -> Put
     requires { IsLine line }
     ensures { OnOk result (out.new.items ≡ out.old.items ++ short_name line) }
 {
@@ -60,7 +59,7 @@ pub fn full_name(line: Line) -> &'static str
 }
 
 /// Appends how the line's list begins: broken rules lie open, costs are folded.
-pub fn put_fold(out: &mut Vec<u8>, line: Line) -> Result<(), AllocError>
+pub fn put_fold(out: &mut Vec<u8>, line: Line) -> Put
     ensures { OnOk result (out.new.items ≡ out.old.items ++ fold_text line) }
 {
     match line {
@@ -152,7 +151,7 @@ fn many_text(line: Line) -> &'static str
 
 /// Appends a cell's amount in plain words.
 #[tactic(auto, unfolding(crate::specs::BillLines::amount_text))]
-pub fn put_amount(out: &mut Vec<u8>, line: Line, early: bool, x: u64) -> Result<(), AllocError>
+pub fn put_amount(out: &mut Vec<u8>, line: Line, early: bool, x: u64) -> Put
     ensures { OnOk result (out.new.items ≡ out.old.items ++ amount_text line early x) }
 {
     if x == 1 {

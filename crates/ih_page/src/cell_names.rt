@@ -4,39 +4,29 @@ ghost use Rattle.std.specs.Prelude.{◌≡◌, ◌<◌, ◌++◌, OnOk};
 ghost use Rattle.ih_tables.specs.Sizes.{person_count, room_count, surgeon_count, shift_count};
 ghost use Rattle.ih_plan.specs.Cells.{IsCellOf};
 ghost use Rattle.ih_page.specs.Surgery.{surgeon_text};
-ghost use Rattle.ih_page.specs.CellNames.{person_place, cell_place, person_text, room_called, day_text, shift_text};
-ghost use Rattle.ih_page.specs.CellNames.{cell_text};
+ghost use Rattle.ih_page.specs.CellNames.{cell_place, person_text, room_called, shift_text, cell_text};
 
 use crate::names::{put_nurse, put_place, put_shift_type, put_theatre};
-use crate::texts::{put, put_escaped, put_number};
+use crate::texts::{Put, put, put_escaped, put_labelled};
 use ih_tables::{Cell, Instance, PatientNo, RoomNo, SurgeonNo};
-use std::alloc::AllocError;
-
-#[tactic(auto, unfolding(crate::specs::CellNames::person_place))]
-fn put_person_place(out: &mut Vec<u8>, x: u32) -> Result<(), AllocError>
-    ensures { OnOk result (out.new.items ≡ out.old.items ++ person_place x) }
-{
-    put(out, "p")?;
-    put_number(out, x as u64)
-}
 
 /// Appends the place of a cell in the page.
-pub fn put_cell_place(out: &mut Vec<u8>, c: Cell) -> Result<(), AllocError>
+pub fn put_cell_place(out: &mut Vec<u8>, c: Cell) -> Put
     ensures { OnOk result (out.new.items ≡ out.old.items ++ cell_place c) }
 {
     match c {
-        Cell::Stay(p) => put_person_place(out, p.0),
+        Cell::Stay(p) => put_labelled(out, "p", p.0),
         Cell::RoomDay(r, d) => put_place(out, "d", r.0, d.0),
         Cell::TheatreDay(t, d) => put_place(out, "t", t.0, d.0),
         Cell::SurgeonDay(s, d) => put_place(out, "g", s.0, d.0),
         Cell::RoomShift(r, k) => put_place(out, "s", r.0, k.0),
         Cell::NurseShift(n, k) => put_place(out, "n", n.0, k.0),
-        Cell::Care(x) => put_person_place(out, x.0),
+        Cell::Care(x) => put_labelled(out, "p", x.0),
     }
 }
 
 #[tactic(auto, unfolding(crate::specs::CellNames::person_text))]
-fn put_person(out: &mut Vec<u8>, inst: &Instance, x: u32) -> Result<(), AllocError>
+fn put_person(out: &mut Vec<u8>, inst: &Instance, x: u32) -> Put
     requires { x < person_count inst.now.draft }
     ensures { OnOk result (out.new.items ≡ out.old.items ++ person_text inst.now.draft x) }
 {
@@ -51,7 +41,7 @@ fn put_person(out: &mut Vec<u8>, inst: &Instance, x: u32) -> Result<(), AllocErr
 }
 
 #[tactic(auto, unfolding(crate::specs::CellNames::room_called))]
-fn put_room(out: &mut Vec<u8>, inst: &Instance, r: RoomNo) -> Result<(), AllocError>
+fn put_room(out: &mut Vec<u8>, inst: &Instance, r: RoomNo) -> Put
     requires { r.0 < room_count inst.now.draft }
     ensures { OnOk result (out.new.items ≡ out.old.items ++ room_called inst.now.draft r.0) }
 {
@@ -59,32 +49,24 @@ fn put_room(out: &mut Vec<u8>, inst: &Instance, r: RoomNo) -> Result<(), AllocEr
     put_escaped(out, inst.room(r).id.as_str())
 }
 
-fn put_surgeon(out: &mut Vec<u8>, inst: &Instance, s: SurgeonNo) -> Result<(), AllocError>
+fn put_surgeon(out: &mut Vec<u8>, inst: &Instance, s: SurgeonNo) -> Put
     requires { s.0 < surgeon_count inst.now.draft }
     ensures { OnOk result (out.new.items ≡ out.old.items ++ surgeon_text inst.now.draft s.0) }
 {
     put_escaped(out, inst.surgeon(s).id.as_str())
 }
 
-#[tactic(auto, unfolding(crate::specs::CellNames::day_text))]
-fn put_day(out: &mut Vec<u8>, d: u32) -> Result<(), AllocError>
-    ensures { OnOk result (out.new.items ≡ out.old.items ++ day_text d) }
-{
-    put(out, ", day ")?;
-    put_number(out, d as u64)
-}
-
 #[tactic(auto, unfolding(crate::specs::CellNames::shift_text))]
-fn put_shift(out: &mut Vec<u8>, inst: &Instance, k: u32) -> Result<(), AllocError>
+fn put_shift(out: &mut Vec<u8>, inst: &Instance, k: u32) -> Put
     ensures { OnOk result (out.new.items ≡ out.old.items ++ shift_text inst.now.draft k) }
 {
-    put_day(out, k / 3)?;
+    put_labelled(out, ", day ", k / 3)?;
     put(out, ", ")?;
     put_shift_type(out, inst, k % 3)
 }
 
 /// Appends the name of a cell.
-pub fn put_cell(out: &mut Vec<u8>, inst: &Instance, c: Cell) -> Result<(), AllocError>
+pub fn put_cell(out: &mut Vec<u8>, inst: &Instance, c: Cell) -> Put
     requires { IsCellOf inst.now.draft c }
     ensures { OnOk result (out.new.items ≡ out.old.items ++ cell_text inst.now.draft c) }
 {
@@ -92,17 +74,17 @@ pub fn put_cell(out: &mut Vec<u8>, inst: &Instance, c: Cell) -> Result<(), Alloc
         Cell::Stay(p) => put_person(out, inst, p.0),
         Cell::RoomDay(r, d) => {
             put_room(out, inst, r)?;
-            put_day(out, d.0)
+            put_labelled(out, ", day ", d.0)
         }
         Cell::TheatreDay(t, d) => {
             put(out, "theatre ")?;
             put_theatre(out, inst, t)?;
-            put_day(out, d.0)
+            put_labelled(out, ", day ", d.0)
         }
         Cell::SurgeonDay(s, d) => {
             put(out, "surgeon ")?;
             put_surgeon(out, inst, s)?;
-            put_day(out, d.0)
+            put_labelled(out, ", day ", d.0)
         }
         Cell::RoomShift(r, k) => {
             put_room(out, inst, r)?;

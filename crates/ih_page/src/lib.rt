@@ -13,6 +13,7 @@ mod order;
 mod pages;
 mod presence;
 mod rooms;
+mod shown;
 mod summaries;
 mod surgery;
 mod texts;

@@ -3,14 +3,10 @@
 ghost use Rattle.std.specs.Prelude.{◌≡◌, ◌<◌, ◌++◌, ℕ, List, OnOk};
 ghost use Rattle.ih_validate.specs.Report.{lines_below};
 
-use std::alloc::AllocError;
+use crate::texts::Put;
 
 /// Appends what is put for each number below a count.
-pub fn put_below<F: Fn(&mut Vec<u8>, u32) -> Result<(), AllocError>>(
-    out: &mut Vec<u8>,
-    count: u32,
-    each: F,
-) -> Result<(), AllocError>
+pub fn put_below<F: Fn(&mut Vec<u8>, u32) -> Put>(out: &mut Vec<u8>, count: u32, each: F) -> Put
     requires { (o : _) (i : ℕ) → i < count → F.pre each o i }
     ensures { (f : ℕ → List ℕ) → ((o : _) (i : ℕ) (r : _) (o' : _) → i < count → F.post each o i r o'
         → OnOk r (o'.now.items ≡ o.now.items ++ f i))

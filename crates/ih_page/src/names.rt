@@ -2,14 +2,13 @@
 
 ghost use Rattle.std.specs.Prelude.{◌≡◌, ◌<◌, ◌++◌, OnOk, option_map, IfSome};
 ghost use Rattle.ih_tables.specs.{declared.ids.NurseNo.NurseNo, Sizes.nurse_count, Sizes.theatre_count};
-ghost use Rattle.ih_page.specs.Rooms.{age_text, theatre_text, shift_type_text, nurse_text, marked, place_text};
+ghost use Rattle.ih_page.specs.Rooms.{age_text, theatre_text, shift_type_text, nurse_text, marked, place_text, cell_at};
 
-use crate::texts::{put, put_escaped, put_number};
+use crate::texts::{Put, put, put_escaped, put_number};
 use ih_tables::{Instance, NurseNo, TheatreNo};
-use std::alloc::AllocError;
 
 /// Appends the name of an age group.
-pub fn put_age(out: &mut Vec<u8>, inst: &Instance, g: u32) -> Result<(), AllocError>
+pub fn put_age(out: &mut Vec<u8>, inst: &Instance, g: u32) -> Put
     ensures { OnOk result (out.new.items ≡ out.old.items ++ age_text inst.now.draft g) }
 {
     match inst.draft.age_groups.as_slice().get(g as usize) {
@@ -20,7 +19,7 @@ pub fn put_age(out: &mut Vec<u8>, inst: &Instance, g: u32) -> Result<(), AllocEr
 
 /// Appends the name of a shift type.
 #[tactic(auto, unfolding(crate::specs::Rooms::shift_type_text))]
-pub fn put_shift_type(out: &mut Vec<u8>, inst: &Instance, j: u32) -> Result<(), AllocError>
+pub fn put_shift_type(out: &mut Vec<u8>, inst: &Instance, j: u32) -> Put
     requires { j < 3 }
     ensures { OnOk result (out.new.items ≡ out.old.items ++ shift_type_text inst.now.draft j) }
 {
@@ -28,7 +27,7 @@ pub fn put_shift_type(out: &mut Vec<u8>, inst: &Instance, j: u32) -> Result<(), 
 }
 
 /// Appends the name of a theatre.
-pub fn put_theatre(out: &mut Vec<u8>, inst: &Instance, t: TheatreNo) -> Result<(), AllocError>
+pub fn put_theatre(out: &mut Vec<u8>, inst: &Instance, t: TheatreNo) -> Put
     requires { t.0 < theatre_count inst.now.draft }
     ensures { OnOk result (out.new.items ≡ out.old.items ++ theatre_text inst.now.draft t.0) }
 {
@@ -36,7 +35,7 @@ pub fn put_theatre(out: &mut Vec<u8>, inst: &Instance, t: TheatreNo) -> Result<(
 }
 
 /// Appends the name of a nurse, where there is one.
-pub fn put_nurse(out: &mut Vec<u8>, inst: &Instance, n: Option<NurseNo>) -> Result<(), AllocError>
+pub fn put_nurse(out: &mut Vec<u8>, inst: &Instance, n: Option<NurseNo>) -> Put
     requires { IfSome n (λ a. a.0 < nurse_count inst.now.draft) }
     ensures { OnOk result
         (out.new.items ≡ out.old.items ++ nurse_text inst.now.draft (option_map (λ (a : NurseNo). a.0) n)) }
@@ -49,7 +48,7 @@ pub fn put_nurse(out: &mut Vec<u8>, inst: &Instance, n: Option<NurseNo>) -> Resu
 
 /// Appends the place of a cell.
 #[tactic(auto, unfolding(crate::specs::Rooms::place_text))]
-pub fn put_place(out: &mut Vec<u8>, letter: &str, i: u32, j: u32) -> Result<(), AllocError>
+pub fn put_place(out: &mut Vec<u8>, letter: &str, i: u32, j: u32) -> Put
     ensures { OnOk result (out.new.items ≡ out.old.items ++ place_text letter.now i j) }
 {
     put(out, letter)?;
@@ -58,9 +57,18 @@ pub fn put_place(out: &mut Vec<u8>, letter: &str, i: u32, j: u32) -> Result<(), 
     put_number(out, j as u64)
 }
 
+/// Appends the begin of a cell that has a place.
+#[tactic(auto, unfolding(crate::specs::Rooms::cell_at))]
+pub fn put_cell_at(out: &mut Vec<u8>, letter: &str, i: u32, j: u32) -> Put
+    ensures { OnOk result (out.new.items ≡ out.old.items ++ cell_at letter.now i j) }
+{
+    put(out, "<td id=")?;
+    put_place(out, letter, i, j)
+}
+
 /// Appends a number, with a mark where it is above its limit.
 #[tactic(auto, unfolding(crate::specs::Rooms::marked))]
-pub fn put_marked(out: &mut Vec<u8>, limit: u64, n: u64) -> Result<(), AllocError>
+pub fn put_marked(out: &mut Vec<u8>, limit: u64, n: u64) -> Put
     ensures { OnOk result (out.new.items ≡ out.old.items ++ marked limit n) }
 {
     if limit < n {

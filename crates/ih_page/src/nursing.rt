@@ -2,18 +2,17 @@
 
 ghost use Rattle.std.specs.Prelude.{◌≡◌, ◌<◌, ◌++◌, OnOk};
 ghost use Rattle.ih_tables.specs.Sizes.{nurse_count, shift_count};
-ghost use Rattle.ih_plan.specs.Timetable.{IsPlanOf};
-ghost use Rattle.ih_page.specs.Nursing.{load_text, load_cell, nurse_head, nurse_row, nurses_text, wide_day};
+ghost use Rattle.ih_page.specs.Nursing.{load_text, load_cell, nurse_head, nurse_row, nurses_text};
 
 use crate::loads::load_of;
 use crate::loops::put_below;
-use crate::names::{put_marked, put_place};
-use crate::texts::{put, put_escaped, put_number};
-use ih_plan::Plan;
-use ih_tables::{Instance, Nurse, NurseNo, Shift};
-use std::alloc::AllocError;
+use crate::names::{put_cell_at, put_marked};
+use crate::rooms::put_heads_and_days;
+use crate::shown::Shown;
+use crate::texts::{Put, put, put_escaped, put_number};
+use ih_tables::{Nurse, NurseNo, Shift};
 
-fn put_load(out: &mut Vec<u8>, most: Option<u32>, load: u64) -> Result<(), AllocError>
+fn put_load(out: &mut Vec<u8>, most: Option<u32>, load: u64) -> Put
     ensures { OnOk result (out.new.items ≡ out.old.items ++ load_text most load) }
 {
     match most {
@@ -34,29 +33,21 @@ fn put_load(out: &mut Vec<u8>, most: Option<u32>, load: u64) -> Result<(), Alloc
     }
 }
 
-fn put_cell(
-    out: &mut Vec<u8>,
-    inst: &Instance,
-    plan: &Plan,
-    n: u32,
-    k: u32,
-) -> Result<(), AllocError>
-    requires plan { IsPlanOf inst.now.draft plan.now }
-    requires nurse { n < nurse_count inst.now.draft }
-    requires shift { k < shift_count inst.now.draft }
-    ensures { OnOk result (out.new.items ≡ out.old.items ++ load_cell inst.now.draft plan.now n k) }
+fn put_cell(out: &mut Vec<u8>, shown: Shown<'_>, n: u32, k: u32) -> Put
+    requires nurse { n < nurse_count shown.inst.now.draft }
+    requires shift { k < shift_count shown.inst.now.draft }
+    ensures { OnOk result (out.new.items ≡ out.old.items ++ load_cell shown.inst.now.draft shown.plan.now n k) }
 {
-    put(out, "<td id=")?;
-    put_place(out, "n", n, k)?;
+    put_cell_at(out, "n", n, k)?;
     put_load(
         out,
-        inst.works(NurseNo(n), Shift(k)),
-        load_of(inst, plan, NurseNo(n), k),
+        shown.inst.works(NurseNo(n), Shift(k)),
+        load_of(shown.inst, shown.plan, NurseNo(n), k),
     )
 }
 
 #[tactic(auto, unfolding(crate::specs::Nursing::nurse_head))]
-fn put_head(out: &mut Vec<u8>, a: &Nurse) -> Result<(), AllocError>
+fn put_head(out: &mut Vec<u8>, a: &Nurse) -> Put
     ensures { OnOk result (out.new.items ≡ out.old.items ++ nurse_head a.now) }
 {
     put(out, "<tr><th>")?;
@@ -66,35 +57,30 @@ fn put_head(out: &mut Vec<u8>, a: &Nurse) -> Result<(), AllocError>
 }
 
 #[tactic(auto, unfolding(crate::specs::Nursing::nurse_row))]
-fn put_row(out: &mut Vec<u8>, inst: &Instance, plan: &Plan, n: u32) -> Result<(), AllocError>
-    requires plan { IsPlanOf inst.now.draft plan.now }
-    requires nurse { n < nurse_count inst.now.draft }
-    ensures { OnOk result (out.new.items ≡ out.old.items ++ nurse_row inst.now.draft plan.now n) }
+fn put_row(out: &mut Vec<u8>, shown: Shown<'_>, n: u32) -> Put
+    requires nurse { n < nurse_count shown.inst.now.draft }
+    ensures { OnOk result (out.new.items ≡ out.old.items ++ nurse_row shown.inst.now.draft shown.plan.now n) }
 {
-    put_head(out, inst.nurse(NurseNo(n)))?;
-    put_below(out, inst.shifts(), |out, k| put_cell(out, inst, plan, n, k))?;
+    put_head(out, shown.inst.nurse(NurseNo(n)))?;
+    put_below(
+        out,
+        shown.inst.shifts(),
+        |out, k| put_cell(out, shown, n, k),
+    )?;
     put(out, "\n")
-}
-
-fn put_day(out: &mut Vec<u8>, d: u32) -> Result<(), AllocError>
-    ensures { OnOk result (out.new.items ≡ out.old.items ++ wide_day d) }
-{
-    put(out, "<th colspan=3>")?;
-    put_number(out, d as u64)
 }
 
 /// Appends the table of the nurses.
 #[tactic(auto, unfolding(crate::specs::Nursing::nurses_text))]
-pub fn put_nurses(out: &mut Vec<u8>, inst: &Instance, plan: &Plan) -> Result<(), AllocError>
-    requires { IsPlanOf inst.now.draft plan.now }
-    ensures { OnOk result (out.new.items ≡ out.old.items ++ nurses_text inst.now.draft plan.now) }
+pub fn put_nurses(out: &mut Vec<u8>, shown: Shown<'_>) -> Put
+    ensures { OnOk result (out.new.items ≡ out.old.items ++ nurses_text shown.inst.now.draft shown.plan.now) }
 {
-    put(
+    put_heads_and_days(
         out,
+        shown.inst,
         "<h2>Nurses by shifts: workload of the maximum</h2>\n<div><table><tr><th>nurse<th>skill",
+        "<th colspan=3>",
     )?;
-    put_below(out, inst.days(), |out, d| put_day(out, d))?;
-    put(out, "\n")?;
-    put_below(out, inst.nurses(), |out, n| put_row(out, inst, plan, n))?;
+    put_below(out, shown.inst.nurses(), |out, n| put_row(out, shown, n))?;
     put(out, "</table></div>\n")
 }

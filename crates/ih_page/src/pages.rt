@@ -7,17 +7,19 @@ ghost use Rattle.ih_page.specs.Page.{opening, tables, page_of};
 use crate::left_out::put_left_out;
 use crate::nursing::put_nurses;
 use crate::rooms::put_rooms;
+use crate::shown::Shown;
 use crate::summaries::put_summary;
-use crate::surgery::{put_surgeons, put_theatres};
-use crate::texts::put;
+use crate::surgery::put_surgery_of;
+use crate::texts::{Put, put};
 use crate::wrong::put_wrong;
+use ih_costs::Ledgers;
 use ih_plan::Plan;
 use ih_tables::Instance;
-use ih_validate::bill;
+use ih_validate::{Kind, bill};
 use std::alloc::{AllocError, Global};
 
 #[tactic(auto, unfolding(crate::specs::Page::opening))]
-fn put_opening(out: &mut Vec<u8>) -> Result<(), AllocError>
+fn put_opening(out: &mut Vec<u8>) -> Put
     ensures { OnOk result (out.new.items ≡ out.old.items ++ opening) }
 {
     put(
@@ -49,15 +51,14 @@ summary{font-weight:bold}\n\
 }
 
 #[tactic(auto, unfolding(crate::specs::Page::tables))]
-fn put_tables(out: &mut Vec<u8>, inst: &Instance, plan: &Plan) -> Result<(), AllocError>
-    requires { IsPlanOf inst.now.draft plan.now }
-    ensures { OnOk result (out.new.items ≡ out.old.items ++ tables inst.now.draft plan.now) }
+fn put_tables(out: &mut Vec<u8>, shown: Shown<'_>) -> Put
+    ensures { OnOk result (out.new.items ≡ out.old.items ++ tables shown.inst.now.draft shown.plan.now) }
 {
-    put_left_out(out, inst, plan)?;
-    put_rooms(out, inst, plan)?;
-    put_theatres(out, inst, plan)?;
-    put_surgeons(out, inst, plan)?;
-    put_nurses(out, inst, plan)
+    put_left_out(out, shown)?;
+    put_rooms(out, shown)?;
+    put_surgery_of(out, shown, Kind::Theatres)?;
+    put_surgery_of(out, shown, Kind::Surgeons)?;
+    put_nurses(out, shown)
 }
 
 /// The page of a timetable of the instance: one text of HTML that stands alone.
@@ -66,12 +67,19 @@ pub fn page(alloc: Global, inst: &Instance, plan: &Plan) -> Result<Vec<u8>, Allo
     requires { IsPlanOf inst.now.draft plan.now }
     ensures { IfOk result (λ text. text.items ≡ page_of inst.now.draft plan.now) }
 {
+    let bill = bill(inst, plan);
+    let ledgers = Ledgers::new(alloc, inst, plan)?;
+    let shown = Shown {
+        inst,
+        plan,
+        bill: &bill,
+        ledgers: &ledgers,
+    };
     let mut out = Vec::new(alloc);
     put_opening(&mut out)?;
-    let bill = bill(inst, plan);
-    put_summary(&mut out, inst, &bill)?;
-    put_wrong(alloc, &mut out, inst, plan, &bill)?;
-    put_tables(&mut out, inst, plan)?;
+    put_summary(&mut out, shown)?;
+    put_wrong(alloc, &mut out, shown)?;
+    put_tables(&mut out, shown)?;
     put(&mut out, "</main>\n")?;
     Ok(out)
 }

@@ -2,17 +2,12 @@
 
 ghost use Rattle.std.specs.Prelude.{◌≡◌, ◌<◌};
 ghost use Rattle.ih_tables.specs.Sizes.{person_count};
-ghost use Rattle.ih_plan.specs.{Timetable.IsPlanOf, Presence.is_present, Sums.bit};
+ghost use Rattle.ih_plan.specs.{Timetable.IsPlanOf, Presence.is_present};
 ghost use Rattle.ih_page.specs.Rooms.{head_count};
 
 use ih_plan::{Plan, is_present};
 use ih_tables::{Instance, RoomNo};
-
-fn bit(b: bool) -> u64
-    ensures { result ≡ bit b }
-{
-    if b { 1 } else { 0 }
-}
+use ih_validate::bit;
 
 /// How many persons are in the room on the day.
 #[tactic(auto, using(ih_plan::proofs::SumLemmas::sum_steps))]

@@ -3,48 +3,45 @@
 ghost use Rattle.std.specs.Prelude.{◌≡◌, ◌<◌, ◌+◌, ◌*◌, ◌++◌, [], OnOk, slice_get};
 ghost use Rattle.std.specs.Option.{option_map_or};
 ghost use Rattle.ih_tables.specs.Sizes.{patient_count, occupant_count, room_count, shift_count};
-ghost use Rattle.ih_plan.specs.Timetable.{IsPlanOf, IsPlacement, stay_of};
+ghost use Rattle.ih_plan.specs.Timetable.{IsPlacement, stay_of};
 ghost use Rattle.ih_page.specs.Rooms.{wide_cell, gap_text, bar_cell, bar_text, person_cells, patient_row, occupant_row};
-ghost use Rattle.ih_page.specs.Rooms.{patient_in, occupant_in, count_cell, nurse_cell, shift_row, day_head};
+ghost use Rattle.ih_page.specs.Rooms.{patient_in, occupant_in, count_cell, nurse_cell, shift_row};
 ghost use Rattle.ih_page.specs.Rooms.{heads_and_days, room_title, room_head, count_row, person_rows, room_text};
 ghost use Rattle.ih_page.specs.Rooms.{rooms_text};
 
 use crate::loops::put_below;
-use crate::names::{put_age, put_marked, put_nurse, put_place, put_shift_type, put_theatre};
+use crate::names::{put_age, put_cell_at, put_marked, put_nurse, put_shift_type, put_theatre};
 use crate::presence::head_count;
-use crate::texts::{put, put_escaped, put_number, put_numbered};
-use ih_plan::{Placement, Plan};
+use crate::shown::Shown;
+use crate::texts::{Put, put, put_escaped, put_labelled, put_numbered};
+use ih_plan::Placement;
 use ih_tables::{Instance, Occupant, Patient, PatientNo, Room, RoomNo, Shift};
-use std::alloc::AllocError;
 
 #[tactic(auto, unfolding(crate::specs::Rooms::wide_cell))]
-fn put_wide(out: &mut Vec<u8>, n: u32) -> Result<(), AllocError>
+fn put_wide(out: &mut Vec<u8>, n: u32) -> Put
     ensures { OnOk result (out.new.items ≡ out.old.items ++ wide_cell n) }
 {
-    put(out, "<td colspan=")?;
-    put_number(out, n as u64)?;
+    put_labelled(out, "<td colspan=", n)?;
     put(out, ">")
 }
 
-fn put_gap(out: &mut Vec<u8>, d: u32) -> Result<(), AllocError>
+fn put_gap(out: &mut Vec<u8>, d: u32) -> Put
     ensures { OnOk result (out.new.items ≡ out.old.items ++ gap_text d) }
 {
     if d == 0 { Ok(()) } else { put_wide(out, d) }
 }
 
 #[tactic(auto, unfolding(crate::specs::Rooms::bar_cell))]
-fn put_bar_cell(out: &mut Vec<u8>, m: u32, n: u32) -> Result<(), AllocError>
+fn put_bar_cell(out: &mut Vec<u8>, m: u32, n: u32) -> Put
     ensures { OnOk result (out.new.items ≡ out.old.items ++ bar_cell m n) }
 {
-    put(out, "<td class=b colspan=")?;
-    put_number(out, m as u64)?;
-    put(out, ">")?;
-    put_number(out, n as u64)?;
+    put_labelled(out, "<td class=b colspan=", m)?;
+    put_labelled(out, ">", n)?;
     put(out, "\n")
 }
 
 #[tactic(auto, unfolding(crate::specs::Rooms::bar_text))]
-fn put_bar(out: &mut Vec<u8>, days: u32, d: u32, n: u32) -> Result<(), AllocError>
+fn put_bar(out: &mut Vec<u8>, days: u32, d: u32, n: u32) -> Put
     ensures { OnOk result (out.new.items ≡ out.old.items ++ bar_text days d n) }
 {
     put_gap(out, d)?;
@@ -52,7 +49,7 @@ fn put_bar(out: &mut Vec<u8>, days: u32, d: u32, n: u32) -> Result<(), AllocErro
 }
 
 #[tactic(auto, unfolding(crate::specs::Rooms::person_cells))]
-fn put_person(out: &mut Vec<u8>, inst: &Instance, gender: &str, age: u32) -> Result<(), AllocError>
+fn put_person(out: &mut Vec<u8>, inst: &Instance, gender: &str, age: u32) -> Put
     ensures { OnOk result (out.new.items ≡ out.old.items ++ person_cells inst.now.draft gender.now age) }
 {
     put(out, "<td>")?;
@@ -61,13 +58,7 @@ fn put_person(out: &mut Vec<u8>, inst: &Instance, gender: &str, age: u32) -> Res
     put_age(out, inst, age)
 }
 
-fn put_patient(
-    out: &mut Vec<u8>,
-    inst: &Instance,
-    p: u32,
-    at: Placement,
-    a: &Patient,
-) -> Result<(), AllocError>
+fn put_patient(out: &mut Vec<u8>, inst: &Instance, p: u32, at: Placement, a: &Patient) -> Put
     requires { IsPlacement inst.now.draft at }
     ensures { OnOk result (out.new.items ≡ out.old.items ++ patient_row inst.now.draft p at a.now) }
 {
@@ -78,7 +69,7 @@ fn put_patient(
     put_bar(out, inst.days(), at.day.0, a.length_of_stay)
 }
 
-fn put_occupant(out: &mut Vec<u8>, inst: &Instance, x: u32, a: &Occupant) -> Result<(), AllocError>
+fn put_occupant(out: &mut Vec<u8>, inst: &Instance, x: u32, a: &Occupant) -> Put
     ensures { OnOk result (out.new.items ≡ out.old.items ++ occupant_row inst.now.draft x a.now) }
 {
     put_numbered(out, "<tr class=o id=p", x, "><th>", a.id.as_str())?;
@@ -87,22 +78,15 @@ fn put_occupant(out: &mut Vec<u8>, inst: &Instance, x: u32, a: &Occupant) -> Res
     put_bar(out, inst.days(), 0, a.length_of_stay)
 }
 
-fn put_patient_in(
-    out: &mut Vec<u8>,
-    inst: &Instance,
-    plan: &Plan,
-    r: u32,
-    p: u32,
-) -> Result<(), AllocError>
-    requires plan { IsPlanOf inst.now.draft plan.now }
-    requires patient { p < patient_count inst.now.draft }
-    ensures { OnOk result (out.new.items ≡ out.old.items ++ patient_in inst.now.draft r p (stay_of plan.now p)) }
+fn put_patient_in(out: &mut Vec<u8>, shown: Shown<'_>, r: u32, p: u32) -> Put
+    requires patient { p < patient_count shown.inst.now.draft }
+    ensures { OnOk result (out.new.items ≡ out.old.items ++ patient_in shown.inst.now.draft r p (stay_of shown.plan.now p)) }
 {
-    match plan.stay(PatientNo(p)) {
+    match shown.plan.stay(PatientNo(p)) {
         None => Ok(()),
         Some(at) => {
             if at.room.0 == r {
-                put_patient(out, inst, p, at, inst.patient(PatientNo(p)))
+                put_patient(out, shown.inst, p, at, shown.inst.patient(PatientNo(p)))
             } else {
                 Ok(())
             }
@@ -110,7 +94,7 @@ fn put_patient_in(
     }
 }
 
-fn put_occupant_in(out: &mut Vec<u8>, inst: &Instance, r: u32, o: u32) -> Result<(), AllocError>
+fn put_occupant_in(out: &mut Vec<u8>, inst: &Instance, r: u32, o: u32) -> Put
     requires { o < occupant_count inst.now.draft }
     ensures { OnOk result (out.new.items ≡ out.old.items ++ occupant_in inst.now.draft r o) }
 {
@@ -122,96 +106,65 @@ fn put_occupant_in(out: &mut Vec<u8>, inst: &Instance, r: u32, o: u32) -> Result
     }
 }
 
-fn put_count(
-    out: &mut Vec<u8>,
-    inst: &Instance,
-    plan: &Plan,
-    r: u32,
-    d: u32,
-) -> Result<(), AllocError>
-    requires plan { IsPlanOf inst.now.draft plan.now }
-    requires room { r < room_count inst.now.draft }
-    ensures { OnOk result (out.new.items ≡ out.old.items ++ count_cell inst.now.draft plan.now r d) }
+fn put_count(out: &mut Vec<u8>, shown: Shown<'_>, r: u32, d: u32) -> Put
+    requires room { r < room_count shown.inst.now.draft }
+    ensures { OnOk result (out.new.items ≡ out.old.items ++ count_cell shown.inst.now.draft shown.plan.now r d) }
 {
-    put(out, "<td id=")?;
-    put_place(out, "d", r, d)?;
+    put_cell_at(out, "d", r, d)?;
     put_marked(
         out,
-        inst.room(RoomNo(r)).capacity as u64,
-        head_count(inst, plan, RoomNo(r), d),
+        shown.inst.room(RoomNo(r)).capacity as u64,
+        head_count(shown.inst, shown.plan, RoomNo(r), d),
     )
 }
 
-fn put_care(
-    out: &mut Vec<u8>,
-    inst: &Instance,
-    plan: &Plan,
-    r: u32,
-    k: u32,
-) -> Result<(), AllocError>
-    requires plan { IsPlanOf inst.now.draft plan.now }
-    requires room { r < room_count inst.now.draft }
-    requires shift { k < shift_count inst.now.draft }
-    ensures { OnOk result (out.new.items ≡ out.old.items ++ nurse_cell inst.now.draft plan.now r k) }
+fn put_care(out: &mut Vec<u8>, shown: Shown<'_>, r: u32, k: u32) -> Put
+    requires room { r < room_count shown.inst.now.draft }
+    requires shift { k < shift_count shown.inst.now.draft }
+    ensures { OnOk result (out.new.items ≡ out.old.items ++ nurse_cell shown.inst.now.draft shown.plan.now r k) }
 {
-    put(out, "<td id=")?;
-    put_place(out, "s", r, k)?;
+    put_cell_at(out, "s", r, k)?;
     put(out, ">")?;
-    put_nurse(out, inst, plan.care(RoomNo(r), Shift(k)))
+    put_nurse(out, shown.plan.care(RoomNo(r), Shift(k)))
 }
 
-fn put_shift(
-    out: &mut Vec<u8>,
-    inst: &Instance,
-    plan: &Plan,
-    r: u32,
-    j: u32,
-) -> Result<(), AllocError>
-    requires plan { IsPlanOf inst.now.draft plan.now }
-    requires room { r < room_count inst.now.draft }
+fn put_shift(out: &mut Vec<u8>, shown: Shown<'_>, r: u32, j: u32) -> Put
+    requires room { r < room_count shown.inst.now.draft }
     requires shift { j < 3 }
-    ensures { OnOk result (out.new.items ≡ out.old.items ++ shift_row inst.now.draft plan.now r j) }
+    ensures { OnOk result (out.new.items ≡ out.old.items ++ shift_row shown.inst.now.draft shown.plan.now r j) }
 {
     put(out, "<tr><th>")?;
-    put_shift_type(out, inst, j)?;
+    put_shift_type(out, shown.inst, j)?;
     put(out, "<td colspan=3>nurse")?;
     put_below(
         out,
-        inst.days(),
-        |out, d| put_care(out, inst, plan, r, 3 * d + j),
+        shown.inst.days(),
+        |out, d| put_care(out, shown, r, 3 * d + j),
     )?;
     put(out, "\n")
 }
 
-fn put_day(out: &mut Vec<u8>, d: u32) -> Result<(), AllocError>
-    ensures { OnOk result (out.new.items ≡ out.old.items ++ day_head d) }
-{
-    put(out, "<th>")?;
-    put_number(out, d as u64)
-}
-
-/// Appends the heads of a table's columns, of which the last are the days.
+/// Appends the heads of a table's columns, of which the last are the days, each with this tag.
 #[tactic(auto, unfolding(crate::specs::Rooms::heads_and_days))]
-pub fn put_heads_and_days(out: &mut Vec<u8>, inst: &Instance, heads: &str) -> Result<(), AllocError>
-    ensures { OnOk result (out.new.items ≡ out.old.items ++ heads_and_days inst.now.draft heads.now) }
+pub fn put_heads_and_days(out: &mut Vec<u8>, inst: &Instance, heads: &str, tag: &str) -> Put
+    ensures { OnOk result (out.new.items ≡ out.old.items ++ heads_and_days inst.now.draft heads.now tag.now) }
 {
     put(out, heads)?;
-    put_below(out, inst.days(), |out, d| put_day(out, d))?;
+    put_below(out, inst.days(), |out, d| put_labelled(out, tag, d))?;
     put(out, "\n")
 }
 
 #[tactic(auto, unfolding(crate::specs::Rooms::room_title))]
-fn put_title(out: &mut Vec<u8>, r: u32, a: &Room) -> Result<(), AllocError>
+fn put_title(out: &mut Vec<u8>, r: u32, a: &Room) -> Put
     ensures { OnOk result (out.new.items ≡ out.old.items ++ room_title r a.now) }
 {
     put_numbered(out, "<h3 id=r", r, ">", a.id.as_str())?;
-    put(out, ", capacity ")?;
-    put_number(out, a.capacity as u64)?;
+    put_labelled(out, ", capacity ", a.capacity)?;
     put(out, "</h3>\n")
 }
 
 #[tactic(auto, unfolding(crate::specs::Rooms::room_head))]
-fn put_room_head(out: &mut Vec<u8>, inst: &Instance, r: u32, a: &Room) -> Result<(), AllocError>
+fn put_room_head(out: &mut Vec<u8>, inst: &Instance, r: u32, a: &Room) -> Put
     ensures { OnOk result (out.new.items ≡ out.old.items ++ room_head inst.now.draft r a.now) }
 {
     put_title(out, r, a)?;
@@ -219,56 +172,53 @@ fn put_room_head(out: &mut Vec<u8>, inst: &Instance, r: u32, a: &Room) -> Result
         out,
         inst,
         "<div><table><tr><th>person<th>gender<th>age<th>theatre",
+        "<th>",
     )
 }
 
 #[tactic(auto, unfolding(crate::specs::Rooms::count_row))]
-fn put_count_row(out: &mut Vec<u8>, inst: &Instance, plan: &Plan, r: u32) -> Result<(), AllocError>
-    requires plan { IsPlanOf inst.now.draft plan.now }
-    requires room { r < room_count inst.now.draft }
-    ensures { OnOk result (out.new.items ≡ out.old.items ++ count_row inst.now.draft plan.now r) }
+fn put_count_row(out: &mut Vec<u8>, shown: Shown<'_>, r: u32) -> Put
+    requires room { r < room_count shown.inst.now.draft }
+    ensures { OnOk result (out.new.items ≡ out.old.items ++ count_row shown.inst.now.draft shown.plan.now r) }
 {
     put(out, "<tr><th>persons<td colspan=3>count")?;
-    put_below(out, inst.days(), |out, d| put_count(out, inst, plan, r, d))?;
+    put_below(out, shown.inst.days(), |out, d| put_count(out, shown, r, d))?;
     put(out, "\n")
 }
 
 #[tactic(auto, unfolding(crate::specs::Rooms::person_rows))]
-fn put_persons(out: &mut Vec<u8>, inst: &Instance, plan: &Plan, r: u32) -> Result<(), AllocError>
-    requires { IsPlanOf inst.now.draft plan.now }
-    ensures { OnOk result (out.new.items ≡ out.old.items ++ person_rows inst.now.draft plan.now r) }
+fn put_persons(out: &mut Vec<u8>, shown: Shown<'_>, r: u32) -> Put
+    ensures { OnOk result (out.new.items ≡ out.old.items ++ person_rows shown.inst.now.draft shown.plan.now r) }
 {
     put_below(
         out,
-        inst.occupants(),
-        |out, o| put_occupant_in(out, inst, r, o),
+        shown.inst.occupants(),
+        |out, o| put_occupant_in(out, shown.inst, r, o),
     )?;
     put_below(
         out,
-        inst.patients(),
-        |out, p| put_patient_in(out, inst, plan, r, p),
+        shown.inst.patients(),
+        |out, p| put_patient_in(out, shown, r, p),
     )
 }
 
 #[tactic(auto, unfolding(crate::specs::Rooms::room_text))]
-fn put_room(out: &mut Vec<u8>, inst: &Instance, plan: &Plan, r: u32) -> Result<(), AllocError>
-    requires plan { IsPlanOf inst.now.draft plan.now }
-    requires room { r < room_count inst.now.draft }
-    ensures { OnOk result (out.new.items ≡ out.old.items ++ room_text inst.now.draft plan.now r) }
+fn put_room(out: &mut Vec<u8>, shown: Shown<'_>, r: u32) -> Put
+    requires room { r < room_count shown.inst.now.draft }
+    ensures { OnOk result (out.new.items ≡ out.old.items ++ room_text shown.inst.now.draft shown.plan.now r) }
 {
-    put_room_head(out, inst, r, inst.room(RoomNo(r)))?;
-    put_persons(out, inst, plan, r)?;
-    put_count_row(out, inst, plan, r)?;
-    put_below(out, 3, |out, j| put_shift(out, inst, plan, r, j))?;
+    put_room_head(out, shown.inst, r, shown.inst.room(RoomNo(r)))?;
+    put_persons(out, shown, r)?;
+    put_count_row(out, shown, r)?;
+    put_below(out, 3, |out, j| put_shift(out, shown, r, j))?;
     put(out, "</table></div>\n")
 }
 
 /// Appends the tables of the rooms.
 #[tactic(auto, unfolding(crate::specs::Rooms::rooms_text))]
-pub fn put_rooms(out: &mut Vec<u8>, inst: &Instance, plan: &Plan) -> Result<(), AllocError>
-    requires { IsPlanOf inst.now.draft plan.now }
-    ensures { OnOk result (out.new.items ≡ out.old.items ++ rooms_text inst.now.draft plan.now) }
+pub fn put_rooms(out: &mut Vec<u8>, shown: Shown<'_>) -> Put
+    ensures { OnOk result (out.new.items ≡ out.old.items ++ rooms_text shown.inst.now.draft shown.plan.now) }
 {
     put(out, "<h2>Rooms by days</h2>\n")?;
-    put_below(out, inst.rooms(), |out, r| put_room(out, inst, plan, r))
+    put_below(out, shown.inst.rooms(), |out, r| put_room(out, shown, r))
 }

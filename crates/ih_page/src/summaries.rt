@@ -1,15 +1,15 @@
 //! The head of a page.
 
 ghost use Rattle.std.specs.Prelude.{◌≡◌, ◌<◌, ◌≤◌, ◌≤ℤ◌, ◌^◌, ◌++◌, ℕ, pos, neg_ℤ, OnOk, length};
-ghost use Rattle.ih_tables.specs.Bills.{at, AreWithin, IsWithin};
+ghost use Rattle.ih_tables.specs.Bills.{at, AreWithin};
 ghost use Rattle.ih_validate.specs.Report.{lines_below};
 ghost use Rattle.ih_page.specs.Summary.{rule_name, cost_name, line_text, line_link, line_name, line_head, product_text};
 ghost use Rattle.ih_page.specs.Summary.{hard_text, rule_row, cost_row, rule_rows, cost_rows, verdict_text, verdict_of};
 ghost use Rattle.ih_page.specs.Summary.{summary};
 
-use crate::texts::{put, put_number, put_signed};
-use ih_tables::{Bill, Instance};
-use std::alloc::AllocError;
+use crate::shown::Shown;
+use crate::texts::{Put, put, put_number, put_signed};
+use ih_tables::Bill;
 
 /// What a hard rule counts.
 #[tactic(auto, unfolding(crate::specs::Summary::rule_name))]
@@ -48,7 +48,7 @@ pub fn cost_name(i: usize) -> &'static str
 
 /// Appends the name of a line of the report.
 #[tactic(auto, unfolding(crate::specs::Summary::line_text))]
-pub fn put_line(out: &mut Vec<u8>, letter: &str, i: usize) -> Result<(), AllocError>
+pub fn put_line(out: &mut Vec<u8>, letter: &str, i: usize) -> Put
     requires { i < 9 }
     ensures { OnOk result (out.new.items ≡ out.old.items ++ line_text letter.now i) }
 {
@@ -57,7 +57,7 @@ pub fn put_line(out: &mut Vec<u8>, letter: &str, i: usize) -> Result<(), AllocEr
 }
 
 #[tactic(auto, unfolding(crate::specs::Summary::line_link))]
-fn put_line_link(out: &mut Vec<u8>, letter: &str, i: usize) -> Result<(), AllocError>
+fn put_line_link(out: &mut Vec<u8>, letter: &str, i: usize) -> Put
     requires { i < 9 }
     ensures { OnOk result (out.new.items ≡ out.old.items ++ line_link letter.now i) }
 {
@@ -69,7 +69,7 @@ fn put_line_link(out: &mut Vec<u8>, letter: &str, i: usize) -> Result<(), AllocE
 }
 
 // The name leads to the line's list, where there is one.
-fn put_line_name(out: &mut Vec<u8>, letter: &str, i: usize, x: i64) -> Result<(), AllocError>
+fn put_line_name(out: &mut Vec<u8>, letter: &str, i: usize, x: i64) -> Put
     requires { i < 9 }
     ensures { OnOk result (out.new.items ≡ out.old.items ++ line_name letter.now i x) }
 {
@@ -81,7 +81,7 @@ fn put_line_name(out: &mut Vec<u8>, letter: &str, i: usize, x: i64) -> Result<()
 }
 
 #[tactic(auto, unfolding(crate::specs::Summary::line_head))]
-fn put_head(out: &mut Vec<u8>, letter: &str, i: usize, name: &str, x: i64) -> Result<(), AllocError>
+fn put_head(out: &mut Vec<u8>, letter: &str, i: usize, name: &str, x: i64) -> Put
     requires { i < 9 }
     ensures { OnOk result (out.new.items ≡ out.old.items ++ line_head letter.now i name.now x) }
 {
@@ -98,7 +98,7 @@ fn hard_text() -> &'static str
     "<td>hard rule<td>\n"
 }
 
-fn put_rule(out: &mut Vec<u8>, i: usize, x: i64) -> Result<(), AllocError>
+fn put_rule(out: &mut Vec<u8>, i: usize, x: i64) -> Put
     requires { i < 9 }
     ensures { OnOk result (out.new.items ≡ out.old.items ++ rule_row i x) }
 {
@@ -109,7 +109,7 @@ fn put_rule(out: &mut Vec<u8>, i: usize, x: i64) -> Result<(), AllocError>
 }
 
 #[tactic(auto, unfolding(crate::specs::Summary::product_text))]
-fn put_product(out: &mut Vec<u8>, x: i64, w: i64) -> Result<(), AllocError>
+fn put_product(out: &mut Vec<u8>, x: i64, w: i64) -> Put
     requires low { neg_ℤ (pos (10 ^ 11)) ≤ℤ x }
     requires high { x ≤ℤ pos (10 ^ 11) }
     requires weight_low { pos 0 ≤ℤ w }
@@ -122,7 +122,7 @@ fn put_product(out: &mut Vec<u8>, x: i64, w: i64) -> Result<(), AllocError>
     put(out, "\n")
 }
 
-fn put_cost(out: &mut Vec<u8>, i: usize, x: i64, w: i64) -> Result<(), AllocError>
+fn put_cost(out: &mut Vec<u8>, i: usize, x: i64, w: i64) -> Put
     requires place { i < 8 }
     requires low { neg_ℤ (pos (10 ^ 11)) ≤ℤ x }
     requires high { x ≤ℤ pos (10 ^ 11) }
@@ -138,7 +138,7 @@ fn put_cost(out: &mut Vec<u8>, i: usize, x: i64, w: i64) -> Result<(), AllocErro
 }
 
 #[tactic(auto, unfolding(crate::specs::Summary::rule_rows))]
-fn put_rules(out: &mut Vec<u8>, bill: &Bill) -> Result<(), AllocError>
+fn put_rules(out: &mut Vec<u8>, bill: &Bill) -> Put
     ensures { OnOk result (out.new.items ≡ out.old.items ++ rule_rows bill.now) }
 {
     for i in 0..9 {
@@ -148,13 +148,12 @@ fn put_rules(out: &mut Vec<u8>, bill: &Bill) -> Result<(), AllocError>
 }
 
 #[tactic(auto, unfolding(crate::specs::Summary::cost_rows))]
-fn put_costs(out: &mut Vec<u8>, inst: &Instance, bill: &Bill) -> Result<(), AllocError>
-    requires { IsWithin (10 ^ 11) bill.now }
-    ensures { OnOk result (out.new.items ≡ out.old.items ++ cost_rows inst.now.draft.weights bill.now) }
+fn put_costs(out: &mut Vec<u8>, shown: Shown<'_>) -> Put
+    ensures { OnOk result (out.new.items ≡ out.old.items ++ cost_rows shown.inst.now.draft.weights shown.bill.now) }
 {
-    let weights = inst.weights();
+    let weights = shown.inst.weights();
     for i in 0..8 {
-        put_cost(out, i, bill.s[i], weights.w[i])?;
+        put_cost(out, i, shown.bill.s[i], weights.w[i])?;
     }
     Ok(())
 }
@@ -170,28 +169,26 @@ fn verdict_text(feasible: bool) -> &'static str
 }
 
 #[tactic(auto, unfolding(crate::specs::Summary::verdict_of))]
-fn put_verdict(out: &mut Vec<u8>, inst: &Instance, bill: &Bill) -> Result<(), AllocError>
-    requires { IsWithin (10 ^ 11) bill.now }
-    ensures { OnOk result (out.new.items ≡ out.old.items ++ verdict_of inst.now.draft.weights bill.now) }
+fn put_verdict(out: &mut Vec<u8>, shown: Shown<'_>) -> Put
+    ensures { OnOk result (out.new.items ≡ out.old.items ++ verdict_of shown.inst.now.draft.weights shown.bill.now) }
 {
-    put(out, verdict_text(bill.feasible()))?;
+    put(out, verdict_text(shown.bill.feasible()))?;
     put(out, "<p>Cost ")?;
-    put_signed(out, bill.cost(inst.weights()))?;
+    put_signed(out, shown.bill.cost(shown.inst.weights()))?;
     put(out, "</p>\n")
 }
 
 /// Appends whether the timetable is feasible, its cost, and a row for each of the seventeen numbers.
 #[tactic(auto, unfolding(crate::specs::Summary::summary))]
-pub fn put_summary(out: &mut Vec<u8>, inst: &Instance, bill: &Bill) -> Result<(), AllocError>
-    requires { IsWithin (10 ^ 11) bill.now }
-    ensures { OnOk result (out.new.items ≡ out.old.items ++ summary inst.now.draft.weights bill.now) }
+pub fn put_summary(out: &mut Vec<u8>, shown: Shown<'_>) -> Put
+    ensures { OnOk result (out.new.items ≡ out.old.items ++ summary shown.inst.now.draft.weights shown.bill.now) }
 {
-    put_verdict(out, inst, bill)?;
+    put_verdict(out, shown)?;
     put(
         out,
         "<table class=s><tr><th>line<th>what it counts<th>number<th>weight<th>product\n",
     )?;
-    put_rules(out, bill)?;
-    put_costs(out, inst, bill)?;
+    put_rules(out, shown.bill)?;
+    put_costs(out, shown)?;
     put(out, "</table>\n")
 }

@@ -2,33 +2,36 @@
 
 ghost use Rattle.std.specs.Prelude.{◌≡◌, ◌++◌, OnOk, decimal};
 ghost use Rattle.std.specs.Fmt.{signed_decimal};
-ghost use Rattle.ih_page.specs.Html.{escaped, escaped_byte, numbered};
+ghost use Rattle.ih_page.specs.Html.{escaped, escaped_byte, labelled, numbered};
 
 use itoa::Buffer;
 use std::alloc::AllocError;
 
+/// What appending gives: it fails only where memory runs out.
+pub type Put = Result<(), AllocError>;
+
 /// Appends a text of the page's own.
-pub fn put(out: &mut Vec<u8>, text: &str) -> Result<(), AllocError>
+pub fn put(out: &mut Vec<u8>, text: &str) -> Put
     ensures { OnOk result (out.new.items ≡ out.old.items ++ text.now) }
 {
     out.extend_from_slice(text.as_bytes())
 }
 
 /// Appends a number.
-pub fn put_number(out: &mut Vec<u8>, n: u64) -> Result<(), AllocError>
+pub fn put_number(out: &mut Vec<u8>, n: u64) -> Put
     ensures { OnOk result (out.new.items ≡ out.old.items ++ decimal n) }
 {
     put(out, Buffer::new().format(n))
 }
 
 /// Appends a number with its sign.
-pub fn put_signed(out: &mut Vec<u8>, n: i64) -> Result<(), AllocError>
+pub fn put_signed(out: &mut Vec<u8>, n: i64) -> Put
     ensures { OnOk result (out.new.items ≡ out.old.items ++ signed_decimal n) }
 {
     put(out, Buffer::new().format(n))
 }
 
-fn put_byte(out: &mut Vec<u8>, b: u8) -> Result<(), AllocError>
+fn put_byte(out: &mut Vec<u8>, b: u8) -> Put
     ensures { OnOk result (out.new.items ≡ out.old.items ++ escaped_byte b) }
 {
     match b {
@@ -46,7 +49,7 @@ fn put_byte(out: &mut Vec<u8>, b: u8) -> Result<(), AllocError>
 
 /// Appends a text that comes from a file, escaped.
 #[tactic(auto, unfolding(crate::specs::Html::escaped))]
-pub fn put_escaped(out: &mut Vec<u8>, text: &str) -> Result<(), AllocError>
+pub fn put_escaped(out: &mut Vec<u8>, text: &str) -> Put
     ensures { OnOk result (out.new.items ≡ out.old.items ++ escaped text.now) }
 {
     for b in text.as_bytes() {
@@ -55,15 +58,18 @@ pub fn put_escaped(out: &mut Vec<u8>, text: &str) -> Result<(), AllocError>
     Ok(())
 }
 
+/// Appends a text of the page's own, and a number.
+#[tactic(auto, unfolding(crate::specs::Html::labelled))]
+pub fn put_labelled(out: &mut Vec<u8>, text: &str, n: u32) -> Put
+    ensures { OnOk result (out.new.items ≡ out.old.items ++ labelled text.now n) }
+{
+    put(out, text)?;
+    put_number(out, n as u64)
+}
+
 /// Appends a name from a file behind a tag with a number.
 #[tactic(auto, unfolding(crate::specs::Html::numbered))]
-pub fn put_numbered(
-    out: &mut Vec<u8>,
-    tag: &str,
-    n: u32,
-    rest: &str,
-    name: &str,
-) -> Result<(), AllocError>
+pub fn put_numbered(out: &mut Vec<u8>, tag: &str, n: u32, rest: &str, name: &str) -> Put
     ensures { OnOk result (out.new.items ≡ out.old.items ++ numbered tag.now n rest.now name.now) }
 {
     put(out, tag)?;

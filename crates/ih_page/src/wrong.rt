@@ -2,8 +2,8 @@
 
 ghost use Rattle.std.specs.Prelude.{◌≡◌, ◌<◌, ◌^◌, ◌++◌, OnOk, IfOk, All, length};
 ghost use Rattle.ih_tables.specs.Sizes.{patient_count};
-ghost use Rattle.ih_plan.specs.Cells.{IsCellOf, cell_at, cell_count, part_at};
-ghost use Rattle.ih_plan.specs.{Timetable.IsPlanOf, Timetable.stay_of, BillOf.bill_of};
+ghost use Rattle.ih_plan.specs.Cells.{IsCellOf, cell_count, part_at};
+ghost use Rattle.ih_plan.specs.{Timetable.stay_of};
 ghost use Rattle.ih_page.specs.BillLines.{IsLine, count_in};
 ghost use Rattle.ih_page.specs.Wrong.{amounts, before_release, is_early, cell_link, item, items_of, list_name};
 ghost use Rattle.ih_page.specs.Wrong.{list_head, list_of, line_list, line_lists, wrong_text};
@@ -14,63 +14,53 @@ use crate::bill_lines::{
 use crate::cell_names::{put_cell, put_cell_place};
 use crate::loops::put_below;
 use crate::order::dearest_first;
-use crate::texts::{put, put_signed};
-use ih_costs::Ledgers;
+use crate::shown::Shown;
+use crate::texts::{Put, put, put_signed};
 use ih_footprint::Numbering;
-use ih_plan::Plan;
 use ih_tables::{Bill, Cell, Instance, PatientNo};
 use std::alloc::{AllocError, Global};
 
 // How much of the line's number the cell has.
-fn amount(inst: &Instance, ledgers: &Ledgers<'_>, line: Line, c: Cell) -> u64
-    requires same { ledgers.now.instance ≡ inst.now.draft }
-    requires cell { IsCellOf inst.now.draft c }
+fn amount(shown: Shown<'_>, line: Line, c: Cell) -> u64
+    requires cell { IsCellOf shown.inst.now.draft c }
     requires line { IsLine line }
-    ensures { result ≡ count_in (part_at inst.now.draft ledgers.now.plan c) line }
+    ensures { result ≡ count_in (part_at shown.inst.now.draft shown.plan.now c) line }
 {
-    magnitude(&ledgers.part(c), line)
+    magnitude(&shown.ledgers.part(c), line)
 }
 
 // How much of the line's number the cells have, in the order of the cells.
 #[tactic(auto, unfolding(crate::specs::Wrong::amounts))]
-fn amounts(
-    alloc: Global,
-    inst: &Instance,
-    ledgers: &Ledgers<'_>,
-    line: Line,
-) -> Result<Vec<u64>, AllocError>
-    requires same { ledgers.now.instance ≡ inst.now.draft }
-    requires line { IsLine line }
-    ensures value { IfOk result (λ v. v.items ≡ amounts inst.now.draft ledgers.now.plan line) }
-    ensures count { IfOk result (λ v. length v.items ≡ cell_count inst.now.draft) }
+fn amounts(alloc: Global, shown: Shown<'_>, line: Line) -> Result<Vec<u64>, AllocError>
+    requires { IsLine line }
+    ensures value { IfOk result (λ v. v.items ≡ amounts shown.inst.now.draft shown.plan.now line) }
+    ensures count { IfOk result (λ v. length v.items ≡ cell_count shown.inst.now.draft) }
     ensures few { IfOk result (λ v. length v.items < 2 ^ 32) }
 {
-    let cells = Numbering::of(inst);
+    let cells = Numbering::of(shown.inst);
     let mut found = Vec::new(alloc);
     for n in 0..cells.count() {
-        found.push(amount(inst, ledgers, line, cells.cell(n)))?;
+        found.push(amount(shown, line, cells.cell(n)))?;
     }
     Ok(found)
 }
 
-fn before_release(inst: &Instance, plan: &Plan, p: PatientNo) -> bool
-    requires plan { IsPlanOf inst.now.draft plan.now }
-    requires patient { p.0 < patient_count inst.now.draft }
-    ensures { result ≡ before_release inst.now.draft p.0 (stay_of plan.now p.0) }
+fn before_release(shown: Shown<'_>, p: PatientNo) -> bool
+    requires patient { p.0 < patient_count shown.inst.now.draft }
+    ensures { result ≡ before_release shown.inst.now.draft p.0 (stay_of shown.plan.now p.0) }
 {
-    match plan.stay(p) {
+    match shown.plan.stay(p) {
         None => false,
-        Some(at) => at.day.0 < inst.patient(p).surgery_release_day,
+        Some(at) => at.day.0 < shown.inst.patient(p).surgery_release_day,
     }
 }
 
-fn is_early(inst: &Instance, plan: &Plan, c: Cell) -> bool
-    requires plan { IsPlanOf inst.now.draft plan.now }
-    requires cell { IsCellOf inst.now.draft c }
-    ensures { result ≡ is_early inst.now.draft plan.now c }
+fn is_early(shown: Shown<'_>, c: Cell) -> bool
+    requires cell { IsCellOf shown.inst.now.draft c }
+    ensures { result ≡ is_early shown.inst.now.draft shown.plan.now c }
 {
     match c {
-        Cell::Stay(p) => before_release(inst, plan, p),
+        Cell::Stay(p) => before_release(shown, p),
         Cell::RoomDay(..) => false,
         Cell::TheatreDay(..) => false,
         Cell::SurgeonDay(..) => false,
@@ -81,7 +71,7 @@ fn is_early(inst: &Instance, plan: &Plan, c: Cell) -> bool
 }
 
 #[tactic(auto, unfolding(crate::specs::Wrong::cell_link))]
-fn put_link(out: &mut Vec<u8>, inst: &Instance, c: Cell) -> Result<(), AllocError>
+fn put_link(out: &mut Vec<u8>, inst: &Instance, c: Cell) -> Put
     requires { IsCellOf inst.now.draft c }
     ensures { OnOk result (out.new.items ≡ out.old.items ++ cell_link inst.now.draft c) }
 {
@@ -93,46 +83,31 @@ fn put_link(out: &mut Vec<u8>, inst: &Instance, c: Cell) -> Result<(), AllocErro
 }
 
 #[tactic(auto, unfolding(crate::specs::Wrong::item))]
-fn put_item(
-    out: &mut Vec<u8>,
-    inst: &Instance,
-    plan: &Plan,
-    line: Line,
-    c: Cell,
-    x: u64,
-) -> Result<(), AllocError>
-    requires plan { IsPlanOf inst.now.draft plan.now }
-    requires cell { IsCellOf inst.now.draft c }
-    ensures { OnOk result (out.new.items ≡ out.old.items ++ item inst.now.draft plan.now line c x) }
+fn put_item(out: &mut Vec<u8>, shown: Shown<'_>, line: Line, c: Cell, x: u64) -> Put
+    requires cell { IsCellOf shown.inst.now.draft c }
+    ensures { OnOk result (out.new.items ≡ out.old.items ++ item shown.inst.now.draft shown.plan.now line c x) }
 {
-    put_link(out, inst, c)?;
-    put_amount(out, line, is_early(inst, plan, c), x)?;
+    put_link(out, shown.inst, c)?;
+    put_amount(out, line, is_early(shown, c), x)?;
     put(out, "\n")
 }
 
 #[tactic(auto, unfolding(crate::specs::Wrong::items_of))]
-fn put_items(
-    out: &mut Vec<u8>,
-    inst: &Instance,
-    plan: &Plan,
-    line: Line,
-    xs: &[u64],
-    order: &[u32],
-) -> Result<(), AllocError>
-    requires plan { IsPlanOf inst.now.draft plan.now }
-    requires all { length xs.now ≡ cell_count inst.now.draft }
+fn put_items(out: &mut Vec<u8>, shown: Shown<'_>, line: Line, xs: &[u64], order: &[u32]) -> Put
+    requires all { length xs.now ≡ cell_count shown.inst.now.draft }
     requires inside { All (λ n. n < length xs.now) order.now }
-    ensures { OnOk result (out.new.items ≡ out.old.items ++ items_of inst.now.draft plan.now line xs.now order.now) }
+    ensures { OnOk result
+        (out.new.items ≡ out.old.items ++ items_of shown.inst.now.draft shown.plan.now line xs.now order.now) }
 {
-    let cells = Numbering::of(inst);
+    let cells = Numbering::of(shown.inst);
     for n in order {
-        put_item(out, inst, plan, line, cells.cell(*n), xs[*n as usize])?;
+        put_item(out, shown, line, cells.cell(*n), xs[*n as usize])?;
     }
     Ok(())
 }
 
 #[tactic(auto, unfolding(crate::specs::Wrong::list_name))]
-fn put_list_name(out: &mut Vec<u8>, bill: &Bill, line: Line) -> Result<(), AllocError>
+fn put_list_name(out: &mut Vec<u8>, bill: &Bill, line: Line) -> Put
     requires { IsLine line }
     ensures { OnOk result (out.new.items ≡ out.old.items ++ list_name bill.now line) }
 {
@@ -144,7 +119,7 @@ fn put_list_name(out: &mut Vec<u8>, bill: &Bill, line: Line) -> Result<(), Alloc
 }
 
 #[tactic(auto, unfolding(crate::specs::Wrong::list_head))]
-fn put_list_head(out: &mut Vec<u8>, bill: &Bill, line: Line) -> Result<(), AllocError>
+fn put_list_head(out: &mut Vec<u8>, bill: &Bill, line: Line) -> Put
     requires { IsLine line }
     ensures { OnOk result (out.new.items ≡ out.old.items ++ list_head bill.now line) }
 {
@@ -156,107 +131,48 @@ fn put_list_head(out: &mut Vec<u8>, bill: &Bill, line: Line) -> Result<(), Alloc
 }
 
 #[tactic(auto, unfolding(crate::specs::Wrong::list_of))]
-fn put_list(
-    out: &mut Vec<u8>,
-    inst: &Instance,
-    plan: &Plan,
-    bill: &Bill,
-    line: Line,
-    xs: &[u64],
-    order: &[u32],
-) -> Result<(), AllocError>
-    requires plan { IsPlanOf inst.now.draft plan.now }
+fn put_list(out: &mut Vec<u8>, shown: Shown<'_>, line: Line, xs: &[u64], order: &[u32]) -> Put
     requires line { IsLine line }
-    requires all { length xs.now ≡ cell_count inst.now.draft }
+    requires all { length xs.now ≡ cell_count shown.inst.now.draft }
     requires inside { All (λ n. n < length xs.now) order.now }
     ensures { OnOk result
-        (out.new.items ≡ out.old.items ++ list_of inst.now.draft plan.now bill.now line xs.now order.now) }
+        (out.new.items ≡ out.old.items ++ list_of shown.inst.now.draft shown.plan.now line xs.now order.now) }
 {
-    put_list_head(out, bill, line)?;
-    put_items(out, inst, plan, line, xs, order)?;
+    put_list_head(out, shown.bill, line)?;
+    put_items(out, shown, line, xs, order)?;
     put(out, "</ul></details>\n")
 }
 
 // The list of a line of the report, where there is anything in it.
-fn put_line_list(
-    alloc: Global,
-    out: &mut Vec<u8>,
-    inst: &Instance,
-    ledgers: &Ledgers<'_>,
-    bill: &Bill,
-    line: Line,
-) -> Result<(), AllocError>
-    requires same { ledgers.now.instance ≡ inst.now.draft }
-    requires bill { bill.now ≡ bill_of inst.now.draft ledgers.now.plan }
-    requires line { IsLine line }
-    ensures { OnOk result (out.new.items ≡ out.old.items ++ line_list inst.now.draft ledgers.now.plan line) }
+fn put_line_list(alloc: Global, out: &mut Vec<u8>, shown: Shown<'_>, line: Line) -> Put
+    requires { IsLine line }
+    ensures { OnOk result (out.new.items ≡ out.old.items ++ line_list shown.inst.now.draft shown.plan.now line) }
 {
-    let xs = amounts(alloc, inst, ledgers, line)?;
+    let xs = amounts(alloc, shown, line)?;
     let order = dearest_first(alloc, xs.as_slice())?;
     if order.is_empty() {
         return Ok(());
     }
-    put_list(
-        out,
-        inst,
-        ledgers.plan(),
-        bill,
-        line,
-        xs.as_slice(),
-        order.as_slice(),
-    )
+    put_list(out, shown, line, xs.as_slice(), order.as_slice())
 }
 
 // The lists of the rules, then those of the costs.
-fn put_line_lists(
-    alloc: Global,
-    out: &mut Vec<u8>,
-    inst: &Instance,
-    ledgers: &Ledgers<'_>,
-    bill: &Bill,
-) -> Result<(), AllocError>
-    requires same { ledgers.now.instance ≡ inst.now.draft }
-    requires bill { bill.now ≡ bill_of inst.now.draft ledgers.now.plan }
-    ensures { OnOk result (out.new.items ≡ out.old.items ++ line_lists inst.now.draft ledgers.now.plan) }
+fn put_line_lists(alloc: Global, out: &mut Vec<u8>, shown: Shown<'_>) -> Put
+    ensures { OnOk result (out.new.items ≡ out.old.items ++ line_lists shown.inst.now.draft shown.plan.now) }
 {
     put_below(out, 9, |out, i| {
-        put_line_list(alloc, out, inst, ledgers, bill, Line::Rule(i as usize))
+        put_line_list(alloc, out, shown, Line::Rule(i as usize))
     })?;
     put_below(out, 8, |out, i| {
-        put_line_list(alloc, out, inst, ledgers, bill, Line::Cost(i as usize))
+        put_line_list(alloc, out, shown, Line::Cost(i as usize))
     })
 }
 
+/// Appends the lists of what is wrong, and where.
 #[tactic(auto, unfolding(crate::specs::Wrong::wrong_text))]
-fn put_lists(
-    alloc: Global,
-    out: &mut Vec<u8>,
-    inst: &Instance,
-    ledgers: &Ledgers<'_>,
-    bill: &Bill,
-) -> Result<(), AllocError>
-    requires same { ledgers.now.instance ≡ inst.now.draft }
-    requires bill { bill.now ≡ bill_of inst.now.draft ledgers.now.plan }
-    ensures { OnOk result (out.new.items ≡ out.old.items ++ wrong_text inst.now.draft ledgers.now.plan) }
+pub fn put_wrong(alloc: Global, out: &mut Vec<u8>, shown: Shown<'_>) -> Put
+    ensures { OnOk result (out.new.items ≡ out.old.items ++ wrong_text shown.inst.now.draft shown.plan.now) }
 {
     put(out, "<h2 id=wrong>What is wrong, and where</h2>\n")?;
-    put_line_lists(alloc, out, inst, ledgers, bill)
-}
-
-/// Appends the lists of what is wrong, and where.
-pub fn put_wrong(
-    alloc: Global,
-    out: &mut Vec<u8>,
-    inst: &Instance,
-    plan: &Plan,
-    bill: &Bill,
-) -> Result<(), AllocError>
-    requires plan { IsPlanOf inst.now.draft plan.now }
-    requires bill { bill.now ≡ bill_of inst.now.draft plan.now }
-    ensures { OnOk result (out.new.items ≡ out.old.items ++ wrong_text inst.now.draft plan.now) }
-{
-    match Ledgers::new(alloc, inst, plan) {
-        Ok(ledgers) => put_lists(alloc, out, inst, &ledgers, bill),
-        Err(e) => Err(e),
-    }
+    put_line_lists(alloc, out, shown)
 }

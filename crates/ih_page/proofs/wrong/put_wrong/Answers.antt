@@ -1,7 +1,7 @@
 use Rattle.std.proofs.lemmas.Result.{on_ok_weaker}
 use Rattle.ih_page.specs.Wrong.{wrong_text}
 use Rattle.ih_page.proofs.Joins.{joins2}
-use Rattle.ih_page.proofs.wrong.put_lists.Goals as goal
+use Rattle.ih_page.proofs.wrong.put_wrong.Goals as goal
 
 pub returns : goal.returns
 unfolding wrong_text
