@@ -94,7 +94,7 @@ unfolding labelled
 day d = simp (by_pieces, names_and_numbers) refl
 
 head : (I : Draft) (r : ℕ) (a : Room) → Own (room_head I r a)
-unfolding room_head heads_and_days room_title numbered
+unfolding room_head heads_and_days room_title numbered labelled
 head I r a = simp (by_pieces, names_and_numbers, all-below (labelled (codes "<th>")) day) refl
 
 room : (I : Draft) (P : Timetable) (r : ℕ) → Own (room_text I P r)

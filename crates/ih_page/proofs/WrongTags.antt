@@ -6,7 +6,6 @@ use Rattle.ih_tables.specs.declared.cells.Cell.{Cell}
 use Rattle.ih_tables.specs.declared.cells.Cell.TheVariants.{Stay, RoomDay, TheatreDay, SurgeonDay, RoomShift, NurseShift, Care}
 use Rattle.ih_tables.specs.declared.drafts.Draft.{Draft}
 use Rattle.ih_plan.specs.Timetable.{Timetable}
-use Rattle.ih_plan.specs.BillOf.{bill_of}
 use Rattle.ih_plan.specs.Cells.{cell_at}
 use Rattle.ih_page.specs.declared.bill_lines.Line.{Line}
 use Rattle.ih_page.specs.declared.bill_lines.Line.TheVariants.{Rule, Cost}
@@ -72,9 +71,9 @@ shift I k = simp (by_pieces, day, shift-name) refl
 link : (I : Draft) (c : Cell) → Own (cell_link I c)
 unfolding cell_link labelled place_text
 link I (Stay p) = simp (by_pieces, names_and_numbers, person) refl
-link I (RoomDay r d) = simp (by_pieces, names_and_numbers, room, day) refl
-link I (TheatreDay t d) = simp (by_pieces, names_and_numbers, theatre-name, day) refl
-link I (SurgeonDay s d) = simp (by_pieces, names_and_numbers, surgeon-name, day) refl
+link I (RoomDay r d) = simp (by_pieces, names_and_numbers, room) refl
+link I (TheatreDay t d) = simp (by_pieces, names_and_numbers, theatre-name) refl
+link I (SurgeonDay s d) = simp (by_pieces, names_and_numbers, surgeon-name) refl
 link I (RoomShift r k) = simp (by_pieces, names_and_numbers, room, shift) refl
 link I (NurseShift n k) = simp (by_pieces, names_and_numbers, nurse-name, shift) refl
 link I (Care x) = simp (by_pieces, names_and_numbers, person) refl

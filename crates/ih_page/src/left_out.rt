@@ -43,9 +43,9 @@ fn put_row(out: &mut Vec<u8>, p: u32, a: &Patient) -> Put
     put_window(out, a)
 }
 
-fn put_row_of(out: &mut Vec<u8>, shown: Shown<'_>, p: u32) -> Put
-    requires patient { p < patient_count shown.inst.now.draft }
-    ensures { OnOk result (out.new.items ≡ out.old.items ++ left_out_of shown.inst.now.draft shown.plan.now p) }
+fn put_row_of(out: &mut Vec<u8>, shown: &Shown<'_>, p: u32) -> Put
+    requires patient { p < patient_count shown.now.inst.now.draft }
+    ensures { OnOk result (out.new.items ≡ out.old.items ++ left_out_of shown.now.inst.now.draft shown.now.plan.now p) }
 {
     match shown.plan.stay(PatientNo(p)) {
         None => put_row(out, p, shown.inst.patient(PatientNo(p))),
@@ -55,8 +55,8 @@ fn put_row_of(out: &mut Vec<u8>, shown: Shown<'_>, p: u32) -> Put
 
 /// Appends the table of the patients who are left out.
 #[tactic(auto, unfolding(crate::specs::LeftOut::left_out))]
-pub fn put_left_out(out: &mut Vec<u8>, shown: Shown<'_>) -> Put
-    ensures { OnOk result (out.new.items ≡ out.old.items ++ left_out shown.inst.now.draft shown.plan.now) }
+pub fn put_left_out(out: &mut Vec<u8>, shown: &Shown<'_>) -> Put
+    ensures { OnOk result (out.new.items ≡ out.old.items ++ left_out shown.now.inst.now.draft shown.now.plan.now) }
 {
     put(
         out,

@@ -33,10 +33,10 @@ fn put_load(out: &mut Vec<u8>, most: Option<u32>, load: u64) -> Put
     }
 }
 
-fn put_cell(out: &mut Vec<u8>, shown: Shown<'_>, n: u32, k: u32) -> Put
-    requires nurse { n < nurse_count shown.inst.now.draft }
-    requires shift { k < shift_count shown.inst.now.draft }
-    ensures { OnOk result (out.new.items ≡ out.old.items ++ load_cell shown.inst.now.draft shown.plan.now n k) }
+fn put_cell(out: &mut Vec<u8>, shown: &Shown<'_>, n: u32, k: u32) -> Put
+    requires nurse { n < nurse_count shown.now.inst.now.draft }
+    requires shift { k < shift_count shown.now.inst.now.draft }
+    ensures { OnOk result (out.new.items ≡ out.old.items ++ load_cell shown.now.inst.now.draft shown.now.plan.now n k) }
 {
     put_cell_at(out, "n", n, k)?;
     put_load(
@@ -57,9 +57,9 @@ fn put_head(out: &mut Vec<u8>, a: &Nurse) -> Put
 }
 
 #[tactic(auto, unfolding(crate::specs::Nursing::nurse_row))]
-fn put_row(out: &mut Vec<u8>, shown: Shown<'_>, n: u32) -> Put
-    requires nurse { n < nurse_count shown.inst.now.draft }
-    ensures { OnOk result (out.new.items ≡ out.old.items ++ nurse_row shown.inst.now.draft shown.plan.now n) }
+fn put_row(out: &mut Vec<u8>, shown: &Shown<'_>, n: u32) -> Put
+    requires nurse { n < nurse_count shown.now.inst.now.draft }
+    ensures { OnOk result (out.new.items ≡ out.old.items ++ nurse_row shown.now.inst.now.draft shown.now.plan.now n) }
 {
     put_head(out, shown.inst.nurse(NurseNo(n)))?;
     put_below(
@@ -72,8 +72,8 @@ fn put_row(out: &mut Vec<u8>, shown: Shown<'_>, n: u32) -> Put
 
 /// Appends the table of the nurses.
 #[tactic(auto, unfolding(crate::specs::Nursing::nurses_text))]
-pub fn put_nurses(out: &mut Vec<u8>, shown: Shown<'_>) -> Put
-    ensures { OnOk result (out.new.items ≡ out.old.items ++ nurses_text shown.inst.now.draft shown.plan.now) }
+pub fn put_nurses(out: &mut Vec<u8>, shown: &Shown<'_>) -> Put
+    ensures { OnOk result (out.new.items ≡ out.old.items ++ nurses_text shown.now.inst.now.draft shown.now.plan.now) }
 {
     put_heads_and_days(
         out,

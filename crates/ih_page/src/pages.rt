@@ -51,8 +51,8 @@ summary{font-weight:bold}\n\
 }
 
 #[tactic(auto, unfolding(crate::specs::Page::tables))]
-fn put_tables(out: &mut Vec<u8>, shown: Shown<'_>) -> Put
-    ensures { OnOk result (out.new.items ≡ out.old.items ++ tables shown.inst.now.draft shown.plan.now) }
+fn put_tables(out: &mut Vec<u8>, shown: &Shown<'_>) -> Put
+    ensures { OnOk result (out.new.items ≡ out.old.items ++ tables shown.now.inst.now.draft shown.now.plan.now) }
 {
     put_left_out(out, shown)?;
     put_rooms(out, shown)?;
@@ -77,9 +77,9 @@ pub fn page(alloc: Global, inst: &Instance, plan: &Plan) -> Result<Vec<u8>, Allo
     };
     let mut out = Vec::new(alloc);
     put_opening(&mut out)?;
-    put_summary(&mut out, shown)?;
-    put_wrong(alloc, &mut out, shown)?;
-    put_tables(&mut out, shown)?;
+    put_summary(&mut out, &shown)?;
+    put_wrong(alloc, &mut out, &shown)?;
+    put_tables(&mut out, &shown)?;
     put(&mut out, "</main>\n")?;
     Ok(out)
 }

@@ -78,9 +78,10 @@ fn put_occupant(out: &mut Vec<u8>, inst: &Instance, x: u32, a: &Occupant) -> Put
     put_bar(out, inst.days(), 0, a.length_of_stay)
 }
 
-fn put_patient_in(out: &mut Vec<u8>, shown: Shown<'_>, r: u32, p: u32) -> Put
-    requires patient { p < patient_count shown.inst.now.draft }
-    ensures { OnOk result (out.new.items ≡ out.old.items ++ patient_in shown.inst.now.draft r p (stay_of shown.plan.now p)) }
+fn put_patient_in(out: &mut Vec<u8>, shown: &Shown<'_>, r: u32, p: u32) -> Put
+    requires patient { p < patient_count shown.now.inst.now.draft }
+    ensures { OnOk result
+        (out.new.items ≡ out.old.items ++ patient_in shown.now.inst.now.draft r p (stay_of shown.now.plan.now p)) }
 {
     match shown.plan.stay(PatientNo(p)) {
         None => Ok(()),
@@ -106,9 +107,10 @@ fn put_occupant_in(out: &mut Vec<u8>, inst: &Instance, r: u32, o: u32) -> Put
     }
 }
 
-fn put_count(out: &mut Vec<u8>, shown: Shown<'_>, r: u32, d: u32) -> Put
-    requires room { r < room_count shown.inst.now.draft }
-    ensures { OnOk result (out.new.items ≡ out.old.items ++ count_cell shown.inst.now.draft shown.plan.now r d) }
+fn put_count(out: &mut Vec<u8>, shown: &Shown<'_>, r: u32, d: u32) -> Put
+    requires room { r < room_count shown.now.inst.now.draft }
+    ensures { OnOk result
+        (out.new.items ≡ out.old.items ++ count_cell shown.now.inst.now.draft shown.now.plan.now r d) }
 {
     put_cell_at(out, "d", r, d)?;
     put_marked(
@@ -118,20 +120,21 @@ fn put_count(out: &mut Vec<u8>, shown: Shown<'_>, r: u32, d: u32) -> Put
     )
 }
 
-fn put_care(out: &mut Vec<u8>, shown: Shown<'_>, r: u32, k: u32) -> Put
-    requires room { r < room_count shown.inst.now.draft }
-    requires shift { k < shift_count shown.inst.now.draft }
-    ensures { OnOk result (out.new.items ≡ out.old.items ++ nurse_cell shown.inst.now.draft shown.plan.now r k) }
+fn put_care(out: &mut Vec<u8>, shown: &Shown<'_>, r: u32, k: u32) -> Put
+    requires room { r < room_count shown.now.inst.now.draft }
+    requires shift { k < shift_count shown.now.inst.now.draft }
+    ensures { OnOk result
+        (out.new.items ≡ out.old.items ++ nurse_cell shown.now.inst.now.draft shown.now.plan.now r k) }
 {
     put_cell_at(out, "s", r, k)?;
     put(out, ">")?;
-    put_nurse(out, shown.plan.care(RoomNo(r), Shift(k)))
+    put_nurse(out, shown.inst, shown.plan.care(RoomNo(r), Shift(k)))
 }
 
-fn put_shift(out: &mut Vec<u8>, shown: Shown<'_>, r: u32, j: u32) -> Put
-    requires room { r < room_count shown.inst.now.draft }
+fn put_shift(out: &mut Vec<u8>, shown: &Shown<'_>, r: u32, j: u32) -> Put
+    requires room { r < room_count shown.now.inst.now.draft }
     requires shift { j < 3 }
-    ensures { OnOk result (out.new.items ≡ out.old.items ++ shift_row shown.inst.now.draft shown.plan.now r j) }
+    ensures { OnOk result (out.new.items ≡ out.old.items ++ shift_row shown.now.inst.now.draft shown.now.plan.now r j) }
 {
     put(out, "<tr><th>")?;
     put_shift_type(out, shown.inst, j)?;
@@ -177,9 +180,9 @@ fn put_room_head(out: &mut Vec<u8>, inst: &Instance, r: u32, a: &Room) -> Put
 }
 
 #[tactic(auto, unfolding(crate::specs::Rooms::count_row))]
-fn put_count_row(out: &mut Vec<u8>, shown: Shown<'_>, r: u32) -> Put
-    requires room { r < room_count shown.inst.now.draft }
-    ensures { OnOk result (out.new.items ≡ out.old.items ++ count_row shown.inst.now.draft shown.plan.now r) }
+fn put_count_row(out: &mut Vec<u8>, shown: &Shown<'_>, r: u32) -> Put
+    requires room { r < room_count shown.now.inst.now.draft }
+    ensures { OnOk result (out.new.items ≡ out.old.items ++ count_row shown.now.inst.now.draft shown.now.plan.now r) }
 {
     put(out, "<tr><th>persons<td colspan=3>count")?;
     put_below(out, shown.inst.days(), |out, d| put_count(out, shown, r, d))?;
@@ -187,8 +190,8 @@ fn put_count_row(out: &mut Vec<u8>, shown: Shown<'_>, r: u32) -> Put
 }
 
 #[tactic(auto, unfolding(crate::specs::Rooms::person_rows))]
-fn put_persons(out: &mut Vec<u8>, shown: Shown<'_>, r: u32) -> Put
-    ensures { OnOk result (out.new.items ≡ out.old.items ++ person_rows shown.inst.now.draft shown.plan.now r) }
+fn put_persons(out: &mut Vec<u8>, shown: &Shown<'_>, r: u32) -> Put
+    ensures { OnOk result (out.new.items ≡ out.old.items ++ person_rows shown.now.inst.now.draft shown.now.plan.now r) }
 {
     put_below(
         out,
@@ -203,9 +206,9 @@ fn put_persons(out: &mut Vec<u8>, shown: Shown<'_>, r: u32) -> Put
 }
 
 #[tactic(auto, unfolding(crate::specs::Rooms::room_text))]
-fn put_room(out: &mut Vec<u8>, shown: Shown<'_>, r: u32) -> Put
-    requires room { r < room_count shown.inst.now.draft }
-    ensures { OnOk result (out.new.items ≡ out.old.items ++ room_text shown.inst.now.draft shown.plan.now r) }
+fn put_room(out: &mut Vec<u8>, shown: &Shown<'_>, r: u32) -> Put
+    requires room { r < room_count shown.now.inst.now.draft }
+    ensures { OnOk result (out.new.items ≡ out.old.items ++ room_text shown.now.inst.now.draft shown.now.plan.now r) }
 {
     put_room_head(out, shown.inst, r, shown.inst.room(RoomNo(r)))?;
     put_persons(out, shown, r)?;
@@ -216,8 +219,8 @@ fn put_room(out: &mut Vec<u8>, shown: Shown<'_>, r: u32) -> Put
 
 /// Appends the tables of the rooms.
 #[tactic(auto, unfolding(crate::specs::Rooms::rooms_text))]
-pub fn put_rooms(out: &mut Vec<u8>, shown: Shown<'_>) -> Put
-    ensures { OnOk result (out.new.items ≡ out.old.items ++ rooms_text shown.inst.now.draft shown.plan.now) }
+pub fn put_rooms(out: &mut Vec<u8>, shown: &Shown<'_>) -> Put
+    ensures { OnOk result (out.new.items ≡ out.old.items ++ rooms_text shown.now.inst.now.draft shown.now.plan.now) }
 {
     put(out, "<h2>Rooms by days</h2>\n")?;
     put_below(out, shown.inst.rooms(), |out, r| put_room(out, shown, r))

@@ -9,7 +9,7 @@ use ih_plan::Plan;
 use ih_tables::{Bill, Instance};
 
 /// A timetable of an instance, with its bill and its ledgers.
-#[derive(Clone, Copy)]
+#[derive(Drop)]
 pub struct Shown<'a> {
     pub inst: &'a Instance,
     pub plan: &'a Plan,

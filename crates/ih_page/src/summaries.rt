@@ -148,8 +148,9 @@ fn put_rules(out: &mut Vec<u8>, bill: &Bill) -> Put
 }
 
 #[tactic(auto, unfolding(crate::specs::Summary::cost_rows))]
-fn put_costs(out: &mut Vec<u8>, shown: Shown<'_>) -> Put
-    ensures { OnOk result (out.new.items ≡ out.old.items ++ cost_rows shown.inst.now.draft.weights shown.bill.now) }
+fn put_costs(out: &mut Vec<u8>, shown: &Shown<'_>) -> Put
+    ensures { OnOk result
+        (out.new.items ≡ out.old.items ++ cost_rows shown.now.inst.now.draft.weights shown.now.bill.now) }
 {
     let weights = shown.inst.weights();
     for i in 0..8 {
@@ -169,8 +170,9 @@ fn verdict_text(feasible: bool) -> &'static str
 }
 
 #[tactic(auto, unfolding(crate::specs::Summary::verdict_of))]
-fn put_verdict(out: &mut Vec<u8>, shown: Shown<'_>) -> Put
-    ensures { OnOk result (out.new.items ≡ out.old.items ++ verdict_of shown.inst.now.draft.weights shown.bill.now) }
+fn put_verdict(out: &mut Vec<u8>, shown: &Shown<'_>) -> Put
+    ensures { OnOk result
+        (out.new.items ≡ out.old.items ++ verdict_of shown.now.inst.now.draft.weights shown.now.bill.now) }
 {
     put(out, verdict_text(shown.bill.feasible()))?;
     put(out, "<p>Cost ")?;
@@ -180,8 +182,9 @@ fn put_verdict(out: &mut Vec<u8>, shown: Shown<'_>) -> Put
 
 /// Appends whether the timetable is feasible, its cost, and a row for each of the seventeen numbers.
 #[tactic(auto, unfolding(crate::specs::Summary::summary))]
-pub fn put_summary(out: &mut Vec<u8>, shown: Shown<'_>) -> Put
-    ensures { OnOk result (out.new.items ≡ out.old.items ++ summary shown.inst.now.draft.weights shown.bill.now) }
+pub fn put_summary(out: &mut Vec<u8>, shown: &Shown<'_>) -> Put
+    ensures { OnOk result
+        (out.new.items ≡ out.old.items ++ summary shown.now.inst.now.draft.weights shown.now.bill.now) }
 {
     put_verdict(out, shown)?;
     put(

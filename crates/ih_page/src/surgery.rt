@@ -16,9 +16,9 @@ use ih_tables::{Instance, Patient, PatientNo};
 use ih_validate::{Kind, Whose, count_of, has_surgery, limit_of, one_of};
 
 // The minutes of the patient's surgery, where it is there on the day.
-fn minutes_of(shown: Shown<'_>, w: Whose, d: u32, p: u32) -> u64
-    requires patient { p < patient_count shown.inst.now.draft }
-    ensures value { result ≡ minutes_of shown.inst.now.draft shown.plan.now w d p }
+fn minutes_of(shown: &Shown<'_>, w: Whose, d: u32, p: u32) -> u64
+    requires patient { p < patient_count shown.now.inst.now.draft }
+    ensures value { result ≡ minutes_of shown.now.inst.now.draft shown.now.plan.now w d p }
     ensures bound { result ≤ 4294967296 }
 {
     if has_surgery(shown.inst, shown.plan, w, d, PatientNo(p)) {
@@ -30,8 +30,8 @@ fn minutes_of(shown: Shown<'_>, w: Whose, d: u32, p: u32) -> u64
 
 // The minutes of surgery of a day.
 #[tactic(auto, using(ih_plan::proofs::SumLemmas::sum_steps))]
-fn planned(shown: Shown<'_>, w: Whose, d: u32) -> u64
-    ensures sum { result ≡ planned shown.inst.now.draft shown.plan.now w d }
+fn planned(shown: &Shown<'_>, w: Whose, d: u32) -> u64
+    ensures sum { result ≡ planned shown.now.inst.now.draft shown.now.plan.now w d }
     ensures bound { result ≤ 4294967296 * 2048 }
 {
     let mut sum = 0;
@@ -115,9 +115,10 @@ fn put_link(out: &mut Vec<u8>, inst: &Instance, p: u32) -> Put
     put_name(out, p, inst.patient(PatientNo(p)))
 }
 
-fn put_operation(out: &mut Vec<u8>, shown: Shown<'_>, w: Whose, d: u32, p: u32) -> Put
-    requires patient { p < patient_count shown.inst.now.draft }
-    ensures { OnOk result (out.new.items ≡ out.old.items ++ operation shown.inst.now.draft shown.plan.now w d p) }
+fn put_operation(out: &mut Vec<u8>, shown: &Shown<'_>, w: Whose, d: u32, p: u32) -> Put
+    requires patient { p < patient_count shown.now.inst.now.draft }
+    ensures { OnOk result
+        (out.new.items ≡ out.old.items ++ operation shown.now.inst.now.draft shown.now.plan.now w d p) }
 {
     if has_surgery(shown.inst, shown.plan, w, d, PatientNo(p)) {
         put_link(out, shown.inst, p)
@@ -126,10 +127,11 @@ fn put_operation(out: &mut Vec<u8>, shown: Shown<'_>, w: Whose, d: u32, p: u32) 
     }
 }
 
-fn put_surgery(out: &mut Vec<u8>, shown: Shown<'_>, w: Whose, d: u32, n: u64) -> Put
-    requires whose { IsWhoseOf shown.inst.now.draft w }
+fn put_surgery(out: &mut Vec<u8>, shown: &Shown<'_>, w: Whose, d: u32, n: u64) -> Put
+    requires whose { IsWhoseOf shown.now.inst.now.draft w }
     requires minutes { n ≤ 4294967296 * 2048 }
-    ensures { OnOk result (out.new.items ≡ out.old.items ++ surgery_of shown.inst.now.draft shown.plan.now w d n) }
+    ensures { OnOk result
+        (out.new.items ≡ out.old.items ++ surgery_of shown.now.inst.now.draft shown.now.plan.now w d n) }
 {
     if n == 0 {
         return put(out, ">");
@@ -143,18 +145,19 @@ fn put_surgery(out: &mut Vec<u8>, shown: Shown<'_>, w: Whose, d: u32, n: u64) ->
 }
 
 #[tactic(auto, unfolding(crate::specs::Surgery::surgery_cell))]
-fn put_cell(out: &mut Vec<u8>, shown: Shown<'_>, w: Whose, d: u32) -> Put
-    requires whose { IsWhoseOf shown.inst.now.draft w }
-    ensures { OnOk result (out.new.items ≡ out.old.items ++ surgery_cell shown.inst.now.draft shown.plan.now w d) }
+fn put_cell(out: &mut Vec<u8>, shown: &Shown<'_>, w: Whose, d: u32) -> Put
+    requires whose { IsWhoseOf shown.now.inst.now.draft w }
+    ensures { OnOk result
+        (out.new.items ≡ out.old.items ++ surgery_cell shown.now.inst.now.draft shown.now.plan.now w d) }
 {
     put_cell_at(out, letter_of(w), number_of(w), d)?;
     put_surgery(out, shown, w, d, planned(shown, w, d))
 }
 
 #[tactic(auto, unfolding(crate::specs::Surgery::surgery_row))]
-fn put_row(out: &mut Vec<u8>, shown: Shown<'_>, w: Whose) -> Put
-    requires whose { IsWhoseOf shown.inst.now.draft w }
-    ensures { OnOk result (out.new.items ≡ out.old.items ++ surgery_row shown.inst.now.draft shown.plan.now w) }
+fn put_row(out: &mut Vec<u8>, shown: &Shown<'_>, w: Whose) -> Put
+    requires whose { IsWhoseOf shown.now.inst.now.draft w }
+    ensures { OnOk result (out.new.items ≡ out.old.items ++ surgery_row shown.now.inst.now.draft shown.now.plan.now w) }
 {
     put(out, "<tr><th>")?;
     put_whose(out, shown.inst, w)?;
@@ -173,8 +176,9 @@ fn heads_of(kind: Kind) -> &'static str
 
 /// Appends the table of the theatres, or of the surgeons.
 #[tactic(auto, unfolding(crate::specs::Surgery::surgery_text))]
-pub fn put_surgery_of(out: &mut Vec<u8>, shown: Shown<'_>, kind: Kind) -> Put
-    ensures { OnOk result (out.new.items ≡ out.old.items ++ surgery_text shown.inst.now.draft shown.plan.now kind) }
+pub fn put_surgery_of(out: &mut Vec<u8>, shown: &Shown<'_>, kind: Kind) -> Put
+    ensures { OnOk result
+        (out.new.items ≡ out.old.items ++ surgery_text shown.now.inst.now.draft shown.now.plan.now kind) }
 {
     put_heads_and_days(out, shown.inst, heads_of(kind), "<th>")?;
     put_below(

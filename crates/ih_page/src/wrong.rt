@@ -21,20 +21,20 @@ use ih_tables::{Bill, Cell, Instance, PatientNo};
 use std::alloc::{AllocError, Global};
 
 // How much of the line's number the cell has.
-fn amount(shown: Shown<'_>, line: Line, c: Cell) -> u64
-    requires cell { IsCellOf shown.inst.now.draft c }
+fn amount(shown: &Shown<'_>, line: Line, c: Cell) -> u64
+    requires cell { IsCellOf shown.now.inst.now.draft c }
     requires line { IsLine line }
-    ensures { result ≡ count_in (part_at shown.inst.now.draft shown.plan.now c) line }
+    ensures { result ≡ count_in (part_at shown.now.inst.now.draft shown.now.plan.now c) line }
 {
     magnitude(&shown.ledgers.part(c), line)
 }
 
 // How much of the line's number the cells have, in the order of the cells.
 #[tactic(auto, unfolding(crate::specs::Wrong::amounts))]
-fn amounts(alloc: Global, shown: Shown<'_>, line: Line) -> Result<Vec<u64>, AllocError>
+fn amounts(alloc: Global, shown: &Shown<'_>, line: Line) -> Result<Vec<u64>, AllocError>
     requires { IsLine line }
-    ensures value { IfOk result (λ v. v.items ≡ amounts shown.inst.now.draft shown.plan.now line) }
-    ensures count { IfOk result (λ v. length v.items ≡ cell_count shown.inst.now.draft) }
+    ensures value { IfOk result (λ v. v.items ≡ amounts shown.now.inst.now.draft shown.now.plan.now line) }
+    ensures count { IfOk result (λ v. length v.items ≡ cell_count shown.now.inst.now.draft) }
     ensures few { IfOk result (λ v. length v.items < 2 ^ 32) }
 {
     let cells = Numbering::of(shown.inst);
@@ -45,9 +45,9 @@ fn amounts(alloc: Global, shown: Shown<'_>, line: Line) -> Result<Vec<u64>, Allo
     Ok(found)
 }
 
-fn before_release(shown: Shown<'_>, p: PatientNo) -> bool
-    requires patient { p.0 < patient_count shown.inst.now.draft }
-    ensures { result ≡ before_release shown.inst.now.draft p.0 (stay_of shown.plan.now p.0) }
+fn before_release(shown: &Shown<'_>, p: PatientNo) -> bool
+    requires patient { p.0 < patient_count shown.now.inst.now.draft }
+    ensures { result ≡ before_release shown.now.inst.now.draft p.0 (stay_of shown.now.plan.now p.0) }
 {
     match shown.plan.stay(p) {
         None => false,
@@ -55,9 +55,9 @@ fn before_release(shown: Shown<'_>, p: PatientNo) -> bool
     }
 }
 
-fn is_early(shown: Shown<'_>, c: Cell) -> bool
-    requires cell { IsCellOf shown.inst.now.draft c }
-    ensures { result ≡ is_early shown.inst.now.draft shown.plan.now c }
+fn is_early(shown: &Shown<'_>, c: Cell) -> bool
+    requires cell { IsCellOf shown.now.inst.now.draft c }
+    ensures { result ≡ is_early shown.now.inst.now.draft shown.now.plan.now c }
 {
     match c {
         Cell::Stay(p) => before_release(shown, p),
@@ -83,9 +83,9 @@ fn put_link(out: &mut Vec<u8>, inst: &Instance, c: Cell) -> Put
 }
 
 #[tactic(auto, unfolding(crate::specs::Wrong::item))]
-fn put_item(out: &mut Vec<u8>, shown: Shown<'_>, line: Line, c: Cell, x: u64) -> Put
-    requires cell { IsCellOf shown.inst.now.draft c }
-    ensures { OnOk result (out.new.items ≡ out.old.items ++ item shown.inst.now.draft shown.plan.now line c x) }
+fn put_item(out: &mut Vec<u8>, shown: &Shown<'_>, line: Line, c: Cell, x: u64) -> Put
+    requires cell { IsCellOf shown.now.inst.now.draft c }
+    ensures { OnOk result (out.new.items ≡ out.old.items ++ item shown.now.inst.now.draft shown.now.plan.now line c x) }
 {
     put_link(out, shown.inst, c)?;
     put_amount(out, line, is_early(shown, c), x)?;
@@ -93,11 +93,11 @@ fn put_item(out: &mut Vec<u8>, shown: Shown<'_>, line: Line, c: Cell, x: u64) ->
 }
 
 #[tactic(auto, unfolding(crate::specs::Wrong::items_of))]
-fn put_items(out: &mut Vec<u8>, shown: Shown<'_>, line: Line, xs: &[u64], order: &[u32]) -> Put
-    requires all { length xs.now ≡ cell_count shown.inst.now.draft }
+fn put_items(out: &mut Vec<u8>, shown: &Shown<'_>, line: Line, xs: &[u64], order: &[u32]) -> Put
+    requires all { length xs.now ≡ cell_count shown.now.inst.now.draft }
     requires inside { All (λ n. n < length xs.now) order.now }
     ensures { OnOk result
-        (out.new.items ≡ out.old.items ++ items_of shown.inst.now.draft shown.plan.now line xs.now order.now) }
+        (out.new.items ≡ out.old.items ++ items_of shown.now.inst.now.draft shown.now.plan.now line xs.now order.now) }
 {
     let cells = Numbering::of(shown.inst);
     for n in order {
@@ -131,12 +131,12 @@ fn put_list_head(out: &mut Vec<u8>, bill: &Bill, line: Line) -> Put
 }
 
 #[tactic(auto, unfolding(crate::specs::Wrong::list_of))]
-fn put_list(out: &mut Vec<u8>, shown: Shown<'_>, line: Line, xs: &[u64], order: &[u32]) -> Put
+fn put_list(out: &mut Vec<u8>, shown: &Shown<'_>, line: Line, xs: &[u64], order: &[u32]) -> Put
     requires line { IsLine line }
-    requires all { length xs.now ≡ cell_count shown.inst.now.draft }
+    requires all { length xs.now ≡ cell_count shown.now.inst.now.draft }
     requires inside { All (λ n. n < length xs.now) order.now }
     ensures { OnOk result
-        (out.new.items ≡ out.old.items ++ list_of shown.inst.now.draft shown.plan.now line xs.now order.now) }
+        (out.new.items ≡ out.old.items ++ list_of shown.now.inst.now.draft shown.now.plan.now line xs.now order.now) }
 {
     put_list_head(out, shown.bill, line)?;
     put_items(out, shown, line, xs, order)?;
@@ -144,9 +144,10 @@ fn put_list(out: &mut Vec<u8>, shown: Shown<'_>, line: Line, xs: &[u64], order: 
 }
 
 // The list of a line of the report, where there is anything in it.
-fn put_line_list(alloc: Global, out: &mut Vec<u8>, shown: Shown<'_>, line: Line) -> Put
+fn put_line_list(alloc: Global, out: &mut Vec<u8>, shown: &Shown<'_>, line: Line) -> Put
     requires { IsLine line }
-    ensures { OnOk result (out.new.items ≡ out.old.items ++ line_list shown.inst.now.draft shown.plan.now line) }
+    ensures { OnOk result
+        (out.new.items ≡ out.old.items ++ line_list shown.now.inst.now.draft shown.now.plan.now line) }
 {
     let xs = amounts(alloc, shown, line)?;
     let order = dearest_first(alloc, xs.as_slice())?;
@@ -157,8 +158,8 @@ fn put_line_list(alloc: Global, out: &mut Vec<u8>, shown: Shown<'_>, line: Line)
 }
 
 // The lists of the rules, then those of the costs.
-fn put_line_lists(alloc: Global, out: &mut Vec<u8>, shown: Shown<'_>) -> Put
-    ensures { OnOk result (out.new.items ≡ out.old.items ++ line_lists shown.inst.now.draft shown.plan.now) }
+fn put_line_lists(alloc: Global, out: &mut Vec<u8>, shown: &Shown<'_>) -> Put
+    ensures { OnOk result (out.new.items ≡ out.old.items ++ line_lists shown.now.inst.now.draft shown.now.plan.now) }
 {
     put_below(out, 9, |out, i| {
         put_line_list(alloc, out, shown, Line::Rule(i as usize))
@@ -170,8 +171,8 @@ fn put_line_lists(alloc: Global, out: &mut Vec<u8>, shown: Shown<'_>) -> Put
 
 /// Appends the lists of what is wrong, and where.
 #[tactic(auto, unfolding(crate::specs::Wrong::wrong_text))]
-pub fn put_wrong(alloc: Global, out: &mut Vec<u8>, shown: Shown<'_>) -> Put
-    ensures { OnOk result (out.new.items ≡ out.old.items ++ wrong_text shown.inst.now.draft shown.plan.now) }
+pub fn put_wrong(alloc: Global, out: &mut Vec<u8>, shown: &Shown<'_>) -> Put
+    ensures { OnOk result (out.new.items ≡ out.old.items ++ wrong_text shown.now.inst.now.draft shown.now.plan.now) }
 {
     put(out, "<h2 id=wrong>What is wrong, and where</h2>\n")?;
     put_line_lists(alloc, out, shown)

@@ -10,5 +10,5 @@ unfolding left_out
 returns c =
     on_ok_weaker c.put-2.result
     (λ d. joins3 _ _ _ _ _ _ _ c.in_ok-put.ensures
-    (counted _ _ _ _ _ c.patients.ensures (c.in_ok-put_below.ensures (left_out_of c.args.shown.inst.now.draft c.args.shown.plan.now) (search rules))) d)
+    (counted _ _ _ _ _ c.patients.ensures (c.in_ok-put_below.ensures (left_out_of c.args.shown.now.inst.now.draft c.args.shown.now.plan.now) (search rules))) d)
     c.put-2.ensures

@@ -10,5 +10,5 @@ unfolding nurses_text
 returns c =
     on_ok_weaker c.put.result
     (λ d. joins3 _ _ _ _ _ _ _ c.in_ok-put_heads_and_days.ensures
-    (counted _ _ _ _ _ c.nurses.ensures (c.in_ok-put_below.ensures (nurse_row c.args.shown.inst.now.draft c.args.shown.plan.now) (search rules))) d)
+    (counted _ _ _ _ _ c.nurses.ensures (c.in_ok-put_below.ensures (nurse_row c.args.shown.now.inst.now.draft c.args.shown.now.plan.now) (search rules))) d)
     c.put.ensures

@@ -9,9 +9,9 @@ use Rattle.ih_page.proofs.rooms.put_room.Goals as goal
 pub returns : goal.returns
 unfolding room_text
 returns c =
-    let named = λ (o : Option Room). c.args.out.now.items ++ option_map_or (room_head c.args.shown.inst.now.draft c.args.r) o [] in
+    let named = λ (o : Option Room). c.args.out.now.items ++ option_map_or (room_head c.args.shown.now.inst.now.draft c.args.r) o [] in
     on_ok_weaker c.put.result
     (λ d. joins5 _ _ _ _ _ _ _ _ _ _ _
     (c.in_ok-put_room_head.ensures
     ∙ ap named (sym c.room.ensures)) c.in_ok-put_persons.ensures c.in_ok-put_count_row.ensures
-    (c.in_ok-put_below.ensures (shift_row c.args.shown.inst.now.draft c.args.shown.plan.now c.args.r) (search rules)) d) c.put.ensures
+    (c.in_ok-put_below.ensures (shift_row c.args.shown.now.inst.now.draft c.args.shown.now.plan.now c.args.r) (search rules)) d) c.put.ensures

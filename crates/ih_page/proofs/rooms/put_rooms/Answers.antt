@@ -10,4 +10,4 @@ unfolding rooms_text
 returns c =
     on_ok_weaker c.put_below.result
     (λ d. joins2 _ _ _ _ _ c.in_ok-put.ensures
-    (counted _ _ _ _ _ c.rooms.ensures d)) (c.put_below.ensures (room_text c.args.shown.inst.now.draft c.args.shown.plan.now) (search rules))
+    (counted _ _ _ _ _ c.rooms.ensures d)) (c.put_below.ensures (room_text c.args.shown.now.inst.now.draft c.args.shown.now.plan.now) (search rules))

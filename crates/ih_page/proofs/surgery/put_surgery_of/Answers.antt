@@ -10,9 +10,9 @@ use Rattle.ih_page.proofs.surgery.put_surgery_of.Goals as goal
 pub returns : goal.returns
 unfolding surgery_text
 returns c =
-    let I = c.args.shown.inst.now.draft in
+    let I = c.args.shown.now.inst.now.draft in
     let headed = λ (heads : List ℕ). c.args.out.now.items ++ heads_and_days I heads (codes "<th>") in
-    let row = λ (i : ℕ). surgery_row I c.args.shown.plan.now (one_of c.args.kind i) in
+    let row = λ (i : ℕ). surgery_row I c.args.shown.now.plan.now (one_of c.args.kind i) in
     on_ok_weaker c.put.result
     (λ d. joins3 _ _ _ _ _ _ _ (c.in_ok-put_heads_and_days.ensures ∙ ap headed c.heads_of.ensures)
     (counted _ _ _ _ _ c.count_of.ensures (c.in_ok-put_below.ensures row (search rules))) d)
