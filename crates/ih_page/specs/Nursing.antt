@@ -31,5 +31,6 @@ nurse_row I P n =
 unfoldable pub nurses_text : Draft → Timetable → List ℕ
 nurses_text I P =
     heads_and_days I
-    (codes "<h2>Nurses by shifts: workload of the maximum</h2>\n<div><table><tr><th>nurse<th>skill") (codes "<th colspan=3>")
+    (codes "<h2>Nurses by shifts: workload of the maximum</h2>\n<div><table><tr><th>nurse<th>skill")
+    (codes "<th colspan=3>")
     ++ (lines_below (nurse_count I) (nurse_row I P) ++ codes "</table></div>\n")

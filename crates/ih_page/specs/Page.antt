@@ -17,7 +17,9 @@ opening = codes "<!DOCTYPE html>\n<html lang=en><meta charset=utf-8><meta name=v
 
 -- who is left out, rooms, theatres, surgeons and nurses
 unfoldable pub tables : Draft → Timetable → List ℕ
-tables I P = left_out I P ++ (rooms_text I P ++ (surgery_text I P Theatres ++ (surgery_text I P Surgeons ++ nurses_text I P)))
+tables I P =
+    left_out I P ++ (rooms_text I P
+    ++ (surgery_text I P Theatres ++ (surgery_text I P Surgeons ++ nurses_text I P)))
 
 -- The page: whether the timetable is feasible, its numbers, what is wrong, and the tables.
 unfoldable pub page_of : Draft → Timetable → List ℕ

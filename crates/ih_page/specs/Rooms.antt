@@ -127,7 +127,8 @@ count_row I P r = codes "<tr><th>persons<td colspan=3>count" ++ (lines_below I.d
 -- who is in a room on some days: the occupants, then the patients
 unfoldable pub person_rows : Draft → Timetable → ℕ → List ℕ
 person_rows I P r =
-    lines_below (occupant_count I) (occupant_in I r) ++ lines_below (patient_count I) (λ p. patient_in I r p (stay_of P p))
+    lines_below (occupant_count I) (occupant_in I r)
+    ++ lines_below (patient_count I) (λ p. patient_in I r p (stay_of P p))
 
 unfoldable pub room_text : Draft → Timetable → ℕ → List ℕ
 room_text I P r =
