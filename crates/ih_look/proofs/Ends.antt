@@ -2,35 +2,44 @@
 use Rattle.std.proofs.Common.{◌≡◌, ℕ, refl, sym, subst, inl, inr, List, Option, None}
 use Rattle.std.specs.Prelude.{◌≢◌, ◌⊎◌}
 use Rattle.ih_shelf.specs.Outside.{Names}
+use Rattle.ih_inputs.specs.Errors.{HasFaultCause}
+use Rattle.ih_inputs.specs.Reading.{IsUnread}
+use Rattle.ih_inputs.specs.declared.error.InputError.{InputError}
+use Rattle.ih_inputs.specs.declared.error.InputError.TheVariants.{ReadFault as Unreadable, OutOfMemory as NoRoom}
 use Rattle.ih_look.specs.declared.status.Status.{Status}
-use Rattle.ih_look.specs.declared.status.Status.TheVariants.{Done, Usage, ReadFault, InstanceRefused, SolutionRefused, WriteFault, OutOfMemory, TooLong}
-use Rattle.ih_look.specs.Calls.{Call}
-use Rattle.ih_look.specs.Ends.{CallEnds, HasCause, IsUnread}
+use Rattle.ih_look.specs.declared.status.Status.TheVariants.{Done, Usage, WriteFault, OutOfMemory}
+use Rattle.ih_look.specs.Calls.{Call, reading_in}
+use Rattle.ih_look.specs.Ends.{CallEnds, HasCause, status_of}
 use Rattle.ih_look.specs.Texts.{Gained, IsPut, IsSaid, MayTell, text_for, usage_text}
 
--- a call that comes no further than its files
-pub unread-ends : (c : Call) (old new : Option Names) (status : Status) → new ≡ old → IsUnread old c status → CallEnds c old new status
-unread-ends c old new Done same h = absurd h
-unread-ends c old new Usage same h = absurd h
-unread-ends c old new (ReadFault role) same h = (same, h)
-unread-ends c old new (InstanceRefused e) same h = (same, h)
-unread-ends c old new (SolutionRefused e) same h = (same, h)
-unread-ends c old new WriteFault same h = absurd h
-unread-ends c old new OutOfMemory same h = inl same
-unread-ends c old new (TooLong role) same h = (same, h)
+-- ---- a call that comes no further than its files
+
+pub unread-ends : (c : Call) (old new : Option Names) (e : InputError) (status : Status) → status ≡ status_of e → new ≡ old
+    → IsUnread old (reading_in c) e → CallEnds c old new status
+unread-ends c old new e status is same h = subst (CallEnds c old new) (sym is) (by-error e h)
+  where
+    by-error : (e : InputError) → IsUnread old (reading_in c) e → CallEnds c old new (status_of e)
+    by-error NoRoom h = inl same
+    by-error e h = (same, (e, refl, h))
+
+pub unread-cause : (reads reads' writes writes' : ℕ) (e : InputError) (status : Status) → status ≡ status_of e → HasFaultCause reads reads' e
+    → HasCause reads reads' writes writes' status
+unread-cause reads reads' writes writes' e status is h = subst (HasCause reads reads' writes writes') (sym is) (by-error e h)
+  where
+    by-error : (e : InputError) → HasFaultCause reads reads' e → HasCause reads reads' writes writes' (status_of e)
+    by-error (Unreadable role) h = h
+    by-error e h = tt
+
+-- ---- the status that a call ends with once it is said
 
 -- memory that runs out as the end is said
 memory-ends : (c : Call) (old new : Option Names) (status : Status) → status ≢ Done → CallEnds c old new status → CallEnds c old new OutOfMemory
 memory-ends c old new Done other h = absurd (other refl)
-memory-ends c old new Usage other h = absurd h.1
-memory-ends c old new (ReadFault role) other h = inl h.0
-memory-ends c old new (InstanceRefused e) other h = inl h.0
-memory-ends c old new (SolutionRefused e) other h = inl h.0
 memory-ends c old new WriteFault other h = inr h
 memory-ends c old new OutOfMemory other h = h
-memory-ends c old new (TooLong role) other h = inl h.0
+memory-ends c old new status other h = inl h.0
 
--- the status that a call ends with once it is said, by the status that it had come to
+-- by the status that it had come to
 pub told-ends : (c : Call) (old new : Option Names) (status told : Status) → CallEnds c old new status → MayTell status told → CallEnds c old new told
 told-ends c old new status told h (inl same) = subst (CallEnds c old new) (sym same) h
 told-ends c old new status told h (inr memory) = subst (CallEnds c old new) (sym memory.1) (memory-ends c old new status memory.0 h)
@@ -46,13 +55,8 @@ module _ (texts : Status → List ℕ) (old new : Option (List ℕ)) (faults fau
   said-gained : (reached : Status → Type 0) (status : Status) → status ≢ Done → reached status → Gained old new faults faults' (texts status)
       → IsSaid reached texts status old new faults faults' lacks lacks'
   said-gained reached Done other h g = absurd (other refl)
-  said-gained reached Usage other h g = g
-  said-gained reached (ReadFault role) other h g = g
-  said-gained reached (InstanceRefused e) other h g = g
-  said-gained reached (SolutionRefused e) other h g = g
-  said-gained reached WriteFault other h g = g
   said-gained reached OutOfMemory other h g = inl (h, g)
-  said-gained reached (TooLong role) other h g = g
+  said-gained reached status other h g = g
 
   -- the text of a status that was reached was put
   pub said-put : (reached : Status → Type 0) (status result : Status) → status ≢ Done → reached status
@@ -65,35 +69,31 @@ module _ (texts : Status → List ℕ) (old new : Option (List ℕ)) (faults fau
   -- what is said where more was reached
   pub said-weaker : (small large : Status → Type 0) → ((status : Status) → small status → large status) → (result : Status)
       → IsSaid small texts result old new faults faults' lacks lacks' → IsSaid large texts result old new faults faults' lacks lacks'
-  said-weaker small large f Done h = h
-  said-weaker small large f Usage h = h
-  said-weaker small large f (ReadFault role) h = h
-  said-weaker small large f (InstanceRefused e) h = h
-  said-weaker small large f (SolutionRefused e) h = h
-  said-weaker small large f WriteFault h = h
   said-weaker small large f OutOfMemory (inl (h, g)) = inl (f OutOfMemory h, g)
   said-weaker small large f OutOfMemory (inr (status, other, h, part)) = inr (status, other, f status h, part)
-  said-weaker small large f (TooLong role) h = h
+  said-weaker small large f status h = h
 
-  -- a line was put, or there was no memory for it
-  pub said-line : (status result : Status) → status ≢ Done
-      → IsPut (texts status) status result old new faults faults' lacks lacks'
-      ⊎ IsPut (texts OutOfMemory) OutOfMemory result old new faults faults' lacks lacks'
-      → IsSaid (MayTell status) texts result old new faults faults' lacks lacks'
-  said-line status result other (inl h) = said-put (MayTell status) status result other (inl refl) h
-  said-line status result other (inr h) = said-put (MayTell status) OutOfMemory result memory-other (inr (other, refl)) h
-    where
-      memory-other : OutOfMemory ≢ Done
-      memory-other e = let clash : OutOfMemory ≡ Done = e in cc
+  module _ (status result : Status) (other : status ≢ Done) where
+    -- the line of the status was put
+    pub said-line : IsPut (texts status) status result old new faults faults' lacks lacks'
+        → IsSaid (MayTell status) texts result old new faults faults' lacks lacks'
+    said-line put = said-put (MayTell status) status result other (inl refl) put
 
-  pub told-line : (status result : Status) → status ≢ Done
-      → IsPut (texts status) status result old new faults faults' lacks lacks'
-      ⊎ IsPut (texts OutOfMemory) OutOfMemory result old new faults faults' lacks lacks'
-      → MayTell status result
-  told-line status result other (inl (inl (same, g))) = inl same
-  told-line status result other (inl (inr (memory, part))) = inr (other, memory)
-  told-line status result other (inr (inl (memory, g))) = inr (other, memory)
-  told-line status result other (inr (inr (memory, part))) = inr (other, memory)
+    pub told-line : IsPut (texts status) status result old new faults faults' lacks lacks' → MayTell status result
+    told-line (inl (same, g)) = inl same
+    told-line (inr (memory, part)) = inr (other, memory)
+
+    -- there was no memory for the line, and that was put
+    pub said-memory : IsPut (texts OutOfMemory) OutOfMemory result old new faults faults' lacks lacks'
+        → IsSaid (MayTell status) texts result old new faults faults' lacks lacks'
+    said-memory put = said-put (MayTell status) OutOfMemory result memory-other (inr (other, refl)) put
+      where
+        memory-other : OutOfMemory ≢ Done
+        memory-other e = let clash : OutOfMemory ≡ Done = e in cc
+
+    pub told-memory : IsPut (texts OutOfMemory) OutOfMemory result old new faults faults' lacks lacks' → MayTell status result
+    told-memory (inl (memory, g)) = inr (other, memory)
+    told-memory (inr (memory, part)) = inr (other, memory)
 
 -- the status after a put
 pub put-status : (text : List ℕ) (status result : Status) (old new : Option (List ℕ)) (faults faults' lacks lacks' : ℕ)

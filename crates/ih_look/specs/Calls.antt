@@ -1,6 +1,7 @@
 -- The words of a call: three names of files that differ.
 use Rattle.std.specs.Prelude.{ℕ, ◌||◌, List, [], ◌∷◌, Option, Some, None, if◌then◌else◌}
 use Rattle.std.specs.Str.{bytes_eq}
+use Rattle.ih_inputs.specs.Reading.{Reading}
 use Rattle.ih_look.specs.declared.calls.Call.{Call as Given_call}
 
 -- an instance and a solution, and where the page goes
@@ -12,6 +13,10 @@ pub record Call : Type 0 where
 -- the same of a call in the program
 abbrev pub call_in : Given_call → Call
 call_in c = record { instance = c.instance.now; solution = c.solution.now; page = c.page.now }
+
+-- the files that the call reads
+abbrev pub reading_in : Call → Reading
+reading_in c = record { instance = c.instance; solution = Some c.solution }
 
 -- the call that the words name
 abbrev pub call_of : List (List ℕ) → Option Call

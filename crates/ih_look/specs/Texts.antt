@@ -3,8 +3,8 @@ use Rattle.std.specs.Prelude.{◌≡◌, ◌≢◌, ℕ, ◌⊎◌, List, [], �
 use Rattle.ih_tables.specs.Places.{refusal_text}
 use Rattle.ih_shelf.specs.Outside.{Rose, IfTold, IsAppended, MayBeAppended}
 use Rattle.ih_shelf.specs.declared.outside.Sink.{Ghosts as SinkGhosts}
-use Rattle.ih_look.specs.declared.status.Role.{Role}
-use Rattle.ih_look.specs.declared.status.Role.TheVariants.{Instance, Solution}
+use Rattle.ih_inputs.specs.declared.error.InputRole.{InputRole}
+use Rattle.ih_inputs.specs.declared.error.InputRole.TheVariants.{Instance, Solution}
 use Rattle.ih_look.specs.declared.status.Status.{Status}
 use Rattle.ih_look.specs.declared.status.Status.TheVariants.{Done, Usage, ReadFault, InstanceRefused, SolutionRefused, WriteFault, OutOfMemory, TooLong}
 use Rattle.ih_look.specs.Calls.{Call}
@@ -16,7 +16,7 @@ abbrev pub memory_text : List ℕ
 memory_text = codes "out of memory\n"
 
 -- the name of a file that is read
-abbrev pub name_of : Call → Role → List ℕ
+abbrev pub name_of : Call → InputRole → List ℕ
 name_of c Instance = c.instance
 name_of c Solution = c.solution
 
@@ -38,7 +38,8 @@ text_for (Some c) status = text_of c status
 
 -- the text was put out whole, or a part of it, where the sink's count of faults rose
 abbrev pub Gained : Option (List ℕ) → Option (List ℕ) → ℕ → ℕ → List ℕ → Type 0
-Gained old new faults faults' text = IfTold (IsAppended text) old new ⊎ (Rose faults faults' × IfTold (MayBeAppended text) old new)
+Gained old new faults faults' text =
+    IfTold (IsAppended text) old new ⊎ (Rose faults faults' × IfTold (MayBeAppended text) old new)
 
 -- the sink's count of lacks of memory rose, and a part of the text was put out
 abbrev pub GainedPart : Option (List ℕ) → Option (List ℕ) → ℕ → ℕ → List ℕ → Type 0
@@ -47,7 +48,8 @@ GainedPart old new lacks lacks' text = Rose lacks lacks' × IfTold (MayBeAppende
 -- one put of a text, with the status that was to be told and the one that it then is: the sink may want memory itself
 abbrev pub IsPut : List ℕ → Status → Status → Option (List ℕ) → Option (List ℕ) → ℕ → ℕ → ℕ → ℕ → Type 0
 IsPut text status result old new faults faults' lacks lacks' =
-    ((result ≡ status) × Gained old new faults faults' text) ⊎ ((result ≡ OutOfMemory) × GainedPart old new lacks lacks' text)
+    ((result ≡ status) × Gained old new faults faults' text)
+    ⊎ ((result ≡ OutOfMemory) × GainedPart old new lacks lacks' text)
 
 -- the same of a put into a sink, by what that tells and counts
 abbrev pub IsPutInto : {X : Type 0} → SinkGhosts X → X → X → List ℕ → Status → Status → Type 0
@@ -62,7 +64,8 @@ MayTell status told = (told ≡ status) ⊎ ((status ≢ Done) × (told ≡ OutO
 -- What is said at a status, where each has its text: that, and nothing where the page was written. At `OutOfMemory` it
 -- may be instead that the sink wanted memory itself, and gained a part of the text of a status that the call had
 -- reached.
-abbrev pub IsSaid : (Status → Type 0) → (Status → List ℕ) → Status → Option (List ℕ) → Option (List ℕ) → ℕ → ℕ → ℕ → ℕ → Type 0
+abbrev pub IsSaid : (Status → Type 0) → (Status → List ℕ) → Status → Option (List ℕ) → Option (List ℕ) → ℕ → ℕ → ℕ → ℕ
+    → Type 0
 IsSaid reached texts Done old new faults faults' lacks lacks' = new ≡ old
 IsSaid reached texts OutOfMemory old new faults faults' lacks lacks' =
     (reached OutOfMemory × Gained old new faults faults' (texts OutOfMemory))

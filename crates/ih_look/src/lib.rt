@@ -2,11 +2,11 @@
 #![tactic(auto)]
 
 mod calls;
-mod inputs;
 mod looking;
 mod running;
 mod status;
 mod texts;
 
+pub use ih_inputs::InputRole as Role;
 pub use running::run_view;
-pub use status::{Role, Status};
+pub use status::Status;

@@ -2,12 +2,13 @@
 
 ghost use Rattle.std.specs.Prelude.{◌≡◌};
 ghost use Rattle.ih_plan.specs.Timetable.{IsPlanOf};
-ghost use Rattle.ih_look.specs.Calls.{call_in};
-ghost use Rattle.ih_look.specs.Ends.{CallEnds, HasInputs, HasShelfCause};
+ghost use Rattle.ih_inputs.specs.Reading.{HasInputs};
+ghost use Rattle.ih_look.specs.Calls.{call_in, reading_in};
+ghost use Rattle.ih_look.specs.Ends.{CallEnds, HasShelfCause};
 
 use crate::calls::Call;
-use crate::inputs::{Inputs, read_inputs};
-use crate::status::Status;
+use crate::status::{Status, status_of};
+use ih_inputs::{InputNames, Inputs, read_inputs};
 use ih_page::page;
 use ih_shelf::{Shelf, WriteError};
 use std::alloc::Global;
@@ -21,12 +22,13 @@ fn write_page<R: Files, S: Shelf>(
     inputs: &Inputs,
     shelf: &mut S,
 ) -> Status
-    requires plan { IsPlanOf inputs.now.inst.draft inputs.now.plan }
-    requires read { HasInputs (S.names shelf.old) (call_in call.now) inputs.now.inst.draft inputs.now.plan }
+    requires plan { IsPlanOf inputs.now.inst.value.draft inputs.now.plan }
+    requires read { HasInputs (S.names shelf.old) (reading_in (call_in call.now)) inputs.now.inst.value.draft
+        inputs.now.plan }
     ensures ends { CallEnds (call_in call.now) (S.names shelf.old) (S.names shelf.new) result }
     ensures cause { HasShelfCause S.Shelf shelf.old shelf.new result }
 {
-    let Ok(text) = page(alloc, &inputs.inst, &inputs.plan) else {
+    let Ok(text) = page(alloc, &*inputs.inst, &inputs.plan) else {
         return Status::OutOfMemory;
     };
     match shelf.write(rt, call.page, text.as_slice()) {
@@ -41,8 +43,12 @@ pub fn look<R: Files, S: Shelf>(rt: &R, alloc: Global, call: &Call<'_>, shelf: &
     ensures ends { CallEnds (call_in call.now) (S.names shelf.old) (S.names shelf.new) result }
     ensures cause { HasShelfCause S.Shelf shelf.old shelf.new result }
 {
-    match read_inputs(rt, alloc, call, shelf) {
+    let names = InputNames {
+        instance: call.instance,
+        solution: Some(call.solution),
+    };
+    match read_inputs(rt, alloc, &names, shelf) {
         Ok(inputs) => write_page(rt, alloc, call, &inputs, shelf),
-        Err(status) => status,
+        Err(error) => status_of(error),
     }
 }

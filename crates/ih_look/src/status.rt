@@ -1,16 +1,10 @@
 //! How a call ends.
 
 ghost use Rattle.std.specs.Prelude.{◌≡◌};
-ghost use Rattle.ih_look.specs.Ends.{code_of};
+ghost use Rattle.ih_look.specs.Ends.{code_of, status_of};
 
+use ih_inputs::{InputError, InputRole};
 use ih_tables::Refusal;
-
-/// What a file is to the call that reads it.
-#[derive(Clone, Copy, Debug, PartialEq, Eq)]
-pub enum Role {
-    Instance,
-    Solution,
-}
 
 /// How a call ends.
 #[derive(Clone, Copy, Debug, PartialEq, Eq)]
@@ -20,7 +14,7 @@ pub enum Status {
     /// The words name no call.
     Usage,
     /// A file couldn't be read.
-    ReadFault(Role),
+    ReadFault(InputRole),
     /// The instance's first refusal.
     InstanceRefused(Refusal),
     /// The solution's first refusal.
@@ -30,7 +24,7 @@ pub enum Status {
     /// Memory ran out.
     OutOfMemory,
     /// A file is longer than its limit.
-    TooLong(Role),
+    TooLong(InputRole),
 }
 
 impl Status {
@@ -48,5 +42,18 @@ impl Status {
             Status::OutOfMemory => 7,
             Status::TooLong(_) => 10,
         }
+    }
+}
+
+/// The status of a call that comes no further than its files.
+pub fn status_of(error: InputError) -> Status
+    ensures { result ≡ status_of error }
+{
+    match error {
+        InputError::ReadFault(role) => Status::ReadFault(role),
+        InputError::TooLong(role) => Status::TooLong(role),
+        InputError::InstanceRefused(refusal) => Status::InstanceRefused(refusal),
+        InputError::SolutionRefused(refusal) => Status::SolutionRefused(refusal),
+        InputError::OutOfMemory => Status::OutOfMemory,
     }
 }

@@ -1,20 +1,21 @@
 //! What a call says.
 
-ghost use Rattle.std.specs.Prelude.{◌≡◌, ◌≢◌, ◌⊎◌, IfOk, string_bytes};
+ghost use Rattle.std.specs.Prelude.{◌≡◌, IfOk, string_bytes};
 ghost use Rattle.ih_look.specs.Calls.{call_in};
 ghost use Rattle.ih_look.specs.Texts.{memory_text, name_of, text_of, usage_text, IsPutInto, IsSaidTo, MayTell};
 
 use crate::calls::Call;
-use crate::status::{Role, Status};
+use crate::status::Status;
+use ih_inputs::InputRole;
 use ih_shelf::{Sink, WriteError};
 use std::alloc::{AllocError, Global};
 
-fn name_of<'a>(call: &Call<'a>, role: Role) -> &'a str
+fn name_of<'a>(call: &Call<'a>, role: InputRole) -> &'a str
     ensures { result.now ≡ name_of (call_in call.now) role }
 {
     match role {
-        Role::Instance => call.instance,
-        Role::Solution => call.solution,
+        InputRole::Instance => call.instance,
+        InputRole::Solution => call.solution,
     }
 }
 
@@ -61,23 +62,6 @@ fn say_memory<R: Print, O: Sink>(rt: &R, out: &mut O) -> Status
     put_text(rt, out, Status::OutOfMemory, b"out of memory\n")
 }
 
-// Puts the line of a status. Where there is no memory for it, that is said.
-fn put_line<R: Print, O: Sink>(
-    rt: &R,
-    alloc: Global,
-    call: &Call<'_>,
-    out: &mut O,
-    status: Status,
-) -> Status
-    ensures { IsPutInto O.Sink out.old out.new (text_of (call_in call.now) status) status result
-        ⊎ IsPutInto O.Sink out.old out.new memory_text Status.OutOfMemory result }
-{
-    match text_of(alloc, call, status) {
-        Ok(line) => put_text(rt, out, status, line.into_bytes().as_slice()),
-        Err(_) => say_memory(rt, out),
-    }
-}
-
 /// Says that the words name no call.
 pub fn say_usage<R: Print, O: Sink>(rt: &R, out: &mut O) -> Status
     ensures { IsPutInto O.Sink out.old out.new usage_text Status.Usage result }
@@ -90,7 +74,8 @@ pub fn say_usage<R: Print, O: Sink>(rt: &R, out: &mut O) -> Status
     )
 }
 
-/// Says how a call ended, and gives its status; that it is done isn't said.
+/// Says how a call ended, and gives its status; that it is done isn't said. Where there is no memory for the line, that
+/// is said.
 pub fn conclude<R: Print, O: Sink>(
     rt: &R,
     alloc: Global,
@@ -104,6 +89,9 @@ pub fn conclude<R: Print, O: Sink>(
     match status {
         Status::Done => status,
         Status::OutOfMemory => say_memory(rt, out),
-        status => put_line(rt, alloc, call, out, status),
+        status => match text_of(alloc, call, status) {
+            Ok(line) => put_text(rt, out, status, line.into_bytes().as_slice()),
+            Err(_) => say_memory(rt, out),
+        },
     }
 }
