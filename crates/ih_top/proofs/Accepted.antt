@@ -19,9 +19,10 @@ use Rattle.ih_words.specs.Replay.{ReplayCall}
 use Rattle.ih_shelf.specs.Outside.{Names, bytes_at}
 use Rattle.ih_top.specs.declared.limits.TheConstants.{MAX_JOURNAL}
 use Rattle.ih_top.specs.declared.status.Status.{Status}
-use Rattle.ih_top.specs.declared.status.Status.TheVariants.{Done, Usage, ReadFault, InstanceRefused, StartRefused, NoneFound, WriteFault, OutOfMemory, JournalRefused, Infeasible, TooLong}
-use Rattle.ih_top.specs.declared.status.Role.TheVariants.{Instance, Solution, Journal, Out}
-use Rattle.ih_top.specs.Inputs.{Reading, EndsUnread, HasInputs, HasPlan, HasSolution, IsLongerThan, IsNext, replay_reading}
+use Rattle.ih_top.specs.declared.status.Status.TheVariants.{ReadFault, InstanceRefused, StartRefused, OutOfMemory, TooLong}
+use Rattle.ih_top.specs.declared.status.Role.TheVariants.{Instance, Solution, Journal}
+use Rattle.ih_inputs.specs.Reading.{Reading, HasInputs, HasPlan, HasSolution, IsLongerThan, IsNext}
+use Rattle.ih_top.specs.Inputs.{EndsUnread, replay_reading}
 use Rattle.ih_top.specs.Starts.{started}
 use Rattle.ih_top.specs.JournalEnds.{IsRefused}
 use Rattle.ih_top.specs.JournalFiles.{EndsUnreadJournal, HasRead, JournalRead}
@@ -45,21 +46,14 @@ module _ (files : Names) (r : Reading) (I : Draft) (P : Timetable) (has : HasInp
 
   -- with no fault, only lack of memory stops the reading
   pub accepted : (status : Status) (text : List ℕ) → HasNoFault status → EndsUnread (Some files) r status text → status ≡ OutOfMemory
-  accepted Done text calm h = absurd h
-  accepted Usage text calm h = absurd h
   accepted (ReadFault role) text calm h = absurd calm
-  accepted (InstanceRefused e) text calm h = absurd (not-both (instance (bytes_at files r.instance)) I e has.instance.read h.0.first)
+  accepted (InstanceRefused e) text calm h = absurd (not-both (instance (bytes_at files r.instance)) I e has.instance.read h.0.read)
   accepted (StartRefused e) text calm (J, name, next, refused, said) =
-      absurd (not-both (plan_in J (bytes_at files name)) P e (given J name next).read refused.first)
-  accepted NoneFound text calm h = absurd h
-  accepted (WriteFault role) text calm h = absurd calm
+      absurd (not-both (plan_in J (bytes_at files name)) P e (given J name next).read refused.read)
   accepted OutOfMemory text calm h = refl
-  accepted (JournalRefused e) text calm h = absurd h
-  accepted Infeasible text calm h = absurd h
   accepted (TooLong Instance) text calm h = absurd (let short = has.instance.short in let long = h.0 in omega arith)
   accepted (TooLong Solution) text calm (J, name, next, long, said) = absurd (let short = (given J name next).short in omega arith)
-  accepted (TooLong Journal) text calm h = absurd h
-  accepted (TooLong Out) text calm h = absurd h
+  accepted status text calm h = absurd h
 
 -- ---- journals that are accepted
 
@@ -124,17 +118,10 @@ module _ (files : Names) (r : ReplayCall) (x : JournalRead) (has : HasRead (Some
 
   -- with no fault, only lack of memory stops the reading
   pub journal-accepted : (status : Status) (text : List ℕ) → HasNoFault status → EndsUnreadJournal (Some files) r status text → status ≡ OutOfMemory
-  journal-accepted Done text calm h = absurd h
-  journal-accepted Usage text calm h = absurd h
   journal-accepted (ReadFault role) text calm h = absurd calm
   journal-accepted (InstanceRefused e) text calm h = start-accepted (InstanceRefused e) text calm h
   journal-accepted (StartRefused e) text calm h = start-accepted (StartRefused e) text calm h
-  journal-accepted NoneFound text calm h = absurd h
-  journal-accepted (WriteFault role) text calm h = absurd calm
   journal-accepted OutOfMemory text calm h = refl
-  journal-accepted (JournalRefused e) text calm h = absurd h
-  journal-accepted Infeasible text calm h = absurd h
-  journal-accepted (TooLong Instance) text calm h = start-accepted (TooLong Instance) text calm h
-  journal-accepted (TooLong Solution) text calm h = start-accepted (TooLong Solution) text calm h
   journal-accepted (TooLong Journal) text calm h = absurd (not-long h.1)
-  journal-accepted (TooLong Out) text calm h = absurd h
+  journal-accepted (TooLong role) text calm h = start-accepted (TooLong role) text calm h
+  journal-accepted status text calm h = absurd h

@@ -10,7 +10,7 @@ use Rattle.ih_top.specs.declared.answer.Answer.{Answer}
 use Rattle.ih_top.specs.declared.status.Status.TheVariants.{Done}
 use Rattle.ih_top.specs.Advise.{AdviseEnds, advise_reading}
 use Rattle.ih_top.specs.Answers.{Answers, IsSaid}
-use Rattle.ih_top.specs.Inputs.{HasInputs}
+use Rattle.ih_inputs.specs.Reading.{HasInputs}
 use Rattle.ih_top.proofs.Saying.{IsAnswerable, said-answer, unsaid-by}
 
 module _ (a : AdviseCall) (files : Option Names) where

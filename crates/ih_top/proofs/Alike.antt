@@ -20,7 +20,7 @@ use Rattle.ih_shelf.specs.Outside.{Names}
 use Rattle.ih_chain.proofs.Telling.{chain_tries-one}
 use Rattle.ih_top.specs.Chain.{of_chains}
 use Rattle.ih_top.specs.Demo.{HasSaid, IsDemo}
-use Rattle.ih_top.specs.Inputs.{HasPlan}
+use Rattle.ih_inputs.specs.Reading.{HasPlan}
 use Rattle.ih_top.specs.Laws.{DemosShowTheSame, LoneRoundsAreAlike, LoneSearchesAreAlike, LoneSearchesDoTheSame}
 use Rattle.ih_top.specs.Searches.{HasBase, Kind, solution_at, told_by}
 use Rattle.ih_top.specs.Solve.{of_moves}

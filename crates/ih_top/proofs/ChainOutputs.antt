@@ -1,23 +1,28 @@
 -- What a run of chains makes to be written and said.
-use Rattle.std.proofs.Common.{◌≡◌, ◌∙◌, ℕ, ◌<◌, ◌^◌, sym, ap, ap₂, arith, false, true, length, List, Option, Some, None}
+use Rattle.std.proofs.Common.{◌≡◌, ◌∙◌, ℕ, ◌<◌, ◌^◌, refl, sym, ap, ap₂, subst, arith, false, true, length, List, Option, Some, None}
 use Rattle.std.specs.Prelude.{ℤ}
 use Rattle.std.proofs.lemmas.List.{length-map}
 use Rattle.ih_plan.specs.BillOf.{bill_of}
-use Rattle.ih_plan.specs.Timetable.{Timetable, stay_of}
+use Rattle.ih_tables.specs.declared.drafts.Draft.{Draft}
+use Rattle.ih_plan.specs.Timetable.{IsPlanOf, Timetable, stay_of}
+use Rattle.ih_journal.specs.declared.settings.Options.{Options}
+use Rattle.ih_journal.specs.Settings.{IsLawful}
 use Rattle.ih_journal.specs.Base.{Base}
 use Rattle.ih_journal.specs.Best.{BestIs}
 use Rattle.ih_journal.specs.Frozen.{AgreesBefore, is_before}
 use Rattle.ih_journal.specs.History.{plan_at}
-use Rattle.ih_cellbook.specs.Keeping.{IsBase}
+use Rattle.ih_cellbook.specs.Keeping.{IsBase, base_with}
 use Rattle.ih_cellbook.proofs.EntryLimits.{legal-few}
 use Rattle.ih_cellbook.proofs.Unfrozen.{none-before}
 use Rattle.ih_chain.specs.declared.entries.ChainEntry.{ChainEntry}
 use Rattle.ih_chain.specs.Entries.{chain_tried, chain_tries}
+use Rattle.ih_chain.specs.Texts.{chain_journal}
 use Rattle.ih_chain.specs.Runs.{IsRunOf, Ran, best_plan}
 use Rattle.ih_solution.specs.Solution.{solution}
 use Rattle.ih_top.specs.declared.output.BestOutput.{BestOutput}
-use Rattle.ih_top.specs.Chain.{IsBestOfRun}
-use Rattle.ih_top.specs.Outputs.{HasBestOutput}
+use Rattle.ih_top.specs.declared.output.Output.{Output}
+use Rattle.ih_top.specs.Chain.{IsBestOfRun, of_chains}
+use Rattle.ih_top.specs.Outputs.{HasBestOutput, IsOutput}
 use Rattle.ih_top.specs.Texts.{found_text}
 
 -- ---- nothing lies before day 0
@@ -31,7 +36,7 @@ agrees-free b P free = record {
   nurses = λ r k room shift early. absurd (omega (arith, early, free));
 }
 
-pub run-agrees : (b : Base) (H : List ChainEntry) → b.freeze ≡ 0 → (k : ℕ) → AgreesBefore b (plan_at b (chain_tries H) k)
+run-agrees : (b : Base) (H : List ChainEntry) → b.freeze ≡ 0 → (k : ℕ) → AgreesBefore b (plan_at b (chain_tries H) k)
 run-agrees b H free k = agrees-free b (plan_at b (chain_tries H) k) free
 
 -- ---- a run has few entries
@@ -45,7 +50,7 @@ run-few b each r base is =
 
 -- ---- its best
 
-pub run-best : (b : Base) (each : ℕ) (r : Ran) (best : Option BestOutput) → IsRunOf b each r
+run-best : (b : Base) (each : ℕ) (r : Ran) (best : Option BestOutput) → IsRunOf b each r
     → IsBestOfRun b.instance r.best r.plan (length r.entries) best → HasBestOutput b (chain_tries r.entries) best
 run-best b each r best is said = by_case r.best r.plan best is.best is.plan said
   where
@@ -67,3 +72,22 @@ run-best b each r best is said = by_case r.best r.plan best is.best is.plan said
           text = said.1
               ∙ ap₂ (λ n Q. found_text k.0 n b.instance.weights (bill_of b.instance Q)) (sym (length-map r.entries chain_tried)) plan;
         }
+
+-- ---- all that it makes
+
+-- with nothing frozen
+pub chain-made : (I : Draft) (P : Timetable) (o : Options) (freeze each : ℕ) (r : Ran) (out : Output) → IsPlanOf I P → IsLawful o → o.seed < 2 ^ 64
+    → freeze ≡ 0 → IsRunOf (base_with I P o 0) each r → out.journal.items ≡ chain_journal r.options r.each r.entries
+    → IsBestOfRun I r.best r.plan (length r.entries) out.best → IsOutput (of_chains each) (base_with I P o freeze) out
+chain-made I P o freeze each r out fits lawful seed free is journal best =
+    let b : Base = base_with I P o 0 in
+    subst (λ (n : ℕ). IsOutput (of_chains each) (base_with I P o n) out) (sym free) (record {
+      history = r.entries;
+      given = record { start = fits; lawful = lawful };
+      seed = seed;
+      full = is.full;
+      agrees = run-agrees b r.entries refl;
+      exact = is.exact;
+      journal = journal ∙ ap₂ (λ options n. chain_journal options n r.entries) is.options is.each;
+      best = run-best b each r out.best is best;
+    })

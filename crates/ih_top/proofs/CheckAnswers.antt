@@ -10,7 +10,8 @@ use Rattle.ih_shelf.specs.Outside.{Names}
 use Rattle.ih_top.specs.declared.answer.Answer.{Answer}
 use Rattle.ih_top.specs.declared.status.Status.TheVariants.{Done, Infeasible}
 use Rattle.ih_top.specs.Answers.{Answers, IsSaid, checked_status}
-use Rattle.ih_top.specs.Inputs.{HasInputs, check_reading}
+use Rattle.ih_inputs.specs.Reading.{HasInputs}
+use Rattle.ih_top.specs.Inputs.{check_reading}
 use Rattle.ih_top.specs.Check.{CheckEnds}
 use Rattle.ih_top.proofs.CommandEnds.{check-answerable}
 use Rattle.ih_top.proofs.Saying.{said-answer}

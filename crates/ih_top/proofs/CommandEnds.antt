@@ -13,14 +13,14 @@ use Rattle.ih_words.specs.Rounds.{RoundsCall}
 use Rattle.ih_words.specs.Words.{Call, solve, replay, salvage, check, chain, rounds, gen, demo, advise}
 use Rattle.ih_shelf.specs.Outside.{IsWritten, MayBeWritten, Names, IfTold}
 use Rattle.ih_top.specs.declared.status.Status.{Status}
-use Rattle.ih_top.specs.declared.status.Status.TheVariants.{Done, Usage, ReadFault, InstanceRefused, StartRefused, NoneFound, WriteFault, OutOfMemory, JournalRefused, Infeasible, TooLong}
-use Rattle.ih_top.specs.declared.status.Role.TheVariants.{Instance, Solution, Journal, Out}
+use Rattle.ih_top.specs.declared.status.Status.TheVariants.{Done, Usage, WriteFault, OutOfMemory}
+use Rattle.ih_top.specs.declared.status.Role.TheVariants.{Out}
 use Rattle.ih_top.specs.declared.answer.Answer.{Answer}
 use Rattle.ih_top.specs.Answers.{IsConcluded, IsSaid}
 use Rattle.ih_top.specs.Texts.{done_text, memory_text, salvaged_text, usage_text}
-use Rattle.ih_top.specs.Rounds.{RoundsEnds}
+use Rattle.ih_top.specs.Rounds.{AreDone, RoundsEnds}
 use Rattle.ih_top.specs.Chain.{of_chains}
-use Rattle.ih_top.specs.Searches.{Kind, SearchEnds}
+use Rattle.ih_top.specs.Searches.{IsDone, Kind, SearchEnds}
 use Rattle.ih_top.specs.Solve.{of_moves}
 use Rattle.ih_top.specs.Writes.{Unchanged}
 use Rattle.ih_top.specs.Advise.{AdviseEnds}
@@ -36,7 +36,7 @@ use Rattle.ih_top.specs.Ends.{CallEnds, Ends, Leaves, UsageEnds}
 use Rattle.ih_top.proofs.RoundsWriting.{rounds-done-found, rounds-none-begun}
 use Rattle.ih_top.proofs.AdviseAnswers.{advise-answerable}
 use Rattle.ih_top.proofs.Saying.{IsAnswerable, ended, memory-ended, said-answer, unsaid-by}
-use Rattle.ih_top.proofs.Writing.{begun, done-found, none-begun}
+use Rattle.ih_top.proofs.Writing.{begun, done-found, none-begun, writing-answerable}
 
 -- nothing changes where the names are those that were there
 pub told-same : (old new : Option Names) → new ≡ old → IfTold Unchanged old new
@@ -44,57 +44,15 @@ told-same None new e = tt
 told-same (Some old) None e = absurd (let clash : None ≡ Some old = e in cc)
 told-same (Some old) (Some new) e = λ n. let same : new ≡ old = cc in cc
 
--- ---- solve and chain
+-- ---- solve, chain and rounds
 
-module _ {X : Type 0} (kind : Kind X) (s : SolveCall) (old new : Option Names) where
-  search-memory : (status : Status) (text : List ℕ) → SearchEnds kind s old new status text → SearchEnds kind s old new OutOfMemory memory_text
-  search-memory Done text h = (inr (inr (done-found kind s old new h.0)), refl)
-  search-memory Usage text h = (inl h.0, refl)
-  search-memory (ReadFault role) text h = (inl h.0, refl)
-  search-memory (InstanceRefused e) text h = (inl h.0, refl)
-  search-memory (StartRefused e) text h = (inl h.0, refl)
-  search-memory NoneFound text h = (inr (inl (none-begun kind s old new h.0.0)), refl)
-  search-memory (WriteFault None) text h = (inr (inr (done-found kind s old new h.0)), refl)
-  search-memory (WriteFault (Some Instance)) text h = (inl h.0, refl)
-  search-memory (WriteFault (Some Solution)) text h = (inl h.0, refl)
-  search-memory (WriteFault (Some Journal)) text h = (inr (inl h.0), refl)
-  search-memory (WriteFault (Some Out)) text h = (inr (inr h.0), refl)
-  search-memory OutOfMemory text h = (h.0, refl)
-  search-memory (JournalRefused e) text h = (inl h.0, refl)
-  search-memory Infeasible text h = (inl h.0, refl)
-  search-memory (TooLong role) text h = (inl h.0, refl)
+search-answerable : {X : Type 0} (kind : Kind X) (s : SolveCall) (old new : Option Names) → IsAnswerable (SearchEnds kind s old new)
+search-answerable kind s old new =
+    writing-answerable _ _ _ (λ text. IsDone kind s old new text) s old new (λ text h. done-found kind s old new h.0) (λ h. none-begun kind s old new h.0)
 
-  pub search-answerable : IsAnswerable (SearchEnds kind s old new)
-  search-answerable = record {
-    unsaid = λ status text some h. unsaid-by (SearchEnds kind s old new) text (λ done. done) (λ none. absurd none.1) status h;
-    memory = search-memory;
-  }
-
--- ---- rounds
-
-module _ (r : RoundsCall) (old new : Option Names) where
-  rounds-memory : (status : Status) (text : List ℕ) → RoundsEnds r old new status text → RoundsEnds r old new OutOfMemory memory_text
-  rounds-memory Done text h = (inr (inr (rounds-done-found r old new h.0)), refl)
-  rounds-memory Usage text h = (inl h.0, refl)
-  rounds-memory (ReadFault role) text h = (inl h.0, refl)
-  rounds-memory (InstanceRefused e) text h = (inl h.0, refl)
-  rounds-memory (StartRefused e) text h = (inl h.0, refl)
-  rounds-memory NoneFound text h = (inr (inl (rounds-none-begun r old new h.0.0)), refl)
-  rounds-memory (WriteFault None) text h = (inr (inr (rounds-done-found r old new h.0)), refl)
-  rounds-memory (WriteFault (Some Instance)) text h = (inl h.0, refl)
-  rounds-memory (WriteFault (Some Solution)) text h = (inl h.0, refl)
-  rounds-memory (WriteFault (Some Journal)) text h = (inr (inl h.0), refl)
-  rounds-memory (WriteFault (Some Out)) text h = (inr (inr h.0), refl)
-  rounds-memory OutOfMemory text h = (h.0, refl)
-  rounds-memory (JournalRefused e) text h = (inl h.0, refl)
-  rounds-memory Infeasible text h = (inl h.0, refl)
-  rounds-memory (TooLong role) text h = (inl h.0, refl)
-
-  pub rounds-answerable : IsAnswerable (RoundsEnds r old new)
-  rounds-answerable = record {
-    unsaid = λ status text some h. unsaid-by (RoundsEnds r old new) text (λ done. done) (λ none. absurd none.1) status h;
-    memory = rounds-memory;
-  }
+rounds-answerable : (r : RoundsCall) (old new : Option Names) → IsAnswerable (RoundsEnds r old new)
+rounds-answerable r old new =
+    writing-answerable _ _ _ (λ text. AreDone r old new text) r.search old new (λ text h. rounds-done-found r old new h.0) (λ h. rounds-none-begun r old new h.0)
 
 -- ---- check
 
@@ -126,20 +84,10 @@ module _ (taken : JournalRead → Base → List Entry → Type 0) (refused : Jou
 
   journal-memory : (status : Status) (text : List ℕ) → OfJournal status text → OfJournal OutOfMemory memory_text
   journal-memory Done text h = (inr (best-begun h.0), refl)
-  journal-memory Usage text h = (inl h.0, refl)
-  journal-memory (ReadFault role) text h = (inl h.0, refl)
-  journal-memory (InstanceRefused e) text h = (inl h.0, refl)
-  journal-memory (StartRefused e) text h = (inl h.0, refl)
-  journal-memory NoneFound text h = (inl h.0, refl)
   journal-memory (WriteFault None) text h = (inr (best-begun h.0), refl)
-  journal-memory (WriteFault (Some Instance)) text h = (inl h.0, refl)
-  journal-memory (WriteFault (Some Solution)) text h = (inl h.0, refl)
-  journal-memory (WriteFault (Some Journal)) text h = (inl h.0, refl)
   journal-memory (WriteFault (Some Out)) text h = (inr h.0, refl)
   journal-memory OutOfMemory text h = (h.0, refl)
-  journal-memory (JournalRefused e) text h = (inl h.0, refl)
-  journal-memory Infeasible text h = (inl h.0, refl)
-  journal-memory (TooLong role) text h = (inl h.0, refl)
+  journal-memory status text h = (inl h.0, refl)
 
   pub journal-answerable : IsAnswerable (JournalEnds taken refused said r old new)
   journal-answerable = record {
@@ -152,20 +100,9 @@ module _ (taken : JournalRead → Base → List Entry → Type 0) (refused : Jou
 module _ (g : GenCall) (old new : Option Names) where
   gen-memory : (status : Status) (text : List ℕ) → GenEnds g old new status text → GenEnds g old new OutOfMemory memory_text
   gen-memory Done text h = (begun g.out _ old new h.0, refl)
-  gen-memory Usage text h = absurd h
-  gen-memory (ReadFault role) text h = absurd h
-  gen-memory (InstanceRefused e) text h = absurd h
-  gen-memory (StartRefused e) text h = absurd h
-  gen-memory NoneFound text h = absurd h
-  gen-memory (WriteFault None) text h = absurd h
-  gen-memory (WriteFault (Some Instance)) text h = absurd h
-  gen-memory (WriteFault (Some Solution)) text h = absurd h
-  gen-memory (WriteFault (Some Journal)) text h = absurd h
   gen-memory (WriteFault (Some Out)) text h = (h.0, refl)
   gen-memory OutOfMemory text h = (h.0, refl)
-  gen-memory (JournalRefused e) text h = absurd h
-  gen-memory Infeasible text h = absurd h
-  gen-memory (TooLong role) text h = absurd h
+  gen-memory status text h = absurd h
 
   pub gen-answerable : IsAnswerable (GenEnds g old new)
   gen-answerable = record {

@@ -14,8 +14,9 @@ use Rattle.ih_words.specs.Replay.{ReplayCall}
 use Rattle.ih_words.specs.Words.{Call, solve, replay, salvage, check, chain, rounds, gen, demo, advise}
 use Rattle.ih_shelf.specs.Outside.{Names, Rose}
 use Rattle.ih_top.specs.declared.status.Status.{Status}
-use Rattle.ih_top.specs.declared.status.Status.TheVariants.{Done, Usage, ReadFault, InstanceRefused, StartRefused, NoneFound, WriteFault, OutOfMemory, JournalRefused, Infeasible, TooLong}
-use Rattle.ih_top.specs.Inputs.{Reading, EndsUnread, HasInputs, solve_reading, check_reading}
+use Rattle.ih_top.specs.declared.status.Status.TheVariants.{Done, ReadFault, NoneFound, WriteFault, OutOfMemory, Infeasible}
+use Rattle.ih_inputs.specs.Reading.{Reading, HasInputs}
+use Rattle.ih_top.specs.Inputs.{EndsUnread, solve_reading, check_reading}
 use Rattle.ih_top.specs.Chain.{of_chains}
 use Rattle.ih_top.specs.Solve.{of_moves}
 use Rattle.ih_top.specs.Texts.{done_text, salvaged_text}
@@ -38,34 +39,17 @@ use Rattle.ih_top.proofs.FaultlessEnds.{IsFaultless, journal-faultless, rounds-f
 module _ (reads reads' writes writes' puts puts' : ℕ) (calm : (Rose reads reads' → ⊥)) (kept : (Rose writes writes' → ⊥)) (heard : (Rose puts puts' → ⊥)) where
   -- where no count rose there is no fault
   no-fault : (status : Status) → HasCause reads reads' writes writes' puts puts' status → HasNoFault status
-  no-fault Done cause = tt
-  no-fault Usage cause = tt
   no-fault (ReadFault role) cause = calm cause
-  no-fault (InstanceRefused e) cause = tt
-  no-fault (StartRefused e) cause = tt
-  no-fault NoneFound cause = tt
   no-fault (WriteFault None) cause = heard cause
   no-fault (WriteFault (Some role)) cause = kept cause
-  no-fault OutOfMemory cause = tt
-  no-fault (JournalRefused e) cause = tt
-  no-fault Infeasible cause = tt
-  no-fault (TooLong role) cause = tt
+  no-fault status cause = tt
 
 -- what holds of each end of a family, and where memory runs out, holds of the status that a call of it ends in
 reached : (answer : Status → Type 0) (ends : Status → List ℕ → Type 0) (gained part : List ℕ → Type 0) → answer OutOfMemory
     → ((status : Status) (text : List ℕ) → HasNoFault status → ends status text → answer status)
     → (status : Status) → HasNoFault status → Ends ends gained part status → answer status
-reached answer ends gained part memory f Done calm (text, h, g) = f Done text calm h
-reached answer ends gained part memory f Usage calm (text, h, g) = f Usage text calm h
-reached answer ends gained part memory f (ReadFault role) calm (text, h, g) = f (ReadFault role) text calm h
-reached answer ends gained part memory f (InstanceRefused e) calm (text, h, g) = f (InstanceRefused e) text calm h
-reached answer ends gained part memory f (StartRefused e) calm (text, h, g) = f (StartRefused e) text calm h
-reached answer ends gained part memory f NoneFound calm (text, h, g) = f NoneFound text calm h
-reached answer ends gained part memory f (WriteFault role) calm (text, h, g) = f (WriteFault role) text calm h
 reached answer ends gained part memory f OutOfMemory calm h = memory
-reached answer ends gained part memory f (JournalRefused e) calm (text, h, g) = f (JournalRefused e) text calm h
-reached answer ends gained part memory f Infeasible calm (text, h, g) = f Infeasible text calm h
-reached answer ends gained part memory f (TooLong role) calm (text, h, g) = f (TooLong role) text calm h
+reached answer ends gained part memory f status calm (text, h, g) = f status text calm h
 
 -- ---- the commands
 
@@ -96,57 +80,29 @@ module _ (files : Names) where
   checked : (c : CheckCall) (I : Draft) (P : Timetable) → HasInputs (Some files) (check_reading c) I P → (status : Status) (text : List ℕ)
       → HasNoFault status → CheckEnds c (Some files) status text → IsAnswered (check c) status
   checked c I P has Done text calm h = inl refl
-  checked c I P has Usage text calm h = absurd h
-  checked c I P has (ReadFault role) text calm h = absurd calm
-  checked c I P has (InstanceRefused e) text calm h = inr (inr (accepted files (check_reading c) I P has (InstanceRefused e) text calm h))
-  checked c I P has (StartRefused e) text calm h = inr (inr (accepted files (check_reading c) I P has (StartRefused e) text calm h))
-  checked c I P has NoneFound text calm h = absurd h
-  checked c I P has (WriteFault role) text calm h = absurd calm
-  checked c I P has OutOfMemory text calm h = inr (inr refl)
-  checked c I P has (JournalRefused e) text calm h = absurd h
   checked c I P has Infeasible text calm h = inr (inl refl)
-  checked c I P has (TooLong role) text calm h = inr (inr (accepted files (check_reading c) I P has (TooLong role) text calm h))
+  checked c I P has (WriteFault role) text calm h = absurd calm
+  checked c I P has status text calm h = inr (inr (accepted files (check_reading c) I P has status text calm h))
 
   advised : (a : AdviseCall) (I : Draft) (P : Timetable) → HasInputs (Some files) (advise_reading a) I P → (status : Status) (text : List ℕ)
       → HasNoFault status → AdviseEnds a (Some files) status text → IsAnswered (advise a) status
   advised a I P has Done text calm h = inl refl
-  advised a I P has Usage text calm h = absurd h
-  advised a I P has (ReadFault role) text calm h = absurd calm
-  advised a I P has (InstanceRefused e) text calm h = inr (accepted files (advise_reading a) I P has (InstanceRefused e) text calm h)
-  advised a I P has (StartRefused e) text calm h = inr (accepted files (advise_reading a) I P has (StartRefused e) text calm h)
-  advised a I P has NoneFound text calm h = absurd h
   advised a I P has (WriteFault role) text calm h = absurd calm
-  advised a I P has OutOfMemory text calm h = inr refl
-  advised a I P has (JournalRefused e) text calm h = absurd h
-  advised a I P has Infeasible text calm h = absurd h
-  advised a I P has (TooLong role) text calm h = inr (accepted files (advise_reading a) I P has (TooLong role) text calm h)
+  advised a I P has status text calm h = inr (accepted files (advise_reading a) I P has status text calm h)
 
 generated : (g : GenCall) (old new : Option Names) (status : Status) (text : List ℕ) → HasNoFault status → GenEnds g old new status text
     → IsAnswered (gen g) status
 generated g old new Done text calm h = inl refl
-generated g old new Usage text calm h = absurd h
-generated g old new (ReadFault role) text calm h = absurd calm
-generated g old new (InstanceRefused e) text calm h = absurd h
-generated g old new (StartRefused e) text calm h = absurd h
-generated g old new NoneFound text calm h = absurd h
 generated g old new (WriteFault role) text calm h = absurd calm
 generated g old new OutOfMemory text calm h = inr refl
-generated g old new (JournalRefused e) text calm h = absurd h
-generated g old new Infeasible text calm h = absurd h
-generated g old new (TooLong role) text calm h = absurd h
+generated g old new status text calm h = absurd h
 
 shown : (number : ℕ) (status : Status) (text : List ℕ) → HasNoFault status → DemoEnds number status text → IsAnswered (demo number) status
 shown number Done text calm h = inl refl
-shown number Usage text calm h = absurd h
-shown number (ReadFault role) text calm h = absurd calm
-shown number (InstanceRefused e) text calm h = absurd h
-shown number (StartRefused e) text calm h = absurd h
 shown number NoneFound text calm h = inr (inl refl)
 shown number (WriteFault role) text calm h = absurd calm
 shown number OutOfMemory text calm h = inr (inr refl)
-shown number (JournalRefused e) text calm h = absurd h
-shown number Infeasible text calm h = absurd h
-shown number (TooLong role) text calm h = absurd h
+shown number status text calm h = absurd h
 
 -- ---- any command
 

@@ -17,11 +17,12 @@ use Rattle.ih_instance.specs.Instance.{instance}
 use Rattle.ih_solution.specs.Reading.{plan_in}
 use Rattle.ih_words.specs.Solve.{SolveCall}
 use Rattle.ih_shelf.specs.Outside.{Names, bytes_at}
-use Rattle.ih_top.specs.declared.limits.TheConstants.{MAX_FILE}
-use Rattle.ih_top.specs.declared.status.Role.TheVariants.{Instance, Solution, Journal, Out}
+use Rattle.ih_inputs.specs.declared.reading.TheConstants.{MAX_FILE}
+use Rattle.ih_top.specs.declared.status.Role.TheVariants.{Instance, Solution}
 use Rattle.ih_top.specs.declared.status.Status.{Status}
-use Rattle.ih_top.specs.declared.status.Status.TheVariants.{Done, Usage, ReadFault, InstanceRefused, StartRefused, NoneFound, WriteFault, OutOfMemory, JournalRefused, Infeasible, TooLong}
-use Rattle.ih_top.specs.Inputs.{EndsUnread, HasInputs, IsNext, Reading, solve_reading}
+use Rattle.ih_top.specs.declared.status.Status.TheVariants.{Done, ReadFault, InstanceRefused, StartRefused, NoneFound, WriteFault, OutOfMemory, TooLong}
+use Rattle.ih_inputs.specs.Reading.{HasInputs, IsNext, Reading}
+use Rattle.ih_top.specs.Inputs.{EndsUnread, solve_reading}
 use Rattle.ih_top.specs.Laws.{EndTheSame, HasNoFault, LoneSearchesEndAlike}
 use Rattle.ih_top.specs.Searches.{HasFoundNone, IsDone, Kind, SearchEnds, told_by}
 use Rattle.ih_top.specs.Writes.{OthersUnchanged, Unchanged}
@@ -72,22 +73,16 @@ module _ (files : Names) (r : Reading) where
 
   refused-so : (status : Status) (text : List ℕ) → HasNoFault status → status ≢ OutOfMemory → EndsUnread (Some files) r status text
       → ◌≡◌ {A = Status × List ℕ} (status, text) (verdict files r)
-  refused-so Done text calm room h = absurd h
-  refused-so Usage text calm room h = absurd h
   refused-so (ReadFault role) text calm room h = absurd calm
   refused-so (InstanceRefused e) text calm room h =
       ap (λ (t : List ℕ). let both : Status × List ℕ = (InstanceRefused e, t) in both) h.1
-      ∙ ap₂ (first-verdict files r) (within MAX_FILE (length (bytes_at files r.instance)) h.0.short) (sym h.0.first)
+      ∙ ap₂ (first-verdict files r) (within MAX_FILE (length (bytes_at files r.instance)) h.0.short) (sym h.0.read)
   refused-so (StartRefused e) text calm room (I, name, next, refused, said) =
       ap (λ (t : List ℕ). let both : Status × List ℕ = (StartRefused e, t) in both) said
       ∙ (ap₂ (λ (long : Bool) (plan : Result Timetable Refusal). start-verdict long plan name)
-      (within MAX_FILE (length (bytes_at files name)) refused.short) (sym refused.first)
+      (within MAX_FILE (length (bytes_at files name)) refused.short) (sym refused.read)
       ∙ at-start I name next)
-  refused-so NoneFound text calm room h = absurd h
-  refused-so (WriteFault role) text calm room h = absurd calm
   refused-so OutOfMemory text calm room h = absurd (room refl)
-  refused-so (JournalRefused e) text calm room h = absurd h
-  refused-so Infeasible text calm room h = absurd h
   refused-so (TooLong Instance) text calm room h =
       ap (λ (t : List ℕ). let both : Status × List ℕ = (TooLong Instance, t) in both) h.1
       ∙ ap (λ (long : Bool). first-verdict files r long (instance (bytes_at files r.instance))) (over MAX_FILE (length (bytes_at files r.instance)) h.0)
@@ -95,8 +90,8 @@ module _ (files : Names) (r : Reading) where
       ap (λ (t : List ℕ). let both : Status × List ℕ = (TooLong Solution, t) in both) said
       ∙ (ap (λ (over : Bool). start-verdict over (plan_in I (bytes_at files name)) name) (over MAX_FILE (length (bytes_at files name)) long)
       ∙ at-start I name next)
-  refused-so (TooLong Journal) text calm room h = absurd h
-  refused-so (TooLong Out) text calm room h = absurd h
+  refused-so (WriteFault role) text calm room h = absurd calm
+  refused-so status text calm room h = absurd h
 
 -- ---- three kinds of ends
 

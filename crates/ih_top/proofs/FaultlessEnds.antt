@@ -10,13 +10,13 @@ use Rattle.ih_words.specs.Rounds.{RoundsCall}
 use Rattle.ih_words.specs.Solve.{SolveCall}
 use Rattle.ih_shelf.specs.Outside.{IsWritten, Names, IfTold}
 use Rattle.ih_top.specs.declared.status.Status.{Status}
-use Rattle.ih_top.specs.declared.status.Status.TheVariants.{Done, Usage, ReadFault, InstanceRefused, StartRefused, NoneFound, WriteFault, OutOfMemory, JournalRefused, Infeasible, TooLong}
+use Rattle.ih_top.specs.declared.status.Status.TheVariants.{Done, ReadFault, NoneFound, WriteFault, OutOfMemory, JournalRefused}
 use Rattle.ih_top.specs.Inputs.{EndsUnread, solve_reading}
 use Rattle.ih_top.specs.JournalEnds.{HasBest, HasNoBest, IsRefused, JournalEnds}
 use Rattle.ih_top.specs.JournalFiles.{EndsUnreadJournal, JournalRead}
 use Rattle.ih_top.specs.Laws.{HasNoFault}
 use Rattle.ih_top.specs.Rounds.{AreDone, HaveFoundNone, RoundsEnds}
-use Rattle.ih_top.specs.Searches.{HasFoundNone, IsDone, Kind, SearchEnds}
+use Rattle.ih_top.specs.Searches.{HasFoundNone, IsDone, Kind, SearchEnds, WritingEnds}
 use Rattle.ih_top.specs.Texts.{journal_refused_text, none_found_text}
 use Rattle.ih_top.specs.Writes.{Unchanged}
 
@@ -24,37 +24,27 @@ use Rattle.ih_top.specs.Writes.{Unchanged}
 abbrev pub IsFaultless : Type 0 → Type 0 → Type 0 → Status → Type 0
 IsFaultless done none other status = (status ≡ OutOfMemory) ⊎ ((status ≡ Done) × done) ⊎ ((status ≡ NoneFound) × none) ⊎ other
 
-module _ {X : Type 0} (kind : Kind X) (s : SolveCall) (old new : Option Names) where
-  pub search-faultless : (status : Status) (text : List ℕ) → HasNoFault status → SearchEnds kind s old new status text
-      → IsFaultless (IsDone kind s old new text) (HasFoundNone kind s old new × (text ≡ none_found_text))
-      (IfTold Unchanged old new × EndsUnread old (solve_reading s) status text) status
-  search-faultless Done text calm h = inr (inl (refl, h))
-  search-faultless Usage text calm h = inr (inr (inr h))
-  search-faultless (ReadFault role) text calm h = absurd calm
-  search-faultless (InstanceRefused e) text calm h = inr (inr (inr h))
-  search-faultless (StartRefused e) text calm h = inr (inr (inr h))
-  search-faultless NoneFound text calm h = inr (inr (inl (refl, h)))
-  search-faultless (WriteFault role) text calm h = absurd calm
-  search-faultless OutOfMemory text calm h = inl refl
-  search-faultless (JournalRefused e) text calm h = inr (inr (inr h))
-  search-faultless Infeasible text calm h = inr (inr (inr h))
-  search-faultless (TooLong role) text calm h = inr (inr (inr h))
+-- ---- searches
 
-module _ (r : RoundsCall) (old new : Option Names) where
-  pub rounds-faultless : (status : Status) (text : List ℕ) → HasNoFault status → RoundsEnds r old new status text
-      → IsFaultless (AreDone r old new text) (HaveFoundNone r old new × (text ≡ none_found_text))
-      (IfTold Unchanged old new × EndsUnread old (solve_reading r.search) status text) status
-  rounds-faultless Done text calm h = inr (inl (refl, h))
-  rounds-faultless Usage text calm h = inr (inr (inr h))
-  rounds-faultless (ReadFault role) text calm h = absurd calm
-  rounds-faultless (InstanceRefused e) text calm h = inr (inr (inr h))
-  rounds-faultless (StartRefused e) text calm h = inr (inr (inr h))
-  rounds-faultless NoneFound text calm h = inr (inr (inl (refl, h)))
-  rounds-faultless (WriteFault role) text calm h = absurd calm
-  rounds-faultless OutOfMemory text calm h = inl refl
-  rounds-faultless (JournalRefused e) text calm h = inr (inr (inr h))
-  rounds-faultless Infeasible text calm h = inr (inr (inr h))
-  rounds-faultless (TooLong role) text calm h = inr (inr (inr h))
+module _ (begun none found : Type 0) (done : List ℕ → Type 0) (s : SolveCall) (old new : Option Names) where
+  writing-faultless : (status : Status) (text : List ℕ) → HasNoFault status → WritingEnds begun none found done s old new status text
+      → IsFaultless (done text) (none × (text ≡ none_found_text)) (IfTold Unchanged old new × EndsUnread old (solve_reading s) status text) status
+  writing-faultless Done text calm h = inr (inl (refl, h))
+  writing-faultless (ReadFault role) text calm h = absurd calm
+  writing-faultless NoneFound text calm h = inr (inr (inl (refl, h)))
+  writing-faultless (WriteFault role) text calm h = absurd calm
+  writing-faultless OutOfMemory text calm h = inl refl
+  writing-faultless status text calm h = inr (inr (inr h))
+
+pub search-faultless : {X : Type 0} (kind : Kind X) (s : SolveCall) (old new : Option Names) (status : Status) (text : List ℕ) → HasNoFault status
+    → SearchEnds kind s old new status text → IsFaultless (IsDone kind s old new text) (HasFoundNone kind s old new × (text ≡ none_found_text))
+    (IfTold Unchanged old new × EndsUnread old (solve_reading s) status text) status
+search-faultless kind s old new = writing-faultless _ _ _ (λ text. IsDone kind s old new text) s old new
+
+pub rounds-faultless : (r : RoundsCall) (old new : Option Names) (status : Status) (text : List ℕ) → HasNoFault status
+    → RoundsEnds r old new status text → IsFaultless (AreDone r old new text) (HaveFoundNone r old new × (text ≡ none_found_text))
+    (IfTold Unchanged old new × EndsUnread old (solve_reading r.search) status text) status
+rounds-faultless r old new = writing-faultless _ _ _ (λ text. AreDone r old new text) r.search old new
 
 -- ---- replay and salvage
 
@@ -75,14 +65,10 @@ module _ (taken : JournalRead → Base → List Entry → Type 0) (refused : Jou
   pub journal-faultless : (status : Status) (text : List ℕ) → HasNoFault status → JournalEnds taken refused said r old new status text
       → JournalFaultless status text
   journal-faultless Done text calm h = inr (inl (refl, h))
-  journal-faultless Usage text calm h = inr (inr (inr (inr h.1)))
   journal-faultless (ReadFault role) text calm h = absurd calm
-  journal-faultless (InstanceRefused e) text calm h = inr (inr (inr (inr h.1)))
-  journal-faultless (StartRefused e) text calm h = inr (inr (inr (inr h.1)))
   journal-faultless NoneFound text calm (kept, none, told) = inr (inr (inl (refl, (none, told))))
   journal-faultless (WriteFault role) text calm h = absurd calm
   journal-faultless OutOfMemory text calm h = inl refl
   journal-faultless (JournalRefused e) text calm (kept, why, told) =
       inr (inr (inr (inl (record { refusal = e; status_is = refl; why = why; said_is = told }))))
-  journal-faultless Infeasible text calm h = inr (inr (inr (inr h.1)))
-  journal-faultless (TooLong role) text calm h = inr (inr (inr (inr h.1)))
+  journal-faultless status text calm h = inr (inr (inr (inr h.1)))

@@ -15,16 +15,21 @@ use Rattle.ih_top.specs.declared.output.BestOutput.{BestOutput}
 use Rattle.ih_top.specs.declared.outcome.Outcome.{Outcome}
 use Rattle.ih_top.specs.declared.outcome.Outcome.TheVariants.{Refused, Taken}
 use Rattle.ih_top.specs.declared.status.Status.{Status}
-use Rattle.ih_top.specs.declared.status.Status.TheVariants.{Done, Usage, ReadFault, InstanceRefused, StartRefused, NoneFound, WriteFault, OutOfMemory, JournalRefused, Infeasible, TooLong}
-use Rattle.ih_top.specs.declared.status.Role.TheVariants.{Instance, Solution, Journal, Out}
+use Rattle.ih_top.specs.declared.status.Status.TheVariants.{Done, ReadFault, NoneFound, WriteFault, OutOfMemory, JournalRefused, TooLong}
+use Rattle.ih_top.specs.declared.status.Role.TheVariants.{Journal, Out}
 use Rattle.ih_top.specs.Answers.{Answers}
 use Rattle.ih_top.specs.Outcomes.{AreLines, IsLinesOutcome, IsOutcome, IsTaken, OutcomeEnds, WritesBest}
 use Rattle.ih_top.specs.Outputs.{IsBestSaid}
 use Rattle.ih_top.specs.JournalEnds.{HasBest, HasNoBest, IsRefused, JournalEnds}
-use Rattle.ih_top.specs.JournalFiles.{HasRead, JournalRead}
+use Rattle.ih_top.specs.Inputs.{EndsUnread, replay_reading}
+use Rattle.ih_top.specs.JournalFiles.{EndsUnreadJournal, HasRead, JournalRead}
 use Rattle.ih_top.specs.JournalHeading.{IsBegun, IsHeadedBy, IsHeadless, base_headed}
 use Rattle.ih_top.specs.Replay.{IsRefusedJournal, IsReplay}
 use Rattle.ih_top.specs.Salvage.{IsSalvage}
+use Rattle.ih_top.specs.declared.journals.JournalUse.{JournalUse}
+use Rattle.ih_top.specs.declared.journals.JournalUse.TheVariants.{Replay, Salvage}
+use Rattle.ih_top.specs.JournalUses.{IsLinesFor, IsOutcomeFor, refused_for}
+use Rattle.ih_top.specs.Writes.{Unchanged}
 use Rattle.ih_top.specs.Texts.{done_text, memory_text, salvaged_text}
 use Rattle.ih_top.proofs.Saying.{IsAnswerable, answers-weaker, unsaid-by}
 use Rattle.ih_top.proofs.Writing.{begun}
@@ -37,20 +42,12 @@ module _ (o : Outcome) (out : List ℕ) (old new : Option Names) where
 
   outcome-memory : (status : Status) (text : List ℕ) → OutcomeEnds o out old new status text → OutcomeEnds o out old new OutOfMemory memory_text
   outcome-memory Done text h = (inr (writes-begun h.0), refl)
-  outcome-memory Usage text h = absurd h
-  outcome-memory (ReadFault role) text h = absurd h
-  outcome-memory (InstanceRefused e) text h = absurd h
-  outcome-memory (StartRefused e) text h = absurd h
   outcome-memory NoneFound text h = (inl h.0, refl)
   outcome-memory (WriteFault None) text h = (inr (writes-begun h.0), refl)
-  outcome-memory (WriteFault (Some Instance)) text h = absurd h
-  outcome-memory (WriteFault (Some Solution)) text h = absurd h
-  outcome-memory (WriteFault (Some Journal)) text h = absurd h
   outcome-memory (WriteFault (Some Out)) text h = (inr h.0, refl)
   outcome-memory OutOfMemory text h = (h.0, refl)
   outcome-memory (JournalRefused e) text h = (inl h.0, refl)
-  outcome-memory Infeasible text h = absurd h
-  outcome-memory (TooLong role) text h = absurd h
+  outcome-memory status text h = absurd h
 
   pub outcome-answerable : IsAnswerable (OutcomeEnds o out old new)
   outcome-answerable = record {
@@ -98,21 +95,13 @@ module _ (taken : JournalRead → Base → List Entry → Type 0) (refused : Jou
 
     pub outcome-ends : (status : Status) (text : List ℕ) → OutcomeEnds o r.out old new status text → OfCall status text
     outcome-ends Done text h = let d = writes-best IsWritten h.0 in (d.0, h.1 ∙ d.1)
-    outcome-ends Usage text h = absurd h
-    outcome-ends (ReadFault role) text h = absurd h
-    outcome-ends (InstanceRefused e) text h = absurd h
-    outcome-ends (StartRefused e) text h = absurd h
     outcome-ends NoneFound text h = (h.0, finds-none h.1, h.2)
     outcome-ends (WriteFault None) text h = let d = writes-best IsWritten h.0 in (d.0, h.1 ∙ d.1)
-    outcome-ends (WriteFault (Some Instance)) text h = absurd h
-    outcome-ends (WriteFault (Some Solution)) text h = absurd h
-    outcome-ends (WriteFault (Some Journal)) text h = absurd h
     outcome-ends (WriteFault (Some Out)) text h = ((writes-best MayBeWritten h.0).0, h.1)
     outcome-ends OutOfMemory text (inl same, said_is) = (inl same, said_is)
     outcome-ends OutOfMemory text (inr w, said_is) = (inr (writes-best MayBeWritten w).0, said_is)
     outcome-ends (JournalRefused e) text h = (h.0, is-refused e h.1, h.2)
-    outcome-ends Infeasible text h = absurd h
-    outcome-ends (TooLong role) text h = absurd h
+    outcome-ends status text h = absurd h
 
     pub outcome-answer : (a : Answer) → Answers (OutcomeEnds o r.out old new) a → Answers (JournalEnds taken refused said r old new) a
     outcome-answer a h = answers-weaker (OutcomeEnds o r.out old new) OfCall outcome-ends a h
@@ -132,7 +121,7 @@ module _ (s : StartCall) (x : JournalRead) (o : Option Headed) (h : Headed) (is 
 -- ---- what the lines come to is what the journal comes to
 
 module _ (s : StartCall) (x : JournalRead) (b : Base) (lines : List ℕ) (headed : IsHeadedBy s x b lines) where
-  pub replay-outcome : (o : Outcome) → IsLinesOutcome b lines o → IsOutcome (IsReplay s x) (IsRefusedJournal s x) done_text o
+  replay-outcome : (o : Outcome) → IsLinesOutcome b lines o → IsOutcome (IsReplay s x) (IsRefusedJournal s x) done_text o
   replay-outcome (Refused e) t = inr (record { base = b; history = t.history; bytes = lines; headed = headed; refused = t.refused; none = t.none })
   replay-outcome (Taken best) t = record {
     base = b;
@@ -141,15 +130,41 @@ module _ (s : StartCall) (x : JournalRead) (b : Base) (lines : List ℕ) (headed
     output = t.output;
   }
 
-  pub replay-result : {E : Type 0} (r : Result Outcome E) → IfOk r (IsLinesOutcome b lines)
-      → IfOk r (IsOutcome (IsReplay s x) (IsRefusedJournal s x) done_text)
-  replay-result (Ok o) t = replay-outcome o t
-  replay-result (Err e) t = t
-
-  pub salvage-outcome : (best : Option BestOutput) → AreLines b lines best → IsOutcome (IsSalvage s x) (IsHeadless x) salvaged_text (Taken best)
+  salvage-outcome : (best : Option BestOutput) → AreLines b lines best → IsOutcome (IsSalvage s x) (IsHeadless x) salvaged_text (Taken best)
   salvage-outcome best t = record {
     base = b;
     history = t.history;
     taken_is = record { bytes = lines; rest = t.rest; headed = headed; given = t.given; begins = t.begins; agrees = t.agrees; exact = t.exact };
     output = t.output;
   }
+
+  outcome-for : (usage : JournalUse) (o : Outcome) → IsLinesFor usage b lines o → IsOutcomeFor usage s x o
+  outcome-for Replay o t = replay-outcome o t
+  outcome-for Salvage (Taken best) t = salvage-outcome best t
+  outcome-for Salvage (Refused e) t = absurd t
+
+  pub result-for : {E : Type 0} (usage : JournalUse) (r : Result Outcome E) → IfOk r (IsLinesFor usage b lines) → IfOk r (IsOutcomeFor usage s x)
+  result-for usage (Ok o) t = outcome-for usage o t
+  result-for usage (Err e) t = t
+
+-- a journal without a heading is refused, whatever it is read for
+pub headless-for : (usage : JournalUse) (s : StartCall) (x : JournalRead) (e : JournalRefusal) → IsHeadless x e → refused_for usage s x e
+headless-for Replay s x e h = inl h
+headless-for Salvage s x e h = h
+
+-- ---- a call that comes no further than its files
+
+module _ (taken : JournalRead → Base → List Entry → Type 0) (refused : JournalRead → JournalRefusal → Type 0) (said : Base → List Tried → ℕ → List ℕ)
+    (r : ReplayCall) (old new : Option Names) (kept : IfTold Unchanged old new) where
+  pub unread-journal : (status : Status) (text : List ℕ) → EndsUnreadJournal old r status text → JournalEnds taken refused said r old new status text
+  unread-journal Done text h = absurd h
+  unread-journal NoneFound text h = absurd h
+  unread-journal (WriteFault role) text h = absurd h
+  unread-journal OutOfMemory text h = (inl kept, h)
+  unread-journal (JournalRefused e) text h = absurd h
+  unread-journal status text h = (kept, h)
+
+  pub unread-start : (status : Status) (text : List ℕ) → EndsUnread old (replay_reading r) status text → JournalEnds taken refused said r old new status text
+  unread-start (ReadFault Journal) text h = absurd h
+  unread-start (TooLong Journal) text h = absurd h
+  unread-start status text h = unread-journal status text h

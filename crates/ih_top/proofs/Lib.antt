@@ -12,11 +12,14 @@ pub mod FaultlessEnds
 pub mod FirstLines
 pub mod JournalLaws
 pub mod JournalOutcomes
+pub mod Journals
+pub mod Methods
 pub mod RoundsAlike
 pub mod RoundsOutputs
 pub mod RoundsWriting
 pub mod Saying
 pub mod ReplayedAlike
+pub mod Stopping
 pub mod TakenHistories
 pub mod TakenLines
 pub mod Writing

@@ -21,10 +21,11 @@ use Rattle.ih_replay.specs.Laws.{LegalJournalsAreTaken, LegalJournalsDiffer, Tak
 use Rattle.ih_words.specs.Replay.{ReplayCall}
 use Rattle.ih_words.specs.Solve.{SolveCall}
 use Rattle.ih_shelf.specs.Outside.{Names, bytes_at}
-use Rattle.ih_top.specs.declared.limits.TheConstants.{MAX_FILE, MAX_JOURNAL}
+use Rattle.ih_inputs.specs.declared.reading.TheConstants.{MAX_FILE}
+use Rattle.ih_top.specs.declared.limits.TheConstants.{MAX_JOURNAL}
 use Rattle.ih_top.specs.declared.status.Status.{Status}
 use Rattle.ih_top.specs.declared.status.Status.TheVariants.{Done, NoneFound}
-use Rattle.ih_top.specs.Inputs.{HasInstance, HasPlan}
+use Rattle.ih_inputs.specs.Reading.{HasInstance, HasPlan}
 use Rattle.ih_top.specs.JournalLines.{Begins}
 use Rattle.ih_top.specs.Laws.{EndsIn, HasNoFault, HaveSameBytes, IsReplayOf, JournalsFit, SolvesReplayTheSame, SolvesWithNoneReplayTheSame}
 use Rattle.ih_top.specs.JournalEnds.{IsRefused, JournalEnds}

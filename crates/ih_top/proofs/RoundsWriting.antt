@@ -1,6 +1,6 @@
 -- What the two writes of rounds leave.
-use Rattle.std.proofs.Common.{◌≡◌, ℕ, ◌∙◌, subst, sym, inl, inr, List, Option, Some, None}
-use Rattle.std.specs.Prelude.{◌⊎◌, Result, Ok, Err, IfOk}
+use Rattle.std.proofs.Common.{◌≡◌, ℕ, ◌∙◌, subst, List, Option, Some, None}
+use Rattle.std.specs.Prelude.{Result, IfOk}
 use Rattle.ih_journal.specs.Base.{Base}
 use Rattle.ih_shelf.specs.Outside.{Names, IfTold}
 use Rattle.ih_rounds.specs.Rounds.{journals}
@@ -9,17 +9,14 @@ use Rattle.ih_words.specs.Solve.{SolveCall}
 use Rattle.ih_top.specs.declared.answer.Answer.{Answer}
 use Rattle.ih_top.specs.declared.output.BestOutput.{BestOutput}
 use Rattle.ih_top.specs.declared.output.Output.{Output}
-use Rattle.ih_top.specs.declared.status.Role.TheVariants.{Instance, Solution, Journal, Out}
 use Rattle.ih_top.specs.declared.status.Status.{Status}
-use Rattle.ih_top.specs.declared.status.Status.TheVariants.{Done, Usage, ReadFault, InstanceRefused, StartRefused, NoneFound, WriteFault, OutOfMemory, JournalRefused, Infeasible, TooLong}
 use Rattle.ih_top.specs.Answers.{Answers}
 use Rattle.ih_top.specs.Outputs.{MadeEnds, OutputEnds, WritesOutput}
 use Rattle.ih_top.specs.Searches.{HasBase}
-use Rattle.ih_top.proofs.Saying.{answers-weaker}
 use Rattle.ih_top.specs.Rounds.{AreDone, AreSearches, HasBestOfRounds, HaveBegun, HaveFound, HaveFoundNone, HaveBest}
 use Rattle.ih_top.specs.Rounds.{HaveSearched, IsBestOfRounds, IsRoundsOutput, IsRoundsOutputOf, RoundsEnds, solution_in}
-use Rattle.ih_top.specs.Writes.{BeginsJournal, BeginsSolution, Unchanged, WritesBoth, WritesJournal}
-use Rattle.ih_top.proofs.Writing.{both-begun, journal-whole-begun, told-weaker}
+use Rattle.ih_top.specs.Writes.{BeginsJournal, BeginsSolution, WritesBoth, WritesJournal}
+use Rattle.ih_top.proofs.Writing.{both-begun, journal-whole-begun, made-writing, told-weaker, writing-ends}
 
 -- ---- weaker ends
 
@@ -102,33 +99,11 @@ module _ (r : RoundsCall) (o : Output) (old new : Option Names) (is : IsRoundsOu
   rounds-done w text said = (rounds-written WritesBoth w, said ∙ (of-best w.best w.is).text)
 
   pub rounds-ends : (status : Status) (text : List ℕ) → OutputEnds r.search o old new status text → RoundsEnds r old new status text
-  rounds-ends Done text h = rounds-done h.0 text h.1
-  rounds-ends Usage text h = absurd h
-  rounds-ends (ReadFault role) text h = absurd h
-  rounds-ends (InstanceRefused e) text h = absurd h
-  rounds-ends (StartRefused e) text h = absurd h
-  rounds-ends NoneFound text h = (rounds-none h.0 h.1, h.2)
-  rounds-ends (WriteFault None) text h = rounds-done h.0 text h.1
-  rounds-ends (WriteFault (Some Instance)) text h = absurd h
-  rounds-ends (WriteFault (Some Solution)) text h = absurd h
-  rounds-ends (WriteFault (Some Journal)) text h = (rounds-begun h.0, h.1)
-  rounds-ends (WriteFault (Some Out)) text h = (rounds-written BeginsSolution h.0, h.1)
-  rounds-ends OutOfMemory text h = (by_case h.0, h.1)
-    where
-      by_case : IfTold (BeginsJournal r.search o.journal.items) old new ⊎ WritesOutput BeginsSolution r.search o old new
-          → IfTold Unchanged old new ⊎ HaveBegun r old new ⊎ HaveFound r old new
-      by_case (inl begun) = inr (inl (rounds-begun begun))
-      by_case (inr found) = inr (inr (rounds-written BeginsSolution found))
-  rounds-ends (JournalRefused e) text h = absurd h
-  rounds-ends Infeasible text h = absurd h
-  rounds-ends (TooLong role) text h = absurd h
+  rounds-ends = writing-ends _ _ _ (λ text. AreDone r old new text) r.search old new o rounds-done rounds-none rounds-begun (rounds-written BeginsSolution)
 
 -- what rounds made, or that memory ran out as it was made, is the end of the call that asked for them
 pub made-rounds : {E : Type 0} (r : RoundsCall) (made : Result Output E) (old new : Option Names) (b : Base) → HasBase old r.search b
     → IfOk made (IsRoundsOutput b r.rounds) → (a : Answer) → Answers (MadeEnds r.search made old new) a → Answers (RoundsEnds r old new) a
-made-rounds r (Ok o) old new b given output =
-    answers-weaker (OutputEnds r.search o old new) (RoundsEnds r old new)
-    (rounds-ends r o old new (record { base = b; given = given; output = output }))
-made-rounds {E} r (Err e) old new b given output =
-    answers-weaker (MadeEnds {E = E} r.search (Err e) old new) (RoundsEnds r old new)
-    (λ status text (memory, same, said). subst (λ t. RoundsEnds r old new t text) (sym memory) (inl same, said))
+made-rounds r made old new b given output =
+    made-writing _ _ _ (λ text. AreDone r old new text) r.search old new (IsRoundsOutput b r.rounds)
+    (λ o is. rounds-ends r o old new (record { base = b; given = given; output = is })) made output

@@ -5,7 +5,7 @@ use Rattle.ih_shelf.specs.declared.outside.WriteError.{WriteError}
 use Rattle.ih_shelf.specs.declared.outside.WriteError.TheVariants.{Fault, OutOfMemory as NoMemory}
 use Rattle.ih_top.specs.declared.answer.Answer.{Answer}
 use Rattle.ih_top.specs.declared.status.Status.{Status}
-use Rattle.ih_top.specs.declared.status.Status.TheVariants.{Done, Usage, ReadFault, InstanceRefused, StartRefused, NoneFound, WriteFault, OutOfMemory, JournalRefused, Infeasible, TooLong}
+use Rattle.ih_top.specs.declared.status.Status.TheVariants.{Done, ReadFault, WriteFault, OutOfMemory, Infeasible}
 use Rattle.ih_top.specs.Texts.{memory_text}
 use Rattle.ih_top.specs.Ends.{Ends, HasCause}
 use Rattle.ih_top.specs.Answers.{unsaid, Answers, IsConcluded, HasPutCause, HasFileCause, IsSaid, IsSaidOf, IsUnwritten}
@@ -31,16 +31,8 @@ pub record IsAnswerable (ends : Status → List ℕ → Type 0) : Type 0 where
 pub unsaid-by : (ends : Status → List ℕ → Type 0) (text : List ℕ) → (ends Done text → ends (WriteFault None) text)
     → (ends Infeasible text → ends (WriteFault None) text) → (status : Status) → ends status text → ends (unsaid status) text
 unsaid-by ends text done broken Done h = done h
-unsaid-by ends text done broken Usage h = h
-unsaid-by ends text done broken (ReadFault role) h = h
-unsaid-by ends text done broken (InstanceRefused e) h = h
-unsaid-by ends text done broken (StartRefused e) h = h
-unsaid-by ends text done broken NoneFound h = h
-unsaid-by ends text done broken (WriteFault role) h = h
-unsaid-by ends text done broken OutOfMemory h = h
-unsaid-by ends text done broken (JournalRefused e) h = h
 unsaid-by ends text done broken Infeasible h = broken h
-unsaid-by ends text done broken (TooLong role) h = h
+unsaid-by ends text done broken status h = h
 
 module _ (ends : Status → List ℕ → Type 0) (able : IsAnswerable ends) where
   -- the answer is the end that was reached, or memory ran out
@@ -61,32 +53,16 @@ answers-weaker small large f a (inr h) = inr (f a.status a.text.items h)
 -- ---- what is put out
 
 unsaid-other : (status : Status) → status ≢ OutOfMemory → unsaid status ≢ OutOfMemory
-unsaid-other Done other e = absurd (let clash : WriteFault None ≡ OutOfMemory = e in cc)
-unsaid-other Usage other e = other e
-unsaid-other (ReadFault role) other e = other e
-unsaid-other (InstanceRefused r) other e = other e
-unsaid-other (StartRefused r) other e = other e
-unsaid-other NoneFound other e = other e
-unsaid-other (WriteFault role) other e = other e
-unsaid-other OutOfMemory other e = other e
-unsaid-other (JournalRefused r) other e = other e
-unsaid-other Infeasible other e = absurd (let clash : WriteFault None ≡ OutOfMemory = e in cc)
-unsaid-other (TooLong role) other e = other e
+unsaid-other status other = unsaid-by (λ s text. s ≢ OutOfMemory) [] unsaid-apart unsaid-apart status other
+  where
+    unsaid-apart : {X : Type 0} → X → WriteFault None ≢ OutOfMemory
+    unsaid-apart x e = let clash : WriteFault None ≡ OutOfMemory = e in cc
 
 -- a status other than lack of memory
 at-status : (ends : Status → List ℕ → Type 0) (gained part : List ℕ → Type 0) (status : Status) (text : List ℕ)
     → status ≢ OutOfMemory → ends status text → gained text → Ends ends gained part status
-at-status ends gained part Done text other h g = (text, h, g)
-at-status ends gained part Usage text other h g = (text, h, g)
-at-status ends gained part (ReadFault role) text other h g = (text, h, g)
-at-status ends gained part (InstanceRefused r) text other h g = (text, h, g)
-at-status ends gained part (StartRefused r) text other h g = (text, h, g)
-at-status ends gained part NoneFound text other h g = (text, h, g)
-at-status ends gained part (WriteFault role) text other h g = (text, h, g)
 at-status ends gained part OutOfMemory text other h g = absurd (other refl)
-at-status ends gained part (JournalRefused r) text other h g = (text, h, g)
-at-status ends gained part Infeasible text other h g = (text, h, g)
-at-status ends gained part (TooLong role) text other h g = (text, h, g)
+at-status ends gained part status text other h g = (text, h, g)
 
 -- that memory ran out was said, as far as that went
 pub memory-ended : (ends : Status → List ℕ → Type 0) (gained part : List ℕ → Type 0) → ends OutOfMemory memory_text → gained memory_text ⊎ part memory_text
@@ -118,35 +94,15 @@ ended ends able gained part a result (inr h) (inr (inr (other, some, inr (there,
 
 module _ (reads reads' writes writes' puts puts' lacks lacks' : ℕ) where
   file-cause : (status : Status) → HasFileCause reads reads' writes writes' status → HasCause reads reads' writes writes' puts puts' status
-  file-cause Done file = tt
-  file-cause Usage file = tt
   file-cause (ReadFault role) file = file
-  file-cause (InstanceRefused r) file = tt
-  file-cause (StartRefused r) file = tt
-  file-cause NoneFound file = tt
   file-cause (WriteFault None) file = absurd file
   file-cause (WriteFault (Some role)) file = file
-  file-cause OutOfMemory file = tt
-  file-cause (JournalRefused r) file = tt
-  file-cause Infeasible file = tt
-  file-cause (TooLong role) file = tt
+  file-cause status file = tt
 
   pub has-cause : (status result : Status) → HasFileCause reads reads' writes writes' status → HasPutCause status puts puts' lacks lacks' result
       → HasCause reads reads' writes writes' puts puts' result
   has-cause status result file (inl same) = subst (HasCause reads reads' writes writes' puts puts') (sym same) (file-cause status file)
   has-cause status result file (inr (inl memory)) = subst (HasCause reads reads' writes writes' puts puts') (sym memory.0) tt
-  has-cause status result file (inr (inr (there, rose))) = subst (HasCause reads reads' writes writes' puts puts') (sym there) (by_status status file)
-    where
-      by_status : (status : Status) → HasFileCause reads reads' writes writes' status → HasCause reads reads' writes writes' puts puts' (unsaid status)
-      by_status Done file = rose
-      by_status Usage file = tt
-      by_status (ReadFault role) file = file
-      by_status (InstanceRefused r) file = tt
-      by_status (StartRefused r) file = tt
-      by_status NoneFound file = tt
-      by_status (WriteFault None) file = rose
-      by_status (WriteFault (Some role)) file = file
-      by_status OutOfMemory file = tt
-      by_status (JournalRefused r) file = tt
-      by_status Infeasible file = rose
-      by_status (TooLong role) file = tt
+  has-cause status result file (inr (inr (there, rose))) =
+      subst (HasCause reads reads' writes writes' puts puts') (sym there)
+      (unsaid-by (λ s text. HasCause reads reads' writes writes' puts puts' s) [] (λ done. rose) (λ broken. rose) status (file-cause status file))

@@ -1,7 +1,8 @@
 -- What the two writes of a search leave.
 use Rattle.std.proofs.Common.{◌≡◌, ℕ, sym, ap, ◌∙◌, subst, arith, refl, inl, inr, List, length, Option, Some, None}
-use Rattle.std.specs.Prelude.{◌≢◌, ◌⊎◌, Result, Ok, Err, IfOk}
+use Rattle.std.specs.Prelude.{◌≢◌, Result, Ok, Err, IfOk}
 use Rattle.std.proofs.lemmas.List.{take_all}
+use Rattle.ih_shelf.specs.declared.outside.WriteError.{WriteError}
 use Rattle.ih_shelf.specs.Outside.{Names, IfTold, PartOr, IsWritten, MayBeWritten}
 use Rattle.ih_journal.specs.Best.{HasNone}
 use Rattle.ih_words.specs.Solve.{SolveCall}
@@ -9,15 +10,16 @@ use Rattle.ih_journal.specs.Base.{Base}
 use Rattle.ih_top.specs.declared.answer.Answer.{Answer}
 use Rattle.ih_top.specs.declared.output.Output.{Output}
 use Rattle.ih_top.specs.declared.output.BestOutput.{BestOutput}
-use Rattle.ih_top.specs.declared.status.Role.TheVariants.{Instance, Solution, Journal, Out}
+use Rattle.ih_top.specs.declared.status.Role.TheVariants.{Journal, Out}
 use Rattle.ih_top.specs.declared.status.Status.{Status}
-use Rattle.ih_top.specs.declared.status.Status.TheVariants.{Done, Usage, ReadFault, InstanceRefused, StartRefused, NoneFound, WriteFault, OutOfMemory, JournalRefused, Infeasible, TooLong}
-use Rattle.ih_top.specs.Answers.{Answers}
+use Rattle.ih_top.specs.declared.status.Status.TheVariants.{Done, ReadFault, InstanceRefused, StartRefused, NoneFound, WriteFault, OutOfMemory, TooLong}
+use Rattle.ih_top.specs.Answers.{Answers, IsSaid, IsUnwritten}
 use Rattle.ih_top.specs.Outputs.{IsOutput, IsOutputOf, IsBestOutput, HasBestOutput, MadeEnds, OutputEnds, WritesOutput}
-use Rattle.ih_top.specs.Searches.{HasBase, IsSearch, HasSearched, HasFoundBest, HasBegun, HasFoundNone, HasFound, IsDone, IsSomewhere, Kind, SearchEnds, solution_at, told_by}
-use Rattle.ih_top.specs.Writes.{BeginsJournal, WritesJournal, BeginsSolution, WritesBoth}
-use Rattle.ih_top.specs.Texts.{memory_text}
-use Rattle.ih_top.proofs.Saying.{IsAnswerable, answers-weaker, unsaid-by}
+use Rattle.ih_top.specs.Searches.{HasBase, IsSearch, HasSearched, HasFoundBest, HasBegun, HasFoundNone, HasFound, IsDone, Kind, SearchEnds, WritingEnds, solution_at, told_by}
+use Rattle.ih_top.specs.Inputs.{EndsUnread, solve_reading}
+use Rattle.ih_top.specs.Writes.{BeginsJournal, WritesJournal, BeginsSolution, Unchanged, WritesBoth}
+use Rattle.ih_top.specs.Texts.{memory_text, none_found_text, unwritten_text}
+use Rattle.ih_top.proofs.Saying.{IsAnswerable, answers-weaker, said-answer, unsaid-by, unwritten-answer}
 
 -- ---- what is told of two states
 
@@ -111,29 +113,108 @@ module _ (s : SolveCall) (o : Output) (old new : Option Names) where
 
   output-memory : (status : Status) (text : List ℕ) → OutputEnds s o old new status text → OutputEnds s o old new OutOfMemory memory_text
   output-memory Done text h = (inr (both-out h.0), refl)
-  output-memory Usage text h = absurd h
-  output-memory (ReadFault role) text h = absurd h
-  output-memory (InstanceRefused e) text h = absurd h
-  output-memory (StartRefused e) text h = absurd h
   output-memory NoneFound text h = (
     inl (told-weaker (WritesJournal s o.journal.items) (BeginsJournal s o.journal.items) old new (journal-whole-begun s o.journal.items) h.1),
     refl,
   )
   output-memory (WriteFault None) text h = (inr (both-out h.0), refl)
-  output-memory (WriteFault (Some Instance)) text h = absurd h
-  output-memory (WriteFault (Some Solution)) text h = absurd h
   output-memory (WriteFault (Some Journal)) text h = (inl h.0, refl)
   output-memory (WriteFault (Some Out)) text h = (inr h.0, refl)
   output-memory OutOfMemory text h = (h.0, refl)
-  output-memory (JournalRefused e) text h = absurd h
-  output-memory Infeasible text h = absurd h
-  output-memory (TooLong role) text h = absurd h
+  output-memory status text h = absurd h
 
   pub output-answerable : IsAnswerable (OutputEnds s o old new)
   output-answerable = record {
     unsaid = λ status text some h. unsaid-by (OutputEnds s o old new) text (λ done. done) (λ none. absurd none) status h;
     memory = output-memory;
   }
+
+  -- the two writes, one after the other
+  module _ (differ : s.out ≢ s.journal) where
+    pub journal-unwritten : IfTold (MayBeWritten s.journal o.journal.items) old new → (error : WriteError) (a : Answer)
+        → IsUnwritten (WriteFault (Some Journal)) (unwritten_text s.journal) error a → Answers (OutputEnds s o old new) a
+    journal-unwritten part error a said =
+        unwritten-answer (OutputEnds s o old new) output-answerable (WriteFault (Some Journal)) (unwritten_text s.journal) error a
+        (told-weaker (MayBeWritten s.journal o.journal.items) (BeginsJournal s o.journal.items) old new (begins-journal s o.journal.items differ) part, refl) said
+
+    pub none-written : IfTold (IsWritten s.journal o.journal.items) old new → o.best ≡ None → (a : Answer) → IsSaid NoneFound none_found_text a
+        → Answers (OutputEnds s o old new) a
+    none-written whole none a said =
+        said-answer (OutputEnds s o old new) output-answerable NoneFound none_found_text a
+        (none, told-weaker (IsWritten s.journal o.journal.items) (WritesJournal s o.journal.items) old new (writes-journal s o.journal.items differ) whole, refl) said
+
+    module _ (mid : Option Names) (whole : IfTold (IsWritten s.journal o.journal.items) old mid) (best : BestOutput) (is : o.best ≡ Some best) where
+      pub solution-unwritten : IfTold (MayBeWritten s.out best.solution.items) mid new → (error : WriteError) (a : Answer)
+          → IsUnwritten (WriteFault (Some Out)) (unwritten_text s.out) error a → Answers (OutputEnds s o old new) a
+      solution-unwritten part error a said =
+          unwritten-answer (OutputEnds s o old new) output-answerable (WriteFault (Some Out)) (unwritten_text s.out) error a (
+            record {
+              best = best;
+              is = is;
+              written = told-then (IsWritten s.journal o.journal.items) (MayBeWritten s.out best.solution.items)
+                  (BeginsSolution s o.journal.items best.solution.items) old mid new (begins-solution s o.journal.items differ best.solution.items) whole part;
+            },
+            refl,
+          ) said
+
+      pub both-written : IfTold (IsWritten s.out best.solution.items) mid new → WritesOutput WritesBoth s o old new
+      both-written then = record {
+        best = best;
+        is = is;
+        written = told-then (IsWritten s.journal o.journal.items) (IsWritten s.out best.solution.items)
+            (WritesBoth s o.journal.items best.solution.items) old mid new (writes-both s o.journal.items differ best.solution.items) whole then;
+      }
+
+-- ---- what a search made is what its call comes to
+
+module _ (begun none found : Type 0) (done : List ℕ → Type 0) (s : SolveCall) (old new : Option Names) where
+  abbrev OfWriting : Status → List ℕ → Type 0
+  OfWriting status text = WritingEnds begun none found done s old new status text
+
+  writing-memory : ((text : List ℕ) → done text → found) → (none → begun) → (status : Status) (text : List ℕ) → OfWriting status text
+      → OfWriting OutOfMemory memory_text
+  writing-memory of-done of-none Done text h = (inr (inr (of-done text h)), refl)
+  writing-memory of-done of-none NoneFound text h = (inr (inl (of-none h.0)), refl)
+  writing-memory of-done of-none (WriteFault None) text h = (inr (inr (of-done text h)), refl)
+  writing-memory of-done of-none (WriteFault (Some Journal)) text h = (inr (inl h.0), refl)
+  writing-memory of-done of-none (WriteFault (Some Out)) text h = (inr (inr h.0), refl)
+  writing-memory of-done of-none OutOfMemory text h = (h.0, refl)
+  writing-memory of-done of-none status text h = (inl h.0, refl)
+
+  -- what is done has begun
+  pub writing-answerable : ((text : List ℕ) → done text → found) → (none → begun) → IsAnswerable OfWriting
+  writing-answerable of-done of-none = record {
+    unsaid = λ status text some h. unsaid-by OfWriting text (λ done. done) (λ none. absurd none.1) status h;
+    memory = writing-memory of-done of-none;
+  }
+
+  -- a call that comes no further than its files
+  pub unread-writing : IfTold Unchanged old new → (status : Status) (text : List ℕ) → EndsUnread old (solve_reading s) status text → OfWriting status text
+  unread-writing kept OutOfMemory text h = (inl kept, h)
+  unread-writing kept (ReadFault role) text h = (kept, h)
+  unread-writing kept (InstanceRefused e) text h = (kept, h)
+  unread-writing kept (StartRefused e) text h = (kept, h)
+  unread-writing kept (TooLong role) text h = (kept, h)
+  unread-writing kept status text h = absurd h
+
+  pub writing-ends : (o : Output) → ((w : WritesOutput WritesBoth s o old new) (text : List ℕ) → text ≡ w.best.text.items → done text)
+      → (o.best ≡ None → IfTold (WritesJournal s o.journal.items) old new → none) → (IfTold (BeginsJournal s o.journal.items) old new → begun)
+      → (WritesOutput BeginsSolution s o old new → found) → (status : Status) (text : List ℕ) → OutputEnds s o old new status text → OfWriting status text
+  writing-ends o of-done of-none of-begun of-found Done text h = of-done h.0 text h.1
+  writing-ends o of-done of-none of-begun of-found NoneFound text h = (of-none h.0 h.1, h.2)
+  writing-ends o of-done of-none of-begun of-found (WriteFault None) text h = of-done h.0 text h.1
+  writing-ends o of-done of-none of-begun of-found (WriteFault (Some Journal)) text h = (of-begun h.0, h.1)
+  writing-ends o of-done of-none of-begun of-found (WriteFault (Some Out)) text h = (of-found h.0, h.1)
+  writing-ends o of-done of-none of-begun of-found OutOfMemory text (inl b, said) = (inr (inl (of-begun b)), said)
+  writing-ends o of-done of-none of-begun of-found OutOfMemory text (inr w, said) = (inr (inr (of-found w)), said)
+  writing-ends o of-done of-none of-begun of-found status text h = absurd h
+
+  -- the same where memory may have run out as it was made
+  pub made-writing : {E : Type 0} (P : Output → Type 0) → ((o : Output) → P o → (status : Status) (text : List ℕ) → OutputEnds s o old new status text
+      → OfWriting status text) → (made : Result Output E) → IfOk made P → (a : Answer) → Answers (MadeEnds s made old new) a → Answers OfWriting a
+  made-writing P ends (Ok o) is = answers-weaker (OutputEnds s o old new) OfWriting (ends o is)
+  made-writing {E} P ends (Err e) is = answers-weaker (MadeEnds {E = E} s (Err e) old new) OfWriting
+      (λ status text (memory, same, said). subst (λ t. OfWriting t text) (sym memory) (inl same, said))
 
 -- ---- where a search made it
 
@@ -189,32 +270,11 @@ module _ {X : Type 0} (kind : Kind X) (s : SolveCall) (o : Output) (old new : Op
   all-done w text said = (best-written WritesBoth w, said ∙ (of-best w.best w.is).text)
 
   pub search-ends : (status : Status) (text : List ℕ) → OutputEnds s o old new status text → SearchEnds kind s old new status text
-  search-ends Done text h = all-done h.0 text h.1
-  search-ends Usage text h = absurd h
-  search-ends (ReadFault role) text h = absurd h
-  search-ends (InstanceRefused e) text h = absurd h
-  search-ends (StartRefused e) text h = absurd h
-  search-ends NoneFound text h = (found-none h.0 h.1, h.2)
-  search-ends (WriteFault None) text h = all-done h.0 text h.1
-  search-ends (WriteFault (Some Instance)) text h = absurd h
-  search-ends (WriteFault (Some Solution)) text h = absurd h
-  search-ends (WriteFault (Some Journal)) text h = (journal-written BeginsJournal h.0, h.1)
-  search-ends (WriteFault (Some Out)) text h = (best-written BeginsSolution h.0, h.1)
-  search-ends OutOfMemory text h = (by_case h.0, h.1)
-    where
-      by_case : IfTold (BeginsJournal s o.journal.items) old new ⊎ WritesOutput BeginsSolution s o old new → IsSomewhere kind s old new
-      by_case (inl begun) = inr (inl (journal-written BeginsJournal begun))
-      by_case (inr found) = inr (inr (best-written BeginsSolution found))
-  search-ends (JournalRefused e) text h = absurd h
-  search-ends Infeasible text h = absurd h
-  search-ends (TooLong role) text h = absurd h
+  search-ends = writing-ends _ _ _ (λ text. IsDone kind s old new text) s old new o all-done found-none (journal-written BeginsJournal) (best-written BeginsSolution)
 
 -- what a search made, or that memory ran out as it was made, is the end of the call that asked for it
 pub made-answer : {X E : Type 0} (kind : Kind X) (s : SolveCall) (made : Result Output E) (old new : Option Names) (b : Base) → HasBase old s b
     → IfOk made (IsOutput kind b) → (a : Answer) → Answers (MadeEnds s made old new) a → Answers (SearchEnds kind s old new) a
-made-answer kind s (Ok o) old new b given output =
-    answers-weaker (OutputEnds s o old new) (SearchEnds kind s old new)
-    (search-ends kind s o old new (record { base = b; given = given; output = output }))
-made-answer {X} {E} kind s (Err e) old new b given output =
-    answers-weaker (MadeEnds {E = E} s (Err e) old new) (SearchEnds kind s old new)
-    (λ status text (memory, same, said). subst (λ t. SearchEnds kind s old new t text) (sym memory) (inl same, said))
+made-answer kind s made old new b given output =
+    made-writing _ _ _ (λ text. IsDone kind s old new text) s old new (IsOutput kind b)
+    (λ o is. search-ends kind s o old new (record { base = b; given = given; output = is })) made output

@@ -8,7 +8,8 @@ use Rattle.ih_words.specs.Advise.{AdviseCall}
 use Rattle.ih_shelf.specs.Outside.{Names}
 use Rattle.ih_top.specs.declared.status.Status.{Status}
 use Rattle.ih_top.specs.declared.status.Status.TheVariants.{Done, WriteFault}
-use Rattle.ih_top.specs.Inputs.{Reading, HasInputs, EndsUnread}
+use Rattle.ih_inputs.specs.Reading.{Reading, HasInputs}
+use Rattle.ih_top.specs.Inputs.{EndsUnread}
 
 abbrev pub advise_reading : AdviseCall → Reading
 advise_reading a = record { instance = a.instance; solution = Some a.solution }

@@ -9,7 +9,8 @@ use Rattle.ih_words.specs.Check.{CheckCall}
 use Rattle.ih_shelf.specs.Outside.{Names}
 use Rattle.ih_top.specs.declared.status.Status.{Status}
 use Rattle.ih_top.specs.declared.status.Status.TheVariants.{Done, Infeasible, WriteFault}
-use Rattle.ih_top.specs.Inputs.{check_reading, HasInputs, EndsUnread}
+use Rattle.ih_inputs.specs.Reading.{HasInputs}
+use Rattle.ih_top.specs.Inputs.{check_reading, EndsUnread}
 
 -- this is the report on the timetable that the files give
 pub record IsReport (files : Option Names) (c : CheckCall) (text : List ℕ) : Type 0 where

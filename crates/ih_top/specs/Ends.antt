@@ -13,7 +13,8 @@ use Rattle.ih_top.specs.declared.status.Status.{Status}
 use Rattle.ih_top.specs.declared.status.Status.TheVariants.{Done, Usage, ReadFault, NoneFound, WriteFault, OutOfMemory, Infeasible}
 use Rattle.ih_top.specs.Advise.{AdviseEnds, advise_reading}
 use Rattle.ih_top.specs.Answers.{unsaid}
-use Rattle.ih_top.specs.Inputs.{solve_reading, check_reading, HasInputs}
+use Rattle.ih_inputs.specs.Reading.{HasInputs}
+use Rattle.ih_top.specs.Inputs.{solve_reading, check_reading}
 use Rattle.ih_top.specs.Solve.{SolveEnds}
 use Rattle.ih_top.specs.Writes.{Unchanged}
 use Rattle.ih_top.specs.JournalFiles.{HasRead, JournalRead}

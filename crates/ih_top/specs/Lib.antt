@@ -11,7 +11,9 @@ pub mod JournalEnds
 pub mod JournalFiles
 pub mod JournalHeading
 pub mod JournalLines
+pub mod JournalUses
 pub mod Laws
+pub mod Methods
 pub mod Outcomes
 pub mod Outputs
 pub mod Replay

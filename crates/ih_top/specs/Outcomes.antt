@@ -10,7 +10,6 @@ use Rattle.ih_journal.specs.Legal.{IsFull}
 use Rattle.ih_journal.specs.Texts.{lines_from}
 use Rattle.ih_cellbook.specs.Keeping.{IsBase}
 use Rattle.ih_cellbook.specs.Legal.{AreExact}
-use Rattle.ih_words.specs.Start.{StartCall}
 use Rattle.ih_shelf.specs.Outside.{IsWritten, MayBeWritten, Names, IfTold}
 use Rattle.ih_top.specs.declared.output.BestOutput.{BestOutput}
 use Rattle.ih_top.specs.declared.outcome.Outcome.{Outcome}
@@ -20,12 +19,9 @@ use Rattle.ih_top.specs.declared.status.Status.TheVariants.{Done, NoneFound, Wri
 use Rattle.ih_top.specs.declared.status.Role.TheVariants.{Out}
 use Rattle.ih_top.specs.JournalLines.{Begins, IsRefusedAt}
 use Rattle.ih_top.specs.Outputs.{HasBestOutput, HasBestSaid}
-use Rattle.ih_top.specs.JournalFiles.{JournalRead}
-use Rattle.ih_top.specs.JournalHeading.{IsHeadless}
-use Rattle.ih_top.specs.Replay.{AreNotFull, IsRefusedJournal, IsReplay}
-use Rattle.ih_top.specs.Salvage.{IsSalvage}
+use Rattle.ih_top.specs.Replay.{AreNotFull}
 use Rattle.ih_top.specs.Writes.{Unchanged}
-use Rattle.ih_top.specs.Texts.{done_text, journal_refused_text, memory_text, none_found_text, salvaged_text, unwritten_text}
+use Rattle.ih_top.specs.Texts.{journal_refused_text, memory_text, none_found_text, salvaged_text, unwritten_text}
 
 -- ---- the lines of a journal
 
@@ -74,12 +70,6 @@ abbrev pub IsOutcome : (Base → List Entry → Type 0) → (JournalRefusal → 
     → Outcome → Type 0
 IsOutcome taken refused said (Refused e) = refused e
 IsOutcome taken refused said (Taken best) = IsTaken taken said best
-
-abbrev pub IsReplayOutcome : StartCall → JournalRead → Outcome → Type 0
-IsReplayOutcome s x o = IsOutcome (IsReplay s x) (IsRefusedJournal s x) done_text o
-
-abbrev pub IsSalvageOutcome : StartCall → JournalRead → Outcome → Type 0
-IsSalvageOutcome s x o = IsOutcome (IsSalvage s x) (IsHeadless x) salvaged_text o
 
 -- ---- what is written
 

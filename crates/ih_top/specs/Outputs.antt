@@ -6,11 +6,11 @@ use Rattle.ih_journal.specs.Frozen.{AgreesBefore}
 use Rattle.ih_journal.specs.History.{plan_at}
 use Rattle.ih_journal.specs.Legal.{IsFull}
 use Rattle.ih_journal.specs.Best.{IsBest, HasNone}
-use Rattle.ih_cellbook.specs.Keeping.{IsBase, base_with}
+use Rattle.ih_cellbook.specs.Keeping.{IsBase}
 use Rattle.ih_cellbook.specs.Legal.{AreExact}
 use Rattle.ih_words.specs.Solve.{SolveCall}
 use Rattle.ih_shelf.specs.Outside.{Names, IfTold}
-use Rattle.ih_top.specs.declared.inputs.Inputs.{Inputs}
+use Rattle.ih_inputs.specs.declared.reading.Inputs.{Inputs}
 use Rattle.ih_top.specs.declared.output.Output.{Output}
 use Rattle.ih_top.specs.declared.output.BestOutput.{BestOutput}
 use Rattle.ih_top.specs.Starts.{started}
@@ -66,10 +66,6 @@ base_from s i = record {
   options = s.options;
   freeze = s.start.freeze;
 }
-
--- a search from what was read, in which nothing is frozen
-abbrev pub plain_base : SolveCall → Inputs → Base
-plain_base s i = base_with i.inst.value.draft (started s.start.fill s.options.hard i.inst.value.draft i.plan) s.options 0
 
 -- ---- how it is written
 

@@ -1,5 +1,5 @@
 -- How a call of rounds ends: as one of solve, with the journals of all rounds and the best of all their timetables.
-use Rattle.std.specs.Prelude.{◌≡◌, ℕ, ◌<◌, ◌^◌, ◌⊎◌, List, length, Option, Some, None, slice_get}
+use Rattle.std.specs.Prelude.{◌≡◌, ℕ, ◌<◌, ◌^◌, List, length, Option, Some, None, slice_get}
 use Rattle.ih_tables.specs.declared.drafts.Draft.{Draft}
 use Rattle.ih_plan.specs.BillOf.{bill_of}
 use Rattle.ih_plan.specs.Timetable.{Timetable}
@@ -18,14 +18,10 @@ use Rattle.ih_words.specs.Solve.{SolveCall}
 use Rattle.ih_shelf.specs.Outside.{Names, IfTold}
 use Rattle.ih_top.specs.declared.output.BestOutput.{BestOutput}
 use Rattle.ih_top.specs.declared.output.Output.{Output}
-use Rattle.ih_top.specs.declared.status.Role.TheVariants.{Journal, Out}
 use Rattle.ih_top.specs.declared.status.Status.{Status}
-use Rattle.ih_top.specs.declared.status.Status.TheVariants.{Done, NoneFound, WriteFault, OutOfMemory}
-use Rattle.ih_top.specs.Inputs.{EndsUnread, solve_reading}
 use Rattle.ih_top.specs.RoundTexts.{round_report}
-use Rattle.ih_top.specs.Searches.{HasBase, solution_at}
-use Rattle.ih_top.specs.Writes.{BeginsJournal, BeginsSolution, Unchanged, WritesBoth, WritesJournal}
-use Rattle.ih_top.specs.Texts.{memory_text, none_found_text, unwritten_text}
+use Rattle.ih_top.specs.Searches.{HasBase, WritingEnds, solution_at}
+use Rattle.ih_top.specs.Writes.{BeginsJournal, BeginsSolution, WritesBoth, WritesJournal}
 
 -- a full history of a search in which nothing is frozen
 abbrev pub IsFullFrom : Draft → Timetable → Options → List Entry → Type 0
@@ -122,17 +118,7 @@ HaveFound r old new = HaveBest BeginsSolution r old new
 abbrev pub AreDone : RoundsCall → Option Names → Option Names → List ℕ → Type 0
 AreDone r old new text = (h : HaveBest WritesBoth r old new) × (text ≡ round_text h.base h.round h.best.round h.place)
 
--- Each case has the whole condition of its status, as that of solve has.
 abbrev pub RoundsEnds : RoundsCall → Option Names → Option Names → Status → List ℕ → Type 0
--- the journals, the first cheapest feasible timetable and its report are out
-RoundsEnds r old new Done text = AreDone r old new text
--- the journals are out, and no timetable of any round is feasible
-RoundsEnds r old new NoneFound text = HaveFoundNone r old new × (text ≡ none_found_text)
-RoundsEnds r old new (WriteFault (Some Journal)) text = HaveBegun r old new × (text ≡ unwritten_text r.search.journal)
-RoundsEnds r old new (WriteFault (Some Out)) text = HaveFound r old new × (text ≡ unwritten_text r.search.out)
--- all is done but that the text couldn't be put out
-RoundsEnds r old new (WriteFault None) text = AreDone r old new text
-RoundsEnds r old new OutOfMemory text =
-    (IfTold Unchanged old new ⊎ HaveBegun r old new ⊎ HaveFound r old new) × (text ≡ memory_text)
--- the files aren't as they ought to be
-RoundsEnds r old new status text = IfTold Unchanged old new × EndsUnread old (solve_reading r.search) status text
+RoundsEnds r old new status text =
+    WritingEnds (HaveBegun r old new) (HaveFoundNone r old new) (HaveFound r old new) (λ said. AreDone r old new said)
+    r.search old new status text

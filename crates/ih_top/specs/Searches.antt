@@ -89,21 +89,29 @@ abbrev pub IsDone : {X : Type 0} → Kind X → SolveCall → Option Names → O
 IsDone kind s old new text =
     (h : HasFoundBest WritesBoth kind s old new) × (text ≡ done_text h.base (told_by kind h.history) h.place)
 
--- where memory ran out, the files are as far as the call had come
-abbrev pub IsSomewhere : {X : Type 0} → Kind X → SolveCall → Option Names → Option Names → Type 0
-IsSomewhere kind s old new = IfTold Unchanged old new ⊎ HasBegun kind s old new ⊎ HasFound kind s old new
-
--- How a call ends that makes one search. Each case has the whole condition of its status. Where the shelf tells what it
--- holds, no two of them hold of one call, but for faults and for lack of memory.
-abbrev pub SearchEnds : {X : Type 0} → Kind X → SolveCall → Option Names → Option Names → Status → List ℕ → Type 0
+-- How a call ends that searches, and writes the journal of that and the solution of its best. Each case has the whole
+-- condition of its status, by what it means that the journal is begun, that none was found, that the solution may be
+-- begun, and that all is done with a text to be said. Where the shelf tells what it holds, no two cases hold of one
+-- call, but for faults and for lack of memory.
+abbrev pub WritingEnds : (begun none found : Type 0) → (done : List ℕ → Type 0) → SolveCall → Option Names → Option Names
+    → Status → List ℕ → Type 0
 -- the journal, the first cheapest feasible timetable and its report are out
-SearchEnds kind s old new Done text = IsDone kind s old new text
--- the journal is out, and no timetable of its history is feasible
-SearchEnds kind s old new NoneFound text = HasFoundNone kind s old new × (text ≡ none_found_text)
-SearchEnds kind s old new (WriteFault (Some Journal)) text = HasBegun kind s old new × (text ≡ unwritten_text s.journal)
-SearchEnds kind s old new (WriteFault (Some Out)) text = HasFound kind s old new × (text ≡ unwritten_text s.out)
+WritingEnds begun none found done s old new Done text = done text
+-- the journal is out, and no timetable of it is feasible
+WritingEnds begun none found done s old new NoneFound text = none × (text ≡ none_found_text)
+WritingEnds begun none found done s old new (WriteFault (Some Journal)) text = begun × (text ≡ unwritten_text s.journal)
+WritingEnds begun none found done s old new (WriteFault (Some Out)) text = found × (text ≡ unwritten_text s.out)
 -- all is done but that the text couldn't be put out
-SearchEnds kind s old new (WriteFault None) text = IsDone kind s old new text
-SearchEnds kind s old new OutOfMemory text = IsSomewhere kind s old new × (text ≡ memory_text)
+WritingEnds begun none found done s old new (WriteFault None) text = done text
+-- the files are as far as the call had come
+WritingEnds begun none found done s old new OutOfMemory text =
+    (IfTold Unchanged old new ⊎ begun ⊎ found) × (text ≡ memory_text)
 -- the files aren't as they ought to be
-SearchEnds kind s old new status text = IfTold Unchanged old new × EndsUnread old (solve_reading s) status text
+WritingEnds begun none found done s old new status text =
+    IfTold Unchanged old new × EndsUnread old (solve_reading s) status text
+
+-- how a call ends that makes one search
+abbrev pub SearchEnds : {X : Type 0} → Kind X → SolveCall → Option Names → Option Names → Status → List ℕ → Type 0
+SearchEnds kind s old new status text =
+    WritingEnds (HasBegun kind s old new) (HasFoundNone kind s old new) (HasFound kind s old new)
+    (λ said. IsDone kind s old new said) s old new status text

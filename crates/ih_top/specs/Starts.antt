@@ -6,7 +6,8 @@ use Rattle.ih_plan.specs.Timetable.{Timetable}
 use Rattle.ih_journal.specs.Base.{Base}
 use Rattle.ih_words.specs.Start.{StartCall}
 use Rattle.ih_shelf.specs.Outside.{Names}
-use Rattle.ih_top.specs.Inputs.{HasInputs, start_reading}
+use Rattle.ih_inputs.specs.Reading.{HasInputs}
+use Rattle.ih_top.specs.Inputs.{start_reading}
 
 -- the timetable as it is, or its greedy fill
 abbrev pub started : Bool → ℕ → Draft → Timetable → Timetable

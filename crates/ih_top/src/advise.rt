@@ -1,6 +1,6 @@
 //! The command `advise`, but for the putting out of its advice.
 
-ghost use Rattle.std.specs.Prelude.{◌≡◌, IfOk};
+ghost use Rattle.std.specs.Prelude.{◌≡◌};
 ghost use Rattle.ih_plan.specs.Timetable.{IsPlanOf};
 ghost use Rattle.ih_advise.specs.{Advising.advice, Texts.advice_text};
 ghost use Rattle.ih_words.specs.Advise.{IsLawfulAdvise, advise_call};
@@ -8,41 +8,17 @@ ghost use Rattle.ih_top.specs.Advise.{AdviseEnds};
 ghost use Rattle.ih_top.specs.Answers.{Answers, HasShelfCause, IsSaid};
 
 use crate::answer::Answer;
-use crate::inputs::{InputNames, Inputs, read_inputs};
+use crate::inputs::read_inputs;
 use crate::status::Status;
 use crate::texts::out_of_memory;
 use ih_advise::advice_text;
+use ih_inputs::Inputs;
 use ih_shelf::{Gate, Shelf};
 use ih_words::Advise;
-use std::alloc::{AllocError, Global};
+use std::alloc::Global;
 use std::rt::Files;
 use std::sync::Wait;
 use std::thread::Threads;
-
-// The text of what is advised on the timetable.
-fn text_of<R: Threads + Wait + Sync, G: Gate>(
-    rt: &R,
-    alloc: Global,
-    call: &Advise<'_>,
-    inputs: &Inputs,
-    gate: &G,
-) -> Result<Vec<u8>, AllocError>
-    requires lawful { IsLawfulAdvise call.now }
-    requires plan { IsPlanOf inputs.now.inst.value.draft inputs.now.plan }
-    ensures { IfOk result
-        (λ v. v.items ≡ advice_text (advice inputs.now.inst.value.draft call.now.hard inputs.now.plan)) }
-{
-    let list = ih_advise::advise(
-        rt,
-        alloc,
-        &*inputs.inst,
-        &inputs.plan,
-        call.hard,
-        call.workers,
-        gate,
-    )?;
-    advice_text(alloc, list.as_slice())
-}
 
 // What is advised on the timetable, whether or not it breaks a hard rule.
 fn advised<R: Threads + Wait + Sync, G: Gate>(
@@ -57,7 +33,11 @@ fn advised<R: Threads + Wait + Sync, G: Gate>(
     ensures { IsSaid Status.Done
         (advice_text (advice inputs.now.inst.value.draft call.now.hard inputs.now.plan)) result }
 {
-    match text_of(rt, alloc, call, inputs, gate) {
+    let (inst, plan) = (&*inputs.inst, &inputs.plan);
+    let Ok(list) = ih_advise::advise(rt, alloc, inst, plan, call.hard, call.workers, gate) else {
+        return out_of_memory(alloc);
+    };
+    match advice_text(alloc, list.as_slice()) {
         Ok(text) => Answer {
             status: Status::Done,
             text,
@@ -79,11 +59,7 @@ pub fn advise<R: Files + Threads + Wait + Sync, S: Shelf, G: Gate>(
     ensures cause { HasShelfCause S.Shelf shelf.old shelf.new result.status }
     ensures kept { S.names shelf.new ≡ S.names shelf.old }
 {
-    let names = InputNames {
-        instance: call.instance,
-        solution: Some(call.solution),
-    };
-    match read_inputs(rt, alloc, &names, shelf) {
+    match read_inputs(rt, alloc, call.instance, Some(call.solution), shelf) {
         Ok(inputs) => advised(rt, alloc, call, &inputs, gate),
         Err(answer) => answer,
     }

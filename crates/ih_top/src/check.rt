@@ -10,9 +10,10 @@ ghost use Rattle.ih_top.specs.Answers.{Answers, HasShelfCause, IsSaid, checked_s
 ghost use Rattle.ih_top.specs.{Check.CheckEnds, Writes.Unchanged};
 
 use crate::answer::Answer;
-use crate::inputs::{InputNames, Inputs, read_inputs};
+use crate::inputs::read_inputs;
 use crate::status::Status;
 use crate::texts::out_of_memory;
+use ih_inputs::Inputs;
 use ih_shelf::Shelf;
 use ih_validate::{bill, report};
 use ih_words::Check;
@@ -45,11 +46,7 @@ pub fn check<R: Files, S: Shelf>(rt: &R, alloc: Global, call: &Check<'_>, shelf:
     ensures cause { HasShelfCause S.Shelf shelf.old shelf.new result.status }
     ensures kept { S.names shelf.new ≡ S.names shelf.old }
 {
-    let names = InputNames {
-        instance: call.instance,
-        solution: Some(call.solution),
-    };
-    match read_inputs(rt, alloc, &names, shelf) {
+    match read_inputs(rt, alloc, call.instance, Some(call.solution), shelf) {
         Ok(inputs) => checked(alloc, &inputs),
         Err(answer) => answer,
     }

@@ -6,14 +6,11 @@ ghost use Rattle.ih_top.specs.{Answers.Answers, Answers.HasShelfCause, Ends.Call
 
 use crate::advise::advise;
 use crate::answer::Answer;
-use crate::chain::chain;
 use crate::check::check;
 use crate::demo::demo;
 use crate::generate::write_instance;
-use crate::replay::replay;
-use crate::rounds::run_rounds;
-use crate::salvage::salvage;
-use crate::solve::solve;
+use crate::journals::{JournalUse, take_journal};
+use crate::searching::{Method, search_by};
 use ih_shelf::{Gate, Shelf};
 use ih_words::Command;
 use std::alloc::Global;
@@ -35,12 +32,18 @@ pub fn perform<R: Files + Threads + Wait + Sync, S: Shelf, G: Gate>(
     ensures cause { HasShelfCause S.Shelf shelf.old shelf.new result.status }
 {
     match command {
-        Command::Solve(call) => solve(rt, alloc, call, shelf, gate),
-        Command::Replay(call) => replay(rt, alloc, call, shelf),
-        Command::Salvage(call) => salvage(rt, alloc, call, shelf),
+        Command::Solve(call) => search_by(rt, alloc, Method::Moves, call, shelf, gate),
+        Command::Replay(call) => take_journal(rt, alloc, JournalUse::Replay, call, shelf),
+        Command::Salvage(call) => take_journal(rt, alloc, JournalUse::Salvage, call, shelf),
         Command::Check(call) => check(rt, alloc, call, shelf),
-        Command::Chain(call) => chain(rt, alloc, call, shelf, gate),
-        Command::Rounds(call) => run_rounds(rt, alloc, call, shelf, gate),
+        Command::Chain(call) => {
+            let method = Method::Chains(call.length);
+            search_by(rt, alloc, method, &call.search, shelf, gate)
+        }
+        Command::Rounds(call) => {
+            let method = Method::Rounds(call.rounds);
+            search_by(rt, alloc, method, &call.search, shelf, gate)
+        }
         Command::Advise(call) => advise(rt, alloc, call, shelf, gate),
         Command::Gen(call) => write_instance(rt, alloc, call, shelf),
         Command::Demo(number) => demo(rt, alloc, *number, gate),

@@ -1,36 +1,19 @@
-//! The files that a call reads before anything else: its instance, and a timetable where a file is named for it.
+//! The files that a call reads before anything else, and what is said where one of them can't be had.
 
-ghost use Rattle.std.specs.Prelude.{◌≡◌, ◌≤◌, IfOk, IfErr, IfSome, Some};
+ghost use Rattle.std.specs.Prelude.{◌≡◌, IfOk, IfErr};
 ghost use Rattle.ih_plan.specs.Timetable.{IsPlanOf};
+ghost use Rattle.ih_inputs.specs.Errors.{HasOnlyRead};
+ghost use Rattle.ih_inputs.specs.Reading.{reading_of, HasInputs};
 ghost use Rattle.ih_top.specs.Answers.{Answers, HasShelfCause, IsUnreadFile};
-ghost use Rattle.ih_top.specs.Inputs.{reading_of, HasInstance, HasSolution, HasPlan, HasInputs, EndsUnread};
+ghost use Rattle.ih_top.specs.Inputs.{EndsUnread, IsStopped, role_in};
 
 use crate::answer::Answer;
-use crate::limits::MAX_FILE;
 use crate::status::Role;
 use crate::texts::{instance_refused, out_of_memory, solution_refused, too_long, unread};
-use ih_instance::{InstanceError, read_instance};
-use ih_plan::Plan;
+use ih_inputs::{InputError, InputNames, InputRole, Inputs};
 use ih_shelf::{ReadError, Shelf};
-use ih_solution::{SolutionError, read_solution};
-use ih_tables::Instance;
-use std::alloc::{AllocError, Global};
+use std::alloc::Global;
 use std::rt::Files;
-
-/// The names of the files.
-#[derive(Clone, Copy)]
-pub struct InputNames<'a> {
-    pub instance: &'a str,
-    pub solution: Option<&'a str>,
-}
-
-/// What the files give.
-#[derive(Drop)]
-pub struct Inputs {
-    // In a place of its own: it is handed on as an address.
-    pub inst: Box<Instance>,
-    pub plan: Plan,
-}
 
 /// Says why a file gave no bytes.
 pub fn unread_file(alloc: Global, role: Role, name: &str, error: ReadError) -> Answer
@@ -43,108 +26,48 @@ pub fn unread_file(alloc: Global, role: Role, name: &str, error: ReadError) -> A
     }
 }
 
-fn boxed(alloc: Global, inst: Instance) -> Result<Box<Instance>, AllocError>
-    ensures { IfOk result (λ i. i.value.draft ≡ inst.draft) }
+fn role_in(role: InputRole) -> Role
+    ensures { result ≡ role_in role }
 {
-    Ok(Box::new(alloc, inst)?)
-}
-
-fn read_instance_file<R: Files, S: Shelf>(
-    rt: &R,
-    alloc: Global,
-    names: &InputNames<'_>,
-    shelf: &mut S,
-) -> Result<Box<Instance>, Answer>
-    ensures read { IfOk result (λ i. IfSome (S.names shelf.old) (HasInstance names.now.instance.now i.value.draft)) }
-    ensures unread { IfErr result (Answers (EndsUnread (S.names shelf.old) (reading_of names.now))) }
-    ensures cause { IfErr result (λ a. HasShelfCause S.Shelf shelf.old shelf.new a.status) }
-    ensures count { S.read_faults shelf.old ≤ S.read_faults shelf.new }
-    ensures other_count { S.write_faults shelf.new ≡ S.write_faults shelf.old }
-    ensures kept { S.names shelf.new ≡ S.names shelf.old }
-{
-    match shelf.read(rt, alloc, names.instance, MAX_FILE) {
-        Ok(bytes) => match read_instance(alloc, bytes.as_slice()) {
-            Ok(inst) => match boxed(alloc, inst) {
-                Ok(inst) => Ok(inst),
-                Err(_) => Err(out_of_memory(alloc)),
-            },
-            Err(InstanceError::Refused(refusal)) => Err(instance_refused(alloc, refusal)),
-            Err(InstanceError::OutOfMemory) => Err(out_of_memory(alloc)),
-        },
-        Err(error) => Err(unread_file(alloc, Role::Instance, names.instance, error)),
+    match role {
+        InputRole::Instance => Role::Instance,
+        InputRole::Solution => Role::Solution,
     }
 }
 
-fn read_plan_file<R: Files, S: Shelf>(
-    rt: &R,
-    alloc: Global,
-    names: &InputNames<'_>,
-    name: &str,
-    inst: &Instance,
-    shelf: &mut S,
-) -> Result<Plan, Answer>
-    requires instance { IfSome (S.names shelf.old) (HasInstance names.now.instance.now inst.now.draft) }
-    requires named { (reading_of names.now).solution ≡ Some name.now }
-    ensures plan { IfOk result (IsPlanOf inst.now.draft) }
-    ensures read { IfOk result (λ p. IfSome (S.names shelf.old) (HasSolution name.now inst.now.draft p)) }
-    ensures unread { IfErr result (Answers (EndsUnread (S.names shelf.old) (reading_of names.now))) }
-    ensures cause { IfErr result (λ a. HasShelfCause S.Shelf shelf.old shelf.new a.status) }
-    ensures count { S.read_faults shelf.old ≤ S.read_faults shelf.new }
-    ensures other_count { S.write_faults shelf.new ≡ S.write_faults shelf.old }
-    ensures kept { S.names shelf.new ≡ S.names shelf.old }
+// Says why the files can't be had.
+fn unread_inputs(alloc: Global, names: &InputNames<'_>, error: InputError) -> Answer
+    ensures { IsStopped (reading_of names.now) error result }
 {
-    match shelf.read(rt, alloc, name, MAX_FILE) {
-        Ok(bytes) => match read_solution(alloc, inst, bytes.as_slice()) {
-            Ok(plan) => Ok(plan),
-            Err(SolutionError::Refused(refusal)) => Err(solution_refused(alloc, refusal)),
-            Err(SolutionError::OutOfMemory) => Err(out_of_memory(alloc)),
-        },
-        Err(error) => Err(unread_file(alloc, Role::Solution, name, error)),
+    match error {
+        InputError::ReadFault(role) => unread(alloc, role_in(role), names.named(role)),
+        InputError::TooLong(role) => too_long(alloc, role_in(role), names.named(role)),
+        InputError::InstanceRefused(refusal) => instance_refused(alloc, refusal),
+        InputError::SolutionRefused(refusal) => solution_refused(alloc, refusal),
+        InputError::OutOfMemory => out_of_memory(alloc),
     }
 }
 
-// The timetable of its file, or the empty one where no file is named.
-fn read_plan<R: Files, S: Shelf>(
-    rt: &R,
-    alloc: Global,
-    names: &InputNames<'_>,
-    inst: &Instance,
-    shelf: &mut S,
-) -> Result<Plan, Answer>
-    requires instance { IfSome (S.names shelf.old) (HasInstance names.now.instance.now inst.now.draft) }
-    ensures plan { IfOk result (IsPlanOf inst.now.draft) }
-    ensures read { IfOk result (HasPlan (S.names shelf.old) (reading_of names.now).solution inst.now.draft) }
-    ensures unread { IfErr result (Answers (EndsUnread (S.names shelf.old) (reading_of names.now))) }
-    ensures cause { IfErr result (λ a. HasShelfCause S.Shelf shelf.old shelf.new a.status) }
-    ensures count { S.read_faults shelf.old ≤ S.read_faults shelf.new }
-    ensures other_count { S.write_faults shelf.new ≡ S.write_faults shelf.old }
-    ensures kept { S.names shelf.new ≡ S.names shelf.old }
-{
-    match names.solution {
-        Some(name) => read_plan_file(rt, alloc, names, name, inst, shelf),
-        None => match Plan::empty(alloc, inst) {
-            Ok(plan) => Ok(plan),
-            Err(_) => Err(out_of_memory(alloc)),
-        },
-    }
-}
-
-/// Reads the instance, then the timetable. Where one of them can't be had, the answer says why.
+/// Reads the instance, then the timetable where a file is named for it. Where one of them can't be had, the answer says
+/// why.
 pub fn read_inputs<R: Files, S: Shelf>(
     rt: &R,
     alloc: Global,
-    names: &InputNames<'_>,
+    instance: &str,
+    solution: Option<&str>,
     shelf: &mut S,
 ) -> Result<Inputs, Answer>
     ensures plan { IfOk result (λ i. IsPlanOf i.inst.value.draft i.plan) }
-    ensures read { IfOk result (λ i. HasInputs (S.names shelf.old) (reading_of names.now) i.inst.value.draft i.plan) }
-    ensures unread { IfErr result (Answers (EndsUnread (S.names shelf.old) (reading_of names.now))) }
+    ensures read { IfOk result (λ i. HasInputs (S.names shelf.old)
+        (reading_of (record { instance = instance; solution = solution })) i.inst.value.draft i.plan) }
+    ensures unread { IfErr result (Answers (EndsUnread (S.names shelf.old)
+        (reading_of (record { instance = instance; solution = solution })))) }
     ensures cause { IfErr result (λ a. HasShelfCause S.Shelf shelf.old shelf.new a.status) }
-    ensures count { S.read_faults shelf.old ≤ S.read_faults shelf.new }
-    ensures other_count { S.write_faults shelf.new ≡ S.write_faults shelf.old }
-    ensures kept { S.names shelf.new ≡ S.names shelf.old }
+    ensures only { HasOnlyRead S.Shelf shelf.old shelf.new }
 {
-    let inst = read_instance_file(rt, alloc, names, shelf)?;
-    let plan = read_plan(rt, alloc, names, &*inst, shelf)?;
-    Ok(Inputs { inst, plan })
+    let names = InputNames { instance, solution };
+    match ih_inputs::read_inputs(rt, alloc, &names, shelf) {
+        Ok(inputs) => Ok(inputs),
+        Err(error) => Err(unread_inputs(alloc, &names, error)),
+    }
 }

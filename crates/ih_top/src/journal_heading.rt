@@ -8,10 +8,10 @@ ghost use Rattle.ih_words.specs.Start.{start_call};
 ghost use Rattle.ih_top.specs.JournalFiles.{read_from};
 ghost use Rattle.ih_top.specs.JournalHeading.{HasNoHeading, IsBegun, base_headed};
 
-use crate::inputs::Inputs;
 use crate::journal_lines::first_line;
 use crate::starts::begin;
 use ih_desk::Given;
+use ih_inputs::Inputs;
 use ih_journal::{Options, parse_head};
 use ih_words::Start;
 use std::alloc::{AllocError, Global};

@@ -5,7 +5,8 @@ ghost use Rattle.ih_top.specs.Laws.{ChainJournalsAreHeadless, ChainJournalsFit, 
 ghost use Rattle.ih_top.specs.Laws.{JournalsFit, SolvesReplayTheSame, SolvesWithNoneReplayTheSame, LoneRoundsAreAlike};
 ghost use Rattle.ih_top.specs.Laws.{LoneRoundsEndAlike, LoneSearchesAreAlike, LoneSearchesDoTheSame};
 ghost use Rattle.ih_top.specs.Laws.{LoneSearchesEndAlike, RefusedLinesAreNotFull, WholeLinesAreSalvaged};
-ghost use Rattle.ih_top.specs.{declared.limits.TheConstants.MAX_FILE, declared.limits.TheConstants.MAX_JOURNAL};
+ghost use Rattle.ih_inputs.specs.declared.reading.TheConstants.{MAX_FILE};
+ghost use Rattle.ih_top.specs.declared.limits.TheConstants.{MAX_JOURNAL};
 ghost use Rattle.ih_top.specs.{Chain.of_chains, Solve.of_moves};
 ghost use Rattle.std.specs.Prelude.{ℕ, ◌≡◌};
 ghost use Rattle.ih_journal.specs.declared.settings.TheConstants.{MAX_ENTRIES, MAX_HARD, MAX_HEAT, MAX_MOVES};

@@ -9,29 +9,30 @@ mod commands;
 mod demo;
 mod generate;
 mod inputs;
-mod journal_files;
 mod journal_heading;
 mod journal_lines;
+mod journals;
 mod laws;
 mod limits;
 mod outcome;
 mod output;
 mod replay;
-mod rounds;
 mod rounds_output;
 mod running;
 mod salvage;
+mod searching;
 mod solve;
 mod starts;
 mod status;
 mod texts;
 mod writer;
 
+pub use ih_inputs::MAX_FILE;
 pub use laws::{
     chains_are_refused, limits_are_these, lone_searches_are_alike, refused_lines_are_not_full,
     solves_replay_the_same, whole_lines_are_salvaged,
 };
-pub use limits::{MAX_FILE, MAX_JOURNAL};
+pub use limits::MAX_JOURNAL;
 pub use rounds_output::search_at_desk;
 pub use running::run;
 pub use status::{Role, Status};

@@ -3,7 +3,8 @@
 ghost use Rattle.std.specs.Prelude.{◌≡◌, IfOk, string_bytes};
 ghost use Rattle.ih_plan.specs.{BillOf.bill_of, Timetable.IsPlanOf};
 ghost use Rattle.ih_journal.specs.Settings.{IsLawful};
-ghost use Rattle.ih_cellbook.specs.Keeping.{base_with};
+ghost use Rattle.ih_cellbook.specs.Keeping.{IsBase};
+ghost use Rattle.ih_desk.specs.Searching.{base_given};
 ghost use Rattle.ih_rounds.specs.{Ends.IsFound, Rounds.Round};
 ghost use Rattle.ih_top.specs.RoundTexts.{IsRoundSaid, FitsEnd, round_line, round_report};
 ghost use Rattle.ih_top.specs.Rounds.{IsFullFrom, IsRoundsOutput};
@@ -108,19 +109,17 @@ pub fn search_at_desk<R: Threads + Wait + Sync, G: Gate>(
 pub fn make_rounds_output<R: Threads + Wait + Sync, G: Gate>(
     rt: &R,
     alloc: Global,
-    inst: &Instance,
-    start: &Plan,
-    options: &Options,
+    given: &Given<'_>,
     count: u32,
     gate: &G,
 ) -> Result<Output, AllocError>
-    requires start { IsPlanOf inst.now.draft start.now }
-    requires lawful { IsLawful options.now }
-    requires once { options.now.retries ≡ 0 }
-    ensures { IfOk result (IsRoundsOutput (base_with inst.entry.now.draft start.entry.now options.entry.now 0) count) }
+    requires base { IsBase (base_given given.now) }
+    requires once { given.now.options.retries ≡ 0 }
+    requires unfrozen { given.now.freeze ≡ 0 }
+    ensures { IfOk result (IsRoundsOutput (base_given given.entry.now) count) }
 {
     // For the proof alone: the seed has 64 bits, and accepted prices are exact.
-    let _seed = seed_of(options);
+    let _seed = seed_of(&given.options);
     accepted_prices_are_exact();
     let mut searcher = SearchBy {
         search: |alloc: Global, inst: &Instance, start: &Plan, options: &Options| -> Result<
@@ -135,13 +134,13 @@ pub fn make_rounds_output<R: Threads + Wait + Sync, G: Gate>(
     let end = rounds(
         rt,
         alloc,
-        inst,
-        start,
-        options,
+        given.inst,
+        given.start,
+        &given.options,
         count,
         &mut searcher,
         &mut journal,
     )?;
-    let best = best_of_rounds(alloc, inst, &end)?;
+    let best = best_of_rounds(alloc, given.inst, &end)?;
     Ok(Output { journal, best })
 }

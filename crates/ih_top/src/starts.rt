@@ -5,7 +5,7 @@ ghost use Rattle.ih_plan.specs.Timetable.{IsPlanOf};
 ghost use Rattle.ih_journal.specs.Settings.{IsLawful};
 ghost use Rattle.ih_top.specs.Starts.{started};
 
-use crate::inputs::Inputs;
+use ih_inputs::Inputs;
 use ih_parfill::par_fill;
 use ih_shelf::OpenGate;
 use ih_words::Solve;

@@ -1,0 +1,37 @@
+-- By what steps a call searches: which options that asks for, what it makes, and how the call ends.
+use Rattle.std.specs.Prelude.{◌≡◌, ℕ, ◌≤◌, ◌*◌, List, Option}
+use Rattle.ih_journal.specs.declared.settings.Options.{Options}
+use Rattle.ih_journal.specs.declared.settings.TheConstants.{MAX_ENTRIES}
+use Rattle.ih_journal.specs.Base.{Base}
+use Rattle.ih_journal.specs.Settings.{most_entries}
+use Rattle.ih_words.specs.Solve.{SolveCall}
+use Rattle.ih_shelf.specs.Outside.{Names}
+use Rattle.ih_top.specs.declared.output.Output.{Output}
+use Rattle.ih_top.specs.declared.searching.Method.{Method}
+use Rattle.ih_top.specs.declared.searching.Method.TheVariants.{Moves, Chains, Rounds}
+use Rattle.ih_top.specs.declared.status.Status.{Status}
+use Rattle.ih_top.specs.Chain.{ChainEnds, of_chains}
+use Rattle.ih_top.specs.Outputs.{IsOutput}
+use Rattle.ih_top.specs.Rounds.{IsRoundsOutput, RoundsEnds}
+use Rattle.ih_top.specs.Solve.{SolveEnds, of_moves}
+
+-- chains and rounds try nothing again and freeze nothing, and all chains together have at most a million moves
+abbrev pub IsLawfulFor : Method → Options → ℕ → Type 0
+IsLawfulFor Moves o freeze = Unit {0}
+IsLawfulFor (Chains each) o freeze =
+    (o.retries ≡ 0) × (freeze ≡ 0) × (1 ≤ each) × (each ≤ 8) × (most_entries o * each ≤ MAX_ENTRIES)
+IsLawfulFor (Rounds count) o freeze = (o.retries ≡ 0) × (freeze ≡ 0)
+
+-- what a search makes
+abbrev pub IsMade : Method → Base → Output → Type 0
+IsMade Moves b o = IsOutput of_moves b o
+IsMade (Chains each) b o = IsOutput (of_chains each) b o
+IsMade (Rounds count) b o = IsRoundsOutput b count o
+
+-- how the call ends
+abbrev pub MethodEnds : Method → SolveCall → Option Names → Option Names → Status → List ℕ → Type 0
+MethodEnds Moves s old new status text = SolveEnds s old new status text
+MethodEnds (Chains each) s old new status text =
+    ChainEnds (record { search = s; length = each }) old new status text
+MethodEnds (Rounds count) s old new status text =
+    RoundsEnds (record { search = s; rounds = count }) old new status text
