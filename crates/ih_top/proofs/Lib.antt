@@ -12,7 +12,7 @@ pub mod FaultlessEnds
 pub mod FirstLines
 pub mod JournalLaws
 pub mod JournalOutcomes
-pub mod Journals
+pub mod JournalReading
 pub mod Methods
 pub mod RoundsAlike
 pub mod RoundsOutputs

@@ -5,7 +5,7 @@ use Rattle.ih_top.specs.JournalFiles.{read_from}
 use Rattle.ih_top.specs.JournalUses.{IsOutcomeFor, refused_for, said_for, taken_for}
 use Rattle.ih_top.specs.Outcomes.{OutcomeEnds}
 use Rattle.ih_top.proofs.JournalOutcomes.{outcome-answer}
-use Rattle.ih_top.proofs.Journals.{has-bytes, unread-bytes, unread-inputs}
+use Rattle.ih_top.proofs.JournalReading.{has-bytes, unread-bytes, unread-inputs}
 use Rattle.ih_top.proofs.journals.take_journal.Goals as goal
 
 pub returns-in-Err-clause-ends : goal.returns-in-Err-clause-ends
