@@ -90,7 +90,7 @@ pub fn conclude<R: Print, O: Sink>(
         Status::Done => status,
         Status::OutOfMemory => say_memory(rt, out),
         status => match text_of(alloc, call, status) {
-            Ok(line) => put_text(rt, out, status, line.into_bytes().as_slice()),
+            Ok(line) => put_text(rt, out, status, line.as_bytes()),
             Err(_) => say_memory(rt, out),
         },
     }
