@@ -1,6 +1,6 @@
 -- What a run of chains makes to be written and said.
 use Rattle.std.proofs.Common.{◌≡◌, ◌∙◌, ℕ, ◌<◌, ◌^◌, refl, sym, ap, ap₂, subst, arith, false, true, length, List, Option, Some, None}
-use Rattle.std.specs.Prelude.{ℤ}
+use Rattle.std.specs.Prelude.{ℤ, Result, Ok, Err, IfOk}
 use Rattle.std.proofs.lemmas.List.{length-map}
 use Rattle.ih_plan.specs.BillOf.{bill_of}
 use Rattle.ih_tables.specs.declared.drafts.Draft.{Draft}
@@ -76,7 +76,7 @@ run-best b each r best is said = by_case r.best r.plan best is.best is.plan said
 -- ---- all that it makes
 
 -- with nothing frozen
-pub chain-made : (I : Draft) (P : Timetable) (o : Options) (freeze each : ℕ) (r : Ran) (out : Output) → IsPlanOf I P → IsLawful o → o.seed < 2 ^ 64
+chain-made : (I : Draft) (P : Timetable) (o : Options) (freeze each : ℕ) (r : Ran) (out : Output) → IsPlanOf I P → IsLawful o → o.seed < 2 ^ 64
     → freeze ≡ 0 → IsRunOf (base_with I P o 0) each r → out.journal.items ≡ chain_journal r.options r.each r.entries
     → IsBestOfRun I r.best r.plan (length r.entries) out.best → IsOutput (of_chains each) (base_with I P o freeze) out
 chain-made I P o freeze each r out fits lawful seed free is journal best =
@@ -91,3 +91,13 @@ chain-made I P o freeze each r out fits lawful seed free is journal best =
       journal = journal ∙ ap₂ (λ options n. chain_journal options n r.entries) is.options is.each;
       best = run-best b each r out.best is best;
     })
+
+-- the same where memory may have run out
+pub chain-result : {E : Type 0} (I : Draft) (P : Timetable) (o : Options) (freeze each : ℕ) (r : Ran) (made : Result Output E) → IsPlanOf I P
+    → IsLawful o → o.seed < 2 ^ 64 → freeze ≡ 0 → IsRunOf (base_with I P o 0) each r
+    → IfOk made (λ out. out.journal.items ≡ chain_journal r.options r.each r.entries)
+    → IfOk made (λ out. IsBestOfRun I r.best r.plan (length r.entries) out.best)
+    → IfOk made (IsOutput (of_chains each) (base_with I P o freeze))
+chain-result I P o freeze each r (Ok out) fits lawful seed free is journal best =
+    chain-made I P o freeze each r out fits lawful seed free is journal best
+chain-result I P o freeze each r (Err e) fits lawful seed free is journal best = tt

@@ -37,11 +37,13 @@ unread-search : {X : Type 0} (kind : Kind X) (s : SolveCall) (old new : Option N
 unread-search kind s old new kept = answers-weaker (EndsUnread old (solve_reading s)) (SearchEnds kind s old new)
     (unread-writing _ _ _ (λ text. IsDone kind s old new text) s old new kept)
 
+unread-rounds : (r : RoundsCall) (old new : Option Names) → IfTold Unchanged old new → (a : Answer)
+    → Answers (EndsUnread old (solve_reading r.search)) a → Answers (RoundsEnds r old new) a
+unread-rounds r old new kept = answers-weaker (EndsUnread old (solve_reading r.search)) (RoundsEnds r old new)
+    (unread-writing _ _ _ (λ text. AreDone r old new text) r.search old new kept)
+
 pub unread-by : (method : Method) (s : SolveCall) (old new : Option Names) → IfTold Unchanged old new → (a : Answer)
     → Answers (EndsUnread old (solve_reading s)) a → Answers (MethodEnds method s old new) a
 unread-by Moves s = unread-search of_moves s
 unread-by (Chains each) s = unread-search (of_chains each) s
-unread-by (Rounds count) s old new kept =
-    let r : RoundsCall = record { search = s; rounds = count } in
-    answers-weaker (EndsUnread old (solve_reading s)) (RoundsEnds r old new)
-    (unread-writing _ _ _ (λ text. AreDone r old new text) s old new kept)
+unread-by (Rounds count) s = unread-rounds (record { search = s; rounds = count })

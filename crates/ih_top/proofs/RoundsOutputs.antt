@@ -1,9 +1,12 @@
 -- How rounds end, and what is written and said of that.
-use Rattle.std.proofs.Common.{◌≡◌, ℕ, ◌<◌, ◌^◌, ap, ◌∙◌, List, [], ◌++◌, length, Option, Some, None}
+use Rattle.std.proofs.Common.{◌≡◌, ℕ, ◌<◌, ◌^◌, ap, sym, subst, ◌∙◌, List, [], ◌++◌, length, Option, Some, None}
+use Rattle.ih_tables.specs.declared.drafts.Draft.{Draft}
 use Rattle.ih_plan.specs.BillOf.{bill_of}
+use Rattle.ih_plan.specs.Timetable.{Timetable}
+use Rattle.ih_journal.specs.declared.settings.Options.{Options}
 use Rattle.ih_journal.specs.Base.{Base}
 use Rattle.ih_journal.specs.Tried.{tries}
-use Rattle.ih_cellbook.specs.Keeping.{IsBase}
+use Rattle.ih_cellbook.specs.Keeping.{IsBase, base_with}
 use Rattle.ih_cellbook.specs.Laws.{AcceptedPricesAreExact}
 use Rattle.ih_rounds.specs.declared.running.RoundsEnd.{RoundsEnd}
 use Rattle.ih_rounds.specs.declared.running.RoundsEnd.TheVariants.{Found, NoneFound}
@@ -52,3 +55,8 @@ output-of law b count before after old new end o given seed empty ends said whol
   journal = whole ∙ ends.run.written ∙ ap (λ t. t ++ journals b.options 0 ends.run.rounds) empty;
   best = said-of b ends.run.rounds end o.best ends.end_is said;
 }
+
+-- what was made with no freeze day is made where that is day 0
+pub output-unfrozen : (I : Draft) (P : Timetable) (o : Options) (freeze count : ℕ) (made : Output) → freeze ≡ 0
+    → IsRoundsOutput (base_with I P o 0) count made → IsRoundsOutput (base_with I P o freeze) count made
+output-unfrozen I P o freeze count made free is = subst (λ (n : ℕ). IsRoundsOutput (base_with I P o n) count made) (sym free) is

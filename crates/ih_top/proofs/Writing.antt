@@ -157,13 +157,16 @@ module _ (s : SolveCall) (o : Output) (old new : Option Names) where
             refl,
           ) said
 
-      pub both-written : IfTold (IsWritten s.out best.solution.items) mid new → WritesOutput WritesBoth s o old new
-      both-written then = record {
-        best = best;
-        is = is;
-        written = told-then (IsWritten s.journal o.journal.items) (IsWritten s.out best.solution.items)
-            (WritesBoth s o.journal.items best.solution.items) old mid new (writes-both s o.journal.items differ best.solution.items) whole then;
-      }
+      pub both-written : IfTold (IsWritten s.out best.solution.items) mid new → OutputEnds s o old new Done best.text.items
+      both-written then = (
+        record {
+          best = best;
+          is = is;
+          written = told-then (IsWritten s.journal o.journal.items) (IsWritten s.out best.solution.items)
+              (WritesBoth s o.journal.items best.solution.items) old mid new (writes-both s o.journal.items differ best.solution.items) whole then;
+        },
+        refl,
+      )
 
 -- ---- what a search made is what its call comes to
 

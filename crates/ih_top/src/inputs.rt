@@ -59,9 +59,9 @@ pub fn read_inputs<R: Files, S: Shelf>(
 ) -> Result<Inputs, Answer>
     ensures plan { IfOk result (λ i. IsPlanOf i.inst.value.draft i.plan) }
     ensures read { IfOk result (λ i. HasInputs (S.names shelf.old)
-        (reading_of (record { instance = instance; solution = solution })) i.inst.value.draft i.plan) }
+        (reading_of (record { instance = instance.entry; solution = solution.entry })) i.inst.value.draft i.plan) }
     ensures unread { IfErr result (Answers (EndsUnread (S.names shelf.old)
-        (reading_of (record { instance = instance; solution = solution })))) }
+        (reading_of (record { instance = instance.entry; solution = solution.entry })))) }
     ensures cause { IfErr result (λ a. HasShelfCause S.Shelf shelf.old shelf.new a.status) }
     ensures only { HasOnlyRead S.Shelf shelf.old shelf.new }
 {

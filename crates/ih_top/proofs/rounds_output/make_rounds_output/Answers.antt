@@ -1,8 +1,7 @@
-use Rattle.std.proofs.Common.{ℕ, refl, subst, sym, None}
+use Rattle.std.proofs.Common.{refl, None}
 use Rattle.ih_journal.specs.Base.{Base}
 use Rattle.ih_cellbook.specs.Keeping.{base_with}
-use Rattle.ih_top.specs.Rounds.{IsRoundsOutput}
-use Rattle.ih_top.proofs.RoundsOutputs.{fits-end, output-of}
+use Rattle.ih_top.proofs.RoundsOutputs.{fits-end, output-of, output-unfrozen}
 use Rattle.ih_top.proofs.rounds_output.make_rounds_output.Goals as goal
 
 pub best_of_rounds-requires : goal.best_of_rounds-requires
@@ -16,7 +15,7 @@ pub returns : goal.returns
 returns g c =
     let given = c.args.given.now in
     let b : Base = base_with given.inst.now.draft given.start.now given.options 0 in
-    subst (λ (n : ℕ). IsRoundsOutput (base_with given.inst.now.draft given.start.now given.options n) c.args.count _) (sym c.requires.unfrozen)
+    output-unfrozen given.inst.now.draft given.start.now given.options given.freeze c.args.count _ c.requires.unfrozen
     (output-of c.accepted_prices_are_exact.ensures b c.args.count None None c.new-journal.result.items c.rounds.new.journal.items c.in_ok-end.end _
     (record { start = c.requires.base.start; lawful = c.requires.base.lawful }) c.seed_of-seed.ensures.small c.new-journal.ensures.items
     c.in_ok-end.ensures.ends c.in_ok-best.ensures refl)

@@ -21,11 +21,16 @@ returns-in-Ok-clause-leaves g c =
 pub returns-in-Ok-clause-complete : goal.returns-in-Ok-clause-complete
 returns-in-Ok-clause-complete g c =
     let call : Call = command_call c.in-Ok.command in
+    let before = g.O.Sink.text c.args.out.now in
+    let after = g.O.Sink.text c.conclude.new.out in
+    let result = c.conclude.result in
     rw c.in-Ok.ensures.ok
-    (complete call (g.S.Shelf.names c.args.shelf.now) (g.S.Shelf.names c.perform-answer.new.shelf) _ _ _ _ _ _ _ _ c.conclude.result
-    (ended (CallEnds call (g.S.Shelf.names c.args.shelf.now) (g.S.Shelf.names c.perform-answer.new.shelf)) (call-answerable call _ _) _ _ c.perform-answer.result
-    c.conclude.result c.perform-answer.ensures.ends c.conclude.ensures.said)
-    (has-cause _ _ _ _ _ _ _ _ c.perform-answer.result.status c.conclude.result c.perform-answer.ensures.cause c.conclude.ensures.cause))
+    (complete call (g.S.Shelf.names c.args.shelf.now) (g.S.Shelf.names c.perform-answer.new.shelf)
+    (Gained result before after (g.O.Sink.faults c.args.out.now) (g.O.Sink.faults c.conclude.new.out))
+    (GainedPart before after (g.O.Sink.lacks c.args.out.now) (g.O.Sink.lacks c.conclude.new.out)) _ _ _ _ _ _ result
+    (ended (CallEnds call (g.S.Shelf.names c.args.shelf.now) (g.S.Shelf.names c.perform-answer.new.shelf)) (call-answerable call _ _) _ _ c.perform-answer.result result
+    c.perform-answer.ensures.ends c.conclude.ensures.said)
+    (has-cause _ _ _ _ _ _ _ _ c.perform-answer.result.status result c.perform-answer.ensures.cause c.conclude.ensures.cause))
 
 pub returns-in-Err-OutOfMemory-clause-leaves : goal.returns-in-Err-OutOfMemory-clause-leaves
 returns-in-Err-OutOfMemory-clause-leaves g c =

@@ -1,4 +1,4 @@
-use Rattle.std.proofs.Common.{refl, inr}
+use Rattle.std.proofs.Common.{inr}
 use Rattle.ih_words.specs.Solve.{SolveCall, solve_call}
 use Rattle.ih_top.proofs.Writing.{both-written, journal-unwritten, none-written, solution-unwritten}
 use Rattle.ih_top.proofs.writer.write_output.Goals as goal
@@ -25,7 +25,6 @@ returns-in-Err-write-clause-ends g c =
 pub returns-clause-ends : goal.returns-clause-ends
 returns-clause-ends g c =
     let s : SolveCall = solve_call c.args.call.now in
-    let both = both-written s c.args.output (g.S.Shelf.names c.args.shelf.now) (g.S.Shelf.names c.write-2.new.self) c.requires
+    inr (both-written s c.args.output (g.S.Shelf.names c.args.shelf.now) (g.S.Shelf.names c.write-2.new.self) c.requires
     (g.S.Shelf.names c.write.new.self) (rw (← c.as_slice.ensures.value) c.in_default.ensures.whole) c.in-Some.best c.in-Some.is
-    (rw (← c.as_slice-2.ensures.value) c.in_default-write.ensures.whole) in
-    inr (both, refl)
+    (rw (← c.as_slice-2.ensures.value) c.in_default-write.ensures.whole))
