@@ -15,5 +15,5 @@ returns-in_ok-run-in-Chains g c =
     subst (λ (m : Method). IsLawfulFor m given.options given.freeze) c.in-Chains.is c.requires.method in
     subst (λ (m : Method). IfOk c.output_of_run.result (IsMade m (base_given given))) (sym c.in-Chains.is)
     (chain-result given.inst.now.draft given.start.now given.options given.freeze each c.in_ok-run-in-Chains.run' c.output_of_run.result
-    c.requires.base.start c.requires.base.lawful c.seed_of-seed.ensures.small lawful.1.0 c.in_ok-run-in-Chains.ensures
+    c.requires.base.start c.requires.base.lawful c.seed_of-seed.ensures.small lawful.1 c.in_ok-run-in-Chains.ensures
     c.output_of_run.ensures.journal c.output_of_run.ensures.best)
