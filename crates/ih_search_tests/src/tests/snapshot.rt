@@ -77,49 +77,29 @@ fn act(
     }
 }
 
-/// Two workers' replicas, and what a look brings to either.
-#[derive(Drop)]
-struct Workers<'a> {
-    zero: Replica<'a>,
-    one: Replica<'a>,
-    news: News,
-}
-
 // A step of one of two workers.
 fn act_by(
     inst: &Instance,
     book: &mut Book<'_>,
-    workers: &mut Workers<'_>,
+    zero: &mut Replica<'_>,
+    one: &mut Replica<'_>,
     options: &Options,
+    news: &mut News,
     worker: u32,
     step: &Step,
 ) -> Told
     requires instance { inst.now.draft ≡ book.old.base.instance }
     requires options { options.now ≡ book.old.base.options }
-    requires zero { IsReplicaIn book.old.base book.old.entries workers.old.zero }
-    requires one { IsReplicaIn book.old.base book.old.entries workers.old.one }
+    requires zero { IsReplicaIn book.old.base book.old.entries zero.old }
+    requires one { IsReplicaIn book.old.base book.old.entries one.old }
     ensures base { book.new.base ≡ book.old.base }
-    ensures zero { IsReplicaIn book.old.base book.new.entries workers.new.zero }
-    ensures one { IsReplicaIn book.old.base book.new.entries workers.new.one }
+    ensures zero { IsReplicaIn book.old.base book.new.entries zero.new }
+    ensures one { IsReplicaIn book.old.base book.new.entries one.new }
 {
     if worker == 0 {
-        act(
-            inst,
-            book,
-            &mut workers.zero,
-            options,
-            &mut workers.news,
-            step,
-        )
+        act(inst, book, zero, options, news, step)
     } else {
-        act(
-            inst,
-            book,
-            &mut workers.one,
-            options,
-            &mut workers.news,
-            step,
-        )
+        act(inst, book, one, options, news, step)
     }
 }
 
@@ -127,63 +107,46 @@ fn act_by(
 fn act_all(
     inst: &Instance,
     book: &mut Book<'_>,
-    workers: &mut Workers<'_>,
+    zero: &mut Replica<'_>,
+    one: &mut Replica<'_>,
     options: &Options,
+    news: &mut News,
     rows: &[Row],
 ) -> bool
     requires instance { inst.now.draft ≡ book.old.base.instance }
     requires options { options.now ≡ book.old.base.options }
-    requires zero { IsReplicaIn book.old.base book.old.entries workers.old.zero }
-    requires one { IsReplicaIn book.old.base book.old.entries workers.old.one }
+    requires zero { IsReplicaIn book.old.base book.old.entries zero.old }
+    requires one { IsReplicaIn book.old.base book.old.entries one.old }
     ensures base { book.new.base ≡ book.old.base }
 {
     for (worker, step, expected) in rows {
-        if act_by(inst, book, workers, options, *worker, step) != *expected {
+        if act_by(inst, book, zero, one, options, news, *worker, step) != *expected {
             return false;
         }
     }
     true
 }
 
-/// What holds of the book after all steps: the entries at these places have these prices, the versions of what an
-/// accepted entry touched are raised and entries are copied, or nothing was touched.
-#[derive(Clone, Copy)]
-enum After<'a> {
-    HasPrices(&'a [Priced]),
-    IsRaised,
-    IsUntouched,
-}
-
-use After::{HasPrices, IsRaised, IsUntouched};
-
-/// A search: over what, from where, by which options, before which day nothing may change, its steps, and what then
-/// holds.
-#[derive(Clone, Copy)]
-struct Search<'a> {
-    inst: &'a Instance,
-    start: &'a Plan,
-    options: Options,
-    freeze: u32,
-    rows: &'a [Row],
-    after: After<'a>,
-}
-
 // The same with two new workers over a new book.
-fn act_first(alloc: Global, search: &Search<'_>, book: &mut Book<'_>) -> Result<bool, AllocError>
-    requires start { IsPlanOf search.now.inst.now.draft search.now.start.now }
-    requires lawful { IsLawful search.now.options }
-    requires base { book.old.base
-        ≡ base_with search.now.inst.now.draft search.now.start.now search.now.options search.now.freeze }
+fn act_first(
+    alloc: Global,
+    inst: &Instance,
+    start: &Plan,
+    book: &mut Book<'_>,
+    options: &Options,
+    freeze: u32,
+    rows: &[Row],
+) -> Result<bool, AllocError>
+    requires start { IsPlanOf inst.now.draft start.now }
+    requires lawful { IsLawful options.now }
+    requires base { book.old.base ≡ base_with inst.now.draft start.now options.now freeze }
     requires empty { book.old.entries ≡ [] }
     ensures base { book.new.base ≡ book.old.base }
 {
-    let (inst, start, options) = (search.inst, search.start, &search.options);
-    let mut workers = Workers {
-        zero: Replica::new(alloc, inst, start, options, search.freeze, 0)?,
-        one: Replica::new(alloc, inst, start, options, search.freeze, 1)?,
-        news: News::new(alloc)?,
-    };
-    Ok(act_all(inst, book, &mut workers, options, search.rows))
+    let mut news = News::new(alloc)?;
+    let mut zero = Replica::new(alloc, inst, start, options, freeze, 0)?;
+    let mut one = Replica::new(alloc, inst, start, options, freeze, 1)?;
+    Ok(act_all(inst, book, &mut zero, &mut one, options, &mut news, rows))
 }
 
 // The bill of the start.
@@ -194,71 +157,58 @@ fn first_bill(alloc: Global, inst: &Instance, start: &Plan) -> Result<Bill, Allo
     Ok(Ledgers::new(alloc, inst, start)?.total())
 }
 
-fn new_book<'a>(alloc: Global, search: &Search<'a>) -> Result<Book<'a>, AllocError>
-    requires start { IsPlanOf search.now.inst.now.draft search.now.start.now }
-    requires lawful { IsLawful search.now.options }
-    ensures { let s = search.now in let base = base_with s.inst.now.draft s.start.now s.options s.freeze in
+fn new_book<'a>(
+    alloc: Global,
+    inst: &'a Instance,
+    start: &'a Plan,
+    options: &Options,
+    freeze: u32,
+) -> Result<Book<'a>, AllocError>
+    requires start { IsPlanOf inst.now.draft start.now }
+    requires lawful { IsLawful options.now }
+    ensures { let base = base_with inst.now.draft start.now options.now freeze in
         IfOk result (λ k. k ≡ record { base = base; entries = [] }) }
 {
-    let first = first_bill(alloc, search.inst, search.start)?;
-    Book::new(
-        alloc,
-        search.inst,
-        search.start,
-        &first,
-        &search.options,
-        search.freeze,
-    )
+    let first = first_bill(alloc, inst, start)?;
+    Book::new(alloc, inst, start, &first, options, freeze)
 }
 
-fn holds(alloc: Global, book: &Book<'_>, cells: u32, after: After<'_>) -> bool
-    requires { cells ≤ cell_count book.now.base.instance }
-{
-    match after {
-        HasPrices(prices) => have_prices(book.entries(), prices),
-        IsRaised => are_kept(alloc, book, cells),
-        IsUntouched => is_as_begun(book, cells),
-    }
-}
-
-// Whether the rows come out so over a new book, and what is to hold then does.
-fn come_out(alloc: Global, search: &Search<'_>, book: &mut Book<'_>) -> bool
-    requires start { IsPlanOf search.now.inst.now.draft search.now.start.now }
-    requires lawful { IsLawful search.now.options }
-    requires base { book.old.base
-        ≡ base_with search.now.inst.now.draft search.now.start.now search.now.options search.now.freeze }
+// Whether the rows come out so over a new book, and the entries at these places then have these prices.
+fn come_out(
+    alloc: Global,
+    inst: &Instance,
+    start: &Plan,
+    book: &mut Book<'_>,
+    options: &Options,
+    freeze: u32,
+    rows: &[Row],
+    prices: &[Priced],
+) -> bool
+    requires start { IsPlanOf inst.now.draft start.now }
+    requires lawful { IsLawful options.now }
+    requires base { book.old.base ≡ base_with inst.now.draft start.now options.now freeze }
     requires empty { book.old.entries ≡ [] }
 {
-    let cells = Numbering::of(search.inst).count();
-    match act_first(alloc, search, book) {
-        Ok(told) => told && holds(alloc, book, cells, search.after),
+    match act_first(alloc, inst, start, book, options, freeze, rows) {
+        Ok(told) => told && have_prices(book.entries(), prices),
         Err(_) => false,
     }
 }
 
-// The same over a book that is made.
-fn plays(
+fn play(
     alloc: Global,
     inst: &Instance,
     start: &Plan,
-    options: Options,
+    options: &Options,
     freeze: u32,
     rows: &[Row],
-    after: After<'_>,
+    prices: &[Priced],
 ) -> bool
     requires start { IsPlanOf inst.now.draft start.now }
-    requires lawful { IsLawful options }
+    requires lawful { IsLawful options.now }
 {
-    let search = Search {
-        inst,
-        start,
-        options,
-        freeze,
-        rows,
-        after,
-    };
-    match new_book(alloc, &search) {
-        Ok(mut book) => come_out(alloc, &search, &mut book),
+    match new_book(alloc, inst, start, options, freeze) {
+        Ok(mut book) => come_out(alloc, inst, start, &mut book, options, freeze, rows, prices),
         Err(_) => false,
     }
 }
@@ -343,35 +293,14 @@ const BEHIND: [Row; 4] = [
 fn come_out_so(alloc: Global, inst: &Instance, start: &Plan) -> bool
     requires { IsPlanOf inst.now.draft start.now }
 {
-    let (once, twice) = (hot(2, 2, 0), hot(2, 2, 1));
-    plays(
-        alloc,
-        inst,
-        start,
-        twice,
-        0,
-        &COMES_AGAIN,
-        HasPrices(&AGAIN_PRICES),
-    ) && plays(
-        alloc,
-        inst,
-        start,
-        once,
-        0,
-        &TRACE,
-        HasPrices(&TRACE_PRICES),
-    ) && plays(alloc, inst, start, once, 0, &BOTH, HasPrices(&BOTH_PRICES))
-        && plays(alloc, inst, start, once, 0, &BEHIND, HasPrices(&[]))
-        && plays(alloc, inst, start, once, 0, &ONE_STALE, IsRaised)
-        && plays(
-            alloc,
-            inst,
-            start,
-            hot(1, 3, 0),
-            1,
-            &FROZEN,
-            HasPrices(&FROZEN_PRICES),
-        )
+    let twice = hot(2, 2, 1);
+    let once = hot(2, 2, 0);
+    let alone = hot(1, 3, 0);
+    play(alloc, inst, start, &twice, 0, &COMES_AGAIN, &AGAIN_PRICES)
+        && play(alloc, inst, start, &once, 0, &TRACE, &TRACE_PRICES)
+        && play(alloc, inst, start, &once, 0, &BOTH, &BOTH_PRICES)
+        && play(alloc, inst, start, &once, 0, &BEHIND, &[])
+        && play(alloc, inst, start, &alone, 1, &FROZEN, &FROZEN_PRICES)
 }
 
 // What the first worker's price of joining the first patient rests on: the stay, the room and the theatre on the day,
@@ -451,7 +380,8 @@ fn are_copied(book: &Book<'_>, buffer: &mut Buffer) -> bool {
 fn is_told(alloc: Global, book: &Book<'_>) -> bool {
     match News::new(alloc) {
         Ok(mut news) => {
-            book.news_since(0, &mut news);
+            let news: &mut News = &mut news;
+            book.news_since(0, news);
             news.accepted().len() == 1 && news.until() == 2 && news.front() == 2
         }
         Err(_) => false,
@@ -474,6 +404,35 @@ const ONE_STALE: [Row; 2] = [
     (1, Offers(0, SECOND_NURSE), ACCEPTED),
     (0, Offers(0, JOIN), ONCE_STALE),
 ];
+
+fn raises_versions(
+    alloc: Global,
+    inst: &Instance,
+    start: &Plan,
+    book: &mut Book<'_>,
+    options: &Options,
+) -> bool
+    requires start { IsPlanOf inst.now.draft start.now }
+    requires lawful { IsLawful options.now }
+    requires base { book.old.base ≡ base_with inst.now.draft start.now options.now 0 }
+    requires empty { book.old.entries ≡ [] }
+{
+    match act_first(alloc, inst, start, book, options, 0, &ONE_STALE) {
+        Ok(told) => told && are_kept(alloc, book, Numbering::of(inst).count()),
+        Err(_) => false,
+    }
+}
+
+// Whether an accepted entry raises the versions of what it touches and a stale one doesn't, and both are copied.
+fn accepted_entries_raise_versions(alloc: Global, inst: &Instance, start: &Plan) -> bool
+    requires { IsPlanOf inst.now.draft start.now }
+{
+    let options = hot(2, 2, 0);
+    match new_book(alloc, inst, start, &options, 0) {
+        Ok(mut book) => raises_versions(alloc, inst, start, &mut book, &options),
+        Err(_) => false,
+    }
+}
 
 // A worker's offers of moves that do nothing, each after a look, and then four looks of another.
 fn idle_rows(alloc: Global, count: u32) -> Result<Vec<Row>, AllocError> {
@@ -500,20 +459,44 @@ fn are_untouched(book: &Book<'_>, cells: u32) -> bool
     true
 }
 
-// Whether the book's best is the start, and no cell has a version yet.
-fn is_as_begun(book: &Book<'_>, cells: u32) -> bool
-    requires { cells ≤ cell_count book.now.base.instance }
+fn are_idle(
+    alloc: Global,
+    inst: &Instance,
+    start: &Plan,
+    book: &mut Book<'_>,
+    options: &Options,
+    rows: &[Row],
+) -> bool
+    requires start { IsPlanOf inst.now.draft start.now }
+    requires lawful { IsLawful options.now }
+    requires base { book.old.base ≡ base_with inst.now.draft start.now options.now 0 }
+    requires empty { book.old.entries ≡ [] }
 {
-    book.best() == Some((0, 159)) && are_untouched(book, cells)
+    match act_first(alloc, inst, start, book, options, 0, rows) {
+        Ok(told) => {
+            told && book.best() == Some((0, 159))
+                && are_untouched(book, Numbering::of(inst).count())
+        }
+        Err(_) => false,
+    }
+}
+
+fn come_out_idle(alloc: Global, inst: &Instance, start: &Plan, rows: &[Row]) -> bool
+    requires { IsPlanOf inst.now.draft start.now }
+{
+    let options = hot(2, 700, 0);
+    match new_book(alloc, inst, start, &options, 0) {
+        Ok(mut book) => are_idle(alloc, inst, start, &mut book, &options, rows),
+        Err(_) => false,
+    }
 }
 
 // Whether looks show 256 entries each, and 600 moves that do nothing touch no cell and change no timetable.
 fn looks_show_256_each(alloc: Global, inst: &Instance, start: &Plan) -> bool
     requires { IsPlanOf inst.now.draft start.now }
 {
-    let options = hot(2, 700, 0);
     match idle_rows(alloc, 600) {
-        Ok(rows) => plays(alloc, inst, start, options, 0, rows.as_slice(), IsUntouched),
+        Ok(rows) => come_out_idle(alloc, inst, start, rows.as_slice()),
         Err(_) => false,
     }
 }
@@ -522,6 +505,7 @@ fn hold(alloc: Global, inst: &Instance, start: &Plan) -> bool
     requires { IsPlanOf inst.now.draft start.now }
 {
     rests_on_what_is_read(alloc, inst, start)
+        && accepted_entries_raise_versions(alloc, inst, start)
         && come_out_so(alloc, inst, start)
         && looks_show_256_each(alloc, inst, start)
 }

@@ -6,6 +6,6 @@ use Rattle.ih_search_tests.proofs.tests.snapshot.act_all.Given as goal
 abbrev pub invariant-loop-worker : goal.invariant-loop-worker
 invariant-loop-worker l = record {
   base : l.book.base ≡ l.fn.book.base;
-  zero : IsReplicaIn l.book.base l.book.entries l.workers.zero;
-  one : IsReplicaIn l.book.base l.book.entries l.workers.one;
+  zero : IsReplicaIn l.book.base l.book.entries l.zero;
+  one : IsReplicaIn l.book.base l.book.entries l.one;
 }
