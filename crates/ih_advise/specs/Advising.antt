@@ -21,7 +21,8 @@ nurse_of kr = NurseOf (record { 0 = kr.0 }) (record { 0 = kr.1 })
 
 -- the stays of the patients in order, then the nurses of each room in each shift, by shift, then by room
 abbrev pub subjects : Draft → List Subject
-subjects I = map (λ p. StayOf (record { 0 = p })) (range_with_len 0 (patient_count I)) ++ map nurse_of (rooms_by_shift I)
+subjects I =
+    map (λ p. StayOf (record { 0 = p })) (range_with_len 0 (patient_count I)) ++ map nurse_of (rooms_by_shift I)
 
 -- it is a choice of the instance's timetables
 abbrev pub IsChoice : Draft → Subject → Type 0
@@ -57,7 +58,9 @@ advised I hard P w = record { write = w; score = value_of I hard P w; price = ch
 
 -- what is advised on a choice: its best write, where that lowers the score
 unfoldable pub advice_on : Draft → ℕ → Timetable → Subject → Option Advice
-advice_on I hard P s = if int_lt (value_of I hard P (best_write I hard P s)) (pos 0) then Some (advised I hard P (best_write I hard P s)) else None
+advice_on I hard P s = if int_lt (value_of I hard P (best_write I hard P s)) (pos 0)
+    then Some (advised I hard P (best_write I hard P s))
+    else None
 
 -- what is advised on a timetable, in the order of the choices
 abbrev pub advice : Draft → ℕ → Timetable → List Advice

@@ -27,7 +27,8 @@ pub record IsBestChange (I : Draft) (hard : ℕ) (P : Timetable) (s : Subject) (
   pub lowers : a.score <ℤ pos 0
   pub price : a.price ≡ change_of_bill I P (put a.write P)
   pub least : (w : Write) → IsCandidate I s w → a.score ≤ℤ value_of I hard P w
-  pub first : (j : ℕ) (w : Write) → j < place → slice_get (clearing s ∷ replacements I s) j ≡ Some w → a.score <ℤ value_of I hard P w
+  pub first : (j : ℕ) (w : Write) → j < place → slice_get (clearing s ∷ replacements I s) j ≡ Some w
+      → a.score <ℤ value_of I hard P w
 
 -- each line of advice is the best change of one of the choices
 abbrev pub AdviceIsBest : Type 0
@@ -36,9 +37,11 @@ AdviceIsBest = (I : Draft) (hard : ℕ) (P : Timetable) (k : ℕ) (a : Advice) �
 
 -- nothing is advised exactly where no write that may replace a choice lowers the score
 pub record LocallyBest : Type 0 where
-  pub only : (I : Draft) (hard : ℕ) (P : Timetable) → advice I hard P ≡ [] → (s : Subject) (w : Write) → IsSubject I s → IsCandidate I s w
+  pub only : (I : Draft) (hard : ℕ) (P : Timetable) → advice I hard P ≡ []
+      → (s : Subject) (w : Write) → IsSubject I s → IsCandidate I s w
       → pos 0 ≤ℤ value_of I hard P w
-  pub always : (I : Draft) (hard : ℕ) (P : Timetable) → ((s : Subject) (w : Write) → IsSubject I s → IsCandidate I s w → pos 0 ≤ℤ value_of I hard P w)
+  pub always : (I : Draft) (hard : ℕ) (P : Timetable)
+      → ((s : Subject) (w : Write) → IsSubject I s → IsCandidate I s w → pos 0 ≤ℤ value_of I hard P w)
       → advice I hard P ≡ []
 
 -- the text says that a timetable is locally best exactly where nothing is advised

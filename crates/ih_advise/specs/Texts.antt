@@ -15,7 +15,8 @@ write_text (SetCare r k None) = named (codes "setcare") (r.0 ∷ k.0 ∷ []) ++ 
 
 -- the write, the score and the price, each parted from the next by a space
 abbrev pub advice_line : Advice → List ℕ
-advice_line a = write_text a.write ++ (codes " " ++ (signed_decimal a.score ++ (codes " " ++ (price_text a.price ++ codes "\n"))))
+advice_line a =
+    write_text a.write ++ (codes " " ++ (signed_decimal a.score ++ (codes " " ++ (price_text a.price ++ codes "\n"))))
 
 -- how many choices can be improved
 abbrev pub last_line : ℕ → List ℕ

@@ -10,7 +10,8 @@ use Rattle.ih_advise.specs.Advising.{advice_on, subjects}
 -- Adviser w of n has found what is advised on its choices: the first is that with number w, and each other n numbers
 -- on.
 pub record HasAnswered (I : Draft) (hard : ℕ) (P : Timetable) (n w : ℕ) (found : List (Option Advice)) : Type 0 where
-  pub each : (k : ℕ) (s : Subject) → slice_get (subjects I) (w + k * n) ≡ Some s → slice_get found k ≡ Some (advice_on I hard P s)
+  pub each : (k : ℕ) (s : Subject) → slice_get (subjects I) (w + k * n) ≡ Some s
+      → slice_get found k ≡ Some (advice_on I hard P s)
 
 -- each of n advisers has
 pub record HaveAnswered (I : Draft) (hard : ℕ) (P : Timetable) (n : ℕ) (advisers : List Adviser) : Type 0 where
@@ -24,5 +25,7 @@ pub record IsReady (I : Draft) (n : ℕ) (a : Adviser) : Type 0 where
 
 -- what was found on the choice with a number
 abbrev pub found_of : List Adviser → ℕ → Option Advice
-found_of advisers s = option_and_then (λ (a : Adviser). option_and_then (λ (o : Option Advice). o) (slice_get a.found.items (s / length advisers)))
+found_of advisers s =
+    option_and_then
+    (λ (a : Adviser). option_and_then (λ (o : Option Advice). o) (slice_get a.found.items (s / length advisers)))
     (slice_get advisers (s % length advisers))

@@ -1,6 +1,6 @@
 //! The choices that a timetable makes, and their numbers.
 
-ghost use Rattle.std.specs.Prelude.{◌≡◌, ◌<◌, ◌≤◌, ◌^◌, Some, length, slice_get};
+ghost use Rattle.std.specs.Prelude.{◌≡◌, ◌<◌, ◌^◌, Some, length, slice_get};
 ghost use Rattle.ih_advise.specs.Advising.{IsChoice, subjects};
 
 use ih_tables::{Instance, PatientNo, RoomNo, Shift};

@@ -25,7 +25,7 @@ use Rattle.ih_journal.specs.Tried.{Tried}
 use Rattle.ih_journal.specs.declared.entries.Verdict.{Verdict}
 use Rattle.ih_journal.specs.declared.entries.Verdict.TheVariants.{Accepted}
 use Rattle.ih_journal.specs.Settings.{IsLawful, most_entries}
-use Rattle.ih_journal.specs.Attempts.{attempt_after, last_by, next_attempt}
+use Rattle.ih_journal.specs.Attempts.{try_after, last_by, next_try}
 use Rattle.ih_journal.specs.Base.{Base}
 use Rattle.ih_journal.specs.Best.{BestIs, IsFeasibleAt, best_with, cost_at}
 use Rattle.ih_journal.specs.History.{after_entries, touches_since, is_accepted, after_entry, plan_after, plan_at, version}
@@ -144,14 +144,14 @@ module _ (b : Base) (H : List Tried) (cs ns : List ℕ) (now : Bill) (found : Op
       omega (arith, same, few)
 
   module _ (o : Offered) (right : IsRightOffer b H o) where
-    next : next_attempt b.options H o.worker ≡ Some (record { number = o.number; again = (attempt_after b.options (last_by o.worker H)).again })
+    next : next_try b.options H o.worker ≡ Some (record { number = o.number; again = (try_after b.options (last_by o.worker H)).again })
     next = attempt-is b.options H o.worker o.number right.number
 
     pub number-below : o.number < b.options.moves
-    number-below = (next-below b H o.worker (record { number = o.number; again = (attempt_after b.options (last_by o.worker H)).again }) kept.legal next).0
+    number-below = (next-below b H o.worker (record { number = o.number; again = (try_after b.options (last_by o.worker H)).again }) kept.legal next).0
 
     pub has-room : length H < most_entries b.options
-    has-room = history-few.fewer o.worker right.worker (next-below b H o.worker (record { number = o.number; again = (attempt_after b.options (last_by o.worker H)).again }) kept.legal next).2
+    has-room = history-few.fewer o.worker right.worker (next-below b H o.worker (record { number = o.number; again = (try_after b.options (last_by o.worker H)).again }) kept.legal next).2
 
     pub price-in : IsWithin (10 ^ 11) o.price
     price-in = rw right.price (change-within b.instance (plan_at b H o.seen) (after_all b.instance (plan_at b H o.seen) o.moves) valid (plan-seen o.seen)
@@ -231,7 +231,7 @@ bill_next v now price = if is_accepted v then add_bills now price else now
 pub record AreNext (b : Base) (H : List Tried) (o : Offered) (v : Verdict) (cs ns : List ℕ) (found : Option (ℕ × ℤ)) (cs' ns' : List ℕ) (now' : Bill) (found' : Option (ℕ × ℤ)) : Type 0 where
   pub len : length cs' ≡ length cs
   pub counters : (n : ℕ) → slice_index cs' n ≡ slice_index cs n + (if is_accepted v then times_read n o.reads.pairs else 0)
-  pub again : ns' ≡ slice_set ns o.worker (attempt_after b.options (Some (entry_with o (slice_index ns o.worker) v))).again
+  pub again : ns' ≡ slice_set ns o.worker (try_after b.options (Some (entry_with o (slice_index ns o.worker) v))).again
   pub chosen : found' ≡ best_with found (length H + 1) (feasible now') (cost b.instance.weights now')
 
 -- an offer and the verdict on it come to a book
@@ -306,23 +306,23 @@ module _ (b : Base) (H : List Tried) (cs ns : List ℕ) (now : Bill) (found : Op
           ∙ versions-more b H (entry_of b H o v) (slice_index cs) adding.kept.base.start (legal_but-moves b H adding.kept.legal) legal-next adding.kept.versions.each n below;
     }
 
-    again-at : (w : ℕ) → w < b.options.workers → slice_index (slice_set ns o.worker (attempt_after b.options (Some (entry_of b H o v))).again) w
-        ≡ (attempt_after b.options (last_by w (H ++ entry_of b H o v ∷ []))).again
+    again-at : (w : ℕ) → w < b.options.workers → slice_index (slice_set ns o.worker (try_after b.options (Some (entry_of b H o v))).again) w
+        ≡ (try_after b.options (last_by w (H ++ entry_of b H o v ∷ []))).again
     again-at w known = elim (cases_eq w o.worker) [
       | inl own ↦
           let inside : o.worker < length ns = (let len = adding.kept.again.len in let is = adding.judged.right.worker in omega (arith, len, is)) in
-          rw (own, last_by-own H (entry_of b H o v) o.worker refl) (get_or-set_same ns o.worker (attempt_after b.options (Some (entry_of b H o v))).again 0 inside)
+          rw (own, last_by-own H (entry_of b H o v) o.worker refl) (get_or-set_same ns o.worker (try_after b.options (Some (entry_of b H o v))).again 0 inside)
       | inr other ↦
           rw (last_by-other H (entry_of b H o v) w (λ e. other (sym e)))
-          (get_or-set_other ns o.worker w (attempt_after b.options (Some (entry_of b H o v))).again 0 other ∙ adding.kept.again.each w known)
+          (get_or-set_other ns o.worker w (try_after b.options (Some (entry_of b H o v))).again 0 other ∙ adding.kept.again.each w known)
     ]
 
     again-next : AreAgain b (H ++ entry_of b H o v ∷ []) ns'
     again-next =
-        let is : ns' ≡ slice_set ns o.worker (attempt_after b.options (Some (entry_of b H o v))).again =
-        next.again ∙ ap (λ e. slice_set ns o.worker (attempt_after b.options (Some e)).again) entry-is in
+        let is : ns' ≡ slice_set ns o.worker (try_after b.options (Some (entry_of b H o v))).again =
+        next.again ∙ ap (λ e. slice_set ns o.worker (try_after b.options (Some e)).again) entry-is in
         record {
-          len = rw is (length-set ns o.worker (attempt_after b.options (Some (entry_of b H o v))).again ∙ adding.kept.again.len);
+          len = rw is (length-set ns o.worker (try_after b.options (Some (entry_of b H o v))).again ∙ adding.kept.again.len);
           each = rw is again-at;
         }
 

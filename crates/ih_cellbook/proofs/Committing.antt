@@ -15,7 +15,7 @@ use Rattle.ih_journal.specs.Tried.{Tried}
 use Rattle.ih_journal.specs.declared.entries.Verdict.{Verdict}
 use Rattle.ih_journal.specs.declared.entries.Verdict.TheVariants.{Accepted, Declined, Stale, Frozen}
 use Rattle.ih_journal.specs.declared.settings.Options.{Options}
-use Rattle.ih_journal.specs.Attempts.{TryNumber, attempt_after, last_by, is_done, next_attempt}
+use Rattle.ih_journal.specs.Attempts.{TryNumber, try_after, last_by, is_done, next_try}
 use Rattle.ih_journal.specs.Base.{Base}
 use Rattle.ih_journal.specs.Settings.{theta}
 use Rattle.ih_journal.specs.History.{is_accepted, plan_at, plan_after, version}
@@ -112,16 +112,16 @@ accepted-compared I options counter o =
 -- ---- the entry
 
 pub attempt-is : (o : Options) (H : List Tried) (w n : ℕ) → next_number o H w ≡ Some n
-    → next_attempt o H w ≡ Some (record { number = n; again = (attempt_after o (last_by w H)).again })
-unfolding next_attempt
+    → next_try o H w ≡ Some (record { number = n; again = (try_after o (last_by w H)).again })
+unfolding next_try
 attempt-is o H w n = by_case (is_done o H w)
   where
-    by_case : (t : Bool) → option_map (λ (a : TryNumber). a.number) (if t then None else Some (attempt_after o (last_by w H))) ≡ Some n
-        → (if t then None else Some (attempt_after o (last_by w H))) ≡ Some (record { number = n; again = (attempt_after o (last_by w H)).again })
+    by_case : (t : Bool) → option_map (λ (a : TryNumber). a.number) (if t then None else Some (try_after o (last_by w H))) ≡ Some n
+        → (if t then None else Some (try_after o (last_by w H))) ≡ Some (record { number = n; again = (try_after o (last_by w H)).again })
     by_case true h = absurd (let no : None ≡ Some n = h in cc)
     by_case false h =
-        let same : (attempt_after o (last_by w H)).number ≡ n = (let e : Some (attempt_after o (last_by w H)).number ≡ Some n = h in cc) in
-        ap (λ k. let a : TryNumber = record { number = k; again = (attempt_after o (last_by w H)).again } in Some a) same
+        let same : (try_after o (last_by w H)).number ≡ n = (let e : Some (try_after o (last_by w H)).number ≡ Some n = h in cc) in
+        ap (λ k. let a : TryNumber = record { number = k; again = (try_after o (last_by w H)).again } in Some a) same
 
 pub entry-legal : (b : Base) (H : List Tried) (o : Offered) (v : Verdict) → IsRightOffer b H o → v ≡ verdict_on b H o.number o.seen o.moves o.price
     → IsLegalButDraw b H (entry_of b H o v)

@@ -10,7 +10,7 @@ use Rattle.ih_plan.proofs.SumLemmas.{sum_below-le, sum_below-same}
 use Rattle.ih_plan.proofs.SumBounds.{sum_below-add, sum_below-none}
 use Rattle.ih_journal.specs.declared.settings.Options.{Options}
 use Rattle.ih_journal.specs.Tried.{Tried}
-use Rattle.ih_journal.specs.Attempts.{TryNumber, attempt_after, last_by, is_done, is_retried, is_stale, next_attempt}
+use Rattle.ih_journal.specs.Attempts.{TryNumber, try_after, last_by, is_done, is_retried, is_stale, next_try}
 use Rattle.ih_journal.specs.Base.{Base}
 use Rattle.ih_journal.specs.Legal.{IsLegalButDraw}
 use Rattle.ih_journal.proofs.Growth.{attempt-parts, last_by-own, last_by-other}
@@ -34,10 +34,10 @@ rank o a = a.number * (o.retries + 1) + a.again
 
 -- how far worker w has come in the entries G
 record IsAlong (o : Options) (G : List Tried) (w : ℕ) : Type 0 where
-  most : made w G ≤ rank o (attempt_after o (last_by w G))
-  within : rank o (attempt_after o (last_by w G)) ≤ o.moves * (o.retries + 1)
-  again : (attempt_after o (last_by w G)).again ≤ o.retries
-  more : is_done o G w ≡ false → (attempt_after o (last_by w G)).number < o.moves
+  most : made w G ≤ rank o (try_after o (last_by w G))
+  within : rank o (try_after o (last_by w G)) ≤ o.moves * (o.retries + 1)
+  again : (try_after o (last_by w G)).again ≤ o.retries
+  more : is_done o G w ≡ false → (try_after o (last_by w G)).number < o.moves
 
 along-none : (o : Options) (w : ℕ) → IsAlong o [] w
 unfolding last_by is_done
@@ -104,7 +104,7 @@ along-own b G e w own legal along =
     let o : Options = b.options in
     let last = last_by-own G e w own in
     let attempt = legal.attempt in
-    let parts = attempt-parts b.options G w (record { number = e.number; again = e.again }) (ap (next_attempt b.options G) (sym own) ∙ attempt) in
+    let parts = attempt-parts b.options G w (record { number = e.number; again = e.again }) (ap (next_try b.options G) (sym own) ∙ attempt) in
     let below : e.number < b.options.moves = subst (λ (a : TryNumber). a.number < b.options.moves) parts.1 (along.more parts.0) in
     let few : e.again ≤ b.options.retries = subst (λ (a : TryNumber). a.again ≤ b.options.retries) parts.1 along.again in
     let before : made w G ≤ e.number * (b.options.retries + 1) + e.again = subst (λ (a : TryNumber). made w G ≤ rank b.options a) parts.1 along.most in
@@ -200,14 +200,14 @@ legal-few b H legal =
       fewer = λ w known going.
           let along = each w in
           let most = along.most in
-          let next = row-less (attempt_after b.options (last_by w H)).number b.options.moves b.options.retries (attempt_after b.options (last_by w H)).again (along.more going) along.again in
+          let next = row-less (try_after b.options (last_by w H)).number b.options.moves b.options.retries (try_after b.options (last_by w H)).again (along.more going) along.again in
           let own : made w H < b.options.moves * (b.options.retries + 1) = omega (arith, most, next) in
           let sum = sum-less b.options.workers (b.options.moves * (b.options.retries + 1)) w (λ v. made v H) known (λ v h. few v) own in
           omega (arith, count, product, sum);
     }
 
 -- the numbers of a worker's next try
-pub next-below : (b : Base) (H : List Tried) (w : ℕ) (a : TryNumber) → AreLegalButDraws b H → next_attempt b.options H w ≡ Some a
+pub next-below : (b : Base) (H : List Tried) (w : ℕ) (a : TryNumber) → AreLegalButDraws b H → next_try b.options H w ≡ Some a
     → (a.number < b.options.moves) × (a.again ≤ b.options.retries) × (is_done b.options H w ≡ false)
 next-below b H w a legal e =
     let parts = attempt-parts b.options H w a e in
@@ -217,5 +217,5 @@ next-below b H w a legal e =
       parts.0,
     )
 
-pub again-few : (b : Base) (H : List Tried) (w : ℕ) → AreLegalButDraws b H → (attempt_after b.options (last_by w H)).again ≤ b.options.retries
+pub again-few : (b : Base) (H : List Tried) (w : ℕ) → AreLegalButDraws b H → (try_after b.options (last_by w H)).again ≤ b.options.retries
 again-few b H w legal = (along-all b H w legal).again

@@ -5,7 +5,7 @@ use Rattle.std.specs.Prelude.{slice_get, slice_index_or}
 use Rattle.std.proofs.lemmas.List.{take_more}
 use Rattle.ih_journal.specs.Tried.{Tried}
 use Rattle.ih_journal.specs.declared.settings.Options.{Options}
-use Rattle.ih_journal.specs.Attempts.{attempt_after, else_last, is_done, is_done_after, last_by, next_attempt, when_by}
+use Rattle.ih_journal.specs.Attempts.{try_after, else_last, is_done, is_done_after, last_by, next_try, when_by}
 use Rattle.ih_journal.proofs.Growth.{get-more, last_by-more}
 use Rattle.ih_cellbook.specs.Laws.{HasNoneBy}
 use Rattle.ih_cellbook.specs.Offers.{next_number}
@@ -31,6 +31,6 @@ pub last-other : (w : ℕ) (es : List Tried) (k : ℕ) (d : Tried) → k < lengt
 last-other w es k d h other = sym (last_by-next w es k d h ∙ rw (ne_eqb (slice_index_or es k d).worker w other) refl)
 
 -- the number of the next attempt, by the last entry
-pub next-is : (o : Options) (H : List Tried) (w n : ℕ) (last : Option Tried) → last ≡ last_by w H → is_done_after o last ≡ false → (attempt_after o last).number ≡ n → next_number o H w ≡ Some n
-unfolding next_attempt is_done
+pub next-is : (o : Options) (H : List Tried) (w n : ℕ) (last : Option Tried) → last ≡ last_by w H → is_done_after o last ≡ false → (try_after o last).number ≡ n → next_number o H w ≡ Some n
+unfolding next_try is_done
 next-is o H w n last same more number = rw (sym same, more, number) refl

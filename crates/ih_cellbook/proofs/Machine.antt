@@ -5,7 +5,7 @@ use Rattle.std.specs.Prelude.{option_map, if◌then◌else◌, ◌==◌}
 use Rattle.ih_plan.specs.declared.moves.Move.{Move}
 use Rattle.ih_plan.specs.Series.{price_of_all}
 use Rattle.ih_journal.specs.Tried.{Tried}
-use Rattle.ih_journal.specs.Attempts.{is_done, TryNumber, attempt_after, last_by, next_attempt}
+use Rattle.ih_journal.specs.Attempts.{is_done, TryNumber, try_after, last_by, next_try}
 use Rattle.ih_journal.specs.Base.{Base}
 use Rattle.ih_journal.specs.History.{touches_since, plan_at}
 use Rattle.ih_journal.specs.Legal.{IsLegalButDraw}
@@ -26,7 +26,7 @@ use Rattle.ih_cellbook.proofs.ExactPrices.{prices-exact}
 
 -- what a worker of the machine offers is right for the history
 pub offer_at-right : (b : Base) (s : State) (w n : ℕ) (m : List Move) → MayOffer b s w n m → ((v : ℕ) → s.seen_by v ≤ length s.history) → IsRightOffer b s.history (offer_at b s.history w n m)
-unfolding next_attempt
+unfolding next_try
 offer_at-right b s w n m may seen_by =
     let known = may.seen in
     let most = seen_by w in
@@ -95,14 +95,14 @@ schedule-legal b base events may = run-legal b base events opening (opening-lega
 
 -- an offer that is right is what the worker of the machine makes
 module _ (b : Base) (H : List Tried) (o : Offered) (right : IsRightOffer b H o) where
-  number-is : (attempt_after b.options (last_by o.worker H)).number ≡ o.number
-  unfolding next_attempt
+  number-is : (try_after b.options (last_by o.worker H)).number ≡ o.number
+  unfolding next_try
   number-is = by_case (is_done b.options H o.worker) right.number
     where
-      by_case : (t : Bool) → option_map (λ (a : TryNumber). a.number) (if t then None else Some (attempt_after b.options (last_by o.worker H))) ≡ Some o.number
-          → (attempt_after b.options (last_by o.worker H)).number ≡ o.number
+      by_case : (t : Bool) → option_map (λ (a : TryNumber). a.number) (if t then None else Some (try_after b.options (last_by o.worker H))) ≡ Some o.number
+          → (try_after b.options (last_by o.worker H)).number ≡ o.number
       by_case true h = absurd (let no : None ≡ Some o.number = h in cc)
-      by_case false h = let e : Some (attempt_after b.options (last_by o.worker H)).number ≡ Some o.number = h in cc
+      by_case false h = let e : Some (try_after b.options (last_by o.worker H)).number ≡ Some o.number = h in cc
 
   made-right : IsRightOffer b H (offer_at b H o.worker o.seen o.moves)
   made-right = record {

@@ -7,7 +7,7 @@ use Rattle.std.proofs.lemmas.List.{take-append-le}
 use Rattle.std.proofs.lemmas.Bool.{ne_eqb}
 use Rattle.ih_journal.specs.declared.settings.Options.{Options}
 use Rattle.ih_journal.specs.Tried.{Tried}
-use Rattle.ih_journal.specs.Attempts.{TryNumber, attempt_after, last_by, else_last, is_done, is_done_after, next_attempt}
+use Rattle.ih_journal.specs.Attempts.{TryNumber, try_after, last_by, else_last, is_done, is_done_after, next_try}
 use Rattle.ih_journal.specs.Base.{Base}
 use Rattle.ih_journal.specs.Frozen.{is_frozen}
 use Rattle.ih_journal.proofs.Growth.{plan_at-earlier}
@@ -41,8 +41,8 @@ seen_own-others w seen H es none own j e h by = elim (get-append H es j e h) [
 ]
 
 number-same : (o : Options) (H G : List Tried) (w : ℕ) → last_by w G ≡ last_by w H → next_number o G w ≡ next_number o H w
-unfolding next_attempt is_done
-number-same o H G w e = ap (λ l. option_map (λ (a : TryNumber). a.number) (if is_done_after o l then None else Some (attempt_after o l))) e
+unfolding next_try is_done
+number-same o H G w e = ap (λ l. option_map (λ (a : TryNumber). a.number) (if is_done_after o l then None else Some (try_after o l))) e
 
 pub right-stays : (b : Base) (H es : List Tried) (o : Offered) → IsRightOffer b H o → HasNoneBy o.worker es → IsRightOffer b (H ++ es) o
 right-stays b H es o right none =

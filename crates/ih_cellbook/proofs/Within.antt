@@ -7,7 +7,7 @@ use Rattle.std.proofs.lemmas.Option.{slice_get_within}
 use Rattle.ih_plan.specs.declared.moves.Move.{Move}
 use Rattle.ih_journal.specs.Tried.{Tried}
 use Rattle.ih_journal.specs.declared.settings.Options.{Options}
-use Rattle.ih_journal.specs.Attempts.{TryNumber, attempt_after, is_done, is_done_after, next_attempt}
+use Rattle.ih_journal.specs.Attempts.{TryNumber, try_after, is_done, is_done_after, next_try}
 use Rattle.ih_journal.specs.Base.{Base}
 use Rattle.ih_journal.specs.Legal.{IsLegalButDraw}
 use Rattle.ih_cellbook.specs.Offered.{Offered}
@@ -31,8 +31,8 @@ legal-front b G rest legal k e there =
     subst (λ F. IsLegalButDraw b F e) (take-append-le k G rest (omega (arith, below))) (legal k e (get-front G rest k e there))
 
 number-same : (o : Options) (G es : List Tried) (w : ℕ) → HasNoneBy w es → next_number o (G ++ es) w ≡ next_number o G w
-unfolding next_attempt is_done
-number-same o G es w none = ap (λ l. option_map (λ (a : TryNumber). a.number) (if is_done_after o l then None else Some (attempt_after o l))) (last_by-others w G es none)
+unfolding next_try is_done
+number-same o G es w none = ap (λ l. option_map (λ (a : TryNumber). a.number) (if is_done_after o l then None else Some (try_after o l))) (last_by-others w G es none)
 
 module _ (b : Base) (H : List Tried) (r : Snapshot) (stands : IsReplicaIn b H r) where
   pub seen-within : r.seen ≤ length H

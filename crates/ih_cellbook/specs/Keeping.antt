@@ -8,7 +8,7 @@ use Rattle.ih_plan.specs.Cells.{cell_at, cell_count}
 use Rattle.ih_journal.specs.Tried.{Tried}
 use Rattle.ih_journal.specs.declared.settings.Options.{Options}
 use Rattle.ih_journal.specs.Settings.{IsLawful}
-use Rattle.ih_journal.specs.Attempts.{attempt_after, last_by}
+use Rattle.ih_journal.specs.Attempts.{try_after, last_by}
 use Rattle.ih_journal.specs.Base.{Base}
 use Rattle.ih_journal.specs.Best.{BestIs}
 use Rattle.ih_journal.specs.History.{plan_after, version}
@@ -31,7 +31,7 @@ pub record AreVersions (b : Base) (H : List Tried) (counters : List ℕ) : Type 
 -- the numbers are how often each worker's next attempt was tried before
 pub record AreAgain (b : Base) (H : List Tried) (ns : List ℕ) : Type 0 where
   pub len : length ns ≡ b.options.workers
-  pub each : (w : ℕ) → w < b.options.workers → slice_index ns w ≡ (attempt_after b.options (last_by w H)).again
+  pub each : (w : ℕ) → w < b.options.workers → slice_index ns w ≡ (try_after b.options (last_by w H)).again
 
 -- all that is promised of a book with these counters and numbers of tries, the bill now, and the best found
 pub record IsKept (b : Base) (H : List Tried) (cs ns : List ℕ) (now : Bill) (found : Option (ℕ × ℤ)) : Type 0 where

@@ -47,7 +47,8 @@ abbrev pub LegalHistoriesAreInRange : Type 0
 LegalHistoriesAreInRange = (b : Base) (H : List Entry) → IsSearchBase b → AreLegalButDraws b (tries H)
     → IsHistoryOf b.instance b.options H
 
--- Two searches of an instance have two journals, whatever they begin with: the bytes name the options and the entries.
+-- Two searches of an instance that differ in their options or in an entry have two journals, also where they begin
+-- with different timetables.
 abbrev pub JournalsTellSearchesApart : Type 0
 JournalsTellSearchesApart = (b c : Base) (H G : List Entry) → IsSearchBase b → IsSearchBase c → b.instance ≡ c.instance
     → AreLegalButDraws b (tries H) → AreLegalButDraws c (tries G) → journal b.options H ≡ journal c.options G

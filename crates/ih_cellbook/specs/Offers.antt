@@ -6,7 +6,7 @@ use Rattle.ih_plan.specs.Series.{AreMoves, footprint_of_all, price_of_all}
 use Rattle.ih_journal.specs.declared.settings.Options.{Options}
 use Rattle.ih_journal.specs.Tried.{Tried, tried_by}
 use Rattle.ih_journal.specs.declared.entries.Verdict.{Verdict}
-use Rattle.ih_journal.specs.Attempts.{TryNumber, attempt_after, last_by, next_attempt}
+use Rattle.ih_journal.specs.Attempts.{TryNumber, try_after, last_by, next_try}
 use Rattle.ih_journal.specs.Base.{Base}
 use Rattle.ih_journal.specs.Frozen.{is_frozen}
 use Rattle.ih_journal.specs.History.{plan_after, plan_at, version}
@@ -20,7 +20,7 @@ reads_after b H m = map (λ n. (n, version b H (cell_at b.instance n))) (footpri
 
 -- the number of a worker's next attempt, where the worker isn't done
 abbrev pub next_number : Options → List Tried → ℕ → Option ℕ
-next_number o H w = option_map (λ (a : TryNumber). a.number) (next_attempt o H w)
+next_number o H w = option_map (λ (a : TryNumber). a.number) (next_try o H w)
 
 -- each entry of worker w has a place below seen
 abbrev pub HasSeenOwn : List Tried → ℕ → ℕ → Type 0
@@ -49,7 +49,7 @@ pub record IsJudged (b : Base) (H : List Tried) (o : Offered) (v : Verdict) : Ty
 abbrev pub offer_at : Base → List Tried → ℕ → ℕ → List Move → Offered
 offer_at b H w seen m = record {
   worker = w;
-  number = (attempt_after b.options (last_by w H)).number;
+  number = (try_after b.options (last_by w H)).number;
   seen = seen;
   moves = m;
   price = price_of_all b.instance (plan_at b H seen) m;
@@ -62,7 +62,7 @@ abbrev pub entry_of : Base → List Tried → Offered → Verdict → Tried
 entry_of b H o verdict = record {
   worker = o.worker;
   number = o.number;
-  again = (attempt_after b.options (last_by o.worker H)).again;
+  again = (try_after b.options (last_by o.worker H)).again;
   seen = o.seen;
   moves = o.moves;
   price = o.price;

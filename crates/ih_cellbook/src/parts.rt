@@ -1,7 +1,7 @@
 //! What a book keeps: the entries of all workers, and what is needed to judge the next one.
 
 ghost use Rattle.std.specs.Prelude.{◌≡◌, ◌<◌, ◌≤◌, [], length, slice_index, vec_capacity, Some, IfOk};
-ghost use Rattle.ih_journal.specs.{Attempts.attempt_after, Settings.IsLawful, Settings.most_entries};
+ghost use Rattle.ih_journal.specs.{Attempts.try_after, Settings.IsLawful, Settings.most_entries};
 ghost use Rattle.ih_cellbook.specs.{Offered.Offered, Offers.entry_with};
 
 use crate::kinds::{Logged, Offers};
@@ -39,7 +39,7 @@ pub(crate) fn again_of<O: Offers>(again: &Vec<u32>, offer: &O) -> u32
 
 // How often a worker's next attempt was tried before, once an entry with these stands.
 pub(crate) fn again_after(options: &Options, again: u32, verdict: &Verdict) -> u32
-    ensures { (o : Offered) → result ≡ (attempt_after options.now (Some (entry_with o again verdict.now))).again }
+    ensures { (o : Offered) → result ≡ (try_after options.now (Some (entry_with o again verdict.now))).again }
 {
     match *verdict {
         Verdict::Stale { .. } if again < options.retries => again + 1,

@@ -14,7 +14,7 @@ use Rattle.ih_plan.specs.Timetable.{Timetable, IsPlanOf, care_of}
 use Rattle.ih_plan.specs.Writes.{put, IsWriteOf}
 use Rattle.ih_plan.specs.Presence.{present, day_of}
 use Rattle.ih_plan.specs.Sums.{listed}
-use Rattle.ih_plan.specs.BillOf.{Counts, as_bill, change_of_bill}
+use Rattle.ih_plan.specs.BillOf.{Counts, as_bill, change_of_bill, rule_count, cost_count}
 use Rattle.ih_plan.specs.Cells.{part_at, part_of, content_of}
 use Rattle.ih_plan.proofs.BillBounds.{change-within}
 use Rattle.ih_plan.proofs.CellNumbers.{nurse_shift_cell, care_cell}
@@ -22,14 +22,13 @@ use Rattle.ih_plan.proofs.Parts.{total, has_parts}
 use Rattle.ih_plan.proofs.PlanRanges.{put-plan}
 use Rattle.ih_plan.proofs.Entries.{number_of_nurse}
 use Rattle.ih_footprint.proofs.LocalPrices.{differences-same}
-use Rattle.ih_nurses.specs.Choice.{excess_of, seen_by, rise_by_choice}
+use Rattle.ih_nurses.specs.Choice.{excess_of, seen_by, increase_by_choice}
 use Rattle.ih_tables.specs.BillNumbers.{mixed_gender, incompatible_room, surgeon_overrun, theatre_overrun, unscheduled_mandatory, admission_window, room_capacity, nurse_presence, uncovered_room}
 use Rattle.ih_tables.specs.BillNumbers.{mixed_age, nurse_skill, continuity_of_care, excess_workload, open_theatre, surgeon_transfer, patient_delay, unscheduled_optional}
-use Rattle.ih_costs.specs.StayGain.{rule_at, cost_at}
-use Rattle.ih_costs.specs.ChoiceGain.{choice_told}
+use Rattle.ih_costs.specs.ChoiceDelta.{choice_told}
 use Rattle.ih_costs.proofs.ChoiceLemmas.{loads_by, cares_by, choice_by, number-choice}
-use Rattle.ih_costs.proofs.GainBills.{counts-same, nine, eight}
-use Rattle.ih_costs.proofs.GainSteps.{handed, passed-is}
+use Rattle.ih_costs.proofs.DeltaBills.{counts-same, nine, eight}
+use Rattle.ih_costs.proofs.DeltaSteps.{handed, passed-is}
 use Rattle.ih_costs.proofs.SpanSums.{at_place}
 
 -- ---- sums of nothing
@@ -48,8 +47,8 @@ module _ (I : Draft) (P : Timetable) (r : RoomNo) (k : Shift) (new : Option Nurs
   -- the numbers of the choice's cells at a timetable, each of the one kind of cells that has it
   numbers : Timetable → Counts
   numbers Q = record {
-    v = 0 ∷ 0 ∷ 0 ∷ 0 ∷ 0 ∷ 0 ∷ 0 ∷ rule_at nurse_presence (part_at I Q (RoomShift r k)) ∷ rule_at uncovered_room (part_at I Q (RoomShift r k)) ∷ [];
-    s = 0 ∷ cost_at nurse_skill (part_at I Q (RoomShift r k)) ∷ seen_by I Q (present I P r.0 (day_of k.0))
+    v = 0 ∷ 0 ∷ 0 ∷ 0 ∷ 0 ∷ 0 ∷ 0 ∷ rule_count nurse_presence (part_at I Q (RoomShift r k)) ∷ rule_count uncovered_room (part_at I Q (RoomShift r k)) ∷ [];
+    s = 0 ∷ cost_count nurse_skill (part_at I Q (RoomShift r k)) ∷ seen_by I Q (present I P r.0 (day_of k.0))
         ∷ (excess_of I Q k.0 (care_of P r.0 k.0) + excess_of I Q k.0 (number_of_nurse new)) ∷ 0 ∷ 0 ∷ 0 ∷ 0 ∷ [];
   }
 
@@ -74,40 +73,40 @@ module _ (I : Draft) (P : Timetable) (r : RoomNo) (k : Shift) (new : Option Nurs
         → choice_by I P r k new Q g ≡ 0
     by_none g room loads cares = by_room g loads cares ∙ room
 
-    seen : choice_by I P r k new Q (cost_at continuity_of_care) ≡ seen_by I Q (present I P r.0 (day_of k.0))
+    seen : choice_by I P r k new Q (cost_count continuity_of_care) ≡ seen_by I Q (present I P r.0 (day_of k.0))
     unfolding part_of content_of
     seen =
-        let room : cost_at continuity_of_care (part_at I Q (RoomShift r k)) ≡ 0 = refl in
-        let loads = loads-none (cost_at continuity_of_care) (λ n. refl) in
+        let room : cost_count continuity_of_care (part_at I Q (RoomShift r k)) ≡ 0 = refl in
+        let loads = loads-none (cost_count continuity_of_care) (λ n. refl) in
         omega (arith, room, loads)
 
-    load : choice_by I P r k new Q (cost_at excess_workload) ≡ excess_of I Q k.0 (care_of P r.0 k.0) + excess_of I Q k.0 (number_of_nurse new)
+    load : choice_by I P r k new Q (cost_count excess_workload) ≡ excess_of I Q k.0 (care_of P r.0 k.0) + excess_of I Q k.0 (number_of_nurse new)
     unfolding part_of content_of
     load =
-        let room : cost_at excess_workload (part_at I Q (RoomShift r k)) ≡ 0 = refl in
-        let cares = cares-none (cost_at excess_workload) (λ x. refl) in
+        let room : cost_count excess_workload (part_at I Q (RoomShift r k)) ≡ 0 = refl in
+        let cares = cares-none (cost_count excess_workload) (λ x. refl) in
         omega (arith, room, cares)
 
-    numbers-listed : numbers Q ≡ record { v = listed 9 (λ j. choice_by I P r k new Q (rule_at j)); s = listed 8 (λ j. choice_by I P r k new Q (cost_at j)) }
+    numbers-listed : numbers Q ≡ record { v = listed 9 (λ j. choice_by I P r k new Q (rule_count j)); s = listed 8 (λ j. choice_by I P r k new Q (cost_count j)) }
     unfolding numbers part_of content_of
     numbers-listed = counts-same _ _ _ _
-        (nine (λ j. choice_by I P r k new Q (rule_at j)) _ _ _ _ _ _ _ _ _
-        (by_none (rule_at mixed_gender) refl (λ n. refl) (λ x. refl))
-        (by_none (rule_at incompatible_room) refl (λ n. refl) (λ x. refl))
-        (by_none (rule_at surgeon_overrun) refl (λ n. refl) (λ x. refl))
-        (by_none (rule_at theatre_overrun) refl (λ n. refl) (λ x. refl))
-        (by_none (rule_at unscheduled_mandatory) refl (λ n. refl) (λ x. refl))
-        (by_none (rule_at admission_window) refl (λ n. refl) (λ x. refl))
-        (by_none (rule_at room_capacity) refl (λ n. refl) (λ x. refl))
-        (by_room (rule_at nurse_presence) (λ n. refl) (λ x. refl))
-        (by_room (rule_at uncovered_room) (λ n. refl) (λ x. refl)))
-        (eight (λ j. choice_by I P r k new Q (cost_at j)) _ _ _ _ _ _ _ _
-        (by_none (cost_at mixed_age) refl (λ n. refl) (λ x. refl))
-        (by_room (cost_at nurse_skill) (λ n. refl) (λ x. refl)) seen load
-        (by_none (cost_at open_theatre) refl (λ n. refl) (λ x. refl))
-        (by_none (cost_at surgeon_transfer) refl (λ n. refl) (λ x. refl))
-        (by_none (cost_at patient_delay) refl (λ n. refl) (λ x. refl))
-        (by_none (cost_at unscheduled_optional) refl (λ n. refl) (λ x. refl)))
+        (nine (λ j. choice_by I P r k new Q (rule_count j)) _ _ _ _ _ _ _ _ _
+        (by_none (rule_count mixed_gender) refl (λ n. refl) (λ x. refl))
+        (by_none (rule_count incompatible_room) refl (λ n. refl) (λ x. refl))
+        (by_none (rule_count surgeon_overrun) refl (λ n. refl) (λ x. refl))
+        (by_none (rule_count theatre_overrun) refl (λ n. refl) (λ x. refl))
+        (by_none (rule_count unscheduled_mandatory) refl (λ n. refl) (λ x. refl))
+        (by_none (rule_count admission_window) refl (λ n. refl) (λ x. refl))
+        (by_none (rule_count room_capacity) refl (λ n. refl) (λ x. refl))
+        (by_room (rule_count nurse_presence) (λ n. refl) (λ x. refl))
+        (by_room (rule_count uncovered_room) (λ n. refl) (λ x. refl)))
+        (eight (λ j. choice_by I P r k new Q (cost_count j)) _ _ _ _ _ _ _ _
+        (by_none (cost_count mixed_age) refl (λ n. refl) (λ x. refl))
+        (by_room (cost_count nurse_skill) (λ n. refl) (λ x. refl)) seen load
+        (by_none (cost_count open_theatre) refl (λ n. refl) (λ x. refl))
+        (by_none (cost_count surgeon_transfer) refl (λ n. refl) (λ x. refl))
+        (by_none (cost_count patient_delay) refl (λ n. refl) (λ x. refl))
+        (by_none (cost_count unscheduled_optional) refl (λ n. refl) (λ x. refl)))
 
   numbers-told : sub_bills (as_bill (numbers (put (SetCare r k new) P))) (as_bill (numbers P)) ≡ choice_told I P r k new
   unfolding numbers
@@ -118,12 +117,12 @@ module _ (I : Draft) (P : Timetable) (r : RoomNo) (k : Shift) (new : Option Nurs
       → change_of_bill I P (put (SetCare r k new) P) ≡ choice_told I P r k new
   choice-law plan fits other =
       let Q = put (SetCare r k new) P in
-      let v = differences-same 9 (λ j. choice_by I P r k new Q (rule_at j)) (λ j. choice_by I P r k new P (rule_at j))
+      let v = differences-same 9 (λ j. choice_by I P r k new Q (rule_count j)) (λ j. choice_by I P r k new P (rule_count j))
       (λ j. total I (λ c. slice_index (part_at I Q c).v j)) (λ j. total I (λ c. slice_index (part_at I P c).v j))
-      (λ j. let whole = number-choice I P r k new plan fits (rule_at j) other in omega (arith, whole)) in
-      let s = differences-same 8 (λ j. choice_by I P r k new Q (cost_at j)) (λ j. choice_by I P r k new P (cost_at j))
+      (λ j. let whole = number-choice I P r k new plan fits (rule_count j) other in omega (arith, whole)) in
+      let s = differences-same 8 (λ j. choice_by I P r k new Q (cost_count j)) (λ j. choice_by I P r k new P (cost_count j))
       (λ j. total I (λ c. slice_index (part_at I Q c).s j)) (λ j. total I (λ c. slice_index (part_at I P c).s j))
-      (λ j. let whole = number-choice I P r k new plan fits (cost_at j) other in omega (arith, whole)) in
+      (λ j. let whole = number-choice I P r k new plan fits (cost_count j) other in omega (arith, whole)) in
       let changed : sub_bills (as_bill (numbers Q)) (as_bill (numbers P)) ≡ change_of_bill I P Q =
       rw (numbers-listed Q, numbers-listed P, has_parts I P, has_parts I Q) (rw (v, s) refl) in
       sym changed ∙ numbers-told
@@ -142,11 +141,11 @@ other-number old new ne e =
 
 module _ (I : Draft) (P : Timetable) (r : RoomNo) (k : Shift) (new : Option NurseNo) (off uncovered missing seen load : ℤ)
     (valid : IsValid I) (plan : IsPlanOf I P) (fits : IsWriteOf I (SetCare r k new)) (other : care_of P r.0 k.0 ≡ number_of_nurse new → ⊥)
-    (off_is : off ≡ rise_by_choice P r k new (λ Q. rule_at nurse_presence (part_at I Q (RoomShift r k))))
-    (uncovered_is : uncovered ≡ rise_by_choice P r k new (λ Q. rule_at uncovered_room (part_at I Q (RoomShift r k))))
-    (missing_is : missing ≡ rise_by_choice P r k new (λ Q. cost_at nurse_skill (part_at I Q (RoomShift r k))))
-    (seen_is : seen ≡ rise_by_choice P r k new (λ Q. seen_by I Q (present I P r.0 (day_of k.0))))
-    (load_is : load ≡ rise_by_choice P r k new (λ Q. excess_of I Q k.0 (care_of P r.0 k.0) + excess_of I Q k.0 (number_of_nurse new))) where
+    (off_is : off ≡ increase_by_choice P r k new (λ Q. rule_count nurse_presence (part_at I Q (RoomShift r k))))
+    (uncovered_is : uncovered ≡ increase_by_choice P r k new (λ Q. rule_count uncovered_room (part_at I Q (RoomShift r k))))
+    (missing_is : missing ≡ increase_by_choice P r k new (λ Q. cost_count nurse_skill (part_at I Q (RoomShift r k))))
+    (seen_is : seen ≡ increase_by_choice P r k new (λ Q. seen_by I Q (present I P r.0 (day_of k.0))))
+    (load_is : load ≡ increase_by_choice P r k new (λ Q. excess_of I Q k.0 (care_of P r.0 k.0) + excess_of I Q k.0 (number_of_nurse new))) where
   law : change_of_bill I P (put (SetCare r k new) P) ≡ choice_told I P r k new
   law = choice-law I P r k new plan fits other
 

@@ -10,10 +10,10 @@ pub mod ChoiceBills
 pub mod Occupied
 pub mod RowLemmas
 pub mod SpanSums
-pub mod GainLemmas
-pub mod GainBills
-pub mod GainNumbers
-pub mod GainSteps
-pub mod DayGains
-pub mod GainParts
-pub mod TheatreGains
+pub mod DeltaLemmas
+pub mod DeltaBills
+pub mod DeltaNumbers
+pub mod DeltaSteps
+pub mod DayDeltas
+pub mod DeltaParts
+pub mod TheatreDeltas

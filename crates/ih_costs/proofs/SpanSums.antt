@@ -7,7 +7,7 @@ use Rattle.ih_plan.specs.Sums.{sum_below, which_below}
 use Rattle.ih_plan.proofs.Ranges.{sum_below-append}
 use Rattle.ih_plan.proofs.SumLemmas.{sum_below-same, sum_below-but, sum_below-more, sum_below-zero, sum_by-which_below}
 use Rattle.ih_plan.proofs.SumBounds.{sum_below-add, sum_below-none, sum_below-swap}
-use Rattle.ih_costs.specs.StayGain.{span_sum}
+use Rattle.ih_costs.specs.StayDelta.{span_sum}
 
 -- ---- steps
 

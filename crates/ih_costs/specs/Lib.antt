@@ -1,8 +1,8 @@
 pub mod StayPart
 pub mod CellLedgers
-pub mod ChoiceGain
+pub mod ChoiceDelta
 pub mod Scratch
 pub mod Standing
-pub mod StayGain
+pub mod StayDelta
 pub mod AtOnce
 pub mod Undo

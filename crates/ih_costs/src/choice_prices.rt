@@ -20,14 +20,14 @@ impl CellLedgers {
         if new == old {
             return Bill::zero();
         }
-        let gain = self.nurses.choice_gain(inst, r, k, new);
+        let delta = self.nurses.choice_delta(inst, r, k, new);
         Bill {
-            v: [0, 0, 0, 0, 0, 0, 0, gain.off, gain.uncovered],
+            v: [0, 0, 0, 0, 0, 0, 0, delta.off, delta.uncovered],
             s: [
                 0,
-                gain.missing_skill,
-                gain.nurses_seen,
-                gain.overload,
+                delta.missing_skill,
+                delta.nurses_seen,
+                delta.overload,
                 0,
                 0,
                 0,

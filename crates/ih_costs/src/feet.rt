@@ -1,7 +1,6 @@
 //! The footprint of a move: what all its writes touch at the timetable before them, and what they are chosen by.
 
 ghost use Rattle.std.specs.Prelude.{◌≡◌};
-ghost use Rattle.std.specs.List.{list_any};
 ghost use Rattle.ih_tables.specs.Sizes.{sizes_of};
 ghost use Rattle.ih_plan.specs.{Writes.AreWritesOf, Expand.expand, Expand.IsMoveOf, Footprint.touches};
 ghost use Rattle.ih_plan.specs.{Footprint.footprint};

@@ -17,5 +17,5 @@ mod scratch;
 mod stay_prices;
 mod stays;
 
-pub use laws::{choices_are_told, moves_touch_at_once, stays_gain};
+pub use laws::{choices_have_deltas, moves_touch_at_once, stays_have_deltas};
 pub use ledgers::Ledgers;

@@ -5,7 +5,7 @@ ghost use Rattle.ih_tables.specs.{Bills.IsWithin};
 ghost use Rattle.ih_plan.specs.{declared.moves.Write.TheVariants.SetStay, Timetable.stay_of};
 ghost use Rattle.ih_plan.specs.{Writes.put, Writes.IsWriteOf, BillOf.change_of_bill};
 ghost use Rattle.ih_costs.specs.CellLedgers.{AreLedgers, timetable_of};
-ghost use Rattle.ih_costs.specs.StayGain.{IsTrial, days_more, of_surgery, placement_gain, shifts_more, stay_gain};
+ghost use Rattle.ih_costs.specs.StayDelta.{IsTrial, days_more, of_surgery, placement_delta, shifts_more, stay_delta};
 
 use crate::cell_ledgers::CellLedgers;
 use crate::stays::stay_change;
@@ -55,7 +55,7 @@ impl CellLedgers {
         let mut crowded: i64 = 0;
         let mut ages: i64 = 0;
         for d in at.day.0..end {
-            let day = self.room_days.day_gain(inst, p, old, at, Day(d));
+            let day = self.room_days.day_delta(inst, p, old, at, Day(d));
             mixed += day.v[MIXED_GENDER];
             crowded += day.v[ROOM_CAPACITY];
             ages += day.s[MIXED_AGE];
@@ -79,10 +79,10 @@ impl CellLedgers {
         let mut missing_skill: i64 = 0;
         let mut overload: i64 = 0;
         for k in 3 * at.day.0..3 * end {
-            let gain = self.nurses.shift_gain(inst, Shift(k), &visit);
-            uncovered += gain.uncovered as i64;
-            missing_skill += gain.missing_skill as i64;
-            overload += gain.overload as i64;
+            let delta = self.nurses.shift_delta(inst, Shift(k), &visit);
+            uncovered += delta.uncovered as i64;
+            missing_skill += delta.missing_skill as i64;
+            overload += delta.overload as i64;
         }
         ShiftsMore {
             uncovered,
@@ -91,17 +91,17 @@ impl CellLedgers {
         }
     }
 
-    // The numbers of a placement's gain that rest on its theatre and its surgeon; the others are 0.
+    // The numbers of a placement's delta that rest on its theatre and its surgeon; the others are 0.
     #[inline(always)]
-    fn surgery_gain(&self, inst: &Instance, trial: &Trial) -> Bill
+    fn surgery_delta(&self, inst: &Instance, trial: &Trial) -> Bill
         requires { IsTrial inst.now.draft self.now trial.now.p trial.now.old trial.now.at }
         ensures { result
-            ≡ of_surgery (placement_gain inst.now.draft (timetable_of self.now) trial.now.p trial.now.at) }
+            ≡ of_surgery (placement_delta inst.now.draft (timetable_of self.now) trial.now.p trial.now.at) }
     {
         let Trial { p, old, at } = *trial;
         let surgeon = inst.patient(p).surgeon_id;
-        let of_theatre = self.theatres.theatre_gain(inst, p, old, at);
-        let of_surgeon = self.theatres.surgeon_gain(inst, surgeon, p, old, at);
+        let of_theatre = self.theatres.theatre_delta(inst, p, old, at);
+        let of_surgeon = self.theatres.surgeon_delta(inst, surgeon, p, old, at);
         Bill {
             v: [
                 0,
@@ -128,14 +128,14 @@ impl CellLedgers {
     }
 
     // What a placement costs once it is made, less what its cells cost without it.
-    fn gain(&self, inst: &Instance, trial: &Trial) -> Bill
+    fn delta(&self, inst: &Instance, trial: &Trial) -> Bill
         requires { IsTrial inst.now.draft self.now trial.now.p trial.now.old trial.now.at }
-        ensures gain { result ≡ placement_gain inst.now.draft (timetable_of self.now) trial.now.p trial.now.at }
+        ensures delta { result ≡ placement_delta inst.now.draft (timetable_of self.now) trial.now.p trial.now.at }
         ensures within { IsWithin (10 ^ 11) result }
     {
         let own = stay_change(inst.patient(trial.p), trial.at);
-        let surgery = self.surgery_gain(inst, trial);
-        let care = self.nurses.care_gain(inst, trial.p, trial.at);
+        let surgery = self.surgery_delta(inst, trial);
+        let care = self.nurses.care_delta(inst, trial.p, trial.at);
         let days = self.more_over_days(inst, trial);
         let shifts = self.more_over_shifts(inst, trial);
         Bill {
@@ -163,8 +163,8 @@ impl CellLedgers {
         }
     }
 
-    // The gain of a stay of the patient, whose stay is `old` so far: nothing where it is none.
-    fn gain_of_stay(
+    // The delta of a stay of the patient, whose stay is `old` so far: nothing where it is none.
+    fn delta_of_stay(
         &self,
         inst: &Instance,
         p: PatientNo,
@@ -174,12 +174,12 @@ impl CellLedgers {
         requires stands { AreLedgers inst.now.draft self.now }
         requires write { IsWriteOf inst.now.draft (SetStay p stay) }
         requires old_stay { stay_of (timetable_of self.now) p.0 ≡ old }
-        ensures gain { result ≡ stay_gain inst.now.draft (timetable_of self.now) p stay }
+        ensures delta { result ≡ stay_delta inst.now.draft (timetable_of self.now) p stay }
         ensures within { IsWithin (10 ^ 11) result }
     {
         match stay {
             None => Bill::zero(),
-            Some(at) => self.gain(inst, &Trial { p, old, at }),
+            Some(at) => self.delta(inst, &Trial { p, old, at }),
         }
     }
 
@@ -194,8 +194,8 @@ impl CellLedgers {
             (put (SetStay p (Some to)) (timetable_of self.now)) }
     {
         let old = Some(from);
-        let after = self.surgery_gain(inst, &Trial { p, old, at: to });
-        let before = self.surgery_gain(inst, &Trial { p, old, at: from });
+        let after = self.surgery_delta(inst, &Trial { p, old, at: to });
+        let before = self.surgery_delta(inst, &Trial { p, old, at: from });
         after.sub(&before)
     }
 
@@ -215,8 +215,8 @@ impl CellLedgers {
                 self.theatre_price(inst, p, from, to)
             }
             _ => {
-                let after = self.gain_of_stay(inst, p, old, new);
-                let before = self.gain_of_stay(inst, p, old, old);
+                let after = self.delta_of_stay(inst, p, old, new);
+                let before = self.delta_of_stay(inst, p, old, old);
                 after.sub(&before)
             }
         }

@@ -10,7 +10,7 @@ use ih_tables::{Bill, Patient};
 use ih_validate::{delay, in_bad_room, outside_window};
 
 // How much more the new mark counts than the old one.
-fn mark_rise(new: bool, old: bool) -> i64
+fn mark_increase(new: bool, old: bool) -> i64
     ensures { result ≡ pos (bit new) -ℤ pos (bit old) }
 {
     match (new, old) {
@@ -21,7 +21,7 @@ fn mark_rise(new: bool, old: bool) -> i64
 }
 
 // How many days more the new delay has than the old one.
-fn delay_rise(new: u64, old: u64) -> i64
+fn delay_increase(new: u64, old: u64) -> i64
     requires new { new < 56 }
     requires old { old < 56 }
     ensures { result ≡ pos new -ℤ pos old }
@@ -65,11 +65,11 @@ pub fn stay_change(a: &Patient, at: Placement) -> Bill
     ensures { result ≡ sub_bills (as_bill (stay_part a.now (Some at))) (as_bill (stay_part a.now None)) }
 {
     let stay = Some(at);
-    let bad = mark_rise(in_bad_room(a, stay), false);
-    let out = mark_rise(is_out(a, stay), is_out(a, None));
-    let outside = mark_rise(outside_window(a, stay), false);
-    let late = delay_rise(delay(a, stay), 0);
-    let left = mark_rise(is_left(a, stay), is_left(a, None));
+    let bad = mark_increase(in_bad_room(a, stay), false);
+    let out = mark_increase(is_out(a, stay), is_out(a, None));
+    let outside = mark_increase(outside_window(a, stay), false);
+    let late = delay_increase(delay(a, stay), 0);
+    let left = mark_increase(is_left(a, stay), is_left(a, None));
     Bill {
         v: [0, bad, 0, 0, out, outside, 0, 0, 0],
         s: [0, 0, 0, 0, 0, 0, late, left],

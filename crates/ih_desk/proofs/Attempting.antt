@@ -11,7 +11,7 @@ use Rattle.ih_plan.proofs.TestLemmas.{equal-swap}
 use Rattle.ih_journal.specs.Tried.{Tried}
 use Rattle.ih_journal.specs.declared.entries.Verdict.{Verdict}
 use Rattle.ih_journal.specs.declared.settings.Options.{Options}
-use Rattle.ih_journal.specs.Attempts.{TryNumber, HasMade, attempt_after, is_done_after, is_retried, is_stale, last_by}
+use Rattle.ih_journal.specs.Attempts.{TryNumber, HasMade, try_after, is_done_after, is_retried, is_stale, last_by}
 use Rattle.ih_journal.specs.Base.{Base}
 use Rattle.ih_journal.specs.Legal.{attempt_of}
 use Rattle.ih_journal.proofs.Growth.{last_by-own}
@@ -116,7 +116,7 @@ attempted b w n m offer v seen H own number move ends =
       none_later = λ k e there by. absurd (let no : None ≡ Some e = there in cc);
       worker = own;
       number = number;
-      again = ap (λ x. (attempt_after b.options (last_by x (seen ++ ends.others))).again) own ∙ ap (λ l. (attempt_after b.options l).again) (last_by-others w seen ends.others none);
+      again = ap (λ x. (try_after b.options (last_by x (seen ++ ends.others))).again) own ∙ ap (λ l. (try_after b.options l).again) (last_by-others w seen ends.others none);
       moves = move;
       verdict = refl;
     }

@@ -6,7 +6,7 @@ use Rattle.ih_plan.specs.Series.{AreMoves}
 use Rattle.ih_journal.specs.Tried.{Tried}
 use Rattle.ih_journal.specs.declared.entries.Verdict.{Verdict}
 use Rattle.ih_journal.specs.declared.settings.Options.{Options}
-use Rattle.ih_journal.specs.Attempts.{attempt_after, is_done_after, last_by}
+use Rattle.ih_journal.specs.Attempts.{try_after, is_done_after, last_by}
 use Rattle.ih_journal.specs.Base.{Base}
 use Rattle.ih_journal.specs.Settings.{most_entries}
 use Rattle.ih_turn.specs.Seats.{history, number_of, turns_left}
@@ -58,7 +58,7 @@ pub record MayTry (desk : Desk) (seat : DeskSeat) (m : List Move) (x : Progress)
 
 -- worker w's next attempt is this try of the attempt with this number
 pub record IsNext (o : Options) (H : List Tried) (w number again : ℕ) : Type 0 where
-  pub attempt : attempt_after o (last_by w H) ≡ record { number = number; again = again }
+  pub attempt : try_after o (last_by w H) ≡ record { number = number; again = again }
   pub not_done : is_done_after o (last_by w H) ≡ false
 
 -- H goes on from what was seen by one attempt of worker w, with entries of others before and behind
@@ -71,6 +71,6 @@ pub record HasAttempted (o : Options) (w n : ℕ) (m : List Move) (v : Verdict) 
   pub none_later : HasNoneBy w later
   pub worker : entry.worker ≡ w
   pub number : entry.number ≡ n
-  pub again : entry.again ≡ (attempt_after o (last_by w seen)).again
+  pub again : entry.again ≡ (try_after o (last_by w seen)).again
   pub moves : entry.moves ≡ m
   pub verdict : entry.verdict ≡ v

@@ -29,7 +29,8 @@ pub record MayOffer (desk : Desk) (o : Offered) (seat : DeskSeat) : Type 0 where
   pub worker : o.worker ≡ number_of seat
   pub right : IsRightOffer (base_of desk) (history seat) o
 
--- By one of the seat's turns this was offered, with this verdict: the history that the seat has seen ends with its entry.
+-- By one of the seat's turns this was offered, with this verdict: the history that the seat has seen ends with its
+-- entry.
 pub record HasOffered (desk : Desk) (o : Offered) (verdict : Verdict) (before after : DeskSeat) : Type 0 where
   pub own : IsSeatAt desk after
   pub number : number_of after ≡ number_of before

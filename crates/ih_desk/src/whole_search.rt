@@ -1,6 +1,6 @@
 //! The search: workers side by side at one desk, each in a call of its own.
 
-ghost use Rattle.std.specs.Prelude.{◌≡◌, ◌≤◌, ◌+◌, ◌*◌, [], IfOk, length, vec_capacity};
+ghost use Rattle.std.specs.Prelude.{◌≡◌, ◌≤◌, ◌+◌, ◌*◌, IfOk, length, vec_capacity};
 ghost use Rattle.std.specs.List.{AllZip};
 ghost use Rattle.ih_journal.specs.{Legal.IsFull, Settings.IsLawful};
 ghost use Rattle.ih_cellbook.specs.Keeping.{IsBase};

@@ -37,22 +37,28 @@ cheapest value w (x ∷ xs) = if int_lt (value x) (value w) then cheapest value 
 -- the placements of a patient: by day, then room, then theatre
 abbrev pub placements : Draft → Patient → List Placement
 placements I a =
-    flat_map (λ d. flat_map (λ r. map (λ t. record { day = record { 0 = d }; room = record { 0 = r }; theatre = record { 0 = t } })
+    flat_map (λ d. flat_map (λ r.
+    map (λ t. record { day = record { 0 = d }; room = record { 0 = r }; theatre = record { 0 = t } })
     (range_with_len 0 (theatre_count I)))
     (filter (λ r. not (list_any (λ (q : RoomNo). q.0 == r) a.incompatible_room_ids)) (range_with_len 0 (room_count I))))
     (range_with_len a.surgery_release_day (window_len I a))
 
 -- the stays that patient p may get
 abbrev pub stay_writes : Draft → ℕ → List Write
-stay_writes I p = option_map_or (λ (a : Patient). map (λ at. SetStay (record { 0 = p }) (Some at)) (placements I a)) (slice_get I.patients p) []
+stay_writes I p =
+    option_map_or (λ (a : Patient). map (λ at. SetStay (record { 0 = p }) (Some at)) (placements I a))
+    (slice_get I.patients p) []
 
 -- the cheapest stay of a patient, or none
 unfoldable pub with_stay : Draft → ℕ → Timetable → ℕ → Timetable
-with_stay I hard P p = put (cheapest (write_score I hard without_uncovered P) (SetStay (record { 0 = p }) None) (stay_writes I p)) P
+with_stay I hard P p =
+    put (cheapest (write_score I hard without_uncovered P) (SetStay (record { 0 = p }) None) (stay_writes I p)) P
 
 -- the nurses that room r may get in shift k, rising: those who work it
 abbrev pub care_writes : Draft → ℕ → ℕ → List Write
-care_writes I r k = map (λ n. SetCare (record { 0 = r }) (record { 0 = k }) (Some (record { 0 = n }))) (which_below (nurse_count I) (λ n. is_some (max_load I n k)))
+care_writes I r k =
+    map (λ n. SetCare (record { 0 = r }) (record { 0 = k }) (Some (record { 0 = n })))
+    (which_below (nurse_count I) (λ n. is_some (max_load I n k)))
 
 -- the timetable after the cheapest of the writes, where there are any
 abbrev pub cheapest_of : (Write → ℤ) → List Write → Timetable → Timetable
@@ -66,9 +72,16 @@ with_care I hard P k r =
     then cheapest_of (write_score I hard (λ b. b) P) (care_writes I r k) P
     else P
 
+-- patient p isn't admitted, and is of the mandatory ones or of the optional ones
+abbrev pub is_waiting : Draft → Timetable → Bool → ℕ → Bool
+is_waiting I P mandatory p =
+    is_none (stay_of P p)
+    && option_map_or (λ (a : Patient). if mandatory then a.mandatory else not a.mandatory)
+    (slice_get I.patients p) false
+
 -- the mandatory patients who aren't admitted, or the optional ones, rising
 abbrev pub waiting : Draft → Timetable → Bool → List ℕ
-waiting I P mandatory = which_below (patient_count I) (λ p. is_none (stay_of P p) && option_map_or (λ (a : Patient). if mandatory then a.mandatory else not a.mandatory) (slice_get I.patients p) false)
+waiting I P mandatory = which_below (patient_count I) (is_waiting I P mandatory)
 
 -- each of the patients in turn
 abbrev pub with_stays : Draft → ℕ → Timetable → List ℕ → Timetable
@@ -82,7 +95,8 @@ with_cares I hard P (kr ∷ krs) = with_cares I hard (with_care I hard P kr.0 kr
 
 -- every shift and room, by shift, then by room
 abbrev pub rooms_by_shift : Draft → List (ℕ × ℕ)
-rooms_by_shift I = flat_map (λ k. map (λ r. (k, r)) (range_with_len 0 (room_count I))) (range_with_len 0 (shift_count I))
+rooms_by_shift I =
+    flat_map (λ k. map (λ r. (k, r)) (range_with_len 0 (room_count I))) (range_with_len 0 (shift_count I))
 
 -- Patients first, mandatory ones before optional ones, each with the cheapest stay or none; then each occupied room and
 -- shift without a nurse.

@@ -1,11 +1,9 @@
 -- A timetable, and what writes add to its score.
-use Rattle.std.specs.Prelude.{◌≡◌, ◌≤◌, ℕ, ℤ, Bool, true, false, ◌&&◌, not, is_none, slice_get, if◌then◌else◌}
-use Rattle.std.specs.Option.{option_map_or}
+use Rattle.std.specs.Prelude.{◌≡◌, ◌≤◌, ℕ, ℤ, Bool, true, false}
 use Rattle.ih_tables.specs.declared.drafts.Draft.{Draft}
-use Rattle.ih_tables.specs.declared.drafts.Patient.{Patient}
 use Rattle.ih_tables.specs.declared.bills.Bill.{Bill}
 use Rattle.ih_plan.specs.declared.moves.Write.{Write}
-use Rattle.ih_plan.specs.Timetable.{Timetable, stay_of}
+use Rattle.ih_plan.specs.Timetable.{Timetable}
 use Rattle.ih_fill.specs.Fill.{write_score, without_uncovered}
 use Rattle.ih_costs.specs.Standing.{Standing}
 
@@ -29,11 +27,6 @@ stay_value F w = write_score F.instance F.hard (view_of F.counts_uncovered) F.pl
 -- the score of what a nurse changes in the bill
 unfoldable pub care_value : Scoring → Write → ℤ
 care_value F w = write_score F.instance F.hard (λ b. b) F.plan w
-
--- patient p isn't admitted, and is of the mandatory ones or of the optional ones
-abbrev pub is_waiting : Draft → Timetable → Bool → ℕ → Bool
-is_waiting I P mandatory p =
-    is_none (stay_of P p) && option_map_or (λ (a : Patient). if mandatory then a.mandatory else not a.mandatory) (slice_get I.patients p) false
 
 -- The ledgers are the instance's, and the weight is in its limits.
 pub record IsScoring (I : Draft) (hard : ℕ) (ledgers : Standing) : Type 0 where

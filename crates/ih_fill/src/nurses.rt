@@ -1,6 +1,6 @@
 //! The second pass: each occupied room and shift without a nurse gets the cheapest one who works it.
 
-ghost use Rattle.std.specs.Prelude.{◌≡◌, ◌<◌, ◌==◌, ◌&&◌, not, is_none, IfSome};
+ghost use Rattle.std.specs.Prelude.{◌≡◌, ◌<◌, ◌&&◌, not, is_none, IfSome};
 ghost use Rattle.ih_tables.specs.Sizes.{room_count, shift_count};
 ghost use Rattle.ih_plan.specs.{Timetable.care_of, Writes.IsWriteOf, Presence.present, Presence.day_of, Costs.is_empty};
 ghost use Rattle.ih_fill.specs.Fill.{care_writes, with_care, with_cares, rooms_by_shift};

@@ -6,7 +6,7 @@ ghost use Rattle.ih_tables.specs.Sizes.{patient_count, room_count, theatre_count
 ghost use Rattle.ih_tables.specs.declared.ids.RoomNo.{RoomNo};
 ghost use Rattle.ih_plan.specs.{Timetable.IsPlanOf, Writes.IsWriteOf};
 ghost use Rattle.ih_fill.specs.Fill.{cheapest, stay_writes, with_stay, with_stays, waiting};
-ghost use Rattle.ih_fill.specs.{Candidates.valued, Candidates.stays_on, Scoring.stay_value, Scoring.is_waiting};
+ghost use Rattle.ih_fill.specs.{Candidates.valued, Candidates.stays_on, Fill.is_waiting, Scoring.stay_value};
 ghost use Rattle.ih_fill.specs.{Theatres.theatre_value, Theatres.IsFirstLeast};
 
 use crate::candidates::{Candidate, cheaper};

@@ -28,7 +28,12 @@ impl<'a> Model for Scorer<'a> {
 
     ghost Value = { Scoring };
 
-    ghost view = { λ f. record { instance = f.inst.now.draft; hard = f.hard; counts_uncovered = f.counts_uncovered; plan = f.ledgers.plan } };
+    ghost view = { λ f. record {
+      instance = f.inst.now.draft;
+      hard = f.hard;
+      counts_uncovered = f.counts_uncovered;
+      plan = f.ledgers.plan;
+    } };
 
     ghost invariant = { λ f. IsScoring f.inst.now.draft f.hard f.ledgers };
 }

@@ -11,7 +11,8 @@ use std::alloc::{AllocError, Global};
 
 /// The placement of these numbers.
 pub fn at(day: u32, room: u32, theatre: u32) -> Placement
-    ensures { result ≡ record { day = record { 0 = day }; room = record { 0 = room }; theatre = record { 0 = theatre } } }
+    ensures { result
+        ≡ record { day = record { 0 = day }; room = record { 0 = room }; theatre = record { 0 = theatre } } }
 {
     Placement {
         day: Day(day),

@@ -1,6 +1,5 @@
 //! A file as one JSON value.
 
-ghost use Rattle.std.specs.Prelude.{◌≡◌};
 ghost use Rattle.serde_json.specs.View.{view};
 ghost use Rattle.ih_tables.specs.{Places.whole, declared.refusals.Fault.TheVariants.NotJson};
 ghost use Rattle.ih_format.specs.{Checks.or_else, Documents.value_of, Gives.Gives};

@@ -2,8 +2,8 @@
 //! table in which later references are looked up.
 
 ghost use Rattle.std.specs.Prelude.{◌≡◌, ◌<◌, ◌≤◌, ◌^◌, ℕ, List as Items, Option, Result, IfOk, None, map, length};
-ghost use Rattle.serde_json.specs.{View.view, Data.Data};
-ghost use Rattle.ih_tables.specs.{Lookups.finds, Lookups.IsIndexOf, declared.refusals.Place.Place as PlaceOf};
+ghost use Rattle.serde_json.specs.{View.view};
+ghost use Rattle.ih_tables.specs.{Lookups.finds, Lookups.IsIndexOf};
 ghost use Rattle.ih_format.specs.Gives.{Gives};
 ghost use Rattle.ih_format.specs.Checks.{Check, each_named, named, under};
 

@@ -1,6 +1,6 @@
 //! Vectors: lists of at least so many numbers, of which the first count.
 
-ghost use Rattle.std.specs.Prelude.{◌≡◌, ◌<◌, ◌^◌, ◌≤◌, map, length};
+ghost use Rattle.std.specs.Prelude.{◌<◌, ◌^◌, map, length};
 ghost use Rattle.serde_json.specs.View.{view};
 ghost use Rattle.ih_format.specs.Gives.{Gives};
 ghost use Rattle.ih_format.specs.Checks.{number, vector, each};

@@ -164,7 +164,8 @@ data-reads number =
     (rooms-read 25 (stream_of number) (at_key keys.Rooms whole) (omega arith) (omega arith))
     (nurses-read 28 50 (nurse_stream number) (at_key keys.Nurses whole) (omega arith))
     (occupants-read 28 3 25 (occupant_stream number) (stream_of number) (at_key keys.Occupants whole) (omega arith) (omega arith))
-    (patients-read 28 400 25 10 (patient_stream number) (stream_of number) (at_key keys.Patients whole) (omega arith) (omega arith) (omega arith) (omega arith) (omega arith) (omega arith) (omega arith))
+    (patients-read 28 400 25 10 (patient_stream number) (stream_of number) (at_key keys.Patients whole) (omega arith)
+    (omega arith) (omega arith) (omega arith) (omega arith) (omega arith) (omega arith))
 
 pub reads-back : (number : ℕ) (bytes : List ℕ) → IsUtf8 bytes → read bytes ≡ Some (generated_data number) → instance bytes ≡ Ok (generated_draft number)
 reads-back number bytes utf8 same =

@@ -20,7 +20,10 @@ abbrev pub gender_name : ℕ → List ℕ
 gender_name g = if g == 0 then codes "A" else codes "B"
 
 abbrev pub age_name : ℕ → List ℕ
-age_name a = if a == 0 then codes "infant" else if a == 1 then codes "child" else if a == 2 then codes "adult" else codes "elderly"
+age_name a = if a == 0 then codes "infant"
+    else if a == 1 then codes "child"
+    else if a == 2 then codes "adult"
+    else codes "elderly"
 
 abbrev pub shift_name : ℕ → List ℕ
 shift_name k = if k == 0 then codes "early" else if k == 1 then codes "late" else codes "night"
@@ -65,7 +68,8 @@ abbrev pub nurse_data : ℕ → ℕ → List ℕ → Data
 nurse_data days n s = object
     (member (codes "id") (id_data (codes "n") n)
     (member (codes "skill_level") (number_data (pick s 0 3))
-    (member (codes "working_shifts") (list_data (map (worked_data n (state_after 1 s)) (which_below days (works n)))) no_members)))
+    (member (codes "working_shifts") (list_data (map (worked_data n (state_after 1 s)) (which_below days (works n))))
+    no_members)))
 
 abbrev pub nurse_words : ℕ → ℕ → List ℕ → ℕ
 nurse_words days n s = 1 + count_below days (works n)
@@ -147,7 +151,8 @@ abbrev pub patient_data : ℕ → ℕ → List ℕ → Data
 patient_data days p s =
     let a = patient_picks s in
     let shifts = 3 * a.person.length_of_stay in
-    object (patient_members p a (due_day days p a) (skills (state_after 7 s) shifts) (workloads (state_after 7 s) shifts))
+    object
+    (patient_members p a (due_day days p a) (skills (state_after 7 s) shifts) (workloads (state_after 7 s) shifts))
 
 abbrev pub patient_words : ℕ → List ℕ → ℕ
 patient_words p s = 7 + 2 * (3 * (patient_picks s).person.length_of_stay)

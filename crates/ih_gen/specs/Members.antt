@@ -37,7 +37,9 @@ minutes_data letter key minutes days n = with_member key (each_day days minutes)
 
 -- the days and the skill levels
 abbrev pub sizes_data : ℕ → Data
-sizes_data days = object (member (codes "days") (number_data days) (member (codes "skill_levels") (number_data 3) no_members))
+sizes_data days = object
+    (member (codes "days") (number_data days)
+    (member (codes "skill_levels") (number_data 3) no_members))
 
 -- what all generated instances have alike
 abbrev pub fixed_data : ℕ → Data

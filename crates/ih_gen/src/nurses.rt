@@ -3,7 +3,7 @@
 ghost use Rattle.std.specs.Prelude.{◌≡◌, IfOk, OnOk, map};
 ghost use Rattle.serde_json.specs.View.{view};
 ghost use Rattle.ih_plan.specs.{Draws.state_after, Sums.which_below, Sums.count_below};
-ghost use Rattle.ih_gen.specs.Generated.{turn_of, works, shift_data, worked_data, nurse_data, nurse_words};
+ghost use Rattle.ih_gen.specs.Generated.{works, shift_data, worked_data, nurse_data, nurse_words};
 ghost use Rattle.ih_gen.specs.{Words.pick, Members.IsMade};
 
 use crate::names::{id_value, shift_name};

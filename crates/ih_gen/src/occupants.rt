@@ -2,7 +2,6 @@
 
 ghost use Rattle.std.specs.Prelude.{map};
 ghost use Rattle.serde_json.specs.{Data.object, View.view};
-ghost use Rattle.ih_plan.specs.Draws.{state_after};
 ghost use Rattle.ih_gen.specs.Generated.{occupant_members, occupant_data, occupant_words};
 ghost use Rattle.ih_gen.specs.Members.{IsMade};
 

@@ -14,15 +14,15 @@ use Rattle.ih_inputs.specs.declared.error.InputRole.{InputRole}
 use Rattle.ih_inputs.specs.declared.error.InputRole.TheVariants.{Instance, Solution}
 
 -- the names of these files
-pub record Reading : Type 0 where
+pub record InputFiles : Type 0 where
   pub instance : List ℕ
   pub solution : Option (List ℕ)
 
-abbrev pub reading_of : InputNames → Reading
-reading_of n = record { instance = n.instance.now; solution = option_map (λ t. t.now) n.solution }
+abbrev pub files_of : InputNames → InputFiles
+files_of n = record { instance = n.instance.now; solution = option_map (λ t. t.now) n.solution }
 
 -- the name of the file with this role, where it has one
-abbrev pub name_in : Reading → InputRole → List ℕ
+abbrev pub name_in : InputFiles → InputRole → List ℕ
 name_in r Instance = r.instance
 name_in r Solution = unwrap_or r.solution []
 
@@ -65,18 +65,18 @@ HasPlan files None I P = P ≡ empty I
 HasPlan files (Some name) I P = IfSome files (HasSolution name I P)
 
 -- what the files give
-pub record HasInputs (files : Option Names) (r : Reading) (I : Draft) (P : Timetable) : Type 0 where
+pub record HasInputs (files : Option Names) (r : InputFiles) (I : Draft) (P : Timetable) : Type 0 where
   pub instance : IfSome files (HasInstance r.instance I)
   pub plan : HasPlan files r.solution I P
 
 -- the instance is accepted, and a file for the timetable is named
-pub record IsNext (files : Option Names) (r : Reading) (I : Draft) (name : List ℕ) : Type 0 where
+pub record IsNext (files : Option Names) (r : InputFiles) (I : Draft) (name : List ℕ) : Type 0 where
   pub instance : IfSome files (HasInstance r.instance I)
   pub named : r.solution ≡ Some name
 
 -- Why the files can't be had. The instance comes first, then the timetable; of each file first its length, then its
 -- form.
-abbrev pub IsUnread : Option Names → Reading → InputError → Type 0
+abbrev pub IsUnread : Option Names → InputFiles → InputError → Type 0
 IsUnread files r (ReadFault Instance) = Unit {0}
 IsUnread files r (TooLong Instance) = IfSome files (IsLong r.instance)
 IsUnread files r (InstanceRefused e) = IfSome files (IsInstanceRefused r.instance e)

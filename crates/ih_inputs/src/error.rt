@@ -1,6 +1,7 @@
 //! Why the files of a call can't be had.
 
 use ih_tables::Refusal;
+use std::fmt;
 use thiserror::Error;
 
 /// Which of the files it is.
@@ -10,12 +11,21 @@ pub enum InputRole {
     Solution,
 }
 
+impl fmt::Display for InputRole {
+    fn fmt<W: fmt::Write>(&self, f: &mut fmt::Formatter<W>) -> fmt::Result {
+        f.write_str(match self {
+            InputRole::Instance => "instance",
+            InputRole::Solution => "solution",
+        })
+    }
+}
+
 /// Why the files can't be had.
 #[derive(Clone, Copy, Debug, PartialEq, Eq, Error)]
 pub enum InputError {
-    #[error("a file cannot be read")]
+    #[error("the {0} file cannot be read")]
     ReadFault(InputRole),
-    #[error("a file is longer than its limit")]
+    #[error("the {0} file has more bytes than its limit")]
     TooLong(InputRole),
     /// The instance's first refusal.
     #[error("instance refused: {0}")]

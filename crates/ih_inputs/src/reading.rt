@@ -3,7 +3,7 @@
 ghost use Rattle.std.specs.Prelude.{◌≡◌, IfOk, IfErr, IfSome, Some};
 ghost use Rattle.ih_plan.specs.Timetable.{IsPlanOf};
 ghost use Rattle.ih_inputs.specs.Errors.{error_of_file, HasOnlyRead, HasReadCause};
-ghost use Rattle.ih_inputs.specs.Reading.{name_in, reading_of, HasInstance, HasSolution, HasInputs, IsUnread};
+ghost use Rattle.ih_inputs.specs.Reading.{name_in, files_of, HasInstance, HasSolution, HasInputs, IsUnread};
 
 use crate::error::{InputError, InputRole};
 use ih_instance::{InstanceError, read_instance};
@@ -27,7 +27,7 @@ pub struct InputNames<'a> {
 impl<'a> InputNames<'a> {
     /// The name of the file with this role, where it has one.
     pub fn named(&self, role: InputRole) -> &'a str
-        ensures { result.now ≡ name_in (reading_of self.now) role }
+        ensures { result.now ≡ name_in (files_of self.now) role }
     {
         match role {
             InputRole::Instance => self.instance,
@@ -68,7 +68,7 @@ fn read_instance_file<R: Files, S: Shelf>(
     shelf: &mut S,
 ) -> Result<Box<Instance>, InputError>
     ensures read { IfOk result (λ i. IfSome (S.names shelf.old) (HasInstance names.now.instance.now i.value.draft)) }
-    ensures unread { IfErr result (IsUnread (S.names shelf.old) (reading_of names.now)) }
+    ensures unread { IfErr result (IsUnread (S.names shelf.old) (files_of names.now)) }
     ensures cause { IfErr result (HasReadCause S.Shelf shelf.old shelf.new) }
     ensures only { HasOnlyRead S.Shelf shelf.old shelf.new }
 {
@@ -94,10 +94,10 @@ fn read_plan_file<R: Files, S: Shelf>(
     shelf: &mut S,
 ) -> Result<Plan, InputError>
     requires instance { IfSome (S.names shelf.old) (HasInstance names.now.instance.now inst.now.draft) }
-    requires named { (reading_of names.now).solution ≡ Some name.now }
+    requires named { (files_of names.now).solution ≡ Some name.now }
     ensures plan { IfOk result (IsPlanOf inst.now.draft) }
     ensures read { IfOk result (λ p. IfSome (S.names shelf.old) (HasSolution name.now inst.now.draft p)) }
-    ensures unread { IfErr result (IsUnread (S.names shelf.old) (reading_of names.now)) }
+    ensures unread { IfErr result (IsUnread (S.names shelf.old) (files_of names.now)) }
     ensures cause { IfErr result (HasReadCause S.Shelf shelf.old shelf.new) }
     ensures only { HasOnlyRead S.Shelf shelf.old shelf.new }
 {
@@ -120,8 +120,8 @@ pub fn read_inputs<R: Files, S: Shelf>(
     shelf: &mut S,
 ) -> Result<Inputs, InputError>
     ensures plan { IfOk result (λ i. IsPlanOf i.inst.value.draft i.plan) }
-    ensures read { IfOk result (λ i. HasInputs (S.names shelf.old) (reading_of names.now) i.inst.value.draft i.plan) }
-    ensures unread { IfErr result (IsUnread (S.names shelf.old) (reading_of names.now)) }
+    ensures read { IfOk result (λ i. HasInputs (S.names shelf.old) (files_of names.now) i.inst.value.draft i.plan) }
+    ensures unread { IfErr result (IsUnread (S.names shelf.old) (files_of names.now)) }
     ensures cause { IfErr result (HasReadCause S.Shelf shelf.old shelf.new) }
     ensures only { HasOnlyRead S.Shelf shelf.old shelf.new }
 {

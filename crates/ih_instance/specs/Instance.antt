@@ -114,7 +114,15 @@ occupant days groups rooms earlier p d = do
   work ← under p d keys.WorkloadProduced (vector (3 * min stay days) 100000)
   skill ← under p d keys.SkillLevelRequired (vector (3 * min stay days) 1000)
   at ← under p d keys.RoomId (reference rooms)
-  Ok (record { id = id; gender = gender; age_group = age; length_of_stay = stay; workload_produced = work; skill_level_required = skill; room_id = record { 0 = at } })
+  Ok (record {
+    id = id;
+    gender = gender;
+    age_group = age;
+    length_of_stay = stay;
+    workload_produced = work;
+    skill_level_required = skill;
+    room_id = record { 0 = at };
+  })
 
 -- the due day of a mandatory patient
 abbrev pub due_day : Bool → Place → Data → Checked (Option ℕ)

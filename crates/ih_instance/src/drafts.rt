@@ -1,7 +1,6 @@
 //! The whole instance file: one JSON value, whose keys are read in the order of the competition's format.
 //! The first check that fails is the refusal.
 
-ghost use Rattle.std.specs.Prelude.{◌≡◌};
 ghost use Rattle.serde_json.specs.View.{view};
 ghost use Rattle.ih_format.specs.Gives.{Gives};
 ghost use Rattle.ih_instance.specs.Instance.{draft, instance};

@@ -1,6 +1,6 @@
 //! The lists of people, whose items refer to lists that were read before.
 
-ghost use Rattle.std.specs.Prelude.{◌≡◌, ◌<◌, ◌≤◌, ◌^◌, ℕ, List as Items, map, length};
+ghost use Rattle.std.specs.Prelude.{◌<◌, ◌≤◌, ◌^◌, length};
 ghost use Rattle.serde_json.specs.View.{view};
 ghost use Rattle.ih_tables.specs.Lookups.{IsIndexOf};
 ghost use Rattle.ih_format.specs.{Gives.Gives, Checks.named, Checks.under};

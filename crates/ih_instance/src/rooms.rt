@@ -1,9 +1,5 @@
 //! Rooms.
 
-ghost use Rattle.std.specs.Prelude.{◌≡◌, IfOk, None};
-ghost use Rattle.serde_json.specs.View.{view};
-ghost use Rattle.ih_tables.specs.Lookups.{finds};
-ghost use Rattle.ih_format.specs.Gives.{Gives};
 ghost use Rattle.ih_instance.specs.Instance.{room};
 
 use ih_format::reads::Reads;

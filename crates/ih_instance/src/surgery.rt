@@ -1,9 +1,6 @@
 //! Surgeons and operating theatres, with their minutes on each day of the horizon.
 
-ghost use Rattle.std.specs.Prelude.{◌≡◌, ◌<◌, ◌≤◌, IfOk, None};
-ghost use Rattle.serde_json.specs.View.{view};
-ghost use Rattle.ih_tables.specs.Lookups.{finds};
-ghost use Rattle.ih_format.specs.Gives.{Gives};
+ghost use Rattle.std.specs.Prelude.{◌<◌};
 ghost use Rattle.ih_instance.specs.Instance.{surgeon, theatre};
 
 use ih_format::reads::Reads;

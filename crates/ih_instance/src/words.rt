@@ -1,9 +1,7 @@
 //! Shift types and age groups, whose items are names alone.
 
-ghost use Rattle.std.specs.Prelude.{◌≡◌, ◌<◌, ◌≤◌, IfOk, None};
-ghost use Rattle.serde_json.specs.View.{view};
-ghost use Rattle.ih_tables.specs.Lookups.{finds};
-ghost use Rattle.ih_format.specs.{Gives.Gives, Checks.new_name};
+ghost use Rattle.std.specs.Prelude.{◌<◌};
+ghost use Rattle.ih_format.specs.{Checks.new_name};
 
 use ih_format::reads::Reads;
 use ih_format::{FormatError, Row, kinds};

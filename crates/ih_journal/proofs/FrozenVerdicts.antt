@@ -37,7 +37,8 @@ pub two_moves_verdicts : (verdict_on (two_moves 0) [] 0 0 ((first_draw Accepted)
 unfolding history_on_literals
 two_moves_verdicts = (refl, refl)
 
-pub two_moves_journal : journal (two_moves 0).options two_entries ≡ codes "ihjournal 1 seed=0 workers=1 moves=2 heat=0 hard=1000\n0 0 0 0 nurserun:1,0,0,5 0,0,0,0,0,0,0,0,0,0,-2,0,0,0,0,0,0 accepted\n1 0 1 1 nurse:1,5,0 0,0,0,0,0,0,0,0,0,0,0,0,0,0,0,0,0 accepted\n"
+pub two_moves_journal : journal (two_moves 0).options two_entries
+    ≡ codes "ihjournal 1 seed=0 workers=1 moves=2 heat=0 hard=1000\n0 0 0 0 nurserun:1,0,0,5 0,0,0,0,0,0,0,0,0,0,-2,0,0,0,0,0,0 accepted\n1 0 1 1 nurse:1,5,0 0,0,0,0,0,0,0,0,0,0,0,0,0,0,0,0,0 accepted\n"
 unfolding history_on_literals
 two_moves_journal = refl
 
@@ -52,7 +53,8 @@ pub first_day_frozen : (verdict_on (two_moves 1) [] 0 0 ((first_draw Frozen).mv 
 unfolding history_on_literals
 first_day_frozen = (refl, refl, refl)
 
-pub first_day_journal : journal (two_moves 1).options (first_draw Frozen ∷ second_draw ∷ []) ≡ codes "ihjournal 1 seed=0 workers=1 moves=2 heat=0 hard=1000\n0 0 0 0 nurserun:1,0,0,5 0,0,0,0,0,0,0,0,0,0,-2,0,0,0,0,0,0 frozen\n1 0 1 1 nurse:1,5,0 0,0,0,0,0,0,0,0,0,0,0,0,0,0,0,0,0 accepted\n"
+pub first_day_journal : journal (two_moves 1).options (first_draw Frozen ∷ second_draw ∷ [])
+    ≡ codes "ihjournal 1 seed=0 workers=1 moves=2 heat=0 hard=1000\n0 0 0 0 nurserun:1,0,0,5 0,0,0,0,0,0,0,0,0,0,-2,0,0,0,0,0,0 frozen\n1 0 1 1 nurse:1,5,0 0,0,0,0,0,0,0,0,0,0,0,0,0,0,0,0,0 accepted\n"
 unfolding history_on_literals
 first_day_journal = refl
 

@@ -22,7 +22,7 @@ use Rattle.ih_journal.specs.Settings.{theta}
 use Rattle.ih_journal.specs.Base.{Base}
 use Rattle.ih_journal.specs.Frozen.{is_frozen}
 use Rattle.ih_journal.specs.declared.settings.Options.{Options}
-use Rattle.ih_journal.specs.Attempts.{TryNumber, attempt_after, last_by, else_last, when_by, is_stale, is_done, next_attempt, HasMade}
+use Rattle.ih_journal.specs.Attempts.{TryNumber, try_after, last_by, else_last, when_by, is_stale, is_done, next_try, HasMade}
 use Rattle.ih_journal.specs.History.{is_accepted, after_entry, after_entries, plan_after, plan_at, touched_since}
 use Rattle.ih_journal.specs.Legal.{verdict_on, first_touched, IsLegal, AreLegal}
 use Rattle.ih_journal.proofs.HistoryLemmas.{after_entries-append}
@@ -146,13 +146,13 @@ has_made-own b H e w i own number fresh h =
     }
 
 -- a worker with a next attempt isn't done, and the attempt is what follows its last entry
-pub attempt-parts : (o : Options) (G : List Tried) (w : ℕ) (a : TryNumber) → next_attempt o G w ≡ Some a → (is_done o G w ≡ false) × (attempt_after o (last_by w G) ≡ a)
-unfolding next_attempt
+pub attempt-parts : (o : Options) (G : List Tried) (w : ℕ) (a : TryNumber) → next_try o G w ≡ Some a → (is_done o G w ≡ false) × (try_after o (last_by w G) ≡ a)
+unfolding next_try
 attempt-parts o G w a = by_case (is_done o G w)
   where
-    by_case : (t : Bool) → (if t then None else Some (attempt_after o (last_by w G))) ≡ Some a → (t ≡ false) × (attempt_after o (last_by w G) ≡ a)
+    by_case : (t : Bool) → (if t then None else Some (try_after o (last_by w G))) ≡ Some a → (t ≡ false) × (try_after o (last_by w G) ≡ a)
     by_case true h = absurd (let no : None ≡ Some a = h in cc)
-    by_case false h = (refl, let e : Some (attempt_after o (last_by w G)) ≡ Some a = h in cc)
+    by_case false h = (refl, let e : Some (try_after o (last_by w G)) ≡ Some a = h in cc)
 
 -- ---- verdicts on what nobody came before
 

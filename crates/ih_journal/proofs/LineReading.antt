@@ -7,7 +7,7 @@ use Rattle.std.proofs.lemmas.List.{length-append, length-drop, drop-drop}
 use Rattle.std.proofs.lemmas.Option.{slice_get_within, slice_get_past}
 use Rattle.ih_tables.specs.declared.drafts.Draft.{Draft}
 use Rattle.ih_journal.specs.declared.settings.Options.{Options}
-use Rattle.ih_journal.specs.Grammar.{parted, Kind, count_kind, move_kind, price_kind, verdict_kind, again_kind, kinds, IsField, IsFirstWrong}
+use Rattle.ih_journal.specs.Grammar.{parted, FieldKind, count_kind, move_kind, price_kind, verdict_kind, again_kind, kinds, IsField, IsFirstWrong}
 use Rattle.ih_journal.specs.Pieces.{IsRead, Reads, left_parted, fields_from}
 use Rattle.ih_journal.proofs.Separators.{parted_some}
 use Rattle.ih_journal.proofs.Lacking.{parted_text, cut_joined}
@@ -36,7 +36,7 @@ kinds_few o = by_retries o.retries
     by_retries (suc r) = omega arith
 
 -- where the fields behind the try stand
-pub record IsBehind (r : ℕ) (ks : List Kind) : Type 0 where
+pub record IsBehind (r : ℕ) (ks : List FieldKind) : Type 0 where
   pub seen : slice_get ks (3 + length (again_kind r)) ≡ Some count_kind
   pub move : slice_get ks (4 + length (again_kind r)) ≡ Some move_kind
   pub price : slice_get ks (5 + length (again_kind r)) ≡ Some price_kind
@@ -70,7 +70,7 @@ next_field bytes at front (Some rest) inside h =
 
 -- ---- right and wrong fields
 
-pub right_here : (I : Draft) (o : Options) (bytes : List ℕ) (i at at' : ℕ) (kind : Kind) (field : List ℕ) → IsRead I o bytes i at
+pub right_here : (I : Draft) (o : Options) (bytes : List ℕ) (i at at' : ℕ) (kind : FieldKind) (field : List ℕ) → IsRead I o bytes i at
     → slice_get (kinds o) i ≡ Some kind → fields_from bytes at ≡ field ∷ fields_from bytes at' → IsField I kind field → IsRead I o bytes (i + 1) at'
 right_here I o bytes i at at' kind field read wanted next fits =
     let here = get_here (parted 32 bytes) i field (fields_from bytes at') (read.left ∙ next) in
@@ -110,7 +110,7 @@ one_more I o bytes i at read all inside =
     }
 
 -- a field that is not of its kind
-pub wrong_here : (I : Draft) (o : Options) (bytes : List ℕ) (i at at' : ℕ) (kind : Kind) (field : List ℕ) → IsRead I o bytes i at
+pub wrong_here : (I : Draft) (o : Options) (bytes : List ℕ) (i at at' : ℕ) (kind : FieldKind) (field : List ℕ) → IsRead I o bytes i at
     → slice_get (kinds o) i ≡ Some kind → fields_from bytes at ≡ field ∷ fields_from bytes at' → (IsField I kind field → ⊥) → IsFirstWrong I o bytes (i + 1)
 wrong_here I o bytes i at at' kind field read wanted next other =
     let here = get_here (parted 32 bytes) i field (fields_from bytes at') (read.left ∙ next) in
@@ -123,12 +123,12 @@ wrong_here I o bytes i at at' kind field read wanted next other =
           let fields-are : Some r.field ≡ Some field = sym r.there ∙ here.0 in
           let same-kind : r.kind ≡ kind = cc in
           let same-field : r.field ≡ field = cc in
-          other (subst (IsField I kind) same-field (subst (λ (k : Kind). IsField I k r.field) same-kind r.fits));
+          other (subst (IsField I kind) same-field (subst (λ (k : FieldKind). IsField I k r.field) same-kind r.fits));
       field = inl (slice_get_within (kinds o) i kind wanted);
     }
 
 -- a right field, and the next one
-pub reads_on : (I : Draft) (o : Options) (bytes : List ℕ) (i at i' at' : ℕ) (kind : Kind) (field text : List ℕ) → IsRead I o bytes i at
+pub reads_on : (I : Draft) (o : Options) (bytes : List ℕ) (i at i' at' : ℕ) (kind : FieldKind) (field text : List ℕ) → IsRead I o bytes i at
     → slice_get (kinds o) i ≡ Some kind → i' ≡ i + 1 → fields_from bytes at ≡ field ∷ fields_from bytes at' → field ≡ text → IsField I kind text
     → Reads I o bytes i at text i' at'
 reads_on I o bytes i at i' at' kind field text read wanted index next is fits =

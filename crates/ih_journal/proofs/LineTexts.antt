@@ -13,7 +13,7 @@ use Rattle.ih_journal.specs.declared.entries.Entry.{Entry}
 use Rattle.ih_journal.specs.declared.entries.Verdict.{Verdict}
 use Rattle.ih_journal.specs.declared.parse.BadLine.{BadLine}
 use Rattle.ih_journal.specs.Texts.{fields, line_text, again_field, move_text, price_text, verdict_text}
-use Rattle.ih_journal.specs.Grammar.{parted, Kind, count_kind, move_kind, price_kind, verdict_kind, again_kind, kinds, IsField, IsFirstWrong, IsLineOf}
+use Rattle.ih_journal.specs.Grammar.{parted, FieldKind, count_kind, move_kind, price_kind, verdict_kind, again_kind, kinds, IsField, IsFirstWrong, IsLineOf}
 use Rattle.ih_journal.specs.Pieces.{fields_from}
 use Rattle.ih_journal.proofs.InRange.{IsLimited, move_short}
 use Rattle.ih_journal.proofs.MoveTexts.{move_lacks, moves_differ}
@@ -36,27 +36,27 @@ line_read o bytes k e r1 r2 r3 r4 r5 r6 r7 r8 f0 f1 f2 f3 f4 f5 f6 f7 f8 =
 -- ---- a line is right field by field
 
 -- the fields are of these kinds, one by one
-abbrev pub Fits : Draft → List Kind → List (List ℕ) → Type 0
+abbrev pub Fits : Draft → List FieldKind → List (List ℕ) → Type 0
 Fits I [] [] = Unit {0}
 Fits I [] (x ∷ xs) = ⊥
 Fits I (k ∷ ks) [] = ⊥
 Fits I (k ∷ ks) (x ∷ xs) = IsField I k x × Fits I ks xs
 
-fits_len : (I : Draft) (ks : List Kind) (xs : List (List ℕ)) → Fits I ks xs → length ks ≡ length xs
+fits_len : (I : Draft) (ks : List FieldKind) (xs : List (List ℕ)) → Fits I ks xs → length ks ≡ length xs
 fits_len I [] [] h = refl
 fits_len I [] (x ∷ xs) h = absurd h
 fits_len I (k ∷ ks) [] h = absurd h
 fits_len I (k ∷ ks) (x ∷ xs) h = ap suc (fits_len I ks xs h.1)
 
 -- the field at an index
-record Here (I : Draft) (ks : List Kind) (xs : List (List ℕ)) (i : ℕ) : Type 0 where
-  kind : Kind
+record Here (I : Draft) (ks : List FieldKind) (xs : List (List ℕ)) (i : ℕ) : Type 0 where
+  kind : FieldKind
   field : List ℕ
   wanted : slice_get ks i ≡ Some kind
   there : slice_get xs i ≡ Some field
   fits : IsField I kind field
 
-fits_here : (I : Draft) (ks : List Kind) (xs : List (List ℕ)) (i : ℕ) → Fits I ks xs → i < length ks → Here I ks xs i
+fits_here : (I : Draft) (ks : List FieldKind) (xs : List (List ℕ)) (i : ℕ) → Fits I ks xs → i < length ks → Here I ks xs i
 fits_here I [] xs i h lt = absurd (omega arith)
 fits_here I (k ∷ ks) [] i h lt = absurd h
 fits_here I (k ∷ ks) (x ∷ xs) zero h lt = record { kind = k; field = x; wanted = refl; there = refl; fits = h.0 }
@@ -65,7 +65,7 @@ fits_here I (k ∷ ks) (x ∷ xs) (suc i) h lt =
     record { kind = later.kind; field = later.field; wanted = later.wanted; there = later.there; fits = later.fits }
 
 -- no field has a space or a line feed
-field_lacks : (m : ℕ) (I : Draft) (k : Kind) (x : List ℕ) → m ≤ 32 → IsLimited I → IsField I k x → Lacks m x
+field_lacks : (m : ℕ) (I : Draft) (k : FieldKind) (x : List ℕ) → m ≤ 32 → IsLimited I → IsField I k x → Lacks m x
 field_lacks m I count_kind x low l h = rw (h.2) (lacks_decimal m h.0 (low_mark m low) (let small = h.1 in omega arith))
 field_lacks m I move_kind x low l h = rw (h.2) (move_lacks m h.0 low (move_short I h.0 l h.1))
 field_lacks m I price_kind x low l h =
@@ -73,7 +73,7 @@ field_lacks m I price_kind x low l h =
     rw (h.2) (lacks_joined m 44 _ (λ e. omega (arith, e, low)) (signed_lack m (all_of h.0) (low_mark m low) priced.small))
 field_lacks m I verdict_kind x low l h = rw (h.2) (verdict_lacks m I h.0 low l h.1)
 
-fits_lack : (m : ℕ) (I : Draft) (ks : List Kind) (xs : List (List ℕ)) → m ≤ 32 → IsLimited I → Fits I ks xs → All (Lacks m) xs
+fits_lack : (m : ℕ) (I : Draft) (ks : List FieldKind) (xs : List (List ℕ)) → m ≤ 32 → IsLimited I → Fits I ks xs → All (Lacks m) xs
 fits_lack m I [] [] low l h = All-nil (Lacks m)
 fits_lack m I [] (x ∷ xs) low l h = absurd h
 fits_lack m I (k ∷ ks) [] low l h = absurd h

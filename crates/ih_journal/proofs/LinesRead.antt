@@ -7,7 +7,7 @@ use Rattle.ih_plan.specs.Expand.{IsMoveOf}
 use Rattle.ih_plan.proofs.ExampleWards.{one_room}
 use Rattle.ih_plan.proofs.MoveExamples.{nurse}
 use Rattle.ih_journal.specs.Texts.{move_text}
-use Rattle.ih_journal.specs.Grammar.{IsPrice, IsEntryOf, IsLineOf, IsField, IsRight, IsFirstWrong, Kind, count_kind, move_kind, price_kind, verdict_kind}
+use Rattle.ih_journal.specs.Grammar.{IsPrice, IsEntryOf, IsLineOf, IsField, IsRight, IsFirstWrong, FieldKind, count_kind, move_kind, price_kind, verdict_kind}
 use Rattle.ih_journal.proofs.InRange.{IsLimited, move_short}
 use Rattle.ih_journal.proofs.MoveTexts.{moves_differ}
 use Rattle.ih_journal.proofs.Literals.{history_on_literals}
@@ -33,11 +33,11 @@ pub first_line : IsLineOf one_room small_options 0 first_entry (codes "0 0 0 0 n
 unfolding history_on_literals
 first_line = record { place = lit< tt; entry = first_is_entry; text = refl }
 
-no_number : (k : Kind) (x : List ℕ) → Some count_kind ≡ Some k → Some [] ≡ Some x → IsField one_room k x → ⊥
+no_number : (k : FieldKind) (x : List ℕ) → Some count_kind ≡ Some k → Some [] ≡ Some x → IsField one_room k x → ⊥
 no_number k x kinds fields fits =
     let kind : count_kind ≡ k = cc in
     let field : [] ≡ x = cc in
-    let P : Kind → Type 0 = λ q. IsField one_room q x in
+    let P : FieldKind → Type 0 = λ q. IsField one_room q x in
     let number = subst P (sym kind) fits in
     let some = decimal_nonempty number.0 (let small = number.1 in omega arith) in
     let none = ap length (field ∙ number.2) in

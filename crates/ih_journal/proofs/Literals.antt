@@ -13,14 +13,14 @@ use Rattle.ih_journal.specs.declared.entries.Entry.{Entry}
 use Rattle.ih_journal.specs.declared.entries.Verdict.{Verdict}
 use Rattle.ih_journal.specs.Base.{Base}
 use Rattle.ih_journal.specs.Frozen.{is_frozen}
-use Rattle.ih_journal.specs.Attempts.{last_by, is_done, next_attempt}
+use Rattle.ih_journal.specs.Attempts.{last_by, is_done, next_try}
 use Rattle.ih_journal.specs.History.{after_entries, touched_since, touches_since}
 use Rattle.ih_journal.specs.Legal.{verdict_on, first_touched}
 use Rattle.ih_journal.specs.Texts.{move_text, cell_text, fields, heading, lines_from}
 
 -- every definition that a worked example computes
 unfoldable pub history_on_literals : ⊤
-unfolding digits moves_on_literals draws_on_literals after_all all_touch expand_all is_frozen last_by is_done next_attempt after_entries
+unfolding digits moves_on_literals draws_on_literals after_all all_touch expand_all is_frozen last_by is_done next_try after_entries
     touched_since touches_since verdict_on first_touched move_text cell_text fields heading lines_from
 history_on_literals = tt
 

@@ -7,7 +7,7 @@ use Rattle.ih_tables.specs.declared.bills.Bill.{Bill}
 use Rattle.ih_plan.specs.declared.moves.Move.{Move}
 use Rattle.ih_journal.specs.Tried.{Tried}
 use Rattle.ih_journal.specs.declared.entries.Verdict.{Verdict}
-use Rattle.ih_journal.specs.Attempts.{HasMade, attempt_after, is_done, is_stale, last_by, next_attempt}
+use Rattle.ih_journal.specs.Attempts.{HasMade, try_after, is_done, is_stale, last_by, next_try}
 use Rattle.ih_plan.specs.Series.{price_of_all}
 use Rattle.ih_journal.specs.Base.{Base}
 use Rattle.ih_journal.specs.History.{plan_after, plan_at}
@@ -67,8 +67,8 @@ module _ (b : Base) (each : ℕ) (lone : b.options.workers ≡ 1) where
       | inr over ↦ let most = next.entry.seen in omega (arith, over, most)
     ]
 
-    going : (is_done b.options H 0 ≡ false) × (attempt_after b.options (last_by 0 H) ≡ record { number = e.number; again = e.again })
-    going = attempt-parts b.options H 0 (record { number = e.number; again = e.again }) (ap (next_attempt b.options H) (sym own) ∙ next.entry.attempt)
+    going : (is_done b.options H 0 ≡ false) × (try_after b.options (last_by 0 H) ≡ record { number = e.number; again = e.again })
+    going = attempt-parts b.options H 0 (record { number = e.number; again = e.again }) (ap (next_try b.options H) (sym own) ∙ next.entry.attempt)
 
     number-is : e.number ≡ length H
     number-is = ap (λ a. a.number) (sym going.1 ∙ all.made.attempt)

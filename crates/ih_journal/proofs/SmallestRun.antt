@@ -99,12 +99,14 @@ pub small_bills : (bill_of one_room (plan_at small_base (tries small_history) 0)
 unfolding history_on_literals
 small_bills = (refl, refl, refl, refl)
 
-pub small_journal : journal small_options small_history ≡ codes "ihjournal 1 seed=0 workers=1 moves=2 heat=0 hard=1000\n0 0 0 0 nurserun:0,0,0,5 0,0,0,0,0,0,0,0,-3,0,1,1,0,0,0,0,0 accepted\n1 0 1 1 nurse:0,2,0 0,0,0,0,0,0,0,0,0,0,0,0,0,0,0,0,0 accepted\n"
+pub small_journal : journal small_options small_history
+    ≡ codes "ihjournal 1 seed=0 workers=1 moves=2 heat=0 hard=1000\n0 0 0 0 nurserun:0,0,0,5 0,0,0,0,0,0,0,0,-3,0,1,1,0,0,0,0,0 accepted\n1 0 1 1 nurse:0,2,0 0,0,0,0,0,0,0,0,0,0,0,0,0,0,0,0,0 accepted\n"
 unfolding history_on_literals
 small_journal = refl
 
 -- the same where a stale move may be tried again
-pub small_journal_with_tries : journal (options 0 1 2 0 1) small_history ≡ codes "ihjournal 2 seed=0 workers=1 moves=2 heat=0 hard=1000 retries=1\n0 0 0 0 0 nurserun:0,0,0,5 0,0,0,0,0,0,0,0,-3,0,1,1,0,0,0,0,0 accepted\n1 0 1 0 1 nurse:0,2,0 0,0,0,0,0,0,0,0,0,0,0,0,0,0,0,0,0 accepted\n"
+pub small_journal_with_tries : journal (options 0 1 2 0 1) small_history
+    ≡ codes "ihjournal 2 seed=0 workers=1 moves=2 heat=0 hard=1000 retries=1\n0 0 0 0 0 nurserun:0,0,0,5 0,0,0,0,0,0,0,0,-3,0,1,1,0,0,0,0,0 accepted\n1 0 1 0 1 nurse:0,2,0 0,0,0,0,0,0,0,0,0,0,0,0,0,0,0,0,0 accepted\n"
 unfolding history_on_literals
 small_journal_with_tries = refl
 

@@ -14,7 +14,7 @@ use Rattle.ih_journal.specs.declared.entries.Verdict.{Verdict}
 use Rattle.ih_journal.specs.declared.entries.Verdict.TheVariants.{Accepted, Stale}
 use Rattle.ih_journal.specs.Base.{Base}
 use Rattle.ih_journal.specs.Tried.{tries}
-use Rattle.ih_journal.specs.Attempts.{next_attempt}
+use Rattle.ih_journal.specs.Attempts.{next_try}
 use Rattle.ih_journal.specs.History.{plan_at}
 use Rattle.ih_journal.specs.Legal.{verdict_on}
 use Rattle.ih_journal.specs.Texts.{journal, line_text}
@@ -87,7 +87,7 @@ stale_entry = entry 0 0 0 0 (place 1 0 0 1) (price_of two_patients first_admitte
 abbrev pub tried_again : Entry
 tried_again = entry 0 0 1 2 (place 1 0 0 1) (price_of two_patients (plan_at one_retry (tries (nurse_changed ∷ stale_entry ∷ [])) 2) (place 1 0 0 1)) Accepted
 
-pub again_accepted : (next_attempt one_retry.options (tries (nurse_changed ∷ stale_entry ∷ [])) 0 ≡ Some (record { number = 0; again = 1 }))
+pub again_accepted : (next_try one_retry.options (tries (nurse_changed ∷ stale_entry ∷ [])) 0 ≡ Some (record { number = 0; again = 1 }))
     × (verdict_on one_retry (tries (nurse_changed ∷ stale_entry ∷ [])) 0 2 (tried_again.mv ∷ []) tried_again.price ≡ Accepted)
     × (score 1000 weights tried_again.price ≡ pos 1988)
     × (line_text one_retry.options 2 tried_again ≡ codes "2 0 0 1 2 place:1,0,0,1 1,0,0,0,0,0,1,0,0,1,4,2,2,1,1,0,-1 accepted")
@@ -95,7 +95,7 @@ unfolding history_on_literals
 again_accepted = (refl, refl, refl, refl)
 
 -- without retries the worker goes on with its next move
-pub not_again : next_attempt two_workers.options (tries (nurse_changed ∷ stale_entry ∷ [])) 0 ≡ Some (record { number = 1; again = 0 })
+pub not_again : next_try two_workers.options (tries (nurse_changed ∷ stale_entry ∷ [])) 0 ≡ Some (record { number = 1; again = 0 })
 unfolding history_on_literals
 not_again = refl
 
@@ -111,7 +111,8 @@ abbrev pub place_second : Entry
 place_second = entry 0 0 0 0 (move_of two_patients 18446744073709551615 0 0) (price_of two_patients first_admitted (move_of two_patients 18446744073709551615 0 0))
     (Stale (RoomShift (record { 0 = 0 }) (record { 0 = 0 })) 0 1)
 
-pub last_seed_journal : journal last_seed.options (run_first ∷ place_second ∷ []) ≡ codes "ihjournal 1 seed=18446744073709551615 workers=2 moves=1 heat=1000000 hard=1000\n0 1 0 0 nurserun:1,0,0,5 0,0,0,0,0,0,0,0,0,0,-2,0,0,0,0,0,0 accepted\n1 0 0 0 place:0,1,1,1 0,1,0,0,0,0,0,0,3,-1,0,-1,0,0,0,1,0 stale:roomshift.0.0:0:1\n"
+pub last_seed_journal : journal last_seed.options (run_first ∷ place_second ∷ [])
+    ≡ codes "ihjournal 1 seed=18446744073709551615 workers=2 moves=1 heat=1000000 hard=1000\n0 1 0 0 nurserun:1,0,0,5 0,0,0,0,0,0,0,0,0,0,-2,0,0,0,0,0,0 accepted\n1 0 0 0 place:0,1,1,1 0,1,0,0,0,0,0,0,3,-1,0,-1,0,0,0,1,0 stale:roomshift.0.0:0:1\n"
 unfolding history_on_literals
 last_seed_journal = refl
 

@@ -36,9 +36,9 @@ is_done_after o None = o.moves == 0
 is_done_after o (Some e) = if o.moves == 0 then true else (e.number + 1 == o.moves) && not (is_retried o e)
 
 -- what follows a worker's last entry
-abbrev pub attempt_after : Options → Option Tried → TryNumber
-attempt_after o None = record { number = 0; again = 0 }
-attempt_after o (Some e) =
+abbrev pub try_after : Options → Option Tried → TryNumber
+try_after o None = record { number = 0; again = 0 }
+try_after o (Some e) =
     if is_retried o e then record { number = e.number; again = e.again + 1 }
     else record { number = e.number + 1; again = 0 }
 
@@ -47,10 +47,10 @@ unfoldable pub is_done : Options → List Tried → ℕ → Bool
 is_done o H w = is_done_after o (last_by w H)
 
 -- the next attempt of worker w, where it isn't done
-unfoldable pub next_attempt : Options → List Tried → ℕ → Option TryNumber
-next_attempt o H w = if is_done o H w then None else Some (attempt_after o (last_by w H))
+unfoldable pub next_try : Options → List Tried → ℕ → Option TryNumber
+next_try o H w = if is_done o H w then None else Some (try_after o (last_by w H))
 
 -- worker w has made its moves below i, and none of them is to be tried again
 pub record HasMade (o : Options) (H : List Tried) (w i : ℕ) : Type 0 where
-  pub attempt : attempt_after o (last_by w H) ≡ record { number = i; again = 0 }
+  pub attempt : try_after o (last_by w H) ≡ record { number = i; again = 0 }
   pub done : is_done_after o (last_by w H) ≡ (o.moves == i)

@@ -62,7 +62,7 @@ pub record IsHistoryOf (I : Draft) (o : Options) (H : List Entry) : Type 0 where
   pub places : length H < 2 ^ 32
   pub entries : (k : ℕ) (e : Entry) → slice_get H k ≡ Some e → IsEntryOf I o e
 
--- No two searches of an instance have one journal: its bytes name the options and the history.
+-- Two searches of an instance that differ in their options or in an entry have two journals.
 abbrev pub JournalsDiffer : Type 0
 JournalsDiffer = (I : Draft) → IsValid I → (o p : Options) (H G : List Entry)
     → IsHistoryOf I o H → IsHistoryOf I p G → journal o H ≡ journal p G
@@ -71,25 +71,25 @@ JournalsDiffer = (I : Draft) → IsValid I → (o p : Options) (H G : List Entry
 -- ---- fields
 
 -- what a field of a line is the text of
-pub data Kind : Type 0 where
+pub data FieldKind : Type 0 where
   -- the place, the worker, the number, the try or the entries seen
-  count_kind : Kind
-  move_kind : Kind
-  price_kind : Kind
-  verdict_kind : Kind
+  count_kind : FieldKind
+  move_kind : FieldKind
+  price_kind : FieldKind
+  verdict_kind : FieldKind
 
 -- the try stands in a line only where moves are tried again
-abbrev pub again_kind : ℕ → List Kind
+abbrev pub again_kind : ℕ → List FieldKind
 again_kind zero = []
 again_kind (suc retries) = count_kind ∷ []
 
 -- the fields of a line, in order
-abbrev pub kinds : Options → List Kind
+abbrev pub kinds : Options → List FieldKind
 kinds o = count_kind ∷ count_kind ∷ count_kind
     ∷ again_kind o.retries ++ count_kind ∷ move_kind ∷ price_kind ∷ verdict_kind ∷ []
 
 -- the field is the text of a value of its kind, in range
-abbrev pub IsField : Draft → Kind → List ℕ → Type 0
+abbrev pub IsField : Draft → FieldKind → List ℕ → Type 0
 IsField I count_kind x = (n : ℕ) × (n < 2 ^ 32) × (x ≡ decimal n)
 IsField I move_kind x = (m : Move) × IsMoveOf I m × (x ≡ move_text m)
 IsField I price_kind x = (b : Bill) × IsPrice b × (x ≡ price_text b)
@@ -97,7 +97,7 @@ IsField I verdict_kind x = (v : Verdict) × IsVerdictOf I v × (x ≡ verdict_te
 
 -- The field at index i, from 0, is wanted, it is there, and it is of its kind.
 pub record IsRight (I : Draft) (o : Options) (bytes : List ℕ) (i : ℕ) : Type 0 where
-  pub kind : Kind
+  pub kind : FieldKind
   pub field : List ℕ
   pub wanted : slice_get (kinds o) i ≡ Some kind
   pub there : slice_get (parted 32 bytes) i ≡ Some field

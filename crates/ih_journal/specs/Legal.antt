@@ -15,7 +15,7 @@ use Rattle.ih_journal.specs.Settings.{theta}
 use Rattle.ih_journal.specs.Base.{Base}
 use Rattle.ih_journal.specs.Frozen.{is_frozen}
 use Rattle.ih_plan.specs.Draws.{move_of}
-use Rattle.ih_journal.specs.Attempts.{next_attempt, is_done}
+use Rattle.ih_journal.specs.Attempts.{next_try, is_done}
 use Rattle.ih_journal.specs.History.{plan_at, version, touched_since}
 
 -- the first cell, by number, that the moves touch at P and that an accepted one of the entries that follow P touches
@@ -41,7 +41,7 @@ verdict_on b H number seen m price =
 pub record IsLegalButDraw (b : Base) (H : List Tried) (e : Tried) : Type 0 where
   pub worker : e.worker < b.options.workers
   -- the worker's next attempt
-  pub attempt : next_attempt b.options H e.worker ≡ Some (record { number = e.number; again = e.again })
+  pub attempt : next_try b.options H e.worker ≡ Some (record { number = e.number; again = e.again })
   pub move : AreMoves b.instance e.moves
   pub seen : e.seen ≤ length H
   -- the maker has seen its own last entry

@@ -14,7 +14,8 @@ abbrev pub left_parted : ℕ → Option (List ℕ) → List (List ℕ)
 left_parted c None = []
 left_parted c (Some rest) = parted c rest
 
--- The bytes are parted as a name and numbers of 32 bits: one separator stands behind the name, the other between numbers.
+-- The bytes are parted as a name and numbers of 32 bits: one separator stands behind the name, the other between
+-- numbers.
 pub record IsCut (behind between : ℕ) (bs name ns : List ℕ) : Type 0 where
   pub rest : List ℕ
   pub cut : parted behind bs ≡ name ∷ parted behind rest

@@ -5,7 +5,7 @@ ghost use Rattle.std.specs.Prelude.{OnOk, Ok, decimal};
 ghost use Rattle.ih_tables.specs.declared.drafts.Draft.{Draft};
 ghost use Rattle.ih_plan.specs.Expand.{IsMoveOf};
 ghost use Rattle.ih_journal.specs.Texts.{again_field, move_text, price_text, verdict_text};
-ghost use Rattle.ih_journal.specs.Grammar.{JournalsDiffer, Kind, IsField, IsLineOf, IsFirstWrong, IsPrice, IsVerdictOf};
+ghost use Rattle.ih_journal.specs.Grammar.{JournalsDiffer, FieldKind, IsField, IsLineOf, IsFirstWrong, IsPrice, IsVerdictOf};
 ghost use Rattle.ih_journal.specs.Grammar.{kinds, again_kind, count_kind, move_kind, price_kind, verdict_kind};
 ghost use Rattle.ih_journal.specs.Lines.{IsAt, HasRead, NamesWrong, Wants};
 ghost use Rattle.ih_journal.specs.{declared.entries.Entry.Entry, Pieces.fields_from};
@@ -33,7 +33,7 @@ struct Next {
 
 // What a field of a line is the text of.
 trait Piece: Sized {
-    ghost kind: { Kind };
+    ghost kind: { FieldKind };
 
     ghost inside: { Draft → Self → Type 0 };
 
@@ -217,7 +217,7 @@ pub fn parse_line(inst: &Instance, options: &Options, bytes: &[u8]) -> Result<(u
     line.entry()
 }
 
-/// No two searches of an instance have one journal, so a journal's bytes name the options and the history.
+/// Two searches of an instance that differ in their options or in an entry have two journals.
 pub fn journals_differ()
     ensures { JournalsDiffer }
 {}

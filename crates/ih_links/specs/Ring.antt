@@ -18,7 +18,9 @@ homes_of raw = map home_of raw
 
 -- the lists that the links give
 abbrev pub lists_of : List ℕ → List (Option ℕ) → List ℕ → List (List ℕ)
-lists_of next home len = map (λ h. walk (slice_index next) (slice_index len h) (slice_index next (length home + h))) (range_with_len 0 (length len))
+lists_of next home len =
+    map (λ h. walk (slice_index next) (slice_index len h) (slice_index next (length home + h)))
+    (range_with_len 0 (length len))
 
 -- xs stand between a and b, forwards and backwards
 abbrev pub IsPath : (ℕ → ℕ) → (ℕ → ℕ) → ℕ → List ℕ → ℕ → Type 0
@@ -35,7 +37,8 @@ pub record Tied (next prev : List ℕ) (home : List (Option ℕ)) (len : List �
   pub nexts : length next ≡ length home + length len
   pub prevs : length prev ≡ length home + length len
   pub count : length lists ≡ length len
-  pub path : (h : ℕ) → h < length len → IsPath (slice_index next) (slice_index prev) (length home + h) (slice_index_or lists h []) (length home + h)
+  pub path : (h : ℕ) → h < length len
+      → IsPath (slice_index next) (slice_index prev) (length home + h) (slice_index_or lists h []) (length home + h)
   pub lens : (h : ℕ) → h < length len → slice_index len h ≡ length (slice_index_or lists h [])
   pub homes : (h x : ℕ) → has x (slice_index_or lists h []) ≡ is_at h (slice_index_or home x None)
   pub once : (h : ℕ) → IsOnce (slice_index_or lists h [])

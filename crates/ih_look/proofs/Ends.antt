@@ -8,25 +8,25 @@ use Rattle.ih_inputs.specs.declared.error.InputError.{InputError}
 use Rattle.ih_inputs.specs.declared.error.InputError.TheVariants.{ReadFault as Unreadable, OutOfMemory as NoRoom}
 use Rattle.ih_look.specs.declared.status.Status.{Status}
 use Rattle.ih_look.specs.declared.status.Status.TheVariants.{Done, Usage, WriteFault, OutOfMemory}
-use Rattle.ih_look.specs.Calls.{Call, reading_in}
-use Rattle.ih_look.specs.Ends.{CallEnds, HasCause, status_of}
-use Rattle.ih_look.specs.Texts.{Gained, IsPut, IsSaid, MayTell, text_for, usage_text}
+use Rattle.ih_look.specs.Calls.{Call, inputs_in}
+use Rattle.ih_look.specs.Ends.{CallEnds, HasFileCause, status_of}
+use Rattle.ih_look.specs.Texts.{Received, IsPut, IsSaid, MayTell, text_for, usage_text}
 
 -- ---- a call that comes no further than its files
 
 pub unread-ends : (c : Call) (old new : Option Names) (e : InputError) (status : Status) → status ≡ status_of e → new ≡ old
-    → IsUnread old (reading_in c) e → CallEnds c old new status
+    → IsUnread old (inputs_in c) e → CallEnds c old new status
 unread-ends c old new e status is same h = subst (CallEnds c old new) (sym is) (by-error e h)
   where
-    by-error : (e : InputError) → IsUnread old (reading_in c) e → CallEnds c old new (status_of e)
+    by-error : (e : InputError) → IsUnread old (inputs_in c) e → CallEnds c old new (status_of e)
     by-error NoRoom h = inl same
     by-error e h = (same, (e, refl, h))
 
 pub unread-cause : (reads reads' writes writes' : ℕ) (e : InputError) (status : Status) → status ≡ status_of e → HasFaultCause reads reads' e
-    → HasCause reads reads' writes writes' status
-unread-cause reads reads' writes writes' e status is h = subst (HasCause reads reads' writes writes') (sym is) (by-error e h)
+    → HasFileCause reads reads' writes writes' status
+unread-cause reads reads' writes writes' e status is h = subst (HasFileCause reads reads' writes writes') (sym is) (by-error e h)
   where
-    by-error : (e : InputError) → HasFaultCause reads reads' e → HasCause reads reads' writes writes' (status_of e)
+    by-error : (e : InputError) → HasFaultCause reads reads' e → HasFileCause reads reads' writes writes' (status_of e)
     by-error (Unreadable role) h = h
     by-error e h = tt
 
@@ -44,25 +44,25 @@ pub told-ends : (c : Call) (old new : Option Names) (status told : Status) → C
 told-ends c old new status told h (inl same) = subst (CallEnds c old new) (sym same) h
 told-ends c old new status told h (inr memory) = subst (CallEnds c old new) (sym memory.1) (memory-ends c old new status memory.0 h)
 
-pub told-cause : (reads reads' writes writes' : ℕ) (status told : Status) → HasCause reads reads' writes writes' status → MayTell status told
-    → HasCause reads reads' writes writes' told
-told-cause reads reads' writes writes' status told h (inl same) = subst (HasCause reads reads' writes writes') (sym same) h
-told-cause reads reads' writes writes' status told h (inr memory) = subst (HasCause reads reads' writes writes') (sym memory.1) tt
+pub told-cause : (reads reads' writes writes' : ℕ) (status told : Status) → HasFileCause reads reads' writes writes' status → MayTell status told
+    → HasFileCause reads reads' writes writes' told
+told-cause reads reads' writes writes' status told h (inl same) = subst (HasFileCause reads reads' writes writes') (sym same) h
+told-cause reads reads' writes writes' status told h (inr memory) = subst (HasFileCause reads reads' writes writes') (sym memory.1) tt
 
 -- ---- what is said
 
 module _ (texts : Status → List ℕ) (old new : Option (List ℕ)) (faults faults' lacks lacks' : ℕ) where
-  said-gained : (reached : Status → Type 0) (status : Status) → status ≢ Done → reached status → Gained old new faults faults' (texts status)
+  said-received : (reached : Status → Type 0) (status : Status) → status ≢ Done → reached status → Received old new faults faults' (texts status)
       → IsSaid reached texts status old new faults faults' lacks lacks'
-  said-gained reached Done other h g = absurd (other refl)
-  said-gained reached OutOfMemory other h g = inl (h, g)
-  said-gained reached status other h g = g
+  said-received reached Done other h g = absurd (other refl)
+  said-received reached OutOfMemory other h g = inl (h, g)
+  said-received reached status other h g = g
 
   -- the text of a status that was reached was put
   pub said-put : (reached : Status → Type 0) (status result : Status) → status ≢ Done → reached status
       → IsPut (texts status) status result old new faults faults' lacks lacks' → IsSaid reached texts result old new faults faults' lacks lacks'
   said-put reached status result other h (inl (same, g)) =
-      subst (λ s. IsSaid reached texts s old new faults faults' lacks lacks') (sym same) (said-gained reached status other h g)
+      subst (λ s. IsSaid reached texts s old new faults faults' lacks lacks') (sym same) (said-received reached status other h g)
   said-put reached status result other h (inr (memory, part)) =
       subst (λ s. IsSaid reached texts s old new faults faults' lacks lacks') (sym memory) (inr (status, other, h, part))
 

@@ -10,7 +10,7 @@ use Rattle.ih_inputs.specs.declared.error.InputError.{InputError}
 use Rattle.ih_inputs.specs.declared.error.InputError.TheVariants.{ReadFault as Unreadable, TooLong as Long, InstanceRefused as NoInstance, SolutionRefused as NoSolution, OutOfMemory as NoRoom}
 use Rattle.ih_look.specs.declared.status.Status.{Status}
 use Rattle.ih_look.specs.declared.status.Status.TheVariants.{Done, Usage, ReadFault, InstanceRefused, SolutionRefused, WriteFault, OutOfMemory, TooLong}
-use Rattle.ih_look.specs.Calls.{Call, reading_in}
+use Rattle.ih_look.specs.Calls.{Call, inputs_in}
 
 -- the exit code of a status
 abbrev pub code_of : Status → ℕ
@@ -32,23 +32,23 @@ status_of (NoSolution e) = SolutionRefused e
 status_of NoRoom = OutOfMemory
 
 -- the files aren't as they ought to be, and the status says why
-abbrev pub IsStopped : Option Names → Call → Status → Type 0
-IsStopped files c status = (e : InputError) × (status ≡ status_of e) × IsUnread files (reading_in c) e
+abbrev pub EndsUnread : Option Names → Call → Status → Type 0
+EndsUnread files c status = (e : InputError) × (status ≡ status_of e) × IsUnread files (inputs_in c) e
 
 -- The files have what they had, but that the page's file may have a part of the page of these files' timetable.
 abbrev pub IsPartWritten : Call → Option Names → Option Names → Type 0
-IsPartWritten c old new = (I : Draft) × (P : Timetable) × HasInputs old (reading_in c) I P
+IsPartWritten c old new = (I : Draft) × (P : Timetable) × HasInputs old (inputs_in c) I P
     × IfTold (MayBeWritten c.page (page_of I P)) old new
 
 -- What a call has read and written, by its status.
 abbrev pub CallEnds : Call → Option Names → Option Names → Status → Type 0
 -- the page's file has the page of the timetable that the files give, and every other file has what it had
-CallEnds c old new Done = (I : Draft) × (P : Timetable) × HasInputs old (reading_in c) I P
+CallEnds c old new Done = (I : Draft) × (P : Timetable) × HasInputs old (inputs_in c) I P
     × IfTold (IsWritten c.page (page_of I P)) old new
 CallEnds c old new WriteFault = IsPartWritten c old new
 CallEnds c old new OutOfMemory = (new ≡ old) ⊎ IsPartWritten c old new
 -- the files aren't as they ought to be, and none was touched
-CallEnds c old new status = (new ≡ old) × IsStopped old c status
+CallEnds c old new status = (new ≡ old) × EndsUnread old c status
 
 -- The same of words that may name no call, before anything is said: then the usage is to be told.
 abbrev pub Reaches : Option Call → Option Names → Option Names → Status → Type 0
@@ -61,12 +61,12 @@ Ends None old new status = ((status ≡ Usage) ⊎ (status ≡ OutOfMemory)) × 
 Ends (Some c) old new status = CallEnds c old new status
 
 -- a fault is answered only where its count rose
-abbrev pub HasCause : ℕ → ℕ → ℕ → ℕ → Status → Type 0
-HasCause reads reads' writes writes' (ReadFault role) = Rose reads reads'
-HasCause reads reads' writes writes' WriteFault = Rose writes writes'
-HasCause reads reads' writes writes' status = Unit {0}
+abbrev pub HasFileCause : ℕ → ℕ → ℕ → ℕ → Status → Type 0
+HasFileCause reads reads' writes writes' (ReadFault role) = Rose reads reads'
+HasFileCause reads reads' writes writes' WriteFault = Rose writes writes'
+HasFileCause reads reads' writes writes' status = Unit {0}
 
 -- the same in a call over a shelf, by the counts of that
 abbrev pub HasShelfCause : {X : Type 0} → ShelfGhosts X → X → X → Status → Type 0
 HasShelfCause shelf old new status =
-    HasCause (shelf.read_faults old) (shelf.read_faults new) (shelf.write_faults old) (shelf.write_faults new) status
+    HasFileCause (shelf.read_faults old) (shelf.read_faults new) (shelf.write_faults old) (shelf.write_faults new) status

@@ -37,19 +37,19 @@ text_for None status = usage_text
 text_for (Some c) status = text_of c status
 
 -- the text was put out whole, or a part of it, where the sink's count of faults rose
-abbrev pub Gained : Option (List ℕ) → Option (List ℕ) → ℕ → ℕ → List ℕ → Type 0
-Gained old new faults faults' text =
+abbrev pub Received : Option (List ℕ) → Option (List ℕ) → ℕ → ℕ → List ℕ → Type 0
+Received old new faults faults' text =
     IfTold (IsAppended text) old new ⊎ (Rose faults faults' × IfTold (MayBeAppended text) old new)
 
 -- the sink's count of lacks of memory rose, and a part of the text was put out
-abbrev pub GainedPart : Option (List ℕ) → Option (List ℕ) → ℕ → ℕ → List ℕ → Type 0
-GainedPart old new lacks lacks' text = Rose lacks lacks' × IfTold (MayBeAppended text) old new
+abbrev pub ReceivedPart : Option (List ℕ) → Option (List ℕ) → ℕ → ℕ → List ℕ → Type 0
+ReceivedPart old new lacks lacks' text = Rose lacks lacks' × IfTold (MayBeAppended text) old new
 
 -- one put of a text, with the status that was to be told and the one that it then is: the sink may want memory itself
 abbrev pub IsPut : List ℕ → Status → Status → Option (List ℕ) → Option (List ℕ) → ℕ → ℕ → ℕ → ℕ → Type 0
 IsPut text status result old new faults faults' lacks lacks' =
-    ((result ≡ status) × Gained old new faults faults' text)
-    ⊎ ((result ≡ OutOfMemory) × GainedPart old new lacks lacks' text)
+    ((result ≡ status) × Received old new faults faults' text)
+    ⊎ ((result ≡ OutOfMemory) × ReceivedPart old new lacks lacks' text)
 
 -- the same of a put into a sink, by what that tells and counts
 abbrev pub IsPutInto : {X : Type 0} → SinkGhosts X → X → X → List ℕ → Status → Status → Type 0
@@ -62,15 +62,15 @@ abbrev pub MayTell : Status → Status → Type 0
 MayTell status told = (told ≡ status) ⊎ ((status ≢ Done) × (told ≡ OutOfMemory))
 
 -- What is said at a status, where each has its text: that, and nothing where the page was written. At `OutOfMemory` it
--- may be instead that the sink wanted memory itself, and gained a part of the text of a status that the call had
+-- may be instead that the sink wanted memory itself, and received a part of the text of a status that the call had
 -- reached.
 abbrev pub IsSaid : (Status → Type 0) → (Status → List ℕ) → Status → Option (List ℕ) → Option (List ℕ) → ℕ → ℕ → ℕ → ℕ
     → Type 0
 IsSaid reached texts Done old new faults faults' lacks lacks' = new ≡ old
 IsSaid reached texts OutOfMemory old new faults faults' lacks lacks' =
-    (reached OutOfMemory × Gained old new faults faults' (texts OutOfMemory))
-    ⊎ ((status : Status) × (status ≢ Done) × reached status × GainedPart old new lacks lacks' (texts status))
-IsSaid reached texts status old new faults faults' lacks lacks' = Gained old new faults faults' (texts status)
+    (reached OutOfMemory × Received old new faults faults' (texts OutOfMemory))
+    ⊎ ((status : Status) × (status ≢ Done) × reached status × ReceivedPart old new lacks lacks' (texts status))
+IsSaid reached texts status old new faults faults' lacks lacks' = Received old new faults faults' (texts status)
 
 -- the same of what is said to a sink, by what that tells and counts
 abbrev pub IsSaidTo : {X : Type 0} → SinkGhosts X → X → X → (Status → Type 0) → (Status → List ℕ) → Status → Type 0

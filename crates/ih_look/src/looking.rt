@@ -1,9 +1,8 @@
 //! What a call does with files.
 
-ghost use Rattle.std.specs.Prelude.{◌≡◌};
 ghost use Rattle.ih_plan.specs.Timetable.{IsPlanOf};
 ghost use Rattle.ih_inputs.specs.Reading.{HasInputs};
-ghost use Rattle.ih_look.specs.Calls.{call_in, reading_in};
+ghost use Rattle.ih_look.specs.Calls.{call_in, inputs_in};
 ghost use Rattle.ih_look.specs.Ends.{CallEnds, HasShelfCause};
 
 use crate::calls::Call;
@@ -23,7 +22,7 @@ fn write_page<R: Files, S: Shelf>(
     shelf: &mut S,
 ) -> Status
     requires plan { IsPlanOf inputs.now.inst.value.draft inputs.now.plan }
-    requires read { HasInputs (S.names shelf.old) (reading_in (call_in call.now)) inputs.now.inst.value.draft
+    requires read { HasInputs (S.names shelf.old) (inputs_in (call_in call.now)) inputs.now.inst.value.draft
         inputs.now.plan }
     ensures ends { CallEnds (call_in call.now) (S.names shelf.old) (S.names shelf.new) result }
     ensures cause { HasShelfCause S.Shelf shelf.old shelf.new result }

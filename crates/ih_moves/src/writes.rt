@@ -1,8 +1,8 @@
 //! The writes of a move at a timetable.
 
 ghost use Rattle.std.specs.Prelude.{◌≡◌, ◌<◌, ◌≤◌, ◌+◌, ◌++◌, ◌∷◌, [], length, if◌then◌else◌};
-ghost use Rattle.ih_tables.specs.Sizes.{room_count, shift_count, nurse_count};
-ghost use Rattle.ih_plan.specs.Timetable.{IsPlanOf, choice_of, stay_of};
+ghost use Rattle.ih_tables.specs.Sizes.{shift_count, nurse_count};
+ghost use Rattle.ih_plan.specs.Timetable.{IsPlanOf, stay_of};
 ghost use Rattle.ih_plan.specs.Expand.{expand, IsMoveOf, swap_stays};
 ghost use Rattle.ih_moves.specs.Runs.{in_run, run_below};
 

@@ -1,7 +1,7 @@
 -- What another choice of nurse for a room's shift makes of the workloads above the maximum, and of the care of the
 -- persons there.
 use Rattle.std.proofs.Common.{◌≡◌, ◌≢◌, ℕ, ◌+◌, ◌-◌, ◌<◌, ◌≤◌, refl, arith, sym, ap, subst, ◌∙◌, true, inl, inr, List, ℤ, Option, Some, None, pos, of_z, to_z, w64}
-use Rattle.std.specs.Prelude.{FitsSigned, ◌-ℤ◌, ◌+ℤ◌, ◌==◌, if◌then◌else◌, nat_le, nat_lt, slice_index, sum_by, IfSome}
+use Rattle.std.specs.Prelude.{FitsSigned, ◌-ℤ◌, ◌+ℤ◌, ◌==◌, if◌then◌else◌, nat_le, nat_lt, sum_by, IfSome}
 use Rattle.std.proofs.lemmas.Bool.{cases_Bool, eq-eqb, ne_eqb, eqb-true, leb-true, and_parts}
 use Rattle.std.proofs.lemmas.Int.{ints, to_z-of_z}
 use Rattle.ih_tables.specs.declared.drafts.Draft.{Draft}
@@ -11,12 +11,14 @@ use Rattle.ih_tables.specs.declared.ids.NurseNo.{NurseNo}
 use Rattle.ih_tables.specs.declared.cells.Cell.TheVariants.{Care}
 use Rattle.ih_tables.specs.Sizes.{person_count, room_count, shift_count, nurse_count}
 use Rattle.ih_links.specs.Lists.{Linked}
+use Rattle.ih_tables.specs.BillNumbers.{continuity_of_care}
 use Rattle.ih_plan.specs.declared.moves.Write.TheVariants.{SetCare}
 use Rattle.ih_plan.specs.Timetable.{Timetable, IsPlanOf, care_of, choice_of}
 use Rattle.ih_plan.specs.Writes.{put}
 use Rattle.ih_plan.specs.Persons.{person_of}
 use Rattle.ih_plan.specs.Presence.{Admission, admission_of, covers, day_of, is_in, is_present, present, room_of, shifts_of}
 use Rattle.ih_plan.specs.Costs.{distinct_nurses, is_number, load_of, nurse_for}
+use Rattle.ih_plan.specs.BillOf.{cost_count}
 use Rattle.ih_plan.specs.Cells.{part_at, part_of, content_of}
 use Rattle.ih_plan.specs.Sums.{sum_below}
 use Rattle.ih_plan.proofs.ListedBelow.{tagged-values}
@@ -25,9 +27,9 @@ use Rattle.ih_plan.proofs.SumBounds.{sum_below-add}
 use Rattle.ih_plan.proofs.SumLemmas.{sum_below-same, sum_by-which_below}
 use Rattle.ih_plan.proofs.Entries.{number_of_nurse}
 use Rattle.ih_nurses.specs.Ledger.{IsTied}
-use Rattle.ih_nurses.specs.Choice.{excess_of, seen_by, rise_by_choice}
+use Rattle.ih_nurses.specs.Choice.{excess_of, seen_by, increase_by_choice}
 use Rattle.ih_nurses.specs.declared.loads.NurseLoad.{NurseLoad}
-use Rattle.ih_nurses.specs.Loads.{AreLoads, load_at, excess_rise}
+use Rattle.ih_nurses.specs.Loads.{AreLoads, load_at, excess_increase}
 use Rattle.ih_nurses.specs.ShiftSpans.{IsShiftSpan, nurses_over, shift_span_in}
 use Rattle.ih_nurses.proofs.CareLemmas.{load-moves}
 use Rattle.ih_nurses.proofs.DifferenceLemmas.{apart-same}
@@ -72,22 +74,22 @@ module _ (I : Draft) (P : Timetable) (r : RoomNo) (k : Shift) (new : Option Nurs
       let table = known.each a.0 k.0 nurse shift in
       omega (arith, gone, table, total)
 
--- what is told from the table is the rise of the part
+-- what is told from the table is the increase of the part
 excess-told : (I : Draft) (P Q : Timetable) (k : ℕ) (loads : List NurseLoad) (o : Option NurseNo) (after : ℕ → ℕ) → AreLoads I P loads → k < shift_count I
     → IfSome o (λ a. a.0 < nurse_count I) → ((a : NurseNo) → o ≡ Some a → load_of I Q a.0 k ≡ after (load_of I P a.0 k))
-    → excess_rise I loads o k after ≡ pos (excess_of I Q k (number_of_nurse o)) -ℤ pos (excess_of I P k (number_of_nurse o))
+    → excess_increase I loads o k after ≡ pos (excess_of I Q k (number_of_nurse o)) -ℤ pos (excess_of I P k (number_of_nurse o))
 unfolding part_of content_of
 excess-told I P Q k loads None after known shift nurse e = refl
 excess-told I P Q k loads (Some a) after known shift nurse e = rw (e a refl, known.each a.0 k nurse shift) refl
 
-both-rise : (a b c d : ℕ) → (pos a -ℤ pos b) +ℤ (pos c -ℤ pos d) ≡ pos (a + c) -ℤ pos (b + d)
-both-rise a b c d = omega (arith, ints)
+both-increase : (a b c d : ℕ) → (pos a -ℤ pos b) +ℤ (pos c -ℤ pos d) ≡ pos (a + c) -ℤ pos (b + d)
+both-increase a b c d = omega (arith, ints)
 
 pub loads-told : (I : Draft) (P : Timetable) (r : RoomNo) (k : Shift) (new : Option NurseNo) (loads : List NurseLoad) (work : ℕ) → IsPlanOf I P → r.0 < room_count I → k.0 < shift_count I
     → care_of P r.0 k.0 ≢ number_of_nurse new → AreLoads I P loads → work ≡ room_load I P k.0 r.0
     → IfSome (choice_of P r.0 k.0) (λ a. a.0 < nurse_count I) → IfSome new (λ a. a.0 < nurse_count I)
-    → excess_rise I loads (choice_of P r.0 k.0) k.0 (λ load. load - work + 0) +ℤ excess_rise I loads new k.0 (λ load. load - 0 + work)
-    ≡ rise_by_choice P r k new (λ Q. excess_of I Q k.0 (care_of P r.0 k.0) + excess_of I Q k.0 (number_of_nurse new))
+    → excess_increase I loads (choice_of P r.0 k.0) k.0 (λ load. load - work + 0) +ℤ excess_increase I loads new k.0 (λ load. load - 0 + work)
+    ≡ increase_by_choice P r k new (λ Q. excess_of I Q k.0 (care_of P r.0 k.0) + excess_of I Q k.0 (number_of_nurse new))
 loads-told I P r k new loads work plan room shift other known total old_nurse new_nurse =
     let Q : Timetable = put (SetCare r k new) P in
     let gone = excess-told I P Q k.0 loads (choice_of P r.0 k.0) (λ load. load - work + 0) known shift old_nurse
@@ -95,7 +97,7 @@ loads-told I P r k new loads work plan room shift other known total old_nurse ne
     let come = excess-told I P Q k.0 loads new (λ load. load - 0 + work) known shift new_nurse
     (λ a is. let step = load-come I P r k new plan room shift other a is in omega (arith, step, total)) in
     rw (gone, come)
-    (both-rise (excess_of I Q k.0 (care_of P r.0 k.0)) (excess_of I P k.0 (care_of P r.0 k.0)) (excess_of I Q k.0 (number_of_nurse new)) (excess_of I P k.0 (number_of_nurse new)))
+    (both-increase (excess_of I Q k.0 (care_of P r.0 k.0)) (excess_of I P k.0 (care_of P r.0 k.0)) (excess_of I Q k.0 (number_of_nurse new)) (excess_of I P k.0 (number_of_nurse new)))
 
 -- ---- care
 
@@ -103,7 +105,7 @@ loads-told I P r k new loads work plan room shift other known total old_nurse ne
 abbrev seen_of : Draft → Timetable → ℕ → ℕ
 seen_of I P x = distinct_nurses I (nurses_over P (shift_span_in I (admission_of I P x) (person_of I x).length_of_stay))
 
-seen-part : (I : Draft) (P : Timetable) (x : ℕ) → slice_index (part_at I P (Care (record { 0 = x }))).s 2 ≡ seen_of I P x
+seen-part : (I : Draft) (P : Timetable) (x : ℕ) → cost_count continuity_of_care (part_at I P (Care (record { 0 = x }))) ≡ seen_of I P x
 unfolding part_of content_of shifts_of
 seen-part I P x =
     ap (distinct_nurses I) (tagged-values (nurse_for P (room_of I P x)) (shifts_of I P x) ∙ nurses-alike I P (admission_of I P x) (person_of I x).length_of_stay)
@@ -147,23 +149,23 @@ module _ (I : Draft) (P : Timetable) (r : RoomNo) (k : Shift) (new : Option Nurs
 
   pub cares-told : (come gone : ℕ) → come ≡ sum_by (newly_seen_of I P r.0 k.0 new) (present I P r.0 (day_of k.0))
       → gone ≡ sum_by (newly_seen_of I P r.0 k.0 (choice_of P r.0 k.0)) (present I P r.0 (day_of k.0))
-      → pos come -ℤ pos gone ≡ rise_by_choice P r k new (λ Q. seen_by I Q (present I P r.0 (day_of k.0)))
+      → pos come -ℤ pos gone ≡ increase_by_choice P r k new (λ Q. seen_by I Q (present I P r.0 (day_of k.0)))
   cares-told come gone come_is gone_is =
       let Q : Timetable = put (SetCare r k new) P in
       let newly = newly_seen_of I P r.0 k.0 new in
       let before = newly_seen_of I P r.0 k.0 (choice_of P r.0 k.0) in
       let a = over-present newly newly (λ x. refl) in
       let b = over-present before before (λ x. refl) in
-      let p = over-present (λ x. slice_index (part_at I P (Care (record { 0 = x }))).s 2) (seen_of I P) (seen-part I P) in
-      let q = over-present (λ x. slice_index (part_at I Q (Care (record { 0 = x }))).s 2) (seen_of I Q) (seen-part I Q) in
+      let p = over-present (λ x. cost_count continuity_of_care (part_at I P (Care (record { 0 = x })))) (seen_of I P) (seen-part I P) in
+      let q = over-present (λ x. cost_count continuity_of_care (part_at I Q (Care (record { 0 = x })))) (seen_of I Q) (seen-part I Q) in
       let moves = sum_below-same (person_count I) (λ x. there newly x + there (seen_of I P) x) (λ x. there (seen_of I Q) x + there before x) (λ x h. each-moves x) in
       let left = sum_below-add (person_count I) (there newly) (there (seen_of I P)) in
       let right = sum_below-add (person_count I) (there (seen_of I Q)) (there before) in
       apart-same come gone (seen_by I Q (present I P r.0 (day_of k.0))) (seen_by I P (present I P r.0 (day_of k.0)))
       (omega (arith, come_is, gone_is, a, b, p, q, moves, left, right))
 
--- a rise that is told of the timetable that is kept, as a signed number of 64 bits, is one at each that it stands for
-pub rise-for : {I : Draft} {P plan : Timetable} {here : List Linked} {loads : List NurseLoad} {counts : List ℕ} → IsTied I P plan here loads counts
-    → (r : RoomNo) (k : Shift) (new : Option NurseNo) (f : Timetable → Timetable → ℕ) (z : ℤ) → FitsSigned w64 z → z ≡ rise_by_choice plan r k new (f plan)
-    → to_z w64 (of_z w64 z) ≡ rise_by_choice P r k new (f P)
-rise-for known r k new f z fits e = subst (λ (S : Timetable). to_z w64 (of_z w64 z) ≡ rise_by_choice S r k new (f S)) known.plan_is (to_z-of_z w64 z fits ∙ e)
+-- an increase that is told of the timetable that is kept, as a signed number of 64 bits, is one at each that it stands for
+pub increase-for : {I : Draft} {P plan : Timetable} {here : List Linked} {loads : List NurseLoad} {counts : List ℕ} → IsTied I P plan here loads counts
+    → (r : RoomNo) (k : Shift) (new : Option NurseNo) (f : Timetable → Timetable → ℕ) (z : ℤ) → FitsSigned w64 z → z ≡ increase_by_choice plan r k new (f plan)
+    → to_z w64 (of_z w64 z) ≡ increase_by_choice P r k new (f P)
+increase-for known r k new f z fits e = subst (λ (S : Timetable). to_z w64 (of_z w64 z) ≡ increase_by_choice S r k new (f S)) known.plan_is (to_z-of_z w64 z fits ∙ e)

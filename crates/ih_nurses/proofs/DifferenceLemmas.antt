@@ -38,11 +38,11 @@ less-parts a b {x} {y} e f = less-bills a b ∙ (ap (λ c. sub_bills c (bill_in 
 pub less-by : {a b x y : NursingCosts} → a ≡ x → b ≡ y → less a b ≡ less x y
 less-by {a} {b} {x} {y} e f = ap (λ c. less c b) e ∙ ap (less x) f
 
--- what rises by as much
+-- what increases by as much
 pub apart-same : (a b x y : ℕ) → a + y ≡ x + b → (pos a -ℤ pos b) ≡ (pos x -ℤ pos y)
 apart-same a b x y e = omega (arith, ints, e)
 
--- two differences are one where each number rises by as much
+-- two differences are one where each number increases by as much
 pub record AreApart (a b x y : NursingCosts) : Type 0 where
   pub off : a.off + y.off ≡ x.off + b.off
   pub uncovered : a.uncovered + y.uncovered ≡ x.uncovered + b.uncovered

@@ -24,4 +24,4 @@ pub mod CountSteps
 pub mod CountLemmas
 pub mod CountWalks
 pub mod RoomSumLemmas
-pub mod ChoiceGainLemmas
+pub mod ChoiceDeltaLemmas

@@ -24,7 +24,7 @@ use Rattle.ih_plan.proofs.Entries.{stay_of-same}
 use Rattle.ih_plan.proofs.ListedBelow.{tagged-both}
 use Rattle.ih_plan.proofs.Parts.{is_empty-tagged}
 use Rattle.ih_nurses.specs.Loads.{given}
-use Rattle.ih_nurses.specs.Gains.{uncovered_in, missing_in, overload_in, rise_by_placement}
+use Rattle.ih_nurses.specs.Deltas.{uncovered_in, missing_in, overload_in, increase_by_placement}
 use Rattle.ih_nurses.proofs.GivenLemmas.{load-goes, load-has}
 use Rattle.ih_nurses.proofs.OwnLemmas.{is_housed, own_missing, else-put, occupied-own, missing-own}
 
@@ -55,8 +55,8 @@ own-none : (I : Draft) (p r k : ℕ) (n : Option ℕ) → own_missing I p None r
 own-none I p r k None = refl
 own-none I p r k (Some n) = refl
 
-rises : (more with without : ℕ) → more + without ≡ with → pos more ≡ pos with -ℤ pos without
-rises more with without e = omega (arith, ints, e)
+increases : (more with without : ℕ) → more + without ≡ with → pos more ≡ pos with -ℤ pos without
+increases more with without e = omega (arith, ints, e)
 
 -- more load is no less overload
 pub overload-more : (most : Option ℕ) (load more : ℕ) → overload most load ≤ overload most (load + more)
@@ -67,26 +67,26 @@ some-placed : (B : Placement → Type 0) (at new : Placement) → Some at ≡ So
 some-placed B at new e h = let same : at ≡ new = cc in subst B same h
 
 -- a nurse's load without a stay and with one, as they are told from all of it, what goes and what comes
-pub record IsLoadRise (I : Draft) (Q O : Timetable) (n : NurseNo) (k : Shift) (all gone come : ℕ) : Type 0 where
+pub record IsLoadIncrease (I : Draft) (Q O : Timetable) (n : NurseNo) (k : Shift) (all gone come : ℕ) : Type 0 where
   pub enough : gone ≤ all
   pub out : all - gone ≡ load_of I O n.0 k.0
   pub with : all - gone + come ≡ load_of I Q n.0 k.0
 
--- so the overload rises
-pub overload-rises : (I : Draft) (P : Timetable) (n : NurseNo) (k : Shift) (p : PatientNo) (at : Placement) (all gone come after before : ℕ)
-    → IsLoadRise I (put (SetStay p (Some at)) P) (put (SetStay p None) P) n k all gone come
+-- so the overload increases
+pub overload-increases : (I : Draft) (P : Timetable) (n : NurseNo) (k : Shift) (p : PatientNo) (at : Placement) (all gone come after before : ℕ)
+    → IsLoadIncrease I (put (SetStay p (Some at)) P) (put (SetStay p None) P) n k all gone come
     → after ≡ overload (max_load I n.0 k.0) (all - gone + come) → before ≡ overload (max_load I n.0 k.0) (all - gone)
-    → pos (after - before) ≡ rise_by_placement P p at (λ Q. overload_in I Q n k)
-overload-rises I P n k p at all gone come after before rise a b =
+    → pos (after - before) ≡ increase_by_placement P p at (λ Q. overload_in I Q n k)
+overload-increases I P n k p at all gone come after before increase a b =
     let most = max_load I n.0 k.0 in
     let with : Timetable = put (SetStay p (Some at)) P in
     let out : Timetable = put (SetStay p None) P in
     let more = overload-more most (all - gone) come in
-    let more_is = overload-is I with n k ∙ ap (overload most) (sym rise.with) in
-    let less_is = overload-is I out n k ∙ ap (overload most) (sym rise.out) in
-    rises (after - before) (overload_in I with n k) (overload_in I out n k) (omega (arith, a, b, more, more_is, less_is))
+    let more_is = overload-is I with n k ∙ ap (overload most) (sym increase.with) in
+    let less_is = overload-is I out n k ∙ ap (overload most) (sym increase.out) in
+    increases (after - before) (overload_in I with n k) (overload_in I out n k) (omega (arith, a, b, more, more_is, less_is))
 
--- ---- the rises
+-- ---- the increases
 
 module _ (I : Draft) (P : Timetable) (k : Shift) (p : PatientNo) (at : Placement) (plan : IsPlanOf I P) (patient : p.0 < patient_count I)
     (counted : covers at.day.0 (person_of I p.0).length_of_stay (day_of k.0) ≡ true) where
@@ -106,26 +106,26 @@ module _ (I : Draft) (P : Timetable) (k : Shift) (p : PatientNo) (at : Placement
   housed = rw (eq-eqb at.room.0 at.room.0 refl) counted
 
   -- a room without a nurse is uncovered more where nobody else is there
-  pub uncovered-rises : (more : ℕ) → more ≡ bit (is_none (care_of P at.room.0 k.0) && is_empty (without p.0 (present I P at.room.0 (day_of k.0))))
-      → pos more ≡ rise_by_placement P p at (λ Q. uncovered_in I Q at.room k)
-  uncovered-rises more e =
+  pub uncovered-increases : (more : ℕ) → more ≡ bit (is_none (care_of P at.room.0 k.0) && is_empty (without p.0 (present I P at.room.0 (day_of k.0))))
+      → pos more ≡ increase_by_placement P p at (λ Q. uncovered_in I Q at.room k)
+  uncovered-increases more e =
       let none = is_none (care_of P at.room.0 k.0) in
       let empty = is_empty (without p.0 (present I P at.room.0 (day_of k.0))) in
       let after = rw (stays-with, housed) at (occupied-own (else-put I P p (Some at) patient) at.room.0 k.0) in
       let before = rw stays-out at (occupied-own (else-put I P p None patient) at.room.0 k.0) in
       let more_is : uncovered_in I with at.room k ≡ bit (none && (true || not empty)) = uncovered-is I with at.room k ∙ ap (λ b. bit (none && b)) after in
       let less_is : uncovered_in I out at.room k ≡ bit (none && (false || not empty)) = uncovered-is I out at.room k ∙ ap (λ b. bit (none && b)) before in
-      rises more (uncovered_in I with at.room k) (uncovered_in I out at.room k) (omega (arith, e, more_is, less_is, alone-bit none empty))
+      increases more (uncovered_in I with at.room k) (uncovered_in I out at.room k) (omega (arith, e, more_is, less_is, alone-bit none empty))
 
-  -- the missing skill rises by what the patient lacks
-  pub missing-rises : (more : ℕ) → more ≡ own_missing I p.0 (Some at) at.room.0 k.0 (care_of P at.room.0 k.0)
-      → pos more ≡ rise_by_placement P p at (λ Q. missing_in I Q at.room k)
-  missing-rises more e =
+  -- the missing skill increases by what the patient lacks
+  pub missing-increases : (more : ℕ) → more ≡ own_missing I p.0 (Some at) at.room.0 k.0 (care_of P at.room.0 k.0)
+      → pos more ≡ increase_by_placement P p at (λ Q. missing_in I Q at.room k)
+  missing-increases more e =
       let n = care_of P at.room.0 k.0 in
       let after = rw stays-with at (missing-own (else-put I P p (Some at) patient) n at.room.0 k.0) in
       let before = rw stays-out at (missing-own (else-put I P p None patient) n at.room.0 k.0) in
       let none = own-none I p.0 at.room.0 k.0 n in
-      rises more (missing_in I with at.room k) (missing_in I out at.room k)
+      increases more (missing_in I with at.room k) (missing_in I out at.room k)
       (omega (arith, e, missing-is I with at.room k, missing-is I out at.room k, after, before, none))
 
   -- what the patient lacks of a nurse
@@ -136,11 +136,11 @@ module _ (I : Draft) (P : Timetable) (k : Shift) (p : PatientNo) (at : Placement
   pub given-whole : (n : ℕ) → care_of P at.room.0 k.0 ≡ Some n → given I P p.0 (Some at) n k.0 ≡ slice_index (person_of I p.0).workload (k.0 - 3 * at.day.0)
   given-whole n nurse = rw (nurse, eq-eqb n n refl, counted) refl
 
-  -- the load of the room's nurse rises by the patient's workload
-  pub load-rises : IsPlacement I at → (n : NurseNo) → care_of P at.room.0 k.0 ≡ Some n.0 → (all gone come : ℕ) → all ≡ load_of I P n.0 k.0 → gone ≡ given I P p.0 (stay_of P p.0) n.0 k.0
+  -- the load of the room's nurse increases by the patient's workload
+  pub load-increases : IsPlacement I at → (n : NurseNo) → care_of P at.room.0 k.0 ≡ Some n.0 → (all gone come : ℕ) → all ≡ load_of I P n.0 k.0 → gone ≡ given I P p.0 (stay_of P p.0) n.0 k.0
       → come ≡ slice_index (person_of I p.0).workload (k.0 - 3 * at.day.0)
-      → IsLoadRise I (put (SetStay p (Some at)) P) (put (SetStay p None) P) n k all gone come
-  load-rises placed n nurse all gone come a g c =
+      → IsLoadIncrease I (put (SetStay p (Some at)) P) (put (SetStay p None) P) n k all gone come
+  load-increases placed n nurse all gone come a g c =
       let has = load-has I P p plan patient n.0 k.0 in
       let goes = load-goes I P p None plan patient (λ at e. absurd (let no : None ≡ Some at = e in cc)) n.0 k.0 in
       let comes = load-goes I P p (Some at) plan patient (λ new e. some-placed (IsPlacement I) at new e placed) n.0 k.0 in

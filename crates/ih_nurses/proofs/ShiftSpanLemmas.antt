@@ -43,11 +43,11 @@ nurses-kept P p s None = refl
 nurses-kept P p s (Some a) = refl
 
 -- who isn't admitted sees no nurses, and with a placement the patient sees those of its span of shifts
-pub care-gain : (I : Draft) (P : Timetable) (p : PatientNo) (at : Placement) → IsPlanOf I P → p.0 < patient_count I → (seen : ℕ)
+pub care-delta : (I : Draft) (P : Timetable) (p : PatientNo) (at : Placement) → IsPlanOf I P → p.0 < patient_count I → (seen : ℕ)
     → seen ≡ distinct_nurses I (nurses_over P (shift_span_in I (Some (placed_at at)) (person_of I p.0).length_of_stay))
     → seen + distinct_nurses I (nurses_over (put (SetStay p None) P) (shift_span_in I (admission_of I (put (SetStay p None) P) p.0) (person_of I p.0).length_of_stay))
     ≡ distinct_nurses I (nurses_over (put (SetStay p (Some at)) P) (shift_span_in I (admission_of I (put (SetStay p (Some at)) P) p.0) (person_of I p.0).length_of_stay)) + 0
-care-gain I P p at plan patient seen e =
+care-delta I P p at plan patient seen e =
     let n = (person_of I p.0).length_of_stay in
     let with : Timetable = put (SetStay p (Some at)) P in
     let without : Timetable = put (SetStay p None) P in

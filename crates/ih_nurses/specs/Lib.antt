@@ -5,6 +5,6 @@ pub mod Ledger
 pub mod Marks
 pub mod ShiftSpans
 pub mod Choice
-pub mod Gains
+pub mod Deltas
 pub mod Visits
 pub mod Bills

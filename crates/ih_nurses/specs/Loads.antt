@@ -57,10 +57,10 @@ abbrev pub given : Draft → Timetable → ℕ → Option Placement → ℕ → 
 given I P p None n k = 0
 given I P p (Some at) n k = stay_load I P p at n k
 
--- by how much the workload above the maximum of a nurse, where there is one, rises when the load becomes another
-abbrev pub excess_rise : Draft → List NurseLoad → Option NurseNo → ℕ → (ℕ → ℕ) → ℤ
-excess_rise I loads None k after = pos 0
-excess_rise I loads (Some a) k after =
+-- by how much the workload above the maximum of a nurse, where there is one, increases when the load becomes another
+abbrev pub excess_increase : Draft → List NurseLoad → Option NurseNo → ℕ → (ℕ → ℕ) → ℤ
+excess_increase I loads None k after = pos 0
+excess_increase I loads (Some a) k after =
     pos (overload (max_load I a.0 k) (after (load_at I loads a.0 k)))
     -ℤ pos (overload (max_load I a.0 k) (load_at I loads a.0 k))
 

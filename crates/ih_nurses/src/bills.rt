@@ -4,7 +4,7 @@ ghost use Rattle.std.specs.Prelude.{◌≡◌, ◌^◌, ◌-ℤ◌, pos};
 ghost use Rattle.ih_tables.specs.Bills.{IsWithin};
 ghost use Rattle.ih_nurses.specs.Bills.{nursing_bill};
 
-use ih_plan::rise;
+use ih_plan::increase;
 use ih_tables::Bill;
 
 /// What nursing gives to a bill, or one part of it.
@@ -69,14 +69,14 @@ pub fn difference(after: NursingCosts, before: NursingCosts) -> Bill
             0,
             0,
             0,
-            rise(after.off, before.off),
-            rise(after.uncovered, before.uncovered),
+            increase(after.off, before.off),
+            increase(after.uncovered, before.uncovered),
         ],
         s: [
             0,
-            rise(after.missing_skill, before.missing_skill),
-            rise(after.nurses_seen, before.nurses_seen),
-            rise(after.overload, before.overload),
+            increase(after.missing_skill, before.missing_skill),
+            increase(after.nurses_seen, before.nurses_seen),
+            increase(after.overload, before.overload),
             0,
             0,
             0,

@@ -2,7 +2,7 @@
 
 ghost use Rattle.std.specs.Prelude.{◌≡◌, ◌<◌, ◌^◌};
 ghost use Rattle.ih_tables.specs.{declared.cells.Cell.TheVariants.Care, Sizes.patient_count, Bills.IsWithin};
-ghost use Rattle.ih_plan.specs.{Timetable.Timetable, Timetable.IsPlacement, Cells.gain_at};
+ghost use Rattle.ih_plan.specs.{Timetable.Timetable, Timetable.IsPlacement, Cells.delta_at};
 ghost use Rattle.ih_nurses.specs.Ledger.{IsLedgerOf};
 
 use crate::Nurses;
@@ -28,12 +28,12 @@ fn nursed(nurses_seen: u32) -> NursingCosts
 impl Nurses {
     /// How many nurses more a patient sees with a placement than without one. Each number is at most 10^11 in
     /// magnitude.
-    pub fn care_gain(&self, inst: &Instance, p: PatientNo, at: Placement) -> Bill
+    pub fn care_delta(&self, inst: &Instance, p: PatientNo, at: Placement) -> Bill
         requires patient { p.0 < patient_count inst.now.draft }
         requires placement { IsPlacement inst.now.draft at }
         requires stands { (P : Timetable) × IsLedgerOf inst.now.draft P self.now }
-        ensures gain { (P : Timetable) → IsLedgerOf inst.now.draft P self.now
-            → result ≡ gain_at inst.now.draft P p at (Care (record { 0 = p.0 })) }
+        ensures delta { (P : Timetable) → IsLedgerOf inst.now.draft P self.now
+            → result ≡ delta_at inst.now.draft P p at (Care (record { 0 = p.0 })) }
         ensures within { IsWithin (10 ^ 11) result }
     {
         let shift_span = stay_shift_span(inst, p, Some(at));

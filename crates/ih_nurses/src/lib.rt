@@ -4,7 +4,7 @@
 
 mod bills;
 mod changes;
-mod choice_gains;
+mod choice_deltas;
 mod choices;
 mod counts;
 mod loads;
@@ -14,13 +14,13 @@ mod presence;
 mod room_sums;
 mod rooms;
 mod seen;
-mod shift_gains;
+mod shift_deltas;
 mod shift_spans;
 mod start;
 mod stays;
 mod visits;
 
-pub use choice_gains::ChoiceGain;
+pub use choice_deltas::ChoiceDelta;
 pub use nurses::Nurses;
-pub use shift_gains::ShiftGain;
+pub use shift_deltas::ShiftDelta;
 pub use visits::Visit;

@@ -3,9 +3,9 @@
 ghost use Rattle.std.specs.Prelude.{◌≡◌, ◌<◌, ◌≤◌, ◌+◌, ◌-◌, ◌*◌, ◌^◌, ◌≤ℤ◌, ℕ, neg_ℤ, pos, Option, IfSome};
 ghost use Rattle.ih_tables.specs.{declared.ids.NurseNo.NurseNo, Sizes.nurse_count, Sizes.shift_count, Works.max_load};
 ghost use Rattle.ih_plan.specs.Costs.{overload};
-ghost use Rattle.ih_nurses.specs.Loads.{IsTable, load_at, most_of, share, excess_rise};
+ghost use Rattle.ih_nurses.specs.Loads.{IsTable, load_at, most_of, share, excess_increase};
 
-use ih_plan::rise;
+use ih_plan::increase;
 use ih_tables::{Instance, NurseNo, Shift};
 
 /// A nurse's workload in a shift, and the most that it may be.
@@ -120,7 +120,7 @@ pub fn excess_change(
     requires shift { k.0 < shift_count inst.now.draft }
     requires enough { IfSome n (λ a. less ≤ load_at inst.now.draft loads.now a.0 k.0) }
     requires fits { IfSome n (λ a. load_at inst.now.draft loads.now a.0 k.0 - less + more < 2 ^ 32) }
-    ensures rise { result ≡ excess_rise inst.now.draft loads.now n k.0 (λ load. load - less + more) }
+    ensures increase { result ≡ excess_increase inst.now.draft loads.now n k.0 (λ load. load - less + more) }
     ensures low { neg_ℤ (pos (10 ^ 11)) ≤ℤ result }
     ensures high { result ≤ℤ pos (10 ^ 11) }
 {
@@ -128,7 +128,7 @@ pub fn excess_change(
         return 0;
     };
     let before = load(inst, loads, a, k);
-    rise(
+    increase(
         overload(before, before.work - less + more),
         overload(before, before.work),
     )

@@ -1,7 +1,7 @@
 //! The counted shifts of a stay, in its room.
 
-ghost use Rattle.std.specs.Prelude.{◌≡◌, ◌<◌, ◌≤◌, ◌-◌, ◌+◌, ◌*◌, min, Some, IfSome, option_map};
-ghost use Rattle.ih_tables.specs.Sizes.{patient_count, person_count, shift_count};
+ghost use Rattle.std.specs.Prelude.{◌≡◌, ◌<◌, ◌≤◌, ◌-◌, ◌*◌, Some, IfSome, option_map};
+ghost use Rattle.ih_tables.specs.Sizes.{patient_count, person_count};
 ghost use Rattle.ih_plan.specs.{Timetable.IsPlanOf, Timetable.IsPlacement, Persons.person_of, Presence.admission_of};
 ghost use Rattle.ih_plan.specs.{Presence.placed_at};
 ghost use Rattle.ih_nurses.specs.ShiftSpans.{shift_span_in, IsShiftSpan};

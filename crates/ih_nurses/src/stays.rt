@@ -1,6 +1,6 @@
 //! What a patient's stay adds to the loads of its room's nurses.
 
-ghost use Rattle.std.specs.Prelude.{◌≡◌, ◌<◌, ◌≤◌, ◌+◌, ◌-◌, ◌*◌, ℕ, slice_index, min};
+ghost use Rattle.std.specs.Prelude.{◌≡◌, ◌<◌, ◌≤◌, ◌+◌, ◌-◌, ◌*◌, ℕ, slice_index};
 ghost use Rattle.ih_tables.specs.Sizes.{patient_count, nurse_count, shift_count};
 ghost use Rattle.ih_plan.specs.{Persons.person_of};
 ghost use Rattle.ih_nurses.specs.Loads.{IsStayOf, IsTable, load_at, stay_load};

@@ -3,8 +3,8 @@
 ghost use Rattle.std.specs.Prelude.{◌≡◌, ◌<◌, ◌≤◌, ◌-◌, ◌*◌, true, Some, slice_index, IfSome};
 ghost use Rattle.ih_tables.specs.Sizes.{patient_count, shift_count};
 ghost use Rattle.ih_plan.specs.Timetable.{IsPlanOf, IsPlacement, stay_of, care_of};
-ghost use Rattle.ih_plan.specs.{Persons.person_of, Presence.covers, Presence.day_of};
-ghost use Rattle.ih_nurses.specs.{Loads.given, Visits.IsBefore, Visits.IsVisit};
+ghost use Rattle.ih_plan.specs.{Persons.person_of, Presence.day_of};
+ghost use Rattle.ih_nurses.specs.{Loads.given, Visits.IsBefore, Visits.IsVisit, Visits.has_day};
 
 use crate::own::given;
 use ih_plan::{Placement, Plan};
@@ -84,12 +84,13 @@ impl<'a> Visit<'a> {
 pub fn gone(inst: &Instance, plan: &Plan, visit: &Visit<'_>, n: NurseNo, k: Shift, come: u32) -> u32
     requires plan { IsPlanOf inst.now.draft plan.now }
     requires patient { visit.now.p.0 < patient_count inst.now.draft }
-    requires counted { covers visit.now.at.day.0 (person_of inst.now.draft visit.now.p.0).length_of_stay (day_of k.0) ≡ true }
+    requires counted { has_day inst.now.draft visit.now.p.0 (Some visit.now.at) (day_of k.0) ≡ true }
     requires shift { k.0 < shift_count inst.now.draft }
     requires nurse { care_of plan.now visit.now.at.room.0 k.0 ≡ Some n.0 }
     requires visit { IsVisit inst.now.draft visit.now.p.0 (stay_of plan.now visit.now.p.0) visit.now.at
         visit.now.workload.now visit.now.skill.now visit.now.before }
-    requires come { come ≡ slice_index (person_of inst.now.draft visit.now.p.0).workload (k.0 - 3 * visit.now.at.day.0) }
+    requires come { come
+        ≡ slice_index (person_of inst.now.draft visit.now.p.0).workload (k.0 - 3 * visit.now.at.day.0) }
     requires small { come ≤ 100000 }
     ensures value { result ≡ given inst.now.draft plan.now visit.now.p.0 (stay_of plan.now visit.now.p.0) n.0 k.0 }
     ensures bound { result ≤ 100000 }

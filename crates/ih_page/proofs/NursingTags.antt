@@ -6,17 +6,17 @@ use Rattle.ih_tables.specs.Works.{max_load}
 use Rattle.ih_plan.specs.Timetable.{Timetable}
 use Rattle.ih_plan.specs.Costs.{load_of}
 use Rattle.ih_page.specs.Html.{labelled}
-use Rattle.ih_page.specs.Rooms.{marked, place_text, cell_at, heads_and_days}
-use Rattle.ih_page.specs.Nursing.{load_text, load_cell, nurse_head, nurse_row, nurses_text}
+use Rattle.ih_page.specs.Rooms.{marked, anchor_text, td_at, heads_and_days}
+use Rattle.ih_page.specs.Nursing.{load_text, load_td, nurse_head, nurse_row, nurses_text}
 use Rattle.ih_page.proofs.Scans.{Own, all-below, if-any, by_pieces}
 use Rattle.ih_page.proofs.NamesAndNumbers.{names_and_numbers}
 
-cell-of : (most : Option ℕ) (n k load : ℕ) → Own (cell_at (codes "n") n k ++ load_text most load)
-unfolding cell_at marked place_text
+cell-of : (most : Option ℕ) (n k load : ℕ) → Own (td_at (codes "n") n k ++ load_text most load)
+unfolding td_at marked anchor_text
 cell-of None n k load = simp (by_pieces, names_and_numbers) refl
 cell-of (Some most) n k load = simp (by_pieces, names_and_numbers) refl
 
-cell : (I : Draft) (P : Timetable) (n k : ℕ) → Own (load_cell I P n k)
+cell : (I : Draft) (P : Timetable) (n k : ℕ) → Own (load_td I P n k)
 cell I P n k = cell-of (max_load I n k) n k (load_of I P n k)
 
 head : (a : Nurse) → Own (nurse_head a)
@@ -25,7 +25,7 @@ head a = simp (by_pieces, names_and_numbers) refl
 
 row : (I : Draft) (P : Timetable) (n : ℕ) → Own (nurse_row I P n)
 unfolding nurse_row
-row I P n = simp (by_pieces, if-any nurse_head head, all-below (load_cell I P n) (cell I P n)) refl
+row I P n = simp (by_pieces, if-any nurse_head head, all-below (load_td I P n) (cell I P n)) refl
 
 wide-day : (d : ℕ) → Own (labelled (codes "<th colspan=3>") d)
 unfolding labelled

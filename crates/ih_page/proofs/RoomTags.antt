@@ -11,34 +11,34 @@ use Rattle.ih_tables.specs.Sizes.{patient_count}
 use Rattle.ih_plan.specs.declared.moves.Placement.{Placement}
 use Rattle.ih_plan.specs.Timetable.{Timetable, stay_of}
 use Rattle.ih_page.specs.Html.{escaped, labelled, numbered}
-use Rattle.ih_page.specs.Rooms.{age_text, theatre_text, shift_type_text, nurse_text, wide_cell, bar_cell, bar_text, person_cells, patient_row, occupant_row, patient_in, occupant_in, marked, place_text, cell_at, count_cell, nurse_cell, shift_row, room_title, heads_and_days, room_head, count_row, person_rows, room_text, rooms_text}
+use Rattle.ih_page.specs.Rooms.{age_name, theatre_name, shift_type_name, nurse_name, wide_td, bar_td, bar_text, person_tds, patient_row, occupant_row, patient_in, occupant_in, marked, anchor_text, td_at, count_td, nurse_td, shift_row, room_title, heads_and_days, room_head, count_row, person_rows, room_text, rooms_text}
 use Rattle.ih_page.proofs.Scans.{Own, all-below, if-any, by_pieces}
 use Rattle.ih_page.proofs.NamesAndNumbers.{name, names_and_numbers}
 
 -- names
 
-age-name : (I : Draft) (g : ℕ) → Own (age_text I g)
+age-name : (I : Draft) (g : ℕ) → Own (age_name I g)
 age-name I g = if-any escaped name _
 
-pub theatre-name : (I : Draft) (t : ℕ) → Own (theatre_text I t)
+pub theatre-name : (I : Draft) (t : ℕ) → Own (theatre_name I t)
 theatre-name I t = if-any (λ (a : Theatre). escaped a.id) (λ a. name a.id) (slice_get I.operating_theaters t)
 
-pub shift-name : (I : Draft) (j : ℕ) → Own (shift_type_text I j)
-unfolding shift_type_text
+pub shift-name : (I : Draft) (j : ℕ) → Own (shift_type_name I j)
+unfolding shift_type_name
 shift-name I j = if-any escaped name _
 
-pub nurse-name : (I : Draft) (n : Option ℕ) → Own (nurse_text I n)
+pub nurse-name : (I : Draft) (n : Option ℕ) → Own (nurse_name I n)
 nurse-name I None = refl
 nurse-name I (Some n) = if-any (λ (a : Nurse). escaped a.id) (λ a. name a.id) (slice_get I.nurses n)
 
 -- who is in a room
 
 bar : (h d n : ℕ) → Own (bar_text h d n)
-unfolding bar_text wide_cell bar_cell labelled
+unfolding bar_text wide_td bar_td labelled
 bar h d n = simp (by_pieces, names_and_numbers) refl
 
-cells : (I : Draft) (gender : List ℕ) (age : ℕ) → Own (person_cells I gender age)
-unfolding person_cells
+cells : (I : Draft) (gender : List ℕ) (age : ℕ) → Own (person_tds I gender age)
+unfolding person_tds
 cells I gender age = simp (by_pieces, names_and_numbers, age-name) refl
 
 patient-row : (I : Draft) (p : ℕ) (at : Placement) (a : Patient) → Own (patient_row I p at a)
@@ -73,21 +73,21 @@ persons I P r =
 
 -- the other rows
 
-count : (I : Draft) (P : Timetable) (r d : ℕ) → Own (count_cell I P r d)
-unfolding cell_at marked place_text
+count : (I : Draft) (P : Timetable) (r d : ℕ) → Own (count_td I P r d)
+unfolding td_at marked anchor_text
 count I P r d = simp (by_pieces, names_and_numbers) refl
 
 count-row : (I : Draft) (P : Timetable) (r : ℕ) → Own (count_row I P r)
 unfolding count_row
-count-row I P r = simp (by_pieces, all-below (count_cell I P r) (count I P r)) refl
+count-row I P r = simp (by_pieces, all-below (count_td I P r) (count I P r)) refl
 
-nurse : (I : Draft) (P : Timetable) (r k : ℕ) → Own (nurse_cell I P r k)
-unfolding cell_at place_text
+nurse : (I : Draft) (P : Timetable) (r k : ℕ) → Own (nurse_td I P r k)
+unfolding td_at anchor_text
 nurse I P r k = simp (by_pieces, names_and_numbers, nurse-name) refl
 
 shift : (I : Draft) (P : Timetable) (r j : ℕ) → Own (shift_row I P r j)
 shift I P r j =
-    simp (by_pieces, shift-name, all-below (λ d. nurse_cell I P r (3 * d + j)) (λ d. nurse I P r (3 * d + j))) refl
+    simp (by_pieces, shift-name, all-below (λ d. nurse_td I P r (3 * d + j)) (λ d. nurse I P r (3 * d + j))) refl
 
 pub day : (d : ℕ) → Own (labelled (codes "<th>") d)
 unfolding labelled

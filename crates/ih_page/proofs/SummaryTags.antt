@@ -4,7 +4,7 @@ use Rattle.std.specs.Prelude.{ℤ}
 use Rattle.ih_tables.specs.declared.bills.Bill.{Bill}
 use Rattle.ih_tables.specs.declared.bills.Weights.{Weights}
 use Rattle.ih_tables.specs.Bills.{at}
-use Rattle.ih_page.specs.Summary.{rule_name, cost_name, line_text, line_link, line_head, product_text, hard_text, rule_row, cost_row, verdict_text, rule_rows, cost_rows, verdict_of, summary}
+use Rattle.ih_page.specs.Summary.{rule_name, cost_name, line_text, line_link, line_head, product_text, hard_text, rule_row, cost_row, feasible_text, rule_rows, cost_rows, headline, summary}
 use Rattle.ih_page.proofs.Scans.{Own, all-below, by_pieces}
 use Rattle.ih_page.proofs.NamesAndNumbers.{names_and_numbers}
 
@@ -24,12 +24,12 @@ cost-row : (i : ℕ) (x w : ℤ) → Own (cost_row i x w)
 unfolding line_head line_link line_text product_text
 cost-row i x w = simp (by_pieces, names_and_numbers, cost-name) refl
 
-verdict : (b : Bool) → Own (verdict_text b)
+verdict : (b : Bool) → Own (feasible_text b)
 verdict true = refl
 verdict false = refl
 
-verdict-of : (w : Weights) (b : Bill) → Own (verdict_of w b)
-unfolding verdict_of
+verdict-of : (w : Weights) (b : Bill) → Own (headline w b)
+unfolding headline
 verdict-of w b = simp (by_pieces, names_and_numbers, verdict) refl
 
 rule-rows : (b : Bill) → Own (rule_rows b)

@@ -12,8 +12,8 @@ use Rattle.ih_page.specs.declared.bill_lines.Line.TheVariants.{Rule, Cost}
 use Rattle.ih_page.specs.Html.{labelled}
 use Rattle.ih_page.specs.Summary.{line_text}
 use Rattle.ih_page.specs.BillLines.{rule_one, cost_one, rule_many, cost_many, amount_text}
-use Rattle.ih_page.specs.Rooms.{place_text}
-use Rattle.ih_page.specs.CellNames.{patient_name, occupant_name, room_name, person_text, room_called, day_text, shift_text}
+use Rattle.ih_page.specs.Rooms.{anchor_text}
+use Rattle.ih_page.specs.CellNames.{patient_name, occupant_name, room_label, person_name, room_name, day_text, shift_name}
 use Rattle.ih_page.specs.Order.{dearest_first}
 use Rattle.ih_page.specs.Wrong.{amounts, cell_link, item, item_at, list_name, list_head, items_of, list_of, list_if_any, line_list, wrong_text}
 use Rattle.ih_page.proofs.Scans.{Own, all-below, all-of, if-any, by_pieces}
@@ -47,8 +47,8 @@ amount (Cost i) early x = simp (by_pieces, names_and_numbers, cost-one, cost-man
 
 -- what a cell is called
 
-person : (I : Draft) (x : ℕ) → Own (person_text I x)
-unfolding person_text
+person : (I : Draft) (x : ℕ) → Own (person_name I x)
+unfolding person_name
 person I x =
     simp (
       by_pieces,
@@ -56,20 +56,20 @@ person I x =
       if-any occupant_name (λ a. simp (by_pieces, names_and_numbers) refl),
     ) refl
 
-room : (I : Draft) (r : ℕ) → Own (room_called I r)
-unfolding room_called
-room I r = if-any room_name (λ a. simp (by_pieces, names_and_numbers) refl) (slice_get I.rooms r)
+room : (I : Draft) (r : ℕ) → Own (room_name I r)
+unfolding room_name
+room I r = if-any room_label (λ a. simp (by_pieces, names_and_numbers) refl) (slice_get I.rooms r)
 
 day : (d : ℕ) → Own (day_text d)
 unfolding labelled
 day d = simp (by_pieces, names_and_numbers) refl
 
-shift : (I : Draft) (k : ℕ) → Own (shift_text I k)
-unfolding shift_text
+shift : (I : Draft) (k : ℕ) → Own (shift_name I k)
+unfolding shift_name
 shift I k = simp (by_pieces, day, shift-name) refl
 
 link : (I : Draft) (c : Cell) → Own (cell_link I c)
-unfolding cell_link labelled place_text
+unfolding cell_link labelled anchor_text
 link I (Stay p) = simp (by_pieces, names_and_numbers, person) refl
 link I (RoomDay r d) = simp (by_pieces, names_and_numbers, room) refl
 link I (TheatreDay t d) = simp (by_pieces, names_and_numbers, theatre-name) refl

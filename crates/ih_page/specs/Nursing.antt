@@ -9,7 +9,7 @@ use Rattle.ih_plan.specs.Timetable.{Timetable}
 use Rattle.ih_plan.specs.Costs.{load_of}
 use Rattle.ih_validate.specs.Report.{lines_below}
 use Rattle.ih_page.specs.Html.{escaped}
-use Rattle.ih_page.specs.Rooms.{marked, cell_at, heads_and_days}
+use Rattle.ih_page.specs.Rooms.{marked, td_at, heads_and_days}
 
 -- a workload and its maximum; nothing where the shift isn't worked and there is no workload
 abbrev pub load_text : Option ℕ → ℕ → List ℕ
@@ -17,8 +17,8 @@ load_text None load = if load == 0 then codes ">" else (codes " class=x>!" ++ (d
 load_text (Some most) load = marked most load ++ (codes "/" ++ decimal most)
 
 -- the workload of nurse n in shift k
-abbrev pub load_cell : Draft → Timetable → ℕ → ℕ → List ℕ
-load_cell I P n k = cell_at (codes "n") n k ++ load_text (max_load I n k) (load_of I P n k)
+abbrev pub load_td : Draft → Timetable → ℕ → ℕ → List ℕ
+load_td I P n k = td_at (codes "n") n k ++ load_text (max_load I n k) (load_of I P n k)
 
 -- a nurse's name and skill
 unfoldable pub nurse_head : Nurse → List ℕ
@@ -26,7 +26,7 @@ nurse_head a = codes "<tr><th>" ++ (escaped a.id ++ (codes "<td>" ++ decimal a.s
 
 unfoldable pub nurse_row : Draft → Timetable → ℕ → List ℕ
 nurse_row I P n =
-    option_map_or nurse_head (slice_get I.nurses n) [] ++ (lines_below (shift_count I) (load_cell I P n) ++ codes "\n")
+    option_map_or nurse_head (slice_get I.nurses n) [] ++ (lines_below (shift_count I) (load_td I P n) ++ codes "\n")
 
 unfoldable pub nurses_text : Draft → Timetable → List ℕ
 nurses_text I P =

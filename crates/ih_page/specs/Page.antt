@@ -3,7 +3,7 @@ use Rattle.std.specs.Prelude.{ℕ, List, ◌++◌, codes}
 use Rattle.ih_tables.specs.declared.drafts.Draft.{Draft}
 use Rattle.ih_plan.specs.Timetable.{Timetable}
 use Rattle.ih_plan.specs.BillOf.{bill_of}
-use Rattle.ih_validate.specs.declared.surgery.Kind.TheVariants.{Theatres, Surgeons}
+use Rattle.ih_validate.specs.declared.surgery.ResourceKind.TheVariants.{Theatres, Surgeons}
 use Rattle.ih_page.specs.Summary.{summary}
 use Rattle.ih_page.specs.LeftOut.{left_out}
 use Rattle.ih_page.specs.Rooms.{rooms_text}

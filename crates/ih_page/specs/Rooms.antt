@@ -17,52 +17,52 @@ use Rattle.ih_validate.specs.Report.{lines_below}
 use Rattle.ih_page.specs.Html.{escaped, labelled, numbered}
 
 -- the name of an age group
-abbrev pub age_text : Draft → ℕ → List ℕ
-age_text I g = option_map_or escaped (slice_get I.age_groups g) []
+abbrev pub age_name : Draft → ℕ → List ℕ
+age_name I g = option_map_or escaped (slice_get I.age_groups g) []
 
 -- the name of a theatre
-abbrev pub theatre_text : Draft → ℕ → List ℕ
-theatre_text I t = option_map_or (λ (a : Theatre). escaped a.id) (slice_get I.operating_theaters t) []
+abbrev pub theatre_name : Draft → ℕ → List ℕ
+theatre_name I t = option_map_or (λ (a : Theatre). escaped a.id) (slice_get I.operating_theaters t) []
 
 -- the name of a shift type
-unfoldable pub shift_type_text : Draft → ℕ → List ℕ
-shift_type_text I j = option_map_or escaped (slice_get I.shift_types j) []
+unfoldable pub shift_type_name : Draft → ℕ → List ℕ
+shift_type_name I j = option_map_or escaped (slice_get I.shift_types j) []
 
 -- the name of a nurse, where there is one
-abbrev pub nurse_text : Draft → Option ℕ → List ℕ
-nurse_text I None = codes "-"
-nurse_text I (Some n) = option_map_or (λ (a : Nurse). escaped a.id) (slice_get I.nurses n) []
+abbrev pub nurse_name : Draft → Option ℕ → List ℕ
+nurse_name I None = codes "-"
+nurse_name I (Some n) = option_map_or (λ (a : Nurse). escaped a.id) (slice_get I.nurses n) []
 
--- an empty cell of n columns
-unfoldable pub wide_cell : ℕ → List ℕ
-wide_cell n = labelled (codes "<td colspan=") n ++ codes ">"
+-- a table's empty cell, of n columns
+unfoldable pub wide_td : ℕ → List ℕ
+wide_td n = labelled (codes "<td colspan=") n ++ codes ">"
 
 -- the days before a stay
 abbrev pub gap_text : ℕ → List ℕ
-gap_text d = if d == 0 then [] else wide_cell d
+gap_text d = if d == 0 then [] else wide_td d
 
 -- a bar of m columns that says n
-unfoldable pub bar_cell : ℕ → ℕ → List ℕ
-bar_cell m n = labelled (codes "<td class=b colspan=") m ++ (labelled (codes ">") n ++ codes "\n")
+unfoldable pub bar_td : ℕ → ℕ → List ℕ
+bar_td m n = labelled (codes "<td class=b colspan=") m ++ (labelled (codes ">") n ++ codes "\n")
 
 -- the bar of a stay of n days from day d on, as far as the horizon of h days goes, with its length in days
 unfoldable pub bar_text : ℕ → ℕ → ℕ → List ℕ
-bar_text h d n = gap_text d ++ bar_cell (min n (h - d)) n
+bar_text h d n = gap_text d ++ bar_td (min n (h - d)) n
 
 -- a person's gender and age group
-unfoldable pub person_cells : Draft → List ℕ → ℕ → List ℕ
-person_cells I gender age = codes "<td>" ++ (escaped gender ++ (codes "<td>" ++ age_text I age))
+unfoldable pub person_tds : Draft → List ℕ → ℕ → List ℕ
+person_tds I gender age = codes "<td>" ++ (escaped gender ++ (codes "<td>" ++ age_name I age))
 
 -- the row of patient a, whose number is p
 abbrev pub patient_row : Draft → ℕ → Placement → Patient → List ℕ
 patient_row I p at a =
-    numbered (codes "<tr id=p") p (codes "><th>") a.id ++ (person_cells I a.gender a.age_group
-    ++ (codes "<td>" ++ (theatre_text I at.theatre.0 ++ bar_text I.days at.day.0 a.length_of_stay)))
+    numbered (codes "<tr id=p") p (codes "><th>") a.id ++ (person_tds I a.gender a.age_group
+    ++ (codes "<td>" ++ (theatre_name I at.theatre.0 ++ bar_text I.days at.day.0 a.length_of_stay)))
 
 -- the row of an occupant
 abbrev pub occupant_row : Draft → ℕ → Occupant → List ℕ
 occupant_row I x a =
-    numbered (codes "<tr class=o id=p") x (codes "><th>") a.id ++ (person_cells I a.gender a.age_group
+    numbered (codes "<tr class=o id=p") x (codes "><th>") a.id ++ (person_tds I a.gender a.age_group
     ++ (codes "<td>occupant" ++ bar_text I.days 0 a.length_of_stay))
 
 -- the row of patient p in room r, where its stay is there
@@ -85,27 +85,27 @@ head_count I P r d = count_below (person_count I) (is_present I P r d)
 unfoldable pub marked : ℕ → ℕ → List ℕ
 marked limit n = if nat_lt limit n then (codes " class=x>!" ++ decimal n) else (codes ">" ++ decimal n)
 
--- the place of a cell in the page: its letter, its row and its column
-unfoldable pub place_text : List ℕ → ℕ → ℕ → List ℕ
-place_text letter i j = letter ++ (decimal i ++ (codes "-" ++ decimal j))
+-- the anchor of a table's cell: a letter, its row and its column
+unfoldable pub anchor_text : List ℕ → ℕ → ℕ → List ℕ
+anchor_text letter i j = letter ++ (decimal i ++ (codes "-" ++ decimal j))
 
--- the begin of a cell that has a place
-unfoldable pub cell_at : List ℕ → ℕ → ℕ → List ℕ
-cell_at letter i j = codes "<td id=" ++ place_text letter i j
+-- the beginning of a table's cell that has an anchor
+unfoldable pub td_at : List ℕ → ℕ → ℕ → List ℕ
+td_at letter i j = codes "<td id=" ++ anchor_text letter i j
 
 -- how many are in a room on a day
-abbrev pub count_cell : Draft → Timetable → ℕ → ℕ → List ℕ
-count_cell I P r d = cell_at (codes "d") r d ++ marked (capacity_of I r) (head_count I P r d)
+abbrev pub count_td : Draft → Timetable → ℕ → ℕ → List ℕ
+count_td I P r d = td_at (codes "d") r d ++ marked (capacity_of I r) (head_count I P r d)
 
 -- the nurse of a room in a shift
-abbrev pub nurse_cell : Draft → Timetable → ℕ → ℕ → List ℕ
-nurse_cell I P r k = cell_at (codes "s") r k ++ (codes ">" ++ nurse_text I (care_of P r k))
+abbrev pub nurse_td : Draft → Timetable → ℕ → ℕ → List ℕ
+nurse_td I P r k = td_at (codes "s") r k ++ (codes ">" ++ nurse_name I (care_of P r k))
 
 -- a room's nurses in the shifts of type j, by days
 abbrev pub shift_row : Draft → Timetable → ℕ → ℕ → List ℕ
 shift_row I P r j =
-    codes "<tr><th>" ++ (shift_type_text I j ++ (codes "<td colspan=3>nurse"
-    ++ (lines_below I.days (λ d. nurse_cell I P r (3 * d + j)) ++ codes "\n")))
+    codes "<tr><th>" ++ (shift_type_name I j ++ (codes "<td colspan=3>nurse"
+    ++ (lines_below I.days (λ d. nurse_td I P r (3 * d + j)) ++ codes "\n")))
 
 -- a room's name and capacity
 unfoldable pub room_title : ℕ → Room → List ℕ
@@ -122,7 +122,7 @@ room_head I r a =
 
 -- how many are in a room, by days
 unfoldable pub count_row : Draft → Timetable → ℕ → List ℕ
-count_row I P r = codes "<tr><th>persons<td colspan=3>count" ++ (lines_below I.days (count_cell I P r) ++ codes "\n")
+count_row I P r = codes "<tr><th>persons<td colspan=3>count" ++ (lines_below I.days (count_td I P r) ++ codes "\n")
 
 -- who is in a room on some days: the occupants, then the patients
 unfoldable pub person_rows : Draft → Timetable → ℕ → List ℕ

@@ -57,9 +57,9 @@ cost_row i x w =
     line_head (codes "S") i (cost_name i) x
     ++ (codes "<td>" ++ (signed_decimal x ++ (codes "<td>" ++ product_text x w)))
 
-abbrev pub verdict_text : Bool → List ℕ
-verdict_text true = codes "<h1>Feasible timetable</h1>\n"
-verdict_text false = codes "<h1>Timetable that is not feasible</h1>\n"
+abbrev pub feasible_text : Bool → List ℕ
+feasible_text true = codes "<h1>Feasible timetable</h1>\n"
+feasible_text false = codes "<h1>Timetable that is not feasible</h1>\n"
 
 unfoldable pub rule_rows : Bill → List ℕ
 rule_rows b = lines_below 9 (λ i. rule_row i (at b.v i))
@@ -68,10 +68,10 @@ unfoldable pub cost_rows : Weights → Bill → List ℕ
 cost_rows w b = lines_below 8 (λ i. cost_row i (at b.s i) (at w.w i))
 
 -- whether the timetable is feasible, and its cost
-unfoldable pub verdict_of : Weights → Bill → List ℕ
-verdict_of w b = verdict_text (feasible b) ++ (codes "<p>Cost " ++ (signed_decimal (cost w b) ++ codes "</p>\n"))
+unfoldable pub headline : Weights → Bill → List ℕ
+headline w b = feasible_text (feasible b) ++ (codes "<p>Cost " ++ (signed_decimal (cost w b) ++ codes "</p>\n"))
 
 unfoldable pub summary : Weights → Bill → List ℕ
 summary w b =
-    verdict_of w b ++ (codes "<table class=s><tr><th>line<th>what it counts<th>number<th>weight<th>product\n"
+    headline w b ++ (codes "<table class=s><tr><th>line<th>what it counts<th>number<th>weight<th>product\n"
     ++ (rule_rows b ++ (cost_rows w b ++ codes "</table>\n")))

@@ -10,49 +10,49 @@ use Rattle.ih_plan.specs.Costs.{duration_of}
 use Rattle.ih_plan.specs.Sums.{sum_below}
 use Rattle.ih_validate.specs.Report.{lines_below}
 use Rattle.ih_validate.specs.Surgery.{count_of, has_surgery, limit_of, one_of}
-use Rattle.ih_validate.specs.declared.surgery.Kind.{Kind}
-use Rattle.ih_validate.specs.declared.surgery.Kind.TheVariants.{Theatres, Surgeons}
-use Rattle.ih_validate.specs.declared.surgery.Whose.{Whose}
-use Rattle.ih_validate.specs.declared.surgery.Whose.TheVariants.{OfTheatre, OfSurgeon}
+use Rattle.ih_validate.specs.declared.surgery.ResourceKind.{ResourceKind}
+use Rattle.ih_validate.specs.declared.surgery.ResourceKind.TheVariants.{Theatres, Surgeons}
+use Rattle.ih_validate.specs.declared.surgery.Resource.{Resource}
+use Rattle.ih_validate.specs.declared.surgery.Resource.TheVariants.{OfTheatre, OfSurgeon}
 use Rattle.ih_page.specs.Html.{escaped, numbered}
-use Rattle.ih_page.specs.Rooms.{theatre_text, marked, cell_at, heads_and_days}
+use Rattle.ih_page.specs.Rooms.{theatre_name, marked, td_at, heads_and_days}
 
 -- the minutes of patient p's surgery, where it is there on day d
-abbrev pub minutes_of : Draft → Timetable → Whose → ℕ → ℕ → ℕ
+abbrev pub minutes_of : Draft → Timetable → Resource → ℕ → ℕ → ℕ
 minutes_of I P w d p = if has_surgery I P w d p then duration_of I p else 0
 
 -- the minutes of surgery of a day
-abbrev pub planned : Draft → Timetable → Whose → ℕ → ℕ
+abbrev pub planned : Draft → Timetable → Resource → ℕ → ℕ
 planned I P w d = sum_below (patient_count I) (minutes_of I P w d)
 
-abbrev pub letter_of : Whose → List ℕ
+abbrev pub letter_of : Resource → List ℕ
 letter_of (OfTheatre t) = codes "t"
 letter_of (OfSurgeon s) = codes "g"
 
-abbrev pub number_of : Whose → ℕ
+abbrev pub number_of : Resource → ℕ
 number_of (OfTheatre t) = t.0
 number_of (OfSurgeon s) = s.0
 
 -- the name of a surgeon
-abbrev pub surgeon_text : Draft → ℕ → List ℕ
-surgeon_text I s = option_map_or (λ (a : Surgeon). escaped a.id) (slice_get I.surgeons s) []
+abbrev pub surgeon_name : Draft → ℕ → List ℕ
+surgeon_name I s = option_map_or (λ (a : Surgeon). escaped a.id) (slice_get I.surgeons s) []
 
-abbrev pub whose_text : Draft → Whose → List ℕ
-whose_text I (OfTheatre t) = theatre_text I t.0
-whose_text I (OfSurgeon s) = surgeon_text I s.0
+abbrev pub resource_name : Draft → Resource → List ℕ
+resource_name I (OfTheatre t) = theatre_name I t.0
+resource_name I (OfSurgeon s) = surgeon_name I s.0
 
 -- how much of its limit a number is, in percent up to 100
-abbrev pub share : ℕ → ℕ → ℕ
-share limit n = if limit == 0 then 100 else min 100 (100 * n / limit)
+abbrev pub percent_of : ℕ → ℕ → ℕ
+percent_of limit n = if limit == 0 then 100 else min 100 (100 * n / limit)
 
 -- so many percent, as a bar
-unfoldable pub share_text : ℕ → List ℕ
-share_text percent = codes "<i style=width:" ++ (decimal percent ++ codes "%></i>")
+unfoldable pub percent_text : ℕ → List ℕ
+percent_text percent = codes "<i style=width:" ++ (decimal percent ++ codes "%></i>")
 
 -- minutes, as a number of the limit and as a bar
 unfoldable pub minutes_text : ℕ → ℕ → List ℕ
 minutes_text limit n =
-    marked limit n ++ (codes "/" ++ (decimal limit ++ share_text (share limit n)))
+    marked limit n ++ (codes "/" ++ (decimal limit ++ percent_text (percent_of limit n)))
 
 -- a patient's name, which leads to its row
 unfoldable pub name_link : ℕ → Patient → List ℕ
@@ -62,26 +62,26 @@ abbrev pub patient_link : Draft → ℕ → List ℕ
 patient_link I p = option_map_or (name_link p) (slice_get I.patients p) []
 
 -- patient p's name, where it has surgery there on day d
-abbrev pub operation : Draft → Timetable → Whose → ℕ → ℕ → List ℕ
+abbrev pub operation : Draft → Timetable → Resource → ℕ → ℕ → List ℕ
 operation I P w d p = if has_surgery I P w d p then patient_link I p else []
 
 -- the minutes of a day and its patients, and nothing on a day without surgery
-abbrev pub surgery_of : Draft → Timetable → Whose → ℕ → ℕ → List ℕ
+abbrev pub surgery_of : Draft → Timetable → Resource → ℕ → ℕ → List ℕ
 surgery_of I P w d n =
     if n == 0 then codes ">" else (minutes_text (limit_of I w d) n ++ lines_below (patient_count I) (operation I P w d))
 
-unfoldable pub surgery_cell : Draft → Timetable → Whose → ℕ → List ℕ
-surgery_cell I P w d = cell_at (letter_of w) (number_of w) d ++ surgery_of I P w d (planned I P w d)
+unfoldable pub surgery_td : Draft → Timetable → Resource → ℕ → List ℕ
+surgery_td I P w d = td_at (letter_of w) (number_of w) d ++ surgery_of I P w d (planned I P w d)
 
-unfoldable pub surgery_row : Draft → Timetable → Whose → List ℕ
-surgery_row I P w = codes "<tr><th>" ++ (whose_text I w ++ (lines_below I.days (surgery_cell I P w) ++ codes "\n"))
+unfoldable pub surgery_row : Draft → Timetable → Resource → List ℕ
+surgery_row I P w = codes "<tr><th>" ++ (resource_name I w ++ (lines_below I.days (surgery_td I P w) ++ codes "\n"))
 
-abbrev pub heads_of : Kind → List ℕ
+abbrev pub heads_of : ResourceKind → List ℕ
 heads_of Theatres = codes "<h2>Theatres by days, in minutes</h2>\n<div><table><tr><th>theatre"
 heads_of Surgeons = codes "<h2>Surgeons by days, in minutes</h2>\n<div><table><tr><th>surgeon"
 
 -- the table of the theatres, or of the surgeons
-unfoldable pub surgery_text : Draft → Timetable → Kind → List ℕ
+unfoldable pub surgery_text : Draft → Timetable → ResourceKind → List ℕ
 surgery_text I P kind =
     heads_and_days I (heads_of kind) (codes "<th>")
     ++ (lines_below (count_of I kind) (λ i. surgery_row I P (one_of kind i)) ++ codes "</table></div>\n")

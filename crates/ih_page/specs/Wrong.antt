@@ -15,7 +15,7 @@ use Rattle.ih_plan.specs.Sums.{listed}
 use Rattle.ih_validate.specs.Report.{lines_below}
 use Rattle.ih_page.specs.declared.bill_lines.Line.{Line}
 use Rattle.ih_page.specs.declared.bill_lines.Line.TheVariants.{Rule, Cost}
-use Rattle.ih_page.specs.CellNames.{cell_place, cell_text}
+use Rattle.ih_page.specs.CellNames.{cell_anchor, cell_text}
 use Rattle.ih_page.specs.BillLines.{number_in, count_in, short_name, full_name, fold_text, amount_text}
 use Rattle.ih_page.specs.Order.{dearest_first}
 
@@ -33,9 +33,9 @@ abbrev pub is_early : Draft → Timetable → Cell → Bool
 is_early I P (Stay p) = before_release I p.0 (stay_of P p.0)
 is_early I P c = false
 
--- a cell's name, which leads to its place
+-- a cell's name, which leads to its anchor
 unfoldable pub cell_link : Draft → Cell → List ℕ
-cell_link I c = codes "<li><a href=#" ++ (cell_place c ++ (codes ">" ++ (cell_text I c ++ codes "</a>: ")))
+cell_link I c = codes "<li><a href=#" ++ (cell_anchor c ++ (codes ">" ++ (cell_text I c ++ codes "</a>: ")))
 
 -- a cell and its amount
 unfoldable pub item : Draft → Timetable → Line → Cell → ℕ → List ℕ

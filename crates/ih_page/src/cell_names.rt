@@ -1,34 +1,34 @@
 //! What a cell is called, and where it stands in the page.
 
 ghost use Rattle.std.specs.Prelude.{◌≡◌, ◌<◌, ◌++◌, OnOk};
-ghost use Rattle.ih_tables.specs.Sizes.{person_count, room_count, surgeon_count, shift_count};
+ghost use Rattle.ih_tables.specs.Sizes.{person_count, room_count, surgeon_count};
 ghost use Rattle.ih_plan.specs.Cells.{IsCellOf};
-ghost use Rattle.ih_page.specs.Surgery.{surgeon_text};
-ghost use Rattle.ih_page.specs.CellNames.{cell_place, person_text, room_called, shift_text, cell_text};
+ghost use Rattle.ih_page.specs.Surgery.{surgeon_name};
+ghost use Rattle.ih_page.specs.CellNames.{cell_anchor, person_name, room_name, shift_name, cell_text};
 
-use crate::names::{put_nurse, put_place, put_shift_type, put_theatre};
+use crate::names::{put_anchor, put_nurse, put_shift_type, put_theatre};
 use crate::texts::{Put, put, put_escaped, put_labelled};
 use ih_tables::{Cell, Instance, PatientNo, RoomNo, SurgeonNo};
 
-/// Appends the place of a cell in the page.
-pub fn put_cell_place(out: &mut Vec<u8>, c: Cell) -> Put
-    ensures { OnOk result (out.new.items ≡ out.old.items ++ cell_place c) }
+/// Appends the anchor of a cell of the timetable.
+pub fn put_cell_anchor(out: &mut Vec<u8>, c: Cell) -> Put
+    ensures { OnOk result (out.new.items ≡ out.old.items ++ cell_anchor c) }
 {
     match c {
         Cell::Stay(p) => put_labelled(out, "p", p.0),
-        Cell::RoomDay(r, d) => put_place(out, "d", r.0, d.0),
-        Cell::TheatreDay(t, d) => put_place(out, "t", t.0, d.0),
-        Cell::SurgeonDay(s, d) => put_place(out, "g", s.0, d.0),
-        Cell::RoomShift(r, k) => put_place(out, "s", r.0, k.0),
-        Cell::NurseShift(n, k) => put_place(out, "n", n.0, k.0),
+        Cell::RoomDay(r, d) => put_anchor(out, "d", r.0, d.0),
+        Cell::TheatreDay(t, d) => put_anchor(out, "t", t.0, d.0),
+        Cell::SurgeonDay(s, d) => put_anchor(out, "g", s.0, d.0),
+        Cell::RoomShift(r, k) => put_anchor(out, "s", r.0, k.0),
+        Cell::NurseShift(n, k) => put_anchor(out, "n", n.0, k.0),
         Cell::Care(x) => put_labelled(out, "p", x.0),
     }
 }
 
-#[tactic(auto, unfolding(crate::specs::CellNames::person_text))]
+#[tactic(auto, unfolding(crate::specs::CellNames::person_name))]
 fn put_person(out: &mut Vec<u8>, inst: &Instance, x: u32) -> Put
     requires { x < person_count inst.now.draft }
-    ensures { OnOk result (out.new.items ≡ out.old.items ++ person_text inst.now.draft x) }
+    ensures { OnOk result (out.new.items ≡ out.old.items ++ person_name inst.now.draft x) }
 {
     let patients = inst.patients();
     if x < patients {
@@ -40,10 +40,10 @@ fn put_person(out: &mut Vec<u8>, inst: &Instance, x: u32) -> Put
     }
 }
 
-#[tactic(auto, unfolding(crate::specs::CellNames::room_called))]
+#[tactic(auto, unfolding(crate::specs::CellNames::room_name))]
 fn put_room(out: &mut Vec<u8>, inst: &Instance, r: RoomNo) -> Put
     requires { r.0 < room_count inst.now.draft }
-    ensures { OnOk result (out.new.items ≡ out.old.items ++ room_called inst.now.draft r.0) }
+    ensures { OnOk result (out.new.items ≡ out.old.items ++ room_name inst.now.draft r.0) }
 {
     put(out, "room ")?;
     put_escaped(out, inst.room(r).id.as_str())
@@ -51,14 +51,14 @@ fn put_room(out: &mut Vec<u8>, inst: &Instance, r: RoomNo) -> Put
 
 fn put_surgeon(out: &mut Vec<u8>, inst: &Instance, s: SurgeonNo) -> Put
     requires { s.0 < surgeon_count inst.now.draft }
-    ensures { OnOk result (out.new.items ≡ out.old.items ++ surgeon_text inst.now.draft s.0) }
+    ensures { OnOk result (out.new.items ≡ out.old.items ++ surgeon_name inst.now.draft s.0) }
 {
     put_escaped(out, inst.surgeon(s).id.as_str())
 }
 
-#[tactic(auto, unfolding(crate::specs::CellNames::shift_text))]
+#[tactic(auto, unfolding(crate::specs::CellNames::shift_name))]
 fn put_shift(out: &mut Vec<u8>, inst: &Instance, k: u32) -> Put
-    ensures { OnOk result (out.new.items ≡ out.old.items ++ shift_text inst.now.draft k) }
+    ensures { OnOk result (out.new.items ≡ out.old.items ++ shift_name inst.now.draft k) }
 {
     put_labelled(out, ", day ", k / 3)?;
     put(out, ", ")?;

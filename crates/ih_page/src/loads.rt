@@ -1,7 +1,7 @@
 //! The workload of a nurse in a shift.
 
 ghost use Rattle.std.specs.Prelude.{◌≡◌, ◌<◌, ◌≤◌, ◌*◌, if◌then◌else◌, sum_by};
-ghost use Rattle.ih_tables.specs.Sizes.{person_count, room_count, shift_count, nurse_count};
+ghost use Rattle.ih_tables.specs.Sizes.{person_count, room_count, shift_count};
 ghost use Rattle.ih_plan.specs.Presence.{is_present, workload_of, present, day_of};
 ghost use Rattle.ih_plan.specs.{Timetable.IsPlanOf, Timetable.care_of, Costs.is_number, Costs.load_of};
 

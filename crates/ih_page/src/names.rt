@@ -2,14 +2,14 @@
 
 ghost use Rattle.std.specs.Prelude.{◌≡◌, ◌<◌, ◌++◌, OnOk, option_map, IfSome};
 ghost use Rattle.ih_tables.specs.{declared.ids.NurseNo.NurseNo, Sizes.nurse_count, Sizes.theatre_count};
-ghost use Rattle.ih_page.specs.Rooms.{age_text, theatre_text, shift_type_text, nurse_text, marked, place_text, cell_at};
+ghost use Rattle.ih_page.specs.Rooms.{age_name, theatre_name, shift_type_name, nurse_name, marked, anchor_text, td_at};
 
 use crate::texts::{Put, put, put_escaped, put_number};
 use ih_tables::{Instance, NurseNo, TheatreNo};
 
 /// Appends the name of an age group.
 pub fn put_age(out: &mut Vec<u8>, inst: &Instance, g: u32) -> Put
-    ensures { OnOk result (out.new.items ≡ out.old.items ++ age_text inst.now.draft g) }
+    ensures { OnOk result (out.new.items ≡ out.old.items ++ age_name inst.now.draft g) }
 {
     match inst.draft.age_groups.as_slice().get(g as usize) {
         None => Ok(()),
@@ -18,10 +18,10 @@ pub fn put_age(out: &mut Vec<u8>, inst: &Instance, g: u32) -> Put
 }
 
 /// Appends the name of a shift type.
-#[tactic(auto, unfolding(crate::specs::Rooms::shift_type_text))]
+#[tactic(auto, unfolding(crate::specs::Rooms::shift_type_name))]
 pub fn put_shift_type(out: &mut Vec<u8>, inst: &Instance, j: u32) -> Put
     requires { j < 3 }
-    ensures { OnOk result (out.new.items ≡ out.old.items ++ shift_type_text inst.now.draft j) }
+    ensures { OnOk result (out.new.items ≡ out.old.items ++ shift_type_name inst.now.draft j) }
 {
     put_escaped(out, inst.shift_type(j).as_str())
 }
@@ -29,7 +29,7 @@ pub fn put_shift_type(out: &mut Vec<u8>, inst: &Instance, j: u32) -> Put
 /// Appends the name of a theatre.
 pub fn put_theatre(out: &mut Vec<u8>, inst: &Instance, t: TheatreNo) -> Put
     requires { t.0 < theatre_count inst.now.draft }
-    ensures { OnOk result (out.new.items ≡ out.old.items ++ theatre_text inst.now.draft t.0) }
+    ensures { OnOk result (out.new.items ≡ out.old.items ++ theatre_name inst.now.draft t.0) }
 {
     put_escaped(out, inst.theatre(t).id.as_str())
 }
@@ -38,7 +38,7 @@ pub fn put_theatre(out: &mut Vec<u8>, inst: &Instance, t: TheatreNo) -> Put
 pub fn put_nurse(out: &mut Vec<u8>, inst: &Instance, n: Option<NurseNo>) -> Put
     requires { IfSome n (λ a. a.0 < nurse_count inst.now.draft) }
     ensures { OnOk result
-        (out.new.items ≡ out.old.items ++ nurse_text inst.now.draft (option_map (λ (a : NurseNo). a.0) n)) }
+        (out.new.items ≡ out.old.items ++ nurse_name inst.now.draft (option_map (λ (a : NurseNo). a.0) n)) }
 {
     match n {
         None => put(out, "-"),
@@ -46,10 +46,10 @@ pub fn put_nurse(out: &mut Vec<u8>, inst: &Instance, n: Option<NurseNo>) -> Put
     }
 }
 
-/// Appends the place of a cell.
-#[tactic(auto, unfolding(crate::specs::Rooms::place_text))]
-pub fn put_place(out: &mut Vec<u8>, letter: &str, i: u32, j: u32) -> Put
-    ensures { OnOk result (out.new.items ≡ out.old.items ++ place_text letter.now i j) }
+/// Appends an anchor.
+#[tactic(auto, unfolding(crate::specs::Rooms::anchor_text))]
+pub fn put_anchor(out: &mut Vec<u8>, letter: &str, i: u32, j: u32) -> Put
+    ensures { OnOk result (out.new.items ≡ out.old.items ++ anchor_text letter.now i j) }
 {
     put(out, letter)?;
     put_number(out, i as u64)?;
@@ -57,13 +57,13 @@ pub fn put_place(out: &mut Vec<u8>, letter: &str, i: u32, j: u32) -> Put
     put_number(out, j as u64)
 }
 
-/// Appends the begin of a cell that has a place.
-#[tactic(auto, unfolding(crate::specs::Rooms::cell_at))]
-pub fn put_cell_at(out: &mut Vec<u8>, letter: &str, i: u32, j: u32) -> Put
-    ensures { OnOk result (out.new.items ≡ out.old.items ++ cell_at letter.now i j) }
+/// Appends the beginning of a table's cell that has an anchor.
+#[tactic(auto, unfolding(crate::specs::Rooms::td_at))]
+pub fn put_td_at(out: &mut Vec<u8>, letter: &str, i: u32, j: u32) -> Put
+    ensures { OnOk result (out.new.items ≡ out.old.items ++ td_at letter.now i j) }
 {
     put(out, "<td id=")?;
-    put_place(out, letter, i, j)
+    put_anchor(out, letter, i, j)
 }
 
 /// Appends a number, with a mark where it is above its limit.

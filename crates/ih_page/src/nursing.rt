@@ -2,11 +2,11 @@
 
 ghost use Rattle.std.specs.Prelude.{◌≡◌, ◌<◌, ◌++◌, OnOk};
 ghost use Rattle.ih_tables.specs.Sizes.{nurse_count, shift_count};
-ghost use Rattle.ih_page.specs.Nursing.{load_text, load_cell, nurse_head, nurse_row, nurses_text};
+ghost use Rattle.ih_page.specs.Nursing.{load_text, load_td, nurse_head, nurse_row, nurses_text};
 
 use crate::loads::load_of;
 use crate::loops::put_below;
-use crate::names::{put_cell_at, put_marked};
+use crate::names::{put_marked, put_td_at};
 use crate::rooms::put_heads_and_days;
 use crate::shown::Shown;
 use crate::texts::{Put, put, put_escaped, put_number};
@@ -33,12 +33,12 @@ fn put_load(out: &mut Vec<u8>, most: Option<u32>, load: u64) -> Put
     }
 }
 
-fn put_cell(out: &mut Vec<u8>, shown: &Shown<'_>, n: u32, k: u32) -> Put
+fn put_td(out: &mut Vec<u8>, shown: &Shown<'_>, n: u32, k: u32) -> Put
     requires nurse { n < nurse_count shown.now.inst.now.draft }
     requires shift { k < shift_count shown.now.inst.now.draft }
-    ensures { OnOk result (out.new.items ≡ out.old.items ++ load_cell shown.now.inst.now.draft shown.now.plan.now n k) }
+    ensures { OnOk result (out.new.items ≡ out.old.items ++ load_td shown.now.inst.now.draft shown.now.plan.now n k) }
 {
-    put_cell_at(out, "n", n, k)?;
+    put_td_at(out, "n", n, k)?;
     put_load(
         out,
         shown.inst.works(NurseNo(n), Shift(k)),
@@ -62,11 +62,7 @@ fn put_row(out: &mut Vec<u8>, shown: &Shown<'_>, n: u32) -> Put
     ensures { OnOk result (out.new.items ≡ out.old.items ++ nurse_row shown.now.inst.now.draft shown.now.plan.now n) }
 {
     put_head(out, shown.inst.nurse(NurseNo(n)))?;
-    put_below(
-        out,
-        shown.inst.shifts(),
-        |out, k| put_cell(out, shown, n, k),
-    )?;
+    put_below(out, shown.inst.shifts(), |out, k| put_td(out, shown, n, k))?;
     put(out, "\n")
 }
 

@@ -15,7 +15,7 @@ use crate::wrong::put_wrong;
 use ih_costs::Ledgers;
 use ih_plan::Plan;
 use ih_tables::Instance;
-use ih_validate::{Kind, bill};
+use ih_validate::{ResourceKind, bill};
 use std::alloc::{AllocError, Global};
 
 #[tactic(auto, unfolding(crate::specs::Page::opening))]
@@ -56,8 +56,8 @@ fn put_tables(out: &mut Vec<u8>, shown: &Shown<'_>) -> Put
 {
     put_left_out(out, shown)?;
     put_rooms(out, shown)?;
-    put_surgery_of(out, shown, Kind::Theatres)?;
-    put_surgery_of(out, shown, Kind::Surgeons)?;
+    put_surgery_of(out, shown, ResourceKind::Theatres)?;
+    put_surgery_of(out, shown, ResourceKind::Surgeons)?;
     put_nurses(out, shown)
 }
 

@@ -1,7 +1,6 @@
 //! Who is in a room on a day.
 
-ghost use Rattle.std.specs.Prelude.{◌≡◌, ◌<◌};
-ghost use Rattle.ih_tables.specs.Sizes.{person_count};
+ghost use Rattle.std.specs.Prelude.{◌≡◌};
 ghost use Rattle.ih_plan.specs.{Timetable.IsPlanOf, Presence.is_present};
 ghost use Rattle.ih_page.specs.Rooms.{head_count};
 

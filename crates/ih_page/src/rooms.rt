@@ -1,25 +1,24 @@
 //! Rooms by days.
 
-ghost use Rattle.std.specs.Prelude.{◌≡◌, ◌<◌, ◌+◌, ◌*◌, ◌++◌, [], OnOk, slice_get};
-ghost use Rattle.std.specs.Option.{option_map_or};
+ghost use Rattle.std.specs.Prelude.{◌≡◌, ◌<◌, ◌+◌, ◌*◌, ◌++◌, OnOk};
 ghost use Rattle.ih_tables.specs.Sizes.{patient_count, occupant_count, room_count, shift_count};
 ghost use Rattle.ih_plan.specs.Timetable.{IsPlacement, stay_of};
-ghost use Rattle.ih_page.specs.Rooms.{wide_cell, gap_text, bar_cell, bar_text, person_cells, patient_row, occupant_row};
-ghost use Rattle.ih_page.specs.Rooms.{patient_in, occupant_in, count_cell, nurse_cell, shift_row};
+ghost use Rattle.ih_page.specs.Rooms.{wide_td, gap_text, bar_td, bar_text, person_tds, patient_row, occupant_row};
+ghost use Rattle.ih_page.specs.Rooms.{patient_in, occupant_in, count_td, nurse_td, shift_row};
 ghost use Rattle.ih_page.specs.Rooms.{heads_and_days, room_title, room_head, count_row, person_rows, room_text};
 ghost use Rattle.ih_page.specs.Rooms.{rooms_text};
 
 use crate::loops::put_below;
-use crate::names::{put_age, put_cell_at, put_marked, put_nurse, put_shift_type, put_theatre};
+use crate::names::{put_age, put_marked, put_nurse, put_shift_type, put_td_at, put_theatre};
 use crate::presence::head_count;
 use crate::shown::Shown;
 use crate::texts::{Put, put, put_escaped, put_labelled, put_numbered};
 use ih_plan::Placement;
 use ih_tables::{Instance, Occupant, Patient, PatientNo, Room, RoomNo, Shift};
 
-#[tactic(auto, unfolding(crate::specs::Rooms::wide_cell))]
+#[tactic(auto, unfolding(crate::specs::Rooms::wide_td))]
 fn put_wide(out: &mut Vec<u8>, n: u32) -> Put
-    ensures { OnOk result (out.new.items ≡ out.old.items ++ wide_cell n) }
+    ensures { OnOk result (out.new.items ≡ out.old.items ++ wide_td n) }
 {
     put_labelled(out, "<td colspan=", n)?;
     put(out, ">")
@@ -31,9 +30,9 @@ fn put_gap(out: &mut Vec<u8>, d: u32) -> Put
     if d == 0 { Ok(()) } else { put_wide(out, d) }
 }
 
-#[tactic(auto, unfolding(crate::specs::Rooms::bar_cell))]
-fn put_bar_cell(out: &mut Vec<u8>, m: u32, n: u32) -> Put
-    ensures { OnOk result (out.new.items ≡ out.old.items ++ bar_cell m n) }
+#[tactic(auto, unfolding(crate::specs::Rooms::bar_td))]
+fn put_bar_td(out: &mut Vec<u8>, m: u32, n: u32) -> Put
+    ensures { OnOk result (out.new.items ≡ out.old.items ++ bar_td m n) }
 {
     put_labelled(out, "<td class=b colspan=", m)?;
     put_labelled(out, ">", n)?;
@@ -45,12 +44,12 @@ fn put_bar(out: &mut Vec<u8>, days: u32, d: u32, n: u32) -> Put
     ensures { OnOk result (out.new.items ≡ out.old.items ++ bar_text days d n) }
 {
     put_gap(out, d)?;
-    put_bar_cell(out, n.min(days.saturating_sub(d)), n)
+    put_bar_td(out, n.min(days.saturating_sub(d)), n)
 }
 
-#[tactic(auto, unfolding(crate::specs::Rooms::person_cells))]
+#[tactic(auto, unfolding(crate::specs::Rooms::person_tds))]
 fn put_person(out: &mut Vec<u8>, inst: &Instance, gender: &str, age: u32) -> Put
-    ensures { OnOk result (out.new.items ≡ out.old.items ++ person_cells inst.now.draft gender.now age) }
+    ensures { OnOk result (out.new.items ≡ out.old.items ++ person_tds inst.now.draft gender.now age) }
 {
     put(out, "<td>")?;
     put_escaped(out, gender)?;
@@ -110,9 +109,9 @@ fn put_occupant_in(out: &mut Vec<u8>, inst: &Instance, r: u32, o: u32) -> Put
 fn put_count(out: &mut Vec<u8>, shown: &Shown<'_>, r: u32, d: u32) -> Put
     requires room { r < room_count shown.now.inst.now.draft }
     ensures { OnOk result
-        (out.new.items ≡ out.old.items ++ count_cell shown.now.inst.now.draft shown.now.plan.now r d) }
+        (out.new.items ≡ out.old.items ++ count_td shown.now.inst.now.draft shown.now.plan.now r d) }
 {
-    put_cell_at(out, "d", r, d)?;
+    put_td_at(out, "d", r, d)?;
     put_marked(
         out,
         shown.inst.room(RoomNo(r)).capacity as u64,
@@ -124,9 +123,9 @@ fn put_care(out: &mut Vec<u8>, shown: &Shown<'_>, r: u32, k: u32) -> Put
     requires room { r < room_count shown.now.inst.now.draft }
     requires shift { k < shift_count shown.now.inst.now.draft }
     ensures { OnOk result
-        (out.new.items ≡ out.old.items ++ nurse_cell shown.now.inst.now.draft shown.now.plan.now r k) }
+        (out.new.items ≡ out.old.items ++ nurse_td shown.now.inst.now.draft shown.now.plan.now r k) }
 {
-    put_cell_at(out, "s", r, k)?;
+    put_td_at(out, "s", r, k)?;
     put(out, ">")?;
     put_nurse(out, shown.inst, shown.plan.care(RoomNo(r), Shift(k)))
 }

@@ -1,10 +1,8 @@
 //! The head of a page.
 
-ghost use Rattle.std.specs.Prelude.{◌≡◌, ◌<◌, ◌≤◌, ◌≤ℤ◌, ◌^◌, ◌++◌, ℕ, pos, neg_ℤ, OnOk, length};
-ghost use Rattle.ih_tables.specs.Bills.{at, AreWithin};
-ghost use Rattle.ih_validate.specs.Report.{lines_below};
+ghost use Rattle.std.specs.Prelude.{◌≡◌, ◌<◌, ◌≤◌, ◌≤ℤ◌, ◌^◌, ◌++◌, pos, neg_ℤ, OnOk};
 ghost use Rattle.ih_page.specs.Summary.{rule_name, cost_name, line_text, line_link, line_name, line_head, product_text};
-ghost use Rattle.ih_page.specs.Summary.{hard_text, rule_row, cost_row, rule_rows, cost_rows, verdict_text, verdict_of};
+ghost use Rattle.ih_page.specs.Summary.{hard_text, rule_row, cost_row, rule_rows, cost_rows, feasible_text, headline};
 ghost use Rattle.ih_page.specs.Summary.{summary};
 
 use crate::shown::Shown;
@@ -159,8 +157,8 @@ fn put_costs(out: &mut Vec<u8>, shown: &Shown<'_>) -> Put
     Ok(())
 }
 
-fn verdict_text(feasible: bool) -> &'static str
-    ensures { result.now ≡ verdict_text feasible }
+fn feasible_text(feasible: bool) -> &'static str
+    ensures { result.now ≡ feasible_text feasible }
 {
     if feasible {
         "<h1>Feasible timetable</h1>\n"
@@ -169,12 +167,12 @@ fn verdict_text(feasible: bool) -> &'static str
     }
 }
 
-#[tactic(auto, unfolding(crate::specs::Summary::verdict_of))]
+#[tactic(auto, unfolding(crate::specs::Summary::headline))]
 fn put_verdict(out: &mut Vec<u8>, shown: &Shown<'_>) -> Put
     ensures { OnOk result
-        (out.new.items ≡ out.old.items ++ verdict_of shown.now.inst.now.draft.weights shown.now.bill.now) }
+        (out.new.items ≡ out.old.items ++ headline shown.now.inst.now.draft.weights shown.now.bill.now) }
 {
-    put(out, verdict_text(shown.bill.feasible()))?;
+    put(out, feasible_text(shown.bill.feasible()))?;
     put(out, "<p>Cost ")?;
     put_signed(out, shown.bill.cost(shown.inst.weights()))?;
     put(out, "</p>\n")

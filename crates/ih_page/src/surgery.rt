@@ -1,22 +1,22 @@
 //! Theatres and surgeons by days.
 
 ghost use Rattle.std.specs.Prelude.{◌≡◌, ◌<◌, ◌≤◌, ◌*◌, ◌++◌, OnOk};
-ghost use Rattle.ih_tables.specs.Sizes.{patient_count, theatre_count, surgeon_count};
-ghost use Rattle.ih_validate.specs.Surgery.{IsWhoseOf};
-ghost use Rattle.ih_page.specs.Surgery.{minutes_of, planned, letter_of, number_of, whose_text, heads_of, surgery_text};
-ghost use Rattle.ih_page.specs.Surgery.{share, share_text, name_link, minutes_text, patient_link, operation};
-ghost use Rattle.ih_page.specs.Surgery.{surgery_of, surgery_cell, surgery_row};
+ghost use Rattle.ih_tables.specs.Sizes.{patient_count};
+ghost use Rattle.ih_validate.specs.Surgery.{IsResourceOf};
+ghost use Rattle.ih_page.specs.Surgery.{minutes_of, planned, letter_of, number_of, resource_name, heads_of, surgery_text};
+ghost use Rattle.ih_page.specs.Surgery.{percent_of, percent_text, name_link, minutes_text, patient_link, operation};
+ghost use Rattle.ih_page.specs.Surgery.{surgery_of, surgery_td, surgery_row};
 
 use crate::loops::put_below;
-use crate::names::{put_cell_at, put_marked, put_theatre};
+use crate::names::{put_marked, put_td_at, put_theatre};
 use crate::rooms::put_heads_and_days;
 use crate::shown::Shown;
 use crate::texts::{Put, put, put_escaped, put_number, put_numbered};
 use ih_tables::{Instance, Patient, PatientNo};
-use ih_validate::{Kind, Whose, count_of, has_surgery, limit_of, one_of};
+use ih_validate::{Resource, ResourceKind, count_of, has_surgery, limit_of, one_of};
 
 // The minutes of the patient's surgery, where it is there on the day.
-fn minutes_of(shown: &Shown<'_>, w: Whose, d: u32, p: u32) -> u64
+fn minutes_of(shown: &Shown<'_>, w: Resource, d: u32, p: u32) -> u64
     requires patient { p < patient_count shown.now.inst.now.draft }
     ensures value { result ≡ minutes_of shown.now.inst.now.draft shown.now.plan.now w d p }
     ensures bound { result ≤ 4294967296 }
@@ -30,7 +30,7 @@ fn minutes_of(shown: &Shown<'_>, w: Whose, d: u32, p: u32) -> u64
 
 // The minutes of surgery of a day.
 #[tactic(auto, using(ih_plan::proofs::SumLemmas::sum_steps))]
-fn planned(shown: &Shown<'_>, w: Whose, d: u32) -> u64
+fn planned(shown: &Shown<'_>, w: Resource, d: u32) -> u64
     ensures sum { result ≡ planned shown.now.inst.now.draft shown.now.plan.now w d }
     ensures bound { result ≤ 4294967296 * 2048 }
 {
@@ -41,37 +41,37 @@ fn planned(shown: &Shown<'_>, w: Whose, d: u32) -> u64
     sum
 }
 
-fn letter_of(w: Whose) -> &'static str
+fn letter_of(w: Resource) -> &'static str
     ensures { result.now ≡ letter_of w }
 {
     match w {
-        Whose::OfTheatre(_) => "t",
-        Whose::OfSurgeon(_) => "g",
+        Resource::OfTheatre(_) => "t",
+        Resource::OfSurgeon(_) => "g",
     }
 }
 
-fn number_of(w: Whose) -> u32
+fn number_of(w: Resource) -> u32
     ensures { result ≡ number_of w }
 {
     match w {
-        Whose::OfTheatre(t) => t.0,
-        Whose::OfSurgeon(s) => s.0,
+        Resource::OfTheatre(t) => t.0,
+        Resource::OfSurgeon(s) => s.0,
     }
 }
 
-fn put_whose(out: &mut Vec<u8>, inst: &Instance, w: Whose) -> Put
-    requires { IsWhoseOf inst.now.draft w }
-    ensures { OnOk result (out.new.items ≡ out.old.items ++ whose_text inst.now.draft w) }
+fn put_resource(out: &mut Vec<u8>, inst: &Instance, w: Resource) -> Put
+    requires { IsResourceOf inst.now.draft w }
+    ensures { OnOk result (out.new.items ≡ out.old.items ++ resource_name inst.now.draft w) }
 {
     match w {
-        Whose::OfTheatre(t) => put_theatre(out, inst, t),
-        Whose::OfSurgeon(s) => put_escaped(out, inst.surgeon(s).id.as_str()),
+        Resource::OfTheatre(t) => put_theatre(out, inst, t),
+        Resource::OfSurgeon(s) => put_escaped(out, inst.surgeon(s).id.as_str()),
     }
 }
 
-fn share(limit: u64, n: u64) -> u64
+fn percent_of(limit: u64, n: u64) -> u64
     requires { n ≤ 4294967296 * 2048 }
-    ensures { result ≡ share limit n }
+    ensures { result ≡ percent_of limit n }
 {
     if limit == 0 {
         100
@@ -80,9 +80,9 @@ fn share(limit: u64, n: u64) -> u64
     }
 }
 
-#[tactic(auto, unfolding(crate::specs::Surgery::share_text))]
+#[tactic(auto, unfolding(crate::specs::Surgery::percent_text))]
 fn put_share(out: &mut Vec<u8>, percent: u64) -> Put
-    ensures { OnOk result (out.new.items ≡ out.old.items ++ share_text percent) }
+    ensures { OnOk result (out.new.items ≡ out.old.items ++ percent_text percent) }
 {
     put(out, "<i style=width:")?;
     put_number(out, percent)?;
@@ -97,7 +97,7 @@ fn put_minutes(out: &mut Vec<u8>, limit: u64, n: u64) -> Put
     put_marked(out, limit, n)?;
     put(out, "/")?;
     put_number(out, limit)?;
-    put_share(out, share(limit, n))
+    put_share(out, percent_of(limit, n))
 }
 
 #[tactic(auto, unfolding(crate::specs::Surgery::name_link))]
@@ -115,7 +115,7 @@ fn put_link(out: &mut Vec<u8>, inst: &Instance, p: u32) -> Put
     put_name(out, p, inst.patient(PatientNo(p)))
 }
 
-fn put_operation(out: &mut Vec<u8>, shown: &Shown<'_>, w: Whose, d: u32, p: u32) -> Put
+fn put_operation(out: &mut Vec<u8>, shown: &Shown<'_>, w: Resource, d: u32, p: u32) -> Put
     requires patient { p < patient_count shown.now.inst.now.draft }
     ensures { OnOk result
         (out.new.items ≡ out.old.items ++ operation shown.now.inst.now.draft shown.now.plan.now w d p) }
@@ -127,8 +127,8 @@ fn put_operation(out: &mut Vec<u8>, shown: &Shown<'_>, w: Whose, d: u32, p: u32)
     }
 }
 
-fn put_surgery(out: &mut Vec<u8>, shown: &Shown<'_>, w: Whose, d: u32, n: u64) -> Put
-    requires whose { IsWhoseOf shown.now.inst.now.draft w }
+fn put_surgery(out: &mut Vec<u8>, shown: &Shown<'_>, w: Resource, d: u32, n: u64) -> Put
+    requires resource { IsResourceOf shown.now.inst.now.draft w }
     requires minutes { n ≤ 4294967296 * 2048 }
     ensures { OnOk result
         (out.new.items ≡ out.old.items ++ surgery_of shown.now.inst.now.draft shown.now.plan.now w d n) }
@@ -144,39 +144,41 @@ fn put_surgery(out: &mut Vec<u8>, shown: &Shown<'_>, w: Whose, d: u32, n: u64) -
     )
 }
 
-#[tactic(auto, unfolding(crate::specs::Surgery::surgery_cell))]
-fn put_cell(out: &mut Vec<u8>, shown: &Shown<'_>, w: Whose, d: u32) -> Put
-    requires whose { IsWhoseOf shown.now.inst.now.draft w }
+#[tactic(auto, unfolding(crate::specs::Surgery::surgery_td))]
+fn put_td(out: &mut Vec<u8>, shown: &Shown<'_>, w: Resource, d: u32) -> Put
+    requires resource { IsResourceOf shown.now.inst.now.draft w }
     ensures { OnOk result
-        (out.new.items ≡ out.old.items ++ surgery_cell shown.now.inst.now.draft shown.now.plan.now w d) }
+        (out.new.items ≡ out.old.items ++ surgery_td shown.now.inst.now.draft shown.now.plan.now w d) }
 {
-    put_cell_at(out, letter_of(w), number_of(w), d)?;
+    put_td_at(out, letter_of(w), number_of(w), d)?;
     put_surgery(out, shown, w, d, planned(shown, w, d))
 }
 
 #[tactic(auto, unfolding(crate::specs::Surgery::surgery_row))]
-fn put_row(out: &mut Vec<u8>, shown: &Shown<'_>, w: Whose) -> Put
-    requires whose { IsWhoseOf shown.now.inst.now.draft w }
+fn put_row(out: &mut Vec<u8>, shown: &Shown<'_>, w: Resource) -> Put
+    requires resource { IsResourceOf shown.now.inst.now.draft w }
     ensures { OnOk result (out.new.items ≡ out.old.items ++ surgery_row shown.now.inst.now.draft shown.now.plan.now w) }
 {
     put(out, "<tr><th>")?;
-    put_whose(out, shown.inst, w)?;
-    put_below(out, shown.inst.days(), |out, d| put_cell(out, shown, w, d))?;
+    put_resource(out, shown.inst, w)?;
+    put_below(out, shown.inst.days(), |out, d| put_td(out, shown, w, d))?;
     put(out, "\n")
 }
 
-fn heads_of(kind: Kind) -> &'static str
+fn heads_of(kind: ResourceKind) -> &'static str
     ensures { result.now ≡ heads_of kind }
 {
     match kind {
-        Kind::Theatres => "<h2>Theatres by days, in minutes</h2>\n<div><table><tr><th>theatre",
-        Kind::Surgeons => "<h2>Surgeons by days, in minutes</h2>\n<div><table><tr><th>surgeon",
+        ResourceKind::Theatres =>
+            "<h2>Theatres by days, in minutes</h2>\n<div><table><tr><th>theatre",
+        ResourceKind::Surgeons =>
+            "<h2>Surgeons by days, in minutes</h2>\n<div><table><tr><th>surgeon",
     }
 }
 
 /// Appends the table of the theatres, or of the surgeons.
 #[tactic(auto, unfolding(crate::specs::Surgery::surgery_text))]
-pub fn put_surgery_of(out: &mut Vec<u8>, shown: &Shown<'_>, kind: Kind) -> Put
+pub fn put_surgery_of(out: &mut Vec<u8>, shown: &Shown<'_>, kind: ResourceKind) -> Put
     ensures { OnOk result
         (out.new.items ≡ out.old.items ++ surgery_text shown.now.inst.now.draft shown.now.plan.now kind) }
 {

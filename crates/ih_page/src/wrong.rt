@@ -11,7 +11,7 @@ ghost use Rattle.ih_page.specs.Wrong.{list_head, list_of, line_list, line_lists,
 use crate::bill_lines::{
     Line, full_name, magnitude, number_in, put_amount, put_fold, put_short_name,
 };
-use crate::cell_names::{put_cell, put_cell_place};
+use crate::cell_names::{put_cell, put_cell_anchor};
 use crate::loops::put_below;
 use crate::order::dearest_first;
 use crate::shown::Shown;
@@ -76,7 +76,7 @@ fn put_link(out: &mut Vec<u8>, inst: &Instance, c: Cell) -> Put
     ensures { OnOk result (out.new.items ≡ out.old.items ++ cell_link inst.now.draft c) }
 {
     put(out, "<li><a href=#")?;
-    put_cell_place(out, c)?;
+    put_cell_anchor(out, c)?;
     put(out, ">")?;
     put_cell(out, inst, c)?;
     put(out, "</a>: ")

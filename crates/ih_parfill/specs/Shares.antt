@@ -40,7 +40,8 @@ IsLower (Some a) (Some b) r = ((r ≡ Some a) × IsBefore a.candidate.value a.pl
     ⊎ ((r ≡ Some b) × IsBefore b.candidate.value b.place a.candidate.value a.place)
 
 -- what is found in a share: the first least of it, a write of the instance
-pub record IsOfShare (I : Draft) (v : Write → ℤ) (ws : List Write) (places : ℕ → Type 0) (o : Option Found) : Type 0 where
+pub record IsOfShare (I : Draft) (v : Write → ℤ) (ws : List Write) (places : ℕ → Type 0) (o : Option Found)
+    : Type 0 where
   pub least : IsLeastOf v ws places o
   pub fits : IfSome o (λ f. IsWriteOf I f.candidate.write)
 

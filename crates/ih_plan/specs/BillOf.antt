@@ -1,5 +1,5 @@
 -- The seventeen numbers of a timetable's bill, each a sum over the whole timetable.
-use Rattle.std.specs.Prelude.{ℕ, ◌-◌, pos, ◌&&◌, not, List, [], ◌∷◌, length, is_none, map}
+use Rattle.std.specs.Prelude.{ℕ, ◌-◌, pos, ◌&&◌, not, List, [], ◌∷◌, length, is_none, map, slice_index}
 use Rattle.ih_tables.specs.declared.drafts.Draft.{Draft}
 use Rattle.ih_tables.specs.declared.bills.Bill.{Bill}
 use Rattle.ih_tables.specs.Sizes.{person_count, theatre_count, surgeon_count, nurse_count, shift_count}
@@ -14,6 +14,14 @@ use Rattle.ih_plan.specs.Costs.{over_patients, in_bad_room, outside_window, dela
 pub record Counts : Type 0 where
   pub v : List ℕ
   pub s : List ℕ
+
+-- number j of the broken rules
+abbrev pub rule_count : ℕ → Counts → ℕ
+rule_count j c = slice_index c.v j
+
+-- number j of the costs
+abbrev pub cost_count : ℕ → Counts → ℕ
+cost_count j c = slice_index c.s j
 
 -- the bill of these numbers
 abbrev pub as_bill : Counts → Bill

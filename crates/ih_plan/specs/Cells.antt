@@ -15,7 +15,7 @@ use Rattle.ih_plan.specs.Writes.{put}
 use Rattle.ih_plan.specs.Presence.{day_of, present, shifts_of, room_of, entry_of}
 use Rattle.ih_plan.specs.Persons.{person_of}
 use Rattle.ih_plan.specs.Costs.{of_patient, nurse_for, in_bad_room, outside_window, delay, genders_differ, capacity_of, age_spread, operated, operated_by, minutes, surgeon_minutes, theatre_minutes, theatre_of, theatres_used, not_working, is_empty, skill_missing, load_of, overload, distinct_nurses}
-use Rattle.ih_plan.specs.BillOf.{Counts, as_bill, bill_of}
+use Rattle.ih_plan.specs.BillOf.{Counts, as_bill, bill_of, cost_count, rule_count}
 use Rattle.ih_plan.specs.Sums.{bit, sum_below, tagged, listed}
 
 -- ---- numbers: stays first, then room days, theatre days, surgeon days, room shifts, nurse shifts and cares, each by
@@ -174,15 +174,15 @@ abbrev pub part_at : Draft → Timetable → Cell → Counts
 part_at I P c = part_of I c (content_of I P c)
 
 -- what a cell costs once patient p has the placement, less what it costs without the patient
-abbrev pub gain_at : Draft → Timetable → PatientNo → Placement → Cell → Bill
-gain_at I P p at c =
+abbrev pub delta_at : Draft → Timetable → PatientNo → Placement → Cell → Bill
+delta_at I P p at c =
     sub_bills (as_bill (part_at I (put (SetStay p (Some at)) P) c)) (as_bill (part_at I (put (SetStay p None) P) c))
 
 -- number by number, the sum over the cells
 abbrev pub sum_cells : Draft → (Cell → Counts) → Counts
 sum_cells I f = record {
-  v = listed 9 (λ j. sum_below (cell_count I) (λ n. slice_index (f (cell_at I n)).v j));
-  s = listed 8 (λ j. sum_below (cell_count I) (λ n. slice_index (f (cell_at I n)).s j));
+  v = listed 9 (λ j. sum_below (cell_count I) (λ n. rule_count j (f (cell_at I n))));
+  s = listed 8 (λ j. sum_below (cell_count I) (λ n. cost_count j (f (cell_at I n))));
 }
 
 -- The law of parts: a timetable's bill is the sum of the parts of all its cells.

@@ -11,7 +11,7 @@ mod plans;
 pub use laws::{series_are_their_writes, single_moves_are_series};
 pub use members::Members;
 pub use moves::{Move, Placement, Write};
-pub use numbers::{bit, rise};
+pub use numbers::{bit, increase};
 pub use persons::{
     Asked, age_group, asked_of, counted_shifts, end_from, end_of, is_present, nurse_at,
     same_gender, skill_of, stays_in, workload_of,

@@ -14,7 +14,7 @@ pub fn bit(yes: bool) -> u32
 
 /// How much more the new number is than the old one.
 #[inline(always)]
-pub fn rise(new: u32, old: u32) -> i64
+pub fn increase(new: u32, old: u32) -> i64
     ensures value { result ≡ pos new -ℤ pos old }
     ensures low { neg_ℤ (pos (10 ^ 11)) ≤ℤ result }
     ensures high { result ≤ℤ pos (10 ^ 11) }

@@ -5,16 +5,16 @@ use Rattle.std.proofs.Math.Bool.{and-false}
 use Rattle.std.proofs.lemmas.Bool.{cases_eq, ne_eqb}
 use Rattle.ih_journal.specs.Tried.{Tried}
 use Rattle.ih_journal.specs.declared.settings.Options.{Options}
-use Rattle.ih_journal.specs.Attempts.{TryNumber, attempt_after, is_done, is_done_after, is_retried, last_by, next_attempt}
+use Rattle.ih_journal.specs.Attempts.{TryNumber, try_after, is_done, is_done_after, is_retried, last_by, next_try}
 use Rattle.ih_journal.specs.Base.{Base}
 use Rattle.ih_cellbook.specs.Legal.{AreLegalButDraws}
 use Rattle.ih_cellbook.specs.Offers.{next_number}
 use Rattle.ih_cellbook.proofs.EntryLimits.{next-below}
 
-pub number-of : (o : Options) (H : List Tried) (w : ℕ) (a : TryNumber) → next_attempt o H w ≡ Some a → next_number o H w ≡ Some a.number
+pub number-of : (o : Options) (H : List Tried) (w : ℕ) (a : TryNumber) → next_try o H w ≡ Some a → next_number o H w ≡ Some a.number
 number-of o H w a e = ap (option_map (λ (a : TryNumber). a.number)) e
 
-done-most : (o : Options) (l : Option Tried) → is_done_after o l ≡ true → o.moves ≤ (attempt_after o l).number
+done-most : (o : Options) (l : Option Tried) → is_done_after o l ≡ true → o.moves ≤ (try_after o l).number
 done-most o None h = elim (cases_eq o.moves 0) [
   | inl none ↦ omega (arith, none)
   | inr some ↦ absurd (let no : false ≡ true = rw (ne_eqb o.moves 0 some) at h in cc)
@@ -33,11 +33,11 @@ done-most o (Some e) h = elim (cases_eq o.moves 0) [
       | inr other ↦ absurd (let no : false ≡ true = rw (ne_eqb (e.number + 1) o.moves other) at h in cc)
     ]
 
-pub attempt-going : (o : Options) (H : List Tried) (w : ℕ) → is_done o H w ≡ false → next_attempt o H w ≡ Some (attempt_after o (last_by w H))
-unfolding next_attempt
+pub attempt-going : (o : Options) (H : List Tried) (w : ℕ) → is_done o H w ≡ false → next_try o H w ≡ Some (try_after o (last_by w H))
+unfolding next_try
 attempt-going o H w going = rw going refl
 
-module _ (b : Base) (H : List Tried) (w n again : ℕ) (legal : AreLegalButDraws b H) (next : attempt_after b.options (last_by w H) ≡ record { number = n; again = again }) where
+module _ (b : Base) (H : List Tried) (w n again : ℕ) (legal : AreLegalButDraws b H) (next : try_after b.options (last_by w H) ≡ record { number = n; again = again }) where
   pub going-below : is_done b.options H w ≡ false → n < b.options.moves
   going-below going =
       let attempt = attempt-going b.options H w going ∙ ap (λ (a : TryNumber). Some a) next in
@@ -50,7 +50,7 @@ module _ (b : Base) (H : List Tried) (w n again : ℕ) (legal : AreLegalButDraws
       by_case : (t : Bool) → is_done_after b.options (last_by w H) ≡ t → t ≡ false
       by_case true done =
           let most = done-most b.options (last_by w H) done in
-          let number : (attempt_after b.options (last_by w H)).number ≡ n = ap (λ (a : TryNumber). a.number) next in
+          let number : (try_after b.options (last_by w H)).number ≡ n = ap (λ (a : TryNumber). a.number) next in
           absurd (omega (arith, most, number, below))
       by_case false going = refl
 
@@ -61,5 +61,5 @@ module _ (b : Base) (H : List Tried) (w n again : ℕ) (legal : AreLegalButDraws
       by_case true done = refl
       by_case false going = let below = going-below going in absurd (omega (arith, below, past))
 
-  pub next-is : n < b.options.moves → next_attempt b.options H w ≡ Some (record { number = n; again = again })
+  pub next-is : n < b.options.moves → next_try b.options H w ≡ Some (record { number = n; again = again })
   next-is below = attempt-going b.options H w (below-going below) ∙ ap (λ (a : TryNumber). Some a) next

@@ -5,7 +5,7 @@ use Rattle.ih_plan.specs.Draws.{move_of}
 use Rattle.ih_journal.specs.declared.entries.Entry.{Entry}
 use Rattle.ih_journal.specs.Tried.{Tried}
 use Rattle.ih_journal.specs.declared.refusals.Reason.TheVariants.{Worker, Number, Try, Seen, Move}
-use Rattle.ih_journal.specs.Attempts.{TryNumber, next_attempt}
+use Rattle.ih_journal.specs.Attempts.{TryNumber, next_try}
 use Rattle.ih_journal.specs.Base.{Base}
 use Rattle.ih_journal.specs.Legal.{AreLegal}
 use Rattle.ih_cellbook.specs.Keeping.{IsBase}
@@ -24,7 +24,7 @@ same-attempt : (a b : TryNumber) → Some a ≡ Some b → a ≡ b
 same-attempt a b h = cc
 
 module _ (b : Base) (H : List Tried) (e : Entry) (x : Workers) (legal : AreLegal b 1 H) (kept : IsWorkerIn b H e.worker x) (known : e.worker < b.options.workers) where
-  next : x.number < b.options.moves → next_attempt b.options H e.worker ≡ Some (record { number = x.number; again = x.again })
+  next : x.number < b.options.moves → next_try b.options H e.worker ≡ Some (record { number = x.number; again = x.again })
   next below = next-is b H e.worker x.number x.again (legal-but b H legal) kept.attempt below
 
   going : x.number < b.options.moves → IsGoing b H e.worker
@@ -69,7 +69,7 @@ module _ (b : Base) (H : List Tried) (e : Entry) (x : Workers) (legal : AreLegal
       }
 
       module _ (again : e.again ≡ x.again) where
-        own-try : next_attempt b.options H e.worker ≡ Some (record { number = e.number; again = e.again })
+        own-try : next_try b.options H e.worker ≡ Some (record { number = e.number; again = e.again })
         own-try = rw (same, again) (next below)
 
         pub seen-other : ((e.seen ≤ length H) × HasSeenOwn H e.worker e.seen → ⊥) → IsFirstOf (FitsIn b H (length H) e) of_attempt Seen

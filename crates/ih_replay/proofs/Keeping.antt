@@ -10,7 +10,7 @@ use Rattle.ih_moves.proofs.Streams.{stream-next}
 use Rattle.ih_journal.specs.Tried.{Tried}
 use Rattle.ih_journal.specs.declared.settings.Options.{Options}
 use Rattle.ih_journal.specs.declared.refusals.Reason.{Reason}
-use Rattle.ih_journal.specs.Attempts.{attempt_after, is_retried, last_by}
+use Rattle.ih_journal.specs.Attempts.{try_after, is_retried, last_by}
 use Rattle.ih_journal.specs.Base.{Base}
 use Rattle.ih_journal.specs.Legal.{AreLegal, IsLegal}
 use Rattle.ih_journal.proofs.Growth.{get-more, last_by-other, last_by-own, legal-more, length-more}
@@ -99,7 +99,7 @@ module _ (b : Base) (H : List Tried) (e : Tried) (x : Worker) (number : e.number
     (draw : x.draw ≡ move_of b.instance b.options.seed e.worker x.number) (stream : x.stream ≡ stream_at b.options.seed e.worker (x.number + 1))
     (replica : IsReplicaIn b (H ++ e ∷ []) x.replica) (own : x.replica.worker ≡ e.worker) where
   attempt-gone-on : (t : Bool) → is_retried b.options e ≡ t
-      → attempt_after b.options (Some e) ≡ (let y : Worker = (if t then record x { again = x.again + 1; own_end = length H + 1 }
+      → try_after b.options (Some e) ≡ (let y : Worker = (if t then record x { again = x.again + 1; own_end = length H + 1 }
       else record x { number = x.number + 1; again = 0; draw = draw_at b.instance x.stream; stream = state_after 6 x.stream; own_end = length H + 1 }) in record { number = y.number; again = y.again })
   attempt-gone-on true on = rw (on, number, again) refl
   attempt-gone-on false off = rw (off, number) refl
@@ -110,7 +110,7 @@ module _ (b : Base) (H : List Tried) (e : Tried) (x : Worker) (number : e.number
   worker-by true on = record {
     replica = replica;
     own = own;
-    attempt = ap (attempt_after b.options) (last_by-own H e e.worker refl) ∙ attempt-gone-on true on;
+    attempt = ap (try_after b.options) (last_by-own H e e.worker refl) ∙ attempt-gone-on true on;
     draw = draw;
     stream = stream;
     own_end = seen-own H e;
@@ -118,7 +118,7 @@ module _ (b : Base) (H : List Tried) (e : Tried) (x : Worker) (number : e.number
   worker-by false off = record {
     replica = replica;
     own = own;
-    attempt = ap (attempt_after b.options) (last_by-own H e e.worker refl) ∙ attempt-gone-on false off;
+    attempt = ap (try_after b.options) (last_by-own H e e.worker refl) ∙ attempt-gone-on false off;
     draw = move-next b.instance b.options.seed e.worker (x.number + 1) x.stream stream;
     stream = ap (state_after 6) stream ∙ sym (stream-next b.options.seed e.worker (x.number + 1));
     own_end = seen-own H e;

@@ -8,7 +8,7 @@ use Rattle.ih_plan.specs.declared.moves.Move.{Move}
 use Rattle.ih_journal.specs.declared.entries.Entry.{Entry}
 use Rattle.ih_journal.specs.Tried.{Tried, tried}
 use Rattle.ih_journal.specs.declared.entries.Verdict.{Verdict as Verdicts}
-use Rattle.ih_journal.specs.Attempts.{TryNumber, attempt_after, last_by}
+use Rattle.ih_journal.specs.Attempts.{TryNumber, try_after, last_by}
 use Rattle.ih_journal.specs.Base.{Base}
 use Rattle.ih_journal.specs.History.{plan_at}
 use Rattle.ih_journal.proofs.Mapped.{attempt-one}
@@ -81,11 +81,11 @@ module _ (b : Base) (H : List Tried) (r : Snapshot) (stands : IsReplicaIn b H r)
       → (e.price ≡ price_of_all b.instance (plan_at b H e.seen) (e.mv ∷ [])) × (v ≡ verdict_on b H e.number e.seen (e.mv ∷ []) e.price)
   follow-is v price judged = (sym price ∙ price-is, judged ∙ judged-as price)
 
-  again-is : (attempt_after b.options (last_by e.worker H)).again ≡ e.again
+  again-is : (try_after b.options (last_by e.worker H)).again ≡ e.again
   again-is =
-      let own : Some (record { number = e.number; again = (attempt_after b.options (last_by e.worker H)).again }) ≡ Some (let a : TryNumber = record { number = e.number; again = e.again } in a) =
+      let own : Some (record { number = e.number; again = (try_after b.options (last_by e.worker H)).again }) ≡ Some (let a : TryNumber = record { number = e.number; again = e.again } in a) =
       sym (attempt-is b.options H e.worker e.number all.1.0) ∙ all.1.1.0 in
-      some-again (attempt_after b.options (last_by e.worker H)).again e.again e.number own
+      some-again (try_after b.options (last_by e.worker H)).again e.again e.number own
     where
       some-again : (x y n : ℕ) → Some (let a : TryNumber = record { number = n; again = x } in a) ≡ Some (record { number = n; again = y }) → x ≡ y
       some-again x y n h = let same : (let a : TryNumber = record { number = n; again = x } in a) ≡ record { number = n; again = y } = cc in ap (λ (a : TryNumber). a.again) same

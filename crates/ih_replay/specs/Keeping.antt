@@ -5,7 +5,7 @@ use Rattle.ih_plan.specs.Timetable.{Timetable}
 use Rattle.ih_plan.specs.Draws.{draw_at, move_of, state_after, stream_at}
 use Rattle.ih_journal.specs.declared.settings.Options.{Options}
 use Rattle.ih_journal.specs.Tried.{Tried}
-use Rattle.ih_journal.specs.Attempts.{attempt_after, is_retried, last_by}
+use Rattle.ih_journal.specs.Attempts.{try_after, is_retried, last_by}
 use Rattle.ih_journal.specs.Base.{Base}
 use Rattle.ih_journal.specs.Legal.{AreLegal}
 use Rattle.ih_cellbook.specs.Keeping.{IsBase}
@@ -18,7 +18,7 @@ use Rattle.ih_replay.specs.declared.workers.Worker.{Worker}
 pub record IsWorkerIn (b : Base) (H : List Tried) (w : ℕ) (x : Worker) : Type 0 where
   pub replica : IsReplicaIn b H x.replica
   pub own : x.replica.worker ≡ w
-  pub attempt : attempt_after b.options (last_by w H) ≡ record { number = x.number; again = x.again }
+  pub attempt : try_after b.options (last_by w H) ≡ record { number = x.number; again = x.again }
   pub draw : x.draw ≡ move_of b.instance b.options.seed w x.number
   pub stream : x.stream ≡ stream_at b.options.seed w (x.number + 1)
   -- the place behind the worker's last entry

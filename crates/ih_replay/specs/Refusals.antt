@@ -7,7 +7,7 @@ use Rattle.ih_journal.specs.declared.entries.Entry.{Entry}
 use Rattle.ih_journal.specs.Tried.{Tried, tried, tries}
 use Rattle.ih_journal.specs.declared.refusals.Reason.{Reason}
 use Rattle.ih_journal.specs.declared.refusals.Reason.TheVariants.{Extra, Grammar, Place, Worker, Number, Try, Seen, Move, Price, Verdict}
-use Rattle.ih_journal.specs.Attempts.{is_done, next_attempt}
+use Rattle.ih_journal.specs.Attempts.{is_done, next_try}
 use Rattle.ih_journal.specs.Base.{Base}
 use Rattle.ih_journal.specs.Grammar.{IsLineOf}
 use Rattle.ih_journal.specs.History.{plan_at}
@@ -29,7 +29,7 @@ abbrev pub FitsIn : Base → List Tried → ℕ → Entry → Reason → Type 0
 FitsIn b H k e Place = k ≡ length H
 FitsIn b H k e Worker = IsGoing b H e.worker
 FitsIn b H k e Number = next_number b.options H e.worker ≡ Some e.number
-FitsIn b H k e Try = next_attempt b.options H e.worker ≡ Some (record { number = e.number; again = e.again })
+FitsIn b H k e Try = next_try b.options H e.worker ≡ Some (record { number = e.number; again = e.again })
 FitsIn b H k e Seen = (e.seen ≤ length H) × HasSeenOwn H e.worker e.seen
 FitsIn b H k e Move = e.mv ≡ move_of b.instance b.options.seed e.worker e.number
 FitsIn b H k e Price = e.price ≡ price_of_all b.instance (plan_at b H e.seen) (e.mv ∷ [])

@@ -10,7 +10,7 @@ pub mod StayLemmas
 pub mod OtherPersons
 pub mod Occupants
 pub mod Places
-pub mod GainLemmas
+pub mod DeltaLemmas
 pub mod SquareSums
 pub mod Spans
 pub mod Tallies

@@ -5,7 +5,7 @@ ghost use Rattle.ih_tables.specs.Bills.{IsWithin, sub_bills};
 ghost use Rattle.ih_plan.specs.BillOf.{as_bill};
 ghost use Rattle.ih_roomdays.specs.Parts.{room_day_part};
 
-use ih_plan::{bit, rise};
+use ih_plan::{bit, increase};
 use ih_tables::Bill;
 
 /// What a room breaks and costs on a day.
@@ -45,9 +45,9 @@ pub fn room_day_change(new: RoomDayCounts, old: RoomDayCounts) -> Bill
     ensures value { result ≡ sub_bills (as_bill (room_day_part new)) (as_bill (room_day_part old)) }
     ensures within { IsWithin (10 ^ 11) result }
 {
-    let mixed = rise(bit(new.mixed), bit(old.mixed));
+    let mixed = increase(bit(new.mixed), bit(old.mixed));
     Bill {
-        v: [mixed, 0, 0, 0, 0, 0, rise(new.over, old.over), 0, 0],
-        s: [rise(new.spread, old.spread), 0, 0, 0, 0, 0, 0, 0],
+        v: [mixed, 0, 0, 0, 0, 0, increase(new.over, old.over), 0, 0],
+        s: [increase(new.spread, old.spread), 0, 0, 0, 0, 0, 0, 0],
     }
 }

@@ -1,10 +1,10 @@
 //! What a patient's stay makes of the bill of a room on a day, without the change being made.
 
-ghost use Rattle.std.specs.Prelude.{◌≡◌, ◌<◌, ◌+◌, ◌^◌, ◌&&◌, true, ℕ, List, length, option_map, IfSome};
+ghost use Rattle.std.specs.Prelude.{◌≡◌, ◌<◌, ◌+◌, ◌&&◌, true, ℕ, List, length, option_map};
 ghost use Rattle.ih_tables.specs.Sizes.{patient_count, person_count, room_count};
 ghost use Rattle.ih_plan.specs.Presence.{is_in, placed_at, covers};
 ghost use Rattle.ih_plan.specs.Persons.{person_of};
-ghost use Rattle.ih_links.specs.Lists.{AreNodes, without, with_if};
+ghost use Rattle.ih_links.specs.Lists.{without, with_if};
 ghost use Rattle.ih_roomdays.specs.Rows.{AreRows, persons_at, is_at};
 ghost use Rattle.ih_roomdays.specs.Profiles.{AreProfiles, ArePersons, profile_of};
 ghost use Rattle.ih_roomdays.specs.{declared.profiles.Profiles.Profiles, Occupancy.IsOccupancy, Occupancy.IsSmall};

@@ -1,11 +1,11 @@
 //! What is kept of the persons in a room on a day, so that nobody has to go over them to tell what they cost.
 
-ghost use Rattle.std.specs.Prelude.{◌≡◌, ℕ, ◌-◌, ◌*◌, ◌<◌, ◌≤◌, ◌∷◌, ◌++◌, [], true, List, length, not};
+ghost use Rattle.std.specs.Prelude.{◌≡◌, ℕ, ◌-◌, ◌*◌, ◌<◌, ◌≤◌, ◌∷◌, ◌++◌, [], true, List, length};
 ghost use Rattle.ih_tables.specs.declared.drafts.Draft.{Draft};
 ghost use Rattle.ih_plan.specs.Costs.{genders_differ, age_spread};
 ghost use Rattle.ih_links.specs.Lists.{IsOnce, has, list_of, without};
 ghost use Rattle.ih_roomdays.specs.declared.profiles.Profiles.{Profiles};
-ghost use Rattle.ih_roomdays.specs.Occupancy.{IsOccupancy, IsCrowd, IsSmall, nobody};
+ghost use Rattle.ih_roomdays.specs.Occupancy.{IsOccupancy, IsCrowd, IsSmall};
 ghost use Rattle.ih_roomdays.specs.Profiles.{AreInRange, AreProfiles, ArePersons, most_persons, profile_of};
 
 use crate::profiles::{Profile, Profiles};

@@ -5,7 +5,7 @@ ghost use Rattle.ih_tables.specs.{Bills.IsWithin, Sizes.patient_count, Sizes.roo
 ghost use Rattle.ih_tables.specs.{declared.cells.Cell.TheVariants.RoomDay};
 ghost use Rattle.ih_plan.specs.Timetable.{Timetable, IsPlacement, empty, stay_of};
 ghost use Rattle.ih_plan.specs.{declared.moves.Write.TheVariants.SetStay, Writes.put, Persons.person_of};
-ghost use Rattle.ih_plan.specs.{Presence.covers, Cells.gain_at, Cells.part_at, BillOf.as_bill};
+ghost use Rattle.ih_plan.specs.{Presence.covers, Cells.delta_at, Cells.part_at, BillOf.as_bill};
 ghost use Rattle.ih_roomdays.specs.Ledger.{IsLedgerOf, LedgersTell};
 
 use crate::bills::{room_day_bill, room_day_change};
@@ -88,7 +88,7 @@ impl RoomDays {
 
     /// How much more a placement's room breaks and costs on one of its days with the patient there than without, whose
     /// stay is `old` so far.
-    pub fn day_gain(
+    pub fn day_delta(
         &self,
         inst: &Instance,
         p: PatientNo,
@@ -101,8 +101,8 @@ impl RoomDays {
         requires day { d.0 < inst.now.draft.days }
         requires counted { covers at.day.0 (person_of inst.now.draft p.0).length_of_stay d.0 ≡ true }
         requires stands { (P : Timetable) × IsLedgerOf inst.now.draft P self.now × (stay_of P p.0 ≡ old) }
-        ensures gain { (P : Timetable) → IsLedgerOf inst.now.draft P self.now → stay_of P p.0 ≡ old
-            → result ≡ gain_at inst.now.draft P p at (RoomDay at.room d) }
+        ensures delta { (P : Timetable) → IsLedgerOf inst.now.draft P self.now → stay_of P p.0 ≡ old
+            → result ≡ delta_at inst.now.draft P p at (RoomDay at.room d) }
         ensures within { IsWithin (10 ^ 11) result }
     {
         let was = is_there(inst, p, old, at.room, d);

@@ -25,7 +25,8 @@ pub record IsBestOf (b : Base) (rs : List Round) (q k : ℕ) : Type 0 where
   pub works : IsFeasibleIn b q round k
   pub cheapest : (p j : ℕ) (s : Round) → slice_get rs p ≡ Some s → j ≤ length s.history → IsFeasibleIn b p s j
       → cost_in b q round k ≤ℤ cost_in b p s j
-  pub first : (p j : ℕ) (s : Round) → slice_get rs p ≡ Some s → j ≤ length s.history → IsFeasibleIn b p s j → ComesBefore p j q k
+  pub first : (p j : ℕ) (s : Round) → slice_get rs p ≡ Some s → j ≤ length s.history → IsFeasibleIn b p s j
+      → ComesBefore p j q k
       → cost_in b q round k <ℤ cost_in b p s j
 
 -- no timetable of any round is feasible

@@ -11,7 +11,8 @@ use Rattle.ih_rounds.specs.Rounds.{AreRounds, Round, base_in, histories, journal
 
 -- each history of the rounds is one that a journal can have
 abbrev pub AreInRange : Base → List Round → Type 0
-AreInRange b rs = (q : ℕ) (r : Round) → slice_get rs q ≡ Some r → IsHistoryOf b.instance (options_in b.options q) r.history
+AreInRange b rs =
+    (q : ℕ) (r : Round) → slice_get rs q ≡ Some r → IsHistoryOf b.instance (options_in b.options q) r.history
 
 -- The journals of rounds, one after the other, can be parted again: their bytes tell which histories they are.
 abbrev pub JournalsCanBeParted : Type 0

@@ -100,8 +100,8 @@ fn end_with(best: Option<Held>) -> RoundsEnd
 }
 
 /// Searches so many times, each time from the best timetable of the search before, or from its last where none is
-/// feasible, and appends the journals. The seed of each search is 64 further than that of the one before it. Where memory
-/// runs out, the journal is to be dropped.
+/// feasible, and appends the journals. The seed of each search is 64 further than that of the one before it. Where
+/// memory runs out, the journal is to be dropped.
 pub fn rounds<R: Threads + Wait + Sync, S: Searcher>(
     rt: &R,
     alloc: Global,

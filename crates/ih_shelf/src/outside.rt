@@ -1,6 +1,6 @@
 //! What the program asks of files, of its output and of a gate.
 
-ghost use Rattle.std.specs.Prelude.{◌≡◌, ◌≤◌, ◌<◌, ℕ, List, Option, Some, IfOk, IfSome, OnOk, OnErr, vec_len, length};
+ghost use Rattle.std.specs.Prelude.{◌≡◌, ◌≤◌, ◌<◌, ℕ, List, Option, IfOk, IfSome, OnOk, OnErr, vec_len, length};
 ghost use Rattle.ih_shelf.specs.Outside.{Names, Rose, IfTold, bytes_at, IsWritten, MayBeWritten, IsAppended};
 ghost use Rattle.ih_shelf.specs.Outside.{MayBeAppended};
 

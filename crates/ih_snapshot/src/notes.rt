@@ -1,6 +1,6 @@
 //! Versions of cells: how they are noted with a footprint, and how they rise.
 
-ghost use Rattle.std.specs.Prelude.{◌≡◌, ℕ, ◌+◌, ◌<◌, ◌≤◌, ◌^◌, length, slice_index, All};
+ghost use Rattle.std.specs.Prelude.{◌≡◌, ℕ, ◌+◌, ◌<◌, ◌^◌, length, slice_index, All};
 ghost use Rattle.ih_snapshot.specs.Noting.{times_listed};
 
 /// Each version rises by how often its cell is listed.

@@ -39,7 +39,8 @@ have given r k = list_any (λ (a : Assignment). (a.shift.0 == k) && list_any (λ
 
 -- the nurse of room r in shift k: the one whose assignments have it
 abbrev pub nurse_in : List ListedNurse → ℕ → ℕ → Option NurseNo
-nurse_in rows r k = option_map (λ (row : ListedNurse). row.nurse) (find (λ (row : ListedNurse). have row.assignments r k) rows)
+nurse_in rows r k =
+    option_map (λ (row : ListedNurse). row.nurse) (find (λ (row : ListedNurse). have row.assignments r k) rows)
 
 unfoldable pub stays_of : Draft → List ListedStay → List (Option Placement)
 stays_of I rows = listed (patient_count I) (stay_in rows)
@@ -136,7 +137,9 @@ nurse_row I earlier taken p d = do
   Ok (record { nurse = record { 0 = n }; assignments = given })
 
 abbrev pub nurse_rows : Draft → Place → List Data → Checked (List ListedNurse)
-nurse_rows I p ds = each (λ before. nurse_row I (is_among (λ (row : ListedNurse). row.nurse.0) before) (has_nurse (timetable_of I [] before))) p ds
+nurse_rows I p ds = each (λ before. nurse_row I
+    (is_among (λ (row : ListedNurse). row.nurse.0) before)
+    (has_nurse (timetable_of I [] before))) p ds
 
 abbrev pub nurses : Draft → Check (List ListedNurse)
 nurses I p d = list p d >>= nurse_rows I p

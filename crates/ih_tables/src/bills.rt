@@ -1,6 +1,6 @@
 //! The weights of an instance, and the bill of a timetable: nine counts of broken rules and eight costs.
 
-ghost use Rattle.std.specs.Prelude.{◌≡◌, ◌↔◌, ℕ, ◌≤◌, ◌<◌, ◌≤ℤ◌, ◌<ℤ◌, ◌+ℤ◌, ◌-ℤ◌, ◌*ℤ◌, ◌*◌, ◌^◌, pos, neg_ℤ, IsTrue};
+ghost use Rattle.std.specs.Prelude.{◌≡◌, ℕ, ◌≤◌, ◌<◌, ◌≤ℤ◌, ◌<ℤ◌, ◌+ℤ◌, ◌-ℤ◌, ◌*ℤ◌, ◌*◌, ◌^◌, pos, neg_ℤ};
 ghost use Rattle.std.specs.Prelude.{FitsSigned, length};
 ghost use Rattle.std.specs.Int.{w64};
 ghost use Rattle.ih_tables.specs.Bills.{at, by_place, signed_sum, AreWithin};

@@ -1,6 +1,6 @@
 //! Tests of a number, a text and a list against their limits.
 
-ghost use Rattle.std.specs.Prelude.{◌≡◌, ◌≢◌, ◌≤◌, ◌↔◌, IsTrue, All, AllPairs, Any, length};
+ghost use Rattle.std.specs.Prelude.{◌≡◌, ◌≢◌, ◌≤◌, ◌↔◌, IsTrue, All, AllPairs, Any};
 ghost use Rattle.ih_tables.specs.Valid.{IsVector, Between, IsName, IsListed};
 
 use crate::lookups::HasId;

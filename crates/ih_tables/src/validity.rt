@@ -1,7 +1,7 @@
 //! Whether plain data is a valid instance.
 
 ghost use Rattle.std.specs.Prelude.{◌≡◌, ◌≢◌, ◌<◌, ◌≤◌, ◌≤ℤ◌, ◌+◌, ◌*◌, ◌↔◌, pos, Some, IsTrue, IsSome, All, AllPairs};
-ghost use Rattle.std.specs.Prelude.{Any, List as Items, ℕ, length};
+ghost use Rattle.std.specs.Prelude.{Any, ℕ, length};
 ghost use Rattle.ih_tables.specs.Valid.{Between, IsListed, IsName, IsNurse, IsOccupant, IsPatient, IsValid, IsVector};
 ghost use Rattle.ih_tables.specs.Valid.{IsWorked, vector_len};
 ghost use Rattle.ih_tables.specs.{Sizes.room_count, Works.shift_of};

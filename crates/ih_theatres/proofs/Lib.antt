@@ -5,4 +5,4 @@ pub mod PartLemmas
 pub mod OtherPatients
 pub mod MinuteLemmas
 pub mod LedgerLemmas
-pub mod GainLemmas
+pub mod DeltaLemmas

@@ -5,7 +5,7 @@ ghost use Rattle.ih_tables.specs.Bills.{IsWithin, sub_bills};
 ghost use Rattle.ih_plan.specs.BillOf.{as_bill};
 ghost use Rattle.ih_theatres.specs.Parts.{theatre_part, surgeon_part};
 
-use ih_plan::rise;
+use ih_plan::increase;
 use ih_tables::Bill;
 
 /// The bill of a theatre's day: minutes above its availability, and 1 where it is used.
@@ -46,8 +46,8 @@ pub fn theatre_change(new: DayCounts, old: DayCounts) -> Bill
     ensures within { IsWithin (10 ^ 11) result }
 {
     Bill {
-        v: [0, 0, 0, rise(new.over, old.over), 0, 0, 0, 0, 0],
-        s: [0, 0, 0, 0, rise(new.cost, old.cost), 0, 0, 0],
+        v: [0, 0, 0, increase(new.over, old.over), 0, 0, 0, 0, 0],
+        s: [0, 0, 0, 0, increase(new.cost, old.cost), 0, 0, 0],
     }
 }
 
@@ -58,7 +58,7 @@ pub fn surgeon_change(new: DayCounts, old: DayCounts) -> Bill
     ensures within { IsWithin (10 ^ 11) result }
 {
     Bill {
-        v: [0, 0, rise(new.over, old.over), 0, 0, 0, 0, 0, 0],
-        s: [0, 0, 0, 0, 0, rise(new.cost, old.cost), 0, 0],
+        v: [0, 0, increase(new.over, old.over), 0, 0, 0, 0, 0, 0],
+        s: [0, 0, 0, 0, 0, increase(new.cost, old.cost), 0, 0],
     }
 }

@@ -1,13 +1,13 @@
 //! The ledger of theatres and surgeons: it stands for a timetable, and gives what each of their days costs.
 
-ghost use Rattle.std.specs.Prelude.{◌≡◌, ◌<◌, ◌-◌, ◌^◌, Some, None, IfOk, not};
+ghost use Rattle.std.specs.Prelude.{◌≡◌, ◌<◌, ◌-◌, ◌^◌, Some, None, IfOk};
 ghost use Rattle.ih_tables.specs.Sizes.{patient_count, theatre_count, surgeon_count};
 ghost use Rattle.ih_tables.specs.{Bills.IsWithin, declared.cells.Cell.TheVariants.TheatreDay};
 ghost use Rattle.ih_tables.specs.{declared.cells.Cell.TheVariants.SurgeonDay};
 ghost use Rattle.ih_plan.specs.Timetable.{Timetable, empty, stay_of, IsPlanOf, IsPlacement};
 ghost use Rattle.ih_plan.specs.Costs.{surgeon_of, theatre_minutes, surgeon_minutes};
 ghost use Rattle.ih_plan.specs.{declared.moves.Write.TheVariants.SetStay, Writes.put, BillOf.as_bill, Sums.bit};
-ghost use Rattle.ih_plan.specs.{Cells.gain_at, Cells.part_at};
+ghost use Rattle.ih_plan.specs.{Cells.delta_at, Cells.part_at};
 ghost use Rattle.ih_theatres.specs.Ledger.{IsLedgerOf};
 
 use crate::changes::{
@@ -161,7 +161,7 @@ impl Theatres {
     /// How much more a placement's theatre breaks and costs on the day of admission with the patient there than
     /// without, whose stay is `old` so far.
     #[inline(always)]
-    pub fn theatre_gain(
+    pub fn theatre_delta(
         &self,
         inst: &Instance,
         p: PatientNo,
@@ -172,9 +172,9 @@ impl Theatres {
         requires placement { IsPlacement inst.now.draft at }
         requires stands { (P : Timetable) × IsPlanOf inst.now.draft P × IsLedgerOf inst.now.draft P self.now
             × (stay_of P p.0 ≡ old) }
-        ensures gain { (P : Timetable) → IsPlanOf inst.now.draft P → IsLedgerOf inst.now.draft P self.now
+        ensures delta { (P : Timetable) → IsPlanOf inst.now.draft P → IsLedgerOf inst.now.draft P self.now
             → stay_of P p.0 ≡ old
-            → result ≡ gain_at inst.now.draft P p at (TheatreDay at.theatre at.day) }
+            → result ≡ delta_at inst.now.draft P p at (TheatreDay at.theatre at.day) }
         ensures within { IsWithin (10 ^ 11) result }
     {
         let was = is_operated_in(old, at.theatre, at.day);
@@ -191,7 +191,7 @@ impl Theatres {
     /// How much more the patient's surgeon breaks and costs on a placement's day of admission with the patient there
     /// than without, whose stay is `old` so far.
     #[inline(always)]
-    pub fn surgeon_gain(
+    pub fn surgeon_delta(
         &self,
         inst: &Instance,
         s: SurgeonNo,
@@ -205,9 +205,9 @@ impl Theatres {
         requires placement { IsPlacement inst.now.draft at }
         requires stands { (P : Timetable) × IsPlanOf inst.now.draft P × IsLedgerOf inst.now.draft P self.now
             × (stay_of P p.0 ≡ old) }
-        ensures gain { (P : Timetable) → IsPlanOf inst.now.draft P → IsLedgerOf inst.now.draft P self.now
+        ensures delta { (P : Timetable) → IsPlanOf inst.now.draft P → IsLedgerOf inst.now.draft P self.now
             → stay_of P p.0 ≡ old
-            → result ≡ gain_at inst.now.draft P p at (SurgeonDay s at.day) }
+            → result ≡ delta_at inst.now.draft P p at (SurgeonDay s at.day) }
         ensures within { IsWithin (10 ^ 11) result }
     {
         let was = is_operated_by(inst, p, old, s, at.day);

@@ -21,8 +21,8 @@ use Rattle.ih_top.specs.declared.limits.TheConstants.{MAX_JOURNAL}
 use Rattle.ih_top.specs.declared.status.Status.{Status}
 use Rattle.ih_top.specs.declared.status.Status.TheVariants.{ReadFault, InstanceRefused, StartRefused, OutOfMemory, TooLong}
 use Rattle.ih_top.specs.declared.status.Role.TheVariants.{Instance, Solution, Journal}
-use Rattle.ih_inputs.specs.Reading.{Reading, HasInputs, HasPlan, HasSolution, IsLongerThan, IsNext}
-use Rattle.ih_top.specs.Inputs.{EndsUnread, replay_reading}
+use Rattle.ih_inputs.specs.Reading.{InputFiles, HasInputs, HasPlan, HasSolution, IsLongerThan, IsNext}
+use Rattle.ih_top.specs.Inputs.{EndsUnread, replay_inputs}
 use Rattle.ih_top.specs.Starts.{started}
 use Rattle.ih_top.specs.JournalEnds.{IsRefused}
 use Rattle.ih_top.specs.JournalFiles.{EndsUnreadJournal, HasRead, JournalRead}
@@ -36,7 +36,7 @@ use Rattle.ih_top.proofs.FirstLines.{first-apart}
 not-both : {A : Type 0} (r : Result A Refusal) (x : A) (e : Refusal) → r ≡ Ok x → r ≡ Err e → ⊥
 not-both r x e ok err = let clash : Ok x ≡ Err e = sym ok ∙ err in cc
 
-module _ (files : Names) (r : Reading) (I : Draft) (P : Timetable) (has : HasInputs (Some files) r I P) where
+module _ (files : Names) (r : InputFiles) (I : Draft) (P : Timetable) (has : HasInputs (Some files) r I P) where
   -- a file for the timetable gives it
   given : (J : Draft) (name : List ℕ) → IsNext (Some files) r J name → HasSolution name J P files
   given J name next =
@@ -109,8 +109,8 @@ module _ (files : Names) (r : ReplayCall) (x : JournalRead) (has : HasRead (Some
         (same.1 ∙ ap (λ (c : Base). lines_from c.options 0 H) (sym same.0))
   ]
 
-  start-accepted : (status : Status) (text : List ℕ) → HasNoFault status → EndsUnread (Some files) (replay_reading r) status text → status ≡ OutOfMemory
-  start-accepted = accepted files (replay_reading r) x.instance x.plan has.inputs
+  start-accepted : (status : Status) (text : List ℕ) → HasNoFault status → EndsUnread (Some files) (replay_inputs r) status text → status ≡ OutOfMemory
+  start-accepted = accepted files (replay_inputs r) x.instance x.plan has.inputs
 
   -- nor is it too long
   not-long : IfSome (Some files) (IsLongerThan MAX_JOURNAL r.journal) → ⊥

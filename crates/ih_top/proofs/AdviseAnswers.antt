@@ -8,7 +8,7 @@ use Rattle.ih_words.specs.Advise.{AdviseCall}
 use Rattle.ih_shelf.specs.Outside.{Names}
 use Rattle.ih_top.specs.declared.answer.Answer.{Answer}
 use Rattle.ih_top.specs.declared.status.Status.TheVariants.{Done}
-use Rattle.ih_top.specs.Advise.{AdviseEnds, advise_reading}
+use Rattle.ih_top.specs.Advise.{AdviseEnds, advise_inputs}
 use Rattle.ih_top.specs.Answers.{Answers, IsSaid}
 use Rattle.ih_inputs.specs.Reading.{HasInputs}
 use Rattle.ih_top.proofs.Saying.{IsAnswerable, said-answer, unsaid-by}
@@ -21,7 +21,7 @@ module _ (a : AdviseCall) (files : Option Names) where
   }
 
   -- the text was made
-  pub advised-ends : (I : Draft) (P : Timetable) (answer : Answer) → HasInputs files (advise_reading a) I P
+  pub advised-ends : (I : Draft) (P : Timetable) (answer : Answer) → HasInputs files (advise_inputs a) I P
       → IsSaid Done (advice_text (advice I a.hard P)) answer → Answers (AdviseEnds a files) answer
   advised-ends I P answer inputs said =
       said-answer (AdviseEnds a files) advise-answerable Done (advice_text (advice I a.hard P)) answer

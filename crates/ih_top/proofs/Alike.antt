@@ -22,7 +22,7 @@ use Rattle.ih_top.specs.Chain.{of_chains}
 use Rattle.ih_top.specs.Demo.{HasSaid, IsDemo}
 use Rattle.ih_inputs.specs.Reading.{HasPlan}
 use Rattle.ih_top.specs.Laws.{DemosShowTheSame, LoneRoundsAreAlike, LoneSearchesAreAlike, LoneSearchesDoTheSame}
-use Rattle.ih_top.specs.Searches.{HasBase, Kind, solution_at, told_by}
+use Rattle.ih_top.specs.Searches.{HasBase, JournalForm, solution_at, tries_in}
 use Rattle.ih_top.specs.Solve.{of_moves}
 use Rattle.ih_top.specs.Starts.{started}
 use Rattle.ih_top.specs.Texts.{demo_text, done_text}
@@ -44,9 +44,9 @@ one-base files s b c first second =
     ∙ sym other.started.start) in
     base-same b c instance start options (one.started.freeze ∙ sym other.started.freeze)
 
--- what entries of a kind stand for tells the entries
-abbrev pub IsTelling : {X : Type 0} → Kind X → Type 0
-IsTelling {X} kind = (H G : List X) → told_by kind H ≡ told_by kind G → H ≡ G
+-- what entries stand for tells the entries
+abbrev pub IsTelling : {X : Type 0} → JournalForm X → Type 0
+IsTelling {X} form = (H G : List X) → tries_in form H ≡ tries_in form G → H ≡ G
 
 pub moves-telling : IsTelling of_moves
 moves-telling H G same = tries-one H G same
@@ -54,13 +54,13 @@ moves-telling H G same = tries-one H G same
 pub chains-telling : (each : ℕ) → IsTelling (of_chains each)
 chains-telling each H G same = chain_tries-one H G same
 
-pub searches-alike : {X : Type 0} (kind : Kind X) → IsTelling kind → LoneSearchesAreAlike kind
-searches-alike kind telling files s b c H G lone first second =
+pub searches-alike : {X : Type 0} (form : JournalForm X) → IsTelling form → LoneSearchesAreAlike form
+searches-alike form telling files s b c H G lone first second =
     let same = one-base files s b c first.base second.base in
     let alone : c.options.workers ≡ 1 = ap (λ (o : Options). o.workers) second.base.options ∙ lone in (
       same,
-      telling H G (lone-same c kind.each (told_by kind H) (told_by kind G) alone
-          (subst (λ (x : Base). IsFull x kind.each (told_by kind H)) same first.full) second.full),
+      telling H G (lone-same c form.each (tries_in form H) (tries_in form G) alone
+          (subst (λ (x : Base). IsFull x form.each (tries_in form H)) same first.full) second.full),
     )
 
 pub rounds-alike : LoneRoundsAreAlike
@@ -71,17 +71,17 @@ rounds-alike files r b c rs ss lone first second =
 
 -- ---- one end
 
-pub searches-same : {X : Type 0} (kind : Kind X) → IsTelling kind → LoneSearchesDoTheSame kind
-searches-same {X} kind telling s old new other text told lone first second =
-    let same = searches-alike kind telling old s first.0.base second.0.base first.0.history second.0.history lone first.0.search second.0.search in
+pub searches-same : {X : Type 0} (form : JournalForm X) → IsTelling form → LoneSearchesDoTheSame form
+searches-same {X} form telling s old new other text told lone first second =
+    let same = searches-alike form telling old s first.0.base second.0.base first.0.history second.0.history lone first.0.search second.0.search in
     let both : (first.0.base, first.0.history) ≡ (second.0.base, second.0.history) = rw (same.0, same.1) refl in
-    let place : first.0.place ≡ second.0.place = best-one second.0.base (told_by kind second.0.history) first.0.place second.0.place
-    (subst (λ (t : Base × List X). IsBest t.0 (told_by kind t.1) first.0.place) both first.0.best) second.0.best in
+    let place : first.0.place ≡ second.0.place = best-one second.0.base (tries_in form second.0.history) first.0.place second.0.place
+    (subst (λ (t : Base × List X). IsBest t.0 (tries_in form t.1) first.0.place) both first.0.best) second.0.best in
     record {
-      journal = first.0.written.journal ∙ (ap (λ (t : Base × List X). Some (kind.journal t.0.options t.1)) both ∙ sym second.0.written.journal);
+      journal = first.0.written.journal ∙ (ap (λ (t : Base × List X). Some (form.journal t.0.options t.1)) both ∙ sym second.0.written.journal);
       solution = first.0.written.out
-          ∙ (ap₂ (λ (t : Base × List X) (k : ℕ). Some (solution_at t.0 (told_by kind t.1) k)) both place ∙ sym second.0.written.out);
-      said = first.1 ∙ (ap₂ (λ (t : Base × List X) (k : ℕ). done_text t.0 (told_by kind t.1) k) both place ∙ sym second.1);
+          ∙ (ap₂ (λ (t : Base × List X) (k : ℕ). Some (solution_at t.0 (tries_in form t.1) k)) both place ∙ sym second.0.written.out);
+      said = first.1 ∙ (ap₂ (λ (t : Base × List X) (k : ℕ). done_text t.0 (tries_in form t.1) k) both place ∙ sym second.1);
     }
 
 one-demo : (number : ℕ) (b c : Base) (H G : List Entry) → IsDemo number b H → IsDemo number c G → (b ≡ c) × (H ≡ G)

@@ -11,14 +11,14 @@ use Rattle.ih_top.specs.declared.answer.Answer.{Answer}
 use Rattle.ih_top.specs.declared.status.Status.TheVariants.{Done, Infeasible}
 use Rattle.ih_top.specs.Answers.{Answers, IsSaid, checked_status}
 use Rattle.ih_inputs.specs.Reading.{HasInputs}
-use Rattle.ih_top.specs.Inputs.{check_reading}
+use Rattle.ih_top.specs.Inputs.{check_inputs}
 use Rattle.ih_top.specs.Check.{CheckEnds}
 use Rattle.ih_top.proofs.CommandEnds.{check-answerable}
 use Rattle.ih_top.proofs.Saying.{said-answer}
 
 -- the report was made, and its status says whether a hard rule is broken
 pub checked-ends : (c : CheckCall) (files : Option Names) (I : Draft) (P : Timetable) (whole : Bool) → feasible (bill_of I P) ≡ whole → (a : Answer)
-    → HasInputs files (check_reading c) I P → IsSaid (checked_status whole) (report I.weights (bill_of I P)) a → Answers (CheckEnds c files) a
+    → HasInputs files (check_inputs c) I P → IsSaid (checked_status whole) (report I.weights (bill_of I P)) a → Answers (CheckEnds c files) a
 checked-ends c files I P true holds a inputs said =
     said-answer (CheckEnds c files) (check-answerable c files) Done (report I.weights (bill_of I P)) a (record { instance = I; plan = P; inputs = inputs; said = refl }, holds) said
 checked-ends c files I P false holds a inputs said =

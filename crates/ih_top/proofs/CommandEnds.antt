@@ -20,7 +20,7 @@ use Rattle.ih_top.specs.Answers.{IsConcluded, IsSaid}
 use Rattle.ih_top.specs.Texts.{done_text, memory_text, salvaged_text, usage_text}
 use Rattle.ih_top.specs.Rounds.{AreDone, RoundsEnds}
 use Rattle.ih_top.specs.Chain.{of_chains}
-use Rattle.ih_top.specs.Searches.{IsDone, Kind, SearchEnds}
+use Rattle.ih_top.specs.Searches.{IsDone, JournalForm, SearchEnds}
 use Rattle.ih_top.specs.Solve.{of_moves}
 use Rattle.ih_top.specs.Writes.{Unchanged}
 use Rattle.ih_top.specs.Advise.{AdviseEnds}
@@ -46,9 +46,9 @@ told-same (Some old) (Some new) e = λ n. let same : new ≡ old = cc in cc
 
 -- ---- solve, chain and rounds
 
-search-answerable : {X : Type 0} (kind : Kind X) (s : SolveCall) (old new : Option Names) → IsAnswerable (SearchEnds kind s old new)
-search-answerable kind s old new =
-    writing-answerable _ _ _ (λ text. IsDone kind s old new text) s old new (λ text h. done-found kind s old new h.0) (λ h. none-begun kind s old new h.0)
+search-answerable : {X : Type 0} (form : JournalForm X) (s : SolveCall) (old new : Option Names) → IsAnswerable (SearchEnds form s old new)
+search-answerable form s old new =
+    writing-answerable _ _ _ (λ text. IsDone form s old new text) s old new (λ text h. done-found form s old new h.0) (λ h. none-begun form s old new h.0)
 
 rounds-answerable : (r : RoundsCall) (old new : Option Names) → IsAnswerable (RoundsEnds r old new)
 rounds-answerable r old new =
@@ -148,10 +148,10 @@ usage-answerable = record {
 }
 
 -- the usage was put out, as far as that went
-pub usage-ended : (gained part : List ℕ → Type 0) (a : Answer) (result : Status) → IsSaid Usage usage_text a
-    → IsConcluded a.status a.text.items gained part result → Ends UsageEnds gained part result
-usage-ended gained part a result said concluded =
-    ended UsageEnds usage-answerable gained part a result (said-answer UsageEnds usage-answerable Usage usage_text a refl said) concluded
+pub usage-ended : (received part : List ℕ → Type 0) (a : Answer) (result : Status) → IsSaid Usage usage_text a
+    → IsConcluded a.status a.text.items received part result → Ends UsageEnds received part result
+usage-ended received part a result said concluded =
+    ended UsageEnds usage-answerable received part a result (said-answer UsageEnds usage-answerable Usage usage_text a refl said) concluded
 
 -- ---- any words
 
@@ -173,7 +173,7 @@ call-memory (gen g) files = (unwritten g.out _ files, refl)
 call-memory (demo number) files = (told-same files files refl, refl)
 
 -- whatever call the words name, and also where they name none
-pub memory-leaves : (call : Option Call) (files : Option Names) (gained part : List ℕ → Type 0) → gained memory_text ⊎ part memory_text
-    → Leaves call files files gained part OutOfMemory
-memory-leaves None files gained part h = (told-same files files refl, memory-ended UsageEnds gained part refl h)
-memory-leaves (Some call) files gained part h = memory-ended (CallEnds call files files) gained part (call-memory call files) h
+pub memory-leaves : (call : Option Call) (files : Option Names) (received part : List ℕ → Type 0) → received memory_text ⊎ part memory_text
+    → Leaves call files files received part OutOfMemory
+memory-leaves None files received part h = (told-same files files refl, memory-ended UsageEnds received part refl h)
+memory-leaves (Some call) files received part h = memory-ended (CallEnds call files files) received part (call-memory call files) h

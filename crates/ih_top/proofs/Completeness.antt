@@ -15,8 +15,8 @@ use Rattle.ih_words.specs.Words.{Call, solve, replay, salvage, check, chain, rou
 use Rattle.ih_shelf.specs.Outside.{Names, Rose}
 use Rattle.ih_top.specs.declared.status.Status.{Status}
 use Rattle.ih_top.specs.declared.status.Status.TheVariants.{Done, ReadFault, NoneFound, WriteFault, OutOfMemory, Infeasible}
-use Rattle.ih_inputs.specs.Reading.{Reading, HasInputs}
-use Rattle.ih_top.specs.Inputs.{EndsUnread, solve_reading, check_reading}
+use Rattle.ih_inputs.specs.Reading.{InputFiles, HasInputs}
+use Rattle.ih_top.specs.Inputs.{EndsUnread, solve_inputs, check_inputs}
 use Rattle.ih_top.specs.Chain.{of_chains}
 use Rattle.ih_top.specs.Solve.{of_moves}
 use Rattle.ih_top.specs.Texts.{done_text, salvaged_text}
@@ -27,7 +27,7 @@ use Rattle.ih_top.specs.JournalHeading.{IsHeadless}
 use Rattle.ih_top.specs.Replay.{IsRefusedJournal, IsReplay}
 use Rattle.ih_top.specs.Salvage.{IsSalvage}
 use Rattle.ih_top.specs.Ends.{Ends, CallEnds, Leaves, HasCause, HasFiles, IsAnswered, IsComplete}
-use Rattle.ih_top.specs.Advise.{AdviseEnds, advise_reading}
+use Rattle.ih_top.specs.Advise.{AdviseEnds, advise_inputs}
 use Rattle.ih_top.specs.Check.{CheckEnds}
 use Rattle.ih_top.specs.Demo.{DemoEnds}
 use Rattle.ih_top.specs.Laws.{HasNoFault}
@@ -45,11 +45,11 @@ module _ (reads reads' writes writes' puts puts' : ℕ) (calm : (Rose reads read
   no-fault status cause = tt
 
 -- what holds of each end of a family, and where memory runs out, holds of the status that a call of it ends in
-reached : (answer : Status → Type 0) (ends : Status → List ℕ → Type 0) (gained part : List ℕ → Type 0) → answer OutOfMemory
+reached : (answer : Status → Type 0) (ends : Status → List ℕ → Type 0) (received part : List ℕ → Type 0) → answer OutOfMemory
     → ((status : Status) (text : List ℕ) → HasNoFault status → ends status text → answer status)
-    → (status : Status) → HasNoFault status → Ends ends gained part status → answer status
-reached answer ends gained part memory f OutOfMemory calm h = memory
-reached answer ends gained part memory f status calm (text, h, g) = f status text calm h
+    → (status : Status) → HasNoFault status → Ends ends received part status → answer status
+reached answer ends received part memory f OutOfMemory calm h = memory
+reached answer ends received part memory f status calm (text, h, g) = f status text calm h
 
 -- ---- the commands
 
@@ -58,7 +58,7 @@ Searched status = (status ≡ Done) ⊎ (status ≡ NoneFound) ⊎ (status ≡ O
 
 module _ (files : Names) where
   -- of searches, whatever they leave
-  searched : {done none kept : Type 0} (r : Reading) (I : Draft) (P : Timetable) → HasInputs (Some files) r I P → (status : Status) (text : List ℕ)
+  searched : {done none kept : Type 0} (r : InputFiles) (I : Draft) (P : Timetable) → HasInputs (Some files) r I P → (status : Status) (text : List ℕ)
       → HasNoFault status → IsFaultless done none (kept × EndsUnread (Some files) r status text) status → Searched status
   searched r I P has status text calm (inl memory) = inr (inr memory)
   searched r I P has status text calm (inr (inl done)) = inl done.0
@@ -77,18 +77,18 @@ module _ (files : Names) where
     | inr (inr (inr (inr unread))) ↦ inr (inr (journal-accepted files r x has status text calm unread))
   ]
 
-  checked : (c : CheckCall) (I : Draft) (P : Timetable) → HasInputs (Some files) (check_reading c) I P → (status : Status) (text : List ℕ)
+  checked : (c : CheckCall) (I : Draft) (P : Timetable) → HasInputs (Some files) (check_inputs c) I P → (status : Status) (text : List ℕ)
       → HasNoFault status → CheckEnds c (Some files) status text → IsAnswered (check c) status
   checked c I P has Done text calm h = inl refl
   checked c I P has Infeasible text calm h = inr (inl refl)
   checked c I P has (WriteFault role) text calm h = absurd calm
-  checked c I P has status text calm h = inr (inr (accepted files (check_reading c) I P has status text calm h))
+  checked c I P has status text calm h = inr (inr (accepted files (check_inputs c) I P has status text calm h))
 
-  advised : (a : AdviseCall) (I : Draft) (P : Timetable) → HasInputs (Some files) (advise_reading a) I P → (status : Status) (text : List ℕ)
+  advised : (a : AdviseCall) (I : Draft) (P : Timetable) → HasInputs (Some files) (advise_inputs a) I P → (status : Status) (text : List ℕ)
       → HasNoFault status → AdviseEnds a (Some files) status text → IsAnswered (advise a) status
   advised a I P has Done text calm h = inl refl
   advised a I P has (WriteFault role) text calm h = absurd calm
-  advised a I P has status text calm h = inr (accepted files (advise_reading a) I P has status text calm h)
+  advised a I P has status text calm h = inr (accepted files (advise_inputs a) I P has status text calm h)
 
 generated : (g : GenCall) (old new : Option Names) (status : Status) (text : List ℕ) → HasNoFault status → GenEnds g old new status text
     → IsAnswered (gen g) status
@@ -110,11 +110,11 @@ shown number status text calm h = absurd h
 answered : (call : Call) (files : Names) (new : Option Names) → HasFiles call files → (status : Status) (text : List ℕ) → HasNoFault status
     → CallEnds call (Some files) new status text → IsAnswered call status
 answered (solve s) files new (I, P, has) status text calm h =
-    searched files (solve_reading s) I P has status text calm (search-faultless of_moves s (Some files) new status text calm h)
+    searched files (solve_inputs s) I P has status text calm (search-faultless of_moves s (Some files) new status text calm h)
 answered (chain c) files new (I, P, has) status text calm h =
-    searched files (solve_reading c.search) I P has status text calm (search-faultless (of_chains c.length) c.search (Some files) new status text calm h)
+    searched files (solve_inputs c.search) I P has status text calm (search-faultless (of_chains c.length) c.search (Some files) new status text calm h)
 answered (rounds r) files new (I, P, has) status text calm h =
-    searched files (solve_reading r.search) I P has status text calm (rounds-faultless r (Some files) new status text calm h)
+    searched files (solve_inputs r.search) I P has status text calm (rounds-faultless r (Some files) new status text calm h)
 answered (replay r) files new (x, b, H, has, headed, full) status text calm h =
     replayed files (IsReplay r.start) (IsRefusedJournal r.start) done_text r new x has (not-refused files r x has b H headed full) status text calm h
 answered (salvage r) files new (x, b, lines, has, headed) status text calm h =
@@ -135,10 +135,10 @@ memory-answered (advise a) = inr refl
 memory-answered (gen g) = inr refl
 memory-answered (demo number) = inr (inr refl)
 
-pub complete : (call : Call) (old new : Option Names) (gained part : List ℕ → Type 0) (reads reads' writes writes' puts puts' : ℕ) (status : Status)
-    → Leaves (Some call) old new gained part status → HasCause reads reads' writes writes' puts puts' status
+pub complete : (call : Call) (old new : Option Names) (received part : List ℕ → Type 0) (reads reads' writes writes' puts puts' : ℕ) (status : Status)
+    → Leaves (Some call) old new received part status → HasCause reads reads' writes writes' puts puts' status
     → IsComplete (Some call) old (Rose reads reads') (Rose writes writes') (Rose puts puts') status
-complete call None new gained part reads reads' writes writes' puts puts' status ends cause = tt
-complete call (Some files) new gained part reads reads' writes writes' puts puts' status ends cause = λ has calm kept heard.
-    reached (IsAnswered call) (CallEnds call (Some files) new) gained part (memory-answered call) (answered call files new has) status
+complete call None new received part reads reads' writes writes' puts puts' status ends cause = tt
+complete call (Some files) new received part reads reads' writes writes' puts puts' status ends cause = λ has calm kept heard.
+    reached (IsAnswered call) (CallEnds call (Some files) new) received part (memory-answered call) (answered call files new has) status
     (no-fault reads reads' writes writes' puts puts' calm kept heard status cause) ends

@@ -21,10 +21,10 @@ use Rattle.ih_inputs.specs.declared.reading.TheConstants.{MAX_FILE}
 use Rattle.ih_top.specs.declared.status.Role.TheVariants.{Instance, Solution}
 use Rattle.ih_top.specs.declared.status.Status.{Status}
 use Rattle.ih_top.specs.declared.status.Status.TheVariants.{Done, ReadFault, InstanceRefused, StartRefused, NoneFound, WriteFault, OutOfMemory, TooLong}
-use Rattle.ih_inputs.specs.Reading.{HasInputs, IsNext, Reading}
-use Rattle.ih_top.specs.Inputs.{EndsUnread, solve_reading}
+use Rattle.ih_inputs.specs.Reading.{HasInputs, IsNext, InputFiles}
+use Rattle.ih_top.specs.Inputs.{EndsUnread, solve_inputs}
 use Rattle.ih_top.specs.Laws.{EndTheSame, HasNoFault, LoneSearchesEndAlike}
-use Rattle.ih_top.specs.Searches.{HasFoundNone, IsDone, Kind, SearchEnds, told_by}
+use Rattle.ih_top.specs.Searches.{HasFoundNone, IsDone, JournalForm, SearchEnds, tries_in}
 use Rattle.ih_top.specs.Writes.{OthersUnchanged, Unchanged}
 use Rattle.ih_top.specs.Texts.{instance_refused_text, none_found_text, solution_refused_text, too_long_text}
 use Rattle.ih_top.proofs.Alike.{IsTelling, searches-alike, searches-same}
@@ -45,12 +45,12 @@ next-verdict files I None = (Done, [])
 next-verdict files I (Some name) = start-verdict (ltb MAX_FILE (length (bytes_at files name))) (plan_in I (bytes_at files name)) name
 
 -- of an instance
-abbrev first-verdict : Names → Reading → Bool → Result Draft Refusal → Status × List ℕ
+abbrev first-verdict : Names → InputFiles → Bool → Result Draft Refusal → Status × List ℕ
 first-verdict files r true draft = (TooLong Instance, too_long_text r.instance)
 first-verdict files r false (Err e) = (InstanceRefused e, instance_refused_text e)
 first-verdict files r false (Ok I) = next-verdict files I r.solution
 
-abbrev verdict : Names → Reading → Status × List ℕ
+abbrev verdict : Names → InputFiles → Status × List ℕ
 verdict files r = first-verdict files r (ltb MAX_FILE (length (bytes_at files r.instance))) (instance (bytes_at files r.instance))
 
 over : (a b : ℕ) → a < b → true ≡ ltb a b
@@ -63,7 +63,7 @@ within a b h = by_case (ltb a b) (Decides-ltb a b)
     by_case true is = absurd (let less : a < b = is.0 refl in omega (arith, h, less))
     by_case false is = refl
 
-module _ (files : Names) (r : Reading) where
+module _ (files : Names) (r : InputFiles) where
   -- the instance is accepted, and a start is named
   at-start : (I : Draft) (name : List ℕ) → IsNext (Some files) r I name
       → ◌≡◌ {A = Status × List ℕ} (start-verdict (ltb MAX_FILE (length (bytes_at files name))) (plan_in I (bytes_at files name)) name) (verdict files r)
@@ -96,25 +96,25 @@ module _ (files : Names) (r : Reading) where
 -- ---- three kinds of ends
 
 -- the files aren't as they ought to be, and nothing is written
-pub record IsUnread (x : Reading) (old new : Names) (status : Status) (text : List ℕ) : Type 0 where
+pub record IsUnreadEnd (x : InputFiles) (old new : Names) (status : Status) (text : List ℕ) : Type 0 where
   pub kept : Unchanged old new
   pub so : ◌≡◌ {A = Status × List ℕ} (status, text) (verdict old x)
   pub never : (I : Draft) (P : Timetable) → HasInputs (Some old) x I P → ⊥
 
 -- it is done, it found none, or it came no further than its files
-abbrev pub IsEnd : Type 0 → Type 0 → Reading → Names → Names → Status → List ℕ → Type 0
-IsEnd done none x old new status text = ((status ≡ Done) × done) ⊎ ((status ≡ NoneFound) × none) ⊎ IsUnread x old new status text
+abbrev pub IsEnd : Type 0 → Type 0 → InputFiles → Names → Names → Status → List ℕ → Type 0
+IsEnd done none x old new status text = ((status ≡ Done) × done) ⊎ ((status ≡ NoneFound) × none) ⊎ IsUnreadEnd x old new status text
 
-pub unread : (x : Reading) (old new : Names) (status : Status) (text : List ℕ) → HasNoFault status → status ≢ OutOfMemory → Unchanged old new
-    → EndsUnread (Some old) x status text → IsUnread x old new status text
+pub unread : (x : InputFiles) (old new : Names) (status : Status) (text : List ℕ) → HasNoFault status → status ≢ OutOfMemory → Unchanged old new
+    → EndsUnread (Some old) x status text → IsUnreadEnd x old new status text
 unread x old new status text calm room kept h = record {
   kept = kept;
   so = refused-so old x status text calm room h;
   never = λ I P has. room (accepted old x I P has status text calm h);
 }
 
-pub unread-alike : (x : Reading) (old new other : Names) (status ended : Status) (text told : List ℕ) → IsUnread x old new status text
-    → IsUnread x old other ended told → EndTheSame status ended text told new other
+pub unread-alike : (x : InputFiles) (old new other : Names) (status ended : Status) (text told : List ℕ) → IsUnreadEnd x old new status text
+    → IsUnreadEnd x old other ended told → EndTheSame status ended text told new other
 unread-alike x old new other status ended text told first second =
     let same : ◌≡◌ {A = Status × List ℕ} (status, text) (ended, told) = first.so ∙ sym second.so in
     record {
@@ -123,23 +123,23 @@ unread-alike x old new other status ended text told first second =
       files = λ n. first.kept n ∙ sym (second.kept n);
     }
 
-abbrev SearchEnd : {X : Type 0} → Kind X → SolveCall → Names → Names → Status → List ℕ → Type 0
-SearchEnd kind s old new status text =
-    IsEnd (IsDone kind s (Some old) (Some new) text) (HasFoundNone kind s (Some old) (Some new) × (text ≡ none_found_text))
-    (solve_reading s) old new status text
+abbrev SearchEnd : {X : Type 0} → JournalForm X → SolveCall → Names → Names → Status → List ℕ → Type 0
+SearchEnd form s old new status text =
+    IsEnd (IsDone form s (Some old) (Some new) text) (HasFoundNone form s (Some old) (Some new) × (text ≡ none_found_text))
+    (solve_inputs s) old new status text
 
 -- what no fault ended, nor lack of memory
-pub end-of : (done none : Type 0) (x : Reading) (old new : Names) (status : Status) (text : List ℕ) → HasNoFault status → status ≢ OutOfMemory
+pub end-of : (done none : Type 0) (x : InputFiles) (old new : Names) (status : Status) (text : List ℕ) → HasNoFault status → status ≢ OutOfMemory
     → IsFaultless done none (Unchanged old new × EndsUnread (Some old) x status text) status → IsEnd done none x old new status text
 end-of done none x old new status text calm room (inl memory) = absurd (room memory)
 end-of done none x old new status text calm room (inr (inl one)) = inl one
 end-of done none x old new status text calm room (inr (inr (inl two))) = inr (inl two)
 end-of done none x old new status text calm room (inr (inr (inr other))) = inr (inr (unread x old new status text calm room other.0 other.1))
 
-search-end : {X : Type 0} (kind : Kind X) (s : SolveCall) (old new : Names) (status : Status) (text : List ℕ) → HasNoFault status → status ≢ OutOfMemory
-    → SearchEnds kind s (Some old) (Some new) status text → SearchEnd kind s old new status text
-search-end kind s old new status text calm room h =
-    end-of _ _ (solve_reading s) old new status text calm room (search-faultless kind s (Some old) (Some new) status text calm h)
+search-end : {X : Type 0} (form : JournalForm X) (s : SolveCall) (old new : Names) (status : Status) (text : List ℕ) → HasNoFault status → status ≢ OutOfMemory
+    → SearchEnds form s (Some old) (Some new) status text → SearchEnd form s old new status text
+search-end form s old new status text calm room h =
+    end-of _ _ (solve_inputs s) old new status text calm room (search-faultless form s (Some old) (Some new) status text calm h)
 
 -- ---- the same files
 
@@ -162,39 +162,39 @@ same-files s old new other journals outs first second n = by_out (bytes_eq n s.o
 
 -- ---- two ends
 
-module _ {X : Type 0} (kind : Kind X) (telling : IsTelling kind) (s : SolveCall) (old new other : Names) (status ended : Status) (text told : List ℕ)
+module _ {X : Type 0} (form : JournalForm X) (telling : IsTelling form) (s : SolveCall) (old new other : Names) (status ended : Status) (text told : List ℕ)
     (lone : s.options.workers ≡ 1) where
   -- the one found its best and the other found none
-  not-both-ways : (here there : Names) (said : List ℕ) → IsDone kind s (Some old) (Some here) said → HasFoundNone kind s (Some old) (Some there) → ⊥
+  not-both-ways : (here there : Names) (said : List ℕ) → IsDone form s (Some old) (Some here) said → HasFoundNone form s (Some old) (Some there) → ⊥
   not-both-ways here there said done none =
-      let same = searches-alike kind telling old s done.0.base none.0.base done.0.history none.0.history lone done.0.search none.0.search in
+      let same = searches-alike form telling old s done.0.base none.0.base done.0.history none.0.history lone done.0.search none.0.search in
       let both : ◌≡◌ {A = Base × List X} (done.0.base, done.0.history) (none.0.base, none.0.history) = rw (same.0, same.1) refl in
-      best-or-none none.0.base (told_by kind none.0.history) done.0.place (subst (λ (t : Base × List X). IsBest t.0 (told_by kind t.1) done.0.place) both done.0.best) none.1
+      best-or-none none.0.base (tries_in form none.0.history) done.0.place (subst (λ (t : Base × List X). IsBest t.0 (tries_in form t.1) done.0.place) both done.0.best) none.1
 
-  both-done : status ≡ Done → IsDone kind s (Some old) (Some new) text → ended ≡ Done → IsDone kind s (Some old) (Some other) told
+  both-done : status ≡ Done → IsDone form s (Some old) (Some new) text → ended ≡ Done → IsDone form s (Some old) (Some other) told
       → EndTheSame status ended text told new other
   both-done one first two second =
-      let same = searches-same kind telling s old new other text told lone first second in
+      let same = searches-same form telling s old new other text told lone first second in
       record {
         status = one ∙ sym two;
         said = same.said;
         files = same-files s old new other same.journal same.solution first.0.written.others second.0.written.others;
       }
 
-  both-none : status ≡ NoneFound → HasFoundNone kind s (Some old) (Some new) → text ≡ none_found_text
-      → ended ≡ NoneFound → HasFoundNone kind s (Some old) (Some other) → told ≡ none_found_text → EndTheSame status ended text told new other
+  both-none : status ≡ NoneFound → HasFoundNone form s (Some old) (Some new) → text ≡ none_found_text
+      → ended ≡ NoneFound → HasFoundNone form s (Some old) (Some other) → told ≡ none_found_text → EndTheSame status ended text told new other
   both-none one first said two second also =
-      let same = searches-alike kind telling old s first.0.base second.0.base first.0.history second.0.history lone first.0.search second.0.search in
+      let same = searches-alike form telling old s first.0.base second.0.base first.0.history second.0.history lone first.0.search second.0.search in
       let both : ◌≡◌ {A = Base × List X} (first.0.base, first.0.history) (second.0.base, second.0.history) = rw (same.0, same.1) refl in
       record {
         status = one ∙ sym two;
         said = said ∙ sym also;
         files = same-files s old new other
-            (first.0.written.journal ∙ (ap (λ (t : Base × List X). Some (kind.journal t.0.options t.1)) both ∙ sym second.0.written.journal))
+            (first.0.written.journal ∙ (ap (λ (t : Base × List X). Some (form.journal t.0.options t.1)) both ∙ sym second.0.written.journal))
             (first.0.written.out ∙ sym second.0.written.out) first.0.written.others second.0.written.others;
       }
 
-  same-ends : SearchEnd kind s old new status text → SearchEnd kind s old other ended told → EndTheSame status ended text told new other
+  same-ends : SearchEnd form s old new status text → SearchEnd form s old other ended told → EndTheSame status ended text told new other
   same-ends (inl one) (inl two) = both-done one.0 one.1 two.0 two.1
   same-ends (inl one) (inr (inl two)) = absurd (not-both-ways new other text one.1 two.1.0)
   same-ends (inl one) (inr (inr two)) = let start = one.1.0.search.base.start in absurd (two.never one.1.0.base.instance start.plan start.inputs)
@@ -203,9 +203,9 @@ module _ {X : Type 0} (kind : Kind X) (telling : IsTelling kind) (s : SolveCall)
   same-ends (inr (inl one)) (inr (inr two)) = let start = one.1.0.0.search.base.start in absurd (two.never one.1.0.0.base.instance start.plan start.inputs)
   same-ends (inr (inr one)) (inl two) = let start = two.1.0.search.base.start in absurd (one.never two.1.0.base.instance start.plan start.inputs)
   same-ends (inr (inr one)) (inr (inl two)) = let start = two.1.0.0.search.base.start in absurd (one.never two.1.0.0.base.instance start.plan start.inputs)
-  same-ends (inr (inr one)) (inr (inr two)) = unread-alike (solve_reading s) old new other status ended text told one two
+  same-ends (inr (inr one)) (inr (inr two)) = unread-alike (solve_inputs s) old new other status ended text told one two
 
-pub searches-end-alike : {X : Type 0} (kind : Kind X) → IsTelling kind → LoneSearchesEndAlike kind
-searches-end-alike kind telling s old new other status ended text told lone calm quiet room space first second =
-    same-ends kind telling s old new other status ended text told lone (search-end kind s old new status text calm room first)
-    (search-end kind s old other ended told quiet space second)
+pub searches-end-alike : {X : Type 0} (form : JournalForm X) → IsTelling form → LoneSearchesEndAlike form
+searches-end-alike form telling s old new other status ended text told lone calm quiet room space first second =
+    same-ends form telling s old new other status ended text told lone (search-end form s old new status text calm room first)
+    (search-end form s old other ended told quiet space second)

@@ -11,12 +11,12 @@ use Rattle.ih_words.specs.Solve.{SolveCall}
 use Rattle.ih_shelf.specs.Outside.{IsWritten, Names, IfTold}
 use Rattle.ih_top.specs.declared.status.Status.{Status}
 use Rattle.ih_top.specs.declared.status.Status.TheVariants.{Done, ReadFault, NoneFound, WriteFault, OutOfMemory, JournalRefused}
-use Rattle.ih_top.specs.Inputs.{EndsUnread, solve_reading}
+use Rattle.ih_top.specs.Inputs.{EndsUnread, solve_inputs}
 use Rattle.ih_top.specs.JournalEnds.{HasBest, HasNoBest, IsRefused, JournalEnds}
 use Rattle.ih_top.specs.JournalFiles.{EndsUnreadJournal, JournalRead}
 use Rattle.ih_top.specs.Laws.{HasNoFault}
 use Rattle.ih_top.specs.Rounds.{AreDone, HaveFoundNone, RoundsEnds}
-use Rattle.ih_top.specs.Searches.{HasFoundNone, IsDone, Kind, SearchEnds, WritingEnds}
+use Rattle.ih_top.specs.Searches.{HasFoundNone, IsDone, JournalForm, SearchEnds, WritingEnds}
 use Rattle.ih_top.specs.Texts.{journal_refused_text, none_found_text}
 use Rattle.ih_top.specs.Writes.{Unchanged}
 
@@ -28,7 +28,7 @@ IsFaultless done none other status = (status ≡ OutOfMemory) ⊎ ((status ≡ D
 
 module _ (begun none found : Type 0) (done : List ℕ → Type 0) (s : SolveCall) (old new : Option Names) where
   writing-faultless : (status : Status) (text : List ℕ) → HasNoFault status → WritingEnds begun none found done s old new status text
-      → IsFaultless (done text) (none × (text ≡ none_found_text)) (IfTold Unchanged old new × EndsUnread old (solve_reading s) status text) status
+      → IsFaultless (done text) (none × (text ≡ none_found_text)) (IfTold Unchanged old new × EndsUnread old (solve_inputs s) status text) status
   writing-faultless Done text calm h = inr (inl (refl, h))
   writing-faultless (ReadFault role) text calm h = absurd calm
   writing-faultless NoneFound text calm h = inr (inr (inl (refl, h)))
@@ -36,14 +36,14 @@ module _ (begun none found : Type 0) (done : List ℕ → Type 0) (s : SolveCall
   writing-faultless OutOfMemory text calm h = inl refl
   writing-faultless status text calm h = inr (inr (inr h))
 
-pub search-faultless : {X : Type 0} (kind : Kind X) (s : SolveCall) (old new : Option Names) (status : Status) (text : List ℕ) → HasNoFault status
-    → SearchEnds kind s old new status text → IsFaultless (IsDone kind s old new text) (HasFoundNone kind s old new × (text ≡ none_found_text))
-    (IfTold Unchanged old new × EndsUnread old (solve_reading s) status text) status
-search-faultless kind s old new = writing-faultless _ _ _ (λ text. IsDone kind s old new text) s old new
+pub search-faultless : {X : Type 0} (form : JournalForm X) (s : SolveCall) (old new : Option Names) (status : Status) (text : List ℕ) → HasNoFault status
+    → SearchEnds form s old new status text → IsFaultless (IsDone form s old new text) (HasFoundNone form s old new × (text ≡ none_found_text))
+    (IfTold Unchanged old new × EndsUnread old (solve_inputs s) status text) status
+search-faultless form s old new = writing-faultless _ _ _ (λ text. IsDone form s old new text) s old new
 
 pub rounds-faultless : (r : RoundsCall) (old new : Option Names) (status : Status) (text : List ℕ) → HasNoFault status
     → RoundsEnds r old new status text → IsFaultless (AreDone r old new text) (HaveFoundNone r old new × (text ≡ none_found_text))
-    (IfTold Unchanged old new × EndsUnread old (solve_reading r.search) status text) status
+    (IfTold Unchanged old new × EndsUnread old (solve_inputs r.search) status text) status
 rounds-faultless r old new = writing-faultless _ _ _ (λ text. AreDone r old new text) r.search old new
 
 -- ---- replay and salvage

@@ -11,7 +11,7 @@ use Rattle.ih_journal.specs.Settings.{IsLawful}
 use Rattle.ih_journal.specs.Texts.{ended, heading}
 use Rattle.ih_journal.proofs.HeadTexts.{heading_lacks, lawful_short}
 use Rattle.ih_journal.proofs.Separators.{at_none, at_some}
-use Rattle.ih_top.specs.JournalLines.{HasLine, HasNoFeed}
+use Rattle.ih_top.specs.JournalLines.{HasLine, HasNoLineFeed}
 use Rattle.ih_top.specs.JournalHeading.{HasNoHeading}
 
 abbrev pub is_feed : ℕ → Bool
@@ -36,7 +36,7 @@ line_here bytes i h =
     )
 
 -- bytes in which none is found have no line feed
-pub no_line : (bytes : List ℕ) → position is_feed bytes ≡ None → HasNoFeed bytes
+pub no_line : (bytes : List ℕ) → position is_feed bytes ≡ None → HasNoLineFeed bytes
 no_line bytes h =
     let past = ltb-false _ _ (at_none (nat_lt (position_or_len is_feed bytes) (length bytes)) (position_or_len is_feed bytes) h) in
     All-from_get_or (λ b. (b == 10) ≡ false) bytes 0 (λ k lt. fails_before_first is_feed bytes k 0 (omega (arith, past, lt)))
@@ -45,13 +45,13 @@ no_line bytes h =
 feed_is : (10 == 10) ≡ true
 feed_is = refl
 
-not_feed : (x : ℕ) (xs : List ℕ) → HasNoFeed (x ∷ xs) → x ≡ 10 → ⊥
+not_feed : (x : ℕ) (xs : List ℕ) → HasNoLineFeed (x ∷ xs) → x ≡ 10 → ⊥
 not_feed x xs lacks is =
     let other : (x == 10) ≡ false = All-head (λ b. (b == 10) ≡ false) x xs lacks in
     let clash : true ≡ false = sym feed_is ∙ (ap is_feed (sym is) ∙ other) in cc
 
 -- bytes have one first line
-pub first-apart : (a b x y : List ℕ) → HasNoFeed a → HasNoFeed b → ended a ++ x ≡ ended b ++ y → (a ≡ b) × (x ≡ y)
+pub first-apart : (a b x y : List ℕ) → HasNoLineFeed a → HasNoLineFeed b → ended a ++ x ≡ ended b ++ y → (a ≡ b) × (x ≡ y)
 first-apart [] [] x y la lb h = (refl, let same : 10 ∷ x ≡ 10 ∷ y = h in cc)
 first-apart [] (c ∷ b) x y la lb h = absurd (not_feed c b lb (let same : 10 ∷ x ≡ c ∷ (ended b ++ y) = h in cc))
 first-apart (c ∷ a) [] x y la lb h = absurd (not_feed c a la (let same : c ∷ (ended a ++ x) ≡ 10 ∷ y = h in cc))
@@ -70,10 +70,10 @@ pub ended-some : (a x : List ℕ) → [] ≡ ended a ++ x → ⊥
 ended-some a x h = let len = simp (length-append) at (ap length h) in omega (arith, len)
 
 -- bytes without a line feed have no line
-pub no-line-in : (bytes line more : List ℕ) → HasNoFeed bytes → HasLine bytes line more → ⊥
+pub no-line-in : (bytes line more : List ℕ) → HasNoLineFeed bytes → HasLine bytes line more → ⊥
 no-line-in bytes line more lacks is = go line bytes lacks is.joins
   where
-    go : (a bs : List ℕ) → HasNoFeed bs → bs ≡ ended a ++ more → ⊥
+    go : (a bs : List ℕ) → HasNoLineFeed bs → bs ≡ ended a ++ more → ⊥
     go [] [] none h = ended-some [] more h
     go [] (b ∷ bs) none h = not_feed b bs none (let same : b ∷ bs ≡ 10 ∷ more = h in cc)
     go (c ∷ a) [] none h = ended-some (c ∷ a) more h

@@ -21,7 +21,7 @@ use Rattle.ih_journal.proofs.Mapped.{get-mapped, map-more, map-take}
 use Rattle.ih_journal.proofs.Separators.{parted_some}
 use Rattle.ih_cellbook.specs.Keeping.{IsBase}
 use Rattle.ih_replay.specs.Laws.{LegalJournalsAreTaken, LegalJournalsDiffer, TakenLinesAreOfLegalHistories, Takes, line_texts}
-use Rattle.ih_top.specs.JournalLines.{Begins, HasLine, HasNoFeed, IsRefusedAt}
+use Rattle.ih_top.specs.JournalLines.{Begins, HasLine, HasNoLineFeed, IsRefusedAt}
 use Rattle.ih_top.specs.Laws.{RefusedLinesAreNotFull, WholeLinesAreSalvaged}
 use Rattle.ih_top.proofs.FirstLines.{ended-some, first-apart, is_feed, line_here, no_line}
 
@@ -29,7 +29,7 @@ use Rattle.ih_top.proofs.FirstLines.{ended-some, first-apart, is_feed, line_here
 
 abbrev EachLacks : List (List ℕ) → Type 0
 EachLacks [] = Unit {0}
-EachLacks (x ∷ xs) = HasNoFeed x × EachLacks xs
+EachLacks (x ∷ xs) = HasNoLineFeed x × EachLacks xs
 
 onto-lacks : (b : ℕ) (ps : List (List ℕ)) → (b == 10) ≡ false → EachLacks ps → EachLacks (onto_first b ps)
 onto-lacks b [] other each = (All-cons (λ c. (c == 10) ≡ false) b [] other (All-nil (λ c. (c == 10) ≡ false)), tt)
@@ -87,7 +87,7 @@ cut-lines o k (e ∷ es) rest each =
     ∙ (slice_split_at is_feed (line_text o k e) 10 (lines_from o (k + 1) es ++ rest) each.0 refl
     ∙ ap (λ r. line_text o k e ∷ r) (cut-lines o (k + 1) es rest each.1))
 
-first-lacks : (o : Options) (k : ℕ) (e : Entry) → EachLacks (line_texts o k (e ∷ [])) → HasNoFeed (line_text o k e)
+first-lacks : (o : Options) (k : ℕ) (e : Entry) → EachLacks (line_texts o k (e ∷ [])) → HasNoLineFeed (line_text o k e)
 unfolding line_texts
 first-lacks o k e each = each.0
 
@@ -142,14 +142,14 @@ module _ (taken : LegalJournalsAreTaken) (differ : LegalJournalsDiffer) (texts :
       next-legal = subst (λ K. IsLegal b 1 K (tried e)) (sym (map-take tried (length H) G) ∙ ap (λ es. tries es) (sym prefix))
           (legal_G (length H) (tried e) (get-mapped tried G (length H) e (get-drop G (length H) e es some)))
 
-      next-lacks : HasNoFeed (line_text b.options (length H) e)
+      next-lacks : HasNoLineFeed (line_text b.options (length H) e)
       next-lacks =
           let o = b.options in
           let each = subst EachLacks (texts-append o 0 H (e ∷ [])) (each-text (H ++ e ∷ [])
           (subst (AreLegal b 1) (sym (map-more tried H e)) (legal-more b 1 (tries H) (tried e) legal_H next-legal))) in
           let last : EachLacks (line_texts o (0 + length H) (e ∷ [])) = each-right (line_texts o 0 H) (line_texts o (0 + length H) (e ∷ [])) each in
           let place : 0 + length H ≡ length H = omega arith in
-          subst (λ n. HasNoFeed (line_text o n e)) place (first-lacks o (0 + length H) e last)
+          subst (λ n. HasNoLineFeed (line_text o n e)) place (first-lacks o (0 + length H) e last)
 
       next-joins : rest ≡ ended (line_text b.options (length H) e) ++ lines_from b.options (length H + 1) es
       unfolding lines_from
@@ -224,7 +224,7 @@ module _ (taken : LegalJournalsAreTaken) (differ : LegalJournalsDiffer) (texts :
           ∙ next-joins G H (rest ++ more) legal begins.legal joins d es some)) in
           begins.longest line left d has (record { legal = next-legal G H (rest ++ more) legal begins.legal joins d es some; text = first.0 })
 
-      lacks : (o : Option ℕ) → position is_feed rest ≡ o → HasNoFeed rest
+      lacks : (o : Option ℕ) → position is_feed rest ≡ o → HasNoLineFeed rest
       lacks None none = no_line rest none
       lacks (Some i) some = absurd (let has = (line_here rest i some).1 in never (take i rest) (drop (i + 1) rest) has (drop (length H) G) refl)
 

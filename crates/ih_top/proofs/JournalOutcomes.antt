@@ -21,7 +21,7 @@ use Rattle.ih_top.specs.Answers.{Answers}
 use Rattle.ih_top.specs.Outcomes.{AreLines, IsLinesOutcome, IsOutcome, IsTaken, OutcomeEnds, WritesBest}
 use Rattle.ih_top.specs.Outputs.{IsBestSaid}
 use Rattle.ih_top.specs.JournalEnds.{HasBest, HasNoBest, IsRefused, JournalEnds}
-use Rattle.ih_top.specs.Inputs.{EndsUnread, replay_reading}
+use Rattle.ih_top.specs.Inputs.{EndsUnread, replay_inputs}
 use Rattle.ih_top.specs.JournalFiles.{EndsUnreadJournal, HasRead, JournalRead}
 use Rattle.ih_top.specs.JournalHeading.{IsBegun, IsHeadedBy, IsHeadless, base_headed}
 use Rattle.ih_top.specs.Replay.{IsRefusedJournal, IsReplay}
@@ -138,17 +138,17 @@ module _ (s : StartCall) (x : JournalRead) (b : Base) (lines : List ℕ) (headed
     output = t.output;
   }
 
-  outcome-for : (usage : JournalUse) (o : Outcome) → IsLinesFor usage b lines o → IsOutcomeFor usage s x o
+  outcome-for : (journal_use : JournalUse) (o : Outcome) → IsLinesFor journal_use b lines o → IsOutcomeFor journal_use s x o
   outcome-for Replay o t = replay-outcome o t
   outcome-for Salvage (Taken best) t = salvage-outcome best t
   outcome-for Salvage (Refused e) t = absurd t
 
-  pub result-for : {E : Type 0} (usage : JournalUse) (r : Result Outcome E) → IfOk r (IsLinesFor usage b lines) → IfOk r (IsOutcomeFor usage s x)
-  result-for usage (Ok o) t = outcome-for usage o t
-  result-for usage (Err e) t = t
+  pub result-for : {E : Type 0} (journal_use : JournalUse) (r : Result Outcome E) → IfOk r (IsLinesFor journal_use b lines) → IfOk r (IsOutcomeFor journal_use s x)
+  result-for journal_use (Ok o) t = outcome-for journal_use o t
+  result-for journal_use (Err e) t = t
 
 -- a journal without a heading is refused, whatever it is read for
-pub headless-for : (usage : JournalUse) (s : StartCall) (x : JournalRead) (e : JournalRefusal) → IsHeadless x e → refused_for usage s x e
+pub headless-for : (journal_use : JournalUse) (s : StartCall) (x : JournalRead) (e : JournalRefusal) → IsHeadless x e → refused_for journal_use s x e
 headless-for Replay s x e h = inl h
 headless-for Salvage s x e h = h
 
@@ -164,7 +164,7 @@ module _ (taken : JournalRead → Base → List Entry → Type 0) (refused : Jou
   unread-journal (JournalRefused e) text h = absurd h
   unread-journal status text h = (kept, h)
 
-  pub unread-start : (status : Status) (text : List ℕ) → EndsUnread old (replay_reading r) status text → JournalEnds taken refused said r old new status text
+  pub unread-start : (status : Status) (text : List ℕ) → EndsUnread old (replay_inputs r) status text → JournalEnds taken refused said r old new status text
   unread-start (ReadFault Journal) text h = absurd h
   unread-start (TooLong Journal) text h = absurd h
   unread-start status text h = unread-journal status text h

@@ -8,7 +8,7 @@ use Rattle.ih_top.specs.declared.journals.JournalUse.{JournalUse}
 use Rattle.ih_top.specs.declared.limits.TheConstants.{MAX_JOURNAL}
 use Rattle.ih_top.specs.declared.status.Status.{Status}
 use Rattle.ih_top.specs.Answers.{Answers}
-use Rattle.ih_top.specs.Inputs.{EndsUnread, replay_reading}
+use Rattle.ih_top.specs.Inputs.{EndsUnread, replay_inputs}
 use Rattle.ih_top.specs.JournalFiles.{HasBytes}
 use Rattle.ih_top.specs.JournalUses.{JournalUseEnds, refused_for, said_for, taken_for}
 use Rattle.ih_top.proofs.CommandEnds.{told-same}
@@ -22,11 +22,11 @@ has-bytes None mid name bytes same h short = tt
 has-bytes (Some files) mid name bytes same h short =
     record { short = short; held = sym (subst (λ (o : Option Names). IfSome o (λ held. bytes ≡ bytes_at held name)) same h) }
 
-module _ (usage : JournalUse) (r : ReplayCall) (old new : Option Names) (same : new ≡ old) where
+module _ (journal_use : JournalUse) (r : ReplayCall) (old new : Option Names) (same : new ≡ old) where
   abbrev OfUse : Status → List ℕ → Type 0
-  OfUse status text = JournalUseEnds usage r old new status text
+  OfUse status text = JournalUseEnds journal_use r old new status text
 
   -- the instance or the start can't be had
-  pub unread-inputs : (a : Answer) → Answers (EndsUnread old (replay_reading r)) a → Answers OfUse a
-  unread-inputs = answers-weaker (EndsUnread old (replay_reading r)) OfUse
-      (unread-start (taken_for usage r.start) (refused_for usage r.start) (said_for usage) r old new (told-same old new same))
+  pub unread-inputs : (a : Answer) → Answers (EndsUnread old (replay_inputs r)) a → Answers OfUse a
+  unread-inputs = answers-weaker (EndsUnread old (replay_inputs r)) OfUse
+      (unread-start (taken_for journal_use r.start) (refused_for journal_use r.start) (said_for journal_use) r old new (told-same old new same))

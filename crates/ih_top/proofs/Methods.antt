@@ -11,11 +11,11 @@ use Rattle.ih_top.specs.declared.searching.Method.{Method}
 use Rattle.ih_top.specs.declared.searching.Method.TheVariants.{Moves, Chains, Rounds}
 use Rattle.ih_top.specs.Answers.{Answers}
 use Rattle.ih_top.specs.Chain.{of_chains}
-use Rattle.ih_top.specs.Inputs.{EndsUnread, solve_reading}
+use Rattle.ih_top.specs.Inputs.{EndsUnread, solve_inputs}
 use Rattle.ih_top.specs.Methods.{IsMade, MethodEnds}
 use Rattle.ih_top.specs.Outputs.{MadeEnds}
 use Rattle.ih_top.specs.Rounds.{AreDone, RoundsEnds}
-use Rattle.ih_top.specs.Searches.{HasBase, IsDone, Kind, SearchEnds}
+use Rattle.ih_top.specs.Searches.{HasBase, IsDone, JournalForm, SearchEnds}
 use Rattle.ih_top.specs.Solve.{of_moves}
 use Rattle.ih_top.specs.Writes.{Unchanged}
 use Rattle.ih_top.proofs.RoundsWriting.{made-rounds}
@@ -32,18 +32,18 @@ made-by (Rounds count) s = made-rounds (record { search = s; rounds = count })
 
 -- ---- a call that comes no further than its files
 
-unread-search : {X : Type 0} (kind : Kind X) (s : SolveCall) (old new : Option Names) → IfTold Unchanged old new → (a : Answer)
-    → Answers (EndsUnread old (solve_reading s)) a → Answers (SearchEnds kind s old new) a
-unread-search kind s old new kept = answers-weaker (EndsUnread old (solve_reading s)) (SearchEnds kind s old new)
-    (unread-writing _ _ _ (λ text. IsDone kind s old new text) s old new kept)
+unread-search : {X : Type 0} (form : JournalForm X) (s : SolveCall) (old new : Option Names) → IfTold Unchanged old new → (a : Answer)
+    → Answers (EndsUnread old (solve_inputs s)) a → Answers (SearchEnds form s old new) a
+unread-search form s old new kept = answers-weaker (EndsUnread old (solve_inputs s)) (SearchEnds form s old new)
+    (unread-writing _ _ _ (λ text. IsDone form s old new text) s old new kept)
 
 unread-rounds : (r : RoundsCall) (old new : Option Names) → IfTold Unchanged old new → (a : Answer)
-    → Answers (EndsUnread old (solve_reading r.search)) a → Answers (RoundsEnds r old new) a
-unread-rounds r old new kept = answers-weaker (EndsUnread old (solve_reading r.search)) (RoundsEnds r old new)
+    → Answers (EndsUnread old (solve_inputs r.search)) a → Answers (RoundsEnds r old new) a
+unread-rounds r old new kept = answers-weaker (EndsUnread old (solve_inputs r.search)) (RoundsEnds r old new)
     (unread-writing _ _ _ (λ text. AreDone r old new text) r.search old new kept)
 
 pub unread-by : (method : Method) (s : SolveCall) (old new : Option Names) → IfTold Unchanged old new → (a : Answer)
-    → Answers (EndsUnread old (solve_reading s)) a → Answers (MethodEnds method s old new) a
+    → Answers (EndsUnread old (solve_inputs s)) a → Answers (MethodEnds method s old new) a
 unread-by Moves s = unread-search of_moves s
 unread-by (Chains each) s = unread-search (of_chains each) s
 unread-by (Rounds count) s = unread-rounds (record { search = s; rounds = count })

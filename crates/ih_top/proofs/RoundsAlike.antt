@@ -12,7 +12,7 @@ use Rattle.ih_words.specs.Rounds.{RoundsCall}
 use Rattle.ih_shelf.specs.Outside.{Names}
 use Rattle.ih_top.specs.declared.status.Status.{Status}
 use Rattle.ih_top.specs.declared.status.Status.TheVariants.{Done, NoneFound, OutOfMemory}
-use Rattle.ih_top.specs.Inputs.{solve_reading}
+use Rattle.ih_top.specs.Inputs.{solve_inputs}
 use Rattle.ih_top.specs.Laws.{EndTheSame, HasNoFault, LoneRoundsEndAlike}
 use Rattle.ih_top.specs.Rounds.{AreDone, HaveFoundNone, RoundsEnds, round_text, solution_in}
 use Rattle.ih_top.specs.Texts.{none_found_text}
@@ -57,9 +57,9 @@ best-and-none b rs q k best none =
 rounds-end : (r : RoundsCall) (old new : Names) (status : Status) (text : List ℕ) → HasNoFault status → status ≢ OutOfMemory
     → RoundsEnds r (Some old) (Some new) status text
     → IsEnd (AreDone r (Some old) (Some new) text) (HaveFoundNone r (Some old) (Some new) × (text ≡ none_found_text))
-    (solve_reading r.search) old new status text
+    (solve_inputs r.search) old new status text
 rounds-end r old new status text calm room h =
-    end-of _ _ (solve_reading r.search) old new status text calm room (rounds-faultless r (Some old) (Some new) status text calm h)
+    end-of _ _ (solve_inputs r.search) old new status text calm room (rounds-faultless r (Some old) (Some new) status text calm h)
 
 -- ---- two ends
 
@@ -111,7 +111,7 @@ module _ (r : RoundsCall) (old new other : Names) (status ended : Status) (text 
 
   abbrev Ended : Names → Status → List ℕ → Type 0
   Ended left last said = IsEnd (AreDone r (Some old) (Some left) said) (HaveFoundNone r (Some old) (Some left) × (said ≡ none_found_text))
-      (solve_reading r.search) old left last said
+      (solve_inputs r.search) old left last said
 
   same-ends : Ended new status text → Ended other ended told → EndTheSame status ended text told new other
   same-ends (inl one) (inl two) = both-done one.0 one.1 two.0 two.1
@@ -130,7 +130,7 @@ module _ (r : RoundsCall) (old new other : Names) (status ended : Status) (text 
   same-ends (inr (inr one)) (inr (inl two)) =
       let search = two.1.0.0.searches in
       absurd (one.never two.1.0.0.base.instance search.base.start.plan search.base.start.inputs)
-  same-ends (inr (inr one)) (inr (inr two)) = unread-alike (solve_reading r.search) old new other status ended text told one two
+  same-ends (inr (inr one)) (inr (inr two)) = unread-alike (solve_inputs r.search) old new other status ended text told one two
 
 pub rounds-end-alike : LoneRoundsEndAlike
 rounds-end-alike r old new other status ended text told lone calm quiet room space first second =

@@ -59,16 +59,16 @@ unsaid-other status other = unsaid-by (λ s text. s ≢ OutOfMemory) [] unsaid-a
     unsaid-apart x e = let clash : WriteFault None ≡ OutOfMemory = e in cc
 
 -- a status other than lack of memory
-at-status : (ends : Status → List ℕ → Type 0) (gained part : List ℕ → Type 0) (status : Status) (text : List ℕ)
-    → status ≢ OutOfMemory → ends status text → gained text → Ends ends gained part status
-at-status ends gained part OutOfMemory text other h g = absurd (other refl)
-at-status ends gained part status text other h g = (text, h, g)
+at-status : (ends : Status → List ℕ → Type 0) (received part : List ℕ → Type 0) (status : Status) (text : List ℕ)
+    → status ≢ OutOfMemory → ends status text → received text → Ends ends received part status
+at-status ends received part OutOfMemory text other h g = absurd (other refl)
+at-status ends received part status text other h g = (text, h, g)
 
 -- that memory ran out was said, as far as that went
-pub memory-ended : (ends : Status → List ℕ → Type 0) (gained part : List ℕ → Type 0) → ends OutOfMemory memory_text → gained memory_text ⊎ part memory_text
-    → Ends ends gained part OutOfMemory
-memory-ended ends gained part h (inl g) = inl (memory_text, h, g)
-memory-ended ends gained part h (inr p) = inr (OutOfMemory, memory_text, h, p)
+pub memory-ended : (ends : Status → List ℕ → Type 0) (received part : List ℕ → Type 0) → ends OutOfMemory memory_text → received memory_text ⊎ part memory_text
+    → Ends ends received part OutOfMemory
+memory-ended ends received part h (inl g) = inl (memory_text, h, g)
+memory-ended ends received part h (inr p) = inr (OutOfMemory, memory_text, h, p)
 
 -- whatever the answer tells, memory may run out there
 end-memory : (ends : Status → List ℕ → Type 0) (able : IsAnswerable ends) (a : Answer) → Answers ends a → ends OutOfMemory memory_text
@@ -76,19 +76,19 @@ end-memory ends able a (inl (memory, h)) = h
 end-memory ends able a (inr h) = able.memory a.status a.text.items h
 
 -- the answer's text was put out, as far as that went
-pub ended : (ends : Status → List ℕ → Type 0) (able : IsAnswerable ends) (gained part : List ℕ → Type 0) (a : Answer) (result : Status)
-    → Answers ends a → IsConcluded a.status a.text.items gained part result → Ends ends gained part result
-ended ends able gained part a result h (inl (here, there, rest)) =
-    subst (Ends ends gained part) (sym there) (memory-ended ends gained part (end-memory ends able a h) rest)
-ended ends able gained part a result (inl (memory, h)) (inr (inl (other, there, g))) = absurd (other memory)
-ended ends able gained part a result (inl (memory, h)) (inr (inr (other, some, rest))) = absurd (other memory)
-ended ends able gained part a result (inr h) (inr (inl (other, there, g))) =
-    subst (Ends ends gained part) (sym there) (at-status ends gained part a.status a.text.items other h g)
-ended ends able gained part a result (inr h) (inr (inr (other, some, inl (there, g)))) =
-    subst (Ends ends gained part) (sym there)
-    (at-status ends gained part (unsaid a.status) a.text.items (unsaid-other a.status other) (able.unsaid a.status a.text.items some h) g)
-ended ends able gained part a result (inr h) (inr (inr (other, some, inr (there, p)))) =
-    subst (Ends ends gained part) (sym there) (inr (a.status, a.text.items, h, p))
+pub ended : (ends : Status → List ℕ → Type 0) (able : IsAnswerable ends) (received part : List ℕ → Type 0) (a : Answer) (result : Status)
+    → Answers ends a → IsConcluded a.status a.text.items received part result → Ends ends received part result
+ended ends able received part a result h (inl (here, there, rest)) =
+    subst (Ends ends received part) (sym there) (memory-ended ends received part (end-memory ends able a h) rest)
+ended ends able received part a result (inl (memory, h)) (inr (inl (other, there, g))) = absurd (other memory)
+ended ends able received part a result (inl (memory, h)) (inr (inr (other, some, rest))) = absurd (other memory)
+ended ends able received part a result (inr h) (inr (inl (other, there, g))) =
+    subst (Ends ends received part) (sym there) (at-status ends received part a.status a.text.items other h g)
+ended ends able received part a result (inr h) (inr (inr (other, some, inl (there, g)))) =
+    subst (Ends ends received part) (sym there)
+    (at-status ends received part (unsaid a.status) a.text.items (unsaid-other a.status other) (able.unsaid a.status a.text.items some h) g)
+ended ends able received part a result (inr h) (inr (inr (other, some, inr (there, p)))) =
+    subst (Ends ends received part) (sym there) (inr (a.status, a.text.items, h, p))
 
 -- ---- causes
 

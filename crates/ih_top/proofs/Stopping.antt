@@ -3,7 +3,7 @@ use Rattle.std.proofs.Common.{◌≡◌, ℕ, refl, sym, ap, subst, inl, inr, Li
 use Rattle.std.specs.Prelude.{unwrap_or}
 use Rattle.ih_shelf.specs.Outside.{Names}
 use Rattle.ih_inputs.specs.Errors.{HasFaultCause}
-use Rattle.ih_inputs.specs.Reading.{IsUnread, Reading, name_in}
+use Rattle.ih_inputs.specs.Reading.{IsUnread, InputFiles, name_in}
 use Rattle.ih_inputs.specs.declared.error.InputRole.TheVariants.{Instance as InstanceInput, Solution as SolutionInput}
 use Rattle.ih_inputs.specs.declared.error.InputError.{InputError}
 use Rattle.ih_inputs.specs.declared.error.InputError.TheVariants.{ReadFault as Unreadable, TooLong as Long, InstanceRefused as NoInstance, SolutionRefused as NoSolution, OutOfMemory as NoRoom}
@@ -12,11 +12,11 @@ use Rattle.ih_top.specs.declared.status.Role.TheVariants.{Instance, Solution}
 use Rattle.ih_top.specs.declared.status.Status.{Status}
 use Rattle.ih_top.specs.declared.status.Status.TheVariants.{ReadFault, InstanceRefused, StartRefused, TooLong}
 use Rattle.ih_top.specs.Answers.{Answers, HasFileCause, IsSaid}
-use Rattle.ih_top.specs.Inputs.{EndsUnread, IsStopped, role_in}
+use Rattle.ih_top.specs.Inputs.{EndsUnread, IsUnreadInputs, role_in}
 use Rattle.ih_top.specs.Texts.{instance_refused_text, solution_refused_text, too_long_text, unread_text}
 use Rattle.ih_top.proofs.Saying.{IsAnswerable, said-answer, unsaid-by}
 
-module _ (files : Option Names) (r : Reading) where
+module _ (files : Option Names) (r : InputFiles) where
   unread-answerable : IsAnswerable (EndsUnread files r)
   unread-answerable = record {
     unsaid = λ status text some h. unsaid-by (EndsUnread files r) text (λ none. absurd none) (λ none. absurd none) status h;
@@ -29,7 +29,7 @@ module _ (files : Option Names) (r : Reading) where
   named : (name : List ℕ) → r.solution ≡ Some name → name_in r SolutionInput ≡ name
   named name is = ap (λ (o : Option (List ℕ)). unwrap_or o []) is
 
-  pub stopped-answer : (e : InputError) (a : Answer) → IsUnread files r e → IsStopped r e a → Answers (EndsUnread files r) a
+  pub stopped-answer : (e : InputError) (a : Answer) → IsUnread files r e → IsUnreadInputs r e a → Answers (EndsUnread files r) a
   stopped-answer (Unreadable InstanceInput) a h said = said-so (ReadFault Instance) (unread_text r.instance) a refl said
   stopped-answer (Unreadable SolutionInput) a (I, name, next) said =
       said-so (ReadFault Solution) (unread_text (name_in r SolutionInput)) a (I, name, next, ap unread_text (named name next.named)) said
@@ -47,7 +47,7 @@ module _ (reads reads' writes writes' : ℕ) where
   said-cause status text a h (inl memory) = subst (HasFileCause reads reads' writes writes') (sym memory) tt
   said-cause status text a h (inr (same, here)) = subst (HasFileCause reads reads' writes writes') (sym same) h
 
-  pub stopped-cause : (r : Reading) (e : InputError) (a : Answer) → HasFaultCause reads reads' e → IsStopped r e a
+  pub stopped-cause : (r : InputFiles) (e : InputError) (a : Answer) → HasFaultCause reads reads' e → IsUnreadInputs r e a
       → HasFileCause reads reads' writes writes' a.status
   stopped-cause r (Unreadable role) a h said = said-cause (ReadFault (role_in role)) (unread_text (name_in r role)) a h said
   stopped-cause r (Long role) a h said = said-cause (TooLong (role_in role)) (too_long_text (name_in r role)) a tt said

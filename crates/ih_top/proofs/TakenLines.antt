@@ -11,7 +11,7 @@ use Rattle.ih_journal.specs.Legal.{AreLegal}
 use Rattle.ih_journal.specs.Texts.{ended, line_text, lines_from}
 use Rattle.ih_journal.proofs.Growth.{legal-none}
 use Rattle.ih_replay.specs.Refusals.{IsNextLine, IsRefusedFor}
-use Rattle.ih_top.specs.JournalLines.{Begins, HasLine, HasNoFeed, IsRefusedAt, IsRestRefused}
+use Rattle.ih_top.specs.JournalLines.{Begins, HasLine, HasNoLineFeed, IsRefusedAt, IsRestRefused}
 use Rattle.ih_top.proofs.FirstLines.{no-line-in, one-line}
 
 -- the lines of one entry more
@@ -34,7 +34,7 @@ joins-more b H bytes rest line more e joins has next =
     ∙ ap (λ l. l ++ more) (sym (lines-more b.options 0 H e))))
 
 -- nothing more is taken of bytes without a line feed
-pub begins-unended : (b : Base) (H : List Entry) (bytes rest : List ℕ) → AreLegal b 1 (tries H) → bytes ≡ lines_from b.options 0 H ++ rest → HasNoFeed rest
+pub begins-unended : (b : Base) (H : List Entry) (bytes rest : List ℕ) → AreLegal b 1 (tries H) → bytes ≡ lines_from b.options 0 H ++ rest → HasNoLineFeed rest
     → Begins b bytes H rest
 begins-unended b H bytes rest legal joins lacks = record {
   legal = legal;

@@ -15,8 +15,8 @@ use Rattle.ih_top.specs.declared.status.Status.{Status}
 use Rattle.ih_top.specs.declared.status.Status.TheVariants.{Done, ReadFault, InstanceRefused, StartRefused, NoneFound, WriteFault, OutOfMemory, TooLong}
 use Rattle.ih_top.specs.Answers.{Answers, IsSaid, IsUnwritten}
 use Rattle.ih_top.specs.Outputs.{IsOutput, IsOutputOf, IsBestOutput, HasBestOutput, MadeEnds, OutputEnds, WritesOutput}
-use Rattle.ih_top.specs.Searches.{HasBase, IsSearch, HasSearched, HasFoundBest, HasBegun, HasFoundNone, HasFound, IsDone, Kind, SearchEnds, WritingEnds, solution_at, told_by}
-use Rattle.ih_top.specs.Inputs.{EndsUnread, solve_reading}
+use Rattle.ih_top.specs.Searches.{HasBase, IsSearch, HasSearched, HasFoundBest, HasBegun, HasFoundNone, HasFound, IsDone, JournalForm, SearchEnds, WritingEnds, solution_at, tries_in}
+use Rattle.ih_top.specs.Inputs.{EndsUnread, solve_inputs}
 use Rattle.ih_top.specs.Writes.{BeginsJournal, WritesJournal, BeginsSolution, Unchanged, WritesBoth}
 use Rattle.ih_top.specs.Texts.{memory_text, none_found_text, unwritten_text}
 use Rattle.ih_top.proofs.Saying.{IsAnswerable, answers-weaker, said-answer, unsaid-by, unwritten-answer}
@@ -51,10 +51,10 @@ both-begun s text solution x y w = record { journal = w.journal; out = whole-tex
 pub journal-whole-begun : (s : SolveCall) (text : List ℕ) (x y : Names) → WritesJournal s text x y → BeginsJournal s text x y
 journal-whole-begun s text x y w = record { journal = whole-text text (x s.journal) (y s.journal) w.journal; out = w.out; others = w.others }
 
-pub done-found : {X : Type 0} (kind : Kind X) (s : SolveCall) (old new : Option Names) → HasFoundBest WritesBoth kind s old new → HasFound kind s old new
-done-found kind s old new done =
-    let journal = kind.journal done.base.options done.history in
-    let solution = solution_at done.base (told_by kind done.history) done.place in
+pub done-found : {X : Type 0} (form : JournalForm X) (s : SolveCall) (old new : Option Names) → HasFoundBest WritesBoth form s old new → HasFound form s old new
+done-found form s old new done =
+    let journal = form.journal done.base.options done.history in
+    let solution = solution_at done.base (tries_in form done.history) done.place in
     record {
       base = done.base;
       history = done.history;
@@ -65,9 +65,9 @@ done-found kind s old new done =
           (both-begun s journal solution) done.written;
     }
 
-pub none-begun : {X : Type 0} (kind : Kind X) (s : SolveCall) (old new : Option Names) → HasSearched WritesJournal kind s old new → HasBegun kind s old new
-none-begun kind s old new found =
-    let journal = kind.journal found.base.options found.history in
+pub none-begun : {X : Type 0} (form : JournalForm X) (s : SolveCall) (old new : Option Names) → HasSearched WritesJournal form s old new → HasBegun form s old new
+none-begun form s old new found =
+    let journal = form.journal found.base.options found.history in
     record {
       base = found.base;
       history = found.history;
@@ -192,7 +192,7 @@ module _ (begun none found : Type 0) (done : List ℕ → Type 0) (s : SolveCall
   }
 
   -- a call that comes no further than its files
-  pub unread-writing : IfTold Unchanged old new → (status : Status) (text : List ℕ) → EndsUnread old (solve_reading s) status text → OfWriting status text
+  pub unread-writing : IfTold Unchanged old new → (status : Status) (text : List ℕ) → EndsUnread old (solve_inputs s) status text → OfWriting status text
   unread-writing kept OutOfMemory text h = (inl kept, h)
   unread-writing kept (ReadFault role) text h = (kept, h)
   unread-writing kept (InstanceRefused e) text h = (kept, h)
@@ -221,11 +221,11 @@ module _ (begun none found : Type 0) (done : List ℕ → Type 0) (s : SolveCall
 
 -- ---- where a search made it
 
-module _ {X : Type 0} (kind : Kind X) (s : SolveCall) (o : Output) (old new : Option Names) (is : IsOutputOf kind old s o) where
+module _ {X : Type 0} (form : JournalForm X) (s : SolveCall) (o : Output) (old new : Option Names) (is : IsOutputOf form old s o) where
   abbrev journal : List ℕ
-  journal = kind.journal is.base.options is.output.history
+  journal = form.journal is.base.options is.output.history
 
-  searched : IsSearch kind old s is.base is.output.history
+  searched : IsSearch form old s is.base is.output.history
   searched = record {
     base = is.given;
     given = is.output.given;
@@ -236,7 +236,7 @@ module _ {X : Type 0} (kind : Kind X) (s : SolveCall) (o : Output) (old new : Op
   }
 
   journal-written : (writes : SolveCall → List ℕ → Names → Names → Type 0) → IfTold (writes s o.journal.items) old new
-      → HasSearched writes kind s old new
+      → HasSearched writes form s old new
   journal-written writes written = record {
     base = is.base;
     history = is.output.history;
@@ -244,18 +244,18 @@ module _ {X : Type 0} (kind : Kind X) (s : SolveCall) (o : Output) (old new : Op
     written = subst (λ j. IfTold (writes s j) old new) is.output.journal written;
   }
 
-  found-none : o.best ≡ None → IfTold (WritesJournal s o.journal.items) old new → HasFoundNone kind s old new
+  found-none : o.best ≡ None → IfTold (WritesJournal s o.journal.items) old new → HasFoundNone form s old new
   unfolding journal-written
   found-none none written =
-      let no-best : HasNone is.base (told_by kind is.output.history) =
-      subst (HasBestOutput is.base (told_by kind is.output.history)) none is.output.best in
+      let no-best : HasNone is.base (tries_in form is.output.history) =
+      subst (HasBestOutput is.base (tries_in form is.output.history)) none is.output.best in
       (journal-written WritesJournal written, no-best)
 
-  of-best : (best : BestOutput) → o.best ≡ Some best → IsBestOutput is.base (told_by kind is.output.history) best
-  of-best best some = subst (HasBestOutput is.base (told_by kind is.output.history)) some is.output.best
+  of-best : (best : BestOutput) → o.best ≡ Some best → IsBestOutput is.base (tries_in form is.output.history) best
+  of-best best some = subst (HasBestOutput is.base (tries_in form is.output.history)) some is.output.best
 
   best-written : (writes : SolveCall → List ℕ → List ℕ → Names → Names → Type 0) → WritesOutput writes s o old new
-      → HasFoundBest writes kind s old new
+      → HasFoundBest writes form s old new
   best-written writes w =
       let best = of-best w.best w.is in
       record {
@@ -268,16 +268,16 @@ module _ {X : Type 0} (kind : Kind X) (s : SolveCall) (o : Output) (old new : Op
             (subst (λ j. IfTold (writes s j w.best.solution.items) old new) is.output.journal w.written);
       }
 
-  all-done : (w : WritesOutput WritesBoth s o old new) (text : List ℕ) → text ≡ w.best.text.items → IsDone kind s old new text
+  all-done : (w : WritesOutput WritesBoth s o old new) (text : List ℕ) → text ≡ w.best.text.items → IsDone form s old new text
   unfolding best-written of-best
   all-done w text said = (best-written WritesBoth w, said ∙ (of-best w.best w.is).text)
 
-  pub search-ends : (status : Status) (text : List ℕ) → OutputEnds s o old new status text → SearchEnds kind s old new status text
-  search-ends = writing-ends _ _ _ (λ text. IsDone kind s old new text) s old new o all-done found-none (journal-written BeginsJournal) (best-written BeginsSolution)
+  pub search-ends : (status : Status) (text : List ℕ) → OutputEnds s o old new status text → SearchEnds form s old new status text
+  search-ends = writing-ends _ _ _ (λ text. IsDone form s old new text) s old new o all-done found-none (journal-written BeginsJournal) (best-written BeginsSolution)
 
 -- what a search made, or that memory ran out as it was made, is the end of the call that asked for it
-pub made-answer : {X E : Type 0} (kind : Kind X) (s : SolveCall) (made : Result Output E) (old new : Option Names) (b : Base) → HasBase old s b
-    → IfOk made (IsOutput kind b) → (a : Answer) → Answers (MadeEnds s made old new) a → Answers (SearchEnds kind s old new) a
-made-answer kind s made old new b given output =
-    made-writing _ _ _ (λ text. IsDone kind s old new text) s old new (IsOutput kind b)
-    (λ o is. search-ends kind s o old new (record { base = b; given = given; output = is })) made output
+pub made-answer : {X E : Type 0} (form : JournalForm X) (s : SolveCall) (made : Result Output E) (old new : Option Names) (b : Base) → HasBase old s b
+    → IfOk made (IsOutput form b) → (a : Answer) → Answers (MadeEnds s made old new) a → Answers (SearchEnds form s old new) a
+made-answer form s made old new b given output =
+    made-writing _ _ _ (λ text. IsDone form s old new text) s old new (IsOutput form b)
+    (λ o is. search-ends form s o old new (record { base = b; given = given; output = is })) made output

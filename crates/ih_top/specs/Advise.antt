@@ -8,17 +8,17 @@ use Rattle.ih_words.specs.Advise.{AdviseCall}
 use Rattle.ih_shelf.specs.Outside.{Names}
 use Rattle.ih_top.specs.declared.status.Status.{Status}
 use Rattle.ih_top.specs.declared.status.Status.TheVariants.{Done, WriteFault}
-use Rattle.ih_inputs.specs.Reading.{Reading, HasInputs}
+use Rattle.ih_inputs.specs.Reading.{InputFiles, HasInputs}
 use Rattle.ih_top.specs.Inputs.{EndsUnread}
 
-abbrev pub advise_reading : AdviseCall → Reading
-advise_reading a = record { instance = a.instance; solution = Some a.solution }
+abbrev pub advise_inputs : AdviseCall → InputFiles
+advise_inputs a = record { instance = a.instance; solution = Some a.solution }
 
 -- this is the advice on the timetable that the files give
 pub record IsAdvice (files : Option Names) (a : AdviseCall) (text : List ℕ) : Type 0 where
   pub instance : Draft
   pub plan : Timetable
-  pub inputs : HasInputs files (advise_reading a) instance plan
+  pub inputs : HasInputs files (advise_inputs a) instance plan
   pub said : text ≡ advice_text (advice instance a.hard plan)
 
 -- Each case has the whole condition of its status. Whether the timetable breaks a hard rule makes no difference, nor
@@ -28,4 +28,4 @@ AdviseEnds a files Done text = IsAdvice files a text
 -- the advice couldn't be put out
 AdviseEnds a files (WriteFault None) text = IsAdvice files a text
 -- the files aren't as they ought to be
-AdviseEnds a files status text = EndsUnread files (advise_reading a) status text
+AdviseEnds a files status text = EndsUnread files (advise_inputs a) status text

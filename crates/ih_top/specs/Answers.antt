@@ -28,14 +28,14 @@ checked_status false = Infeasible
 abbrev pub Answers : (Status → List ℕ → Type 0) → Answer → Type 0
 Answers ends a = ((a.status ≡ OutOfMemory) × ends OutOfMemory memory_text) ⊎ ends a.status a.text.items
 
--- The sink gained the text, or a part where it wanted memory; where memory had run out before, it is the text that says
+-- The sink received the text, or a part where it wanted memory; where memory had run out before, it is the text that says
 -- so. An empty text isn't put out.
 abbrev pub IsConcluded : Status → List ℕ → (List ℕ → Type 0) → (List ℕ → Type 0) → Status → Type 0
-IsConcluded status text gained part result =
-    ((status ≡ OutOfMemory) × (result ≡ OutOfMemory) × (gained memory_text ⊎ part memory_text))
-    ⊎ ((status ≢ OutOfMemory) × (result ≡ status) × gained text)
+IsConcluded status text received part result =
+    ((status ≡ OutOfMemory) × (result ≡ OutOfMemory) × (received memory_text ⊎ part memory_text))
+    ⊎ ((status ≢ OutOfMemory) × (result ≡ status) × received text)
     ⊎ ((status ≢ OutOfMemory) × (text ≢ [])
-    × (((result ≡ unsaid status) × gained text) ⊎ ((result ≡ OutOfMemory) × part text)))
+    × (((result ≡ unsaid status) × received text) ⊎ ((result ≡ OutOfMemory) × part text)))
 
 -- the status is that of an unsaid text only where the sink's count of faults rose, and `OutOfMemory` only where that of
 -- its lacks did

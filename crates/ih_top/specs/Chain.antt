@@ -11,11 +11,11 @@ use Rattle.ih_words.specs.Chain.{ChainCall}
 use Rattle.ih_shelf.specs.Outside.{Names}
 use Rattle.ih_top.specs.declared.output.BestOutput.{BestOutput}
 use Rattle.ih_top.specs.declared.status.Status.{Status}
-use Rattle.ih_top.specs.Searches.{Kind, SearchEnds}
+use Rattle.ih_top.specs.Searches.{JournalForm, SearchEnds}
 use Rattle.ih_top.specs.Texts.{found_text}
 
 -- a search by chains of so many moves
-abbrev pub of_chains : ℕ → Kind ChainEntry
+abbrev pub of_chains : ℕ → JournalForm ChainEntry
 of_chains each = record { tried = chain_tried; journal = λ o H. chain_journal o each H; each = each }
 
 abbrev pub ChainEnds : ChainCall → Option Names → Option Names → Status → List ℕ → Type 0

@@ -10,13 +10,13 @@ use Rattle.ih_shelf.specs.Outside.{Names}
 use Rattle.ih_top.specs.declared.status.Status.{Status}
 use Rattle.ih_top.specs.declared.status.Status.TheVariants.{Done, Infeasible, WriteFault}
 use Rattle.ih_inputs.specs.Reading.{HasInputs}
-use Rattle.ih_top.specs.Inputs.{check_reading, EndsUnread}
+use Rattle.ih_top.specs.Inputs.{check_inputs, EndsUnread}
 
 -- this is the report on the timetable that the files give
 pub record IsReport (files : Option Names) (c : CheckCall) (text : List ℕ) : Type 0 where
   pub instance : Draft
   pub plan : Timetable
-  pub inputs : HasInputs files (check_reading c) instance plan
+  pub inputs : HasInputs files (check_inputs c) instance plan
   pub said : text ≡ report instance.weights (bill_of instance plan)
 
 -- Each case has the whole condition of its status. Where the shelf tells what it holds, no two of them hold of one
@@ -29,4 +29,4 @@ CheckEnds c files Infeasible text = (r : IsReport files c text) × (feasible (bi
 -- the report couldn't be put out
 CheckEnds c files (WriteFault None) text = IsReport files c text
 -- the files aren't as they ought to be
-CheckEnds c files status text = EndsUnread files (check_reading c) status text
+CheckEnds c files status text = EndsUnread files (check_inputs c) status text

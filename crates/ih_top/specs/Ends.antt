@@ -11,10 +11,10 @@ use Rattle.ih_words.specs.Words.{Call, solve, replay, salvage, check, chain, rou
 use Rattle.ih_shelf.specs.Outside.{IsAppended, MayBeAppended, Names, Rose, IfTold}
 use Rattle.ih_top.specs.declared.status.Status.{Status}
 use Rattle.ih_top.specs.declared.status.Status.TheVariants.{Done, Usage, ReadFault, NoneFound, WriteFault, OutOfMemory, Infeasible}
-use Rattle.ih_top.specs.Advise.{AdviseEnds, advise_reading}
+use Rattle.ih_top.specs.Advise.{AdviseEnds, advise_inputs}
 use Rattle.ih_top.specs.Answers.{unsaid}
 use Rattle.ih_inputs.specs.Reading.{HasInputs}
-use Rattle.ih_top.specs.Inputs.{solve_reading, check_reading}
+use Rattle.ih_top.specs.Inputs.{solve_inputs, check_inputs}
 use Rattle.ih_top.specs.Solve.{SolveEnds}
 use Rattle.ih_top.specs.Writes.{Unchanged}
 use Rattle.ih_top.specs.JournalFiles.{HasRead, JournalRead}
@@ -30,15 +30,16 @@ use Rattle.ih_top.specs.Texts.{usage_text, memory_text}
 
 -- ---- the sink
 
--- The sink gained the text whole; or a prefix of it, where its count of faults rose and the status isn't one that asks
+-- The sink received the text whole; or a prefix of it, where its count of faults rose and the status isn't one that asks
 -- for the whole.
-abbrev pub Gained : Status → Option (List ℕ) → Option (List ℕ) → ℕ → ℕ → List ℕ → Type 0
-Gained status old new before now text =
-    IfTold (IsAppended text) old new ⊎ ((unsaid status ≡ status) × Rose before now × IfTold (MayBeAppended text) old new)
+abbrev pub Received : Status → Option (List ℕ) → Option (List ℕ) → ℕ → ℕ → List ℕ → Type 0
+Received status old new before now text =
+    IfTold (IsAppended text) old new
+    ⊎ ((unsaid status ≡ status) × Rose before now × IfTold (MayBeAppended text) old new)
 
--- the sink's count of lacks of memory rose, and it gained a prefix of the text
-abbrev pub GainedPart : Option (List ℕ) → Option (List ℕ) → ℕ → ℕ → List ℕ → Type 0
-GainedPart old new before now text = Rose before now × IfTold (MayBeAppended text) old new
+-- the sink's count of lacks of memory rose, and it received a prefix of the text
+abbrev pub ReceivedPart : Option (List ℕ) → Option (List ℕ) → ℕ → ℕ → List ℕ → Type 0
+ReceivedPart old new before now text = Rose before now × IfTold (MayBeAppended text) old new
 
 -- ---- a call with lawful words
 
@@ -55,13 +56,13 @@ CallEnds (advise a) old new status text = IfTold Unchanged old new × AdviseEnds
 CallEnds (gen g) old new status text = GenEnds g old new status text
 CallEnds (demo number) old new status text = IfTold Unchanged old new × DemoEnds number status text
 
--- At each status the sink gained the text that the call had to say there. At `OutOfMemory` it may be instead that the
--- sink wanted memory itself, and gained a part of the text of a status that the call had reached.
+-- At each status the sink received the text that the call had to say there. At `OutOfMemory` it may be instead that the
+-- sink wanted memory itself, and received a part of the text of a status that the call had reached.
 abbrev pub Ends : (Status → List ℕ → Type 0) → (List ℕ → Type 0) → (List ℕ → Type 0) → Status → Type 0
-Ends ends gained part OutOfMemory =
-    ((text : List ℕ) × ends OutOfMemory text × gained text)
+Ends ends received part OutOfMemory =
+    ((text : List ℕ) × ends OutOfMemory text × received text)
     ⊎ ((status : Status) × (text : List ℕ) × ends status text × part text)
-Ends ends gained part status = (text : List ℕ) × ends status text × gained text
+Ends ends received part status = (text : List ℕ) × ends status text × received text
 
 -- ---- any call
 
@@ -73,8 +74,8 @@ UsageEnds status text = ⊥
 
 -- what the files then hold and what is said, by the call that the words name
 abbrev pub Leaves : Option Call → Option Names → Option Names → (List ℕ → Type 0) → (List ℕ → Type 0) → Status → Type 0
-Leaves None old new gained part status = IfTold Unchanged old new × Ends UsageEnds gained part status
-Leaves (Some call) old new gained part status = Ends (CallEnds call old new) gained part status
+Leaves None old new received part status = IfTold Unchanged old new × Ends UsageEnds received part status
+Leaves (Some call) old new received part status = Ends (CallEnds call old new) received part status
 
 -- A fault is answered only where its count rose in the call, or stands at the last number of 64 bits.
 abbrev pub HasCause : ℕ → ℕ → ℕ → ℕ → ℕ → ℕ → Status → Type 0
@@ -98,15 +99,15 @@ IsAnswered (demo number) status = (status ≡ Done) ⊎ (status ≡ NoneFound) �
 -- The files that a call reads are as they ought to be: the journal of replay is that of a full history, and that of
 -- salvage has its heading. A gen and a demo read none.
 abbrev pub HasFiles : Call → Names → Type 0
-HasFiles (solve s) files = (I : Draft) × (P : Timetable) × HasInputs (Some files) (solve_reading s) I P
+HasFiles (solve s) files = (I : Draft) × (P : Timetable) × HasInputs (Some files) (solve_inputs s) I P
 HasFiles (replay r) files = (x : JournalRead) × (b : Base) × (H : List Entry) × HasRead (Some files) r x
     × IsHeadedBy r.start x b (lines_from b.options 0 H) × IsFull b 1 (tries H)
 HasFiles (salvage r) files =
     (x : JournalRead) × (b : Base) × (bytes : List ℕ) × HasRead (Some files) r x × IsHeadedBy r.start x b bytes
-HasFiles (check c) files = (I : Draft) × (P : Timetable) × HasInputs (Some files) (check_reading c) I P
-HasFiles (chain c) files = (I : Draft) × (P : Timetable) × HasInputs (Some files) (solve_reading c.search) I P
-HasFiles (rounds r) files = (I : Draft) × (P : Timetable) × HasInputs (Some files) (solve_reading r.search) I P
-HasFiles (advise a) files = (I : Draft) × (P : Timetable) × HasInputs (Some files) (advise_reading a) I P
+HasFiles (check c) files = (I : Draft) × (P : Timetable) × HasInputs (Some files) (check_inputs c) I P
+HasFiles (chain c) files = (I : Draft) × (P : Timetable) × HasInputs (Some files) (solve_inputs c.search) I P
+HasFiles (rounds r) files = (I : Draft) × (P : Timetable) × HasInputs (Some files) (solve_inputs r.search) I P
+HasFiles (advise a) files = (I : Draft) × (P : Timetable) × HasInputs (Some files) (advise_inputs a) I P
 HasFiles (gen g) files = Unit {0}
 HasFiles (demo number) files = Unit {0}
 

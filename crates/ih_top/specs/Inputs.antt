@@ -6,7 +6,7 @@ use Rattle.ih_words.specs.Check.{CheckCall}
 use Rattle.ih_words.specs.Replay.{ReplayCall}
 use Rattle.ih_words.specs.Start.{StartCall}
 use Rattle.ih_shelf.specs.Outside.{Names}
-use Rattle.ih_inputs.specs.Reading.{Reading, IsInstanceRefused, IsLong, IsNext, IsSolutionRefused, name_in}
+use Rattle.ih_inputs.specs.Reading.{InputFiles, IsInstanceRefused, IsLong, IsNext, IsSolutionRefused, name_in}
 use Rattle.ih_inputs.specs.declared.error.InputRole.{InputRole}
 use Rattle.ih_inputs.specs.declared.error.InputRole.TheVariants.{Instance as InstanceInput, Solution as SolutionInput}
 use Rattle.ih_inputs.specs.declared.error.InputError.{InputError}
@@ -20,21 +20,21 @@ use Rattle.ih_top.specs.declared.status.Role.TheVariants.{Instance, Solution}
 use Rattle.ih_top.specs.Texts.{unread_text, too_long_text, instance_refused_text, solution_refused_text, memory_text}
 
 -- an instance, and the file of a start
-abbrev pub start_reading : List ℕ → StartCall → Reading
-start_reading instance s = record { instance = instance; solution = s.file }
+abbrev pub start_inputs : List ℕ → StartCall → InputFiles
+start_inputs instance s = record { instance = instance; solution = s.file }
 
-abbrev pub solve_reading : SolveCall → Reading
-solve_reading s = start_reading s.instance s.start
+abbrev pub solve_inputs : SolveCall → InputFiles
+solve_inputs s = start_inputs s.instance s.start
 
-abbrev pub replay_reading : ReplayCall → Reading
-replay_reading r = start_reading r.instance r.start
+abbrev pub replay_inputs : ReplayCall → InputFiles
+replay_inputs r = start_inputs r.instance r.start
 
-abbrev pub check_reading : CheckCall → Reading
-check_reading c = record { instance = c.instance; solution = Some c.solution }
+abbrev pub check_inputs : CheckCall → InputFiles
+check_inputs c = record { instance = c.instance; solution = Some c.solution }
 
 -- How a call ends that comes no further than its files: the status, why it comes, and what is said. The instance comes
 -- first, then the timetable; of each file first its length, then its form.
-abbrev pub EndsUnread : Option Names → Reading → Status → List ℕ → Type 0
+abbrev pub EndsUnread : Option Names → InputFiles → Status → List ℕ → Type 0
 EndsUnread files r (ReadFault Instance) text = text ≡ unread_text r.instance
 EndsUnread files r (TooLong Instance) text = IfSome files (IsLong r.instance) × (text ≡ too_long_text r.instance)
 EndsUnread files r (InstanceRefused e) text =
@@ -55,9 +55,9 @@ role_in InstanceInput = Instance
 role_in SolutionInput = Solution
 
 -- the answer says why the files can't be had
-abbrev pub IsStopped : Reading → InputError → Answer → Type 0
-IsStopped r (Unreadable role) a = IsSaid (ReadFault (role_in role)) (unread_text (name_in r role)) a
-IsStopped r (Long role) a = IsSaid (TooLong (role_in role)) (too_long_text (name_in r role)) a
-IsStopped r (NoInstance e) a = IsSaid (InstanceRefused e) (instance_refused_text e) a
-IsStopped r (NoSolution e) a = IsSaid (StartRefused e) (solution_refused_text e) a
-IsStopped r NoRoom a = a.status ≡ OutOfMemory
+abbrev pub IsUnreadInputs : InputFiles → InputError → Answer → Type 0
+IsUnreadInputs r (Unreadable role) a = IsSaid (ReadFault (role_in role)) (unread_text (name_in r role)) a
+IsUnreadInputs r (Long role) a = IsSaid (TooLong (role_in role)) (too_long_text (name_in r role)) a
+IsUnreadInputs r (NoInstance e) a = IsSaid (InstanceRefused e) (instance_refused_text e) a
+IsUnreadInputs r (NoSolution e) a = IsSaid (StartRefused e) (solution_refused_text e) a
+IsUnreadInputs r NoRoom a = a.status ≡ OutOfMemory

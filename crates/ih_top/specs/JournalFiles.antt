@@ -10,7 +10,7 @@ use Rattle.ih_top.specs.declared.status.Status.{Status}
 use Rattle.ih_top.specs.declared.status.Status.TheVariants.{ReadFault, TooLong}
 use Rattle.ih_top.specs.declared.status.Role.TheVariants.{Journal}
 use Rattle.ih_inputs.specs.Reading.{HasInputs, IsLongerThan}
-use Rattle.ih_top.specs.Inputs.{replay_reading, EndsUnread}
+use Rattle.ih_top.specs.Inputs.{replay_inputs, EndsUnread}
 use Rattle.ih_top.specs.Texts.{too_long_text, unread_text}
 
 -- an instance, the timetable of the start before it is filled, and the bytes of a journal
@@ -29,18 +29,18 @@ pub record HasBytes (name bytes : List ℕ) (files : Names) : Type 0 where
 
 -- the files give this
 pub record HasRead (files : Option Names) (r : ReplayCall) (x : JournalRead) : Type 0 where
-  pub inputs : HasInputs files (replay_reading r) x.instance x.plan
+  pub inputs : HasInputs files (replay_inputs r) x.instance x.plan
   pub journal : IfSome files (HasBytes r.journal x.bytes)
 
 -- the instance and the start are accepted
 pub record HasGiven (files : Option Names) (r : ReplayCall) : Type 0 where
   pub instance : Draft
   pub plan : Timetable
-  pub inputs : HasInputs files (replay_reading r) instance plan
+  pub inputs : HasInputs files (replay_inputs r) instance plan
 
 -- how a call ends that comes no further than its files: the instance, the start, and then the journal
 abbrev pub EndsUnreadJournal : Option Names → ReplayCall → Status → List ℕ → Type 0
 EndsUnreadJournal files r (ReadFault Journal) text = HasGiven files r × (text ≡ unread_text r.journal)
 EndsUnreadJournal files r (TooLong Journal) text =
     HasGiven files r × IfSome files (IsLongerThan MAX_JOURNAL r.journal) × (text ≡ too_long_text r.journal)
-EndsUnreadJournal files r status text = EndsUnread files (replay_reading r) status text
+EndsUnreadJournal files r status text = EndsUnread files (replay_inputs r) status text

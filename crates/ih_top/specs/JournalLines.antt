@@ -11,13 +11,13 @@ use Rattle.ih_journal.specs.Texts.{ended, lines_from}
 use Rattle.ih_replay.specs.Refusals.{IsGoing, IsNextLine, IsRefusedFor}
 
 -- the bytes have no line feed
-abbrev pub HasNoFeed : List ℕ → Type 0
-HasNoFeed bytes = All (λ b. (b == 10) ≡ false) bytes
+abbrev pub HasNoLineFeed : List ℕ → Type 0
+HasNoLineFeed bytes = All (λ b. (b == 10) ≡ false) bytes
 
 -- the bytes begin with this line, and more stands behind its line feed
 pub record HasLine (bytes line more : List ℕ) : Type 0 where
   pub joins : bytes ≡ ended line ++ more
-  pub first : HasNoFeed line
+  pub first : HasNoLineFeed line
 
 -- H is the longest legal history whose lines the bytes begin with: the line that follows them isn't that of an entry
 -- that may come next
@@ -37,7 +37,7 @@ IsUnendedFor b H reason = ⊥
 abbrev pub IsRestRefused : Base → List Entry → List ℕ → Reason → Type 0
 IsRestRefused b H rest reason =
     ((line : List ℕ) × (more : List ℕ) × HasLine rest line more × IsRefusedFor b H line reason)
-    ⊎ ((rest ≢ []) × HasNoFeed rest × IsUnendedFor b H reason)
+    ⊎ ((rest ≢ []) × HasNoLineFeed rest × IsUnendedFor b H reason)
     ⊎ ((rest ≡ []) × (reason ≡ Early) × ((w : ℕ) × IsGoing b (tries H) w))
 
 -- the bytes are refused as the lines of a full history, at the line behind those of H; the heading is line 1

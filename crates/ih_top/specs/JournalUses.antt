@@ -40,9 +40,9 @@ IsLinesFor Salvage b bytes (Refused e) = ⊥
 
 -- what the journal comes to
 abbrev pub IsOutcomeFor : JournalUse → StartCall → JournalRead → Outcome → Type 0
-IsOutcomeFor usage s x o = IsOutcome (taken_for usage s x) (refused_for usage s x) (said_for usage) o
+IsOutcomeFor journal_use s x o = IsOutcome (taken_for journal_use s x) (refused_for journal_use s x) (said_for journal_use) o
 
 -- how the call ends
 abbrev pub JournalUseEnds : JournalUse → ReplayCall → Option Names → Option Names → Status → List ℕ → Type 0
-JournalUseEnds usage r old new status text =
-    JournalEnds (taken_for usage r.start) (refused_for usage r.start) (said_for usage) r old new status text
+JournalUseEnds journal_use r old new status text =
+    JournalEnds (taken_for journal_use r.start) (refused_for journal_use r.start) (said_for journal_use) r old new status text

@@ -29,7 +29,7 @@ use Rattle.ih_top.specs.JournalHeading.{HasNoHeading, no_heading}
 use Rattle.ih_top.specs.Replay.{AreNotFull, ReplayEnds}
 use Rattle.ih_top.specs.Salvage.{SalvageEnds}
 use Rattle.ih_top.specs.Rounds.{AreSearches, RoundsEnds}
-use Rattle.ih_top.specs.Searches.{HasFoundNone, IsDone, IsSearch, Kind, SearchEnds}
+use Rattle.ih_top.specs.Searches.{HasFoundNone, IsDone, IsSearch, JournalForm, SearchEnds}
 use Rattle.ih_top.specs.Solve.{of_moves}
 use Rattle.ih_top.specs.Texts.{journal_refused_text, none_found_text, salvaged_line}
 
@@ -54,9 +54,9 @@ HasNoFault status = Unit {0}
 -- ---- searches of one worker
 
 -- with one worker, files and words give one search and one history, by single moves or by chains
-abbrev pub LoneSearchesAreAlike : {X : Type 0} → Kind X → Type 0
-LoneSearchesAreAlike {X} kind = (files : Names) (s : SolveCall) (b c : Base) (H G : List X) → s.options.workers ≡ 1
-    → IsSearch kind (Some files) s b H → IsSearch kind (Some files) s c G → (b ≡ c) × (H ≡ G)
+abbrev pub LoneSearchesAreAlike : {X : Type 0} → JournalForm X → Type 0
+LoneSearchesAreAlike {X} form = (files : Names) (s : SolveCall) (b c : Base) (H G : List X) → s.options.workers ≡ 1
+    → IsSearch form (Some files) s b H → IsSearch form (Some files) s c G → (b ≡ c) × (H ≡ G)
 
 -- two calls that are done leave the same journal and the same solution, and say the same
 pub record DoTheSame (s : SolveCall) (new other : Names) (text told : List ℕ) : Type 0 where
@@ -64,9 +64,9 @@ pub record DoTheSame (s : SolveCall) (new other : Names) (text told : List ℕ) 
   pub solution : new s.out ≡ other s.out
   pub said : text ≡ told
 
-abbrev pub LoneSearchesDoTheSame : {X : Type 0} → Kind X → Type 0
-LoneSearchesDoTheSame kind = (s : SolveCall) (old new other : Names) (text told : List ℕ) → s.options.workers ≡ 1
-    → IsDone kind s (Some old) (Some new) text → IsDone kind s (Some old) (Some other) told
+abbrev pub LoneSearchesDoTheSame : {X : Type 0} → JournalForm X → Type 0
+LoneSearchesDoTheSame form = (s : SolveCall) (old new other : Names) (text told : List ℕ) → s.options.workers ≡ 1
+    → IsDone form s (Some old) (Some new) text → IsDone form s (Some old) (Some other) told
     → DoTheSame s new other text told
 
 -- two calls ended in the same status, said the same and left the same files
@@ -77,11 +77,11 @@ pub record EndTheSame (first second : Status) (text told : List ℕ) (new other 
 
 -- However two calls over the same files end, also where a file is refused: with no fault, and memory enough, they end
 -- the same.
-abbrev pub LoneSearchesEndAlike : {X : Type 0} → Kind X → Type 0
-LoneSearchesEndAlike kind =
+abbrev pub LoneSearchesEndAlike : {X : Type 0} → JournalForm X → Type 0
+LoneSearchesEndAlike form =
     (s : SolveCall) (old new other : Names) (status ended : Status) (text told : List ℕ) → s.options.workers ≡ 1
     → HasNoFault status → HasNoFault ended → status ≢ OutOfMemory → ended ≢ OutOfMemory
-    → SearchEnds kind s (Some old) (Some new) status text → SearchEnds kind s (Some old) (Some other) ended told
+    → SearchEnds form s (Some old) (Some new) status text → SearchEnds form s (Some old) (Some other) ended told
     → EndTheSame status ended text told new other
 
 -- and one run of rounds, each with one history
@@ -129,8 +129,8 @@ EndsIn wanted text left status said = (status ≡ OutOfMemory) ⊎ ((status ≡ 
 
 -- After solve wrote its best, replay of its journal writes the same solution and says the same, and salvage says before
 -- it that there are so many lines.
-pub record IsReplayedAlike (s : SolveCall) (r : ReplayCall) (before after there left : Names) (text : List ℕ) (lines : ℕ)
-    (ended : Status) (said : List ℕ) : Type 0 where
+pub record IsReplayedAlike (s : SolveCall) (r : ReplayCall) (before after there left : Names) (text : List ℕ)
+    (lines : ℕ) (ended : Status) (said : List ℕ) : Type 0 where
   pub replayed : ReplayEnds r (Some there) (Some left) ended said
       → EndsIn Done text (left r.out ≡ after s.out) ended said
   pub salvaged : SalvageEnds r (Some there) (Some left) ended said

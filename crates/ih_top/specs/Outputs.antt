@@ -18,7 +18,7 @@ use Rattle.ih_top.specs.declared.status.Role.TheVariants.{Journal, Out}
 use Rattle.ih_top.specs.declared.status.Status.{Status}
 use Rattle.ih_top.specs.declared.status.Status.TheVariants.{Done, NoneFound, OutOfMemory, WriteFault}
 use Rattle.ih_top.specs.Texts.{done_text, memory_text, none_found_text, unwritten_text}
-use Rattle.ih_top.specs.Searches.{HasBase, Kind, solution_at, told_by}
+use Rattle.ih_top.specs.Searches.{HasBase, JournalForm, solution_at, tries_in}
 use Rattle.ih_top.specs.Writes.{BeginsJournal, BeginsSolution, Unchanged, WritesBoth, WritesJournal}
 
 -- the best of a history, its solution and what is said of it
@@ -42,21 +42,22 @@ HasBestOutput b H o = HasBestSaid done_text b H o
 
 -- the journal of a full history that keeps the frozen choices and whose accepted prices are exact, and its best where
 -- there is one
-pub record IsOutput {X : Type 0} (kind : Kind X) (b : Base) (o : Output) : Type 0 where
+pub record IsOutput {X : Type 0} (form : JournalForm X) (b : Base) (o : Output) : Type 0 where
   pub history : List X
   pub given : IsBase b
   pub seed : b.options.seed < 2 ^ 64
-  pub full : IsFull b kind.each (told_by kind history)
-  pub agrees : (k : ℕ) → AgreesBefore b (plan_at b (told_by kind history) k)
-  pub exact : AreExact b (told_by kind history)
-  pub journal : o.journal.items ≡ kind.journal b.options history
-  pub best : HasBestOutput b (told_by kind history) o.best
+  pub full : IsFull b form.each (tries_in form history)
+  pub agrees : (k : ℕ) → AgreesBefore b (plan_at b (tries_in form history) k)
+  pub exact : AreExact b (tries_in form history)
+  pub journal : o.journal.items ≡ form.journal b.options history
+  pub best : HasBestOutput b (tries_in form history) o.best
 
 -- what a search makes from what the files and the words give
-pub record IsOutputOf {X : Type 0} (kind : Kind X) (files : Option Names) (s : SolveCall) (o : Output) : Type 0 where
+pub record IsOutputOf {X : Type 0} (form : JournalForm X) (files : Option Names) (s : SolveCall) (o : Output)
+    : Type 0 where
   pub base : Base
   pub given : HasBase files s base
-  pub output : IsOutput kind base o
+  pub output : IsOutput form base o
 
 -- a search from what was read
 abbrev pub base_from : SolveCall → Inputs → Base

@@ -16,7 +16,7 @@ use Rattle.ih_shelf.specs.Outside.{Names, IfTold}
 use Rattle.ih_top.specs.declared.status.Status.{Status}
 use Rattle.ih_top.specs.declared.status.Status.TheVariants.{Done, NoneFound, WriteFault, OutOfMemory}
 use Rattle.ih_top.specs.declared.status.Role.TheVariants.{Journal, Out}
-use Rattle.ih_top.specs.Inputs.{solve_reading, EndsUnread}
+use Rattle.ih_top.specs.Inputs.{solve_inputs, EndsUnread}
 use Rattle.ih_top.specs.Starts.{HasStart}
 use Rattle.ih_top.specs.Texts.{none_found_text, memory_text, unwritten_text, done_text}
 use Rattle.ih_top.specs.Writes.{Unchanged, BeginsJournal, WritesJournal, BeginsSolution, WritesBoth}
@@ -26,75 +26,75 @@ pub record HasBase (files : Option Names) (s : SolveCall) (b : Base) : Type 0 wh
   pub start : HasStart files s.instance s.start b
   pub options : b.options ≡ s.options
 
--- How a search keeps what it tries: what an entry stands for, its journal, and how many moves an attempt has.
-pub record Kind (X : Type 0) : Type 0 where
+-- How a search keeps what it tries: what an entry stands for, the text of a journal, and how many moves an attempt has.
+pub record JournalForm (X : Type 0) : Type 0 where
   pub tried : X → Tried
   pub journal : Options → List X → List ℕ
   pub each : ℕ
 
--- what entries of a kind stand for
-abbrev pub told_by : {X : Type 0} → Kind X → List X → List Tried
-told_by kind H = map kind.tried H
+-- what the entries of a history stand for
+abbrev pub tries_in : {X : Type 0} → JournalForm X → List X → List Tried
+tries_in form H = map form.tried H
 
 -- A full history over what the files and the words give. Each of its timetables agrees with the start on the choices
 -- before the freeze day, and each accepted price is the change of the bill at its own place.
-pub record IsSearch {X : Type 0} (kind : Kind X) (files : Option Names) (s : SolveCall) (b : Base)
+pub record IsSearch {X : Type 0} (form : JournalForm X) (files : Option Names) (s : SolveCall) (b : Base)
     (H : List X) : Type 0 where
   pub base : HasBase files s b
   -- the start is a timetable of the instance, and the options are lawful
   pub given : IsBase b
   pub seed : b.options.seed < 2 ^ 64
-  pub full : IsFull b kind.each (told_by kind H)
-  pub agrees : (k : ℕ) → AgreesBefore b (plan_at b (told_by kind H) k)
-  pub exact : AreExact b (told_by kind H)
+  pub full : IsFull b form.each (tries_in form H)
+  pub agrees : (k : ℕ) → AgreesBefore b (plan_at b (tries_in form H) k)
+  pub exact : AreExact b (tries_in form H)
 
 -- the solution file of the timetable at a place
 abbrev pub solution_at : Base → List Tried → ℕ → List ℕ
 solution_at b H k = solution b.instance (plan_at b H k)
 
 -- the journal of a full history is written, as far as `writes` says
-pub record HasSearched {X : Type 0} (writes : SolveCall → List ℕ → Names → Names → Type 0) (kind : Kind X) (s : SolveCall)
-    (old new : Option Names) : Type 0 where
-  pub base : Base
-  pub history : List X
-  pub search : IsSearch kind old s base history
-  pub written : IfTold (writes s (kind.journal base.options history)) old new
-
--- the journal of a full history and the solution of its first cheapest feasible timetable are written, as far as
--- `writes` says
-pub record HasFoundBest {X : Type 0} (writes : SolveCall → List ℕ → List ℕ → Names → Names → Type 0) (kind : Kind X)
+pub record HasSearched {X : Type 0} (writes : SolveCall → List ℕ → Names → Names → Type 0) (form : JournalForm X)
     (s : SolveCall) (old new : Option Names) : Type 0 where
   pub base : Base
   pub history : List X
+  pub search : IsSearch form old s base history
+  pub written : IfTold (writes s (form.journal base.options history)) old new
+
+-- the journal of a full history and the solution of its first cheapest feasible timetable are written, as far as
+-- `writes` says
+pub record HasFoundBest {X : Type 0} (writes : SolveCall → List ℕ → List ℕ → Names → Names → Type 0)
+    (form : JournalForm X) (s : SolveCall) (old new : Option Names) : Type 0 where
+  pub base : Base
+  pub history : List X
   pub place : ℕ
-  pub search : IsSearch kind old s base history
-  pub best : IsBest base (told_by kind history) place
+  pub search : IsSearch form old s base history
+  pub best : IsBest base (tries_in form history) place
   pub written : IfTold
-      (writes s (kind.journal base.options history) (solution_at base (told_by kind history) place)) old new
+      (writes s (form.journal base.options history) (solution_at base (tries_in form history) place)) old new
 
 -- the journal is written or begun
-abbrev pub HasBegun : {X : Type 0} → Kind X → SolveCall → Option Names → Option Names → Type 0
-HasBegun kind s old new = HasSearched BeginsJournal kind s old new
+abbrev pub HasBegun : {X : Type 0} → JournalForm X → SolveCall → Option Names → Option Names → Type 0
+HasBegun form s old new = HasSearched BeginsJournal form s old new
 
 -- the journal is written, and no timetable of its history is feasible
-abbrev pub HasFoundNone : {X : Type 0} → Kind X → SolveCall → Option Names → Option Names → Type 0
-HasFoundNone kind s old new = (h : HasSearched WritesJournal kind s old new) × HasNone h.base (told_by kind h.history)
+abbrev pub HasFoundNone : {X : Type 0} → JournalForm X → SolveCall → Option Names → Option Names → Type 0
+HasFoundNone form s old new = (h : HasSearched WritesJournal form s old new) × HasNone h.base (tries_in form h.history)
 
 -- the journal is written, and the solution may be begun
-abbrev pub HasFound : {X : Type 0} → Kind X → SolveCall → Option Names → Option Names → Type 0
-HasFound kind s old new = HasFoundBest BeginsSolution kind s old new
+abbrev pub HasFound : {X : Type 0} → JournalForm X → SolveCall → Option Names → Option Names → Type 0
+HasFound form s old new = HasFoundBest BeginsSolution form s old new
 
 -- both are written, and this is what is said of it
-abbrev pub IsDone : {X : Type 0} → Kind X → SolveCall → Option Names → Option Names → List ℕ → Type 0
-IsDone kind s old new text =
-    (h : HasFoundBest WritesBoth kind s old new) × (text ≡ done_text h.base (told_by kind h.history) h.place)
+abbrev pub IsDone : {X : Type 0} → JournalForm X → SolveCall → Option Names → Option Names → List ℕ → Type 0
+IsDone form s old new text =
+    (h : HasFoundBest WritesBoth form s old new) × (text ≡ done_text h.base (tries_in form h.history) h.place)
 
 -- How a call ends that searches, and writes the journal of that and the solution of its best. Each case has the whole
 -- condition of its status, by what it means that the journal is begun, that none was found, that the solution may be
 -- begun, and that all is done with a text to be said. Where the shelf tells what it holds, no two cases hold of one
 -- call, but for faults and for lack of memory.
-abbrev pub WritingEnds : (begun none found : Type 0) → (done : List ℕ → Type 0) → SolveCall → Option Names → Option Names
-    → Status → List ℕ → Type 0
+abbrev pub WritingEnds : (begun none found : Type 0) → (done : List ℕ → Type 0)
+    → SolveCall → Option Names → Option Names → Status → List ℕ → Type 0
 -- the journal, the first cheapest feasible timetable and its report are out
 WritingEnds begun none found done s old new Done text = done text
 -- the journal is out, and no timetable of it is feasible
@@ -108,10 +108,11 @@ WritingEnds begun none found done s old new OutOfMemory text =
     (IfTold Unchanged old new ⊎ begun ⊎ found) × (text ≡ memory_text)
 -- the files aren't as they ought to be
 WritingEnds begun none found done s old new status text =
-    IfTold Unchanged old new × EndsUnread old (solve_reading s) status text
+    IfTold Unchanged old new × EndsUnread old (solve_inputs s) status text
 
 -- how a call ends that makes one search
-abbrev pub SearchEnds : {X : Type 0} → Kind X → SolveCall → Option Names → Option Names → Status → List ℕ → Type 0
-SearchEnds kind s old new status text =
-    WritingEnds (HasBegun kind s old new) (HasFoundNone kind s old new) (HasFound kind s old new)
-    (λ said. IsDone kind s old new said) s old new status text
+abbrev pub SearchEnds : {X : Type 0} → JournalForm X → SolveCall → Option Names → Option Names
+    → Status → List ℕ → Type 0
+SearchEnds form s old new status text =
+    WritingEnds (HasBegun form s old new) (HasFoundNone form s old new) (HasFound form s old new)
+    (λ said. IsDone form s old new said) s old new status text

@@ -6,10 +6,10 @@ use Rattle.ih_journal.specs.Texts.{journal}
 use Rattle.ih_words.specs.Solve.{SolveCall}
 use Rattle.ih_shelf.specs.Outside.{Names}
 use Rattle.ih_top.specs.declared.status.Status.{Status}
-use Rattle.ih_top.specs.Searches.{Kind, SearchEnds}
+use Rattle.ih_top.specs.Searches.{JournalForm, SearchEnds}
 
 -- a search of single moves
-abbrev pub of_moves : Kind Entry
+abbrev pub of_moves : JournalForm Entry
 of_moves = record { tried = tried; journal = journal; each = 1 }
 
 -- how a call of solve ends

@@ -7,7 +7,7 @@ use Rattle.ih_journal.specs.Base.{Base}
 use Rattle.ih_words.specs.Start.{StartCall}
 use Rattle.ih_shelf.specs.Outside.{Names}
 use Rattle.ih_inputs.specs.Reading.{HasInputs}
-use Rattle.ih_top.specs.Inputs.{start_reading}
+use Rattle.ih_top.specs.Inputs.{start_inputs}
 
 -- the timetable as it is, or its greedy fill
 abbrev pub started : Bool → ℕ → Draft → Timetable → Timetable
@@ -24,5 +24,5 @@ pub record IsStarted (s : StartCall) (I : Draft) (P : Timetable) (b : Base) : Ty
 -- what the files and the words give a search, but for its options
 pub record HasStart (files : Option Names) (instance : List ℕ) (s : StartCall) (b : Base) : Type 0 where
   pub plan : Timetable
-  pub inputs : HasInputs files (start_reading instance s) b.instance plan
+  pub inputs : HasInputs files (start_inputs instance s) b.instance plan
   pub started : IsStarted s b.instance plan b

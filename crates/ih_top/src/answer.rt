@@ -2,7 +2,7 @@
 
 ghost use Rattle.std.specs.Prelude.{◌≡◌, ◌≤◌, ◌⊎◌};
 ghost use Rattle.ih_top.specs.Answers.{unsaid, IsConcluded, HasSinkCause};
-ghost use Rattle.ih_top.specs.{Texts.memory_text, Ends.Gained, Ends.GainedPart};
+ghost use Rattle.ih_top.specs.{Texts.memory_text, Ends.Received, Ends.ReceivedPart};
 
 use crate::status::Status;
 use ih_shelf::{Sink, WriteError};
@@ -27,8 +27,8 @@ fn unsaid(status: Status) -> Status
 /// Says that memory ran out, as far as that goes.
 pub fn conclude_memory<R: Print, O: Sink>(rt: &R, out: &mut O) -> Status
     ensures status { result ≡ Status.OutOfMemory }
-    ensures said { Gained result (O.text out.old) (O.text out.new) (O.faults out.old) (O.faults out.new) memory_text
-        ⊎ GainedPart (O.text out.old) (O.text out.new) (O.lacks out.old) (O.lacks out.new) memory_text }
+    ensures said { Received result (O.text out.old) (O.text out.new) (O.faults out.old) (O.faults out.new) memory_text
+        ⊎ ReceivedPart (O.text out.old) (O.text out.new) (O.lacks out.old) (O.lacks out.new) memory_text }
     ensures count { O.faults out.old ≤ O.faults out.new }
 {
     match out.put(rt, b"out of memory\n") {
@@ -40,8 +40,8 @@ pub fn conclude_memory<R: Print, O: Sink>(rt: &R, out: &mut O) -> Status
 /// Puts the answer's text, in one put, and gives the status of the call. An empty text isn't put.
 pub fn conclude<R: Print, O: Sink>(rt: &R, out: &mut O, answer: &Answer) -> Status
     ensures said { IsConcluded answer.now.status answer.now.text.items
-        (Gained result (O.text out.old) (O.text out.new) (O.faults out.old) (O.faults out.new))
-        (GainedPart (O.text out.old) (O.text out.new) (O.lacks out.old) (O.lacks out.new)) result }
+        (Received result (O.text out.old) (O.text out.new) (O.faults out.old) (O.faults out.new))
+        (ReceivedPart (O.text out.old) (O.text out.new) (O.lacks out.old) (O.lacks out.new)) result }
     ensures cause { HasSinkCause O.Sink out.old out.new answer.now.status result }
 {
     if let Status::OutOfMemory = answer.status {

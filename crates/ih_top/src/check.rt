@@ -1,13 +1,12 @@
 //! The command `check`, but for the putting out of its report.
 
-ghost use Rattle.std.specs.Prelude.{◌≡◌, IfSome};
+ghost use Rattle.std.specs.Prelude.{◌≡◌};
 ghost use Rattle.ih_plan.specs.{Timetable.IsPlanOf, BillOf.bill_of};
 ghost use Rattle.ih_tables.specs.Bills.{feasible};
 ghost use Rattle.ih_validate.specs.Report.{report};
 ghost use Rattle.ih_words.specs.Check.{check_call};
-ghost use Rattle.ih_shelf.specs.Outside.{IfTold};
 ghost use Rattle.ih_top.specs.Answers.{Answers, HasShelfCause, IsSaid, checked_status};
-ghost use Rattle.ih_top.specs.{Check.CheckEnds, Writes.Unchanged};
+ghost use Rattle.ih_top.specs.{Check.CheckEnds};
 
 use crate::answer::Answer;
 use crate::inputs::read_inputs;

@@ -1,6 +1,5 @@
 //! The commands, each by its own module.
 
-ghost use Rattle.std.specs.Prelude.{◌≡◌};
 ghost use Rattle.ih_words.specs.Words.{HasLawfulOptions, command_call, OutDiffers};
 ghost use Rattle.ih_top.specs.{Answers.Answers, Answers.HasShelfCause, Ends.CallEnds};
 

@@ -78,7 +78,7 @@ fn demo_line(alloc: Global, number: u64) -> Result<String, AllocError>
 }
 
 // How many moves were accepted, declined and stale.
-fn verdicts_line(alloc: Global, entries: &[Entry]) -> Result<String, AllocError>
+fn counts_line(alloc: Global, entries: &[Entry]) -> Result<String, AllocError>
     ensures { IfOk result (λ s. string_bytes s ≡ counts_line entries.now) }
 {
     let mut first = Buffer::new();
@@ -95,7 +95,7 @@ fn demo_head(alloc: Global, number: u64, entries: &[Entry]) -> Result<Vec<u8>, A
     ensures { IfOk result (λ text. text.items ≡ demo_line number ++ counts_line entries.now) }
 {
     let mut text = demo_line(alloc, number)?.into_bytes();
-    let line = verdicts_line(alloc, entries)?;
+    let line = counts_line(alloc, entries)?;
     text.extend_from_slice(line.as_bytes())?;
     Ok(text)
 }

@@ -3,9 +3,9 @@
 ghost use Rattle.std.specs.Prelude.{◌≡◌, IfOk, IfErr};
 ghost use Rattle.ih_plan.specs.Timetable.{IsPlanOf};
 ghost use Rattle.ih_inputs.specs.Errors.{HasOnlyRead};
-ghost use Rattle.ih_inputs.specs.Reading.{reading_of, HasInputs};
+ghost use Rattle.ih_inputs.specs.Reading.{files_of, HasInputs};
 ghost use Rattle.ih_top.specs.Answers.{Answers, HasShelfCause, IsUnreadFile};
-ghost use Rattle.ih_top.specs.Inputs.{EndsUnread, IsStopped, role_in};
+ghost use Rattle.ih_top.specs.Inputs.{EndsUnread, IsUnreadInputs, role_in};
 
 use crate::answer::Answer;
 use crate::status::Role;
@@ -37,7 +37,7 @@ fn role_in(role: InputRole) -> Role
 
 // Says why the files can't be had.
 fn unread_inputs(alloc: Global, names: &InputNames<'_>, error: InputError) -> Answer
-    ensures { IsStopped (reading_of names.now) error result }
+    ensures { IsUnreadInputs (files_of names.now) error result }
 {
     match error {
         InputError::ReadFault(role) => unread(alloc, role_in(role), names.named(role)),
@@ -59,9 +59,9 @@ pub fn read_inputs<R: Files, S: Shelf>(
 ) -> Result<Inputs, Answer>
     ensures plan { IfOk result (λ i. IsPlanOf i.inst.value.draft i.plan) }
     ensures read { IfOk result (λ i. HasInputs (S.names shelf.old)
-        (reading_of (record { instance = instance.entry; solution = solution.entry })) i.inst.value.draft i.plan) }
+        (files_of (record { instance = instance.entry; solution = solution.entry })) i.inst.value.draft i.plan) }
     ensures unread { IfErr result (Answers (EndsUnread (S.names shelf.old)
-        (reading_of (record { instance = instance.entry; solution = solution.entry })))) }
+        (files_of (record { instance = instance.entry; solution = solution.entry })))) }
     ensures cause { IfErr result (λ a. HasShelfCause S.Shelf shelf.old shelf.new a.status) }
     ensures only { HasOnlyRead S.Shelf shelf.old shelf.new }
 {

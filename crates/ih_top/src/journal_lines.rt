@@ -2,7 +2,7 @@
 
 ghost use Rattle.std.specs.Prelude.{◌≡◌, ◌+◌, ◌==◌, List, [], ℕ, IfErr, IfNone, IfSome, OnOk, length, position};
 ghost use Rattle.ih_journal.specs.{Legal.IsFull, Tried.tries, Texts.lines_from};
-ghost use Rattle.ih_top.specs.JournalLines.{Begins, HasLine, HasNoFeed, IsRefusedAt, IsRestRefused};
+ghost use Rattle.ih_top.specs.JournalLines.{Begins, HasLine, HasNoLineFeed, IsRefusedAt, IsRestRefused};
 
 use ih_journal::{JournalRefusal, Reason};
 use ih_replay::Replay;
@@ -16,7 +16,7 @@ fn place_of_feed(bytes: &[u8]) -> Option<usize>
 /// The first line of the bytes, without its line feed, and what stands behind that.
 pub fn first_line(bytes: &[u8]) -> Option<(&[u8], &[u8])>
     ensures some { IfSome result (λ r. HasLine bytes.now r.0.now r.1.now) }
-    ensures none { IfNone result (HasNoFeed bytes.now) }
+    ensures none { IfNone result (HasNoLineFeed bytes.now) }
 {
     match place_of_feed(bytes) {
         Some(i) => Some((&bytes[..i], &bytes[i + 1..])),
@@ -26,7 +26,7 @@ pub fn first_line(bytes: &[u8]) -> Option<(&[u8], &[u8])>
 
 // The lines of the journal end here: nothing is left, or bytes without a line feed.
 fn end_of_lines(replay: &Replay<'_>, rest: &[u8]) -> Result<(), JournalRefusal>
-    requires { HasNoFeed rest.now }
+    requires { HasNoLineFeed rest.now }
     ensures full { OnOk result (IsFull replay.now.base 1 (tries replay.now.entries)) }
     ensures whole { OnOk result (rest.now ≡ []) }
     ensures line { IfErr result (λ e. e.line ≡ length replay.now.entries + 2) }

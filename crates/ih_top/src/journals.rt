@@ -1,6 +1,6 @@
 //! The commands that take a history from a journal, but for what they say at the end.
 
-ghost use Rattle.std.specs.Prelude.{◌≡◌, IfOk};
+ghost use Rattle.std.specs.Prelude.{IfOk};
 ghost use Rattle.ih_plan.specs.Timetable.{IsPlanOf};
 ghost use Rattle.ih_cellbook.specs.Keeping.{IsBase};
 ghost use Rattle.ih_desk.specs.Searching.{base_given};
@@ -39,14 +39,14 @@ pub enum JournalUse {
 // What the lines behind a journal's heading come to.
 fn lines_outcome(
     alloc: Global,
-    usage: JournalUse,
+    journal_use: JournalUse,
     given: &Given<'_>,
     bytes: &[u8],
 ) -> Result<Outcome, AllocError>
     requires { IsBase (base_given given.now) }
-    ensures { IfOk result (IsLinesFor usage (base_given given.now) bytes.now) }
+    ensures { IfOk result (IsLinesFor journal_use (base_given given.now) bytes.now) }
 {
-    match usage {
+    match journal_use {
         JournalUse::Replay => replay_lines(alloc, given, bytes),
         JournalUse::Salvage => Ok(Outcome::Taken(salvage_lines(alloc, given, bytes)?)),
     }
@@ -56,31 +56,32 @@ fn lines_outcome(
 fn journal_outcome<R: Threads + Wait + Sync>(
     rt: &R,
     alloc: Global,
-    usage: JournalUse,
+    journal_use: JournalUse,
     start: &Start<'_>,
     inputs: Inputs,
     bytes: &[u8],
 ) -> Result<Outcome, AllocError>
     requires { IsPlanOf inputs.inst.value.draft inputs.plan }
-    ensures { IfOk result (IsOutcomeFor usage (start_call start.now) (read_from inputs bytes.now)) }
+    ensures { IfOk result (IsOutcomeFor journal_use (start_call start.now) (read_from inputs bytes.now)) }
 {
     let found = begin_headed(rt, alloc, start, inputs, bytes)?;
     let Some(headed) = found else {
         return Ok(headless());
     };
     let given = given_of(&headed, start.freeze);
-    lines_outcome(alloc, usage, &given, headed.lines)
+    lines_outcome(alloc, journal_use, &given, headed.lines)
 }
 
 /// Reads the instance, the start and the journal, takes the history from that, and writes the solution of its best.
 pub fn take_journal<R: Files + Threads + Wait + Sync, S: Shelf>(
     rt: &R,
     alloc: Global,
-    usage: JournalUse,
+    journal_use: JournalUse,
     call: &Replay<'_>,
     shelf: &mut S,
 ) -> Answer
-    ensures ends { Answers (JournalUseEnds usage (replay_call call.now) (S.names shelf.old) (S.names shelf.new)) result }
+    ensures ends { Answers
+        (JournalUseEnds journal_use (replay_call call.now) (S.names shelf.old) (S.names shelf.new)) result }
     ensures cause { HasShelfCause S.Shelf shelf.old shelf.new result.status }
 {
     let inputs = match read_inputs(rt, alloc, call.instance, call.start.file, shelf) {
@@ -91,7 +92,14 @@ pub fn take_journal<R: Files + Threads + Wait + Sync, S: Shelf>(
         Ok(bytes) => bytes,
         Err(error) => return unread_file(alloc, Role::Journal, call.journal, error),
     };
-    match journal_outcome(rt, alloc, usage, &call.start, inputs, bytes.as_slice()) {
+    match journal_outcome(
+        rt,
+        alloc,
+        journal_use,
+        &call.start,
+        inputs,
+        bytes.as_slice(),
+    ) {
         Ok(outcome) => write_outcome(rt, alloc, call.out, outcome, shelf),
         Err(_) => out_of_memory(alloc),
     }

@@ -27,7 +27,6 @@ mod status;
 mod texts;
 mod writer;
 
-pub use ih_inputs::MAX_FILE;
 pub use laws::{
     chains_are_refused, limits_are_these, lone_searches_are_alike, refused_lines_are_not_full,
     solves_replay_the_same, whole_lines_are_salvaged,

@@ -5,7 +5,6 @@ ghost use Rattle.ih_plan.specs.{BillOf.bill_of, Timetable.IsPlanOf};
 ghost use Rattle.ih_journal.specs.Settings.{IsLawful};
 ghost use Rattle.ih_cellbook.specs.Keeping.{IsBase};
 ghost use Rattle.ih_desk.specs.Searching.{base_given};
-ghost use Rattle.ih_rounds.specs.{Ends.IsFound, Rounds.Round};
 ghost use Rattle.ih_top.specs.RoundTexts.{IsRoundSaid, FitsEnd, round_line, round_report};
 ghost use Rattle.ih_top.specs.Rounds.{IsFullFrom, IsRoundsOutput};
 

@@ -97,13 +97,28 @@ module _ {B E D : Type 0} (entries : B → List E) (base : B → D) (maker : E �
 
   -- a seat with a new number is split off the first one
   pub splits : (v : V) → v.spent ≡ false → v.waits ≡ false → v.has_turn ≡ false → 0 < v.given → v.given < seats → v.each ≤ v.left → Splits Rule 0 v (remaining_view v) (split_off_view v)
-  splits v live free idle gave more some st r at = let t : ℕ = get_or st.words 0 0 in let s : ℕ = get_or st.words 1 0 in let vs : List V = st.views in let w : V = remaining_view v in let u : V = split_off_view v in let ws : List V = set vs 0 w in let g : ℕ = v.given in
+  splits v live free idle gave more some st r at =
+      let t : ℕ = get_or st.words 0 0 in
+      let s : ℕ = get_or st.words 1 0 in
+      let vs : List V = st.views in
+      let w : V = remaining_view v in
+      let u : V = split_off_view v in
+      let ws : List V = set vs 0 w in
+      let g : ℕ = v.given in
       let q = r.1 in let k : ℕ = length vs in let owner : Owners = given_to g k q.owner in let kv = q.each 0 v at live in let unowned =
       (q.gives 0 v at gave).1 in let end : length ws ≡ k = length-set vs 0 w in
       let not_new : (n i : ℕ) → q.owner n ≡ maybe.some i → n ≢ g = λ n i own same. maybe.some-ne-none i (sym own ∙ unowned n (omega arith)) in
       let still : (n i : ℕ) → q.owner n ≡ maybe.some i → owner n ≡ maybe.some i = λ n i own. given_else g k q.owner n (not_new n i own) ∙ own in
       let keeps_on : (i : ℕ) (x : V) → K q.kept q.owner i x
-      → K q.kept owner i x = λ i x h. record { based = h.based; started = h.started; long = h.long; numbered = h.numbered; owned = still x.number i h.owned; seen = h.seen; takes_in = λ j y e. let z = h.takes_in j y e in (z.0, still y.0 i z.1, z.2) } in
+      → K q.kept owner i x = λ i x h. record {
+        based = h.based;
+        started = h.started;
+        long = h.long;
+        numbered = h.numbered;
+        owned = still x.number i h.owned;
+        seen = h.seen;
+        takes_in = λ j y e. let z = h.takes_in j y e in (z.0, still y.0 i z.1, z.2);
+      } in
       let hold : K q.kept owner 0 v = keeps_on 0 v kv in
       let given_some : (n : ℕ) → q.owner n ≢ maybe.none
       → owner n ≢ maybe.none = λ n is none. dite (ℕ_discrete n g) (λ e. maybe.some-ne-none k (sym (ap owner e ∙ given_here g k q.owner) ∙ none))
@@ -145,7 +160,16 @@ module _ {B E D : Type 0} (entries : B → List E) (base : B → D) (maker : E �
                 takes_in = λ j y e. absurd (maybe.some-ne-none y (sym e));
               })
               (on_set (λ i x. x.spent ≡ false → K q.kept owner i x) vs 0 w
-              (λ _. record { based = hold.based; started = hold.started; long = hold.long; numbered = hold.numbered; owned = hold.owned; seen = hold.seen; takes_in = hold.takes_in }) (λ j x _ e h. keeps_on j x (q.each j x e h)));
+              (λ _. record {
+                based = hold.based;
+                started = hold.started;
+                long = hold.long;
+                numbered = hold.numbered;
+                owned = hold.owned;
+                seen = hold.seen;
+                takes_in = hold.takes_in;
+              })
+              (λ j x _ e h. keeps_on j x (q.each j x e h)));
           gives = on_push (λ i x. 0 < x.given → (i ≡ 0) × ((n : ℕ) → x.given ≤ n → owner n ≡ maybe.none)) ws u (λ h. absurd (omega arith))
               (on_set (λ i x. 0 < x.given → (i ≡ 0) × ((n : ℕ) → x.given ≤ n → owner n ≡ maybe.none)) vs 0 w
               (λ _. (refl, λ n le. given_else g k q.owner n (λ e. omega arith) ∙ unowned n (omega arith)))
@@ -180,12 +204,26 @@ module _ {B E D : Type 0} (entries : B → List E) (base : B → D) (maker : E �
   -- another seat is taken in
   pub joins : (id o : ℕ) (v u : V) → v.spent ≡ false → v.waits ≡ false → v.has_turn ≡ false → u.spent ≡ false → u.waits ≡ false → u.has_turn ≡ false
       → u.joined ≡ [] → Joins Rule id v o u (both_views v u) spent_view
-  joins id o v u live free idle live' free' idle' alone st r at apart there = let t : ℕ = get_or st.words 0 0 in let s : ℕ = get_or st.words 1 0 in let vs : List V = st.views in let w : V = both_views v u in let ws : List V = set vs id w in let q = r.1 in
+  joins id o v u live free idle live' free' idle' alone st r at apart there =
+      let t : ℕ = get_or st.words 0 0 in
+      let s : ℕ = get_or st.words 1 0 in
+      let vs : List V = st.views in
+      let w : V = both_views v u in
+      let ws : List V = set vs id w in
+      let q = r.1 in
       let there' : get_elem? vs o ≡ maybe.some u = sym (set_else vs id o w apart)
       ∙ there in let kv = q.each id v at live in let ku = q.each o u there' live' in let owner : Owners = λ n. taken_over o id (q.owner n) in
       let away : (j : ℕ) → j ≢ o → (n : ℕ) → q.owner n ≡ maybe.some j → owner n ≡ maybe.some j = λ j other n own. taken_else o id j (q.owner n) other own in
       let keeps_on : (i : ℕ) (x : V) → i ≢ o → K q.kept q.owner i x
-      → K q.kept owner i x = λ i x other h. record { based = h.based; started = h.started; long = h.long; numbered = h.numbered; owned = away i other x.number h.owned; seen = h.seen; takes_in = λ j y e. let z = h.takes_in j y e in (z.0, away i other y.0 z.1, z.2) } in
+      → K q.kept owner i x = λ i x other h. record {
+        based = h.based;
+        started = h.started;
+        long = h.long;
+        numbered = h.numbered;
+        owned = away i other x.number h.owned;
+        seen = h.seen;
+        takes_in = λ j y e. let z = h.takes_in j y e in (z.0, away i other y.0 z.1, z.2);
+      } in
       let hold : K q.kept owner id v = keeps_on id v (λ e. apart (sym e)) kv in
       let longer_there : Bool = nat_lt (length v.seen) (length u.seen) in
       let none_left : all_left (set ws o spent_view) + u.left ≡ all_left ws + 0 = all_left_set ws o u spent_view there in (
@@ -264,5 +302,6 @@ module _ {B E D : Type 0} (entries : B → List E) (base : B → D) (maker : E �
         },
       )
 
-  pub splits_at : (id : ℕ) (v : V) → id ≡ 0 → v.spent ≡ false → v.waits ≡ false → v.has_turn ≡ false → 0 < v.given → v.given < seats → v.each ≤ v.left → Splits Rule id v (remaining_view v) (split_off_view v)
+  pub splits_at : (id : ℕ) (v : V) → id ≡ 0 → v.spent ≡ false → v.waits ≡ false → v.has_turn ≡ false
+      → 0 < v.given → v.given < seats → v.each ≤ v.left → Splits Rule id v (remaining_view v) (split_off_view v)
   splits_at id v is live free idle gave more some = subst (λ (z : ℕ). Splits Rule z v (remaining_view v) (split_off_view v)) (sym is) (splits v live free idle gave more some)

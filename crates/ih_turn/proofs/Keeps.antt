@@ -54,7 +54,16 @@ module _ {B E D : Type 0} (entries : B → List E) (base : B → D) (maker : E �
         (λ h. let wrong : false ≡ true = sym idle ∙ h in absurd (cc)) (λ j x _ e h. r.holder j x e h);
     home = λ none. r.home (before_set (λ _ x. x.has_turn ≡ false) vs id v w at idle none);
     each = on_set (λ i x. x.spent ≡ false → K r.kept r.owner i x) vs id w
-        (λ live. let k = r.each id v at live in record { based = k.based; started = k.started; long = k.long; numbered = k.numbered; owned = k.owned; seen = k.seen; takes_in = k.takes_in }) (λ j x _ e live. r.each j x e live);
+        (λ live. let k = r.each id v at live in record {
+          based = k.based;
+          started = k.started;
+          long = k.long;
+          numbered = k.numbered;
+          owned = k.owned;
+          seen = k.seen;
+          takes_in = k.takes_in;
+        })
+        (λ j x _ e live. r.each j x e live);
     gives = on_set (λ i x. 0 < x.given → (i ≡ 0) × ((m : ℕ) → x.given ≤ m → r.owner m ≡ maybe.none)) vs id w (λ h. r.gives id v at h) (λ j x _ e h. r.gives j x e h);
     grown = r.grown;
   }
@@ -172,7 +181,15 @@ module _ {B E D : Type 0} (entries : B → List E) (base : B → D) (maker : E �
       λ m seen own f. ⊎_elim (λ (same : kept' ≡ kept). subst (λ (l : List E). GoesOn maker m seen l) (sym same) f)
       (λ (a : (e : E) × (kept' ≡ kept ++ e ∷ []) × (maker e ≡ n)). subst (λ (l : List E). GoesOn maker m seen l) (sym a.1)
       (goes_on-more maker m kept seen a.0 (λ eq. other (maybe.some-injective j i (sym own ∙ (ap owner (sym eq ∙ a.2) ∙ mine)))) f)) adds in
-      record { based = k.based; started = k.started; long = k.long; numbered = k.numbered; owned = k.owned; seen = more x.number x.seen k.owned k.seen; takes_in = λ q u e. let g = k.takes_in q u e in (g.0, g.1, more u.0 u.1 g.1 g.2) }
+      record {
+        based = k.based;
+        started = k.started;
+        long = k.long;
+        numbered = k.numbered;
+        owned = k.owned;
+        seen = more x.number x.seen k.owned k.seen;
+        takes_in = λ q u e. let g = k.takes_in q u e in (g.0, g.1, more u.0 u.1 g.1 g.2);
+      }
 
   -- the seat that has the turn puts the slot back and passes the turn on
   pass_step : (t s : ℕ) (hs : Homes) (vs : List V) (id : ℕ) (v : V) (b : B) → Ok t s hs vs → get_elem? vs id ≡ maybe.some v → v.has_turn ≡ true → v.joined ≡ []
@@ -216,7 +233,11 @@ module _ {B E D : Type 0} (entries : B → List E) (base : B → D) (maker : E �
 
   pub passes : (slots id : ℕ) (v : V) (b : B) → v.has_turn ≡ true → v.joined ≡ [] → v.start ≤ length (entries b) → v.base ≡ Some (base b) → AddsAtMostOne maker v.number v.seen (entries b)
       → (cs : List (ℕ × Option B)) → cs ≡ (0, Some b) ∷ [] → Allows Rule slots id (v, cs) 1 (λ n. (n + 1) % 2 ^ 64) (λ _ w. PassesTurn entries (v, cs) w)
-  passes slots id v b has alone long based adds cs out st r wide at small = let t : ℕ = get_or st.words 0 0 in let s : ℕ = get_or st.words 1 0 in let w : V = passed v (entries b) in let h = r.1.holder id v at has in
+  passes slots id v b has alone long based adds cs out st r wide at small =
+      let t : ℕ = get_or st.words 0 0 in
+      let s : ℕ = get_or st.words 1 0 in
+      let w : V = passed v (entries b) in
+      let h = r.1.holder id v at has in
       let p = pass_step t s st.homes st.views id v b r.1 at has alone long based adds in let below : s
       < t = p.0 in let room = r.1.room in let cap = r.1.fits in let x : ℕ = (s + 1) % 2 ^ 64 in let two : length st.words ≡ 2 = r.0 in
       let up : x ≡ s + 1 = mod-eq_of_lt (let f : s + 1 < 2 ^ 64 = omega arith in f) in let here : get_or (set st.words 1 x) 1 0

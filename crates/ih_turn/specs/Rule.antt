@@ -44,10 +44,12 @@ module _ {B E D : Type 0} (entries : B → List E) (base : B → D) (maker : E �
     -- the kept list begins with what the seat has seen, and what follows isn't the seat's
     pub seen : GoesOn maker v.number v.seen kept
     -- so it is with each seat that this one has taken in
-    pub takes_in : (k : ℕ) (t : ℕ × List E) → get_elem? v.joined k ≡ maybe.some t → (t.0 < seats) × (owner t.0 ≡ maybe.some i) × GoesOn maker t.0 t.1 kept
+    pub takes_in : (k : ℕ) (t : ℕ × List E) → get_elem? v.joined k ≡ maybe.some t
+        → (t.0 < seats) × (owner t.0 ≡ maybe.some i) × GoesOn maker t.0 t.1 kept
 
   -- the two words, the slot and the views
-  pub record Turns (ticket serving : ℕ) (homes : List (maybe.Option (Option B))) (views : List (View E D)) : Type 0 where
+  pub record Turns (ticket serving : ℕ) (homes : List (maybe.Option (Option B))) (views : List (View E D))
+      : Type 0 where
     -- the value's list, and the view that has each number
     pub kept : List E
     pub owner : ℕ → maybe.Option ℕ
@@ -57,20 +59,25 @@ module _ {B E D : Type 0} (entries : B → List E) (base : B → D) (maker : E �
     -- tickets done with were handed out
     pub order : serving ≤ ticket
     -- who waits has a ticket that was handed out and isn't done with
-    pub tickets : (i : ℕ) (v : View E D) → get_elem? views i ≡ maybe.some v → v.waits ≡ true → (serving ≤ v.ticket) × (v.ticket < ticket)
+    pub tickets : (i : ℕ) (v : View E D) → get_elem? views i ≡ maybe.some v → v.waits ≡ true
+        → (serving ≤ v.ticket) × (v.ticket < ticket)
     -- each such ticket is held
     pub issued : (n : ℕ) → serving ≤ n → n < ticket → IsHeld views n
     -- by one seat alone
-    pub apart : (i : ℕ) (v : View E D) → get_elem? views i ≡ maybe.some v → v.waits ≡ true → (j : ℕ) (w : View E D) → get_elem? views j ≡ maybe.some w → w.waits ≡ true → v.ticket ≡ w.ticket → i ≡ j
+    pub apart : (i : ℕ) (v : View E D) → get_elem? views i ≡ maybe.some v → v.waits ≡ true
+        → (j : ℕ) (w : View E D) → get_elem? views j ≡ maybe.some w → w.waits ≡ true
+        → v.ticket ≡ w.ticket → i ≡ j
     -- who has the turn holds the ticket that is served, the slot is empty, and it has seen the whole list
     pub holder : (i : ℕ) (v : View E D) → get_elem? views i ≡ maybe.some v → v.has_turn ≡ true
         → (v.spent ≡ false) × (v.waits ≡ true) × (v.ticket ≡ serving) × (homes ≡ maybe.none ∷ []) × (v.seen ≡ kept)
     -- where nobody has the turn, the value is in the slot
-    pub home : ((i : ℕ) (v : View E D) → get_elem? views i ≡ maybe.some v → v.has_turn ≡ false) → (b : B) × (homes ≡ maybe.some (Some b) ∷ []) × (entries b ≡ kept) × (base b ≡ base opening)
+    pub home : ((i : ℕ) (v : View E D) → get_elem? views i ≡ maybe.some v → v.has_turn ≡ false)
+        → (b : B) × (homes ≡ maybe.some (Some b) ∷ []) × (entries b ≡ kept) × (base b ≡ base opening)
     -- what each seat knows is so
     pub each : (i : ℕ) (v : View E D) → get_elem? views i ≡ maybe.some v → v.spent ≡ false → Knows kept owner i v
     -- seats are split off the first one alone, and the numbers not given yet have no owner
-    pub gives : (i : ℕ) (v : View E D) → get_elem? views i ≡ maybe.some v → 0 < v.given → (i ≡ 0) × ((n : ℕ) → v.given ≤ n → owner n ≡ maybe.none)
+    pub gives : (i : ℕ) (v : View E D) → get_elem? views i ≡ maybe.some v → 0 < v.given
+        → (i ≡ 0) × ((n : ℕ) → v.given ≤ n → owner n ≡ maybe.none)
     -- what was added to the list is by seats that are there
     pub grown : (rest : List E) × (kept ≡ entries opening ++ rest) × All (λ e. IsGiven seats owner (maker e)) rest
 
@@ -112,7 +119,20 @@ with_own n xs (t ∷ ts) = t ∷ ts
 module _ {E D : Type 0} where
   -- the view of a seat that was taken in by another
   abbrev pub spent_view : View E D
-  spent_view = record { spent = true; number = 0; seen = []; base = None; start = 0; left = 0; waits = false; ticket = 0; has_turn = false; each = 0; given = 0; joined = [] }
+  spent_view = record {
+    spent = true;
+    number = 0;
+    seen = [];
+    base = None;
+    start = 0;
+    left = 0;
+    waits = false;
+    ticket = 0;
+    has_turn = false;
+    each = 0;
+    given = 0;
+    joined = [];
+  }
 
   -- a seat from which another was split off: that one's turns are gone from its own
   abbrev pub remaining_view : View E D → View E D
@@ -120,7 +140,15 @@ module _ {E D : Type 0} where
 
   -- the seat that was split off: it has the next number and its turns
   abbrev pub split_off_view : View E D → View E D
-  split_off_view v = record v { number = v.given; left = v.each; waits = false; has_turn = false; each = 0; given = 0; joined = [] }
+  split_off_view v = record v {
+    number = v.given;
+    left = v.each;
+    waits = false;
+    has_turn = false;
+    each = 0;
+    given = 0;
+    joined = [];
+  }
 
   -- each number with the list that its seat had seen, once the view's seat takes in others, its own among them
   abbrev pub seen_lists : View E D → List (ℕ × List E)
@@ -147,9 +175,12 @@ module _ {E D : Type 0} where
   TakesTicket st m n w = w ≡ (queued m.0 n, m.1)
 
   -- where the ticket is served, the seat has the slot with the value b in its hands
-  abbrev pub ReadsServing : {B : Type 0} → (B → List E) → (B → D) → (E → ℕ) → Step (Option B) → Me (Option B) (View E D) → ℕ → Me (Option B) (View E D) → Type 0
+  abbrev pub ReadsServing : {B : Type 0} → (B → List E) → (B → D) → (E → ℕ) → Step (Option B)
+      → Me (Option B) (View E D) → ℕ → Me (Option B) (View E D) → Type 0
   ReadsServing {B} entries base maker st m n w =
-      (n ≡ m.0.ticket → (b : B) × (w ≡ (served m.0 (entries b), (0, Some b) ∷ m.1)) × GoesOn maker m.0.number m.0.seen (entries b) × (m.0.base ≡ Some (base b)) × (m.0.start ≤ length (entries b)))
+      (n ≡ m.0.ticket → (b : B) × (w ≡ (served m.0 (entries b), (0, Some b) ∷ m.1))
+      × GoesOn maker m.0.number m.0.seen (entries b)
+      × (m.0.base ≡ Some (base b)) × (m.0.start ≤ length (entries b)))
       × (n ≢ m.0.ticket → w ≡ m)
 
   -- the seat that put the value back has passed the turn on, and has seen the list that it put back
@@ -166,7 +197,8 @@ made_by maker v = added_by maker v.number v.start v.seen
 
 -- the seat has the turn, or holds not even a ticket, and has taken in no other
 pub record Stands {E D : Type 0} (has : Bool) (v : View E D) : Type 0 where
-  -- it wasn't taken in by another, has a ticket and the turn or neither, has taken in no other, and its list has only grown
+  -- it wasn't taken in by another, has a ticket and the turn or neither, has taken in no other, and its list has only
+  -- grown
   pub whole : v.spent ≡ false
   pub ticket : v.waits ≡ has
   pub turn : v.has_turn ≡ has
@@ -203,7 +235,8 @@ abbrev pub AddsBelow : {E : Type 0} → (E → ℕ) → ℕ → List E → List 
 AddsBelow {E} maker seats xs ys = (rest : List E) × (ys ≡ xs ++ rest) × All (λ e. maker e < seats) rest
 
 -- the value at the end, where a seat with the view v has taken in all others
-pub record Closes {B E D : Type 0} (entries : B → List E) (base : B → D) (maker : E → ℕ) (opening : B) (seats : ℕ) (v : View E D) (b : B) : Type 0 where
+pub record Closes {B E D : Type 0} (entries : B → List E) (base : B → D) (maker : E → ℕ) (opening : B) (seats : ℕ)
+    (v : View E D) (b : B) : Type 0 where
   pub based : base b ≡ base opening
   pub marked : (k : ℕ) (t : ℕ × List E) → get_elem? (seen_lists v) k ≡ maybe.some t → GoesOn maker t.0 t.1 (entries b)
   pub added : AddsBelow maker seats (entries opening) (entries b)

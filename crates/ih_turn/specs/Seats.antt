@@ -35,7 +35,8 @@ module _ {B E D : Type 0} {k : Ghosts B E D} where
 
   -- the seat is one of this turn's
   abbrev pub IsSeatOf : {P : Type 0} → RuledTurn B P E D k → Seat B E D k → Type 0
-  IsSeatOf turn seat = (seat.token.table_id ≡ turn.table.shared.table_id) × IsViewOf k.entries k.base (opened_with turn) seat.token.me.0
+  IsSeatOf turn seat = (seat.token.table_id ≡ turn.table.shared.table_id)
+      × IsViewOf k.entries k.base (opened_with turn) seat.token.me.0
 
 -- the value that is held
 abbrev pub value_of : {H B : Type 0} → Guard H B → B

@@ -14,8 +14,8 @@ use Rattle.ih_plan.specs.Presence.{Admission, admission_of, is_in, covers, is_pr
 use Rattle.ih_plan.specs.Costs.{is_number, operated, operated_by, operated_in, surgeon_of, admitted_on}
 use Rattle.ih_plan.specs.Sums.{which_below}
 use Rattle.ih_plan.proofs.SumLemmas.{which_below-more}
-use Rattle.ih_validate.specs.declared.surgery.Whose.{Whose}
-use Rattle.ih_validate.specs.declared.surgery.Whose.TheVariants.{OfTheatre, OfSurgeon}
+use Rattle.ih_validate.specs.declared.surgery.Resource.{Resource}
+use Rattle.ih_validate.specs.declared.surgery.Resource.TheVariants.{OfTheatre, OfSurgeon}
 use Rattle.ih_validate.specs.Members.{residents_of}
 use Rattle.ih_validate.specs.Surgery.{AreOperated, has_surgery, is_patient_of, operated_on, patients_of}
 
@@ -96,7 +96,7 @@ present-residents I P r d =
     in_room (Some a) n h = first_passes (a.room == r) (covers a.day n d) h
 
 -- the same of those who have surgery in a theatre, or by a surgeon
-pub operated-among : (I : Draft) (P : Timetable) (w : Whose) (d : ℕ)
+pub operated-among : (I : Draft) (P : Timetable) (w : Resource) (d : ℕ)
     → filter (has_surgery I P w d) (patients_of I P w) ≡ operated_on I P w d
 unfolding operated operated_by
 operated-among I P (OfTheatre t) d =
@@ -114,13 +114,13 @@ pub present-persons : (I : Draft) (P : Timetable) (r d : ℕ) → All (λ x. x <
 unfolding present
 present-persons I P r d = which_below-All (person_count I) (is_present I P r d)
 
-pub operated-patients : (I : Draft) (P : Timetable) (w : Whose) (d : ℕ) → All (λ p. p < patient_count I) (operated_on I P w d)
+pub operated-patients : (I : Draft) (P : Timetable) (w : Resource) (d : ℕ) → All (λ p. p < patient_count I) (operated_on I P w d)
 unfolding operated operated_by
 operated-patients I P (OfTheatre t) d = which_below-All (patient_count I) (has_surgery I P (OfTheatre t) d)
 operated-patients I P (OfSurgeon s) d = which_below-All (patient_count I) (has_surgery I P (OfSurgeon s) d)
 
 -- those of the patients who have surgery on the day, as a list of them is made
-pub are-operated : (I : Draft) (P : Timetable) (w : Whose) (d : ℕ) (among today ps : List ℕ) → among ≡ patients_of I P w
+pub are-operated : (I : Draft) (P : Timetable) (w : Resource) (d : ℕ) (among today ps : List ℕ) → among ≡ patients_of I P w
     → today ≡ filter (has_surgery I P w d) among → ps ≡ today → length ps ≤ 2560 → AreOperated I P w d ps
 are-operated I P w d among today ps all some same few =
     let these = same ∙ some ∙ rw all (operated-among I P w d) in

@@ -17,11 +17,13 @@ rule_line i x = codes "V" ++ (decimal i ++ (codes " " ++ (signed_decimal x ++ co
 -- a cost times its weight
 abbrev pub cost_line : ℕ → ℤ → ℤ → List ℕ
 cost_line i x w =
-    codes "S" ++ (decimal i ++ (codes " " ++ (signed_decimal x ++ (codes " x " ++ (signed_decimal w ++ (codes " = " ++ (signed_decimal (x *ℤ w) ++ codes "\n")))))))
+    codes "S" ++ (decimal i ++ (codes " " ++ (signed_decimal x
+    ++ (codes " x " ++ (signed_decimal w ++ (codes " = " ++ (signed_decimal (x *ℤ w) ++ codes "\n")))))))
 
 abbrev pub total_line : ℤ → List ℕ
 total_line x = codes "cost " ++ (signed_decimal x ++ codes "\n")
 
 unfoldable pub report : Weights → Bill → List ℕ
 report w b =
-    lines_below 9 (λ i. rule_line (i + 1) (at b.v i)) ++ (lines_below 8 (λ i. cost_line (i + 1) (at b.s i) (at w.w i)) ++ total_line (cost w b))
+    lines_below 9 (λ i. rule_line (i + 1) (at b.v i))
+    ++ (lines_below 8 (λ i. cost_line (i + 1) (at b.s i) (at w.w i)) ++ total_line (cost w b))

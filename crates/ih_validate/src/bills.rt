@@ -6,7 +6,7 @@ ghost use Rattle.ih_tables.specs.Bills.{IsWithin};
 
 use crate::overtime::overtime;
 use crate::patients::{StayCost, cost_of_stays};
-use crate::surgery::Kind;
+use crate::surgery::ResourceKind;
 use crate::{loads, nurses, rooms, shifts, surgeons, theatres};
 use ih_plan::Plan;
 use ih_tables::{Bill, Instance};
@@ -28,8 +28,8 @@ fn all_counts(inst: &Instance, plan: &Plan) -> Bill
         v: [
             signed(rooms.gender_mixes),
             signed(cost_of_stays(inst, plan, StayCost::BadRoom)),
-            signed(overtime(inst, plan, Kind::Surgeons)),
-            signed(overtime(inst, plan, Kind::Theatres)),
+            signed(overtime(inst, plan, ResourceKind::Surgeons)),
+            signed(overtime(inst, plan, ResourceKind::Theatres)),
             signed(cost_of_stays(inst, plan, StayCost::MandatoryLeftOut)),
             signed(cost_of_stays(inst, plan, StayCost::OutsideWindow)),
             signed(rooms.over_capacity),

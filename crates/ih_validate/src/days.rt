@@ -1,6 +1,6 @@
 //! What the persons who are in a room on a day cost.
 
-ghost use Rattle.std.specs.Prelude.{◌≡◌, ◌<◌, ◌≤◌, ℕ, not, All};
+ghost use Rattle.std.specs.Prelude.{◌≡◌, ◌<◌, ◌≤◌, not, All};
 ghost use Rattle.std.specs.{List.list_any, Str.bytes_eq};
 ghost use Rattle.ih_tables.specs.Sizes.{person_count};
 ghost use Rattle.ih_plan.specs.{Persons.person_of, Costs.genders_differ, Costs.age_spread, Sums.lower};

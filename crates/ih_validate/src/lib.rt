@@ -24,4 +24,4 @@ pub use laws::bills_have_parts;
 pub use patients::{delay, in_bad_room, outside_window};
 pub use reports::report;
 pub use summing::bit;
-pub use surgery::{Kind, Whose, count_of, has_surgery, limit_of, one_of};
+pub use surgery::{Resource, ResourceKind, count_of, has_surgery, limit_of, one_of};

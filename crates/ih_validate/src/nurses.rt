@@ -1,6 +1,6 @@
 //! How many distinct nurses each person has over its stay.
 
-ghost use Rattle.std.specs.Prelude.{◌≡◌, ◌<◌, ◌≤◌, ◌-◌, ◌+◌, ◌*◌, ℕ, map, min};
+ghost use Rattle.std.specs.Prelude.{◌≡◌, ◌<◌, ◌≤◌, ◌-◌, ◌+◌, ◌*◌, map};
 ghost use Rattle.std.specs.List.{range_with_len};
 ghost use Rattle.ih_tables.specs.Sizes.{person_count, room_count, shift_count};
 ghost use Rattle.ih_plan.specs.{Timetable.IsPlanOf, Timetable.care_of, Presence.shifts_of, Presence.room_of};

@@ -1,12 +1,12 @@
 //! Minutes of surgery, and those above the limits of theatres and of surgeons.
 
-ghost use Rattle.std.specs.Prelude.{◌≡◌, ◌<◌, ◌≤◌, ◌*◌, ℕ, length, All};
+ghost use Rattle.std.specs.Prelude.{◌≡◌, ◌<◌, ◌≤◌, ◌*◌, length, All};
 ghost use Rattle.ih_tables.specs.Sizes.{patient_count};
 ghost use Rattle.ih_plan.specs.{Timetable.IsPlanOf, Costs.minutes};
-ghost use Rattle.ih_validate.specs.Surgery.{IsWhoseOf, overtime, overtime_of};
+ghost use Rattle.ih_validate.specs.Surgery.{IsResourceOf, overtime, overtime_of};
 
 use crate::summing::sum_below;
-use crate::surgery::{Kind, Whose, count_of, limit_of, one_of, sum_days};
+use crate::surgery::{Resource, ResourceKind, count_of, limit_of, one_of, sum_days};
 use ih_plan::Plan;
 use ih_tables::{Instance, PatientNo};
 
@@ -25,9 +25,9 @@ fn minutes(inst: &Instance, patients: &[u32]) -> u64
 }
 
 #[tactic(auto, unfolding(crate::specs::Surgery::overtime_of))]
-fn overtime_of(inst: &Instance, plan: &Plan, w: Whose) -> u64
+fn overtime_of(inst: &Instance, plan: &Plan, w: Resource) -> u64
     requires plan { IsPlanOf inst.now.draft plan.now }
-    requires whose { IsWhoseOf inst.now.draft w }
+    requires resource { IsResourceOf inst.now.draft w }
     ensures value { result ≡ overtime_of inst.now.draft plan.now w }
     ensures bound { result ≤ 615726511554560 }
 {
@@ -37,7 +37,7 @@ fn overtime_of(inst: &Instance, plan: &Plan, w: Whose) -> u64
 }
 
 /// Minutes of surgery above each theatre's availability, or each surgeon's maximum, of a day.
-pub fn overtime(inst: &Instance, plan: &Plan, kind: Kind) -> u64
+pub fn overtime(inst: &Instance, plan: &Plan, kind: ResourceKind) -> u64
     requires { IsPlanOf inst.now.draft plan.now }
     ensures value { result ≡ overtime inst.now.draft plan.now kind }
     ensures bound { result ≤ 615726511554560 * 128 }

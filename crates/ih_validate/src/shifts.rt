@@ -1,6 +1,6 @@
 //! What the rooms cost, shift by shift: nurses off duty, occupied rooms without a nurse, and missing skill.
 
-ghost use Rattle.std.specs.Prelude.{◌≡◌, ◌<◌, ◌≤◌, ◌-◌, ◌+◌, ◌*◌, ◌&&◌, ℕ, not, map, is_none, sum_by, IfSome, All};
+ghost use Rattle.std.specs.Prelude.{◌≡◌, ◌<◌, ◌≤◌, ◌-◌, ◌+◌, ◌*◌, ◌&&◌, not, map, is_none, sum_by, IfSome, All};
 ghost use Rattle.std.specs.Prelude.{length};
 ghost use Rattle.ih_tables.specs.Sizes.{person_count, room_count, shift_count, nurse_count};
 ghost use Rattle.ih_plan.specs.Costs.{not_working, skill_missing, skill_level, is_empty};

@@ -1,13 +1,13 @@
 //! Surgeons: changes of theatre within a day.
 
-ghost use Rattle.std.specs.Prelude.{◌≡◌, ◌<◌, ◌≤◌, ◌-◌, ◌*◌, ℕ, map, length, All};
+ghost use Rattle.std.specs.Prelude.{◌≡◌, ◌<◌, ◌≤◌, ◌-◌, ◌*◌, map, length, All};
 ghost use Rattle.ih_tables.specs.Sizes.{patient_count};
 ghost use Rattle.ih_plan.specs.Costs.{operated_by, theatre_of, theatres_used};
 ghost use Rattle.ih_plan.specs.{Timetable.IsPlanOf, BillOf.transfers, Sums.sum_below};
 
 use crate::marks::{count_marked, mark};
 use crate::summing::sum_below;
-use crate::surgery::{Whose, sum_days};
+use crate::surgery::{Resource, sum_days};
 use ih_plan::Plan;
 use ih_tables::{Instance, PatientNo, SurgeonNo};
 
@@ -42,7 +42,7 @@ fn transfers_of(inst: &Instance, plan: &Plan, s: SurgeonNo) -> u64
         (map (theatre_of plan.now) (operated_by inst.now.draft plan.now s.0 d)) - 1) }
     ensures bound { result ≤ 3584 }
 {
-    sum_days(inst, plan, Whose::OfSurgeon(s), 64, |_d, today| {
+    sum_days(inst, plan, Resource::OfSurgeon(s), 64, |_d, today| {
         theatres_used(inst, plan, today).saturating_sub(1)
     })
 }

@@ -3,7 +3,7 @@
 ghost use Rattle.std.specs.Prelude.{◌≡◌, ◌<◌, ◌≤◌, ◌*◌, ◌^◌, ℕ, slice_index};
 ghost use Rattle.ih_tables.specs.Sizes.{patient_count};
 ghost use Rattle.ih_plan.specs.{Timetable.IsPlanOf, Sums.sum_below};
-ghost use Rattle.ih_validate.specs.Surgery.{AreOperated, IsWhoseOf, count_of, has_surgery, is_patient_of, limit_of, one_of};
+ghost use Rattle.ih_validate.specs.Surgery.{AreOperated, IsResourceOf, count_of, has_surgery, is_patient_of, limit_of, one_of};
 
 use crate::number_lists::NumberList;
 use ih_plan::Plan;
@@ -11,66 +11,66 @@ use ih_tables::{Instance, PatientNo, SurgeonNo, TheatreNo};
 
 /// All theatres, or all surgeons.
 #[derive(Clone, Copy)]
-pub enum Kind {
+pub enum ResourceKind {
     Theatres,
     Surgeons,
 }
 
 /// How many there are.
-pub fn count_of(inst: &Instance, kind: Kind) -> u32
+pub fn count_of(inst: &Instance, kind: ResourceKind) -> u32
     ensures { result ≡ count_of inst.now.draft kind }
 {
     match kind {
-        Kind::Theatres => inst.theatres(),
-        Kind::Surgeons => inst.surgeons(),
+        ResourceKind::Theatres => inst.theatres(),
+        ResourceKind::Surgeons => inst.surgeons(),
     }
 }
 
-/// Whose surgeries are looked at.
+/// A theatre or a surgeon, whose surgeries are looked at.
 #[derive(Clone, Copy)]
-pub enum Whose {
+pub enum Resource {
     OfTheatre(TheatreNo),
     OfSurgeon(SurgeonNo),
 }
 
 /// The theatre or the surgeon of a number.
-pub fn one_of(kind: Kind, number: u32) -> Whose
+pub fn one_of(kind: ResourceKind, number: u32) -> Resource
     ensures { result ≡ one_of kind number }
 {
     match kind {
-        Kind::Theatres => Whose::OfTheatre(TheatreNo(number)),
-        Kind::Surgeons => Whose::OfSurgeon(SurgeonNo(number)),
+        ResourceKind::Theatres => Resource::OfTheatre(TheatreNo(number)),
+        ResourceKind::Surgeons => Resource::OfSurgeon(SurgeonNo(number)),
     }
 }
 
-fn is_patient_of(inst: &Instance, plan: &Plan, w: Whose, p: PatientNo) -> bool
+fn is_patient_of(inst: &Instance, plan: &Plan, w: Resource, p: PatientNo) -> bool
     requires plan { IsPlanOf inst.now.draft plan.now }
     requires patient { p.0 < patient_count inst.now.draft }
     ensures { result ≡ is_patient_of inst.now.draft plan.now w p.0 }
 {
     match w {
-        Whose::OfTheatre(t) => match plan.stay(p) {
+        Resource::OfTheatre(t) => match plan.stay(p) {
             None => false,
             Some(at) => at.theatre.0 == t.0,
         },
-        Whose::OfSurgeon(s) => inst.patient(p).surgeon_id.0 == s.0,
+        Resource::OfSurgeon(s) => inst.patient(p).surgeon_id.0 == s.0,
     }
 }
 
 /// Whether the patient has surgery there, or by the surgeon, on the day.
-pub fn has_surgery(inst: &Instance, plan: &Plan, w: Whose, d: u32, p: PatientNo) -> bool
+pub fn has_surgery(inst: &Instance, plan: &Plan, w: Resource, d: u32, p: PatientNo) -> bool
     requires plan { IsPlanOf inst.now.draft plan.now }
     requires patient { p.0 < patient_count inst.now.draft }
     ensures { result ≡ has_surgery inst.now.draft plan.now w d p.0 }
 {
     match plan.stay(p) {
         None => match w {
-            Whose::OfTheatre(_) => false,
-            Whose::OfSurgeon(_) => false,
+            Resource::OfTheatre(_) => false,
+            Resource::OfSurgeon(_) => false,
         },
         Some(at) => match w {
-            Whose::OfTheatre(t) => at.theatre.0 == t.0 && at.day.0 == d,
-            Whose::OfSurgeon(s) => inst.patient(p).surgeon_id.0 == s.0 && at.day.0 == d,
+            Resource::OfTheatre(t) => at.theatre.0 == t.0 && at.day.0 == d,
+            Resource::OfSurgeon(s) => inst.patient(p).surgeon_id.0 == s.0 && at.day.0 == d,
         },
     }
 }
@@ -82,13 +82,13 @@ fn on_day(numbers: &[u32], d: u32) -> u64
 }
 
 /// The minutes of surgery that there may be on the day.
-pub fn limit_of(inst: &Instance, w: Whose, d: u32) -> u64
-    requires { IsWhoseOf inst.now.draft w }
+pub fn limit_of(inst: &Instance, w: Resource, d: u32) -> u64
+    requires { IsResourceOf inst.now.draft w }
     ensures { result ≡ limit_of inst.now.draft w d }
 {
     match w {
-        Whose::OfTheatre(t) => on_day(inst.theatre(t).availability.as_slice(), d),
-        Whose::OfSurgeon(s) => on_day(inst.surgeon(s).max_surgery_time.as_slice(), d),
+        Resource::OfTheatre(t) => on_day(inst.theatre(t).availability.as_slice(), d),
+        Resource::OfSurgeon(s) => on_day(inst.surgeon(s).max_surgery_time.as_slice(), d),
     }
 }
 
@@ -97,7 +97,7 @@ pub fn limit_of(inst: &Instance, w: Whose, d: u32) -> u64
 pub fn sum_days<F: Fn(u32, &[u32]) -> u64>(
     inst: &Instance,
     plan: &Plan,
-    w: Whose,
+    w: Resource,
     most: u64,
     each: F,
 ) -> u64

@@ -1,11 +1,11 @@
 //! Theatres: the days on which they are in use.
 
-ghost use Rattle.std.specs.Prelude.{◌≡◌, ◌<◌, ◌≤◌, ◌*◌, ℕ, not};
+ghost use Rattle.std.specs.Prelude.{◌≡◌, ◌≤◌, not};
 ghost use Rattle.ih_plan.specs.{Timetable.IsPlanOf, Costs.is_empty, Costs.operated, Sums.count_below};
 ghost use Rattle.ih_plan.specs.BillOf.{open_theatres};
 
 use crate::summing::{bit, sum_below};
-use crate::surgery::{Whose, sum_days};
+use crate::surgery::{Resource, sum_days};
 use ih_plan::Plan;
 use ih_tables::{Instance, TheatreNo};
 
@@ -18,7 +18,7 @@ fn open_days(inst: &Instance, plan: &Plan, t: TheatreNo) -> u64
     sum_days(
         inst,
         plan,
-        Whose::OfTheatre(t),
+        Resource::OfTheatre(t),
         1,
         |_d, today| bit(!today.is_empty()),
     )

@@ -20,8 +20,8 @@ abbrev pub rounds_call : Rounds → RoundsCall
 rounds_call r = record { search = solve_call r.search; rounds = r.rounds }
 
 -- the options of each search are lawful, no stale move is tried again, and nothing is frozen
-abbrev pub AreLawful : Rounds → Type 0
-AreLawful r = IsPlain r.search
+abbrev pub IsLawfulRounds : Rounds → Type 0
+IsLawfulRounds r = IsPlain r.search
 
 -- the call of rounds, by `clap`'s matches, where its file names differ, and its journals have together at most a
 -- million entries

@@ -10,7 +10,7 @@ use Rattle.ih_words.specs.Demo.{demo_app, lawful_demo}
 use Rattle.ih_words.specs.Generate.{GenCall, gen_app, gen_call, lawful_gen}
 use Rattle.ih_words.specs.Matches.{call_by}
 use Rattle.ih_words.specs.Replay.{ReplayCall, lawful_replay, replay_app, replay_call}
-use Rattle.ih_words.specs.Rounds.{AreLawful, RoundsCall, lawful_rounds, rounds_app, rounds_call}
+use Rattle.ih_words.specs.Rounds.{IsLawfulRounds, RoundsCall, lawful_rounds, rounds_app, rounds_call}
 use Rattle.ih_words.specs.Solve.{SolveCall, lawful_solve, solve_app, solve_call}
 use Rattle.ih_words.specs.declared.command.Command.{Command}
 use Rattle.ih_words.specs.declared.command.Command.TheVariants.{Chain as ChainCommand, Check as CheckCommand, Demo as DemoCommand, Gen as GenCommand, Replay as ReplayCommand, Rounds as RoundsCommand, Salvage as SalvageCommand, Solve as SolveCommand, Advise as AdviseCommand}
@@ -51,15 +51,17 @@ command_call (DemoCommand number) = demo number
 abbrev pub HasLawfulOptions : Command → Type 0
 HasLawfulOptions (SolveCommand s) = IsLawful s.options
 HasLawfulOptions (ChainCommand c) = IsLawfulChain c
-HasLawfulOptions (RoundsCommand r) = AreLawful r
+HasLawfulOptions (RoundsCommand r) = IsLawfulRounds r
 HasLawfulOptions (AdviseCommand a) = IsLawfulAdvise a
 HasLawfulOptions command = Unit {0}
 
 -- the call of the command with this name
 abbrev pub call_named : Text → List Text → Option Call
 call_named name words = if bytes_eq name (codes "solve") then option_map solve (call_by solve_app lawful_solve words)
-    else (if bytes_eq name (codes "replay") then option_map replay (call_by (replay_app (codes "replay")) lawful_replay words)
-    else (if bytes_eq name (codes "salvage") then option_map salvage (call_by (replay_app (codes "salvage")) lawful_replay words)
+    else (if bytes_eq name (codes "replay")
+    then option_map replay (call_by (replay_app (codes "replay")) lawful_replay words)
+    else (if bytes_eq name (codes "salvage")
+    then option_map salvage (call_by (replay_app (codes "salvage")) lawful_replay words)
     else (if bytes_eq name (codes "check") then option_map check (call_by check_app lawful_check words)
     else (if bytes_eq name (codes "chain") then option_map chain (call_by chain_app lawful_chain words)
     else (if bytes_eq name (codes "rounds") then option_map rounds (call_by rounds_app lawful_rounds words)

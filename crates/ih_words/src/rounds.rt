@@ -1,7 +1,7 @@
 //! The command `rounds`: its values and when they are lawful.
 ghost use Rattle.std.specs.Prelude.{IfOk, map, string_bytes};
 ghost use Rattle.ih_words.specs.Matches.{IsAnswer, call_by};
-ghost use Rattle.ih_words.specs.Rounds.{AreLawful, lawful_rounds, rounds_app, rounds_call};
+ghost use Rattle.ih_words.specs.Rounds.{IsLawfulRounds, lawful_rounds, rounds_app, rounds_call};
 
 use crate::WordsError;
 use crate::plain::read_plain;
@@ -23,7 +23,7 @@ pub struct Rounds<'a> {
 // Reads the words of `rounds`.
 pub(crate) fn read_rounds<'a>(alloc: Global, words: &'a [String]) -> Result<Rounds<'a>, WordsError>
     ensures read { IsAnswer rounds_call (call_by rounds_app lawful_rounds (map string_bytes words.entry.now)) result }
-    ensures lawful { IfOk result AreLawful }
+    ensures lawful { IfOk result IsLawfulRounds }
 {
     let (search, rounds) = read_plain(alloc, "rounds", "rounds", MAX_ROUNDS, words)?;
     Ok(Rounds { search, rounds })

@@ -20,7 +20,7 @@ fn are_paired(numbering: &Numbering, n: u32, c: Cell) -> bool
     found == c && numbering.number(found) == n
 }
 
-// A cell comes once however often it is added, the cells rise once they are settled, and a cleared list takes them
+// A cell comes once however often it is added, they ascend once they are settled, and a cleared list takes them
 // anew.
 fn are_gathered(list: &mut CellList) -> bool
     requires { count_in list.old.sizes ≡ 39 }

@@ -1,7 +1,6 @@
 //! Journals taken line by line, on a ward of two patients of whom the first is admitted, with one nurse in all shifts.
 
 ghost use Rattle.std.specs.Prelude.{◌≡◌};
-ghost use Rattle.ih_journal.specs.Settings.{IsLawful};
 ghost use Rattle.ih_plan.specs.Timetable.{IsPlanOf};
 ghost use Rattle.ih_fixtures.specs.Two.{IsOfTwo};
 

@@ -2,7 +2,7 @@
 
 ghost use Rattle.std.specs.Prelude.{◌≡◌, ◌<◌, ◌≤◌, IsTrue, Some, false, length, drop, option_map};
 ghost use Rattle.ih_plan.specs.Expand.{IsMoveOf};
-ghost use Rattle.ih_journal.specs.Attempts.{attempt_after, is_done_after, is_retried, last_by};
+ghost use Rattle.ih_journal.specs.Attempts.{try_after, is_done_after, is_retried, last_by};
 ghost use Rattle.ih_journal.specs.Tried.{tried, tries};
 ghost use Rattle.ih_cellbook.specs.{Laws.HasNoneBy, Offers.next_number, Replicas.IsReplicaIn, Snapshot.Snapshot};
 
@@ -37,7 +37,7 @@ fn is_retried(options: &Options, entry: &Entry) -> bool
 // Whether a worker with this last entry isn't done, and its next move has this number.
 fn is_next(options: &Options, last: &Option<Entry>, number: u32) -> bool
     ensures { let before = option_map tried last.now in IsTrue result
-        → (is_done_after options.now before ≡ false) × ((attempt_after options.now before).number ≡ number) }
+        → (is_done_after options.now before ≡ false) × ((try_after options.now before).number ≡ number) }
 {
     match last {
         None => options.moves > 0 && number == 0,

@@ -2,7 +2,7 @@
 
 ghost use Rattle.std.specs.Prelude.{◌≡◌, ◌<◌, ◌^◌, false, IfOk, All, [], map, length};
 ghost use Rattle.serde_json.specs.View.{view};
-ghost use Rattle.ih_tables.specs.Sizes.{nurse_count, room_count, shift_count};
+ghost use Rattle.ih_tables.specs.Sizes.{nurse_count, shift_count};
 ghost use Rattle.ih_tables.specs.Marks.{is_marked};
 ghost use Rattle.ih_plan.specs.Timetable.{IsPlanOf};
 ghost use Rattle.ih_format.specs.{Gives.Gives, Gives.seen, Checks.each, Checks.under};

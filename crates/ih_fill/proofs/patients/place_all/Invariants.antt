@@ -1,7 +1,6 @@
 use Rattle.std.proofs.Common.{◌≡◌}
-use Rattle.ih_fill.specs.Fill.{with_stays}
+use Rattle.ih_fill.specs.Fill.{is_waiting, with_stays}
 use Rattle.ih_plan.specs.Sums.{which_below}
-use Rattle.ih_fill.specs.Scoring.{is_waiting}
 use Rattle.ih_fill.proofs.patients.place_all.Given as goal
 
 abbrev pub invariant-loop-p : goal.invariant-loop-p

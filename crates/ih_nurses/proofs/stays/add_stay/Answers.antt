@@ -14,7 +14,9 @@ add_load-requires-clause-fits c = λ m mh.
 
 pub loop-k-preserved : goal.loop-k-preserved
 loop-k-preserved c =
-    added-more c.loop-k.invariant (stay-shift (omega arith) (omega arith) c.end_of-end.ensures.value c.nurse_at-nurse.ensures.choice c.workload-load.ensures.value) c.add_load.ensures.table c.add_load.ensures.each
+    added-more c.loop-k.invariant (stay-shift (omega arith) (omega arith) c.end_of-end.ensures.value
+    c.nurse_at-nurse.ensures.choice c.workload-load.ensures.value) c.add_load.ensures.table
+    c.add_load.ensures.each
 
 pub returns-clause-each : goal.returns-clause-each
 returns-clause-each c = added-all (omega arith) c.end_of-end.ensures.value c.loop-k.invariant

@@ -13,7 +13,9 @@ take_load-requires-clause-enough c =
 
 pub loop-k-preserved : goal.loop-k-preserved
 loop-k-preserved c =
-    taken-more c.loop-k.invariant (stay-shift (omega arith) (omega arith) c.end_of-end.ensures.value c.nurse_at-nurse.ensures.choice c.workload-load.ensures.value) c.take_load.ensures.table c.take_load.ensures.each
+    taken-more c.loop-k.invariant (stay-shift (omega arith) (omega arith) c.end_of-end.ensures.value
+    c.nurse_at-nurse.ensures.choice c.workload-load.ensures.value) c.take_load.ensures.table
+    c.take_load.ensures.each
 
 pub returns-clause-each : goal.returns-clause-each
 returns-clause-each c = taken-all (omega arith) c.end_of-end.ensures.value c.loop-k.invariant

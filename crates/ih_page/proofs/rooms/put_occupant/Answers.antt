@@ -1,7 +1,7 @@
 use Rattle.std.proofs.Common.{◌∙◌, ap, ℕ, List, ◌++◌, codes}
 use Rattle.std.proofs.lemmas.Result.{on_ok_weaker}
 use Rattle.ih_page.specs.Html.{numbered}
-use Rattle.ih_page.specs.Rooms.{bar_text, person_cells}
+use Rattle.ih_page.specs.Rooms.{bar_text, person_tds}
 use Rattle.ih_page.proofs.Joins.{joins4}
 use Rattle.ih_page.proofs.rooms.put_occupant.Goals as goal
 
@@ -9,7 +9,7 @@ pub returns : goal.returns
 returns c =
     let a = c.args.a.now in
     let named = λ (t : List ℕ). c.args.out.now.items ++ numbered (codes "<tr class=o id=p") c.args.x (codes "><th>") t in
-    let told = λ (t : List ℕ). c.put_numbered.new.out.items ++ person_cells c.args.inst.now.draft t a.age_group in
+    let told = λ (t : List ℕ). c.put_numbered.new.out.items ++ person_tds c.args.inst.now.draft t a.age_group in
     let barred = λ (n : ℕ). c.put.new.out.items ++ bar_text n 0 a.length_of_stay in
     on_ok_weaker c.put_bar.result
     (λ d. joins4 _ _ _ _ _ _ _ _ _ (c.in_ok-put_numbered.ensures ∙ ap named c.as_str.ensures)

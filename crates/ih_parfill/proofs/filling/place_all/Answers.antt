@@ -1,8 +1,8 @@
 use Rattle.std.proofs.Common.{◌∙◌, sym, ap, refl, arith}
 use Rattle.ih_plan.specs.Timetable.{Timetable}
-use Rattle.ih_fill.specs.Fill.{with_stay}
+use Rattle.ih_fill.specs.Fill.{is_waiting, with_stay}
 use Rattle.ih_plan.specs.Sums.{which_below}
-use Rattle.ih_fill.specs.Scoring.{Scoring, is_waiting}
+use Rattle.ih_fill.specs.Scoring.{Scoring}
 use Rattle.ih_fill.proofs.PassLemmas.{stays-more, stays-same}
 use Rattle.ih_parfill.proofs.filling.place_all.Goals as goal
 use Rattle.ih_parfill.proofs.filling.place_all.Goals.{then-is_waiting, else-is_waiting}

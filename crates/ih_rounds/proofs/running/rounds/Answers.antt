@@ -15,7 +15,9 @@ loop-round-init g c = record {
 pub loop-round-preserved : goal.loop-round-preserved
 loop-round-preserved g c = record {
   come = come-more (base_with c.args.inst.now.draft c.args.start.now c.args.options.now 0) c.loop-round.round (g.S.Searcher.answers c.args.searcher.now) (g.S.Searcher.answers c.loop-round.searcher)
-      (g.S.Searcher.answers c.search_round.new.searcher) c.args.journal.now.items c.loop-round.journal.items c.search_round.new.journal.items c.loop-round.best c.in_ok-best.best c.loop-round.next c.in_ok-outcome.outcome
+      (g.S.Searcher.answers c.search_round.new.searcher) c.args.journal.now.items c.loop-round.journal.items
+      c.search_round.new.journal.items c.loop-round.best c.in_ok-best.best c.loop-round.next
+      c.in_ok-outcome.outcome
       c.loop-round.invariant.come
       (subst (λ (o : Options). HasRound (base_with c.args.inst.now.draft c.loop-round.next o 0) (g.S.Searcher.answers c.loop-round.searcher) (g.S.Searcher.answers c.search_round.new.searcher)
       c.loop-round.journal.items c.search_round.new.journal.items c.in_ok-outcome.outcome) c.options_in-own.ensures c.in_ok-outcome.ensures.round)

@@ -11,8 +11,8 @@ use Rattle.ih_top.proofs.journals.journal_outcome.Goals as goal
 pub returns-in_default : goal.returns-in_default
 returns-in_default g c =
     let x = read_from c.args.inputs c.args.bytes.now in
-    subst (IsOutcomeFor c.args.usage (start_call c.args.start.now) x) (sym c.headless.ensures)
-    (headless-for c.args.usage (start_call c.args.start.now) x no_heading
+    subst (IsOutcomeFor c.args.journal_use (start_call c.args.start.now) x) (sym c.headless.ensures)
+    (headless-for c.args.journal_use (start_call c.args.start.now) x no_heading
     (record { none = subst (λ o. IfNone o (HasNoHeading c.args.bytes.now)) c.in_default.is c.in_ok-found.ensures.none; refusal = refl }))
 
 pub lines_outcome-requires : goal.lines_outcome-requires
@@ -22,5 +22,5 @@ lines_outcome-requires g c =
 pub returns : goal.returns
 returns g c =
     let by = headed-by (start_call c.args.start.now) (read_from c.args.inputs c.args.bytes.now) _ c.in-Some.headed c.in-Some.is c.in_ok-found.ensures.begun in
-    result-for _ _ (base_headed c.args.start.now.freeze c.in-Some.headed) c.in-Some.headed.lines.now by c.args.usage c.lines_outcome.result
-    (subst (λ (b : Base). IfOk c.lines_outcome.result (IsLinesFor c.args.usage b c.in-Some.headed.lines.now)) c.given_of-given.ensures c.lines_outcome.ensures)
+    result-for _ _ (base_headed c.args.start.now.freeze c.in-Some.headed) c.in-Some.headed.lines.now by c.args.journal_use c.lines_outcome.result
+    (subst (λ (b : Base). IfOk c.lines_outcome.result (IsLinesFor c.args.journal_use b c.in-Some.headed.lines.now)) c.given_of-given.ensures c.lines_outcome.ensures)

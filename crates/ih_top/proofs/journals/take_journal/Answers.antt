@@ -10,12 +10,12 @@ use Rattle.ih_top.proofs.journals.take_journal.Goals as goal
 
 pub returns-in-Err-clause-ends : goal.returns-in-Err-clause-ends
 returns-in-Err-clause-ends g c =
-    unread-inputs c.args.usage (replay_call c.args.call.now) (g.S.Shelf.names c.args.shelf.now) (g.S.Shelf.names c.read_inputs.new.shelf)
+    unread-inputs c.args.journal_use (replay_call c.args.call.now) (g.S.Shelf.names c.args.shelf.now) (g.S.Shelf.names c.read_inputs.new.shelf)
     c.in-Err.ensures.only.kept c.in-Err.answer c.in-Err.ensures.unread
 
 pub returns-in-Ok-journal_outcome-clause-ends : goal.returns-in-Ok-journal_outcome-clause-ends
 returns-in-Ok-journal_outcome-clause-ends g c =
-    let usage = c.args.usage in
+    let journal_use = c.args.journal_use in
     let r : ReplayCall = replay_call c.args.call.now in
     let old = g.S.Shelf.names c.args.shelf.now in
     let mid = g.S.Shelf.names c.read_inputs.new.shelf in
@@ -23,10 +23,10 @@ returns-in-Ok-journal_outcome-clause-ends g c =
     let bytes = c.in-Ok-read.bytes in
     let o = c.in-Ok-journal_outcome.outcome in
     let a = c.write_outcome.result in
-    outcome-answer (taken_for usage r.start) (refused_for usage r.start) (said_for usage) r old new (read_from c.in-Ok.inputs bytes.items)
+    outcome-answer (taken_for journal_use r.start) (refused_for journal_use r.start) (said_for journal_use) r old new (read_from c.in-Ok.inputs bytes.items)
     (record {
       inputs = c.in-Ok.ensures.read;
       journal = has-bytes old mid r.journal bytes.items c.in-Ok.ensures.only.kept c.in-Ok-read.ensures.bytes (omega (arith, bytes.ok.0, c.in-Ok-read.ensures.limit));
     })
-    o (subst (λ items. IsOutcomeFor usage r.start (read_from c.in-Ok.inputs items) o) c.as_slice.ensures.value c.in-Ok-journal_outcome.ensures)
+    o (subst (λ items. IsOutcomeFor journal_use r.start (read_from c.in-Ok.inputs items) o) c.as_slice.ensures.value c.in-Ok-journal_outcome.ensures)
     a (subst (λ files. Answers (OutcomeEnds o r.out files new) a) (c.in-Ok-read.ensures.kept ∙ c.in-Ok.ensures.only.kept) c.write_outcome.ensures.ends)

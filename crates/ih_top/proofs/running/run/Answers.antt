@@ -2,7 +2,7 @@ use Rattle.std.proofs.Common.{refl, subst, sym}
 use Rattle.std.specs.Prelude.{map, string_bytes}
 use Rattle.ih_words.specs.Words.{Call, call_of, command_call}
 use Rattle.ih_words.proofs.CallNames.{names-apart}
-use Rattle.ih_top.specs.Ends.{CallEnds, Gained, GainedPart, Leaves}
+use Rattle.ih_top.specs.Ends.{CallEnds, Received, ReceivedPart, Leaves}
 use Rattle.ih_top.proofs.CommandEnds.{call-answerable, memory-leaves, told-same, usage-ended}
 use Rattle.ih_top.proofs.Saying.{ended, has-cause}
 use Rattle.ih_top.proofs.Completeness.{complete}
@@ -26,8 +26,8 @@ returns-in-Ok-clause-complete g c =
     let result = c.conclude.result in
     rw c.in-Ok.ensures.ok
     (complete call (g.S.Shelf.names c.args.shelf.now) (g.S.Shelf.names c.perform-answer.new.shelf)
-    (Gained result before after (g.O.Sink.faults c.args.out.now) (g.O.Sink.faults c.conclude.new.out))
-    (GainedPart before after (g.O.Sink.lacks c.args.out.now) (g.O.Sink.lacks c.conclude.new.out)) _ _ _ _ _ _ result
+    (Received result before after (g.O.Sink.faults c.args.out.now) (g.O.Sink.faults c.conclude.new.out))
+    (ReceivedPart before after (g.O.Sink.lacks c.args.out.now) (g.O.Sink.lacks c.conclude.new.out)) _ _ _ _ _ _ result
     (ended (CallEnds call (g.S.Shelf.names c.args.shelf.now) (g.S.Shelf.names c.perform-answer.new.shelf)) (call-answerable call _ _) _ _ c.perform-answer.result result
     c.perform-answer.ensures.ends c.conclude.ensures.said)
     (has-cause _ _ _ _ _ _ _ _ c.perform-answer.result.status result c.perform-answer.ensures.cause c.conclude.ensures.cause))
@@ -37,10 +37,10 @@ returns-in-Err-OutOfMemory-clause-leaves g c =
     let files = g.S.Shelf.names c.args.shelf.now in
     let before = g.O.Sink.text c.args.out.now in
     let after = g.O.Sink.text c.conclude_memory.new.out in
-    let gained = Gained c.conclude_memory.result before after (g.O.Sink.faults c.args.out.now) (g.O.Sink.faults c.conclude_memory.new.out) in
-    let part = GainedPart before after (g.O.Sink.lacks c.args.out.now) (g.O.Sink.lacks c.conclude_memory.new.out) in
-    subst (Leaves (call_of (map string_bytes c.args.words.now)) files files gained part) (sym c.conclude_memory.ensures.status)
-    (memory-leaves (call_of (map string_bytes c.args.words.now)) files gained part c.conclude_memory.ensures.said)
+    let received = Received c.conclude_memory.result before after (g.O.Sink.faults c.args.out.now) (g.O.Sink.faults c.conclude_memory.new.out) in
+    let part = ReceivedPart before after (g.O.Sink.lacks c.args.out.now) (g.O.Sink.lacks c.conclude_memory.new.out) in
+    subst (Leaves (call_of (map string_bytes c.args.words.now)) files files received part) (sym c.conclude_memory.ensures.status)
+    (memory-leaves (call_of (map string_bytes c.args.words.now)) files received part c.conclude_memory.ensures.said)
 
 pub returns-in-Err-Unlawful-clause-leaves : goal.returns-in-Err-Unlawful-clause-leaves
 returns-in-Err-Unlawful-clause-leaves g c =
@@ -50,7 +50,7 @@ returns-in-Err-Unlawful-clause-leaves g c =
     let result = c.conclude-in-Err-Unlawful.result in
     rw (c.in-Err-Unlawful.ensures.unlawful c.in-Err-Unlawful.field-0-is) (
       told-same files files refl,
-      usage-ended (Gained result before after (g.O.Sink.faults c.args.out.now) (g.O.Sink.faults c.conclude-in-Err-Unlawful.new.out))
-          (GainedPart before after (g.O.Sink.lacks c.args.out.now) (g.O.Sink.lacks c.conclude-in-Err-Unlawful.new.out)) c.usage.result result
+      usage-ended (Received result before after (g.O.Sink.faults c.args.out.now) (g.O.Sink.faults c.conclude-in-Err-Unlawful.new.out))
+          (ReceivedPart before after (g.O.Sink.lacks c.args.out.now) (g.O.Sink.lacks c.conclude-in-Err-Unlawful.new.out)) c.usage.result result
           c.usage.ensures c.conclude-in-Err-Unlawful.ensures.said,
     )

@@ -4,11 +4,11 @@ use Rattle.ih_plan.specs.Timetable.{Timetable}
 use Rattle.ih_plan.specs.BillOf.{theatre_overtime, surgeon_overtime}
 use Rattle.ih_plan.specs.Sums.{sum_below}
 use Rattle.ih_validate.specs.Surgery.{count_of, one_of, overtime, overtime_of}
-use Rattle.ih_validate.specs.declared.surgery.Kind.{Kind}
-use Rattle.ih_validate.specs.declared.surgery.Kind.TheVariants.{Theatres, Surgeons}
+use Rattle.ih_validate.specs.declared.surgery.ResourceKind.{ResourceKind}
+use Rattle.ih_validate.specs.declared.surgery.ResourceKind.TheVariants.{Theatres, Surgeons}
 use Rattle.ih_validate.proofs.overtime.overtime.Goals as goal
 
-over-all : (I : Draft) (P : Timetable) (kind : Kind) → sum_below (count_of I kind) (λ i. overtime_of I P (one_of kind i)) ≡ overtime I P kind
+over-all : (I : Draft) (P : Timetable) (kind : ResourceKind) → sum_below (count_of I kind) (λ i. overtime_of I P (one_of kind i)) ≡ overtime I P kind
 unfolding theatre_overtime surgeon_overtime overtime_of
 over-all I P Theatres = refl
 over-all I P Surgeons = refl

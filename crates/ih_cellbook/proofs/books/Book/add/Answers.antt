@@ -4,7 +4,7 @@ use Rattle.std.proofs.lemmas.List.{length-map}
 use Rattle.ih_tables.specs.Bills.{add_bills, feasible, cost}
 use Rattle.ih_plan.specs.BillOf.{change_of_bill}
 use Rattle.ih_journal.specs.declared.entries.Verdict.TheVariants.{Accepted}
-use Rattle.ih_journal.specs.Attempts.{attempt_after}
+use Rattle.ih_journal.specs.Attempts.{try_after}
 use Rattle.ih_journal.specs.Best.{best_with}
 use Rattle.ih_journal.specs.History.{is_accepted, plan_after}
 use Rattle.ih_cellbook.specs.Counters.{times_read}
@@ -107,7 +107,7 @@ invariant_of-self g c =
                 ∙ ap (λ (r : Noted). slice_index p.counters.items n + (if is_accepted c.args.verdict then times_read n r.pairs else 0)) c.reads.ensures;
             again = ap (λ w. slice_set p.again.items w c.again_after.result) c.worker.ensures
                 ∙ ap (slice_set p.again.items o.worker)
-                (c.again_after.ensures o ∙ ap (λ n. (attempt_after p.options (Some (entry_with o n c.args.verdict))).again) c.again_of-again.ensures);
+                (c.again_after.ensures o ∙ ap (λ n. (try_after p.options (Some (entry_with o n c.args.verdict))).again) c.again_of-again.ensures);
             chosen = c.best_after-parts.ensures
                 ∙ ap (λ k. best_with p.best k (feasible c.add_price.new.bill) (cost p.inst.now.draft.weights c.add_price.new.bill)) place;
           })

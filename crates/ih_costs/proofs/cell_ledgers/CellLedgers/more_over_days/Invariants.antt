@@ -1,5 +1,5 @@
 use Rattle.ih_costs.specs.CellLedgers.{timetable_of}
-use Rattle.ih_costs.proofs.DayGains.{AreDaysTold}
+use Rattle.ih_costs.proofs.DayDeltas.{AreDaysTold}
 use Rattle.ih_costs.proofs.cell_ledgers.CellLedgers.more_over_days.Given as goal
 
 -- the days before d are told

@@ -2,53 +2,53 @@ use Rattle.std.proofs.Common.{◌≡◌, ◌*◌, ◌≤◌, refl, arith}
 use Rattle.ih_plan.specs.Persons.{person_of}
 use Rattle.ih_plan.specs.Presence.{end_of}
 use Rattle.ih_costs.specs.CellLedgers.{timetable_of}
-use Rattle.ih_costs.proofs.DayGains.{shift-counted, uncovered-fits, missing_skill-fits, overload-fits, shifts-more}
-use Rattle.ih_costs.proofs.GainSteps.{risen-none}
+use Rattle.ih_costs.proofs.DayDeltas.{shift-counted, uncovered-fits, missing_skill-fits, overload-fits, shifts-more}
+use Rattle.ih_costs.proofs.DeltaSteps.{increased-none}
 use Rattle.ih_costs.proofs.cell_ledgers.CellLedgers.more_over_shifts.Goals as goal
 
 pub loop-k-init : goal.loop-k-init
-loop-k-init c = record { uncovered = risen-none _ _ _; missing_skill = risen-none _ _ _; overload = risen-none _ _ _ }
+loop-k-init c = record { uncovered = increased-none _ _ _; missing_skill = increased-none _ _ _; overload = increased-none _ _ _ }
 
-pub shift_gain-gain-requires-clause-patient : goal.shift_gain-gain-requires-clause-patient
-shift_gain-gain-requires-clause-patient c = rw c.new-visit.ensures.patient c.requires.patient
+pub shift_delta-delta-requires-clause-patient : goal.shift_delta-delta-requires-clause-patient
+shift_delta-delta-requires-clause-patient c = rw c.new-visit.ensures.patient c.requires.patient
 
-pub shift_gain-gain-requires-clause-placement : goal.shift_gain-gain-requires-clause-placement
-shift_gain-gain-requires-clause-placement c = rw c.new-visit.ensures.placement c.requires.placement
+pub shift_delta-delta-requires-clause-placement : goal.shift_delta-delta-requires-clause-placement
+shift_delta-delta-requires-clause-placement c = rw c.new-visit.ensures.placement c.requires.placement
 
-pub shift_gain-gain-requires-clause-visit : goal.shift_gain-gain-requires-clause-visit
-shift_gain-gain-requires-clause-visit c = rw (c.new-visit.ensures.patient, c.new-visit.ensures.placement, c.requires.stay) c.new-visit.ensures.visit
+pub shift_delta-delta-requires-clause-visit : goal.shift_delta-delta-requires-clause-visit
+shift_delta-delta-requires-clause-visit c = rw (c.new-visit.ensures.patient, c.new-visit.ensures.placement, c.requires.stay) c.new-visit.ensures.visit
 
-pub shift_gain-gain-requires-clause-counted : goal.shift_gain-gain-requires-clause-counted
-shift_gain-gain-requires-clause-counted c =
+pub shift_delta-delta-requires-clause-counted : goal.shift_delta-delta-requires-clause-counted
+shift_delta-delta-requires-clause-counted c =
     rw (c.new-visit.ensures.patient, c.new-visit.ensures.placement)
     (shift-counted c.args.trial.now.at.day.0 (person_of c.args.inst.now.draft c.args.trial.now.p.0).length_of_stay c.args.inst.now.draft.days c.loop-k.k (omega arith)
     (omega (arith, c.end_of-end.ensures.value, c.loop-k-test.true)))
 
 pub overflow_add-uncovered : goal.overflow_add-uncovered
 overflow_add-uncovered c =
-    uncovered-fits _ _ _ _ _ _ _ _ c.loop-k.invariant (omega (arith, c.args.inst.now.valid.days.most)) c.shift_gain-gain.result.uncovered (omega arith)
+    uncovered-fits _ _ _ _ _ _ _ _ c.loop-k.invariant (omega (arith, c.args.inst.now.valid.days.most)) c.shift_delta-delta.result.uncovered (omega arith)
 
 pub overflow_add-missing_skill : goal.overflow_add-missing_skill
 overflow_add-missing_skill c =
-    missing_skill-fits _ _ _ _ _ _ _ _ c.loop-k.invariant (omega (arith, c.args.inst.now.valid.days.most)) c.shift_gain-gain.result.missing_skill (omega arith)
+    missing_skill-fits _ _ _ _ _ _ _ _ c.loop-k.invariant (omega (arith, c.args.inst.now.valid.days.most)) c.shift_delta-delta.result.missing_skill (omega arith)
 
 pub overflow_add-overload : goal.overflow_add-overload
 overflow_add-overload c =
-    overload-fits _ _ _ _ _ _ _ _ c.loop-k.invariant (omega (arith, c.args.inst.now.valid.days.most)) c.shift_gain-gain.result.overload (omega arith)
+    overload-fits _ _ _ _ _ _ _ _ c.loop-k.invariant (omega (arith, c.args.inst.now.valid.days.most)) c.shift_delta-delta.result.overload (omega arith)
 
 pub loop-k-preserved : goal.loop-k-preserved
 loop-k-preserved c =
     let P = timetable_of c.args.self.now in
     let days = c.args.inst.now.valid.days in
     let few : c.loop-k.k ≤ 200 = omega arith in
-    let gain = c.shift_gain-gain.result in
-    let told = c.shift_gain-gain.ensures in
+    let delta = c.shift_delta-delta.result in
+    let told = c.shift_delta-delta.ensures in
     let stands = c.requires.stands.nurses in
     let uncovered = rw (c.new-visit.ensures.patient, c.new-visit.ensures.placement) at (told.uncovered P stands) in
     let missing = rw (c.new-visit.ensures.patient, c.new-visit.ensures.placement) at (told.missing_skill P stands) in
     let overload = rw (c.new-visit.ensures.patient, c.new-visit.ensures.placement) at (told.overload P stands) in
     shifts-more c.args.inst.now.draft P c.args.trial.now.p c.args.trial.now.at c.loop-k.k _ _ _ c.loop-k.invariant few (omega arith)
-    gain.uncovered gain.missing_skill gain.overload (omega arith) (omega arith) (omega arith) uncovered missing overload
+    delta.uncovered delta.missing_skill delta.overload (omega arith) (omega arith) (omega arith) uncovered missing overload
 
 pub returns : goal.returns
 returns c =

@@ -1,5 +1,5 @@
 use Rattle.ih_costs.specs.CellLedgers.{timetable_of}
-use Rattle.ih_costs.proofs.DayGains.{AreShiftsTold}
+use Rattle.ih_costs.proofs.DayDeltas.{AreShiftsTold}
 use Rattle.ih_costs.proofs.cell_ledgers.CellLedgers.more_over_shifts.Given as goal
 
 -- the shifts before k are told

@@ -5,10 +5,10 @@ use Rattle.ih_plan.specs.Timetable.{stay_of}
 use Rattle.ih_plan.specs.Writes.{put}
 use Rattle.ih_plan.specs.BillOf.{change_of_bill}
 use Rattle.ih_costs.specs.CellLedgers.{timetable_of}
-use Rattle.ih_costs.specs.StayGain.{stay_gain}
+use Rattle.ih_costs.specs.StayDelta.{stay_delta}
 use Rattle.ih_plan.proofs.ChangeSums.{change-same}
 use Rattle.ih_costs.proofs.ChangeSums.{less-within}
-use Rattle.ih_costs.proofs.GainBills.{two-stays, stay-again}
+use Rattle.ih_costs.proofs.DeltaBills.{two-stays, stay-again}
 use Rattle.ih_costs.proofs.StandLemmas.{plan-fits}
 use Rattle.ih_costs.proofs.cell_ledgers.CellLedgers.stay_price.Goals as goal
 
@@ -22,15 +22,15 @@ returns-then-eq c =
     let same : c.args.new ≡ c.stay-old.result = search (rules, h) in
     c.zero.ensures ∙ (change-same I P ∙ ap (change_of_bill I P) (sym (ap (λ s. put (SetStay c.args.p s) P) (same ∙ old) ∙ stay-again P c.args.p)))
 
-pub gain_of_stay-before-requires-clause-write : goal.gain_of_stay-before-requires-clause-write
-gain_of_stay-before-requires-clause-write c =
+pub delta_of_stay-before-requires-clause-write : goal.delta_of_stay-before-requires-clause-write
+delta_of_stay-before-requires-clause-write c =
     let P = timetable_of c.args.self.now in
     let plan = plan-fits c.args.inst.now.draft P c.args.self.now c.requires.stands in
     let old : c.stay-old.result ≡ stay_of P c.args.p.0 = rw c.plan.ensures at c.stay-old.ensures in
     (c.requires.write.0, λ at e. plan.placed c.args.p.0 at (sym old ∙ e))
 
 pub sub-requires : goal.sub-requires
-sub-requires c = less-within c.gain_of_stay-after.result c.gain_of_stay-before.result c.gain_of_stay-after.ensures.within c.gain_of_stay-before.ensures.within
+sub-requires c = less-within c.delta_of_stay-after.result c.delta_of_stay-before.result c.delta_of_stay-after.ensures.within c.delta_of_stay-before.ensures.within
 
 pub returns-in_default : goal.returns-in_default
 returns-in_default c =
@@ -38,6 +38,6 @@ returns-in_default c =
     let P = timetable_of c.args.self.now in
     let old : c.stay-old.result ≡ stay_of P c.args.p.0 = rw c.plan.ensures at c.stay-old.ensures in
     c.sub.ensures
-    ∙ (ap (λ b. sub_bills b c.gain_of_stay-before.result) c.gain_of_stay-after.ensures.gain
-    ∙ (ap (sub_bills (stay_gain I P c.args.p c.args.new)) (c.gain_of_stay-before.ensures.gain ∙ ap (stay_gain I P c.args.p) old)
+    ∙ (ap (λ b. sub_bills b c.delta_of_stay-before.result) c.delta_of_stay-after.ensures.delta
+    ∙ (ap (sub_bills (stay_delta I P c.args.p c.args.new)) (c.delta_of_stay-before.ensures.delta ∙ ap (stay_delta I P c.args.p) old)
     ∙ sym (two-stays I P c.args.p c.args.new c.args.inst.now.valid (plan-fits I P c.args.self.now c.requires.stands) c.requires.write)))

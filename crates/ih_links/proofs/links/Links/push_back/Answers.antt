@@ -8,7 +8,11 @@ index_mut-requires c = rw c.self.inside.next.ok.0
 
 pub overflow_add-index_mut : goal.overflow_add-index_mut
 overflow_add-index_mut c =
-    omega (arith, push-room c.self.inside.home.items c.self.invariant c.self.view_is _ _ _ _ c.requires.head c.requires.node c.requires.free c.gate-gate.ensures c.index-last.ensures _ c.index_mut-6.ensures.value)
+    omega (
+      arith,
+      push-room c.self.inside.home.items c.self.invariant c.self.view_is _ _ _ _ c.requires.head
+          c.requires.node c.requires.free c.gate-gate.ensures c.index-last.ensures _ c.index_mut-6.ensures.value,
+    )
 
 pub invariant_of-self : goal.invariant_of-self
 invariant_of-self c =

@@ -4,7 +4,7 @@ use Rattle.std.proofs.lemmas.Int.{to_z-of_z}
 use Rattle.ih_tables.specs.declared.ids.NurseNo.{NurseNo}
 use Rattle.ih_tables.specs.Sizes.{nurse_count}
 use Rattle.ih_plan.specs.Timetable.{Timetable, care_of}
-use Rattle.ih_nurses.specs.Choice.{excess_of, rise_by_choice}
+use Rattle.ih_nurses.specs.Choice.{excess_of, increase_by_choice}
 use Rattle.ih_nurses.specs.Loads.{load_at}
 use Rattle.ih_nurses.proofs.ChoiceLemmas.{load-there, loads-told}
 use Rattle.ih_nurses.proofs.LedgerLemmas.{stands-own, loads-small, all-some}
@@ -49,16 +49,16 @@ returns c = λ P known.
     let own = stands-own known in
     let nurse = all-some (λ (a : NurseNo). a.0 < nurse_count I) c.args.new c.requires.nurse in
     let old_nurse = subst (λ o. IfSome o (λ (a : NurseNo). a.0 < nurse_count I)) c.requires.old c.requires.old_nurse in
-    let told : c.excess_change-gone.result +ℤ c.excess_change-come.result ≡ rise_by_choice plan c.args.r c.args.k c.args.new
+    let told : c.excess_change-gone.result +ℤ c.excess_change-come.result ≡ increase_by_choice plan c.args.r c.args.k c.args.new
     (λ Q. excess_of I Q c.args.k.0 (care_of plan c.args.r.0 c.args.k.0) + excess_of I Q c.args.k.0 (option_map (λ (a : NurseNo). a.0) c.args.new)) =
-    rw (c.excess_change-gone.ensures.rise, c.excess_change-come.ensures.rise, c.as_slice-loads.ensures.value, c.requires.old)
+    rw (c.excess_change-gone.ensures.increase, c.excess_change-come.ensures.increase, c.as_slice-loads.ensures.value, c.requires.old)
     (loads-told I plan c.args.r c.args.k c.args.new c.args.self.now.loads.items c.args.work own.fits c.requires.room c.requires.shift
     (c.requires.other plan own) own.loads_are c.requires.work old_nurse nurse) in
     let fits_without : FitsSigned w64 c.excess_change-gone.result = search rules in
     let fits_with : FitsSigned w64 c.excess_change-come.result = search rules in
     let fits : FitsSigned w64 (c.excess_change-gone.result +ℤ c.excess_change-come.result) = search rules in
     subst (λ (S : Timetable). to_z w64 (of_z w64 (to_z w64 (of_z w64 c.excess_change-gone.result) +ℤ to_z w64 (of_z w64 c.excess_change-come.result)))
-    ≡ rise_by_choice S c.args.r c.args.k c.args.new
+    ≡ increase_by_choice S c.args.r c.args.k c.args.new
     (λ Q. excess_of I Q c.args.k.0 (care_of S c.args.r.0 c.args.k.0) + excess_of I Q c.args.k.0
     (option_map (λ (a : NurseNo). a.0) c.args.new))) known.plan_is
     (rw (to_z-of_z w64 _ fits_without, to_z-of_z w64 _ fits_with, to_z-of_z w64 _ fits) told)

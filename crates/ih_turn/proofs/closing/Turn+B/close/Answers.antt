@@ -30,7 +30,13 @@ take_out-requires-clause-all g c = let r = c.take_first-root.result in let f = c
     (c.requires.all n below)
 
 pub returns-clause-seen : goal.returns-clause-seen
-returns-clause-seen g c = let r = c.take_first-root.result in let f = c.take_first-root.ensures in let v = r.token.me.0 in let ts = seen_lists c.join_all.new.token.me.0 in let xs = g.B.Kept.entries c.take_out.result in let maker = g.B.Kept.maker in
+returns-clause-seen g c =
+    let r = c.take_first-root.result in
+    let f = c.take_first-root.ensures in
+    let v = r.token.me.0 in
+    let ts = seen_lists c.join_all.new.token.me.0 in
+    let xs = g.B.Kept.entries c.take_out.result in
+    let maker = g.B.Kept.maker in
     let own = ap (with_own v.number v.seen) r.rests.alone ∙ ap (λ n. (n, v.seen) ∷ []) (sym r.number_is) in
     let is = c.join_all.ensures.seen_lists ∙ (ap (λ l. map (λ s. (s.number, s.token.me.0.seen)) l ++ seen_lists v) f.3 ∙ ap (λ l. map (λ s. (s.number, s.token.me.0.seen)) (f.0 ++ f.1) ++ l) own) in
     All-same (λ s. GoesOn maker s.number s.token.me.0.seen xs) c.args.seats.items (f.0 ++ r ∷ f.1) f.2

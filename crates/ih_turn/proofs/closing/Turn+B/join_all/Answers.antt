@@ -12,7 +12,8 @@ join_seat-requires g c = let key = c.args.self.now.table.shared.key in let t = c
       all.1,
       search rules,
       search rules,
-      joins g.B.Kept.entries g.B.Kept.base g.B.Kept.maker key.opening.value key.seats key.turns t.id o.token.id t.me.0 o.token.me.0 inv.2 inv.3 inv.4 o.rests.whole o.rests.ticket o.rests.turn o.rests.alone,
+      joins g.B.Kept.entries g.B.Kept.base g.B.Kept.maker key.opening.value key.seats key.turns t.id o.token.id t.me.0
+          o.token.me.0 inv.2 inv.3 inv.4 o.rests.whole o.rests.ticket o.rests.turn o.rests.alone,
     )
 
 pub loop-other-preserved : goal.loop-other-preserved

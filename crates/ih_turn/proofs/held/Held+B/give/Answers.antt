@@ -12,14 +12,19 @@ fetch_add-requires g c = let h = c.args.self.holder in let key = h.turn.now.tabl
     let e = c.exchange-gone.ensures.3 ∙ ap (λ l. (v, (0, Some b) ∷ rest l)) h.out in (
       search rules,
       search rules,
-      passes_at g.B.Kept.entries g.B.Kept.base maker key.opening.value key.seats key.turns h.turn.now.table.shared.table_id.slots c.exchange-gone.new.seat.id c.exchange-gone.new.seat.me v b e h.serves.turn h.serves.alone (omega arith)
+      passes_at g.B.Kept.entries g.B.Kept.base maker key.opening.value key.seats key.turns
+          h.turn.now.table.shared.table_id.slots c.exchange-gone.new.seat.id c.exchange-gone.new.seat.me v b e
+          h.serves.turn h.serves.alone (omega arith)
           (h.is_of.based ∙ ap Some (sym c.requires.base)) adds,
     )
 
 pub invariant_of-result : goal.invariant_of-result
 invariant_of-result g c = let h = c.args.self.holder in let v = h.token.me.0 in let b = c.args.self.value in let maker = g.B.Kept.maker in let xs = g.B.Kept.entries b in
     let adds : AddsAtMostOne maker v.number v.seen xs = subst
-    (λ n. AddsAtMostOne maker n v.seen xs) h.number_is c.requires.list in let more = more_count maker v.number v.start v.seen xs h.serves.long adds in let long = h.serves.long in let longer = more.0 in
+    (λ n. AddsAtMostOne maker n v.seen xs) h.number_is c.requires.list in
+    let more = more_count maker v.number v.start v.seen xs h.serves.long adds in
+    let long = h.serves.long in
+    let longer = more.0 in
     let e = c.exchange-gone.ensures.3 ∙ ap (λ l. (v, (0, Some b) ∷ rest l)) h.out in let gone = c.fetch_add.ensures.2 b (ap (λ m. m.1) e) in
     let w : c.fetch_add.new.seat.me.0
     ≡ passed v xs = ap (λ m. m.0) gone

@@ -5,11 +5,22 @@ use Rattle.ih_turn.proofs.Counts.{same_count}
 use Rattle.ih_turn.proofs.held.Turn+B.take.Goals as goal
 
 pub fetch_add-ticket-requires : goal.fetch_add-ticket-requires
-fetch_add-ticket-requires g c = let key = c.args.self.now.table.shared.key in let s = c.args.seat in
-    (search rules, search rules, queues g.B.Kept.entries g.B.Kept.base g.B.Kept.maker key.opening.value key.seats key.turns c.args.self.now.table.shared.table_id.slots s.token.id s.token.me s.rests.whole s.rests.ticket s.rests.turn (search rules))
+fetch_add-ticket-requires g c = let key = c.args.self.now.table.shared.key in let s = c.args.seat in (
+  search rules,
+  search rules,
+  queues g.B.Kept.entries g.B.Kept.base g.B.Kept.maker key.opening.value key.seats
+      key.turns c.args.self.now.table.shared.table_id.slots s.token.id s.token.me s.rests.whole s.rests.ticket
+      s.rests.turn (search rules),
+)
 
 pub invariant_of-holder : goal.invariant_of-holder
-invariant_of-holder g c = let s = c.args.seat in let v = s.token.me.0 in let maker = g.B.Kept.maker in let opening = c.args.self.now.table.shared.key.opening.value in let xs = g.B.Kept.entries c.wait-value.result in let n = c.fetch_add-ticket.result in
+invariant_of-holder g c =
+    let s = c.args.seat in
+    let v = s.token.me.0 in
+    let maker = g.B.Kept.maker in
+    let opening = c.args.self.now.table.shared.key.opening.value in
+    let xs = g.B.Kept.entries c.wait-value.result in
+    let n = c.fetch_add-ticket.result in
     let e1 = c.fetch_add-ticket.ensures.2 in let e : c.wait-value.new.token.me.0 ≡ served (queued v n) xs = ap (λ m. m.0) c.wait-value.ensures.served ∙ ap (λ m. served m.0 xs) e1 in
     let begins : GoesOn maker v.number v.seen xs = subst (λ m. GoesOn maker m.0.number m.0.seen xs) e1 c.wait-value.ensures.begins in
     let long : v.start ≤ length xs = subst (λ m. m.0.start ≤ length xs) e1 c.wait-value.ensures.long in record {

@@ -4,8 +4,23 @@ use Rattle.ih_turn.proofs.Views.{one_less, one_more_numbered}
 use Rattle.ih_turn.proofs.turn.Turn+B.split_all.Goals as goal
 
 pub loop-number-preserved : goal.loop-number-preserved
-loop-number-preserved g c = let inv = c.loop-number.invariant in let r : ℕ = inv.0 in let sum = inv.1 in let n : ℕ = c.loop-number.number in let test = c.loop-number-test.true in let above = c.loop-number.auto.number in let entries = g.B.Kept.entries in let base = g.B.Kept.base in let value = c.args.self.now.table.shared.key.opening.value in
-    let turns : ℕ = c.args.turns in let next = c.split-next.result in let told = c.split-next.ensures in let row = c.loop-number.row in let long = row.ok.0 in let len = inv.5 in let pushed = c.push_reserved.ensures.len in (
+loop-number-preserved g c =
+    let inv = c.loop-number.invariant in
+    let r : ℕ = inv.0 in
+    let sum = inv.1 in
+    let n : ℕ = c.loop-number.number in
+    let test = c.loop-number-test.true in
+    let above = c.loop-number.auto.number in
+    let entries = g.B.Kept.entries in
+    let base = g.B.Kept.base in
+    let value = c.args.self.now.table.shared.key.opening.value in
+    let turns : ℕ = c.args.turns in
+    let next = c.split-next.result in
+    let told = c.split-next.ensures in
+    let row = c.loop-number.row in
+    let long = row.ok.0 in
+    let len = inv.5 in
+    let pushed = c.push_reserved.ensures.len in (
       r - 1,
       omega arith,
       told.token.0 ∙ inv.2,

@@ -1,0 +1,111 @@
+//! What a placement of a patient makes its room and that room's nurse cost more in one shift.
+
+ghost use Rattle.std.specs.Prelude.{◌≡◌, ◌<◌, ◌≤◌, ◌-◌, ◌*◌, pos, true, Some, length, slice_index};
+ghost use Rattle.ih_tables.specs.Sizes.{patient_count, room_count, shift_count, nurse_count};
+ghost use Rattle.ih_links.specs.Lists.{without};
+ghost use Rattle.ih_plan.specs.Timetable.{Timetable, IsPlacement, stay_of, care_of};
+ghost use Rattle.ih_plan.specs.Presence.{day_of, present};
+ghost use Rattle.ih_plan.specs.{Costs.is_empty, Costs.skill_level, Sums.bit};
+ghost use Rattle.ih_nurses.specs.Deltas.{uncovered_in, missing_in, overload_in, excess_in, increase_by_placement};
+ghost use Rattle.ih_nurses.specs.{Ledger.IsLedgerOf, Ledger.plan_of, Visits.IsVisit, Visits.has_day};
+
+use crate::Nurses;
+use crate::loads::{load, overload};
+use crate::own::entry;
+use crate::rooms::has_others;
+use crate::visits::{Visit, gone};
+use ih_plan::{Placement, bit, nurse_at};
+use ih_tables::{Instance, NurseNo, PatientNo, RoomNo, Shift};
+
+/// What a shift of a placement's room costs more with the patient there than without.
+#[derive(Clone, Copy)]
+pub struct ShiftDelta {
+    /// 1 where the room has no nurse, and nobody but the patient, and 0 where not.
+    pub uncovered: u32,
+    /// The skill above the nurse's that the patient requires.
+    pub missing_skill: u32,
+    /// The workload above the nurse's maximum that comes with the patient.
+    pub overload: u32,
+}
+
+// The skill above the nurse's that the patient requires in a shift of the placement.
+#[inline(always)]
+fn skill_delta(inst: &Instance, n: NurseNo, k: Shift, at: Placement, skill: &[u32]) -> u32
+    requires nurse { n.0 < nurse_count inst.now.draft }
+    requires begun { 3 * at.day.0 ≤ k.0 }
+    requires inside { k.0 - 3 * at.day.0 < length skill.now }
+    ensures { result ≡ slice_index skill.now (k.0 - 3 * at.day.0) - skill_level inst.now.draft n.0 }
+{
+    entry(skill, at, k).saturating_sub(inst.nurse(n).skill_level)
+}
+
+impl Nurses {
+    // 1 where nobody but the patient is in the room, and 0 where not.
+    #[inline(always)]
+    fn alone_delta(&self, inst: &Instance, r: RoomNo, k: Shift, p: PatientNo) -> u32
+        requires room { r.0 < room_count inst.now.draft }
+        requires shift { k.0 < shift_count inst.now.draft }
+        requires stands { (P : Timetable) × IsLedgerOf inst.now.draft P self.now }
+        ensures { (P : Timetable) → IsLedgerOf inst.now.draft P self.now
+            → result ≡ bit (is_empty (without p.0 (present inst.now.draft P r.0 (day_of k.0)))) }
+    {
+        bit(!has_others(&self.here[(k.0 / 3) as usize], r, p.0))
+    }
+
+    // The workload above the maximum that comes with the patient to the nurse who has the room in the shift.
+    #[inline(always)]
+    fn load_delta(&self, inst: &Instance, n: NurseNo, k: Shift, visit: &Visit<'_>) -> u32
+        requires nurse { n.0 < nurse_count inst.now.draft }
+        requires shift { k.0 < shift_count inst.now.draft }
+        requires patient { visit.now.p.0 < patient_count inst.now.draft }
+        requires placement { IsPlacement inst.now.draft visit.now.at }
+        requires counted { has_day inst.now.draft visit.now.p.0 (Some visit.now.at) (day_of k.0) ≡ true }
+        requires stands { (P : Timetable) × IsLedgerOf inst.now.draft P self.now
+            × (care_of P visit.now.at.room.0 k.0 ≡ Some n.0) }
+        requires visit { IsVisit inst.now.draft visit.now.p.0 (stay_of (plan_of self.now) visit.now.p.0) visit.now.at
+            visit.now.workload.now visit.now.skill.now visit.now.before }
+        ensures { (P : Timetable) → IsLedgerOf inst.now.draft P self.now
+            → pos result ≡ increase_by_placement P visit.now.p visit.now.at (λ Q. overload_in inst.now.draft Q n k) }
+    {
+        let all = load(inst, self.loads.as_slice(), n, k);
+        let come = entry(visit.workload, visit.at, k);
+        let gone = gone(inst, &self.plan, visit, n, k, come);
+        let without = all.work - gone;
+        let with = without + come;
+        overload(all, with) - overload(all, without)
+    }
+
+    /// What a shift of a placement's room costs more with the patient there than without.
+    #[inline(always)]
+    pub fn shift_delta(&self, inst: &Instance, k: Shift, visit: &Visit<'_>) -> ShiftDelta
+        requires shift { k.0 < shift_count inst.now.draft }
+        requires patient { visit.now.p.0 < patient_count inst.now.draft }
+        requires placement { IsPlacement inst.now.draft visit.now.at }
+        requires counted { has_day inst.now.draft visit.now.p.0 (Some visit.now.at) (day_of k.0) ≡ true }
+        requires stands { (P : Timetable) × IsLedgerOf inst.now.draft P self.now }
+        requires visit { IsVisit inst.now.draft visit.now.p.0 (stay_of (plan_of self.now) visit.now.p.0) visit.now.at
+            visit.now.workload.now visit.now.skill.now visit.now.before }
+        ensures uncovered { (P : Timetable) → IsLedgerOf inst.now.draft P self.now
+            → pos result.uncovered ≡ increase_by_placement P visit.now.p visit.now.at
+            (λ Q. uncovered_in inst.now.draft Q visit.now.at.room k) }
+        ensures missing_skill { (P : Timetable) → IsLedgerOf inst.now.draft P self.now
+            → pos result.missing_skill ≡ increase_by_placement P visit.now.p visit.now.at
+            (λ Q. missing_in inst.now.draft Q visit.now.at.room k) }
+        ensures overload { (P : Timetable) → IsLedgerOf inst.now.draft P self.now
+            → pos result.overload ≡ increase_by_placement P visit.now.p visit.now.at
+            (λ Q. excess_in inst.now.draft Q visit.now.at.room k) }
+    {
+        match nurse_at(inst, &self.plan, visit.at.room, k) {
+            None => ShiftDelta {
+                uncovered: self.alone_delta(inst, visit.at.room, k, visit.p),
+                missing_skill: 0,
+                overload: 0,
+            },
+            Some(n) => ShiftDelta {
+                uncovered: 0,
+                missing_skill: skill_delta(inst, n, k, visit.at, visit.skill),
+                overload: self.load_delta(inst, n, k, visit),
+            },
+        }
+    }
+}
