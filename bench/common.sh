@@ -8,5 +8,9 @@ program=${PROGRAM:-$top/crates/ih_main/out/ih_main}
 [ -x "$program" ] || { echo "no program at $program: build it by 'bash examples/run.sh', or name it by PROGRAM" >&2; exit 2; }
 work=${1:-$(mktemp -d)}
 mkdir -p "$work"
+program=$(realpath -- "$program") work=$(realpath -- "$work") # some calls run in another folder
+export PYTHONDONTWRITEBYTECODE=1
 plain() { "$top/bench/plain/build"; }
 needs() { for it; do command -v "$it" >/dev/null || { echo "$it is wanted" >&2; exit 2; }; done; }
+needs python3
+[ $# -gt 0 ] || echo "files in $work" >&2

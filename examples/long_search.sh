@@ -1,11 +1,14 @@
 #!/usr/bin/env bash
-# A search that runs for as long as it is told: calls of `solve` one after the other, each from the best timetable of the calls before it.
+# A search that runs for as long as it is told: calls of `solve` one after the other, each from the best timetable
+# of the calls before it.
 #   examples/long_search.sh [--keep FOLDER] INSTANCE OUT SECONDS [WORKERS]
-# Each step makes WORKERS searches of one worker side by side (default: one for each processor) and goes on from the cheapest of their
-# timetables. The heat falls from HOT to COLD over the whole time; every search has a seed of its own. OUT always holds the best timetable so
-# far, so an interrupt loses nothing. The journal of each step's winner is replayed beside the next step, before its timetable counts, and then
-# dropped; with --keep it stays in FOLDER, beside the timetable that it starts from.
-# By environment: IH (the program), HARD (the weight of a broken rule, 100000), HOT (60), COLD (3), SEED (1), START (a solution to begin with).
+# Each step makes WORKERS searches of one worker side by side (default: one for each processor) and goes on from the
+# cheapest of their timetables. The heat falls from HOT to COLD over the whole time; every search has a seed of its
+# own. OUT holds the best timetable whose journal was replayed: that of each step's winner is replayed beside the
+# next step, before its timetable counts. So an interrupt loses the step that runs, and at most the winner of the
+# one before. The journal is then dropped; with --keep it stays in FOLDER, beside the timetable that it starts from.
+# By environment: IH (the program), HARD (the weight of a broken rule, 100000), HOT (60), COLD (3), SEED (1), START
+# (a solution to begin with).
 set -u
 top=$(cd "$(dirname "$0")/.." && pwd)
 say() { echo "long_search: $*" >&2; }
@@ -22,6 +25,10 @@ program=${IH:-$top/crates/ih_main/out/ih_main}
 hard=${HARD:-100000} hot=${HOT:-60} cold=${COLD:-3} seed=${SEED:-1} start=${START:-}
 case $seconds in '' | *[!0-9]* | 0) say "SECONDS is a whole number from 1 on, and not '$seconds'"; exit 2 ;; esac
 case $workers in '' | *[!0-9]* | 0) say "WORKERS is a whole number from 1 on, and not '$workers'"; exit 2 ;; esac
+for number in "$hard" "$hot" "$cold" "$seed"; do
+  case $number in '' | *[!0-9]*) say "HARD, HOT, COLD and SEED are whole numbers, and not '$number'"; exit 2 ;; esac
+done
+[ "$hot" -gt 0 ] && [ "$cold" -gt 0 ] || { say "HOT and COLD are at least 1"; exit 2; }
 [ -x "$program" ] || { say "no program at $program: build it by 'bash examples/run.sh', or name it by IH"; exit 2; }
 [ -r "$instance" ] || { say "cannot read $instance"; exit 2; }
 [ -z "$start" ] || [ -r "$start" ] || { say "cannot read $start"; exit 2; }

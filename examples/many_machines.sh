@@ -1,11 +1,13 @@
 #!/usr/bin/env bash
-# A portfolio of searches with different seeds, on this machine or on several. Each journal is fetched and replayed here: only a timetable that
-# the program on this machine comes to by itself counts, whatever the other machines say.
+# A portfolio of searches with different seeds, on this machine or on several. Each journal is fetched and replayed
+# here: only a timetable that the program on this machine comes to by itself counts, whatever the other machines
+# say.
 #   examples/many_machines.sh INSTANCE OUT JOBS [HOSTS]
-# HOSTS is what GNU parallel takes after --sshlogin, as 8/ward1,8/ward2,: (the number of jobs side by side, the host; ':' is this machine).
-# Without it this machine is the only one. The program is copied to each host; it needs Linux on x86-64 there and a login without a password.
-# By environment: IH (the program), MOVES (of each search, 1000000), HEAT (20), HARD (the weight of a broken rule, 100000), SEED (of the first
-# search, 1; the others follow), START (a solution to begin with; without it each search begins from the greedy fill).
+# HOSTS is what GNU parallel takes after --sshlogin, as 8/ward1,8/ward2,: (the number of jobs side by side, the
+# host; ':' is this machine). Without it this machine is the only one. The program is copied to each host; it needs
+# Linux on x86-64 there and a login without a password. By environment: IH (the program), MOVES (of each search,
+# 1000000), HEAT (20), HARD (the weight of a broken rule, 100000), SEED (of the first search, 1; the others follow),
+# START (a solution to begin with; without it each search begins from the greedy fill).
 set -u
 top=$(cd "$(dirname "$0")/.." && pwd)
 say() { echo "many_machines: $*" >&2; }
@@ -23,7 +25,8 @@ parallel --version 2>/dev/null | grep -q '^GNU parallel' || { say "the command '
 work=$(mktemp -d) || exit 2
 trap 'rm -rf "$work"' EXIT
 trap 'exit 130' INT TERM
-# what every host needs: here for the copies, and in the folder where jobs of this machine run, which other hosts make at the same path
+# what every host needs: here for the copies, and in the folder where jobs of this machine run, which other hosts
+# make at the same path
 mkdir "$work/jobs"
 cp "$program" "$work/ih" && cp "$instance" "$work/instance.json" || exit 2
 from=--fill given=(--basefile ih --basefile instance.json)
@@ -33,7 +36,8 @@ if [ -n "$start" ]; then
 fi
 cp "$work"/ih "$work"/*.json "$work/jobs/"
 
-# One search a seed, in a folder of its own on the host; what comes back is the journal. The exit status of each job is in the log.
+# One search a seed, in a folder of its own on the host; what comes back is the journal. The exit status of each job
+# is in the log.
 cd "$work" || exit 2
 last=$((seed + jobs - 1))
 seq "$seed" "$last" | parallel --will-cite --sshlogin "$hosts" --workdir "$work/jobs" "${given[@]}" \

@@ -1,6 +1,7 @@
 #!/usr/bin/env bash
-# Builds the program where it isn't built yet, shows a search that needs no file, searches the ward of this folder, shows what was written, checks it, and searches on from
-# it while the first two days stay as they are. The first build proves every crate, which takes a while; later calls start at once.
+# Builds the program where it isn't built yet, shows a search that needs no file, searches the ward of this folder,
+# shows what was written, checks it, and searches on from it while the first two days stay as they are. The first
+# build proves every crate, which takes a while; later calls start at once.
 set -eu
 top=$(cd "$(dirname "$0")/.." && pwd)
 work=${1:-$(mktemp -d)}
@@ -12,6 +13,7 @@ program=$top/crates/ih_main/out/ih_main
 if [ -x "$program" ]; then
   "$program" demo 7
 else
+  command -v rt >/dev/null || { echo "run.sh: Rattle's toolchain is wanted ('rt' on the path)" >&2; exit 2; }
   (cd "$top/crates/ih_main" && rt run -- demo 7)
 fi
 echo
