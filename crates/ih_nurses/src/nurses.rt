@@ -125,6 +125,7 @@ impl Nurses {
         let persons = &self.here[(k.0 / 3) as usize];
         let nurse = nurse_at(inst, &self.plan, r, k);
         let counts = self.counts.as_slice();
+        // One choice alone: it stands as the old one and as the new one.
         let sums = room_sums(inst, &self.plan, counts, persons, r, k, nurse, nurse);
         bill_of(choice_costs(inst, persons, r, k, nurse, sums.new_missing))
     }

@@ -8,7 +8,7 @@ ghost use Rattle.ih_nurses.specs.Counts.{has_just};
 
 use crate::counts::count;
 use ih_links::Links;
-use ih_plan::{Plan, asked_of};
+use ih_plan::{Plan, care_need_of};
 use ih_tables::{Instance, NurseNo, RoomNo, Shift};
 
 /// What the persons in a room give with a new choice of nurse and with the old one.
@@ -97,7 +97,7 @@ pub fn room_sums(
     let mut gone = 0;
     let mut at = persons.first(r.0);
     while let Some(x) = at {
-        let asked = asked_of(inst, plan, x, k.0);
+        let asked = care_need_of(inst, plan, x, k.0);
         work += asked.workload;
         new_missing += asked.skill.saturating_sub(new_level);
         old_missing += asked.skill.saturating_sub(old_level);

@@ -9,7 +9,7 @@ ghost use Rattle.ih_plan.specs.{Timetable.IsPlanOf, Presence.workload_of, Sums.b
 
 use crate::bills::NursingCosts;
 use ih_links::Links;
-use ih_plan::{Plan, asked_of};
+use ih_plan::{Plan, care_need_of};
 use ih_tables::{Instance, NurseNo, RoomNo, Shift};
 
 /// The workload of the persons in a room's list in a shift.
@@ -25,7 +25,7 @@ pub fn workload_in(inst: &Instance, plan: &Plan, persons: &Links, r: RoomNo, k: 
     let mut sum = 0;
     let mut at = persons.first(r.0);
     while let Some(x) = at {
-        let asked = asked_of(inst, plan, x, k.0);
+        let asked = care_need_of(inst, plan, x, k.0);
         sum += asked.workload;
         at = persons.next(x);
     }

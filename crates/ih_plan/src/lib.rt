@@ -13,7 +13,7 @@ pub use members::Members;
 pub use moves::{Move, Placement, Write};
 pub use numbers::{bit, increase};
 pub use persons::{
-    Asked, age_group, asked_of, counted_shifts, end_from, end_of, is_present, nurse_at,
+    CareNeed, age_group, care_need_of, counted_shifts, end_from, end_of, is_present, nurse_at,
     same_gender, skill_of, stays_in, workload_of,
 };
 pub use plans::Plan;

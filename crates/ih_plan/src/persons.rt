@@ -1,4 +1,4 @@
-//! What is asked of a person by its number (patients come first, then occupants), and of a room in a shift.
+//! Where a person is and what care it needs, by its number (patients come first, then occupants); a room's nurse.
 
 ghost use Rattle.std.specs.Prelude.{◌≡◌, ◌<◌, ◌≤◌, ◌+◌, ◌-◌, ◌*◌, IfSome};
 ghost use Rattle.std.specs.Str.{bytes_eq};
@@ -116,17 +116,17 @@ fn entry_of(inst: &Instance, plan: &Plan, x: u32, k: u32) -> u32
     }
 }
 
-/// What is asked of a nurse for a person in a shift.
+/// The care that a person needs in a shift.
 #[derive(Clone, Copy)]
-pub struct Asked {
+pub struct CareNeed {
     pub workload: u32,
     pub skill: u32,
 }
 
-/// What the person asks of a nurse in the shift, by one look-up of the person.
+/// The care that the person needs in the shift, by one look-up of the person.
 #[tactic(auto, unfolding(crate::specs::Persons::person_of))]
 #[inline(always)]
-pub fn asked_of(inst: &Instance, plan: &Plan, x: u32, k: u32) -> Asked
+pub fn care_need_of(inst: &Instance, plan: &Plan, x: u32, k: u32) -> CareNeed
     requires plan { IsPlanOf inst.now.draft plan.now }
     requires person { x < person_count inst.now.draft }
     ensures workload { result.workload ≡ workload_of inst.now.draft plan.now k x }
@@ -138,7 +138,7 @@ pub fn asked_of(inst: &Instance, plan: &Plan, x: u32, k: u32) -> Asked
     let patients = inst.patients();
     if x < patients {
         let a = inst.patient(PatientNo(x));
-        Asked {
+        CareNeed {
             workload: a.workload_produced.as_slice().get(at).copied().unwrap_or(0),
             skill: a
                 .skill_level_required
@@ -149,7 +149,7 @@ pub fn asked_of(inst: &Instance, plan: &Plan, x: u32, k: u32) -> Asked
         }
     } else {
         let o = inst.occupant(x - patients);
-        Asked {
+        CareNeed {
             workload: o.workload_produced.as_slice().get(at).copied().unwrap_or(0),
             skill: o
                 .skill_level_required
@@ -169,7 +169,7 @@ pub fn workload_of(inst: &Instance, plan: &Plan, x: u32, k: u32) -> u32
     ensures value { result ≡ workload_of inst.now.draft plan.now k x }
     ensures bound { result ≤ 100000 }
 {
-    asked_of(inst, plan, x, k).workload
+    care_need_of(inst, plan, x, k).workload
 }
 
 /// The skill that the person requires in the shift.
@@ -180,7 +180,7 @@ pub fn skill_of(inst: &Instance, plan: &Plan, x: u32, k: u32) -> u32
     ensures value { result ≡ skill_of inst.now.draft plan.now k x }
     ensures bound { result ≤ 1000 }
 {
-    asked_of(inst, plan, x, k).skill
+    care_need_of(inst, plan, x, k).skill
 }
 
 /// The day after the last counted one of a stay of so many days from a day on: days past the horizon aren't counted.

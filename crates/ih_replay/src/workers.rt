@@ -13,7 +13,7 @@ use ih_snapshot::Replica;
 use ih_tables::Instance;
 use std::alloc::{AllocError, Global};
 
-/// What is kept of a worker beside the history.
+/// What is known of a worker beside the history.
 #[derive(Drop)]
 pub struct Worker<'a> {
     /// It stands for the entries that the worker had seen at its last one, or for more after a refusal.

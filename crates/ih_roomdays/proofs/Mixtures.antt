@@ -1,4 +1,4 @@
--- What persons cost together, from what is kept of them.
+-- What persons cost together, from the summary of them.
 use Rattle.std.proofs.Common.{◌≡◌, ℕ, ◌-◌, ◌*◌, ◌^◌, ◌<◌, refl, sym, ap, ◌∙◌, true, false, List, [], ◌∷◌, map, w64, inl, inr}
 use Rattle.std.specs.Prelude.{◌==◌, not}
 use Rattle.std.specs.Int.{leading_zeros, trailing_zeros}

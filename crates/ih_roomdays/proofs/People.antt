@@ -33,7 +33,7 @@ day-read v d day rows below e = get_or_read v.links.items d day (rw rows.each_da
 pub place-inside : (v : Rows) (r d : ℕ) → r < v.rooms → d < v.days → r * v.days + d < v.rooms * v.days
 place-inside v r d room below = rw (mul_comm v.rooms v.days) (mul-add-lt r v.days d v.rooms room below)
 
--- what is read there is what is kept of the room's day
+-- what is read there is the summary of the room's day
 pub crowd-read : (v : Rows) (r d : ℕ) (c : Crowd) → AreRows v → r < v.rooms → d < v.days → c ≡ get_or v.crowds.items (r * v.days + d) c → c ≡ crowd_at v r d
 crowd-read v r d c rows room below e =
     get_or_read v.crowds.items (r * v.days + d) c (let place = place-inside v r d room below in omega (arith, rows.crowds)) e nobody
@@ -45,7 +45,7 @@ persons-few v r d rows below =
     let few = rows.few_persons in
     omega arith
 
--- so what is kept of them is small
+-- so the summary of them is small
 pub crowd-small : (v : Rows) (r d : ℕ) → AreRows v → d < v.days → IsSmall (crowd_at v r d).occupancy
 crowd-small v r d rows below =
     occupancy-small v.persons v.profiles (persons_at v r d) (crowd_at v r d).occupancy rows.profiles (rows.kept r d below).occupancy (persons-few v r d rows below)

@@ -54,7 +54,7 @@ everywhere room k days A this others r d below = elim (cases_eq r room) [
   | inr nr ↦ others r d below (λ e f. nr e)
 ]
 
--- These are the lists of day k now, and this is kept of xs.
+-- These are the lists of day k now, and this is the summary of xs.
 module _ (v : Rows) (rows : AreRows v) (room k : ℕ) (room_below : room < v.rooms) (k_below : k < v.days) (xs : List ℕ) (day : Linked) (is_day : IsDay v room k xs day)
     (links : Vec Linked) (links_are : links.items ≡ slice_set v.links.items k day)
     (crowds : Vec Crowd) (crowd : Crowd) (told : IsCrowd v.profiles xs crowd) (crowds_are : crowds.items ≡ slice_set v.crowds.items (room * v.days + k) crowd) where

@@ -1,4 +1,4 @@
--- What one person more, or one less, makes of what is kept of persons.
+-- What one person more, or one less, makes of the summary of persons.
 use Rattle.std.proofs.Common.{◌≡◌, ℕ, ◌+◌, ◌-◌, ◌*◌, ◌%◌, ◌^◌, ◌<◌, ◌≤◌, refl, arith, sym, ap, subst, ◌∙◌, true, List, [], ◌∷◌, ◌++◌, length, length-append, min, w64, bit_and, bit_or, inl, inr}
 use Rattle.std.specs.Prelude.{◌==◌}
 use Rattle.std.specs.Int.{bit_at, bit_not}

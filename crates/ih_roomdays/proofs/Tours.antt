@@ -1,4 +1,4 @@
--- A walk over persons, and what is kept of those that it has told.
+-- A walk over persons, and the summary of those that it has told.
 use Rattle.std.proofs.Common.{◌≡◌, ℕ, ◌≤◌, arith, ap, subst, List, [], ◌∷◌, ◌++◌, Option, Some, None, length, length-append}
 use Rattle.ih_links.specs.Lists.{AreNodes, first_of, following, rest_from}
 use Rattle.ih_links.proofs.Walks.{IsWalk, walk-begins, walk-goes_on, walk-ends}

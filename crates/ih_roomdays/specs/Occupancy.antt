@@ -1,4 +1,4 @@
--- What is kept of the persons in a room on a day: sums of their gender numbers, and bits of their age groups.
+-- The summary of the persons in a room on a day: sums of their gender numbers, and bits of their age groups.
 use Rattle.std.specs.Prelude.{◌≡◌, ℕ, ◌-◌, ◌*◌, ◌<◌, ◌≤◌, ◌==◌, List, length, min}
 use Rattle.std.specs.Int.{bit_at}
 use Rattle.std.specs.List.{count_by, sum_by}

@@ -1,4 +1,4 @@
--- What is kept of the persons: genders as numbers, and age groups.
+-- The profiles of persons: genders as numbers, and age groups.
 use Rattle.std.specs.Prelude.{◌≡◌, ℕ, ◌<◌, true, List, length, slice_index}
 use Rattle.ih_tables.specs.declared.drafts.Draft.{Draft}
 use Rattle.ih_tables.specs.Sizes.{person_count}

@@ -13,7 +13,7 @@ use Rattle.ih_plan.specs.Presence.{in_span}
 abbrev pub persons_at : Rows → ℕ → ℕ → List ℕ
 persons_at v r d = list_of (on_day v.links.items d) r
 
--- what is kept of them
+-- the summary of them
 abbrev pub crowd_at : Rows → ℕ → ℕ → Crowd
 crowd_at v r d = slice_index_or v.crowds.items (r * v.days + d) nobody
 
@@ -22,7 +22,7 @@ abbrev pub is_at : Rows → ℕ → ℕ → ℕ → Bool
 is_at v r d x = has x (persons_at v r d)
 
 -- Each day has a list for each room, over the numbers of the persons, who have profiles; a list has each person once,
--- and what is kept beside it is so of its persons.
+-- and the summary beside it is theirs.
 pub record AreRows (v : Rows) : Type 0 where
   pub each_day : length v.links.items ≡ v.days
   pub each_room : (d : ℕ) → d < v.days → length (on_day v.links.items d).lists ≡ v.rooms
@@ -56,7 +56,7 @@ pub record HasSpan (v : Rows) (room x a b : ℕ) : Type 0 where
 abbrev pub of_stay : ℕ → ℕ → ℕ → ℕ → ℕ → Bool
 of_stay x a b d y = (y == x) && in_span a b d
 
--- Afterwards a person is in a room on a day where `now` has it so, by whether it was there before.
+-- Afterwards `now` says of each room, day and person whether it is there, given whether it was before.
 pub record AreChanged (before after : Rows) (now : (room day person : ℕ) (was : Bool) → Bool) : Type 0 where
   pub rows : AreRows after
   pub rooms : after.rooms ≡ before.rooms

@@ -35,7 +35,7 @@ pub fn is_there(inst: &Instance, p: PatientNo, stay: Option<Placement>, r: RoomN
     }
 }
 
-/// What persons of whom this is kept break and cost in a room.
+/// What persons with this summary break and cost in a room.
 pub fn room_counts(inst: &Instance, r: RoomNo, occupancy: Occupancy) -> RoomDayCounts
     requires room { r.0 < room_count inst.now.draft }
     requires small { IsSmall occupancy }
@@ -49,7 +49,7 @@ pub fn room_counts(inst: &Instance, r: RoomNo, occupancy: Occupancy) -> RoomDayC
     }
 }
 
-// What is kept of the persons in a room on a day other than x, who is there or not.
+// The summary of the persons in a room on a day other than x, who is there or not.
 fn others(rows: &Rows, r: RoomNo, d: Day, x: u32, who: Profile, there: bool) -> Occupancy
     requires rows { AreRows rows.now }
     requires room { r.0 < rows.now.rooms }

@@ -1,4 +1,4 @@
-//! What is kept of the persons in a room on a day, so that nobody has to go over them to tell what they cost.
+//! A summary of the persons in a room on a day, from which what they cost is computed without going over them.
 
 ghost use Rattle.std.specs.Prelude.{◌≡◌, ℕ, ◌-◌, ◌*◌, ◌<◌, ◌≤◌, ◌∷◌, ◌++◌, [], true, List, length};
 ghost use Rattle.ih_tables.specs.declared.drafts.Draft.{Draft};
@@ -11,7 +11,7 @@ ghost use Rattle.ih_roomdays.specs.Profiles.{AreInRange, AreProfiles, ArePersons
 use crate::profiles::{Profile, Profiles};
 use ih_links::Links;
 
-/// What is kept of persons who are together: enough to tell what they break and cost.
+/// A summary of persons who are together: what they break and cost follows from it.
 #[derive(Clone, Copy)]
 pub struct Occupancy {
     /// The bits of their age groups.
@@ -24,7 +24,7 @@ pub struct Occupancy {
     pub count: u32,
 }
 
-/// The same, and by what it is told without one of them. A room and a day have 32 bytes of it.
+/// A summary from which one person can be taken off. A room and a day have 32 bytes of it.
 #[derive(Clone, Copy)]
 pub struct Crowd {
     pub occupancy: Occupancy,
@@ -32,7 +32,7 @@ pub struct Crowd {
     pub twice: u64,
 }
 
-/// What is kept of nobody.
+/// The summary of nobody.
 pub const NOBODY: Crowd = Crowd {
     occupancy: Occupancy {
         ages: 0,
@@ -129,7 +129,7 @@ impl Crowd {
     }
 }
 
-/// What is kept of the persons in a room, by a day's lists.
+/// The summary of the persons in a room, by a day's lists.
 pub fn crowd_of(profiles: &Profiles, day: &Links, room: u32) -> Crowd
     requires profiles { AreInRange (length profiles.now.genders.items) profiles.now }
     requires room { room < length day.now.lists }

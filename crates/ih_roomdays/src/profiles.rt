@@ -17,7 +17,7 @@ pub struct Profiles {
     pub ages: Vec<u32>,
 }
 
-/// What is kept of one person.
+/// The profile of one person.
 #[derive(Clone, Copy)]
 pub struct Profile {
     /// The number of the gender.
@@ -27,7 +27,7 @@ pub struct Profile {
 }
 
 impl Profiles {
-    /// What is kept of person x.
+    /// The profile of person x.
     #[inline(always)]
     pub fn of(&self, x: u32) -> Profile
         requires profiles { AreInRange (length self.now.genders.items) self.now }

@@ -9,7 +9,7 @@ use crate::profiles::Profiles;
 use ih_links::{Links, empty_days};
 use std::alloc::{AllocError, Global};
 
-/// For each day the persons in each room, and what is kept of them.
+/// For each day the persons in each room, and a summary of them.
 #[derive(Drop)]
 pub struct Rows {
     /// For each day a list for each room; its nodes are the persons.
@@ -18,7 +18,7 @@ pub struct Rows {
     pub days: u32,
     pub persons: u32,
     pub profiles: Profiles,
-    /// What is kept of each list's persons: those of room 0 first, rising by day.
+    /// The summary of each list's persons: those of room 0 first, rising by day.
     pub crowds: Vec<Crowd>,
 }
 

@@ -13,7 +13,7 @@ pub enum Cell {
     TheatreDay(TheatreNo, Day),
     /// The surgeries of a surgeon on a day.
     SurgeonDay(SurgeonNo, Day),
-    /// The nurse of a room in a shift.
+    /// The nurse of a room in a shift, and who is there.
     RoomShift(RoomNo, Shift),
     /// The workload of a nurse in a shift.
     NurseShift(NurseNo, Shift),

@@ -5,30 +5,35 @@ ghost use Rattle.ih_tables.specs.Valid.{IsVector, Between, IsName, IsListed};
 
 use crate::lookups::HasId;
 
+/// Whether a number is from `low` to `high`.
 pub fn between(low: usize, high: usize, n: usize) -> bool
     ensures { IsTrue result ↔ Between low high n }
 {
     low <= n && n <= high
 }
 
+/// Whether a text has 1 to 100 bytes.
 pub fn is_name(text: &str) -> bool
     ensures { IsTrue result ↔ IsName text.now }
 {
     between(1, 100, text.len())
 }
 
+/// Whether each number is at most `high`.
 pub fn are_at_most(high: u32, xs: &[u32]) -> bool
     ensures { IsTrue result ↔ All (λ x. x ≤ high) xs.now }
 {
     xs.iter().all(|x| *x <= high)
 }
 
+/// Whether there are `n` numbers, each at most `high`.
 pub fn is_vector(n: usize, high: u32, xs: &[u32]) -> bool
     ensures { IsTrue result ↔ IsVector n high xs.now }
 {
     xs.len() == n && are_at_most(high, xs)
 }
 
+/// Whether there are from `low` to `high` items, whose ids are names, no two the same.
 pub fn is_listed<T: HasId>(low: usize, high: usize, items: &[T]) -> bool
     ensures { IsTrue result ↔ IsListed low high T.id items.now }
 {

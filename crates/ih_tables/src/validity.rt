@@ -83,7 +83,7 @@ fn are_nurses(inst: &Draft, ns: &[Nurse]) -> bool
     ns.iter().all(|n| is_nurse(inst, n))
 }
 
-/// What is asked of the gender, the age group and the length of stay of any person.
+// What must hold of the gender, the age group and the length of stay of any person.
 fn is_person(inst: &Draft, gender: &str, age_group: u32, stay: u32) -> bool
     ensures { IsTrue result ↔ (IsName gender.now
         × (age_group < length inst.now.age_groups)

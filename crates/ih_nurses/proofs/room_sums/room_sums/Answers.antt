@@ -12,8 +12,8 @@ loop-at-init c =
     room-begins c.args.inst.now.draft c.args.plan.now c.args.counts.now c.args.k.0 c.args.new c.args.old (list_of c.args.persons.now c.args.r.0) c.first-at.result
     (subst (λ n. AreNodes n (list_of c.args.persons.now c.args.r.0)) c.requires.persons c.first-at.ensures.nodes) c.first-at.ensures.first
 
-pub asked_of-asked-requires-clause-person : goal.asked_of-asked-requires-clause-person
-asked_of-asked-requires-clause-person c = sum-below c.loop-at.invariant.work_is c.in-Some.is
+pub care_need_of-asked-requires-clause-person : goal.care_need_of-asked-requires-clause-person
+care_need_of-asked-requires-clause-person c = sum-below c.loop-at.invariant.work_is c.in-Some.is
 
 pub has_just-come-requires-clause-person : goal.has_just-come-requires-clause-person
 has_just-come-requires-clause-person c = sum-below c.loop-at.invariant.work_is c.in-Some.is
@@ -23,16 +23,16 @@ has_just-gone-requires-clause-person c = sum-below c.loop-at.invariant.work_is c
 
 pub overflow_add-work : goal.overflow_add-work
 overflow_add-work c =
-    omega (arith, sum-small c.args.inst.now.draft c.args.inst.now.valid c.loop-at.invariant.work_is c.in-Some.is (omega arith) c.asked_of-asked.result.workload c.asked_of-asked.ensures.workload_bound)
+    omega (arith, sum-small c.args.inst.now.draft c.args.inst.now.valid c.loop-at.invariant.work_is c.in-Some.is (omega arith) c.care_need_of-asked.result.workload c.care_need_of-asked.ensures.workload_bound)
 
 pub overflow_add-new_missing : goal.overflow_add-new_missing
 overflow_add-new_missing c =
-    let small : c.saturating_sub-new_missing.result ≤ 1000 = omega (arith, c.saturating_sub-new_missing.ensures, c.asked_of-asked.ensures.skill_bound) in
+    let small : c.saturating_sub-new_missing.result ≤ 1000 = omega (arith, c.saturating_sub-new_missing.ensures, c.care_need_of-asked.ensures.skill_bound) in
     omega (arith, sum-small c.args.inst.now.draft c.args.inst.now.valid c.loop-at.invariant.new_is c.in-Some.is (omega arith) c.saturating_sub-new_missing.result small)
 
 pub overflow_add-old_missing : goal.overflow_add-old_missing
 overflow_add-old_missing c =
-    let small : c.saturating_sub-old_missing.result ≤ 1000 = omega (arith, c.saturating_sub-old_missing.ensures, c.asked_of-asked.ensures.skill_bound) in
+    let small : c.saturating_sub-old_missing.result ≤ 1000 = omega (arith, c.saturating_sub-old_missing.ensures, c.care_need_of-asked.ensures.skill_bound) in
     omega (arith, sum-small c.args.inst.now.draft c.args.inst.now.valid c.loop-at.invariant.old_is c.in-Some.is (omega arith) c.saturating_sub-old_missing.result small)
 
 pub overflow_add-come : goal.overflow_add-come
@@ -54,15 +54,15 @@ loop-at-smaller c =
 pub loop-at-preserved : goal.loop-at-preserved
 loop-at-preserved c =
     let step = c.next-at.ensures.linked c.args.r.0 (sum-inside c.loop-at.invariant.work_is c.in-Some.is) in
-    let missing = λ (n : Option NurseNo). ap (λ s. skill_missing c.args.inst.now.draft (option_map (λ (a : NurseNo). a.0) n) (s ∷ [])) c.asked_of-asked.ensures.skill in
+    let missing = λ (n : Option NurseNo). ap (λ s. skill_missing c.args.inst.now.draft (option_map (λ (a : NurseNo). a.0) n) (s ∷ [])) c.care_need_of-asked.ensures.skill in
     record {
-      work_is = sum-goes_on c.loop-at.invariant.work_is c.in-Some.is step c.asked_of-asked.result.workload c.asked_of-asked.ensures.workload c.asked_of-asked.ensures.workload_bound;
+      work_is = sum-goes_on c.loop-at.invariant.work_is c.in-Some.is step c.care_need_of-asked.result.workload c.care_need_of-asked.ensures.workload c.care_need_of-asked.ensures.workload_bound;
       new_is = sum-goes_on c.loop-at.invariant.new_is c.in-Some.is step c.saturating_sub-new_missing.result
-          (c.saturating_sub-new_missing.ensures ∙ (c.level_of-new_level.ensures c.asked_of-asked.result.skill c.asked_of-asked.ensures.skill_bound ∙ missing c.args.new))
-          (omega (arith, c.saturating_sub-new_missing.ensures, c.asked_of-asked.ensures.skill_bound));
+          (c.saturating_sub-new_missing.ensures ∙ (c.level_of-new_level.ensures c.care_need_of-asked.result.skill c.care_need_of-asked.ensures.skill_bound ∙ missing c.args.new))
+          (omega (arith, c.saturating_sub-new_missing.ensures, c.care_need_of-asked.ensures.skill_bound));
       old_is = sum-goes_on c.loop-at.invariant.old_is c.in-Some.is step c.saturating_sub-old_missing.result
-          (c.saturating_sub-old_missing.ensures ∙ (c.level_of-old_level.ensures c.asked_of-asked.result.skill c.asked_of-asked.ensures.skill_bound ∙ missing c.args.old))
-          (omega (arith, c.saturating_sub-old_missing.ensures, c.asked_of-asked.ensures.skill_bound));
+          (c.saturating_sub-old_missing.ensures ∙ (c.level_of-old_level.ensures c.care_need_of-asked.result.skill c.care_need_of-asked.ensures.skill_bound ∙ missing c.args.old))
+          (omega (arith, c.saturating_sub-old_missing.ensures, c.care_need_of-asked.ensures.skill_bound));
       come_is = sum-goes_on c.loop-at.invariant.come_is c.in-Some.is step c.has_just-come.result c.has_just-come.ensures.value c.has_just-come.ensures.bound;
       gone_is = sum-goes_on c.loop-at.invariant.gone_is c.in-Some.is step c.has_just-gone.result c.has_just-gone.ensures.value c.has_just-gone.ensures.bound;
     }

@@ -10,12 +10,12 @@ loop-at-init c =
     sum-begins (person_count c.args.inst.now.draft) 100000 (workload_of c.args.inst.now.draft c.args.plan.now c.args.k.0) (list_of c.args.persons.now c.args.r.0) c.first-at.result
     (subst (λ n. AreNodes n (list_of c.args.persons.now c.args.r.0)) c.requires.persons c.first-at.ensures.nodes) c.first-at.ensures.first
 
-pub asked_of-asked-requires-clause-person : goal.asked_of-asked-requires-clause-person
-asked_of-asked-requires-clause-person c = sum-below c.loop-at.invariant c.in-Some.is
+pub care_need_of-asked-requires-clause-person : goal.care_need_of-asked-requires-clause-person
+care_need_of-asked-requires-clause-person c = sum-below c.loop-at.invariant c.in-Some.is
 
 pub overflow_add-sum : goal.overflow_add-sum
 overflow_add-sum c = omega
-    (arith, sum-fits c.loop-at.invariant c.in-Some.is c.asked_of-asked.result.workload c.asked_of-asked.ensures.workload_bound, persons-few c.args.inst.now.draft c.args.inst.now.valid)
+    (arith, sum-fits c.loop-at.invariant c.in-Some.is c.care_need_of-asked.result.workload c.care_need_of-asked.ensures.workload_bound, persons-few c.args.inst.now.draft c.args.inst.now.valid)
 
 pub next-at-requires : goal.next-at-requires
 next-at-requires c = let below = sum-below c.loop-at.invariant c.in-Some.is in record { node = rw c.requires.persons below }
@@ -25,8 +25,8 @@ loop-at-smaller c = sum-shrinks c.loop-at.invariant c.in-Some.is (c.next-at.ensu
 
 pub loop-at-preserved : goal.loop-at-preserved
 loop-at-preserved c =
-    sum-goes_on c.loop-at.invariant c.in-Some.is (c.next-at.ensures.linked c.args.r.0 (sum-inside c.loop-at.invariant c.in-Some.is)) c.asked_of-asked.result.workload c.asked_of-asked.ensures.workload
-    c.asked_of-asked.ensures.workload_bound
+    sum-goes_on c.loop-at.invariant c.in-Some.is (c.next-at.ensures.linked c.args.r.0 (sum-inside c.loop-at.invariant c.in-Some.is)) c.care_need_of-asked.result.workload c.care_need_of-asked.ensures.workload
+    c.care_need_of-asked.ensures.workload_bound
 
 pub returns-clause-sum : goal.returns-clause-sum
 returns-clause-sum c = sum-ends c.loop-at.invariant c.in_default.is
