@@ -7,7 +7,7 @@ ghost use Rattle.ih_plan.specs.Expand.{expand, IsMoveOf, swap_stays};
 ghost use Rattle.ih_moves.specs.Runs.{in_run, run_below};
 
 use ih_plan::{Move, Placement, Plan, Write, nurse_at};
-use ih_tables::{Day, Instance, NurseNo, PatientNo, RoomNo, Shift};
+use ih_tables::{Day, Instance, NurseNo, PatientNo, RoomNo, Shift, TheatreNo};
 use std::marker::Model;
 
 /// Up to 64 writes, in the order in which they are made. It takes no memory.
@@ -118,6 +118,16 @@ fn put_swapped_rooms(plan: &Plan, p: PatientNo, q: PatientNo, out: &mut Writes)
     }
 }
 
+fn on_day(at: Placement, day: Day) -> Placement
+    ensures { result ≡ record at { day = day } }
+{
+    Placement {
+        day,
+        room: at.room,
+        theatre: at.theatre,
+    }
+}
+
 fn in_room(at: Placement, room: RoomNo) -> Placement
     ensures { result ≡ record at { room = room } }
 {
@@ -125,6 +135,16 @@ fn in_room(at: Placement, room: RoomNo) -> Placement
         day: at.day,
         room,
         theatre: at.theatre,
+    }
+}
+
+fn in_theatre(at: Placement, theatre: TheatreNo) -> Placement
+    ensures { result ≡ record at { theatre = theatre } }
+{
+    Placement {
+        day: at.day,
+        room: at.room,
+        theatre,
     }
 }
 
@@ -147,14 +167,7 @@ pub fn expand(inst: &Instance, plan: &Plan, mv: &Move, out: &mut Writes)
         },
         Move::SetDay(p, day) => match plan.stay(p) {
             None => {}
-            Some(at) => out.push(Write::SetStay(
-                p,
-                Some(Placement {
-                    day,
-                    room: at.room,
-                    theatre: at.theatre,
-                }),
-            )),
+            Some(at) => out.push(Write::SetStay(p, Some(on_day(at, day)))),
         },
         Move::SetRoom(p, room) => match plan.stay(p) {
             None => {}
@@ -162,14 +175,7 @@ pub fn expand(inst: &Instance, plan: &Plan, mv: &Move, out: &mut Writes)
         },
         Move::SetTheatre(p, theatre) => match plan.stay(p) {
             None => {}
-            Some(at) => out.push(Write::SetStay(
-                p,
-                Some(Placement {
-                    day: at.day,
-                    room: at.room,
-                    theatre,
-                }),
-            )),
+            Some(at) => out.push(Write::SetStay(p, Some(in_theatre(at, theatre)))),
         },
         Move::SwapRooms(p, q) => {
             if p.0 != q.0 {
