@@ -12,8 +12,8 @@ use ih_shelf::Gate;
 use std::sync::Wait;
 use std::thread::{Threads, for_each_mut};
 
-/// Something that does its work beside others, at a shared D. It is a trait, since a closure over workers can't name
-/// their lifetime. No bound of its method is on threads: a trait's method can't hand such a bound on.
+// Something that does its work beside others, at a shared D. It is a trait, since a closure over workers can't name
+// their lifetime. No bound of its method is on threads: a trait's method can't hand such a bound on.
 trait Work<D> {
     ghost ready: { D → Self → Type 0 };
 

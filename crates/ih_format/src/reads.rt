@@ -27,7 +27,7 @@ pub trait Reads {
             (reading self.now (finds row.entry.earlier.now) row.entry.at (view row.entry.value.now)) };
 }
 
-/// Items in their order, each whole before the next, and the numbers of their ids.
+// Items in their order, each whole before the next, and the numbers of their ids.
 #[tactic(auto, using(crate::proofs::Named::naming))]
 fn each<R: Reads>(
     alloc: Global,

@@ -15,7 +15,7 @@ use ih_tables::{Draft, Instance, Key, Place};
 use serde_json::Value;
 use std::alloc::Global;
 
-/// The data of a value, key by key.
+// The data of a value, key by key.
 #[tactic(auto, unfolding(crate::specs::Instance::draft))]
 fn draft(alloc: Global, value: &Value, at: Place) -> Result<Draft, FormatError>
     ensures { Gives (λ d. d) result (draft at (view value.now)) }
@@ -64,7 +64,7 @@ fn draft(alloc: Global, value: &Value, at: Place) -> Result<Draft, FormatError>
     })
 }
 
-/// The data of an instance file, or its first refusal.
+// The data of an instance file, or its first refusal.
 fn read_draft(alloc: Global, bytes: &[u8]) -> Result<Draft, FormatError>
     ensures { Gives (λ d. d) result (instance bytes.now) }
 {

@@ -12,7 +12,7 @@ use ih_tables::{Key, List, Names, Patient, Place, Refusal, RoomNo, SurgeonNo};
 use serde_json::Value;
 use std::alloc::Global;
 
-/// The due day, which only a mandatory patient has.
+// The due day, which only a mandatory patient has.
 fn due_day(object: &Value, mandatory: bool, at: Place) -> Result<Option<u32>, Refusal>
     ensures { result ≡ due_day mandatory at (view object.now) }
 {

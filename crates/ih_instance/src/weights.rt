@@ -15,7 +15,7 @@ fn has(object: &Value, key: Key) -> bool
     object.get(key.name()).is_some()
 }
 
-/// The spelling of the fourth weight that is there, and the first where neither is.
+// The spelling of the fourth weight that is there, and the first where neither is.
 fn one_spelling(object: &Value, at: Place) -> Result<Key, Refusal>
     ensures { result ≡ one_spelling at (view object.now) }
 {

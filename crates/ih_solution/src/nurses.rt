@@ -12,7 +12,7 @@ use ih_tables::{Instance, NurseNo, RoomNo, Shift};
 use serde_json::{Value, json};
 use std::alloc::{AllocError, Global};
 
-/// Whether the nurse has the room in the shift.
+// Whether the nurse has the room in the shift.
 #[tactic(auto, using(crate::proofs::ListedValues::place_steps))]
 fn is_nurse_of(inst: &Instance, plan: &Plan, n: NurseNo, r: RoomNo, k: Shift) -> bool
     requires plan { IsPlanOf inst.now.draft plan.now }
@@ -26,7 +26,7 @@ fn is_nurse_of(inst: &Instance, plan: &Plan, n: NurseNo, r: RoomNo, k: Shift) ->
     }
 }
 
-/// The ids of a nurse's rooms in a shift, rising by number.
+// The ids of a nurse's rooms in a shift, rising by number.
 #[tactic(auto, using(crate::proofs::ListedValues::chosen_steps), unfolding(crate::specs::Solution::rooms_of))]
 fn room_values(
     alloc: Global,
@@ -51,7 +51,7 @@ fn room_values(
     Ok(values)
 }
 
-/// The day and the shift type of a shift, with a nurse's rooms.
+// The day and the shift type of a shift, with a nurse's rooms.
 fn assignment_value(
     alloc: Global,
     inst: &Instance,
@@ -65,7 +65,7 @@ fn assignment_value(
     json!(in alloc; {"day": k.0 / 3, "rooms": rooms, "shift": shift})
 }
 
-/// A nurse's assignments: one for each shift in which the nurse has a room, rising.
+// A nurse's assignments: one for each shift in which the nurse has a room, rising.
 #[tactic(auto, using(crate::proofs::ListedValues::chosen_steps), unfolding(crate::specs::Solution::shifts_with_rooms))]
 fn assignment_values(
     alloc: Global,
@@ -87,7 +87,7 @@ fn assignment_values(
     Ok(values)
 }
 
-/// A nurse's id and assignments.
+// A nurse's id and assignments.
 fn nurse_value(alloc: Global, inst: &Instance, plan: &Plan, n: NurseNo) -> Result<Value, AllocError>
     requires plan { IsPlanOf inst.now.draft plan.now }
     requires nurse { n.0 < nurse_count inst.now.draft }

@@ -11,7 +11,7 @@ use ih_tables::{Instance, PatientNo};
 use serde_json::{Value, json};
 use std::alloc::{AllocError, Global};
 
-/// A patient's id, with the day, the theatre and the room of the stay, or `none` for the day.
+// A patient's id, with the day, the theatre and the room of the stay, or `none` for the day.
 fn stay_value(
     alloc: Global,
     inst: &Instance,

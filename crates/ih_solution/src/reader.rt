@@ -20,7 +20,7 @@ use ih_tables::{Instance, Place};
 use serde_json::Value;
 use std::alloc::Global;
 
-/// The timetable that a value gives.
+// The timetable that a value gives.
 #[tactic(auto, unfolding(crate::specs::Reading::listed_plan))]
 fn listed_plan(
     alloc: Global,

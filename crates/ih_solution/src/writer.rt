@@ -12,7 +12,7 @@ use ih_tables::Instance;
 use serde_json::{Value, json};
 use std::alloc::{AllocError, Global};
 
-/// The whole file as a JSON value.
+// The whole file as a JSON value.
 #[tactic(auto, unfolding(crate::specs::Solution::solution_data))]
 fn solution_value(alloc: Global, inst: &Instance, plan: &Plan) -> Result<Value, AllocError>
     requires { IsPlanOf inst.now.draft plan.now }

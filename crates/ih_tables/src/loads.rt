@@ -28,7 +28,7 @@ pub fn max_load(draft: &Draft, n: usize, shift: usize) -> Option<u32>
     load_in(draft.nurses.as_slice()[n].working_shifts.as_slice(), shift)
 }
 
-/// The maximum load at a place of the table.
+// The maximum load at a place of the table.
 fn load_at(draft: &Draft, place: usize) -> Option<u32>
     requires valid { IsValid draft.now }
     requires inside { place < nurse_count draft.now * shift_count draft.now }

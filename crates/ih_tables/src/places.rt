@@ -159,7 +159,7 @@ impl fmt::Display for Step {
     }
 }
 
-/// The list place at the end of a place.
+// The list place at the end of a place.
 #[derive(Clone, Copy)]
 struct Last(Option<u32>);
 
@@ -174,7 +174,7 @@ impl fmt::Display for Last {
     }
 }
 
-/// A step, if there is one.
+// A step, if there is one.
 #[derive(Clone, Copy)]
 struct Further(Option<Step>);
 
@@ -189,7 +189,7 @@ impl fmt::Display for Further {
     }
 }
 
-/// The section of a place, if there is one.
+// The section of a place, if there is one.
 #[derive(Clone, Copy)]
 struct Section(Option<Key>);
 

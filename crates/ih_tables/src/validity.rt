@@ -94,7 +94,7 @@ fn is_person(inst: &Draft, gender: &str, age_group: u32, stay: u32) -> bool
         && between(1, 100, stay as usize)
 }
 
-/// Whether these are what a person asks of a nurse, shift by shift of a stay: the workload, and the skill required.
+// Whether these are what a person asks of a nurse, shift by shift of a stay: the workload, and the skill required.
 fn is_asked(inst: &Draft, stay: u32, workload: &[u32], skill: &[u32]) -> bool
     ensures { IsTrue result ↔ (IsVector (vector_len inst.now stay) 100000 workload.now
         × IsVector (vector_len inst.now stay) 1000 skill.now) }
@@ -156,7 +156,7 @@ fn are_patients(inst: &Draft, ps: &[Patient]) -> bool
     ps.iter().all(|p| is_patient(inst, p))
 }
 
-/// Days, skill levels, shift types, age groups and weights.
+// Days, skill levels, shift types, age groups and weights.
 fn has_settings(inst: &Draft) -> bool
     ensures { IsTrue result ↔ (Between 1 56 inst.now.days
         × Between 1 1000 inst.now.skill_levels
@@ -171,7 +171,7 @@ fn has_settings(inst: &Draft) -> bool
         && are_weights(&inst.weights.w)
 }
 
-/// Surgeons and operating theatres.
+// Surgeons and operating theatres.
 fn has_surgery(inst: &Draft) -> bool
     ensures { IsTrue result ↔ (IsListed 0 128 (λ s. s.id) inst.now.surgeons
         × All (λ s. IsVector inst.now.days 100000 s.max_surgery_time) inst.now.surgeons
@@ -186,7 +186,7 @@ fn has_surgery(inst: &Draft) -> bool
         && have_availability(inst.days, theatres)
 }
 
-/// Rooms and nurses.
+// Rooms and nurses.
 fn has_wards(inst: &Draft) -> bool
     ensures { IsTrue result ↔ (IsListed 1 128 (λ r. r.id) inst.now.rooms
         × All (λ r. r.capacity ≤ 1000) inst.now.rooms
@@ -201,7 +201,7 @@ fn has_wards(inst: &Draft) -> bool
         && are_nurses(inst, nurses)
 }
 
-/// Occupants and patients.
+// Occupants and patients.
 fn has_persons(inst: &Draft) -> bool
     ensures { IsTrue result ↔ (IsListed 0 512 (λ o. o.id) inst.now.occupants
         × All (IsOccupant inst.now) inst.now.occupants

@@ -37,7 +37,7 @@ fn is_answered(alloc: Global, text: &str, old: &str, new: &str, wanted: &str) ->
     }
 }
 
-/// What stands in a text, what is put in its place, and what is then answered.
+// What stands in a text, what is put in its place, and what is then answered.
 type Change = (&'static str, &'static str, &'static str);
 
 // Whether each of these is answered.

@@ -103,7 +103,7 @@ struct Left {
     solution: Option<&'static str>,
 }
 
-/// An instance and a start beside it, a call, and how it ends and what it leaves.
+// An instance and a start beside it, a call, and how it ends and what it leaves.
 type Search = (&'static str, &'static str, &'static str, Left);
 
 const SEARCHED: Left = Left {
@@ -172,7 +172,7 @@ fn searches(rt: HostRuntime) {
     assert!(rt; SEARCHES.iter().all(|row| leaves(&rt, rt.alloc(), row)));
 }
 
-/// What stands in the files of two patients, what is put in its place, and the status and the text of a call then.
+// What stands in the files of two patients, what is put in its place, and the status and the text of a call then.
 type Answer = (&'static str, &'static str, Status, &'static str);
 
 // Whether a call over such files ends so and writes nothing.

@@ -175,7 +175,7 @@ fn journals_are_replayed(rt: HostRuntime) {
     assert!(rt; replays_both(&rt, rt.alloc()));
 }
 
-/// What stands in a journal, what is put in its place, and how the journal is then refused.
+// What stands in a journal, what is put in its place, and how the journal is then refused.
 type Row = (&'static str, &'static str, Refused);
 
 // Whether a call over the ward and a journal, in which `to` stands where `from` stood, ends so and leaves this
@@ -280,7 +280,7 @@ fn refused_lines(rt: HostRuntime) {
     assert!(rt; refuses_all(&rt, rt.alloc(), JOURNAL, &LINES));
 }
 
-/// What stands in the ward's journal, what is put in its place, and how a salvage then ends, says and leaves.
+// What stands in the ward's journal, what is put in its place, and how a salvage then ends, says and leaves.
 type Salvage = (
     &'static str,
     &'static str,

@@ -18,7 +18,7 @@ const NOT_JSON: Refusal = Refusal {
 
 const USAGE: &str = "usage: view INSTANCE SOLUTION PAGE\n";
 
-/// The files of an instance `i` and a solution `s`, a call's words, and how it ends and what it says.
+// The files of an instance `i` and a solution `s`, a call's words, and how it ends and what it says.
 type Row = (
     &'static str,
     &'static str,

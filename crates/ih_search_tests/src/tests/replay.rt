@@ -11,8 +11,8 @@ use ih_replay::Replay;
 use ih_tables::{Instance, NurseNo, PatientNo, RoomNo, Shift};
 use std::alloc::Global;
 
-/// What comes of a line: it is taken, or refused for a reason, and then nothing changes. There is no line where the
-/// journal is short, since the next one is missing, or whole.
+// What comes of a line: it is taken, or refused for a reason, and then nothing changes. There is no line where the
+// journal is short, since the next one is missing, or whole.
 #[derive(Clone, Copy)]
 enum Told {
     Taken,
@@ -127,7 +127,7 @@ fn search(seed: u64, workers: u32, heat: u32, retries: u32) -> Options {
     }
 }
 
-/// Options, rows, and then the best place with its cost, and the nurse whom the first room has there.
+// Options, rows, and then the best place with its cost, and the nurse whom the first room has there.
 type Journal = (Options, &'static [Row], (u32, i64), NurseNo);
 
 // Whether a new replay tells what the rows say, and then has this best.

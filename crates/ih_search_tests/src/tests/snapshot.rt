@@ -17,8 +17,8 @@ use ih_snapshot::Replica;
 use ih_tables::{Bill, Cell, Instance, RoomNo, Shift};
 use std::alloc::{AllocError, Global};
 
-/// What a worker does: it takes over what is new, offers its move of a number, by the move's text, or prices that,
-/// which is to rest on these cells, each at this version.
+// What a worker does: it takes over what is new, offers its move of a number, by the move's text, or prices that,
+// which is to rest on these cells, each at this version.
 #[derive(Clone, Copy)]
 enum Step {
     Looks,
@@ -26,8 +26,8 @@ enum Step {
     Prices(u32, &'static str, &'static [(u32, u32)]),
 }
 
-/// What came of it: how many entries the worker has then seen and how many the book has, or the verdict, if it may
-/// offer, or whether the price rests on just these cells.
+// What came of it: how many entries the worker has then seen and how many the book has, or the verdict, if it may
+// offer, or whether the price rests on just these cells.
 #[derive(Clone, Copy, PartialEq)]
 enum Told {
     Seen(u32, u32),
@@ -38,10 +38,10 @@ enum Told {
 use Step::{Looks, Offers, Prices};
 use Told::{Rests, Said, Seen};
 
-/// A worker, what it does, and what comes of it.
+// A worker, what it does, and what comes of it.
 type Row = (u32, Step, Told);
 
-/// A place, and the price of the entry there.
+// A place, and the price of the entry there.
 type Priced = (usize, [i64; 9], [i64; 8]);
 
 // A worker's step.

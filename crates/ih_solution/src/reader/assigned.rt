@@ -9,7 +9,7 @@ use crate::reader::rows::{Assignment, ListedNurse};
 use ih_plan::{Plan, Write};
 use ih_tables::{Instance, NurseNo};
 
-/// Gives the nurse the rooms of one shift.
+// Gives the nurse the rooms of one shift.
 fn assign(inst: &Instance, plan: &mut Plan, nurse: NurseNo, given: &Assignment)
     requires plan { IsPlanOf inst.now.draft plan.old }
     requires nurse { nurse.0 < nurse_count inst.now.draft }

@@ -19,7 +19,7 @@ use ih_tables::{Fault, Instance, Key, List, Place, Refusal, RoomNo, Shift};
 use serde_json::Value;
 use std::alloc::Global;
 
-/// What the nurses' items are read with: the instance, and the timetable of what was read so far.
+// What the nurses' items are read with: the instance, and the timetable of what was read so far.
 #[derive(Drop)]
 struct Reader<'a> {
     alloc: Global,
@@ -148,7 +148,7 @@ impl<'a> Reader<'a> {
     }
 }
 
-/// The timetable with the assignments of the nurses' items.
+// The timetable with the assignments of the nurses' items.
 fn each_nurse(
     alloc: Global,
     inst: &Instance,

@@ -16,7 +16,7 @@ use ih_tables::{Day, Fault, Instance, Key, Place, Refusal};
 use serde_json::Value;
 use std::alloc::Global;
 
-/// No day, which is the text `none`.
+// No day, which is the text `none`.
 fn no_day(text: &str, at: Place) -> Result<Option<u32>, Refusal>
     ensures { result ≡ no_day at text.now }
 {
@@ -26,7 +26,7 @@ fn no_day(text: &str, at: Place) -> Result<Option<u32>, Refusal>
     Ok(None)
 }
 
-/// The day of admission: the text `none`, or a day of the horizon.
+// The day of admission: the text `none`, or a day of the horizon.
 fn admission_day(inst: &Instance, value: &Value, at: Place) -> Result<Option<u32>, Refusal>
     ensures inside { IfOk result (λ o. IfSome o (λ n. n < inst.now.draft.days)) }
     ensures gives { result ≡ admission_day inst.now.draft at (view value.now) }
@@ -38,7 +38,7 @@ fn admission_day(inst: &Instance, value: &Value, at: Place) -> Result<Option<u32
     Ok(Some(day))
 }
 
-/// The placement on a day, and none where there is no day: the other keys are then ignored.
+// The placement on a day, and none where there is no day: the other keys are then ignored.
 fn placement_on(
     inst: &Instance,
     object: &Value,
@@ -63,7 +63,7 @@ fn placement_on(
     }))
 }
 
-/// A patient whom no earlier item has, with the stay.
+// A patient whom no earlier item has, with the stay.
 #[tactic(auto, unfolding(crate::specs::Reading::patient_row))]
 fn patient_row(
     inst: &Instance,
@@ -89,7 +89,7 @@ fn patient_row(
     Ok(ListedStay { patient, stay })
 }
 
-/// The timetable of the patients' items, in which no room has a nurse.
+// The timetable of the patients' items, in which no room has a nurse.
 fn each_stay(
     alloc: Global,
     inst: &Instance,

@@ -11,7 +11,7 @@ use ih_format::kinds;
 use ih_tables::{Fault, Instance, NurseNo, PatientNo, Place, Refusal, RoomNo, TheatreNo};
 use serde_json::Value;
 
-/// What was found; else Unknown.
+// What was found; else Unknown.
 fn known<T>(found: Option<T>, at: Place) -> Result<T, Refusal>
     ensures { result ≡ or_else Unknown at found }
 {
