@@ -138,7 +138,7 @@ fn advise_by<R: Threads + Wait + Sync, G: Gate>(
 /// What is advised on a timetable, in the order of the choices: for each choice that one other write may improve, the
 /// first write of least score, by how much it changes the score, and what it changes in the bill. `hard` is the weight
 /// of a broken rule in a score. Whatever the number of workers, from 1 to 64, the advice is the same; each passes the
-/// gate once.
+/// gate twice, before its first choice and after its last, also where it has none.
 pub fn advise<R: Threads + Wait + Sync, G: Gate>(
     rt: &R,
     alloc: Global,

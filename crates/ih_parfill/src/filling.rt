@@ -16,8 +16,8 @@ use std::alloc::{AllocError, Global};
 use std::sync::Wait;
 use std::thread::Threads;
 
-// How many choices are dealt. To start the threads costs more than to price a whole choice, and a share has no short
-// way over rooms and theatres, so what comes after these the caller chooses alone.
+// Only choices with numbers below this are dealt. To start the threads costs more than to price a whole choice, and a
+// share has no short way over rooms and theatres, so the others the caller makes alone.
 const DEALT: u32 = 32;
 
 // Gives the patient the cheapest stay, where one costs less than none: the workers look for it, or, past the
