@@ -24,7 +24,7 @@ use Rattle.ih_plan.specs.Series.{after_all, all_touch, footprint_of_all}
 use Rattle.ih_journal.specs.Tried.{Tried}
 use Rattle.ih_journal.specs.declared.entries.Verdict.{Verdict}
 use Rattle.ih_journal.specs.declared.entries.Verdict.TheVariants.{Accepted}
-use Rattle.ih_journal.specs.Settings.{IsLawful, most_entries}
+use Rattle.ih_journal.specs.Settings.{most_entries}
 use Rattle.ih_journal.specs.Attempts.{try_after, last_by, next_try}
 use Rattle.ih_journal.specs.Base.{Base}
 use Rattle.ih_journal.specs.Best.{BestIs, IsFeasibleAt, best_with, cost_at}
@@ -84,9 +84,6 @@ pub add-change : (I : Draft) (P Q : Timetable) → add_bills (bill_of I P) (chan
 add-change I P Q = simp back (whole-bill I Q)
 
 -- ---- opening
-
-pub base-lawful : (b : Base) (H : List Tried) (cs ns : List ℕ) (now : Bill) (found : Option (ℕ × ℤ)) → IsKept b H cs ns now found → IsLawful b.options
-base-lawful b H cs ns now found kept = kept.base.lawful
 
 length-zeros : (n : ℕ) → length {A = ℕ} (replicate n 0) ≡ n
 length-zeros zero = refl

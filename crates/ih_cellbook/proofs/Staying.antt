@@ -1,13 +1,13 @@
 -- An offer that is right stays right while others add entries.
 use Rattle.ih_plan.specs.Series.{price_of_all}
 use Rattle.ih_plan.proofs.ReadLemmas.{get-append}
-use Rattle.std.proofs.Common.{◌≡◌, ℕ, suc, refl, arith, sym, ap, ◌∙◌, subst, take, false, List, [], ◌∷◌, ◌++◌, length-append, inl, inr, Option, Some, None}
+use Rattle.std.proofs.Common.{◌≡◌, ℕ, suc, refl, arith, sym, ap, ◌∙◌, subst, take, false, List, [], ◌∷◌, ◌++◌, length-append, inl, inr, Some, None}
 use Rattle.std.specs.Prelude.{if◌then◌else◌, ◌==◌, option_map}
 use Rattle.std.proofs.lemmas.List.{take-append-le}
 use Rattle.std.proofs.lemmas.Bool.{ne_eqb}
 use Rattle.ih_journal.specs.declared.settings.Options.{Options}
 use Rattle.ih_journal.specs.Tried.{Tried}
-use Rattle.ih_journal.specs.Attempts.{TryNumber, try_after, last_by, else_last, is_done, is_done_after, next_try}
+use Rattle.ih_journal.specs.Attempts.{TryNumber, try_after, last_by, is_done, is_done_after, next_try}
 use Rattle.ih_journal.specs.Base.{Base}
 use Rattle.ih_journal.specs.Frozen.{is_frozen}
 use Rattle.ih_journal.proofs.Growth.{plan_at-earlier}
@@ -16,9 +16,6 @@ use Rattle.ih_cellbook.specs.Laws.{HasNoneBy}
 use Rattle.ih_cellbook.specs.Offers.{IsRightOffer, HasSeenOwn, next_number, reads_after}
 use Rattle.ih_cellbook.specs.Replicas.{IsReplicaOf, IsReplicaIn}
 use Rattle.ih_cellbook.specs.Snapshot.{Snapshot}
-
-else_last-none : (o : Option Tried) → else_last None o ≡ o
-else_last-none o = refl
 
 last_by-none : (w : ℕ) (es : List Tried) → HasNoneBy w es → last_by w es ≡ None
 unfolding last_by

@@ -1,7 +1,6 @@
 -- Entries that are taken over one by one.
 use Rattle.std.proofs.Common.{◌≡◌, ℕ, zero, suc, ◌+◌, ◌*◌, ◌<◌, refl, arith, sym, ap, ◌∙◌, List, [], ◌∷◌, length, take, Option}
 use Rattle.std.specs.Prelude.{slice_set, option_map}
-use Rattle.std.proofs.lemmas.List.{take_all}
 use Rattle.ih_tables.specs.declared.drafts.Draft.{Draft}
 use Rattle.ih_tables.specs.declared.ids.PatientNo.{PatientNo}
 use Rattle.ih_tables.specs.declared.ids.RoomNo.{RoomNo}
@@ -32,10 +31,6 @@ front-set (suc n) (x ∷ xs) (y ∷ ys) h k e =
     let rest = front-set n xs ys (omega arith) (omega arith) tail in
     rw (next, head) (ap (λ zs. y ∷ zs) rest)
 
--- all entries are the same
-front-all : {X : Type 0} (n : ℕ) (xs ys : List X) → n ≡ length xs → n ≡ length ys → take n xs ≡ take n ys → xs ≡ ys
-front-all n xs ys h k e = sym (take_all n xs (omega arith)) ∙ (e ∙ take_all n ys (omega arith))
-
 -- ---- stays and choices of nurses
 
 module _ (I : Draft) (P Q : Timetable) (planP : IsPlanOf I P) (planQ : IsPlanOf I Q) where
@@ -45,9 +40,6 @@ module _ (I : Draft) (P Q : Timetable) (planP : IsPlanOf I P) (planQ : IsPlanOf 
       let old = planP.stays in
       let new = planQ.stays in
       front-set p.0 P.stays Q.stays (omega arith) (omega arith) e
-
-  pub stays-copied : (n : ℕ) → n ≡ patient_count I → take n P.stays ≡ take n Q.stays → P.stays ≡ Q.stays
-  stays-copied n h e = front-all n P.stays Q.stays (h ∙ sym planP.stays) (h ∙ sym planQ.stays) e
 
   pub care-copied : (r : RoomNo) (k : Shift) → r.0 < room_count I → k.0 < shift_count I → take (shift_count I * r.0 + k.0) P.cares ≡ take (shift_count I * r.0 + k.0) Q.cares
       → take (shift_count I * r.0 + (k.0 + 1)) (put (SetCare r k (choice_of Q r.0 k.0)) P).cares ≡ take (shift_count I * r.0 + (k.0 + 1)) Q.cares
@@ -59,11 +51,6 @@ module _ (I : Draft) (P Q : Timetable) (planP : IsPlanOf I P) (planQ : IsPlanOf 
       let inQ = choice-inside I Q r.0 k.0 planQ rh kh in
       rw (more, here, there) (front-set (shift_count I * r.0 + k.0) P.cares Q.cares (rw here at inP) (rw there at inQ) e)
 
-  pub cares-copied : (n : ℕ) → n ≡ room_count I → take (shift_count I * n) P.cares ≡ take (shift_count I * n) Q.cares → P.cares ≡ Q.cares
-  cares-copied n h e =
-      let all : shift_count I * n ≡ shift_count I * room_count I = ap (λ m. shift_count I * m) h in
-      front-all (shift_count I * n) P.cares Q.cares (all ∙ sym planP.cares) (all ∙ sym planQ.cares) e
-
   pub plan-copied : P.stays ≡ Q.stays → P.cares ≡ Q.cares → P ≡ Q
   plan-copied stays cares =
       let shifts : P.shifts ≡ Q.shifts = planP.shifts ∙ sym planQ.shifts in
@@ -71,9 +58,6 @@ module _ (I : Draft) (P Q : Timetable) (planP : IsPlanOf I P) (planQ : IsPlanOf 
       ∙ ap (λ (n : ℕ). record Q { shifts = n }) shifts)
 
 -- ---- the writes are in range
-
-pub stay-write : (I : Draft) (Q : Timetable) (p : PatientNo) → IsPlanOf I Q → p.0 < patient_count I → IsWriteOf I (SetStay p (stay_of Q p.0))
-stay-write I Q p plan h = (h, plan.placed p.0)
 
 pub care-write : (I : Draft) (Q : Timetable) (r : RoomNo) (k : Shift) → IsPlanOf I Q → r.0 < room_count I → k.0 < shift_count I → IsWriteOf I (SetCare r k (choice_of Q r.0 k.0))
 care-write I Q r k plan rh kh = (rh, kh, λ m e. plan.nursed r.0 k.0 m.0 (ap (option_map (λ (m : NurseNo). m.0)) e))

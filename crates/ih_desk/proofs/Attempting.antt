@@ -47,9 +47,6 @@ some-moves o (Some e) more = elim (cases_eq o.moves 0) [
   | inr some ↦ ne_eqb o.moves 0 some
 ]
 
-pub next-begun : (o : Options) (H : List Tried) (w n : ℕ) → HasMade o H w n → n < o.moves → IsNext o H w n 0
-next-begun o H w n made below = record { attempt = made.attempt; not_done = made.done ∙ ne_eqb o.moves n (λ e. omega arith) }
-
 pub next-number : (o : Options) (H : List Tried) (w n again : ℕ) → IsNext o H w n again → next_number o H w ≡ Some n
 next-number o H w n again next = next-is o H w n (last_by w H) refl next.not_done (ap (λ (a : TryNumber). a.number) next.attempt)
 

@@ -1,6 +1,6 @@
 -- A move has one price at all timetables that agree on its footprint.
-use Rattle.std.proofs.Common.{◌≡◌, ℕ, ◌+◌, ◌<◌, refl, arith, sym, ap, ◌∙◌, Bool, true, false, length, inl, inr}
-use Rattle.std.specs.Prelude.{pos, ◌-ℤ◌, map, slice_index, if◌then◌else◌, sum_by}
+use Rattle.std.proofs.Common.{◌≡◌, ℕ, ◌+◌, ◌<◌, refl, arith, sym, ap, ◌∙◌, false, length, inl, inr}
+use Rattle.std.specs.Prelude.{pos, ◌-ℤ◌, map, slice_index}
 use Rattle.std.specs.List.{range_with_len}
 use Rattle.std.proofs.lemmas.Bool.{cases_Bool}
 use Rattle.std.proofs.lemmas.List.{get_or-map}
@@ -17,7 +17,7 @@ use Rattle.ih_plan.specs.Sums.{listed}
 use Rattle.ih_plan.specs.BillOf.{Counts, change_of_bill}
 use Rattle.ih_plan.specs.Cells.{cell_at, cell_count, part_at, IsCellOf}
 use Rattle.ih_plan.specs.Footprint.{touches, footprint}
-use Rattle.ih_plan.proofs.SumLemmas.{sum_below-same, sum_by-which_below}
+use Rattle.ih_plan.proofs.SumLemmas.{sum_below-same}
 use Rattle.ih_plan.proofs.SumBounds.{sum_below-add}
 use Rattle.ih_footprint.specs.Laws.{AreSameOn}
 use Rattle.ih_footprint.specs.Laws.{IsLocal}
@@ -88,25 +88,3 @@ module _ (I : Draft) (P Q : Timetable) (m : Move) (planP : IsPlanOf I P) (planQ 
   move_is_local =
       let local = local_move I P Q m planP planQ fits same in
       record { expanded = local.expanded; touched = local.touched; numbers = footprint_same; afterwards = local.afterwards; price = change_same }
-
--- ---- what the cells of the footprint change is what the bill changes
-
-module _ (I : Draft) (P : Timetable) (m : Move) (plan : IsPlanOf I P) (fits : IsMoveOf I m) where
-  foot-step : (b : Bool) (x y : ℕ) → (b ≡ false → x ≡ y) → x + (if b then y else 0) ≡ y + (if b then x else 0)
-  foot-step true x y e = omega arith
-  foot-step false x y e = rw (e refl) refl
-
-  pub change_by_footprint : (g : Counts → ℕ) → total I (λ c. g (part_at I (after I P m) c)) + sum_by (λ n. g (part_at I P (cell_at I n))) (footprint I P m)
-      ≡ total I (λ c. g (part_at I P c)) + sum_by (λ n. g (part_at I (after I P m) (cell_at I n))) (footprint I P m)
-  unfolding footprint
-  change_by_footprint g =
-      let new = λ (n : ℕ). g (part_at I (after I P m) (cell_at I n)) in
-      let old = λ (n : ℕ). g (part_at I P (cell_at I n)) in
-      let test = λ (n : ℕ). touches I P m (cell_at I n) in
-      let one = sum_by-which_below old (cell_count I) test in
-      let two = sum_by-which_below new (cell_count I) test in
-      rw (one, two)
-      (sym (sum_below-add (cell_count I) new (λ n. if test n then old n else 0))
-      ∙ sum_below-same (cell_count I) (λ n. new n + (if test n then old n else 0)) (λ n. old n + (if test n then new n else 0))
-      (λ n h. foot-step (test n) (new n) (old n) (λ apart. rw (frame_move I P m (cell_at I n) plan fits (cell_in-in (sizes_of I) n h) apart) refl))
-      ∙ sum_below-add (cell_count I) old (λ n. if test n then new n else 0))

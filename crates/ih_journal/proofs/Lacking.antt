@@ -103,9 +103,6 @@ comma = record { digit = λ d. let low = d.0 in omega (arith, low); minus = λ e
 pub dot : IsMark 46
 dot = record { digit = λ d. let low = d.0 in omega (arith, low); minus = λ e. omega (arith, e) }
 
-pub space : IsMark 32
-space = record { digit = λ d. let low = d.0 in omega (arith, low); minus = λ e. omega (arith, e) }
-
 -- a piece and what stands behind its separator
 pub cut_joined : (c : ℕ) (bs front rest : List ℕ) → parted c bs ≡ front ∷ parted c rest → bs ≡ front ++ (c ∷ rest)
 cut_joined c bs front rest h =

@@ -20,12 +20,6 @@ get_here [] (suc i) x ys h = absurd (let no : [] ≡ x ∷ ys = h in cc)
 get_here (z ∷ zs) zero x ys h = let same : z ∷ zs ≡ x ∷ ys = h in (cc, cc)
 get_here (z ∷ zs) (suc i) x ys h = get_here zs i x ys h
 
-get_past : {A : Type 0} (xs : List A) (i : ℕ) → drop i xs ≡ [] → slice_get xs i ≡ None
-get_past [] zero h = refl
-get_past [] (suc i) h = refl
-get_past (z ∷ zs) zero h = absurd (let no : z ∷ zs ≡ [] = h in cc)
-get_past (z ∷ zs) (suc i) h = get_past zs i h
-
 -- ---- the kinds of a line
 
 pub kinds_few : (o : Options) → length (kinds o) ≤ 8
@@ -80,18 +74,6 @@ right_here I o bytes i at at' kind field read wanted next fits =
       right = below_more _ _ read.right (record { kind = kind; field = field; wanted = wanted; there = here.0; fits = fits });
       left = rw (add-one i) here.1;
       few = omega (arith, short, within);
-    }
-
-pub missing : (I : Draft) (o : Options) (bytes : List ℕ) (i at : ℕ) → IsRead I o bytes i at → i < length (kinds o) → fields_from bytes at ≡ []
-    → IsFirstWrong I o bytes (i + 1)
-missing I o bytes i at read wanted next =
-    let past = get_past (parted 32 bytes) i (read.left ∙ next) in
-    record {
-      index = i;
-      number = refl;
-      before = read.right;
-      wrong = λ r. let no : None ≡ Some r.field = sym past ∙ r.there in cc;
-      field = inl wanted;
     }
 
 pub one_more : (I : Draft) (o : Options) (bytes : List ℕ) (i at : ℕ) → IsRead I o bytes i at → i ≡ length (kinds o) → at ≤ length bytes

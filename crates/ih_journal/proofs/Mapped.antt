@@ -30,13 +30,6 @@ get-mapped f [] n x h = absurd (let no : None ≡ Some x = h in cc)
 get-mapped f (y ∷ ys) zero x h = let same : Some y ≡ Some x = h in cc
 get-mapped f (y ∷ ys) (suc n) x h = get-mapped f ys n x h
 
--- the element at a place of the mapped list is that of an element there
-pub mapped-get : {X Y : Type 0} (f : X → Y) (xs : List X) (n : ℕ) (y : Y) → slice_get (map f xs) n ≡ Some y
-    → (x : X) × (slice_get xs n ≡ Some x) × (f x ≡ y)
-mapped-get f [] n y h = absurd (let no : None ≡ Some y = h in cc)
-mapped-get f (x ∷ xs) zero y h = (x, refl, (let same : Some (f x) ≡ Some y = h in cc))
-mapped-get f (x ∷ xs) (suc n) y h = mapped-get f xs n y h
-
 -- what each element of a list is mapped to tells the list, where it tells the element
 pub map-injective : {A B : Type 0} (f : A → B) (P : A → Type 0) (xs ys : List A) → ((x y : A) → P x → P y → f x ≡ f y → x ≡ y)
     → All P xs → All P ys → map f xs ≡ map f ys → xs ≡ ys

@@ -3,7 +3,7 @@ use Rattle.std.proofs.Common.{◌≡◌, ℕ, ◌+◌, ◌-◌, ◌^◌, ◌<◌
 use Rattle.std.specs.Prelude.{map, slice_index, slice_index_or, slice_set}
 use Rattle.std.proofs.lemmas.List.{get_or_default, length-map, map-set}
 use Rattle.std.proofs.lemmas.Bool.{eq-eqb, ne_eqb, lt-ltb, le-ltb, both_ways}
-use Rattle.ih_links.specs.Lists.{AreNodes, Linked, list_of, has, without, is_at, following, first_of}
+use Rattle.ih_links.specs.Lists.{Linked, list_of, has, without, is_at, following, first_of}
 use Rattle.ih_links.specs.Ring.{IsRinged, Tied, home_of, homes_of, lists_of, node_in}
 use Rattle.ih_links.proofs.Members.{is_at-true}
 use Rattle.ih_links.proofs.Ties.{tied-lists, node-below, tied-first, tied-following, last-below, room, tied-pushed, before-below, after-below, filled, tied-passed, head-known}
@@ -177,10 +177,3 @@ module _ {next prev len : List ℕ} {v : Linked} (raw : List ℕ) (tied : IsRing
       | inl q ↦ node_in-gate (length home) (slice_index next node) q.0 ∙ sym q.1
       | inr q ↦ node_in-node (length home) (slice_index next node) q.0 ∙ sym q.1
     ])
-
-  -- each list has nodes, each once
-  pub nodes-of : (head : ℕ) → AreNodes v.nodes (list_of v head)
-  nodes-of head = record {
-    below = λ x m. rw (← nodes_are) (node-below next prev home len ls t head x m);
-    once = t.once head;
-  }

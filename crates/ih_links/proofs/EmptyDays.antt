@@ -1,16 +1,9 @@
 -- Days on which all lists are empty.
-use Rattle.std.proofs.Common.{◌≡◌, ℕ, zero, suc, ◌+◌, ◌<◌, refl, List, [], ◌∷◌, ◌++◌, replicate}
+use Rattle.std.proofs.Common.{◌≡◌, ℕ, zero, suc, ◌<◌, refl, List, [], replicate}
 use Rattle.std.specs.Prelude.{slice_index_or}
-use Rattle.std.proofs.lemmas.List.{get_or-replicate, replicate-append-replicate}
-use Rattle.ih_links.specs.Lists.{Linked, list_of}
+use Rattle.std.proofs.lemmas.List.{get_or-replicate}
+use Rattle.ih_links.specs.Lists.{list_of}
 use Rattle.ih_links.specs.Days.{empty_lists, on_day}
-
--- one day more
-pub days-more : (heads nodes d : ℕ) (all new : List Linked) (day : Linked) → all ≡ replicate d (empty_lists heads nodes)
-    → day.lists ≡ replicate heads [] → day.nodes ≡ nodes → new ≡ all ++ day ∷ [] → new ≡ replicate (d + 1) (empty_lists heads nodes)
-days-more heads nodes d all new day before lists same pushed =
-    let is : day ≡ empty_lists heads nodes = rw (← lists, ← same) refl in
-    rw (pushed, before, is) (replicate-append-replicate d 1 (empty_lists heads nodes))
 
 -- a day that there is
 pub empty-day : (heads nodes days d : ℕ) → d < days → on_day (replicate days (empty_lists heads nodes)) d ≡ empty_lists heads nodes

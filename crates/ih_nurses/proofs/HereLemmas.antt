@@ -12,7 +12,6 @@ use Rattle.ih_links.specs.Days.{on_day}
 use Rattle.ih_links.proofs.Members.{has-append, has-without_self, has-without_other}
 use Rattle.ih_links.proofs.Ties.{or-false}
 use Rattle.ih_plan.specs.Presence.{in_span}
-use Rattle.ih_plan.proofs.Spans.{span-none, span-past, span-more}
 use Rattle.ih_nurses.specs.Here.{is_here, AreSized}
 
 abbrev no_lists : Linked
@@ -82,62 +81,12 @@ module _ (here : List Linked) (d : ℕ) (past old new : Linked) (inside : d < le
 
 -- ---- days in a row
 
-pub enter-more : (b s m e y : Bool) → ((b || (s && (m && y))) || (s && (e && y))) ≡ (b || (s && ((m || e) && y)))
-enter-more true s m e y = refl
-enter-more false false m e y = refl
-enter-more false true true e true = refl
-enter-more false true true true false = refl
-enter-more false true true false false = refl
-enter-more false true false e y = refl
-
-pub leave-more : (b m e y : Bool) → ((b && not (m && y)) && not (e && y)) ≡ (b && not ((m || e) && y))
-leave-more false m e y = refl
-leave-more true true e true = refl
-leave-more true true true false = refl
-leave-more true true false false = refl
-leave-more true false e y = refl
-
 -- entered on the days so far
 pub record AreEntered (I : Draft) (old here : List Linked) (r from to x : ℕ) : Type 0 where
   pub sized : AreSized I here
   pub each : (s e y : ℕ) → is_here here s e y ≡ (is_here old s e y || ((r == s) && (in_span from to e && (x == y))))
 
-pub entered-none : (I : Draft) (old : List Linked) (r from x : ℕ) → AreSized I old → AreEntered I old old r from from x
-entered-none I old r from x sized = record {
-  sized = sized;
-  each = λ s e y. rw (span-none from e) (sym (or-false (is_here old s e y) ((r == s) && false) (and_right (r == s) false refl)));
-}
-
-pub entered-more : (I : Draft) (old here new : List Linked) (r from d x : ℕ) → from ≤ d → AreEntered I old here r from d x → AreSized I new
-    → ((s e y : ℕ) → is_here new s e y ≡ (is_here here s e y || ((r == s) && ((d == e) && (x == y))))) → AreEntered I old new r from (d + 1) x
-entered-more I old here new r from d x h so_far sized each = record {
-  sized = sized;
-  each = λ s e y. each s e y ∙ rw (so_far.each s e y, span-more from d e h) (enter-more (is_here old s e y) (r == s) (in_span from d e) (d == e) (x == y));
-}
-
--- who wasn't there on a day isn't there before the day is entered
-pub entered-free : (I : Draft) (old here : List Linked) (r from d x s : ℕ) → AreEntered I old here r from d x → is_here old s d x ≡ false → is_here here s d x ≡ false
-entered-free I old here r from d x s so_far free =
-    so_far.each s d x ∙ rw (free, span-past from d) (and_right (r == s) false refl)
-
 -- left on the days so far
 pub record AreLeft (I : Draft) (old here : List Linked) (from to x : ℕ) : Type 0 where
   pub sized : AreSized I here
   pub each : (s e y : ℕ) → is_here here s e y ≡ (is_here old s e y && not (in_span from to e && (x == y)))
-
-pub left-none : (I : Draft) (old : List Linked) (from x : ℕ) → AreSized I old → AreLeft I old old from from x
-left-none I old from x sized = record {
-  sized = sized;
-  each = λ s e y. rw (span-none from e) (sym (and-all (is_here old s e y) true refl));
-}
-
-pub left-more : (I : Draft) (old here new : List Linked) (from d x : ℕ) → from ≤ d → AreLeft I old here from d x → AreSized I new
-    → ((s e y : ℕ) → is_here new s e y ≡ (is_here here s e y && not ((d == e) && (x == y)))) → AreLeft I old new from (d + 1) x
-left-more I old here new from d x h so_far sized each = record {
-  sized = sized;
-  each = λ s e y. each s e y ∙ rw (so_far.each s e y, span-more from d e h) (leave-more (is_here old s e y) (in_span from d e) (d == e) (x == y));
-}
-
-pub left-there : (I : Draft) (old here : List Linked) (from d x s : ℕ) → AreLeft I old here from d x → is_here old s d x ≡ true → is_here here s d x ≡ true
-left-there I old here from d x s so_far there =
-    so_far.each s d x ∙ rw (there, span-past from d) refl

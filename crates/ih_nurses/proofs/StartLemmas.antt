@@ -1,12 +1,12 @@
 -- The empty timetable's lists and loads.
-use Rattle.std.proofs.Common.{◌≡◌, ℕ, ◌+◌, ◌-◌, ◌*◌, ◌<◌, refl, ap, arith, map, sym, ◌∙◌, Bool, true, false, inl, inr, List, [], ◌∷◌, ◌++◌, replicate, Option, Some, None, Result, Ok, Err, IfOk}
+use Rattle.std.proofs.Common.{◌≡◌, ℕ, ◌+◌, ◌-◌, ◌*◌, ◌<◌, refl, ap, arith, map, sym, ◌∙◌, Bool, true, false, inl, inr, List, [], ◌∷◌, ◌++◌, replicate, Option, Some, None}
 use Rattle.std.specs.Prelude.{◌||◌, ◌&&◌, ◌==◌, nat_lt, slice_get}
 use Rattle.std.proofs.lemmas.Bool.{cases_eq, cases_lt, eq-eqb, ne_eqb, lt-ltb, le-ltb, and_right}
 use Rattle.std.proofs.lemmas.List.{get_or-replicate}
 use Rattle.std.proofs.Math.ListN.{length-replicate}
 use Rattle.ih_tables.specs.declared.drafts.Draft.{Draft}
 use Rattle.ih_tables.specs.declared.drafts.Occupant.{Occupant}
-use Rattle.ih_tables.specs.Sizes.{patient_count, occupant_count, person_count, room_count, nurse_count, shift_count}
+use Rattle.ih_tables.specs.Sizes.{patient_count, person_count, room_count, nurse_count, shift_count}
 use Rattle.ih_links.specs.Lists.{Linked}
 use Rattle.ih_links.specs.Days.{empty_lists}
 use Rattle.ih_links.proofs.EmptyDays.{empty-day, empty-list}
@@ -25,18 +25,13 @@ use Rattle.ih_plan.proofs.SumBounds.{sum_below-none}
 use Rattle.ih_plan.proofs.Loads.{nurse_load}
 use Rattle.ih_plan.proofs.Spans.{span-covers}
 use Rattle.ih_plan.proofs.Whereabouts.{no-stay, no-nurse, nowhere, occupant-there, below-next}
-use Rattle.ih_nurses.specs.Here.{is_here, AreSized, AreFilled, AreHere}
+use Rattle.ih_nurses.specs.Here.{is_here, AreSized, AreFilled}
 use Rattle.ih_nurses.specs.declared.loads.NurseLoad.{NurseLoad}
 use Rattle.ih_nurses.specs.Loads.{AreLoads, entry_at, free_load, most_of}
 use Rattle.ih_nurses.specs.Counts.{AreCounts, count_of, nursed_in}
 use Rattle.ih_nurses.specs.ShiftSpans.{shift_span_in}
 use Rattle.ih_nurses.proofs.CountSteps.{count-inside}
 use Rattle.ih_nurses.proofs.LoadSteps.{place-inside}
-
--- what holds of the value, where there is one, gives what follows from it
-pub if-ok : {T E : Type 0} (r : Result T E) {A B : T → Type 0} → IfOk r A → ((x : T) → A x → B x) → IfOk r B
-if-ok (Ok x) holds follows = follows x holds
-if-ok (Err e) holds follows = holds
 
 -- ---- loads
 
@@ -97,12 +92,6 @@ filled-none I here e = record {
   ]);
 }
 
--- who is the next isn't listed yet
-pub next-free : (I : Draft) (here : List Linked) (k : ℕ) → AreFilled I here k → k < occupant_count I → (r d : ℕ) → r < room_count I → d < I.days
-    → is_here here r d (patient_count I + k) ≡ false
-next-free I here k filled kh r d rh dh =
-    filled.each r d (patient_count I + k) rh dh (omega arith) ∙ rw (le-ltb (patient_count I + k) (patient_count I + k) (omega arith)) refl
-
 module _ (I : Draft) (k : ℕ) (o : Occupant) (is : slice_get I.occupants k ≡ Some o) where
   -- listed before, or now
   abbrev both : ℕ → ℕ → ℕ → Bool
@@ -136,10 +125,3 @@ module _ (I : Draft) (k : ℕ) (o : Occupant) (is : slice_get I.occupants k ≡ 
       | inr ne ↦ other r d x ne
     ]);
   }
-
--- with all occupants the lists are those of the empty timetable
-pub filled-all : (I : Draft) (here : List Linked) → AreFilled I here (occupant_count I) → AreHere I (empty I) here
-filled-all I here filled = record {
-  sized = filled.sized;
-  each = λ r d x rh dh xh. filled.each r d x rh dh xh ∙ rw (lt-ltb x (person_count I) xh) refl;
-}

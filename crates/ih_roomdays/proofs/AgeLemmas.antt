@@ -1,10 +1,9 @@
 -- The ages of the persons, one after the other.
-use Rattle.std.proofs.Common.{◌≡◌, ℕ, ◌+◌, ◌-◌, ◌<◌, ◌≤◌, refl, arith, sym, ap, ◌∙◌, Bool, true, false, List, [], ◌∷◌, ◌++◌, length, length-append, Option, Some, None, inl, inr}
+use Rattle.std.proofs.Common.{◌≡◌, ℕ, ◌-◌, ◌<◌, ◌≤◌, refl, arith, Bool, true, false, List, length, Option, Some, None, inl, inr}
 use Rattle.std.specs.Prelude.{slice_index, slice_get, nat_lt, if◌then◌else◌}
 use Rattle.std.specs.Option.{option_map_or}
 use Rattle.std.proofs.lemmas.Bool.{cases_lt}
-use Rattle.std.proofs.lemmas.List.{get_or_append_left, get_or_past}
-use Rattle.std.proofs.Math.Seq.{get_or-append_seam}
+use Rattle.std.proofs.lemmas.List.{get_or_past}
 use Rattle.ih_tables.specs.declared.drafts.Draft.{Draft}
 use Rattle.ih_tables.specs.declared.drafts.Patient.{Patient}
 use Rattle.ih_tables.specs.declared.drafts.Occupant.{Occupant}
@@ -20,21 +19,6 @@ use Rattle.ih_roomdays.specs.Profiles.{AreAges, AreInRange, most_persons}
 pub record AreFirstAges (I : Draft) (ages : List ℕ) (k : ℕ) : Type 0 where
   pub len : length ages ≡ k
   pub each : (x : ℕ) → x < k → slice_index ages x ≡ (person_of I x).age_group
-
-pub ages-more : (I : Draft) (ages : List ℕ) (k a : ℕ) → AreFirstAges I ages k → a ≡ (person_of I k).age_group → AreFirstAges I (ages ++ a ∷ []) (k + 1)
-ages-more I ages k a so_far is = record {
-  len = length-append ages (a ∷ []) ∙ ap (λ l. l + 1) so_far.len;
-  each = λ x below. elim (cases_lt x k) [
-    | inl early ↦ get_or_append_left ages (a ∷ []) 0 x (let e = so_far.len in omega arith) ∙ so_far.each x early
-    | inr late ↦
-        let last : x ≡ length ages = let e = so_far.len in omega arith in
-        let own : x ≡ k = last ∙ so_far.len in
-        ap (slice_index (ages ++ a ∷ [])) last ∙ (get_or-append_seam ages a [] 0 ∙ (is ∙ ap (λ y. (person_of I y).age_group) (sym own)))
-  ];
-}
-
-pub ages-all : (I : Draft) (ages : List ℕ) (k : ℕ) → AreFirstAges I ages k → k ≡ person_count I → AreAges I ages
-ages-all I ages k all e = record { len = all.len ∙ e; each = λ x below. all.each x (rw e below) }
 
 -- ---- the ranges of gender numbers and age groups
 

@@ -9,20 +9,9 @@ use Rattle.ih_links.proofs.Members.{has-append, once-append}
 use Rattle.ih_roomdays.specs.declared.rows.Rows.{Rows}
 use Rattle.ih_roomdays.specs.Rows.{AreRows, IsEntered, persons_at, is_at}
 use Rattle.std.proofs.Math.Bool.{or-false, and-false}
-use Rattle.ih_plan.proofs.Spans.{span-none, span-past, span-more}
+use Rattle.ih_plan.proofs.Spans.{span-past, span-more}
 use Rattle.ih_roomdays.proofs.Replacements.{IsDay, IsReplaced, everywhere, replaced-then}
 use Rattle.ih_plan.specs.Presence.{in_span}
-
--- before the first day nothing is changed
-pub entered-begin : (v : Rows) (room x a : ℕ) → AreRows v → IsEntered v v room x a a
-entered-begin v room x a rows = record {
-  rows = rows;
-  rooms = refl;
-  days = refl;
-  persons = refl;
-  profiles = refl;
-  each = λ r d y below. rw (span-none a d, and-false (y == x), and-false (room == r), or-false (is_at v r d y)) refl;
-}
 
 turned : (x y : ℕ) → (x == y) ≡ (y == x)
 turned x y = elim (cases_eq x y) [

@@ -11,21 +11,10 @@ use Rattle.ih_roomdays.specs.declared.rows.Rows.{Rows}
 use Rattle.ih_roomdays.specs.Profiles.{most_persons}
 use Rattle.ih_roomdays.specs.Rows.{AreRows, IsLeft, persons_at, is_at}
 use Rattle.std.proofs.Math.Bool.{and-true, and-false}
-use Rattle.ih_plan.proofs.Spans.{span-none, span-past, span-more}
+use Rattle.ih_plan.proofs.Spans.{span-past, span-more}
 use Rattle.ih_roomdays.proofs.People.{persons-few}
 use Rattle.ih_roomdays.proofs.Replacements.{IsDay, IsReplaced, everywhere, replaced-then}
 use Rattle.ih_plan.specs.Presence.{in_span}
-
--- before the first day nothing is changed
-pub left-begin : (v : Rows) (x a : ℕ) → AreRows v → IsLeft v v x a a
-left-begin v x a rows = record {
-  rows = rows;
-  rooms = refl;
-  days = refl;
-  persons = refl;
-  profiles = refl;
-  each = λ r d y below. rw (span-none a d, and-false (y == x)) (sym (and-true (is_at v r d y)));
-}
 
 -- Person x is taken out of the room's list of day k; it is in no other.
 module _ (v : Rows) (rows : AreRows v) (room x k : ℕ) (k_below : k < v.days) (there : (r : ℕ) → is_at v r k x ≡ (room == r))

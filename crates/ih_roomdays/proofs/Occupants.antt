@@ -1,5 +1,5 @@
 -- The occupants come into their rooms, one after the other.
-use Rattle.std.proofs.Common.{◌≡◌, ℕ, ◌+◌, ◌<◌, refl, arith, sym, ap, subst, ◌∙◌, false, Some, inl, inr}
+use Rattle.std.proofs.Common.{◌≡◌, ℕ, ◌+◌, ◌<◌, refl, arith, sym, ap, subst, ◌∙◌, Some, inl, inr}
 use Rattle.std.specs.Prelude.{◌||◌, ◌&&◌, ◌==◌, nat_lt, slice_get}
 use Rattle.std.proofs.lemmas.Bool.{cases_eq, cases_lt, eq-eqb, ne_eqb, lt-ltb, le-ltb}
 use Rattle.ih_tables.specs.declared.drafts.Draft.{Draft}
@@ -38,10 +38,6 @@ filled-none I v profiles known vacant = record {
     | inr past ↦ rw (le-ltb x (patient_count I + 0) (omega arith)) refl
   ];
 }
-
-pub next-nowhere : (I : Draft) (v : Rows) (k : ℕ) → IsFilled I v k → (r d : ℕ) → d < I.days → is_at v r d (patient_count I + k) ≡ false
-next-nowhere I v k filled r d below =
-    filled.each r d (patient_count I + k) below ∙ rw (le-ltb (patient_count I + k) (patient_count I + k) (omega arith)) refl
 
 pub filled-more : (I : Draft) (v new : Rows) (k : ℕ) (o : Occupant) → IsFilled I v k → slice_get I.occupants k ≡ Some o
     → IsEntered v new o.room_id.0 (patient_count I + k) 0 (end_from I 0 o.length_of_stay) → IsFilled I new (k + 1)

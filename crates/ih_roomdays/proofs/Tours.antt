@@ -1,7 +1,7 @@
 -- A walk over persons, and the summary of those that it has told.
-use Rattle.std.proofs.Common.{◌≡◌, ℕ, ◌≤◌, arith, ap, subst, List, [], ◌∷◌, ◌++◌, Option, Some, None, length, length-append}
+use Rattle.std.proofs.Common.{◌≡◌, ℕ, ◌≤◌, arith, ap, List, [], ◌∷◌, ◌++◌, Option, Some, length, length-append}
 use Rattle.ih_links.specs.Lists.{AreNodes, first_of, following, rest_from}
-use Rattle.ih_links.proofs.Walks.{IsWalk, walk-begins, walk-goes_on, walk-ends}
+use Rattle.ih_links.proofs.Walks.{IsWalk, walk-begins, walk-goes_on}
 use Rattle.ih_roomdays.specs.declared.occupancies.Crowd.{Crowd}
 use Rattle.ih_roomdays.specs.declared.profiles.Profiles.{Profiles}
 use Rattle.ih_roomdays.specs.Occupancy.{IsCrowd, IsSmall, nobody}
@@ -30,6 +30,3 @@ tour-goes_on x new tour here next_is more = record {
   walk = walk-goes_on tour.walk here next_is;
   kept = more tour.told tour.kept;
 }
-
-pub tour-ends : (p : Profiles) (persons : ℕ) (xs : List ℕ) (c : Crowd) → IsTour p persons xs None c → IsCrowd p xs c
-tour-ends p persons xs c tour = subst (λ ys. IsCrowd p ys c) (walk-ends persons xs tour.told tour.walk) tour.kept

@@ -85,10 +85,6 @@ no_rooms : {A : Type 0} (b : Bool) (x y : A) → y ≡ (if b && false then x els
 no_rooms true x y = refl
 no_rooms false x y = refl
 
-one_room : {A : Type 0} (b : Bool) (x y : A) → (if b && (true || false) then x else y) ≡ (if b then x else y)
-one_room true x y = refl
-one_room false x y = refl
-
 more_rooms : {A : Type 0} (a b c : Bool) (x y : A) → (if a && c then x else if a && (b || false) then x else y) ≡ (if a && (b || c) then x else y)
 more_rooms true true true x y = refl
 more_rooms true true false x y = refl

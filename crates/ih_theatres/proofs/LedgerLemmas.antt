@@ -2,7 +2,7 @@
 use Rattle.std.proofs.Common.{false, ◌≡◌, ℕ, zero, suc, ◌+◌, ◌-◌, ◌*◌, ◌≤◌, ◌<◌, refl, arith, sym, ap, ◌∙◌, true, [], ◌∷◌, ◌++◌, List, Option, Some, None, length, replicate, mul_comm}
 use Rattle.std.specs.Prelude.{map, option_map, slice_get, slice_set, slice_index_or, All, IfSome}
 use Rattle.std.proofs.Math.ListN.{get_or-map}
-use Rattle.std.proofs.lemmas.List.{map-set, length-map, length-replicate}
+use Rattle.std.proofs.lemmas.List.{map-set, length-replicate}
 use Rattle.std.proofs.lemmas.List.Elements.{All-from_get_or}
 use Rattle.std.proofs.lemmas.Nat.{mul-add-lt}
 use Rattle.std.specs.List.{list_any}
@@ -78,10 +78,6 @@ ledger-new I l theatres t_lists t_nodes s_lists s_nodes t_minutes s_minutes = re
 -- ---- theatres
 
 module _ {I : Draft} {P : Timetable} {l : Theatres} (valid : IsValid I) (plan : IsPlanOf I P) (stands : IsLedgerOf I P l) where
-  -- the theatres are as many as the patients
-  pub theatres-len : length l.theatres.items ≡ patient_count I
-  theatres-len = ap length stands.theatres ∙ (length-map P.stays theatre_in ∙ plan.stays)
-
   -- each theatre that a patient has is one of the instance
   pub theatres-few : All (λ t. IfSome t (λ (m : TheatreNo). m.0 < 64)) l.theatres.items
   theatres-few = rw stands.theatres (All-from_get_or (λ t. IfSome t (λ (m : TheatreNo). m.0 < 64)) (map theatre_in P.stays) None

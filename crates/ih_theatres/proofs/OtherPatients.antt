@@ -60,11 +60,6 @@ others-there p xs once = elim (cases_Bool (has p xs)) [
 pub more-minutes : (I : Draft) (xs : List ℕ) (p : ℕ) → minutes I (xs ++ p ∷ []) ≡ minutes I xs + duration_of I p
 more-minutes I xs p = let e = sum_by-append (duration_of I) xs (p ∷ []) in omega arith
 
-pub with-one : (b : Bool) (x : ℕ) (xs : List ℕ) (used : Bool) → used ≡ not (is_empty xs) → (b || used) ≡ not (is_empty (with_if b x xs))
-with-one true x [] used e = refl
-with-one true x (y ∷ ys) used e = refl
-with-one false x xs used e = e
-
 -- ---- theatres
 
 any-map : (f : ℕ → Option ℕ) (q : Option ℕ → Bool) (xs : List ℕ) → list_any q (map f xs) ≡ list_any (λ x. q (f x)) xs

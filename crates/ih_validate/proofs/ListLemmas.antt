@@ -6,7 +6,6 @@ use Rattle.std.proofs.lemmas.List.Elements.{filter-append, All-push, All-nil, Al
 use Rattle.std.proofs.lemmas.List.{append-nil}
 use Rattle.ih_tables.specs.declared.drafts.Draft.{Draft}
 use Rattle.ih_tables.specs.Sizes.{patient_count, person_count}
-use Rattle.ih_tables.specs.Valid.{IsValid}
 use Rattle.ih_plan.specs.declared.moves.Placement.{Placement}
 use Rattle.ih_plan.specs.Timetable.{Timetable, stay_of}
 use Rattle.ih_plan.specs.Persons.{person_of}
@@ -76,9 +75,6 @@ all-among n p xs e = rw e (which_below-All n p)
 
 pub few-among : (n : ℕ) (p : ℕ → Bool) (xs : List ℕ) → xs ≡ which_below n p → n ≤ 2560 → length xs ≤ 2560
 few-among n p xs e h = rw e (omega (arith, which_below-short n p))
-
-pub few-patients : (I : Draft) → IsValid I → patient_count I ≤ 2560
-few-patients I valid = let one = valid.patients.len.most in omega arith
 
 first_passes : (a b : Bool) → (a && b) ≡ true → a ≡ true
 first_passes true b h = refl
