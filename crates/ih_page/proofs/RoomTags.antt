@@ -6,12 +6,13 @@ use Rattle.ih_tables.specs.declared.drafts.Nurse.{Nurse}
 use Rattle.ih_tables.specs.declared.drafts.Occupant.{Occupant}
 use Rattle.ih_tables.specs.declared.drafts.Patient.{Patient}
 use Rattle.ih_tables.specs.declared.drafts.Room.{Room}
+use Rattle.ih_tables.specs.declared.drafts.Surgeon.{Surgeon}
 use Rattle.ih_tables.specs.declared.drafts.Theatre.{Theatre}
 use Rattle.ih_tables.specs.Sizes.{patient_count}
 use Rattle.ih_plan.specs.declared.moves.Placement.{Placement}
 use Rattle.ih_plan.specs.Timetable.{Timetable, stay_of}
 use Rattle.ih_page.specs.Html.{escaped, labelled, numbered}
-use Rattle.ih_page.specs.Rooms.{age_name, theatre_name, shift_type_name, nurse_name, wide_td, bar_td, bar_text, person_tds, patient_row, occupant_row, patient_in, occupant_in, marked, anchor_text, td_at, count_td, nurse_td, shift_row, room_title, heads_and_days, room_head, count_row, person_rows, room_text, rooms_text}
+use Rattle.ih_page.specs.Rooms.{age_name, theatre_name, surgeon_name, shift_type_name, nurse_name, wide_td, bar_td, bar_text, person_tds, patient_row, occupant_row, patient_in, occupant_in, marked, anchor_text, td_at, count_td, nurse_td, shift_row, room_title, heads_and_days, room_head, count_row, person_rows, room_text, rooms_text}
 use Rattle.ih_page.proofs.Scans.{Own, all-below, if-any, by_pieces}
 use Rattle.ih_page.proofs.NamesAndNumbers.{name, names_and_numbers}
 
@@ -22,6 +23,9 @@ age-name I g = if-any escaped name _
 
 pub theatre-name : (I : Draft) (t : ℕ) → Own (theatre_name I t)
 theatre-name I t = if-any (λ (a : Theatre). escaped a.id) (λ a. name a.id) (slice_get I.operating_theaters t)
+
+pub surgeon-name : (I : Draft) (s : ℕ) → Own (surgeon_name I s)
+surgeon-name I s = if-any (λ (a : Surgeon). escaped a.id) (λ a. name a.id) (slice_get I.surgeons s)
 
 pub shift-name : (I : Draft) (j : ℕ) → Own (shift_type_name I j)
 unfolding shift_type_name

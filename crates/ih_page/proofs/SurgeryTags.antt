@@ -1,24 +1,19 @@
 -- The tags of theatres and surgeons are the page's own.
 use Rattle.std.proofs.Common.{ℕ, codes, refl}
-use Rattle.std.specs.Prelude.{slice_get}
 use Rattle.ih_tables.specs.declared.drafts.Draft.{Draft}
 use Rattle.ih_tables.specs.declared.drafts.Patient.{Patient}
-use Rattle.ih_tables.specs.declared.drafts.Surgeon.{Surgeon}
 use Rattle.ih_plan.specs.Timetable.{Timetable}
 use Rattle.ih_validate.specs.declared.surgery.Resource.{Resource}
 use Rattle.ih_validate.specs.declared.surgery.Resource.TheVariants.{OfTheatre, OfSurgeon}
 use Rattle.ih_validate.specs.Surgery.{one_of}
 use Rattle.ih_validate.specs.declared.surgery.ResourceKind.{ResourceKind}
 use Rattle.ih_validate.specs.declared.surgery.ResourceKind.TheVariants.{Theatres, Surgeons}
-use Rattle.ih_page.specs.Html.{escaped, labelled, numbered}
+use Rattle.ih_page.specs.Html.{labelled, numbered}
 use Rattle.ih_page.specs.Rooms.{marked, anchor_text, td_at, heads_and_days}
-use Rattle.ih_page.specs.Surgery.{surgeon_name, resource_name, percent_text, minutes_text, name_link, operation, surgery_td, surgery_row, heads_of, surgery_text}
+use Rattle.ih_page.specs.Surgery.{resource_name, percent_text, minutes_text, name_link, operation, surgery_td, surgery_row, heads_of, surgery_text}
 use Rattle.ih_page.proofs.Scans.{Own, all-below, if-any, by_pieces}
-use Rattle.ih_page.proofs.NamesAndNumbers.{name, names_and_numbers}
-use Rattle.ih_page.proofs.RoomTags.{theatre-name, day}
-
-pub surgeon-name : (I : Draft) (s : ℕ) → Own (surgeon_name I s)
-surgeon-name I s = if-any (λ (a : Surgeon). escaped a.id) (λ a. name a.id) (slice_get I.surgeons s)
+use Rattle.ih_page.proofs.NamesAndNumbers.{names_and_numbers}
+use Rattle.ih_page.proofs.RoomTags.{theatre-name, surgeon-name, day}
 
 resource : (I : Draft) (w : Resource) → Own (resource_name I w)
 resource I (OfTheatre t) = theatre-name I t.0

@@ -19,8 +19,7 @@ use Rattle.ih_page.specs.Wrong.{amounts, cell_link, item, item_at, list_name, li
 use Rattle.ih_page.proofs.Scans.{Own, all-below, all-of, if-any, by_pieces}
 use Rattle.ih_page.proofs.NamesAndNumbers.{names_and_numbers}
 use Rattle.ih_page.proofs.SummaryTags.{rule-name, cost-name}
-use Rattle.ih_page.proofs.RoomTags.{theatre-name, shift-name, nurse-name}
-use Rattle.ih_page.proofs.SurgeryTags.{surgeon-name}
+use Rattle.ih_page.proofs.RoomTags.{theatre-name, surgeon-name, shift-name, nurse-name}
 
 -- what an amount is of
 

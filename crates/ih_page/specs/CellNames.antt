@@ -9,8 +9,7 @@ use Rattle.ih_tables.specs.declared.drafts.Patient.{Patient}
 use Rattle.ih_tables.specs.declared.drafts.Room.{Room}
 use Rattle.ih_tables.specs.Sizes.{patient_count}
 use Rattle.ih_page.specs.Html.{escaped, labelled}
-use Rattle.ih_page.specs.Rooms.{theatre_name, anchor_text, shift_type_name, nurse_name}
-use Rattle.ih_page.specs.Surgery.{surgeon_name}
+use Rattle.ih_page.specs.Rooms.{theatre_name, surgeon_name, anchor_text, shift_type_name, nurse_name}
 
 -- the row of a person
 abbrev pub person_anchor : ℕ → List ℕ

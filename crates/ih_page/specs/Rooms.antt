@@ -6,6 +6,7 @@ use Rattle.ih_tables.specs.declared.drafts.Nurse.{Nurse}
 use Rattle.ih_tables.specs.declared.drafts.Occupant.{Occupant}
 use Rattle.ih_tables.specs.declared.drafts.Patient.{Patient}
 use Rattle.ih_tables.specs.declared.drafts.Room.{Room}
+use Rattle.ih_tables.specs.declared.drafts.Surgeon.{Surgeon}
 use Rattle.ih_tables.specs.declared.drafts.Theatre.{Theatre}
 use Rattle.ih_tables.specs.Sizes.{patient_count, occupant_count, person_count, room_count}
 use Rattle.ih_plan.specs.declared.moves.Placement.{Placement}
@@ -23,6 +24,10 @@ age_name I g = option_map_or escaped (slice_get I.age_groups g) []
 -- the name of a theatre
 abbrev pub theatre_name : Draft → ℕ → List ℕ
 theatre_name I t = option_map_or (λ (a : Theatre). escaped a.id) (slice_get I.operating_theaters t) []
+
+-- the name of a surgeon
+abbrev pub surgeon_name : Draft → ℕ → List ℕ
+surgeon_name I s = option_map_or (λ (a : Surgeon). escaped a.id) (slice_get I.surgeons s) []
 
 -- the name of a shift type
 unfoldable pub shift_type_name : Draft → ℕ → List ℕ

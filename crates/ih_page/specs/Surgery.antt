@@ -3,7 +3,6 @@ use Rattle.std.specs.Prelude.{ℕ, ◌*◌, ◌/◌, min, List, [], ◌++◌, �
 use Rattle.std.specs.Option.{option_map_or}
 use Rattle.ih_tables.specs.declared.drafts.Draft.{Draft}
 use Rattle.ih_tables.specs.declared.drafts.Patient.{Patient}
-use Rattle.ih_tables.specs.declared.drafts.Surgeon.{Surgeon}
 use Rattle.ih_tables.specs.Sizes.{patient_count}
 use Rattle.ih_plan.specs.Timetable.{Timetable}
 use Rattle.ih_plan.specs.Costs.{duration_of}
@@ -14,8 +13,8 @@ use Rattle.ih_validate.specs.declared.surgery.ResourceKind.{ResourceKind}
 use Rattle.ih_validate.specs.declared.surgery.ResourceKind.TheVariants.{Theatres, Surgeons}
 use Rattle.ih_validate.specs.declared.surgery.Resource.{Resource}
 use Rattle.ih_validate.specs.declared.surgery.Resource.TheVariants.{OfTheatre, OfSurgeon}
-use Rattle.ih_page.specs.Html.{escaped, numbered}
-use Rattle.ih_page.specs.Rooms.{theatre_name, marked, td_at, heads_and_days}
+use Rattle.ih_page.specs.Html.{numbered}
+use Rattle.ih_page.specs.Rooms.{theatre_name, surgeon_name, marked, td_at, heads_and_days}
 
 -- the minutes of patient p's surgery, where it is there on day d
 abbrev pub minutes_of : Draft → Timetable → Resource → ℕ → ℕ → ℕ
@@ -32,10 +31,6 @@ letter_of (OfSurgeon s) = codes "g"
 abbrev pub number_of : Resource → ℕ
 number_of (OfTheatre t) = t.0
 number_of (OfSurgeon s) = s.0
-
--- the name of a surgeon
-abbrev pub surgeon_name : Draft → ℕ → List ℕ
-surgeon_name I s = option_map_or (λ (a : Surgeon). escaped a.id) (slice_get I.surgeons s) []
 
 abbrev pub resource_name : Draft → Resource → List ℕ
 resource_name I (OfTheatre t) = theatre_name I t.0

@@ -1,14 +1,13 @@
 //! What a cell is called, and where it stands in the page.
 
 ghost use Rattle.std.specs.Prelude.{◌≡◌, ◌<◌, ◌++◌, OnOk};
-ghost use Rattle.ih_tables.specs.Sizes.{person_count, room_count, surgeon_count};
+ghost use Rattle.ih_tables.specs.Sizes.{person_count, room_count};
 ghost use Rattle.ih_plan.specs.Cells.{IsCellOf};
-ghost use Rattle.ih_page.specs.Surgery.{surgeon_name};
 ghost use Rattle.ih_page.specs.CellNames.{cell_anchor, person_name, room_name, shift_name, cell_text};
 
-use crate::names::{put_anchor, put_nurse, put_shift_type, put_theatre};
+use crate::names::{put_anchor, put_nurse, put_shift_type, put_surgeon, put_theatre};
 use crate::texts::{Put, put, put_escaped, put_labelled};
-use ih_tables::{Cell, Instance, PatientNo, RoomNo, SurgeonNo};
+use ih_tables::{Cell, Instance, PatientNo, RoomNo};
 
 /// Appends the anchor of a cell of the timetable.
 pub fn put_cell_anchor(out: &mut Vec<u8>, c: Cell) -> Put
@@ -47,13 +46,6 @@ fn put_room(out: &mut Vec<u8>, inst: &Instance, r: RoomNo) -> Put
 {
     put(out, "room ")?;
     put_escaped(out, inst.room(r).id.as_str())
-}
-
-fn put_surgeon(out: &mut Vec<u8>, inst: &Instance, s: SurgeonNo) -> Put
-    requires { s.0 < surgeon_count inst.now.draft }
-    ensures { OnOk result (out.new.items ≡ out.old.items ++ surgeon_name inst.now.draft s.0) }
-{
-    put_escaped(out, inst.surgeon(s).id.as_str())
 }
 
 #[tactic(auto, unfolding(crate::specs::CellNames::shift_name))]

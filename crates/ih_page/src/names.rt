@@ -1,11 +1,12 @@
 //! The names of what an instance has, as they stand in a page.
 
 ghost use Rattle.std.specs.Prelude.{◌≡◌, ◌<◌, ◌++◌, OnOk, option_map, IfSome};
-ghost use Rattle.ih_tables.specs.{declared.ids.NurseNo.NurseNo, Sizes.nurse_count, Sizes.theatre_count};
-ghost use Rattle.ih_page.specs.Rooms.{age_name, theatre_name, shift_type_name, nurse_name, marked, anchor_text, td_at};
+ghost use Rattle.ih_tables.specs.{declared.ids.NurseNo.NurseNo, Sizes.nurse_count, Sizes.surgeon_count, Sizes.theatre_count};
+ghost use Rattle.ih_page.specs.Rooms.{age_name, theatre_name, surgeon_name, shift_type_name, nurse_name};
+ghost use Rattle.ih_page.specs.Rooms.{marked, anchor_text, td_at};
 
 use crate::texts::{Put, put, put_escaped, put_number};
-use ih_tables::{Instance, NurseNo, TheatreNo};
+use ih_tables::{Instance, NurseNo, SurgeonNo, TheatreNo};
 
 /// Appends the name of an age group.
 pub fn put_age(out: &mut Vec<u8>, inst: &Instance, g: u32) -> Put
@@ -32,6 +33,14 @@ pub fn put_theatre(out: &mut Vec<u8>, inst: &Instance, t: TheatreNo) -> Put
     ensures { OnOk result (out.new.items ≡ out.old.items ++ theatre_name inst.now.draft t.0) }
 {
     put_escaped(out, inst.theatre(t).id.as_str())
+}
+
+/// Appends the name of a surgeon.
+pub fn put_surgeon(out: &mut Vec<u8>, inst: &Instance, s: SurgeonNo) -> Put
+    requires { s.0 < surgeon_count inst.now.draft }
+    ensures { OnOk result (out.new.items ≡ out.old.items ++ surgeon_name inst.now.draft s.0) }
+{
+    put_escaped(out, inst.surgeon(s).id.as_str())
 }
 
 /// Appends the name of a nurse, where there is one.

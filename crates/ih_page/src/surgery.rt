@@ -8,10 +8,10 @@ ghost use Rattle.ih_page.specs.Surgery.{percent_of, percent_text, name_link, min
 ghost use Rattle.ih_page.specs.Surgery.{surgery_of, surgery_td, surgery_row};
 
 use crate::loops::put_below;
-use crate::names::{put_marked, put_td_at, put_theatre};
+use crate::names::{put_marked, put_surgeon, put_td_at, put_theatre};
 use crate::rooms::put_heads_and_days;
 use crate::shown::Shown;
-use crate::texts::{Put, put, put_escaped, put_number, put_numbered};
+use crate::texts::{Put, put, put_number, put_numbered};
 use ih_tables::{Instance, Patient, PatientNo};
 use ih_validate::{Resource, ResourceKind, count_of, has_surgery, limit_of, one_of};
 
@@ -65,7 +65,7 @@ fn put_resource(out: &mut Vec<u8>, inst: &Instance, w: Resource) -> Put
 {
     match w {
         Resource::OfTheatre(t) => put_theatre(out, inst, t),
-        Resource::OfSurgeon(s) => put_escaped(out, inst.surgeon(s).id.as_str()),
+        Resource::OfSurgeon(s) => put_surgeon(out, inst, s),
     }
 }
 
