@@ -7,7 +7,7 @@ ghost use Rattle.ih_page.specs.Page.{opening, tables, page_of};
 use crate::left_out::put_left_out;
 use crate::nursing::put_nurses;
 use crate::rooms::put_rooms;
-use crate::shown::Shown;
+use crate::shown::{Priced, Shown};
 use crate::summaries::put_summary;
 use crate::surgery::put_surgery_of;
 use crate::texts::{Put, put};
@@ -61,25 +61,46 @@ fn put_tables(out: &mut Vec<u8>, shown: &Shown<'_>) -> Put
     put_nurses(out, shown)
 }
 
+// Appends the whole page.
+fn put_page(alloc: Global, out: &mut Vec<u8>, priced: &Priced<'_>) -> Put
+    ensures { let shown = priced.now.shown.now in OnOk result
+        (out.new.items ≡ out.old.items ++ page_of shown.inst.now.draft shown.plan.now) }
+{
+    put_opening(out)?;
+    put_summary(out, priced.shown.inst, priced.bill)?;
+    put_wrong(alloc, out, priced)?;
+    put_tables(out, priced.shown)?;
+    put(out, "</main>\n")
+}
+
+// The page, where there are ledgers of the timetable.
+fn page_by(
+    alloc: Global,
+    inst: &Instance,
+    plan: &Plan,
+    ledgers: &Ledgers<'_>,
+) -> Result<Vec<u8>, AllocError>
+    requires plan { IsPlanOf inst.now.draft plan.now }
+    requires ledgers { ledgers.now ≡ record { instance = inst.now.draft; plan = plan.now } }
+    ensures { IfOk result (λ text. text.items ≡ page_of inst.now.draft plan.now) }
+{
+    let shown = Shown { inst, plan };
+    let bill = bill(inst, plan);
+    let priced = Priced {
+        shown: &shown,
+        bill: &bill,
+        ledgers,
+    };
+    let mut out = Vec::new(alloc);
+    put_page(alloc, &mut out, &priced)?;
+    Ok(out)
+}
+
 /// The page of a timetable of the instance: one text of HTML that stands alone.
-#[tactic(auto, unfolding(crate::specs::Page::page_of))]
 pub fn page(alloc: Global, inst: &Instance, plan: &Plan) -> Result<Vec<u8>, AllocError>
     requires { IsPlanOf inst.now.draft plan.now }
     ensures { IfOk result (λ text. text.items ≡ page_of inst.now.draft plan.now) }
 {
-    let bill = bill(inst, plan);
     let ledgers = Ledgers::new(alloc, inst, plan)?;
-    let shown = Shown {
-        inst,
-        plan,
-        bill: &bill,
-        ledgers: &ledgers,
-    };
-    let mut out = Vec::new(alloc);
-    put_opening(&mut out)?;
-    put_summary(&mut out, &shown)?;
-    put_wrong(alloc, &mut out, &shown)?;
-    put_tables(&mut out, &shown)?;
-    put(&mut out, "</main>\n")?;
-    Ok(out)
+    page_by(alloc, inst, plan, &ledgers)
 }

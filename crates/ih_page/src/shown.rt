@@ -8,15 +8,22 @@ use ih_costs::Ledgers;
 use ih_plan::Plan;
 use ih_tables::{Bill, Instance};
 
-/// A timetable of an instance, with its bill and its ledgers.
+/// A timetable of an instance.
 #[derive(Drop)]
 pub struct Shown<'a> {
     pub inst: &'a Instance,
     pub plan: &'a Plan,
+    pub ghost plan_fits: { IsPlanOf inst.now.draft plan.now },
+}
+
+/// The same, with its bill and its ledgers. Few functions need these, and each proof carries what it is given.
+#[derive(Drop)]
+pub struct Priced<'a> {
+    pub shown: &'a Shown<'a>,
     pub bill: &'a Bill,
     pub ledgers: &'a Ledgers<'a>,
-    pub ghost plan_fits: { IsPlanOf inst.now.draft plan.now },
-    pub ghost bill_is: { bill.now ≡ bill_of inst.now.draft plan.now },
+    pub ghost bill_is: { bill.now ≡ bill_of shown.now.inst.now.draft shown.now.plan.now },
     pub ghost bill_within: { IsWithin (10 ^ 11) bill.now },
-    pub ghost ledgers_are: { ledgers.now ≡ record { instance = inst.now.draft; plan = plan.now } },
+    pub ghost ledgers_are: { ledgers.now
+        ≡ record { instance = shown.now.inst.now.draft; plan = shown.now.plan.now } },
 }

@@ -1,13 +1,13 @@
 //! The head of a page.
 
 ghost use Rattle.std.specs.Prelude.{◌≡◌, ◌<◌, ◌≤◌, ◌≤ℤ◌, ◌^◌, ◌++◌, pos, neg_ℤ, OnOk};
+ghost use Rattle.ih_tables.specs.Bills.{IsWithin};
 ghost use Rattle.ih_page.specs.Summary.{rule_name, cost_name, line_text, line_link, line_name, line_head, product_text};
 ghost use Rattle.ih_page.specs.Summary.{hard_text, rule_row, cost_row, rule_rows, cost_rows, feasible_text, headline};
 ghost use Rattle.ih_page.specs.Summary.{summary};
 
-use crate::shown::Shown;
 use crate::texts::{Put, put, put_number, put_signed};
-use ih_tables::Bill;
+use ih_tables::{Bill, Instance};
 
 /// What a hard rule counts.
 #[tactic(auto, unfolding(crate::specs::Summary::rule_name))]
@@ -146,13 +146,13 @@ fn put_rules(out: &mut Vec<u8>, bill: &Bill) -> Put
 }
 
 #[tactic(auto, unfolding(crate::specs::Summary::cost_rows))]
-fn put_costs(out: &mut Vec<u8>, shown: &Shown<'_>) -> Put
-    ensures { OnOk result
-        (out.new.items ≡ out.old.items ++ cost_rows shown.now.inst.now.draft.weights shown.now.bill.now) }
+fn put_costs(out: &mut Vec<u8>, inst: &Instance, bill: &Bill) -> Put
+    requires { IsWithin (10 ^ 11) bill.now }
+    ensures { OnOk result (out.new.items ≡ out.old.items ++ cost_rows inst.now.draft.weights bill.now) }
 {
-    let weights = shown.inst.weights();
+    let weights = inst.weights();
     for i in 0..8 {
-        put_cost(out, i, shown.bill.s[i], weights.w[i])?;
+        put_cost(out, i, bill.s[i], weights.w[i])?;
     }
     Ok(())
 }
@@ -168,28 +168,28 @@ fn feasible_text(feasible: bool) -> &'static str
 }
 
 #[tactic(auto, unfolding(crate::specs::Summary::headline))]
-fn put_verdict(out: &mut Vec<u8>, shown: &Shown<'_>) -> Put
-    ensures { OnOk result
-        (out.new.items ≡ out.old.items ++ headline shown.now.inst.now.draft.weights shown.now.bill.now) }
+fn put_verdict(out: &mut Vec<u8>, inst: &Instance, bill: &Bill) -> Put
+    requires { IsWithin (10 ^ 11) bill.now }
+    ensures { OnOk result (out.new.items ≡ out.old.items ++ headline inst.now.draft.weights bill.now) }
 {
-    put(out, feasible_text(shown.bill.feasible()))?;
+    put(out, feasible_text(bill.feasible()))?;
     put(out, "<p>Cost ")?;
-    put_signed(out, shown.bill.cost(shown.inst.weights()))?;
+    put_signed(out, bill.cost(inst.weights()))?;
     put(out, "</p>\n")
 }
 
 /// Appends whether the timetable is feasible, its cost, and a row for each of the seventeen numbers.
 #[tactic(auto, unfolding(crate::specs::Summary::summary))]
-pub fn put_summary(out: &mut Vec<u8>, shown: &Shown<'_>) -> Put
-    ensures { OnOk result
-        (out.new.items ≡ out.old.items ++ summary shown.now.inst.now.draft.weights shown.now.bill.now) }
+pub fn put_summary(out: &mut Vec<u8>, inst: &Instance, bill: &Bill) -> Put
+    requires { IsWithin (10 ^ 11) bill.now }
+    ensures { OnOk result (out.new.items ≡ out.old.items ++ summary inst.now.draft.weights bill.now) }
 {
-    put_verdict(out, shown)?;
+    put_verdict(out, inst, bill)?;
     put(
         out,
         "<table class=s><tr><th>line<th>what it counts<th>number<th>weight<th>product\n",
     )?;
-    put_rules(out, shown.bill)?;
-    put_costs(out, shown)?;
+    put_rules(out, bill)?;
+    put_costs(out, inst, bill)?;
     put(out, "</table>\n")
 }

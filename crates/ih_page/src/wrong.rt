@@ -14,33 +14,35 @@ use crate::bill_lines::{
 use crate::cell_names::{put_cell, put_cell_anchor};
 use crate::loops::put_below;
 use crate::order::dearest_first;
-use crate::shown::Shown;
+use crate::shown::{Priced, Shown};
 use crate::texts::{Put, put, put_signed};
 use ih_footprint::Numbering;
 use ih_tables::{Bill, Cell, Instance, PatientNo};
 use std::alloc::{AllocError, Global};
 
 // How much of the line's number the cell has.
-fn amount(shown: &Shown<'_>, line: Line, c: Cell) -> u64
-    requires cell { IsCellOf shown.now.inst.now.draft c }
+fn amount(priced: &Priced<'_>, line: Line, c: Cell) -> u64
+    requires cell { IsCellOf priced.now.shown.now.inst.now.draft c }
     requires line { IsLine line }
-    ensures { result ≡ count_in (part_at shown.now.inst.now.draft shown.now.plan.now c) line }
+    ensures { let shown = priced.now.shown.now in result
+        ≡ count_in (part_at shown.inst.now.draft shown.plan.now c) line }
 {
-    magnitude(&shown.ledgers.part(c), line)
+    magnitude(&priced.ledgers.part(c), line)
 }
 
 // How much of the line's number the cells have, in the order of the cells.
 #[tactic(auto, unfolding(crate::specs::Wrong::amounts))]
-fn amounts(alloc: Global, shown: &Shown<'_>, line: Line) -> Result<Vec<u64>, AllocError>
+fn amounts(alloc: Global, priced: &Priced<'_>, line: Line) -> Result<Vec<u64>, AllocError>
     requires { IsLine line }
-    ensures value { IfOk result (λ v. v.items ≡ amounts shown.now.inst.now.draft shown.now.plan.now line) }
-    ensures count { IfOk result (λ v. length v.items ≡ cell_count shown.now.inst.now.draft) }
+    ensures value { let shown = priced.now.shown.now in IfOk result
+        (λ v. v.items ≡ amounts shown.inst.now.draft shown.plan.now line) }
+    ensures count { IfOk result (λ v. length v.items ≡ cell_count priced.now.shown.now.inst.now.draft) }
     ensures few { IfOk result (λ v. length v.items < 2 ^ 32) }
 {
-    let cells = Numbering::of(shown.inst);
+    let cells = Numbering::of(priced.shown.inst);
     let mut found = Vec::new(alloc);
     for n in 0..cells.count() {
-        found.push(amount(shown, line, cells.cell(n)))?;
+        found.push(amount(priced, line, cells.cell(n)))?;
     }
     Ok(found)
 }
@@ -131,49 +133,51 @@ fn put_list_head(out: &mut Vec<u8>, bill: &Bill, line: Line) -> Put
 }
 
 #[tactic(auto, unfolding(crate::specs::Wrong::list_of))]
-fn put_list(out: &mut Vec<u8>, shown: &Shown<'_>, line: Line, xs: &[u64], order: &[u32]) -> Put
+fn put_list(out: &mut Vec<u8>, priced: &Priced<'_>, line: Line, xs: &[u64], order: &[u32]) -> Put
     requires line { IsLine line }
-    requires all { length xs.now ≡ cell_count shown.now.inst.now.draft }
+    requires all { length xs.now ≡ cell_count priced.now.shown.now.inst.now.draft }
     requires inside { All (λ n. n < length xs.now) order.now }
-    ensures { OnOk result
-        (out.new.items ≡ out.old.items ++ list_of shown.now.inst.now.draft shown.now.plan.now line xs.now order.now) }
+    ensures { let shown = priced.now.shown.now in OnOk result
+        (out.new.items ≡ out.old.items ++ list_of shown.inst.now.draft shown.plan.now line xs.now order.now) }
 {
-    put_list_head(out, shown.bill, line)?;
-    put_items(out, shown, line, xs, order)?;
+    put_list_head(out, priced.bill, line)?;
+    put_items(out, priced.shown, line, xs, order)?;
     put(out, "</ul></details>\n")
 }
 
 // The list of a line of the report, where there is anything in it.
-fn put_line_list(alloc: Global, out: &mut Vec<u8>, shown: &Shown<'_>, line: Line) -> Put
+fn put_line_list(alloc: Global, out: &mut Vec<u8>, priced: &Priced<'_>, line: Line) -> Put
     requires { IsLine line }
-    ensures { OnOk result
-        (out.new.items ≡ out.old.items ++ line_list shown.now.inst.now.draft shown.now.plan.now line) }
+    ensures { let shown = priced.now.shown.now in OnOk result
+        (out.new.items ≡ out.old.items ++ line_list shown.inst.now.draft shown.plan.now line) }
 {
-    let xs = amounts(alloc, shown, line)?;
+    let xs = amounts(alloc, priced, line)?;
     let order = dearest_first(alloc, xs.as_slice())?;
     if order.is_empty() {
         return Ok(());
     }
-    put_list(out, shown, line, xs.as_slice(), order.as_slice())
+    put_list(out, priced, line, xs.as_slice(), order.as_slice())
 }
 
 // The lists of the rules, then those of the costs.
-fn put_line_lists(alloc: Global, out: &mut Vec<u8>, shown: &Shown<'_>) -> Put
-    ensures { OnOk result (out.new.items ≡ out.old.items ++ line_lists shown.now.inst.now.draft shown.now.plan.now) }
+fn put_line_lists(alloc: Global, out: &mut Vec<u8>, priced: &Priced<'_>) -> Put
+    ensures { let shown = priced.now.shown.now in OnOk result
+        (out.new.items ≡ out.old.items ++ line_lists shown.inst.now.draft shown.plan.now) }
 {
     put_below(out, 9, |out, i| {
-        put_line_list(alloc, out, shown, Line::Rule(i as usize))
+        put_line_list(alloc, out, priced, Line::Rule(i as usize))
     })?;
     put_below(out, 8, |out, i| {
-        put_line_list(alloc, out, shown, Line::Cost(i as usize))
+        put_line_list(alloc, out, priced, Line::Cost(i as usize))
     })
 }
 
 /// Appends the lists of what is wrong, and where.
 #[tactic(auto, unfolding(crate::specs::Wrong::wrong_text))]
-pub fn put_wrong(alloc: Global, out: &mut Vec<u8>, shown: &Shown<'_>) -> Put
-    ensures { OnOk result (out.new.items ≡ out.old.items ++ wrong_text shown.now.inst.now.draft shown.now.plan.now) }
+pub fn put_wrong(alloc: Global, out: &mut Vec<u8>, priced: &Priced<'_>) -> Put
+    ensures { let shown = priced.now.shown.now in OnOk result
+        (out.new.items ≡ out.old.items ++ wrong_text shown.inst.now.draft shown.plan.now) }
 {
     put(out, "<h2 id=wrong>What is wrong, and where</h2>\n")?;
-    put_line_lists(alloc, out, shown)
+    put_line_lists(alloc, out, priced)
 }

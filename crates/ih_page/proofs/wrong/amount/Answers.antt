@@ -13,5 +13,5 @@ returns c =
     let l = c.args.line in
     let part = λ (s : Standing). as_bill (part_at s.instance s.plan c.args.c) in
     c.magnitude.ensures
-    ∙ ap unsigned_abs (ap (λ (b : Bill). number_in b l) (c.part.ensures ∙ ap part c.args.shown.now.ledgers_are)
-    ∙ counted (part_at c.args.shown.now.inst.now.draft c.args.shown.now.plan.now c.args.c) l)
+    ∙ ap unsigned_abs (ap (λ (b : Bill). number_in b l) (c.part.ensures ∙ ap part c.args.priced.now.ledgers_are)
+    ∙ counted (part_at c.args.priced.now.shown.now.inst.now.draft c.args.priced.now.shown.now.plan.now c.args.c) l)

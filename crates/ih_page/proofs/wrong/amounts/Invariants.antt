@@ -6,5 +6,5 @@ use Rattle.ih_page.proofs.wrong.amounts.Given as goal
 
 abbrev pub invariant-loop-n : goal.invariant-loop-n
 invariant-loop-n l =
-    (l.found.items ≡ map (λ (n : ℕ). count_in (part_at l.shown.inst.now.draft l.shown.plan.now (cell_at l.shown.inst.now.draft n)) l.line) (range_with_len 0 l.n))
+    (l.found.items ≡ map (λ (n : ℕ). count_in (part_at l.priced.shown.now.inst.now.draft l.priced.shown.now.plan.now (cell_at l.priced.shown.now.inst.now.draft n)) l.line) (range_with_len 0 l.n))
     × (length l.found.items ≡ l.n)

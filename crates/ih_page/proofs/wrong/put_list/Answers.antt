@@ -10,5 +10,5 @@ unfolding list_of
 returns c =
     let headed = λ (b : Bill). c.args.out.now.items ++ list_head b c.args.line in
     on_ok_weaker c.put.result
-    (λ d. joins3 _ _ _ _ _ _ _ (c.in_ok-put_list_head.ensures ∙ ap headed c.args.shown.now.bill_is) c.in_ok-put_items.ensures d)
+    (λ d. joins3 _ _ _ _ _ _ _ (c.in_ok-put_list_head.ensures ∙ ap headed c.args.priced.now.bill_is) c.in_ok-put_items.ensures d)
     c.put.ensures
