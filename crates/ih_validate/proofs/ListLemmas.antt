@@ -115,9 +115,9 @@ unfolding operated operated_by
 operated-patients I P (OfTheatre t) d = which_below-All (patient_count I) (has_surgery I P (OfTheatre t) d)
 operated-patients I P (OfSurgeon s) d = which_below-All (patient_count I) (has_surgery I P (OfSurgeon s) d)
 
--- those of the patients who have surgery on the day, as a list of them is made
-pub are-operated : (I : Draft) (P : Timetable) (w : Resource) (d : ℕ) (among today ps : List ℕ) → among ≡ patients_of I P w
-    → today ≡ filter (has_surgery I P w d) among → ps ≡ today → length ps ≤ 2560 → AreOperated I P w d ps
-are-operated I P w d among today ps all some same few =
-    let these = same ∙ some ∙ rw all (operated-among I P w d) in
+-- those who have surgery on the day, as a slice
+pub are-operated : (I : Draft) (P : Timetable) (w : Resource) (d : ℕ) (today ps : List ℕ) → today ≡ operated_on I P w d → ps ≡ today
+    → length ps ≤ 2560 → AreOperated I P w d ps
+are-operated I P w d today ps is same few =
+    let these = same ∙ is in
     record { these = these; patients = All-same (λ p. p < patient_count I) ps _ these (operated-patients I P w d); few = few }

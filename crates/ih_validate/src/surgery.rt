@@ -1,9 +1,10 @@
 //! Surgeries by theatres and by surgeons, day by day.
 
-ghost use Rattle.std.specs.Prelude.{◌≡◌, ◌<◌, ◌≤◌, ◌*◌, ◌^◌, ℕ, slice_index};
+ghost use Rattle.std.specs.Prelude.{◌≡◌, ◌<◌, ◌≤◌, ◌*◌, ◌^◌, ℕ, length, slice_index};
 ghost use Rattle.ih_tables.specs.Sizes.{patient_count};
 ghost use Rattle.ih_plan.specs.{Timetable.IsPlanOf, Sums.sum_below};
 ghost use Rattle.ih_validate.specs.Surgery.{AreOperated, IsResourceOf, count_of, has_surgery, is_patient_of, limit_of, one_of};
+ghost use Rattle.ih_validate.specs.Surgery.{operated_on, patients_of};
 
 use crate::number_lists::NumberList;
 use ih_plan::Plan;
@@ -92,6 +93,34 @@ pub fn limit_of(inst: &Instance, w: Resource, d: u32) -> u64
     }
 }
 
+// Lists the patients whom it has at all.
+fn list_own(inst: &Instance, plan: &Plan, w: Resource, own: &mut NumberList)
+    requires { IsPlanOf inst.now.draft plan.now }
+    ensures { own.new ≡ patients_of inst.now.draft plan.now w }
+{
+    own.list_below(
+        inst.patients(),
+        |p| is_patient_of(inst, plan, w, PatientNo(p)),
+    );
+}
+
+// Lists those of them who have surgery on the day.
+fn list_today(
+    inst: &Instance,
+    plan: &Plan,
+    w: Resource,
+    d: u32,
+    own: &[u32],
+    today: &mut NumberList,
+)
+    requires plan { IsPlanOf inst.now.draft plan.now }
+    requires own { own.now ≡ patients_of inst.now.draft plan.now w }
+    requires few { length own.now ≤ 2560 }
+    ensures { today.new ≡ operated_on inst.now.draft plan.now w d }
+{
+    today.list_among(own, |p| has_surgery(inst, plan, w, d, PatientNo(p)));
+}
+
 /// The sum of what each day costs by who has surgery then, each at most so much. All patients are looked through once,
 /// and then the theatre's or the surgeon's own for each day.
 pub fn sum_days<F: Fn(u32, &[u32]) -> u64>(
@@ -110,18 +139,12 @@ pub fn sum_days<F: Fn(u32, &[u32]) -> u64>(
         → result ≡ sum_below inst.now.draft.days f }
     ensures bound { result ≤ inst.now.draft.days * most }
 {
-    let mut among = NumberList::new();
+    let mut own = NumberList::new();
     let mut today = NumberList::new();
-    among.list_below(
-        inst.patients(),
-        |p| is_patient_of(inst, plan, w, PatientNo(p)),
-    );
+    list_own(inst, plan, w, &mut own);
     let mut sum = 0;
     for d in 0..inst.days() {
-        today.list_among(
-            among.as_slice(),
-            |p| has_surgery(inst, plan, w, d, PatientNo(p)),
-        );
+        list_today(inst, plan, w, d, own.as_slice(), &mut today);
         sum += each(d, today.as_slice());
     }
     sum
