@@ -1,10 +1,11 @@
 -- Where a round leads.
 use Rattle.std.proofs.Common.{◌≡◌, ℕ, ◌≤◌, refl, ap, arith, List, length, take, Option, Some, None, ℤ}
-use Rattle.std.proofs.lemmas.List.{take_all}
+use Rattle.std.proofs.lemmas.List.{length-map, take_all}
 use Rattle.ih_tables.specs.declared.bills.Bill.{Bill}
 use Rattle.ih_plan.specs.Timetable.{IsPlanOf}
 use Rattle.ih_plan.specs.BillOf.{bill_of}
-use Rattle.ih_journal.specs.Tried.{Tried}
+use Rattle.ih_journal.specs.declared.entries.Entry.{Entry}
+use Rattle.ih_journal.specs.Tried.{Tried, tried, tries}
 use Rattle.ih_journal.specs.Base.{Base}
 use Rattle.ih_journal.specs.Best.{BestIs}
 use Rattle.ih_journal.specs.History.{after_entries}
@@ -13,14 +14,17 @@ use Rattle.ih_journal.specs.Settings.{IsLawful}
 use Rattle.ih_cellbook.specs.Legal.{AreLegalButDraws, IsHistoryOver}
 use Rattle.ih_cellbook.proofs.EntryLimits.{legal-few}
 use Rattle.ih_rounds.specs.Rounds.{next_start}
-use Rattle.ih_rounds.specs.Steps.{end_of}
+use Rattle.ih_rounds.specs.Steps.{IsAnswer, end_of}
 
 pub but-draws : (b : Base) (H : List Tried) → AreLegal b 1 H → AreLegalButDraws b H
 but-draws b H legal k e h = (legal k e h).entry
 
 -- a legal history has at most a million entries
-pub short : (b : Base) (H : List Tried) → IsLawful b.options → AreLegal b 1 H → length H ≤ 1000000
+short : (b : Base) (H : List Tried) → IsLawful b.options → AreLegal b 1 H → length H ≤ 1000000
 short b H lawful legal = let few = (legal-few b H (but-draws b H legal)).most in let most = lawful.entries in omega (arith, few, most)
+
+pub few-entries : (b : Base) (H : List Entry) → IsAnswer b H → length H ≤ 1000000
+few-entries b H is = let most = short b (tries H) is.lawful is.full.legal in let many = length-map H tried in omega (arith, most, many)
 
 -- the place at which the next round starts is one of the history
 pub end-inside : (b : Base) (H : List Tried) (found : Option (ℕ × ℤ)) → BestIs b H found → end_of found (length H) ≤ length H

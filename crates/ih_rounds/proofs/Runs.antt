@@ -113,10 +113,10 @@ come-more b count before between after old new more best found P outcome come ha
             ∙ ap (λ t. old ++ t) (sym (subst (λ k. journals b.options 0 (rs ++ r ∷ []) ≡ journals b.options 0 rs ++ journal (options_in b.options k) H) here (journals-more b.options 0 rs r)))));
       };
       next = subst (λ k. StartsFrom b (rs ++ r ∷ []) k outcome.next) (sym one)
-          (r, outcome.found, get-last rs r, rw len has.best, rw len has.next);
+          (r, outcome.found, get-last rs r, rw len has.leads.best, rw len has.leads.next);
       held = rw is (subst (λ k. HoldsBest b (rs ++ r ∷ []) (better_of best k outcome.found outcome.count outcome.next)) len
-          (held-more b rs r best outcome.found outcome.count outcome.next come.held (rw len has.best) has.count (rw len has.next) has.fits));
-      fits = has.fits;
+          (held-more b rs r best outcome.found outcome.count outcome.next come.held (rw len has.leads.best) has.leads.count (rw len has.leads.next) has.leads.fits));
+      fits = has.leads.fits;
     }
 
 pub come-all : (b : Base) (count rounds : ℕ) (before after : Answers) (old new : List ℕ) (best : Option Held) (P : Timetable) (end : RoundsEnd) → count ≡ rounds

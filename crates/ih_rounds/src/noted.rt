@@ -5,6 +5,7 @@ use ih_journal::{Entry, Options};
 use ih_plan::Plan;
 use ih_tables::Instance;
 use std::alloc::{AllocError, Global};
+use std::marker::Model;
 use std::sync::Wait;
 use std::thread::Threads;
 
@@ -15,13 +16,22 @@ pub struct Noted<S> {
     answers: Vec<Vec<Entry>>,
 }
 
+impl<S> Model for Noted<S> {
+    ghost use Rattle.std.specs.Prelude.{map};
+    ghost use Rattle.ih_rounds.specs.Telling.{Answered};
+
+    ghost Value = { Answered S };
+
+    ghost view = { λ n. record { searcher = n.searcher; answers = map (λ v. v.items) n.answers.items } };
+}
+
 impl<S: Searcher> Noted<S> {
-    ghost use Rattle.std.specs.Prelude.{◌≡◌, []};
+    ghost use Rattle.std.specs.Prelude.{◌≡◌, [], map};
 
     /// The searcher, of whose answers none is kept yet.
     pub fn new(alloc: Global, searcher: S) -> Noted<S>
         ensures searcher { result.searcher ≡ searcher }
-        ensures none { result.answers.items ≡ [] }
+        ensures none { result.answers ≡ [] }
     {
         Noted {
             searcher,
@@ -31,16 +41,16 @@ impl<S: Searcher> Noted<S> {
 
     /// The histories that it has answered, in order.
     pub fn answers(&self) -> &[Vec<Entry>]
-        ensures { result.now ≡ self.now.answers.items }
+        ensures { map (λ v. v.items) result.now ≡ self.now.answers }
     {
         self.answers.as_slice()
     }
 }
 
 impl<S: Searcher> Searcher for Noted<S> {
-    ghost use Rattle.std.specs.Prelude.{Some, map};
+    ghost use Rattle.std.specs.Prelude.{Some};
 
-    ghost answers = { λ n. Some (map (λ v. v.items) n.answers.items) };
+    ghost answers = { λ n. Some n.answers };
 
     ghost ready = { λ n. S.ready n.searcher };
 

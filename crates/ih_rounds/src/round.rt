@@ -2,14 +2,14 @@
 
 ghost use Rattle.std.specs.Prelude.{◌≡◌, IfOk};
 ghost use Rattle.ih_plan.specs.Timetable.{IsPlanOf};
-ghost use Rattle.ih_journal.specs.Settings.{IsLawful};
+ghost use Rattle.ih_journal.specs.{declared.settings.Options.Options as Search_options, Settings.IsLawful};
 ghost use Rattle.ih_cellbook.specs.Keeping.{base_with};
-ghost use Rattle.ih_rounds.specs.{Rounds.options_in, Steps.HasRound, Steps.end_of};
+ghost use Rattle.ih_rounds.specs.{Rounds.options_in, Steps.HasRound, Steps.IsAnswer, Steps.LeadsOn, Steps.end_of};
 
 use crate::searcher::Searcher;
 use ih_cellbook::best_in;
 use ih_history::{plan_at, put_journal};
-use ih_journal::Options;
+use ih_journal::{Entry, Options};
 use ih_plan::Plan;
 use ih_tables::Instance;
 use ih_validate::bill;
@@ -52,6 +52,24 @@ fn end_of(found: Option<(u32, i64)>, count: u32) -> u32
     }
 }
 
+// Where the round with this full history leads, whatever the options by which it was searched.
+fn lead_on(
+    alloc: Global,
+    inst: &Instance,
+    start: &Plan,
+    entries: &[Entry],
+) -> Result<RoundOutcome, AllocError>
+    requires start { IsPlanOf inst.now.draft start.now }
+    requires answered { (o : Search_options) × IsAnswer (base_with inst.now.draft start.now o 0) entries.now }
+    ensures { (o : Search_options) → IsAnswer (base_with inst.now.draft start.now o 0) entries.now
+        → IfOk result (LeadsOn (base_with inst.now.draft start.now o 0) entries.now) }
+{
+    let found = best_in(inst, &bill(inst, start), entries);
+    let count = entries.len() as u32;
+    let next = plan_at(alloc, inst, start, entries, end_of(found, count))?;
+    Ok(RoundOutcome { found, count, next })
+}
+
 /// Searches once, and appends the journal. Where memory runs out, the journal is to be dropped.
 pub(crate) fn search_round<R: Threads + Wait + Sync, S: Searcher>(
     rt: &R,
@@ -73,8 +91,5 @@ pub(crate) fn search_round<R: Threads + Wait + Sync, S: Searcher>(
     let answer = searcher.search(rt, alloc, inst, start, options)?;
     let entries = answer.as_slice();
     put_journal(options, entries, journal)?;
-    let found = best_in(inst, &bill(inst, start), entries);
-    let count = entries.len() as u32;
-    let next = plan_at(alloc, inst, start, entries, end_of(found, count))?;
-    Ok(RoundOutcome { found, count, next })
+    lead_on(alloc, inst, start, entries)
 }
