@@ -1,8 +1,13 @@
 -- Rounds with one journal are one run of rounds: each starts where the one before it leads.
-use Rattle.std.proofs.Common.{◌≡◌, ℕ, zero, suc, ◌<◌, ◌^◌, refl, sym, ap, ◌∙◌, subst, arith, List, [], ◌∷◌, length, Option, Some, None, ℤ}
+use Rattle.std.proofs.Common.{◌≡◌, ℕ, zero, suc, ◌+◌, ◌*◌, ◌%◌, ◌<◌, ◌^◌, refl, sym, ap, ◌∙◌, subst, arith, List, [], ◌∷◌, ◌++◌, append_assoc, length, Option, Some, None, ℤ}
 use Rattle.std.specs.Prelude.{slice_get}
+use Rattle.ih_tables.specs.declared.drafts.Draft.{Draft}
 use Rattle.ih_plan.specs.Timetable.{IsPlanOf, Timetable}
 use Rattle.ih_journal.specs.declared.entries.Entry.{Entry}
+use Rattle.ih_journal.specs.declared.settings.Options.{Options}
+use Rattle.ih_journal.specs.Grammar.{IsHistoryOf}
+use Rattle.ih_journal.specs.Pieces.{AreShortOptions}
+use Rattle.ih_journal.specs.Texts.{ended, heading, lines_from}
 use Rattle.ih_journal.specs.Tried.{Tried, tries}
 use Rattle.ih_journal.specs.Base.{Base}
 use Rattle.ih_journal.specs.Best.{BestIs}
@@ -10,11 +15,13 @@ use Rattle.ih_journal.specs.History.{plan_at}
 use Rattle.ih_journal.specs.Legal.{IsFull}
 use Rattle.ih_journal.proofs.BestLemmas.{best-one, best-or-none}
 use Rattle.ih_journal.proofs.Growth.{AreOfMoves, after_entries-plan, legal-moves, plan_at-plan}
+use Rattle.ih_journal.proofs.HeadTexts.{heading_lacks, headings_differ, lawful_short}
+use Rattle.ih_journal.proofs.JournalTexts.{first_line, not_ended}
 use Rattle.ih_journal.proofs.LoneWorkers.{lone-same}
 use Rattle.ih_journal.proofs.Mapped.{tries-one}
 use Rattle.ih_cellbook.specs.Laws.{IsSearchBase, LegalHistoriesAreInRange}
 use Rattle.ih_rounds.specs.Laws.{AreInRange, JournalsTellRoundsApart}
-use Rattle.ih_rounds.specs.Rounds.{AreRounds, Round, StartsFrom, base_in, histories, next_start, options_in}
+use Rattle.ih_rounds.specs.Rounds.{AreRounds, Round, StartsFrom, base_in, histories, journals, next_start, options_in}
 use Rattle.ih_rounds.proofs.Leading.{but-draws}
 use Rattle.ih_rounds.proofs.Parting.{rounds-parted}
 use Rattle.ih_rounds.proofs.Runs.{lawful-in}
@@ -115,10 +122,67 @@ as-many [] (s ∷ ss) same = absurd (let no : [] ≡ s.history ∷ histories ss 
 as-many (r ∷ rs) [] same = absurd (let no : r.history ∷ histories rs ≡ [] = same in cc)
 as-many (r ∷ rs) (s ∷ ss) same = ap suc (as-many rs ss (let rest : histories rs ≡ histories ss = cc in rest))
 
-pub rounds-differ : LegalHistoriesAreInRange → JournalsTellRoundsApart
-rounds-differ law b rs ss search left right h =
+-- ---- two runs that were given the same
+
+same-base : LegalHistoriesAreInRange → (b : Base) (rs ss : List Round) → IsSearchBase b → AreRounds b rs → AreRounds b ss
+    → journals b.options 0 rs ≡ journals b.options 0 ss → rs ≡ ss
+same-base law b rs ss search left right h =
     let same = rounds-parted b rs ss search.valid (in-range law b rs search left) (in-range law b ss search right) h in
     rounds-agree b rs ss left right (λ q r s here there start. history-same rs ss q r s same here there) (as-many rs ss same)
+
+-- ---- two runs over an instance
+
+-- the first round has the options as they are
+first-options : (o : Options) → o.seed < 2 ^ 64 → options_in o 0 ≡ o
+first-options o small = let same : (o.seed + 64 * 0) % 2 ^ 64 ≡ o.seed = omega arith in ap (λ s. record o { seed = s }) same
+
+some-journal : (o : Options) (r : Round) (rs : List Round) → journals o 0 (r ∷ rs) ≡ [] → ⊥
+unfolding journals
+some-journal o r rs h =
+    not_ended (heading (options_in o 0)) (lines_from (options_in o 0) 0 r.history ++ journals o 1 rs)
+    (sym (append_assoc (ended (heading (options_in o 0))) (lines_from (options_in o 0) 0 r.history) (journals o 1 rs)) ∙ h)
+
+-- the first heading tells them
+one-options : (o p : Options) (r s : Round) (rs ss : List Round) → AreShortOptions (options_in o 0) → AreShortOptions (options_in p 0)
+    → journals o 0 (r ∷ rs) ≡ journals p 0 (s ∷ ss) → options_in o 0 ≡ options_in p 0
+unfolding journals
+one-options o p r s rs ss left right h =
+    let front = lines_from (options_in o 0) 0 r.history in
+    let back = lines_from (options_in p 0) 0 s.history in
+    let whole = sym (append_assoc (ended (heading (options_in o 0))) front (journals o 1 rs)) ∙ (h ∙ append_assoc (ended (heading (options_in p 0))) back (journals p 1 ss)) in
+    let cut = first_line (heading (options_in o 0)) (heading (options_in p 0)) (front ++ journals o 1 rs) (back ++ journals p 1 ss) (heading_lacks _ left) (heading_lacks _ right) whole in
+    headings_differ _ _ left right cut.0
+
+short-first : (b : Base) → IsSearchBase b → AreShortOptions (options_in b.options 0)
+short-first b search = lawful_short (options_in b.options 0) (lawful-in b.options 0 search.base.lawful) (seed-in b 0)
+
+module _ (law : LegalHistoriesAreInRange) (b c : Base) (one : IsSearchBase b) (other : IsSearchBase c) (same : b.instance ≡ c.instance) where
+  run-histories : (rs ss : List Round) → AreRounds b rs → AreRounds c ss → b.options ≡ c.options → journals b.options 0 rs ≡ journals c.options 0 ss
+      → histories rs ≡ histories ss
+  run-histories rs ss left right options h =
+      let In : Draft → Options → Type 0 = λ I o. (q : ℕ) (s : Round) → slice_get ss q ≡ Some s → IsHistoryOf I (options_in o q) s.history in
+      let there : In b.instance b.options = subst (λ (I : Draft). In I b.options) (sym same) (subst (In c.instance) (sym options) (in-range law c ss other right)) in
+      rounds-parted b rs ss one.valid (in-range law b rs one left) there (h ∙ ap (λ o. journals o 0 ss) (sym options))
+
+  two-runs : (rs ss : List Round) → AreRounds b rs → AreRounds c ss → journals b.options 0 rs ≡ journals c.options 0 ss
+      → (histories rs ≡ histories ss) × (0 < length rs → b.options ≡ c.options)
+  unfolding journals
+  two-runs [] [] left right h = (refl, λ some. absurd (omega arith))
+  two-runs [] (s ∷ ss) left right h = absurd (some-journal c.options s ss (sym h))
+  two-runs (r ∷ rs) [] left right h = absurd (some-journal b.options r rs h)
+  two-runs (r ∷ rs) (s ∷ ss) left right h =
+      let first = one-options b.options c.options r s rs ss (short-first b one) (short-first c other) h in
+      let options : b.options ≡ c.options = sym (first-options b.options one.seed) ∙ (first ∙ first-options c.options other.seed) in
+      (run-histories (r ∷ rs) (s ∷ ss) left right options h, λ some. options)
+
+pub rounds-differ : LegalHistoriesAreInRange → JournalsTellRoundsApart
+rounds-differ law b c rs ss one other same left right h =
+    let both = two-runs law b c one other same rs ss left right h in (
+      both.0,
+      both.1,
+      λ is.
+          same-base law b rs ss one left (subst (λ (d : Base). AreRounds d ss) (sym is) right) (h ∙ ap (λ (d : Base). journals d.options 0 ss) (sym is)),
+    )
 
 -- ---- with one worker
 

@@ -1,5 +1,5 @@
 -- Laws of rounds.
-use Rattle.std.specs.Prelude.{◌≡◌, ℕ, ◌<◌, ◌≤ℤ◌, List, Some, slice_get}
+use Rattle.std.specs.Prelude.{◌≡◌, ℕ, ◌<◌, ◌≤ℤ◌, List, length, Some, slice_get}
 use Rattle.ih_tables.specs.Valid.{IsValid}
 use Rattle.ih_journal.specs.Tried.{tries}
 use Rattle.ih_journal.specs.Base.{Base}
@@ -19,10 +19,12 @@ abbrev pub JournalsCanBeParted : Type 0
 JournalsCanBeParted = (b : Base) (rs ss : List Round) → IsValid b.instance → AreInRange b rs → AreInRange b ss
     → journals b.options 0 rs ≡ journals b.options 0 ss → histories rs ≡ histories ss
 
--- Two runs of rounds over the same search base have two journals: the bytes tell each round's start and history.
+-- The bytes of the journals tell the histories of a run of rounds over an instance and, where there is any round, the
+-- options, also where two runs begin with different timetables. Of what a run was given they tell each round's start.
 abbrev pub JournalsTellRoundsApart : Type 0
-JournalsTellRoundsApart = (b : Base) (rs ss : List Round) → IsSearchBase b → AreRounds b rs → AreRounds b ss
-    → journals b.options 0 rs ≡ journals b.options 0 ss → rs ≡ ss
+JournalsTellRoundsApart = (b c : Base) (rs ss : List Round) → IsSearchBase b → IsSearchBase c → b.instance ≡ c.instance
+    → AreRounds b rs → AreRounds c ss → journals b.options 0 rs ≡ journals c.options 0 ss
+    → (histories rs ≡ histories ss) × (0 < length rs → b.options ≡ c.options) × (b ≡ c → rs ≡ ss)
 
 -- the history of round q has a best, which costs no more than place k of round p
 pub record IsNoDearer (b : Base) (q : ℕ) (s : Round) (p : ℕ) (r : Round) (k : ℕ) : Type 0 where

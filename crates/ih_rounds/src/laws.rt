@@ -14,8 +14,9 @@ pub fn journals_can_be_parted()
     ensures { JournalsCanBeParted }
 {}
 
-/// Two runs of rounds that were given the same have two journals: the bytes tell how many rounds there are, where each
-/// starts, and each one's history.
+/// Two runs of rounds over an instance that differ in a history or, where there is any round, in their options have two
+/// journals, also where they begin with different timetables. Where they were given the same, the bytes tell where each
+/// round starts as well.
 pub fn journals_tell_rounds_apart()
     ensures { JournalsTellRoundsApart }
 {
