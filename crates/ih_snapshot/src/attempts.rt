@@ -8,7 +8,7 @@ ghost use Rattle.ih_journal.specs.Settings.{IsLawful, theta};
 ghost use Rattle.ih_cellbook.specs.Counters.{is_compared};
 ghost use Rattle.ih_snapshot.specs.Keeping.{IsOwnRead};
 
-use crate::notes::raise;
+use crate::versions::raise;
 use ih_cellbook::{Attempted, Logged, Offers, raise_read};
 use ih_costs::Ledgers;
 use ih_footprint::CellList;

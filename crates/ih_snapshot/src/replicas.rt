@@ -2,7 +2,7 @@
 
 ghost use Rattle.std.specs.Prelude.{◌≡◌, [], IfOk};
 
-use crate::moves::{is_compared, play};
+use crate::attempts::{is_compared, play};
 use ih_cellbook::{Attempted, Logged, Offers};
 use ih_costs::Ledgers;
 use ih_footprint::{CellList, Numbering};

@@ -1,4 +1,4 @@
-//! Versions of cells: how they are noted with a footprint, and how they rise.
+//! Versions of cells: how they rise.
 
 ghost use Rattle.std.specs.Prelude.{◌≡◌, ℕ, ◌+◌, ◌<◌, ◌^◌, length, slice_index, All};
 ghost use Rattle.ih_snapshot.specs.Noting.{times_listed};

@@ -5,7 +5,7 @@ use Rattle.ih_cellbook.specs.Counters.{times_read}
 use Rattle.ih_cellbook.specs.Noted.{Noted}
 use Rattle.ih_snapshot.specs.Noting.{times_listed}
 use Rattle.ih_snapshot.proofs.Touching.{keys, foot-below, foot-short, foot-times, reads-below, reads-short, reads-times}
-use Rattle.ih_snapshot.proofs.moves.play.Goals as goal
+use Rattle.ih_snapshot.proofs.attempts.play.Goals as goal
 
 pub raise_read-requires-clause-reads : goal.raise_read-requires-clause-reads
 raise_read-requires-clause-reads g c =

@@ -1,7 +1,7 @@
 use Rattle.std.proofs.Common.{◌≡◌, ℕ, ◌+◌, take, length}
 use Rattle.std.specs.Prelude.{slice_index}
 use Rattle.ih_snapshot.specs.Noting.{times_listed}
-use Rattle.ih_snapshot.proofs.notes.raise.Given as goal
+use Rattle.ih_snapshot.proofs.versions.raise.Given as goal
 
 abbrev pub invariant-loop-cell : goal.invariant-loop-cell
 invariant-loop-cell l = record {

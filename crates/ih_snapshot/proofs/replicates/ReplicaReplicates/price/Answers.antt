@@ -3,7 +3,7 @@ use Rattle.ih_cellbook.specs.Offers.{IsRightOffer}
 use Rattle.ih_cellbook.specs.Replicas.{IsReplicaOf, IsOfferAfter}
 use Rattle.ih_cellbook.specs.Snapshot.{Snapshot}
 use Rattle.ih_snapshot.proofs.Pricing.{offer-after, offer-right, stands-priced}
-use Rattle.ih_snapshot.proofs.copies.ReplicaReplicates.price.Goals as goal
+use Rattle.ih_snapshot.proofs.replicates.ReplicaReplicates.price.Goals as goal
 
 pub returns : goal.returns
 returns g c =
