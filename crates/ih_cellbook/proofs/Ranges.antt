@@ -167,6 +167,12 @@ each-short b H search legal k e there =
     subst (λ n. IsShortTried b.instance n e) place
     (short-in b (take k H) search.valid search.base (legal-front b H k legal) e (legal k e there))
 
+-- and in range
+pub each-in : (b : Base) (H : List Tried) → IsSearchBase b → AreLegalButDraws b H → (k : ℕ) (e : Tried) → slice_get H k ≡ Some e
+    → IsTriedOf b.instance b.options (AreMoves b.instance e.moves) e
+each-in b H search legal k e there =
+    entry-in b (take k H) search.valid search.base (legal-front b H k legal) e (legal k e there)
+
 -- ---- a history of single moves
 
 pub entry-of : (I : Draft) (o : Options) (e : Entry) → IsTriedOf I o (AreMoves I (e.mv ∷ [])) (tried e) → IsEntryOf I o e
@@ -188,9 +194,7 @@ module _ (b : Base) (H : List Entry) (search : IsSearchBase b) (legal : AreLegal
     seed = search.seed;
     places = (let few = short b (tries H) search.valid search.base legal in let len = length-map H tried in omega (arith, few, len));
     entries = λ k e there.
-        entry-of b.instance b.options e
-        (entry-in b (take k (tries H)) search.valid search.base (legal-front b (tries H) k legal) (tried e)
-        (legal k (tried e) (get-mapped tried H k e there)));
+        entry-of b.instance b.options e (each-in b (tries H) search legal k (tried e) (get-mapped tried H k e there));
   }
 
 pub histories-in-range : LegalHistoriesAreInRange

@@ -1,5 +1,6 @@
 pub mod BestPlaces
 pub mod Headings
+pub mod JournalsApart
 pub mod Lengths
 pub mod Lines
 pub mod Moves

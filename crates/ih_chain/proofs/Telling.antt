@@ -8,7 +8,7 @@ use Rattle.ih_journal.proofs.Mapped.{map-injective}
 use Rattle.ih_chain.specs.declared.entries.ChainEntry.{ChainEntry}
 use Rattle.ih_chain.specs.Entries.{chain_tried, chain_tries}
 
-same-entry : (e f : ChainEntry) → e.worker ≡ f.worker → e.number ≡ f.number → e.seen ≡ f.seen → e.moves ≡ f.moves → e.price ≡ f.price
+pub same-entry : (e f : ChainEntry) → e.worker ≡ f.worker → e.number ≡ f.number → e.seen ≡ f.seen → e.moves ≡ f.moves → e.price ≡ f.price
     → e.verdict ≡ f.verdict → e ≡ f
 same-entry e f worker number seen moves price verdict =
     ap (λ (t : ℕ × ℕ × ℕ × List Move × Bill × Verdict).

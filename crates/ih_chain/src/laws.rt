@@ -1,6 +1,7 @@
 //! Laws, each on a function that does nothing.
 
-ghost use Rattle.ih_chain.specs.Laws.{ChainJournalsAreShort, SinglesAreHistoriesOfMoves, SinglesHaveTheSameLine};
+ghost use Rattle.ih_chain.specs.Laws.{ChainJournalsAreShort, ChainJournalsTellSearchesApart};
+ghost use Rattle.ih_chain.specs.Laws.{SinglesAreHistoriesOfMoves, SinglesHaveTheSameLine};
 
 /// A chain of one move has the line of that move, where no move is tried again.
 pub fn single_chains_have_the_same_line()
@@ -11,6 +12,12 @@ pub fn single_chains_have_the_same_line()
 /// and 128 for the heading.
 pub fn chain_journals_are_short()
     ensures { ChainJournalsAreShort }
+{}
+
+/// Two searches by chains of an instance that differ in their options, in the length of their chains or in an entry have
+/// two journals, also where they begin with different timetables.
+pub fn chain_journals_tell_searches_apart()
+    ensures { ChainJournalsTellSearchesApart }
 {}
 
 /// A legal history of chains of one move is a legal history of single moves, entry by entry.

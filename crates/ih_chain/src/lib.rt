@@ -12,7 +12,8 @@ mod texts;
 pub use chains::Chain;
 pub use entries::{ChainEntry, ChainOffer};
 pub use laws::{
-    chain_journals_are_short, single_chains_are_moves, single_chains_have_the_same_line,
+    chain_journals_are_short, chain_journals_tell_searches_apart, single_chains_are_moves,
+    single_chains_have_the_same_line,
 };
 pub use replicas::ChainReplica;
 pub use running::run_chains;

@@ -12,7 +12,7 @@ use Rattle.ih_journal.proofs.Separators.{parted_some}
 use Rattle.ih_journal.proofs.Lacking.{Lacks, lacks_decimal, lacks_joined, parted_joined, parted_text, plain, plain_lacks, low_mark, head_of, tail_of, same_tails}
 use Rattle.std.proofs.lemmas.Bool.{ne_eqb}
 
-option_lacks : (m : ℕ) (name : List ℕ) (n : ℕ) → m ≤ 32 → plain name ≡ true → n < 2 ^ 64 → Lacks m (option_text name n)
+pub option_lacks : (m : ℕ) (name : List ℕ) (n : ℕ) → m ≤ 32 → plain name ≡ true → n < 2 ^ 64 → Lacks m (option_text name n)
 option_lacks m name n low known small =
     All-append (λ b. (b == m) ≡ false) name (61 ∷ decimal n) (plain_lacks m name low known)
     (All-cons (λ b. (b == m) ≡ false) 61 (decimal n) (ne_eqb 61 m (λ e. omega (arith, e, low))) (lacks_decimal m n (low_mark m low) small))
@@ -87,7 +87,7 @@ behind : (name : List ℕ) (x y : List ℕ) → name ++ x ≡ name ++ y → x �
 behind [] x y h = h
 behind (c ∷ name) x y h = behind name x y (tail_of h)
 
-option_same : (name : List ℕ) (m n : ℕ) → m < 2 ^ 64 → n < 2 ^ 64 → option_text name m ≡ option_text name n → m ≡ n
+pub option_same : (name : List ℕ) (m n : ℕ) → m < 2 ^ 64 → n < 2 ^ 64 → option_text name m ≡ option_text name n → m ≡ n
 option_same name m n small other h = decimal_injective m n small other (tail_of (behind name (61 ∷ decimal m) (61 ∷ decimal n) h))
 
 retries_same : (r s : ℕ) → r < 2 ^ 32 → s < 2 ^ 32 → retries_field r ≡ retries_field s → r ≡ s
