@@ -1,6 +1,6 @@
 //! Searches by single moves: workers who each price their draws on a replica of their own and offer them at one desk.
 #![tactic(auto)]
 
-mod moves;
+mod searching;
 
-pub use moves::{Worker, run_workers, search};
+pub use searching::{Worker, run_workers, search};

@@ -3,7 +3,7 @@ use denote.Param.Send.{sendable}
 use Rattle.ih_cellbook.proofs.offers.Offer.TheSendSync.{the_send as offer_crosses}
 use Rattle.ih_journal.proofs.entries.Entry.TheSendSync.{the_send as entry_crosses}
 use Rattle.ih_snapshot.proofs.replicas.Replica.TheSendSync.{the_send as replica_crosses}
-use Rattle.ih_workers.proofs.moves.search.Goals as goal
+use Rattle.ih_workers.proofs.searching.search.Goals as goal
 
 -- all may cross threads, and every freeze day is one under which a move may be tried
 pub search-requires : goal.search-requires
