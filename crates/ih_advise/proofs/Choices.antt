@@ -8,35 +8,17 @@ use Rattle.ih_plan.specs.declared.moves.Write.{Write}
 use Rattle.ih_plan.specs.Timetable.{Timetable}
 use Rattle.ih_plan.specs.Writes.{put}
 use Rattle.ih_plan.specs.BillOf.{change_of_bill}
-use Rattle.ih_fill.specs.Fill.{cheapest, write_score}
+use Rattle.ih_fill.specs.Fill.{write_score}
 use Rattle.ih_fill.specs.declared.candidates.Candidate.{Candidate}
-use Rattle.ih_fill.specs.Candidates.{valued, least_of}
+use Rattle.ih_fill.specs.Candidates.{cheapest, valued, least_of}
 use Rattle.ih_fill.specs.Scoring.{Scoring, care_value, stay_value, view_of}
 use Rattle.ih_fill.proofs.CandidateLemmas.{cheaper, cheaper-more}
+use Rattle.ih_fill.proofs.FirstLeast.{cheapest-joined}
 use Rattle.ih_advise.specs.declared.choosing.Advice.{Advice}
-use Rattle.ih_advise.specs.declared.subjects.Subject.{Subject}
+use Rattle.ih_fill.specs.declared.choices.Choice.{Choice}
 use Rattle.ih_advise.specs.Advising.{advice_on, advised, best_of, best_write, value_of}
 
 module _ (v : Write → ℤ) where
-  picked : (w x c : Write) (a : Bool) → int_lt (v x) (v w) ≡ a → (b : Bool) → int_lt (v c) (v x) ≡ b → (d : Bool) → int_lt (v c) (v w) ≡ d
-      → (if a then (if b then c else x) else (if d then c else w)) ≡ (if int_lt (v (if b then c else x)) (v w) then (if b then c else x) else w)
-  picked w x c true e true f true g = rw g refl
-  picked w x c true e true f false g = absurd (omega (arith, ints))
-  picked w x c true e false f d g = rw e refl
-  picked w x c false e true f true g = rw g refl
-  picked w x c false e true f false g = rw g refl
-  picked w x c false e false f true g = absurd (omega (arith, ints))
-  picked w x c false e false f false g = rw e refl
-
-  pick : (w x c m n : Write) → m ≡ (if int_lt (v c) (v x) then c else x) → n ≡ (if int_lt (v c) (v w) then c else w)
-      → (if int_lt (v x) (v w) then m else n) ≡ (if int_lt (v m) (v w) then m else w)
-  pick w x c m n e f = rw (e, f) (picked w x c (int_lt (v x) (v w)) refl (int_lt (v c) (v x)) refl (int_lt (v c) (v w)) refl)
-
-  -- the cheapest of a write and of others is the write, or the cheapest of the others where that costs less
-  joined : (w x : Write) (xs : List Write) → cheapest v w (x ∷ xs) ≡ (if int_lt (v (cheapest v x xs)) (v w) then cheapest v x xs else w)
-  joined w x [] = refl
-  joined w x (y ∷ ys) = pick w x (cheapest v y ys) (cheapest v x (y ∷ ys)) (cheapest v w (y ∷ ys)) (joined x y ys) (joined w y ys)
-
   none-best : (w : Write) (ws : List Write) → None ≡ least_of v ws → valued v w ≡ valued v (cheapest v w ws)
   none-best w [] e = refl
   none-best w (x ∷ xs) e = absurd (let no : None ≡ Some (valued v (cheapest v x xs)) = e in cc)
@@ -45,7 +27,7 @@ module _ (v : Write → ℤ) where
   some-best w [] least e = absurd (let no : Some least ≡ None = e in cc)
   some-best w (x ∷ xs) least e =
       let same : least ≡ valued v (cheapest v x xs) = (let e : Some least ≡ Some (valued v (cheapest v x xs)) = e in cc) in
-      ap (cheaper (valued v w)) same ∙ (cheaper-more v w (cheapest v x xs) [] ∙ ap (valued v) (sym (joined w x xs)))
+      ap (cheaper (valued v w)) same ∙ (cheaper-more v w (cheapest v x xs) [] ∙ ap (valued v) (sym (cheapest-joined v w x xs)))
 
 -- what is scored is the change of the whole bill
 care-whole : (F : Scoring) → care_value F ≡ value_of F.instance F.hard F.plan
@@ -91,7 +73,7 @@ is-high x y e h = by_case (int_lt y (pos 0)) refl
     by_case false f = refl
 
 -- the best of a choice is advised where its value is below 0
-pub best-advised : (I : Draft) (hard : ℕ) (P : Timetable) (s : Subject) (b : Candidate) (price : Bill) → b ≡ best_of I hard P s → b.value <ℤ pos 0
+pub best-advised : (I : Draft) (hard : ℕ) (P : Timetable) (s : Choice) (b : Candidate) (price : Bill) → b ≡ best_of I hard P s → b.value <ℤ pos 0
     → price ≡ change_of_bill I P (put b.write P) → Some (priced b price) ≡ advice_on I hard P s
 unfolding advice_on
 best-advised I hard P s b price is low e =
@@ -102,7 +84,7 @@ best-advised I hard P s b price is low e =
     ∙ ap (λ (t : Bool). if t then Some (advised I hard P w) else None) (sym lower))
 
 -- and nothing otherwise
-pub none-advised : (I : Draft) (hard : ℕ) (P : Timetable) (s : Subject) (b : Candidate) → b ≡ best_of I hard P s → pos 0 ≤ℤ b.value → None ≡ advice_on I hard P s
+pub none-advised : (I : Draft) (hard : ℕ) (P : Timetable) (s : Choice) (b : Candidate) → b ≡ best_of I hard P s → pos 0 ≤ℤ b.value → None ≡ advice_on I hard P s
 unfolding advice_on
 none-advised I hard P s b is high =
     let w = best_write I hard P s in

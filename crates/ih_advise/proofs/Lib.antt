@@ -1,5 +1,4 @@
 pub mod Choices
 pub mod Least
 pub mod Lines
-pub mod ChoiceNumbers
 pub mod Places

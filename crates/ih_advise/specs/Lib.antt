@@ -1,4 +1,4 @@
 pub mod Advising
+pub mod Dealing
 pub mod Laws
 pub mod Texts
-pub mod Weaving

@@ -1,15 +1,15 @@
-//! All advisers side by side, and what they find in the order of the choices.
+//! All workers side by side, and what they find in the order of the choices.
 
 ghost use Rattle.std.specs.Prelude.{◌≡◌, ◌<◌, ◌≤◌, ◌++◌, [], true, length, vec_capacity, filter_map, IfOk, OnOk, All};
 ghost use Rattle.std.specs.List.{cons_option, range_with_len};
 ghost use Rattle.ih_plan.specs.Timetable.{IsPlanOf};
-ghost use Rattle.ih_advise.specs.Advising.{advice};
-ghost use Rattle.ih_advise.specs.Weaving.{HasAnswered, HaveAnswered, IsReady, found_of};
+ghost use Rattle.ih_fill.specs.Choices.{IsChoiceOf};
+ghost use Rattle.ih_advise.specs.Advising.{advice, advice_on};
+ghost use Rattle.ih_advise.specs.Dealing.{HasAnswered, HaveAnswered, IsReady, found_of};
 
-use crate::advisers::Adviser;
 use crate::choosing::Advice;
-use crate::subjects::subject_count;
-use ih_fill::Scorer;
+use crate::findings::Findings;
+use ih_fill::{Choice, Scorer, all_choices};
 use ih_journal::MAX_WORKERS;
 use ih_plan::Plan;
 use ih_shelf::Gate;
@@ -18,76 +18,83 @@ use std::alloc::{AllocError, Global};
 use std::sync::Wait;
 use std::thread::{Threads, for_each_mut};
 
-// An adviser for each number, each with room for what it finds.
-fn new_advisers(alloc: Global, count: usize, most: usize) -> Result<Vec<Adviser>, AllocError>
-    requires { count ≤ 64 }
-    ensures len { IfOk result (λ v. length v.items ≡ count) }
-    ensures ready { IfOk result (λ v. All (λ a. (a.found.items ≡ []) × (vec_capacity a.found ≡ most)) v.items) }
+// A place for what each worker finds, with room for all of it.
+fn new_findings(alloc: Global, workers: usize, most: usize) -> Result<Vec<Findings>, AllocError>
+    requires { workers ≤ 64 }
+    ensures len { IfOk result (λ v. length v.items ≡ workers) }
+    ensures ready { IfOk result (λ v. All (λ f. (f.found.items ≡ []) × (vec_capacity f.found ≡ most)) v.items) }
 {
-    let mut advisers = Vec::with_capacity(alloc, count)?;
-    for _ in 0..count {
-        advisers.push_reserved(Adviser::new(alloc, most)?);
+    let mut findings = Vec::with_capacity(alloc, workers)?;
+    for _ in 0..workers {
+        findings.push_reserved(Findings::new(alloc, most)?);
     }
-    Ok(advisers)
+    Ok(findings)
 }
 
-// One adviser's work, between its two passes of the gate.
+// One worker's work, between its two passes of the gate.
 fn work_alone<R: Wait, G: Gate>(
     rt: &R,
     inst: &Instance,
     scorer: &Scorer<'_>,
-    count: usize,
-    number: usize,
-    adviser: &mut Adviser,
+    choices: &[Choice],
+    workers: usize,
+    worker: usize,
+    findings: &mut Findings,
     gate: &G,
 )
     requires instance { scorer.now.instance ≡ inst.now.draft }
     requires counts { scorer.now.counts_uncovered ≡ true }
-    requires few { count ≤ 64 }
-    requires number { number < count }
-    requires ready { IsReady inst.now.draft count adviser.old }
-    ensures { HasAnswered inst.now.draft scorer.now.hard scorer.now.plan count number adviser.new.found.items }
+    requires inside { All (IsChoiceOf inst.now.draft) choices.now }
+    requires few { workers ≤ 64 }
+    requires worker { worker < workers }
+    requires ready { IsReady (length choices.now) workers findings.old }
+    ensures { HasAnswered inst.now.draft scorer.now.hard scorer.now.plan choices.now workers worker
+        findings.new.found.items }
 {
-    gate.before(rt, number as u32, 0);
-    adviser.advise_all(inst, scorer, count, number);
-    gate.after(rt, number as u32, 0);
+    gate.before(rt, worker as u32, 0);
+    findings.find_all(inst, scorer, choices, workers, worker);
+    gate.after(rt, worker as u32, 0);
 }
 
-// Lets each adviser look for its advice, in a thread of its own where one can be started. All price from one set of
+// Lets each worker look for its advice, in a thread of its own where one can be started. All price from one set of
 // ledgers.
 fn work<R: Threads + Wait + Sync, G: Gate>(
     rt: &R,
     inst: &Instance,
     scorer: &Scorer<'_>,
-    advisers: &mut [Adviser],
+    choices: &[Choice],
+    findings: &mut [Findings],
     gate: &G,
 )
     requires instance { scorer.now.instance ≡ inst.now.draft }
     requires counts { scorer.now.counts_uncovered ≡ true }
-    requires few { length advisers.old ≤ 64 }
-    requires ready { All (IsReady inst.now.draft (length advisers.old)) advisers.old }
-    ensures { HaveAnswered inst.now.draft scorer.now.hard scorer.now.plan (length advisers.old) advisers.new }
+    requires inside { All (IsChoiceOf inst.now.draft) choices.now }
+    requires few { length findings.old ≤ 64 }
+    requires ready { All (IsReady (length choices.now) (length findings.old)) findings.old }
+    ensures { HaveAnswered inst.now.draft scorer.now.hard scorer.now.plan choices.now (length findings.old)
+        findings.new }
 {
-    let count = advisers.len();
+    let workers = findings.len();
     for_each_mut(
         rt,
-        advisers,
+        findings,
         MAX_WORKERS as usize,
-        &|number, adviser|
-            requires { (scorer.now.instance ≡ inst.now.draft) × (scorer.now.counts_uncovered ≡ true) × (count ≤ 64)
-                × (number < count) × IsReady inst.now.draft count adviser.now }
-        { work_alone(rt, inst, scorer, count, number, adviser, gate) },
+        &|worker, findings|
+            requires { (scorer.now.instance ≡ inst.now.draft) × (scorer.now.counts_uncovered ≡ true)
+                × All (IsChoiceOf inst.now.draft) choices.now × (workers ≤ 64) × (worker < workers)
+                × IsReady (length choices.now) workers findings.now }
+        { work_alone(rt, inst, scorer, choices, workers, worker, findings, gate) },
     );
 }
 
-// What is advised on the choice with a number: of n advisers, that with the number modulo n found it, and it is its
+// What is advised on the choice with a number: of n workers, that with the number modulo n found it, and it is its
 // answer with the number over n.
-fn found_of(advisers: &[Adviser], number: usize) -> Option<Advice>
-    requires { 0 < length advisers.now }
-    ensures { result ≡ found_of advisers.now number }
+fn found_of(findings: &[Findings], number: usize) -> Option<Advice>
+    requires { 0 < length findings.now }
+    ensures { result ≡ found_of findings.now number }
 {
-    let found = &advisers[number % advisers.len()].found;
-    match found.get(number / advisers.len()) {
+    let found = &findings[number % findings.len()].found;
+    match found.get(number / findings.len()) {
         Some(advice) => *advice,
         None => None,
     }
@@ -103,36 +110,39 @@ fn push_found(list: &mut Vec<Advice>, found: Option<Advice>) -> Result<(), Alloc
     Ok(())
 }
 
-// What the advisers found on the first so many choices, in order.
-fn gather(alloc: Global, advisers: &[Adviser], count: usize) -> Result<Vec<Advice>, AllocError>
-    requires { 0 < length advisers.now }
-    ensures { IfOk result (λ v. v.items ≡ filter_map (found_of advisers.now) (range_with_len 0 count)) }
+// What the workers found on the first so many choices, in order.
+fn gather(alloc: Global, findings: &[Findings], count: usize) -> Result<Vec<Advice>, AllocError>
+    requires { 0 < length findings.now }
+    ensures { IfOk result (λ v. v.items ≡ filter_map (found_of findings.now) (range_with_len 0 count)) }
 {
     let mut list = Vec::new(alloc);
     for number in 0..count {
-        push_found(&mut list, found_of(advisers, number))?;
+        push_found(&mut list, found_of(findings, number))?;
     }
     Ok(list)
 }
 
-// What the advisers find, side by side, in the order of the choices.
+// What the workers find, side by side, in the order of the choices.
 fn advise_by<R: Threads + Wait + Sync, G: Gate>(
     rt: &R,
     alloc: Global,
     inst: &Instance,
     scorer: &Scorer<'_>,
-    advisers: &mut [Adviser],
+    choices: &[Choice],
+    findings: &mut [Findings],
     gate: &G,
 ) -> Result<Vec<Advice>, AllocError>
     requires instance { scorer.now.instance ≡ inst.now.draft }
     requires counts { scorer.now.counts_uncovered ≡ true }
-    requires some { 0 < length advisers.old }
-    requires few { length advisers.old ≤ 64 }
-    requires ready { All (IsReady inst.now.draft (length advisers.old)) advisers.old }
-    ensures { IfOk result (λ v. v.items ≡ advice inst.now.draft scorer.now.hard scorer.now.plan) }
+    requires inside { All (IsChoiceOf inst.now.draft) choices.now }
+    requires some { 0 < length findings.old }
+    requires few { length findings.old ≤ 64 }
+    requires ready { All (IsReady (length choices.now) (length findings.old)) findings.old }
+    ensures { IfOk result
+        (λ v. v.items ≡ filter_map (advice_on inst.now.draft scorer.now.hard scorer.now.plan) choices.now) }
 {
-    work(rt, inst, scorer, advisers, gate);
-    gather(alloc, advisers, subject_count(inst))
+    work(rt, inst, scorer, choices, findings, gate);
+    gather(alloc, findings, choices.len())
 }
 
 /// What is advised on a timetable, in the order of the choices: for each choice that one other write may improve, the
@@ -155,8 +165,17 @@ pub fn advise<R: Threads + Wait + Sync, G: Gate>(
     ensures { IfOk result (λ v. v.items ≡ advice inst.now.draft hard plan.now) }
 {
     let scorer = Scorer::new(alloc, inst, hard, true, plan)?;
+    let choices = all_choices(alloc, inst)?;
     let workers = workers as usize;
-    let most = subject_count(inst).div_ceil(workers);
-    let mut advisers = new_advisers(alloc, workers, most)?;
-    advise_by(rt, alloc, inst, &scorer, advisers.as_mut_slice(), gate)
+    let most = choices.len().div_ceil(workers);
+    let mut findings = new_findings(alloc, workers, most)?;
+    advise_by(
+        rt,
+        alloc,
+        inst,
+        &scorer,
+        choices.as_slice(),
+        findings.as_mut_slice(),
+        gate,
+    )
 }

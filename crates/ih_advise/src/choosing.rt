@@ -2,10 +2,10 @@
 
 ghost use Rattle.std.specs.Prelude.{◌≡◌, true};
 ghost use Rattle.ih_plan.specs.Writes.{IsWriteOf};
-ghost use Rattle.ih_advise.specs.Advising.{IsChoice, advice_on, best_of};
+ghost use Rattle.ih_fill.specs.Choices.{IsChoiceOf};
+ghost use Rattle.ih_advise.specs.Advising.{advice_on, best_of};
 
-use crate::subjects::Subject;
-use ih_fill::{Candidate, Scorer, cheaper, cheapest_nurse, cheapest_stay};
+use ih_fill::{Candidate, Choice, Scorer, cheaper, cheapest_nurse, cheapest_stay};
 use ih_plan::Write;
 use ih_tables::{Bill, Instance, RoomNo, Shift};
 
@@ -18,10 +18,10 @@ pub struct Advice {
 }
 
 // The best nurse of a room in a shift, or none: the first on a tie.
-fn best_nurse(inst: &Instance, scorer: &Scorer<'_>, k: Shift, r: RoomNo) -> Candidate
+fn best_nurse(inst: &Instance, scorer: &Scorer<'_>, r: RoomNo, k: Shift) -> Candidate
     requires instance { scorer.now.instance ≡ inst.now.draft }
-    requires inside { IsChoice inst.now.draft (Subject.NurseOf k r) }
-    ensures best { result ≡ best_of inst.now.draft scorer.now.hard scorer.now.plan (Subject.NurseOf k r) }
+    requires inside { IsChoiceOf inst.now.draft (Choice.Nurse r k) }
+    ensures best { result ≡ best_of inst.now.draft scorer.now.hard scorer.now.plan (Choice.Nurse r k) }
     ensures fits { IsWriteOf inst.now.draft result.write }
 {
     let none = scorer.no_nurse(r, k);
@@ -32,30 +32,30 @@ fn best_nurse(inst: &Instance, scorer: &Scorer<'_>, k: Shift, r: RoomNo) -> Cand
 }
 
 // The best write of a choice: the first on a tie.
-fn best(inst: &Instance, scorer: &Scorer<'_>, subject: Subject) -> Candidate
+fn best(inst: &Instance, scorer: &Scorer<'_>, choice: Choice) -> Candidate
     requires instance { scorer.now.instance ≡ inst.now.draft }
     requires counts { scorer.now.counts_uncovered ≡ true }
-    requires inside { IsChoice inst.now.draft subject }
-    ensures best { result ≡ best_of inst.now.draft scorer.now.hard scorer.now.plan subject }
+    requires inside { IsChoiceOf inst.now.draft choice }
+    ensures best { result ≡ best_of inst.now.draft scorer.now.hard scorer.now.plan choice }
     ensures fits { IsWriteOf inst.now.draft result.write }
 {
-    match subject {
-        Subject::StayOf(p) => {
+    match choice {
+        Choice::Stay(p) => {
             let out = scorer.left_out(p);
             cheapest_stay(inst, scorer, p, inst.patient(p), out)
         }
-        Subject::NurseOf(k, r) => best_nurse(inst, scorer, k, r),
+        Choice::Nurse(r, k) => best_nurse(inst, scorer, r, k),
     }
 }
 
 /// What is advised on a choice: its best write, where that lowers the score.
-pub(crate) fn advice_on(inst: &Instance, scorer: &Scorer<'_>, subject: Subject) -> Option<Advice>
+pub(crate) fn advice_on(inst: &Instance, scorer: &Scorer<'_>, choice: Choice) -> Option<Advice>
     requires instance { scorer.now.instance ≡ inst.now.draft }
     requires counts { scorer.now.counts_uncovered ≡ true }
-    requires inside { IsChoice inst.now.draft subject }
-    ensures { result ≡ advice_on inst.now.draft scorer.now.hard scorer.now.plan subject }
+    requires inside { IsChoiceOf inst.now.draft choice }
+    ensures { result ≡ advice_on inst.now.draft scorer.now.hard scorer.now.plan choice }
 {
-    let best = best(inst, scorer, subject);
+    let best = best(inst, scorer, choice);
     if best.value < 0 {
         Some(Advice {
             write: best.write,

@@ -12,10 +12,8 @@ use Rattle.ih_plan.specs.Timetable.{IsPlacement}
 use Rattle.ih_plan.specs.Writes.{IsWriteOf}
 use Rattle.std.specs.Prelude.{ℤ, int_lt, if◌then◌else◌, Option, Some, None}
 use Rattle.ih_plan.specs.declared.moves.Write.{Write}
-use Rattle.ih_plan.specs.Timetable.{Timetable}
-use Rattle.ih_fill.specs.Fill.{cheapest, cheapest_of}
 use Rattle.ih_fill.specs.declared.candidates.Candidate.{Candidate}
-use Rattle.ih_fill.specs.Candidates.{valued, least_of, put_candidate}
+use Rattle.ih_fill.specs.Candidates.{cheapest, valued, least_of}
 
 -- the cheaper of two candidates, the first on a tie
 abbrev pub cheaper : Candidate → Candidate → Candidate
@@ -30,13 +28,13 @@ cheapest-append v w (x ∷ xs) ys = by_case (int_lt (v x) (v w)) (cheapest-appen
     by_case true e f = e
     by_case false e f = f
 
-chosen : (v : Write → ℤ) (w x : Write) (b : Bool) → (if b then valued v x else valued v w) ≡ valued v (if b then x else w)
-chosen v w x true = refl
-chosen v w x false = refl
+valued-if : (v : Write → ℤ) (w x : Write) (b : Bool) → (if b then valued v x else valued v w) ≡ valued v (if b then x else w)
+valued-if v w x true = refl
+valued-if v w x false = refl
 
 -- A candidate that is cheaper than the least so far is the least.
 pub cheaper-more : (v : Write → ℤ) (w x : Write) (xs : List Write) → cheaper (valued v (cheapest v w xs)) (valued v x) ≡ valued v (cheapest v w (xs ++ x ∷ []))
-cheaper-more v w x xs = chosen v (cheapest v w xs) x (int_lt (v x) (v (cheapest v w xs))) ∙ ap (valued v) (sym (cheapest-append v w xs (x ∷ [])))
+cheaper-more v w x xs = valued-if v (cheapest v w xs) x (int_lt (v x) (v (cheapest v w xs))) ∙ ap (valued v) (sym (cheapest-append v w xs (x ∷ [])))
 
 -- of no candidate yet, the next one is the least
 abbrev pub least_with : Option Candidate → Candidate → Candidate
@@ -50,10 +48,6 @@ least-more v x (w ∷ xs) = ap Some (cheaper-more v w x xs)
 pub next-of : (v : Write → ℤ) (xs : List Write) (x : Write) (best : Option Candidate) (candidate : Candidate)
     → best ≡ least_of v xs → candidate ≡ valued v x → Some (least_with best candidate) ≡ least_of v (xs ++ x ∷ [])
 next-of v xs x best candidate e f = ap (λ o. Some (least_with o candidate)) e ∙ (ap (λ c. Some (least_with (least_of v xs) c)) f ∙ least-more v x xs)
-
-pub put-least : (v : Write → ℤ) (ws : List Write) (P : Timetable) → cheapest_of v ws P ≡ put_candidate (least_of v ws) P
-put-least v [] P = refl
-put-least v (w ∷ ws) P = refl
 
 -- Whatever holds of both holds of the cheaper.
 pub cheaper-either : (Q : Write → Type 0) (a b : Candidate) → Q a.write → Q b.write → Q (cheaper a b).write

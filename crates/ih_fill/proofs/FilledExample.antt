@@ -3,7 +3,7 @@ use Rattle.std.proofs.Common.{◌≡◌, refl, Some, None, [], ◌∷◌, pos, n
 use Rattle.ih_tables.specs.Bills.{cost}
 use Rattle.ih_plan.specs.Timetable.{empty, Timetable}
 use Rattle.ih_plan.specs.BillOf.{bill_of}
-use Rattle.ih_fill.specs.Fill.{fill, with_stay, with_care, write_score, without_uncovered}
+use Rattle.ih_fill.specs.Fill.{fill, with_choice, write_score, without_uncovered}
 use Rattle.ih_plan.specs.declared.moves.Placement.{Placement}
 use Rattle.ih_plan.specs.declared.moves.Write.TheVariants.{SetStay}
 use Rattle.ih_plan.proofs.ExampleWards.{two_patients, at, bill9, weights}
@@ -31,7 +31,7 @@ unfolding plan_on_literals
 second_patient_value = refl
 
 pub example_filled : fill two_patients 1000 (empty two_patients) ≡ filled
-unfolding plan_on_literals fill with_stay with_care
+unfolding plan_on_literals fill with_choice
 example_filled = refl
 
 pub filled_bill : bill_of two_patients filled ≡ bill9 0 0 0 0 0 0 0 0 0 0 0 4 0 2 0 1 0

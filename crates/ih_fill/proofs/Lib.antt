@@ -1,6 +1,8 @@
 pub mod CandidateLemmas
+pub mod ChoiceLaws
 pub mod CrossedStays
 pub mod FilledExample
+pub mod FirstLeast
 pub mod ListLemmas
 pub mod PassLemmas
 pub mod ScoreLemmas

@@ -1,34 +1,31 @@
 -- Candidates in their order: by day, then room, then theatre.
-use Rattle.std.proofs.Common.{◌≡◌, ℕ, ◌+◌, refl, sym, ◌∙◌, ap, arith, Bool, true, false, List, [], ◌∷◌, ◌++◌, map}
-use Rattle.std.specs.Prelude.{not, filter, flat_map, cond, Some, ◌==◌, slice_get, if◌then◌else◌}
-use Rattle.std.specs.List.{range_with_len, list_any}
+use Rattle.std.proofs.Common.{◌≡◌, ℕ, zero, suc, ◌+◌, ◌<◌, refl, sym, ◌∙◌, ap, arith, inl, inr, Bool, true, false, List, [], ◌∷◌, ◌++◌, length, map, append_assoc}
+use Rattle.std.specs.Prelude.{filter, flat_map, cond, Some, None, ◌⊎◌, slice_get, if◌then◌else◌}
+use Rattle.std.specs.List.{range_with_len}
 use Rattle.std.proofs.lemmas.Grind.{flat_map-append}
 use Rattle.std.proofs.lemmas.List.{map-append, append-nil, map-id}
 use Rattle.std.proofs.lemmas.List.Elements.{filter-append}
-use Rattle.std.proofs.lemmas.List.FromFn.{map-range_with_len_more}
+use Rattle.std.proofs.lemmas.List.FromFn.{length-map-range_with_len, map-range_with_len_more}
+use Rattle.std.proofs.lemmas.Option.{slice_get_within}
 use Rattle.ih_tables.specs.declared.drafts.Draft.{Draft}
 use Rattle.ih_tables.specs.declared.drafts.Patient.{Patient}
-use Rattle.ih_tables.specs.declared.ids.RoomNo.{RoomNo}
 use Rattle.ih_tables.specs.declared.ids.PatientNo.{PatientNo}
-use Rattle.ih_tables.specs.Sizes.{room_count, theatre_count}
-use Rattle.ih_plan.specs.declared.moves.Placement.{Placement}
+use Rattle.ih_tables.specs.Sizes.{room_count}
 use Rattle.ih_plan.specs.declared.moves.Write.{Write}
-use Rattle.ih_plan.specs.declared.moves.Write.TheVariants.{SetStay}
 use Rattle.ih_plan.specs.Sums.{which_below}
 use Rattle.ih_plan.proofs.SumLemmas.{which_below-more}
 use Rattle.ih_plan.specs.Draws.{window_len}
-use Rattle.ih_fill.specs.Fill.{stay_writes, placements}
-use Rattle.ih_fill.specs.Candidates.{stays_in, stays_on, rooms_for, placed}
+use Rattle.ih_fill.specs.Candidates.{stay_writes, stays_on, rooms_for, suits}
 
 pub range-more : (a n j : ℕ) → a + n ≡ j → range_with_len a (n + 1) ≡ range_with_len a n ++ j ∷ []
 range-more a n j e = sym (map-id (range_with_len a (n + 1))) ∙ (map-range_with_len_more (λ (i : ℕ). i) a n j e ∙ ap (λ (xs : List ℕ). xs ++ j ∷ []) (map-id (range_with_len a n)))
 
--- whether room r suits a patient
-abbrev pub suits : Patient → ℕ → Bool
-suits a r = not (list_any (λ (q : RoomNo). q.0 == r) a.incompatible_room_ids)
-
 pub rooms-more : (a : Patient) (r : ℕ) → rooms_for a (r + 1) ≡ rooms_for a r ++ cond (suits a r) (r ∷ []) []
 rooms-more a r = ap (filter (suits a)) (range-more 0 r r (omega arith)) ∙ filter-append (suits a) (range_with_len 0 r) (r ∷ [])
+
+-- a list behind another, with one more
+pub listed-more : {A : Type 0} (xs : List A) (f : ℕ → A) (n : ℕ) → (xs ++ map f (range_with_len 0 n)) ++ f n ∷ [] ≡ xs ++ map f (range_with_len 0 (n + 1))
+listed-more xs f n = append_assoc xs (map f (range_with_len 0 n)) (f n ∷ []) ∙ ap (λ ys. xs ++ ys) (sym (map-range_with_len_more f 0 n n (omega arith)))
 
 -- the stays on a day, with one room more
 pub on-more : (f : ℕ → List Write) (a : Patient) (r : ℕ) → suits a r ≡ true → flat_map f (rooms_for a (r + 1)) ≡ flat_map f (rooms_for a r) ++ f r
@@ -49,40 +46,37 @@ which-same f n q e = ap (map f) (which_below-more n q ∙ ap (λ (b : Bool). if 
 pub flat-more : {A : Type 0} (f : ℕ → List A) (a n j : ℕ) → a + n ≡ j → flat_map f (range_with_len a (n + 1)) ≡ flat_map f (range_with_len a n) ++ f j
 flat-more f a n j e = ap (flat_map f) (range-more a n j e) ∙ (flat_map-append f (range_with_len a n) (j ∷ []) ∙ ap (λ ws. flat_map f (range_with_len a n) ++ ws) (append-nil (f j)))
 
-map-flat_map : {A B : Type 0} (g : A → B) (f : ℕ → List A) (xs : List ℕ) → map g (flat_map f xs) ≡ flat_map (λ x. map g (f x)) xs
-map-flat_map g f [] = refl
-map-flat_map g f (x ∷ xs) = map-append g (f x) (flat_map f xs) ∙ ap (λ ys. map g (f x) ++ ys) (map-flat_map g f xs)
-
-flat-same : {A : Type 0} (f g : ℕ → List A) (xs : List ℕ) → ((x : ℕ) → f x ≡ g x) → flat_map f xs ≡ flat_map g xs
-flat-same f g [] h = refl
-flat-same f g (x ∷ xs) h = ap (λ ys. ys ++ flat_map f xs) (h x) ∙ ap (λ ys. g x ++ ys) (flat-same f g xs h)
-
-map-map : {A B : Type 0} (g : A → B) (f : ℕ → A) (xs : List ℕ) → map g (map f xs) ≡ map (λ x. g (f x)) xs
-map-map g f [] = refl
-map-map g f (x ∷ xs) = ap (λ ys. g (f x) ∷ ys) (map-map g f xs)
-
-abbrev write_of : PatientNo → Placement → Write
-write_of p at = SetStay p (Some at)
-
 -- The stays of a patient are those on each day of the window.
 pub stays-are : (I : Draft) (p : PatientNo) (a : Patient) → slice_get I.patients p.0 ≡ Some a
     → flat_map (λ d. stays_on I p a d (room_count I)) (range_with_len a.surgery_release_day (window_len I a)) ≡ stay_writes I p.0
-stays-are I p a e = sym (whole ∙ days)
-  where
-    rooms : List ℕ
-    rooms = rooms_for a (room_count I)
+stays-are I p a e = rw e refl
 
-    theatres : List ℕ
-    theatres = range_with_len 0 (theatre_count I)
+-- ---- what is where in a list
 
-    on : ℕ → List Placement
-    on d = flat_map (λ r. map (placed d r) theatres) rooms
+pub get-front : {A : Type 0} (xs : List A) (y x : A) (k : ℕ) → slice_get xs k ≡ Some x → slice_get (xs ++ y ∷ []) k ≡ Some x
+get-front [] y x k h = absurd (let no : None ≡ Some x = h in cc)
+get-front (z ∷ xs) y x zero h = h
+get-front (z ∷ xs) y x (suc k) h = get-front xs y x k h
 
-    whole : stay_writes I p.0 ≡ map (write_of p) (placements I a)
-    whole = rw e refl
+pub get-behind : {A : Type 0} (xs : List A) (y x : A) (k : ℕ) → slice_get (xs ++ y ∷ []) k ≡ Some x → (slice_get xs k ≡ Some x) ⊎ ((k ≡ length xs) × (y ≡ x))
+get-behind [] y x zero h = inr (refl, (let e : Some y ≡ Some x = h in cc))
+get-behind [] y x (suc k) h = absurd (let no : None ≡ Some x = h in cc)
+get-behind (z ∷ xs) y x zero h = inl h
+get-behind (z ∷ xs) y x (suc k) h = elim (get-behind xs y x k h) [
+  | inl there ↦ inl there
+  | inr end ↦ let last = end.0 in inr (omega arith, end.1)
+]
 
-    days : map (write_of p) (placements I a) ≡ flat_map (λ d. stays_on I p a d (room_count I)) (range_with_len a.surgery_release_day (window_len I a))
-    days = map-flat_map (write_of p) on (range_with_len a.surgery_release_day (window_len I a))
-        ∙ flat-same (λ d. map (write_of p) (on d)) (λ d. stays_on I p a d (room_count I)) (range_with_len a.surgery_release_day (window_len I a)) (λ d.
-        map-flat_map (write_of p) (λ r. map (placed d r) theatres) rooms
-        ∙ flat-same (λ r. map (write_of p) (map (placed d r) theatres)) (λ r. stays_in p d r (theatre_count I)) rooms (λ r. map-map (write_of p) (placed d r) theatres))
+pub get-listed : {A : Type 0} (f : ℕ → A) (a n k j : ℕ) → k < n → a + k ≡ j → slice_get (map f (range_with_len a n)) k ≡ Some (f j)
+get-listed f a zero k j h e = absurd (omega arith)
+get-listed f a (suc n) zero j h e = let same : a ≡ j = omega arith in ap (λ i. Some (f i)) same
+get-listed f a (suc n) (suc k) j h e = get-listed f (a + 1) n k j (omega arith) (omega arith)
+
+-- what is listed at a place is that of its number
+pub listed-is : {A : Type 0} (f : ℕ → A) (n k : ℕ) (x : A) → slice_get (map f (range_with_len 0 n)) k ≡ Some x → (k < n) × (f k ≡ x)
+listed-is f n k x h =
+    let inside = slice_get_within (map f (range_with_len 0 n)) k x h in
+    let len : length (map f (range_with_len 0 n)) ≡ n = length-map-range_with_len f 0 n in
+    let below : k < n = omega (arith, inside, len) in
+    let both : Some (f k) ≡ Some x = sym (get-listed f 0 n k k below (omega arith)) ∙ h in
+    (below, cc)

@@ -1,88 +1,66 @@
--- Passes over one more patient, or one more room.
-use Rattle.std.proofs.Common.{◌≡◌, ℕ, ◌+◌, refl, sym, ◌∙◌, ap, arith, true, false, Bool, List, [], ◌∷◌, ◌++◌}
-use Rattle.std.specs.Prelude.{if◌then◌else◌, ◌&&◌, not, is_none, flat_map, Option, None}
+-- A fill, choice by choice.
+use Rattle.std.proofs.Common.{◌≡◌, ℕ, ◌+◌, ◌<◌, ◌≤◌, refl, sym, ◌∙◌, ap, true, false, Bool, List, [], ◌∷◌, ◌++◌, length, take}
+use Rattle.std.specs.Prelude.{if◌then◌else◌, Option, slice_index_or}
+use Rattle.std.proofs.lemmas.List.{take_all, take_more}
 use Rattle.ih_tables.specs.declared.drafts.Draft.{Draft}
-use Rattle.ih_tables.specs.declared.ids.PatientNo.{PatientNo}
-use Rattle.ih_plan.specs.declared.moves.Write.TheVariants.{SetStay}
-use Rattle.ih_plan.specs.Timetable.{Timetable, care_of}
-use Rattle.ih_plan.specs.Writes.{put}
-use Rattle.ih_plan.specs.Presence.{present, day_of}
-use Rattle.ih_plan.specs.Costs.{is_empty}
-use Rattle.ih_fill.specs.Fill.{cheapest, stay_writes, care_writes, with_stay, with_stays, with_care, with_cares, waiting, rooms_by_shift, fill, write_score}
+use Rattle.ih_plan.specs.Timetable.{Timetable}
 use Rattle.ih_fill.specs.declared.candidates.Candidate.{Candidate}
-use Rattle.ih_fill.specs.Scoring.{Scoring, stay_value, care_value, view_of}
-use Rattle.ih_fill.proofs.CandidateLemmas.{put-least}
-use Rattle.ih_plan.specs.Sums.{which_below}
-use Rattle.ih_plan.proofs.SumLemmas.{which_below-more}
-use Rattle.ih_fill.specs.Candidates.{valued, least_of, put_candidate, rooms_in}
-use Rattle.ih_fill.proofs.ListLemmas.{flat-more}
-use Rattle.std.specs.List.{range_with_len}
-use Rattle.std.proofs.lemmas.List.FromFn.{map-range_with_len_more}
+use Rattle.ih_fill.specs.declared.choices.Choice.{Choice}
+use Rattle.ih_fill.specs.declared.choices.Choice.TheVariants.{Nurse, Stay}
+use Rattle.ih_fill.specs.Candidates.{least_of, put_candidate}
+use Rattle.ih_fill.specs.Choices.{candidates}
+use Rattle.ih_fill.specs.Fill.{fill, fill_choices, is_open, view_in, with_choice, with_choices, write_score}
+use Rattle.ih_fill.specs.Scoring.{Scoring, care_value, stay_value, value_in, view_of}
 
-pub stays-append : (I : Draft) (hard : ℕ) (P : Timetable) (ps qs : List ℕ) → with_stays I hard P (ps ++ qs) ≡ with_stays I hard (with_stays I hard P ps) qs
-stays-append I hard P [] qs = refl
-stays-append I hard P (p ∷ ps) qs = stays-append I hard (with_stay I hard P p) ps qs
+-- ---- one choice
 
-pub cares-append : (I : Draft) (hard : ℕ) (P : Timetable) (ks ls : List (ℕ × ℕ)) → with_cares I hard P (ks ++ ls) ≡ with_cares I hard (with_cares I hard P ks) ls
-cares-append I hard P [] ls = refl
-cares-append I hard P (k ∷ ks) ls = cares-append I hard (with_care I hard P k.0 k.1) ks ls
+choice-put : (F : Scoring) (c : Choice) (best : Option Candidate) → F.counts_uncovered ≡ false → best ≡ least_of (value_in F c) (candidates F.instance c)
+    → put_candidate best F.plan ≡ put_candidate (least_of (write_score F.instance F.hard (view_in c) F.plan) (candidates F.instance c)) F.plan
+unfolding stay_value care_value
+choice-put F (Stay p) best covered e =
+    ap (λ b. put_candidate b F.plan) e
+    ∙ ap (λ counts. put_candidate (least_of (write_score F.instance F.hard (view_of counts) F.plan) (candidates F.instance (Stay p))) F.plan) covered
+choice-put F (Nurse r k) best covered e = ap (λ b. put_candidate b F.plan) e
 
--- a patient who waits, and one who doesn't
-pub stays-more : (I : Draft) (hard : ℕ) (P : Timetable) (waits : ℕ → Bool) (p : ℕ) → waits p ≡ true
-    → with_stay I hard (with_stays I hard P (which_below p waits)) p ≡ with_stays I hard P (which_below (p + 1) waits)
-stays-more I hard P waits p e =
-    sym (ap (with_stays I hard P) (which_below-more p waits ∙ ap (λ (b : Bool). if b then which_below p waits ++ p ∷ [] else which_below p waits) e)
-    ∙ stays-append I hard P (which_below p waits) (p ∷ []))
+-- an open one is made by the cheapest candidate
+pub choice-made : (F : Scoring) (c : Choice) (best : Option Candidate) → F.counts_uncovered ≡ false → is_open F.instance F.plan c ≡ true
+    → best ≡ least_of (value_in F c) (candidates F.instance c) → put_candidate best F.plan ≡ with_choice F.instance F.hard F.plan c
+unfolding with_choice
+choice-made F c best covered opened e =
+    choice-put F c best covered e
+    ∙ ap (λ (b : Bool). if b then put_candidate (least_of (write_score F.instance F.hard (view_in c) F.plan) (candidates F.instance c)) F.plan else F.plan) (sym opened)
 
-pub stays-same : (I : Draft) (hard : ℕ) (P : Timetable) (waits : ℕ → Bool) (p : ℕ) → waits p ≡ false
-    → with_stays I hard P (which_below p waits) ≡ with_stays I hard P (which_below (p + 1) waits)
-stays-same I hard P waits p e =
-    sym (ap (with_stays I hard P) (which_below-more p waits ∙ ap (λ (b : Bool). if b then which_below p waits ++ p ∷ [] else which_below p waits) e))
+-- another stays as it is
+pub choice-closed : (F : Scoring) (c : Choice) → is_open F.instance F.plan c ≡ false → F.plan ≡ with_choice F.instance F.hard F.plan c
+unfolding with_choice
+choice-closed F c closed =
+    ap (λ (b : Bool). if b then put_candidate (least_of (write_score F.instance F.hard (view_in c) F.plan) (candidates F.instance c)) F.plan else F.plan) (sym closed)
 
--- one room more in a shift
-pub cares-more : (I : Draft) (hard : ℕ) (P : Timetable) (k r : ℕ) → with_care I hard (with_cares I hard P (rooms_in k r)) k r ≡ with_cares I hard P (rooms_in k (r + 1))
-cares-more I hard P k r =
-    sym (ap (with_cares I hard P) (map-range_with_len_more (λ (r : ℕ). (k, r)) 0 r r (omega arith)) ∙ cares-append I hard P (rooms_in k r) ((k, r) ∷ []))
+-- ---- one choice after the other
 
--- one shift more
-pub shifts-more : (I : Draft) (hard : ℕ) (P : Timetable) (f : ℕ → List (ℕ × ℕ)) (k : ℕ)
-    → with_cares I hard (with_cares I hard P (flat_map f (range_with_len 0 k))) (f k) ≡ with_cares I hard P (flat_map f (range_with_len 0 (k + 1)))
-shifts-more I hard P f k = sym (ap (with_cares I hard P) (flat-more f 0 k k (omega arith)) ∙ cares-append I hard P (flat_map f (range_with_len 0 k)) (f k))
+choices-append : (I : Draft) (hard : ℕ) (P : Timetable) (cs ds : List Choice) → with_choices I hard P (cs ++ ds) ≡ with_choices I hard (with_choices I hard P cs) ds
+choices-append I hard P [] ds = refl
+choices-append I hard P (c ∷ cs) ds = choices-append I hard (with_choice I hard P c) cs ds
 
--- ---- one patient, and one room and shift
+-- the choice at a place is made, after those before it
+pub choices-more : (I : Draft) (F G H : Scoring) (cs : List Choice) (k : ℕ) (d : Choice) → k < length cs
+    → G ≡ record F { plan = with_choices I F.hard F.plan (take k cs) }
+    → H ≡ record G { plan = with_choice I G.hard G.plan (slice_index_or cs k d) }
+    → H ≡ record F { plan = with_choices I F.hard F.plan (take (k + 1) cs) }
+choices-more I F G H cs k d below before made =
+    made
+    ∙ (ap (λ (S : Scoring). record S { plan = with_choice I S.hard S.plan (slice_index_or cs k d) }) before
+    ∙ ap (λ (Q : Timetable). record F { plan = Q })
+    (sym (ap (with_choices I F.hard F.plan) (take_more cs k d below) ∙ choices-append I F.hard F.plan (take k cs) (slice_index_or cs k d ∷ []))))
 
-pub stay-placed : (F : Scoring) (p : PatientNo) (out best : Candidate) → F.counts_uncovered ≡ false → out ≡ valued (stay_value F) (SetStay p None)
-    → best ≡ valued (stay_value F) (cheapest (stay_value F) out.write (stay_writes F.instance p.0)) → put best.write F.plan ≡ with_stay F.instance F.hard F.plan p.0
-unfolding with_stay stay_value
-stay-placed F p out best covered e f =
-    ap (λ (c : Candidate). put c.write F.plan) f
-    ∙ (ap (λ (c : Candidate). put (cheapest (stay_value F) c.write (stay_writes F.instance p.0)) F.plan) e
-    ∙ ap (λ counts. put (cheapest (write_score F.instance F.hard (view_of counts) F.plan) (SetStay p None) (stay_writes F.instance p.0)) F.plan) covered)
+pub choices-all : (I : Draft) (F G : Scoring) (cs : List Choice) (k : ℕ) → length cs ≤ k → G ≡ record F { plan = with_choices I F.hard F.plan (take k cs) }
+    → G ≡ record F { plan = with_choices I F.hard F.plan cs }
+choices-all I F G cs k ended made = made ∙ ap (λ xs. record F { plan = with_choices I F.hard F.plan xs }) (take_all k cs ended)
 
--- the room has persons and no nurse
-abbrev pub needs_nurse : Scoring → ℕ → ℕ → Bool
-needs_nurse F k r = is_none (care_of F.plan r k) && not (is_empty (present F.instance F.plan r (day_of k)))
-
-pub nurse-given : (F : Scoring) (k r : ℕ) (best : Option Candidate) → needs_nurse F k r ≡ true → best ≡ least_of (care_value F) (care_writes F.instance r k)
-    → put_candidate best F.plan ≡ with_care F.instance F.hard F.plan k r
-unfolding with_care care_value
-nurse-given F k r best e f = rw e (ap (λ c. put_candidate c F.plan) f ∙ sym (put-least (care_value F) (care_writes F.instance r k) F.plan))
-
-pub nurse-left : (F : Scoring) (k r : ℕ) → needs_nurse F k r ≡ false → F.plan ≡ with_care F.instance F.hard F.plan k r
-unfolding with_care
-nurse-left F k r e = rw e refl
-
--- ---- the two passes
-
-pub all-passes : (I : Draft) (hard : ℕ) (P : Timetable) (F0 F1 F2 F3 : Scoring) → F0 ≡ record { instance = I; hard = hard; counts_uncovered = false; plan = P }
-    → F1 ≡ record F0 { plan = with_stays I F0.hard F0.plan (waiting I P true) }
-    → F2 ≡ record F1 { plan = with_stays I F1.hard F1.plan (waiting I P false) }
-    → F3 ≡ record F2 { plan = with_cares I F2.hard F2.plan (rooms_by_shift I) }
-    → F3.plan ≡ fill I hard P
+pub fill-made : (I : Draft) (hard : ℕ) (P : Timetable) (F G : Scoring) (cs : List Choice) → F ≡ record { instance = I; hard = hard; counts_uncovered = false; plan = P }
+    → cs ≡ fill_choices I P → G ≡ record F { plan = with_choices I F.hard F.plan cs } → G.plan ≡ fill I hard P
 unfolding fill
-all-passes I hard P F0 F1 F2 F3 start first second third =
-    ap (λ (F : Scoring). F.plan) third
-    ∙ (ap (λ (F : Scoring). with_cares I F.hard F.plan (rooms_by_shift I))
-    (second ∙ ap (λ (F : Scoring). record F { plan = with_stays I F.hard F.plan (waiting I P false) })
-    (first ∙ ap (λ (F : Scoring). record F { plan = with_stays I F.hard F.plan (waiting I P true) }) start))
-    ∙ ap (λ (Q : Timetable). with_cares I hard Q (rooms_by_shift I)) (sym (stays-append I hard P (waiting I P true) (waiting I P false))))
+fill-made I hard P F G cs start all made =
+    ap (λ (S : Scoring). S.plan) made
+    ∙ (ap (λ (S : Scoring). with_choices I S.hard S.plan cs) start
+    ∙ ap (with_choices I hard P) all)

@@ -1,6 +1,6 @@
 -- Scores of four bills, two of which together have the same numbers as the other two.
 use Rattle.std.proofs.Common.{◌≡◌, ℕ, zero, suc, ◌<◌, ◌≤◌, refl, ◌∙◌, ap, arith, List, [], ◌∷◌, ◌++◌, take, inl, inr, Bool, true, false}
-use Rattle.std.specs.Prelude.{ℤ, pos, negsuc, ◌+ℤ◌, ◌-ℤ◌, ◌*ℤ◌, int_lt}
+use Rattle.std.specs.Prelude.{ℤ, pos, negsuc, ◌+ℤ◌, ◌-ℤ◌, ◌*ℤ◌}
 use Rattle.std.proofs.lemmas.Int.{ints}
 use Rattle.std.proofs.lemmas.Bool.{cases_lt}
 use Rattle.std.proofs.Math.IntN.{*ℤ_comm, *ℤ-zero, suc_ℤ-*ℤ, pred_ℤ-*ℤ}
@@ -9,6 +9,7 @@ use Rattle.ih_tables.specs.declared.bills.Weights.{Weights}
 use Rattle.ih_tables.specs.Bills.{at, by_place, signed_sum, sub_bills, score, cost}
 use Rattle.ih_tables.proofs.BillLemmas.{at-by_place}
 use Rattle.ih_fill.specs.Fill.{without_uncovered}
+use Rattle.ih_fill.specs.FirstLeast.{IsBefore}
 use Rattle.ih_fill.specs.Scoring.{view_of}
 
 -- the sums of two pairs are the same
@@ -120,12 +121,7 @@ pub viewed-balanced : (counts : Bool) (a b c d : Bill) → AreBalanced a b c d �
 viewed-balanced true a b c d h = h
 viewed-balanced false a b c d h = covered-balanced a b c d h
 
--- The first is below the third exactly where the fourth is below the second.
-pub order-even : (x y z u : ℤ) → AreEven x y z u → int_lt x z ≡ int_lt u y
-order-even x y z u e = by_case (int_lt x z) refl (int_lt u y) refl
-  where
-    by_case : (a : Bool) → int_lt x z ≡ a → (b : Bool) → int_lt u y ≡ b → a ≡ b
-    by_case true p true q = refl
-    by_case false p false q = refl
-    by_case true p false q = absurd (omega (arith, ints))
-    by_case false p true q = absurd (omega (arith, ints))
+-- two pairs that differ alike are in one order
+pub before-even : (x y z u : ℤ) (p k : ℕ) → AreEven x u y z → IsBefore x p y k → IsBefore z p u k
+before-even x y z u p k e (inl less) = inl (omega (arith, ints))
+before-even x y z u p k e (inr same) = let one = same.0 in inr (omega (arith, ints), same.1)

@@ -1,27 +1,50 @@
 -- The theatre that adds least is the same for every room.
-use Rattle.std.proofs.Common.{◌≡◌, ℕ, zero, suc, ◌+◌, ◌-◌, ◌<◌, refl, sym, ◌∙◌, ap, arith, Bool, true, false, List, [], ◌∷◌, map}
-use Rattle.std.specs.Prelude.{ℤ, ◌<ℤ◌, ◌≤ℤ◌, int_lt, flat_map, if◌then◌else◌}
-use Rattle.std.specs.List.{range_with_len}
-use Rattle.std.proofs.lemmas.Int.{ints}
-use Rattle.std.proofs.lemmas.List.FromFn.{map-range_with_len_more}
+use Rattle.std.proofs.Common.{◌≡◌, ℕ, ◌+◌, ◌<◌, refl, sym, ◌∙◌, ap, subst, arith, List, [], ◌∷◌, ◌++◌, Some}
+use Rattle.std.specs.Prelude.{ℤ, ◌<ℤ◌, ◌≤ℤ◌, flat_map}
+use Rattle.std.proofs.lemmas.List.FromFn.{length-map-range_with_len, map-range_with_len_more}
 use Rattle.ih_tables.specs.declared.drafts.Draft.{Draft}
 use Rattle.ih_tables.specs.declared.drafts.Patient.{Patient}
 use Rattle.ih_tables.specs.declared.ids.PatientNo.{PatientNo}
 use Rattle.ih_tables.specs.Sizes.{patient_count, theatre_count}
 use Rattle.ih_plan.specs.declared.moves.Write.{Write}
+use Rattle.ih_plan.specs.declared.moves.Write.TheVariants.{SetStay}
 use Rattle.ih_plan.specs.Timetable.{IsPlanOf}
-use Rattle.ih_plan.specs.BillOf.{bill_of}
-use Rattle.ih_fill.specs.Fill.{cheapest}
+use Rattle.ih_plan.specs.BillOf.{bill_of, change_of_bill}
 use Rattle.ih_fill.specs.declared.candidates.Candidate.{Candidate}
-use Rattle.ih_fill.specs.Candidates.{valued, stays_in, stays_on, rooms_for, placed}
+use Rattle.ih_fill.specs.Candidates.{cheapest, valued, stays_in, stays_on, rooms_for, placed}
+use Rattle.ih_fill.specs.FirstLeast.{AnyPlace, IsBefore, IsFirstLeast}
 use Rattle.ih_fill.specs.Scoring.{Scoring, stay_value, view_of}
-use Rattle.ih_fill.specs.Theatres.{theatre_value, IsFirstLeast}
-use Rattle.ih_fill.proofs.CandidateLemmas.{cheaper, cheapest-append, cheaper-more}
+use Rattle.ih_fill.specs.Theatres.{theatre_value, IsFirstTheatre}
+use Rattle.ih_fill.proofs.CandidateLemmas.{cheaper, cheaper-more}
 use Rattle.ih_fill.proofs.CrossedStays.{stayed, bills-balanced}
-use Rattle.ih_fill.proofs.ScoreLemmas.{AreEven, changes-balanced, viewed-balanced, scores-even, order-even}
-use Rattle.ih_plan.specs.BillOf.{change_of_bill}
+use Rattle.ih_fill.proofs.FirstLeast.{first-longer, last-first, only-one}
+use Rattle.ih_fill.proofs.ListLemmas.{get-listed, listed-is}
+use Rattle.ih_fill.proofs.ScoreLemmas.{AreEven, before-even, changes-balanced, viewed-balanced, scores-even}
 
--- ---- values
+-- ---- one theatre after the other
+
+module _ (F : Scoring) (p : PatientNo) (d r : ℕ) where
+  abbrev in-theatre : ℕ → Write
+  in-theatre t = SetStay p (Some (placed d r t))
+
+  pub theatre-inside : (n t : ℕ) → IsFirstTheatre F p d r n t → t < n
+  theatre-inside n t first = (listed-is in-theatre n t (in-theatre t) first.there).0
+
+  pub theatre-alone : IsFirstTheatre F p d r 1 0
+  theatre-alone = only-one (stay_value F) (in-theatre 0)
+
+  pub theatre-stays : (n t : ℕ) → theatre_value F p d r t ≤ℤ theatre_value F p d r n → IsFirstTheatre F p d r n t → IsFirstTheatre F p d r (n + 1) t
+  theatre-stays n t most first =
+      subst (λ ws. IsFirstLeast (stay_value F) ws AnyPlace t (in-theatre t)) (sym (map-range_with_len_more in-theatre 0 n n (omega arith)))
+      (first-longer (stay_value F) (stays_in p d r n) (in-theatre n) (in-theatre t) t most first)
+
+  pub theatre-falls : (n t : ℕ) → theatre_value F p d r n <ℤ theatre_value F p d r t → IsFirstTheatre F p d r n t → IsFirstTheatre F p d r (n + 1) n
+  theatre-falls n t less first =
+      subst (λ ws. IsFirstLeast (stay_value F) ws AnyPlace n (in-theatre n)) (sym (map-range_with_len_more in-theatre 0 n n (omega arith)))
+      (subst (λ k. IsFirstLeast (stay_value F) (stays_in p d r n ++ in-theatre n ∷ []) AnyPlace k (in-theatre n)) (length-map-range_with_len in-theatre 0 n)
+      (last-first (stay_value F) (stays_in p d r n) (in-theatre n) (in-theatre t) t less first))
+
+-- ---- one room and the others
 
 module _ (F : Scoring) (p : PatientNo) (plan : IsPlanOf F.instance F.plan) (inside : p.0 < patient_count F.instance) where
   values-even : (d r s t u : ℕ) → AreEven (theatre_value F p d r t) (theatre_value F p d s u) (theatre_value F p d r u) (theatre_value F p d s t)
@@ -35,95 +58,30 @@ module _ (F : Scoring) (p : PatientNo) (plan : IsPlanOf F.instance F.plan) (insi
       (viewed-balanced F.counts_uncovered (change r t) (change s u) (change r u) (change s t)
       (changes-balanced (bill r t) (bill s u) (bill r u) (bill s t) now (bills-balanced F.instance F.plan p plan inside d r s t u)))
 
-  -- Two theatres compare alike in any two rooms.
-  same-order : (d r s t u : ℕ) → int_lt (theatre_value F p d r t) (theatre_value F p d r u) ≡ int_lt (theatre_value F p d s t) (theatre_value F p d s u)
-  same-order d r s t u = order-even (theatre_value F p d r t) (theatre_value F p d s u) (theatre_value F p d r u) (theatre_value F p d s t) (values-even d r s t u)
-
   -- The first least theatre in one room is so in each room.
-  pub every-room : (d s n t : ℕ) → IsFirstLeast (theatre_value F p d s) n t → (r : ℕ) → IsFirstLeast (theatre_value F p d r) n t
+  pub every-room : (d s n t : ℕ) → IsFirstTheatre F p d s n t → (r : ℕ) → IsFirstTheatre F p d r n t
   every-room d s n t first r = record {
-    inside = first.inside;
-    before = λ u below. same-order d r s t u ∙ first.before u below;
-    least = λ u below. same-order d r s u t ∙ first.least u below;
+    there = get-listed (λ u. SetStay p (Some (placed d r u))) 0 n t t (theatre-inside F p d s n t first) (omega arith);
+    among = tt;
+    first = λ u x any there.
+        let own = listed-is (λ u. SetStay p (Some (placed d r u))) n u x there in
+        let other = get-listed (λ u. SetStay p (Some (placed d s u))) 0 n u u own.0 (omega arith) in
+        subst (λ y. IsBefore (theatre_value F p d r t) t (stay_value F y) u) own.1
+        (before-even (theatre_value F p d s t) (theatre_value F p d s u) (theatre_value F p d r t) (theatre_value F p d r u) t u (values-even d s r t u)
+        (first.first u (SetStay p (Some (placed d s u))) tt other));
   }
 
--- ---- the cheapest of a room's stays
+-- ---- candidates
 
-less : (x y : ℤ) → x <ℤ y → int_lt x y ≡ true
-less x y h = by_case (int_lt x y) refl
-  where
-    by_case : (a : Bool) → int_lt x y ≡ a → a ≡ true
-    by_case true e = refl
-    by_case false e = absurd (omega (arith, ints))
-
-at-least : (x y : ℤ) → y ≤ℤ x → int_lt x y ≡ false
-at-least x y h = by_case (int_lt x y) refl
-  where
-    by_case : (a : Bool) → int_lt x y ≡ a → a ≡ false
-    by_case true e = absurd (omega (arith, ints))
-    by_case false e = refl
-
-module _ (v : Write → ℤ) where
-  -- a candidate before a cheaper one counts for nothing
-  skipped : (c a b : Write) → int_lt (v b) (v a) ≡ true → cheapest v (cheapest v c (a ∷ [])) (b ∷ []) ≡ cheapest v c (b ∷ [])
-  skipped c a b e = by_case (int_lt (v a) (v c)) refl
-    where
-      by_case : (t : Bool) → int_lt (v a) (v c) ≡ t → cheapest v (if t then a else c) (b ∷ []) ≡ cheapest v c (b ∷ [])
-      by_case false h = refl
-      by_case true h =
-          let lower : int_lt (v b) (v c) ≡ true = less (v b) (v c) (omega (arith, ints)) in
-          rw (e, lower) refl
-
-  -- and so does one after it that costs as much
-  kept : (c a b : Write) → int_lt (v b) (v a) ≡ false → cheapest v (cheapest v c (a ∷ [])) (b ∷ []) ≡ cheapest v c (a ∷ [])
-  kept c a b e = by_case (int_lt (v a) (v c)) refl
-    where
-      by_case : (t : Bool) → int_lt (v a) (v c) ≡ t → cheapest v (if t then a else c) (b ∷ []) ≡ (if t then a else c)
-      by_case true h = rw e refl
-      by_case false h =
-          let higher : int_lt (v b) (v c) ≡ false = at-least (v b) (v c) (omega (arith, ints)) in
-          rw higher refl
-
-  one-more : (w : Write) (f : ℕ → Write) (n : ℕ) → cheapest v w (map f (range_with_len 0 (n + 1))) ≡ cheapest v (cheapest v w (map f (range_with_len 0 n))) (f n ∷ [])
-  one-more w f n = ap (cheapest v w) (map-range_with_len_more f 0 n n (omega arith)) ∙ cheapest-append v w (map f (range_with_len 0 n)) (f n ∷ [])
-
-  before-first : (w : Write) (f : ℕ → Write) (i m : ℕ) → ((j : ℕ) → j < m → int_lt (v (f i)) (v (f j)) ≡ true)
-      → cheapest v (cheapest v w (map f (range_with_len 0 m))) (f i ∷ []) ≡ cheapest v w (f i ∷ [])
-  before-first w f i zero h = refl
-  before-first w f i (suc m) h =
-      let step = one-more w f m in
-      let one : m + 1 ≡ suc m = omega arith in
-      ap (λ c. cheapest v c (f i ∷ [])) (rw one at step)
-      ∙ (skipped (cheapest v w (map f (range_with_len 0 m))) (f m) (f i) (h m (omega arith))
-      ∙ before-first w f i m (λ j below. h j (omega arith)))
-
-  after-first : (w : Write) (f : ℕ → Write) (i k : ℕ) → ((j : ℕ) → j < i → int_lt (v (f i)) (v (f j)) ≡ true) → ((j : ℕ) → j < i + 1 + k → int_lt (v (f j)) (v (f i)) ≡ false)
-      → cheapest v w (map f (range_with_len 0 (i + 1 + k))) ≡ cheapest v w (f i ∷ [])
-  after-first w f i zero h g =
-      let none : i + 1 + 0 ≡ i + 1 = omega arith in
-      ap (λ n. cheapest v w (map f (range_with_len 0 n))) none ∙ (one-more w f i ∙ before-first w f i i h)
-  after-first w f i (suc k) h g =
-      let one : i + 1 + suc k ≡ i + 1 + k + 1 = omega arith in
-      ap (λ n. cheapest v w (map f (range_with_len 0 n))) one
-      ∙ (one-more w f (i + 1 + k)
-      ∙ (ap (λ c. cheapest v c (f (i + 1 + k) ∷ [])) (after-first w f i k h (λ j below. g j (omega arith)))
-      ∙ kept w (f i) (f (i + 1 + k)) (g (i + 1 + k) (omega arith))))
-
-  pub only-first : (w : Write) (f : ℕ → Write) (n i : ℕ) → IsFirstLeast (λ j. v (f j)) n i → cheapest v w (map f (range_with_len 0 n)) ≡ cheapest v w (f i ∷ [])
-  only-first w f n i first =
-      let inside = first.inside in
-      let all : i + 1 + (n - i - 1) ≡ n = omega (arith, inside) in
-      ap (λ m. cheapest v w (map f (range_with_len 0 m))) (sym all)
-      ∙ after-first w f i (n - i - 1) first.before (λ j below. first.least j (omega (arith, inside)))
-
-  pub cheaper-one : (w x : Write) (first second result : Candidate) → first ≡ valued v w → second ≡ valued v x → result ≡ cheaper first second → result ≡ valued v (cheapest v first.write (x ∷ []))
-  cheaper-one w x first second result a b e =
-      e ∙ (ap (λ c. cheaper c second) a ∙ (ap (cheaper (valued v w)) b ∙ (cheaper-more v w x [] ∙ ap (λ (c : Candidate). valued v (cheapest v c.write (x ∷ []))) (sym a))))
+pub cheaper-one : (v : Write → ℤ) (w x : Write) (first second result : Candidate) → first ≡ valued v w → second ≡ valued v x → result ≡ cheaper first second
+    → result ≡ valued v (cheapest v first.write (x ∷ []))
+cheaper-one v w x first second result a b e =
+    e ∙ (ap (λ c. cheaper c second) a ∙ (ap (cheaper (valued v w)) b ∙ (cheaper-more v w x [] ∙ ap (λ (c : Candidate). valued v (cheapest v c.write (x ∷ []))) (sym a))))
 
 -- Without theatres there are no stays.
 pub no-stays : (I : Draft) (p : PatientNo) (a : Patient) (d n : ℕ) → theatre_count I ≡ 0 → stays_on I p a d n ≡ []
-no-stays I p a d n e = ap (λ k. flat_map (λ r. stays_in p d r k) (rooms_for a n)) e ∙ nothing (rooms_for a n)
+no-stays I p a d n e = ap (λ k. flat_map (λ r. stays_in p d r k) (rooms_for a n)) e ∙ rooms-empty (rooms_for a n)
   where
-    nothing : (rs : List ℕ) → flat_map (λ r. stays_in p d r 0) rs ≡ []
-    nothing [] = refl
-    nothing (r ∷ rs) = nothing rs
+    rooms-empty : (rs : List ℕ) → flat_map (λ r. stays_in p d r 0) rs ≡ []
+    rooms-empty [] = refl
+    rooms-empty (r ∷ rs) = rooms-empty rs

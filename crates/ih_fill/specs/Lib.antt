@@ -1,4 +1,7 @@
-pub mod Fill
 pub mod Candidates
+pub mod Choices
+pub mod Fill
+pub mod FirstLeast
+pub mod Laws
 pub mod Scoring
 pub mod Theatres

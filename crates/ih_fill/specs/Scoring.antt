@@ -4,6 +4,8 @@ use Rattle.ih_tables.specs.declared.drafts.Draft.{Draft}
 use Rattle.ih_tables.specs.declared.bills.Bill.{Bill}
 use Rattle.ih_plan.specs.declared.moves.Write.{Write}
 use Rattle.ih_plan.specs.Timetable.{Timetable}
+use Rattle.ih_fill.specs.declared.choices.Choice.{Choice}
+use Rattle.ih_fill.specs.declared.choices.Choice.TheVariants.{Nurse, Stay}
 use Rattle.ih_fill.specs.Fill.{write_score, without_uncovered}
 use Rattle.ih_costs.specs.Standing.{Standing}
 
@@ -27,6 +29,11 @@ stay_value F w = write_score F.instance F.hard (view_of F.counts_uncovered) F.pl
 -- the score of what a nurse changes in the bill
 unfoldable pub care_value : Scoring → Write → ℤ
 care_value F w = write_score F.instance F.hard (λ b. b) F.plan w
+
+-- what a candidate of a choice adds to the score
+abbrev pub value_in : Scoring → Choice → Write → ℤ
+value_in F (Stay p) = stay_value F
+value_in F (Nurse r k) = care_value F
 
 -- The ledgers are the instance's, and the weight is in its limits.
 pub record IsScoring (I : Draft) (hard : ℕ) (ledgers : Standing) : Type 0 where

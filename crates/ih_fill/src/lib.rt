@@ -1,15 +1,21 @@
-//! The greedy first timetable: patients, then nurses, each by the least change of the bill. What finds the least
-//! candidate of one choice serves others too.
+//! The greedy first timetable: patients, then nurses, each by the least change of the bill. The choices of a timetable,
+//! and what finds the cheapest candidate of one, serve others too.
 #![tactic(auto)]
 
 mod candidates;
+mod choices;
 mod filling;
+mod laws;
+mod making;
 mod nurses;
 mod patients;
 mod scoring;
 
 pub use candidates::{Candidate, cheaper};
+pub use choices::{Choice, all_choices, fill_choices};
 pub use filling::fill;
-pub use nurses::{cheapest_nurse, cover, is_uncovered};
-pub use patients::{cheapest_stay, is_waiting, place, suits};
+pub use laws::choices_are_first_least;
+pub use making::{is_open, make};
+pub use nurses::cheapest_nurse;
+pub use patients::{cheapest_stay, suits};
 pub use scoring::Scorer;

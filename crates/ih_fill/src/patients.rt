@@ -1,23 +1,20 @@
-//! The first pass: each waiting patient gets the cheapest stay, or none.
+//! The cheapest of the stays that a patient may get.
 
-ghost use Rattle.std.specs.Prelude.{◌≡◌, ◌<◌, ◌==◌, ℕ, not, false, Some, IfSome, IfNone, slice_get};
-ghost use Rattle.std.specs.List.{list_any};
+ghost use Rattle.std.specs.Prelude.{◌≡◌, ◌<◌, ℕ, Some, IfSome, IfNone, slice_get};
 ghost use Rattle.ih_tables.specs.Sizes.{patient_count, room_count, theatre_count};
-ghost use Rattle.ih_tables.specs.declared.ids.RoomNo.{RoomNo};
-ghost use Rattle.ih_plan.specs.{Timetable.IsPlanOf, Writes.IsWriteOf};
-ghost use Rattle.ih_fill.specs.Fill.{cheapest, stay_writes, with_stay, with_stays, waiting};
-ghost use Rattle.ih_fill.specs.{Candidates.valued, Candidates.stays_on, Fill.is_waiting, Scoring.stay_value};
-ghost use Rattle.ih_fill.specs.{Theatres.theatre_value, Theatres.IsFirstLeast};
+ghost use Rattle.ih_plan.specs.Writes.{IsWriteOf};
+ghost use Rattle.ih_fill.specs.Candidates.{cheapest, stay_writes, stays_on, suits, valued};
+ghost use Rattle.ih_fill.specs.{Scoring.stay_value, Theatres.theatre_value, Theatres.IsFirstTheatre};
 
 use crate::candidates::{Candidate, cheaper};
 use crate::scoring::Scorer;
 use ih_moves::window_len;
-use ih_plan::{Placement, Plan};
+use ih_plan::Placement;
 use ih_tables::{Day, Instance, Patient, PatientNo, RoomNo, TheatreNo};
 
 /// Whether the patient may be in the room.
 pub fn suits(patient: &Patient, room: RoomNo) -> bool
-    ensures { result ≡ not (list_any (λ (q : RoomNo). q.0 == room.0) patient.now.incompatible_room_ids) }
+    ensures { result ≡ suits patient.now room.0 }
 {
     for q in patient.incompatible_room_ids.as_slice() {
         if q.0 == room.0 {
@@ -28,7 +25,7 @@ pub fn suits(patient: &Patient, room: RoomNo) -> bool
 }
 
 // What a stay in the first room from a day on adds to the score, with surgery in a theatre.
-fn stay_value(scorer: &Scorer<'_>, p: PatientNo, day: Day, theatre: u32) -> i64
+fn theatre_value(scorer: &Scorer<'_>, p: PatientNo, day: Day, theatre: u32) -> i64
     requires patient { p.0 < patient_count scorer.now.instance }
     requires day { day.0 < scorer.now.instance.days }
     requires room { 0 < room_count scorer.now.instance }
@@ -55,7 +52,7 @@ fn cheapest_theatre(
     requires patient { p.0 < patient_count inst.now.draft }
     requires day { day.0 < inst.now.draft.days }
     ensures least { IfSome result
-        (λ t. (r : ℕ) → IsFirstLeast (theatre_value scorer.now p day.0 r) (theatre_count inst.now.draft) t.0) }
+        (λ t. (r : ℕ) → IsFirstTheatre scorer.now p day.0 r (theatre_count inst.now.draft) t.0) }
     ensures none { IfNone result (theatre_count inst.now.draft ≡ 0) }
 {
     // For the proof alone.
@@ -64,9 +61,9 @@ fn cheapest_theatre(
         return None;
     }
     let mut best = 0;
-    let mut least = stay_value(scorer, p, day, 0);
+    let mut least = theatre_value(scorer, p, day, 0);
     for t in 1..inst.theatres() {
-        let value = stay_value(scorer, p, day, t);
+        let value = theatre_value(scorer, p, day, t);
         if value < least {
             best = t;
             least = value;
@@ -132,43 +129,4 @@ pub fn cheapest_stay(
         best = cheapest_on_day(inst, scorer, p, patient, day, best);
     }
     best
-}
-
-/// Gives the patient the cheapest stay, where one costs less than none.
-pub fn place(inst: &Instance, scorer: &mut Scorer<'_>, p: PatientNo)
-    requires instance { scorer.old.instance ≡ inst.now.draft }
-    requires counts { scorer.old.counts_uncovered ≡ false }
-    requires patient { p.0 < patient_count inst.now.draft }
-    ensures { scorer.new ≡ record scorer.old { plan = with_stay inst.now.draft scorer.old.hard scorer.old.plan p.0 } }
-{
-    let out = scorer.left_out(p);
-    let best = cheapest_stay(inst, scorer, p, inst.patient(p), out);
-    scorer.put(&best.write);
-}
-
-/// Whether the patient isn't admitted in the timetable, and is of the mandatory or of the optional ones.
-pub fn is_waiting(inst: &Instance, plan: &Plan, p: PatientNo, mandatory: bool) -> bool
-    requires plan { IsPlanOf inst.now.draft plan.now }
-    requires patient { p.0 < patient_count inst.now.draft }
-    ensures { result ≡ is_waiting inst.now.draft plan.now mandatory p.0 }
-{
-    plan.stay(p).is_none() && inst.patient(p).mandatory == mandatory
-}
-
-/// Admits, in their order, the mandatory or the optional patients who aren't admitted in a timetable.
-pub fn place_all(inst: &Instance, scorer: &mut Scorer<'_>, plan: &Plan, mandatory: bool)
-    requires instance { scorer.old.instance ≡ inst.now.draft }
-    requires counts { scorer.old.counts_uncovered ≡ false }
-    requires plan { IsPlanOf inst.now.draft plan.now }
-    ensures { scorer.new ≡ record scorer.old {
-      plan = with_stays inst.now.draft scorer.old.hard scorer.old.plan
-          (waiting inst.now.draft plan.now mandatory);
-    } }
-{
-    for p in 0..inst.patients() {
-        let p = PatientNo(p);
-        if is_waiting(inst, plan, p, mandatory) {
-            place(inst, scorer, p);
-        }
-    }
 }

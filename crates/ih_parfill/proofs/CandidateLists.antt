@@ -1,15 +1,10 @@
 -- Candidates that lie behind a worker, and the next ones.
-use Rattle.std.proofs.Common.{◌≡◌, ℕ, ◌+◌, ◌∙◌, sym, ap, arith, true, false, List, [], ◌∷◌, ◌++◌, map, append_assoc}
+use Rattle.std.proofs.Common.{◌≡◌, ℕ, ◌+◌, ◌∙◌, sym, ap, true, false, List, ◌++◌, append_assoc}
 use Rattle.std.specs.Prelude.{flat_map}
-use Rattle.std.specs.List.{range_with_len}
-use Rattle.std.proofs.lemmas.List.FromFn.{map-range_with_len_more}
 use Rattle.ih_tables.specs.declared.drafts.Patient.{Patient}
 use Rattle.ih_plan.specs.declared.moves.Write.{Write}
-use Rattle.ih_fill.specs.Candidates.{rooms_for}
-use Rattle.ih_fill.proofs.ListLemmas.{suits, on-more, on-same}
-
-pub one-more : (ws : List Write) (f : ℕ → Write) (n : ℕ) → (ws ++ map f (range_with_len 0 n)) ++ f n ∷ [] ≡ ws ++ map f (range_with_len 0 (n + 1))
-one-more ws f n = append_assoc ws (map f (range_with_len 0 n)) (f n ∷ []) ∙ ap (λ xs. ws ++ xs) (sym (map-range_with_len_more f 0 n n (omega arith)))
+use Rattle.ih_fill.specs.Candidates.{rooms_for, suits}
+use Rattle.ih_fill.proofs.ListLemmas.{on-more, on-same}
 
 pub room-more : (ws : List Write) (f : ℕ → List Write) (a : Patient) (r : ℕ) → suits a r ≡ true
     → (ws ++ flat_map f (rooms_for a r)) ++ f r ≡ ws ++ flat_map f (rooms_for a (r + 1))

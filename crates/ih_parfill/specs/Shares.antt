@@ -1,21 +1,17 @@
 -- The first least of candidates, by shares.
-use Rattle.std.specs.Prelude.{◌≡◌, ℕ, ◌<◌, ◌≤◌, ◌%◌, ◌⊎◌, ◌<ℤ◌, ℤ, List, length, Option, Some, None, IfSome, slice_get, slice_index_or}
+use Rattle.std.specs.Prelude.{◌≡◌, ℕ, ◌<◌, ◌%◌, ◌⊎◌, ℤ, List, length, Option, Some, None, IfSome, slice_get, slice_index_or}
 use Rattle.ih_tables.specs.declared.drafts.Draft.{Draft}
 use Rattle.ih_plan.specs.declared.moves.Write.{Write}
 use Rattle.ih_plan.specs.Writes.{IsWriteOf}
 use Rattle.ih_fill.specs.Candidates.{valued}
-use Rattle.ih_parfill.specs.declared.shares.Found.{Found}
-use Rattle.ih_parfill.specs.declared.shares.Share.{Share}
+use Rattle.ih_fill.specs.FirstLeast.{IsBefore, IsFirstLeast}
+use Rattle.ih_parfill.specs.declared.walkers.Found.{Found}
+use Rattle.ih_parfill.specs.declared.walkers.Walker.{Walker}
 
--- a value at a place comes before another: it is less, or as much at no later place
-abbrev pub IsBefore : ℤ → ℕ → ℤ → ℕ → Type 0
-IsBefore x p y k = (x <ℤ y) ⊎ ((x ≡ y) × (p ≤ k))
-
--- it is one of the candidates, and comes before each that has a place of these
+-- it is the first least of the candidates at these places, with its value
 pub record IsFirstOf (v : Write → ℤ) (ws : List Write) (places : ℕ → Type 0) (f : Found) : Type 0 where
-  pub there : slice_get ws f.place ≡ Some f.candidate.write
+  pub first : IsFirstLeast v ws places f.place f.candidate.write
   pub value : f.candidate ≡ valued v f.candidate.write
-  pub first : (k : ℕ) (x : Write) → places k → slice_get ws k ≡ Some x → IsBefore (v f.candidate.write) f.place (v x) k
 
 -- the first least of the candidates at these places, where there are any
 abbrev pub IsLeastOf : (Write → ℤ) → List Write → (ℕ → Type 0) → Option Found → Type 0
@@ -27,7 +23,7 @@ abbrev pub IsShare : ℕ → ℕ → ℕ → Type 0
 IsShare n w k = k % n ≡ w
 
 -- what a worker has found among the candidates that lie behind it
-pub record HasLooked (I : Draft) (v : Write → ℤ) (ws : List Write) (s : Share) : Type 0 where
+pub record HasLooked (I : Draft) (v : Write → ℤ) (ws : List Write) (s : Walker) : Type 0 where
   pub passed : s.passed ≡ length ws
   pub least : IsLeastOf v ws (IsShare s.workers s.worker) s.best
   pub fits : IfSome s.best (λ f. IsWriteOf I f.candidate.write)
@@ -46,6 +42,6 @@ pub record IsOfShare (I : Draft) (v : Write → ℤ) (ws : List Write) (places :
   pub fits : IfSome o (λ f. IsWriteOf I f.candidate.write)
 
 -- each worker has found what is in its share
-pub record AreShares (I : Draft) (v : Write → ℤ) (ws : List Write) (n : ℕ) (shares : List (Option Found)) : Type 0 where
-  pub len : length shares ≡ n
-  pub each : (w : ℕ) (d : Option Found) → w < n → IsOfShare I v ws (IsShare n w) (slice_index_or shares w d)
+pub record HaveFound (I : Draft) (v : Write → ℤ) (ws : List Write) (n : ℕ) (found : List (Option Found)) : Type 0 where
+  pub len : length found ≡ n
+  pub each : (w : ℕ) (d : Option Found) → w < n → IsOfShare I v ws (IsShare n w) (slice_index_or found w d)

@@ -1,212 +1,80 @@
-//! The passes over patients, then over rooms and shifts, choice by choice.
+//! The fill, choice by choice: of the first choices the workers look for the cheapest candidate.
 
-ghost use Rattle.std.specs.Prelude.{◌≡◌, ◌<◌, ◌≤◌, ◌+◌, ◌^◌, false, length, IfOk};
-ghost use Rattle.ih_tables.specs.Sizes.{patient_count, room_count, shift_count};
+ghost use Rattle.std.specs.Prelude.{◌≡◌, ◌<◌, ◌≤◌, false, length, All, IfOk};
 ghost use Rattle.ih_plan.specs.Timetable.{IsPlanOf};
-ghost use Rattle.ih_fill.specs.Fill.{fill, rooms_by_shift, waiting, with_care, with_cares, with_stay, with_stays};
-ghost use Rattle.ih_fill.specs.Candidates.{rooms_in};
+ghost use Rattle.ih_fill.specs.{Choices.IsChoiceOf, Fill.fill, Fill.with_choice, Fill.with_choices};
 
-use crate::joining::{Choice, deal, lowest};
-use crate::shares::Found;
-use ih_fill::{Scorer, fill, is_uncovered, is_waiting};
+use crate::joining::{deal, lowest};
+use crate::walkers::Found;
+use ih_fill::{Choice, Scorer, fill, fill_choices, is_open, make};
 use ih_plan::Plan;
 use ih_shelf::Gate;
-use ih_tables::{Instance, PatientNo, RoomNo, Shift};
+use ih_tables::Instance;
 use std::alloc::{AllocError, Global};
 use std::sync::Wait;
 use std::thread::Threads;
 
 // Only choices with numbers below this are dealt. To start the threads costs more than to price a whole choice, and a
 // share has no short way over rooms and theatres, so the others the caller makes alone.
-const DEALT: u32 = 32;
+const DEALT: usize = 32;
 
-// Gives the patient the cheapest stay, where one costs less than none: the workers look for it, or, past the
-// choices that are dealt, the caller alone.
-fn place<R: Threads + Wait + Sync, G: Gate>(
+// Makes a choice, where it is open: the workers look for the cheapest of its candidates.
+fn make_dealt<R: Threads + Wait + Sync, G: Gate>(
     rt: &R,
     inst: &Instance,
     scorer: &mut Scorer<'_>,
-    p: PatientNo,
-    choice: u32,
-    shares: &mut [Option<Found>],
+    choice: Choice,
+    number: u32,
+    found: &mut [Option<Found>],
     gate: &G,
 )
     requires instance { scorer.old.instance ≡ inst.now.draft }
     requires counts { scorer.old.counts_uncovered ≡ false }
-    requires patient { p.0 < patient_count inst.now.draft }
-    requires some { 0 < length shares.old }
-    requires few { length shares.old ≤ 64 }
+    requires inside { IsChoiceOf inst.now.draft choice }
+    requires some { 0 < length found.old }
+    requires few { length found.old ≤ 64 }
     ensures made { scorer.new
-        ≡ record scorer.old { plan = with_stay inst.now.draft scorer.old.hard scorer.old.plan p.0 } }
-    ensures len { length shares.new ≡ length shares.old }
+        ≡ record scorer.old { plan = with_choice inst.now.draft scorer.old.hard scorer.old.plan choice } }
+    ensures len { length found.new ≡ length found.old }
 {
-    if choice >= DEALT {
-        ih_fill::place(inst, scorer, p);
-        return;
+    if is_open(scorer, choice) {
+        deal(rt, inst, scorer, choice, number, found, gate);
+        if let Some(best) = lowest(found) {
+            scorer.put(&best.candidate.write);
+        }
     }
-    deal(rt, inst, scorer, Choice::Stay(p), choice, shares, gate);
-    let Some(found) = lowest(shares) else {
-        unreachable!()
-    };
-    scorer.put(&found.candidate.write);
 }
 
-// Admits, in their order, the mandatory or the optional patients who aren't admitted in a timetable. It gives the
-// number of the next choice.
-fn place_all<R: Threads + Wait + Sync, G: Gate>(
+// Makes each of the choices in turn: the workers the first ones, the caller the rest.
+fn make_all<R: Threads + Wait + Sync, G: Gate>(
     rt: &R,
     inst: &Instance,
     scorer: &mut Scorer<'_>,
-    plan: &Plan,
-    mandatory: bool,
-    from: u32,
-    shares: &mut [Option<Found>],
+    choices: &[Choice],
+    found: &mut [Option<Found>],
     gate: &G,
-) -> u32
+)
     requires instance { scorer.old.instance ≡ inst.now.draft }
     requires counts { scorer.old.counts_uncovered ≡ false }
-    requires plan { IsPlanOf inst.now.draft plan.now }
-    requires from { from ≤ 2048 }
-    requires some { 0 < length shares.old }
-    requires few { length shares.old ≤ 64 }
-    ensures made { scorer.new
-        ≡ record scorer.old {
-          plan = with_stays inst.now.draft scorer.old.hard scorer.old.plan
-              (waiting inst.now.draft plan.now mandatory);
-        } }
-    ensures len { length shares.new ≡ length shares.old }
-    ensures next { result ≤ from + 2048 }
+    requires inside { All (IsChoiceOf inst.now.draft) choices.now }
+    requires some { 0 < length found.old }
+    requires few { length found.old ≤ 64 }
+    ensures { scorer.new
+        ≡ record scorer.old { plan = with_choices inst.now.draft scorer.old.hard scorer.old.plan choices.now } }
 {
-    let mut choice = from;
-    for p in 0..inst.patients() {
-        let p = PatientNo(p);
-        if is_waiting(inst, plan, p, mandatory) {
-            place(rt, inst, scorer, p, choice, shares, gate);
-            choice += 1;
+    for at in 0..choices.len() {
+        if at < DEALT {
+            make_dealt(rt, inst, scorer, choices[at], at as u32, found, gate);
+        } else {
+            make(inst, scorer, choices[at]);
         }
     }
-    choice
-}
-
-// Gives the room a nurse in the shift, where it needs one: the workers look for it, or, past the choices that are
-// dealt, the caller alone.
-fn cover<R: Threads + Wait + Sync, G: Gate>(
-    rt: &R,
-    inst: &Instance,
-    scorer: &mut Scorer<'_>,
-    k: Shift,
-    r: RoomNo,
-    choice: u32,
-    shares: &mut [Option<Found>],
-    gate: &G,
-)
-    requires instance { scorer.old.instance ≡ inst.now.draft }
-    requires room { r.0 < room_count inst.now.draft }
-    requires shift { k.0 < shift_count inst.now.draft }
-    requires some { 0 < length shares.old }
-    requires few { length shares.old ≤ 64 }
-    ensures made { scorer.new
-        ≡ record scorer.old { plan = with_care inst.now.draft scorer.old.hard scorer.old.plan k.0 r.0 } }
-    ensures len { length shares.new ≡ length shares.old }
-{
-    if choice >= DEALT {
-        ih_fill::cover(inst, scorer, k, r);
-        return;
-    }
-    if is_uncovered(scorer, r, k) {
-        deal(rt, inst, scorer, Choice::Nurse(r, k), choice, shares, gate);
-        if let Some(found) = lowest(shares) {
-            scorer.put(&found.candidate.write);
-        }
-    }
-}
-
-// Gives nurses to the rooms in a shift.
-fn cover_shift<R: Threads + Wait + Sync, G: Gate>(
-    rt: &R,
-    inst: &Instance,
-    scorer: &mut Scorer<'_>,
-    k: Shift,
-    from: u32,
-    shares: &mut [Option<Found>],
-    gate: &G,
-)
-    requires instance { scorer.old.instance ≡ inst.now.draft }
-    requires shift { k.0 < shift_count inst.now.draft }
-    requires from { from < 2 ^ 31 }
-    requires some { 0 < length shares.old }
-    requires few { length shares.old ≤ 64 }
-    ensures made { scorer.new
-        ≡ record scorer.old {
-          plan = with_cares inst.now.draft scorer.old.hard scorer.old.plan
-              (rooms_in k.0 (room_count inst.now.draft));
-        } }
-    ensures len { length shares.new ≡ length shares.old }
-{
-    for r in 0..inst.rooms() {
-        cover(rt, inst, scorer, k, RoomNo(r), from + r, shares, gate);
-    }
-}
-
-// Gives nurses to the rooms, shift by shift.
-fn cover_all<R: Threads + Wait + Sync, G: Gate>(
-    rt: &R,
-    inst: &Instance,
-    scorer: &mut Scorer<'_>,
-    from: u32,
-    shares: &mut [Option<Found>],
-    gate: &G,
-)
-    requires instance { scorer.old.instance ≡ inst.now.draft }
-    requires from { from ≤ 4096 }
-    requires some { 0 < length shares.old }
-    requires few { length shares.old ≤ 64 }
-    ensures { scorer.new ≡ record scorer.old {
-      plan = with_cares inst.now.draft scorer.old.hard scorer.old.plan
-          (rooms_by_shift inst.now.draft);
-    } }
-{
-    for k in 0..inst.shifts() {
-        cover_shift(
-            rt,
-            inst,
-            scorer,
-            Shift(k),
-            from + k * inst.rooms(),
-            shares,
-            gate,
-        );
-    }
-}
-
-// The fill, with a place for what each worker finds.
-fn fill_by_shares<R: Threads + Wait + Sync, G: Gate>(
-    rt: &R,
-    alloc: Global,
-    inst: &Instance,
-    hard: u32,
-    plan: &Plan,
-    shares: &mut [Option<Found>],
-    gate: &G,
-) -> Result<Plan, AllocError>
-    requires hard { hard ≤ 1000000 }
-    requires plan { IsPlanOf inst.now.draft plan.now }
-    requires some { 0 < length shares.old }
-    requires few { length shares.old ≤ 64 }
-    ensures filled { IfOk result (λ filled. filled ≡ fill inst.now.draft hard plan.now) }
-    ensures fits { IfOk result (λ filled. IsPlanOf inst.now.draft filled) }
-{
-    let mut scorer = Scorer::new(alloc, inst, hard, false, plan)?;
-    let later = place_all(rt, inst, &mut scorer, plan, true, 0, shares, gate);
-    let last = place_all(rt, inst, &mut scorer, plan, false, later, shares, gate);
-    cover_all(rt, inst, &mut scorer, last, shares, gate);
-    scorer.plan().try_clone(alloc)
 }
 
 /// The timetable after the greedy fill of `ih_fill`, whatever the number of workers, from 1 to 64: of each of the first
 /// choices each worker prices its share of the candidates, and passes the gate before and after with the choice's
-/// number; the rest the caller chooses alone. One worker fills alone and passes no gate, and where a room needs no
-/// nurse there is no choice.
+/// number; the rest the caller makes alone. One worker fills alone and passes no gate, and where a room needs no nurse
+/// there is no choice.
 pub fn par_fill<R: Threads + Wait + Sync, G: Gate>(
     rt: &R,
     alloc: Global,
@@ -226,14 +94,16 @@ pub fn par_fill<R: Threads + Wait + Sync, G: Gate>(
     if workers == 1 {
         return fill(alloc, inst, hard, plan);
     }
-    let mut shares = [None; 64];
-    fill_by_shares(
+    let mut scorer = Scorer::new(alloc, inst, hard, false, plan)?;
+    let choices = fill_choices(alloc, inst, plan)?;
+    let mut found = [None; 64];
+    make_all(
         rt,
-        alloc,
         inst,
-        hard,
-        plan,
-        &mut shares[..workers as usize],
+        &mut scorer,
+        choices.as_slice(),
+        &mut found[..workers as usize],
         gate,
-    )
+    );
+    scorer.plan().try_clone(alloc)
 }

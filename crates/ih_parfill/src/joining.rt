@@ -3,24 +3,18 @@
 ghost use Rattle.std.specs.Prelude.{◌≡◌, ◌<◌, ◌≤◌, ℤ, List, length};
 ghost use Rattle.ih_tables.specs.declared.drafts.Draft.{Draft};
 ghost use Rattle.ih_plan.specs.declared.moves.Write.{Write};
-ghost use Rattle.ih_parfill.specs.Choices.{IsChoiceOf, candidates, value_in};
-ghost use Rattle.ih_parfill.specs.Shares.{AreShares, IsOfShare, IsShare};
+ghost use Rattle.ih_fill.specs.FirstLeast.{AnyPlace};
+ghost use Rattle.ih_fill.specs.{Choices.IsChoiceOf, Choices.candidates, Scoring.value_in};
+ghost use Rattle.ih_parfill.specs.Shares.{HaveFound, IsOfShare, IsShare};
 
 use crate::nurses::least_nurse_of_share;
-use crate::shares::{Found, lower};
 use crate::stays::least_of_share;
-use ih_fill::Scorer;
+use crate::walkers::{Found, lower};
+use ih_fill::{Choice, Scorer};
 use ih_shelf::Gate;
-use ih_tables::{Instance, PatientNo, RoomNo, Shift};
+use ih_tables::Instance;
 use std::sync::Wait;
 use std::thread::{Threads, for_each_mut};
-
-/// A choice that is dealt: where a patient stays, or who nurses a room in a shift.
-#[derive(Clone, Copy, Debug)]
-pub(crate) enum Choice {
-    Stay(PatientNo),
-    Nurse(RoomNo, Shift),
-}
 
 // The most threads in one join: a thread costs about as much to start as a whole choice to price, so 64 workers share
 // few.
@@ -35,18 +29,18 @@ fn look_at_share<R: Wait, G: Gate>(
     number: u32,
     workers: u32,
     worker: usize,
-    share: &mut Option<Found>,
+    found: &mut Option<Found>,
     gate: &G,
 )
     requires instance { scorer.now.instance ≡ inst.now.draft }
     requires choice { IsChoiceOf inst.now.draft choice }
     requires worker { worker < workers }
     ensures { IsOfShare inst.now.draft (value_in scorer.now choice) (candidates inst.now.draft choice)
-        (IsShare workers worker) share.new }
+        (IsShare workers worker) found.new }
 {
     let worker = worker as u32;
     gate.before(rt, worker, number);
-    *share = match choice {
+    *found = match choice {
         Choice::Stay(p) => least_of_share(inst, scorer, p, inst.patient(p), workers, worker),
         Choice::Nurse(r, k) => least_nurse_of_share(inst, scorer, r, k, workers, worker),
     };
@@ -60,40 +54,40 @@ pub(crate) fn deal<R: Threads + Wait + Sync, G: Gate>(
     scorer: &Scorer<'_>,
     choice: Choice,
     number: u32,
-    shares: &mut [Option<Found>],
+    found: &mut [Option<Found>],
     gate: &G,
 )
     requires instance { scorer.now.instance ≡ inst.now.draft }
     requires choice { IsChoiceOf inst.now.draft choice }
-    requires few { length shares.old ≤ 64 }
-    ensures { AreShares inst.now.draft (value_in scorer.now choice) (candidates inst.now.draft choice)
-        (length shares.old) shares.new }
+    requires few { length found.old ≤ 64 }
+    ensures { HaveFound inst.now.draft (value_in scorer.now choice) (candidates inst.now.draft choice)
+        (length found.old) found.new }
 {
-    let workers = shares.len() as u32;
+    let workers = found.len() as u32;
     for_each_mut(
         rt,
-        shares,
+        found,
         MOST_THREADS,
-        &|worker, share|
+        &|worker, found|
             requires { (scorer.now.instance ≡ inst.now.draft) × IsChoiceOf inst.now.draft choice
                 × (worker < workers) }
         {
             look_at_share(
-                rt, inst, scorer, choice, number, workers, worker, share, gate,
+                rt, inst, scorer, choice, number, workers, worker, found, gate,
             )
         },
     );
 }
 
-/// The first least of what was found in all shares.
-pub(crate) fn lowest(shares: &[Option<Found>]) -> Option<Found>
-    requires { 0 < length shares.now }
-    ensures { (I : Draft) (v : Write → ℤ) (ws : List Write) → AreShares I v ws (length shares.now) shares.now
-        → IsOfShare I v ws (λ k. Unit {0}) result }
+/// The first least of what all workers have found.
+pub(crate) fn lowest(found: &[Option<Found>]) -> Option<Found>
+    requires { 0 < length found.now }
+    ensures { (I : Draft) (v : Write → ℤ) (ws : List Write) → HaveFound I v ws (length found.now) found.now
+        → IsOfShare I v ws AnyPlace result }
 {
     let mut best = None;
-    for w in 0..shares.len() {
-        best = lower(best, shares[w]);
+    for w in 0..found.len() {
+        best = lower(best, found[w]);
     }
     best
 }

@@ -4,7 +4,7 @@
 mod filling;
 mod joining;
 mod nurses;
-mod shares;
 mod stays;
+mod walkers;
 
 pub use filling::par_fill;

@@ -2,10 +2,10 @@
 
 ghost use Rattle.std.specs.Prelude.{◌≡◌, ◌<◌};
 ghost use Rattle.ih_tables.specs.Sizes.{room_count, shift_count};
-ghost use Rattle.ih_fill.specs.{Fill.care_writes, Scoring.care_value};
+ghost use Rattle.ih_fill.specs.{Candidates.care_writes, Scoring.care_value};
 ghost use Rattle.ih_parfill.specs.Shares.{IsOfShare, IsShare};
 
-use crate::shares::{Found, Share};
+use crate::walkers::{Found, Walker};
 use ih_fill::Scorer;
 use ih_tables::{Instance, NurseNo, RoomNo, Shift};
 
@@ -25,16 +25,16 @@ pub(crate) fn least_nurse_of_share(
     ensures { IsOfShare inst.now.draft (care_value scorer.now) (care_writes inst.now.draft r.0 k.0)
         (IsShare workers worker) result }
 {
-    let mut share = Share::new(workers, worker);
+    let mut walker = Walker::new(workers, worker);
     for n in 0..inst.nurses() {
         let n = NurseNo(n);
         if inst.works(n, k).is_some() {
-            if share.is_own() {
-                share.look(scorer.care(r, k, n));
+            if walker.is_own() {
+                walker.look(scorer.care(r, k, n));
             } else {
-                share.pass();
+                walker.pass();
             }
         }
     }
-    share.best
+    walker.best
 }

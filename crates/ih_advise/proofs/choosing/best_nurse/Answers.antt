@@ -1,15 +1,10 @@
-use Rattle.std.proofs.Common.{◌≡◌, ◌∙◌, sym, ap, subst, None, Some}
-use Rattle.std.specs.Prelude.{ℤ}
-use Rattle.ih_tables.specs.declared.drafts.Draft.{Draft}
-use Rattle.ih_plan.specs.declared.moves.Write.{Write}
+use Rattle.std.proofs.Common.{◌∙◌, sym, subst, None, Some}
 use Rattle.ih_plan.specs.declared.moves.Write.TheVariants.{SetCare}
 use Rattle.ih_plan.specs.Writes.{IsWriteOf}
-use Rattle.ih_fill.specs.Fill.{care_writes}
 use Rattle.ih_fill.specs.declared.candidates.Candidate.{Candidate}
-use Rattle.ih_fill.specs.Candidates.{least_of, valued}
-use Rattle.ih_fill.specs.Scoring.{care_value}
-use Rattle.ih_fill.proofs.CandidateLemmas.{cheaper, cheaper-either, no-nurse-fits}
-use Rattle.ih_advise.specs.Advising.{best_write, value_of}
+use Rattle.ih_fill.specs.Candidates.{care_writes}
+use Rattle.ih_fill.proofs.CandidateLemmas.{cheaper-either, no-nurse-fits}
+use Rattle.ih_advise.specs.Advising.{best_write}
 use Rattle.ih_advise.proofs.Choices.{nurse-best}
 use Rattle.ih_advise.proofs.choosing.best_nurse.Goals as goal
 
@@ -22,7 +17,7 @@ returns-in-None-clause-best c =
 pub returns-in-None-clause-fits : goal.returns-in-None-clause-fits
 returns-in-None-clause-fits c =
     let I = c.args.inst.now.draft in
-    subst (λ (x : Candidate). IsWriteOf I x.write) (sym c.no_nurse-none.ensures) (no-nurse-fits I c.args.r c.args.k c.requires.inside.1 c.requires.inside.0)
+    subst (λ (x : Candidate). IsWriteOf I x.write) (sym c.no_nurse-none.ensures) (no-nurse-fits I c.args.r c.args.k c.requires.inside.0 c.requires.inside.1)
 
 pub returns-in-Some-clause-best : goal.returns-in-Some-clause-best
 unfolding best_write
@@ -34,5 +29,5 @@ returns-in-Some-clause-best c =
 pub returns-in-Some-clause-fits : goal.returns-in-Some-clause-fits
 returns-in-Some-clause-fits c =
     let I = c.args.inst.now.draft in
-    let none = subst (λ (x : Candidate). IsWriteOf I x.write) (sym c.no_nurse-none.ensures) (no-nurse-fits I c.args.r c.args.k c.requires.inside.1 c.requires.inside.0) in
+    let none = subst (λ (x : Candidate). IsWriteOf I x.write) (sym c.no_nurse-none.ensures) (no-nurse-fits I c.args.r c.args.k c.requires.inside.0 c.requires.inside.1) in
     subst (λ (x : Candidate). IsWriteOf I x.write) (sym c.cheaper.ensures) (cheaper-either (IsWriteOf I) c.no_nurse-none.result c.in-Some.nurse none c.in-Some.ensures.fits)

@@ -2,26 +2,19 @@ use Rattle.std.proofs.Common.{◌≡◌, ◌∙◌, sym, ap, subst}
 use Rattle.std.proofs.lemmas.Result.{IfOk-weaker}
 use Rattle.ih_plan.specs.Timetable.{IsPlanOf}
 use Rattle.ih_fill.specs.Scoring.{Scoring}
-use Rattle.ih_fill.proofs.PassLemmas.{all-passes}
+use Rattle.ih_fill.proofs.PassLemmas.{fill-made}
 use Rattle.ih_fill.proofs.filling.fill.Goals as goal
-
-pub place_all-requires-clause-counts : goal.place_all-requires-clause-counts
-place_all-requires-clause-counts c = ap (λ (f : Scoring). f.counts_uncovered) c.in_ok-scorer.ensures
-
-pub place_all-requires-2-clause-counts : goal.place_all-requires-2-clause-counts
-place_all-requires-2-clause-counts c = ap (λ (f : Scoring). f.counts_uncovered) c.place_all.ensures ∙ ap (λ (f : Scoring). f.counts_uncovered) c.in_ok-scorer.ensures
 
 pub returns-clause-filled : goal.returns-clause-filled
 returns-clause-filled c =
-    let made = all-passes c.args.inst.now.draft c.args.hard c.args.plan.now c.in_ok-scorer.scorer c.place_all.new.scorer c.place_all-2.new.scorer c.cover_all.new.scorer
-    c.in_ok-scorer.ensures c.place_all.ensures c.place_all-2.ensures c.cover_all.ensures in
+    let made = fill-made c.args.inst.now.draft c.args.hard c.args.plan.now c.in_ok-scorer.scorer c.make_all.new.scorer c.as_slice.result.now
+    c.in_ok-scorer.ensures (c.as_slice.ensures.value ∙ c.in_ok-choices.ensures.all) c.make_all.ensures in
     IfOk-weaker c.try_clone.result _ _ (λ p same. same ∙ (c.plan.ensures.value ∙ made)) c.try_clone.ensures
 
 pub returns-clause-fits : goal.returns-clause-fits
 returns-clause-fits c =
-    let end = c.cover_all.new.scorer in
+    let end = c.make_all.new.scorer in
     let instance : end.instance ≡ c.args.inst.now.draft =
-    ap (λ (f : Scoring). f.instance) c.cover_all.ensures
-    ∙ (ap (λ (f : Scoring). f.instance) c.place_all-2.ensures ∙ (ap (λ (f : Scoring). f.instance) c.place_all.ensures ∙ ap (λ (f : Scoring). f.instance) c.in_ok-scorer.ensures)) in
+    ap (λ (f : Scoring). f.instance) c.make_all.ensures ∙ ap (λ (f : Scoring). f.instance) c.in_ok-scorer.ensures in
     let fits = subst (λ I. IsPlanOf I end.plan) instance c.plan.ensures.fits in
     IfOk-weaker c.try_clone.result _ _ (λ p same. subst (λ P. IsPlanOf c.args.inst.now.draft P) (sym (same ∙ c.plan.ensures.value)) fits) c.try_clone.ensures

@@ -4,13 +4,13 @@ use Rattle.ih_tables.specs.Sizes.{room_count, theatre_count}
 use Rattle.ih_plan.specs.declared.moves.Write.{Write}
 use Rattle.ih_plan.specs.declared.moves.Write.TheVariants.{SetStay}
 use Rattle.ih_plan.specs.Writes.{IsWriteOf}
-use Rattle.ih_fill.specs.Fill.{cheapest}
 use Rattle.ih_fill.specs.declared.candidates.Candidate.{Candidate}
-use Rattle.ih_fill.specs.Candidates.{valued, stays_in, rooms_for}
+use Rattle.ih_fill.specs.Candidates.{cheapest, rooms_for, stays_in, suits, valued}
 use Rattle.ih_fill.specs.Scoring.{stay_value}
 use Rattle.ih_fill.proofs.CandidateLemmas.{then-least, cheaper-either, stay-fits}
-use Rattle.ih_fill.proofs.TheatreLemmas.{only-first, cheaper-one, no-stays}
-use Rattle.ih_fill.proofs.ListLemmas.{suits, on-more, on-same}
+use Rattle.ih_fill.proofs.FirstLeast.{first-counts}
+use Rattle.ih_fill.proofs.TheatreLemmas.{cheaper-one, no-stays, theatre-inside}
+use Rattle.ih_fill.proofs.ListLemmas.{on-more, on-same}
 use Rattle.ih_fill.proofs.patients.cheapest_on_day.Goals as goal
 use Rattle.ih_fill.proofs.patients.cheapest_on_day.Goals.{then-suits, else-suits}
 
@@ -19,7 +19,7 @@ stay-requires-clause-placed c =
     let below = c.loop-r-test.true in
     let count = c.rooms-r-end.ensures in
     let inside : c.loop-r.r < room_count c.args.inst.now.draft = omega (arith, below, count) in
-    rw c.requires.instance (record { day = c.requires.day; room = inside; theatre = (c.in-Some.ensures.least c.loop-r.r).inside })
+    rw c.requires.instance (record { day = c.requires.day; room = inside; theatre = theatre-inside c.args.scorer.now c.args.p c.args.day.0 c.loop-r.r _ _ (c.in-Some.ensures.least c.loop-r.r) })
 
 pub loop-r-preserved : goal.loop-r-preserved
 loop-r-preserved c =
@@ -39,11 +39,12 @@ loop-r-preserved c =
           cheaper-one (stay_value F) (cheapest (stay_value F) before (flat_map f (rooms_for a r)))
           (at t) c.loop-r.best w.stay.result w.cheaper-best.result c.loop-r.invariant.least second w.cheaper-best.ensures in
           let found : w.cheaper-best.result ≡ valued (stay_value F) (cheapest (stay_value F) c.loop-r.best.write (f r)) =
-          one ∙ ap (valued (stay_value F)) (sym (only-first (stay_value F) c.loop-r.best.write at (theatre_count I) t (c.in-Some.ensures.least r))) in
+          one ∙ ap (valued (stay_value F)) (sym (first-counts (stay_value F) c.loop-r.best.write (f r) t (at t) (c.in-Some.ensures.least r))) in
           let below = c.loop-r-test.true in
           let count = c.rooms-r-end.ensures in
           let inside : r < room_count I = omega (arith, below, count) in
-          let fits : IsWriteOf I (at t) = stay-fits I c.args.p _ c.requires.patient (record { day = c.requires.day; room = inside; theatre = (c.in-Some.ensures.least r).inside }) in
+          let theatre = theatre-inside F c.args.p c.args.day.0 r _ _ (c.in-Some.ensures.least r) in
+          let fits : IsWriteOf I (at t) = stay-fits I c.args.p _ c.requires.patient (record { day = c.requires.day; room = inside; theatre = theatre }) in
           record {
             least = w.best-is ∙ (then-least (stay_value F) before (flat_map f (rooms_for a r)) (f r) c.loop-r.best w.cheaper-best.result c.loop-r.invariant.least found
                 ∙ ap (λ ws. valued (stay_value F) (cheapest (stay_value F) before ws)) (sym (on-more f a r yes)));

@@ -1,8 +1,7 @@
 use Rattle.std.proofs.Common.{◌≡◌}
 use Rattle.ih_plan.specs.Writes.{IsWriteOf}
-use Rattle.ih_fill.specs.Fill.{cheapest}
 use Rattle.ih_fill.specs.Scoring.{stay_value}
-use Rattle.ih_fill.specs.Candidates.{valued, stays_on}
+use Rattle.ih_fill.specs.Candidates.{cheapest, valued, stays_on}
 use Rattle.ih_fill.proofs.patients.cheapest_on_day.Given as goal
 
 abbrev pub invariant-loop-r : goal.invariant-loop-r

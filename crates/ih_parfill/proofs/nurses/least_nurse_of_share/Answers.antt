@@ -5,11 +5,11 @@ use Rattle.ih_tables.specs.Works.{max_load}
 use Rattle.ih_plan.specs.declared.moves.Write.{Write}
 use Rattle.ih_plan.specs.declared.moves.Write.TheVariants.{SetCare}
 use Rattle.ih_plan.specs.Sums.{which_below}
-use Rattle.ih_fill.specs.Fill.{care_writes}
+use Rattle.ih_fill.specs.Candidates.{care_writes}
 use Rattle.ih_fill.specs.Scoring.{care_value}
 use Rattle.ih_fill.proofs.CandidateLemmas.{care-fits}
 use Rattle.ih_fill.proofs.ListLemmas.{which-more, which-same}
-use Rattle.ih_parfill.specs.declared.shares.Share.{Share}
+use Rattle.ih_parfill.specs.declared.walkers.Walker.{Walker}
 use Rattle.ih_parfill.proofs.Least.{looked-none, of-share}
 use Rattle.ih_parfill.proofs.nurses.least_nurse_of_share.Goals as goal
 use Rattle.ih_parfill.proofs.nurses.least_nurse_of_share.Goals.{then-is_some+then-is_own, then-is_some+else-is_own, else-is_some}
@@ -17,10 +17,10 @@ use Rattle.ih_parfill.proofs.nurses.least_nurse_of_share.Goals.{then-is_some+the
 pub loop-n-init : goal.loop-n-init
 unfolding which_below
 loop-n-init c = record {
-  looked = looked-none (care_value c.args.scorer.now) c.args.inst.now.draft c.new-share.result (ap (λ (s : Share). s.passed) c.new-share.ensures) (ap (λ (s : Share). s.best) c.new-share.ensures);
-  passed = let none = ap (λ (s : Share). s.passed) c.new-share.ensures in omega (arith, none);
-  workers = ap (λ (s : Share). s.workers) c.new-share.ensures;
-  worker = ap (λ (s : Share). s.worker) c.new-share.ensures;
+  looked = looked-none (care_value c.args.scorer.now) c.args.inst.now.draft c.new-walker.result (ap (λ (s : Walker). s.passed) c.new-walker.ensures) (ap (λ (s : Walker). s.best) c.new-walker.ensures);
+  passed = let none = ap (λ (s : Walker). s.passed) c.new-walker.ensures in omega (arith, none);
+  workers = ap (λ (s : Walker). s.workers) c.new-walker.ensures;
+  worker = ap (λ (s : Walker). s.worker) c.new-walker.ensures;
 }
 
 pub loop-n-preserved : goal.loop-n-preserved
@@ -42,29 +42,29 @@ loop-n-preserved c =
           let more : map f (which_below (n + 1) works) ≡ behind ++ f n ∷ [] = which-more f n works (answered ∙ w.if-is_some.true) in
           let sum = w.look.ensures.passed in
           record {
-            looked = rw (w.share-is, more)
+            looked = rw (w.walker-is, more)
                 (w.look.ensures.looked I v behind (f n) before.looked w.care.ensures
                 (care-fits I c.args.r c.args.k (record { 0 = n }) c.requires.room c.requires.shift inside));
-            passed = rw w.share-is (omega (arith, passed, sum));
-            workers = rw w.share-is (w.look.ensures.workers ∙ before.workers);
-            worker = rw w.share-is (w.look.ensures.worker ∙ before.worker);
+            passed = rw w.walker-is (omega (arith, passed, sum));
+            workers = rw w.walker-is (w.look.ensures.workers ∙ before.workers);
+            worker = rw w.walker-is (w.look.ensures.worker ∙ before.worker);
           }
       | then-is_some+else-is_own w ↦
           let more : map f (which_below (n + 1) works) ≡ behind ++ f n ∷ [] = which-more f n works (answered ∙ w.if-is_some.true) in
-          let sum = ap (λ (s : Share). s.passed) w.pass.ensures.same in
+          let sum = ap (λ (s : Walker). s.passed) w.pass.ensures.same in
           record {
-            looked = rw (w.share-is, more) (w.pass.ensures.looked I v behind (f n) before.looked);
-            passed = rw w.share-is (omega (arith, passed, sum));
-            workers = rw w.share-is (ap (λ (s : Share). s.workers) w.pass.ensures.same ∙ before.workers);
-            worker = rw w.share-is (ap (λ (s : Share). s.worker) w.pass.ensures.same ∙ before.worker);
+            looked = rw (w.walker-is, more) (w.pass.ensures.looked I v behind (f n) before.looked);
+            passed = rw w.walker-is (omega (arith, passed, sum));
+            workers = rw w.walker-is (ap (λ (s : Walker). s.workers) w.pass.ensures.same ∙ before.workers);
+            worker = rw w.walker-is (ap (λ (s : Walker). s.worker) w.pass.ensures.same ∙ before.worker);
           }
       | else-is_some w ↦
           let same : map f (which_below (n + 1) works) ≡ behind = which-same f n works (answered ∙ w.if-is_some.false) in
           record {
-            looked = rw (w.share-is, same) before.looked;
-            passed = rw w.share-is (omega (arith, passed));
-            workers = rw w.share-is before.workers;
-            worker = rw w.share-is before.worker;
+            looked = rw (w.walker-is, same) before.looked;
+            passed = rw w.walker-is (omega (arith, passed));
+            workers = rw w.walker-is before.workers;
+            worker = rw w.walker-is before.worker;
           }
     ]
 
@@ -78,5 +78,5 @@ returns c =
     let all : c.loop-n.n ≡ nurse_count I = omega (arith, last, end, count) in
     let f : ℕ → Write = λ n. SetCare c.args.r c.args.k (Some (record { 0 = n })) in
     let works : ℕ → Bool = λ n. is_some (max_load I n c.args.k.0) in
-    of-share v I (map f (which_below c.loop-n.n works)) (care_writes I c.args.r.0 c.args.k.0) c.loop-n.share c.args.workers c.args.worker c.loop-n.invariant.looked
+    of-share v I (map f (which_below c.loop-n.n works)) (care_writes I c.args.r.0 c.args.k.0) c.loop-n.walker c.args.workers c.args.worker c.loop-n.invariant.looked
     (ap (λ m. map f (which_below m works)) all) c.loop-n.invariant.workers c.loop-n.invariant.worker

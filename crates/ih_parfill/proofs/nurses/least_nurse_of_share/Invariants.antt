@@ -9,8 +9,8 @@ use Rattle.ih_parfill.proofs.nurses.least_nurse_of_share.Given as goal
 
 abbrev pub invariant-loop-n : goal.invariant-loop-n
 invariant-loop-n l = record {
-  looked : HasLooked l.inst.draft (care_value l.scorer) (map (λ n. SetCare l.r l.k (Some (record { 0 = n }))) (which_below l.n (λ n. is_some (max_load l.inst.draft n l.k.0)))) l.share;
-  passed : l.share.passed ≤ l.n;
-  workers : l.share.workers ≡ l.workers;
-  worker : l.share.worker ≡ l.worker;
+  looked : HasLooked l.inst.draft (care_value l.scorer) (map (λ n. SetCare l.r l.k (Some (record { 0 = n }))) (which_below l.n (λ n. is_some (max_load l.inst.draft n l.k.0)))) l.walker;
+  passed : l.walker.passed ≤ l.n;
+  workers : l.walker.workers ≡ l.workers;
+  worker : l.walker.worker ≡ l.worker;
 }

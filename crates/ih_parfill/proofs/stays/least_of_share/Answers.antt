@@ -6,21 +6,20 @@ use Rattle.ih_tables.specs.Sizes.{room_count}
 use Rattle.ih_plan.specs.declared.moves.Write.{Write}
 use Rattle.ih_plan.specs.declared.moves.Write.TheVariants.{SetStay}
 use Rattle.ih_plan.specs.Draws.{window_len}
-use Rattle.ih_fill.specs.Fill.{stay_writes}
-use Rattle.ih_fill.specs.Candidates.{stays_on}
+use Rattle.ih_fill.specs.Candidates.{stay_writes, stays_on}
 use Rattle.ih_fill.specs.Scoring.{stay_value}
 use Rattle.ih_fill.proofs.ListLemmas.{flat-more, stays-are}
-use Rattle.ih_parfill.specs.declared.shares.Share.{Share}
+use Rattle.ih_parfill.specs.declared.walkers.Walker.{Walker}
 use Rattle.ih_parfill.specs.Shares.{HasLooked}
 use Rattle.ih_parfill.proofs.Least.{of-share}
 use Rattle.ih_parfill.proofs.stays.least_of_share.Goals as goal
 
 pub loop-later-init : goal.loop-later-init
 loop-later-init c = record {
-  looked = subst (λ (I : Draft). HasLooked I (stay_value c.args.scorer.now) (SetStay c.args.p None ∷ []) c.look_at_none.new.share) c.requires.instance c.look_at_none.ensures.looked;
+  looked = subst (λ (I : Draft). HasLooked I (stay_value c.args.scorer.now) (SetStay c.args.p None ∷ []) c.look_at_none.new.walker) c.requires.instance c.look_at_none.ensures.looked;
   passed = let one = c.look_at_none.ensures.passed in omega (arith, one);
-  workers = c.look_at_none.ensures.workers ∙ ap (λ (s : Share). s.workers) c.new-share.ensures;
-  worker = c.look_at_none.ensures.worker ∙ ap (λ (s : Share). s.worker) c.new-share.ensures;
+  workers = c.look_at_none.ensures.workers ∙ ap (λ (s : Walker). s.workers) c.new-walker.ensures;
+  worker = c.look_at_none.ensures.worker ∙ ap (λ (s : Walker). s.worker) c.new-walker.ensures;
 }
 
 pub loop-later-preserved : goal.loop-later-preserved
@@ -36,7 +35,7 @@ loop-later-preserved c =
     let passed = before.passed in
     let more = c.look_on_day.ensures.passed in
     record {
-      looked = subst (λ xs. HasLooked I v (none ∷ xs) c.look_on_day.new.share) (sym (flat-more f from n (from + n) refl))
+      looked = subst (λ xs. HasLooked I v (none ∷ xs) c.look_on_day.new.walker) (sym (flat-more f from n (from + n) refl))
           (c.look_on_day.ensures.looked (none ∷ flat_map f (range_with_len from n)) before.looked);
       passed = omega (arith, passed, more);
       workers = c.look_on_day.ensures.workers ∙ before.workers;
@@ -57,6 +56,6 @@ returns c =
     let ws : flat_map f (range_with_len a.surgery_release_day c.loop-later.later) ≡ stay_writes I c.args.p.0 =
     ap (λ n. flat_map f (range_with_len a.surgery_release_day n)) all ∙ stays-are I c.args.p a c.requires.patient in
     let none : Write = SetStay c.args.p None in
-    of-share v I (none ∷ flat_map f (range_with_len a.surgery_release_day c.loop-later.later)) (none ∷ stay_writes I c.args.p.0) c.loop-later.share c.args.workers c.args.worker looked
+    of-share v I (none ∷ flat_map f (range_with_len a.surgery_release_day c.loop-later.later)) (none ∷ stay_writes I c.args.p.0) c.loop-later.walker c.args.workers c.args.worker looked
     (ap (λ xs. none ∷ xs) ws)
     c.loop-later.invariant.workers c.loop-later.invariant.worker

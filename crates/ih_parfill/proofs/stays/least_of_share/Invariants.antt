@@ -11,8 +11,8 @@ use Rattle.ih_parfill.proofs.stays.least_of_share.Given as goal
 abbrev pub invariant-loop-later : goal.invariant-loop-later
 invariant-loop-later l = record {
   looked : HasLooked l.inst.draft (stay_value l.scorer)
-      (SetStay l.p None ∷ flat_map (λ d. stays_on l.inst.draft l.p l.patient d (room_count l.inst.draft)) (range_with_len l.patient.surgery_release_day l.later)) l.share;
-  passed : l.share.passed ≤ 1 + 8192 * l.later;
-  workers : l.share.workers ≡ l.workers;
-  worker : l.share.worker ≡ l.worker;
+      (SetStay l.p None ∷ flat_map (λ d. stays_on l.inst.draft l.p l.patient d (room_count l.inst.draft)) (range_with_len l.patient.surgery_release_day l.later)) l.walker;
+  passed : l.walker.passed ≤ 1 + 8192 * l.later;
+  workers : l.walker.workers ≡ l.workers;
+  worker : l.walker.worker ≡ l.worker;
 }

@@ -7,8 +7,8 @@ use Rattle.ih_fill.specs.Candidates.{stays_in}
 use Rattle.ih_fill.specs.Scoring.{stay_value}
 use Rattle.ih_fill.proofs.CandidateLemmas.{stay-fits}
 use Rattle.ih_parfill.specs.Shares.{HasLooked}
-use Rattle.ih_parfill.specs.declared.shares.Share.{Share}
-use Rattle.ih_parfill.proofs.CandidateLists.{one-more}
+use Rattle.ih_parfill.specs.declared.walkers.Walker.{Walker}
+use Rattle.ih_fill.proofs.ListLemmas.{listed-more}
 use Rattle.ih_parfill.proofs.stays.look_in_room.Goals as goal
 use Rattle.ih_parfill.proofs.stays.look_in_room.Goals.{then-is_own, else-is_own}
 
@@ -32,20 +32,20 @@ loop-t-preserved c =
     let inside : t < theatre_count I = omega (arith, below, count) in
     elim c.if-is_own.branch [
       | then-is_own w ↦ record {
-        looked = λ ws looked. subst (HasLooked I v (ws ++ stays_in c.args.p c.args.day.0 c.args.room.0 (t + 1))) (sym w.share-is)
-            (subst (λ xs. HasLooked I v xs w.look.new.self) (one-more ws f t)
+        looked = λ ws looked. subst (HasLooked I v (ws ++ stays_in c.args.p c.args.day.0 c.args.room.0 (t + 1))) (sym w.walker-is)
+            (subst (λ xs. HasLooked I v xs w.look.new.self) (listed-more ws f t)
             (w.look.ensures.looked I v (ws ++ stays_in c.args.p c.args.day.0 c.args.room.0 t) (f t) (before.looked ws looked) w.stay.ensures
             (stay-fits I c.args.p _ c.requires.patient (record { day = c.requires.day; room = c.requires.room; theatre = inside }))));
-        passed = rw w.share-is (let more = w.look.ensures.passed in let sum = before.passed in omega (arith, more, sum));
-        workers = rw w.share-is (w.look.ensures.workers ∙ before.workers);
-        worker = rw w.share-is (w.look.ensures.worker ∙ before.worker);
+        passed = rw w.walker-is (let more = w.look.ensures.passed in let sum = before.passed in omega (arith, more, sum));
+        workers = rw w.walker-is (w.look.ensures.workers ∙ before.workers);
+        worker = rw w.walker-is (w.look.ensures.worker ∙ before.worker);
       }
       | else-is_own w ↦ record {
-        looked = λ ws looked. subst (HasLooked I v (ws ++ stays_in c.args.p c.args.day.0 c.args.room.0 (t + 1))) (sym w.share-is)
-            (subst (λ xs. HasLooked I v xs w.pass.new.self) (one-more ws f t)
+        looked = λ ws looked. subst (HasLooked I v (ws ++ stays_in c.args.p c.args.day.0 c.args.room.0 (t + 1))) (sym w.walker-is)
+            (subst (λ xs. HasLooked I v xs w.pass.new.self) (listed-more ws f t)
             (w.pass.ensures.looked I v (ws ++ stays_in c.args.p c.args.day.0 c.args.room.0 t) (f t) (before.looked ws looked)));
-        passed = rw w.share-is (let more = ap (λ (s : Share). s.passed) w.pass.ensures.same in let sum = before.passed in omega (arith, more, sum));
-        workers = rw w.share-is (ap (λ (s : Share). s.workers) w.pass.ensures.same ∙ before.workers);
-        worker = rw w.share-is (ap (λ (s : Share). s.worker) w.pass.ensures.same ∙ before.worker);
+        passed = rw w.walker-is (let more = ap (λ (s : Walker). s.passed) w.pass.ensures.same in let sum = before.passed in omega (arith, more, sum));
+        workers = rw w.walker-is (ap (λ (s : Walker). s.workers) w.pass.ensures.same ∙ before.workers);
+        worker = rw w.walker-is (ap (λ (s : Walker). s.worker) w.pass.ensures.same ∙ before.worker);
       }
     ]

@@ -2,9 +2,8 @@ use Rattle.std.proofs.Common.{◌≡◌, ◌+◌, ◌∙◌, sym, subst, arith, 
 use Rattle.std.proofs.lemmas.List.{append-nil}
 use Rattle.ih_tables.specs.Sizes.{theatre_count}
 use Rattle.ih_plan.specs.declared.moves.Write.{Write}
-use Rattle.ih_fill.specs.Candidates.{stays_in, stays_on}
+use Rattle.ih_fill.specs.Candidates.{stays_in, stays_on, suits}
 use Rattle.ih_fill.specs.Scoring.{stay_value}
-use Rattle.ih_fill.proofs.ListLemmas.{suits}
 use Rattle.ih_parfill.specs.Shares.{HasLooked}
 use Rattle.ih_parfill.proofs.CandidateLists.{room-more, room-same}
 use Rattle.ih_parfill.proofs.stays.look_on_day.Goals as goal
@@ -32,20 +31,20 @@ loop-r-preserved c =
           let yes : suits a r ≡ true = sym c.suits.ensures ∙ w.if-suits.true in
           let more = w.look_in_room.ensures.passed in
           record {
-            looked = λ ws looked. subst (HasLooked I v (ws ++ stays_on I c.args.p a c.args.day.0 (r + 1))) (sym w.share-is)
-                (subst (λ xs. HasLooked I v xs w.look_in_room.new.share) (room-more ws f a r yes)
+            looked = λ ws looked. subst (HasLooked I v (ws ++ stays_on I c.args.p a c.args.day.0 (r + 1))) (sym w.walker-is)
+                (subst (λ xs. HasLooked I v xs w.look_in_room.new.walker) (room-more ws f a r yes)
                 (w.look_in_room.ensures.looked (ws ++ stays_on I c.args.p a c.args.day.0 r) (before.looked ws looked)));
-            passed = rw w.share-is (omega (arith, passed, more));
-            workers = rw w.share-is (w.look_in_room.ensures.workers ∙ before.workers);
-            worker = rw w.share-is (w.look_in_room.ensures.worker ∙ before.worker);
+            passed = rw w.walker-is (omega (arith, passed, more));
+            workers = rw w.walker-is (w.look_in_room.ensures.workers ∙ before.workers);
+            worker = rw w.walker-is (w.look_in_room.ensures.worker ∙ before.worker);
           }
       | else-suits w ↦
           let no : suits a r ≡ false = sym c.suits.ensures ∙ w.if-suits.false in
           record {
-            looked = λ ws looked. subst (HasLooked I v (ws ++ stays_on I c.args.p a c.args.day.0 (r + 1))) (sym w.share-is)
-                (subst (λ xs. HasLooked I v xs c.loop-r.share) (room-same ws f a r no) (before.looked ws looked));
-            passed = rw w.share-is (omega (arith, passed));
-            workers = rw w.share-is before.workers;
-            worker = rw w.share-is before.worker;
+            looked = λ ws looked. subst (HasLooked I v (ws ++ stays_on I c.args.p a c.args.day.0 (r + 1))) (sym w.walker-is)
+                (subst (λ xs. HasLooked I v xs c.loop-r.walker) (room-same ws f a r no) (before.looked ws looked));
+            passed = rw w.walker-is (omega (arith, passed));
+            workers = rw w.walker-is before.workers;
+            worker = rw w.walker-is before.worker;
           }
     ]
