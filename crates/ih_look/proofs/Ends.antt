@@ -10,7 +10,7 @@ use Rattle.ih_look.specs.declared.status.Status.{Status}
 use Rattle.ih_look.specs.declared.status.Status.TheVariants.{Done, Usage, WriteFault, OutOfMemory}
 use Rattle.ih_look.specs.Calls.{Call, inputs_in}
 use Rattle.ih_look.specs.Ends.{CallEnds, HasFileCause, status_of}
-use Rattle.ih_look.specs.Texts.{Received, IsPut, IsSaid, MayTell, text_for, usage_text}
+use Rattle.ih_look.specs.Texts.{Received, IsPut, IsReceived, MayTell, text_for, usage_text}
 
 -- ---- a call that comes no further than its files
 
@@ -53,22 +53,22 @@ told-cause reads reads' writes writes' status told h (inr memory) = subst (HasFi
 
 module _ (texts : Status → List ℕ) (old new : Option (List ℕ)) (faults faults' lacks lacks' : ℕ) where
   said-received : (reached : Status → Type 0) (status : Status) → status ≢ Done → reached status → Received old new faults faults' (texts status)
-      → IsSaid reached texts status old new faults faults' lacks lacks'
+      → IsReceived reached texts status old new faults faults' lacks lacks'
   said-received reached Done other h g = absurd (other refl)
   said-received reached OutOfMemory other h g = inl (h, g)
   said-received reached status other h g = g
 
   -- the text of a status that was reached was put
   pub said-put : (reached : Status → Type 0) (status result : Status) → status ≢ Done → reached status
-      → IsPut (texts status) status result old new faults faults' lacks lacks' → IsSaid reached texts result old new faults faults' lacks lacks'
+      → IsPut (texts status) status result old new faults faults' lacks lacks' → IsReceived reached texts result old new faults faults' lacks lacks'
   said-put reached status result other h (inl (same, g)) =
-      subst (λ s. IsSaid reached texts s old new faults faults' lacks lacks') (sym same) (said-received reached status other h g)
+      subst (λ s. IsReceived reached texts s old new faults faults' lacks lacks') (sym same) (said-received reached status other h g)
   said-put reached status result other h (inr (memory, part)) =
-      subst (λ s. IsSaid reached texts s old new faults faults' lacks lacks') (sym memory) (inr (status, other, h, part))
+      subst (λ s. IsReceived reached texts s old new faults faults' lacks lacks') (sym memory) (inr (status, other, h, part))
 
   -- what is said where more was reached
   pub said-weaker : (small large : Status → Type 0) → ((status : Status) → small status → large status) → (result : Status)
-      → IsSaid small texts result old new faults faults' lacks lacks' → IsSaid large texts result old new faults faults' lacks lacks'
+      → IsReceived small texts result old new faults faults' lacks lacks' → IsReceived large texts result old new faults faults' lacks lacks'
   said-weaker small large f OutOfMemory (inl (h, g)) = inl (f OutOfMemory h, g)
   said-weaker small large f OutOfMemory (inr (status, other, h, part)) = inr (status, other, f status h, part)
   said-weaker small large f status h = h
@@ -76,7 +76,7 @@ module _ (texts : Status → List ℕ) (old new : Option (List ℕ)) (faults fau
   module _ (status result : Status) (other : status ≢ Done) where
     -- the line of the status was put
     pub said-line : IsPut (texts status) status result old new faults faults' lacks lacks'
-        → IsSaid (MayTell status) texts result old new faults faults' lacks lacks'
+        → IsReceived (MayTell status) texts result old new faults faults' lacks lacks'
     said-line put = said-put (MayTell status) status result other (inl refl) put
 
     pub told-line : IsPut (texts status) status result old new faults faults' lacks lacks' → MayTell status result
@@ -85,7 +85,7 @@ module _ (texts : Status → List ℕ) (old new : Option (List ℕ)) (faults fau
 
     -- there was no memory for the line, and that was put
     pub said-memory : IsPut (texts OutOfMemory) OutOfMemory result old new faults faults' lacks lacks'
-        → IsSaid (MayTell status) texts result old new faults faults' lacks lacks'
+        → IsReceived (MayTell status) texts result old new faults faults' lacks lacks'
     said-memory put = said-put (MayTell status) OutOfMemory result memory-other (inr (other, refl)) put
       where
         memory-other : OutOfMemory ≢ Done
@@ -103,7 +103,7 @@ put-status text status result old new faults faults' lacks lacks' (inr (memory, 
 
 -- the usage was put
 pub said-usage : (old new : Option (List ℕ)) (faults faults' lacks lacks' : ℕ) (reached : Status → Type 0) (result : Status) → reached Usage
-    → IsPut usage_text Usage result old new faults faults' lacks lacks' → IsSaid reached (text_for None) result old new faults faults' lacks lacks'
+    → IsPut usage_text Usage result old new faults faults' lacks lacks' → IsReceived reached (text_for None) result old new faults faults' lacks lacks'
 said-usage old new faults faults' lacks lacks' reached result h put =
     said-put (text_for None) old new faults faults' lacks lacks' reached Usage result usage-other h put
   where

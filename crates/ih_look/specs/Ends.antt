@@ -50,12 +50,7 @@ CallEnds c old new OutOfMemory = (new ≡ old) ⊎ IsPartWritten c old new
 -- the files aren't as they ought to be, and none was touched
 CallEnds c old new status = (new ≡ old) × EndsUnread old c status
 
--- The same of words that may name no call, before anything is said: then the usage is to be told.
-abbrev pub Reaches : Option Call → Option Names → Option Names → Status → Type 0
-Reaches None old new status = (status ≡ Usage) × (new ≡ old)
-Reaches (Some c) old new status = CallEnds c old new status
-
--- the same once it was said: the sink may want memory for the usage
+-- The same of words that may name no call: then the status is `Usage`, but where the sink wanted memory for its text.
 abbrev pub Ends : Option Call → Option Names → Option Names → Status → Type 0
 Ends None old new status = ((status ≡ Usage) ⊎ (status ≡ OutOfMemory)) × (new ≡ old)
 Ends (Some c) old new status = CallEnds c old new status
@@ -70,3 +65,10 @@ HasFileCause reads reads' writes writes' status = Unit {0}
 abbrev pub HasShelfCause : {X : Type 0} → ShelfGhosts X → X → X → Status → Type 0
 HasShelfCause shelf old new status =
     HasFileCause (shelf.read_faults old) (shelf.read_faults new) (shelf.write_faults old) (shelf.write_faults new) status
+
+-- What a call had come to before anything was said: to a fault of a file only where its count rose. Where the words
+-- name no call, that is the usage, and nothing was touched.
+abbrev pub Reaches : {X : Type 0} → ShelfGhosts X → X → X → Option Call → Status → Type 0
+Reaches shelf old new None status = (status ≡ Usage) × (new ≡ old)
+Reaches shelf old new (Some c) status =
+    CallEnds c (shelf.names old) (shelf.names new) status × HasShelfCause shelf old new status

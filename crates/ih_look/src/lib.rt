@@ -7,6 +7,6 @@ mod running;
 mod status;
 mod texts;
 
-pub use ih_inputs::InputRole as Role;
+pub use ih_inputs::InputRole;
 pub use running::run_view;
 pub use status::Status;

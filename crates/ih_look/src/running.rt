@@ -1,8 +1,8 @@
 //! The one call that does all that the program does.
 
-ghost use Rattle.std.specs.Prelude.{map, string_bytes};
+ghost use Rattle.std.specs.Prelude.{◌≡◌, IfNone, map, string_bytes};
 ghost use Rattle.ih_look.specs.Ends.{Ends, HasShelfCause, Reaches};
-ghost use Rattle.ih_look.specs.{Calls.call_of, Texts.text_for, Texts.IsSaidTo};
+ghost use Rattle.ih_look.specs.{Calls.call_of, Texts.text_for, Texts.IsReceivedBy};
 
 use crate::calls::read_words;
 use crate::looking::look;
@@ -28,10 +28,13 @@ pub fn run_view<R: Files + Print, S: Shelf, O: Sink>(
     // A fault is answered only where its count rose in this call.
     ensures cause { HasShelfCause S.Shelf shelf.old shelf.new result }
 
+    // Where the words name no call, no file is so much as read.
+    ensures untouched { IfNone (call_of (map string_bytes words.now)) (shelf.new ≡ shelf.old) }
+
     // What was said: the text of the status, or, where the sink wanted memory, a part of the text of a status that the
     // call had reached.
-    ensures said { IsSaidTo O.Sink out.old out.new
-        (Reaches (call_of (map string_bytes words.now)) (S.names shelf.old) (S.names shelf.new))
+    ensures said { IsReceivedBy O.Sink out.old out.new
+        (Reaches S.Shelf shelf.old shelf.new (call_of (map string_bytes words.now)))
         (text_for (call_of (map string_bytes words.now))) result }
 {
     match read_words(words) {

@@ -2,7 +2,8 @@
 
 ghost use Rattle.std.specs.Prelude.{◌≡◌, IfOk, string_bytes};
 ghost use Rattle.ih_look.specs.Calls.{call_in};
-ghost use Rattle.ih_look.specs.Texts.{memory_text, name_of, text_of, usage_text, IsPutInto, IsSaidTo, MayTell};
+ghost use Rattle.ih_inputs.specs.Texts.{memory_text};
+ghost use Rattle.ih_look.specs.Texts.{name_of, text_of, usage_text, IsPutInto, IsReceivedBy, MayTell};
 
 use crate::calls::Call;
 use crate::status::Status;
@@ -84,7 +85,7 @@ pub fn conclude<R: Print, O: Sink>(
     status: Status,
 ) -> Status
     ensures status { MayTell status result }
-    ensures said { IsSaidTo O.Sink out.old out.new (MayTell status) (text_of (call_in call.now)) result }
+    ensures said { IsReceivedBy O.Sink out.old out.new (MayTell status) (text_of (call_in call.now)) result }
 {
     match status {
         Status::Done => status,

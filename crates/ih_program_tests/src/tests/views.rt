@@ -4,7 +4,7 @@ use crate::examples::{COVERED_SOLUTION, NOWHERE};
 use crate::tests::script::Event::{FailWrite, Holds, Lay, Page, Store, Views};
 use crate::tests::script::{Event, goes};
 use ih_fixtures::WARD;
-use ih_look::{Role, Status};
+use ih_look::{InputRole, Status};
 use ih_tables::{Fault, Refusal};
 use std::alloc::Global;
 use std::rt::Files;
@@ -35,14 +35,14 @@ const NO_PAGES: [Row; 6] = [
         WARD,
         COVERED_SOLUTION,
         "k s p",
-        Status::ReadFault(Role::Instance),
+        Status::ReadFault(InputRole::Instance),
         "cannot read k\n",
     ),
     (
         WARD,
         COVERED_SOLUTION,
         "i k p",
-        Status::ReadFault(Role::Solution),
+        Status::ReadFault(InputRole::Solution),
         "cannot read k\n",
     ),
     (

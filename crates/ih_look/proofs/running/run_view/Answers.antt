@@ -1,7 +1,8 @@
-use Rattle.std.proofs.Common.{None, refl, subst}
+use Rattle.std.proofs.Common.{None, Some, refl, subst}
+use Rattle.std.specs.Prelude.{IfNone}
 use Rattle.ih_look.specs.Calls.{Call, call_in}
-use Rattle.ih_look.specs.Ends.{CallEnds, Ends, Reaches}
-use Rattle.ih_look.specs.Texts.{MayTell, text_for, text_of, usage_text, IsSaid}
+use Rattle.ih_look.specs.Ends.{Ends, Reaches}
+use Rattle.ih_look.specs.Texts.{MayTell, text_for, text_of, usage_text, IsReceived}
 use Rattle.ih_look.proofs.Ends.{put-status, said-usage, said-weaker, told-cause, told-ends}
 use Rattle.ih_look.proofs.running.run_view.Goals as goal
 
@@ -13,10 +14,10 @@ returns-in-None-clause-ends g c =
 
 pub returns-in-None-clause-said : goal.returns-in-None-clause-said
 returns-in-None-clause-said g c =
-    let files = g.S.Shelf.names c.args.shelf.now in
-    subst (λ call. IsSaid (Reaches call files files) (text_for call) c.say_usage.result (g.O.Sink.text c.args.out.now) (g.O.Sink.text c.say_usage.new.out)
+    let shelf = c.args.shelf.now in
+    subst (λ call. IsReceived (Reaches g.S.Shelf shelf shelf call) (text_for call) c.say_usage.result (g.O.Sink.text c.args.out.now) (g.O.Sink.text c.say_usage.new.out)
     (g.O.Sink.faults c.args.out.now) (g.O.Sink.faults c.say_usage.new.out) (g.O.Sink.lacks c.args.out.now) (g.O.Sink.lacks c.say_usage.new.out)) c.in-None.ensures
-    (said-usage _ _ _ _ _ _ (Reaches None files files) c.say_usage.result (refl, refl) c.say_usage.ensures)
+    (said-usage _ _ _ _ _ _ (Reaches g.S.Shelf shelf shelf None) c.say_usage.result (refl, refl) c.say_usage.ensures)
 
 pub returns-in-Some-clause-ends : goal.returns-in-Some-clause-ends
 returns-in-Some-clause-ends g c =
@@ -32,10 +33,14 @@ returns-in-Some-clause-cause g c =
 
 pub returns-in-Some-clause-said : goal.returns-in-Some-clause-said
 returns-in-Some-clause-said g c =
-    let old = g.S.Shelf.names c.args.shelf.now in
-    let new = g.S.Shelf.names c.look-status.new.shelf in
+    let old = c.args.shelf.now in
+    let new = c.look-status.new.shelf in
     let call : Call = call_in c.in-Some.call in
-    subst (λ call. IsSaid (Reaches call old new) (text_for call) c.conclude.result (g.O.Sink.text c.args.out.now) (g.O.Sink.text c.conclude.new.out)
+    let status = c.look-status.result in
+    subst (λ call. IsReceived (Reaches g.S.Shelf old new call) (text_for call) c.conclude.result (g.O.Sink.text c.args.out.now) (g.O.Sink.text c.conclude.new.out)
     (g.O.Sink.faults c.args.out.now) (g.O.Sink.faults c.conclude.new.out) (g.O.Sink.lacks c.args.out.now) (g.O.Sink.lacks c.conclude.new.out)) c.in-Some.ensures
-    (said-weaker (text_of call) _ _ _ _ _ _ (MayTell c.look-status.result) (CallEnds call old new)
-    (λ told h. told-ends call old new c.look-status.result told c.look-status.ensures.ends h) c.conclude.result c.conclude.ensures.said)
+    (said-weaker (text_of call) _ _ _ _ _ _ (MayTell status) (Reaches g.S.Shelf old new (Some call)) (λ told h. (
+      told-ends call (g.S.Shelf.names old) (g.S.Shelf.names new) status told c.look-status.ensures.ends h,
+      told-cause (g.S.Shelf.read_faults old) (g.S.Shelf.read_faults new) (g.S.Shelf.write_faults old) (g.S.Shelf.write_faults new) status told
+          c.look-status.ensures.cause h,
+    )) c.conclude.result c.conclude.ensures.said)
