@@ -11,6 +11,7 @@ use Rattle.ih_plan.specs.Sums.{bit, is_listed, which_below}
 use Rattle.ih_plan.specs.Cells.{cell_at, cell_count}
 use Rattle.ih_plan.proofs.ListedBelow.{has, has-listed, has-which_below, which_below-has, tagged-keys}
 use Rattle.ih_plan.specs.Series.{all_touch, footprint_of_all}
+use Rattle.ih_plan.proofs.ReadLemmas.{get-more}
 use Rattle.ih_journal.specs.Tried.{Tried}
 use Rattle.ih_journal.specs.declared.entries.Verdict.{Verdict}
 use Rattle.ih_journal.specs.declared.entries.Verdict.TheVariants.{Accepted, Declined, Stale, Frozen}
@@ -20,7 +21,7 @@ use Rattle.ih_journal.specs.Base.{Base}
 use Rattle.ih_journal.specs.Settings.{theta}
 use Rattle.ih_journal.specs.History.{is_accepted, plan_at, plan_after, version}
 use Rattle.ih_journal.specs.Legal.{IsLegalButDraw, verdict_on, stale_or_accepted, first_touched}
-use Rattle.ih_journal.proofs.Growth.{AreOfMoves, get-more}
+use Rattle.ih_journal.proofs.Growth.{AreOfMoves}
 use Rattle.ih_footprint.proofs.Ranked.{cell_in-in}
 use Rattle.ih_cellbook.specs.Offered.{Offered}
 use Rattle.ih_cellbook.specs.Counters.{first_differing, is_compared, stale_by, verdict_by_counters, risen_where}

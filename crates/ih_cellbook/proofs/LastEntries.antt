@@ -6,9 +6,10 @@ use Rattle.std.proofs.lemmas.List.{take_more}
 use Rattle.ih_journal.specs.Tried.{Tried}
 use Rattle.ih_journal.specs.declared.settings.Options.{Options}
 use Rattle.ih_journal.specs.Attempts.{try_after, else_last, is_done, is_done_after, last_by, next_try, when_by}
-use Rattle.ih_journal.proofs.Growth.{get-more, last_by-more}
+use Rattle.ih_journal.proofs.Growth.{last_by-more}
 use Rattle.ih_cellbook.specs.Laws.{HasNoneBy}
 use Rattle.ih_cellbook.specs.Offers.{next_number}
+use Rattle.ih_plan.proofs.ReadLemmas.{get-more}
 
 pub none-last : (w : ℕ) → None ≡ last_by w []
 unfolding last_by

@@ -1,10 +1,11 @@
 -- Replicas that stand for the first entries of a longer history, as a book has it.
-use Rattle.std.proofs.Common.{◌≡◌, ℕ, zero, suc, ◌+◌, ◌-◌, ◌<◌, ◌≤◌, arith, sym, ap, ◌∙◌, subst, List, [], ◌∷◌, ◌++◌, length, length-append, take, drop, Some, None}
-use Rattle.std.specs.Prelude.{slice_get, option_map, if◌then◌else◌}
+use Rattle.std.proofs.Common.{◌≡◌, ℕ, ◌+◌, ◌-◌, ◌<◌, ◌≤◌, arith, sym, ap, ◌∙◌, subst, List, ◌++◌, length, length-append, take, drop, Some, None}
+use Rattle.std.specs.Prelude.{option_map, if◌then◌else◌}
 use Rattle.std.proofs.Math.Seq.{take-add, take-append_seam}
 use Rattle.std.proofs.lemmas.List.{length-drop, length-take, take-append-drop, take-append-le}
 use Rattle.std.proofs.lemmas.Option.{slice_get_within}
 use Rattle.ih_plan.specs.declared.moves.Move.{Move}
+use Rattle.ih_plan.proofs.ReadLemmas.{get-front}
 use Rattle.ih_journal.specs.Tried.{Tried}
 use Rattle.ih_journal.specs.declared.settings.Options.{Options}
 use Rattle.ih_journal.specs.Attempts.{TryNumber, try_after, is_done, is_done_after, next_try}
@@ -18,11 +19,6 @@ use Rattle.ih_cellbook.proofs.Staying.{last_by-others, right-stays}
 use Rattle.ih_cellbook.specs.Replicas.{AreUpTo, IsReplicaOf, IsReplicaIn, IsOfferOf, IsRightFor, MayFollow, MayFollowUpTo, StandsAfter, StandsAs, StandsUpTo}
 use Rattle.ih_cellbook.specs.Snapshot.{Snapshot}
 use Rattle.ih_cellbook.specs.Told.{Told, TellsOf}
-
-get-front : (G rest : List Tried) (k : ℕ) (e : Tried) → slice_get G k ≡ Some e → slice_get (G ++ rest) k ≡ Some e
-get-front [] rest k e h = absurd (let no : None ≡ Some e = h in cc)
-get-front (x ∷ xs) rest zero e h = h
-get-front (x ∷ xs) rest (suc k) e h = get-front xs rest k e h
 
 -- the first entries of a legal history are one
 legal-front : (b : Base) (G rest : List Tried) → AreLegalButDraws b (G ++ rest) → AreLegalButDraws b G

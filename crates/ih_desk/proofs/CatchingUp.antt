@@ -1,6 +1,5 @@
 -- A searcher that looks: how far it is then in the history.
-use Rattle.std.proofs.Common.{◌≡◌, ◌≢◌, ℕ, zero, suc, ◌+◌, ◌<◌, ◌≤◌, sym, ap, ◌∙◌, subst, refl, arith, List, [], ◌∷◌, ◌++◌, append_assoc, length, length-append, take, drop}
-use Rattle.std.specs.Prelude.{slice_get}
+use Rattle.std.proofs.Common.{◌≡◌, ◌≢◌, ℕ, ◌+◌, ◌<◌, ◌≤◌, sym, ap, ◌∙◌, subst, arith, List, [], ◌∷◌, ◌++◌, append_assoc, length, length-append, take, drop}
 use Rattle.std.proofs.lemmas.List.{append-nil}
 use Rattle.std.proofs.lemmas.List.Elements.{All-append, All-nil}
 use Rattle.std.proofs.lemmas.Option.{slice_get_within}
@@ -22,11 +21,7 @@ use Rattle.ih_cellbook.proofs.Within.{stands-behind, told-further, told-seen}
 use Rattle.ih_turn.specs.Rule.{GoesOn}
 use Rattle.ih_desk.specs.Histories.{EndsWith}
 use Rattle.ih_desk.proofs.HistoryLemmas.{none_by-others}
-
-get-drop : (n : ℕ) (H : List Tried) (k : ℕ) → slice_get (drop n H) k ≡ slice_get H (n + k)
-get-drop zero H k = let same : k ≡ 0 + k = omega arith in ap (slice_get H) same
-get-drop (suc n) [] k = refl
-get-drop (suc n) (x ∷ xs) k = let same : suc (n + k) ≡ suc n + k = omega arith in get-drop n xs k ∙ ap (slice_get (x ∷ xs)) same
+use Rattle.ih_plan.proofs.ReadLemmas.{get-drop}
 
 -- who has seen its own entries has none among the others
 pub none-past : (w s : ℕ) (H : List Tried) → HasSeenOwn H w s → HasNoneBy w (drop s H)

@@ -1,6 +1,6 @@
 -- Histories that grow by one entry at their end.
 use Rattle.std.proofs.Common.{◌≡◌, ℕ, zero, suc, ◌+◌, ◌<◌, ◌≤◌, refl, sym, ap, ◌∙◌, arith, subst, inl, inr, Bool, true, false, List, [], ◌∷◌, ◌++◌, length, length-append, take, drop, Option, Some, None}
-use Rattle.std.specs.Prelude.{◌&&◌, ◌⊎◌, ◌==◌, if◌then◌else◌, slice_get, find, int_lt}
+use Rattle.std.specs.Prelude.{◌&&◌, ◌==◌, if◌then◌else◌, slice_get, find, int_lt}
 use Rattle.std.specs.List.{range_with_len}
 use Rattle.std.proofs.Math.Bool.{and-true}
 use Rattle.std.proofs.Math.Seq.{take-append_seam}
@@ -15,6 +15,7 @@ use Rattle.ih_plan.specs.Cells.{cell_at, cell_count}
 use Rattle.ih_plan.proofs.Series.{after_all-plan}
 use Rattle.ih_plan.specs.Series.{AreMoves, after_all, all_touch}
 use Rattle.ih_plan.proofs.TestLemmas.{equal-swap}
+use Rattle.ih_plan.proofs.ReadLemmas.{get-more}
 use Rattle.ih_journal.specs.Tried.{Tried}
 use Rattle.ih_journal.specs.declared.entries.Verdict.{Verdict}
 use Rattle.ih_journal.specs.declared.entries.Verdict.TheVariants.{Accepted, Declined, Frozen}
@@ -73,17 +74,6 @@ pub plan_at-plan : (b : Base) (H : List Tried) (k : ℕ) → IsPlanOf b.instance
 plan_at-plan b H k start moves = after_entries-plan b.instance b.start (take k H) start (λ j e h. moves j e (take-get H k j e h))
 
 -- ---- entries
-
--- an entry of the longer history is an earlier one, or the last
-pub get-more : (H : List Tried) (e f : Tried) (k : ℕ) → slice_get (H ++ e ∷ []) k ≡ Some f
-    → ((k < length H) × (slice_get H k ≡ Some f)) ⊎ ((k ≡ length H) × (e ≡ f))
-get-more [] e f zero h = inr (refl, let same : e ≡ f = cc in same)
-get-more [] e f (suc k) h = absurd (let no : None ≡ Some f = h in cc)
-get-more (x ∷ xs) e f zero h = inl (omega arith, h)
-get-more (x ∷ xs) e f (suc k) h = elim (get-more xs e f k h) [
-  | inl earlier ↦ let less = earlier.0 in inl (omega arith, earlier.1)
-  | inr last ↦ let here = last.0 in inr (omega arith, last.1)
-]
 
 pub legal-none : (b : Base) (each : ℕ) → AreLegal b each []
 legal-none b each k e h = absurd (let no : None ≡ Some e = h in cc)

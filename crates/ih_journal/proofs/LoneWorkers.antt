@@ -9,11 +9,12 @@ use Rattle.ih_journal.specs.Tried.{Tried}
 use Rattle.ih_journal.specs.declared.entries.Verdict.{Verdict}
 use Rattle.ih_journal.specs.Attempts.{HasMade, try_after, is_done, is_stale, last_by, next_try}
 use Rattle.ih_plan.specs.Series.{price_of_all}
+use Rattle.ih_plan.proofs.ReadLemmas.{get-more}
 use Rattle.ih_journal.specs.Base.{Base}
 use Rattle.ih_journal.specs.History.{plan_after, plan_at}
 use Rattle.ih_journal.specs.Laws.{HasNoneStale, LoneWorkersAreNeverStale, LoneWorkersHaveOneHistory, LoneWorkersMakeEachAttemptOnce}
 use Rattle.ih_journal.specs.Legal.{AreLegal, IsFull, IsLegal, attempt_of, verdict_on}
-use Rattle.ih_journal.proofs.Growth.{attempt-parts, get-more, has_made-none, has_made-own, legal-more, legal-none, length-more, next-legal, verdict_at_once-fresh, verdict_on-end}
+use Rattle.ih_journal.proofs.Growth.{attempt-parts, has_made-none, has_made-own, legal-more, legal-none, length-more, next-legal, verdict_at_once-fresh, verdict_on-end}
 
 get-there : (H : List Tried) (k : ℕ) → k < length H → (f : Tried) × (slice_get H k ≡ Some f)
 get-there [] k h = absurd (omega arith)

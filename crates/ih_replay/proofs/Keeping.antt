@@ -1,11 +1,12 @@
 -- What is kept of workers once an entry is added.
-use Rattle.std.proofs.Common.{◌≡◌, ℕ, zero, suc, ◌+◌, ◌<◌, ◌≤◌, refl, arith, sym, ap, ◌∙◌, subst, inl, inr, Bool, true, false, List, [], ◌∷◌, ◌++◌, length, Some, None}
-use Rattle.std.specs.Prelude.{if◌then◌else◌, slice_get, slice_set, ◌↔◌, ◌⊎◌, Result, Ok, Err, OnOk, OnErr}
+use Rattle.std.proofs.Common.{◌≡◌, ℕ, ◌+◌, ◌<◌, ◌≤◌, refl, arith, sym, ap, ◌∙◌, subst, inl, inr, Bool, true, false, List, [], ◌∷◌, ◌++◌, length, Some, None}
+use Rattle.std.specs.Prelude.{if◌then◌else◌, slice_get, slice_set, ◌↔◌, Result, Ok, Err, OnOk, OnErr}
 use Rattle.std.proofs.lemmas.Bool.{cases_eq}
 use Rattle.std.proofs.lemmas.List.{length-set}
 use Rattle.ih_tables.specs.declared.drafts.Draft.{Draft}
 use Rattle.ih_plan.specs.Draws.{draw_at, move_of, state_after, stream_at}
 use Rattle.ih_plan.proofs.Entries.{slice_get-set_other, slice_get-set_same}
+use Rattle.ih_plan.proofs.ReadLemmas.{get-more, get-last, get-front}
 use Rattle.ih_moves.proofs.Streams.{stream-next}
 use Rattle.ih_journal.specs.Tried.{Tried}
 use Rattle.ih_journal.specs.declared.settings.Options.{Options}
@@ -13,7 +14,7 @@ use Rattle.ih_journal.specs.declared.refusals.Reason.{Reason}
 use Rattle.ih_journal.specs.Attempts.{try_after, is_retried, last_by}
 use Rattle.ih_journal.specs.Base.{Base}
 use Rattle.ih_journal.specs.Legal.{AreLegal, IsLegal}
-use Rattle.ih_journal.proofs.Growth.{get-more, last_by-other, last_by-own, legal-more, length-more}
+use Rattle.ih_journal.proofs.Growth.{last_by-other, last_by-own, legal-more, length-more}
 use Rattle.ih_cellbook.specs.Offers.{HasSeenOwn}
 use Rattle.ih_cellbook.specs.Replicas.{IsReplicaIn, IsReplicaOf}
 use Rattle.ih_cellbook.specs.Snapshot.{Snapshot}
@@ -24,22 +25,13 @@ use Rattle.ih_replay.specs.Keeping.{IsReplayed, IsWorkerIn, gone_on}
 
 -- ---- what a worker must have seen
 
-get-last : (H : List Tried) (e : Tried) → slice_get (H ++ e ∷ []) (length H) ≡ Some e
-get-last [] e = refl
-get-last (x ∷ xs) e = get-last xs e
-
-get-front : (H : List Tried) (e f : Tried) (k : ℕ) → slice_get H k ≡ Some f → slice_get (H ++ e ∷ []) k ≡ Some f
-get-front [] e f k h = absurd (let no : None ≡ Some f = h in cc)
-get-front (x ∷ xs) e f zero h = h
-get-front (x ∷ xs) e f (suc k) h = get-front xs e f k h
-
 seen-other : (H : List Tried) (e : Tried) (w n : ℕ) → (e.worker ≡ w → ⊥) → HasSeenOwn H w n ↔ HasSeenOwn (H ++ e ∷ []) w n
 seen-other H e w n other = (
   λ seen j f there own. elim (get-more H e f j there) [
     | inl earlier ↦ seen j f earlier.1 own
     | inr last ↦ absurd (other (ap (λ (g : Tried). g.worker) last.1 ∙ own))
   ],
-  λ seen j f there own. seen j f (get-front H e f j there) own,
+  λ seen j f there own. seen j f (get-front H (e ∷ []) j f there) own,
 )
 
 seen-own : (H : List Tried) (e : Tried) (n : ℕ) → (length H + 1 ≤ n) ↔ HasSeenOwn (H ++ e ∷ []) e.worker n
@@ -140,20 +132,11 @@ worker-went b c H G e x y I o own_end base same number again draw stream stands 
 
 -- ---- all workers
 
-get-behind : (xs : List Worker) (y x : Worker) (k : ℕ) → slice_get (xs ++ y ∷ []) k ≡ Some x → (slice_get xs k ≡ Some x) ⊎ ((k ≡ length xs) × (y ≡ x))
-get-behind [] y x zero h = inr (refl, let same : y ≡ x = cc in same)
-get-behind [] y x (suc k) h = absurd (let no : None ≡ Some x = h in cc)
-get-behind (z ∷ zs) y x zero h = inl h
-get-behind (z ∷ zs) y x (suc k) h = elim (get-behind zs y x k h) [
-  | inl earlier ↦ inl earlier
-  | inr last ↦ inr (ap suc last.0, last.1)
-]
-
 -- the workers of a search that has no entry yet, one more of them
 pub workers-more : (b : Base) (xs : List Worker) (w : ℕ) (y : Worker) → length xs ≡ w → ((v : ℕ) (x : Worker) → slice_get xs v ≡ Some x → IsWorkerIn b [] v x) → IsWorkerIn b [] w y
     → (v : ℕ) (x : Worker) → slice_get (xs ++ y ∷ []) v ≡ Some x → IsWorkerIn b [] v x
-workers-more b xs w y len before own v x there = elim (get-behind xs y x v there) [
-  | inl earlier ↦ before v x earlier
+workers-more b xs w y len before own v x there = elim (get-more xs y x v there) [
+  | inl earlier ↦ before v x earlier.1
   | inr last ↦ subst (λ u. IsWorkerIn b [] u x) (sym (last.0 ∙ len)) (subst (IsWorkerIn b [] w) last.1 own)
 ]
 

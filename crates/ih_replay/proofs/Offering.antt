@@ -1,10 +1,10 @@
 -- The offer of a line's move, priced on a replica that has seen what the line says.
-use Rattle.std.proofs.Common.{◌≡◌, ℕ, zero, suc, ◌+◌, ◌<◌, refl, arith, sym, ap, ◌∙◌, subst, List, [], ◌∷◌, length, take, drop, Some}
-use Rattle.std.specs.Prelude.{slice_get}
+use Rattle.std.proofs.Common.{◌≡◌, ℕ, ◌+◌, ◌<◌, refl, arith, sym, ap, ◌∙◌, subst, List, [], ◌∷◌, length, take, drop, Some}
 use Rattle.std.specs.List.{AllByRecursion}
 use Rattle.ih_plan.specs.Expand.{IsMoveOf}
 use Rattle.ih_plan.specs.Series.{price_of_all}
 use Rattle.ih_plan.specs.declared.moves.Move.{Move}
+use Rattle.ih_plan.proofs.ReadLemmas.{get-drop}
 use Rattle.ih_journal.specs.declared.entries.Entry.{Entry}
 use Rattle.ih_journal.specs.Tried.{Tried, tried}
 use Rattle.ih_journal.specs.declared.entries.Verdict.{Verdict as Verdicts}
@@ -13,8 +13,6 @@ use Rattle.ih_journal.specs.Base.{Base}
 use Rattle.ih_journal.specs.History.{plan_at}
 use Rattle.ih_journal.proofs.Mapped.{attempt-one}
 use Rattle.ih_journal.specs.Legal.{IsLegal, verdict_on}
-use Rattle.ih_cellbook.specs.Singles.{offered_of}
-use Rattle.ih_cellbook.specs.declared.offers.Offer.{Offer}
 use Rattle.ih_cellbook.specs.Offered.{Offered}
 use Rattle.ih_cellbook.specs.Laws.{HasNoneBy}
 use Rattle.ih_cellbook.specs.Offers.{HasSeenOwn, IsRightOffer, entry_of, next_number}
@@ -42,13 +40,8 @@ legal-of b H e fits all = record {
 
 -- ---- the offer
 
-get-behind : (H : List Tried) (n k : ℕ) → slice_get (drop n H) k ≡ slice_get H (n + k)
-get-behind H zero k = let same : k ≡ 0 + k = omega arith in ap (slice_get H) same
-get-behind [] (suc n) k = refl
-get-behind (x ∷ xs) (suc n) k = let more : suc (n + k) ≡ suc n + k = omega arith in get-behind xs n k ∙ ap (slice_get (x ∷ xs)) more
-
 none-behind : (H : List Tried) (w n : ℕ) → HasSeenOwn H w n → HasNoneBy w (drop n H)
-none-behind H w n seen k e there own = let less = seen (n + k) e (sym (get-behind H n k) ∙ there) own in absurd (omega (arith, less))
+none-behind H w n seen k e there own = let less = seen (n + k) e (sym (get-drop n H k) ∙ there) own in absurd (omega (arith, less))
 
 module _ (b : Base) (H : List Tried) (r : Snapshot) (stands : IsReplicaIn b H r) (e : Entry) (o : Offered) (offered : IsOfferOf r e.number (e.mv ∷ []) o)
     (at : r.seen ≡ e.seen) (own : r.worker ≡ e.worker) (all : AllByRecursion (FitsIn b H (length H) e) of_attempt) where

@@ -1,6 +1,6 @@
 -- The best of all rounds, as one more is searched.
-use Rattle.std.proofs.Common.{◌≡◌, ℕ, zero, suc, ◌<◌, ◌≤◌, refl, sym, ap, ◌∙◌, subst, arith, inl, inr, Bool, true, false, List, [], ◌∷◌, ◌++◌, length, Option, Some, None, ℤ}
-use Rattle.std.specs.Prelude.{slice_get, ◌⊎◌, ◌≤ℤ◌, ◌<ℤ◌, int_lt, if◌then◌else◌, not}
+use Rattle.std.proofs.Common.{◌≡◌, ℕ, ◌<◌, ◌≤◌, refl, sym, ◌∙◌, subst, arith, inl, inr, Bool, true, false, List, [], ◌∷◌, ◌++◌, length, Option, Some, None, ℤ}
+use Rattle.std.specs.Prelude.{slice_get, ◌≤ℤ◌, ◌<ℤ◌, int_lt, if◌then◌else◌, not}
 use Rattle.std.proofs.lemmas.Int.{ints}
 use Rattle.std.proofs.lemmas.List.{length-map}
 use Rattle.std.proofs.lemmas.Option.{slice_get_within}
@@ -11,24 +11,10 @@ use Rattle.ih_journal.specs.Best.{BestIs, IsBest, HasNone}
 use Rattle.ih_rounds.specs.Best.{HaveNone, IsBestOf, IsFeasibleIn, cost_in}
 use Rattle.ih_plan.specs.Timetable.{IsPlanOf, Timetable}
 use Rattle.ih_plan.proofs.TestLemmas.{below, not-below}
-use Rattle.ih_plan.proofs.ReadLemmas.{get-last}
+use Rattle.ih_plan.proofs.ReadLemmas.{get-last, get-front, get-more}
 use Rattle.ih_rounds.specs.declared.running.Held.{Held}
 use Rattle.ih_rounds.specs.Ends.{HoldsBest, better_of}
 use Rattle.ih_rounds.specs.Rounds.{Round, base_in, next_start}
-
-pub get-earlier : {X : Type 0} (xs : List X) (x y : X) (k : ℕ) → slice_get xs k ≡ Some y → slice_get (xs ++ x ∷ []) k ≡ Some y
-get-earlier [] x y k h = absurd (let no : None ≡ Some y = h in cc)
-get-earlier (z ∷ zs) x y zero h = h
-get-earlier (z ∷ zs) x y (suc k) h = get-earlier zs x y k h
-
-pub get-more : {X : Type 0} (xs : List X) (x y : X) (k : ℕ) → slice_get (xs ++ x ∷ []) k ≡ Some y → (slice_get xs k ≡ Some y) ⊎ ((length xs ≡ k) × (x ≡ y))
-get-more [] x y zero h = inr (refl, (let e : Some x ≡ Some y = h in cc))
-get-more [] x y (suc k) h = absurd (let no : None ≡ Some y = h in cc)
-get-more (z ∷ zs) x y zero h = inl h
-get-more (z ∷ zs) x y (suc k) h = elim (get-more zs x y k h) [
-  | inl earlier ↦ inl earlier
-  | inr last ↦ inr (ap suc last.0, last.1)
-]
 
 -- a place of a history is one of what its entries stand for
 in-tries : (H : List Entry) (j : ℕ) → j ≤ length H → j ≤ length (tries H)
@@ -40,8 +26,8 @@ in-entries H j h = let many = length-map H tried in omega (arith, h, many)
 module _ (b : Base) (rs : List Round) (r : Round) where
   none-more : HaveNone b rs → HasNone (base_in b (length rs) r) (tries r.history) → HaveNone b (rs ++ r ∷ [])
   none-more none own q s h = elim (get-more rs r s q h) [
-    | inl earlier ↦ none q s earlier
-    | inr last ↦ subst (λ t. HasNone (base_in b q t) (tries t.history)) last.1 (subst (λ n. HasNone (base_in b n r) (tries r.history)) last.0 own)
+    | inl earlier ↦ none q s earlier.1
+    | inr last ↦ subst (λ t. HasNone (base_in b q t) (tries t.history)) last.1 (subst (λ n. HasNone (base_in b n r) (tries r.history)) (sym last.0) own)
   ]
 
   -- the best stays, where no timetable of the new round is cheaper
@@ -52,15 +38,15 @@ module _ (b : Base) (rs : List Round) (r : Round) where
       let inside = slice_get_within rs q best.round best.is in
       record {
         round = best.round;
-        is = get-earlier rs r best.round q best.is;
+        is = get-front rs (r ∷ []) q best.round best.is;
         place = best.place;
         works = best.works;
         cheapest = λ p j s h in-range works. elim (get-more rs r s p h) [
-          | inl earlier ↦ best.cheapest p j s earlier in-range works
-          | inr last ↦ by_last p j s last.0 last.1 in-range works
+          | inl earlier ↦ best.cheapest p j s earlier.1 in-range works
+          | inr last ↦ by_last p j s (sym last.0) last.1 in-range works
         ];
         first = λ p j s h in-range works before. elim (get-more rs r s p h) [
-          | inl earlier ↦ best.first p j s earlier in-range works before
+          | inl earlier ↦ best.first p j s earlier.1 in-range works before
           | inr last ↦ let at = last.0 in absurd (elim before [
             | inl less ↦ omega arith
             | inr same ↦ let e = same.0 in omega arith
@@ -83,14 +69,14 @@ module _ (b : Base) (rs : List Round) (r : Round) where
     place = in-entries r.history k best.place;
     works = best.works;
     cheapest = λ p j s h in-range works. elim (get-more rs r s p h) [
-      | inl earlier ↦ let less = cheap p j s earlier in-range works in omega (arith, ints)
-      | inr last ↦ by_last p j s last.0 last.1 in-range works
+      | inl earlier ↦ let less = cheap p j s earlier.1 in-range works in omega (arith, ints)
+      | inr last ↦ by_last p j s (sym last.0) last.1 in-range works
     ];
     first = λ p j s h in-range works before. elim (get-more rs r s p h) [
-      | inl earlier ↦ cheap p j s earlier in-range works
+      | inl earlier ↦ cheap p j s earlier.1 in-range works
       | inr last ↦ elim before [
         | inl less ↦ let at = last.0 in absurd (omega arith)
-        | inr same ↦ by_first p j s last.0 last.1 in-range works same.1
+        | inr same ↦ by_first p j s (sym last.0) last.1 in-range works same.1
       ]
     ];
   }

@@ -2,7 +2,7 @@
 use Rattle.std.proofs.Common.{◌≡◌, ℕ, zero, suc, ◌+◌, refl, sym, ap, ◌∙◌, subst, arith, inl, inr, List, [], ◌∷◌, ◌++◌, length, Option, Some, None}
 use Rattle.std.proofs.lemmas.List.{append_assoc, append-nil, map-append, length-append}
 use Rattle.ih_plan.specs.Timetable.{Timetable, IsPlanOf}
-use Rattle.ih_plan.proofs.ReadLemmas.{get-last}
+use Rattle.ih_plan.proofs.ReadLemmas.{get-last, get-front, get-more}
 use Rattle.ih_journal.specs.declared.entries.Entry.{Entry}
 use Rattle.ih_journal.specs.declared.settings.Options.{Options}
 use Rattle.ih_journal.specs.Base.{Base}
@@ -15,7 +15,7 @@ use Rattle.ih_rounds.specs.Ends.{Ends, HaveRun, HoldsBest, better_of, end_with}
 use Rattle.ih_rounds.specs.Rounds.{AreRounds, IsRound, Round, StartsFrom, histories, journals, options_in}
 use Rattle.ih_rounds.specs.Steps.{HasRound}
 use Rattle.ih_rounds.specs.Telling.{Answers, with_answers}
-use Rattle.ih_rounds.proofs.BestOf.{get-earlier, get-more, held-more}
+use Rattle.ih_rounds.proofs.BestOf.{held-more}
 
 -- so many rounds were searched, the next starts from P, and this is the best so far
 pub record HaveComeTo (b : Base) (count : ℕ) (before after : Answers) (old new : List ℕ) (best : Option Held) (P : Timetable) : Type 0 where
@@ -28,16 +28,16 @@ module _ (b : Base) (rs : List Round) (r : Round) where
   -- where a round of these starts, it starts among more of them
   starts-more : (q : ℕ) (P : Timetable) → StartsFrom b rs q P → StartsFrom b (rs ++ r ∷ []) q P
   starts-more zero P h = h
-  starts-more (suc q) P h = (h.0, h.1, get-earlier rs r h.0 q h.2, h.3, h.4)
+  starts-more (suc q) P h = (h.0, h.1, get-front rs (r ∷ []) q h.0 h.2, h.3, h.4)
 
   rounds-more : AreRounds b rs → IsRound b rs (length rs) r → AreRounds b (rs ++ r ∷ [])
   rounds-more legal one q s h = elim (get-more rs r s q h) [
     | inl earlier ↦
-        let is = legal q s earlier in
+        let is = legal q s earlier.1 in
         record { start = starts-more q s.start is.start; full = is.full }
     | inr last ↦
         subst (IsRound b (rs ++ r ∷ []) q) last.1
-        (subst (λ k. IsRound b (rs ++ r ∷ []) k r) last.0 (record { start = starts-more (length rs) r.start one.start; full = one.full }))
+        (subst (λ k. IsRound b (rs ++ r ∷ []) k r) (sym last.0) (record { start = starts-more (length rs) r.start one.start; full = one.full }))
   ]
 
 journals-more : (o : Options) (q : ℕ) (rs : List Round) (r : Round)
@@ -103,7 +103,7 @@ come-more b count before between after old new more best found P outcome come ha
         count_is = omega (arith, len, length-append rs (r ∷ []));
         legal = rounds-more b rs r come.run.legal (rw len (record { start = come.next; full = has.full }));
         fits = λ q s h. elim (get-more rs r s q h) [
-          | inl earlier ↦ come.run.fits q s earlier
+          | inl earlier ↦ come.run.fits q s earlier.1
           | inr last ↦ subst (λ (t : Round). IsPlanOf b.instance t.start) last.1 come.fits
         ];
         told = has.told ∙ (ap (λ a. with_answers a (H ∷ [])) come.run.told

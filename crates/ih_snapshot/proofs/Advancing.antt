@@ -1,5 +1,5 @@
 -- A replica after one entry more stands for the longer history.
-use Rattle.std.proofs.Common.{◌≡◌, ℕ, suc, ◌+◌, ◌<◌, ◌≤◌, ◌^◌, arith, sym, ap, ◌∙◌, subst, true, List, [], ◌∷◌, ◌++◌, length, append_assoc, take, inl, inr, Some}
+use Rattle.std.proofs.Common.{◌≡◌, ℕ, ◌+◌, ◌<◌, ◌≤◌, ◌^◌, arith, sym, ap, ◌∙◌, subst, true, List, [], ◌∷◌, ◌++◌, length, append_assoc, take, inl, inr, Some}
 use Rattle.std.specs.Prelude.{slice_get, slice_index, slice_index_or}
 use Rattle.std.proofs.Math.Seq.{take-append-add}
 use Rattle.std.proofs.lemmas.Bool.{cases_lt}
@@ -8,6 +8,7 @@ use Rattle.std.proofs.lemmas.Option.{slice_get-get_or}
 use Rattle.ih_plan.specs.Sums.{bit}
 use Rattle.ih_plan.specs.Cells.{cell_at, cell_count}
 use Rattle.ih_plan.specs.Series.{footprint_of_all}
+use Rattle.ih_plan.proofs.ReadLemmas.{get-behind}
 use Rattle.ih_journal.specs.Tried.{Tried}
 use Rattle.ih_journal.specs.Base.{Base}
 use Rattle.ih_journal.specs.History.{after_entry, touches_accepted, is_accepted, plan_at, version}
@@ -25,10 +26,6 @@ use Rattle.ih_cellbook.specs.Snapshot.{Snapshot}
 use Rattle.ih_snapshot.proofs.Touching.{keys}
 
 -- ---- entries that follow
-
-get-behind : (H es : List Tried) (k : ℕ) → slice_get (H ++ es) (length H + k) ≡ slice_get es k
-get-behind [] es k = let same : 0 + k ≡ k = omega arith in ap (slice_get es) same
-get-behind (x ∷ xs) es k = let more : length (x ∷ xs) + k ≡ suc (length xs + k) = omega arith in ap (slice_get (x ∷ xs ++ es)) more ∙ get-behind xs es k
 
 -- the next of them may come after those before it
 pub legal-next : (b : Base) (H es : List Tried) (k : ℕ) (e : Tried) → AreLegalButDraws b (H ++ es) → slice_get es k ≡ Some e → IsLegalButDraw b (H ++ take k es) e
