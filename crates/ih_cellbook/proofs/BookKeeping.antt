@@ -8,10 +8,11 @@ use Rattle.std.proofs.lemmas.List.{get_or_past, get_or-set_same, get_or-set_othe
 use Rattle.std.proofs.lemmas.List.Elements.{All-nil, All-cons}
 use Rattle.ih_tables.specs.declared.drafts.Draft.{Draft}
 use Rattle.ih_tables.specs.declared.bills.Bill.{Bill}
-use Rattle.ih_tables.specs.Bills.{at, by_place, IsWithin, add_bills, feasible, cost}
+use Rattle.ih_tables.specs.Bills.{at, IsWithin, add_bills, feasible, cost}
+use Rattle.ih_tables.specs.Listed.{listed}
 use Rattle.ih_tables.specs.Sizes.{shift_count, room_count, theatre_count, surgeon_count, nurse_count}
 use Rattle.ih_tables.specs.Valid.{IsValid}
-use Rattle.ih_tables.proofs.BillLemmas.{at-by_place}
+use Rattle.ih_tables.proofs.BillLemmas.{at-listed}
 use Rattle.ih_plan.specs.Timetable.{Timetable, IsPlanOf}
 use Rattle.ih_plan.specs.BillOf.{bill_of, change_of_bill}
 use Rattle.ih_plan.specs.Sums.{bit}
@@ -67,15 +68,15 @@ sum-in x y hx hy = (omega (arith, ints, hx.0, hy.0), omega (arith, ints, hx.1, h
 
 pub sum-within : (a b : Bill) → IsWithin (10 ^ 11) a → IsWithin (10 ^ 11) b → IsWithin (10 ^ 12) (add_bills a b)
 sum-within a b ha hb = record {
-  v = λ k l. rw (at-by_place 9 (λ k. at a.v k +ℤ at b.v k) k l) (sum-in (at a.v k) (at b.v k) (ha.v k l) (hb.v k l));
-  s = λ k l. rw (at-by_place 8 (λ k. at a.s k +ℤ at b.s k) k l) (sum-in (at a.s k) (at b.s k) (ha.s k l) (hb.s k l));
+  v = λ k l. rw (at-listed 9 (λ k. at a.v k +ℤ at b.v k) k l) (sum-in (at a.v k) (at b.v k) (ha.v k l) (hb.v k l));
+  s = λ k l. rw (at-listed 8 (λ k. at a.s k +ℤ at b.s k) k l) (sum-in (at a.s k) (at b.s k) (ha.s k l) (hb.s k l));
 }
 
 back : (x y : ℤ) → x +ℤ (y -ℤ x) ≡ y
 back x y = omega (arith, ints)
 
 -- a bill has nine counts and eight costs
-whole-bill : (I : Draft) (P : Timetable) → (let b : Bill = record { v = by_place 9 (at (bill_of I P).v); s = by_place 8 (at (bill_of I P).s) } in b) ≡ bill_of I P
+whole-bill : (I : Draft) (P : Timetable) → (let b : Bill = record { v = listed 9 (at (bill_of I P).v); s = listed 8 (at (bill_of I P).s) } in b) ≡ bill_of I P
 unfolding bill_of
 whole-bill I P = refl
 

@@ -11,7 +11,7 @@ use Rattle.ih_tables.specs.Bills.{score}
 use Rattle.ih_tables.specs.Sizes.{sizes_of}
 use Rattle.ih_plan.specs.declared.moves.Move.{Move}
 use Rattle.ih_plan.specs.Timetable.{Timetable, IsPlanOf}
-use Rattle.ih_plan.specs.Cells.{IsCellOf, content_of, cell_at, cell_count, number_of}
+use Rattle.ih_plan.specs.Cells.{IsCellOf, content_of, cell_at, cell_count, number_in}
 use Rattle.ih_plan.specs.Series.{AreMoves, after_all, all_touch, price_of_all}
 use Rattle.ih_journal.specs.Tried.{Tried}
 use Rattle.ih_journal.specs.declared.entries.Verdict.TheVariants.{Accepted, Declined, Frozen}
@@ -78,7 +78,7 @@ module _ (b : Base) (H : List Tried) (number seen : ℕ) (m : List Move) (price 
   same-there : AreSameOn b.instance (all_touch b.instance (plan_at b H seen) m) (plan_at b H seen) (plan_after b H)
   unfolding first_touched
   same-there c range touched =
-      let n : ℕ = number_of b.instance c in
+      let n : ℕ = number_in (sizes_of b.instance) c in
       let inside = number_in-in (sizes_of b.instance) c range in
       let test = λ (n : ℕ). all_touch b.instance (plan_at b H seen) m (cell_at b.instance n) && touched_since b.instance (plan_at b H seen) (drop seen H) (cell_at b.instance n) in
       let off : test n ≡ false = find-none test (range_with_len 0 (cell_count b.instance)) none-changed n (range-has 0 (cell_count b.instance) n (omega arith) (omega arith)) in

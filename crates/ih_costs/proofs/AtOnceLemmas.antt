@@ -1,6 +1,6 @@
 -- No write of a move changes what a later one looks at.
 use Rattle.std.proofs.Common.{◌≡◌, ℕ, zero, suc, ◌+◌, ◌<◌, ◌≤◌, refl, arith, sym, ap, subst, ◌∙◌, Bool, true, false, List, [], ◌∷◌, map, Option, Some, None}
-use Rattle.std.specs.Prelude.{◌==◌, ◌&&◌, ◌||◌, nat_le, nat_lt, is_some, filter, if◌then◌else◌}
+use Rattle.std.specs.Prelude.{◌==◌, ◌&&◌, ◌||◌, filter, if◌then◌else◌}
 use Rattle.std.specs.List.{range_with_len}
 use Rattle.std.proofs.lemmas.Bool.{eqb-false}
 use Rattle.ih_tables.specs.declared.drafts.Draft.{Draft}
@@ -11,15 +11,14 @@ use Rattle.ih_tables.specs.declared.ids.NurseNo.{NurseNo}
 use Rattle.ih_tables.specs.declared.cells.Cell.{Cell}
 use Rattle.ih_tables.specs.declared.cells.Cell.TheVariants.{Stay, RoomDay, TheatreDay, SurgeonDay, RoomShift, NurseShift, Care}
 use Rattle.ih_tables.specs.Sizes.{room_count, shift_count, nurse_count}
-use Rattle.ih_tables.specs.Works.{max_load}
 use Rattle.ih_plan.specs.declared.moves.Placement.{Placement}
 use Rattle.ih_plan.specs.declared.moves.Write.{Write}
 use Rattle.ih_plan.specs.declared.moves.Write.TheVariants.{SetStay, SetCare}
 use Rattle.ih_plan.specs.declared.moves.Move.TheVariants.{Idle, Place, Withdraw, SetDay, SetRoom, SetTheatre, SwapRooms, Nurse, NurseRun, SwapNurses}
 use Rattle.ih_plan.specs.Timetable.{Timetable, IsPlanOf, stay_of, care_of, choice_of}
 use Rattle.ih_plan.specs.Writes.{put, IsWriteOf}
-use Rattle.ih_plan.specs.Expand.{expand, restay, swap_stays}
-use Rattle.ih_plan.specs.Presence.{admission_of, day_of}
+use Rattle.ih_plan.specs.Expand.{expand, restay, swap_stays, in_run}
+use Rattle.ih_plan.specs.Presence.{admission_of}
 use Rattle.ih_plan.specs.Costs.{is_number}
 use Rattle.ih_plan.specs.Footprint.{in_placement, in_stay, is_own, in_choice, write_touches, writes_touch}
 use Rattle.ih_plan.proofs.Entries.{stay_of-other, care_of-other}
@@ -159,7 +158,7 @@ at-once I P (SwapRooms p q) c plan fits = by_case (p.0 == q.0) refl
     by_case false e = two-stays I P p q (stay_of P p.0) (stay_of P q.0) c (λ same. eqb-false p.0 q.0 e (sym same))
 at-once I P (Nurse r k n) c plan fits = refl
 at-once I P (NurseRun n r d len) c plan fits =
-    run-at-once I r n fits.1 fits.0 (λ k. is_some (max_load I n.0 k) && nat_le d.0 (day_of k) && nat_lt (day_of k) (d.0 + len))
+    run-at-once I r n fits.1 fits.0 (in_run I n d.0 len)
     0 (shift_count I) P plan (omega arith) c
 at-once I P (SwapNurses k a b) c plan fits = by_case (a.0 == b.0) refl
   where

@@ -1,7 +1,6 @@
 -- What a loop over the days or shifts of a placement has added up.
-use Rattle.std.proofs.Common.{◌≡◌, ℕ, ◌+◌, ◌*◌, ◌^◌, ◌<◌, ◌≤◌, min, refl, arith, ap, ◌∙◌, true, Option, Some, None, w64, FitsSigned, to_z}
+use Rattle.std.proofs.Common.{◌≡◌, ℕ, ◌+◌, ◌*◌, ◌^◌, ◌<◌, ◌≤◌, refl, arith, ap, ◌∙◌, Option, Some, None, w64, FitsSigned, to_z}
 use Rattle.std.specs.Prelude.{ℤ, pos, ◌+ℤ◌, ◌-ℤ◌}
-use Rattle.std.proofs.lemmas.Bool.{le-leb, lt-ltb}
 use Rattle.ih_tables.specs.declared.drafts.Draft.{Draft}
 use Rattle.ih_tables.specs.declared.ids.PatientNo.{PatientNo}
 use Rattle.ih_tables.specs.declared.ids.Shift.{Shift}
@@ -11,7 +10,6 @@ use Rattle.ih_plan.specs.declared.moves.Placement.{Placement}
 use Rattle.ih_plan.specs.declared.moves.Write.TheVariants.{SetStay}
 use Rattle.ih_plan.specs.Timetable.{Timetable, care_of}
 use Rattle.ih_plan.specs.Writes.{put}
-use Rattle.ih_plan.specs.Presence.{covers, day_of}
 use Rattle.ih_plan.specs.BillOf.{Counts, as_bill, rule_count, cost_count}
 use Rattle.ih_plan.specs.Cells.{part_at}
 use Rattle.ih_plan.proofs.CellNumbers.{room_day_cell, room_shift_cell}
@@ -20,10 +18,6 @@ use Rattle.ih_nurses.specs.Deltas.{excess_in, increase_by_placement}
 use Rattle.ih_tables.specs.BillNumbers.{mixed_gender, room_capacity, uncovered_room, mixed_age, nurse_skill, excess_workload}
 use Rattle.ih_costs.specs.StayDelta.{of_nurse}
 use Rattle.ih_costs.proofs.DeltaSteps.{IsIncreased, handed, rule-less, cost-less, step-increased, step-fits, count-increased, count-fits}
-
--- a shift of the counted days is counted
-pub shift-counted : (a n days k : ℕ) → 3 * a ≤ k → k < 3 * min (a + n) days → covers a n (day_of k) ≡ true
-shift-counted a n days k begun below = rw (le-leb a (day_of k) (omega arith), lt-ltb (day_of k) (a + n) (omega arith)) refl
 
 module _ (I : Draft) (P : Timetable) (p : PatientNo) (at : Placement) where
   abbrev pub placed : Timetable

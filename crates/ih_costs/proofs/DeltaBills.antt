@@ -6,14 +6,14 @@ use Rattle.ih_tables.specs.declared.drafts.Draft.{Draft}
 use Rattle.ih_tables.specs.declared.bills.Bill.{Bill}
 use Rattle.ih_tables.specs.declared.ids.PatientNo.{PatientNo}
 use Rattle.ih_tables.specs.Sizes.{patient_count}
-use Rattle.ih_tables.specs.Bills.{at as place, by_place, sub_bills}
+use Rattle.ih_tables.specs.Bills.{at as place, sub_bills}
+use Rattle.ih_tables.specs.Listed.{listed}
 use Rattle.ih_tables.specs.Valid.{IsValid}
 use Rattle.ih_plan.specs.declared.moves.Placement.{Placement}
 use Rattle.ih_plan.specs.declared.moves.Write.TheVariants.{SetStay}
 use Rattle.ih_plan.specs.Timetable.{Timetable, IsPlanOf, IsPlacement, stay_of, care_of}
 use Rattle.ih_plan.specs.Writes.{put, IsWriteOf}
 use Rattle.ih_plan.specs.Costs.{surgeon_of}
-use Rattle.ih_plan.specs.Sums.{listed}
 use Rattle.ih_plan.specs.BillOf.{Counts, as_bill, bill_of, change_of_bill, rule_count, cost_count}
 use Rattle.ih_plan.specs.Cells.{part_at, part_of, content_of}
 use Rattle.ih_plan.proofs.Entries.{stay_of-same}
@@ -181,7 +181,7 @@ stay-law I P p (Some at) valid plan known fits = placement-law I P p at valid pl
 less-less : (a b c : ℤ) → (c -ℤ a) -ℤ (b -ℤ a) ≡ c -ℤ b
 less-less a b c = omega (arith, ints)
 
-places-less-less : (m : ℕ) (a b c : ℕ → ℤ) → by_place m (λ k. place (by_place m (λ k. c k -ℤ a k)) k -ℤ place (by_place m (λ k. b k -ℤ a k)) k) ≡ by_place m (λ k. c k -ℤ b k)
+places-less-less : (m : ℕ) (a b c : ℕ → ℤ) → listed m (λ k. place (listed m (λ k. c k -ℤ a k)) k -ℤ place (listed m (λ k. b k -ℤ a k)) k) ≡ listed m (λ k. c k -ℤ b k)
 places-less-less m a b c =
     places-by m (λ x y. x -ℤ y) (λ k. c k -ℤ a k) (λ k. b k -ℤ a k) (λ k. c k -ℤ b k) (λ k. less-less (a k) (b k) (c k))
 

@@ -3,7 +3,7 @@ use Rattle.std.proofs.Common.{◌≡◌, ℕ, ◌+◌, ◌*◌, ◌^◌, ◌<◌
 use Rattle.std.specs.Prelude.{ℤ, pos, neg_ℤ, ◌+ℤ◌, ◌-ℤ◌, ◌≤ℤ◌, map}
 use Rattle.std.proofs.lemmas.Int.{ints}
 use Rattle.ih_tables.specs.Bills.{at, sub_bills}
-use Rattle.ih_tables.proofs.BillLemmas.{at-by_place}
+use Rattle.ih_tables.proofs.BillLemmas.{at-listed}
 use Rattle.ih_plan.specs.BillOf.{Counts, as_bill, rule_count, cost_count}
 use Rattle.ih_costs.specs.StayDelta.{span_sum}
 use Rattle.ih_costs.proofs.ChangeSums.{at-counts}
@@ -30,10 +30,10 @@ increase-more a b f g sum step h so_far next =
 
 -- a number of a difference of bills
 pub rule-less : (a b : Counts) (k : ℕ) → k < 9 → at (sub_bills (as_bill a) (as_bill b)).v k ≡ pos (rule_count k a) -ℤ pos (rule_count k b)
-rule-less a b k h = at-by_place 9 (λ k. at (map pos a.v) k -ℤ at (map pos b.v) k) k h ∙ rw (at-counts a.v k, at-counts b.v k) refl
+rule-less a b k h = at-listed 9 (λ k. at (map pos a.v) k -ℤ at (map pos b.v) k) k h ∙ rw (at-counts a.v k, at-counts b.v k) refl
 
 pub cost-less : (a b : Counts) (k : ℕ) → k < 8 → at (sub_bills (as_bill a) (as_bill b)).s k ≡ pos (cost_count k a) -ℤ pos (cost_count k b)
-cost-less a b k h = at-by_place 8 (λ k. at (map pos a.s) k -ℤ at (map pos b.s) k) k h ∙ rw (at-counts a.s k, at-counts b.s k) refl
+cost-less a b k h = at-listed 8 (λ k. at (map pos a.s) k -ℤ at (map pos b.s) k) k h ∙ rw (at-counts a.s k, at-counts b.s k) refl
 
 -- ---- a number added up over the days or shifts from a to b, each at most 10^11 in magnitude
 

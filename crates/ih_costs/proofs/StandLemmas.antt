@@ -42,8 +42,10 @@ room_days-care I P v r k n fits stands = record {
   each = stands.each;
 }
 
-pub theatres-care : (I : Draft) (P : Timetable) (l : Theatres) (r : RoomNo) (k : Shift) (n : Option NurseNo) → Has_theatres I P l → Has_theatres I (put (SetCare r k n) P) l
-theatres-care I P l r k n stands = record {
+pub theatres-care : (I : Draft) (P : Timetable) (l : Theatres) (r : RoomNo) (k : Shift) (n : Option NurseNo) → IsWriteOf I (SetCare r k n) → Has_theatres I P l
+    → Has_theatres I (put (SetCare r k n) P) l
+theatres-care I P l r k n fits stands = record {
+  plan = put-plan I P (SetCare r k n) stands.plan fits;
   theatres = stands.theatres;
   theatre_days = stands.theatre_days;
   surgeon_days = stands.surgeon_days;

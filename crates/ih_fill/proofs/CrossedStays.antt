@@ -22,7 +22,8 @@ use Rattle.ih_plan.specs.Timetable.{Timetable, IsPlanOf, stay_of, care_of}
 use Rattle.ih_plan.specs.Writes.{put}
 use Rattle.ih_plan.specs.Persons.{person_of}
 use Rattle.ih_plan.specs.Presence.{Admission, day_of, placed_at, stays_at, admission_of, is_in, present, shifts_in, shifts_of, entry_in, entry_of}
-use Rattle.ih_plan.specs.Sums.{listed, sum_below, which_below, tagged}
+use Rattle.ih_plan.specs.Sums.{sum_below, which_below, tagged}
+use Rattle.ih_tables.specs.Listed.{listed}
 use Rattle.ih_plan.specs.Costs.{surgeon_of, is_number, operated_in, admitted_on, operated, operated_by, theatre_of, nurse_for, load_of}
 use Rattle.ih_plan.specs.BillOf.{Counts, bill_of}
 use Rattle.ih_plan.specs.Cells.{Content, persons_content, surgeries_content, theatres_content, nursing_content, load_content, care_content, stay_content, content_of, part_of, part_at, cell_at, cell_count}

@@ -6,8 +6,9 @@ use Rattle.std.proofs.lemmas.Bool.{cases_lt}
 use Rattle.std.proofs.Math.IntN.{*ℤ_comm, *ℤ-zero, suc_ℤ-*ℤ, pred_ℤ-*ℤ}
 use Rattle.ih_tables.specs.declared.bills.Bill.{Bill}
 use Rattle.ih_tables.specs.declared.bills.Weights.{Weights}
-use Rattle.ih_tables.specs.Bills.{at, by_place, signed_sum, sub_bills, score, cost}
-use Rattle.ih_tables.proofs.BillLemmas.{at-by_place}
+use Rattle.ih_tables.specs.Bills.{at, signed_sum, sub_bills, score, cost}
+use Rattle.ih_tables.specs.Listed.{listed as by_place}
+use Rattle.ih_tables.proofs.BillLemmas.{at-listed as at-by_place}
 use Rattle.ih_fill.specs.Fill.{without_uncovered}
 use Rattle.ih_fill.specs.FirstLeast.{IsBefore}
 use Rattle.ih_fill.specs.Scoring.{view_of}

@@ -21,7 +21,7 @@ use Rattle.ih_plan.specs.Sums.{tagged}
 use Rattle.ih_plan.proofs.ListedBelow.{has, tagged-same}
 use Rattle.ih_plan.proofs.PlanRanges.{has-range}
 use Rattle.ih_plan.proofs.Entries.{care_of-same, care_of-other}
-use Rattle.ih_plan.proofs.Loads.{nurse_load, room_load, load_of-same}
+use Rattle.ih_plan.proofs.Loads.{nurse_load, load_of-same, room_load-kept}
 
 -- the counted shifts are on days of the stay, within the horizon
 pub counted-covers : (I : Draft) (a : Admission) (n k : ℕ) → has k (shifts_in I (Some a) n) ≡ true → (covers a.day n (day_of k) ≡ true) × (k < shift_count I)
@@ -51,10 +51,6 @@ pair-apart r s k l h e f =
 
 module _ (I : Draft) (P : Timetable) (r : RoomNo) (k : Shift) (n : Option NurseNo) (plan : IsPlanOf I P)
     (room : r.0 < room_count I) (shift : k.0 < shift_count I) where
-  pub room_load-kept : (l s : ℕ) → room_load I (put (SetCare r k n) P) l s ≡ room_load I P l s
-  unfolding present entry_of admission_of
-  room_load-kept l s = refl
-
   -- a nurse's load in another shift, or where neither nurse of the write is the nurse
   load-apart : (m l : ℕ) → l < shift_count I → ((k.0 == l) && (is_number (care_of P r.0 k.0) m || is_number (option_map (λ (m : NurseNo). m.0) n) m)) ≡ false
       → (s : ℕ) → nurse_load I (put (SetCare r k n) P) m l s ≡ nurse_load I P m l s
@@ -67,7 +63,7 @@ module _ (I : Draft) (P : Timetable) (r : RoomNo) (k : Shift) (n : Option NurseN
   ]
     where
       there : (s ≡ r.0 → l ≡ k.0 → ⊥) → nurse_load I (put (SetCare r k n) P) m l s ≡ nurse_load I P m l s
-      there ne = rw (care_of-other I P r k n s l plan shift lh ne, room_load-kept l s) refl
+      there ne = rw (care_of-other I P r k n s l plan shift lh ne, room_load-kept I P r k n l s) refl
 
       here : l ≡ k.0 → nurse_load I (put (SetCare r k n) P) m k.0 r.0 ≡ nurse_load I P m k.0 r.0
       here now =

@@ -1,5 +1,5 @@
 -- A write to a choice at two timetables that agree on its footprint.
-use Rattle.std.proofs.Common.{◌≡◌, ℕ, ◌+◌, ◌<◌, refl, arith, sym, ap, ◌∙◌, Bool, true, false, inl, inr, Option, Some, None}
+use Rattle.std.proofs.Common.{◌≡◌, ℕ, ◌<◌, refl, arith, sym, ap, ◌∙◌, Bool, true, false, inl, inr, Option, Some, None}
 use Rattle.std.specs.Prelude.{if◌then◌else◌, ◌&&◌, ◌==◌, option_map}
 use Rattle.std.proofs.lemmas.Bool.{cases_eq, eq-eqb, eqb-true, eqb-false, and_from}
 use Rattle.ih_tables.specs.declared.drafts.Draft.{Draft}
@@ -14,36 +14,19 @@ use Rattle.ih_plan.specs.Timetable.{Timetable, IsPlanOf, care_of}
 use Rattle.ih_plan.specs.Writes.{put}
 use Rattle.ih_plan.specs.Persons.{person_of}
 use Rattle.ih_plan.specs.Presence.{Admission, admission_of, is_in, is_present, present, day_of, entry_of, shifts_of, shifts_in, room_of, covers, workload_of}
-use Rattle.ih_plan.specs.Costs.{nurse_for, operated, operated_by, load_of, is_number}
+use Rattle.ih_plan.specs.Costs.{nurse_for, operated, operated_by, load_of}
 use Rattle.ih_plan.specs.Cells.{IsCellOf, content_of, load_content, care_content, nursing_content}
 use Rattle.ih_plan.specs.Footprint.{write_touches, in_choice}
-use Rattle.ih_plan.proofs.SumLemmas.{sum_below-but}
 use Rattle.ih_footprint.specs.Laws.{AreSameOn}
 use Rattle.ih_plan.specs.Sums.{tagged}
 use Rattle.ih_plan.proofs.ListedBelow.{has, which_below-agree, has-which_below, tagged-same, tagged-agree, tagged-agree_keys}
 use Rattle.ih_plan.proofs.Entries.{care_of-same, care_of-other, number_of_nurse}
-use Rattle.ih_plan.proofs.Loads.{nurse_load, room_load, room_load-same, load_of-same, if-same}
-use Rattle.ih_footprint.proofs.FrameCare.{counted-covers, room_load-kept}
+use Rattle.ih_plan.proofs.Loads.{room_load, room_load-same, if-same, load-moves, load-kept}
+use Rattle.ih_footprint.proofs.FrameCare.{counted-covers}
 
 -- one timetable
 module _ (I : Draft) (P : Timetable) (r : RoomNo) (k : Shift) (n : Option NurseNo) (plan : IsPlanOf I P)
     (room : r.0 < room_count I) (shift : k.0 < shift_count I) where
-  -- the nurse's load in the write's shift
-  load-change_care : (m : ℕ) → load_of I (put (SetCare r k n) P) m k.0 + (if is_number (care_of P r.0 k.0) m then room_load I P k.0 r.0 else 0)
-      ≡ load_of I P m k.0 + (if is_number (number_of_nurse n) m then room_load I P k.0 r.0 else 0)
-  unfolding load_of
-  load-change_care m =
-      let change = sum_below-but (room_count I) r.0 (nurse_load I (put (SetCare r k n) P) m k.0) (nurse_load I P m k.0) room
-      (λ s sh ne. rw (care_of-other I P r k n s k.0 plan shift shift (λ same now. ne same), room_load-kept I P r k n plan room shift k.0 s) refl) in
-      let here : nurse_load I (put (SetCare r k n) P) m k.0 r.0 ≡ (if is_number (number_of_nurse n) m then room_load I P k.0 r.0 else 0) =
-      rw (care_of-same I P r k n plan room shift, room_load-kept I P r k n plan room shift k.0 r.0) refl in
-      rw (← here) change
-
-  load-other : (m l : ℕ) → l < shift_count I → (l ≡ k.0 → ⊥) → load_of I (put (SetCare r k n) P) m l ≡ load_of I P m l
-  load-other m l lh ne =
-      load_of-same I (put (SetCare r k n) P) P m l (λ s sh.
-      rw (care_of-other I P r k n s l plan shift lh (λ same now. ne now), room_load-kept I P r k n plan room shift l s) refl)
-
   choice-change : (x l : ℕ) → has l (shifts_of I P x) ≡ true
       → nurse_for (put (SetCare r k n) P) (room_of I P x) l ≡ (if (k.0 == l) && is_present I P r.0 (day_of k.0) x then number_of_nurse n else nurse_for P (room_of I P x) l)
   unfolding shifts_of
@@ -119,10 +102,10 @@ module _ (I : Draft) (P Q : Timetable) (r : RoomNo) (k : Shift) (n : Option Nurs
   after-load_care m l lh e = elim (cases_eq l k.0) [
     | inl now ↦
         let e_now : load_of I Q m k.0 ≡ load_of I P m k.0 = rw now at e in
-        let changeP = load-change_care I P r k n planP room shift m in
-        let changeQ = rw (same-nurse, same-load) at (load-change_care I Q r k n planQ room shift m) in
+        let changeP = load-moves I P r k n planP room shift m in
+        let changeQ = rw (same-nurse, same-load) at (load-moves I Q r k n planQ room shift m) in
         rw now (omega (arith, changeP, changeQ, e_now))
-    | inr later ↦ rw (load-other I Q r k n planQ room shift m l lh later, load-other I P r k n planP room shift m l lh later) e
+    | inr later ↦ rw (load-kept I Q r k n planQ room shift m l lh later, load-kept I P r k n planP room shift m l lh later) e
   ]
 
   after-choices : (x : ℕ) → x < person_count I → tagged (nurse_for Q (room_of I Q x)) (shifts_of I Q x) ≡ tagged (nurse_for P (room_of I P x)) (shifts_of I P x)

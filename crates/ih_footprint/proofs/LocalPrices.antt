@@ -8,12 +8,12 @@ use Rattle.std.proofs.lemmas.List.FromFn.{get_or-map-range_with_len, length-map-
 use Rattle.std.proofs.lemmas.Int.{ints}
 use Rattle.ih_tables.specs.declared.drafts.Draft.{Draft}
 use Rattle.ih_tables.specs.declared.cells.Cell.{Cell}
-use Rattle.ih_tables.specs.Bills.{at, by_place}
+use Rattle.ih_tables.specs.Bills.{at}
+use Rattle.ih_tables.specs.Listed.{listed}
 use Rattle.ih_tables.specs.Sizes.{sizes_of}
 use Rattle.ih_plan.specs.declared.moves.Move.{Move}
 use Rattle.ih_plan.specs.Timetable.{Timetable, IsPlanOf}
 use Rattle.ih_plan.specs.Expand.{IsMoveOf, after}
-use Rattle.ih_plan.specs.Sums.{listed}
 use Rattle.ih_plan.specs.BillOf.{Counts, change_of_bill}
 use Rattle.ih_plan.specs.Cells.{cell_at, cell_count, part_at, IsCellOf}
 use Rattle.ih_plan.specs.Footprint.{touches, footprint}
@@ -38,7 +38,7 @@ at-listed m f k h =
 
 -- lists of differences, number by number
 pub differences-same : (m : ℕ) (a b c d : ℕ → ℕ) → ((k : ℕ) → a k + d k ≡ b k + c k)
-    → by_place m (λ k. at (map pos (listed m a)) k -ℤ at (map pos (listed m b)) k) ≡ by_place m (λ k. at (map pos (listed m c)) k -ℤ at (map pos (listed m d)) k)
+    → listed m (λ k. at (map pos (listed m a)) k -ℤ at (map pos (listed m b)) k) ≡ listed m (λ k. at (map pos (listed m c)) k -ℤ at (map pos (listed m d)) k)
 differences-same m a b c d e =
     map-same (λ k. at (map pos (listed m a)) k -ℤ at (map pos (listed m b)) k) (λ k. at (map pos (listed m c)) k -ℤ at (map pos (listed m d)) k) (range_with_len 0 m)
     (λ k h. let within = has-range 0 m k h in

@@ -19,7 +19,7 @@ use Rattle.ih_tables.specs.declared.refusals.Place.{Place}
 use Rattle.ih_tables.specs.declared.refusals.Key.TheVariants as keys
 use Rattle.ih_tables.specs.Lookups.{number_in}
 use Rattle.ih_tables.specs.Places.{at_key, whole}
-use Rattle.ih_plan.specs.Sums.{listed}
+use Rattle.ih_tables.specs.Listed.{listed}
 use Rattle.ih_format.specs.Checks.{each_after}
 use Rattle.ih_format.specs.Documents.{value_of}
 use Rattle.ih_instance.specs.Instance.{room, surgeon, theatre, nurse, occupant, patient, names_of_rooms, names_of_surgeons, rooms, surgeons, theatres, nurses, occupants, patients, names, weights, draft, instance, draft_with}

@@ -12,7 +12,7 @@ use Rattle.serde_json.specs.Data.{Data, string}
 use Rattle.ih_tables.specs.declared.refusals.Place.{Place}
 use Rattle.ih_tables.specs.Lookups.{number_in}
 use Rattle.ih_tables.specs.Places.{at_item}
-use Rattle.ih_plan.specs.Sums.{listed}
+use Rattle.ih_tables.specs.Listed.{listed}
 use Rattle.ih_format.specs.Checks.{Check, between, number, new_name, reference, vector, named}
 use Rattle.ih_format.proofs.Listing.{same_items}
 use Rattle.ih_solution.specs.Solution.{number_data, list_data}

@@ -13,7 +13,7 @@ use Rattle.ih_tables.specs.declared.refusals.Key.TheVariants as keys
 use Rattle.ih_tables.specs.Lookups.{number_in}
 use Rattle.ih_tables.specs.Places.{at_key, at_item}
 use Rattle.ih_plan.specs.Draws.{state_after}
-use Rattle.ih_plan.specs.Sums.{listed}
+use Rattle.ih_tables.specs.Listed.{listed}
 use Rattle.ih_format.specs.Checks.{text, reference, vector, each_after}
 use Rattle.ih_instance.specs.Instance.{room, surgeon, theatre, occupant, patient, room_numbers}
 use Rattle.ih_solution.specs.Solution.{list_data}

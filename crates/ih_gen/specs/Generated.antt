@@ -4,7 +4,8 @@ use Rattle.std.specs.Prelude.{ℕ, ◌+◌, ◌-◌, ◌*◌, ◌/◌, ◌%◌, 
 use Rattle.serde_json.specs.Data.{Data, boolean, string, object, Members, no_members, member}
 use Rattle.serde_json.specs.Written.{compact_text}
 use Rattle.ih_plan.specs.Draws.{state_after}
-use Rattle.ih_plan.specs.Sums.{which_below, count_below, listed}
+use Rattle.ih_plan.specs.Sums.{which_below, count_below}
+use Rattle.ih_tables.specs.Listed.{listed}
 use Rattle.ih_solution.specs.Solution.{number_data, list_data}
 use Rattle.ih_gen.specs.declared.persons.PersonPicks.{PersonPicks}
 use Rattle.ih_gen.specs.declared.patients.PatientPicks.{PatientPicks}

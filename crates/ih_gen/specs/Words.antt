@@ -4,7 +4,7 @@ use Rattle.rand_xoshiro.specs.Xoshiro256.{of_seed}
 use Rattle.rand_xoshiro.specs.SplitMix64.{splitmix_seed}
 use Rattle.serde_json.specs.Data.{Data}
 use Rattle.ih_plan.specs.Draws.{state_after, word_at}
-use Rattle.ih_plan.specs.Sums.{listed}
+use Rattle.ih_tables.specs.Listed.{listed}
 
 -- the stream that a number seeds
 unfoldable pub stream_of : ℕ → List ℕ

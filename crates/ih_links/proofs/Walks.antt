@@ -1,12 +1,18 @@
--- Walking a list from its first node to its last, for loops over `first` and `next`: what is left at each node, and
--- what follows the i-th.
-use Rattle.std.proofs.Common.{◌≡◌, ℕ, zero, suc, ◌<◌, refl, arith, sym, ap, subst, ◌∙◌, true, false, List, [], ◌∷◌, length, drop, get_or, ◌++◌, inl, inr, Option, Some, None}
-use Rattle.std.specs.Prelude.{IfSome}
+-- Walking a list from its first node to its last, for loops over `first` and `next`: what is left at each node, what
+-- holds of those that were told, and what follows the i-th.
+use Rattle.std.proofs.Common.{◌≡◌, ℕ, zero, suc, ◌<◌, ◌≤◌, refl, arith, sym, ap, subst, ◌∙◌, true, false, List, [], ◌∷◌, length, length-append, drop, get_or, ◌++◌, inl, inr, Option, Some, None}
+use Rattle.std.specs.Prelude.{IfSome, ◌==◌, if◌then◌else◌}
 use Rattle.std.proofs.lemmas.Bool.{cases_eq, eq-eqb, ne_eqb}
 use Rattle.std.proofs.lemmas.List.{append_assoc, append-nil}
-use Rattle.ih_links.specs.Lists.{has, IsOnce, AreNodes, following, first_of, rest_from}
-use Rattle.ih_links.proofs.Members.{apart, has-here, has-there, has-cases}
+use Rattle.ih_links.specs.Lists.{has, IsOnce, AreNodes, following, first_of}
+use Rattle.ih_links.proofs.Members.{apart, has-here, has-there, has-cases, length-once}
 use Rattle.ih_links.proofs.Paths.{following-here, following-there}
+
+-- the list from a node on, and nothing without one
+abbrev pub rest_from : Option ℕ → List ℕ → List ℕ
+rest_from None xs = []
+rest_from (Some x) [] = []
+rest_from (Some x) (y ∷ ys) = if y == x then y ∷ ys else rest_from (Some x) ys
 
 rest-here : (x y : ℕ) (ys : List ℕ) → y ≡ x → rest_from (Some x) (y ∷ ys) ≡ y ∷ ys
 rest-here x y ys e = let t = eq-eqb y x e in rw t refl
@@ -99,6 +105,36 @@ module _ {nodes x : ℕ} {xs told : List ℕ} {at next : Option ℕ} (w : IsWalk
 -- a walk that is past the last has told the list
 pub walk-ends : (nodes : ℕ) (xs told : List ℕ) → IsWalk nodes xs told None → told ≡ xs
 walk-ends nodes xs told w = sym (append-nil told) ∙ w.whole
+
+-- a walk has told no more nodes than there are
+pub walk-few : {nodes : ℕ} {xs told : List ℕ} {at : Option ℕ} → IsWalk nodes xs told at → length told ≤ nodes
+walk-few {nodes} {xs} {told} {at} w =
+    let all = ap length w.whole in
+    omega (arith, all, length-append told (rest_from at xs), length-once nodes xs w.known.once w.known.below)
+
+-- ---- what holds of the nodes that a walk has told
+
+-- The walk is at this node, and Q holds of the nodes that it has told.
+pub record IsWalkWith (nodes : ℕ) (xs : List ℕ) (at : Option ℕ) (Q : List ℕ → Type 0) : Type 0 where
+  pub told : List ℕ
+  pub walk : IsWalk nodes xs told at
+  pub so_far : Q told
+
+pub with-begins : {Q : List ℕ → Type 0} (nodes : ℕ) (xs : List ℕ) → AreNodes nodes xs → Q [] → IsWalkWith nodes xs (first_of xs) Q
+with-begins nodes xs known q = record { told = []; walk = walk-begins nodes xs known; so_far = q }
+
+pub with-goes_on : {Q R : List ℕ → Type 0} {nodes x : ℕ} {xs : List ℕ} {at next : Option ℕ} (w : IsWalkWith nodes xs at Q) → at ≡ Some x → next ≡ following x xs
+    → ((told : List ℕ) → Q told → R (told ++ x ∷ [])) → IsWalkWith nodes xs next R
+with-goes_on {x = x} w here next_is step = record {
+  told = w.told ++ x ∷ [];
+  walk = walk-goes_on w.walk here next_is;
+  so_far = step w.told w.so_far;
+}
+
+pub with-ends : {Q : List ℕ → Type 0} {nodes : ℕ} {xs : List ℕ} {at : Option ℕ} (w : IsWalkWith nodes xs at Q) → at ≡ None → Q xs
+with-ends {Q} {nodes} {xs} w past = subst Q (walk-ends nodes xs w.told (subst (IsWalk nodes xs w.told) past w.walk)) w.so_far
+
+-- ---- places
 
 has-index : (xs : List ℕ) (i : ℕ) → i < length xs → has (get_or xs i 0) xs ≡ true
 has-index [] i h = absurd (omega arith)

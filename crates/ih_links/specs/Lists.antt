@@ -45,12 +45,6 @@ abbrev pub following : ℕ → List ℕ → Option ℕ
 following x [] = None
 following x (y ∷ ys) = if y == x then first_of ys else following x ys
 
--- the list from a node on, and nothing without one
-abbrev pub rest_from : Option ℕ → List ℕ → List ℕ
-rest_from None xs = []
-rest_from (Some x) [] = []
-rest_from (Some x) (y ∷ ys) = if y == x then y ∷ ys else rest_from (Some x) ys
-
 -- the home of a node is head h
 abbrev pub is_at : ℕ → Option ℕ → Bool
 is_at h None = false

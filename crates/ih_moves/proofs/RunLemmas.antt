@@ -1,9 +1,9 @@
 -- The writes of a run, shift by shift.
 use Rattle.std.proofs.Common.{◌≡◌, ℕ, zero, suc, ◌+◌, ◌-◌, ◌*◌, ◌/◌, ◌<◌, ◌≤◌, refl, sym, ◌∙◌, ap, arith, Bool, true, false, List, [], ◌∷◌, ◌++◌, Some, map}
-use Rattle.std.specs.Prelude.{if◌then◌else◌, cond, filter, is_some, nat_lt, nat_le, ◌&&◌}
+use Rattle.std.specs.Prelude.{if◌then◌else◌, cond, filter, is_some, ◌&&◌}
 use Rattle.std.specs.List.{range_with_len}
 use Rattle.std.proofs.Common.{inl, inr, min}
-use Rattle.std.proofs.lemmas.Bool.{leb-true, ltb-true, cases_lt}
+use Rattle.std.proofs.lemmas.Bool.{cases_lt}
 use Rattle.std.proofs.lemmas.List.FromFn.{filter_of_map_range_with_len_more}
 use Rattle.std.proofs.lemmas.List.{map-id}
 use Rattle.ih_tables.specs.declared.drafts.Draft.{Draft}
@@ -12,7 +12,10 @@ use Rattle.ih_tables.specs.declared.ids.RoomNo.{RoomNo}
 use Rattle.ih_tables.specs.Works.{max_load}
 use Rattle.ih_plan.specs.declared.moves.Write.{Write}
 use Rattle.ih_plan.specs.declared.moves.Write.TheVariants.{SetCare}
-use Rattle.ih_moves.specs.Runs.{in_run, run_below}
+use Rattle.ih_plan.specs.Presence.{in_span}
+use Rattle.ih_plan.specs.Expand.{in_run}
+use Rattle.ih_plan.proofs.Spans.{span-outside}
+use Rattle.ih_moves.specs.Runs.{run_below}
 
 filter-more : (p : ℕ → Bool) (n : ℕ) → filter p (range_with_len 0 (n + 1)) ≡ filter p (range_with_len 0 n) ++ cond (p n) (n ∷ []) []
 filter-more p n =
@@ -32,32 +35,29 @@ unfolding run_below
 run-zero I n r d len = refl
 
 pub run-more : (I : Draft) (n : NurseNo) (r : RoomNo) (d len k : ℕ)
-    → run_below I n r d len (k + 1) ≡ (if in_run I n.0 d len k then run_below I n r d len k ++ SetCare r (record { 0 = k }) (Some n) ∷ [] else run_below I n r d len k)
+    → run_below I n r d len (k + 1) ≡ (if in_run I n d len k then run_below I n r d len k ++ SetCare r (record { 0 = k }) (Some n) ∷ [] else run_below I n r d len k)
 unfolding run_below
-run-more I n r d len k = rw (filter-more (in_run I n.0 d len) k) (by_case (in_run I n.0 d len k))
+run-more I n r d len k = rw (filter-more (in_run I n d len) k) (by_case (in_run I n d len k))
   where
     write : ℕ → Write
     write i = SetCare r (record { 0 = i }) (Some n)
 
-    by_case : (b : Bool) → map write (filter (in_run I n.0 d len) (range_with_len 0 k) ++ cond b (k ∷ []) [])
-        ≡ (if b then map write (filter (in_run I n.0 d len) (range_with_len 0 k)) ++ write k ∷ [] else map write (filter (in_run I n.0 d len) (range_with_len 0 k)))
-    by_case true = map-push write (filter (in_run I n.0 d len) (range_with_len 0 k)) k
-    by_case false = map-none write (filter (in_run I n.0 d len) (range_with_len 0 k))
+    by_case : (b : Bool) → map write (filter (in_run I n d len) (range_with_len 0 k) ++ cond b (k ∷ []) [])
+        ≡ (if b then map write (filter (in_run I n d len) (range_with_len 0 k)) ++ write k ∷ [] else map write (filter (in_run I n d len) (range_with_len 0 k)))
+    by_case true = map-push write (filter (in_run I n d len) (range_with_len 0 k)) k
+    by_case false = map-none write (filter (in_run I n d len) (range_with_len 0 k))
 
-none-of : (a b c : Bool) → (b ≡ true → c ≡ true → ⊥) → (a && b && c) ≡ false
-none-of true true true h = absurd (h refl refl)
-none-of true true false h = refl
-none-of true false c h = refl
-none-of false b c h = refl
+and-none : (a b : Bool) → b ≡ false → (a && b) ≡ false
+and-none true b e = e
+and-none false b e = refl
 
-out-of : (I : Draft) (n d len k : ℕ) → (d ≤ k / 3 → k / 3 < d + len → ⊥) → in_run I n d len k ≡ false
-out-of I n d len k h =
-    none-of (is_some (max_load I n k)) (nat_le d (k / 3)) (nat_lt (k / 3) (d + len)) (λ e f. h (leb-true d (k / 3) e) (ltb-true (k / 3) (d + len) f))
+out-of : (I : Draft) (n : NurseNo) (d len k : ℕ) → (d ≤ k / 3 → k / 3 < d + len → ⊥) → in_run I n d len k ≡ false
+out-of I n d len k h = and-none (is_some (max_load I n.0 k)) (in_span d (d + len) (k / 3)) (span-outside d (d + len) (k / 3) h)
 
 pub run-before : (I : Draft) (n : NurseNo) (r : RoomNo) (d len k : ℕ) → k ≤ 3 * d → run_below I n r d len k ≡ []
 run-before I n r d len zero h = run-zero I n r d len
 run-before I n r d len (suc k) h =
-    let out = out-of I n.0 d len k (λ a b. omega arith) in
+    let out = out-of I n d len k (λ a b. omega arith) in
     let rest = run-before I n r d len k (omega arith) in
     let step = run-more I n r d len k in
     let one : suc k ≡ k + 1 = omega arith in
@@ -66,7 +66,7 @@ run-before I n r d len (suc k) h =
 pub run-past : (I : Draft) (n : NurseNo) (r : RoomNo) (d len k : ℕ) → run_below I n r d len (3 * (d + len) + k) ≡ run_below I n r d len (3 * (d + len))
 run-past I n r d len zero = ap (λ (i : ℕ). run_below I n r d len i) (omega arith)
 run-past I n r d len (suc k) =
-    let out = out-of I n.0 d len (3 * (d + len) + k) (λ a b. omega arith) in
+    let out = out-of I n d len (3 * (d + len) + k) (λ a b. omega arith) in
     let rest = run-past I n r d len k in
     let step = run-more I n r d len (3 * (d + len) + k) in
     let one : 3 * (d + len) + suc k ≡ 3 * (d + len) + k + 1 = omega arith in

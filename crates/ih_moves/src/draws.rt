@@ -185,7 +185,7 @@ fn draw_nurse(inst: &Instance, u1: u64, u2: u64, u3: u64) -> Option<Move>
     let r = choose(u1, inst.rooms())?;
     let k = choose(u2, inst.shifts())?;
     let n = choose_nurse(inst, u3, k)?;
-    Some(Move::Nurse(RoomNo(r), Shift(k), NurseNo(n)))
+    Some(Move::Nurse(RoomNo(r), Shift(k), n))
 }
 
 fn draw_run(inst: &Instance, u1: u64, u2: u64, u3: u64, u4: u64) -> Option<Move>
@@ -237,12 +237,12 @@ fn draw(inst: &Instance, u0: u64, u1: u64, u2: u64, u3: u64, u4: u64) -> Move
     }
 }
 
-fn choose_nurse(inst: &Instance, u: u64, k: u32) -> Option<u32>
+fn choose_nurse(inst: &Instance, u: u64, k: u32) -> Option<NurseNo>
     requires { k < shift_count inst.now.draft }
     ensures value { result ≡ choose_nurse inst.now.draft u k }
-    ensures below { IfSome result (λ n. n < nurse_count inst.now.draft) }
+    ensures below { IfSome result (λ n. n.0 < nurse_count inst.now.draft) }
 {
     let working = inst.working(Shift(k));
     let place = choose(u, working.len() as u32)?;
-    Some(working[place as usize].0)
+    Some(working[place as usize])
 }

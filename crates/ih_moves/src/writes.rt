@@ -3,8 +3,8 @@
 ghost use Rattle.std.specs.Prelude.{◌≡◌, ◌<◌, ◌≤◌, ◌+◌, ◌++◌, ◌∷◌, [], length, if◌then◌else◌};
 ghost use Rattle.ih_tables.specs.Sizes.{shift_count, nurse_count};
 ghost use Rattle.ih_plan.specs.Timetable.{IsPlanOf, stay_of};
-ghost use Rattle.ih_plan.specs.Expand.{expand, IsMoveOf, swap_stays};
-ghost use Rattle.ih_moves.specs.Runs.{in_run, run_below};
+ghost use Rattle.ih_plan.specs.Expand.{expand, in_run, IsMoveOf, swap_stays};
+ghost use Rattle.ih_moves.specs.Runs.{run_below};
 
 use ih_plan::{Move, Placement, Plan, Write, nurse_at};
 use ih_tables::{Day, Instance, NurseNo, PatientNo, RoomNo, Shift, TheatreNo};
@@ -68,7 +68,7 @@ fn is_in_run(inst: &Instance, n: NurseNo, d: Day, len: u32, k: u32) -> bool
     requires day { d.0 < inst.now.draft.days }
     requires len { len ≤ 7 }
     requires shift { k < shift_count inst.now.draft }
-    ensures { result ≡ in_run inst.now.draft n.0 d.0 len k }
+    ensures { result ≡ in_run inst.now.draft n d.0 len k }
 {
     inst.works(n, Shift(k)).is_some() && d.0 <= k / 3 && k / 3 < d.0 + len
 }

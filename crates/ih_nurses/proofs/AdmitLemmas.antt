@@ -19,8 +19,8 @@ use Rattle.ih_plan.proofs.Overtime.{if-both, one_room, workload-most}
 use Rattle.ih_plan.proofs.Whereabouts.{nowhere, somewhere}
 use Rattle.ih_plan.proofs.TestLemmas.{if-most}
 use Rattle.ih_nurses.specs.Loads.{stay_load}
-use Rattle.ih_nurses.proofs.WalkLemmas.{persons-few}
 use Rattle.ih_links.proofs.Ties.{or-false}
+use Rattle.ih_plan.proofs.BillBounds.{few-persons}
 
 -- Q is P with patient p admitted.
 pub record IsAdmission (I : Draft) (P Q : Timetable) (p : ℕ) (at : Placement) : Type 0 where
@@ -100,4 +100,4 @@ load-most I P n k valid =
     let turned = sum_below-swap (room_count I) (person_count I) (person_load I P k) in
     let each = sum_below-le (person_count I) 100000 (λ x. sum_below (room_count I) (λ r. person_load I P k r x))
     (λ x h. omega (arith, one_room (room_count I) (admission_of I P x) (person_of I x).length_of_stay (day_of k) (workload_of I P k x), workload-most I x (entry_of I P x k) valid)) in
-    omega (arith, nursed, people, turned, each, persons-few I valid)
+    omega (arith, nursed, people, turned, each, few-persons I valid)

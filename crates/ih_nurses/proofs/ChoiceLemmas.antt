@@ -22,7 +22,7 @@ use Rattle.ih_plan.specs.BillOf.{cost_count}
 use Rattle.ih_plan.specs.Cells.{part_at, part_of, content_of}
 use Rattle.ih_plan.specs.Sums.{sum_below}
 use Rattle.ih_plan.proofs.ListedBelow.{tagged-values}
-use Rattle.ih_plan.proofs.Loads.{room_load}
+use Rattle.ih_plan.proofs.Loads.{room_load, load-moves}
 use Rattle.ih_plan.proofs.SumBounds.{sum_below-add}
 use Rattle.ih_plan.proofs.SumLemmas.{sum_below-same, sum_by-which_below}
 use Rattle.ih_plan.proofs.Entries.{number_of_nurse}
@@ -31,7 +31,6 @@ use Rattle.ih_nurses.specs.Choice.{excess_of, seen_by, increase_by_choice}
 use Rattle.ih_nurses.specs.declared.loads.NurseLoad.{NurseLoad}
 use Rattle.ih_nurses.specs.Loads.{AreLoads, load_at, excess_increase}
 use Rattle.ih_nurses.specs.ShiftSpans.{IsShiftSpan, nurses_over, shift_span_in}
-use Rattle.ih_nurses.proofs.CareLemmas.{load-moves}
 use Rattle.ih_nurses.proofs.DifferenceLemmas.{apart-same}
 use Rattle.ih_nurses.proofs.NewlyLemmas.{newly_seen_of, seen-change}
 use Rattle.ih_nurses.proofs.ShiftSpanLemmas.{nurses-alike, shift_span-kept}

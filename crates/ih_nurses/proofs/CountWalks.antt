@@ -8,9 +8,9 @@ use Rattle.ih_tables.specs.declared.ids.Shift.{Shift}
 use Rattle.ih_tables.specs.declared.ids.NurseNo.{NurseNo}
 use Rattle.ih_tables.specs.Sizes.{person_count, room_count, nurse_count, shift_count}
 use Rattle.ih_tables.specs.Valid.{IsValid}
-use Rattle.ih_links.specs.Lists.{has, IsOnce, AreNodes, first_of, following, rest_from}
+use Rattle.ih_links.specs.Lists.{has, IsOnce, AreNodes, first_of, following}
 use Rattle.ih_links.proofs.Members.{has-here}
-use Rattle.ih_links.proofs.Walks.{IsAt, starts, rest-first, goes-on, rest-step}
+use Rattle.ih_links.proofs.Walks.{rest_from, IsAt, starts, rest-first, goes-on, rest-step}
 use Rattle.ih_plan.specs.declared.moves.Write.TheVariants.{SetCare}
 use Rattle.ih_plan.specs.Timetable.{Timetable, IsPlanOf, choice_of, care_of}
 use Rattle.ih_plan.specs.Writes.{put}

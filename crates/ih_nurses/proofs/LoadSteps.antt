@@ -1,8 +1,8 @@
 -- What adding to one load makes of the table of loads.
-use Rattle.std.proofs.Common.{◌≡◌, ℕ, ◌+◌, ◌*◌, ◌<◌, refl, arith, sym, ap, ◌∙◌, inl, inr, List, length, Some, mul_comm}
+use Rattle.std.proofs.Common.{◌≡◌, ℕ, ◌+◌, ◌*◌, ◌<◌, refl, arith, sym, ap, ◌∙◌, inl, inr, List, length, Some}
 use Rattle.std.specs.Prelude.{slice_index_or, slice_set}
 use Rattle.std.proofs.lemmas.Bool.{cases_eq, eq-eqb, ne_eqb}
-use Rattle.std.proofs.lemmas.Nat.{same_from_place, mul-add-lt}
+use Rattle.std.proofs.lemmas.Nat.{same_from_place}
 use Rattle.std.proofs.lemmas.List.{get_or-set_other}
 use Rattle.std.proofs.lemmas.Grind.{get_or-set_at}
 use Rattle.ih_tables.specs.declared.drafts.Draft.{Draft}
@@ -10,15 +10,13 @@ use Rattle.ih_tables.specs.declared.ids.NurseNo.{NurseNo}
 use Rattle.ih_tables.specs.Sizes.{nurse_count, shift_count}
 use Rattle.ih_nurses.specs.declared.loads.NurseLoad.{NurseLoad}
 use Rattle.ih_nurses.specs.Loads.{IsTable, load_at, share}
-
-pub place-inside : (I : Draft) (n k : ℕ) → n < nurse_count I → k < shift_count I → n * shift_count I + k < nurse_count I * shift_count I
-place-inside I n k nh kh = rw (mul_comm (nurse_count I) (shift_count I)) (mul-add-lt n (shift_count I) k (nurse_count I) nh kh)
+use Rattle.ih_tables.proofs.LoadLemmas.{load_inside}
 
 -- the load of nurse n and shift k is replaced
 module _ (I : Draft) (loads : List NurseLoad) (n : NurseNo) (k place : ℕ) (old : NurseLoad) (table : IsTable I loads) (nurse : n.0 < nurse_count I) (shift : k < shift_count I)
     (place_is : place ≡ n.0 * shift_count I + k) (old_is : old ≡ slice_index_or loads place (record { work = 0; most = 0 })) where
   pub inside : place < length loads
-  inside = let p = place-inside I n.0 k nurse shift in let len = table.len in omega (arith, p)
+  inside = let p = load_inside I n.0 k nurse shift in let len = table.len in omega (arith, p)
 
   pub read : load_at I loads n.0 k ≡ old.work
   read = ap (λ i. (slice_index_or loads i (record { work = 0; most = 0 })).work) (sym place_is) ∙ ap (λ (l : NurseLoad). l.work) (sym old_is)

@@ -23,7 +23,7 @@ use Rattle.ih_plan.specs.Sums.{bit}
 use Rattle.ih_plan.proofs.Entries.{stay_of-same}
 use Rattle.ih_plan.proofs.ListedBelow.{tagged-both}
 use Rattle.ih_plan.proofs.Parts.{is_empty-tagged}
-use Rattle.ih_nurses.specs.Loads.{given}
+use Rattle.ih_nurses.specs.Loads.{load_of_stay}
 use Rattle.ih_nurses.specs.Deltas.{uncovered_in, missing_in, overload_in, increase_by_placement}
 use Rattle.ih_nurses.proofs.GivenLemmas.{load-goes, load-has}
 use Rattle.ih_nurses.proofs.OwnLemmas.{is_housed, own_missing, else-put, occupied-own, missing-own}
@@ -133,11 +133,11 @@ module _ (I : Draft) (P : Timetable) (k : Shift) (p : PatientNo) (at : Placement
   own-lacks n = rw housed refl
 
   -- the nurse of the room has the workload of the patient
-  pub given-whole : (n : ℕ) → care_of P at.room.0 k.0 ≡ Some n → given I P p.0 (Some at) n k.0 ≡ slice_index (person_of I p.0).workload (k.0 - 3 * at.day.0)
+  pub given-whole : (n : ℕ) → care_of P at.room.0 k.0 ≡ Some n → load_of_stay I P p.0 (Some at) n k.0 ≡ slice_index (person_of I p.0).workload (k.0 - 3 * at.day.0)
   given-whole n nurse = rw (nurse, eq-eqb n n refl, counted) refl
 
   -- the load of the room's nurse increases by the patient's workload
-  pub load-increases : IsPlacement I at → (n : NurseNo) → care_of P at.room.0 k.0 ≡ Some n.0 → (all gone come : ℕ) → all ≡ load_of I P n.0 k.0 → gone ≡ given I P p.0 (stay_of P p.0) n.0 k.0
+  pub load-increases : IsPlacement I at → (n : NurseNo) → care_of P at.room.0 k.0 ≡ Some n.0 → (all gone come : ℕ) → all ≡ load_of I P n.0 k.0 → gone ≡ load_of_stay I P p.0 (stay_of P p.0) n.0 k.0
       → come ≡ slice_index (person_of I p.0).workload (k.0 - 3 * at.day.0)
       → IsLoadIncrease I (put (SetStay p (Some at)) P) (put (SetStay p None) P) n k all gone come
   load-increases placed n nurse all gone come a g c =

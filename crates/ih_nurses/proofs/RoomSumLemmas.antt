@@ -13,7 +13,8 @@ use Rattle.ih_plan.specs.Timetable.{Timetable}
 use Rattle.ih_plan.specs.Presence.{workload_of, skill_of}
 use Rattle.ih_plan.specs.Costs.{skill_level, skill_missing}
 use Rattle.ih_nurses.specs.Counts.{has_just}
-use Rattle.ih_nurses.proofs.WalkLemmas.{IsSumWalk, sum-begins, sum-fits, persons-few}
+use Rattle.ih_nurses.proofs.WalkLemmas.{IsSumWalk, sum-begins, sum-fits}
+use Rattle.ih_plan.proofs.BillBounds.{few-persons}
 
 -- the skill that person x requires above a choice of nurse in shift k
 abbrev pub lack : Draft → Timetable → ℕ → Option NurseNo → ℕ → ℕ
@@ -66,6 +67,6 @@ pub sum-small : (I : Draft) → IsValid I → {b : ℕ} {f : ℕ → ℕ} {xs : 
     → b ≤ 100000 → (y : ℕ) → y ≤ b → sum + y < 4294967296
 sum-small I valid {b} walk here most y small =
     let fits = sum-fits walk here y small in
-    let few = persons-few I valid in
+    let few = few-persons I valid in
     let all = mul-le (person_count I) b 2560 100000 few most in
     omega (arith, fits, all)

@@ -15,13 +15,13 @@ use Rattle.ih_plan.specs.Writes.{put}
 use Rattle.ih_plan.specs.Presence.{is_present, present, day_of}
 use Rattle.ih_plan.specs.Costs.{is_number}
 use Rattle.ih_plan.proofs.SumLemmas.{sum_below-same, sum_by-which_below}
-use Rattle.ih_plan.proofs.Loads.{room_load}
+use Rattle.ih_plan.proofs.Loads.{room_load, load-moves, load-kept}
 use Rattle.ih_nurses.specs.Here.{AreHere}
 use Rattle.ih_nurses.specs.declared.loads.NurseLoad.{NurseLoad}
 use Rattle.ih_nurses.specs.Loads.{IsTable, AreLoads, load_at, share}
 use Rattle.ih_nurses.proofs.HereLemmas.{read-here}
 use Rattle.ih_nurses.proofs.WalkLemmas.{sum-listed}
-use Rattle.ih_nurses.proofs.CareLemmas.{load-moves, load-kept, present-kept}
+use Rattle.ih_nurses.proofs.CareLemmas.{present-kept}
 
 -- a sum over a room's list is one over the persons present
 pub sum-present : (I : Draft) (P : Timetable) (here : List Linked) (r d : ℕ) (f : ℕ → ℕ) → AreHere I P here → r < room_count I → d < I.days

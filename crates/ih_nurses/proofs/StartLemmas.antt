@@ -31,7 +31,7 @@ use Rattle.ih_nurses.specs.Loads.{AreLoads, entry_at, free_load, most_of}
 use Rattle.ih_nurses.specs.Counts.{AreCounts, count_of, nursed_in}
 use Rattle.ih_nurses.specs.ShiftSpans.{shift_span_in}
 use Rattle.ih_nurses.proofs.CountSteps.{count-inside}
-use Rattle.ih_nurses.proofs.LoadSteps.{place-inside}
+use Rattle.ih_tables.proofs.LoadLemmas.{load_inside}
 
 -- ---- loads
 
@@ -46,7 +46,7 @@ free-at : (I : Draft) (loads : List NurseLoad) → loads ≡ map (free_load I) (
     → entry_at I loads n k ≡ record { work = 0; most = most_of (max_load I n k) }
 free-at I loads e n k nh kh =
     let s = shift_count I in
-    let there = get_or-map-range_with_len (free_load I) 0 (nurse_count I * s) (n * s + k) (n * s + k) (record { work = 0; most = 0 }) (place-inside I n k nh kh) (omega arith) in
+    let there = get_or-map-range_with_len (free_load I) 0 (nurse_count I * s) (n * s + k) (n * s + k) (record { work = 0; most = 0 }) (load_inside I n k nh kh) (omega arith) in
     rw e (rw (div-mul-add n s k kh, mod-mul-add n s k kh) at there)
 
 pub loads-none : (I : Draft) (loads : List NurseLoad) → loads ≡ map (free_load I) (range_with_len 0 (nurse_count I * shift_count I)) → AreLoads I (empty I) loads

@@ -1,7 +1,7 @@
 -- What a stay adds to the table of loads, shift by shift.
-use Rattle.std.proofs.Common.{◌≡◌, ℕ, ◌+◌, ◌-◌, ◌*◌, ◌/◌, ◌<◌, ◌≤◌, refl, arith, sym, true, false, inl, inr, List, Option}
+use Rattle.std.proofs.Common.{◌≡◌, ℕ, ◌+◌, ◌-◌, ◌*◌, ◌/◌, ◌<◌, ◌≤◌, refl, arith, sym, false, inl, inr, List, Option}
 use Rattle.std.specs.Prelude.{if◌then◌else◌, nat_lt, nat_le, min, slice_index}
-use Rattle.std.proofs.lemmas.Bool.{cases_eq, cases_lt, eq-eqb, ne_eqb, lt-ltb, le-ltb, le-leb, lt-leb, and_right}
+use Rattle.std.proofs.lemmas.Bool.{cases_eq, cases_lt, eq-eqb, ne_eqb, lt-ltb, le-ltb, lt-leb, and_right}
 use Rattle.ih_tables.specs.declared.drafts.Draft.{Draft}
 use Rattle.ih_tables.specs.declared.ids.NurseNo.{NurseNo}
 use Rattle.ih_tables.specs.Sizes.{nurse_count, shift_count}
@@ -13,12 +13,7 @@ use Rattle.ih_plan.specs.Costs.{is_number}
 use Rattle.ih_plan.proofs.TestLemmas.{if-none}
 use Rattle.ih_nurses.specs.declared.loads.NurseLoad.{NurseLoad}
 use Rattle.ih_nurses.specs.Loads.{IsTable, load_at, share, stay_load}
-
-covers-in : (a n days k : ℕ) → 3 * a ≤ k → k < 3 * min (a + n) days → covers a n (day_of k) ≡ true
-covers-in a n days k low high =
-    let above : a ≤ k / 3 = omega arith in
-    let below : k / 3 < a + n = omega arith in
-    rw (le-leb a (k / 3) above, lt-ltb (k / 3) (a + n) below) refl
+use Rattle.ih_plan.proofs.Spans.{shift-covered}
 
 covers-before : (a n k : ℕ) → k < 3 * a → covers a n (day_of k) ≡ false
 covers-before a n k h =
@@ -66,7 +61,7 @@ module _ (I : Draft) (P : Timetable) (p : ℕ) (at : Placement) where
   -- shift k gives its share
   module _ {k load : ℕ} {nurse : Option NurseNo} (now : IsStayShift I P p at k load nurse) where
     pub share-stay : (m : ℕ) → share nurse k load m k ≡ stay_load I P p at m k
-    share-stay m = rw (now.nurse_is, now.load_is, eq-eqb k k refl, covers-in at.day.0 (person_of I p).length_of_stay I.days k now.low now.high) refl
+    share-stay m = rw (now.nurse_is, now.load_is, eq-eqb k k refl, shift-covered at.day.0 (person_of I p).length_of_stay I.days k now.low now.high) refl
 
     pub given-more : (m j : ℕ) → given_before (k + 1) m j ≡ given_before k m j + share nurse k load m j
     given-more m j = elim (cases_eq j k) [

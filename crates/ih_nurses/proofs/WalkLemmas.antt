@@ -1,75 +1,56 @@
 -- Sums over a list of persons: by a walk, and as sums over all persons.
-use Rattle.std.proofs.Common.{◌≡◌, ℕ, ◌+◌, ◌*◌, ◌<◌, ◌≤◌, refl, arith, sym, ap, subst, ◌∙◌, Bool, true, false, List, [], ◌∷◌, length, Option, Some, None}
+use Rattle.std.proofs.Common.{◌≡◌, ℕ, ◌+◌, ◌*◌, ◌≤◌, refl, arith, sym, ap, ◌∙◌, Bool, true, false, List, [], ◌∷◌, ◌++◌, length, length-append, Option, Some, None}
 use Rattle.std.specs.Prelude.{if◌then◌else◌, sum_by}
 use Rattle.std.proofs.lemmas.Nat.{mul-le}
-use Rattle.std.proofs.lemmas.List.Sums.{sum_by-cons}
-use Rattle.ih_links.specs.Lists.{has, AreNodes, following, first_of, rest_from}
-use Rattle.ih_links.proofs.Members.{has-here, has-there, lacks-from, length-once}
-use Rattle.ih_links.proofs.Walks.{IsAt, starts, rest-first, goes-on, rest-step}
-use Rattle.ih_tables.specs.declared.drafts.Draft.{Draft}
-use Rattle.ih_tables.specs.Sizes.{person_count}
-use Rattle.ih_tables.specs.Valid.{IsValid}
+use Rattle.std.proofs.lemmas.List.Sums.{sum_by-append, sum_by-cons}
+use Rattle.ih_links.specs.Lists.{has, AreNodes, following, first_of}
+use Rattle.ih_links.proofs.Members.{has-here, has-there, lacks-from}
+use Rattle.ih_links.proofs.Walks.{IsWalkWith, walk-few, walk-goes_on, with-begins, with-goes_on, with-ends}
 use Rattle.ih_plan.specs.Sums.{sum_below}
 use Rattle.ih_plan.proofs.SumLemmas.{sum_below-but}
 use Rattle.ih_plan.proofs.SumBounds.{sum_below-none}
 
--- what the nodes met so far give, each at most b, is what all give but for the rest
-pub record IsSumWalk (n b : ℕ) (f : ℕ → ℕ) (xs : List ℕ) (sum : ℕ) (at : Option ℕ) : Type 0 where
-  pub known : AreNodes n xs
-  pub inside : IsAt at xs
-  pub whole : sum + sum_by f (rest_from at xs) ≡ sum_by f xs
-  pub few : sum + sum_by (λ x. b) (rest_from at xs) ≤ n * b
+-- what the numbers of a list give, each at most b
+pub record IsSum (b : ℕ) (f : ℕ → ℕ) (sum : ℕ) (xs : List ℕ) : Type 0 where
+  pub whole : sum ≡ sum_by f xs
+  pub few : sum ≤ length xs * b
+
+-- The walk is at this node, and the sum is what the nodes give that it has told, each at most b.
+abbrev pub IsSumWalk : ℕ → ℕ → (ℕ → ℕ) → List ℕ → ℕ → Option ℕ → Type 0
+IsSumWalk n b f xs sum at = IsWalkWith n xs at (IsSum b f sum)
 
 pub sum-even : (b : ℕ) (xs : List ℕ) → sum_by (λ x. b) xs ≡ length xs * b
 sum-even b [] = omega arith
 sum-even b (x ∷ xs) = omega (arith, sum_by-cons (λ x. b) x xs, sum-even b xs)
 
 pub sum-begins : (n b : ℕ) (f : ℕ → ℕ) (xs : List ℕ) (at : Option ℕ) → AreNodes n xs → at ≡ first_of xs → IsSumWalk n b f xs 0 at
-sum-begins n b f xs at known first = rw first (record {
-  known = known;
-  inside = starts xs;
-  whole = rw (rest-first xs) (omega arith);
-  few = rw (rest-first xs) (omega (arith, sum-even b xs, mul-le (length xs) b n b (length-once n xs known.once known.below) (omega arith)));
-})
+sum-begins n b f xs at known first = rw first (with-begins n xs known (record { whole = refl; few = omega arith }))
+
+sum-step : (b : ℕ) (f : ℕ → ℕ) (sum x y : ℕ) (told : List ℕ) → y ≡ f x → y ≤ b → IsSum b f sum told → IsSum b f (sum + y) (told ++ x ∷ [])
+sum-step b f sum x y told same small so_far = record {
+  whole = omega (arith, same, so_far.whole, sum_by-append f told (x ∷ []), sum_by-cons f x []);
+  few = let more = length-append told (x ∷ []) in let all : length (told ++ x ∷ []) * b ≡ length told * b + b = rw more (omega arith) in omega (arith, small, so_far.few, all);
+}
 
 module _ {n b : ℕ} {f : ℕ → ℕ} {xs : List ℕ} {sum : ℕ} {at : Option ℕ} (w : IsSumWalk n b f xs sum at) {x : ℕ} (here : at ≡ Some x) where
-  pub sum-inside : has x xs ≡ true
-  sum-inside = subst (λ a. IsAt a xs) here w.inside
-
-  pub sum-below : x < n
-  sum-below = w.known.below x sum-inside
-
-  module _ {next : Option ℕ} (next_is : next ≡ following x xs) where
-    left : rest_from at xs ≡ x ∷ rest_from next xs
-    left = ap (λ a. rest_from a xs) here ∙ (rest-step x xs w.known.once sum-inside ∙ ap (λ a. x ∷ rest_from a xs) (sym next_is))
-
-    pub sum-shrinks : length (rest_from next xs) < length (rest_from at xs)
-    sum-shrinks = let e = ap length left in omega arith
-
-    pub sum-goes_on : (y : ℕ) → y ≡ f x → y ≤ b → IsSumWalk n b f xs (sum + y) next
-    sum-goes_on y same small =
-        let whole = rw left at w.whole in
-        let few = rw left at w.few in
-        record {
-          known = w.known;
-          inside = subst (λ a. IsAt a xs) (sym next_is) (goes-on x xs sum-inside);
-          whole = omega (arith, same, whole, sum_by-cons f x (rest_from next xs));
-          few = omega (arith, small, few, sum_by-cons (λ z. b) x (rest_from next xs));
-        }
+  pub sum-goes_on : {next : Option ℕ} → next ≡ following x xs → (y : ℕ) → y ≡ f x → y ≤ b → IsSumWalk n b f xs (sum + y) next
+  sum-goes_on next_is y same small = with-goes_on w here next_is (λ told so_far. sum-step b f sum x y told same small so_far)
 
   -- the next number fits
   pub sum-fits : (y : ℕ) → y ≤ b → sum + y ≤ n * b
   sum-fits y small =
-      let few = rw (left refl) at w.few in
-      omega (arith, small, few, sum_by-cons (λ z. b) x (rest_from (following x xs) xs))
+      let more = length-append w.told (x ∷ []) in
+      let fewer = walk-few (walk-goes_on w.walk here refl) in
+      let all = mul-le (length w.told + 1) b n b (omega (arith, more, fewer)) (omega arith) in
+      omega (arith, small, w.so_far.few, all)
 
 pub sum-ends : {n b : ℕ} {f : ℕ → ℕ} {xs : List ℕ} {sum : ℕ} {at : Option ℕ} → IsSumWalk n b f xs sum at → at ≡ None → sum ≡ sum_by f xs
-sum-ends {n} {b} {f} {xs} {sum} {at} w e =
-    let whole = rw e at w.whole in
-    omega (arith, whole)
+sum-ends w e = (with-ends w e).whole
 
 pub sum-most : {n b : ℕ} {f : ℕ → ℕ} {xs : List ℕ} {sum : ℕ} {at : Option ℕ} → IsSumWalk n b f xs sum at → sum ≤ n * b
-sum-most w = omega (arith, w.few)
+sum-most {n} {b} w =
+    let all = mul-le (length w.told) b n b (walk-few w.walk) (omega arith) in
+    omega (arith, w.so_far.few, all)
 
 -- a sum over a list without repeats, as a sum over all numbers
 pub sum-listed : (n : ℕ) (f : ℕ → ℕ) (xs : List ℕ) → AreNodes n xs → sum_by f xs ≡ sum_below n (λ x. if has x xs then f x else 0)
@@ -88,10 +69,3 @@ sum-listed n f (y ∷ ys) known =
         by_case : (b : Bool) → has x ys ≡ b → has x (y ∷ ys) ≡ has x ys
         by_case true e = has-there x y ys e ∙ sym e
         by_case false e = lacks-from x y ys ne e ∙ sym e
-
--- there are at most 2,560 persons
-pub persons-few : (I : Draft) → IsValid I → person_count I ≤ 2560
-persons-few I valid =
-    let patients = valid.patients.len.most in
-    let occupants = valid.occupants.len.most in
-    omega arith

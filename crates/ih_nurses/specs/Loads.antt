@@ -53,9 +53,9 @@ stay_load I P p at n k =
     else 0
 
 -- the same of a stay where there is one
-abbrev pub given : Draft → Timetable → ℕ → Option Placement → ℕ → ℕ → ℕ
-given I P p None n k = 0
-given I P p (Some at) n k = stay_load I P p at n k
+abbrev pub load_of_stay : Draft → Timetable → ℕ → Option Placement → ℕ → ℕ → ℕ
+load_of_stay I P p None n k = 0
+load_of_stay I P p (Some at) n k = stay_load I P p at n k
 
 -- by how much the workload above the maximum of a nurse, where there is one, increases when the load becomes another
 abbrev pub excess_increase : Draft → List NurseLoad → Option NurseNo → ℕ → (ℕ → ℕ) → ℤ

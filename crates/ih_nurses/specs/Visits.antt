@@ -1,9 +1,13 @@
 -- What is the same in every shift of a patient's placement.
-use Rattle.std.specs.Prelude.{◌≡◌, ℕ, Bool, true, false, List, Option, Some, None, option_map}
+use Rattle.std.specs.Prelude.{◌≡◌, ◌<◌, ℕ, Bool, true, false, Option, Some, None, option_map}
 use Rattle.ih_tables.specs.declared.drafts.Draft.{Draft}
+use Rattle.ih_tables.specs.declared.ids.PatientNo.{PatientNo}
+use Rattle.ih_tables.specs.Sizes.{patient_count}
 use Rattle.ih_plan.specs.declared.moves.Placement.{Placement}
+use Rattle.ih_plan.specs.Timetable.{IsPlacement}
 use Rattle.ih_plan.specs.Persons.{person_of}
 use Rattle.ih_plan.specs.Presence.{covers, placed_at}
+use Rattle.ih_nurses.specs.declared.visits.Visit.{Visit}
 use Rattle.ih_nurses.specs.declared.visits.Before.{Before}
 use Rattle.ih_nurses.specs.declared.visits.Before.TheVariants.{Apart, Same, Other}
 
@@ -19,9 +23,18 @@ IsBefore I p old at Apart = (d : ℕ) → has_day I p (Some at) d ≡ true → h
 IsBefore I p old at Same = option_map placed_at old ≡ Some (placed_at at)
 IsBefore I p old at (Other stay) = old ≡ Some stay
 
--- These are the workloads and the skills of patient p, and its present stay lies so to the placement.
-pub record IsVisit (I : Draft) (p : ℕ) (old : Option Placement) (at : Placement) (workload skill : List ℕ)
-    (before : Before) : Type 0 where
-  pub workload_is : workload ≡ (person_of I p).workload
-  pub skill_is : skill ≡ (person_of I p).skill
-  pub before_is : IsBefore I p old at before
+-- whose placement it is, and which one
+abbrev pub patient_of : Visit → PatientNo
+patient_of visit = visit.p
+
+abbrev pub placement_of : Visit → Placement
+placement_of visit = visit.at
+
+-- The visit is one of a patient and a placement of the instance: it has the patient's workloads and skills, and the
+-- patient's present stay lies so to the placement.
+pub record IsVisitOf (I : Draft) (old : Option Placement) (visit : Visit) : Type 0 where
+  pub patient : visit.p.0 < patient_count I
+  pub placement : IsPlacement I visit.at
+  pub workload_is : visit.workload.now ≡ (person_of I visit.p.0).workload
+  pub skill_is : visit.skill.now ≡ (person_of I visit.p.0).skill
+  pub before_is : IsBefore I visit.p.0 old visit.at visit.before

@@ -7,7 +7,7 @@ ghost use Rattle.ih_nurses.specs.Ledger.{IsLedgerOf};
 
 use crate::Nurses;
 use crate::bills::{NursingCosts, difference};
-use crate::seen::nurses_over;
+use crate::seen::distinct_nurses_over;
 use crate::shift_spans::stay_shift_span;
 use ih_plan::Placement;
 use ih_tables::{Bill, Instance, PatientNo};
@@ -37,6 +37,9 @@ impl Nurses {
         ensures within { IsWithin (10 ^ 11) result }
     {
         let shift_span = stay_shift_span(inst, p, Some(at));
-        difference(nursed(nurses_over(inst, &self.plan, shift_span)), nursed(0))
+        difference(
+            nursed(distinct_nurses_over(inst, &self.plan, shift_span)),
+            nursed(0),
+        )
     }
 }

@@ -15,7 +15,7 @@ use crate::loads::{NurseLoad, load, move_load, overload};
 use crate::presence::{enter_days, leave_days};
 use crate::room_sums::room_sums;
 use crate::rooms::{choice_costs, workload_in};
-use crate::seen::nurses_over;
+use crate::seen::distinct_nurses_over;
 use crate::shift_spans::{placed_shift_span, shift_span_of};
 use crate::start::{no_counts, no_loads, occupants_here};
 use crate::stays::{add_stay, take_stay};
@@ -158,7 +158,11 @@ impl Nurses {
             off: 0,
             uncovered: 0,
             missing_skill: 0,
-            nurses_seen: nurses_over(inst, &self.plan, shift_span_of(inst, &self.plan, x.0)),
+            nurses_seen: distinct_nurses_over(
+                inst,
+                &self.plan,
+                shift_span_of(inst, &self.plan, x.0),
+            ),
             overload: 0,
         })
     }

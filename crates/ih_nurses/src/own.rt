@@ -31,7 +31,7 @@ fn entry_or_none(list: &[u32], at: Placement, k: Shift) -> u32
 
 /// The workload that a patient's stay gives to a nurse in a shift, by the patient's list of workloads.
 #[inline(always)]
-pub fn given(
+pub fn stay_load(
     inst: &Instance,
     plan: &Plan,
     p: PatientNo,

@@ -68,7 +68,7 @@ fn seen_in(inst: &Instance, plan: &Plan, r: RoomNo, from: u32, len: u32) -> u32
 
 /// The distinct nurses over the shifts of a stay, and 0 where there is none.
 #[tactic(auto, using(ih_plan::proofs::ListSteps::none_steps))]
-pub fn nurses_over(inst: &Instance, plan: &Plan, shift_span: Option<ShiftSpan>) -> u32
+pub fn distinct_nurses_over(inst: &Instance, plan: &Plan, shift_span: Option<ShiftSpan>) -> u32
     requires plan { IsPlanOf inst.now.draft plan.now }
     requires shift_span { IfSome shift_span (IsShiftSpan inst.now.draft) }
     ensures { result ≡ distinct_nurses inst.now.draft (nurses_over plan.now shift_span) }

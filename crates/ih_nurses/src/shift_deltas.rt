@@ -1,19 +1,20 @@
 //! What a placement of a patient makes its room and that room's nurse cost more in one shift.
 
 ghost use Rattle.std.specs.Prelude.{◌≡◌, ◌<◌, ◌≤◌, ◌-◌, ◌*◌, pos, true, Some, length, slice_index};
-ghost use Rattle.ih_tables.specs.Sizes.{patient_count, room_count, shift_count, nurse_count};
+ghost use Rattle.ih_tables.specs.Sizes.{room_count, shift_count, nurse_count};
 ghost use Rattle.ih_links.specs.Lists.{without};
-ghost use Rattle.ih_plan.specs.Timetable.{Timetable, IsPlacement, stay_of, care_of};
+ghost use Rattle.ih_plan.specs.Timetable.{Timetable, stay_of, care_of};
 ghost use Rattle.ih_plan.specs.Presence.{day_of, present};
 ghost use Rattle.ih_plan.specs.{Costs.is_empty, Costs.skill_level, Sums.bit};
 ghost use Rattle.ih_nurses.specs.Deltas.{uncovered_in, missing_in, overload_in, excess_in, increase_by_placement};
-ghost use Rattle.ih_nurses.specs.{Ledger.IsLedgerOf, Ledger.plan_of, Visits.IsVisit, Visits.has_day};
+ghost use Rattle.ih_nurses.specs.{Ledger.IsLedgerOf, Ledger.plan_of, Visits.IsVisitOf, Visits.has_day};
+ghost use Rattle.ih_nurses.specs.Visits.{patient_of, placement_of};
 
 use crate::Nurses;
 use crate::loads::{load, overload};
 use crate::own::entry;
 use crate::rooms::has_others;
-use crate::visits::{Visit, gone};
+use crate::visits::{Visit, present_stay_load};
 use ih_plan::{Placement, bit, nurse_at};
 use ih_tables::{Instance, NurseNo, PatientNo, RoomNo, Shift};
 
@@ -57,19 +58,18 @@ impl Nurses {
     fn load_delta(&self, inst: &Instance, n: NurseNo, k: Shift, visit: &Visit<'_>) -> u32
         requires nurse { n.0 < nurse_count inst.now.draft }
         requires shift { k.0 < shift_count inst.now.draft }
-        requires patient { visit.now.p.0 < patient_count inst.now.draft }
-        requires placement { IsPlacement inst.now.draft visit.now.at }
-        requires counted { has_day inst.now.draft visit.now.p.0 (Some visit.now.at) (day_of k.0) ≡ true }
+        requires counted { has_day inst.now.draft (patient_of visit.now).0 (Some (placement_of visit.now)) (day_of k.0)
+            ≡ true }
         requires stands { (P : Timetable) × IsLedgerOf inst.now.draft P self.now
-            × (care_of P visit.now.at.room.0 k.0 ≡ Some n.0) }
-        requires visit { IsVisit inst.now.draft visit.now.p.0 (stay_of (plan_of self.now) visit.now.p.0) visit.now.at
-            visit.now.workload.now visit.now.skill.now visit.now.before }
+            × (care_of P (placement_of visit.now).room.0 k.0 ≡ Some n.0) }
+        requires visit { IsVisitOf inst.now.draft (stay_of (plan_of self.now) (patient_of visit.now).0) visit.now }
         ensures { (P : Timetable) → IsLedgerOf inst.now.draft P self.now
-            → pos result ≡ increase_by_placement P visit.now.p visit.now.at (λ Q. overload_in inst.now.draft Q n k) }
+            → pos result ≡ increase_by_placement P (patient_of visit.now) (placement_of visit.now)
+            (λ Q. overload_in inst.now.draft Q n k) }
     {
         let all = load(inst, self.loads.as_slice(), n, k);
         let come = entry(visit.workload, visit.at, k);
-        let gone = gone(inst, &self.plan, visit, n, k, come);
+        let gone = present_stay_load(inst, &self.plan, visit, n, k, come);
         let without = all.work - gone;
         let with = without + come;
         overload(all, with) - overload(all, without)
@@ -79,21 +79,19 @@ impl Nurses {
     #[inline(always)]
     pub fn shift_delta(&self, inst: &Instance, k: Shift, visit: &Visit<'_>) -> ShiftDelta
         requires shift { k.0 < shift_count inst.now.draft }
-        requires patient { visit.now.p.0 < patient_count inst.now.draft }
-        requires placement { IsPlacement inst.now.draft visit.now.at }
-        requires counted { has_day inst.now.draft visit.now.p.0 (Some visit.now.at) (day_of k.0) ≡ true }
+        requires counted { has_day inst.now.draft (patient_of visit.now).0 (Some (placement_of visit.now)) (day_of k.0)
+            ≡ true }
         requires stands { (P : Timetable) × IsLedgerOf inst.now.draft P self.now }
-        requires visit { IsVisit inst.now.draft visit.now.p.0 (stay_of (plan_of self.now) visit.now.p.0) visit.now.at
-            visit.now.workload.now visit.now.skill.now visit.now.before }
+        requires visit { IsVisitOf inst.now.draft (stay_of (plan_of self.now) (patient_of visit.now).0) visit.now }
         ensures uncovered { (P : Timetable) → IsLedgerOf inst.now.draft P self.now
-            → pos result.uncovered ≡ increase_by_placement P visit.now.p visit.now.at
-            (λ Q. uncovered_in inst.now.draft Q visit.now.at.room k) }
+            → pos result.uncovered ≡ increase_by_placement P (patient_of visit.now) (placement_of visit.now)
+            (λ Q. uncovered_in inst.now.draft Q (placement_of visit.now).room k) }
         ensures missing_skill { (P : Timetable) → IsLedgerOf inst.now.draft P self.now
-            → pos result.missing_skill ≡ increase_by_placement P visit.now.p visit.now.at
-            (λ Q. missing_in inst.now.draft Q visit.now.at.room k) }
+            → pos result.missing_skill ≡ increase_by_placement P (patient_of visit.now) (placement_of visit.now)
+            (λ Q. missing_in inst.now.draft Q (placement_of visit.now).room k) }
         ensures overload { (P : Timetable) → IsLedgerOf inst.now.draft P self.now
-            → pos result.overload ≡ increase_by_placement P visit.now.p visit.now.at
-            (λ Q. excess_in inst.now.draft Q visit.now.at.room k) }
+            → pos result.overload ≡ increase_by_placement P (patient_of visit.now) (placement_of visit.now)
+            (λ Q. excess_in inst.now.draft Q (placement_of visit.now).room k) }
     {
         match nurse_at(inst, &self.plan, visit.at.room, k) {
             None => ShiftDelta {

@@ -4,9 +4,10 @@ ghost use Rattle.std.specs.Prelude.{◌≡◌, ◌<◌, ◌≤◌, ◌-◌, ◌*
 ghost use Rattle.ih_tables.specs.Sizes.{patient_count, shift_count};
 ghost use Rattle.ih_plan.specs.Timetable.{IsPlanOf, IsPlacement, stay_of, care_of};
 ghost use Rattle.ih_plan.specs.{Persons.person_of, Presence.day_of};
-ghost use Rattle.ih_nurses.specs.{Loads.given, Visits.IsBefore, Visits.IsVisit, Visits.has_day};
+ghost use Rattle.ih_nurses.specs.{Loads.load_of_stay, Visits.IsBefore, Visits.IsVisitOf, Visits.has_day};
+ghost use Rattle.ih_nurses.specs.Visits.{patient_of, placement_of};
 
-use crate::own::given;
+use crate::own::stay_load;
 use ih_plan::{Placement, Plan};
 use ih_tables::{Instance, NurseNo, PatientNo, Shift};
 
@@ -63,9 +64,9 @@ impl<'a> Visit<'a> {
         requires patient { p.0 < patient_count inst.now.draft }
         requires old { IfSome old (IsPlacement inst.now.draft) }
         requires placement { IsPlacement inst.now.draft at }
-        ensures patient { result.p ≡ p }
-        ensures placement { result.at ≡ at }
-        ensures visit { IsVisit inst.now.draft p.0 old at result.workload.now result.skill.now result.before }
+        ensures patient { patient_of result ≡ p }
+        ensures placement { placement_of result ≡ at }
+        ensures visit { IsVisitOf inst.now.draft old result }
     {
         let a = inst.patient(p);
         Visit {
@@ -81,23 +82,29 @@ impl<'a> Visit<'a> {
 /// The workload that the patient's present stay gives, in a shift of a placement, to the nurse who has the placement's
 /// room. The patient makes the workload `come` in that shift of the placement.
 #[inline(always)]
-pub fn gone(inst: &Instance, plan: &Plan, visit: &Visit<'_>, n: NurseNo, k: Shift, come: u32) -> u32
+pub fn present_stay_load(
+    inst: &Instance,
+    plan: &Plan,
+    visit: &Visit<'_>,
+    n: NurseNo,
+    k: Shift,
+    come: u32,
+) -> u32
     requires plan { IsPlanOf inst.now.draft plan.now }
-    requires patient { visit.now.p.0 < patient_count inst.now.draft }
     requires counted { has_day inst.now.draft visit.now.p.0 (Some visit.now.at) (day_of k.0) ≡ true }
     requires shift { k.0 < shift_count inst.now.draft }
     requires nurse { care_of plan.now visit.now.at.room.0 k.0 ≡ Some n.0 }
-    requires visit { IsVisit inst.now.draft visit.now.p.0 (stay_of plan.now visit.now.p.0) visit.now.at
-        visit.now.workload.now visit.now.skill.now visit.now.before }
+    requires visit { IsVisitOf inst.now.draft (stay_of plan.now visit.now.p.0) visit.now }
     requires come { come
         ≡ slice_index (person_of inst.now.draft visit.now.p.0).workload (k.0 - 3 * visit.now.at.day.0) }
     requires small { come ≤ 100000 }
-    ensures value { result ≡ given inst.now.draft plan.now visit.now.p.0 (stay_of plan.now visit.now.p.0) n.0 k.0 }
+    ensures value { result
+        ≡ load_of_stay inst.now.draft plan.now visit.now.p.0 (stay_of plan.now visit.now.p.0) n.0 k.0 }
     ensures bound { result ≤ 100000 }
 {
     match visit.before {
         Before::Apart => 0,
         Before::Same => come,
-        Before::Other(stay) => given(inst, plan, visit.p, visit.workload, stay, n, k),
+        Before::Other(stay) => stay_load(inst, plan, visit.p, visit.workload, stay, n, k),
     }
 }

@@ -11,7 +11,7 @@ use Rattle.ih_plan.specs.Timetable.{Timetable, stay_of}
 use Rattle.ih_plan.specs.BillOf.{bill_of}
 use Rattle.ih_plan.specs.Cells.{cell_at, cell_count, part_at}
 use Rattle.ih_plan.specs.Costs.{is_empty, of_patient}
-use Rattle.ih_plan.specs.Sums.{listed}
+use Rattle.ih_tables.specs.Listed.{listed}
 use Rattle.ih_validate.specs.Report.{lines_below}
 use Rattle.ih_page.specs.declared.bill_lines.Line.{Line}
 use Rattle.ih_page.specs.declared.bill_lines.Line.TheVariants.{Rule, Cost}

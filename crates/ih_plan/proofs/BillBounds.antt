@@ -12,7 +12,7 @@ use Rattle.ih_tables.specs.declared.bills.Bill.{Bill}
 use Rattle.ih_tables.specs.Bills.{at, IsWithin}
 use Rattle.ih_tables.specs.Sizes.{patient_count, person_count, room_count, surgeon_count, theatre_count, nurse_count, shift_count}
 use Rattle.ih_tables.specs.Valid.{IsValid}
-use Rattle.ih_tables.proofs.BillLemmas.{at-by_place}
+use Rattle.ih_tables.proofs.BillLemmas.{at-listed}
 use Rattle.ih_plan.specs.declared.moves.Placement.{Placement}
 use Rattle.ih_plan.specs.Timetable.{Timetable, IsPlanOf, IsPlacement, stay_of, care_of}
 use Rattle.ih_plan.specs.Sums.{bit, sum_below, count_below, greatest}
@@ -239,8 +239,8 @@ change-within I P Q valid planP planQ =
     let old = bill-counts I P valid planP in
     let new = bill-counts I Q valid planQ in
     record {
-      v = λ k l. rw (at-by_place 9 (λ k. at (bill_of I Q).v k -ℤ at (bill_of I P).v k) k l) (apart-in (at (bill_of I Q).v k) (at (bill_of I P).v k) (new.v k l) (old.v k l));
-      s = λ k l. rw (at-by_place 8 (λ k. at (bill_of I Q).s k -ℤ at (bill_of I P).s k) k l) (apart-in (at (bill_of I Q).s k) (at (bill_of I P).s k) (new.s k l) (old.s k l));
+      v = λ k l. rw (at-listed 9 (λ k. at (bill_of I Q).v k -ℤ at (bill_of I P).v k) k l) (apart-in (at (bill_of I Q).v k) (at (bill_of I P).v k) (new.v k l) (old.v k l));
+      s = λ k l. rw (at-listed 8 (λ k. at (bill_of I Q).s k -ℤ at (bill_of I P).s k) k l) (apart-in (at (bill_of I Q).s k) (at (bill_of I P).s k) (new.s k l) (old.s k l));
     }
 
 -- what is within a bound is within a larger one

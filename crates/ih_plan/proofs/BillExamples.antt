@@ -3,7 +3,7 @@ use Rattle.std.proofs.Common.{◌≡◌, ℕ, refl, pos, Some}
 use Rattle.std.specs.Prelude.{⊤}
 use Rattle.ih_tables.specs.declared.bills.Bill.{Bill}
 use Rattle.ih_tables.specs.Bills.{cost, signed_sum}
-use Rattle.ih_plan.specs.Sums.{sum_below, any_below, which_below, greatest, least}
+use Rattle.ih_plan.specs.Sums.{sum_below, which_below, greatest, least}
 use Rattle.ih_plan.specs.Persons.{person_of}
 use Rattle.ih_plan.specs.Presence.{admission_of, present, shifts_of, entry_of}
 use Rattle.ih_plan.specs.Costs.{operated, operated_by, load_of}
@@ -11,7 +11,7 @@ use Rattle.ih_plan.specs.BillOf.{bill_of, gender_mixes, bad_rooms, surgeon_overt
 use Rattle.ih_plan.proofs.ExampleWards.{two_patients, two_patients_with, first_admitted, first_admitted_with, at, bill9, weights}
 
 unfoldable pub plan_on_literals : ⊤
-unfolding signed_sum sum_below any_below which_below greatest least person_of admission_of present shifts_of entry_of
+unfolding signed_sum sum_below which_below greatest least person_of admission_of present shifts_of entry_of
     operated operated_by load_of bill_of gender_mixes bad_rooms surgeon_overtime theatre_overtime mandatory_left_out outside_windows over_capacity nurses_off uncovered
     mixed_ages missing_skill nurses_seen overloads open_theatres transfers delays optional_left_out
 plan_on_literals = tt

@@ -6,8 +6,9 @@ use Rattle.std.proofs.lemmas.Bool.{eq-eqb, or_left, or_right}
 use Rattle.std.proofs.lemmas.Int.{ints}
 use Rattle.ih_tables.specs.declared.drafts.Draft.{Draft}
 use Rattle.ih_tables.specs.declared.bills.Bill.{Bill}
-use Rattle.ih_tables.specs.Bills.{at, by_place, add_bills, sub_bills, zero_bill}
-use Rattle.ih_tables.proofs.BillLemmas.{at-by_place}
+use Rattle.ih_tables.specs.Bills.{at, add_bills, sub_bills, zero_bill}
+use Rattle.ih_tables.specs.Listed.{listed}
+use Rattle.ih_tables.proofs.BillLemmas.{at-listed}
 use Rattle.ih_plan.specs.Timetable.{Timetable}
 use Rattle.ih_plan.specs.BillOf.{bill_of, change_of_bill}
 use Rattle.ih_plan.proofs.ListedBelow.{has}
@@ -24,12 +25,12 @@ map-same f g (x ∷ xs) e =
 
 -- two lists, place by place
 pub places-by : (m : ℕ) (op : ℤ → ℤ → ℤ) (f g h : ℕ → ℤ) → ((k : ℕ) → op (f k) (g k) ≡ h k)
-    → by_place m (λ k. op (at (by_place m f) k) (at (by_place m g) k)) ≡ by_place m h
+    → listed m (λ k. op (at (listed m f) k) (at (listed m g) k)) ≡ listed m h
 places-by m op f g h e =
-    map-same (λ k. op (at (by_place m f) k) (at (by_place m g) k)) h (range_with_len 0 m)
+    map-same (λ k. op (at (listed m f) k) (at (listed m g) k)) h (range_with_len 0 m)
     (λ k listed. let range = has-range 0 m k listed in
     let inside : k < m = omega arith in
-    rw (at-by_place m f k inside, at-by_place m g k inside) (e k))
+    rw (at-listed m f k inside, at-listed m g k inside) (e k))
 
 -- ---- one change behind another
 
@@ -37,8 +38,8 @@ then-less : (a b c : ℤ) → (b -ℤ a) +ℤ (c -ℤ b) ≡ c -ℤ a
 then-less a b c = omega (arith, ints)
 
 places-then-less : (m : ℕ) (a b c : ℕ → ℤ)
-    → by_place m (λ k. at (by_place m (λ k. b k -ℤ a k)) k +ℤ at (by_place m (λ k. c k -ℤ b k)) k)
-    ≡ by_place m (λ k. c k -ℤ a k)
+    → listed m (λ k. at (listed m (λ k. b k -ℤ a k)) k +ℤ at (listed m (λ k. c k -ℤ b k)) k)
+    ≡ listed m (λ k. c k -ℤ a k)
 places-then-less m a b c =
     places-by m (λ x y. x +ℤ y) (λ k. b k -ℤ a k) (λ k. c k -ℤ b k) (λ k. c k -ℤ a k) (λ k. then-less (a k) (b k) (c k))
 

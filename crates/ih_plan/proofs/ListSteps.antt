@@ -3,7 +3,6 @@ use Rattle.std.proofs.Common.{◌≡◌, ℕ, ◌+◌, refl, sym, Bool, false, L
 use Rattle.std.specs.Prelude.{◌||◌}
 use Rattle.std.proofs.Math.Bool.{or-false, or_assoc}
 use Rattle.std.specs.List.{list_any, range_with_len}
-use Rattle.ih_plan.specs.Sums.{sum_below}
 use Rattle.ih_plan.proofs.SumBounds.{sum_below-none}
 use Rattle.std.proofs.lemmas.List.FromFn.{map-range_with_len_more}
 
@@ -20,7 +19,4 @@ any_range-more q f a n = rw (map-range_with_len_more f a n (a + n) refl) (any-pu
 
 pub ruleset range_steps = (any_range-zero, any_range-more)
 
-pub none-seen : (m : ℕ) → sum_below m (λ i. 0) ≡ 0
-none-seen m = sum_below-none m
-
-pub ruleset none_steps = none-seen
+pub ruleset none_steps = sum_below-none

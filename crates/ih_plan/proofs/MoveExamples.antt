@@ -11,7 +11,8 @@ use Rattle.ih_plan.specs.Sums.{which_below}
 use Rattle.ih_plan.specs.Timetable.{empty}
 use Rattle.ih_plan.specs.Expand.{expand, after}
 use Rattle.ih_plan.specs.Draws.{drawn, state_after, stream_state, word_at, move_of}
-use Rattle.ih_plan.specs.Cells.{cell_in, cell_at, cell_count, number_of, HasParts, content_of, part_of}
+use Rattle.ih_tables.specs.Sizes.{sizes_of}
+use Rattle.ih_plan.specs.Cells.{cell_in, cell_at, cell_count, number_in, HasParts, content_of, part_of}
 use Rattle.ih_plan.specs.Footprint.{footprint, touches, writes_touch, in_placement, in_choice, looks_at}
 use Rattle.ih_plan.specs.BillOf.{change_of_bill}
 use Rattle.ih_plan.proofs.ExampleWards.{one_room, two_patients, first_admitted, first_admitted_with, at, bill9, weights}
@@ -79,9 +80,9 @@ pub kinds_of_two_patients : map (cell_at two_patients) (0 ∷ 2 ∷ 6 ∷ 10 ∷
 unfolding moves_on_literals
 kinds_of_two_patients = refl
 
-pub numbers : (number_of two_patients (RoomShift (record { 0 = 0 }) (record { 0 = 2 })) ≡ 14)
-    × (number_of two_patients (NurseShift (record { 0 = 1 }) (record { 0 = 2 })) ≡ 32)
-    × (number_of two_patients (Care (record { 0 = 2 })) ≡ 38) × (cell_at two_patients 38 ≡ Care (record { 0 = 2 }))
+pub numbers : (number_in (sizes_of two_patients) (RoomShift (record { 0 = 0 }) (record { 0 = 2 })) ≡ 14)
+    × (number_in (sizes_of two_patients) (NurseShift (record { 0 = 1 }) (record { 0 = 2 })) ≡ 32)
+    × (number_in (sizes_of two_patients) (Care (record { 0 = 2 })) ≡ 38) × (cell_at two_patients 38 ≡ Care (record { 0 = 2 }))
     × (cell_count one_room ≡ 8) × (cell_count two_patients ≡ 39)
 unfolding moves_on_literals
 numbers = (refl, refl, refl, refl, refl, refl)

@@ -23,7 +23,7 @@ use Rattle.ih_plan.specs.Timetable.{Timetable, stay_of, care_of}
 use Rattle.ih_plan.specs.Sums.{sum_below}
 use Rattle.ih_plan.specs.Persons.{person_of}
 use Rattle.ih_plan.specs.Presence.{Admission, admission_of, is_in, day_of, workload_of, covers}
-use Rattle.ih_plan.specs.Costs.{is_number, admitted_on, surgeon_of, duration_of, minutes, surgeon_minutes, theatre_minutes, operated_in, operated, operated_by, load_of, overload}
+use Rattle.ih_plan.specs.Costs.{is_number, admitted_on, surgeon_of, duration_of, minutes, surgeon_maximum, theatre_availability, operated_in, operated, operated_by, load_of, overload}
 use Rattle.ih_plan.specs.BillOf.{surgeon_overtime, theatre_overtime, overloads}
 use Rattle.ih_plan.proofs.SumLemmas.{sum_below-same, sum_below-le, sum_by-which_below}
 use Rattle.ih_plan.proofs.SumBounds.{sum_below-le_each, sum_below-swap, sum_below-none, one_place}
@@ -132,7 +132,7 @@ one_surgery I P p =
 pub surgeon_overtime-most : (I : Draft) (P : Timetable) → IsValid I → surgeon_overtime I P ≤ patient_count I * 100000
 unfolding surgeon_overtime operated_by
 surgeon_overtime-most I P valid =
-    let above = le_each_two (surgeon_count I) I.days (λ s d. minutes I (operated_by I P s d) - surgeon_minutes I s d) (λ s d. sum_below (patient_count I) (minutes_at I P s d))
+    let above = le_each_two (surgeon_count I) I.days (λ s d. minutes I (operated_by I P s d) - surgeon_maximum I s d) (λ s d. sum_below (patient_count I) (minutes_at I P s d))
     (λ s d. let all = sum_by-which_below (duration_of I) (patient_count I) (λ p. is_number (surgeon_of I p) s && admitted_on d (stay_of P p)) in omega arith) in
     let turned = last_first (surgeon_count I) I.days (patient_count I) (minutes_at I P) in
     let each = sum_below-le (patient_count I) 100000 (λ p. sum_below (surgeon_count I) (λ s. sum_below I.days (λ d. minutes_at I P s d p)))
@@ -160,7 +160,7 @@ one_theatre m n (Some at) x =
 pub theatre_overtime-most : (I : Draft) (P : Timetable) → IsValid I → theatre_overtime I P ≤ patient_count I * 100000
 unfolding theatre_overtime operated
 theatre_overtime-most I P valid =
-    let above = le_each_two (theatre_count I) I.days (λ t d. minutes I (operated I P t d) - theatre_minutes I t d) (λ t d. sum_below (patient_count I) (minutes_in I P t d))
+    let above = le_each_two (theatre_count I) I.days (λ t d. minutes I (operated I P t d) - theatre_availability I t d) (λ t d. sum_below (patient_count I) (minutes_in I P t d))
     (λ t d. let all = sum_by-which_below (duration_of I) (patient_count I) (λ p. operated_in t d (stay_of P p)) in omega arith) in
     let turned = last_first (theatre_count I) I.days (patient_count I) (minutes_in I P) in
     let each = sum_below-le (patient_count I) 100000 (λ p. sum_below (theatre_count I) (λ t. sum_below I.days (λ d. minutes_in I P t d p)))

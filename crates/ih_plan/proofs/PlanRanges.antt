@@ -138,7 +138,7 @@ expand-writes I P (SwapRooms p q) plan fits = by_case (p.0 == q.0)
     by_case false = swap-writes I p q (stay_of P p.0) (stay_of P q.0) fits.0 fits.1 (plan.placed p.0) (plan.placed q.0)
 expand-writes I P (Nurse r k n) plan fits = ((fits.0, fits.1, λ m e. some-same (λ (j : NurseNo). j.0 < nurse_count I) n m e fits.2), tt)
 expand-writes I P (NurseRun n r d len) plan fits =
-    run-writes I r n (run_of I n.0 d.0 len) fits.1 fits.0 (λ k h. let within = has-range 0 (shift_count I) k (has-filter _ (range_with_len 0 (shift_count I)) k h) in omega arith)
+    run-writes I r n (run_of I n d.0 len) fits.1 fits.0 (λ k h. let within = has-range 0 (shift_count I) k (has-filter _ (range_with_len 0 (shift_count I)) k h) in omega arith)
 expand-writes I P (SwapNurses k a b) plan fits = by_case (a.0 == b.0)
   where
     by_case : (t : Bool) → AreWritesOf I (if t then [] else SetCare a k (choice_of P b.0 k.0) ∷ SetCare b k (choice_of P a.0 k.0) ∷ [])

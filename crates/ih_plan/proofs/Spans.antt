@@ -57,3 +57,7 @@ span-shifts a b k =
     bool-same (in_span (3 * a) (3 * b) k) (in_span a b (day_of k))
     (λ h. let e = span-inside (3 * a) (3 * b) k h in span-true a b (day_of k) (omega arith) (omega arith))
     (λ h. let e = span-inside a b (day_of k) h in span-true (3 * a) (3 * b) k (omega arith) (omega arith))
+
+-- a counted shift of a stay is on one of its days
+pub shift-covered : (a n days k : ℕ) → 3 * a ≤ k → k < 3 * min (a + n) days → covers a n (day_of k) ≡ true
+shift-covered a n days k begun below = span-true a (a + n) (day_of k) (omega arith) (omega arith)

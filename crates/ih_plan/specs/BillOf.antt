@@ -8,7 +8,7 @@ use Rattle.ih_tables.specs.Bills.{sub_bills}
 use Rattle.ih_plan.specs.Timetable.{Timetable}
 use Rattle.ih_plan.specs.Presence.{shifts_of, room_of, skill_of}
 use Rattle.ih_plan.specs.Sums.{sum_below, count_below, bit}
-use Rattle.ih_plan.specs.Costs.{over_patients, in_bad_room, outside_window, delay, over_room_days, genders_differ, capacity_of, age_spread, operated, operated_by, minutes, surgeon_minutes, theatre_minutes, theatre_of, theatres_used, over_room_shifts, not_working, is_empty, skill_missing, load_of, overload, nurse_for, distinct_nurses}
+use Rattle.ih_plan.specs.Costs.{over_patients, in_bad_room, outside_window, delay, over_room_days, genders_differ, capacity_of, age_spread, operated, operated_by, minutes, surgeon_maximum, theatre_availability, theatre_of, theatres_used, over_room_shifts, not_working, is_empty, skill_missing, load_of, overload, nurse_for, distinct_nurses}
 
 -- A bill's numbers where none is negative, as the bill of a timetable and of each of its parts.
 pub record Counts : Type 0 where
@@ -38,12 +38,12 @@ bad_rooms I P = over_patients I P (λ p stay. bit (in_bad_room p stay))
 -- minutes of surgery above each surgeon's maximum of a day
 unfoldable pub surgeon_overtime : Draft → Timetable → ℕ
 surgeon_overtime I P =
-    sum_below (surgeon_count I) (λ s. sum_below I.days (λ d. minutes I (operated_by I P s d) - surgeon_minutes I s d))
+    sum_below (surgeon_count I) (λ s. sum_below I.days (λ d. minutes I (operated_by I P s d) - surgeon_maximum I s d))
 
 -- minutes of surgery above each theatre's availability of a day
 unfoldable pub theatre_overtime : Draft → Timetable → ℕ
 theatre_overtime I P =
-    sum_below (theatre_count I) (λ t. sum_below I.days (λ d. minutes I (operated I P t d) - theatre_minutes I t d))
+    sum_below (theatre_count I) (λ t. sum_below I.days (λ d. minutes I (operated I P t d) - theatre_availability I t d))
 
 -- mandatory patients who aren't admitted
 unfoldable pub mandatory_left_out : Draft → Timetable → ℕ

@@ -14,9 +14,10 @@ use Rattle.ih_plan.specs.Timetable.{Timetable, stay_of, care_of}
 use Rattle.ih_plan.specs.Writes.{put}
 use Rattle.ih_plan.specs.Presence.{day_of, present, shifts_of, room_of, entry_of}
 use Rattle.ih_plan.specs.Persons.{person_of}
-use Rattle.ih_plan.specs.Costs.{of_patient, nurse_for, in_bad_room, outside_window, delay, genders_differ, capacity_of, age_spread, operated, operated_by, minutes, surgeon_minutes, theatre_minutes, theatre_of, theatres_used, not_working, is_empty, skill_missing, load_of, overload, distinct_nurses}
+use Rattle.ih_plan.specs.Costs.{of_patient, nurse_for, in_bad_room, outside_window, delay, genders_differ, capacity_of, age_spread, operated, operated_by, minutes, surgeon_maximum, theatre_availability, theatre_of, theatres_used, not_working, is_empty, skill_missing, load_of, overload, distinct_nurses}
 use Rattle.ih_plan.specs.BillOf.{Counts, as_bill, bill_of, cost_count, rule_count}
-use Rattle.ih_plan.specs.Sums.{bit, sum_below, tagged, listed}
+use Rattle.ih_plan.specs.Sums.{bit, sum_below, tagged}
+use Rattle.ih_tables.specs.Listed.{listed}
 
 -- ---- numbers: stays first, then room days, theatre days, surgeon days, room shifts, nurse shifts and cares, each by
 -- its first index, then its second
@@ -88,9 +89,6 @@ cell_in z n =
 abbrev pub cell_count : Draft → ℕ
 cell_count I = count_in (sizes_of I)
 
-abbrev pub number_of : Draft → Cell → ℕ
-number_of I c = number_in (sizes_of I) c
-
 abbrev pub IsCellOf : Draft → Cell → Type 0
 IsCellOf I c = IsCellIn (sizes_of I) c
 
@@ -148,11 +146,11 @@ part_of I (RoomDay r d) (persons_content xs) = record {
   s = age_spread I xs ∷ 0 ∷ 0 ∷ 0 ∷ 0 ∷ 0 ∷ 0 ∷ 0 ∷ [];
 }
 part_of I (TheatreDay t d) (surgeries_content ps) = record {
-  v = 0 ∷ 0 ∷ 0 ∷ (minutes I ps - theatre_minutes I t.0 d.0) ∷ 0 ∷ 0 ∷ 0 ∷ 0 ∷ 0 ∷ [];
+  v = 0 ∷ 0 ∷ 0 ∷ (minutes I ps - theatre_availability I t.0 d.0) ∷ 0 ∷ 0 ∷ 0 ∷ 0 ∷ 0 ∷ [];
   s = 0 ∷ 0 ∷ 0 ∷ 0 ∷ bit (not (is_empty ps)) ∷ 0 ∷ 0 ∷ 0 ∷ [];
 }
 part_of I (SurgeonDay s d) (theatres_content ps) = record {
-  v = 0 ∷ 0 ∷ (minutes I (map (λ p. p.0) ps) - surgeon_minutes I s.0 d.0) ∷ 0 ∷ 0 ∷ 0 ∷ 0 ∷ 0 ∷ 0 ∷ [];
+  v = 0 ∷ 0 ∷ (minutes I (map (λ p. p.0) ps) - surgeon_maximum I s.0 d.0) ∷ 0 ∷ 0 ∷ 0 ∷ 0 ∷ 0 ∷ 0 ∷ [];
   s = 0 ∷ 0 ∷ 0 ∷ 0 ∷ 0 ∷ (theatres_used I (map (λ p. p.1) ps) - 1) ∷ 0 ∷ 0 ∷ [];
 }
 part_of I (RoomShift r k) (nursing_content n xs) = record {

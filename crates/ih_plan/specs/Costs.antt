@@ -110,12 +110,12 @@ abbrev pub minutes : Draft → List ℕ → ℕ
 minutes I ps = sum_by (duration_of I) ps
 
 -- the minutes that surgeon s may operate on day d
-abbrev pub surgeon_minutes : Draft → ℕ → ℕ → ℕ
-surgeon_minutes I s d = option_map_or (λ (a : Surgeon). slice_index a.max_surgery_time d) (slice_get I.surgeons s) 0
+abbrev pub surgeon_maximum : Draft → ℕ → ℕ → ℕ
+surgeon_maximum I s d = option_map_or (λ (a : Surgeon). slice_index a.max_surgery_time d) (slice_get I.surgeons s) 0
 
 -- the minutes that theatre t is available on day d
-abbrev pub theatre_minutes : Draft → ℕ → ℕ → ℕ
-theatre_minutes I t d =
+abbrev pub theatre_availability : Draft → ℕ → ℕ → ℕ
+theatre_availability I t d =
     option_map_or (λ (a : Theatre). slice_index a.availability d) (slice_get I.operating_theaters t) 0
 
 -- the theatre of patient p, where admitted

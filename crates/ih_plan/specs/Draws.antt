@@ -1,14 +1,14 @@
 -- The moves that a worker draws, from six words each.
-use Rattle.std.specs.Prelude.{ℕ, zero, suc, ◌+◌, ◌-◌, ◌*◌, ◌%◌, ◌^◌, ◌==◌, nat_lt, min, List, length, Option, Some, None, if◌then◌else◌, is_some, slice_get, option_and_then, option_map, unwrap_or}
+use Rattle.std.specs.Prelude.{ℕ, zero, suc, ◌+◌, ◌-◌, ◌*◌, ◌%◌, ◌^◌, ◌==◌, nat_lt, min, List, length, Option, Some, None, if◌then◌else◌, slice_get, option_and_then, option_map, unwrap_or}
 use Rattle.rand_xoshiro.specs.Xoshiro256.{plus_plus, next_state, of_seed}
 use Rattle.rand_xoshiro.specs.SplitMix64.{splitmix_seed}
 use Rattle.ih_tables.specs.declared.drafts.Draft.{Draft}
 use Rattle.ih_tables.specs.declared.drafts.Patient.{Patient}
 use Rattle.ih_tables.specs.Sizes.{patient_count, room_count, shift_count, nurse_count, theatre_count}
-use Rattle.ih_tables.specs.Works.{max_load}
+use Rattle.ih_tables.specs.declared.ids.NurseNo.{NurseNo}
+use Rattle.ih_tables.specs.Works.{working}
 use Rattle.ih_plan.specs.declared.moves.Move.{Move}
 use Rattle.ih_plan.specs.declared.moves.Move.TheVariants.{Idle, Place, Withdraw, SetDay, SetRoom, SetTheatre, SwapRooms, Nurse, NurseRun, SwapNurses}
-use Rattle.ih_plan.specs.Sums.{which_below}
 
 -- the last day on which a patient may be admitted: the due day of a mandatory one, cut at the horizon's end
 abbrev pub last_day : Draft → Patient → ℕ
@@ -30,10 +30,8 @@ choose_day I u p =
     (slice_get I.patients p)
 
 -- a nurse who works shift k
-abbrev pub choose_nurse : Draft → ℕ → ℕ → Option ℕ
-choose_nurse I u k =
-    let working = which_below (nurse_count I) (λ n. is_some (max_load I n k)) in
-    option_and_then (slice_get working) (choose u (length working))
+abbrev pub choose_nurse : Draft → ℕ → ℕ → Option NurseNo
+choose_nurse I u k = option_and_then (slice_get (working I k)) (choose u (length (working I k)))
 
 infixl 10 ◌>>=◌
 abbrev ◌>>=◌ : {A B : Type 0} → Option A → (A → Option B) → Option B
@@ -94,7 +92,7 @@ drawn_nurse I u1 u2 u3 = do
   r ← choose u1 (room_count I)
   k ← choose u2 (shift_count I)
   n ← choose_nurse I u3 k
-  Some (Nurse (record { 0 = r }) (record { 0 = k }) (record { 0 = n }))
+  Some (Nurse (record { 0 = r }) (record { 0 = k }) n)
 
 abbrev pub drawn_run : Draft → ℕ → ℕ → ℕ → ℕ → Option Move
 drawn_run I u1 u2 u3 u4 = do

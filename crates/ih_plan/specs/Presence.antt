@@ -33,13 +33,13 @@ admission_of I P x =
     then option_map placed_at (stay_of P x)
     else option_map stays_at (slice_get I.occupants (x - patient_count I))
 
--- a stay of n days from day a on has day d
-abbrev pub covers : ℕ → ℕ → ℕ → Bool
-covers a n d = nat_le a d && nat_lt d (a + n)
-
 -- day d is from day a on and before day b
 abbrev pub in_span : ℕ → ℕ → ℕ → Bool
 in_span a b d = nat_le a d && nat_lt d b
+
+-- a stay of n days from day a on has day d
+abbrev pub covers : ℕ → ℕ → ℕ → Bool
+covers a n d = in_span a (a + n) d
 
 -- a person who stays n days is in room r on day d
 abbrev pub is_in : Option Admission → ℕ → ℕ → ℕ → Bool

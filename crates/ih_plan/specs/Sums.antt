@@ -1,6 +1,6 @@
 -- Sums, counts and lists over the numbers below n.
-use Rattle.std.specs.List.{list_any, range_with_len}
-use Rattle.std.specs.Prelude.{ℕ, map, zero, suc, ◌+◌, nat_eq, Bool, true, false, ◌||◌, List, [], ◌∷◌, ◌++◌, max, min, if◌then◌else◌}
+use Rattle.std.specs.List.{list_any}
+use Rattle.std.specs.Prelude.{ℕ, map, zero, suc, ◌+◌, nat_eq, Bool, true, false, List, [], ◌∷◌, ◌++◌, max, min, if◌then◌else◌}
 
 -- f 0 + .. + f (n - 1)
 unfoldable pub sum_below : ℕ → (ℕ → ℕ) → ℕ
@@ -15,11 +15,6 @@ bit false = 0
 -- how many numbers below n pass
 abbrev pub count_below : ℕ → (ℕ → Bool) → ℕ
 count_below n p = sum_below n (λ i. bit (p i))
-
--- some number below n passes
-unfoldable pub any_below : ℕ → (ℕ → Bool) → Bool
-any_below zero p = false
-any_below (suc n) p = any_below n p || p n
 
 -- the numbers below n that pass, rising
 unfoldable pub which_below : ℕ → (ℕ → Bool) → List ℕ
@@ -49,7 +44,3 @@ lower false x y = y
 -- each number of a list with its value beside it
 abbrev pub tagged : {A : Type 0} → (ℕ → A) → List ℕ → List (ℕ × A)
 tagged f xs = map (λ i. (i, f i)) xs
-
--- f 0, .., f (n - 1)
-abbrev pub listed : {A : Type 0} → ℕ → (ℕ → A) → List A
-listed n f = map f (range_with_len 0 n)

@@ -1,3 +1,2 @@
-mod FirstDay
 mod RoomDayChanges
 mod TheatreChanges

@@ -13,7 +13,8 @@ use Rattle.ih_plan.specs.Persons.{person_of, patient_person, occupant_person, no
 use Rattle.ih_plan.proofs.Overtime.{from-all}
 use Rattle.ih_roomdays.specs.declared.profiles.Profiles.{Profiles}
 use Rattle.ih_roomdays.specs.Genders.{AreGenders}
-use Rattle.ih_roomdays.specs.Profiles.{AreAges, AreInRange, most_persons}
+use Rattle.ih_roomdays.specs.Profiles.{AreAges, AreInRange}
+use Rattle.ih_plan.proofs.BillBounds.{few-persons}
 
 -- These are the age groups of the first k persons.
 pub record AreFirstAges (I : Draft) (ages : List ℕ) (k : ℕ) : Type 0 where
@@ -44,15 +45,12 @@ module _ (I : Draft) (valid : IsValid I) where
       by_test true = patient (slice_get I.patients x) refl
       by_test false = occupant (slice_get I.occupants (x - patient_count I)) refl
 
-  persons-few : person_count I ≤ most_persons
-  persons-few = let patients = valid.patients.len.most in let occupants = valid.occupants.len.most in omega arith
-
   pub profiles-in_range : (p : Profiles) → AreGenders I p.genders.items → AreAges I p.ages.items → AreInRange (person_count I) p
   profiles-in_range p genders ages = record {
     genders_len = genders.len;
     ages_len = ages.len;
     genders = λ x. elim (cases_lt x (person_count I)) [
-      | inl known ↦ let below = genders.below x known in let few = persons-few in omega arith
+      | inl known ↦ let below = genders.below x known in let few = few-persons I valid in omega arith
       | inr past ↦ let none = get_or_past p.genders.items x 0 (let e = genders.len in omega arith) in omega arith
     ];
     ages = λ x. elim (cases_lt x (person_count I)) [

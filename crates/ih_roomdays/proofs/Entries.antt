@@ -12,12 +12,7 @@ use Rattle.std.proofs.Math.Bool.{or-false, and-false}
 use Rattle.ih_plan.proofs.Spans.{span-past, span-more}
 use Rattle.ih_roomdays.proofs.Replacements.{IsDay, IsReplaced, everywhere, replaced-then}
 use Rattle.ih_plan.specs.Presence.{in_span}
-
-turned : (x y : ℕ) → (x == y) ≡ (y == x)
-turned x y = elim (cases_eq x y) [
-  | inl e ↦ eq-eqb x y e ∙ sym (eq-eqb y x (sym e))
-  | inr ne ↦ ne_eqb x y ne ∙ sym (ne_eqb y x (λ e. ne (sym e)))
-]
+use Rattle.ih_plan.proofs.TestLemmas.{equal-swap}
 
 -- Person x is put behind the last of room's list of day k.
 module _ (v : Rows) (rows : AreRows v) (room x k : ℕ) (room_below : room < v.rooms) (k_below : k < v.days) (x_below : x < v.persons) (nowhere : (r : ℕ) → is_at v r k x ≡ false)
@@ -50,7 +45,7 @@ module _ (v new : Rows) (room x k : ℕ) (longer : IsReplaced v new room k (pers
   each-after : (r d y : ℕ) → d < v.days → is_at new r d y ≡ (is_at v r d y || ((room == r) && ((y == x) && (k == d))))
   each-after r d y = everywhere room k v.days (λ s e. is_at new s e y ≡ (is_at v s e y || ((room == s) && ((y == x) && (k == e)))))
       (ap (has y) longer.here ∙ (has-append y (persons_at v room k) x
-      ∙ ap (λ b. is_at v room k y || b) (turned x y ∙ rw (eq-eqb room room refl, eq-eqb k k refl) (sym (all-true (y == x))))))
+      ∙ ap (λ b. is_at v room k y || b) (equal-swap x y ∙ rw (eq-eqb room room refl, eq-eqb k k refl) (sym (all-true (y == x))))))
       (λ s e below ne. ap (has y) (longer.others s e ne) ∙ sym (ap (λ b. is_at v s e y || b) (apart s e ne) ∙ or-false (is_at v s e y))) r d
     where
       all-true : (b : Bool) → (true && (b && true)) ≡ b

@@ -9,7 +9,7 @@ use Rattle.std.proofs.lemmas.List.FromFn.{length-map-range_with_len, get_or-map-
 use Rattle.serde_json.specs.Data.{Data}
 use Rattle.ih_tables.specs.declared.refusals.Place.{Place}
 use Rattle.ih_tables.specs.Places.{at_item}
-use Rattle.ih_plan.specs.Sums.{listed}
+use Rattle.ih_tables.specs.Listed.{listed}
 use Rattle.ih_plan.proofs.ListedBelow.{has}
 use Rattle.ih_format.specs.Checks.{Check, ◌>>=◌, each, each_after}
 use Rattle.ih_format.specs.Flags.{is_among}

@@ -13,7 +13,7 @@ use Rattle.ih_tables.specs.declared.ids.NurseNo.{NurseNo}
 use Rattle.ih_tables.specs.declared.ids.Shift.{Shift}
 use Rattle.ih_tables.specs.Sizes.{room_count, shift_count}
 use Rattle.ih_plan.specs.declared.moves.Placement.{Placement}
-use Rattle.ih_plan.specs.Sums.{listed}
+use Rattle.ih_tables.specs.Listed.{listed}
 use Rattle.ih_plan.specs.Timetable.{Timetable, choice_of}
 use Rattle.ih_solution.specs.Reading.{have, nurse_in, has_nurse}
 use Rattle.ih_solution.specs.Assigned.{IsFree, IsAssignment, IsListedNurse, with_rooms, with_assignments}

@@ -11,7 +11,7 @@ use Rattle.ih_tables.specs.declared.refusals.Key.TheVariants as keys
 use Rattle.ih_tables.specs.Places.{at_key, at_item, whole}
 use Rattle.ih_tables.specs.Sizes.{patient_count, nurse_count}
 use Rattle.ih_tables.specs.Valid.{IsValid}
-use Rattle.ih_plan.specs.Sums.{listed}
+use Rattle.ih_tables.specs.Listed.{listed}
 use Rattle.ih_plan.specs.Timetable.{Timetable, IsPlanOf, stay_of}
 use Rattle.ih_format.specs.Documents.{value_of}
 use Rattle.ih_format.specs.Flags.{is_among}

@@ -13,7 +13,7 @@ use Rattle.ih_tables.specs.declared.ids.NurseNo.{NurseNo}
 use Rattle.ih_tables.specs.Sizes.{patient_count, room_count, shift_count, nurse_count}
 use Rattle.ih_plan.specs.declared.moves.Placement.{Placement}
 use Rattle.ih_plan.specs.Costs.{is_number, is_empty}
-use Rattle.ih_plan.specs.Sums.{listed}
+use Rattle.ih_tables.specs.Listed.{listed}
 use Rattle.ih_plan.specs.Timetable.{Timetable, IsPlanOf, stay_of, choice_of, care_of}
 use Rattle.ih_plan.proofs.ListedBelow.{has, has-which_below, which_below-has}
 use Rattle.ih_solution.specs.Solution.{rooms_of, shifts_with_rooms}

@@ -19,7 +19,7 @@ use Rattle.ih_tables.specs.Lookups.{number_in}
 use Rattle.ih_tables.specs.Sizes.{patient_count, room_count, shift_count}
 use Rattle.ih_plan.specs.declared.moves.Placement.{Placement}
 use Rattle.ih_plan.specs.Timetable.{Timetable, choice_of}
-use Rattle.ih_plan.specs.Sums.{listed}
+use Rattle.ih_tables.specs.Listed.{listed}
 use Rattle.ih_format.specs.Checks.{Checked, Check, ◌>>=◌, where_so, number, object, list, reference, under, each}
 use Rattle.ih_format.specs.Documents.{document}
 use Rattle.ih_format.specs.Flags.{is_among}

@@ -15,7 +15,8 @@ use Rattle.ih_tables.specs.Sizes.{patient_count, room_count, shift_count, nurse_
 use Rattle.ih_plan.specs.declared.moves.Placement.{Placement}
 use Rattle.ih_plan.specs.Timetable.{Timetable, stay_of, care_of}
 use Rattle.ih_plan.specs.Costs.{is_number, is_empty}
-use Rattle.ih_plan.specs.Sums.{which_below, listed}
+use Rattle.ih_plan.specs.Sums.{which_below}
+use Rattle.ih_tables.specs.Listed.{listed}
 
 -- ---- names and numbers
 

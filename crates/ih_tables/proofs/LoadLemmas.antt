@@ -16,7 +16,7 @@ load_more I i loads so_far =
     rw so_far (sym (map-range_with_len_more (λ j. max_load I (j / shift_count I) (j % shift_count I)) 0 i i (omega arith)))
 
 -- the place of a nurse and a shift is in the table
-load_inside : (I : Draft) (n k : ℕ) → n < nurse_count I → k < shift_count I → n * shift_count I + k < nurse_count I * shift_count I
+pub load_inside : (I : Draft) (n k : ℕ) → n < nurse_count I → k < shift_count I → n * shift_count I + k < nurse_count I * shift_count I
 load_inside I n k nurse shift = rw (mul_comm (nurse_count I) (shift_count I)) (mul-add-lt n (shift_count I) k (nurse_count I) nurse shift)
 
 pub load_place : (I : Draft) (loads : List (Option ℕ)) (n k : ℕ) → loads ≡ load_table I → n < nurse_count I → k < shift_count I → n * shift_count I + k < length loads

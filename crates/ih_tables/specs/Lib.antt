@@ -1,6 +1,7 @@
 pub mod BillNumbers
 pub mod Bills
 pub mod Marks
+pub mod Listed
 pub mod Lookups
 pub mod Places
 pub mod Sizes

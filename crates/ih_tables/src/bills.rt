@@ -3,7 +3,8 @@
 ghost use Rattle.std.specs.Prelude.{◌≡◌, ℕ, ◌≤◌, ◌<◌, ◌≤ℤ◌, ◌<ℤ◌, ◌+ℤ◌, ◌-ℤ◌, ◌*ℤ◌, ◌*◌, ◌^◌, pos, neg_ℤ};
 ghost use Rattle.std.specs.Prelude.{FitsSigned, length};
 ghost use Rattle.std.specs.Int.{w64};
-ghost use Rattle.ih_tables.specs.Bills.{at, by_place, signed_sum, AreWithin};
+ghost use Rattle.ih_tables.specs.Bills.{at, signed_sum, AreWithin};
+ghost use Rattle.ih_tables.specs.Listed.{listed};
 
 /// What one unit of each cost weighs, in the costs' order: mixed ages in rooms, missing skill in
 /// rooms, continuity of care, nurses' excess workload, open operating theatres, surgeons' transfers,
@@ -28,7 +29,7 @@ pub struct Bill {
 fn add_each(a: &mut [i64], b: &[i64])
     requires same { length b.now ≡ length a.old }
     requires fits { (k : ℕ) → k < length a.old → FitsSigned w64 (at a.old k +ℤ at b.now k) }
-    ensures { a.new ≡ by_place (length a.old) (λ k. at a.old k +ℤ at b.now k) }
+    ensures { a.new ≡ listed (length a.old) (λ k. at a.old k +ℤ at b.now k) }
 {
     for i in 0..a.len() {
         a[i] += b[i];
@@ -39,7 +40,7 @@ fn sub_each(a: &[i64], b: &[i64], out: &mut [i64])
     requires first { length a.now ≡ length out.old }
     requires second { length b.now ≡ length out.old }
     requires fits { (k : ℕ) → k < length out.old → FitsSigned w64 (at a.now k -ℤ at b.now k) }
-    ensures { out.new ≡ by_place (length out.old) (λ k. at a.now k -ℤ at b.now k) }
+    ensures { out.new ≡ listed (length out.old) (λ k. at a.now k -ℤ at b.now k) }
 {
     for i in 0..out.len() {
         out[i] = a[i] - b[i];

@@ -13,7 +13,7 @@ pub struct Names {
 }
 
 impl Names {
-    ghost use Rattle.std.specs.Prelude.{◌≡◌, None, OnOk, List, ℕ};
+    ghost use Rattle.std.specs.Prelude.{◌≡◌, None, OnOk, OnErr, List, ℕ};
     ghost use Rattle.ih_tables.specs.Lookups.{finds, Adds};
 
     /// A table that finds no name.
@@ -32,9 +32,10 @@ impl Names {
         self.numbers.get(name).copied()
     }
 
-    /// Gives a name a number, in place of one that it had.
+    /// Gives a name a number, in place of one that it had. Without memory the table finds what it found.
     pub fn add(&mut self, alloc: Global, name: &str, number: u32) -> Result<(), AllocError>
-        ensures { OnOk result (Adds self.old self.new name.now number) }
+        ensures added { OnOk result (Adds self.old self.new name.now number) }
+        ensures unchanged { OnErr result ((s : List ℕ) → finds self.new s ≡ finds self.old s) }
     {
         self.numbers.insert(String::from_str(alloc, name)?, number)?;
         Ok(())

@@ -16,18 +16,20 @@ use Rattle.ih_tables.specs.Valid.{IsValid, IsPatient}
 use Rattle.ih_links.specs.Lists.{Linked, list_of, has, without, is_at}
 use Rattle.ih_plan.specs.declared.moves.Placement.{Placement}
 use Rattle.ih_plan.specs.declared.moves.Write.TheVariants.{SetStay}
-use Rattle.ih_plan.specs.Timetable.{Timetable, empty, stay_of, IsPlanOf, IsPlacement}
+use Rattle.ih_plan.specs.Timetable.{Timetable, empty, stay_of, IsPlacement}
 use Rattle.ih_plan.specs.Writes.{put}
 use Rattle.ih_plan.specs.Costs.{surgeon_of, duration_of, is_number, minutes}
 use Rattle.ih_plan.proofs.Entries.{stay_of-other, stay_of-same}
 use Rattle.ih_plan.proofs.Overtime.{from-all}
 use Rattle.ih_plan.proofs.ReadLemmas.{index-copies}
+use Rattle.ih_plan.proofs.PlanRanges.{empty-plan, put-plan, stay-plan}
+use Rattle.ih_plan.proofs.Whereabouts.{no-stay}
 use Rattle.ih_theatres.specs.declared.theatres.Theatres.{Theatres}
 use Rattle.ih_theatres.specs.Days.{AreDays, day_number, theatre_at, theatre_day, surgeon_day}
 use Rattle.ih_theatres.specs.Marks.{AreBelow}
 use Rattle.ih_theatres.proofs.MarkLemmas.{AreMet}
 use Rattle.ih_theatres.specs.Ledger.{IsLedgerOf, theatre_in}
-use Rattle.ih_theatres.proofs.Told.{duration-is}
+use Rattle.ih_theatres.proofs.Minutes.{duration-is}
 use Rattle.ih_theatres.proofs.DayLemmas.{days-linked, days-entered, days-left}
 use Rattle.ih_theatres.proofs.MinuteLemmas.{kept-below, kept-is, kept-most, kept-room, kept-enough, minutes-none, minutes-entered, minutes-left}
 use Rattle.ih_theatres.proofs.PartLemmas.{stay-read, theatre-known}
@@ -38,17 +40,14 @@ day-below : (I : Draft) (n t d : ℕ) → t < n → d < I.days → day_number I 
 day-below I n t d th dh = rw (mul_comm n I.days) (mul-add-lt t I.days d n th dh)
 
 -- who isn't admitted has no day of a surgeon
-no-stay : (I : Draft) (s : Option ℕ) → surgeon_day I s None ≡ None
-no-stay I None = refl
-no-stay I (Some s) = refl
+no-surgeon_day : (I : Draft) (s : Option ℕ) → surgeon_day I s None ≡ None
+no-surgeon_day I None = refl
+no-surgeon_day I (Some s) = refl
 
 surgeon-known : (I : Draft) (p : ℕ) (a : Patient) → slice_get I.patients p ≡ Some a → surgeon_of I p ≡ Some a.surgeon_id.0
 surgeon-known I p a is = ap (option_map (λ (a : Patient). a.surgeon_id.0)) is
 
 -- ---- the empty timetable
-
-pub nobody : (I : Draft) (p : ℕ) → stay_of (empty I) p ≡ None
-nobody I p = stay-read (replicate (patient_count I) None) p ∙ index-copies (patient_count I) p None
 
 nowhere : (n : ℕ) → replicate n None ≡ map theatre_in (replicate n None)
 nowhere zero = refl
@@ -67,17 +66,18 @@ pub ledger-new : (I : Draft) (l : Theatres) → l.theatres.items ≡ replicate (
     → l.surgeon_days.lists ≡ replicate (surgeon_count I * I.days) [] → l.surgeon_days.nodes ≡ patient_count I
     → l.theatre_minutes.items ≡ replicate (theatre_count I * I.days) 0 → l.surgeon_minutes.items ≡ replicate (surgeon_count I * I.days) 0 → IsLedgerOf I (empty I) l
 ledger-new I l theatres t_lists t_nodes s_lists s_nodes t_minutes s_minutes = record {
+  plan = empty-plan I;
   theatres = theatres ∙ nowhere (patient_count I);
-  theatre_days = days-none I (theatre_count I) (λ p. theatre_day I (stay_of (empty I) p)) l.theatre_days (λ x. ap (theatre_day I) (nobody I x)) t_lists t_nodes;
+  theatre_days = days-none I (theatre_count I) (λ p. theatre_day I (stay_of (empty I) p)) l.theatre_days (λ x. ap (theatre_day I) (no-stay I x)) t_lists t_nodes;
   surgeon_days = days-none I (surgeon_count I) (λ p. surgeon_day I (surgeon_of I p) (stay_of (empty I) p)) l.surgeon_days
-      (λ x. ap (surgeon_day I (surgeon_of I x)) (nobody I x) ∙ no-stay I (surgeon_of I x)) s_lists s_nodes;
+      (λ x. ap (surgeon_day I (surgeon_of I x)) (no-stay I x) ∙ no-surgeon_day I (surgeon_of I x)) s_lists s_nodes;
   theatre_minutes = minutes-none I (theatre_count I * I.days) l.theatre_days l.theatre_minutes.items t_lists t_minutes;
   surgeon_minutes = minutes-none I (surgeon_count I * I.days) l.surgeon_days l.surgeon_minutes.items s_lists s_minutes;
 }
 
 -- ---- theatres
 
-module _ {I : Draft} {P : Timetable} {l : Theatres} (valid : IsValid I) (plan : IsPlanOf I P) (stands : IsLedgerOf I P l) where
+module _ {I : Draft} {P : Timetable} {l : Theatres} (valid : IsValid I) (stands : IsLedgerOf I P l) where
   -- each theatre that a patient has is one of the instance
   pub theatres-few : All (λ t. IfSome t (λ (m : TheatreNo). m.0 < 64)) l.theatres.items
   theatres-few = rw stands.theatres (All-from_get_or (λ t. IfSome t (λ (m : TheatreNo). m.0 < 64)) (map theatre_in P.stays) None
@@ -85,7 +85,7 @@ module _ {I : Draft} {P : Timetable} {l : Theatres} (valid : IsValid I) (plan : 
     where
       by_case : (i : ℕ) (o : Option Placement) → stay_of P i ≡ o → IfSome (theatre_in o) (λ (m : TheatreNo). m.0 < 64)
       by_case i None e = tt
-      by_case i (Some at) e = let few = valid.theatres.len.most in let below = (plan.placed i at e).theatre in omega arith
+      by_case i (Some at) e = let few = valid.theatres.len.most in let below = (stands.plan.placed i at e).theatre in omega arith
 
   -- so are those that are marked
   pub marks-below : (marks : ℕ) (xs : List ℕ) → AreMet marks (theatre_at l.theatres.items) xs → AreBelow (theatre_count I) marks
@@ -93,7 +93,7 @@ module _ {I : Draft} {P : Timetable} {l : Theatres} (valid : IsValid I) (plan : 
     where
       by_case : (x : ℕ) (o : Option Placement) → stay_of P x ≡ o → is_number (option_map (λ (at : Placement). at.theatre.0) o) i ≡ false
       by_case x None e = refl
-      by_case x (Some at) e = let below = (plan.placed x at e).theatre in ne_eqb at.theatre.0 i (λ same. omega arith)
+      by_case x (Some at) e = let below = (stands.plan.placed x at e).theatre in ne_eqb at.theatre.0 i (λ same. omega arith)
 
       here : (x : ℕ) → is_number (theatre_at l.theatres.items x) i ≡ false
       here x = ap (λ o. is_number o i) (ap (λ ts. theatre_at ts x) stands.theatres ∙ theatre-known P x) ∙ by_case x (stay_of P x) refl
@@ -126,9 +126,9 @@ module _ {I : Draft} {P : Timetable} {l : Theatres} (stands : IsLedgerOf I P l) 
 
 -- ---- a patient comes or goes
 
-module _ {I : Draft} {P : Timetable} {l : Theatres} (valid : IsValid I) (plan : IsPlanOf I P) (stands : IsLedgerOf I P l) (p : PatientNo) (known : p.0 < patient_count I) where
+module _ {I : Draft} {P : Timetable} {l : Theatres} (valid : IsValid I) (stands : IsLedgerOf I P l) (p : PatientNo) (known : p.0 < patient_count I) where
   inside : p.0 < length P.stays
-  inside = let sizes = plan.stays in omega arith
+  inside = let sizes = stands.plan.stays in omega arith
 
   module _ (stay : Option Placement) where
     abbrev later : Timetable
@@ -154,7 +154,7 @@ module _ {I : Draft} {P : Timetable} {l : Theatres} (valid : IsValid I) (plan : 
   no-theatre out = ap (theatre_day I) out
 
   no-surgeon : stay_of P p.0 ≡ None → surgeon_day I (surgeon_of I p.0) (stay_of P p.0) ≡ None
-  no-surgeon out = ap (surgeon_day I (surgeon_of I p.0)) out ∙ no-stay I (surgeon_of I p.0)
+  no-surgeon out = ap (surgeon_day I (surgeon_of I p.0)) out ∙ no-surgeon_day I (surgeon_of I p.0)
 
   -- who is admitted has a day of each kind, so is in a list of each kind
   in-theatre : (at : Placement) → stay_of P p.0 ≡ Some at → theatre_day I (stay_of P p.0) ≡ Some (day_number I at.theatre.0 at.day.0)
@@ -217,6 +217,7 @@ module _ {I : Draft} {P : Timetable} {l : Theatres} (valid : IsValid I) (plan : 
           → m.surgeon_minutes.items ≡ slice_set l.surgeon_minutes.items at_surgeon (y + a.surgery_duration)
           → IsLedgerOf I (put (SetStay p (Some at)) P) m
       ledger-entered out theatres t_lists t_nodes s_lists s_nodes t_minutes s_minutes = record {
+        plan = stay-plan I P p at stands.plan known fits;
         theatres = theatres ∙ theatres-later (Some at);
         theatre_days = days-entered stands.theatre_days p.0 (t_others (Some at)) t_nodes at_theatre known t_below (no-theatre out) (t_own (Some at)) t_lists;
         surgeon_days = days-entered stands.surgeon_days p.0 (s_others (Some at)) s_nodes at_surgeon known s_below (no-surgeon out)
@@ -233,9 +234,10 @@ module _ {I : Draft} {P : Timetable} {l : Theatres} (valid : IsValid I) (plan : 
           → m.surgeon_minutes.items ≡ slice_set l.surgeon_minutes.items at_surgeon (y - a.surgery_duration)
           → IsLedgerOf I (put (SetStay p None) P) m
       ledger-left there theatres t_lists t_nodes s_lists s_nodes t_minutes s_minutes = record {
+        plan = put-plan I P (SetStay p None) stands.plan (known, λ at e. absurd (let no : None ≡ Some at = e in cc));
         theatres = theatres ∙ theatres-later None;
         theatre_days = days-left stands.theatre_days p.0 (t_others None) t_nodes (t_own None) t_lists;
-        surgeon_days = days-left stands.surgeon_days p.0 (s_others None) s_nodes (s_own None ∙ no-stay I (surgeon_of I p.0)) s_lists;
+        surgeon_days = days-left stands.surgeon_days p.0 (s_others None) s_nodes (s_own None ∙ no-surgeon_day I (surgeon_of I p.0)) s_lists;
         theatre_minutes = minutes-left stands.theatre_days stands.theatre_minutes at_theatre t_below x t_read p.0 a.surgery_duration mine (in-theatre at there) t_lists t_minutes;
         surgeon_minutes = minutes-left stands.surgeon_days stands.surgeon_minutes at_surgeon s_below y s_read p.0 a.surgery_duration mine (with-surgeon at a is there) s_lists s_minutes;
       }

@@ -1,4 +1,4 @@
-pub mod Told
+pub mod Minutes
 pub mod MarkLemmas
 pub mod DayLemmas
 pub mod PartLemmas

@@ -11,7 +11,7 @@ use Rattle.ih_links.specs.Lists.{Linked, list_of, without}
 use Rattle.ih_plan.specs.Costs.{duration_of, minutes}
 use Rattle.ih_plan.proofs.ReadLemmas.{index-copies}
 use Rattle.ih_theatres.specs.Days.{AreDays, AreMinutes}
-use Rattle.ih_theatres.proofs.Told.{list-most}
+use Rattle.ih_theatres.proofs.Minutes.{list-most}
 use Rattle.ih_theatres.proofs.DayLemmas.{nodes-append, days-free, days-there, days-away}
 use Rattle.ih_theatres.proofs.OtherPatients.{minutes-there, minutes-away, more-minutes}
 

@@ -16,10 +16,10 @@ use Rattle.ih_links.proofs.Members.{apart, has-here, has-there, has-without_self
 use Rattle.std.proofs.Math.Bool.{or-false}
 use Rattle.ih_links.proofs.Others.{sum-without, with-each, with-known}
 use Rattle.ih_plan.specs.declared.moves.Placement.{Placement}
-use Rattle.ih_plan.specs.Timetable.{Timetable, IsPlanOf, stay_of}
+use Rattle.ih_plan.specs.Timetable.{Timetable, stay_of}
 use Rattle.ih_plan.specs.Sums.{bit, count_below, which_below}
 use Rattle.ih_plan.specs.Cells.{part_at, part_of, content_of}
-use Rattle.ih_plan.specs.Costs.{operated, operated_by, operated_in, admitted_on, is_number, surgeon_of, minutes, duration_of, is_empty, theatre_minutes, surgeon_minutes, theatre_of, theatres_used}
+use Rattle.ih_plan.specs.Costs.{operated, operated_by, operated_in, admitted_on, is_number, surgeon_of, minutes, duration_of, is_empty, theatre_availability, surgeon_maximum, theatre_of, theatres_used}
 use Rattle.ih_plan.proofs.ListedBelow.{tagged-keys, tagged-values}
 use Rattle.ih_plan.proofs.SumLemmas.{sum_below-same, sum_below-but}
 use Rattle.ih_theatres.specs.declared.theatres.Theatres.{Theatres}
@@ -105,10 +105,10 @@ theatre-inside n (Some at) fits = fits
 
 -- ---- the parts at a timetable at which the others' stays are the same
 
-module _ {I : Draft} {P : Timetable} {l : Theatres} (plan : IsPlanOf I P) (stands : IsLedgerOf I P l) (p : PatientNo) (known : p.0 < patient_count I)
+module _ {I : Draft} {P : Timetable} {l : Theatres} (stands : IsLedgerOf I P l) (p : PatientNo) (known : p.0 < patient_count I)
     (Q : Timetable) (same : (x : ℕ) → (x ≡ p.0 → ⊥) → stay_of Q x ≡ stay_of P x) where
   pub theatre-at : (t : TheatreNo) (d : Day) (b : Bool) (over used : ℕ) → d.0 < I.days → operated_in t.0 d.0 (stay_of Q p.0) ≡ b
-      → over ≡ minutes I (with_if b p.0 (without p.0 (list_of l.theatre_days (day_number I t.0 d.0)))) - theatre_minutes I t.0 d.0
+      → over ≡ minutes I (with_if b p.0 (without p.0 (list_of l.theatre_days (day_number I t.0 d.0)))) - theatre_availability I t.0 d.0
       → used ≡ bit (not (is_empty (with_if b p.0 (without p.0 (list_of l.theatre_days (day_number I t.0 d.0))))))
       → theatre_part over used ≡ part_at I Q (TheatreDay t d)
   unfolding part_of content_of operated
@@ -116,7 +116,7 @@ module _ {I : Draft} {P : Timetable} {l : Theatres} (plan : IsPlanOf I P) (stand
       let xs = list_of l.theatre_days (day_number I t.0 d.0) in
       let after : ℕ → Bool = λ x. operated_in t.0 d.0 (stay_of Q x) in
       let some = with-known b p.0 xs (stands.theatre_days.known (day_number I t.0 d.0)) known in
-      let each = with-each b p.0 xs after own (λ x ne. theatre-each plan stands t.0 d.0 dh x ∙ sym (ap (operated_in t.0 d.0) (same x ne))) in
+      let each = with-each b p.0 xs after own (λ x ne. theatre-each stands t.0 d.0 dh x ∙ sym (ap (operated_in t.0 d.0) (same x ne))) in
       let sum = sum-of_passing some after each (duration_of I) in
       let none = empty-of_passing some after each in
       rw (over_is, used_is, sum, none) refl
@@ -148,7 +148,7 @@ module _ {I : Draft} {P : Timetable} {l : Theatres} (plan : IsPlanOf I P) (stand
   pub surgeon-at : (s : SurgeonNo) (d : Day) (b : Bool) (stay : Option Placement) (marks : ℕ) (over transfers : ℕ) → d.0 < I.days
       → stay_of Q p.0 ≡ stay → (is_number (surgeon_of I p.0) s.0 && admitted_on d.0 stay) ≡ b
       → ((t : ℕ) → is_marked marks t ≡ list_any (λ o. is_number o t) (map (theatre_at l.theatres.items) (without p.0 (list_of l.surgeon_days (day_number I s.0 d.0)))))
-      → over ≡ minutes I (with_if b p.0 (without p.0 (list_of l.surgeon_days (day_number I s.0 d.0)))) - surgeon_minutes I s.0 d.0
+      → over ≡ minutes I (with_if b p.0 (without p.0 (list_of l.surgeon_days (day_number I s.0 d.0)))) - surgeon_maximum I s.0 d.0
       → transfers ≡ count_below (theatre_count I) (λ t. is_marked marks t || (b && is_number (option_map (λ (at : Placement). at.theatre.0) stay) t)) - 1
       → surgeon_part over transfers ≡ part_at I Q (SurgeonDay s d)
   unfolding part_of content_of operated_by
@@ -157,7 +157,7 @@ module _ {I : Draft} {P : Timetable} {l : Theatres} (plan : IsPlanOf I P) (stand
       let after : ℕ → Bool = λ x. is_number (surgeon_of I x) s.0 && admitted_on d.0 (stay_of Q x) in
       let some = with-known b p.0 xs (stands.surgeon_days.known (day_number I s.0 d.0)) known in
       let each = with-each b p.0 xs after (ap (λ o. is_number (surgeon_of I p.0) s.0 && admitted_on d.0 o) now ∙ own)
-      (λ x ne. surgeon-each plan stands s.0 d.0 dh x ∙ sym (ap (λ o. is_number (surgeon_of I x) s.0 && admitted_on d.0 o) (same x ne))) in
+      (λ x ne. surgeon-each stands s.0 d.0 dh x ∙ sym (ap (λ o. is_number (surgeon_of I x) s.0 && admitted_on d.0 o) (same x ne))) in
       let sum = sum-of_passing some after each (duration_of I) in
       let met = theatres-at xs after marks stay b some each now marked in
       let keys = tagged-keys (theatre_of Q) (which_below (patient_count I) after) in

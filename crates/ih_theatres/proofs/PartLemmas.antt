@@ -14,9 +14,9 @@ use Rattle.ih_tables.specs.declared.cells.Cell.TheVariants.{TheatreDay, SurgeonD
 use Rattle.ih_tables.specs.Sizes.{patient_count, theatre_count}
 use Rattle.ih_links.specs.Lists.{AreNodes, has, list_of, is_at}
 use Rattle.ih_plan.specs.declared.moves.Placement.{Placement}
-use Rattle.ih_plan.specs.Timetable.{Timetable, stay_of, IsPlanOf}
+use Rattle.ih_plan.specs.Timetable.{Timetable, stay_of}
 use Rattle.ih_plan.specs.Sums.{bit, which_below}
-use Rattle.ih_plan.specs.Costs.{operated, operated_by, operated_in, admitted_on, is_number, surgeon_of, minutes, duration_of, is_empty, theatre_minutes, surgeon_minutes, theatre_of, theatres_used}
+use Rattle.ih_plan.specs.Costs.{operated, operated_by, operated_in, admitted_on, is_number, surgeon_of, minutes, duration_of, is_empty, theatre_availability, surgeon_maximum, theatre_of, theatres_used}
 use Rattle.ih_plan.specs.Cells.{part_at, part_of, content_of}
 use Rattle.ih_plan.proofs.ListedBelow.{tagged-keys, tagged-values}
 use Rattle.ih_plan.proofs.SumLemmas.{sum_below-same}
@@ -56,13 +56,13 @@ one-number a b r c w bh ch = both_ways (a * w + b == r * w + c) ((a == r) && (b 
     let day = eqb-true b c both.1 in
     eq-eqb (a * w + b) (r * w + c) (rw (row, day) refl))
 
-module _ {I : Draft} {P : Timetable} {l : Theatres} (plan : IsPlanOf I P) (stands : IsLedgerOf I P l) where
+module _ {I : Draft} {P : Timetable} {l : Theatres} (stands : IsLedgerOf I P l) where
   pub theatre-each : (t d : ℕ) → d < I.days → (x : ℕ) → has x (list_of l.theatre_days (day_number I t d)) ≡ operated_in t d (stay_of P x)
   theatre-each t d dh x = stands.theatre_days.each (day_number I t d) x ∙ by_case (stay_of P x) refl
     where
       by_case : (o : Option Placement) → stay_of P x ≡ o → is_at (day_number I t d) (theatre_day I o) ≡ operated_in t d o
       by_case None e = refl
-      by_case (Some at) e = one-number at.theatre.0 at.day.0 t d I.days (plan.placed x at e).day dh
+      by_case (Some at) e = one-number at.theatre.0 at.day.0 t d I.days (stands.plan.placed x at e).day dh
 
   pub surgeon-each : (s d : ℕ) → d < I.days → (x : ℕ)
       → has x (list_of l.surgeon_days (day_number I s d)) ≡ (is_number (surgeon_of I x) s && admitted_on d (stay_of P x))
@@ -76,12 +76,12 @@ module _ {I : Draft} {P : Timetable} {l : Theatres} (plan : IsPlanOf I P) (stand
       by_case None None e = refl
       by_case (Some n) None e = neither (n == s)
       by_case None (Some at) e = refl
-      by_case (Some n) (Some at) e = one-number n at.day.0 s d I.days (plan.placed x at e).day dh
+      by_case (Some n) (Some at) e = one-number n at.day.0 s d I.days (stands.plan.placed x at e).day dh
 
   -- ---- the parts
 
   pub theatre-part : (t : TheatreNo) (d : Day) (over used : ℕ) → d.0 < I.days
-      → over ≡ minutes I (list_of l.theatre_days (day_number I t.0 d.0)) - theatre_minutes I t.0 d.0
+      → over ≡ minutes I (list_of l.theatre_days (day_number I t.0 d.0)) - theatre_availability I t.0 d.0
       → used ≡ bit (not (is_empty (list_of l.theatre_days (day_number I t.0 d.0))))
       → theatre_part over used ≡ part_at I P (TheatreDay t d)
   unfolding part_of content_of operated
@@ -112,7 +112,7 @@ module _ {I : Draft} {P : Timetable} {l : Theatres} (plan : IsPlanOf I P) (stand
       any-map q (y ∷ ys) = let here = known_at y in let rest = any-map q ys in rw (here, rest) refl
 
   pub surgeon-part : (s : SurgeonNo) (d : Day) (over transfers : ℕ) → d.0 < I.days
-      → over ≡ minutes I (list_of l.surgeon_days (day_number I s.0 d.0)) - surgeon_minutes I s.0 d.0
+      → over ≡ minutes I (list_of l.surgeon_days (day_number I s.0 d.0)) - surgeon_maximum I s.0 d.0
       → transfers ≡ theatres_used I (map (theatre_at l.theatres.items) (list_of l.surgeon_days (day_number I s.0 d.0))) - 1
       → surgeon_part over transfers ≡ part_at I P (SurgeonDay s d)
   unfolding part_of content_of operated_by

@@ -101,7 +101,12 @@ fn theatre_but(theatres: &[Option<TheatreNo>], x: u32, p: u32) -> Option<Theatre
 }
 
 /// Marks on the theatres of the patients in a list but p.
-pub fn theatres_but(links: &Links, head: u32, theatres: &[Option<TheatreNo>], p: PatientNo) -> u64
+pub fn marks_of_theatres_but(
+    links: &Links,
+    head: u32,
+    theatres: &[Option<TheatreNo>],
+    p: PatientNo,
+) -> u64
     requires head { head < length links.now.lists }
     requires patients { links.now.nodes ≡ length theatres.now }
     requires known { All (λ t. IfSome t (λ m. m.0 < 64)) theatres.now }

@@ -38,7 +38,7 @@ pub fn is_used(links: &Links, head: u32) -> bool
 }
 
 /// Marks on the theatres of the patients in a list.
-pub fn theatres_used(links: &Links, head: u32, theatres: &[Option<TheatreNo>]) -> u64
+pub fn marks_of_theatres(links: &Links, head: u32, theatres: &[Option<TheatreNo>]) -> u64
     requires head { head < length links.now.lists }
     requires patients { links.now.nodes ≡ length theatres.now }
     requires known { All (λ t. IfSome t (λ m. m.0 < 64)) theatres.now }

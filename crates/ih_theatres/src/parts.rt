@@ -9,7 +9,7 @@ use ih_plan::increase;
 use ih_tables::Bill;
 
 /// The bill of a theatre's day: minutes above its availability, and 1 where it is used.
-pub fn theatre_part(over: u32, used: u32) -> Bill
+pub fn theatre_day_bill(over: u32, used: u32) -> Bill
     ensures value { result ≡ as_bill (theatre_part over used) }
     ensures within { IsWithin (10 ^ 11) result }
 {
@@ -20,7 +20,7 @@ pub fn theatre_part(over: u32, used: u32) -> Bill
 }
 
 /// The bill of a surgeon's day: minutes above the surgeon's maximum, and transfers between theatres.
-pub fn surgeon_part(over: u32, transfers: u32) -> Bill
+pub fn surgeon_day_bill(over: u32, transfers: u32) -> Bill
     ensures value { result ≡ as_bill (surgeon_part over transfers) }
     ensures within { IsWithin (10 ^ 11) result }
 {

@@ -4,19 +4,19 @@ ghost use Rattle.std.specs.Prelude.{◌≡◌, ◌<◌, ◌-◌, ◌^◌, Some, 
 ghost use Rattle.ih_tables.specs.Sizes.{patient_count, theatre_count, surgeon_count};
 ghost use Rattle.ih_tables.specs.{Bills.IsWithin, declared.cells.Cell.TheVariants.TheatreDay};
 ghost use Rattle.ih_tables.specs.{declared.cells.Cell.TheVariants.SurgeonDay};
-ghost use Rattle.ih_plan.specs.Timetable.{Timetable, empty, stay_of, IsPlanOf, IsPlacement};
-ghost use Rattle.ih_plan.specs.Costs.{surgeon_of, theatre_minutes, surgeon_minutes};
+ghost use Rattle.ih_plan.specs.Timetable.{Timetable, empty, stay_of, IsPlacement};
+ghost use Rattle.ih_plan.specs.Costs.{surgeon_of, theatre_availability, surgeon_maximum};
 ghost use Rattle.ih_plan.specs.{declared.moves.Write.TheVariants.SetStay, Writes.put, BillOf.as_bill, Sums.bit};
 ghost use Rattle.ih_plan.specs.{Cells.delta_at, Cells.part_at};
 ghost use Rattle.ih_theatres.specs.Ledger.{IsLedgerOf};
 
 use crate::changes::{
-    is_operated_by, is_operated_in, is_used_by_others, minutes_but, surgeon_counts, theatre_counts,
-    theatres_but,
+    is_operated_by, is_operated_in, is_used_by_others, marks_of_theatres_but, minutes_but,
+    surgeon_counts, theatre_counts,
 };
-use crate::days::{day_count, day_number, is_used, theatres_used};
+use crate::days::{day_count, day_number, is_used, marks_of_theatres};
 use crate::marks::count_marked;
-use crate::parts::{surgeon_change, surgeon_part, theatre_change, theatre_part};
+use crate::parts::{surgeon_change, surgeon_day_bill, theatre_change, theatre_day_bill};
 use ih_links::Links;
 use ih_plan::{Placement, bit};
 use ih_tables::{Bill, Day, Instance, PatientNo, SurgeonNo, TheatreNo};
@@ -36,9 +36,9 @@ pub struct Theatres {
 }
 
 /// The minutes that a theatre is available on a day.
-fn theatre_minutes(inst: &Instance, t: TheatreNo, d: Day) -> u32
+fn theatre_availability(inst: &Instance, t: TheatreNo, d: Day) -> u32
     requires { t.0 < theatre_count inst.now.draft }
-    ensures { result ≡ theatre_minutes inst.now.draft t.0 d.0 }
+    ensures { result ≡ theatre_availability inst.now.draft t.0 d.0 }
 {
     let theatre = inst.theatre(t);
     theatre
@@ -50,9 +50,9 @@ fn theatre_minutes(inst: &Instance, t: TheatreNo, d: Day) -> u32
 }
 
 /// The minutes that a surgeon may operate on a day.
-fn surgeon_minutes(inst: &Instance, s: SurgeonNo, d: Day) -> u32
+fn surgeon_maximum(inst: &Instance, s: SurgeonNo, d: Day) -> u32
     requires { s.0 < surgeon_count inst.now.draft }
-    ensures { result ≡ surgeon_minutes inst.now.draft s.0 d.0 }
+    ensures { result ≡ surgeon_maximum inst.now.draft s.0 d.0 }
 {
     let surgeon = inst.surgeon(s);
     surgeon
@@ -89,9 +89,9 @@ impl Theatres {
     pub fn enter(&mut self, inst: &Instance, p: PatientNo, at: Placement)
         requires patient { p.0 < patient_count inst.now.draft }
         requires placement { IsPlacement inst.now.draft at }
-        requires stands { (P : Timetable) × IsPlanOf inst.now.draft P × IsLedgerOf inst.now.draft P self.old
+        requires stands { (P : Timetable) × IsLedgerOf inst.now.draft P self.old
             × (stay_of P p.0 ≡ None) }
-        ensures { (P : Timetable) → IsPlanOf inst.now.draft P → IsLedgerOf inst.now.draft P self.old
+        ensures { (P : Timetable) → IsLedgerOf inst.now.draft P self.old
             → stay_of P p.0 ≡ None
             → IsLedgerOf inst.now.draft (put (SetStay p (Some at)) P) self.new }
     {
@@ -108,9 +108,9 @@ impl Theatres {
     /// Takes out a patient who is admitted with this placement.
     pub fn leave(&mut self, inst: &Instance, p: PatientNo, at: Placement)
         requires patient { p.0 < patient_count inst.now.draft }
-        requires stands { (P : Timetable) × IsPlanOf inst.now.draft P × IsLedgerOf inst.now.draft P self.old
+        requires stands { (P : Timetable) × IsLedgerOf inst.now.draft P self.old
             × (stay_of P p.0 ≡ Some at) }
-        ensures { (P : Timetable) → IsPlanOf inst.now.draft P → IsLedgerOf inst.now.draft P self.old
+        ensures { (P : Timetable) → IsLedgerOf inst.now.draft P self.old
             → stay_of P p.0 ≡ Some at
             → IsLedgerOf inst.now.draft (put (SetStay p None) P) self.new }
     {
@@ -129,15 +129,15 @@ impl Theatres {
     pub fn theatre_bill(&self, inst: &Instance, t: TheatreNo, d: Day) -> Bill
         requires theatre { t.0 < theatre_count inst.now.draft }
         requires day { d.0 < inst.now.draft.days }
-        requires stands { (P : Timetable) × IsPlanOf inst.now.draft P × IsLedgerOf inst.now.draft P self.now }
-        ensures part { (P : Timetable) → IsPlanOf inst.now.draft P → IsLedgerOf inst.now.draft P self.now
+        requires stands { (P : Timetable) × IsLedgerOf inst.now.draft P self.now }
+        ensures part { (P : Timetable) → IsLedgerOf inst.now.draft P self.now
             → result ≡ as_bill (part_at inst.now.draft P (TheatreDay t d)) }
         ensures within { IsWithin (10 ^ 11) result }
     {
         let today = day_number(inst, t.0, d);
         let planned = self.theatre_minutes[today as usize];
-        let over = planned.saturating_sub(theatre_minutes(inst, t, d));
-        theatre_part(over, bit(is_used(&self.theatre_days, today)))
+        let over = planned.saturating_sub(theatre_availability(inst, t, d));
+        theatre_day_bill(over, bit(is_used(&self.theatre_days, today)))
     }
 
     /// What a surgeon's day costs: the minutes of surgery above the surgeon's maximum, and the theatres of that day
@@ -145,17 +145,17 @@ impl Theatres {
     pub fn surgeon_bill(&self, inst: &Instance, s: SurgeonNo, d: Day) -> Bill
         requires surgeon { s.0 < surgeon_count inst.now.draft }
         requires day { d.0 < inst.now.draft.days }
-        requires stands { (P : Timetable) × IsPlanOf inst.now.draft P × IsLedgerOf inst.now.draft P self.now }
-        ensures part { (P : Timetable) → IsPlanOf inst.now.draft P → IsLedgerOf inst.now.draft P self.now
+        requires stands { (P : Timetable) × IsLedgerOf inst.now.draft P self.now }
+        ensures part { (P : Timetable) → IsLedgerOf inst.now.draft P self.now
             → result ≡ as_bill (part_at inst.now.draft P (SurgeonDay s d)) }
         ensures within { IsWithin (10 ^ 11) result }
     {
         let today = day_number(inst, s.0, d);
         let planned = self.surgeon_minutes[today as usize];
-        let over = planned.saturating_sub(surgeon_minutes(inst, s, d));
-        let marks = theatres_used(&self.surgeon_days, today, self.theatres.as_slice());
+        let over = planned.saturating_sub(surgeon_maximum(inst, s, d));
+        let marks = marks_of_theatres(&self.surgeon_days, today, self.theatres.as_slice());
         let used = count_marked(marks);
-        surgeon_part(over, used.saturating_sub(1))
+        surgeon_day_bill(over, used.saturating_sub(1))
     }
 
     /// How much more a placement's theatre breaks and costs on the day of admission with the patient there than
@@ -170,16 +170,16 @@ impl Theatres {
     ) -> Bill
         requires patient { p.0 < patient_count inst.now.draft }
         requires placement { IsPlacement inst.now.draft at }
-        requires stands { (P : Timetable) × IsPlanOf inst.now.draft P × IsLedgerOf inst.now.draft P self.now
+        requires stands { (P : Timetable) × IsLedgerOf inst.now.draft P self.now
             × (stay_of P p.0 ≡ old) }
-        ensures delta { (P : Timetable) → IsPlanOf inst.now.draft P → IsLedgerOf inst.now.draft P self.now
+        ensures delta { (P : Timetable) → IsLedgerOf inst.now.draft P self.now
             → stay_of P p.0 ≡ old
             → result ≡ delta_at inst.now.draft P p at (TheatreDay at.theatre at.day) }
         ensures within { IsWithin (10 ^ 11) result }
     {
         let was = is_operated_in(old, at.theatre, at.day);
         let today = day_number(inst, at.theatre.0, at.day);
-        let most = theatre_minutes(inst, at.theatre, at.day);
+        let most = theatre_availability(inst, at.theatre, at.day);
         let planned = self.theatre_minutes[today as usize];
         let others = minutes_but(inst, planned, p, was);
         let used = is_used_by_others(&self.theatre_days, today, p, was);
@@ -203,19 +203,19 @@ impl Theatres {
         requires patient { p.0 < patient_count inst.now.draft }
         requires own { surgeon_of inst.now.draft p.0 ≡ Some s.0 }
         requires placement { IsPlacement inst.now.draft at }
-        requires stands { (P : Timetable) × IsPlanOf inst.now.draft P × IsLedgerOf inst.now.draft P self.now
+        requires stands { (P : Timetable) × IsLedgerOf inst.now.draft P self.now
             × (stay_of P p.0 ≡ old) }
-        ensures delta { (P : Timetable) → IsPlanOf inst.now.draft P → IsLedgerOf inst.now.draft P self.now
+        ensures delta { (P : Timetable) → IsLedgerOf inst.now.draft P self.now
             → stay_of P p.0 ≡ old
             → result ≡ delta_at inst.now.draft P p at (SurgeonDay s at.day) }
         ensures within { IsWithin (10 ^ 11) result }
     {
         let was = is_operated_by(inst, p, old, s, at.day);
         let today = day_number(inst, s.0, at.day);
-        let most = surgeon_minutes(inst, s, at.day);
+        let most = surgeon_maximum(inst, s, at.day);
         let planned = self.surgeon_minutes[today as usize];
         let others = minutes_but(inst, planned, p, was);
-        let used = theatres_but(&self.surgeon_days, today, self.theatres.as_slice(), p);
+        let used = marks_of_theatres_but(&self.surgeon_days, today, self.theatres.as_slice(), p);
         let without = surgeon_counts(inst, others, used, p, false, None, most);
         let with = surgeon_counts(inst, others, used, p, true, Some(at), most);
         surgeon_change(with, without)

@@ -12,7 +12,7 @@ use Rattle.std.proofs.lemmas.List.Elements.{All-nil, All-weaker}
 use Rattle.atomic_table.specs.Table.{State, opening, Splits, Joins, Final, Seen}
 use Rattle.atomic_table.proofs.Lists.{set_else, at_longer}
 use Rattle.ih_turn.specs.declared.view.View.{View}
-use Rattle.ih_turn.specs.Rule.{GoesOn, HoldsTicket, IsGiven, all_left, Knows, Turns, IsTurn, first_view, spent_view, remaining_view, split_off_view, both_views, seen_lists, with_own, Covers, AddsBelow, Closes}
+use Rattle.ih_turn.specs.Rule.{GoesOn, HoldsTicket, IsGiven, all_left, Knows, IsTurn, first_view, spent_view, remaining_view, split_off_view, both_views, seen_lists, with_own, Covers, AddsBelow, Closes}
 use Rattle.ih_turn.proofs.Views.{not_true, same_at, on_set, there_set, on_push, before_set, later_rest, all_left_set, all_left_push, goes_on-itself}
 
 abbrev Owners : Type 0
@@ -53,9 +53,6 @@ module _ {B E D : Type 0} (entries : B → List E) (base : B → D) (maker : E �
 
   abbrev Rule : State (Option B) V → Type 0
   Rule = IsTurn entries base maker value seats turns
-
-  abbrev Ok : ℕ → ℕ → Homes → List V → Type 0
-  Ok = Turns entries base maker value seats turns
 
   abbrev K : List E → Owners → ℕ → V → Type 0
   K = Knows entries base maker value seats turns

@@ -12,7 +12,7 @@ use Rattle.ih_plan.specs.Persons.{person_of}
 use Rattle.ih_plan.specs.Presence.{Admission, admission_of, is_in, covers, is_present, present}
 use Rattle.ih_plan.specs.Costs.{is_number, operated, operated_by, operated_in, surgeon_of, admitted_on}
 use Rattle.ih_plan.specs.Sums.{which_below}
-use Rattle.ih_plan.proofs.SumLemmas.{which_below-more}
+use Rattle.ih_plan.proofs.SumLemmas.{which_below-more, which_below-few}
 use Rattle.ih_validate.specs.declared.surgery.Resource.{Resource}
 use Rattle.ih_validate.specs.declared.surgery.Resource.TheVariants.{OfTheatre, OfSurgeon}
 use Rattle.ih_validate.specs.Members.{residents_of}
@@ -45,15 +45,6 @@ which_below-All (suc n) p = by_case (p n) (All-weaker (λ x. x < n) (λ x. x < s
     by_case true rest = All-push (λ x. x < suc n) (which_below n p) n rest (omega arith)
     by_case false rest = rest
 
-pub which_below-short : (n : ℕ) (p : ℕ → Bool) → length (which_below n p) ≤ n
-unfolding which_below
-which_below-short zero p = omega arith
-which_below-short (suc n) p = by_case (p n) (which_below-short n p)
-  where
-    by_case : (b : Bool) → length (which_below n p) ≤ n → length (if b then which_below n p ++ n ∷ [] else which_below n p) ≤ suc n
-    by_case true rest = omega (arith, length-append (which_below n p) (n ∷ []))
-    by_case false rest = omega arith
-
 -- of the numbers that pass p, those that pass a stronger test
 pub filter-which_below : (n : ℕ) (p q : ℕ → Bool) → ((i : ℕ) → q i ≡ true → p i ≡ true) → filter q (which_below n p) ≡ which_below n q
 unfolding which_below
@@ -74,7 +65,7 @@ pub all-among : (n : ℕ) (p : ℕ → Bool) (xs : List ℕ) → xs ≡ which_be
 all-among n p xs e = rw e (which_below-All n p)
 
 pub few-among : (n : ℕ) (p : ℕ → Bool) (xs : List ℕ) → xs ≡ which_below n p → n ≤ 2560 → length xs ≤ 2560
-few-among n p xs e h = rw e (omega (arith, which_below-short n p))
+few-among n p xs e h = rw e (omega (arith, which_below-few n p))
 
 first_passes : (a b : Bool) → (a && b) ≡ true → a ≡ true
 first_passes true b h = refl

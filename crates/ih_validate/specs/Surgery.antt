@@ -4,7 +4,7 @@ use Rattle.ih_tables.specs.declared.drafts.Draft.{Draft}
 use Rattle.ih_tables.specs.Sizes.{patient_count, theatre_count, surgeon_count}
 use Rattle.ih_plan.specs.Timetable.{Timetable, stay_of}
 use Rattle.ih_plan.specs.BillOf.{theatre_overtime, surgeon_overtime}
-use Rattle.ih_plan.specs.Costs.{operated, operated_by, operated_in, admitted_on, theatre_of, surgeon_of, is_number, minutes, theatre_minutes, surgeon_minutes}
+use Rattle.ih_plan.specs.Costs.{operated, operated_by, operated_in, admitted_on, theatre_of, surgeon_of, is_number, minutes, theatre_availability, surgeon_maximum}
 use Rattle.ih_plan.specs.Sums.{sum_below, which_below}
 use Rattle.ih_validate.specs.declared.surgery.ResourceKind.{ResourceKind}
 use Rattle.ih_validate.specs.declared.surgery.ResourceKind.TheVariants.{Theatres, Surgeons}
@@ -53,8 +53,8 @@ pub record AreOperated (I : Draft) (P : Timetable) (w : Resource) (d : ℕ) (ps 
 
 -- the minutes of surgery that there may be on day d
 abbrev pub limit_of : Draft → Resource → ℕ → ℕ
-limit_of I (OfTheatre t) d = theatre_minutes I t.0 d
-limit_of I (OfSurgeon s) d = surgeon_minutes I s.0 d
+limit_of I (OfTheatre t) d = theatre_availability I t.0 d
+limit_of I (OfSurgeon s) d = surgeon_maximum I s.0 d
 
 -- the minutes of surgery above the limit of each day
 unfoldable pub overtime_of : Draft → Timetable → Resource → ℕ

@@ -1,6 +1,6 @@
 use Rattle.std.proofs.Common.{◌≡◌, map}
 use Rattle.serde_json.specs.View.{view}
-use Rattle.ih_plan.specs.Sums.{listed}
+use Rattle.ih_tables.specs.Listed.{listed}
 use Rattle.ih_gen.specs.Members.{minutes_data}
 use Rattle.ih_gen.proofs.fixed.with_minutes.Given as goal
 

@@ -1,5 +1,6 @@
 use Rattle.std.proofs.Common.{length}
-use Rattle.ih_links.specs.Lists.{list_of, rest_from}
+use Rattle.ih_links.specs.Lists.{list_of}
+use Rattle.ih_links.proofs.Walks.{rest_from}
 use Rattle.ih_plan.specs.declared.moves.Write.TheVariants.{SetCare}
 use Rattle.ih_plan.specs.Writes.{put}
 use Rattle.ih_nurses.proofs.CountWalks.{AreMoved}

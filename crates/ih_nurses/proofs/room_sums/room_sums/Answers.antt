@@ -4,8 +4,10 @@ use Rattle.ih_tables.specs.declared.ids.NurseNo.{NurseNo}
 use Rattle.ih_links.specs.Lists.{list_of, AreNodes}
 use Rattle.ih_plan.specs.Costs.{skill_missing}
 use Rattle.ih_nurses.proofs.RoomSumLemmas.{lack-all, room-begins, sum-small}
-use Rattle.ih_nurses.proofs.WalkLemmas.{sum-inside, sum-below, sum-shrinks, sum-goes_on, sum-ends, sum-most, persons-few}
+use Rattle.ih_links.proofs.Walks.{walk-inside, walk-below, walk-shrinks}
+use Rattle.ih_nurses.proofs.WalkLemmas.{sum-goes_on, sum-ends, sum-most}
 use Rattle.ih_nurses.proofs.room_sums.room_sums.Goals as goal
+use Rattle.ih_plan.proofs.BillBounds.{few-persons}
 
 pub loop-at-init : goal.loop-at-init
 loop-at-init c =
@@ -13,17 +15,21 @@ loop-at-init c =
     (subst (λ n. AreNodes n (list_of c.args.persons.now c.args.r.0)) c.requires.persons c.first-at.ensures.nodes) c.first-at.ensures.first
 
 pub care_need_of-asked-requires-clause-person : goal.care_need_of-asked-requires-clause-person
-care_need_of-asked-requires-clause-person c = sum-below c.loop-at.invariant.work_is c.in-Some.is
+care_need_of-asked-requires-clause-person c = walk-below c.loop-at.invariant.work_is.walk c.in-Some.is
 
 pub has_just-come-requires-clause-person : goal.has_just-come-requires-clause-person
-has_just-come-requires-clause-person c = sum-below c.loop-at.invariant.work_is c.in-Some.is
+has_just-come-requires-clause-person c = walk-below c.loop-at.invariant.work_is.walk c.in-Some.is
 
 pub has_just-gone-requires-clause-person : goal.has_just-gone-requires-clause-person
-has_just-gone-requires-clause-person c = sum-below c.loop-at.invariant.work_is c.in-Some.is
+has_just-gone-requires-clause-person c = walk-below c.loop-at.invariant.work_is.walk c.in-Some.is
 
 pub overflow_add-work : goal.overflow_add-work
 overflow_add-work c =
-    omega (arith, sum-small c.args.inst.now.draft c.args.inst.now.valid c.loop-at.invariant.work_is c.in-Some.is (omega arith) c.care_need_of-asked.result.workload c.care_need_of-asked.ensures.workload_bound)
+    omega (
+      arith,
+      sum-small c.args.inst.now.draft c.args.inst.now.valid c.loop-at.invariant.work_is c.in-Some.is (omega arith)
+          c.care_need_of-asked.result.workload c.care_need_of-asked.ensures.workload_bound,
+    )
 
 pub overflow_add-new_missing : goal.overflow_add-new_missing
 overflow_add-new_missing c =
@@ -44,16 +50,16 @@ overflow_add-gone c =
     omega (arith, sum-small c.args.inst.now.draft c.args.inst.now.valid c.loop-at.invariant.gone_is c.in-Some.is (omega arith) c.has_just-gone.result c.has_just-gone.ensures.bound)
 
 pub next-at-requires : goal.next-at-requires
-next-at-requires c = let below = sum-below c.loop-at.invariant.work_is c.in-Some.is in record { node = rw c.requires.persons below }
+next-at-requires c = let below = walk-below c.loop-at.invariant.work_is.walk c.in-Some.is in record { node = rw c.requires.persons below }
 
 pub loop-at-smaller : goal.loop-at-smaller
 loop-at-smaller c =
     let walk = c.loop-at.invariant.work_is in
-    sum-shrinks walk c.in-Some.is (c.next-at.ensures.linked c.args.r.0 (sum-inside walk c.in-Some.is))
+    walk-shrinks walk.walk c.in-Some.is (c.next-at.ensures.linked c.args.r.0 (walk-inside walk.walk c.in-Some.is))
 
 pub loop-at-preserved : goal.loop-at-preserved
 loop-at-preserved c =
-    let step = c.next-at.ensures.linked c.args.r.0 (sum-inside c.loop-at.invariant.work_is c.in-Some.is) in
+    let step = c.next-at.ensures.linked c.args.r.0 (walk-inside c.loop-at.invariant.work_is.walk c.in-Some.is) in
     let missing = λ (n : Option NurseNo). ap (λ s. skill_missing c.args.inst.now.draft (option_map (λ (a : NurseNo). a.0) n) (s ∷ [])) c.care_need_of-asked.ensures.skill in
     record {
       work_is = sum-goes_on c.loop-at.invariant.work_is c.in-Some.is step c.care_need_of-asked.result.workload c.care_need_of-asked.ensures.workload c.care_need_of-asked.ensures.workload_bound;
@@ -87,7 +93,7 @@ pub returns-clause-gone : goal.returns-clause-gone
 returns-clause-gone c = sum-ends c.loop-at.invariant.gone_is c.in_default.is
 
 pub returns-clause-bound : goal.returns-clause-bound
-returns-clause-bound c = omega (arith, sum-most c.loop-at.invariant.work_is, persons-few c.args.inst.now.draft c.args.inst.now.valid)
+returns-clause-bound c = omega (arith, sum-most c.loop-at.invariant.work_is, few-persons c.args.inst.now.draft c.args.inst.now.valid)
 
 pub returns-clause-nodes : goal.returns-clause-nodes
-returns-clause-nodes c = c.loop-at.invariant.work_is.known
+returns-clause-nodes c = c.loop-at.invariant.work_is.walk.known

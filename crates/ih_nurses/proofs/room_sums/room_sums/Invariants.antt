@@ -1,5 +1,6 @@
 use Rattle.std.proofs.Common.{length}
-use Rattle.ih_links.specs.Lists.{list_of, rest_from}
+use Rattle.ih_links.specs.Lists.{list_of}
+use Rattle.ih_links.proofs.Walks.{rest_from}
 use Rattle.ih_nurses.proofs.RoomSumLemmas.{IsRoomWalk}
 use Rattle.ih_nurses.proofs.room_sums.room_sums.Given as goal
 

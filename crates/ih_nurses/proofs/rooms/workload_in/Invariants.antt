@@ -1,6 +1,7 @@
 use Rattle.std.proofs.Common.{length}
 use Rattle.ih_tables.specs.Sizes.{person_count}
-use Rattle.ih_links.specs.Lists.{list_of, rest_from}
+use Rattle.ih_links.specs.Lists.{list_of}
+use Rattle.ih_links.proofs.Walks.{rest_from}
 use Rattle.ih_plan.specs.Presence.{workload_of}
 use Rattle.ih_nurses.proofs.WalkLemmas.{IsSumWalk}
 use Rattle.ih_nurses.proofs.rooms.workload_in.Given as goal

@@ -1,5 +1,6 @@
 use Rattle.std.proofs.Common.{length}
-use Rattle.ih_links.specs.Lists.{list_of, rest_from}
+use Rattle.ih_links.specs.Lists.{list_of}
+use Rattle.ih_links.proofs.Walks.{rest_from}
 use Rattle.ih_roomdays.proofs.Tours.{IsTour}
 use Rattle.ih_roomdays.proofs.occupancies.crowd_of.Given as goal
 

@@ -1,6 +1,6 @@
 use Rattle.std.proofs.Common.{◌≡◌, map}
 use Rattle.serde_json.specs.View.{view}
-use Rattle.ih_plan.specs.Sums.{listed}
+use Rattle.ih_tables.specs.Listed.{listed}
 use Rattle.ih_plan.specs.Timetable.{stay_of}
 use Rattle.ih_solution.specs.Solution.{stay_data}
 use Rattle.ih_solution.proofs.patients.patient_values.Given as goal

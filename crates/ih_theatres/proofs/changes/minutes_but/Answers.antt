@@ -1,6 +1,6 @@
 use Rattle.std.proofs.Common.{◌∙◌, arith, sym}
 use Rattle.ih_theatres.proofs.OtherPatients.{minutes-there, minutes-away}
-use Rattle.ih_theatres.proofs.Told.{duration-is}
+use Rattle.ih_theatres.proofs.Minutes.{duration-is}
 use Rattle.ih_theatres.proofs.changes.minutes_but.Goals as goal
 
 pub overflow_sub-result : goal.overflow_sub-result

@@ -1,27 +1,28 @@
-use Rattle.std.proofs.Common.{◌≡◌, ◌*◌, ◌≤◌, refl, arith}
+use Rattle.std.proofs.Common.{◌≡◌, ◌*◌, ◌≤◌, ◌∙◌, refl, sym, ap, subst, arith}
+use Rattle.ih_tables.specs.declared.ids.PatientNo.{PatientNo}
+use Rattle.ih_plan.specs.Timetable.{stay_of}
 use Rattle.ih_plan.specs.Persons.{person_of}
 use Rattle.ih_plan.specs.Presence.{end_of}
+use Rattle.ih_plan.proofs.Spans.{shift-covered}
+use Rattle.ih_nurses.specs.Visits.{IsVisitOf}
 use Rattle.ih_costs.specs.CellLedgers.{timetable_of}
-use Rattle.ih_costs.proofs.DayDeltas.{shift-counted, uncovered-fits, missing_skill-fits, overload-fits, shifts-more}
+use Rattle.ih_costs.proofs.DayDeltas.{uncovered-fits, missing_skill-fits, overload-fits, shifts-more}
 use Rattle.ih_costs.proofs.DeltaSteps.{increased-none}
 use Rattle.ih_costs.proofs.cell_ledgers.CellLedgers.more_over_shifts.Goals as goal
 
 pub loop-k-init : goal.loop-k-init
 loop-k-init c = record { uncovered = increased-none _ _ _; missing_skill = increased-none _ _ _; overload = increased-none _ _ _ }
 
-pub shift_delta-delta-requires-clause-patient : goal.shift_delta-delta-requires-clause-patient
-shift_delta-delta-requires-clause-patient c = rw c.new-visit.ensures.patient c.requires.patient
-
-pub shift_delta-delta-requires-clause-placement : goal.shift_delta-delta-requires-clause-placement
-shift_delta-delta-requires-clause-placement c = rw c.new-visit.ensures.placement c.requires.placement
-
 pub shift_delta-delta-requires-clause-visit : goal.shift_delta-delta-requires-clause-visit
-shift_delta-delta-requires-clause-visit c = rw (c.new-visit.ensures.patient, c.new-visit.ensures.placement, c.requires.stay) c.new-visit.ensures.visit
+shift_delta-delta-requires-clause-visit c =
+    let P = timetable_of c.args.self.now in
+    let stay : stay_of P c.new-visit.result.p.0 ≡ c.args.trial.now.old = ap (λ (p : PatientNo). stay_of P p.0) c.new-visit.ensures.patient ∙ c.requires.stay in
+    subst (λ o. IsVisitOf c.args.inst.now.draft o c.new-visit.result) (sym stay) c.new-visit.ensures.visit
 
 pub shift_delta-delta-requires-clause-counted : goal.shift_delta-delta-requires-clause-counted
 shift_delta-delta-requires-clause-counted c =
     rw (c.new-visit.ensures.patient, c.new-visit.ensures.placement)
-    (shift-counted c.args.trial.now.at.day.0 (person_of c.args.inst.now.draft c.args.trial.now.p.0).length_of_stay c.args.inst.now.draft.days c.loop-k.k (omega arith)
+    (shift-covered c.args.trial.now.at.day.0 (person_of c.args.inst.now.draft c.args.trial.now.p.0).length_of_stay c.args.inst.now.draft.days c.loop-k.k (omega arith)
     (omega (arith, c.end_of-end.ensures.value, c.loop-k-test.true)))
 
 pub overflow_add-uncovered : goal.overflow_add-uncovered

@@ -9,6 +9,6 @@ returns c =
     let stands = c.requires.stands in
     record {
       room_days = room_days-care I P c.args.self.now.room_days c.args.r c.args.k c.args.n c.requires.write stands.room_days;
-      theatres = theatres-care I P c.args.self.now.theatres c.args.r c.args.k c.args.n stands.theatres;
+      theatres = theatres-care I P c.args.self.now.theatres c.args.r c.args.k c.args.n c.requires.write stands.theatres;
       nurses = c.set_care.ensures P stands.nurses;
     }

@@ -5,7 +5,6 @@ use Rattle.ih_plan.specs.Costs.{surgeon_of}
 use Rattle.ih_costs.specs.CellLedgers.{timetable_of}
 use Rattle.ih_costs.proofs.DeltaLemmas.{surgeon-in}
 use Rattle.ih_costs.proofs.DeltaParts.{surgery-passed}
-use Rattle.ih_costs.proofs.StandLemmas.{plan-fits}
 use Rattle.ih_costs.proofs.cell_ledgers.CellLedgers.surgery_delta.Goals as goal
 
 pub surgeon_delta-of_surgeon-requires-clause-surgeon : goal.surgeon_delta-of_surgeon-requires-clause-surgeon
@@ -19,8 +18,7 @@ returns c =
     let I = c.args.inst.now.draft in
     let P = timetable_of c.args.self.now in
     let stands = c.requires.stands in
-    let plan = plan-fits I P c.args.self.now stands in
     let own : surgeon_of I c.args.trial.now.p.0 ≡ Some c.patient.result.now.surgeon_id.0 = ap (option_map (λ (a : Patient). a.surgeon_id.0)) c.patient.ensures in
     surgery-passed I P c.args.trial.now.p c.args.trial.now.at c.patient.result.now.surgeon_id.0 c.theatre_delta-of_theatre.result c.surgeon_delta-of_surgeon.result own
-    (c.theatre_delta-of_theatre.ensures.delta P plan stands.theatres c.requires.stay) c.theatre_delta-of_theatre.ensures.within
-    (c.surgeon_delta-of_surgeon.ensures.delta P plan stands.theatres c.requires.stay) c.surgeon_delta-of_surgeon.ensures.within
+    (c.theatre_delta-of_theatre.ensures.delta P stands.theatres c.requires.stay) c.theatre_delta-of_theatre.ensures.within
+    (c.surgeon_delta-of_surgeon.ensures.delta P stands.theatres c.requires.stay) c.surgeon_delta-of_surgeon.ensures.within

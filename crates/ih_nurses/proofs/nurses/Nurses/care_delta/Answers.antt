@@ -22,5 +22,5 @@ returns-clause-delta c = λ P known.
     (as_bill (part_at I (put (SetStay p None) S) (Care (record { 0 = p.0 }))))) known.plan_is
     (c.difference.ensures.value
     ∙ (less-by c.nursed.ensures c.nursed-2.ensures
-    ∙ care-change I (put (SetStay p None) plan) (put (SetStay p (Some c.args.at)) plan) (record { 0 = p.0 }) c.nurses_over.result 0
-    (care-delta I plan p c.args.at own.fits c.requires.patient c.nurses_over.result (c.nurses_over.ensures ∙ rw (c.stay_shift_span-shift_span.ensures.shift_span) refl))))
+    ∙ care-change I (put (SetStay p None) plan) (put (SetStay p (Some c.args.at)) plan) (record { 0 = p.0 }) c.distinct_nurses_over.result 0
+    (care-delta I plan p c.args.at own.fits c.requires.patient c.distinct_nurses_over.result (c.distinct_nurses_over.ensures ∙ rw (c.stay_shift_span-shift_span.ensures.shift_span) refl))))

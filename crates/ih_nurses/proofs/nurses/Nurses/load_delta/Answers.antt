@@ -19,8 +19,8 @@ entry-come-requires-clause-inside c =
     let len = workload-len I c.args.visit.now.p.0 c.args.inst.now.valid in
     rw c.requires.visit.workload_is (entry-inside I c.args.visit.now.at.day.0 person.length_of_stay c.args.k.0 (length person.workload) len c.requires.counted c.requires.shift)
 
-pub gone-gone-requires-clause-small : goal.gone-gone-requires-clause-small
-gone-gone-requires-clause-small c =
+pub present_stay_load-gone-requires-clause-small : goal.present_stay_load-gone-requires-clause-small
+present_stay_load-gone-requires-clause-small c =
     let I = c.args.inst.now.draft in
     let place = c.args.k.0 - 3 * c.args.visit.now.at.day.0 in
     let come : c.entry-come.result ≡ slice_index (person_of I c.args.visit.now.p.0).workload place = c.entry-come.ensures ∙ ap (λ list. slice_index list place) c.requires.visit.workload_is in
@@ -34,7 +34,7 @@ overflow_sub-without c =
     let n = c.args.n.0 in
     let k = c.args.k.0 in
     let all = c.load-all.ensures.work ∙ (ap (λ ls. load_at I ls n k) c.as_slice.ensures.value ∙ own.loads_are.each n k c.requires.nurse c.requires.shift) in
-    omega (arith, all, c.gone-gone.ensures.value, load-has I plan c.args.visit.now.p own.fits c.requires.patient n k)
+    omega (arith, all, c.present_stay_load-gone.ensures.value, load-has I plan c.args.visit.now.p own.fits c.requires.visit.patient n k)
 
 pub overflow_add-with : goal.overflow_add-with
 overflow_add-with c =
@@ -60,8 +60,8 @@ returns c = λ P known.
     let come : c.entry-come.result
     ≡ slice_index (person_of I p.0).workload (k.0 - 3 * c.args.visit.now.at.day.0) = c.entry-come.ensures
     ∙ ap (λ list. slice_index list (k.0 - 3 * c.args.visit.now.at.day.0)) c.requires.visit.workload_is in
-    let increase = load-increases I plan k p c.args.visit.now.at own.fits c.requires.patient c.requires.counted c.requires.placement n nurse
-    c.load-all.result.work c.gone-gone.result c.entry-come.result all c.gone-gone.ensures.value come in
+    let increase = load-increases I plan k p c.args.visit.now.at own.fits c.requires.visit.patient c.requires.counted c.requires.visit.placement n nurse
+    c.load-all.result.work c.present_stay_load-gone.result c.entry-come.result all c.present_stay_load-gone.ensures.value come in
     subst (λ (S : Timetable). pos (c.overload.result - c.overload-2.result) ≡ increase_by_placement S p c.args.visit.now.at (λ Q. overload_in I Q n k)) known.plan_is
-    (overload-increases I plan n k p c.args.visit.now.at c.load-all.result.work c.gone-gone.result c.entry-come.result
+    (overload-increases I plan n k p c.args.visit.now.at c.load-all.result.work c.present_stay_load-gone.result c.entry-come.result
     c.overload.result c.overload-2.result increase (c.overload.ensures (max_load I n.0 k.0) c.load-all.ensures.most) (c.overload-2.ensures (max_load I n.0 k.0) c.load-all.ensures.most))

@@ -1,6 +1,6 @@
 use Rattle.std.proofs.Common.{length}
-use Rattle.ih_links.specs.Lists.{list_of, rest_from}
-use Rattle.ih_links.proofs.Walks.{IsWalk}
+use Rattle.ih_links.specs.Lists.{list_of}
+use Rattle.ih_links.proofs.Walks.{rest_from, IsWalk}
 use Rattle.ih_price_tests.proofs.tests.links.nodes_of.Given as goal
 
 abbrev pub invariant-loop-at : goal.invariant-loop-at

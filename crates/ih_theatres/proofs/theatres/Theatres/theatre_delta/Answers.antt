@@ -10,42 +10,42 @@ minutes_but-others-requires-clause-list c =
     let at = c.args.at in
     let fits = c.requires.placement in (
       list_of c.args.self.now.theatre_days c.day_number-today.result,
-      (s.2.theatre_days.known c.day_number-today.result).once,
-      theatre-is s.2 at.day.0 c.day_number-today.result fits.day at.theatre.0 fits.theatre c.day_number-today.ensures c.index-planned.result.now c.index-planned.ensures,
-      theatre-was s.1 s.2 c.args.p c.args.old s.3 at.day fits.day c.is_operated_in-was.result c.day_number-today.result at.theatre
+      (s.1.theatre_days.known c.day_number-today.result).once,
+      theatre-is s.1 at.day.0 c.day_number-today.result fits.day at.theatre.0 fits.theatre c.day_number-today.ensures c.index-planned.result.now c.index-planned.ensures,
+      theatre-was s.1 c.args.p c.args.old s.2 at.day fits.day c.is_operated_in-was.result c.day_number-today.result at.theatre
           c.is_operated_in-was.ensures c.day_number-today.ensures,
     )
 
 pub theatre_counts-without-requires-clause-bound : goal.theatre_counts-without-requires-clause-bound
 theatre_counts-without-requires-clause-bound c =
     let fits = c.requires.placement in
-    omega (arith, c.minutes_but-others.ensures.bound, theatre-most c.requires.stands.2 _ _ fits.day _ fits.theatre c.day_number-today.ensures _ c.index-planned.ensures c.args.inst.now.valid)
+    omega (arith, c.minutes_but-others.ensures.bound, theatre-most c.requires.stands.1 _ _ fits.day _ fits.theatre c.day_number-today.ensures _ c.index-planned.ensures c.args.inst.now.valid)
 
 pub theatre_counts-with-requires-clause-bound : goal.theatre_counts-with-requires-clause-bound
 theatre_counts-with-requires-clause-bound c =
     let fits = c.requires.placement in
-    omega (arith, c.minutes_but-others.ensures.bound, theatre-most c.requires.stands.2 _ _ fits.day _ fits.theatre c.day_number-today.ensures _ c.index-planned.ensures c.args.inst.now.valid)
+    omega (arith, c.minutes_but-others.ensures.bound, theatre-most c.requires.stands.1 _ _ fits.day _ fits.theatre c.day_number-today.ensures _ c.index-planned.ensures c.args.inst.now.valid)
 
 pub is_used_by_others-used-requires-clause-once : goal.is_used_by_others-used-requires-clause-once
-is_used_by_others-used-requires-clause-once c = (c.requires.stands.2.theatre_days.known c.day_number-today.result).once
+is_used_by_others-used-requires-clause-once c = (c.requires.stands.1.theatre_days.known c.day_number-today.result).once
 
 pub is_used_by_others-used-requires-clause-there : goal.is_used_by_others-used-requires-clause-there
 is_used_by_others-used-requires-clause-there c =
     let s = c.requires.stands in
-    theatre-was s.1 s.2 c.args.p c.args.old s.3 c.args.at.day c.requires.placement.day c.is_operated_in-was.result c.day_number-today.result c.args.at.theatre
+    theatre-was s.1 c.args.p c.args.old s.2 c.args.at.day c.requires.placement.day c.is_operated_in-was.result c.day_number-today.result c.args.at.theatre
     c.is_operated_in-was.ensures c.day_number-today.ensures
 
 pub returns-clause-delta : goal.returns-clause-delta
-returns-clause-delta c = λ P plan stands stay.
+returns-clause-delta c = λ P stands stay.
     let at = c.args.at in
     let fits = c.requires.placement in
     let others = without c.args.p.0 (list_of c.args.self.now.theatre_days c.day_number-today.result) in
     let sum = c.minutes_but-others.ensures.sum (list_of c.args.self.now.theatre_days c.day_number-today.result) (stands.theatre_days.known c.day_number-today.result).once
     (theatre-is stands at.day.0 c.day_number-today.result fits.day at.theatre.0 fits.theatre c.day_number-today.ensures c.index-planned.result.now c.index-planned.ensures)
-    (theatre-was plan stands c.args.p c.args.old stay at.day fits.day c.is_operated_in-was.result c.day_number-today.result at.theatre
+    (theatre-was stands c.args.p c.args.old stay at.day fits.day c.is_operated_in-was.result c.day_number-today.result at.theatre
     c.is_operated_in-was.ensures c.day_number-today.ensures) in
     c.theatre_change.ensures.value
-    ∙ theatre-delta plan stands c.args.p c.requires.patient at fits.day c.day_number-today.result c.theatre_minutes-most.result c.day_number-today.ensures c.theatre_minutes-most.ensures
+    ∙ theatre-delta stands c.args.p c.requires.patient at fits.day c.day_number-today.result c.theatre_availability-most.result c.day_number-today.ensures c.theatre_availability-most.ensures
     _ _ _ _
     (c.theatre_counts-without.ensures.over others sum) (c.theatre_counts-without.ensures.cost others c.is_used_by_others-used.ensures)
     (c.theatre_counts-with.ensures.over others sum) (c.theatre_counts-with.ensures.cost others c.is_used_by_others-used.ensures)

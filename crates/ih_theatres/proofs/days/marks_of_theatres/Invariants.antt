@@ -1,12 +1,12 @@
 use Rattle.std.proofs.Common.{length}
-use Rattle.ih_links.specs.Lists.{list_of, rest_from}
+use Rattle.ih_links.specs.Lists.{list_of}
+use Rattle.ih_links.proofs.Walks.{rest_from, IsWalkWith}
 use Rattle.ih_theatres.specs.Days.{theatre_at}
-use Rattle.ih_theatres.proofs.Told.{Told}
 use Rattle.ih_theatres.proofs.MarkLemmas.{AreMet}
-use Rattle.ih_theatres.proofs.days.theatres_used.Given as goal
+use Rattle.ih_theatres.proofs.days.marks_of_theatres.Given as goal
 
 abbrev pub invariant-loop-at : goal.invariant-loop-at
-invariant-loop-at l = Told l.fn.links.nodes (list_of l.fn.links l.fn.head) l.at (AreMet l.used (theatre_at l.fn.theatres))
+invariant-loop-at l = IsWalkWith l.fn.links.nodes (list_of l.fn.links l.fn.head) l.at (AreMet l.used (theatre_at l.fn.theatres))
 
 abbrev pub decreases-loop-at : goal.decreases-loop-at
 decreases-loop-at l = length (rest_from l.at (list_of l.fn.links l.fn.head))

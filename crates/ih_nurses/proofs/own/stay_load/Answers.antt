@@ -4,7 +4,7 @@ use Rattle.ih_plan.specs.Persons.{person_of}
 use Rattle.ih_plan.specs.Costs.{is_number}
 use Rattle.ih_plan.proofs.Overtime.{workload-most}
 use Rattle.ih_nurses.proofs.VisitLemmas.{workload-len, entry-counted}
-use Rattle.ih_nurses.proofs.own.given.Goals as goal
+use Rattle.ih_nurses.proofs.own.stay_load.Goals as goal
 
 pub returns-then-is_nurse-clause-value : goal.returns-then-is_nurse-clause-value
 returns-then-is_nurse-clause-value c =

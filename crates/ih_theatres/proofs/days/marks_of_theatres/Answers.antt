@@ -1,12 +1,11 @@
 use Rattle.ih_links.specs.Lists.{list_of}
-use Rattle.ih_links.proofs.Walks.{walk-inside, walk-shrinks}
+use Rattle.ih_links.proofs.Walks.{walk-inside, walk-shrinks, with-begins, with-goes_on, with-ends}
 use Rattle.ih_theatres.specs.Days.{theatre_at}
 use Rattle.ih_theatres.proofs.MarkLemmas.{unmarked, met-more}
-use Rattle.ih_theatres.proofs.Told.{told-begins, told-goes_on, told-ends}
-use Rattle.ih_theatres.proofs.days.theatres_used.Goals as goal
+use Rattle.ih_theatres.proofs.days.marks_of_theatres.Goals as goal
 
 pub loop-at-init : goal.loop-at-init
-loop-at-init c = rw c.first-at.ensures.first (told-begins c.args.links.now.nodes (list_of c.args.links.now c.args.head) c.first-at.ensures.nodes unmarked)
+loop-at-init c = rw c.first-at.ensures.first (with-begins c.args.links.now.nodes (list_of c.args.links.now c.args.head) c.first-at.ensures.nodes unmarked)
 
 pub loop-at-smaller : goal.loop-at-smaller
 loop-at-smaller c =
@@ -14,8 +13,8 @@ loop-at-smaller c =
 
 pub loop-at-preserved : goal.loop-at-preserved
 loop-at-preserved c =
-    told-goes_on c.loop-at.invariant c.in-Some.is (c.next-at.ensures.linked c.args.head (walk-inside c.loop-at.invariant.walk c.in-Some.is))
+    with-goes_on c.loop-at.invariant c.in-Some.is (c.next-at.ensures.linked c.args.head (walk-inside c.loop-at.invariant.walk c.in-Some.is))
     (λ told met. met-more c.loop-at.used c.mark-used.result (theatre_at c.args.theatres.now) told c.in-Some.p met c.mark-used.ensures)
 
 pub returns : goal.returns
-returns c = told-ends c.loop-at.invariant c.in_default.is
+returns c = with-ends c.loop-at.invariant c.in_default.is
