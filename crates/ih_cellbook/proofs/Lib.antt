@@ -12,7 +12,7 @@ pub mod Machine
 pub mod Ranges
 pub mod Scanning
 pub mod Staying
-pub mod Telling
+pub mod NewsLemmas
 pub mod TimesRead
 pub mod Unfrozen
 pub mod Versions

@@ -18,7 +18,7 @@ use Rattle.ih_cellbook.specs.Offers.{IsRightOffer, next_number}
 use Rattle.ih_cellbook.proofs.Staying.{last_by-others, right-stays}
 use Rattle.ih_cellbook.specs.Replicas.{AreUpTo, IsReplicaOf, IsReplicaIn, IsOfferOf, IsRightFor, MayFollow, MayFollowUpTo, StandsAfter, StandsAs, StandsUpTo}
 use Rattle.ih_cellbook.specs.Snapshot.{Snapshot}
-use Rattle.ih_cellbook.specs.Told.{Told, TellsOf}
+use Rattle.ih_cellbook.specs.News.{Told, TellsOf}
 
 -- the first entries of a legal history are one
 legal-front : (b : Base) (G rest : List Tried) → AreLegalButDraws b (G ++ rest) → AreLegalButDraws b G

@@ -11,4 +11,4 @@ pub mod Recorded
 pub mod Replicas
 pub mod Singles
 pub mod Snapshot
-pub mod Told
+pub mod News

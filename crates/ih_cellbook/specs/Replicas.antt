@@ -12,7 +12,7 @@ use Rattle.ih_cellbook.specs.Keeping.{IsBase, AreVersions}
 use Rattle.ih_cellbook.specs.Legal.{AreLegalButDraws}
 use Rattle.ih_cellbook.specs.Offers.{IsRightOffer, next_number, reads_after}
 use Rattle.ih_cellbook.specs.Snapshot.{Snapshot}
-use Rattle.ih_cellbook.specs.Told.{accepted_of}
+use Rattle.ih_cellbook.specs.News.{accepted_of}
 
 -- The offer has no cells, or those of its attempt after the entries that it had seen, which are among those of H.
 pub record IsReadFrom (b : Base) (H : List Tried) (o : Offered) : Type 0 where

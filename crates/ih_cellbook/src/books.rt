@@ -52,7 +52,7 @@ impl<'a, E: Logged> Book<'a, E> {
     ghost use Rattle.ih_cellbook.specs.Core.{State, IsLegalState, step, offers};
     ghost use Rattle.ih_cellbook.specs.Offers.{IsJudged, IsRightOffer, entry_of};
     ghost use Rattle.ih_cellbook.specs.{Copied.most_copied, Keeping.base_with, Keeping.IsBase, Legal.AreExact};
-    ghost use Rattle.ih_cellbook.specs.{Legal.AreLegalButDraws, Laws.AreFew, Told.TellsOf};
+    ghost use Rattle.ih_cellbook.specs.{Legal.AreLegalButDraws, Laws.AreFew, News.TellsOf};
 
     /// A book without entries over a start, whose bill is `first`. Room for all entries of the search is reserved.
     pub fn new(

@@ -1,7 +1,7 @@
 //! What a book tells whoever follows it: what was accepted since a place.
 
 ghost use Rattle.std.specs.Prelude.{◌≡◌, ◌+◌, ◌<◌, ◌≤◌, ◌++◌, ◌∷◌, [], length, map, vec_capacity, IfOk};
-ghost use Rattle.ih_cellbook.specs.Told.{accepted_between, accepted_of, most_told, TellsOf};
+ghost use Rattle.ih_cellbook.specs.News.{accepted_between, accepted_of, most_told, TellsOf};
 
 use crate::buffers::MOST_COPIED;
 use crate::kinds::Logged;
@@ -20,7 +20,7 @@ pub struct News<E: Logged = Entry> {
 
 impl<E: Logged> Model for News<E> {
     ghost use Rattle.std.specs.Prelude.{◌≤◌, map, vec_capacity};
-    ghost use Rattle.ih_cellbook.specs.Told.{Told, most_told};
+    ghost use Rattle.ih_cellbook.specs.News.{Told, most_told};
 
     ghost Value = { Told };
 

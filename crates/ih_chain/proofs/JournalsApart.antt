@@ -33,7 +33,7 @@ use Rattle.ih_chain.specs.declared.entries.ChainEntry.{ChainEntry}
 use Rattle.ih_chain.specs.Entries.{chain_tried, chain_tries}
 use Rattle.ih_chain.specs.Laws.{ChainJournalsTellSearchesApart}
 use Rattle.ih_chain.specs.Texts.{chain_fields, chain_heading, chain_journal, chain_line, chain_lines_from, chain_text}
-use Rattle.ih_chain.proofs.Telling.{same-entry}
+use Rattle.ih_chain.proofs.EntryTries.{same-entry}
 
 -- ---- the moves of a chain
 

@@ -6,4 +6,4 @@ pub mod Lines
 pub mod Moves
 pub mod Padding
 pub mod SingleHistories
-pub mod Telling
+pub mod EntryTries

@@ -8,9 +8,9 @@ use Rattle.ih_plan.specs.Costs.{is_empty}
 use Rattle.ih_plan.specs.Presence.{present}
 use Rattle.ih_plan.specs.Sums.{is_listed}
 use Rattle.ih_plan.specs.Timetable.{Timetable}
-use Rattle.ih_roomdays.specs.declared.rows.Rows.{Rows}
+use Rattle.ih_roomdays.specs.declared.series.RoomLists.{RoomLists}
 use Rattle.ih_roomdays.specs.Ledger.{IsLedgerOf}
-use Rattle.ih_roomdays.specs.Rows.{persons_at}
+use Rattle.ih_roomdays.specs.RoomLists.{persons_at}
 use Rattle.ih_roomdays.proofs.People.{has-is_listed}
 use Rattle.ih_roomdays.proofs.Standing.{has-present, tells}
 
@@ -23,7 +23,7 @@ some-alike [] (y ∷ ys) same = absurd (let no : false ≡ true = same y ∙ fir
 some-alike (x ∷ xs) [] same = absurd (let no : false ≡ true = sym (same x) ∙ first-listed x xs in cc)
 some-alike (x ∷ xs) (y ∷ ys) same = lt-ltb 0 (length (x ∷ xs)) (omega arith)
 
-pub occupied : (I : Draft) (P : Timetable) (v : Rows) (r d : ℕ) → IsLedgerOf I P v → r < room_count I → d < I.days
+pub occupied : (I : Draft) (P : Timetable) (v : RoomLists) (r d : ℕ) → IsLedgerOf I P v → r < room_count I → d < I.days
     → nat_lt 0 (length (persons_at v r d)) ≡ not (is_empty (present I P r d))
 occupied I P v r d stands room day =
     let told = tells I P v stands in

@@ -9,7 +9,7 @@ use Rattle.ih_plan.specs.Timetable.{Timetable, IsPlanOf}
 use Rattle.ih_plan.specs.Writes.{put, IsWriteOf}
 use Rattle.ih_plan.specs.Presence.{admission_of}
 use Rattle.ih_plan.proofs.PlanRanges.{put-plan}
-use Rattle.ih_roomdays.specs.declared.rows.Rows.{Rows}
+use Rattle.ih_roomdays.specs.declared.series.RoomLists.{RoomLists}
 use Rattle.ih_roomdays.specs.Ledger.{IsLedgerOf as Has_room_days}
 use Rattle.ih_theatres.specs.declared.theatres.Theatres.{Theatres}
 use Rattle.ih_theatres.specs.Ledger.{IsLedgerOf as Has_theatres}
@@ -29,7 +29,7 @@ plan-fits I P l stands = stands.room_days.plan
 
 -- ---- who is where doesn't rest on the nurses
 
-pub room_days-care : (I : Draft) (P : Timetable) (v : Rows) (r : RoomNo) (k : Shift) (n : Option NurseNo) → IsWriteOf I (SetCare r k n) → Has_room_days I P v
+pub room_days-care : (I : Draft) (P : Timetable) (v : RoomLists) (r : RoomNo) (k : Shift) (n : Option NurseNo) → IsWriteOf I (SetCare r k n) → Has_room_days I P v
     → Has_room_days I (put (SetCare r k n) P) v
 unfolding admission_of
 room_days-care I P v r k n fits stands = record {

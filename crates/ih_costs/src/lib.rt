@@ -12,8 +12,8 @@ mod parts;
 mod pricing;
 mod row_feet;
 mod row_prices;
-mod rows;
 mod scratch;
+mod series;
 mod stay_prices;
 mod stays;
 

@@ -15,8 +15,8 @@ use Rattle.ih_cellbook.specs.Offers.{HasSeenOwn, entry_of}
 use Rattle.ih_cellbook.proofs.Staying.{seen_own-others}
 use Rattle.ih_cellbook.specs.Replicas.{IsReplicaIn, StandsUpTo}
 use Rattle.ih_cellbook.specs.Snapshot.{Snapshot}
-use Rattle.ih_cellbook.specs.Told.{Told, TellsOf}
-use Rattle.ih_cellbook.proofs.Telling.{tells-further}
+use Rattle.ih_cellbook.specs.News.{Told, TellsOf}
+use Rattle.ih_cellbook.proofs.NewsLemmas.{tells-further}
 use Rattle.ih_cellbook.proofs.Within.{stands-behind, told-further, told-seen}
 use Rattle.ih_turn.specs.Rule.{GoesOn}
 use Rattle.ih_desk.specs.Histories.{EndsWith}

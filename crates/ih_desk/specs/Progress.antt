@@ -3,7 +3,7 @@ use Rattle.std.specs.Prelude.{ℕ, List}
 use Rattle.ih_tables.specs.declared.drafts.Draft.{Draft}
 use Rattle.ih_journal.specs.declared.settings.Options.{Options}
 use Rattle.ih_cellbook.specs.Snapshot.{Snapshot}
-use Rattle.ih_cellbook.specs.Told.{Told}
+use Rattle.ih_cellbook.specs.News.{Told}
 
 -- How far a worker has come in its search.
 pub record Progress : Type 0 where

@@ -13,7 +13,7 @@ use Rattle.ih_turn.specs.Seats.{history, number_of, turns_left}
 use Rattle.ih_cellbook.specs.Laws.{HasNoneBy}
 use Rattle.ih_cellbook.specs.Offers.{HasSeenOwn}
 use Rattle.ih_cellbook.specs.Replicas.{IsReplicaIn, IsReplicaOf}
-use Rattle.ih_cellbook.specs.Told.{TellsOf}
+use Rattle.ih_cellbook.specs.News.{TellsOf}
 use Rattle.ih_desk.specs.Desks.{Desk, DeskSeat, IsSeatAt, base_of}
 use Rattle.ih_desk.specs.Progress.{Progress}
 

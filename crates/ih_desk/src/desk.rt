@@ -2,7 +2,7 @@
 
 ghost use Rattle.std.specs.Prelude.{◌≡◌, ◌≤◌, [], ◌∷◌, ◌++◌, length, take, drop};
 ghost use Rattle.ih_cellbook.specs.{Copied.most_copied, Legal.AreLegalButDraws, Offers.IsRightOffer, Offers.entry_of};
-ghost use Rattle.ih_cellbook.specs.{Told.TellsOf};
+ghost use Rattle.ih_cellbook.specs.{News.TellsOf};
 
 use ih_cellbook::{Book, Buffer, Logged, News, Offers, right_offers_stay_right};
 use ih_journal::Verdict;

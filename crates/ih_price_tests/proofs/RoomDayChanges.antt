@@ -7,7 +7,7 @@ use Rattle.ih_plan.specs.declared.moves.Placement.{Placement}
 use Rattle.ih_plan.specs.declared.moves.Write.TheVariants.{SetStay}
 use Rattle.ih_plan.specs.Timetable.{Timetable, empty, stay_of}
 use Rattle.ih_plan.specs.Writes.{put}
-use Rattle.ih_roomdays.specs.declared.rows.Rows.{Rows}
+use Rattle.ih_roomdays.specs.declared.room_lists.RoomLists.{RoomLists}
 use Rattle.ih_roomdays.specs.Ledger.{IsLedgerOf}
 use Rattle.ih_plan.proofs.Whereabouts.{no-stay}
 
@@ -16,19 +16,19 @@ p0 = record { 0 = 0 }
 
 -- ---- what the ledger has
 
-pub room-there : (I : Draft) (P : Timetable) (v : Rows) → room_count I ≡ 2 → IsLedgerOf I P v → 0 < v.rooms
+pub room-there : (I : Draft) (P : Timetable) (v : RoomLists) → room_count I ≡ 2 → IsLedgerOf I P v → 0 < v.rooms
 room-there I P v two stands = let rooms = stands.rooms in omega arith
 
-pub day-there : (I : Draft) (P : Timetable) (v : Rows) (d : ℕ) → I.days ≡ 2 → d < 2 → IsLedgerOf I P v → d < v.days
+pub day-there : (I : Draft) (P : Timetable) (v : RoomLists) (d : ℕ) → I.days ≡ 2 → d < 2 → IsLedgerOf I P v → d < v.days
 day-there I P v d two below stands = let days = stands.days in omega arith
 
 -- ---- who comes
 
 -- the ledger `after` stands for the timetable that the write makes of P
-abbrev Comes : Draft → PatientNo → Placement → Rows → Rows → Type 0
+abbrev Comes : Draft → PatientNo → Placement → RoomLists → RoomLists → Type 0
 Comes I p at before after = (P : Timetable) → IsLedgerOf I P before → stay_of P p.0 ≡ None → IsLedgerOf I (put (SetStay p (Some at)) P) after
 
-module _ (I : Draft) (two : patient_count I ≡ 2) (here : Placement) {start one : Rows} (new : IsLedgerOf I (empty I) start) (comes : Comes I p0 here start one) where
+module _ (I : Draft) (two : patient_count I ≡ 2) (here : Placement) {start one : RoomLists} (new : IsLedgerOf I (empty I) start) (comes : Comes I p0 here start one) where
   abbrev pub first : Timetable
   first = put (SetStay p0 (Some here)) (empty I)
 

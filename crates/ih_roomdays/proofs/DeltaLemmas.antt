@@ -18,13 +18,13 @@ use Rattle.ih_plan.specs.Cells.{part_at}
 use Rattle.ih_plan.specs.BillOf.{as_bill}
 use Rattle.ih_links.specs.Lists.{without, with_if}
 use Rattle.ih_roomdays.specs.declared.bills.RoomDayCounts.{RoomDayCounts}
-use Rattle.ih_roomdays.specs.declared.rows.Rows.{Rows}
+use Rattle.ih_roomdays.specs.declared.room_lists.RoomLists.{RoomLists}
 use Rattle.ih_roomdays.specs.Ledger.{IsLedgerOf}
 use Rattle.ih_roomdays.specs.Parts.{room_day_part, room_counts}
-use Rattle.ih_roomdays.specs.Rows.{persons_at}
+use Rattle.ih_roomdays.specs.RoomLists.{persons_at}
 use Rattle.ih_roomdays.proofs.OtherPersons.{part-after}
 
-pub delta-is : (I : Draft) (P : Timetable) (v : Rows) → IsLedgerOf I P v → (p : PatientNo) → p.0 < patient_count I → (at : Placement) (d : Day) → d.0 < I.days
+pub delta-is : (I : Draft) (P : Timetable) (v : RoomLists) → IsLedgerOf I P v → (p : PatientNo) → p.0 < patient_count I → (at : Placement) (d : Day) → d.0 < I.days
     → covers at.day.0 (person_of I p.0).length_of_stay d.0 ≡ true → (less more : RoomDayCounts)
     → less ≡ room_counts I at.room.0 (without p.0 (persons_at v at.room.0 d.0)) → more ≡ room_counts I at.room.0 (with_if true p.0 (without p.0 (persons_at v at.room.0 d.0)))
     → sub_bills (as_bill (room_day_part more)) (as_bill (room_day_part less))

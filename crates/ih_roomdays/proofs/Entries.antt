@@ -6,8 +6,8 @@ use Rattle.std.proofs.lemmas.List.{get_or-set_same, get_or-set_other, length-set
 use Rattle.ih_links.specs.Lists.{Linked, has, list_of}
 use Rattle.ih_links.specs.Days.{on_day}
 use Rattle.ih_links.proofs.Members.{has-append, once-append}
-use Rattle.ih_roomdays.specs.declared.rows.Rows.{Rows}
-use Rattle.ih_roomdays.specs.Rows.{AreRows, IsEntered, persons_at, is_at}
+use Rattle.ih_roomdays.specs.declared.room_lists.RoomLists.{RoomLists}
+use Rattle.ih_roomdays.specs.RoomLists.{AreRoomLists, IsEntered, persons_at, is_at}
 use Rattle.std.proofs.Math.Bool.{or-false, and-false}
 use Rattle.ih_plan.proofs.Spans.{span-past, span-more}
 use Rattle.ih_roomdays.proofs.Replacements.{IsDay, IsReplaced, everywhere, replaced-then}
@@ -15,7 +15,7 @@ use Rattle.ih_plan.specs.Presence.{in_span}
 use Rattle.ih_plan.proofs.TestLemmas.{equal-swap}
 
 -- Person x is put behind the last of room's list of day k.
-module _ (v : Rows) (rows : AreRows v) (room x k : ℕ) (room_below : room < v.rooms) (k_below : k < v.days) (x_below : x < v.persons) (nowhere : (r : ℕ) → is_at v r k x ≡ false)
+module _ (v : RoomLists) (rows : AreRoomLists v) (room x k : ℕ) (room_below : room < v.rooms) (k_below : k < v.days) (x_below : x < v.persons) (nowhere : (r : ℕ) → is_at v r k x ≡ false)
     (old day : Linked) (old_is : old ≡ on_day v.links.items k) where
   pub free : (r : ℕ) → has x (list_of old r) ≡ false
   free r = ap (λ (l : Linked). has x (list_of l r)) old_is ∙ nowhere r
@@ -41,7 +41,7 @@ module _ (v : Rows) (rows : AreRows v) (room x k : ℕ) (room_below : room < v.r
     }
 
 -- So the person is there one day longer.
-module _ (v new : Rows) (room x k : ℕ) (longer : IsReplaced v new room k (persons_at v room k ++ x ∷ [])) where
+module _ (v new : RoomLists) (room x k : ℕ) (longer : IsReplaced v new room k (persons_at v room k ++ x ∷ [])) where
   each-after : (r d y : ℕ) → d < v.days → is_at new r d y ≡ (is_at v r d y || ((room == r) && ((y == x) && (k == d))))
   each-after r d y = everywhere room k v.days (λ s e. is_at new s e y ≡ (is_at v s e y || ((room == s) && ((y == x) && (k == e)))))
       (ap (has y) longer.here ∙ (has-append y (persons_at v room k) x
@@ -58,7 +58,7 @@ module _ (v new : Rows) (room x k : ℕ) (longer : IsReplaced v new room k (pers
         | inr other ↦ rw (ne_eqb room s (λ f. other (sym f))) refl
       ]
 
-  pub entered-more : (old : Rows) (a : ℕ) → a ≤ k → IsEntered old v room x a k → IsEntered old new room x a (k + 1)
+  pub entered-more : (old : RoomLists) (a : ℕ) → a ≤ k → IsEntered old v room x a k → IsEntered old new room x a (k + 1)
   entered-more old a order so_far =
       replaced-then (λ r d y was. was || ((room == r) && ((y == x) && (k == d)))) so_far longer each-after
       (λ r d y was. grown was (room == r) (y == x) (in_span a k d) (k == d) ∙ sym (ap (λ b. was || ((room == r) && ((y == x) && b))) (span-more a k d order)))
@@ -70,6 +70,6 @@ module _ (v new : Rows) (room x k : ℕ) (longer : IsReplaced v new room k (pers
       grown false true true s e = refl
 
 -- a person who was nowhere is still nowhere on the days to come
-pub nowhere-yet : (old v : Rows) (room x a k : ℕ) → IsEntered old v room x a k → k < old.days → ((r d : ℕ) → d < old.days → is_at old r d x ≡ false) → (r : ℕ) → is_at v r k x ≡ false
+pub nowhere-yet : (old v : RoomLists) (room x a k : ℕ) → IsEntered old v room x a k → k < old.days → ((r d : ℕ) → d < old.days → is_at old r d x ≡ false) → (r : ℕ) → is_at v r k x ≡ false
 nowhere-yet old v room x a k so_far below nowhere r =
     so_far.each r k x below ∙ rw (nowhere r k below, span-past a k, and-false (x == x), and-false (room == r)) refl

@@ -7,9 +7,9 @@ use Rattle.std.proofs.Math.ListN.{get_or-map}
 use Rattle.ih_links.specs.Lists.{Linked, has, list_of, without}
 use Rattle.ih_links.specs.Days.{on_day}
 use Rattle.ih_links.proofs.Members.{apart, has-without_self, has-without_other, length-without, once-without, without-none}
-use Rattle.ih_roomdays.specs.declared.rows.Rows.{Rows}
+use Rattle.ih_roomdays.specs.declared.room_lists.RoomLists.{RoomLists}
 use Rattle.ih_roomdays.specs.Profiles.{most_persons}
-use Rattle.ih_roomdays.specs.Rows.{AreRows, IsLeft, persons_at, is_at}
+use Rattle.ih_roomdays.specs.RoomLists.{AreRoomLists, IsLeft, persons_at, is_at}
 use Rattle.std.proofs.Math.Bool.{and-true, and-false}
 use Rattle.ih_plan.proofs.Spans.{span-past, span-more}
 use Rattle.ih_roomdays.proofs.People.{persons-few}
@@ -17,7 +17,7 @@ use Rattle.ih_roomdays.proofs.Replacements.{IsDay, IsReplaced, everywhere, repla
 use Rattle.ih_plan.specs.Presence.{in_span}
 
 -- Person x is taken out of the room's list of day k; it is in no other.
-module _ (v : Rows) (rows : AreRows v) (room x k : ℕ) (k_below : k < v.days) (there : (r : ℕ) → is_at v r k x ≡ (room == r))
+module _ (v : RoomLists) (rows : AreRoomLists v) (room x k : ℕ) (k_below : k < v.days) (there : (r : ℕ) → is_at v r k x ≡ (room == r))
     (old day : Linked) (old_is : old ≡ on_day v.links.items k) (lists_are : day.lists ≡ map (without x) old.lists) (nodes_are : day.nodes ≡ old.nodes) where
   lists-now : day.lists ≡ map (without x) (on_day v.links.items k).lists
   lists-now = rw old_is at lists_are
@@ -45,7 +45,7 @@ module _ (v : Rows) (rows : AreRows v) (room x k : ℕ) (k_below : k < v.days) (
       omega arith)
 
 -- So the person is away one day longer.
-module _ (v new : Rows) (room x k : ℕ) (there : (r : ℕ) → is_at v r k x ≡ (room == r)) (shorter : IsReplaced v new room k (without x (persons_at v room k))) where
+module _ (v new : RoomLists) (room x k : ℕ) (there : (r : ℕ) → is_at v r k x ≡ (room == r)) (shorter : IsReplaced v new room k (without x (persons_at v room k))) where
   each-after : (r d y : ℕ) → d < v.days → is_at new r d y ≡ (is_at v r d y && not ((y == x) && (k == d)))
   each-after r d y = everywhere room k v.days (λ s e. is_at new s e y ≡ (is_at v s e y && not ((y == x) && (k == e))))
       (ap (has y) shorter.here ∙ elim (cases_eq y x) [
@@ -64,7 +64,7 @@ module _ (v new : Rows) (room x k : ℕ) (there : (r : ℕ) → is_at v r k x �
         | inr apart ↦ rw (ne_eqb k e (λ f. apart (sym f)), and-false (y == x)) (and-true (is_at v s e y))
       ]
 
-  pub left-more : (old : Rows) (a : ℕ) → a ≤ k → IsLeft old v x a k → IsLeft old new x a (k + 1)
+  pub left-more : (old : RoomLists) (a : ℕ) → a ≤ k → IsLeft old v x a k → IsLeft old new x a (k + 1)
   left-more old a order so_far =
       replaced-then (λ r d y was. was && not ((y == x) && (k == d))) so_far shorter each-after
       (λ r d y was. shrunk was (y == x) (in_span a k d) (k == d) ∙ sym (ap (λ b. was && not ((y == x) && b)) (span-more a k d order)))
@@ -76,10 +76,10 @@ module _ (v new : Rows) (room x k : ℕ) (there : (r : ℕ) → is_at v r k x �
       shrunk true true false e = refl
 
 -- on a day to come the person is still where it was
-pub there-yet : (old v : Rows) (room x a k : ℕ) → IsLeft old v x a k → k < old.days → ((r : ℕ) → is_at old r k x ≡ (room == r)) → (r : ℕ) → is_at v r k x ≡ (room == r)
+pub there-yet : (old v : RoomLists) (room x a k : ℕ) → IsLeft old v x a k → k < old.days → ((r : ℕ) → is_at old r k x ≡ (room == r)) → (r : ℕ) → is_at v r k x ≡ (room == r)
 there-yet old v room x a k so_far below there r =
     so_far.each r k x below ∙ (ap (λ b. is_at old r k x && not ((x == x) && b)) (span-past a k) ∙ (rw (and-false (x == x)) (and-true (is_at old r k x)) ∙ there r))
 
 -- so it is in a list of the day
-pub linked : (v : Rows) (room x k : ℕ) → ((r : ℕ) → is_at v r k x ≡ (room == r)) → (old : Linked) → old ≡ on_day v.links.items k → (r : ℕ) × (has x (list_of old r) ≡ true)
+pub linked : (v : RoomLists) (room x k : ℕ) → ((r : ℕ) → is_at v r k x ≡ (room == r)) → (old : Linked) → old ≡ on_day v.links.items k → (r : ℕ) × (has x (list_of old r) ≡ true)
 linked v room x k there old old_is = (room, ap (λ (l : Linked). has x (list_of l room)) old_is ∙ (there room ∙ eq-eqb room room refl))

@@ -9,8 +9,8 @@ use Rattle.ih_plan.specs.Timetable.{empty}
 use Rattle.ih_plan.specs.Presence.{is_present, end_from}
 use Rattle.ih_plan.proofs.PlanRanges.{empty-plan}
 use Rattle.ih_roomdays.specs.declared.profiles.Profiles.{Profiles}
-use Rattle.ih_roomdays.specs.declared.rows.Rows.{Rows}
-use Rattle.ih_roomdays.specs.Rows.{AreRows, AreVacant, IsEntered, is_at, of_stay}
+use Rattle.ih_roomdays.specs.declared.room_lists.RoomLists.{RoomLists}
+use Rattle.ih_roomdays.specs.RoomLists.{AreRoomLists, AreVacant, IsEntered, is_at, of_stay}
 use Rattle.ih_roomdays.specs.Profiles.{AreProfiles}
 use Rattle.ih_roomdays.specs.Ledger.{IsLedgerOf}
 use Rattle.std.proofs.Math.Bool.{or-false, and-false}
@@ -18,15 +18,15 @@ use Rattle.ih_plan.proofs.Spans.{span-covers}
 use Rattle.ih_plan.proofs.Whereabouts.{no-stay, nowhere, occupant-there, below-next, nobody-past}
 
 -- The first k occupants are in their rooms, and nobody else is in any.
-pub record IsFilled (I : Draft) (v : Rows) (k : ℕ) : Type 0 where
-  pub rows : AreRows v
+pub record IsFilled (I : Draft) (v : RoomLists) (k : ℕ) : Type 0 where
+  pub rows : AreRoomLists v
   pub rooms : v.rooms ≡ room_count I
   pub days : v.days ≡ I.days
   pub persons : v.persons ≡ person_count I
   pub profiles : AreProfiles I v.profiles
   pub each : (r d x : ℕ) → d < I.days → is_at v r d x ≡ (nat_lt x (patient_count I + k) && is_present I (empty I) r d x)
 
-pub filled-none : (I : Draft) (v : Rows) (profiles : Profiles) → AreProfiles I profiles → AreVacant (room_count I) I.days (person_count I) profiles v → IsFilled I v 0
+pub filled-none : (I : Draft) (v : RoomLists) (profiles : Profiles) → AreProfiles I profiles → AreVacant (room_count I) I.days (person_count I) profiles v → IsFilled I v 0
 filled-none I v profiles known vacant = record {
   rows = vacant.rows;
   rooms = vacant.rooms_are;
@@ -39,7 +39,7 @@ filled-none I v profiles known vacant = record {
   ];
 }
 
-pub filled-more : (I : Draft) (v new : Rows) (k : ℕ) (o : Occupant) → IsFilled I v k → slice_get I.occupants k ≡ Some o
+pub filled-more : (I : Draft) (v new : RoomLists) (k : ℕ) (o : Occupant) → IsFilled I v k → slice_get I.occupants k ≡ Some o
     → IsEntered v new o.room_id.0 (patient_count I + k) 0 (end_from I 0 o.length_of_stay) → IsFilled I new (k + 1)
 filled-more I v new k o filled is entered = record {
   rows = entered.rows;
@@ -69,7 +69,7 @@ filled-more I v new k o filled is entered = record {
     ]
 
 -- with all occupants the ledger stands for the empty timetable
-pub filled-all : (I : Draft) (v : Rows) → IsFilled I v (occupant_count I) → IsLedgerOf I (empty I) v
+pub filled-all : (I : Draft) (v : RoomLists) → IsFilled I v (occupant_count I) → IsLedgerOf I (empty I) v
 filled-all I v filled = record {
   plan = empty-plan I;
   rows = filled.rows;

@@ -17,13 +17,13 @@ use Rattle.ih_plan.specs.Cells.{part_at}
 use Rattle.ih_plan.proofs.Entries.{admission-patient, admission-set}
 use Rattle.ih_links.specs.Lists.{AreNodes, has, without, with_if}
 use Rattle.ih_links.proofs.Members.{length-once, without-none}
-use Rattle.ih_links.proofs.Others.{with-each, with-once, with-known}
+use Rattle.ih_links.proofs.Without.{with-each, with-once, with-known}
 use Rattle.ih_roomdays.specs.declared.profiles.Profile.{Profile}
-use Rattle.ih_roomdays.specs.declared.rows.Rows.{Rows}
+use Rattle.ih_roomdays.specs.declared.room_lists.RoomLists.{RoomLists}
 use Rattle.ih_roomdays.specs.Ledger.{IsLedgerOf}
 use Rattle.ih_roomdays.specs.Profiles.{most_persons, profile_of}
 use Rattle.ih_roomdays.specs.Parts.{room_day_part, room_counts}
-use Rattle.ih_roomdays.specs.Rows.{AreRows, is_at, crowd_at, persons_at}
+use Rattle.ih_roomdays.specs.RoomLists.{AreRoomLists, is_at, crowd_at, persons_at}
 use Rattle.ih_plan.proofs.Whereabouts.{others-stay}
 use Rattle.ih_roomdays.proofs.Orders.{AreAlike}
 use Rattle.ih_roomdays.proofs.Tallies.{some-there}
@@ -31,7 +31,7 @@ use Rattle.ih_roomdays.proofs.Standing.{has-present, part-alike}
 
 -- ---- the others
 
-module _ (v : Rows) (rows : AreRows v) (r d x : ℕ) (day : d < v.days) where
+module _ (v : RoomLists) (rows : AreRoomLists v) (r d x : ℕ) (day : d < v.days) where
   abbrev pub rest : List ℕ
   rest = without x (persons_at v r d)
 
@@ -59,7 +59,7 @@ module _ (v : Rows) (rows : AreRows v) (r d x : ℕ) (day : d < v.days) where
 
 -- ---- the part with another stay
 
-module _ (I : Draft) (P : Timetable) (v : Rows) (stands : IsLedgerOf I P v) (p : PatientNo) (known : p.0 < patient_count I) (r : RoomNo) (d : Day) (day : d.0 < I.days) where
+module _ (I : Draft) (P : Timetable) (v : RoomLists) (stands : IsLedgerOf I P v) (p : PatientNo) (known : p.0 < patient_count I) (r : RoomNo) (d : Day) (day : d.0 < I.days) where
   within : d.0 < v.days
   within = rw stands.days day
 

@@ -11,10 +11,10 @@ use Rattle.ih_links.proofs.Members.{lacks, length-once, once-append}
 use Rattle.ih_plan.proofs.ListedBelow.{has as has_number, has-which_below, which_below-has, has-listed}
 use Rattle.ih_plan.specs.Sums.{which_below, is_listed}
 use Rattle.ih_roomdays.specs.declared.occupancies.Crowd.{Crowd}
-use Rattle.ih_roomdays.specs.declared.rows.Rows.{Rows}
+use Rattle.ih_roomdays.specs.declared.room_lists.RoomLists.{RoomLists}
 use Rattle.ih_roomdays.specs.Occupancy.{IsSmall, nobody}
 use Rattle.ih_roomdays.specs.Profiles.{most_persons}
-use Rattle.ih_roomdays.specs.Rows.{AreRows, persons_at, crowd_at}
+use Rattle.ih_roomdays.specs.RoomLists.{AreRoomLists, persons_at, crowd_at}
 use Rattle.ih_roomdays.proofs.Tallies.{occupancy-small}
 
 -- two tests of what is in a list agree
@@ -26,27 +26,27 @@ pub has-is_listed : (x : ℕ) (xs : List ℕ) → has x xs ≡ is_listed x xs
 has-is_listed x xs = has-number x xs ∙ has-listed x xs
 
 -- what is read of a day is its lists
-pub day-read : (v : Rows) (d : ℕ) (day : Linked) → AreRows v → d < v.days → day ≡ get_or v.links.items d day → day ≡ on_day v.links.items d
+pub day-read : (v : RoomLists) (d : ℕ) (day : Linked) → AreRoomLists v → d < v.days → day ≡ get_or v.links.items d day → day ≡ on_day v.links.items d
 day-read v d day rows below e = get_or_read v.links.items d day (rw rows.each_day below) e (record { lists = []; nodes = 0 })
 
 -- a room and a day have a place among what is kept
-pub place-inside : (v : Rows) (r d : ℕ) → r < v.rooms → d < v.days → r * v.days + d < v.rooms * v.days
+pub place-inside : (v : RoomLists) (r d : ℕ) → r < v.rooms → d < v.days → r * v.days + d < v.rooms * v.days
 place-inside v r d room below = rw (mul_comm v.rooms v.days) (mul-add-lt r v.days d v.rooms room below)
 
 -- what is read there is the summary of the room's day
-pub crowd-read : (v : Rows) (r d : ℕ) (c : Crowd) → AreRows v → r < v.rooms → d < v.days → c ≡ get_or v.crowds.items (r * v.days + d) c → c ≡ crowd_at v r d
+pub crowd-read : (v : RoomLists) (r d : ℕ) (c : Crowd) → AreRoomLists v → r < v.rooms → d < v.days → c ≡ get_or v.crowds.items (r * v.days + d) c → c ≡ crowd_at v r d
 crowd-read v r d c rows room below e =
     get_or_read v.crowds.items (r * v.days + d) c (let place = place-inside v r d room below in omega (arith, rows.crowds)) e nobody
 
 -- there are no more of them than an instance has
-pub persons-few : (v : Rows) (r d : ℕ) → AreRows v → d < v.days → length (persons_at v r d) ≤ most_persons
+pub persons-few : (v : RoomLists) (r d : ℕ) → AreRoomLists v → d < v.days → length (persons_at v r d) ≤ most_persons
 persons-few v r d rows below =
     let all = length-once v.persons (persons_at v r d) (rows.once r d below) (λ y there. rows.known r d y below there) in
     let few = rows.few_persons in
     omega arith
 
 -- so the summary of them is small
-pub crowd-small : (v : Rows) (r d : ℕ) → AreRows v → d < v.days → IsSmall (crowd_at v r d).occupancy
+pub crowd-small : (v : RoomLists) (r d : ℕ) → AreRoomLists v → d < v.days → IsSmall (crowd_at v r d).occupancy
 crowd-small v r d rows below =
     occupancy-small v.persons v.profiles (persons_at v r d) (crowd_at v r d).occupancy rows.profiles (rows.kept r d below).occupancy (persons-few v r d rows below)
 

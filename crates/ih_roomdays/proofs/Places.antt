@@ -5,8 +5,8 @@ use Rattle.ih_links.specs.Lists.{Linked, has, following, first_of, list_of, IsOn
 use Rattle.ih_links.specs.Days.{on_day}
 use Rattle.ih_links.proofs.Members.{has-here, has-there}
 use Rattle.ih_links.proofs.Walks.{following-index}
-use Rattle.ih_roomdays.specs.declared.rows.Rows.{Rows}
-use Rattle.ih_roomdays.specs.Rows.{AreRows, persons_at}
+use Rattle.ih_roomdays.specs.declared.room_lists.RoomLists.{RoomLists}
+use Rattle.ih_roomdays.specs.RoomLists.{AreRoomLists, persons_at}
 use Rattle.ih_roomdays.proofs.People.{day-read}
 
 -- what is met after k steps is the k-th
@@ -43,9 +43,9 @@ step-past xs k e = rw add-one (past xs k e)
     past (x ∷ xs) (suc k) e = past xs k e
 
 -- The lists that are read are those of day d, so the one that is met after i steps is the i-th of those who are there.
-module _ (v w : Rows) (r d i : ℕ) (day : Linked) (same : v ≡ w) (rows : AreRows v) (below : d < w.days) (read : day ≡ get_or v.links.items d day) where
+module _ (v w : RoomLists) (r d i : ℕ) (day : Linked) (same : v ≡ w) (rows : AreRoomLists v) (below : d < w.days) (read : day ≡ get_or v.links.items d day) where
   day-is : day ≡ on_day w.links.items d
-  day-is = day-read w d day (subst (λ u. AreRows u) same rows) below (subst (λ (u : Rows). day ≡ get_or u.links.items d day) same read)
+  day-is = day-read w d day (subst (λ u. AreRoomLists u) same rows) below (subst (λ (u : RoomLists). day ≡ get_or u.links.items d day) same read)
 
   pub told-person : (x : ℕ) → first_of (drop i (list_of day r)) ≡ Some x → x ≡ slice_index (persons_at w r d) i
   told-person x e = (met (list_of day r) i x e).1 ∙ ap (λ (l : Linked). get_or (list_of l r) i 0) day-is

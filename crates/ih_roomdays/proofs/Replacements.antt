@@ -8,13 +8,13 @@ use Rattle.std.proofs.lemmas.Nat.{same_from_place}
 use Rattle.ih_links.specs.Lists.{Linked, has, list_of, IsOnce}
 use Rattle.ih_links.specs.Days.{on_day}
 use Rattle.ih_roomdays.specs.declared.occupancies.Crowd.{Crowd}
-use Rattle.ih_roomdays.specs.declared.rows.Rows.{Rows}
+use Rattle.ih_roomdays.specs.declared.room_lists.RoomLists.{RoomLists}
 use Rattle.ih_roomdays.specs.Occupancy.{IsCrowd, nobody}
-use Rattle.ih_roomdays.specs.Rows.{AreRows, AreChanged, persons_at, crowd_at, is_at}
+use Rattle.ih_roomdays.specs.RoomLists.{AreRoomLists, AreChanged, persons_at, crowd_at, is_at}
 use Rattle.ih_roomdays.proofs.People.{place-inside}
 
 -- A day's lists that differ from those before in the room's list alone: that is xs, whose persons are known, each once.
-pub record IsDay (v : Rows) (room k : ℕ) (xs : List ℕ) (day : Linked) : Type 0 where
+pub record IsDay (v : RoomLists) (room k : ℕ) (xs : List ℕ) (day : Linked) : Type 0 where
   pub heads : length day.lists ≡ v.rooms
   pub numbers : day.nodes ≡ v.persons
   pub here : list_of day room ≡ xs
@@ -23,8 +23,8 @@ pub record IsDay (v : Rows) (room k : ℕ) (xs : List ℕ) (day : Linked) : Type
   pub known : (x : ℕ) → has x xs ≡ true → x < v.persons
 
 -- Afterwards the room's list of day k is xs, and all others are as before.
-pub record IsReplaced (before after : Rows) (room k : ℕ) (xs : List ℕ) : Type 0 where
-  pub rows : AreRows after
+pub record IsReplaced (before after : RoomLists) (room k : ℕ) (xs : List ℕ) : Type 0 where
+  pub rows : AreRoomLists after
   pub rooms : after.rooms ≡ before.rooms
   pub days : after.days ≡ before.days
   pub persons : after.persons ≡ before.persons
@@ -33,7 +33,7 @@ pub record IsReplaced (before after : Rows) (room k : ℕ) (xs : List ℕ) : Typ
   pub others : (r d : ℕ) → (r ≡ room → d ≡ k → ⊥) → persons_at after r d ≡ persons_at before r d
 
 -- a change, and then the lists of one day
-pub replaced-then : {old v new : Rows} {room k : ℕ} {xs : List ℕ} {f h : ℕ → ℕ → ℕ → Bool → Bool} (g : ℕ → ℕ → ℕ → Bool → Bool) → AreChanged old v f → IsReplaced v new room k xs
+pub replaced-then : {old v new : RoomLists} {room k : ℕ} {xs : List ℕ} {f h : ℕ → ℕ → ℕ → Bool → Bool} (g : ℕ → ℕ → ℕ → Bool → Bool) → AreChanged old v f → IsReplaced v new room k xs
     → ((r d y : ℕ) → d < v.days → is_at new r d y ≡ g r d y (is_at v r d y)) → ((r d y : ℕ) (was : Bool) → g r d y (f r d y was) ≡ h r d y was) → AreChanged old new h
 replaced-then {old} g so_far step each both = record {
   rows = step.rows;
@@ -55,10 +55,10 @@ everywhere room k days A this others r d below = elim (cases_eq r room) [
 ]
 
 -- These are the lists of day k now, and this is the summary of xs.
-module _ (v : Rows) (rows : AreRows v) (room k : ℕ) (room_below : room < v.rooms) (k_below : k < v.days) (xs : List ℕ) (day : Linked) (is_day : IsDay v room k xs day)
+module _ (v : RoomLists) (rows : AreRoomLists v) (room k : ℕ) (room_below : room < v.rooms) (k_below : k < v.days) (xs : List ℕ) (day : Linked) (is_day : IsDay v room k xs day)
     (links : Vec Linked) (links_are : links.items ≡ slice_set v.links.items k day)
     (crowds : Vec Crowd) (crowd : Crowd) (told : IsCrowd v.profiles xs crowd) (crowds_are : crowds.items ≡ slice_set v.crowds.items (room * v.days + k) crowd) where
-  abbrev after : Rows
+  abbrev after : RoomLists
   after = record v { links = links; crowds = crowds }
 
   today : on_day after.links.items k ≡ day
@@ -90,7 +90,7 @@ module _ (v : Rows) (rows : AreRows v) (room k : ℕ) (room_below : room < v.roo
   crowd-elsewhere r d below ne = ap (λ cs. slice_index_or cs (r * v.days + d) nobody) crowds_are
       ∙ get_or-set_other v.crowds.items (room * v.days + k) (r * v.days + d) crowd nobody (λ e. let same = same_from_place r d room k v.days below k_below e in ne same.0 same.1)
 
-  rows-after : AreRows after
+  rows-after : AreRoomLists after
   rows-after = record {
     each_day = ap length links_are ∙ (length-set v.links.items k day ∙ rows.each_day);
     each_room = every-day (λ l. length l.lists ≡ v.rooms) is_day.heads rows.each_room;

@@ -11,9 +11,9 @@ use Rattle.ih_plan.specs.Cells.{part_at, part_of, content_of}
 use Rattle.ih_plan.specs.Present.{ArePresent}
 use Rattle.ih_plan.proofs.Whereabouts.{person-known}
 use Rattle.ih_links.specs.Lists.{has, IsOnce}
-use Rattle.ih_roomdays.specs.declared.rows.Rows.{Rows}
+use Rattle.ih_roomdays.specs.declared.room_lists.RoomLists.{RoomLists}
 use Rattle.ih_roomdays.specs.Profiles.{ArePersons}
-use Rattle.ih_roomdays.specs.Rows.{persons_at}
+use Rattle.ih_roomdays.specs.RoomLists.{persons_at}
 use Rattle.ih_roomdays.specs.Parts.{room_day_part, room_counts}
 use Rattle.ih_roomdays.specs.Ledger.{IsLedgerOf}
 use Rattle.ih_roomdays.proofs.Orders.{AreAlike, length-alike, spread-alike, genders-alike}
@@ -37,7 +37,7 @@ part-alike I P r d xs once alike =
     let spreads = spread-alike I xs (present I P r.0 d.0) alike in
     rw (mixes, counts, spreads) refl
 
-module _ (I : Draft) (P : Timetable) (v : Rows) (stands : IsLedgerOf I P v) where
+module _ (I : Draft) (P : Timetable) (v : RoomLists) (stands : IsLedgerOf I P v) where
   within : (d : ℕ) → d < I.days → d < v.days
   within d below = rw stands.days below
 

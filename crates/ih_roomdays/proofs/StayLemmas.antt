@@ -13,15 +13,15 @@ use Rattle.ih_plan.specs.Presence.{covers, end_of, is_in, is_present, placed_at}
 use Rattle.ih_plan.specs.Persons.{person_of}
 use Rattle.ih_plan.proofs.Entries.{admission-set}
 use Rattle.ih_plan.proofs.PlanRanges.{put-plan, stay-plan}
-use Rattle.ih_roomdays.specs.declared.rows.Rows.{Rows}
-use Rattle.ih_roomdays.specs.Rows.{AreChanged, IsEntered, IsLeft, is_at, of_stay}
+use Rattle.ih_roomdays.specs.declared.room_lists.RoomLists.{RoomLists}
+use Rattle.ih_roomdays.specs.RoomLists.{AreChanged, IsEntered, IsLeft, is_at, of_stay}
 use Rattle.ih_roomdays.specs.Profiles.{AreProfiles}
 use Rattle.ih_roomdays.specs.Ledger.{IsLedgerOf}
 use Rattle.std.proofs.Math.Bool.{or-false, and-true, and-false}
 use Rattle.ih_plan.proofs.Spans.{span-covers}
 use Rattle.ih_plan.proofs.Whereabouts.{nowhere, somewhere, others-stay}
 
-module _ (I : Draft) (P : Timetable) (old new : Rows) (p : PatientNo) (at : Placement) (stands : IsLedgerOf I P old) (known : p.0 < patient_count I) where
+module _ (I : Draft) (P : Timetable) (old new : RoomLists) (p : PatientNo) (at : Placement) (stands : IsLedgerOf I P old) (known : p.0 < patient_count I) where
   set-stay : (s : Option Placement) (r d : ℕ) → is_present I (put (SetStay p s) P) r d p.0 ≡ is_in (option_map placed_at s) (person_of I p.0).length_of_stay r d
   set-stay s r d = rw (admission-set I P p s stands.plan known) refl
 

@@ -9,7 +9,7 @@ use Rattle.std.proofs.lemmas.Nat.{one_shl, mul-le}
 use Rattle.std.proofs.lemmas.Nat.Bits.{bit_at_and, bit_at_or, bit_at_not, bit_at-zero, bit_at-pow_same, bit_at-pow_other, bit_at_set_same, bit_at_set_other}
 use Rattle.ih_links.specs.Lists.{IsOnce, has, without}
 use Rattle.ih_links.proofs.Members.{length-without}
-use Rattle.ih_links.proofs.Others.{sum-without}
+use Rattle.ih_links.proofs.Without.{sum-without}
 use Rattle.ih_roomdays.specs.declared.occupancies.Occupancy.{Occupancy}
 use Rattle.ih_roomdays.specs.declared.occupancies.Crowd.{Crowd}
 use Rattle.ih_roomdays.specs.declared.profiles.Profiles.{Profiles}

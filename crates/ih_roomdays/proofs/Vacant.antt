@@ -1,17 +1,17 @@
--- Rows in which nobody is.
+-- RoomLists in which nobody is.
 use Rattle.std.proofs.Common.{◌≡◌, ℕ, ◌+◌, ◌*◌, ◌^◌, ◌<◌, ◌≤◌, refl, ap, ◌∙◌, [], length, replicate}
 use Rattle.std.specs.Prelude.{slice_index_or}
 use Rattle.std.proofs.lemmas.List.{length-replicate}
 use Rattle.ih_links.specs.Days.{empty_lists, on_day}
 use Rattle.ih_links.proofs.EmptyDays.{empty-day, empty-list}
-use Rattle.ih_roomdays.specs.declared.rows.Rows.{Rows}
+use Rattle.ih_roomdays.specs.declared.room_lists.RoomLists.{RoomLists}
 use Rattle.ih_roomdays.specs.Occupancy.{nobody}
 use Rattle.ih_roomdays.specs.Profiles.{AreInRange, most_persons}
-use Rattle.ih_roomdays.specs.Rows.{AreVacant, persons_at, crowd_at}
+use Rattle.ih_roomdays.specs.RoomLists.{AreVacant, persons_at, crowd_at}
 use Rattle.ih_roomdays.proofs.Tallies.{crowd-none}
 use Rattle.ih_plan.proofs.ReadLemmas.{index-copies}
 
-pub vacant : (v : Rows) → v.rooms * v.days < 2 ^ 32 → v.persons ≤ most_persons → AreInRange v.persons v.profiles
+pub vacant : (v : RoomLists) → v.rooms * v.days < 2 ^ 32 → v.persons ≤ most_persons → AreInRange v.persons v.profiles
     → v.links.items ≡ replicate v.days (empty_lists v.rooms v.persons) → v.crowds.items ≡ replicate (v.rooms * v.days) nobody
     → AreVacant v.rooms v.days v.persons v.profiles v
 vacant v few_places few_persons profiles links crowds = record {

@@ -1,4 +1,4 @@
-pub mod Rows
+pub mod RoomLists
 pub mod Occupancy
 pub mod Parts
 pub mod Genders

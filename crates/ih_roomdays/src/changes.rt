@@ -5,7 +5,7 @@ ghost use Rattle.ih_tables.specs.Sizes.{patient_count, person_count, room_count}
 ghost use Rattle.ih_plan.specs.Presence.{is_in, placed_at, covers};
 ghost use Rattle.ih_plan.specs.Persons.{person_of};
 ghost use Rattle.ih_links.specs.Lists.{without, with_if};
-ghost use Rattle.ih_roomdays.specs.Rows.{AreRows, persons_at, is_at};
+ghost use Rattle.ih_roomdays.specs.RoomLists.{AreRoomLists, persons_at, is_at};
 ghost use Rattle.ih_roomdays.specs.Profiles.{AreProfiles, ArePersons, profile_of};
 ghost use Rattle.ih_roomdays.specs.{declared.profiles.Profiles.Profiles, Occupancy.IsOccupancy, Occupancy.IsSmall};
 ghost use Rattle.ih_roomdays.specs.{Parts.room_counts};
@@ -13,7 +13,7 @@ ghost use Rattle.ih_roomdays.specs.{Parts.room_counts};
 use crate::bills::RoomDayCounts;
 use crate::occupancies::Occupancy;
 use crate::profiles::Profile;
-use crate::rows::Rows;
+use crate::room_lists::RoomLists;
 use ih_plan::Placement;
 use ih_tables::{Day, Instance, PatientNo, RoomNo};
 
@@ -50,8 +50,8 @@ pub fn room_counts(inst: &Instance, r: RoomNo, occupancy: Occupancy) -> RoomDayC
 }
 
 // The summary of the persons in a room on a day other than x, who is there or not.
-fn others(rows: &Rows, r: RoomNo, d: Day, x: u32, who: Profile, there: bool) -> Occupancy
-    requires rows { AreRows rows.now }
+fn others(rows: &RoomLists, r: RoomNo, d: Day, x: u32, who: Profile, there: bool) -> Occupancy
+    requires rows { AreRoomLists rows.now }
     requires room { r.0 < rows.now.rooms }
     requires day { d.0 < rows.now.days }
     requires profile { who ≡ profile_of rows.now.profiles x }
@@ -69,13 +69,13 @@ fn others(rows: &Rows, r: RoomNo, d: Day, x: u32, who: Profile, there: bool) -> 
 /// What the room's day breaks and costs without the patient, and with the patient there, who `was` there or not.
 pub fn without_and_with(
     inst: &Instance,
-    rows: &Rows,
+    rows: &RoomLists,
     r: RoomNo,
     d: Day,
     p: PatientNo,
     was: bool,
 ) -> (RoomDayCounts, RoomDayCounts)
-    requires rows { AreRows rows.now }
+    requires rows { AreRoomLists rows.now }
     requires profiles { AreProfiles inst.now.draft rows.now.profiles }
     requires rooms { rows.now.rooms ≡ room_count inst.now.draft }
     requires persons { rows.now.persons ≡ person_count inst.now.draft }

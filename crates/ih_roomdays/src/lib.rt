@@ -7,6 +7,6 @@ mod genders;
 mod occupancies;
 mod profiles;
 mod room_days;
-mod rows;
+mod room_lists;
 
-pub use room_days::{RoomDays, ledgers_tell};
+pub use room_days::{RoomDays, members_are_present};

@@ -6,12 +6,12 @@ ghost use Rattle.ih_tables.specs.{declared.cells.Cell.TheVariants.RoomDay};
 ghost use Rattle.ih_plan.specs.Timetable.{Timetable, IsPlacement, empty, stay_of};
 ghost use Rattle.ih_plan.specs.{declared.moves.Write.TheVariants.SetStay, Writes.put, Persons.person_of};
 ghost use Rattle.ih_plan.specs.{Presence.covers, Cells.delta_at, Cells.part_at, BillOf.as_bill};
-ghost use Rattle.ih_roomdays.specs.Ledger.{IsLedgerOf, LedgersTell};
+ghost use Rattle.ih_roomdays.specs.Ledger.{IsLedgerOf, MembersArePresent};
 
 use crate::bills::{room_day_bill, room_day_change};
 use crate::changes::{is_there, room_counts, without_and_with};
 use crate::profiles::profiles_of;
-use crate::rows::Rows;
+use crate::room_lists::RoomLists;
 use ih_plan::{Members, Placement, end_from, end_of};
 use ih_tables::{Bill, Day, Instance, PatientNo, PersonNo, RoomNo};
 use std::alloc::{AllocError, Global};
@@ -20,17 +20,17 @@ use std::marker::Model;
 /// Who is in each room on each day of a timetable. After `new` it takes no memory.
 #[derive(Drop)]
 pub struct RoomDays {
-    rows: Rows,
+    rows: RoomLists,
 }
 
 impl Model for RoomDays {
-    ghost use Rattle.ih_roomdays.specs.{declared.rows.Rows.Rows, Rows.AreRows};
+    ghost use Rattle.ih_roomdays.specs.{declared.room_lists.RoomLists.RoomLists, RoomLists.AreRoomLists};
 
-    ghost Value = { Rows };
+    ghost Value = { RoomLists };
 
     ghost view = { λ a. a.rows };
 
-    ghost invariant = { λ a. AreRows a.rows };
+    ghost invariant = { λ a. AreRoomLists a.rows };
 }
 
 impl RoomDays {
@@ -40,7 +40,7 @@ impl RoomDays {
     {
         let patients = inst.patients();
         let profiles = profiles_of(alloc, inst)?;
-        let mut rows = Rows::new(alloc, inst.rooms(), inst.days(), inst.persons(), profiles)?;
+        let mut rows = RoomLists::new(alloc, inst.rooms(), inst.days(), inst.persons(), profiles)?;
         for o in 0..inst.occupants() {
             let occupant = inst.occupant(o);
             let to = end_from(inst, 0, occupant.length_of_stay);
@@ -112,7 +112,7 @@ impl RoomDays {
 }
 
 impl Members for RoomDays {
-    ghost use Rattle.ih_roomdays.specs.Rows.{persons_at};
+    ghost use Rattle.ih_roomdays.specs.RoomLists.{persons_at};
 
     ghost rooms = { λ v. v.rooms };
 
@@ -141,6 +141,6 @@ impl Members for RoomDays {
 }
 
 /// A ledger that stands for a timetable tells who is present in each room on each day.
-pub fn ledgers_tell(_inst: &Instance)
-    ensures { LedgersTell _inst.now.draft }
+pub fn members_are_present(_inst: &Instance)
+    ensures { MembersArePresent _inst.now.draft }
 {}

@@ -14,7 +14,7 @@ use Rattle.ih_rounds.specs.declared.running.RoundsEnd.{RoundsEnd}
 use Rattle.ih_rounds.specs.Ends.{Ends, HaveRun, HoldsBest, better_of, end_with}
 use Rattle.ih_rounds.specs.Rounds.{AreRounds, IsRound, Round, StartsFrom, histories, journals, options_in}
 use Rattle.ih_rounds.specs.Steps.{HasRound}
-use Rattle.ih_rounds.specs.Telling.{Answers, with_answers}
+use Rattle.ih_rounds.specs.Answers.{Answers, with_answers}
 use Rattle.ih_rounds.proofs.BestOf.{held-more}
 
 -- so many rounds were searched, the next starts from P, and this is the best so far

@@ -9,7 +9,7 @@ use Rattle.ih_rounds.specs.declared.running.RoundsEnd.{RoundsEnd}
 use Rattle.ih_rounds.specs.declared.running.RoundsEnd.TheVariants.{Found, NoneFound}
 use Rattle.ih_rounds.specs.Best.{HaveNone, IsBestOf, cost_in}
 use Rattle.ih_rounds.specs.Rounds.{AreRounds, Round, base_in, histories, journals}
-use Rattle.ih_rounds.specs.Telling.{Answers, with_answers}
+use Rattle.ih_rounds.specs.Answers.{Answers, with_answers}
 
 -- So many rounds were searched: the searcher's answers are their histories, and their journals were appended. Each
 -- starts from a timetable of the instance.

@@ -10,7 +10,7 @@ use Rattle.ih_journal.specs.Settings.{IsLawful}
 use Rattle.ih_journal.specs.Texts.{journal}
 use Rattle.ih_rounds.specs.declared.round.RoundOutcome.{RoundOutcome}
 use Rattle.ih_rounds.specs.Rounds.{next_start}
-use Rattle.ih_rounds.specs.Telling.{Answers, with_answers}
+use Rattle.ih_rounds.specs.Answers.{Answers, with_answers}
 
 -- the place of the best, or the last
 abbrev pub end_of : Option (ℕ × ℤ) → ℕ → ℕ

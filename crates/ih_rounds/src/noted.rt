@@ -18,7 +18,7 @@ pub struct Noted<S> {
 
 impl<S> Model for Noted<S> {
     ghost use Rattle.std.specs.Prelude.{map};
-    ghost use Rattle.ih_rounds.specs.Telling.{Answered};
+    ghost use Rattle.ih_rounds.specs.Answers.{Answered};
 
     ghost Value = { Answered S };
 

@@ -14,7 +14,7 @@ pub trait Searcher {
     ghost use Rattle.ih_plan.specs.Timetable.{IsPlanOf};
     ghost use Rattle.ih_journal.specs.{Legal.IsFull, Settings.IsLawful, Tried.tries};
     ghost use Rattle.ih_cellbook.specs.Keeping.{base_with};
-    ghost use Rattle.ih_rounds.specs.Telling.{Answers, with_answers};
+    ghost use Rattle.ih_rounds.specs.Answers.{Answers, with_answers};
 
     /// The histories that it has answered, where it tells them.
     ghost answers: { Self → Answers };

@@ -11,7 +11,7 @@ use Rattle.ih_journal.proofs.Growth.{length-more}
 use Rattle.ih_cellbook.specs.Legal.{AreLegalButDraws}
 use Rattle.ih_cellbook.specs.Replicas.{IsReplicaOf}
 use Rattle.ih_cellbook.specs.Snapshot.{Snapshot}
-use Rattle.ih_cellbook.specs.Told.{accepted_of}
+use Rattle.ih_cellbook.specs.News.{accepted_of}
 use Rattle.ih_snapshot.specs.Keeping.{CanTake, HasTaken}
 use Rattle.ih_snapshot.proofs.Advancing.{can-take, legal-next, stands-more}
 

@@ -14,7 +14,7 @@ use Rattle.ih_tables.specs.Sizes.{patient_count, theatre_count}
 use Rattle.ih_links.specs.Lists.{AreNodes, IsOnce, has, without, with_if, list_of}
 use Rattle.ih_links.proofs.Members.{apart, has-here, has-there, has-without_self, length-without, without-none}
 use Rattle.std.proofs.Math.Bool.{or-false}
-use Rattle.ih_links.proofs.Others.{sum-without, with-each, with-known}
+use Rattle.ih_links.proofs.Without.{sum-without, with-each, with-known}
 use Rattle.ih_plan.specs.declared.moves.Placement.{Placement}
 use Rattle.ih_plan.specs.Timetable.{Timetable, stay_of}
 use Rattle.ih_plan.specs.Sums.{bit, count_below, which_below}

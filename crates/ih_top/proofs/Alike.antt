@@ -17,7 +17,7 @@ use Rattle.ih_rounds.specs.Rounds.{AreRounds}
 use Rattle.ih_rounds.proofs.JournalsApart.{lone-rounds}
 use Rattle.ih_words.specs.Solve.{SolveCall}
 use Rattle.ih_shelf.specs.Outside.{Names}
-use Rattle.ih_chain.proofs.Telling.{chain_tries-one}
+use Rattle.ih_chain.proofs.EntryTries.{chain_tries-one}
 use Rattle.ih_top.specs.Chain.{of_chains}
 use Rattle.ih_top.specs.Demo.{HasSaid, IsDemo}
 use Rattle.ih_inputs.specs.Reading.{HasPlan}

@@ -12,7 +12,7 @@ use Rattle.ih_rounds.specs.declared.running.RoundsEnd.{RoundsEnd}
 use Rattle.ih_rounds.specs.declared.running.RoundsEnd.TheVariants.{Found, NoneFound}
 use Rattle.ih_rounds.specs.Ends.{Ends, HaveRun, IsEnd}
 use Rattle.ih_rounds.specs.Rounds.{Round, base_in, journals}
-use Rattle.ih_rounds.specs.Telling.{Answers}
+use Rattle.ih_rounds.specs.Answers.{Answers}
 use Rattle.ih_solution.specs.Solution.{solution}
 use Rattle.ih_top.specs.declared.output.BestOutput.{BestOutput}
 use Rattle.ih_top.specs.declared.output.Output.{Output}

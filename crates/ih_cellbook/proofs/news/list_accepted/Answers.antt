@@ -2,8 +2,8 @@ use Rattle.std.proofs.Common.{◌∙◌, ◌++◌, ◌∷◌, [], List, ap, arit
 use Rattle.std.proofs.Math.ListN.{get_or-map}
 use Rattle.std.proofs.lemmas.List.{length-map}
 use Rattle.ih_journal.specs.Tried.{Tried}
-use Rattle.ih_cellbook.specs.Told.{accepted_between, accepted_of}
-use Rattle.ih_cellbook.proofs.Telling.{told-more}
+use Rattle.ih_cellbook.specs.News.{accepted_between, accepted_of}
+use Rattle.ih_cellbook.proofs.NewsLemmas.{told-more}
 use Rattle.ih_cellbook.proofs.news.list_accepted.Goals as goal
 
 pub loop-until-preserved : goal.loop-until-preserved

@@ -1,6 +1,6 @@
 use Rattle.std.proofs.Common.{◌≡◌, ◌-◌, ◌≤◌, length, map}
 use Rattle.std.specs.Prelude.{vec_capacity}
-use Rattle.ih_cellbook.specs.Told.{accepted_between, most_told}
+use Rattle.ih_cellbook.specs.News.{accepted_between, most_told}
 use Rattle.ih_cellbook.proofs.news.list_accepted.Given as goal
 
 -- what was accepted up to here is listed

@@ -1,6 +1,6 @@
 use Rattle.std.proofs.Common.{◌∙◌, sym, subst}
 use Rattle.ih_roomdays.specs.Occupancy.{IsOccupancy, IsCrowd}
-use Rattle.ih_roomdays.specs.Rows.{persons_at}
+use Rattle.ih_roomdays.specs.RoomLists.{persons_at}
 use Rattle.ih_roomdays.proofs.OtherPersons.{own-part, rest-all}
 use Rattle.ih_roomdays.proofs.People.{crowd-read}
 use Rattle.ih_roomdays.proofs.changes.others.Goals as goal

@@ -1,6 +1,6 @@
 use Rattle.std.proofs.Common.{[], ◌∷◌, ◌++◌, arith, true, false}
 use Rattle.ih_links.specs.Lists.{without}
-use Rattle.ih_roomdays.specs.Rows.{persons_at}
+use Rattle.ih_roomdays.specs.RoomLists.{persons_at}
 use Rattle.ih_roomdays.proofs.OtherPersons.{rest-known, with-few}
 use Rattle.ih_roomdays.proofs.Tallies.{occupancy-small}
 use Rattle.ih_roomdays.proofs.changes.without_and_with.Goals as goal

@@ -1,7 +1,7 @@
 use Rattle.std.proofs.Common.{◌<◌, ◌≤◌, ◌∙◌, arith, length, sym, subst}
 use Rattle.ih_turn.specs.Seats.{history, number_of, turns_left}
 use Rattle.ih_cellbook.specs.Replicas.{IsReplicaIn, MayFollowUpTo}
-use Rattle.ih_cellbook.specs.Told.{TellsOf}
+use Rattle.ih_cellbook.specs.News.{TellsOf}
 use Rattle.ih_cellbook.proofs.Within.{seen-within, told-follow}
 use Rattle.ih_desk.specs.Desks.{base_of}
 use Rattle.ih_desk.specs.Progress.{Progress}

@@ -6,7 +6,7 @@ use Rattle.ih_cellbook.specs.Offered.{Offered}
 use Rattle.ih_cellbook.specs.Offers.{HasSeenOwn, IsRightOffer, next_number}
 use Rattle.ih_desk.specs.Desks.{base_of}
 use Rattle.ih_cellbook.specs.Replicas.{IsReplicaIn}
-use Rattle.ih_cellbook.specs.Told.{TellsOf}
+use Rattle.ih_cellbook.specs.News.{TellsOf}
 use Rattle.ih_cellbook.proofs.Within.{offered-right, seen-within, stands-behind, stands-same}
 use Rattle.ih_desk.specs.Progress.{Progress}
 use Rattle.ih_desk.specs.Searchers.{IsSearcherOf, IsWithin}

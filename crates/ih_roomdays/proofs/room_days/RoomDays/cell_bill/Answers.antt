@@ -3,7 +3,7 @@ use Rattle.ih_plan.specs.BillOf.{as_bill}
 use Rattle.ih_roomdays.specs.Occupancy.{IsOccupancy, IsSmall}
 use Rattle.ih_roomdays.specs.Ledger.{IsLedgerOf}
 use Rattle.ih_roomdays.specs.Parts.{room_day_part}
-use Rattle.ih_roomdays.specs.Rows.{persons_at}
+use Rattle.ih_roomdays.specs.RoomLists.{persons_at}
 use Rattle.ih_roomdays.proofs.People.{crowd-read, crowd-small}
 use Rattle.ih_roomdays.proofs.Standing.{cell-part, place-known, persons-known}
 use Rattle.ih_roomdays.proofs.room_days.RoomDays.cell_bill.Goals as goal

@@ -1,6 +1,6 @@
 use Rattle.std.proofs.Common.{◌∙◌, sym, subst}
 use Rattle.ih_roomdays.specs.Ledger.{IsLedgerOf}
-use Rattle.ih_roomdays.specs.Rows.{IsEntered}
+use Rattle.ih_roomdays.specs.RoomLists.{IsEntered}
 use Rattle.ih_plan.proofs.Whereabouts.{nowhere}
 use Rattle.ih_roomdays.proofs.StayLemmas.{entered-stands}
 use Rattle.ih_roomdays.proofs.room_days.RoomDays.enter.Goals as goal

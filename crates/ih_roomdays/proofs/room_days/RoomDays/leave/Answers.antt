@@ -1,6 +1,6 @@
 use Rattle.std.proofs.Common.{sym, subst}
 use Rattle.ih_roomdays.specs.Ledger.{IsLedgerOf}
-use Rattle.ih_roomdays.specs.Rows.{IsLeft}
+use Rattle.ih_roomdays.specs.RoomLists.{IsLeft}
 use Rattle.ih_roomdays.proofs.StayLemmas.{is-there, left-stands}
 use Rattle.ih_roomdays.proofs.room_days.RoomDays.leave.Goals as goal
 

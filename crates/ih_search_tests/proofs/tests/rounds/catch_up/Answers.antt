@@ -1,6 +1,6 @@
 use Rattle.std.proofs.Common.{sym, subst}
 use Rattle.ih_cellbook.specs.Replicas.{MayFollowUpTo, StandsUpTo}
-use Rattle.ih_cellbook.specs.Told.{TellsOf}
+use Rattle.ih_cellbook.specs.News.{TellsOf}
 use Rattle.ih_cellbook.proofs.Within.{told-follow, told-further}
 use Rattle.ih_search_tests.proofs.tests.rounds.catch_up.Goals as goal
 

@@ -3,7 +3,7 @@ use Rattle.ih_journal.specs.Tried.{Tried}
 use Rattle.ih_journal.specs.Base.{Base}
 use Rattle.ih_cellbook.specs.Legal.{AreLegalButDraws}
 use Rattle.ih_cellbook.specs.Replicas.{IsReplicaOf}
-use Rattle.ih_cellbook.specs.Told.{accepted_of}
+use Rattle.ih_cellbook.specs.News.{accepted_of}
 use Rattle.ih_snapshot.proofs.Following.{HasCome}
 use Rattle.ih_snapshot.proofs.replicas.Replica.follow.Given as goal
 

@@ -6,7 +6,7 @@ use Rattle.ih_plan.specs.Series.{after_all}
 use Rattle.ih_costs.specs.CellLedgers.{AreLedgersOf, timetable_of}
 use Rattle.ih_costs.proofs.RowLemmas.{after-none, after-more}
 use Rattle.ih_costs.proofs.StandLemmas.{kept}
-use Rattle.ih_costs.proofs.rows.+play_in_row.Goals as goal
+use Rattle.ih_costs.proofs.series.+play_in_row.Goals as goal
 
 pub returns-in-None : goal.returns-in-None
 returns-in-None t c =

@@ -2,7 +2,7 @@
 
 ghost use Rattle.std.specs.Prelude.{◌≡◌, ℕ, ◌*◌, ◌^◌, ◌<◌, ◌≤◌, ◌==◌, false, IfOk};
 ghost use Rattle.ih_roomdays.specs.Profiles.{AreInRange, most_persons};
-ghost use Rattle.ih_roomdays.specs.Rows.{AreVacant, HasSpan, IsEntered, IsLeft, is_at};
+ghost use Rattle.ih_roomdays.specs.RoomLists.{AreVacant, HasSpan, IsEntered, IsLeft, is_at};
 
 use crate::occupancies::{Crowd, NOBODY, crowd_of};
 use crate::profiles::Profiles;
@@ -11,7 +11,7 @@ use std::alloc::{AllocError, Global};
 
 /// For each day the persons in each room, and a summary of them.
 #[derive(Drop)]
-pub struct Rows {
+pub struct RoomLists {
     /// For each day a list for each room; its nodes are the persons.
     pub links: Vec<Links>,
     pub rooms: u32,
@@ -22,7 +22,7 @@ pub struct Rows {
     pub crowds: Vec<Crowd>,
 }
 
-impl Rows {
+impl RoomLists {
     /// Nobody is in any room.
     pub fn new(
         alloc: Global,
@@ -30,7 +30,7 @@ impl Rows {
         days: u32,
         persons: u32,
         profiles: Profiles,
-    ) -> Result<Rows, AllocError>
+    ) -> Result<RoomLists, AllocError>
         requires places { rooms * days < 2 ^ 32 }
         requires few_persons { persons ≤ most_persons }
         requires profiles { AreInRange persons profiles }
@@ -38,7 +38,7 @@ impl Rows {
     {
         let links = empty_days(alloc, days, rooms, persons)?;
         let crowds = vec![in alloc; NOBODY; (rooms * days) as usize]?;
-        Ok(Rows {
+        Ok(RoomLists {
             links,
             rooms,
             days,

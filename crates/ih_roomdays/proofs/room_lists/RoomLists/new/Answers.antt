@@ -1,5 +1,5 @@
 use Rattle.ih_roomdays.proofs.Vacant.{vacant}
-use Rattle.ih_roomdays.proofs.rows.Rows.new.Goals as goal
+use Rattle.ih_roomdays.proofs.room_lists.RoomLists.new.Goals as goal
 
 pub returns : goal.returns
 returns c =

@@ -6,7 +6,7 @@ use Rattle.std.proofs.lemmas.List.{get_or-drop, length-drop}
 use Rattle.std.proofs.lemmas.List.Elements.{filter_more}
 use Rattle.ih_journal.specs.Tried.{Tried}
 use Rattle.ih_journal.specs.History.{is_accepted}
-use Rattle.ih_cellbook.specs.Told.{Told, TellsOf, accepted_between, accepted_of}
+use Rattle.ih_cellbook.specs.News.{Told, TellsOf, accepted_between, accepted_of}
 
 -- what is told up to a place, and the entry there
 pub told-more : (H : List Tried) (from until : ℕ) (d : Tried) → from ≤ until → until < length H

@@ -3,7 +3,7 @@ use Rattle.ih_roomdays.specs.Occupancy.{IsCrowd}
 use Rattle.ih_roomdays.proofs.Leavings.{few-left, left-more, linked, shorter-day, there-yet}
 use Rattle.ih_roomdays.proofs.People.{day-read}
 use Rattle.ih_roomdays.proofs.Replacements.{replaced}
-use Rattle.ih_roomdays.proofs.rows.Rows.leave.Goals as goal
+use Rattle.ih_roomdays.proofs.room_lists.RoomLists.leave.Goals as goal
 
 pub remove-requires : goal.remove-requires
 remove-requires c =

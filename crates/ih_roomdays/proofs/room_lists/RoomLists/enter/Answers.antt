@@ -1,11 +1,11 @@
 use Rattle.std.proofs.Common.{arith, refl, sym, ap, subst, ◌∙◌}
 use Rattle.ih_roomdays.specs.Occupancy.{IsCrowd, IsSmall}
 use Rattle.ih_roomdays.specs.Profiles.{profile_of}
-use Rattle.ih_roomdays.specs.Rows.{persons_at}
+use Rattle.ih_roomdays.specs.RoomLists.{persons_at}
 use Rattle.ih_roomdays.proofs.Entries.{entered-more, free, longer-day, nowhere-yet}
 use Rattle.ih_roomdays.proofs.People.{crowd-read, crowd-small, day-read}
 use Rattle.ih_roomdays.proofs.Replacements.{replaced}
-use Rattle.ih_roomdays.proofs.rows.Rows.enter.Goals as goal
+use Rattle.ih_roomdays.proofs.room_lists.RoomLists.enter.Goals as goal
 
 pub push_back-requires-clause-free : goal.push_back-requires-clause-free
 push_back-requires-clause-free c =

@@ -1,5 +1,5 @@
 use Rattle.std.proofs.Common.{length}
-use Rattle.ih_costs.proofs.rows.+play_in_row.Given as goal
+use Rattle.ih_costs.proofs.series.+play_in_row.Given as goal
 
 -- the moves that are left
 abbrev pub decreases-play_in_row : goal.decreases-play_in_row

@@ -8,7 +8,7 @@ use Rattle.ih_plan.specs.Series.{after_all, all_touch}
 use Rattle.ih_costs.specs.CellLedgers.{AreLedgersOf, timetable_of}
 use Rattle.ih_costs.proofs.RowLemmas.{after-none, after-more, gathers-no-moves, gathers-more-moves}
 use Rattle.ih_costs.proofs.StandLemmas.{kept}
-use Rattle.ih_costs.proofs.rows.+play_in_row_noting.Goals as goal
+use Rattle.ih_costs.proofs.series.+play_in_row_noting.Goals as goal
 
 pub returns-in-None-clause-stands : goal.returns-in-None-clause-stands
 returns-in-None-clause-stands t c =
