@@ -17,7 +17,7 @@ use Rattle.ih_fill.specs.Scoring.{Scoring, stay_value, view_of}
 use Rattle.ih_fill.specs.Theatres.{theatre_value, IsFirstTheatre}
 use Rattle.ih_fill.proofs.CandidateLemmas.{cheaper, cheaper-more}
 use Rattle.ih_fill.proofs.CrossedStays.{stayed, bills-balanced}
-use Rattle.ih_fill.proofs.FirstLeast.{first-longer, last-first, only-one}
+use Rattle.ih_fill.proofs.FirstLeast.{first-longer, last-first}
 use Rattle.ih_fill.proofs.ListLemmas.{get-listed, listed-is}
 use Rattle.ih_fill.proofs.ScoreLemmas.{AreEven, before-even, changes-balanced, viewed-balanced, scores-even}
 
@@ -29,9 +29,6 @@ module _ (F : Scoring) (p : PatientNo) (d r : ℕ) where
 
   pub theatre-inside : (n t : ℕ) → IsFirstTheatre F p d r n t → t < n
   theatre-inside n t first = (listed-is in-theatre n t (in-theatre t) first.there).0
-
-  pub theatre-alone : IsFirstTheatre F p d r 1 0
-  theatre-alone = only-one (stay_value F) (in-theatre 0)
 
   pub theatre-stays : (n t : ℕ) → theatre_value F p d r t ≤ℤ theatre_value F p d r n → IsFirstTheatre F p d r n t → IsFirstTheatre F p d r (n + 1) t
   theatre-stays n t most first =
