@@ -35,9 +35,9 @@ pub record IsHeadless (x : JournalRead) (e : JournalRefusal) : Type 0 where
 -- the search that a journal with this heading is of
 abbrev pub base_headed : ℕ → Headed → Base
 base_headed freeze h =
-    record { instance = h.begun.inst.value.draft; start = h.begun.plan; options = h.options; freeze = freeze }
+    record { instance = h.begun.inst.value.draft; start = h.begun.start; options = h.options; freeze = freeze }
 
 -- the search was begun, on a timetable of its instance
 pub record IsBegun (s : StartCall) (x : JournalRead) (h : Headed) : Type 0 where
-  pub plan : IsPlanOf h.begun.inst.value.draft h.begun.plan
+  pub plan : IsPlanOf h.begun.inst.value.draft h.begun.start
   pub headed : IsHeadedBy s x (base_headed s.freeze h) h.lines.now

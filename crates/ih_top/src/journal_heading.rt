@@ -9,7 +9,7 @@ ghost use Rattle.ih_top.specs.JournalFiles.{read_from};
 ghost use Rattle.ih_top.specs.JournalHeading.{HasNoHeading, IsBegun, base_headed};
 
 use crate::journal_lines::first_line;
-use crate::starts::begin;
+use crate::starts::{Begun, begin};
 use ih_desk::Given;
 use ih_inputs::Inputs;
 use ih_journal::{Options, parse_head};
@@ -21,14 +21,14 @@ use std::thread::Threads;
 /// A journal whose heading was read.
 #[derive(Drop)]
 pub struct Headed<'a> {
-    /// What its search starts from.
-    pub begun: Inputs,
+    /// What its search is over.
+    pub begun: Begun,
     pub options: Options,
     /// The bytes behind the heading.
     pub lines: &'a [u8],
 }
 
-/// The options of a journal's heading, and the bytes behind it.
+// The options of a journal's heading, and the bytes behind it.
 fn heading_of(bytes: &[u8]) -> Option<(Options, &[u8])>
     ensures lawful { IfSome result (λ r. IsLawful r.0) }
     ensures seed { IfSome result (λ r. r.0.seed < 2 ^ 64) }
@@ -46,7 +46,7 @@ pub fn given_of<'a>(headed: &'a Headed<'_>, freeze: u32) -> Given<'a>
 {
     Given {
         inst: &*headed.begun.inst,
-        start: &headed.begun.plan,
+        start: &headed.begun.start,
         options: headed.options,
         freeze,
     }

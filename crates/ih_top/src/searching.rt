@@ -80,7 +80,7 @@ fn search_from<R: Threads + Wait + Sync, G: Gate>(
     let begun = begin_search(rt, alloc, call, inputs)?;
     let given = Given {
         inst: &*begun.inst,
-        start: &begun.plan,
+        start: &begun.start,
         options: call.options,
         freeze: call.start.freeze,
     };

@@ -7,14 +7,24 @@ ghost use Rattle.ih_top.specs.Starts.{started};
 
 use ih_inputs::Inputs;
 use ih_parfill::par_fill;
+use ih_plan::Plan;
 use ih_shelf::OpenGate;
+use ih_tables::Instance;
 use ih_words::Solve;
 use std::alloc::{AllocError, Global};
 use std::sync::Wait;
 use std::thread::Threads;
 
-/// The inputs with the timetable that a search starts from: their own, or its greedy fill. `hard` is the weight of a
-/// broken hard rule in a score, `workers` how many fill side by side.
+/// What a search is over.
+#[derive(Drop)]
+pub struct Begun {
+    pub inst: Box<Instance>,
+    /// The timetable that the search starts from.
+    pub start: Plan,
+}
+
+/// What a search of these inputs is over: it starts from their timetable, or from its greedy fill. `hard` is the weight
+/// of a broken hard rule in a score, `workers` how many fill side by side.
 pub fn begin<R: Threads + Wait + Sync>(
     rt: &R,
     alloc: Global,
@@ -22,36 +32,36 @@ pub fn begin<R: Threads + Wait + Sync>(
     is_filled: bool,
     hard: u32,
     workers: u32,
-) -> Result<Inputs, AllocError>
+) -> Result<Begun, AllocError>
     requires plan { IsPlanOf inputs.inst.value.draft inputs.plan }
     requires hard { hard ≤ 1000000 }
     requires some { 0 < workers }
     requires few { workers ≤ 64 }
-    ensures instance { IfOk result (λ i. i.inst.value.draft ≡ inputs.inst.value.draft) }
-    ensures start { IfOk result (λ i. i.plan ≡ started is_filled hard inputs.inst.value.draft inputs.plan) }
-    ensures plan { IfOk result (λ i. IsPlanOf i.inst.value.draft i.plan) }
+    ensures instance { IfOk result (λ b. b.inst.value.draft ≡ inputs.inst.value.draft) }
+    ensures start { IfOk result (λ b. b.start ≡ started is_filled hard inputs.inst.value.draft inputs.plan) }
+    ensures plan { IfOk result (λ b. IsPlanOf b.inst.value.draft b.start) }
 {
-    if !is_filled {
-        return Ok(inputs);
-    }
     let Inputs { inst, plan } = inputs;
-    let plan = par_fill(rt, alloc, &*inst, hard, &plan, workers, &OpenGate)?;
-    Ok(Inputs { inst, plan })
+    if !is_filled {
+        return Ok(Begun { inst, start: plan });
+    }
+    let start = par_fill(rt, alloc, &*inst, hard, &plan, workers, &OpenGate)?;
+    Ok(Begun { inst, start })
 }
 
-/// The inputs with the timetable that the call's search starts from.
+/// What the call's search is over.
 pub fn begin_search<R: Threads + Wait + Sync>(
     rt: &R,
     alloc: Global,
     call: &Solve<'_>,
     inputs: Inputs,
-) -> Result<Inputs, AllocError>
+) -> Result<Begun, AllocError>
     requires plan { IsPlanOf inputs.inst.value.draft inputs.plan }
     requires lawful { IsLawful call.now.options }
-    ensures instance { IfOk result (λ i. i.inst.value.draft ≡ inputs.inst.value.draft) }
+    ensures instance { IfOk result (λ b. b.inst.value.draft ≡ inputs.inst.value.draft) }
     ensures start { IfOk result
-        (λ i. i.plan ≡ started call.now.start.fill call.now.options.hard inputs.inst.value.draft inputs.plan) }
-    ensures plan { IfOk result (λ i. IsPlanOf i.inst.value.draft i.plan) }
+        (λ b. b.start ≡ started call.now.start.fill call.now.options.hard inputs.inst.value.draft inputs.plan) }
+    ensures plan { IfOk result (λ b. IsPlanOf b.inst.value.draft b.start) }
 {
     let options = &call.options;
     begin(
