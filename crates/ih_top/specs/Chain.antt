@@ -21,7 +21,8 @@ of_chains each = record { tried = chain_tried; journal = λ o H. chain_journal o
 abbrev pub ChainEnds : ChainCall → Option Names → Option Names → Status → List ℕ → Type 0
 ChainEnds c old new status text = SearchEnds (of_chains c.length) c.search old new status text
 
--- the solution of the best among so many entries, where there is one, and what is said of it
+-- The solution of the best among so many entries, where there is one, and what is said of it. Of a run the place of the
+-- best and its timetable are there together, or neither is.
 abbrev pub IsBestOfRun : Draft → Option (ℕ × ℤ) → Option Timetable → ℕ → Option BestOutput → Type 0
 IsBestOfRun I (Some best) (Some P) count (Some o) =
     (o.solution.items ≡ solution I P) × (o.text.items ≡ found_text best.0 count I.weights (bill_of I P))

@@ -24,6 +24,7 @@ abbrev pub taken_for : JournalUse → StartCall → JournalRead → Base → Lis
 taken_for Replay = IsReplay
 taken_for Salvage = IsSalvage
 
+-- salvage judges the heading alone: what comes behind it may be anything
 abbrev pub refused_for : JournalUse → StartCall → JournalRead → JournalRefusal → Type 0
 refused_for Replay = IsRefusedJournal
 refused_for Salvage = λ s. IsHeadless
@@ -40,9 +41,11 @@ IsLinesFor Salvage b bytes (Refused e) = ⊥
 
 -- what the journal comes to
 abbrev pub IsOutcomeFor : JournalUse → StartCall → JournalRead → Outcome → Type 0
-IsOutcomeFor journal_use s x o = IsOutcome (taken_for journal_use s x) (refused_for journal_use s x) (said_for journal_use) o
+IsOutcomeFor journal_use s x o =
+    IsOutcome (taken_for journal_use s x) (refused_for journal_use s x) (said_for journal_use) o
 
 -- how the call ends
 abbrev pub JournalUseEnds : JournalUse → ReplayCall → Option Names → Option Names → Status → List ℕ → Type 0
 JournalUseEnds journal_use r old new status text =
-    JournalEnds (taken_for journal_use r.start) (refused_for journal_use r.start) (said_for journal_use) r old new status text
+    JournalEnds (taken_for journal_use r.start) (refused_for journal_use r.start) (said_for journal_use) r old new
+    status text

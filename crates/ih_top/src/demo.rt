@@ -26,7 +26,7 @@ use std::alloc::{AllocError, Global};
 use std::sync::Wait;
 use std::thread::Threads;
 
-/// The weight of a broken hard rule in a score.
+// The weight of a broken hard rule in a score.
 const HARD: u32 = 100_000;
 
 fn demo_options(number: u64) -> Options

@@ -1,8 +1,9 @@
 //! What a search makes to be written and said.
 
-ghost use Rattle.std.specs.Prelude.{◌≡◌, ◌<◌, ◌^◌, IfOk, length, string_bytes};
+ghost use Rattle.std.specs.Prelude.{◌≡◌, ◌<◌, ◌^◌, ◌++◌, IfOk, length, string_bytes};
 ghost use Rattle.ih_plan.specs.{Timetable.IsPlanOf, BillOf.bill_of};
 ghost use Rattle.ih_journal.specs.{Legal.AreLegal, Best.BestIs, Best.IsBest, Tried.tries};
+ghost use Rattle.ih_validate.specs.Report.{report};
 ghost use Rattle.ih_cellbook.specs.Keeping.{IsBase};
 ghost use Rattle.ih_desk.specs.Searching.{base_given};
 ghost use Rattle.ih_top.specs.{Texts.best_line, Texts.found_text, Outputs.HasBestOutput, Outputs.IsBestOutput};
@@ -45,6 +46,23 @@ fn best_line(alloc: Global, place: u32, entries: u32) -> Result<String, AllocErr
     format!(in alloc; "best {place} of {entries}\n")
 }
 
+/// A line, and behind it the report on a timetable.
+pub fn with_report(
+    alloc: Global,
+    line: String,
+    inst: &Instance,
+    plan: &Plan,
+) -> Result<Vec<u8>, AllocError>
+    requires { IsPlanOf inst.now.draft plan.now }
+    ensures { IfOk result (λ text. text.items
+        ≡ string_bytes line ++ report inst.now.draft.weights (bill_of inst.now.draft plan.now)) }
+{
+    let mut text = line.into_bytes();
+    let lines = report(alloc, inst, &bill(inst, plan))?;
+    text.extend_from_slice(lines.as_slice())?;
+    Ok(text)
+}
+
 /// The line of the best, and the report on its timetable.
 pub fn found_text(
     alloc: Global,
@@ -57,10 +75,8 @@ pub fn found_text(
     ensures { IfOk result (λ text. text.items
         ≡ found_text place entries inst.now.draft.weights (bill_of inst.now.draft plan.now)) }
 {
-    let mut text = best_line(alloc, place, entries)?.into_bytes();
-    let lines = report(alloc, inst, &bill(inst, plan))?;
-    text.extend_from_slice(lines.as_slice())?;
-    Ok(text)
+    let line = best_line(alloc, place, entries)?;
+    with_report(alloc, line, inst, plan)
 }
 
 fn best_output(

@@ -8,7 +8,7 @@ ghost use Rattle.ih_desk.specs.Searching.{base_given};
 ghost use Rattle.ih_top.specs.RoundTexts.{IsRoundSaid, FitsEnd, round_line, round_report};
 ghost use Rattle.ih_top.specs.Rounds.{IsFullFrom, IsRoundsOutput};
 
-use crate::output::{BestOutput, Output, seed_of};
+use crate::output::{BestOutput, Output, seed_of, with_report};
 use ih_cellbook::accepted_prices_are_exact;
 use ih_desk::Given;
 use ih_journal::{Entry, Options};
@@ -17,7 +17,6 @@ use ih_rounds::{RoundsEnd, SearchBy, rounds};
 use ih_shelf::Gate;
 use ih_solution::write_solution;
 use ih_tables::Instance;
-use ih_validate::{bill, report};
 use ih_workers::search;
 use itoa::Buffer;
 use std::alloc::{AllocError, Global};
@@ -49,10 +48,8 @@ fn round_report(
     ensures { IfOk result (λ text. text.items
         ≡ round_report round place entries inst.now.draft.weights (bill_of inst.now.draft plan.now)) }
 {
-    let mut text = round_line(alloc, round, place, entries)?.into_bytes();
-    let lines = report(alloc, inst, &bill(inst, plan))?;
-    text.extend_from_slice(lines.as_slice())?;
-    Ok(text)
+    let line = round_line(alloc, round, place, entries)?;
+    with_report(alloc, line, inst, plan)
 }
 
 // The solution and the report of the best of all rounds, where they have one.
