@@ -19,10 +19,13 @@ use Rattle.ih_words.specs.Replay.{ReplayCall}
 use Rattle.ih_shelf.specs.Outside.{Names, bytes_at}
 use Rattle.ih_top.specs.declared.limits.TheConstants.{MAX_JOURNAL}
 use Rattle.ih_top.specs.declared.status.Status.{Status}
-use Rattle.ih_top.specs.declared.status.Status.TheVariants.{ReadFault, InstanceRefused, StartRefused, OutOfMemory, TooLong}
-use Rattle.ih_top.specs.declared.status.Role.TheVariants.{Instance, Solution, Journal}
-use Rattle.ih_inputs.specs.Reading.{InputFiles, HasInputs, HasPlan, HasSolution, IsLongerThan, IsNext}
-use Rattle.ih_top.specs.Inputs.{EndsUnread, replay_inputs}
+use Rattle.ih_top.specs.declared.status.Status.TheVariants.{ReadFault, OutOfMemory, TooLong}
+use Rattle.ih_top.specs.declared.status.Role.TheVariants.{Journal}
+use Rattle.ih_inputs.specs.declared.error.InputError.{InputError}
+use Rattle.ih_inputs.specs.declared.error.InputError.TheVariants.{ReadFault as Unreadable, TooLong as Long, InstanceRefused as NoInstance, SolutionRefused as NoSolution, OutOfMemory as NoRoom}
+use Rattle.ih_inputs.specs.declared.error.InputRole.TheVariants.{Instance as InstanceInput, Solution as SolutionInput}
+use Rattle.ih_inputs.specs.Reading.{InputFiles, HasInputs, HasPlan, HasSolution, IsLongerThan, IsNext, IsUnread}
+use Rattle.ih_top.specs.Inputs.{EndsUnread, replay_inputs, unread_status}
 use Rattle.ih_top.specs.Starts.{started}
 use Rattle.ih_top.specs.JournalEnds.{IsRefused}
 use Rattle.ih_top.specs.JournalFiles.{EndsUnreadJournal, HasRead, JournalRead}
@@ -45,15 +48,17 @@ module _ (files : Names) (r : InputFiles) (I : Draft) (P : Timetable) (has : Has
       subst (λ (X : Draft). HasSolution name X P files) here (subst (λ o. HasPlan (Some files) o I P) next.named has.plan)
 
   -- with no fault, only lack of memory stops the reading
-  pub accepted : (status : Status) (text : List ℕ) → HasNoFault status → EndsUnread (Some files) r status text → status ≡ OutOfMemory
-  accepted (ReadFault role) text calm h = absurd calm
-  accepted (InstanceRefused e) text calm h = absurd (not-both (instance (bytes_at files r.instance)) I e has.instance.read h.0.read)
-  accepted (StartRefused e) text calm (J, name, next, refused, said) =
+  by-error : (e : InputError) → HasNoFault (unread_status e) → IsUnread (Some files) r e → unread_status e ≡ OutOfMemory
+  by-error (Unreadable role) calm h = absurd calm
+  by-error (Long InstanceInput) calm h = absurd (let short = has.instance.short in let long = h in omega arith)
+  by-error (Long SolutionInput) calm (J, name, next, long) = absurd (let short = (given J name next).short in omega arith)
+  by-error (NoInstance e) calm h = absurd (not-both (instance (bytes_at files r.instance)) I e has.instance.read h.read)
+  by-error (NoSolution e) calm (J, name, next, refused) =
       absurd (not-both (plan_in J (bytes_at files name)) P e (given J name next).read refused.read)
-  accepted OutOfMemory text calm h = refl
-  accepted (TooLong Instance) text calm h = absurd (let short = has.instance.short in let long = h.0 in omega arith)
-  accepted (TooLong Solution) text calm (J, name, next, long, said) = absurd (let short = (given J name next).short in omega arith)
-  accepted status text calm h = absurd h
+  by-error NoRoom calm h = refl
+
+  pub accepted : (status : Status) (text : List ℕ) → HasNoFault status → EndsUnread (Some files) r status text → status ≡ OutOfMemory
+  accepted status text calm (e, is, said, why) = is ∙ by-error e (subst HasNoFault is calm) why
 
 -- ---- journals that are accepted
 
@@ -119,9 +124,5 @@ module _ (files : Names) (r : ReplayCall) (x : JournalRead) (has : HasRead (Some
   -- with no fault, only lack of memory stops the reading
   pub journal-accepted : (status : Status) (text : List ℕ) → HasNoFault status → EndsUnreadJournal (Some files) r status text → status ≡ OutOfMemory
   journal-accepted (ReadFault role) text calm h = absurd calm
-  journal-accepted (InstanceRefused e) text calm h = start-accepted (InstanceRefused e) text calm h
-  journal-accepted (StartRefused e) text calm h = start-accepted (StartRefused e) text calm h
-  journal-accepted OutOfMemory text calm h = refl
   journal-accepted (TooLong Journal) text calm h = absurd (not-long h.1)
-  journal-accepted (TooLong role) text calm h = start-accepted (TooLong role) text calm h
-  journal-accepted status text calm h = absurd h
+  journal-accepted status text calm h = start-accepted status text calm h

@@ -7,17 +7,19 @@ use Rattle.ih_advise.specs.Texts.{advice_text}
 use Rattle.ih_words.specs.Advise.{AdviseCall}
 use Rattle.ih_shelf.specs.Outside.{Names}
 use Rattle.ih_top.specs.declared.answer.Answer.{Answer}
-use Rattle.ih_top.specs.declared.status.Status.TheVariants.{Done}
+use Rattle.ih_top.specs.declared.status.Status.TheVariants.{Done, Infeasible}
 use Rattle.ih_top.specs.Advise.{AdviseEnds, advise_inputs}
 use Rattle.ih_top.specs.Answers.{Answers, IsSaid}
 use Rattle.ih_inputs.specs.Reading.{HasInputs}
 use Rattle.ih_top.proofs.Saying.{IsAnswerable, said-answer, unsaid-by}
+use Rattle.ih_top.proofs.Stopping.{unread-memory, unread-only}
 
 module _ (a : AdviseCall) (files : Option Names) where
   pub advise-answerable : IsAnswerable (AdviseEnds a files)
   advise-answerable = record {
-    unsaid = λ status text some h. unsaid-by (AdviseEnds a files) text (λ said. said) (λ none. absurd none) status h;
-    memory = λ status text h. refl;
+    unsaid = λ status text some h. unsaid-by (AdviseEnds a files) text (λ said. said)
+        (λ broken. absurd (unread-only files (advise_inputs a) Infeasible text broken)) status h;
+    memory = λ status text h. unread-memory files (advise_inputs a);
   }
 
   -- the text was made

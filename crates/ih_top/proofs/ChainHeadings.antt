@@ -55,10 +55,10 @@ pub chains-fit : ChainJournalsAreShort → ChainJournalsFit
 chains-fit short files c b H limits search =
     let legal : AreLegalButDraws b (chain_tries H) = λ k e there. (search.full.legal k e there).entry in
     let valid = instance_sound (bytes_at files c.search.instance) b.instance search.base.start.inputs.instance.read in
-    let len = short b c.length H (record { valid = valid; base = search.given; seed = search.seed }) limits.short search.full.legal in
+    let len = short b c.length H (record { valid = valid; base = search.sound.given; seed = search.seed }) limits.short search.full.legal in
     let few = (legal-few b (chain_tries H) legal).most in
     let many = length-map H chain_tried in
-    let all = search.given.lawful.entries in
+    let all = search.sound.given.lawful.entries in
     let words : most_entries b.options * c.length ≤ 1000000 = subst (λ (o : Options). most_entries o * c.length ≤ 1000000) (sym search.base.options) limits.few in
     within (length H) (most_entries b.options) c.length (length (chain_journal b.options c.length H)) (omega (arith, few, many)) all words len
 

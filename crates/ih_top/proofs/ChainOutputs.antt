@@ -83,11 +83,9 @@ chain-made I P o freeze each r out fits lawful seed free is journal best =
     let b : Base = base_with I P o 0 in
     subst (λ (n : ℕ). IsOutput (of_chains each) (base_with I P o n) out) (sym free) (record {
       history = r.entries;
-      given = record { start = fits; lawful = lawful };
       seed = seed;
       full = is.full;
-      agrees = run-agrees b r.entries refl;
-      exact = is.exact;
+      sound = record { given = record { start = fits; lawful = lawful }; agrees = run-agrees b r.entries refl; exact = is.exact };
       journal = journal ∙ ap₂ (λ options n. chain_journal options n r.entries) is.options is.each;
       best = run-best b each r out.best is best;
     })

@@ -13,17 +13,19 @@ use Rattle.ih_words.specs.Rounds.{RoundsCall}
 use Rattle.ih_words.specs.Words.{Call, solve, replay, salvage, check, chain, rounds, gen, demo, advise}
 use Rattle.ih_shelf.specs.Outside.{IsWritten, MayBeWritten, Names, IfTold}
 use Rattle.ih_top.specs.declared.status.Status.{Status}
-use Rattle.ih_top.specs.declared.status.Status.TheVariants.{Done, Usage, WriteFault, OutOfMemory}
+use Rattle.ih_top.specs.declared.status.Status.TheVariants.{Done, Usage, WriteFault, OutOfMemory, Infeasible}
 use Rattle.ih_top.specs.declared.status.Role.TheVariants.{Out}
 use Rattle.ih_top.specs.declared.answer.Answer.{Answer}
 use Rattle.ih_top.specs.Answers.{IsConcluded, IsSaid}
-use Rattle.ih_top.specs.Texts.{done_text, memory_text, salvaged_text, usage_text}
+use Rattle.ih_inputs.specs.Texts.{memory_text}
+use Rattle.ih_top.specs.Texts.{done_text, salvaged_text, usage_text}
 use Rattle.ih_top.specs.Rounds.{AreDone, RoundsEnds}
 use Rattle.ih_top.specs.Chain.{of_chains}
 use Rattle.ih_top.specs.Searches.{IsDone, JournalForm, SearchEnds}
 use Rattle.ih_top.specs.Solve.{of_moves}
 use Rattle.ih_top.specs.Writes.{Unchanged}
-use Rattle.ih_top.specs.Advise.{AdviseEnds}
+use Rattle.ih_top.specs.Advise.{AdviseEnds, advise_inputs}
+use Rattle.ih_top.specs.Inputs.{check_inputs, replay_inputs}
 use Rattle.ih_top.specs.Check.{CheckEnds}
 use Rattle.ih_top.specs.Demo.{DemoEnds}
 use Rattle.ih_top.specs.Generate.{GenEnds}
@@ -32,10 +34,11 @@ use Rattle.ih_top.specs.JournalFiles.{JournalRead}
 use Rattle.ih_top.specs.JournalHeading.{IsHeadless}
 use Rattle.ih_top.specs.Replay.{IsRefusedJournal, IsReplay}
 use Rattle.ih_top.specs.Salvage.{IsSalvage}
-use Rattle.ih_top.specs.Ends.{CallEnds, Ends, Leaves, UsageEnds}
+use Rattle.ih_top.specs.Ends.{CallEnds, Ends, IsUntouched, Leaves, UsageEnds}
 use Rattle.ih_top.proofs.RoundsWriting.{rounds-done-found, rounds-none-begun}
 use Rattle.ih_top.proofs.AdviseAnswers.{advise-answerable}
-use Rattle.ih_top.proofs.Saying.{IsAnswerable, ended, memory-ended, said-answer, unsaid-by}
+use Rattle.ih_top.proofs.Saying.{IsAnswerable, ended, memory-ended, said-answer, said-status, unsaid-by}
+use Rattle.ih_top.proofs.Stopping.{unread-memory, unread-only}
 use Rattle.ih_top.proofs.Writing.{begun, done-found, none-begun, writing-answerable}
 
 -- nothing changes where the names are those that were there
@@ -60,7 +63,7 @@ module _ (c : CheckCall) (files : Option Names) where
   pub check-answerable : IsAnswerable (CheckEnds c files)
   check-answerable = record {
     unsaid = λ status text some h. unsaid-by (CheckEnds c files) text (λ whole. whole.0) (λ broken. broken.0) status h;
-    memory = λ status text h. refl;
+    memory = λ status text h. unread-memory files (check_inputs c);
   }
 
 -- ---- replay and salvage
@@ -91,7 +94,8 @@ module _ (taken : JournalRead → Base → List Entry → Type 0) (refused : Jou
 
   pub journal-answerable : IsAnswerable (JournalEnds taken refused said r old new)
   journal-answerable = record {
-    unsaid = λ status text some h. unsaid-by OfJournal text (λ done. done) (λ none. absurd none.1) status h;
+    unsaid = λ status text some h. unsaid-by OfJournal text (λ done. done)
+        (λ broken. absurd (unread-only old (replay_inputs r) Infeasible text broken.1)) status h;
     memory = journal-memory;
   }
 
@@ -148,10 +152,11 @@ usage-answerable = record {
 }
 
 -- the usage was put out, as far as that went
-pub usage-ended : (received part : List ℕ → Type 0) (a : Answer) (result : Status) → IsSaid Usage usage_text a
-    → IsConcluded a.status a.text.items received part result → Ends UsageEnds received part result
-usage-ended received part a result said concluded =
-    ended UsageEnds usage-answerable received part a result (said-answer UsageEnds usage-answerable Usage usage_text a refl said) concluded
+pub usage-ended : (cause : Status → Type 0) (received part : List ℕ → Type 0) (a : Answer) (result : Status) → cause Usage → cause OutOfMemory
+    → IsSaid Usage usage_text a → IsConcluded a.status a.text.items received part result → Ends UsageEnds cause received part result
+usage-ended cause received part a result why memory said concluded =
+    ended UsageEnds usage-answerable cause received part a result (said-answer UsageEnds usage-answerable Usage usage_text a refl said)
+    (said-status cause Usage usage_text a why memory said) concluded
 
 -- ---- any words
 
@@ -165,15 +170,21 @@ call-memory : (call : Call) (files : Option Names) → CallEnds call files files
 call-memory (solve s) files = (inl (told-same files files refl), refl)
 call-memory (replay r) files = (inl (told-same files files refl), refl)
 call-memory (salvage r) files = (inl (told-same files files refl), refl)
-call-memory (check c) files = (told-same files files refl, refl)
+call-memory (check c) files = (told-same files files refl, unread-memory files (check_inputs c))
 call-memory (chain c) files = (inl (told-same files files refl), refl)
 call-memory (rounds r) files = (inl (told-same files files refl), refl)
-call-memory (advise a) files = (told-same files files refl, refl)
+call-memory (advise a) files = (told-same files files refl, unread-memory files (advise_inputs a))
 call-memory (gen g) files = (unwritten g.out _ files, refl)
 call-memory (demo number) files = (told-same files files refl, refl)
 
 -- whatever call the words name, and also where they name none
-pub memory-leaves : (call : Option Call) (files : Option Names) (received part : List ℕ → Type 0) → received memory_text ⊎ part memory_text
-    → Leaves call files files received part OutOfMemory
-memory-leaves None files received part h = (told-same files files refl, memory-ended UsageEnds received part refl h)
-memory-leaves (Some call) files received part h = memory-ended (CallEnds call files files) received part (call-memory call files) h
+pub memory-leaves : (call : Option Call) (files : Option Names) (cause : Status → Type 0) (received part : List ℕ → Type 0) → cause OutOfMemory
+    → received memory_text ⊎ part memory_text → Leaves call files files cause received part OutOfMemory
+memory-leaves None files cause received part why h = (told-same files files refl, memory-ended UsageEnds cause received part refl why h)
+memory-leaves (Some call) files cause received part why h = memory-ended (CallEnds call files files) cause received part (call-memory call files) why h
+
+-- a shelf that nothing was asked of
+pub untouched : {X : Type 0} (call : Option Call) (shelf : X) → IsUntouched call shelf shelf
+untouched None shelf = refl
+untouched (Some (demo number)) shelf = refl
+untouched (Some call) shelf = tt

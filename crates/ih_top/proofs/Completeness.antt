@@ -45,11 +45,11 @@ module _ (reads reads' writes writes' puts puts' : ℕ) (calm : (Rose reads read
   no-fault status cause = tt
 
 -- what holds of each end of a family, and where memory runs out, holds of the status that a call of it ends in
-reached : (answer : Status → Type 0) (ends : Status → List ℕ → Type 0) (received part : List ℕ → Type 0) → answer OutOfMemory
+reached : (answer : Status → Type 0) (ends : Status → List ℕ → Type 0) (why : Status → Type 0) (received part : List ℕ → Type 0) → answer OutOfMemory
     → ((status : Status) (text : List ℕ) → HasNoFault status → ends status text → answer status)
-    → (status : Status) → HasNoFault status → Ends ends received part status → answer status
-reached answer ends received part memory f OutOfMemory calm h = memory
-reached answer ends received part memory f status calm (text, h, g) = f status text calm h
+    → (status : Status) → HasNoFault status → Ends ends why received part status → answer status
+reached answer ends why received part memory f OutOfMemory calm h = memory
+reached answer ends why received part memory f status calm (text, h, g) = f status text calm h
 
 -- ---- the commands
 
@@ -135,10 +135,10 @@ memory-answered (advise a) = inr refl
 memory-answered (gen g) = inr refl
 memory-answered (demo number) = inr (inr refl)
 
-pub complete : (call : Call) (old new : Option Names) (received part : List ℕ → Type 0) (reads reads' writes writes' puts puts' : ℕ) (status : Status)
-    → Leaves (Some call) old new received part status → HasCause reads reads' writes writes' puts puts' status
+pub complete : (call : Call) (old new : Option Names) (why : Status → Type 0) (received part : List ℕ → Type 0) (reads reads' writes writes' puts puts' : ℕ) (status : Status)
+    → Leaves (Some call) old new why received part status → HasCause reads reads' writes writes' puts puts' status
     → IsComplete (Some call) old (Rose reads reads') (Rose writes writes') (Rose puts puts') status
-complete call None new received part reads reads' writes writes' puts puts' status ends cause = tt
-complete call (Some files) new received part reads reads' writes writes' puts puts' status ends cause = λ has calm kept heard.
-    reached (IsAnswered call) (CallEnds call (Some files) new) received part (memory-answered call) (answered call files new has) status
+complete call None new why received part reads reads' writes writes' puts puts' status ends cause = tt
+complete call (Some files) new why received part reads reads' writes writes' puts puts' status ends cause = λ has calm kept heard.
+    reached (IsAnswered call) (CallEnds call (Some files) new) why received part (memory-answered call) (answered call files new has) status
     (no-fault reads reads' writes writes' puts puts' calm kept heard status cause) ends

@@ -21,14 +21,19 @@ use Rattle.ih_inputs.specs.declared.reading.TheConstants.{MAX_FILE}
 use Rattle.ih_top.specs.declared.status.Role.TheVariants.{Instance, Solution}
 use Rattle.ih_top.specs.declared.status.Status.{Status}
 use Rattle.ih_top.specs.declared.status.Status.TheVariants.{Done, ReadFault, InstanceRefused, StartRefused, NoneFound, WriteFault, OutOfMemory, TooLong}
-use Rattle.ih_inputs.specs.Reading.{HasInputs, IsNext, InputFiles}
-use Rattle.ih_top.specs.Inputs.{EndsUnread, solve_inputs}
+use Rattle.ih_inputs.specs.declared.error.InputError.{InputError}
+use Rattle.ih_inputs.specs.declared.error.InputError.TheVariants.{ReadFault as Unreadable, TooLong as Long, InstanceRefused as NoInstance, SolutionRefused as NoSolution, OutOfMemory as NoRoom}
+use Rattle.ih_inputs.specs.declared.error.InputRole.TheVariants.{Instance as InstanceInput, Solution as SolutionInput}
+use Rattle.ih_inputs.specs.Reading.{HasInputs, IsNext, IsUnread, InputFiles}
+use Rattle.ih_top.specs.Inputs.{EndsUnread, solve_inputs, unread_said, unread_status}
 use Rattle.ih_top.specs.Laws.{EndTheSame, HasNoFault, LoneSearchesEndAlike}
 use Rattle.ih_top.specs.Searches.{HasFoundNone, IsDone, JournalForm, SearchEnds, tries_in}
 use Rattle.ih_top.specs.Writes.{OthersUnchanged, Unchanged}
-use Rattle.ih_top.specs.Texts.{instance_refused_text, none_found_text, solution_refused_text, too_long_text}
+use Rattle.ih_inputs.specs.Texts.{instance_refused_text, solution_refused_text, too_long_text}
+use Rattle.ih_top.specs.Texts.{none_found_text}
 use Rattle.ih_top.proofs.Alike.{IsTelling, searches-alike, searches-same}
 use Rattle.ih_top.proofs.Accepted.{accepted}
+use Rattle.ih_top.proofs.Stopping.{named}
 use Rattle.ih_top.proofs.FaultlessEnds.{IsFaultless, search-faultless}
 
 -- ---- how files are refused follows from them
@@ -71,27 +76,27 @@ module _ (files : Names) (r : InputFiles) where
       ap (next-verdict files I) (sym next.named)
       ∙ ap₂ (first-verdict files r) (within MAX_FILE (length (bytes_at files r.instance)) next.instance.short) (sym next.instance.read)
 
-  refused-so : (status : Status) (text : List ℕ) → HasNoFault status → status ≢ OutOfMemory → EndsUnread (Some files) r status text
-      → ◌≡◌ {A = Status × List ℕ} (status, text) (verdict files r)
-  refused-so (ReadFault role) text calm room h = absurd calm
-  refused-so (InstanceRefused e) text calm room h =
-      ap (λ (t : List ℕ). let both : Status × List ℕ = (InstanceRefused e, t) in both) h.1
-      ∙ ap₂ (first-verdict files r) (within MAX_FILE (length (bytes_at files r.instance)) h.0.short) (sym h.0.read)
-  refused-so (StartRefused e) text calm room (I, name, next, refused, said) =
-      ap (λ (t : List ℕ). let both : Status × List ℕ = (StartRefused e, t) in both) said
-      ∙ (ap₂ (λ (long : Bool) (plan : Result Timetable Refusal). start-verdict long plan name)
-      (within MAX_FILE (length (bytes_at files name)) refused.short) (sym refused.read)
-      ∙ at-start I name next)
-  refused-so OutOfMemory text calm room h = absurd (room refl)
-  refused-so (TooLong Instance) text calm room h =
-      ap (λ (t : List ℕ). let both : Status × List ℕ = (TooLong Instance, t) in both) h.1
-      ∙ ap (λ (long : Bool). first-verdict files r long (instance (bytes_at files r.instance))) (over MAX_FILE (length (bytes_at files r.instance)) h.0)
-  refused-so (TooLong Solution) text calm room (I, name, next, long, said) =
-      ap (λ (t : List ℕ). let both : Status × List ℕ = (TooLong Solution, t) in both) said
+  by-error : (e : InputError) → HasNoFault (unread_status e) → unread_status e ≢ OutOfMemory → IsUnread (Some files) r e
+      → ◌≡◌ {A = Status × List ℕ} (unread_status e, unread_said r e) (verdict files r)
+  by-error (Unreadable role) calm room h = absurd calm
+  by-error (Long InstanceInput) calm room h =
+      ap (λ (long : Bool). first-verdict files r long (instance (bytes_at files r.instance))) (over MAX_FILE (length (bytes_at files r.instance)) h)
+  by-error (Long SolutionInput) calm room (I, name, next, long) =
+      ap (λ (n : List ℕ). let both : Status × List ℕ = (TooLong Solution, too_long_text n) in both) (named r name next.named)
       ∙ (ap (λ (over : Bool). start-verdict over (plan_in I (bytes_at files name)) name) (over MAX_FILE (length (bytes_at files name)) long)
       ∙ at-start I name next)
-  refused-so (WriteFault role) text calm room h = absurd calm
-  refused-so status text calm room h = absurd h
+  by-error (NoInstance e) calm room h = ap₂ (first-verdict files r) (within MAX_FILE (length (bytes_at files r.instance)) h.short) (sym h.read)
+  by-error (NoSolution e) calm room (I, name, next, refused) =
+      ap₂ (λ (long : Bool) (plan : Result Timetable Refusal). start-verdict long plan name)
+      (within MAX_FILE (length (bytes_at files name)) refused.short) (sym refused.read)
+      ∙ at-start I name next
+  by-error NoRoom calm room h = absurd (room refl)
+
+  refused-so : (status : Status) (text : List ℕ) → HasNoFault status → status ≢ OutOfMemory → EndsUnread (Some files) r status text
+      → ◌≡◌ {A = Status × List ℕ} (status, text) (verdict files r)
+  refused-so status text calm room (e, is, said, why) =
+      ap₂ (λ (s : Status) (t : List ℕ). let both : Status × List ℕ = (s, t) in both) is said
+      ∙ by-error e (subst HasNoFault is calm) (λ lacks. room (is ∙ lacks)) why
 
 -- ---- three kinds of ends
 

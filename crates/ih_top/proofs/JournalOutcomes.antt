@@ -30,8 +30,10 @@ use Rattle.ih_top.specs.declared.journals.JournalUse.{JournalUse}
 use Rattle.ih_top.specs.declared.journals.JournalUse.TheVariants.{Replay, Salvage}
 use Rattle.ih_top.specs.JournalUses.{IsLinesFor, IsOutcomeFor, refused_for}
 use Rattle.ih_top.specs.Writes.{Unchanged}
-use Rattle.ih_top.specs.Texts.{done_text, memory_text, salvaged_text}
+use Rattle.ih_inputs.specs.Texts.{memory_text}
+use Rattle.ih_top.specs.Texts.{done_text, salvaged_text}
 use Rattle.ih_top.proofs.Saying.{IsAnswerable, answers-weaker, unsaid-by}
+use Rattle.ih_top.proofs.Stopping.{unread-lack, unread-only}
 use Rattle.ih_top.proofs.Writing.{begun}
 
 -- ---- the ends of an outcome
@@ -126,7 +128,7 @@ module _ (s : StartCall) (x : JournalRead) (b : Base) (lines : List ℕ) (headed
   replay-outcome (Taken best) t = record {
     base = b;
     history = t.history;
-    taken_is = record { headed = subst (IsHeadedBy s x b) t.whole headed; given = t.given; full = t.full; agrees = t.agrees; exact = t.exact };
+    taken_is = record { headed = subst (IsHeadedBy s x b) t.whole headed; full = t.full; sound = t.sound };
     output = t.output;
   }
 
@@ -134,7 +136,7 @@ module _ (s : StartCall) (x : JournalRead) (b : Base) (lines : List ℕ) (headed
   salvage-outcome best t = record {
     base = b;
     history = t.history;
-    taken_is = record { bytes = lines; rest = t.rest; headed = headed; given = t.given; begins = t.begins; agrees = t.agrees; exact = t.exact };
+    taken_is = record { bytes = lines; rest = t.rest; headed = headed; begins = t.begins; sound = t.sound };
     output = t.output;
   }
 
@@ -157,14 +159,14 @@ headless-for Salvage s x e h = h
 module _ (taken : JournalRead → Base → List Entry → Type 0) (refused : JournalRead → JournalRefusal → Type 0) (said : Base → List Tried → ℕ → List ℕ)
     (r : ReplayCall) (old new : Option Names) (kept : IfTold Unchanged old new) where
   pub unread-journal : (status : Status) (text : List ℕ) → EndsUnreadJournal old r status text → JournalEnds taken refused said r old new status text
-  unread-journal Done text h = absurd h
-  unread-journal NoneFound text h = absurd h
-  unread-journal (WriteFault role) text h = absurd h
-  unread-journal OutOfMemory text h = (inl kept, h)
-  unread-journal (JournalRefused e) text h = absurd h
+  unread-journal Done text h = absurd (unread-only old (replay_inputs r) Done text h)
+  unread-journal NoneFound text h = absurd (unread-only old (replay_inputs r) NoneFound text h)
+  unread-journal (WriteFault role) text h = absurd (unread-only old (replay_inputs r) (WriteFault role) text h)
+  unread-journal OutOfMemory text h = (inl kept, unread-lack old (replay_inputs r) text h)
+  unread-journal (JournalRefused e) text h = absurd (unread-only old (replay_inputs r) (JournalRefused e) text h)
   unread-journal status text h = (kept, h)
 
   pub unread-start : (status : Status) (text : List ℕ) → EndsUnread old (replay_inputs r) status text → JournalEnds taken refused said r old new status text
-  unread-start (ReadFault Journal) text h = absurd h
-  unread-start (TooLong Journal) text h = absurd h
+  unread-start (ReadFault Journal) text h = absurd (unread-only old (replay_inputs r) (ReadFault Journal) text h)
+  unread-start (TooLong Journal) text h = absurd (unread-only old (replay_inputs r) (TooLong Journal) text h)
   unread-start status text h = unread-journal status text h

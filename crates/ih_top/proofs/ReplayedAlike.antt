@@ -55,9 +55,9 @@ search-valid files s b H search = instance_sound (bytes_at files s.instance) b.i
 pub journals-fit : LegalJournalsAreShort → JournalsFit
 journals-fit short files s b H search =
     let legal : AreLegalButDraws b (tries H) = λ k e there_is. (search.full.legal k e there_is).entry in
-    let len = short b H (record { valid = search-valid files s b H search; base = search.given; seed = search.seed }) legal in
+    let len = short b H (record { valid = search-valid files s b H search; base = search.sound.given; seed = search.seed }) legal in
     let few = (legal-few b (tries H) legal).most in
-    let most = search.given.lawful.entries in
+    let most = search.sound.given.lawful.entries in
     let many = length-map H tried in
     omega (arith, len, few, most, many)
 
@@ -111,7 +111,7 @@ module _ (taken_law : LegalJournalsAreTaken) (differ : LegalJournalsDiffer) (tex
           ∙ ap (λ (fill : Bool). started fill b.options.hard b.instance search.base.start.plan) (sym of.fill);
       freeze = search.base.start.started.freeze ∙ sym of.freeze;
     };
-    lawful = search.given.lawful;
+    lawful = search.sound.given.lawful;
     seed = search.seed;
     joins = refl;
   }
@@ -122,14 +122,14 @@ module _ (taken_law : LegalJournalsAreTaken) (differ : LegalJournalsDiffer) (tex
       let same = same-search there r found has b (lines_from b.options 0 H) headed y c (lines_from c.options 0 G) other is.headed in
       let full = subst (λ (x : Base). IsFull x 1 (tries G)) same.0 is.full in
       let lines : lines_from b.options 0 G ≡ lines_from b.options 0 H = ap (λ (x : Base). lines_from x.options 0 G) (sym same.0) ∙ same.1 in
-      (same.0, differ b G H valid search.given full.legal search.full.legal lines)
+      (same.0, differ b G H valid search.sound.given full.legal search.full.legal lines)
 
   one-salvage : (y : JournalRead) (c : Base) (G : List Entry) → HasRead (Some there) r y → IsSalvage r.start y c G → (c ≡ b) × (G ≡ H)
   one-salvage y c G other is =
       let same = same-search there r found has b (lines_from b.options 0 H) headed y c is.bytes other is.headed in
       let begins = subst (λ (x : Base). Begins x (lines_from b.options 0 H) G is.rest) same.0
       (subst (λ (t : List ℕ). Begins c t G is.rest) same.1 is.begins) in
-      (same.0, all-salvaged taken_law differ texts b valid search.given H G is.rest search.full.legal begins)
+      (same.0, all-salvaged taken_law differ texts b valid search.sound.given H G is.rest search.full.legal begins)
 
   module _ (taken : JournalRead → Base → List Entry → Type 0) (refused : JournalRead → JournalRefusal → Type 0) (said : Base → List Tried → ℕ → List ℕ)
       (one : (y : JournalRead) (c : Base) (G : List Entry) → HasRead (Some there) r y → taken y c G → (c ≡ b) × (G ≡ H))

@@ -6,7 +6,7 @@ use Rattle.ih_shelf.specs.declared.outside.WriteError.TheVariants.{Fault, OutOfM
 use Rattle.ih_top.specs.declared.answer.Answer.{Answer}
 use Rattle.ih_top.specs.declared.status.Status.{Status}
 use Rattle.ih_top.specs.declared.status.Status.TheVariants.{Done, ReadFault, WriteFault, OutOfMemory, Infeasible}
-use Rattle.ih_top.specs.Texts.{memory_text}
+use Rattle.ih_inputs.specs.Texts.{memory_text}
 use Rattle.ih_top.specs.Ends.{Ends, HasCause}
 use Rattle.ih_top.specs.Answers.{unsaid, Answers, IsConcluded, HasPutCause, HasFileCause, IsSaid, IsSaidOf, IsUnwritten}
 
@@ -59,16 +59,16 @@ unsaid-other status other = unsaid-by (λ s text. s ≢ OutOfMemory) [] unsaid-a
     unsaid-apart x e = let clash : WriteFault None ≡ OutOfMemory = e in cc
 
 -- a status other than lack of memory
-at-status : (ends : Status → List ℕ → Type 0) (received part : List ℕ → Type 0) (status : Status) (text : List ℕ)
-    → status ≢ OutOfMemory → ends status text → received text → Ends ends received part status
-at-status ends received part OutOfMemory text other h g = absurd (other refl)
-at-status ends received part status text other h g = (text, h, g)
+at-status : (ends : Status → List ℕ → Type 0) (cause : Status → Type 0) (received part : List ℕ → Type 0) (status : Status) (text : List ℕ)
+    → status ≢ OutOfMemory → ends status text → received text → Ends ends cause received part status
+at-status ends cause received part OutOfMemory text other h g = absurd (other refl)
+at-status ends cause received part status text other h g = (text, h, g)
 
 -- that memory ran out was said, as far as that went
-pub memory-ended : (ends : Status → List ℕ → Type 0) (received part : List ℕ → Type 0) → ends OutOfMemory memory_text → received memory_text ⊎ part memory_text
-    → Ends ends received part OutOfMemory
-memory-ended ends received part h (inl g) = inl (memory_text, h, g)
-memory-ended ends received part h (inr p) = inr (OutOfMemory, memory_text, h, p)
+pub memory-ended : (ends : Status → List ℕ → Type 0) (cause : Status → Type 0) (received part : List ℕ → Type 0) → ends OutOfMemory memory_text
+    → cause OutOfMemory → received memory_text ⊎ part memory_text → Ends ends cause received part OutOfMemory
+memory-ended ends cause received part h why (inl g) = inl (memory_text, h, g)
+memory-ended ends cause received part h why (inr p) = inr (OutOfMemory, memory_text, h, why, p)
 
 -- whatever the answer tells, memory may run out there
 end-memory : (ends : Status → List ℕ → Type 0) (able : IsAnswerable ends) (a : Answer) → Answers ends a → ends OutOfMemory memory_text
@@ -76,21 +76,26 @@ end-memory ends able a (inl (memory, h)) = h
 end-memory ends able a (inr h) = able.memory a.status a.text.items h
 
 -- the answer's text was put out, as far as that went
-pub ended : (ends : Status → List ℕ → Type 0) (able : IsAnswerable ends) (received part : List ℕ → Type 0) (a : Answer) (result : Status)
-    → Answers ends a → IsConcluded a.status a.text.items received part result → Ends ends received part result
-ended ends able received part a result h (inl (here, there, rest)) =
-    subst (Ends ends received part) (sym there) (memory-ended ends received part (end-memory ends able a h) rest)
-ended ends able received part a result (inl (memory, h)) (inr (inl (other, there, g))) = absurd (other memory)
-ended ends able received part a result (inl (memory, h)) (inr (inr (other, some, rest))) = absurd (other memory)
-ended ends able received part a result (inr h) (inr (inl (other, there, g))) =
-    subst (Ends ends received part) (sym there) (at-status ends received part a.status a.text.items other h g)
-ended ends able received part a result (inr h) (inr (inr (other, some, inl (there, g)))) =
-    subst (Ends ends received part) (sym there)
-    (at-status ends received part (unsaid a.status) a.text.items (unsaid-other a.status other) (able.unsaid a.status a.text.items some h) g)
-ended ends able received part a result (inr h) (inr (inr (other, some, inr (there, p)))) =
-    subst (Ends ends received part) (sym there) (inr (a.status, a.text.items, h, p))
+pub ended : (ends : Status → List ℕ → Type 0) (able : IsAnswerable ends) (cause : Status → Type 0) (received part : List ℕ → Type 0) (a : Answer) (result : Status)
+    → Answers ends a → cause a.status → IsConcluded a.status a.text.items received part result → Ends ends cause received part result
+ended ends able cause received part a result h why (inl (here, there, rest)) =
+    subst (Ends ends cause received part) (sym there) (memory-ended ends cause received part (end-memory ends able a h) (subst cause here why) rest)
+ended ends able cause received part a result (inl (memory, h)) why (inr (inl (other, there, g))) = absurd (other memory)
+ended ends able cause received part a result (inl (memory, h)) why (inr (inr (other, some, rest))) = absurd (other memory)
+ended ends able cause received part a result (inr h) why (inr (inl (other, there, g))) =
+    subst (Ends ends cause received part) (sym there) (at-status ends cause received part a.status a.text.items other h g)
+ended ends able cause received part a result (inr h) why (inr (inr (other, some, inl (there, g)))) =
+    subst (Ends ends cause received part) (sym there)
+    (at-status ends cause received part (unsaid a.status) a.text.items (unsaid-other a.status other) (able.unsaid a.status a.text.items some h) g)
+ended ends able cause received part a result (inr h) why (inr (inr (other, some, inr (there, p)))) =
+    subst (Ends ends cause received part) (sym there) (inr (a.status, a.text.items, h, why, p))
 
 -- ---- causes
+
+-- what holds of the status that is said, and where memory runs out, holds of the answer's
+pub said-status : (P : Status → Type 0) (status : Status) (text : List ℕ) (a : Answer) → P status → P OutOfMemory → IsSaid status text a → P a.status
+said-status P status text a h memory (inl ran) = subst P (sym ran) memory
+said-status P status text a h memory (inr (same, here)) = subst P (sym same) h
 
 module _ (reads reads' writes writes' puts puts' lacks lacks' : ℕ) where
   file-cause : (status : Status) → HasFileCause reads reads' writes writes' status → HasCause reads reads' writes writes' puts puts' status

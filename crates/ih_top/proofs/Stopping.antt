@@ -1,56 +1,89 @@
--- What is said where the files of a call can't be had.
-use Rattle.std.proofs.Common.{◌≡◌, ℕ, refl, sym, ap, subst, inl, inr, List, [], Option, Some}
+-- Calls that come no further than their files.
+use Rattle.std.proofs.Common.{◌≡◌, ◌∙◌, ℕ, refl, sym, ap, subst, List, [], Option, Some}
 use Rattle.std.specs.Prelude.{unwrap_or}
 use Rattle.ih_shelf.specs.Outside.{Names}
 use Rattle.ih_inputs.specs.Errors.{HasFaultCause}
 use Rattle.ih_inputs.specs.Reading.{IsUnread, InputFiles, name_in}
+use Rattle.ih_inputs.specs.Texts.{memory_text}
 use Rattle.ih_inputs.specs.declared.error.InputRole.TheVariants.{Instance as InstanceInput, Solution as SolutionInput}
 use Rattle.ih_inputs.specs.declared.error.InputError.{InputError}
 use Rattle.ih_inputs.specs.declared.error.InputError.TheVariants.{ReadFault as Unreadable, TooLong as Long, InstanceRefused as NoInstance, SolutionRefused as NoSolution, OutOfMemory as NoRoom}
 use Rattle.ih_top.specs.declared.answer.Answer.{Answer}
-use Rattle.ih_top.specs.declared.status.Role.TheVariants.{Instance, Solution}
+use Rattle.ih_top.specs.declared.status.Role.TheVariants.{Journal, Out}
 use Rattle.ih_top.specs.declared.status.Status.{Status}
-use Rattle.ih_top.specs.declared.status.Status.TheVariants.{ReadFault, InstanceRefused, StartRefused, TooLong}
-use Rattle.ih_top.specs.Answers.{Answers, HasFileCause, IsSaid}
-use Rattle.ih_top.specs.Inputs.{EndsUnread, IsUnreadInputs, role_in}
-use Rattle.ih_top.specs.Texts.{instance_refused_text, solution_refused_text, too_long_text, unread_text}
-use Rattle.ih_top.proofs.Saying.{IsAnswerable, said-answer, unsaid-by}
+use Rattle.ih_top.specs.declared.status.Status.TheVariants.{Done, Usage, ReadFault, InstanceRefused, StartRefused, NoneFound, WriteFault, OutOfMemory, JournalRefused, Infeasible, TooLong}
+use Rattle.ih_top.specs.Answers.{Answers, HasFileCause}
+use Rattle.ih_top.specs.Inputs.{EndsUnread, IsUnreadInputs, role_in, unread_said, unread_status}
+use Rattle.ih_top.proofs.Saying.{IsAnswerable, said-answer, said-status, unsaid-by}
+
+-- ---- their statuses
+
+-- the statuses that say why an instance or a timetable can't be had
+abbrev pub IsUnreadStatus : Status → Type 0
+IsUnreadStatus Done = ⊥
+IsUnreadStatus Usage = ⊥
+IsUnreadStatus (ReadFault Journal) = ⊥
+IsUnreadStatus (ReadFault Out) = ⊥
+IsUnreadStatus NoneFound = ⊥
+IsUnreadStatus (WriteFault role) = ⊥
+IsUnreadStatus (JournalRefused e) = ⊥
+IsUnreadStatus Infeasible = ⊥
+IsUnreadStatus (TooLong Journal) = ⊥
+IsUnreadStatus (TooLong Out) = ⊥
+IsUnreadStatus status = Unit {0}
+
+error-status : (e : InputError) → IsUnreadStatus (unread_status e)
+error-status (Unreadable InstanceInput) = tt
+error-status (Unreadable SolutionInput) = tt
+error-status (Long InstanceInput) = tt
+error-status (Long SolutionInput) = tt
+error-status (NoInstance e) = tt
+error-status (NoSolution e) = tt
+error-status NoRoom = tt
+
+-- the name of a timetable's file
+pub named : (r : InputFiles) (name : List ℕ) → r.solution ≡ Some name → name_in r SolutionInput ≡ name
+named r name is = ap (λ (o : Option (List ℕ)). unwrap_or o []) is
 
 module _ (files : Option Names) (r : InputFiles) where
+  pub unread-only : (status : Status) (text : List ℕ) → EndsUnread files r status text → IsUnreadStatus status
+  unread-only status text (e, is, said, why) = subst IsUnreadStatus (sym is) (error-status e)
+
+  -- ---- lack of memory
+
+  pub unread-memory : EndsUnread files r OutOfMemory memory_text
+  unread-memory = (NoRoom, refl, refl, tt)
+
+  lack-said : (e : InputError) → OutOfMemory ≡ unread_status e → unread_said r e ≡ memory_text
+  lack-said (Unreadable role) is = absurd (let clash : OutOfMemory ≡ ReadFault (role_in role) = is in cc)
+  lack-said (Long role) is = absurd (let clash : OutOfMemory ≡ TooLong (role_in role) = is in cc)
+  lack-said (NoInstance e) is = absurd (let clash : OutOfMemory ≡ InstanceRefused e = is in cc)
+  lack-said (NoSolution e) is = absurd (let clash : OutOfMemory ≡ StartRefused e = is in cc)
+  lack-said NoRoom is = refl
+
+  pub unread-lack : (text : List ℕ) → EndsUnread files r OutOfMemory text → text ≡ memory_text
+  unread-lack text (e, is, said, why) = said ∙ lack-said e is
+
+  -- ---- the answer
+
   unread-answerable : IsAnswerable (EndsUnread files r)
   unread-answerable = record {
-    unsaid = λ status text some h. unsaid-by (EndsUnread files r) text (λ none. absurd none) (λ none. absurd none) status h;
-    memory = λ status text h. refl;
+    unsaid = λ status text some h. unsaid-by (EndsUnread files r) text (λ done. absurd (unread-only Done text done))
+        (λ broken. absurd (unread-only Infeasible text broken)) status h;
+    memory = λ status text h. unread-memory;
   }
 
-  said-so : (status : Status) (text : List ℕ) (a : Answer) → EndsUnread files r status text → IsSaid status text a → Answers (EndsUnread files r) a
-  said-so = said-answer (EndsUnread files r) unread-answerable
-
-  named : (name : List ℕ) → r.solution ≡ Some name → name_in r SolutionInput ≡ name
-  named name is = ap (λ (o : Option (List ℕ)). unwrap_or o []) is
-
   pub stopped-answer : (e : InputError) (a : Answer) → IsUnread files r e → IsUnreadInputs r e a → Answers (EndsUnread files r) a
-  stopped-answer (Unreadable InstanceInput) a h said = said-so (ReadFault Instance) (unread_text r.instance) a refl said
-  stopped-answer (Unreadable SolutionInput) a (I, name, next) said =
-      said-so (ReadFault Solution) (unread_text (name_in r SolutionInput)) a (I, name, next, ap unread_text (named name next.named)) said
-  stopped-answer (Long InstanceInput) a h said = said-so (TooLong Instance) (too_long_text r.instance) a (h, refl) said
-  stopped-answer (Long SolutionInput) a (I, name, next, long) said =
-      said-so (TooLong Solution) (too_long_text (name_in r SolutionInput)) a (I, name, next, long, ap too_long_text (named name next.named)) said
-  stopped-answer (NoInstance e) a h said = said-so (InstanceRefused e) (instance_refused_text e) a (h, refl) said
-  stopped-answer (NoSolution e) a (I, name, next, refused) said =
-      said-so (StartRefused e) (solution_refused_text e) a (I, name, next, refused, refl) said
-  stopped-answer NoRoom a h memory = inl (memory, refl)
+  stopped-answer e a h said = said-answer (EndsUnread files r) unread-answerable (unread_status e) (unread_said r e) a (e, refl, refl, h) said
+
+-- ---- its cause
 
 module _ (reads reads' writes writes' : ℕ) where
-  said-cause : (status : Status) (text : List ℕ) (a : Answer) → HasFileCause reads reads' writes writes' status → IsSaid status text a
-      → HasFileCause reads reads' writes writes' a.status
-  said-cause status text a h (inl memory) = subst (HasFileCause reads reads' writes writes') (sym memory) tt
-  said-cause status text a h (inr (same, here)) = subst (HasFileCause reads reads' writes writes') (sym same) h
+  fault-cause : (e : InputError) → HasFaultCause reads reads' e → HasFileCause reads reads' writes writes' (unread_status e)
+  fault-cause (Unreadable role) h = h
+  fault-cause e h = tt
 
   pub stopped-cause : (r : InputFiles) (e : InputError) (a : Answer) → HasFaultCause reads reads' e → IsUnreadInputs r e a
       → HasFileCause reads reads' writes writes' a.status
-  stopped-cause r (Unreadable role) a h said = said-cause (ReadFault (role_in role)) (unread_text (name_in r role)) a h said
-  stopped-cause r (Long role) a h said = said-cause (TooLong (role_in role)) (too_long_text (name_in r role)) a tt said
-  stopped-cause r (NoInstance e) a h said = said-cause (InstanceRefused e) (instance_refused_text e) a tt said
-  stopped-cause r (NoSolution e) a h said = said-cause (StartRefused e) (solution_refused_text e) a tt said
-  stopped-cause r NoRoom a h memory = subst (HasFileCause reads reads' writes writes') (sym memory) tt
+  stopped-cause r e a h said =
+      said-status (HasFileCause reads reads' writes writes') (unread_status e) (unread_said r e) a (fault-cause e h) tt said

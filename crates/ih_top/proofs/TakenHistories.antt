@@ -5,13 +5,11 @@ use Rattle.ih_journal.specs.declared.entries.Entry.{Entry}
 use Rattle.ih_journal.specs.declared.refusals.JournalRefusal.{JournalRefusal}
 use Rattle.ih_journal.specs.Base.{Base}
 use Rattle.ih_journal.specs.Tried.{Tried, tries}
-use Rattle.ih_journal.specs.Frozen.{AgreesBefore}
-use Rattle.ih_journal.specs.History.{plan_at}
 use Rattle.ih_journal.specs.Legal.{IsFull}
 use Rattle.ih_journal.specs.Texts.{lines_from}
 use Rattle.ih_cellbook.specs.Keeping.{IsBase}
-use Rattle.ih_cellbook.specs.Legal.{AreExact}
 use Rattle.ih_top.specs.declared.output.BestOutput.{BestOutput}
+use Rattle.ih_top.specs.Histories.{IsSound}
 use Rattle.ih_top.specs.JournalLines.{Begins, IsRefusedAt}
 use Rattle.ih_top.specs.Laws.{RefusedLinesAreNotFull}
 use Rattle.ih_top.specs.Outcomes.{AreFullLines, AreLines, AreRefusedLines}
@@ -29,14 +27,12 @@ salvaged-best b H n o s count best solution text = record {
 }
 
 module _ (b c : Base) (same : b ≡ c) (bytes : List ℕ) (H : List Entry) where
-  pub full-lines : IsBase b → IsFull b 1 (tries H) → ((k : ℕ) → AgreesBefore b (plan_at b (tries H) k)) → AreExact b (tries H) → bytes ≡ lines_from b.options 0 H
+  pub full-lines : IsFull b 1 (tries H) → IsSound b (tries H) → bytes ≡ lines_from b.options 0 H
       → (best : Option BestOutput) → HasBestOutput c (tries H) best → AreFullLines c bytes best
-  full-lines given full agrees exact whole best output = record {
+  full-lines full sound whole best output = record {
     history = H;
-    given = subst IsBase same given;
-    exact = subst (λ (x : Base). AreExact x (tries H)) same exact;
     full = subst (λ (x : Base). IsFull x 1 (tries H)) same full;
-    agrees = λ k. subst (λ (x : Base). AgreesBefore x (plan_at x (tries H) k)) same (agrees k);
+    sound = subst (λ (x : Base). IsSound x (tries H)) same sound;
     whole = subst (λ (x : Base). bytes ≡ lines_from x.options 0 H) same whole;
     output = output;
   }
@@ -46,14 +42,12 @@ module _ (b c : Base) (same : b ≡ c) (bytes : List ℕ) (H : List Entry) where
       let here = subst (λ (x : Base). IsRefusedAt x bytes H e) same refused in
       record { history = H; refused = here; none = law c bytes H e valid base here }
 
-  pub salvaged-lines : (rest : List ℕ) → IsBase b → Begins b bytes H rest → ((k : ℕ) → AgreesBefore b (plan_at b (tries H) k)) → AreExact b (tries H)
+  pub salvaged-lines : (rest : List ℕ) → Begins b bytes H rest → IsSound b (tries H)
       → (best : Option BestOutput) → HasBestSaid salvaged_text c (tries H) best → AreLines c bytes best
-  salvaged-lines rest given begins agrees exact best output = record {
+  salvaged-lines rest begins sound best output = record {
     history = H;
-    given = subst IsBase same given;
-    exact = subst (λ (x : Base). AreExact x (tries H)) same exact;
     rest = rest;
     begins = subst (λ (x : Base). Begins x bytes H rest) same begins;
-    agrees = λ k. subst (λ (x : Base). AgreesBefore x (plan_at x (tries H) k)) same (agrees k);
+    sound = subst (λ (x : Base). IsSound x (tries H)) same sound;
     output = output;
   }

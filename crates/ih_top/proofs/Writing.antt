@@ -12,14 +12,16 @@ use Rattle.ih_top.specs.declared.output.Output.{Output}
 use Rattle.ih_top.specs.declared.output.BestOutput.{BestOutput}
 use Rattle.ih_top.specs.declared.status.Role.TheVariants.{Journal, Out}
 use Rattle.ih_top.specs.declared.status.Status.{Status}
-use Rattle.ih_top.specs.declared.status.Status.TheVariants.{Done, ReadFault, InstanceRefused, StartRefused, NoneFound, WriteFault, OutOfMemory, TooLong}
+use Rattle.ih_top.specs.declared.status.Status.TheVariants.{Done, ReadFault, InstanceRefused, StartRefused, NoneFound, WriteFault, OutOfMemory, Infeasible, TooLong}
 use Rattle.ih_top.specs.Answers.{Answers, IsSaid, IsUnwritten}
 use Rattle.ih_top.specs.Outputs.{IsOutput, IsOutputOf, IsBestOutput, HasBestOutput, MadeEnds, OutputEnds, WritesOutput}
 use Rattle.ih_top.specs.Searches.{HasBase, IsSearch, HasSearched, HasFoundBest, HasBegun, HasFoundNone, HasFound, IsDone, JournalForm, SearchEnds, WritingEnds, solution_at, tries_in}
 use Rattle.ih_top.specs.Inputs.{EndsUnread, solve_inputs}
 use Rattle.ih_top.specs.Writes.{BeginsJournal, WritesJournal, BeginsSolution, Unchanged, WritesBoth}
-use Rattle.ih_top.specs.Texts.{memory_text, none_found_text, unwritten_text}
+use Rattle.ih_inputs.specs.Texts.{memory_text, unwritten_text}
+use Rattle.ih_top.specs.Texts.{none_found_text}
 use Rattle.ih_top.proofs.Saying.{IsAnswerable, answers-weaker, said-answer, unsaid-by, unwritten-answer}
+use Rattle.ih_top.proofs.Stopping.{unread-lack, unread-only}
 
 -- ---- what is told of two states
 
@@ -187,18 +189,19 @@ module _ (begun none found : Type 0) (done : List ℕ → Type 0) (s : SolveCall
   -- what is done has begun
   pub writing-answerable : ((text : List ℕ) → done text → found) → (none → begun) → IsAnswerable OfWriting
   writing-answerable of-done of-none = record {
-    unsaid = λ status text some h. unsaid-by OfWriting text (λ done. done) (λ none. absurd none.1) status h;
+    unsaid = λ status text some h. unsaid-by OfWriting text (λ done. done)
+        (λ broken. absurd (unread-only old (solve_inputs s) Infeasible text broken.1)) status h;
     memory = writing-memory of-done of-none;
   }
 
   -- a call that comes no further than its files
   pub unread-writing : IfTold Unchanged old new → (status : Status) (text : List ℕ) → EndsUnread old (solve_inputs s) status text → OfWriting status text
-  unread-writing kept OutOfMemory text h = (inl kept, h)
+  unread-writing kept OutOfMemory text h = (inl kept, unread-lack old (solve_inputs s) text h)
   unread-writing kept (ReadFault role) text h = (kept, h)
   unread-writing kept (InstanceRefused e) text h = (kept, h)
   unread-writing kept (StartRefused e) text h = (kept, h)
   unread-writing kept (TooLong role) text h = (kept, h)
-  unread-writing kept status text h = absurd h
+  unread-writing kept status text h = absurd (unread-only old (solve_inputs s) status text h)
 
   pub writing-ends : (o : Output) → ((w : WritesOutput WritesBoth s o old new) (text : List ℕ) → text ≡ w.best.text.items → done text)
       → (o.best ≡ None → IfTold (WritesJournal s o.journal.items) old new → none) → (IfTold (BeginsJournal s o.journal.items) old new → begun)
@@ -228,11 +231,9 @@ module _ {X : Type 0} (form : JournalForm X) (s : SolveCall) (o : Output) (old n
   searched : IsSearch form old s is.base is.output.history
   searched = record {
     base = is.given;
-    given = is.output.given;
     seed = is.output.seed;
     full = is.output.full;
-    agrees = is.output.agrees;
-    exact = is.output.exact;
+    sound = is.output.sound;
   }
 
   journal-written : (writes : SolveCall → List ℕ → Names → Names → Type 0) → IfTold (writes s o.journal.items) old new

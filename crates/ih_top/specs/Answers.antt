@@ -11,7 +11,7 @@ use Rattle.ih_top.specs.declared.answer.Answer.{Answer}
 use Rattle.ih_top.specs.declared.status.Status.{Status}
 use Rattle.ih_top.specs.declared.status.Status.TheVariants.{Done, ReadFault, WriteFault, OutOfMemory, Infeasible, TooLong}
 use Rattle.ih_top.specs.declared.status.Role.{Role}
-use Rattle.ih_top.specs.Texts.{memory_text, unread_text, too_long_text}
+use Rattle.ih_inputs.specs.Texts.{memory_text, unread_text, too_long_text}
 
 -- a status whose text couldn't be put out
 abbrev pub unsaid : Status → Status
@@ -28,8 +28,8 @@ checked_status false = Infeasible
 abbrev pub Answers : (Status → List ℕ → Type 0) → Answer → Type 0
 Answers ends a = ((a.status ≡ OutOfMemory) × ends OutOfMemory memory_text) ⊎ ends a.status a.text.items
 
--- The sink received the text, or a part where it wanted memory; where memory had run out before, it is the text that says
--- so. An empty text isn't put out.
+-- The sink received the text, or a part where it wanted memory itself; where memory had run out before, it is the text
+-- that says so, and of that too it may be a part. An empty text isn't put out.
 abbrev pub IsConcluded : Status → List ℕ → (List ℕ → Type 0) → (List ℕ → Type 0) → Status → Type 0
 IsConcluded status text received part result =
     ((status ≡ OutOfMemory) × (result ≡ OutOfMemory) × (received memory_text ⊎ part memory_text))

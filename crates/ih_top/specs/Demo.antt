@@ -14,7 +14,8 @@ use Rattle.ih_gen.specs.Generated.{generated}
 use Rattle.ih_instance.specs.Instance.{instance}
 use Rattle.ih_top.specs.declared.status.Status.{Status}
 use Rattle.ih_top.specs.declared.status.Status.TheVariants.{Done, NoneFound, WriteFault, OutOfMemory}
-use Rattle.ih_top.specs.Texts.{demo_text, memory_text, none_found_text, verdicts_of}
+use Rattle.ih_inputs.specs.Texts.{memory_text}
+use Rattle.ih_top.specs.Texts.{demo_text, none_found_text, verdicts_of}
 
 -- one worker with the number as its seed
 abbrev pub demo_options : ℕ → Options

@@ -26,20 +26,17 @@ use Rattle.ih_top.specs.Check.{CheckEnds}
 use Rattle.ih_top.specs.Rounds.{RoundsEnds}
 use Rattle.ih_top.specs.Generate.{GenEnds}
 use Rattle.ih_top.specs.Demo.{DemoEnds}
-use Rattle.ih_top.specs.Texts.{usage_text, memory_text}
+use Rattle.ih_inputs.specs.Texts.{memory_text}
+use Rattle.ih_top.specs.Texts.{usage_text}
 
 -- ---- the sink
 
--- The sink received the text whole; or a prefix of it, where its count of faults rose and the status isn't one that asks
--- for the whole.
+-- The sink received the text whole; or a prefix of it, where its count of faults rose and the status isn't one that
+-- asks for the whole.
 abbrev pub Received : Status → Option (List ℕ) → Option (List ℕ) → ℕ → ℕ → List ℕ → Type 0
 Received status old new before now text =
     IfTold (IsAppended text) old new
     ⊎ ((unsaid status ≡ status) × Rose before now × IfTold (MayBeAppended text) old new)
-
--- the sink's count of lacks of memory rose, and it received a prefix of the text
-abbrev pub ReceivedPart : Option (List ℕ) → Option (List ℕ) → ℕ → ℕ → List ℕ → Type 0
-ReceivedPart old new before now text = Rose before now × IfTold (MayBeAppended text) old new
 
 -- ---- a call with lawful words
 
@@ -56,13 +53,15 @@ CallEnds (advise a) old new status text = IfTold Unchanged old new × AdviseEnds
 CallEnds (gen g) old new status text = GenEnds g old new status text
 CallEnds (demo number) old new status text = IfTold Unchanged old new × DemoEnds number status text
 
--- At each status the sink received the text that the call had to say there. At `OutOfMemory` it may be instead that the
--- sink wanted memory itself, and received a part of the text of a status that the call had reached.
-abbrev pub Ends : (Status → List ℕ → Type 0) → (List ℕ → Type 0) → (List ℕ → Type 0) → Status → Type 0
-Ends ends received part OutOfMemory =
+-- At each status the sink received the text that the call had to say there. The second case of `OutOfMemory` is the
+-- sink's own lack: it wanted memory, and received a part of the text of a status that the call had reached, with a
+-- cause for that one.
+abbrev pub Ends : (ends : Status → List ℕ → Type 0) → (cause : Status → Type 0) → (received part : List ℕ → Type 0)
+    → Status → Type 0
+Ends ends cause received part OutOfMemory =
     ((text : List ℕ) × ends OutOfMemory text × received text)
-    ⊎ ((status : Status) × (text : List ℕ) × ends status text × part text)
-Ends ends received part status = (text : List ℕ) × ends status text × received text
+    ⊎ ((status : Status) × (text : List ℕ) × ends status text × cause status × part text)
+Ends ends cause received part status = (text : List ℕ) × ends status text × received text
 
 -- ---- any call
 
@@ -73,9 +72,16 @@ UsageEnds OutOfMemory text = text ≡ memory_text
 UsageEnds status text = ⊥
 
 -- what the files then hold and what is said, by the call that the words name
-abbrev pub Leaves : Option Call → Option Names → Option Names → (List ℕ → Type 0) → (List ℕ → Type 0) → Status → Type 0
-Leaves None old new received part status = IfTold Unchanged old new × Ends UsageEnds received part status
-Leaves (Some call) old new received part status = Ends (CallEnds call old new) received part status
+abbrev pub Leaves : Option Call → (old new : Option Names) → (cause : Status → Type 0)
+    → (received part : List ℕ → Type 0) → Status → Type 0
+Leaves None old new cause received part status = IfTold Unchanged old new × Ends UsageEnds cause received part status
+Leaves (Some call) old new cause received part status = Ends (CallEnds call old new) cause received part status
+
+-- where the words name no call, and in a demo, the shelf is as it was: no file is so much as read
+abbrev pub IsUntouched : {X : Type 0} → Option Call → X → X → Type 0
+IsUntouched None old new = new ≡ old
+IsUntouched (Some (demo number)) old new = new ≡ old
+IsUntouched (Some call) old new = Unit {0}
 
 -- A fault is answered only where its count rose in the call, or stands at the last number of 64 bits.
 abbrev pub HasCause : ℕ → ℕ → ℕ → ℕ → ℕ → ℕ → Status → Type 0

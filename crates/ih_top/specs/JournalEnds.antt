@@ -13,7 +13,8 @@ use Rattle.ih_top.specs.declared.status.Status.TheVariants.{Done, NoneFound, Wri
 use Rattle.ih_top.specs.declared.status.Role.TheVariants.{Out}
 use Rattle.ih_top.specs.Searches.{solution_at}
 use Rattle.ih_top.specs.Writes.{Unchanged}
-use Rattle.ih_top.specs.Texts.{journal_refused_text, memory_text, none_found_text, unwritten_text}
+use Rattle.ih_inputs.specs.Texts.{memory_text, unwritten_text}
+use Rattle.ih_top.specs.Texts.{journal_refused_text, none_found_text}
 use Rattle.ih_top.specs.JournalFiles.{JournalRead, HasRead, EndsUnreadJournal}
 
 -- A history was taken from the journal, and the solution of its first cheapest feasible timetable is written as far as

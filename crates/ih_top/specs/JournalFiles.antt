@@ -11,7 +11,7 @@ use Rattle.ih_top.specs.declared.status.Status.TheVariants.{ReadFault, TooLong}
 use Rattle.ih_top.specs.declared.status.Role.TheVariants.{Journal}
 use Rattle.ih_inputs.specs.Reading.{HasInputs, IsLongerThan}
 use Rattle.ih_top.specs.Inputs.{replay_inputs, EndsUnread}
-use Rattle.ih_top.specs.Texts.{too_long_text, unread_text}
+use Rattle.ih_inputs.specs.Texts.{too_long_text, unread_text}
 
 -- an instance, the timetable of the start before it is filled, and the bytes of a journal
 pub record JournalRead : Type 0 where

@@ -6,6 +6,7 @@ pub mod Codes
 pub mod Demo
 pub mod Ends
 pub mod Generate
+pub mod Histories
 pub mod Inputs
 pub mod JournalEnds
 pub mod JournalFiles

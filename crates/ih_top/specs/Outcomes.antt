@@ -4,12 +4,8 @@ use Rattle.ih_journal.specs.declared.entries.Entry.{Entry}
 use Rattle.ih_journal.specs.declared.refusals.JournalRefusal.{JournalRefusal}
 use Rattle.ih_journal.specs.Base.{Base}
 use Rattle.ih_journal.specs.Tried.{Tried, tries}
-use Rattle.ih_journal.specs.Frozen.{AgreesBefore}
-use Rattle.ih_journal.specs.History.{plan_at}
 use Rattle.ih_journal.specs.Legal.{IsFull}
 use Rattle.ih_journal.specs.Texts.{lines_from}
-use Rattle.ih_cellbook.specs.Keeping.{IsBase}
-use Rattle.ih_cellbook.specs.Legal.{AreExact}
 use Rattle.ih_shelf.specs.Outside.{IsWritten, MayBeWritten, Names, IfTold}
 use Rattle.ih_top.specs.declared.output.BestOutput.{BestOutput}
 use Rattle.ih_top.specs.declared.outcome.Outcome.{Outcome}
@@ -17,21 +13,21 @@ use Rattle.ih_top.specs.declared.outcome.Outcome.TheVariants.{Refused, Taken}
 use Rattle.ih_top.specs.declared.status.Status.{Status}
 use Rattle.ih_top.specs.declared.status.Status.TheVariants.{Done, NoneFound, WriteFault, OutOfMemory, JournalRefused}
 use Rattle.ih_top.specs.declared.status.Role.TheVariants.{Out}
+use Rattle.ih_top.specs.Histories.{IsSound}
 use Rattle.ih_top.specs.JournalLines.{Begins, IsRefusedAt}
 use Rattle.ih_top.specs.Outputs.{HasBestOutput, HasBestSaid}
 use Rattle.ih_top.specs.Replay.{AreNotFull}
 use Rattle.ih_top.specs.Writes.{Unchanged}
-use Rattle.ih_top.specs.Texts.{journal_refused_text, memory_text, none_found_text, salvaged_text, unwritten_text}
+use Rattle.ih_inputs.specs.Texts.{memory_text, unwritten_text}
+use Rattle.ih_top.specs.Texts.{journal_refused_text, none_found_text, salvaged_text}
 
 -- ---- the lines of a journal
 
 -- the bytes are the lines of a full history
 pub record AreFullLines (b : Base) (bytes : List ℕ) (best : Option BestOutput) : Type 0 where
   pub history : List Entry
-  pub given : IsBase b
   pub full : IsFull b 1 (tries history)
-  pub agrees : (k : ℕ) → AgreesBefore b (plan_at b (tries history) k)
-  pub exact : AreExact b (tries history)
+  pub sound : IsSound b (tries history)
   pub whole : bytes ≡ lines_from b.options 0 history
   pub output : HasBestOutput b (tries history) best
 
@@ -39,10 +35,8 @@ pub record AreFullLines (b : Base) (bytes : List ℕ) (best : Option BestOutput)
 pub record AreLines (b : Base) (bytes : List ℕ) (best : Option BestOutput) : Type 0 where
   pub history : List Entry
   pub rest : List ℕ
-  pub given : IsBase b
   pub begins : Begins b bytes history rest
-  pub agrees : (k : ℕ) → AgreesBefore b (plan_at b (tries history) k)
-  pub exact : AreExact b (tries history)
+  pub sound : IsSound b (tries history)
   pub output : HasBestSaid salvaged_text b (tries history) best
 
 -- the bytes are refused at the line behind those of this history

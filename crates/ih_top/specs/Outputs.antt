@@ -2,12 +2,8 @@
 use Rattle.std.specs.Prelude.{◌≡◌, ℕ, ◌<◌, ◌^◌, ◌⊎◌, List, Option, Some, None, Result, Ok, Err}
 use Rattle.ih_journal.specs.Base.{Base}
 use Rattle.ih_journal.specs.Tried.{Tried}
-use Rattle.ih_journal.specs.Frozen.{AgreesBefore}
-use Rattle.ih_journal.specs.History.{plan_at}
 use Rattle.ih_journal.specs.Legal.{IsFull}
 use Rattle.ih_journal.specs.Best.{IsBest, HasNone}
-use Rattle.ih_cellbook.specs.Keeping.{IsBase}
-use Rattle.ih_cellbook.specs.Legal.{AreExact}
 use Rattle.ih_words.specs.Solve.{SolveCall}
 use Rattle.ih_shelf.specs.Outside.{Names, IfTold}
 use Rattle.ih_inputs.specs.declared.reading.Inputs.{Inputs}
@@ -17,7 +13,9 @@ use Rattle.ih_top.specs.Starts.{started}
 use Rattle.ih_top.specs.declared.status.Role.TheVariants.{Journal, Out}
 use Rattle.ih_top.specs.declared.status.Status.{Status}
 use Rattle.ih_top.specs.declared.status.Status.TheVariants.{Done, NoneFound, OutOfMemory, WriteFault}
-use Rattle.ih_top.specs.Texts.{done_text, memory_text, none_found_text, unwritten_text}
+use Rattle.ih_inputs.specs.Texts.{memory_text, unwritten_text}
+use Rattle.ih_top.specs.Texts.{done_text, none_found_text}
+use Rattle.ih_top.specs.Histories.{IsSound}
 use Rattle.ih_top.specs.Searches.{HasBase, JournalForm, solution_at, tries_in}
 use Rattle.ih_top.specs.Writes.{BeginsJournal, BeginsSolution, Unchanged, WritesBoth, WritesJournal}
 
@@ -40,15 +38,12 @@ IsBestOutput b H o = IsBestSaid done_text b H o
 abbrev pub HasBestOutput : Base → List Tried → Option BestOutput → Type 0
 HasBestOutput b H o = HasBestSaid done_text b H o
 
--- the journal of a full history that keeps the frozen choices and whose accepted prices are exact, and its best where
--- there is one
+-- the journal of a full history, and its best where there is one
 pub record IsOutput {X : Type 0} (form : JournalForm X) (b : Base) (o : Output) : Type 0 where
   pub history : List X
-  pub given : IsBase b
   pub seed : b.options.seed < 2 ^ 64
   pub full : IsFull b form.each (tries_in form history)
-  pub agrees : (k : ℕ) → AgreesBefore b (plan_at b (tries_in form history) k)
-  pub exact : AreExact b (tries_in form history)
+  pub sound : IsSound b (tries_in form history)
   pub journal : o.journal.items ≡ form.journal b.options history
   pub best : HasBestOutput b (tries_in form history) o.best
 

@@ -4,30 +4,24 @@ use Rattle.ih_journal.specs.declared.entries.Entry.{Entry}
 use Rattle.ih_journal.specs.declared.refusals.JournalRefusal.{JournalRefusal}
 use Rattle.ih_journal.specs.Base.{Base}
 use Rattle.ih_journal.specs.Tried.{tries}
-use Rattle.ih_journal.specs.Frozen.{AgreesBefore}
-use Rattle.ih_journal.specs.History.{plan_at}
 use Rattle.ih_journal.specs.Legal.{IsFull}
 use Rattle.ih_journal.specs.Texts.{lines_from}
-use Rattle.ih_cellbook.specs.Keeping.{IsBase}
-use Rattle.ih_cellbook.specs.Legal.{AreExact}
 use Rattle.ih_words.specs.Replay.{ReplayCall}
 use Rattle.ih_words.specs.Start.{StartCall}
 use Rattle.ih_shelf.specs.Outside.{Names}
 use Rattle.ih_top.specs.declared.status.Status.{Status}
+use Rattle.ih_top.specs.Histories.{IsSound}
 use Rattle.ih_top.specs.JournalLines.{IsRefusedAt}
 use Rattle.ih_top.specs.Texts.{done_text}
 use Rattle.ih_top.specs.JournalEnds.{JournalEnds}
 use Rattle.ih_top.specs.JournalFiles.{JournalRead}
 use Rattle.ih_top.specs.JournalHeading.{IsHeadedBy, IsHeadless}
 
--- The journal is that of a full history of the search. Each of its timetables agrees with the start on the choices
--- before the freeze day, and each accepted price is the change of the bill at its own place.
+-- the journal is that of a full history of the search
 pub record IsReplay (s : StartCall) (x : JournalRead) (b : Base) (H : List Entry) : Type 0 where
   pub headed : IsHeadedBy s x b (lines_from b.options 0 H)
-  pub given : IsBase b
   pub full : IsFull b 1 (tries H)
-  pub agrees : (k : ℕ) → AgreesBefore b (plan_at b (tries H) k)
-  pub exact : AreExact b (tries H)
+  pub sound : IsSound b (tries H)
 
 -- the bytes are the lines of no full history
 abbrev pub AreNotFull : Base → List ℕ → Type 0

@@ -4,21 +4,20 @@ use Rattle.std.specs.Prelude.{◌≡◌, ℕ, ◌<◌, ◌^◌, ◌⊎◌, List,
 use Rattle.ih_journal.specs.declared.settings.Options.{Options}
 use Rattle.ih_journal.specs.Base.{Base}
 use Rattle.ih_journal.specs.Tried.{Tried}
-use Rattle.ih_journal.specs.Frozen.{AgreesBefore}
 use Rattle.ih_journal.specs.History.{plan_at}
 use Rattle.ih_journal.specs.Legal.{IsFull}
 use Rattle.ih_journal.specs.Best.{IsBest, HasNone}
-use Rattle.ih_cellbook.specs.Keeping.{IsBase}
-use Rattle.ih_cellbook.specs.Legal.{AreExact}
 use Rattle.ih_solution.specs.Solution.{solution}
 use Rattle.ih_words.specs.Solve.{SolveCall}
 use Rattle.ih_shelf.specs.Outside.{Names, IfTold}
 use Rattle.ih_top.specs.declared.status.Status.{Status}
 use Rattle.ih_top.specs.declared.status.Status.TheVariants.{Done, NoneFound, WriteFault, OutOfMemory}
 use Rattle.ih_top.specs.declared.status.Role.TheVariants.{Journal, Out}
+use Rattle.ih_top.specs.Histories.{IsSound}
 use Rattle.ih_top.specs.Inputs.{solve_inputs, EndsUnread}
 use Rattle.ih_top.specs.Starts.{HasStart}
-use Rattle.ih_top.specs.Texts.{none_found_text, memory_text, unwritten_text, done_text}
+use Rattle.ih_inputs.specs.Texts.{memory_text, unwritten_text}
+use Rattle.ih_top.specs.Texts.{none_found_text, done_text}
 use Rattle.ih_top.specs.Writes.{Unchanged, BeginsJournal, WritesJournal, BeginsSolution, WritesBoth}
 
 -- what the files and the words give a search
@@ -36,17 +35,13 @@ pub record JournalForm (X : Type 0) : Type 0 where
 abbrev pub tries_in : {X : Type 0} → JournalForm X → List X → List Tried
 tries_in form H = map form.tried H
 
--- A full history over what the files and the words give. Each of its timetables agrees with the start on the choices
--- before the freeze day, and each accepted price is the change of the bill at its own place.
+-- a full history over what the files and the words give
 pub record IsSearch {X : Type 0} (form : JournalForm X) (files : Option Names) (s : SolveCall) (b : Base)
     (H : List X) : Type 0 where
   pub base : HasBase files s b
-  -- the start is a timetable of the instance, and the options are lawful
-  pub given : IsBase b
   pub seed : b.options.seed < 2 ^ 64
   pub full : IsFull b form.each (tries_in form H)
-  pub agrees : (k : ℕ) → AgreesBefore b (plan_at b (tries_in form H) k)
-  pub exact : AreExact b (tries_in form H)
+  pub sound : IsSound b (tries_in form H)
 
 -- the solution file of the timetable at a place
 abbrev pub solution_at : Base → List Tried → ℕ → List ℕ
@@ -89,10 +84,13 @@ abbrev pub IsDone : {X : Type 0} → JournalForm X → SolveCall → Option Name
 IsDone form s old new text =
     (h : HasFoundBest WritesBoth form s old new) × (text ≡ done_text h.base (tries_in form h.history) h.place)
 
--- How a call ends that searches, and writes the journal of that and the solution of its best. Each case has the whole
--- condition of its status, by what it means that the journal is begun, that none was found, that the solution may be
--- begun, and that all is done with a text to be said. Where the shelf tells what it holds, no two cases hold of one
--- call, but for faults and for lack of memory.
+-- How a call ends that searches, and writes the journal of that and the solution of its best. It takes what these mean:
+-- `begun`: the journal is written or begun;
+-- `none`: the journal is written, and no timetable is feasible;
+-- `found`: the journal is written, and the solution may be begun;
+-- `done`: both are written, and this is what is said of it.
+-- Each case has the whole condition of its status. Where the shelf tells what it holds, no two cases hold of one call,
+-- but for faults and for lack of memory.
 abbrev pub WritingEnds : (begun none found : Type 0) → (done : List ℕ → Type 0)
     → SolveCall → Option Names → Option Names → Status → List ℕ → Type 0
 -- the journal, the first cheapest feasible timetable and its report are out

@@ -1,10 +1,9 @@
--- The texts that the program puts out: each is one text, in one put, and ends with a line feed.
+-- The texts that the program puts out: each is one text, in one put, and ends with a line feed. Those of files that
+-- can't be had or written, and of memory, are in `ih_inputs`.
 use Rattle.std.specs.Prelude.{ℕ, Bool, true, false, List, ◌++◌, codes, decimal, length}
 use Rattle.std.specs.List.{count_by}
 use Rattle.ih_tables.specs.declared.bills.Bill.{Bill}
 use Rattle.ih_tables.specs.declared.bills.Weights.{Weights}
-use Rattle.ih_tables.specs.declared.refusals.Refusal.{Refusal}
-use Rattle.ih_tables.specs.Places.{refusal_text}
 use Rattle.ih_plan.specs.BillOf.{bill_of}
 use Rattle.ih_validate.specs.Report.{report}
 use Rattle.ih_journal.specs.declared.entries.Entry.{Entry}
@@ -24,26 +23,6 @@ usage_text = codes "usage: solve INSTANCE OUT JOURNAL, replay INSTANCE JOURNAL O
 
 abbrev pub none_found_text : List ℕ
 none_found_text = codes "none found\n"
-
-abbrev pub memory_text : List ℕ
-memory_text = codes "out of memory\n"
-
-abbrev pub unread_text : List ℕ → List ℕ
-unread_text name = codes "cannot read " ++ (name ++ codes "\n")
-
-abbrev pub unwritten_text : List ℕ → List ℕ
-unwritten_text name = codes "cannot write " ++ (name ++ codes "\n")
-
-abbrev pub too_long_text : List ℕ → List ℕ
-too_long_text name = codes "too long: " ++ (name ++ codes "\n")
-
--- an instance's fault, and its place
-abbrev pub instance_refused_text : Refusal → List ℕ
-instance_refused_text r = codes "instance refused: " ++ (refusal_text r ++ codes "\n")
-
--- a solution's fault, and its place
-abbrev pub solution_refused_text : Refusal → List ℕ
-solution_refused_text r = codes "solution refused: " ++ (refusal_text r ++ codes "\n")
 
 -- the name of a reason
 abbrev pub reason_text : Reason → List ℕ

@@ -2,7 +2,8 @@
 
 ghost use Rattle.std.specs.Prelude.{◌≡◌, ◌≤◌, ◌⊎◌};
 ghost use Rattle.ih_top.specs.Answers.{unsaid, IsConcluded, HasSinkCause};
-ghost use Rattle.ih_top.specs.{Texts.memory_text, Ends.Received, Ends.ReceivedPart};
+ghost use Rattle.ih_inputs.specs.Texts.{memory_text, ReceivedPart};
+ghost use Rattle.ih_top.specs.Ends.{Received};
 
 use crate::status::Status;
 use ih_shelf::{Sink, WriteError};

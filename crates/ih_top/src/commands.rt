@@ -1,7 +1,8 @@
-//! The commands, each by its own module.
+//! The commands, each by the module that does it.
 
+ghost use Rattle.std.specs.Prelude.{Some};
 ghost use Rattle.ih_words.specs.Words.{HasLawfulOptions, command_call, OutDiffers};
-ghost use Rattle.ih_top.specs.{Answers.Answers, Answers.HasShelfCause, Ends.CallEnds};
+ghost use Rattle.ih_top.specs.{Answers.Answers, Answers.HasShelfCause, Ends.CallEnds, Ends.IsUntouched};
 
 use crate::advise::advise;
 use crate::answer::Answer;
@@ -29,6 +30,7 @@ pub fn perform<R: Files + Threads + Wait + Sync, S: Shelf, G: Gate>(
     requires lawful { HasLawfulOptions command.now }
     ensures ends { Answers (CallEnds (command_call command.now) (S.names shelf.old) (S.names shelf.new)) result }
     ensures cause { HasShelfCause S.Shelf shelf.old shelf.new result.status }
+    ensures untouched { IsUntouched (Some (command_call command.now)) shelf.old shelf.new }
 {
     match command {
         Command::Solve(call) => search_by(rt, alloc, Method::Moves, call, shelf, gate),

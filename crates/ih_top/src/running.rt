@@ -2,7 +2,9 @@
 
 ghost use Rattle.std.specs.Prelude.{map, string_bytes};
 ghost use Rattle.ih_words.specs.Words.{call_of};
-ghost use Rattle.ih_top.specs.Ends.{Received, ReceivedPart, HasCause, IsComplete, Leaves};
+ghost use Rattle.ih_inputs.specs.Texts.{ReceivedPart};
+ghost use Rattle.ih_top.specs.Answers.{HasShelfCause};
+ghost use Rattle.ih_top.specs.Ends.{Received, HasCause, IsComplete, IsUntouched, Leaves};
 ghost use Rattle.ih_shelf.specs.Outside.{Rose};
 
 use crate::answer::{conclude, conclude_memory};
@@ -31,8 +33,12 @@ pub fn run<R: Files + Print + Threads + Wait + Sync, S: Shelf, O: Sink, G: Gate>
     // What the files then hold, and the text that was put out, by the call that the words name and the status. Where
     // the shelf or the sink does not tell what it holds, nothing is claimed of that.
     ensures leaves { Leaves (call_of (map string_bytes words.now)) (S.names shelf.old) (S.names shelf.new)
+        (HasShelfCause S.Shelf shelf.old shelf.new)
         (Received result (O.text out.old) (O.text out.new) (O.faults out.old) (O.faults out.new))
         (ReceivedPart (O.text out.old) (O.text out.new) (O.lacks out.old) (O.lacks out.new)) result }
+
+    // Where the words name no call, and in a demo, no file is so much as read.
+    ensures untouched { IsUntouched (call_of (map string_bytes words.now)) shelf.old shelf.new }
 
     // A fault is answered only where its count rose in this call, or stands at the last number of 64 bits.
     ensures cause { HasCause (S.read_faults shelf.old) (S.read_faults shelf.new) (S.write_faults shelf.old)

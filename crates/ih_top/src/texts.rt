@@ -1,8 +1,9 @@
-//! The answers that carry a text of one line.
+//! The answers that say one line, and the one that memory ran out, which carries no text.
 
 ghost use Rattle.std.specs.Prelude.{◌≡◌, Some, string_bytes};
-ghost use Rattle.ih_top.specs.Texts.{instance_refused_text, journal_refused_text, reason_text, solution_refused_text};
-ghost use Rattle.ih_top.specs.Texts.{none_found_text, too_long_text, unread_text, unwritten_text, usage_text};
+ghost use Rattle.ih_inputs.specs.Texts.{instance_refused_text, solution_refused_text, too_long_text, unread_text};
+ghost use Rattle.ih_inputs.specs.Texts.{unwritten_text};
+ghost use Rattle.ih_top.specs.Texts.{journal_refused_text, none_found_text, reason_text, usage_text};
 ghost use Rattle.ih_top.specs.Answers.{IsSaid, IsSaidOf, IsUnwritten};
 
 use crate::answer::Answer;

@@ -379,13 +379,16 @@ fn journals_that_fail(rt: HostRuntime) {
 
 const UNPUT: Status = Status::WriteFault(None);
 
-// Calls whose text can't be put. The last is a check of a timetable in which a surgery is a minute too long.
-const UNSAID: [Event<'static>; 9] = [
+// Calls whose text can't be put; a search's files are whole then. The last is a check of a timetable in which a surgery is a minute too long.
+const UNSAID: [Event<'static>; 12] = [
     Store("i", WARD),
     Store("j", JOURNAL),
     Silent(NO_MOVES, Status::NoneFound),
     Silent(SEARCH, UNPUT),
+    Holds("j", Some(JOURNAL)),
+    Holds("o", Some(COVERED_SOLUTION)),
     Silent(REPLAY, UNPUT),
+    Holds("o", Some(COVERED_SOLUTION)),
     Silent("gen 7 g", Status::Done),
     Change(
         "i",

@@ -18,7 +18,9 @@ pub returns-in-Ok : goal.returns-in-Ok
 returns-in-Ok c =
     let same : c.take_lines.new.replay.base ≡ base_given c.args.given.now = c.in-Ok.ensures.base ∙ ap (λ (r : Replayed). r.base) c.in_ok-replay.ensures in
     full-lines c.take_lines.new.replay.base (base_given c.args.given.now) same c.args.bytes.now c.take_lines.new.replay.entries
-    c.entries-entries.ensures.base c.in-Ok.ensures.full c.entries-entries.ensures.agrees c.entries-entries.ensures.exact c.in-Ok.ensures.whole c.in_ok-best-in-Ok.best
+    c.in-Ok.ensures.full
+    (record { given = c.entries-entries.ensures.base; agrees = c.entries-entries.ensures.agrees; exact = c.entries-entries.ensures.exact })
+    c.in-Ok.ensures.whole c.in_ok-best-in-Ok.best
     (subst (λ (H : List Entry). HasBestOutput (base_given c.args.given.now) (tries H) c.in_ok-best-in-Ok.best) c.entries-entries.ensures.entries c.in_ok-best-in-Ok.ensures)
 
 pub returns : goal.returns

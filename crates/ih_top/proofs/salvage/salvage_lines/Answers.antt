@@ -23,7 +23,7 @@ returns-in-Some c =
     subst (λ (H : List Entry). HasBestOutput (base_given c.args.given.now) (tries H) (Some c.in-Some.best)) c.entries-entries.ensures.entries
     (subst (HasBestOutput (base_given c.args.given.now) (tries c.entries-entries.result.now)) c.in-Some.is c.in_ok-best.ensures) in
     salvaged-lines c.take_lines.new.replay.base (base_given c.args.given.now) same c.args.bytes.now c.take_lines.new.replay.entries begins.0
-    c.entries-entries.ensures.base begins.1 c.entries-entries.ensures.agrees c.entries-entries.ensures.exact (Some c.in_ok-salvaged-in-Some.field-0)
+    begins.1 (record { given = c.entries-entries.ensures.base; agrees = c.entries-entries.ensures.agrees; exact = c.entries-entries.ensures.exact }) (Some c.in_ok-salvaged-in-Some.field-0)
     (salvaged-best (base_given c.args.given.now) (tries c.take_lines.new.replay.entries) _ c.in-Some.best c.in_ok-salvaged-in-Some.field-0
     (sym (length-map c.entries-entries.result.now tried) ∙ ap (λ (H : List Entry). length (tries H)) c.entries-entries.ensures.entries) best
     c.in_ok-salvaged-in-Some.ensures.solution c.in_ok-salvaged-in-Some.ensures.text)
@@ -36,4 +36,4 @@ returns c =
     subst (λ (H : List Entry). HasBestOutput (base_given c.args.given.now) (tries H) None) c.entries-entries.ensures.entries
     (subst (HasBestOutput (base_given c.args.given.now) (tries c.entries-entries.result.now)) c.in-None.is c.in_ok-best.ensures) in
     salvaged-lines c.take_lines.new.replay.base (base_given c.args.given.now) same c.args.bytes.now c.take_lines.new.replay.entries begins.0
-    c.entries-entries.ensures.base begins.1 c.entries-entries.ensures.agrees c.entries-entries.ensures.exact None none
+    begins.1 (record { given = c.entries-entries.ensures.base; agrees = c.entries-entries.ensures.agrees; exact = c.entries-entries.ensures.exact }) None none

@@ -1,14 +1,11 @@
 use Rattle.std.proofs.Common.{◌≡◌, subst, sym}
 use Rattle.ih_journal.specs.Base.{Base}
 use Rattle.ih_journal.specs.Best.{BestIs}
-use Rattle.ih_journal.specs.Frozen.{AgreesBefore}
-use Rattle.ih_journal.specs.History.{plan_at}
 use Rattle.ih_journal.specs.Legal.{AreLegal, IsFull}
 use Rattle.ih_journal.specs.Tried.{tries}
-use Rattle.ih_cellbook.specs.Keeping.{IsBase}
-use Rattle.ih_cellbook.specs.Legal.{AreExact}
 use Rattle.ih_desk.specs.Searching.{base_given}
 use Rattle.ih_history.proofs.LegalEntries.{prices-in}
+use Rattle.ih_top.specs.Histories.{IsSound}
 use Rattle.ih_top.proofs.solve.make_output.Goals as goal
 
 pub journal_text-requires-clause-prices : goal.journal_text-requires-clause-prices
@@ -33,12 +30,13 @@ returns g c =
     let is : tries c.entries-entries.result.now ≡ H = c.entries-entries.ensures.entries in
     record {
       history = c.entries-entries.result.now;
-      given = subst IsBase c.in_ok-book.ensures.base c.entries-entries.ensures.base;
       seed = c.seed_of-seed.ensures.small;
       full = subst (IsFull b 1) (sym is) c.in_ok-book.ensures.full;
-      agrees = subst (λ es. (k : _) → AgreesBefore b (plan_at b es k)) (sym is)
-          (subst (λ (d : Base). (k : _) → AgreesBefore d (plan_at d H k)) c.in_ok-book.ensures.base c.entries-entries.ensures.agrees);
-      exact = subst (AreExact b) (sym is) (subst (λ (d : Base). AreExact d H) c.in_ok-book.ensures.base c.entries-entries.ensures.exact);
+      sound = subst (IsSound b) (sym is) (subst (λ (d : Base). IsSound d H) c.in_ok-book.ensures.base (record {
+        given = c.entries-entries.ensures.base;
+        agrees = c.entries-entries.ensures.agrees;
+        exact = c.entries-entries.ensures.exact;
+      }));
       journal = c.in_ok-journal.ensures;
       best = c.in_ok-best.ensures;
     }
