@@ -138,11 +138,11 @@ module _ (taken : LegalJournalsAreTaken) (differ : LegalJournalsDiffer) (texts :
         ∙ ap (λ n. lines_from o n (drop (length H) G)) place
 
     module _ (e : Entry) (es : List Entry) (some : drop (length H) G ≡ e ∷ es) where
-      next-legal : IsLegal b 1 (tries H) (tried e)
+      pub next-legal : IsLegal b 1 (tries H) (tried e)
       next-legal = subst (λ K. IsLegal b 1 K (tried e)) (sym (map-take tried (length H) G) ∙ ap (λ es. tries es) (sym prefix))
           (legal_G (length H) (tried e) (get-mapped tried G (length H) e (get-drop G (length H) e es some)))
 
-      next-lacks : HasNoLineFeed (line_text b.options (length H) e)
+      pub next-lacks : HasNoLineFeed (line_text b.options (length H) e)
       next-lacks =
           let o = b.options in
           let each = subst EachLacks (texts-append o 0 H (e ∷ [])) (each-text (H ++ e ∷ [])
@@ -151,7 +151,7 @@ module _ (taken : LegalJournalsAreTaken) (differ : LegalJournalsDiffer) (texts :
           let place : 0 + length H ≡ length H = omega arith in
           subst (λ n. HasNoLineFeed (line_text o n e)) place (first-lacks o (0 + length H) e last)
 
-      next-joins : rest ≡ ended (line_text b.options (length H) e) ++ lines_from b.options (length H + 1) es
+      pub next-joins : rest ≡ ended (line_text b.options (length H) e) ++ lines_from b.options (length H + 1) es
       unfolding lines_from
       next-joins = rest-is ∙ ap (lines_from b.options (length H)) some
 
@@ -159,7 +159,7 @@ module _ (taken : LegalJournalsAreTaken) (differ : LegalJournalsDiffer) (texts :
     unfolding lines_from
     last-joins none = rest-is ∙ ap (lines_from b.options (length H)) none
 
-    whole : drop (length H) G ≡ [] → G ≡ H
+    pub whole : drop (length H) G ≡ [] → G ≡ H
     whole none = sym (take-append-drop (length H) G) ∙ (ap (λ es. take (length H) G ++ es) none ∙ (append-nil (take (length H) G) ∙ sym prefix))
 
   refused-not-full : (bytes : List ℕ) (H : List Entry) (e : JournalRefusal) → IsRefusedAt b bytes H e → (G : List Entry) → IsFull b 1 (tries G)

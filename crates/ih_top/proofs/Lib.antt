@@ -14,6 +14,7 @@ pub mod JournalLaws
 pub mod JournalOutcomes
 pub mod JournalReading
 pub mod Methods
+pub mod RoundHeadings
 pub mod RoundsAlike
 pub mod RoundsOutputs
 pub mod RoundsWriting

@@ -1,9 +1,10 @@
 -- Laws of journals and of calls of the program.
-use Rattle.std.specs.Prelude.{◌≡◌, ◌≢◌, ◌≤◌, ◌*◌, ◌==◌, ◌⊎◌, ℕ, List, ◌++◌, length, Option, Some, None}
+use Rattle.std.specs.Prelude.{◌≡◌, ◌≢◌, ◌≤◌, ◌+◌, ◌*◌, ◌==◌, ◌⊎◌, ℕ, List, ◌∷◌, ◌++◌, length, Option, Some, None}
 use Rattle.std.specs.List.{count_by}
 use Rattle.ih_tables.specs.Valid.{IsValid}
 use Rattle.ih_journal.specs.declared.entries.Entry.{Entry}
 use Rattle.ih_journal.specs.declared.refusals.JournalRefusal.{JournalRefusal}
+use Rattle.ih_journal.specs.declared.refusals.Reason.TheVariants.{Extra}
 use Rattle.ih_journal.specs.declared.settings.Options.{Options}
 use Rattle.ih_journal.specs.Base.{Base}
 use Rattle.ih_journal.specs.Tried.{tries}
@@ -13,7 +14,7 @@ use Rattle.ih_journal.specs.Texts.{journal, lines_from}
 use Rattle.ih_cellbook.specs.Keeping.{IsBase}
 use Rattle.ih_chain.specs.declared.entries.ChainEntry.{ChainEntry}
 use Rattle.ih_chain.specs.Texts.{chain_journal}
-use Rattle.ih_rounds.specs.Rounds.{Round}
+use Rattle.ih_rounds.specs.Rounds.{Round, journals}
 use Rattle.ih_words.specs.Chain.{ChainCall}
 use Rattle.ih_words.specs.Replay.{ReplayCall}
 use Rattle.ih_words.specs.Rounds.{RoundsCall}
@@ -186,3 +187,20 @@ ChainsAreRefused = (c : ChainCall) (r : ReplayCall) (before after there left : N
     → after c.search.journal ≡ Some (chain_journal b.options c.length H) → IsReplayOf c.search r before after there
     → HasNoFault ended
     → IsRefusedBack r there left ended said
+
+-- ---- journals of rounds
+
+-- where a journal of rounds goes on behind that of the first
+abbrev pub second_heading : Round → JournalRefusal
+second_heading first = record { line = length first.history + 2; reason = Extra }
+
+-- After two rounds or more wrote their journals, and these are no longer than a journal's file may be, replay refuses
+-- them at the second heading, or memory runs out.
+abbrev pub RoundsAreRefused : Type 0
+RoundsAreRefused = (c : RoundsCall) (r : ReplayCall) (before after there left : Names) (b : Base) (first second : Round)
+    (rounds : List Round) (ended : Status) (said : List ℕ)
+    → AreSearches (Some before) c b (first ∷ second ∷ rounds)
+    → after c.search.journal ≡ Some (journals b.options 0 (first ∷ second ∷ rounds))
+    → length (journals b.options 0 (first ∷ second ∷ rounds)) ≤ MAX_JOURNAL
+    → IsReplayOf c.search r before after there → HasNoFault ended → ReplayEnds r (Some there) (Some left) ended said
+    → EndsIn (JournalRefused (second_heading first)) (journal_refused_text (second_heading first)) (Unit {0}) ended said

@@ -4,7 +4,8 @@
 ghost use Rattle.ih_top.specs.Laws.{ChainJournalsAreHeadless, ChainJournalsFit, ChainsAreRefused, DemosShowTheSame};
 ghost use Rattle.ih_top.specs.Laws.{JournalsFit, SolvesReplayTheSame, SolvesWithNoneReplayTheSame, LoneRoundsAreAlike};
 ghost use Rattle.ih_top.specs.Laws.{LoneRoundsEndAlike, LoneSearchesAreAlike, LoneSearchesDoTheSame};
-ghost use Rattle.ih_top.specs.Laws.{LoneSearchesEndAlike, RefusedLinesAreNotFull, WholeLinesAreSalvaged};
+ghost use Rattle.ih_top.specs.Laws.{LoneSearchesEndAlike, RefusedLinesAreNotFull, RoundsAreRefused};
+ghost use Rattle.ih_top.specs.Laws.{WholeLinesAreSalvaged};
 ghost use Rattle.ih_inputs.specs.declared.reading.TheConstants.{MAX_FILE};
 ghost use Rattle.ih_top.specs.declared.limits.TheConstants.{MAX_JOURNAL};
 ghost use Rattle.ih_top.specs.{Chain.of_chains, Solve.of_moves};
@@ -73,6 +74,16 @@ pub fn chains_are_refused()
     ensures refused { ChainsAreRefused }
 {
     chain_journals_are_short();
+}
+
+/// The journals of two rounds or more, one after the other, are refused by `replay` at the second heading, with no
+/// fault and memory enough, where they are no longer than a journal's file may be.
+pub fn rounds_are_refused()
+    ensures { RoundsAreRefused }
+{
+    legal_journals_are_taken();
+    legal_journals_differ();
+    taken_lines_are_of_legal_histories();
 }
 
 /// The limits of words and files are these numbers: where a definition speaks of them by name, a changed constant would

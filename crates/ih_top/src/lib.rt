@@ -29,7 +29,7 @@ mod writer;
 
 pub use laws::{
     chains_are_refused, limits_are_these, lone_searches_are_alike, refused_lines_are_not_full,
-    solves_replay_the_same, whole_lines_are_salvaged,
+    rounds_are_refused, solves_replay_the_same, whole_lines_are_salvaged,
 };
 pub use limits::MAX_JOURNAL;
 pub use rounds_output::search_at_desk;
