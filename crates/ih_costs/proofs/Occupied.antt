@@ -8,7 +8,7 @@ use Rattle.ih_plan.specs.Costs.{is_empty}
 use Rattle.ih_plan.specs.Presence.{present}
 use Rattle.ih_plan.specs.Sums.{is_listed}
 use Rattle.ih_plan.specs.Timetable.{Timetable}
-use Rattle.ih_roomdays.specs.declared.series.RoomLists.{RoomLists}
+use Rattle.ih_roomdays.specs.declared.room_lists.RoomLists.{RoomLists}
 use Rattle.ih_roomdays.specs.Ledger.{IsLedgerOf}
 use Rattle.ih_roomdays.specs.RoomLists.{persons_at}
 use Rattle.ih_roomdays.proofs.People.{has-is_listed}

@@ -9,7 +9,7 @@ use Rattle.ih_plan.specs.Timetable.{Timetable, IsPlanOf}
 use Rattle.ih_plan.specs.Writes.{put, IsWriteOf}
 use Rattle.ih_plan.specs.Presence.{admission_of}
 use Rattle.ih_plan.proofs.PlanRanges.{put-plan}
-use Rattle.ih_roomdays.specs.declared.series.RoomLists.{RoomLists}
+use Rattle.ih_roomdays.specs.declared.room_lists.RoomLists.{RoomLists}
 use Rattle.ih_roomdays.specs.Ledger.{IsLedgerOf as Has_room_days}
 use Rattle.ih_theatres.specs.declared.theatres.Theatres.{Theatres}
 use Rattle.ih_theatres.specs.Ledger.{IsLedgerOf as Has_theatres}

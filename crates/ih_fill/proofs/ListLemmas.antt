@@ -5,12 +5,14 @@ use Rattle.std.specs.List.{range_with_len}
 use Rattle.std.proofs.lemmas.Grind.{flat_map-append}
 use Rattle.std.proofs.lemmas.List.{map-append, append-nil, map-id}
 use Rattle.std.proofs.lemmas.List.Elements.{filter-append}
-use Rattle.std.proofs.lemmas.List.FromFn.{length-map-range_with_len, map-range_with_len_more}
+use Rattle.std.proofs.lemmas.List.FromFn.{filter_of_map_range_with_len_more, length-map-range_with_len, map-range_with_len_more}
 use Rattle.std.proofs.lemmas.Option.{slice_get_within}
 use Rattle.ih_tables.specs.declared.drafts.Draft.{Draft}
 use Rattle.ih_tables.specs.declared.drafts.Patient.{Patient}
 use Rattle.ih_tables.specs.declared.ids.PatientNo.{PatientNo}
+use Rattle.ih_tables.specs.declared.ids.NurseNo.{NurseNo}
 use Rattle.ih_tables.specs.Sizes.{room_count}
+use Rattle.ih_tables.specs.Works.{first_nurses}
 use Rattle.ih_plan.specs.declared.moves.Write.{Write}
 use Rattle.ih_plan.specs.Sums.{which_below}
 use Rattle.ih_plan.proofs.SumLemmas.{which_below-more}
@@ -41,6 +43,21 @@ which-more f n q e = ap (map f) (which_below-more n q ∙ ap (λ (b : Bool). if 
 
 pub which-same : {A : Type 0} (f : ℕ → A) (n : ℕ) (q : ℕ → Bool) → q n ≡ false → map f (which_below (n + 1) q) ≡ map f (which_below n q)
 which-same f n q e = ap (map f) (which_below-more n q ∙ ap (λ (b : Bool). if b then which_below n q ++ n ∷ [] else which_below n q) e)
+
+-- the first n nurses who pass, and nurse n, who passes or doesn't
+pub nurse-more : {A : Type 0} (f : NurseNo → A) (n : ℕ) (q : NurseNo → Bool) → q (record { 0 = n }) ≡ true
+    → map f (filter q (first_nurses (n + 1))) ≡ map f (filter q (first_nurses n)) ++ f (record { 0 = n }) ∷ []
+nurse-more f n q e =
+    ap (map f) (filter_of_map_range_with_len_more q (λ i. record { 0 = i }) 0 n n refl
+    ∙ ap (λ (b : Bool). filter q (first_nurses n) ++ cond b (record { 0 = n } ∷ []) []) e)
+    ∙ map-append f (filter q (first_nurses n)) (record { 0 = n } ∷ [])
+
+pub nurse-same : {A : Type 0} (f : NurseNo → A) (n : ℕ) (q : NurseNo → Bool) → q (record { 0 = n }) ≡ false
+    → map f (filter q (first_nurses (n + 1))) ≡ map f (filter q (first_nurses n))
+nurse-same f n q e =
+    ap (map f) (filter_of_map_range_with_len_more q (λ i. record { 0 = i }) 0 n n refl
+    ∙ (ap (λ (b : Bool). filter q (first_nurses n) ++ cond b (record { 0 = n } ∷ []) []) e
+    ∙ append-nil (filter q (first_nurses n))))
 
 -- one list more
 pub flat-more : {A : Type 0} (f : ℕ → List A) (a n j : ℕ) → a + n ≡ j → flat_map f (range_with_len a (n + 1)) ≡ flat_map f (range_with_len a n) ++ f j

@@ -1,20 +1,19 @@
 -- Between which writes is chosen, and the cheapest of them.
-use Rattle.std.specs.Prelude.{ℕ, ℤ, int_lt, not, Bool, List, [], ◌∷◌, Option, Some, None, is_some, if◌then◌else◌, map, filter, flat_map, slice_get, ◌==◌}
+use Rattle.std.specs.Prelude.{ℕ, ℤ, int_lt, not, Bool, List, [], ◌∷◌, Option, Some, None, if◌then◌else◌, map, filter, flat_map, slice_get, ◌==◌}
 use Rattle.std.specs.Option.{option_map_or}
 use Rattle.std.specs.List.{range_with_len, list_any}
 use Rattle.ih_tables.specs.declared.drafts.Draft.{Draft}
 use Rattle.ih_tables.specs.declared.drafts.Patient.{Patient}
 use Rattle.ih_tables.specs.declared.ids.RoomNo.{RoomNo}
 use Rattle.ih_tables.specs.declared.ids.PatientNo.{PatientNo}
-use Rattle.ih_tables.specs.Sizes.{room_count, theatre_count, nurse_count}
-use Rattle.ih_tables.specs.Works.{max_load}
+use Rattle.ih_tables.specs.Sizes.{room_count, theatre_count}
+use Rattle.ih_tables.specs.Works.{working}
 use Rattle.ih_plan.specs.declared.moves.Placement.{Placement}
 use Rattle.ih_plan.specs.declared.moves.Write.{Write}
 use Rattle.ih_plan.specs.declared.moves.Write.TheVariants.{SetStay, SetCare}
 use Rattle.ih_plan.specs.Timetable.{Timetable}
 use Rattle.ih_plan.specs.Writes.{put}
 use Rattle.ih_plan.specs.Draws.{window_len}
-use Rattle.ih_plan.specs.Sums.{which_below}
 use Rattle.ih_fill.specs.declared.candidates.Candidate.{Candidate}
 
 -- a stay from day d on in room r, with surgery in theatre t
@@ -47,9 +46,7 @@ stay_writes I p =
 
 -- the nurses that room r may get in shift k, rising: those who work it
 abbrev pub care_writes : Draft → ℕ → ℕ → List Write
-care_writes I r k =
-    map (λ n. SetCare (record { 0 = r }) (record { 0 = k }) (Some (record { 0 = n })))
-    (which_below (nurse_count I) (λ n. is_some (max_load I n k)))
+care_writes I r k = map (λ n. SetCare (record { 0 = r }) (record { 0 = k }) (Some n)) (working I k)
 
 -- the write of least value among w and the others, the first on a tie
 abbrev pub cheapest : (Write → ℤ) → Write → List Write → Write
