@@ -1,5 +1,4 @@
 use Rattle.std.proofs.Common.{None, Some, refl, subst}
-use Rattle.std.specs.Prelude.{IfNone}
 use Rattle.ih_look.specs.Calls.{Call, call_in}
 use Rattle.ih_look.specs.Ends.{Ends, Reaches}
 use Rattle.ih_look.specs.Texts.{MayTell, text_for, text_of, usage_text, IsReceived}
