@@ -2,6 +2,7 @@
 use Rattle.std.proofs.Common.{◌≡◌, ℕ, zero, suc, ◌+◌, ◌<◌, refl, sym, ◌∙◌, ap, arith, inl, inr, Bool, true, false, List, [], ◌∷◌, ◌++◌, length, map, append_assoc}
 use Rattle.std.specs.Prelude.{filter, flat_map, cond, Some, None, ◌⊎◌, slice_get, if◌then◌else◌}
 use Rattle.std.specs.List.{range_with_len}
+use Rattle.std.proofs.Math.Nat.{zero-add}
 use Rattle.std.proofs.lemmas.Grind.{flat_map-append}
 use Rattle.std.proofs.lemmas.List.{map-append, append-nil, map-id}
 use Rattle.std.proofs.lemmas.List.Elements.{filter-append}
@@ -48,14 +49,14 @@ which-same f n q e = ap (map f) (which_below-more n q ∙ ap (λ (b : Bool). if 
 pub nurse-more : {A : Type 0} (f : NurseNo → A) (n : ℕ) (q : NurseNo → Bool) → q (record { 0 = n }) ≡ true
     → map f (filter q (first_nurses (n + 1))) ≡ map f (filter q (first_nurses n)) ++ f (record { 0 = n }) ∷ []
 nurse-more f n q e =
-    ap (map f) (filter_of_map_range_with_len_more q (λ i. record { 0 = i }) 0 n n refl
+    ap (map f) (filter_of_map_range_with_len_more q (λ i. record { 0 = i }) 0 n n (zero-add n)
     ∙ ap (λ (b : Bool). filter q (first_nurses n) ++ cond b (record { 0 = n } ∷ []) []) e)
     ∙ map-append f (filter q (first_nurses n)) (record { 0 = n } ∷ [])
 
 pub nurse-same : {A : Type 0} (f : NurseNo → A) (n : ℕ) (q : NurseNo → Bool) → q (record { 0 = n }) ≡ false
     → map f (filter q (first_nurses (n + 1))) ≡ map f (filter q (first_nurses n))
 nurse-same f n q e =
-    ap (map f) (filter_of_map_range_with_len_more q (λ i. record { 0 = i }) 0 n n refl
+    ap (map f) (filter_of_map_range_with_len_more q (λ i. record { 0 = i }) 0 n n (zero-add n)
     ∙ (ap (λ (b : Bool). filter q (first_nurses n) ++ cond b (record { 0 = n } ∷ []) []) e
     ∙ append-nil (filter q (first_nurses n))))
 
