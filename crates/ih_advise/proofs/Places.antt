@@ -35,9 +35,6 @@ module _ (I : Draft) (hard : ℕ) (P : Timetable) (cs : List Choice) where
     pub here : at ≡ w + length found * n
     pub each : (k : ℕ) → k < length found → (s : Choice) → slice_get cs (w + k * n) ≡ Some s → slice_get found k ≡ Some (advice_on I hard P s)
 
-  pub come-none : (n w : ℕ) (found : List (Option Advice)) → found ≡ [] → HasCome n w w found
-  come-none n w found none = rw none (record { here = omega arith; each = λ k h. absurd (omega arith) })
-
   pub come-more : (n w at : ℕ) (found more : List (Option Advice)) (s : Choice) (x : Option Advice) → HasCome n w at found
       → slice_get cs at ≡ Some s → x ≡ advice_on I hard P s → more ≡ found ++ x ∷ [] → HasCome n w (at + n) more
   come-more n w at found more s x come there is e =
@@ -67,15 +64,6 @@ module _ (I : Draft) (hard : ℕ) (P : Timetable) (cs : List Choice) where
           | inr above ↦ let most = mul-le-mul_right n above in absurd (omega arith)
         ]) s asked;
   }
-
-  -- there is room for one more answer
-  pub room-left : (n w at room : ℕ) (found : List (Option Advice)) → HasCome n w at found → at < length cs → length cs ≤ room * n → length found < room
-  room-left n w at room found come below most =
-      let here = come.here in
-      elim (cases_lt (length found) room) [
-        | inl less ↦ less
-        | inr more ↦ let times = mul-le-mul_right n more in absurd (omega arith)
-      ]
 
   -- choice s is answered by worker s % n, as number s / n of its answers
   found-at : (n : ℕ) (findings : List Findings) → 0 < n → HaveAnswered I hard P cs n findings → (s : ℕ) (z : Choice) → slice_get cs s ≡ Some z

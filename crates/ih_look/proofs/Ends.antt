@@ -83,18 +83,6 @@ module _ (texts : Status → List ℕ) (old new : Option (List ℕ)) (faults fau
     told-line (inl (same, g)) = inl same
     told-line (inr (memory, part)) = inr (other, memory)
 
-    -- there was no memory for the line, and that was put
-    pub said-memory : IsPut (texts OutOfMemory) OutOfMemory result old new faults faults' lacks lacks'
-        → IsReceived (MayTell status) texts result old new faults faults' lacks lacks'
-    said-memory put = said-put (MayTell status) OutOfMemory result memory-other (inr (other, refl)) put
-      where
-        memory-other : OutOfMemory ≢ Done
-        memory-other e = let clash : OutOfMemory ≡ Done = e in cc
-
-    pub told-memory : IsPut (texts OutOfMemory) OutOfMemory result old new faults faults' lacks lacks' → MayTell status result
-    told-memory (inl (memory, g)) = inr (other, memory)
-    told-memory (inr (memory, part)) = inr (other, memory)
-
 -- the status after a put
 pub put-status : (text : List ℕ) (status result : Status) (old new : Option (List ℕ)) (faults faults' lacks lacks' : ℕ)
     → IsPut text status result old new faults faults' lacks lacks' → (result ≡ status) ⊎ (result ≡ OutOfMemory)

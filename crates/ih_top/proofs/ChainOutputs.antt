@@ -11,8 +11,7 @@ use Rattle.ih_journal.specs.Base.{Base}
 use Rattle.ih_journal.specs.Best.{BestIs}
 use Rattle.ih_journal.specs.Frozen.{AgreesBefore, is_before}
 use Rattle.ih_journal.specs.History.{plan_at}
-use Rattle.ih_cellbook.specs.Keeping.{IsBase, base_with}
-use Rattle.ih_cellbook.proofs.EntryLimits.{legal-few}
+use Rattle.ih_cellbook.specs.Keeping.{base_with}
 use Rattle.ih_cellbook.proofs.Unfrozen.{none-before}
 use Rattle.ih_chain.specs.declared.entries.ChainEntry.{ChainEntry}
 use Rattle.ih_chain.specs.Entries.{chain_tried, chain_tries}
@@ -38,15 +37,6 @@ agrees-free b P free = record {
 
 run-agrees : (b : Base) (H : List ChainEntry) → b.freeze ≡ 0 → (k : ℕ) → AgreesBefore b (plan_at b (chain_tries H) k)
 run-agrees b H free k = agrees-free b (plan_at b (chain_tries H) k) free
-
--- ---- a run has few entries
-
-pub run-few : (b : Base) (each : ℕ) (r : Ran) → IsBase b → IsRunOf b each r → length r.entries < 2 ^ 31
-run-few b each r base is =
-    let few = (legal-few b (chain_tries r.entries) (λ k e there. (is.full.legal k e there).entry)).most in
-    let most = base.lawful.entries in
-    let len = length-map r.entries chain_tried in
-    omega (arith, few, most, len)
 
 -- ---- its best
 

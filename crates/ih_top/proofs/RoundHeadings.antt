@@ -1,5 +1,5 @@
 -- A journal of rounds, and where replay refuses it: behind the lines of the first history there is another heading.
-use Rattle.std.proofs.Common.{zero, suc, ◌≡◌, ◌∙◌, ℕ, ◌+◌, ◌<◌, ◌≤◌, refl, sym, ap, ap₂, subst, arith, inl, inr, true, false, List, [], ◌∷◌, ◌++◌, append_assoc, length, drop, Some}
+use Rattle.std.proofs.Common.{◌≡◌, ◌∙◌, ℕ, ◌+◌, ◌<◌, ◌≤◌, refl, sym, ap, ap₂, subst, arith, inl, inr, true, false, List, [], ◌∷◌, ◌++◌, append_assoc, length, drop, Some}
 use Rattle.std.specs.Prelude.{◌⊎◌, ◌^◌, Bool}
 use Rattle.std.specs.List.{AllByRecursion}
 use Rattle.std.proofs.lemmas.List.{append-nil, append_cancel_left}
