@@ -27,58 +27,6 @@ module _ (v : Write → ℤ) where
       subst (λ x. IsBefore x a.place (v b.candidate.write) b.place) (ap (λ (c : Candidate). c.value) first.value)
       (subst (λ y. IsBefore a.candidate.value a.place y b.place) (ap (λ (c : Candidate). c.value) second.value) h)
 
-  -- the lower of the first least of some places and of others is the first least of all of them
-  pub lower-joins : (ws : List Write) (S R : ℕ → Type 0) (a b r : Option Found) → IsLower a b r → IsLeastOf v ws S a → IsLeastOf v ws R b
-      → IsLeastOf v ws (λ k. S k ⊎ R k) r
-  lower-joins ws S R None None r e none nothing = rw e (λ k x h there. elim h [
-    | inl s ↦ none k x s there
-    | inr t ↦ nothing k x t there
-  ])
-  lower-joins ws S R None (Some b) r e none first = rw e (record {
-    value = first.value;
-    first = record {
-      there = first.first.there;
-      among = inr first.first.among;
-      first = λ k x h there. elim h [
-        | inl s ↦ absurd (none k x s there)
-        | inr t ↦ first.first.first k x t there
-      ];
-    };
-  })
-  lower-joins ws S R (Some a) None r e first none = rw e (record {
-    value = first.value;
-    first = record {
-      there = first.first.there;
-      among = inl first.first.among;
-      first = λ k x h there. elim h [
-        | inl s ↦ first.first.first k x s there
-        | inr t ↦ absurd (none k x t there)
-      ];
-    };
-  })
-  lower-joins ws S R (Some a) (Some b) r (inl left) first second = rw left.0 (record {
-    value = first.value;
-    first = record {
-      there = first.first.there;
-      among = inl first.first.among;
-      first = λ k x h there. elim h [
-        | inl s ↦ first.first.first k x s there
-        | inr t ↦ before-trans (v a.candidate.write) (v b.candidate.write) (v x) a.place b.place k (writes-before ws S R a b first second left.1) (second.first.first k x t there)
-      ];
-    };
-  })
-  lower-joins ws S R (Some a) (Some b) r (inr right) first second = rw right.0 (record {
-    value = second.value;
-    first = record {
-      there = second.first.there;
-      among = inr second.first.among;
-      first = λ k x h there. elim h [
-        | inl s ↦ before-trans (v b.candidate.write) (v a.candidate.write) (v x) b.place a.place k (writes-before ws R S b a second first right.1) (first.first.first k x s there)
-        | inr t ↦ second.first.first k x t there
-      ];
-    };
-  })
-
   -- the same candidates at places that are named otherwise
   pub same-places : (ws : List Write) (S R : ℕ → Type 0) (o : Option Found) → ((k : ℕ) → R k → k < length ws → S k) → ((k : ℕ) → S k → k < length ws → R k)
       → IsLeastOf v ws S o → IsLeastOf v ws R o
@@ -91,6 +39,56 @@ module _ (v : Write → ℤ) where
       first = λ k x t there. first.first.first k x (from k t (slice_get_within ws k x there)) there;
     };
   }
+
+  -- the first least of some places that comes before each write at others is the first least of all of them
+  with-others : (ws : List Write) (S R : ℕ → Type 0) (a : Found) → IsFirstOf v ws S a
+      → ((k : ℕ) (x : Write) → R k → slice_get ws k ≡ Some x → IsBefore (v a.candidate.write) a.place (v x) k)
+      → IsFirstOf v ws (λ k. S k ⊎ R k) a
+  with-others ws S R a first ahead = record {
+    value = first.value;
+    first = record {
+      there = first.first.there;
+      among = inl first.first.among;
+      first = λ k x h there. elim h [
+        | inl s ↦ first.first.first k x s there
+        | inr t ↦ ahead k x t there
+      ];
+    };
+  }
+
+  -- in whichever order the places are named
+  turned : (ws : List Write) (S R : ℕ → Type 0) (o : Option Found) → IsLeastOf v ws (λ k. R k ⊎ S k) o
+      → IsLeastOf v ws (λ k. S k ⊎ R k) o
+  turned ws S R o =
+      same-places ws (λ k. R k ⊎ S k) (λ k. S k ⊎ R k) o
+      (λ k h within. elim h [
+        | inl s ↦ inr s
+        | inr t ↦ inl t
+      ])
+      (λ k h within. elim h [
+        | inl t ↦ inr t
+        | inr s ↦ inl s
+      ])
+
+  -- the lower of the first least of some places and of others is the first least of all of them
+  pub lower-joins : (ws : List Write) (S R : ℕ → Type 0) (a b r : Option Found) → IsLower a b r → IsLeastOf v ws S a → IsLeastOf v ws R b
+      → IsLeastOf v ws (λ k. S k ⊎ R k) r
+  lower-joins ws S R None None r e none nothing = rw e (λ k x h there. elim h [
+    | inl s ↦ none k x s there
+    | inr t ↦ nothing k x t there
+  ])
+  lower-joins ws S R None (Some b) r e none first =
+      rw e (turned ws S R (Some b) (with-others ws R S b first (λ k x s there. absurd (none k x s there))))
+  lower-joins ws S R (Some a) None r e first none =
+      rw e (with-others ws S R a first (λ k x t there. absurd (none k x t there)))
+  lower-joins ws S R (Some a) (Some b) r (inl left) first second =
+      let ahead = writes-before ws S R a b first second left.1 in
+      rw left.0 (with-others ws S R a first
+      (λ k x t there. before-trans (v a.candidate.write) (v b.candidate.write) (v x) a.place b.place k ahead (second.first.first k x t there)))
+  lower-joins ws S R (Some a) (Some b) r (inr right) first second =
+      let ahead = writes-before ws R S b a second first right.1 in
+      rw right.0 (turned ws S R (Some b) (with-others ws R S b second
+      (λ k x s there. before-trans (v b.candidate.write) (v a.candidate.write) (v x) b.place a.place k ahead (first.first.first k x s there))))
 
   -- ---- one candidate more
 

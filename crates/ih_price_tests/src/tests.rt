@@ -3,6 +3,7 @@
 mod costs;
 mod fill;
 mod footprint;
+mod ledgers;
 mod links;
 mod moves;
 mod nurses;

@@ -172,31 +172,34 @@ fn pass<R: Wait, G: Gate>(rt: &R, gate: &G) {
     gate.after(rt, 0, 1);
 }
 
+// Workers come to the gate, each with the number of its try.
+fn come<R: Wait>(rt: &R, gate: &HoldGate, rows: &[(u32, u32)]) {
+    for (worker, number) in rows {
+        gate.before(rt, *worker, *number);
+    }
+}
+
 // Whether a gate that holds worker 0 at number 2 lets it on once the other worker came, and holds it until then.
 fn holds_until_the_other_came<R: Wait>(rt: &R) -> bool {
     let gate = HoldGate::new(10, 2);
     gate.after(rt, 1, 0);
-    gate.before(rt, 0, 0);
-    gate.before(rt, 1, 0);
+    come(rt, &gate, &[(0, 0), (1, 0)]);
     let first = gate.ran_out();
-    gate.before(rt, 0, 2);
-    gate.before(rt, 1, 1);
-    gate.before(rt, 2, 1);
+    come(rt, &gate, &[(0, 2), (1, 1), (2, 1)]);
     let second = gate.ran_out();
-    gate.before(rt, 0, 1);
+    come(rt, &gate, &[(0, 1)]);
     let third = gate.ran_out();
     gate.after(rt, 1, 1);
-    gate.before(rt, 0, 1);
+    come(rt, &gate, &[(0, 1)]);
     !first && !second && third && gate.ran_out()
 }
 
 fn holds_each_number_for_itself<R: Wait>(rt: &R) -> bool {
     let gate = HoldGate::new(10, 3);
     gate.after(rt, 1, 1);
-    gate.before(rt, 0, 1);
-    gate.before(rt, 1, 1);
+    come(rt, &gate, &[(0, 1), (1, 1)]);
     let first = gate.ran_out();
-    gate.before(rt, 1, 2);
+    come(rt, &gate, &[(1, 2)]);
     !first && gate.ran_out()
 }
 

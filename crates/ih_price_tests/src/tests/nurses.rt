@@ -4,7 +4,7 @@ ghost use Rattle.ih_plan.specs.Timetable.{empty};
 ghost use Rattle.ih_nurses.specs.Ledger.{IsLedgerOf};
 ghost use Rattle.ih_fixtures.specs.Two.{IsOfTwo};
 
-use ih_fixtures::{first_day, on_two_patients, share};
+use ih_fixtures::{first_day, share};
 use ih_nurses::Nurses;
 use ih_tables::{Bill, Instance, NurseNo, PatientNo, PersonNo, RoomNo, Shift};
 use std::alloc::Global;
@@ -46,18 +46,12 @@ fn one_is_right(inst: &Instance, ledger: &mut Nurses) -> bool
         && ledger.plan().stay(PatientNo(0)) == Some(at)
 }
 
-fn hold(alloc: Global, inst: &Instance) -> bool
+// A nurse lacks skill in the night, while the early shift has none.
+pub fn hold(alloc: Global, inst: &Instance) -> bool
     requires { IsOfTwo inst.now.draft }
 {
     Nurses::new(alloc, inst).is_ok_and(|mut ledger| {
         share(&ledger);
         one_is_right(inst, &mut ledger)
     })
-}
-
-// A nurse lacks skill in the night, while the early shift has none.
-#[test]
-fn a_patient_comes_under_a_nurse(rt: HostRuntime) {
-    let alloc = rt.alloc();
-    assert!(rt; on_two_patients(alloc, &[], |inst| hold(alloc, inst)));
 }

@@ -5,7 +5,7 @@ ghost use Rattle.ih_plan.specs.Timetable.{empty};
 ghost use Rattle.ih_roomdays.specs.Ledger.{IsLedgerOf};
 ghost use Rattle.ih_fixtures.specs.Two.{IsOfTwo};
 
-use ih_fixtures::{first_day, on_two_patients, share};
+use ih_fixtures::{first_day, share};
 use ih_plan::Members;
 use ih_roomdays::RoomDays;
 use ih_tables::{Bill, Day, Instance, PatientNo, RoomNo};
@@ -43,17 +43,12 @@ fn is_right(inst: &Instance, ledger: &mut RoomDays) -> bool
     both && later == 1 && is(&bill, 0, 0, 1)
 }
 
-fn hold(alloc: Global, inst: &Instance) -> bool
+// A patient joins an occupant.
+pub fn hold(alloc: Global, inst: &Instance) -> bool
     requires { IsOfTwo inst.now.draft }
 {
     RoomDays::new(alloc, inst).is_ok_and(|mut ledger| {
         share(&ledger);
         is_right(inst, &mut ledger)
     })
-}
-
-#[test]
-fn a_patient_joins_an_occupant(rt: HostRuntime) {
-    let alloc = rt.alloc();
-    assert!(rt; on_two_patients(alloc, &[], |inst| hold(alloc, inst)));
 }

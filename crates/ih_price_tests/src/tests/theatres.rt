@@ -4,7 +4,7 @@ ghost use Rattle.ih_plan.specs.Timetable.{empty};
 ghost use Rattle.ih_theatres.specs.Ledger.{IsLedgerOf};
 ghost use Rattle.ih_fixtures.specs.Two.{IsOfTwo};
 
-use ih_fixtures::{first_day, on_two_patients, share};
+use ih_fixtures::{first_day, share};
 use ih_tables::{Bill, Day, Instance, PatientNo, SurgeonNo, TheatreNo};
 use ih_theatres::Theatres;
 use std::alloc::Global;
@@ -29,17 +29,12 @@ fn are_right(inst: &Instance, ledger: &mut Theatres) -> bool
     is(&used, OPEN) && is(&alone, NONE)
 }
 
-fn hold(alloc: Global, inst: &Instance) -> bool
+// A surgery opens a theatre.
+pub fn hold(alloc: Global, inst: &Instance) -> bool
     requires { IsOfTwo inst.now.draft }
 {
     Theatres::new(alloc, inst).is_ok_and(|mut ledger| {
         share(&ledger);
         are_right(inst, &mut ledger)
     })
-}
-
-#[test]
-fn a_surgery_comes(rt: HostRuntime) {
-    let alloc = rt.alloc();
-    assert!(rt; on_two_patients(alloc, &[], |inst| hold(alloc, inst)));
 }
