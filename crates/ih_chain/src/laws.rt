@@ -14,8 +14,8 @@ pub fn chain_journals_are_short()
     ensures { ChainJournalsAreShort }
 {}
 
-/// Two searches by chains of an instance that differ in their options, in the length of their chains or in an entry have
-/// two journals, also where they begin with different timetables.
+/// Two searches of an instance by chains of at most eight moves, without retries, that differ in their options, in the
+/// length of their chains or in an entry have two journals, also where they begin with different timetables.
 pub fn chain_journals_tell_searches_apart()
     ensures { ChainJournalsTellSearchesApart }
 {}

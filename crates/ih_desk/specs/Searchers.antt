@@ -56,7 +56,7 @@ pub record MayTry (desk : Desk) (seat : DeskSeat) (m : List Move) (x : Progress)
   pub moves : AreMoves (base_of desk).instance m
   pub turns : most_entries (base_of desk).options < credit (turns_left seat) x
 
--- worker w's next attempt is this try of the attempt with this number
+-- worker w's next try is this one of the attempt with this number
 pub record IsNext (o : Options) (H : List Tried) (w number again : ℕ) : Type 0 where
   pub attempt : try_after o (last_by w H) ≡ record { number = number; again = again }
   pub not_done : is_done_after o (last_by w H) ≡ false

@@ -1,4 +1,4 @@
-//! The desk: it keeps the book behind a turn, and hands it out to nobody.
+//! The desk: it keeps the book behind a turn, out of reach until it is closed.
 
 ghost use Rattle.std.specs.Prelude.{◌≡◌, ◌≤◌, [], ◌∷◌, ◌++◌, length, take, drop};
 ghost use Rattle.ih_cellbook.specs.{Copied.most_copied, Legal.AreLegalButDraws, Offers.IsRightOffer, Offers.entry_of};
@@ -107,7 +107,8 @@ impl<'a, E: Logged> DeskOver<Turn<Book<'a, E>>> {
     }
 
     /// Offers the next attempt of the seat's worker, and answers its verdict. The history that the seat has then seen
-    /// ends with this entry. It uses one of the seat's turns, waits for it, and takes no memory.
+    /// ends with this entry. It uses one of the seat's turns, waits for it, and takes no memory. For users of the crate:
+    /// a search's workers offer and look by one turn.
     pub fn offer<R: Wait>(
         &self,
         rt: &R,

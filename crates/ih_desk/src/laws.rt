@@ -1,4 +1,4 @@
-//! What the workers' searches make together.
+//! The law of what the workers' searches make together, on a function that does nothing.
 
 ghost use Rattle.ih_desk.specs.Finishing.{FinishedSearchesAreFull};
 

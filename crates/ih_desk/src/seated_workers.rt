@@ -49,7 +49,8 @@ impl<'a, C: Opens<'a>> WorkerOn<'a, C> {
         }
     }
 
-    /// A worker with this seat, in a search over a start by single moves. It has drawn and seen nothing.
+    /// A worker with this seat, in a search over a start by single moves. It has drawn and seen nothing. For users of the
+    /// crate: `search` seats its workers by itself.
     ///
     /// # Errors
     /// The seat, where memory runs out.

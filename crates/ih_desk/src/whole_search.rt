@@ -21,7 +21,7 @@ use std::alloc::{AllocError, Global};
 use std::sync::Wait;
 use std::thread::Threads;
 
-// The turns of each seat.
+// The turns of each seat, several times what it uses: each turn shows it an entry that it hadn't seen.
 fn turns_of(options: &Options) -> u64
     requires { IsLawful options.now }
     ensures { result ≡ enough_turns options.now }

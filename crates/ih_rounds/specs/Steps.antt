@@ -17,7 +17,7 @@ abbrev pub end_of : Option (ℕ × ℤ) → ℕ → ℕ
 end_of None count = count
 end_of (Some best) count = best.0
 
--- a search over b was answered by this
+-- a search over b, whose options are lawful, was answered by this
 pub record IsAnswer (b : Base) (history : List Entry) : Type 0 where
   pub lawful : IsLawful b.options
   pub full : IsFull b 1 (tries history)

@@ -379,7 +379,8 @@ fn journals_that_fail(rt: HostRuntime) {
 
 const UNPUT: Status = Status::WriteFault(None);
 
-// Calls whose text can't be put; a search's files are whole then. The last is a check of a timetable in which a surgery is a minute too long.
+// Calls whose text can't be put; a search's files are whole then. The last is a check of a timetable in which a surgery
+// is a minute too long.
 const UNSAID: [Event<'static>; 12] = [
     Store("i", WARD),
     Store("j", JOURNAL),
