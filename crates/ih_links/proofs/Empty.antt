@@ -1,12 +1,12 @@
 -- Links of empty lists.
-use Rattle.std.proofs.Common.{◌≡◌, ℕ, zero, suc, ◌+◌, ◌^◌, ◌<◌, ◌≤◌, refl, arith, sym, ap, ◌∙◌, subst, List, [], ◌∷◌, ◌++◌, inl, inr, Option, None, length, replicate}
+use Rattle.std.proofs.Common.{◌≡◌, ℕ, zero, suc, ◌+◌, ◌<◌, ◌≤◌, refl, arith, sym, ap, ◌∙◌, subst, List, [], ◌∷◌, ◌++◌, inl, inr, Option, None, length, replicate}
 use Rattle.std.specs.Prelude.{slice_index, slice_index_or}
 use Rattle.std.specs.List.{range_with_len}
-use Rattle.std.proofs.lemmas.Bool.{cases_lt}
+use Rattle.std.proofs.lemmas.Bool.{cases_lt, eq-eqb}
 use Rattle.std.proofs.lemmas.List.{get_or-replicate, length-replicate, get_or_past}
 use Rattle.std.proofs.lemmas.List.FromFn.{length-range_with_len, get_or-range_with_len}
 use Rattle.ih_links.specs.Lists.{has, is_at}
-use Rattle.ih_links.specs.Ring.{Tied, IsPath, homes_of, lists_of}
+use Rattle.ih_links.specs.Ring.{Tied, IsPath, home_of, homes_of, lists_of}
 use Rattle.ih_links.proofs.Ties.{tied-lists}
 
 same-replicate : {A : Type 0} (n i : ℕ) (d : A) → slice_index_or (replicate n d) i d ≡ d
@@ -15,12 +15,16 @@ same-replicate n i d = elim (cases_lt i n) [
   | inr past ↦ get_or_past (replicate n d) i d (let l = length-replicate n d in omega arith)
 ]
 
--- nodes that are all in no list
-homes-replicate : (n : ℕ) → homes_of (replicate n 65535) ≡ replicate n None
-homes-replicate zero = refl
-homes-replicate (suc n) = ap (λ hs. None ∷ hs) (homes-replicate n)
+pub home-none : (most : ℕ) → home_of most most ≡ None
+home-none most = let e = eq-eqb most most refl in rw e refl
 
-module _ (heads nodes : ℕ) (few : nodes + heads ≤ 2 ^ 16) where
+-- nodes that are all in no list
+homes-replicate : (most n : ℕ) → homes_of most (replicate n most) ≡ replicate n None
+homes-replicate most zero = refl
+homes-replicate most (suc n) =
+    ap (λ h. h ∷ homes_of most (replicate n most)) (home-none most) ∙ ap (λ hs. None ∷ hs) (homes-replicate most n)
+
+module _ (most heads nodes : ℕ) (few : nodes + heads ≤ most + 1) where
   abbrev next : List ℕ
   next = range_with_len 0 (nodes + heads)
 
@@ -48,7 +52,7 @@ module _ (heads nodes : ℕ) (few : nodes + heads ≤ 2 ^ 16) where
       let read : slice_index next (length home + h) ≡ length home + h = get_or-range_with_len 0 (nodes + heads) (length home + h) 0 (omega arith) ∙ omega arith in
       rw (empty h) (read, read)
 
-  pub tied-empty : Tied next next home len ls
+  pub tied-empty : Tied most next next home len ls
   tied-empty =
       let n = homes-are in
       let k = heads-are in
@@ -68,8 +72,8 @@ module _ (heads nodes : ℕ) (few : nodes + heads ≤ 2 ^ 16) where
   pub empty-lists : lists_of next home len ≡ ls
   empty-lists = tied-lists next next home len ls tied-empty
 
-  pub empty-tied : Tied next next home len (lists_of next home len)
-  empty-tied = subst (Tied next next home len) (sym empty-lists) tied-empty
+  pub empty-tied : Tied most next next home len (lists_of next home len)
+  empty-tied = subst (Tied most next next home len) (sym empty-lists) tied-empty
 
 pub range-grown : (a n : ℕ) → range_with_len a (suc n) ≡ range_with_len a n ++ (a + n) ∷ []
 range-grown a zero = ap (λ k. k ∷ []) (omega arith)
@@ -82,13 +86,13 @@ range-more n xs ys is pushed =
     let next : suc n ≡ n + 1 = omega arith in
     pushed ∙ (ap (λ ks. ks ++ n ∷ []) is ∙ (ap (λ k. range_with_len 0 n ++ k ∷ []) none ∙ (sym (range-grown 0 n) ∙ ap (range_with_len 0) next)))
 
-module _ (heads nodes : ℕ) (few : nodes + heads ≤ 2 ^ 16) (n p hm ln : List ℕ) (n_is : n ≡ range_with_len 0 (nodes + heads))
-    (p_is : p ≡ range_with_len 0 (nodes + heads)) (hm_is : hm ≡ replicate nodes 65535) (ln_is : ln ≡ replicate heads 0) where
-  homes : homes_of hm ≡ replicate nodes None
-  homes = ap homes_of hm_is ∙ homes-replicate nodes
+module _ (most heads nodes : ℕ) (few : nodes + heads ≤ most + 1) (n p hm ln : List ℕ) (n_is : n ≡ range_with_len 0 (nodes + heads))
+    (p_is : p ≡ range_with_len 0 (nodes + heads)) (hm_is : hm ≡ replicate nodes most) (ln_is : ln ≡ replicate heads 0) where
+  homes : homes_of most hm ≡ replicate nodes None
+  homes = ap (homes_of most) hm_is ∙ homes-replicate most nodes
 
-  pub new-tied : Tied n p (homes_of hm) ln (lists_of n (homes_of hm) ln)
-  new-tied = rw (n_is, p_is, homes, ln_is) (empty-tied heads nodes few)
+  pub new-tied : Tied most n p (homes_of most hm) ln (lists_of n (homes_of most hm) ln)
+  new-tied = rw (n_is, p_is, homes, ln_is) (empty-tied most heads nodes few)
 
-  pub new-lists : lists_of n (homes_of hm) ln ≡ replicate heads []
-  new-lists = rw (n_is, homes, ln_is) (empty-lists heads nodes few)
+  pub new-lists : lists_of n (homes_of most hm) ln ≡ replicate heads []
+  new-lists = rw (n_is, homes, ln_is) (empty-lists most heads nodes few)

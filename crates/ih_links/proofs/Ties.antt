@@ -40,7 +40,7 @@ record SameSizes (next prev : List ℕ) (home : List (Option ℕ)) (len : List �
   lens : length len' ≡ length len
   lists : length ls' ≡ length ls
 
-module _ (next prev : List ℕ) (home : List (Option ℕ)) (len : List ℕ) (ls : List (List ℕ)) (t : Tied next prev home len ls) where
+module _ {most : ℕ} (next prev : List ℕ) (home : List (Option ℕ)) (len : List ℕ) (ls : List (List ℕ)) (t : Tied most next prev home len ls) where
   pub tied-lists : lists_of next home len ≡ ls
   tied-lists = sym (fill_by_all (λ h. walk (slice_index next) (slice_index len h) (slice_index next (length home + h))) ls (length len) [] t.count each)
     where
@@ -117,7 +117,7 @@ module _ (next prev : List ℕ) (home : List (Option ℕ)) (len : List ℕ) (ls 
       → ((h : ℕ) → h < length len → slice_index len' h ≡ length (slice_index_or ls' h []))
       → ((h x : ℕ) → has x (slice_index_or ls' h []) ≡ is_at h (slice_index_or home' x None))
       → ((h : ℕ) → IsOnce (slice_index_or ls' h []))
-      → Tied next' prev' home' len' ls'
+      → Tied most next' prev' home' len' ls'
   still-tied next' prev' home' len' ls' same path lens homes once =
       let nexts = t.nexts in
       let prevs = t.prevs in
@@ -252,7 +252,7 @@ module _ (next prev : List ℕ) (home : List (Option ℕ)) (len : List ℕ) (ls 
       | inr ne ↦ get_or-set_other len head h (slice_index len head + 1) 0 ne ∙ (t.lens h below ∙ sym (ap length (list-there h ne)))
     ]
 
-    pub tied-pushed : Tied next' prev' home' (slice_set len head (slice_index len head + 1)) ls'
+    pub tied-pushed : Tied most next' prev' home' (slice_set len head (slice_index len head + 1)) ls'
     tied-pushed =
         let nexts = length-set (slice_set next last node) node gate ∙ length-set next last node in
         let prevs = length-set (slice_set prev node last) gate node ∙ length-set prev node last in
@@ -355,7 +355,7 @@ module _ (next prev : List ℕ) (home : List (Option ℕ)) (len : List ℕ) (ls 
       | inr ne ↦ get_or-set_other len head h (slice_index len head - 1) 0 ne ∙ (t.lens h below ∙ sym (ap length (list-same h ne)))
     ]
 
-    pub tied-passed : Tied next- prev- home- (slice_set len head (slice_index len head - 1)) ls-
+    pub tied-passed : Tied most next- prev- home- (slice_set len head (slice_index len head - 1)) ls-
     tied-passed =
         still-tied next- prev- home- (slice_set len head (slice_index len head - 1)) ls-
         (record {

@@ -1,9 +1,9 @@
-//! Lists of several days.
+//! Lists of several days, in their compact form.
 
 ghost use Rattle.std.specs.Prelude.{◌≡◌, replicate, IfOk};
 ghost use Rattle.ih_links.specs.Days.{empty_lists};
 
-use crate::Links;
+use crate::CompactLinks;
 use std::alloc::{AllocError, Global};
 
 /// For each of so many days, lists that are all empty.
@@ -12,12 +12,12 @@ pub fn empty_days(
     days: u32,
     heads: u32,
     nodes: u32,
-) -> Result<Vec<Links>, AllocError>
+) -> Result<Vec<CompactLinks>, AllocError>
     ensures { IfOk result (λ all. all.items ≡ replicate days (empty_lists heads nodes)) }
 {
     let mut all = Vec::with_capacity(alloc, days as usize)?;
     for _ in 0..days {
-        all.push(Links::new(alloc, heads, nodes)?)?;
+        all.push(CompactLinks::compact(alloc, heads, nodes)?)?;
     }
     Ok(all)
 }

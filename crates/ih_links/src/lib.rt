@@ -4,6 +4,8 @@
 
 mod days;
 mod links;
+mod widths;
 
 pub use days::empty_days;
-pub use links::Links;
+pub use links::{CompactLinks, Links};
+pub use widths::Width;

@@ -2,71 +2,111 @@
 //! its list is a ring through that gate: no list has an end to be told apart.
 
 ghost use Rattle.std.specs.Prelude.{◌≡◌, ℕ, ◌+◌, ◌^◌, ◌<◌, ◌≤◌, true, false, ◌++◌, ◌∷◌, [], length, map, replicate};
-ghost use Rattle.std.specs.Prelude.{slice_set, IfOk};
+ghost use Rattle.std.specs.Prelude.{slice_set, IfOk, OnOk};
 ghost use Rattle.std.specs.List.{range_with_len};
 ghost use Rattle.ih_links.specs.Lists.{has, without, following, is_at, list_of, first_of, AreNodes};
 ghost use Rattle.ih_links.specs.Ring.{node_in};
 
+use crate::widths::Width;
 use std::alloc::{AllocError, Global};
 use std::marker::Model;
 
-// The home of a node that is in no list. No head has this number where there are nodes.
-const NO_HEAD: u16 = u16::MAX;
-
-/// Lists of numbered nodes.
+/// Lists of numbered nodes, kept in numbers of a width: heads and nodes together are at most as many as there are such
+/// numbers.
 #[derive(Drop)]
-pub struct Links {
+pub struct Links<W: Width = u32> {
     // What follows each place on its ring, and what it follows: the nodes' places first, then the gates'.
-    next: Vec<u16>,
-    prev: Vec<u16>,
-    // Each node's head, and `NO_HEAD` where it has none.
-    home: Vec<u16>,
+    next: Vec<W>,
+    prev: Vec<W>,
+    // Each node's head, and where it has none the greatest number: no head has that where there are nodes.
+    home: Vec<W>,
     // Each list's length.
-    len: Vec<u16>,
+    len: Vec<W>,
 }
 
-impl Model for Links {
-    ghost use Rattle.std.specs.Prelude.{length};
+/// Lists in half the memory, of up to 2^16 heads and nodes.
+pub type CompactLinks = Links<u16>;
+
+impl<W: Width> Model for Links<W> {
+    ghost use Rattle.std.specs.Prelude.{length, map};
     ghost use Rattle.ih_links.specs.Lists.{Linked};
     ghost use Rattle.ih_links.specs.Ring.{lists_of, homes_of, IsRinged};
 
     ghost Value = { Linked };
 
     ghost view = { λ a. record {
-      lists = lists_of a.next.items (homes_of a.home.items) a.len.items;
+      lists = lists_of (map W.number a.next.items) (homes_of W.most (map W.number a.home.items))
+          (map W.number a.len.items);
       nodes = length a.home.items;
     } };
 
-    ghost invariant = { λ a. IsRinged a.next.items a.prev.items (homes_of a.home.items) a.len.items };
+    ghost invariant = { λ a.
+        IsRinged W.most (map W.number a.next.items) (map W.number a.prev.items)
+        (homes_of W.most (map W.number a.home.items)) (map W.number a.len.items) };
 }
 
 // Places that are each a ring of their own.
-fn lone_places(alloc: Global, count: u64) -> Result<Vec<u16>, AllocError>
-    requires { count ≤ 2 ^ 16 }
-    ensures { IfOk result (λ places. places.items ≡ range_with_len 0 count) }
+fn lone_places<W: Width>(alloc: Global, count: u64) -> Result<Vec<W>, AllocError>
+    requires { count ≤ W.most + 1 }
+    ensures { IfOk result (λ places. map W.number places.items ≡ range_with_len 0 count) }
 {
     let mut places = Vec::with_capacity(alloc, count as usize)?;
     for place in 0..count {
-        places.push(place as u16)?;
+        places.push(W::of(place as u32))?;
     }
     Ok(places)
 }
 
+// So often the same number.
+fn repeated<W: Width>(alloc: Global, n: u32, times: u32) -> Result<Vec<W>, AllocError>
+    requires { n ≤ W.most }
+    ensures { IfOk result (λ all. map W.number all.items ≡ replicate times n) }
+{
+    let mut all = Vec::with_capacity(alloc, times as usize)?;
+    for _ in 0..times {
+        all.push(W::of(n))?;
+    }
+    Ok(all)
+}
+
 impl Links {
-    /// Lists that are all empty. Heads and nodes together are at most 2^16, as many as a place has numbers; memory for
-    /// more is wanting.
+    /// Lists that are all empty. Memory for more than 2^32 heads and nodes together is wanting.
     pub fn new(alloc: Global, heads: u32, nodes: u32) -> Result<Links, AllocError>
         ensures lists { IfOk result (λ l. l.lists ≡ replicate heads []) }
         ensures nodes { IfOk result (λ l. l.nodes ≡ nodes) }
+        ensures few { OnOk result (heads + nodes ≤ 2 ^ 32) }
+    {
+        Links::empty(alloc, heads, nodes)
+    }
+}
+
+impl Links<u16> {
+    /// The same in half the memory. Memory for more than 2^16 heads and nodes together is wanting.
+    pub fn compact(alloc: Global, heads: u32, nodes: u32) -> Result<CompactLinks, AllocError>
+        ensures lists { IfOk result (λ l. l.lists ≡ replicate heads []) }
+        ensures nodes { IfOk result (λ l. l.nodes ≡ nodes) }
+        ensures few { OnOk result (heads + nodes ≤ 2 ^ 16) }
+    {
+        Links::empty(alloc, heads, nodes)
+    }
+}
+
+impl<W: Width> Links<W> {
+    // Lists that are all empty. Where there are more heads and nodes than numbers, memory is wanting.
+    fn empty(alloc: Global, heads: u32, nodes: u32) -> Result<Links<W>, AllocError>
+        ensures lists { IfOk result (λ l. l.lists ≡ replicate heads []) }
+        ensures nodes { IfOk result (λ l. l.nodes ≡ nodes) }
+        ensures few { OnOk result (heads + nodes ≤ W.most + 1) }
     {
         let places = nodes as u64 + heads as u64;
-        if places > 1 << 16 {
+        let most = W::most();
+        if places > most as u64 + 1 {
             return Err(AllocError);
         }
         let next = lone_places(alloc, places)?;
         let prev = lone_places(alloc, places)?;
-        let home = vec![in alloc; NO_HEAD; nodes as usize]?;
-        let len = vec![in alloc; 0; heads as usize]?;
+        let home = repeated(alloc, most, nodes)?;
+        let len = repeated(alloc, 0, heads)?;
         Ok(Links {
             next,
             prev,
@@ -104,12 +144,14 @@ impl Links {
     {
         let gate = self.gate(head);
         let last = self.prev[gate as usize];
-        self.next[last as usize] = node as u16;
-        self.next[node as usize] = gate as u16;
+        let place = W::of(node);
+        self.next[last.get() as usize] = place;
+        self.next[node as usize] = W::of(gate);
         self.prev[node as usize] = last;
-        self.prev[gate as usize] = node as u16;
-        self.home[node as usize] = head as u16;
-        self.len[head as usize] += 1;
+        self.prev[gate as usize] = place;
+        self.home[node as usize] = W::of(head);
+        let count = self.len[head as usize].get();
+        self.len[head as usize] = W::of(count + 1);
     }
 
     /// Takes a node out of its list, which closes up.
@@ -121,10 +163,11 @@ impl Links {
         if let Some(head) = self.home(node) {
             let before = self.prev[node as usize];
             let after = self.next[node as usize];
-            self.next[before as usize] = after;
-            self.prev[after as usize] = before;
-            self.home[node as usize] = NO_HEAD;
-            self.len[head as usize] -= 1;
+            self.next[before.get() as usize] = after;
+            self.prev[after.get() as usize] = before;
+            self.home[node as usize] = W::of(W::most());
+            let count = self.len[head as usize].get();
+            self.len[head as usize] = W::of(count - 1);
         }
     }
 
@@ -134,7 +177,7 @@ impl Links {
         ensures first { result ≡ first_of (list_of self.now head) }
         ensures nodes { AreNodes self.now.nodes (list_of self.now head) }
     {
-        self.node_at(self.next[self.gate(head) as usize] as u32)
+        self.node_at(self.next[self.gate(head) as usize].get())
     }
 
     /// The node behind a node in its list, and none behind the last or where the node is in no list.
@@ -144,7 +187,7 @@ impl Links {
         ensures free { ((h : ℕ) → has node (list_of self.now h) ≡ false) → result ≡ None }
     {
         match self.home(node) {
-            Some(_) => self.node_at(self.next[node as usize] as u32),
+            Some(_) => self.node_at(self.next[node as usize].get()),
             None => None,
         }
     }
@@ -154,10 +197,8 @@ impl Links {
         requires node { node < self.now.nodes }
         ensures { (h : ℕ) → has node (list_of self.now h) ≡ is_at h result }
     {
-        match self.home[node as usize] {
-            NO_HEAD => None,
-            head => Some(head as u32),
-        }
+        let head = self.home[node as usize].get();
+        if head == W::most() { None } else { Some(head) }
     }
 
     /// The length of a list.
@@ -165,6 +206,6 @@ impl Links {
         requires head { head < length self.now.lists }
         ensures { result ≡ length (list_of self.now head) }
     {
-        self.len[head as usize] as u32
+        self.len[head as usize].get()
     }
 }

@@ -10,7 +10,7 @@ ghost use Rattle.ih_nurses.specs.Counts.{AreCounts, count_at, nursed_in, one_of}
 ghost use Rattle.ih_nurses.specs.ShiftSpans.{IsShiftSpan};
 
 use crate::shift_spans::ShiftSpan;
-use ih_links::Links;
+use ih_links::CompactLinks;
 use ih_plan::{Plan, nurse_at};
 use ih_tables::{Instance, NurseNo, RoomNo, Shift};
 
@@ -113,7 +113,7 @@ pub fn move_counts(
     inst: &Instance,
     plan: &Plan,
     counts: &mut [u8],
-    persons: &Links,
+    persons: &CompactLinks,
     r: RoomNo,
     k: Shift,
     new: Option<NurseNo>,

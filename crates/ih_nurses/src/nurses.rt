@@ -19,7 +19,7 @@ use crate::seen::distinct_nurses_over;
 use crate::shift_spans::{placed_shift_span, shift_span_of};
 use crate::start::{no_counts, no_loads, occupants_here};
 use crate::stays::{add_stay, take_stay};
-use ih_links::Links;
+use ih_links::CompactLinks;
 use ih_plan::{Placement, Plan, Write, end_of, nurse_at};
 use ih_tables::{Bill, Instance, NurseNo, PatientNo, PersonNo, RoomNo, Shift};
 use std::alloc::{AllocError, Global};
@@ -30,7 +30,7 @@ pub struct Nurses {
     // The timetable itself.
     pub(crate) plan: Plan,
     // For each day, the persons in each room.
-    pub(crate) here: Vec<Links>,
+    pub(crate) here: Vec<CompactLinks>,
     // The load of each nurse in each shift: those of nurse 0 first, rising by shift.
     pub(crate) loads: Vec<NurseLoad>,
     // How many counted shifts of each person's stay each nurse has: the counts of person 0 first, rising by nurse.

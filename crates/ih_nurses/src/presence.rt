@@ -5,11 +5,11 @@ ghost use Rattle.ih_tables.specs.Sizes.{person_count, room_count};
 ghost use Rattle.ih_plan.specs.Presence.{in_span};
 ghost use Rattle.ih_nurses.specs.Here.{AreSized, is_here};
 
-use ih_links::Links;
+use ih_links::CompactLinks;
 use ih_tables::{Instance, RoomNo};
 
 // Lists a person in a room on a day.
-fn enter_day(inst: &Instance, here: &mut [Links], r: RoomNo, d: u32, x: u32)
+fn enter_day(inst: &Instance, here: &mut [CompactLinks], r: RoomNo, d: u32, x: u32)
     requires sized { AreSized inst.now.draft here.old }
     requires room { r.0 < room_count inst.now.draft }
     requires day { d < inst.now.draft.days }
@@ -23,7 +23,7 @@ fn enter_day(inst: &Instance, here: &mut [Links], r: RoomNo, d: u32, x: u32)
 }
 
 /// Lists a person in a room from day `from` on and before day `to`.
-pub fn enter_days(inst: &Instance, here: &mut [Links], r: RoomNo, from: u32, to: u32, x: u32)
+pub fn enter_days(inst: &Instance, here: &mut [CompactLinks], r: RoomNo, from: u32, to: u32, x: u32)
     requires sized { AreSized inst.now.draft here.old }
     requires room { r.0 < room_count inst.now.draft }
     requires order { from ≤ to }
@@ -41,7 +41,7 @@ pub fn enter_days(inst: &Instance, here: &mut [Links], r: RoomNo, from: u32, to:
 }
 
 // Takes a person out of the lists of a day.
-fn leave_day(inst: &Instance, here: &mut [Links], r: RoomNo, d: u32, x: u32)
+fn leave_day(inst: &Instance, here: &mut [CompactLinks], r: RoomNo, d: u32, x: u32)
     requires sized { AreSized inst.now.draft here.old }
     requires day { d < inst.now.draft.days }
     requires person { x < person_count inst.now.draft }
@@ -53,7 +53,7 @@ fn leave_day(inst: &Instance, here: &mut [Links], r: RoomNo, d: u32, x: u32)
 }
 
 /// Takes a person, who is in a room on these days, out of their lists.
-pub fn leave_days(inst: &Instance, here: &mut [Links], r: RoomNo, from: u32, to: u32, x: u32)
+pub fn leave_days(inst: &Instance, here: &mut [CompactLinks], r: RoomNo, from: u32, to: u32, x: u32)
     requires sized { AreSized inst.now.draft here.old }
     requires order { from ≤ to }
     requires days { to ≤ inst.now.draft.days }

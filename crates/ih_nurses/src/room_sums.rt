@@ -7,7 +7,7 @@ ghost use Rattle.ih_plan.specs.{Timetable.IsPlanOf, Presence.workload_of, Presen
 ghost use Rattle.ih_nurses.specs.Counts.{has_just};
 
 use crate::counts::count;
-use ih_links::Links;
+use ih_links::CompactLinks;
 use ih_plan::{Plan, care_need_of};
 use ih_tables::{Instance, NurseNo, RoomNo, Shift};
 
@@ -66,7 +66,7 @@ pub fn room_sums(
     inst: &Instance,
     plan: &Plan,
     counts: &[u8],
-    persons: &Links,
+    persons: &CompactLinks,
     r: RoomNo,
     k: Shift,
     new: Option<NurseNo>,

@@ -8,13 +8,13 @@ ghost use Rattle.ih_plan.specs.Costs.{not_working, is_empty};
 ghost use Rattle.ih_plan.specs.{Timetable.IsPlanOf, Presence.workload_of, Sums.bit};
 
 use crate::bills::NursingCosts;
-use ih_links::Links;
+use ih_links::CompactLinks;
 use ih_plan::{Plan, care_need_of};
 use ih_tables::{Instance, NurseNo, RoomNo, Shift};
 
 /// The workload of the persons in a room's list in a shift.
 #[inline(always)]
-pub fn workload_in(inst: &Instance, plan: &Plan, persons: &Links, r: RoomNo, k: Shift) -> u32
+pub fn workload_in(inst: &Instance, plan: &Plan, persons: &CompactLinks, r: RoomNo, k: Shift) -> u32
     requires plan { IsPlanOf inst.now.draft plan.now }
     requires room { r.0 < length persons.now.lists }
     requires persons { persons.now.nodes ≡ person_count inst.now.draft }
@@ -33,7 +33,7 @@ pub fn workload_in(inst: &Instance, plan: &Plan, persons: &Links, r: RoomNo, k: 
 }
 
 /// 1 where persons are in a room's list and there is no nurse, and 0 where not.
-pub fn uncovered(persons: &Links, r: RoomNo, n: Option<NurseNo>) -> u32
+pub fn uncovered(persons: &CompactLinks, r: RoomNo, n: Option<NurseNo>) -> u32
     requires room { r.0 < length persons.now.lists }
     ensures value { result
         ≡ bit (is_none (option_map (λ (a : NurseNo). a.0) n) && not (is_empty (list_of persons.now r.0))) }
@@ -45,7 +45,7 @@ pub fn uncovered(persons: &Links, r: RoomNo, n: Option<NurseNo>) -> u32
 
 /// Whether anybody but person x is in a room's list.
 #[inline(always)]
-pub fn has_others(persons: &Links, r: RoomNo, x: u32) -> bool
+pub fn has_others(persons: &CompactLinks, r: RoomNo, x: u32) -> bool
     requires room { r.0 < length persons.now.lists }
     ensures value { result ≡ not (is_empty (without x (list_of persons.now r.0))) }
     ensures nodes { AreNodes persons.now.nodes (list_of persons.now r.0) }
@@ -81,7 +81,7 @@ pub fn nurse_off(inst: &Instance, n: Option<NurseNo>, k: Shift) -> u32
 #[inline(always)]
 pub fn choice_costs(
     inst: &Instance,
-    persons: &Links,
+    persons: &CompactLinks,
     r: RoomNo,
     k: Shift,
     n: Option<NurseNo>,

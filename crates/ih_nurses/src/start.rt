@@ -7,7 +7,7 @@ ghost use Rattle.ih_nurses.specs.{Here.AreFilled, Here.AreHere, Loads.AreLoads, 
 
 use crate::loads::NurseLoad;
 use crate::presence::enter_days;
-use ih_links::{Links, empty_days};
+use ih_links::{CompactLinks, empty_days};
 use ih_plan::end_from;
 use ih_tables::{Instance, NurseNo, Shift};
 use std::alloc::{AllocError, Global};
@@ -48,7 +48,7 @@ pub fn no_counts(alloc: Global, inst: &Instance) -> Result<Vec<u8>, AllocError>
 }
 
 // Lists an occupant in its room from day 0 on, within the horizon.
-fn enter_occupant(inst: &Instance, here: &mut [Links], o: u32)
+fn enter_occupant(inst: &Instance, here: &mut [CompactLinks], o: u32)
     requires occupant { o < occupant_count inst.now.draft }
     requires so_far { AreFilled inst.now.draft here.old o }
     ensures { AreFilled inst.now.draft here.new (o + 1) }
@@ -59,7 +59,7 @@ fn enter_occupant(inst: &Instance, here: &mut [Links], o: u32)
 }
 
 // Lists each occupant.
-fn enter_occupants(inst: &Instance, here: &mut [Links])
+fn enter_occupants(inst: &Instance, here: &mut [CompactLinks])
     requires { AreFilled inst.now.draft here.old 0 }
     ensures { AreHere inst.now.draft (empty inst.now.draft) here.new }
 {
@@ -69,7 +69,7 @@ fn enter_occupants(inst: &Instance, here: &mut [Links])
 }
 
 /// For each day, the occupants in each room.
-pub fn occupants_here(alloc: Global, inst: &Instance) -> Result<Vec<Links>, AllocError>
+pub fn occupants_here(alloc: Global, inst: &Instance) -> Result<Vec<CompactLinks>, AllocError>
     ensures { IfOk result (λ here. AreHere inst.now.draft (empty inst.now.draft) here.items) }
 {
     let mut here = empty_days(alloc, inst.days(), inst.rooms(), inst.persons())?;

@@ -9,7 +9,7 @@ ghost use Rattle.ih_roomdays.specs.Occupancy.{IsOccupancy, IsCrowd, IsSmall};
 ghost use Rattle.ih_roomdays.specs.Profiles.{AreInRange, AreProfiles, ArePersons, most_persons, profile_of};
 
 use crate::profiles::{Profile, Profiles};
-use ih_links::Links;
+use ih_links::CompactLinks;
 
 /// A summary of persons who are together: what they break and cost follows from it.
 #[derive(Clone, Copy)]
@@ -130,7 +130,7 @@ impl Crowd {
 }
 
 /// The summary of the persons in a room, by a day's lists.
-pub fn crowd_of(profiles: &Profiles, day: &Links, room: u32) -> Crowd
+pub fn crowd_of(profiles: &Profiles, day: &CompactLinks, room: u32) -> Crowd
     requires profiles { AreInRange (length profiles.now.genders.items) profiles.now }
     requires room { room < length day.now.lists }
     requires persons { day.now.nodes ≡ length profiles.now.genders.items }

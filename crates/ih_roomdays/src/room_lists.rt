@@ -6,14 +6,14 @@ ghost use Rattle.ih_roomdays.specs.RoomLists.{AreVacant, HasSpan, IsEntered, IsL
 
 use crate::occupancies::{Crowd, NOBODY, crowd_of};
 use crate::profiles::Profiles;
-use ih_links::{Links, empty_days};
+use ih_links::{CompactLinks, empty_days};
 use std::alloc::{AllocError, Global};
 
 /// For each day the persons in each room, and a summary of them.
 #[derive(Drop)]
 pub struct RoomLists {
     /// For each day a list for each room; its nodes are the persons.
-    pub links: Vec<Links>,
+    pub links: Vec<CompactLinks>,
     pub rooms: u32,
     pub days: u32,
     pub persons: u32,

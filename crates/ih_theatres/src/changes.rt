@@ -12,7 +12,7 @@ ghost use Rattle.ih_theatres.specs.Marks.{is_marked, is_unmarked, AreBelow};
 
 use crate::marks::{count_marked, is_marked, mark};
 use crate::parts::DayCounts;
-use ih_links::Links;
+use ih_links::CompactLinks;
 use ih_plan::{Placement, bit};
 use ih_tables::{Day, Instance, PatientNo, SurgeonNo, TheatreNo};
 
@@ -83,7 +83,7 @@ pub fn minutes_above(inst: &Instance, others: u32, p: PatientNo, there: bool, mo
 }
 
 /// Whether anyone but p, who is there or not, is in the list.
-pub fn is_used_by_others(links: &Links, head: u32, p: PatientNo, there: bool) -> bool
+pub fn is_used_by_others(links: &CompactLinks, head: u32, p: PatientNo, there: bool) -> bool
     requires head { head < length links.now.lists }
     requires once { IsOnce (list_of links.now head) }
     requires there { there ≡ has p.0 (list_of links.now head) }
@@ -102,7 +102,7 @@ fn theatre_but(theatres: &[Option<TheatreNo>], x: u32, p: u32) -> Option<Theatre
 
 /// Marks on the theatres of the patients in a list but p.
 pub fn marks_of_theatres_but(
-    links: &Links,
+    links: &CompactLinks,
     head: u32,
     theatres: &[Option<TheatreNo>],
     p: PatientNo,

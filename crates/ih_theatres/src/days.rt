@@ -8,7 +8,7 @@ ghost use Rattle.ih_plan.specs.Costs.{is_empty, is_number};
 ghost use Rattle.ih_theatres.specs.{Days.day_number, Days.theatre_at, Marks.is_marked};
 
 use crate::marks::mark;
-use ih_links::Links;
+use ih_links::CompactLinks;
 use ih_tables::{Day, Instance, TheatreNo};
 
 /// How many days `rows` theatres or surgeons have.
@@ -30,7 +30,7 @@ pub fn day_number(inst: &Instance, row: u32, d: Day) -> u32
 }
 
 /// Whether anyone is in the list.
-pub fn is_used(links: &Links, head: u32) -> bool
+pub fn is_used(links: &CompactLinks, head: u32) -> bool
     requires { head < length links.now.lists }
     ensures { result ≡ not (is_empty (list_of links.now head)) }
 {
@@ -38,7 +38,7 @@ pub fn is_used(links: &Links, head: u32) -> bool
 }
 
 /// Marks on the theatres of the patients in a list.
-pub fn marks_of_theatres(links: &Links, head: u32, theatres: &[Option<TheatreNo>]) -> u64
+pub fn marks_of_theatres(links: &CompactLinks, head: u32, theatres: &[Option<TheatreNo>]) -> u64
     requires head { head < length links.now.lists }
     requires patients { links.now.nodes ≡ length theatres.now }
     requires known { All (λ t. IfSome t (λ m. m.0 < 64)) theatres.now }

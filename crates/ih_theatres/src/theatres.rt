@@ -17,7 +17,7 @@ use crate::changes::{
 use crate::days::{day_count, day_number, is_used, marks_of_theatres};
 use crate::marks::count_marked;
 use crate::parts::{surgeon_change, surgeon_day_bill, theatre_change, theatre_day_bill};
-use ih_links::Links;
+use ih_links::CompactLinks;
 use ih_plan::{Placement, bit};
 use ih_tables::{Bill, Day, Instance, PatientNo, SurgeonNo, TheatreNo};
 use std::alloc::{AllocError, Global};
@@ -28,8 +28,8 @@ pub struct Theatres {
     // Each patient's theatre, where admitted.
     theatres: Vec<Option<TheatreNo>>,
     // The patients of each day of each theatre, and of each surgeon, both by `day_number`.
-    theatre_days: Links,
-    surgeon_days: Links,
+    theatre_days: CompactLinks,
+    surgeon_days: CompactLinks,
     // The minutes of surgery of the patients of each of these days.
     theatre_minutes: Vec<u32>,
     surgeon_minutes: Vec<u32>,
@@ -71,8 +71,8 @@ impl Theatres {
         let patients = inst.patients();
         let of_theatres = day_count(inst, inst.theatres());
         let of_surgeons = day_count(inst, inst.surgeons());
-        let theatre_days = Links::new(alloc, of_theatres, patients)?;
-        let surgeon_days = Links::new(alloc, of_surgeons, patients)?;
+        let theatre_days = CompactLinks::compact(alloc, of_theatres, patients)?;
+        let surgeon_days = CompactLinks::compact(alloc, of_surgeons, patients)?;
         let theatre_minutes = vec![in alloc; 0; of_theatres as usize]?;
         let surgeon_minutes = vec![in alloc; 0; of_surgeons as usize]?;
         let theatres = vec![in alloc; None; patients as usize]?;
