@@ -110,3 +110,21 @@ pub settled-footprint : (I : Draft) (P : Timetable) (m : Move) (v : Gathered) �
     → settled v ≡ footprint I P m
 unfolding footprint
 settled-footprint I P m v sizes same = settled-gathered I v (touches I P m) sizes same
+
+-- ---- what is put into a set, gathered there and listed anew
+
+module _ (v a b w : Gathered) (sizes : a.sizes ≡ v.sizes) (own : (i : ℕ) → is_listed i a.cells ≡ is_listed i v.cells)
+    (kept : w.sizes ≡ b.sizes) (listed : w.cells ≡ b.cells) where
+  as_set : ◌≡◌ {A = Gathered} w b
+  as_set = rw (kept, listed) refl
+
+  pub gathers-relisted : (p : Cell → Bool) → Gathers a b p → Gathers v w p
+  gathers-relisted p g = subst (λ x. Gathers v x p) (sym as_set) (record {
+    sizes = g.sizes ∙ sizes;
+    cells = λ c inside.
+        let within : IsCellIn a.sizes c = subst (λ z. IsCellIn z c) (sym sizes) inside in
+        g.cells c within ∙ ap (λ k. k || p c) (own (number_in a.sizes c) ∙ ap (λ z. is_listed (number_in z c) v.cells) sizes);
+  })
+
+  pub rising-relisted : b.cells ≡ settled b → w.cells ≡ settled w
+  rising-relisted rising = subst (λ x. x.cells ≡ settled x) (sym as_set) rising

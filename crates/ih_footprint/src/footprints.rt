@@ -8,7 +8,7 @@ ghost use Rattle.ih_plan.specs.{Timetable.IsPlanOf, Timetable.IsPlacement, decla
 ghost use Rattle.ih_plan.specs.{declared.moves.Write.TheVariants.SetStay, declared.moves.Write.TheVariants.SetCare};
 ghost use Rattle.ih_plan.specs.{declared.moves.Move.TheVariants.SwapRooms, declared.moves.Move.TheVariants.SwapNurses};
 ghost use Rattle.ih_plan.specs.{Writes.IsWriteOf, Cells.IsCellIn, Present.ArePresent};
-ghost use Rattle.ih_footprint.specs.Gathered.{Gathers};
+ghost use Rattle.ih_footprint.specs.Gathered.{Gathers, settled};
 ghost use Rattle.ih_footprint.specs.Pieces.{in_shift, in_days, in_nurse_shifts, in_nurse, in_cares};
 
 use crate::cell_lists::CellList;
@@ -175,6 +175,22 @@ pub fn gather<M: Members>(inst: &Instance, plan: &Plan, members: &M, w: &Write, 
         Write::SetStay(p, new) => add_set_stay(inst, plan, p, new, out),
         Write::SetCare(r, k, new) => add_set_care(inst, plan, members, r, k, new, out),
     }
+}
+
+/// Adds the footprint of a write at a timetable, whose present persons the members tell, to a list, and lists all cells
+/// anew, so that they rise.
+pub fn foot<M: Members>(inst: &Instance, plan: &Plan, members: &M, w: &Write, out: &mut CellList)
+    requires plan { IsPlanOf inst.now.draft plan.now }
+    requires write { IsWriteOf inst.now.draft w.now }
+    requires members { ArePresent inst.now.draft plan.now (M.rooms members.now) (M.days members.now)
+        (M.persons members.now) }
+    requires sizes { out.old.sizes ≡ sizes_of inst.now.draft }
+    ensures cells { Gathers out.old out.new (write_touches inst.now.draft plan.now w.now) }
+    ensures rising { out.new.cells ≡ settled out.new }
+{
+    out.set.add_all(&out.room[..out.len]);
+    gather(inst, plan, members, w, &mut out.set);
+    out.len = out.set.write(out.room.as_mut_slice());
 }
 
 // The stays of two patients, where they are two.

@@ -10,6 +10,6 @@ mod numbering;
 
 pub use cell_lists::CellList;
 pub use cell_sets::CellSet;
-pub use footprints::{gather, looks};
+pub use footprints::{foot, gather, looks};
 pub use laws::{footprints_are_local, footprints_keep_the_rest};
 pub use numbering::Numbering;
