@@ -22,7 +22,7 @@ impl Model for Attempt {
 }
 
 impl Attempt {
-    ghost use Rattle.std.specs.Prelude.{◌≡◌, ◌<◌, ◌≤◌, ◌+◌, ◌++◌, ◌∷◌, [], length};
+    ghost use Rattle.std.specs.Prelude.{◌≡◌, ◌==◌, ◌<◌, ◌≤◌, ◌+◌, ◌++◌, ◌∷◌, [], length};
     ghost use Rattle.ih_tables.specs.declared.drafts.Draft.{Draft};
     ghost use Rattle.ih_plan.specs.{Expand.IsMoveOf, Series.AreMoves};
 
@@ -42,6 +42,13 @@ impl Attempt {
         ensures few { length self.now ≤ 8 }
     {
         &self.moves[..self.len]
+    }
+
+    /// Whether it has eight moves.
+    pub fn is_full(&self) -> bool
+        ensures { result ≡ (length self.now == 8) }
+    {
+        self.len == 8
     }
 
     /// Lets all moves go.
