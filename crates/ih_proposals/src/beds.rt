@@ -6,11 +6,12 @@ ghost use Rattle.ih_plan.specs.{Timetable.Timetable, Timetable.IsPlacement, Expa
 ghost use Rattle.ih_roomdays.specs.{Ledger.IsLedgerOf, RoomLists.persons_at};
 
 use crate::attempts::Attempt;
+use crate::looks::rooms_of;
 use ih_costs::Ledgers;
 use ih_plan::{Members, Move, Placement, end_of};
 use ih_roomdays::RoomDays;
 use ih_tables::{Day, Instance, PatientNo, PersonNo, RoomNo};
-use ih_validate::in_bad_room;
+use ih_validate::is_incompatible;
 
 /// The i-th person in a room on a day.
 #[inline(always)]
@@ -24,20 +25,32 @@ pub fn person_at(inst: &Instance, rooms: &RoomDays, r: RoomNo, d: Day, i: u32) -
     rooms.member(r, d, i)
 }
 
-// The patient of a move who is in the room on the day once it is made, where there is one.
-fn arrival(inst: &Instance, mv: &Move, r: RoomNo, d: Day) -> Option<PatientNo>
-    requires { IsMoveOf inst.now.draft mv.now }
+// Whether a placement of the patient has the room on the day.
+fn is_there(inst: &Instance, p: PatientNo, at: Placement, r: RoomNo, d: Day) -> bool
+    requires patient { p.0 < patient_count inst.now.draft }
+    requires placement { IsPlacement inst.now.draft at }
+{
+    at.room == r && at.day.0 <= d.0 && d.0 < end_of(inst, p, at)
+}
+
+// The patient whom a move brings to the room on the day, where it does.
+fn arrival(inst: &Instance, mv: Move, r: RoomNo, d: Day) -> Option<PatientNo>
+    requires { IsMoveOf inst.now.draft mv }
     ensures { IfSome result (λ p. p.0 < patient_count inst.now.draft) }
 {
-    match *mv {
-        Move::Place(p, at) if at.room == r && at.day.0 <= d.0 && d.0 < end_of(inst, p, at) => {
-            Some(p)
+    match mv {
+        Move::Place(p, at) => {
+            if is_there(inst, p, at, r, d) {
+                Some(p)
+            } else {
+                None
+            }
         }
         _ => None,
     }
 }
 
-// How many beds of so many are left beside the patients whom the moves bring to the room on the day; none where one of
+// How many beds of so many are left beside the patients whom the attempt brings to the room on the day; none where one of
 // them has another gender than the patient.
 fn beds_beside(
     inst: &Instance,
@@ -45,25 +58,23 @@ fn beds_beside(
     p: PatientNo,
     r: RoomNo,
     d: Day,
-    moves: &[Move],
+    attempt: &Attempt,
     beds: u32,
 ) -> u32
     requires stands { (P : Timetable) × IsLedgerOf inst.now.draft P rooms.now }
     requires patient { p.0 < patient_count inst.now.draft }
-    requires moves { AreMoves inst.now.draft moves.now }
+    requires moves { AreMoves inst.now.draft attempt.now }
 {
-    match moves.split_first() {
-        None => beds,
-        Some((mv, rest)) => match arrival(inst, mv, r, d) {
-            None => beds_beside(inst, rooms, p, r, d, rest, beds),
-            Some(other) => {
-                if beds == 0 || !rooms.same_gender(PersonNo(p.0), PersonNo(other.0)) {
-                    return 0;
-                }
-                beds_beside(inst, rooms, p, r, d, rest, beds - 1)
+    let mut left = beds;
+    for i in 0..attempt.len() {
+        if let Some(other) = arrival(inst, attempt.at(inst, i), r, d) {
+            if left == 0 || !rooms.same_gender(PersonNo(p.0), PersonNo(other.0)) {
+                return 0;
             }
-        },
+            left -= 1;
+        }
     }
+    left
 }
 
 // Whether the room has a bed for the patient on the day once the attempt is made, which moves the patient too or doesn't
@@ -92,7 +103,7 @@ fn has_bed(
             beds -= 1;
         }
     }
-    beds_beside(inst, rooms, p, r, d, attempt.as_slice(), beds) > 0
+    beds_beside(inst, rooms, p, r, d, attempt, beds) > 0
 }
 
 /// Whether the placement's room suits the patient and has a bed for the patient on each of its days once the attempt is
@@ -109,11 +120,11 @@ pub fn fits(
     requires placement { IsPlacement inst.now.draft at }
     requires moves { AreMoves inst.now.draft attempt.now }
 {
-    if in_bad_room(inst.patient(p), Some(at)) {
+    if is_incompatible(inst.patient(p), at.room) {
         return false;
     }
     for d in at.day.0..end_of(inst, p, at) {
-        if !has_bed(inst, ledgers.room_days(), p, at.room, Day(d), attempt) {
+        if !has_bed(inst, rooms_of(inst, ledgers), p, at.room, Day(d), attempt) {
             return false;
         }
     }

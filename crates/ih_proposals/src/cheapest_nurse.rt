@@ -6,13 +6,14 @@ ghost use Rattle.ih_plan.specs.{Series.AreMoves};
 ghost use Rattle.ih_proposals.specs.Moments.{IsMoment};
 
 use crate::attempts::Attempt;
+use crate::looks::nurse_in;
 use crate::moments::{Moment, draw_moment};
 use crate::nurses::{count_working, working_at};
 use crate::stays::cyclic;
 use crate::theatres::score_of;
 use crate::words::RandomWords;
 use ih_costs::Ledgers;
-use ih_plan::{Move, Write, nurse_at};
+use ih_plan::{Move, Write};
 use ih_tables::{Instance, NurseNo, Shift};
 
 // The nurse, other than the one there, who adds least to the score in the room: the first of equal ones, cyclically from
@@ -30,7 +31,7 @@ fn cheapest_other(
     ensures { IfSome result (λ n. n.0 < nurse_count inst.now.draft) }
 {
     let shift = Shift(at.shift);
-    let now = nurse_at(inst, ledgers.plan(), at.days.room, shift);
+    let now = nurse_in(inst, ledgers, at.days.room, shift);
     let count = count_working(inst, shift);
     let mut best = None;
     let mut least = i64::MAX;

@@ -4,7 +4,7 @@ ghost use Rattle.std.specs.Prelude.{◌≡◌, ◌<◌, IfSome};
 ghost use Rattle.ih_tables.specs.Sizes.{person_count};
 ghost use Rattle.ih_proposals.specs.Moments.{AreDays, IsMoment};
 
-use crate::stays::stay_of;
+use crate::looks::stay_of;
 use crate::words::RandomWords;
 use ih_costs::Ledgers;
 use ih_plan::{end_from, end_of};

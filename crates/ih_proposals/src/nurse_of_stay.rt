@@ -6,11 +6,12 @@ ghost use Rattle.ih_plan.specs.{Series.AreMoves};
 ghost use Rattle.ih_proposals.specs.Moments.{IsMoment};
 
 use crate::attempts::Attempt;
+use crate::looks::nurse_in;
 use crate::moments::{Moment, draw_moment};
 use crate::stays::cyclic;
 use crate::words::RandomWords;
 use ih_costs::Ledgers;
-use ih_plan::{Move, nurse_at};
+use ih_plan::Move;
 use ih_tables::{Instance, NurseNo, Shift};
 
 // The first other nurse of the stay's room who works the shift, cyclically from a shift of the stay on.
@@ -26,12 +27,12 @@ fn other_nurse(
 {
     let room = at.days.room;
     let shift = Shift(at.shift);
-    let now = nurse_at(inst, ledgers.plan(), room, shift);
+    let now = nurse_in(inst, ledgers, room, shift);
     let shifts = 3 * (at.days.to - at.days.from);
     let first = words.below(shifts);
     for i in 0..shifts {
         let k = Shift(3 * at.days.from + cyclic(first, i, shifts));
-        let nurse = nurse_at(inst, ledgers.plan(), room, k);
+        let nurse = nurse_in(inst, ledgers, room, k);
         if let Some(n) = nurse {
             if nurse != now && inst.works(n, shift).is_some() {
                 return Some(n);

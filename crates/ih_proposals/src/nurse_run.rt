@@ -6,11 +6,12 @@ ghost use Rattle.ih_plan.specs.{Series.AreMoves};
 ghost use Rattle.ih_proposals.specs.Moments.{IsMoment};
 
 use crate::attempts::Attempt;
+use crate::looks::nurse_in;
 use crate::moments::{Moment, draw_moment};
 use crate::nurses::draw_working;
 use crate::words::RandomWords;
 use ih_costs::Ledgers;
-use ih_plan::{Move, nurse_at};
+use ih_plan::Move;
 use ih_tables::{Day, Instance, NurseNo, Shift};
 
 // The days of a run at most.
@@ -29,7 +30,7 @@ fn draw_nurse(
 {
     let shift = Shift(at.shift);
     if words.below(2) == 0 {
-        nurse_at(inst, ledgers.plan(), at.days.room, shift)
+        nurse_in(inst, ledgers, at.days.room, shift)
     } else {
         draw_working(inst, words, shift)
     }

@@ -6,10 +6,11 @@ ghost use Rattle.ih_plan.specs.{Expand.IsMoveOf, Series.AreMoves};
 ghost use Rattle.ih_proposals.specs.Pairs.{IsPair};
 
 use crate::attempts::Attempt;
+use crate::looks::nurse_in;
 use crate::moments::draw_moment;
 use crate::words::RandomWords;
 use ih_costs::Ledgers;
-use ih_plan::{Move, nurse_at};
+use ih_plan::Move;
 use ih_tables::{Instance, NurseNo, RoomNo, Shift};
 
 // Two rooms, each with its nurse.
@@ -35,8 +36,8 @@ fn pair_at(
     requires shift { k.0 < shift_count inst.now.draft }
     ensures { IfSome result (IsPair inst.now.draft) }
 {
-    let nurse = nurse_at(inst, ledgers.plan(), room, k)?;
-    let other_nurse = nurse_at(inst, ledgers.plan(), other_room, k)?;
+    let nurse = nurse_in(inst, ledgers, room, k)?;
+    let other_nurse = nurse_in(inst, ledgers, other_room, k)?;
     if nurse == other_nurse {
         return None;
     }
@@ -56,10 +57,10 @@ fn exchange_at(inst: &Instance, ledgers: &Ledgers<'_>, pair: Pair, k: Shift) -> 
     requires shift { k.0 < shift_count inst.now.draft }
     ensures { IfSome result (IsMoveOf inst.now.draft) }
 {
-    if nurse_at(inst, ledgers.plan(), pair.room, k) != Some(pair.nurse) {
+    if nurse_in(inst, ledgers, pair.room, k) != Some(pair.nurse) {
         return None;
     }
-    if nurse_at(inst, ledgers.plan(), pair.other_room, k) == Some(pair.other_nurse) {
+    if nurse_in(inst, ledgers, pair.other_room, k) == Some(pair.other_nurse) {
         Some(Move::SwapNurses(k, pair.room, pair.other_room))
     } else if inst.works(pair.other_nurse, k).is_some() {
         Some(Move::Nurse(pair.room, k, pair.other_nurse))

@@ -5,12 +5,13 @@ ghost use Rattle.ih_tables.specs.Sizes.{patient_count};
 ghost use Rattle.ih_plan.specs.{Timetable.IsPlacement, Series.AreMoves};
 
 use crate::attempts::Attempt;
-use crate::stays::{cyclic, draw_patient, stay_of};
+use crate::looks::{rooms_of, stay_of};
+use crate::stays::{cyclic, draw_patient};
 use crate::words::RandomWords;
 use ih_costs::Ledgers;
-use ih_plan::{Move, Placement, same_gender};
-use ih_tables::{Instance, PatientNo};
-use ih_validate::{in_bad_room, outside_window};
+use ih_plan::{Move, Placement};
+use ih_tables::{Instance, PatientNo, PersonNo};
+use ih_validate::{is_incompatible, outside_window};
 
 // So many patients are looked at.
 const LOOKS: u32 = 64;
@@ -20,7 +21,7 @@ fn is_allowed(inst: &Instance, p: PatientNo, at: Placement) -> bool
     requires { p.0 < patient_count inst.now.draft }
 {
     let patient = inst.patient(p);
-    !outside_window(patient, Some(at)) && !in_bad_room(patient, Some(at))
+    !outside_window(patient, Some(at)) && !is_incompatible(patient, at.room)
 }
 
 // Whether p, where it isn't admitted, may take the place of q for good: q is optional, and stays as long or longer.
@@ -63,11 +64,14 @@ fn place_of_other(
     ensures { IfSome result (IsPlacement inst.now.draft) }
 {
     let theirs = stay_of(inst, ledgers, q)?;
+    if p.0 == q.0 || !rooms_of(inst, ledgers).same_gender(PersonNo(p.0), PersonNo(q.0)) {
+        return None;
+    }
     let may = match mine {
         None => may_replace(inst, p, q),
         Some(at) => may_exchange(inst, p, at, q, theirs),
     };
-    if may && p.0 != q.0 && same_gender(inst, p.0, q.0) && is_allowed(inst, p, theirs) {
+    if may && is_allowed(inst, p, theirs) {
         Some(theirs)
     } else {
         None

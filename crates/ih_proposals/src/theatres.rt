@@ -5,7 +5,8 @@ ghost use Rattle.ih_tables.specs.Sizes.{patient_count, room_count, theatre_count
 ghost use Rattle.ih_tables.specs.Bills.{IsWithin};
 ghost use Rattle.ih_plan.specs.Timetable.{IsPlacement, stay_of};
 
-use crate::stays::{cyclic, stay_of};
+use crate::looks::{stay_of, theatres_of};
+use crate::stays::cyclic;
 use ih_costs::Ledgers;
 use ih_plan::Placement;
 use ih_tables::{Bill, Day, Instance, PatientNo, RoomNo, TheatreNo};
@@ -38,7 +39,7 @@ fn surgery_score(
     requires placement { IsPlacement inst.now.draft at }
 {
     let surgeon = inst.patient(p).surgeon_id;
-    let theatres = ledgers.theatres();
+    let theatres = theatres_of(inst, ledgers);
     let of_theatre = theatres.theatre_delta(inst, p, old, at);
     let of_surgeon = theatres.surgeon_delta(inst, surgeon, p, old, at);
     score_of(inst, hard, &of_theatre) + score_of(inst, hard, &of_surgeon)
