@@ -1,6 +1,6 @@
 //! A patient in the place of another of the same gender, who takes the first one's place or is left out.
 
-ghost use Rattle.std.specs.Prelude.{◌≡◌, ◌<◌, ◌≤◌, [], IfSome};
+ghost use Rattle.std.specs.Prelude.{◌≡◌, ◌<◌, ◌≤◌, IfSome};
 ghost use Rattle.ih_tables.specs.Sizes.{patient_count};
 ghost use Rattle.ih_plan.specs.{Timetable.IsPlacement, Series.AreMoves};
 
@@ -87,7 +87,7 @@ pub fn swap(
     attempt: &mut Attempt,
 )
     requires instance { ledgers.now.instance ≡ inst.now.draft }
-    requires none { attempt.old ≡ [] }
+    requires moves { AreMoves inst.now.draft attempt.old }
     ensures { AreMoves inst.now.draft attempt.new }
 {
     let Some(p) = draw_patient(inst, words) else {
@@ -103,8 +103,8 @@ pub fn swap(
                 None => Move::Withdraw(q),
                 Some(at) => Move::Place(q, at),
             };
-            attempt.push(left);
-            attempt.push(Move::Place(p, theirs));
+            attempt.add(inst, left);
+            attempt.add(inst, Move::Place(p, theirs));
             return;
         }
     }
