@@ -50,8 +50,8 @@ fn arrival(inst: &Instance, mv: Move, r: RoomNo, d: Day) -> Option<PatientNo>
     }
 }
 
-// How many beds of so many are left beside the patients whom the attempt brings to the room on the day; none where one of
-// them has another gender than the patient.
+// How many beds of so many are left beside the patients whom the attempt brings to the room on the day; none where one
+// of them has another gender than the patient.
 fn beds_beside(
     inst: &Instance,
     rooms: &RoomDays,
@@ -77,8 +77,8 @@ fn beds_beside(
     left
 }
 
-// Whether the room has a bed for the patient on the day once the attempt is made, which moves the patient too or doesn't
-// yet: those who are there have the patient's gender.
+// Whether the room has a bed for the patient on the day once the attempt is made, which moves the patient too or
+// doesn't yet: those who are there have the patient's gender.
 fn has_bed(
     inst: &Instance,
     rooms: &RoomDays,

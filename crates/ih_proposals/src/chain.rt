@@ -176,8 +176,8 @@ fn resettle(
 }
 
 /// Up to five moves: a patient gets a room and a day by random words, and at most two who have to leave get the first
-/// place that fits on one of two days, or stay out. None where an occupant, too many or a mandatory patient would have to
-/// leave for good.
+/// place that fits on one of two days, or stay out. None where an occupant, too many or a mandatory patient would have
+/// to leave for good.
 pub fn chain(
     inst: &Instance,
     hard: u32,

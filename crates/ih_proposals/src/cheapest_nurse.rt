@@ -38,8 +38,8 @@ fn value_of(
     score_of(inst, hard, &price)
 }
 
-// The nurse, other than the one there, who adds least to the score: the first of equal ones, cyclically from a random one
-// on.
+// The nurse, other than the one there, who adds least to the score: the first of equal ones, cyclically from a random
+// one on.
 fn cheapest_other(
     inst: &Instance,
     hard: u32,

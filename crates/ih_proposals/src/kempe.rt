@@ -51,8 +51,8 @@ fn bring(inst: &Instance, x: PersonNo, r: RoomNo, attempt: &mut Attempt) -> bool
     true
 }
 
-// Brings all who have to leave a room on the day, so that the patient may come, to the patient's room so far; false where
-// somebody can't.
+// Brings all who have to leave a room on the day, so that the patient may come, to the patient's room so far; false
+// where somebody can't.
 fn make_way_on(
     inst: &Instance,
     ledgers: &Ledgers<'_>,
@@ -149,14 +149,9 @@ fn make_way_for_all(
     true
 }
 
-/// Up to eight moves: a patient goes to another room, both by random words, and two rooms exchange all whom this disturbs
-/// and who are disturbed by that in turn. None where that comes to no end.
-pub fn kempe(
-    inst: &Instance,
-    ledgers: &Ledgers<'_>,
-    words: &mut RandomWords,
-    attempt: &mut Attempt,
-)
+/// Up to eight moves: a patient goes to another room, both by random words, and two rooms exchange all whom this
+/// disturbs and who are disturbed by that in turn. None where that comes to no end.
+pub fn kempe(inst: &Instance, ledgers: &Ledgers<'_>, words: &mut RandomWords, attempt: &mut Attempt)
     requires instance { ledgers.now.instance ≡ inst.now.draft }
     requires moves { AreMoves inst.now.draft attempt.old }
     ensures { AreMoves inst.now.draft attempt.new }

@@ -25,12 +25,7 @@ pub fn stay_of(inst: &Instance, ledgers: &Ledgers<'_>, p: PatientNo) -> Option<P
 
 /// The nurse of a room in a shift, where it has one.
 #[inline(always)]
-pub fn nurse_in(
-    inst: &Instance,
-    ledgers: &Ledgers<'_>,
-    r: RoomNo,
-    k: Shift,
-) -> Option<NurseNo>
+pub fn nurse_in(inst: &Instance, ledgers: &Ledgers<'_>, r: RoomNo, k: Shift) -> Option<NurseNo>
     requires instance { ledgers.now.instance ≡ inst.now.draft }
     requires room { r.0 < room_count inst.now.draft }
     requires shift { k.0 < shift_count inst.now.draft }

@@ -51,7 +51,10 @@ pub fn nurse_run(
     if let Some(at) = draw_moment(inst, ledgers, words) {
         if let Some(n) = draw_nurse(inst, ledgers, at, words) {
             let days = (at.days.to - at.days.from).min(LONGEST);
-            attempt.add(inst, Move::NurseRun(n, at.days.room, Day(at.days.from), days));
+            attempt.add(
+                inst,
+                Move::NurseRun(n, at.days.room, Day(at.days.from), days),
+            );
         }
     }
 }

@@ -69,8 +69,8 @@ fn exchange_at(inst: &Instance, ledgers: &Ledgers<'_>, pair: Pair, k: Shift) -> 
     }
 }
 
-/// Up to eight moves: over a person's stay, by random words, the nurse of another room takes the place of the room's own
-/// nurse, and where both are there in one shift they exchange their rooms.
+/// Up to eight moves: over a person's stay, by random words, the nurse of another room takes the place of the room's
+/// own nurse, and where both are there in one shift they exchange their rooms.
 pub fn nurse_swap(
     inst: &Instance,
     ledgers: &Ledgers<'_>,

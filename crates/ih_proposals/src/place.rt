@@ -12,8 +12,8 @@ use ih_costs::Ledgers;
 use ih_plan::{Move, Placement};
 use ih_tables::{Instance, PatientNo};
 
-/// Another placement of the patient, by random words: the first room that fits from a day on, beside those who are there
-/// once the attempt is made.
+/// Another placement of the patient, by random words: the first room that fits from a day on, beside those who are
+/// there once the attempt is made.
 pub fn find_place(
     inst: &Instance,
     hard: u32,

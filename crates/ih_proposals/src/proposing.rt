@@ -45,9 +45,9 @@ fn propose_kind(
     }
 }
 
-/// What is tried next at the timetable of the ledgers, in place of what the attempt held: moves in range, of a kind that
-/// a random word chooses by the kinds' shares; none where that kind finds nothing. `hard` is the weight of a broken rule,
-/// by which candidates are compared. Which moves it is, is free. It takes no memory.
+/// What is tried next at the timetable of the ledgers, in place of what the attempt held: moves in range, of a kind
+/// that a random word chooses by the kinds' shares; none where that kind finds nothing. `hard` is the weight of a
+/// broken rule, by which candidates are compared. Which moves it is, is free. It takes no memory.
 pub fn propose(
     inst: &Instance,
     hard: u32,
@@ -61,7 +61,14 @@ pub fn propose(
     ensures few { length attempt.new ≤ 8 }
 {
     attempt.begin(inst);
-    propose_kind(kind_of(words.below(256)), inst, hard, ledgers, words, attempt);
+    propose_kind(
+        kind_of(words.below(256)),
+        inst,
+        hard,
+        ledgers,
+        words,
+        attempt,
+    );
     // For the proof alone.
     let _few = attempt.len();
 }

@@ -35,7 +35,11 @@ pub fn draw_day(inst: &Instance, words: &mut RandomWords, p: PatientNo) -> Optio
     if days == 0 {
         return None;
     }
-    let most = if words.below(2) == 0 { days.min(4) } else { days };
+    let most = if words.below(2) == 0 {
+        days.min(4)
+    } else {
+        days
+    };
     Some(Day(patient.surgery_release_day + words.below(most)))
 }
 
@@ -62,8 +66,8 @@ fn is_in(stay: Option<Placement>, day: Day, room: RoomNo) -> bool {
     }
 }
 
-/// The first room, cyclically from one on, that the patient fits into from a day on, and isn't in from that day on, beside
-/// those who are there once the attempt is made.
+/// The first room, cyclically from one on, that the patient fits into from a day on, and isn't in from that day on,
+/// beside those who are there once the attempt is made.
 pub fn first_fit(
     inst: &Instance,
     ledgers: &Ledgers<'_>,

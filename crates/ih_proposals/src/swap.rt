@@ -92,12 +92,7 @@ fn move_away(_inst: &Instance, q: PatientNo, to: Option<Placement>) -> Move
 
 /// Two moves, for a patient by a random word and the first other patient, cyclically from a random one on, whose place
 /// the patient may take: both exchange their placements, or the other is left out where the patient isn't admitted.
-pub fn swap(
-    inst: &Instance,
-    ledgers: &Ledgers<'_>,
-    words: &mut RandomWords,
-    attempt: &mut Attempt,
-)
+pub fn swap(inst: &Instance, ledgers: &Ledgers<'_>, words: &mut RandomWords, attempt: &mut Attempt)
     requires instance { ledgers.now.instance ≡ inst.now.draft }
     requires moves { AreMoves inst.now.draft attempt.old }
     ensures { AreMoves inst.now.draft attempt.new }

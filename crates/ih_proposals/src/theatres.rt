@@ -45,8 +45,8 @@ fn surgery_score(
     score_of(inst, hard, &of_theatre) + score_of(inst, hard, &of_surgeon)
 }
 
-/// The theatre in which surgery of the patient on a day adds least to the score: the first of equal ones, cyclically from
-/// one on.
+/// The theatre in which surgery of the patient on a day adds least to the score: the first of equal ones, cyclically
+/// from one on.
 pub fn cheapest_theatre(
     inst: &Instance,
     hard: u32,
