@@ -1,4 +1,4 @@
-use Rattle.std.proofs.Common.{arith, subst, sym}
+use Rattle.std.proofs.Common.{subst, sym}
 use Rattle.ih_plan.specs.Series.{AreMoves}
 use Rattle.ih_proposals.proofs.Moves.{move-at}
 use Rattle.ih_proposals.proofs.attempts.Attempt.at.Goals as goal
