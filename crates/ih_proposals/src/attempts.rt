@@ -1,0 +1,120 @@
+//! What is tried at once: at most eight moves, which are priced as one and made in a row.
+
+use ih_plan::Move;
+use ih_tables::{Instance, PersonNo};
+use std::marker::Model;
+
+/// At most eight moves, in the order in which they are made. It takes no memory.
+#[derive(Drop)]
+pub struct Attempt {
+    moves: [Move; 8],
+    len: usize,
+}
+
+impl Model for Attempt {
+    ghost use Rattle.std.specs.Prelude.{List, take, ◌≤◌};
+    ghost use Rattle.ih_plan.specs.declared.moves.Move.{Move};
+
+    ghost Value = { List Move };
+
+    ghost view = { λ a. take a.len a.moves };
+
+    ghost invariant = { λ a. a.len ≤ 8 };
+}
+
+impl Attempt {
+    ghost use Rattle.std.specs.Prelude.{◌≡◌, ◌==◌, ◌<◌, ◌≤◌, ◌++◌, ◌∷◌, [], length};
+    ghost use Rattle.ih_plan.specs.{Expand.IsMoveOf, Series.AreMoves};
+
+    /// No moves yet.
+    pub fn new() -> Attempt
+        ensures { result ≡ [] }
+    {
+        Attempt {
+            moves: [Move::Idle; 8],
+            len: 0,
+        }
+    }
+
+    /// The moves, in order.
+    pub fn as_slice(&self) -> &[Move]
+        ensures moves { result.now ≡ self.now }
+        ensures few { length self.now ≤ 8 }
+    {
+        &self.moves[..self.len]
+    }
+
+    /// How many moves it has.
+    pub fn len(&self) -> usize
+        ensures value { result ≡ length self.now }
+        ensures few { result ≤ 8 }
+    {
+        self.as_slice().len()
+    }
+
+    /// Whether it has eight moves.
+    pub fn is_full(&self) -> bool
+        ensures { result ≡ (length self.now == 8) }
+    {
+        self.len() == 8
+    }
+
+    /// Lets all moves go.
+    pub fn clear(&mut self)
+        ensures { self.new ≡ [] }
+    {
+        self.len = 0;
+    }
+
+    /// One move more, behind the others.
+    pub fn push(&mut self, mv: Move)
+        requires { length self.old < 8 }
+        ensures { self.new ≡ self.old ++ mv ∷ [] }
+    {
+        self.moves[self.len] = mv;
+        self.len += 1;
+    }
+
+    /// Makes way for moves of the instance: there are none, so all are in range.
+    pub fn begin(&mut self, _inst: &Instance)
+        ensures { AreMoves _inst.now.draft self.new }
+    {
+        self.clear();
+    }
+
+    /// One move of the instance more, behind others of it, where there aren't eight.
+    pub fn add(&mut self, _inst: &Instance, mv: Move)
+        requires moves { AreMoves _inst.now.draft self.old }
+        requires one { IsMoveOf _inst.now.draft mv }
+        ensures { AreMoves _inst.now.draft self.new }
+    {
+        if self.len() >= 8 {
+            return;
+        }
+        self.push(mv);
+    }
+
+    /// The move at a place, where all are moves of the instance.
+    pub fn at(&self, _inst: &Instance, place: usize) -> Move
+        requires place { place < length self.now }
+        requires moves { AreMoves _inst.now.draft self.now }
+        ensures { IsMoveOf _inst.now.draft result }
+    {
+        let moves = self.as_slice();
+        moves[place]
+    }
+
+    /// Whether one of the moves is of the person: another stay, or none, of a patient of this number.
+    pub fn moves_person(&self, x: PersonNo) -> bool {
+        for mv in self.as_slice() {
+            let moved = match *mv {
+                Move::Place(p, _) | Move::Withdraw(p) | Move::SetRoom(p, _) => p.0 == x.0,
+                _ => false,
+            };
+            if moved {
+                return true;
+            }
+        }
+        false
+    }
+}
