@@ -1,0 +1,4 @@
+pub mod BetterLemmas
+pub mod Determined
+pub mod Walks
+pub mod FrozenMoves
