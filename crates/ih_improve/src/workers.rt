@@ -6,8 +6,8 @@ use crate::heats::heat_at;
 use crate::legs::Leg;
 use crate::rounds::Walks;
 use crate::walkers::Walker;
-use ih_moves::Stream;
 use ih_plan::Plan;
+use ih_proposals::{Attempt, RandomWords, propose};
 use ih_tables::{Bill, Instance};
 use std::alloc::{AllocError, Global};
 
@@ -19,7 +19,8 @@ const ATTEMPTS_AT_A_HEAT: u64 = 1024;
 #[derive(Drop)]
 pub(crate) struct Worker<'a> {
     pub(crate) walker: Walker<'a>,
-    pub(crate) words: Stream,
+    pub(crate) words: RandomWords,
+    pub(crate) moves: Attempt,
 }
 
 impl<'a> Worker<'a> {
@@ -41,7 +42,8 @@ impl<'a> Worker<'a> {
     {
         Ok(Worker {
             walker: Walker::new(alloc, inst, plan, bill)?,
-            words: Stream::new(0, 0),
+            words: RandomWords::new(0, 0, 0),
+            moves: Attempt::new(),
         })
     }
 
@@ -54,13 +56,21 @@ impl<'a> Worker<'a> {
         let inst = leg.instance();
         let settings = leg.settings();
         leg.is_setout();
-        let moves = [self.words.draw(inst)];
-        if any_frozen(inst, leg.start(), settings.freeze, &moves) {
+        propose(
+            inst,
+            settings.hard,
+            self.walker.ledgers(),
+            &mut self.words,
+            &mut self.moves,
+        );
+        let moves = self.moves.as_slice();
+        if moves.is_empty() || any_frozen(inst, leg.start(), settings.freeze, moves) {
             return;
         }
-        let price = self.walker.price(&moves);
-        if accepts(price.score(settings.hard, inst.weights()), heat, 12345) {
-            self.walker.make(settings.hard, &moves, &price);
+        let price = self.walker.price(moves);
+        let score = price.score(settings.hard, inst.weights());
+        if score <= 0 || accepts(score, heat, self.words.next()) {
+            self.walker.make(settings.hard, moves, &price);
         }
     }
 
@@ -92,7 +102,7 @@ impl<'a> Walks for Worker<'a> {
 
     fn walk(&mut self, leg: &Leg<'_>, number: usize) {
         leg.is_setout();
-        self.words = Stream::new(leg.settings().seed, number as u32);
+        self.words = RandomWords::new(leg.settings().seed, leg.round(), number as u32);
         self.walker.go_to(leg.from(), leg.bill());
         let done = leg.settings().attempts_through(leg.round());
         let until = leg.settings().attempts_through(leg.round() + 1);
