@@ -11,7 +11,9 @@ use crate::series::{play_in_row, play_in_row_noting};
 use ih_footprint::{CellList, CellSet, Numbering};
 use ih_moves::Writes;
 use ih_plan::{Members, Move, Plan, Write};
+use ih_roomdays::RoomDays;
 use ih_tables::{Bill, Cell, Day, Instance, RoomNo};
+use ih_theatres::Theatres;
 use ih_validate::bill;
 use std::alloc::{AllocError, Global};
 use std::marker::Model;
@@ -44,6 +46,8 @@ impl<'a> Ledgers<'a> {
     ghost use Rattle.ih_plan.specs.{Timetable.IsPlanOf, Writes.put, Writes.IsWriteOf, Expand.after, Expand.IsMoveOf};
     ghost use Rattle.ih_plan.specs.{Cells.IsCellOf, Cells.part_at, Costs.is_empty, Footprint.footprint};
     ghost use Rattle.ih_plan.specs.{Presence.present};
+    ghost use Rattle.ih_roomdays.specs.Ledger.{IsLedgerOf as AreRoomDaysOf};
+    ghost use Rattle.ih_theatres.specs.Ledger.{IsLedgerOf as AreTheatresOf};
 
     /// Ledgers that stand for a timetable, which fits the instance.
     pub fn new(alloc: Global, inst: &'a Instance, plan: &Plan) -> Result<Ledgers<'a>, AllocError>
@@ -68,6 +72,22 @@ impl<'a> Ledgers<'a> {
         ensures fits { IsPlanOf self.now.instance self.now.plan }
     {
         self.cells.plan()
+    }
+
+    /// The ledger of room days of that timetable, for looks at who is where.
+    #[inline(always)]
+    pub fn room_days(&self) -> &RoomDays
+        ensures { AreRoomDaysOf self.now.instance self.now.plan result.now }
+    {
+        &self.cells.room_days
+    }
+
+    /// The ledger of theatres of that timetable, for looks at who has surgery where.
+    #[inline(always)]
+    pub fn theatres(&self) -> &Theatres
+        ensures { AreTheatresOf self.now.instance self.now.plan result.now }
+    {
+        &self.cells.theatres
     }
 
     /// Whether somebody is in a room on a day.

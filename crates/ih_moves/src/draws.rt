@@ -43,7 +43,8 @@ impl Stream {
         }
     }
 
-    fn word(&mut self) -> u64
+    /// The next word: another draw, of another kind, may be made of such words.
+    pub fn word(&mut self) -> u64
         ensures { (result, self.new) ≡ plus_plus self.old }
     {
         self.words.next_word()

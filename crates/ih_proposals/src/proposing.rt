@@ -1,0 +1,32 @@
+//! What is tried next.
+
+ghost use Rattle.std.specs.Prelude.{◌≡◌, ◌≤◌, length};
+ghost use Rattle.ih_plan.specs.{Series.AreMoves};
+
+use crate::attempts::Attempt;
+use crate::blind::draw_blindly;
+use crate::mix::{Kind, kind_of};
+use crate::words::RandomWords;
+use ih_costs::Ledgers;
+use ih_tables::Instance;
+
+/// What is tried next at the timetable of the ledgers, in place of what the attempt held: moves in range, of a kind that
+/// a random word chooses by the kinds' shares; none where that kind finds nothing. `hard` is the weight of a broken rule,
+/// by which candidates are compared. Which moves it is, is free. It takes no memory.
+pub fn propose(
+    inst: &Instance,
+    hard: u32,
+    ledgers: &Ledgers<'_>,
+    words: &mut RandomWords,
+    attempt: &mut Attempt,
+)
+    requires instance { ledgers.now.instance ≡ inst.now.draft }
+    requires hard { hard ≤ 1000000 }
+    ensures moves { AreMoves inst.now.draft attempt.new }
+    ensures few { length attempt.new ≤ 8 }
+{
+    attempt.clear();
+    match kind_of(words.below(256)) {
+        Kind::Blind => draw_blindly(inst, words, attempt),
+    }
+}

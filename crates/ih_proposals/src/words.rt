@@ -1,0 +1,55 @@
+//! The random words of one worker in one round.
+
+use ih_moves::Stream;
+use ih_plan::Move;
+use ih_tables::Instance;
+
+/// The words of Xoshiro256++, by the stream of moves that is seeded for a worker and a round.
+#[derive(Drop)]
+pub struct RandomWords {
+    stream: Stream,
+}
+
+impl RandomWords {
+    ghost use Rattle.std.specs.Prelude.{◌<◌};
+    ghost use Rattle.ih_plan.specs.{Expand.IsMoveOf};
+
+    /// The words of a worker in a round. The generator is seeded by one number: the seed with its halves exchanged, in
+    /// whose lower half the round is put six bits up, and the worker is added. So no two triples of a seed and a round
+    /// below 2^32 and 2^26 and one of 64 workers are seeded alike.
+    pub fn new(seed: u64, round: u32, worker: u32) -> RandomWords {
+        let number = seed.rotate_left(32) ^ (round as u64) << 6;
+        RandomWords {
+            stream: Stream::new(number, worker),
+        }
+    }
+
+    /// The next word.
+    pub fn next(&mut self) -> u64 {
+        self.stream.word()
+    }
+
+    /// A choice among n, from 0, by the upper half of the next word.
+    pub fn below(&mut self, n: u32) -> u32
+        requires { 0 < n }
+        ensures { result < n }
+    {
+        scaled((self.next() >> 32) as u32, n)
+    }
+
+    /// A move in range that looks at nothing: the stream's next draw.
+    pub fn blind(&mut self, inst: &Instance) -> Move
+        ensures { IsMoveOf inst.now.draft result }
+    {
+        self.stream.draw(inst)
+    }
+}
+
+// The part of n that the word is of 2^32.
+#[inline(always)]
+fn scaled(word: u32, n: u32) -> u32
+    requires { 0 < n }
+    ensures { result < n }
+{
+    ((word as u64 * n as u64) >> 32) as u32
+}
