@@ -2,7 +2,7 @@
 use Rattle.std.proofs.Common.{◌≡◌, ℕ, zero, suc, ◌+◌, ◌/◌, ◌<◌, ◌≤◌, refl, sym, ap, ◌∙◌, subst, arith, rules, inl, inr, Bool, true, false, List, [], ◌∷◌, Option, Some, None}
 use Rattle.std.specs.Prelude.{◌||◌, ◌&&◌, ◌⊎◌, if◌then◌else◌, map, filter, nat_lt, ◌==◌}
 use Rattle.std.specs.List.{list_any, range_with_len}
-use Rattle.std.proofs.lemmas.Bool.{cases_lt, lt-ltb, ge-ltb}
+use Rattle.std.proofs.lemmas.Bool.{cases_lt, lt-ltb, le-ltb}
 use Rattle.ih_tables.specs.declared.drafts.Draft.{Draft}
 use Rattle.ih_tables.specs.declared.ids.NurseNo.{NurseNo}
 use Rattle.ih_tables.specs.declared.ids.PatientNo.{PatientNo}
@@ -37,7 +37,7 @@ keeps-none I S P = record {
   where
     none : (s : Option Placement) → is_before 0 s ≡ false
     none None = refl
-    none (Some at) = ge-ltb at.day.0 0 (omega arith)
+    none (Some at) = le-ltb at.day.0 0 (omega arith)
 
 module _ (I : Draft) (S : Timetable) (f : ℕ) where
   restay-free : (p : PatientNo) (g : Placement → Option Placement) (s : Option Placement) → is_before f (stay_of S p.0) ≡ false
@@ -54,12 +54,12 @@ module _ (I : Draft) (S : Timetable) (f : ℕ) where
   run-free : (r : RoomNo) (n : NurseNo) (test : ℕ → Bool) (ks : List ℕ) → ((k : ℕ) → test k ≡ true → nat_lt (day_of k) f ≡ false)
       → list_any (is_frozen_write S f) (map (λ k. SetCare r (record { 0 = k }) (Some n)) (filter test ks)) ≡ false
   run-free r n test [] late = refl
-  run-free r n test (k ∷ ks) late = by_case (test k) refl
+  run-free r n test (k ∷ ks) late = by_case (run-free r n test ks late) (test k) refl
     where
-      by_case : (t : Bool) → test k ≡ t
+      by_case : list_any (is_frozen_write S f) (map (λ k. SetCare r (record { 0 = k }) (Some n)) (filter test ks)) ≡ false → (t : Bool) → test k ≡ t
           → list_any (is_frozen_write S f) (map (λ k. SetCare r (record { 0 = k }) (Some n)) (if t then k ∷ filter test ks else filter test ks)) ≡ false
-      by_case true on = both _ _ (late k on) (run-free r n test ks late)
-      by_case false off = run-free r n test ks late
+      by_case rest true on = both _ _ (late k on) rest
+      by_case rest false off = rest
 
   if-free : (t : Bool) (ws : List Write) → list_any (is_frozen_write S f) ws ≡ false → list_any (is_frozen_write S f) (if t then [] else ws) ≡ false
   if-free true ws h = refl

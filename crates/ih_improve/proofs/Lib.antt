@@ -1,4 +1,5 @@
 pub mod BetterLemmas
 pub mod Determined
-pub mod Walks
+pub mod SettingsLemmas
+pub mod WalkerBills
 pub mod FrozenMoves

@@ -34,8 +34,8 @@ led_to v P = record v { rounds = v.rounds + 1; kept = P }
 
 -- A round leads to P: each worker leaves a timetable, as a worker with its number may that goes by no more than what the
 -- round begins with, and P is the best of these and of the one before it, the first on a tie.
-pub record Leads (leaves : Setout → ℕ → Timetable → Type 0) (v : Improving) (P : Timetable) : Type 0 where
+pub record Leads (may_leave : Setout → ℕ → Timetable → Type 0) (v : Improving) (P : Timetable) : Type 0 where
   pub left : List Timetable
   pub each_worker : length left ≡ v.settings.workers
-  pub leaves : (w : ℕ) (Q : Timetable) → slice_get left w ≡ Some Q → leaves (setout v) w Q
+  pub leaves : (w : ℕ) (Q : Timetable) → slice_get left w ≡ Some Q → may_leave (setout v) w Q
   pub best : P ≡ best_of v.instance v.settings.hard v.kept left

@@ -13,6 +13,6 @@ IsOf I w = w.walker.instance ≡ I
 -- beside the search itself, the bill of the best so far, and as many workers as the settings say
 pub record IsKeeping (v : Improving) (bill : Bill) (workers : List Worker) : Type 0 where
   pub sound : IsSound v
-  pub bill : bill ≡ bill_of v.instance v.kept
+  pub bill_is : bill ≡ bill_of v.instance v.kept
   pub count : length workers ≡ v.settings.workers
-  pub workers : All (IsOf v.instance) workers
+  pub instance : All (IsOf v.instance) workers

@@ -22,7 +22,7 @@ pub record IsSetout (s : Setout) (bill : Bill) : Type 0 where
   pub round : s.round < s.settings.rounds
   pub start : IsPlanOf s.instance s.start
   pub from : MayFollow s.instance s.start s.settings.freeze s.start s.from
-  pub bill : bill ≡ bill_of s.instance s.from
+  pub bill_is : bill ≡ bill_of s.instance s.from
 
 -- what a worker may leave: whatever may take the place of the timetable from which it went on
 abbrev pub Leaves : Setout → ℕ → Timetable → Type 0

@@ -24,9 +24,9 @@ pub record AreBills (I : Draft) (l : Standing) (kept : Timetable) (stands_on_bes
     : Type 0 where
   pub instance : l.instance ≡ I
   pub now : IsPlanOf I l.plan
-  pub kept : IsPlanOf I kept
-  pub bill : bill ≡ bill_of I l.plan
-  pub best_bill : best_bill ≡ bill_of I (best_at stands_on_best l.plan kept)
+  pub kept_fits : IsPlanOf I kept
+  pub bill_is : bill ≡ bill_of I l.plan
+  pub best_is : best_bill ≡ bill_of I (best_at stands_on_best l.plan kept)
 
 -- On its way in a round a worker stands on a timetable of the instance that keeps the start's choices before the freeze
 -- day, and its best may take the place of the timetable from which it went on.

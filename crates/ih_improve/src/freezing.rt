@@ -1,6 +1,6 @@
 //! Moves that may change a choice before the freeze day.
 
-ghost use Rattle.std.specs.Prelude.{◌≡◌, false};
+ghost use Rattle.std.specs.Prelude.{◌≡◌, ◌<◌, false};
 ghost use Rattle.ih_plan.specs.{Timetable.Timetable, Timetable.IsPlanOf, Expand.IsMoveOf};
 ghost use Rattle.ih_plan.specs.Series.{AreMoves, after_all};
 ghost use Rattle.ih_journal.specs.Frozen.{KeepsFrozen, is_before};

@@ -44,7 +44,9 @@ impl Settings {
             && self.hot <= MAX_HEAT
             && self.cold <= self.hot
             && self.hard <= MAX_HARD;
-        in_range && self.attempts <= MAX_ATTEMPTS / u64::from(self.workers)
+        in_range
+            && self.attempts <= MAX_ATTEMPTS
+            && u64::from(self.workers) * self.attempts <= MAX_ATTEMPTS
     }
 
     /// How many attempts each worker has made once so many rounds are over.
