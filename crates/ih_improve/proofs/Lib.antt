@@ -3,3 +3,4 @@ pub mod Determined
 pub mod SettingsLemmas
 pub mod WalkerBills
 pub mod FrozenMoves
+pub mod RoundLemmas

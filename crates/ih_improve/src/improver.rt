@@ -1,17 +1,17 @@
 //! A search, round by round.
 
-ghost use Rattle.std.specs.Prelude.{◌≡◌, ◌≤◌, ◌^◌, IfOk, All, length, map};
-ghost use Rattle.ih_tables.specs.Bills.{IsWithin};
+ghost use Rattle.std.specs.Prelude.{◌≡◌, ◌≤◌, IfOk, All, length, map};
 ghost use Rattle.ih_plan.specs.Timetable.{IsPlanOf};
 ghost use Rattle.ih_plan.specs.BillOf.{bill_of};
-ghost use Rattle.ih_improve.specs.Better.{best_of};
-ghost use Rattle.ih_improve.specs.Keeping.{IsOf};
+ghost use Rattle.ih_improve.specs.Better.{best_of, better_of};
+ghost use Rattle.ih_improve.specs.Keeping.{IsOf, best_met};
 
 use crate::comparing::is_better;
 use crate::heats::heat_at;
 use crate::legs::Leg;
 use crate::rounds::walk_all;
 use crate::settings::Settings;
+use crate::walkers::Walker;
 use crate::workers::Worker;
 use ih_plan::Plan;
 use ih_tables::{Bill, Instance};
@@ -79,21 +79,39 @@ fn new_workers<'a>(
     Ok(workers)
 }
 
-// Makes the best of a timetable and those that the workers found, the first on a tie, of the timetable and its bill.
-fn take_best(inst: &Instance, hard: u32, workers: &[Worker<'_>], kept: &mut Plan, bill: &mut Bill)
+// Takes over what a worker found, where that is better.
+fn take_better(inst: &Instance, hard: u32, walker: &Walker<'_>, kept: &mut Plan, bill: &mut Bill)
+    requires hard { hard ≤ 1000000 }
+    requires walker { walker.now.instance ≡ inst.now.draft }
+    requires kept { IsPlanOf inst.now.draft kept.old }
+    requires bill { bill.old ≡ bill_of inst.now.draft kept.old }
+    ensures kept { kept.new ≡ better_of inst.now.draft hard kept.old walker.now.best }
+    ensures fits { IsPlanOf inst.now.draft kept.new }
+    ensures bill { bill.new ≡ bill_of inst.now.draft kept.new }
+{
+    if is_better(inst, hard, walker.best_bill(), bill) {
+        kept.copy_from(walker.best());
+        *bill = *walker.best_bill();
+    }
+}
+
+// Takes over the best of what the workers found, the first on a tie, where that is better.
+fn take_best(
+    inst: &Instance,
+    hard: u32,
+    workers: &[Worker<'_>],
+    kept: &mut Plan,
+    bill: &mut Bill,
+)
     requires hard { hard ≤ 1000000 }
     requires workers { All (IsOf inst.now.draft) workers.now }
     requires kept { IsPlanOf inst.now.draft kept.old }
     requires bill { bill.old ≡ bill_of inst.now.draft kept.old }
-    requires within { IsWithin (10 ^ 11) bill.old }
-    ensures kept { kept.new ≡ best_of inst.now.draft hard kept.old (map (λ w. w.walker.best) workers.now) }
+    ensures kept { kept.new ≡ best_of inst.now.draft hard kept.old (map best_met workers.now) }
     ensures bill { bill.new ≡ bill_of inst.now.draft kept.new }
 {
     for worker in workers {
-        if is_better(inst, hard, worker.walker.best_bill(), bill) {
-            kept.copy_from(worker.walker.best());
-            *bill = *worker.walker.best_bill();
-        }
+        take_better(inst, hard, &worker.walker, kept, bill);
     }
 }
 

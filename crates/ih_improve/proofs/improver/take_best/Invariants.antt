@@ -1,15 +1,13 @@
-use Rattle.std.proofs.Common.{◌≡◌, ◌^◌, map, take}
-use Rattle.ih_tables.specs.Bills.{IsWithin}
+use Rattle.std.proofs.Common.{◌≡◌, map, take}
 use Rattle.ih_plan.specs.Timetable.{IsPlanOf}
 use Rattle.ih_plan.specs.BillOf.{bill_of}
-use Rattle.ih_improve.specs.declared.workers.Worker.{Worker}
 use Rattle.ih_improve.specs.Better.{best_of}
+use Rattle.ih_improve.specs.Keeping.{best_met}
 use Rattle.ih_improve.proofs.improver.take_best.Given as goal
 
 abbrev pub invariant-loop-worker : goal.invariant-loop-worker
 invariant-loop-worker l = record {
-  best : l.kept ≡ best_of l.inst.draft l.hard l.fn.kept.now (map (λ (w : Worker). w.walker.best) (take l.worker-index l.workers));
-  plan : IsPlanOf l.inst.draft l.kept;
+  best : l.kept ≡ best_of l.inst.draft l.hard l.fn.kept.now (map best_met (take l.worker-index l.workers));
+  fits : IsPlanOf l.inst.draft l.kept;
   bill : l.bill ≡ bill_of l.inst.draft l.kept;
-  within : IsWithin (10 ^ 11) l.bill;
 }
