@@ -46,6 +46,14 @@ module _ (I : Draft) (hard : ℕ) where
           (int_lt (score hard w (bill_of I Q)) (score hard w (bill_of I P))) on in
           record { works = λ h. (facts h).0; cheap = λ h. less-most (cost w (bill_of I Q)) (cost w (bill_of I P)) (facts h).1 }
 
+  pub better-second : (P Q : Timetable) → is_better hard I.weights (bill_of I Q) (bill_of I P) ≡ true → Q ≡ better_of I hard P Q
+  unfolding better_of
+  better-second P Q on = ap (λ (t : Bool). if t then Q else P) (sym on)
+
+  pub better-first : (P Q : Timetable) → is_better hard I.weights (bill_of I Q) (bill_of I P) ≡ false → P ≡ better_of I hard P Q
+  unfolding better_of
+  better-first P Q off = ap (λ (t : Bool). if t then Q else P) (sym off)
+
   -- what holds of both holds of the better one
   pub better-either : (X : Timetable → Type 0) (P Q : Timetable) → X P → X Q → X (better_of I hard P Q)
   unfolding better_of

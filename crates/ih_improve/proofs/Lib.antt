@@ -4,3 +4,4 @@ pub mod SettingsLemmas
 pub mod WalkerBills
 pub mod FrozenMoves
 pub mod RoundLemmas
+pub mod Underway

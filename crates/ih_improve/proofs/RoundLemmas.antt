@@ -1,7 +1,7 @@
 -- What a round leaves.
-use Rattle.std.proofs.Common.{◌≡◌, ℕ, zero, suc, ◌+◌, ◌<◌, refl, sym, ap, ◌∙◌, subst, arith, List, [], ◌∷◌, ◌++◌, length, take, map, get_or, Option, Some, None}
+use Rattle.std.proofs.Common.{◌≡◌, ℕ, zero, suc, ◌+◌, ◌<◌, refl, sym, ap, ◌∙◌, subst, arith, List, [], ◌∷◌, ◌++◌, length, take, drop, map, get_or, ◌≤◌, Option, Some, None}
 use Rattle.std.specs.Prelude.{All, fold, slice_get, slice_index_or}
-use Rattle.std.proofs.lemmas.List.{map-append, take_more}
+use Rattle.std.proofs.lemmas.List.{map-append, take-append-le, take_all, take_more}
 use Rattle.std.proofs.lemmas.List.Elements.{All-nil, All-cons}
 use Rattle.std.proofs.lemmas.List.Sums.{fold_push}
 use Rattle.ih_tables.specs.declared.bills.Bill.{Bill}
@@ -27,6 +27,11 @@ at-map : {A B : Type 0} (f : A → B) (xs : List A) (k : ℕ) (y : B) → slice_
 at-map f [] k y h = absurd (let no : None ≡ Some y = h in cc)
 at-map f (x ∷ xs) zero y h = (x, omega arith, refl, (let e : Some (f x) ≡ Some y = h in cc))
 at-map f (x ∷ xs) (suc k) y h = let rest = at-map f xs k y h in (rest.0, omega (arith, rest.1), rest.2, rest.3)
+
+-- what is written to the whole of a list stands there
+pub written-back : {A : Type 0} (n : ℕ) (new old : List A) → length new ≡ length old → n ≡ length old → take n (new ++ drop (length new) old) ≡ new
+written-back n new old len all =
+    take-append-le n new (drop (length new) old) (omega (arith, len, all)) ∙ take_all n new (omega (arith, len, all))
 
 -- one worker more
 pub best-more : (I : Draft) (hard : ℕ) (P : Timetable) (ws : List Worker) (i : ℕ) (x : Worker) → i < length ws → x ≡ get_or ws i x

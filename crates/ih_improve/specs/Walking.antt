@@ -1,5 +1,5 @@
 -- A worker on its way.
-use Rattle.std.specs.Prelude.{◌≡◌, ℕ, ◌^◌, Bool, if◌then◌else◌}
+use Rattle.std.specs.Prelude.{◌≡◌, ℕ, ◌^◌, Bool, ◌&&◌, not, if◌then◌else◌}
 use Rattle.ih_tables.specs.declared.bills.Bill.{Bill}
 use Rattle.ih_tables.specs.declared.drafts.Draft.{Draft}
 use Rattle.ih_plan.specs.Timetable.{Timetable, IsPlanOf}
@@ -18,6 +18,10 @@ pub record Walking : Type 0 where
 -- where the worker stands, if that is the best; else what was kept
 abbrev pub best_at : Bool → Timetable → Timetable → Timetable
 best_at stands_on_best now kept = if stands_on_best then now else kept
+
+-- what is kept once the worker goes on: where it stood, if that was the best and isn't bettered
+abbrev pub kept_with : Bool → Bool → Timetable → Timetable → Timetable
+kept_with stands_on_best is_bettered now kept = if stands_on_best && not is_bettered then now else kept
 
 -- the bills that a worker keeps are those of the timetable where it stands and of the best
 pub record AreBills (I : Draft) (l : Standing) (kept : Timetable) (stands_on_best : Bool) (bill best_bill : Bill)

@@ -1,10 +1,19 @@
-//! Which of two bills is better.
+//! The score of a bill, and which of two bills is better.
 
 ghost use Rattle.std.specs.Prelude.{◌≡◌, ◌≤◌, ◌^◌};
-ghost use Rattle.ih_tables.specs.Bills.{IsWithin};
+ghost use Rattle.ih_tables.specs.Bills.{IsWithin, score};
 ghost use Rattle.ih_improve.specs.Better.{is_better};
 
 use ih_tables::{Bill, Instance};
+
+/// The score of a bill.
+pub(crate) fn score_of(inst: &Instance, hard: u32, bill: &Bill) -> i64
+    requires hard { hard ≤ 1000000 }
+    requires within { IsWithin (10 ^ 11) bill.now }
+    ensures { result ≡ score hard inst.now.draft.weights bill.now }
+{
+    bill.score(hard, inst.weights())
+}
 
 /// Whether the first bill is better than the second: a feasible one is better than one that isn't, two feasible ones go
 /// by their costs, and two others by their scores.
@@ -18,6 +27,6 @@ pub(crate) fn is_better(inst: &Instance, hard: u32, a: &Bill, b: &Bill) -> bool
         (true, true) => a.cost(inst.weights()) < b.cost(inst.weights()),
         (true, false) => true,
         (false, true) => false,
-        (false, false) => a.score(hard, inst.weights()) < b.score(hard, inst.weights()),
+        (false, false) => score_of(inst, hard, a) < score_of(inst, hard, b),
     }
 }

@@ -96,13 +96,7 @@ fn take_better(inst: &Instance, hard: u32, walker: &Walker<'_>, kept: &mut Plan,
 }
 
 // Takes over the best of what the workers found, the first on a tie, where that is better.
-fn take_best(
-    inst: &Instance,
-    hard: u32,
-    workers: &[Worker<'_>],
-    kept: &mut Plan,
-    bill: &mut Bill,
-)
+fn take_best(inst: &Instance, hard: u32, workers: &[Worker<'_>], kept: &mut Plan, bill: &mut Bill)
     requires hard { hard ≤ 1000000 }
     requires workers { All (IsOf inst.now.draft) workers.now }
     requires kept { IsPlanOf inst.now.draft kept.old }

@@ -1,11 +1,11 @@
 //! Where a worker stands, and the best that it has met.
 
-ghost use Rattle.std.specs.Prelude.{◌≡◌, ◌≤◌, ◌^◌, IfOk};
+ghost use Rattle.std.specs.Prelude.{◌≡◌, ◌≤◌, ◌^◌, IfOk, if◌then◌else◌};
 ghost use Rattle.ih_tables.specs.Bills.{IsWithin};
 ghost use Rattle.ih_plan.specs.Timetable.{IsPlanOf};
 ghost use Rattle.ih_plan.specs.BillOf.{bill_of};
 ghost use Rattle.ih_plan.specs.Series.{AreMoves, after_all, price_of_all};
-ghost use Rattle.ih_improve.specs.Better.{better_of};
+ghost use Rattle.ih_improve.specs.{Better.better_of, Walking.kept_with};
 
 use crate::comparing::is_better;
 use ih_costs::Ledgers;
@@ -41,6 +41,25 @@ impl<'a> Model for Walker<'a> {
     } };
 
     ghost invariant = { λ w. AreBills w.inst.now.draft w.ledgers w.kept w.stands_on_best w.bill w.best_bill };
+}
+
+// Keeps the timetable where the ledgers stand, if that is the best and won't be bettered as they leave it.
+fn keep_left(inst: &Instance, kept: &mut Plan, here: &Plan, stands_on_best: bool, is_bettered: bool)
+    requires kept { IsPlanOf inst.now.draft kept.old }
+    requires here { IsPlanOf inst.now.draft here.now }
+    ensures { kept.new ≡ kept_with stands_on_best is_bettered here.now kept.old }
+{
+    let _ = inst.days();
+    if stands_on_best && !is_bettered {
+        kept.copy_from(here);
+    }
+}
+
+// The bill of the best, where another may have bettered it.
+fn best_bill_with(is_bettered: bool, next: &Bill, best: &Bill) -> Bill
+    ensures { result ≡ (if is_bettered then next.now else best.now) }
+{
+    if is_bettered { *next } else { *best }
 }
 
 impl<'a> Walker<'a> {
@@ -108,15 +127,17 @@ impl<'a> Walker<'a> {
     {
         let next = self.bill.add(price);
         let is_best = is_better(self.inst, hard, &next, &self.best_bill);
-        if self.stands_on_best && !is_best {
-            self.kept.copy_from(self.ledgers.plan());
-        }
+        keep_left(
+            self.inst,
+            &mut self.kept,
+            self.ledgers.plan(),
+            self.stands_on_best,
+            is_best,
+        );
         self.ledgers.play_all(moves);
         self.bill = next;
+        self.best_bill = best_bill_with(is_best, &next, &self.best_bill);
         self.stands_on_best = is_best;
-        if is_best {
-            self.best_bill = next;
-        }
     }
 
     /// The best timetable that it has met, which fits the instance.

@@ -1,6 +1,7 @@
 //! A worker: attempts of its own, on its own ledgers, with random words of its own.
 
 use crate::accepting::accepts;
+use crate::comparing::score_of;
 use crate::freezing::any_frozen;
 use crate::heats::heat_at;
 use crate::legs::Leg;
@@ -68,8 +69,9 @@ impl<'a> Worker<'a> {
             return;
         }
         let price = self.walker.price(moves);
-        let score = price.score(settings.hard, inst.weights());
-        if score <= 0 || accepts(score, heat, self.words.next()) {
+        let score = score_of(inst, settings.hard, &price);
+        let word = self.words.next();
+        if accepts(score, heat, word) {
             self.walker.make(settings.hard, moves, &price);
         }
     }
