@@ -1,6 +1,7 @@
 //! What is tried at once: at most eight moves, which are priced as one and made in a row.
 
 use ih_plan::Move;
+use ih_tables::{Instance, PersonNo};
 use std::marker::Model;
 
 /// At most eight moves, in the order in which they are made. It takes no memory.
@@ -22,7 +23,7 @@ impl Model for Attempt {
 }
 
 impl Attempt {
-    ghost use Rattle.std.specs.Prelude.{◌≡◌, ◌<◌, ◌≤◌, ◌+◌, ◌++◌, ◌∷◌, [], length};
+    ghost use Rattle.std.specs.Prelude.{◌≡◌, ◌==◌, ◌<◌, ◌≤◌, ◌+◌, ◌++◌, ◌∷◌, [], length, slice_set};
     ghost use Rattle.ih_tables.specs.declared.drafts.Draft.{Draft};
     ghost use Rattle.ih_plan.specs.{Expand.IsMoveOf, Series.AreMoves};
 
@@ -44,6 +45,21 @@ impl Attempt {
         &self.moves[..self.len]
     }
 
+    /// How many moves it has.
+    pub fn len(&self) -> usize
+        ensures value { result ≡ length self.now }
+        ensures few { result ≤ 8 }
+    {
+        self.len
+    }
+
+    /// Whether it has eight moves.
+    pub fn is_full(&self) -> bool
+        ensures { result ≡ (length self.now == 8) }
+    {
+        self.len == 8
+    }
+
     /// Lets all moves go.
     pub fn clear(&mut self)
         ensures { self.new ≡ [] }
@@ -60,5 +76,37 @@ impl Attempt {
     {
         self.moves[self.len] = mv;
         self.len += 1;
+    }
+
+    /// The move at a place; if all are in range of an instance, it is.
+    pub fn at(&self, inst: &Instance, place: usize) -> Move
+        requires place { place < length self.now }
+        requires moves { AreMoves inst.now.draft self.now }
+        ensures { IsMoveOf inst.now.draft result }
+    {
+        self.moves[place]
+    }
+
+    /// Another move at a place; if all are in range of an instance and this one is, all are afterwards.
+    pub fn replace(&mut self, place: usize, mv: Move)
+        requires { place < length self.old }
+        ensures moves { self.new ≡ slice_set self.old place mv }
+        ensures inside { (I : Draft) → AreMoves I self.old → IsMoveOf I mv → AreMoves I self.new }
+    {
+        self.moves[place] = mv;
+    }
+
+    /// Whether one of the moves is of the person: another stay, or none, of a patient of this number.
+    pub fn moves_person(&self, x: PersonNo) -> bool {
+        for mv in self.as_slice() {
+            let moved = match *mv {
+                Move::Place(p, _) | Move::Withdraw(p) | Move::SetRoom(p, _) => p.0 == x.0,
+                _ => false,
+            };
+            if moved {
+                return true;
+            }
+        }
+        false
     }
 }

@@ -2,9 +2,24 @@
 #![tactic(auto)]
 
 mod attempts;
+mod beds;
 mod blind;
+mod chain;
+mod cheapest_nurse;
+mod kempe;
+mod leaving;
+mod looks;
 mod mix;
+mod moments;
+mod nurse_of_stay;
+mod nurse_run;
+mod nurse_swap;
+mod nurses;
+mod place;
 mod proposing;
+mod stays;
+mod swap;
+mod theatres;
 mod words;
 
 pub use attempts::Attempt;

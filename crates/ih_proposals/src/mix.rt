@@ -5,10 +5,36 @@
 pub enum Kind {
     /// A draw that looks at nothing.
     Blind,
+    /// A patient in a room that fits.
+    Place,
+    /// Two patients exchange their placements, or one is left out for another.
+    Swap,
+    /// A nurse of a person's stay in one more of its shifts.
+    NurseOfStay,
+    /// A patient anywhere: who has to leave gets another place.
+    Chain,
+    /// Two rooms exchange whom a patient disturbs.
+    Kempe,
+    /// One nurse over a person's stay.
+    NurseRun,
+    /// The nurses of two rooms exchanged over a person's stay.
+    NurseSwap,
+    /// The nurse who is cheapest in a shift.
+    CheapestNurse,
 }
 
 /// The kinds, each with its share of 256 words.
-const SHARES: [(Kind, u32); 1] = [(Kind::Blind, 256)];
+const SHARES: [(Kind, u32); 9] = [
+    (Kind::Blind, 76),
+    (Kind::Place, 60),
+    (Kind::Swap, 36),
+    (Kind::NurseOfStay, 16),
+    (Kind::Chain, 16),
+    (Kind::Kempe, 12),
+    (Kind::NurseRun, 16),
+    (Kind::NurseSwap, 16),
+    (Kind::CheapestNurse, 8),
+];
 
 /// The kind that a word below 256 chooses.
 pub fn kind_of(word: u32) -> Kind {

@@ -5,7 +5,15 @@ ghost use Rattle.ih_plan.specs.{Series.AreMoves};
 
 use crate::attempts::Attempt;
 use crate::blind::draw_blindly;
+use crate::chain::chain;
+use crate::cheapest_nurse::cheapest_nurse;
+use crate::kempe::kempe;
 use crate::mix::{Kind, kind_of};
+use crate::nurse_of_stay::nurse_of_stay;
+use crate::nurse_run::nurse_run;
+use crate::nurse_swap::nurse_swap;
+use crate::place::place;
+use crate::swap::swap;
 use crate::words::RandomWords;
 use ih_costs::Ledgers;
 use ih_tables::Instance;
@@ -28,5 +36,13 @@ pub fn propose(
     attempt.clear();
     match kind_of(words.below(256)) {
         Kind::Blind => draw_blindly(inst, words, attempt),
+        Kind::Place => place(inst, hard, ledgers, words, attempt),
+        Kind::Swap => swap(inst, ledgers, words, attempt),
+        Kind::NurseOfStay => nurse_of_stay(inst, ledgers, words, attempt),
+        Kind::Chain => chain(inst, hard, ledgers, words, attempt),
+        Kind::Kempe => kempe(inst, ledgers, words, attempt),
+        Kind::NurseRun => nurse_run(inst, ledgers, words, attempt),
+        Kind::NurseSwap => nurse_swap(inst, ledgers, words, attempt),
+        Kind::CheapestNurse => cheapest_nurse(inst, hard, ledgers, words, attempt),
     }
 }

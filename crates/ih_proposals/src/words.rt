@@ -53,3 +53,22 @@ fn scaled(word: u32, n: u32) -> u32
 {
     ((word as u64 * n as u64) >> 32) as u32
 }
+
+#[cfg(test)]
+mod tests {
+    use super::RandomWords;
+
+    // The first word of a worker in a round.
+    fn first(seed: u64, round: u32, worker: u32) -> u64 {
+        RandomWords::new(seed, round, worker).next()
+    }
+
+    #[test]
+    fn another_seed_round_or_worker_has_other_words(rt: HostRuntime) {
+        let word = first(7, 1, 2);
+        assert_eq!(rt; first(7, 1, 2), word);
+        assert_ne!(rt; first(8, 1, 2), word);
+        assert_ne!(rt; first(7, 2, 2), word);
+        assert_ne!(rt; first(7, 1, 3), word);
+    }
+}

@@ -1,6 +1,9 @@
 //! What is asked of persons who are together, in tables by person: an instance's own records lie far apart.
 
 ghost use Rattle.std.specs.Prelude.{◌≡◌, ◌<◌, IfOk, length};
+ghost use Rattle.std.specs.Str.{bytes_eq};
+ghost use Rattle.ih_tables.specs.declared.drafts.Draft.{Draft};
+ghost use Rattle.ih_plan.specs.Persons.{person_of};
 ghost use Rattle.ih_roomdays.specs.Profiles.{AreAges, AreInRange, AreProfiles, most_persons, profile_of};
 
 use crate::genders::gender_numbers;
@@ -40,6 +43,18 @@ impl Profiles {
             gender: self.genders[x as usize],
             age: self.ages[x as usize],
         }
+    }
+
+    /// Whether two persons have one gender.
+    #[inline(always)]
+    pub fn same_gender(&self, x: u32, y: u32) -> bool
+        requires first { x < length self.now.genders.items }
+        requires second { y < length self.now.genders.items }
+        ensures { (I : Draft) → AreProfiles I self.now
+            → result ≡ bytes_eq (person_of I x).gender (person_of I y).gender }
+    {
+        let genders = self.genders.as_slice();
+        genders[x as usize] == genders[y as usize]
     }
 }
 

@@ -1,6 +1,8 @@
 //! The ledger of room days.
 
 ghost use Rattle.std.specs.Prelude.{◌≡◌, ◌<◌, ◌^◌, true, Some, None, IfOk};
+ghost use Rattle.std.specs.Str.{bytes_eq};
+ghost use Rattle.ih_tables.specs.declared.drafts.Draft.{Draft};
 ghost use Rattle.ih_tables.specs.{Bills.IsWithin, Sizes.patient_count, Sizes.room_count};
 ghost use Rattle.ih_tables.specs.{declared.cells.Cell.TheVariants.RoomDay};
 ghost use Rattle.ih_plan.specs.Timetable.{Timetable, IsPlacement, empty, stay_of};
@@ -108,6 +110,17 @@ impl RoomDays {
         let was = is_there(inst, p, old, at.room, d);
         let (without, with) = without_and_with(inst, &self.rows, at.room, d, p, was);
         room_day_change(with, without)
+    }
+
+    /// Whether two persons have one gender, by a table, without a look at the instance.
+    #[inline(always)]
+    pub fn same_gender(&self, x: PersonNo, y: PersonNo) -> bool
+        requires first { x.0 < self.now.persons }
+        requires second { y.0 < self.now.persons }
+        ensures { (I : Draft) (P : Timetable) → IsLedgerOf I P self.now
+            → result ≡ bytes_eq (person_of I x.0).gender (person_of I y.0).gender }
+    {
+        self.rows.profiles.same_gender(x.0, y.0)
     }
 }
 

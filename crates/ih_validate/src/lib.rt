@@ -21,7 +21,7 @@ mod theatres;
 
 pub use bills::bill;
 pub use laws::bills_have_parts;
-pub use patients::{delay, in_bad_room, outside_window};
+pub use patients::{delay, in_bad_room, is_incompatible, outside_window};
 pub use reports::report;
 pub use summing::bit;
 pub use surgery::{Resource, ResourceKind, count_of, has_surgery, limit_of, one_of};

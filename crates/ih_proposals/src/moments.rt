@@ -1,0 +1,71 @@
+//! The shifts in which a person needs care, by random words: with them each kind that changes nurses begins.
+
+ghost use Rattle.std.specs.Prelude.{◌≡◌, ◌<◌, IfSome};
+ghost use Rattle.ih_tables.specs.Sizes.{person_count};
+ghost use Rattle.ih_proposals.specs.Moments.{AreDays, IsMoment};
+
+use crate::looks::stay_of;
+use crate::words::RandomWords;
+use ih_costs::Ledgers;
+use ih_plan::{end_from, end_of};
+use ih_tables::{Instance, PatientNo, RoomNo};
+
+/// A person's stay: the room, and its days from one on and before another.
+#[derive(Clone, Copy)]
+pub struct StayDays {
+    pub room: RoomNo,
+    pub from: u32,
+    pub to: u32,
+}
+
+/// A person's stay, and one of its shifts.
+#[derive(Clone, Copy)]
+pub struct Moment {
+    pub days: StayDays,
+    pub shift: u32,
+}
+
+// The stay of a person, where it has one.
+fn days_of(inst: &Instance, ledgers: &Ledgers<'_>, x: u32) -> Option<StayDays>
+    requires instance { ledgers.now.instance ≡ inst.now.draft }
+    requires person { x < person_count inst.now.draft }
+    ensures { IfSome result (AreDays inst.now.draft) }
+{
+    let patients = inst.patients();
+    if x < patients {
+        let at = stay_of(inst, ledgers, PatientNo(x))?;
+        Some(StayDays {
+            room: at.room,
+            from: at.day.0,
+            to: end_of(inst, PatientNo(x), at),
+        })
+    } else {
+        let occupant = inst.occupant(x - patients);
+        Some(StayDays {
+            room: occupant.room_id,
+            from: 0,
+            to: end_from(inst, 0, occupant.length_of_stay),
+        })
+    }
+}
+
+/// A shift of a person's stay, both by random words; none where the person isn't admitted.
+pub fn draw_moment(
+    inst: &Instance,
+    ledgers: &Ledgers<'_>,
+    words: &mut RandomWords,
+) -> Option<Moment>
+    requires instance { ledgers.now.instance ≡ inst.now.draft }
+    ensures { IfSome result (IsMoment inst.now.draft) }
+{
+    let persons = inst.persons();
+    if persons == 0 {
+        return None;
+    }
+    let days = days_of(inst, ledgers, words.below(persons))?;
+    if days.to <= days.from {
+        return None;
+    }
+    let shift = 3 * days.from + words.below(3 * (days.to - days.from));
+    Some(Moment { days, shift })
+}

@@ -1,0 +1,40 @@
+//! Nurses who work a shift.
+
+ghost use Rattle.std.specs.Prelude.{◌≡◌, ◌<◌, IfSome, length};
+ghost use Rattle.ih_tables.specs.Sizes.{nurse_count, shift_count};
+ghost use Rattle.ih_tables.specs.Works.{working};
+
+use crate::words::RandomWords;
+use ih_tables::{Instance, NurseNo, Shift};
+
+/// The nurse at a place in the list of those who work a shift.
+#[inline(always)]
+pub fn working_at(inst: &Instance, k: Shift, place: usize) -> NurseNo
+    requires shift { k.0 < shift_count inst.now.draft }
+    requires place { place < length (working inst.now.draft k.0) }
+    ensures { result.0 < nurse_count inst.now.draft }
+{
+    inst.working(k)[place]
+}
+
+/// How many nurses work a shift.
+#[inline(always)]
+pub fn count_working(inst: &Instance, k: Shift) -> u32
+    requires { k.0 < shift_count inst.now.draft }
+    ensures { result ≡ length (working inst.now.draft k.0) }
+{
+    inst.working(k).len() as u32
+}
+
+/// A nurse who works a shift, by a random word, where there is one.
+pub fn draw_working(inst: &Instance, words: &mut RandomWords, k: Shift) -> Option<NurseNo>
+    requires { k.0 < shift_count inst.now.draft }
+    ensures { IfSome result (λ n. n.0 < nurse_count inst.now.draft) }
+{
+    let count = count_working(inst, k);
+    if count == 0 {
+        None
+    } else {
+        Some(working_at(inst, k, words.below(count) as usize))
+    }
+}
