@@ -1,6 +1,5 @@
 pub mod BetterLemmas
 pub mod Determined
-pub mod SettingsLemmas
 pub mod WalkerBills
 pub mod FrozenMoves
 pub mod RoundLemmas
