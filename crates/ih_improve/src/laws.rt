@@ -4,8 +4,8 @@ ghost use Rattle.ih_improve.specs.Laws.{RoundsAreDetermined};
 
 use crate::rounds::Walks;
 
-/// Where what each worker leaves follows from what the round begins with and from its number, the timetables to which
-/// rounds lead are determined, however many workers there are and whatever the threads do.
+/// Where what each worker leaves follows from what the round begins with and from its number, as many rounds from the
+/// same beginning lead to the same timetables, however many workers there are and whatever the threads do.
 pub fn determined_workers_make_determined_rounds<W: Walks>()
     ensures { RoundsAreDetermined W.leaves }
 {}

@@ -6,7 +6,9 @@ use crate::legs::Leg;
 use ih_journal::MAX_WORKERS;
 use std::thread::{Threads, for_each_mut};
 
-/// A worker of any kind. It takes no handle, so what it does rests on its arguments alone.
+/// A worker of any kind. Its walk takes no handle, no clock and nothing that another worker changes, so by the language
+/// alone the same calls leave the same. No clause says that. What is proved is that threads add nothing to it: a round is
+/// the first best of what each walk left, in the order of the workers.
 pub trait Walks {
     ghost use Rattle.std.specs.Prelude.{◌≡◌, ◌<◌, ℕ};
     ghost use Rattle.ih_tables.specs.declared.drafts.Draft.{Draft};
