@@ -23,8 +23,7 @@ impl Model for Attempt {
 }
 
 impl Attempt {
-    ghost use Rattle.std.specs.Prelude.{◌≡◌, ◌==◌, ◌<◌, ◌≤◌, ◌+◌, ◌++◌, ◌∷◌, [], length, slice_set};
-    ghost use Rattle.ih_tables.specs.declared.drafts.Draft.{Draft};
+    ghost use Rattle.std.specs.Prelude.{◌≡◌, ◌==◌, ◌<◌, ◌≤◌, ◌++◌, ◌∷◌, [], length};
     ghost use Rattle.ih_plan.specs.{Expand.IsMoveOf, Series.AreMoves};
 
     /// No moves yet.
@@ -50,14 +49,14 @@ impl Attempt {
         ensures value { result ≡ length self.now }
         ensures few { result ≤ 8 }
     {
-        self.len
+        self.as_slice().len()
     }
 
     /// Whether it has eight moves.
     pub fn is_full(&self) -> bool
         ensures { result ≡ (length self.now == 8) }
     {
-        self.len == 8
+        self.len() == 8
     }
 
     /// Lets all moves go.
@@ -67,33 +66,42 @@ impl Attempt {
         self.len = 0;
     }
 
-    /// One move more, behind the others. If all are in range of an instance so far and this one is, all are.
+    /// One move more, behind the others.
     pub fn push(&mut self, mv: Move)
         requires { length self.old < 8 }
-        ensures moves { self.new ≡ self.old ++ mv ∷ [] }
-        ensures count { length self.new ≡ length self.old + 1 }
-        ensures inside { (I : Draft) → AreMoves I self.old → IsMoveOf I mv → AreMoves I self.new }
+        ensures { self.new ≡ self.old ++ mv ∷ [] }
     {
         self.moves[self.len] = mv;
         self.len += 1;
     }
 
-    /// The move at a place; if all are in range of an instance, it is.
-    pub fn at(&self, inst: &Instance, place: usize) -> Move
-        requires place { place < length self.now }
-        requires moves { AreMoves inst.now.draft self.now }
-        ensures { IsMoveOf inst.now.draft result }
+    /// Makes way for moves of the instance: there are none, so all are in range.
+    pub fn begin(&mut self, _inst: &Instance)
+        ensures { AreMoves _inst.now.draft self.new }
     {
-        self.moves[place]
+        self.clear();
     }
 
-    /// Another move at a place; if all are in range of an instance and this one is, all are afterwards.
-    pub fn replace(&mut self, place: usize, mv: Move)
-        requires { place < length self.old }
-        ensures moves { self.new ≡ slice_set self.old place mv }
-        ensures inside { (I : Draft) → AreMoves I self.old → IsMoveOf I mv → AreMoves I self.new }
+    /// One move of the instance more, behind others of it, where there aren't eight.
+    pub fn add(&mut self, _inst: &Instance, mv: Move)
+        requires moves { AreMoves _inst.now.draft self.old }
+        requires one { IsMoveOf _inst.now.draft mv }
+        ensures { AreMoves _inst.now.draft self.new }
     {
-        self.moves[place] = mv;
+        if self.len() >= 8 {
+            return;
+        }
+        self.push(mv);
+    }
+
+    /// The move at a place, where all are moves of the instance.
+    pub fn at(&self, _inst: &Instance, place: usize) -> Move
+        requires place { place < length self.now }
+        requires moves { AreMoves _inst.now.draft self.now }
+        ensures { IsMoveOf _inst.now.draft result }
+    {
+        let moves = self.as_slice();
+        moves[place]
     }
 
     /// Whether one of the moves is of the person: another stay, or none, of a patient of this number.

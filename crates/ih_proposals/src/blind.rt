@@ -1,6 +1,5 @@
 //! One move that looks at nothing.
 
-ghost use Rattle.std.specs.Prelude.{◌≡◌, []};
 ghost use Rattle.ih_plan.specs.{Series.AreMoves};
 
 use crate::attempts::Attempt;
@@ -9,8 +8,8 @@ use ih_tables::Instance;
 
 /// The next blind draw.
 pub fn draw_blindly(inst: &Instance, words: &mut RandomWords, attempt: &mut Attempt)
-    requires { attempt.old ≡ [] }
+    requires { AreMoves inst.now.draft attempt.old }
     ensures { AreMoves inst.now.draft attempt.new }
 {
-    attempt.push(words.blind(inst));
+    attempt.add(inst, words.blind(inst));
 }

@@ -1,6 +1,6 @@
 //! A patient in a room and from a day on by random words, whatever is there: who has to leave gets another place.
 
-ghost use Rattle.std.specs.Prelude.{◌≡◌, ◌<◌, ◌≤◌, [], IfSome};
+ghost use Rattle.std.specs.Prelude.{◌≡◌, ◌<◌, ◌≤◌, IfSome};
 ghost use Rattle.ih_tables.specs.Sizes.{patient_count, room_count};
 ghost use Rattle.ih_plan.specs.{Timetable.IsPlacement, Expand.IsMoveOf, Series.AreMoves};
 
@@ -53,7 +53,7 @@ fn eject(inst: &Instance, x: PersonNo, attempt: &mut Attempt) -> bool
     if x.0 >= inst.patients() || attempt.len() > MOST_EJECTED {
         return false;
     }
-    attempt.push(Move::Withdraw(PatientNo(x.0)));
+    attempt.add(inst, Move::Withdraw(PatientNo(x.0)));
     true
 }
 
@@ -75,7 +75,7 @@ fn eject_on(
     ensures { AreMoves inst.now.draft attempt.new }
 {
     let rooms = rooms_of(inst, ledgers);
-    for _ in 0..=MOST_EJECTED {
+    'leaving: for _ in 0..MOST_EJECTED + 1 {
         match one_to_leave(inst, rooms, words, p, r, d, 1, attempt) {
             Leaving::Nobody => return true,
             Leaving::TooMany => return false,
@@ -157,10 +157,13 @@ fn resettle(
     requires moves { AreMoves inst.now.draft attempt.old }
     ensures { AreMoves inst.now.draft attempt.new }
 {
-    for i in 0..attempt.len() {
+    for i in 0..MOST_EJECTED + 1 {
+        if i >= attempt.len() {
+            return true;
+        }
         if let Some(q) = withdrawn(inst, attempt.at(inst, i)) {
             match find_twice(inst, hard, ledgers, words, q, attempt) {
-                Some(at) => attempt.replace(i, Move::Place(q, at)),
+                Some(at) => attempt.add(inst, Move::Place(q, at)),
                 None => {
                     if inst.patient(q).mandatory {
                         return false;
@@ -172,7 +175,7 @@ fn resettle(
     true
 }
 
-/// Up to three moves: a patient gets a room and a day by random words, and at most two who have to leave get the first
+/// Up to five moves: a patient gets a room and a day by random words, and at most two who have to leave get the first
 /// place that fits on one of two days, or stay out. None where an occupant, too many or a mandatory patient would have to
 /// leave for good.
 pub fn chain(
@@ -184,7 +187,7 @@ pub fn chain(
 )
     requires instance { ledgers.now.instance ≡ inst.now.draft }
     requires hard { hard ≤ 1000000 }
-    requires none { attempt.old ≡ [] }
+    requires moves { AreMoves inst.now.draft attempt.old }
     ensures { AreMoves inst.now.draft attempt.new }
 {
     let Some(p) = draw_patient(inst, words) else {
@@ -193,10 +196,10 @@ pub fn chain(
     let Some(at) = draw_goal(inst, hard, ledgers, words, p) else {
         return;
     };
-    attempt.push(Move::Place(p, at));
+    attempt.add(inst, Move::Place(p, at));
     if !eject_all(inst, ledgers, words, p, at, attempt)
         || !resettle(inst, hard, ledgers, words, attempt)
     {
-        attempt.clear();
+        attempt.begin(inst);
     }
 }

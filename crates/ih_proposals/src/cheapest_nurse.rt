@@ -1,7 +1,7 @@
 //! The nurse who is cheapest in a shift.
 
-ghost use Rattle.std.specs.Prelude.{◌≡◌, ◌<◌, ◌≤◌, [], IfSome};
-ghost use Rattle.ih_tables.specs.Sizes.{nurse_count};
+ghost use Rattle.std.specs.Prelude.{◌≡◌, ◌<◌, ◌≤◌, IfSome};
+ghost use Rattle.ih_tables.specs.Sizes.{nurse_count, room_count, shift_count};
 ghost use Rattle.ih_plan.specs.{Series.AreMoves};
 ghost use Rattle.ih_proposals.specs.Moments.{IsMoment};
 
@@ -14,10 +14,32 @@ use crate::theatres::score_of;
 use crate::words::RandomWords;
 use ih_costs::Ledgers;
 use ih_plan::{Move, Write};
-use ih_tables::{Instance, NurseNo, Shift};
+use ih_tables::{Instance, NurseNo, RoomNo, Shift};
 
-// The nurse, other than the one there, who adds least to the score in the room: the first of equal ones, cyclically from
-// a random one on.
+// What the nurse would add to the score in a shift of a room; the greatest number where the room has the nurse already.
+fn value_of(
+    inst: &Instance,
+    hard: u32,
+    ledgers: &Ledgers<'_>,
+    r: RoomNo,
+    k: Shift,
+    nurse: NurseNo,
+) -> i64
+    requires instance { ledgers.now.instance ≡ inst.now.draft }
+    requires hard { hard ≤ 1000000 }
+    requires room { r.0 < room_count inst.now.draft }
+    requires shift { k.0 < shift_count inst.now.draft }
+    requires nurse { nurse.0 < nurse_count inst.now.draft }
+{
+    if nurse_in(inst, ledgers, r, k) == Some(nurse) {
+        return i64::MAX;
+    }
+    let price = ledgers.price_write(&Write::SetCare(r, k, Some(nurse)));
+    score_of(inst, hard, &price)
+}
+
+// The nurse, other than the one there, who adds least to the score: the first of equal ones, cyclically from a random one
+// on.
 fn cheapest_other(
     inst: &Instance,
     hard: u32,
@@ -31,26 +53,22 @@ fn cheapest_other(
     ensures { IfSome result (λ n. n.0 < nurse_count inst.now.draft) }
 {
     let shift = Shift(at.shift);
-    let now = nurse_in(inst, ledgers, at.days.room, shift);
     let count = count_working(inst, shift);
-    let mut best = None;
-    let mut least = i64::MAX;
     if count == 0 {
-        return best;
+        return None;
     }
     let first = words.below(count);
+    let mut best = working_at(inst, shift, first as usize);
+    let mut least = i64::MAX;
     for i in 0..count {
         let nurse = working_at(inst, shift, cyclic(first, i, count) as usize);
-        if now != Some(nurse) {
-            let price = ledgers.price_write(&Write::SetCare(at.days.room, shift, Some(nurse)));
-            let value = score_of(inst, hard, &price);
-            if value < least {
-                least = value;
-                best = Some(nurse);
-            }
+        let value = value_of(inst, hard, ledgers, at.days.room, shift, nurse);
+        if value < least {
+            least = value;
+            best = nurse;
         }
     }
-    best
+    if least < i64::MAX { Some(best) } else { None }
 }
 
 /// One move: in a shift of a person's stay, by random words, its room gets the cheapest other nurse who works it.
@@ -63,12 +81,12 @@ pub fn cheapest_nurse(
 )
     requires instance { ledgers.now.instance ≡ inst.now.draft }
     requires hard { hard ≤ 1000000 }
-    requires none { attempt.old ≡ [] }
+    requires moves { AreMoves inst.now.draft attempt.old }
     ensures { AreMoves inst.now.draft attempt.new }
 {
     if let Some(at) = draw_moment(inst, ledgers, words) {
         if let Some(n) = cheapest_other(inst, hard, ledgers, at, words) {
-            attempt.push(Move::Nurse(at.days.room, Shift(at.shift), n));
+            attempt.add(inst, Move::Nurse(at.days.room, Shift(at.shift), n));
         }
     }
 }

@@ -1,6 +1,6 @@
 //! Two rooms that exchange a patient, whom the patient disturbs there, whom these disturb, and so on.
 
-ghost use Rattle.std.specs.Prelude.{◌≡◌, ◌<◌, [], IfSome};
+ghost use Rattle.std.specs.Prelude.{◌≡◌, ◌<◌, IfSome};
 ghost use Rattle.ih_tables.specs.Sizes.{patient_count, room_count};
 ghost use Rattle.ih_plan.specs.{Timetable.IsPlacement, Timetable.Timetable, Expand.IsMoveOf, Series.AreMoves};
 ghost use Rattle.ih_roomdays.specs.Ledger.{IsLedgerOf};
@@ -41,10 +41,13 @@ fn bring(inst: &Instance, x: PersonNo, r: RoomNo, attempt: &mut Attempt) -> bool
     requires moves { AreMoves inst.now.draft attempt.old }
     ensures { AreMoves inst.now.draft attempt.new }
 {
-    if x.0 >= inst.patients() || attempt.is_full() || is_incompatible(inst.patient(PatientNo(x.0)), r) {
+    if x.0 >= inst.patients() || attempt.is_full() {
         return false;
     }
-    attempt.push(Move::SetRoom(PatientNo(x.0), r));
+    if is_incompatible(inst.patient(PatientNo(x.0)), r) {
+        return false;
+    }
+    attempt.add(inst, Move::SetRoom(PatientNo(x.0), r));
     true
 }
 
@@ -69,7 +72,7 @@ fn make_way_on(
     ensures { AreMoves inst.now.draft attempt.new }
 {
     let rooms = rooms_of(inst, ledgers);
-    for _ in 0..MOST {
+    'leaving: for _ in 0..MOST {
         let coming = count_moved(inst, rooms, at.room, d, attempt);
         match one_to_leave(inst, rooms, words, p, to, d, coming, attempt) {
             Leaving::Nobody => return true,
@@ -155,7 +158,7 @@ pub fn kempe(
     attempt: &mut Attempt,
 )
     requires instance { ledgers.now.instance ≡ inst.now.draft }
-    requires none { attempt.old ≡ [] }
+    requires moves { AreMoves inst.now.draft attempt.old }
     ensures { AreMoves inst.now.draft attempt.new }
 {
     let Some(p) = draw_patient(inst, words) else {
@@ -168,8 +171,8 @@ pub fn kempe(
     if other == at.room || is_incompatible(inst.patient(p), other) {
         return;
     }
-    attempt.push(Move::SetRoom(p, other));
+    attempt.add(inst, Move::SetRoom(p, other));
     if !make_way_for_all(inst, ledgers, words, attempt) {
-        attempt.clear();
+        attempt.begin(inst);
     }
 }

@@ -1,6 +1,6 @@
 //! A nurse of a person's stay in one more of its shifts.
 
-ghost use Rattle.std.specs.Prelude.{◌≡◌, ◌<◌, [], IfSome};
+ghost use Rattle.std.specs.Prelude.{◌≡◌, ◌<◌, IfSome};
 ghost use Rattle.ih_tables.specs.Sizes.{nurse_count};
 ghost use Rattle.ih_plan.specs.{Series.AreMoves};
 ghost use Rattle.ih_proposals.specs.Moments.{IsMoment};
@@ -50,12 +50,12 @@ pub fn nurse_of_stay(
     attempt: &mut Attempt,
 )
     requires instance { ledgers.now.instance ≡ inst.now.draft }
-    requires none { attempt.old ≡ [] }
+    requires moves { AreMoves inst.now.draft attempt.old }
     ensures { AreMoves inst.now.draft attempt.new }
 {
     if let Some(at) = draw_moment(inst, ledgers, words) {
         if let Some(n) = other_nurse(inst, ledgers, at, words) {
-            attempt.push(Move::Nurse(at.days.room, Shift(at.shift), n));
+            attempt.add(inst, Move::Nurse(at.days.room, Shift(at.shift), n));
         }
     }
 }

@@ -1,6 +1,6 @@
 //! One nurse in the shifts that the nurse works of a person's stay.
 
-ghost use Rattle.std.specs.Prelude.{◌≡◌, ◌<◌, [], IfSome};
+ghost use Rattle.std.specs.Prelude.{◌≡◌, ◌<◌, IfSome};
 ghost use Rattle.ih_tables.specs.Sizes.{nurse_count};
 ghost use Rattle.ih_plan.specs.{Series.AreMoves};
 ghost use Rattle.ih_proposals.specs.Moments.{IsMoment};
@@ -45,13 +45,13 @@ pub fn nurse_run(
     attempt: &mut Attempt,
 )
     requires instance { ledgers.now.instance ≡ inst.now.draft }
-    requires none { attempt.old ≡ [] }
+    requires moves { AreMoves inst.now.draft attempt.old }
     ensures { AreMoves inst.now.draft attempt.new }
 {
     if let Some(at) = draw_moment(inst, ledgers, words) {
         if let Some(n) = draw_nurse(inst, ledgers, at, words) {
             let days = (at.days.to - at.days.from).min(LONGEST);
-            attempt.push(Move::NurseRun(n, at.days.room, Day(at.days.from), days));
+            attempt.add(inst, Move::NurseRun(n, at.days.room, Day(at.days.from), days));
         }
     }
 }

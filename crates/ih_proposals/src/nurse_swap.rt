@@ -1,6 +1,6 @@
 //! The nurses of two rooms exchanged over a person's stay.
 
-ghost use Rattle.std.specs.Prelude.{◌≡◌, ◌<◌, [], IfSome};
+ghost use Rattle.std.specs.Prelude.{◌≡◌, ◌<◌, IfSome};
 ghost use Rattle.ih_tables.specs.Sizes.{nurse_count, room_count, shift_count};
 ghost use Rattle.ih_plan.specs.{Expand.IsMoveOf, Series.AreMoves};
 ghost use Rattle.ih_proposals.specs.Pairs.{IsPair};
@@ -78,7 +78,7 @@ pub fn nurse_swap(
     attempt: &mut Attempt,
 )
     requires instance { ledgers.now.instance ≡ inst.now.draft }
-    requires none { attempt.old ≡ [] }
+    requires moves { AreMoves inst.now.draft attempt.old }
     ensures { AreMoves inst.now.draft attempt.new }
 {
     let Some(at) = draw_moment(inst, ledgers, words) else {
@@ -89,11 +89,8 @@ pub fn nurse_swap(
         return;
     };
     for k in 3 * at.days.from..3 * at.days.to {
-        if attempt.is_full() {
-            return;
-        }
         if let Some(mv) = exchange_at(inst, ledgers, pair, Shift(k)) {
-            attempt.push(mv);
+            attempt.add(inst, mv);
         }
     }
 }

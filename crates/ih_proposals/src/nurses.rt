@@ -14,7 +14,8 @@ pub fn working_at(inst: &Instance, k: Shift, place: usize) -> NurseNo
     requires place { place < length (working inst.now.draft k.0) }
     ensures { result.0 < nurse_count inst.now.draft }
 {
-    inst.working(k)[place]
+    let working = inst.working(k);
+    working[place]
 }
 
 /// How many nurses work a shift.
@@ -23,7 +24,8 @@ pub fn count_working(inst: &Instance, k: Shift) -> u32
     requires { k.0 < shift_count inst.now.draft }
     ensures { result ≡ length (working inst.now.draft k.0) }
 {
-    inst.working(k).len() as u32
+    let working = inst.working(k);
+    working.len() as u32
 }
 
 /// A nurse who works a shift, by a random word, where there is one.

@@ -1,6 +1,6 @@
 //! A patient in a room that fits, and in the theatre that is cheapest there.
 
-ghost use Rattle.std.specs.Prelude.{◌≡◌, ◌<◌, ◌≤◌, [], IfSome};
+ghost use Rattle.std.specs.Prelude.{◌≡◌, ◌<◌, ◌≤◌, IfSome};
 ghost use Rattle.ih_tables.specs.Sizes.{patient_count};
 ghost use Rattle.ih_plan.specs.{Timetable.IsPlacement, Series.AreMoves};
 
@@ -48,12 +48,12 @@ pub fn place(
 )
     requires instance { ledgers.now.instance ≡ inst.now.draft }
     requires hard { hard ≤ 1000000 }
-    requires none { attempt.old ≡ [] }
+    requires moves { AreMoves inst.now.draft attempt.old }
     ensures { AreMoves inst.now.draft attempt.new }
 {
     if let Some(p) = draw_patient(inst, words) {
         if let Some(at) = find_place(inst, hard, ledgers, words, p, attempt) {
-            attempt.push(Move::Place(p, at));
+            attempt.add(inst, Move::Place(p, at));
         }
     }
 }

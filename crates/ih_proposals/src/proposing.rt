@@ -18,6 +18,33 @@ use crate::words::RandomWords;
 use ih_costs::Ledgers;
 use ih_tables::Instance;
 
+// An attempt of a kind.
+fn propose_kind(
+    kind: Kind,
+    inst: &Instance,
+    hard: u32,
+    ledgers: &Ledgers<'_>,
+    words: &mut RandomWords,
+    attempt: &mut Attempt,
+)
+    requires instance { ledgers.now.instance ≡ inst.now.draft }
+    requires hard { hard ≤ 1000000 }
+    requires moves { AreMoves inst.now.draft attempt.old }
+    ensures { AreMoves inst.now.draft attempt.new }
+{
+    match kind {
+        Kind::Blind => draw_blindly(inst, words, attempt),
+        Kind::Place => place(inst, hard, ledgers, words, attempt),
+        Kind::Swap => swap(inst, ledgers, words, attempt),
+        Kind::NurseOfStay => nurse_of_stay(inst, ledgers, words, attempt),
+        Kind::Chain => chain(inst, hard, ledgers, words, attempt),
+        Kind::Kempe => kempe(inst, ledgers, words, attempt),
+        Kind::NurseRun => nurse_run(inst, ledgers, words, attempt),
+        Kind::NurseSwap => nurse_swap(inst, ledgers, words, attempt),
+        Kind::CheapestNurse => cheapest_nurse(inst, hard, ledgers, words, attempt),
+    }
+}
+
 /// What is tried next at the timetable of the ledgers, in place of what the attempt held: moves in range, of a kind that
 /// a random word chooses by the kinds' shares; none where that kind finds nothing. `hard` is the weight of a broken rule,
 /// by which candidates are compared. Which moves it is, is free. It takes no memory.
@@ -33,16 +60,8 @@ pub fn propose(
     ensures moves { AreMoves inst.now.draft attempt.new }
     ensures few { length attempt.new ≤ 8 }
 {
-    attempt.clear();
-    match kind_of(words.below(256)) {
-        Kind::Blind => draw_blindly(inst, words, attempt),
-        Kind::Place => place(inst, hard, ledgers, words, attempt),
-        Kind::Swap => swap(inst, ledgers, words, attempt),
-        Kind::NurseOfStay => nurse_of_stay(inst, ledgers, words, attempt),
-        Kind::Chain => chain(inst, hard, ledgers, words, attempt),
-        Kind::Kempe => kempe(inst, ledgers, words, attempt),
-        Kind::NurseRun => nurse_run(inst, ledgers, words, attempt),
-        Kind::NurseSwap => nurse_swap(inst, ledgers, words, attempt),
-        Kind::CheapestNurse => cheapest_nurse(inst, hard, ledgers, words, attempt),
-    }
+    attempt.begin(inst);
+    propose_kind(kind_of(words.below(256)), inst, hard, ledgers, words, attempt);
+    // For the proof alone.
+    let _few = attempt.len();
 }

@@ -1,8 +1,8 @@
 //! A patient in the place of another of the same gender, who takes the first one's place or is left out.
 
-ghost use Rattle.std.specs.Prelude.{◌≡◌, ◌<◌, ◌≤◌, [], IfSome};
+ghost use Rattle.std.specs.Prelude.{◌≡◌, ◌<◌, ◌≤◌, IfSome};
 ghost use Rattle.ih_tables.specs.Sizes.{patient_count};
-ghost use Rattle.ih_plan.specs.{Timetable.IsPlacement, Series.AreMoves};
+ghost use Rattle.ih_plan.specs.{Timetable.IsPlacement, Expand.IsMoveOf, Series.AreMoves};
 
 use crate::attempts::Attempt;
 use crate::looks::{rooms_of, stay_of};
@@ -78,6 +78,18 @@ fn place_of_other(
     }
 }
 
+// The move of a patient whose place another one takes: to the other's place, or out where that one isn't admitted.
+fn move_away(_inst: &Instance, q: PatientNo, to: Option<Placement>) -> Move
+    requires patient { q.0 < patient_count _inst.now.draft }
+    requires placement { IfSome to (IsPlacement _inst.now.draft) }
+    ensures { IsMoveOf _inst.now.draft result }
+{
+    match to {
+        None => Move::Withdraw(q),
+        Some(at) => Move::Place(q, at),
+    }
+}
+
 /// Two moves, for a patient by a random word and the first other patient, cyclically from a random one on, whose place
 /// the patient may take: both exchange their placements, or the other is left out where the patient isn't admitted.
 pub fn swap(
@@ -87,7 +99,7 @@ pub fn swap(
     attempt: &mut Attempt,
 )
     requires instance { ledgers.now.instance ≡ inst.now.draft }
-    requires none { attempt.old ≡ [] }
+    requires moves { AreMoves inst.now.draft attempt.old }
     ensures { AreMoves inst.now.draft attempt.new }
 {
     let Some(p) = draw_patient(inst, words) else {
@@ -99,12 +111,8 @@ pub fn swap(
     for i in 0..patients.min(LOOKS) {
         let q = PatientNo(cyclic(first, i, patients));
         if let Some(theirs) = place_of_other(inst, ledgers, p, mine, q) {
-            let left = match mine {
-                None => Move::Withdraw(q),
-                Some(at) => Move::Place(q, at),
-            };
-            attempt.push(left);
-            attempt.push(Move::Place(p, theirs));
+            attempt.add(inst, move_away(inst, q, mine));
+            attempt.add(inst, Move::Place(p, theirs));
             return;
         }
     }

@@ -29,12 +29,12 @@ impl RandomWords {
         self.stream.word()
     }
 
-    /// A choice among n, from 0, by the upper half of the next word.
+    /// A choice among n, from 0: the next word modulo n.
     pub fn below(&mut self, n: u32) -> u32
         requires { 0 < n }
         ensures { result < n }
     {
-        scaled((self.next() >> 32) as u32, n)
+        (self.next() % n as u64) as u32
     }
 
     /// A move in range that looks at nothing: the stream's next draw.
@@ -43,15 +43,6 @@ impl RandomWords {
     {
         self.stream.draw(inst)
     }
-}
-
-// The part of n that the word is of 2^32.
-#[inline(always)]
-fn scaled(word: u32, n: u32) -> u32
-    requires { 0 < n }
-    ensures { result < n }
-{
-    ((word as u64 * n as u64) >> 32) as u32
 }
 
 #[cfg(test)]
