@@ -1,9 +1,7 @@
 -- What the better of two timetables is.
-use Rattle.std.proofs.Common.{◌≡◌, ℕ, zero, suc, refl, sym, ap, ◌∙◌, subst, arith, Bool, true, false, List, [], ◌∷◌}
-use Rattle.std.specs.Prelude.{T, ◌<ℤ◌, ◌≤ℤ◌, ℤ, fold, if◌then◌else◌, int_lt, slice_get, Some}
+use Rattle.std.proofs.Common.{◌≡◌, ℕ, suc, refl, sym, ap, subst, arith, Bool, true, false, List, [], ◌∷◌}
+use Rattle.std.specs.Prelude.{T, ◌<ℤ◌, ◌≤ℤ◌, ℤ, if◌then◌else◌, int_lt, slice_get, Some}
 use Rattle.std.proofs.lemmas.Int.{ints}
-use Rattle.ih_tables.specs.declared.bills.Bill.{Bill}
-use Rattle.ih_tables.specs.declared.bills.Weights.{Weights}
 use Rattle.ih_tables.specs.declared.drafts.Draft.{Draft}
 use Rattle.ih_tables.specs.Bills.{cost, feasible, score}
 use Rattle.ih_plan.specs.Timetable.{Timetable, IsPlanOf}

@@ -1,10 +1,10 @@
 -- Determined workers make determined rounds.
-use Rattle.std.proofs.Common.{◌≡◌, ℕ, zero, suc, ◌+◌, refl, sym, ap, ◌∙◌, subst, arith, List, [], ◌∷◌, length}
+use Rattle.std.proofs.Common.{◌≡◌, ℕ, suc, refl, sym, ap, ◌∙◌, subst, arith, List, [], ◌∷◌, length}
 use Rattle.std.specs.Prelude.{slice_get, Some}
 use Rattle.ih_plan.specs.Timetable.{Timetable}
 use Rattle.ih_improve.specs.Better.{best_of}
 use Rattle.ih_improve.specs.Improving.{Improving, Leads, led_to, setout}
-use Rattle.ih_improve.specs.Laws.{IsDetermined, Lead, RoundsAreDetermined}
+use Rattle.ih_improve.specs.Laws.{IsDetermined, Lead}
 use Rattle.ih_improve.specs.Legs.{Setout}
 
 -- lists of one length are equal that are equal at each place

@@ -1,22 +1,21 @@
 -- Moves that leave the choices before the freeze day as they are.
-use Rattle.std.proofs.Common.{◌≡◌, ℕ, zero, suc, ◌+◌, ◌/◌, ◌<◌, ◌≤◌, refl, sym, ap, ◌∙◌, subst, arith, rules, inl, inr, Bool, true, false, List, [], ◌∷◌, Option, Some, None}
-use Rattle.std.specs.Prelude.{◌||◌, ◌&&◌, ◌⊎◌, if◌then◌else◌, map, filter, nat_lt, ◌==◌}
+use Rattle.std.proofs.Common.{◌≡◌, ℕ, refl, sym, ap, ◌∙◌, arith, Bool, true, false, List, [], ◌∷◌, Option, Some, None}
+use Rattle.std.specs.Prelude.{◌||◌, if◌then◌else◌, map, filter, nat_lt, ◌==◌}
 use Rattle.std.specs.List.{list_any, range_with_len}
-use Rattle.std.proofs.lemmas.Bool.{cases_lt, lt-ltb, le-ltb}
+use Rattle.std.proofs.lemmas.Bool.{le-ltb}
 use Rattle.ih_tables.specs.declared.drafts.Draft.{Draft}
 use Rattle.ih_tables.specs.declared.ids.NurseNo.{NurseNo}
 use Rattle.ih_tables.specs.declared.ids.PatientNo.{PatientNo}
 use Rattle.ih_tables.specs.declared.ids.RoomNo.{RoomNo}
 use Rattle.ih_tables.specs.Sizes.{shift_count}
-use Rattle.ih_tables.specs.Works.{is_working}
 use Rattle.ih_plan.specs.declared.moves.Move.{Move}
 use Rattle.ih_plan.specs.declared.moves.Move.TheVariants.{Idle, Place, Withdraw, SetDay, SetRoom, SetTheatre, SwapRooms, Nurse, NurseRun, SwapNurses}
 use Rattle.ih_plan.specs.declared.moves.Placement.{Placement}
 use Rattle.ih_plan.specs.declared.moves.Write.{Write}
-use Rattle.ih_plan.specs.declared.moves.Write.TheVariants.{SetStay, SetCare}
-use Rattle.ih_plan.specs.Expand.{IsMoveOf, after, expand, in_run, restay, run_of, swap_stays}
-use Rattle.ih_plan.specs.Presence.{covers, day_of}
-use Rattle.ih_plan.specs.Series.{AreMoves, after_all}
+use Rattle.ih_plan.specs.declared.moves.Write.TheVariants.{SetCare}
+use Rattle.ih_plan.specs.Expand.{IsMoveOf, after, expand, in_run, restay, swap_stays}
+use Rattle.ih_plan.specs.Presence.{day_of}
+use Rattle.ih_plan.specs.Series.{after_all}
 use Rattle.ih_plan.specs.Timetable.{Timetable, IsPlanOf, choice_of, stay_of}
 use Rattle.ih_plan.proofs.PlanRanges.{after-plan, expand-writes}
 use Rattle.ih_journal.specs.Frozen.{KeepsFrozen, is_before, is_frozen_write}

@@ -1,19 +1,19 @@
 -- What a round leaves.
-use Rattle.std.proofs.Common.{◌≡◌, ℕ, zero, suc, ◌+◌, ◌<◌, refl, sym, ap, ◌∙◌, subst, arith, List, [], ◌∷◌, ◌++◌, length, take, drop, map, get_or, ◌≤◌, Option, Some, None}
-use Rattle.std.specs.Prelude.{All, fold, slice_get, slice_index_or}
+use Rattle.std.proofs.Common.{◌≡◌, ℕ, zero, suc, ◌+◌, ◌<◌, refl, sym, ap, ◌∙◌, subst, arith, List, [], ◌∷◌, ◌++◌, length, take, drop, map, get_or, Some, None}
+use Rattle.std.specs.Prelude.{All, slice_get, slice_index_or}
 use Rattle.std.proofs.lemmas.List.{map-append, take-append-le, take_all, take_more}
 use Rattle.std.proofs.lemmas.List.Elements.{All-nil, All-cons}
 use Rattle.std.proofs.lemmas.List.Sums.{fold_push}
 use Rattle.ih_tables.specs.declared.bills.Bill.{Bill}
 use Rattle.ih_tables.specs.declared.drafts.Draft.{Draft}
-use Rattle.ih_plan.specs.Timetable.{Timetable, IsPlanOf}
+use Rattle.ih_plan.specs.Timetable.{Timetable}
 use Rattle.ih_plan.specs.BillOf.{bill_of}
 use Rattle.ih_improve.specs.declared.workers.Worker.{Worker}
 use Rattle.ih_improve.specs.Better.{best_of, better_of}
 use Rattle.ih_improve.specs.Following.{IsNoDearer, MayFollow}
-use Rattle.ih_improve.specs.Improving.{Improving, IsSound, Leads, led_to, setout}
+use Rattle.ih_improve.specs.Improving.{Improving, Leads, led_to, setout}
 use Rattle.ih_improve.specs.Keeping.{IsKeeping, IsOf, best_met}
-use Rattle.ih_improve.specs.Legs.{IsSetout, Leaves, Setout}
+use Rattle.ih_improve.specs.Legs.{IsSetout, Leaves}
 use Rattle.ih_improve.proofs.BetterLemmas.{best-follows, follows-through, no_dearer-same}
 
 -- what holds at each place holds of all

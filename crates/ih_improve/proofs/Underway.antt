@@ -1,13 +1,11 @@
 -- A worker on its way, once it has made an attempt.
-use Rattle.std.proofs.Common.{◌≡◌, ℕ, List, sym, subst}
-use Rattle.ih_tables.specs.declared.drafts.Draft.{Draft}
+use Rattle.std.proofs.Common.{◌≡◌, List}
 use Rattle.ih_plan.specs.declared.moves.Move.{Move}
-use Rattle.ih_plan.specs.Timetable.{Timetable, IsPlanOf}
+use Rattle.ih_plan.specs.Timetable.{IsPlanOf}
 use Rattle.ih_plan.specs.Series.{AreMoves, after_all}
 use Rattle.ih_plan.proofs.Series.{after_all-plan}
 use Rattle.ih_journal.specs.Frozen.{KeepsFrozen}
 use Rattle.ih_improve.specs.Better.{better_of}
-use Rattle.ih_improve.specs.Following.{MayFollow}
 use Rattle.ih_improve.specs.Legs.{Setout}
 use Rattle.ih_improve.specs.Walking.{IsUnderway, Walking}
 use Rattle.ih_improve.proofs.BetterLemmas.{better-follows}

@@ -1,6 +1,6 @@
 -- A worker on its way: one attempt more.
-use Rattle.std.proofs.Common.{◌≡◌, ℕ, ◌^◌, refl, sym, ap, ◌∙◌, subst, arith, Bool, true, false, List}
-use Rattle.std.specs.Prelude.{if◌then◌else◌, ◌&&◌, not, ℤ, pos, neg_ℤ, ◌+ℤ◌, ◌-ℤ◌, ◌≤ℤ◌}
+use Rattle.std.proofs.Common.{◌≡◌, ℕ, ◌^◌, refl, ap, ◌∙◌, arith, Bool, true, false, List}
+use Rattle.std.specs.Prelude.{if◌then◌else◌, ℤ, pos, neg_ℤ, ◌+ℤ◌, ◌-ℤ◌, ◌≤ℤ◌}
 use Rattle.std.proofs.lemmas.Int.{ints}
 use Rattle.ih_tables.specs.Bills.{at}
 use Rattle.ih_tables.specs.Listed.{listed}

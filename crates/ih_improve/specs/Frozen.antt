@@ -1,12 +1,10 @@
 -- Moves that may change a choice before the freeze day.
-use Rattle.std.specs.Prelude.{ℕ, Bool, false, nat_lt, ◌||◌, List, Some, None}
-use Rattle.std.specs.List.{list_any}
+use Rattle.std.specs.Prelude.{ℕ, Bool, false, nat_lt, ◌||◌}
 use Rattle.ih_plan.specs.declared.moves.Move.{Move}
 use Rattle.ih_plan.specs.declared.moves.Move.TheVariants.{Idle, Place, Withdraw, SetDay, SetRoom, SetTheatre, SwapRooms, Nurse, NurseRun, SwapNurses}
-use Rattle.ih_plan.specs.declared.moves.Write.TheVariants.{SetStay, SetCare}
 use Rattle.ih_plan.specs.Presence.{day_of}
 use Rattle.ih_plan.specs.Timetable.{Timetable, stay_of}
-use Rattle.ih_journal.specs.Frozen.{is_before, is_frozen_write}
+use Rattle.ih_journal.specs.Frozen.{is_before}
 
 -- The move is of a patient whom the start admits before the freeze day, to a day before it, or of a nurse in a shift
 -- before it. It goes by the start and the move alone, so it says yes of some moves that would change nothing there.

@@ -1,5 +1,4 @@
-use Rattle.std.proofs.Common.{◌∙◌, ◌∷◌, [], All, arith, ap, length, subst, sym}
-use Rattle.std.proofs.lemmas.List.{length-append}
+use Rattle.std.proofs.Common.{◌∙◌, ◌∷◌, [], All, arith, subst, sym}
 use Rattle.std.proofs.lemmas.List.Elements.{All-append, All-cons, All-nil}
 use Rattle.ih_improve.specs.Keeping.{IsOf}
 use Rattle.ih_improve.proofs.improver.new_workers.Goals as goal

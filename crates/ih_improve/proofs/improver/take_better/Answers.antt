@@ -1,4 +1,4 @@
-use Rattle.std.proofs.Common.{◌∙◌, ◌≡◌, Bool, true, false, ap, sym}
+use Rattle.std.proofs.Common.{◌∙◌, ◌≡◌, true, false, ap, sym}
 use Rattle.ih_tables.specs.declared.bills.Bill.{Bill}
 use Rattle.ih_tables.specs.declared.drafts.Draft.{Draft}
 use Rattle.ih_plan.specs.BillOf.{bill_of}

@@ -1,7 +1,5 @@
-use Rattle.std.proofs.Common.{◌∙◌, ◌≡◌, ◌<◌, ℕ, List, ap, sym, subst, arith, length, map, take, drop, ◌++◌}
+use Rattle.std.proofs.Common.{◌∙◌, ◌≡◌, ◌<◌, ℕ, List, ap, sym, subst, length, map, take, drop, ◌++◌}
 use Rattle.std.specs.Prelude.{slice_index_or}
-use Rattle.ih_tables.specs.declared.drafts.Draft.{Draft}
-use Rattle.ih_plan.specs.Timetable.{Timetable}
 use Rattle.ih_improve.specs.declared.workers.Worker.{Worker}
 use Rattle.ih_improve.specs.Better.{best_of}
 use Rattle.ih_improve.specs.Following.{IsNoDearer}

@@ -1,8 +1,7 @@
-use Rattle.std.proofs.Common.{◌≡◌, sym, subst}
+use Rattle.std.proofs.Common.{sym, subst}
 use Rattle.ih_tables.specs.declared.drafts.Draft.{Draft}
 use Rattle.ih_plan.specs.Series.{AreMoves, after_all}
 use Rattle.ih_journal.specs.Frozen.{KeepsFrozen}
-use Rattle.ih_improve.specs.Better.{better_of}
 use Rattle.ih_improve.proofs.Underway.{underway-more}
 use Rattle.ih_improve.proofs.workers.Worker.attempt.Goals as goal
 
