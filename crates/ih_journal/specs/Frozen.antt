@@ -1,6 +1,7 @@
 -- Choices of days before the freeze day, which no accepted attempt changes.
 use Rattle.std.specs.Prelude.{◌≡◌, ℕ, ◌<◌, nat_lt, Bool, true, false, ◌||◌, List, Option, Some, None}
 use Rattle.std.specs.List.{list_any}
+use Rattle.ih_tables.specs.declared.drafts.Draft.{Draft}
 use Rattle.ih_tables.specs.Sizes.{room_count, shift_count}
 use Rattle.ih_plan.specs.declared.moves.Placement.{Placement}
 use Rattle.ih_plan.specs.declared.moves.Write.{Write}
@@ -26,12 +27,15 @@ is_frozen_write start freeze (SetCare r k n) = nat_lt (day_of k.0) freeze
 unfoldable pub is_frozen : Base → Timetable → List Move → Bool
 is_frozen b P ms = list_any (is_frozen_write b.start b.freeze) (expand_all b.instance P ms)
 
+-- P agrees with the start on the choices of the days before `freeze`.
+pub record KeepsFrozen (I : Draft) (start : Timetable) (freeze : ℕ) (P : Timetable) : Type 0 where
+  -- who is admitted before that day in the start stays as there
+  pub admitted : (p : ℕ) → is_before freeze (stay_of start p) ≡ true → stay_of P p ≡ stay_of start p
+  -- nobody else is admitted before that day
+  pub others : (p : ℕ) → is_before freeze (stay_of start p) ≡ false → is_before freeze (stay_of P p) ≡ false
+  -- the nurses of the days before are those of the start
+  pub nurses : (r k : ℕ) → r < room_count I → k < shift_count I → day_of k < freeze → choice_of P r k ≡ choice_of start r k
+
 -- The timetable agrees with the start on the frozen choices.
-pub record AgreesBefore (b : Base) (P : Timetable) : Type 0 where
-  -- who is admitted before the freeze day in the start stays as there
-  pub admitted : (p : ℕ) → is_before b.freeze (stay_of b.start p) ≡ true → stay_of P p ≡ stay_of b.start p
-  -- nobody else is admitted before the freeze day
-  pub others : (p : ℕ) → is_before b.freeze (stay_of b.start p) ≡ false → is_before b.freeze (stay_of P p) ≡ false
-  -- the nurses of the days before the freeze day are those of the start
-  pub nurses : (r k : ℕ) → r < room_count b.instance → k < shift_count b.instance → day_of k < b.freeze
-      → choice_of P r k ≡ choice_of b.start r k
+abbrev pub AgreesBefore : Base → Timetable → Type 0
+AgreesBefore b P = KeepsFrozen b.instance b.start b.freeze P

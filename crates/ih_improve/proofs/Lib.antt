@@ -1,0 +1,6 @@
+pub mod BetterLemmas
+pub mod Determined
+pub mod WalkerBills
+pub mod FrozenMoves
+pub mod RoundLemmas
+pub mod Underway

@@ -1,0 +1,108 @@
+-- A worker on its way: one attempt more.
+use Rattle.std.proofs.Common.{◌≡◌, ℕ, ◌^◌, refl, ap, ◌∙◌, arith, Bool, true, false, List}
+use Rattle.std.specs.Prelude.{if◌then◌else◌, ℤ, pos, neg_ℤ, ◌+ℤ◌, ◌-ℤ◌, ◌≤ℤ◌}
+use Rattle.std.proofs.lemmas.Int.{ints}
+use Rattle.ih_tables.specs.Bills.{at}
+use Rattle.ih_tables.specs.Listed.{listed}
+use Rattle.ih_tables.proofs.BillLemmas.{at-listed}
+use Rattle.ih_tables.specs.declared.bills.Bill.{Bill}
+use Rattle.ih_tables.specs.declared.drafts.Draft.{Draft}
+use Rattle.ih_tables.specs.Bills.{IsWithin, add_bills}
+use Rattle.ih_tables.specs.Valid.{IsValid}
+use Rattle.ih_plan.specs.declared.moves.Move.{Move}
+use Rattle.ih_plan.specs.Series.{AreMoves, after_all, price_of_all}
+use Rattle.ih_plan.specs.Timetable.{Timetable, IsPlanOf}
+use Rattle.ih_plan.proofs.Series.{after_all-plan}
+use Rattle.ih_plan.specs.BillOf.{bill_of, change_of_bill}
+use Rattle.ih_plan.proofs.BillBounds.{bill-within, change-within}
+use Rattle.ih_costs.specs.Standing.{Standing}
+use Rattle.ih_improve.specs.Better.{better_of, is_better}
+use Rattle.ih_improve.specs.Walking.{AreBills, best_at, kept_with}
+
+sum-in : (x y : ℤ) → (neg_ℤ (pos (10 ^ 11)) ≤ℤ x) × (x ≤ℤ pos (10 ^ 11)) → (neg_ℤ (pos (10 ^ 11)) ≤ℤ y) × (y ≤ℤ pos (10 ^ 11)) → (neg_ℤ (pos (10 ^ 12)) ≤ℤ (x +ℤ y)) × ((x +ℤ y) ≤ℤ pos (10 ^ 12))
+sum-in x y hx hy = (omega (arith, ints, hx.0, hy.0), omega (arith, ints, hx.1, hy.1))
+
+sum-within : (a b : Bill) → IsWithin (10 ^ 11) a → IsWithin (10 ^ 11) b → IsWithin (10 ^ 12) (add_bills a b)
+sum-within a b ha hb = record {
+  v = λ k l. rw (at-listed 9 (λ k. at a.v k +ℤ at b.v k) k l) (sum-in (at a.v k) (at b.v k) (ha.v k l) (hb.v k l));
+  s = λ k l. rw (at-listed 8 (λ k. at a.s k +ℤ at b.s k) k l) (sum-in (at a.s k) (at b.s k) (ha.s k l) (hb.s k l));
+}
+
+back : (x y : ℤ) → x +ℤ (y -ℤ x) ≡ y
+back x y = omega (arith, ints)
+
+-- a bill has nine counts and eight costs
+whole-bill : (I : Draft) (P : Timetable) → (let b : Bill = record { v = listed 9 (at (bill_of I P).v); s = listed 8 (at (bill_of I P).s) } in b) ≡ bill_of I P
+unfolding bill_of
+whole-bill I P = refl
+
+-- a bill and the change from it to another make the other
+add-change : (I : Draft) (P Q : Timetable) → add_bills (bill_of I P) (change_of_bill I P Q) ≡ bill_of I Q
+add-change I P Q = simp back (whole-bill I Q)
+
+-- the bill after a change whose price is known
+pub bill-small : (I : Draft) (P Q : Timetable) (now price : Bill) → IsValid I → IsPlanOf I P → IsPlanOf I Q → now ≡ bill_of I P → price ≡ change_of_bill I P Q
+    → IsWithin (10 ^ 12) (add_bills now price)
+bill-small I P Q now price valid p q is priced =
+    rw (is, priced) (sum-within (bill_of I P) (change_of_bill I P Q) (bill-within I P valid p) (change-within I P Q valid p q))
+
+pub bill-after : (I : Draft) (P Q : Timetable) (now price next : Bill) → now ≡ bill_of I P → price ≡ change_of_bill I P Q → next ≡ add_bills now price → next ≡ bill_of I Q
+bill-after I P Q now price next is priced sum = sum ∙ rw (is, priced) (add-change I P Q)
+
+pub best-fits : (I : Draft) (here : Bool) (now kept : Timetable) → IsPlanOf I now → IsPlanOf I kept → IsPlanOf I (best_at here now kept)
+best-fits I true now kept p q = p
+best-fits I false now kept p q = q
+
+pub best-within : (I : Draft) (l : Standing) (kept : Timetable) (here : Bool) (bill best : Bill) → IsValid I → AreBills I l kept here bill best → IsWithin (10 ^ 11) best
+best-within I l kept here bill best valid are =
+    rw are.best_is (bill-within I (best_at here l.plan kept) valid (best-fits I here l.plan kept are.now are.kept_fits))
+
+-- moves in a row with a price, made where the ledgers stand
+module _ (I : Draft) (valid : IsValid I) (hard : ℕ) (l : Standing) (kept : Timetable) (here : Bool) (bill best : Bill) (are : AreBills I l kept here bill best)
+    (ms : List Move) (inside : AreMoves I ms) (price : Bill) (priced : price ≡ price_of_all I l.plan ms) where
+  next-plan : IsPlanOf I (after_all I l.plan ms)
+  next-plan = after_all-plan I l.plan ms are.now inside
+
+  pub sum-small : IsWithin (10 ^ 12) (add_bills bill price)
+  sum-small = bill-small I l.plan (after_all I l.plan ms) bill price valid are.now next-plan are.bill_is priced
+
+  module _ (next : Bill) (sum : next ≡ add_bills bill price) where
+    next-is : next ≡ bill_of I (after_all I l.plan ms)
+    next-is = bill-after I l.plan (after_all I l.plan ms) bill price next are.bill_is priced sum
+
+    pub next-within : IsWithin (10 ^ 11) next
+    next-within = rw next-is (bill-within I (after_all I l.plan ms) valid next-plan)
+
+    module _ (better : Bool) (judged : better ≡ is_better hard I.weights next best) where
+      pub best-after : best_at better (after_all I l.plan ms) (kept_with here better l.plan kept) ≡ better_of I hard (best_at here l.plan kept) (after_all I l.plan ms)
+      unfolding better_of
+      best-after =
+          by_case here better
+          ∙ ap (λ (t : Bool). if t then after_all I l.plan ms else best_at here l.plan kept)
+          (judged ∙ (ap (λ (b : Bill). is_better hard I.weights b best) next-is ∙ ap (is_better hard I.weights (bill_of I (after_all I l.plan ms))) are.best_is))
+        where
+          by_case : (s t : Bool) → best_at t (after_all I l.plan ms) (kept_with s t l.plan kept) ≡ (if t then after_all I l.plan ms else best_at s l.plan kept)
+          by_case true true = refl
+          by_case false true = refl
+          by_case true false = refl
+          by_case false false = refl
+
+      pub bills-after : (m : Standing) → m ≡ record l { plan = after_all I l.plan ms } → AreBills I m (kept_with here better l.plan kept) better next (if better then next else best)
+      bills-after m is = rw is (record {
+        instance = are.instance;
+        now = next-plan;
+        kept_fits = kept-fits here better;
+        bill_is = next-is;
+        best_is = best-bill here better are.best_is;
+      })
+        where
+          kept-fits : (s t : Bool) → IsPlanOf I (kept_with s t l.plan kept)
+          kept-fits true true = are.kept_fits
+          kept-fits true false = are.now
+          kept-fits false t = are.kept_fits
+
+          best-bill : (s t : Bool) → best ≡ bill_of I (best_at s l.plan kept)
+              → (if t then next else best) ≡ bill_of I (best_at t (after_all I l.plan ms) (kept_with s t l.plan kept))
+          best-bill s true was = next-is
+          best-bill true false was = was
+          best-bill false false was = was

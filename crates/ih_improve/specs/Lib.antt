@@ -1,0 +1,9 @@
+pub mod Better
+pub mod Following
+pub mod Frozen
+pub mod Improving
+pub mod Keeping
+pub mod Laws
+pub mod Legs
+pub mod Settings
+pub mod Walking

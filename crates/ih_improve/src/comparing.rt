@@ -1,0 +1,32 @@
+//! The score of a bill, and which of two bills is better.
+
+ghost use Rattle.std.specs.Prelude.{◌≡◌, ◌≤◌, ◌^◌};
+ghost use Rattle.ih_tables.specs.Bills.{IsWithin, score};
+ghost use Rattle.ih_improve.specs.Better.{is_better};
+
+use ih_tables::{Bill, Instance};
+
+/// The score of a bill.
+pub(crate) fn score_of(inst: &Instance, hard: u32, bill: &Bill) -> i64
+    requires hard { hard ≤ 1000000 }
+    requires within { IsWithin (10 ^ 11) bill.now }
+    ensures { result ≡ score hard inst.now.draft.weights bill.now }
+{
+    bill.score(hard, inst.weights())
+}
+
+/// Whether the first bill is better than the second: a feasible one is better than one that isn't, two feasible ones go
+/// by their costs, and two others by their scores.
+pub(crate) fn is_better(inst: &Instance, hard: u32, a: &Bill, b: &Bill) -> bool
+    requires hard { hard ≤ 1000000 }
+    requires first { IsWithin (10 ^ 11) a.now }
+    requires second { IsWithin (10 ^ 11) b.now }
+    ensures { result ≡ is_better hard inst.now.draft.weights a.now b.now }
+{
+    match (a.feasible(), b.feasible()) {
+        (true, true) => a.cost(inst.weights()) < b.cost(inst.weights()),
+        (true, false) => true,
+        (false, true) => false,
+        (false, false) => score_of(inst, hard, a) < score_of(inst, hard, b),
+    }
+}

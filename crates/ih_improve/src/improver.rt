@@ -1,0 +1,216 @@
+//! A search, round by round.
+
+ghost use Rattle.std.specs.Prelude.{◌≡◌, ◌≤◌, IfOk, All, length, map};
+ghost use Rattle.ih_plan.specs.Timetable.{IsPlanOf};
+ghost use Rattle.ih_plan.specs.BillOf.{bill_of};
+ghost use Rattle.ih_improve.specs.Better.{best_of, better_of};
+ghost use Rattle.ih_improve.specs.Keeping.{IsOf, best_met};
+
+use crate::comparing::is_better;
+use crate::heats::heat_at;
+use crate::legs::Leg;
+use crate::rounds::walk_all;
+use crate::settings::Settings;
+use crate::walkers::Walker;
+use crate::workers::Worker;
+use ih_plan::Plan;
+use ih_tables::{Bill, Instance};
+use ih_validate::bill;
+use std::alloc::{AllocError, Global};
+use std::marker::Model;
+use std::thread::Threads;
+
+/// A search for better plans over a start. After `new` no call takes memory.
+#[derive(Drop)]
+pub struct Improver<'a> {
+    inst: &'a Instance,
+    start: Plan,
+    settings: Settings,
+    // How many rounds are over.
+    rounds: u32,
+    // The best timetable so far, and its bill.
+    kept: Plan,
+    bill: Bill,
+    workers: Vec<Worker<'a>>,
+}
+
+impl<'a> Model for Improver<'a> {
+    ghost use Rattle.ih_improve.specs.Improving.{Improving};
+
+    ghost Value = { Improving };
+
+    ghost use Rattle.ih_improve.specs.Keeping.{IsKeeping};
+
+    ghost view = { λ m. record {
+      instance = m.inst.now.draft;
+      start = m.start;
+      settings = m.settings;
+      rounds = m.rounds;
+      kept = m.kept;
+    } };
+
+    ghost invariant = { λ m.
+        let v : Improving = record {
+          instance = m.inst.now.draft;
+          start = m.start;
+          settings = m.settings;
+          rounds = m.rounds;
+          kept = m.kept;
+        } in IsKeeping v m.bill m.workers.items };
+}
+
+// So many workers that stand on a timetable with this bill.
+fn new_workers<'a>(
+    alloc: Global,
+    inst: &'a Instance,
+    plan: &Plan,
+    bill: &Bill,
+    count: u32,
+) -> Result<Vec<Worker<'a>>, AllocError>
+    requires plan { IsPlanOf inst.now.draft plan.now }
+    requires bill { bill.now ≡ bill_of inst.now.draft plan.now }
+    ensures count { IfOk result (λ ws. length ws.items ≡ count) }
+    ensures instance { IfOk result (λ ws. All (IsOf inst.entry.now.draft) ws.items) }
+{
+    let mut workers = Vec::with_capacity(alloc, count as usize)?;
+    for _ in 0..count {
+        workers.push_reserved(Worker::new(alloc, inst, plan, bill)?);
+    }
+    Ok(workers)
+}
+
+// Takes over what a worker found, where that is better.
+fn take_better(inst: &Instance, hard: u32, walker: &Walker<'_>, kept: &mut Plan, bill: &mut Bill)
+    requires hard { hard ≤ 1000000 }
+    requires walker { walker.now.instance ≡ inst.now.draft }
+    requires kept { IsPlanOf inst.now.draft kept.old }
+    requires bill { bill.old ≡ bill_of inst.now.draft kept.old }
+    ensures kept { kept.new ≡ better_of inst.now.draft hard kept.old walker.now.best }
+    ensures fits { IsPlanOf inst.now.draft kept.new }
+    ensures bill { bill.new ≡ bill_of inst.now.draft kept.new }
+{
+    if is_better(inst, hard, walker.best_bill(), bill) {
+        kept.copy_from(walker.best());
+        *bill = *walker.best_bill();
+    }
+}
+
+// Takes over the best of what the workers found, the first on a tie, where that is better.
+fn take_best(inst: &Instance, hard: u32, workers: &[Worker<'_>], kept: &mut Plan, bill: &mut Bill)
+    requires hard { hard ≤ 1000000 }
+    requires workers { All (IsOf inst.now.draft) workers.now }
+    requires kept { IsPlanOf inst.now.draft kept.old }
+    requires bill { bill.old ≡ bill_of inst.now.draft kept.old }
+    ensures kept { kept.new ≡ best_of inst.now.draft hard kept.old (map best_met workers.now) }
+    ensures bill { bill.new ≡ bill_of inst.now.draft kept.new }
+{
+    for worker in workers {
+        take_better(inst, hard, &worker.walker, kept, bill);
+    }
+}
+
+impl<'a> Improver<'a> {
+    ghost use Rattle.std.specs.Prelude.{◌≡◌, ◌*◌, ◌≤◌, ◌<◌, ◌^◌, true, false, IfOk, IfSome, IfNone};
+    ghost use Rattle.ih_tables.specs.Bills.{cost, feasible};
+    ghost use Rattle.ih_plan.specs.Timetable.{IsPlanOf};
+    ghost use Rattle.ih_plan.specs.BillOf.{bill_of};
+    ghost use Rattle.ih_improve.specs.Improving.{IsSound, Leads, led_to};
+    ghost use Rattle.ih_improve.specs.Following.{IsNoDearer};
+    ghost use Rattle.ih_improve.specs.Legs.{Leaves};
+    ghost use Rattle.ih_improve.specs.Settings.{IsLawful, attempts_through};
+
+    /// A search over a start, which fits the instance. The start is the best so far.
+    pub fn new(
+        alloc: Global,
+        inst: &'a Instance,
+        start: &Plan,
+        settings: &Settings,
+    ) -> Result<Improver<'a>, AllocError>
+        requires start { IsPlanOf inst.now.draft start.now }
+        requires lawful { IsLawful settings.now }
+        ensures { IfOk result (λ m. m ≡ record {
+          instance = inst.entry.now.draft;
+          start = start.now;
+          settings = settings.now;
+          rounds = 0;
+          kept = start.now;
+        }) }
+    {
+        let bill = bill(inst, start);
+        let workers = new_workers(alloc, inst, start, &bill, settings.workers)?;
+        Ok(Improver {
+            inst,
+            start: start.try_clone(alloc)?,
+            settings: *settings,
+            rounds: 0,
+            kept: start.try_clone(alloc)?,
+            bill,
+            workers,
+        })
+    }
+
+    /// One round: each worker goes on from the best timetable so far by attempts of its own, in a thread of its own
+    /// where one can be started, and the best of all is kept. It is never dearer than the one before.
+    pub fn round<R: Threads + Sync>(&mut self, rt: &R)
+        requires { self.old.rounds < self.old.settings.rounds }
+        ensures search { self.new ≡ led_to self.old self.new.kept }
+        ensures best { Leads Leaves self.old self.new.kept }
+        ensures no_dearer { IsNoDearer self.old.instance self.old.kept self.new.kept }
+    {
+        let leg = Leg::new(
+            self.inst,
+            &self.start,
+            &self.settings,
+            self.rounds,
+            &self.kept,
+            &self.bill,
+        );
+        walk_all(rt, &leg, self.workers.as_mut_slice());
+        self.rounds += 1;
+        take_best(
+            self.inst,
+            self.settings.hard,
+            self.workers.as_slice(),
+            &mut self.kept,
+            &mut self.bill,
+        );
+    }
+
+    /// The best timetable so far with its cost, where it is feasible. What holds of it is `IsSound`.
+    pub fn best(&self) -> Option<(&Plan, i64)>
+        ensures found { IfSome result (λ b. b.0.now ≡ self.now.kept) }
+        ensures feasible { IfSome result (λ b. feasible (bill_of self.now.instance self.now.kept) ≡ true) }
+        ensures cost { IfSome result
+            (λ b. b.1 ≡ cost self.now.instance.weights (bill_of self.now.instance self.now.kept)) }
+        ensures none { IfNone result (feasible (bill_of self.now.instance self.now.kept) ≡ false) }
+        ensures sound { IsSound self.now }
+    {
+        if self.bill.feasible() {
+            Some((&self.kept, self.bill.cost(self.inst.weights())))
+        } else {
+            None
+        }
+    }
+
+    /// How many rounds are over.
+    pub fn rounds_made(&self) -> u32
+        ensures { result ≡ self.now.rounds }
+    {
+        self.rounds
+    }
+
+    /// How many attempts all workers have made together.
+    pub fn attempts_made(&self) -> u64
+        ensures value { result ≡ self.now.settings.workers * attempts_through self.now.settings self.now.rounds }
+        ensures most { result ≤ 10 ^ 12 }
+    {
+        u64::from(self.settings.workers) * self.settings.attempts_through(self.rounds)
+    }
+
+    /// The heat at which the next round begins, or at which the last one ended. It is for showing alone.
+    pub fn heat(&self) -> u32
+        ensures { result ≤ 2 ^ 21 }
+    {
+        (heat_at(&self.settings, self.settings.attempts_through(self.rounds)) / 65536) as u32
+    }
+}

@@ -1,0 +1,22 @@
+//! The search for better plans: rounds of workers side by side, each by attempts of its own from the best plan so far.
+#![tactic(auto)]
+
+mod accepting;
+mod comparing;
+mod freezing;
+mod heats;
+mod improver;
+mod laws;
+mod legs;
+mod logarithms;
+mod rounds;
+mod settings;
+mod walkers;
+mod workers;
+
+pub use heats::default_heats;
+pub use improver::Improver;
+pub use laws::determined_workers_make_determined_rounds;
+pub use legs::Leg;
+pub use rounds::Walks;
+pub use settings::{MAX_ATTEMPTS, MAX_ROUNDS, Settings};

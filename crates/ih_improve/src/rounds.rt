@@ -1,0 +1,51 @@
+//! One round: all workers side by side.
+
+ghost use Rattle.std.specs.Prelude.{◌≡◌, ◌<◌, ℕ, All, length, slice_index_or};
+
+use crate::legs::Leg;
+use ih_journal::MAX_WORKERS;
+use std::thread::{Threads, for_each_mut};
+
+/// A worker of any kind. Its walk takes no handle, no clock and nothing that another worker changes, so by the language
+/// alone the same calls leave the same. No clause says that. What is proved is that threads add nothing to it: a round is
+/// the first best of what each walk left, in the order of the workers.
+pub trait Walks {
+    ghost use Rattle.std.specs.Prelude.{◌≡◌, ◌<◌, ℕ};
+    ghost use Rattle.ih_tables.specs.declared.drafts.Draft.{Draft};
+    ghost use Rattle.ih_plan.specs.Timetable.{Timetable};
+    ghost use Rattle.ih_improve.specs.Legs.{Setout};
+
+    /// The instance on which it works.
+    ghost instance: { Self → Draft };
+
+    /// The best timetable that it met in its last round.
+    ghost best: { Self → Timetable };
+
+    /// What it may leave behind a round: by what the round begins with, and its number.
+    ghost leaves: { Setout → ℕ → Timetable → Type 0 };
+
+    /// Goes on from the round's timetable.
+    fn walk(&mut self, leg: &Leg<'_>, number: usize)
+        requires instance { instance self.old ≡ leg.now.instance }
+        requires number { number < leg.now.settings.workers }
+        ensures same { instance self.new ≡ instance self.old }
+        ensures left { leaves leg.now number (best self.new) };
+}
+
+/// Lets each worker go on from the round's timetable, in a call of its own. Where a thread can't be started the caller
+/// does that worker's attempts itself. It takes no memory.
+pub(crate) fn walk_all<W: Walks + Send, R: Threads + Sync>(rt: &R, leg: &Leg<'_>, workers: &mut [W])
+    requires instance { All (λ w. W.instance w ≡ leg.now.instance) workers.old }
+    requires count { length workers.old ≡ leg.now.settings.workers }
+    ensures same { (k : ℕ) (d : W) → k < length workers.old
+        → W.instance (slice_index_or workers.new k d) ≡ leg.now.instance }
+    ensures left { (k : ℕ) (d : W) → k < length workers.old
+        → W.leaves leg.now k (W.best (slice_index_or workers.new k d)) }
+{
+    for_each_mut(
+        rt,
+        workers,
+        MAX_WORKERS as usize,
+        &|number, w| w.walk(leg, number),
+    );
+}
