@@ -1,0 +1,6 @@
+pub mod SumLaws
+pub mod RulesKept
+pub mod CareDuality
+pub mod ByPerson
+pub mod Incomes
+pub mod Totals

@@ -1,0 +1,3 @@
+pub mod Bounds
+pub mod Tariffs
+pub mod Paid
