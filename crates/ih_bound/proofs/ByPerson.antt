@@ -2,6 +2,7 @@
 use Rattle.std.proofs.Common.{◌≡◌, ℕ, ◌+◌, ◌-◌, ◌*◌, ◌<◌, ◌≤◌, refl, arith, sym, ap, ◌∙◌, Bool, true, false, List, [], ◌∷◌, Option, Some, None}
 use Rattle.std.specs.Prelude.{if◌then◌else◌, ◌&&◌, ◌==◌, map, sum_by}
 use Rattle.std.proofs.lemmas.Bool.{eq-eqb, ne_eqb}
+use Rattle.std.proofs.lemmas.List.Sums.{sum_by-cons}
 use Rattle.ih_tables.specs.declared.drafts.Draft.{Draft}
 use Rattle.ih_tables.specs.Sizes.{person_count, room_count, nurse_count, shift_count}
 use Rattle.ih_tables.specs.Valid.{IsValid}
@@ -42,7 +43,7 @@ skill_gap I skill (Some n) = skill - skill_level I n
 
 sum_by-mapped : (f g : ℕ → ℕ) (xs : List ℕ) → sum_by f (map g xs) ≡ sum_by (λ x. f (g x)) xs
 sum_by-mapped f g [] = refl
-sum_by-mapped f g (x ∷ xs) = ap (λ n. f (g x) + n) (sum_by-mapped f g xs)
+sum_by-mapped f g (x ∷ xs) = sum_by-cons f (g x) (map g xs) ∙ ap (λ n. f (g x) + n) (sum_by-mapped f g xs) ∙ sym (sum_by-cons (λ x. f (g x)) x xs)
 
 room-skill : (I : Draft) (P : Timetable) (r k : ℕ) (o : Option ℕ) → skill_missing I o (map (skill_of I P k) (present I P r (day_of k)))
     ≡ sum_below (person_count I) (λ x. if is_present I P r (day_of k) x then skill_gap I (skill_of I P k x) o else 0)

@@ -128,7 +128,7 @@ module _ (I : Draft) (P : Timetable) (valid : IsValid I) (feasible : IsFeasible 
   unfolding shifts_of
   seen k n hk there e =
       let inside = span-inside a.day (a.day + (person_of I x).length_of_stay) (day_of k) there in
-      rw (adm, adm)
+      rw adm
       (any-in_range (nurse_for P (Some a.room)) (λ o. is_number o n) (3 * a.day) (3 * (min (a.day + (person_of I x).length_of_stay) I.days - a.day)) k (omega arith) (omega arith) e)
 
   claimed-spared : (n k : ℕ) → k < shift_count I → claimed I rates t P x v n k ≤ spared I rates t P x v n k
@@ -147,20 +147,20 @@ module _ (I : Draft) (P : Timetable) (valid : IsValid I) (feasible : IsFeasible 
   claimed-none n k hk unseen = if_zero (is_number (carer_of I P k x) n) (above I rates t P x v n k) (λ e. elim (cases_Bool (covers a.day (person_of I x).length_of_stay (day_of k))) [
     | inl there ↦ let c = cared I P valid feasible x k a hx hk adm there in
         let same : carer_of I P k x ≡ care_of P a.room k = c.1.carer ∙ sym c.1.chosen in
-        let yes = seen k n hk there (rw same at e) in
-        absurd (let no : true ≡ false = sym yes ∙ unseen in cc)
+        let is_seen = seen k n hk there (rw same at e) in
+        absurd (let no : true ≡ false = sym is_seen ∙ unseen in cc)
     | inr away ↦ omega (arith, outside k hk away)
   ])
 
   one-nurse : (n : ℕ) → sum_below (shift_count I) (spared I rates t P x v n) ≤ rates.nurse
       → sum_below (shift_count I) (claimed I rates t P x v n) ≤ rates.nurse * bit (sees I P x n)
   one-nurse n h = elim (cases_Bool (sees I P x n)) [
-    | inl yes ↦
+    | inl met ↦
         let less = sum_below-le_each (shift_count I) (claimed I rates t P x v n) (spared I rates t P x v n) (λ k l. claimed-spared n k l) in
-        rw yes (omega (arith, less, h))
-    | inr no ↦
-        let none = sum_below-same (shift_count I) (claimed I rates t P x v n) (λ k. 0) (λ k l. claimed-none n k l no) in
-        rw no (omega (arith, none, sum_below-none (shift_count I)))
+        rw met (omega (arith, less, h))
+    | inr unmet ↦
+        let none = sum_below-same (shift_count I) (claimed I rates t P x v n) (λ k. 0) (λ k l. claimed-none n k l unmet) in
+        rw unmet (omega (arith, none, sum_below-none (shift_count I)))
   ]
 
   -- numbers that spare no nurse more than a nurse is worth come to at most what the person pays for care

@@ -41,8 +41,8 @@ one_room I (Some a) n d h =
     ∙ rw (eq-eqb a.room a.room refl) refl
   where
     other : (b : Bool) → (b ≡ true → ⊥) → bit (b && covers a.day n d) ≡ 0
-    other true no = absurd (no refl)
-    other false no = refl
+    other true apart = absurd (apart refl)
+    other false apart = refl
 
 module _ (I : Draft) (P : Timetable) (valid : IsValid I) (feasible : IsFeasible I P) where
   -- ---- beds
@@ -77,10 +77,10 @@ module _ (I : Draft) (P : Timetable) (valid : IsValid I) (feasible : IsFeasible 
   -- ---- surgeons and theatres
 
   -- at a price for each number and day, what a patient pays at one number and day
-  abbrev surgeon_part : Tariff → ℕ → ℕ → ℕ → ℕ
+  abbrev pub surgeon_part : Tariff → ℕ → ℕ → ℕ → ℕ
   surgeon_part t s d p = t.surgeon s d * (if is_number (surgeon_of I p) s && admitted_on d (stay_of P p) then duration_of I p else 0)
 
-  abbrev theatre_part : Tariff → ℕ → ℕ → ℕ → ℕ
+  abbrev pub theatre_part : Tariff → ℕ → ℕ → ℕ → ℕ
   theatre_part t i d p = t.theatre i d * (if operated_in i d (stay_of P p) then duration_of I p else 0)
 
   surgeon-minutes : (t : Tariff) (s d : ℕ) → t.surgeon s d * minutes I (operated_by I P s d) ≡ sum_below (patient_count I) (surgeon_part t s d)

@@ -4,3 +4,5 @@ pub mod CareDuality
 pub mod ByPerson
 pub mod Incomes
 pub mod Totals
+pub mod CostWorth
+pub mod StayCare

@@ -41,7 +41,7 @@ module _ (I : Draft) (P : Timetable) (valid : IsValid I) (feasible : IsFeasible 
       let inside = feasible.plan.placed p at is in
       let known = (from-all (IsPatient I) I.patients p a valid.each_patient e).surgeon in
       let by_surgeon : surgeon_part I P valid feasible t a.surgeon_id.0 at.day.0 p ≡ t.surgeon a.surgeon_id.0 at.day.0 * a.surgery_duration =
-        rw (e, e, is, eq-eqb a.surgeon_id.0 a.surgeon_id.0 refl, eq-eqb at.day.0 at.day.0 refl) refl in
+        rw (e, is, eq-eqb a.surgeon_id.0 a.surgeon_id.0 refl, eq-eqb at.day.0 at.day.0 refl) refl in
       let in_theatre : theatre_part I P valid feasible t at.theatre.0 at.day.0 p ≡ t.theatre at.theatre.0 at.day.0 * a.surgery_duration =
         rw (e, is, eq-eqb at.theatre.0 at.theatre.0 refl, eq-eqb at.day.0 at.day.0 refl) refl in
       let one = sum_below-term (surgeon_count I) a.surgeon_id.0 (λ s. surgeon_part I P valid feasible t s at.day.0 p) known in

@@ -1,3 +1,4 @@
 pub mod Bounds
 pub mod Tariffs
 pub mod Paid
+pub mod Stays

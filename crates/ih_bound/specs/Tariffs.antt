@@ -1,5 +1,6 @@
 -- Prices as functions, what they take in at most, and what a timetable's costs are worth.
-use Rattle.std.specs.Prelude.{ℕ, ◌+◌, ◌-◌, ◌*◌, ◌^◌, min, Option, slice_index}
+use Rattle.std.specs.Prelude.{◌≡◌, ℕ, ◌+◌, ◌-◌, ◌*◌, ◌^◌, min, Option, slice_index, List, unsigned_abs}
+use Rattle.ih_tables.specs.Bills.{at}
 use Rattle.std.specs.Option.{option_map_or}
 use Rattle.ih_tables.specs.declared.drafts.Draft.{Draft}
 use Rattle.ih_tables.specs.Sizes.{room_count, theatre_count, surgeon_count, nurse_count, shift_count}
@@ -63,3 +64,16 @@ unfoldable pub worth : Draft → Rates → Timetable → ℕ
 worth I rates P =
     rates.skill * missing_skill I P + rates.nurse * nurses_seen I P + rates.load * overloads I P
     + rates.theatre * open_theatres I P + rates.delay * delays I P + rates.left_out * optional_left_out I P
+
+-- weight k of the instance
+abbrev pub weight : Draft → ℕ → ℕ
+weight I k = unsigned_abs (at I.weights.w k)
+
+-- the rates are the weights in parts
+pub record AreWeights (I : Draft) (rates : Rates) : Type 0 where
+  pub skill : rates.skill ≡ 4096 * weight I 1
+  pub nurse : rates.nurse ≡ 4096 * weight I 2
+  pub load : rates.load ≡ 4096 * weight I 3
+  pub theatre : rates.theatre ≡ 4096 * weight I 4
+  pub delay : rates.delay ≡ 4096 * weight I 6
+  pub left_out : rates.left_out ≡ 4096 * weight I 7
