@@ -10,7 +10,7 @@ use Rattle.ih_plan.specs.Sums.{sum_below}
 use Rattle.ih_plan.specs.Persons.{person_of}
 use Rattle.ih_plan.specs.Presence.{Admission, admission_of, covers, day_of, in_span, entry_of, end_from, skill_of, workload_of}
 use Rattle.ih_plan.proofs.SumLemmas.{sum_below-same, sum_below-zero}
-use Rattle.ih_plan.proofs.Spans.{span-shifts, span-covers, span-outside}
+use Rattle.ih_plan.proofs.Spans.{span-shifts, span-covers, span-outside, span-true}
 use Rattle.ih_bound.specs.declared.prices.Rates.{Rates}
 use Rattle.ih_bound.specs.Bounds.{IsFeasible}
 use Rattle.ih_bound.specs.Tariffs.{Tariff}
@@ -62,3 +62,8 @@ stay-duality I rates t s numbers valid few = λ P x a r feasible asked adm.
     (λ n hn.
       let same = sum_below-same (shift_count I) (spared I rates t P x (number_at numbers s) n) (spared_in I rates t s numbers n) (λ k l. same-spared I rates t P s numbers x a r n k asked adm) in
       omega (arith, same, few n hn))
+
+-- ---- steps of sums over a stay
+
+pub inside-number : (numbers : List ℕ) (s : Asked) (k : ℕ) → s.first ≤ k → k < s.last → number_at numbers s k ≡ min (slice_index numbers k) (2 ^ 50)
+inside-number numbers s k low high = rw (span-true s.first s.last k low high) refl

@@ -19,6 +19,9 @@ pub record Asked : Type 0 where
   pub first : ℕ
   pub last : ℕ
 
+abbrev pub asked : List ℕ → List ℕ → ℕ → ℕ → Asked
+asked skill load first last = record { skill = skill; load = load; first = first; last = last }
+
 -- It is what person x asks for, admitted on day a.
 pub record IsAskedBy (I : Draft) (x a : ℕ) (s : Asked) : Type 0 where
   pub person : x < person_count I

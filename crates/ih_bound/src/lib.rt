@@ -1,7 +1,10 @@
 //! A lower bound: what no feasible timetable of an instance costs less than, by weak duality in integers.
 #![tactic(auto)]
 
+mod numbers;
 mod outcomes;
 mod prices;
+mod scratch;
+mod stays;
 
 pub use outcomes::{Bound, Outcome};
