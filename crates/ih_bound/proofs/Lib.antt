@@ -6,3 +6,4 @@ pub mod Incomes
 pub mod Totals
 pub mod CostWorth
 pub mod StayCare
+pub mod LeastPaid

@@ -55,3 +55,12 @@ sum_below-turn l m n f =
     sum_below-swap l m (λ i j. sum_below n (λ k. f i j k))
     ∙ sum_below-same m (λ j. sum_below l (λ i. sum_below n (λ k. f i j k))) (λ j. sum_below n (λ k. sum_below l (λ i. f i j k))) (λ j h. sum_below-swap l n (λ i k. f i j k))
     ∙ sum_below-swap m n (λ j k. sum_below l (λ i. f i j k))
+
+-- more terms, a sum no less
+pub sum_below-longer : (m n : ℕ) (f : ℕ → ℕ) → m ≤ n → sum_below m f ≤ sum_below n f
+unfolding sum_below
+sum_below-longer m zero f h = let same : m ≡ 0 = omega arith in rw same (omega arith)
+sum_below-longer m (suc n) f h = elim (cases_lt n m) [
+  | inl all ↦ let same : m ≡ suc n = omega arith in rw same (omega arith)
+  | inr more ↦ omega (arith, sum_below-longer m n f more)
+]

@@ -2,3 +2,4 @@ pub mod Bounds
 pub mod Tariffs
 pub mod Paid
 pub mod Stays
+pub mod Least

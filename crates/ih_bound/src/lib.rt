@@ -3,6 +3,7 @@
 
 mod numbers;
 mod outcomes;
+mod people;
 mod prices;
 mod scratch;
 mod stays;
