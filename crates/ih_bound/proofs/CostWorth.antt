@@ -48,3 +48,15 @@ module _ (I : Draft) (valid : IsValid I) where
         let late = ap (λ r. r * delays I P) are.delay in
         let out = ap (λ r. r * optional_left_out I P) are.left_out in
         rw weighted (omega (arith, ints, h, skill, nurse, load, theatre, late, out))
+
+-- without weights nothing is worth anything
+pub worth-none : (I : Draft) (P : Timetable) (rates : Rates) → rates.skill ≡ 0 → rates.nurse ≡ 0 → rates.load ≡ 0 → rates.theatre ≡ 0 → rates.delay ≡ 0 → rates.left_out ≡ 0 → worth I rates P ≡ 0
+unfolding worth
+worth-none I P rates skill nurse load theatre late out =
+    let one = ap (λ r. r * missing_skill I P) skill in
+    let two = ap (λ r. r * nurses_seen I P) nurse in
+    let three = ap (λ r. r * overloads I P) load in
+    let four = ap (λ r. r * open_theatres I P) theatre in
+    let five = ap (λ r. r * delays I P) late in
+    let six = ap (λ r. r * optional_left_out I P) out in
+    omega (arith, one, two, three, four, five, six)

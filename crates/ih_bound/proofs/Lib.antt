@@ -2,7 +2,7 @@ pub mod SumLaws
 pub mod RulesKept
 pub mod CareDuality
 pub mod ByPerson
-pub mod Incomes
+pub mod IncomeLemmas
 pub mod Totals
 pub mod CostWorth
 pub mod StayCare

@@ -21,7 +21,7 @@ use Rattle.ih_bound.specs.Tariffs.{Tariff, income, worth, surgeon_income, theatr
 use Rattle.ih_bound.specs.Paid.{surgery_paid, waiting_paid, stay_paid, care_paid, bed_paid, paid}
 use Rattle.ih_bound.proofs.SumLaws.{sum_below-term, sum_below-times, sum_below-past}
 use Rattle.ih_bound.proofs.ByPerson.{care-by_person}
-use Rattle.ih_bound.proofs.Incomes.{surgeon_part, theatre_part, surgeons-paid, theatres-paid, beds-paid, loads-paid}
+use Rattle.ih_bound.proofs.IncomeLemmas.{surgeon_part, theatre_part, surgeons-paid, theatres-paid, beds-paid, loads-paid}
 
 -- whoever isn't a patient pays for no stay
 no-stay : (I : Draft) (rates : Rates) (t : Tariff) (P : Timetable) (x : ℕ) → patient_count I ≤ x → stay_paid I rates t P x ≡ 0

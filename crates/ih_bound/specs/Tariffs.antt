@@ -1,5 +1,5 @@
 -- Prices as functions, what they take in at most, and what a timetable's costs are worth.
-use Rattle.std.specs.Prelude.{◌≡◌, ℕ, ◌+◌, ◌-◌, ◌*◌, ◌^◌, min, Option, slice_index, List, unsigned_abs}
+use Rattle.std.specs.Prelude.{◌≡◌, ◌≤◌, ℕ, ◌+◌, ◌-◌, ◌*◌, ◌^◌, min, Option, slice_index, List, unsigned_abs}
 use Rattle.ih_tables.specs.Bills.{at}
 use Rattle.std.specs.Option.{option_map_or}
 use Rattle.ih_tables.specs.declared.drafts.Draft.{Draft}
@@ -77,3 +77,7 @@ pub record AreWeights (I : Draft) (rates : Rates) : Type 0 where
   pub theatre : rates.theatre ≡ 4096 * weight I 4
   pub delay : rates.delay ≡ 4096 * weight I 6
   pub left_out : rates.left_out ≡ 4096 * weight I 7
+
+-- n is at least so much, or the greatest number of 64 bits
+abbrev pub AtLeast : ℕ → ℕ → Type 0
+AtLeast total n = min total 18446744073709551615 ≤ n

@@ -1,6 +1,10 @@
 //! A lower bound: what no feasible timetable of an instance costs less than, by weak duality in integers.
 #![tactic(auto)]
 
+mod ascending;
+mod bounding;
+mod evaluating;
+mod incomes;
 mod numbers;
 mod outcomes;
 mod people;
@@ -8,4 +12,5 @@ mod prices;
 mod scratch;
 mod stays;
 
+pub use bounding::bound;
 pub use outcomes::{Bound, Outcome};

@@ -3,7 +3,9 @@
 ghost use Rattle.std.specs.Prelude.{◌≡◌, ◌+◌, ◌*◌, ◌^◌, ◌≤◌, ◌<◌, min, slice_index};
 ghost use Rattle.ih_bound.specs.Tariffs.{weight};
 
+use crate::scratch::zeros;
 use ih_tables::Instance;
+use std::alloc::{AllocError, Global};
 
 /// What a unit of each cost is worth: its weight in parts, or 0 where only feasibility is asked for.
 #[derive(Clone, Copy, Debug)]
@@ -100,7 +102,19 @@ impl Rates {
 }
 
 impl Prices {
-    ghost use Rattle.ih_bound.specs.Tariffs.{tariff_of, price_in};
+    ghost use Rattle.ih_bound.specs.Tariffs.{price_in};
+
+    /// Nothing has a price.
+    pub fn new(alloc: Global, inst: &Instance) -> Result<Prices, AllocError> {
+        let days = inst.days() as usize;
+        let shifts = inst.shifts() as usize;
+        Ok(Prices {
+            bed: zeros(alloc, days)?,
+            surgeon: zeros(alloc, days * inst.surgeons() as usize)?,
+            theatre: zeros(alloc, days * inst.theatres() as usize)?,
+            work: zeros(alloc, shifts * inst.nurses() as usize)?,
+        })
+    }
 
     /// The price of a bed on a day.
     #[inline(always)]

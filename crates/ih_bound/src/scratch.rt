@@ -12,3 +12,23 @@ pub struct Scratch {
     /// By nurse, how much more it may be spared.
     pub slack: Vec<u64>,
 }
+
+/// So many zeros.
+pub fn zeros(alloc: Global, count: usize) -> Result<Vec<u64>, AllocError> {
+    let mut list = Vec::new(alloc);
+    for _ in 0..count {
+        list.push(0)?;
+    }
+    Ok(list)
+}
+
+impl Scratch {
+    /// All numbers are 0.
+    pub fn new(alloc: Global) -> Result<Scratch, AllocError> {
+        Ok(Scratch {
+            numbers: zeros(alloc, 168)?,
+            costs: zeros(alloc, 168 * 512)?,
+            slack: zeros(alloc, 512)?,
+        })
+    }
+}
