@@ -8,6 +8,7 @@ ghost use Rattle.ih_bound.specs.Bounds.{IsFeasible};
 ghost use Rattle.ih_bound.specs.Tariffs.{tariff_of, worth};
 ghost use Rattle.ih_bound.specs.Paid.{paid};
 
+use crate::demand::Demand;
 use crate::incomes::income;
 use crate::people::{least_of_occupant, least_of_patient};
 use crate::prices::{Prices, Rates};
@@ -15,23 +16,38 @@ use crate::scratch::Scratch;
 use ih_tables::{Instance, PatientNo};
 
 // At most what all persons pay.
-fn least_of_all(inst: &Instance, rates: &Rates, prices: &Prices, scratch: &mut Scratch) -> u64
+fn least_of_all(
+    inst: &Instance,
+    rates: &Rates,
+    prices: &Prices,
+    scratch: &mut Scratch,
+    demand: &mut Demand,
+) -> u64
     ensures { (P : Timetable) → IsFeasible inst.now.draft P → result ≤ sum_below (person_count inst.now.draft)
         (paid inst.now.draft rates.now (tariff_of inst.now.draft rates.now prices.now) P) }
 {
     let mut sum: u64 = 0;
     for p in 0..inst.patients() {
-        sum = sum.saturating_add(least_of_patient(inst, rates, prices, PatientNo(p), scratch));
+        sum = sum.saturating_add(least_of_patient(inst, rates, prices, PatientNo(p), scratch, demand));
     }
     for o in 0..inst.occupants() {
-        sum = sum.saturating_add(least_of_occupant(inst, rates, prices, o, scratch));
+        sum = sum.saturating_add(least_of_occupant(inst, rates, prices, o, scratch, demand));
     }
     sum
 }
 
-/// At most what the costs of each feasible timetable are worth, whatever the prices.
-pub fn evaluate(inst: &Instance, rates: &Rates, prices: &Prices, scratch: &mut Scratch) -> u64
+/// At most what the costs of each feasible timetable are worth, whatever the prices. The demand is what all persons
+/// together ask for.
+pub fn evaluate(
+    inst: &Instance,
+    rates: &Rates,
+    prices: &Prices,
+    scratch: &mut Scratch,
+    demand: &mut Demand,
+) -> u64
     ensures { (P : Timetable) → IsFeasible inst.now.draft P → result ≤ worth inst.now.draft rates.now P }
 {
-    least_of_all(inst, rates, prices, scratch).saturating_sub(income(inst, rates, prices))
+    demand.clear();
+    let paid = least_of_all(inst, rates, prices, scratch, demand);
+    paid.saturating_sub(income(inst, rates, prices))
 }

@@ -3,8 +3,10 @@
 
 mod ascending;
 mod bounding;
+mod demand;
 mod evaluating;
 mod incomes;
+mod moving;
 mod numbers;
 mod outcomes;
 mod people;

@@ -17,8 +17,9 @@ fn row(stay: &Stay<'_>, k: u32) -> usize {
     512 * k.saturating_sub(stay.first) as usize
 }
 
+/// Writes an entry of a list, where it has one there.
 #[inline(always)]
-fn put(list: &mut [u64], i: usize, x: u64) {
+pub fn put(list: &mut [u64], i: usize, x: u64) {
     if let Some(y) = list.get_mut(i) {
         *y = x;
     }
@@ -58,16 +59,21 @@ fn begin_shift(
     put(scratch.numbers.as_mut_slice(), k as usize, least);
 }
 
-// How far a shift's number may rise: to where a nurse's slack ends.
-fn highest(working: &[NurseNo], row: usize, old: u64, scratch: &Scratch) -> u64 {
+// How far a shift's number may rise: to where a nurse's slack ends; and which nurse's.
+fn highest(working: &[NurseNo], row: usize, old: u64, scratch: &Scratch) -> (u64, u32) {
     let mut highest = u64::MAX;
+    let mut holder = u32::MAX;
     let mut i = row;
     for n in working {
         let cost = at(scratch.costs.as_slice(), i).max(old);
-        highest = highest.min(cost.saturating_add(at(scratch.slack.as_slice(), n.0 as usize)));
+        let end = cost.saturating_add(at(scratch.slack.as_slice(), n.0 as usize));
+        if end < highest {
+            highest = end;
+            holder = n.0;
+        }
         i = i.wrapping_add(1);
     }
-    highest
+    (highest, holder)
 }
 
 // Takes from the slack of each nurse what the nurse is spared as a shift's number rises.
@@ -87,7 +93,9 @@ fn raise(inst: &Instance, stay: &Stay<'_>, k: u32, limit: u64, scratch: &mut Scr
     let working = inst.working(Shift(k));
     let old = at(scratch.numbers.as_slice(), k as usize);
     let row = row(stay, k);
-    let new = highest(working, row, old, scratch).min(old.saturating_add(limit));
+    let (end, holder) = highest(working, row, old, scratch);
+    put(scratch.holders.as_mut_slice(), k as usize, holder as u64);
+    let new = end.min(old.saturating_add(limit));
     if new > old {
         take_slack(working, row, old, new, scratch);
         put(scratch.numbers.as_mut_slice(), k as usize, new);

@@ -11,6 +11,7 @@ ghost use Rattle.ih_bound.specs.Tariffs.{Tariff, tariff_of, price_in};
 ghost use Rattle.ih_bound.specs.Paid.{paid};
 ghost use Rattle.ih_bound.specs.Least.{BoundsPerson, BoundsAdmitted, BoundsBase, BoundsCareFrom, IsBefore, bed_cost};
 
+use crate::demand::Demand;
 use crate::prices::{Prices, Rates};
 use crate::scratch::Scratch;
 use crate::stays::{Stay, care};
@@ -168,7 +169,13 @@ fn lower_by(
         return so_far;
     }
     let care = patient_care(inst, rates, prices, p, a, scratch);
-    base.saturating_add(care).min(so_far)
+    let all = base.saturating_add(care);
+    if all < so_far {
+        scratch.day = Some(a);
+        all
+    } else {
+        so_far
+    }
 }
 
 // At most what a patient pays who is admitted, and at most so much.
@@ -187,6 +194,7 @@ fn least_admitted(
 {
     let first = inst.patient(p).surgery_release_day;
     let end = window_end(inst, p);
+    scratch.day = None;
     let mut least = most;
     for a in first..end {
         least = lower_by(inst, rates, prices, p, a, least, scratch);
@@ -206,28 +214,59 @@ fn left_out_cost(inst: &Instance, rates: &Rates, p: PatientNo) -> u64
     rates.left_out.min(MOST_PAID)
 }
 
-/// At most what a patient pays.
+// Adds what the patient asks for where it pays least.
+fn add_demand(
+    inst: &Instance,
+    rates: &Rates,
+    prices: &Prices,
+    p: PatientNo,
+    scratch: &mut Scratch,
+    demand: &mut Demand,
+)
+    requires { p.0 < patient_count inst.now.draft }
+{
+    let days = inst.days();
+    let q = inst.patient(p);
+    match scratch.day {
+        Some(a) => {
+            if a < days {
+                let skill = q.skill_level_required.as_slice();
+                let load = q.workload_produced.as_slice();
+                let stay = stay_from(inst, skill, load, a, q.length_of_stay);
+                demand.add_stay(inst, prices, q, a);
+                demand.add_care(inst, rates, prices, &stay, scratch);
+            }
+        }
+        None => {}
+    }
+}
+
+/// At most what a patient pays; what it asks for is added to the demand.
 pub fn least_of_patient(
     inst: &Instance,
     rates: &Rates,
     prices: &Prices,
     p: PatientNo,
     scratch: &mut Scratch,
+    demand: &mut Demand,
 ) -> u64
     requires { p.0 < patient_count inst.now.draft }
     ensures { BoundsPerson inst.now.draft rates.now (tariff_of inst.now.draft rates.now prices.now) p.0 result }
 {
     let most = left_out_cost(inst, rates, p);
-    least_admitted(inst, rates, prices, p, most, scratch)
+    let least = least_admitted(inst, rates, prices, p, most, scratch);
+    add_demand(inst, rates, prices, p, scratch, demand);
+    least
 }
 
-/// At most what an occupant pays.
+/// At most what an occupant pays; its workload is added to the demand.
 pub fn least_of_occupant(
     inst: &Instance,
     rates: &Rates,
     prices: &Prices,
     o: u32,
     scratch: &mut Scratch,
+    demand: &mut Demand,
 ) -> u64
     requires { o < occupant_count inst.now.draft }
     ensures { BoundsPerson inst.now.draft rates.now (tariff_of inst.now.draft rates.now prices.now)
@@ -239,5 +278,7 @@ pub fn least_of_occupant(
     let load = q.workload_produced.as_slice();
     let stay = stay_from(inst, skill, load, 0, q.length_of_stay);
     let beds = bed_cost(inst, prices, rates, 0, q.length_of_stay);
-    care(inst, rates, prices, &stay, scratch).saturating_add(beds)
+    let care = care(inst, rates, prices, &stay, scratch);
+    demand.add_care(inst, rates, prices, &stay, scratch);
+    care.saturating_add(beds)
 }

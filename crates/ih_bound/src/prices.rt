@@ -48,8 +48,10 @@ pub fn at(list: &[u64], i: usize) -> u64
     }
 }
 
-const MOST_FOR_BED: u64 = 1 << 36;
-const MOST_FOR_MINUTE: u64 = 1 << 29;
+/// No bed is dearer.
+pub const MOST_FOR_BED: u64 = 1 << 36;
+/// No minute is dearer.
+pub const MOST_FOR_MINUTE: u64 = 1 << 29;
 
 // The weight of a cost.
 fn weight(inst: &Instance, k: usize) -> u64
@@ -149,9 +151,9 @@ impl Prices {
     }
 }
 
-// Where entry `j` of row `i` stands.
+/// Where entry `j` of row `i` stands.
 #[inline(always)]
-fn place(width: u32, i: u32, j: u32) -> usize
+pub fn place(width: u32, i: u32, j: u32) -> usize
     ensures { result ≡ width * i + j }
 {
     width as usize * i as usize + j as usize

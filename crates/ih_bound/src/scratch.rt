@@ -11,6 +11,12 @@ pub struct Scratch {
     pub costs: Vec<u64>,
     /// By nurse, how much more it may be spared.
     pub slack: Vec<u64>,
+    /// By shift, the nurse whose slack ends where the number does.
+    pub holders: Vec<u64>,
+    /// By shift, 1 where it has a nurse already.
+    pub served: Vec<u64>,
+    /// The day on which the patient pays least, where one was found.
+    pub day: Option<u32>,
 }
 
 /// So many zeros.
@@ -29,6 +35,9 @@ impl Scratch {
             numbers: zeros(alloc, 168)?,
             costs: zeros(alloc, 168 * 512)?,
             slack: zeros(alloc, 512)?,
+            holders: zeros(alloc, 168)?,
+            served: zeros(alloc, 168)?,
+            day: None,
         })
     }
 }

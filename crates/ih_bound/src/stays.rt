@@ -21,9 +21,9 @@ pub struct Stay<'a> {
     pub last: u32,
 }
 
-// What stands at a place of a list, and 0 past its end.
+/// What stands at a place of a list, and 0 past its end.
 #[inline(always)]
-fn need_at(list: &[u32], i: u32) -> u32
+pub fn need_at(list: &[u32], i: u32) -> u32
     ensures { result ≡ slice_index list.now i }
 {
     match list.get(i as usize) {

@@ -14,4 +14,4 @@ pub returns : goal.returns
 returns c = λ P feasible.
     let least = c.in_ok-best.ensures P feasible in
     let up : 4096 * c.div_ceil.result ≤ c.in_ok-best.best.value + 4095 = omega (arith, c.div_ceil.ensures) in
-    worth-cost c.args.inst.now.draft c.args.inst.now.valid P c.weights.result c.div_ceil.result c.weights.ensures (omega (arith, up, least))
+    worth-cost c.args.inst.now.draft c.args.inst.now.valid P c.weights-rates.result c.div_ceil.result c.weights-rates.ensures (omega (arith, up, least))
