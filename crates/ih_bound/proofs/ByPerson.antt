@@ -1,5 +1,5 @@
 -- Missing skill and priced workload, person by person in place of room by room and nurse by nurse.
-use Rattle.std.proofs.Common.{◌≡◌, ℕ, ◌+◌, ◌-◌, ◌*◌, ◌<◌, ◌≤◌, refl, arith, sym, ap, ◌∙◌, Bool, true, false, List, [], ◌∷◌, Option, Some, None}
+use Rattle.std.proofs.Common.{◌≡◌, ℕ, ◌+◌, ◌-◌, ◌*◌, ◌<◌, refl, arith, sym, ap, ◌∙◌, Bool, true, false, List, [], ◌∷◌, Option, Some, None}
 use Rattle.std.specs.Prelude.{if◌then◌else◌, ◌&&◌, ◌==◌, map, sum_by}
 use Rattle.std.proofs.lemmas.Bool.{eq-eqb, ne_eqb}
 use Rattle.std.proofs.lemmas.List.Sums.{sum_by-cons}
@@ -13,7 +13,7 @@ use Rattle.ih_plan.specs.Presence.{Admission, admission_of, is_in, is_present, p
 use Rattle.ih_plan.specs.Costs.{is_number, skill_missing, skill_level, load_of}
 use Rattle.ih_plan.specs.BillOf.{missing_skill, nurses_seen}
 use Rattle.ih_plan.proofs.SumLemmas.{sum_below-same, sum_by-which_below}
-use Rattle.ih_plan.proofs.SumBounds.{sum_below-add, sum_below-none, sum_below-swap}
+use Rattle.ih_plan.proofs.SumBounds.{sum_below-add, sum_below-none}
 use Rattle.ih_plan.proofs.TestLemmas.{if-none}
 use Rattle.ih_validate.specs.Members.{carer_in, carer_of}
 use Rattle.ih_validate.proofs.LoadLemmas.{admission-room, nurse_part, load-by_person}
@@ -61,17 +61,17 @@ module _ (I : Draft) (P : Timetable) (valid : IsValid I) (plan : IsPlanOf I P) w
   missing-by_person =
       let part : ℕ → ℕ → ℕ → ℕ = λ r k x. if is_present I P r (day_of k) x then skill_gap I (skill_of I P k x) (care_of P r k) else 0 in
       sum_below-same (room_count I)
-        (λ r. sum_below (shift_count I) (λ k. skill_missing I (care_of P r k) (map (skill_of I P k) (present I P r (day_of k)))))
-        (λ r. sum_below (shift_count I) (λ k. sum_below (person_count I) (part r k)))
-        (λ r l. sum_below-same (shift_count I)
-          (λ k. skill_missing I (care_of P r k) (map (skill_of I P k) (present I P r (day_of k))))
-          (λ k. sum_below (person_count I) (part r k)) (λ k h. room-skill I P r k (care_of P r k)))
+      (λ r. sum_below (shift_count I) (λ k. skill_missing I (care_of P r k) (map (skill_of I P k) (present I P r (day_of k)))))
+      (λ r. sum_below (shift_count I) (λ k. sum_below (person_count I) (part r k)))
+      (λ r l. sum_below-same (shift_count I)
+      (λ k. skill_missing I (care_of P r k) (map (skill_of I P k) (present I P r (day_of k))))
+      (λ k. sum_below (person_count I) (part r k)) (λ k h. room-skill I P r k (care_of P r k)))
       ∙ sum_below-turn (room_count I) (shift_count I) (person_count I) part
       ∙ sum_below-same (person_count I)
-        (λ x. sum_below (shift_count I) (λ k. sum_below (room_count I) (λ r. part r k x)))
-        (λ x. sum_below (shift_count I) (λ k. skill_gap I (skill_of I P k x) (carer_of I P k x)))
-        (λ x l. sum_below-same (shift_count I) (λ k. sum_below (room_count I) (λ r. part r k x)) (λ k. skill_gap I (skill_of I P k x) (carer_of I P k x))
-          (λ k h. by_room I P (skill_gap I (skill_of I P k x)) k (person_of I x).length_of_stay (admission_of I P x) refl (λ a e. admission-room I P x a valid plan e)))
+      (λ x. sum_below (shift_count I) (λ k. sum_below (room_count I) (λ r. part r k x)))
+      (λ x. sum_below (shift_count I) (λ k. skill_gap I (skill_of I P k x) (carer_of I P k x)))
+      (λ x l. sum_below-same (shift_count I) (λ k. sum_below (room_count I) (λ r. part r k x)) (λ k. skill_gap I (skill_of I P k x) (carer_of I P k x))
+      (λ k h. by_room I P (skill_gap I (skill_of I P k x)) k (person_of I x).length_of_stay (admission_of I P x) refl (λ a e. admission-room I P x a valid plan e)))
 
   -- ---- workload
 
@@ -103,16 +103,16 @@ module _ (I : Draft) (P : Timetable) (valid : IsValid I) (plan : IsPlanOf I P) w
   lent-by_person t =
       let part : ℕ → ℕ → ℕ → ℕ = λ n k x. t.work n k * nurse_part I P n k x in
       sum_below-same (nurse_count I)
-        (λ n. sum_below (shift_count I) (λ k. t.work n k * load_of I P n k))
-        (λ n. sum_below (shift_count I) (λ k. sum_below (person_count I) (part n k)))
-        (λ n l. sum_below-same (shift_count I) (λ k. t.work n k * load_of I P n k) (λ k. sum_below (person_count I) (part n k))
-          (λ k h. rw (← load-by_person I P n k valid plan) (sym (sum_below-times (person_count I) (t.work n k) (nurse_part I P n k)))))
+      (λ n. sum_below (shift_count I) (λ k. t.work n k * load_of I P n k))
+      (λ n. sum_below (shift_count I) (λ k. sum_below (person_count I) (part n k)))
+      (λ n l. sum_below-same (shift_count I) (λ k. t.work n k * load_of I P n k) (λ k. sum_below (person_count I) (part n k))
+      (λ k h. rw (← load-by_person I P n k valid plan) (sym (sum_below-times (person_count I) (t.work n k) (nurse_part I P n k)))))
       ∙ sum_below-turn (nurse_count I) (shift_count I) (person_count I) part
       ∙ sum_below-same (person_count I)
-        (λ x. sum_below (shift_count I) (λ k. sum_below (nurse_count I) (λ n. part n k x)))
-        (λ x. sum_below (shift_count I) (λ k. lent t (workload_of I P k x) k (carer_of I P k x)))
-        (λ x l. sum_below-same (shift_count I) (λ k. sum_below (nurse_count I) (λ n. part n k x)) (λ k. lent t (workload_of I P k x) k (carer_of I P k x))
-          (λ k h. one-carer t (workload_of I P k x) k (carer_of I P k x) (λ n e. carer-known k x n e)))
+      (λ x. sum_below (shift_count I) (λ k. sum_below (nurse_count I) (λ n. part n k x)))
+      (λ x. sum_below (shift_count I) (λ k. lent t (workload_of I P k x) k (carer_of I P k x)))
+      (λ x l. sum_below-same (shift_count I) (λ k. sum_below (nurse_count I) (λ n. part n k x)) (λ k. lent t (workload_of I P k x) k (carer_of I P k x))
+      (λ k h. one-carer t (workload_of I P k x) k (carer_of I P k x) (λ n e. carer-known k x n e)))
 
   -- ---- care
 
@@ -128,7 +128,7 @@ module _ (I : Draft) (P : Timetable) (valid : IsValid I) (plan : IsPlanOf I P) w
       let gap : ℕ → ℕ = λ k. skill_gap I (skill_of I P k x) (carer_of I P k x) in
       let load : ℕ → ℕ = λ k. lent t (workload_of I P k x) k (carer_of I P k x) in
       let apart = sum_below-same (shift_count I) (shift_paid I rates t P x) (λ k. rates.skill * gap k + load k)
-        (λ k l. two-parts rates t (skill_of I P k x) (workload_of I P k x) k (carer_of I P k x)) in
+      (λ k l. two-parts rates t (skill_of I P k x) (workload_of I P k x) k (carer_of I P k x)) in
       let both = sum_below-add (shift_count I) (λ k. rates.skill * gap k) load in
       let times = sum_below-times (shift_count I) rates.skill gap in
       omega (arith, apart, both, times)

@@ -1,11 +1,11 @@
 -- Weak duality of care, person by person: numbers of the shifts, of which no nurse is spared more than a nurse is
 -- worth, come to at most what the person pays.
-use Rattle.std.proofs.Common.{◌≡◌, ℕ, zero, suc, ◌+◌, ◌-◌, ◌*◌, ◌<◌, ◌≤◌, refl, arith, sym, ap, ◌∙◌, subst, Bool, true, false, List, [], ◌∷◌, inl, inr, Option, Some, None}
-use Rattle.std.specs.Prelude.{if◌then◌else◌, ◌&&◌, ◌||◌, ◌==◌, not, min, is_none, is_some, map}
+use Rattle.std.proofs.Common.{◌≡◌, ℕ, zero, suc, ◌+◌, ◌-◌, ◌*◌, ◌<◌, ◌≤◌, refl, arith, sym, ◌∙◌, subst, Bool, true, false, List, [], ◌∷◌, inl, inr, Option, Some, None}
+use Rattle.std.specs.Prelude.{if◌then◌else◌, ◌&&◌, min, is_none, is_some, map}
 use Rattle.std.specs.List.{range_with_len, list_any}
-use Rattle.std.proofs.lemmas.Bool.{cases_Bool, cases_eq, eq-eqb, eqb-true, ne_eqb, or_left, or_right, false_from_ne_true}
+use Rattle.std.proofs.lemmas.Bool.{cases_Bool, cases_eq, eq-eqb, eqb-true, ne_eqb, or_left, or_right}
 use Rattle.ih_tables.specs.declared.drafts.Draft.{Draft}
-use Rattle.ih_tables.specs.Sizes.{person_count, room_count, nurse_count, shift_count}
+use Rattle.ih_tables.specs.Sizes.{person_count, nurse_count, shift_count}
 use Rattle.ih_tables.specs.Works.{max_load}
 use Rattle.ih_tables.specs.Valid.{IsValid}
 use Rattle.ih_plan.specs.Timetable.{Timetable, care_of}
@@ -62,12 +62,15 @@ module _ (I : Draft) (P : Timetable) (valid : IsValid I) (feasible : IsFeasible 
       by_case : (o : Option ℕ) → care_of P a.room k ≡ o → carer_of I P k x ≡ o → (is_none o && true) ≡ false → not_working I k o ≡ false
           → (n : ℕ) × CaredBy I P x k a.room n
       by_case None chosen carer nurse duty = absurd (let no : true ≡ false = nurse in cc)
-      by_case (Some n) chosen carer nurse duty = (n, record {
-        carer = carer;
-        chosen = chosen;
-        known = feasible.plan.nursed a.room k n chosen;
-        works = some-not_none (max_load I n k) duty;
-      })
+      by_case (Some n) chosen carer nurse duty = (
+        n,
+        record {
+          carer = carer;
+          chosen = chosen;
+          known = feasible.plan.nursed a.room k n chosen;
+          works = some-not_none (max_load I n k) duty;
+        },
+      )
 
 -- ---- the numbers of the shifts
 
@@ -108,7 +111,6 @@ if_zero false x h = refl
 module _ (I : Draft) (P : Timetable) (valid : IsValid I) (feasible : IsFeasible I P) (rates : Rates) (t : Tariff)
     (x : ℕ) (a : Admission) (hx : x < person_count I) (adm : admission_of I P x ≡ Some a)
     (v : ℕ → ℕ) (outside : (k : ℕ) → k < shift_count I → covers a.day (person_of I x).length_of_stay (day_of k) ≡ false → v k ≡ 0) where
-
   -- a shift's number is what is paid in it, and what the nurse who is there is spared
   one-shift : (k : ℕ) → k < shift_count I → v k ≤ shift_paid I rates t P x k + sum_below (nurse_count I) (λ n. claimed I rates t P x v n k)
   one-shift k hk = elim (cases_Bool (covers a.day (person_of I x).length_of_stay (day_of k))) [

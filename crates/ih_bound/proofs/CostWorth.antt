@@ -1,6 +1,6 @@
 -- What costs are worth at the instance's weights is at most the cost, in parts.
-use Rattle.std.proofs.Common.{◌≡◌, ℕ, ◌+◌, ◌*◌, ◌<◌, ◌≤◌, refl, arith, ap, zero, suc, List, [], ◌∷◌, pos, negsuc, ℤ}
-use Rattle.std.specs.Prelude.{◌≤ℤ◌, ◌*ℤ◌, unsigned_abs, All}
+use Rattle.std.proofs.Common.{◌≡◌, ℕ, ◌+◌, ◌*◌, ◌≤◌, refl, arith, ap, zero, suc, List, [], ◌∷◌, pos, negsuc, ℤ}
+use Rattle.std.specs.Prelude.{◌≤ℤ◌, unsigned_abs, All}
 use Rattle.std.proofs.lemmas.List.Elements.{All-head, All-tail}
 use Rattle.std.proofs.lemmas.Int.{ints}
 use Rattle.ih_tables.specs.declared.drafts.Draft.{Draft}

@@ -1,30 +1,27 @@
 -- What beds, surgeons, theatres and workloads are paid: no more than all that there are come to.
-use Rattle.std.proofs.Common.{◌≡◌, ℕ, ◌+◌, ◌-◌, ◌*◌, ◌<◌, ◌≤◌, refl, arith, sym, ap, ◌∙◌, mul_comm, Bool, true, false, List, [], ◌∷◌, length, inl, inr, Option, Some, None}
-use Rattle.std.specs.Prelude.{if◌then◌else◌, ◌&&◌, ◌==◌, not, sum_by, slice_get, is_none}
+use Rattle.std.proofs.Common.{◌≡◌, ℕ, ◌+◌, ◌-◌, ◌*◌, ◌<◌, ◌≤◌, refl, arith, sym, ap, ◌∙◌, Bool, true, false, List, [], ◌∷◌, Option, Some, None}
+use Rattle.std.specs.Prelude.{if◌then◌else◌, ◌&&◌, ◌==◌, not, sum_by}
 use Rattle.std.proofs.lemmas.Bool.{eq-eqb, eqb-true}
 use Rattle.std.specs.Option.{option_map_or}
 use Rattle.std.proofs.lemmas.Nat.{mul-le}
 use Rattle.ih_tables.specs.declared.drafts.Draft.{Draft}
-use Rattle.ih_tables.specs.declared.drafts.Patient.{Patient}
 use Rattle.ih_tables.specs.Sizes.{patient_count, person_count, room_count, nurse_count, shift_count, surgeon_count, theatre_count}
 use Rattle.ih_tables.specs.Valid.{IsValid}
 use Rattle.ih_tables.specs.Works.{max_load}
-use Rattle.ih_plan.specs.declared.moves.Placement.{Placement}
 use Rattle.ih_plan.specs.Timetable.{Timetable, care_of, stay_of}
-use Rattle.ih_plan.specs.Sums.{sum_below, which_below, bit}
+use Rattle.ih_plan.specs.Sums.{sum_below, bit}
 use Rattle.ih_plan.specs.Persons.{person_of}
 use Rattle.ih_plan.specs.Presence.{Admission, admission_of, is_in, is_present, present, covers, day_of, workload_of}
 use Rattle.ih_plan.specs.Costs.{capacity_of, duration_of, is_empty, is_number, load_of, minutes, not_working, operated, operated_by, operated_in, admitted_on, overload, surgeon_maximum, surgeon_of, theatre_availability}
 use Rattle.ih_plan.specs.BillOf.{open_theatres, overloads}
 use Rattle.ih_plan.proofs.SumLemmas.{sum_below-same, sum_by-which_below, length-which_below}
 use Rattle.ih_plan.proofs.SumBounds.{sum_below-add, sum_below-le_each, sum_below-none, sum_below-swap}
-use Rattle.ih_plan.proofs.TestLemmas.{if-none}
 use Rattle.ih_validate.proofs.LoadLemmas.{admission-room}
 use Rattle.ih_bound.specs.declared.prices.Rates.{Rates}
 use Rattle.ih_bound.specs.Bounds.{IsFeasible}
 use Rattle.ih_bound.specs.Tariffs.{Tariff, all_beds, bed_income, surgeon_income, theatre_income, work_income, load_limit}
 use Rattle.ih_bound.specs.Paid.{is_there, bed_paid}
-use Rattle.ih_bound.proofs.SumLaws.{sum_below-one, sum_below-term, sum_below-times, sum_below-turn}
+use Rattle.ih_bound.proofs.SumLaws.{sum_below-one, sum_below-times, sum_below-turn}
 use Rattle.ih_bound.proofs.RulesKept.{surgeon-fits, theatre-fits, room-fits, on-duty}
 
 times-bit : (b : Bool) (c : ℕ) → (if b then c else 0) ≡ c * bit b
@@ -53,10 +50,10 @@ module _ (I : Draft) (P : Timetable) (valid : IsValid I) (feasible : IsFeasible 
       let X = person_count I in
       let R = room_count I in
       let rooms = sum_below-same X (λ x. bit (is_there (admission_of I P x) (person_of I x).length_of_stay d)) (λ x. sum_below R (λ r. bit (is_present I P r d x)))
-        (λ x l. sym (one_room I (admission_of I P x) (person_of I x).length_of_stay d (λ a e. admission-room I P x a valid feasible.plan e))) in
+      (λ x l. sym (one_room I (admission_of I P x) (person_of I x).length_of_stay d (λ a e. admission-room I P x a valid feasible.plan e))) in
       let swap = sum_below-swap X R (λ x r. bit (is_present I P r d x)) in
       let fit = sum_below-le_each R (λ r. sum_below X (λ x. bit (is_present I P r d x))) (capacity_of I)
-        (λ r l. omega (arith, length-which_below X (is_present I P r d), room-fits I P feasible r d l hd)) in
+      (λ r l. omega (arith, length-which_below X (is_present I P r d), room-fits I P feasible r d l hd)) in
       omega (arith, rooms, swap, fit)
 
   -- what all persons pay for beds
@@ -67,11 +64,11 @@ module _ (I : Draft) (P : Timetable) (valid : IsValid I) (feasible : IsFeasible 
       let there : ℕ → ℕ → Bool = λ x d. is_there (admission_of I P x) (person_of I x).length_of_stay d in
       let swap = sum_below-swap X I.days (λ x d. if there x d then t.bed d else 0) in
       let each = sum_below-le_each I.days (λ d. sum_below X (λ x. if there x d then t.bed d else 0)) (λ d. t.bed d * all_beds I)
-        (λ d l.
-          let bits = sum_below-same X (λ x. if there x d then t.bed d else 0) (λ x. t.bed d * bit (there x d)) (λ x h. times-bit (there x d) (t.bed d)) in
-          let times = sum_below-times X (t.bed d) (λ x. bit (there x d)) in
-          let fit = mul-le (t.bed d) (sum_below X (λ x. bit (there x d))) (t.bed d) (all_beds I) (omega arith) (count-there d l) in
-          omega (arith, bits, times, fit)) in
+      (λ d l.
+      let bits = sum_below-same X (λ x. if there x d then t.bed d else 0) (λ x. t.bed d * bit (there x d)) (λ x h. times-bit (there x d) (t.bed d)) in
+      let times = sum_below-times X (t.bed d) (λ x. bit (there x d)) in
+      let fit = mul-le (t.bed d) (sum_below X (λ x. bit (there x d))) (t.bed d) (all_beds I) (omega arith) (count-there d l) in
+      omega (arith, bits, times, fit)) in
       omega (arith, swap, each)
 
   -- ---- surgeons and theatres
@@ -100,10 +97,10 @@ module _ (I : Draft) (P : Timetable) (valid : IsValid I) (feasible : IsFeasible 
   surgeons-paid t =
       let turn = sum_below-turn (surgeon_count I) I.days (patient_count I) (surgeon_part t) in
       let each = sum_below-le_each (surgeon_count I) (λ s. sum_below I.days (λ d. sum_below (patient_count I) (surgeon_part t s d))) (λ s. sum_below I.days (λ d. t.surgeon s d * surgeon_maximum I s d))
-        (λ s hs. sum_below-le_each I.days (λ d. sum_below (patient_count I) (surgeon_part t s d)) (λ d. t.surgeon s d * surgeon_maximum I s d)
-          (λ d hd.
-            let fit = mul-le (t.surgeon s d) (minutes I (operated_by I P s d)) (t.surgeon s d) (surgeon_maximum I s d) (omega arith) (surgeon-fits I P feasible s d hs hd) in
-            omega (arith, surgeon-minutes t s d, fit))) in
+      (λ s hs. sum_below-le_each I.days (λ d. sum_below (patient_count I) (surgeon_part t s d)) (λ d. t.surgeon s d * surgeon_maximum I s d)
+      (λ d hd.
+      let fit = mul-le (t.surgeon s d) (minutes I (operated_by I P s d)) (t.surgeon s d) (surgeon_maximum I s d) (omega arith) (surgeon-fits I P feasible s d hs hd) in
+      omega (arith, surgeon-minutes t s d, fit))) in
       omega (arith, turn, each)
 
   one-opening : (rates : Rates) (t : Tariff) (i d : ℕ) → i < theatre_count I → d < I.days
@@ -127,13 +124,13 @@ module _ (I : Draft) (P : Timetable) (valid : IsValid I) (feasible : IsFeasible 
       let above : ℕ → ℕ → ℕ = λ i d. t.theatre i d * theatre_availability I i d - rates.theatre in
       let turn = sum_below-turn T I.days (patient_count I) (theatre_part t) in
       let each = sum_below-le_each T (λ i. sum_below I.days (λ d. sum_below (patient_count I) (theatre_part t i d)))
-        (λ i. rates.theatre * sum_below I.days (open_on i) + sum_below I.days (above i))
-        (λ i hi.
-          let days = sum_below-le_each I.days (λ d. sum_below (patient_count I) (theatre_part t i d)) (λ d. rates.theatre * open_on i d + above i d)
-            (λ d hd. omega (arith, theatre-minutes t i d, one-opening rates t i d hi hd)) in
-          let both = sum_below-add I.days (λ d. rates.theatre * open_on i d) (above i) in
-          let times = sum_below-times I.days rates.theatre (open_on i) in
-          omega (arith, days, both, times)) in
+      (λ i. rates.theatre * sum_below I.days (open_on i) + sum_below I.days (above i))
+      (λ i hi.
+      let days = sum_below-le_each I.days (λ d. sum_below (patient_count I) (theatre_part t i d)) (λ d. rates.theatre * open_on i d + above i d)
+      (λ d hd. omega (arith, theatre-minutes t i d, one-opening rates t i d hi hd)) in
+      let both = sum_below-add I.days (λ d. rates.theatre * open_on i d) (above i) in
+      let times = sum_below-times I.days rates.theatre (open_on i) in
+      omega (arith, days, both, times)) in
       let both = sum_below-add T (λ i. rates.theatre * sum_below I.days (open_on i)) (λ i. sum_below I.days (above i)) in
       let times = sum_below-times T rates.theatre (λ i. sum_below I.days (open_on i)) in
       omega (arith, turn, each, both, times)
@@ -183,11 +180,11 @@ module _ (I : Draft) (P : Timetable) (valid : IsValid I) (feasible : IsFeasible 
       let over : ℕ → ℕ → ℕ = λ n k. overload (max_load I n k) (load_of I P n k) in
       let limit : ℕ → ℕ → ℕ = λ n k. t.work n k * load_limit I n k in
       let each = sum_below-le_each N (λ n. sum_below K (λ k. t.work n k * load_of I P n k)) (λ n. rates.load * sum_below K (over n) + sum_below K (limit n))
-        (λ n hn.
-          let shifts = sum_below-le_each K (λ k. t.work n k * load_of I P n k) (λ k. rates.load * over n k + limit n k) (λ k hk. one-load rates t n k (cheap n k) hk) in
-          let both = sum_below-add K (λ k. rates.load * over n k) (limit n) in
-          let times = sum_below-times K rates.load (over n) in
-          omega (arith, shifts, both, times)) in
+      (λ n hn.
+      let shifts = sum_below-le_each K (λ k. t.work n k * load_of I P n k) (λ k. rates.load * over n k + limit n k) (λ k hk. one-load rates t n k (cheap n k) hk) in
+      let both = sum_below-add K (λ k. rates.load * over n k) (limit n) in
+      let times = sum_below-times K rates.load (over n) in
+      omega (arith, shifts, both, times)) in
       let both = sum_below-add N (λ n. rates.load * sum_below K (over n)) (λ n. sum_below K (limit n)) in
       let times = sum_below-times N rates.load (λ n. sum_below K (over n)) in
       omega (arith, each, both, times)

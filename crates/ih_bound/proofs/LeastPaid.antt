@@ -1,22 +1,21 @@
 -- What a person pays, part by part: an occupant, a patient who is left out, and one who is admitted.
-use Rattle.std.proofs.Common.{◌≡◌, ℕ, ◌+◌, ◌-◌, ◌*◌, ◌<◌, ◌≤◌, refl, arith, sym, ap, ◌∙◌, Bool, true, false, inl, inr, Option, Some, None}
-use Rattle.std.specs.Prelude.{if◌then◌else◌, ◌&&◌, ◌||◌, ◌==◌, not, nat_lt, is_none, slice_get}
+use Rattle.std.proofs.Common.{◌≡◌, ℕ, ◌+◌, ◌-◌, ◌*◌, ◌<◌, ◌≤◌, refl, arith, sym, ap, ◌∙◌, Bool, true, false, inl, inr, Some, None}
+use Rattle.std.specs.Prelude.{if◌then◌else◌, ◌&&◌, ◌||◌, not, nat_lt, slice_get}
 use Rattle.std.proofs.lemmas.Bool.{cases_lt, lt-ltb, le-ltb, eq-eqb}
 use Rattle.ih_tables.specs.declared.drafts.Draft.{Draft}
 use Rattle.ih_tables.specs.declared.drafts.Patient.{Patient}
 use Rattle.ih_tables.specs.declared.drafts.Occupant.{Occupant}
-use Rattle.ih_tables.specs.Sizes.{patient_count, occupant_count, person_count, surgeon_count, theatre_count}
-use Rattle.ih_tables.specs.Valid.{IsValid}
+use Rattle.ih_tables.specs.Sizes.{patient_count, occupant_count, person_count, surgeon_count}
 use Rattle.ih_plan.specs.declared.moves.Placement.{Placement}
 use Rattle.ih_plan.specs.Timetable.{Timetable, stay_of}
-use Rattle.ih_plan.specs.Sums.{sum_below, bit}
+use Rattle.ih_plan.specs.Sums.{bit}
 use Rattle.ih_plan.specs.Persons.{Person, person_of, patient_person, occupant_person}
 use Rattle.ih_plan.specs.Presence.{admission_of, end_from}
-use Rattle.ih_plan.specs.Costs.{admitted_on, after_due, outside_window, delay, of_patient, theatre_availability, surgeon_maximum, surgeon_of, is_number, duration_of, minutes, operated, operated_by, operated_in}
+use Rattle.ih_plan.specs.Costs.{admitted_on, after_due, theatre_availability, surgeon_maximum, surgeon_of, is_number, duration_of, operated, operated_by, operated_in}
 use Rattle.ih_bound.specs.declared.prices.Rates.{Rates}
 use Rattle.ih_bound.specs.Bounds.{IsFeasible}
 use Rattle.ih_bound.specs.Tariffs.{Tariff}
-use Rattle.ih_bound.specs.Paid.{surgery_paid, waiting_paid, stay_paid, care_paid, bed_paid, paid}
+use Rattle.ih_bound.specs.Paid.{stay_paid, care_paid, bed_paid, paid}
 use Rattle.ih_bound.specs.Least.{bed_cost}
 use Rattle.ih_bound.specs.Stays.{Asked, IsAskedBy}
 use Rattle.ih_bound.proofs.RulesKept.{in-window, is-admitted, surgeon-fits, theatre-fits}
@@ -63,7 +62,7 @@ pub paid-admitted : (I : Draft) (rates : Rates) (t : Tariff) (P : Timetable) (p 
 unfolding paid
 paid-admitted I rates t P p q at known e is =
     let stay : stay_paid I rates t P p ≡ (q.surgery_duration * t.surgeon q.surgeon_id.0 at.day.0 + q.surgery_duration * t.theatre at.theatre.0 at.day.0)
-      + (rates.delay * (at.day.0 - q.surgery_release_day) + rates.left_out * bit (not q.mandatory && false)) = rw (e, is) refl in
+    + (rates.delay * (at.day.0 - q.surgery_release_day) + rates.left_out * bit (not q.mandatory && false)) = rw (e, is) refl in
     let bed = beds-from I t P p at.day.0 at.room.0 (admission-stay I P p at known is) in
     omega (arith, stay, bed)
 
@@ -108,7 +107,7 @@ module _ (I : Draft) (P : Timetable) (feasible : IsFeasible I P) (p : ℕ) (q : 
       let sum = sum_by-which_below (duration_of I) (patient_count I) (λ i. operated_in at.theatre.0 at.day.0 (stay_of P i)) in
       let one = sum_below-term (patient_count I) p (λ i. if operated_in at.theatre.0 at.day.0 (stay_of P i) then duration_of I i else 0) known in
       let here : (if operated_in at.theatre.0 at.day.0 (stay_of P p) then duration_of I p else 0) ≡ q.surgery_duration =
-        rw (is, e, eq-eqb at.theatre.0 at.theatre.0 refl, eq-eqb at.day.0 at.day.0 refl) refl in
+      rw (is, e, eq-eqb at.theatre.0 at.theatre.0 refl, eq-eqb at.day.0 at.day.0 refl) refl in
       omega (arith, all, sum, one, here)
 
   pub surgeon-long_enough : q.surgeon_id.0 < surgeon_count I → q.surgery_duration ≤ surgeon_maximum I q.surgeon_id.0 at.day.0
@@ -120,7 +119,7 @@ module _ (I : Draft) (P : Timetable) (feasible : IsFeasible I P) (p : ℕ) (q : 
       let sum = sum_by-which_below (duration_of I) (patient_count I) (λ i. is_number (surgeon_of I i) s && admitted_on at.day.0 (stay_of P i)) in
       let one = sum_below-term (patient_count I) p (λ i. if is_number (surgeon_of I i) s && admitted_on at.day.0 (stay_of P i) then duration_of I i else 0) known in
       let here : (if is_number (surgeon_of I p) s && admitted_on at.day.0 (stay_of P p) then duration_of I p else 0) ≡ q.surgery_duration =
-        rw (is, e, eq-eqb s s refl, eq-eqb at.day.0 at.day.0 refl) refl in
+      rw (is, e, eq-eqb s s refl, eq-eqb at.day.0 at.day.0 refl) refl in
       omega (arith, all, sum, one, here)
 
 -- ---- what persons ask for

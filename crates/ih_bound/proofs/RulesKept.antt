@@ -1,15 +1,13 @@
 -- What it says of a timetable that it breaks no rule, rule by rule.
-use Rattle.std.proofs.Common.{◌≡◌, ℕ, zero, suc, ◌+◌, ◌-◌, ◌*◌, ◌<◌, ◌≤◌, refl, arith, sym, ap, ◌∙◌, subst, Bool, true, false, List, [], ◌∷◌, length, inl, inr, Option, Some, None, pos}
-use Rattle.std.specs.Prelude.{◌&&◌, ◌||◌, ◌==◌, not, nat_eq, nat_lt, is_none, is_some, IsSome, slice_get, slice_index, map}
-use Rattle.std.proofs.lemmas.Bool.{and_parts, eqb-true, ltb-true, cases_lt, cases_Bool, lt-ltb, eq-eqb}
+use Rattle.std.proofs.Common.{◌≡◌, ℕ, zero, suc, ◌-◌, ◌<◌, ◌≤◌, refl, arith, sym, ◌∙◌, Bool, true, false, List, [], ◌∷◌, length, Some, pos}
+use Rattle.std.specs.Prelude.{◌&&◌, not, nat_eq, is_none, slice_get, slice_index, map}
+use Rattle.std.proofs.lemmas.Bool.{and_parts, eqb-true}
 use Rattle.ih_tables.specs.declared.drafts.Draft.{Draft}
 use Rattle.ih_tables.specs.declared.drafts.Patient.{Patient}
-use Rattle.ih_tables.specs.Sizes.{patient_count, room_count, surgeon_count, theatre_count, shift_count, nurse_count}
+use Rattle.ih_tables.specs.Sizes.{patient_count, room_count, surgeon_count, theatre_count, shift_count}
 use Rattle.ih_tables.specs.Bills.{all_zero}
-use Rattle.ih_tables.specs.Works.{max_load}
-use Rattle.ih_plan.specs.declared.moves.Placement.{Placement}
 use Rattle.ih_plan.specs.Timetable.{Timetable, stay_of, care_of}
-use Rattle.ih_plan.specs.Sums.{sum_below, bit}
+use Rattle.ih_plan.specs.Sums.{bit}
 use Rattle.ih_plan.specs.Presence.{present, day_of}
 use Rattle.ih_plan.specs.Costs.{minutes, operated, operated_by, surgeon_maximum, theatre_availability, capacity_of, not_working, is_empty, of_patient, outside_window}
 use Rattle.ih_plan.specs.BillOf.{bill_of, broken_rules, surgeon_overtime, theatre_overtime, mandatory_left_out, outside_windows, over_capacity, nurses_off, uncovered}

@@ -1,20 +1,19 @@
 -- Weak duality of care for a stay, whoever has it.
-use Rattle.std.proofs.Common.{◌≡◌, ℕ, ◌+◌, ◌-◌, ◌*◌, ◌<◌, ◌≤◌, refl, arith, sym, ap, ◌∙◌, Bool, true, false, List, Some}
+use Rattle.std.proofs.Common.{◌≡◌, ℕ, ◌-◌, ◌*◌, ◌<◌, ◌≤◌, refl, arith, ◌∙◌, Bool, true, false, List, Some}
 use Rattle.std.specs.Prelude.{if◌then◌else◌, ◌^◌, min, is_some, slice_index}
 use Rattle.ih_tables.specs.declared.drafts.Draft.{Draft}
-use Rattle.ih_tables.specs.Sizes.{nurse_count, shift_count}
+use Rattle.ih_tables.specs.Sizes.{shift_count}
 use Rattle.ih_tables.specs.Works.{max_load}
 use Rattle.ih_tables.specs.Valid.{IsValid}
 use Rattle.ih_plan.specs.Timetable.{Timetable}
 use Rattle.ih_plan.specs.Sums.{sum_below}
 use Rattle.ih_plan.specs.Persons.{person_of}
-use Rattle.ih_plan.specs.Presence.{Admission, admission_of, covers, day_of, in_span, entry_of, end_from, skill_of, workload_of}
+use Rattle.ih_plan.specs.Presence.{admission_of, day_of, in_span, entry_of, end_from}
 use Rattle.ih_plan.proofs.SumLemmas.{sum_below-same, sum_below-zero}
 use Rattle.ih_plan.proofs.Spans.{span-shifts, span-covers, span-outside, span-true}
 use Rattle.ih_bound.specs.declared.prices.Rates.{Rates}
-use Rattle.ih_bound.specs.Bounds.{IsFeasible}
 use Rattle.ih_bound.specs.Tariffs.{Tariff}
-use Rattle.ih_bound.specs.Paid.{care_price, care_paid}
+use Rattle.ih_bound.specs.Paid.{care_price}
 use Rattle.ih_bound.specs.Stays.{Asked, IsAskedBy, number_at, spared_in, SparesFew, BoundsCare}
 use Rattle.ih_bound.proofs.SumLaws.{sum_below-past}
 use Rattle.ih_bound.proofs.CareDuality.{spared, care-duality}
@@ -56,12 +55,12 @@ pub stay-duality : (I : Draft) (rates : Rates) (t : Tariff) (s : Asked) (numbers
 stay-duality I rates t s numbers valid few = λ P x a r feasible asked adm.
     care-duality I P valid feasible rates t x (record { room = r; day = a }) asked.person adm (number_at numbers s)
     (λ k hk away.
-      let n = (person_of I x).length_of_stay in
-      let inside : in_span s.first s.last k ≡ false = rw (asked.first, asked.last) (span-shifts a (end_from I a n) k ∙ (span-covers a n I.days (day_of k) (omega arith) ∙ away)) in
-      rw inside refl)
+    let n = (person_of I x).length_of_stay in
+    let inside : in_span s.first s.last k ≡ false = rw (asked.first, asked.last) (span-shifts a (end_from I a n) k ∙ (span-covers a n I.days (day_of k) (omega arith) ∙ away)) in
+    rw inside refl)
     (λ n hn.
-      let same = sum_below-same (shift_count I) (spared I rates t P x (number_at numbers s) n) (spared_in I rates t s numbers n) (λ k l. same-spared I rates t P s numbers x a r n k asked adm) in
-      omega (arith, same, few n hn))
+    let same = sum_below-same (shift_count I) (spared I rates t P x (number_at numbers s) n) (spared_in I rates t s numbers n) (λ k l. same-spared I rates t P s numbers x a r n k asked adm) in
+    omega (arith, same, few n hn))
 
 -- ---- steps of sums over a stay
 

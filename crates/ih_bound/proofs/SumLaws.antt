@@ -1,5 +1,5 @@
 -- Sums with a factor, with terms of 0, and with one term that counts.
-use Rattle.std.proofs.Common.{◌≡◌, ℕ, zero, suc, ◌+◌, ◌*◌, ◌<◌, ◌≤◌, refl, arith, ◌∙◌, inl, inr}
+use Rattle.std.proofs.Common.{◌≡◌, ℕ, zero, suc, ◌*◌, ◌<◌, ◌≤◌, refl, arith, ◌∙◌, inl, inr}
 use Rattle.std.proofs.lemmas.Bool.{cases_lt}
 use Rattle.ih_plan.specs.Sums.{sum_below}
 use Rattle.ih_plan.proofs.SumLemmas.{sum_below-same, sum_below-but}

@@ -1,23 +1,23 @@
 -- Weak duality: what all persons of a feasible timetable pay is at most what its costs are worth, and the income.
-use Rattle.std.proofs.Common.{◌≡◌, ℕ, ◌+◌, ◌-◌, ◌*◌, ◌<◌, ◌≤◌, refl, arith, sym, ap, ◌∙◌, Bool, true, false, Option, Some, None}
-use Rattle.std.specs.Prelude.{◌&&◌, ◌==◌, if◌then◌else◌, not, is_none, slice_get}
+use Rattle.std.proofs.Common.{◌≡◌, ℕ, ◌+◌, ◌*◌, ◌≤◌, refl, arith, Option, Some, None}
+use Rattle.std.specs.Prelude.{◌&&◌, not, is_none, slice_get}
 use Rattle.std.specs.Option.{option_map_or}
 use Rattle.std.proofs.lemmas.Bool.{eq-eqb}
 use Rattle.std.proofs.lemmas.Option.{slice_get_past}
 use Rattle.ih_tables.specs.declared.drafts.Draft.{Draft}
 use Rattle.ih_tables.specs.declared.drafts.Patient.{Patient}
-use Rattle.ih_tables.specs.Sizes.{patient_count, person_count, surgeon_count, theatre_count, nurse_count, shift_count}
+use Rattle.ih_tables.specs.Sizes.{patient_count, person_count, surgeon_count, theatre_count}
 use Rattle.ih_tables.specs.Valid.{IsValid, IsPatient}
 use Rattle.ih_plan.specs.declared.moves.Placement.{Placement}
 use Rattle.ih_plan.specs.Timetable.{Timetable, stay_of}
 use Rattle.ih_plan.specs.Sums.{sum_below, bit}
-use Rattle.ih_plan.specs.Costs.{of_patient, delay, load_of}
-use Rattle.ih_plan.specs.BillOf.{missing_skill, nurses_seen, overloads, open_theatres, delays, optional_left_out}
+use Rattle.ih_plan.specs.Costs.{of_patient, delay}
+use Rattle.ih_plan.specs.BillOf.{open_theatres, delays, optional_left_out}
 use Rattle.ih_plan.proofs.SumBounds.{sum_below-add, sum_below-le_each}
 use Rattle.ih_plan.proofs.Overtime.{from-all}
 use Rattle.ih_bound.specs.declared.prices.Rates.{Rates}
 use Rattle.ih_bound.specs.Bounds.{IsFeasible}
-use Rattle.ih_bound.specs.Tariffs.{Tariff, income, worth, surgeon_income, theatre_income, bed_income, work_income}
+use Rattle.ih_bound.specs.Tariffs.{Tariff, income, worth, surgeon_income, theatre_income}
 use Rattle.ih_bound.specs.Paid.{surgery_paid, waiting_paid, stay_paid, care_paid, bed_paid, paid}
 use Rattle.ih_bound.proofs.SumLaws.{sum_below-term, sum_below-times, sum_below-past}
 use Rattle.ih_bound.proofs.ByPerson.{care-by_person}
@@ -41,9 +41,9 @@ module _ (I : Draft) (P : Timetable) (valid : IsValid I) (feasible : IsFeasible 
       let inside = feasible.plan.placed p at is in
       let known = (from-all (IsPatient I) I.patients p a valid.each_patient e).surgeon in
       let by_surgeon : surgeon_part I P valid feasible t a.surgeon_id.0 at.day.0 p ≡ t.surgeon a.surgeon_id.0 at.day.0 * a.surgery_duration =
-        rw (e, is, eq-eqb a.surgeon_id.0 a.surgeon_id.0 refl, eq-eqb at.day.0 at.day.0 refl) refl in
+      rw (e, is, eq-eqb a.surgeon_id.0 a.surgeon_id.0 refl, eq-eqb at.day.0 at.day.0 refl) refl in
       let in_theatre : theatre_part I P valid feasible t at.theatre.0 at.day.0 p ≡ t.theatre at.theatre.0 at.day.0 * a.surgery_duration =
-        rw (e, is, eq-eqb at.theatre.0 at.theatre.0 refl, eq-eqb at.day.0 at.day.0 refl) refl in
+      rw (e, is, eq-eqb at.theatre.0 at.theatre.0 refl, eq-eqb at.day.0 at.day.0 refl) refl in
       let one = sum_below-term (surgeon_count I) a.surgeon_id.0 (λ s. surgeon_part I P valid feasible t s at.day.0 p) known in
       let two = sum_below-term I.days at.day.0 (λ d. sum_below (surgeon_count I) (λ s. surgeon_part I P valid feasible t s d p)) inside.day in
       let three = sum_below-term (theatre_count I) at.theatre.0 (λ i. theatre_part I P valid feasible t i at.day.0 p) inside.theatre in

@@ -1,5 +1,5 @@
 -- Prices as functions, what they take in at most, and what a timetable's costs are worth.
-use Rattle.std.specs.Prelude.{◌≡◌, ◌≤◌, ℕ, ◌+◌, ◌-◌, ◌*◌, ◌^◌, min, Option, slice_index, List, unsigned_abs}
+use Rattle.std.specs.Prelude.{◌≡◌, ◌≤◌, ℕ, ◌+◌, ◌-◌, ◌*◌, ◌^◌, min, slice_index, List, unsigned_abs}
 use Rattle.ih_tables.specs.Bills.{at}
 use Rattle.std.specs.Option.{option_map_or}
 use Rattle.ih_tables.specs.declared.drafts.Draft.{Draft}

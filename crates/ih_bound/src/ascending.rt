@@ -37,6 +37,7 @@ pub struct Ascent {
 const WHOLE: u64 = 1 << 20;
 // Rounds without a better value after which steps get shorter.
 const PATIENCE: u32 = 12;
+
 const PARTS: u64 = 4096;
 
 // How long steps are, as a share of WHOLE, and since when no better value was found.
@@ -75,8 +76,12 @@ impl Tools {
         gap: u64,
         length: u64,
     ) -> bool {
-        self.directions.turn(inst, &self.demand, self.occupants.as_slice());
-        let mut size = self.directions.size(inst, rates, prices).saturating_mul(256);
+        self.directions
+            .turn(inst, &self.demand, self.occupants.as_slice());
+        let mut size = self
+            .directions
+            .size(inst, rates, prices)
+            .saturating_mul(256);
         if with_work {
             self.directions.turn_work(inst, rates, &self.demand, prices);
             size = size.saturating_add(self.directions.size_of_work() / 3);

@@ -30,7 +30,9 @@ fn with_weights(inst: &Instance, rates: &Rates, rounds: u32) -> Effort {
     Effort {
         rounds,
         plain: (rounds / 3).min(200),
-        target: (rates.left_out / 4).saturating_mul(patients).saturating_add(1000 * 4096),
+        target: (rates.left_out / 4)
+            .saturating_mul(patients)
+            .saturating_add(1000 * 4096),
         stop_above_0: false,
     }
 }

@@ -96,7 +96,11 @@ impl Demand {
             if k == held || price <= at(scratch.numbers.as_slice(), k as usize) {
                 put(scratch.served.as_mut_slice(), k as usize, 1);
                 let load = need_at(stay.load, k - stay.first);
-                add(self.work.as_mut_slice(), place(inst.shifts(), nurse.0, k), load as u64);
+                add(
+                    self.work.as_mut_slice(),
+                    place(inst.shifts(), nurse.0, k),
+                    load as u64,
+                );
             }
         }
     }
@@ -131,7 +135,15 @@ impl Demand {
         let days = inst.days();
         let minutes = q.surgery_duration;
         let t = cheapest_theatre(inst, prices, a, minutes);
-        add(self.surgeon.as_mut_slice(), place(days, q.surgeon_id.0, a), minutes as u64);
-        add(self.theatre.as_mut_slice(), place(days, t, a), minutes as u64);
+        add(
+            self.surgeon.as_mut_slice(),
+            place(days, q.surgeon_id.0, a),
+            minutes as u64,
+        );
+        add(
+            self.theatre.as_mut_slice(),
+            place(days, t, a),
+            minutes as u64,
+        );
     }
 }

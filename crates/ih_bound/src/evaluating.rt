@@ -28,7 +28,14 @@ fn least_of_all(
 {
     let mut sum: u64 = 0;
     for p in 0..inst.patients() {
-        sum = sum.saturating_add(least_of_patient(inst, rates, prices, PatientNo(p), scratch, demand));
+        sum = sum.saturating_add(least_of_patient(
+            inst,
+            rates,
+            prices,
+            PatientNo(p),
+            scratch,
+            demand,
+        ));
     }
     for o in 0..inst.occupants() {
         sum = sum.saturating_add(least_of_occupant(inst, rates, prices, o, scratch, demand));

@@ -57,7 +57,10 @@ fn income_of_surgeon(inst: &Instance, rates: &Rates, prices: &Prices, s: u32) ->
 fn surgeon_income(inst: &Instance, rates: &Rates, prices: &Prices) -> u64
     ensures { AtLeast (surgeon_income inst.now.draft (tariff_of inst.now.draft rates.now prices.now)) result }
 {
-    total(inst.surgeons(), |s| income_of_surgeon(inst, rates, prices, s))
+    total(
+        inst.surgeons(),
+        |s| income_of_surgeon(inst, rates, prices, s),
+    )
 }
 
 // At least what minutes come to at a price, above what it is worth to open a theatre.
@@ -86,7 +89,10 @@ fn income_of_theatre(inst: &Instance, rates: &Rates, prices: &Prices, t: u32) ->
 fn theatre_income(inst: &Instance, rates: &Rates, prices: &Prices) -> u64
     ensures { AtLeast (theatre_income inst.now.draft rates.now (tariff_of inst.now.draft rates.now prices.now)) result }
 {
-    total(inst.theatres(), |t| income_of_theatre(inst, rates, prices, t))
+    total(
+        inst.theatres(),
+        |t| income_of_theatre(inst, rates, prices, t),
+    )
 }
 
 fn load_limit(inst: &Instance, n: u32, k: u32) -> u64

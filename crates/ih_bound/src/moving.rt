@@ -52,12 +52,22 @@ fn direction_at(list: &[Direction], i: usize) -> Direction {
 }
 
 // Keeps so many parts of the old direction and adds so many times what is asked for above what there is.
-fn smooth(list: &mut [Direction], i: usize, asked: u64, supply: u64, keep: u64, of: u64, times: u64) {
+fn smooth(
+    list: &mut [Direction],
+    i: usize,
+    asked: u64,
+    supply: u64,
+    keep: u64,
+    of: u64,
+    times: u64,
+) {
     let old = direction_at(list, i);
-    let up = (old.up.saturating_mul(keep) / of.max(1))
-        .saturating_add(asked.saturating_sub(supply).saturating_mul(times));
-    let down = (old.down.saturating_mul(keep) / of.max(1))
-        .saturating_add(supply.saturating_sub(asked).saturating_mul(times));
+    let up = (old.up.saturating_mul(keep) / of.max(1)).saturating_add(
+        asked.saturating_sub(supply).saturating_mul(times),
+    );
+    let down = (old.down.saturating_mul(keep) / of.max(1)).saturating_add(
+        supply.saturating_sub(asked).saturating_mul(times),
+    );
     let both = up.min(down);
     if let Some(x) = list.get_mut(i) {
         *x = Direction {
@@ -79,7 +89,11 @@ fn square(x: Direction, price: u64, low: u64, high: u64) -> u64 {
 fn moved(price: u64, x: Direction, step: Step, low: u64, high: u64) -> u64 {
     let up = x.up.saturating_mul(step.by) / step.of.max(1);
     let down = x.down.saturating_mul(step.by) / step.of.max(1);
-    price.saturating_add(up).min(high).saturating_sub(down).max(low)
+    price
+        .saturating_add(up)
+        .min(high)
+        .saturating_sub(down)
+        .max(low)
 }
 
 // How many persons all rooms are for.
@@ -97,7 +111,11 @@ fn opening(inst: &Instance, rates: &Rates, t: u32, d: u32) -> u64 {
         return 0;
     }
     let minutes = limit_of(inst, Resource::OfTheatre(TheatreNo(t)), d);
-    if minutes == 0 { 0 } else { rates.theatre / minutes }
+    if minutes == 0 {
+        0
+    } else {
+        rates.theatre / minutes
+    }
 }
 
 /// Prices to begin with: only theatres have one, by what it is worth to open them.
@@ -105,7 +123,11 @@ pub fn begin(inst: &Instance, rates: &Rates, prices: &mut Prices) {
     for t in 0..inst.theatres() {
         for d in 0..inst.days() {
             let price = opening(inst, rates, t, d);
-            put(prices.theatre.as_mut_slice(), place(inst.days(), t, d), price);
+            put(
+                prices.theatre.as_mut_slice(),
+                place(inst.days(), t, d),
+                price,
+            );
         }
     }
 }
@@ -145,14 +167,24 @@ impl Directions {
             supply = supply.saturating_add(limit_of(inst, Resource::OfTheatre(TheatreNo(t)), d));
         }
         let list = self.theatre.as_mut_slice();
-        smooth(list, d as usize, asked / MINUTES, supply / MINUTES, 3, 4, 16);
+        smooth(
+            list,
+            d as usize,
+            asked / MINUTES,
+            supply / MINUTES,
+            3,
+            4,
+            16,
+        );
     }
 
     /// Turns those of beds and minutes by the demand of a round.
     pub fn turn(&mut self, inst: &Instance, demand: &Demand, persons: &[u64]) {
         let beds = beds(inst);
         for d in 0..inst.days() {
-            let asked = at(demand.bed.as_slice(), d as usize).saturating_add(at(persons, d as usize));
+            let asked = at(demand.bed.as_slice(), d as usize).saturating_add(at(
+                persons, d as usize,
+            ));
             smooth(self.bed.as_mut_slice(), d as usize, asked, beds, 3, 4, 16);
             self.turn_theatres(inst, demand, d);
             for s in 0..inst.surgeons() {

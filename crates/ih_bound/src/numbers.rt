@@ -81,7 +81,11 @@ fn take_slack(working: &[NurseNo], row: usize, old: u64, new: u64, scratch: &mut
     let mut i = row;
     for n in working {
         let cost = at(scratch.costs.as_slice(), i).max(old);
-        lower(scratch.slack.as_mut_slice(), n.0 as usize, new.saturating_sub(cost));
+        lower(
+            scratch.slack.as_mut_slice(),
+            n.0 as usize,
+            new.saturating_sub(cost),
+        );
         i = i.wrapping_add(1);
     }
 }
@@ -118,7 +122,11 @@ pub fn choose_numbers(
         begin_shift(inst, rates, prices, stay, k, scratch);
     }
     for pass in 0..PASSES + 1 {
-        let limit = if pass == PASSES { u64::MAX } else { rates.nurse / PASSES };
+        let limit = if pass == PASSES {
+            u64::MAX
+        } else {
+            rates.nurse / PASSES
+        };
         for k in stay.first..stay.last {
             raise(inst, stay, k, limit, scratch);
         }

@@ -106,13 +106,7 @@ fn window_end(inst: &Instance, p: PatientNo) -> u32
 }
 
 // What a stay of so many days from a day on asks for.
-fn stay_from<'a>(
-    inst: &Instance,
-    skill: &'a [u32],
-    load: &'a [u32],
-    a: u32,
-    len: u32,
-) -> Stay<'a>
+fn stay_from<'a>(inst: &Instance, skill: &'a [u32], load: &'a [u32], a: u32, len: u32) -> Stay<'a>
     requires { a < inst.now.draft.days }
     ensures lists { (result.skill.now ≡ skill.now) × (result.load.now ≡ load.now) }
     ensures first { result.first ≡ 3 * a }

@@ -1,4 +1,4 @@
-use Rattle.std.proofs.Common.{◌≡◌, ◌≤◌, arith}
+use Rattle.std.proofs.Common.{arith}
 use Rattle.ih_bound.proofs.ascending.ascend.Goals as goal
 use Rattle.ih_bound.proofs.ascending.ascend.Goals.{then-value-best, else-value-best}
 

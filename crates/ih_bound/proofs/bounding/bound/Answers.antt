@@ -1,5 +1,4 @@
-use Rattle.std.proofs.Common.{◌≡◌, ◌≤◌, ◌<◌, ◌+◌, ◌*◌, arith}
-use Rattle.std.specs.Int.{div_ceil}
+use Rattle.std.proofs.Common.{◌≤◌, ◌+◌, ◌*◌, arith}
 use Rattle.ih_bound.proofs.CostWorth.{worth-cost, worth-none}
 use Rattle.ih_bound.proofs.bounding.bound.Goals as goal
 

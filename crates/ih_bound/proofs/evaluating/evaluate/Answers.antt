@@ -1,4 +1,4 @@
-use Rattle.std.proofs.Common.{◌≡◌, ◌≤◌, arith}
+use Rattle.std.proofs.Common.{arith}
 use Rattle.ih_bound.specs.Tariffs.{tariff_of}
 use Rattle.ih_bound.proofs.Totals.{weak-duality}
 use Rattle.ih_bound.proofs.evaluating.evaluate.Goals as goal

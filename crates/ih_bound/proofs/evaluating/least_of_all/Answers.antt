@@ -1,4 +1,4 @@
-use Rattle.std.proofs.Common.{◌≡◌, ◌≤◌, ◌+◌, arith}
+use Rattle.std.proofs.Common.{◌≡◌, ◌+◌, arith}
 use Rattle.ih_tables.specs.Sizes.{patient_count, person_count}
 use Rattle.ih_plan.proofs.SumLemmas.{sum_below-more}
 use Rattle.ih_bound.specs.Tariffs.{tariff_of}

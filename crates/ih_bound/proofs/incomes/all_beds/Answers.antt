@@ -1,4 +1,4 @@
-use Rattle.std.proofs.Common.{◌≡◌, ◌≤◌, ◌+◌, arith, refl, sym}
+use Rattle.std.proofs.Common.{◌≡◌, ◌≤◌, arith, refl, sym}
 use Rattle.ih_plan.specs.Costs.{capacity_of}
 use Rattle.ih_plan.proofs.SumLemmas.{sum_below-zero, sum_below-more}
 use Rattle.ih_plan.proofs.Overtime.{from-all}

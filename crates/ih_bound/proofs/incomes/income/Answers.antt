@@ -1,4 +1,4 @@
-use Rattle.std.proofs.Common.{◌≤◌, arith}
+use Rattle.std.proofs.Common.{arith}
 use Rattle.ih_bound.specs.Tariffs.{income}
 use Rattle.ih_bound.proofs.incomes.income.Goals as goal
 

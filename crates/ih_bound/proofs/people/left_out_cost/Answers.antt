@@ -1,4 +1,4 @@
-use Rattle.std.proofs.Common.{◌≡◌, ◌≤◌, arith}
+use Rattle.std.proofs.Common.{arith}
 use Rattle.ih_bound.proofs.LeastPaid.{mandatory-stays, paid-left_out}
 use Rattle.ih_bound.proofs.people.left_out_cost.Goals as goal
 

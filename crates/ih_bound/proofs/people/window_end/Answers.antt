@@ -1,4 +1,4 @@
-use Rattle.std.proofs.Common.{◌≡◌, ◌≤◌, ◌<◌, arith}
+use Rattle.std.proofs.Common.{arith}
 use Rattle.ih_bound.proofs.LeastPaid.{until-due}
 use Rattle.ih_bound.proofs.people.window_end.Goals as goal
 

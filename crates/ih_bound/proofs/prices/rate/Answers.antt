@@ -1,4 +1,4 @@
-use Rattle.std.proofs.Common.{◌≡◌, ◌≤◌, arith}
+use Rattle.std.proofs.Common.{arith}
 use Rattle.ih_bound.proofs.CostWorth.{weight-most}
 use Rattle.ih_bound.proofs.prices.rate.Goals as goal
 

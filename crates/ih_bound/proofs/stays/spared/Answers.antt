@@ -1,6 +1,5 @@
-use Rattle.std.proofs.Common.{◌≡◌, ℕ, ◌+◌, ◌≤◌, arith, sym, ◌∙◌}
+use Rattle.std.proofs.Common.{◌≡◌, arith}
 use Rattle.ih_tables.specs.Sizes.{shift_count}
-use Rattle.ih_plan.specs.Sums.{sum_below}
 use Rattle.ih_plan.proofs.SumLemmas.{sum_below-more}
 use Rattle.ih_bound.specs.Tariffs.{tariff_of}
 use Rattle.ih_bound.specs.Stays.{asked, spared_in}

@@ -1,6 +1,5 @@
-use Rattle.std.proofs.Common.{◌≡◌, ℕ, ◌+◌, ◌≤◌, arith, sym, ◌∙◌}
+use Rattle.std.proofs.Common.{◌≡◌, arith, sym}
 use Rattle.ih_tables.specs.Sizes.{shift_count}
-use Rattle.ih_plan.specs.Sums.{sum_below}
 use Rattle.ih_plan.proofs.SumLemmas.{sum_below-more}
 use Rattle.ih_bound.specs.Stays.{asked, number_at}
 use Rattle.ih_bound.proofs.StayCare.{outside-none, none-before, none-behind, inside-number}
