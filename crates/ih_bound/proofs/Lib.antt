@@ -1,0 +1,9 @@
+pub mod SumLaws
+pub mod RulesKept
+pub mod CareDuality
+pub mod ByPerson
+pub mod IncomeLemmas
+pub mod Totals
+pub mod CostWorth
+pub mod StayCare
+pub mod LeastPaid

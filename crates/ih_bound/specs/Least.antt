@@ -1,0 +1,39 @@
+-- What a person pays at least, in each feasible timetable.
+use Rattle.std.specs.Prelude.{◌≡◌, ◌<◌, ◌≤◌, ℕ, ◌+◌, Some, if◌then◌else◌}
+use Rattle.ih_tables.specs.declared.drafts.Draft.{Draft}
+use Rattle.ih_plan.specs.declared.moves.Placement.{Placement}
+use Rattle.ih_plan.specs.Timetable.{Timetable, stay_of}
+use Rattle.ih_plan.specs.Sums.{sum_below}
+use Rattle.ih_plan.specs.Presence.{covers}
+use Rattle.ih_bound.specs.declared.prices.Rates.{Rates}
+use Rattle.ih_bound.specs.Bounds.{IsFeasible}
+use Rattle.ih_bound.specs.Tariffs.{Tariff}
+use Rattle.ih_bound.specs.Paid.{care_paid, paid}
+
+-- person x pays at least so much
+abbrev pub BoundsPerson : Draft → Rates → Tariff → ℕ → ℕ → Type 0
+BoundsPerson I rates t x least = (P : Timetable) → IsFeasible I P → least ≤ paid I rates t P x
+
+-- the same where patient p is admitted on a day that passes
+abbrev pub BoundsAdmitted : Draft → Rates → Tariff → ℕ → (ℕ → Type 0) → ℕ → Type 0
+BoundsAdmitted I rates t p on least =
+    (P : Timetable) (at : Placement) → IsFeasible I P → stay_of P p ≡ Some at → on at.day.0 → least ≤ paid I rates t P p
+
+-- what beds cost for n days from day a on
+abbrev pub bed_cost : Draft → Tariff → ℕ → ℕ → ℕ
+bed_cost I t a n = sum_below I.days (λ d. if covers a n d then t.bed d else 0)
+
+-- patient p pays so much besides care where it is admitted on day a
+abbrev pub BoundsBase : Draft → Rates → Tariff → ℕ → ℕ → ℕ → Type 0
+BoundsBase I rates t p a least =
+    (P : Timetable) (at : Placement) → IsFeasible I P → stay_of P p ≡ Some at → at.day.0 ≡ a
+    → least + care_paid I rates t P p ≤ paid I rates t P p
+
+-- a day before another
+abbrev pub IsBefore : ℕ → ℕ → Type 0
+IsBefore end d = d < end
+
+-- patient p pays so much for care where it is admitted on day a
+abbrev pub BoundsCareFrom : Draft → Rates → Tariff → ℕ → ℕ → ℕ → Type 0
+BoundsCareFrom I rates t p a least =
+    (P : Timetable) (at : Placement) → IsFeasible I P → stay_of P p ≡ Some at → at.day.0 ≡ a → least ≤ care_paid I rates t P p

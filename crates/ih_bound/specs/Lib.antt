@@ -1,0 +1,5 @@
+pub mod Bounds
+pub mod Tariffs
+pub mod Paid
+pub mod Stays
+pub mod Least

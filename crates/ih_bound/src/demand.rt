@@ -1,0 +1,149 @@
+//! What is asked for at prices, by the cheapest choice of each person: by it prices move. Nothing rests on it.
+
+ghost use Rattle.std.specs.Prelude.{◌≡◌, ◌<◌, ◌≤◌};
+ghost use Rattle.ih_tables.specs.Sizes.{patient_count, shift_count};
+
+use crate::numbers::{choose_numbers, put};
+use crate::prices::{Prices, Rates, at, place};
+use crate::scratch::{Scratch, zeros};
+use crate::stays::{Stay, care_price, need_at};
+use ih_plan::end_from;
+use ih_tables::{Instance, NurseNo, Patient, PatientNo, Shift, TheatreNo};
+use ih_validate::{Resource, limit_of};
+use std::alloc::{AllocError, Global};
+
+/// Amounts that are asked for, in lists like those of prices.
+#[derive(Drop)]
+pub struct Demand {
+    pub bed: Vec<u64>,
+    pub surgeon: Vec<u64>,
+    pub theatre: Vec<u64>,
+    pub work: Vec<u64>,
+}
+
+fn clear(list: &mut [u64]) {
+    for x in list.iter_mut() {
+        *x = 0;
+    }
+}
+
+#[inline(always)]
+fn add(list: &mut [u64], i: usize, by: u64) {
+    if let Some(x) = list.get_mut(i) {
+        *x = x.saturating_add(by);
+    }
+}
+
+// The theatre with the cheapest minute on a day, of those that are available for so long.
+fn cheapest_theatre(inst: &Instance, prices: &Prices, d: u32, minutes: u32) -> u32 {
+    let mut least = u64::MAX;
+    let mut best = 0;
+    for t in 0..inst.theatres() {
+        if limit_of(inst, Resource::OfTheatre(TheatreNo(t)), d) >= minutes as u64 {
+            let price = prices.theatre_on(inst.days(), t, d);
+            if price < least {
+                least = price;
+                best = t;
+            }
+        }
+    }
+    best
+}
+
+impl Demand {
+    /// Nothing is asked for.
+    pub fn new(alloc: Global, inst: &Instance) -> Result<Demand, AllocError> {
+        let days = inst.days() as usize;
+        let shifts = inst.shifts() as usize;
+        Ok(Demand {
+            bed: zeros(alloc, days)?,
+            surgeon: zeros(alloc, days * inst.surgeons() as usize)?,
+            theatre: zeros(alloc, days * inst.theatres() as usize)?,
+            work: zeros(alloc, shifts * inst.nurses() as usize)?,
+        })
+    }
+
+    /// The same again.
+    pub fn clear(&mut self) {
+        clear(self.bed.as_mut_slice());
+        clear(self.surgeon.as_mut_slice());
+        clear(self.theatre.as_mut_slice());
+        clear(self.work.as_mut_slice());
+    }
+
+    // Lets a nurse serve the shift that it holds, and what else of the stay it may at no more than its number.
+    fn serve(
+        &mut self,
+        inst: &Instance,
+        rates: &Rates,
+        prices: &Prices,
+        stay: &Stay<'_>,
+        held: u32,
+        scratch: &mut Scratch,
+    )
+        requires horizon { stay.now.last ≤ shift_count inst.now.draft }
+    {
+        let n = at(scratch.holders.as_slice(), held as usize);
+        for k in stay.first..stay.last {
+            if n >= inst.nurses() as u64 || at(scratch.served.as_slice(), k as usize) == 1 {
+                continue;
+            }
+            let nurse = NurseNo(n as u32);
+            if inst.works(nurse, Shift(k)).is_none() {
+                continue;
+            }
+            let price = care_price(inst, rates, prices, stay, nurse, k);
+            if k == held || price <= at(scratch.numbers.as_slice(), k as usize) {
+                put(scratch.served.as_mut_slice(), k as usize, 1);
+                let load = need_at(stay.load, k - stay.first);
+                add(
+                    self.work.as_mut_slice(),
+                    place(inst.shifts(), nurse.0, k),
+                    load as u64,
+                );
+            }
+        }
+    }
+
+    /// Adds the workload of a stay, by the nurses who hold its numbers.
+    pub fn add_care(
+        &mut self,
+        inst: &Instance,
+        rates: &Rates,
+        prices: &Prices,
+        stay: &Stay<'_>,
+        scratch: &mut Scratch,
+    )
+        requires order { stay.now.first ≤ stay.now.last }
+        requires horizon { stay.now.last ≤ shift_count inst.now.draft }
+    {
+        choose_numbers(inst, rates, prices, stay, scratch);
+        clear(scratch.served.as_mut_slice());
+        for i in stay.first..stay.last {
+            let held = stay.last - 1 - (i - stay.first);
+            if at(scratch.served.as_slice(), held as usize) == 0 {
+                self.serve(inst, rates, prices, stay, held, scratch);
+            }
+        }
+    }
+
+    /// Adds the bed and the minutes of a patient who is admitted on a day.
+    pub fn add_stay(&mut self, inst: &Instance, prices: &Prices, q: &Patient, a: u32) {
+        for d in a..end_from(inst, a, q.length_of_stay) {
+            add(self.bed.as_mut_slice(), d as usize, 1);
+        }
+        let days = inst.days();
+        let minutes = q.surgery_duration;
+        let t = cheapest_theatre(inst, prices, a, minutes);
+        add(
+            self.surgeon.as_mut_slice(),
+            place(days, q.surgeon_id.0, a),
+            minutes as u64,
+        );
+        add(
+            self.theatre.as_mut_slice(),
+            place(days, t, a),
+            minutes as u64,
+        );
+    }
+}

@@ -1,0 +1,137 @@
+//! What all beds, minutes and workloads that there are come to at prices.
+
+ghost use Rattle.std.specs.Prelude.{◌≡◌, ◌<◌, ◌≤◌, ◌-◌, ◌*◌, ℕ};
+ghost use Rattle.ih_tables.specs.Sizes.{surgeon_count, theatre_count, nurse_count, shift_count};
+ghost use Rattle.ih_plan.specs.Sums.{sum_below};
+ghost use Rattle.ih_plan.specs.Costs.{surgeon_maximum, theatre_availability};
+ghost use Rattle.ih_bound.specs.Tariffs.{AtLeast, tariff_of, all_beds, load_limit, income, bed_income, surgeon_income};
+ghost use Rattle.ih_bound.specs.Tariffs.{theatre_income, work_income};
+
+use crate::prices::{Prices, Rates};
+use ih_tables::{Instance, NurseNo, RoomNo, Shift, SurgeonNo, TheatreNo};
+use ih_validate::{Resource, limit_of};
+
+// At least the sum of what each number below the count gives at least.
+fn total<F: Fn(u32) -> u64>(count: u32, each: F) -> u64
+    requires { (i : ℕ) → i < count → F.pre each i }
+    ensures { (f : ℕ → ℕ) → ((i x : ℕ) → i < count → F.post each i x → AtLeast (f i) x) → AtLeast (sum_below count f) result }
+{
+    let mut sum: u64 = 0;
+    for i in 0..count {
+        sum = sum.saturating_add(each(i));
+    }
+    sum
+}
+
+// How many persons all rooms are for.
+fn all_beds(inst: &Instance) -> u64
+    ensures { result ≡ all_beds inst.now.draft }
+{
+    let mut sum = 0;
+    for r in 0..inst.rooms() {
+        sum += inst.room(RoomNo(r)).capacity as u64;
+    }
+    sum
+}
+
+fn bed_income(inst: &Instance, rates: &Rates, prices: &Prices) -> u64
+    ensures { AtLeast (bed_income inst.now.draft (tariff_of inst.now.draft rates.now prices.now)) result }
+{
+    let beds = all_beds(inst);
+    total(inst.days(), |d| prices.bed_on(d).saturating_mul(beds))
+}
+
+// Of one surgeon.
+fn income_of_surgeon(inst: &Instance, rates: &Rates, prices: &Prices, s: u32) -> u64
+    requires { s < surgeon_count inst.now.draft }
+    ensures { AtLeast (sum_below inst.now.draft.days (λ d.
+        (tariff_of inst.now.draft rates.now prices.now).surgeon s d * surgeon_maximum inst.now.draft s d)) result }
+{
+    let days = inst.days();
+    total(days, |d| {
+        let minutes = limit_of(inst, Resource::OfSurgeon(SurgeonNo(s)), d);
+        prices.surgeon_on(days, s, d).saturating_mul(minutes)
+    })
+}
+
+fn surgeon_income(inst: &Instance, rates: &Rates, prices: &Prices) -> u64
+    ensures { AtLeast (surgeon_income inst.now.draft (tariff_of inst.now.draft rates.now prices.now)) result }
+{
+    total(
+        inst.surgeons(),
+        |s| income_of_surgeon(inst, rates, prices, s),
+    )
+}
+
+// At least what minutes come to at a price, above what it is worth to open a theatre.
+fn above_opening(price: u64, minutes: u64, opening: u64) -> u64
+    ensures { AtLeast (price * minutes - opening) result }
+{
+    match price.checked_mul(minutes) {
+        Some(product) => product.saturating_sub(opening),
+        None => u64::MAX,
+    }
+}
+
+// Of one theatre, above what it is worth to open it.
+fn income_of_theatre(inst: &Instance, rates: &Rates, prices: &Prices, t: u32) -> u64
+    requires { t < theatre_count inst.now.draft }
+    ensures { AtLeast (sum_below inst.now.draft.days (λ d. (tariff_of inst.now.draft rates.now prices.now).theatre t d
+        * theatre_availability inst.now.draft t d - rates.now.theatre)) result }
+{
+    let days = inst.days();
+    total(days, |d| {
+        let minutes = limit_of(inst, Resource::OfTheatre(TheatreNo(t)), d);
+        above_opening(prices.theatre_on(days, t, d), minutes, rates.theatre)
+    })
+}
+
+fn theatre_income(inst: &Instance, rates: &Rates, prices: &Prices) -> u64
+    ensures { AtLeast (theatre_income inst.now.draft rates.now (tariff_of inst.now.draft rates.now prices.now)) result }
+{
+    total(
+        inst.theatres(),
+        |t| income_of_theatre(inst, rates, prices, t),
+    )
+}
+
+fn load_limit(inst: &Instance, n: u32, k: u32) -> u64
+    requires nurse { n < nurse_count inst.now.draft }
+    requires shift { k < shift_count inst.now.draft }
+    ensures { result ≡ load_limit inst.now.draft n k }
+{
+    match inst.works(NurseNo(n), Shift(k)) {
+        None => 0,
+        Some(most) => most as u64,
+    }
+}
+
+// Of one nurse.
+fn income_of_nurse(inst: &Instance, rates: &Rates, prices: &Prices, n: u32) -> u64
+    requires { n < nurse_count inst.now.draft }
+    ensures { AtLeast (sum_below (shift_count inst.now.draft) (λ k.
+        (tariff_of inst.now.draft rates.now prices.now).work n k * load_limit inst.now.draft n k)) result }
+{
+    let shifts = inst.shifts();
+    total(shifts, |k| {
+        prices
+            .work_in(rates, shifts, n, k)
+            .saturating_mul(load_limit(inst, n, k))
+    })
+}
+
+fn work_income(inst: &Instance, rates: &Rates, prices: &Prices) -> u64
+    ensures { AtLeast (work_income inst.now.draft (tariff_of inst.now.draft rates.now prices.now)) result }
+{
+    total(inst.nurses(), |n| income_of_nurse(inst, rates, prices, n))
+}
+
+/// At least what they come to, or the greatest number.
+pub fn income(inst: &Instance, rates: &Rates, prices: &Prices) -> u64
+    ensures { AtLeast (income inst.now.draft rates.now (tariff_of inst.now.draft rates.now prices.now)) result }
+{
+    bed_income(inst, rates, prices)
+        .saturating_add(surgeon_income(inst, rates, prices))
+        .saturating_add(theatre_income(inst, rates, prices))
+        .saturating_add(work_income(inst, rates, prices))
+}

@@ -1,0 +1,299 @@
+//! How prices move from round to round: towards what is asked for more than there is. Nothing rests on it.
+
+use crate::demand::Demand;
+use crate::numbers::put;
+use crate::prices::{MOST_FOR_BED, MOST_FOR_MINUTE, Prices, Rates, at, place};
+use crate::scratch::zeros;
+use ih_tables::{Instance, NurseNo, RoomNo, Shift, SurgeonNo, TheatreNo};
+use ih_validate::{Resource, limit_of};
+use std::alloc::{AllocError, Global};
+
+// Minutes are counted in this unit where directions are compared.
+const MINUTES: u64 = 60;
+
+/// By how much each price wants to move: up or down, in parts of what is asked for too much or too little.
+#[derive(Clone, Copy)]
+pub struct Direction {
+    pub up: u64,
+    pub down: u64,
+}
+
+/// How far prices move in a round: a direction times `by`, over `of`.
+#[derive(Clone, Copy)]
+pub struct Step {
+    pub by: u64,
+    pub of: u64,
+}
+
+/// The directions of the last rounds, smoothed, in lists like those of prices; a theatre's by day alone.
+#[derive(Drop)]
+pub struct Directions {
+    bed: Vec<Direction>,
+    surgeon: Vec<Direction>,
+    theatre: Vec<Direction>,
+    work: Vec<Direction>,
+}
+
+const STILL: Direction = Direction { up: 0, down: 0 };
+
+fn stills(alloc: Global, count: usize) -> Result<Vec<Direction>, AllocError> {
+    let mut list = Vec::new(alloc);
+    for _ in 0..count {
+        list.push(STILL)?;
+    }
+    Ok(list)
+}
+
+fn direction_at(list: &[Direction], i: usize) -> Direction {
+    match list.get(i) {
+        Some(x) => *x,
+        None => STILL,
+    }
+}
+
+// Keeps so many parts of the old direction and adds so many times what is asked for above what there is.
+fn smooth(
+    list: &mut [Direction],
+    i: usize,
+    asked: u64,
+    supply: u64,
+    keep: u64,
+    of: u64,
+    times: u64,
+) {
+    let old = direction_at(list, i);
+    let up = (old.up.saturating_mul(keep) / of.max(1)).saturating_add(
+        asked.saturating_sub(supply).saturating_mul(times),
+    );
+    let down = (old.down.saturating_mul(keep) / of.max(1)).saturating_add(
+        supply.saturating_sub(asked).saturating_mul(times),
+    );
+    let both = up.min(down);
+    if let Some(x) = list.get_mut(i) {
+        *x = Direction {
+            up: up.saturating_sub(both),
+            down: down.saturating_sub(both),
+        };
+    }
+}
+
+// The square of a direction, and 0 where the price can't move further.
+fn square(x: Direction, price: u64, low: u64, high: u64) -> u64 {
+    if (price <= low && x.down > 0) || (price >= high && x.up > 0) {
+        return 0;
+    }
+    let size = x.up.max(x.down);
+    size.saturating_mul(size)
+}
+
+fn moved(price: u64, x: Direction, step: Step, low: u64, high: u64) -> u64 {
+    let up = x.up.saturating_mul(step.by) / step.of.max(1);
+    let down = x.down.saturating_mul(step.by) / step.of.max(1);
+    price
+        .saturating_add(up)
+        .min(high)
+        .saturating_sub(down)
+        .max(low)
+}
+
+// How many persons all rooms are for.
+fn beds(inst: &Instance) -> u64 {
+    let mut sum: u64 = 0;
+    for r in 0..inst.rooms() {
+        sum = sum.saturating_add(inst.room(RoomNo(r)).capacity as u64);
+    }
+    sum
+}
+
+// What it is worth to open a theatre, by minute of a day.
+fn opening(inst: &Instance, rates: &Rates, t: u32, d: u32) -> u64 {
+    if t >= inst.theatres() {
+        return 0;
+    }
+    let minutes = limit_of(inst, Resource::OfTheatre(TheatreNo(t)), d);
+    if minutes == 0 {
+        0
+    } else {
+        rates.theatre / minutes
+    }
+}
+
+/// Prices to begin with: only theatres have one, by what it is worth to open them.
+pub fn begin(inst: &Instance, rates: &Rates, prices: &mut Prices) {
+    for t in 0..inst.theatres() {
+        for d in 0..inst.days() {
+            let price = opening(inst, rates, t, d);
+            put(
+                prices.theatre.as_mut_slice(),
+                place(inst.days(), t, d),
+                price,
+            );
+        }
+    }
+}
+
+/// Makes prices the same as others.
+pub fn copy(from: &Prices, to: &mut Prices) {
+    copy_list(from.bed.as_slice(), to.bed.as_mut_slice());
+    copy_list(from.surgeon.as_slice(), to.surgeon.as_mut_slice());
+    copy_list(from.theatre.as_slice(), to.theatre.as_mut_slice());
+    copy_list(from.work.as_slice(), to.work.as_mut_slice());
+}
+
+fn copy_list(from: &[u64], to: &mut [u64]) {
+    for i in 0..from.len() {
+        put(to, i, from[i]);
+    }
+}
+
+impl Directions {
+    /// None moves.
+    pub fn new(alloc: Global, inst: &Instance) -> Result<Directions, AllocError> {
+        let days = inst.days() as usize;
+        Ok(Directions {
+            bed: stills(alloc, days)?,
+            surgeon: stills(alloc, days * inst.surgeons() as usize)?,
+            theatre: stills(alloc, days)?,
+            work: stills(alloc, inst.shifts() as usize * inst.nurses() as usize)?,
+        })
+    }
+
+    // The minutes of all theatres on a day: asked for, and available.
+    fn turn_theatres(&mut self, inst: &Instance, demand: &Demand, d: u32) {
+        let mut asked: u64 = 0;
+        let mut supply: u64 = 0;
+        for t in 0..inst.theatres() {
+            asked = asked.saturating_add(at(demand.theatre.as_slice(), place(inst.days(), t, d)));
+            supply = supply.saturating_add(limit_of(inst, Resource::OfTheatre(TheatreNo(t)), d));
+        }
+        let list = self.theatre.as_mut_slice();
+        smooth(
+            list,
+            d as usize,
+            asked / MINUTES,
+            supply / MINUTES,
+            3,
+            4,
+            16,
+        );
+    }
+
+    /// Turns those of beds and minutes by the demand of a round.
+    pub fn turn(&mut self, inst: &Instance, demand: &Demand, persons: &[u64]) {
+        let beds = beds(inst);
+        for d in 0..inst.days() {
+            let asked = at(demand.bed.as_slice(), d as usize).saturating_add(at(
+                persons, d as usize,
+            ));
+            smooth(self.bed.as_mut_slice(), d as usize, asked, beds, 3, 4, 16);
+            self.turn_theatres(inst, demand, d);
+            for s in 0..inst.surgeons() {
+                let i = place(inst.days(), s, d);
+                let asked = at(demand.surgeon.as_slice(), i);
+                let supply = limit_of(inst, Resource::OfSurgeon(SurgeonNo(s)), d);
+                let list = self.surgeon.as_mut_slice();
+                smooth(list, i, asked / MINUTES, supply / MINUTES, 3, 4, 16);
+            }
+        }
+    }
+
+    /// Turns those of workload.
+    pub fn turn_work(&mut self, inst: &Instance, rates: &Rates, demand: &Demand, prices: &Prices) {
+        for n in 0..inst.nurses() {
+            for k in 0..inst.shifts() {
+                let most = match inst.works(NurseNo(n), Shift(k)) {
+                    Some(most) => most as u64,
+                    None => continue,
+                };
+                let i = place(inst.shifts(), n, k);
+                let asked = at(demand.work.as_slice(), i);
+                let price = at(prices.work.as_slice(), i);
+                let stuck = (price == 0 && asked < most) || (price >= rates.load && asked > most);
+                let supply = if stuck { asked } else { most };
+                smooth(self.work.as_mut_slice(), i, asked, supply, 15, 16, 16);
+            }
+        }
+    }
+
+    /// The squares of those of beds and minutes, summed.
+    pub fn size(&self, inst: &Instance, rates: &Rates, prices: &Prices) -> u64 {
+        let mut sum: u64 = 0;
+        for d in 0..inst.days() {
+            let i = d as usize;
+            let bed = direction_at(self.bed.as_slice(), i);
+            sum = sum.saturating_add(square(bed, at(prices.bed.as_slice(), i), 0, MOST_FOR_BED));
+            let theatre = direction_at(self.theatre.as_slice(), i);
+            let low = opening(inst, rates, 0, d);
+            let price = at(prices.theatre.as_slice(), i);
+            sum = sum.saturating_add(square(theatre, price, low, MOST_FOR_MINUTE));
+            for s in 0..inst.surgeons() {
+                let i = place(inst.days(), s, d);
+                let surgeon = direction_at(self.surgeon.as_slice(), i);
+                let price = at(prices.surgeon.as_slice(), i);
+                sum = sum.saturating_add(square(surgeon, price, 0, MOST_FOR_MINUTE));
+            }
+        }
+        sum
+    }
+
+    /// The squares of those of workload, summed.
+    pub fn size_of_work(&self) -> u64 {
+        let mut sum: u64 = 0;
+        for x in self.work.as_slice() {
+            let size = x.up.max(x.down);
+            sum = sum.saturating_add(size.saturating_mul(size));
+        }
+        sum
+    }
+
+    /// Moves the prices of beds and minutes.
+    pub fn step(&self, inst: &Instance, rates: &Rates, prices: &mut Prices, step: Step) {
+        let by_minute = Step {
+            by: step.by,
+            of: step.of.saturating_mul(MINUTES),
+        };
+        for d in 0..inst.days() {
+            let i = d as usize;
+            let bed = direction_at(self.bed.as_slice(), i);
+            let price = moved(at(prices.bed.as_slice(), i), bed, step, 0, MOST_FOR_BED);
+            put(prices.bed.as_mut_slice(), i, price);
+            let theatre = direction_at(self.theatre.as_slice(), i);
+            for t in 0..inst.theatres() {
+                let i = place(inst.days(), t, d);
+                let low = opening(inst, rates, t, d);
+                let old = at(prices.theatre.as_slice(), i);
+                let price = moved(old, theatre, by_minute, low, MOST_FOR_MINUTE);
+                put(prices.theatre.as_mut_slice(), i, price);
+            }
+            for s in 0..inst.surgeons() {
+                let i = place(inst.days(), s, d);
+                let surgeon = direction_at(self.surgeon.as_slice(), i);
+                let old = at(prices.surgeon.as_slice(), i);
+                let price = moved(old, surgeon, by_minute, 0, MOST_FOR_MINUTE);
+                put(prices.surgeon.as_mut_slice(), i, price);
+            }
+        }
+    }
+
+    /// Moves the prices of workload.
+    pub fn step_work(&self, rates: &Rates, prices: &mut Prices, step: Step) {
+        for i in 0..self.work.len() {
+            let work = direction_at(self.work.as_slice(), i);
+            let price = moved(at(prices.work.as_slice(), i), work, step, 0, rates.load);
+            put(prices.work.as_mut_slice(), i, price);
+        }
+    }
+}
+
+/// The occupants who are there, by day.
+pub fn occupants_by_day(alloc: Global, inst: &Instance) -> Result<Vec<u64>, AllocError> {
+    let mut list = zeros(alloc, inst.days() as usize)?;
+    for o in 0..inst.occupants() {
+        let stay = inst.occupant(o).length_of_stay;
+        for d in 0..inst.days().min(stay) {
+            let there = at(list.as_slice(), d as usize);
+            put(list.as_mut_slice(), d as usize, there.saturating_add(1));
+        }
+    }
+    Ok(list)
+}

@@ -1,0 +1,278 @@
+//! What each person pays at least, in each feasible timetable.
+
+ghost use Rattle.std.specs.Prelude.{◌≡◌, ◌<◌, ◌≤◌, ◌+◌, ◌*◌, ◌^◌, ℕ, Some, None};
+ghost use Rattle.ih_tables.specs.Sizes.{patient_count, occupant_count, theatre_count, surgeon_count, shift_count};
+ghost use Rattle.ih_plan.specs.Timetable.{Timetable, stay_of};
+ghost use Rattle.ih_plan.specs.declared.moves.Placement.{Placement};
+ghost use Rattle.ih_plan.specs.Costs.{theatre_availability, surgeon_maximum};
+ghost use Rattle.ih_plan.specs.Presence.{end_from};
+ghost use Rattle.ih_bound.specs.Bounds.{IsFeasible};
+ghost use Rattle.ih_bound.specs.Tariffs.{Tariff, tariff_of, price_in};
+ghost use Rattle.ih_bound.specs.Paid.{paid};
+ghost use Rattle.ih_bound.specs.Least.{BoundsPerson, BoundsAdmitted, BoundsBase, BoundsCareFrom, IsBefore, bed_cost};
+
+use crate::demand::Demand;
+use crate::prices::{Prices, Rates};
+use crate::scratch::Scratch;
+use crate::stays::{Stay, care};
+use ih_plan::end_from;
+use ih_tables::{Instance, Patient, PatientNo, TheatreNo};
+use ih_validate::{Resource, limit_of};
+
+/// No person is said to pay more.
+const MOST_PAID: u64 = 1 << 50;
+
+// At most the price of a minute in each theatre that is available for so long on the day.
+fn theatre_price(inst: &Instance, prices: &Prices, d: u32, minutes: u32) -> u64
+    requires { d < inst.now.draft.days }
+    ensures { (i : ℕ) → i < theatre_count inst.now.draft → minutes ≤ theatre_availability inst.now.draft i d
+        → result ≤ price_in prices.now.theatre.items (inst.now.draft.days * i + d) (2 ^ 29) }
+{
+    let mut least = u64::MAX;
+    for t in 0..inst.theatres() {
+        if limit_of(inst, Resource::OfTheatre(TheatreNo(t)), d) >= minutes as u64 {
+            least = least.min(prices.theatre_on(inst.days(), t, d));
+        }
+    }
+    least
+}
+
+// At most what surgery on the day costs in each theatre that is available for long enough.
+fn surgery_cost(inst: &Instance, prices: &Prices, q: &Patient, d: u32) -> u64
+    requires day { d < inst.now.draft.days }
+    requires surgeon { q.now.surgeon_id.0 < surgeon_count inst.now.draft }
+    ensures { (i : ℕ) → i < theatre_count inst.now.draft
+        → q.now.surgery_duration ≤ theatre_availability inst.now.draft i d
+        → q.now.surgery_duration ≤ surgeon_maximum inst.now.draft q.now.surgeon_id.0 d
+        → result ≤ q.now.surgery_duration * price_in prices.now.surgeon.items (inst.now.draft.days * q.now.surgeon_id.0 + d) (2 ^ 29)
+        + q.now.surgery_duration * price_in prices.now.theatre.items (inst.now.draft.days * i + d) (2 ^ 29) }
+{
+    let minutes = q.surgery_duration as u64;
+    if limit_of(inst, Resource::OfSurgeon(q.surgeon_id), d) < minutes {
+        return u64::MAX;
+    }
+    let surgeon = prices.surgeon_on(inst.days(), q.surgeon_id.0, d);
+    let theatre = theatre_price(inst, prices, d, q.surgery_duration);
+    minutes
+        .saturating_mul(surgeon)
+        .saturating_add(minutes.saturating_mul(theatre))
+}
+
+// At most what beds cost for so many days from a day on.
+fn bed_cost(inst: &Instance, prices: &Prices, rates: &Rates, a: u32, len: u32) -> u64
+    requires { a < inst.now.draft.days }
+    ensures { result ≤ bed_cost inst.now.draft (tariff_of inst.now.draft rates.now prices.now) a len }
+{
+    let end = end_from(inst, a, len);
+    let mut sum: u64 = 0;
+    for d in a..end {
+        sum = sum.saturating_add(prices.bed_on(d));
+    }
+    sum
+}
+
+// At most what a patient who is admitted on a day pays besides care.
+fn base_cost(inst: &Instance, rates: &Rates, prices: &Prices, p: PatientNo, a: u32) -> u64
+    requires patient { p.0 < patient_count inst.now.draft }
+    requires day { a < inst.now.draft.days }
+    ensures { BoundsBase inst.now.draft rates.now (tariff_of inst.now.draft rates.now prices.now) p.0 a result }
+{
+    let q = inst.patient(p);
+    let wait = rates
+        .delay
+        .saturating_mul(a.saturating_sub(q.surgery_release_day) as u64);
+    let surgery = surgery_cost(inst, prices, q, a);
+    let beds = bed_cost(inst, prices, rates, a, q.length_of_stay);
+    wait.saturating_add(surgery).saturating_add(beds)
+}
+
+// The day after the last on which a patient may be admitted.
+fn window_end(inst: &Instance, p: PatientNo) -> u32
+    requires { p.0 < patient_count inst.now.draft }
+    ensures days { result ≤ inst.now.draft.days }
+    ensures window { (P : Timetable) (at : Placement) → IsFeasible inst.now.draft P → stay_of P p.0 ≡ Some at
+        → at.day.0 < result }
+{
+    let q = inst.patient(p);
+    let days = inst.days();
+    if q.mandatory {
+        match q.surgery_due_day {
+            Some(due) => due.saturating_add(1).min(days),
+            None => days,
+        }
+    } else {
+        days
+    }
+}
+
+// What a stay of so many days from a day on asks for.
+fn stay_from<'a>(inst: &Instance, skill: &'a [u32], load: &'a [u32], a: u32, len: u32) -> Stay<'a>
+    requires { a < inst.now.draft.days }
+    ensures lists { (result.skill.now ≡ skill.now) × (result.load.now ≡ load.now) }
+    ensures first { result.first ≡ 3 * a }
+    ensures last { result.last ≡ 3 * end_from inst.now.draft a len }
+    ensures order { result.first ≤ result.last }
+    ensures horizon { result.last ≤ shift_count inst.now.draft }
+{
+    Stay {
+        skill,
+        load,
+        first: 3 * a,
+        last: 3 * end_from(inst, a, len),
+    }
+}
+
+// At most what a patient pays for care, admitted on a day.
+fn patient_care(
+    inst: &Instance,
+    rates: &Rates,
+    prices: &Prices,
+    p: PatientNo,
+    a: u32,
+    scratch: &mut Scratch,
+) -> u64
+    requires patient { p.0 < patient_count inst.now.draft }
+    requires day { a < inst.now.draft.days }
+    ensures { BoundsCareFrom inst.now.draft rates.now (tariff_of inst.now.draft rates.now prices.now) p.0 a result }
+{
+    let q = inst.patient(p);
+    let skill = q.skill_level_required.as_slice();
+    let load = q.workload_produced.as_slice();
+    let stay = stay_from(inst, skill, load, a, q.length_of_stay);
+    care(inst, rates, prices, &stay, scratch)
+}
+
+// The lesser of what was found so far and of what a patient pays who is admitted on a day.
+fn lower_by(
+    inst: &Instance,
+    rates: &Rates,
+    prices: &Prices,
+    p: PatientNo,
+    a: u32,
+    so_far: u64,
+    scratch: &mut Scratch,
+) -> u64
+    requires patient { p.0 < patient_count inst.now.draft }
+    requires day { a < inst.now.draft.days }
+    ensures no_more { result ≤ so_far }
+    ensures day { (P : Timetable) (at : Placement) → IsFeasible inst.now.draft P → stay_of P p.0 ≡ Some at → at.day.0 ≡ a
+        → result ≤ paid inst.now.draft rates.now (tariff_of inst.now.draft rates.now prices.now) P p.0 }
+{
+    let base = base_cost(inst, rates, prices, p, a);
+    if base >= so_far {
+        return so_far;
+    }
+    let care = patient_care(inst, rates, prices, p, a, scratch);
+    let all = base.saturating_add(care);
+    if all < so_far {
+        scratch.day = Some(a);
+        all
+    } else {
+        so_far
+    }
+}
+
+// At most what a patient pays who is admitted, and at most so much.
+fn least_admitted(
+    inst: &Instance,
+    rates: &Rates,
+    prices: &Prices,
+    p: PatientNo,
+    most: u64,
+    scratch: &mut Scratch,
+) -> u64
+    requires { p.0 < patient_count inst.now.draft }
+    ensures no_more { result ≤ most }
+    ensures admitted { BoundsAdmitted inst.now.draft rates.now (tariff_of inst.now.draft rates.now prices.now) p.0
+        (IsBefore inst.now.draft.days) result }
+{
+    let first = inst.patient(p).surgery_release_day;
+    let end = window_end(inst, p);
+    scratch.day = None;
+    let mut least = most;
+    for a in first..end {
+        least = lower_by(inst, rates, prices, p, a, least, scratch);
+    }
+    least
+}
+
+// At most what a patient pays who is left out.
+fn left_out_cost(inst: &Instance, rates: &Rates, p: PatientNo) -> u64
+    requires { p.0 < patient_count inst.now.draft }
+    ensures { (P : Timetable) (t : Tariff) → IsFeasible inst.now.draft P → stay_of P p.0 ≡ None
+        → result ≤ paid inst.now.draft rates.now t P p.0 }
+{
+    if inst.patient(p).mandatory {
+        return MOST_PAID;
+    }
+    rates.left_out.min(MOST_PAID)
+}
+
+// Adds what the patient asks for where it pays least.
+fn add_demand(
+    inst: &Instance,
+    rates: &Rates,
+    prices: &Prices,
+    p: PatientNo,
+    scratch: &mut Scratch,
+    demand: &mut Demand,
+)
+    requires { p.0 < patient_count inst.now.draft }
+{
+    let days = inst.days();
+    let q = inst.patient(p);
+    match scratch.day {
+        Some(a) => {
+            if a < days {
+                let skill = q.skill_level_required.as_slice();
+                let load = q.workload_produced.as_slice();
+                let stay = stay_from(inst, skill, load, a, q.length_of_stay);
+                demand.add_stay(inst, prices, q, a);
+                demand.add_care(inst, rates, prices, &stay, scratch);
+            }
+        }
+        None => {}
+    }
+}
+
+/// At most what a patient pays; what it asks for is added to the demand.
+pub fn least_of_patient(
+    inst: &Instance,
+    rates: &Rates,
+    prices: &Prices,
+    p: PatientNo,
+    scratch: &mut Scratch,
+    demand: &mut Demand,
+) -> u64
+    requires { p.0 < patient_count inst.now.draft }
+    ensures { BoundsPerson inst.now.draft rates.now (tariff_of inst.now.draft rates.now prices.now) p.0 result }
+{
+    let most = left_out_cost(inst, rates, p);
+    let least = least_admitted(inst, rates, prices, p, most, scratch);
+    add_demand(inst, rates, prices, p, scratch, demand);
+    least
+}
+
+/// At most what an occupant pays; its workload is added to the demand.
+pub fn least_of_occupant(
+    inst: &Instance,
+    rates: &Rates,
+    prices: &Prices,
+    o: u32,
+    scratch: &mut Scratch,
+    demand: &mut Demand,
+) -> u64
+    requires { o < occupant_count inst.now.draft }
+    ensures { BoundsPerson inst.now.draft rates.now (tariff_of inst.now.draft rates.now prices.now)
+        (patient_count inst.now.draft + o) result }
+{
+    let _days = inst.days();
+    let q = inst.occupant(o);
+    let skill = q.skill_level_required.as_slice();
+    let load = q.workload_produced.as_slice();
+    let stay = stay_from(inst, skill, load, 0, q.length_of_stay);
+    let beds = bed_cost(inst, prices, rates, 0, q.length_of_stay);
+    let care = care(inst, rates, prices, &stay, scratch);
+    demand.add_care(inst, rates, prices, &stay, scratch);
+    care.saturating_add(beds)
+}

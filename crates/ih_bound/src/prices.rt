@@ -1,0 +1,160 @@
+//! Prices of what is scarce, and what a unit of each cost is worth. All are in parts of a unit of cost: 4,096 make one.
+
+ghost use Rattle.std.specs.Prelude.{◌≡◌, ◌+◌, ◌*◌, ◌^◌, ◌≤◌, ◌<◌, min, slice_index};
+ghost use Rattle.ih_bound.specs.Tariffs.{weight};
+
+use crate::scratch::zeros;
+use ih_tables::Instance;
+use std::alloc::{AllocError, Global};
+
+/// What a unit of each cost is worth: its weight in parts, or 0 where only feasibility is asked for.
+#[derive(Clone, Copy, Debug)]
+pub struct Rates {
+    /// A level of missing skill, of one person in one shift.
+    pub skill: u64,
+    /// A nurse whom a person sees.
+    pub nurse: u64,
+    /// A unit of a nurse's workload above the maximum of a shift.
+    pub load: u64,
+    /// A theatre that is open on a day.
+    pub theatre: u64,
+    /// A day from release to admission.
+    pub delay: u64,
+    /// An optional patient who is left out.
+    pub left_out: u64,
+}
+
+/// Prices, as lists that may be of any length: what a list doesn't have is free.
+#[derive(Drop)]
+pub struct Prices {
+    /// Of a bed, by day.
+    pub bed: Vec<u64>,
+    /// Of a surgeon's minute, by surgeon and day: surgeon 0's days first.
+    pub surgeon: Vec<u64>,
+    /// Of a theatre's minute, by theatre and day.
+    pub theatre: Vec<u64>,
+    /// Of a unit of workload, by nurse and shift.
+    pub work: Vec<u64>,
+}
+
+/// What stands at a place of a list, and 0 past its end.
+#[inline(always)]
+pub fn at(list: &[u64], i: usize) -> u64
+    ensures { result ≡ slice_index list.now i }
+{
+    match list.get(i) {
+        Some(x) => *x,
+        None => 0,
+    }
+}
+
+/// No bed is dearer.
+pub const MOST_FOR_BED: u64 = 1 << 36;
+/// No minute is dearer.
+pub const MOST_FOR_MINUTE: u64 = 1 << 29;
+
+// The weight of a cost.
+fn weight(inst: &Instance, k: usize) -> u64
+    requires { k < 8 }
+    ensures { result ≡ weight inst.now.draft k }
+{
+    inst.weights().w[k].unsigned_abs()
+}
+
+// The weight of a cost, in parts.
+fn rate(inst: &Instance, k: usize) -> u64
+    requires { k < 8 }
+    ensures value { result ≡ 4096 * weight inst.now.draft k }
+    ensures bound { result ≤ 409600000 }
+{
+    4096 * weight(inst, k)
+}
+
+impl Rates {
+    ghost use Rattle.ih_bound.specs.Tariffs.{AreWeights};
+
+    /// The weights of the instance.
+    pub fn weights(inst: &Instance) -> Rates
+        ensures { AreWeights inst.now.draft result }
+    {
+        Rates {
+            skill: rate(inst, 1),
+            nurse: rate(inst, 2),
+            load: rate(inst, 3),
+            theatre: rate(inst, 4),
+            delay: rate(inst, 6),
+            left_out: rate(inst, 7),
+        }
+    }
+
+    /// All are 0.
+    pub fn none() -> Rates
+        ensures { (result.skill ≡ 0) × (result.nurse ≡ 0) × (result.load ≡ 0) × (result.theatre ≡ 0)
+            × (result.delay ≡ 0) × (result.left_out ≡ 0) }
+    {
+        Rates {
+            skill: 0,
+            nurse: 0,
+            load: 0,
+            theatre: 0,
+            delay: 0,
+            left_out: 0,
+        }
+    }
+}
+
+impl Prices {
+    ghost use Rattle.ih_bound.specs.Tariffs.{price_in};
+
+    /// Nothing has a price.
+    pub fn new(alloc: Global, inst: &Instance) -> Result<Prices, AllocError> {
+        let days = inst.days() as usize;
+        let shifts = inst.shifts() as usize;
+        Ok(Prices {
+            bed: zeros(alloc, days)?,
+            surgeon: zeros(alloc, days * inst.surgeons() as usize)?,
+            theatre: zeros(alloc, days * inst.theatres() as usize)?,
+            work: zeros(alloc, shifts * inst.nurses() as usize)?,
+        })
+    }
+
+    /// The price of a bed on a day.
+    #[inline(always)]
+    pub fn bed_on(&self, d: u32) -> u64
+        ensures { result ≡ price_in self.now.bed.items d (2 ^ 36) }
+    {
+        at(self.bed.as_slice(), d as usize).min(MOST_FOR_BED)
+    }
+
+    /// The price of a surgeon's minute on a day.
+    #[inline(always)]
+    pub fn surgeon_on(&self, days: u32, s: u32, d: u32) -> u64
+        ensures { result ≡ price_in self.now.surgeon.items (days * s + d) (2 ^ 29) }
+    {
+        at(self.surgeon.as_slice(), place(days, s, d)).min(MOST_FOR_MINUTE)
+    }
+
+    /// The price of a theatre's minute on a day.
+    #[inline(always)]
+    pub fn theatre_on(&self, days: u32, t: u32, d: u32) -> u64
+        ensures { result ≡ price_in self.now.theatre.items (days * t + d) (2 ^ 29) }
+    {
+        at(self.theatre.as_slice(), place(days, t, d)).min(MOST_FOR_MINUTE)
+    }
+
+    /// The price of a unit of a nurse's workload in a shift, which is at most that of an overload.
+    #[inline(always)]
+    pub fn work_in(&self, rates: &Rates, shifts: u32, n: u32, k: u32) -> u64
+        ensures { result ≡ price_in self.now.work.items (shifts * n + k) rates.now.load }
+    {
+        at(self.work.as_slice(), place(shifts, n, k)).min(rates.load)
+    }
+}
+
+/// Where entry `j` of row `i` stands.
+#[inline(always)]
+pub fn place(width: u32, i: u32, j: u32) -> usize
+    ensures { result ≡ width * i + j }
+{
+    width as usize * i as usize + j as usize
+}
