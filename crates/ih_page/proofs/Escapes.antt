@@ -3,7 +3,7 @@ use Rattle.std.proofs.Common.{◌≡◌, ℕ, refl, subst, Bool, true, false, Li
 use Rattle.std.specs.Prelude.{◌==◌, flat_map, if◌then◌else◌}
 use Rattle.std.specs.List.{AllByRecursion}
 use Rattle.ih_page.specs.Html.{escaped, escaped_byte}
-use Rattle.ih_page.specs.Laws.{is_plain, HasNoBareAnd, NamesHaveNoTags}
+use Rattle.ih_page.specs.Laws.{is_plain, HasNoBareAmpersand, NamesHaveNoTags}
 
 abbrev ArePlain : List ℕ → Type 0
 ArePlain text = AllByRecursion (λ b. is_plain b ≡ true) text
@@ -36,24 +36,24 @@ escaped-plain (b ∷ name) = both (escaped_byte b) (flat_map escaped_byte name) 
 unlike : (b : ℕ) (p : Bool) → b == 38 ≡ false → b ≡ 38 → p ≡ true
 unlike b p h e = let no : true ≡ false = subst (λ x. x == 38 ≡ false) e h in cc
 
-no-and : (xs rest : List ℕ) → AllByRecursion (λ b. b == 38 ≡ false) xs → HasNoBareAnd rest → HasNoBareAnd (xs ++ rest)
-no-and [] rest h k = k
-no-and (b ∷ xs) rest h k = (unlike b _ h.0, no-and xs rest h.1 k)
+no-ampersand : (xs rest : List ℕ) → AllByRecursion (λ b. b == 38 ≡ false) xs → HasNoBareAmpersand rest → HasNoBareAmpersand (xs ++ rest)
+no-ampersand [] rest h k = k
+no-ampersand (b ∷ xs) rest h k = (unlike b _ h.0, no-ampersand xs rest h.1 k)
 
-choose-named : (c : Bool) (xs ys rest : List ℕ) → HasNoBareAnd (xs ++ rest) → (c ≡ false → HasNoBareAnd (ys ++ rest)) → HasNoBareAnd ((if c then xs else ys) ++ rest)
+choose-named : (c : Bool) (xs ys rest : List ℕ) → HasNoBareAmpersand (xs ++ rest) → (c ≡ false → HasNoBareAmpersand (ys ++ rest)) → HasNoBareAmpersand ((if c then xs else ys) ++ rest)
 choose-named true xs ys rest h k = h
 choose-named false xs ys rest h k = k refl
 
-byte-named : (b : ℕ) (rest : List ℕ) → HasNoBareAnd rest → HasNoBareAnd (escaped_byte b ++ rest)
+byte-named : (b : ℕ) (rest : List ℕ) → HasNoBareAmpersand rest → HasNoBareAmpersand (escaped_byte b ++ rest)
 byte-named b rest h =
-    choose-named (b == 38) (codes "&amp;") _ rest (λ e. refl, no-and (codes "amp;") rest (refl, (refl, (refl, (refl, tt)))) h) (λ h38.
-    choose-named (b == 60) (codes "&lt;") _ rest (λ e. refl, no-and (codes "lt;") rest (refl, (refl, (refl, tt))) h) (λ h60.
-    choose-named (b == 62) (codes "&gt;") _ rest (λ e. refl, no-and (codes "gt;") rest (refl, (refl, (refl, tt))) h) (λ h62.
-    choose-named (b == 34) (codes "&quot;") _ rest (λ e. refl, no-and (codes "quot;") rest (refl, (refl, (refl, (refl, (refl, tt))))) h) (λ h34.
-    choose-named (b == 39) (codes "&#39;") _ rest (λ e. refl, no-and (codes "#39;") rest (refl, (refl, (refl, (refl, tt)))) h) (λ h39.
+    choose-named (b == 38) (codes "&amp;") _ rest (λ e. refl, no-ampersand (codes "amp;") rest (refl, (refl, (refl, (refl, tt)))) h) (λ h38.
+    choose-named (b == 60) (codes "&lt;") _ rest (λ e. refl, no-ampersand (codes "lt;") rest (refl, (refl, (refl, tt))) h) (λ h60.
+    choose-named (b == 62) (codes "&gt;") _ rest (λ e. refl, no-ampersand (codes "gt;") rest (refl, (refl, (refl, tt))) h) (λ h62.
+    choose-named (b == 34) (codes "&quot;") _ rest (λ e. refl, no-ampersand (codes "quot;") rest (refl, (refl, (refl, (refl, (refl, tt))))) h) (λ h34.
+    choose-named (b == 39) (codes "&#39;") _ rest (λ e. refl, no-ampersand (codes "#39;") rest (refl, (refl, (refl, (refl, tt)))) h) (λ h39.
     (unlike b _ h38, h))))))
 
-escaped-named : (name : List ℕ) → HasNoBareAnd (escaped name)
+escaped-named : (name : List ℕ) → HasNoBareAmpersand (escaped name)
 unfolding escaped
 escaped-named [] = tt
 escaped-named (b ∷ name) = byte-named b (flat_map escaped_byte name) (escaped-named name)

@@ -26,14 +26,14 @@ abbrev pub begins_with_name : List ℕ → Bool
 begins_with_name text = list_any (λ name. bytes_eq (take (length name) text) name) byte_names
 
 -- each & of a text begins one of them
-abbrev pub HasNoBareAnd : List ℕ → Type 0
-HasNoBareAnd [] = Unit {0}
-HasNoBareAnd (b ∷ text) = (b ≡ 38 → begins_with_name (b ∷ text) ≡ true) × HasNoBareAnd text
+abbrev pub HasNoBareAmpersand : List ℕ → Type 0
+HasNoBareAmpersand [] = Unit {0}
+HasNoBareAmpersand (b ∷ text) = (b ≡ 38 → begins_with_name (b ∷ text) ≡ true) × HasNoBareAmpersand text
 
 -- the text of a file, escaped, has only plain bytes, and no & but where a byte stands by its name
 pub record NamesHaveNoTags (name : List ℕ) : Type 0 where
   pub plain : AllByRecursion (λ b. is_plain b ≡ true) (escaped name)
-  pub named : HasNoBareAnd (escaped name)
+  pub named : HasNoBareAmpersand (escaped name)
 
 -- the amounts of the cells that a line's list has, summed
 abbrev pub listed_sum : Draft → Timetable → Line → ℕ

@@ -24,7 +24,7 @@ off_text rooms load = if rooms == 0 then codes ">" else (codes " class=x>!" ++ (
 abbrev pub worked_text : ℕ → ℕ → List ℕ
 worked_text most load = marked most load ++ (codes "/" ++ decimal most)
 
--- the workload of so many rooms, where the shift may be worked
+-- the workload of so many rooms, whether the shift is worked or not
 abbrev pub load_text : Option ℕ → ℕ → ℕ → List ℕ
 load_text None rooms load = off_text rooms load
 load_text (Some most) rooms load = worked_text most load

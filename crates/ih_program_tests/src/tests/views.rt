@@ -111,10 +111,7 @@ const LOOKS: [Look; 3] = [
         ],
     ),
     (
-        (
-            r#"[{"day":0,"shift":"early","max_load":10},"#,
-            "[",
-        ),
+        (r#"[{"day":0,"shift":"early","max_load":10},"#, "["),
         (
             r#""nurses":["#,
             r#""nurses":[{"id":"n1","assignments":[{"day":0,"shift":"early","rooms":["r1"]}]},"#,
