@@ -119,7 +119,7 @@ def read(inst, text):
         assert sum(amounts) == numbers[name], "the amounts of %s don't sum to its number" % name
         assert amounts == sorted(amounts, reverse=True), "the list of %s doesn't fall" % name
     known = {"html", "meta", "title", "style", "main", "h1", "h2", "h3", "p", "table", "tr", "th", "td", "div", "a", "i",
-             "details", "summary", "ul", "li"}
+             "bdi", "details", "summary", "ul", "li"}
     assert set(page.tags) <= known, set(page.tags) - known
     print("persons %d, links %d, tags %d, items of lists %d" % (persons, len(page.links), sum(page.tags.values()),
                                                                 sum(len(items) for items in page.lists.values())))

@@ -1,5 +1,5 @@
 -- A text of n pieces behind another: what a loop over the pieces keeps.
-use Rattle.std.proofs.Common.{◌≡◌, ◌∙◌, ℕ, ◌+◌, ap, subst, sym, append_assoc, add-one, List, ◌++◌}
+use Rattle.std.proofs.Common.{◌≡◌, ◌∙◌, ℕ, ◌+◌, ◌≤◌, arith, ap, subst, sym, append_assoc, add-one, List, ◌++◌}
 use Rattle.std.proofs.lemmas.List.{append-nil}
 use Rattle.ih_validate.specs.Report.{lines_below}
 
@@ -17,6 +17,8 @@ pub some-more : (first before after : List ℕ) (n : ℕ) (f : ℕ → List ℕ)
     → after ≡ first ++ lines_below (n + 1) f
 some-more first before after n f so_far put = put ∙ (ap (λ xs. xs ++ f n) so_far ∙ sym (one-more first n f))
 
--- as many as there are by another name
-pub counted : (first after : List ℕ) (f : ℕ → List ℕ) (n m : ℕ) → n ≡ m → after ≡ first ++ lines_below n f → after ≡ first ++ lines_below m f
-counted first after f n m same = subst (λ k. after ≡ first ++ lines_below k f) same
+-- behind the loop, where n have been put and there are m by the count that the loop took
+pub all-lines : (first after : List ℕ) (f : ℕ → List ℕ) (n count m : ℕ) → after ≡ first ++ lines_below n f → n ≤ count → count ≤ n → count ≡ m
+    → after ≡ first ++ lines_below m f
+all-lines first after f n count m put most least named =
+    let same : n ≡ m = omega arith in subst (λ k. after ≡ first ++ lines_below k f) same put

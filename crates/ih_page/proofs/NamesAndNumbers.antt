@@ -5,10 +5,10 @@ use Rattle.std.specs.Prelude.{◌==◌, nat_le, ℤ, pos, negsuc, decimal, if◌
 use Rattle.std.specs.Char.{is_ascii_digit}
 use Rattle.std.specs.Fmt.{signed_decimal, digit_glyph, digits_onto, digits}
 use Rattle.std.specs.List.{AllByRecursion}
-use Rattle.ih_page.specs.Html.{escaped}
+use Rattle.ih_page.specs.Html.{escaped, isolated}
 use Rattle.ih_page.specs.Laws.{is_plain}
-use Rattle.ih_page.proofs.Escapes.{escaped-plain}
-use Rattle.ih_page.proofs.Scans.{inside, run, Own}
+use Rattle.ih_page.proofs.Escapes.{no-tags}
+use Rattle.ih_page.proofs.Scans.{inside, run, Own, by_pieces}
 
 -- a byte that is no < stays outside
 plain-step : (b : ℕ) (text : List ℕ) → b == 60 ≡ false → Own text → Own (b ∷ text)
@@ -25,8 +25,12 @@ all-plain : (text : List ℕ) → AllByRecursion (λ b. is_plain b ≡ true) tex
 all-plain [] h = refl
 all-plain (b ∷ text) h = plain-step b text (no-tag b h.0) (all-plain text h.1)
 
-pub name : (text : List ℕ) → Own (escaped text)
-name text = all-plain (escaped text) (escaped-plain text)
+escaped-own : (text : List ℕ) → Own (escaped text)
+escaped-own text = all-plain (escaped text) (no-tags text).plain
+
+pub name : (text : List ℕ) → Own (isolated text)
+unfolding isolated
+name text = simp (by_pieces, escaped-own) refl
 
 abbrev AreDigits : List ℕ → Type 0
 AreDigits ds = AllByRecursion (λ b. is_ascii_digit b ≡ true) ds

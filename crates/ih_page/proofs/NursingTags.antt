@@ -7,17 +7,17 @@ use Rattle.ih_plan.specs.Timetable.{Timetable}
 use Rattle.ih_plan.specs.Costs.{load_of}
 use Rattle.ih_page.specs.Html.{labelled}
 use Rattle.ih_page.specs.Rooms.{marked, anchor_text, td_at, heads_and_days}
-use Rattle.ih_page.specs.Nursing.{load_text, load_td, nurse_head, nurse_row, nurses_text}
+use Rattle.ih_page.specs.Nursing.{given_rooms, load_text, load_td, nurse_head, nurse_row, nurses_text}
 use Rattle.ih_page.proofs.Scans.{Own, all-below, if-any, by_pieces}
 use Rattle.ih_page.proofs.NamesAndNumbers.{names_and_numbers}
 
-cell-of : (most : Option ℕ) (n k load : ℕ) → Own (td_at (codes "n") n k ++ load_text most load)
+cell-of : (most : Option ℕ) (n k rooms load : ℕ) → Own (td_at (codes "n") n k ++ load_text most rooms load)
 unfolding td_at marked anchor_text
-cell-of None n k load = simp (by_pieces, names_and_numbers) refl
-cell-of (Some most) n k load = simp (by_pieces, names_and_numbers) refl
+cell-of None n k rooms load = simp (by_pieces, names_and_numbers) refl
+cell-of (Some most) n k rooms load = simp (by_pieces, names_and_numbers) refl
 
 cell : (I : Draft) (P : Timetable) (n k : ℕ) → Own (load_td I P n k)
-cell I P n k = cell-of (max_load I n k) n k (load_of I P n k)
+cell I P n k = cell-of (max_load I n k) n k (given_rooms I P n k) (load_of I P n k)
 
 head : (a : Nurse) → Own (nurse_head a)
 unfolding nurse_head

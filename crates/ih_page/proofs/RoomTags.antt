@@ -11,7 +11,7 @@ use Rattle.ih_tables.specs.declared.drafts.Theatre.{Theatre}
 use Rattle.ih_tables.specs.Sizes.{patient_count}
 use Rattle.ih_plan.specs.declared.moves.Placement.{Placement}
 use Rattle.ih_plan.specs.Timetable.{Timetable, stay_of}
-use Rattle.ih_page.specs.Html.{escaped, labelled, numbered}
+use Rattle.ih_page.specs.Html.{isolated, labelled, numbered}
 use Rattle.ih_page.specs.Rooms.{age_name, theatre_name, surgeon_name, shift_type_name, nurse_name, wide_td, bar_td, bar_text, person_tds, patient_row, occupant_row, patient_in, occupant_in, marked, anchor_text, td_at, count_td, nurse_td, shift_row, room_title, heads_and_days, room_head, count_row, person_rows, room_text, rooms_text}
 use Rattle.ih_page.proofs.Scans.{Own, all-below, if-any, by_pieces}
 use Rattle.ih_page.proofs.NamesAndNumbers.{name, names_and_numbers}
@@ -19,21 +19,21 @@ use Rattle.ih_page.proofs.NamesAndNumbers.{name, names_and_numbers}
 -- names
 
 age-name : (I : Draft) (g : ℕ) → Own (age_name I g)
-age-name I g = if-any escaped name _
+age-name I g = if-any isolated name _
 
 pub theatre-name : (I : Draft) (t : ℕ) → Own (theatre_name I t)
-theatre-name I t = if-any (λ (a : Theatre). escaped a.id) (λ a. name a.id) (slice_get I.operating_theaters t)
+theatre-name I t = if-any (λ (a : Theatre). isolated a.id) (λ a. name a.id) (slice_get I.operating_theaters t)
 
 pub surgeon-name : (I : Draft) (s : ℕ) → Own (surgeon_name I s)
-surgeon-name I s = if-any (λ (a : Surgeon). escaped a.id) (λ a. name a.id) (slice_get I.surgeons s)
+surgeon-name I s = if-any (λ (a : Surgeon). isolated a.id) (λ a. name a.id) (slice_get I.surgeons s)
 
 pub shift-name : (I : Draft) (j : ℕ) → Own (shift_type_name I j)
 unfolding shift_type_name
-shift-name I j = if-any escaped name _
+shift-name I j = if-any isolated name _
 
 pub nurse-name : (I : Draft) (n : Option ℕ) → Own (nurse_name I n)
 nurse-name I None = refl
-nurse-name I (Some n) = if-any (λ (a : Nurse). escaped a.id) (λ a. name a.id) (slice_get I.nurses n)
+nurse-name I (Some n) = if-any (λ (a : Nurse). isolated a.id) (λ a. name a.id) (slice_get I.nurses n)
 
 -- who is in a room
 

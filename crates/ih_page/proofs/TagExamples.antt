@@ -1,6 +1,6 @@
 -- The tags of some texts, and which of them a page may have.
 use Rattle.std.proofs.Common.{◌≡◌, refl, true, false, [], ◌∷◌, ◌++◌, codes}
-use Rattle.ih_page.specs.Html.{escaped}
+use Rattle.ih_page.specs.Html.{escaped, isolated}
 use Rattle.ih_page.specs.Tags.{tags, form, is_own}
 
 pub read_in_order : tags (codes "<tr><th>1 > 0<td id=d3-14>a</table>") ≡ codes "tr" ∷ codes "th" ∷ codes "td id=d3-14" ∷ codes "/table" ∷ []
@@ -31,3 +31,8 @@ a_bad_name = refl
 pub the_same_escaped : tags (codes "<td>" ++ escaped (codes "<script>")) ≡ codes "td" ∷ []
 unfolding escaped
 the_same_escaped = refl
+
+-- a mark of direction in a name (here the one that turns what follows) ends with the name
+pub a_turning_name : isolated (codes "a" ++ 226 ∷ 128 ∷ 174 ∷ []) ≡ codes "<bdi>a" ++ (226 ∷ 128 ∷ 174 ∷ codes "</bdi>")
+unfolding isolated escaped
+a_turning_name = refl

@@ -8,7 +8,7 @@ use Rattle.ih_tables.specs.declared.drafts.Occupant.{Occupant}
 use Rattle.ih_tables.specs.declared.drafts.Patient.{Patient}
 use Rattle.ih_tables.specs.declared.drafts.Room.{Room}
 use Rattle.ih_tables.specs.Sizes.{patient_count}
-use Rattle.ih_page.specs.Html.{escaped, labelled}
+use Rattle.ih_page.specs.Html.{isolated, labelled}
 use Rattle.ih_page.specs.Rooms.{theatre_name, surgeon_name, anchor_text, shift_type_name, nurse_name}
 
 -- the row of a person
@@ -25,13 +25,13 @@ cell_anchor (NurseShift n k) = anchor_text (codes "n") n.0 k.0
 cell_anchor (Care x) = person_anchor x.0
 
 abbrev pub patient_name : Patient → List ℕ
-patient_name a = codes "patient " ++ escaped a.id
+patient_name a = codes "patient " ++ isolated a.id
 
 abbrev pub occupant_name : Occupant → List ℕ
-occupant_name a = codes "occupant " ++ escaped a.id
+occupant_name a = codes "occupant " ++ isolated a.id
 
 abbrev pub room_label : Room → List ℕ
-room_label a = codes "room " ++ escaped a.id
+room_label a = codes "room " ++ isolated a.id
 
 unfoldable pub person_name : Draft → ℕ → List ℕ
 person_name I x =

@@ -1,6 +1,7 @@
 -- Laws of pages.
-use Rattle.std.specs.Prelude.{ℕ, ◌≡◌, ◌==◌, ◌||◌, not, pos, Bool, true, List, ◌++◌, slice_index, sum_by}
-use Rattle.std.specs.List.{AllByRecursion}
+use Rattle.std.specs.Prelude.{ℕ, ◌≡◌, ◌==◌, ◌||◌, not, pos, Bool, true, List, [], ◌∷◌, ◌++◌, codes, length, take, slice_index, sum_by}
+use Rattle.std.specs.List.{AllByRecursion, list_any}
+use Rattle.std.specs.Str.{bytes_eq}
 use Rattle.ih_tables.specs.declared.drafts.Draft.{Draft}
 use Rattle.ih_plan.specs.Timetable.{Timetable}
 use Rattle.ih_plan.specs.BillOf.{bill_of}
@@ -16,9 +17,23 @@ use Rattle.ih_page.specs.Tags.{tags, opening_tags, is_own}
 abbrev pub is_plain : ℕ → Bool
 is_plain b = not (b == 60 || (b == 62 || (b == 34 || b == 39)))
 
--- a text from a file has only such bytes as it stands in a page
-abbrev pub NamesHaveNoTags : Type 0
-NamesHaveNoTags = (name : List ℕ) → AllByRecursion (λ b. is_plain b ≡ true) (escaped name)
+-- the names by which bytes stand in a page
+abbrev pub byte_names : List (List ℕ)
+byte_names = codes "&amp;" ∷ codes "&lt;" ∷ codes "&gt;" ∷ codes "&quot;" ∷ codes "&#39;" ∷ []
+
+-- the text begins with one of them
+abbrev pub begins_with_name : List ℕ → Bool
+begins_with_name text = list_any (λ name. bytes_eq (take (length name) text) name) byte_names
+
+-- each & of a text begins one of them
+abbrev pub HasNoBareAmpersand : List ℕ → Type 0
+HasNoBareAmpersand [] = Unit {0}
+HasNoBareAmpersand (b ∷ text) = (b ≡ 38 → begins_with_name (b ∷ text) ≡ true) × HasNoBareAmpersand text
+
+-- the text of a file, escaped, has only plain bytes, and no & but where a byte stands by its name
+pub record NamesHaveNoTags (name : List ℕ) : Type 0 where
+  pub plain : AllByRecursion (λ b. is_plain b ≡ true) (escaped name)
+  pub named : HasNoBareAmpersand (escaped name)
 
 -- the amounts of the cells that a line's list has, summed
 abbrev pub listed_sum : Draft → Timetable → Line → ℕ

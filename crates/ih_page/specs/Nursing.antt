@@ -3,26 +3,39 @@ use Rattle.std.specs.Prelude.{ℕ, List, [], ◌++◌, Option, Some, None, ◌==
 use Rattle.std.specs.Option.{option_map_or}
 use Rattle.ih_tables.specs.declared.drafts.Draft.{Draft}
 use Rattle.ih_tables.specs.declared.drafts.Nurse.{Nurse}
-use Rattle.ih_tables.specs.Sizes.{nurse_count, shift_count}
+use Rattle.ih_tables.specs.Sizes.{nurse_count, room_count, shift_count}
 use Rattle.ih_tables.specs.Works.{max_load}
-use Rattle.ih_plan.specs.Timetable.{Timetable}
-use Rattle.ih_plan.specs.Costs.{load_of}
+use Rattle.ih_plan.specs.Timetable.{Timetable, care_of}
+use Rattle.ih_plan.specs.Costs.{is_number, load_of}
+use Rattle.ih_plan.specs.Sums.{count_below}
 use Rattle.ih_validate.specs.Report.{lines_below}
-use Rattle.ih_page.specs.Html.{escaped}
+use Rattle.ih_page.specs.Html.{isolated}
 use Rattle.ih_page.specs.Rooms.{marked, td_at, heads_and_days}
 
--- a workload and its maximum; nothing where the shift isn't worked and there is no workload
-abbrev pub load_text : Option ℕ → ℕ → List ℕ
-load_text None load = if load == 0 then codes ">" else (codes " class=x>!" ++ (decimal load ++ codes "/off"))
-load_text (Some most) load = marked most load ++ (codes "/" ++ decimal most)
+-- how many rooms nurse n is given in shift k
+abbrev pub given_rooms : Draft → Timetable → ℕ → ℕ → ℕ
+given_rooms I P n k = count_below (room_count I) (λ r. is_number (care_of P r k) n)
+
+-- the workload of so many rooms, with a mark, where the shift isn't worked; nothing where there are none
+abbrev pub off_text : ℕ → ℕ → List ℕ
+off_text rooms load = if rooms == 0 then codes ">" else (codes " class=x>!" ++ (decimal load ++ codes "/off"))
+
+-- a workload and its maximum, with a mark where it is above that
+abbrev pub worked_text : ℕ → ℕ → List ℕ
+worked_text most load = marked most load ++ (codes "/" ++ decimal most)
+
+-- the workload of so many rooms, whether the shift is worked or not
+abbrev pub load_text : Option ℕ → ℕ → ℕ → List ℕ
+load_text None rooms load = off_text rooms load
+load_text (Some most) rooms load = worked_text most load
 
 -- the workload of nurse n in shift k
 abbrev pub load_td : Draft → Timetable → ℕ → ℕ → List ℕ
-load_td I P n k = td_at (codes "n") n k ++ load_text (max_load I n k) (load_of I P n k)
+load_td I P n k = td_at (codes "n") n k ++ load_text (max_load I n k) (given_rooms I P n k) (load_of I P n k)
 
 -- a nurse's name and skill
 unfoldable pub nurse_head : Nurse → List ℕ
-nurse_head a = codes "<tr><th>" ++ (escaped a.id ++ (codes "<td>" ++ decimal a.skill_level))
+nurse_head a = codes "<tr><th>" ++ (isolated a.id ++ (codes "<td>" ++ decimal a.skill_level))
 
 unfoldable pub nurse_row : Draft → Timetable → ℕ → List ℕ
 nurse_row I P n =

@@ -15,28 +15,28 @@ use Rattle.ih_plan.specs.Presence.{is_present}
 use Rattle.ih_plan.specs.Costs.{capacity_of}
 use Rattle.ih_plan.specs.Sums.{count_below}
 use Rattle.ih_validate.specs.Report.{lines_below}
-use Rattle.ih_page.specs.Html.{escaped, labelled, numbered}
+use Rattle.ih_page.specs.Html.{isolated, labelled, numbered}
 
 -- the name of an age group
 abbrev pub age_name : Draft → ℕ → List ℕ
-age_name I g = option_map_or escaped (slice_get I.age_groups g) []
+age_name I g = option_map_or isolated (slice_get I.age_groups g) []
 
 -- the name of a theatre
 abbrev pub theatre_name : Draft → ℕ → List ℕ
-theatre_name I t = option_map_or (λ (a : Theatre). escaped a.id) (slice_get I.operating_theaters t) []
+theatre_name I t = option_map_or (λ (a : Theatre). isolated a.id) (slice_get I.operating_theaters t) []
 
 -- the name of a surgeon
 abbrev pub surgeon_name : Draft → ℕ → List ℕ
-surgeon_name I s = option_map_or (λ (a : Surgeon). escaped a.id) (slice_get I.surgeons s) []
+surgeon_name I s = option_map_or (λ (a : Surgeon). isolated a.id) (slice_get I.surgeons s) []
 
 -- the name of a shift type
 unfoldable pub shift_type_name : Draft → ℕ → List ℕ
-shift_type_name I j = option_map_or escaped (slice_get I.shift_types j) []
+shift_type_name I j = option_map_or isolated (slice_get I.shift_types j) []
 
 -- the name of a nurse, where there is one
 abbrev pub nurse_name : Draft → Option ℕ → List ℕ
 nurse_name I None = codes "-"
-nurse_name I (Some n) = option_map_or (λ (a : Nurse). escaped a.id) (slice_get I.nurses n) []
+nurse_name I (Some n) = option_map_or (λ (a : Nurse). isolated a.id) (slice_get I.nurses n) []
 
 -- a table's empty cell, of n columns
 unfoldable pub wide_td : ℕ → List ℕ
@@ -56,7 +56,7 @@ bar_text h d n = gap_text d ++ bar_td (min n (h - d)) n
 
 -- a person's gender and age group
 unfoldable pub person_tds : Draft → List ℕ → ℕ → List ℕ
-person_tds I gender age = codes "<td>" ++ (escaped gender ++ (codes "<td>" ++ age_name I age))
+person_tds I gender age = codes "<td>" ++ (isolated gender ++ (codes "<td>" ++ age_name I age))
 
 -- the row of patient a, whose number is p
 abbrev pub patient_row : Draft → ℕ → Placement → Patient → List ℕ

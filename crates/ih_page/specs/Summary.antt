@@ -51,11 +51,13 @@ hard_text = codes "<td>hard rule<td>\n"
 abbrev pub rule_row : ℕ → ℤ → List ℕ
 rule_row i x = line_head (codes "V") i (rule_name i) x ++ (codes "<td>" ++ (signed_decimal x ++ hard_text))
 
--- a cost's row: its number, its weight and their product
+-- a number, its weight and their product
+abbrev pub weighed_text : ℤ → ℤ → List ℕ
+weighed_text x w = codes "<td>" ++ (signed_decimal x ++ (codes "<td>" ++ product_text x w))
+
+-- a cost's row
 abbrev pub cost_row : ℕ → ℤ → ℤ → List ℕ
-cost_row i x w =
-    line_head (codes "S") i (cost_name i) x
-    ++ (codes "<td>" ++ (signed_decimal x ++ (codes "<td>" ++ product_text x w)))
+cost_row i x w = line_head (codes "S") i (cost_name i) x ++ weighed_text x w
 
 abbrev pub feasible_text : Bool → List ℕ
 feasible_text true = codes "<h1>Feasible timetable</h1>\n"

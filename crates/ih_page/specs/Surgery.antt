@@ -6,7 +6,7 @@ use Rattle.ih_tables.specs.declared.drafts.Patient.{Patient}
 use Rattle.ih_tables.specs.Sizes.{patient_count}
 use Rattle.ih_plan.specs.Timetable.{Timetable}
 use Rattle.ih_plan.specs.Costs.{duration_of}
-use Rattle.ih_plan.specs.Sums.{sum_below}
+use Rattle.ih_plan.specs.Sums.{sum_below, count_below}
 use Rattle.ih_validate.specs.Report.{lines_below}
 use Rattle.ih_validate.specs.Surgery.{count_of, has_surgery, limit_of, one_of}
 use Rattle.ih_validate.specs.declared.surgery.ResourceKind.{ResourceKind}
@@ -23,6 +23,10 @@ minutes_of I P w d p = if has_surgery I P w d p then duration_of I p else 0
 -- the minutes of surgery of a day
 abbrev pub planned : Draft → Timetable → Resource → ℕ → ℕ
 planned I P w d = sum_below (patient_count I) (minutes_of I P w d)
+
+-- how many patients have surgery on a day
+abbrev pub surgery_count : Draft → Timetable → Resource → ℕ → ℕ
+surgery_count I P w d = count_below (patient_count I) (has_surgery I P w d)
 
 abbrev pub letter_of : Resource → List ℕ
 letter_of (OfTheatre t) = codes "t"
@@ -60,13 +64,14 @@ patient_link I p = option_map_or (name_link p) (slice_get I.patients p) []
 abbrev pub operation : Draft → Timetable → Resource → ℕ → ℕ → List ℕ
 operation I P w d p = if has_surgery I P w d p then patient_link I p else []
 
--- the minutes of a day and its patients, and nothing on a day without surgery
+-- the minutes of a day with so many surgeries and its patients, and nothing on a day without surgery
 abbrev pub surgery_of : Draft → Timetable → Resource → ℕ → ℕ → List ℕ
-surgery_of I P w d n =
-    if n == 0 then codes ">" else (minutes_text (limit_of I w d) n ++ lines_below (patient_count I) (operation I P w d))
+surgery_of I P w d count =
+    if count == 0 then codes ">"
+    else (minutes_text (limit_of I w d) (planned I P w d) ++ lines_below (patient_count I) (operation I P w d))
 
 unfoldable pub surgery_td : Draft → Timetable → Resource → ℕ → List ℕ
-surgery_td I P w d = td_at (letter_of w) (number_of w) d ++ surgery_of I P w d (planned I P w d)
+surgery_td I P w d = td_at (letter_of w) (number_of w) d ++ surgery_of I P w d (surgery_count I P w d)
 
 unfoldable pub surgery_row : Draft → Timetable → Resource → List ℕ
 surgery_row I P w = codes "<tr><th>" ++ (resource_name I w ++ (lines_below I.days (surgery_td I P w) ++ codes "\n"))

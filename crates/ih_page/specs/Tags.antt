@@ -58,7 +58,7 @@ own_forms =
     ∷ codes "td" ∷ codes "td colspan=9" ∷ codes "td class=b colspan=9" ∷ codes "td id=s9-9"
     ∷ codes "td id=d9-9" ∷ codes "td id=t9-9" ∷ codes "td id=g9-9" ∷ codes "td id=n9-9"
     ∷ codes "td id=d9-9 class=x" ∷ codes "td id=t9-9 class=x" ∷ codes "td id=g9-9 class=x" ∷ codes "td id=n9-9 class=x"
-    ∷ codes "i style=width:9%" ∷ codes "/i" ∷ codes "ul" ∷ codes "/ul" ∷ codes "li"
+    ∷ codes "bdi" ∷ codes "/bdi" ∷ codes "i style=width:9%" ∷ codes "/i" ∷ codes "ul" ∷ codes "/ul" ∷ codes "li"
     ∷ codes "details open id=V9" ∷ codes "details id=S9" ∷ codes "/details" ∷ codes "summary" ∷ codes "/summary"
     ∷ codes "a href=#V9" ∷ codes "a href=#S9" ∷ codes "a href=#p9" ∷ codes "a href=#d9-9" ∷ codes "a href=#s9-9"
     ∷ codes "a href=#t9-9" ∷ codes "a href=#g9-9" ∷ codes "a href=#n9-9" ∷ codes "/a" ∷ codes "/main" ∷ []

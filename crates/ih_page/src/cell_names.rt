@@ -1,13 +1,14 @@
 //! What a cell is called, and where it stands in the page.
 
-ghost use Rattle.std.specs.Prelude.{◌≡◌, ◌<◌, ◌++◌, OnOk};
-ghost use Rattle.ih_tables.specs.Sizes.{person_count, room_count};
+ghost use Rattle.std.specs.Prelude.{◌≡◌, ◌<◌, ◌++◌, OnOk, codes};
+ghost use Rattle.ih_tables.specs.Sizes.{person_count, room_count, theatre_count, surgeon_count, nurse_count};
 ghost use Rattle.ih_plan.specs.Cells.{IsCellOf};
-ghost use Rattle.ih_page.specs.CellNames.{cell_anchor, person_name, room_name, shift_name, cell_text};
+ghost use Rattle.ih_page.specs.CellNames.{cell_anchor, person_name, room_name, day_text, shift_name, cell_text};
+ghost use Rattle.ih_page.specs.Rooms.{theatre_name, surgeon_name, nurse_name};
 
 use crate::names::{put_anchor, put_nurse, put_shift_type, put_surgeon, put_theatre};
-use crate::texts::{Put, put, put_escaped, put_labelled};
-use ih_tables::{Cell, Instance, PatientNo, RoomNo};
+use crate::texts::{Put, put, put_isolated, put_labelled};
+use ih_tables::{Cell, Day, Instance, NurseNo, PatientNo, RoomNo, Shift, SurgeonNo, TheatreNo};
 
 /// Appends the anchor of a cell of the timetable.
 pub fn put_cell_anchor(out: &mut Vec<u8>, c: Cell) -> Put
@@ -32,10 +33,10 @@ fn put_person(out: &mut Vec<u8>, inst: &Instance, x: u32) -> Put
     let patients = inst.patients();
     if x < patients {
         put(out, "patient ")?;
-        put_escaped(out, inst.patient(PatientNo(x)).id.as_str())
+        put_isolated(out, inst.patient(PatientNo(x)).id.as_str())
     } else {
         put(out, "occupant ")?;
-        put_escaped(out, inst.occupant(x - patients).id.as_str())
+        put_isolated(out, inst.occupant(x - patients).id.as_str())
     }
 }
 
@@ -45,7 +46,7 @@ fn put_room(out: &mut Vec<u8>, inst: &Instance, r: RoomNo) -> Put
     ensures { OnOk result (out.new.items ≡ out.old.items ++ room_name inst.now.draft r.0) }
 {
     put(out, "room ")?;
-    put_escaped(out, inst.room(r).id.as_str())
+    put_isolated(out, inst.room(r).id.as_str())
 }
 
 #[tactic(auto, unfolding(crate::specs::CellNames::shift_name))]
@@ -57,6 +58,53 @@ fn put_shift(out: &mut Vec<u8>, inst: &Instance, k: u32) -> Put
     put_shift_type(out, inst, k % 3)
 }
 
+fn put_room_day(out: &mut Vec<u8>, inst: &Instance, r: RoomNo, d: Day) -> Put
+    requires { r.0 < room_count inst.now.draft }
+    ensures { OnOk result (out.new.items ≡ out.old.items ++ (room_name inst.now.draft r.0 ++ day_text d.0)) }
+{
+    put_room(out, inst, r)?;
+    put_labelled(out, ", day ", d.0)
+}
+
+fn put_theatre_day(out: &mut Vec<u8>, inst: &Instance, t: TheatreNo, d: Day) -> Put
+    requires { t.0 < theatre_count inst.now.draft }
+    ensures { OnOk result (out.new.items
+        ≡ out.old.items ++ (codes "theatre " ++ (theatre_name inst.now.draft t.0 ++ day_text d.0))) }
+{
+    put(out, "theatre ")?;
+    put_theatre(out, inst, t)?;
+    put_labelled(out, ", day ", d.0)
+}
+
+fn put_surgeon_day(out: &mut Vec<u8>, inst: &Instance, s: SurgeonNo, d: Day) -> Put
+    requires { s.0 < surgeon_count inst.now.draft }
+    ensures { OnOk result (out.new.items
+        ≡ out.old.items ++ (codes "surgeon " ++ (surgeon_name inst.now.draft s.0 ++ day_text d.0))) }
+{
+    put(out, "surgeon ")?;
+    put_surgeon(out, inst, s)?;
+    put_labelled(out, ", day ", d.0)
+}
+
+fn put_room_shift(out: &mut Vec<u8>, inst: &Instance, r: RoomNo, k: Shift) -> Put
+    requires { r.0 < room_count inst.now.draft }
+    ensures { OnOk result
+        (out.new.items ≡ out.old.items ++ (room_name inst.now.draft r.0 ++ shift_name inst.now.draft k.0)) }
+{
+    put_room(out, inst, r)?;
+    put_shift(out, inst, k.0)
+}
+
+fn put_nurse_shift(out: &mut Vec<u8>, inst: &Instance, n: NurseNo, k: Shift) -> Put
+    requires { n.0 < nurse_count inst.now.draft }
+    ensures { OnOk result (out.new.items ≡ out.old.items
+        ++ (codes "nurse " ++ (nurse_name inst.now.draft (Some n.0) ++ shift_name inst.now.draft k.0))) }
+{
+    put(out, "nurse ")?;
+    put_nurse(out, inst, Some(n))?;
+    put_shift(out, inst, k.0)
+}
+
 /// Appends the name of a cell.
 pub fn put_cell(out: &mut Vec<u8>, inst: &Instance, c: Cell) -> Put
     requires { IsCellOf inst.now.draft c }
@@ -64,29 +112,11 @@ pub fn put_cell(out: &mut Vec<u8>, inst: &Instance, c: Cell) -> Put
 {
     match c {
         Cell::Stay(p) => put_person(out, inst, p.0),
-        Cell::RoomDay(r, d) => {
-            put_room(out, inst, r)?;
-            put_labelled(out, ", day ", d.0)
-        }
-        Cell::TheatreDay(t, d) => {
-            put(out, "theatre ")?;
-            put_theatre(out, inst, t)?;
-            put_labelled(out, ", day ", d.0)
-        }
-        Cell::SurgeonDay(s, d) => {
-            put(out, "surgeon ")?;
-            put_surgeon(out, inst, s)?;
-            put_labelled(out, ", day ", d.0)
-        }
-        Cell::RoomShift(r, k) => {
-            put_room(out, inst, r)?;
-            put_shift(out, inst, k.0)
-        }
-        Cell::NurseShift(n, k) => {
-            put(out, "nurse ")?;
-            put_nurse(out, inst, Some(n))?;
-            put_shift(out, inst, k.0)
-        }
+        Cell::RoomDay(r, d) => put_room_day(out, inst, r, d),
+        Cell::TheatreDay(t, d) => put_theatre_day(out, inst, t, d),
+        Cell::SurgeonDay(s, d) => put_surgeon_day(out, inst, s, d),
+        Cell::RoomShift(r, k) => put_room_shift(out, inst, r, k),
+        Cell::NurseShift(n, k) => put_nurse_shift(out, inst, n, k),
         Cell::Care(x) => put_person(out, inst, x.0),
     }
 }

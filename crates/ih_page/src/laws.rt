@@ -1,13 +1,15 @@
 //! Laws of pages, on functions that do nothing.
 
+ghost use Rattle.std.specs.Prelude.{ℕ, List};
 ghost use Rattle.ih_plan.specs.Timetable.{Timetable};
 ghost use Rattle.ih_page.specs.Laws.{ListsSum, NamesHaveNoTags, TagsAreOwn};
 
 use ih_tables::Instance;
 
-/// The text of a file, as it stands in a page, begins and ends no tag and no quoted text, whatever it is.
+/// The text of a file, as it stands in a page, begins and ends no tag and no quoted text, whatever it is, so that it ends
+/// no element that isolates it. What begins with & there is the name of a byte.
 pub fn names_have_no_tags()
-    ensures { NamesHaveNoTags }
+    ensures { (name : List ℕ) → NamesHaveNoTags name }
 {}
 
 /// Whatever the ids of the files hold, each tag of a page is one of the page's own.

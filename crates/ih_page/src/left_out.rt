@@ -4,7 +4,6 @@ ghost use Rattle.std.specs.Prelude.{◌≡◌, ◌<◌, ◌++◌, OnOk};
 ghost use Rattle.ih_tables.specs.Sizes.{patient_count};
 ghost use Rattle.ih_page.specs.LeftOut.{last_day, need_text, window_text, left_out_row, left_out_of, left_out};
 
-use crate::loops::put_below;
 use crate::shown::Shown;
 use crate::texts::{Put, put, put_labelled, put_number, put_numbered};
 use ih_tables::{Patient, PatientNo};
@@ -62,10 +61,8 @@ pub fn put_left_out(out: &mut Vec<u8>, shown: &Shown<'_>) -> Put
         out,
         "<h2 id=left>Patients who are left out</h2>\n<table><tr><th>patient<th>need<th>window\n",
     )?;
-    put_below(
-        out,
-        shown.inst.patients(),
-        |out, p| put_row_of(out, shown, p),
-    )?;
+    for p in 0..shown.inst.patients() {
+        put_row_of(out, shown, p)?;
+    }
     put(out, "</table>\n")
 }

@@ -6,7 +6,6 @@ mod cell_names;
 mod laws;
 mod left_out;
 mod loads;
-mod loops;
 mod names;
 mod nursing;
 mod order;

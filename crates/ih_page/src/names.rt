@@ -5,7 +5,7 @@ ghost use Rattle.ih_tables.specs.{declared.ids.NurseNo.NurseNo, Sizes.nurse_coun
 ghost use Rattle.ih_page.specs.Rooms.{age_name, theatre_name, surgeon_name, shift_type_name, nurse_name};
 ghost use Rattle.ih_page.specs.Rooms.{marked, anchor_text, td_at};
 
-use crate::texts::{Put, put, put_escaped, put_number};
+use crate::texts::{Put, put, put_isolated, put_number};
 use ih_tables::{Instance, NurseNo, SurgeonNo, TheatreNo};
 
 /// Appends the name of an age group.
@@ -14,7 +14,7 @@ pub fn put_age(out: &mut Vec<u8>, inst: &Instance, g: u32) -> Put
 {
     match inst.draft.age_groups.as_slice().get(g as usize) {
         None => Ok(()),
-        Some(name) => put_escaped(out, name.as_str()),
+        Some(name) => put_isolated(out, name.as_str()),
     }
 }
 
@@ -24,7 +24,7 @@ pub fn put_shift_type(out: &mut Vec<u8>, inst: &Instance, j: u32) -> Put
     requires { j < 3 }
     ensures { OnOk result (out.new.items ≡ out.old.items ++ shift_type_name inst.now.draft j) }
 {
-    put_escaped(out, inst.shift_type(j).as_str())
+    put_isolated(out, inst.shift_type(j).as_str())
 }
 
 /// Appends the name of a theatre.
@@ -32,7 +32,7 @@ pub fn put_theatre(out: &mut Vec<u8>, inst: &Instance, t: TheatreNo) -> Put
     requires { t.0 < theatre_count inst.now.draft }
     ensures { OnOk result (out.new.items ≡ out.old.items ++ theatre_name inst.now.draft t.0) }
 {
-    put_escaped(out, inst.theatre(t).id.as_str())
+    put_isolated(out, inst.theatre(t).id.as_str())
 }
 
 /// Appends the name of a surgeon.
@@ -40,7 +40,7 @@ pub fn put_surgeon(out: &mut Vec<u8>, inst: &Instance, s: SurgeonNo) -> Put
     requires { s.0 < surgeon_count inst.now.draft }
     ensures { OnOk result (out.new.items ≡ out.old.items ++ surgeon_name inst.now.draft s.0) }
 {
-    put_escaped(out, inst.surgeon(s).id.as_str())
+    put_isolated(out, inst.surgeon(s).id.as_str())
 }
 
 /// Appends the name of a nurse, where there is one.
@@ -51,7 +51,7 @@ pub fn put_nurse(out: &mut Vec<u8>, inst: &Instance, n: Option<NurseNo>) -> Put
 {
     match n {
         None => put(out, "-"),
-        Some(n) => put_escaped(out, inst.nurse(n).id.as_str()),
+        Some(n) => put_isolated(out, inst.nurse(n).id.as_str()),
     }
 }
 

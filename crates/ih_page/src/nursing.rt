@@ -2,34 +2,40 @@
 
 ghost use Rattle.std.specs.Prelude.{◌≡◌, ◌<◌, ◌++◌, OnOk};
 ghost use Rattle.ih_tables.specs.Sizes.{nurse_count, shift_count};
-ghost use Rattle.ih_page.specs.Nursing.{load_text, load_td, nurse_head, nurse_row, nurses_text};
+ghost use Rattle.ih_page.specs.Nursing.{off_text, worked_text, load_text, load_td, nurse_head, nurse_row, nurses_text};
 
-use crate::loads::load_of;
-use crate::loops::put_below;
+use crate::loads::{given_rooms, load_of};
 use crate::names::{put_marked, put_td_at};
 use crate::rooms::put_heads_and_days;
 use crate::shown::Shown;
-use crate::texts::{Put, put, put_escaped, put_number};
+use crate::texts::{Put, put, put_isolated, put_number};
 use ih_tables::{Nurse, NurseNo, Shift};
 
-fn put_load(out: &mut Vec<u8>, most: Option<u32>, load: u64) -> Put
-    ensures { OnOk result (out.new.items ≡ out.old.items ++ load_text most load) }
+fn put_off(out: &mut Vec<u8>, rooms: u64, load: u64) -> Put
+    ensures { OnOk result (out.new.items ≡ out.old.items ++ off_text rooms load) }
+{
+    if rooms == 0 {
+        return put(out, ">");
+    }
+    put(out, " class=x>!")?;
+    put_number(out, load)?;
+    put(out, "/off")
+}
+
+fn put_worked(out: &mut Vec<u8>, most: u32, load: u64) -> Put
+    ensures { OnOk result (out.new.items ≡ out.old.items ++ worked_text most load) }
+{
+    put_marked(out, most as u64, load)?;
+    put(out, "/")?;
+    put_number(out, most as u64)
+}
+
+fn put_load(out: &mut Vec<u8>, most: Option<u32>, rooms: u64, load: u64) -> Put
+    ensures { OnOk result (out.new.items ≡ out.old.items ++ load_text most rooms load) }
 {
     match most {
-        None => {
-            if load == 0 {
-                put(out, ">")
-            } else {
-                put(out, " class=x>!")?;
-                put_number(out, load)?;
-                put(out, "/off")
-            }
-        }
-        Some(most) => {
-            put_marked(out, most as u64, load)?;
-            put(out, "/")?;
-            put_number(out, most as u64)
-        }
+        None => put_off(out, rooms, load),
+        Some(most) => put_worked(out, most, load),
     }
 }
 
@@ -42,6 +48,7 @@ fn put_td(out: &mut Vec<u8>, shown: &Shown<'_>, n: u32, k: u32) -> Put
     put_load(
         out,
         shown.inst.works(NurseNo(n), Shift(k)),
+        given_rooms(shown.inst, shown.plan, NurseNo(n), k),
         load_of(shown.inst, shown.plan, NurseNo(n), k),
     )
 }
@@ -51,7 +58,7 @@ fn put_head(out: &mut Vec<u8>, a: &Nurse) -> Put
     ensures { OnOk result (out.new.items ≡ out.old.items ++ nurse_head a.now) }
 {
     put(out, "<tr><th>")?;
-    put_escaped(out, a.id.as_str())?;
+    put_isolated(out, a.id.as_str())?;
     put(out, "<td>")?;
     put_number(out, a.skill_level as u64)
 }
@@ -62,7 +69,9 @@ fn put_row(out: &mut Vec<u8>, shown: &Shown<'_>, n: u32) -> Put
     ensures { OnOk result (out.new.items ≡ out.old.items ++ nurse_row shown.now.inst.now.draft shown.now.plan.now n) }
 {
     put_head(out, shown.inst.nurse(NurseNo(n)))?;
-    put_below(out, shown.inst.shifts(), |out, k| put_td(out, shown, n, k))?;
+    for k in 0..shown.inst.shifts() {
+        put_td(out, shown, n, k)?;
+    }
     put(out, "\n")
 }
 
@@ -77,6 +86,8 @@ pub fn put_nurses(out: &mut Vec<u8>, shown: &Shown<'_>) -> Put
         "<h2>Nurses by shifts: workload of the maximum</h2>\n<div><table><tr><th>nurse<th>skill",
         "<th colspan=3>",
     )?;
-    put_below(out, shown.inst.nurses(), |out, n| put_row(out, shown, n))?;
+    for n in 0..shown.inst.nurses() {
+        put_row(out, shown, n)?;
+    }
     put(out, "</table></div>\n")
 }

@@ -8,11 +8,10 @@ ghost use Rattle.ih_page.specs.Rooms.{patient_in, occupant_in, count_td, nurse_t
 ghost use Rattle.ih_page.specs.Rooms.{heads_and_days, room_title, room_head, count_row, person_rows, room_text};
 ghost use Rattle.ih_page.specs.Rooms.{rooms_text};
 
-use crate::loops::put_below;
 use crate::names::{put_age, put_marked, put_nurse, put_shift_type, put_td_at, put_theatre};
 use crate::presence::head_count;
 use crate::shown::Shown;
-use crate::texts::{Put, put, put_escaped, put_labelled, put_numbered};
+use crate::texts::{Put, put, put_isolated, put_labelled, put_numbered};
 use ih_plan::Placement;
 use ih_tables::{Instance, Occupant, Patient, PatientNo, Room, RoomNo, Shift};
 
@@ -52,7 +51,7 @@ fn put_person(out: &mut Vec<u8>, inst: &Instance, gender: &str, age: u32) -> Put
     ensures { OnOk result (out.new.items ≡ out.old.items ++ person_tds inst.now.draft gender.now age) }
 {
     put(out, "<td>")?;
-    put_escaped(out, gender)?;
+    put_isolated(out, gender)?;
     put(out, "<td>")?;
     put_age(out, inst, age)
 }
@@ -138,11 +137,9 @@ fn put_shift(out: &mut Vec<u8>, shown: &Shown<'_>, r: u32, j: u32) -> Put
     put(out, "<tr><th>")?;
     put_shift_type(out, shown.inst, j)?;
     put(out, "<td colspan=3>nurse")?;
-    put_below(
-        out,
-        shown.inst.days(),
-        |out, d| put_care(out, shown, r, 3 * d + j),
-    )?;
+    for d in 0..shown.inst.days() {
+        put_care(out, shown, r, 3 * d + j)?;
+    }
     put(out, "\n")
 }
 
@@ -152,7 +149,9 @@ pub fn put_heads_and_days(out: &mut Vec<u8>, inst: &Instance, heads: &str, tag: 
     ensures { OnOk result (out.new.items ≡ out.old.items ++ heads_and_days inst.now.draft heads.now tag.now) }
 {
     put(out, heads)?;
-    put_below(out, inst.days(), |out, d| put_labelled(out, tag, d))?;
+    for d in 0..inst.days() {
+        put_labelled(out, tag, d)?;
+    }
     put(out, "\n")
 }
 
@@ -184,7 +183,9 @@ fn put_count_row(out: &mut Vec<u8>, shown: &Shown<'_>, r: u32) -> Put
     ensures { OnOk result (out.new.items ≡ out.old.items ++ count_row shown.now.inst.now.draft shown.now.plan.now r) }
 {
     put(out, "<tr><th>persons<td colspan=3>count")?;
-    put_below(out, shown.inst.days(), |out, d| put_count(out, shown, r, d))?;
+    for d in 0..shown.inst.days() {
+        put_count(out, shown, r, d)?;
+    }
     put(out, "\n")
 }
 
@@ -192,16 +193,13 @@ fn put_count_row(out: &mut Vec<u8>, shown: &Shown<'_>, r: u32) -> Put
 fn put_persons(out: &mut Vec<u8>, shown: &Shown<'_>, r: u32) -> Put
     ensures { OnOk result (out.new.items ≡ out.old.items ++ person_rows shown.now.inst.now.draft shown.now.plan.now r) }
 {
-    put_below(
-        out,
-        shown.inst.occupants(),
-        |out, o| put_occupant_in(out, shown.inst, r, o),
-    )?;
-    put_below(
-        out,
-        shown.inst.patients(),
-        |out, p| put_patient_in(out, shown, r, p),
-    )
+    for o in 0..shown.inst.occupants() {
+        put_occupant_in(out, shown.inst, r, o)?;
+    }
+    for p in 0..shown.inst.patients() {
+        put_patient_in(out, shown, r, p)?;
+    }
+    Ok(())
 }
 
 #[tactic(auto, unfolding(crate::specs::Rooms::room_text))]
@@ -212,7 +210,9 @@ fn put_room(out: &mut Vec<u8>, shown: &Shown<'_>, r: u32) -> Put
     put_room_head(out, shown.inst, r, shown.inst.room(RoomNo(r)))?;
     put_persons(out, shown, r)?;
     put_count_row(out, shown, r)?;
-    put_below(out, 3, |out, j| put_shift(out, shown, r, j))?;
+    for j in 0..3 {
+        put_shift(out, shown, r, j)?;
+    }
     put(out, "</table></div>\n")
 }
 
@@ -222,5 +222,8 @@ pub fn put_rooms(out: &mut Vec<u8>, shown: &Shown<'_>) -> Put
     ensures { OnOk result (out.new.items ≡ out.old.items ++ rooms_text shown.now.inst.now.draft shown.now.plan.now) }
 {
     put(out, "<h2>Rooms by days</h2>\n")?;
-    put_below(out, shown.inst.rooms(), |out, r| put_room(out, shown, r))
+    for r in 0..shown.inst.rooms() {
+        put_room(out, shown, r)?;
+    }
+    Ok(())
 }

@@ -3,11 +3,11 @@
 ghost use Rattle.std.specs.Prelude.{◌≡◌, ◌<◌, ◌≤◌, ◌≤ℤ◌, ◌^◌, ◌++◌, pos, neg_ℤ, OnOk};
 ghost use Rattle.ih_tables.specs.Bills.{IsWithin};
 ghost use Rattle.ih_page.specs.Summary.{rule_name, cost_name, line_text, line_link, line_name, line_head, product_text};
-ghost use Rattle.ih_page.specs.Summary.{hard_text, rule_row, cost_row, rule_rows, cost_rows, feasible_text, headline};
-ghost use Rattle.ih_page.specs.Summary.{summary};
+ghost use Rattle.ih_page.specs.Summary.{hard_text, rule_row, weighed_text, cost_row, rule_rows, cost_rows};
+ghost use Rattle.ih_page.specs.Summary.{feasible_text, headline, summary};
 
 use crate::texts::{Put, put, put_number, put_signed};
-use ih_tables::{Bill, Instance};
+use ih_tables::{Bill, Instance, times};
 
 /// What a hard rule counts.
 #[tactic(auto, unfolding(crate::specs::Summary::rule_name))]
@@ -116,8 +116,21 @@ fn put_product(out: &mut Vec<u8>, x: i64, w: i64) -> Put
 {
     put_signed(out, w)?;
     put(out, "<td>")?;
-    put_signed(out, x * w)?;
+    put_signed(out, times(x, w))?;
     put(out, "\n")
+}
+
+fn put_weighed(out: &mut Vec<u8>, x: i64, w: i64) -> Put
+    requires low { neg_ℤ (pos (10 ^ 11)) ≤ℤ x }
+    requires high { x ≤ℤ pos (10 ^ 11) }
+    requires weight_low { pos 0 ≤ℤ w }
+    requires weight_high { w ≤ℤ pos 100000 }
+    ensures { OnOk result (out.new.items ≡ out.old.items ++ weighed_text x w) }
+{
+    put(out, "<td>")?;
+    put_signed(out, x)?;
+    put(out, "<td>")?;
+    put_product(out, x, w)
 }
 
 fn put_cost(out: &mut Vec<u8>, i: usize, x: i64, w: i64) -> Put
@@ -129,10 +142,7 @@ fn put_cost(out: &mut Vec<u8>, i: usize, x: i64, w: i64) -> Put
     ensures { OnOk result (out.new.items ≡ out.old.items ++ cost_row i x w) }
 {
     put_head(out, "S", i, cost_name(i), x)?;
-    put(out, "<td>")?;
-    put_signed(out, x)?;
-    put(out, "<td>")?;
-    put_product(out, x, w)
+    put_weighed(out, x, w)
 }
 
 #[tactic(auto, unfolding(crate::specs::Summary::rule_rows))]

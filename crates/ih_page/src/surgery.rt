@@ -2,18 +2,17 @@
 
 ghost use Rattle.std.specs.Prelude.{◌≡◌, ◌<◌, ◌≤◌, ◌*◌, ◌++◌, OnOk};
 ghost use Rattle.ih_tables.specs.Sizes.{patient_count};
-ghost use Rattle.ih_validate.specs.Surgery.{IsResourceOf};
-ghost use Rattle.ih_page.specs.Surgery.{minutes_of, planned, letter_of, number_of, resource_name, heads_of, surgery_text};
-ghost use Rattle.ih_page.specs.Surgery.{percent_of, percent_text, name_link, minutes_text, patient_link, operation};
+ghost use Rattle.ih_validate.specs.{Report.lines_below, Surgery.IsResourceOf};
+ghost use Rattle.ih_page.specs.Surgery.{minutes_of, planned, surgery_count, letter_of, number_of, resource_name};
+ghost use Rattle.ih_page.specs.Surgery.{heads_of, surgery_text, percent_of, percent_text, name_link, minutes_text, patient_link, operation};
 ghost use Rattle.ih_page.specs.Surgery.{surgery_of, surgery_td, surgery_row};
 
-use crate::loops::put_below;
 use crate::names::{put_marked, put_surgeon, put_td_at, put_theatre};
 use crate::rooms::put_heads_and_days;
 use crate::shown::Shown;
 use crate::texts::{Put, put, put_number, put_numbered};
 use ih_tables::{Instance, Patient, PatientNo};
-use ih_validate::{Resource, ResourceKind, count_of, has_surgery, limit_of, one_of};
+use ih_validate::{Resource, ResourceKind, bit, count_of, has_surgery, limit_of, one_of};
 
 // The minutes of the patient's surgery, where it is there on the day.
 fn minutes_of(shown: &Shown<'_>, w: Resource, d: u32, p: u32) -> u64
@@ -39,6 +38,18 @@ fn planned(shown: &Shown<'_>, w: Resource, d: u32) -> u64
         sum += minutes_of(shown, w, d, p);
     }
     sum
+}
+
+// How many patients have surgery on the day.
+#[tactic(auto, using(ih_plan::proofs::SumLemmas::sum_steps))]
+fn surgery_count(shown: &Shown<'_>, w: Resource, d: u32) -> u64
+    ensures { result ≡ surgery_count shown.now.inst.now.draft shown.now.plan.now w d }
+{
+    let mut count = 0;
+    for p in 0..shown.inst.patients() {
+        count += bit(has_surgery(shown.inst, shown.plan, w, d, PatientNo(p)));
+    }
+    count
 }
 
 fn letter_of(w: Resource) -> &'static str
@@ -127,21 +138,26 @@ fn put_operation(out: &mut Vec<u8>, shown: &Shown<'_>, w: Resource, d: u32, p: u
     }
 }
 
-fn put_surgery(out: &mut Vec<u8>, shown: &Shown<'_>, w: Resource, d: u32, n: u64) -> Put
-    requires resource { IsResourceOf shown.now.inst.now.draft w }
-    requires minutes { n ≤ 4294967296 * 2048 }
-    ensures { OnOk result
-        (out.new.items ≡ out.old.items ++ surgery_of shown.now.inst.now.draft shown.now.plan.now w d n) }
+fn put_operations(out: &mut Vec<u8>, shown: &Shown<'_>, w: Resource, d: u32) -> Put
+    ensures { OnOk result (out.new.items ≡ out.old.items ++ lines_below (patient_count shown.now.inst.now.draft)
+        (operation shown.now.inst.now.draft shown.now.plan.now w d)) }
 {
-    if n == 0 {
+    for p in 0..shown.inst.patients() {
+        put_operation(out, shown, w, d, p)?;
+    }
+    Ok(())
+}
+
+fn put_surgery(out: &mut Vec<u8>, shown: &Shown<'_>, w: Resource, d: u32, count: u64) -> Put
+    requires { IsResourceOf shown.now.inst.now.draft w }
+    ensures { OnOk result
+        (out.new.items ≡ out.old.items ++ surgery_of shown.now.inst.now.draft shown.now.plan.now w d count) }
+{
+    if count == 0 {
         return put(out, ">");
     }
-    put_minutes(out, limit_of(shown.inst, w, d), n)?;
-    put_below(
-        out,
-        shown.inst.patients(),
-        |out, p| put_operation(out, shown, w, d, p),
-    )
+    put_minutes(out, limit_of(shown.inst, w, d), planned(shown, w, d))?;
+    put_operations(out, shown, w, d)
 }
 
 #[tactic(auto, unfolding(crate::specs::Surgery::surgery_td))]
@@ -151,7 +167,7 @@ fn put_td(out: &mut Vec<u8>, shown: &Shown<'_>, w: Resource, d: u32) -> Put
         (out.new.items ≡ out.old.items ++ surgery_td shown.now.inst.now.draft shown.now.plan.now w d) }
 {
     put_td_at(out, letter_of(w), number_of(w), d)?;
-    put_surgery(out, shown, w, d, planned(shown, w, d))
+    put_surgery(out, shown, w, d, surgery_count(shown, w, d))
 }
 
 #[tactic(auto, unfolding(crate::specs::Surgery::surgery_row))]
@@ -161,7 +177,9 @@ fn put_row(out: &mut Vec<u8>, shown: &Shown<'_>, w: Resource) -> Put
 {
     put(out, "<tr><th>")?;
     put_resource(out, shown.inst, w)?;
-    put_below(out, shown.inst.days(), |out, d| put_td(out, shown, w, d))?;
+    for d in 0..shown.inst.days() {
+        put_td(out, shown, w, d)?;
+    }
     put(out, "\n")
 }
 
@@ -183,10 +201,8 @@ pub fn put_surgery_of(out: &mut Vec<u8>, shown: &Shown<'_>, kind: ResourceKind) 
         (out.new.items ≡ out.old.items ++ surgery_text shown.now.inst.now.draft shown.now.plan.now kind) }
 {
     put_heads_and_days(out, shown.inst, heads_of(kind), "<th>")?;
-    put_below(
-        out,
-        count_of(shown.inst, kind),
-        |out, i| put_row(out, shown, one_of(kind, i)),
-    )?;
+    for i in 0..count_of(shown.inst, kind) {
+        put_row(out, shown, one_of(kind, i))?;
+    }
     put(out, "</table></div>\n")
 }

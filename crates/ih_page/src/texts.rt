@@ -2,7 +2,7 @@
 
 ghost use Rattle.std.specs.Prelude.{◌≡◌, ◌++◌, OnOk, decimal};
 ghost use Rattle.std.specs.Fmt.{signed_decimal};
-ghost use Rattle.ih_page.specs.Html.{escaped, escaped_byte, labelled, numbered};
+ghost use Rattle.ih_page.specs.Html.{escaped, escaped_byte, isolated, labelled, numbered};
 
 use itoa::Buffer;
 use std::alloc::AllocError;
@@ -47,15 +47,24 @@ fn put_byte(out: &mut Vec<u8>, b: u8) -> Put
     }
 }
 
-/// Appends a text that comes from a file, escaped.
+// Appends a text that comes from a file, escaped.
 #[tactic(auto, unfolding(crate::specs::Html::escaped))]
-pub fn put_escaped(out: &mut Vec<u8>, text: &str) -> Put
+fn put_escaped(out: &mut Vec<u8>, text: &str) -> Put
     ensures { OnOk result (out.new.items ≡ out.old.items ++ escaped text.now) }
 {
     for b in text.as_bytes() {
         put_byte(out, *b)?;
     }
     Ok(())
+}
+
+/// Appends a text that comes from a file, escaped and isolated: a mark of direction in it turns nothing behind it.
+pub fn put_isolated(out: &mut Vec<u8>, text: &str) -> Put
+    ensures { OnOk result (out.new.items ≡ out.old.items ++ isolated text.now) }
+{
+    put(out, "<bdi>")?;
+    put_escaped(out, text)?;
+    put(out, "</bdi>")
 }
 
 /// Appends a text of the page's own, and a number.
@@ -75,5 +84,5 @@ pub fn put_numbered(out: &mut Vec<u8>, tag: &str, n: u32, rest: &str, name: &str
     put(out, tag)?;
     put_number(out, n as u64)?;
     put(out, rest)?;
-    put_escaped(out, name)
+    put_isolated(out, name)
 }

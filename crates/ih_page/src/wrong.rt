@@ -12,7 +12,6 @@ use crate::bill_lines::{
     Line, full_name, magnitude, number_in, put_amount, put_fold, put_short_name,
 };
 use crate::cell_names::{put_cell, put_cell_anchor};
-use crate::loops::put_below;
 use crate::order::dearest_first;
 use crate::shown::{Priced, Shown};
 use crate::texts::{Put, put, put_signed};
@@ -164,12 +163,13 @@ fn put_line_lists(alloc: Global, out: &mut Vec<u8>, priced: &Priced<'_>) -> Put
     ensures { let shown = priced.now.shown.now in OnOk result
         (out.new.items ≡ out.old.items ++ line_lists shown.inst.now.draft shown.plan.now) }
 {
-    put_below(out, 9, |out, i| {
-        put_line_list(alloc, out, priced, Line::Rule(i as usize))
-    })?;
-    put_below(out, 8, |out, i| {
-        put_line_list(alloc, out, priced, Line::Cost(i as usize))
-    })
+    for i in 0..9 {
+        put_line_list(alloc, out, priced, Line::Rule(i))?;
+    }
+    for i in 0..8 {
+        put_line_list(alloc, out, priced, Line::Cost(i))?;
+    }
+    Ok(())
 }
 
 /// Appends the lists of what is wrong, and where.

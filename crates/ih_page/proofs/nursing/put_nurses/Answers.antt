@@ -1,14 +1,17 @@
-use Rattle.std.proofs.Common.{rules}
 use Rattle.std.proofs.lemmas.Result.{on_ok_weaker}
-use Rattle.ih_page.specs.Nursing.{nurse_row, nurses_text}
-use Rattle.ih_page.proofs.Lines.{counted}
+use Rattle.ih_page.specs.Nursing.{nurses_text}
 use Rattle.ih_page.proofs.Joins.{joins3}
+use Rattle.ih_page.proofs.Lines.{no-lines, some-more, all-lines}
 use Rattle.ih_page.proofs.nursing.put_nurses.Goals as goal
+
+pub loop-n-init : goal.loop-n-init
+loop-n-init c = no-lines _ _
+
+pub loop-n-preserved : goal.loop-n-preserved
+loop-n-preserved c = some-more _ _ _ _ _ c.loop-n.invariant c.in_ok-put_row.ensures
 
 pub returns : goal.returns
 unfolding nurses_text
 returns c =
-    on_ok_weaker c.put.result
-    (λ d. joins3 _ _ _ _ _ _ _ c.in_ok-put_heads_and_days.ensures
-    (counted _ _ _ _ _ c.nurses.ensures (c.in_ok-put_below.ensures (nurse_row c.args.shown.now.inst.now.draft c.args.shown.now.plan.now) (search rules))) d)
+    on_ok_weaker c.put.result (λ d. joins3 _ _ _ _ _ _ _ c.in_ok-put_heads_and_days.ensures (all-lines _ _ _ _ _ _ c.loop-n.invariant c.loop-n.auto.n-end c.loop-n-test.false c.nurses-n-end.ensures) d)
     c.put.ensures

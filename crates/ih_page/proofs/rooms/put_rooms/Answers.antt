@@ -1,13 +1,14 @@
-use Rattle.std.proofs.Common.{rules}
-use Rattle.std.proofs.lemmas.Result.{on_ok_weaker}
-use Rattle.ih_page.specs.Rooms.{room_text, rooms_text}
-use Rattle.ih_page.proofs.Lines.{counted}
+use Rattle.ih_page.specs.Rooms.{rooms_text}
 use Rattle.ih_page.proofs.Joins.{joins2}
+use Rattle.ih_page.proofs.Lines.{no-lines, some-more, all-lines}
 use Rattle.ih_page.proofs.rooms.put_rooms.Goals as goal
+
+pub loop-r-init : goal.loop-r-init
+loop-r-init c = no-lines _ _
+
+pub loop-r-preserved : goal.loop-r-preserved
+loop-r-preserved c = some-more _ _ _ _ _ c.loop-r.invariant c.in_ok-put_room.ensures
 
 pub returns : goal.returns
 unfolding rooms_text
-returns c =
-    on_ok_weaker c.put_below.result
-    (λ d. joins2 _ _ _ _ _ c.in_ok-put.ensures
-    (counted _ _ _ _ _ c.rooms.ensures d)) (c.put_below.ensures (room_text c.args.shown.now.inst.now.draft c.args.shown.now.plan.now) (search rules))
+returns c = joins2 _ _ _ _ _ c.in_ok-put.ensures (all-lines _ _ _ _ _ _ c.loop-r.invariant c.loop-r.auto.r-end c.loop-r-test.false c.rooms-r-end.ensures)

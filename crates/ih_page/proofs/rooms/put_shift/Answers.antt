@@ -1,13 +1,17 @@
-use Rattle.std.proofs.Common.{rules, ◌+◌, ◌*◌}
 use Rattle.std.proofs.lemmas.Result.{on_ok_weaker}
-use Rattle.ih_page.specs.Rooms.{nurse_td}
-use Rattle.ih_page.proofs.Lines.{counted}
 use Rattle.ih_page.proofs.Joins.{joins5}
+use Rattle.ih_page.proofs.Lines.{no-lines, some-more, all-lines}
 use Rattle.ih_page.proofs.rooms.put_shift.Goals as goal
+
+pub loop-d-init : goal.loop-d-init
+loop-d-init c = no-lines _ _
+
+pub loop-d-preserved : goal.loop-d-preserved
+loop-d-preserved c = some-more _ _ _ _ _ c.loop-d.invariant c.in_ok-put_care.ensures
 
 pub returns : goal.returns
 returns c =
     on_ok_weaker c.put-3.result
     (λ d. joins5 _ _ _ _ _ _ _ _ _ _ _ c.in_ok-put.ensures c.in_ok-put_shift_type.ensures c.in_ok-put-2.ensures
-    (counted _ _ _ _ _ c.days.ensures (c.in_ok-put_below.ensures (λ d. nurse_td c.args.shown.now.inst.now.draft c.args.shown.now.plan.now c.args.r (3 * d + c.args.j)) (search rules))) d)
+    (all-lines _ _ _ _ _ _ c.loop-d.invariant c.loop-d.auto.d-end c.loop-d-test.false c.days-d-end.ensures) d)
     c.put-3.ensures

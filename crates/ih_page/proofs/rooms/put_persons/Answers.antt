@@ -1,0 +1,21 @@
+use Rattle.ih_page.specs.Rooms.{person_rows}
+use Rattle.ih_page.proofs.Joins.{joins2}
+use Rattle.ih_page.proofs.Lines.{no-lines, some-more, all-lines}
+use Rattle.ih_page.proofs.rooms.put_persons.Goals as goal
+
+pub loop-o-init : goal.loop-o-init
+loop-o-init c = no-lines _ _
+
+pub loop-o-preserved : goal.loop-o-preserved
+loop-o-preserved c = some-more _ _ _ _ _ c.loop-o.invariant c.in_ok-put_occupant_in.ensures
+
+pub loop-p-init : goal.loop-p-init
+loop-p-init c = no-lines _ _
+
+pub loop-p-preserved : goal.loop-p-preserved
+loop-p-preserved c = some-more _ _ _ _ _ c.loop-p.invariant c.in_ok-put_patient_in.ensures
+
+pub returns : goal.returns
+unfolding person_rows
+returns c = joins2 _ _ _ _ _ (all-lines _ _ _ _ _ _ c.loop-o.invariant c.loop-o.auto.o-end c.loop-o-test.false c.occupants-o-end.ensures)
+    (all-lines _ _ _ _ _ _ c.loop-p.invariant c.loop-p.auto.p-end c.loop-p-test.false c.patients-p-end.ensures)
