@@ -2,7 +2,7 @@
 
 use crate::tests::meeting::meet;
 use crate::tests::pairs::has_pairs;
-use crate::tests::viewing::{has_page, shows, views};
+use crate::tests::viewing::{has_page, views};
 use crate::tests::whole_calls::{
     are_same, ends, ends_saying, exits, has_lines, have_same_lines, holds, is_held, lay, reads,
     store_changed,
@@ -47,8 +47,6 @@ pub enum Event<'a> {
     Views(&'a str, Viewed, &'a str),
     /// A name has a page.
     Page(&'a str),
-    /// A name has a text in which each of these stands.
-    Shows(&'a str, &'a [&'a str]),
     /// A name has just this text, or isn't there.
     Holds(&'a str, Option<&'a str>),
     /// Two names have the same bytes.
@@ -63,7 +61,7 @@ pub enum Event<'a> {
 
 use Event::{
     Alike, Change, Ends, Exits, FailRead, FailWrite, Held, Holds, Lay, Lines, Meets, Page, Pairs,
-    Replays, Same, SameLines, Shows, Silent, Store, Views,
+    Replays, Same, SameLines, Silent, Store, Views,
 };
 
 fn is_done<R: Files + Print + Threads + Wait + Sync>(
@@ -140,7 +138,6 @@ fn is_so(shelf: &MemShelf, event: &Event<'_>) -> bool {
         Lines(name, count) => has_lines(shelf, name, count),
         Pairs(name) => has_pairs(shelf, name),
         Page(name) => has_page(shelf, name),
-        Shows(name, texts) => shows(shelf, name, texts),
         _ => false,
     }
 }

@@ -33,18 +33,6 @@ pub fn views<R: Files + Print>(
     }
 }
 
-fn is_there(page: &[u8], text: &str) -> bool {
-    (0..page.len()).any(|i| page[i..].starts_with(text.as_bytes()))
-}
-
-/// Whether the name has a text in which each of these stands.
-pub fn shows(shelf: &MemShelf, name: &str, texts: &[&str]) -> bool {
-    match shelf.get(name) {
-        Some(page) => texts.iter().all(|text| is_there(page, *text)),
-        None => false,
-    }
-}
-
 /// Whether the name has a page.
 pub fn has_page(shelf: &MemShelf, name: &str) -> bool {
     match shelf.get(name) {

@@ -1,9 +1,9 @@
 //! Whole calls of view, over files in memory.
 
-use crate::examples::{COVERED_SOLUTION, NOTHING, NOWHERE, ONE_ADMITTED};
-use crate::tests::script::Event::{Change, FailWrite, Holds, Lay, Page, Shows, Store, Views};
+use crate::examples::{COVERED_SOLUTION, NOWHERE};
+use crate::tests::script::Event::{FailWrite, Holds, Lay, Page, Store, Views};
 use crate::tests::script::{Event, goes};
-use ih_fixtures::{TWO_PATIENTS, WARD};
+use ih_fixtures::WARD;
 use ih_look::{InputRole, Status};
 use ih_tables::{Fault, Refusal};
 use std::alloc::Global;
@@ -87,61 +87,6 @@ const WRITTEN: [Event<'static>; 4] = [
 #[test]
 fn a_page_is_written(rt: HostRuntime) {
     assert!(rt; goes(&rt, rt.alloc(), &WRITTEN));
-}
-
-// What stands in the files of two patients, each with what is put in its place, and texts that the page then has.
-type Look = (
-    (&'static str, &'static str),
-    (&'static str, &'static str),
-    &'static [&'static str],
-);
-
-const UNCHANGED: (&str, &str) = (NOTHING, "");
-
-// A surgery of 0 minutes makes a day one with surgery. A nurse who is off is marked where an empty room is given. An id
-// that turns what follows ends where it stands.
-const LOOKS: [Look; 3] = [
-    (
-        ("\"surgery_duration\":60", "\"surgery_duration\":0"),
-        UNCHANGED,
-        &[
-            "<li><a href=#t0-0>theatre <bdi>t0</bdi>, day 0</a>: open\n",
-            "<td id=t0-0>0/60<i style=width:0%></i> <a href=#p0><bdi>p0</bdi></a><td id=t0-1>\n",
-            "<td id=g0-0>0/100<i style=width:0%></i> <a href=#p0><bdi>p0</bdi></a><td id=g0-1>\n",
-        ],
-    ),
-    (
-        (r#"[{"day":0,"shift":"early","max_load":10},"#, "["),
-        (
-            r#""nurses":["#,
-            r#""nurses":[{"id":"n1","assignments":[{"day":0,"shift":"early","rooms":["r1"]}]},"#,
-        ),
-        &[
-            "<li><a href=#s1-0>room <bdi>r1</bdi>, day 0, <bdi>early</bdi></a>: the nurse is off\n",
-            "<td id=n1-0 class=x>!0/off<td id=n1-1>0/10",
-        ],
-    ),
-    (
-        (r#""p0""#, "\"p\u{202e}0\""),
-        (r#""p0""#, "\"p\u{202e}0\""),
-        &["<tr id=p0><th><bdi>p\u{202e}0</bdi><td>"],
-    ),
-];
-
-fn is_shown<R: Files + Print + Threads + Wait + Sync>(rt: &R, alloc: Global, row: &Look) -> bool {
-    let ((from, to), (was, is), texts) = *row;
-    let events = [
-        Change("i", TWO_PATIENTS, from, to),
-        Change("s", ONE_ADMITTED, was, is),
-        Views("i s p", Status::Done, ""),
-        Shows("p", texts),
-    ];
-    goes(rt, alloc, events.as_slice())
-}
-
-#[test]
-fn what_a_page_shows(rt: HostRuntime) {
-    assert!(rt; LOOKS.iter().all(|row| is_shown(&rt, rt.alloc(), row)));
 }
 
 // A page whose write is to fail is cut off, which is said.
