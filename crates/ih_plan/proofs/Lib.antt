@@ -1,5 +1,6 @@
 pub mod ExampleWards
 pub mod BillBounds
+pub mod BillSums
 pub mod TestLemmas
 pub mod ReadLemmas
 pub mod Entries

@@ -7,7 +7,7 @@ use Rattle.ih_tables.specs.declared.drafts.Draft.{Draft}
 use Rattle.ih_plan.specs.declared.moves.Move.{Move}
 use Rattle.ih_plan.specs.declared.moves.Write.{Write}
 use Rattle.ih_plan.specs.Timetable.{Timetable, IsPlanOf}
-use Rattle.ih_plan.specs.Expand.{after, expand}
+use Rattle.ih_plan.specs.Expand.{IsMoveOf, after, expand}
 use Rattle.ih_plan.specs.Writes.{put, put_all, AreWritesOf}
 use Rattle.ih_plan.specs.Cells.{cell_at, cell_count}
 use Rattle.ih_plan.specs.Footprint.{touches, footprint}
@@ -19,6 +19,10 @@ use Rattle.ih_plan.specs.Laws.{AreTheirWrites, IsAlone}
 put_all-append : (ws vs : List Write) (P : Timetable) → put_all (ws ++ vs) P ≡ put_all vs (put_all ws P)
 put_all-append [] vs P = refl
 put_all-append (w ∷ ws) vs P = put_all-append ws vs (put w P)
+
+pub moves-more : (I : Draft) (ms : List Move) (m : Move) → AreMoves I ms → IsMoveOf I m → AreMoves I (ms ++ m ∷ [])
+moves-more I [] m all one = (one, tt)
+moves-more I (n ∷ ms) m all one = (all.0, moves-more I ms m all.1 one)
 
 pub after_all-plan : (I : Draft) (P : Timetable) (ms : List Move) → IsPlanOf I P → AreMoves I ms
     → IsPlanOf I (after_all I P ms)

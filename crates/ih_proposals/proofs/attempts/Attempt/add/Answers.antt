@@ -1,4 +1,4 @@
-use Rattle.ih_proposals.proofs.Moves.{moves-more}
+use Rattle.ih_plan.proofs.Series.{moves-more}
 use Rattle.ih_proposals.proofs.attempts.Attempt.add.Goals as goal
 
 pub returns : goal.returns
