@@ -22,7 +22,7 @@ use Rattle.ih_journal.proofs.Mapped.{get-mapped}
 use Rattle.ih_cellbook.specs.Legal.{IsHistoryOver}
 use Rattle.ih_cellbook.proofs.Committing.{accepted-is, legal_but-moves}
 use Rattle.ih_cellbook.proofs.ExactPrices.{prices-exact, take-next}
-use Rattle.ih_cellbook.proofs.BookKeeping.{add-change, sum-within}
+use Rattle.ih_plan.proofs.BillSums.{add-change, sum-within}
 
 -- the bill after the first k entries, and the best of them
 pub record HasCome (b : Base) (H : List Tried) (k : ℕ) (now : Bill) (best : Option (ℕ × ℤ)) : Type 0 where

@@ -59,20 +59,33 @@ MayFollowUpTo r accepted until = (es : List Tried) × AreUpTo r accepted until e
 abbrev pub StandsUpTo : Snapshot → List Tried → ℕ → Snapshot → Type 0
 StandsUpTo r accepted until s = (es : List Tried) → AreUpTo r accepted until es → StandsAfter r es s
 
--- The offer of worker w of this number and these moves, priced after all entries of H.
-pub record IsOfferAfter (b : Base) (H : List Tried) (w n : ℕ) (m : List Move) (o : Offered) : Type 0 where
+-- The offer of worker w of this number and these moves, priced after all entries of H, with these cells.
+pub record IsOfferWith (b : Base) (H : List Tried) (w n : ℕ) (m : List Move) (cells : List (ℕ × ℕ)) (o : Offered) : Type 0 where
   pub worker : o.worker ≡ w
   pub number : o.number ≡ n
   pub move : o.moves ≡ m
   pub seen : o.seen ≡ length H
   pub price : o.price ≡ price_of_all b.instance (plan_after b H) m
-  -- none where the verdict doesn't rest on them
-  pub reads : o.reads.pairs ≡ (if is_compared b.instance b.options o.frozen n o.price then reads_after b H m else [])
+  pub reads : o.reads.pairs ≡ cells
   pub frozen : o.frozen ≡ is_frozen b (plan_after b H) m
 
--- Whatever history the replica stands for, the offer is that of its worker after it.
+-- The same with all cells of the footprint there, each with its version.
+abbrev pub IsPricedAfter : Base → List Tried → ℕ → ℕ → List Move → Offered → Type 0
+IsPricedAfter b H w n m o = IsOfferWith b H w n m (reads_after b H m) o
+
+-- The same with the cells that the verdict rests on: none where it rests on none.
+abbrev pub IsOfferAfter : Base → List Tried → ℕ → ℕ → List Move → Offered → Type 0
+IsOfferAfter b H w n m o =
+    IsOfferWith b H w n m (if is_compared b.instance b.options o.frozen n o.price then reads_after b H m else []) o
+
+-- Whatever history the replica stands for, the offer is that of its worker after it, with the cells that its verdict
+-- rests on.
 abbrev pub IsOfferOf : Snapshot → ℕ → List Move → Offered → Type 0
 IsOfferOf r n m o = (b : Base) (H : List Tried) → IsReplicaOf b H r → IsOfferAfter b H r.worker n m o
+
+-- The same with all cells of the footprint there.
+abbrev pub IsPricedOf : Snapshot → ℕ → List Move → Offered → Type 0
+IsPricedOf r n m o = (b : Base) (H : List Tried) → IsReplicaOf b H r → IsPricedAfter b H r.worker n m o
 
 -- Where the worker isn't done and its next attempt has this number, a book with that history takes the offer.
 abbrev pub IsRightFor : Snapshot → ℕ → Offered → Type 0

@@ -1,60 +1,45 @@
 //! What is tried as one, and what keeps it: entries and offers, of one move or of several in a row.
 
-ghost use Rattle.std.specs.Prelude.{◌≡◌, ℕ, ◌+◌, ◌<◌, ◌≤◌, [], List, All, IfOk, IsTrue, true, length, map, slice_index};
-ghost use Rattle.std.specs.List.{list_any, range_with_len};
-ghost use Rattle.ih_plan.specs.{Draws.move_of, Draws.stream_at, Timetable.IsPlanOf, Sums.tagged, Series.AreMoves};
-ghost use Rattle.ih_plan.specs.{Series.expand_all, declared.moves.Move.Move};
-ghost use Rattle.ih_journal.specs.{Frozen.is_frozen_write, Tried.Tried};
+ghost use Rattle.std.specs.Prelude.{◌≡◌, ℕ, ◌<◌, ◌≤◌, ◌++◌, ◌∷◌, [], List, All, IfOk, IsTrue, true, length, slice_index};
+ghost use Rattle.ih_plan.specs.{Sums.tagged, declared.moves.Move.Move};
+ghost use Rattle.ih_journal.specs.{Tried.Tried};
 ghost use Rattle.ih_cellbook.specs.Offered.{Offered};
 
 use crate::reads::Reads;
 use ih_journal::Verdict;
-use ih_moves::{Stream, Writes};
-use ih_plan::{Move, Plan};
-use ih_tables::{Bill, Instance};
+use ih_plan::Move;
+use ih_tables::Bill;
 use std::alloc::{AllocError, Global};
 
 /// Moves in a row that are tried as one.
 pub trait Attempted: Copy {
     ghost moves: { Self → List Move };
 
-    /// The moves, in order.
-    fn as_slice(&self) -> &[Move]
-        ensures { result.now ≡ moves self.now };
-
-    // It may have so many moves.
-    ghost may_have: { ℕ → Type 0 };
-
-    /// The next draws of a stream, so many of them.
-    fn draw(inst: &Instance, stream: &mut Stream, count: u32) -> Self
-        requires { may_have count }
-        ensures inside { AreMoves inst.now.draft (moves result) }
-        ensures drawn { (seed w i : ℕ) → stream.old ≡ stream_at seed w i
-            → (moves result ≡ map (move_of inst.now.draft seed w) (range_with_len i count))
-            × (stream.new ≡ stream_at seed w (i + count)) };
+    // How many moves it may have.
+    ghost most_moves: { ℕ };
 
     // The latest freeze day under which it may be tried: any for single moves, day 0 for chains, which freeze nothing.
     ghost most_freeze: { ℕ };
 
-    /// Whether one of the writes changes a choice before the freeze day.
-    fn is_frozen(
-        &self,
-        inst: &Instance,
-        start: &Plan,
-        freeze: u32,
-        plan: &Plan,
-        writes: &mut Writes,
-    ) -> bool
-        requires start { IsPlanOf inst.now.draft start.now }
-        requires plan { IsPlanOf inst.now.draft plan.now }
-        requires moves { AreMoves inst.now.draft (moves self.now) }
-        requires freeze { freeze ≤ most_freeze }
-        ensures { result ≡ list_any (is_frozen_write start.now freeze)
-            (expand_all inst.now.draft plan.now (moves self.now)) };
+    /// The one move.
+    fn of(mv: Move) -> Self
+        ensures { moves result ≡ mv ∷ [] };
+
+    /// Puts a move behind the others, if there is room for it.
+    fn push(&mut self, mv: Move)
+        ensures room { length (moves self.old) < most_moves → moves self.new ≡ moves self.old ++ mv ∷ [] }
+        ensures full { most_moves ≤ length (moves self.old) → moves self.new ≡ moves self.old };
+
+    /// The moves, in order.
+    fn as_slice(&self) -> &[Move]
+        ensures { result.now ≡ moves self.now };
 
     /// Whether it is found to be the same as another. An answer of no says nothing.
     fn is_same(&self, other: &Self) -> bool
         ensures { IsTrue result → moves self.now ≡ moves other.now };
+
+    // Where a choice may be frozen, it has one move at most.
+    ghost alone: { (a : Self) → 0 < most_freeze → length (moves a) ≤ 1 };
 }
 
 /// An offer of such moves.

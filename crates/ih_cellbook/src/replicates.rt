@@ -39,8 +39,8 @@ pub trait Replicates: Drop {
         ensures worker { (copied self.new).worker ≡ (copied self.old).worker };
 
     /// Makes the last offer that of its worker for an attempt of this number, priced after the entries that it stands
-    /// for.
-    fn price(&mut self, attempt: &<Self::Entry as Logged>::Attempt, number: u32)
+    /// for, with the cells that its verdict rests on: none where it is frozen or too dear.
+    fn offer(&mut self, attempt: &<Self::Entry as Logged>::Attempt, number: u32)
         requires { AreMoves (copied self.old).base.instance (Self.Entry.Attempt.moves attempt.now) }
         ensures offer { IsOfferOf (copied self.old) number (Self.Entry.Attempt.moves attempt.now)
             (copied self.new).last }

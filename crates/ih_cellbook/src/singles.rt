@@ -1,62 +1,35 @@
 //! Attempts of one move.
 
-ghost use Rattle.std.specs.Prelude.{◌≡◌};
-ghost use Rattle.std.specs.List.{list_any};
-ghost use Rattle.ih_plan.specs.{Timetable.IsPlanOf, Writes.AreWritesOf};
-ghost use Rattle.ih_journal.specs.Frozen.{is_frozen_write};
-
 use crate::kinds::{Attempted, Logged, Offers};
 use crate::offers::Offer;
 use crate::reads::Reads;
-use ih_journal::{Entry, Verdict, frozen};
-use ih_moves::{Stream, Writes, expand};
-use ih_plan::{Move, Plan, Write};
-use ih_tables::{Bill, Instance};
+use ih_journal::{Entry, Verdict};
+use ih_plan::Move;
+use ih_tables::Bill;
 use std::alloc::{AllocError, Global};
-
-// Whether one of the writes is frozen.
-fn any_frozen(inst: &Instance, start: &Plan, freeze: u32, writes: &[Write]) -> bool
-    requires start { IsPlanOf inst.now.draft start.now }
-    requires writes { AreWritesOf inst.now.draft writes.now }
-    ensures { result ≡ list_any (is_frozen_write start.now freeze) writes.now }
-{
-    match writes.split_first() {
-        None => false,
-        Some((w, rest)) => frozen(start, freeze, w) || any_frozen(inst, start, freeze, rest),
-    }
-}
 
 impl Attempted for Move {
     ghost use Rattle.std.specs.Prelude.{[], ◌∷◌, ◌^◌};
+    ghost use Rattle.std.proofs.Common.{rules};
 
     ghost moves = { λ m. m ∷ [] };
+
+    ghost most_moves = { 1 };
+
+    ghost most_freeze = { 2 ^ 32 };
+
+    fn of(mv: Move) -> Move {
+        mv
+    }
+
+    // There is no room for another.
+    fn push(&mut self, _mv: Move) {}
 
     fn as_slice(&self) -> &[Move] {
         std::slice::from_ref(self)
     }
 
-    ghost may_have = { λ n. n ≡ 1 };
-
-    fn draw(inst: &Instance, stream: &mut Stream, _count: u32) -> Move {
-        stream.draw(inst)
-    }
-
-    ghost most_freeze = { 2 ^ 32 };
-
-    fn is_frozen(
-        &self,
-        inst: &Instance,
-        start: &Plan,
-        freeze: u32,
-        plan: &Plan,
-        writes: &mut Writes,
-    ) -> bool {
-        if freeze == 0 {
-            return false;
-        }
-        expand(inst, plan, self, writes);
-        any_frozen(inst, start, freeze, writes.as_slice())
-    }
+    ghost alone = { Prim.search rules };
 
     fn is_same(&self, other: &Move) -> bool {
         self == other

@@ -17,7 +17,7 @@ use Rattle.ih_journal.specs.Base.{Base}
 use Rattle.ih_journal.specs.Grammar.{IsTriedOf, parted}
 use Rattle.ih_journal.specs.Names.{AreShort, move_name, move_numbers}
 use Rattle.ih_journal.specs.Pieces.{AreShortOptions}
-use Rattle.ih_journal.specs.Texts.{ended, move_text, named, numbers, option_text, options_from, price_text, retries_field, verdict_text}
+use Rattle.ih_journal.specs.Texts.{move_text, named, numbers, option_text, options_from, price_text, retries_field, verdict_text}
 use Rattle.ih_journal.proofs.HeadTexts.{lawful_short, option_lacks, option_same, options_differ}
 use Rattle.ih_journal.proofs.InRange.{IsLimited, limits, move_short}
 use Rattle.ih_journal.proofs.JournalTexts.{first_line, not_ended}
@@ -32,7 +32,7 @@ use Rattle.ih_cellbook.proofs.Ranges.{each-in, short}
 use Rattle.ih_chain.specs.declared.entries.ChainEntry.{ChainEntry}
 use Rattle.ih_chain.specs.Entries.{chain_tried, chain_tries}
 use Rattle.ih_chain.specs.Laws.{ChainJournalsTellSearchesApart}
-use Rattle.ih_chain.specs.Texts.{chain_fields, chain_heading, chain_journal, chain_line, chain_lines_from, chain_text}
+use Rattle.ih_chain.specs.Texts.{chain_fields, chain_heading, chain_line, chain_lines_from, chain_text}
 use Rattle.ih_chain.proofs.EntryTries.{same-entry}
 
 -- ---- the moves of a chain

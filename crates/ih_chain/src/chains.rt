@@ -3,9 +3,7 @@
 ghost use Rattle.std.specs.Prelude.{◌≡◌, IsTrue};
 
 use ih_cellbook::Attempted;
-use ih_moves::{Stream, Writes};
-use ih_plan::{Move, Plan};
-use ih_tables::Instance;
+use ih_plan::Move;
 use std::marker::Model;
 
 /// Up to 8 moves in a row.
@@ -76,38 +74,31 @@ fn are_same(left: &[Move], right: &[Move]) -> bool
 }
 
 impl Attempted for Chain {
-    ghost use Rattle.std.specs.Prelude.{◌≤◌};
+    ghost use Rattle.std.proofs.Common.{rules};
 
     ghost moves = { λ c. c };
+
+    ghost most_moves = { 8 };
+
+    ghost most_freeze = { 0 };
+
+    fn of(mv: Move) -> Chain {
+        let mut chain = Chain::new();
+        chain.push(mv);
+        chain
+    }
+
+    fn push(&mut self, mv: Move) {
+        if self.as_slice().len() < 8 {
+            self.push(mv);
+        }
+    }
 
     fn as_slice(&self) -> &[Move] {
         self.as_slice()
     }
 
-    ghost may_have = { λ n. n ≤ 8 };
-
-    fn draw(inst: &Instance, stream: &mut Stream, count: u32) -> Chain {
-        let mut chain = Chain::new();
-        for _place in 0..count {
-            let mv = stream.draw(inst);
-            chain.push(mv);
-        }
-        chain
-    }
-
-    ghost most_freeze = { 0 };
-
-    // Chains are tried without a freeze day.
-    fn is_frozen(
-        &self,
-        _inst: &Instance,
-        _start: &Plan,
-        _freeze: u32,
-        _plan: &Plan,
-        _writes: &mut Writes,
-    ) -> bool {
-        false
-    }
+    ghost alone = { Prim.search rules };
 
     fn is_same(&self, other: &Chain) -> bool {
         are_same(self.as_slice(), other.as_slice())

@@ -1,6 +1,6 @@
 //! A worker's own copy of a search by chains.
 
-ghost use Rattle.std.specs.Prelude.{◌≡◌, [], IfOk};
+ghost use Rattle.std.specs.Prelude.{◌≡◌, ◌^◌, [], IfOk};
 
 use crate::chains::Chain;
 use crate::entries::{ChainEntry, ChainOffer};
@@ -29,10 +29,13 @@ impl<'a> Model for ChainReplica<'a> {
 
 impl<'a> ChainReplica<'a> {
     ghost use Rattle.std.specs.Borrow.{sem};
+    ghost use Rattle.ih_tables.specs.Bills.{IsWithin};
     ghost use Rattle.ih_plan.specs.{Timetable.IsPlanOf, Series.AreMoves};
     ghost use Rattle.ih_journal.specs.Settings.{IsLawful};
     ghost use Rattle.ih_cellbook.specs.Keeping.{base_with};
-    ghost use Rattle.ih_cellbook.specs.Replicas.{IsOfferOf, IsReplicaOf, IsRightFor, MayFollow, StandsAfter, StandsAs};
+    ghost use Rattle.ih_cellbook.specs.Replicas.{IsOfferOf, IsPricedOf, IsReplicaOf, IsRightFor, MayFollow};
+    ghost use Rattle.ih_cellbook.specs.Replicas.{StandsAfter, StandsAs};
+    ghost use Rattle.ih_snapshot.specs.Noting.{offer_of, priced_of};
     ghost use Rattle.ih_chain.specs.{Entries.chain_offered, Entries.chain_tries, Lending.RestsAs};
 
     /// A worker's replica of a search over a start, which fits the instance. It stands for the empty history.
@@ -69,30 +72,49 @@ impl<'a> ChainReplica<'a> {
         self.replica.seen()
     }
 
-    /// The offer of its worker for a chain of this number, priced after the entries that it stands for. Where the
-    /// price's score is at most what the number may cost, the offer has the cells of the chain's footprint there, each
-    /// with its version, and else none. The chain is made on the ledgers and taken back.
+    /// The offer of its worker for a chain of this number, priced after the entries that it stands for, with the cells
+    /// of the chain's footprint there, each with its version. The chain is made on the ledgers and taken back. `offer`
+    /// is cheaper where the verdict rests on no cell.
     pub fn price(&mut self, moves: &Chain, number: u32) -> &ChainOffer
         requires { AreMoves self.old.base.instance moves.now }
-        ensures offer { IsOfferOf self.old number moves.now (chain_offered result.now) }
+        ensures offer { IsPricedOf self.old number moves.now (chain_offered result.now) }
+        ensures within { IsWithin (10 ^ 11) result.now.price }
         ensures right { IsRightFor self.old number (chain_offered result.now) }
         ensures* same { sem 𝓛
             (RestsAs self.entry (λ r. (r.base ≡ self.old.base) × (r.worker ≡ self.old.worker) × StandsAs self.old r)) }
     {
-        self.make(moves, number);
+        self.prepare_price(moves, number);
         self.last()
     }
 
-    // Makes the offer for a chain of this number the last one.
-    fn make(&mut self, moves: &Chain, number: u32)
+    /// The same, but with the cells that the verdict rests on: those of the footprint where the price's score is at
+    /// most what the number may cost, and else none.
+    pub fn offer(&mut self, moves: &Chain, number: u32) -> &ChainOffer
         requires { AreMoves self.old.base.instance moves.now }
-        ensures offer { IsOfferOf self.old number moves.now self.new.last }
-        ensures right { IsRightFor self.old number self.new.last }
-        ensures base { self.new.base ≡ self.old.base }
-        ensures worker { self.new.worker ≡ self.old.worker }
-        ensures same { StandsAs self.old self.new }
+        ensures offer { IsOfferOf self.old number moves.now (chain_offered result.now) }
+        ensures within { IsWithin (10 ^ 11) result.now.price }
+        ensures right { IsRightFor self.old number (chain_offered result.now) }
+        ensures* same { sem 𝓛
+            (RestsAs self.entry (λ r. (r.base ≡ self.old.base) × (r.worker ≡ self.old.worker) × StandsAs self.old r)) }
     {
-        Replicates::price(&mut self.replica, moves, number);
+        self.prepare_offer(moves, number);
+        self.last()
+    }
+
+    fn prepare_price(&mut self, moves: &Chain, number: u32)
+        requires { AreMoves self.old.base.instance moves.now }
+        ensures made { self.new ≡ record self.old { last = priced_of self.old number moves.now } }
+        ensures within { IsWithin (10 ^ 11) self.new.last.price }
+    {
+        self.replica.prepare_price(moves, number);
+    }
+
+    fn prepare_offer(&mut self, moves: &Chain, number: u32)
+        requires { AreMoves self.old.base.instance moves.now }
+        ensures made { self.new ≡ record self.old { last = offer_of self.old number moves.now } }
+        ensures within { IsWithin (10 ^ 11) self.new.last.price }
+    {
+        self.replica.prepare_offer(moves, number);
     }
 
     fn last(&self) -> &ChainOffer

@@ -2,6 +2,7 @@
 #![tactic(auto)]
 
 mod desk;
+mod drawing;
 mod given;
 mod laws;
 mod passing;

@@ -65,7 +65,7 @@ impl<'a, C: Opens<'a>> WorkerOn<'a, C> {
         requires start { IsPlanOf inst.now.draft start.now }
         requires lawful { IsLawful options.now }
         requires freeze { freeze ≤ C.Entry.Attempt.most_freeze }
-        requires single { C.Entry.Attempt.may_have 1 }
+        requires single { 1 ≤ C.Entry.Attempt.most_moves }
         ensures new { IfOk result
             (λ w. IsNewWorker (base_with inst.entry.now.draft start.now options.now freeze) 1 w seat.entry) }
         ensures refused { IfErr result (λ s. s ≡ seat.entry) }

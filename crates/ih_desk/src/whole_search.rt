@@ -64,7 +64,8 @@ fn seat_workers<'a, C: Opens<'a>>(
 ) -> Result<Vec<WorkerOn<'a, C>>, AllocError>
     requires given { IsBase (base_given given.now) }
     requires freeze { given.now.freeze ≤ C.Entry.Attempt.most_freeze }
-    requires each { C.Entry.Attempt.may_have each }
+    requires some { 1 ≤ each }
+    requires few { each ≤ C.Entry.Attempt.most_moves }
     ensures { IfOk result (λ ws. AllZip (IsNewWorker (base_given given.entry.now) each) ws.items seats.entry.items) }
 {
     let mut workers = Vec::with_capacity(alloc, seats.len())?;
@@ -117,7 +118,8 @@ where
     requires given { IsBase (base_given given.now) }
     requires retries { given.now.options.retries ≤ C.Entry.most_retries }
     requires freeze { given.now.freeze ≤ C.Entry.Attempt.most_freeze }
-    requires each { C.Entry.Attempt.may_have each }
+    requires some { 1 ≤ each }
+    requires few { each ≤ C.Entry.Attempt.most_moves }
     ensures base { IfOk result (λ k. k.base ≡ base_given given.entry.now) }
     ensures full { IfOk result (λ k. IsFull (base_given given.entry.now) each k.entries) }
 {

@@ -4,8 +4,9 @@ ghost use Rattle.std.specs.Prelude.{◌≡◌};
 ghost use Rattle.ih_journal.specs.Attempts.{is_stale};
 
 use crate::desk::{DeskOf, DeskSeat};
+use crate::drawing::drawn;
 use crate::passing::Pass;
-use ih_cellbook::{Attempted, Logged, News, Opens, Replicates};
+use ih_cellbook::{Logged, News, Opens, Replicates};
 use ih_journal::{Options, Verdict};
 use ih_moves::Stream;
 use ih_plan::Plan;
@@ -29,6 +30,7 @@ pub struct Searcher<'a, C: Replicates> {
 }
 
 impl<'a, C: Replicates> Model for Searcher<'a, C> {
+    ghost use Rattle.std.specs.Prelude.{◌≤◌};
     ghost use Rattle.ih_desk.specs.Progress.{Progress};
 
     ghost Value = { Progress };
@@ -42,7 +44,7 @@ impl<'a, C: Replicates> Model for Searcher<'a, C> {
       news = s.news;
     } };
 
-    ghost invariant = { λ s. C.Entry.Attempt.may_have s.moves_each };
+    ghost invariant = { λ s. (1 ≤ s.moves_each) × (s.moves_each ≤ C.Entry.Attempt.most_moves) };
 }
 
 // Whether an attempt with this verdict is to be tried again, as long as it has tries left.
@@ -72,7 +74,8 @@ impl<'a, C: Opens<'a>> Searcher<'a, C> {
         requires start { IsPlanOf inst.now.draft start.now }
         requires lawful { IsLawful options.now }
         requires freeze { freeze ≤ C.Entry.Attempt.most_freeze }
-        requires each { C.Entry.Attempt.may_have each }
+        requires some { 1 ≤ each }
+        requires few { each ≤ C.Entry.Attempt.most_moves }
         ensures { IfOk result (IsNew (base_with inst.entry.now.draft start.now options.now freeze) each worker) }
     {
         Ok(Searcher {
@@ -116,11 +119,7 @@ impl<'a, C: Replicates> Searcher<'a, C> {
     {
         let mut next = seat;
         for number in 0..self.options.moves {
-            let attempt = <<C::Entry as Logged>::Attempt as Attempted>::draw(
-                self.inst,
-                &mut self.stream,
-                self.moves_each,
-            );
+            let attempt = drawn(self.inst, &mut self.stream, self.moves_each);
             next = self.make(rt, desk, next, gate, number, &attempt);
         }
         next
@@ -186,7 +185,7 @@ impl<'a, C: Replicates> Searcher<'a, C> {
         ensures stream { self.new.stream ≡ self.old.stream }
     {
         let worker = seat.number();
-        self.replica.price(attempt, number);
+        self.replica.offer(attempt, number);
         gate.before(rt, worker, number);
         let (seat, verdict) = desk.offer_and_look(rt, seat, self.replica.last(), &mut self.news);
         gate.after(rt, worker, number);

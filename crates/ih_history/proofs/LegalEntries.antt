@@ -1,6 +1,6 @@
 -- What holds of each entry of a legal history, and of its timetables.
 use Rattle.std.proofs.Common.{◌≡◌, ◌^◌, ℕ, List, take, get_or, Some}
-use Rattle.std.specs.Prelude.{All, slice_get}
+use Rattle.std.specs.Prelude.{All, map, slice_get}
 use Rattle.std.proofs.lemmas.Option.{slice_get-get_or}
 use Rattle.ih_tables.specs.Bills.{IsWithin}
 use Rattle.ih_tables.specs.Valid.{IsValid}
@@ -30,8 +30,13 @@ module _ (b : Base) (each : ℕ) (H : List Tried) (legal : AreLegal b each H) wh
       rw entry.price (change-within b.instance P (after_all b.instance P e.moves) valid earlier
       (after_all-plan b.instance P e.moves earlier entry.move))
 
+-- the prices of entries, whatever type keeps them
+pub prices-of : {E : Type 0} (f : E → Tried) (b : Base) (each : ℕ) (H : List E) → AreLegal b each (map f H) → IsPlanOf b.instance b.start → IsValid b.instance
+    → All (λ e. IsWithin (10 ^ 11) (f e).price) H
+prices-of f b each H legal start valid k d h =
+    price-in b each (map f H) legal start valid k (f (get_or H k d)) (get-mapped f H k (get_or H k d) (slice_get-get_or H k d h))
+
 -- the prices of single moves
 pub prices-in : (b : Base) (each : ℕ) (H : List Entry) → AreLegal b each (tries H) → IsPlanOf b.instance b.start → IsValid b.instance
     → All (λ e. IsWithin (10 ^ 11) e.price) H
-prices-in b each H legal start valid k d h =
-    price-in b each (tries H) legal start valid k (tried (get_or H k d)) (get-mapped tried H k (get_or H k d) (slice_get-get_or H k d h))
+prices-in = prices-of tried

@@ -162,7 +162,7 @@ fn commit(book: &mut Book<'_>, replica: &mut Replica<'_>, entry: &Entry) -> Resu
         (IsFirstOf (FitsIn book.old.base book.old.entries (length book.old.entries) entry.now) of_offer) }
     ensures same { OnErr result (book.new.entries ≡ book.old.entries) }
 {
-    let offer = replica.price(&entry.mv, entry.number);
+    let offer = replica.offer(&entry.mv, entry.number);
     if !is_same_price(&offer.price, &entry.price) {
         Err(Reason::Price)
     } else if !is_same_verdict(&book.judge(offer), &entry.verdict) {

@@ -20,8 +20,8 @@ use Rattle.ih_cellbook.specs.Noted.{Noted}
 use Rattle.ih_cellbook.specs.Offered.{Offered}
 use Rattle.ih_cellbook.specs.Offers.{IsRightOffer, next_number, reads_after}
 use Rattle.ih_cellbook.proofs.Committing.{footprint-below}
-use Rattle.ih_snapshot.specs.Noting.{asks_reads, offer_of, offer_with, reads_of}
-use Rattle.ih_cellbook.specs.Replicas.{IsReplicaOf, IsOfferAfter}
+use Rattle.ih_snapshot.specs.Noting.{asks_reads, offer_of, offer_with, priced_of, reads_of}
+use Rattle.ih_cellbook.specs.Replicas.{IsReplicaOf, IsOfferAfter, IsPricedAfter}
 use Rattle.ih_cellbook.specs.Snapshot.{Snapshot}
 
 module _ (b : Base) (H : List Tried) (r : Snapshot) (n : ℕ) (m : List Move) (stands : IsReplicaOf b H r) where
@@ -60,11 +60,23 @@ module _ (b : Base) (H : List Tried) (r : Snapshot) (n : ℕ) (m : List Move) (s
     frozen = frozen-is;
   }
 
+  pub priced-after : IsPricedAfter b H r.worker n m (priced_of r n m)
+  priced-after = record {
+    worker = refl;
+    number = refl;
+    move = refl;
+    seen = stands.seen;
+    price = price-is;
+    reads = reads-are;
+    frozen = frozen-is;
+  }
+
   whole : take r.seen H ≡ H
   whole = let same = stands.seen in take_all r.seen H (omega (arith, same))
 
-  pub stands-priced : IsReplicaOf b H (record r { last = offer_of r n m })
-  stands-priced = record {
+  -- it still stands for the history with another offer that was read off it
+  stands-with : (reads : List (ℕ × ℕ)) → (reads ≡ []) ⊎ (reads ≡ reads_of r m) → IsReplicaOf b H (record r { last = offer_with r n m reads })
+  stands-with reads known = record {
     base = stands.base;
     lawful = stands.lawful;
     legal = stands.legal;
@@ -73,16 +85,27 @@ module _ (b : Base) (H : List Tried) (r : Snapshot) (n : ℕ) (m : List Move) (s
     versions = stands.versions;
     last = record {
       seen = (let same = stands.seen in omega (arith, same));
-      reads = by_case (asks_reads r n m);
+      reads = elim known [
+        | inl none ↦ inl none
+        | inr all ↦ inr (all ∙ (reads-are ∙ ap (λ G. reads_after b G m) (sym whole)))
+      ];
     };
   }
+
+  pub stands-offered : IsReplicaOf b H (record r { last = offer_of r n m })
+  stands-offered = stands-with (if asks_reads r n m then reads_of r m else []) (by_case (asks_reads r n m))
     where
-      by_case : (t : Bool) → ((if t then reads_of r m else []) ≡ []) ⊎ ((if t then reads_of r m else []) ≡ reads_after b (take r.seen H) m)
-      by_case true = inr (reads-are ∙ ap (λ G. reads_after b G m) (sym whole))
+      by_case : (t : Bool) → ((if t then reads_of r m else []) ≡ []) ⊎ ((if t then reads_of r m else []) ≡ reads_of r m)
+      by_case true = inr refl
       by_case false = inl refl
 
-  pub offer-right : AreMoves r.base.instance m → r.worker < b.options.workers → next_number b.options H r.worker ≡ Some n → IsRightOffer b H (offer_of r n m)
-  offer-right fits worker number =
+  pub stands-priced : IsReplicaOf b H (record r { last = priced_of r n m })
+  stands-priced = stands-with (reads_of r m) (inr refl)
+
+  -- an offer is right where it has the cells if its verdict rests on them
+  right-with : (reads : List (ℕ × ℕ)) → (asks_reads r n m ≡ true → reads ≡ reads_after b H m)
+      → AreMoves r.base.instance m → r.worker < b.options.workers → next_number b.options H r.worker ≡ Some n → IsRightOffer b H (offer_with r n m reads)
+  right-with reads known fits worker number =
       let same = stands.seen in
       let here : plan_after b (take r.seen H) ≡ plan_after b H = ap (plan_after b) whole in
       record {
@@ -92,9 +115,18 @@ module _ (b : Base) (H : List Tried) (r : Snapshot) (n : ℕ) (m : List Move) (s
         seen = omega (arith, same);
         after_own = λ j e there own. let below = slice_get_within H j e there in omega (arith, below, same);
         price = price-is ∙ ap (λ P. price_of_all b.instance P m) (sym here);
-        reads = λ asked. offered-reads ∙ ap (λ (t : Bool). if t then reads_after b H m else []) asked ∙ ap (λ G. reads_after b G m) (sym whole);
+        reads = λ asked.
+            let own = ap (λ (c : Base). is_compared c.instance c.options (is_frozen r.base r.plan m) n (price_of_all r.base.instance r.plan m)) stands.base in
+            known (own ∙ asked) ∙ ap (λ G. reads_after b G m) (sym whole);
         frozen = frozen-is ∙ ap (λ P. is_frozen b P m) (sym here);
       }
+
+  pub offer-right : AreMoves r.base.instance m → r.worker < b.options.workers → next_number b.options H r.worker ≡ Some n → IsRightOffer b H (offer_of r n m)
+  offer-right =
+      right-with (if asks_reads r n m then reads_of r m else []) (λ asked. ap (λ (t : Bool). if t then reads_of r m else []) asked ∙ reads-are)
+
+  pub priced-right : AreMoves r.base.instance m → r.worker < b.options.workers → next_number b.options H r.worker ≡ Some n → IsRightOffer b H (priced_of r n m)
+  priced-right = right-with (reads_of r m) (λ asked. reads-are)
 
 -- ---- how it is read off
 

@@ -37,3 +37,7 @@ offer_with r number m reads = record {
 -- the offer with the cells that its verdict rests on
 abbrev pub offer_of : Snapshot → ℕ → List Move → Offered
 offer_of r number m = offer_with r number m (if asks_reads r number m then reads_of r m else [])
+
+-- the offer with all cells of the footprint
+abbrev pub priced_of : Snapshot → ℕ → List Move → Offered
+priced_of r number m = offer_with r number m (reads_of r m)

@@ -3,6 +3,7 @@
 ghost use Rattle.std.specs.Prelude.{◌≡◌, [], IfOk};
 
 use crate::attempts::{is_compared, play};
+use crate::freezing::touches_frozen;
 use ih_cellbook::{Attempted, Logged, Offers};
 use ih_costs::Ledgers;
 use ih_footprint::{CellList, Numbering};
@@ -58,14 +59,15 @@ impl<'a, E: Logged> Model for Replica<'a, E> {
 }
 
 impl<'a, E: Logged> Replica<'a, E> {
-    ghost use Rattle.std.specs.Prelude.{◌≡◌, ◌≤◌, [], map, IfOk, if◌then◌else◌};
+    ghost use Rattle.std.specs.Prelude.{◌≡◌, ◌≤◌, ◌^◌, [], map, IfOk, if◌then◌else◌};
     ghost use Rattle.std.specs.Borrow.{sem};
+    ghost use Rattle.ih_tables.specs.Bills.{IsWithin};
     ghost use Rattle.ih_plan.specs.{Timetable.IsPlanOf, Series.AreMoves};
     ghost use Rattle.ih_journal.specs.Settings.{IsLawful};
     ghost use Rattle.ih_cellbook.specs.Keeping.{base_with};
-    ghost use Rattle.ih_cellbook.specs.Replicas.{IsReplicaOf, IsOfferOf, IsRightFor, MayFollow, MayFollowUpTo};
+    ghost use Rattle.ih_cellbook.specs.Replicas.{IsReplicaOf, IsOfferOf, IsPricedOf, IsRightFor, MayFollow, MayFollowUpTo};
     ghost use Rattle.ih_cellbook.specs.Replicas.{StandsAfter, StandsAs, StandsUpTo};
-    ghost use Rattle.ih_snapshot.specs.Noting.{asks_reads, offer_of, offer_with, reads_of};
+    ghost use Rattle.ih_snapshot.specs.Noting.{asks_reads, offer_of, offer_with, priced_of, reads_of};
     ghost use Rattle.ih_snapshot.specs.{Keeping.CanTake, Keeping.HasTaken, Lending.RestsAs};
 
     /// A worker's replica of a search over a start, which fits the instance. It stands for the empty history.
@@ -164,28 +166,55 @@ impl<'a, E: Logged> Replica<'a, E> {
         self.seen
     }
 
-    /// The offer of its worker for an attempt of this number, priced after the entries that it stands for, and whether
-    /// the attempt writes a choice before the freeze day. Where it doesn't, and the price's score is at most what its
-    /// number may cost, the offer has the cells of the attempt's footprint there, each with its version, and else none.
+    /// The offer of its worker for an attempt of this number, priced after the entries that it stands for: the price,
+    /// whether the attempt writes a choice before the freeze day, and the cells of the attempt's footprint there, each
+    /// with its version. `offer` is cheaper where the verdict rests on no cell.
     pub fn price(&mut self, attempt: &E::Attempt, number: u32) -> &E::Offer
         requires { AreMoves self.old.base.instance (E.Attempt.moves attempt.now) }
-        ensures offer { IsOfferOf self.old number (E.Attempt.moves attempt.now) (E.Offer.offered result.now) }
+        ensures offer { IsPricedOf self.old number (E.Attempt.moves attempt.now) (E.Offer.offered result.now) }
+        ensures within { IsWithin (10 ^ 11) (E.Offer.offered result.now).price }
         ensures right { IsRightFor self.old number (E.Offer.offered result.now) }
         ensures* same { sem 𝓛
             (RestsAs E.row E.Attempt.row E.Offer.row E.Logged E.Attempt.Attempted E.Offer.Offers self.entry
             (λ r. (r.base ≡ self.old.base) × (r.worker ≡ self.old.worker) × StandsAs self.old r)) }
     {
-        self.make(attempt, number);
+        self.prepare_price(attempt, number);
         self.last()
     }
 
-    /// Makes the offer for an attempt of this number the last one.
-    pub(crate) fn make(&mut self, attempt: &E::Attempt, number: u32)
+    /// The same, but with the cells that the verdict rests on: those of the footprint where the attempt isn't frozen
+    /// and the price's score is at most what its number may cost, and else none.
+    pub fn offer(&mut self, attempt: &E::Attempt, number: u32) -> &E::Offer
         requires { AreMoves self.old.base.instance (E.Attempt.moves attempt.now) }
-        ensures { self.new ≡ record self.old { last = offer_of self.old number (E.Attempt.moves attempt.now) } }
+        ensures offer { IsOfferOf self.old number (E.Attempt.moves attempt.now) (E.Offer.offered result.now) }
+        ensures within { IsWithin (10 ^ 11) (E.Offer.offered result.now).price }
+        ensures right { IsRightFor self.old number (E.Offer.offered result.now) }
+        ensures* same { sem 𝓛
+            (RestsAs E.row E.Attempt.row E.Offer.row E.Logged E.Attempt.Attempted E.Offer.Offers self.entry
+            (λ r. (r.base ≡ self.old.base) × (r.worker ≡ self.old.worker) × StandsAs self.old r)) }
+    {
+        self.prepare_offer(attempt, number);
+        self.last()
+    }
+
+    /// Makes the last offer that of `offer`. For users of the crate that keep a replica in a type of their own.
+    pub fn prepare_offer(&mut self, attempt: &E::Attempt, number: u32)
+        requires { AreMoves self.old.base.instance (E.Attempt.moves attempt.now) }
+        ensures made { self.new ≡ record self.old { last = offer_of self.old number (E.Attempt.moves attempt.now) } }
+        ensures within { IsWithin (10 ^ 11) self.new.last.price }
     {
         let compared = self.fill(attempt, number);
         self.read(attempt, compared);
+    }
+
+    /// Makes the last offer that of `price`. For users of the crate that keep a replica in a type of their own.
+    pub fn prepare_price(&mut self, attempt: &E::Attempt, number: u32)
+        requires { AreMoves self.old.base.instance (E.Attempt.moves attempt.now) }
+        ensures made { self.new ≡ record self.old { last = priced_of self.old number (E.Attempt.moves attempt.now) } }
+        ensures within { IsWithin (10 ^ 11) self.new.last.price }
+    {
+        let _compared = self.fill(attempt, number);
+        self.read(attempt, true);
     }
 
     // Makes the offer for an attempt of this number the last one, without cells. Answers whether its verdict rests on
@@ -195,13 +224,16 @@ impl<'a, E: Logged> Replica<'a, E> {
         ensures made { self.new
             ≡ record self.old { last = offer_with self.old number (E.Attempt.moves attempt.now) [] } }
         ensures compared { result ≡ asks_reads self.old number (E.Attempt.moves attempt.now) }
+        ensures within { IsWithin (10 ^ 11) self.new.last.price }
     {
-        let price = self.ledgers.price_all_alone(attempt.as_slice());
-        let frozen = attempt.is_frozen(
+        let moves = attempt.as_slice();
+        let price = self.ledgers.price_all_alone(moves);
+        let frozen = touches_frozen(
             self.inst,
             &self.start,
             self.freeze,
             self.ledgers.plan(),
+            moves,
             &mut self.writes,
         );
         self.last

@@ -25,7 +25,7 @@ search-requires g c κs =
                   (refl, tt),
                   (
                     record { start = c.requires.start; lawful = c.requires.lawful },
-                    (omega (arith, once), (omega arith, c.requires.short)),
+                    (omega (arith, once), (omega arith, (c.requires.some, c.requires.short))),
                   ),
                 ),
               ),

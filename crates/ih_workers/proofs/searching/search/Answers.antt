@@ -1,4 +1,4 @@
-use Rattle.std.proofs.Common.{refl, rules}
+use Rattle.std.proofs.Common.{lit≤, refl, rules}
 use denote.Param.Send.{sendable}
 use Rattle.ih_cellbook.proofs.offers.Offer.TheSendSync.{the_send as offer_crosses}
 use Rattle.ih_journal.proofs.entries.Entry.TheSendSync.{the_send as entry_crosses}
@@ -15,7 +15,7 @@ search-requires g c κs = (
       search rules,
       (
         search (sendable, offer_crosses) depth 20,
-        (search rules, (search rules, ((refl, tt), (c.requires, (c.requires.lawful.retries, (c.freeze_of-freeze.ensures, refl)))))),
+        (search rules, (search rules, ((refl, tt), (c.requires, (c.requires.lawful.retries, (c.freeze_of-freeze.ensures, (lit≤ tt, lit≤ tt))))))),
       ),
     ),
   ),

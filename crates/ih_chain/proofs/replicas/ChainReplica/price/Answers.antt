@@ -1,18 +1,34 @@
-use Rattle.std.proofs.Common.{◌≡◌, refl, subst, sym}
+use Rattle.std.proofs.Common.{◌≡◌, ◌∙◌, ◌^◌, refl, ap, sym, subst}
+use Rattle.ih_tables.specs.Bills.{IsWithin}
+use Rattle.ih_cellbook.specs.Offered.{Offered}
 use Rattle.ih_cellbook.specs.Offers.{IsRightOffer}
-use Rattle.ih_cellbook.specs.Replicas.{IsOfferAfter}
+use Rattle.ih_cellbook.specs.Replicas.{IsReplicaOf, IsPricedAfter}
+use Rattle.ih_cellbook.specs.Snapshot.{Snapshot}
+use Rattle.ih_snapshot.specs.Noting.{priced_of}
+use Rattle.ih_snapshot.proofs.Pricing.{priced-after, priced-right, stands-priced}
 use Rattle.ih_chain.specs.Entries.{chain_offered}
 use Rattle.ih_chain.proofs.replicas.ChainReplica.price.Goals as goal
 
 pub returns : goal.returns
 returns c =
     let r = c.args.self.now in
-    let made : chain_offered c.last.result.now ≡ c.make.new.self.last = c.last.ensures in (
-      (refl, λ x. tt, (c.make.ensures.base, c.make.ensures.worker, c.make.ensures.same)),
+    let n = c.args.number in
+    let m = c.args.moves.now in
+    let priced = c.prepare_price.ensures.made in
+    let made : chain_offered c.last.result.now ≡ priced_of r n m = c.last.ensures ∙ ap (λ (s : Snapshot). s.last) priced in (
+      (
+        refl,
+        λ x. tt,
+        (
+          ap (λ (s : Snapshot). s.base) priced,
+          ap (λ (s : Snapshot). s.worker) priced,
+          λ b H stands. subst (IsReplicaOf b H) (sym priced) (stands-priced b H r n m stands),
+        ),
+      ),
       record {
-        offer = λ b H stands.
-            subst (IsOfferAfter b H r.worker c.args.number c.args.moves.now) (sym made) (c.make.ensures.offer b H stands);
-        right = λ b H stands worker number. subst (IsRightOffer b H) (sym made) (c.make.ensures.right b H stands worker number);
+        offer = λ b H stands. subst (IsPricedAfter b H r.worker n m) (sym made) (priced-after b H r n m stands);
+        right = λ b H stands worker number. subst (IsRightOffer b H) (sym made) (priced-right b H r n m stands c.requires worker number);
+        within = subst (λ (o : Offered). IsWithin (10 ^ 11) o.price) (sym c.last.ensures) c.prepare_price.ensures.within;
         same = tt;
       },
     )

@@ -45,7 +45,7 @@ loop-number-preserved g c =
     let seen = ap (λ (x : Progress). x.replica.seen) c.self-in-loop-number.view_is in
     let each = c.args.self.now.moves_each in
     let same = ap (λ (x : Progress). x.moves_each) c.self-in-loop-number.view_is ∙ before.caught_up.within.own.each_is in
-    let drawn = c.draw-attempt.ensures.drawn o.seed n (c.loop-number.number * each) (ap (λ (x : Progress). x.stream) c.self-in-loop-number.view_is ∙ before.stream) in
+    let drawn = c.drawn-attempt.ensures.drawn o.seed n (c.loop-number.number * each) (ap (λ (x : Progress). x.stream) c.self-in-loop-number.view_is ∙ before.stream) in
     record {
       own = after.own;
       same = after.number ∙ before.same;

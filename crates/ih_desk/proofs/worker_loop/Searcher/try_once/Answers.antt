@@ -21,12 +21,12 @@ offer_and_look-seat-requires g c =
     let H = history c.args.seat in
     let r = g.C.Replicates.copied c.self.inside.replica in
     let within = subst (λ (x : Progress). IsWithin b c.args.self.now.moves_each (number_of c.args.seat) H x) (sym c.self.view_is) c.requires.may.caught_up.within in
-    let o = (g.C.Replicates.copied c.price.new.self).last in
+    let o = (g.C.Replicates.copied c.offer.new.self).last in
     let stands = within.replica in
     let seen = subst (λ (x : Progress). HasSeenOwn H (number_of c.args.seat) x.replica.seen) (sym c.self.view_is) c.requires.may.caught_up.seen in
-    let offered = c.price.ensures.offer b (take r.seen H) stands in
+    let offered = c.offer.ensures.offer b (take r.seen H) stands in
     let own = sym (offered.worker ∙ within.own.worker) in
-    let right = offered-right b H r stands c.args.number (g.C.Entry.Attempt.Attempted.moves c.args.attempt.now) o c.price.ensures.offer c.price.ensures.right (
+    let right = offered-right b H r stands c.args.number (g.C.Entry.Attempt.Attempted.moves c.args.attempt.now) o c.offer.ensures.offer c.offer.ensures.right (
       subst (λ w. w < b.options.workers) own c.requires.may.own.number,
       subst (λ w. next_number b.options H w ≡ Some o.number) own (c.requires.next ∙ ap (λ k. Some k) (sym offered.number)),
       subst (λ w. HasNoneBy w (drop o.seen H)) own (subst (λ k. HasNoneBy (number_of c.args.seat) (drop k H)) (stands.seen ∙ sym offered.seen) (none-past (number_of c.args.seat) r.seen H seen)),
@@ -48,7 +48,7 @@ pub catch_up-seat-requires-clause-within : goal.catch_up-seat-requires-clause-wi
 catch_up-seat-requires-clause-within g c =
     let b = base_of c.args.desk.now in
     let H = history c.args.seat in
-    let s = g.C.Replicates.copied c.price.new.self in
+    let s = g.C.Replicates.copied c.offer.new.self in
     let own = subst (IsSearcherOf b c.args.self.now.moves_each (number_of c.args.seat)) (sym c.self.view_is) c.requires.may.caught_up.within.own in
     let ends = c.offer_and_look-seat.ensures.offered.ends in
     record {
@@ -56,27 +56,27 @@ catch_up-seat-requires-clause-within g c =
         instance = own.instance;
         options = own.options;
         each_is = refl;
-        worker = c.price.ensures.worker ∙ (own.worker ∙ sym c.offer_and_look-seat.ensures.offered.number);
+        worker = c.offer.ensures.worker ∙ (own.worker ∙ sym c.offer_and_look-seat.ensures.offered.number);
       };
       replica = subst (λ G. IsReplicaIn b G s) (sym ends.history)
-          (stands-behind b (H ++ ends.others) s (stands-behind b H s (stands-same b H _ (stood g c) s c.price.ensures.same) ends.others) _);
+          (stands-behind b (H ++ ends.others) s (stands-behind b H s (stands-same b H _ (stood g c) s c.offer.ensures.same) ends.others) _);
     }
 
 pub catch_up-seat-requires-clause-told : goal.catch_up-seat-requires-clause-told
 catch_up-seat-requires-clause-told g c =
-    let same = (c.price.ensures.offer _ _ (stood g c)).seen ∙ sym (c.price.ensures.same _ _ (stood g c)).seen in
+    let same = (c.offer.ensures.offer _ _ (stood g c)).seen ∙ sym (c.offer.ensures.same _ _ (stood g c)).seen in
     subst (λ n. TellsOf (history c.offer_and_look-seat.result.0) n c.offer_and_look-seat.new.news) (ap (λ (x : Offered). x.seen) c.last.ensures ∙ same)
     c.offer_and_look-seat.ensures.told
 
 pub catch_up-seat-requires-clause-new : goal.catch_up-seat-requires-clause-new
 catch_up-seat-requires-clause-new g c =
-    let most = seen-within _ _ _ (stands-same _ _ _ (stood g c) _ c.price.ensures.same) in
+    let most = seen-within _ _ _ (stands-same _ _ _ (stood g c) _ c.offer.ensures.same) in
     let longer = ends-longer _ _ _ _ _ c.offer_and_look-seat.ensures.offered.ends in
     omega (arith, most, longer)
 
 pub catch_up-seat-requires-clause-turns : goal.catch_up-seat-requires-clause-turns
 catch_up-seat-requires-clause-turns g c =
-    let same = (c.price.ensures.same _ _ (stood g c)).seen ∙ sym (stood g c).seen in
+    let same = (c.offer.ensures.same _ _ (stood g c)).seen ∙ sym (stood g c).seen in
     let before = ap (λ (x : Progress). x.replica.seen) c.self.view_is in
     let used = c.offer_and_look-seat.ensures.offered.left in
     omega (arith, same, before, used)
@@ -84,7 +84,7 @@ catch_up-seat-requires-clause-turns g c =
 pub returns-clause-attempted : goal.returns-clause-attempted
 returns-clause-attempted g c =
     let within = subst (λ (x : Progress). IsReplicaIn (base_of c.args.desk.now) (history c.args.seat) x.replica) (sym c.self.view_is) c.requires.may.caught_up.within.replica in
-    let offered = c.price.ensures.offer _ _ within in
+    let offered = c.offer.ensures.offer _ _ within in
     let own = ap (λ (x : Progress). x.replica.worker) c.self.view_is ∙ c.requires.may.caught_up.within.own.worker in
     let G = history c.offer_and_look-seat.result.0 in
     let F = history c.catch_up-seat.result in

@@ -1,9 +1,11 @@
-use Rattle.std.proofs.Common.{◌≡◌, ◌∙◌, refl, ap, sym, subst}
+use Rattle.std.proofs.Common.{◌≡◌, ◌∙◌, ◌^◌, refl, ap, sym, subst}
+use Rattle.ih_tables.specs.Bills.{IsWithin}
+use Rattle.ih_cellbook.specs.Offered.{Offered}
 use Rattle.ih_cellbook.specs.Offers.{IsRightOffer}
-use Rattle.ih_snapshot.specs.Noting.{offer_of}
-use Rattle.ih_cellbook.specs.Replicas.{IsReplicaOf, IsOfferAfter}
+use Rattle.ih_snapshot.specs.Noting.{priced_of}
+use Rattle.ih_cellbook.specs.Replicas.{IsReplicaOf, IsPricedAfter}
 use Rattle.ih_cellbook.specs.Snapshot.{Snapshot}
-use Rattle.ih_snapshot.proofs.Pricing.{offer-after, offer-right, stands-priced}
+use Rattle.ih_snapshot.proofs.Pricing.{priced-after, priced-right, stands-priced}
 use Rattle.ih_snapshot.proofs.replicas.Replica.price.Goals as goal
 
 pub returns : goal.returns
@@ -11,8 +13,8 @@ returns g c =
     let r = c.args.self.now in
     let n = c.args.number in
     let m = g.E.Attempt.Attempted.moves c.args.attempt.now in
-    let priced = c.make.ensures in
-    let made : g.E.Offer.Offers.offered c.last.result.now ≡ offer_of r n m = c.last.ensures ∙ ap (λ (s : Snapshot). s.last) priced in (
+    let priced = c.prepare_price.ensures.made in
+    let made : g.E.Offer.Offers.offered c.last.result.now ≡ priced_of r n m = c.last.ensures ∙ ap (λ (s : Snapshot). s.last) priced in (
       (
         refl,
         λ x. tt,
@@ -23,8 +25,9 @@ returns g c =
         ),
       ),
       record {
-        offer = λ b H stands. subst (IsOfferAfter b H r.worker n m) (sym made) (offer-after b H r n m stands);
-        right = λ b H stands worker number. subst (IsRightOffer b H) (sym made) (offer-right b H r n m stands c.requires worker number);
+        offer = λ b H stands. subst (IsPricedAfter b H r.worker n m) (sym made) (priced-after b H r n m stands);
+        right = λ b H stands worker number. subst (IsRightOffer b H) (sym made) (priced-right b H r n m stands c.requires worker number);
+        within = subst (λ (o : Offered). IsWithin (10 ^ 11) o.price) (sym c.last.ensures) c.prepare_price.ensures.within;
         same = tt;
       },
     )

@@ -1,5 +1,5 @@
 use Rattle.std.proofs.Common.{length}
-use Rattle.ih_cellbook.proofs.singles.+any_frozen.Given as goal
+use Rattle.ih_snapshot.proofs.freezing.+any_frozen.Given as goal
 
 -- the writes that are left
 abbrev pub decreases-any_frozen : goal.decreases-any_frozen

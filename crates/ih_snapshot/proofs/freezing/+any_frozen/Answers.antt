@@ -1,7 +1,7 @@
 use Rattle.std.proofs.Common.{◌∷◌, subst}
 use Rattle.ih_plan.specs.Writes.{AreWritesOf}
 use Rattle.ih_plan.proofs.PlanRanges.{write-inside}
-use Rattle.ih_cellbook.proofs.singles.+any_frozen.Goals as goal
+use Rattle.ih_snapshot.proofs.freezing.+any_frozen.Goals as goal
 
 pub frozen-requires : goal.frozen-requires
 frozen-requires t c =

@@ -1,0 +1,33 @@
+use Rattle.std.proofs.Common.{◌≡◌, ◌∙◌, ◌^◌, refl, ap, sym, subst}
+use Rattle.ih_tables.specs.Bills.{IsWithin}
+use Rattle.ih_cellbook.specs.Offered.{Offered}
+use Rattle.ih_cellbook.specs.Offers.{IsRightOffer}
+use Rattle.ih_snapshot.specs.Noting.{offer_of}
+use Rattle.ih_cellbook.specs.Replicas.{IsReplicaOf, IsOfferAfter}
+use Rattle.ih_cellbook.specs.Snapshot.{Snapshot}
+use Rattle.ih_snapshot.proofs.Pricing.{offer-after, offer-right, stands-offered}
+use Rattle.ih_snapshot.proofs.replicas.Replica.offer.Goals as goal
+
+pub returns : goal.returns
+returns g c =
+    let r = c.args.self.now in
+    let n = c.args.number in
+    let m = g.E.Attempt.Attempted.moves c.args.attempt.now in
+    let priced = c.prepare_offer.ensures.made in
+    let made : g.E.Offer.Offers.offered c.last.result.now ≡ offer_of r n m = c.last.ensures ∙ ap (λ (s : Snapshot). s.last) priced in (
+      (
+        refl,
+        λ x. tt,
+        (
+          ap (λ (s : Snapshot). s.base) priced,
+          ap (λ (s : Snapshot). s.worker) priced,
+          λ b H stands. subst (IsReplicaOf b H) (sym priced) (stands-offered b H r n m stands),
+        ),
+      ),
+      record {
+        offer = λ b H stands. subst (IsOfferAfter b H r.worker n m) (sym made) (offer-after b H r n m stands);
+        right = λ b H stands worker number. subst (IsRightOffer b H) (sym made) (offer-right b H r n m stands c.requires worker number);
+        within = subst (λ (o : Offered). IsWithin (10 ^ 11) o.price) (sym c.last.ensures) c.prepare_offer.ensures.within;
+        same = tt;
+      },
+    )
