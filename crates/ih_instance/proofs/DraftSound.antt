@@ -1,6 +1,6 @@
 -- An accepted file gives valid data.
-use Rattle.std.proofs.Common.{◌≡◌, ℕ, ◌≤◌, List, [], ◌∷◌, map, arith, subst}
-use Rattle.std.specs.Prelude.{Ok, All, pos, ℤ, ◌≤ℤ◌}
+use Rattle.std.proofs.Common.{◌≡◌, ℕ, ◌≤◌, List, [], ◌∷◌, map, arith, refl, subst}
+use Rattle.std.specs.Prelude.{Result, Ok, Err, IfOk, All, pos, ℤ, ◌≤ℤ◌}
 use Rattle.std.proofs.lemmas.List.Elements.{All-from_recursion}
 use Rattle.std.proofs.lemmas.Int.{ints}
 use Rattle.serde_json.specs.Data.{Data}
@@ -13,6 +13,7 @@ use Rattle.ih_tables.specs.declared.drafts.Occupant.{Occupant}
 use Rattle.ih_tables.specs.declared.drafts.Patient.{Patient}
 use Rattle.ih_tables.specs.declared.bills.Weights.{Weights}
 use Rattle.ih_tables.specs.declared.refusals.Place.{Place}
+use Rattle.ih_tables.specs.declared.refusals.Refusal.{Refusal}
 use Rattle.ih_tables.specs.declared.refusals.Key.{Key}
 use Rattle.ih_tables.specs.declared.refusals.Key.TheVariants as keys
 use Rattle.ih_tables.specs.declared.refusals.Fault.TheVariants.{NotJson}
@@ -119,3 +120,11 @@ draft_sound p d x h =
 
 pub instance_sound : (bytes : List ℕ) (x : Draft) → instance bytes ≡ Ok x → IsValid x
 instance_sound bytes x h = bind_with (or_else NotJson whole (value_of bytes)) _ x h (λ v rv h0. draft_sound whole v x h0)
+
+-- whatever the file is
+pub accepted_valid : (bytes : List ℕ) → IfOk (instance bytes) IsValid
+accepted_valid bytes = go (instance bytes) refl
+  where
+    go : (r : Result Draft Refusal) → instance bytes ≡ r → IfOk r IsValid
+    go (Ok x) is = instance_sound bytes x is
+    go (Err e) is = tt

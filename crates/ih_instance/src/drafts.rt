@@ -1,7 +1,9 @@
 //! The whole instance file: one JSON value, whose keys are read in the order of the competition's format.
 //! The first check that fails is the refusal.
 
+ghost use Rattle.std.specs.Prelude.{IfOk};
 ghost use Rattle.serde_json.specs.View.{view};
+ghost use Rattle.ih_tables.specs.Valid.{IsValid};
 ghost use Rattle.ih_format.specs.Gives.{Gives};
 ghost use Rattle.ih_instance.specs.Instance.{draft, instance};
 
@@ -75,9 +77,11 @@ fn read_draft(alloc: Global, bytes: &[u8]) -> Result<Draft, FormatError>
 /// The instance of a file, or its first refusal: bytes that aren't one JSON value are NotJson at `$`; then the
 /// keys are checked in the format's order, and of each key in this order that it is there (Missing), its kind
 /// (Kind), its limits (Range or Length), that its id is new (Duplicate) and that its reference is known (Unknown).
-/// Memory may run out at any time.
+/// Memory may run out at any time. The data of a file that isn't refused is valid.
+#[tactic(auto, using(crate::proofs::DraftSound::accepted_valid))]
 pub fn read_instance(alloc: Global, bytes: &[u8]) -> Result<Instance, FormatError>
-    ensures { Gives (λ i. i.draft) result (instance bytes.now) }
+    ensures gives { Gives (λ i. i.draft) result (instance bytes.now) }
+    ensures valid { IfOk (instance bytes.now) IsValid }
 {
     let draft = read_draft(alloc, bytes)?;
     let instance = Instance::seal(alloc, draft)?;

@@ -45,21 +45,23 @@ module _ (b : Base) (rs : List Round) (legal : AreRounds b rs) (fits : IsPlanOf 
   pub rounds-fit : (q : ℕ) (r : Round) → slice_get rs q ≡ Some r → IsPlanOf b.instance r.start
   rounds-fit q r here = starts-fit q r.start (legal q r here).start
 
--- ---- so their histories are in range
+-- ---- so a search may have its options and begin there, and their histories are in range
 
 seed-in : (b : Base) (q : ℕ) → (options_in b.options q).seed < 2 ^ 64
 seed-in b q = omega arith
 
+pub search-in : (b : Base) (rs : List Round) → IsSearchBase b → AreRounds b rs → (q : ℕ) (r : Round) → slice_get rs q ≡ Some r
+    → IsSearchBase (base_in b q r)
+search-in b rs search legal q r here = record {
+  valid = search.valid;
+  base = record { start = rounds-fit b rs legal search.base.start q r here; lawful = lawful-in b.options q search.base.lawful };
+  seed = seed-in b q;
+}
+
 in-range : LegalHistoriesAreInRange → (b : Base) (rs : List Round) → IsSearchBase b → AreRounds b rs → AreInRange b rs
 in-range law b rs search legal q r here =
     let full = (legal q r here).full in
-    law (base_in b q r) r.history
-    (record {
-      valid = search.valid;
-      base = record { start = rounds-fit b rs legal search.base.start q r here; lawful = lawful-in b.options q search.base.lawful };
-      seed = seed-in b q;
-    })
-    (but-draws (base_in b q r) (tries r.history) full.legal)
+    law (base_in b q r) r.history (search-in b rs search legal q r here) (but-draws (base_in b q r) (tries r.history) full.legal)
 
 -- ---- two runs
 

@@ -4,3 +4,4 @@ pub mod Leading
 pub mod Parting
 pub mod Runs
 pub mod JournalsApart
+pub mod Lengths

@@ -1,10 +1,11 @@
 -- Laws of rounds.
-use Rattle.std.specs.Prelude.{◌≡◌, ℕ, ◌<◌, ◌≤ℤ◌, List, length, Some, slice_get}
+use Rattle.std.specs.Prelude.{◌≡◌, ℕ, ◌+◌, ◌*◌, ◌<◌, ◌≤◌, ◌≤ℤ◌, List, length, Some, slice_get}
 use Rattle.ih_tables.specs.Valid.{IsValid}
 use Rattle.ih_journal.specs.Tried.{tries}
 use Rattle.ih_journal.specs.Base.{Base}
 use Rattle.ih_journal.specs.Best.{IsBest}
 use Rattle.ih_journal.specs.Grammar.{IsHistoryOf}
+use Rattle.ih_journal.specs.Settings.{most_entries}
 use Rattle.ih_cellbook.specs.Laws.{IsSearchBase}
 use Rattle.ih_rounds.specs.Best.{cost_in}
 use Rattle.ih_rounds.specs.Rounds.{AreRounds, Round, base_in, histories, journals, options_in}
@@ -25,6 +26,17 @@ abbrev pub JournalsTellRoundsApart : Type 0
 JournalsTellRoundsApart = (b c : Base) (rs ss : List Round) → IsSearchBase b → IsSearchBase c → b.instance ≡ c.instance
     → AreRounds b rs → AreRounds c ss → journals b.options 0 rs ≡ journals c.options 0 ss
     → (histories rs ≡ histories ss) × (0 < length rs → b.options ≡ c.options) × (b ≡ c → rs ≡ ss)
+
+-- The journals of rounds have at most 128 bytes for the heading of each, and 256 for each entry that it may have.
+abbrev pub RoundJournalsAreShort : Type 0
+RoundJournalsAreShort = (b : Base) (rs : List Round) → IsSearchBase b → AreRounds b rs
+    → length (journals b.options 0 rs) ≤ (128 + 256 * most_entries b.options) * length rs
+
+-- Those of at most sixteen rounds, which together may have a million entries, have 16 * 128 + 256 * 1000000 at most.
+abbrev pub SixteenJournalsAreShort : Type 0
+SixteenJournalsAreShort = (b : Base) (rs : List Round) → IsSearchBase b → AreRounds b rs
+    → length rs ≤ 16 → most_entries b.options * length rs ≤ 1000000
+    → length (journals b.options 0 rs) ≤ 256002048
 
 -- the history of round q has a best, which costs no more than place k of round p
 pub record IsNoDearer (b : Base) (q : ℕ) (s : Round) (p : ℕ) (r : Round) (k : ℕ) : Type 0 where

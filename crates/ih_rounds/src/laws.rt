@@ -1,8 +1,9 @@
 //! Laws of rounds, each on a function that does nothing.
 
-ghost use Rattle.ih_rounds.specs.Laws.{JournalsCanBeParted, RoundsGetNoDearer, JournalsTellRoundsApart};
+ghost use Rattle.ih_rounds.specs.Laws.{JournalsCanBeParted, JournalsTellRoundsApart, RoundJournalsAreShort};
+ghost use Rattle.ih_rounds.specs.Laws.{SixteenJournalsAreShort, RoundsGetNoDearer};
 
-use ih_cellbook::legal_histories_are_in_range;
+use ih_cellbook::{legal_histories_are_in_range, legal_journals_are_short};
 
 /// Where a round has a best, each later round has one that costs no more.
 pub fn rounds_get_no_dearer()
@@ -22,4 +23,14 @@ pub fn journals_tell_rounds_apart()
 {
     // For the proof alone.
     legal_histories_are_in_range();
+}
+
+/// The journals of rounds are short: at most 128 bytes for the heading of each, and 256 for each entry that it may
+/// have. So those of at most sixteen rounds that together may have a million entries have at most 256,002,048.
+pub fn round_journals_are_short()
+    ensures each { RoundJournalsAreShort }
+    ensures all { SixteenJournalsAreShort }
+{
+    // For the proof alone.
+    legal_journals_are_short();
 }

@@ -52,8 +52,6 @@ impl<S: Searcher> Searcher for Noted<S> {
 
     ghost answers = { λ n. Some n.answers };
 
-    ghost ready = { λ n. S.ready n.searcher };
-
     fn search<R: Threads + Wait + Sync>(
         &mut self,
         rt: &R,

@@ -6,7 +6,7 @@ ghost use Rattle.ih_journal.specs.{declared.settings.Options.Options as Search_o
 ghost use Rattle.ih_cellbook.specs.Keeping.{base_with};
 ghost use Rattle.ih_rounds.specs.{Rounds.options_in, Steps.HasRound, Steps.IsAnswer, Steps.LeadsOn, Steps.end_of};
 
-use crate::searcher::Searcher;
+use crate::asking::Asked;
 use ih_cellbook::best_in;
 use ih_history::{plan_at, put_journal};
 use ih_journal::{Entry, Options};
@@ -71,7 +71,7 @@ fn lead_on(
 }
 
 /// Searches once, and appends the journal. Where memory runs out, the journal is to be dropped.
-pub(crate) fn search_round<R: Threads + Wait + Sync, S: Searcher>(
+pub(crate) fn search_round<R: Threads + Wait + Sync, K, S: Asked<K>>(
     rt: &R,
     alloc: Global,
     inst: &Instance,
@@ -85,10 +85,10 @@ pub(crate) fn search_round<R: Threads + Wait + Sync, S: Searcher>(
     requires lawful { IsLawful options.now }
     requires once { options.now.retries ≡ 0 }
     ensures round { IfOk result (HasRound (base_with inst.entry.now.draft start.entry.now options.entry.now 0)
-        (S.answers searcher.old) (S.answers searcher.new) journal.old.items journal.new.items) }
+        (S.told searcher.old) (S.told searcher.new) journal.old.items journal.new.items) }
     ensures ready { S.ready searcher.new }
 {
-    let answer = searcher.search(rt, alloc, inst, start, options)?;
+    let answer = searcher.ask(rt, alloc, inst, start, options)?;
     let entries = answer.as_slice();
     put_journal(options, entries, journal)?;
     lead_on(alloc, inst, start, entries)

@@ -1,14 +1,15 @@
 //! Rounds of searches, one after the other.
 
-ghost use Rattle.std.specs.Prelude.{◌≡◌, IfOk};
+ghost use Rattle.std.specs.Prelude.{◌≡◌, IfOk, None};
 ghost use Rattle.ih_plan.specs.Timetable.{IsPlanOf};
-ghost use Rattle.ih_journal.specs.Settings.{IsLawful};
+ghost use Rattle.ih_journal.specs.{Legal.IsFull, Settings.IsLawful, Tried.tries};
 ghost use Rattle.ih_cellbook.specs.Keeping.{base_with};
-ghost use Rattle.ih_rounds.specs.Ends.{Ends, better_of, end_with, keeps};
+ghost use Rattle.ih_rounds.specs.{Answers.Gives, Ends.Ends, Ends.better_of, Ends.end_with, Ends.keeps};
 
+use crate::asking::{Asked, OfClosure, OfSearcher, SearchBy};
 use crate::round::{options_in, search_round};
 use crate::searcher::Searcher;
-use ih_journal::Options;
+use ih_journal::{Entry, Options};
 use ih_plan::Plan;
 use ih_tables::Instance;
 use std::alloc::{AllocError, Global};
@@ -99,10 +100,8 @@ fn end_with(best: Option<Held>) -> RoundsEnd
     }
 }
 
-/// Searches so many times, each time from the best timetable of the search before, or from its last where none is
-/// feasible, and appends the journals. The seed of each search is 64 further than that of the one before it. Where
-/// memory runs out, the journal is to be dropped.
-pub fn rounds<R: Threads + Wait + Sync, S: Searcher>(
+// Rounds of whoever is asked for their searches.
+fn rounds_of<R: Threads + Wait + Sync, K, S: Asked<K>>(
     rt: &R,
     alloc: Global,
     inst: &Instance,
@@ -116,15 +115,14 @@ pub fn rounds<R: Threads + Wait + Sync, S: Searcher>(
     requires start { IsPlanOf inst.now.draft start.now }
     requires lawful { IsLawful options.now }
     requires once { options.now.retries ≡ 0 }
-    ensures ends { IfOk result (Ends (base_with inst.entry.now.draft start.entry.now options.entry.now 0) rounds
-        (S.answers searcher.old) (S.answers searcher.new) journal.old.items journal.new.items) }
-    ensures ready { S.ready searcher.new }
+    ensures { IfOk result (Ends (base_with inst.entry.now.draft start.entry.now options.entry.now 0) rounds
+        (S.told searcher.old) (S.told searcher.new) journal.old.items journal.new.items) }
 {
     let mut next = start.try_clone(alloc)?;
     let mut best = None;
     for round in 0..rounds {
         let own = options_in(options, round);
-        let outcome = search_round(rt, alloc, inst, &next, &own, searcher, journal)?;
+        let outcome = search_round::<R, K, S>(rt, alloc, inst, &next, &own, searcher, journal)?;
         best = better(
             alloc,
             best,
@@ -136,4 +134,64 @@ pub fn rounds<R: Threads + Wait + Sync, S: Searcher>(
         next = outcome.next;
     }
     Ok(end_with(best))
+}
+
+/// Searches so many times, each time from the best timetable of the search before, or from its last where none is
+/// feasible, and appends the journals. The seed of each search is 64 further than that of the one before it. Where
+/// memory runs out, the journal is to be dropped.
+pub fn rounds<R: Threads + Wait + Sync, S: Searcher>(
+    rt: &R,
+    alloc: Global,
+    inst: &Instance,
+    start: &Plan,
+    options: &Options,
+    rounds: u32,
+    searcher: &mut S,
+    journal: &mut Vec<u8>,
+) -> Result<RoundsEnd, AllocError>
+    requires start { IsPlanOf inst.now.draft start.now }
+    requires lawful { IsLawful options.now }
+    requires once { options.now.retries ≡ 0 }
+    ensures { IfOk result (Ends (base_with inst.entry.now.draft start.entry.now options.entry.now 0) rounds
+        (S.answers searcher.old) (S.answers searcher.new) journal.old.items journal.new.items) }
+{
+    rounds_of::<R, OfSearcher, S>(rt, alloc, inst, start, options, rounds, searcher, journal)
+}
+
+/// The same by a closure, which may be called with each timetable and lawful options without retries, and answers a
+/// full history over them. What is done in threads may rest on no bound of an impl, so whoever searches in threads with
+/// a gate of any type hands in a closure that captures the gate.
+pub fn rounds_by<
+    R: Threads + Wait + Sync,
+    F: Fn(Global, &Instance, &Plan, &Options) -> Result<Vec<Entry>, AllocError> + Drop,
+>(
+    rt: &R,
+    alloc: Global,
+    inst: &Instance,
+    start: &Plan,
+    options: &Options,
+    rounds: u32,
+    search: F,
+    journal: &mut Vec<u8>,
+) -> Result<RoundsEnd, AllocError>
+    requires searches { Gives (λ a i p o. F.pre search a i p o) (λ a i p o r. F.post search a i p o r)
+        (λ i p o. IsPlanOf i.now.draft p.now × IsLawful o.now × (o.now.retries ≡ 0))
+        (λ i p o r. IfOk r (λ v. IsFull (base_with i.now.draft p.now o.now 0) 1 (tries v.items))) }
+    requires start { IsPlanOf inst.now.draft start.now }
+    requires lawful { IsLawful options.now }
+    requires once { options.now.retries ≡ 0 }
+    ensures { IfOk result (Ends (base_with inst.entry.now.draft start.entry.now options.entry.now 0) rounds None None
+        journal.old.items journal.new.items) }
+{
+    let mut searcher = SearchBy { search };
+    rounds_of::<R, OfClosure, SearchBy<F>>(
+        rt,
+        alloc,
+        inst,
+        start,
+        options,
+        rounds,
+        &mut searcher,
+        journal,
+    )
 }

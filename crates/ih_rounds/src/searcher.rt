@@ -19,9 +19,6 @@ pub trait Searcher {
     /// The histories that it has answered, where it tells them.
     ghost answers: { Self → Answers };
 
-    /// What holds between its searches.
-    ghost ready: { Self → Type 0 };
-
     /// A full history over the start, for the options.
     fn search<R: Threads + Wait + Sync>(
         &mut self,
@@ -32,7 +29,6 @@ pub trait Searcher {
         options: &Options,
     ) -> Result<Vec<Entry>, AllocError>
         requires sync { IsSync R.row }
-        requires ready { ready self.old }
         requires start { IsPlanOf inst.now.draft start.now }
         requires lawful { IsLawful options.now }
         requires once { options.now.retries ≡ 0 }
@@ -40,6 +36,5 @@ pub trait Searcher {
             IsFull (base_with inst.entry.now.draft start.entry.now options.entry.now 0) 1 (tries v.items)) }
         // an answer comes behind those before it, and lack of memory leaves them as they were
         ensures told { IfOk result (λ v. answers self.new ≡ with_answers (answers self.old) (v.items ∷ [])) }
-        ensures kept { OnErr result (answers self.new ≡ answers self.old) }
-        ensures ready { ready self.new };
+        ensures kept { OnErr result (answers self.new ≡ answers self.old) };
 }

@@ -41,6 +41,14 @@ pub record MayBeWritten (name bytes : List ℕ) (old new : Names) : Type 0 where
   pub part : PartOr bytes (old name) (new name)
   pub others : OthersKept name old new
 
+-- one put more was counted; the count stands still at the last number of 64 bits
+abbrev pub IsOnePut : ℕ → ℕ → Type 0
+IsOnePut old new = new ≡ raised old
+
+-- no put more was counted, or one
+abbrev pub IsOnePutAtMost : ℕ → ℕ → Type 0
+IsOnePutAtMost old new = (new ≡ old) ⊎ IsOnePut old new
+
 -- the bytes were put behind the text
 abbrev pub IsAppended : List ℕ → List ℕ → List ℕ → Type 0
 IsAppended bytes old new = new ≡ old ++ bytes

@@ -2,7 +2,7 @@
 
 ghost use Rattle.std.specs.Prelude.{◌≡◌, ◌≤◌, ◌<◌, ℕ, List, Option, IfOk, IfSome, OnOk, OnErr, vec_len, length};
 ghost use Rattle.ih_shelf.specs.Outside.{Names, Rose, IfTold, bytes_at, IsWritten, MayBeWritten, IsAppended};
-ghost use Rattle.ih_shelf.specs.Outside.{MayBeAppended};
+ghost use Rattle.ih_shelf.specs.Outside.{IsOnePut, MayBeAppended};
 
 use std::alloc::Global;
 use std::rt::Files;
@@ -73,10 +73,13 @@ pub trait Shelf {
         ensures other_count { read_faults self.new ≡ read_faults self.old };
 }
 
-/// Where text goes. A sink may tell the text so far, and then goes on telling it. It always counts
-/// its faults, as a shelf does, and in the same way its own lacks of memory.
+/// Where text goes. A sink may tell the text so far, and how many puts it has had, and then goes on
+/// telling it. It always counts its faults, as a shelf does, and in the same way its own lacks of
+/// memory.
 pub trait Sink {
     ghost text: { Self → Option (List ℕ) };
+
+    ghost puts: { Self → Option ℕ };
 
     ghost faults: { Self → ℕ };
 
@@ -89,6 +92,7 @@ pub trait Sink {
             (IfTold (MayBeAppended bytes.now) (text self.old) (text self.new)) }
         ensures fault { result ≡ Err WriteError.Fault → Rose (faults self.old) (faults self.new) }
         ensures lack { result ≡ Err WriteError.OutOfMemory → Rose (lacks self.old) (lacks self.new) }
+        ensures one { IfTold IsOnePut (puts self.old) (puts self.new) }
         ensures count { faults self.old ≤ faults self.new }
         ensures lack_count { lacks self.old ≤ lacks self.new };
 }

@@ -127,6 +127,8 @@ impl Sink for OutSink {
 
     ghost text = { λ s. None };
 
+    ghost puts = { λ s. None };
+
     ghost faults = { λ s. s };
 
     ghost lacks = { λ s. 0 };

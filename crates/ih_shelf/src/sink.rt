@@ -64,6 +64,8 @@ impl Sink for MemSink {
 
     ghost faults = { λ s. s.puts.count };
 
+    ghost puts = { λ s. Some s.puts.calls };
+
     ghost lacks = { λ s. s.lacks };
 
     /// A put that fails as planned puts nothing.
@@ -77,6 +79,7 @@ impl Sink for MemSink {
             record self.old { puts = called self.old.puts; lacks = raised self.old.lacks } }
 
         // What every sink promises.
+        ensures one { self.new.puts.calls ≡ raised self.old.puts.calls }
         ensures count { self.old.puts.count ≤ self.new.puts.count }
         ensures lack_count { self.old.lacks ≤ self.new.lacks }
     {

@@ -14,7 +14,7 @@ other s t differs = go (bytes_eq s t) refl
     go true is = absurd (differs ((bytes_eq-Decides s t).0 is))
     go false is = refl
 
-first_name : (words : List (String Global)) {s : String Global} {name : Text} → slice_get words 0 ≡ Some s → name ≡ string_bytes s
+pub first_name : (words : List (String Global)) {s : String Global} {name : Text} → slice_get words 0 ≡ Some s → name ≡ string_bytes s
     → slice_get (map string_bytes words) 0 ≡ Some name
 first_name words first told = slice_get-map string_bytes words 0 ∙ ap (option_map string_bytes) first ∙ ap Some (sym told)
 

@@ -6,7 +6,7 @@ use Rattle.clap.specs.Built.{AddsArg}
 use Rattle.clap.specs.Words.{App, Row, Rule, Text, app_of, new_app, rule_of, with_rule}
 use Rattle.clap.specs.declared.builder.arg.Arg.{Arg}
 use Rattle.clap.specs.declared.builder.command.Command.{Command}
-use Rattle.ih_words.specs.Arguments.{named, named_number, numbered_option, optional_number}
+use Rattle.ih_words.specs.Arguments.{named, named_number, numbered_option, optional_between, optional_number}
 use Rattle.ih_words.specs.Matches.{HasFiles, HasText}
 use Rattle.ih_words.specs.Rules.{Requires, RequiresNumber, TakesNumber}
 
@@ -46,6 +46,10 @@ requires_number place = record {
   parser = refl;
 }
 
+pub takes_between : {app : App} {k : ℕ} {id : Text} {low high : ℕ} → slice_get app.top.rules k ≡ Some (optional_between id low high)
+    → TakesNumber app k (optional_between id low high) low high
+takes_between place = record { place = place; range = refl; parser = refl }
+
 pub takes_number : {app : App} {k : ℕ} {id : Text} {high : ℕ} → slice_get app.top.rules k ≡ Some (optional_number id high)
     → TakesNumber app k (optional_number id high) 0 high
-takes_number place = record { place = place; range = refl; parser = refl }
+takes_number place = takes_between place

@@ -1,16 +1,16 @@
 -- What the getters of clap's matches read, by the rows of the matches.
 use Rattle.std.proofs.Common.{◌≡◌, ◌∙◌, ◌<◌, ◌^◌, ap, sym, ℕ, Bool, true, false, List, [], refl, arith, Option, Some, None, Result, Ok, Err, option_map, codes}
-use Rattle.std.specs.Prelude.{IsSome, unwrap_or}
+use Rattle.std.specs.Prelude.{◌≤◌, IfSome, IsSome, unwrap_or}
 use Rattle.std.specs.Borrow.{Bor}
 use Rattle.std.specs.Option.{option_map_or}
 use Rattle.std.specs.Str.{bytes_eq}
 use Rattle.std.specs.Str.Parse.{ExplainsUnsignedError, HasUnsignedDigitsIfOk, ParsesBool, ParsesUnsigned, digits_value, without_leading_plus}
 use Rattle.std.proofs.lemmas.Slice.Eq.{bytes_eq-Decides}
-use Rattle.clap.specs.Words.{Text, IsUnsignedIn, first_of, first_value, one_of, one_text, rows_of}
+use Rattle.clap.specs.Words.{Row, Text, IsUnsignedIn, first_of, first_value, one_of, one_text, rows_of}
 use Rattle.clap.specs.Matches.{ReadsOne}
 use Rattle.clap.specs.declared.parser.matches.Found.{Found}
 use Rattle.clap.proofs.WalkLemmas.{first_value-rows, one_text-rows}
-use Rattle.ih_words.specs.Matches.{HasNumber, IsNumberIfGiven, flag_at, number_at, number_of, text_at}
+use Rattle.ih_words.specs.Matches.{HasNumber, IsNumberIfGiven, flag_at, number_at, number_if_given, number_of, text_at}
 
 -- the text that `get_str` gives
 pub text_read : (o : Option (Bor Text)) (f : Found) (id t : Text) → option_map (λ s. s.now) o ≡ first_value f id
@@ -56,16 +56,38 @@ unsigned_read k high f id o has fits read =
     (rw is refl, λ n some. ap (λ w. unwrap_or w 0) (sym some ∙ is))
 
 -- the number that `get_one` gives of an argument that may be left out
+pub number_if_read : (E : Type 0) (G : List ℕ → Result ℕ E → Type 0) (k low high : ℕ) (f : Found) (id : Text) (o : Option ℕ)
+    → IsNumberIfGiven low high id (rows_of f) → high < 2 ^ k
+    → ((u : List ℕ) (x : Result ℕ E) → G u x → ParsesUnsigned k 10 u x)
+    → (one_text f id ≡ None → o ≡ None) → ((u : List ℕ) → one_text f id ≡ Some u → ReadsOne G u o)
+    → o ≡ number_if_given id (rows_of f)
+number_if_read E G k low high f id o given fits only none value = go (one_of id (rows_of f)) refl
+  where
+    go : (w : Option Text) → one_of id (rows_of f) ≡ w → o ≡ option_map number_of w
+    go None is = none (one_text-rows f id ∙ is)
+    go (Some t) is = reads_number E G k low high t o (given t is) fits only (value t (one_text-rows f id ∙ is))
+
+-- the same of the number, which is 0 where none was given
 pub optional_number_read : (E : Type 0) (G : List ℕ → Result ℕ E → Type 0) (k low high : ℕ) (f : Found) (id : Text) (o : Option ℕ)
     → IsNumberIfGiven low high id (rows_of f) → high < 2 ^ k
     → ((u : List ℕ) (x : Result ℕ E) → G u x → ParsesUnsigned k 10 u x)
     → (one_text f id ≡ None → o ≡ None) → ((u : List ℕ) → one_text f id ≡ Some u → ReadsOne G u o)
     → unwrap_or o 0 ≡ number_at id (rows_of f)
-optional_number_read E G k low high f id o given fits only none value = go (one_of id (rows_of f)) refl
+optional_number_read E G k low high f id o given fits only none value =
+    ap (λ w. unwrap_or w 0) (number_if_read E G k low high f id o given fits only none value) ∙ or_zero (one_of id (rows_of f))
   where
-    go : (w : Option Text) → one_of id (rows_of f) ≡ w → unwrap_or o 0 ≡ option_map_or number_of w 0
-    go None is = ap (λ x. unwrap_or x 0) (none (one_text-rows f id ∙ is))
-    go (Some t) is = ap (λ x. unwrap_or x 0) (reads_number E G k low high t o (given t is) fits only (value t (one_text-rows f id ∙ is)))
+    or_zero : (w : Option Text) → unwrap_or (option_map number_of w) 0 ≡ option_map_or number_of w 0
+    or_zero None = refl
+    or_zero (Some t) = refl
+
+-- the number of an argument, where one was given, is in its range
+pub number_if_given-within : (low high : ℕ) (id : Text) (rows : List Row) → IsNumberIfGiven low high id rows
+    → IfSome (number_if_given id rows) (λ n. (low ≤ n) × (n ≤ high))
+number_if_given-within low high id rows given = go (one_of id rows) refl
+  where
+    go : (w : Option Text) → one_of id rows ≡ w → IfSome (option_map number_of w) (λ n. (low ≤ n) × (n ≤ high))
+    go None is = tt
+    go (Some t) is = let h = given t is in (h.2, h.3)
 
 -- a text that `bool` reads as true, or doesn't
 flag_is : (E : Type 0) (t : Text) (o : Option Bool) → ReadsOne {T = Bool} {E = E} ParsesBool t o → unwrap_or o false ≡ bytes_eq t (codes "true")

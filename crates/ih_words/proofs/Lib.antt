@@ -1,10 +1,10 @@
 mod ArgumentFacts
-mod CommandNames
-mod DescriptionRules
+pub mod CommandNames
+pub mod DescriptionRules
 mod Distinct
 mod Examples
-mod Faults
-mod Getters
+pub mod Faults
+pub mod Getters
 mod GivenValues
 mod PlainValues
 mod RequiredValues

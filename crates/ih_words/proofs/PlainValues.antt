@@ -1,11 +1,11 @@
 -- What the rules of a plain search say of its matches.
-use Rattle.std.proofs.Common.{◌≡◌, ◌≤◌, ℕ, Bool, true, false, List, Option, None, option_map, codes, refl}
+use Rattle.std.proofs.Common.{◌≡◌, ◌≤◌, ℕ, Bool, true, false, List, Option, None, option_map, codes, refl, le-leb}
 use Rattle.std.specs.Prelude.{if◌then◌else◌}
 use Rattle.clap.specs.Words.{App, Row, Rule, Text, matches_of}
 use Rattle.ih_journal.specs.declared.settings.TheConstants.{MAX_HARD, MAX_HEAT, MAX_MOVES, MAX_WORKERS}
 use Rattle.ih_words.specs.Arguments.{named, numbered_option, seed_option}
 use Rattle.ih_words.specs.Matches.{HasNumber, HasText, call_by, has_no_fault, number_at}
-use Rattle.ih_words.specs.Plain.{HasPlain, PlainCall, lawful_plain, plain_app}
+use Rattle.ih_words.specs.Plain.{HasPlain, PlainCall, lawful_plain, lawful_plain_to, plain_app}
 use Rattle.ih_words.specs.Rules.{Requires, RequiresNumber}
 use Rattle.ih_words.proofs.DescriptionRules.{requires_name, requires_number}
 
@@ -41,10 +41,16 @@ module _ (name id : Text) (high : ℕ) where
   pub plain_number-within : (rows : List Row) → HasNumber 1 high id rows → (1 ≤ number_at id rows) × (number_at id rows ≤ high)
   plain_number-within rows has = rw has.1 (has.2.2, has.2.3)
 
+-- so a lawful call has its number there
+pub lawful_plain_to-within : (high : ℕ) (id : Text) (rows : List Row) → (1 ≤ number_at id rows) × (number_at id rows ≤ high)
+    → lawful_plain_to high id rows ≡ lawful_plain id rows
+lawful_plain_to-within high id rows range =
+    rw (le-leb 1 (number_at id rows) range.0, le-leb (number_at id rows) high range.1) refl
+
 -- a call may be changed before it is asked whether the words have a fault
-pub moved : {A : Type 0} (of : PlainCall → A) (app : App) (id : Text) (words : List Text)
-    → call_by app (λ rows. option_map of (lawful_plain id rows)) words ≡ option_map of (call_by app (lawful_plain id) words)
-moved of app id words = go (has_no_fault app words) (lawful_plain id (matches_of app words))
+pub moved : {A : Type 0} (of : PlainCall → A) (app : App) (high : ℕ) (id : Text) (words : List Text)
+    → call_by app (λ rows. option_map of (lawful_plain_to high id rows)) words ≡ option_map of (call_by app (lawful_plain_to high id) words)
+moved of app high id words = go (has_no_fault app words) (lawful_plain_to high id (matches_of app words))
   where
     go : (b : Bool) (o : Option PlainCall) → (if b then option_map of o else None) ≡ option_map of (if b then o else None)
     go true o = refl

@@ -20,17 +20,25 @@ named_number id = record (named id) { parser = Some (Unsigned 0 1844674407370955
 abbrev pub numbered_option : Text → ℕ → ℕ → Rule
 numbered_option id low high = record (named id) { long = Some id; parser = Some (Unsigned low high) }
 
--- `--seed N`, where N is any number of 64 bits
+-- a required `--id N`, where N is any number of 64 bits
+abbrev pub any_number_option : Text → Rule
+any_number_option id = numbered_option id 0 18446744073709551615
+
+-- `--seed N`
 abbrev pub seed_option : Rule
-seed_option = numbered_option (codes "seed") 0 18446744073709551615
+seed_option = any_number_option (codes "seed")
 
 -- `--id VALUE`, which may be left out
 abbrev pub optional : Text → Rule
 optional id = record (new_rule id) { long = Some id; action = Some Set }
 
--- `--id N`, which may be left out, where N is at most high
+-- `--id N`, which may be left out, where N is a number from low to high
+abbrev pub optional_between : Text → ℕ → ℕ → Rule
+optional_between id low high = record (optional id) { parser = Some (Unsigned low high) }
+
+-- the same, where N is at most high
 abbrev pub optional_number : Text → ℕ → Rule
-optional_number id high = record (optional id) { parser = Some (Unsigned 0 high) }
+optional_number id high = optional_between id 0 high
 
 -- the flag `--id`
 abbrev pub flag : Text → Rule

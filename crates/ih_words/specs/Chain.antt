@@ -3,7 +3,7 @@ use Rattle.std.specs.Prelude.{ℕ, ◌≤◌, ◌*◌, List, Option, option_map,
 use Rattle.clap.specs.Words.{App, Row}
 use Rattle.ih_journal.specs.Settings.{most_entries}
 use Rattle.ih_journal.specs.declared.settings.TheConstants.{MAX_ENTRIES}
-use Rattle.ih_words.specs.Plain.{IsPlain, lawful_plain, plain_app}
+use Rattle.ih_words.specs.Plain.{IsPlain, lawful_plain_to, plain_app}
 use Rattle.ih_words.specs.Solve.{SolveCall, solve_call}
 use Rattle.ih_words.specs.declared.chain.Chains.{Chains}
 use Rattle.ih_words.specs.declared.chain.TheConstants.{MAX_LENGTH}
@@ -33,4 +33,4 @@ pub record IsLawfulChain (c : Chains) : Type 0 where
 -- moves
 abbrev pub lawful_chain : List Row → Option ChainCall
 lawful_chain rows =
-    option_map (λ c. record { search = c.search; length = c.number }) (lawful_plain (codes "length") rows)
+    option_map (λ c. record { search = c.search; length = c.number }) (lawful_plain_to MAX_LENGTH (codes "length") rows)

@@ -1,5 +1,5 @@
 -- What `clap` reads of the words of a command, and the values that it gives to the arguments, by their ids.
-use Rattle.std.specs.Prelude.{◌≡◌, ℕ, Bool, false, List, [], Option, Some, None, Result, Ok, Err, is_some, unwrap_or, codes, if◌then◌else◌}
+use Rattle.std.specs.Prelude.{◌≡◌, ℕ, Bool, false, List, [], Option, Some, None, Result, Ok, Err, is_some, option_map, unwrap_or, codes, if◌then◌else◌}
 use Rattle.std.specs.Option.{option_map_or}
 use Rattle.std.specs.Str.{bytes_eq}
 use Rattle.std.specs.Str.Parse.{digits_value, without_leading_plus}
@@ -42,6 +42,10 @@ number_of text = digits_value 10 (without_leading_plus text)
 -- the number of an argument, and 0 where none was given
 abbrev pub number_at : Text → List Row → ℕ
 number_at id rows = option_map_or number_of (one_of id rows) 0
+
+-- the number of an argument, where one was given
+abbrev pub number_if_given : Text → List Row → Option ℕ
+number_if_given id rows = option_map number_of (one_of id rows)
 
 -- the argument has a text
 abbrev pub HasText : Text → List Row → Type 0

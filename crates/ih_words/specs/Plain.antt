@@ -23,10 +23,11 @@ pub record IsPlain (s : Solve) : Type 0 where
   pub once : s.options.retries ≡ 0
   pub unfrozen : s.start.freeze ≡ 0
 
--- such a search with a number: its entries, so many times taken, are at most a million
-pub record IsPlainWith (s : Solve) (times : ℕ) : Type 0 where
+-- such a search with a number from 1 to `high`: its entries, so many times taken, are at most a million
+pub record IsPlainWith (high : ℕ) (s : Solve) (times : ℕ) : Type 0 where
   pub search : IsPlain s
   pub some : 1 ≤ times
+  pub most : times ≤ high
   pub few : most_entries s.options * times ≤ MAX_ENTRIES
 
 -- what a call of such a command asks for
@@ -62,3 +63,20 @@ abbrev pub lawful_plain : Text → List Row → Option PlainCall
 lawful_plain id rows =
     let call : PlainCall = record { search = plain_search_in rows; number = number_at id rows } in
     if is_lawful_plain call.search call.number then Some call else None
+
+-- the number is from 1 to `high`; the description of the command says so too
+abbrev pub is_number_to : ℕ → ℕ → Bool
+is_number_to high n = nat_le 1 n && nat_le n high
+
+-- the lawful call, where its number is from 1 to `high`
+abbrev pub lawful_plain_to : ℕ → Text → List Row → Option PlainCall
+lawful_plain_to high id rows = if is_number_to high (number_at id rows) then lawful_plain id rows else None
+
+-- What a lawful call is within: nothing is frozen, no stale move is tried again, the number is from 1 to `high`, and
+-- the entries, so many times taken, are at most a million.
+pub record IsWithin (high : ℕ) (s : SolveCall) (times : ℕ) : Type 0 where
+  pub once : s.options.retries ≡ 0
+  pub unfrozen : s.start.freeze ≡ 0
+  pub some : 1 ≤ times
+  pub most : times ≤ high
+  pub few : most_entries s.options * times ≤ MAX_ENTRIES

@@ -1,5 +1,5 @@
 -- Which call the words of a command line name. The words are those after the program's name.
-use Rattle.std.specs.Prelude.{ℕ, ◌≢◌, List, Option, None, codes, if◌then◌else◌, option_and_then, option_map, slice_get}
+use Rattle.std.specs.Prelude.{ℕ, ◌≡◌, ◌≢◌, List, Option, Some, None, codes, if◌then◌else◌, option_and_then, option_map, slice_get}
 use Rattle.std.specs.Str.{bytes_eq}
 use Rattle.clap.specs.Words.{Text}
 use Rattle.ih_journal.specs.Settings.{IsLawful}
@@ -9,9 +9,12 @@ use Rattle.ih_words.specs.Check.{CheckCall, check_app, check_call, lawful_check}
 use Rattle.ih_words.specs.Demo.{demo_app, lawful_demo}
 use Rattle.ih_words.specs.Generate.{GenCall, gen_app, gen_call, lawful_gen}
 use Rattle.ih_words.specs.Matches.{call_by}
+use Rattle.ih_words.specs.Plain.{IsWithin}
 use Rattle.ih_words.specs.Replay.{ReplayCall, lawful_replay, replay_app, replay_call}
 use Rattle.ih_words.specs.Rounds.{IsLawfulRounds, RoundsCall, lawful_rounds, rounds_app, rounds_call}
 use Rattle.ih_words.specs.Solve.{SolveCall, lawful_solve, solve_app, solve_call}
+use Rattle.ih_words.specs.declared.chain.TheConstants.{MAX_LENGTH}
+use Rattle.ih_words.specs.declared.rounds.TheConstants.{MAX_ROUNDS}
 use Rattle.ih_words.specs.declared.command.Command.{Command}
 use Rattle.ih_words.specs.declared.command.Command.TheVariants.{Chain as ChainCommand, Check as CheckCommand, Demo as DemoCommand, Gen as GenCommand, Replay as ReplayCommand, Rounds as RoundsCommand, Salvage as SalvageCommand, Solve as SolveCommand, Advise as AdviseCommand}
 
@@ -73,3 +76,17 @@ call_named name words = if bytes_eq name (codes "solve") then option_map solve (
 -- the call that the words name, where they are lawful: the first word is the command's name
 unfoldable pub call_of : List Text → Option Call
 call_of words = option_and_then (λ name. call_named name words) (slice_get words 0)
+
+-- some words name the call
+abbrev pub IsNamed : Call → Type 0
+IsNamed call = (words : List Text) × (call_of words ≡ Some call)
+
+-- the limits of chains and of rounds
+abbrev pub IsWithinLimits : Call → Type 0
+IsWithinLimits (chain c) = IsWithin MAX_LENGTH c.search c.length
+IsWithinLimits (rounds r) = IsWithin MAX_ROUNDS r.search r.rounds
+IsWithinLimits call = Unit {0}
+
+-- A call that some words name is within these limits.
+abbrev pub NamedCallsAreWithinLimits : Type 0
+NamedCallsAreWithinLimits = (call : Call) → IsNamed call → IsWithinLimits call

@@ -1,31 +1,32 @@
 //! The rules of the commands' arguments, for `clap`.
 ghost use Rattle.std.specs.Prelude.{◌≡◌, IfOk, false};
 ghost use Rattle.clap.specs.Words.{App, Rule, app_of, rule_of, with_rule};
-ghost use Rattle.ih_words.specs.Arguments.{IsChanged, files_app, flag, named, named_number, numbered_option, optional};
-ghost use Rattle.ih_words.specs.Arguments.{optional_number, seed_option, with_options};
+ghost use Rattle.ih_words.specs.Arguments.{IsChanged, any_number_option, files_app, flag, named, named_number};
+ghost use Rattle.ih_words.specs.Arguments.{numbered_option, optional, optional_between, optional_number, seed_option};
+ghost use Rattle.ih_words.specs.Arguments.{with_options};
 
 use clap::{Arg, ArgAction, Command, value_parser};
 use ih_journal::{MAX_HARD, MAX_HEAT, MAX_MOVES, MAX_WORKERS};
 use std::alloc::{AllocError, Global};
 
-// A required argument with one value, by its place.
-pub(crate) fn named<'a>(alloc: Global, id: &'a str) -> Arg<'a>
+/// A required argument with one value, by its place.
+pub fn named<'a>(alloc: Global, id: &'a str) -> Arg<'a>
     ensures rule { rule_of result ≡ named id.entry.now }
     ensures local { result.global ≡ false }
 {
     Arg::new(alloc, id).required(true).action(ArgAction::Set)
 }
 
-// A required number of 64 bits, by its place.
-pub(crate) fn named_number<'a>(alloc: Global, id: &'a str) -> Arg<'a>
+/// A required number of 64 bits, by its place.
+pub fn named_number<'a>(alloc: Global, id: &'a str) -> Arg<'a>
     ensures rule { rule_of result ≡ named_number id.entry.now }
     ensures local { result.global ≡ false }
 {
     named(alloc, id).value_parser(value_parser!(u64))
 }
 
-// A required `--id N`, where N is a number from `low` to `high`.
-pub(crate) fn numbered_option<'a>(alloc: Global, id: &'a str, low: u32, high: u32) -> Arg<'a>
+/// A required `--id N`, where N is a number from `low` to `high`.
+pub fn numbered_option<'a>(alloc: Global, id: &'a str, low: u32, high: u32) -> Arg<'a>
     ensures rule { rule_of result ≡ numbered_option id.entry.now low high }
     ensures local { result.global ≡ false }
 {
@@ -34,43 +35,57 @@ pub(crate) fn numbered_option<'a>(alloc: Global, id: &'a str, low: u32, high: u3
         .value_parser(value_parser!(u64).range(i64::from(low)..=i64::from(high)))
 }
 
-// `--seed N`, where N is any number of 64 bits.
-pub(crate) fn seed_option<'a>(alloc: Global) -> Arg<'a>
+/// A required `--id N`, where N is any number of 64 bits.
+pub fn any_number_option<'a>(alloc: Global, id: &'a str) -> Arg<'a>
+    ensures rule { rule_of result ≡ any_number_option id.entry.now }
+    ensures local { result.global ≡ false }
+{
+    named(alloc, id).long(id).value_parser(value_parser!(u64))
+}
+
+/// `--seed N`, where N is any number of 64 bits.
+pub fn seed_option<'a>(alloc: Global) -> Arg<'a>
     ensures rule { rule_of result ≡ seed_option }
     ensures local { result.global ≡ false }
 {
-    named(alloc, "seed")
-        .long("seed")
-        .value_parser(value_parser!(u64))
+    any_number_option(alloc, "seed")
 }
 
-// `--id VALUE`, which may be left out.
-pub(crate) fn optional<'a>(alloc: Global, id: &'a str) -> Arg<'a>
+/// `--id VALUE`, which may be left out.
+pub fn optional<'a>(alloc: Global, id: &'a str) -> Arg<'a>
     ensures rule { rule_of result ≡ optional id.entry.now }
     ensures local { result.global ≡ false }
 {
     Arg::new(alloc, id).long(id).action(ArgAction::Set)
 }
 
-// `--id N`, which may be left out, where N is at most `high`.
-pub(crate) fn optional_number<'a>(alloc: Global, id: &'a str, high: u32) -> Arg<'a>
+/// `--id N`, which may be left out, where N is a number from `low` to `high`.
+pub fn optional_between<'a>(alloc: Global, id: &'a str, low: u32, high: u32) -> Arg<'a>
+    ensures rule { rule_of result ≡ optional_between id.entry.now low high }
+    ensures local { result.global ≡ false }
+{
+    optional(alloc, id).value_parser(value_parser!(u64).range(i64::from(low)..=i64::from(high)))
+}
+
+/// `--id N`, which may be left out, where N is at most `high`.
+pub fn optional_number<'a>(alloc: Global, id: &'a str, high: u32) -> Arg<'a>
     ensures rule { rule_of result ≡ optional_number id.entry.now high }
     ensures local { result.global ≡ false }
 {
-    optional(alloc, id).value_parser(value_parser!(u64).range(0..=i64::from(high)))
+    optional_between(alloc, id, 0, high)
 }
 
-// The flag `--id`.
-pub(crate) fn flag<'a>(alloc: Global, id: &'a str) -> Arg<'a>
+/// The flag `--id`.
+pub fn flag<'a>(alloc: Global, id: &'a str) -> Arg<'a>
     ensures rule { rule_of result ≡ flag id.entry.now }
     ensures local { result.global ≡ false }
 {
     Arg::new(alloc, id).long(id).action(ArgAction::SetTrue)
 }
 
-// The description with one argument more, where there was memory for it. Lack of memory is passed on, so that a whole
-// description has no branches.
-pub(crate) fn with<'a>(
+/// The description with one argument more, where there was memory for it. Lack of memory is passed on, so that a whole
+/// description has no branches.
+pub fn with<'a>(
     description: Result<Command<'a>, AllocError>,
     argument: Arg<'a>,
 ) -> Result<Command<'a>, AllocError>
@@ -84,16 +99,16 @@ pub(crate) fn with<'a>(
     }
 }
 
-// `NAME INSTANCE SOLUTION`.
-pub(crate) fn files_description<'a>(alloc: Global, name: &'a str) -> Result<Command<'a>, AllocError>
+/// `NAME INSTANCE SOLUTION`.
+pub fn files_description<'a>(alloc: Global, name: &'a str) -> Result<Command<'a>, AllocError>
     ensures { IfOk result (λ c. app_of c ≡ files_app name.entry.now) }
 {
     let instance = with(Ok(Command::new(alloc, name)), named(alloc, "INSTANCE"));
     with(instance, named(alloc, "SOLUTION"))
 }
 
-// The description with the options that a search needs.
-pub(crate) fn with_options<'a>(
+/// The description with the options that a search needs.
+pub fn with_options<'a>(
     alloc: Global,
     description: Result<Command<'a>, AllocError>,
 ) -> Result<Command<'a>, AllocError>

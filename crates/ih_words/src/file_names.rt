@@ -10,9 +10,9 @@ fn is_among(name: &str, names: &[&str]) -> bool
     names.iter().any(|other| name == *other)
 }
 
-// No two of the names are equal.
+/// No two of the names are equal.
 #[tactic(auto, unfolding(crate::specs::Distinct::all_differ))]
-pub(crate) fn all_differ(names: &[&str]) -> bool
+pub fn all_differ(names: &[&str]) -> bool
     ensures { result ≡ all_differ (map (λ s. s.now) names.now) }
 {
     match names {

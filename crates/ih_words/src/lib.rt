@@ -1,22 +1,24 @@
 //! The words of a command line: the command that they give, with its values, or that they give none.
-//! Each command has a description for `clap`, which reads the words, and conditions of its own on what was read.
+//! Each command has a description for `clap`, which reads the words, and conditions of its own on what was read. What
+//! commands share is public, for programs with other commands.
 #![tactic(auto)]
 
 mod advise;
-mod arguments;
+pub mod arguments;
 mod chain;
 mod check;
 mod command;
 mod demo;
 mod error;
-mod file_names;
+pub mod file_names;
 mod generate;
-mod matches;
+mod laws;
+pub mod matches;
 mod plain;
 mod replay;
 mod rounds;
 mod solve;
-mod start;
+pub mod start;
 
 pub use advise::Advise;
 pub use chain::{Chains, MAX_LENGTH};
@@ -24,6 +26,7 @@ pub use check::Check;
 pub use command::{Command, read_words};
 pub use error::WordsError;
 pub use generate::Gen;
+pub use laws::named_calls_are_within_limits;
 pub use replay::Replay;
 pub use rounds::{MAX_ROUNDS, Rounds};
 pub use solve::Solve;

@@ -4,8 +4,8 @@ ghost use Rattle.std.specs.Prelude.{◌≡◌, ◌≤◌, ◌*◌, IfOk, IfSome,
 ghost use Rattle.clap.specs.Words.{app_of, found_of, is_simple_and_free, rows_of};
 ghost use Rattle.ih_journal.specs.Settings.{IsLawful, most_entries};
 ghost use Rattle.ih_words.specs.Matches.{HasNumber, IsAnswer, call_by, number_at};
-ghost use Rattle.ih_words.specs.Plain.{HasPlain, IsPlain, IsPlainWith, is_lawful_plain, lawful_plain, plain_app};
-ghost use Rattle.ih_words.specs.Plain.{plain_call, plain_search_in};
+ghost use Rattle.ih_words.specs.Plain.{HasPlain, IsPlain, IsPlainWith, is_lawful_plain, lawful_plain};
+ghost use Rattle.ih_words.specs.Plain.{lawful_plain_to, plain_app, plain_call, plain_search_in};
 ghost use Rattle.ih_words.specs.{Rules.has_independent_rules, Solve.solve_call};
 
 use crate::WordsError;
@@ -91,7 +91,8 @@ fn lawful_plain<'a>(matches: &ArgMatches<'a>, id: &str) -> Option<(Solve<'a>, u3
     requires number { HasNumber 1 4294967295 id.now (rows_of (found_of matches.now)) }
     ensures value { option_map plain_call result ≡ lawful_plain id.now (rows_of (found_of matches.now)) }
     ensures number { IfSome result (λ p. p.1 ≡ number_at id.now (rows_of (found_of matches.now))) }
-    ensures lawful { IfSome result (λ p. IsPlainWith p.0 p.1) }
+    ensures lawful { IfSome result (λ p. IsPlain p.0) }
+    ensures few { IfSome result (λ p. most_entries p.0.options * p.1 ≤ MAX_ENTRIES) }
 {
     let search = plain_search_in(matches);
     let number = u32_of(matches, id);
@@ -113,10 +114,9 @@ pub(crate) fn read_plain<'a>(
     requires simple { is_simple_and_free (plain_app name.now id.now high) ≡ true }
     requires independent { has_independent_rules (plain_app name.now id.now high) ≡ true }
     ensures read { IsAnswer plain_call
-        (call_by (plain_app name.entry.now id.entry.now high) (lawful_plain id.entry.now)
+        (call_by (plain_app name.entry.now id.entry.now high) (lawful_plain_to high id.entry.now)
         (map string_bytes words.entry.now)) result }
-    ensures most { IfOk result (λ p. p.1 ≤ high) }
-    ensures lawful { IfOk result (λ p. IsPlainWith p.0 p.1) }
+    ensures lawful { IfOk result (λ p. IsPlainWith high p.0 p.1) }
 {
     let command = plain_description(alloc, name, id, high)?;
     let matches = matches_in(Ok(command), words)?;

@@ -23,8 +23,8 @@ pub struct Start<'a> {
     pub freeze: u32,
 }
 
-// The description with `--start F`, `--freeze DAY` and `--fill`.
-pub(crate) fn with_start<'a>(
+/// The description with `--start F`, `--freeze DAY` and `--fill`.
+pub fn with_start<'a>(
     alloc: Global,
     description: Result<Command<'a>, AllocError>,
 ) -> Result<Command<'a>, AllocError>
@@ -35,8 +35,8 @@ pub(crate) fn with_start<'a>(
     with(freeze, flag(alloc, "fill"))
 }
 
-// What the search starts from.
-pub(crate) fn start_in<'a>(matches: &ArgMatches<'a>) -> Start<'a>
+/// What the search starts from.
+pub fn start_in<'a>(matches: &ArgMatches<'a>) -> Start<'a>
     requires { IsNumberIfGiven 0 MAX_FREEZE (codes "freeze") (rows_of (found_of matches.now)) }
     ensures { start_call result ≡ start_in (rows_of (found_of matches.now)) }
 {
@@ -47,8 +47,8 @@ pub(crate) fn start_in<'a>(matches: &ArgMatches<'a>) -> Start<'a>
     }
 }
 
-// A freeze day is given only where the timetable of a file is taken as it is.
-pub(crate) fn freezes_a_file(matches: &ArgMatches) -> bool
+/// A freeze day is given only where the timetable of a file is taken as it is.
+pub fn freezes_a_file(matches: &ArgMatches) -> bool
     ensures { result ≡ freezes_a_file (rows_of (found_of matches.now)) }
 {
     !is_given(matches, "freeze") || is_given(matches, "start") && !flag_of(matches, "fill")

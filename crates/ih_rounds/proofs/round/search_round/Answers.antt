@@ -38,12 +38,12 @@ returns-clause-round g c =
     let b = base_with c.args.inst.now.draft c.args.start.now c.args.options.now 0 in
     let H = c.as_slice-entries.result.now in
     let is = answered b _ _ c.as_slice-entries.ensures.value c.requires.lawful c.in_ok-answer.ensures.full in
-    let told = ap (λ (G : List Entry). with_answers (g.S.Searcher.answers c.args.searcher.now) (G ∷ [])) (sym c.as_slice-entries.ensures.value) in
+    let told = ap (λ (G : List Entry). with_answers (g.S.Asked.told c.args.searcher.now) (G ∷ [])) (sym c.as_slice-entries.ensures.value) in
     IfOk-weaker c.lead_on.result (LeadsOn b H) _
     (λ outcome leads. record {
       history = H;
       full = is.full;
-      told = c.in_ok-answer.ensures.told ∙ told;
+      told = c.in_ok-answer.ensures.more ∙ told;
       written = c.in_ok-put_journal.ensures;
       leads = leads;
     }) (c.lead_on.ensures c.args.options.now is)

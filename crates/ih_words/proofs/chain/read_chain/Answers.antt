@@ -4,6 +4,7 @@ use Rattle.clap.proofs.OnLiterals.{clap_on_literals}
 use Rattle.ih_words.specs.Chain.{ChainCall, chain_app}
 use Rattle.ih_words.specs.Distinct.{all_differ}
 use Rattle.ih_words.specs.Plain.{PlainCall, plain_app}
+use Rattle.ih_words.specs.declared.chain.TheConstants.{MAX_LENGTH}
 use Rattle.ih_words.proofs.PlainValues.{moved}
 use Rattle.ih_words.proofs.chain.read_chain.Goals as goal
 
@@ -16,10 +17,10 @@ of c = record { search = c.search; length = c.number }
 
 pub returns-clause-read : goal.returns-clause-read
 unfolding chain_app
-returns-clause-read c = moved of _ (codes "length") _ ∙ ap (option_map of) c.in_ok-search.ensures.read
+returns-clause-read c = moved of _ MAX_LENGTH (codes "length") _ ∙ ap (option_map of) c.in_ok-search.ensures.read
 
 pub returns-in_err-search-clause-read : goal.returns-in_err-search-clause-read
 unfolding chain_app
 returns-in_err-search-clause-read c =
     let p = err_from_is_err_and c.from_residual.result c.from_residual.ensures.1 in
-    rw (p.1, p.2) (λ e. moved of _ (codes "length") _ ∙ ap (option_map of) (c.in_err-search.ensures.read e))
+    rw (p.1, p.2) (λ e. moved of _ MAX_LENGTH (codes "length") _ ∙ ap (option_map of) (c.in_err-search.ensures.read e))

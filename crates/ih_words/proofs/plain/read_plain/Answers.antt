@@ -1,10 +1,14 @@
-use Rattle.std.proofs.Common.{◌≡◌, ◌∙◌, ◌≤◌, ℕ, Option, Some, None, IfOk, ap, arith, refl}
+use Rattle.std.proofs.Common.{◌≡◌, ◌∙◌, ◌≤◌, ◌*◌, ℕ, true, List, Option, Some, None, IfOk, ap, arith, map, option_map, refl, string_bytes, subst, sym}
 use Rattle.std.specs.Prelude.{IfSome, ok_or}
-use Rattle.clap.specs.Words.{is_simple_and_free}
-use Rattle.ih_words.specs.Rules.{has_independent_rules}
-use Rattle.ih_words.specs.declared.error.WordsError.{WordsError}
+use Rattle.clap.specs.Words.{App, Row, Rule, Text, app_of, found_of, is_simple_and_free, matches_of, rows_of}
+use Rattle.ih_journal.specs.Settings.{most_entries}
+use Rattle.ih_journal.specs.declared.settings.TheConstants.{MAX_ENTRIES}
+use Rattle.ih_words.specs.Matches.{HasNumber, IsAnswer, call_by, has_no_fault, number_at}
+use Rattle.ih_words.specs.Plain.{IsPlain, IsPlainWith, PlainCall, lawful_plain_to, plain_app, plain_call}
+use Rattle.ih_words.specs.Rules.{RequiresNumber, has_independent_rules}
 use Rattle.ih_words.specs.declared.error.WordsError.TheVariants.{Unlawful}
-use Rattle.ih_words.proofs.PlainValues.{has_plain, has_plain_number, plain_number-within}
+use Rattle.ih_words.specs.declared.solve.Solve.{Solve}
+use Rattle.ih_words.proofs.PlainValues.{has_plain, has_plain_number, lawful_plain_to-within, plain_number-within}
 use Rattle.ih_words.proofs.plain.read_plain.Goals as goal
 
 pub matches_in-requires : goal.matches_in-requires
@@ -22,13 +26,46 @@ lawful_plain-requires-clause-number c =
     let few = c.ranges.high.fits in
     (has.0, has.1, (has.2.0, has.2.1, has.2.2, omega (arith, has.2.3, few)))
 
--- a number that is known to be small, where there is one
-most : {X : Type 0} (o : Option (X × ℕ)) (n high : ℕ) (e : WordsError) → IfSome o (λ p. p.1 ≡ n) → n ≤ high → IfOk (ok_or o e) (λ p. p.1 ≤ high)
-most (Some p) n high e is few = omega (arith, is, few)
-most None n high e is few = tt
+-- the number that the words give is from 1 to `high`
+in_range : (name id : Text) (high : ℕ) (rows : List Row)
+    → ((k : ℕ) (rule : Rule) (low most : ℕ) → RequiresNumber (plain_app name id high) k rule low most → HasNumber low most rule.id rows)
+    → (1 ≤ number_at id rows) × (number_at id rows ≤ high)
+in_range name id high rows numbers = plain_number-within name id high rows (has_plain_number name id high rows numbers)
 
-pub returns-clause-most : goal.returns-clause-most
-returns-clause-most c =
-    let has = has_plain_number c.args.name.now c.args.id.now c.args.high _ (rw c.in_ok-command.ensures at c.in_ok-matches.ensures.numbers) in
-    let few = (plain_number-within c.args.name.now c.args.id.now c.args.high _ has).1 in
-    rw c.ok_or.ensures.value (most c.lawful_plain.result _ c.args.high Unlawful c.lawful_plain.ensures.number few)
+-- what the values of the words give is what is asked of the words
+called : (app asked : App) (words : List Text) (rows : List Row) (lawful : List Row → Option PlainCall) → app ≡ asked
+    → has_no_fault app words ≡ true → rows ≡ matches_of app words → lawful rows ≡ call_by asked lawful words
+called app asked words rows lawful same none is = subst (λ (a : App). lawful rows ≡ call_by a lawful words) same (rw none (ap lawful is))
+
+answered : {A B : Type 0} (call : B → A) (asked : Option A) (o : Option B) → option_map call o ≡ asked → IsAnswer call asked (ok_or o Unlawful)
+answered call asked (Some x) is = sym is
+answered call asked None is = λ e. sym is
+
+pub returns-clause-read : goal.returns-clause-read
+returns-clause-read c =
+    let same = c.in_ok-command.ensures in
+    let id = c.args.id.now in
+    let high = c.args.high in
+    let rows : List Row = rows_of (found_of c.in_ok-matches.matches) in
+    let numbers = rw same at c.in_ok-matches.ensures.numbers in
+    let within = lawful_plain_to-within high id rows (in_range c.args.name.now id high rows numbers) in
+    let asked = called (app_of c.in_ok-command.command) (plain_app c.args.name.now id high) (map string_bytes c.args.words.now) rows (lawful_plain_to high id)
+    same c.in_ok-matches.ensures.no_fault c.in_ok-matches.ensures.rows in
+    rw c.ok_or.ensures.value (answered plain_call _ c.lawful_plain.result (c.lawful_plain.ensures.value ∙ (sym within ∙ asked)))
+
+-- a search and a number that is known to be from 1 to `high`, where there are any
+with_number : (o : Option (Solve × ℕ)) (n high : ℕ) → IfSome o (λ p. p.1 ≡ n) → (1 ≤ n) × (n ≤ high) → IfSome o (λ p. IsPlain p.0)
+    → IfSome o (λ p. most_entries p.0.options * p.1 ≤ MAX_ENTRIES) → IfOk (ok_or o Unlawful) (λ p. IsPlainWith high p.0 p.1)
+with_number (Some p) n high is range plain few = record {
+  search = plain;
+  some = let low = range.0 in omega (arith, is, low);
+  most = let top = range.1 in omega (arith, is, top);
+  few = few;
+}
+with_number None n high is range plain few = tt
+
+pub returns-clause-lawful : goal.returns-clause-lawful
+returns-clause-lawful c =
+    let range = in_range c.args.name.now c.args.id.now c.args.high _ (rw c.in_ok-command.ensures at c.in_ok-matches.ensures.numbers) in
+    rw c.ok_or.ensures.value
+    (with_number c.lawful_plain.result _ c.args.high c.lawful_plain.ensures.number range c.lawful_plain.ensures.lawful c.lawful_plain.ensures.few)
