@@ -1,10 +1,13 @@
-//! The greedy fill by several workers: the candidates of each choice are dealt to them, and priced side by side.
+//! The greedy fill by several workers: the candidates of each choice are dealt to them, and priced side by side; and
+//! what a search of files starts from, which may be such a fill.
 #![tactic(auto)]
 
 mod filling;
 mod joining;
 mod nurses;
+mod starts;
 mod stays;
 mod walkers;
 
 pub use filling::par_fill;
+pub use starts::{Begun, begin};

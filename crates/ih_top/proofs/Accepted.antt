@@ -18,15 +18,16 @@ use Rattle.ih_solution.specs.Reading.{plan_in}
 use Rattle.ih_words.specs.Replay.{ReplayCall}
 use Rattle.ih_shelf.specs.Outside.{Names, bytes_at}
 use Rattle.ih_top.specs.declared.limits.TheConstants.{MAX_JOURNAL}
-use Rattle.ih_top.specs.declared.status.Status.{Status}
-use Rattle.ih_top.specs.declared.status.Status.TheVariants.{ReadFault, OutOfMemory, TooLong}
-use Rattle.ih_top.specs.declared.status.Role.TheVariants.{Journal}
+use Rattle.ih_answers.specs.declared.status.Status.{Status}
+use Rattle.ih_answers.specs.declared.status.Status.TheVariants.{ReadFault, OutOfMemory, TooLong}
+use Rattle.ih_answers.specs.declared.status.Role.TheVariants.{Journal}
 use Rattle.ih_inputs.specs.declared.error.InputError.{InputError}
 use Rattle.ih_inputs.specs.declared.error.InputError.TheVariants.{ReadFault as Unreadable, TooLong as Long, InstanceRefused as NoInstance, SolutionRefused as NoSolution, OutOfMemory as NoRoom}
 use Rattle.ih_inputs.specs.declared.error.InputRole.TheVariants.{Instance as InstanceInput, Solution as SolutionInput}
 use Rattle.ih_inputs.specs.Reading.{InputFiles, HasInputs, HasPlan, HasSolution, IsLongerThan, IsNext, IsUnread}
-use Rattle.ih_top.specs.Inputs.{EndsUnread, replay_inputs, unread_status}
-use Rattle.ih_top.specs.Starts.{started}
+use Rattle.ih_top.specs.Inputs.{replay_inputs}
+use Rattle.ih_answers.specs.Inputs.{EndsUnread, unread_status}
+use Rattle.ih_parfill.specs.Starts.{started}
 use Rattle.ih_top.specs.JournalEnds.{IsRefused}
 use Rattle.ih_top.specs.JournalFiles.{EndsUnreadJournal, HasRead, JournalRead}
 use Rattle.ih_top.specs.JournalHeading.{IsHeadedBy, IsHeadless}

@@ -6,13 +6,13 @@ use Rattle.ih_advise.specs.Advising.{advice}
 use Rattle.ih_advise.specs.Texts.{advice_text}
 use Rattle.ih_words.specs.Advise.{AdviseCall}
 use Rattle.ih_shelf.specs.Outside.{Names}
-use Rattle.ih_top.specs.declared.answer.Answer.{Answer}
-use Rattle.ih_top.specs.declared.status.Status.TheVariants.{Done, Infeasible}
+use Rattle.ih_answers.specs.declared.answer.Answer.{Answer}
+use Rattle.ih_answers.specs.declared.status.Status.TheVariants.{Done, Infeasible}
 use Rattle.ih_top.specs.Advise.{AdviseEnds, advise_inputs}
-use Rattle.ih_top.specs.Answers.{Answers, IsSaid}
+use Rattle.ih_answers.specs.Answers.{Answers, IsSaid}
 use Rattle.ih_inputs.specs.Reading.{HasInputs}
-use Rattle.ih_top.proofs.Saying.{IsAnswerable, said-answer, unsaid-by}
-use Rattle.ih_top.proofs.Stopping.{unread-memory, unread-only}
+use Rattle.ih_answers.proofs.Saying.{IsAnswerable, said-answer, unsaid-by}
+use Rattle.ih_answers.proofs.Stopping.{unread-memory, unread-only}
 
 module _ (a : AdviseCall) (files : Option Names) where
   pub advise-answerable : IsAnswerable (AdviseEnds a files)

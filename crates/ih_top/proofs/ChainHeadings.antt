@@ -1,6 +1,6 @@
 -- The journal of a search by chains: its length, and its heading, which replay and salvage refuse.
-use Rattle.std.proofs.Common.{◌≡◌, ◌∙◌, ℕ, zero, suc, ◌+◌, ◌*◌, ◌≤◌, sym, ap, subst, arith, inl, inr, List, length, Some}
-use Rattle.std.specs.Prelude.{slice_index}
+use Rattle.std.proofs.Common.{◌≡◌, ◌∙◌, ℕ, zero, suc, ◌+◌, ◌*◌, ◌≤◌, sym, ap, subst, arith, inl, inr, List, [], length, Option, Some}
+use Rattle.std.specs.Prelude.{slice_index, unwrap_or}
 use Rattle.std.proofs.lemmas.List.{length-map}
 use Rattle.std.proofs.Math.Nat.{mul-le-mul_right}
 use Rattle.ih_journal.specs.declared.entries.Entry.{Entry}
@@ -17,10 +17,11 @@ use Rattle.ih_chain.specs.Laws.{ChainJournalsAreShort}
 use Rattle.ih_chain.specs.Texts.{chain_heading, chain_journal}
 use Rattle.ih_instance.proofs.DraftSound.{instance_sound}
 use Rattle.ih_words.specs.Replay.{ReplayCall}
+use Rattle.ih_words.specs.Words.{NamedCallsAreWithinLimits, chain}
 use Rattle.ih_shelf.specs.Outside.{Names, bytes_at}
 use Rattle.ih_top.specs.declared.limits.TheConstants.{MAX_JOURNAL}
-use Rattle.ih_top.specs.declared.status.Status.{Status}
-use Rattle.ih_top.specs.declared.status.Status.TheVariants.{JournalRefused}
+use Rattle.ih_answers.specs.declared.status.Status.{Status}
+use Rattle.ih_answers.specs.declared.status.Status.TheVariants.{JournalRefused}
 use Rattle.ih_top.specs.Laws.{ChainJournalsAreHeadless, ChainJournalsFit, ChainsAreRefused, EndsIn, HasNoFault}
 use Rattle.ih_top.specs.JournalEnds.{IsRefused, JournalEnds}
 use Rattle.ih_top.specs.JournalFiles.{HasRead, JournalRead}
@@ -30,7 +31,6 @@ use Rattle.ih_top.specs.Salvage.{IsSalvage}
 use Rattle.ih_top.specs.Texts.{done_text, journal_refused_text, salvaged_text}
 use Rattle.ih_top.proofs.Accepted.{journal-accepted, same-bytes}
 use Rattle.ih_top.proofs.FaultlessEnds.{journal-faultless}
-use Rattle.ih_top.proofs.ReplayedAlike.{has-read-back, read-back}
 
 -- the third letters of the two headings differ
 pub chains-headless : ChainJournalsAreHeadless
@@ -51,11 +51,12 @@ within n most each all few some words len =
     let parts = spread each n in
     omega (arith, few, some, words, len, step, parts)
 
-pub chains-fit : ChainJournalsAreShort → ChainJournalsFit
-chains-fit short files c b H limits search =
+pub chains-fit : NamedCallsAreWithinLimits → ChainJournalsAreShort → ChainJournalsFit
+chains-fit limited short files c b H named search =
+    let limits = limited (chain c) named in
     let legal : AreLegalButDraws b (chain_tries H) = λ k e there. (search.full.legal k e there).entry in
     let valid = instance_sound (bytes_at files c.search.instance) b.instance search.base.start.inputs.instance.read in
-    let len = short b c.length H (record { valid = valid; base = search.sound.given; seed = search.seed }) limits.short search.full.legal in
+    let len = short b c.length H (record { valid = valid; base = search.sound.given; seed = search.seed }) limits.most search.full.legal in
     let few = (legal-few b (chain_tries H) legal).most in
     let many = length-map H chain_tried in
     let all = search.sound.given.lawful.entries in
@@ -103,12 +104,15 @@ module _ (r : ReplayCall) (there left : Names) (x : JournalRead) (has : HasRead 
   salvage-refused = refused-ends (IsSalvage r.start) IsHeadless salvaged_text
       (λ y b H given taken. never-headed y b _ given taken.headed) (λ e h. h.why.refusal)
 
-pub chains-refused : ChainJournalsAreShort → ChainsAreRefused
-chains-refused short c r before after there left b H ended said limits search written of calm =
+pub chains-refused : NamedCallsAreWithinLimits → ChainJournalsAreShort → ChainsAreRefused
+chains-refused limited short c r before after there left b H ended said named has-left given same calm =
     let bytes = chain_journal b.options c.length H in
-    let fits = chains-fit short before c b H limits search in
-    let x = read-back c.search r before after there of b search.base bytes fits written in
-    let has = has-read-back c.search r before after there of b search.base bytes fits written in
+    let fits = chains-fit limited short before c b H named has-left.search in
+    let x : JournalRead = record { instance = given.instance; plan = given.plan; bytes = bytes } in
+    let has : HasRead (Some there) r x = record {
+      inputs = given.inputs;
+      journal = record { short = fits; held = same ∙ ap (λ (o : Option (List ℕ)). unwrap_or o []) has-left.written };
+    } in
     let headless = chains-headless b.options c.length H in
     record {
       replayed = λ ends. replay-refused r there left x has headless ended said calm ends;

@@ -7,14 +7,14 @@ use Rattle.ih_plan.specs.BillOf.{bill_of}
 use Rattle.ih_validate.specs.Report.{report}
 use Rattle.ih_words.specs.Check.{CheckCall}
 use Rattle.ih_shelf.specs.Outside.{Names}
-use Rattle.ih_top.specs.declared.answer.Answer.{Answer}
-use Rattle.ih_top.specs.declared.status.Status.TheVariants.{Done, Infeasible}
-use Rattle.ih_top.specs.Answers.{Answers, IsSaid, checked_status}
+use Rattle.ih_answers.specs.declared.answer.Answer.{Answer}
+use Rattle.ih_answers.specs.declared.status.Status.TheVariants.{Done, Infeasible}
+use Rattle.ih_answers.specs.Answers.{Answers, IsSaid}
+use Rattle.ih_top.specs.Check.{checked_status, CheckEnds}
 use Rattle.ih_inputs.specs.Reading.{HasInputs}
 use Rattle.ih_top.specs.Inputs.{check_inputs}
-use Rattle.ih_top.specs.Check.{CheckEnds}
 use Rattle.ih_top.proofs.CommandEnds.{check-answerable}
-use Rattle.ih_top.proofs.Saying.{said-answer}
+use Rattle.ih_answers.proofs.Saying.{said-answer}
 
 -- the report was made, and its status says whether a hard rule is broken
 pub checked-ends : (c : CheckCall) (files : Option Names) (I : Draft) (P : Timetable) (whole : Bool) → feasible (bill_of I P) ≡ whole → (a : Answer)

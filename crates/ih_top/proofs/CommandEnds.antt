@@ -12,18 +12,18 @@ use Rattle.ih_words.specs.Replay.{ReplayCall}
 use Rattle.ih_words.specs.Rounds.{RoundsCall}
 use Rattle.ih_words.specs.Words.{Call, solve, replay, salvage, check, chain, rounds, gen, demo, advise}
 use Rattle.ih_shelf.specs.Outside.{IsWritten, MayBeWritten, Names, IfTold}
-use Rattle.ih_top.specs.declared.status.Status.{Status}
-use Rattle.ih_top.specs.declared.status.Status.TheVariants.{Done, Usage, WriteFault, OutOfMemory, Infeasible}
-use Rattle.ih_top.specs.declared.status.Role.TheVariants.{Out}
-use Rattle.ih_top.specs.declared.answer.Answer.{Answer}
-use Rattle.ih_top.specs.Answers.{IsConcluded, IsSaid}
-use Rattle.ih_inputs.specs.Texts.{memory_text}
+use Rattle.ih_answers.specs.declared.status.Status.{Status}
+use Rattle.ih_answers.specs.declared.status.Status.TheVariants.{Done, Usage, WriteFault, OutOfMemory, Infeasible}
+use Rattle.ih_answers.specs.declared.status.Role.TheVariants.{Out}
+use Rattle.ih_answers.specs.declared.answer.Answer.{Answer}
+use Rattle.ih_answers.specs.Answers.{IsConcluded, IsSaid}
+use Rattle.ih_answers.specs.Texts.{memory_text}
 use Rattle.ih_top.specs.Texts.{done_text, salvaged_text, usage_text}
 use Rattle.ih_top.specs.Rounds.{AreDone, RoundsEnds}
 use Rattle.ih_top.specs.Chain.{of_chains}
 use Rattle.ih_top.specs.Searches.{IsDone, JournalForm, SearchEnds}
 use Rattle.ih_top.specs.Solve.{of_moves}
-use Rattle.ih_top.specs.Writes.{Unchanged}
+use Rattle.ih_answers.specs.Ends.{Unchanged, Ends}
 use Rattle.ih_top.specs.Advise.{AdviseEnds, advise_inputs}
 use Rattle.ih_top.specs.Inputs.{check_inputs, replay_inputs}
 use Rattle.ih_top.specs.Check.{CheckEnds}
@@ -34,18 +34,13 @@ use Rattle.ih_top.specs.JournalFiles.{JournalRead}
 use Rattle.ih_top.specs.JournalHeading.{IsHeadless}
 use Rattle.ih_top.specs.Replay.{IsRefusedJournal, IsReplay}
 use Rattle.ih_top.specs.Salvage.{IsSalvage}
-use Rattle.ih_top.specs.Ends.{CallEnds, Ends, IsUntouched, Leaves, UsageEnds}
+use Rattle.ih_top.specs.Ends.{CallEnds, IsUntouched, Leaves, UsageEnds}
 use Rattle.ih_top.proofs.RoundsWriting.{rounds-done-found, rounds-none-begun}
 use Rattle.ih_top.proofs.AdviseAnswers.{advise-answerable}
-use Rattle.ih_top.proofs.Saying.{IsAnswerable, ended, memory-ended, said-answer, said-status, unsaid-by}
-use Rattle.ih_top.proofs.Stopping.{unread-memory, unread-only}
-use Rattle.ih_top.proofs.Writing.{begun, done-found, none-begun, writing-answerable}
-
--- nothing changes where the names are those that were there
-pub told-same : (old new : Option Names) → new ≡ old → IfTold Unchanged old new
-told-same None new e = tt
-told-same (Some old) None e = absurd (let clash : None ≡ Some old = e in cc)
-told-same (Some old) (Some new) e = λ n. let same : new ≡ old = cc in cc
+use Rattle.ih_answers.proofs.Saying.{beside, IsAnswerable, ended, memory-ended, said-answer, said-status, unsaid-by}
+use Rattle.ih_answers.proofs.Stopping.{unread-memory, unread-only}
+use Rattle.ih_answers.proofs.Files.{nothing-written, told-same, begun}
+use Rattle.ih_top.proofs.Writing.{done-found, none-begun, writing-answerable}
 
 -- ---- solve, chain and rounds
 
@@ -125,13 +120,6 @@ module _ (number : ℕ) where
 
 -- ---- any command
 
--- a call that leaves the files as they are, and has an end of a family beside
-beside : (kept : Type 0) (ends : Status → List ℕ → Type 0) → IsAnswerable ends → IsAnswerable (λ status text. kept × ends status text)
-beside kept ends able = record {
-  unsaid = λ status text some h. (h.0, able.unsaid status text some h.1);
-  memory = λ status text h. (h.0, able.memory status text h.1);
-}
-
 pub call-answerable : (call : Call) (old new : Option Names) → IsAnswerable (CallEnds call old new)
 call-answerable (solve s) old new = search-answerable of_moves s old new
 call-answerable (replay r) old new = journal-answerable (IsReplay r.start) (IsRefusedJournal r.start) done_text r old new
@@ -162,10 +150,6 @@ usage-ended cause received part a result why memory said concluded =
 
 -- ---- lack of memory before anything is done
 
-unwritten : (name bytes : List ℕ) (files : Option Names) → IfTold (MayBeWritten name bytes) files files
-unwritten name bytes None = tt
-unwritten name bytes (Some names) = record { part = inl refl; others = λ n other. refl }
-
 call-memory : (call : Call) (files : Option Names) → CallEnds call files files OutOfMemory memory_text
 call-memory (solve s) files = (inl (told-same files files refl), refl)
 call-memory (replay r) files = (inl (told-same files files refl), refl)
@@ -174,7 +158,7 @@ call-memory (check c) files = (told-same files files refl, unread-memory files (
 call-memory (chain c) files = (inl (told-same files files refl), refl)
 call-memory (rounds r) files = (inl (told-same files files refl), refl)
 call-memory (advise a) files = (told-same files files refl, unread-memory files (advise_inputs a))
-call-memory (gen g) files = (unwritten g.out _ files, refl)
+call-memory (gen g) files = (nothing-written g.out _ files, refl)
 call-memory (demo number) files = (told-same files files refl, refl)
 
 -- whatever call the words name, and also where they name none

@@ -13,10 +13,11 @@ use Rattle.ih_words.specs.Generate.{GenCall}
 use Rattle.ih_words.specs.Replay.{ReplayCall}
 use Rattle.ih_words.specs.Words.{Call, solve, replay, salvage, check, chain, rounds, gen, demo, advise}
 use Rattle.ih_shelf.specs.Outside.{Names, Rose}
-use Rattle.ih_top.specs.declared.status.Status.{Status}
-use Rattle.ih_top.specs.declared.status.Status.TheVariants.{Done, ReadFault, NoneFound, WriteFault, OutOfMemory, Infeasible}
+use Rattle.ih_answers.specs.declared.status.Status.{Status}
+use Rattle.ih_answers.specs.declared.status.Status.TheVariants.{Done, ReadFault, NoneFound, WriteFault, OutOfMemory, Infeasible}
 use Rattle.ih_inputs.specs.Reading.{InputFiles, HasInputs}
-use Rattle.ih_top.specs.Inputs.{EndsUnread, solve_inputs, check_inputs}
+use Rattle.ih_top.specs.Inputs.{solve_inputs, check_inputs}
+use Rattle.ih_answers.specs.Inputs.{EndsUnread}
 use Rattle.ih_top.specs.Chain.{of_chains}
 use Rattle.ih_top.specs.Solve.{of_moves}
 use Rattle.ih_top.specs.Texts.{done_text, salvaged_text}
@@ -26,7 +27,8 @@ use Rattle.ih_top.specs.JournalFiles.{HasRead, JournalRead}
 use Rattle.ih_top.specs.JournalHeading.{IsHeadless}
 use Rattle.ih_top.specs.Replay.{IsRefusedJournal, IsReplay}
 use Rattle.ih_top.specs.Salvage.{IsSalvage}
-use Rattle.ih_top.specs.Ends.{Ends, CallEnds, Leaves, HasCause, HasFiles, IsAnswered, IsComplete}
+use Rattle.ih_top.specs.Ends.{CallEnds, Leaves, HasFiles, IsAnswered, IsComplete}
+use Rattle.ih_answers.specs.Ends.{Ends, HasCause}
 use Rattle.ih_top.specs.Advise.{AdviseEnds, advise_inputs}
 use Rattle.ih_top.specs.Check.{CheckEnds}
 use Rattle.ih_top.specs.Demo.{DemoEnds}

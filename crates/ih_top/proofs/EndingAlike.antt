@@ -18,22 +18,23 @@ use Rattle.ih_solution.specs.Reading.{plan_in}
 use Rattle.ih_words.specs.Solve.{SolveCall}
 use Rattle.ih_shelf.specs.Outside.{Names, bytes_at}
 use Rattle.ih_inputs.specs.declared.reading.TheConstants.{MAX_FILE}
-use Rattle.ih_top.specs.declared.status.Role.TheVariants.{Instance, Solution}
-use Rattle.ih_top.specs.declared.status.Status.{Status}
-use Rattle.ih_top.specs.declared.status.Status.TheVariants.{Done, InstanceRefused, StartRefused, NoneFound, OutOfMemory, TooLong}
+use Rattle.ih_answers.specs.declared.status.Role.TheVariants.{Instance, Solution}
+use Rattle.ih_answers.specs.declared.status.Status.{Status}
+use Rattle.ih_answers.specs.declared.status.Status.TheVariants.{Done, InstanceRefused, StartRefused, NoneFound, OutOfMemory, TooLong}
 use Rattle.ih_inputs.specs.declared.error.InputError.{InputError}
 use Rattle.ih_inputs.specs.declared.error.InputError.TheVariants.{ReadFault as Unreadable, TooLong as Long, InstanceRefused as NoInstance, SolutionRefused as NoSolution, OutOfMemory as NoRoom}
 use Rattle.ih_inputs.specs.declared.error.InputRole.TheVariants.{Instance as InstanceInput, Solution as SolutionInput}
 use Rattle.ih_inputs.specs.Reading.{HasInputs, IsNext, IsUnread, InputFiles}
-use Rattle.ih_top.specs.Inputs.{EndsUnread, solve_inputs, unread_said, unread_status}
+use Rattle.ih_top.specs.Inputs.{solve_inputs}
+use Rattle.ih_answers.specs.Inputs.{EndsUnread, unread_said, unread_status}
 use Rattle.ih_top.specs.Laws.{EndTheSame, HasNoFault, LoneSearchesEndAlike}
 use Rattle.ih_top.specs.Searches.{HasFoundNone, IsDone, JournalForm, SearchEnds, tries_in}
-use Rattle.ih_top.specs.Writes.{OthersUnchanged, Unchanged}
-use Rattle.ih_inputs.specs.Texts.{instance_refused_text, solution_refused_text, too_long_text}
-use Rattle.ih_top.specs.Texts.{none_found_text}
+use Rattle.ih_top.specs.Writes.{OthersUnchanged}
+use Rattle.ih_answers.specs.Ends.{Unchanged}
+use Rattle.ih_answers.specs.Texts.{instance_refused_text, solution_refused_text, too_long_text, none_found_text}
 use Rattle.ih_top.proofs.Alike.{IsTelling, searches-alike, searches-same}
 use Rattle.ih_top.proofs.Accepted.{accepted}
-use Rattle.ih_top.proofs.Stopping.{named}
+use Rattle.ih_answers.proofs.Stopping.{named}
 use Rattle.ih_top.proofs.FaultlessEnds.{IsFaultless, search-faultless}
 
 -- ---- how files are refused follows from them

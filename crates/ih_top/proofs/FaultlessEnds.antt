@@ -9,16 +9,18 @@ use Rattle.ih_words.specs.Replay.{ReplayCall}
 use Rattle.ih_words.specs.Rounds.{RoundsCall}
 use Rattle.ih_words.specs.Solve.{SolveCall}
 use Rattle.ih_shelf.specs.Outside.{IsWritten, Names, IfTold}
-use Rattle.ih_top.specs.declared.status.Status.{Status}
-use Rattle.ih_top.specs.declared.status.Status.TheVariants.{Done, ReadFault, NoneFound, WriteFault, OutOfMemory, JournalRefused}
-use Rattle.ih_top.specs.Inputs.{EndsUnread, solve_inputs}
+use Rattle.ih_answers.specs.declared.status.Status.{Status}
+use Rattle.ih_answers.specs.declared.status.Status.TheVariants.{Done, ReadFault, NoneFound, WriteFault, OutOfMemory, JournalRefused}
+use Rattle.ih_top.specs.Inputs.{solve_inputs}
+use Rattle.ih_answers.specs.Inputs.{EndsUnread}
 use Rattle.ih_top.specs.JournalEnds.{HasBest, HasNoBest, IsRefused, JournalEnds}
 use Rattle.ih_top.specs.JournalFiles.{EndsUnreadJournal, JournalRead}
 use Rattle.ih_top.specs.Laws.{HasNoFault}
 use Rattle.ih_top.specs.Rounds.{AreDone, HaveFoundNone, RoundsEnds}
 use Rattle.ih_top.specs.Searches.{HasFoundNone, IsDone, JournalForm, SearchEnds, WritingEnds}
-use Rattle.ih_top.specs.Texts.{journal_refused_text, none_found_text}
-use Rattle.ih_top.specs.Writes.{Unchanged}
+use Rattle.ih_top.specs.Texts.{journal_refused_text}
+use Rattle.ih_answers.specs.Texts.{none_found_text}
+use Rattle.ih_answers.specs.Ends.{Unchanged}
 
 -- memory ran out, or it is done, or it found none, or it came to something else
 abbrev pub IsFaultless : Type 0 → Type 0 → Type 0 → Status → Type 0

@@ -9,19 +9,20 @@ use Rattle.ih_cellbook.specs.Keeping.{IsBase}
 use Rattle.ih_words.specs.Replay.{ReplayCall}
 use Rattle.ih_words.specs.Start.{StartCall}
 use Rattle.ih_shelf.specs.Outside.{IsWritten, MayBeWritten, Names, IfTold}
-use Rattle.ih_top.specs.declared.answer.Answer.{Answer}
+use Rattle.ih_answers.specs.declared.answer.Answer.{Answer}
 use Rattle.ih_top.specs.declared.journal_heading.Headed.{Headed}
 use Rattle.ih_top.specs.declared.output.BestOutput.{BestOutput}
 use Rattle.ih_top.specs.declared.outcome.Outcome.{Outcome}
 use Rattle.ih_top.specs.declared.outcome.Outcome.TheVariants.{Refused, Taken}
-use Rattle.ih_top.specs.declared.status.Status.{Status}
-use Rattle.ih_top.specs.declared.status.Status.TheVariants.{Done, ReadFault, NoneFound, WriteFault, OutOfMemory, JournalRefused, TooLong}
-use Rattle.ih_top.specs.declared.status.Role.TheVariants.{Journal, Out}
-use Rattle.ih_top.specs.Answers.{Answers}
+use Rattle.ih_answers.specs.declared.status.Status.{Status}
+use Rattle.ih_answers.specs.declared.status.Status.TheVariants.{Done, ReadFault, NoneFound, WriteFault, OutOfMemory, JournalRefused, TooLong}
+use Rattle.ih_answers.specs.declared.status.Role.TheVariants.{Journal, Out}
+use Rattle.ih_answers.specs.Answers.{Answers}
 use Rattle.ih_top.specs.Outcomes.{AreLines, IsLinesOutcome, IsOutcome, IsTaken, OutcomeEnds, WritesBest}
 use Rattle.ih_top.specs.Outputs.{IsBestSaid}
 use Rattle.ih_top.specs.JournalEnds.{HasBest, HasNoBest, IsRefused, JournalEnds}
-use Rattle.ih_top.specs.Inputs.{EndsUnread, replay_inputs}
+use Rattle.ih_top.specs.Inputs.{replay_inputs}
+use Rattle.ih_answers.specs.Inputs.{EndsUnread}
 use Rattle.ih_top.specs.JournalFiles.{EndsUnreadJournal, HasRead, JournalRead}
 use Rattle.ih_top.specs.JournalHeading.{IsBegun, IsHeadedBy, IsHeadless, base_headed}
 use Rattle.ih_top.specs.Replay.{IsRefusedJournal, IsReplay}
@@ -29,12 +30,12 @@ use Rattle.ih_top.specs.Salvage.{IsSalvage}
 use Rattle.ih_top.specs.declared.journals.JournalUse.{JournalUse}
 use Rattle.ih_top.specs.declared.journals.JournalUse.TheVariants.{Replay, Salvage}
 use Rattle.ih_top.specs.JournalUses.{IsLinesFor, IsOutcomeFor, refused_for}
-use Rattle.ih_top.specs.Writes.{Unchanged}
-use Rattle.ih_inputs.specs.Texts.{memory_text}
+use Rattle.ih_answers.specs.Ends.{Unchanged}
+use Rattle.ih_answers.specs.Texts.{memory_text}
 use Rattle.ih_top.specs.Texts.{done_text, salvaged_text}
-use Rattle.ih_top.proofs.Saying.{IsAnswerable, answers-weaker, unsaid-by}
-use Rattle.ih_top.proofs.Stopping.{unread-lack, unread-only}
-use Rattle.ih_top.proofs.Writing.{begun}
+use Rattle.ih_answers.proofs.Saying.{IsAnswerable, answers-weaker, unsaid-by}
+use Rattle.ih_answers.proofs.Stopping.{unread-lack, unread-only}
+use Rattle.ih_answers.proofs.Files.{begun}
 
 -- ---- the ends of an outcome
 

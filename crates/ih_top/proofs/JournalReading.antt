@@ -3,17 +3,18 @@ use Rattle.std.proofs.Common.{◌≡◌, ◌≤◌, ℕ, sym, subst, List, lengt
 use Rattle.std.specs.Prelude.{IfSome}
 use Rattle.ih_words.specs.Replay.{ReplayCall}
 use Rattle.ih_shelf.specs.Outside.{Names, bytes_at}
-use Rattle.ih_top.specs.declared.answer.Answer.{Answer}
+use Rattle.ih_answers.specs.declared.answer.Answer.{Answer}
 use Rattle.ih_top.specs.declared.journals.JournalUse.{JournalUse}
 use Rattle.ih_top.specs.declared.limits.TheConstants.{MAX_JOURNAL}
-use Rattle.ih_top.specs.declared.status.Status.{Status}
-use Rattle.ih_top.specs.Answers.{Answers}
-use Rattle.ih_top.specs.Inputs.{EndsUnread, replay_inputs}
+use Rattle.ih_answers.specs.declared.status.Status.{Status}
+use Rattle.ih_answers.specs.Answers.{Answers}
+use Rattle.ih_top.specs.Inputs.{replay_inputs}
+use Rattle.ih_answers.specs.Inputs.{EndsUnread}
 use Rattle.ih_top.specs.JournalFiles.{HasBytes}
 use Rattle.ih_top.specs.JournalUses.{JournalUseEnds, refused_for, said_for, taken_for}
-use Rattle.ih_top.proofs.CommandEnds.{told-same}
+use Rattle.ih_answers.proofs.Files.{told-same}
 use Rattle.ih_top.proofs.JournalOutcomes.{unread-start}
-use Rattle.ih_top.proofs.Saying.{answers-weaker}
+use Rattle.ih_answers.proofs.Saying.{answers-weaker}
 
 -- the bytes that were read are those of the journal
 pub has-bytes : (files mid : Option Names) (name bytes : List ℕ) → mid ≡ files → IfSome mid (λ held. bytes ≡ bytes_at held name)

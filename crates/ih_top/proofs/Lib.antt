@@ -18,9 +18,8 @@ pub mod RoundHeadings
 pub mod RoundsAlike
 pub mod RoundsOutputs
 pub mod RoundsWriting
-pub mod Saying
 pub mod ReplayedAlike
-pub mod Stopping
 pub mod TakenHistories
 pub mod TakenLines
 pub mod Writing
+pub mod CallsApart

@@ -5,21 +5,22 @@ use Rattle.ih_journal.specs.Base.{Base}
 use Rattle.ih_words.specs.Solve.{SolveCall}
 use Rattle.ih_words.specs.Rounds.{RoundsCall}
 use Rattle.ih_shelf.specs.Outside.{Names, IfTold}
-use Rattle.ih_top.specs.declared.answer.Answer.{Answer}
+use Rattle.ih_answers.specs.declared.answer.Answer.{Answer}
 use Rattle.ih_top.specs.declared.output.Output.{Output}
 use Rattle.ih_top.specs.declared.searching.Method.{Method}
 use Rattle.ih_top.specs.declared.searching.Method.TheVariants.{Moves, Chains, Rounds}
-use Rattle.ih_top.specs.Answers.{Answers}
+use Rattle.ih_answers.specs.Answers.{Answers}
 use Rattle.ih_top.specs.Chain.{of_chains}
-use Rattle.ih_top.specs.Inputs.{EndsUnread, solve_inputs}
+use Rattle.ih_top.specs.Inputs.{solve_inputs}
+use Rattle.ih_answers.specs.Inputs.{EndsUnread}
 use Rattle.ih_top.specs.Methods.{IsMade, MethodEnds}
 use Rattle.ih_top.specs.Outputs.{MadeEnds}
 use Rattle.ih_top.specs.Rounds.{AreDone, RoundsEnds}
 use Rattle.ih_top.specs.Searches.{HasBase, IsDone, JournalForm, SearchEnds}
 use Rattle.ih_top.specs.Solve.{of_moves}
-use Rattle.ih_top.specs.Writes.{Unchanged}
+use Rattle.ih_answers.specs.Ends.{Unchanged}
 use Rattle.ih_top.proofs.RoundsWriting.{made-rounds}
-use Rattle.ih_top.proofs.Saying.{answers-weaker}
+use Rattle.ih_answers.proofs.Saying.{answers-weaker}
 use Rattle.ih_top.proofs.Writing.{made-answer, unread-writing}
 
 -- ---- what was made is written

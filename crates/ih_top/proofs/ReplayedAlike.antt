@@ -23,11 +23,11 @@ use Rattle.ih_words.specs.Solve.{SolveCall}
 use Rattle.ih_shelf.specs.Outside.{Names, bytes_at}
 use Rattle.ih_inputs.specs.declared.reading.TheConstants.{MAX_FILE}
 use Rattle.ih_top.specs.declared.limits.TheConstants.{MAX_JOURNAL}
-use Rattle.ih_top.specs.declared.status.Status.{Status}
-use Rattle.ih_top.specs.declared.status.Status.TheVariants.{Done, NoneFound}
+use Rattle.ih_answers.specs.declared.status.Status.{Status}
+use Rattle.ih_answers.specs.declared.status.Status.TheVariants.{Done, NoneFound}
 use Rattle.ih_inputs.specs.Reading.{HasInstance, HasPlan}
 use Rattle.ih_top.specs.JournalLines.{Begins}
-use Rattle.ih_top.specs.Laws.{EndsIn, HasNoFault, HaveSameBytes, IsReplayOf, JournalsFit, SolvesReplayTheSame, SolvesWithNoneReplayTheSame}
+use Rattle.ih_top.specs.Laws.{ComesTo, EndsIn, HasNoFault, HaveSameBytes, IsReplayOf, JournalsFit, SolvesReplayTheSame, SolvesWithNoneReplayTheSame}
 use Rattle.ih_top.specs.JournalEnds.{IsRefused, JournalEnds}
 use Rattle.ih_top.specs.JournalFiles.{HasRead, JournalRead}
 use Rattle.ih_top.specs.JournalHeading.{IsHeadedBy, IsHeadless}
@@ -35,8 +35,9 @@ use Rattle.ih_top.specs.Replay.{IsRefusedJournal, IsReplay}
 use Rattle.ih_top.specs.Salvage.{IsSalvage}
 use Rattle.ih_top.specs.Searches.{HasBase, IsSearch, solution_at}
 use Rattle.ih_top.specs.Solve.{of_moves}
-use Rattle.ih_top.specs.Starts.{started}
-use Rattle.ih_top.specs.Texts.{done_text, none_found_text, salvaged_line, salvaged_text}
+use Rattle.ih_parfill.specs.Starts.{started}
+use Rattle.ih_top.specs.Texts.{done_text, salvaged_line, salvaged_text}
+use Rattle.ih_answers.specs.Texts.{none_found_text}
 use Rattle.ih_top.proofs.Accepted.{journal-accepted, not-headless, not-refused, same-search}
 use Rattle.ih_top.proofs.FaultlessEnds.{journal-faultless}
 use Rattle.ih_top.proofs.JournalLaws.{all-salvaged}
@@ -91,6 +92,54 @@ module _ (s : SolveCall) (r : ReplayCall) (before after there : Names) (of : IsR
     journal = record { short = short; held = of.journal ∙ ap (λ (o : Option (List ℕ)). unwrap_or o []) written };
   }
 
+-- ---- a journal from which one history is taken
+
+module _ (r : ReplayCall) (there left : Names) (x : JournalRead) (has : HasRead (Some there) r x) (b : Base) (H : List Entry)
+    (taken : JournalRead → Base → List Entry → Type 0) (refused : JournalRead → JournalRefusal → Type 0) (said : Base → List Tried → ℕ → List ℕ)
+    (one : (y : JournalRead) (c : Base) (G : List Entry) → HasRead (Some there) r y → taken y c G → (c ≡ b) × (G ≡ H))
+    (never : (e : JournalRefusal) → IsRefused refused r (Some there) e → ⊥) where
+  both : (c : Base) (G : List Entry) → (c ≡ b) × (G ≡ H) → ◌≡◌ {A = Base × List Entry} (c, G) (b, H)
+  both c G same = rw (same.0, same.1) refl
+
+  pub comes-to : (status : Status) (text : List ℕ) → HasNoFault status → JournalEnds taken refused said r (Some there) (Some left) status text
+      → ComesTo said b H (left r.out) status text
+  comes-to status text calm h = elim (journal-faultless taken refused said r (Some there) (Some left) status text calm h) [
+    | inl memory ↦ inl memory
+    | inr (inl (is, (d, told))) ↦
+        let same = both d.base d.history (one d.read d.base d.history d.given d.taken_is) in
+        inr (inl (
+          d.place,
+          subst (λ (t : Base × List Entry). IsBest t.0 (tries t.1) d.place) same d.best,
+          is,
+          told ∙ ap (λ (t : Base × List Entry). said t.0 (tries t.1) d.place) same,
+          d.written.whole ∙ ap (λ (t : Base × List Entry). Some (solution_at t.0 (tries t.1) d.place)) same,
+        ))
+    | inr (inr (inl (is, (d, told)))) ↦
+        let same = both d.base d.history (one d.read d.base d.history d.given d.taken_is) in
+        inr (inr (subst (λ (t : Base × List Entry). HasNone t.0 (tries t.1)) same d.none, is, told))
+    | inr (inr (inr (inl refused))) ↦ absurd (never refused.refusal refused.why)
+    | inr (inr (inr (inr unread))) ↦ inl (journal-accepted there r x has status text calm unread)
+  ]
+
+  best-ends : (k : ℕ) → IsBest b (tries H) k → (status : Status) (text : List ℕ) → HasNoFault status
+      → JournalEnds taken refused said r (Some there) (Some left) status text
+      → EndsIn Done (said b (tries H) k) (left r.out ≡ Some (solution_at b (tries H) k)) status text
+  best-ends k best status text calm h = elim (comes-to status text calm h) [
+    | inl memory ↦ inl memory
+    | inr (inl (j, found, is, told, out)) ↦
+        let place = best-one b (tries H) j k found best in
+        inr (is, told ∙ ap (said b (tries H)) place, out ∙ ap (λ n. Some (solution_at b (tries H) n)) place)
+    | inr (inr (none, is, told)) ↦ absurd (best-or-none b (tries H) k best none)
+  ]
+
+  none-ends : HasNone b (tries H) → (status : Status) (text : List ℕ) → HasNoFault status
+      → JournalEnds taken refused said r (Some there) (Some left) status text → EndsIn NoneFound none_found_text (Unit {0}) status text
+  none-ends none status text calm h = elim (comes-to status text calm h) [
+    | inl memory ↦ inl memory
+    | inr (inl (j, found, is, told, out)) ↦ absurd (best-or-none b (tries H) j found none)
+    | inr (inr (lacking, is, told)) ↦ inr (is, told, tt)
+  ]
+
 module _ (taken_law : LegalJournalsAreTaken) (differ : LegalJournalsDiffer) (texts : TakenLinesAreOfLegalHistories) (short : LegalJournalsAreShort)
     (s : SolveCall) (r : ReplayCall) (before after there left : Names) (of : IsReplayOf s r before after there)
     (b : Base) (H : List Entry) (search : IsSearch of_moves (Some before) s b H) (written : after s.journal ≡ Some (journal b.options H)) where
@@ -131,44 +180,6 @@ module _ (taken_law : LegalJournalsAreTaken) (differ : LegalJournalsDiffer) (tex
       (subst (λ (t : List ℕ). Begins c t G is.rest) same.1 is.begins) in
       (same.0, all-salvaged taken_law differ texts b valid search.sound.given H G is.rest search.full.legal begins)
 
-  module _ (taken : JournalRead → Base → List Entry → Type 0) (refused : JournalRead → JournalRefusal → Type 0) (said : Base → List Tried → ℕ → List ℕ)
-      (one : (y : JournalRead) (c : Base) (G : List Entry) → HasRead (Some there) r y → taken y c G → (c ≡ b) × (G ≡ H))
-      (never : (e : JournalRefusal) → IsRefused refused r (Some there) e → ⊥) where
-    both : (c : Base) (G : List Entry) → (c ≡ b) × (G ≡ H) → ◌≡◌ {A = Base × List Entry} (c, G) (b, H)
-    both c G same = rw (same.0, same.1) refl
-
-    best-ends : (k : ℕ) → IsBest b (tries H) k → (status : Status) (text : List ℕ) → HasNoFault status
-        → JournalEnds taken refused said r (Some there) (Some left) status text
-        → EndsIn Done (said b (tries H) k) (left r.out ≡ Some (solution_at b (tries H) k)) status text
-    best-ends k best status text calm h = elim (journal-faultless taken refused said r (Some there) (Some left) status text calm h) [
-      | inl memory ↦ inl memory
-      | inr (inl (is, (d, told))) ↦
-          let same = both d.base d.history (one d.read d.base d.history d.given d.taken_is) in
-          let place = best-one b (tries H) d.place k (subst (λ (t : Base × List Entry). IsBest t.0 (tries t.1) d.place) same d.best) best in
-          inr (
-            is,
-            told ∙ ap₂ (λ (t : Base × List Entry) (j : ℕ). said t.0 (tries t.1) j) same place,
-            d.written.whole ∙ ap₂ (λ (t : Base × List Entry) (j : ℕ). Some (solution_at t.0 (tries t.1) j)) same place,
-          )
-      | inr (inr (inl (is, (d, told)))) ↦
-          let same = both d.base d.history (one d.read d.base d.history d.given d.taken_is) in
-          absurd (best-or-none b (tries H) k best (subst (λ (t : Base × List Entry). HasNone t.0 (tries t.1)) same d.none))
-      | inr (inr (inr (inl refused))) ↦ absurd (never refused.refusal refused.why)
-      | inr (inr (inr (inr unread))) ↦ inl (journal-accepted there r found has status text calm unread)
-    ]
-
-    none-ends : HasNone b (tries H) → (status : Status) (text : List ℕ) → HasNoFault status
-        → JournalEnds taken refused said r (Some there) (Some left) status text → EndsIn NoneFound none_found_text (Unit {0}) status text
-    none-ends none status text calm h = elim (journal-faultless taken refused said r (Some there) (Some left) status text calm h) [
-      | inl memory ↦ inl memory
-      | inr (inl (is, (d, told))) ↦
-          let same = both d.base d.history (one d.read d.base d.history d.given d.taken_is) in
-          absurd (best-or-none b (tries H) d.place (subst (λ (t : Base × List Entry). IsBest t.0 (tries t.1) d.place) same d.best) none)
-      | inr (inr (inl (is, (d, told)))) ↦ inr (is, told, tt)
-      | inr (inr (inr (inl refused))) ↦ absurd (never refused.refusal refused.why)
-      | inr (inr (inr (inr unread))) ↦ inl (journal-accepted there r found has status text calm unread)
-    ]
-
   replay-never : (e : JournalRefusal) → IsRefused (IsRefusedJournal r.start) r (Some there) e → ⊥
   replay-never e h = not-refused there r found has b H headed search.full e h
 
@@ -178,20 +189,20 @@ module _ (taken_law : LegalJournalsAreTaken) (differ : LegalJournalsDiffer) (tex
   replay-best : (k : ℕ) → IsBest b (tries H) k → (status : Status) (text : List ℕ) → HasNoFault status
       → JournalEnds (IsReplay r.start) (IsRefusedJournal r.start) done_text r (Some there) (Some left) status text
       → EndsIn Done (done_text b (tries H) k) (left r.out ≡ Some (solution_at b (tries H) k)) status text
-  replay-best k best status text calm ends = best-ends (IsReplay r.start) (IsRefusedJournal r.start) done_text one-replay replay-never k best status text calm ends
+  replay-best k best status text calm ends = best-ends r there left found has b H (IsReplay r.start) (IsRefusedJournal r.start) done_text one-replay replay-never k best status text calm ends
 
   salvage-best : (k : ℕ) → IsBest b (tries H) k → (status : Status) (text : List ℕ) → HasNoFault status
       → JournalEnds (IsSalvage r.start) IsHeadless salvaged_text r (Some there) (Some left) status text
       → EndsIn Done (salvaged_text b (tries H) k) (left r.out ≡ Some (solution_at b (tries H) k)) status text
-  salvage-best k best status text calm ends = best-ends (IsSalvage r.start) IsHeadless salvaged_text one-salvage salvage-never k best status text calm ends
+  salvage-best k best status text calm ends = best-ends r there left found has b H (IsSalvage r.start) IsHeadless salvaged_text one-salvage salvage-never k best status text calm ends
 
   replay-none : HasNone b (tries H) → (status : Status) (text : List ℕ) → HasNoFault status
       → JournalEnds (IsReplay r.start) (IsRefusedJournal r.start) done_text r (Some there) (Some left) status text → EndsIn NoneFound none_found_text (Unit {0}) status text
-  replay-none none status text calm ends = none-ends (IsReplay r.start) (IsRefusedJournal r.start) done_text one-replay replay-never none status text calm ends
+  replay-none none status text calm ends = none-ends r there left found has b H (IsReplay r.start) (IsRefusedJournal r.start) done_text one-replay replay-never none status text calm ends
 
   salvage-none : HasNone b (tries H) → (status : Status) (text : List ℕ) → HasNoFault status
       → JournalEnds (IsSalvage r.start) IsHeadless salvaged_text r (Some there) (Some left) status text → EndsIn NoneFound none_found_text (Unit {0}) status text
-  salvage-none none status text calm ends = none-ends (IsSalvage r.start) IsHeadless salvaged_text one-salvage salvage-never none status text calm ends
+  salvage-none none status text calm ends = none-ends r there left found has b H (IsSalvage r.start) IsHeadless salvaged_text one-salvage salvage-never none status text calm ends
 
 pub solves-replayed : LegalJournalsAreTaken → LegalJournalsDiffer → TakenLinesAreOfLegalHistories → LegalJournalsAreShort → SolvesReplayTheSame
 solves-replayed taken_law differ texts short s r before after there left text ended said of calm done =

@@ -1,5 +1,6 @@
--- A journal of rounds, and where replay refuses it: behind the lines of the first history there is another heading.
-use Rattle.std.proofs.Common.{◌≡◌, ◌∙◌, ℕ, ◌+◌, ◌<◌, ◌≤◌, refl, sym, ap, ap₂, subst, arith, inl, inr, true, false, List, [], ◌∷◌, ◌++◌, append_assoc, length, drop, Some}
+-- A journal of rounds: behind the lines of the first history there is another heading, at which replay refuses it, and
+-- salvage stops.
+use Rattle.std.proofs.Common.{◌≡◌, ◌∙◌, ℕ, ◌+◌, ◌*◌, ◌<◌, ◌≤◌, refl, sym, ap, ap₂, subst, arith, inl, inr, true, false, List, [], ◌∷◌, ◌++◌, append_assoc, length, drop, Some}
 use Rattle.std.specs.Prelude.{◌⊎◌, ◌^◌, Bool}
 use Rattle.std.specs.List.{AllByRecursion}
 use Rattle.std.proofs.lemmas.List.{append-nil, append_cancel_left}
@@ -9,7 +10,9 @@ use Rattle.ih_journal.specs.declared.entries.Entry.{Entry}
 use Rattle.ih_journal.specs.declared.refusals.JournalRefusal.{JournalRefusal}
 use Rattle.ih_journal.specs.declared.refusals.Reason.{Reason}
 use Rattle.ih_journal.specs.declared.refusals.Reason.TheVariants.{Extra}
+use Rattle.ih_journal.specs.declared.settings.Options.{Options}
 use Rattle.ih_journal.specs.Base.{Base}
+use Rattle.ih_journal.specs.Settings.{most_entries}
 use Rattle.ih_journal.specs.Tried.{tried, tries}
 use Rattle.ih_journal.specs.Legal.{AreLegal, IsFull, IsLegal}
 use Rattle.ih_journal.specs.Texts.{ended, heading, line_text, lines_from}
@@ -20,27 +23,30 @@ use Rattle.ih_instance.proofs.DraftSound.{instance_sound}
 use Rattle.ih_replay.specs.Laws.{LegalJournalsAreTaken, LegalJournalsDiffer, TakenLinesAreOfLegalHistories}
 use Rattle.ih_replay.specs.Refusals.{IsRefusedFor, Passes, in_order, of_entry, of_place}
 use Rattle.ih_rounds.specs.Rounds.{Round, base_in, journals, options_in}
+use Rattle.ih_rounds.specs.Laws.{SixteenJournalsAreShort}
 use Rattle.ih_rounds.proofs.Runs.{lawful-in}
 use Rattle.ih_shelf.specs.Outside.{Names, bytes_at}
 use Rattle.ih_words.specs.Replay.{ReplayCall}
 use Rattle.ih_words.specs.Rounds.{RoundsCall}
+use Rattle.ih_words.specs.Words.{NamedCallsAreWithinLimits, rounds}
 use Rattle.ih_top.specs.declared.limits.TheConstants.{MAX_JOURNAL}
-use Rattle.ih_top.specs.declared.status.Status.{Status}
-use Rattle.ih_top.specs.declared.status.Status.TheVariants.{JournalRefused}
+use Rattle.ih_answers.specs.declared.status.Status.{Status}
+use Rattle.ih_answers.specs.declared.status.Status.TheVariants.{JournalRefused}
 use Rattle.ih_top.specs.JournalEnds.{IsRefused}
 use Rattle.ih_top.specs.JournalFiles.{HasRead, JournalRead}
-use Rattle.ih_top.specs.JournalHeading.{IsHeadedBy}
+use Rattle.ih_top.specs.JournalHeading.{IsHeadedBy, IsHeadless}
 use Rattle.ih_top.specs.JournalLines.{Begins, HasLine, IsRefusedAt, IsRestRefused}
-use Rattle.ih_top.specs.Laws.{EndsIn, HasNoFault, IsReplayOf, RoundsAreRefused, second_heading}
+use Rattle.ih_top.specs.Laws.{ComesTo, EndsIn, HasNoFault, IsReplayOf, RoundJournalsFit, RoundsAreRefused, RoundsAreSalvaged, second_heading}
 use Rattle.ih_top.specs.Replay.{IsRefusedJournal, IsReplay, ReplayEnds}
 use Rattle.ih_top.specs.Rounds.{AreSearches}
-use Rattle.ih_top.specs.Starts.{started}
-use Rattle.ih_top.specs.Texts.{done_text, journal_refused_text}
+use Rattle.ih_parfill.specs.Starts.{started}
+use Rattle.ih_top.specs.Salvage.{IsSalvage, SalvageEnds}
+use Rattle.ih_top.specs.Texts.{done_text, journal_refused_text, salvaged_text}
 use Rattle.ih_top.proofs.Accepted.{journal-accepted, not-headless, same-search}
 use Rattle.ih_top.proofs.FaultlessEnds.{journal-faultless}
 use Rattle.ih_top.proofs.FirstLines.{ended-some, no-line-in}
 use Rattle.ih_top.proofs.JournalLaws.{next-joins, next-lacks, next-legal, whole}
-use Rattle.ih_top.proofs.ReplayedAlike.{has-read-back, read-back}
+use Rattle.ih_top.proofs.ReplayedAlike.{comes-to, has-read-back, read-back}
 
 -- of two joins of one list the first part of one begins that of the other
 joins-apart : {A : Type 0} (xs ys zs ws : List A) → xs ++ ys ≡ zs ++ ws
@@ -134,12 +140,12 @@ module _ (taken : LegalJournalsAreTaken) (differ : LegalJournalsDiffer) (texts :
 -- ---- the journal of rounds
 
 module _ (taken : LegalJournalsAreTaken) (differ : LegalJournalsDiffer) (texts : TakenLinesAreOfLegalHistories) (c : RoundsCall) (r : ReplayCall)
-    (before after there : Names) (of : IsReplayOf c.search r before after there) (b : Base) (first second : Round) (rounds : List Round)
-    (searches : AreSearches (Some before) c b (first ∷ second ∷ rounds))
-    (fits : length (journals b.options 0 (first ∷ second ∷ rounds)) ≤ MAX_JOURNAL)
-    (written : after c.search.journal ≡ Some (journals b.options 0 (first ∷ second ∷ rounds))) where
+    (before after there : Names) (of : IsReplayOf c.search r before after there) (b : Base) (first second : Round) (later : List Round)
+    (searches : AreSearches (Some before) c b (first ∷ second ∷ later))
+    (fits : length (journals b.options 0 (first ∷ second ∷ later)) ≤ MAX_JOURNAL)
+    (written : after c.search.journal ≡ Some (journals b.options 0 (first ∷ second ∷ later))) where
   abbrev bytes : List ℕ
-  bytes = journals b.options 0 (first ∷ second ∷ rounds)
+  bytes = journals b.options 0 (first ∷ second ∷ later)
 
   abbrev found : JournalRead
   found = read-back c.search r before after there of b searches.base bytes fits written
@@ -153,7 +159,7 @@ module _ (taken : LegalJournalsAreTaken) (differ : LegalJournalsDiffer) (texts :
 
   -- what is behind its lines
   abbrev extra : List ℕ
-  extra = journals b.options 1 (second ∷ rounds)
+  extra = journals b.options 1 (second ∷ later)
 
   starts : first.start ≡ b.start
   starts = (searches.legal 0 first refl).start
@@ -184,10 +190,10 @@ module _ (taken : LegalJournalsAreTaken) (differ : LegalJournalsDiffer) (texts :
     joins = append_assoc (ended (heading one.options)) (lines_from one.options 0 first.history) extra;
   }
 
-  next : HasLine extra (heading (options_in b.options 1)) (lines_from (options_in b.options 1) 0 second.history ++ journals b.options 2 rounds)
+  next : HasLine extra (heading (options_in b.options 1)) (lines_from (options_in b.options 1) 0 second.history ++ journals b.options 2 later)
   unfolding journals
   next = record {
-    joins = append_assoc (ended (heading (options_in b.options 1))) (lines_from (options_in b.options 1) 0 second.history) (journals b.options 2 rounds);
+    joins = append_assoc (ended (heading (options_in b.options 1))) (lines_from (options_in b.options 1) 0 second.history) (journals b.options 2 later);
     first = heading_lacks (options_in b.options 1)
         (lawful_short (options_in b.options 1) (lawful-in b.options 1 searches.given.lawful) (seed-in 1));
   }
@@ -223,6 +229,40 @@ module _ (taken : LegalJournalsAreTaken) (differ : LegalJournalsDiffer) (texts :
         | inr (inr (inr (inr unread))) ↦ inl (journal-accepted there r found has ended said calm unread)
       ]
 
-pub rounds-refused : LegalJournalsAreTaken → LegalJournalsDiffer → TakenLinesAreOfLegalHistories → RoundsAreRefused
-rounds-refused taken differ texts c r before after there left b first second rounds ended said searches written fits of calm ends =
-    rounds-ended taken differ texts c r before after there of b first second rounds searches fits written left ended said calm ends
+  -- salvage finds the first history
+  first-taken : (y : JournalRead) (d : Base) (K : List Entry) → HasRead (Some there) r y → IsSalvage r.start y d K
+      → (d ≡ one) × (K ≡ first.history)
+  first-taken y d K other is =
+      let same = same-search there r found has one _ headed y d is.bytes other is.headed in
+      let begins = subst (λ (x : Base). Begins x (lines_from one.options 0 first.history ++ extra) K is.rest) same.0
+      (subst (λ (t : List ℕ). Begins d t K is.rest) same.1 is.begins) in
+      (same.0, longest-is taken differ texts one valid one-base first.history (searches.legal 0 first refl).full extra _ _ next K is.rest begins)
+
+  first-salvaged : (left : Names) (ended : Status) (said : List ℕ) → HasNoFault ended → SalvageEnds r (Some there) (Some left) ended said
+      → ComesTo salvaged_text one first.history (left r.out) ended said
+  first-salvaged left ended said calm ends =
+      comes-to r there left found has one first.history (IsSalvage r.start) IsHeadless salvaged_text first-taken
+      (not-headless there r found has one _ headed) ended said calm ends
+
+-- ---- rounds that words name
+
+pub rounds-within : NamedCallsAreWithinLimits → SixteenJournalsAreShort → RoundJournalsFit
+rounds-within within short files c b rs named searches =
+    let limits = within (rounds c) named in
+    let some : c.rounds ≤ 16 = limits.most in
+    let count = searches.count in
+    let valid = instance_sound (bytes_at files c.search.instance) b.instance searches.base.start.inputs.instance.read in
+    let words : most_entries b.options * c.rounds ≤ 1000000 = subst (λ (o : Options). most_entries o * c.rounds ≤ 1000000) (sym searches.base.options) limits.few in
+    let few : most_entries b.options * length rs ≤ 1000000 = subst (λ n. most_entries b.options * n ≤ 1000000) (sym count) words in
+    let len = short b rs (record { valid = valid; base = searches.given; seed = searches.seed }) searches.legal (omega (arith, count, some)) few in
+    omega (arith, len)
+
+pub rounds-refused : LegalJournalsAreTaken → LegalJournalsDiffer → TakenLinesAreOfLegalHistories → RoundJournalsFit → RoundsAreRefused
+rounds-refused taken differ texts fit c r before after there left b first second later ended said named have of calm ends =
+    let fits = fit before c b (first ∷ second ∷ later) named have.searches in
+    rounds-ended taken differ texts c r before after there of b first second later have.searches fits have.written left ended said calm ends
+
+pub rounds-salvaged : LegalJournalsAreTaken → LegalJournalsDiffer → TakenLinesAreOfLegalHistories → RoundJournalsFit → RoundsAreSalvaged
+rounds-salvaged taken differ texts fit c r before after there left b first second later ended said named have of calm ends =
+    let fits = fit before c b (first ∷ second ∷ later) named have.searches in
+    first-salvaged taken differ texts c r before after there of b first second later have.searches fits have.written left ended said calm ends

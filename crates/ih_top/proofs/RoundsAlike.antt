@@ -10,12 +10,12 @@ use Rattle.ih_rounds.specs.Best.{ComesBefore, HaveNone, IsBestOf}
 use Rattle.ih_rounds.specs.Rounds.{Round, journals}
 use Rattle.ih_words.specs.Rounds.{RoundsCall}
 use Rattle.ih_shelf.specs.Outside.{Names}
-use Rattle.ih_top.specs.declared.status.Status.{Status}
-use Rattle.ih_top.specs.declared.status.Status.TheVariants.{Done, NoneFound, OutOfMemory}
+use Rattle.ih_answers.specs.declared.status.Status.{Status}
+use Rattle.ih_answers.specs.declared.status.Status.TheVariants.{Done, NoneFound, OutOfMemory}
 use Rattle.ih_top.specs.Inputs.{solve_inputs}
 use Rattle.ih_top.specs.Laws.{EndTheSame, HasNoFault, LoneRoundsEndAlike}
 use Rattle.ih_top.specs.Rounds.{AreDone, HaveFoundNone, RoundsEnds, round_text, solution_in}
-use Rattle.ih_top.specs.Texts.{none_found_text}
+use Rattle.ih_answers.specs.Texts.{none_found_text}
 use Rattle.ih_top.proofs.Alike.{rounds-alike}
 use Rattle.ih_top.proofs.EndingAlike.{IsEnd, end-of, same-files, unread-alike}
 use Rattle.ih_top.proofs.FaultlessEnds.{rounds-faultless}

@@ -6,17 +6,17 @@ use Rattle.ih_shelf.specs.Outside.{Names, IfTold}
 use Rattle.ih_rounds.specs.Rounds.{journals}
 use Rattle.ih_words.specs.Rounds.{RoundsCall}
 use Rattle.ih_words.specs.Solve.{SolveCall}
-use Rattle.ih_top.specs.declared.answer.Answer.{Answer}
+use Rattle.ih_answers.specs.declared.answer.Answer.{Answer}
 use Rattle.ih_top.specs.declared.output.BestOutput.{BestOutput}
 use Rattle.ih_top.specs.declared.output.Output.{Output}
-use Rattle.ih_top.specs.declared.status.Status.{Status}
-use Rattle.ih_top.specs.Answers.{Answers}
+use Rattle.ih_answers.specs.declared.status.Status.{Status}
+use Rattle.ih_answers.specs.Answers.{Answers}
 use Rattle.ih_top.specs.Outputs.{MadeEnds, OutputEnds, WritesOutput}
 use Rattle.ih_top.specs.Searches.{HasBase}
-use Rattle.ih_top.specs.Rounds.{AreDone, AreSearches, HasBestOfRounds, HaveBegun, HaveFound, HaveFoundNone, HaveBest}
-use Rattle.ih_top.specs.Rounds.{HaveSearched, IsBestOfRounds, IsRoundsOutput, IsRoundsOutputOf, RoundsEnds, solution_in}
+use Rattle.ih_top.specs.Rounds.{AreDone, AreSearches, HasBestOfRounds, HaveBegun, HaveFound, HaveFoundNone, HaveBest, HaveSearched, IsBestOfRounds, IsRoundsOutput, IsRoundsOutputOf, RoundsEnds, solution_in}
 use Rattle.ih_top.specs.Writes.{BeginsJournal, BeginsSolution, WritesBoth, WritesJournal}
-use Rattle.ih_top.proofs.Writing.{both-begun, journal-whole-begun, made-writing, told-weaker, writing-ends}
+use Rattle.ih_top.proofs.Writing.{both-begun, journal-whole-begun, made-writing, writing-ends}
+use Rattle.ih_answers.proofs.Files.{told-weaker}
 
 -- ---- weaker ends
 

@@ -7,45 +7,25 @@ use Rattle.ih_shelf.specs.Outside.{Names, IfTold, PartOr, IsWritten, MayBeWritte
 use Rattle.ih_journal.specs.Best.{HasNone}
 use Rattle.ih_words.specs.Solve.{SolveCall}
 use Rattle.ih_journal.specs.Base.{Base}
-use Rattle.ih_top.specs.declared.answer.Answer.{Answer}
+use Rattle.ih_answers.specs.declared.answer.Answer.{Answer}
 use Rattle.ih_top.specs.declared.output.Output.{Output}
 use Rattle.ih_top.specs.declared.output.BestOutput.{BestOutput}
-use Rattle.ih_top.specs.declared.status.Role.TheVariants.{Journal, Out}
-use Rattle.ih_top.specs.declared.status.Status.{Status}
-use Rattle.ih_top.specs.declared.status.Status.TheVariants.{Done, ReadFault, InstanceRefused, StartRefused, NoneFound, WriteFault, OutOfMemory, Infeasible, TooLong}
-use Rattle.ih_top.specs.Answers.{Answers, IsSaid, IsUnwritten}
+use Rattle.ih_answers.specs.declared.status.Role.TheVariants.{Journal, Out}
+use Rattle.ih_answers.specs.declared.status.Status.{Status}
+use Rattle.ih_answers.specs.declared.status.Status.TheVariants.{Done, ReadFault, InstanceRefused, StartRefused, NoneFound, WriteFault, OutOfMemory, Infeasible, TooLong}
+use Rattle.ih_answers.specs.Answers.{Answers, IsSaid, IsUnwritten}
 use Rattle.ih_top.specs.Outputs.{IsOutput, IsOutputOf, IsBestOutput, HasBestOutput, MadeEnds, OutputEnds, WritesOutput}
 use Rattle.ih_top.specs.Searches.{HasBase, IsSearch, HasSearched, HasFoundBest, HasBegun, HasFoundNone, HasFound, IsDone, JournalForm, SearchEnds, WritingEnds, solution_at, tries_in}
-use Rattle.ih_top.specs.Inputs.{EndsUnread, solve_inputs}
-use Rattle.ih_top.specs.Writes.{BeginsJournal, WritesJournal, BeginsSolution, Unchanged, WritesBoth}
-use Rattle.ih_inputs.specs.Texts.{memory_text, unwritten_text}
-use Rattle.ih_top.specs.Texts.{none_found_text}
-use Rattle.ih_top.proofs.Saying.{IsAnswerable, answers-weaker, said-answer, unsaid-by, unwritten-answer}
-use Rattle.ih_top.proofs.Stopping.{unread-lack, unread-only}
-
--- ---- what is told of two states
-
-pub told-weaker : {X : Type 0} (P Q : X → X → Type 0) (old new : Option X) → ((x y : X) → P x y → Q x y) → IfTold P old new → IfTold Q old new
-told-weaker P Q None new f h = tt
-told-weaker P Q (Some x) None f h = h
-told-weaker P Q (Some x) (Some y) f h = f x y h
-
-pub told-then : {X : Type 0} (P Q R : X → X → Type 0) (old mid new : Option X) → ((x y z : X) → P x y → Q y z → R x z)
-    → IfTold P old mid → IfTold Q mid new → IfTold R old new
-told-then P Q R None mid new f h k = tt
-told-then P Q R (Some x) None new f h k = absurd h
-told-then P Q R (Some x) (Some y) None f h k = k
-told-then P Q R (Some x) (Some y) (Some z) f h k = f x y z h k
+use Rattle.ih_top.specs.Inputs.{solve_inputs}
+use Rattle.ih_answers.specs.Inputs.{EndsUnread}
+use Rattle.ih_top.specs.Writes.{BeginsJournal, WritesJournal, BeginsSolution, WritesBoth}
+use Rattle.ih_answers.specs.Ends.{Unchanged}
+use Rattle.ih_answers.specs.Texts.{memory_text, unwritten_text, none_found_text}
+use Rattle.ih_answers.proofs.Files.{begun, told-weaker, told-then, whole-text}
+use Rattle.ih_answers.proofs.Saying.{IsAnswerable, answers-weaker, said-answer, unsaid-by, unwritten-answer}
+use Rattle.ih_answers.proofs.Stopping.{unread-lack, unread-only}
 
 -- ---- weaker ends
-
-pub whole-text : (text : List ℕ) (old new : Option (List ℕ)) → new ≡ Some text → PartOr text old new
-whole-text text old new h = inr (length text, h ∙ ap (λ t. Some t) (sym (take_all (length text) text (omega arith))))
-
--- what is written whole is begun
-pub begun : (name bytes : List ℕ) (old new : Option Names) → IfTold (IsWritten name bytes) old new → IfTold (MayBeWritten name bytes) old new
-begun name bytes old new h = told-weaker (IsWritten name bytes) (MayBeWritten name bytes) old new
-    (λ x y w. record { part = whole-text bytes (x name) (y name) w.whole; others = w.others }) h
 
 pub both-begun : (s : SolveCall) (text solution : List ℕ) (x y : Names) → WritesBoth s text solution x y → BeginsSolution s text solution x y
 both-begun s text solution x y w = record { journal = w.journal; out = whole-text solution (x s.out) (y s.out) w.out; others = w.others }

@@ -6,10 +6,10 @@ use Rattle.ih_advise.specs.Advising.{advice}
 use Rattle.ih_advise.specs.Texts.{advice_text}
 use Rattle.ih_words.specs.Advise.{AdviseCall}
 use Rattle.ih_shelf.specs.Outside.{Names}
-use Rattle.ih_top.specs.declared.status.Status.{Status}
-use Rattle.ih_top.specs.declared.status.Status.TheVariants.{Done, WriteFault}
+use Rattle.ih_answers.specs.declared.status.Status.{Status}
+use Rattle.ih_answers.specs.declared.status.Status.TheVariants.{Done, WriteFault}
 use Rattle.ih_inputs.specs.Reading.{InputFiles, HasInputs}
-use Rattle.ih_top.specs.Inputs.{EndsUnread}
+use Rattle.ih_answers.specs.Inputs.{EndsUnread}
 
 abbrev pub advise_inputs : AdviseCall → InputFiles
 advise_inputs a = record { instance = a.instance; solution = Some a.solution }

@@ -10,7 +10,7 @@ use Rattle.ih_solution.specs.Solution.{solution}
 use Rattle.ih_words.specs.Chain.{ChainCall}
 use Rattle.ih_shelf.specs.Outside.{Names}
 use Rattle.ih_top.specs.declared.output.BestOutput.{BestOutput}
-use Rattle.ih_top.specs.declared.status.Status.{Status}
+use Rattle.ih_answers.specs.declared.status.Status.{Status}
 use Rattle.ih_top.specs.Searches.{JournalForm, SearchEnds}
 use Rattle.ih_top.specs.Texts.{found_text}
 

@@ -1,5 +1,5 @@
 -- How a call of check ends: what it has read, and what it had to say, by its status.
-use Rattle.std.specs.Prelude.{◌≡◌, ℕ, true, false, List, Option, None}
+use Rattle.std.specs.Prelude.{◌≡◌, ℕ, Bool, true, false, List, Option, None}
 use Rattle.ih_tables.specs.declared.drafts.Draft.{Draft}
 use Rattle.ih_tables.specs.Bills.{feasible}
 use Rattle.ih_plan.specs.Timetable.{Timetable}
@@ -7,10 +7,16 @@ use Rattle.ih_plan.specs.BillOf.{bill_of}
 use Rattle.ih_validate.specs.Report.{report}
 use Rattle.ih_words.specs.Check.{CheckCall}
 use Rattle.ih_shelf.specs.Outside.{Names}
-use Rattle.ih_top.specs.declared.status.Status.{Status}
-use Rattle.ih_top.specs.declared.status.Status.TheVariants.{Done, Infeasible, WriteFault}
+use Rattle.ih_answers.specs.declared.status.Status.{Status}
+use Rattle.ih_answers.specs.declared.status.Status.TheVariants.{Done, Infeasible, WriteFault}
 use Rattle.ih_inputs.specs.Reading.{HasInputs}
-use Rattle.ih_top.specs.Inputs.{check_inputs, EndsUnread}
+use Rattle.ih_top.specs.Inputs.{check_inputs}
+use Rattle.ih_answers.specs.Inputs.{EndsUnread}
+
+-- the status of a check whose report is made
+abbrev pub checked_status : Bool → Status
+checked_status true = Done
+checked_status false = Infeasible
 
 -- this is the report on the timetable that the files give
 pub record IsReport (files : Option Names) (c : CheckCall) (text : List ℕ) : Type 0 where

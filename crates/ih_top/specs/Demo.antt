@@ -12,10 +12,10 @@ use Rattle.ih_journal.specs.Legal.{IsFull}
 use Rattle.ih_cellbook.specs.Legal.{AreExact}
 use Rattle.ih_gen.specs.Generated.{generated}
 use Rattle.ih_instance.specs.Instance.{instance}
-use Rattle.ih_top.specs.declared.status.Status.{Status}
-use Rattle.ih_top.specs.declared.status.Status.TheVariants.{Done, NoneFound, WriteFault, OutOfMemory}
-use Rattle.ih_inputs.specs.Texts.{memory_text}
-use Rattle.ih_top.specs.Texts.{demo_text, none_found_text, verdicts_of}
+use Rattle.ih_answers.specs.declared.status.Status.{Status}
+use Rattle.ih_answers.specs.declared.status.Status.TheVariants.{Done, NoneFound, WriteFault, OutOfMemory}
+use Rattle.ih_answers.specs.Texts.{memory_text, none_found_text}
+use Rattle.ih_top.specs.Texts.{demo_text, verdicts_of}
 
 -- one worker with the number as its seed
 abbrev pub demo_options : ℕ → Options

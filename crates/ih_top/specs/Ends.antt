@@ -8,15 +8,14 @@ use Rattle.ih_journal.specs.Tried.{tries}
 use Rattle.ih_journal.specs.Legal.{IsFull}
 use Rattle.ih_journal.specs.Texts.{lines_from}
 use Rattle.ih_words.specs.Words.{Call, solve, replay, salvage, check, chain, rounds, gen, demo, advise}
-use Rattle.ih_shelf.specs.Outside.{IsAppended, MayBeAppended, Names, Rose, IfTold}
-use Rattle.ih_top.specs.declared.status.Status.{Status}
-use Rattle.ih_top.specs.declared.status.Status.TheVariants.{Done, Usage, ReadFault, NoneFound, WriteFault, OutOfMemory, Infeasible}
+use Rattle.ih_shelf.specs.Outside.{Names, IfTold}
+use Rattle.ih_answers.specs.declared.status.Status.{Status}
+use Rattle.ih_answers.specs.declared.status.Status.TheVariants.{Done, Usage, NoneFound, OutOfMemory, Infeasible}
 use Rattle.ih_top.specs.Advise.{AdviseEnds, advise_inputs}
-use Rattle.ih_top.specs.Answers.{unsaid}
+use Rattle.ih_answers.specs.Ends.{Ends, Unchanged}
 use Rattle.ih_inputs.specs.Reading.{HasInputs}
 use Rattle.ih_top.specs.Inputs.{solve_inputs, check_inputs}
 use Rattle.ih_top.specs.Solve.{SolveEnds}
-use Rattle.ih_top.specs.Writes.{Unchanged}
 use Rattle.ih_top.specs.JournalFiles.{HasRead, JournalRead}
 use Rattle.ih_top.specs.JournalHeading.{IsHeadedBy}
 use Rattle.ih_top.specs.Replay.{ReplayEnds}
@@ -26,17 +25,8 @@ use Rattle.ih_top.specs.Check.{CheckEnds}
 use Rattle.ih_top.specs.Rounds.{RoundsEnds}
 use Rattle.ih_top.specs.Generate.{GenEnds}
 use Rattle.ih_top.specs.Demo.{DemoEnds}
-use Rattle.ih_inputs.specs.Texts.{memory_text}
+use Rattle.ih_answers.specs.Texts.{memory_text}
 use Rattle.ih_top.specs.Texts.{usage_text}
-
--- ---- the sink
-
--- The sink received the text whole; or a prefix of it, where its count of faults rose and the status isn't one that
--- asks for the whole.
-abbrev pub Received : Status → Option (List ℕ) → Option (List ℕ) → ℕ → ℕ → List ℕ → Type 0
-Received status old new before now text =
-    IfTold (IsAppended text) old new
-    ⊎ ((unsaid status ≡ status) × Rose before now × IfTold (MayBeAppended text) old new)
 
 -- ---- a call with lawful words
 
@@ -52,16 +42,6 @@ CallEnds (rounds r) old new status text = RoundsEnds r old new status text
 CallEnds (advise a) old new status text = IfTold Unchanged old new × AdviseEnds a old status text
 CallEnds (gen g) old new status text = GenEnds g old new status text
 CallEnds (demo number) old new status text = IfTold Unchanged old new × DemoEnds number status text
-
--- At each status the sink received the text that the call had to say there. The second case of `OutOfMemory` is the
--- sink's own lack: it wanted memory, and received a part of the text of a status that the call had reached, with a
--- cause for that one.
-abbrev pub Ends : (ends : Status → List ℕ → Type 0) → (cause : Status → Type 0) → (received part : List ℕ → Type 0)
-    → Status → Type 0
-Ends ends cause received part OutOfMemory =
-    ((text : List ℕ) × ends OutOfMemory text × received text)
-    ⊎ ((status : Status) × (text : List ℕ) × ends status text × cause status × part text)
-Ends ends cause received part status = (text : List ℕ) × ends status text × received text
 
 -- ---- any call
 
@@ -82,13 +62,6 @@ abbrev pub IsUntouched : {X : Type 0} → Option Call → X → X → Type 0
 IsUntouched None old new = new ≡ old
 IsUntouched (Some (demo number)) old new = new ≡ old
 IsUntouched (Some call) old new = Unit {0}
-
--- A fault is answered only where its count rose in the call, or stands at the last number of 64 bits.
-abbrev pub HasCause : ℕ → ℕ → ℕ → ℕ → ℕ → ℕ → Status → Type 0
-HasCause reads reads' writes writes' puts puts' (ReadFault role) = Rose reads reads'
-HasCause reads reads' writes writes' puts puts' (WriteFault (Some role)) = Rose writes writes'
-HasCause reads reads' writes writes' puts puts' (WriteFault None) = Rose puts puts'
-HasCause reads reads' writes writes' puts puts' status = Unit {0}
 
 -- the answers of a call that has all that it needs
 abbrev pub IsAnswered : Call → Status → Type 0

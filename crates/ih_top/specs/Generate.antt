@@ -3,10 +3,10 @@ use Rattle.std.specs.Prelude.{◌≡◌, ℕ, List, [], Option, Some}
 use Rattle.ih_gen.specs.Generated.{generated}
 use Rattle.ih_words.specs.Generate.{GenCall}
 use Rattle.ih_shelf.specs.Outside.{IsWritten, MayBeWritten, Names, IfTold}
-use Rattle.ih_top.specs.declared.status.Status.{Status}
-use Rattle.ih_top.specs.declared.status.Status.TheVariants.{Done, WriteFault, OutOfMemory}
-use Rattle.ih_top.specs.declared.status.Role.TheVariants.{Out}
-use Rattle.ih_inputs.specs.Texts.{memory_text, unwritten_text}
+use Rattle.ih_answers.specs.declared.status.Status.{Status}
+use Rattle.ih_answers.specs.declared.status.Status.TheVariants.{Done, WriteFault, OutOfMemory}
+use Rattle.ih_answers.specs.declared.status.Role.TheVariants.{Out}
+use Rattle.ih_answers.specs.Texts.{memory_text, unwritten_text}
 
 abbrev pub GenEnds : GenCall → Option Names → Option Names → Status → List ℕ → Type 0
 -- the instance is written, and nothing is said

@@ -8,13 +8,13 @@ use Rattle.ih_journal.specs.Tried.{Tried, tries}
 use Rattle.ih_journal.specs.Best.{IsBest, HasNone}
 use Rattle.ih_words.specs.Replay.{ReplayCall}
 use Rattle.ih_shelf.specs.Outside.{IsWritten, MayBeWritten, Names, IfTold}
-use Rattle.ih_top.specs.declared.status.Status.{Status}
-use Rattle.ih_top.specs.declared.status.Status.TheVariants.{Done, NoneFound, WriteFault, OutOfMemory, JournalRefused}
-use Rattle.ih_top.specs.declared.status.Role.TheVariants.{Out}
+use Rattle.ih_answers.specs.declared.status.Status.{Status}
+use Rattle.ih_answers.specs.declared.status.Status.TheVariants.{Done, NoneFound, WriteFault, OutOfMemory, JournalRefused}
+use Rattle.ih_answers.specs.declared.status.Role.TheVariants.{Out}
 use Rattle.ih_top.specs.Searches.{solution_at}
-use Rattle.ih_top.specs.Writes.{Unchanged}
-use Rattle.ih_inputs.specs.Texts.{memory_text, unwritten_text}
-use Rattle.ih_top.specs.Texts.{journal_refused_text, none_found_text}
+use Rattle.ih_answers.specs.Ends.{Unchanged}
+use Rattle.ih_answers.specs.Texts.{memory_text, unwritten_text, none_found_text}
+use Rattle.ih_top.specs.Texts.{journal_refused_text}
 use Rattle.ih_top.specs.JournalFiles.{JournalRead, HasRead, EndsUnreadJournal}
 
 -- A history was taken from the journal, and the solution of its first cheapest feasible timetable is written as far as

@@ -6,12 +6,13 @@ use Rattle.ih_words.specs.Replay.{ReplayCall}
 use Rattle.ih_shelf.specs.Outside.{Names, bytes_at}
 use Rattle.ih_inputs.specs.declared.reading.Inputs.{Inputs}
 use Rattle.ih_top.specs.declared.limits.TheConstants.{MAX_JOURNAL}
-use Rattle.ih_top.specs.declared.status.Status.{Status}
-use Rattle.ih_top.specs.declared.status.Status.TheVariants.{ReadFault, TooLong}
-use Rattle.ih_top.specs.declared.status.Role.TheVariants.{Journal}
+use Rattle.ih_answers.specs.declared.status.Status.{Status}
+use Rattle.ih_answers.specs.declared.status.Status.TheVariants.{ReadFault, TooLong}
+use Rattle.ih_answers.specs.declared.status.Role.TheVariants.{Journal}
 use Rattle.ih_inputs.specs.Reading.{HasInputs, IsLongerThan}
-use Rattle.ih_top.specs.Inputs.{replay_inputs, EndsUnread}
-use Rattle.ih_inputs.specs.Texts.{too_long_text, unread_text}
+use Rattle.ih_top.specs.Inputs.{replay_inputs}
+use Rattle.ih_answers.specs.Inputs.{EndsUnread}
+use Rattle.ih_answers.specs.Texts.{too_long_text, unread_text}
 
 -- an instance, the timetable of the start before it is filled, and the bytes of a journal
 pub record JournalRead : Type 0 where

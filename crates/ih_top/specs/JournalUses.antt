@@ -11,7 +11,7 @@ use Rattle.ih_top.specs.declared.journals.JournalUse.{JournalUse}
 use Rattle.ih_top.specs.declared.journals.JournalUse.TheVariants.{Replay, Salvage}
 use Rattle.ih_top.specs.declared.outcome.Outcome.{Outcome}
 use Rattle.ih_top.specs.declared.outcome.Outcome.TheVariants.{Refused, Taken}
-use Rattle.ih_top.specs.declared.status.Status.{Status}
+use Rattle.ih_answers.specs.declared.status.Status.{Status}
 use Rattle.ih_top.specs.JournalEnds.{JournalEnds}
 use Rattle.ih_top.specs.JournalFiles.{JournalRead}
 use Rattle.ih_top.specs.JournalHeading.{IsHeadless}

@@ -1,5 +1,5 @@
 -- Laws of journals and of calls of the program.
-use Rattle.std.specs.Prelude.{◌≡◌, ◌≢◌, ◌≤◌, ◌+◌, ◌*◌, ◌==◌, ◌⊎◌, ℕ, List, ◌∷◌, ◌++◌, length, Option, Some, None}
+use Rattle.std.specs.Prelude.{◌≡◌, ◌≢◌, ◌≤◌, ◌+◌, ◌==◌, ◌⊎◌, ℕ, List, ◌∷◌, ◌++◌, length, Option, Some, None}
 use Rattle.std.specs.List.{count_by}
 use Rattle.ih_tables.specs.Valid.{IsValid}
 use Rattle.ih_journal.specs.declared.entries.Entry.{Entry}
@@ -7,32 +7,35 @@ use Rattle.ih_journal.specs.declared.refusals.JournalRefusal.{JournalRefusal}
 use Rattle.ih_journal.specs.declared.refusals.Reason.TheVariants.{Extra}
 use Rattle.ih_journal.specs.declared.settings.Options.{Options}
 use Rattle.ih_journal.specs.Base.{Base}
-use Rattle.ih_journal.specs.Tried.{tries}
+use Rattle.ih_journal.specs.Best.{HasNone, IsBest}
+use Rattle.ih_journal.specs.Tried.{Tried, tries}
 use Rattle.ih_journal.specs.Legal.{AreLegal}
-use Rattle.ih_journal.specs.Settings.{most_entries}
 use Rattle.ih_journal.specs.Texts.{journal, lines_from}
 use Rattle.ih_cellbook.specs.Keeping.{IsBase}
 use Rattle.ih_chain.specs.declared.entries.ChainEntry.{ChainEntry}
 use Rattle.ih_chain.specs.Texts.{chain_journal}
-use Rattle.ih_rounds.specs.Rounds.{Round, journals}
+use Rattle.ih_rounds.specs.Rounds.{Round, base_in, histories, journals}
 use Rattle.ih_words.specs.Chain.{ChainCall}
 use Rattle.ih_words.specs.Replay.{ReplayCall}
 use Rattle.ih_words.specs.Rounds.{RoundsCall}
 use Rattle.ih_words.specs.Solve.{SolveCall}
+use Rattle.ih_words.specs.Words.{IsNamed, chain, rounds}
 use Rattle.ih_shelf.specs.Outside.{Names, bytes_at}
 use Rattle.ih_top.specs.declared.limits.TheConstants.{MAX_JOURNAL}
-use Rattle.ih_top.specs.declared.status.Status.{Status}
-use Rattle.ih_top.specs.declared.status.Status.TheVariants.{Done, JournalRefused, NoneFound, OutOfMemory, ReadFault, WriteFault}
+use Rattle.ih_answers.specs.declared.status.Status.{Status}
+use Rattle.ih_answers.specs.declared.status.Status.TheVariants.{Done, JournalRefused, NoneFound, OutOfMemory, ReadFault, WriteFault}
 use Rattle.ih_top.specs.Chain.{of_chains}
 use Rattle.ih_top.specs.Demo.{IsShown}
+use Rattle.ih_top.specs.JournalFiles.{HasGiven}
 use Rattle.ih_top.specs.JournalLines.{Begins, IsRefusedAt}
 use Rattle.ih_top.specs.JournalHeading.{HasNoHeading, no_heading}
 use Rattle.ih_top.specs.Replay.{AreNotFull, ReplayEnds}
 use Rattle.ih_top.specs.Salvage.{SalvageEnds}
 use Rattle.ih_top.specs.Rounds.{AreSearches, RoundsEnds}
-use Rattle.ih_top.specs.Searches.{HasFoundNone, IsDone, IsSearch, JournalForm, SearchEnds}
+use Rattle.ih_top.specs.Searches.{HasFoundNone, IsDone, IsSearch, JournalForm, SearchEnds, solution_at}
 use Rattle.ih_top.specs.Solve.{of_moves}
-use Rattle.ih_top.specs.Texts.{journal_refused_text, none_found_text, salvaged_line}
+use Rattle.ih_top.specs.Texts.{journal_refused_text, salvaged_line, salvaged_text}
+use Rattle.ih_answers.specs.Texts.{none_found_text}
 
 -- lines that are refused are those of no full history
 abbrev pub RefusedLinesAreNotFull : Type 0
@@ -102,6 +105,42 @@ LoneRoundsEndAlike =
 abbrev pub DemosShowTheSame : Type 0
 DemosShowTheSame = (number : ℕ) (said told : Option (List ℕ)) → IsShown number said → IsShown number told → said ≡ told
 
+-- ---- what a journal tells
+
+-- a call left the journal of this history
+pub record HasLeft {X : Type 0} (form : JournalForm X) (s : SolveCall) (old new : Names) (b : Base) (H : List X)
+    : Type 0 where
+  pub search : IsSearch form (Some old) s b H
+  pub written : new s.journal ≡ Some (form.journal b.options H)
+
+-- a call of rounds left their journals
+pub record HaveLeft (r : RoundsCall) (old new : Names) (b : Base) (rs : List Round) : Type 0 where
+  pub searches : AreSearches (Some old) r b rs
+  pub written : new r.search.journal ≡ Some (journals b.options 0 rs)
+
+-- Two calls of solve over instances with the same bytes, which left the same journal, had the same options and made the
+-- same history.
+abbrev pub SolvesAreToldApart : Type 0
+SolvesAreToldApart = (s t : SolveCall) (old new before after : Names) (b c : Base) (H G : List Entry)
+    → bytes_at old s.instance ≡ bytes_at before t.instance
+    → HasLeft of_moves s old new b H → HasLeft of_moves t before after c G → new s.journal ≡ after t.journal
+    → (s.options ≡ t.options) × (H ≡ G)
+
+-- So have two calls of chain that words name, and their chains had the same length.
+abbrev pub ChainsAreToldApart : Type 0
+ChainsAreToldApart = (s t : ChainCall) (old new before after : Names) (b c : Base) (H G : List ChainEntry)
+    → IsNamed (chain s) → IsNamed (chain t) → bytes_at old s.search.instance ≡ bytes_at before t.search.instance
+    → HasLeft (of_chains s.length) s.search old new b H → HasLeft (of_chains t.length) t.search before after c G
+    → new s.search.journal ≡ after t.search.journal
+    → (s.search.options ≡ t.search.options) × (s.length ≡ t.length) × (H ≡ G)
+
+-- So have two calls of rounds that words name: each round has the same history, and there are as many.
+abbrev pub RoundsAreToldApart : Type 0
+RoundsAreToldApart = (s t : RoundsCall) (old new before after : Names) (b c : Base) (rs ss : List Round)
+    → IsNamed (rounds s) → IsNamed (rounds t) → bytes_at old s.search.instance ≡ bytes_at before t.search.instance
+    → HaveLeft s old new b rs → HaveLeft t before after c ss → new s.search.journal ≡ after t.search.journal
+    → (s.search.options ≡ t.search.options) × (s.rounds ≡ t.rounds) × (histories rs ≡ histories ss)
+
 -- ---- what solve writes, replay and salvage take
 
 -- the journal of a search is no longer than replay and salvage may read
@@ -162,30 +201,25 @@ SolvesWithNoneReplayTheSame =
 abbrev pub ChainJournalsAreHeadless : Type 0
 ChainJournalsAreHeadless = (o : Options) (each : ℕ) (H : List ChainEntry) → HasNoHeading (chain_journal o each H)
 
--- the lengths that the words of chain let through
-pub record IsWithinLimits (c : ChainCall) : Type 0 where
-  pub short : c.length ≤ 8
-  pub few : most_entries c.search.options * c.length ≤ 1000000
-
--- the journal of a search by chains is no longer than a journal's file may be
+-- the journal of a search by chains that words name is no longer than a journal's file may be
 abbrev pub ChainJournalsFit : Type 0
-ChainJournalsFit = (files : Names) (c : ChainCall) (b : Base) (H : List ChainEntry) → IsWithinLimits c
+ChainJournalsFit = (files : Names) (c : ChainCall) (b : Base) (H : List ChainEntry) → IsNamed (chain c)
     → IsSearch (of_chains c.length) (Some files) c.search b H
     → length (chain_journal b.options c.length H) ≤ MAX_JOURNAL
 
--- After a search by chains wrote its journal, replay and salvage refuse that at its heading, or memory runs out.
+-- After a search by chains left its journal, replay and salvage refuse that at its heading, or memory runs out.
 pub record IsRefusedBack (r : ReplayCall) (there left : Names) (ended : Status) (said : List ℕ) : Type 0 where
   pub replayed : ReplayEnds r (Some there) (Some left) ended said
       → EndsIn (JournalRefused no_heading) (journal_refused_text no_heading) (Unit {0}) ended said
   pub salvaged : SalvageEnds r (Some there) (Some left) ended said
       → EndsIn (JournalRefused no_heading) (journal_refused_text no_heading) (Unit {0}) ended said
 
+-- So they do with whatever instance and start are accepted.
 abbrev pub ChainsAreRefused : Type 0
 ChainsAreRefused = (c : ChainCall) (r : ReplayCall) (before after there left : Names) (b : Base) (H : List ChainEntry)
     (ended : Status) (said : List ℕ)
-    → IsWithinLimits c → IsSearch (of_chains c.length) (Some before) c.search b H
-    → after c.search.journal ≡ Some (chain_journal b.options c.length H) → IsReplayOf c.search r before after there
-    → HasNoFault ended
+    → IsNamed (chain c) → HasLeft (of_chains c.length) c.search before after b H
+    → HasGiven (Some there) r → bytes_at there r.journal ≡ bytes_at after c.search.journal → HasNoFault ended
     → IsRefusedBack r there left ended said
 
 -- ---- journals of rounds
@@ -194,13 +228,32 @@ ChainsAreRefused = (c : ChainCall) (r : ReplayCall) (before after there left : N
 abbrev pub second_heading : Round → JournalRefusal
 second_heading first = record { line = length first.history + 2; reason = Extra }
 
--- After two rounds or more wrote their journals, and these are no longer than a journal's file may be, replay refuses
--- them at the second heading, or memory runs out.
+-- the journals of rounds that words name are no longer than a journal's file may be
+abbrev pub RoundJournalsFit : Type 0
+RoundJournalsFit = (files : Names) (c : RoundsCall) (b : Base) (rs : List Round) → IsNamed (rounds c)
+    → AreSearches (Some files) c b rs → length (journals b.options 0 rs) ≤ MAX_JOURNAL
+
+-- After two rounds or more left their journals, replay refuses them at the second heading, or memory runs out.
 abbrev pub RoundsAreRefused : Type 0
-RoundsAreRefused = (c : RoundsCall) (r : ReplayCall) (before after there left : Names) (b : Base) (first second : Round)
-    (rounds : List Round) (ended : Status) (said : List ℕ)
-    → AreSearches (Some before) c b (first ∷ second ∷ rounds)
-    → after c.search.journal ≡ Some (journals b.options 0 (first ∷ second ∷ rounds))
-    → length (journals b.options 0 (first ∷ second ∷ rounds)) ≤ MAX_JOURNAL
+RoundsAreRefused = (c : RoundsCall) (r : ReplayCall) (before after there left : Names) (b : Base)
+    (first second : Round) (later : List Round) (ended : Status) (said : List ℕ)
+    → IsNamed (rounds c) → HaveLeft c before after b (first ∷ second ∷ later)
     → IsReplayOf c.search r before after there → HasNoFault ended → ReplayEnds r (Some there) (Some left) ended said
     → EndsIn (JournalRefused (second_heading first)) (journal_refused_text (second_heading first)) (Unit {0}) ended said
+
+-- A call with no fault came to this history: it wrote the solution of its best and said so, or said that it has none;
+-- or memory ran out.
+abbrev pub ComesTo : (Base → List Tried → ℕ → List ℕ) → Base → List Entry → Option (List ℕ) → Status → List ℕ → Type 0
+ComesTo said b H out ended text =
+    (ended ≡ OutOfMemory)
+    ⊎ ((k : ℕ) × IsBest b (tries H) k × (ended ≡ Done) × (text ≡ said b (tries H) k)
+    × (out ≡ Some (solution_at b (tries H) k)))
+    ⊎ (HasNone b (tries H) × (ended ≡ NoneFound) × (text ≡ none_found_text))
+
+-- Of such journals salvage takes the history of the first round, whatever the later ones are.
+abbrev pub RoundsAreSalvaged : Type 0
+RoundsAreSalvaged = (c : RoundsCall) (r : ReplayCall) (before after there left : Names) (b : Base)
+    (first second : Round) (later : List Round) (ended : Status) (said : List ℕ)
+    → IsNamed (rounds c) → HaveLeft c before after b (first ∷ second ∷ later)
+    → IsReplayOf c.search r before after there → HasNoFault ended → SalvageEnds r (Some there) (Some left) ended said
+    → ComesTo salvaged_text (base_in b 0 first) first.history (left r.out) ended said

@@ -1,8 +1,6 @@
 pub mod Advise
-pub mod Answers
 pub mod Chain
 pub mod Check
-pub mod Codes
 pub mod Demo
 pub mod Ends
 pub mod Generate

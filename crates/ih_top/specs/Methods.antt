@@ -9,7 +9,7 @@ use Rattle.ih_shelf.specs.Outside.{Names}
 use Rattle.ih_top.specs.declared.output.Output.{Output}
 use Rattle.ih_top.specs.declared.searching.Method.{Method}
 use Rattle.ih_top.specs.declared.searching.Method.TheVariants.{Moves, Chains, Rounds}
-use Rattle.ih_top.specs.declared.status.Status.{Status}
+use Rattle.ih_answers.specs.declared.status.Status.{Status}
 use Rattle.ih_top.specs.Chain.{ChainEnds, of_chains}
 use Rattle.ih_top.specs.Outputs.{IsOutput}
 use Rattle.ih_top.specs.Rounds.{IsRoundsOutput, RoundsEnds}

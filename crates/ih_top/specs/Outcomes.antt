@@ -10,16 +10,16 @@ use Rattle.ih_shelf.specs.Outside.{IsWritten, MayBeWritten, Names, IfTold}
 use Rattle.ih_top.specs.declared.output.BestOutput.{BestOutput}
 use Rattle.ih_top.specs.declared.outcome.Outcome.{Outcome}
 use Rattle.ih_top.specs.declared.outcome.Outcome.TheVariants.{Refused, Taken}
-use Rattle.ih_top.specs.declared.status.Status.{Status}
-use Rattle.ih_top.specs.declared.status.Status.TheVariants.{Done, NoneFound, WriteFault, OutOfMemory, JournalRefused}
-use Rattle.ih_top.specs.declared.status.Role.TheVariants.{Out}
+use Rattle.ih_answers.specs.declared.status.Status.{Status}
+use Rattle.ih_answers.specs.declared.status.Status.TheVariants.{Done, NoneFound, WriteFault, OutOfMemory, JournalRefused}
+use Rattle.ih_answers.specs.declared.status.Role.TheVariants.{Out}
 use Rattle.ih_top.specs.Histories.{IsSound}
 use Rattle.ih_top.specs.JournalLines.{Begins, IsRefusedAt}
 use Rattle.ih_top.specs.Outputs.{HasBestOutput, HasBestSaid}
 use Rattle.ih_top.specs.Replay.{AreNotFull}
-use Rattle.ih_top.specs.Writes.{Unchanged}
-use Rattle.ih_inputs.specs.Texts.{memory_text, unwritten_text}
-use Rattle.ih_top.specs.Texts.{journal_refused_text, none_found_text, salvaged_text}
+use Rattle.ih_answers.specs.Ends.{Unchanged}
+use Rattle.ih_answers.specs.Texts.{memory_text, unwritten_text, none_found_text}
+use Rattle.ih_top.specs.Texts.{journal_refused_text, salvaged_text}
 
 -- ---- the lines of a journal
 

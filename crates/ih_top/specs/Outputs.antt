@@ -9,15 +9,16 @@ use Rattle.ih_shelf.specs.Outside.{Names, IfTold}
 use Rattle.ih_inputs.specs.declared.reading.Inputs.{Inputs}
 use Rattle.ih_top.specs.declared.output.Output.{Output}
 use Rattle.ih_top.specs.declared.output.BestOutput.{BestOutput}
-use Rattle.ih_top.specs.Starts.{started}
-use Rattle.ih_top.specs.declared.status.Role.TheVariants.{Journal, Out}
-use Rattle.ih_top.specs.declared.status.Status.{Status}
-use Rattle.ih_top.specs.declared.status.Status.TheVariants.{Done, NoneFound, OutOfMemory, WriteFault}
-use Rattle.ih_inputs.specs.Texts.{memory_text, unwritten_text}
-use Rattle.ih_top.specs.Texts.{done_text, none_found_text}
+use Rattle.ih_parfill.specs.Starts.{started}
+use Rattle.ih_answers.specs.declared.status.Role.TheVariants.{Journal, Out}
+use Rattle.ih_answers.specs.declared.status.Status.{Status}
+use Rattle.ih_answers.specs.declared.status.Status.TheVariants.{Done, NoneFound, OutOfMemory, WriteFault}
+use Rattle.ih_answers.specs.Texts.{memory_text, unwritten_text, none_found_text}
+use Rattle.ih_top.specs.Texts.{done_text}
 use Rattle.ih_top.specs.Histories.{IsSound}
 use Rattle.ih_top.specs.Searches.{HasBase, JournalForm, solution_at, tries_in}
-use Rattle.ih_top.specs.Writes.{BeginsJournal, BeginsSolution, Unchanged, WritesBoth, WritesJournal}
+use Rattle.ih_top.specs.Writes.{BeginsJournal, BeginsSolution, WritesBoth, WritesJournal}
+use Rattle.ih_answers.specs.Ends.{Unchanged}
 
 -- the best of a history, its solution and what is said of it
 pub record IsBestSaid (said : Base → List Tried → ℕ → List ℕ) (b : Base) (H : List Tried)

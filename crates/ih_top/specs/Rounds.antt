@@ -18,7 +18,7 @@ use Rattle.ih_words.specs.Solve.{SolveCall}
 use Rattle.ih_shelf.specs.Outside.{Names, IfTold}
 use Rattle.ih_top.specs.declared.output.BestOutput.{BestOutput}
 use Rattle.ih_top.specs.declared.output.Output.{Output}
-use Rattle.ih_top.specs.declared.status.Status.{Status}
+use Rattle.ih_answers.specs.declared.status.Status.{Status}
 use Rattle.ih_top.specs.RoundTexts.{round_report}
 use Rattle.ih_top.specs.Searches.{HasBase, WritingEnds, solution_at}
 use Rattle.ih_top.specs.Writes.{BeginsJournal, BeginsSolution, WritesBoth, WritesJournal}

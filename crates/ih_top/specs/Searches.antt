@@ -10,15 +10,17 @@ use Rattle.ih_journal.specs.Best.{IsBest, HasNone}
 use Rattle.ih_solution.specs.Solution.{solution}
 use Rattle.ih_words.specs.Solve.{SolveCall}
 use Rattle.ih_shelf.specs.Outside.{Names, IfTold}
-use Rattle.ih_top.specs.declared.status.Status.{Status}
-use Rattle.ih_top.specs.declared.status.Status.TheVariants.{Done, NoneFound, WriteFault, OutOfMemory}
-use Rattle.ih_top.specs.declared.status.Role.TheVariants.{Journal, Out}
+use Rattle.ih_answers.specs.declared.status.Status.{Status}
+use Rattle.ih_answers.specs.declared.status.Status.TheVariants.{Done, NoneFound, WriteFault, OutOfMemory}
+use Rattle.ih_answers.specs.declared.status.Role.TheVariants.{Journal, Out}
 use Rattle.ih_top.specs.Histories.{IsSound}
-use Rattle.ih_top.specs.Inputs.{solve_inputs, EndsUnread}
+use Rattle.ih_top.specs.Inputs.{solve_inputs}
+use Rattle.ih_answers.specs.Inputs.{EndsUnread}
 use Rattle.ih_top.specs.Starts.{HasStart}
-use Rattle.ih_inputs.specs.Texts.{memory_text, unwritten_text}
-use Rattle.ih_top.specs.Texts.{none_found_text, done_text}
-use Rattle.ih_top.specs.Writes.{Unchanged, BeginsJournal, WritesJournal, BeginsSolution, WritesBoth}
+use Rattle.ih_answers.specs.Texts.{memory_text, unwritten_text, none_found_text}
+use Rattle.ih_top.specs.Texts.{done_text}
+use Rattle.ih_top.specs.Writes.{BeginsJournal, WritesJournal, BeginsSolution, WritesBoth}
+use Rattle.ih_answers.specs.Ends.{Unchanged}
 
 -- what the files and the words give a search
 pub record HasBase (files : Option Names) (s : SolveCall) (b : Base) : Type 0 where

@@ -5,7 +5,7 @@ use Rattle.ih_journal.specs.Tried.{tried}
 use Rattle.ih_journal.specs.Texts.{journal}
 use Rattle.ih_words.specs.Solve.{SolveCall}
 use Rattle.ih_shelf.specs.Outside.{Names}
-use Rattle.ih_top.specs.declared.status.Status.{Status}
+use Rattle.ih_answers.specs.declared.status.Status.{Status}
 use Rattle.ih_top.specs.Searches.{JournalForm, SearchEnds}
 
 -- a search of single moves

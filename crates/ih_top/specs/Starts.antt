@@ -1,18 +1,13 @@
 -- What a search starts from, by the files and the words.
-use Rattle.std.specs.Prelude.{◌≡◌, ℕ, Bool, true, false, List, Option}
+use Rattle.std.specs.Prelude.{◌≡◌, ℕ, List, Option}
 use Rattle.ih_tables.specs.declared.drafts.Draft.{Draft}
-use Rattle.ih_fill.specs.Fill.{fill}
 use Rattle.ih_plan.specs.Timetable.{Timetable}
 use Rattle.ih_journal.specs.Base.{Base}
 use Rattle.ih_words.specs.Start.{StartCall}
 use Rattle.ih_shelf.specs.Outside.{Names}
 use Rattle.ih_inputs.specs.Reading.{HasInputs}
+use Rattle.ih_parfill.specs.Starts.{started}
 use Rattle.ih_top.specs.Inputs.{start_inputs}
-
--- the timetable as it is, or its greedy fill
-abbrev pub started : Bool → ℕ → Draft → Timetable → Timetable
-started false hard I P = P
-started true hard I P = fill I hard P
 
 -- A search begins as the words say, on an instance and with a timetable that was read. The fill takes the weight of a
 -- broken rule from the options.

@@ -1,5 +1,5 @@
 -- The texts that the program puts out: each is one text, in one put, and ends with a line feed. Those of files that
--- can't be had or written, and of memory, are in `ih_inputs`.
+-- can't be had or written, of memory, and of a search that found none are in `ih_answers`.
 use Rattle.std.specs.Prelude.{ℕ, Bool, true, false, List, ◌++◌, codes, decimal, length}
 use Rattle.std.specs.List.{count_by}
 use Rattle.ih_tables.specs.declared.bills.Bill.{Bill}
@@ -20,9 +20,6 @@ use Rattle.ih_journal.specs.History.{is_accepted, plan_at}
 -- how the program is called
 unfoldable pub usage_text : List ℕ
 usage_text = codes "usage: solve INSTANCE OUT JOURNAL, replay INSTANCE JOURNAL OUT, salvage INSTANCE JOURNAL OUT, check INSTANCE SOLUTION, advise INSTANCE SOLUTION, chain INSTANCE OUT JOURNAL, rounds INSTANCE OUT JOURNAL, gen NUMBER OUT or demo NUMBER\n"
-
-abbrev pub none_found_text : List ℕ
-none_found_text = codes "none found\n"
 
 -- the name of a reason
 abbrev pub reason_text : Reason → List ℕ

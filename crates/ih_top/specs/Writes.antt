@@ -3,10 +3,6 @@ use Rattle.std.specs.Prelude.{◌≡◌, ◌≢◌, ℕ, List, Some}
 use Rattle.ih_words.specs.Solve.{SolveCall}
 use Rattle.ih_shelf.specs.Outside.{Names, PartOr}
 
--- each name has what it had
-abbrev pub Unchanged : Names → Names → Type 0
-Unchanged old new = (n : List ℕ) → new n ≡ old n
-
 -- each name has what it had, but for those that the call writes
 abbrev pub OthersUnchanged : SolveCall → Names → Names → Type 0
 OthersUnchanged s old new = (n : List ℕ) → n ≢ s.out → n ≢ s.journal → new n ≡ old n

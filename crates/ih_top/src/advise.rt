@@ -5,13 +5,10 @@ ghost use Rattle.ih_plan.specs.Timetable.{IsPlanOf};
 ghost use Rattle.ih_advise.specs.{Advising.advice, Texts.advice_text};
 ghost use Rattle.ih_words.specs.Advise.{IsLawfulAdvise, advise_call};
 ghost use Rattle.ih_top.specs.Advise.{AdviseEnds};
-ghost use Rattle.ih_top.specs.Answers.{Answers, HasShelfCause, IsSaid};
+ghost use Rattle.ih_answers.specs.Answers.{Answers, HasShelfCause, IsSaid};
 
-use crate::answer::Answer;
-use crate::inputs::read_inputs;
-use crate::status::Status;
-use crate::texts::out_of_memory;
 use ih_advise::advice_text;
+use ih_answers::{Answer, Status, out_of_memory, read_inputs};
 use ih_inputs::Inputs;
 use ih_shelf::{Gate, Shelf};
 use ih_words::Advise;

@@ -5,13 +5,11 @@ ghost use Rattle.ih_plan.specs.{Timetable.IsPlanOf, BillOf.bill_of};
 ghost use Rattle.ih_tables.specs.Bills.{feasible};
 ghost use Rattle.ih_validate.specs.Report.{report};
 ghost use Rattle.ih_words.specs.Check.{check_call};
-ghost use Rattle.ih_top.specs.Answers.{Answers, HasShelfCause, IsSaid, checked_status};
+ghost use Rattle.ih_answers.specs.Answers.{Answers, HasShelfCause, IsSaid};
+ghost use Rattle.ih_top.specs.Check.{checked_status};
 ghost use Rattle.ih_top.specs.{Check.CheckEnds};
 
-use crate::answer::Answer;
-use crate::inputs::read_inputs;
-use crate::status::Status;
-use crate::texts::out_of_memory;
+use ih_answers::{Answer, Status, out_of_memory, read_inputs};
 use ih_inputs::Inputs;
 use ih_shelf::Shelf;
 use ih_validate::{bill, report};

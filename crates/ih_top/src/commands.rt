@@ -2,15 +2,16 @@
 
 ghost use Rattle.std.specs.Prelude.{Some};
 ghost use Rattle.ih_words.specs.Words.{HasLawfulOptions, command_call, OutDiffers};
-ghost use Rattle.ih_top.specs.{Answers.Answers, Answers.HasShelfCause, Ends.CallEnds, Ends.IsUntouched};
+ghost use Rattle.ih_top.specs.{Ends.CallEnds, Ends.IsUntouched};
+ghost use Rattle.ih_answers.specs.Answers.{Answers, HasShelfCause};
 
 use crate::advise::advise;
-use crate::answer::Answer;
 use crate::check::check;
 use crate::demo::demo;
 use crate::generate::write_instance;
 use crate::journals::{JournalUse, take_journal};
 use crate::searching::{Method, search_by};
+use ih_answers::Answer;
 use ih_shelf::{Gate, Shelf};
 use ih_words::Command;
 use std::alloc::Global;

@@ -1,11 +1,10 @@
 //! The command `gen`.
 
 ghost use Rattle.ih_words.specs.Generate.{gen_call};
-ghost use Rattle.ih_top.specs.{Answers.Answers, Answers.HasShelfCause, Generate.GenEnds};
+ghost use Rattle.ih_top.specs.Generate.{GenEnds};
+ghost use Rattle.ih_answers.specs.Answers.{Answers, HasShelfCause};
 
-use crate::answer::Answer;
-use crate::status::{Role, Status};
-use crate::texts::{out_of_memory, unwritten};
+use ih_answers::{Answer, Role, Status, out_of_memory, unwritten};
 use ih_gen::generate;
 use ih_shelf::Shelf;
 use ih_words::Gen;

@@ -9,10 +9,10 @@ ghost use Rattle.ih_top.specs.JournalFiles.{read_from};
 ghost use Rattle.ih_top.specs.JournalHeading.{HasNoHeading, IsBegun, base_headed};
 
 use crate::journal_lines::first_line;
-use crate::starts::{Begun, begin};
 use ih_desk::Given;
 use ih_inputs::Inputs;
 use ih_journal::{Options, parse_head};
+use ih_parfill::{Begun, begin};
 use ih_words::Start;
 use std::alloc::{AllocError, Global};
 use std::sync::Wait;

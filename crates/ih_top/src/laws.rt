@@ -1,7 +1,9 @@
 //! Laws of journals and of whole calls, each on a function that does nothing. A law that follows from others calls
 //! theirs.
 
-ghost use Rattle.ih_top.specs.Laws.{ChainJournalsAreHeadless, ChainJournalsFit, ChainsAreRefused, DemosShowTheSame};
+ghost use Rattle.ih_top.specs.Laws.{ChainJournalsAreHeadless, ChainJournalsFit, ChainsAreRefused, ChainsAreToldApart};
+ghost use Rattle.ih_top.specs.Laws.{DemosShowTheSame, RoundJournalsFit, RoundsAreSalvaged, RoundsAreToldApart};
+ghost use Rattle.ih_top.specs.Laws.{SolvesAreToldApart};
 ghost use Rattle.ih_top.specs.Laws.{JournalsFit, SolvesReplayTheSame, SolvesWithNoneReplayTheSame, LoneRoundsAreAlike};
 ghost use Rattle.ih_top.specs.Laws.{LoneRoundsEndAlike, LoneSearchesAreAlike, LoneSearchesDoTheSame};
 ghost use Rattle.ih_top.specs.Laws.{LoneSearchesEndAlike, RefusedLinesAreNotFull, RoundsAreRefused};
@@ -15,11 +17,13 @@ ghost use Rattle.ih_journal.specs.declared.settings.TheConstants.{MAX_RETRIES, M
 ghost use Rattle.ih_words.specs.{declared.chain.TheConstants.MAX_LENGTH, declared.rounds.TheConstants.MAX_ROUNDS};
 ghost use Rattle.ih_words.specs.{declared.start.TheConstants.MAX_FREEZE};
 
-use ih_cellbook::legal_journals_are_short;
-use ih_chain::chain_journals_are_short;
+use ih_cellbook::{journals_tell_searches_apart, legal_journals_are_short};
+use ih_chain::{chain_journals_are_short, chain_journals_tell_searches_apart};
 use ih_replay::{
     legal_journals_are_taken, legal_journals_differ, taken_lines_are_of_legal_histories,
 };
+use ih_rounds::{journals_tell_rounds_apart, round_journals_are_short};
+use ih_words::named_calls_are_within_limits;
 
 /// Lines that are refused are those of no full history.
 pub fn refused_lines_are_not_full()
@@ -73,17 +77,36 @@ pub fn chains_are_refused()
     ensures fits { ChainJournalsFit }
     ensures refused { ChainsAreRefused }
 {
+    named_calls_are_within_limits();
     chain_journals_are_short();
 }
 
-/// The journals of two rounds or more, one after the other, are refused by `replay` at the second heading, with no
-/// fault and memory enough, where they are no longer than a journal's file may be.
+/// The journals of rounds, one after the other, are no longer than a journal's file may be. With no fault and memory
+/// enough, `replay` refuses those of two rounds or more at the second heading, and `salvage` takes the history of the
+/// first: it writes the best of that round, and says that, or that it has none.
 pub fn rounds_are_refused()
-    ensures { RoundsAreRefused }
+    ensures fits { RoundJournalsFit }
+    ensures refused { RoundsAreRefused }
+    ensures salvaged { RoundsAreSalvaged }
 {
+    named_calls_are_within_limits();
+    round_journals_are_short();
     legal_journals_are_taken();
     legal_journals_differ();
     taken_lines_are_of_legal_histories();
+}
+
+/// A journal tells the search: two calls of one command, over instances with the same bytes, that left the same journal
+/// had the same options and made the same history, with however many workers, and whatever they began with.
+pub fn journals_tell_calls_apart()
+    ensures solve { SolvesAreToldApart }
+    ensures chain { ChainsAreToldApart }
+    ensures rounds { RoundsAreToldApart }
+{
+    named_calls_are_within_limits();
+    journals_tell_searches_apart();
+    chain_journals_tell_searches_apart();
+    journals_tell_rounds_apart();
 }
 
 /// The limits of words and files are these numbers: where a definition speaks of them by name, a changed constant would

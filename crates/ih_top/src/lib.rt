@@ -2,13 +2,11 @@
 #![tactic(auto)]
 
 mod advise;
-mod answer;
 mod chain;
 mod check;
 mod commands;
 mod demo;
 mod generate;
-mod inputs;
 mod journal_heading;
 mod journal_lines;
 mod journals;
@@ -23,15 +21,15 @@ mod salvage;
 mod searching;
 mod solve;
 mod starts;
-mod status;
 mod texts;
 mod writer;
 
+pub use ih_answers::{Role, Status};
 pub use laws::{
-    chains_are_refused, limits_are_these, lone_searches_are_alike, refused_lines_are_not_full,
-    rounds_are_refused, solves_replay_the_same, whole_lines_are_salvaged,
+    chains_are_refused, journals_tell_calls_apart, limits_are_these, lone_searches_are_alike,
+    refused_lines_are_not_full, rounds_are_refused, solves_replay_the_same,
+    whole_lines_are_salvaged,
 };
 pub use limits::MAX_JOURNAL;
 pub use rounds_output::search_at_desk;
 pub use running::run;
-pub use status::{Role, Status};

@@ -1,12 +1,12 @@
 //! What a journal comes to, and how that is written.
 
 ghost use Rattle.std.specs.Prelude.{◌≡◌};
-ghost use Rattle.ih_top.specs.{Answers.Answers, Answers.HasShelfCause, Outcomes.OutcomeEnds};
+ghost use Rattle.ih_top.specs.Outcomes.{OutcomeEnds};
+ghost use Rattle.ih_answers.specs.Answers.{Answers, HasShelfCause};
 
-use crate::answer::Answer;
 use crate::output::BestOutput;
-use crate::status::{Role, Status};
-use crate::texts::{journal_refused, none_found, unwritten};
+use crate::texts::journal_refused;
+use ih_answers::{Answer, Role, Status, none_found, unwritten};
 use ih_journal::{JournalRefusal, Reason};
 use ih_shelf::Shelf;
 use std::alloc::Global;

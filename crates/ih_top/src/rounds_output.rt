@@ -13,7 +13,7 @@ use ih_cellbook::accepted_prices_are_exact;
 use ih_desk::Given;
 use ih_journal::{Entry, Options};
 use ih_plan::Plan;
-use ih_rounds::{RoundsEnd, SearchBy, rounds};
+use ih_rounds::{RoundsEnd, rounds_by};
 use ih_shelf::Gate;
 use ih_solution::write_solution;
 use ih_tables::Instance;
@@ -117,24 +117,22 @@ pub fn make_rounds_output<R: Threads + Wait + Sync, G: Gate>(
     // For the proof alone: the seed has 64 bits, and accepted prices are exact.
     let _seed = seed_of(&given.options);
     accepted_prices_are_exact();
-    let mut searcher = SearchBy {
-        search: |alloc: Global, inst: &Instance, start: &Plan, options: &Options| -> Result<
-            Vec<Entry>,
-            AllocError,
-        >
-            requires { IsPlanOf inst.now.draft start.now × IsLawful options.now }
-            ensures { IfOk result (λ v. IsFullFrom inst.entry.now.draft start.entry.now options.entry.now v.items) }
-        { search_at_desk(rt, alloc, inst, start, options, gate) },
-    };
+    let search = |alloc: Global, inst: &Instance, start: &Plan, options: &Options| -> Result<
+        Vec<Entry>,
+        AllocError,
+    >
+        requires { IsPlanOf inst.now.draft start.now × IsLawful options.now }
+        ensures { IfOk result (λ v. IsFullFrom inst.entry.now.draft start.entry.now options.entry.now v.items) }
+    { search_at_desk(rt, alloc, inst, start, options, gate) };
     let mut journal = Vec::new(alloc);
-    let end = rounds(
+    let end = rounds_by(
         rt,
         alloc,
         given.inst,
         given.start,
         &given.options,
         count,
-        &mut searcher,
+        search,
         &mut journal,
     )?;
     let best = best_of_rounds(alloc, given.inst, &end)?;

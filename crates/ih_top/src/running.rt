@@ -2,15 +2,15 @@
 
 ghost use Rattle.std.specs.Prelude.{map, string_bytes};
 ghost use Rattle.ih_words.specs.Words.{call_of};
-ghost use Rattle.ih_inputs.specs.Texts.{ReceivedPart};
-ghost use Rattle.ih_top.specs.Answers.{HasShelfCause};
-ghost use Rattle.ih_top.specs.Ends.{Received, HasCause, IsComplete, IsUntouched, Leaves};
-ghost use Rattle.ih_shelf.specs.Outside.{Rose};
+ghost use Rattle.ih_answers.specs.Texts.{ReceivedPart};
+ghost use Rattle.ih_answers.specs.Answers.{HasShelfCause};
+ghost use Rattle.ih_top.specs.Ends.{IsComplete, IsUntouched, Leaves};
+ghost use Rattle.ih_answers.specs.Ends.{Received, HasCause};
+ghost use Rattle.ih_shelf.specs.Outside.{IfTold, IsOnePutAtMost, Rose};
 
-use crate::answer::{conclude, conclude_memory};
 use crate::commands::perform;
-use crate::status::Status;
 use crate::texts::usage;
+use ih_answers::{Status, conclude, conclude_memory};
 use ih_shelf::{Gate, Shelf, Sink};
 use ih_words::{WordsError, read_words};
 use std::alloc::Global;
@@ -36,6 +36,9 @@ pub fn run<R: Files + Print + Threads + Wait + Sync, S: Shelf, O: Sink, G: Gate>
         (HasShelfCause S.Shelf shelf.old shelf.new)
         (Received result (O.text out.old) (O.text out.new) (O.faults out.old) (O.faults out.new))
         (ReceivedPart (O.text out.old) (O.text out.new) (O.lacks out.old) (O.lacks out.new)) result }
+
+    // At most one text is put out, in one put.
+    ensures once { IfTold IsOnePutAtMost (O.puts out.old) (O.puts out.new) }
 
     // Where the words name no call, and in a demo, no file is so much as read.
     ensures untouched { IsUntouched (call_of (map string_bytes words.now)) shelf.old shelf.new }

@@ -1,43 +1,15 @@
-//! The answers that say one line, and the one that memory ran out, which carries no text.
+//! The answers of this program alone that say one line.
 
-ghost use Rattle.std.specs.Prelude.{◌≡◌, Some, string_bytes};
-ghost use Rattle.ih_inputs.specs.Texts.{instance_refused_text, solution_refused_text, too_long_text, unread_text};
-ghost use Rattle.ih_inputs.specs.Texts.{unwritten_text};
-ghost use Rattle.ih_top.specs.Texts.{journal_refused_text, none_found_text, reason_text, usage_text};
-ghost use Rattle.ih_top.specs.Answers.{IsSaid, IsSaidOf, IsUnwritten};
+ghost use Rattle.std.specs.Prelude.{◌≡◌};
+ghost use Rattle.ih_top.specs.Texts.{journal_refused_text, reason_text, usage_text};
+ghost use Rattle.ih_answers.specs.Answers.{IsSaid};
 
-use crate::answer::Answer;
-use crate::status::{Role, Status};
+use ih_answers::{Answer, Status, said};
 use ih_journal::{JournalRefusal, Reason};
-use ih_shelf::WriteError;
-use ih_tables::Refusal;
-use std::alloc::{AllocError, Global};
-
-/// Memory ran out.
-pub fn out_of_memory(alloc: Global) -> Answer
-    ensures { result.status ≡ Status.OutOfMemory }
-{
-    Answer {
-        status: Status::OutOfMemory,
-        text: Vec::new(alloc),
-    }
-}
-
-// A status with its text, where there was memory to make that.
-fn said(alloc: Global, status: Status, text: Result<String, AllocError>) -> Answer
-    ensures { IsSaidOf string_bytes status text result }
-{
-    match text {
-        Ok(text) => Answer {
-            status,
-            text: text.into_bytes(),
-        },
-        Err(_) => out_of_memory(alloc),
-    }
-}
+use std::alloc::Global;
 
 /// The words name no call.
-#[tactic(auto, using(crate::proofs::Saying::said_by), unfolding(crate::specs::Texts::usage_text))]
+#[tactic(auto, using(ih_answers::proofs::Saying::said_by), unfolding(crate::specs::Texts::usage_text))]
 pub fn usage(alloc: Global) -> Answer
     ensures { IsSaid Status.Usage usage_text result }
 {
@@ -46,42 +18,6 @@ pub fn usage(alloc: Global) -> Answer
         "usage: solve INSTANCE OUT JOURNAL, replay INSTANCE JOURNAL OUT, salvage INSTANCE JOURNAL OUT, check INSTANCE SOLUTION, advise INSTANCE SOLUTION, chain INSTANCE OUT JOURNAL, rounds INSTANCE OUT JOURNAL, gen NUMBER OUT or demo NUMBER\n",
     );
     said(alloc, Status::Usage, text)
-}
-
-/// A file couldn't be read.
-#[tactic(auto, using(crate::proofs::Saying::said_by))]
-pub fn unread(alloc: Global, role: Role, name: &str) -> Answer
-    ensures { IsSaid (Status.ReadFault role) (unread_text name.now) result }
-{
-    let text = format!(in alloc; "cannot read {name}\n");
-    said(alloc, Status::ReadFault(role), text)
-}
-
-/// A file is longer than its limit.
-#[tactic(auto, using(crate::proofs::Saying::said_by))]
-pub fn too_long(alloc: Global, role: Role, name: &str) -> Answer
-    ensures { IsSaid (Status.TooLong role) (too_long_text name.now) result }
-{
-    let text = format!(in alloc; "too long: {name}\n");
-    said(alloc, Status::TooLong(role), text)
-}
-
-/// The instance is refused.
-#[tactic(auto, using(crate::proofs::Saying::said_by))]
-pub fn instance_refused(alloc: Global, refusal: Refusal) -> Answer
-    ensures { IsSaid (Status.InstanceRefused refusal) (instance_refused_text refusal) result }
-{
-    let text = format!(in alloc; "instance refused: {refusal}\n");
-    said(alloc, Status::InstanceRefused(refusal), text)
-}
-
-/// The start is refused, or the solution that is to be checked.
-#[tactic(auto, using(crate::proofs::Saying::said_by))]
-pub fn solution_refused(alloc: Global, refusal: Refusal) -> Answer
-    ensures { IsSaid (Status.StartRefused refusal) (solution_refused_text refusal) result }
-{
-    let text = format!(in alloc; "solution refused: {refusal}\n");
-    said(alloc, Status::StartRefused(refusal), text)
 }
 
 fn reason_name(reason: Reason) -> &'static str
@@ -104,7 +40,7 @@ fn reason_name(reason: Reason) -> &'static str
 }
 
 /// The journal is refused.
-#[tactic(auto, using(crate::proofs::Saying::said_by))]
+#[tactic(auto, using(ih_answers::proofs::Saying::said_by))]
 pub fn journal_refused(alloc: Global, refusal: JournalRefusal) -> Answer
     ensures { IsSaid (Status.JournalRefused refusal) (journal_refused_text refusal) result }
 {
@@ -112,27 +48,4 @@ pub fn journal_refused(alloc: Global, refusal: JournalRefusal) -> Answer
     let reason = reason_name(refusal.reason);
     let text = format!(in alloc; "journal refused: line {line}: {reason}\n");
     said(alloc, Status::JournalRefused(refusal), text)
-}
-
-/// No timetable of the history is feasible.
-#[tactic(auto, using(crate::proofs::Saying::said_by))]
-pub fn none_found(alloc: Global) -> Answer
-    ensures { IsSaid Status.NoneFound none_found_text result }
-{
-    let text = String::from_str(alloc, "none found\n");
-    said(alloc, Status::NoneFound, text)
-}
-
-/// A file couldn't be written, or memory ran out at it.
-#[tactic(auto, using(crate::proofs::Saying::said_by))]
-pub fn unwritten(alloc: Global, role: Role, name: &str, error: WriteError) -> Answer
-    ensures { IsUnwritten (Status.WriteFault (Some role)) (unwritten_text name.now) error result }
-{
-    match error {
-        WriteError::Fault => {
-            let text = format!(in alloc; "cannot write {name}\n");
-            said(alloc, Status::WriteFault(Some(role)), text)
-        }
-        WriteError::OutOfMemory => out_of_memory(alloc),
-    }
 }

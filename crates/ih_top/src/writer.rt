@@ -2,12 +2,11 @@
 
 ghost use Rattle.std.specs.Prelude.{◌≢◌};
 ghost use Rattle.ih_words.specs.Solve.{solve_call};
-ghost use Rattle.ih_top.specs.{Answers.Answers, Answers.HasShelfCause, Outputs.MadeEnds, Outputs.OutputEnds};
+ghost use Rattle.ih_top.specs.{Outputs.MadeEnds, Outputs.OutputEnds};
+ghost use Rattle.ih_answers.specs.Answers.{Answers, HasShelfCause};
 
-use crate::answer::Answer;
 use crate::output::Output;
-use crate::status::{Role, Status};
-use crate::texts::{none_found, out_of_memory, unwritten};
+use ih_answers::{Answer, Role, Status, none_found, out_of_memory, unwritten};
 use ih_shelf::Shelf;
 use ih_words::Solve;
 use std::alloc::{AllocError, Global};

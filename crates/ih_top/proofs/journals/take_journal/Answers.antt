@@ -1,6 +1,6 @@
 use Rattle.std.proofs.Common.{◌∙◌, arith, subst}
 use Rattle.ih_words.specs.Replay.{ReplayCall, replay_call}
-use Rattle.ih_top.specs.Answers.{Answers}
+use Rattle.ih_answers.specs.Answers.{Answers}
 use Rattle.ih_top.specs.JournalFiles.{read_from}
 use Rattle.ih_top.specs.JournalUses.{IsOutcomeFor, refused_for, said_for, taken_for}
 use Rattle.ih_top.specs.Outcomes.{OutcomeEnds}

@@ -4,6 +4,6 @@ use Rattle.ih_top.proofs.laws.chains_are_refused.Goals as goal
 pub returns : goal.returns
 returns c = record {
   headless = chains-headless;
-  fits = chains-fit c.chain_journals_are_short.ensures;
-  refused = chains-refused c.chain_journals_are_short.ensures;
+  fits = chains-fit c.named_calls_are_within_limits.ensures c.chain_journals_are_short.ensures;
+  refused = chains-refused c.named_calls_are_within_limits.ensures c.chain_journals_are_short.ensures;
 }

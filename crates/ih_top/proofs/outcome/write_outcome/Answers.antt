@@ -1,11 +1,11 @@
 use Rattle.std.proofs.Common.{◌∙◌, ap, refl, inr, Some}
 use Rattle.ih_top.specs.declared.outcome.Outcome.TheVariants.{Taken}
-use Rattle.ih_top.specs.declared.status.Status.TheVariants.{WriteFault}
-use Rattle.ih_top.specs.declared.status.Role.TheVariants.{Out}
+use Rattle.ih_answers.specs.declared.status.Status.TheVariants.{WriteFault}
+use Rattle.ih_answers.specs.declared.status.Role.TheVariants.{Out}
 use Rattle.ih_top.specs.Outcomes.{OutcomeEnds}
-use Rattle.ih_inputs.specs.Texts.{unwritten_text}
+use Rattle.ih_answers.specs.Texts.{unwritten_text}
 use Rattle.ih_top.proofs.JournalOutcomes.{outcome-answerable}
-use Rattle.ih_top.proofs.Saying.{unwritten-answer}
+use Rattle.ih_answers.proofs.Saying.{unwritten-answer}
 use Rattle.ih_top.proofs.outcome.write_outcome.Goals as goal
 
 pub returns-in-Ok-clause-ends : goal.returns-in-Ok-clause-ends

@@ -8,7 +8,7 @@ pub best_of_rounds-requires : goal.best_of_rounds-requires
 best_of_rounds-requires g c =
     let given = c.args.given.now in
     let b : Base = base_with given.inst.now.draft given.start.now given.options 0 in
-    let ends = c.in_ok-end.ensures.ends in
+    let ends = c.in_ok-end.ensures in
     fits-end b ends.run.rounds c.in_ok-end.end ends.end_is
 
 pub returns : goal.returns
@@ -16,6 +16,6 @@ returns g c =
     let given = c.args.given.now in
     let b : Base = base_with given.inst.now.draft given.start.now given.options 0 in
     output-unfrozen given.inst.now.draft given.start.now given.options given.freeze c.args.count _ c.requires.unfrozen
-    (output-of c.accepted_prices_are_exact.ensures b c.args.count None None c.new-journal.result.items c.rounds.new.journal.items c.in_ok-end.end _
+    (output-of c.accepted_prices_are_exact.ensures b c.args.count None None c.new-journal.result.items c.rounds_by.new.journal.items c.in_ok-end.end _
     (record { start = c.requires.base.start; lawful = c.requires.base.lawful }) c.seed_of-seed.ensures.small c.new-journal.ensures.items
-    c.in_ok-end.ensures.ends c.in_ok-best.ensures refl)
+    c.in_ok-end.ensures c.in_ok-best.ensures refl)

@@ -1,12 +1,14 @@
 use Rattle.std.proofs.Common.{refl, subst, sym}
 use Rattle.std.specs.Prelude.{map, string_bytes}
-use Rattle.ih_inputs.specs.Texts.{ReceivedPart}
+use Rattle.ih_answers.specs.Texts.{ReceivedPart}
 use Rattle.ih_words.specs.Words.{Call, call_of, command_call}
 use Rattle.ih_words.proofs.CallNames.{names-apart}
-use Rattle.ih_top.specs.Answers.{HasShelfCause}
-use Rattle.ih_top.specs.Ends.{CallEnds, Received, Leaves}
-use Rattle.ih_top.proofs.CommandEnds.{call-answerable, memory-leaves, told-same, untouched, usage-ended}
-use Rattle.ih_top.proofs.Saying.{ended, has-cause}
+use Rattle.ih_answers.specs.Answers.{HasShelfCause}
+use Rattle.ih_top.specs.Ends.{CallEnds, Leaves}
+use Rattle.ih_answers.specs.Ends.{Received}
+use Rattle.ih_top.proofs.CommandEnds.{call-answerable, memory-leaves, untouched, usage-ended}
+use Rattle.ih_answers.proofs.Files.{told-same}
+use Rattle.ih_answers.proofs.Saying.{ended, has-cause}
 use Rattle.ih_top.proofs.Completeness.{complete}
 use Rattle.ih_top.proofs.running.run.Goals as goal
 

@@ -1,8 +1,8 @@
 use Rattle.std.proofs.Common.{refl, subst}
 use Rattle.ih_words.specs.Solve.{SolveCall, solve_call}
-use Rattle.ih_top.specs.Answers.{Answers}
+use Rattle.ih_answers.specs.Answers.{Answers}
 use Rattle.ih_top.specs.Outputs.{MadeEnds, base_from}
-use Rattle.ih_top.proofs.CommandEnds.{told-same}
+use Rattle.ih_answers.proofs.Files.{told-same}
 use Rattle.ih_top.proofs.Methods.{made-by, unread-by}
 use Rattle.ih_top.proofs.searching.search_by.Goals as goal
 

@@ -4,17 +4,17 @@ use Rattle.std.specs.Prelude.{unwrap_or}
 use Rattle.ih_shelf.specs.Outside.{Names}
 use Rattle.ih_inputs.specs.Errors.{HasFaultCause}
 use Rattle.ih_inputs.specs.Reading.{IsUnread, InputFiles, name_in}
-use Rattle.ih_inputs.specs.Texts.{memory_text}
+use Rattle.ih_answers.specs.Texts.{memory_text}
 use Rattle.ih_inputs.specs.declared.error.InputRole.TheVariants.{Instance as InstanceInput, Solution as SolutionInput}
 use Rattle.ih_inputs.specs.declared.error.InputError.{InputError}
 use Rattle.ih_inputs.specs.declared.error.InputError.TheVariants.{ReadFault as Unreadable, TooLong as Long, InstanceRefused as NoInstance, SolutionRefused as NoSolution, OutOfMemory as NoRoom}
-use Rattle.ih_top.specs.declared.answer.Answer.{Answer}
-use Rattle.ih_top.specs.declared.status.Role.TheVariants.{Journal, Out}
-use Rattle.ih_top.specs.declared.status.Status.{Status}
-use Rattle.ih_top.specs.declared.status.Status.TheVariants.{Done, Usage, ReadFault, InstanceRefused, StartRefused, NoneFound, WriteFault, OutOfMemory, JournalRefused, Infeasible, TooLong}
-use Rattle.ih_top.specs.Answers.{Answers, HasFileCause}
-use Rattle.ih_top.specs.Inputs.{EndsUnread, IsUnreadInputs, role_in, unread_said, unread_status}
-use Rattle.ih_top.proofs.Saying.{IsAnswerable, said-answer, said-status, unsaid-by}
+use Rattle.ih_answers.specs.declared.answer.Answer.{Answer}
+use Rattle.ih_answers.specs.declared.status.Role.TheVariants.{Journal, Out}
+use Rattle.ih_answers.specs.declared.status.Status.{Status}
+use Rattle.ih_answers.specs.declared.status.Status.TheVariants.{Done, Usage, ReadFault, InstanceRefused, StartRefused, NoneFound, WriteFault, OutOfMemory, JournalRefused, Infeasible, TooLong}
+use Rattle.ih_answers.specs.Answers.{Answers, HasFileCause}
+use Rattle.ih_answers.specs.Inputs.{EndsUnread, IsUnreadInputs, role_in, unread_said, unread_status}
+use Rattle.ih_answers.proofs.Saying.{IsAnswerable, said-answer, said-status, unsaid-by}
 
 -- ---- their statuses
 
@@ -66,7 +66,7 @@ module _ (files : Option Names) (r : InputFiles) where
 
   -- ---- the answer
 
-  unread-answerable : IsAnswerable (EndsUnread files r)
+  pub unread-answerable : IsAnswerable (EndsUnread files r)
   unread-answerable = record {
     unsaid = λ status text some h. unsaid-by (EndsUnread files r) text (λ done. absurd (unread-only Done text done))
         (λ broken. absurd (unread-only Infeasible text broken)) status h;

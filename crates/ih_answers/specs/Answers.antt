@@ -1,5 +1,5 @@
 -- A command's answer, and what its status becomes as its text is put out.
-use Rattle.std.specs.Prelude.{◌≡◌, ◌≢◌, ℕ, ◌⊎◌, Bool, true, false, List, [], Some, None, Result, Ok, Err}
+use Rattle.std.specs.Prelude.{◌≡◌, ◌≢◌, ℕ, ◌⊎◌, List, [], Some, None, Result, Ok, Err}
 use Rattle.ih_shelf.specs.Outside.{Rose}
 use Rattle.ih_shelf.specs.declared.outside.Shelf.{Ghosts as ShelfGhosts}
 use Rattle.ih_shelf.specs.declared.outside.Sink.{Ghosts as SinkGhosts}
@@ -7,22 +7,17 @@ use Rattle.ih_shelf.specs.declared.outside.WriteError.{WriteError}
 use Rattle.ih_shelf.specs.declared.outside.WriteError.TheVariants.{Fault, OutOfMemory as NoMemory}
 use Rattle.ih_shelf.specs.declared.outside.ReadError.{ReadError}
 use Rattle.ih_shelf.specs.declared.outside.ReadError.TheVariants.{Fault as Unreadable, TooLong as Long, OutOfMemory as NoRoom}
-use Rattle.ih_top.specs.declared.answer.Answer.{Answer}
-use Rattle.ih_top.specs.declared.status.Status.{Status}
-use Rattle.ih_top.specs.declared.status.Status.TheVariants.{Done, ReadFault, WriteFault, OutOfMemory, Infeasible, TooLong}
-use Rattle.ih_top.specs.declared.status.Role.{Role}
-use Rattle.ih_inputs.specs.Texts.{memory_text, unread_text, too_long_text}
+use Rattle.ih_answers.specs.declared.answer.Answer.{Answer}
+use Rattle.ih_answers.specs.declared.status.Status.{Status}
+use Rattle.ih_answers.specs.declared.status.Status.TheVariants.{Done, ReadFault, WriteFault, OutOfMemory, Infeasible, TooLong}
+use Rattle.ih_answers.specs.declared.status.Role.{Role}
+use Rattle.ih_answers.specs.Texts.{memory_text, unread_text, too_long_text}
 
 -- a status whose text couldn't be put out
 abbrev pub unsaid : Status → Status
 unsaid Done = WriteFault None
 unsaid Infeasible = WriteFault None
 unsaid status = status
-
--- the status of a check whose report is made
-abbrev pub checked_status : Bool → Status
-checked_status true = Done
-checked_status false = Infeasible
 
 -- The answer has a status and a text of which this holds; where memory ran out, the text is the one that says so.
 abbrev pub Answers : (Status → List ℕ → Type 0) → Answer → Type 0

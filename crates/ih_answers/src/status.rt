@@ -1,7 +1,7 @@
 //! How a call of the program ends.
 
 ghost use Rattle.std.specs.Prelude.{◌≡◌};
-ghost use Rattle.ih_top.specs.Codes.{code_of};
+ghost use Rattle.ih_answers.specs.Codes.{code_of};
 
 use ih_journal::JournalRefusal;
 use ih_tables::Refusal;

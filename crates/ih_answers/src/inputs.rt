@@ -4,8 +4,8 @@ ghost use Rattle.std.specs.Prelude.{◌≡◌, IfOk, IfErr};
 ghost use Rattle.ih_plan.specs.Timetable.{IsPlanOf};
 ghost use Rattle.ih_inputs.specs.Errors.{HasOnlyRead};
 ghost use Rattle.ih_inputs.specs.Reading.{files_of, HasInputs};
-ghost use Rattle.ih_top.specs.Answers.{Answers, HasShelfCause, IsUnreadFile};
-ghost use Rattle.ih_top.specs.Inputs.{EndsUnread, IsUnreadInputs, role_in};
+ghost use Rattle.ih_answers.specs.Answers.{Answers, HasShelfCause, IsUnreadFile};
+ghost use Rattle.ih_answers.specs.Inputs.{EndsUnread, IsUnreadInputs, role_in};
 
 use crate::answer::Answer;
 use crate::status::Role;

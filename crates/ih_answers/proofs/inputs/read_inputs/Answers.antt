@@ -1,6 +1,6 @@
 use Rattle.ih_inputs.specs.Reading.{InputFiles, files_of}
-use Rattle.ih_top.proofs.Stopping.{stopped-answer, stopped-cause}
-use Rattle.ih_top.proofs.inputs.read_inputs.Goals as goal
+use Rattle.ih_answers.proofs.Stopping.{stopped-answer, stopped-cause}
+use Rattle.ih_answers.proofs.inputs.read_inputs.Goals as goal
 
 pub returns-in-Err-clause-unread : goal.returns-in-Err-clause-unread
 returns-in-Err-clause-unread g c =

@@ -3,12 +3,12 @@ use Rattle.std.proofs.Common.{◌≡◌, ℕ, refl, sym, ◌∙◌, subst, inl, 
 use Rattle.std.specs.Prelude.{◌≢◌, ◌⊎◌, Result, Ok, Err, IfOk}
 use Rattle.ih_shelf.specs.declared.outside.WriteError.{WriteError}
 use Rattle.ih_shelf.specs.declared.outside.WriteError.TheVariants.{Fault, OutOfMemory as NoMemory}
-use Rattle.ih_top.specs.declared.answer.Answer.{Answer}
-use Rattle.ih_top.specs.declared.status.Status.{Status}
-use Rattle.ih_top.specs.declared.status.Status.TheVariants.{Done, ReadFault, WriteFault, OutOfMemory, Infeasible}
-use Rattle.ih_inputs.specs.Texts.{memory_text}
-use Rattle.ih_top.specs.Ends.{Ends, HasCause}
-use Rattle.ih_top.specs.Answers.{unsaid, Answers, IsConcluded, HasPutCause, HasFileCause, IsSaid, IsSaidOf, IsUnwritten}
+use Rattle.ih_answers.specs.declared.answer.Answer.{Answer}
+use Rattle.ih_answers.specs.declared.status.Status.{Status}
+use Rattle.ih_answers.specs.declared.status.Status.TheVariants.{Done, ReadFault, WriteFault, OutOfMemory, Infeasible}
+use Rattle.ih_answers.specs.Texts.{memory_text}
+use Rattle.ih_answers.specs.Ends.{Ends, HasCause}
+use Rattle.ih_answers.specs.Answers.{unsaid, Answers, IsConcluded, HasPutCause, HasFileCause, IsSaid, IsSaidOf, IsUnwritten}
 
 -- ---- the making of a text
 
@@ -49,6 +49,13 @@ pub answers-weaker : (small large : Status → List ℕ → Type 0) → ((status
     → (a : Answer) → Answers small a → Answers large a
 answers-weaker small large f a (inl (memory, h)) = inl (memory, f OutOfMemory memory_text h)
 answers-weaker small large f a (inr h) = inr (f a.status a.text.items h)
+
+-- a call that leaves the files as they are, and has an end of a family beside
+pub beside : (kept : Type 0) (ends : Status → List ℕ → Type 0) → IsAnswerable ends → IsAnswerable (λ status text. kept × ends status text)
+beside kept ends able = record {
+  unsaid = λ status text some h. (h.0, able.unsaid status text some h.1);
+  memory = λ status text h. (h.0, able.memory status text h.1);
+}
 
 -- ---- what is put out
 

@@ -1,9 +1,10 @@
 //! A command's answer, and how it is said.
 
 ghost use Rattle.std.specs.Prelude.{◌≡◌, ◌≤◌, ◌⊎◌};
-ghost use Rattle.ih_top.specs.Answers.{unsaid, IsConcluded, HasSinkCause};
-ghost use Rattle.ih_inputs.specs.Texts.{memory_text, ReceivedPart};
-ghost use Rattle.ih_top.specs.Ends.{Received};
+ghost use Rattle.ih_answers.specs.Answers.{unsaid, IsConcluded, HasSinkCause};
+ghost use Rattle.ih_answers.specs.Texts.{memory_text, ReceivedPart};
+ghost use Rattle.ih_answers.specs.Ends.{Received};
+ghost use Rattle.ih_shelf.specs.Outside.{IfTold, IsOnePutAtMost};
 
 use crate::status::Status;
 use ih_shelf::{Sink, WriteError};
@@ -26,10 +27,12 @@ fn unsaid(status: Status) -> Status
 }
 
 /// Says that memory ran out, as far as that goes.
+#[tactic(auto, using(crate::proofs::Puts::one_put, crate::proofs::Puts::none_put))]
 pub fn conclude_memory<R: Print, O: Sink>(rt: &R, out: &mut O) -> Status
     ensures status { result ≡ Status.OutOfMemory }
     ensures said { Received result (O.text out.old) (O.text out.new) (O.faults out.old) (O.faults out.new) memory_text
         ⊎ ReceivedPart (O.text out.old) (O.text out.new) (O.lacks out.old) (O.lacks out.new) memory_text }
+    ensures once { IfTold IsOnePutAtMost (O.puts out.old) (O.puts out.new) }
     ensures count { O.faults out.old ≤ O.faults out.new }
 {
     match out.put(rt, b"out of memory\n") {
@@ -39,10 +42,12 @@ pub fn conclude_memory<R: Print, O: Sink>(rt: &R, out: &mut O) -> Status
 }
 
 /// Puts the answer's text, in one put, and gives the status of the call. An empty text isn't put.
+#[tactic(auto, using(crate::proofs::Puts::one_put, crate::proofs::Puts::none_put))]
 pub fn conclude<R: Print, O: Sink>(rt: &R, out: &mut O, answer: &Answer) -> Status
     ensures said { IsConcluded answer.now.status answer.now.text.items
         (Received result (O.text out.old) (O.text out.new) (O.faults out.old) (O.faults out.new))
         (ReceivedPart (O.text out.old) (O.text out.new) (O.lacks out.old) (O.lacks out.new)) result }
+    ensures once { IfTold IsOnePutAtMost (O.puts out.old) (O.puts out.new) }
     ensures cause { HasSinkCause O.Sink out.old out.new answer.now.status result }
 {
     if let Status::OutOfMemory = answer.status {

@@ -1,0 +1,44 @@
+-- How a call ends that comes no further than the files that it reads before anything else.
+use Rattle.std.specs.Prelude.{◌≡◌, ℕ, List, Option}
+use Rattle.ih_shelf.specs.Outside.{Names}
+use Rattle.ih_inputs.specs.Reading.{InputFiles, IsUnread, name_in}
+use Rattle.ih_inputs.specs.declared.error.InputRole.{InputRole}
+use Rattle.ih_inputs.specs.declared.error.InputRole.TheVariants.{Instance as InstanceInput, Solution as SolutionInput}
+use Rattle.ih_inputs.specs.declared.error.InputError.{InputError}
+use Rattle.ih_inputs.specs.declared.error.InputError.TheVariants.{ReadFault as Unreadable, TooLong as Long, InstanceRefused as NoInstance, SolutionRefused as NoSolution, OutOfMemory as NoRoom}
+use Rattle.ih_answers.specs.declared.answer.Answer.{Answer}
+use Rattle.ih_answers.specs.declared.status.Role.{Role}
+use Rattle.ih_answers.specs.declared.status.Role.TheVariants.{Instance, Solution}
+use Rattle.ih_answers.specs.declared.status.Status.{Status}
+use Rattle.ih_answers.specs.declared.status.Status.TheVariants.{ReadFault, InstanceRefused, StartRefused, OutOfMemory, TooLong}
+use Rattle.ih_answers.specs.Answers.{IsSaid}
+use Rattle.ih_answers.specs.Texts.{unread_text, too_long_text, instance_refused_text, solution_refused_text, memory_text}
+
+abbrev pub role_in : InputRole → Role
+role_in InstanceInput = Instance
+role_in SolutionInput = Solution
+
+-- the status of a call whose files can't be had
+abbrev pub unread_status : InputError → Status
+unread_status (Unreadable role) = ReadFault (role_in role)
+unread_status (Long role) = TooLong (role_in role)
+unread_status (NoInstance e) = InstanceRefused e
+unread_status (NoSolution e) = StartRefused e
+unread_status NoRoom = OutOfMemory
+
+-- what such a call says
+abbrev pub unread_said : InputFiles → InputError → List ℕ
+unread_said r (Unreadable role) = unread_text (name_in r role)
+unread_said r (Long role) = too_long_text (name_in r role)
+unread_said r (NoInstance e) = instance_refused_text e
+unread_said r (NoSolution e) = solution_refused_text e
+unread_said r NoRoom = memory_text
+
+-- the files can't be had: the status and the text say why
+abbrev pub EndsUnread : Option Names → InputFiles → Status → List ℕ → Type 0
+EndsUnread files r status text =
+    (e : InputError) × (status ≡ unread_status e) × (text ≡ unread_said r e) × IsUnread files r e
+
+-- the answer says so, or memory ran out
+abbrev pub IsUnreadInputs : InputFiles → InputError → Answer → Type 0
+IsUnreadInputs r e a = IsSaid (unread_status e) (unread_said r e) a

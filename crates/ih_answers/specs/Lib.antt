@@ -1,0 +1,5 @@
+pub mod Answers
+pub mod Codes
+pub mod Ends
+pub mod Inputs
+pub mod Texts

@@ -1,0 +1,15 @@
+//! How a call ends, below each program that does calls: its status, the text that says so, and how that is put out.
+#![tactic(auto)]
+
+mod answer;
+mod inputs;
+mod status;
+mod texts;
+
+pub use answer::{Answer, conclude, conclude_memory};
+pub use inputs::{read_inputs, unread_file};
+pub use status::{Role, Status};
+pub use texts::{
+    instance_refused, none_found, out_of_memory, said, solution_refused, too_long, unread,
+    unwritten,
+};
