@@ -1,9 +1,9 @@
 //! A search, round by round.
 
-ghost use Rattle.std.specs.Prelude.{◌≡◌, ◌≤◌, IfOk, All, length, map};
+ghost use Rattle.std.specs.Prelude.{◌≡◌, ◌≤◌, false, IfOk, All, length, map};
 ghost use Rattle.ih_plan.specs.Timetable.{IsPlanOf};
 ghost use Rattle.ih_plan.specs.BillOf.{bill_of};
-ghost use Rattle.ih_improve.specs.Better.{best_of, better_of};
+ghost use Rattle.ih_improve.specs.Better.{best_of, better_of, is_better};
 ghost use Rattle.ih_improve.specs.Keeping.{IsOf, best_met};
 
 use crate::comparing::is_better;
@@ -95,18 +95,28 @@ fn take_better(inst: &Instance, hard: u32, walker: &Walker<'_>, kept: &mut Plan,
     }
 }
 
-// Takes over the best of what the workers found, the first on a tie, where that is better.
-fn take_best(inst: &Instance, hard: u32, workers: &[Worker<'_>], kept: &mut Plan, bill: &mut Bill)
+// Takes over the best of what the workers found, the first on a tie, where that is better. Answers whether it was.
+fn take_best(
+    inst: &Instance,
+    hard: u32,
+    workers: &[Worker<'_>],
+    kept: &mut Plan,
+    bill: &mut Bill,
+) -> bool
     requires hard { hard ≤ 1000000 }
     requires workers { All (IsOf inst.now.draft) workers.now }
     requires kept { IsPlanOf inst.now.draft kept.old }
     requires bill { bill.old ≡ bill_of inst.now.draft kept.old }
     ensures kept { kept.new ≡ best_of inst.now.draft hard kept.old (map best_met workers.now) }
     ensures bill { bill.new ≡ bill_of inst.now.draft kept.new }
+    ensures better { result ≡ is_better hard inst.now.draft.weights bill.new bill.old }
+    ensures same { result ≡ false → kept.new ≡ kept.old }
 {
+    let before = *bill;
     for worker in workers {
         take_better(inst, hard, &worker.walker, kept, bill);
     }
+    is_better(inst, hard, bill, &before)
 }
 
 impl<'a> Improver<'a> {
@@ -114,6 +124,7 @@ impl<'a> Improver<'a> {
     ghost use Rattle.ih_tables.specs.Bills.{cost, feasible};
     ghost use Rattle.ih_plan.specs.Timetable.{IsPlanOf};
     ghost use Rattle.ih_plan.specs.BillOf.{bill_of};
+    ghost use Rattle.ih_improve.specs.Better.{is_better};
     ghost use Rattle.ih_improve.specs.Improving.{IsSound, Leads, led_to};
     ghost use Rattle.ih_improve.specs.Following.{IsNoDearer};
     ghost use Rattle.ih_improve.specs.Legs.{Leaves};
@@ -150,12 +161,16 @@ impl<'a> Improver<'a> {
     }
 
     /// One round: each worker goes on from the best timetable so far by attempts of its own, in a thread of its own
-    /// where one can be started, and the best of all is kept. It is never dearer than the one before.
-    pub fn round<R: Threads + Sync>(&mut self, rt: &R)
+    /// where one can be started, and the best of all is kept. It is never dearer than the one before. Answers whether it
+    /// is better than that; else it is the same.
+    pub fn round<R: Threads + Sync>(&mut self, rt: &R) -> bool
         requires { self.old.rounds < self.old.settings.rounds }
         ensures search { self.new ≡ led_to self.old self.new.kept }
         ensures best { Leads Leaves self.old self.new.kept }
         ensures no_dearer { IsNoDearer self.old.instance self.old.kept self.new.kept }
+        ensures better { result ≡ is_better self.old.settings.hard self.old.instance.weights
+            (bill_of self.old.instance self.new.kept) (bill_of self.old.instance self.old.kept) }
+        ensures same { result ≡ false → self.new.kept ≡ self.old.kept }
     {
         let leg = Leg::new(
             self.inst,
@@ -173,7 +188,7 @@ impl<'a> Improver<'a> {
             self.workers.as_slice(),
             &mut self.kept,
             &mut self.bill,
-        );
+        )
     }
 
     /// The best timetable so far with its cost, where it is feasible. What holds of it is `IsSound`.

@@ -6,8 +6,8 @@ ghost use Rattle.ih_page.specs.Laws.{ListsSum, NamesHaveNoTags, TagsAreOwn};
 
 use ih_tables::Instance;
 
-/// The text of a file, as it stands in a page, begins and ends no tag and no quoted text, whatever it is, so that it ends
-/// no element that isolates it. What begins with & there is the name of a byte.
+/// The text of a file, as it stands in a page, begins and ends no tag and no quoted text, whatever it is. So it ends no
+/// element that isolates it. What begins with & there is the name of a byte.
 pub fn names_have_no_tags()
     ensures { (name : List ℕ) → NamesHaveNoTags name }
 {}

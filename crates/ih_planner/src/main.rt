@@ -1,0 +1,16 @@
+//! The program for planners: the words of its command line, real files and standard output.
+#![tactic(auto)]
+
+use ih_answers::Status;
+use ih_inputs::run_with_words;
+use ih_planning::run_planner;
+use ih_shelf::{FileShelf, OutSink};
+use std::process::ExitCode;
+
+fn main(rt: HostRuntime) -> ExitCode {
+    let mut shelf = FileShelf::new();
+    let mut out = OutSink::new();
+    run_with_words(&rt, Status::OutOfMemory.code(), |words| {
+        run_planner(&rt, rt.alloc(), words, &mut shelf, &mut out).code()
+    })
+}

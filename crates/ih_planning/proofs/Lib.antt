@@ -1,0 +1,13 @@
+pub mod BestWriting
+pub mod BoundAnswers
+pub mod CallEnds
+pub mod Completeness
+pub mod FirstWord
+pub mod ImproveCalls
+pub mod PageEnds
+pub mod Promises
+pub mod RoundSteps
+pub mod SameRounds
+pub mod SearchEnding
+pub mod SettingsRead
+pub mod WordsRead

@@ -1,0 +1,67 @@
+use Rattle.std.proofs.Common.{◌≡◌, ◌∙◌, ℕ, ◌+◌, arith, ap, sym}
+use Rattle.ih_improve.specs.Improving.{Improving}
+use Rattle.ih_answers.proofs.Later.{cause-from}
+use Rattle.ih_planning.proofs.RoundSteps.{stopped, underway-begins, underway-next}
+use Rattle.ih_planning.proofs.improving.search_all.Goals as goal
+
+pub loop-init : goal.loop-init
+loop-init g c = record {
+  count = c.requires.fresh;
+  underway = underway-begins c.args.name.now c.args.improver.now (g.S.Shelf.names c.args.shelf.now) (g.O.Sink.text c.args.out.now) c.requires.fresh;
+  reads = omega arith;
+  writes = omega arith;
+  puts = omega arith;
+  lacks = omega arith;
+}
+
+pub one_round-requires-clause-instance : goal.one_round-requires-clause-instance
+one_round-requires-clause-instance g c κs within = ap (λ (v : Improving). v.instance) c.loop.invariant.underway.is ∙ c.requires.instance
+
+pub one_round-requires-clause-rounds : goal.one_round-requires-clause-rounds
+one_round-requires-clause-rounds g c κs within = c.requires.rounds ∙ sym (ap (λ (v : Improving). v.settings.rounds) c.loop.invariant.underway.is)
+
+pub one_round-requires-clause-next : goal.one_round-requires-clause-next
+one_round-requires-clause-next g c =
+    let same = ap (λ (v : Improving). v.settings.rounds) c.loop.invariant.underway.is in
+    let asked = c.requires.rounds in
+    let count = c.loop.invariant.count in
+    omega (arith, same, asked, count)
+
+pub loop-preserved : goal.loop-preserved
+loop-preserved g c =
+    let i = c.loop.invariant in
+    record {
+      count = ap (λ (v : Improving). v.rounds) c.one_round.ensures.search ∙ ap (λ (n : ℕ). n + 1) i.count;
+      underway = underway-next c.args.name.now c.args.improver.now c.loop.improver c.one_round.new.improver (g.S.Shelf.names c.args.shelf.now)
+          (g.S.Shelf.names c.loop.shelf) (g.O.Sink.text c.args.out.now) (g.O.Sink.text c.loop.out) i.underway c.one_round.ensures.search
+          c.one_round.ensures.best c.one_round.ensures.no_dearer c.one_round.ensures.sound (g.S.Shelf.names c.one_round.new.shelf)
+          (g.O.Sink.text c.one_round.new.out) c.in_default.ensures.goes;
+      reads = omega (arith, i.reads, c.in_default.ensures.reads);
+      writes = omega (arith, i.writes, c.in_default.ensures.writes);
+      puts = omega (arith, i.puts, c.in_default.ensures.puts);
+      lacks = omega (arith, i.lacks, c.in_default.ensures.lacks);
+    }
+
+pub returns-in-Some-clause-stops : goal.returns-in-Some-clause-stops
+returns-in-Some-clause-stops g c =
+    let i = c.loop.invariant in
+    stopped c.args.name.now c.args.improver.now c.loop.improver c.one_round.new.improver (g.S.Shelf.names c.args.shelf.now) (g.S.Shelf.names c.loop.shelf)
+    (g.O.Sink.text c.args.out.now) (g.O.Sink.text c.loop.out) i.underway c.one_round.ensures.search c.one_round.ensures.best c.one_round.ensures.no_dearer
+    c.one_round.ensures.sound (g.S.Shelf.read_faults c.args.shelf.now) (g.S.Shelf.read_faults c.loop.shelf) (g.S.Shelf.read_faults c.one_round.new.shelf)
+    (g.S.Shelf.write_faults c.args.shelf.now) (g.S.Shelf.write_faults c.loop.shelf) (g.S.Shelf.write_faults c.one_round.new.shelf)
+    (g.O.Sink.faults c.args.out.now) (g.O.Sink.faults c.loop.out) (g.O.Sink.faults c.one_round.new.out) (g.O.Sink.lacks c.args.out.now)
+    (g.O.Sink.lacks c.loop.out) (g.O.Sink.lacks c.one_round.new.out) i.reads i.writes i.puts i.lacks (g.S.Shelf.names c.one_round.new.shelf)
+    (g.O.Sink.text c.one_round.new.out) c.in-Some.status c.in-Some.ensures.ends
+
+pub returns-in-Some-clause-cause : goal.returns-in-Some-clause-cause
+returns-in-Some-clause-cause g c =
+    let i = c.loop.invariant in
+    cause-from (g.S.Shelf.read_faults c.args.shelf.now) (g.S.Shelf.read_faults c.loop.shelf) (g.S.Shelf.read_faults c.one_round.new.shelf)
+    (g.S.Shelf.write_faults c.args.shelf.now) (g.S.Shelf.write_faults c.loop.shelf) (g.S.Shelf.write_faults c.one_round.new.shelf) i.reads i.writes
+    (g.O.Sink.faults c.args.out.now) (g.O.Sink.faults c.loop.out) (g.O.Sink.faults c.one_round.new.out) i.puts c.in-Some.status c.in-Some.ensures.cause
+
+pub returns-clause-over : goal.returns-clause-over
+returns-clause-over g c =
+    let u = c.loop.invariant.underway in
+    let all : c.loop.counter ≡ c.args.rounds = omega arith in
+    (u.rounds, u.is, sym (ap (λ (v : Improving). v.rounds) u.is) ∙ c.loop.invariant.count ∙ all ∙ c.requires.rounds, u.lines)

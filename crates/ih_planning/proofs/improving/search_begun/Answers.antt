@@ -1,0 +1,37 @@
+use Rattle.std.proofs.Common.{◌≡◌, ◌∙◌, ap, subst, sym}
+use Rattle.ih_tables.specs.declared.drafts.Draft.{Draft}
+use Rattle.ih_improve.specs.Improving.{Improving}
+use Rattle.ih_improve.specs.declared.settings.Settings.{Settings}
+use Rattle.ih_answers.specs.Answers.{HasShelfCause}
+use Rattle.ih_answers.specs.Ends.{Ends, Received}
+use Rattle.ih_answers.specs.Texts.{ReceivedPart}
+use Rattle.ih_planning.specs.Improve.{ImproveCall, improve_call}
+use Rattle.ih_planning.specs.Searching.{BegunEnds, fresh}
+use Rattle.ih_planning.proofs.ImproveCalls.{searched-ended, unstarted-ended}
+use Rattle.ih_planning.proofs.improving.search_begun.Goals as goal
+
+pub search-requires-clause-rounds : goal.search-requires-clause-rounds
+search-requires-clause-rounds g c κs within =
+    sym (ap (λ (v : Improving). v.settings.rounds) c.in-Ok.ensures ∙ ap (λ (s : Settings). s.rounds) c.settings_of-settings.ensures.asked)
+
+pub returns-in-Ok-clause-ends : goal.returns-in-Ok-clause-ends
+returns-in-Ok-clause-ends g c =
+    let call : ImproveCall = improve_call c.args.call.now in
+    let same : c.deref-inst.result.now.draft ≡ c.args.begun.now.inst.value.draft = cc in
+    searched-ended call _ _ c.search.result (HasShelfCause g.S.Shelf c.args.shelf.now c.search.new.shelf) (g.S.Shelf.names c.args.shelf.now)
+    (g.S.Shelf.names c.search.new.shelf) c.args.begun.now.inst.value.draft c.args.begun.now.start c.settings_of-settings.result c.in-Ok.improver
+    (c.in-Ok.ensures ∙ ap (λ (J : Draft). fresh J c.args.begun.now.start c.settings_of-settings.result) same) c.settings_of-settings.ensures c.search.ensures.ends
+
+pub returns-in-Err-clause-ends : goal.returns-in-Err-clause-ends
+returns-in-Err-clause-ends g c =
+    let call : ImproveCall = improve_call c.args.call.now in
+    let files = g.S.Shelf.names c.args.shelf.now in
+    let cause = HasShelfCause g.S.Shelf c.args.shelf.now c.args.shelf.now in
+    let before = g.O.Sink.text c.args.out.now in
+    let after = g.O.Sink.text c.conclude_memory.new.out in
+    let received = Received c.conclude_memory.result before after (g.O.Sink.faults c.args.out.now) (g.O.Sink.faults c.conclude_memory.new.out) in
+    let part = ReceivedPart before after (g.O.Sink.lacks c.args.out.now) (g.O.Sink.lacks c.conclude_memory.new.out) in
+    let I = c.args.begun.now.inst.value.draft in
+    let start = c.args.begun.now.start in
+    subst (Ends (BegunEnds call I start files files) cause received part) (sym c.conclude_memory.ensures.status)
+    (unstarted-ended call received part cause files I start tt c.conclude_memory.ensures.said)

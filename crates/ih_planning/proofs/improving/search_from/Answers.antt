@@ -1,0 +1,34 @@
+use Rattle.std.proofs.Common.{subst, sym}
+use Rattle.ih_answers.specs.Answers.{HasShelfCause}
+use Rattle.ih_answers.specs.Ends.{Ends, Received}
+use Rattle.ih_answers.specs.Texts.{ReceivedPart}
+use Rattle.ih_planning.specs.Improve.{ImproveCall, improve_call}
+use Rattle.ih_planning.specs.Searching.{BegunEnds, ImproveEnds}
+use Rattle.ih_planning.proofs.ImproveCalls.{unbegun-ended}
+use Rattle.ih_planning.proofs.SearchEnding.{begun-ends, ends-as}
+use Rattle.ih_planning.proofs.improving.search_from.Goals as goal
+
+pub returns-in-Ok-clause-ends : goal.returns-in-Ok-clause-ends
+returns-in-Ok-clause-ends g c =
+    let call : ImproveCall = improve_call c.args.call.now in
+    let old = g.S.Shelf.names c.args.shelf.now in
+    let new = g.S.Shelf.names c.search_begun.new.shelf in
+    let cause = HasShelfCause g.S.Shelf c.args.shelf.now c.search_begun.new.shelf in
+    let I = c.args.inputs.inst.value.draft in
+    let J = c.in-Ok.begun.inst.value.draft in
+    let start = c.in-Ok.begun.start in
+    ends-as (BegunEnds call J start old new) (ImproveEnds call old new) cause cause _ _
+    (begun-ends call old new I J c.args.inputs.plan start c.requires.read c.in-Ok.ensures.instance c.in-Ok.ensures.start) (λ s h. h)
+    c.search_begun.result c.search_begun.ensures.ends
+
+pub returns-in-Err-clause-ends : goal.returns-in-Err-clause-ends
+returns-in-Err-clause-ends g c =
+    let call : ImproveCall = improve_call c.args.call.now in
+    let files = g.S.Shelf.names c.args.shelf.now in
+    let cause = HasShelfCause g.S.Shelf c.args.shelf.now c.args.shelf.now in
+    let before = g.O.Sink.text c.args.out.now in
+    let after = g.O.Sink.text c.conclude_memory.new.out in
+    let received = Received c.conclude_memory.result before after (g.O.Sink.faults c.args.out.now) (g.O.Sink.faults c.conclude_memory.new.out) in
+    let part = ReceivedPart before after (g.O.Sink.lacks c.args.out.now) (g.O.Sink.lacks c.conclude_memory.new.out) in
+    subst (Ends (ImproveEnds call files files) cause received part) (sym c.conclude_memory.ensures.status)
+    (unbegun-ended call received part cause files tt c.conclude_memory.ensures.said)

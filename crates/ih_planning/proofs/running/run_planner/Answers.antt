@@ -1,0 +1,95 @@
+use Rattle.std.proofs.Common.{inr, refl, subst, sym}
+use Rattle.std.specs.Prelude.{map, string_bytes}
+use Rattle.ih_answers.specs.Answers.{HasShelfCause}
+use Rattle.ih_answers.specs.Ends.{Received}
+use Rattle.ih_answers.specs.Texts.{ReceivedPart}
+use Rattle.ih_answers.specs.declared.answer.Answer.{Answer}
+use Rattle.ih_answers.specs.declared.status.Status.TheVariants.{Done, Usage}
+use Rattle.ih_answers.proofs.Files.{told-same}
+use Rattle.ih_answers.proofs.Saying.{ended}
+use Rattle.ih_planning.specs.Ends.{Leaves, NoCallEnds}
+use Rattle.ih_planning.specs.Words.{call_of, command_call}
+use Rattle.ih_planning.proofs.CallEnds.{memory-leaves, no_call-answerable, untouched}
+use Rattle.ih_planning.proofs.Completeness.{complete, memory-complete}
+use Rattle.ih_planning.proofs.running.run_planner.Goals as goal
+
+pub returns-in-Ok-clause-leaves : goal.returns-in-Ok-clause-leaves
+returns-in-Ok-clause-leaves g c = rw c.in-Ok.ensures.ok c.perform.ensures.ends
+
+pub returns-in-Ok-clause-untouched : goal.returns-in-Ok-clause-untouched
+returns-in-Ok-clause-untouched g c = rw c.in-Ok.ensures.ok tt
+
+pub returns-in-Ok-clause-complete : goal.returns-in-Ok-clause-complete
+returns-in-Ok-clause-complete g c =
+    let old = c.args.shelf.now in
+    let new = c.perform.new.shelf in
+    let before = g.O.Sink.text c.args.out.now in
+    let after = g.O.Sink.text c.perform.new.out in
+    let result = c.perform.result in
+    rw c.in-Ok.ensures.ok
+    (complete (command_call c.in-Ok.command) (g.S.Shelf.names old) (g.S.Shelf.names new) (HasShelfCause g.S.Shelf old new)
+    (Received result before after (g.O.Sink.faults c.args.out.now) (g.O.Sink.faults c.perform.new.out))
+    (ReceivedPart before after (g.O.Sink.lacks c.args.out.now) (g.O.Sink.lacks c.perform.new.out)) _ _ _ _ _ _ result c.perform.ensures.ends
+    c.perform.ensures.cause)
+
+pub returns-in-Err-Help-clause-leaves : goal.returns-in-Err-Help-clause-leaves
+returns-in-Err-Help-clause-leaves g c =
+    let shelf = c.args.shelf.now in
+    let files = g.S.Shelf.names shelf in
+    let before = g.O.Sink.text c.args.out.now in
+    let after = g.O.Sink.text c.conclude.new.out in
+    let result = c.conclude.result in
+    let a : Answer = record { status = Done; text = c.into_bytes.result } in
+    rw (c.in-Err-Help.ensures.none (λ e. let is = c.in-Err-Help.field-0-is in cc)) (
+      told-same files files refl,
+      ended NoCallEnds no_call-answerable (HasShelfCause g.S.Shelf shelf shelf)
+          (Received result before after (g.O.Sink.faults c.args.out.now) (g.O.Sink.faults c.conclude.new.out))
+          (ReceivedPart before after (g.O.Sink.lacks c.args.out.now) (g.O.Sink.lacks c.conclude.new.out)) a result (inr tt) tt c.conclude.ensures.said,
+    )
+
+pub returns-in-Err-Help-clause-untouched : goal.returns-in-Err-Help-clause-untouched
+returns-in-Err-Help-clause-untouched g c = untouched (call_of (map string_bytes c.args.words.now)) c.args.shelf.now
+
+pub returns-in-Err-Help-clause-complete : goal.returns-in-Err-Help-clause-complete
+returns-in-Err-Help-clause-complete g c = rw (c.in-Err-Help.ensures.none (λ e. let is = c.in-Err-Help.field-0-is in cc)) tt
+
+pub returns-in-Err-Refused-clause-leaves : goal.returns-in-Err-Refused-clause-leaves
+returns-in-Err-Refused-clause-leaves g c =
+    let shelf = c.args.shelf.now in
+    let files = g.S.Shelf.names shelf in
+    let before = g.O.Sink.text c.args.out.now in
+    let after = g.O.Sink.text c.conclude-in-Err-Refused.new.out in
+    let result = c.conclude-in-Err-Refused.result in
+    let a : Answer = record { status = Usage; text = c.into_bytes-in-Err-Refused.result } in
+    rw (c.in-Err-Refused.ensures.none (λ e. let is = c.in-Err-Refused.field-0-is in cc)) (
+      told-same files files refl,
+      ended NoCallEnds no_call-answerable (HasShelfCause g.S.Shelf shelf shelf)
+          (Received result before after (g.O.Sink.faults c.args.out.now) (g.O.Sink.faults c.conclude-in-Err-Refused.new.out))
+          (ReceivedPart before after (g.O.Sink.lacks c.args.out.now) (g.O.Sink.lacks c.conclude-in-Err-Refused.new.out)) a result (inr tt) tt
+          c.conclude-in-Err-Refused.ensures.said,
+    )
+
+pub returns-in-Err-Refused-clause-untouched : goal.returns-in-Err-Refused-clause-untouched
+returns-in-Err-Refused-clause-untouched g c = untouched (call_of (map string_bytes c.args.words.now)) c.args.shelf.now
+
+pub returns-in-Err-Refused-clause-complete : goal.returns-in-Err-Refused-clause-complete
+returns-in-Err-Refused-clause-complete g c = rw (c.in-Err-Refused.ensures.none (λ e. let is = c.in-Err-Refused.field-0-is in cc)) tt
+
+pub returns-in-Err-OutOfMemory-clause-leaves : goal.returns-in-Err-OutOfMemory-clause-leaves
+returns-in-Err-OutOfMemory-clause-leaves g c =
+    let shelf = c.args.shelf.now in
+    let files = g.S.Shelf.names shelf in
+    let why = HasShelfCause g.S.Shelf shelf shelf in
+    let before = g.O.Sink.text c.args.out.now in
+    let after = g.O.Sink.text c.conclude_memory.new.out in
+    let received = Received c.conclude_memory.result before after (g.O.Sink.faults c.args.out.now) (g.O.Sink.faults c.conclude_memory.new.out) in
+    let part = ReceivedPart before after (g.O.Sink.lacks c.args.out.now) (g.O.Sink.lacks c.conclude_memory.new.out) in
+    subst (Leaves (call_of (map string_bytes c.args.words.now)) files files why received part) (sym c.conclude_memory.ensures.status)
+    (memory-leaves (call_of (map string_bytes c.args.words.now)) files why received part tt c.conclude_memory.ensures.said)
+
+pub returns-in-Err-OutOfMemory-clause-untouched : goal.returns-in-Err-OutOfMemory-clause-untouched
+returns-in-Err-OutOfMemory-clause-untouched g c = untouched (call_of (map string_bytes c.args.words.now)) c.args.shelf.now
+
+pub returns-in-Err-OutOfMemory-clause-complete : goal.returns-in-Err-OutOfMemory-clause-complete
+returns-in-Err-OutOfMemory-clause-complete g c =
+    rw c.conclude_memory.ensures.status (memory-complete (call_of (map string_bytes c.args.words.now)) _ _ _ _)

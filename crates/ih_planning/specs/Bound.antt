@@ -1,0 +1,63 @@
+-- The command `bound`: its description for `clap` and its values.
+use Rattle.std.specs.Prelude.{ℕ, List, Option, Some, codes, option_map, unwrap_or}
+use Rattle.clap.specs.Words.{App, Row, Rule, Text, first_of, new_app, new_rule, with_rule}
+use Rattle.clap.specs.declared.builder.action.ArgAction.TheVariants.{Set}
+use Rattle.ih_journal.specs.declared.settings.TheConstants.{MAX_WORKERS}
+use Rattle.ih_words.specs.Arguments.{named, optional_between}
+use Rattle.ih_words.specs.Matches.{HasText, IsNumberIfGiven, number_if_given, text_at}
+use Rattle.ih_inputs.specs.Reading.{InputFiles}
+use Rattle.ih_planning.specs.declared.bound_words.Bound.{Bound}
+use Rattle.ih_planning.specs.declared.bound_words.TheConstants.{DEFAULT_BOUND_WORKERS, DEFAULT_TRIES, MAX_TRIES}
+
+-- an argument with one value, by its place, which may be left out
+abbrev pub optional_name : Text → Rule
+optional_name id = record (new_rule id) { action = Some Set }
+
+-- bound INSTANCE [SOLUTION] [--rounds N] [--workers N]
+unfoldable pub bound_app : App
+bound_app = with_rule (with_rule (with_rule (with_rule
+    (new_app (codes "bound"))
+    (named (codes "INSTANCE")))
+    (optional_name (codes "SOLUTION")))
+    (optional_between (codes "rounds") 1 MAX_TRIES))
+    (optional_between (codes "workers") 1 MAX_WORKERS)
+
+-- what a call of bound asks for; a file's name is its bytes
+pub record BoundCall : Type 0 where
+  pub instance : Text
+  pub solution : Option Text
+  -- how often prices are tried at most
+  pub rounds : ℕ
+  pub workers : ℕ
+
+-- the call that the values of bound stand for
+abbrev pub bound_call : Bound → BoundCall
+bound_call b = record {
+  instance = b.instance.now;
+  solution = option_map (λ t. t.now) b.solution;
+  rounds = b.rounds;
+  workers = b.workers;
+}
+
+-- the files that the call reads
+abbrev pub bound_inputs : BoundCall → InputFiles
+bound_inputs c = record { instance = c.instance; solution = c.solution }
+
+-- what the rules of its arguments say of the matches of bound
+pub record HasBound (rows : List Row) : Type 0 where
+  pub instance : HasText (codes "INSTANCE") rows
+  pub rounds : IsNumberIfGiven 1 MAX_TRIES (codes "rounds") rows
+  pub workers : IsNumberIfGiven 1 MAX_WORKERS (codes "workers") rows
+
+-- the call of bound, by `clap`'s matches
+abbrev pub bound_in : List Row → BoundCall
+bound_in rows = record {
+  instance = text_at (codes "INSTANCE") rows;
+  solution = first_of (codes "SOLUTION") rows;
+  rounds = unwrap_or (number_if_given (codes "rounds") rows) DEFAULT_TRIES;
+  workers = unwrap_or (number_if_given (codes "workers") rows) DEFAULT_BOUND_WORKERS;
+}
+
+-- each call that `clap` finds no fault in is lawful: it writes no file
+abbrev pub lawful_bound : List Row → Option BoundCall
+lawful_bound rows = Some (bound_in rows)

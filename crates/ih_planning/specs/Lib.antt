@@ -1,0 +1,11 @@
+pub mod Bound
+pub mod BoundTexts
+pub mod Bounding
+pub mod Ends
+pub mod Improve
+pub mod Laws
+pub mod Rounds
+pub mod Searching
+pub mod View
+pub mod Viewing
+pub mod Words

@@ -1,0 +1,78 @@
+//! The commands, as callers see them, and how they are read.
+
+ghost use Rattle.std.specs.Prelude.{◌≡◌, ◌≢◌, IfErr, IfOk, None, Some, map, string_bytes};
+ghost use Rattle.ih_planning.specs.Words.{HasLawfulSettings, IsRead, call_named, call_of, command_call};
+
+use crate::bound_words::{Bound, bound_description, read_bound};
+use crate::explaining::{NoCall, explained, refused};
+use crate::improve_words::{Improve, improve_description, read_improve};
+use crate::view_words::{View, read_view, view_description};
+use std::alloc::{AllocError, Global};
+
+/// A lawful command with its values.
+#[derive(Clone, Copy, Debug)]
+pub enum Command<'a> {
+    /// Searches for a better plan.
+    Improve(Improve<'a>),
+    /// Writes the page of a solution's timetable.
+    View(View<'a>),
+    /// Says what no feasible timetable costs less than.
+    Bound(Bound<'a>),
+}
+
+// All commands, for the help on the program.
+fn program_description<'a>(alloc: Global) -> Result<clap::Command<'a>, AllocError> {
+    clap::Command::new(alloc, "ih_planner")
+        .about("Makes timetables better, shows them and bounds their cost")
+        .no_binary_name(true)
+        .subcommand_required(true)
+        .arg_required_else_help(true)
+        .subcommand(improve_description(alloc)?)?
+        .subcommand(view_description(alloc)?)?
+        .subcommand(bound_description(alloc)?)
+}
+
+// What is said of words of which the first is no command's name.
+fn explained_commands<'a>(alloc: Global, words: &'a [String]) -> NoCall {
+    let Ok(program) = program_description(alloc) else {
+        return NoCall::OutOfMemory;
+    };
+    match program.try_get_matches_from(words) {
+        Ok(_) => refused(alloc, "no command has this name"),
+        Err(error) => explained(alloc, error),
+    }
+}
+
+// Reads the words of the command that has the name.
+fn read_named<'a>(alloc: Global, name: &str, words: &'a [String]) -> Result<Command<'a>, NoCall>
+    ensures read { IsRead command_call (call_named name.now (map string_bytes words.entry.now)) result }
+    ensures lawful { IfOk result HasLawfulSettings }
+{
+    match name {
+        "improve" => Ok(Command::Improve(read_improve(alloc, words)?)),
+        "view" => Ok(Command::View(read_view(alloc, words)?)),
+        "bound" => Ok(Command::Bound(read_bound(alloc, words)?)),
+        _ => Err(explained_commands(alloc, words)),
+    }
+}
+
+/// The command that the words give, with its values. The words are those after the program's name. The first is the
+/// command's name, and `clap` reads them all. A number is written in digits, with or without leading zeros and a plus
+/// sign.
+///
+/// # Errors
+///
+/// - `Help` where the words ask for help, and `Refused` where no command has them: the first word is no command's name,
+///   `clap` finds a fault, two file names are equal, a freeze day comes without the file of a start or with `--fill`,
+///   the heat would rise, or the workers together would make more than `MAX_ATTEMPTS` attempts.
+/// - `OutOfMemory` where memory ran out.
+pub fn read_words<'a>(alloc: Global, words: &'a [String]) -> Result<Command<'a>, NoCall>
+    ensures ok { IfOk result (λ c. call_of (map string_bytes words.entry.now) ≡ Some (command_call c)) }
+    ensures lawful { IfOk result HasLawfulSettings }
+    ensures none { IfErr result (λ e. e ≢ NoCall.OutOfMemory → call_of (map string_bytes words.entry.now) ≡ None) }
+{
+    let Some(name) = words.first() else {
+        return Err(explained_commands(alloc, words));
+    };
+    read_named(alloc, name.as_str(), words)
+}

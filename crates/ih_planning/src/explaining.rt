@@ -1,0 +1,50 @@
+//! What is said where the words name no call: `clap`'s help, or an error that names the offending word. The texts are
+//! `clap`'s, so no clause says what they are.
+
+ghost use Rattle.std.specs.Prelude.{◌≡◌};
+ghost use Rattle.clap.specs.{Words.kind_of, declared.error.kind.ErrorKind.TheVariants.OutOfMemory as ClapOutOfMemory};
+ghost use Rattle.ih_planning.specs.declared.explaining.NoCall.TheVariants.{OutOfMemory};
+
+use clap::error::ErrorKind;
+use std::alloc::{AllocError, Global};
+
+/// Why words give no call.
+#[derive(Debug, Drop)]
+pub enum NoCall {
+    /// They ask for help, and this is it.
+    Help(String),
+    /// No call has these words, and this says why.
+    Refused(String),
+    /// Memory ran out.
+    OutOfMemory,
+}
+
+impl From<AllocError> for NoCall {
+    ghost from_gives = { λ _ e. e ≡ OutOfMemory };
+
+    fn from(_error: AllocError) -> NoCall {
+        NoCall::OutOfMemory
+    }
+}
+
+/// What `clap` says.
+pub fn explained(alloc: Global, error: clap::Error) -> NoCall
+    ensures { kind_of error ≡ ClapOutOfMemory → result ≡ NoCall.OutOfMemory }
+{
+    match error.kind() {
+        ErrorKind::OutOfMemory => NoCall::OutOfMemory,
+        kind => match format!(in alloc; "{error}") {
+            Ok(text) if kind == ErrorKind::DisplayHelp => NoCall::Help(text),
+            Ok(text) => NoCall::Refused(text),
+            Err(_) => NoCall::OutOfMemory,
+        },
+    }
+}
+
+/// What is said of words in which `clap` finds no fault.
+pub fn refused(alloc: Global, fault: &str) -> NoCall {
+    match format!(in alloc; "error: {fault}\n\nFor more information, try '--help'.\n") {
+        Ok(text) => NoCall::Refused(text),
+        Err(_) => NoCall::OutOfMemory,
+    }
+}

@@ -1,0 +1,18 @@
+//! Laws of calls, each on a function that does nothing.
+
+ghost use Rattle.ih_planning.specs.Laws.{DoneCallsHaveImproved, RoundsLeaveTheSame, VainCallsChangeNothing};
+
+use ih_improve::Walks;
+
+/// What a call of `improve` leaves: done, the solution of a feasible timetable that keeps the start's choices before
+/// the freeze day and is no dearer than the start; with none found, each file as it was.
+pub fn done_calls_have_improved()
+    ensures done { DoneCallsHaveImproved }
+    ensures none { VainCallsChangeNothing }
+{}
+
+/// Where what each worker leaves in a round follows from what the round begins with and from the worker's number, so
+/// does all that the rounds of a search leave, however many workers there are and whatever the threads do.
+pub fn determined_workers_leave_the_same<W: Walks>()
+    ensures { RoundsLeaveTheSame W.leaves }
+{}

@@ -1,0 +1,19 @@
+//! The program for planners: one call that searches for better timetables and shows them.
+#![tactic(auto)]
+
+mod arguments;
+mod bound_texts;
+mod bound_words;
+mod bounding;
+mod command;
+mod explaining;
+mod improve_words;
+mod improving;
+mod laws;
+mod rounds;
+mod running;
+mod view_words;
+mod viewing;
+
+pub use laws::{determined_workers_leave_the_same, done_calls_have_improved};
+pub use running::run_planner;

@@ -1,0 +1,101 @@
+//! The one call that does all that the program does.
+
+ghost use Rattle.std.specs.Prelude.{map, string_bytes};
+ghost use Rattle.ih_answers.specs.{Answers.HasShelfCause, Ends.Ends, Ends.HasCause, Ends.Received};
+ghost use Rattle.ih_answers.specs.Texts.{ReceivedPart};
+ghost use Rattle.ih_planning.specs.Ends.{CallEnds, IsComplete, IsUntouched, Leaves};
+ghost use Rattle.ih_planning.specs.Words.{HasLawfulSettings, call_of, command_call};
+ghost use Rattle.ih_shelf.specs.Outside.{Rose};
+
+use crate::bounding::bound_of;
+use crate::command::{Command, read_words};
+use crate::explaining::NoCall;
+use crate::improving::improve;
+use crate::viewing::view;
+use ih_answers::{Answer, Status, conclude, conclude_memory};
+use ih_shelf::{Shelf, Sink};
+use std::alloc::Global;
+use std::rt::Files;
+use std::sync::Wait;
+use std::thread::Threads;
+
+// Does what the command asks for, and says how that ended.
+fn perform<R: Files + Print + Threads + Wait + Sync, S: Shelf, O: Sink>(
+    rt: &R,
+    alloc: Global,
+    command: &Command<'_>,
+    shelf: &mut S,
+    out: &mut O,
+) -> Status
+    requires { HasLawfulSettings command.now }
+    ensures ends { Ends (CallEnds (command_call command.now) (S.names shelf.old) (S.names shelf.new))
+        (HasShelfCause S.Shelf shelf.old shelf.new)
+        (Received result (O.text out.old) (O.text out.new) (O.faults out.old) (O.faults out.new))
+        (ReceivedPart (O.text out.old) (O.text out.new) (O.lacks out.old) (O.lacks out.new)) result }
+    ensures cause { HasCause (S.read_faults shelf.old) (S.read_faults shelf.new) (S.write_faults shelf.old)
+        (S.write_faults shelf.new) (O.faults out.old) (O.faults out.new) result }
+{
+    match command {
+        Command::Improve(call) => improve(rt, alloc, call, shelf, out),
+        Command::View(call) => {
+            let answer = view(rt, alloc, call, shelf);
+            conclude(rt, out, &answer)
+        }
+        Command::Bound(call) => {
+            let answer = bound_of(rt, alloc, call, shelf);
+            conclude(rt, out, &answer)
+        }
+    }
+}
+
+/// Does all that the program does, by the words after its name. A search puts out a line after each round. At last one
+/// text is put out; where a page was written, there is none.
+pub fn run_planner<R: Files + Print + Threads + Wait + Sync, S: Shelf, O: Sink>(
+    rt: &R,
+    alloc: Global,
+    words: &[String],
+    shelf: &mut S,
+    out: &mut O,
+) -> Status
+    // What the files then hold, and the text that was put out, by the call that the words name and the status. Where
+    // the shelf or the sink does not tell what it holds, nothing is claimed of that.
+    ensures leaves { Leaves (call_of (map string_bytes words.now)) (S.names shelf.old) (S.names shelf.new)
+        (HasShelfCause S.Shelf shelf.old shelf.new)
+        (Received result (O.text out.old) (O.text out.new) (O.faults out.old) (O.faults out.new))
+        (ReceivedPart (O.text out.old) (O.text out.new) (O.lacks out.old) (O.lacks out.new)) result }
+
+    // Where the words name no call, no file is so much as read.
+    ensures untouched { IsUntouched (call_of (map string_bytes words.now)) shelf.old shelf.new }
+
+    // A fault is answered only where its count rose in this call, or stands at the last number of 64 bits.
+    ensures cause { HasCause (S.read_faults shelf.old) (S.read_faults shelf.new) (S.write_faults shelf.old)
+        (S.write_faults shelf.new) (O.faults out.old) (O.faults out.new) result }
+
+    // Where the shelf tells what it holds, the words are lawful, the files are as `HasFiles` says and no count rose:
+    // improve ends with its best or with none, view with its page, bound with what it says; or memory runs out.
+    ensures complete { IsComplete (call_of (map string_bytes words.now)) (S.names shelf.old)
+        (Rose (S.read_faults shelf.old) (S.read_faults shelf.new))
+        (Rose (S.write_faults shelf.old) (S.write_faults shelf.new))
+        (Rose (O.faults out.old) (O.faults out.new)) result }
+{
+    match read_words(alloc, words) {
+        Ok(command) => perform(rt, alloc, &command, shelf, out),
+        Err(NoCall::Help(text)) => conclude(
+            rt,
+            out,
+            &Answer {
+                status: Status::Done,
+                text: text.into_bytes(),
+            },
+        ),
+        Err(NoCall::Refused(text)) => conclude(
+            rt,
+            out,
+            &Answer {
+                status: Status::Usage,
+                text: text.into_bytes(),
+            },
+        ),
+        Err(NoCall::OutOfMemory) => conclude_memory(rt, out),
+    }
+}
