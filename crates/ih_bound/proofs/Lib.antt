@@ -7,3 +7,6 @@ pub mod Totals
 pub mod CostWorth
 pub mod StayCare
 pub mod LeastPaid
+pub mod DealtLemmas
+pub mod FloorLemmas
+pub mod PutLemmas

@@ -1,5 +1,5 @@
 -- What is said of all feasible timetables of an instance.
-use Rattle.std.specs.Prelude.{◌≡◌, true, pos, ◌≤ℤ◌}
+use Rattle.std.specs.Prelude.{◌≡◌, ◌+◌, ⊤, true, pos, ◌≤ℤ◌}
 use Rattle.ih_tables.specs.declared.drafts.Draft.{Draft}
 use Rattle.ih_tables.specs.Bills.{feasible, cost}
 use Rattle.ih_plan.specs.Timetable.{Timetable, IsPlanOf}
@@ -16,6 +16,11 @@ pub record IsFeasible (I : Draft) (P : Timetable) : Type 0 where
 abbrev pub Bounds : Draft → Timetable → Outcome → Type 0
 Bounds I P Infeasible = ⊥
 Bounds I P (AtLeast b) = pos b.value ≤ℤ cost I.weights (bill_of I P)
+
+-- the parts of a bound come to its value
+abbrev pub AddUp : Outcome → Type 0
+AddUp Infeasible = ⊤
+AddUp (AtLeast b) = b.parts.delay + b.parts.left_out + b.parts.theatres + b.parts.nurses ≡ b.value
 
 -- the outcome holds of all feasible timetables
 abbrev pub HoldsOfAll : Draft → Outcome → Type 0

@@ -1,5 +1,5 @@
 -- What a person pays at least, in each feasible timetable.
-use Rattle.std.specs.Prelude.{◌≡◌, ◌<◌, ◌≤◌, ℕ, ◌+◌, Some, if◌then◌else◌}
+use Rattle.std.specs.Prelude.{◌≡◌, ◌<◌, ◌≤◌, ℕ, ◌+◌, ◌/◌, ◌%◌, List, Option, Some, if◌then◌else◌, slice_index}
 use Rattle.ih_tables.specs.declared.drafts.Draft.{Draft}
 use Rattle.ih_plan.specs.declared.moves.Placement.{Placement}
 use Rattle.ih_plan.specs.Timetable.{Timetable, stay_of}
@@ -37,3 +37,15 @@ IsBefore end d = d < end
 abbrev pub BoundsCareFrom : Draft → Rates → Tariff → ℕ → ℕ → ℕ → Type 0
 BoundsCareFrom I rates t p a least =
     (P : Timetable) (at : Placement) → IsFeasible I P → stay_of P p ≡ Some at → at.day.0 ≡ a → least ≤ care_paid I rates t P p
+
+-- patient p pays so much for care where it is admitted on day a, whatever the prices
+abbrev pub BoundsFloor : Draft → Rates → ℕ → ℕ → ℕ → Type 0
+BoundsFloor I rates p a least = (t : Tariff) → BoundsCareFrom I rates t p a least
+
+-- a list by patient and day of such numbers
+abbrev pub AreFloors : Draft → Rates → List ℕ → Type 0
+AreFloors I rates floors = (i : ℕ) → BoundsFloor I rates (i / I.days) (i % I.days) (slice_index floors i)
+
+-- patient p pays so much where it is admitted on the day that is tried first, if that is before the end
+abbrev pub IsTried : Draft → Rates → Tariff → ℕ → ℕ → Option ℕ → ℕ → Type 0
+IsTried I rates t p end hint least = (a : ℕ) → hint ≡ Some a → a < end → BoundsAdmitted I rates t p (λ d. d ≡ a) least

@@ -3,3 +3,4 @@ pub mod Tariffs
 pub mod Paid
 pub mod Stays
 pub mod Least
+pub mod Dealing

@@ -3,8 +3,8 @@
 ghost use Rattle.std.specs.Prelude.{◌≡◌, ◌<◌, ◌≤◌};
 ghost use Rattle.ih_tables.specs.Sizes.{patient_count, shift_count};
 
-use crate::numbers::{choose_numbers, put};
-use crate::prices::{Prices, Rates, at, place};
+use crate::numbers::put;
+use crate::prices::{Prices, Rates, at, opening, place};
 use crate::scratch::{Scratch, zeros};
 use crate::stays::{Stay, care_price, need_at};
 use ih_plan::end_from;
@@ -19,6 +19,47 @@ pub struct Demand {
     pub surgeon: Vec<u64>,
     pub theatre: Vec<u64>,
     pub work: Vec<u64>,
+    /// What it is worth that patients wait and are left out, and what theatres cost at what it is worth to open them.
+    pub spent: Spent,
+}
+
+/// What choices are worth, in parts.
+#[derive(Clone, Copy)]
+pub struct Spent {
+    pub delay: u64,
+    pub left_out: u64,
+    pub theatres: u64,
+}
+
+// An average that goes on: a 64th of it is of the last number.
+fn drawn(mean: u64, last: u64) -> u64 {
+    mean.saturating_sub(mean / 64).saturating_add(last / 64)
+}
+
+impl Spent {
+    /// Nothing.
+    pub fn none() -> Spent {
+        Spent {
+            delay: 0,
+            left_out: 0,
+            theatres: 0,
+        }
+    }
+
+    /// These, with a share of others.
+    pub fn drawn_to(&self, other: &Spent) -> Spent {
+        Spent {
+            delay: drawn(self.delay, other.delay),
+            left_out: drawn(self.left_out, other.left_out),
+            theatres: drawn(self.theatres, other.theatres),
+        }
+    }
+
+    fn add(&mut self, other: &Spent) {
+        self.delay = self.delay.saturating_add(other.delay);
+        self.left_out = self.left_out.saturating_add(other.left_out);
+        self.theatres = self.theatres.saturating_add(other.theatres);
+    }
 }
 
 fn clear(list: &mut [u64]) {
@@ -31,6 +72,12 @@ fn clear(list: &mut [u64]) {
 fn add(list: &mut [u64], i: usize, by: u64) {
     if let Some(x) = list.get_mut(i) {
         *x = x.saturating_add(by);
+    }
+}
+
+fn add_list(list: &mut [u64], other: &[u64]) {
+    for i in 0..other.len() {
+        add(list, i, other[i]);
     }
 }
 
@@ -60,6 +107,7 @@ impl Demand {
             surgeon: zeros(alloc, days * inst.surgeons() as usize)?,
             theatre: zeros(alloc, days * inst.theatres() as usize)?,
             work: zeros(alloc, shifts * inst.nurses() as usize)?,
+            spent: Spent::none(),
         })
     }
 
@@ -69,6 +117,16 @@ impl Demand {
         clear(self.surgeon.as_mut_slice());
         clear(self.theatre.as_mut_slice());
         clear(self.work.as_mut_slice());
+        self.spent = Spent::none();
+    }
+
+    /// Adds what another asks for.
+    pub fn add_all(&mut self, other: &Demand) {
+        add_list(self.bed.as_mut_slice(), other.bed.as_slice());
+        add_list(self.surgeon.as_mut_slice(), other.surgeon.as_slice());
+        add_list(self.theatre.as_mut_slice(), other.theatre.as_slice());
+        add_list(self.work.as_mut_slice(), other.work.as_slice());
+        self.spent.add(&other.spent);
     }
 
     // Lets a nurse serve the shift that it holds, and what else of the stay it may at no more than its number.
@@ -105,7 +163,7 @@ impl Demand {
         }
     }
 
-    /// Adds the workload of a stay, by the nurses who hold its numbers.
+    /// Adds the workload of a stay, by the nurses who hold its numbers, which were chosen last.
     pub fn add_care(
         &mut self,
         inst: &Instance,
@@ -114,10 +172,8 @@ impl Demand {
         stay: &Stay<'_>,
         scratch: &mut Scratch,
     )
-        requires order { stay.now.first ≤ stay.now.last }
         requires horizon { stay.now.last ≤ shift_count inst.now.draft }
     {
-        choose_numbers(inst, rates, prices, stay, scratch);
         clear(scratch.served.as_mut_slice());
         for i in stay.first..stay.last {
             let held = stay.last - 1 - (i - stay.first);
@@ -128,7 +184,14 @@ impl Demand {
     }
 
     /// Adds the bed and the minutes of a patient who is admitted on a day.
-    pub fn add_stay(&mut self, inst: &Instance, prices: &Prices, q: &Patient, a: u32) {
+    pub fn add_stay(
+        &mut self,
+        inst: &Instance,
+        rates: &Rates,
+        prices: &Prices,
+        q: &Patient,
+        a: u32,
+    ) {
         for d in a..end_from(inst, a, q.length_of_stay) {
             add(self.bed.as_mut_slice(), d as usize, 1);
         }
@@ -145,5 +208,17 @@ impl Demand {
             place(days, t, a),
             minutes as u64,
         );
+        let wait = a.saturating_sub(q.surgery_release_day) as u64;
+        let opening = opening(inst, rates, t, a);
+        self.spent.add(&Spent {
+            delay: rates.delay.saturating_mul(wait),
+            left_out: 0,
+            theatres: opening.saturating_mul(minutes as u64),
+        });
+    }
+
+    /// Adds that a patient is left out.
+    pub fn add_left_out(&mut self, rates: &Rates) {
+        self.spent.left_out = self.spent.left_out.saturating_add(rates.left_out);
     }
 }

@@ -3,8 +3,11 @@
 
 mod ascending;
 mod bounding;
+mod climbing;
+mod dealing;
 mod demand;
 mod evaluating;
+mod floors;
 mod incomes;
 mod moving;
 mod numbers;
@@ -15,4 +18,4 @@ mod scratch;
 mod stays;
 
 pub use bounding::bound;
-pub use outcomes::{Bound, Outcome};
+pub use outcomes::{Bound, Outcome, Parts};

@@ -2,7 +2,7 @@
 
 use crate::demand::Demand;
 use crate::numbers::put;
-use crate::prices::{MOST_FOR_BED, MOST_FOR_MINUTE, Prices, Rates, at, place};
+use crate::prices::{MOST_FOR_BED, MOST_FOR_MINUTE, Prices, Rates, at, opening, place};
 use crate::scratch::zeros;
 use ih_tables::{Instance, NurseNo, RoomNo, Shift, SurgeonNo, TheatreNo};
 use ih_validate::{Resource, limit_of};
@@ -103,19 +103,6 @@ fn beds(inst: &Instance) -> u64 {
         sum = sum.saturating_add(inst.room(RoomNo(r)).capacity as u64);
     }
     sum
-}
-
-// What it is worth to open a theatre, by minute of a day.
-fn opening(inst: &Instance, rates: &Rates, t: u32, d: u32) -> u64 {
-    if t >= inst.theatres() {
-        return 0;
-    }
-    let minutes = limit_of(inst, Resource::OfTheatre(TheatreNo(t)), d);
-    if minutes == 0 {
-        0
-    } else {
-        rates.theatre / minutes
-    }
 }
 
 /// Prices to begin with: only theatres have one, by what it is worth to open them.

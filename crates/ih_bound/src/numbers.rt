@@ -13,8 +13,8 @@ const PASSES: u64 = 4;
 
 // Where the costs of a shift of the stay begin.
 #[inline(always)]
-fn row(stay: &Stay<'_>, k: u32) -> usize {
-    512 * k.saturating_sub(stay.first) as usize
+fn row(inst: &Instance, stay: &Stay<'_>, k: u32) -> usize {
+    inst.nurses() as usize * k.saturating_sub(stay.first) as usize
 }
 
 /// Writes an entry of a list, where it has one there.
@@ -46,7 +46,7 @@ fn begin_shift(
     requires shift { k < shift_count inst.now.draft }
 {
     let mut least = u64::MAX;
-    let mut i = row(stay, k);
+    let mut i = row(inst, stay, k);
     for n in inst.working(Shift(k)) {
         if n.0 < inst.nurses() {
             let cost = care_price(inst, rates, prices, stay, *n, k);
@@ -96,7 +96,7 @@ fn raise(inst: &Instance, stay: &Stay<'_>, k: u32, limit: u64, scratch: &mut Scr
 {
     let working = inst.working(Shift(k));
     let old = at(scratch.numbers.as_slice(), k as usize);
-    let row = row(stay, k);
+    let row = row(inst, stay, k);
     let (end, holder) = highest(working, row, old, scratch);
     put(scratch.holders.as_mut_slice(), k as usize, holder as u64);
     let new = end.min(old.saturating_add(limit));

@@ -1,5 +1,15 @@
 //! What is found on an instance.
 
+/// Where a bound comes from, in units of the weighted cost: what it would cost by the choices of the last rounds, on
+/// average, that patients wait and are left out and that theatres open; and all the rest, which is of nurses.
+#[derive(Clone, Copy, Debug, PartialEq, Eq)]
+pub struct Parts {
+    pub delay: u64,
+    pub left_out: u64,
+    pub theatres: u64,
+    pub nurses: u64,
+}
+
 /// That no feasible timetable costs less than `value`.
 #[derive(Clone, Copy, Debug, PartialEq, Eq)]
 pub struct Bound {
@@ -7,6 +17,8 @@ pub struct Bound {
     pub value: u64,
     /// How often prices were tried.
     pub rounds: u32,
+    /// What the value is made up of.
+    pub parts: Parts,
 }
 
 /// What is said of all feasible timetables of an instance.

@@ -9,9 +9,11 @@ ghost use Rattle.ih_plan.specs.Presence.{end_from};
 ghost use Rattle.ih_bound.specs.Bounds.{IsFeasible};
 ghost use Rattle.ih_bound.specs.Tariffs.{Tariff, tariff_of, price_in};
 ghost use Rattle.ih_bound.specs.Paid.{paid};
-ghost use Rattle.ih_bound.specs.Least.{BoundsPerson, BoundsAdmitted, BoundsBase, BoundsCareFrom, IsBefore, bed_cost};
+ghost use Rattle.ih_bound.specs.Least.{BoundsPerson, BoundsAdmitted, BoundsBase, BoundsCareFrom, IsBefore, IsTried, AreFloors, bed_cost};
 
 use crate::demand::Demand;
+use crate::floors::Floors;
+use crate::numbers::choose_numbers;
 use crate::prices::{Prices, Rates};
 use crate::scratch::Scratch;
 use crate::stays::{Stay, care};
@@ -86,8 +88,8 @@ fn base_cost(inst: &Instance, rates: &Rates, prices: &Prices, p: PatientNo, a: u
     wait.saturating_add(surgery).saturating_add(beds)
 }
 
-// The day after the last on which a patient may be admitted.
-fn window_end(inst: &Instance, p: PatientNo) -> u32
+/// The day after the last on which a patient may be admitted.
+pub fn window_end(inst: &Instance, p: PatientNo) -> u32
     requires { p.0 < patient_count inst.now.draft }
     ensures days { result ≤ inst.now.draft.days }
     ensures window { (P : Timetable) (at : Placement) → IsFeasible inst.now.draft P → stay_of P p.0 ≡ Some at
@@ -122,8 +124,8 @@ fn stay_from<'a>(inst: &Instance, skill: &'a [u32], load: &'a [u32], a: u32, len
     }
 }
 
-// At most what a patient pays for care, admitted on a day.
-fn patient_care(
+/// At most what a patient pays for care, admitted on a day.
+pub fn patient_care(
     inst: &Instance,
     rates: &Rates,
     prices: &Prices,
@@ -147,11 +149,13 @@ fn lower_by(
     inst: &Instance,
     rates: &Rates,
     prices: &Prices,
+    floors: &Floors,
     p: PatientNo,
     a: u32,
     so_far: u64,
     scratch: &mut Scratch,
 ) -> u64
+    requires floors { AreFloors inst.now.draft rates.now floors.now.list.items }
     requires patient { p.0 < patient_count inst.now.draft }
     requires day { a < inst.now.draft.days }
     ensures no_more { result ≤ so_far }
@@ -159,10 +163,12 @@ fn lower_by(
         → result ≤ paid inst.now.draft rates.now (tariff_of inst.now.draft rates.now prices.now) P p.0 }
 {
     let base = base_cost(inst, rates, prices, p, a);
-    if base >= so_far {
+    let floor = floors.of(inst, p, a);
+    if base.saturating_add(floor) >= so_far {
         return so_far;
     }
-    let care = patient_care(inst, rates, prices, p, a, scratch);
+    let care = patient_care(inst, rates, prices, p, a, scratch).max(floor);
+    scratch.numbered = Some(a);
     let all = base.saturating_add(care);
     if all < so_far {
         scratch.day = Some(a);
@@ -172,27 +178,87 @@ fn lower_by(
     }
 }
 
+// The same for a day that is tried before others, where there is one and it is in the window.
+fn lower_first(
+    inst: &Instance,
+    rates: &Rates,
+    prices: &Prices,
+    floors: &Floors,
+    p: PatientNo,
+    hint: Option<u32>,
+    end: u32,
+    so_far: u64,
+    scratch: &mut Scratch,
+) -> u64
+    requires floors { AreFloors inst.now.draft rates.now floors.now.list.items }
+    requires patient { p.0 < patient_count inst.now.draft }
+    requires end { end ≤ inst.now.draft.days }
+    ensures no_more { result ≤ so_far }
+    ensures day { IsTried inst.now.draft rates.now (tariff_of inst.now.draft rates.now prices.now) p.0 end hint result }
+{
+    match hint {
+        None => so_far,
+        Some(a) => {
+            if a < end {
+                lower_by(inst, rates, prices, floors, p, a, so_far, scratch)
+            } else {
+                so_far
+            }
+        }
+    }
+}
+
+// The same for another day, and no less for the day that was tried before others.
+fn lower_next(
+    inst: &Instance,
+    rates: &Rates,
+    prices: &Prices,
+    floors: &Floors,
+    p: PatientNo,
+    hint: Option<u32>,
+    a: u32,
+    so_far: u64,
+    scratch: &mut Scratch,
+) -> u64
+    requires floors { AreFloors inst.now.draft rates.now floors.now.list.items }
+    requires patient { p.0 < patient_count inst.now.draft }
+    requires day { a < inst.now.draft.days }
+    requires tried { IsTried inst.now.draft rates.now (tariff_of inst.now.draft rates.now prices.now) p.0 (a + 1) hint so_far }
+    ensures no_more { result ≤ so_far }
+    ensures day { (P : Timetable) (at : Placement) → IsFeasible inst.now.draft P → stay_of P p.0 ≡ Some at → at.day.0 ≡ a
+        → result ≤ paid inst.now.draft rates.now (tariff_of inst.now.draft rates.now prices.now) P p.0 }
+{
+    if hint == Some(a) {
+        so_far
+    } else {
+        lower_by(inst, rates, prices, floors, p, a, so_far, scratch)
+    }
+}
+
 // At most what a patient pays who is admitted, and at most so much.
 fn least_admitted(
     inst: &Instance,
     rates: &Rates,
     prices: &Prices,
+    floors: &Floors,
     p: PatientNo,
     most: u64,
     scratch: &mut Scratch,
 ) -> u64
-    requires { p.0 < patient_count inst.now.draft }
+    requires floors { AreFloors inst.now.draft rates.now floors.now.list.items }
+    requires patient { p.0 < patient_count inst.now.draft }
     ensures no_more { result ≤ most }
     ensures admitted { BoundsAdmitted inst.now.draft rates.now (tariff_of inst.now.draft rates.now prices.now) p.0
         (IsBefore inst.now.draft.days) result }
 {
     let first = inst.patient(p).surgery_release_day;
     let end = window_end(inst, p);
-    scratch.day = None;
-    let mut least = most;
+    let hint = scratch.begin(p);
+    let mut least = lower_first(inst, rates, prices, floors, p, hint, end, most, scratch);
     for a in first..end {
-        least = lower_by(inst, rates, prices, p, a, least, scratch);
+        least = lower_next(inst, rates, prices, floors, p, hint, a, least, scratch);
     }
+    scratch.end(p);
     least
 }
 
@@ -227,11 +293,14 @@ fn add_demand(
                 let skill = q.skill_level_required.as_slice();
                 let load = q.workload_produced.as_slice();
                 let stay = stay_from(inst, skill, load, a, q.length_of_stay);
-                demand.add_stay(inst, prices, q, a);
+                if scratch.numbered != Some(a) {
+                    choose_numbers(inst, rates, prices, &stay, scratch);
+                }
+                demand.add_stay(inst, rates, prices, q, a);
                 demand.add_care(inst, rates, prices, &stay, scratch);
             }
         }
-        None => {}
+        None => demand.add_left_out(rates),
     }
 }
 
@@ -240,15 +309,17 @@ pub fn least_of_patient(
     inst: &Instance,
     rates: &Rates,
     prices: &Prices,
+    floors: &Floors,
     p: PatientNo,
     scratch: &mut Scratch,
     demand: &mut Demand,
 ) -> u64
-    requires { p.0 < patient_count inst.now.draft }
+    requires floors { AreFloors inst.now.draft rates.now floors.now.list.items }
+    requires patient { p.0 < patient_count inst.now.draft }
     ensures { BoundsPerson inst.now.draft rates.now (tariff_of inst.now.draft rates.now prices.now) p.0 result }
 {
     let most = left_out_cost(inst, rates, p);
-    let least = least_admitted(inst, rates, prices, p, most, scratch);
+    let least = least_admitted(inst, rates, prices, floors, p, most, scratch);
     add_demand(inst, rates, prices, p, scratch, demand);
     least
 }

@@ -1,10 +1,11 @@
 //! Prices of what is scarce, and what a unit of each cost is worth. All are in parts of a unit of cost: 4,096 make one.
 
-ghost use Rattle.std.specs.Prelude.{◌≡◌, ◌+◌, ◌*◌, ◌^◌, ◌≤◌, ◌<◌, min, slice_index};
+ghost use Rattle.std.specs.Prelude.{◌≡◌, ◌+◌, ◌*◌, ◌^◌, ◌≤◌, ◌<◌, min, slice_index, []};
 ghost use Rattle.ih_bound.specs.Tariffs.{weight};
 
 use crate::scratch::zeros;
-use ih_tables::Instance;
+use ih_tables::{Instance, TheatreNo};
+use ih_validate::{Resource, limit_of};
 use std::alloc::{AllocError, Global};
 
 /// What a unit of each cost is worth: its weight in parts, or 0 where only feasibility is asked for.
@@ -118,6 +119,18 @@ impl Prices {
         })
     }
 
+    /// The same, in lists that have nothing.
+    pub fn free(alloc: Global) -> Prices
+        ensures { result.work.items ≡ [] }
+    {
+        Prices {
+            bed: Vec::new(alloc),
+            surgeon: Vec::new(alloc),
+            theatre: Vec::new(alloc),
+            work: Vec::new(alloc),
+        }
+    }
+
     /// The price of a bed on a day.
     #[inline(always)]
     pub fn bed_on(&self, d: u32) -> u64
@@ -148,6 +161,19 @@ impl Prices {
         ensures { result ≡ price_in self.now.work.items (shifts * n + k) rates.now.load }
     {
         at(self.work.as_slice(), place(shifts, n, k)).min(rates.load)
+    }
+}
+
+/// What it is worth to open a theatre, by minute of a day.
+pub fn opening(inst: &Instance, rates: &Rates, t: u32, d: u32) -> u64 {
+    if t >= inst.theatres() {
+        return 0;
+    }
+    let minutes = limit_of(inst, Resource::OfTheatre(TheatreNo(t)), d);
+    if minutes == 0 {
+        0
+    } else {
+        rates.theatre / minutes
     }
 }
 

@@ -1,5 +1,8 @@
 //! What a worker writes on while it looks at a stay.
 
+ghost use Rattle.std.specs.Prelude.{◌≡◌, ℕ, IfOk, slice_index};
+
+use ih_tables::{Instance, PatientNo};
 use std::alloc::{AllocError, Global};
 
 /// Numbers of shifts, and what else their choice needs; of any lengths.
@@ -17,10 +20,16 @@ pub struct Scratch {
     pub served: Vec<u64>,
     /// The day on which the patient pays least, where one was found.
     pub day: Option<u32>,
+    /// The day whose numbers were chosen last.
+    pub numbered: Option<u32>,
+    /// By patient, one more than the day on which it paid least before, or 0.
+    pub hints: Vec<u64>,
 }
 
 /// So many zeros.
-pub fn zeros(alloc: Global, count: usize) -> Result<Vec<u64>, AllocError> {
+pub fn zeros(alloc: Global, count: usize) -> Result<Vec<u64>, AllocError>
+    ensures { IfOk result (λ v. (i : ℕ) → slice_index v.items i ≡ 0) }
+{
     let mut list = Vec::new(alloc);
     for _ in 0..count {
         list.push(0)?;
@@ -30,14 +39,40 @@ pub fn zeros(alloc: Global, count: usize) -> Result<Vec<u64>, AllocError> {
 
 impl Scratch {
     /// All numbers are 0.
-    pub fn new(alloc: Global) -> Result<Scratch, AllocError> {
+    pub fn new(alloc: Global, inst: &Instance) -> Result<Scratch, AllocError> {
+        let shifts = inst.shifts() as usize;
+        let nurses = inst.nurses() as usize;
         Ok(Scratch {
-            numbers: zeros(alloc, 168)?,
-            costs: zeros(alloc, 168 * 512)?,
-            slack: zeros(alloc, 512)?,
-            holders: zeros(alloc, 168)?,
-            served: zeros(alloc, 168)?,
+            numbers: zeros(alloc, shifts)?,
+            costs: zeros(alloc, shifts * nurses)?,
+            slack: zeros(alloc, nurses)?,
+            holders: zeros(alloc, shifts)?,
+            served: zeros(alloc, shifts)?,
             day: None,
+            numbered: None,
+            hints: zeros(alloc, inst.patients() as usize)?,
         })
+    }
+
+    /// Begins with a patient: the day on which it paid least before, where one is known.
+    pub fn begin(&mut self, p: PatientNo) -> Option<u32> {
+        self.day = None;
+        self.numbered = None;
+        match self.hints.get(p.0 as usize) {
+            Some(0) => None,
+            Some(after) => Some((*after - 1).min(1000) as u32),
+            None => None,
+        }
+    }
+
+    /// Ends with a patient.
+    pub fn end(&mut self, p: PatientNo) {
+        let hint = match self.day {
+            Some(day) => day as u64 + 1,
+            None => 0,
+        };
+        if let Some(x) = self.hints.get_mut(p.0 as usize) {
+            *x = hint;
+        }
     }
 }

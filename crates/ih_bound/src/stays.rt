@@ -163,6 +163,9 @@ pub fn care(
     ensures { BoundsCare inst.now.draft rates.now (tariff_of inst.now.draft rates.now prices.now)
         (asked stay.now.skill.now stay.now.load.now stay.now.first stay.now.last) result }
 {
+    if rates.skill == 0 && rates.nurse == 0 && rates.load == 0 {
+        return 0;
+    }
     choose_numbers(inst, rates, prices, stay, scratch);
     let numbers = scratch.numbers.as_slice();
     if spares_few(inst, rates, prices, stay, numbers) {

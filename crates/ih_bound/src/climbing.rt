@@ -1,0 +1,176 @@
+//! Rising prices: each round tries some, and the next goes by what was asked for too much. Nothing rests on it.
+
+use crate::dealing::Worker;
+use crate::demand::{Demand, Spent};
+use crate::moving::{Directions, Step, begin, copy, occupants_by_day};
+use crate::prices::{Prices, Rates};
+use ih_tables::Instance;
+use std::alloc::{AllocError, Global};
+
+/// How prices are to rise.
+#[derive(Clone, Copy)]
+pub struct Effort {
+    /// How often prices are tried.
+    pub rounds: u32,
+    /// How many rounds begin without prices of workload.
+    pub plain: u32,
+    /// The value that is hoped for, in parts.
+    pub target: u64,
+    /// Whether any value above 0 will do.
+    pub stop_above_0: bool,
+}
+
+const WHOLE: u64 = 1 << 20;
+
+const PARTS: u64 = 4096;
+// Rounds without a better value after which steps get shorter.
+const PATIENCE: u32 = 12;
+// No shorter steps are tried.
+const SHORTEST: u64 = 128;
+
+// How long steps are, as a share of WHOLE, and since when no better value was found.
+#[derive(Clone, Copy)]
+struct Pace {
+    length: u64,
+    idle: u32,
+}
+
+/// Prices on their way up.
+#[derive(Drop)]
+pub struct Climb {
+    pub prices: Prices,
+    best_prices: Prices,
+    best: u64,
+    plain: u32,
+    pace: Pace,
+    demand: Demand,
+    directions: Directions,
+    occupants: Vec<u64>,
+    /// What the choices of the last rounds are worth on average.
+    pub spent: Spent,
+}
+
+impl Climb {
+    /// At the foot.
+    pub fn new(
+        alloc: Global,
+        inst: &Instance,
+        rates: &Rates,
+        plain: u32,
+    ) -> Result<Climb, AllocError> {
+        let mut prices = Prices::new(alloc, inst)?;
+        begin(inst, rates, &mut prices);
+        Ok(Climb {
+            prices,
+            best_prices: Prices::new(alloc, inst)?,
+            best: 0,
+            plain,
+            pace: Pace {
+                length: WHOLE,
+                idle: 0,
+            },
+            demand: Demand::new(alloc, inst)?,
+            directions: Directions::new(alloc, inst)?,
+            occupants: occupants_by_day(alloc, inst)?,
+            spent: Spent::none(),
+        })
+    }
+
+    // Adds up what all workers' persons ask for.
+    fn gather(&mut self, workers: &[Worker], round: u32) {
+        self.demand.clear();
+        for w in workers {
+            self.demand.add_all(&w.demand);
+        }
+        let now = self.demand.spent;
+        self.spent = if round == 0 {
+            now
+        } else {
+            self.spent.drawn_to(&now)
+        };
+    }
+
+    // Keeps the prices of a value that is the best so far.
+    fn keep(&mut self, value: u64) {
+        self.pace.idle = self.pace.idle.saturating_add(1);
+        if value > self.best {
+            if value > self.best.saturating_add(PARTS / 2) {
+                self.pace.idle = 1;
+            }
+            self.best = value;
+            copy(&self.prices, &mut self.best_prices);
+        }
+    }
+
+    // Goes back to the best prices, with steps so long.
+    fn go_back(&mut self, length: u64) {
+        self.pace = Pace { length, idle: 0 };
+        copy(&self.best_prices, &mut self.prices);
+    }
+
+    // Moves the prices by what is asked for; tells whether any direction was left.
+    fn step(&mut self, inst: &Instance, rates: &Rates, with_work: bool, gap: u64) -> bool {
+        self.directions
+            .turn(inst, &self.demand, self.occupants.as_slice());
+        let mut size = self
+            .directions
+            .size(inst, rates, &self.prices)
+            .saturating_mul(256);
+        if with_work {
+            self.directions
+                .turn_work(inst, rates, &self.demand, &self.prices);
+            size = size.saturating_add(self.directions.size_of_work() / 3);
+        }
+        if size == 0 {
+            return false;
+        }
+        let reach = gap.saturating_mul(self.pace.length);
+        let step = Step {
+            by: reach >> 8,
+            of: size,
+        };
+        self.directions.step(inst, rates, &mut self.prices, step);
+        if with_work {
+            let step = Step {
+                by: reach >> 12,
+                of: size.saturating_mul(3),
+            };
+            self.directions.step_work(rates, &mut self.prices, step);
+        }
+        true
+    }
+
+    /// Goes on from a round with its value; tells whether another round may bring more.
+    pub fn go_on(
+        &mut self,
+        inst: &Instance,
+        rates: &Rates,
+        effort: &Effort,
+        round: u32,
+        value: u64,
+        workers: &[Worker],
+    ) -> bool {
+        self.gather(workers, round);
+        self.keep(value);
+        if effort.stop_above_0 && value > 0 {
+            return false;
+        }
+        if round == self.plain && round > 0 {
+            self.go_back(WHOLE / 2);
+            return true;
+        }
+        if self.pace.idle > PATIENCE {
+            self.go_back(self.pace.length.saturating_mul(70) / 100);
+            if self.pace.length < SHORTEST {
+                return false;
+            }
+        }
+        let with_work = round >= self.plain && rates.load > 0;
+        let gap = effort.target.saturating_sub(value).max(10 * PARTS);
+        if self.step(inst, rates, with_work, gap) {
+            return true;
+        }
+        self.plain = round.saturating_add(1);
+        !with_work && rates.load > 0
+    }
+}
