@@ -1,6 +1,7 @@
 //! The tests, by what they are of, and the steps that several share.
 
 mod cellbook;
+mod chains;
 mod replay;
 mod rounds;
 mod snapshot;

@@ -3,12 +3,14 @@
 
 ghost use Rattle.std.specs.Prelude.{◌≡◌, ◌<◌};
 ghost use Rattle.ih_tables.specs.Sizes.{sizes_of};
-ghost use Rattle.ih_plan.specs.Cells.{count_in};
+ghost use Rattle.ih_plan.specs.{Cells.count_in, Timetable.empty};
+ghost use Rattle.ih_roomdays.specs.Ledger.{IsLedgerOf};
 ghost use Rattle.ih_fixtures.specs.Two.{IsOfTwo};
 
-use ih_fixtures::{on_two_patients, share};
-use ih_footprint::{CellList, Numbering, looks};
-use ih_plan::Move;
+use ih_fixtures::{first_day, on_two_patients, share};
+use ih_footprint::{CellList, Numbering, foot, looks};
+use ih_plan::{Move, Plan, Write};
+use ih_roomdays::RoomDays;
 use ih_tables::{Cell, Day, Instance, NurseNo, PatientNo, PersonNo, RoomNo, Shift};
 use std::alloc::Global;
 
@@ -52,6 +54,24 @@ fn are_looked_at(inst: &Instance, list: &mut CellList) -> bool
     list.cells() == [1, 14, 20].as_slice()
 }
 
+// The first patient is admitted and the first nurse has the first room in the first night: the second nurse takes it.
+// That touches the room in the night, both nurses there, and the two who are cared for.
+#[tactic(auto, using(ih_plan::proofs::PlanRanges::plan_steps))]
+fn is_touched(inst: &Instance, plan: &mut Plan, members: &mut RoomDays, list: &mut CellList) -> bool
+    requires nobody { plan.old ≡ empty inst.now.draft }
+    requires new { IsLedgerOf inst.now.draft (empty inst.now.draft) members.old }
+    requires sizes { list.old.sizes ≡ sizes_of inst.now.draft }
+    requires two { IsOfTwo inst.now.draft }
+{
+    let here = first_day(0);
+    members.enter(inst, PatientNo(0), here);
+    plan.put(&Write::SetStay(PatientNo(0), Some(here)));
+    plan.put(&Write::SetCare(RoomNo(0), Shift(2), Some(NurseNo(0))));
+    let night = Write::SetCare(RoomNo(0), Shift(2), Some(NurseNo(1)));
+    foot(inst, plan, members, &night, list);
+    list.cells() == [14, 26, 32, 36, 38].as_slice()
+}
+
 fn are_numbered(inst: &Instance) -> bool
     requires { IsOfTwo inst.now.draft }
 {
@@ -82,6 +102,29 @@ fn looks_at(alloc: Global, inst: &Instance) -> bool
     requires { IsOfTwo inst.now.draft }
 {
     CellList::new(alloc, Numbering::of(inst)).is_ok_and(|mut list| are_looked_at(inst, &mut list))
+}
+
+fn touches(alloc: Global, inst: &Instance) -> bool
+    requires { IsOfTwo inst.now.draft }
+{
+    let Ok(mut plan) = Plan::empty(alloc, inst) else {
+        return false;
+    };
+    let Ok(mut members) = RoomDays::new(alloc, inst) else {
+        return false;
+    };
+    CellList::new(alloc, Numbering::of(inst)).is_ok_and(|mut list| is_touched(
+        inst,
+        &mut plan,
+        &mut members,
+        &mut list,
+    ))
+}
+
+#[test]
+fn a_write_touches_its_cells(rt: HostRuntime) {
+    let alloc = rt.alloc();
+    assert!(rt; on_two_patients(alloc, &[], |inst| touches(alloc, inst)));
 }
 
 #[test]

@@ -58,6 +58,27 @@ fn lists_close_up(alloc: Global) -> bool {
     })
 }
 
+// Two of very many nodes, in one list.
+fn keeps_far_nodes(alloc: Global, links: &mut Links) -> bool
+    requires lists { links.old.lists ≡ [] ∷ [] ∷ [] }
+    requires nodes { links.old.nodes ≡ 430080 }
+{
+    links.push_back(0, 430_079);
+    links.push_back(0, 0);
+    let both = has_nodes(alloc, links, 0, &[430_079, 0]);
+    links.remove(430_079);
+    both && links.first(0) == Some(0) && links.home(430_079).is_none()
+}
+
+fn has_room_for_many(alloc: Global) -> bool {
+    Links::new(alloc, 2, 430_080).is_ok_and(|mut links| keeps_far_nodes(alloc, &mut links))
+}
+
+#[test]
+fn there_may_be_very_many_nodes(rt: HostRuntime) {
+    assert!(rt; has_room_for_many(rt.alloc()));
+}
+
 #[test]
 fn a_node_leaves_and_the_list_closes_up(rt: HostRuntime) {
     assert!(rt; lists_close_up(rt.alloc()));

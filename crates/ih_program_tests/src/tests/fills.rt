@@ -75,8 +75,8 @@ fn fill_alike<R: Threads + Wait + Sync, G: Gate>(
     }
 }
 
-// The same on the ward of two patients.
-fn fill_ward_alike<R: Threads + Wait + Sync, G: Gate>(
+/// The same on the ward of two patients.
+pub fn fill_ward_alike<R: Threads + Wait + Sync, G: Gate>(
     rt: &R,
     alloc: Global,
     workers: u32,

@@ -1,16 +1,13 @@
 //! Rounds over a searcher whose answers are kept.
 
-ghost use Rattle.std.specs.Prelude.{IfOk};
 ghost use Rattle.ih_plan.specs.Timetable.{IsPlanOf};
-ghost use Rattle.ih_journal.specs.Settings.{IsLawful};
-ghost use Rattle.ih_top.specs.Rounds.{IsFullFrom};
 
 use crate::tests::rounds::TWO_JOURNALS;
 use ih_fixtures::WARD;
 use ih_instance::read_instance;
 use ih_journal::{Entry, Options};
 use ih_plan::Plan;
-use ih_rounds::{Noted, RoundsEnd, SearchBy, Searcher, rounds};
+use ih_rounds::{Noted, RoundsEnd, Searcher, rounds};
 use ih_shelf::OpenGate;
 use ih_tables::Instance;
 use ih_top::search_at_desk;
@@ -26,6 +23,27 @@ const OPTIONS: Options = Options {
     hard: 1_000,
     retries: 0,
 };
+
+// Searches at a desk, and doesn't tell its answers.
+#[derive(Drop)]
+struct AtDesk;
+
+impl Searcher for AtDesk {
+    ghost use Rattle.std.specs.Prelude.{None};
+
+    ghost answers = { λ s. None };
+
+    fn search<R: Threads + Wait + Sync>(
+        &mut self,
+        rt: &R,
+        alloc: Global,
+        inst: &Instance,
+        start: &Plan,
+        options: &Options,
+    ) -> Result<Vec<Entry>, AllocError> {
+        search_at_desk(rt, alloc, inst, start, options, &OpenGate)
+    }
+}
 
 // Whether the best comes after the only move of the first round.
 fn is_after_first_move(end: &RoundsEnd) -> bool {
@@ -48,8 +66,7 @@ fn come_out<R: Threads + Wait + Sync, S: Searcher>(
     start: &Plan,
     searcher: &mut S,
 ) -> bool
-    requires start { IsPlanOf inst.now.draft start.now }
-    requires ready { S.ready searcher.old }
+    requires { IsPlanOf inst.now.draft start.now }
 {
     let mut journal = Vec::new(alloc);
     match rounds(rt, alloc, inst, start, &OPTIONS, 2, searcher, &mut journal) {
@@ -62,16 +79,7 @@ fn come_out<R: Threads + Wait + Sync, S: Searcher>(
 fn are_noted<R: Threads + Wait + Sync>(rt: &R, alloc: Global, inst: &Instance, start: &Plan) -> bool
     requires { IsPlanOf inst.now.draft start.now }
 {
-    let searcher = SearchBy {
-        search: |alloc: Global, inst: &Instance, start: &Plan, options: &Options| -> Result<
-            Vec<Entry>,
-            AllocError,
-        >
-            requires { IsPlanOf inst.now.draft start.now × IsLawful options.now }
-            ensures { IfOk result (λ v. IsFullFrom inst.entry.now.draft start.entry.now options.entry.now v.items) }
-        { search_at_desk(rt, alloc, inst, start, options, &OpenGate) },
-    };
-    let mut noted = Noted::new(alloc, searcher);
+    let mut noted = Noted::new(alloc, AtDesk);
     come_out(rt, alloc, inst, start, &mut noted) && noted.answers().len() == 2
 }
 

@@ -1,6 +1,6 @@
 //! Whole calls of searches in rounds, over files in memory.
 
-use crate::examples::COVERED_SOLUTION;
+use crate::examples::{COVERED_SOLUTION, SALVAGED};
 use crate::tests::script::Event::{Ends, Held, Holds, Store};
 use crate::tests::script::{Event, goes};
 use crate::tests::workers::STALE;
@@ -36,8 +36,9 @@ const ANOTHER_JOURNAL: Status = Status::JournalRefused(JournalRefusal {
     reason: Reason::Extra,
 });
 
-// The first of two rounds that cost the same has the best. A replay reads one journal alone.
-const FIRST_IS_BEST: [Event<'static>; 5] = [
+// The first of two rounds that cost the same has the best. A replay reads one journal alone, and a salvage takes the
+// first one.
+const FIRST_IS_BEST: [Event<'static>; 8] = [
     Store("i", WARD),
     Ends(TWO_ROUNDS, Status::Done, FIRST_OF_EQUALS),
     Holds("j", Some(TWO_JOURNALS)),
@@ -47,6 +48,9 @@ const FIRST_IS_BEST: [Event<'static>; 5] = [
         ANOTHER_JOURNAL,
         "journal refused: line 3: Extra\n",
     ),
+    Holds("p", None),
+    Ends("salvage i j p", Status::Done, SALVAGED),
+    Holds("p", Some(COVERED_SOLUTION)),
 ];
 
 #[test]

@@ -2,12 +2,11 @@
 
 use crate::tests::meeting::meet;
 use crate::tests::pairs::has_pairs;
-use crate::tests::viewing::{has_page, views};
+use crate::tests::planning::{has_page, plans, plans_like, shows};
 use crate::tests::whole_calls::{
     are_same, ends, ends_saying, exits, has_lines, have_same_lines, holds, is_held, lay, reads,
     store_changed,
 };
-use ih_look::Status as Viewed;
 use ih_shelf::{MemShelf, MemSink};
 use ih_top::Status;
 use std::alloc::Global;
@@ -43,10 +42,14 @@ pub enum Event<'a> {
     Held(&'a str, u32, &'a str, &'a str, Option<&'a str>),
     /// A search of the two patients is done past a gate at which so many workers meet, and its replay says the same.
     Meets(&'a str, u64),
-    /// A call of view ends with this status and says this text.
-    Views(&'a str, Viewed, &'a str),
+    /// A call of the planners' program ends with this status and says this text.
+    Plans(&'a str, Status, &'a str),
+    /// Such a call ends with this status and says a text that begins and ends so.
+    PlansLike(&'a str, Status, &'a str, &'a str),
     /// A name has a page.
     Page(&'a str),
+    /// A name has a text in which each of these stands.
+    Shows(&'a str, &'a [&'a str]),
     /// A name has just this text, or isn't there.
     Holds(&'a str, Option<&'a str>),
     /// Two names have the same bytes.
@@ -61,7 +64,7 @@ pub enum Event<'a> {
 
 use Event::{
     Alike, Change, Ends, Exits, FailRead, FailWrite, Held, Holds, Lay, Lines, Meets, Page, Pairs,
-    Replays, Same, SameLines, Silent, Store, Views,
+    Plans, PlansLike, Replays, Same, SameLines, Shows, Silent, Store,
 };
 
 fn is_done<R: Files + Print + Threads + Wait + Sync>(
@@ -138,6 +141,7 @@ fn is_so(shelf: &MemShelf, event: &Event<'_>) -> bool {
         Lines(name, count) => has_lines(shelf, name, count),
         Pairs(name) => has_pairs(shelf, name),
         Page(name) => has_page(shelf, name),
+        Shows(name, texts) => shows(shelf, name, texts),
         _ => false,
     }
 }
@@ -187,7 +191,10 @@ fn takes<R: Files + Print + Threads + Wait + Sync>(
             is_held_saying(rt, alloc, shelf, line, numbers, (start, end), again)
         }
         Meets(line, workers) => meet(rt, alloc, shelf, line, workers),
-        Views(line, status, text) => views(rt, alloc, shelf, line, status, text),
+        Plans(line, status, text) => plans(rt, alloc, shelf, line, status, text),
+        PlansLike(line, status, start, end) => {
+            plans_like(rt, alloc, shelf, line, status, (start, end))
+        }
         _ => is_laid(alloc, shelf, event),
     }
 }

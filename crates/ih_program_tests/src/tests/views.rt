@@ -1,11 +1,13 @@
 //! Whole calls of view, over files in memory.
 
-use crate::examples::{COVERED_SOLUTION, NOWHERE};
-use crate::tests::script::Event::{FailWrite, Holds, Lay, Page, Store, Views};
+use crate::examples::{COVERED_SOLUTION, NOTHING, NOWHERE, ONE_ADMITTED};
+use crate::tests::script::Event::{
+    Change, FailWrite, Holds, Lay, Page, Plans, PlansLike, Shows, Store,
+};
 use crate::tests::script::{Event, goes};
-use ih_fixtures::WARD;
-use ih_look::{InputRole, Status};
+use ih_fixtures::{TWO_PATIENTS, WARD};
 use ih_tables::{Fault, Refusal};
+use ih_top::{Role, Status};
 use std::alloc::Global;
 use std::rt::Files;
 use std::sync::Wait;
@@ -16,8 +18,6 @@ const NOT_JSON: Refusal = Refusal {
     at: NOWHERE,
 };
 
-const USAGE: &str = "usage: view INSTANCE SOLUTION PAGE\n";
-
 // The files of an instance `i` and a solution `s`, a call's words, and how it ends and what it says.
 type Row = (
     &'static str,
@@ -27,36 +27,34 @@ type Row = (
     &'static str,
 );
 
-// No page is written where the words name no three files, one of them is missing, or one is refused.
-const NO_PAGES: [Row; 6] = [
-    (WARD, COVERED_SOLUTION, "i s", Status::Usage, USAGE),
-    (WARD, COVERED_SOLUTION, "i s s", Status::Usage, USAGE),
+// No page is written where a file is missing or refused.
+const NO_PAGES: [Row; 4] = [
     (
         WARD,
         COVERED_SOLUTION,
-        "k s p",
-        Status::ReadFault(InputRole::Instance),
+        "view k s p",
+        Status::ReadFault(Role::Instance),
         "cannot read k\n",
     ),
     (
         WARD,
         COVERED_SOLUTION,
-        "i k p",
-        Status::ReadFault(InputRole::Solution),
+        "view i k p",
+        Status::ReadFault(Role::Solution),
         "cannot read k\n",
     ),
     (
         "",
         COVERED_SOLUTION,
-        "i s p",
+        "view i s p",
         Status::InstanceRefused(NOT_JSON),
         "instance refused: NotJson at $\n",
     ),
     (
         WARD,
         "",
-        "i s p",
-        Status::SolutionRefused(NOT_JSON),
+        "view i s p",
+        Status::StartRefused(NOT_JSON),
         "solution refused: NotJson at $\n",
     ),
 ];
@@ -65,7 +63,7 @@ fn has_no_page<R: Files + Print + Threads + Wait + Sync>(rt: &R, alloc: Global, 
     let (instance, solution, line, status, text) = *row;
     let events = [
         Lay(instance, solution),
-        Views(line, status, text),
+        Plans(line, status, text),
         Holds("p", None),
     ];
     goes(rt, alloc, events.as_slice())
@@ -80,7 +78,7 @@ fn calls_without_a_page(rt: HostRuntime) {
 const WRITTEN: [Event<'static>; 4] = [
     Lay(WARD, COVERED_SOLUTION),
     Store("p", "an older page"),
-    Views("i s p", Status::Done, ""),
+    Plans("view i s p", Status::Done, ""),
     Page("p"),
 ];
 
@@ -89,15 +87,104 @@ fn a_page_is_written(rt: HostRuntime) {
     assert!(rt; goes(&rt, rt.alloc(), &WRITTEN));
 }
 
+// What stands in the files of two patients, each with what is put in its place, and texts that the page then has.
+type Look = (
+    (&'static str, &'static str),
+    (&'static str, &'static str),
+    &'static [&'static str],
+);
+
+const UNCHANGED: (&str, &str) = (NOTHING, "");
+
+// A surgery of 0 minutes makes a day one with surgery. A nurse who is off is marked where an empty room is given. An id
+// that turns what follows ends where it stands.
+const LOOKS: [Look; 3] = [
+    (
+        ("\"surgery_duration\":60", "\"surgery_duration\":0"),
+        UNCHANGED,
+        &[
+            "<li><a href=#t0-0>theatre <bdi>t0</bdi>, day 0</a>: open\n",
+            "<td id=t0-0>0/60<i style=width:0%></i> <a href=#p0><bdi>p0</bdi></a><td id=t0-1>\n",
+            "<td id=g0-0>0/100<i style=width:0%></i> <a href=#p0><bdi>p0</bdi></a><td id=g0-1>\n",
+        ],
+    ),
+    (
+        (r#"[{"day":0,"shift":"early","max_load":10},"#, "["),
+        (
+            r#""nurses":["#,
+            r#""nurses":[{"id":"n1","assignments":[{"day":0,"shift":"early","rooms":["r1"]}]},"#,
+        ),
+        &[
+            "<li><a href=#s1-0>room <bdi>r1</bdi>, day 0, <bdi>early</bdi></a>: the nurse is off\n",
+            "<td id=n1-0 class=x>!0/off<td id=n1-1>0/10",
+        ],
+    ),
+    (
+        (r#""p0""#, "\"p\u{202e}0\""),
+        (r#""p0""#, "\"p\u{202e}0\""),
+        &["<tr id=p0><th><bdi>p\u{202e}0</bdi><td>"],
+    ),
+];
+
+fn is_shown<R: Files + Print + Threads + Wait + Sync>(rt: &R, alloc: Global, row: &Look) -> bool {
+    let ((from, to), (was, is), texts) = *row;
+    let events = [
+        Change("i", TWO_PATIENTS, from, to),
+        Change("s", ONE_ADMITTED, was, is),
+        Plans("view i s p", Status::Done, ""),
+        Shows("p", texts),
+    ];
+    goes(rt, alloc, events.as_slice())
+}
+
+fn are_shown<R: Files + Print + Threads + Wait + Sync>(rt: &R, alloc: Global) -> bool {
+    for row in &LOOKS {
+        if !is_shown(rt, alloc, row) {
+            return false;
+        }
+    }
+    true
+}
+
+#[test]
+fn what_a_page_shows(rt: HostRuntime) {
+    assert!(rt; are_shown(&rt, rt.alloc()));
+}
+
 // A page whose write is to fail is cut off, which is said.
 const CUT_OFF: [Event<'static>; 4] = [
     Lay(WARD, COVERED_SOLUTION),
     FailWrite(1, 9),
-    Views("i s p", Status::WriteFault, "cannot write p\n"),
+    Plans(
+        "view i s p",
+        Status::WriteFault(Some(Role::Out)),
+        "cannot write p\n",
+    ),
     Holds("p", Some("<!DOCTYPE")),
 ];
 
 #[test]
 fn a_page_that_fails(rt: HostRuntime) {
     assert!(rt; goes(&rt, rt.alloc(), &CUT_OFF));
+}
+
+// The words name no call, which is explained; help is given to those who ask.
+const EXPLAINED: [Event<'static>; 7] = [
+    Lay(WARD, COVERED_SOLUTION),
+    PlansLike("view i s", Status::Usage, "error: ", "'--help'.\n"),
+    PlansLike("view i s s", Status::Usage, "error: ", "'--help'.\n"),
+    PlansLike(
+        "look i s p",
+        Status::Usage,
+        "error: unrecognized subcommand 'look'",
+        "'--help'.\n",
+    ),
+    PlansLike("view --help", Status::Done, "Writes a solution", "\n"),
+    PlansLike("--help", Status::Done, "Makes timetables", "\n"),
+    Holds("p", None),
+];
+
+#[test]
+fn words_are_explained(rt: HostRuntime) {
+    assert!(rt; goes(&rt, rt.alloc(), &EXPLAINED));
 }

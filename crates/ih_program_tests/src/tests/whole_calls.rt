@@ -60,7 +60,7 @@ pub fn exits<R: Files + Print + Threads + Wait + Sync>(
     exits_past(rt, alloc, line, shelf, out, &OpenGate, status)
 }
 
-/// Whether a call ends with this status and says these bytes.
+/// Whether a call ends with this status and says these bytes. A second put is to fail, so they come in one.
 pub fn ends_saying<R: Files + Print + Threads + Wait + Sync>(
     rt: &R,
     alloc: Global,
@@ -70,9 +70,9 @@ pub fn ends_saying<R: Files + Print + Threads + Wait + Sync>(
     bytes: &[u8],
 ) -> bool {
     let mut out = MemSink::new(alloc);
-    let ended = exits(rt, alloc, line, shelf, &mut out, status);
-    let said = out.bytes() == bytes;
-    ended && said
+    out.fail_put(2).is_ok()
+        && exits(rt, alloc, line, shelf, &mut out, status)
+        && out.bytes() == bytes
 }
 
 /// Whether a call ends with this status and says this text.

@@ -88,7 +88,7 @@ pub(crate) fn offer(
     ensures others { (r : Snapshot) → IsReplicaIn book.old.base book.old.entries r
         → IsReplicaIn book.old.base book.new.entries r }
 {
-    let offer = replica.price(mv, number);
+    let offer = replica.offer(mv, number);
     if may_come(book.entries(), options, offer) {
         Some(book.commit(offer))
     } else {

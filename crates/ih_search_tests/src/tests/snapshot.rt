@@ -6,7 +6,9 @@ ghost use Rattle.ih_journal.specs.Settings.{IsLawful};
 ghost use Rattle.ih_cellbook.specs.{Keeping.base_with, Replicas.IsReplicaIn, Snapshot.Snapshot};
 
 use crate::tests::rounds::{catch_up, offer, rests_on};
-use crate::tests::steps::{FIRST_NURSE, JOIN, SECOND_NURSE, TWICE_STALE, have_prices, hot, is};
+use crate::tests::steps::{
+    COLD, FIRST_NURSE, JOIN, SECOND_NURSE, TWICE_STALE, have_prices, hot, is,
+};
 use ih_cellbook::{Book, Buffer, News};
 use ih_costs::Ledgers;
 use ih_fixtures::{on_first_admitted, share};
@@ -305,7 +307,7 @@ fn come_out_so(alloc: Global, inst: &Instance, start: &Plan) -> bool
 
 // What the first worker's price of joining the first patient rests on: the stay, the room and the theatre on the day,
 // the surgeon's day, the room and its nurse in three shifts, and who cares for the patient.
-const READS: [(u32, u32); 11] = [
+pub(crate) const READS: [(u32, u32); 11] = [
     (1, 0),
     (2, 0),
     (8, 0),
@@ -334,7 +336,7 @@ const READS_BEHIND: [(u32, u32); 11] = [
     (37, 0),
 ];
 
-// Whether the price of joining rests on what is read.
+// Whether the price of joining rests on what is read, also where it is too high to be accepted.
 fn is_priced(inst: &Instance, replica: &mut Replica<'_>) -> bool
     requires { replica.old.base.instance ≡ inst.now.draft }
 {
@@ -348,7 +350,7 @@ fn is_priced(inst: &Instance, replica: &mut Replica<'_>) -> bool
 fn rests_on_what_is_read(alloc: Global, inst: &Instance, start: &Plan) -> bool
     requires { IsPlanOf inst.now.draft start.now }
 {
-    match Replica::new(alloc, inst, start, &hot(2, 2, 0), 0, 0) {
+    match Replica::new(alloc, inst, start, &COLD, 0, 0) {
         Ok(mut zero) => {
             share(&zero);
             is_priced(inst, &mut zero)

@@ -22,6 +22,16 @@ pub(crate) fn hot(workers: u32, moves: u32, retries: u32) -> Options
     }
 }
 
+/// The options of a search in which no price above 0 is accepted.
+pub(crate) const COLD: Options = Options {
+    seed: 0,
+    workers: 1,
+    moves: 1,
+    heat: 0,
+    hard: 1_000,
+    retries: 0,
+};
+
 /// The second patient joins the first, with surgery in the second theatre.
 pub(crate) const JOIN: &str = "place:1,0,0,1";
 

@@ -11,7 +11,7 @@ use Rattle.ih_search_tests.proofs.tests.rounds.offer.Goals as goal
 pub may_come-requires : goal.may_come-requires
 may_come-requires c =
     let v = c.args.book.now in
-    let few = offered-seen v.base v.entries c.args.replica.now c.requires.replica c.args.number _ _ c.price-offer.ensures.offer in
+    let few = offered-seen v.base v.entries c.args.replica.now c.requires.replica c.args.number _ _ c.offer-offer.ensures.offer in
     let long = length-map c.entries.result.now tried in
     let same = ap length c.entries.ensures.entries in
     omega (arith, few, long, same)
@@ -19,9 +19,9 @@ may_come-requires c =
 pub commit-requires : goal.commit-requires
 commit-requires c =
     let v = c.args.book.now in
-    let o = c.price-offer.result.now in
+    let o = c.offer-offer.result.now in
     let may = c.may_come.ensures c.if-may_come.true in
-    offered-right v.base v.entries c.args.replica.now c.requires.replica c.args.number _ _ c.price-offer.ensures.offer c.price-offer.ensures.right (
+    offered-right v.base v.entries c.args.replica.now c.requires.replica c.args.number _ _ c.offer-offer.ensures.offer c.offer-offer.ensures.right (
       subst (λ (s : Options). o.worker < s.workers) c.requires.options may.0,
       subst (λ (s : Options). next_number s v.entries o.worker ≡ Some o.number) c.requires.options
           (subst (λ (H : List Tried). next_number c.args.options.now H o.worker ≡ Some o.number) c.entries.ensures.entries may.1),
@@ -31,8 +31,8 @@ commit-requires c =
 pub returns-then-may_come-clause-replica : goal.returns-then-may_come-clause-replica
 returns-then-may_come-clause-replica c =
     let v = c.args.book.now in
-    let s = c.price-offer.follows.lender-at-none in
-    let same = stands-same v.base v.entries c.args.replica.now c.requires.replica s c.price-offer.follows.holds-at-none.2 in
+    let s = c.offer-offer.follows.lender-at-none in
+    let same = stands-same v.base v.entries c.args.replica.now c.requires.replica s c.offer-offer.follows.holds-at-none.2 in
     subst (λ es. IsReplicaIn v.base es s) (sym c.commit.ensures.entries) (stands-behind v.base v.entries s same _)
 
 pub returns-then-may_come-clause-others : goal.returns-then-may_come-clause-others
@@ -43,4 +43,4 @@ returns-then-may_come-clause-others c r stands =
 pub returns-else-may_come-clause-replica : goal.returns-else-may_come-clause-replica
 returns-else-may_come-clause-replica c =
     let v = c.args.book.now in
-    stands-same v.base v.entries c.args.replica.now c.requires.replica c.price-offer.follows.lender-at-none c.price-offer.follows.holds-at-none.2
+    stands-same v.base v.entries c.args.replica.now c.requires.replica c.offer-offer.follows.lender-at-none c.offer-offer.follows.holds-at-none.2
