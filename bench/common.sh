@@ -1,3 +1,4 @@
+# shellcheck shell=bash
 # What the scripts of this folder share; each sources it. It sets
 #   top      the repository's folder
 #   program  the program under test: PROGRAM, or the one that examples/run.sh builds

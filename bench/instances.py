@@ -49,6 +49,28 @@ def full(patients):
     return one
 
 
+def shaped(name):
+    """An instance of usual size but for one thing: few rooms, many nurses, one surgeon, or weights times ten."""
+    one = generated(400)
+    if name == "few_rooms":
+        one["rooms"] = [dict(room, capacity=4) for room in one["rooms"][:8]]
+        for p in one["patients"]:
+            p.update(mandatory=False, incompatible_room_ids=[])
+            p.pop("surgery_due_day", None)
+    elif name == "many_nurses":
+        more = [dict(nurse, id="m%s" % nurse["id"]) for nurse in one["nurses"]]
+        one["nurses"] += more + [dict(nurse, id="m%s" % nurse["id"]) for nurse in more]
+    elif name == "one_surgeon":
+        one["surgeons"] = [{"id": "s0", "max_surgery_time": [1440] * 28}]
+        for p in one["patients"]:
+            p["surgeon_id"] = "s0"
+    elif name == "dear":
+        one["weights"] = {key: 10 * weight for key, weight in one["weights"].items()}
+    else:
+        raise ValueError("no shape is called %s" % name)
+    return one
+
+
 WEIGHTS = {"room_mixed_age": 5, "room_nurse_skill": 10, "continuity_of_care": 2, "nurse_eccessive_workload": 1, "open_operating_theater": 30,
            "surgeon_transfer": 7, "patient_delay": 4, "unscheduled_optional": 100}
 TYPES = ["early", "late", "night"]

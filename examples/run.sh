@@ -1,8 +1,10 @@
 #!/usr/bin/env bash
-# Builds the program where it isn't built yet, shows a search that needs no file, searches the ward of this folder,
-# shows what was written, checks it, and searches on from it while the first two days stay as they are. The first
-# build proves every crate, which takes a while; later calls start at once.
-set -eu
+# Builds both programs where they aren't built yet, shows a search that needs no file, searches the ward of this
+# folder, shows what was written, checks it, makes its page, searches on from it while the first two days stay as they
+# are, and makes a better plan with the planners' program. The first build proves every crate below the programs, which
+# takes a while; later calls start at once.
+#   examples/run.sh [FOLDER]     FOLDER takes the files
+set -euo pipefail
 top=$(cd "$(dirname "$0")/.." && pwd)
 work=${1:-$(mktemp -d)}
 mkdir -p "$work"
@@ -10,11 +12,19 @@ ward=$top/examples/ward.json
 options=(--workers 2 --moves 3000 --hard 1000)
 words=(solve "$ward" "$work/solution.json" "$work/journal.txt" --seed 1 --heat 200 "${options[@]}")
 program=$top/crates/ih_main/out/ih_main
+planner=$top/crates/ih_planner/out/ih_planner
+wanted() {
+  command -v rt >/dev/null || { echo "run.sh: Rattle's toolchain is wanted ('rt' on the path)" >&2; exit 2; }
+}
 if [ -x "$program" ]; then
   "$program" demo 7
 else
-  command -v rt >/dev/null || { echo "run.sh: Rattle's toolchain is wanted ('rt' on the path)" >&2; exit 2; }
+  wanted
   (cd "$top/crates/ih_main" && rt run -- demo 7)
+fi
+if [ ! -x "$planner" ]; then
+  wanted
+  (cd "$top/crates/ih_planner" && rt run -- --help)
 fi
 echo
 echo "The ward of examples/:"
@@ -30,9 +40,18 @@ echo
 echo "Checked, it ends with:"
 "$program" check "$ward" "$work/solution.json" | tail -n 1
 echo
+"$planner" view "$ward" "$work/solution.json" "$work/page.html"
+echo "Its page is $work/page.html"
+echo
 echo "Replayed from its journal:"
-"$program" replay "$ward" "$work/journal.txt" "$work/again.json" | head -n 1
+"$program" replay "$ward" "$work/journal.txt" "$work/again.json" >"$work/replayed.txt"
+head -n 1 "$work/replayed.txt"
 cmp "$work/solution.json" "$work/again.json"
 echo
 echo "Searched on from there, with days 0 and 1 as they are:"
-"$program" solve "$ward" "$work/better.json" "$work/journal2.txt" --seed 2 --heat 0 "${options[@]}" --start "$work/solution.json" --freeze 2 | sed -n '1p;$p'
+"$program" solve "$ward" "$work/better.json" "$work/journal2.txt" --seed 2 --heat 0 "${options[@]}" \
+  --start "$work/solution.json" --freeze 2 | sed -n '1p;$p'
+echo
+echo "Made better by the planners' program, with days 0 and 1 as they are:"
+"$planner" improve "$ward" "$work/best.json" --seed 1 --workers 2 --attempts 50000 --rounds 4 \
+  --start "$work/solution.json" --freeze 2 | sed -n '1,4p;$p'
