@@ -8,6 +8,7 @@ mod memory;
 mod never_fails;
 mod outside;
 mod real;
+mod replace;
 mod sink;
 mod stored;
 mod transfer;

@@ -3,6 +3,7 @@
 ghost use Rattle.std.specs.Prelude.{◌≤◌, IfOk, vec_len};
 
 use crate::outside::{ReadError, Shelf, Sink, WriteError};
+use crate::replace::write_file;
 use crate::transfer::{read_within, write_whole};
 use std::alloc::Global;
 use std::marker::Model;
@@ -16,14 +17,12 @@ fn read_file<R: Files>(rt: &R, alloc: Global, name: &str, limit: u64) -> Result<
     read_within(&mut file, alloc, limit)
 }
 
-fn write_file<R: Files>(rt: &R, name: &str, bytes: &[u8]) -> Result<(), WriteError> {
-    let mut file = fs::create(rt, name).map_err(|_| WriteError::Fault)?;
-    write_whole(&mut file, bytes)
-}
-
-/// Real files. It tells nothing of what they hold, and counts each failure of the file system.
+/// Real files. It tells nothing of what they hold, and counts each failure of the file system. A regular file is
+/// replaced as one step: where a write fails it has what it had.
 #[derive(Drop)]
 pub struct FileShelf {
+    // Where the last read took its memory. Links are followed with it.
+    memory: Option<Global>,
     read_faults: u64,
     write_faults: u64,
 }
@@ -43,6 +42,7 @@ impl FileShelf {
         ensures { result ≡ record { reads = 0; writes = 0 } }
     {
         FileShelf {
+            memory: None,
             read_faults: 0,
             write_faults: 0,
         }
@@ -74,6 +74,7 @@ impl Shelf for FileShelf {
         ensures limit { IfOk result (λ v. vec_len v ≤ limit) }
         ensures count { self.old.reads ≤ self.new.reads }
     {
+        self.memory = Some(alloc);
         let result = read_file(rt, alloc, name, limit);
         if let Err(ReadError::Fault) = result {
             self.read_faults = self.read_faults.saturating_add(1);
@@ -89,7 +90,7 @@ impl Shelf for FileShelf {
         // What every shelf promises.
         ensures count { self.old.writes ≤ self.new.writes }
     {
-        let result = write_file(rt, name, bytes);
+        let result = write_file(rt, self.memory, name, bytes);
         if result.is_err() {
             self.write_faults = self.write_faults.saturating_add(1);
         }
