@@ -65,6 +65,9 @@ better-through hard w a b c =
     (less-through (score hard w a) (score hard w b) (score hard w c))
 
 module _ (I : Draft) (hard : ℕ) where
+  abbrev pub IsBetter : Timetable → Timetable → Type 0
+  IsBetter A B = is_better hard I.weights (bill_of I A) (bill_of I B) ≡ true
+
   pub better-no_dearer : (P Q : Timetable) → IsNoDearer I P (better_of I hard P Q)
   unfolding better_of
   better-no_dearer P Q = by_case (is_better hard I.weights (bill_of I Q) (bill_of I P)) refl
@@ -78,7 +81,7 @@ module _ (I : Draft) (hard : ℕ) where
           (int_lt (score hard w (bill_of I Q)) (score hard w (bill_of I P))) on in
           record { works = λ h. (facts h).0; cheap = λ h. less-most (cost w (bill_of I Q)) (cost w (bill_of I P)) (facts h).1 }
 
-  pub better-second : (P Q : Timetable) → is_better hard I.weights (bill_of I Q) (bill_of I P) ≡ true → Q ≡ better_of I hard P Q
+  pub better-second : (P Q : Timetable) → IsBetter Q P → Q ≡ better_of I hard P Q
   unfolding better_of
   better-second P Q on = ap (λ (t : Bool). if t then Q else P) (sym on)
 
@@ -86,14 +89,10 @@ module _ (I : Draft) (hard : ℕ) where
   unfolding better_of
   better-first P Q off = ap (λ (t : Bool). if t then Q else P) (sym off)
 
-  abbrev IsBetter : Timetable → Timetable → Type 0
-  IsBetter A B = is_better hard I.weights (bill_of I A) (bill_of I B) ≡ true
-
   -- the best of all is the first, or better
-  best-bettered : (P : Timetable) (Qs : List Timetable)
-      → (best_of I hard P Qs ≡ P) ⊎ (is_better hard I.weights (bill_of I (best_of I hard P Qs)) (bill_of I P) ≡ true)
-  best-bettered P [] = inl refl
-  best-bettered P (Q ∷ Qs) = by_case (λ A. best-bettered A Qs) (is_better hard I.weights (bill_of I Q) (bill_of I P)) refl
+  first-or-better : (P : Timetable) (Qs : List Timetable) → (best_of I hard P Qs ≡ P) ⊎ IsBetter (best_of I hard P Qs) P
+  first-or-better P [] = inl refl
+  first-or-better P (Q ∷ Qs) = by_case (λ A. first-or-better A Qs) (is_better hard I.weights (bill_of I Q) (bill_of I P)) refl
     where
       onward : IsBetter Q P → (best_of I hard Q Qs ≡ Q) ⊎ IsBetter (best_of I hard Q Qs) Q → IsBetter (best_of I hard Q Qs) P
       onward on (inl is) = subst (λ (A : Timetable). IsBetter A P) (sym is) on
@@ -106,9 +105,9 @@ module _ (I : Draft) (hard : ℕ) where
 
   pub best-same : (P : Timetable) (Qs : List Timetable) → is_better hard I.weights (bill_of I (best_of I hard P Qs)) (bill_of I P) ≡ false
       → best_of I hard P Qs ≡ P
-  best-same P Qs off = by_case (best-bettered P Qs)
+  best-same P Qs off = by_case (first-or-better P Qs)
     where
-      by_case : (best_of I hard P Qs ≡ P) ⊎ (is_better hard I.weights (bill_of I (best_of I hard P Qs)) (bill_of I P) ≡ true) → best_of I hard P Qs ≡ P
+      by_case : (best_of I hard P Qs ≡ P) ⊎ IsBetter (best_of I hard P Qs) P → best_of I hard P Qs ≡ P
       by_case (inl is) = is
       by_case (inr on) = absurd (let no : false ≡ true = sym off ∙ on in cc)
 

@@ -16,7 +16,7 @@ use Rattle.ih_answers.specs.Ends.{Unchanged}
 use Rattle.ih_answers.proofs.Files.{told-same, told-weaker}
 use Rattle.ih_answers.proofs.Saying.{answers-weaker}
 use Rattle.ih_planning.specs.Rounds.{WritesBest}
-use Rattle.ih_planning.specs.Searching.{BestEnds, KeepsUp, WriteEnds}
+use Rattle.ih_planning.specs.Searching.{BestEnds, KeepsFileCurrent, WriteEnds}
 
 -- ---- the write
 
@@ -66,8 +66,8 @@ none-written out v names shelf true lacks =
 none-written out v names shelf false lacks = refl
 
 -- a round leaves the file right, by whether its best was to be written
-pub kept-up : {X : Type 0} (out : List ℕ) (w v : Improving) (names : X → Option Names) (old new : X) (b : Bool) → (b ≡ false → 0 < w.rounds)
+pub file-current : {X : Type 0} (out : List ℕ) (w v : Improving) (names : X → Option Names) (old new : X) (b : Bool) → (b ≡ false → 0 < w.rounds)
     → (b ≡ false → v.kept ≡ w.kept) → MatchBool b (IfTold (WritesBest out v) (names old) (names new)) (new ≡ old)
-    → KeepsUp out w v (names old) (names new)
-kept-up out w v names old new true later same h = inl h
-kept-up out w v names old new false later same h = inr (later refl, same refl, told-same (names old) (names new) (ap names h))
+    → KeepsFileCurrent out w v (names old) (names new)
+file-current out w v names old new true later same h = inl h
+file-current out w v names old new false later same h = inr (later refl, same refl, told-same (names old) (names new) (ap names h))

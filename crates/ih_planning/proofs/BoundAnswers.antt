@@ -17,12 +17,12 @@ use Rattle.ih_answers.specs.Ends.{Unchanged}
 use Rattle.ih_answers.proofs.Files.{told-same}
 use Rattle.ih_answers.proofs.Saying.{IsAnswerable, said-answer, said-status, unsaid-by}
 use Rattle.ih_answers.proofs.Stopping.{unread-memory}
-use Rattle.ih_bound.specs.Bounds.{AddUp, HoldsOfAll, IsFeasible}
+use Rattle.ih_bound.specs.Bounds.{AddUp, HoldsOfAll}
 use Rattle.ih_bound.specs.declared.outcomes.Outcome.{Outcome}
 use Rattle.ih_bound.specs.declared.outcomes.Outcome.TheVariants.{Infeasible, AtLeast}
 use Rattle.ih_planning.specs.Bound.{BoundCall, bound_inputs}
 use Rattle.ih_planning.specs.BoundTexts.{above, bound_text}
-use Rattle.ih_planning.specs.Bounding.{BoundEnds, HasGap, bound_status, cost_of, is_fine, judged_of}
+use Rattle.ih_planning.specs.Bounding.{BoundEnds, HasGap, bound_status, cost_of, no_infeasibility, judged_of}
 
 -- ---- how far from the best
 
@@ -65,11 +65,11 @@ pub bound-memory : (c : BoundCall) (files : Option Names) (a : Answer) → a.sta
 bound-memory c files a is = inl (is, unread-memory files (bound_inputs c))
 
 pub bound-ends : (c : BoundCall) (files : Option Names) (I : Draft) (P : Timetable) (outcome : Outcome) (a : Answer) → HasInputs files (bound_inputs c) I P → IsPlanOf I P
-    → HoldsOfAll I outcome → AddUp outcome → IsSaid (bound_status (is_fine (judged_of c.solution I P) outcome)) (bound_text (judged_of c.solution I P) outcome) a
+    → HoldsOfAll I outcome → AddUp outcome → IsSaid (bound_status (no_infeasibility (judged_of c.solution I P) outcome)) (bound_text (judged_of c.solution I P) outcome) a
     → Answers (BoundEnds c files) a
-bound-ends c files I P outcome a inputs plan holds parts said = by_case (is_fine (judged_of c.solution I P) outcome) refl said
+bound-ends c files I P outcome a inputs plan holds parts said = by_case (no_infeasibility (judged_of c.solution I P) outcome) refl said
   where
-    by_case : (fine : Bool) → is_fine (judged_of c.solution I P) outcome ≡ fine → IsSaid (bound_status fine) (bound_text (judged_of c.solution I P) outcome) a → Answers (BoundEnds c files) a
+    by_case : (none : Bool) → no_infeasibility (judged_of c.solution I P) outcome ≡ none → IsSaid (bound_status none) (bound_text (judged_of c.solution I P) outcome) a → Answers (BoundEnds c files) a
     by_case true is said =
         said-answer (BoundEnds c files) (bound-answerable c files) Done (bound_text (judged_of c.solution I P) outcome) a
         (record { instance = I; plan = P; inputs = inputs; outcome = outcome; holds = holds; parts = parts; gap = gap-true I P outcome plan holds; said = refl }, is) said
@@ -78,7 +78,7 @@ bound-ends c files I P outcome a inputs plan holds parts said = by_case (is_fine
         (record { instance = I; plan = P; inputs = inputs; outcome = outcome; holds = holds; parts = parts; gap = gap-true I P outcome plan holds; said = refl }, is) said
 
 -- no file failed
-pub bound-cause : (fine : Bool) (text : List ℕ) (a : Answer) → IsSaid (bound_status fine) text a → (reads reads' writes writes' : ℕ)
+pub bound-cause : (none : Bool) (text : List ℕ) (a : Answer) → IsSaid (bound_status none) text a → (reads reads' writes writes' : ℕ)
     → HasFileCause reads reads' writes writes' a.status
 bound-cause true text a said reads reads' writes writes' = said-status (HasFileCause reads reads' writes writes') Done text a tt tt said
 bound-cause false text a said reads reads' writes writes' = said-status (HasFileCause reads reads' writes writes') NotFeasible text a tt tt said

@@ -1,6 +1,7 @@
 -- What the ends of the commands have in common: each may fail to be said, and at each memory may run out.
 use Rattle.std.proofs.Common.{refl, inl, Option, Some, None, List, ℕ}
 use Rattle.std.specs.Prelude.{◌⊎◌}
+use Rattle.clap.specs.Words.{Text}
 use Rattle.ih_shelf.specs.Outside.{Names}
 use Rattle.ih_answers.specs.declared.status.Status.{Status}
 use Rattle.ih_answers.specs.declared.status.Status.TheVariants.{OutOfMemory}
@@ -13,9 +14,9 @@ use Rattle.ih_planning.specs.Bound.{bound_inputs}
 use Rattle.ih_planning.specs.Words.{Call, bound, improve, view}
 use Rattle.ih_planning.proofs.SearchEnding.{improve-memory}
 
-pub no_call-answerable : IsAnswerable NoCallEnds
-no_call-answerable = record {
-  unsaid = λ status text some h. unsaid-by NoCallEnds text (λ help. tt) (λ none. absurd none) status h;
+pub no_call-answerable : (words : List Text) → IsAnswerable (NoCallEnds words)
+no_call-answerable words = record {
+  unsaid = λ status text some h. unsaid-by (NoCallEnds words) text (λ help. help) (λ none. absurd none) status h;
   memory = λ status text h. refl;
 }
 
@@ -27,10 +28,11 @@ call-memory (view v) files = (inl (told-same files files refl), refl)
 call-memory (bound b) files = (told-same files files refl, unread-memory files (bound_inputs b))
 
 -- whatever call the words name, and also where they name none
-pub memory-leaves : (call : Option Call) (files : Option Names) (cause : Status → Type 0) (received part : List ℕ → Type 0) → cause OutOfMemory
-    → received memory_text ⊎ part memory_text → Leaves call files files cause received part OutOfMemory
-memory-leaves None files cause received part why h = (told-same files files refl, memory-ended NoCallEnds cause received part refl why h)
-memory-leaves (Some call) files cause received part why h = memory-ended (CallEnds call files files) cause received part (call-memory call files) why h
+pub memory-leaves : (words : List Text) (call : Option Call) (files : Option Names) (cause : Status → Type 0) (received part : List ℕ → Type 0) → cause OutOfMemory
+    → received memory_text ⊎ part memory_text → Leaves words call files files cause received part OutOfMemory
+memory-leaves words None files cause received part why h =
+    (told-same files files refl, memory-ended (NoCallEnds words) cause received part refl why h)
+memory-leaves words (Some call) files cause received part why h = memory-ended (CallEnds call files files) cause received part (call-memory call files) why h
 
 -- a shelf that nothing was asked of
 pub untouched : {X : Type 0} (call : Option Call) (shelf : X) → IsUntouched call shelf shelf

@@ -1,6 +1,7 @@
 -- A call whose files are accepted, and in which no count rose, comes to its end.
 use Rattle.std.proofs.Common.{◌≡◌, ◌∙◌, ℕ, refl, sym, subst, arith, inl, inr, List, Option, Some, None}
 use Rattle.std.specs.Prelude.{Result, Ok, Err}
+use Rattle.clap.specs.Words.{Text}
 use Rattle.ih_tables.specs.declared.drafts.Draft.{Draft}
 use Rattle.ih_tables.specs.declared.refusals.Refusal.{Refusal}
 use Rattle.ih_plan.specs.Timetable.{Timetable}
@@ -111,11 +112,11 @@ memory-answered (improve c) = inr (inr refl)
 memory-answered (view v) = inr refl
 memory-answered (bound b) = inr (inr refl)
 
-pub complete : (call : Call) (old new : Option Names) (why : Status → Type 0) (received part : List ℕ → Type 0) (reads reads' writes writes' puts puts' : ℕ) (status : Status)
-    → Leaves (Some call) old new why received part status → HasCause reads reads' writes writes' puts puts' status
+pub complete : (words : List Text) (call : Call) (old new : Option Names) (why : Status → Type 0) (received part : List ℕ → Type 0) (reads reads' writes writes' puts puts' : ℕ) (status : Status)
+    → Leaves words (Some call) old new why received part status → HasCause reads reads' writes writes' puts puts' status
     → IsComplete (Some call) old (Rose reads reads') (Rose writes writes') (Rose puts puts') status
-complete call None new why received part reads reads' writes writes' puts puts' status ends cause = tt
-complete call (Some files) new why received part reads reads' writes writes' puts puts' status ends cause = λ has calm kept heard.
+complete words call None new why received part reads reads' writes writes' puts puts' status ends cause = tt
+complete words call (Some files) new why received part reads reads' writes writes' puts puts' status ends cause = λ has calm kept heard.
     reached (IsAnswered call) (CallEnds call (Some files) new) why received part (memory-answered call) (answered call files new has) status
     (no-fault reads reads' writes writes' puts puts' calm kept heard status cause) ends
 

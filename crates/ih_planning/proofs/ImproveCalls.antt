@@ -17,7 +17,7 @@ use Rattle.ih_answers.proofs.Files.{told-same}
 use Rattle.ih_answers.proofs.Later.{file-cause-from}
 use Rattle.ih_answers.proofs.Saying.{answers-weaker, ended, memory-ended}
 use Rattle.ih_planning.specs.Improve.{ImproveCall, improve_inputs}
-use Rattle.ih_planning.specs.Searching.{AreSettingsOf, BegunEnds, ImproveEnds, SearchEnds, fresh}
+use Rattle.ih_planning.specs.Searching.{AreSettingsOf, BegunEnds, ImproveEnds, SearchEnds, new_search}
 use Rattle.ih_planning.proofs.SearchEnding.{Unread, ends-as, improve-memory, improve-unread, improve-unread-answerable}
 
 module _ (c : ImproveCall) (received part : List ℕ → Type 0) (status : Status) where
@@ -46,7 +46,7 @@ module _ (c : ImproveCall) (received part : List ℕ → Type 0) (status : Statu
     -- ---- the search
 
     -- it began from a start, with settings of the call
-    pub searched-ended : (old new : Option Names) (I : Draft) (start : Timetable) (s : Settings) (v : Improving) → v ≡ fresh I start s
+    pub searched-ended : (old new : Option Names) (I : Draft) (start : Timetable) (s : Settings) (v : Improving) → v ≡ new_search I start s
         → AreSettingsOf c s → Ends (SearchEnds c.out v old new) cause received part status
         → Ends (BegunEnds c I start old new) cause received part status
     searched-ended old new I start s v is settings =

@@ -2,10 +2,12 @@ pub mod BestWriting
 pub mod BoundAnswers
 pub mod CallEnds
 pub mod Completeness
+pub mod Descriptions
 pub mod FirstWord
 pub mod ImproveCalls
 pub mod PageEnds
 pub mod Promises
+pub mod PutCounts
 pub mod RoundSteps
 pub mod SameRounds
 pub mod SearchEnding

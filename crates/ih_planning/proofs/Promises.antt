@@ -13,7 +13,7 @@ use Rattle.ih_answers.specs.Ends.{Unchanged}
 use Rattle.ih_answers.proofs.Files.{told-weaker}
 use Rattle.ih_answers.proofs.Stopping.{unread-only}
 use Rattle.ih_planning.specs.Improve.{ImproveCall, improve_inputs}
-use Rattle.ih_planning.specs.Laws.{DoneCallsHaveImproved, IsImproved, VainCallsChangeNothing}
+use Rattle.ih_planning.specs.Laws.{DoneCallsHaveImproved, IsImproved, NoneFoundChangesNothing}
 use Rattle.ih_planning.specs.Rounds.{AreRounds, HoldsBest, Round, kept_after, progress}
 use Rattle.ih_planning.specs.Searching.{IsSearch}
 
@@ -61,6 +61,6 @@ pub done-improved : DoneCallsHaveImproved
 done-improved c old new text (inl (kept, unread)) = absurd (unread-only old (improve_inputs c) Done text unread)
 done-improved c old new text (inr (v, is, (h, all, works, said))) = improved c old new text v is h.rounds all h.are h.held works said
 
-pub none-unchanged : VainCallsChangeNothing
+pub none-unchanged : NoneFoundChangesNothing
 none-unchanged c old new text (inl (kept, unread)) = kept
 none-unchanged c old new text (inr (v, is, (h, all, lacks, said))) = untouched c old new text v is h.rounds h.held lacks

@@ -15,10 +15,10 @@ use Rattle.ih_answers.specs.declared.status.Role.TheVariants.{Out}
 use Rattle.ih_answers.specs.Answers.{HasFileCause}
 use Rattle.ih_answers.specs.Ends.{Ends, Received, Unchanged}
 use Rattle.ih_answers.specs.Texts.{ReceivedPart, memory_text}
-use Rattle.ih_answers.proofs.Files.{begun, told-same, told-then}
+use Rattle.ih_answers.proofs.Files.{told-same, told-then}
 use Rattle.ih_answers.proofs.Later.{appended-then, ends-later, file-cause-from, part-later, received-later}
 use Rattle.ih_planning.specs.Rounds.{HoldsBest, Round, WritesBest, after_rounds, kept_after, round_line}
-use Rattle.ih_planning.specs.Searching.{BreaksOff, GoesOn, HasRounds, KeepsUp, LineEnds, RoundEnds, StopsEarly, WriteEnds, searched, told}
+use Rattle.ih_planning.specs.Searching.{GoesOn, HasRounds, IsLastUntold, KeepsFileCurrent, LineEnds, MayBeCutOff, RoundEnds, StopsEarly, WriteEnds, searched, told}
 
 -- ---- the file
 
@@ -77,9 +77,9 @@ told-nothing (Some x) = sym (append-nil x)
 
 pub underway-begins : (out : List ℕ) (v : Improving) (files : Option Names) (said : Option (List ℕ)) → v.rounds ≡ 0
     → Underway out v v files files said said
-underway-begins out v files said fresh = record {
+underway-begins out v files said none = record {
   rounds = record { rounds = []; few = omega arith; are = tt; led = tt; held = told-same files files refl };
-  is = ap (λ (n : ℕ). let w : Improving = record v { rounds = n } in w) fresh;
+  is = ap (λ (n : ℕ). let w : Improving = record v { rounds = n } in w) none;
   lines = told-nothing said;
 }
 
@@ -117,7 +117,7 @@ module _ (out : List ℕ) (v w w' : Improving) (old mid : Option Names) (said no
   few-there : (heat : ℕ) → length (round heat ∷ u.rounds.rounds) ≤ v.settings.rounds
   few-there heat = subst (λ (x : Improving). x.rounds ≤ x.settings.rounds) (led heat) sound.rounds
 
-  held-then : (heat : ℕ) (new : Option Names) → KeepsUp out w w' mid new → IfTold (HoldsBest out v (round heat ∷ u.rounds.rounds)) old new
+  held-then : (heat : ℕ) (new : Option Names) → KeepsFileCurrent out w w' mid new → IfTold (HoldsBest out v (round heat ∷ u.rounds.rounds)) old new
   held-then heat new (inl wrote) =
       told-then (HoldsBest out v u.rounds.rounds) (WritesBest out (after_rounds v (round heat ∷ u.rounds.rounds)))
       (HoldsBest out v (round heat ∷ u.rounds.rounds)) old mid new
@@ -131,7 +131,7 @@ module _ (out : List ℕ) (v w w' : Improving) (old mid : Option Names) (said no
       (λ x y z h k. holds-same out v u.rounds.rounds w'.kept x z some kept (holds-kept out v u.rounds.rounds x y z h k)) u.rounds.held same
 
   -- the rounds with the next one
-  abbrev next : (heat : ℕ) (new : Option Names) → KeepsUp out w w' mid new → HasRounds out v old new
+  abbrev next : (heat : ℕ) (new : Option Names) → KeepsFileCurrent out w w' mid new → HasRounds out v old new
   next heat new wrote = record {
     rounds = round heat ∷ u.rounds.rounds;
     few = few-there heat;
@@ -150,18 +150,8 @@ module _ (out : List ℕ) (v w w' : Improving) (old mid : Option Names) (said no
 
   -- ---- where the search stops
 
-  abbrev kept : (new : Option Names) → IfTold Unchanged mid new → HasRounds out v old new
-  kept new same = record {
-    rounds = u.rounds.rounds;
-    few = u.rounds.few;
-    are = u.rounds.are;
-    led = u.rounds.led;
-    held = told-then (HoldsBest out v u.rounds.rounds) Unchanged (HoldsBest out v u.rounds.rounds) old mid new
-        (holds-kept out v u.rounds.rounds) u.rounds.held same;
-  }
-
   abbrev broken : (new : Option Names) → feasible (bill_of w'.instance w'.kept) ≡ true → IfTold (MayBeWritten out (solution w'.instance w'.kept)) mid new
-      → BreaksOff out v old new
+      → MayBeCutOff out v old new
   broken new works part = record {
     before = mid;
     rounds = u.rounds;
@@ -177,22 +167,21 @@ module _ (out : List ℕ) (v w w' : Improving) (old mid : Option Names) (said no
   stops-best : (new : Option Names) → feasible (bill_of w'.instance w'.kept) ≡ true → (status : Status) (text : List ℕ)
       → WriteEnds out (solution w'.instance w'.kept) mid new status text → StopsEarly out v old new status (told u.rounds ++ text)
   stops-best new works (WriteFault (Some Out)) text (part, is) = (broken new works part, ap (λ (t : List ℕ). told u.rounds ++ t) is)
-  stops-best new works OutOfMemory text (part, is) = inr (broken new works part, ap (λ (t : List ℕ). told u.rounds ++ t) is)
+  stops-best new works OutOfMemory text (part, is) = inr (inr (broken new works part, ap (λ (t : List ℕ). told u.rounds ++ t) is))
   stops-best new works status text h = absurd h
 
-  -- memory ran out for the line
-  unlined-written : (new : Option Names) (text : List ℕ) → text ≡ memory_text → (b : Bool) → feasible (bill_of w'.instance w'.kept) ≡ b
-      → IfTold (Writes b out (solution w'.instance w'.kept)) mid new
-      → StopsEarly out v old new OutOfMemory (told u.rounds ++ text)
-  unlined-written new text is true works wrote = inr (broken new works (begun out _ mid new wrote), ap (λ (t : List ℕ). told u.rounds ++ t) is)
-  unlined-written new text is false fails wrote = inl (kept new wrote, ap (λ (t : List ℕ). told u.rounds ++ t) is)
+  -- memory ran out before the line was made
+  untold : (new : Option Names) → KeepsFileCurrent out w w' mid new → (heat : ℕ) (text : List ℕ) → text ≡ memory_text
+      → IsLastUntold out v old new (told u.rounds ++ text)
+  untold new wrote heat text is = record {
+    rounds = next heat new wrote;
+    last = round heat;
+    earlier = u.rounds.rounds;
+    are = refl;
+    said = ap (λ (t : List ℕ). told u.rounds ++ t) is;
+  }
 
-  unlined : (new : Option Names) (text : List ℕ) → text ≡ memory_text → KeepsUp out w w' mid new
-      → StopsEarly out v old new OutOfMemory (told u.rounds ++ text)
-  unlined new text is (inl wrote) = unlined-written new text is (feasible (bill_of w'.instance w'.kept)) refl wrote
-  unlined new text is (inr (later, before, same)) = inl (kept new same, ap (λ (t : List ℕ). told u.rounds ++ t) is)
-
-  stops-line : (new : Option Names) → KeepsUp out w w' mid new → (heat : ℕ) (status : Status) (text : List ℕ) → LineEnds w' heat status text
+  stops-line : (new : Option Names) → KeepsFileCurrent out w w' mid new → (heat : ℕ) (status : Status) (text : List ℕ) → LineEnds w' heat status text
       → StopsEarly out v old new status (told u.rounds ++ text)
   stops-line new wrote heat (WriteFault None) text is = (
     next heat new wrote,
@@ -203,7 +192,7 @@ module _ (out : List ℕ) (v w w' : Improving) (old mid : Option Names) (said no
     ap (λ (t : List ℕ). told u.rounds ++ t) (is ∙ ap (λ (x : Improving). round_line x heat ++ memory_text) (led heat))
         ∙ sym (append_assoc (told u.rounds) (round_line (after_rounds v (round heat ∷ u.rounds.rounds)) heat) memory_text),
   )
-  stops-line new wrote heat OutOfMemory text (inl is) = unlined new text is wrote
+  stops-line new wrote heat OutOfMemory text (inl is) = inr (inl (untold new wrote heat text is))
   stops-line new wrote heat status text h = absurd h
 
   pub stops : (new : Option Names) (status : Status) (text : List ℕ) → RoundEnds out w w' mid new status text

@@ -24,7 +24,7 @@ use Rattle.ih_answers.proofs.Later.{cause-from, ends-later, part-later, part-lon
 use Rattle.ih_answers.proofs.Saying.{IsAnswerable, beside, ended, has-cause, memory-ended, said-answer, said-status, unsaid-by}
 use Rattle.ih_answers.proofs.Stopping.{unread-answerable, unread-memory}
 use Rattle.ih_planning.specs.Improve.{ImproveCall, improve_inputs}
-use Rattle.ih_planning.specs.Searching.{AllOver, AreOver, BegunEnds, BestEnds, HasRounds, ImproveEnds, IsSearch, KeepsUp, LineEnds, RoundEnds, SearchEnds, StopsEarly, WriteEnds, ending_status, ending_text, fresh, searched, told}
+use Rattle.ih_planning.specs.Searching.{AllOver, AreOver, BegunEnds, BestEnds, HasRounds, ImproveEnds, IsSearch, KeepsFileCurrent, LineEnds, RoundEnds, SearchEnds, StopsEarly, WriteEnds, ending_status, ending_text, new_search, searched, told}
 use Rattle.ih_planning.specs.Rounds.{round_line}
 
 -- ---- one round
@@ -62,7 +62,7 @@ module _ (out : List ℕ) (w v : Improving) (old new : Option Names) (cause : St
   best-ended = ends-as (BestEnds out v old new) (RoundEnds out w v old new) cause cause received part (λ s t h. inl h) (λ s h. h)
 
   -- a round in which its line did
-  pub line-ended : KeepsUp out w v old new → cause OutOfMemory → (heat : ℕ) (status : Status)
+  pub line-ended : KeepsFileCurrent out w v old new → cause OutOfMemory → (heat : ℕ) (status : Status)
       → Ends (LineEnds v heat) (λ s. s ≡ OutOfMemory) received part status → Ends (RoundEnds out w v old new) cause received part status
   line-ended kept why heat =
       ends-as (LineEnds v heat) (RoundEnds out w v old new) (λ s. s ≡ OutOfMemory) cause received part (λ s t h. inr (kept, (heat, h)))
@@ -187,12 +187,12 @@ module _ (c : ImproveCall) (old new : Option Names) where
   begun-ends I J P start has same is status text (inl (ran, kept, said)) =
       subst (λ (s : Status). ImproveEnds c old new s text) (sym ran) (subst (ImproveEnds c old new OutOfMemory) (sym said) (improve-memory kept))
   begun-ends I J P start has same is status text (inr (s, settings, h)) =
-      improve-searched (fresh J start s)
+      improve-searched (new_search J start s)
       (record {
         given = P;
         inputs = subst (λ (X : Draft). HasInputs old (improve_inputs c) X P) (sym same) has;
         start = is ∙ ap (λ (X : Draft). started c.start.fill c.hard X P) (sym same);
-        fresh = refl;
+        is_new = refl;
         settings = settings;
       })
       status text h

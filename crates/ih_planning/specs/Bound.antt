@@ -7,7 +7,7 @@ use Rattle.ih_words.specs.Arguments.{named, optional_between}
 use Rattle.ih_words.specs.Matches.{HasText, IsNumberIfGiven, number_if_given, text_at}
 use Rattle.ih_inputs.specs.Reading.{InputFiles}
 use Rattle.ih_planning.specs.declared.bound_words.Bound.{Bound}
-use Rattle.ih_planning.specs.declared.bound_words.TheConstants.{DEFAULT_BOUND_WORKERS, DEFAULT_TRIES, MAX_TRIES}
+use Rattle.ih_planning.specs.declared.bound_words.TheConstants.{DEFAULT_BOUND_WORKERS, DEFAULT_BOUND_ROUNDS, MAX_BOUND_ROUNDS}
 
 -- an argument with one value, by its place, which may be left out
 abbrev pub optional_name : Text → Rule
@@ -19,7 +19,7 @@ bound_app = with_rule (with_rule (with_rule (with_rule
     (new_app (codes "bound"))
     (named (codes "INSTANCE")))
     (optional_name (codes "SOLUTION")))
-    (optional_between (codes "rounds") 1 MAX_TRIES))
+    (optional_between (codes "rounds") 1 MAX_BOUND_ROUNDS))
     (optional_between (codes "workers") 1 MAX_WORKERS)
 
 -- what a call of bound asks for; a file's name is its bytes
@@ -46,7 +46,7 @@ bound_inputs c = record { instance = c.instance; solution = c.solution }
 -- what the rules of its arguments say of the matches of bound
 pub record HasBound (rows : List Row) : Type 0 where
   pub instance : HasText (codes "INSTANCE") rows
-  pub rounds : IsNumberIfGiven 1 MAX_TRIES (codes "rounds") rows
+  pub rounds : IsNumberIfGiven 1 MAX_BOUND_ROUNDS (codes "rounds") rows
   pub workers : IsNumberIfGiven 1 MAX_WORKERS (codes "workers") rows
 
 -- the call of bound, by `clap`'s matches
@@ -54,7 +54,7 @@ abbrev pub bound_in : List Row → BoundCall
 bound_in rows = record {
   instance = text_at (codes "INSTANCE") rows;
   solution = first_of (codes "SOLUTION") rows;
-  rounds = unwrap_or (number_if_given (codes "rounds") rows) DEFAULT_TRIES;
+  rounds = unwrap_or (number_if_given (codes "rounds") rows) DEFAULT_BOUND_ROUNDS;
   workers = unwrap_or (number_if_given (codes "workers") rows) DEFAULT_BOUND_WORKERS;
 }
 

@@ -1,5 +1,5 @@
 -- What a call of bound says of an instance, and of a timetable of it.
-use Rattle.std.specs.Prelude.{ℕ, ℤ, List, [], ◌++◌, ◌+◌, ◌-◌, ◌*◌, ◌/◌, ◌%◌, ◌==◌, if◌then◌else◌, Option, Some, None, codes, decimal, unsigned_abs}
+use Rattle.std.specs.Prelude.{ℕ, ℤ, List, [], ◌++◌, ◌-◌, ◌*◌, ◌/◌, ◌%◌, ◌==◌, if◌then◌else◌, Option, Some, None, codes, decimal, unsigned_abs}
 use Rattle.std.specs.Fmt.{signed_decimal}
 use Rattle.std.specs.Int.{div_ceil}
 use Rattle.ih_bound.specs.declared.outcomes.Outcome.{Outcome}

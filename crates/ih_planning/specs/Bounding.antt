@@ -49,15 +49,15 @@ pub record IsBounded (c : BoundCall) (files : Option Names) (text : List ℕ) : 
   pub gap : HasGap instance plan outcome
   pub said : text ≡ bound_text (judged_of c.solution instance plan) outcome
 
--- there may be a feasible timetable, and the one that was judged, if any, breaks no hard rule
-abbrev pub is_fine : Option Judged → Outcome → Bool
-is_fine judged Infeasible = false
-is_fine None (AtLeast b) = true
-is_fine (Some j) (AtLeast b) = j.feasible
+-- nothing infeasible was found: there may be a feasible timetable, and the one that was judged, if any, is feasible
+abbrev pub no_infeasibility : Option Judged → Outcome → Bool
+no_infeasibility judged Infeasible = false
+no_infeasibility None (AtLeast b) = true
+no_infeasibility (Some j) (AtLeast b) = j.feasible
 
--- the same of what was found
-abbrev pub found_fine : {c : BoundCall} {files : Option Names} {text : List ℕ} → IsBounded c files text → Bool
-found_fine {c} b = is_fine (judged_of c.solution b.instance b.plan) b.outcome
+-- the same of what is said
+abbrev pub found_no_infeasibility : {c : BoundCall} {files : Option Names} {text : List ℕ} → IsBounded c files text → Bool
+found_no_infeasibility {c} b = no_infeasibility (judged_of c.solution b.instance b.plan) b.outcome
 
 -- the status by it
 abbrev pub bound_status : Bool → Status
@@ -66,10 +66,10 @@ bound_status false = NotFeasible
 
 -- Each case has the whole condition of its status.
 abbrev pub BoundEnds : BoundCall → Option Names → Status → List ℕ → Type 0
-BoundEnds c files Done text = (b : IsBounded c files text) × (found_fine b ≡ true)
--- no timetable is feasible, or that of the file breaks a hard rule
-BoundEnds c files NotFeasible text = (b : IsBounded c files text) × (found_fine b ≡ false)
--- the text couldn't be put out
+BoundEnds c files Done text = (b : IsBounded c files text) × (found_no_infeasibility b ≡ true)
+-- no timetable is feasible, or that of the file isn't
+BoundEnds c files NotFeasible text = (b : IsBounded c files text) × (found_no_infeasibility b ≡ false)
+-- what was found couldn't be put out
 BoundEnds c files (WriteFault None) text = IsBounded c files text
--- the files aren't as they ought to be
+-- the files aren't as they ought to be, or memory ran out
 BoundEnds c files status text = EndsUnread files (bound_inputs c) status text

@@ -1,8 +1,9 @@
 -- How a call of the program ends: what it then has read, written and said, by its status.
-use Rattle.std.specs.Prelude.{◌≡◌, ℕ, ◌⊎◌, List, Option, Some, None}
+use Rattle.std.specs.Prelude.{◌≡◌, ℕ, ◌+◌, ◌⊎◌, List, Option, Some, None}
+use Rattle.clap.specs.Words.{Text}
 use Rattle.ih_tables.specs.declared.drafts.Draft.{Draft}
 use Rattle.ih_plan.specs.Timetable.{Timetable}
-use Rattle.ih_shelf.specs.Outside.{Names, IfTold}
+use Rattle.ih_shelf.specs.Outside.{IfTold, IsOnePutAtMost, Names}
 use Rattle.ih_inputs.specs.Reading.{HasInputs}
 use Rattle.ih_answers.specs.declared.status.Status.{Status}
 use Rattle.ih_answers.specs.declared.status.Status.TheVariants.{Done, Infeasible, Usage, NoneFound, WriteFault, OutOfMemory}
@@ -10,7 +11,9 @@ use Rattle.ih_answers.specs.Ends.{Ends, Unchanged}
 use Rattle.ih_answers.specs.Texts.{memory_text}
 use Rattle.ih_planning.specs.Bound.{bound_inputs}
 use Rattle.ih_planning.specs.Bounding.{BoundEnds}
+use Rattle.ih_planning.specs.Explaining.{MayAskForHelp, MayBeRefused, app_for}
 use Rattle.ih_planning.specs.Improve.{improve_inputs}
+use Rattle.ih_planning.specs.Rounds.{ArePutsAtMost}
 use Rattle.ih_planning.specs.Searching.{ImproveEnds}
 use Rattle.ih_planning.specs.View.{view_inputs}
 use Rattle.ih_planning.specs.Viewing.{ViewEnds}
@@ -22,21 +25,27 @@ CallEnds (improve c) old new status text = ImproveEnds c old new status text
 CallEnds (view v) old new status text = ViewEnds v old new status text
 CallEnds (bound b) old new status text = IfTold Unchanged old new × BoundEnds b old status text
 
--- The words name no call: help that they ask for is said, or why they name none. Which of the two it is, and these
--- texts, are `clap`'s.
-abbrev pub NoCallEnds : Status → List ℕ → Type 0
-NoCallEnds Done text = Unit {0}
-NoCallEnds Usage text = Unit {0}
+-- The words name no call: help is said, where they may ask for that, or why they name none. These texts are `clap`'s.
+abbrev pub NoCallEnds : List Text → Status → List ℕ → Type 0
+NoCallEnds words Done text = MayAskForHelp (app_for words) words
+NoCallEnds words Usage text = MayBeRefused (app_for words) words
 -- the help couldn't be put out
-NoCallEnds (WriteFault None) text = Unit {0}
-NoCallEnds OutOfMemory text = text ≡ memory_text
-NoCallEnds status text = ⊥
+NoCallEnds words (WriteFault None) text = MayAskForHelp (app_for words) words
+NoCallEnds words OutOfMemory text = text ≡ memory_text
+NoCallEnds words status text = ⊥
 
--- what the files then hold and what is said, by the call that the words name
-abbrev pub Leaves : Option Call → (old new : Option Names) → (cause : Status → Type 0)
+-- what the files then hold and what is said, by the words and the call that they name
+abbrev pub Leaves : List Text → Option Call → (old new : Option Names) → (cause : Status → Type 0)
     → (received part : List ℕ → Type 0) → Status → Type 0
-Leaves None old new cause received part status = IfTold Unchanged old new × Ends NoCallEnds cause received part status
-Leaves (Some call) old new cause received part status = Ends (CallEnds call old new) cause received part status
+Leaves words None old new cause received part status =
+    IfTold Unchanged old new × Ends (NoCallEnds words) cause received part status
+Leaves words (Some call) old new cause received part status = Ends (CallEnds call old new) cause received part status
+
+-- A search puts out a text after each round, and one more; any other call puts out one. So many puts are counted at
+-- most.
+abbrev pub HasFewPuts : Option Call → Option ℕ → Option ℕ → Type 0
+HasFewPuts (Some (improve c)) old new = IfTold (ArePutsAtMost (c.rounds + 1)) old new
+HasFewPuts call old new = IfTold IsOnePutAtMost old new
 
 -- where the words name no call, the shelf is as it was: no file is so much as read
 abbrev pub IsUntouched : {X : Type 0} → Option Call → X → X → Type 0

@@ -1,5 +1,5 @@
 -- The command `improve`: its description for `clap`, its values and when they are lawful.
-use Rattle.std.specs.Prelude.{ℕ, ◌*◌, ◌&&◌, nat_le, Bool, List, ◌∷◌, Option, Some, None, codes, if◌then◌else◌, unwrap_or}
+use Rattle.std.specs.Prelude.{ℕ, ◌*◌, ◌≤◌, ◌&&◌, nat_le, Bool, List, ◌∷◌, Option, Some, None, codes, if◌then◌else◌, unwrap_or}
 use Rattle.clap.specs.Words.{App, Row, Text, new_app, with_rule}
 use Rattle.ih_journal.specs.declared.settings.TheConstants.{MAX_HARD, MAX_HEAT, MAX_WORKERS}
 use Rattle.ih_words.specs.Arguments.{any_number_option, named, numbered_option, optional_between, optional_number, seed_option}
@@ -8,6 +8,7 @@ use Rattle.ih_words.specs.Matches.{HasNumber, HasText, IsNumberIfGiven, number_a
 use Rattle.ih_words.specs.Start.{StartCall, freezes_a_file, start_call, start_files, start_in, with_start}
 use Rattle.ih_words.specs.declared.start.TheConstants.{MAX_FREEZE}
 use Rattle.ih_inputs.specs.Reading.{InputFiles}
+use Rattle.ih_improve.specs.Settings.{IsLawful}
 use Rattle.ih_improve.specs.declared.settings.Settings.{Settings}
 use Rattle.ih_improve.specs.declared.settings.TheConstants.{MAX_ATTEMPTS, MAX_ROUNDS}
 use Rattle.ih_planning.specs.declared.improve_words.Improve.{Improve}
@@ -77,6 +78,13 @@ widest_settings c = record {
   hard = c.hard;
   freeze = c.start.freeze;
 }
+
+-- each option is within the limits of its own: its settings are lawful if all workers together make few enough attempts
+-- and the heat doesn't rise
+abbrev pub AreOptionsWithin : ImproveCall → Type 0
+AreOptionsWithin c =
+    c.workers * c.attempts ≤ MAX_ATTEMPTS → unwrap_or c.cold 0 ≤ unwrap_or c.hot MAX_HEAT
+    → IsLawful (widest_settings c)
 
 -- what the rules of its arguments say of the matches of improve
 pub record HasImprove (rows : List Row) : Type 0 where

@@ -40,8 +40,8 @@ DoneCallsHaveImproved =
     → IsImproved c old new text
 
 -- one that finds none leaves each file as it was
-abbrev pub VainCallsChangeNothing : Type 0
-VainCallsChangeNothing =
+abbrev pub NoneFoundChangesNothing : Type 0
+NoneFoundChangesNothing =
     (c : ImproveCall) (old new : Option Names) (text : List ℕ) → ImproveEnds c old new NoneFound text
     → IfTold Unchanged old new
 

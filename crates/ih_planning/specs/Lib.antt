@@ -2,6 +2,7 @@ pub mod Bound
 pub mod BoundTexts
 pub mod Bounding
 pub mod Ends
+pub mod Explaining
 pub mod Improve
 pub mod Laws
 pub mod Rounds

@@ -1,5 +1,5 @@
 -- The rounds of a search, what they leave in the file of the best timetable, and what is told of them.
-use Rattle.std.specs.Prelude.{ℕ, ◌*◌, List, [], ◌∷◌, ◌++◌, length, codes, decimal, if◌then◌else◌}
+use Rattle.std.specs.Prelude.{ℕ, ◌+◌, ◌*◌, ◌≤◌, List, [], ◌∷◌, ◌++◌, length, codes, decimal, if◌then◌else◌}
 use Rattle.std.specs.Bool.{MatchBool}
 use Rattle.ih_tables.specs.Bills.{cost, feasible}
 use Rattle.ih_plan.specs.Timetable.{Timetable}
@@ -73,3 +73,9 @@ round_line v heat =
 abbrev pub progress : Improving → List Round → List ℕ
 progress v [] = []
 progress v (r ∷ earlier) = progress v earlier ++ round_line (after_rounds v (r ∷ earlier)) r.heat
+
+-- ---- the puts
+
+-- no more puts than so many were counted
+abbrev pub ArePutsAtMost : ℕ → ℕ → ℕ → Type 0
+ArePutsAtMost n old new = new ≤ old + n

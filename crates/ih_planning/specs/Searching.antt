@@ -1,5 +1,5 @@
 -- How a call of improve ends: what it then has written, and what it had to say, by its status.
-use Rattle.std.specs.Prelude.{◌≡◌, ℕ, ◌<◌, ◌≤◌, ◌⊎◌, true, false, List, ◌++◌, length, Option, Some, None, if◌then◌else◌}
+use Rattle.std.specs.Prelude.{◌≡◌, ℕ, ◌<◌, ◌≤◌, ◌⊎◌, true, false, List, ◌∷◌, ◌++◌, length, Option, Some, None, if◌then◌else◌}
 use Rattle.ih_tables.specs.declared.drafts.Draft.{Draft}
 use Rattle.ih_tables.specs.Bills.{feasible}
 use Rattle.ih_plan.specs.Timetable.{Timetable}
@@ -33,8 +33,8 @@ pub record AreSettingsOf (c : ImproveCall) (s : Settings) : Type 0 where
   pub cold : (h : ℕ) → c.cold ≡ Some h → s.cold ≡ h
 
 -- a search before its first round
-abbrev pub fresh : Draft → Timetable → Settings → Improving
-fresh I start s = record { instance = I; start = start; settings = s; rounds = 0; kept = start }
+abbrev pub new_search : Draft → Timetable → Settings → Improving
+new_search I start s = record { instance = I; start = start; settings = s; rounds = 0; kept = start }
 
 -- before its first round, the search of a call over what the files give: it starts from their timetable, or from the
 -- fill of it
@@ -42,7 +42,7 @@ pub record IsSearch (files : Option Names) (c : ImproveCall) (v : Improving) : T
   pub given : Timetable
   pub inputs : HasInputs files (improve_inputs c) v.instance given
   pub start : v.start ≡ started c.start.fill c.hard v.instance given
-  pub fresh : v ≡ fresh v.instance v.start v.settings
+  pub is_new : v ≡ new_search v.instance v.start v.settings
   pub settings : AreSettingsOf c v.settings
 
 -- ---- what its rounds leave
@@ -64,8 +64,8 @@ abbrev pub told : {out : List ℕ} {v : Improving} {old new : Option Names} → 
 told {out} {v} h = progress v h.rounds
 
 -- After rounds that aren't all, a further one found a feasible timetable that may take the start's place and is no
--- dearer than the best before it, and the write of its solution may have stopped anywhere.
-pub record BreaksOff (out : List ℕ) (v : Improving) (old new : Option Names) : Type 0 where
+-- dearer than the best before it. The write of its solution may have stopped anywhere, also before it began.
+pub record MayBeCutOff (out : List ℕ) (v : Improving) (old new : Option Names) : Type 0 where
   pub before : Option Names
   pub rounds : HasRounds out v old before
   pub more : length rounds.rounds < v.settings.rounds
@@ -76,16 +76,26 @@ pub record BreaksOff (out : List ℕ) (v : Improving) (old new : Option Names) :
   pub feasible : feasible (bill_of v.instance found) ≡ true
   pub written : IfTold (MayBeWritten out (solution v.instance found)) before new
 
--- how a search ends before all its rounds are over
+-- Rounds are over, and OUT has what they leave. All but the last are told: memory ran out before its line was made.
+pub record IsLastUntold (out : List ℕ) (v : Improving) (old new : Option Names) (text : List ℕ) : Type 0 where
+  pub rounds : HasRounds out v old new
+  pub last : Round
+  pub earlier : List Round
+  pub are : rounds.rounds ≡ last ∷ earlier
+  pub said : text ≡ progress v earlier ++ memory_text
+
+-- how a search ends that can't go on, or can't say its end: at a fault, or as memory runs out
 abbrev pub StopsEarly : List ℕ → Improving → Option Names → Option Names → Status → List ℕ → Type 0
 -- the solution of what a round found couldn't be written
 StopsEarly out v old new (WriteFault (Some Out)) text =
-    (b : BreaksOff out v old new) × (text ≡ told b.rounds ++ unwritten_text out)
+    (b : MayBeCutOff out v old new) × (text ≡ told b.rounds ++ unwritten_text out)
 -- a line couldn't be put out
 StopsEarly out v old new (WriteFault None) text = (h : HasRounds out v old new) × (text ≡ told h)
+-- memory ran out once the rounds were told, before the line of the last was made, or as a solution was made or written
 StopsEarly out v old new OutOfMemory text =
     ((h : HasRounds out v old new) × (text ≡ told h ++ memory_text))
-    ⊎ ((b : BreaksOff out v old new) × (text ≡ told b.rounds ++ memory_text))
+    ⊎ IsLastUntold out v old new text
+    ⊎ ((b : MayBeCutOff out v old new) × (text ≡ told b.rounds ++ memory_text))
 StopsEarly out v old new status text = ⊥
 
 -- all rounds are over
@@ -106,17 +116,17 @@ IsNotFound out v old new text =
     × (feasible (bill_of v.instance (searched h).kept) ≡ false)
     × (text ≡ told h ++ none_found_text)
 
--- how a search ends
+-- how a search ends: with its best, with none, or before its end is said
 abbrev pub SearchEnds : List ℕ → Improving → Option Names → Option Names → Status → List ℕ → Type 0
 SearchEnds out v old new Done text = IsFound out v old new text
 SearchEnds out v old new NoneFound text = IsNotFound out v old new text
--- a line couldn't be put out, or the report
+-- the line of a round couldn't be put out, or the report on the best
 SearchEnds out v old new (WriteFault None) text =
     StopsEarly out v old new (WriteFault None) text ⊎ IsFound out v old new text
 SearchEnds out v old new status text = StopsEarly out v old new status text
 
--- How a call of improve ends: before its search, or with it. Where the search began, it is that of the files and the
--- words.
+-- How a call of improve ends: before its search, as its files aren't as they ought to be or memory ran out, or with it.
+-- Where the search began, it is that of the files and the words.
 abbrev pub ImproveEnds : ImproveCall → Option Names → Option Names → Status → List ℕ → Type 0
 ImproveEnds c old new status text =
     (IfTold Unchanged old new × EndsUnread old (improve_inputs c) status text)
@@ -127,11 +137,12 @@ ImproveEnds c old new status text =
 abbrev pub BegunEnds : ImproveCall → Draft → Timetable → Option Names → Option Names → Status → List ℕ → Type 0
 BegunEnds c I start old new status text =
     ((status ≡ OutOfMemory) × IfTold Unchanged old new × (text ≡ memory_text))
-    ⊎ ((s : Settings) × AreSettingsOf c s × SearchEnds c.out (fresh I start s) old new status text)
+    ⊎ ((s : Settings) × AreSettingsOf c s × SearchEnds c.out (new_search I start s) old new status text)
 
 -- ---- one round
 
--- how a call ends that couldn't write a solution
+-- how a call ends that couldn't write a solution: the write failed, or memory ran out as the solution was made or
+-- written
 abbrev pub WriteEnds : List ℕ → List ℕ → Option Names → Option Names → Status → List ℕ → Type 0
 WriteEnds out solution old new (WriteFault (Some Out)) text =
     IfTold (MayBeWritten out solution) old new × (text ≡ unwritten_text out)
@@ -147,25 +158,26 @@ BestEnds out v old new status text =
 -- how a call ends that couldn't put out a round's line
 abbrev pub LineEnds : Improving → ℕ → Status → List ℕ → Type 0
 LineEnds v heat (WriteFault None) text = text ≡ round_line v heat
+-- memory ran out before the line was made, or as it was put out
 LineEnds v heat OutOfMemory text = (text ≡ memory_text) ⊎ (text ≡ round_line v heat ++ memory_text)
 LineEnds v heat status text = ⊥
 
--- A round that leads a search from w to v leaves the file right: the solution of its best is written, where that is
+-- A round that leads a search from w to v keeps the file current: the solution of its best is written, where that is
 -- feasible; or it isn't the first round, its best is the one before, and nothing changes.
-abbrev pub KeepsUp : List ℕ → (w v : Improving) → (old new : Option Names) → Type 0
-KeepsUp out w v old new =
+abbrev pub KeepsFileCurrent : List ℕ → (w v : Improving) → (old new : Option Names) → Type 0
+KeepsFileCurrent out w v old new =
     IfTold (WritesBest out v) old new ⊎ ((0 < w.rounds) × (v.kept ≡ w.kept) × IfTold Unchanged old new)
 
--- how a call ends in a round that leads a search from w to v
+-- how a call ends in a round that leads a search from w to v: its best couldn't be written, or its line be put out
 abbrev pub RoundEnds : List ℕ → (w v : Improving) → Option Names → Option Names → Status → List ℕ → Type 0
 RoundEnds out w v old new status text =
     BestEnds out v old new status text
-    ⊎ (KeepsUp out w v old new × ((heat : ℕ) × LineEnds v heat status text))
+    ⊎ (KeepsFileCurrent out w v old new × ((heat : ℕ) × LineEnds v heat status text))
 
--- a round that leads a search from w to v is over: the file is left right, and the round's line is put out
+-- a round that leads a search from w to v is over: the file is current, and the round's line is put out
 abbrev pub GoesOn : List ℕ → (w v : Improving) → (old new : Option Names) → (said now : Option (List ℕ)) → Type 0
 GoesOn out w v old new said now =
-    KeepsUp out w v old new × ((heat : ℕ) × IfTold (IsAppended (round_line v heat)) said now)
+    KeepsFileCurrent out w v old new × ((heat : ℕ) × IfTold (IsAppended (round_line v heat)) said now)
 
 -- all rounds of a search v, which led it to w, are over, and their lines are put out
 abbrev pub AreOver : List ℕ → (v w : Improving) → (old new : Option Names) → (said now : Option (List ℕ)) → Type 0

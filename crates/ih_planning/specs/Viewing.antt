@@ -25,7 +25,9 @@ pub record HasPage (writes : List ℕ → List ℕ → Names → Names → Type 
 abbrev pub ViewEnds : ViewCall → Option Names → Option Names → Status → List ℕ → Type 0
 -- the page is written, and nothing is said
 ViewEnds v old new Done text = HasPage IsWritten v old new × (text ≡ [])
+-- the page couldn't be written
 ViewEnds v old new (WriteFault (Some Out)) text = HasPage MayBeWritten v old new × (text ≡ unwritten_text v.page)
+-- memory ran out before the write, or in it
 ViewEnds v old new OutOfMemory text = (IfTold Unchanged old new ⊎ HasPage MayBeWritten v old new) × (text ≡ memory_text)
 -- the files aren't as they ought to be
 ViewEnds v old new status text = IfTold Unchanged old new × EndsUnread old (view_inputs v) status text

@@ -1,5 +1,5 @@
 -- Which call the words of a command line name. The words are those after the program's name.
-use Rattle.std.specs.Prelude.{◌≡◌, ◌≢◌, List, Option, Some, None, Result, Ok, Err, codes, if◌then◌else◌, option_and_then, option_map, slice_get}
+use Rattle.std.specs.Prelude.{List, Option, None, codes, if◌then◌else◌, option_and_then, option_map, slice_get}
 use Rattle.std.specs.Str.{bytes_eq}
 use Rattle.clap.specs.Words.{Text}
 use Rattle.ih_words.specs.Matches.{call_by}
@@ -9,8 +9,6 @@ use Rattle.ih_planning.specs.Improve.{ImproveCall, improve_app, improve_call, la
 use Rattle.ih_planning.specs.View.{ViewCall, lawful_view, view_app, view_call}
 use Rattle.ih_planning.specs.declared.command.Command.{Command}
 use Rattle.ih_planning.specs.declared.command.Command.TheVariants.{Bound as BoundCommand, Improve as ImproveCommand, View as ViewCommand}
-use Rattle.ih_planning.specs.declared.explaining.NoCall.{NoCall}
-use Rattle.ih_planning.specs.declared.explaining.NoCall.TheVariants.{OutOfMemory}
 
 -- a call of one of the commands
 pub data Call : Type 0 where
@@ -28,11 +26,6 @@ command_call (BoundCommand b) = bound (bound_call b)
 abbrev pub HasLawfulSettings : Command → Type 0
 HasLawfulSettings (ImproveCommand i) = IsLawful (widest_settings (improve_call i))
 HasLawfulSettings command = Unit {0}
-
--- What reading words answers: the call that they ask for, or, but where memory ran out, that they ask for none.
-abbrev pub IsRead : {A B : Type 0} → (B → A) → Option A → Result B NoCall → Type 0
-IsRead call asked (Ok x) = asked ≡ Some (call x)
-IsRead call asked (Err e) = (e ≢ OutOfMemory) → asked ≡ None
 
 -- the call of the command with this name
 abbrev pub call_named : Text → List Text → Option Call

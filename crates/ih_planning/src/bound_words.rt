@@ -4,7 +4,7 @@ ghost use Rattle.std.specs.Prelude.{◌≡◌, IfOk, false, map, string_bytes};
 ghost use Rattle.clap.specs.Words.{app_of, found_of, rows_of, rule_of};
 ghost use Rattle.ih_words.specs.Matches.{call_by};
 ghost use Rattle.ih_planning.specs.Bound.{HasBound, bound_app, bound_call, bound_in, lawful_bound, optional_name};
-ghost use Rattle.ih_planning.specs.Words.{IsRead};
+ghost use Rattle.ih_planning.specs.Explaining.{IsRead};
 
 use crate::arguments::with_help;
 use crate::explaining::{NoCall, explained};
@@ -15,9 +15,9 @@ use ih_words::matches::{matched, number_if_given, optional_text_of, text_of};
 use std::alloc::{AllocError, Global};
 
 /// How often prices are tried at most where no number is given.
-pub const DEFAULT_TRIES: u32 = 1500;
+pub const DEFAULT_BOUND_ROUNDS: u32 = 1500;
 /// No more often.
-pub const MAX_TRIES: u32 = 1_000_000;
+pub const MAX_BOUND_ROUNDS: u32 = 1_000_000;
 /// How many workers there are where no number is given.
 pub const DEFAULT_BOUND_WORKERS: u32 = 4;
 
@@ -63,7 +63,7 @@ pub fn bound_description<'a>(alloc: Global) -> Result<Command<'a>, AllocError>
     let rounds = with(
         solution,
         with_help(
-            optional_between(alloc, "rounds", 1, MAX_TRIES),
+            optional_between(alloc, "rounds", 1, MAX_BOUND_ROUNDS),
             "How often prices are tried at most [default: 1500]",
         ),
     );
@@ -84,14 +84,15 @@ fn bound_in<'a>(matches: &ArgMatches<'a>) -> Bound<'a>
     Bound {
         instance: text_of(matches, "INSTANCE"),
         solution: optional_text_of(matches, "SOLUTION"),
-        rounds: number_if_given(matches, "rounds").unwrap_or(DEFAULT_TRIES),
+        rounds: number_if_given(matches, "rounds").unwrap_or(DEFAULT_BOUND_ROUNDS),
         workers: number_if_given(matches, "workers").unwrap_or(DEFAULT_BOUND_WORKERS),
     }
 }
 
 // Reads the words of `bound`.
 pub(crate) fn read_bound<'a>(alloc: Global, words: &'a [String]) -> Result<Bound<'a>, NoCall>
-    ensures { IsRead bound_call (call_by bound_app lawful_bound (map string_bytes words.entry.now)) result }
+    ensures { IsRead bound_call (call_by bound_app lawful_bound (map string_bytes words.entry.now)) bound_app
+        (map string_bytes words.entry.now) result }
 {
     match matched(bound_description(alloc), words) {
         Ok(matches) => Ok(bound_in(&matches)),

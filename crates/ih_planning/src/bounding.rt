@@ -6,7 +6,7 @@ ghost use Rattle.ih_shelf.specs.Outside.{Names};
 ghost use Rattle.ih_inputs.specs.Reading.{HasInputs};
 ghost use Rattle.ih_answers.specs.Answers.{Answers, HasFileCause, HasShelfCause, IsSaid};
 ghost use Rattle.ih_planning.specs.{Bound.bound_call, Bound.bound_inputs, BoundTexts.bound_text};
-ghost use Rattle.ih_planning.specs.Bounding.{BoundEnds, bound_status, is_fine, judged, judged_of};
+ghost use Rattle.ih_planning.specs.Bounding.{BoundEnds, bound_status, no_infeasibility, judged, judged_of};
 
 use crate::bound_texts::{Judged, bound_text};
 use crate::bound_words::Bound;
@@ -43,8 +43,8 @@ fn judged_of(call: &Bound<'_>, inputs: &Inputs) -> Option<Judged>
 }
 
 // Whether there may be a feasible timetable, and the one that was judged, if any, breaks no hard rule.
-fn is_fine(judged: &Option<Judged>, outcome: &Outcome) -> bool
-    ensures { result ≡ is_fine judged.now outcome.now }
+fn no_infeasibility(judged: &Option<Judged>, outcome: &Outcome) -> bool
+    ensures { result ≡ no_infeasibility judged.now outcome.now }
 {
     match outcome {
         Outcome::Infeasible => false,
@@ -57,11 +57,11 @@ fn is_fine(judged: &Option<Judged>, outcome: &Outcome) -> bool
 
 // Says what was found.
 fn said(alloc: Global, judged: &Option<Judged>, outcome: &Outcome) -> Answer
-    ensures { IsSaid (bound_status (is_fine judged.now outcome.now)) (bound_text judged.now outcome.now) result }
+    ensures { IsSaid (bound_status (no_infeasibility judged.now outcome.now)) (bound_text judged.now outcome.now) result }
 {
     match bound_text(alloc, outcome, judged) {
         Ok(text) => Answer {
-            status: if is_fine(judged, outcome) {
+            status: if no_infeasibility(judged, outcome) {
                 Status::Done
             } else {
                 Status::Infeasible

@@ -1,7 +1,9 @@
 //! The commands, as callers see them, and how they are read.
 
-ghost use Rattle.std.specs.Prelude.{◌≡◌, ◌≢◌, IfErr, IfOk, None, Some, map, string_bytes};
-ghost use Rattle.ih_planning.specs.Words.{HasLawfulSettings, IsRead, call_named, call_of, command_call};
+ghost use Rattle.std.specs.Prelude.{◌≡◌, ◌≢◌, IfErr, IfOk, None, Some, map, string_bytes, true};
+ghost use Rattle.clap.specs.Words.{App, app_of, with_subcommand};
+ghost use Rattle.ih_planning.specs.Explaining.{IsExplained, IsRead, app_for, app_named, program_app};
+ghost use Rattle.ih_planning.specs.Words.{HasLawfulSettings, call_named, call_of, command_call};
 
 use crate::bound_words::{Bound, bound_description, read_bound};
 use crate::explaining::{NoCall, explained, refused};
@@ -20,20 +22,37 @@ pub enum Command<'a> {
     Bound(Bound<'a>),
 }
 
+// The description with a command more.
+fn with_command<'a>(
+    program: Result<clap::Command<'a>, AllocError>,
+    command: Result<clap::Command<'a>, AllocError>,
+) -> Result<clap::Command<'a>, AllocError>
+    ensures { (above below : App) → below.top.is_plain ≡ true → IfOk program.entry (λ c. app_of c ≡ above)
+        → IfOk command.entry (λ c. app_of c ≡ below) → IfOk result (λ c. app_of c ≡ with_subcommand above below.top) }
+{
+    let program = program?;
+    let command = command?;
+    program.subcommand(command)
+}
+
 // All commands, for the help on the program.
-fn program_description<'a>(alloc: Global) -> Result<clap::Command<'a>, AllocError> {
-    clap::Command::new(alloc, "ih_planner")
+fn program_description<'a>(alloc: Global) -> Result<clap::Command<'a>, AllocError>
+    ensures { IfOk result (λ c. app_of c ≡ program_app) }
+{
+    let empty = clap::Command::new(alloc, "ih_planner")
         .about("Makes timetables better, shows them and bounds their cost")
         .no_binary_name(true)
         .subcommand_required(true)
-        .arg_required_else_help(true)
-        .subcommand(improve_description(alloc)?)?
-        .subcommand(view_description(alloc)?)?
-        .subcommand(bound_description(alloc)?)
+        .arg_required_else_help(true);
+    let improve = with_command(Ok(empty), improve_description(alloc));
+    let view = with_command(improve, view_description(alloc));
+    with_command(view, bound_description(alloc))
 }
 
 // What is said of words of which the first is no command's name.
-fn explained_commands<'a>(alloc: Global, words: &'a [String]) -> NoCall {
+fn explained_commands<'a>(alloc: Global, words: &'a [String]) -> NoCall
+    ensures { IsExplained program_app (map string_bytes words.entry.now) result }
+{
     let Ok(program) = program_description(alloc) else {
         return NoCall::OutOfMemory;
     };
@@ -45,7 +64,8 @@ fn explained_commands<'a>(alloc: Global, words: &'a [String]) -> NoCall {
 
 // Reads the words of the command that has the name.
 fn read_named<'a>(alloc: Global, name: &str, words: &'a [String]) -> Result<Command<'a>, NoCall>
-    ensures read { IsRead command_call (call_named name.now (map string_bytes words.entry.now)) result }
+    ensures read { IsRead command_call (call_named name.now (map string_bytes words.entry.now)) (app_named name.now)
+        (map string_bytes words.entry.now) result }
     ensures lawful { IfOk result HasLawfulSettings }
 {
     match name {
@@ -70,6 +90,8 @@ pub fn read_words<'a>(alloc: Global, words: &'a [String]) -> Result<Command<'a>,
     ensures ok { IfOk result (λ c. call_of (map string_bytes words.entry.now) ≡ Some (command_call c)) }
     ensures lawful { IfOk result HasLawfulSettings }
     ensures none { IfErr result (λ e. e ≢ NoCall.OutOfMemory → call_of (map string_bytes words.entry.now) ≡ None) }
+    ensures explained { IfErr result
+        (IsExplained (app_for (map string_bytes words.entry.now)) (map string_bytes words.entry.now)) }
 {
     let Some(name) = words.first() else {
         return Err(explained_commands(alloc, words));

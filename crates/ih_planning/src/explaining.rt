@@ -1,8 +1,9 @@
 //! What is said where the words name no call: `clap`'s help, or an error that names the offending word. The texts are
-//! `clap`'s, so no clause says what they are.
+//! `clap`'s, so no clause says what they are. Which of the two it is follows from the kind of `clap`'s error.
 
 ghost use Rattle.std.specs.Prelude.{◌≡◌};
-ghost use Rattle.clap.specs.{Words.kind_of, declared.error.kind.ErrorKind.TheVariants.OutOfMemory as ClapOutOfMemory};
+ghost use Rattle.clap.specs.Words.{kind_of};
+ghost use Rattle.ih_planning.specs.Explaining.{IsExplainedAs, IsNoHelp};
 ghost use Rattle.ih_planning.specs.declared.explaining.NoCall.TheVariants.{OutOfMemory};
 
 use clap::error::ErrorKind;
@@ -27,22 +28,24 @@ impl From<AllocError> for NoCall {
     }
 }
 
-/// What `clap` says.
+/// What `clap` says: help, where its error is a wish for that, else why it refuses the words.
 pub fn explained(alloc: Global, error: clap::Error) -> NoCall
-    ensures { kind_of error ≡ ClapOutOfMemory → result ≡ NoCall.OutOfMemory }
+    ensures { IsExplainedAs (kind_of error) result }
 {
+    let Ok(text) = format!(in alloc; "{error}") else {
+        return NoCall::OutOfMemory;
+    };
     match error.kind() {
         ErrorKind::OutOfMemory => NoCall::OutOfMemory,
-        kind => match format!(in alloc; "{error}") {
-            Ok(text) if kind == ErrorKind::DisplayHelp => NoCall::Help(text),
-            Ok(text) => NoCall::Refused(text),
-            Err(_) => NoCall::OutOfMemory,
-        },
+        ErrorKind::DisplayHelp => NoCall::Help(text),
+        _ => NoCall::Refused(text),
     }
 }
 
 /// What is said of words in which `clap` finds no fault.
-pub fn refused(alloc: Global, fault: &str) -> NoCall {
+pub fn refused(alloc: Global, fault: &str) -> NoCall
+    ensures { IsNoHelp result }
+{
     match format!(in alloc; "error: {fault}\n\nFor more information, try '--help'.\n") {
         Ok(text) => NoCall::Refused(text),
         Err(_) => NoCall::OutOfMemory,

@@ -1,18 +1,19 @@
 //! The command `improve`: its description for `clap`, its values and when they are lawful.
 
-ghost use Rattle.std.specs.Prelude.{◌≡◌, ◌≤◌, ◌*◌, ◌&&◌, not, true, IfOk, is_some, map, string_bytes, unwrap_or};
+ghost use Rattle.std.specs.Prelude.{◌≡◌, ◌&&◌, not, true, IfOk, is_some, map, string_bytes};
 ghost use Rattle.clap.specs.Words.{app_of, found_of, rows_of};
 ghost use Rattle.ih_words.specs.{Arguments.IsChanged, Distinct.all_differ, Matches.call_by};
 ghost use Rattle.ih_words.specs.Start.{freezes_a_file, with_start};
 ghost use Rattle.ih_improve.specs.Settings.{IsLawful};
-ghost use Rattle.ih_planning.specs.Improve.{HasImprove, are_settings_lawful, improve_app, improve_call, improve_files};
-ghost use Rattle.ih_planning.specs.Improve.{improve_in, lawful_improve, required_app, widest_settings};
-ghost use Rattle.ih_planning.specs.Words.{IsRead};
+ghost use Rattle.ih_planning.specs.Improve.{AreOptionsWithin, HasImprove, are_settings_lawful, improve_app};
+ghost use Rattle.ih_planning.specs.Improve.{improve_call, improve_files, improve_in, lawful_improve, required_app};
+ghost use Rattle.ih_planning.specs.Improve.{widest_settings};
+ghost use Rattle.ih_planning.specs.Explaining.{IsRead};
 
 use crate::arguments::with_help;
 use crate::explaining::{NoCall, explained, refused};
 use clap::{ArgMatches, Command};
-use ih_improve::{MAX_ATTEMPTS, MAX_ROUNDS, Settings};
+use ih_improve::{MAX_ROUNDS, Settings};
 use ih_journal::{MAX_HARD, MAX_HEAT, MAX_WORKERS};
 use ih_words::arguments::{
     any_number_option, flag, named, numbered_option, optional, optional_between, optional_number,
@@ -164,8 +165,7 @@ pub fn improve_description<'a>(alloc: Global) -> Result<Command<'a>, AllocError>
 fn improve_in<'a>(matches: &ArgMatches<'a>) -> Improve<'a>
     requires { HasImprove (rows_of (found_of matches.now)) }
     ensures value { improve_call result ≡ improve_in (rows_of (found_of matches.now)) }
-    ensures limits { result.workers * result.attempts ≤ MAX_ATTEMPTS
-        → unwrap_or result.cold 0 ≤ unwrap_or result.hot MAX_HEAT → IsLawful (widest_settings (improve_call result)) }
+    ensures limits { AreOptionsWithin (improve_call result) }
 {
     Improve {
         instance: text_of(matches, "INSTANCE"),
@@ -199,9 +199,7 @@ fn names_differ(improve: &Improve) -> bool
 
 // The attempts of all workers are so few, and the heat doesn't rise.
 fn are_settings_lawful(improve: &Improve) -> bool
-    requires { improve.now.workers * improve.now.attempts ≤ MAX_ATTEMPTS
-        → unwrap_or improve.now.cold 0 ≤ unwrap_or improve.now.hot MAX_HEAT
-        → IsLawful (widest_settings (improve_call improve.now)) }
+    requires { AreOptionsWithin (improve_call improve.now) }
     ensures value { result ≡ are_settings_lawful (improve_call improve.now) }
     ensures lawful { result ≡ true → IsLawful (widest_settings (improve_call improve.now)) }
 {
@@ -220,9 +218,7 @@ fn are_settings_lawful(improve: &Improve) -> bool
 
 // What is unlawful of the values, where something is.
 fn fault_in(matches: &ArgMatches, improve: &Improve) -> Option<&'static str>
-    requires { improve.now.workers * improve.now.attempts ≤ MAX_ATTEMPTS
-        → unwrap_or improve.now.cold 0 ≤ unwrap_or improve.now.hot MAX_HEAT
-        → IsLawful (widest_settings (improve_call improve.now)) }
+    requires { AreOptionsWithin (improve_call improve.now) }
     ensures value { not (is_some result) ≡ (freezes_a_file (rows_of (found_of matches.now))
         && (all_differ (improve_files (improve_call improve.now)) && are_settings_lawful (improve_call improve.now))) }
     ensures lawful { not (is_some result) ≡ true → IsLawful (widest_settings (improve_call improve.now)) }
@@ -240,7 +236,8 @@ fn fault_in(matches: &ArgMatches, improve: &Improve) -> Option<&'static str>
 
 // Reads the words of `improve`.
 pub(crate) fn read_improve<'a>(alloc: Global, words: &'a [String]) -> Result<Improve<'a>, NoCall>
-    ensures read { IsRead improve_call (call_by improve_app lawful_improve (map string_bytes words.entry.now)) result }
+    ensures read { IsRead improve_call (call_by improve_app lawful_improve (map string_bytes words.entry.now)) improve_app
+        (map string_bytes words.entry.now) result }
     ensures lawful { IfOk result (λ i. IsLawful (widest_settings (improve_call i))) }
 {
     match matched(improve_description(alloc), words) {

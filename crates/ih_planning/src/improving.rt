@@ -1,12 +1,14 @@
 //! The command `improve`: a search in rounds, each of which is told as it is over.
 
-ghost use Rattle.std.specs.Prelude.{◌≡◌, ◌≤◌, IfNone, IfSome};
+ghost use Rattle.std.specs.Prelude.{◌≡◌, ◌+◌, ◌≤◌, IfNone, IfSome};
 ghost use Rattle.ih_plan.specs.Timetable.{IsPlanOf};
+ghost use Rattle.ih_shelf.specs.Outside.{IfTold};
 ghost use Rattle.ih_inputs.specs.Reading.{HasInputs};
 ghost use Rattle.ih_answers.specs.{Answers.HasShelfCause, Answers.IsSaid, Ends.Ends, Ends.HasCause, Ends.Received};
 ghost use Rattle.ih_answers.specs.{Texts.ReceivedPart};
 ghost use Rattle.ih_improve.specs.Settings.{IsLawful};
 ghost use Rattle.ih_planning.specs.Improve.{improve_call, improve_inputs, widest_settings};
+ghost use Rattle.ih_planning.specs.Rounds.{ArePutsAtMost};
 ghost use Rattle.ih_planning.specs.Searching.{AreOver, AreSettingsOf, BegunEnds, ImproveEnds, SearchEnds, StopsEarly};
 ghost use Rattle.ih_planning.specs.Searching.{ending_status, ending_text};
 
@@ -59,7 +61,7 @@ fn search_all<R: Files + Print + Threads + Sync, S: Shelf, O: Sink>(
 ) -> Option<Status>
     requires instance { improver.old.instance ≡ inst.now.draft }
     requires rounds { rounds ≡ improver.old.settings.rounds }
-    requires fresh { improver.old.rounds ≡ 0 }
+    requires no_round { improver.old.rounds ≡ 0 }
     ensures over { IfNone result (AreOver name.now improver.old improver.new (S.names shelf.old) (S.names shelf.new)
         (O.text out.old) (O.text out.new)) }
     ensures stops { IfSome result (λ status. Ends
@@ -67,6 +69,7 @@ fn search_all<R: Files + Print + Threads + Sync, S: Shelf, O: Sink>(
         (HasShelfCause S.Shelf shelf.old shelf.new)
         (Received status (O.text out.old) (O.text out.new) (O.faults out.old) (O.faults out.new))
         (ReceivedPart (O.text out.old) (O.text out.new) (O.lacks out.old) (O.lacks out.new)) status) }
+    ensures few { IfTold (ArePutsAtMost rounds) (O.puts out.old) (O.puts out.new) }
     ensures cause { IfSome result (HasCause (S.read_faults shelf.old) (S.read_faults shelf.new)
         (S.write_faults shelf.old) (S.write_faults shelf.new) (O.faults out.old) (O.faults out.new)) }
     ensures reads { IfNone result (S.read_faults shelf.old ≤ S.read_faults shelf.new) }
@@ -111,11 +114,12 @@ fn search<R: Files + Print + Threads + Sync, S: Shelf, O: Sink>(
 ) -> Status
     requires instance { improver.old.instance ≡ inst.now.draft }
     requires rounds { call.now.rounds ≡ improver.old.settings.rounds }
-    requires fresh { improver.old.rounds ≡ 0 }
+    requires no_round { improver.old.rounds ≡ 0 }
     ensures ends { Ends (SearchEnds call.now.out.now improver.old (S.names shelf.old) (S.names shelf.new))
         (HasShelfCause S.Shelf shelf.old shelf.new)
         (Received result (O.text out.old) (O.text out.new) (O.faults out.old) (O.faults out.new))
         (ReceivedPart (O.text out.old) (O.text out.new) (O.lacks out.old) (O.lacks out.new)) result }
+    ensures few { IfTold (ArePutsAtMost (call.now.rounds + 1)) (O.puts out.old) (O.puts out.new) }
     ensures cause { HasCause (S.read_faults shelf.old) (S.read_faults shelf.new) (S.write_faults shelf.old)
         (S.write_faults shelf.new) (O.faults out.old) (O.faults out.new) result }
 {
@@ -140,6 +144,7 @@ fn search_begun<R: Files + Print + Threads + Sync, S: Shelf, O: Sink>(
         (S.names shelf.old) (S.names shelf.new)) (HasShelfCause S.Shelf shelf.old shelf.new)
         (Received result (O.text out.old) (O.text out.new) (O.faults out.old) (O.faults out.new))
         (ReceivedPart (O.text out.old) (O.text out.new) (O.lacks out.old) (O.lacks out.new)) result }
+    ensures few { IfTold (ArePutsAtMost (call.now.rounds + 1)) (O.puts out.old) (O.puts out.new) }
     ensures cause { HasCause (S.read_faults shelf.old) (S.read_faults shelf.new) (S.write_faults shelf.old)
         (S.write_faults shelf.new) (O.faults out.old) (O.faults out.new) result }
 {
@@ -168,6 +173,7 @@ fn search_from<R: Files + Print + Threads + Wait + Sync, S: Shelf, O: Sink>(
         (HasShelfCause S.Shelf shelf.old shelf.new)
         (Received result (O.text out.old) (O.text out.new) (O.faults out.old) (O.faults out.new))
         (ReceivedPart (O.text out.old) (O.text out.new) (O.lacks out.old) (O.lacks out.new)) result }
+    ensures few { IfTold (ArePutsAtMost (call.now.rounds + 1)) (O.puts out.old) (O.puts out.new) }
     ensures cause { HasCause (S.read_faults shelf.old) (S.read_faults shelf.new) (S.write_faults shelf.old)
         (S.write_faults shelf.new) (O.faults out.old) (O.faults out.new) result }
 {
@@ -191,6 +197,7 @@ pub fn improve<R: Files + Print + Threads + Wait + Sync, S: Shelf, O: Sink>(
         (HasShelfCause S.Shelf shelf.old shelf.new)
         (Received result (O.text out.old) (O.text out.new) (O.faults out.old) (O.faults out.new))
         (ReceivedPart (O.text out.old) (O.text out.new) (O.lacks out.old) (O.lacks out.new)) result }
+    ensures few { IfTold (ArePutsAtMost (call.now.rounds + 1)) (O.puts out.old) (O.puts out.new) }
     ensures cause { HasCause (S.read_faults shelf.old) (S.read_faults shelf.new) (S.write_faults shelf.old)
         (S.write_faults shelf.new) (O.faults out.old) (O.faults out.new) result }
 {

@@ -1,6 +1,6 @@
 //! Laws of calls, each on a function that does nothing.
 
-ghost use Rattle.ih_planning.specs.Laws.{DoneCallsHaveImproved, RoundsLeaveTheSame, VainCallsChangeNothing};
+ghost use Rattle.ih_planning.specs.Laws.{DoneCallsHaveImproved, RoundsLeaveTheSame, NoneFoundChangesNothing};
 
 use ih_improve::Walks;
 
@@ -8,7 +8,7 @@ use ih_improve::Walks;
 /// the freeze day and is no dearer than the start; with none found, each file as it was.
 pub fn done_calls_have_improved()
     ensures done { DoneCallsHaveImproved }
-    ensures none { VainCallsChangeNothing }
+    ensures none { NoneFoundChangesNothing }
 {}
 
 /// Where what each worker leaves in a round follows from what the round begins with and from the worker's number, so

@@ -3,7 +3,7 @@
 ghost use Rattle.std.specs.Bool.{MatchBool};
 ghost use Rattle.std.specs.Prelude.{◌≡◌, ◌<◌, ◌≤◌, ◌⊎◌, false, IfErr, IfNone, IfOk, IfSome, OnOk, string_bytes};
 ghost use Rattle.ih_plan.specs.Timetable.{IsPlanOf};
-ghost use Rattle.ih_shelf.specs.Outside.{IfTold, IsAppended, IsWritten, Rose};
+ghost use Rattle.ih_shelf.specs.Outside.{IfTold, IsAppended, IsOnePutAtMost, IsWritten, Rose};
 ghost use Rattle.ih_solution.specs.Solution.{solution};
 ghost use Rattle.ih_answers.specs.{Answers.Answers, Answers.HasShelfCause, Ends.Ends, Ends.HasCause, Ends.Received};
 ghost use Rattle.ih_answers.specs.{Texts.ReceivedPart};
@@ -131,6 +131,7 @@ fn search_on<R: Threads + Sync>(rt: &R, improver: &mut Improver<'_>) -> bool
 }
 
 // Puts out the line of the round that is over. Where that can't be done, the call ends.
+#[tactic(auto, using(ih_answers::proofs::Puts::one_put))]
 fn put_line<R: Print, O: Sink>(
     rt: &R,
     alloc: Global,
@@ -145,6 +146,7 @@ fn put_line<R: Print, O: Sink>(
     ensures ends { IfSome result (λ status. Ends (LineEnds improver.now heat) (λ s. s ≡ Status.OutOfMemory)
         (Received status (O.text out.old) (O.text out.new) (O.faults out.old) (O.faults out.new))
         (ReceivedPart (O.text out.old) (O.text out.new) (O.lacks out.old) (O.lacks out.new)) status) }
+    ensures once { IfTold IsOnePutAtMost (O.puts out.old) (O.puts out.new) }
     ensures cause { IfSome result (λ status. (status ≡ Status.OutOfMemory)
         ⊎ ((status ≡ Status.WriteFault None) × Rose (O.faults out.old) (O.faults out.new))) }
     ensures count { IfNone result (O.faults out.old ≤ O.faults out.new) }
@@ -186,6 +188,7 @@ pub fn one_round<R: Files + Print + Threads + Sync, S: Shelf, O: Sink>(
         (HasShelfCause S.Shelf shelf.old shelf.new)
         (Received status (O.text out.old) (O.text out.new) (O.faults out.old) (O.faults out.new))
         (ReceivedPart (O.text out.old) (O.text out.new) (O.lacks out.old) (O.lacks out.new)) status) }
+    ensures once { IfTold IsOnePutAtMost (O.puts out.old) (O.puts out.new) }
     ensures cause { IfSome result (HasCause (S.read_faults shelf.old) (S.read_faults shelf.new)
         (S.write_faults shelf.old) (S.write_faults shelf.new) (O.faults out.old) (O.faults out.new)) }
     ensures reads { IfNone result (S.read_faults shelf.old ≤ S.read_faults shelf.new) }

@@ -1,9 +1,9 @@
 //! The one call that does all that the program does.
 
-ghost use Rattle.std.specs.Prelude.{map, string_bytes};
+ghost use Rattle.std.specs.Prelude.{Some, map, string_bytes};
 ghost use Rattle.ih_answers.specs.{Answers.HasShelfCause, Ends.Ends, Ends.HasCause, Ends.Received};
 ghost use Rattle.ih_answers.specs.Texts.{ReceivedPart};
-ghost use Rattle.ih_planning.specs.Ends.{CallEnds, IsComplete, IsUntouched, Leaves};
+ghost use Rattle.ih_planning.specs.Ends.{CallEnds, HasFewPuts, IsComplete, IsUntouched, Leaves};
 ghost use Rattle.ih_planning.specs.Words.{HasLawfulSettings, call_of, command_call};
 ghost use Rattle.ih_shelf.specs.Outside.{Rose};
 
@@ -32,6 +32,7 @@ fn perform<R: Files + Print + Threads + Wait + Sync, S: Shelf, O: Sink>(
         (HasShelfCause S.Shelf shelf.old shelf.new)
         (Received result (O.text out.old) (O.text out.new) (O.faults out.old) (O.faults out.new))
         (ReceivedPart (O.text out.old) (O.text out.new) (O.lacks out.old) (O.lacks out.new)) result }
+    ensures once { HasFewPuts (Some (command_call command.now)) (O.puts out.old) (O.puts out.new) }
     ensures cause { HasCause (S.read_faults shelf.old) (S.read_faults shelf.new) (S.write_faults shelf.old)
         (S.write_faults shelf.new) (O.faults out.old) (O.faults out.new) result }
 {
@@ -59,10 +60,14 @@ pub fn run_planner<R: Files + Print + Threads + Wait + Sync, S: Shelf, O: Sink>(
 ) -> Status
     // What the files then hold, and the text that was put out, by the call that the words name and the status. Where
     // the shelf or the sink does not tell what it holds, nothing is claimed of that.
-    ensures leaves { Leaves (call_of (map string_bytes words.now)) (S.names shelf.old) (S.names shelf.new)
+    ensures leaves { Leaves (map string_bytes words.now) (call_of (map string_bytes words.now)) (S.names shelf.old)
+        (S.names shelf.new)
         (HasShelfCause S.Shelf shelf.old shelf.new)
         (Received result (O.text out.old) (O.text out.new) (O.faults out.old) (O.faults out.new))
         (ReceivedPart (O.text out.old) (O.text out.new) (O.lacks out.old) (O.lacks out.new)) result }
+
+    // At most one text is put out, in one put; in a search one more after each round.
+    ensures once { HasFewPuts (call_of (map string_bytes words.now)) (O.puts out.old) (O.puts out.new) }
 
     // Where the words name no call, no file is so much as read.
     ensures untouched { IsUntouched (call_of (map string_bytes words.now)) shelf.old shelf.new }

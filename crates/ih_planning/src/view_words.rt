@@ -4,7 +4,7 @@ ghost use Rattle.std.specs.Prelude.{◌≡◌, IfOk, map, option_map, string_byt
 ghost use Rattle.clap.specs.Words.{app_of, found_of, rows_of};
 ghost use Rattle.ih_words.specs.Matches.{call_by};
 ghost use Rattle.ih_planning.specs.View.{HasViewNames, lawful_view, view_app, view_call, view_in};
-ghost use Rattle.ih_planning.specs.Words.{IsRead};
+ghost use Rattle.ih_planning.specs.Explaining.{IsRead};
 
 use crate::arguments::with_help;
 use crate::explaining::{NoCall, explained, refused};
@@ -74,7 +74,8 @@ fn lawful_view<'a>(matches: &ArgMatches<'a>) -> Option<View<'a>>
 
 // Reads the words of `view`.
 pub(crate) fn read_view<'a>(alloc: Global, words: &'a [String]) -> Result<View<'a>, NoCall>
-    ensures { IsRead view_call (call_by view_app lawful_view (map string_bytes words.entry.now)) result }
+    ensures { IsRead view_call (call_by view_app lawful_view (map string_bytes words.entry.now)) view_app
+        (map string_bytes words.entry.now) result }
 {
     match matched(view_description(alloc), words) {
         Ok(matches) => match lawful_view(&matches) {

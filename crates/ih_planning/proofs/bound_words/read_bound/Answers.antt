@@ -5,8 +5,8 @@ use Rattle.ih_words.specs.Arguments.{named, optional_between}
 use Rattle.ih_words.specs.Distinct.{all_differ}
 use Rattle.ih_words.proofs.DescriptionRules.{requires_name, takes_between}
 use Rattle.ih_planning.specs.Bound.{bound_app, lawful_bound}
-use Rattle.ih_planning.specs.declared.bound_words.TheConstants.{MAX_TRIES}
-use Rattle.ih_planning.proofs.WordsRead.{explained-none}
+use Rattle.ih_planning.specs.declared.bound_words.TheConstants.{MAX_BOUND_ROUNDS}
+use Rattle.ih_planning.proofs.WordsRead.{explained-read}
 use Rattle.ih_planning.proofs.bound_words.read_bound.Goals as goal
 
 pub matched-requires : goal.matched-requires
@@ -17,9 +17,9 @@ pub bound_in-requires : goal.bound_in-requires
 unfolding bound_app
 bound_in-requires c = record {
   instance = c.in-Ok.ensures.texts 0 (named (codes "INSTANCE")) (requires_name refl);
-  rounds = c.in-Ok.ensures.optional 2 (optional_between (codes "rounds") 1 MAX_TRIES) 1 MAX_TRIES (takes_between refl);
+  rounds = c.in-Ok.ensures.optional 2 (optional_between (codes "rounds") 1 MAX_BOUND_ROUNDS) 1 MAX_BOUND_ROUNDS (takes_between refl);
   workers = c.in-Ok.ensures.optional 3 (optional_between (codes "workers") 1 MAX_WORKERS) 1 MAX_WORKERS (takes_between refl);
 }
 
 pub returns-in-Err : goal.returns-in-Err
-returns-in-Err c = explained-none _ bound_app lawful_bound _ c.in-Err.error c.explained.result c.in-Err.ensures.faults c.explained.ensures
+returns-in-Err c = explained-read bound_app _ _ lawful_bound c.in-Err.error c.explained.result c.in-Err.ensures.faults c.explained.ensures

@@ -1,4 +1,4 @@
-use Rattle.std.proofs.Common.{List, Some, None, codes, map, refl, string_bytes, sym}
+use Rattle.std.proofs.Common.{List, Some, codes, map, refl, string_bytes, sym}
 use Rattle.clap.specs.Words.{Row, found_of, rows_of}
 use Rattle.clap.proofs.OnLiterals.{clap_on_literals}
 use Rattle.ih_journal.specs.declared.settings.TheConstants.{MAX_HARD, MAX_HEAT, MAX_WORKERS}
@@ -9,7 +9,7 @@ use Rattle.ih_words.specs.declared.start.TheConstants.{MAX_FREEZE}
 use Rattle.ih_words.proofs.DescriptionRules.{requires_name, requires_number, takes_between, takes_number}
 use Rattle.ih_planning.specs.Improve.{ImproveCall, improve_app, improve_call, lawful_improve}
 use Rattle.ih_planning.proofs.SettingsRead.{lawful-call, unlawful-call}
-use Rattle.ih_planning.proofs.WordsRead.{asked-matches, explained-none}
+use Rattle.ih_planning.proofs.WordsRead.{asked-matches, explained-read, refused-read}
 use Rattle.ih_planning.proofs.improve_words.read_improve.Goals as goal
 
 pub matched-requires : goal.matched-requires
@@ -35,19 +35,19 @@ pub returns-in-None-clause-read : goal.returns-in-None-clause-read
 returns-in-None-clause-read c =
     let rows : List Row = rows_of (found_of c.in-Ok.matches) in
     let call : ImproveCall = improve_call c.improve_in-improve.result in
-    asked-matches ImproveCall improve_app lawful_improve (map string_bytes c.args.words.now) rows (Some call) c.in-Ok.ensures.no_fault c.in-Ok.ensures.rows
+    asked-matches improve_app (map string_bytes c.args.words.now) ImproveCall lawful_improve rows (Some call) c.in-Ok.ensures.no_fault c.in-Ok.ensures.rows
     (lawful-call rows call c.improve_in-improve.ensures.value (sym (rw c.in-None.is at c.fault_in.ensures.value)))
 
 pub returns-in-None-clause-lawful : goal.returns-in-None-clause-lawful
 returns-in-None-clause-lawful c = c.fault_in.ensures.lawful (rw c.in-None.is refl)
 
 pub returns-in-Ok-clause-read : goal.returns-in-Ok-clause-read
-returns-in-Ok-clause-read c = λ other.
+returns-in-Ok-clause-read c =
     let rows : List Row = rows_of (found_of c.in-Ok.matches) in
     let call : ImproveCall = improve_call c.improve_in-improve.result in
-    asked-matches ImproveCall improve_app lawful_improve (map string_bytes c.args.words.now) rows None c.in-Ok.ensures.no_fault c.in-Ok.ensures.rows
+    refused-read improve_app _ ImproveCall lawful_improve c.refused.result rows c.refused.ensures c.in-Ok.ensures.no_fault c.in-Ok.ensures.rows
     (unlawful-call rows call c.improve_in-improve.ensures.value (sym (rw c.in-Some.is at c.fault_in.ensures.value)))
 
 pub returns-clause-read : goal.returns-clause-read
 returns-clause-read c =
-    explained-none _ improve_app lawful_improve _ c.in-Err.error c.explained.result c.in-Err.ensures.faults c.explained.ensures
+    explained-read improve_app _ _ lawful_improve c.in-Err.error c.explained.result c.in-Err.ensures.faults c.explained.ensures

@@ -5,6 +5,7 @@ use Rattle.ih_answers.proofs.Later.{cause-from}
 use Rattle.ih_answers.proofs.Saying.{has-cause}
 use Rattle.ih_planning.specs.Improve.{ImproveCall, improve_call}
 use Rattle.ih_planning.proofs.ImproveCalls.{read-then, unread-ended}
+use Rattle.ih_planning.proofs.PutCounts.{one-within}
 use Rattle.ih_planning.proofs.improving.improve.Goals as goal
 
 pub search_from-requires-clause-read : goal.search_from-requires-clause-read
@@ -42,3 +43,6 @@ returns-in-Err-clause-ends g c =
 pub returns-in-Err-clause-cause : goal.returns-in-Err-clause-cause
 returns-in-Err-clause-cause g c =
     has-cause _ _ _ _ _ _ _ _ c.in-Err.answer.status c.conclude.result c.in-Err.ensures.cause c.conclude.ensures.cause
+
+pub returns-in-Err-clause-few : goal.returns-in-Err-clause-few
+returns-in-Err-clause-few g c = one-within _ _ _ c.conclude.ensures.once

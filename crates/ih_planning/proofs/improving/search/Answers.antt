@@ -1,7 +1,8 @@
-use Rattle.std.proofs.Common.{◌∙◌, ap}
+use Rattle.std.proofs.Common.{◌∙◌, ◌+◌, ap, arith}
 use Rattle.ih_improve.specs.Improving.{Improving}
 use Rattle.ih_answers.specs.Answers.{HasShelfCause}
 use Rattle.ih_planning.specs.Searching.{SearchEnds, StopsEarly}
+use Rattle.ih_planning.proofs.PutCounts.{puts-then, puts-within}
 use Rattle.ih_planning.proofs.SearchEnding.{ends-as, over-cause, over-ends, stopped-ends}
 use Rattle.ih_planning.proofs.improving.search.Goals as goal
 
@@ -34,3 +35,13 @@ returns-in-None-clause-cause g c =
     (g.S.Shelf.write_faults c.search_all.new.shelf) (g.O.Sink.faults c.args.out.now) (g.O.Sink.faults c.search_all.new.out)
     (g.O.Sink.faults c.conclude.new.out) (g.O.Sink.lacks c.search_all.new.out) (g.O.Sink.lacks c.conclude.new.out) c.in-None.ensures.puts
     c.search_all.new.improver c.ending.result c.ending.ensures c.conclude.result c.conclude.ensures.cause
+
+pub returns-in-Some-clause-few : goal.returns-in-Some-clause-few
+returns-in-Some-clause-few g c =
+    puts-within c.args.call.now.rounds (c.args.call.now.rounds + 1) (g.O.Sink.puts c.args.out.now) (g.O.Sink.puts c.search_all.new.out) (omega arith)
+    c.search_all.ensures.few
+
+pub returns-in-None-clause-few : goal.returns-in-None-clause-few
+returns-in-None-clause-few g c =
+    puts-then c.args.call.now.rounds (g.O.Sink.puts c.args.out.now) (g.O.Sink.puts c.search_all.new.out) (g.O.Sink.puts c.conclude.new.out)
+    c.search_all.ensures.few c.conclude.ensures.once

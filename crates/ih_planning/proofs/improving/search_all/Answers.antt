@@ -1,16 +1,18 @@
 use Rattle.std.proofs.Common.{◌≡◌, ◌∙◌, ℕ, ◌+◌, arith, ap, sym}
 use Rattle.ih_improve.specs.Improving.{Improving}
 use Rattle.ih_answers.proofs.Later.{cause-from}
+use Rattle.ih_planning.proofs.PutCounts.{no-puts, puts-then, puts-within}
 use Rattle.ih_planning.proofs.RoundSteps.{stopped, underway-begins, underway-next}
 use Rattle.ih_planning.proofs.improving.search_all.Goals as goal
 
 pub loop-init : goal.loop-init
 loop-init g c = record {
-  count = c.requires.fresh;
-  underway = underway-begins c.args.name.now c.args.improver.now (g.S.Shelf.names c.args.shelf.now) (g.O.Sink.text c.args.out.now) c.requires.fresh;
+  count = c.requires.no_round;
+  underway = underway-begins c.args.name.now c.args.improver.now (g.S.Shelf.names c.args.shelf.now) (g.O.Sink.text c.args.out.now) c.requires.no_round;
   reads = omega arith;
   writes = omega arith;
   puts = omega arith;
+  few = no-puts (g.O.Sink.puts c.args.out.now);
   lacks = omega arith;
 }
 
@@ -39,6 +41,8 @@ loop-preserved g c =
       reads = omega (arith, i.reads, c.in_default.ensures.reads);
       writes = omega (arith, i.writes, c.in_default.ensures.writes);
       puts = omega (arith, i.puts, c.in_default.ensures.puts);
+      few = puts-then c.loop.counter (g.O.Sink.puts c.args.out.now) (g.O.Sink.puts c.loop.out) (g.O.Sink.puts c.one_round.new.out) i.few
+          c.one_round.ensures.once;
       lacks = omega (arith, i.lacks, c.in_default.ensures.lacks);
     }
 
@@ -59,6 +63,16 @@ returns-in-Some-clause-cause g c =
     cause-from (g.S.Shelf.read_faults c.args.shelf.now) (g.S.Shelf.read_faults c.loop.shelf) (g.S.Shelf.read_faults c.one_round.new.shelf)
     (g.S.Shelf.write_faults c.args.shelf.now) (g.S.Shelf.write_faults c.loop.shelf) (g.S.Shelf.write_faults c.one_round.new.shelf) i.reads i.writes
     (g.O.Sink.faults c.args.out.now) (g.O.Sink.faults c.loop.out) (g.O.Sink.faults c.one_round.new.out) i.puts c.in-Some.status c.in-Some.ensures.cause
+
+pub returns-in-Some-clause-few : goal.returns-in-Some-clause-few
+returns-in-Some-clause-few g c =
+    puts-within (c.loop.counter + 1) c.args.rounds (g.O.Sink.puts c.args.out.now) (g.O.Sink.puts c.one_round.new.out) (omega arith)
+    (puts-then c.loop.counter (g.O.Sink.puts c.args.out.now) (g.O.Sink.puts c.loop.out) (g.O.Sink.puts c.one_round.new.out) c.loop.invariant.few
+    c.one_round.ensures.once)
+
+pub returns-clause-few : goal.returns-clause-few
+returns-clause-few g c =
+    puts-within c.loop.counter c.args.rounds (g.O.Sink.puts c.args.out.now) (g.O.Sink.puts c.loop.out) (omega arith) c.loop.invariant.few
 
 pub returns-clause-over : goal.returns-clause-over
 returns-clause-over g c =

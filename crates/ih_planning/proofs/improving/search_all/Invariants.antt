@@ -1,4 +1,6 @@
 use Rattle.std.proofs.Common.{◌≡◌, ◌≤◌}
+use Rattle.ih_shelf.specs.Outside.{IfTold}
+use Rattle.ih_planning.specs.Rounds.{ArePutsAtMost}
 use Rattle.ih_planning.proofs.RoundSteps.{Underway}
 use Rattle.ih_planning.proofs.improving.search_all.Given as goal
 
@@ -11,5 +13,6 @@ invariant-loop g l = record {
   reads : g.S.Shelf.read_faults l.fn.shelf ≤ g.S.Shelf.read_faults l.shelf;
   writes : g.S.Shelf.write_faults l.fn.shelf ≤ g.S.Shelf.write_faults l.shelf;
   puts : g.O.Sink.faults l.fn.out ≤ g.O.Sink.faults l.out;
+  few : IfTold (ArePutsAtMost l.counter) (g.O.Sink.puts l.fn.out) (g.O.Sink.puts l.out);
   lacks : g.O.Sink.lacks l.fn.out ≤ g.O.Sink.lacks l.out;
 }

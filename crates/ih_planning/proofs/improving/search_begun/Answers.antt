@@ -6,8 +6,9 @@ use Rattle.ih_answers.specs.Answers.{HasShelfCause}
 use Rattle.ih_answers.specs.Ends.{Ends, Received}
 use Rattle.ih_answers.specs.Texts.{ReceivedPart}
 use Rattle.ih_planning.specs.Improve.{ImproveCall, improve_call}
-use Rattle.ih_planning.specs.Searching.{BegunEnds, fresh}
+use Rattle.ih_planning.specs.Searching.{BegunEnds, new_search}
 use Rattle.ih_planning.proofs.ImproveCalls.{searched-ended, unstarted-ended}
+use Rattle.ih_planning.proofs.PutCounts.{one-within}
 use Rattle.ih_planning.proofs.improving.search_begun.Goals as goal
 
 pub search-requires-clause-rounds : goal.search-requires-clause-rounds
@@ -20,7 +21,7 @@ returns-in-Ok-clause-ends g c =
     let same : c.deref-inst.result.now.draft ≡ c.args.begun.now.inst.value.draft = cc in
     searched-ended call _ _ c.search.result (HasShelfCause g.S.Shelf c.args.shelf.now c.search.new.shelf) (g.S.Shelf.names c.args.shelf.now)
     (g.S.Shelf.names c.search.new.shelf) c.args.begun.now.inst.value.draft c.args.begun.now.start c.settings_of-settings.result c.in-Ok.improver
-    (c.in-Ok.ensures ∙ ap (λ (J : Draft). fresh J c.args.begun.now.start c.settings_of-settings.result) same) c.settings_of-settings.ensures c.search.ensures.ends
+    (c.in-Ok.ensures ∙ ap (λ (J : Draft). new_search J c.args.begun.now.start c.settings_of-settings.result) same) c.settings_of-settings.ensures c.search.ensures.ends
 
 pub returns-in-Err-clause-ends : goal.returns-in-Err-clause-ends
 returns-in-Err-clause-ends g c =
@@ -35,3 +36,6 @@ returns-in-Err-clause-ends g c =
     let start = c.args.begun.now.start in
     subst (Ends (BegunEnds call I start files files) cause received part) (sym c.conclude_memory.ensures.status)
     (unstarted-ended call received part cause files I start tt c.conclude_memory.ensures.said)
+
+pub returns-in-Err-clause-few : goal.returns-in-Err-clause-few
+returns-in-Err-clause-few g c = one-within _ _ _ c.conclude_memory.ensures.once

@@ -5,6 +5,7 @@ use Rattle.ih_answers.specs.Texts.{ReceivedPart}
 use Rattle.ih_planning.specs.Improve.{ImproveCall, improve_call}
 use Rattle.ih_planning.specs.Searching.{BegunEnds, ImproveEnds}
 use Rattle.ih_planning.proofs.ImproveCalls.{unbegun-ended}
+use Rattle.ih_planning.proofs.PutCounts.{one-within}
 use Rattle.ih_planning.proofs.SearchEnding.{begun-ends, ends-as}
 use Rattle.ih_planning.proofs.improving.search_from.Goals as goal
 
@@ -32,3 +33,6 @@ returns-in-Err-clause-ends g c =
     let part = ReceivedPart before after (g.O.Sink.lacks c.args.out.now) (g.O.Sink.lacks c.conclude_memory.new.out) in
     subst (Ends (ImproveEnds call files files) cause received part) (sym c.conclude_memory.ensures.status)
     (unbegun-ended call received part cause files tt c.conclude_memory.ensures.said)
+
+pub returns-in-Err-clause-few : goal.returns-in-Err-clause-few
+returns-in-Err-clause-few g c = one-within _ _ _ c.conclude_memory.ensures.once

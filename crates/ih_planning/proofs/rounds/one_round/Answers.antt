@@ -6,8 +6,8 @@ use Rattle.ih_answers.specs.Ends.{Received}
 use Rattle.ih_answers.specs.Texts.{ReceivedPart}
 use Rattle.ih_answers.proofs.Saying.{ended, has-cause}
 use Rattle.ih_improve.specs.Improving.{Improving}
-use Rattle.ih_planning.specs.Searching.{BestEnds, KeepsUp}
-use Rattle.ih_planning.proofs.BestWriting.{kept-up}
+use Rattle.ih_planning.specs.Searching.{BestEnds, KeepsFileCurrent}
+use Rattle.ih_planning.proofs.BestWriting.{file-current}
 use Rattle.ih_planning.proofs.SearchEnding.{best-answerable, best-ended, line-cause, line-ended}
 use Rattle.ih_planning.proofs.rounds.one_round.Goals as goal
 
@@ -24,7 +24,7 @@ goes-on P Q (Some x) f h = tt
 
 pub returns-in-Ok-clause-goes : goal.returns-in-Ok-clause-goes
 returns-in-Ok-clause-goes g c =
-    let kept = kept-up c.args.name.now c.args.improver.now c.search_on-is_new.new.improver g.S.Shelf.names c.args.shelf.now c.write_best.new.shelf
+    let kept = file-current c.args.name.now c.args.improver.now c.search_on-is_new.new.improver g.S.Shelf.names c.args.shelf.now c.write_best.new.shelf
     c.search_on-is_new.result c.search_on-is_new.ensures.later c.search_on-is_new.ensures.same c.in-Ok.ensures.ok in
     goes-on _ _ c.put_line.result (λ line. (kept, (c.heat-heat.result, line))) c.put_line.ensures.goes
 
@@ -34,8 +34,8 @@ returns-in-Ok-clause-ends g c =
     let new = c.write_best.new.shelf in
     let before = g.O.Sink.text c.args.out.now in
     let after = g.O.Sink.text c.put_line.new.out in
-    let kept : KeepsUp c.args.name.now c.args.improver.now c.search_on-is_new.new.improver (g.S.Shelf.names old) (g.S.Shelf.names new) =
-    kept-up c.args.name.now c.args.improver.now c.search_on-is_new.new.improver g.S.Shelf.names old new
+    let kept : KeepsFileCurrent c.args.name.now c.args.improver.now c.search_on-is_new.new.improver (g.S.Shelf.names old) (g.S.Shelf.names new) =
+    file-current c.args.name.now c.args.improver.now c.search_on-is_new.new.improver g.S.Shelf.names old new
     c.search_on-is_new.result c.search_on-is_new.ensures.later c.search_on-is_new.ensures.same c.in-Ok.ensures.ok in
     IfSome_then c.put_line.result c.put_line.ensures.ends (λ status h.
     line-ended c.args.name.now c.args.improver.now c.search_on-is_new.new.improver (g.S.Shelf.names old) (g.S.Shelf.names new)

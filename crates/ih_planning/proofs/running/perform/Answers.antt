@@ -4,7 +4,6 @@ use Rattle.ih_answers.specs.Texts.{ReceivedPart}
 use Rattle.ih_answers.proofs.Saying.{beside, ended, has-cause}
 use Rattle.ih_shelf.specs.Outside.{IfTold}
 use Rattle.ih_answers.specs.Ends.{Unchanged}
-use Rattle.ih_answers.specs.declared.status.Status.{Status}
 use Rattle.ih_planning.specs.Bound.{BoundCall, bound_call}
 use Rattle.ih_planning.specs.Bounding.{BoundEnds}
 use Rattle.ih_planning.specs.View.{ViewCall, view_call}
@@ -56,3 +55,12 @@ pub returns-in-Bound-clause-cause : goal.returns-in-Bound-clause-cause
 returns-in-Bound-clause-cause g c =
     has-cause _ _ _ _ _ _ _ _ c.bound_of-answer.result.status c.conclude-in-Bound.result c.bound_of-answer.ensures.cause
     c.conclude-in-Bound.ensures.cause
+
+pub returns-in-Improve-clause-once : goal.returns-in-Improve-clause-once
+returns-in-Improve-clause-once g c = rw c.in-Improve.is c.improve.ensures.few
+
+pub returns-in-View-clause-once : goal.returns-in-View-clause-once
+returns-in-View-clause-once g c = rw c.in-View.is c.conclude.ensures.once
+
+pub returns-in-Bound-clause-once : goal.returns-in-Bound-clause-once
+returns-in-Bound-clause-once g c = rw c.in-Bound.is c.conclude-in-Bound.ensures.once

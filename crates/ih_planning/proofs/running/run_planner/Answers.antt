@@ -8,9 +8,11 @@ use Rattle.ih_answers.specs.declared.status.Status.TheVariants.{Done, Usage}
 use Rattle.ih_answers.proofs.Files.{told-same}
 use Rattle.ih_answers.proofs.Saying.{ended}
 use Rattle.ih_planning.specs.Ends.{Leaves, NoCallEnds}
+use Rattle.ih_planning.specs.Explaining.{IsExplained, app_for}
 use Rattle.ih_planning.specs.Words.{call_of, command_call}
 use Rattle.ih_planning.proofs.CallEnds.{memory-leaves, no_call-answerable, untouched}
 use Rattle.ih_planning.proofs.Completeness.{complete, memory-complete}
+use Rattle.ih_planning.proofs.PutCounts.{one-few}
 use Rattle.ih_planning.proofs.running.run_planner.Goals as goal
 
 pub returns-in-Ok-clause-leaves : goal.returns-in-Ok-clause-leaves
@@ -27,7 +29,7 @@ returns-in-Ok-clause-complete g c =
     let after = g.O.Sink.text c.perform.new.out in
     let result = c.perform.result in
     rw c.in-Ok.ensures.ok
-    (complete (command_call c.in-Ok.command) (g.S.Shelf.names old) (g.S.Shelf.names new) (HasShelfCause g.S.Shelf old new)
+    (complete (map string_bytes c.args.words.now) (command_call c.in-Ok.command) (g.S.Shelf.names old) (g.S.Shelf.names new) (HasShelfCause g.S.Shelf old new)
     (Received result before after (g.O.Sink.faults c.args.out.now) (g.O.Sink.faults c.perform.new.out))
     (ReceivedPart before after (g.O.Sink.lacks c.args.out.now) (g.O.Sink.lacks c.perform.new.out)) _ _ _ _ _ _ result c.perform.ensures.ends
     c.perform.ensures.cause)
@@ -39,12 +41,15 @@ returns-in-Err-Help-clause-leaves g c =
     let before = g.O.Sink.text c.args.out.now in
     let after = g.O.Sink.text c.conclude.new.out in
     let result = c.conclude.result in
+    let words = map string_bytes c.args.words.now in
+    let e = c.in-Err-Help in
+    let asked = subst (IsExplained (app_for words) words) e.field-0-is e.ensures.explained in
     let a : Answer = record { status = Done; text = c.into_bytes.result } in
     rw (c.in-Err-Help.ensures.none (λ e. let is = c.in-Err-Help.field-0-is in cc)) (
       told-same files files refl,
-      ended NoCallEnds no_call-answerable (HasShelfCause g.S.Shelf shelf shelf)
+      ended (NoCallEnds words) (no_call-answerable words) (HasShelfCause g.S.Shelf shelf shelf)
           (Received result before after (g.O.Sink.faults c.args.out.now) (g.O.Sink.faults c.conclude.new.out))
-          (ReceivedPart before after (g.O.Sink.lacks c.args.out.now) (g.O.Sink.lacks c.conclude.new.out)) a result (inr tt) tt c.conclude.ensures.said,
+          (ReceivedPart before after (g.O.Sink.lacks c.args.out.now) (g.O.Sink.lacks c.conclude.new.out)) a result (inr asked) tt c.conclude.ensures.said,
     )
 
 pub returns-in-Err-Help-clause-untouched : goal.returns-in-Err-Help-clause-untouched
@@ -60,12 +65,15 @@ returns-in-Err-Refused-clause-leaves g c =
     let before = g.O.Sink.text c.args.out.now in
     let after = g.O.Sink.text c.conclude-in-Err-Refused.new.out in
     let result = c.conclude-in-Err-Refused.result in
+    let words = map string_bytes c.args.words.now in
+    let e = c.in-Err-Refused in
+    let asked = subst (IsExplained (app_for words) words) e.field-0-is e.ensures.explained in
     let a : Answer = record { status = Usage; text = c.into_bytes-in-Err-Refused.result } in
     rw (c.in-Err-Refused.ensures.none (λ e. let is = c.in-Err-Refused.field-0-is in cc)) (
       told-same files files refl,
-      ended NoCallEnds no_call-answerable (HasShelfCause g.S.Shelf shelf shelf)
+      ended (NoCallEnds words) (no_call-answerable words) (HasShelfCause g.S.Shelf shelf shelf)
           (Received result before after (g.O.Sink.faults c.args.out.now) (g.O.Sink.faults c.conclude-in-Err-Refused.new.out))
-          (ReceivedPart before after (g.O.Sink.lacks c.args.out.now) (g.O.Sink.lacks c.conclude-in-Err-Refused.new.out)) a result (inr tt) tt
+          (ReceivedPart before after (g.O.Sink.lacks c.args.out.now) (g.O.Sink.lacks c.conclude-in-Err-Refused.new.out)) a result (inr asked) tt
           c.conclude-in-Err-Refused.ensures.said,
     )
 
@@ -84,8 +92,9 @@ returns-in-Err-OutOfMemory-clause-leaves g c =
     let after = g.O.Sink.text c.conclude_memory.new.out in
     let received = Received c.conclude_memory.result before after (g.O.Sink.faults c.args.out.now) (g.O.Sink.faults c.conclude_memory.new.out) in
     let part = ReceivedPart before after (g.O.Sink.lacks c.args.out.now) (g.O.Sink.lacks c.conclude_memory.new.out) in
-    subst (Leaves (call_of (map string_bytes c.args.words.now)) files files why received part) (sym c.conclude_memory.ensures.status)
-    (memory-leaves (call_of (map string_bytes c.args.words.now)) files why received part tt c.conclude_memory.ensures.said)
+    let words = map string_bytes c.args.words.now in
+    subst (Leaves words (call_of words) files files why received part) (sym c.conclude_memory.ensures.status)
+    (memory-leaves words (call_of words) files why received part tt c.conclude_memory.ensures.said)
 
 pub returns-in-Err-OutOfMemory-clause-untouched : goal.returns-in-Err-OutOfMemory-clause-untouched
 returns-in-Err-OutOfMemory-clause-untouched g c = untouched (call_of (map string_bytes c.args.words.now)) c.args.shelf.now
@@ -93,3 +102,15 @@ returns-in-Err-OutOfMemory-clause-untouched g c = untouched (call_of (map string
 pub returns-in-Err-OutOfMemory-clause-complete : goal.returns-in-Err-OutOfMemory-clause-complete
 returns-in-Err-OutOfMemory-clause-complete g c =
     rw c.conclude_memory.ensures.status (memory-complete (call_of (map string_bytes c.args.words.now)) _ _ _ _)
+
+pub returns-in-Ok-clause-once : goal.returns-in-Ok-clause-once
+returns-in-Ok-clause-once g c = rw c.in-Ok.ensures.ok c.perform.ensures.once
+
+pub returns-in-Err-Help-clause-once : goal.returns-in-Err-Help-clause-once
+returns-in-Err-Help-clause-once g c = one-few _ _ _ c.conclude.ensures.once
+
+pub returns-in-Err-Refused-clause-once : goal.returns-in-Err-Refused-clause-once
+returns-in-Err-Refused-clause-once g c = one-few _ _ _ c.conclude-in-Err-Refused.ensures.once
+
+pub returns-in-Err-OutOfMemory-clause-once : goal.returns-in-Err-OutOfMemory-clause-once
+returns-in-Err-OutOfMemory-clause-once g c = one-few _ _ _ c.conclude_memory.ensures.once

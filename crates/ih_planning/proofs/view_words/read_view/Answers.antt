@@ -1,10 +1,11 @@
-use Rattle.std.proofs.Common.{codes, refl}
+use Rattle.std.proofs.Common.{◌∙◌, ap, codes, option_map, refl, sym}
+use Rattle.clap.specs.Words.{found_of, rows_of}
 use Rattle.clap.proofs.OnLiterals.{clap_on_literals}
 use Rattle.ih_words.specs.Arguments.{named}
 use Rattle.ih_words.specs.Distinct.{all_differ}
 use Rattle.ih_words.proofs.DescriptionRules.{requires_name}
-use Rattle.ih_planning.specs.View.{lawful_view, view_app}
-use Rattle.ih_planning.proofs.WordsRead.{explained-none}
+use Rattle.ih_planning.specs.View.{lawful_view, view_app, view_call}
+use Rattle.ih_planning.proofs.WordsRead.{explained-read, refused-read}
 use Rattle.ih_planning.proofs.view_words.read_view.Goals as goal
 
 pub matched-requires : goal.matched-requires
@@ -19,5 +20,10 @@ lawful_view-requires c = record {
   third = c.in-Ok.ensures.texts 2 (named (codes "PAGE")) (requires_name refl);
 }
 
+pub returns-in-Ok : goal.returns-in-Ok
+returns-in-Ok c =
+    refused-read view_app _ _ lawful_view c.refused.result (rows_of (found_of c.in-Ok.matches)) c.refused.ensures c.in-Ok.ensures.no_fault c.in-Ok.ensures.rows
+    (ap (option_map view_call) (sym c.in-None.is) ∙ c.lawful_view.ensures)
+
 pub returns : goal.returns
-returns c = explained-none _ view_app lawful_view _ c.in-Err.error c.explained.result c.in-Err.ensures.faults c.explained.ensures
+returns c = explained-read view_app _ _ lawful_view c.in-Err.error c.explained.result c.in-Err.ensures.faults c.explained.ensures
