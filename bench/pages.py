@@ -60,7 +60,7 @@ class Page(html.parser.HTMLParser):
     def __init__(self):
         super().__init__(convert_charrefs=True)
         self.tags, self.ids, self.links, self.rows, self.text = {}, [], [], [], []
-        self.inside, self.lists, self.words = None, {}, None
+        self.inside, self.lists, self.list, self.words = None, {}, None, None
 
     def handle_starttag(self, tag, attrs):
         self.tags[tag] = self.tags.get(tag, 0) + 1
@@ -70,9 +70,9 @@ class Page(html.parser.HTMLParser):
         if tag == "a":
             self.links.append(given["href"])
         if tag == "details":
-            self.lists[given["id"]] = []
-        if tag == "li":
-            self.words = list(self.lists.values())[-1]
+            self.list = self.lists[given["id"]] = []
+        if tag == "li" and self.list is not None:
+            self.words = self.list
             self.words.append("")
         if tag == "table":
             self.inside = given.get("class")
@@ -85,7 +85,7 @@ class Page(html.parser.HTMLParser):
         if tag == "table":
             self.inside = None
         if tag == "details":
-            self.words = None
+            self.list = self.words = None
 
     def handle_data(self, data):
         self.text.append(data)
@@ -119,7 +119,7 @@ def read(inst, text):
         assert sum(amounts) == numbers[name], "the amounts of %s don't sum to its number" % name
         assert amounts == sorted(amounts, reverse=True), "the list of %s doesn't fall" % name
     known = {"html", "meta", "title", "style", "main", "h1", "h2", "h3", "p", "table", "tr", "th", "td", "div", "a", "i",
-             "bdi", "details", "summary", "ul", "li"}
+             "bdi", "details", "summary", "ul", "li", "b", "br", "section"}
     assert set(page.tags) <= known, set(page.tags) - known
     print("persons %d, links %d, tags %d, items of lists %d" % (persons, len(page.links), sum(page.tags.values()),
                                                                 sum(len(items) for items in page.lists.values())))

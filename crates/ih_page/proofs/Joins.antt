@@ -12,3 +12,6 @@ joins4 o a b c d x y z n h k l m = joins2 o a (b ++ (c ++ d)) x n h (joins3 x b 
 
 pub joins5 : (o a b c d e x y z w n : List ℕ) → x ≡ o ++ a → y ≡ x ++ b → z ≡ y ++ c → w ≡ z ++ d → n ≡ w ++ e → n ≡ o ++ (a ++ (b ++ (c ++ (d ++ e))))
 joins5 o a b c d e x y z w n h k l m p = joins2 o a (b ++ (c ++ (d ++ e))) x n h (joins4 x b c d e y z w n k l m p)
+
+pub joins6 : (o a b c d e f x y z w v n : List ℕ) → x ≡ o ++ a → y ≡ x ++ b → z ≡ y ++ c → w ≡ z ++ d → v ≡ w ++ e → n ≡ v ++ f → n ≡ o ++ (a ++ (b ++ (c ++ (d ++ (e ++ f)))))
+joins6 o a b c d e f x y z w v n h k l m p q = joins2 o a (b ++ (c ++ (d ++ (e ++ f)))) x n h (joins5 x b c d e f y z w v n k l m p q)

@@ -1,6 +1,7 @@
 pub mod Lines
 pub mod Escapes
 pub mod Joins
+pub mod Magnitudes
 pub mod OrderLemmas
 pub mod ListSums
 pub mod Scans
@@ -12,5 +13,9 @@ pub mod RoomTags
 pub mod SurgeryTags
 pub mod NursingTags
 pub mod WrongTags
+pub mod OverviewTags
+pub mod IndexTags
 pub mod PageTags
+pub mod Parts
+pub mod LinkPlaces
 pub mod TagExamples

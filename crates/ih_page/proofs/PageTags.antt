@@ -7,10 +7,12 @@ use Rattle.ih_plan.specs.BillOf.{bill_of}
 use Rattle.ih_page.specs.Laws.{TagsAreOwn}
 use Rattle.ih_page.specs.Summary.{summary}
 use Rattle.ih_page.specs.Wrong.{wrong_text}
-use Rattle.ih_page.specs.Page.{opening, tables, page_of}
+use Rattle.ih_page.specs.Page.{opening, jumps, top, tables, page_of}
 use Rattle.ih_page.proofs.Scans.{Own, by_pieces}
 use Rattle.ih_page.proofs.OwnTags.{own-tags}
-use Rattle.ih_page.proofs.SummaryTags.{summary-own}
+use Rattle.ih_page.proofs.SummaryTags.{verdict-of, cost-bar, summary-own}
+use Rattle.ih_page.proofs.OverviewTags.{overview-own}
+use Rattle.ih_page.proofs.IndexTags.{index-own}
 use Rattle.ih_page.proofs.WrongTags.{wrong-own}
 use Rattle.ih_page.proofs.LeftOutTags.{left-out-own}
 use Rattle.ih_page.proofs.RoomTags.{rooms-own}
@@ -19,12 +21,12 @@ use Rattle.ih_page.proofs.NursingTags.{nurses-own}
 
 -- a page behind its opening
 abbrev rest_of : Draft → Timetable → List ℕ
-rest_of I P = summary I.weights (bill_of I P) ++ (wrong_text I P ++ (tables I P ++ codes "</main>\n"))
+rest_of I P = top I P ++ (summary I.weights (bill_of I P) ++ (wrong_text I P ++ (tables I P ++ codes "</main>\n")))
 
 rest-own : (I : Draft) (P : Timetable) → Own (rest_of I P)
-unfolding tables
+unfolding top jumps tables
 rest-own I P =
-    simp (by_pieces, summary-own, wrong-own, left-out-own, rooms-own, surgery-own, nurses-own) refl
+    simp (by_pieces, verdict-of, cost-bar, overview-own, summary-own, wrong-own, left-out-own, rooms-own, surgery-own, nurses-own, index-own) refl
 
 pub tags-own : (I : Draft) (P : Timetable) → TagsAreOwn I P
 unfolding page_of opening

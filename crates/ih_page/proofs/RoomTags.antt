@@ -12,7 +12,7 @@ use Rattle.ih_tables.specs.Sizes.{patient_count}
 use Rattle.ih_plan.specs.declared.moves.Placement.{Placement}
 use Rattle.ih_plan.specs.Timetable.{Timetable, stay_of}
 use Rattle.ih_page.specs.Html.{isolated, labelled, numbered}
-use Rattle.ih_page.specs.Rooms.{age_name, theatre_name, surgeon_name, shift_type_name, nurse_name, wide_td, bar_td, bar_text, person_tds, patient_row, occupant_row, patient_in, occupant_in, marked, anchor_text, td_at, count_td, nurse_td, shift_row, room_title, heads_and_days, room_head, count_row, person_rows, room_text, rooms_text}
+use Rattle.ih_page.specs.Rooms.{age_name, theatre_name, surgeon_name, shift_type_name, nurse_name, wide_td, delay_td, bar_td, bar_text, is_first_gender, patient_tag, occupant_tag, mandatory_mark, person_tds, patient_head, patient_row, admitted_rows, legend, occupant_row, patient_in, occupant_in, marked, anchor_text, td_at, count_td, nurse_td, shift_row, room_title, heads_and_days, room_head, count_row, person_rows, room_text, rooms_text}
 use Rattle.ih_page.proofs.Scans.{Own, all-below, if-any, by_pieces}
 use Rattle.ih_page.proofs.NamesAndNumbers.{name, names_and_numbers}
 
@@ -37,25 +37,42 @@ nurse-name I (Some n) = if-any (λ (a : Nurse). isolated a.id) (λ a. name a.id)
 
 -- who is in a room
 
-bar : (h d n : ℕ) → Own (bar_text h d n)
-unfolding bar_text wide_td bar_td labelled
-bar h d n = simp (by_pieces, names_and_numbers) refl
+bar : (h r d n : ℕ) (gender : List ℕ) → Own (bar_text h r d n gender)
+unfolding bar_text wide_td delay_td bar_td labelled
+bar h r d n gender = simp (by_pieces, names_and_numbers) refl
+
+patient-tag : (b : Bool) (p : ℕ) (id : List ℕ) → Own (numbered (patient_tag b) p (codes "><th>") id)
+unfolding numbered
+patient-tag true p id = simp (by_pieces, names_and_numbers) refl
+patient-tag false p id = simp (by_pieces, names_and_numbers) refl
+
+occupant-tag : (b : Bool) (x : ℕ) (id : List ℕ) → Own (numbered (occupant_tag b) x (codes "><th>") id)
+unfolding numbered
+occupant-tag true x id = simp (by_pieces, names_and_numbers) refl
+occupant-tag false x id = simp (by_pieces, names_and_numbers) refl
+
+mandatory : (b : Bool) → Own (mandatory_mark b)
+mandatory true = refl
+mandatory false = refl
+
+patient-head : (I : Draft) (p : ℕ) (a : Patient) → Own (patient_head I p a)
+unfolding patient_head
+patient-head I p a =
+    simp (by_pieces, patient-tag (is_first_gender I a.gender) p a.id, mandatory) refl
 
 cells : (I : Draft) (gender : List ℕ) (age : ℕ) → Own (person_tds I gender age)
 unfolding person_tds
 cells I gender age = simp (by_pieces, names_and_numbers, age-name) refl
 
 patient-row : (I : Draft) (p : ℕ) (at : Placement) (a : Patient) → Own (patient_row I p at a)
-unfolding numbered
-patient-row I p at a = simp (by_pieces, names_and_numbers, cells, theatre-name, bar) refl
+patient-row I p at a = simp (by_pieces, patient-head, cells, theatre-name, bar) refl
 
 occupant-row : (I : Draft) (x : ℕ) (a : Occupant) → Own (occupant_row I x a)
-unfolding numbered
-occupant-row I x a = simp (by_pieces, names_and_numbers, cells, bar) refl
+occupant-row I x a = simp (by_pieces, occupant-tag (is_first_gender I a.gender) x a.id, cells, bar) refl
 
-patient : (I : Draft) (r p : ℕ) (o : Option Placement) → Own (patient_in I r p o)
-patient I r p None = refl
-patient I r p (Some at) = simp (by_pieces, if-any (patient_row I p at) (patient-row I p at)) refl
+patient : (I : Draft) (r d p : ℕ) (o : Option Placement) → Own (patient_in I r d p o)
+patient I r d p None = refl
+patient I r d p (Some at) = simp (by_pieces, if-any (patient_row I p at) (patient-row I p at)) refl
 
 occupant-if : (I : Draft) (x : ℕ) (c : Bool) (a : Occupant) → Own (if c then occupant_row I x a else [])
 occupant-if I x true a = occupant-row I x a
@@ -66,13 +83,16 @@ occupant I r o =
     if-any (λ (a : Occupant). if a.room_id.0 == r then occupant_row I (patient_count I + o) a else [])
     (λ a. occupant-if I (patient_count I + o) (a.room_id.0 == r) a) (slice_get I.occupants o)
 
+admitted : (I : Draft) (P : Timetable) (r d : ℕ) → Own (admitted_rows I P r d)
+admitted I P r d = all-below (λ p. patient_in I r d p (stay_of P p)) (λ p. patient I r d p (stay_of P p)) (patient_count I)
+
 persons : (I : Draft) (P : Timetable) (r : ℕ) → Own (person_rows I P r)
 unfolding person_rows
 persons I P r =
     simp (
       by_pieces,
       all-below (occupant_in I r) (occupant I r),
-      all-below (λ p. patient_in I r p (stay_of P p)) (λ p. patient I r p (stay_of P p)),
+      all-below (admitted_rows I P r) (admitted I P r),
     ) refl
 
 -- the other rows
@@ -107,5 +127,5 @@ room I P r =
     simp (by_pieces, if-any (room_head I r) (head I r), persons, count-row, all-below (shift_row I P r) (shift I P r)) refl
 
 pub rooms-own : (I : Draft) (P : Timetable) → Own (rooms_text I P)
-unfolding rooms_text
+unfolding rooms_text legend
 rooms-own I P = simp (by_pieces, all-below (room_text I P) (room I P)) refl

@@ -1,9 +1,10 @@
 -- The tags of a page's head are its own.
 use Rattle.std.proofs.Common.{ℕ, Bool, true, false, refl}
-use Rattle.std.specs.Prelude.{ℤ}
+use Rattle.std.specs.Prelude.{ℤ, ◌*ℤ◌, unsigned_abs}
 use Rattle.ih_tables.specs.declared.bills.Bill.{Bill}
 use Rattle.ih_tables.specs.declared.bills.Weights.{Weights}
-use Rattle.ih_tables.specs.Bills.{at}
+use Rattle.ih_tables.specs.Bills.{at, cost}
+use Rattle.ih_page.specs.CostBar.{share_of, part_name, part_td, part_if, cost_part, cost_bar}
 use Rattle.ih_page.specs.Summary.{rule_name, cost_name, line_text, line_link, line_head, product_text, hard_text, rule_row, cost_row, feasible_text, rule_rows, cost_rows, headline, summary}
 use Rattle.ih_page.proofs.Scans.{Own, all-below, by_pieces}
 use Rattle.ih_page.proofs.NamesAndNumbers.{names_and_numbers}
@@ -28,7 +29,7 @@ verdict : (b : Bool) → Own (feasible_text b)
 verdict true = refl
 verdict false = refl
 
-verdict-of : (w : Weights) (b : Bill) → Own (headline w b)
+pub verdict-of : (w : Weights) (b : Bill) → Own (headline w b)
 unfolding headline
 verdict-of w b = simp (by_pieces, names_and_numbers, verdict) refl
 
@@ -42,4 +43,14 @@ cost-rows w b = all-below _ (λ i. cost-row i (at b.s i) (at w.w i)) 8
 
 pub summary-own : (w : Weights) (b : Bill) → Own (summary w b)
 unfolding summary
-summary-own w b = simp (by_pieces, verdict-of, rule-rows, cost-rows) refl
+summary-own w b = simp (by_pieces, rule-rows, cost-rows) refl
+
+part : (i share : ℕ) → Own (part_if i share)
+unfolding part_td part_name line_text line_link
+part i share = simp (by_pieces, names_and_numbers, cost-name) refl
+
+pub cost-bar : (w : Weights) (b : Bill) → Own (cost_bar w b)
+unfolding cost_bar
+cost-bar w b =
+    let whole = unsigned_abs (cost w b) in
+    simp (by_pieces, all-below (cost_part w b whole) (λ i. part i (share_of whole (unsigned_abs (at b.s i *ℤ at w.w i))))) refl

@@ -15,11 +15,11 @@ use Rattle.ih_page.proofs.Scans.{Own, all-below, if-any, by_pieces}
 use Rattle.ih_page.proofs.NamesAndNumbers.{names_and_numbers}
 use Rattle.ih_page.proofs.RoomTags.{theatre-name, surgeon-name, day}
 
-resource : (I : Draft) (w : Resource) → Own (resource_name I w)
+pub resource : (I : Draft) (w : Resource) → Own (resource_name I w)
 resource I (OfTheatre t) = theatre-name I t.0
 resource I (OfSurgeon s) = surgeon-name I s.0
 
-link : (p : ℕ) (a : Patient) → Own (name_link p a)
+pub link : (p : ℕ) (a : Patient) → Own (name_link p a)
 unfolding name_link numbered
 link p a = simp (by_pieces, names_and_numbers) refl
 

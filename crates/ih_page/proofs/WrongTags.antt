@@ -55,11 +55,11 @@ person I x =
       if-any occupant_name (λ a. simp (by_pieces, names_and_numbers) refl),
     ) refl
 
-room : (I : Draft) (r : ℕ) → Own (room_name I r)
+pub room : (I : Draft) (r : ℕ) → Own (room_name I r)
 unfolding room_name
 room I r = if-any room_label (λ a. simp (by_pieces, names_and_numbers) refl) (slice_get I.rooms r)
 
-day : (d : ℕ) → Own (day_text d)
+pub day : (d : ℕ) → Own (day_text d)
 unfolding labelled
 day d = simp (by_pieces, names_and_numbers) refl
 

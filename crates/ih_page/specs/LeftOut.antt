@@ -14,24 +14,24 @@ last_day None = codes "end"
 last_day (Some d) = decimal d
 
 abbrev pub need_text : Bool → List ℕ
-need_text true = codes "mandatory"
+need_text true = codes "<b>mandatory</b>"
 need_text false = codes "optional"
 
 -- from the release day to the due day
 unfoldable pub window_text : Patient → List ℕ
 window_text a =
-    labelled (codes "<td>") a.surgery_release_day ++ (codes " to " ++ (last_day a.surgery_due_day ++ codes "\n"))
+    labelled (codes ", day ") a.surgery_release_day ++ (codes " to " ++ (last_day a.surgery_due_day ++ codes "\n"))
 
--- the row of patient a, whose number is p
-abbrev pub left_out_row : ℕ → Patient → List ℕ
-left_out_row p a =
-    numbered (codes "<tr id=p") p (codes "><th>") a.id ++ (codes "<td>" ++ (need_text a.mandatory ++ window_text a))
+-- the item of patient a, whose number is p
+abbrev pub left_out_item : ℕ → Patient → List ℕ
+left_out_item p a =
+    numbered (codes "<li id=p") p (codes ">") a.id ++ (codes ": " ++ (need_text a.mandatory ++ window_text a))
 
--- the row of patient p, where it isn't admitted
+-- the same, where the patient isn't admitted
 abbrev pub left_out_of : Draft → Timetable → ℕ → List ℕ
-left_out_of I P p = if is_none (stay_of P p) then option_map_or (left_out_row p) (slice_get I.patients p) [] else []
+left_out_of I P p = if is_none (stay_of P p) then option_map_or (left_out_item p) (slice_get I.patients p) [] else []
 
 unfoldable pub left_out : Draft → Timetable → List ℕ
 left_out I P =
-    codes "<h2 id=left>Patients who are left out</h2>\n<table><tr><th>patient<th>need<th>window\n"
-    ++ (lines_below (patient_count I) (left_out_of I P) ++ codes "</table>\n")
+    codes "<h2 id=left>Patients who are left out</h2>\n<ul>\n"
+    ++ (lines_below (patient_count I) (left_out_of I P) ++ codes "</ul>\n")

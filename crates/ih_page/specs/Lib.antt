@@ -1,5 +1,6 @@
 pub mod Html
 pub mod Summary
+pub mod CostBar
 pub mod LeftOut
 pub mod Rooms
 pub mod Surgery
@@ -7,7 +8,10 @@ pub mod Nursing
 pub mod BillLines
 pub mod Order
 pub mod CellNames
+pub mod Overview
+pub mod PatientIndex
 pub mod Wrong
 pub mod Page
 pub mod Tags
 pub mod Laws
+pub mod Places

@@ -1,6 +1,7 @@
 -- Rooms by days: who stays there, how many there are, and the nurses of the shifts.
-use Rattle.std.specs.Prelude.{ℕ, ◌+◌, ◌-◌, ◌*◌, min, List, [], ◌++◌, Option, Some, None, ◌==◌, nat_lt, codes, decimal, slice_get, if◌then◌else◌}
+use Rattle.std.specs.Prelude.{ℕ, ◌+◌, ◌-◌, ◌*◌, ◌&&◌, Bool, true, false, min, List, [], ◌++◌, Option, Some, None, ◌==◌, nat_lt, codes, decimal, slice_get, if◌then◌else◌}
 use Rattle.std.specs.Option.{option_map_or}
+use Rattle.std.specs.Str.{bytes_eq}
 use Rattle.ih_tables.specs.declared.drafts.Draft.{Draft}
 use Rattle.ih_tables.specs.declared.drafts.Nurse.{Nurse}
 use Rattle.ih_tables.specs.declared.drafts.Occupant.{Occupant}
@@ -46,35 +47,78 @@ wide_td n = labelled (codes "<td colspan=") n ++ codes ">"
 abbrev pub gap_text : ℕ → List ℕ
 gap_text d = if d == 0 then [] else wide_td d
 
--- a bar of m columns that says n
-unfoldable pub bar_td : ℕ → ℕ → List ℕ
-bar_td m n = labelled (codes "<td class=b colspan=") m ++ (labelled (codes ">") n ++ codes "\n")
+-- the days of delay before a stay, as a thin line
+unfoldable pub delay_td : ℕ → List ℕ
+delay_td n = labelled (codes "<td class=w colspan=") n ++ codes ">"
 
--- the bar of a stay of n days from day d on, as far as the horizon of h days goes, with its length in days
-unfoldable pub bar_text : ℕ → ℕ → ℕ → List ℕ
-bar_text h d n = gap_text d ++ bar_td (min n (h - d)) n
+abbrev pub delay_text : ℕ → List ℕ
+delay_text n = if n == 0 then [] else delay_td n
+
+-- how a bar of n days ends that has m columns: an arrow where the stay goes on past the last day
+abbrev pub bar_end : ℕ → ℕ → List ℕ
+bar_end m n = if nat_lt m n then codes " &rarr;\n" else codes "\n"
+
+-- a bar of m columns: the length of the stay in days, and the gender
+unfoldable pub bar_td : ℕ → ℕ → List ℕ → List ℕ
+bar_td m n gender =
+    labelled (codes "<td class=b colspan=") m
+    ++ (labelled (codes ">") n ++ (codes " " ++ (isolated gender ++ bar_end m n)))
+
+-- the bar of a stay of n days from day d on, as far as the horizon of h days goes, and the delay since day r before it
+unfoldable pub bar_text : ℕ → ℕ → ℕ → ℕ → List ℕ → List ℕ
+bar_text h r d n gender = gap_text (min r d) ++ (delay_text (d - r) ++ bar_td (min n (h - d)) n gender)
 
 -- a person's gender and age group
 unfoldable pub person_tds : Draft → List ℕ → ℕ → List ℕ
 person_tds I gender age = codes "<td>" ++ (isolated gender ++ (codes "<td>" ++ age_name I age))
 
+-- a gender is that of the first patient
+abbrev pub is_first_gender : Draft → List ℕ → Bool
+is_first_gender I gender = option_map_or (λ (a : Patient). bytes_eq gender a.gender) (slice_get I.patients 0) true
+
+-- the beginning of a person's row: its bar has one of two shades by gender
+abbrev pub patient_tag : Bool → List ℕ
+patient_tag true = codes "<tr id=p"
+patient_tag false = codes "<tr class=g id=p"
+
+abbrev pub occupant_tag : Bool → List ℕ
+occupant_tag true = codes "<tr class=o id=p"
+occupant_tag false = codes "<tr class=q id=p"
+
+-- what stands behind the name of a mandatory patient
+abbrev pub mandatory_mark : Bool → List ℕ
+mandatory_mark true = codes " <b>*</b>"
+mandatory_mark false = []
+
+unfoldable pub patient_head : Draft → ℕ → Patient → List ℕ
+patient_head I p a =
+    numbered (patient_tag (is_first_gender I a.gender)) p (codes "><th>") a.id ++ mandatory_mark a.mandatory
+
 -- the row of patient a, whose number is p
 abbrev pub patient_row : Draft → ℕ → Placement → Patient → List ℕ
 patient_row I p at a =
-    numbered (codes "<tr id=p") p (codes "><th>") a.id ++ (person_tds I a.gender a.age_group
-    ++ (codes "<td>" ++ (theatre_name I at.theatre.0 ++ bar_text I.days at.day.0 a.length_of_stay)))
+    patient_head I p a ++ (person_tds I a.gender a.age_group ++ (codes "<td>" ++ (theatre_name I at.theatre.0
+    ++ bar_text I.days a.surgery_release_day at.day.0 a.length_of_stay a.gender)))
 
 -- the row of an occupant
 abbrev pub occupant_row : Draft → ℕ → Occupant → List ℕ
 occupant_row I x a =
-    numbered (codes "<tr class=o id=p") x (codes "><th>") a.id ++ (person_tds I a.gender a.age_group
-    ++ (codes "<td>occupant" ++ bar_text I.days 0 a.length_of_stay))
+    numbered (occupant_tag (is_first_gender I a.gender)) x (codes "><th>") a.id ++ (person_tds I a.gender a.age_group
+    ++ (codes "<td>occupant" ++ bar_text I.days 0 0 a.length_of_stay a.gender))
 
--- the row of patient p in room r, where its stay is there
-abbrev pub patient_in : Draft → ℕ → ℕ → Option Placement → List ℕ
-patient_in I r p None = []
-patient_in I r p (Some at) =
-    if at.room.0 == r then option_map_or (patient_row I p at) (slice_get I.patients p) [] else []
+-- a stay begins in room r on day d
+abbrev pub begins_in : ℕ → ℕ → Placement → Bool
+begins_in r d at = at.room.0 == r && at.day.0 == d
+
+-- the row of patient p in room r, where its stay begins there on day d
+abbrev pub patient_in : Draft → ℕ → ℕ → ℕ → Option Placement → List ℕ
+patient_in I r d p None = []
+patient_in I r d p (Some at) =
+    if begins_in r d at then option_map_or (patient_row I p at) (slice_get I.patients p) [] else []
+
+-- the patients whose stays begin in room r on day d
+abbrev pub admitted_rows : Draft → Timetable → ℕ → ℕ → List ℕ
+admitted_rows I P r d = lines_below (patient_count I) (λ p. patient_in I r d p (stay_of P p))
 
 -- the row of occupant o in room r, where it is there
 abbrev pub occupant_in : Draft → ℕ → ℕ → List ℕ
@@ -115,7 +159,8 @@ shift_row I P r j =
 -- a room's name and capacity
 unfoldable pub room_title : ℕ → Room → List ℕ
 room_title r a =
-    numbered (codes "<h3 id=r") r (codes ">") a.id ++ (labelled (codes ", capacity ") a.capacity ++ codes "</h3>\n")
+    numbered (codes "<section><h3 id=r") r (codes ">") a.id
+    ++ (labelled (codes ", capacity ") a.capacity ++ codes "</h3>\n")
 
 -- the heads of a table's columns, of which the last are the days, each with this tag
 unfoldable pub heads_and_days : Draft → List ℕ → List ℕ → List ℕ
@@ -129,16 +174,22 @@ room_head I r a =
 unfoldable pub count_row : Draft → Timetable → ℕ → List ℕ
 count_row I P r = codes "<tr><th>persons<td colspan=3>count" ++ (lines_below I.days (count_td I P r) ++ codes "\n")
 
--- who is in a room on some days: the occupants, then the patients
+-- who is in a room on some days: the occupants, then the patients by the day of admission
 unfoldable pub person_rows : Draft → Timetable → ℕ → List ℕ
 person_rows I P r =
     lines_below (occupant_count I) (occupant_in I r)
-    ++ lines_below (patient_count I) (λ p. patient_in I r p (stay_of P p))
+    ++ lines_below I.days (admitted_rows I P r)
 
 unfoldable pub room_text : Draft → Timetable → ℕ → List ℕ
 room_text I P r =
     option_map_or (room_head I r) (slice_get I.rooms r) []
-    ++ (person_rows I P r ++ (count_row I P r ++ (lines_below 3 (shift_row I P r) ++ codes "</table></div>\n")))
+    ++ (person_rows I P r
+    ++ (count_row I P r ++ (lines_below 3 (shift_row I P r) ++ codes "</table></div></section>\n")))
+
+-- what the signs of the tables mean
+unfoldable pub legend : List ℕ
+legend =
+    codes "<p>* mandatory; bar: days of stay and gender; &rarr; past the last day; thin line: delay since release</p>\n"
 
 unfoldable pub rooms_text : Draft → Timetable → List ℕ
-rooms_text I P = codes "<h2>Rooms by days</h2>\n" ++ lines_below (room_count I) (room_text I P)
+rooms_text I P = codes "<h2>Rooms by days</h2>\n" ++ (legend ++ lines_below (room_count I) (room_text I P))

@@ -1,4 +1,4 @@
--- The head of a page: whether the timetable is feasible, its cost, and the seventeen numbers.
+-- Whether the timetable is feasible, its cost, and the seventeen numbers.
 use Rattle.std.specs.Prelude.{ℕ, ◌+◌, ℤ, ◌*ℤ◌, Bool, true, false, List, ◌++◌, ◌==◌, codes, decimal, if◌then◌else◌}
 use Rattle.std.specs.Fmt.{signed_decimal}
 use Rattle.ih_tables.specs.declared.bills.Bill.{Bill}
@@ -73,7 +73,8 @@ cost_rows w b = lines_below 8 (λ i. cost_row i (at b.s i) (at w.w i))
 unfoldable pub headline : Weights → Bill → List ℕ
 headline w b = feasible_text (feasible b) ++ (codes "<p>Cost " ++ (signed_decimal (cost w b) ++ codes "</p>\n"))
 
+-- a row for each of the seventeen numbers
 unfoldable pub summary : Weights → Bill → List ℕ
 summary w b =
-    headline w b ++ (codes "<table class=s><tr><th>line<th>what it counts<th>number<th>weight<th>product\n"
-    ++ (rule_rows b ++ (cost_rows w b ++ codes "</table>\n")))
+    codes "<h2>The report</h2>\n<table class=s><tr><th>line<th>what it counts<th>number<th>weight<th>product\n"
+    ++ (rule_rows b ++ (cost_rows w b ++ codes "</table>\n"))

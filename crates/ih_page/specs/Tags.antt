@@ -52,16 +52,20 @@ opening_tags =
 -- number of the page's own.
 abbrev pub own_forms : List (List ℕ)
 own_forms =
-    codes "h9" ∷ codes "/h9" ∷ codes "h9 id=wrong" ∷ codes "h9 id=left" ∷ codes "h9 id=r9"
-    ∷ codes "p" ∷ codes "/p" ∷ codes "div" ∷ codes "/div" ∷ codes "table" ∷ codes "table class=s" ∷ codes "/table"
-    ∷ codes "tr" ∷ codes "tr id=p9" ∷ codes "tr class=o id=p9" ∷ codes "th" ∷ codes "th colspan=9"
-    ∷ codes "td" ∷ codes "td colspan=9" ∷ codes "td class=b colspan=9" ∷ codes "td id=s9-9"
-    ∷ codes "td id=d9-9" ∷ codes "td id=t9-9" ∷ codes "td id=g9-9" ∷ codes "td id=n9-9"
-    ∷ codes "td id=d9-9 class=x" ∷ codes "td id=t9-9 class=x" ∷ codes "td id=g9-9 class=x" ∷ codes "td id=n9-9 class=x"
-    ∷ codes "bdi" ∷ codes "/bdi" ∷ codes "i style=width:9%" ∷ codes "/i" ∷ codes "ul" ∷ codes "/ul" ∷ codes "li"
+    codes "h9" ∷ codes "/h9" ∷ codes "h9 id=wrong" ∷ codes "h9 id=left" ∷ codes "h9 id=index" ∷ codes "section"
+    ∷ codes "/section" ∷ codes "h9 id=r9" ∷ codes "p" ∷ codes "/p" ∷ codes "div" ∷ codes "/div" ∷ codes "table"
+    ∷ codes "table class=s" ∷ codes "table class=v" ∷ codes "table class=c" ∷ codes "/table" ∷ codes "tr"
+    ∷ codes "tr id=p9" ∷ codes "tr class=g id=p9" ∷ codes "tr class=q id=p9" ∷ codes "li id=p9" ∷ codes "b"
+    ∷ codes "/b" ∷ codes "tr class=o id=p9" ∷ codes "th" ∷ codes "th colspan=9" ∷ codes "td class=f9"
+    ∷ codes "td class=x" ∷ codes "td class=c9 style=width:9%" ∷ codes "br" ∷ codes "td" ∷ codes "td colspan=9"
+    ∷ codes "td class=b colspan=9" ∷ codes "td class=w colspan=9" ∷ codes "td id=s9-9" ∷ codes "td id=d9-9"
+    ∷ codes "td id=t9-9" ∷ codes "td id=g9-9" ∷ codes "td id=n9-9" ∷ codes "td id=d9-9 class=x"
+    ∷ codes "td id=t9-9 class=x" ∷ codes "td id=g9-9 class=x" ∷ codes "td id=n9-9 class=x" ∷ codes "bdi"
+    ∷ codes "/bdi" ∷ codes "i style=width:9%" ∷ codes "/i" ∷ codes "ul" ∷ codes "/ul" ∷ codes "li"
     ∷ codes "details open id=V9" ∷ codes "details id=S9" ∷ codes "/details" ∷ codes "summary" ∷ codes "/summary"
-    ∷ codes "a href=#V9" ∷ codes "a href=#S9" ∷ codes "a href=#p9" ∷ codes "a href=#d9-9" ∷ codes "a href=#s9-9"
-    ∷ codes "a href=#t9-9" ∷ codes "a href=#g9-9" ∷ codes "a href=#n9-9" ∷ codes "/a" ∷ codes "/main" ∷ []
+    ∷ codes "a href=#wrong" ∷ codes "a href=#left" ∷ codes "a href=#index" ∷ codes "a href=#V9" ∷ codes "a href=#S9"
+    ∷ codes "a href=#p9" ∷ codes "a href=#d9-9" ∷ codes "a href=#s9-9" ∷ codes "a href=#t9-9" ∷ codes "a href=#g9-9"
+    ∷ codes "a href=#n9-9" ∷ codes "/a" ∷ codes "/main" ∷ []
 
 abbrev pub is_own_form : List ℕ → Bool
 is_own_form f = list_any (bytes_eq f) own_forms

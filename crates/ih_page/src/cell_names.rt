@@ -40,8 +40,9 @@ fn put_person(out: &mut Vec<u8>, inst: &Instance, x: u32) -> Put
     }
 }
 
+/// Appends the name of a room.
 #[tactic(auto, unfolding(crate::specs::CellNames::room_name))]
-fn put_room(out: &mut Vec<u8>, inst: &Instance, r: RoomNo) -> Put
+pub fn put_room(out: &mut Vec<u8>, inst: &Instance, r: RoomNo) -> Put
     requires { r.0 < room_count inst.now.draft }
     ensures { OnOk result (out.new.items ≡ out.old.items ++ room_name inst.now.draft r.0) }
 {

@@ -1,8 +1,8 @@
 //! Laws of pages, on functions that do nothing.
 
 ghost use Rattle.std.specs.Prelude.{ℕ, List};
-ghost use Rattle.ih_plan.specs.Timetable.{Timetable};
-ghost use Rattle.ih_page.specs.Laws.{ListsSum, NamesHaveNoTags, TagsAreOwn};
+ghost use Rattle.ih_plan.specs.Timetable.{IsPlanOf, Timetable};
+ghost use Rattle.ih_page.specs.{Laws.ListsSum, Laws.NamesHaveNoTags, Laws.TagsAreOwn, Places.LinksLead};
 
 use ih_tables::Instance;
 
@@ -20,4 +20,10 @@ pub fn tags_are_own(_inst: &Instance)
 /// The amounts that a list has, cell by cell, sum to the number of its line in the report.
 pub fn lists_sum(_inst: &Instance)
     ensures { (P : Timetable) → ListsSum _inst.now.draft P }
+{}
+
+/// Each link of the overview and of the index leads to what it names: the cell or the row of that id stands in the
+/// page.
+pub fn links_lead(_inst: &Instance)
+    ensures { (P : Timetable) → IsPlanOf _inst.now.draft P → LinksLead _inst.now.draft P }
 {}

@@ -3,13 +3,16 @@
 
 mod bill_lines;
 mod cell_names;
+mod cost_bar;
 mod laws;
 mod left_out;
 mod loads;
 mod names;
 mod nursing;
 mod order;
+mod overview;
 mod pages;
+mod patient_index;
 mod presence;
 mod rooms;
 mod shown;
@@ -18,5 +21,5 @@ mod surgery;
 mod texts;
 mod wrong;
 
-pub use laws::{lists_sum, names_have_no_tags, tags_are_own};
+pub use laws::{links_lead, lists_sum, names_have_no_tags, tags_are_own};
 pub use pages::page;

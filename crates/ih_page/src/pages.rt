@@ -2,13 +2,16 @@
 
 ghost use Rattle.std.specs.Prelude.{◌≡◌, ◌++◌, OnOk, IfOk};
 ghost use Rattle.ih_plan.specs.Timetable.{IsPlanOf};
-ghost use Rattle.ih_page.specs.Page.{opening, tables, page_of};
+ghost use Rattle.ih_page.specs.Page.{opening, jumps, top, tables, page_of};
 
+use crate::cost_bar::put_cost_bar;
 use crate::left_out::put_left_out;
 use crate::nursing::put_nurses;
+use crate::overview::put_overview;
+use crate::patient_index::put_patient_index;
 use crate::rooms::put_rooms;
 use crate::shown::{Priced, Shown};
-use crate::summaries::put_summary;
+use crate::summaries::{put_headline, put_summary};
 use crate::surgery::put_surgery_of;
 use crate::texts::{Put, put};
 use crate::wrong::put_wrong;
@@ -26,8 +29,8 @@ fn put_opening(out: &mut Vec<u8>) -> Put
         out,
         "<!DOCTYPE html>\n\
 <html lang=en><meta charset=utf-8><meta name=viewport content='width=device-width,initial-scale=1'><title>Timetable</title><style>\n\
-:root{color-scheme:light dark;--fg:#111;--bg:#fff;--line:#bbb;--bar:#0072b2;--on:#fff;--bad:#b34700}\n\
-@media(prefers-color-scheme:dark){:root{--fg:#eee;--bg:#121212;--line:#555;--bar:#56b4e9;--on:#000;--bad:#f0a030}}\n\
+:root{color-scheme:light dark;--fg:#111;--bg:#fff;--line:#bbb;--bar:#0072b2;--bar2:#8a5a00;--on:#fff;--bad:#b34700;--f1:#0072b21f;--f2:#0072b23d;--f3:#0072b266;--f4:#0072b294}\n\
+@media(prefers-color-scheme:dark){:root{--fg:#eee;--bg:#121212;--line:#555;--bar:#56b4e9;--bar2:#e69f00;--on:#000;--bad:#f0a030;--f1:#56b4e929;--f2:#56b4e947;--f3:#56b4e966;--f4:#56b4e985}}\n\
 body{font:14px/1.4 sans-serif;color:var(--fg);background:var(--bg);margin:1rem}\n\
 a{color:inherit}\n\
 div{overflow-x:auto}\n\
@@ -35,16 +38,36 @@ table{border-collapse:collapse;font-variant-numeric:tabular-nums}\n\
 th,td{border:1px solid var(--line);padding:1px 4px;text-align:left;vertical-align:top;white-space:nowrap}\n\
 tr>th:first-child{position:sticky;left:0;background:var(--bg)}\n\
 .s td,.s th{white-space:normal}\n\
+.s td:nth-child(n+3),.v td,td[id^=d],td[id^=n]{text-align:right}\n\
+.v a{text-decoration:none}\n\
+.v [class] a{display:block}\n\
+.f1{background:var(--f1)}\n\
+.f2{background:var(--f2)}\n\
+.f3{background:var(--f3)}\n\
+.f4{background:var(--f4)}\n\
+.c{width:100%;table-layout:fixed}\n\
+.c td{white-space:normal;overflow:hidden;color:#000}\n\
+.c1{background:#56b4e9}\n\
+.c2{background:#e69f00}\n\
+.c3{background:#4cc39a}\n\
+.c4{background:#f0e442}\n\
+.c5{background:#dd9cbd}\n\
+.c6{background:#e8813a}\n\
+.c7{background:#bbb}\n\
+.c8{background:#a9b8ff}\n\
 .b{background:var(--bar);color:var(--on)}\n\
-.o .b{background:none;color:inherit;border:2px dashed var(--bar)}\n\
+.g .b{background:var(--bar2)}\n\
+.o .b,.q .b{background:none;color:inherit;border:2px dashed var(--bar)}\n\
+.q .b{border-color:var(--bar2)}\n\
+.w{background:linear-gradient(var(--bad),var(--bad)) center/100% 2px no-repeat}\n\
 .x{font-weight:bold;outline:2px solid var(--bad);outline-offset:-2px}\n\
 i{display:block;height:4px;background:var(--bar)}\n\
-ul{columns:20em;margin:.3rem 0}\n\
+ul{columns:24em;column-gap:2em;margin:.3rem 0;padding:0;list-style:none}\n\
 li{break-inside:avoid}\n\
 summary{font-weight:bold}\n\
 :target{outline:3px solid var(--bad)}\n\
-@media(max-width:600px){body{font-size:12px;margin:.5rem}}\n\
-@media print{body{font-size:7pt;margin:0}div{overflow:visible}h2,h3{break-after:avoid}tr{break-inside:avoid}.b,i{print-color-adjust:exact}}\n\
+@media(max-width:600px){body{font-size:12px;margin:.5rem}.v th:first-child{white-space:normal;min-width:7em}}\n\
+@media print{body{font-size:7pt;margin:0;print-color-adjust:exact}div{overflow:visible}h2,h3{break-after:avoid}section,tr{break-inside:avoid}}\n\
 </style>\n\
 <main>\n",
     )
@@ -58,7 +81,27 @@ fn put_tables(out: &mut Vec<u8>, shown: &Shown<'_>) -> Put
     put_rooms(out, shown)?;
     put_surgery_of(out, shown, ResourceKind::Theatres)?;
     put_surgery_of(out, shown, ResourceKind::Surgeons)?;
-    put_nurses(out, shown)
+    put_nurses(out, shown)?;
+    put_patient_index(out, shown)
+}
+
+// Links to the lists of the page.
+#[tactic(auto, unfolding(crate::specs::Page::jumps))]
+fn jumps() -> &'static str
+    ensures { result.now ≡ jumps }
+{
+    "<p><a href=#wrong>What is wrong</a>, <a href=#left>who is left out</a>, <a href=#index>patients</a></p>\n"
+}
+
+#[tactic(auto, unfolding(crate::specs::Page::top))]
+fn put_top(out: &mut Vec<u8>, priced: &Priced<'_>) -> Put
+    ensures { let shown = priced.now.shown.now in OnOk result
+        (out.new.items ≡ out.old.items ++ top shown.inst.now.draft shown.plan.now) }
+{
+    put_headline(out, priced.shown.inst, priced.bill)?;
+    put_cost_bar(out, priced.shown.inst, priced.bill)?;
+    put(out, jumps())?;
+    put_overview(out, priced.shown)
 }
 
 // Appends the whole page.
@@ -67,6 +110,7 @@ fn put_page(alloc: Global, out: &mut Vec<u8>, priced: &Priced<'_>) -> Put
         (out.new.items ≡ out.old.items ++ page_of shown.inst.now.draft shown.plan.now) }
 {
     put_opening(out)?;
+    put_top(out, priced)?;
     put_summary(out, priced.shown.inst, priced.bill)?;
     put_wrong(alloc, out, priced)?;
     put_tables(out, priced.shown)?;

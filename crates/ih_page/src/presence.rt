@@ -1,6 +1,6 @@
 //! Who is in a room on a day.
 
-ghost use Rattle.std.specs.Prelude.{◌≡◌};
+ghost use Rattle.std.specs.Prelude.{◌≡◌, ◌≤◌};
 ghost use Rattle.ih_plan.specs.{Timetable.IsPlanOf, Presence.is_present};
 ghost use Rattle.ih_page.specs.Rooms.{head_count};
 
@@ -12,7 +12,8 @@ use ih_validate::bit;
 #[tactic(auto, using(ih_plan::proofs::SumLemmas::sum_steps))]
 pub fn head_count(inst: &Instance, plan: &Plan, r: RoomNo, d: u32) -> u64
     requires { IsPlanOf inst.now.draft plan.now }
-    ensures { result ≡ head_count inst.now.draft plan.now r.0 d }
+    ensures value { result ≡ head_count inst.now.draft plan.now r.0 d }
+    ensures few { result ≤ 2560 }
 {
     let mut count = 0;
     for x in 0..inst.persons() {

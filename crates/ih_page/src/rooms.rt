@@ -3,10 +3,11 @@
 ghost use Rattle.std.specs.Prelude.{◌≡◌, ◌<◌, ◌+◌, ◌*◌, ◌++◌, OnOk};
 ghost use Rattle.ih_tables.specs.Sizes.{patient_count, occupant_count, room_count, shift_count};
 ghost use Rattle.ih_plan.specs.Timetable.{IsPlacement, stay_of};
-ghost use Rattle.ih_page.specs.Rooms.{wide_td, gap_text, bar_td, bar_text, person_tds, patient_row, occupant_row};
-ghost use Rattle.ih_page.specs.Rooms.{patient_in, occupant_in, count_td, nurse_td, shift_row};
-ghost use Rattle.ih_page.specs.Rooms.{heads_and_days, room_title, room_head, count_row, person_rows, room_text};
-ghost use Rattle.ih_page.specs.Rooms.{rooms_text};
+ghost use Rattle.ih_page.specs.Rooms.{wide_td, gap_text, delay_td, delay_text, bar_end, bar_td, bar_text, person_tds};
+ghost use Rattle.ih_page.specs.Rooms.{is_first_gender, patient_tag, occupant_tag, mandatory_mark, patient_head};
+ghost use Rattle.ih_page.specs.Rooms.{patient_row, occupant_row, begins_in, patient_in, admitted_rows, occupant_in};
+ghost use Rattle.ih_page.specs.Rooms.{count_td, nurse_td, shift_row, heads_and_days, room_title, room_head, count_row};
+ghost use Rattle.ih_page.specs.Rooms.{person_rows, room_text, legend, rooms_text};
 
 use crate::names::{put_age, put_marked, put_nurse, put_shift_type, put_td_at, put_theatre};
 use crate::presence::head_count;
@@ -29,21 +30,46 @@ fn put_gap(out: &mut Vec<u8>, d: u32) -> Put
     if d == 0 { Ok(()) } else { put_wide(out, d) }
 }
 
+#[tactic(auto, unfolding(crate::specs::Rooms::delay_td))]
+fn put_delay_td(out: &mut Vec<u8>, n: u32) -> Put
+    ensures { OnOk result (out.new.items ≡ out.old.items ++ delay_td n) }
+{
+    put_labelled(out, "<td class=w colspan=", n)?;
+    put(out, ">")
+}
+
+fn put_delay(out: &mut Vec<u8>, n: u32) -> Put
+    ensures { OnOk result (out.new.items ≡ out.old.items ++ delay_text n) }
+{
+    if n == 0 { Ok(()) } else { put_delay_td(out, n) }
+}
+
+// How a bar of so many days ends, which has m columns.
+fn bar_end(m: u32, n: u32) -> &'static str
+    ensures { result.now ≡ bar_end m n }
+{
+    if m < n { " &rarr;\n" } else { "\n" }
+}
+
 #[tactic(auto, unfolding(crate::specs::Rooms::bar_td))]
-fn put_bar_td(out: &mut Vec<u8>, m: u32, n: u32) -> Put
-    ensures { OnOk result (out.new.items ≡ out.old.items ++ bar_td m n) }
+fn put_bar_td(out: &mut Vec<u8>, m: u32, n: u32, gender: &str) -> Put
+    ensures { OnOk result (out.new.items ≡ out.old.items ++ bar_td m n gender.now) }
 {
     put_labelled(out, "<td class=b colspan=", m)?;
     put_labelled(out, ">", n)?;
-    put(out, "\n")
+    put(out, " ")?;
+    put_isolated(out, gender)?;
+    put(out, bar_end(m, n))
 }
 
+// The bar of a stay of n days from day d on, where the release day is day r.
 #[tactic(auto, unfolding(crate::specs::Rooms::bar_text))]
-fn put_bar(out: &mut Vec<u8>, days: u32, d: u32, n: u32) -> Put
-    ensures { OnOk result (out.new.items ≡ out.old.items ++ bar_text days d n) }
+fn put_bar(out: &mut Vec<u8>, days: u32, r: u32, d: u32, n: u32, gender: &str) -> Put
+    ensures { OnOk result (out.new.items ≡ out.old.items ++ bar_text days r d n gender.now) }
 {
-    put_gap(out, d)?;
-    put_bar_td(out, n.min(days.saturating_sub(d)), n)
+    put_gap(out, r.min(d))?;
+    put_delay(out, d.saturating_sub(r))?;
+    put_bar_td(out, n.min(days.saturating_sub(d)), n, gender)
 }
 
 #[tactic(auto, unfolding(crate::specs::Rooms::person_tds))]
@@ -56,35 +82,93 @@ fn put_person(out: &mut Vec<u8>, inst: &Instance, gender: &str, age: u32) -> Put
     put_age(out, inst, age)
 }
 
+// Whether the gender is that of the first patient.
+fn is_first_gender(inst: &Instance, gender: &str) -> bool
+    ensures { result ≡ is_first_gender inst.now.draft gender.now }
+{
+    match inst.draft.patients.as_slice().get(0) {
+        None => true,
+        Some(first) => gender == first.gender.as_str(),
+    }
+}
+
+// The beginning of a patient's row, whose bar has one of two shades by gender.
+fn patient_tag(inst: &Instance, a: &Patient) -> &'static str
+    ensures { result.now ≡ patient_tag (is_first_gender inst.now.draft a.now.gender) }
+{
+    if is_first_gender(inst, a.gender.as_str()) {
+        "<tr id=p"
+    } else {
+        "<tr class=g id=p"
+    }
+}
+
+fn occupant_tag(inst: &Instance, a: &Occupant) -> &'static str
+    ensures { result.now ≡ occupant_tag (is_first_gender inst.now.draft a.now.gender) }
+{
+    if is_first_gender(inst, a.gender.as_str()) {
+        "<tr class=o id=p"
+    } else {
+        "<tr class=q id=p"
+    }
+}
+
+fn mandatory_mark(mandatory: bool) -> &'static str
+    ensures { result.now ≡ mandatory_mark mandatory }
+{
+    if mandatory { " <b>*</b>" } else { "" }
+}
+
+#[tactic(auto, unfolding(crate::specs::Rooms::patient_head))]
+fn put_patient_head(out: &mut Vec<u8>, inst: &Instance, p: u32, a: &Patient) -> Put
+    ensures { OnOk result (out.new.items ≡ out.old.items ++ patient_head inst.now.draft p a.now) }
+{
+    put_numbered(out, patient_tag(inst, a), p, "><th>", a.id.as_str())?;
+    put(out, mandatory_mark(a.mandatory))
+}
+
 fn put_patient(out: &mut Vec<u8>, inst: &Instance, p: u32, at: Placement, a: &Patient) -> Put
     requires { IsPlacement inst.now.draft at }
     ensures { OnOk result (out.new.items ≡ out.old.items ++ patient_row inst.now.draft p at a.now) }
 {
-    put_numbered(out, "<tr id=p", p, "><th>", a.id.as_str())?;
+    put_patient_head(out, inst, p, a)?;
     put_person(out, inst, a.gender.as_str(), a.age_group)?;
     put(out, "<td>")?;
     put_theatre(out, inst, at.theatre)?;
-    put_bar(out, inst.days(), at.day.0, a.length_of_stay)
+    put_bar(
+        out,
+        inst.days(),
+        a.surgery_release_day,
+        at.day.0,
+        a.length_of_stay,
+        a.gender.as_str(),
+    )
 }
 
 fn put_occupant(out: &mut Vec<u8>, inst: &Instance, x: u32, a: &Occupant) -> Put
     ensures { OnOk result (out.new.items ≡ out.old.items ++ occupant_row inst.now.draft x a.now) }
 {
-    put_numbered(out, "<tr class=o id=p", x, "><th>", a.id.as_str())?;
+    put_numbered(out, occupant_tag(inst, a), x, "><th>", a.id.as_str())?;
     put_person(out, inst, a.gender.as_str(), a.age_group)?;
     put(out, "<td>occupant")?;
-    put_bar(out, inst.days(), 0, a.length_of_stay)
+    put_bar(out, inst.days(), 0, 0, a.length_of_stay, a.gender.as_str())
 }
 
-fn put_patient_in(out: &mut Vec<u8>, shown: &Shown<'_>, r: u32, p: u32) -> Put
+fn begins_in(r: u32, d: u32, at: Placement) -> bool
+    ensures { result ≡ begins_in r d at }
+{
+    at.room.0 == r && at.day.0 == d
+}
+
+fn put_patient_in(out: &mut Vec<u8>, shown: &Shown<'_>, r: u32, d: u32, p: u32) -> Put
     requires patient { p < patient_count shown.now.inst.now.draft }
     ensures { OnOk result
-        (out.new.items ≡ out.old.items ++ patient_in shown.now.inst.now.draft r p (stay_of shown.now.plan.now p)) }
+        (out.new.items ≡ out.old.items ++ patient_in shown.now.inst.now.draft r d p (stay_of shown.now.plan.now p)) }
 {
     match shown.plan.stay(PatientNo(p)) {
         None => Ok(()),
         Some(at) => {
-            if at.room.0 == r {
+            if begins_in(r, d, at) {
                 put_patient(out, shown.inst, p, at, shown.inst.patient(PatientNo(p)))
             } else {
                 Ok(())
@@ -159,7 +243,7 @@ pub fn put_heads_and_days(out: &mut Vec<u8>, inst: &Instance, heads: &str, tag: 
 fn put_title(out: &mut Vec<u8>, r: u32, a: &Room) -> Put
     ensures { OnOk result (out.new.items ≡ out.old.items ++ room_title r a.now) }
 {
-    put_numbered(out, "<h3 id=r", r, ">", a.id.as_str())?;
+    put_numbered(out, "<section><h3 id=r", r, ">", a.id.as_str())?;
     put_labelled(out, ", capacity ", a.capacity)?;
     put(out, "</h3>\n")
 }
@@ -189,6 +273,17 @@ fn put_count_row(out: &mut Vec<u8>, shown: &Shown<'_>, r: u32) -> Put
     put(out, "\n")
 }
 
+// The patients whose stays begin in the room on the day.
+fn put_admitted(out: &mut Vec<u8>, shown: &Shown<'_>, r: u32, d: u32) -> Put
+    ensures { OnOk result
+        (out.new.items ≡ out.old.items ++ admitted_rows shown.now.inst.now.draft shown.now.plan.now r d) }
+{
+    for p in 0..shown.inst.patients() {
+        put_patient_in(out, shown, r, d, p)?;
+    }
+    Ok(())
+}
+
 #[tactic(auto, unfolding(crate::specs::Rooms::person_rows))]
 fn put_persons(out: &mut Vec<u8>, shown: &Shown<'_>, r: u32) -> Put
     ensures { OnOk result (out.new.items ≡ out.old.items ++ person_rows shown.now.inst.now.draft shown.now.plan.now r) }
@@ -196,8 +291,8 @@ fn put_persons(out: &mut Vec<u8>, shown: &Shown<'_>, r: u32) -> Put
     for o in 0..shown.inst.occupants() {
         put_occupant_in(out, shown.inst, r, o)?;
     }
-    for p in 0..shown.inst.patients() {
-        put_patient_in(out, shown, r, p)?;
+    for d in 0..shown.inst.days() {
+        put_admitted(out, shown, r, d)?;
     }
     Ok(())
 }
@@ -213,7 +308,15 @@ fn put_room(out: &mut Vec<u8>, shown: &Shown<'_>, r: u32) -> Put
     for j in 0..3 {
         put_shift(out, shown, r, j)?;
     }
-    put(out, "</table></div>\n")
+    put(out, "</table></div></section>\n")
+}
+
+// What the signs of the tables mean.
+#[tactic(auto, unfolding(crate::specs::Rooms::legend))]
+fn legend() -> &'static str
+    ensures { result.now ≡ legend }
+{
+    "<p>* mandatory; bar: days of stay and gender; &rarr; past the last day; thin line: delay since release</p>\n"
 }
 
 /// Appends the tables of the rooms.
@@ -222,6 +325,7 @@ pub fn put_rooms(out: &mut Vec<u8>, shown: &Shown<'_>) -> Put
     ensures { OnOk result (out.new.items ≡ out.old.items ++ rooms_text shown.now.inst.now.draft shown.now.plan.now) }
 {
     put(out, "<h2>Rooms by days</h2>\n")?;
+    put(out, legend())?;
     for r in 0..shown.inst.rooms() {
         put_room(out, shown, r)?;
     }

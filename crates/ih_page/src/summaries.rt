@@ -54,8 +54,9 @@ pub fn put_line(out: &mut Vec<u8>, letter: &str, i: usize) -> Put
     put_number(out, i as u64 + 1)
 }
 
+/// The same, as a link to the line's list.
 #[tactic(auto, unfolding(crate::specs::Summary::line_link))]
-fn put_line_link(out: &mut Vec<u8>, letter: &str, i: usize) -> Put
+pub fn put_line_link(out: &mut Vec<u8>, letter: &str, i: usize) -> Put
     requires { i < 9 }
     ensures { OnOk result (out.new.items ≡ out.old.items ++ line_link letter.now i) }
 {
@@ -177,8 +178,9 @@ fn feasible_text(feasible: bool) -> &'static str
     }
 }
 
+/// Appends whether the timetable is feasible, and its cost.
 #[tactic(auto, unfolding(crate::specs::Summary::headline))]
-fn put_verdict(out: &mut Vec<u8>, inst: &Instance, bill: &Bill) -> Put
+pub fn put_headline(out: &mut Vec<u8>, inst: &Instance, bill: &Bill) -> Put
     requires { IsWithin (10 ^ 11) bill.now }
     ensures { OnOk result (out.new.items ≡ out.old.items ++ headline inst.now.draft.weights bill.now) }
 {
@@ -188,16 +190,15 @@ fn put_verdict(out: &mut Vec<u8>, inst: &Instance, bill: &Bill) -> Put
     put(out, "</p>\n")
 }
 
-/// Appends whether the timetable is feasible, its cost, and a row for each of the seventeen numbers.
+/// Appends a row for each of the seventeen numbers.
 #[tactic(auto, unfolding(crate::specs::Summary::summary))]
 pub fn put_summary(out: &mut Vec<u8>, inst: &Instance, bill: &Bill) -> Put
     requires { IsWithin (10 ^ 11) bill.now }
     ensures { OnOk result (out.new.items ≡ out.old.items ++ summary inst.now.draft.weights bill.now) }
 {
-    put_verdict(out, inst, bill)?;
     put(
         out,
-        "<table class=s><tr><th>line<th>what it counts<th>number<th>weight<th>product\n",
+        "<h2>The report</h2>\n<table class=s><tr><th>line<th>what it counts<th>number<th>weight<th>product\n",
     )?;
     put_rules(out, bill)?;
     put_costs(out, inst, bill)?;

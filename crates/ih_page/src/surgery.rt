@@ -4,8 +4,8 @@ ghost use Rattle.std.specs.Prelude.{◌≡◌, ◌<◌, ◌≤◌, ◌*◌, ◌+
 ghost use Rattle.ih_tables.specs.Sizes.{patient_count};
 ghost use Rattle.ih_validate.specs.{Report.lines_below, Surgery.IsResourceOf};
 ghost use Rattle.ih_page.specs.Surgery.{minutes_of, planned, surgery_count, letter_of, number_of, resource_name};
-ghost use Rattle.ih_page.specs.Surgery.{heads_of, surgery_text, percent_of, percent_text, name_link, minutes_text, patient_link, operation};
-ghost use Rattle.ih_page.specs.Surgery.{surgery_of, surgery_td, surgery_row};
+ghost use Rattle.ih_page.specs.Surgery.{heads_of, surgery_text, percent_of, percent_text, name_link, minutes_text};
+ghost use Rattle.ih_page.specs.Surgery.{patient_link, operation, surgery_of, surgery_td, surgery_row};
 
 use crate::names::{put_marked, put_surgeon, put_td_at, put_theatre};
 use crate::rooms::put_heads_and_days;
@@ -27,9 +27,9 @@ fn minutes_of(shown: &Shown<'_>, w: Resource, d: u32, p: u32) -> u64
     }
 }
 
-// The minutes of surgery of a day.
+/// The minutes of surgery of a day.
 #[tactic(auto, using(ih_plan::proofs::SumLemmas::sum_steps))]
-fn planned(shown: &Shown<'_>, w: Resource, d: u32) -> u64
+pub fn planned(shown: &Shown<'_>, w: Resource, d: u32) -> u64
     ensures sum { result ≡ planned shown.now.inst.now.draft shown.now.plan.now w d }
     ensures bound { result ≤ 4294967296 * 2048 }
 {
@@ -52,7 +52,8 @@ fn surgery_count(shown: &Shown<'_>, w: Resource, d: u32) -> u64
     count
 }
 
-fn letter_of(w: Resource) -> &'static str
+/// The letter of its anchors.
+pub fn letter_of(w: Resource) -> &'static str
     ensures { result.now ≡ letter_of w }
 {
     match w {
@@ -61,7 +62,8 @@ fn letter_of(w: Resource) -> &'static str
     }
 }
 
-fn number_of(w: Resource) -> u32
+/// Its number.
+pub fn number_of(w: Resource) -> u32
     ensures { result ≡ number_of w }
 {
     match w {
@@ -70,7 +72,8 @@ fn number_of(w: Resource) -> u32
     }
 }
 
-fn put_resource(out: &mut Vec<u8>, inst: &Instance, w: Resource) -> Put
+/// Appends its name.
+pub fn put_resource(out: &mut Vec<u8>, inst: &Instance, w: Resource) -> Put
     requires { IsResourceOf inst.now.draft w }
     ensures { OnOk result (out.new.items ≡ out.old.items ++ resource_name inst.now.draft w) }
 {
@@ -80,9 +83,11 @@ fn put_resource(out: &mut Vec<u8>, inst: &Instance, w: Resource) -> Put
     }
 }
 
-fn percent_of(limit: u64, n: u64) -> u64
+/// How much of its limit a number is, in percent up to 100.
+pub fn percent_of(limit: u64, n: u64) -> u64
     requires { n ≤ 4294967296 * 2048 }
-    ensures { result ≡ percent_of limit n }
+    ensures value { result ≡ percent_of limit n }
+    ensures most { result ≤ 100 }
 {
     if limit == 0 {
         100
@@ -119,7 +124,8 @@ fn put_name(out: &mut Vec<u8>, p: u32, a: &Patient) -> Put
     put(out, "</a>")
 }
 
-fn put_link(out: &mut Vec<u8>, inst: &Instance, p: u32) -> Put
+/// Appends the name of a patient, which leads to where it stands.
+pub fn put_link(out: &mut Vec<u8>, inst: &Instance, p: u32) -> Put
     requires { p < patient_count inst.now.draft }
     ensures { OnOk result (out.new.items ≡ out.old.items ++ patient_link inst.now.draft p) }
 {

@@ -8,7 +8,7 @@ pub loop-p-init : goal.loop-p-init
 loop-p-init c = no-lines _ _
 
 pub loop-p-preserved : goal.loop-p-preserved
-loop-p-preserved c = some-more _ _ _ _ _ c.loop-p.invariant c.in_ok-put_row_of.ensures
+loop-p-preserved c = some-more _ _ _ _ _ c.loop-p.invariant c.in_ok-put_item_of.ensures
 
 pub returns : goal.returns
 unfolding left_out

@@ -9,13 +9,13 @@ loop-o-init c = no-lines _ _
 pub loop-o-preserved : goal.loop-o-preserved
 loop-o-preserved c = some-more _ _ _ _ _ c.loop-o.invariant c.in_ok-put_occupant_in.ensures
 
-pub loop-p-init : goal.loop-p-init
-loop-p-init c = no-lines _ _
+pub loop-d-init : goal.loop-d-init
+loop-d-init c = no-lines _ _
 
-pub loop-p-preserved : goal.loop-p-preserved
-loop-p-preserved c = some-more _ _ _ _ _ c.loop-p.invariant c.in_ok-put_patient_in.ensures
+pub loop-d-preserved : goal.loop-d-preserved
+loop-d-preserved c = some-more _ _ _ _ _ c.loop-d.invariant c.in_ok-put_admitted.ensures
 
 pub returns : goal.returns
 unfolding person_rows
 returns c = joins2 _ _ _ _ _ (all-lines _ _ _ _ _ _ c.loop-o.invariant c.loop-o.auto.o-end c.loop-o-test.false c.occupants-o-end.ensures)
-    (all-lines _ _ _ _ _ _ c.loop-p.invariant c.loop-p.auto.p-end c.loop-p-test.false c.patients-p-end.ensures)
+    (all-lines _ _ _ _ _ _ c.loop-d.invariant c.loop-d.auto.d-end c.loop-d-test.false c.days-d-end.ensures)

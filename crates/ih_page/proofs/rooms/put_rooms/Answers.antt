@@ -1,5 +1,6 @@
+use Rattle.std.proofs.Common.{◌∙◌, ap, ℕ, List, ◌++◌}
 use Rattle.ih_page.specs.Rooms.{rooms_text}
-use Rattle.ih_page.proofs.Joins.{joins2}
+use Rattle.ih_page.proofs.Joins.{joins3}
 use Rattle.ih_page.proofs.Lines.{no-lines, some-more, all-lines}
 use Rattle.ih_page.proofs.rooms.put_rooms.Goals as goal
 
@@ -11,4 +12,6 @@ loop-r-preserved c = some-more _ _ _ _ _ c.loop-r.invariant c.in_ok-put_room.ens
 
 pub returns : goal.returns
 unfolding rooms_text
-returns c = joins2 _ _ _ _ _ c.in_ok-put.ensures (all-lines _ _ _ _ _ _ c.loop-r.invariant c.loop-r.auto.r-end c.loop-r-test.false c.rooms-r-end.ensures)
+returns c =
+    let told = λ (t : List ℕ). c.put.new.out.items ++ t in
+    joins3 _ _ _ _ _ _ _ c.in_ok-put.ensures (c.in_ok-put-2.ensures ∙ ap told c.legend.ensures) (all-lines _ _ _ _ _ _ c.loop-r.invariant c.loop-r.auto.r-end c.loop-r-test.false c.rooms-r-end.ensures)

@@ -1,0 +1,175 @@
+-- The cells and rows to which the overview and the index lead stand in the page.
+use Rattle.std.proofs.Common.{◌≡◌, ℕ, ◌<◌, refl, subst, sym, List, [], ◌++◌, codes, Option, Some, None}
+use Rattle.std.specs.Prelude.{◌==◌, is_none, slice_get, if◌then◌else◌}
+use Rattle.std.specs.Option.{option_map_or}
+use Rattle.std.proofs.lemmas.Bool.{eq-eqb}
+use Rattle.ih_tables.specs.declared.drafts.Draft.{Draft}
+use Rattle.ih_tables.specs.declared.drafts.Patient.{Patient}
+use Rattle.ih_tables.specs.Sizes.{patient_count, occupant_count, room_count, theatre_count, nurse_count, shift_count}
+use Rattle.ih_plan.specs.declared.moves.Placement.{Placement}
+use Rattle.ih_plan.specs.BillOf.{bill_of}
+use Rattle.ih_plan.specs.Timetable.{Timetable, IsPlanOf, IsPlacement, stay_of}
+use Rattle.ih_validate.specs.Report.{lines_below}
+use Rattle.ih_validate.specs.Surgery.{count_of, one_of}
+use Rattle.ih_validate.specs.declared.surgery.ResourceKind.TheVariants.{Theatres, Surgeons}
+use Rattle.ih_page.specs.LeftOut.{left_out_item, left_out_of, left_out}
+use Rattle.ih_page.specs.Nursing.{load_td, nurse_head, nurse_row, nurses_text}
+use Rattle.ih_page.specs.Page.{opening, top, tables, page_of}
+use Rattle.ih_page.specs.Places.{IsPartOf, LinksLead, person_text}
+use Rattle.ih_page.specs.Rooms.{patient_row, patient_in, admitted_rows, occupant_in, count_td, heads_and_days, room_head, count_row, person_rows, room_text, legend, rooms_text}
+use Rattle.ih_page.specs.Summary.{summary}
+use Rattle.ih_page.specs.Surgery.{resource_name, surgery_td, surgery_row, heads_of, surgery_text}
+use Rattle.ih_page.specs.Wrong.{wrong_text}
+use Rattle.ih_page.proofs.Parts.{whole, in-first, in-rest, in-lines, in-some}
+
+module _ (I : Draft) (P : Timetable) where
+  in-tables : (part : List ℕ) → IsPartOf part (tables I P) → IsPartOf part (page_of I P)
+  unfolding page_of
+  in-tables part h =
+      in-rest part opening _ (in-rest part (top I P) _ (in-rest part (summary I.weights (bill_of I P)) _
+      (in-rest part (wrong_text I P) _ (in-first part (tables I P) (codes "</main>\n") h))))
+
+  -- ---- rooms
+
+  in-room : (part : List ℕ) (r : ℕ) → r < room_count I → IsPartOf part (room_text I P r) → IsPartOf part (rooms_text I P)
+  unfolding rooms_text
+  in-room part r h k =
+      in-rest part (codes "<h2>Rooms by days</h2>\n") _
+      (in-rest part legend _ (in-lines part (room_text I P) r (room_count I) h k))
+
+  in-rooms : (part : List ℕ) → IsPartOf part (rooms_text I P) → IsPartOf part (tables I P)
+  unfolding tables
+  in-rooms part h = in-rest part (left_out I P) _ (in-first part (rooms_text I P) _ h)
+
+  count : (r d : ℕ) → d < I.days → IsPartOf (count_td I P r d) (count_row I P r)
+  unfolding count_row
+  count r d h =
+      let part = count_td I P r d in
+      in-rest part (codes "<tr><th>persons<td colspan=3>count") _
+      (in-first part (lines_below I.days (count_td I P r)) (codes "\n")
+      (in-lines part (count_td I P r) d I.days h (whole part)))
+
+  counts-in-room : (part : List ℕ) (r : ℕ) → IsPartOf part (count_row I P r) → IsPartOf part (room_text I P r)
+  unfolding room_text
+  counts-in-room part r h =
+      in-rest part (option_map_or (room_head I r) (slice_get I.rooms r) []) _
+      (in-rest part (person_rows I P r) _ (in-first part (count_row I P r) _ h))
+
+  room-cell : (r d : ℕ) → r < room_count I → d < I.days → IsPartOf (count_td I P r d) (page_of I P)
+  room-cell r d h k =
+      let part = count_td I P r d in
+      in-tables part (in-rooms part (in-room part r h (counts-in-room part r (count r d k))))
+
+  -- ---- patients
+
+  begun : (r d p : ℕ) (at : Placement) (a : Patient) → at.room.0 ≡ r → at.day.0 ≡ d → slice_get I.patients p ≡ Some a
+      → IsPartOf (patient_row I p at a) (patient_in I r d p (Some at))
+  begun r d p at a room day known =
+      rw (eq-eqb at.room.0 r room, eq-eqb at.day.0 d day)
+      (in-some (patient_row I p at a) (patient_row I p at) (slice_get I.patients p) a known (whole (patient_row I p at a)))
+
+  persons-in-room : (part : List ℕ) (r : ℕ) → IsPartOf part (person_rows I P r) → IsPartOf part (room_text I P r)
+  unfolding room_text
+  persons-in-room part r h =
+      in-rest part (option_map_or (room_head I r) (slice_get I.rooms r) []) _ (in-first part (person_rows I P r) _ h)
+
+  admitted : (p : ℕ) (at : Placement) (a : Patient) → p < patient_count I → at.day.0 < I.days → stay_of P p ≡ Some at → slice_get I.patients p ≡ Some a
+      → IsPartOf (patient_row I p at a) (person_rows I P at.room.0)
+  unfolding person_rows
+  admitted p at a h day stay known =
+      let part = patient_row I p at a in
+      let r = at.room.0 in
+      let d = at.day.0 in
+      let here : IsPartOf part (patient_in I r d p (stay_of P p))
+      = subst (λ (o : Option Placement). IsPartOf part (patient_in I r d p o)) (sym stay) (begun r d p at a refl refl known) in
+      in-rest part (lines_below (occupant_count I) (occupant_in I r)) _
+      (in-lines part (admitted_rows I P r) d I.days day
+      (in-lines part (λ q. patient_in I r d q (stay_of P q)) p (patient_count I) h here))
+
+  out : (p : ℕ) (a : Patient) (o : Option Placement) → None ≡ o → slice_get I.patients p ≡ Some a
+      → IsPartOf (left_out_item p a) (if is_none o then option_map_or (left_out_item p) (slice_get I.patients p) [] else [])
+  out p a o none known =
+      let item = λ (z : Option Placement). if is_none z then option_map_or (left_out_item p) (slice_get I.patients p) [] else [] in
+      subst (λ (z : Option Placement). IsPartOf (left_out_item p a) (item z)) none
+      (in-some (left_out_item p a) (left_out_item p) (slice_get I.patients p) a known (whole (left_out_item p a)))
+
+  among-left-out : (p : ℕ) (a : Patient) → p < patient_count I → stay_of P p ≡ None → slice_get I.patients p ≡ Some a
+      → IsPartOf (left_out_item p a) (left_out I P)
+  unfolding left_out
+  among-left-out p a h none known =
+      let part = left_out_item p a in
+      in-rest part (codes "<h2 id=left>Patients who are left out</h2>\n<ul>\n") _
+      (in-first part (lines_below (patient_count I) (left_out_of I P)) (codes "</ul>\n")
+      (in-lines part (left_out_of I P) p (patient_count I) h (out p a (stay_of P p) (sym none) known)))
+
+  in-left-out : (part : List ℕ) → IsPartOf part (left_out I P) → IsPartOf part (tables I P)
+  unfolding tables
+  in-left-out part h = in-first part (left_out I P) _ h
+
+  person : (p : ℕ) (a : Patient) (o : Option Placement) → IsPlanOf I P → p < patient_count I → stay_of P p ≡ o → slice_get I.patients p ≡ Some a
+      → IsPartOf (person_text I p a o) (page_of I P)
+  person p a None plan h stay known = in-tables (left_out_item p a) (in-left-out (left_out_item p a) (among-left-out p a h stay known))
+  person p a (Some at) plan h stay known =
+      let part = patient_row I p at a in
+      let placed : IsPlacement I at = plan.placed p at stay in
+      in-tables part (in-rooms part (in-room part at.room.0 placed.room
+      (persons-in-room part at.room.0 (admitted p at a h placed.day stay known))))
+
+  -- ---- theatres and nurses
+
+  surgery : (t d : ℕ) → d < I.days → IsPartOf (surgery_td I P (one_of Theatres t) d) (surgery_row I P (one_of Theatres t))
+  unfolding surgery_row
+  surgery t d h =
+      let w = one_of Theatres t in
+      let part = surgery_td I P w d in
+      in-rest part (codes "<tr><th>") _ (in-rest part (resource_name I w) _
+      (in-first part (lines_below I.days (surgery_td I P w)) (codes "\n") (in-lines part (surgery_td I P w) d I.days h (whole part))))
+
+  theatre : (part : List ℕ) (t : ℕ) → t < theatre_count I → IsPartOf part (surgery_row I P (one_of Theatres t)) → IsPartOf part (surgery_text I P Theatres)
+  unfolding surgery_text
+  theatre part t h k =
+      let row = λ (i : ℕ). surgery_row I P (one_of Theatres i) in
+      in-rest part (heads_and_days I (heads_of Theatres) (codes "<th>")) _
+      (in-first part (lines_below (count_of I Theatres) row) (codes "</table></div>\n") (in-lines part row t (count_of I Theatres) h k))
+
+  in-theatres : (part : List ℕ) → IsPartOf part (surgery_text I P Theatres) → IsPartOf part (tables I P)
+  unfolding tables
+  in-theatres part h =
+      in-rest part (left_out I P) _ (in-rest part (rooms_text I P) _ (in-first part (surgery_text I P Theatres) _ h))
+
+  theatre-cell : (t d : ℕ) → t < theatre_count I → d < I.days → IsPartOf (surgery_td I P (one_of Theatres t) d) (page_of I P)
+  theatre-cell t d h k =
+      let part = surgery_td I P (one_of Theatres t) d in
+      in-tables part (in-theatres part (theatre part t h (surgery t d k)))
+
+  load : (n k : ℕ) → k < shift_count I → IsPartOf (load_td I P n k) (nurse_row I P n)
+  unfolding nurse_row
+  load n k h =
+      let part = load_td I P n k in
+      in-rest part (option_map_or nurse_head (slice_get I.nurses n) []) _
+      (in-first part (lines_below (shift_count I) (load_td I P n)) (codes "\n") (in-lines part (load_td I P n) k (shift_count I) h (whole part)))
+
+  nurse : (part : List ℕ) (n : ℕ) → n < nurse_count I → IsPartOf part (nurse_row I P n) → IsPartOf part (nurses_text I P)
+  unfolding nurses_text
+  nurse part n h k =
+      in-rest part _ _ (in-first part (lines_below (nurse_count I) (nurse_row I P)) (codes "</table></div>\n")
+      (in-lines part (nurse_row I P) n (nurse_count I) h k))
+
+  in-nurses : (part : List ℕ) → IsPartOf part (nurses_text I P) → IsPartOf part (tables I P)
+  unfolding tables
+  in-nurses part h =
+      in-rest part (left_out I P) _ (in-rest part (rooms_text I P) _ (in-rest part (surgery_text I P Theatres) _
+      (in-rest part (surgery_text I P Surgeons) _ (in-first part (nurses_text I P) _ h))))
+
+  nurse-cell : (n k : ℕ) → n < nurse_count I → k < shift_count I → IsPartOf (load_td I P n k) (page_of I P)
+  nurse-cell n k h l =
+      let part = load_td I P n k in
+      in-tables part (in-nurses part (nurse part n h (load n k l)))
+
+  pub links-lead : IsPlanOf I P → LinksLead I P
+  links-lead plan = record {
+    rooms = room-cell;
+    theatres = theatre-cell;
+    nurses = nurse-cell;
+    patients = λ p a h known. person p a (stay_of P p) plan h refl known;
+  }

@@ -1,0 +1,12 @@
+use Rattle.std.proofs.Common.{refl, ◌∙◌, rules}
+use Rattle.ih_page.proofs.Lines.{no-lines, some-more, all-lines}
+use Rattle.ih_page.proofs.cost_bar.put_parts.Goals as goal
+
+pub loop-i-init : goal.loop-i-init
+loop-i-init c = no-lines _ _
+
+pub loop-i-preserved : goal.loop-i-preserved
+loop-i-preserved c = some-more _ _ _ _ _ c.loop-i.invariant (c.in_ok-put_cost_part.ensures ∙ search rules)
+
+pub returns : goal.returns
+returns c = all-lines _ _ _ _ _ _ c.loop-i.invariant c.loop-i.auto.i-end c.loop-i-test.false refl

@@ -1,0 +1,35 @@
+-- Where the links of the overview and of the index lead.
+use Rattle.std.specs.Prelude.{ℕ, ◌≡◌, ◌<◌, List, ◌++◌, Option, Some, None, slice_get}
+use Rattle.ih_tables.specs.declared.drafts.Draft.{Draft}
+use Rattle.ih_tables.specs.declared.drafts.Patient.{Patient}
+use Rattle.ih_tables.specs.Sizes.{nurse_count, patient_count, room_count, shift_count, theatre_count}
+use Rattle.ih_plan.specs.declared.moves.Placement.{Placement}
+use Rattle.ih_plan.specs.Timetable.{Timetable, stay_of}
+use Rattle.ih_validate.specs.Surgery.{one_of}
+use Rattle.ih_validate.specs.declared.surgery.ResourceKind.TheVariants.{Theatres}
+use Rattle.ih_page.specs.LeftOut.{left_out_item}
+use Rattle.ih_page.specs.Nursing.{load_td}
+use Rattle.ih_page.specs.Page.{page_of}
+use Rattle.ih_page.specs.Rooms.{count_td, patient_row}
+use Rattle.ih_page.specs.Surgery.{surgery_td}
+
+-- a text is a part of another
+pub record IsPartOf (part text : List ℕ) : Type 0 where
+  pub before : List ℕ
+  pub after : List ℕ
+  pub is : text ≡ before ++ (part ++ after)
+
+-- what stands in the page of a patient: its row in the room, or its item among those who are left out
+abbrev pub person_text : Draft → ℕ → Patient → Option Placement → List ℕ
+person_text I p a None = left_out_item p a
+person_text I p a (Some at) = patient_row I p at a
+
+-- Each cell to which the overview leads stands in the page, and each patient to whom the index does: each begins with
+-- the tag that has its anchor as its id.
+pub record LinksLead (I : Draft) (P : Timetable) : Type 0 where
+  pub rooms : (r d : ℕ) → r < room_count I → d < I.days → IsPartOf (count_td I P r d) (page_of I P)
+  pub theatres : (t d : ℕ) → t < theatre_count I → d < I.days
+      → IsPartOf (surgery_td I P (one_of Theatres t) d) (page_of I P)
+  pub nurses : (n k : ℕ) → n < nurse_count I → k < shift_count I → IsPartOf (load_td I P n k) (page_of I P)
+  pub patients : (p : ℕ) (a : Patient) → p < patient_count I → slice_get I.patients p ≡ Some a
+      → IsPartOf (person_text I p a (stay_of P p)) (page_of I P)
