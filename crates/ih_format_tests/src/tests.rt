@@ -3,6 +3,8 @@
 mod generated;
 mod instance;
 mod journal;
+mod limits;
+mod replacing;
 mod shelf;
 mod solution;
 mod tables;

@@ -1,2 +1,3 @@
 mod RoomDayChanges
 mod TheatreChanges
+mod TwoStays

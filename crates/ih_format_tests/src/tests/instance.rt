@@ -29,19 +29,19 @@ fn changed(alloc: Global, text: &str, old: &str, new: &str) -> Result<Option<Str
     }
 }
 
-// Whether that is answered for such a text.
-fn is_answered(alloc: Global, text: &str, old: &str, new: &str, wanted: &str) -> bool {
+/// Whether that is answered for such a text.
+pub(crate) fn is_answered(alloc: Global, text: &str, old: &str, new: &str, wanted: &str) -> bool {
     match changed(alloc, text, old, new) {
         Ok(Some(file)) => is_read_so(alloc, file.as_bytes(), wanted),
         _ => false,
     }
 }
 
-// What stands in a text, what is put in its place, and what is then answered.
-type Change = (&'static str, &'static str, &'static str);
+/// What stands in a text, what is put in its place, and what is then answered.
+pub(crate) type Change = (&'static str, &'static str, &'static str);
 
-// Whether each of these is answered.
-fn are_answered(alloc: Global, text: &str, changes: &[Change]) -> bool {
+/// Whether each of these is answered.
+pub(crate) fn are_answered(alloc: Global, text: &str, changes: &[Change]) -> bool {
     changes.iter().all(|(old, new, wanted)| is_answered(alloc, text, old, new, wanted))
 }
 
@@ -132,6 +132,25 @@ fn each_change_has_its_answer(rt: HostRuntime) {
     assert!(rt; are_answered(rt.alloc(), WARD, &PARTS));
     assert!(rt; are_answered(rt.alloc(), WARD, &NAMES));
     assert!(rt; are_answered(rt.alloc(), TWO_PATIENTS, &PATIENTS));
+}
+
+// Whether two faults are answered by that of the first key.
+fn is_first_answered(alloc: Global) -> bool {
+    match changed(alloc, WARD, r#""rooms":[{"id":"r0","capacity":2}],"#, "") {
+        Ok(Some(text)) => is_answered(
+            alloc,
+            text.as_str(),
+            r#""days":1"#,
+            r#""days":0"#,
+            "Range at $.days",
+        ),
+        _ => false,
+    }
+}
+
+#[test]
+fn the_first_of_two_faults(rt: HostRuntime) {
+    assert!(rt; is_first_answered(rt.alloc()));
 }
 
 fn has_sizes(inst: &Instance) -> bool {

@@ -3,7 +3,7 @@
 ghost use Rattle.std.specs.Prelude.{◌^◌};
 ghost use Rattle.ih_tables.specs.Bills.{IsWithin};
 
-use ih_fixtures::on_two_patients;
+use ih_fixtures::{on_one_room, on_two_patients};
 use ih_journal::{
     BadLine, Entry, Options, Verdict, head_line, line, parse_head, parse_line, parse_move, text,
 };
@@ -23,7 +23,9 @@ fn options(seed: u64, workers: u32, moves: u32, retries: u32) -> Options {
 }
 
 // Workers, moves and retries, and whether a search may have so many.
-const LIMITS: [(u32, u32, u32, bool); 7] = [
+const LIMITS: [(u32, u32, u32, bool); 9] = [
+    (1, 1_000_000, 0, true),
+    (1, 1_000_001, 0, false),
     (64, 15625, 0, true),
     (64, 15626, 0, false),
     (64, 15625, 1, false),
@@ -207,8 +209,12 @@ fn is_stale_read(inst: &Instance, options: &Options) -> bool {
 }
 
 // Texts that are no lines, and the first field of each that is wrong.
-const NO_LINES: [(&str, u32); 9] = [
+const NO_LINES: [(&str, u32); 10] = [
     ("", 1),
+    (
+        "0  0 0 0 idle 0,0,0,0,0,0,0,0,0,0,0,0,0,0,0,0,0 accepted",
+        2,
+    ),
     (
         "00 0 0 0 idle 0,0,0,0,0,0,0,0,0,0,0,0,0,0,0,0,0 accepted",
         1,
@@ -249,14 +255,48 @@ fn are_no_lines(inst: &Instance, options: &Options, rows: &[(&str, u32)]) -> boo
         .all(|(text, field)| is_wrong_at(inst, options, text, *field))
 }
 
+// The same of a journal with retries.
+const NO_TRIES: [(&str, u32); 3] = [
+    ("0 0 0 8 0 idle 0,0,0,0,0,0,0,0,0,0,0,0,0,0,0,0,0 accept", 8),
+    (
+        "0 0 0 0 0 idle 0,0,0,0,0,0,0,0,0,0,0,0,0,0,0,0,0 accepted ",
+        9,
+    ),
+    ("0 0 0 x 0 idle", 4),
+];
+
 fn lines_read(inst: &Instance) -> bool {
-    let options = options(0, 2, 1, 0);
-    is_stale_read(inst, &options) && are_no_lines(inst, &options, &NO_LINES)
+    let once = options(0, 2, 1, 0);
+    is_stale_read(inst, &once)
+        && are_no_lines(inst, &once, &NO_LINES)
+        && are_no_lines(inst, &options(0, 2, 1, 1), &NO_TRIES)
 }
 
 #[test]
 fn lines_are_read(rt: HostRuntime) {
     assert!(rt; on_two_patients(rt.alloc(), &[], lines_read));
+}
+
+// Whether the entry has each field of the first one.
+fn is_first(entry: &Entry) -> bool {
+    (entry.worker, entry.number, entry.again, entry.seen) == (0, 0, 0, 0)
+        && entry.mv == FIRST.mv
+        && entry.price == FIRST.price
+        && entry.verdict == FIRST.verdict
+}
+
+// Whether the first line of a search on one room is read, each field of it, and a shift past the last is no move.
+fn is_first_read(inst: &Instance) -> bool {
+    let line = b"0 0 0 0 nurserun:0,0,0,5 0,0,0,0,0,0,0,0,-3,0,1,1,0,0,0,0,0 accepted";
+    match parse_line(inst, &options(0, 1, 2, 0), line) {
+        Ok((0, entry)) => is_first(&entry) && parse_move(inst, b"nurse:0,3,0").is_none(),
+        _ => false,
+    }
+}
+
+#[test]
+fn each_field_of_a_line_is_read(rt: HostRuntime) {
+    assert!(rt; on_one_room(rt.alloc(), &[], is_first_read));
 }
 
 // Texts that are no moves of the ward.

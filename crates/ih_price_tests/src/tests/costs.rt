@@ -1,7 +1,7 @@
 //! Moves on a ward of two patients, of whom the first is admitted, with one nurse in all shifts.
 
-ghost use Rattle.std.specs.Prelude.{◌≡◌};
-ghost use Rattle.ih_tables.specs.Sizes.{sizes_of};
+ghost use Rattle.std.specs.Prelude.{◌≡◌, ◌^◌};
+ghost use Rattle.ih_tables.specs.{Bills.IsWithin, Sizes.sizes_of};
 ghost use Rattle.ih_plan.specs.{Expand.IsMoveOf, Timetable.IsPlanOf};
 ghost use Rattle.ih_fixtures.specs.Two.{IsOfTwo};
 
@@ -69,6 +69,15 @@ fn prices_are_right(inst: &Instance, ledgers: &mut Ledgers<'_>, foot: &mut CellL
 // The costs while the first patient alone is admitted.
 const ALONE: [i64; 8] = [1, 2, 2, 0, 1, 0, 0, 1];
 
+// Whether a bill costs so much, has this score, and is feasible where that is said.
+fn comes_to(inst: &Instance, bill: &Bill, cost: i64, score: i64, feasible: bool) -> bool
+    requires { IsWithin (10 ^ 11) bill.now }
+{
+    bill.cost(inst.weights()) == cost
+        && bill.score(1_000, inst.weights()) == score
+        && bill.feasible() == feasible
+}
+
 // Whether the bill follows the second patient, who joins the first and leaves again.
 fn bills_follow(inst: &Instance, ledgers: &mut Ledgers<'_>) -> bool
     requires instance { ledgers.old.instance ≡ inst.now.draft }
@@ -79,7 +88,9 @@ fn bills_follow(inst: &Instance, ledgers: &mut Ledgers<'_>) -> bool
     let joined = ledgers.total();
     ledgers.put(&Write::SetStay(PatientNo(1), None));
     let left = ledgers.total();
-    is(&before, [0; 9], ALONE)
+    comes_to(inst, &before, 159, 159, true)
+        && comes_to(inst, &joined, 166, 2_166, false)
+        && is(&before, [0; 9], ALONE)
         && is(
             &joined,
             [1, 0, 0, 0, 0, 0, 1, 0, 0],

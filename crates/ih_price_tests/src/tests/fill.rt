@@ -80,6 +80,7 @@ fn all_are_placed(inst: &Instance, plan: &Plan) -> bool
         && is_placed(inst, plan, 1, 0, 1)
         && is_skilled(inst, plan)
         && has(inst, plan, 1, 0, 1)
+        && has(inst, plan, 1, 1, 1)
         && has(inst, plan, 1, 2, 1)
         && has_none_from(inst, plan, 1, 3)
 }

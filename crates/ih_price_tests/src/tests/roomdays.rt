@@ -43,6 +43,26 @@ fn is_right(inst: &Instance, ledger: &mut RoomDays) -> bool
     both && later == 1 && is(&bill, 0, 0, 1)
 }
 
+// Whether the second patient and the occupant are there once the first patient has left again.
+fn is_right_once_one_left(inst: &Instance, ledger: &mut RoomDays) -> bool
+    requires new { IsLedgerOf inst.now.draft (empty inst.now.draft) ledger.old }
+    requires two { IsOfTwo inst.now.draft }
+{
+    let here = first_day(0);
+    let beside = first_day(1);
+    ledger.enter(inst, PatientNo(0), here);
+    ledger.enter(inst, PatientNo(1), beside);
+    ledger.leave(inst, PatientNo(0), here);
+    are_there(ledger, 1, 2)
+}
+
+/// A patient joins an occupant, and leaves again when another has come.
+pub fn hold_once_one_left(alloc: Global, inst: &Instance) -> bool
+    requires { IsOfTwo inst.now.draft }
+{
+    RoomDays::new(alloc, inst).is_ok_and(|mut ledger| is_right_once_one_left(inst, &mut ledger))
+}
+
 // A patient joins an occupant.
 pub fn hold(alloc: Global, inst: &Instance) -> bool
     requires { IsOfTwo inst.now.draft }

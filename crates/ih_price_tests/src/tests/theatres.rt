@@ -29,6 +29,28 @@ fn are_right(inst: &Instance, ledger: &mut Theatres) -> bool
     is(&used, OPEN) && is(&alone, NONE)
 }
 
+// Whether the second patient's theatre alone is open once the first patient has left again.
+fn are_right_once_one_left(inst: &Instance, ledger: &mut Theatres) -> bool
+    requires new { IsLedgerOf inst.now.draft (empty inst.now.draft) ledger.old }
+    requires two { IsOfTwo inst.now.draft }
+{
+    let here = first_day(0);
+    let beside = first_day(1);
+    ledger.enter(inst, PatientNo(0), here);
+    ledger.enter(inst, PatientNo(1), beside);
+    ledger.leave(inst, PatientNo(0), here);
+    let unused = ledger.theatre_bill(inst, TheatreNo(0), Day(0));
+    let used = ledger.theatre_bill(inst, TheatreNo(1), Day(0));
+    is(&unused, NONE) && is(&used, OPEN)
+}
+
+/// A surgery that is taken back closes its theatre, while another one keeps its own open.
+pub fn hold_once_one_left(alloc: Global, inst: &Instance) -> bool
+    requires { IsOfTwo inst.now.draft }
+{
+    Theatres::new(alloc, inst).is_ok_and(|mut ledger| are_right_once_one_left(inst, &mut ledger))
+}
+
 // A surgery opens a theatre.
 pub fn hold(alloc: Global, inst: &Instance) -> bool
     requires { IsOfTwo inst.now.draft }

@@ -122,7 +122,7 @@ const LOOKS: [Look; 3] = [
     (
         (r#""p0""#, "\"p\u{202e}0\""),
         (r#""p0""#, "\"p\u{202e}0\""),
-        &["<tr id=p0><th><bdi>p\u{202e}0</bdi><td>"],
+        &["<tr id=p0><th><bdi>p\u{202e}0</bdi> <b>*</b><td>"],
     ),
 ];
 

@@ -1,0 +1,69 @@
+//! Real files are replaced as one step: whatever fails, the older bytes stay whole.
+
+use ih_shelf::{FileShelf, Shelf, WriteError};
+use std::alloc::Global;
+use std::fs::{self, Permissions};
+use std::os::unix::fs::PermissionsExt;
+use std::rt::Files;
+
+// Whether a file has just these bytes.
+fn has<R: Files>(rt: &R, alloc: Global, shelf: &mut FileShelf, name: &str, wanted: &[u8]) -> bool {
+    shelf
+        .read(rt, alloc, name, 100)
+        .is_ok_and(|bytes| bytes.as_slice() == wanted)
+}
+
+fn is_absent<R: Files>(rt: &R, name: &str) -> bool {
+    fs::symlink_metadata(rt, name).is_err()
+}
+
+// Whether the file that a link leads to is replaced, and the link stays.
+fn follows_links<R: Files>(rt: &R, alloc: Global, shelf: &mut FileShelf) -> bool {
+    shelf.write(rt, "aim", b"old").is_ok()
+        && rt.symlink("aim", "link").is_ok()
+        && has(rt, alloc, shelf, "link", b"old")
+        && shelf.write(rt, "link", b"new").is_ok()
+        && fs::symlink_metadata(rt, "link").is_ok_and(|found| found.is_symlink())
+        && has(rt, alloc, shelf, "aim", b"new")
+}
+
+// Whether a file that has the name of a new one stays as it is.
+fn leaves_others<R: Files>(rt: &R, alloc: Global, shelf: &mut FileShelf) -> bool {
+    shelf.write(rt, "ih-00.part", b"another's").is_ok()
+        && shelf.write(rt, "plan", b"older").is_ok()
+        && shelf.write(rt, "plan", b"newer").is_ok()
+        && has(rt, alloc, shelf, "plan", b"newer")
+        && has(rt, alloc, shelf, "ih-00.part", b"another's")
+        && is_absent(rt, "ih-01.part")
+}
+
+// Whether who may use a file stays as it was.
+fn keeps_permissions<R: Files>(rt: &R, shelf: &mut FileShelf) -> bool {
+    fs::set_permissions(rt, "plan", Permissions::from_mode(0o640)).is_ok()
+        && shelf.write(rt, "plan", b"newest").is_ok()
+        && fs::metadata(rt, "plan").is_ok_and(|found| found.permissions().mode() % 512 == 0o640)
+}
+
+// Whether a file is whole where its folder takes no new files. (Who may do all puts the new bytes there.)
+fn is_whole_in_a_shut_folder<R: Files>(rt: &R, alloc: Global, shelf: &mut FileShelf) -> bool {
+    let is_made = fs::create_dir(rt, "shut").is_ok()
+        && shelf.write(rt, "shut/plan", b"old").is_ok()
+        && fs::set_permissions(rt, "shut", Permissions::from_mode(0o555)).is_ok();
+    is_made
+        && match shelf.write(rt, "shut/plan", b"new") {
+            Ok(()) => has(rt, alloc, shelf, "shut/plan", b"new"),
+            Err(error) => {
+                error == WriteError::Fault && has(rt, alloc, shelf, "shut/plan", b"old")
+            }
+        }
+}
+
+#[test]
+fn files_are_replaced(rt: HostRuntime) {
+    let alloc = rt.alloc();
+    let mut shelf = FileShelf::new();
+    assert!(rt; leaves_others(&rt, alloc, &mut shelf));
+    assert!(rt; follows_links(&rt, alloc, &mut shelf));
+    assert!(rt; keeps_permissions(&rt, &mut shelf));
+    assert!(rt; is_whole_in_a_shut_folder(&rt, alloc, &mut shelf));
+}
