@@ -49,6 +49,28 @@ def full(patients):
     return one
 
 
+def uniform(days, patients, occupants, rooms, nurses, surgeons, theatres, stay):
+    """An instance of which all persons, rooms, surgeons and theatres are alike."""
+    entries = 3 * min(stay, days)
+    return {
+        "days": days, "skill_levels": 3, "shift_types": TYPES, "age_groups": ["g%d" % i for i in range(64)],
+        "weights": {key: 1 for key in WEIGHTS},
+        "surgeons": [{"id": "s%d" % i, "max_surgery_time": [480] * days} for i in range(surgeons)],
+        "operating_theaters": [{"id": "t%d" % i, "availability": [600] * days} for i in range(theatres)],
+        "rooms": [{"id": "r%d" % i, "capacity": 4} for i in range(rooms)],
+        "nurses": [{"id": "n%d" % i, "skill_level": i % 3,
+                    "working_shifts": [{"day": d, "shift": TYPES[(i + d) % 3], "max_load": 10} for d in range(days)]}
+                   for i in range(nurses)],
+        "occupants": [{"id": "a%d" % i, "gender": "A", "age_group": "g0", "length_of_stay": stay,
+                       "workload_produced": [1] * entries, "skill_level_required": [1] * entries,
+                       "room_id": "r%d" % (i % rooms)} for i in range(occupants)],
+        "patients": [{"id": "p%d" % i, "mandatory": False, "gender": "B", "age_group": "g1", "length_of_stay": stay,
+                      "surgery_release_day": 0, "surgery_duration": 60, "surgeon_id": "s%d" % (i % surgeons),
+                      "incompatible_room_ids": [], "workload_produced": [1] * entries,
+                      "skill_level_required": [1] * entries} for i in range(patients)],
+    }
+
+
 def shaped(name):
     """An instance of usual size but for one thing: few rooms, many nurses, one surgeon, or weights times ten."""
     one = generated(400)
