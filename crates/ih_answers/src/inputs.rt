@@ -50,7 +50,7 @@ fn unread_inputs(alloc: Global, names: &InputNames<'_>, error: InputError) -> An
 
 /// Reads the instance, then the timetable where a file is named for it. Where one of them can't be had, the answer says
 /// why.
-pub fn read_inputs<R: Files, S: Shelf>(
+pub fn read_or_answer<R: Files, S: Shelf>(
     rt: &R,
     alloc: Global,
     instance: &str,

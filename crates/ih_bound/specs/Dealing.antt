@@ -5,14 +5,14 @@ use Rattle.ih_tables.specs.Sizes.{person_count}
 use Rattle.ih_plan.specs.Timetable.{Timetable}
 use Rattle.ih_plan.specs.Sums.{sum_below}
 use Rattle.ih_bound.specs.declared.prices.Rates.{Rates}
-use Rattle.ih_bound.specs.declared.dealing.Worker.{Worker}
+use Rattle.ih_bound.specs.declared.dealing.BoundWorker.{BoundWorker}
 use Rattle.ih_bound.specs.Bounds.{IsFeasible}
 use Rattle.ih_bound.specs.Tariffs.{Tariff}
 use Rattle.ih_bound.specs.Paid.{paid}
 use Rattle.ih_bound.specs.Least.{AreFloors}
 
 -- the worker's floors hold whatever the prices
-abbrev pub HasFloors : Draft → Rates → Worker → Type 0
+abbrev pub HasFloors : Draft → Rates → BoundWorker → Type 0
 HasFloors I rates w = AreFloors I rates w.floors.list.items
 
 -- what person x pays where it is dealt to worker w of n, and else 0

@@ -7,7 +7,7 @@ ghost use Rattle.ih_bound.specs.Tariffs.{worth};
 ghost use Rattle.ih_bound.specs.Dealing.{HasFloors};
 
 use crate::climbing::{Climb, Effort};
-use crate::dealing::{Worker, new_workers, raise_floors};
+use crate::dealing::{BoundWorker, new_workers, raise_floors};
 use crate::demand::Spent;
 use crate::evaluating::evaluate;
 use crate::prices::{Prices, Rates};
@@ -47,7 +47,7 @@ fn ascend_by<R: Threads + Sync>(
     inst: &Instance,
     rates: &Rates,
     effort: Effort,
-    workers: &mut [Worker],
+    workers: &mut [BoundWorker],
 ) -> Result<Ascent, AllocError>
     requires { All (HasFloors inst.now.draft rates.now) workers.old }
     ensures { IfOk result (λ a. (P : Timetable) → IsFeasible inst.now.draft P → a.value ≤ worth inst.now.draft rates.now P) }

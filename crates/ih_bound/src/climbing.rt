@@ -1,6 +1,6 @@
 //! Rising prices: each round tries some, and the next goes by what was asked for too much. Nothing rests on it.
 
-use crate::dealing::Worker;
+use crate::dealing::BoundWorker;
 use crate::demand::{Demand, Spent};
 use crate::moving::{Directions, Step, begin, copy, occupants_by_day};
 use crate::prices::{Prices, Rates};
@@ -77,7 +77,7 @@ impl Climb {
     }
 
     // Adds up what all workers' persons ask for.
-    fn gather(&mut self, workers: &[Worker], round: u32) {
+    fn gather(&mut self, workers: &[BoundWorker], round: u32) {
         self.demand.clear();
         for w in workers {
             self.demand.add_all(&w.demand);
@@ -148,7 +148,7 @@ impl Climb {
         effort: &Effort,
         round: u32,
         value: u64,
-        workers: &[Worker],
+        workers: &[BoundWorker],
     ) -> bool {
         self.gather(workers, round);
         self.keep(value);

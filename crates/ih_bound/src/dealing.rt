@@ -24,7 +24,7 @@ pub const MOST_WORKERS: u32 = 64;
 
 /// One of those who work side by side. All that it writes on is its own, and is there before it begins.
 #[derive(Drop)]
-pub struct Worker {
+pub struct BoundWorker {
     scratch: Scratch,
     floors: Floors,
     /// What its persons ask for in a round.
@@ -54,11 +54,11 @@ fn least_of(
     least_of_occupant(inst, rates, prices, x - patients, scratch, demand)
 }
 
-impl Worker {
-    fn new(alloc: Global, inst: &Instance) -> Result<Worker, AllocError>
+impl BoundWorker {
+    fn new(alloc: Global, inst: &Instance) -> Result<BoundWorker, AllocError>
         ensures { IfOk result (λ w. (rates : Rates) → HasFloors inst.now.draft rates w) }
     {
-        Ok(Worker {
+        Ok(BoundWorker {
             scratch: Scratch::new(alloc, inst)?,
             floors: Floors::new(alloc, inst)?,
             demand: Demand::new(alloc, inst)?,
@@ -141,12 +141,16 @@ impl Worker {
 }
 
 /// So many workers.
-pub fn new_workers(alloc: Global, inst: &Instance, count: usize) -> Result<Vec<Worker>, AllocError>
+pub fn new_workers(
+    alloc: Global,
+    inst: &Instance,
+    count: usize,
+) -> Result<Vec<BoundWorker>, AllocError>
     ensures { IfOk result (λ v. (rates : Rates) → All (HasFloors inst.now.draft rates) v.items) }
 {
     let mut workers = Vec::with_capacity(alloc, count)?;
     for _ in 0..count {
-        workers.push_reserved(Worker::new(alloc, inst)?);
+        workers.push_reserved(BoundWorker::new(alloc, inst)?);
     }
     Ok(workers)
 }
@@ -157,7 +161,7 @@ pub fn raise_floors<R: Threads + Sync>(
     inst: &Instance,
     rates: &Rates,
     free: &Prices,
-    workers: &mut [Worker],
+    workers: &mut [BoundWorker],
 )
     requires free { free.now.work.items ≡ [] }
     requires floors { All (HasFloors inst.now.draft rates.now) workers.old }
@@ -180,12 +184,12 @@ fn sum_all<R: Threads + Sync>(
     inst: &Instance,
     rates: &Rates,
     prices: &Prices,
-    workers: &mut [Worker],
+    workers: &mut [BoundWorker],
 )
     requires { All (HasFloors inst.now.draft rates.now) workers.old }
     ensures count { length workers.new ≡ length workers.old }
     ensures floors { All (HasFloors inst.now.draft rates.now) workers.new }
-    ensures least { (k : ℕ) (d : Worker) → k < length workers.old → BoundsDealt inst.now.draft rates.now
+    ensures least { (k : ℕ) (d : BoundWorker) → k < length workers.old → BoundsDealt inst.now.draft rates.now
         (tariff_of inst.now.draft rates.now prices.now) (length workers.old) k (slice_index_or workers.new k d).sum }
 {
     let count = workers.len();
@@ -200,8 +204,8 @@ fn sum_all<R: Threads + Sync>(
 }
 
 // What they found, added up.
-fn sum_of(workers: &[Worker]) -> u64
-    ensures { (f : ℕ → ℕ) → ((k : ℕ) (d : Worker) → k < length workers.now → (slice_index_or workers.now k d).sum ≤ f k)
+fn sum_of(workers: &[BoundWorker]) -> u64
+    ensures { (f : ℕ → ℕ) → ((k : ℕ) (d : BoundWorker) → k < length workers.now → (slice_index_or workers.now k d).sum ≤ f k)
         → result ≤ sum_below (length workers.now) f }
 {
     let mut sum: u64 = 0;
@@ -217,7 +221,7 @@ pub fn least_of_all<R: Threads + Sync>(
     inst: &Instance,
     rates: &Rates,
     prices: &Prices,
-    workers: &mut [Worker],
+    workers: &mut [BoundWorker],
 ) -> u64
     requires { All (HasFloors inst.now.draft rates.now) workers.old }
     ensures floors { All (HasFloors inst.now.draft rates.now) workers.new }

@@ -6,7 +6,7 @@ ghost use Rattle.ih_bound.specs.Bounds.{IsFeasible};
 ghost use Rattle.ih_bound.specs.Tariffs.{worth};
 ghost use Rattle.ih_bound.specs.Dealing.{HasFloors};
 
-use crate::dealing::{Worker, least_of_all};
+use crate::dealing::{BoundWorker, least_of_all};
 use crate::incomes::income;
 use crate::prices::{Prices, Rates};
 use ih_tables::Instance;
@@ -19,7 +19,7 @@ pub fn evaluate<R: Threads + Sync>(
     inst: &Instance,
     rates: &Rates,
     prices: &Prices,
-    workers: &mut [Worker],
+    workers: &mut [BoundWorker],
 ) -> u64
     requires { All (HasFloors inst.now.draft rates.now) workers.old }
     ensures floors { All (HasFloors inst.now.draft rates.now) workers.new }

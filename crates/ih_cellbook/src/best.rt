@@ -6,7 +6,7 @@ ghost use Rattle.ih_tables.specs.Bills.{IsWithin, add_bills, cost, feasible};
 ghost use Rattle.ih_journal.specs.{Base.Base, Best.BestIs, Best.best_with, History.is_accepted};
 ghost use Rattle.ih_cellbook.specs.Legal.{IsHistoryOver};
 
-use crate::kinds::Logged;
+use crate::entry_kinds::Logged;
 use ih_journal::Verdict;
 use ih_tables::{Bill, Instance};
 

@@ -4,8 +4,8 @@ ghost use Rattle.std.specs.Prelude.{◌≡◌, ℕ, ◌<◌, ◌≤◌, length};
 
 use crate::best::{add_price, best_after, with_place};
 use crate::buffers::Buffer;
-use crate::counters::{judge, raise_where};
-use crate::kinds::{Logged, Offers};
+use crate::counters::{judge_by_counters, raise_where};
+use crate::entry_kinds::{Logged, Offers};
 use crate::news::News;
 use crate::parts::{BookParts, again_after, again_of, entry_from, room_of};
 use ih_footprint::Numbering;
@@ -154,7 +154,7 @@ impl<'a, E: Logged> Book<'a, E> {
             (E.Offer.offered offer.now).seen (E.Offer.offered offer.now).moves (E.Offer.offered offer.now).price }
     {
         let parts = &*self.parts;
-        judge(parts.inst, &parts.options, parts.counters.as_slice(), offer)
+        judge_by_counters(parts.inst, &parts.options, parts.counters.as_slice(), offer)
     }
 
     /// Replaces the buffer's entries by those from place `from` on, or by the first 256 of them where there are more.
@@ -170,7 +170,7 @@ impl<'a, E: Logged> Book<'a, E> {
             } }
         ensures count { result ≡ length buffer.new.entries }
     {
-        buffer.fill(self.entries(), from, self.front())
+        buffer.copy_from(self.entries(), from, self.front())
     }
 
     /// Replaces the news by what was accepted from place `from` on: up to the end, or up to where its room for 256
@@ -180,7 +180,7 @@ impl<'a, E: Logged> Book<'a, E> {
         requires { from ≤ length self.now.entries }
         ensures { TellsOf self.now.entries from news.new }
     {
-        news.fill(self.entries(), from, self.front());
+        news.tell_from(self.entries(), from, self.front());
     }
 
     /// The place and the cost of the first of the cheapest feasible timetables: place k is that after k entries. None

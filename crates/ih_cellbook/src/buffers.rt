@@ -2,7 +2,7 @@
 
 ghost use Rattle.std.specs.Prelude.{◌≡◌, ◌≤◌, [], length, IfOk};
 
-use crate::kinds::Logged;
+use crate::entry_kinds::Logged;
 use ih_journal::Entry;
 use std::alloc::{AllocError, Global};
 use std::marker::Model;
@@ -73,7 +73,7 @@ impl<E: Logged> Buffer<E> {
     }
 
     // Replaces the entries by those from a place on, or by the first 256 of them.
-    pub(crate) fn fill(&mut self, entries: &[E], from: u32, front: u32) -> u32
+    pub(crate) fn copy_from(&mut self, entries: &[E], from: u32, front: u32) -> u32
         requires { from ≤ length entries.now }
         ensures copied { self.new
             ≡ record { from = from; entries = take most_copied (drop from (map E.tried entries.now)); front = front } }

@@ -6,7 +6,7 @@ ghost use Rattle.ih_plan.specs.Cells.{cell_count};
 ghost use Rattle.ih_journal.specs.{Settings.IsLawful, History.is_accepted};
 ghost use Rattle.ih_cellbook.specs.Counters.{first_differing, is_compared, stale_by, times_read, verdict_by_counters};
 
-use crate::kinds::Offers;
+use crate::entry_kinds::Offers;
 use crate::reads::Reads;
 use ih_footprint::Numbering;
 use ih_journal::{Options, Verdict};
@@ -45,7 +45,7 @@ fn compare(inst: &Instance, counters: &[u32], reads: &[(u32, u32)]) -> Verdict
 
 /// The verdict on an offer.
 #[tactic(auto, unfolding(crate::specs::Counters::verdict_by_counters))]
-pub(crate) fn judge<O: Offers>(
+pub(crate) fn judge_by_counters<O: Offers>(
     inst: &Instance,
     options: &Options,
     counters: &[u32],

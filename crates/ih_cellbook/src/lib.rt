@@ -6,7 +6,7 @@ mod best;
 mod books;
 mod buffers;
 mod counters;
-mod kinds;
+mod entry_kinds;
 mod laws;
 mod news;
 mod offers;
@@ -20,7 +20,7 @@ pub use best::best_in;
 pub use books::Book;
 pub use buffers::Buffer;
 pub use counters::raise_read;
-pub use kinds::{Attempted, Logged, Offers};
+pub use entry_kinds::{Attempted, Logged, Offers};
 pub use laws::{
     accepted_prices_are_exact, journals_tell_searches_apart, legal_histories_are_few,
     legal_histories_are_in_range, legal_journals_are_short, right_offers_stay_right,

@@ -4,7 +4,7 @@ ghost use Rattle.std.specs.Prelude.{◌≡◌, ◌+◌, ◌<◌, ◌≤◌, ◌+
 ghost use Rattle.ih_cellbook.specs.News.{accepted_between, accepted_of, most_told, TellsOf};
 
 use crate::buffers::MOST_COPIED;
-use crate::kinds::Logged;
+use crate::entry_kinds::Logged;
 use ih_journal::{Entry, Verdict};
 use std::alloc::{AllocError, Global};
 use std::marker::Model;
@@ -96,7 +96,7 @@ impl<E: Logged> News<E> {
     }
 
     // Tells of entries from a place on, of which there are `front` in all.
-    pub(crate) fn fill(&mut self, entries: &[E], from: u32, front: u32)
+    pub(crate) fn tell_from(&mut self, entries: &[E], from: u32, front: u32)
         requires from { from ≤ front }
         requires front { front ≡ length entries.now }
         ensures { TellsOf (map E.tried entries.now) from self.new }

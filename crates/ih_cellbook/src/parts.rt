@@ -4,7 +4,7 @@ ghost use Rattle.std.specs.Prelude.{◌≡◌, ◌<◌, ◌≤◌, [], length, s
 ghost use Rattle.ih_journal.specs.{Attempts.try_after, Settings.IsLawful, Settings.most_entries};
 ghost use Rattle.ih_cellbook.specs.{Offered.Offered, Offers.entry_with};
 
-use crate::kinds::{Logged, Offers};
+use crate::entry_kinds::{Logged, Offers};
 use ih_journal::{Options, Verdict};
 use ih_plan::Plan;
 use ih_tables::{Bill, Instance};

@@ -7,7 +7,7 @@ ghost use Rattle.ih_cellbook.specs.Replicas.{IsOfferOf, IsReplicaOf, IsRightFor,
 ghost use Rattle.ih_cellbook.specs.Replicas.{StandsAs, StandsUpTo};
 ghost use Rattle.ih_cellbook.specs.{Keeping.base_with, Snapshot.Snapshot};
 
-use crate::kinds::Logged;
+use crate::entry_kinds::Logged;
 use ih_journal::Options;
 use ih_plan::Plan;
 use ih_tables::Instance;

@@ -2,7 +2,7 @@
 //! opened with.
 
 use crate::books::Book;
-use crate::kinds::Logged;
+use crate::entry_kinds::Logged;
 use ih_journal::{Options, Verdict};
 use ih_plan::{Move, Plan};
 use ih_tables::{Bill, Draft};

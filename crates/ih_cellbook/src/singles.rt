@@ -1,6 +1,6 @@
 //! Attempts of one move.
 
-use crate::kinds::{Attempted, Logged, Offers};
+use crate::entry_kinds::{Attempted, Logged, Offers};
 use crate::offers::Offer;
 use crate::reads::Reads;
 use ih_journal::{Entry, Verdict};
@@ -60,7 +60,7 @@ impl Offers for Offer {
         self.reads.clear();
     }
 
-    fn fill(
+    fn become_offer(
         &mut self,
         worker: u32,
         number: u32,

@@ -64,7 +64,7 @@ impl Offers for ChainOffer {
         self.reads.clear();
     }
 
-    fn fill(
+    fn become_offer(
         &mut self,
         worker: u32,
         number: u32,

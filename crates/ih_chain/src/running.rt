@@ -8,7 +8,7 @@ ghost use Rattle.ih_chain.specs.Runs.{IsRunOf};
 
 use crate::entries::ChainEntry;
 use crate::runs::{ChainRun, run_of};
-use ih_desk::{Given, search};
+use ih_desk::{Given, search_at_desk};
 use ih_journal::{MAX_ENTRIES, Options};
 use ih_plan::Plan;
 use ih_shelf::Gate;
@@ -43,6 +43,6 @@ pub fn run_chains<R: Threads + Wait + Sync, G: Gate>(
         options: *options,
         freeze: 0,
     };
-    let book = search::<Replica<'_, ChainEntry>, R, G>(rt, alloc, &given, length, gate)?;
+    let book = search_at_desk::<Replica<'_, ChainEntry>, R, G>(rt, alloc, &given, length, gate)?;
     run_of(alloc, inst, start, options, length, &book)
 }

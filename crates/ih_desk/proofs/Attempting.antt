@@ -24,11 +24,11 @@ use Rattle.ih_turn.specs.Rule.{GoesOn}
 use Rattle.ih_desk.specs.Histories.{EndsWith}
 use Rattle.ih_desk.specs.Finishing.{AreDrawn}
 use Rattle.ih_desk.specs.Progress.{Progress}
-use Rattle.ih_desk.specs.Searchers.{HasAttempted, HasCaughtUp, IsNext, IsWithin}
+use Rattle.ih_desk.specs.WorkerLoops.{HasAttempted, HasCaughtUp, IsNext, IsWithin}
 use Rattle.ih_desk.proofs.HistoryLemmas.{none_by-others}
 use Rattle.ih_desk.proofs.Full.{drawn-others, none-both}
 
--- a searcher that goes on, named by what it was before
+-- a worker that goes on, named by what it was before
 pub same-within : (b : Base) (each earlier w n : ℕ) (H : List Tried) (x : Progress) → each ≡ earlier → w ≡ n → IsWithin b each w H x → IsWithin b earlier n H x
 same-within b each earlier w n H x same number within = subst (λ e. IsWithin b e n H x) same (subst (λ v. IsWithin b each v H x) number within)
 

@@ -1,4 +1,4 @@
--- A searcher that looks: how far it is then in the history.
+-- A worker that looks: how far it is then in the history.
 use Rattle.std.proofs.Common.{◌≡◌, ◌≢◌, ℕ, ◌+◌, ◌<◌, ◌≤◌, sym, ap, ◌∙◌, subst, arith, List, [], ◌∷◌, ◌++◌, append_assoc, length, length-append, take, drop}
 use Rattle.std.proofs.lemmas.List.{append-nil}
 use Rattle.std.proofs.lemmas.List.Elements.{All-append, All-nil}
@@ -84,6 +84,6 @@ taken-over b w H G r n seen until accepted s same all end stands goes legal tell
 pub has-turn : (b : Base) (H : List Tried) (r : Snapshot) (left : ℕ) → IsReplicaIn b H r → most_entries b.options < left + r.seen → 0 < left
 has-turn b H r left stands has = let few = (legal-few b (take r.seen H) stands.legal).most in let seen = stands.seen in omega (arith, few, seen, has)
 
--- a worker that made nothing has seen all that it made
+-- A worker that made nothing has seen all that it made
 pub own-none : (w s : ℕ) (H : List Tried) → HasNoneBy w H → HasSeenOwn H w s
 own-none w s H none k e there by = absurd (none k e there by)

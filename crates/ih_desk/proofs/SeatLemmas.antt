@@ -119,7 +119,7 @@ module _ (b : Base) (each : ℕ) (desk : Desk) (seats : List DeskSeat) (opened :
             let first : f.first ≡ z.0 = (let same : Some f.first ≡ Some z.0 = sym f.held ∙ z.2.seat in cc) in
             let last : f.last ≡ s = (let same : Some f.last ≡ Some s = sym f.holds ∙ (ap (λ (v : Worker). v.seat) (index-get after k w.0 w.0 w.1) ∙ w.2) in cc) in
             let number : number_of f.last ≡ k = f.number ∙ (ap number_of first ∙ number-at k z.0 z.1) in
-            let finished = subst (λ n. HasFinished (base_of desk) n (number_of f.last) (history f.last)) z.2.searcher.own.each_is f.finished in
+            let finished = subst (λ n. HasFinished (base_of desk) n (number_of f.last) (history f.last)) z.2.worker_loop.own.each_is f.finished in
             record {
               own = subst (IsSeatAt desk) last f.own;
               number = subst (λ t. number_of t ≡ k) last number;

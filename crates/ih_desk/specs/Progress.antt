@@ -1,4 +1,4 @@
--- What is seen of a searcher.
+-- What is seen of a worker's loop.
 use Rattle.std.specs.Prelude.{ℕ, List}
 use Rattle.ih_tables.specs.declared.drafts.Draft.{Draft}
 use Rattle.ih_journal.specs.declared.settings.Options.{Options}

@@ -8,7 +8,7 @@ use Rattle.ih_desk.specs.declared.seated_workers.Seated.{Seated}
 use Rattle.ih_desk.specs.Desks.{Desk, DeskSeat, IsSeatAt, base_of}
 use Rattle.ih_desk.specs.Finishing.{HasFinished}
 use Rattle.ih_desk.specs.Progress.{Progress}
-use Rattle.ih_desk.specs.Searchers.{IsNew}
+use Rattle.ih_desk.specs.WorkerLoops.{IsNew}
 
 -- The turns that a seat gets: four for each try of each attempt of each worker, and 16. One for each entry of the
 -- history, and one more, would do.
@@ -26,7 +26,7 @@ Holds w s = w.seat ≡ Some s
 -- The worker is as it was made for a search over b by attempts of so many moves, with this seat.
 pub record IsNewWorker (b : Base) (each : ℕ) (w : Worker) (s : DeskSeat) : Type 0 where
   pub seat : Holds w s
-  pub searcher : IsNew b each (number_of s) w.searcher
+  pub worker_loop : IsNew b each (number_of s) w.worker_loop
 
 -- The worker is new, by attempts of so many moves, and its seat at this desk has made nothing and has turns enough.
 pub record IsReady (each : ℕ) (desk : Desk) (w : Worker) : Type 0 where
@@ -48,7 +48,7 @@ pub record Finishes (each : ℕ) (desk : Desk) (before after : Worker) : Type 0 
 
 -- both, by attempts of as many moves as the worker itself says
 abbrev pub MayWork : Desk → Worker → Type 0
-MayWork desk w = IsReady w.searcher.moves_each desk w
+MayWork desk w = IsReady w.worker_loop.moves_each desk w
 
 abbrev pub HasWorked : Desk → Worker → Worker → Type 0
-HasWorked desk before after = Finishes before.searcher.moves_each desk before after
+HasWorked desk before after = Finishes before.worker_loop.moves_each desk before after

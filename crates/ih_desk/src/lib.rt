@@ -16,5 +16,5 @@ pub use given::Given;
 pub use laws::finished_searches_are_full;
 pub use seated_workers::{Seated, WorkerOn};
 pub use side_by_side::run_all;
-pub use whole_search::search;
-pub use worker_loop::Searcher;
+pub use whole_search::search_at_desk;
+pub use worker_loop::WorkerLoop;

@@ -1,9 +1,9 @@
-//! A worker: a searcher and its seat.
+//! A worker: its loop and its seat.
 
 ghost use Rattle.std.specs.Prelude.{IsSome};
 
 use crate::desk::DeskSeat;
-use crate::worker_loop::Searcher;
+use crate::worker_loop::WorkerLoop;
 use ih_cellbook::{Opens, Replicates};
 use ih_journal::Options;
 use ih_plan::Plan;
@@ -14,14 +14,14 @@ use std::alloc::{AllocError, Global};
 /// a type that has parameters itself.
 #[derive(Drop)]
 pub struct Seated<S, T> {
-    pub(crate) searcher: S,
+    pub(crate) worker_loop: S,
     // A seat can't be moved out of a reference, so it is taken out of here for each call. It is there between calls.
     pub(crate) seat: Option<T>,
     ghost seated: { IsSome seat },
 }
 
 /// A worker that prices on such replicas.
-pub type WorkerOn<'a, C> = Seated<Searcher<'a, C>, DeskSeat<'a, <C as Replicates>::Entry>>;
+pub type WorkerOn<'a, C> = Seated<WorkerLoop<'a, C>, DeskSeat<'a, <C as Replicates>::Entry>>;
 
 impl<'a, C: Opens<'a>> WorkerOn<'a, C> {
     ghost use Rattle.std.specs.Prelude.{◌≡◌, ◌≤◌, ℕ, IfOk, IfErr};
@@ -29,11 +29,11 @@ impl<'a, C: Opens<'a>> WorkerOn<'a, C> {
     ghost use Rattle.ih_journal.specs.{Base.Base, Settings.IsLawful};
     ghost use Rattle.ih_turn.specs.Seats.{number_of};
     ghost use Rattle.ih_cellbook.specs.Keeping.{base_with};
-    ghost use Rattle.ih_desk.specs.{Searchers.IsNew, Workers.IsNewWorker};
+    ghost use Rattle.ih_desk.specs.{WorkerLoops.IsNew, Workers.IsNewWorker};
 
-    // The searcher with a seat; the seat alone, where the searcher's memory ran out.
+    // The loop with a seat; the seat alone, where the loop's memory ran out.
     pub(crate) fn seated(
-        opened: Result<Searcher<'a, C>, AllocError>,
+        opened: Result<WorkerLoop<'a, C>, AllocError>,
         seat: DeskSeat<'a, C::Entry>,
     ) -> Result<WorkerOn<'a, C>, DeskSeat<'a, C::Entry>>
         ensures new { (b : Base) (each : ℕ) → IfOk opened.entry (IsNew b each (number_of seat.entry))
@@ -41,8 +41,8 @@ impl<'a, C: Opens<'a>> WorkerOn<'a, C> {
         ensures refused { IfErr result (λ s. s ≡ seat.entry) }
     {
         match opened {
-            Ok(searcher) => Ok(Seated {
-                searcher,
+            Ok(worker_loop) => Ok(Seated {
+                worker_loop,
                 seat: Some(seat),
             }),
             Err(_) => Err(seat),
@@ -70,7 +70,7 @@ impl<'a, C: Opens<'a>> WorkerOn<'a, C> {
             (λ w. IsNewWorker (base_with inst.entry.now.draft start.now options.now freeze) 1 w seat.entry) }
         ensures refused { IfErr result (λ s. s ≡ seat.entry) }
     {
-        let opened = Searcher::open(alloc, inst, start, options, freeze, 1, seat.number());
+        let opened = WorkerLoop::open(alloc, inst, start, options, freeze, 1, seat.number());
         Seated::seated(opened, seat)
     }
 }
@@ -82,7 +82,10 @@ impl<S: Drop, T> Seated<S, T> {
     pub fn into_seat(self) -> T
         ensures { Holds self result }
     {
-        let Seated { searcher: _, seat } = self;
+        let Seated {
+            worker_loop: _,
+            seat,
+        } = self;
         let Some(seat) = seat else { unreachable!() };
         seat
     }

@@ -4,7 +4,7 @@ ghost use Rattle.std.specs.Prelude.{ℕ, ◌<◌, All, length, slice_index_or};
 ghost use Rattle.ih_desk.specs.Workers.{HasWorked, MayWork};
 
 use crate::desk::DeskOf;
-use crate::passing::{Pass, SharedGate};
+use crate::passing::{PassesGate, SharedGate};
 use crate::seated_workers::WorkerOn;
 use ih_cellbook::{Logged, Replicates};
 use ih_journal::MAX_WORKERS;
@@ -14,32 +14,32 @@ use std::thread::{Threads, for_each_mut};
 
 // Something that does its work beside others, at a shared D. It is a trait, since a closure over workers can't name
 // their lifetime. No bound of its method is on threads: a trait's method can't hand such a bound on.
-trait Work<D> {
+trait WorksAt<D> {
     ghost ready: { D → Self → Type 0 };
 
     ghost worked: { D → Self → Self → Type 0 };
 
-    fn work<R: Wait, P: Pass>(&mut self, rt: &R, shared: &D, gate: &P)
+    fn work<R: Wait, P: PassesGate>(&mut self, rt: &R, shared: &D, gate: &P)
         requires { ready shared.now self.old }
         ensures { worked shared.now self.old self.new };
 }
 
-impl<'a, C: Replicates> Work<DeskOf<'a, C::Entry>> for WorkerOn<'a, C> {
+impl<'a, C: Replicates> WorksAt<DeskOf<'a, C::Entry>> for WorkerOn<'a, C> {
     ghost ready = { MayWork };
 
     ghost worked = { HasWorked };
 
-    fn work<R: Wait, P: Pass>(&mut self, rt: &R, shared: &DeskOf<'a, C::Entry>, gate: &P) {
+    fn work<R: Wait, P: PassesGate>(&mut self, rt: &R, shared: &DeskOf<'a, C::Entry>, gate: &P) {
         let Some(seat) = self.seat.take() else {
             unreachable!()
         };
-        let seat = self.searcher.search(rt, shared, seat, gate);
+        let seat = self.worker_loop.run(rt, shared, seat, gate);
         self.seat = Some(seat);
     }
 }
 
 // Each does its work in a call of its own. Where a thread can't be started, the caller does that work itself.
-fn work_all<D: Sync, W: Work<D> + Send, R: Threads + Wait + Sync, P: Pass + Sync>(
+fn work_all<D: Sync, W: WorksAt<D> + Send, R: Threads + Wait + Sync, P: PassesGate + Sync>(
     rt: &R,
     shared: &D,
     workers: &mut [W],

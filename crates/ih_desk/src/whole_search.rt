@@ -12,7 +12,7 @@ use crate::given::Given;
 use crate::laws::finished_searches_are_full;
 use crate::seated_workers::{Seated, WorkerOn};
 use crate::side_by_side::run_all;
-use crate::worker_loop::Searcher;
+use crate::worker_loop::WorkerLoop;
 use ih_cellbook::{Book, Logged, Opens, Replicates};
 use ih_journal::Options;
 use ih_shelf::Gate;
@@ -70,7 +70,7 @@ fn seat_workers<'a, C: Opens<'a>>(
 {
     let mut workers = Vec::with_capacity(alloc, seats.len())?;
     for seat in seats {
-        let opened = Searcher::open(
+        let opened = WorkerLoop::open(
             alloc,
             given.inst,
             given.start,
@@ -104,7 +104,7 @@ fn take_seats<'a, C: Replicates>(
 
 /// The whole search by attempts of so many moves, as a book with a full history. Between its opening and its end no
 /// call answers lack of memory.
-pub fn search<'a, C: Opens<'a> + Send, R: Threads + Wait + Sync, G: Gate>(
+pub fn search_at_desk<'a, C: Opens<'a> + Send, R: Threads + Wait + Sync, G: Gate>(
     rt: &R,
     alloc: Global,
     given: &Given<'a>,

@@ -5,7 +5,7 @@ ghost use Rattle.ih_journal.specs.Attempts.{is_stale};
 
 use crate::desk::{DeskOf, DeskSeat};
 use crate::drawing::drawn;
-use crate::passing::Pass;
+use crate::passing::PassesGate;
 use ih_cellbook::{Logged, News, Opens, Replicates};
 use ih_journal::{Options, Verdict};
 use ih_moves::Stream;
@@ -17,7 +17,7 @@ use std::sync::Wait;
 
 /// What a worker needs beside its seat. Once it is opened, no call takes memory.
 #[derive(Drop)]
-pub struct Searcher<'a, C: Replicates> {
+pub struct WorkerLoop<'a, C: Replicates> {
     inst: &'a Instance,
     options: Options,
     // How many moves each of its attempts has.
@@ -29,7 +29,7 @@ pub struct Searcher<'a, C: Replicates> {
     news: News<C::Entry>,
 }
 
-impl<'a, C: Replicates> Model for Searcher<'a, C> {
+impl<'a, C: Replicates> Model for WorkerLoop<'a, C> {
     ghost use Rattle.std.specs.Prelude.{◌≤◌};
     ghost use Rattle.ih_desk.specs.Progress.{Progress};
 
@@ -54,14 +54,14 @@ fn is_stale(verdict: &Verdict) -> bool
     matches!(verdict, Verdict::Stale { .. })
 }
 
-impl<'a, C: Opens<'a>> Searcher<'a, C> {
+impl<'a, C: Opens<'a>> WorkerLoop<'a, C> {
     ghost use Rattle.std.specs.Prelude.{◌≤◌, IfOk};
     ghost use Rattle.ih_plan.specs.Timetable.{IsPlanOf};
     ghost use Rattle.ih_journal.specs.Settings.{IsLawful};
     ghost use Rattle.ih_cellbook.specs.Keeping.{base_with};
-    ghost use Rattle.ih_desk.specs.Searchers.{IsNew};
+    ghost use Rattle.ih_desk.specs.WorkerLoops.{IsNew};
 
-    /// The searcher of a worker over a start, by attempts of so many moves.
+    /// The loop of a worker over a start, by attempts of so many moves.
     pub(crate) fn open(
         alloc: Global,
         inst: &'a Instance,
@@ -70,7 +70,7 @@ impl<'a, C: Opens<'a>> Searcher<'a, C> {
         freeze: u32,
         each: u32,
         worker: u32,
-    ) -> Result<Searcher<'a, C>, AllocError>
+    ) -> Result<WorkerLoop<'a, C>, AllocError>
         requires start { IsPlanOf inst.now.draft start.now }
         requires lawful { IsLawful options.now }
         requires freeze { freeze ≤ C.Entry.Attempt.most_freeze }
@@ -78,7 +78,7 @@ impl<'a, C: Opens<'a>> Searcher<'a, C> {
         requires few { each ≤ C.Entry.Attempt.most_moves }
         ensures { IfOk result (IsNew (base_with inst.entry.now.draft start.now options.now freeze) each worker) }
     {
-        Ok(Searcher {
+        Ok(WorkerLoop {
             inst,
             options: *options,
             moves_each: each,
@@ -89,20 +89,20 @@ impl<'a, C: Opens<'a>> Searcher<'a, C> {
     }
 }
 
-impl<'a, C: Replicates> Searcher<'a, C> {
+impl<'a, C: Replicates> WorkerLoop<'a, C> {
     ghost use Rattle.std.specs.Prelude.{◌+◌, ◌*◌, ◌<◌, ◌≤◌, Some, length};
     ghost use Rattle.ih_journal.specs.{Attempts.HasMade, Legal.attempt_of, Settings.most_entries};
     ghost use Rattle.ih_turn.specs.Seats.{history, number_of, turns_left};
     ghost use Rattle.ih_turn.specs.Rule.{GoesOn};
     ghost use Rattle.ih_cellbook.specs.{Laws.HasNoneBy, Offers.next_number};
-    ghost use Rattle.ih_desk.specs.Searchers.{HasAttempted, HasCaughtUp, IsNew, IsNext, IsToldOf, IsWithin, MayTry};
-    ghost use Rattle.ih_desk.specs.Searchers.{credit};
+    ghost use Rattle.ih_desk.specs.WorkerLoops.{HasAttempted, HasCaughtUp, IsNew, IsNext, IsToldOf, IsWithin, MayTry};
+    ghost use Rattle.ih_desk.specs.WorkerLoops.{credit};
     ghost use Rattle.ih_desk.specs.{Desks.base_of, Desks.IsSeatAt, Finishing.AreDrawn, Finishing.HasFinished};
     ghost use Rattle.ih_desk.specs.{Workers.enough_turns};
 
     /// Makes all attempts of the worker, in order, each of its next draws. A stale one is tried again as often as
     /// `retries` says.
-    pub(crate) fn search<R: Wait, P: Pass>(
+    pub(crate) fn run<R: Wait, P: PassesGate>(
         &mut self,
         rt: &R,
         desk: &DeskOf<'a, C::Entry>,
@@ -120,13 +120,13 @@ impl<'a, C: Replicates> Searcher<'a, C> {
         let mut next = seat;
         for number in 0..self.options.moves {
             let attempt = drawn(self.inst, &mut self.stream, self.moves_each);
-            next = self.make(rt, desk, next, gate, number, &attempt);
+            next = self.make_attempt(rt, desk, next, gate, number, &attempt);
         }
         next
     }
 
     // Makes one attempt: it is tried again where it is stale, as often as `retries` says.
-    fn make<R: Wait, P: Pass>(
+    fn make_attempt<R: Wait, P: PassesGate>(
         &mut self,
         rt: &R,
         desk: &DeskOf<'a, C::Entry>,
@@ -164,7 +164,7 @@ impl<'a, C: Replicates> Searcher<'a, C> {
     // Tries an attempt once: prices it on what the replica stands for, offers it, and takes over what was new by that
     // turn, its own entry at least, so that the next try is priced on it. The take-over comes behind the gate's
     // `after`: what the turn told stays the same while a gate holds the worker there.
-    fn try_once<R: Wait, P: Pass>(
+    fn try_once<R: Wait, P: PassesGate>(
         &mut self,
         rt: &R,
         desk: &DeskOf<'a, C::Entry>,

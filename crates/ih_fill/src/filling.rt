@@ -5,7 +5,7 @@ ghost use Rattle.ih_plan.specs.Timetable.{IsPlanOf};
 ghost use Rattle.ih_fill.specs.{Choices.IsChoiceOf, Fill.fill, Fill.with_choices};
 
 use crate::choices::{Choice, fill_choices};
-use crate::making::make;
+use crate::making::make_choice;
 use crate::scoring::Scorer;
 use ih_plan::Plan;
 use ih_tables::Instance;
@@ -20,7 +20,7 @@ fn make_all(inst: &Instance, scorer: &mut Scorer<'_>, choices: &[Choice])
         ≡ record scorer.old { plan = with_choices inst.now.draft scorer.old.hard scorer.old.plan choices.now } }
 {
     for at in 0..choices.len() {
-        make(inst, scorer, choices[at]);
+        make_choice(inst, scorer, choices[at]);
     }
 }
 

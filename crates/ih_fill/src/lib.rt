@@ -15,7 +15,7 @@ pub use candidates::{Candidate, cheaper};
 pub use choices::{Choice, all_choices, fill_choices};
 pub use filling::fill;
 pub use laws::choices_are_first_least;
-pub use making::{is_open, make};
+pub use making::{is_open, make_choice};
 pub use nurses::cheapest_nurse;
 pub use patients::{cheapest_stay, suits};
 pub use scoring::Scorer;

@@ -41,7 +41,7 @@ fn cheapest_candidate(inst: &Instance, scorer: &Scorer<'_>, choice: Choice) -> O
 
 /// Makes a choice of a fill: where it is open, its cheapest candidate is written, if there is any. The scorer is a
 /// fill's, by which uncovered rooms don't count in what a stay adds.
-pub fn make(inst: &Instance, scorer: &mut Scorer<'_>, choice: Choice)
+pub fn make_choice(inst: &Instance, scorer: &mut Scorer<'_>, choice: Choice)
     requires instance { scorer.old.instance ≡ inst.now.draft }
     requires counts { scorer.old.counts_uncovered ≡ false }
     requires inside { IsChoiceOf inst.now.draft choice }

@@ -54,7 +54,7 @@ impl Makes for Nurses {
     ghost words = { λ kind. nurse_words kind.days };
 
     #[tactic(auto, using(crate::proofs::Streams::stream_steps))]
-    fn make(&self, alloc: Global, picks: &mut Picks, n: u32) -> Result<Value, AllocError> {
+    fn make_item(&self, alloc: Global, picks: &mut Picks, n: u32) -> Result<Value, AllocError> {
         let skill = picks.pick(3);
         let shifts = worked_values(alloc, picks, self.days, n)?;
         let id = id_value(alloc, "n", n)?;

@@ -37,7 +37,12 @@ impl Makes for Occupants {
     ghost words = { λ _. occupant_words };
 
     #[tactic(auto, using(crate::proofs::Streams::stream_steps))]
-    fn make(&self, alloc: Global, picks: &mut Picks, number: u32) -> Result<Value, AllocError> {
+    fn make_item(
+        &self,
+        alloc: Global,
+        picks: &mut Picks,
+        number: u32,
+    ) -> Result<Value, AllocError> {
         let picked = pick_person(picks, 5);
         let needs = pick_needs(alloc, picks, 3 * picked.length_of_stay)?;
         picked_value(alloc, number, &picked, needs)

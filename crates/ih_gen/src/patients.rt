@@ -77,7 +77,7 @@ impl Makes for Patients {
     ghost words = { λ _. patient_words };
 
     #[tactic(auto, using(crate::proofs::Streams::stream_steps))]
-    fn make(&self, alloc: Global, picks: &mut Picks, p: u32) -> Result<Value, AllocError> {
+    fn make_item(&self, alloc: Global, picks: &mut Picks, p: u32) -> Result<Value, AllocError> {
         let picked = patient_picks(picks);
         let needs = pick_needs(alloc, picks, 3 * picked.person.length_of_stay)?;
         let value = picked_value(alloc, p, &picked, needs)?;

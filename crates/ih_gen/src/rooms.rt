@@ -16,7 +16,7 @@ impl Makes for Rooms {
 
     ghost words = { λ _. room_words };
 
-    fn make(&self, alloc: Global, picks: &mut Picks, r: u32) -> Result<Value, AllocError> {
+    fn make_item(&self, alloc: Global, picks: &mut Picks, r: u32) -> Result<Value, AllocError> {
         let capacity = 1 + picks.pick(3);
         let id = id_value(alloc, "r", r)?;
         json!(in alloc; {"capacity": capacity, "id": id})

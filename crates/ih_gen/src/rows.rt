@@ -17,7 +17,7 @@ pub trait Makes {
     // How many of these words it takes.
     ghost words: { Self → ℕ → List ℕ → ℕ };
 
-    fn make(&self, alloc: Global, picks: &mut Picks, n: u32) -> Result<Value, AllocError>
+    fn make_item(&self, alloc: Global, picks: &mut Picks, n: u32) -> Result<Value, AllocError>
         ensures value { IsMade (thing self.now n picks.old) result }
         ensures rest { OnOk result (picks.new ≡ state_after (words self.now n picks.old) picks.old) };
 }
@@ -36,7 +36,7 @@ pub fn rows<M: Makes>(
 {
     let mut values = Vec::new(alloc);
     for n in 0..count {
-        values.push(kind.make(alloc, picks, n)?)?;
+        values.push(kind.make_item(alloc, picks, n)?)?;
     }
     Ok(values)
 }

@@ -24,7 +24,7 @@ fn put_all(inst: &Instance, plan: &mut Plan, writes: &[Write])
 }
 
 // Makes the move.
-fn make(inst: &Instance, plan: &mut Plan, writes: &mut Writes, mv: &Move)
+fn make_move(inst: &Instance, plan: &mut Plan, writes: &mut Writes, mv: &Move)
     requires plan { IsPlanOf inst.now.draft plan.old }
     requires move_in { IsMoveOf inst.now.draft mv.now }
     ensures { plan.new ≡ after inst.now.draft plan.old mv.now }
@@ -40,7 +40,7 @@ fn make_all(inst: &Instance, plan: &mut Plan, writes: &mut Writes, moves: &[Move
     ensures { plan.new ≡ after_all inst.now.draft plan.old moves.now }
 {
     for mv in moves {
-        make(inst, plan, writes, mv);
+        make_move(inst, plan, writes, mv);
     }
 }
 

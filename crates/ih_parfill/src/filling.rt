@@ -6,7 +6,7 @@ ghost use Rattle.ih_fill.specs.{Choices.IsChoiceOf, Fill.fill, Fill.with_choice,
 
 use crate::joining::{deal, lowest};
 use crate::walkers::Found;
-use ih_fill::{Choice, Scorer, fill, fill_choices, is_open, make};
+use ih_fill::{Choice, Scorer, fill, fill_choices, is_open, make_choice};
 use ih_plan::Plan;
 use ih_shelf::Gate;
 use ih_tables::Instance;
@@ -66,7 +66,7 @@ fn make_all<R: Threads + Wait + Sync, G: Gate>(
         if at < DEALT {
             make_dealt(rt, inst, scorer, choices[at], at as u32, found, gate);
         } else {
-            make(inst, scorer, choices[at]);
+            make_choice(inst, scorer, choices[at]);
         }
     }
 }

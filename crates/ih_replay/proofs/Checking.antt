@@ -11,7 +11,7 @@ use Rattle.ih_journal.specs.Legal.{AreLegal}
 use Rattle.ih_cellbook.specs.Keeping.{IsBase}
 use Rattle.ih_cellbook.specs.Offers.{HasSeenOwn, next_number}
 use Rattle.ih_cellbook.proofs.EntryLimits.{next-below}
-use Rattle.ih_replay.specs.declared.workers.Worker.{Worker as Workers}
+use Rattle.ih_replay.specs.declared.workers.ReplayWorker.{ReplayWorker as Workers}
 use Rattle.ih_replay.specs.Keeping.{IsWorkerIn}
 use Rattle.ih_replay.specs.Refusals.{FitsIn, IsFirstOf, IsGoing, of_attempt}
 use Rattle.ih_replay.proofs.Attempts.{below-going, going-below, next-is, number-of, past-done}

@@ -6,13 +6,13 @@ use Rattle.std.proofs.lemmas.Option.{slice_get-get_or}
 use Rattle.ih_journal.specs.Tried.{Tried}
 use Rattle.ih_journal.specs.Attempts.{is_done}
 use Rattle.ih_journal.specs.Base.{Base}
-use Rattle.ih_replay.specs.declared.workers.Worker.{Worker}
+use Rattle.ih_replay.specs.declared.workers.ReplayWorker.{ReplayWorker}
 use Rattle.ih_replay.specs.Keeping.{IsReplayed, IsWorkerIn}
 use Rattle.ih_replay.specs.Refusals.{IsGoing}
 use Rattle.ih_replay.proofs.Attempts.{below-going, past-done}
 use Rattle.ih_replay.proofs.Lines.{legal-but}
 
-module _ (b : Base) (H : List Tried) (xs : List Worker) (kept : IsReplayed b H xs) (i : ℕ) (d : Worker) where
+module _ (b : Base) (H : List Tried) (xs : List ReplayWorker) (kept : IsReplayed b H xs) (i : ℕ) (d : ReplayWorker) where
   pub worker-at : i < b.options.workers → IsWorkerIn b H i (slice_index_or xs i d)
   worker-at known = let many = kept.many in kept.each i (slice_index_or xs i d) (slice_get-get_or xs i d (omega (arith, known, many)))
 

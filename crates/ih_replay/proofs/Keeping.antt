@@ -20,7 +20,7 @@ use Rattle.ih_cellbook.specs.Replicas.{IsReplicaIn, IsReplicaOf}
 use Rattle.ih_cellbook.specs.Snapshot.{Snapshot}
 use Rattle.ih_cellbook.proofs.Within.{stands-behind}
 use Rattle.ih_cellbook.proofs.Staying.{new-within}
-use Rattle.ih_replay.specs.declared.workers.Worker.{Worker}
+use Rattle.ih_replay.specs.declared.workers.ReplayWorker.{ReplayWorker}
 use Rattle.ih_replay.specs.Keeping.{IsReplayed, IsWorkerIn, gone_on}
 
 -- ---- what a worker must have seen
@@ -48,7 +48,7 @@ seen-none w n = (λ h j f there own. absurd (let no : None ≡ Some f = there in
 
 -- ---- one worker
 
-pub worker-none : (b : Base) (w : ℕ) (x : Worker) → IsReplicaOf b [] x.replica → x.replica.worker ≡ w → x.number ≡ 0 → x.again ≡ 0 → x.own_end ≡ 0
+pub worker-none : (b : Base) (w : ℕ) (x : ReplayWorker) → IsReplicaOf b [] x.replica → x.replica.worker ≡ w → x.number ≡ 0 → x.again ≡ 0 → x.own_end ≡ 0
     → x.draw ≡ move_of b.instance b.options.seed w 0 → x.stream ≡ stream_at b.options.seed w 1 → IsWorkerIn b [] w x
 unfolding last_by
 worker-none b w x stands own number again own_end draw stream = record {
@@ -60,7 +60,7 @@ worker-none b w x stands own number again own_end draw stream = record {
   own_end = λ n. rw own_end (seen-none w n);
 }
 
-pub worker-other : (b : Base) (H : List Tried) (e : Tried) (w : ℕ) (x : Worker) → (e.worker ≡ w → ⊥) → IsWorkerIn b H w x → IsWorkerIn b (H ++ e ∷ []) w x
+pub worker-other : (b : Base) (H : List Tried) (e : Tried) (w : ℕ) (x : ReplayWorker) → (e.worker ≡ w → ⊥) → IsWorkerIn b H w x → IsWorkerIn b (H ++ e ∷ []) w x
 worker-other b H e w x other kept = record {
   replica = stands-behind b H x.replica kept.replica (e ∷ []);
   own = kept.own;
@@ -74,10 +74,10 @@ worker-other b H e w x other kept = record {
 }
 
 -- another replica that stands in the same history, or in one that is equal
-pub worker-moved : (b c : Base) (H G : List Tried) (w : ℕ) (x : Worker) (s : Snapshot) → IsWorkerIn b H w x → c ≡ b → G ≡ H → IsReplicaIn c G s → s.worker ≡ w
+pub worker-moved : (b c : Base) (H G : List Tried) (w : ℕ) (x : ReplayWorker) (s : Snapshot) → IsWorkerIn b H w x → c ≡ b → G ≡ H → IsReplicaIn c G s → s.worker ≡ w
     → IsWorkerIn c G w (record x { replica = s })
 worker-moved b c H G w x s kept base same stands own =
-    let y : Worker = record x { replica = s } in
+    let y : ReplayWorker = record x { replica = s } in
     let here : IsReplicaIn b H s = subst (λ F. IsReplicaIn b F s) same (subst (λ d. IsReplicaIn d G s) base stands) in
     let moved : IsWorkerIn b H w y = record { replica = here; own = own; attempt = kept.attempt; draw = kept.draw; stream = kept.stream; own_end = kept.own_end } in
     subst (λ d. IsWorkerIn d G w y) (sym base) (subst (λ F. IsWorkerIn b F w y) (sym same) moved)
@@ -87,11 +87,11 @@ unfolding move_of
 move-next I seed w i s e = ap (draw_at I) e
 
 -- the worker whose entry it is goes on to what follows
-module _ (b : Base) (H : List Tried) (e : Tried) (x : Worker) (number : e.number ≡ x.number) (again : e.again ≡ x.again)
+module _ (b : Base) (H : List Tried) (e : Tried) (x : ReplayWorker) (number : e.number ≡ x.number) (again : e.again ≡ x.again)
     (draw : x.draw ≡ move_of b.instance b.options.seed e.worker x.number) (stream : x.stream ≡ stream_at b.options.seed e.worker (x.number + 1))
     (replica : IsReplicaIn b (H ++ e ∷ []) x.replica) (own : x.replica.worker ≡ e.worker) where
   attempt-gone-on : (t : Bool) → is_retried b.options e ≡ t
-      → try_after b.options (Some e) ≡ (let y : Worker = (if t then record x { again = x.again + 1; own_end = length H + 1 }
+      → try_after b.options (Some e) ≡ (let y : ReplayWorker = (if t then record x { again = x.again + 1; own_end = length H + 1 }
       else record x { number = x.number + 1; again = 0; draw = draw_at b.instance x.stream; stream = state_after 6 x.stream; own_end = length H + 1 }) in record { number = y.number; again = y.again })
   attempt-gone-on true on = rw (on, number, again) refl
   attempt-gone-on false off = rw (off, number) refl
@@ -120,7 +120,7 @@ module _ (b : Base) (H : List Tried) (e : Tried) (x : Worker) (number : e.number
   worker-gone-on = worker-by (is_retried b.options e) refl
 
 -- the worker as the code leaves it
-pub worker-went : (b c : Base) (H G : List Tried) (e : Tried) (x y : Worker) (I : Draft) (o : Options) (own_end : ℕ) → c ≡ b → G ≡ H ++ e ∷ [] → e.number ≡ x.number → e.again ≡ x.again
+pub worker-went : (b c : Base) (H G : List Tried) (e : Tried) (x y : ReplayWorker) (I : Draft) (o : Options) (own_end : ℕ) → c ≡ b → G ≡ H ++ e ∷ [] → e.number ≡ x.number → e.again ≡ x.again
     → x.draw ≡ move_of b.instance b.options.seed e.worker x.number → x.stream ≡ stream_at b.options.seed e.worker (x.number + 1) → IsReplicaIn c G x.replica → x.replica.worker ≡ e.worker
     → I ≡ b.instance → o ≡ b.options → own_end ≡ length G → y ≡ gone_on I o x e own_end → IsWorkerIn c G e.worker y
 worker-went b c H G e x y I o own_end base same number again draw stream stands own inst opts at made =
@@ -133,16 +133,16 @@ worker-went b c H G e x y I o own_end base same number again draw stream stands 
 -- ---- all workers
 
 -- the workers of a search that has no entry yet, one more of them
-pub workers-more : (b : Base) (xs : List Worker) (w : ℕ) (y : Worker) → length xs ≡ w → ((v : ℕ) (x : Worker) → slice_get xs v ≡ Some x → IsWorkerIn b [] v x) → IsWorkerIn b [] w y
-    → (v : ℕ) (x : Worker) → slice_get (xs ++ y ∷ []) v ≡ Some x → IsWorkerIn b [] v x
+pub workers-more : (b : Base) (xs : List ReplayWorker) (w : ℕ) (y : ReplayWorker) → length xs ≡ w → ((v : ℕ) (x : ReplayWorker) → slice_get xs v ≡ Some x → IsWorkerIn b [] v x) → IsWorkerIn b [] w y
+    → (v : ℕ) (x : ReplayWorker) → slice_get (xs ++ y ∷ []) v ≡ Some x → IsWorkerIn b [] v x
 workers-more b xs w y len before own v x there = elim (get-more xs y x v there) [
   | inl earlier ↦ before v x earlier.1
   | inr last ↦ subst (λ u. IsWorkerIn b [] u x) (sym (last.0 ∙ len)) (subst (IsWorkerIn b [] w) last.1 own)
 ]
 
 -- one worker is replaced, and each other stays in the longer history
-replayed-set : (b : Base) (H G : List Tried) (xs : List Worker) (v : ℕ) (y : Worker) → IsReplayed b H xs → v < b.options.workers → AreLegal b 1 G
-    → ((w : ℕ) (x : Worker) → (v ≡ w → ⊥) → IsWorkerIn b H w x → IsWorkerIn b G w x) → IsWorkerIn b G v y → IsReplayed b G (slice_set xs v y)
+replayed-set : (b : Base) (H G : List Tried) (xs : List ReplayWorker) (v : ℕ) (y : ReplayWorker) → IsReplayed b H xs → v < b.options.workers → AreLegal b 1 G
+    → ((w : ℕ) (x : ReplayWorker) → (v ≡ w → ⊥) → IsWorkerIn b H w x → IsWorkerIn b G w x) → IsWorkerIn b G v y → IsReplayed b G (slice_set xs v y)
 replayed-set b H G xs v y kept known legal others own = record {
   base = kept.base;
   legal = legal;
@@ -158,7 +158,7 @@ replayed-set b H G xs v y kept known legal others own = record {
 }
 
 -- the worker's entry was added, or nothing was
-pub replayed-by : (b c : Base) (H G : List Tried) (xs : List Worker) (e : Tried) (y : Worker) (result : Result (Unit {0}) Reason) → IsReplayed b H xs → e.worker < b.options.workers → c ≡ b
+pub replayed-by : (b c : Base) (H G : List Tried) (xs : List ReplayWorker) (e : Tried) (y : ReplayWorker) (result : Result (Unit {0}) Reason) → IsReplayed b H xs → e.worker < b.options.workers → c ≡ b
     → IsWorkerIn c G e.worker y → OnOk result (IsLegal b 1 H e) → OnOk result (G ≡ H ++ e ∷ []) → OnErr result (G ≡ H) → IsReplayed c G (slice_set xs e.worker y)
 replayed-by b c H G xs e y (Ok done) kept known base own legal added same =
     let ys = slice_set xs e.worker y in

@@ -12,10 +12,10 @@ use Rattle.ih_cellbook.specs.Keeping.{IsBase}
 use Rattle.ih_cellbook.specs.Offers.{HasSeenOwn}
 use Rattle.ih_cellbook.specs.Recorded.{Recorded}
 use Rattle.ih_cellbook.specs.Replicas.{IsReplicaIn}
-use Rattle.ih_replay.specs.declared.workers.Worker.{Worker}
+use Rattle.ih_replay.specs.declared.workers.ReplayWorker.{ReplayWorker}
 
 -- The worker's next attempt with its draw, what it must have seen, and a replica that stands for a part of the history.
-pub record IsWorkerIn (b : Base) (H : List Tried) (w : ℕ) (x : Worker) : Type 0 where
+pub record IsWorkerIn (b : Base) (H : List Tried) (w : ℕ) (x : ReplayWorker) : Type 0 where
   pub replica : IsReplicaIn b H x.replica
   pub own : x.replica.worker ≡ w
   pub attempt : try_after b.options (last_by w H) ≡ record { number = x.number; again = x.again }
@@ -26,7 +26,7 @@ pub record IsWorkerIn (b : Base) (H : List Tried) (w : ℕ) (x : Worker) : Type 
 
 -- The worker after an entry of its next attempt, at the place before `own_end`: it tries the draw again, or draws the
 -- next one.
-abbrev pub gone_on : Draft → Options → Worker → Tried → ℕ → Worker
+abbrev pub gone_on : Draft → Options → ReplayWorker → Tried → ℕ → ReplayWorker
 gone_on I o x e own_end =
     if is_retried o e then record x { again = x.again + 1; own_end = own_end }
     else record x {
@@ -38,14 +38,14 @@ gone_on I o x e own_end =
     }
 
 -- The history is legal, and each worker's own is kept.
-pub record IsReplayed (b : Base) (H : List Tried) (xs : List Worker) : Type 0 where
+pub record IsReplayed (b : Base) (H : List Tried) (xs : List ReplayWorker) : Type 0 where
   pub base : IsBase b
   pub legal : AreLegal b 1 H
   pub many : length xs ≡ b.options.workers
-  pub each : (w : ℕ) (x : Worker) → slice_get xs w ≡ Some x → IsWorkerIn b H w x
+  pub each : (w : ℕ) (x : ReplayWorker) → slice_get xs w ≡ Some x → IsWorkerIn b H w x
 
 -- What a replay keeps beside its book is of the search over that instance, start and options.
-pub record IsReplay (I : Draft) (P : Timetable) (o : Options) (v : Recorded) (xs : List Worker) : Type 0 where
+pub record IsReplay (I : Draft) (P : Timetable) (o : Options) (v : Recorded) (xs : List ReplayWorker) : Type 0 where
   pub instance : v.base.instance ≡ I
   pub start : v.base.start ≡ P
   pub options : v.base.options ≡ o

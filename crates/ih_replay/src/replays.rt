@@ -4,7 +4,7 @@
 //! in the search, a worker's replica stands for the entries that the worker had seen, and the book judges its offer.
 
 use crate::taking::{is_full, take_line};
-use crate::workers::{Worker, new_workers};
+use crate::workers::{ReplayWorker, new_workers};
 use ih_cellbook::Book;
 use ih_history::plan_at;
 use ih_journal::{Entry, JournalRefusal, Options, Reason};
@@ -22,7 +22,7 @@ pub struct Replay<'a> {
     options: Options,
     book: Book<'a>,
     // By number.
-    workers: Vec<Worker<'a>>,
+    workers: Vec<ReplayWorker<'a>>,
 }
 
 impl<'a> Model for Replay<'a> {

@@ -12,7 +12,7 @@ ghost use Rattle.ih_replay.specs.Keeping.{IsReplayed, IsWorkerIn};
 ghost use Rattle.ih_replay.specs.Refusals.{FitsIn, IsFirstOf, IsGoing, Passes, in_order, of_attempt, of_entry};
 ghost use Rattle.ih_replay.specs.Refusals.{of_offer, of_place};
 
-use crate::workers::Worker;
+use crate::workers::ReplayWorker;
 use ih_cellbook::Book;
 use ih_journal::{Entry, Options, Reason, Verdict, parse_line};
 use ih_plan::Move;
@@ -20,7 +20,7 @@ use ih_snapshot::Replica;
 use ih_tables::{Bill, Instance};
 
 /// Whether every worker has made all its attempts.
-pub(crate) fn is_full(book: &Book<'_>, options: &Options, workers: &[Worker<'_>]) -> bool
+pub(crate) fn is_full(book: &Book<'_>, options: &Options, workers: &[ReplayWorker<'_>]) -> bool
     requires options { options.now ≡ book.now.base.options }
     requires kept { IsReplayed book.now.base book.now.entries workers.now }
     ensures full { IsTrue result → (w : ℕ) → w < book.now.base.options.workers
@@ -76,7 +76,7 @@ fn is_same_verdict(a: &Verdict, b: &Verdict) -> bool
 }
 
 // Whether the worker can have seen as many entries as its entry says, its own last one among them.
-fn may_have_seen(book: &Book<'_>, worker: &Worker<'_>, entry: &Entry) -> bool
+fn may_have_seen(book: &Book<'_>, worker: &ReplayWorker<'_>, entry: &Entry) -> bool
     requires { IsWorkerIn book.now.base book.now.entries entry.now.worker worker.now }
     ensures yes { IsTrue result → (entry.now.seen ≤ length book.now.entries)
         × HasSeenOwn book.now.entries entry.now.worker entry.now.seen }
@@ -93,7 +93,7 @@ fn may_have_seen(book: &Book<'_>, worker: &Worker<'_>, entry: &Entry) -> bool
 fn check(
     options: &Options,
     book: &Book<'_>,
-    worker: &Worker<'_>,
+    worker: &ReplayWorker<'_>,
     entry: &Entry,
 ) -> Result<(), Reason>
     requires options { options.now ≡ book.now.base.options }
@@ -178,7 +178,7 @@ fn take_entry(
     inst: &Instance,
     options: &Options,
     book: &mut Book<'_>,
-    worker: &mut Worker<'_>,
+    worker: &mut ReplayWorker<'_>,
     entry: &Entry,
 ) -> Result<(), Reason>
     requires instance { inst.now.draft ≡ book.old.base.instance }
@@ -209,7 +209,7 @@ pub(crate) fn take_line(
     inst: &Instance,
     options: &Options,
     book: &mut Book<'_>,
-    workers: &mut [Worker<'_>],
+    workers: &mut [ReplayWorker<'_>],
     line: &[u8],
 ) -> Result<(), Reason>
     requires instance { inst.now.draft ≡ book.old.base.instance }

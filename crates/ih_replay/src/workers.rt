@@ -15,7 +15,7 @@ use std::alloc::{AllocError, Global};
 
 /// What is known of a worker beside the history.
 #[derive(Drop)]
-pub struct Worker<'a> {
+pub struct ReplayWorker<'a> {
     /// It stands for the entries that the worker had seen at its last one, or for more after a refusal.
     pub replica: Replica<'a>,
     /// The draws that follow `draw`.
@@ -37,15 +37,20 @@ fn is_retried(options: &Options, entry: &Entry) -> bool
     matches!(entry.verdict, Verdict::Stale { .. }) && entry.again < options.retries
 }
 
-impl<'a> Worker<'a> {
+impl<'a> ReplayWorker<'a> {
     /// A worker that has made no attempt, by its replica.
-    pub fn new(inst: &Instance, options: &Options, worker: u32, replica: Replica<'a>) -> Worker<'a>
+    pub fn new(
+        inst: &Instance,
+        options: &Options,
+        worker: u32,
+        replica: Replica<'a>,
+    ) -> ReplayWorker<'a>
         ensures { (b : Base) → b.instance ≡ inst.now.draft → b.options ≡ options.now
             → IsReplicaOf b [] replica.entry → replica.entry.worker ≡ worker → IsWorkerIn b [] worker result }
     {
         let mut stream = Stream::new(options.seed, worker);
         let draw = stream.draw(inst);
-        Worker {
+        ReplayWorker {
             replica,
             stream,
             draw,
@@ -79,7 +84,7 @@ pub fn new_workers<'a>(
     start: &Plan,
     options: &Options,
     freeze: u32,
-) -> Result<Vec<Worker<'a>>, AllocError>
+) -> Result<Vec<ReplayWorker<'a>>, AllocError>
     requires start { IsPlanOf inst.now.draft start.now }
     requires lawful { IsLawful options.now }
     ensures { IfOk result (λ xs. IsReplayed (base_with inst.entry.now.draft start.now options.now freeze) [] xs.items) }
@@ -87,7 +92,7 @@ pub fn new_workers<'a>(
     let mut workers = Vec::with_capacity(alloc, options.workers as usize)?;
     for worker in 0..options.workers {
         let replica = Replica::new(alloc, inst, start, options, freeze, worker)?;
-        workers.push(Worker::new(inst, options, worker, replica))?;
+        workers.push(ReplayWorker::new(inst, options, worker, replica))?;
     }
     Ok(workers)
 }

@@ -57,7 +57,7 @@ fn fault(_: io::Error) -> WriteError {
 }
 
 // Writes a new file and gives it its permissions, if any are given. The file is closed then.
-fn fill<F: io::Write + OpenFile + Drop>(
+fn write_part<F: io::Write + OpenFile + Drop>(
     mut file: F,
     permissions: Option<Permissions>,
     bytes: &[u8],
@@ -78,7 +78,7 @@ fn replace_by<R: Files>(
     permissions: Option<Permissions>,
     bytes: &[u8],
 ) -> Result<(), WriteError> {
-    let mut result = fill(file, permissions, bytes);
+    let mut result = write_part(file, permissions, bytes);
     if result.is_ok() {
         result = fs::rename(rt, new_name, name).map_err(fault);
     }

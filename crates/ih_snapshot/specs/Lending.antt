@@ -6,9 +6,9 @@ use mathlib.Core.Option.{none}
 use mir.Syntax.{named}
 use Rattle.ih_cellbook.specs.Snapshot.{Snapshot}
 use Rattle.ih_snapshot.specs.contracts.replicas.Replica.{the_row}
-use Rattle.ih_cellbook.specs.declared.kinds.Logged.{Ghosts as LoggedGhosts}
-use Rattle.ih_cellbook.specs.declared.kinds.Attempted.{Ghosts as AttemptedGhosts}
-use Rattle.ih_cellbook.specs.declared.kinds.Offers.{Ghosts as OffersGhosts}
+use Rattle.ih_cellbook.specs.declared.entry_kinds.Logged.{Ghosts as LoggedGhosts}
+use Rattle.ih_cellbook.specs.declared.entry_kinds.Attempted.{Ghosts as AttemptedGhosts}
+use Rattle.ih_cellbook.specs.declared.entry_kinds.Offers.{Ghosts as OffersGhosts}
 
 -- P holds of the replica then. `named 0` is the place of the replica's lifetime in the signature.
 abbrev pub RestsAs : (E A O : RattleType) → LoggedGhosts E.Denot A.Denot O.Denot → AttemptedGhosts A.Denot

@@ -203,7 +203,7 @@ impl<'a, E: Logged> Replica<'a, E> {
         ensures made { self.new ≡ record self.old { last = offer_of self.old number (E.Attempt.moves attempt.now) } }
         ensures within { IsWithin (10 ^ 11) self.new.last.price }
     {
-        let compared = self.fill(attempt, number);
+        let compared = self.price_into_last(attempt, number);
         self.read(attempt, compared);
     }
 
@@ -213,13 +213,13 @@ impl<'a, E: Logged> Replica<'a, E> {
         ensures made { self.new ≡ record self.old { last = priced_of self.old number (E.Attempt.moves attempt.now) } }
         ensures within { IsWithin (10 ^ 11) self.new.last.price }
     {
-        let _compared = self.fill(attempt, number);
+        let _compared = self.price_into_last(attempt, number);
         self.read(attempt, true);
     }
 
     // Makes the offer for an attempt of this number the last one, without cells. Answers whether its verdict rests on
     // them.
-    fn fill(&mut self, attempt: &E::Attempt, number: u32) -> bool
+    fn price_into_last(&mut self, attempt: &E::Attempt, number: u32) -> bool
         requires { AreMoves self.old.base.instance (E.Attempt.moves attempt.now) }
         ensures made { self.new
             ≡ record self.old { last = offer_with self.old number (E.Attempt.moves attempt.now) [] } }
@@ -237,7 +237,7 @@ impl<'a, E: Logged> Replica<'a, E> {
             &mut self.writes,
         );
         self.last
-            .fill(self.worker, number, self.seen, attempt, &price, frozen);
+            .become_offer(self.worker, number, self.seen, attempt, &price, frozen);
         is_compared(self.inst, &self.options, frozen, number, &price)
     }
 

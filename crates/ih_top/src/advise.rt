@@ -8,7 +8,7 @@ ghost use Rattle.ih_top.specs.Advise.{AdviseEnds};
 ghost use Rattle.ih_answers.specs.Answers.{Answers, HasShelfCause, IsSaid};
 
 use ih_advise::advice_text;
-use ih_answers::{Answer, Status, out_of_memory, read_inputs};
+use ih_answers::{Answer, Status, out_of_memory, read_or_answer};
 use ih_inputs::Inputs;
 use ih_shelf::{Gate, Shelf};
 use ih_words::Advise;
@@ -56,7 +56,7 @@ pub fn advise<R: Files + Threads + Wait + Sync, S: Shelf, G: Gate>(
     ensures cause { HasShelfCause S.Shelf shelf.old shelf.new result.status }
     ensures kept { S.names shelf.new ≡ S.names shelf.old }
 {
-    match read_inputs(rt, alloc, call.instance, Some(call.solution), shelf) {
+    match read_or_answer(rt, alloc, call.instance, Some(call.solution), shelf) {
         Ok(inputs) => advised(rt, alloc, call, &inputs, gate),
         Err(answer) => answer,
     }

@@ -9,7 +9,7 @@ ghost use Rattle.ih_answers.specs.Answers.{Answers, HasShelfCause, IsSaid};
 ghost use Rattle.ih_top.specs.Check.{checked_status};
 ghost use Rattle.ih_top.specs.{Check.CheckEnds};
 
-use ih_answers::{Answer, Status, out_of_memory, read_inputs};
+use ih_answers::{Answer, Status, out_of_memory, read_or_answer};
 use ih_inputs::Inputs;
 use ih_shelf::Shelf;
 use ih_validate::{bill, report};
@@ -43,7 +43,7 @@ pub fn check<R: Files, S: Shelf>(rt: &R, alloc: Global, call: &Check<'_>, shelf:
     ensures cause { HasShelfCause S.Shelf shelf.old shelf.new result.status }
     ensures kept { S.names shelf.new ≡ S.names shelf.old }
 {
-    match read_inputs(rt, alloc, call.instance, Some(call.solution), shelf) {
+    match read_or_answer(rt, alloc, call.instance, Some(call.solution), shelf) {
         Ok(inputs) => checked(alloc, &inputs),
         Err(answer) => answer,
     }

@@ -14,7 +14,7 @@ use crate::limits::MAX_JOURNAL;
 use crate::outcome::{Outcome, headless, write_outcome};
 use crate::replay::replay_lines;
 use crate::salvage::salvage_lines;
-use ih_answers::{Answer, Role, out_of_memory, read_inputs, unread_file};
+use ih_answers::{Answer, Role, out_of_memory, read_or_answer, unread_file};
 use ih_desk::Given;
 use ih_inputs::Inputs;
 use ih_shelf::Shelf;
@@ -82,7 +82,7 @@ pub fn take_journal<R: Files + Threads + Wait + Sync, S: Shelf>(
         (JournalUseEnds journal_use (replay_call call.now) (S.names shelf.old) (S.names shelf.new)) result }
     ensures cause { HasShelfCause S.Shelf shelf.old shelf.new result.status }
 {
-    let inputs = match read_inputs(rt, alloc, call.instance, call.start.file, shelf) {
+    let inputs = match read_or_answer(rt, alloc, call.instance, call.start.file, shelf) {
         Ok(inputs) => inputs,
         Err(answer) => return answer,
     };

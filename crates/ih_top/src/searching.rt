@@ -16,7 +16,7 @@ use crate::rounds_output::make_rounds_output;
 use crate::solve::make_output;
 use crate::starts::begin_search;
 use crate::writer::write_made;
-use ih_answers::{Answer, read_inputs};
+use ih_answers::{Answer, read_or_answer};
 use ih_chain::run_chains;
 use ih_desk::Given;
 use ih_inputs::Inputs;
@@ -39,7 +39,7 @@ pub enum Method {
 }
 
 // All that the search makes.
-fn make<R: Threads + Wait + Sync, G: Gate>(
+fn make_by<R: Threads + Wait + Sync, G: Gate>(
     rt: &R,
     alloc: Global,
     method: Method,
@@ -84,7 +84,7 @@ fn search_from<R: Threads + Wait + Sync, G: Gate>(
         options: call.options,
         freeze: call.start.freeze,
     };
-    make(rt, alloc, method, &given, gate)
+    make_by(rt, alloc, method, &given, gate)
 }
 
 /// Reads the instance and the start, searches, and writes the journal and the solution of the best: of rounds all their
@@ -103,7 +103,7 @@ pub fn search_by<R: Files + Threads + Wait + Sync, S: Shelf, G: Gate>(
     ensures ends { Answers (MethodEnds method (solve_call call.now) (S.names shelf.old) (S.names shelf.new)) result }
     ensures cause { HasShelfCause S.Shelf shelf.old shelf.new result.status }
 {
-    match read_inputs(rt, alloc, call.instance, call.start.file, shelf) {
+    match read_or_answer(rt, alloc, call.instance, call.start.file, shelf) {
         Ok(inputs) => {
             let made = search_from(rt, alloc, method, call, inputs, gate);
             write_made(rt, alloc, call, made, shelf)

@@ -54,5 +54,5 @@ pub fn search<'a, R: Threads + Wait + Sync, G: Gate>(
 {
     // For the proof alone: the freeze day has 32 bits.
     let _freeze = freeze_of(given);
-    ih_desk::search::<Replica<'a>, R, G>(rt, alloc, given, 1, gate)
+    ih_desk::search_at_desk::<Replica<'a>, R, G>(rt, alloc, given, 1, gate)
 }

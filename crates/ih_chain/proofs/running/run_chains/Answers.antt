@@ -7,8 +7,8 @@ use Rattle.ih_chain.proofs.entries.ChainOffer.TheSendSync.{the_send as offer_cro
 use Rattle.ih_chain.proofs.running.run_chains.Goals as goal
 
 -- all may cross threads, no chain is tried again or frozen, and none is longer than there is room for
-pub search-requires : goal.search-requires
-search-requires g c κs =
+pub search_at_desk-requires : goal.search_at_desk-requires
+search_at_desk-requires g c κs =
     let once = c.requires.once in (
       search (sendable, replica_crosses, offer_crosses) depth 20,
       (

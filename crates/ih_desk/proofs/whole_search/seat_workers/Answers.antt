@@ -3,7 +3,7 @@ use Rattle.std.specs.Prelude.{IfOk}
 use Rattle.std.specs.List.{AllZip}
 use Rattle.std.specs.Vec.Iter.{into_iter_items}
 use Rattle.ih_desk.specs.Searching.{base_given}
-use Rattle.ih_desk.specs.Searchers.{IsNew}
+use Rattle.ih_desk.specs.WorkerLoops.{IsNew}
 use Rattle.ih_desk.specs.Workers.{IsNewWorker}
 use Rattle.ih_desk.proofs.SeatLemmas.{zip-last}
 use Rattle.ih_desk.proofs.whole_search.seat_workers.Goals as goal

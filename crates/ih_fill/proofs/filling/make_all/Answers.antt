@@ -5,7 +5,7 @@ use Rattle.ih_fill.proofs.filling.make_all.Goals as goal
 pub loop-at-preserved : goal.loop-at-preserved
 loop-at-preserved c =
     let below = c.loop-at-test.true in
-    choices-more c.args.inst.now.draft c.args.scorer.now c.loop-at.scorer c.make.new.scorer c.args.choices.now c.loop-at.at _ (omega (arith, below)) c.loop-at.invariant c.make.ensures
+    choices-more c.args.inst.now.draft c.args.scorer.now c.loop-at.scorer c.make_choice.new.scorer c.args.choices.now c.loop-at.at _ (omega (arith, below)) c.loop-at.invariant c.make_choice.ensures
 
 pub returns : goal.returns
 returns c =

@@ -10,7 +10,7 @@ loop-at-preserved g c =
       | then-at-lt-DEALT w ↦ choices-more c.args.inst.now.draft c.args.scorer.now c.loop-at.scorer c.if-at-lt-DEALT.scorer c.args.choices.now c.loop-at.at _ (omega (arith, below)) c.loop-at.invariant
           (w.scorer-is ∙ w.make_dealt.ensures.made)
       | else-at-lt-DEALT w ↦ choices-more c.args.inst.now.draft c.args.scorer.now c.loop-at.scorer c.if-at-lt-DEALT.scorer c.args.choices.now c.loop-at.at _ (omega (arith, below)) c.loop-at.invariant
-          (w.scorer-is ∙ w.make.ensures)
+          (w.scorer-is ∙ w.make_choice.ensures)
     ]
 
 pub returns : goal.returns

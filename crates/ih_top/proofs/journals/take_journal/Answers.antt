@@ -10,7 +10,7 @@ use Rattle.ih_top.proofs.journals.take_journal.Goals as goal
 
 pub returns-in-Err-clause-ends : goal.returns-in-Err-clause-ends
 returns-in-Err-clause-ends g c =
-    unread-inputs c.args.journal_use (replay_call c.args.call.now) (g.S.Shelf.names c.args.shelf.now) (g.S.Shelf.names c.read_inputs.new.shelf)
+    unread-inputs c.args.journal_use (replay_call c.args.call.now) (g.S.Shelf.names c.args.shelf.now) (g.S.Shelf.names c.read_or_answer.new.shelf)
     c.in-Err.ensures.only.kept c.in-Err.answer c.in-Err.ensures.unread
 
 pub returns-in-Ok-journal_outcome-clause-ends : goal.returns-in-Ok-journal_outcome-clause-ends
@@ -18,7 +18,7 @@ returns-in-Ok-journal_outcome-clause-ends g c =
     let journal_use = c.args.journal_use in
     let r : ReplayCall = replay_call c.args.call.now in
     let old = g.S.Shelf.names c.args.shelf.now in
-    let mid = g.S.Shelf.names c.read_inputs.new.shelf in
+    let mid = g.S.Shelf.names c.read_or_answer.new.shelf in
     let new = g.S.Shelf.names c.write_outcome.new.shelf in
     let bytes = c.in-Ok-read.bytes in
     let o = c.in-Ok-journal_outcome.outcome in

@@ -26,5 +26,5 @@ returns-in-Ok-clause-ends g c =
 pub returns-in-Err-clause-ends : goal.returns-in-Err-clause-ends
 returns-in-Err-clause-ends g c =
     let old = g.S.Shelf.names c.args.shelf.now in
-    let new = g.S.Shelf.names c.read_inputs.new.shelf in
+    let new = g.S.Shelf.names c.read_or_answer.new.shelf in
     unread-by c.args.method (solve_call c.args.call.now) old new (told-same old new c.in-Err.ensures.only.kept) c.in-Err.answer c.in-Err.ensures.unread

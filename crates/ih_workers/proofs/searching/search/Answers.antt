@@ -6,8 +6,8 @@ use Rattle.ih_snapshot.proofs.replicas.Replica.TheSendSync.{the_send as replica_
 use Rattle.ih_workers.proofs.searching.search.Goals as goal
 
 -- all may cross threads, and every freeze day is one under which a move may be tried
-pub search-requires : goal.search-requires
-search-requires g c κs = (
+pub search_at_desk-requires : goal.search_at_desk-requires
+search_at_desk-requires g c κs = (
   search (sendable, replica_crosses, offer_crosses) depth 20,
   (
     search (sendable, entry_crosses) depth 20,

@@ -11,10 +11,10 @@ returns-clause-made g c =
     let n = c.args.number in
     let m = g.E.Attempt.Attempted.moves c.args.attempt.now in
     c.read.ensures
-    ∙ ap (λ (s : Snapshot). record s { last = record s.last { reads = record s.last.reads { pairs = if c.fill-compared.result then reads_of s m else s.last.reads.pairs } } })
-    c.fill-compared.ensures.made
-    ∙ ap (λ (t : Bool). record r { last = offer_with r n m (if t then reads_of r m else []) }) c.fill-compared.ensures.compared
+    ∙ ap (λ (s : Snapshot). record s { last = record s.last { reads = record s.last.reads { pairs = if c.price_into_last-compared.result then reads_of s m else s.last.reads.pairs } } })
+    c.price_into_last-compared.ensures.made
+    ∙ ap (λ (t : Bool). record r { last = offer_with r n m (if t then reads_of r m else []) }) c.price_into_last-compared.ensures.compared
 
 pub returns-clause-within : goal.returns-clause-within
 returns-clause-within g c =
-    subst (IsWithin (10 ^ 11)) (sym (ap (λ (s : Snapshot). s.last.price) c.read.ensures)) c.fill-compared.ensures.within
+    subst (IsWithin (10 ^ 11)) (sym (ap (λ (s : Snapshot). s.last.price) c.read.ensures)) c.price_into_last-compared.ensures.within

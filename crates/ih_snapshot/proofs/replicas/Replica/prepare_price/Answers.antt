@@ -8,8 +8,8 @@ pub returns-clause-made : goal.returns-clause-made
 returns-clause-made g c =
     let m = g.E.Attempt.Attempted.moves c.args.attempt.now in
     c.read.ensures
-    ∙ ap (λ (s : Snapshot). record s { last = record s.last { reads = record s.last.reads { pairs = reads_of s m } } }) c.fill-compared.ensures.made
+    ∙ ap (λ (s : Snapshot). record s { last = record s.last { reads = record s.last.reads { pairs = reads_of s m } } }) c.price_into_last-compared.ensures.made
 
 pub returns-clause-within : goal.returns-clause-within
 returns-clause-within g c =
-    subst (IsWithin (10 ^ 11)) (sym (ap (λ (s : Snapshot). s.last.price) c.read.ensures)) c.fill-compared.ensures.within
+    subst (IsWithin (10 ^ 11)) (sym (ap (λ (s : Snapshot). s.last.price) c.read.ensures)) c.price_into_last-compared.ensures.within
