@@ -8,7 +8,7 @@ use Rattle.ih_tables.specs.declared.bills.Bill.{Bill}
 use Rattle.ih_tables.specs.declared.drafts.Draft.{Draft}
 use Rattle.ih_plan.specs.Timetable.{Timetable}
 use Rattle.ih_plan.specs.BillOf.{bill_of}
-use Rattle.ih_improve.specs.declared.workers.Worker.{Worker}
+use Rattle.ih_improve.specs.declared.workers.ImproveWorker.{ImproveWorker}
 use Rattle.ih_improve.specs.Better.{best_of, better_of}
 use Rattle.ih_improve.specs.Following.{IsNoDearer, MayFollow}
 use Rattle.ih_improve.specs.Improving.{Improving, Leads, led_to, setout}
@@ -34,7 +34,7 @@ written-back n new old len all =
     take-append-le n new (drop (length new) old) (omega (arith, len, all)) ∙ take_all n new (omega (arith, len, all))
 
 -- one worker more
-pub best-more : (I : Draft) (hard : ℕ) (P : Timetable) (ws : List Worker) (i : ℕ) (x : Worker) → i < length ws → x ≡ get_or ws i x
+pub best-more : (I : Draft) (hard : ℕ) (P : Timetable) (ws : List ImproveWorker) (i : ℕ) (x : ImproveWorker) → i < length ws → x ≡ get_or ws i x
     → best_of I hard P (map best_met (take (i + 1) ws)) ≡ better_of I hard (best_of I hard P (map best_met (take i ws))) (best_met x)
 best-more I hard P ws i x h is =
     ap (λ vs. best_of I hard P (map best_met vs)) (take_more ws i x h ∙ ap (λ w. take i ws ++ w ∷ []) (sym is))
@@ -42,7 +42,7 @@ best-more I hard P ws i x h is =
     ∙ fold_push (better_of I hard) P (map best_met (take i ws)) (best_met x))
 
 -- what a round begins with
-pub begins : (v : Improving) (bill : Bill) (ws : List Worker) → IsKeeping v bill ws → v.rounds < v.settings.rounds → IsSetout (setout v) bill
+pub begins : (v : Improving) (bill : Bill) (ws : List ImproveWorker) → IsKeeping v bill ws → v.rounds < v.settings.rounds → IsSetout (setout v) bill
 begins v bill ws keeping more = record {
   lawful = keeping.sound.lawful;
   round = more;
@@ -51,9 +51,9 @@ begins v bill ws keeping more = record {
   bill_is = keeping.bill_is;
 }
 
-module _ (v : Improving) (bill : Bill) (old new : List Worker) (keeping : IsKeeping v bill old) (len : length new ≡ length old)
-    (same : (k : ℕ) (d : Worker) → k < length old → (slice_index_or new k d).walker.instance ≡ v.instance)
-    (left : (k : ℕ) (d : Worker) → k < length old → Leaves (setout v) k (best_met (slice_index_or new k d))) where
+module _ (v : Improving) (bill : Bill) (old new : List ImproveWorker) (keeping : IsKeeping v bill old) (len : length new ≡ length old)
+    (same : (k : ℕ) (d : ImproveWorker) → k < length old → (slice_index_or new k d).walker.instance ≡ v.instance)
+    (left : (k : ℕ) (d : ImproveWorker) → k < length old → Leaves (setout v) k (best_met (slice_index_or new k d))) where
   pub all-of : All (IsOf v.instance) new
   all-of = all-each (IsOf v.instance) new (λ k d h. same k d (omega (arith, h, len)))
 
@@ -70,7 +70,7 @@ module _ (v : Improving) (bill : Bill) (old new : List Worker) (keeping : IsKeep
     best = best;
   }
     where
-      length-best : (ws : List Worker) → length (map best_met ws) ≡ length ws
+      length-best : (ws : List ImproveWorker) → length (map best_met ws) ≡ length ws
       length-best [] = refl
       length-best (w ∷ ws) = let rest = length-best ws in omega (arith, rest)
 

@@ -1,6 +1,7 @@
 pub mod Better
 pub mod Following
 pub mod Frozen
+pub mod Heats
 pub mod Improving
 pub mod Keeping
 pub mod Laws

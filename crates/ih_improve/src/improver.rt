@@ -12,7 +12,7 @@ use crate::legs::Leg;
 use crate::rounds::walk_all;
 use crate::settings::Settings;
 use crate::walkers::Walker;
-use crate::workers::Worker;
+use crate::workers::ImproveWorker;
 use ih_plan::Plan;
 use ih_tables::{Bill, Instance};
 use ih_validate::bill;
@@ -31,7 +31,7 @@ pub struct Improver<'a> {
     // The best timetable so far, and its bill.
     kept: Plan,
     bill: Bill,
-    workers: Vec<Worker<'a>>,
+    workers: Vec<ImproveWorker<'a>>,
 }
 
 impl<'a> Model for Improver<'a> {
@@ -66,7 +66,7 @@ fn new_workers<'a>(
     plan: &Plan,
     bill: &Bill,
     count: u32,
-) -> Result<Vec<Worker<'a>>, AllocError>
+) -> Result<Vec<ImproveWorker<'a>>, AllocError>
     requires plan { IsPlanOf inst.now.draft plan.now }
     requires bill { bill.now ≡ bill_of inst.now.draft plan.now }
     ensures count { IfOk result (λ ws. length ws.items ≡ count) }
@@ -74,7 +74,7 @@ fn new_workers<'a>(
 {
     let mut workers = Vec::with_capacity(alloc, count as usize)?;
     for _ in 0..count {
-        workers.push_reserved(Worker::new(alloc, inst, plan, bill)?);
+        workers.push_reserved(ImproveWorker::new(alloc, inst, plan, bill)?);
     }
     Ok(workers)
 }
@@ -99,7 +99,7 @@ fn take_better(inst: &Instance, hard: u32, walker: &Walker<'_>, kept: &mut Plan,
 fn take_best(
     inst: &Instance,
     hard: u32,
-    workers: &[Worker<'_>],
+    workers: &[ImproveWorker<'_>],
     kept: &mut Plan,
     bill: &mut Bill,
 ) -> bool

@@ -117,7 +117,7 @@ impl<'a> Walker<'a> {
 
     /// Makes moves in a row, with this price. Where they lead to a better timetable than any before, it is the best
     /// from then on.
-    pub(crate) fn make(&mut self, hard: u32, moves: &[Move], price: &Bill)
+    pub(crate) fn make_moves(&mut self, hard: u32, moves: &[Move], price: &Bill)
         requires hard { hard ≤ 1000000 }
         requires moves { AreMoves self.old.instance moves.now }
         requires price { price.now ≡ price_of_all self.old.instance self.old.now moves.now }

@@ -18,13 +18,13 @@ const ATTEMPTS_AT_A_HEAT: u64 = 1024;
 /// One of the workers of a search. What it goes by in a round is the round's `Leg` and its number: it shares nothing
 /// with the others, and asks no clock.
 #[derive(Drop)]
-pub(crate) struct Worker<'a> {
+pub(crate) struct ImproveWorker<'a> {
     pub(crate) walker: Walker<'a>,
     pub(crate) words: RandomWords,
     pub(crate) moves: Attempt,
 }
 
-impl<'a> Worker<'a> {
+impl<'a> ImproveWorker<'a> {
     ghost use Rattle.std.specs.Prelude.{◌≡◌, ◌≤◌, ◌^◌, IfOk};
     ghost use Rattle.ih_plan.specs.Timetable.{IsPlanOf};
     ghost use Rattle.ih_plan.specs.BillOf.{bill_of};
@@ -36,12 +36,12 @@ impl<'a> Worker<'a> {
         inst: &'a Instance,
         plan: &Plan,
         bill: &Bill,
-    ) -> Result<Worker<'a>, AllocError>
+    ) -> Result<ImproveWorker<'a>, AllocError>
         requires plan { IsPlanOf inst.now.draft plan.now }
         requires bill { bill.now ≡ bill_of inst.now.draft plan.now }
         ensures { IfOk result (λ w. w.walker.instance ≡ inst.entry.now.draft) }
     {
-        Ok(Worker {
+        Ok(ImproveWorker {
             walker: Walker::new(alloc, inst, plan, bill)?,
             words: RandomWords::new(0, 0, 0),
             moves: Attempt::new(),
@@ -72,7 +72,7 @@ impl<'a> Worker<'a> {
         let score = score_of(inst, settings.hard, &price);
         let word = self.words.next();
         if accepts(score, heat, word) {
-            self.walker.make(settings.hard, moves, &price);
+            self.walker.make_moves(settings.hard, moves, &price);
         }
     }
 
@@ -93,7 +93,7 @@ impl<'a> Worker<'a> {
     }
 }
 
-impl<'a> Walks for Worker<'a> {
+impl<'a> Walks for ImproveWorker<'a> {
     ghost use Rattle.ih_improve.specs.Legs.{Leaves};
 
     ghost instance = { λ w. w.walker.instance };

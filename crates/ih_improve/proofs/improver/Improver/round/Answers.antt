@@ -1,6 +1,6 @@
 use Rattle.std.proofs.Common.{◌∙◌, ◌≡◌, ◌<◌, ℕ, List, ap, sym, subst, length, map, take, drop, ◌++◌}
 use Rattle.std.specs.Prelude.{slice_index_or}
-use Rattle.ih_improve.specs.declared.workers.Worker.{Worker}
+use Rattle.ih_improve.specs.declared.workers.ImproveWorker.{ImproveWorker}
 use Rattle.ih_improve.specs.Better.{best_of}
 use Rattle.ih_improve.specs.Following.{IsNoDearer}
 use Rattle.ih_improve.specs.Improving.{Improving, Leads, led_to, setout}
@@ -22,20 +22,20 @@ search g c = record {
 }
 
 -- its workers before and after
-abbrev workers : (g : Over) → After-take_best g → List Worker
+abbrev workers : (g : Over) → After-take_best g → List ImproveWorker
 workers g c = c.self.inside.workers.items
 
-abbrev later : (g : Over) → After-take_best g → List Worker
+abbrev later : (g : Over) → After-take_best g → List ImproveWorker
 later g c = c.walk_all.new.workers
 
 many : (g : Over) (c : After-take_best g) → length (later g c) ≡ length (workers g c)
 many g c = c.walk_all.auto.workers ∙ ap length c.as_mut_slice.ensures.value
 
-same : (g : Over) (c : After-take_best g) (k : ℕ) (d : Worker) → k < length (workers g c)
+same : (g : Over) (c : After-take_best g) (k : ℕ) (d : ImproveWorker) → k < length (workers g c)
     → (slice_index_or (later g c) k d).walker.instance ≡ (search g c).instance
 same g c k d h = c.walk_all.ensures.same k d (rw c.as_mut_slice.ensures.value h) ∙ ap (λ (s : Setout). s.instance) c.new-leg.ensures
 
-left : (g : Over) (c : After-take_best g) (k : ℕ) (d : Worker) → k < length (workers g c)
+left : (g : Over) (c : After-take_best g) (k : ℕ) (d : ImproveWorker) → k < length (workers g c)
     → Leaves (setout (search g c)) k (best_met (slice_index_or (later g c) k d))
 left g c k d h =
     subst (λ (s : Setout). Leaves s k (best_met (slice_index_or (later g c) k d))) c.new-leg.ensures

@@ -3,7 +3,7 @@ use Rattle.ih_tables.specs.declared.drafts.Draft.{Draft}
 use Rattle.ih_plan.specs.Series.{AreMoves, after_all}
 use Rattle.ih_journal.specs.Frozen.{KeepsFrozen}
 use Rattle.ih_improve.proofs.Underway.{underway-more}
-use Rattle.ih_improve.proofs.workers.Worker.attempt.Goals as goal
+use Rattle.ih_improve.proofs.workers.ImproveWorker.attempt.Goals as goal
 
 pub returns-then-accepts : goal.returns-then-accepts
 returns-then-accepts c =
@@ -16,7 +16,7 @@ returns-then-accepts c =
     let keeps = rw (c.instance-inst.ensures, c.start.ensures, c.settings-settings.ensures) at c.any_frozen.ensures in
     let frozen : KeepsFrozen s.instance s.start s.settings.freeze (after_all s.instance v.now ms) = keeps v.now c.if-any_frozen.false on.now on.frozen in
     let same = c.price-price.ensures.same in
-    let instance = rw same at c.make.ensures.instance in
-    let now = rw same at c.make.ensures.now in
-    let best = rw (same, c.settings-settings.ensures) at c.make.ensures.best in
-    underway-more s v c.make.new.self ms on inside frozen instance now best
+    let instance = rw same at c.make_moves.ensures.instance in
+    let now = rw same at c.make_moves.ensures.now in
+    let best = rw (same, c.settings-settings.ensures) at c.make_moves.ensures.best in
+    underway-more s v c.make_moves.new.self ms on inside frozen instance now best

@@ -5,7 +5,7 @@ use Rattle.ih_plan.specs.Series.{AreMoves, after_all, price_of_all}
 use Rattle.ih_costs.specs.Standing.{Standing}
 use Rattle.ih_improve.specs.Walking.{kept_with}
 use Rattle.ih_improve.proofs.WalkerBills.{best-after, best-within, bills-after, next-within, sum-small}
-use Rattle.ih_improve.proofs.walkers.Walker.make.Goals as goal
+use Rattle.ih_improve.proofs.walkers.Walker.make_moves.Goals as goal
 
 pub add-next-requires : goal.add-next-requires
 add-next-requires c =

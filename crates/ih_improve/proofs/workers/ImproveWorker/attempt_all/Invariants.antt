@@ -1,6 +1,6 @@
 use Rattle.std.proofs.Common.{◌≤◌, ◌^◌}
 use Rattle.ih_improve.specs.Walking.{IsUnderway}
-use Rattle.ih_improve.proofs.workers.Worker.attempt_all.Given as goal
+use Rattle.ih_improve.proofs.workers.ImproveWorker.attempt_all.Given as goal
 
 abbrev pub invariant-loop-number : goal.invariant-loop-number
 invariant-loop-number l = record { underway : IsUnderway l.leg l.self.walker; heat : l.heat ≤ 2 ^ 37 }
