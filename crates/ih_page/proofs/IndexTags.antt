@@ -15,7 +15,7 @@ placement : (I : Draft) (at : Placement) → Own (placement_text I at)
 unfolding placement_text
 placement I at = simp (by_pieces, room, day, theatre-name) refl
 
-place : (I : Draft) (o : Option Placement) → Own (place_text I o)
+pub place : (I : Draft) (o : Option Placement) → Own (place_text I o)
 place I None = refl
 place I (Some at) = placement I at
 

@@ -1,4 +1,5 @@
 pub mod Lines
+pub mod ListedLines
 pub mod Escapes
 pub mod Joins
 pub mod Magnitudes
@@ -9,13 +10,16 @@ pub mod NamesAndNumbers
 pub mod OwnTags
 pub mod SummaryTags
 pub mod LeftOutTags
+pub mod DayTags
 pub mod RoomTags
 pub mod SurgeryTags
 pub mod NursingTags
 pub mod WrongTags
 pub mod OverviewTags
 pub mod IndexTags
+pub mod ChangeTags
 pub mod PageTags
 pub mod Parts
 pub mod LinkPlaces
+pub mod ChangedPatients
 pub mod TagExamples

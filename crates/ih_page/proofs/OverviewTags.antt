@@ -1,5 +1,6 @@
 -- The tags of the overview are the page's own.
 use Rattle.std.proofs.Common.{ℕ, ◌+◌, ◌*◌, codes, refl, Option, Some, None}
+use Rattle.ih_dates.specs.declared.dates.Date.{Date}
 use Rattle.ih_tables.specs.declared.drafts.Draft.{Draft}
 use Rattle.ih_tables.specs.Works.{max_load}
 use Rattle.ih_plan.specs.Timetable.{Timetable}
@@ -8,12 +9,14 @@ use Rattle.ih_validate.specs.Surgery.{one_of}
 use Rattle.ih_validate.specs.declared.surgery.Resource.{Resource}
 use Rattle.ih_validate.specs.declared.surgery.Resource.TheVariants.{OfTheatre, OfSurgeon}
 use Rattle.ih_validate.specs.declared.surgery.ResourceKind.TheVariants.{Theatres}
+use Rattle.ih_page.specs.DayHeads.{day_head, heads_and_days}
 use Rattle.ih_page.specs.Html.{labelled}
-use Rattle.ih_page.specs.Rooms.{anchor_text, heads_and_days}
+use Rattle.ih_page.specs.Rooms.{anchor_text}
 use Rattle.ih_page.specs.Overview.{quarter_td, used_text, share_td, room_share, room_shares, surgery_share, surgery_shares, nurse_link, excess_text, above_text, above_of, above_td, above_row, rooms_overview, theatres_overview, nurses_overview, overview}
 use Rattle.ih_page.proofs.Scans.{Own, all-below, by_pieces}
 use Rattle.ih_page.proofs.NamesAndNumbers.{names_and_numbers}
-use Rattle.ih_page.proofs.RoomTags.{nurse-name, shift-name, day}
+use Rattle.ih_page.proofs.RoomTags.{nurse-name, shift-name}
+use Rattle.ih_page.proofs.DayTags.{day}
 use Rattle.ih_page.proofs.SurgeryTags.{resource}
 use Rattle.ih_page.proofs.WrongTags.{room}
 
@@ -52,23 +55,23 @@ unfolding above_row
 above-cells I P j =
     simp (by_pieces, shift-name, all-below (λ d. above_td I P (3 * d + j)) (λ d. above-cell I P (3 * d + j))) refl
 
-rooms : (I : Draft) (P : Timetable) → Own (rooms_overview I P)
+rooms : (I : Draft) (first : Option Date) (P : Timetable) → Own (rooms_overview I first P)
 unfolding rooms_overview heads_and_days
-rooms I P = simp (by_pieces, all-below (labelled (codes "<th>")) day, all-below (room_shares I P) (room-row I P)) refl
+rooms I first P = simp (by_pieces, all-below (day_head first (codes "<th>")) (day first), all-below (room_shares I P) (room-row I P)) refl
 
-theatres : (I : Draft) (P : Timetable) → Own (theatres_overview I P)
+theatres : (I : Draft) (first : Option Date) (P : Timetable) → Own (theatres_overview I first P)
 unfolding theatres_overview heads_and_days
-theatres I P =
+theatres I first P =
     simp (
       by_pieces,
-      all-below (labelled (codes "<th>")) day,
+      all-below (day_head first (codes "<th>")) (day first),
       all-below (λ t. surgery_shares I P (one_of Theatres t)) (λ t. surgery-row I P (one_of Theatres t)),
     ) refl
 
-nurses : (I : Draft) (P : Timetable) → Own (nurses_overview I P)
+nurses : (I : Draft) (first : Option Date) (P : Timetable) → Own (nurses_overview I first P)
 unfolding nurses_overview heads_and_days
-nurses I P = simp (by_pieces, all-below (labelled (codes "<th>")) day, all-below (above_row I P) (above-cells I P)) refl
+nurses I first P = simp (by_pieces, all-below (day_head first (codes "<th>")) (day first), all-below (above_row I P) (above-cells I P)) refl
 
-pub overview-own : (I : Draft) (P : Timetable) → Own (overview I P)
+pub overview-own : (I : Draft) (first : Option Date) (P : Timetable) → Own (overview I first P)
 unfolding overview
-overview-own I P = simp (by_pieces, rooms, theatres, nurses) refl
+overview-own I first P = simp (by_pieces, rooms, theatres, nurses) refl

@@ -1,6 +1,7 @@
 -- The tags of a page are its own.
 use Rattle.std.proofs.Common.{refl}
-use Rattle.std.specs.Prelude.{ℕ, List, ◌++◌, codes}
+use Rattle.std.specs.Prelude.{ℕ, List, ◌++◌, Option, codes}
+use Rattle.ih_dates.specs.declared.dates.Date.{Date}
 use Rattle.ih_tables.specs.declared.drafts.Draft.{Draft}
 use Rattle.ih_plan.specs.Timetable.{Timetable}
 use Rattle.ih_plan.specs.BillOf.{bill_of}
@@ -11,6 +12,7 @@ use Rattle.ih_page.specs.Page.{opening, jumps, top, tables, page_of}
 use Rattle.ih_page.proofs.Scans.{Own, by_pieces}
 use Rattle.ih_page.proofs.OwnTags.{own-tags}
 use Rattle.ih_page.proofs.SummaryTags.{verdict-of, cost-bar, summary-own}
+use Rattle.ih_page.proofs.ChangeTags.{changes-own}
 use Rattle.ih_page.proofs.OverviewTags.{overview-own}
 use Rattle.ih_page.proofs.IndexTags.{index-own}
 use Rattle.ih_page.proofs.WrongTags.{wrong-own}
@@ -20,19 +22,20 @@ use Rattle.ih_page.proofs.SurgeryTags.{surgery-own}
 use Rattle.ih_page.proofs.NursingTags.{nurses-own}
 
 -- a page behind its opening
-abbrev rest_of : Draft → Timetable → List ℕ
-rest_of I P = top I P ++ (summary I.weights (bill_of I P) ++ (wrong_text I P ++ (tables I P ++ codes "</main>\n")))
+abbrev rest_of : Draft → Option Date → Option Timetable → Timetable → List ℕ
+rest_of I first older P =
+    top I first older P ++ (summary I.weights (bill_of I P) ++ (wrong_text I P ++ (tables I first P ++ codes "</main>\n")))
 
-rest-own : (I : Draft) (P : Timetable) → Own (rest_of I P)
+rest-own : (I : Draft) (first : Option Date) (older : Option Timetable) (P : Timetable) → Own (rest_of I first older P)
 unfolding top jumps tables
-rest-own I P =
-    simp (by_pieces, verdict-of, cost-bar, overview-own, summary-own, wrong-own, left-out-own, rooms-own, surgery-own, nurses-own, index-own) refl
+rest-own I first older P =
+    simp (by_pieces, verdict-of, cost-bar, changes-own, overview-own, summary-own, wrong-own, left-out-own, rooms-own, surgery-own, nurses-own, index-own) refl
 
-pub tags-own : (I : Draft) (P : Timetable) → TagsAreOwn I P
+pub tags-own : (I : Draft) (first : Option Date) (older : Option Timetable) (P : Timetable) → TagsAreOwn I first older P
 unfolding page_of opening
-tags-own I P = record {
-  rest = rest_of I P;
+tags-own I first older P = record {
+  rest = rest_of I first older P;
   page = refl;
   begins = refl;
-  own = own-tags (rest_of I P) (rest-own I P);
+  own = own-tags (rest_of I first older P) (rest-own I first older P);
 }

@@ -1,6 +1,7 @@
 -- The tags of the rooms are the page's own.
 use Rattle.std.proofs.Common.{ℕ, ◌+◌, ◌*◌, Bool, true, false, List, [], codes, refl, Option, Some, None}
 use Rattle.std.specs.Prelude.{◌==◌, slice_get, if◌then◌else◌}
+use Rattle.ih_dates.specs.declared.dates.Date.{Date}
 use Rattle.ih_tables.specs.declared.drafts.Draft.{Draft}
 use Rattle.ih_tables.specs.declared.drafts.Nurse.{Nurse}
 use Rattle.ih_tables.specs.declared.drafts.Occupant.{Occupant}
@@ -11,10 +12,12 @@ use Rattle.ih_tables.specs.declared.drafts.Theatre.{Theatre}
 use Rattle.ih_tables.specs.Sizes.{patient_count}
 use Rattle.ih_plan.specs.declared.moves.Placement.{Placement}
 use Rattle.ih_plan.specs.Timetable.{Timetable, stay_of}
+use Rattle.ih_page.specs.DayHeads.{day_head, heads_and_days}
 use Rattle.ih_page.specs.Html.{isolated, labelled, numbered}
-use Rattle.ih_page.specs.Rooms.{age_name, theatre_name, surgeon_name, shift_type_name, nurse_name, wide_td, delay_td, bar_td, bar_text, is_first_gender, patient_tag, occupant_tag, mandatory_mark, person_tds, patient_head, patient_row, admitted_rows, legend, occupant_row, patient_in, occupant_in, marked, anchor_text, td_at, count_td, nurse_td, shift_row, room_title, heads_and_days, room_head, count_row, person_rows, room_text, rooms_text}
+use Rattle.ih_page.specs.Rooms.{age_name, theatre_name, surgeon_name, shift_type_name, nurse_name, wide_td, delay_td, bar_td, bar_text, is_first_gender, patient_tag, occupant_tag, mandatory_mark, person_tds, patient_head, patient_row, admitted_rows, legend, occupant_row, patient_in, occupant_in, marked, anchor_text, td_at, count_td, nurse_td, shift_row, room_title, room_head, count_row, person_rows, room_text, rooms_text}
 use Rattle.ih_page.proofs.Scans.{Own, all-below, if-any, by_pieces}
 use Rattle.ih_page.proofs.NamesAndNumbers.{name, names_and_numbers}
+use Rattle.ih_page.proofs.DayTags.{day}
 
 -- names
 
@@ -113,19 +116,16 @@ shift : (I : Draft) (P : Timetable) (r j : ℕ) → Own (shift_row I P r j)
 shift I P r j =
     simp (by_pieces, shift-name, all-below (λ d. nurse_td I P r (3 * d + j)) (λ d. nurse I P r (3 * d + j))) refl
 
-pub day : (d : ℕ) → Own (labelled (codes "<th>") d)
-unfolding labelled
-day d = simp (by_pieces, names_and_numbers) refl
-
-head : (I : Draft) (r : ℕ) (a : Room) → Own (room_head I r a)
+head : (I : Draft) (first : Option Date) (r : ℕ) (a : Room) → Own (room_head I first r a)
 unfolding room_head heads_and_days room_title numbered labelled
-head I r a = simp (by_pieces, names_and_numbers, all-below (labelled (codes "<th>")) day) refl
+head I first r a =
+    simp (by_pieces, names_and_numbers, all-below (day_head first (codes "<th>")) (day first)) refl
 
-room : (I : Draft) (P : Timetable) (r : ℕ) → Own (room_text I P r)
+room : (I : Draft) (first : Option Date) (P : Timetable) (r : ℕ) → Own (room_text I first P r)
 unfolding room_text
-room I P r =
-    simp (by_pieces, if-any (room_head I r) (head I r), persons, count-row, all-below (shift_row I P r) (shift I P r)) refl
+room I first P r =
+    simp (by_pieces, if-any (room_head I first r) (head I first r), persons, count-row, all-below (shift_row I P r) (shift I P r)) refl
 
-pub rooms-own : (I : Draft) (P : Timetable) → Own (rooms_text I P)
+pub rooms-own : (I : Draft) (first : Option Date) (P : Timetable) → Own (rooms_text I first P)
 unfolding rooms_text legend
-rooms-own I P = simp (by_pieces, all-below (room_text I P) (room I P)) refl
+rooms-own I first P = simp (by_pieces, all-below (room_text I first P) (room I first P)) refl

@@ -1,5 +1,6 @@
 -- The tags of theatres and surgeons are the page's own.
-use Rattle.std.proofs.Common.{ℕ, codes, refl}
+use Rattle.std.proofs.Common.{ℕ, codes, refl, Option}
+use Rattle.ih_dates.specs.declared.dates.Date.{Date}
 use Rattle.ih_tables.specs.declared.drafts.Draft.{Draft}
 use Rattle.ih_tables.specs.declared.drafts.Patient.{Patient}
 use Rattle.ih_plan.specs.Timetable.{Timetable}
@@ -8,12 +9,14 @@ use Rattle.ih_validate.specs.declared.surgery.Resource.TheVariants.{OfTheatre, O
 use Rattle.ih_validate.specs.Surgery.{one_of}
 use Rattle.ih_validate.specs.declared.surgery.ResourceKind.{ResourceKind}
 use Rattle.ih_validate.specs.declared.surgery.ResourceKind.TheVariants.{Theatres, Surgeons}
-use Rattle.ih_page.specs.Html.{labelled, numbered}
-use Rattle.ih_page.specs.Rooms.{marked, anchor_text, td_at, heads_and_days}
+use Rattle.ih_page.specs.DayHeads.{day_head, heads_and_days}
+use Rattle.ih_page.specs.Html.{numbered}
+use Rattle.ih_page.specs.Rooms.{marked, anchor_text, td_at}
 use Rattle.ih_page.specs.Surgery.{resource_name, percent_text, minutes_text, name_link, operation, surgery_td, surgery_row, heads_of, surgery_text}
 use Rattle.ih_page.proofs.Scans.{Own, all-below, if-any, by_pieces}
 use Rattle.ih_page.proofs.NamesAndNumbers.{names_and_numbers}
-use Rattle.ih_page.proofs.RoomTags.{theatre-name, surgeon-name, day}
+use Rattle.ih_page.proofs.RoomTags.{theatre-name, surgeon-name}
+use Rattle.ih_page.proofs.DayTags.{day}
 
 pub resource : (I : Draft) (w : Resource) → Own (resource_name I w)
 resource I (OfTheatre t) = theatre-name I t.0
@@ -41,12 +44,12 @@ heads : (kind : ResourceKind) → Own (heads_of kind)
 heads Theatres = refl
 heads Surgeons = refl
 
-pub surgery-own : (I : Draft) (P : Timetable) (kind : ResourceKind) → Own (surgery_text I P kind)
+pub surgery-own : (I : Draft) (first : Option Date) (P : Timetable) (kind : ResourceKind) → Own (surgery_text I first P kind)
 unfolding surgery_text heads_and_days
-surgery-own I P kind =
+surgery-own I first P kind =
     simp (
       by_pieces,
       heads kind,
-      all-below (labelled (codes "<th>")) day,
+      all-below (day_head first (codes "<th>")) (day first),
       all-below (λ i. surgery_row I P (one_of kind i)) (λ i. row I P (one_of kind i)),
     ) refl

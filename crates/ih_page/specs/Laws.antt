@@ -1,7 +1,8 @@
 -- Laws of pages.
-use Rattle.std.specs.Prelude.{ℕ, ◌≡◌, ◌==◌, ◌||◌, not, pos, Bool, true, List, [], ◌∷◌, ◌++◌, codes, length, take, slice_index, sum_by}
+use Rattle.std.specs.Prelude.{ℕ, ◌≡◌, ◌==◌, ◌||◌, not, pos, Bool, true, Option, List, [], ◌∷◌, ◌++◌, codes, length, take, slice_index, sum_by}
 use Rattle.std.specs.List.{AllByRecursion, list_any}
 use Rattle.std.specs.Str.{bytes_eq}
+use Rattle.ih_dates.specs.declared.dates.Date.{Date}
 use Rattle.ih_tables.specs.declared.drafts.Draft.{Draft}
 use Rattle.ih_plan.specs.Timetable.{Timetable}
 use Rattle.ih_plan.specs.BillOf.{bill_of}
@@ -46,8 +47,8 @@ ListsSum I P = (l : Line) → IsLine l → pos (listed_sum I P l) ≡ number_in 
 -- A page is the opening, which is one for all timetables and has its few tags, and behind it a text whose tags are the
 -- page's own: so no text of a file, such as an id, makes a tag, and within one it could stand at most as digits where
 -- the page has a number.
-pub record TagsAreOwn (I : Draft) (P : Timetable) : Type 0 where
+pub record TagsAreOwn (I : Draft) (first : Option Date) (older : Option Timetable) (P : Timetable) : Type 0 where
   pub rest : List ℕ
-  pub page : page_of I P ≡ opening ++ rest
-  pub begins : tags (page_of I P) ≡ opening_tags ++ tags rest
+  pub page : page_of I first older P ≡ opening ++ rest
+  pub begins : tags (page_of I first older P) ≡ opening_tags ++ tags rest
   pub own : AllByRecursion (λ tag. is_own tag ≡ true) (tags rest)

@@ -1,4 +1,5 @@
 pub mod Html
+pub mod DayHeads
 pub mod Summary
 pub mod CostBar
 pub mod LeftOut
@@ -11,7 +12,9 @@ pub mod CellNames
 pub mod Overview
 pub mod PatientIndex
 pub mod Wrong
+pub mod Changes
 pub mod Page
 pub mod Tags
 pub mod Laws
 pub mod Places
+pub mod ChangeLaws

@@ -1,6 +1,7 @@
 -- The overview by days: how full rooms and theatres are, and which nurses are above their maximum. Each of its cells
 -- leads to its place below.
 use Rattle.std.specs.Prelude.{ℕ, ◌+◌, ◌-◌, ◌*◌, ◌/◌, List, [], ◌++◌, Option, Some, None, ◌==◌, nat_lt, codes, decimal, if◌then◌else◌}
+use Rattle.ih_dates.specs.declared.dates.Date.{Date}
 use Rattle.ih_tables.specs.declared.drafts.Draft.{Draft}
 use Rattle.ih_tables.specs.Sizes.{nurse_count, room_count}
 use Rattle.ih_tables.specs.Works.{max_load}
@@ -12,7 +13,8 @@ use Rattle.ih_validate.specs.declared.surgery.ResourceKind.TheVariants.{Theatres
 use Rattle.ih_validate.specs.declared.surgery.Resource.{Resource}
 use Rattle.ih_page.specs.Html.{labelled}
 use Rattle.ih_page.specs.CellNames.{room_name}
-use Rattle.ih_page.specs.Rooms.{anchor_text, head_count, heads_and_days, nurse_name, shift_type_name}
+use Rattle.ih_page.specs.DayHeads.{heads_and_days}
+use Rattle.ih_page.specs.Rooms.{anchor_text, head_count, nurse_name, shift_type_name}
 use Rattle.ih_page.specs.Surgery.{letter_of, number_of, percent_of, planned, resource_name}
 
 -- how full it is, in quarters: 0 where it is empty, 4 in the last quarter
@@ -84,23 +86,23 @@ above_row I P j =
     codes "<tr><th>"
     ++ (shift_type_name I j ++ (lines_below I.days (λ d. above_td I P (3 * d + j)) ++ codes "\n"))
 
-unfoldable pub rooms_overview : Draft → Timetable → List ℕ
-rooms_overview I P =
-    heads_and_days I
+unfoldable pub rooms_overview : Draft → Option Date → Timetable → List ℕ
+rooms_overview I first P =
+    heads_and_days I first
     (codes "<h2>Overview by days</h2>\n<div><table class=v><tr><th>rooms: persons of capacity") (codes "<th>")
     ++ lines_below (room_count I) (room_shares I P)
 
-unfoldable pub theatres_overview : Draft → Timetable → List ℕ
-theatres_overview I P =
-    heads_and_days I (codes "<tr><th>theatres: minutes used of minutes open") (codes "<th>")
+unfoldable pub theatres_overview : Draft → Option Date → Timetable → List ℕ
+theatres_overview I first P =
+    heads_and_days I first (codes "<tr><th>theatres: minutes used of minutes open") (codes "<th>")
     ++ lines_below (count_of I Theatres) (λ t. surgery_shares I P (one_of Theatres t))
 
-unfoldable pub nurses_overview : Draft → Timetable → List ℕ
-nurses_overview I P =
-    heads_and_days I (codes "<tr><th>nurses above their maximum workload") (codes "<th>")
+unfoldable pub nurses_overview : Draft → Option Date → Timetable → List ℕ
+nurses_overview I first P =
+    heads_and_days I first (codes "<tr><th>nurses above their maximum workload") (codes "<th>")
     ++ lines_below 3 (above_row I P)
 
 -- the overview: rooms, theatres and nurses, in one table with a column for each day
-unfoldable pub overview : Draft → Timetable → List ℕ
-overview I P =
-    rooms_overview I P ++ (theatres_overview I P ++ (nurses_overview I P ++ codes "</table></div>\n"))
+unfoldable pub overview : Draft → Option Date → Timetable → List ℕ
+overview I first P =
+    rooms_overview I first P ++ (theatres_overview I first P ++ (nurses_overview I first P ++ codes "</table></div>\n"))

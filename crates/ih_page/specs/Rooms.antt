@@ -2,6 +2,7 @@
 use Rattle.std.specs.Prelude.{ℕ, ◌+◌, ◌-◌, ◌*◌, ◌&&◌, Bool, true, false, min, List, [], ◌++◌, Option, Some, None, ◌==◌, nat_lt, codes, decimal, slice_get, if◌then◌else◌}
 use Rattle.std.specs.Option.{option_map_or}
 use Rattle.std.specs.Str.{bytes_eq}
+use Rattle.ih_dates.specs.declared.dates.Date.{Date}
 use Rattle.ih_tables.specs.declared.drafts.Draft.{Draft}
 use Rattle.ih_tables.specs.declared.drafts.Nurse.{Nurse}
 use Rattle.ih_tables.specs.declared.drafts.Occupant.{Occupant}
@@ -16,6 +17,7 @@ use Rattle.ih_plan.specs.Presence.{is_present}
 use Rattle.ih_plan.specs.Costs.{capacity_of}
 use Rattle.ih_plan.specs.Sums.{count_below}
 use Rattle.ih_validate.specs.Report.{lines_below}
+use Rattle.ih_page.specs.DayHeads.{heads_and_days}
 use Rattle.ih_page.specs.Html.{isolated, labelled, numbered}
 
 -- the name of an age group
@@ -162,13 +164,9 @@ room_title r a =
     numbered (codes "<section><h3 id=r") r (codes ">") a.id
     ++ (labelled (codes ", capacity ") a.capacity ++ codes "</h3>\n")
 
--- the heads of a table's columns, of which the last are the days, each with this tag
-unfoldable pub heads_and_days : Draft → List ℕ → List ℕ → List ℕ
-heads_and_days I heads tag = heads ++ (lines_below I.days (labelled tag) ++ codes "\n")
-
-unfoldable pub room_head : Draft → ℕ → Room → List ℕ
-room_head I r a =
-    room_title r a ++ heads_and_days I (codes "<div><table><tr><th>person<th>gender<th>age<th>theatre") (codes "<th>")
+unfoldable pub room_head : Draft → Option Date → ℕ → Room → List ℕ
+room_head I first r a =
+    room_title r a ++ heads_and_days I first (codes "<div><table><tr><th>person<th>gender<th>age<th>theatre") (codes "<th>")
 
 -- how many are in a room, by days
 unfoldable pub count_row : Draft → Timetable → ℕ → List ℕ
@@ -180,9 +178,9 @@ person_rows I P r =
     lines_below (occupant_count I) (occupant_in I r)
     ++ lines_below I.days (admitted_rows I P r)
 
-unfoldable pub room_text : Draft → Timetable → ℕ → List ℕ
-room_text I P r =
-    option_map_or (room_head I r) (slice_get I.rooms r) []
+unfoldable pub room_text : Draft → Option Date → Timetable → ℕ → List ℕ
+room_text I first P r =
+    option_map_or (room_head I first r) (slice_get I.rooms r) []
     ++ (person_rows I P r
     ++ (count_row I P r ++ (lines_below 3 (shift_row I P r) ++ codes "</table></div></section>\n")))
 
@@ -191,5 +189,6 @@ unfoldable pub legend : List ℕ
 legend =
     codes "<p>* mandatory; bar: days of stay and gender; &rarr; past the last day; thin line: delay since release</p>\n"
 
-unfoldable pub rooms_text : Draft → Timetable → List ℕ
-rooms_text I P = codes "<h2>Rooms by days</h2>\n" ++ (legend ++ lines_below (room_count I) (room_text I P))
+unfoldable pub rooms_text : Draft → Option Date → Timetable → List ℕ
+rooms_text I first P =
+    codes "<h2>Rooms by days</h2>\n" ++ (legend ++ lines_below (room_count I) (room_text I first P))

@@ -1,6 +1,7 @@
 -- Theatres and surgeons by days: the minutes of surgery beside their limit, and the patients.
-use Rattle.std.specs.Prelude.{ℕ, ◌*◌, ◌/◌, min, List, [], ◌++◌, ◌==◌, codes, decimal, slice_get, if◌then◌else◌}
+use Rattle.std.specs.Prelude.{ℕ, ◌*◌, ◌/◌, min, List, [], ◌++◌, ◌==◌, Option, codes, decimal, slice_get, if◌then◌else◌}
 use Rattle.std.specs.Option.{option_map_or}
+use Rattle.ih_dates.specs.declared.dates.Date.{Date}
 use Rattle.ih_tables.specs.declared.drafts.Draft.{Draft}
 use Rattle.ih_tables.specs.declared.drafts.Patient.{Patient}
 use Rattle.ih_tables.specs.Sizes.{patient_count}
@@ -14,7 +15,8 @@ use Rattle.ih_validate.specs.declared.surgery.ResourceKind.TheVariants.{Theatres
 use Rattle.ih_validate.specs.declared.surgery.Resource.{Resource}
 use Rattle.ih_validate.specs.declared.surgery.Resource.TheVariants.{OfTheatre, OfSurgeon}
 use Rattle.ih_page.specs.Html.{numbered}
-use Rattle.ih_page.specs.Rooms.{theatre_name, surgeon_name, marked, td_at, heads_and_days}
+use Rattle.ih_page.specs.DayHeads.{heads_and_days}
+use Rattle.ih_page.specs.Rooms.{theatre_name, surgeon_name, marked, td_at}
 
 -- the minutes of patient p's surgery, where it is there on day d
 abbrev pub minutes_of : Draft → Timetable → Resource → ℕ → ℕ → ℕ
@@ -81,7 +83,7 @@ heads_of Theatres = codes "<h2>Theatres by days, in minutes</h2>\n<div><table><t
 heads_of Surgeons = codes "<h2>Surgeons by days, in minutes</h2>\n<div><table><tr><th>surgeon"
 
 -- the table of the theatres, or of the surgeons
-unfoldable pub surgery_text : Draft → Timetable → ResourceKind → List ℕ
-surgery_text I P kind =
-    heads_and_days I (heads_of kind) (codes "<th>")
+unfoldable pub surgery_text : Draft → Option Date → Timetable → ResourceKind → List ℕ
+surgery_text I first P kind =
+    heads_and_days I first (heads_of kind) (codes "<th>")
     ++ (lines_below (count_of I kind) (λ i. surgery_row I P (one_of kind i)) ++ codes "</table></div>\n")

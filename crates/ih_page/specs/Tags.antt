@@ -52,7 +52,7 @@ opening_tags =
 -- number of the page's own.
 abbrev pub own_forms : List (List ℕ)
 own_forms =
-    codes "h9" ∷ codes "/h9" ∷ codes "h9 id=wrong" ∷ codes "h9 id=left" ∷ codes "h9 id=index" ∷ codes "section"
+    codes "h9" ∷ codes "/h9" ∷ codes "h9 id=wrong" ∷ codes "h9 id=left" ∷ codes "h9 id=index" ∷ codes "h9 id=changes" ∷ codes "section"
     ∷ codes "/section" ∷ codes "h9 id=r9" ∷ codes "p" ∷ codes "/p" ∷ codes "div" ∷ codes "/div" ∷ codes "table"
     ∷ codes "table class=s" ∷ codes "table class=v" ∷ codes "table class=c" ∷ codes "/table" ∷ codes "tr"
     ∷ codes "tr id=p9" ∷ codes "tr class=g id=p9" ∷ codes "tr class=q id=p9" ∷ codes "li id=p9" ∷ codes "b"

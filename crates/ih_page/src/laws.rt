@@ -1,8 +1,9 @@
 //! Laws of pages, on functions that do nothing.
 
-ghost use Rattle.std.specs.Prelude.{ℕ, List};
+ghost use Rattle.std.specs.Prelude.{ℕ, List, Option};
+ghost use Rattle.ih_dates.specs.declared.dates.Date.{Date};
 ghost use Rattle.ih_plan.specs.Timetable.{IsPlanOf, Timetable};
-ghost use Rattle.ih_page.specs.{Laws.ListsSum, Laws.NamesHaveNoTags, Laws.TagsAreOwn, Places.LinksLead};
+ghost use Rattle.ih_page.specs.{ChangeLaws.ChangesAreListed, Laws.ListsSum, Laws.NamesHaveNoTags, Laws.TagsAreOwn, Places.LinksLead};
 
 use ih_tables::Instance;
 
@@ -14,7 +15,8 @@ pub fn names_have_no_tags()
 
 /// Whatever the ids of the files hold, each tag of a page is one of the page's own.
 pub fn tags_are_own(_inst: &Instance)
-    ensures { (P : Timetable) → TagsAreOwn _inst.now.draft P }
+    ensures { (first : Option Date) (older : Option Timetable) (P : Timetable)
+        → TagsAreOwn _inst.now.draft first older P }
 {}
 
 /// The amounts that a list has, cell by cell, sum to the number of its line in the report.
@@ -22,8 +24,14 @@ pub fn lists_sum(_inst: &Instance)
     ensures { (P : Timetable) → ListsSum _inst.now.draft P }
 {}
 
-/// Each link of the overview and of the index leads to what it names: the cell or the row of that id stands in the
-/// page.
+/// Each link that names a cell, a patient or an occupant leads there: the cell or the row of that id stands in the page.
+/// Such are the links of the overview, of what is wrong, of what changed, of the surgeries and of the index.
 pub fn links_lead(_inst: &Instance)
-    ensures { (P : Timetable) → IsPlanOf _inst.now.draft P → LinksLead _inst.now.draft P }
+    ensures { (first : Option Date) (older : Option Timetable) (P : Timetable) → IsPlanOf _inst.now.draft P
+        → LinksLead _inst.now.draft first older P }
+{}
+
+/// The page since an older timetable lists exactly the patients whose day, room or theatre differ.
+pub fn changes_are_listed(_inst: &Instance)
+    ensures { (first : Option Date) (O P : Timetable) → ChangesAreListed _inst.now.draft first O P }
 {}

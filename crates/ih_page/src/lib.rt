@@ -3,7 +3,9 @@
 
 mod bill_lines;
 mod cell_names;
+mod changes;
 mod cost_bar;
+mod day_heads;
 mod laws;
 mod left_out;
 mod loads;
@@ -21,5 +23,5 @@ mod surgery;
 mod texts;
 mod wrong;
 
-pub use laws::{links_lead, lists_sum, names_have_no_tags, tags_are_own};
+pub use laws::{changes_are_listed, links_lead, lists_sum, names_have_no_tags, tags_are_own};
 pub use pages::page;

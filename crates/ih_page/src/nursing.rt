@@ -4,9 +4,9 @@ ghost use Rattle.std.specs.Prelude.{◌≡◌, ◌<◌, ◌++◌, OnOk};
 ghost use Rattle.ih_tables.specs.Sizes.{nurse_count, shift_count};
 ghost use Rattle.ih_page.specs.Nursing.{off_text, worked_text, load_text, load_td, nurse_head, nurse_row, nurses_text};
 
+use crate::day_heads::put_heads_and_days;
 use crate::loads::{given_rooms, load_of};
 use crate::names::{put_marked, put_td_at};
-use crate::rooms::put_heads_and_days;
 use crate::shown::Shown;
 use crate::texts::{Put, put, put_isolated, put_number};
 use ih_tables::{Nurse, NurseNo, Shift};
@@ -78,11 +78,11 @@ fn put_row(out: &mut Vec<u8>, shown: &Shown<'_>, n: u32) -> Put
 /// Appends the table of the nurses.
 #[tactic(auto, unfolding(crate::specs::Nursing::nurses_text))]
 pub fn put_nurses(out: &mut Vec<u8>, shown: &Shown<'_>) -> Put
-    ensures { OnOk result (out.new.items ≡ out.old.items ++ nurses_text shown.now.inst.now.draft shown.now.plan.now) }
+    ensures { OnOk result (out.new.items ≡ out.old.items ++ nurses_text shown.now.inst.now.draft shown.now.first shown.now.plan.now) }
 {
     put_heads_and_days(
         out,
-        shown.inst,
+        shown,
         "<h2>Nurses by shifts: workload of the maximum</h2>\n<div><table><tr><th>nurse<th>skill",
         "<th colspan=3>",
     )?;

@@ -9,10 +9,10 @@ ghost use Rattle.ih_page.specs.Overview.{rooms_overview, quarter_td, shade_td, s
 ghost use Rattle.ih_page.specs.Overview.{theatres_overview, used_text};
 
 use crate::cell_names::put_room;
+use crate::day_heads::put_heads_and_days;
 use crate::loads::load_of;
 use crate::names::{put_anchor, put_nurse, put_shift_type};
 use crate::presence::head_count;
-use crate::rooms::put_heads_and_days;
 use crate::shown::Shown;
 use crate::surgery::{letter_of, number_of, percent_of, planned, put_resource};
 use crate::texts::{Put, put, put_labelled, put_number};
@@ -226,11 +226,11 @@ fn put_above_row(out: &mut Vec<u8>, shown: &Shown<'_>, j: u32) -> Put
 #[tactic(auto, unfolding(crate::specs::Overview::rooms_overview))]
 fn put_rooms_overview(out: &mut Vec<u8>, shown: &Shown<'_>) -> Put
     ensures { OnOk result
-        (out.new.items ≡ out.old.items ++ rooms_overview shown.now.inst.now.draft shown.now.plan.now) }
+        (out.new.items ≡ out.old.items ++ rooms_overview shown.now.inst.now.draft shown.now.first shown.now.plan.now) }
 {
     put_heads_and_days(
         out,
-        shown.inst,
+        shown,
         "<h2>Overview by days</h2>\n<div><table class=v><tr><th>rooms: persons of capacity",
         "<th>",
     )?;
@@ -243,11 +243,11 @@ fn put_rooms_overview(out: &mut Vec<u8>, shown: &Shown<'_>) -> Put
 #[tactic(auto, unfolding(crate::specs::Overview::theatres_overview))]
 fn put_theatres_overview(out: &mut Vec<u8>, shown: &Shown<'_>) -> Put
     ensures { OnOk result
-        (out.new.items ≡ out.old.items ++ theatres_overview shown.now.inst.now.draft shown.now.plan.now) }
+        (out.new.items ≡ out.old.items ++ theatres_overview shown.now.inst.now.draft shown.now.first shown.now.plan.now) }
 {
     put_heads_and_days(
         out,
-        shown.inst,
+        shown,
         "<tr><th>theatres: minutes used of minutes open",
         "<th>",
     )?;
@@ -260,11 +260,11 @@ fn put_theatres_overview(out: &mut Vec<u8>, shown: &Shown<'_>) -> Put
 #[tactic(auto, unfolding(crate::specs::Overview::nurses_overview))]
 fn put_nurses_overview(out: &mut Vec<u8>, shown: &Shown<'_>) -> Put
     ensures { OnOk result
-        (out.new.items ≡ out.old.items ++ nurses_overview shown.now.inst.now.draft shown.now.plan.now) }
+        (out.new.items ≡ out.old.items ++ nurses_overview shown.now.inst.now.draft shown.now.first shown.now.plan.now) }
 {
     put_heads_and_days(
         out,
-        shown.inst,
+        shown,
         "<tr><th>nurses above their maximum workload",
         "<th>",
     )?;
@@ -277,7 +277,7 @@ fn put_nurses_overview(out: &mut Vec<u8>, shown: &Shown<'_>) -> Put
 /// Appends the overview: rooms, theatres and nurses, in one table with a column for each day.
 #[tactic(auto, unfolding(crate::specs::Overview::overview))]
 pub fn put_overview(out: &mut Vec<u8>, shown: &Shown<'_>) -> Put
-    ensures { OnOk result (out.new.items ≡ out.old.items ++ overview shown.now.inst.now.draft shown.now.plan.now) }
+    ensures { OnOk result (out.new.items ≡ out.old.items ++ overview shown.now.inst.now.draft shown.now.first shown.now.plan.now) }
 {
     put_rooms_overview(out, shown)?;
     put_theatres_overview(out, shown)?;

@@ -1,9 +1,11 @@
 //! The page of a timetable.
 
-ghost use Rattle.std.specs.Prelude.{◌≡◌, ◌++◌, OnOk, IfOk};
+ghost use Rattle.std.specs.Prelude.{◌≡◌, ◌++◌, OnOk, IfOk, IfSome, option_map};
+ghost use Rattle.ih_dates.specs.Calendar.{IsDate};
 ghost use Rattle.ih_plan.specs.Timetable.{IsPlanOf};
 ghost use Rattle.ih_page.specs.Page.{opening, jumps, top, tables, page_of};
 
+use crate::changes::put_changes_since;
 use crate::cost_bar::put_cost_bar;
 use crate::left_out::put_left_out;
 use crate::nursing::put_nurses;
@@ -16,6 +18,7 @@ use crate::surgery::put_surgery_of;
 use crate::texts::{Put, put};
 use crate::wrong::put_wrong;
 use ih_costs::Ledgers;
+use ih_dates::Date;
 use ih_plan::Plan;
 use ih_tables::Instance;
 use ih_validate::{ResourceKind, bill};
@@ -45,8 +48,9 @@ tr>th:first-child{position:sticky;left:0;background:var(--bg)}\n\
 .f2{background:var(--f2)}\n\
 .f3{background:var(--f3)}\n\
 .f4{background:var(--f4)}\n\
-.c{width:100%;table-layout:fixed}\n\
-.c td{white-space:normal;overflow:hidden;color:#000}\n\
+.c,.c tbody{display:block}\n\
+.c tr{display:flex;flex-wrap:wrap}\n\
+.c td{white-space:normal;box-sizing:border-box;min-width:7em;color:#000}\n\
 .c1{background:#56b4e9}\n\
 .c2{background:#e69f00}\n\
 .c3{background:#4cc39a}\n\
@@ -75,7 +79,7 @@ summary{font-weight:bold}\n\
 
 #[tactic(auto, unfolding(crate::specs::Page::tables))]
 fn put_tables(out: &mut Vec<u8>, shown: &Shown<'_>) -> Put
-    ensures { OnOk result (out.new.items ≡ out.old.items ++ tables shown.now.inst.now.draft shown.now.plan.now) }
+    ensures { OnOk result (out.new.items ≡ out.old.items ++ tables shown.now.inst.now.draft shown.now.first shown.now.plan.now) }
 {
     put_left_out(out, shown)?;
     put_rooms(out, shown)?;
@@ -94,23 +98,26 @@ fn jumps() -> &'static str
 }
 
 #[tactic(auto, unfolding(crate::specs::Page::top))]
-fn put_top(out: &mut Vec<u8>, priced: &Priced<'_>) -> Put
+fn put_top(out: &mut Vec<u8>, priced: &Priced<'_>, older: Option<&Plan>) -> Put
+    requires { IfSome older (λ o. IsPlanOf priced.now.shown.now.inst.now.draft o.now) }
     ensures { let shown = priced.now.shown.now in OnOk result
-        (out.new.items ≡ out.old.items ++ top shown.inst.now.draft shown.plan.now) }
+        (out.new.items ≡ out.old.items ++ top shown.inst.now.draft shown.first (option_map (λ o. o.now) older.entry) shown.plan.now) }
 {
     put_headline(out, priced.shown.inst, priced.bill)?;
     put_cost_bar(out, priced.shown.inst, priced.bill)?;
     put(out, jumps())?;
+    put_changes_since(out, priced, older)?;
     put_overview(out, priced.shown)
 }
 
 // Appends the whole page.
-fn put_page(alloc: Global, out: &mut Vec<u8>, priced: &Priced<'_>) -> Put
+fn put_page(alloc: Global, out: &mut Vec<u8>, priced: &Priced<'_>, older: Option<&Plan>) -> Put
+    requires { IfSome older (λ o. IsPlanOf priced.now.shown.now.inst.now.draft o.now) }
     ensures { let shown = priced.now.shown.now in OnOk result
-        (out.new.items ≡ out.old.items ++ page_of shown.inst.now.draft shown.plan.now) }
+        (out.new.items ≡ out.old.items ++ page_of shown.inst.now.draft shown.first (option_map (λ o. o.now) older.entry) shown.plan.now) }
 {
     put_opening(out)?;
-    put_top(out, priced)?;
+    put_top(out, priced, older)?;
     put_summary(out, priced.shown.inst, priced.bill)?;
     put_wrong(alloc, out, priced)?;
     put_tables(out, priced.shown)?;
@@ -120,31 +127,45 @@ fn put_page(alloc: Global, out: &mut Vec<u8>, priced: &Priced<'_>) -> Put
 // The page, where there are ledgers of the timetable.
 fn page_by(
     alloc: Global,
-    inst: &Instance,
-    plan: &Plan,
+    shown: &Shown<'_>,
+    older: Option<&Plan>,
     ledgers: &Ledgers<'_>,
 ) -> Result<Vec<u8>, AllocError>
-    requires plan { IsPlanOf inst.now.draft plan.now }
-    requires ledgers { ledgers.now ≡ record { instance = inst.now.draft; plan = plan.now } }
-    ensures { IfOk result (λ text. text.items ≡ page_of inst.now.draft plan.now) }
+    requires older { IfSome older (λ o. IsPlanOf shown.now.inst.now.draft o.now) }
+    requires ledgers { ledgers.now
+        ≡ record { instance = shown.now.inst.now.draft; plan = shown.now.plan.now } }
+    ensures { IfOk result (λ text. text.items
+        ≡ page_of shown.now.inst.now.draft shown.now.first (option_map (λ o. o.now) older.entry) shown.now.plan.now) }
 {
-    let shown = Shown { inst, plan };
-    let bill = bill(inst, plan);
+    let bill = bill(shown.inst, shown.plan);
     let priced = Priced {
-        shown: &shown,
+        shown,
         bill: &bill,
         ledgers,
     };
     let mut out = Vec::new(alloc);
-    put_page(alloc, &mut out, &priced)?;
+    put_page(alloc, &mut out, &priced, older)?;
     Ok(out)
 }
 
 /// The page of a timetable of the instance: one text of HTML that stands alone.
-pub fn page(alloc: Global, inst: &Instance, plan: &Plan) -> Result<Vec<u8>, AllocError>
-    requires { IsPlanOf inst.now.draft plan.now }
-    ensures { IfOk result (λ text. text.items ≡ page_of inst.now.draft plan.now) }
+///
+/// - Where the date of the first day is known, the columns of days have dates.
+/// - Where there is an older timetable, the page says what changed since.
+pub fn page(
+    alloc: Global,
+    inst: &Instance,
+    plan: &Plan,
+    first: Option<Date>,
+    older: Option<&Plan>,
+) -> Result<Vec<u8>, AllocError>
+    requires plan { IsPlanOf inst.now.draft plan.now }
+    requires first { IfSome first IsDate }
+    requires older { IfSome older (λ o. IsPlanOf inst.now.draft o.now) }
+    ensures { IfOk result
+        (λ text. text.items ≡ page_of inst.now.draft first (option_map (λ o. o.now) older.entry) plan.now) }
 {
     let ledgers = Ledgers::new(alloc, inst, plan)?;
-    page_by(alloc, inst, plan, &ledgers)
+    let shown = Shown { inst, plan, first };
+    page_by(alloc, &shown, older, &ledgers)
 }

@@ -2,7 +2,7 @@
 
 ghost use Rattle.std.specs.Prelude.{◌≡◌, ◌<◌, ◌++◌, OnOk};
 ghost use Rattle.ih_tables.specs.Sizes.{patient_count};
-ghost use Rattle.ih_plan.specs.Timetable.{IsPlacement, stay_of};
+ghost use Rattle.ih_plan.specs.Timetable.{IsPlacement, IsPlanOf, stay_of};
 ghost use Rattle.ih_page.specs.PatientIndex.{index_item, patient_index, place_text, placement_text};
 
 use crate::cell_names::put_room;
@@ -10,7 +10,7 @@ use crate::names::put_theatre;
 use crate::shown::Shown;
 use crate::surgery::put_link;
 use crate::texts::{Put, put, put_labelled};
-use ih_plan::Placement;
+use ih_plan::{Placement, Plan};
 use ih_tables::{Instance, PatientNo};
 
 #[tactic(auto, unfolding(crate::specs::PatientIndex::placement_text))]
@@ -25,14 +25,15 @@ fn put_placement(out: &mut Vec<u8>, inst: &Instance, at: Placement) -> Put
     put(out, "\n")
 }
 
-fn put_place(out: &mut Vec<u8>, shown: &Shown<'_>, p: u32) -> Put
-    requires patient { p < patient_count shown.now.inst.now.draft }
-    ensures { OnOk result
-        (out.new.items ≡ out.old.items ++ place_text shown.now.inst.now.draft (stay_of shown.now.plan.now p)) }
+/// Appends where the patient is in a timetable: its room, day and theatre, or that it is left out.
+pub fn put_place(out: &mut Vec<u8>, inst: &Instance, plan: &Plan, p: u32) -> Put
+    requires plan { IsPlanOf inst.now.draft plan.now }
+    requires patient { p < patient_count inst.now.draft }
+    ensures { OnOk result (out.new.items ≡ out.old.items ++ place_text inst.now.draft (stay_of plan.now p)) }
 {
-    match shown.plan.stay(PatientNo(p)) {
+    match plan.stay(PatientNo(p)) {
         None => put(out, "left out\n"),
-        Some(at) => put_placement(out, shown.inst, at),
+        Some(at) => put_placement(out, inst, at),
     }
 }
 
@@ -43,7 +44,7 @@ fn put_item(out: &mut Vec<u8>, shown: &Shown<'_>, p: u32) -> Put
     put(out, "<li>")?;
     put_link(out, shown.inst, p)?;
     put(out, ": ")?;
-    put_place(out, shown, p)
+    put_place(out, shown.inst, shown.plan, p)
 }
 
 /// Appends the index: each patient's room, day and theatre, and a link to where it stands.

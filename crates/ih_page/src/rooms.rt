@@ -6,9 +6,10 @@ ghost use Rattle.ih_plan.specs.Timetable.{IsPlacement, stay_of};
 ghost use Rattle.ih_page.specs.Rooms.{wide_td, gap_text, delay_td, delay_text, bar_end, bar_td, bar_text, person_tds};
 ghost use Rattle.ih_page.specs.Rooms.{is_first_gender, patient_tag, occupant_tag, mandatory_mark, patient_head};
 ghost use Rattle.ih_page.specs.Rooms.{patient_row, occupant_row, begins_in, patient_in, admitted_rows, occupant_in};
-ghost use Rattle.ih_page.specs.Rooms.{count_td, nurse_td, shift_row, heads_and_days, room_title, room_head, count_row};
+ghost use Rattle.ih_page.specs.Rooms.{count_td, nurse_td, shift_row, room_title, room_head, count_row};
 ghost use Rattle.ih_page.specs.Rooms.{person_rows, room_text, legend, rooms_text};
 
+use crate::day_heads::put_heads_and_days;
 use crate::names::{put_age, put_marked, put_nurse, put_shift_type, put_td_at, put_theatre};
 use crate::presence::head_count;
 use crate::shown::Shown;
@@ -227,18 +228,6 @@ fn put_shift(out: &mut Vec<u8>, shown: &Shown<'_>, r: u32, j: u32) -> Put
     put(out, "\n")
 }
 
-/// Appends the heads of a table's columns, of which the last are the days, each with this tag.
-#[tactic(auto, unfolding(crate::specs::Rooms::heads_and_days))]
-pub fn put_heads_and_days(out: &mut Vec<u8>, inst: &Instance, heads: &str, tag: &str) -> Put
-    ensures { OnOk result (out.new.items ≡ out.old.items ++ heads_and_days inst.now.draft heads.now tag.now) }
-{
-    put(out, heads)?;
-    for d in 0..inst.days() {
-        put_labelled(out, tag, d)?;
-    }
-    put(out, "\n")
-}
-
 #[tactic(auto, unfolding(crate::specs::Rooms::room_title))]
 fn put_title(out: &mut Vec<u8>, r: u32, a: &Room) -> Put
     ensures { OnOk result (out.new.items ≡ out.old.items ++ room_title r a.now) }
@@ -249,13 +238,14 @@ fn put_title(out: &mut Vec<u8>, r: u32, a: &Room) -> Put
 }
 
 #[tactic(auto, unfolding(crate::specs::Rooms::room_head))]
-fn put_room_head(out: &mut Vec<u8>, inst: &Instance, r: u32, a: &Room) -> Put
-    ensures { OnOk result (out.new.items ≡ out.old.items ++ room_head inst.now.draft r a.now) }
+fn put_room_head(out: &mut Vec<u8>, shown: &Shown<'_>, r: u32, a: &Room) -> Put
+    ensures { OnOk result
+        (out.new.items ≡ out.old.items ++ room_head shown.now.inst.now.draft shown.now.first r a.now) }
 {
     put_title(out, r, a)?;
     put_heads_and_days(
         out,
-        inst,
+        shown,
         "<div><table><tr><th>person<th>gender<th>age<th>theatre",
         "<th>",
     )
@@ -300,9 +290,10 @@ fn put_persons(out: &mut Vec<u8>, shown: &Shown<'_>, r: u32) -> Put
 #[tactic(auto, unfolding(crate::specs::Rooms::room_text))]
 fn put_room(out: &mut Vec<u8>, shown: &Shown<'_>, r: u32) -> Put
     requires room { r < room_count shown.now.inst.now.draft }
-    ensures { OnOk result (out.new.items ≡ out.old.items ++ room_text shown.now.inst.now.draft shown.now.plan.now r) }
+    ensures { OnOk result (out.new.items
+        ≡ out.old.items ++ room_text shown.now.inst.now.draft shown.now.first shown.now.plan.now r) }
 {
-    put_room_head(out, shown.inst, r, shown.inst.room(RoomNo(r)))?;
+    put_room_head(out, shown, r, shown.inst.room(RoomNo(r)))?;
     put_persons(out, shown, r)?;
     put_count_row(out, shown, r)?;
     for j in 0..3 {
@@ -322,7 +313,8 @@ fn legend() -> &'static str
 /// Appends the tables of the rooms.
 #[tactic(auto, unfolding(crate::specs::Rooms::rooms_text))]
 pub fn put_rooms(out: &mut Vec<u8>, shown: &Shown<'_>) -> Put
-    ensures { OnOk result (out.new.items ≡ out.old.items ++ rooms_text shown.now.inst.now.draft shown.now.plan.now) }
+    ensures { OnOk result (out.new.items
+        ≡ out.old.items ++ rooms_text shown.now.inst.now.draft shown.now.first shown.now.plan.now) }
 {
     put(out, "<h2>Rooms by days</h2>\n")?;
     put(out, legend())?;

@@ -1,10 +1,12 @@
 //! What a page shows.
 
-ghost use Rattle.std.specs.Prelude.{◌≡◌, ◌^◌};
+ghost use Rattle.std.specs.Prelude.{◌≡◌, ◌^◌, Some};
+ghost use Rattle.ih_dates.specs.{Calendar.IsDate, declared.dates.Date.Date};
 ghost use Rattle.ih_tables.specs.Bills.{IsWithin};
 ghost use Rattle.ih_plan.specs.{BillOf.bill_of, Timetable.IsPlanOf};
 
 use ih_costs::Ledgers;
+use ih_dates::Date;
 use ih_plan::Plan;
 use ih_tables::{Bill, Instance};
 
@@ -13,7 +15,10 @@ use ih_tables::{Bill, Instance};
 pub struct Shown<'a> {
     pub inst: &'a Instance,
     pub plan: &'a Plan,
+    /// The date of the first day, where it is known.
+    pub first: Option<Date>,
     pub ghost plan_fits: { IsPlanOf inst.now.draft plan.now },
+    pub ghost first_is: { (d : Date) → first ≡ Some d → IsDate d },
 }
 
 /// The same, with its bill and its ledgers. Few functions need these, and each proof carries what it is given.
@@ -26,4 +31,12 @@ pub struct Priced<'a> {
     pub ghost bill_within: { IsWithin (10 ^ 11) bill.now },
     pub ghost ledgers_are: { ledgers.now
         ≡ record { instance = shown.now.inst.now.draft; plan = shown.now.plan.now } },
+}
+
+/// A timetable of an instance, and an older one.
+#[derive(Drop)]
+pub struct Compared<'a> {
+    pub shown: &'a Shown<'a>,
+    pub older: &'a Plan,
+    pub ghost older_fits: { IsPlanOf shown.now.inst.now.draft older.now },
 }

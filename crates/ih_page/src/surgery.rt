@@ -7,8 +7,8 @@ ghost use Rattle.ih_page.specs.Surgery.{minutes_of, planned, surgery_count, lett
 ghost use Rattle.ih_page.specs.Surgery.{heads_of, surgery_text, percent_of, percent_text, name_link, minutes_text};
 ghost use Rattle.ih_page.specs.Surgery.{patient_link, operation, surgery_of, surgery_td, surgery_row};
 
+use crate::day_heads::put_heads_and_days;
 use crate::names::{put_marked, put_surgeon, put_td_at, put_theatre};
-use crate::rooms::put_heads_and_days;
 use crate::shown::Shown;
 use crate::texts::{Put, put, put_number, put_numbered};
 use ih_tables::{Instance, Patient, PatientNo};
@@ -204,9 +204,9 @@ fn heads_of(kind: ResourceKind) -> &'static str
 #[tactic(auto, unfolding(crate::specs::Surgery::surgery_text))]
 pub fn put_surgery_of(out: &mut Vec<u8>, shown: &Shown<'_>, kind: ResourceKind) -> Put
     ensures { OnOk result
-        (out.new.items ≡ out.old.items ++ surgery_text shown.now.inst.now.draft shown.now.plan.now kind) }
+        (out.new.items ≡ out.old.items ++ surgery_text shown.now.inst.now.draft shown.now.first shown.now.plan.now kind) }
 {
-    put_heads_and_days(out, shown.inst, heads_of(kind), "<th>")?;
+    put_heads_and_days(out, shown, heads_of(kind), "<th>")?;
     for i in 0..count_of(shown.inst, kind) {
         put_row(out, shown, one_of(kind, i))?;
     }

@@ -9,15 +9,17 @@ use Rattle.ih_shelf.specs.Outside.{Names, Rose}
 use Rattle.ih_inputs.specs.declared.error.InputError.{InputError}
 use Rattle.ih_inputs.specs.declared.error.InputError.TheVariants.{ReadFault as Unreadable, TooLong as Long, InstanceRefused as NoInstance, SolutionRefused as NoSolution, OutOfMemory as NoRoom}
 use Rattle.ih_inputs.specs.declared.error.InputRole.TheVariants.{Instance as InstanceInput, Solution as SolutionInput}
-use Rattle.ih_inputs.specs.Reading.{HasInputs, HasPlan, HasSolution, InputFiles, IsNext, IsUnread}
+use Rattle.ih_inputs.specs.Reading.{HasInputs, HasInstance, HasPlan, HasSolution, InputFiles, IsNext, IsUnread}
 use Rattle.ih_answers.specs.declared.status.Status.{Status}
-use Rattle.ih_answers.specs.declared.status.Status.TheVariants.{Done, Infeasible, ReadFault, NoneFound, WriteFault, OutOfMemory}
+use Rattle.ih_answers.specs.declared.status.Status.TheVariants.{Done, Infeasible, ReadFault, StartRefused, NoneFound, WriteFault, OutOfMemory, TooLong}
+use Rattle.ih_answers.specs.declared.status.Role.TheVariants.{Solution}
 use Rattle.ih_answers.specs.Ends.{Ends, HasCause}
 use Rattle.ih_answers.specs.Inputs.{EndsUnread, unread_status}
 use Rattle.ih_planning.specs.Bound.{BoundCall, bound_inputs}
 use Rattle.ih_planning.specs.Bounding.{BoundEnds}
 use Rattle.ih_planning.specs.Ends.{CallEnds, HasFiles, IsAnswered, IsComplete, Leaves}
 use Rattle.ih_planning.specs.Improve.{ImproveCall, improve_inputs}
+use Rattle.ih_planning.specs.Older.{EndsOlderUnread, HasOlder}
 use Rattle.ih_planning.specs.Searching.{ImproveEnds}
 use Rattle.ih_planning.specs.View.{ViewCall, view_inputs}
 use Rattle.ih_planning.specs.Viewing.{ViewEnds}
@@ -84,12 +86,33 @@ improved c files new I P has (WriteFault role) text calm (inr h) = absurd calm
 improved c files new I P has OutOfMemory text calm (inr h) = inr (inr refl)
 improved c files new I P has status text calm (inr (v, is, h)) = absurd h
 
-viewed : (v : ViewCall) (files : Names) (new : Option Names) (I : Draft) (P : Timetable) → HasInputs (Some files) (view_inputs v) I P
-    → (status : Status) (text : List ℕ) → HasNoFault status → ViewEnds v (Some files) new status text → IsAnswered (view v) status
-viewed v files new I P has Done text calm h = inl refl
-viewed v files new I P has (WriteFault role) text calm h = absurd calm
-viewed v files new I P has OutOfMemory text calm h = inr refl
-viewed v files new I P has status text calm h = inr (accepted files (view_inputs v) I P has status text calm h.1)
+-- an older solution that is as it ought to be is read
+module _ (v : ViewCall) (files : Names) (I : Draft) (P : Timetable) (has : HasInputs (Some files) (view_inputs v) I P) (older : Option Timetable) (has-older : HasOlder (Some files) v.since I older) where
+  older-given : (J : Draft) (name : List ℕ) (o : Option Timetable) → HasInstance v.instance J files → v.since ≡ Some name → HasOlder (Some files) v.since I o
+      → (O : Timetable) × HasSolution name J O files
+  older-given J name None one named given = absurd (subst (λ s. HasOlder (Some files) s I None) named given)
+  older-given J name (Some O) one named given =
+      let same : Ok I ≡ Ok J = sym has.instance.read ∙ one.read in
+      let here : I ≡ J = cc in
+      (O, subst (λ (X : Draft). HasSolution name X O files) here (subst (λ s. HasOlder (Some files) s I (Some O)) named given))
+
+  by-older : (J : Draft) (name : List ℕ) → HasInstance v.instance J files → v.since ≡ Some name → (status : Status) (text : List ℕ) → HasNoFault status
+      → EndsOlderUnread (Some files) name J status text → status ≡ OutOfMemory
+  by-older J name one named (ReadFault role) text calm h = absurd calm
+  by-older J name one named (TooLong Solution) text calm h =
+      absurd (let short = (older-given J name older one named has-older).1.short in let long = h.1 in omega arith)
+  by-older J name one named (StartRefused e) text calm h =
+      let given = older-given J name older one named has-older in
+      absurd (not-both _ given.0 e given.1.read h.1.read)
+  by-older J name one named OutOfMemory text calm h = refl
+  by-older J name one named status text calm h = absurd h
+
+  viewed : (new : Option Names) (status : Status) (text : List ℕ) → HasNoFault status → ViewEnds v (Some files) new status text → IsAnswered (view v) status
+  viewed new Done text calm h = inl refl
+  viewed new (WriteFault role) text calm h = absurd calm
+  viewed new OutOfMemory text calm h = inr refl
+  viewed new status text calm (kept, inl unread) = inr (accepted files (view_inputs v) I P has status text calm unread)
+  viewed new status text calm (kept, inr none) = inr (by-older none.instance none.name none.inputs.instance none.named status text calm none.unread)
 
 bounded : (c : BoundCall) (files : Names) (I : Draft) (P : Timetable) → HasInputs (Some files) (bound_inputs c) I P
     → (status : Status) (text : List ℕ) → HasNoFault status → BoundEnds c (Some files) status text → IsAnswered (bound c) status
@@ -104,7 +127,7 @@ bounded c files I P has status text calm h = inr (inr (accepted files (bound_inp
 answered : (call : Call) (files : Names) (new : Option Names) → HasFiles call files → (status : Status) (text : List ℕ) → HasNoFault status
     → CallEnds call (Some files) new status text → IsAnswered call status
 answered (improve c) files new (I, P, has) status text calm h = improved c files new I P has status text calm h
-answered (view v) files new (I, P, has) status text calm h = viewed v files new I P has status text calm h
+answered (view v) files new (I, P, older, has, given) status text calm h = viewed v files I P has older given new status text calm h
 answered (bound b) files new (I, P, has) status text calm h = bounded b files I P has status text calm h.1
 
 memory-answered : (call : Call) → IsAnswered call OutOfMemory

@@ -12,4 +12,5 @@ pub mod RoundSteps
 pub mod SameRounds
 pub mod SearchEnding
 pub mod SettingsRead
+pub mod ViewCalls
 pub mod WordsRead

@@ -123,10 +123,10 @@ call-lawful rows has c is = subst (λ (x : ImproveCall). AreFew x → IsLawful (
 
 -- ---- where it is lawful
 
-if-true : {A : Type 0} (b : Bool) (x y : A) → b ≡ true → (if b then x else y) ≡ x
+pub if-true : {A : Type 0} (b : Bool) (x y : A) → b ≡ true → (if b then x else y) ≡ x
 if-true b x y is = subst (λ (t : Bool). (if t then x else y) ≡ x) (sym is) refl
 
-if-false : {A : Type 0} (b : Bool) (x y : A) → b ≡ false → (if b then x else y) ≡ y
+pub if-false : {A : Type 0} (b : Bool) (x y : A) → b ≡ false → (if b then x else y) ≡ y
 if-false b x y is = subst (λ (t : Bool). (if t then x else y) ≡ y) (sym is) refl
 
 -- the tests of a call's values

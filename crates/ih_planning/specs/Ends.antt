@@ -13,6 +13,7 @@ use Rattle.ih_planning.specs.Bound.{bound_inputs}
 use Rattle.ih_planning.specs.Bounding.{BoundEnds}
 use Rattle.ih_planning.specs.Explaining.{MayAskForHelp, MayBeRefused, app_for}
 use Rattle.ih_planning.specs.Improve.{improve_inputs}
+use Rattle.ih_planning.specs.Older.{HasOlder}
 use Rattle.ih_planning.specs.Rounds.{ArePutsAtMost}
 use Rattle.ih_planning.specs.Searching.{ImproveEnds}
 use Rattle.ih_planning.specs.View.{view_inputs}
@@ -61,7 +62,9 @@ IsAnswered (bound b) status = (status ≡ Done) ⊎ (status ≡ Infeasible) ⊎ 
 -- the files that a call reads are as they ought to be
 abbrev pub HasFiles : Call → Names → Type 0
 HasFiles (improve c) files = (I : Draft) × (P : Timetable) × HasInputs (Some files) (improve_inputs c) I P
-HasFiles (view v) files = (I : Draft) × (P : Timetable) × HasInputs (Some files) (view_inputs v) I P
+HasFiles (view v) files =
+    (I : Draft) × (P : Timetable) × (older : Option Timetable) × HasInputs (Some files) (view_inputs v) I P
+    × HasOlder (Some files) v.since I older
 HasFiles (bound b) files = (I : Draft) × (P : Timetable) × HasInputs (Some files) (bound_inputs b) I P
 
 -- where the words are lawful, the files are accepted and no count rose, there are two or three answers

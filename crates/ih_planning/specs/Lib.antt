@@ -5,6 +5,7 @@ pub mod Ends
 pub mod Explaining
 pub mod Improve
 pub mod Laws
+pub mod Older
 pub mod Rounds
 pub mod Searching
 pub mod View

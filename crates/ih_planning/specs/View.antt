@@ -1,25 +1,41 @@
 -- The command `view`: its description for `clap` and its values.
-use Rattle.std.specs.Prelude.{List, [], ◌∷◌, Option, Some, None, codes, if◌then◌else◌}
-use Rattle.clap.specs.Words.{App, Row, Text, with_rule}
-use Rattle.ih_words.specs.Arguments.{files_app, named}
+use Rattle.std.specs.Prelude.{◌&&◌, Bool, true, List, ◌∷◌, Option, Some, None, codes, if◌then◌else◌, is_some, option_and_then, option_map, option_to_list}
+use Rattle.std.specs.Option.{option_map_or}
+use Rattle.clap.specs.Words.{App, Row, Text, first_of, with_rule}
+use Rattle.ih_dates.specs.Words.{date_in}
+use Rattle.ih_dates.specs.declared.dates.Date.{Date}
+use Rattle.ih_words.specs.Arguments.{files_app, named, optional}
 use Rattle.ih_words.specs.Distinct.{all_differ}
 use Rattle.ih_words.specs.Matches.{HasNames, text_at}
 use Rattle.ih_inputs.specs.Reading.{InputFiles}
 use Rattle.ih_planning.specs.declared.view_words.View.{View}
 
--- view INSTANCE SOLUTION PAGE
+-- view INSTANCE SOLUTION PAGE [--from DATE] [--since OLDER]
 unfoldable pub view_app : App
-view_app = with_rule (files_app (codes "view")) (named (codes "PAGE"))
+view_app = with_rule (with_rule (with_rule (files_app (codes "view"))
+    (named (codes "PAGE")))
+    (optional (codes "from")))
+    (optional (codes "since"))
 
 -- what a call of view asks for; a file's name is its bytes
 pub record ViewCall : Type 0 where
   pub instance : Text
   pub solution : Text
   pub page : Text
+  -- the date of the first day
+  pub from : Option Date
+  -- the file of an older solution
+  pub since : Option Text
 
 -- the call that the values of view stand for
 abbrev pub view_call : View → ViewCall
-view_call v = record { instance = v.instance.now; solution = v.solution.now; page = v.page.now }
+view_call v = record {
+  instance = v.instance.now;
+  solution = v.solution.now;
+  page = v.page.now;
+  from = v.from;
+  since = option_map (λ t. t.now) v.since;
+}
 
 -- the files that the call reads
 abbrev pub view_inputs : ViewCall → InputFiles
@@ -35,12 +51,19 @@ view_in rows = record {
   instance = text_at (codes "INSTANCE") rows;
   solution = text_at (codes "SOLUTION") rows;
   page = text_at (codes "PAGE") rows;
+  from = option_and_then date_in (first_of (codes "from") rows);
+  since = first_of (codes "since") rows;
 }
+
+-- the word of `--from` names a day, where there is such a word
+abbrev pub names_a_day : List Row → Bool
+names_a_day rows = option_map_or (λ word. is_some (date_in word)) (first_of (codes "from") rows) true
 
 -- the files that a call of view reads or writes
 abbrev pub view_files : ViewCall → List Text
-view_files v = v.instance ∷ v.solution ∷ v.page ∷ []
+view_files v = v.instance ∷ v.solution ∷ v.page ∷ option_to_list v.since
 
--- the call of view, by `clap`'s matches, where its file names differ
+-- the call of view, by `clap`'s matches, where its file names differ and the date is one
 abbrev pub lawful_view : List Row → Option ViewCall
-lawful_view rows = if all_differ (view_files (view_in rows)) then Some (view_in rows) else None
+lawful_view rows =
+    if names_a_day rows && all_differ (view_files (view_in rows)) then Some (view_in rows) else None

@@ -10,7 +10,7 @@ ghost use Rattle.ih_planning.specs.Bounding.{BoundEnds, bound_status, no_infeasi
 
 use crate::bound_texts::{Judged, bound_text};
 use crate::bound_words::Bound;
-use ih_answers::{Answer, Status, out_of_memory, read_inputs};
+use ih_answers::{Answer, Status, out_of_memory, read_or_answer};
 use ih_bound::{Outcome, bound};
 use ih_inputs::Inputs;
 use ih_shelf::Shelf;
@@ -98,7 +98,7 @@ pub fn bound_of<R: Files + Threads + Sync, S: Shelf>(
     ensures cause { HasShelfCause S.Shelf shelf.old shelf.new result.status }
     ensures kept { S.names shelf.new ≡ S.names shelf.old }
 {
-    match read_inputs(rt, alloc, call.instance, call.solution, shelf) {
+    match read_or_answer(rt, alloc, call.instance, call.solution, shelf) {
         Ok(inputs) => bounded(rt, alloc, call, &inputs),
         Err(answer) => answer,
     }

@@ -15,7 +15,7 @@ ghost use Rattle.ih_planning.specs.Searching.{ending_status, ending_text};
 use crate::improve_words::Improve;
 use crate::rounds::one_round;
 use ih_answers::{
-    Answer, Status, conclude, conclude_memory, none_found, out_of_memory, read_inputs,
+    Answer, Status, conclude, conclude_memory, none_found, out_of_memory, read_or_answer,
 };
 use ih_improve::{Improver, Settings, default_heats};
 use ih_inputs::Inputs;
@@ -201,7 +201,7 @@ pub fn improve<R: Files + Print + Threads + Wait + Sync, S: Shelf, O: Sink>(
     ensures cause { HasCause (S.read_faults shelf.old) (S.read_faults shelf.new) (S.write_faults shelf.old)
         (S.write_faults shelf.new) (O.faults out.old) (O.faults out.new) result }
 {
-    match read_inputs(rt, alloc, call.instance, call.start.file, shelf) {
+    match read_or_answer(rt, alloc, call.instance, call.start.file, shelf) {
         Ok(inputs) => search_from(rt, alloc, call, inputs, shelf, out),
         Err(answer) => conclude(rt, out, &answer),
     }

@@ -10,6 +10,7 @@ mod explaining;
 mod improve_words;
 mod improving;
 mod laws;
+mod older;
 mod rounds;
 mod running;
 mod view_words;

@@ -1,20 +1,22 @@
 //! The command `view`: its description for `clap` and its values.
 
-ghost use Rattle.std.specs.Prelude.{◌≡◌, IfOk, map, option_map, string_bytes};
-ghost use Rattle.clap.specs.Words.{app_of, found_of, rows_of};
-ghost use Rattle.ih_words.specs.Matches.{call_by};
-ghost use Rattle.ih_planning.specs.View.{HasViewNames, lawful_view, view_app, view_call, view_in};
-ghost use Rattle.ih_planning.specs.Explaining.{IsRead};
+ghost use Rattle.std.specs.Prelude.{◌≡◌, IfOk, IfSome, is_some, codes, map, not, option_and_then, option_map, string_bytes};
+ghost use Rattle.clap.specs.Words.{app_of, first_of, found_of, rows_of};
+ghost use Rattle.ih_dates.specs.{Calendar.IsDate, Words.date_in};
+ghost use Rattle.ih_words.specs.{Distinct.all_differ, Matches.call_by};
+ghost use Rattle.ih_planning.specs.View.{HasViewNames, lawful_view, names_a_day, view_app, view_call, view_files, view_in};
+ghost use Rattle.ih_planning.specs.Explaining.{IsNoHelp, IsRead};
 
 use crate::arguments::with_help;
 use crate::explaining::{NoCall, explained, refused};
 use clap::{ArgMatches, Command};
-use ih_words::arguments::{named, with};
+use ih_dates::{Date, date_in};
+use ih_words::arguments::{named, optional, with};
 use ih_words::file_names::all_differ;
-use ih_words::matches::{matched, text_of};
+use ih_words::matches::{matched, optional_text_of, text_of};
 use std::alloc::{AllocError, Global};
 
-/// `view INSTANCE SOLUTION PAGE`.
+/// `view INSTANCE SOLUTION PAGE [--from DATE] [--since OLDER]`.
 #[derive(Clone, Copy, Debug)]
 pub struct View<'a> {
     /// The name of the instance's file.
@@ -23,9 +25,13 @@ pub struct View<'a> {
     pub solution: &'a str,
     /// The name of the file that the page goes to.
     pub page: &'a str,
+    /// The date of the first day.
+    pub from: Option<Date>,
+    /// The name of the older solution's file.
+    pub since: Option<&'a str>,
 }
 
-/// `view INSTANCE SOLUTION PAGE`.
+/// `view INSTANCE SOLUTION PAGE [--from DATE] [--since OLDER]`.
 pub fn view_description<'a>(alloc: Global) -> Result<Command<'a>, AllocError>
     ensures { IfOk result (λ c. app_of c ≡ view_app) }
 {
@@ -40,48 +46,103 @@ pub fn view_description<'a>(alloc: Global) -> Result<Command<'a>, AllocError>
         instance,
         with_help(named(alloc, "SOLUTION"), "The file of the solution"),
     );
-    with(
+    let page = with(
         solution,
         with_help(named(alloc, "PAGE"), "The file that the page is written to"),
+    );
+    let from = with(
+        page,
+        with_help(
+            optional(alloc, "from"),
+            "The date of day 0, as 2026-01-05, so that days have dates",
+        ),
+    );
+    with(
+        from,
+        with_help(
+            optional(alloc, "since"),
+            "The file of an older solution: the page says what changed",
+        ),
     )
+}
+
+// The day that the word of `--from` names, where there is such a word and such a day.
+fn first_day(matches: &ArgMatches) -> Option<Date>
+    ensures day { result ≡ option_and_then date_in (first_of (codes "from") (rows_of (found_of matches.now))) }
+    ensures lawful { IfSome result IsDate }
+{
+    date_in(optional_text_of(matches, "from")?)
 }
 
 // The values of `view`.
 fn view_in<'a>(matches: &ArgMatches<'a>) -> View<'a>
     requires { HasViewNames (rows_of (found_of matches.now)) }
-    ensures { view_call result ≡ view_in (rows_of (found_of matches.now)) }
+    ensures call { view_call result ≡ view_in (rows_of (found_of matches.now)) }
+    ensures lawful { IfSome result.from IsDate }
 {
     View {
         instance: text_of(matches, "INSTANCE"),
         solution: text_of(matches, "SOLUTION"),
         page: text_of(matches, "PAGE"),
+        from: first_day(matches),
+        since: optional_text_of(matches, "since"),
     }
 }
 
-// The values of `view`, where the file names differ.
-fn lawful_view<'a>(matches: &ArgMatches<'a>) -> Option<View<'a>>
-    requires { HasViewNames (rows_of (found_of matches.now)) }
-    ensures { option_map view_call result ≡ lawful_view (rows_of (found_of matches.now)) }
+// The names of the files differ.
+fn names_differ(view: &View) -> bool
+    ensures { result ≡ all_differ (view_files (view_call view.now)) }
 {
-    let view = view_in(matches);
-    let names = [view.instance, view.solution, view.page];
-    if all_differ(names.as_slice()) {
-        Some(view)
-    } else {
-        None
+    match view.since {
+        Some(since) => {
+            let names = [view.instance, view.solution, view.page, since];
+            all_differ(names.as_slice())
+        }
+        None => {
+            let names = [view.instance, view.solution, view.page];
+            all_differ(names.as_slice())
+        }
+    }
+}
+
+// The word of `--from` that names no day, where there is one.
+fn no_day<'a>(matches: &ArgMatches<'a>, view: &View) -> Option<&'a str>
+    requires { view.now.from ≡ option_and_then date_in (first_of (codes "from") (rows_of (found_of matches.now))) }
+    ensures { not (is_some result) ≡ names_a_day (rows_of (found_of matches.now)) }
+{
+    match view.from {
+        Some(_) => None,
+        None => optional_text_of(matches, "from"),
+    }
+}
+
+// What is said of a word that names no day.
+fn refused_day(alloc: Global, word: &str) -> NoCall
+    ensures { IsNoHelp result }
+{
+    match format!(in alloc; "'{word}' for '--from' is no date, as 2026-01-05 is one") {
+        Ok(fault) => refused(alloc, fault.as_str()),
+        Err(_) => NoCall::OutOfMemory,
     }
 }
 
 // Reads the words of `view`.
 pub(crate) fn read_view<'a>(alloc: Global, words: &'a [String]) -> Result<View<'a>, NoCall>
-    ensures { IsRead view_call (call_by view_app lawful_view (map string_bytes words.entry.now)) view_app
+    ensures read { IsRead view_call (call_by view_app lawful_view (map string_bytes words.entry.now)) view_app
         (map string_bytes words.entry.now) result }
+    ensures lawful { IfOk result (λ v. IfSome v.from IsDate) }
 {
     match matched(view_description(alloc), words) {
-        Ok(matches) => match lawful_view(&matches) {
-            Some(view) => Ok(view),
-            None => Err(refused(alloc, "two files of the call have one name")),
-        },
+        Ok(matches) => {
+            let view = view_in(&matches);
+            if let Some(word) = no_day(&matches, &view) {
+                Err(refused_day(alloc, word))
+            } else if names_differ(&view) {
+                Ok(view)
+            } else {
+                Err(refused(alloc, "two files of the call have one name"))
+            }
+        }
         Err(error) => Err(explained(alloc, error)),
     }
 }

@@ -4,7 +4,7 @@ use Rattle.ih_tables.specs.declared.bills.Bill.{Bill}
 use Rattle.ih_page.specs.Summary.{headline}
 use Rattle.ih_page.specs.CostBar.{cost_bar}
 use Rattle.ih_page.specs.Page.{top}
-use Rattle.ih_page.proofs.Joins.{joins4}
+use Rattle.ih_page.proofs.Joins.{joins5}
 use Rattle.ih_page.proofs.pages.put_top.Goals as goal
 
 pub returns : goal.returns
@@ -15,6 +15,6 @@ returns c =
     let barred = λ (b : Bill). c.put_headline.new.out.items ++ cost_bar weights b in
     let led = λ (t : List ℕ). c.put_cost_bar.new.out.items ++ t in
     on_ok_weaker c.put_overview.result
-    (λ d. joins4 _ _ _ _ _ _ _ _ _ (c.in_ok-put_headline.ensures ∙ ap headed c.args.priced.now.bill_is)
+    (λ d. joins5 _ _ _ _ _ _ _ _ _ _ _ (c.in_ok-put_headline.ensures ∙ ap headed c.args.priced.now.bill_is)
     (c.in_ok-put_cost_bar.ensures ∙ ap barred c.args.priced.now.bill_is)
-    (c.in_ok-put.ensures ∙ ap led c.jumps.ensures) d) c.put_overview.ensures
+    (c.in_ok-put.ensures ∙ ap led c.jumps.ensures) c.in_ok-put_changes_since.ensures d) c.put_overview.ensures

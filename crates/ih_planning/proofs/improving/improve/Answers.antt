@@ -15,7 +15,7 @@ pub returns-in-Ok-clause-ends : goal.returns-in-Ok-clause-ends
 returns-in-Ok-clause-ends g c =
     let call : ImproveCall = improve_call c.args.call.now in
     let old = c.args.shelf.now in
-    let mid = c.read_inputs.new.shelf in
+    let mid = c.read_or_answer.new.shelf in
     let new = c.search_from.new.shelf in
     read-then call _ _ c.search_from.result (g.S.Shelf.names old) (g.S.Shelf.names mid) (g.S.Shelf.names new) c.in-Ok.ensures.only.kept
     (g.S.Shelf.read_faults old) (g.S.Shelf.read_faults mid) (g.S.Shelf.read_faults new) (g.S.Shelf.write_faults old) (g.S.Shelf.write_faults mid)
@@ -24,7 +24,7 @@ returns-in-Ok-clause-ends g c =
 pub returns-in-Ok-clause-cause : goal.returns-in-Ok-clause-cause
 returns-in-Ok-clause-cause g c =
     let old = c.args.shelf.now in
-    let mid = c.read_inputs.new.shelf in
+    let mid = c.read_or_answer.new.shelf in
     let new = c.search_from.new.shelf in
     cause-from (g.S.Shelf.read_faults old) (g.S.Shelf.read_faults mid) (g.S.Shelf.read_faults new) (g.S.Shelf.write_faults old)
     (g.S.Shelf.write_faults mid) (g.S.Shelf.write_faults new) c.in-Ok.ensures.only.count (omega (arith, c.in-Ok.ensures.only.other_count))
@@ -35,7 +35,7 @@ pub returns-in-Err-clause-ends : goal.returns-in-Err-clause-ends
 returns-in-Err-clause-ends g c =
     let call : ImproveCall = improve_call c.args.call.now in
     let old = c.args.shelf.now in
-    let new = c.read_inputs.new.shelf in
+    let new = c.read_or_answer.new.shelf in
     unread-ended call _ _ c.conclude.result (HasShelfCause g.S.Shelf old new) (g.S.Shelf.names old) (g.S.Shelf.names new)
     (told-same (g.S.Shelf.names old) (g.S.Shelf.names new) c.in-Err.ensures.only.kept) c.in-Err.answer c.in-Err.ensures.unread c.in-Err.ensures.cause
     c.conclude.ensures.said

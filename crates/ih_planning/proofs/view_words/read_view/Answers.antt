@@ -4,7 +4,7 @@ use Rattle.clap.proofs.OnLiterals.{clap_on_literals}
 use Rattle.ih_words.specs.Arguments.{named}
 use Rattle.ih_words.specs.Distinct.{all_differ}
 use Rattle.ih_words.proofs.DescriptionRules.{requires_name}
-use Rattle.ih_planning.specs.View.{lawful_view, view_app, view_call}
+use Rattle.ih_planning.specs.View.{ViewCall, lawful_view, names_a_day, view_app, view_call, view_files, view_in}
 use Rattle.ih_planning.proofs.WordsRead.{explained-read, refused-read}
 use Rattle.ih_planning.proofs.view_words.read_view.Goals as goal
 
@@ -12,18 +12,13 @@ pub matched-requires : goal.matched-requires
 unfolding clap_on_literals view_app all_differ
 matched-requires c = (c.view_description.ensures, (refl, refl))
 
-pub lawful_view-requires : goal.lawful_view-requires
+pub view_in-view-requires : goal.view_in-view-requires
 unfolding view_app
-lawful_view-requires c = record {
+view_in-view-requires c = record {
   first = c.in-Ok.ensures.texts 0 (named (codes "INSTANCE")) (requires_name refl);
   second = c.in-Ok.ensures.texts 1 (named (codes "SOLUTION")) (requires_name refl);
   third = c.in-Ok.ensures.texts 2 (named (codes "PAGE")) (requires_name refl);
 }
 
-pub returns-in-Ok : goal.returns-in-Ok
-returns-in-Ok c =
-    refused-read view_app _ _ lawful_view c.refused.result (rows_of (found_of c.in-Ok.matches)) c.refused.ensures c.in-Ok.ensures.no_fault c.in-Ok.ensures.rows
-    (ap (option_map view_call) (sym c.in-None.is) ∙ c.lawful_view.ensures)
-
-pub returns : goal.returns
-returns c = explained-read view_app _ _ lawful_view c.in-Err.error c.explained.result c.in-Err.ensures.faults c.explained.ensures
+pub returns-clause-read : goal.returns-clause-read
+returns-clause-read c = explained-read view_app _ _ lawful_view c.in-Err.error c.explained.result c.in-Err.ensures.faults c.explained.ensures

@@ -1,0 +1,2 @@
+pub mod CalendarSteps
+pub mod Written

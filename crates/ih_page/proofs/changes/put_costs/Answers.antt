@@ -1,0 +1,12 @@
+use Rattle.std.proofs.Common.{◌∙◌, rules}
+use Rattle.std.proofs.lemmas.Result.{on_ok_weaker}
+use Rattle.ih_page.specs.Changes.{changed_costs}
+use Rattle.ih_page.proofs.Joins.{joins5}
+use Rattle.ih_page.proofs.changes.put_costs.Goals as goal
+
+pub returns : goal.returns
+unfolding changed_costs
+returns c =
+    on_ok_weaker c.put-3.result
+    (λ d. joins5 _ _ _ _ _ _ _ _ _ _ _ c.in_ok-put.ensures c.in_ok-put_parts.ensures c.in_ok-put-2.ensures
+    (c.in_ok-put_two.ensures ∙ search rules) d) c.put-3.ensures

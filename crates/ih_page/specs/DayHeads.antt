@@ -1,0 +1,29 @@
+-- The heads of tables with a column for each day: its number, and its date where the first day's is known.
+use Rattle.std.specs.Prelude.{ℕ, List, [], ◌++◌, Option, Some, None, codes, decimal}
+use Rattle.ih_dates.specs.declared.dates.Date.{Date}
+use Rattle.ih_dates.specs.Calendar.{days_after, weekday_after}
+use Rattle.ih_dates.specs.Names.{month_name, weekday_name}
+use Rattle.ih_tables.specs.declared.drafts.Draft.{Draft}
+use Rattle.ih_validate.specs.Report.{lines_below}
+use Rattle.ih_page.specs.Html.{labelled}
+
+-- a day and its month
+unfoldable pub date_text : Date → List ℕ
+date_text date = decimal date.day ++ (codes " " ++ month_name date.month)
+
+-- the date d days after the first, with its day of the week
+unfoldable pub dated_text : Date → ℕ → List ℕ
+dated_text first d =
+    codes "<br>" ++ (weekday_name (weekday_after first d) ++ (codes " " ++ date_text (days_after first d)))
+
+abbrev pub dated_if : Option Date → ℕ → List ℕ
+dated_if None d = []
+dated_if (Some first) d = dated_text first d
+
+-- a day's number behind a tag, and its date if that is known
+unfoldable pub day_head : Option Date → List ℕ → ℕ → List ℕ
+day_head first tag d = labelled tag d ++ dated_if first d
+
+-- the heads of a table's columns, of which the last are the days, each with this tag
+unfoldable pub heads_and_days : Draft → Option Date → List ℕ → List ℕ → List ℕ
+heads_and_days I first heads tag = heads ++ (lines_below I.days (day_head first tag) ++ codes "\n")

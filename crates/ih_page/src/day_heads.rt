@@ -1,0 +1,60 @@
+//! The heads of tables with a column for each day.
+
+ghost use Rattle.std.specs.Prelude.{◌≡◌, ◌++◌, OnOk};
+ghost use Rattle.ih_dates.specs.Calendar.{IsDate};
+ghost use Rattle.ih_page.specs.DayHeads.{date_text, dated_if, dated_text, day_head, heads_and_days};
+
+use crate::shown::Shown;
+use crate::texts::{Put, put, put_labelled, put_number};
+use ih_dates::{Date, days_after, month_name, weekday_after, weekday_name};
+
+#[tactic(auto, unfolding(crate::specs::DayHeads::date_text))]
+fn put_date(out: &mut Vec<u8>, date: Date) -> Put
+    ensures { OnOk result (out.new.items ≡ out.old.items ++ date_text date) }
+{
+    put_number(out, date.day as u64)?;
+    put(out, " ")?;
+    put(out, month_name(date.month))
+}
+
+// The date that many days after the first, with its day of the week.
+#[tactic(auto, unfolding(crate::specs::DayHeads::dated_text))]
+fn put_dated(out: &mut Vec<u8>, first: Date, d: u32) -> Put
+    requires { IsDate first }
+    ensures { OnOk result (out.new.items ≡ out.old.items ++ dated_text first d) }
+{
+    put(out, "<br>")?;
+    put(out, weekday_name(weekday_after(first, d)))?;
+    put(out, " ")?;
+    put_date(out, days_after(first, d))
+}
+
+fn put_dated_if(out: &mut Vec<u8>, shown: &Shown<'_>, d: u32) -> Put
+    ensures { OnOk result (out.new.items ≡ out.old.items ++ dated_if shown.now.first d) }
+{
+    match shown.first {
+        None => Ok(()),
+        Some(first) => put_dated(out, first, d),
+    }
+}
+
+#[tactic(auto, unfolding(crate::specs::DayHeads::day_head))]
+fn put_day(out: &mut Vec<u8>, shown: &Shown<'_>, tag: &str, d: u32) -> Put
+    ensures { OnOk result (out.new.items ≡ out.old.items ++ day_head shown.now.first tag.now d) }
+{
+    put_labelled(out, tag, d)?;
+    put_dated_if(out, shown, d)
+}
+
+/// Appends the heads of a table's columns, of which the last are the days, each with this tag.
+#[tactic(auto, unfolding(crate::specs::DayHeads::heads_and_days))]
+pub fn put_heads_and_days(out: &mut Vec<u8>, shown: &Shown<'_>, heads: &str, tag: &str) -> Put
+    ensures { OnOk result (out.new.items
+        ≡ out.old.items ++ heads_and_days shown.now.inst.now.draft shown.now.first heads.now tag.now) }
+{
+    put(out, heads)?;
+    for d in 0..shown.inst.days() {
+        put_day(out, shown, tag, d)?;
+    }
+    put(out, "\n")
+}
