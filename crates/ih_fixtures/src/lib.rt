@@ -2,8 +2,6 @@
 //! test owns a ward.
 #![tactic(auto)]
 
-mod error;
-mod parts;
 mod small;
 mod starts;
 mod texts;
@@ -12,7 +10,7 @@ mod two;
 pub use small::on_one_room;
 pub use starts::{at, first_day, on_first_admitted};
 pub use texts::{TWO_PATIENTS, WARD};
-pub use two::{on_two_patients, two_patients_draft};
+pub use two::on_two_patients;
 
 /// Threads share it.
 pub fn share<T: Send + Sync>(_x: &T) {}

@@ -62,7 +62,7 @@ pub fn on_first_admitted<F: FnOnce(&Instance, &Plan) -> bool>(alloc: Global, hol
     requires { (i : _) (p : _) → IsOfTwo i.now.draft → IsPlanOf i.now.draft p.now → F.pre holds i p }
 {
     match two_patients(alloc, &[]) {
-        Ok(inst) => with_first_admitted(alloc, &inst, holds),
-        Err(_) => false,
+        Some(inst) => with_first_admitted(alloc, &inst, holds),
+        None => false,
     }
 }

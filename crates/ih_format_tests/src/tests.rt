@@ -5,6 +5,7 @@ mod instance;
 mod journal;
 mod limits;
 mod replacing;
+mod rows;
 mod shelf;
 mod solution;
 mod tables;

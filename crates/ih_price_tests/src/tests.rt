@@ -1,5 +1,6 @@
 //! The tests, by what they are of.
 
+mod bills;
 mod costs;
 mod fill;
 mod footprint;

@@ -1,6 +1,5 @@
-//! Whole calls of the program over files in memory, and the files and texts of the worked examples.
+//! Whole calls of the program, over files in memory.
 #![tactic(auto)]
 
-pub mod examples;
 #[cfg(test)]
 mod tests;

@@ -1,21 +1,15 @@
-//! The tests, by what they call, and what they share.
+//! The tests, by what they call, and the program that they try.
 
 mod advice;
-mod bounds;
 mod chain_prices;
 mod chains;
 mod files;
 mod fills;
-mod improving;
 mod journals;
-mod meeting;
 mod noted;
-mod pairs;
 mod passing;
-mod planning;
+mod program;
 mod rounds;
-mod script;
-mod views;
-mod whole_calls;
+mod statuses;
 mod words;
 mod workers;

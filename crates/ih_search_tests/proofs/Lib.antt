@@ -1,1 +1,2 @@
 mod TriedLists
+mod TwoNumbers

@@ -2,6 +2,7 @@
 
 mod cellbook;
 mod chains;
+mod freezing;
 mod replay;
 mod rounds;
 mod snapshot;

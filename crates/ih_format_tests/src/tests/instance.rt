@@ -1,9 +1,11 @@
 //! What is answered for the files of two small instances after one change.
 
+use crate::tests::rows::each_row;
 use ih_fixtures::{TWO_PATIENTS, WARD};
 use ih_instance::{InstanceError, read_instance};
 use ih_tables::{Fault, Instance, Place, Refusal};
 use std::alloc::{AllocError, Global};
+use std::process::Abort;
 
 // Whether that is said of a file.
 fn says(alloc: Global, error: &InstanceError, wanted: &str) -> bool {
@@ -37,101 +39,55 @@ pub(crate) fn is_answered(alloc: Global, text: &str, old: &str, new: &str, wante
     }
 }
 
-/// What stands in a text, what is put in its place, and what is then answered.
-pub(crate) type Change = (&'static str, &'static str, &'static str);
+// Whether a row tells what is answered: what stands in a text, what is put in its place, and the answer.
+fn is_change_answered(alloc: Global, text: &str, row: &str) -> bool {
+    let mut fields = row.split(" | ");
+    match (fields.next(), fields.next(), fields.next()) {
+        (Some(old), Some(new), Some(wanted)) => is_answered(alloc, text, old, new, wanted),
+        _ => false,
+    }
+}
 
-/// Whether each of these is answered.
-pub(crate) fn are_answered(alloc: Global, text: &str, changes: &[Change]) -> bool {
-    changes.iter().all(|(old, new, wanted)| is_answered(alloc, text, old, new, wanted))
+/// Tries each row of a table: what stands in a text, what is put in its place, and what is then answered.
+pub(crate) fn each_is_answered<R: Abort>(rt: &R, alloc: Global, text: &str, table: &str) {
+    each_row(rt, table, |row| is_change_answered(alloc, text, row));
 }
 
 // Changes of the whole text, of the horizon and of what is in the ward.
-const PARTS: [Change; 7] = [
-    (r#""days":1"#, r#""days":1"#, "accepted"),
-    ("}]}]}", "}]}]", "NotJson at $"),
-    (
-        r#""rooms":[{"id":"r0","capacity":2}],"#,
-        "",
-        "Missing at $.rooms",
-    ),
-    (
-        r#""rooms":[{"id":"r0","capacity":2}],"#,
-        r#""rooms":[],"#,
-        "Length at $.rooms",
-    ),
-    (r#""days":1"#, r#""days":0"#, "Range at $.days"),
-    (r#""days":1"#, r#""days":1.0"#, "Kind at $.days"),
-    (
-        r#""length_of_stay":1"#,
-        r#""length_of_stay":0"#,
-        "Range at $.occupants[0].length_of_stay",
-    ),
-];
+const PARTS: &str = r#"
+"days":1 | "days":1 | accepted
+}]}]} | }]}] | NotJson at $
+"rooms":[{"id":"r0","capacity":2}], |  | Missing at $.rooms
+"rooms":[{"id":"r0","capacity":2}], | "rooms":[], | Length at $.rooms
+"days":1 | "days":0 | Range at $.days
+"days":1 | "days":1.0 | Kind at $.days
+"length_of_stay":1 | "length_of_stay":0 | Range at $.occupants[0].length_of_stay
+"#;
 
 // Changes of names, weights and shifts.
-const NAMES: [Change; 6] = [
-    (
-        r#""child","adult""#,
-        r#""child","child""#,
-        "Duplicate at $.age_groups[1]",
-    ),
-    (
-        r#""nurse_eccessive_workload":1,"#,
-        r#""nurse_excessive_workload":1,"#,
-        "accepted",
-    ),
-    (
-        r#""nurse_eccessive_workload":1,"#,
-        r#""nurse_excessive_workload":1,"nurse_eccessive_workload":1,"#,
-        "TwoWeights at $.weights",
-    ),
-    (
-        r#""nurse_eccessive_workload":1,"#,
-        "",
-        "Missing at $.weights.nurse_eccessive_workload",
-    ),
-    (
-        r#""room_id":"r0""#,
-        r#""room_id":"""#,
-        "Range at $.occupants[0].room_id",
-    ),
-    (
-        r#""shift":"night""#,
-        r#""shift":"late""#,
-        "Duplicate at $.nurses[0].working_shifts[2]",
-    ),
-];
+const NAMES: &str = r#"
+"child","adult" | "child","child" | Duplicate at $.age_groups[1]
+"nurse_eccessive_workload":1, | "nurse_excessive_workload":1, | accepted
+"nurse_eccessive_workload":1, | "nurse_excessive_workload":1,"nurse_eccessive_workload":1, | TwoWeights at $.weights
+"nurse_eccessive_workload":1, |  | Missing at $.weights.nurse_eccessive_workload
+"room_id":"r0" | "room_id":"" | Range at $.occupants[0].room_id
+"shift":"night" | "shift":"late" | Duplicate at $.nurses[0].working_shifts[2]
+"#;
 
 // Changes of patients.
-const PATIENTS: [Change; 5] = [
-    ("[2,2,2,2,2,2]", r#"[2,2,2,2,2,2,"x"]"#, "accepted"),
-    (
-        "[2,2,2,2,2,2]",
-        "[2,2,2,2,2]",
-        "Length at $.patients[0].workload_produced",
-    ),
-    (
-        r#""surgery_due_day":1,"#,
-        "",
-        "Missing at $.patients[0].surgery_due_day",
-    ),
-    (
-        r#""surgery_duration":40,"#,
-        r#""surgery_due_day":"x","surgery_duration":40,"#,
-        "accepted",
-    ),
-    (
-        r#"40,"surgeon_id":"s0""#,
-        r#"40,"surgeon_id":"s1""#,
-        "Unknown at $.patients[1].surgeon_id",
-    ),
-];
+const PATIENTS: &str = r#"
+[2,2,2,2,2,2] | [2,2,2,2,2,2,"x"] | accepted
+[2,2,2,2,2,2] | [2,2,2,2,2] | Length at $.patients[0].workload_produced
+"surgery_due_day":1, |  | Missing at $.patients[0].surgery_due_day
+"surgery_duration":40, | "surgery_due_day":"x","surgery_duration":40, | accepted
+40,"surgeon_id":"s0" | 40,"surgeon_id":"s1" | Unknown at $.patients[1].surgeon_id
+"#;
 
 #[test]
 fn each_change_has_its_answer(rt: HostRuntime) {
-    assert!(rt; are_answered(rt.alloc(), WARD, &PARTS));
-    assert!(rt; are_answered(rt.alloc(), WARD, &NAMES));
-    assert!(rt; are_answered(rt.alloc(), TWO_PATIENTS, &PATIENTS));
+    each_is_answered(&rt, rt.alloc(), WARD, PARTS);
+    each_is_answered(&rt, rt.alloc(), WARD, NAMES);
+    each_is_answered(&rt, rt.alloc(), TWO_PATIENTS, PATIENTS);
 }
 
 // Whether two faults are answered by that of the first key.
@@ -199,11 +155,11 @@ fn is_answered_nested(alloc: Global, depth: usize, wanted: &str) -> bool {
 }
 
 // A second number of days is the one that counts.
-const REPEATED: [Change; 1] = [(r#"{"days":1"#, r#"{"days":0,"days":1"#, "accepted")];
+const REPEATED: &str = r#"{"days":1 | {"days":0,"days":1 | accepted"#;
 
 #[test]
 fn deep_values_and_repeated_keys(rt: HostRuntime) {
     assert!(rt; is_answered_nested(rt.alloc(), 126, "accepted"));
     assert!(rt; is_answered_nested(rt.alloc(), 127, "NotJson at $"));
-    assert!(rt; are_answered(rt.alloc(), WARD, &REPEATED));
+    assert!(rt; is_change_answered(rt.alloc(), WARD, REPEATED));
 }

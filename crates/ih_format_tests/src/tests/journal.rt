@@ -3,6 +3,7 @@
 ghost use Rattle.std.specs.Prelude.{◌^◌};
 ghost use Rattle.ih_tables.specs.Bills.{IsWithin};
 
+use crate::tests::rows::each_row;
 use ih_fixtures::{on_one_room, on_two_patients};
 use ih_journal::{
     BadLine, Entry, Options, Verdict, head_line, line, parse_head, parse_line, parse_move, text,
@@ -10,6 +11,8 @@ use ih_journal::{
 use ih_plan::{Move, Placement};
 use ih_tables::{Bill, Cell, Day, Instance, NurseNo, PatientNo, RoomNo, Shift, TheatreNo};
 use std::alloc::Global;
+use std::process::Abort;
+use std::str::Split;
 
 fn options(seed: u64, workers: u32, moves: u32, retries: u32) -> Options {
     Options {
@@ -23,28 +26,40 @@ fn options(seed: u64, workers: u32, moves: u32, retries: u32) -> Options {
 }
 
 // Workers, moves and retries, and whether a search may have so many.
-const LIMITS: [(u32, u32, u32, bool); 9] = [
-    (1, 1_000_000, 0, true),
-    (1, 1_000_001, 0, false),
-    (64, 15625, 0, true),
-    (64, 15626, 0, false),
-    (64, 15625, 1, false),
-    (65, 1, 0, false),
-    (0, 0, 0, false),
-    (1, 125_000, 7, true),
-    (1, 1, 8, false),
-];
+const LIMITS: &str = "
+1 1000000 0 lawful
+1 1000001 0 unlawful
+64 15625 0 lawful
+64 15626 0 unlawful
+64 15625 1 unlawful
+65 1 0 unlawful
+0 0 0 unlawful
+1 125000 7 lawful
+1 1 8 unlawful
+";
 
-fn are_limits(rows: &[(u32, u32, u32, bool)]) -> bool {
-    rows.iter().all(|(workers, moves, retries, lawful)| options(
-        0, *workers, *moves, *retries,
-    ).lawful()
-        == *lawful)
+// The next number of a row, or one that no search has.
+fn number(fields: &mut Split<'_, char>) -> u32 {
+    fields
+        .next()
+        .and_then(|digits| digits.parse::<u32>().ok())
+        .unwrap_or(u32::MAX)
+}
+
+fn is_limit(row: &str) -> bool {
+    let mut fields = row.split(' ');
+    let (workers, moves, retries) = (
+        number(&mut fields),
+        number(&mut fields),
+        number(&mut fields),
+    );
+    let lawful = options(0, workers, moves, retries).lawful();
+    fields.next() == Some(if lawful { "lawful" } else { "unlawful" })
 }
 
 #[test]
 fn limits_of_options(rt: HostRuntime) {
-    assert!(rt; are_limits(&LIMITS));
+    each_row(&rt, LIMITS, is_limit);
 }
 
 #[test]
@@ -71,22 +86,16 @@ fn reads_heading(text: &str, seed: u64, workers: u32, moves: u32, retries: u32) 
     parse_head(text.as_bytes()) == Some(options(seed, workers, moves, retries))
 }
 
-// Texts that are no headings.
-const NO_HEADINGS: [&str; 7] = [
-    "ihjournal 1 seed=18446744073709551616 workers=64 moves=15625 heat=0 hard=1000",
-    "ihjournal 2 seed=0 workers=1 moves=2 heat=0 hard=1000 retries=0",
-    "ihjournal 1 seed=0 workers=65 moves=2 heat=0 hard=1000",
-    "ihjournal 1 seed=00 workers=1 moves=2 heat=0 hard=1000",
-    "ihjournal 1 seed=0 workers=64 moves=15626 heat=0 hard=1000",
-    "ihjournal 1 seed=0 workers=1 moves=2 heat=0 hard=1000\r",
-    "",
-];
+// Texts that are no headings. One of them is empty.
+const NO_HEADINGS: &str = "
+ihjournal 1 seed=18446744073709551616 workers=64 moves=15625 heat=0 hard=1000
+ihjournal 2 seed=0 workers=1 moves=2 heat=0 hard=1000 retries=0
 
-fn are_no_headings(texts: &[&str]) -> bool {
-    texts
-        .iter()
-        .all(|text| parse_head(text.as_bytes()).is_none())
-}
+ihjournal 1 seed=0 workers=1 moves=2 heat=0 hard=1000\r
+ihjournal 1 seed=0 workers=65 moves=2 heat=0 hard=1000
+ihjournal 1 seed=00 workers=1 moves=2 heat=0 hard=1000
+ihjournal 1 seed=0 workers=64 moves=15626 heat=0 hard=1000
+";
 
 #[test]
 fn headings_read(rt: HostRuntime) {
@@ -96,7 +105,11 @@ fn headings_read(rt: HostRuntime) {
     assert!(rt; reads_heading(first, 0, 1, 2, 0));
     assert!(rt; reads_heading(second, 0, 1, 2, 1));
     assert!(rt; reads_heading(largest, u64::MAX, 64, 15625, 0));
-    assert!(rt; are_no_headings(&NO_HEADINGS));
+    each_row(
+        &rt,
+        NO_HEADINGS,
+        |text| parse_head(text.as_bytes()).is_none(),
+    );
 }
 
 fn line_is(alloc: Global, options: &Options, place: u32, e: &Entry, wanted: &str) -> bool
@@ -209,39 +222,25 @@ fn is_stale_read(inst: &Instance, options: &Options) -> bool {
 }
 
 // Texts that are no lines, and the first field of each that is wrong.
-const NO_LINES: [(&str, u32); 10] = [
-    ("", 1),
-    (
-        "0  0 0 0 idle 0,0,0,0,0,0,0,0,0,0,0,0,0,0,0,0,0 accepted",
-        2,
-    ),
-    (
-        "00 0 0 0 idle 0,0,0,0,0,0,0,0,0,0,0,0,0,0,0,0,0 accepted",
-        1,
-    ),
-    (
-        "0 0 0 -1 idle 0,0,0,0,0,0,0,0,0,0,0,0,0,0,0,0,0 accepted",
-        4,
-    ),
-    (
-        "0 0 0 0 place:2,0,0,0 0,0,0,0,0,0,0,0,0,0,0,0,0,0,0,0,0 accepted",
-        5,
-    ),
-    ("0 0 0 0 idle 0,0,0,0,0,0,0,0,0,0,0,0,0,0,0,0 accepted", 6),
-    (
-        "0 0 0 0 idle 0,0,0,0,0,0,0,0,0,0,0,0,0,0,0,0,-0 accepted",
-        6,
-    ),
-    ("0 0 0 0 idle 0,0,0,0,0,0,0,0,0,0,0,0,0,0,0,0,0", 7),
-    (
-        "0 0 0 0 idle 0,0,0,0,0,0,0,0,0,0,0,0,0,0,0,0,0 accepted\r",
-        7,
-    ),
-    (
-        "0 0 0 0 idle 0,0,0,0,0,0,0,0,0,0,0,0,0,0,0,0,0 accepted ",
-        8,
-    ),
-];
+const NO_LINES: &str = "
+0  0 0 0 idle 0,0,0,0,0,0,0,0,0,0,0,0,0,0,0,0,0 accepted | 2
+ | 1
+00 0 0 0 idle 0,0,0,0,0,0,0,0,0,0,0,0,0,0,0,0,0 accepted | 1
+0 0 0 -1 idle 0,0,0,0,0,0,0,0,0,0,0,0,0,0,0,0,0 accepted | 4
+0 0 0 0 place:2,0,0,0 0,0,0,0,0,0,0,0,0,0,0,0,0,0,0,0,0 accepted | 5
+0 0 0 0 idle 0,0,0,0,0,0,0,0,0,0,0,0,0,0,0,0 accepted | 6
+0 0 0 0 idle 0,0,0,0,0,0,0,0,0,0,0,0,0,0,0,0,-0 accepted | 6
+0 0 0 0 idle 0,0,0,0,0,0,0,0,0,0,0,0,0,0,0,0,0 | 7
+0 0 0 0 idle 0,0,0,0,0,0,0,0,0,0,0,0,0,0,0,0,0 accepted\r | 7
+0 0 0 0 idle 0,0,0,0,0,0,0,0,0,0,0,0,0,0,0,0,0 accepted  | 8
+";
+
+// The same of a journal with retries.
+const NO_TRIES: &str = "
+0 0 0 8 0 idle 0,0,0,0,0,0,0,0,0,0,0,0,0,0,0,0,0 accept | 8
+0 0 0 0 0 idle 0,0,0,0,0,0,0,0,0,0,0,0,0,0,0,0,0 accepted  | 9
+0 0 0 x 0 idle | 4
+";
 
 fn is_wrong_at(inst: &Instance, options: &Options, text: &str, field: u32) -> bool {
     match parse_line(inst, options, text.as_bytes()) {
@@ -250,31 +249,27 @@ fn is_wrong_at(inst: &Instance, options: &Options, text: &str, field: u32) -> bo
     }
 }
 
-fn are_no_lines(inst: &Instance, options: &Options, rows: &[(&str, u32)]) -> bool {
-    rows.iter()
-        .all(|(text, field)| is_wrong_at(inst, options, text, *field))
+fn is_no_line(inst: &Instance, options: &Options, row: &str) -> bool {
+    match row.split_once(" | ") {
+        Some((text, field)) => match field.parse::<u32>() {
+            Ok(field) => is_wrong_at(inst, options, text, field),
+            Err(_) => false,
+        },
+        None => false,
+    }
 }
 
-// The same of a journal with retries.
-const NO_TRIES: [(&str, u32); 3] = [
-    ("0 0 0 8 0 idle 0,0,0,0,0,0,0,0,0,0,0,0,0,0,0,0,0 accept", 8),
-    (
-        "0 0 0 0 0 idle 0,0,0,0,0,0,0,0,0,0,0,0,0,0,0,0,0 accepted ",
-        9,
-    ),
-    ("0 0 0 x 0 idle", 4),
-];
-
-fn lines_read(inst: &Instance) -> bool {
+fn lines_read<R: Abort>(rt: &R, inst: &Instance) -> bool {
     let once = options(0, 2, 1, 0);
+    let twice = options(0, 2, 1, 1);
+    each_row(rt, NO_LINES, |row| is_no_line(inst, &once, row));
+    each_row(rt, NO_TRIES, |row| is_no_line(inst, &twice, row));
     is_stale_read(inst, &once)
-        && are_no_lines(inst, &once, &NO_LINES)
-        && are_no_lines(inst, &options(0, 2, 1, 1), &NO_TRIES)
 }
 
 #[test]
 fn lines_are_read(rt: HostRuntime) {
-    assert!(rt; on_two_patients(rt.alloc(), &[], lines_read));
+    assert!(rt; on_two_patients(rt.alloc(), &[], |inst| lines_read(&rt, inst)));
 }
 
 // Whether the entry has each field of the first one.
@@ -299,30 +294,28 @@ fn each_field_of_a_line_is_read(rt: HostRuntime) {
     assert!(rt; on_one_room(rt.alloc(), &[], is_first_read));
 }
 
-// Texts that are no moves of the ward.
-const NO_MOVES: [&str; 5] = [
-    "swapnurses:6,0,1",
-    "place:0,1,1",
-    "place:0,1,1,01",
-    "Idle",
-    "",
-];
+// Texts that are no moves of the ward. One of them is empty.
+const NO_MOVES: &str = "
+swapnurses:6,0,1
+place:0,1,1
 
-fn are_no_moves(inst: &Instance, texts: &[&str]) -> bool {
-    texts
-        .iter()
-        .all(|text| parse_move(inst, text.as_bytes()).is_none())
-}
+place:0,1,1,01
+Idle
+";
 
-fn moves_read(inst: &Instance) -> bool {
+fn moves_read<R: Abort>(rt: &R, inst: &Instance) -> bool {
+    each_row(
+        rt,
+        NO_MOVES,
+        |text| parse_move(inst, text.as_bytes()).is_none(),
+    );
     let swap = Move::SwapNurses(Shift(5), RoomNo(0), RoomNo(1));
     parse_move(inst, b"idle") == Some(Move::Idle)
         && parse_move(inst, b"place:0,1,1,1") == Some(place(0, 1, 1, 1))
         && parse_move(inst, b"swapnurses:5,0,1") == Some(swap)
-        && are_no_moves(inst, &NO_MOVES)
 }
 
 #[test]
 fn moves_are_read(rt: HostRuntime) {
-    assert!(rt; on_two_patients(rt.alloc(), &[], moves_read));
+    assert!(rt; on_two_patients(rt.alloc(), &[], |inst| moves_read(&rt, inst)));
 }

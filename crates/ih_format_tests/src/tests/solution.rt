@@ -37,7 +37,7 @@ fn solutions_are_read_and_written(rt: HostRuntime) {
     assert!(rt;
         on_one_room(
             alloc,
-            &["p\"\\\u{1f}\n"],
+            &[r#"p\"\\\u001f\n"#],
             |inst| are_written_again(alloc, inst)
         )
     );

@@ -2,9 +2,11 @@
 
 ghost use Rattle.ih_fixtures.specs.Two.{IsOfTwo};
 
-use ih_fixtures::{on_two_patients, share, two_patients_draft};
-use ih_tables::{Bill, Instance, NurseNo, PatientNo, RoomNo, Shift, TheatreNo};
-use std::alloc::Global;
+use ih_fixtures::{on_two_patients, share};
+use ih_tables::{
+    Bill, Draft, Instance, List, Name, NurseNo, PatientNo, Room, RoomNo, Shift, TheatreNo, Weights,
+};
+use std::alloc::{AllocError, Global};
 
 // Whether there are as many of each kind as in the ward of two patients, in the order in which they are counted.
 fn has_sizes(inst: &Instance) -> bool {
@@ -51,14 +53,49 @@ fn the_example_is_valid(rt: HostRuntime) {
     assert!(rt; on_two_patients(rt.alloc(), &[], is_the_example));
 }
 
-// Whether the example is invalid where its first room has so many beds.
-fn is_too_wide(alloc: Global, beds: u32) -> bool {
-    two_patients_draft(alloc, &[], beds).is_ok_and(|draft| !draft.is_valid())
+fn names(alloc: Global, texts: &[&str]) -> Result<List<Name>, AllocError> {
+    let mut names = Vec::new(alloc);
+    for text in texts {
+        names.push(Name::new(String::from_str(alloc, text)?))?;
+    }
+    Ok(List::new(names))
+}
+
+// One room of so many beds.
+fn rooms(alloc: Global, capacity: u32) -> Result<List<Room>, AllocError> {
+    let id = Name::new(String::from_str(alloc, "r0")?);
+    Ok(List::new(vec![in alloc; Room { id, capacity }]?))
+}
+
+// A ward of nothing but a room of so many beds.
+fn ward(alloc: Global, beds: u32) -> Result<Draft, AllocError> {
+    let mut draft = Draft {
+        days: 1,
+        skill_levels: 1,
+        shift_types: List::new(Vec::new(alloc)),
+        age_groups: List::new(Vec::new(alloc)),
+        weights: Weights { w: [0; 8] },
+        surgeons: List::new(Vec::new(alloc)),
+        operating_theaters: List::new(Vec::new(alloc)),
+        rooms: List::new(Vec::new(alloc)),
+        nurses: List::new(Vec::new(alloc)),
+        occupants: List::new(Vec::new(alloc)),
+        patients: List::new(Vec::new(alloc)),
+    };
+    draft.shift_types = names(alloc, &["early", "late", "night"])?;
+    draft.rooms = rooms(alloc, beds)?;
+    Ok(draft)
+}
+
+// Whether such a ward is valid, where that is said.
+fn is_valid(alloc: Global, beds: u32, valid: bool) -> bool {
+    ward(alloc, beds).is_ok_and(|draft| draft.is_valid() == valid)
 }
 
 #[test]
 fn a_room_of_too_many_beds_is_refused(rt: HostRuntime) {
-    assert!(rt; is_too_wide(rt.alloc(), 1001));
+    assert!(rt; is_valid(rt.alloc(), 1000, true));
+    assert!(rt; is_valid(rt.alloc(), 1001, false));
 }
 
 #[test]

@@ -1,4 +1,5 @@
 //! Examples of the public calls, with ample memory.
+use crate::tests::rows::each_row;
 use ih_journal::Options;
 use ih_words::{Chains, Command, Replay, Solve, WordsError, read_words};
 use std::alloc::{AllocError, Global};
@@ -70,44 +71,32 @@ fn told(command: &Command<'_>) -> Option<&'static str> {
     }
 }
 
-// A command's name, and the words behind it.
-const LINES: [(&str, &str); 7] = [
-    (
-        "solve",
-        "solve i --seed=+007 o j --workers 64 --moves 1953 --heat 50 --hard 1000000 --start s --freeze=56 --retries 7",
-    ),
-    (
-        "chain",
-        "chain i o --length=8 j --seed 7 --workers 50 --moves 2500 --heat 50 --hard 1000 --fill",
-    ),
-    ("check", "check i s"),
-    ("replay", "replay i --fill j o"),
-    ("salvage", "salvage i j o --start=s"),
-    ("gen", "gen 7 o"),
-    ("demo", "demo 18446744073709551615"),
-];
+// Calls of each command.
+const LINES: &str = "
+solve i --seed=+007 o j --workers 64 --moves 1953 --heat 50 --hard 1000000 --start s --freeze=56 --retries 7
+chain i o --length=8 j --seed 7 --workers 50 --moves 2500 --heat 50 --hard 1000 --fill
+check i s
+replay i --fill j o
+salvage i j o --start=s
+gen 7 o
+demo 18446744073709551615
+";
 
 // Whether the words are read as that command.
 fn is_command(alloc: Global, words: &[String], name: &str) -> bool {
     read_words(alloc, words).is_ok_and(|command| told(&command) == Some(name))
 }
 
-fn is_read(alloc: Global, line: &str, name: &str) -> bool {
+// Whether the words of a line are read as the command that is the first of them.
+fn is_read(alloc: Global, line: &str) -> bool {
+    let name = line.split_whitespace().next().unwrap_or("");
     words_of(alloc, line).is_ok_and(|words| is_command(alloc, words.as_slice(), name))
-}
-
-fn are_read(alloc: Global, rows: &[(&str, &str)]) -> bool {
-    for (name, line) in rows {
-        if !is_read(alloc, line, name) {
-            return false;
-        }
-    }
-    true
 }
 
 #[test]
 fn commands_have_their_values(rt: HostRuntime) {
-    assert!(rt; are_read(rt.alloc(), &LINES));
+    let alloc = rt.alloc();
+    each_row(&rt, LINES, |line| is_read(alloc, line));
 }
 
 fn is_unlawful(alloc: Global, line: &str) -> bool {
@@ -120,23 +109,14 @@ fn is_unlawful(alloc: Global, line: &str) -> bool {
     }
 }
 
-// Words that no command has.
-const UNLAWFUL: [&str; 5] = [
-    "",
-    "check i i",
-    "solve --help",
-    "solve i o j",
-    "replay i j o --freeze=0",
-];
+// Words that no command has. One line has none.
+const UNLAWFUL: &str = "
+check i i
 
-fn are_unlawful(alloc: Global, lines: &[&str]) -> bool {
-    for line in lines {
-        if !is_unlawful(alloc, line) {
-            return false;
-        }
-    }
-    true
-}
+solve --help
+solve i o j
+replay i j o --freeze=0
+";
 
 // Whether that is said of such words.
 fn is_said(alloc: Global) -> bool {
@@ -148,6 +128,7 @@ fn is_said(alloc: Global) -> bool {
 
 #[test]
 fn other_words_are_unlawful(rt: HostRuntime) {
-    assert!(rt; are_unlawful(rt.alloc(), &UNLAWFUL));
-    assert!(rt; is_said(rt.alloc()));
+    let alloc = rt.alloc();
+    each_row(&rt, UNLAWFUL, |line| is_unlawful(alloc, line));
+    assert!(rt; is_said(alloc));
 }

@@ -5,6 +5,7 @@ ghost use Rattle.ih_tables.specs.{Bills.IsWithin, Sizes.sizes_of};
 ghost use Rattle.ih_plan.specs.{Expand.IsMoveOf, Timetable.IsPlanOf};
 ghost use Rattle.ih_fixtures.specs.Two.{IsOfTwo};
 
+use crate::tests::bills::{FREE, KEPT, has};
 use ih_costs::Ledgers;
 use ih_fixtures::{first_day, on_first_admitted, share};
 use ih_footprint::{CellList, Numbering};
@@ -12,18 +13,16 @@ use ih_plan::{Move, Plan, Write};
 use ih_tables::{Bill, Day, Instance, NurseNo, PatientNo, RoomNo, Shift};
 use std::alloc::Global;
 
-// Whether a bill has these numbers.
-fn is(bill: &Bill, broken: [i64; 9], soft: [i64; 8]) -> bool {
-    bill.v == broken && bill.s == soft
-}
+// Both genders in a room with too few beds.
+const CROWDED: &str = "1 0 0 0 0 0 1 0 0";
 
 // Whether the move has this price, in broken rules and in costs, and this footprint.
 fn costs(
     ledgers: &mut Ledgers<'_>,
     foot: &mut CellList,
     mv: &Move,
-    broken: [i64; 9],
-    soft: [i64; 8],
+    broken: &str,
+    soft: &str,
     cells: &[u32],
 ) -> bool
     requires move_in { IsMoveOf ledgers.old.instance mv.now }
@@ -32,7 +31,7 @@ fn costs(
     ensures sizes { foot.new.sizes ≡ foot.old.sizes }
 {
     let price = ledgers.price(mv, foot);
-    is(&price, broken, soft) && foot.cells() == cells
+    has(&price, broken, soft) && foot.cells() == cells
 }
 
 // Whether each price is right: the second patient joins the first, the second nurse takes the night, and a patient who
@@ -50,24 +49,24 @@ fn prices_are_right(inst: &Instance, ledgers: &mut Ledgers<'_>, foot: &mut CellL
         ledgers,
         foot,
         &join,
-        [1, 0, 0, 0, 0, 0, 1, 0, 0],
-        [1, 6, 1, 3, 1, 1, 0, -1],
+        CROWDED,
+        "1 6 1 3 1 1 0 -1",
         &[1, 2, 8, 10, 12, 13, 14, 24, 25, 26, 37],
     );
     let nursed = costs(
         ledgers,
         foot,
         &night,
-        [0; 9],
-        [0, -2, 2, 0, 0, 0, 0, 0],
+        KEPT,
+        "0 -2 2 0 0 0 0 0",
         &[14, 26, 32, 36, 38],
     );
-    let nothing = costs(ledgers, foot, &later, [0; 9], [0; 8], &[1]);
+    let nothing = costs(ledgers, foot, &later, KEPT, FREE, &[1]);
     joined && nursed && nothing
 }
 
 // The costs while the first patient alone is admitted.
-const ALONE: [i64; 8] = [1, 2, 2, 0, 1, 0, 0, 1];
+const ALONE: &str = "1 2 2 0 1 0 0 1";
 
 // Whether a bill costs so much, has this score, and is feasible where that is said.
 fn comes_to(inst: &Instance, bill: &Bill, cost: i64, score: i64, feasible: bool) -> bool
@@ -90,13 +89,9 @@ fn bills_follow(inst: &Instance, ledgers: &mut Ledgers<'_>) -> bool
     let left = ledgers.total();
     comes_to(inst, &before, 159, 159, true)
         && comes_to(inst, &joined, 166, 2_166, false)
-        && is(&before, [0; 9], ALONE)
-        && is(
-            &joined,
-            [1, 0, 0, 0, 0, 0, 1, 0, 0],
-            [2, 8, 3, 3, 2, 1, 0, 0],
-        )
-        && is(&left, [0; 9], ALONE)
+        && has(&before, KEPT, ALONE)
+        && has(&joined, CROWDED, "2 8 3 3 2 1 0 0")
+        && has(&left, KEPT, ALONE)
         && ledgers.plan().stay(PatientNo(1)) == None
 }
 

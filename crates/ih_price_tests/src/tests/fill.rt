@@ -32,45 +32,34 @@ fn is_out(inst: &Instance, plan: &Plan, p: u32) -> bool
     p < inst.patients() && plan.stay(PatientNo(p)).is_none()
 }
 
-// Whether a room has this nurse in a shift.
-fn has(inst: &Instance, plan: &Plan, r: u32, k: u32, nurse: u32) -> bool
-    requires { IsPlanOf inst.now.draft plan.now }
-{
-    if r >= inst.rooms() {
-        return false;
+// A nurse's digit, or a dot for none.
+fn digit(nurse: Option<NurseNo>) -> char {
+    match nurse {
+        Some(NurseNo(0)) => '0',
+        Some(NurseNo(1)) => '1',
+        Some(_) => '?',
+        None => '.',
     }
-    if k >= inst.shifts() {
-        return false;
-    }
-    plan.care(RoomNo(r), Shift(k)) == Some(NurseNo(nurse))
 }
 
-// Whether a room has no nurse in the shifts from one on.
-fn has_none_from(inst: &Instance, plan: &Plan, r: u32, first: u32) -> bool
+// Whether a room has these nurses, shift by shift.
+fn has_nurses(inst: &Instance, plan: &Plan, r: u32, wanted: &str) -> bool
     requires { IsPlanOf inst.now.draft plan.now }
 {
     if r >= inst.rooms() {
         return false;
     }
-    for k in first..inst.shifts() {
-        if plan.care(RoomNo(r), Shift(k)).is_some() {
+    let mut digits = wanted.chars();
+    for k in 0..inst.shifts() {
+        if digits.next() != Some(digit(plan.care(RoomNo(r), Shift(k)))) {
             return false;
         }
     }
-    true
+    digits.next().is_none()
 }
 
-// Whether the first room has the first nurse but in the third shift, in which the occupant needs the other's skill.
-fn is_skilled(inst: &Instance, plan: &Plan) -> bool
-    requires { IsPlanOf inst.now.draft plan.now }
-{
-    has(inst, plan, 0, 0, 0)
-        && has(inst, plan, 0, 1, 0)
-        && has(inst, plan, 0, 2, 1)
-        && has(inst, plan, 0, 3, 0)
-        && has(inst, plan, 0, 4, 0)
-        && has(inst, plan, 0, 5, 0)
-}
+// The first nurse but in the third shift, in which the occupant needs the other's skill.
+const SKILLED: &str = "001000";
 
 // Whether both patients and then both nurses are where they change the bill least.
 fn all_are_placed(inst: &Instance, plan: &Plan) -> bool
@@ -78,11 +67,8 @@ fn all_are_placed(inst: &Instance, plan: &Plan) -> bool
 {
     is_placed(inst, plan, 0, 1, 0)
         && is_placed(inst, plan, 1, 0, 1)
-        && is_skilled(inst, plan)
-        && has(inst, plan, 1, 0, 1)
-        && has(inst, plan, 1, 1, 1)
-        && has(inst, plan, 1, 2, 1)
-        && has_none_from(inst, plan, 1, 3)
+        && has_nurses(inst, plan, 0, SKILLED)
+        && has_nurses(inst, plan, 1, "111...")
 }
 
 // Whether the second patient is left out: the first room has patients of another gender on both days, and the second is
@@ -92,8 +78,8 @@ fn one_is_left_out(inst: &Instance, plan: &Plan) -> bool
 {
     is_placed(inst, plan, 0, 1, 0)
         && is_out(inst, plan, 1)
-        && is_skilled(inst, plan)
-        && has_none_from(inst, plan, 1, 0)
+        && has_nurses(inst, plan, 0, SKILLED)
+        && has_nurses(inst, plan, 1, "......")
 }
 
 fn fills_all(alloc: Global, inst: &Instance) -> bool {

@@ -4,25 +4,17 @@ ghost use Rattle.ih_plan.specs.Timetable.{empty};
 ghost use Rattle.ih_nurses.specs.Ledger.{IsLedgerOf};
 ghost use Rattle.ih_fixtures.specs.Two.{IsOfTwo};
 
+use crate::tests::bills::{FREE, KEPT, has};
 use ih_fixtures::{first_day, share};
 use ih_nurses::Nurses;
-use ih_tables::{Bill, Instance, NurseNo, PatientNo, PersonNo, RoomNo, Shift};
+use ih_tables::{Instance, NurseNo, PatientNo, PersonNo, RoomNo, Shift};
 use std::alloc::Global;
 
-// Whether the bill has these numbers: broken rules, then costs.
-fn is(bill: &Bill, broken: [i64; 9], costs: [i64; 8]) -> bool {
-    bill.v == broken && bill.s == costs
-}
+const UNCOVERED: &str = "0 0 0 0 0 0 0 0 1";
 
-const KEPT: [i64; 9] = [0; 9];
+const SKILL_OF_2: &str = "0 2 0 0 0 0 0 0";
 
-const UNCOVERED: [i64; 9] = [0, 0, 0, 0, 0, 0, 0, 0, 1];
-
-const NONE: [i64; 8] = [0; 8];
-
-const SKILL_OF_2: [i64; 8] = [0, 2, 0, 0, 0, 0, 0, 0];
-
-const ONE_NURSE: [i64; 8] = [0, 0, 1, 0, 0, 0, 0, 0];
+const ONE_NURSE: &str = "0 0 1 0 0 0 0 0";
 
 // Whether each bill is right after the first patient joins the occupant, and the unskilled nurse has the room in the
 // night.
@@ -38,15 +30,15 @@ fn one_is_right(inst: &Instance, ledger: &mut Nurses) -> bool
     let elsewhere = ledger.room_shift_bill(inst, RoomNo(1), Shift(0));
     let care = ledger.care_bill(inst, PersonNo(0));
     let load = ledger.nurse_shift_bill(inst, NurseNo(0), Shift(2));
-    is(&night, KEPT, SKILL_OF_2)
-        && is(&early, UNCOVERED, NONE)
-        && is(&elsewhere, KEPT, NONE)
-        && is(&care, KEPT, ONE_NURSE)
-        && is(&load, KEPT, NONE)
+    has(&night, KEPT, SKILL_OF_2)
+        && has(&early, UNCOVERED, FREE)
+        && has(&elsewhere, KEPT, FREE)
+        && has(&care, KEPT, ONE_NURSE)
+        && has(&load, KEPT, FREE)
         && ledger.plan().stay(PatientNo(0)) == Some(at)
 }
 
-const SKILL_OF_4: [i64; 8] = [0, 4, 0, 0, 0, 0, 0, 0];
+const SKILL_OF_4: &str = "0 4 0 0 0 0 0 0";
 
 // Whether the second patient alone has the nurse once the first patient has left again.
 fn one_is_right_once_one_left(inst: &Instance, ledger: &mut Nurses) -> bool
@@ -62,7 +54,7 @@ fn one_is_right_once_one_left(inst: &Instance, ledger: &mut Nurses) -> bool
     let night = ledger.room_shift_bill(inst, RoomNo(0), Shift(2));
     let gone = ledger.care_bill(inst, PersonNo(0));
     let there = ledger.care_bill(inst, PersonNo(1));
-    is(&night, KEPT, SKILL_OF_4) && is(&gone, KEPT, NONE) && is(&there, KEPT, ONE_NURSE)
+    has(&night, KEPT, SKILL_OF_4) && has(&gone, KEPT, FREE) && has(&there, KEPT, ONE_NURSE)
 }
 
 /// A patient who has left again has no nurse, while another one has.

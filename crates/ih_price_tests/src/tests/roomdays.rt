@@ -5,15 +5,12 @@ ghost use Rattle.ih_plan.specs.Timetable.{empty};
 ghost use Rattle.ih_roomdays.specs.Ledger.{IsLedgerOf};
 ghost use Rattle.ih_fixtures.specs.Two.{IsOfTwo};
 
+use crate::tests::bills::{KEPT, has};
 use ih_fixtures::{first_day, share};
 use ih_plan::Members;
 use ih_roomdays::RoomDays;
-use ih_tables::{Bill, Day, Instance, PatientNo, RoomNo};
+use ih_tables::{Day, Instance, PatientNo, RoomNo};
 use std::alloc::Global;
-
-fn is(bill: &Bill, mixed: i64, over: i64, spread: i64) -> bool {
-    bill.v == [mixed, 0, 0, 0, 0, 0, over, 0, 0] && bill.s == [spread, 0, 0, 0, 0, 0, 0, 0]
-}
 
 // Whether two persons are in the first room on the first day, and just these, in any order.
 fn are_there(ledger: &RoomDays, x: u32, y: u32) -> bool
@@ -40,7 +37,7 @@ fn is_right(inst: &Instance, ledger: &mut RoomDays) -> bool
     let both = are_there(ledger, 0, 2);
     let later = ledger.count(RoomNo(0), Day(1));
     let bill = ledger.cell_bill(inst, RoomNo(0), Day(0));
-    both && later == 1 && is(&bill, 0, 0, 1)
+    both && later == 1 && has(&bill, KEPT, "1 0 0 0 0 0 0 0")
 }
 
 // Whether the second patient and the occupant are there once the first patient has left again.

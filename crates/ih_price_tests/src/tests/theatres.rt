@@ -4,18 +4,13 @@ ghost use Rattle.ih_plan.specs.Timetable.{empty};
 ghost use Rattle.ih_theatres.specs.Ledger.{IsLedgerOf};
 ghost use Rattle.ih_fixtures.specs.Two.{IsOfTwo};
 
+use crate::tests::bills::{FREE, KEPT, has};
 use ih_fixtures::{first_day, share};
-use ih_tables::{Bill, Day, Instance, PatientNo, SurgeonNo, TheatreNo};
+use ih_tables::{Day, Instance, PatientNo, SurgeonNo, TheatreNo};
 use ih_theatres::Theatres;
 use std::alloc::Global;
 
-const NONE: [i64; 8] = [0; 8];
-
-const OPEN: [i64; 8] = [0, 0, 0, 0, 1, 0, 0, 0];
-
-fn is(bill: &Bill, costs: [i64; 8]) -> bool {
-    bill.v == [0; 9] && bill.s == costs
-}
+const OPEN: &str = "0 0 0 0 1 0 0 0";
 
 // Whether each bill is right once the first patient has entered.
 fn are_right(inst: &Instance, ledger: &mut Theatres) -> bool
@@ -26,7 +21,7 @@ fn are_right(inst: &Instance, ledger: &mut Theatres) -> bool
     ledger.enter(inst, PatientNo(0), here);
     let used = ledger.theatre_bill(inst, TheatreNo(0), Day(0));
     let alone = ledger.surgeon_bill(inst, SurgeonNo(0), Day(0));
-    is(&used, OPEN) && is(&alone, NONE)
+    has(&used, KEPT, OPEN) && has(&alone, KEPT, FREE)
 }
 
 // Whether the second patient's theatre alone is open once the first patient has left again.
@@ -41,7 +36,7 @@ fn are_right_once_one_left(inst: &Instance, ledger: &mut Theatres) -> bool
     ledger.leave(inst, PatientNo(0), here);
     let unused = ledger.theatre_bill(inst, TheatreNo(0), Day(0));
     let used = ledger.theatre_bill(inst, TheatreNo(1), Day(0));
-    is(&unused, NONE) && is(&used, OPEN)
+    has(&unused, KEPT, FREE) && has(&used, KEPT, OPEN)
 }
 
 /// A surgery that is taken back closes its theatre, while another one keeps its own open.

@@ -1,10 +1,10 @@
 //! Whole calls of advise, over files in memory.
 
-use crate::examples::{COVERED_SOLUTION, ONE_ADMITTED};
-use crate::tests::script::Event::{Ends, Lay};
-use crate::tests::script::{Event, goes};
-use crate::tests::whole_calls::{exits_past, lay};
+use crate::tests::program::{exits_past, goes};
 use ih_fixtures::{TWO_PATIENTS, WARD};
+use ih_scripts::Event::{Ends, Lay};
+use ih_scripts::examples::{COVERED_SOLUTION, ONE_ADMITTED};
+use ih_scripts::{Event, lay};
 use ih_shelf::{HoldGate, MemShelf, MemSink};
 use ih_top::Status;
 use std::alloc::Global;
@@ -48,7 +48,7 @@ fn advises_past<R: Files + Print + Threads + Wait + Sync>(
 
 fn advises_side_by_side<R: Files + Print + Threads + Wait + Sync>(rt: &R, alloc: Global) -> bool {
     let mut shelf = MemShelf::new(alloc);
-    lay(alloc, &mut shelf, TWO_PATIENTS, ONE_ADMITTED).is_ok()
+    lay(&mut shelf, TWO_PATIENTS, ONE_ADMITTED).is_ok()
         && advises_past(rt, alloc, &mut shelf, &HoldGate::new(TURNS, 1))
 }
 

@@ -4,13 +4,13 @@ ghost use Rattle.std.specs.Prelude.{◌≤◌, All, length};
 ghost use Rattle.ih_plan.specs.{Series.AreMoves, Timetable.IsPlanOf};
 ghost use Rattle.ih_chain.specs.Entries.{chain_tries};
 
-use crate::examples::ONE_ADMITTED;
 use ih_chain::{ChainEntry, run_chains};
 use ih_fixtures::TWO_PATIENTS;
 use ih_history::plan_at;
 use ih_instance::read_instance;
 use ih_journal::{Options, Verdict};
 use ih_plan::Plan;
+use ih_scripts::examples::ONE_ADMITTED;
 use ih_shelf::OpenGate;
 use ih_solution::read_solution;
 use ih_tables::{Bill, Instance};

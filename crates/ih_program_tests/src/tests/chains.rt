@@ -1,12 +1,13 @@
 //! Whole calls of searches by chains, over files in memory.
 
-use crate::examples::{COVERED_SOLUTION, FOUND, JOURNAL, SEARCH};
-use crate::tests::script::Event::{
-    Alike, Ends, Exits, Held, Holds, Lines, Pairs, Same, SameLines, Store,
-};
-use crate::tests::script::{Event, all_go, goes};
+use crate::tests::program::{all_go, goes};
 use ih_fixtures::WARD;
 use ih_journal::{JournalRefusal, Reason};
+use ih_scripts::Event;
+use ih_scripts::Event::{
+    Alike, Ends, Exits, Held, Holds, Lines, Pairs, Same, SameLines, Shows, Store,
+};
+use ih_scripts::examples::{COVERED_SOLUTION, FOUND, JOURNAL, SEARCH};
 use ih_top::Status;
 
 const ONE_PAIR: &str = "chain i o j --seed 0 --workers 1 --moves 1 --heat 0 --hard 1000 --length 2";
@@ -109,7 +110,12 @@ fn a_chain_that_another_made_stale(rt: HostRuntime) {
 const HUNDRED_HELD: &str =
     "chain i o j --seed 18446744073709551615 --workers 2 --moves 100 --heat 1000000 --hard 1000 --start s --length 3";
 
-const SIDE_BY_SIDE: [Event<'static>; 2] = [Held(HUNDRED_HELD, 100, "", "", None), Pairs("j")];
+// Of three moves each. Some are accepted, and some are stale by what the other worker made since.
+const SIDE_BY_SIDE: [Event<'static>; 3] = [
+    Held(HUNDRED_HELD, 100, "", "", None),
+    Pairs("j"),
+    Shows("j", &[" accepted\n", " stale:"]),
+];
 
 #[test]
 fn every_chain_beside_another(rt: HostRuntime) {
@@ -117,22 +123,30 @@ fn every_chain_beside_another(rt: HostRuntime) {
 }
 
 // Searches by chains from the fill of a generated instance, and how many lines their journals have.
-const SEARCHES: [Event<'static>; 17] = [
+const SEARCHES: [Event<'static>; 25] = [
     Ends("gen 7 i", Status::Done, ""),
     Exits("chain i o j --seed 5 --workers 1 --moves 600 --heat 50 --hard 100000 --fill --length 1"),
     Lines("j", 601),
+    Exits("chain i o j --seed 5 --workers 1 --moves 300 --heat 50 --hard 100000 --fill --length 3"),
+    Lines("j", 301),
     Exits("chain i o j --seed 5 --workers 1 --moves 200 --heat 50 --hard 100000 --fill --length 8"),
     Lines("j", 201),
     Exits("chain i o j --seed 5 --workers 2 --moves 600 --heat 50 --hard 100000 --fill --length 1"),
     Lines("j", 1201),
     Exits("chain i o j --seed 5 --workers 2 --moves 300 --heat 50 --hard 100000 --fill --length 3"),
     Lines("j", 601),
+    Exits("chain i o j --seed 5 --workers 2 --moves 100 --heat 50 --hard 100000 --fill --length 8"),
+    Lines("j", 201),
+    Exits("chain i o j --seed 5 --workers 8 --moves 200 --heat 50 --hard 100000 --fill --length 1"),
+    Lines("j", 1601),
     Exits("chain i o j --seed 5 --workers 8 --moves 200 --heat 20 --hard 100000 --fill --length 3"),
     Lines("j", 1601),
     Exits("chain i o j --seed 5 --workers 8 --moves 100 --heat 20 --hard 100000 --fill --length 8"),
     Lines("j", 801),
     Exits("chain i o j --seed 5 --workers 64 --moves 50 --heat 20 --hard 100000 --fill --length 1"),
     Lines("j", 3201),
+    Exits("chain i o j --seed 5 --workers 64 --moves 30 --heat 20 --hard 100000 --fill --length 3"),
+    Lines("j", 1921),
     Exits("chain i o j --seed 5 --workers 64 --moves 30 --heat 20 --hard 100000 --fill --length 8"),
     Lines("j", 1921),
 ];

@@ -1,17 +1,18 @@
 //! Whole calls of the program, over files in memory.
 
-use crate::examples::{
+use crate::tests::program::{all_go, exits_past, goes};
+use ih_fixtures::{TWO_PATIENTS, WARD};
+use ih_journal::{JournalRefusal, Reason};
+use ih_scripts::Event;
+use ih_scripts::Event::{Change, Ends, FailRead, FailWrite, Holds, Lay, Spaces, Store};
+use ih_scripts::examples::{
     CHECKED, COVERED_SOLUTION, COVERED_START, FOUND, FULL_THEATRE, JOURNAL, LONG_SURGERY, NO_MOVES,
     NOTHING, NOWHERE, ONE_ADMITTED, OVERLAP, SEARCH, TWO_GENDERS,
 };
-use crate::tests::script::Event::{Change, Ends, FailRead, FailWrite, Holds, Lay, Store};
-use crate::tests::script::{Event, all_go, goes};
-use crate::tests::whole_calls::{ends, status_of};
-use ih_fixtures::{TWO_PATIENTS, WARD};
-use ih_shelf::{MemShelf, MemSink, NeverFails, OpenGate};
+use ih_shelf::{MemSink, NeverFails, OpenGate};
 use ih_tables::{Fault, Key, Place, Refusal, Step};
 use ih_top::{Role, Status};
-use std::alloc::{AllocError, Global};
+use std::alloc::Global;
 use std::rt::Files;
 use std::sync::Wait;
 use std::thread::Threads;
@@ -366,12 +367,9 @@ fn is_done_on<R: Files + Print + Threads + Wait + Sync>(
     shelf: &mut NeverFails,
 ) -> bool {
     let mut out = MemSink::new(alloc);
-    match status_of(rt, alloc, SEARCH, shelf, &mut out, &OpenGate) {
-        Ok(status) => {
-            status == Status::Done && out.bytes() == FOUND.as_bytes() && has_both(shelf)
-        }
-        Err(_) => false,
-    }
+    exits_past(rt, alloc, SEARCH, shelf, &mut out, &OpenGate, Status::Done)
+        && out.bytes() == FOUND.as_bytes()
+        && has_both(shelf)
 }
 
 fn is_done_without_faults<R: Files + Print + Threads + Wait + Sync>(rt: &R, alloc: Global) -> bool {
@@ -384,20 +382,68 @@ fn searches_where_no_file_fails(rt: HostRuntime) {
     assert!(rt; is_done_without_faults(&rt, rt.alloc()));
 }
 
-// An instance of one byte too many.
-fn lay_long(alloc: Global, shelf: &mut MemShelf) -> Result<(), AllocError> {
-    let spaces = vec![in alloc; b' '; 67_108_865]?;
-    shelf.store("i", spaces.as_slice())
-}
+const NO_INSTANCE: Status = Status::InstanceRefused(Refusal {
+    fault: Fault::NotJson,
+    at: NOWHERE,
+});
 
-fn is_too_long<R: Files + Print + Threads + Wait + Sync>(rt: &R, alloc: Global) -> bool {
-    let mut shelf = MemShelf::new(alloc);
-    let status = Status::TooLong(Role::Instance);
-    lay_long(alloc, &mut shelf).is_ok()
-        && ends(rt, alloc, CHECK, &mut shelf, status, "too long: i\n")
-}
+// An instance of the greatest length, and of one byte more.
+const LONG_INSTANCE: [Event<'static>; 4] = [
+    Spaces("i", 67_108_864),
+    Ends(CHECK, NO_INSTANCE, "instance refused: NotJson at $\n"),
+    Spaces("i", 67_108_865),
+    Ends(CHECK, Status::TooLong(Role::Instance), "too long: i\n"),
+];
+
+const LONG_SOLUTION: [Event<'static>; 3] = [
+    Store("i", WARD),
+    Spaces("s", 67_108_865),
+    Ends(CHECK, Status::TooLong(Role::Solution), "too long: s\n"),
+];
+
+const NO_HEADING: Status = Status::JournalRefused(JournalRefusal {
+    line: 1,
+    reason: Reason::Heading,
+});
+
+// A journal of the greatest length, and of one byte more.
+const LONG_JOURNAL: [Event<'static>; 5] = [
+    Store("i", WARD),
+    Spaces("j", 268_435_456),
+    Ends(
+        "replay i j o",
+        NO_HEADING,
+        "journal refused: line 1: Heading\n",
+    ),
+    Spaces("j", 268_435_457),
+    Ends(
+        "replay i j o",
+        Status::TooLong(Role::Journal),
+        "too long: j\n",
+    ),
+];
+
+const LONG: [&[Event<'static>]; 3] = [&LONG_INSTANCE, &LONG_SOLUTION, &LONG_JOURNAL];
 
 #[test]
 fn one_byte_too_many(rt: HostRuntime) {
-    assert!(rt; is_too_long(&rt, rt.alloc()));
+    assert!(rt; all_go(&rt, rt.alloc(), &LONG));
+}
+
+// The weight's other spelling makes no difference.
+const OTHER_SPELLING: [Event<'static>; 4] = [
+    Change(
+        "i",
+        WARD,
+        "nurse_eccessive_workload",
+        "nurse_excessive_workload",
+    ),
+    Ends(SEARCH, Status::Done, FOUND),
+    Holds("j", Some(JOURNAL)),
+    Holds("o", Some(COVERED_SOLUTION)),
+];
+
+#[test]
+fn a_weight_in_its_other_spelling(rt: HostRuntime) {
+    assert!(rt; goes(&rt, rt.alloc(), &OTHER_SPELLING));
 }

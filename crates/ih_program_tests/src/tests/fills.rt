@@ -1,10 +1,11 @@
-//! The fill by several workers, of a ward of two patients.
+//! The fill by several workers, of a ward of two patients and of a generated one.
 
 ghost use Rattle.std.specs.Prelude.{◌<◌, ◌≤◌};
 ghost use Rattle.ih_plan.specs.Timetable.{IsPlanOf};
 
 use ih_fill::fill;
 use ih_fixtures::TWO_PATIENTS;
+use ih_gen::generate;
 use ih_instance::read_instance;
 use ih_parfill::par_fill;
 use ih_plan::Plan;
@@ -54,59 +55,90 @@ fn are_one(text: &Option<Vec<u8>>, other: &Option<Vec<u8>>) -> bool {
     }
 }
 
-// Whether so many workers fill the empty timetable as one does.
+// Whether two workers fill the empty timetable past a gate as one does.
 #[tactic(auto, using(ih_plan::proofs::PlanRanges::plan_steps))]
-fn fill_alike<R: Threads + Wait + Sync, G: Gate>(
+fn two_fill_alike<R: Threads + Wait + Sync, G: Gate>(
     rt: &R,
     alloc: Global,
     inst: &Instance,
-    workers: u32,
     gate: &G,
-) -> bool
-    requires some { 0 < workers }
-    requires few { workers ≤ 64 }
-{
+) -> bool {
     match Plan::empty(alloc, inst) {
         Ok(empty) => are_one(
-            &filled_by(rt, alloc, inst, &empty, workers, gate),
+            &filled_by(rt, alloc, inst, &empty, 2, gate),
             &filled_alone(alloc, inst, &empty),
         ),
         Err(_) => false,
     }
 }
 
-/// The same on the ward of two patients.
-pub fn fill_ward_alike<R: Threads + Wait + Sync, G: Gate>(
+/// Whether two workers fill the ward of two patients past a gate as one does.
+pub fn two_fill_ward_alike<R: Threads + Wait + Sync, G: Gate>(
     rt: &R,
     alloc: Global,
-    workers: u32,
     gate: &G,
-) -> bool
-    requires some { 0 < workers }
-    requires few { workers ≤ 64 }
-{
+) -> bool {
     match read_instance(alloc, TWO_PATIENTS.as_bytes()) {
-        Ok(inst) => fill_alike(rt, alloc, &inst, workers, gate),
+        Ok(inst) => two_fill_alike(rt, alloc, &inst, gate),
         Err(_) => false,
     }
 }
 
-fn all_fill_alike<R: Threads + Wait + Sync>(rt: &R, alloc: Global) -> bool {
-    fill_ward_alike(rt, alloc, 1, &OpenGate)
-        && fill_ward_alike(rt, alloc, 2, &OpenGate)
-        && fill_ward_alike(rt, alloc, 64, &OpenGate)
+// Whether 1, 2 and 64 workers fill the empty timetable as it is filled alone.
+fn all_fill<R: Threads + Wait + Sync>(rt: &R, alloc: Global, inst: &Instance, empty: &Plan) -> bool
+    requires { IsPlanOf inst.now.draft empty.now }
+{
+    let alone = filled_alone(alloc, inst, empty);
+    for workers in [1, 2, 64] {
+        if !are_one(
+            &filled_by(rt, alloc, inst, empty, workers, &OpenGate),
+            &alone,
+        ) {
+            return false;
+        }
+    }
+    true
+}
+
+#[tactic(auto, using(ih_plan::proofs::PlanRanges::plan_steps))]
+fn all_fill_empty<R: Threads + Wait + Sync>(rt: &R, alloc: Global, inst: &Instance) -> bool {
+    match Plan::empty(alloc, inst) {
+        Ok(empty) => all_fill(rt, alloc, inst, &empty),
+        Err(_) => false,
+    }
+}
+
+// The same on the ward of a file.
+fn all_fill_file<R: Threads + Wait + Sync>(rt: &R, alloc: Global, file: &[u8]) -> bool {
+    match read_instance(alloc, file) {
+        Ok(inst) => all_fill_empty(rt, alloc, &inst),
+        Err(_) => false,
+    }
 }
 
 // Both theatres are as cheap for the first patient, and lie in the shares of two workers: the first wins, whoever finds
 // it.
 #[test]
 fn any_number_of_workers_fill_alike(rt: HostRuntime) {
-    assert!(rt; all_fill_alike(&rt, rt.alloc()));
+    assert!(rt; all_fill_file(&rt, rt.alloc(), TWO_PATIENTS.as_bytes()));
+}
+
+// The ward of a number, which has hundreds of choices.
+fn all_fill_generated<R: Threads + Wait + Sync>(rt: &R, alloc: Global) -> bool {
+    match generate(alloc, 7) {
+        Ok(text) => all_fill_file(rt, alloc, text.as_slice()),
+        Err(_) => false,
+    }
+}
+
+#[test]
+fn many_choices_are_filled_alike(rt: HostRuntime) {
+    assert!(rt; all_fill_generated(&rt, rt.alloc()));
 }
 
 fn fill_side_by_side<R: Threads + Wait + Sync>(rt: &R, alloc: Global) -> bool {
     let gate = HoldGate::new(TURNS, 1);
-    fill_ward_alike(rt, alloc, 2, &gate) && !gate.ran_out()
+    two_fill_ward_alike(rt, alloc, &gate) && !gate.ran_out()
 }
 
 // Each of two workers looks at the first choice before the other is done with it.

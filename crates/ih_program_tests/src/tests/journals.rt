@@ -1,13 +1,14 @@
 //! Whole calls that read journals, generate instances or start from a fill, over files in memory.
 
-use crate::examples::{
+use crate::tests::program::{all_go, goes};
+use ih_fixtures::{TWO_PATIENTS, WARD};
+use ih_journal::{JournalRefusal, Reason};
+use ih_scripts::Event;
+use ih_scripts::Event::{Change, CutOff, Ends, FailRead, FailWrite, Holds, Same, Store};
+use ih_scripts::examples::{
     COVERED_SOLUTION, DEMO, FILLED, FOUND, JOURNAL, NO_MOVES, NOTHING, ONE_ADMITTED, SALVAGED,
     SEARCH,
 };
-use crate::tests::script::Event::{Change, Ends, FailRead, FailWrite, Holds, Same, Silent, Store};
-use crate::tests::script::{Event, all_go, goes};
-use ih_fixtures::{TWO_PATIENTS, WARD};
-use ih_journal::{JournalRefusal, Reason};
 use ih_top::{Role, Status};
 use std::alloc::Global;
 use std::rt::Files;
@@ -384,13 +385,13 @@ const UNPUT: Status = Status::WriteFault(None);
 const UNSAID: [Event<'static>; 12] = [
     Store("i", WARD),
     Store("j", JOURNAL),
-    Silent(NO_MOVES, Status::NoneFound),
-    Silent(SEARCH, UNPUT),
+    CutOff(NO_MOVES, 1, Status::NoneFound, ""),
+    CutOff(SEARCH, 1, UNPUT, ""),
     Holds("j", Some(JOURNAL)),
     Holds("o", Some(COVERED_SOLUTION)),
-    Silent(REPLAY, UNPUT),
+    CutOff(REPLAY, 1, UNPUT, ""),
     Holds("o", Some(COVERED_SOLUTION)),
-    Silent("gen 7 g", Status::Done),
+    CutOff("gen 7 g", 1, Status::Done, ""),
     Change(
         "i",
         TWO_PATIENTS,
@@ -398,7 +399,7 @@ const UNSAID: [Event<'static>; 12] = [
         "\"surgery_duration\":61",
     ),
     Store("s", ONE_ADMITTED),
-    Silent("check i s", UNPUT),
+    CutOff("check i s", 1, UNPUT, ""),
 ];
 
 #[test]
@@ -442,7 +443,10 @@ fn generates(rt: HostRuntime) {
     assert!(rt; all_go(&rt, rt.alloc(), &GENERATIONS));
 }
 
-const SHOWS: [Event<'static>; 2] = [Ends("demo 7", Status::Done, DEMO), Silent("demo 7", UNPUT)];
+const SHOWS: [Event<'static>; 2] = [
+    Ends("demo 7", Status::Done, DEMO),
+    CutOff("demo 7", 1, UNPUT, ""),
+];
 
 #[test]
 fn shows(rt: HostRuntime) {

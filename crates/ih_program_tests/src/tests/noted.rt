@@ -6,10 +6,10 @@ use crate::tests::rounds::TWO_JOURNALS;
 use ih_fixtures::WARD;
 use ih_instance::read_instance;
 use ih_journal::{Entry, Options};
-use ih_plan::Plan;
+use ih_plan::{Move, Plan};
 use ih_rounds::{Noted, RoundsEnd, Searcher, rounds};
 use ih_shelf::OpenGate;
-use ih_tables::Instance;
+use ih_tables::{Day, Instance, NurseNo, RoomNo, Shift};
 use ih_top::search_at_desk;
 use std::alloc::{AllocError, Global};
 use std::sync::Wait;
@@ -75,12 +75,29 @@ fn come_out<R: Threads + Wait + Sync, S: Searcher>(
     }
 }
 
-// Whether they do, and two answers are noted.
+const FIRST: Move = Move::NurseRun(NurseNo(0), RoomNo(0), Day(0), 5);
+
+const SECOND: Move = Move::SwapNurses(Shift(1), RoomNo(0), RoomNo(0));
+
+// Whether a history has this move alone.
+fn has_move(answer: Option<&Vec<Entry>>, mv: &Move) -> bool {
+    match answer {
+        Some(entries) => entries.len() == 1 && entries[0].mv == *mv,
+        None => false,
+    }
+}
+
+// Whether each round's history is noted, the first one first.
+fn are_in_order(answers: &[Vec<Entry>]) -> bool {
+    answers.len() == 2 && has_move(answers.first(), &FIRST) && has_move(answers.get(1), &SECOND)
+}
+
+// Whether they do, and both answers are noted.
 fn are_noted<R: Threads + Wait + Sync>(rt: &R, alloc: Global, inst: &Instance, start: &Plan) -> bool
     requires { IsPlanOf inst.now.draft start.now }
 {
     let mut noted = Noted::new(alloc, AtDesk);
-    come_out(rt, alloc, inst, start, &mut noted) && noted.answers().len() == 2
+    come_out(rt, alloc, inst, start, &mut noted) && are_in_order(noted.answers())
 }
 
 // The same from the empty timetable.

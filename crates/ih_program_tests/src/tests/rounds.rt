@@ -1,11 +1,12 @@
 //! Whole calls of searches in rounds, over files in memory.
 
-use crate::examples::{COVERED_SOLUTION, SALVAGED};
-use crate::tests::script::Event::{Ends, Held, Holds, Store};
-use crate::tests::script::{Event, goes};
+use crate::tests::program::goes;
 use crate::tests::workers::STALE;
 use ih_fixtures::WARD;
 use ih_journal::{JournalRefusal, Reason};
+use ih_scripts::Event;
+use ih_scripts::Event::{Ends, Held, Holds, Store};
+use ih_scripts::examples::{COVERED_SOLUTION, SALVAGED};
 use ih_top::Status;
 
 const TWO_ROUNDS: &str =

@@ -1,8 +1,8 @@
 //! Words that name a call, and words that name none.
 
-use crate::examples::USAGE;
-use crate::tests::script::Event::Ends;
-use crate::tests::script::goes;
+use crate::tests::program::goes;
+use ih_scripts::Event::Ends;
+use ih_scripts::examples::USAGE;
 use ih_top::{Role, Status};
 use std::alloc::Global;
 use std::rt::Files;
@@ -76,8 +76,36 @@ const NO_CHAINS: [&str; 10] = [
     "solve i o j --seed 0 --workers 1 --moves 2 --heat 0 --hard 1000 --length 2",
 ];
 
+// Each option's greatest value, in words that name a call.
+const GREATEST: [&str; 6] = [
+    "solve i o j --seed 18446744073709551615 --workers 1 --moves 1000000 --heat 1000000 --hard 1000000",
+    "solve i o j --seed 0 --workers 64 --moves 0 --heat 0 --hard 0 --start s --freeze 56 --retries 7",
+    "rounds i o j --seed 0 --workers 1 --moves 62500 --heat 1000000 --hard 1000000 --rounds 16",
+    "chain i o j --seed 0 --workers 1 --moves 125000 --heat 1000000 --hard 1000000 --length 8",
+    "replay i j o --start s --freeze 56",
+    "advise i s --hard 1000000 --workers 64",
+];
+
+// One more of each, in words that name none.
+const ONE_MORE: [&str; 13] = [
+    "solve i o j --seed 18446744073709551616 --workers 1 --moves 2 --heat 0 --hard 0",
+    "solve i o j --seed 0 --workers 1 --moves 1000001 --heat 0 --hard 0",
+    "solve i o j --seed 0 --workers 1 --moves 2 --heat 1000001 --hard 0",
+    "solve i o j --seed 0 --workers 1 --moves 2 --heat 0 --hard 1000001",
+    "solve i o j --seed 0 --workers 1 --moves 2 --heat 0 --hard 0 --retries 8",
+    "solve i o j --seed 0 --workers 1 --moves 2 --heat 0 --hard 0 --start s --freeze 57",
+    "replay i j o --start s --freeze 57",
+    "salvage i j o --start s --freeze 57",
+    "rounds i o j --seed 0 --workers 1 --moves 62501 --heat 0 --hard 0 --rounds 16",
+    "rounds i o j --seed 0 --workers 65 --moves 2 --heat 0 --hard 0 --rounds 1",
+    "chain i o j --seed 0 --workers 1 --moves 125001 --heat 0 --hard 0 --length 8",
+    "gen 18446744073709551616 o",
+    "demo 18446744073709551616",
+];
+
 // Each command's lines that name a call, beside those that name none.
-const WORDS: [(&[&str], &[&str]); 4] = [
+const WORDS: [(&[&str], &[&str]); 5] = [
+    (&GREATEST, &ONE_MORE),
     (
         &["solve i o j --seed 0 --workers 64 --moves 15625 --heat 0 --hard 1000"],
         &NO_CALLS,

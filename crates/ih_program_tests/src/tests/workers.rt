@@ -1,9 +1,10 @@
 //! Whole calls of several workers, over files in memory.
 
-use crate::examples::ONE_ADMITTED;
-use crate::tests::script::Event::{Ends, Held, Holds, Lay, Lines, Meets, Pairs, Replays, Same};
-use crate::tests::script::{Event, goes};
+use crate::tests::program::goes;
 use ih_fixtures::TWO_PATIENTS;
+use ih_scripts::Event;
+use ih_scripts::Event::{Ends, Held, Holds, Lay, Lines, Meets, Pairs, Replays, Same};
+use ih_scripts::examples::ONE_ADMITTED;
 use ih_top::Status;
 
 const ONE_EACH: &str =

@@ -1,15 +1,17 @@
 //! Workers that take turns, each on its own replica, on the ward of two patients.
 
-ghost use Rattle.std.specs.Prelude.{◌≡◌, ◌<◌, ◌≤◌, IsTrue, Some, false, length, drop, option_map};
+ghost use Rattle.std.specs.Prelude.{◌≡◌, ◌<◌, ◌≤◌, ◌^◌, IsTrue, Some, false, length, drop, option_map};
+ghost use Rattle.ih_tables.specs.Bills.{IsWithin};
 ghost use Rattle.ih_plan.specs.Expand.{IsMoveOf};
 ghost use Rattle.ih_journal.specs.Attempts.{try_after, is_done_after, is_retried, last_by};
 ghost use Rattle.ih_journal.specs.Tried.{tried, tries};
 ghost use Rattle.ih_cellbook.specs.{Laws.HasNoneBy, Offers.next_number, Replicas.IsReplicaIn, Snapshot.Snapshot};
 
-use ih_cellbook::{Book, News, Offer};
+use ih_cellbook::{Book, Buffer, News, Offer};
 use ih_journal::{Entry, Options, Verdict};
 use ih_plan::Move;
 use ih_snapshot::Replica;
+use ih_tables::Instance;
 
 // The last entry of a worker.
 fn last_by(entries: &[Entry], worker: u32) -> Option<Entry>
@@ -96,20 +98,61 @@ pub(crate) fn offer(
     }
 }
 
-/// Whether the replica's offer of a move rests on these cells, each at this version.
-pub(crate) fn rests_on(
+/// What a price is to be: its score by a hard weight of 1000, broken rules and costs, and the cells that it rests on,
+/// each at its version, where they are told.
+#[derive(Clone, Copy)]
+pub(crate) struct Priced {
+    pub(crate) score: i64,
+    pub(crate) broken: [i64; 9],
+    pub(crate) soft: [i64; 8],
+    pub(crate) reads: Option<&'static [(u32, u32)]>,
+}
+
+fn rests_on(offer: &Offer, reads: Option<&[(u32, u32)]>) -> bool {
+    match reads {
+        Some(reads) => offer.reads.as_slice() == reads,
+        None => true,
+    }
+}
+
+// Whether the offer has this price.
+fn has_price(inst: &Instance, offer: &Offer, price: &Priced) -> bool
+    requires { IsWithin (10 ^ 11) offer.now.price }
+{
+    offer.price.v == price.broken
+        && offer.price.s == price.soft
+        && offer.price.score(1_000, inst.weights()) == price.score
+        && rests_on(offer, price.reads)
+}
+
+/// Whether the replica prices a move so.
+pub(crate) fn is_priced(
+    inst: &Instance,
     book: &Book<'_>,
     replica: &mut Replica<'_>,
     mv: &Move,
     number: u32,
-    reads: &[(u32, u32)],
+    price: &Priced,
 ) -> bool
     requires replica { IsReplicaIn book.now.base book.now.entries replica.old }
     requires move_in { IsMoveOf book.now.base.instance mv.now }
     ensures { IsReplicaIn book.now.base book.now.entries replica.new }
 {
     let offer = replica.price(mv, number);
-    offer.reads.as_slice() == reads
+    has_price(inst, offer, price)
+}
+
+/// The replica takes over the entries past it, or the first 256 of them, as a copy has them. Answers how many entries
+/// it has then seen, and how many the book has.
+pub(crate) fn advance(book: &Book<'_>, replica: &mut Replica<'_>, buffer: &mut Buffer) -> (u32, u32)
+    requires replica { IsReplicaIn book.now.base book.now.entries replica.old }
+    ensures { IsReplicaIn book.now.base book.now.entries replica.new }
+{
+    // For the proof alone: the entries are legal.
+    book.entries();
+    book.copy_since(replica.seen(), buffer);
+    replica.advance(buffer.entries());
+    (replica.seen(), buffer.front())
 }
 
 /// The replica takes over what the book tells past it, with at most 256 accepted entries. Answers how many entries it

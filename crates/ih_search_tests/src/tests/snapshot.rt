@@ -1,50 +1,58 @@
 //! What workers see of each other over one book.
 
 ghost use Rattle.std.specs.Prelude.{◌≡◌, ◌≤◌, [], IfOk};
-ghost use Rattle.ih_plan.specs.{Timetable.IsPlanOf, BillOf.bill_of, Cells.cell_count};
+ghost use Rattle.ih_plan.specs.{Timetable.IsPlanOf, Cells.cell_count};
 ghost use Rattle.ih_journal.specs.Settings.{IsLawful};
 ghost use Rattle.ih_cellbook.specs.{Keeping.base_with, Replicas.IsReplicaIn, Snapshot.Snapshot};
 
-use crate::tests::rounds::{catch_up, offer, rests_on};
+use crate::tests::rounds::{Priced, advance, catch_up, is_priced, offer};
 use crate::tests::steps::{
-    COLD, FIRST_NURSE, JOIN, SECOND_NURSE, TWICE_STALE, have_prices, hot, is,
+    COLD, FIRST_NURSE, JOIN, SECOND_NURSE, TWICE_STALE, cold, have_prices, hot, is,
 };
 use ih_cellbook::{Book, Buffer, News};
-use ih_costs::Ledgers;
 use ih_fixtures::{on_first_admitted, share};
 use ih_footprint::Numbering;
 use ih_journal::{Options, Verdict, parse_move};
 use ih_plan::Plan;
 use ih_snapshot::Replica;
-use ih_tables::{Bill, Cell, Instance, RoomNo, Shift};
+use ih_tables::{Cell, Instance, RoomNo, Shift};
+use ih_validate::bill;
 use std::alloc::{AllocError, Global};
 
-// What a worker does: it takes over what is new, offers its move of a number, by the move's text, or prices that,
-// which is to rest on these cells, each at this version.
+// What a worker does: it takes over what is new, by news or by a copy, offers its move of a number, by the move's text,
+// or prices that.
 #[derive(Clone, Copy)]
 enum Step {
     Looks,
+    Copies,
     Offers(u32, &'static str),
-    Prices(u32, &'static str, &'static [(u32, u32)]),
+    Prices(u32, &'static str, &'static Priced),
 }
 
 // What came of it: how many entries the worker has then seen and how many the book has, or the verdict, if it may
-// offer, or whether the price rests on just these cells.
+// offer, or whether that is the price.
 #[derive(Clone, Copy, PartialEq)]
 enum Told {
     Seen(u32, u32),
     Said(Option<Verdict>),
-    Rests(bool),
+    Costs(bool),
 }
 
-use Step::{Looks, Offers, Prices};
-use Told::{Rests, Said, Seen};
+use Step::{Copies, Looks, Offers, Prices};
+use Told::{Costs, Said, Seen};
 
 // A worker, what it does, and what comes of it.
 type Row = (u32, Step, Told);
 
 // A place, and the price of the entry there.
-type Priced = (usize, [i64; 9], [i64; 8]);
+type Price = (usize, [i64; 9], [i64; 8]);
+
+// What a worker's copies and news are put into.
+#[derive(Drop)]
+struct Room {
+    buffer: Buffer,
+    news: News,
+}
 
 // A worker's step.
 fn act(
@@ -52,7 +60,7 @@ fn act(
     book: &mut Book<'_>,
     replica: &mut Replica<'_>,
     options: &Options,
-    news: &mut News,
+    room: &mut Room,
     step: &Step,
 ) -> Told
     requires instance { inst.now.draft ≡ book.old.base.instance }
@@ -65,16 +73,20 @@ fn act(
 {
     match *step {
         Looks => {
-            let (seen, front) = catch_up(book, replica, news);
+            let (seen, front) = catch_up(book, replica, &mut room.news);
+            Seen(seen, front)
+        }
+        Copies => {
+            let (seen, front) = advance(book, replica, &mut room.buffer);
             Seen(seen, front)
         }
         Offers(number, text) => match parse_move(inst, text.as_bytes()) {
             Some(mv) => Said(offer(book, replica, options, &mv, number)),
             None => Said(None),
         },
-        Prices(number, text, reads) => match parse_move(inst, text.as_bytes()) {
-            Some(mv) => Rests(rests_on(book, replica, &mv, number, reads)),
-            None => Rests(false),
+        Prices(number, text, price) => match parse_move(inst, text.as_bytes()) {
+            Some(mv) => Costs(is_priced(inst, book, replica, &mv, number, price)),
+            None => Costs(false),
         },
     }
 }
@@ -86,7 +98,7 @@ fn act_by(
     zero: &mut Replica<'_>,
     one: &mut Replica<'_>,
     options: &Options,
-    news: &mut News,
+    room: &mut Room,
     worker: u32,
     step: &Step,
 ) -> Told
@@ -99,9 +111,9 @@ fn act_by(
     ensures one { IsReplicaIn book.old.base book.new.entries one.new }
 {
     if worker == 0 {
-        act(inst, book, zero, options, news, step)
+        act(inst, book, zero, options, room, step)
     } else {
-        act(inst, book, one, options, news, step)
+        act(inst, book, one, options, room, step)
     }
 }
 
@@ -112,7 +124,7 @@ fn act_all(
     zero: &mut Replica<'_>,
     one: &mut Replica<'_>,
     options: &Options,
-    news: &mut News,
+    room: &mut Room,
     rows: &[Row],
 ) -> bool
     requires instance { inst.now.draft ≡ book.old.base.instance }
@@ -122,14 +134,72 @@ fn act_all(
     ensures base { book.new.base ≡ book.old.base }
 {
     for (worker, step, expected) in rows {
-        if act_by(inst, book, zero, one, options, news, *worker, step) != *expected {
+        if act_by(inst, book, zero, one, options, room, *worker, step) != *expected {
             return false;
         }
     }
     true
 }
 
-// The same with two new workers over a new book.
+fn new_room(alloc: Global) -> Result<Room, AllocError> {
+    let buffer = Buffer::new(alloc)?;
+    let news = News::new(alloc)?;
+    Ok(Room { buffer, news })
+}
+
+// The same where the second worker is new.
+fn act_with(
+    alloc: Global,
+    inst: &Instance,
+    start: &Plan,
+    book: &mut Book<'_>,
+    zero: &mut Replica<'_>,
+    options: &Options,
+    room: &mut Room,
+    freeze: u32,
+    rows: &[Row],
+) -> bool
+    requires start { IsPlanOf inst.now.draft start.now }
+    requires lawful { IsLawful options.now }
+    requires base { book.old.base ≡ base_with inst.now.draft start.now options.now freeze }
+    requires empty { book.old.entries ≡ [] }
+    requires zero { IsReplicaIn book.old.base book.old.entries zero.old }
+    ensures base { book.new.base ≡ book.old.base }
+{
+    match Replica::new(alloc, inst, start, options, freeze, 1) {
+        Ok(mut one) => act_all(inst, book, zero, &mut one, options, room, rows),
+        Err(_) => false,
+    }
+}
+
+// The same where both workers are new.
+fn act_in(
+    alloc: Global,
+    inst: &Instance,
+    start: &Plan,
+    book: &mut Book<'_>,
+    options: &Options,
+    room: &mut Room,
+    freeze: u32,
+    rows: &[Row],
+) -> bool
+    requires start { IsPlanOf inst.now.draft start.now }
+    requires lawful { IsLawful options.now }
+    requires base { book.old.base ≡ base_with inst.now.draft start.now options.now freeze }
+    requires empty { book.old.entries ≡ [] }
+    ensures base { book.new.base ≡ book.old.base }
+{
+    match Replica::new(alloc, inst, start, options, freeze, 0) {
+        Ok(mut zero) => {
+            act_with(
+                alloc, inst, start, book, &mut zero, options, room, freeze, rows,
+            )
+        }
+        Err(_) => false,
+    }
+}
+
+// The same with room for copies and news.
 fn act_first(
     alloc: Global,
     inst: &Instance,
@@ -138,25 +208,17 @@ fn act_first(
     options: &Options,
     freeze: u32,
     rows: &[Row],
-) -> Result<bool, AllocError>
+) -> bool
     requires start { IsPlanOf inst.now.draft start.now }
     requires lawful { IsLawful options.now }
     requires base { book.old.base ≡ base_with inst.now.draft start.now options.now freeze }
     requires empty { book.old.entries ≡ [] }
     ensures base { book.new.base ≡ book.old.base }
 {
-    let mut news = News::new(alloc)?;
-    let mut zero = Replica::new(alloc, inst, start, options, freeze, 0)?;
-    let mut one = Replica::new(alloc, inst, start, options, freeze, 1)?;
-    Ok(act_all(inst, book, &mut zero, &mut one, options, &mut news, rows))
-}
-
-// The bill of the start.
-fn first_bill(alloc: Global, inst: &Instance, start: &Plan) -> Result<Bill, AllocError>
-    requires { IsPlanOf inst.now.draft start.now }
-    ensures { IfOk result (λ b. b ≡ bill_of inst.now.draft start.now) }
-{
-    Ok(Ledgers::new(alloc, inst, start)?.total())
+    match new_room(alloc) {
+        Ok(mut room) => act_in(alloc, inst, start, book, options, &mut room, freeze, rows),
+        Err(_) => false,
+    }
 }
 
 fn new_book<'a>(
@@ -171,7 +233,7 @@ fn new_book<'a>(
     ensures { let base = base_with inst.now.draft start.now options.now freeze in
         IfOk result (λ k. k ≡ record { base = base; entries = [] }) }
 {
-    let first = first_bill(alloc, inst, start)?;
+    let first = bill(inst, start);
     Book::new(alloc, inst, start, &first, options, freeze)
 }
 
@@ -184,17 +246,15 @@ fn come_out(
     options: &Options,
     freeze: u32,
     rows: &[Row],
-    prices: &[Priced],
+    prices: &[Price],
 ) -> bool
     requires start { IsPlanOf inst.now.draft start.now }
     requires lawful { IsLawful options.now }
     requires base { book.old.base ≡ base_with inst.now.draft start.now options.now freeze }
     requires empty { book.old.entries ≡ [] }
 {
-    match act_first(alloc, inst, start, book, options, freeze, rows) {
-        Ok(told) => told && have_prices(book.entries(), prices),
-        Err(_) => false,
-    }
+    act_first(alloc, inst, start, book, options, freeze, rows)
+        && have_prices(book.entries(), prices)
 }
 
 fn play(
@@ -204,7 +264,7 @@ fn play(
     options: &Options,
     freeze: u32,
     rows: &[Row],
-    prices: &[Priced],
+    prices: &[Price],
 ) -> bool
     requires start { IsPlanOf inst.now.draft start.now }
     requires lawful { IsLawful options.now }
@@ -230,16 +290,17 @@ const JOIN_LATER: &str = "place:1,1,1,1";
 
 // A move is stale where another changed what it read, and is accepted when it comes again. Its worker hasn't seen its
 // own last entry when it offers again at once, and has when it does so after a look, by the same number.
-const COMES_AGAIN: [Row; 6] = [
+const COMES_AGAIN: [Row; 7] = [
     (1, Offers(0, SECOND_NURSE), ACCEPTED),
     (0, Offers(0, JOIN), ONCE_STALE),
     (0, Offers(0, JOIN), Said(None)),
     (0, Looks, Seen(2, 2)),
     (0, Looks, Seen(2, 2)),
+    (0, Prices(0, JOIN, &JOINED_AGAIN), Costs(true)),
     (0, Offers(0, JOIN), ACCEPTED),
 ];
 
-const AGAIN_PRICES: [Priced; 2] = [
+const AGAIN_PRICES: [Price; 2] = [
     (0, [0; 9], [0, -2, 2, 0, 0, 0, 0, 0]),
     (2, CROWDED, [1, 4, 2, 2, 1, 1, 0, -1]),
 ];
@@ -258,26 +319,28 @@ const TRACE: [Row; 4] = [
     (0, Offers(0, JOIN), Said(Some(TWICE_STALE))),
 ];
 
-const TRACE_PRICES: [Priced; 1] = [(1, [0; 9], [0, 2, -2, 0, 0, 0, 0, 0])];
+const TRACE_PRICES: [Price; 1] = [(1, [0; 9], [0, 2, -2, 0, 0, 0, 0, 0])];
 
 // Moves that touch nothing in common are both made.
-const BOTH: [Row; 2] = [
+const BOTH: [Row; 3] = [
     (1, Offers(0, SECOND_NURSE), ACCEPTED),
+    (0, Prices(0, JOIN_BESIDE, &BESIDE), Costs(true)),
     (0, Offers(0, JOIN_BESIDE), ACCEPTED),
 ];
 
-const BOTH_PRICES: [Priced; 1] = [(1, UNNURSED, [0, 0, 0, 0, 1, 1, 0, -1])];
+const BOTH_PRICES: [Price; 1] = [(1, UNNURSED, [0, 0, 0, 0, 1, 1, 0, -1])];
 
 // The past is frozen.
-const FROZEN: [Row; 5] = [
+const FROZEN: [Row; 6] = [
     (0, Offers(0, "setday:0,1"), Said(Some(Verdict::Frozen))),
     (0, Looks, Seen(1, 1)),
+    (0, Prices(1, JOIN_LATER, &LATER), Costs(true)),
     (0, Offers(1, JOIN_LATER), ACCEPTED),
     (0, Looks, Seen(2, 2)),
     (0, Offers(2, "withdraw:1"), ACCEPTED),
 ];
 
-const FROZEN_PRICES: [Priced; 2] = [
+const FROZEN_PRICES: [Price; 2] = [
     (1, UNNURSED, [0, 0, 0, 0, 1, 0, 1, -1]),
     (2, [0, 0, 0, 0, 0, 0, 0, 0, -3], [0, 0, 0, 0, -1, 0, -1, 1]),
 ];
@@ -285,11 +348,46 @@ const FROZEN_PRICES: [Priced; 2] = [
 // A price behind another's entry rests on the same cells, but for the night's nurse, at the versions that the entry
 // raised.
 const BEHIND: [Row; 4] = [
-    (0, Prices(0, JOIN, &READS), Rests(true)),
+    (0, Prices(0, JOIN, &JOINED), Costs(true)),
     (1, Offers(0, SECOND_NURSE), ACCEPTED),
-    (0, Looks, Seen(1, 1)),
-    (0, Prices(0, JOIN, &READS_BEHIND), Rests(true)),
+    (0, Copies, Seen(1, 1)),
+    (0, Prices(0, JOIN, &JOINED_BEHIND), Costs(true)),
 ];
+
+// The price of joining where the first nurse has the night, and where the second one has it.
+const JOINED: Priced = Priced {
+    score: 2_007,
+    broken: CROWDED,
+    soft: [1, 6, 1, 3, 1, 1, 0, -1],
+    reads: Some(&READS),
+};
+
+const JOINED_BEHIND: Priced = Priced {
+    score: 1_988,
+    broken: CROWDED,
+    soft: [1, 4, 2, 2, 1, 1, 0, -1],
+    reads: Some(&READS_BEHIND),
+};
+
+// The same once its first try was stale.
+const JOINED_AGAIN: Priced = Priced {
+    reads: None,
+    ..JOINED_BEHIND
+};
+
+const BESIDE: Priced = Priced {
+    score: 2_937,
+    broken: UNNURSED,
+    soft: [0, 0, 0, 0, 1, 1, 0, -1],
+    reads: None,
+};
+
+const LATER: Priced = Priced {
+    score: 2_934,
+    broken: UNNURSED,
+    soft: [0, 0, 0, 0, 1, 0, 1, -1],
+    reads: None,
+};
 
 // Whether each of these comes out so.
 fn come_out_so(alloc: Global, inst: &Instance, start: &Plan) -> bool
@@ -337,7 +435,7 @@ const READS_BEHIND: [(u32, u32); 11] = [
 ];
 
 // Whether the price of joining rests on what is read, also where it is too high to be accepted.
-fn is_priced(inst: &Instance, replica: &mut Replica<'_>) -> bool
+fn is_dear(inst: &Instance, replica: &mut Replica<'_>) -> bool
     requires { replica.old.base.instance ≡ inst.now.draft }
 {
     let price = (CROWDED, [1, 6, 1, 3, 1, 1, 0, -1]);
@@ -353,7 +451,7 @@ fn rests_on_what_is_read(alloc: Global, inst: &Instance, start: &Plan) -> bool
     match Replica::new(alloc, inst, start, &COLD, 0, 0) {
         Ok(mut zero) => {
             share(&zero);
-            is_priced(inst, &mut zero)
+            is_dear(inst, &mut zero)
         }
         Err(_) => false,
     }
@@ -419,10 +517,8 @@ fn raises_versions(
     requires base { book.old.base ≡ base_with inst.now.draft start.now options.now 0 }
     requires empty { book.old.entries ≡ [] }
 {
-    match act_first(alloc, inst, start, book, options, 0, &ONE_STALE) {
-        Ok(told) => told && are_kept(alloc, book, Numbering::of(inst).count()),
-        Err(_) => false,
-    }
+    act_first(alloc, inst, start, book, options, 0, &ONE_STALE)
+        && are_kept(alloc, book, Numbering::of(inst).count())
 }
 
 // Whether an accepted entry raises the versions of what it touches and a stale one doesn't, and both are copied.
@@ -461,6 +557,29 @@ fn are_untouched(book: &Book<'_>, cells: u32) -> bool
     true
 }
 
+// Whether a copy of what stands from a place on has so many of 600 entries.
+fn copies(book: &Book<'_>, buffer: &mut Buffer, from: u32, count: usize) -> bool {
+    if book.entries().len() != 600 || from > 600 {
+        return false;
+    }
+    book.copy_since(from, buffer);
+    buffer.from() == from && buffer.entries().len() == count && buffer.front() == 600
+}
+
+// Whether copies of 600 entries have at most 256 each.
+fn are_copied_by_256(alloc: Global, book: &Book<'_>) -> bool {
+    match Buffer::new(alloc) {
+        Ok(mut buffer) => {
+            let buffer: &mut Buffer = &mut buffer;
+            copies(book, buffer, 0, 256)
+                && copies(book, buffer, 256, 256)
+                && copies(book, buffer, 512, 88)
+                && copies(book, buffer, 600, 0)
+        }
+        Err(_) => false,
+    }
+}
+
 fn are_idle(
     alloc: Global,
     inst: &Instance,
@@ -474,19 +593,16 @@ fn are_idle(
     requires base { book.old.base ≡ base_with inst.now.draft start.now options.now 0 }
     requires empty { book.old.entries ≡ [] }
 {
-    match act_first(alloc, inst, start, book, options, 0, rows) {
-        Ok(told) => {
-            told && book.best() == Some((0, 159))
-                && are_untouched(book, Numbering::of(inst).count())
-        }
-        Err(_) => false,
-    }
+    act_first(alloc, inst, start, book, options, 0, rows)
+        && book.best() == Some((0, 159))
+        && are_untouched(book, Numbering::of(inst).count())
+        && are_copied_by_256(alloc, book)
 }
 
 fn come_out_idle(alloc: Global, inst: &Instance, start: &Plan, rows: &[Row]) -> bool
     requires { IsPlanOf inst.now.draft start.now }
 {
-    let options = hot(2, 700, 0);
+    let options = cold(2, 700);
     match new_book(alloc, inst, start, &options, 0) {
         Ok(mut book) => are_idle(alloc, inst, start, &mut book, &options, rows),
         Err(_) => false,

@@ -22,7 +22,22 @@ pub(crate) fn hot(workers: u32, moves: u32, retries: u32) -> Options
     }
 }
 
-/// The options of a search in which no price above 0 is accepted.
+/// The options of a search without retries in which no price above 0 is accepted.
+pub(crate) fn cold(workers: u32, moves: u32) -> Options
+    ensures { result
+        ≡ record { seed = 0; workers = workers; moves = moves; heat = 0; hard = 1000; retries = 0 } }
+{
+    Options {
+        seed: 0,
+        workers,
+        moves,
+        heat: 0,
+        hard: 1_000,
+        retries: 0,
+    }
+}
+
+/// The same of one worker with one move.
 pub(crate) const COLD: Options = Options {
     seed: 0,
     workers: 1,

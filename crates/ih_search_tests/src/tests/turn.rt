@@ -7,7 +7,7 @@ use ih_turn::{Kept, Seat, Turn};
 use std::alloc::{AllocError, Global};
 use std::sync::Wait;
 use std::test::Fail;
-use std::thread::{Threads, map_vec};
+use std::thread::{Threads, join, map_vec};
 
 // A list of numbers, each of which is 5 above that of its maker.
 #[derive(Drop)]
@@ -118,6 +118,66 @@ fn closed(
     seats.push(one)?;
     seats.push(two)?;
     Ok(turn.close(seats))
+}
+
+// How often a number is there.
+fn count_of(list: &Numbers, number: u64) -> u64 {
+    let mut count: u64 = 0;
+    for item in &list.items {
+        if *item == number {
+            count = count.saturating_add(1);
+        }
+    }
+    count
+}
+
+// The list of a turn whose two seats, each in a thread of its own, have added their numbers in each of so many turns.
+fn added<R: Threads + Wait + Sync>(
+    rt: &R,
+    alloc: Global,
+    turn: Turn<Numbers>,
+    one: Seat<Numbers>,
+    two: Seat<Numbers>,
+    turns: u64,
+) -> Result<Numbers, AllocError>
+    requires own { (seat_count turn ≡ 2) × IsSeatOf turn one × IsSeatOf turn two }
+    requires numbers { (number_of one ≡ 0) × (number_of two ≡ 1) }
+    requires left { (turns ≤ turns_left one) × (turns ≤ turns_left two) }
+{
+    let shared = &turn;
+    let (one, two) = join(
+        rt,
+        || add_all(rt, shared, one, turns),
+        || add_all(rt, shared, two, turns),
+    );
+    closed(alloc, turn, one, two)
+}
+
+// Whether two seats of a thousand turns each leave a thousand of each number.
+fn leave_two_thousand<R: Threads + Wait + Sync>(rt: &R, alloc: Global) -> Result<bool, AllocError> {
+    let empty = Numbers {
+        items: Vec::new(alloc),
+    };
+    let Ok((turn, mut seats)) = Turn::new(alloc, empty, 2, 1000) else {
+        return Ok(false);
+    };
+    let Some(two) = seats.pop() else {
+        return Ok(false);
+    };
+    let Some(one) = seats.pop() else {
+        return Ok(false);
+    };
+    if one.number() != 0 || two.number() != 1 {
+        return Ok(false);
+    }
+    let list = added(rt, alloc, turn, one, two, 1000)?;
+    Ok(list.items.len() == 2000 && count_of(&list, 5) == 1000 && count_of(&list, 6) == 1000)
+}
+
+#[test]
+fn two_threads_leave_two_thousand(rt: HostRuntime) -> Result<(), Fail> {
+    assert!(rt; leave_two_thousand(&rt, rt.alloc())?);
+    Ok(())
 }
 
 // Whether the seat has seen, made and left so many.

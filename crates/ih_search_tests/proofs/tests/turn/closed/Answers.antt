@@ -1,11 +1,7 @@
-use Rattle.std.proofs.Common.{◌≡◌, ℕ, zero, suc, ◌<◌, [], ◌∷◌, ◌++◌, map, arith, ap, ◌∙◌, sym, subst}
+use Rattle.std.proofs.Common.{◌≡◌, ◌<◌, [], ◌∷◌, ◌++◌, map, ap, ◌∙◌, sym, subst}
 use Rattle.std.specs.Prelude.{Contains}
+use Rattle.ih_search_tests.proofs.TwoNumbers.{two_numbers}
 use Rattle.ih_search_tests.proofs.tests.turn.closed.Goals as goal
-
-two_numbers : (a b : ℕ) → a ≡ 0 → b ≡ 1 → (n : ℕ) → n < 2 → Contains (a ∷ b ∷ []) n
-two_numbers a b p q zero h = (0, omega arith, p)
-two_numbers a b p q (suc zero) h = (1, omega arith, q)
-two_numbers a b p q (suc (suc n)) h = absurd (omega arith)
 
 pub close-requires-clause-all : goal.close-requires-clause-all
 close-requires-clause-all c = λ n below. let one = c.args.one in let two = c.args.two in

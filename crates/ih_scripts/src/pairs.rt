@@ -1,5 +1,6 @@
 //! Journals of two workers, of whom each attempt of one stands beside one of the other.
 
+use crate::held::text_under;
 use ih_shelf::MemShelf;
 
 // Whether the word is there and is this number.
@@ -41,12 +42,9 @@ fn stand_side_by_side(journal: &str) -> bool {
 }
 
 /// Whether the name has such a journal.
-pub fn has_pairs(shelf: &MemShelf, name: &str) -> bool {
-    match shelf.get(name) {
-        Some(bytes) => match str::from_utf8(bytes) {
-            Ok(journal) => stand_side_by_side(journal),
-            Err(_) => false,
-        },
+pub(crate) fn has_pairs(shelf: &MemShelf, name: &str) -> bool {
+    match text_under(shelf, name) {
+        Some(journal) => stand_side_by_side(journal),
         None => false,
     }
 }

@@ -1,7 +1,7 @@
 use Rattle.std.proofs.Common.{◌<◌, arith}
 use Rattle.ih_tables.specs.Sizes.{room_count, shift_count}
 use Rattle.ih_plan.proofs.PlanRanges.{choice-inside}
-use Rattle.ih_price_tests.proofs.tests.fill.has_none_from.Goals as goal
+use Rattle.ih_price_tests.proofs.tests.fill.has_nurses.Goals as goal
 
 pub care-requires : goal.care-requires
 care-requires c =

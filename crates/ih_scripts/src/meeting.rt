@@ -1,22 +1,24 @@
 //! A search whose workers are all at work at once: a gate holds each until every one has priced its first move.
 
+use crate::calls::{ends_saying, exits_past};
+use crate::changing::lay;
 use crate::examples::ONE_ADMITTED;
-use crate::tests::whole_calls::{ends_saying, exits_past, lay, lines_behind};
+use crate::gates::TestGate;
+use crate::held::lines_behind;
+use ih_answers::Status;
 use ih_fixtures::TWO_PATIENTS;
 use ih_shelf::{Gate, MemShelf, MemSink};
-use ih_top::Status;
 use std::alloc::Global;
-use std::rt::Files;
 use std::sync::Wait;
 use std::sync::atomic::{AtomicBool, AtomicU64, Ordering};
-use std::thread::{Threads, yield_now};
+use std::thread::yield_now;
 
 // The most turns for which the gate holds a worker.
 const TURNS: u64 = 100_000_000;
 
-// A gate at which so many workers meet: no first move is offered until each of them has priced one.
+/// A gate at which so many workers meet: no first move is offered until each of them has priced one.
 #[derive(Drop)]
-struct MeetingGate {
+pub struct MeetingGate {
     workers: u64,
     // How many have priced their first move.
     there: AtomicU64,
@@ -25,7 +27,8 @@ struct MeetingGate {
 }
 
 impl MeetingGate {
-    fn new(workers: u64) -> MeetingGate {
+    /// A gate at which so many workers meet.
+    pub(crate) fn new(workers: u64) -> MeetingGate {
         MeetingGate {
             workers,
             there: AtomicU64::new(0),
@@ -33,7 +36,7 @@ impl MeetingGate {
         }
     }
 
-    fn ran_out(&self) -> bool {
+    pub(crate) fn ran_out(&self) -> bool {
         self.ran_out.load(Ordering::SeqCst)
     }
 
@@ -85,31 +88,36 @@ fn began_together(shelf: &MemShelf, workers: u64) -> bool {
 }
 
 // Whether the workers of a search meet at this gate, and the replay of their journal says what the search said.
-fn meet_at<R: Files + Print + Threads + Wait + Sync>(
-    rt: &R,
+fn meet_at<F: Fn(&[String], &mut MemShelf, &mut MemSink, &TestGate) -> Status>(
     alloc: Global,
+    call: &F,
     shelf: &mut MemShelf,
     search: &str,
-    gate: &MeetingGate,
-) -> bool {
+    workers: u64,
+    gate: &TestGate,
+) -> bool
+    requires { F.IsAlwaysCallable call.now }
+{
     let mut out = MemSink::new(alloc);
     let replay = "replay i j p --start s";
-    exits_past(rt, alloc, search, shelf, &mut out, gate, Status::Done)
-        && began_together(shelf, gate.workers)
-        && ends_saying(rt, alloc, replay, shelf, Status::Done, out.bytes())
+    exits_past(alloc, call, search, shelf, &mut out, gate, Status::Done)
+        && began_together(shelf, workers)
+        && ends_saying(alloc, call, replay, shelf, Status::Done, out.bytes())
 }
 
 /// Whether so many workers of a search of the two patients meet at a gate, and the replay of their journal says what
 /// the search said.
-pub fn meet<R: Files + Print + Threads + Wait + Sync>(
-    rt: &R,
+pub(crate) fn meet<F: Fn(&[String], &mut MemShelf, &mut MemSink, &TestGate) -> Status>(
     alloc: Global,
+    call: &F,
     shelf: &mut MemShelf,
     search: &str,
     workers: u64,
-) -> bool {
-    let gate = MeetingGate::new(workers);
-    lay(alloc, shelf, TWO_PATIENTS, ONE_ADMITTED).is_ok()
-        && meet_at(rt, alloc, shelf, search, &gate)
+) -> bool
+    requires { F.IsAlwaysCallable call.now }
+{
+    let gate = TestGate::Meeting(MeetingGate::new(workers));
+    lay(shelf, TWO_PATIENTS, ONE_ADMITTED).is_ok()
+        && meet_at(alloc, call, shelf, search, workers, &gate)
         && !gate.ran_out()
 }

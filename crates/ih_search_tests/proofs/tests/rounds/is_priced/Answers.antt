@@ -1,5 +1,5 @@
 use Rattle.ih_cellbook.proofs.Within.{stands-same}
-use Rattle.ih_search_tests.proofs.tests.rounds.rests_on.Goals as goal
+use Rattle.ih_search_tests.proofs.tests.rounds.is_priced.Goals as goal
 
 pub returns : goal.returns
 returns c =

@@ -1,19 +1,19 @@
 //! Whole calls of view, over files in memory.
 
-use crate::examples::{COVERED_SOLUTION, NOTHING, NOWHERE, ONE_ADMITTED};
-use crate::tests::script::Event::{
-    Change, FailWrite, Holds, Lay, Page, Plans, PlansLike, Shows, Store,
-};
-use crate::tests::script::{Event, goes};
+use crate::tests::program::goes;
+use crate::tests::ward_page::WARD_PAGE;
+use ih_answers::{Role, Status};
 use ih_fixtures::{TWO_PATIENTS, WARD};
+use ih_scripts::Event;
+use ih_scripts::Event::{Change, CutOff, Ends, EndsLike, FailWrite, Holds, Lay, Shows, Store};
+use ih_scripts::examples::{COVERED_SOLUTION, NOTHING, NOWHERE, ONE_ADMITTED};
 use ih_tables::{Fault, Refusal};
-use ih_top::{Role, Status};
 use std::alloc::Global;
 use std::rt::Files;
 use std::sync::Wait;
 use std::thread::Threads;
 
-const NOT_JSON: Refusal = Refusal {
+pub const NOT_JSON: Refusal = Refusal {
     fault: Fault::NotJson,
     at: NOWHERE,
 };
@@ -63,7 +63,7 @@ fn has_no_page<R: Files + Print + Threads + Wait + Sync>(rt: &R, alloc: Global, 
     let (instance, solution, line, status, text) = *row;
     let events = [
         Lay(instance, solution),
-        Plans(line, status, text),
+        Ends(line, status, text),
         Holds("p", None),
     ];
     goes(rt, alloc, events.as_slice())
@@ -74,12 +74,15 @@ fn calls_without_a_page(rt: HostRuntime) {
     assert!(rt; NO_PAGES.iter().all(|row| has_no_page(&rt, rt.alloc(), row)));
 }
 
-// A page is written, in place of an older one where there is one, and nothing is said.
-const WRITTEN: [Event<'static>; 4] = [
+// A page is written, in place of an older one where there is one. Nothing is said, so a full standard output does no
+// harm.
+const WRITTEN: [Event<'static>; 6] = [
     Lay(WARD, COVERED_SOLUTION),
     Store("p", "an older page"),
-    Plans("view i s p", Status::Done, ""),
-    Page("p"),
+    Ends("view i s p", Status::Done, ""),
+    Holds("p", Some(WARD_PAGE)),
+    CutOff("view i s q", 1, Status::Done, ""),
+    Holds("q", Some(WARD_PAGE)),
 ];
 
 #[test]
@@ -131,7 +134,7 @@ fn is_shown<R: Files + Print + Threads + Wait + Sync>(rt: &R, alloc: Global, row
     let events = [
         Change("i", TWO_PATIENTS, from, to),
         Change("s", ONE_ADMITTED, was, is),
-        Plans("view i s p", Status::Done, ""),
+        Ends("view i s p", Status::Done, ""),
         Shows("p", texts),
     ];
     goes(rt, alloc, events.as_slice())
@@ -155,7 +158,7 @@ fn what_a_page_shows(rt: HostRuntime) {
 const CUT_OFF: [Event<'static>; 4] = [
     Lay(WARD, COVERED_SOLUTION),
     FailWrite(1, 9),
-    Plans(
+    Ends(
         "view i s p",
         Status::WriteFault(Some(Role::Out)),
         "cannot write p\n",
@@ -171,16 +174,16 @@ fn a_page_that_fails(rt: HostRuntime) {
 // The words name no call, which is explained; help is given to those who ask.
 const EXPLAINED: [Event<'static>; 7] = [
     Lay(WARD, COVERED_SOLUTION),
-    PlansLike("view i s", Status::Usage, "error: ", "'--help'.\n"),
-    PlansLike("view i s s", Status::Usage, "error: ", "'--help'.\n"),
-    PlansLike(
+    EndsLike("view i s", Status::Usage, "error: ", "'--help'.\n"),
+    EndsLike("view i s s", Status::Usage, "error: ", "'--help'.\n"),
+    EndsLike(
         "look i s p",
         Status::Usage,
         "error: unrecognized subcommand 'look'",
         "'--help'.\n",
     ),
-    PlansLike("view --help", Status::Done, "Writes a solution", "\n"),
-    PlansLike("--help", Status::Done, "Makes timetables", "\n"),
+    EndsLike("view --help", Status::Done, "Writes a solution", "\n"),
+    EndsLike("--help", Status::Done, "Makes timetables", "\n"),
     Holds("p", None),
 ];
 

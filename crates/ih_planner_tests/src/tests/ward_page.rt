@@ -1,0 +1,117 @@
+//! The whole page of the ward of one day.
+
+/// The page of the timetable in which the nurse has the room in all shifts. Nobody is left out, and the night's nurse
+/// has a skill level less than the occupant needs.
+pub const WARD_PAGE: &str = r"<!DOCTYPE html>
+<html lang=en><meta charset=utf-8><meta name=viewport content='width=device-width,initial-scale=1'><title>Timetable</title><style>
+:root{color-scheme:light dark;--fg:#111;--bg:#fff;--line:#bbb;--bar:#0072b2;--bar2:#8a5a00;--on:#fff;--bad:#b34700;--f1:#0072b21f;--f2:#0072b23d;--f3:#0072b266;--f4:#0072b294}
+@media(prefers-color-scheme:dark){:root{--fg:#eee;--bg:#121212;--line:#555;--bar:#56b4e9;--bar2:#e69f00;--on:#000;--bad:#f0a030;--f1:#56b4e929;--f2:#56b4e947;--f3:#56b4e966;--f4:#56b4e985}}
+body{font:14px/1.4 sans-serif;color:var(--fg);background:var(--bg);margin:1rem}
+a{color:inherit}
+div{overflow-x:auto}
+table{border-collapse:collapse;font-variant-numeric:tabular-nums}
+th,td{border:1px solid var(--line);padding:1px 4px;text-align:left;vertical-align:top;white-space:nowrap}
+tr>th:first-child{position:sticky;left:0;background:var(--bg)}
+.s td,.s th{white-space:normal}
+.s td:nth-child(n+3),.v td,td[id^=d],td[id^=n]{text-align:right}
+.v a{text-decoration:none}
+.v [class] a{display:block}
+.f1{background:var(--f1)}
+.f2{background:var(--f2)}
+.f3{background:var(--f3)}
+.f4{background:var(--f4)}
+.c,.c tbody{display:block}
+.c tr{display:flex;flex-wrap:wrap}
+.c td{white-space:normal;box-sizing:border-box;min-width:7em;color:#000}
+.c1{background:#56b4e9}
+.c2{background:#e69f00}
+.c3{background:#4cc39a}
+.c4{background:#f0e442}
+.c5{background:#dd9cbd}
+.c6{background:#e8813a}
+.c7{background:#bbb}
+.c8{background:#a9b8ff}
+.b{background:var(--bar);color:var(--on)}
+.g .b{background:var(--bar2)}
+.o .b,.q .b{background:none;color:inherit;border:2px dashed var(--bar)}
+.q .b{border-color:var(--bar2)}
+.w{background:linear-gradient(var(--bad),var(--bad)) center/100% 2px no-repeat}
+.x{font-weight:bold;outline:2px solid var(--bad);outline-offset:-2px}
+i{display:block;height:4px;background:var(--bar)}
+ul{columns:24em;column-gap:2em;margin:.3rem 0;padding:0;list-style:none}
+li{break-inside:avoid}
+summary{font-weight:bold}
+:target{outline:3px solid var(--bad)}
+@media(max-width:600px){body{font-size:12px;margin:.5rem}.v th:first-child{white-space:normal;min-width:7em}}
+@media print{body{font-size:7pt;margin:0;print-color-adjust:exact}div{overflow:visible}h2,h3{break-after:avoid}section,tr{break-inside:avoid}}
+</style>
+<main>
+<h1>Feasible timetable</h1>
+<p>Cost 12</p>
+<table class=c><tr>
+<td class=c2 style=width:83%><a href=#S2>S2</a> missing skill 83%<td class=c3 style=width:16%><a href=#S3>S3</a> nurses of a stay 16%</table>
+<p><a href=#wrong>What is wrong</a>, <a href=#left>who is left out</a>, <a href=#index>patients</a></p>
+<h2>Overview by days</h2>
+<div><table class=v><tr><th>rooms: persons of capacity<th>0
+<tr><th>room <bdi>r0</bdi><td class=f2><a href=#d0-0>1/2</a>
+<tr><th>theatres: minutes used of minutes open<th>0
+<tr><th>nurses above their maximum workload<th>0
+<tr><th><bdi>early</bdi><td>
+<tr><th><bdi>late</bdi><td>
+<tr><th><bdi>night</bdi><td>
+</table></div>
+<h2>The report</h2>
+<table class=s><tr><th>line<th>what it counts<th>number<th>weight<th>product
+<tr><th>V1<td>two genders in a room<td>0<td>hard rule<td>
+<tr><th>V2<td>incompatible room<td>0<td>hard rule<td>
+<tr><th>V3<td>surgeon: minutes over<td>0<td>hard rule<td>
+<tr><th>V4<td>theatre: minutes over<td>0<td>hard rule<td>
+<tr><th>V5<td>mandatory patient left out<td>0<td>hard rule<td>
+<tr><th>V6<td>outside the window<td>0<td>hard rule<td>
+<tr><th>V7<td>persons above the capacity<td>0<td>hard rule<td>
+<tr><th>V8<td>nurse who is off<td>0<td>hard rule<td>
+<tr><th>V9<td>no nurse<td>0<td>hard rule<td>
+<tr><th>S1<td>mixed ages<td>0<td>5<td>0
+<tr><th><a href=#S2>S2</a><td>missing skill<td>1<td>10<td>10
+<tr><th><a href=#S3>S3</a><td>nurses of a stay<td>1<td>2<td>2
+<tr><th>S4<td>workload over<td>0<td>1<td>0
+<tr><th>S5<td>open theatre<td>0<td>30<td>0
+<tr><th>S6<td>theatres beyond the first<td>0<td>7<td>0
+<tr><th>S7<td>days of delay<td>0<td>4<td>0
+<tr><th>S8<td>optional patient left out<td>0<td>100<td>0
+</table>
+<h2 id=wrong>What is wrong, and where</h2>
+<details id=S2><summary>S2 missing skill: 1</summary><ul>
+<li><a href=#s0-2>room <bdi>r0</bdi>, day 0, <bdi>night</bdi></a>: 1 skill level missing
+</ul></details>
+<details id=S3><summary>S3 nurses of a stay: 1</summary><ul>
+<li><a href=#p0>occupant <bdi>a0</bdi></a>: 1 nurse
+</ul></details>
+<h2 id=left>Patients who are left out</h2>
+<ul>
+</ul>
+<h2>Rooms by days</h2>
+<p>* mandatory; bar: days of stay and gender; &rarr; past the last day; thin line: delay since release</p>
+<section><h3 id=r0><bdi>r0</bdi>, capacity 2</h3>
+<div><table><tr><th>person<th>gender<th>age<th>theatre<th>0
+<tr class=o id=p0><th><bdi>a0</bdi><td><bdi>A</bdi><td><bdi>adult</bdi><td>occupant<td class=b colspan=1>1 <bdi>A</bdi>
+<tr><th>persons<td colspan=3>count<td id=d0-0>1
+<tr><th><bdi>early</bdi><td colspan=3>nurse<td id=s0-0><bdi>n0</bdi>
+<tr><th><bdi>late</bdi><td colspan=3>nurse<td id=s0-1><bdi>n0</bdi>
+<tr><th><bdi>night</bdi><td colspan=3>nurse<td id=s0-2><bdi>n0</bdi>
+</table></div></section>
+<h2>Theatres by days, in minutes</h2>
+<div><table><tr><th>theatre<th>0
+</table></div>
+<h2>Surgeons by days, in minutes</h2>
+<div><table><tr><th>surgeon<th>0
+</table></div>
+<h2>Nurses by shifts: workload of the maximum</h2>
+<div><table><tr><th>nurse<th>skill<th colspan=3>0
+<tr><th><bdi>n0</bdi><td>1<td id=n0-0>2/2<td id=n0-1>1/2<td id=n0-2>1/2
+</table></div>
+<h2 id=index>Patients</h2>
+<ul>
+</ul>
+</main>
+";
