@@ -62,10 +62,14 @@ while [ $# -gt 0 ]; do
       printf -v "${1#--}" %s "$2"
       shift ;;
     --) shift; break ;;
+    --help) sed -n '2,/^# none was found/s/^# \{0,1\}//p' "$0"; exit 0 ;;
     -*) say "there is no option $1"; usage ;;
     *) break ;;
   esac
   shift
+done
+for given in "${@:4}"; do
+  case $given in -*) say "options come before INSTANCE: $given"; break ;; esac
 done
 [ $# -eq 3 ] || usage
 instance=$1 out=$2

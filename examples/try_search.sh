@@ -102,7 +102,7 @@ expect 0 '<svg' head -c 400 "co st.svg"
 expect 0 "^another's$" cat "o ut.json.part"
 first=$(cost "o ut.json")
 cp "o ut.json" "fi rst.json"
-expect 2 'OUT is the start' search --start "o ut.json" "in st.json" "o ut.json" 5
+expect 2 'OUT and the start are one file' search --start "o ut.json" "in st.json" "o ut.json" 5
 expect 0 "best plan so far, cost $first" search --workers 1 --hot 1 --cold 1 "in st.json" "o ut.json" 1
 expect 0 '' test "$(cost "o ut.json")" -le "$first"
 "$PLANNER" improve "in st.json" dear.json --seed 1 --workers 1 --attempts 0 --rounds 1 --fill >/dev/null || exit 2

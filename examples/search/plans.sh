@@ -36,7 +36,7 @@ writable() { # what it is called, its name
   path=$(realpath -m -- "$path") || exit 2
   [ ! -e "$path" ] || [ -f "$path" ] || fail "$1 is a folder, or no file that holds data: $path"
   ! same_file "$path" "$instance" || fail "$1 is INSTANCE: $path"
-  [ -z "$start" ] || ! same_file "$path" "$start" || fail "$1 is the start: $path"
+  [ -z "$start" ] || ! same_file "$path" "$start" || fail "$1 and the start are one file: $path"
   if [ ! -d "$(dirname -- "$path")" ] || [ ! -w "$(dirname -- "$path")" ]; then
     fail "cannot write to the folder of $path"
   fi
