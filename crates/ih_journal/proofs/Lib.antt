@@ -20,6 +20,7 @@ pub mod LoneWorkers
 pub mod Mapped
 pub mod MoveTexts
 pub mod NumberLists
+pub mod NumberTexts
 pub mod Parts
 pub mod PriceTexts
 pub mod Separators

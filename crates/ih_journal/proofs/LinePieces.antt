@@ -1,9 +1,10 @@
 -- Texts, piece by piece.
-use Rattle.std.proofs.Common.{◌≡◌, ℕ, List, [], ◌∷◌, ◌++◌, append_assoc, sym, ◌∙◌, decimal, map, ℤ, pos, length, get_or, drop, ◌<◌, arith}
+use Rattle.std.proofs.Common.{◌≡◌, ℕ, List, [], ◌∷◌, ◌++◌, append_assoc, refl, sym, ap, ◌∙◌, decimal, map, ℤ, pos, length, get_or, take, drop, ◌<◌, arith}
 use Rattle.std.specs.Prelude.{codes}
 use Rattle.std.specs.List.{join_with_byte, concat}
 use Rattle.std.specs.Fmt.{signed_decimal}
-use Rattle.std.proofs.lemmas.List.{append-nil}
+use Rattle.std.proofs.lemmas.Fmt.{decimal_digit}
+use Rattle.std.proofs.lemmas.List.{append-nil, map-append, take-append-drop}
 use Rattle.ih_journal.specs.declared.settings.Options.{Options}
 use Rattle.ih_journal.specs.declared.entries.Entry.{Entry}
 use Rattle.ih_journal.specs.Texts.{heading, option_text, version_text, retries_field, named, dotted, fields, line_text, again_field, move_text, price_text, verdict_text, ended}
@@ -53,3 +54,14 @@ pub price-pieces : (old : List ℕ) (v s : List ℤ) → 0 < length v
     ≡ old ++ join_with_byte 44 (map signed_decimal (v ++ s))
 price-pieces old [] s h = absurd (omega arith)
 price-pieces old (x ∷ xs) s h = rw (signed-joined x xs s) (simp append_assoc)
+
+pub numbers-halves : (old : List ℕ) (n : ℕ) (xs : List ℤ)
+    → (old ++ marked 44 (map signed_decimal (take n xs))) ++ marked 44 (map signed_decimal (drop n xs)) ≡ old ++ marked 44 (map signed_decimal xs)
+numbers-halves old n xs =
+    append_assoc old (marked 44 (map signed_decimal (take n xs))) (marked 44 (map signed_decimal (drop n xs)))
+    ∙ ap (λ (bs : List ℕ). old ++ bs)
+    (sym (marked-append 44 (map signed_decimal (take n xs)) (map signed_decimal (drop n xs)))
+    ∙ ap (marked 44) (sym (map-append signed_decimal (take n xs) (drop n xs)) ∙ ap (map signed_decimal) (take-append-drop n xs)))
+
+pub four-zeros : (xs : List ℤ) → xs ≡ pos 0 ∷ pos 0 ∷ pos 0 ∷ pos 0 ∷ [] → marked 44 (map signed_decimal xs) ≡ codes ",0,0,0,0"
+four-zeros xs h = rw (h, decimal_digit 0 (omega arith)) refl

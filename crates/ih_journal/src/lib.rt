@@ -12,6 +12,7 @@ mod parse;
 mod reading;
 mod refusals;
 mod settings;
+mod small_numbers;
 mod texts;
 mod writing;
 

@@ -1,6 +1,7 @@
 //! Writing the texts of moves, cells, prices and verdicts.
 
-ghost use Rattle.std.specs.Prelude.{◌≡◌, ◌+◌, ◌*◌, ◌≤◌, ◌++◌, ◌∷◌, OnOk, OnErr, length, take, map, decimal};
+ghost use Rattle.std.specs.Prelude.{◌≡◌, ◌+◌, ◌*◌, ◌≤◌, ◌++◌, ◌∷◌, [], OnOk, OnErr, IsTrue, length, take, map};
+ghost use Rattle.std.specs.Prelude.{decimal, pos};
 ghost use Rattle.std.specs.Fmt.{signed_decimal};
 ghost use Rattle.ih_journal.specs.Texts.{move_text, cell_text, price_text, verdict_text, named, dotted, IsPart};
 ghost use Rattle.ih_journal.specs.Pieces.{marked};
@@ -12,6 +13,7 @@ use ih_tables::{Bill, Cell};
 use std::alloc::AllocError;
 
 // Each number with the separator before it.
+#[inline(always)]
 fn put_marked(room: &mut [u8], at: usize, separator: u8, ns: &[u32]) -> usize
     requires { at + 21 * length ns.now ≤ length room.old }
     ensures text { take result room.new ≡ take at room.old ++ marked separator (map decimal ns.now) }
@@ -25,6 +27,7 @@ fn put_marked(room: &mut [u8], at: usize, separator: u8, ns: &[u32]) -> usize
     end
 }
 
+#[inline(always)]
 fn put_named(room: &mut [u8], at: usize, name: &str, first: u32, rest: &[u32]) -> usize
     requires { at + length name.now + 21 + 21 * length rest.now ≤ length room.old }
     ensures text { take result room.new ≡ take at room.old ++ named name.now (first ∷ rest.now) }
@@ -36,6 +39,7 @@ fn put_named(room: &mut [u8], at: usize, name: &str, first: u32, rest: &[u32]) -
     put_marked(room, end, b',', rest)
 }
 
+#[inline(always)]
 fn put_dotted(room: &mut [u8], at: usize, name: &str, ns: &[u32]) -> usize
     requires { at + length name.now + 21 * length ns.now ≤ length room.old }
     ensures text { take result room.new ≡ take at room.old ++ dotted name.now ns.now }
@@ -86,7 +90,8 @@ fn put_cell(room: &mut [u8], at: usize, cell: &Cell) -> usize
 }
 
 // Each number with a comma before it.
-fn put_numbers(room: &mut [u8], at: usize, xs: &[i64]) -> usize
+#[inline(always)]
+fn put_each(room: &mut [u8], at: usize, xs: &[i64]) -> usize
     requires { at + 22 * length xs.now ≤ length room.old }
     ensures text { take result room.new ≡ take at room.old ++ marked 44 (map signed_decimal xs.now) }
     ensures within { result ≤ at + 22 * length xs.now }
@@ -97,6 +102,41 @@ fn put_numbers(room: &mut [u8], at: usize, xs: &[i64]) -> usize
         end = put_signed(room, end, *x);
     }
     end
+}
+
+#[inline(always)]
+fn are_zero(xs: &[i64]) -> bool
+    requires { length xs.now ≡ 4 }
+    ensures { IsTrue result → xs.now ≡ pos 0 ∷ pos 0 ∷ pos 0 ∷ pos 0 ∷ [] }
+{
+    let (a, b, c, d) = (xs[0], xs[1], xs[2], xs[3]);
+    a == 0 && b == 0 && c == 0 && d == 0
+}
+
+// Four numbers, each with a comma before it. Most of those of a price are 0.
+#[inline(always)]
+fn put_four(room: &mut [u8], at: usize, xs: &[i64]) -> usize
+    requires four { length xs.now ≡ 4 }
+    requires room { at + 88 ≤ length room.old }
+    ensures text { take result room.new ≡ take at room.old ++ marked 44 (map signed_decimal xs.now) }
+    ensures within { result ≤ at + 88 }
+{
+    if are_zero(xs) {
+        put_text(room, at, ",0,0,0,0")
+    } else {
+        put_each(room, at, xs)
+    }
+}
+
+// Eight numbers, each with a comma before it.
+fn put_numbers(room: &mut [u8], at: usize, xs: &[i64]) -> usize
+    requires eight { length xs.now ≡ 8 }
+    requires room { at + 176 ≤ length room.old }
+    ensures text { take result room.new ≡ take at room.old ++ marked 44 (map signed_decimal xs.now) }
+    ensures within { result ≤ at + 176 }
+{
+    let end = put_four(room, at, &xs[..4]);
+    put_four(room, end, &xs[4..])
 }
 
 /// Writes a price.

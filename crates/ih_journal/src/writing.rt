@@ -3,6 +3,7 @@
 ghost use Rattle.std.specs.Prelude.{◌≡◌, ◌+◌, ◌≤◌, ◌<◌, ◌++◌, ◌∷◌, [], length, take, decimal};
 ghost use Rattle.std.specs.Fmt.{signed_decimal};
 
+use crate::small_numbers::put_small;
 use itoa::Buffer;
 
 /// Writes a byte.
@@ -30,37 +31,6 @@ pub(crate) fn put_text(room: &mut [u8], at: usize, text: &str) -> usize
         end += 1;
     }
     end
-}
-
-#[inline(always)]
-fn put_digit(room: &mut [u8], at: usize, n: u64) -> usize
-    requires room { at < length room.old }
-    requires digit { n < 10 }
-    ensures text { take result room.new ≡ take at room.old ++ (48 + n) ∷ [] }
-    ensures end { result ≡ at + 1 }
-{
-    put_byte(room, at, b'0' + n as u8)
-}
-
-// A number of at most three digits.
-#[inline(always)]
-fn put_small(room: &mut [u8], at: usize, n: u64) -> usize
-    requires room { at + 3 ≤ length room.old }
-    requires small { n < 1000 }
-    ensures text { take result room.new ≡ take at room.old ++ decimal n }
-    ensures within { result ≤ at + 3 }
-{
-    if n < 10 {
-        return put_digit(room, at, n);
-    }
-    let tens = n / 10;
-    let end = if tens < 10 {
-        put_digit(room, at, tens)
-    } else {
-        let end = put_digit(room, at, tens / 10);
-        put_digit(room, end, tens % 10)
-    };
-    put_digit(room, end, n % 10)
 }
 
 /// Writes a number.

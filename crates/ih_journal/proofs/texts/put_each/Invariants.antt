@@ -1,7 +1,7 @@
 use Rattle.std.proofs.Common.{◌≡◌, ◌+◌, ◌*◌, ◌≤◌, ◌++◌, take, map}
 use Rattle.std.specs.Fmt.{signed_decimal}
 use Rattle.ih_journal.specs.Pieces.{marked}
-use Rattle.ih_journal.proofs.texts.put_numbers.Given as goal
+use Rattle.ih_journal.proofs.texts.put_each.Given as goal
 
 abbrev pub invariant-loop-x : goal.invariant-loop-x
 invariant-loop-x l = record {
