@@ -11,7 +11,7 @@ use Rattle.ih_plan.specs.BillOf.{change_of_bill}
 use Rattle.ih_fill.specs.Fill.{write_score}
 use Rattle.ih_fill.specs.declared.candidates.Candidate.{Candidate}
 use Rattle.ih_fill.specs.Candidates.{cheapest, valued, least_of}
-use Rattle.ih_fill.specs.Scoring.{Scoring, care_value, stay_value, view_of}
+use Rattle.ih_fill.specs.ScorerState.{ScorerState, care_value, stay_value, view_of}
 use Rattle.ih_fill.proofs.CandidateLemmas.{cheaper, cheaper-more}
 use Rattle.ih_fill.proofs.FirstLeast.{cheapest-joined}
 use Rattle.ih_advise.specs.declared.choosing.Advice.{Advice}
@@ -30,7 +30,7 @@ module _ (v : Write → ℤ) where
       ap (cheaper (valued v w)) same ∙ (cheaper-more v w (cheapest v x xs) [] ∙ ap (valued v) (sym (cheapest-joined v w x xs)))
 
 -- what is scored is the change of the whole bill
-care-whole : (F : Scoring) → care_value F ≡ value_of F.instance F.hard F.plan
+care-whole : (F : ScorerState) → care_value F ≡ value_of F.instance F.hard F.plan
 unfolding care_value
 care-whole F = refl
 
@@ -39,7 +39,7 @@ abbrev pub with_nurse : Candidate → Option Candidate → Candidate
 with_nurse none None = none
 with_nurse none (Some nurse) = cheaper none nurse
 
-pub nurse-best : (I : Draft) (F : Scoring) (w : Write) (ws : List Write) (none : Candidate) (nurse : Option Candidate) → F.instance ≡ I → none ≡ valued (care_value F) w
+pub nurse-best : (I : Draft) (F : ScorerState) (w : Write) (ws : List Write) (none : Candidate) (nurse : Option Candidate) → F.instance ≡ I → none ≡ valued (care_value F) w
     → nurse ≡ least_of (care_value F) ws → with_nurse none nurse ≡ valued (value_of I F.hard F.plan) (cheapest (value_of I F.hard F.plan) w ws)
 nurse-best I F w ws none nurse same is least =
     subst (λ (f : Write → ℤ). with_nurse none nurse ≡ valued f (cheapest f w ws)) (care-whole F ∙ ap (λ (J : Draft). value_of J F.hard F.plan) same) (either nurse least)
@@ -48,7 +48,7 @@ nurse-best I F w ws none nurse same is least =
     either None e = is ∙ none-best (care_value F) w ws e
     either (Some x) e = ap (λ (y : Candidate). cheaper y x) is ∙ some-best (care_value F) w ws x e
 
-pub stay-whole : (F : Scoring) → F.counts_uncovered ≡ true → stay_value F ≡ value_of F.instance F.hard F.plan
+pub stay-whole : (F : ScorerState) → F.counts_uncovered ≡ true → stay_value F ≡ value_of F.instance F.hard F.plan
 unfolding stay_value
 stay-whole F counts = ap (λ b. write_score F.instance F.hard (view_of b) F.plan) counts
 

@@ -6,7 +6,7 @@ use Rattle.std.proofs.lemmas.List.{get_or-drop, length-drop}
 use Rattle.std.proofs.lemmas.List.Elements.{filter_more}
 use Rattle.ih_journal.specs.Tried.{Tried}
 use Rattle.ih_journal.specs.History.{is_accepted}
-use Rattle.ih_cellbook.specs.News.{Told, TellsOf, accepted_between, accepted_of}
+use Rattle.ih_cellbook.specs.News.{NewsState, TellsOf, accepted_between, accepted_of}
 
 -- what is told up to a place, and the entry there
 pub told-more : (H : List Tried) (from until : ℕ) (d : Tried) → from ≤ until → until < length H
@@ -21,7 +21,7 @@ told-more H from until d since inside =
     (get_or-drop from H (until - from) d ∙ ap (λ n. slice_index_or H n d) place)
 
 -- it tells of an entry at least, where there is one
-pub tells-further : (H : List Tried) (from : ℕ) (n : Told) → TellsOf H from n → from < length H → from < n.until
+pub tells-further : (H : List Tried) (from : ℕ) (n : NewsState) → TellsOf H from n → from < length H → from < n.until
 tells-further H from n told more = elim (cases_lt from n.until) [
   | inl below ↦ below
   | inr past ↦

@@ -15,7 +15,7 @@ use Rattle.ih_cellbook.specs.Offered.{Offered}
 use Rattle.ih_cellbook.specs.Laws.{HasNoneBy}
 use Rattle.ih_cellbook.specs.Offers.{IsRightOffer, HasSeenOwn, next_number, reads_after}
 use Rattle.ih_cellbook.specs.Replicas.{IsReplicaOf, IsReplicaIn}
-use Rattle.ih_cellbook.specs.Snapshot.{Snapshot}
+use Rattle.ih_cellbook.specs.ReplicaState.{ReplicaState}
 
 last_by-none : (w : ℕ) (es : List Tried) → HasNoneBy w es → last_by w es ≡ None
 unfolding last_by
@@ -59,5 +59,5 @@ right-stays b H es o right none =
     }
 
 -- a replica of the empty history stands for a beginning of any
-pub new-within : (b : Base) (H : List Tried) (r : Snapshot) → IsReplicaOf b [] r → IsReplicaIn b H r
+pub new-within : (b : Base) (H : List Tried) (r : ReplicaState) → IsReplicaOf b [] r → IsReplicaIn b H r
 new-within b H r stands = subst (λ k. IsReplicaOf b (take k H) r) (sym stands.seen) stands

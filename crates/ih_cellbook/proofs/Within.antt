@@ -17,8 +17,8 @@ use Rattle.ih_cellbook.specs.Legal.{AreLegalButDraws}
 use Rattle.ih_cellbook.specs.Offers.{IsRightOffer, next_number}
 use Rattle.ih_cellbook.proofs.Staying.{last_by-others, right-stays}
 use Rattle.ih_cellbook.specs.Replicas.{AreUpTo, IsReplicaOf, IsReplicaIn, IsOfferOf, IsRightFor, MayFollow, MayFollowUpTo, StandsAfter, StandsAs, StandsUpTo}
-use Rattle.ih_cellbook.specs.Snapshot.{Snapshot}
-use Rattle.ih_cellbook.specs.News.{Told, TellsOf}
+use Rattle.ih_cellbook.specs.ReplicaState.{ReplicaState}
+use Rattle.ih_cellbook.specs.News.{NewsState, TellsOf}
 
 -- the first entries of a legal history are one
 legal-front : (b : Base) (G rest : List Tried) → AreLegalButDraws b (G ++ rest) → AreLegalButDraws b G
@@ -30,7 +30,7 @@ number-same : (o : Options) (G es : List Tried) (w : ℕ) → HasNoneBy w es →
 unfolding next_try is_done
 number-same o G es w none = ap (λ l. option_map (λ (a : TryNumber). a.number) (if is_done_after o l then None else Some (try_after o l))) (last_by-others w G es none)
 
-module _ (b : Base) (H : List Tried) (r : Snapshot) (stands : IsReplicaIn b H r) where
+module _ (b : Base) (H : List Tried) (r : ReplicaState) (stands : IsReplicaIn b H r) where
   pub seen-within : r.seen ≤ length H
   seen-within = let same = stands.seen in let len = length-take r.seen H in omega (arith, same, len)
 
@@ -43,7 +43,7 @@ module _ (b : Base) (H : List Tried) (r : Snapshot) (stands : IsReplicaIn b H r)
   next-follow n legal = (b, take r.seen H, stands, next-legal n legal)
 
   -- once it has taken that over, it is further in the history
-  pub stands-further : (n : ℕ) (s : Snapshot) → AreLegalButDraws b H → StandsAfter r (take n (drop r.seen H)) s → IsReplicaIn b H s
+  pub stands-further : (n : ℕ) (s : ReplicaState) → AreLegalButDraws b H → StandsAfter r (take n (drop r.seen H)) s → IsReplicaIn b H s
   stands-further n s legal later =
       let taken = later b (take r.seen H) stands (next-legal n legal) in
       let part : take r.seen H ++ take n (drop r.seen H) ≡ take (r.seen + n) H = sym (take-add r.seen n H) in
@@ -54,7 +54,7 @@ module _ (b : Base) (H : List Tried) (r : Snapshot) (stands : IsReplicaIn b H r)
       subst (λ G. IsReplicaOf b G s) (part ∙ sym front) taken
 
   -- the same of what it is told of the book from where it stands
-  module _ (n : Told) (legal : AreLegalButDraws b H) (told : TellsOf H r.seen n) where
+  module _ (n : NewsState) (legal : AreLegalButDraws b H) (told : TellsOf H r.seen n) where
     told-up_to : AreUpTo r n.accepted n.until (take (n.until - r.seen) (drop r.seen H))
     told-up_to =
         let since = told.since in
@@ -67,7 +67,7 @@ module _ (b : Base) (H : List Tried) (r : Snapshot) (stands : IsReplicaIn b H r)
     pub told-follow : MayFollowUpTo r n.accepted n.until
     told-follow = (take (n.until - r.seen) (drop r.seen H), told-up_to, next-follow (n.until - r.seen) legal)
 
-    module _ (s : Snapshot) (later : StandsUpTo r n.accepted n.until s) where
+    module _ (s : ReplicaState) (later : StandsUpTo r n.accepted n.until s) where
       pub told-further : IsReplicaIn b H s
       told-further = stands-further (n.until - r.seen) s legal (later (take (n.until - r.seen) (drop r.seen H)) told-up_to)
 
@@ -80,7 +80,7 @@ module _ (b : Base) (H : List Tried) (r : Snapshot) (stands : IsReplicaIn b H r)
           let place = told-up_to.place in
           omega (arith, seen, both, before, place)
 
-  pub stands-same : (s : Snapshot) → StandsAs r s → IsReplicaIn b H s
+  pub stands-same : (s : ReplicaState) → StandsAs r s → IsReplicaIn b H s
   stands-same s same =
       let there = same b (take r.seen H) stands in
       subst (λ k. IsReplicaOf b (take k H) s) (stands.seen ∙ sym there.seen) there

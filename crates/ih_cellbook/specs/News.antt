@@ -12,7 +12,7 @@ abbrev pub accepted_between : List Tried → ℕ → ℕ → List Tried
 accepted_between H from until = accepted_of (take (until - from) (drop from H))
 
 -- Entries that were accepted, the place up to which they are all, and how many entries the book had then.
-pub record Told : Type 0 where
+pub record NewsState : Type 0 where
   pub accepted : List Tried
   pub until : ℕ
   pub front : ℕ
@@ -22,7 +22,7 @@ abbrev pub most_told : ℕ
 most_told = 256
 
 -- It tells what was accepted in H from a place on, up to the end, or up to where its room was full.
-pub record TellsOf (H : List Tried) (from : ℕ) (n : Told) : Type 0 where
+pub record TellsOf (H : List Tried) (from : ℕ) (n : NewsState) : Type 0 where
   pub since : from ≤ n.until
   pub within : n.until ≤ n.front
   pub front : n.front ≡ length H

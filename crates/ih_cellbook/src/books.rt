@@ -26,9 +26,9 @@ pub struct Book<'a, E: Logged = Entry> {
 impl<'a, E: Logged> Model for Book<'a, E> {
     ghost use Rattle.std.specs.Prelude.{◌≤◌, map, vec_capacity};
     ghost use Rattle.ih_journal.specs.Settings.{most_entries};
-    ghost use Rattle.ih_cellbook.specs.{Recorded.Recorded, Keeping.IsKept, Keeping.base_with};
+    ghost use Rattle.ih_cellbook.specs.{BookState.BookState, Keeping.IsKept, Keeping.base_with};
 
-    ghost Value = { Recorded };
+    ghost Value = { BookState };
 
     ghost view = { λ k. let p = k.parts.value in
         record {
@@ -51,7 +51,7 @@ impl<'a, E: Logged> Book<'a, E> {
     ghost use Rattle.ih_journal.specs.{Frozen.AgreesBefore, Legal.IsLegalButDraw, Legal.verdict_on};
     ghost use Rattle.ih_cellbook.specs.Core.{State, IsLegalState, step, offers};
     ghost use Rattle.ih_cellbook.specs.Offers.{IsJudged, IsRightOffer, entry_of};
-    ghost use Rattle.ih_cellbook.specs.{Copied.most_copied, Keeping.base_with, Keeping.IsBase, Legal.AreExact};
+    ghost use Rattle.ih_cellbook.specs.{BufferState.most_copied, Keeping.base_with, Keeping.IsBase, Legal.AreExact};
     ghost use Rattle.ih_cellbook.specs.{Legal.AreLegalButDraws, Laws.AreFew, News.TellsOf};
 
     /// A book without entries over a start, whose bill is `first`. Room for all entries of the search is reserved.

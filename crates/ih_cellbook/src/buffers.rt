@@ -20,9 +20,9 @@ pub struct Buffer<E: Logged = Entry> {
 
 impl<E: Logged> Model for Buffer<E> {
     ghost use Rattle.std.specs.Prelude.{◌≤◌, map, vec_capacity};
-    ghost use Rattle.ih_cellbook.specs.Copied.{Copied, most_copied};
+    ghost use Rattle.ih_cellbook.specs.BufferState.{BufferState, most_copied};
 
-    ghost Value = { Copied };
+    ghost Value = { BufferState };
 
     ghost view = { λ b. record { from = b.from; entries = map E.tried b.entries.items; front = b.front } };
 
@@ -31,7 +31,7 @@ impl<E: Logged> Model for Buffer<E> {
 
 impl<E: Logged> Buffer<E> {
     ghost use Rattle.std.specs.Prelude.{take, drop, map};
-    ghost use Rattle.ih_cellbook.specs.Copied.{most_copied};
+    ghost use Rattle.ih_cellbook.specs.BufferState.{most_copied};
 
     /// An empty buffer, from place 0, with room for 256 entries.
     pub fn new(alloc: Global) -> Result<Buffer<E>, AllocError>

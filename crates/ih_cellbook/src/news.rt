@@ -20,9 +20,9 @@ pub struct News<E: Logged = Entry> {
 
 impl<E: Logged> Model for News<E> {
     ghost use Rattle.std.specs.Prelude.{◌≤◌, map, vec_capacity};
-    ghost use Rattle.ih_cellbook.specs.News.{Told, most_told};
+    ghost use Rattle.ih_cellbook.specs.News.{NewsState, most_told};
 
-    ghost Value = { Told };
+    ghost Value = { NewsState };
 
     ghost view = { λ n. record { accepted = map E.tried n.accepted.items; until = n.until; front = n.front } };
 

@@ -12,9 +12,9 @@ pub struct Reads {
 
 impl Model for Reads {
     ghost use Rattle.std.specs.Prelude.{◌≤◌, vec_capacity};
-    ghost use Rattle.ih_cellbook.specs.Noted.{Noted};
+    ghost use Rattle.ih_cellbook.specs.ReadsState.{ReadsState};
 
-    ghost Value = { Noted };
+    ghost Value = { ReadsState };
 
     ghost view = { λ r. record { pairs = r.pairs.items; room = r.room } };
 

@@ -5,7 +5,7 @@ ghost use Rattle.ih_plan.specs.{Timetable.IsPlanOf, Series.AreMoves};
 ghost use Rattle.ih_journal.specs.Settings.{IsLawful};
 ghost use Rattle.ih_cellbook.specs.Replicas.{IsOfferOf, IsReplicaOf, IsRightFor, MayFollow, MayFollowUpTo, StandsAfter};
 ghost use Rattle.ih_cellbook.specs.Replicas.{StandsAs, StandsUpTo};
-ghost use Rattle.ih_cellbook.specs.{Keeping.base_with, Snapshot.Snapshot};
+ghost use Rattle.ih_cellbook.specs.{Keeping.base_with, ReplicaState.ReplicaState};
 
 use crate::entry_kinds::Logged;
 use ih_journal::Options;
@@ -17,7 +17,7 @@ use std::alloc::{AllocError, Global};
 pub trait Replicates: Drop {
     type Entry: Logged;
 
-    ghost copied: { Self → Snapshot };
+    ghost copied: { Self → ReplicaState };
 
     /// How many entries it stands for.
     fn seen(&self) -> u32

@@ -12,7 +12,7 @@ use Rattle.ih_chain.specs.declared.entries.ChainEntry.{ChainEntry}
 use Rattle.ih_chain.specs.Entries.{chain_tries}
 
 -- the entries of a search, its best, and the timetable there
-pub record Ran : Type 0 where
+pub record ChainRunState : Type 0 where
   pub options : Options
   -- how many moves each chain has
   pub each : ℕ
@@ -27,7 +27,7 @@ best_plan b H best = option_map (λ (k : ℕ × ℤ). plan_at b (chain_tries H) 
 -- The entries are a full history of chains of so many moves over b, in which each accepted price is exact, and each
 -- number of a price at most 10^11 in magnitude; the best is that of the history, and there is none exactly where no
 -- timetable of it is feasible.
-pub record IsRunOf (b : Base) (many : ℕ) (r : Ran) : Type 0 where
+pub record IsRunOf (b : Base) (many : ℕ) (r : ChainRunState) : Type 0 where
   pub options : r.options ≡ b.options
   pub each : r.each ≡ many
   pub full : IsFull b many (chain_tries r.entries)

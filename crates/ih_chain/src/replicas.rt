@@ -20,9 +20,9 @@ pub struct ChainReplica<'a> {
 }
 
 impl<'a> Model for ChainReplica<'a> {
-    ghost use Rattle.ih_cellbook.specs.Snapshot.{Snapshot};
+    ghost use Rattle.ih_cellbook.specs.ReplicaState.{ReplicaState};
 
-    ghost Value = { Snapshot };
+    ghost Value = { ReplicaState };
 
     ghost view = { λ r. r.replica };
 }

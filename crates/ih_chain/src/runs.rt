@@ -31,9 +31,9 @@ pub struct ChainRun {
 
 impl Model for ChainRun {
     ghost use Rattle.std.specs.Prelude.{◌<◌, ◌^◌, length};
-    ghost use Rattle.ih_chain.specs.Runs.{Ran};
+    ghost use Rattle.ih_chain.specs.Runs.{ChainRunState};
 
-    ghost Value = { Ran };
+    ghost Value = { ChainRunState };
 
     ghost view = { λ r. record {
       options = r.options;

@@ -16,7 +16,7 @@ use Rattle.ih_plan.specs.Cells.{number_in, IsCellIn, cell_at, cell_count}
 use Rattle.ih_plan.specs.Footprint.{touches, footprint}
 use Rattle.ih_plan.specs.Sums.{is_listed}
 use Rattle.ih_plan.proofs.ListedBelow.{which_below-same}
-use Rattle.ih_footprint.specs.Gathered.{Gathered, Gathers, settled}
+use Rattle.ih_footprint.specs.CellsState.{CellsState, Gathers, settled}
 use Rattle.ih_footprint.proofs.GatherLemmas.{gathers-both, gathers-like, gathers-none, settled-gathered}
 use Rattle.ih_plan.specs.Series.{after_all, all_touch, footprint_of_all, price_of_all}
 use Rattle.ih_plan.proofs.ChangeSums.{change-then, change-same}
@@ -57,17 +57,17 @@ single-price I P m ms one = ap (price_of_all I P) (sym one)
 
 -- ---- what they touch
 
-pub gathers-no-moves : (I : Draft) (P : Timetable) (ms : List Move) (v : Gathered) → ms ≡ [] → Gathers v v (all_touch I P ms)
+pub gathers-no-moves : (I : Draft) (P : Timetable) (ms : List Move) (v : CellsState) → ms ≡ [] → Gathers v v (all_touch I P ms)
 unfolding all_touch
 gathers-no-moves I P ms v none = subst (λ ks. Gathers v v (all_touch I P ks)) (sym none) (gathers-none (λ c. refl))
 
-pub gathers-more-moves : (I : Draft) (P : Timetable) (m : Move) (ms : List Move) (u v w : Gathered) → Gathers u v (touches I P m)
+pub gathers-more-moves : (I : Draft) (P : Timetable) (m : Move) (ms : List Move) (u v w : CellsState) → Gathers u v (touches I P m)
     → Gathers v w (all_touch I (after I P m) ms) → Gathers u w (all_touch I P (m ∷ ms))
 unfolding all_touch
 gathers-more-moves I P m ms u v w first others = gathers-like (λ c range. refl) (gathers-both first others)
 
 -- the first of moves is gathered, and then the others, past the writes that it makes
-pub gathers-behind : (I : Draft) (P : Timetable) (made : List Write) {u v w : Gathered} {ws : List Write} {moves ms : List Move} {m : Move}
+pub gathers-behind : (I : Draft) (P : Timetable) (made : List Write) {u v w : CellsState} {ws : List Write} {moves ms : List Move} {m : Move}
     → ws ≡ [] → moves ≡ m ∷ ms → put_all made P ≡ after I P m → Gathers u v (touches I P m)
     → Gathers v w (all_touch I (put_all made P) ms) → Gathers u w (all_touch I (put_all ws P) moves)
 gathers-behind I P made {u} {v} {w} {ws} {moves} {ms} {m} none first there one others =
@@ -76,14 +76,14 @@ gathers-behind I P made {u} {v} {w} {ws} {moves} {ms} {m} none first there one o
     subst (λ (ks : List Write). Gathers u w (all_touch I (put_all ks P) moves)) (sym none)
     (subst (λ (ks : List Move). Gathers u w (all_touch I P ks)) (sym first) whole)
 
-pub gathers-one-move : (I : Draft) (P : Timetable) (m : Move) (ms : List Move) (u v : Gathered) → ms ≡ m ∷ []
+pub gathers-one-move : (I : Draft) (P : Timetable) (m : Move) (ms : List Move) (u v : CellsState) → ms ≡ m ∷ []
     → Gathers u v (touches I P m) → Gathers u v (all_touch I P ms)
 unfolding all_touch
 gathers-one-move I P m ms u v one first =
     subst (λ ks. Gathers u v (all_touch I P ks)) (sym one) (gathers-like (λ c range. sym (or-false (touches I P m c))) first)
 
 -- what is gathered from nothing is written as their footprint
-pub gathered-series : (I : Draft) (P : Timetable) (ms : List Move) (u w : Gathered) → u.sizes ≡ sizes_of I → u.cells ≡ []
+pub gathered-series : (I : Draft) (P : Timetable) (ms : List Move) (u w : CellsState) → u.sizes ≡ sizes_of I → u.cells ≡ []
     → Gathers u w (all_touch I P ms) → settled w ≡ footprint_of_all I P ms
 unfolding footprint_of_all
 gathered-series I P ms u w sizes none all =

@@ -9,7 +9,7 @@ use Rattle.ih_plan.specs.Expand.{expand, IsMoveOf}
 use Rattle.ih_plan.specs.Sums.{is_listed}
 use Rattle.ih_plan.specs.Cells.{number_in, IsCellIn}
 use Rattle.ih_plan.specs.Footprint.{looks_at, touches, footprint}
-use Rattle.ih_footprint.specs.Gathered.{Gathered, Gathers, settled}
+use Rattle.ih_footprint.specs.CellsState.{CellsState, Gathers, settled}
 use Rattle.ih_footprint.proofs.GatherLemmas.{gathers-both, gathers-like, settled-footprint}
 use Rattle.ih_costs.specs.AtOnce.{touch_at_once}
 use Rattle.ih_costs.proofs.AtOnceLemmas.{at-once}
@@ -22,7 +22,7 @@ or-comm false false = refl
 
 -- What a move looks at is listed in v from nothing, and s has that beside what t has. From there the writes' cells are
 -- gathered in w: from t on, all cells of the move's footprint.
-pub gathered-touches : (I : Draft) (P : Timetable) (m : Move) (t u v s w : Gathered) → IsPlanOf I P → IsMoveOf I m
+pub gathered-touches : (I : Draft) (P : Timetable) (m : Move) (t u v s w : CellsState) → IsPlanOf I P → IsMoveOf I m
     → u.sizes ≡ sizes_of I → u.cells ≡ [] → Gathers u v (looks_at m)
     → t.sizes ≡ sizes_of I → s.sizes ≡ t.sizes → ((n : ℕ) → is_listed n s.cells ≡ (is_listed n t.cells || is_listed n v.cells))
     → Gathers s w (touch_at_once I P (expand I P m)) → Gathers t w (touches I P m)
@@ -43,7 +43,7 @@ gathered-touches I P m t u v s w plan fits sizes none looked ranged same_sizes b
     ∙ ap (λ b. b || looks_at m c) (at-once I P m c plan fits)) (gathers-both placed touched)
 
 -- What is gathered from nothing is written as the move's footprint.
-pub gathered-footprint : (I : Draft) (P : Timetable) (m : Move) (u w : Gathered) → u.sizes ≡ sizes_of I → u.cells ≡ []
+pub gathered-footprint : (I : Draft) (P : Timetable) (m : Move) (u w : CellsState) → u.sizes ≡ sizes_of I → u.cells ≡ []
     → Gathers u w (touches I P m) → settled w ≡ footprint I P m
 gathered-footprint I P m u w sizes none all =
     settled-footprint I P m w (all.sizes ∙ sizes) (λ c range.

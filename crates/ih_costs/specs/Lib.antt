@@ -2,7 +2,7 @@ pub mod StayPart
 pub mod CellLedgers
 pub mod ChoiceDelta
 pub mod Scratch
-pub mod Standing
+pub mod LedgersState
 pub mod StayDelta
 pub mod AtOnce
 pub mod Undo

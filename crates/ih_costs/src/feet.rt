@@ -4,7 +4,7 @@ ghost use Rattle.std.specs.Prelude.{◌≡◌};
 ghost use Rattle.ih_tables.specs.Sizes.{sizes_of};
 ghost use Rattle.ih_plan.specs.{Writes.AreWritesOf, Expand.expand, Expand.IsMoveOf, Footprint.touches};
 ghost use Rattle.ih_plan.specs.{Footprint.footprint};
-ghost use Rattle.ih_footprint.specs.Gathered.{Gathers};
+ghost use Rattle.ih_footprint.specs.CellsState.{Gathers};
 ghost use Rattle.ih_costs.specs.{CellLedgers.AreLedgers, CellLedgers.timetable_of, AtOnce.touch_at_once};
 ghost use Rattle.ih_costs.specs.{Scratch.IsFree};
 

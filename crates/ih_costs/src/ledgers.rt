@@ -28,10 +28,10 @@ pub struct Ledgers<'a> {
 }
 
 impl<'a> Model for Ledgers<'a> {
-    ghost use Rattle.ih_costs.specs.{Scratch.IsFree, Standing.Standing, CellLedgers.AreLedgers};
+    ghost use Rattle.ih_costs.specs.{Scratch.IsFree, LedgersState.LedgersState, CellLedgers.AreLedgers};
     ghost use Rattle.ih_costs.specs.{CellLedgers.timetable_of};
 
-    ghost Value = { Standing };
+    ghost Value = { LedgersState };
 
     ghost view = { λ l. record { instance = l.inst.now.draft; plan = timetable_of l.cells } };
 

@@ -2,7 +2,7 @@
 
 ghost use Rattle.std.specs.Prelude.{◌≡◌};
 ghost use Rattle.ih_tables.specs.Sizes.{sizes_of};
-ghost use Rattle.ih_footprint.specs.Gathered.{Gathers};
+ghost use Rattle.ih_footprint.specs.CellsState.{Gathers};
 ghost use Rattle.ih_plan.specs.Series.{AreMoves, after_all, all_touch};
 ghost use Rattle.ih_costs.specs.CellLedgers.{AreLedgers, AreLedgersOf, timetable_of};
 

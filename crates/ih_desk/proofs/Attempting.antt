@@ -23,16 +23,16 @@ use Rattle.ih_cellbook.proofs.LastEntries.{next-is, none-last}
 use Rattle.ih_turn.specs.Rule.{GoesOn}
 use Rattle.ih_desk.specs.Histories.{EndsWith}
 use Rattle.ih_desk.specs.Finishing.{AreDrawn}
-use Rattle.ih_desk.specs.Progress.{Progress}
+use Rattle.ih_desk.specs.WorkerLoopState.{WorkerLoopState}
 use Rattle.ih_desk.specs.WorkerLoops.{HasAttempted, HasCaughtUp, IsNext, IsWithin}
 use Rattle.ih_desk.proofs.HistoryLemmas.{none_by-others}
 use Rattle.ih_desk.proofs.Full.{drawn-others, none-both}
 
 -- a worker that goes on, named by what it was before
-pub same-within : (b : Base) (each earlier w n : ℕ) (H : List Tried) (x : Progress) → each ≡ earlier → w ≡ n → IsWithin b each w H x → IsWithin b earlier n H x
+pub same-within : (b : Base) (each earlier w n : ℕ) (H : List Tried) (x : WorkerLoopState) → each ≡ earlier → w ≡ n → IsWithin b each w H x → IsWithin b earlier n H x
 same-within b each earlier w n H x same number within = subst (λ e. IsWithin b e n H x) same (subst (λ v. IsWithin b each v H x) number within)
 
-pub same-caught_up : (b : Base) (each earlier w n : ℕ) (H : List Tried) (x : Progress) → each ≡ earlier → w ≡ n → HasCaughtUp b each w H x → HasCaughtUp b earlier n H x
+pub same-caught_up : (b : Base) (each earlier w n : ℕ) (H : List Tried) (x : WorkerLoopState) → each ≡ earlier → w ≡ n → HasCaughtUp b each w H x → HasCaughtUp b earlier n H x
 same-caught_up b each earlier w n H x same number caught = subst (λ e. HasCaughtUp b e n H x) same (subst (λ v. HasCaughtUp b each v H x) number caught)
 
 pub same-attempted : (o : Options) (w n number : ℕ) (m : List Move) (v : Verdict) (seen H : List Tried) → w ≡ n → HasAttempted o w number m v seen H

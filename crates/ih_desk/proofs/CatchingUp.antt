@@ -14,8 +14,8 @@ use Rattle.ih_cellbook.specs.Offered.{Offered}
 use Rattle.ih_cellbook.specs.Offers.{HasSeenOwn, entry_of}
 use Rattle.ih_cellbook.proofs.Staying.{seen_own-others}
 use Rattle.ih_cellbook.specs.Replicas.{IsReplicaIn, StandsUpTo}
-use Rattle.ih_cellbook.specs.Snapshot.{Snapshot}
-use Rattle.ih_cellbook.specs.News.{Told, TellsOf}
+use Rattle.ih_cellbook.specs.ReplicaState.{ReplicaState}
+use Rattle.ih_cellbook.specs.News.{NewsState, TellsOf}
 use Rattle.ih_cellbook.proofs.NewsLemmas.{tells-further}
 use Rattle.ih_cellbook.proofs.Within.{stands-behind, told-further, told-seen}
 use Rattle.ih_turn.specs.Rule.{GoesOn}
@@ -58,11 +58,11 @@ ends-longer b o v H G ends =
     omega (arith, all, last, before)
 
 -- the replica stays where it is while others go on
-pub stays : (b : Base) (w : ℕ) (H G : List Tried) (r : Snapshot) → GoesOn (λ e. e.worker) w H G → IsReplicaIn b H r → IsReplicaIn b G r
+pub stays : (b : Base) (w : ℕ) (H G : List Tried) (r : ReplicaState) → GoesOn (λ e. e.worker) w H G → IsReplicaIn b H r → IsReplicaIn b G r
 stays b w H G r goes stands = subst (λ F. IsReplicaIn b F r) (sym goes.history) (stands-behind b H r stands goes.others)
 
 -- once it has taken over what it is told, it has seen more, where there was more
-pub further : (b : Base) (G : List Tried) (r : Snapshot) (n : Told) (s : Snapshot) → IsReplicaIn b G r → AreLegalButDraws b G → TellsOf G r.seen n → StandsUpTo r n.accepted n.until s
+pub further : (b : Base) (G : List Tried) (r : ReplicaState) (n : NewsState) (s : ReplicaState) → IsReplicaIn b G r → AreLegalButDraws b G → TellsOf G r.seen n → StandsUpTo r n.accepted n.until s
     → r.seen < length G → r.seen < s.seen
 further b G r n s stands legal told later more =
     let seen = told-seen b G r stands n legal told s later in
@@ -70,7 +70,7 @@ further b G r n s stands legal told later more =
     omega (arith, seen, until)
 
 -- a replica that takes over what a look told: it stands for a beginning still, and has seen more, where there was more
-pub taken-over : (b : Base) (w : ℕ) (H G : List Tried) (r : Snapshot) (n : Told) (seen until : ℕ) (accepted : List Tried) (s : Snapshot)
+pub taken-over : (b : Base) (w : ℕ) (H G : List Tried) (r : ReplicaState) (n : NewsState) (seen until : ℕ) (accepted : List Tried) (s : ReplicaState)
     → seen ≡ r.seen → accepted ≡ n.accepted → until ≡ n.until → IsReplicaIn b H r → GoesOn (λ e. e.worker) w H G → AreLegalButDraws b G → TellsOf G seen n
     → StandsUpTo r accepted until s → IsReplicaIn b G s × (r.seen < length H → r.seen < s.seen)
 taken-over b w H G r n seen until accepted s same all end stands goes legal tells later =
@@ -81,7 +81,7 @@ taken-over b w H G r n seen until accepted s same all end stands goes legal tell
     (told-further b G r behind n legal told s up, λ new. further b G r n s behind legal told up (omega (arith, new, longer)))
 
 -- a replica has seen no more than there may be, so a turn is left
-pub has-turn : (b : Base) (H : List Tried) (r : Snapshot) (left : ℕ) → IsReplicaIn b H r → most_entries b.options < left + r.seen → 0 < left
+pub has-turn : (b : Base) (H : List Tried) (r : ReplicaState) (left : ℕ) → IsReplicaIn b H r → most_entries b.options < left + r.seen → 0 < left
 has-turn b H r left stands has = let few = (legal-few b (take r.seen H) stands.legal).most in let seen = stands.seen in omega (arith, few, seen, has)
 
 -- A worker that made nothing has seen all that it made

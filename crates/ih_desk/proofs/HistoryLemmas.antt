@@ -6,7 +6,7 @@ use Rattle.ih_journal.specs.Tried.{Tried}
 use Rattle.ih_journal.specs.declared.entries.Verdict.{Verdict}
 use Rattle.ih_journal.specs.Base.{Base}
 use Rattle.ih_cellbook.specs.Offered.{Offered}
-use Rattle.ih_cellbook.specs.Recorded.{Recorded}
+use Rattle.ih_cellbook.specs.BookState.{BookState}
 use Rattle.ih_cellbook.specs.Laws.{HasNoneBy, RightOffersStayRight}
 use Rattle.ih_cellbook.specs.Legal.{AreLegalButDraws}
 use Rattle.ih_cellbook.specs.Offers.{IsRightOffer, entry_of}
@@ -30,15 +30,15 @@ pub legal-same : (b c : Base) (H G : List Tried) → b ≡ c → H ≡ G → Are
 legal-same b c H G base same legal = subst (λ x. AreLegalButDraws x G) base (subst (AreLegalButDraws b) same legal)
 
 -- What was lent out, to whom: all that the two lemmas below know of it.
-module _ (c : Base) (o : Offered) (n : ℕ) (seen : List Tried) (taken lent : Recorded) (value : lent ≡ taken) (base : taken.base ≡ c)
+module _ (c : Base) (o : Offered) (n : ℕ) (seen : List Tried) (taken lent : BookState) (value : lent ≡ taken) (base : taken.base ≡ c)
     (own : o.worker ≡ n) (begins : GoesOn (λ e. e.worker) n seen taken.entries) where
   lent-base : lent.base ≡ c
-  lent-base = ap (λ (k : Recorded). k.base) value ∙ base
+  lent-base = ap (λ (k : BookState). k.base) value ∙ base
 
   -- it begins with what the seat had seen, and past that has nothing by the offer's worker
   lent-goes_on : GoesOn (λ e. e.worker) o.worker seen lent.entries
   lent-goes_on =
-      subst (λ (k : Recorded). GoesOn (λ e. e.worker) o.worker seen k.entries) (sym value) (subst (λ w. GoesOn (λ e. e.worker) w seen taken.entries) (sym own) begins)
+      subst (λ (k : BookState). GoesOn (λ e. e.worker) o.worker seen k.entries) (sym value) (subst (λ w. GoesOn (λ e. e.worker) w seen taken.entries) (sym own) begins)
 
   -- an offer that is right for what the seat has seen is right for the book
   pub right-lent : RightOffersStayRight → IsRightOffer c seen o → IsRightOffer lent.base lent.entries o

@@ -11,7 +11,7 @@ use Rattle.ih_journal.specs.Tried.{Tried}
 use Rattle.ih_journal.specs.Base.{Base}
 use Rattle.ih_journal.specs.declared.entries.Verdict.{Verdict}
 use Rattle.ih_cellbook.specs.Offered.{Offered}
-use Rattle.ih_cellbook.specs.Recorded.{Recorded}
+use Rattle.ih_cellbook.specs.BookState.{BookState}
 use Rattle.ih_cellbook.specs.Laws.{HasNoneBy}
 use Rattle.ih_cellbook.specs.Legal.{AreLegalButDraws}
 use Rattle.ih_desk.specs.Histories.{EndsWith}
@@ -19,14 +19,14 @@ use Rattle.ih_desk.specs.Turns.{HasLooked, HasOffered}
 use Rattle.ih_desk.proofs.HistoryLemmas.{legal-same}
 use Rattle.ih_desk.specs.Desks.{Desk, DeskSeat, IsDesk, IsSeatAt, base_of, kept_book, worker_count}
 
-pub made-all : {P : Type 0} (turn : RuledTurn Recorded P Tried Base kept_book) (seat : DeskSeat) → (opened_with turn).entries ≡ [] → IsSeatOf turn seat
+pub made-all : {P : Type 0} (turn : RuledTurn BookState P Tried Base kept_book) (seat : DeskSeat) → (opened_with turn).entries ≡ [] → IsSeatOf turn seat
     → made_count seat ≡ count_by (λ e. e.worker == number_of seat) (history seat)
 made-all turn seat empty own =
     ap (λ s. count_by (λ (e : Tried). e.worker == seat.token.me.0.number) (drop s (history seat))) (own.1.started ∙ ap length empty)
     ∙ ap (λ n. count_by (λ (e : Tried). e.worker == n) (history seat)) (sym seat.number_is)
 
 -- a seat that comes back is one of the desk's
-pub seat-at : (desk : Desk) → IsDesk desk → (turn : RuledTurn Recorded (TurnRule Recorded) Tried Base kept_book) (seat : DeskSeat) → turn ≡ desk.turn
+pub seat-at : (desk : Desk) → IsDesk desk → (turn : RuledTurn BookState (TurnRule BookState) Tried Base kept_book) (seat : DeskSeat) → turn ≡ desk.turn
     → IsSeatOf turn seat → number_of seat < worker_count desk
     → AreLegalButDraws (base_of desk) (history seat) → IsSeatAt desk seat
 seat-at desk opened turn seat same own number legal = record {
@@ -41,15 +41,15 @@ seat-at desk opened turn seat same own number legal = record {
     there = subst (λ t. IsSeatOf t seat) same own
 
 -- A seat that comes back: what its turn was taken and given back with, and what was kept then.
-module _ (desk : Desk) (before after : DeskSeat) (own : IsSeatAt desk before) (turn : RuledTurn Recorded (TurnRule Recorded) Tried Base kept_book) (n m l : ℕ)
+module _ (desk : Desk) (before after : DeskSeat) (own : IsSeatAt desk before) (turn : RuledTurn BookState (TurnRule BookState) Tried Base kept_book) (n m l : ℕ)
     (took : (turn ≡ desk.turn) × (n ≡ number_of before) × (m ≡ made_count before) × (l + 1 ≡ turns_left before))
     (back : IsSeatOf turn after) (gave : (number_of after ≡ n) × (turns_left after ≡ l))
-    (kept : Recorded) (base : kept.base ≡ base_of desk) (list : history after ≡ kept.entries)
-    (shown : Recorded) (same : shown ≡ kept) (legal : AreLegalButDraws shown.base shown.entries) where
+    (kept : BookState) (base : kept.base ≡ base_of desk) (list : history after ≡ kept.entries)
+    (shown : BookState) (same : shown ≡ kept) (legal : AreLegalButDraws shown.base shown.entries) where
   back-own : IsSeatAt desk after
   back-own =
       seat-at desk own.stands turn after took.0 back (subst (λ k. k < worker_count desk) (sym (gave.0 ∙ took.1)) own.number)
-      (legal-same shown.base (base_of desk) shown.entries (history after) (ap (λ (k : Recorded). k.base) same ∙ base) (ap (λ (k : Recorded). k.entries) same ∙ sym list) legal)
+      (legal-same shown.base (base_of desk) shown.entries (history after) (ap (λ (k : BookState). k.base) same ∙ base) (ap (λ (k : BookState). k.entries) same ∙ sym list) legal)
 
   back-left : turns_left after + 1 ≡ turns_left before
   back-left = let had = took.3 in let has = gave.1 in omega (arith, had, has)

@@ -6,18 +6,18 @@ use Rattle.ih_turn.specs.Seats.{opened_with, seat_count, history, number_of, mad
 use Rattle.ih_journal.specs.Tried.{Tried}
 use Rattle.ih_journal.specs.Base.{Base}
 use Rattle.ih_cellbook.specs.Legal.{AreLegalButDraws}
-use Rattle.ih_cellbook.specs.Recorded.{Recorded}
+use Rattle.ih_cellbook.specs.BookState.{BookState}
 use Rattle.ih_turn.specs.declared.turn.RuledTurn.{RuledTurn}
 use Rattle.ih_turn.specs.declared.rule.TurnRule.{TurnRule}
 use Rattle.ih_desk.specs.declared.desk.DeskOver.{DeskOver}
 
 -- a book as what a turn keeps
-abbrev pub kept_book : Ghosts Recorded Tried Base
+abbrev pub kept_book : Ghosts BookState Tried Base
 kept_book = record { entries = λ k. k.entries; base = λ k. k.base; maker = λ e. e.worker }
 
 -- a desk over a turn of a book, whatever type keeps the book's entries
 abbrev pub Desk : Type 0
-Desk = DeskOver (RuledTurn Recorded (TurnRule Recorded) Tried Base kept_book)
+Desk = DeskOver (RuledTurn BookState (TurnRule BookState) Tried Base kept_book)
 
 -- what the desk's book was opened with
 abbrev pub base_of : Desk → Base
@@ -34,7 +34,7 @@ pub record IsDesk (desk : Desk) : Type 0 where
 
 -- a seat at a desk
 abbrev pub DeskSeat : Type 0
-DeskSeat = Seat Recorded Tried Base kept_book
+DeskSeat = Seat BookState Tried Base kept_book
 
 -- The seat is one of this desk's, and what it has seen is legal but for its draws, at every place.
 pub record IsSeatAt (desk : Desk) (seat : DeskSeat) : Type 0 where

@@ -15,42 +15,42 @@ use Rattle.ih_cellbook.specs.Offers.{HasSeenOwn}
 use Rattle.ih_cellbook.specs.Replicas.{IsReplicaIn, IsReplicaOf}
 use Rattle.ih_cellbook.specs.News.{TellsOf}
 use Rattle.ih_desk.specs.Desks.{Desk, DeskSeat, IsSeatAt, base_of}
-use Rattle.ih_desk.specs.Progress.{Progress}
+use Rattle.ih_desk.specs.WorkerLoopState.{WorkerLoopState}
 
 -- The loop is worker w's in a search over b, by attempts of so many moves.
-pub record IsLoopOf (b : Base) (each w : ℕ) (x : Progress) : Type 0 where
+pub record IsLoopOf (b : Base) (each w : ℕ) (x : WorkerLoopState) : Type 0 where
   pub instance : x.instance ≡ b.instance
   pub options : x.options ≡ b.options
   pub each_is : x.moves_each ≡ each
   pub worker : x.replica.worker ≡ w
 
 -- It prices on a beginning of the history H.
-pub record IsWithin (b : Base) (each w : ℕ) (H : List Tried) (x : Progress) : Type 0 where
+pub record IsWithin (b : Base) (each w : ℕ) (H : List Tried) (x : WorkerLoopState) : Type 0 where
   pub own : IsLoopOf b each w x
   pub replica : IsReplicaIn b H x.replica
 
 -- It does, and has seen all that its worker made, so that its next price may be offered.
-pub record HasCaughtUp (b : Base) (each w : ℕ) (H : List Tried) (x : Progress) : Type 0 where
+pub record HasCaughtUp (b : Base) (each w : ℕ) (H : List Tried) (x : WorkerLoopState) : Type 0 where
   pub within : IsWithin b each w H x
   pub seen : HasSeenOwn H w x.replica.seen
 
 -- The news tell of H from where the replica stands.
-abbrev pub IsToldOf : List Tried → Progress → Type 0
+abbrev pub IsToldOf : List Tried → WorkerLoopState → Type 0
 IsToldOf H x = TellsOf H x.replica.seen x.news
 
 -- nothing was drawn or seen yet
-pub record IsNew (b : Base) (each w : ℕ) (x : Progress) : Type 0 where
+pub record IsNew (b : Base) (each w : ℕ) (x : WorkerLoopState) : Type 0 where
   pub own : IsLoopOf b each w x
   pub replica : IsReplicaOf b [] x.replica
   pub stream : x.stream ≡ stream_at b.options.seed w 0
 
 -- The turns left and the entries seen, together. Each turn of a worker shows an entry at least that it hadn't seen, so
 -- this never gets less; and there are at most `most_entries` to see.
-abbrev pub credit : ℕ → Progress → ℕ
+abbrev pub credit : ℕ → WorkerLoopState → ℕ
 credit left x = left + x.replica.seen
 
 -- At this seat the worker may try these moves: it has caught up, and has turns for all that there may be to see.
-pub record MayTry (desk : Desk) (seat : DeskSeat) (m : List Move) (x : Progress) : Type 0 where
+pub record MayTry (desk : Desk) (seat : DeskSeat) (m : List Move) (x : WorkerLoopState) : Type 0 where
   pub own : IsSeatAt desk seat
   pub caught_up : HasCaughtUp (base_of desk) x.moves_each (number_of seat) (history seat) x
   pub moves : AreMoves (base_of desk).instance m

@@ -7,7 +7,7 @@ use Rattle.ih_journal.specs.Settings.{most_entries}
 use Rattle.ih_desk.specs.declared.seated_workers.Seated.{Seated}
 use Rattle.ih_desk.specs.Desks.{Desk, DeskSeat, IsSeatAt, base_of}
 use Rattle.ih_desk.specs.Finishing.{HasFinished}
-use Rattle.ih_desk.specs.Progress.{Progress}
+use Rattle.ih_desk.specs.WorkerLoopState.{WorkerLoopState}
 use Rattle.ih_desk.specs.WorkerLoops.{IsNew}
 
 -- The turns that a seat gets: four for each try of each attempt of each worker, and 16. One for each entry of the
@@ -17,7 +17,7 @@ enough_turns o = 4 * most_entries o + 16
 
 -- a worker, whatever it prices on
 abbrev pub Worker : Type 0
-Worker = Seated Progress DeskSeat
+Worker = Seated WorkerLoopState DeskSeat
 
 -- the worker has this seat
 abbrev pub Holds : {S T : Type 0} → Seated S T → T → Type 0

@@ -1,7 +1,7 @@
 //! The desk: it keeps the book behind a turn, out of reach until it is closed.
 
 ghost use Rattle.std.specs.Prelude.{◌≡◌, ◌≤◌, [], ◌∷◌, ◌++◌, length, take, drop};
-ghost use Rattle.ih_cellbook.specs.{Copied.most_copied, Legal.AreLegalButDraws, Offers.IsRightOffer, Offers.entry_of};
+ghost use Rattle.ih_cellbook.specs.{BufferState.most_copied, Legal.AreLegalButDraws, Offers.IsRightOffer, Offers.entry_of};
 ghost use Rattle.ih_cellbook.specs.{News.TellsOf};
 
 use ih_cellbook::{Book, Buffer, Logged, News, Offers, right_offers_stay_right};

@@ -31,9 +31,9 @@ pub struct WorkerLoop<'a, C: Replicates> {
 
 impl<'a, C: Replicates> Model for WorkerLoop<'a, C> {
     ghost use Rattle.std.specs.Prelude.{◌≤◌};
-    ghost use Rattle.ih_desk.specs.Progress.{Progress};
+    ghost use Rattle.ih_desk.specs.WorkerLoopState.{WorkerLoopState};
 
-    ghost Value = { Progress };
+    ghost Value = { WorkerLoopState };
 
     ghost view = { λ s. record {
       instance = s.inst.now.draft;

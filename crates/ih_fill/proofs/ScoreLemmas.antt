@@ -11,7 +11,7 @@ use Rattle.ih_tables.specs.Listed.{listed as by_place}
 use Rattle.ih_tables.proofs.BillLemmas.{at-listed as at-by_place}
 use Rattle.ih_fill.specs.Fill.{without_uncovered}
 use Rattle.ih_fill.specs.FirstLeast.{IsBefore}
-use Rattle.ih_fill.specs.Scoring.{view_of}
+use Rattle.ih_fill.specs.ScorerState.{view_of}
 
 -- the sums of two pairs are the same
 abbrev pub AreEven : ℤ → ℤ → ℤ → ℤ → Type 0

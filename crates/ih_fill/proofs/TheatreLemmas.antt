@@ -13,7 +13,7 @@ use Rattle.ih_plan.specs.BillOf.{bill_of, change_of_bill}
 use Rattle.ih_fill.specs.declared.candidates.Candidate.{Candidate}
 use Rattle.ih_fill.specs.Candidates.{cheapest, valued, stays_in, stays_on, rooms_for, placed}
 use Rattle.ih_fill.specs.FirstLeast.{AnyPlace, IsBefore, IsFirstLeast}
-use Rattle.ih_fill.specs.Scoring.{Scoring, stay_value, view_of}
+use Rattle.ih_fill.specs.ScorerState.{ScorerState, stay_value, view_of}
 use Rattle.ih_fill.specs.Theatres.{theatre_value, IsFirstTheatre}
 use Rattle.ih_fill.proofs.CandidateLemmas.{cheaper, cheaper-more}
 use Rattle.ih_fill.proofs.CrossedStays.{stayed, bills-balanced}
@@ -23,7 +23,7 @@ use Rattle.ih_fill.proofs.ScoreLemmas.{AreEven, before-even, changes-balanced, v
 
 -- ---- one theatre after the other
 
-module _ (F : Scoring) (p : PatientNo) (d r : ℕ) where
+module _ (F : ScorerState) (p : PatientNo) (d r : ℕ) where
   abbrev in-theatre : ℕ → Write
   in-theatre t = SetStay p (Some (placed d r t))
 
@@ -43,7 +43,7 @@ module _ (F : Scoring) (p : PatientNo) (d r : ℕ) where
 
 -- ---- one room and the others
 
-module _ (F : Scoring) (p : PatientNo) (plan : IsPlanOf F.instance F.plan) (inside : p.0 < patient_count F.instance) where
+module _ (F : ScorerState) (p : PatientNo) (plan : IsPlanOf F.instance F.plan) (inside : p.0 < patient_count F.instance) where
   values-even : (d r s t u : ℕ) → AreEven (theatre_value F p d r t) (theatre_value F p d s u) (theatre_value F p d r u) (theatre_value F p d s t)
   unfolding stay_value
   values-even d r s t u =

@@ -8,24 +8,24 @@ use Rattle.ih_plan.specs.declared.moves.Write.{Write}
 use Rattle.ih_plan.specs.Writes.{put}
 use Rattle.ih_plan.specs.BillOf.{change_of_bill}
 use Rattle.ih_fill.specs.Fill.{write_score}
-use Rattle.ih_costs.specs.Standing.{Standing}
+use Rattle.ih_costs.specs.LedgersState.{LedgersState}
 use Rattle.ih_fill.specs.Candidates.{valued}
-use Rattle.ih_fill.specs.Scoring.{Scoring, stay_value, care_value, view_of}
+use Rattle.ih_fill.specs.ScorerState.{ScorerState, stay_value, care_value, view_of}
 
 -- what a price says of a timetable, in the terms of its ledgers
-pub score-is : (F : Scoring) (I : Draft) (L : Standing) (hard : ℕ) (counts view : Bool) (w : Write) (price : Bill)
+pub score-is : (F : ScorerState) (I : Draft) (L : LedgersState) (hard : ℕ) (counts view : Bool) (w : Write) (price : Bill)
     → record { instance = I; hard = hard; counts_uncovered = counts; plan = L.plan } ≡ F → L.instance ≡ I → price ≡ change_of_bill L.instance L.plan (put w L.plan)
     → score hard I.weights (view_of view price) ≡ write_score F.instance F.hard (view_of view) F.plan w
 score-is F I L hard counts view w price same of_instance e =
     ap (λ b. score hard I.weights (view_of view b)) (e ∙ ap (λ J. change_of_bill J L.plan (put w L.plan)) of_instance)
-    ∙ ap (λ (G : Scoring). write_score G.instance G.hard (view_of view) G.plan w) same
+    ∙ ap (λ (G : ScorerState). write_score G.instance G.hard (view_of view) G.plan w) same
 
 -- the value of a stay, and that of a nurse
-pub stay-is : (F : Scoring) (w : Write) → valued (write_score F.instance F.hard (view_of F.counts_uncovered) F.plan) w ≡ valued (stay_value F) w
+pub stay-is : (F : ScorerState) (w : Write) → valued (write_score F.instance F.hard (view_of F.counts_uncovered) F.plan) w ≡ valued (stay_value F) w
 unfolding stay_value
 stay-is F w = refl
 
-pub care-is : (F : Scoring) (w : Write) → valued (write_score F.instance F.hard (view_of true) F.plan) w ≡ valued (care_value F) w
+pub care-is : (F : ScorerState) (w : Write) → valued (write_score F.instance F.hard (view_of true) F.plan) w ≡ valued (care_value F) w
 unfolding care_value
 care-is F w = refl
 

@@ -3,5 +3,5 @@ pub mod Choices
 pub mod Fill
 pub mod FirstLeast
 pub mod Laws
-pub mod Scoring
+pub mod ScorerState
 pub mod Theatres

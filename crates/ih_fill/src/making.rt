@@ -2,7 +2,7 @@
 
 ghost use Rattle.std.specs.Prelude.{◌≡◌, false, IfSome};
 ghost use Rattle.ih_plan.specs.Writes.{IsWriteOf};
-ghost use Rattle.ih_fill.specs.{Choices.IsChoiceOf, Choices.candidates, Candidates.least_of, Scoring.value_in};
+ghost use Rattle.ih_fill.specs.{Choices.IsChoiceOf, Choices.candidates, Candidates.least_of, ScorerState.value_in};
 ghost use Rattle.ih_fill.specs.Fill.{is_open, with_choice};
 
 use crate::candidates::Candidate;

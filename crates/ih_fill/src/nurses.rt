@@ -3,7 +3,7 @@
 ghost use Rattle.std.specs.Prelude.{◌≡◌, ◌<◌, ◌&&◌, not, is_none, IfSome};
 ghost use Rattle.ih_tables.specs.Sizes.{room_count, shift_count};
 ghost use Rattle.ih_plan.specs.{Timetable.care_of, Writes.IsWriteOf, Presence.present, Presence.day_of, Costs.is_empty};
-ghost use Rattle.ih_fill.specs.{Candidates.care_writes, Candidates.least_of, Scoring.care_value};
+ghost use Rattle.ih_fill.specs.{Candidates.care_writes, Candidates.least_of, ScorerState.care_value};
 
 use crate::candidates::{Candidate, cheaper};
 use crate::scoring::Scorer;

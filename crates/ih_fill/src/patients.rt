@@ -4,7 +4,7 @@ ghost use Rattle.std.specs.Prelude.{◌≡◌, ◌<◌, ℕ, Some, IfSome, IfNon
 ghost use Rattle.ih_tables.specs.Sizes.{patient_count, room_count, theatre_count};
 ghost use Rattle.ih_plan.specs.Writes.{IsWriteOf};
 ghost use Rattle.ih_fill.specs.Candidates.{cheapest, stay_writes, stays_on, suits, valued};
-ghost use Rattle.ih_fill.specs.{Scoring.stay_value, Theatres.theatre_value, Theatres.IsFirstTheatre};
+ghost use Rattle.ih_fill.specs.{ScorerState.stay_value, Theatres.theatre_value, Theatres.IsFirstTheatre};
 
 use crate::candidates::{Candidate, cheaper};
 use crate::scoring::Scorer;

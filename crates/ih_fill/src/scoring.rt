@@ -24,9 +24,9 @@ pub struct Scorer<'a> {
 
 impl<'a> Model for Scorer<'a> {
     ghost use Rattle.std.specs.Prelude.{◌≡◌, ◌≤◌};
-    ghost use Rattle.ih_fill.specs.Scoring.{Scoring, IsScoring};
+    ghost use Rattle.ih_fill.specs.ScorerState.{ScorerState, IsScoring};
 
-    ghost Value = { Scoring };
+    ghost Value = { ScorerState };
 
     ghost view = { λ f. record {
       instance = f.inst.now.draft;
@@ -64,7 +64,7 @@ impl<'a> Scorer<'a> {
     ghost use Rattle.ih_plan.specs.{declared.moves.Write.TheVariants.SetStay, declared.moves.Write.TheVariants.SetCare};
     ghost use Rattle.ih_plan.specs.{Timetable.IsPlanOf, Timetable.IsPlacement, Writes.put, Writes.IsWriteOf};
     ghost use Rattle.ih_plan.specs.{Presence.present, Presence.day_of, Costs.is_empty, BillOf.change_of_bill};
-    ghost use Rattle.ih_fill.specs.Scoring.{stay_value, care_value, view_of};
+    ghost use Rattle.ih_fill.specs.ScorerState.{stay_value, care_value, view_of};
     ghost use Rattle.ih_fill.specs.{Fill.write_score, Candidates.valued};
 
     /// What scores a timetable. `hard` is the weight of a broken rule; `counts_uncovered` says whether rooms without

@@ -14,7 +14,7 @@ use Rattle.ih_tables.specs.declared.ids.Shift.{Shift}
 use Rattle.ih_tables.specs.declared.ids.NurseNo.{NurseNo}
 use Rattle.ih_tables.specs.declared.ids.PatientNo.{PatientNo}
 use Rattle.ih_tables.specs.declared.ids.PersonNo.{PersonNo}
-use Rattle.ih_tables.specs.Sizes.{Sizes, sizes_of, room_count, shift_count}
+use Rattle.ih_tables.specs.Sizes.{NumberingState, sizes_of, room_count, shift_count}
 use Rattle.ih_plan.specs.declared.moves.Placement.{Placement}
 use Rattle.ih_plan.specs.declared.moves.Write.TheVariants.{SetStay}
 use Rattle.ih_plan.specs.Timetable.{Timetable, IsPlanOf, care_of, choice_of, stay_of}
@@ -23,7 +23,7 @@ use Rattle.ih_plan.specs.Presence.{is_present, day_of, in_span, end_of}
 use Rattle.ih_plan.specs.Costs.{is_number}
 use Rattle.ih_plan.specs.Cells.{IsCellIn, IsCellOf}
 use Rattle.ih_plan.specs.Footprint.{in_placement, in_stay, in_choice, is_own, write_touches}
-use Rattle.ih_footprint.specs.Gathered.{same_cell}
+use Rattle.ih_footprint.specs.CellsState.{same_cell}
 use Rattle.ih_footprint.specs.Pieces.{in_shift, in_days, in_room_days, in_room_shifts, in_nurse_shifts, in_nurse, in_cares}
 use Rattle.ih_plan.specs.Present.{ArePresent}
 use Rattle.ih_plan.specs.Sums.{is_listed}
@@ -58,7 +58,7 @@ nurse-none k o h (NurseShift m l) = rw h refl
 nurse-none k o h _ = refl
 
 -- the nurse who is chosen has a cell
-pub chosen-in : (I : Draft) (P : Timetable) (r : ℕ) (k : Shift) (n : NurseNo) (z : Sizes) → IsPlanOf I P → z ≡ sizes_of I → k.0 < shift_count I → choice_of P r k.0 ≡ Some n
+pub chosen-in : (I : Draft) (P : Timetable) (r : ℕ) (k : Shift) (n : NurseNo) (z : NumberingState) → IsPlanOf I P → z ≡ sizes_of I → k.0 < shift_count I → choice_of P r k.0 ≡ Some n
     → IsCellIn z (NurseShift n k)
 chosen-in I P r k n z plan sizes inside e =
     rw sizes (plan.nursed r k.0 n.0 (ap (option_map (λ (m : NurseNo). m.0)) e), inside)
@@ -158,7 +158,7 @@ module _ (I : Draft) (P : Timetable) {rooms days : ℕ} {persons : ℕ → ℕ �
   told-present x = present.each r d x (rw present.rooms_are r_in) (rw present.days_are d_in)
 
   -- so each who is told has a cell
-  pub member-in : (i x : ℕ) (z : Sizes) → z ≡ sizes_of I → i < length (persons r d) → x ≡ slice_index (persons r d) i → x < z.patients + z.occupants
+  pub member-in : (i x : ℕ) (z : NumberingState) → z ≡ sizes_of I → i < length (persons r d) → x ≡ slice_index (persons r d) i → x < z.patients + z.occupants
   member-in i x z sizes inside is =
       let listed = list_any_at (nat_eq x) (persons r d) i 0 inside (eq-eqb x (slice_index (persons r d) i) is) in
       rw sizes (person-known I P r d x (sym (told-present x) ∙ listed))

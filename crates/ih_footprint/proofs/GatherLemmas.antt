@@ -5,7 +5,7 @@ use Rattle.std.proofs.lemmas.Bool.{cases_Bool, cases_eq, eq-eqb, ne_eqb, eqb-tru
 use Rattle.std.proofs.lemmas.List.Folds.{list_any-append}
 use Rattle.ih_tables.specs.declared.cells.Cell.{Cell}
 use Rattle.ih_tables.specs.declared.cells.Cell.TheVariants.{Stay, RoomDay, TheatreDay, SurgeonDay, RoomShift, NurseShift, Care}
-use Rattle.ih_tables.specs.Sizes.{Sizes, sizes_of}
+use Rattle.ih_tables.specs.Sizes.{NumberingState, sizes_of}
 use Rattle.ih_tables.specs.declared.drafts.Draft.{Draft}
 use Rattle.ih_plan.specs.declared.moves.Move.{Move}
 use Rattle.ih_plan.specs.Timetable.{Timetable}
@@ -14,7 +14,7 @@ use Rattle.ih_plan.specs.Sums.{which_below, is_listed}
 use Rattle.ih_plan.proofs.ListedBelow.{which_below-same}
 use Rattle.ih_plan.proofs.CellNumbers.{stay_cell, room_day_cell, theatre_day_cell, surgeon_day_cell, room_shift_cell, nurse_shift_cell, care_cell}
 use Rattle.ih_plan.specs.Cells.{number_in, count_in, IsCellIn, IsCellOf, cell_in, cell_at, cell_count}
-use Rattle.ih_footprint.specs.Gathered.{Gathered, Gathers, holds, same_cell, settled}
+use Rattle.ih_footprint.specs.CellsState.{CellsState, Gathers, holds, same_cell, settled}
 use Rattle.std.proofs.Math.Bool.{or-false, or_assoc}
 use Rattle.ih_footprint.proofs.Ranked.{cell_in-number_in, number_in-cell_in, cell_in-in}
 
@@ -45,7 +45,7 @@ same_cell-true (Care a) (Care c) h = ap care_cell (eqb-true a.0 c.0 h)
 same_cell-true _ _ h = absurd (let no : false ≡ true = h in cc)
 
 -- cells in range are the same where their numbers are
-same_number : (z : Sizes) (c e : Cell) → IsCellIn z c → IsCellIn z e → (number_in z e == number_in z c) ≡ same_cell c e
+same_number : (z : NumberingState) (c e : Cell) → IsCellIn z c → IsCellIn z e → (number_in z e == number_in z c) ≡ same_cell c e
 same_number z c e hc he = elim (cases_eq (number_in z e) (number_in z c)) [
   | inl same ↦
       let cells : c ≡ e = sym (cell_in-number_in z c hc) ∙ (ap (cell_in z) (sym same) ∙ cell_in-number_in z e he) in
@@ -64,7 +64,7 @@ listed-added n i xs = elim (cases_Bool (is_listed n xs)) [
   | inr gone ↦ rw gone (list_any-append (nat_eq i) xs (n ∷ []) ∙ ap (λ b. is_listed i xs || b) (or-false (i == n)))
 ]
 
-pub gathers-one : (v w : Gathered) (c : Cell) (n : ℕ) → IsCellIn v.sizes c → n ≡ number_in v.sizes c → w.sizes ≡ v.sizes
+pub gathers-one : (v w : CellsState) (c : Cell) (n : ℕ) → IsCellIn v.sizes c → n ≡ number_in v.sizes c → w.sizes ≡ v.sizes
     → ((i : ℕ) → is_listed i w.cells ≡ (is_listed i v.cells || (i == n))) → Gathers v w (same_cell c)
 gathers-one v w c n inside number sizes added = record {
   sizes = sizes;
@@ -73,17 +73,17 @@ gathers-one v w c n inside number sizes added = record {
       ∙ (ap (λ k. holds v e || (number_in v.sizes e == k)) number ∙ ap (λ b. holds v e || b) (same_number v.sizes c e inside range)));
 }
 
-pub gathers-added : (v w : Gathered) (c : Cell) (n : ℕ) → IsCellIn v.sizes c → n ≡ number_in v.sizes c → w.sizes ≡ v.sizes
+pub gathers-added : (v w : CellsState) (c : Cell) (n : ℕ) → IsCellIn v.sizes c → n ≡ number_in v.sizes c → w.sizes ≡ v.sizes
     → w.cells ≡ (if is_listed n v.cells then v.cells else v.cells ++ n ∷ []) → Gathers v w (same_cell c)
 gathers-added v w c n inside number sizes cells =
     gathers-one v w c n inside number sizes (λ i. ap (is_listed i) cells ∙ listed-added n i v.cells)
 
 -- ---- calls in a row
 
-pub gathers-like : {v w : Gathered} {p q : Cell → Bool} → ((c : Cell) → IsCellIn v.sizes c → p c ≡ q c) → Gathers v w p → Gathers v w q
+pub gathers-like : {v w : CellsState} {p q : Cell → Bool} → ((c : Cell) → IsCellIn v.sizes c → p c ≡ q c) → Gathers v w p → Gathers v w q
 gathers-like {v} same g = record { sizes = g.sizes; cells = λ c range. g.cells c range ∙ ap (λ b. holds v c || b) (same c range) }
 
-pub gathers-both : {u v w : Gathered} {p q : Cell → Bool} → Gathers u v p → Gathers v w q → Gathers u w (λ c. p c || q c)
+pub gathers-both : {u v w : CellsState} {p q : Cell → Bool} → Gathers u v p → Gathers v w q → Gathers u w (λ c. p c || q c)
 gathers-both {u} {v} {w} {p} {q} one two = record {
   sizes = two.sizes ∙ one.sizes;
   cells = λ c range.
@@ -91,13 +91,13 @@ gathers-both {u} {v} {w} {p} {q} one two = record {
 }
 
 -- nothing is gathered
-pub gathers-none : {v : Gathered} {p : Cell → Bool} → ((c : Cell) → p c ≡ false) → Gathers v v p
+pub gathers-none : {v : CellsState} {p : Cell → Bool} → ((c : Cell) → p c ≡ false) → Gathers v v p
 gathers-none {v} none = record { sizes = refl; cells = λ c range. sym (ap (λ b. holds v c || b) (none c) ∙ or-false (holds v c)) }
 
 -- ---- the list, settled
 
 -- where the list has just the cells that pass, its numbers are theirs, rising
-pub settled-gathered : (I : Draft) (v : Gathered) (passes : Cell → Bool) → v.sizes ≡ sizes_of I → ((c : Cell) → IsCellOf I c → holds v c ≡ passes c)
+pub settled-gathered : (I : Draft) (v : CellsState) (passes : Cell → Bool) → v.sizes ≡ sizes_of I → ((c : Cell) → IsCellOf I c → holds v c ≡ passes c)
     → settled v ≡ which_below (cell_count I) (λ n. passes (cell_at I n))
 settled-gathered I v passes sizes same =
     ap (λ z. which_below (count_in z) (λ n. is_listed n v.cells)) sizes
@@ -106,16 +106,16 @@ settled-gathered I v passes sizes same =
     sym (ap (λ i. is_listed i v.cells) back) ∙ same (cell_at I n) (cell_in-in (sizes_of I) n h))
 
 -- so a list that has just the cells of a move's footprint settles to the footprint
-pub settled-footprint : (I : Draft) (P : Timetable) (m : Move) (v : Gathered) → v.sizes ≡ sizes_of I → ((c : Cell) → IsCellOf I c → holds v c ≡ touches I P m c)
+pub settled-footprint : (I : Draft) (P : Timetable) (m : Move) (v : CellsState) → v.sizes ≡ sizes_of I → ((c : Cell) → IsCellOf I c → holds v c ≡ touches I P m c)
     → settled v ≡ footprint I P m
 unfolding footprint
 settled-footprint I P m v sizes same = settled-gathered I v (touches I P m) sizes same
 
 -- ---- what is put into a set, gathered there and listed anew
 
-module _ (v a b w : Gathered) (sizes : a.sizes ≡ v.sizes) (own : (i : ℕ) → is_listed i a.cells ≡ is_listed i v.cells)
+module _ (v a b w : CellsState) (sizes : a.sizes ≡ v.sizes) (own : (i : ℕ) → is_listed i a.cells ≡ is_listed i v.cells)
     (kept : w.sizes ≡ b.sizes) (listed : w.cells ≡ b.cells) where
-  as_set : ◌≡◌ {A = Gathered} w b
+  as_set : ◌≡◌ {A = CellsState} w b
   as_set = rw (kept, listed) refl
 
   pub gathers-relisted : (p : Cell → Bool) → Gathers a b p → Gathers v w p

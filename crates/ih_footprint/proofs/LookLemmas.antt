@@ -18,7 +18,7 @@ use Rattle.ih_plan.specs.declared.moves.Placement.{Placement}
 use Rattle.ih_plan.specs.Expand.{IsMoveOf}
 use Rattle.ih_plan.specs.Cells.{IsCellOf}
 use Rattle.ih_plan.specs.Footprint.{is_stay, is_room_shift, looks_at}
-use Rattle.ih_footprint.specs.Gathered.{same_cell}
+use Rattle.ih_footprint.specs.CellsState.{same_cell}
 
 pub stay-looked : (p : PatientNo) (e : Cell) → same_cell (Stay p) e ≡ is_stay p.0 e
 unfolding same_cell

@@ -5,7 +5,7 @@ use Rattle.std.proofs.lemmas.Bool.{cases_lt, lt-ltb, le-ltb}
 use Rattle.std.proofs.lemmas.Nat.{mul-add-lt, div_below, mod_below}
 use Rattle.ih_tables.specs.declared.cells.Cell.{Cell}
 use Rattle.ih_tables.specs.declared.cells.Cell.TheVariants.{Stay, RoomDay, TheatreDay, SurgeonDay, RoomShift, NurseShift, Care}
-use Rattle.ih_tables.specs.Sizes.{Sizes}
+use Rattle.ih_tables.specs.Sizes.{NumberingState}
 use Rattle.ih_plan.specs.Cells.{cell_in, count_in, number_in, IsCellIn, room_days_from, theatre_days_from, surgeon_days_from, room_shifts_from, nurse_shifts_from, cares_from}
 use Rattle.ih_plan.proofs.CellNumbers.{at-stay, at-room_day, at-theatre_day, at-surgeon_day, at-room_shift, at-nurse_shift, at-care}
 
@@ -14,7 +14,7 @@ row_in m r zero h = absurd (let e : r * zero ≡ 0 = omega arith in omega arith)
 row_in m r (suc d) h = (div_below m (suc d) r (omega arith) h, mod_below m (suc d) (omega arith))
 
 -- each number below the count has a cell in range
-pub cell_in-in : (z : Sizes) (n : ℕ) → n < count_in z → IsCellIn z (cell_in z n)
+pub cell_in-in : (z : NumberingState) (n : ℕ) → n < count_in z → IsCellIn z (cell_in z n)
 unfolding cell_in
 cell_in-in z n h = elim (cases_lt n (room_days_from z)) [
   | inl stay ↦ rw (lt-ltb n (room_days_from z) stay) stay
@@ -41,7 +41,7 @@ row_back m r zero h = absurd (let e : r * zero ≡ 0 = omega arith in omega arit
 row_back m r (suc d) h = let e = mod-eq-sub-div-mul m (suc d) in let l = div-mul-le_self m (suc d) in omega arith
 
 -- the number of a number's cell is the number
-pub number_in-cell_in : (z : Sizes) (n : ℕ) → n < count_in z → number_in z (cell_in z n) ≡ n
+pub number_in-cell_in : (z : NumberingState) (n : ℕ) → n < count_in z → number_in z (cell_in z n) ≡ n
 unfolding cell_in
 number_in-cell_in z n h = elim (cases_lt n (room_days_from z)) [
   | inl stay ↦ rw (lt-ltb n (room_days_from z) stay) refl
@@ -64,7 +64,7 @@ number_in-cell_in z n h = elim (cases_lt n (room_days_from z)) [
 ]
 
 -- the cell with a cell's number is the cell
-pub cell_in-number_in : (z : Sizes) (c : Cell) → IsCellIn z c → cell_in z (number_in z c) ≡ c
+pub cell_in-number_in : (z : NumberingState) (c : Cell) → IsCellIn z c → cell_in z (number_in z c) ≡ c
 cell_in-number_in z (Stay p) h = at-stay z p.0 h
 cell_in-number_in z (RoomDay r d) h = rw (add_assoc (room_days_from z) (r.0 * z.days) d.0) (at-room_day z r.0 d.0 h.0 h.1)
 cell_in-number_in z (TheatreDay t d) h = rw (add_assoc (theatre_days_from z) (t.0 * z.days) d.0) (at-theatre_day z t.0 d.0 h.0 h.1)
@@ -77,7 +77,7 @@ row_place : (m r d i j : ℕ) → i < r → j < d → m + i * d + j < m + r * d
 row_place m r d i j ih jh = omega (arith, mul-add-lt i d j r ih jh)
 
 -- a cell in range has a number below the count
-pub number_in-in : (z : Sizes) (c : Cell) → IsCellIn z c → number_in z c < count_in z
+pub number_in-in : (z : NumberingState) (c : Cell) → IsCellIn z c → number_in z c < count_in z
 number_in-in z (Stay p) h = omega arith
 number_in-in z (RoomDay r d) h = let place = row_place (room_days_from z) z.rooms z.days r.0 d.0 h.0 h.1 in omega arith
 number_in-in z (TheatreDay t d) h = let place = row_place (theatre_days_from z) z.theatres z.days t.0 d.0 h.0 h.1 in omega arith

@@ -1,4 +1,4 @@
-pub mod Gathered
+pub mod CellsState
 pub mod Laws
 pub mod Limits
 pub mod Bits

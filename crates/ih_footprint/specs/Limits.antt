@@ -1,10 +1,10 @@
 -- The greatest sizes of an instance, by which the number of a cell stays small, and where the numbers of each kind
 -- begin.
 use Rattle.std.specs.Prelude.{◌≡◌, ℕ, ◌≤◌}
-use Rattle.ih_tables.specs.Sizes.{Sizes}
+use Rattle.ih_tables.specs.Sizes.{NumberingState}
 use Rattle.ih_plan.specs.Cells.{theatre_days_from, surgeon_days_from, room_shifts_from, nurse_shifts_from, cares_from}
 
-pub record AreLimited (z : Sizes) : Type 0 where
+pub record AreLimited (z : NumberingState) : Type 0 where
   pub some_day : 1 ≤ z.days
   pub days : z.days ≤ 56
   pub patients : z.patients ≤ 2048
@@ -15,7 +15,7 @@ pub record AreLimited (z : Sizes) : Type 0 where
   pub nurses : z.nurses ≤ 512
 
 -- where the numbers of each kind of cell but the first two begin
-pub record AreFirsts (z : Sizes)
+pub record AreFirsts (z : NumberingState)
     (first_theatre_day first_surgeon_day first_room_shift first_nurse_shift first_care : ℕ) : Type 0 where
   pub theatre_days : first_theatre_day ≡ theatre_days_from z
   pub surgeon_days : first_surgeon_day ≡ surgeon_days_from z
@@ -24,7 +24,7 @@ pub record AreFirsts (z : Sizes)
   pub cares : first_care ≡ cares_from z
 
 -- the sizes with these numbers
-abbrev pub as_sizes : (days patients occupants rooms theatres surgeons nurses : ℕ) → Sizes
+abbrev pub as_sizes : (days patients occupants rooms theatres surgeons nurses : ℕ) → NumberingState
 as_sizes days patients occupants rooms theatres surgeons nurses = record {
   days = days;
   patients = patients;
@@ -36,7 +36,7 @@ as_sizes days patients occupants rooms theatres surgeons nurses = record {
 }
 
 -- Within the limits, and these begin where they do for the sizes.
-abbrev pub AreLaidOut : Sizes
+abbrev pub AreLaidOut : NumberingState
     → (first_theatre_day first_surgeon_day first_room_shift first_nurse_shift first_care : ℕ) → Type 0
 AreLaidOut z first_theatre_day first_surgeon_day first_room_shift first_nurse_shift first_care =
     AreLimited z × AreFirsts z first_theatre_day first_surgeon_day first_room_shift first_nurse_shift first_care

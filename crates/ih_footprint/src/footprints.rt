@@ -8,7 +8,7 @@ ghost use Rattle.ih_plan.specs.{Timetable.IsPlanOf, Timetable.IsPlacement, decla
 ghost use Rattle.ih_plan.specs.{declared.moves.Write.TheVariants.SetStay, declared.moves.Write.TheVariants.SetCare};
 ghost use Rattle.ih_plan.specs.{declared.moves.Move.TheVariants.SwapRooms, declared.moves.Move.TheVariants.SwapNurses};
 ghost use Rattle.ih_plan.specs.{Writes.IsWriteOf, Cells.IsCellIn, Present.ArePresent};
-ghost use Rattle.ih_footprint.specs.Gathered.{Gathers, settled};
+ghost use Rattle.ih_footprint.specs.CellsState.{Gathers, settled};
 ghost use Rattle.ih_footprint.specs.Pieces.{in_shift, in_days, in_nurse_shifts, in_nurse, in_cares};
 
 use crate::cell_lists::CellList;

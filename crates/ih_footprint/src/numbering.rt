@@ -26,12 +26,12 @@ pub struct Numbering {
 
 impl Model for Numbering {
     ghost use Rattle.std.proofs.Common.{refl};
-    ghost use Rattle.ih_tables.specs.Sizes.{Sizes};
+    ghost use Rattle.ih_tables.specs.Sizes.{NumberingState};
     ghost use Rattle.ih_plan.specs.Cells.{theatre_days_from, surgeon_days_from, room_shifts_from, nurse_shifts_from};
     ghost use Rattle.ih_plan.specs.Cells.{cares_from};
     ghost use Rattle.ih_footprint.specs.Limits.{AreLaidOut, as_sizes};
 
-    ghost Value = { Sizes };
+    ghost Value = { NumberingState };
 
     ghost view = { λ n. as_sizes n.days n.patients n.occupants n.rooms n.theatres n.surgeons n.nurses };
 

@@ -4,7 +4,7 @@ use Rattle.std.specs.Prelude.{◌==◌, map, slice_index, slice_index_or, slice_
 use Rattle.std.proofs.Math.ListN.{get_or-map}
 use Rattle.std.proofs.lemmas.List.{get_or_default, length-map, map-set}
 use Rattle.std.proofs.lemmas.Bool.{eq-eqb, ne_eqb, lt-ltb, le-ltb, both_ways}
-use Rattle.ih_links.specs.Lists.{Linked, list_of, has, without, is_at, following, first_of}
+use Rattle.ih_links.specs.Lists.{LinksState, list_of, has, without, is_at, following, first_of}
 use Rattle.ih_links.specs.Ring.{IsRinged, Tied, home_of, homes_of, lists_of, node_in}
 use Rattle.ih_links.proofs.Members.{is_at-true}
 use Rattle.ih_links.proofs.Empty.{home-none}
@@ -20,7 +20,7 @@ node_in-gate n place h = let e = le-ltb place n h in rw e refl
 home_of-head : (most h : ℕ) → h < most → home_of most h ≡ Some h
 home_of-head most h below = let e = ne_eqb h most (λ e. omega arith) in rw e refl
 
-module _ (node : ℕ) (v : Linked) {h : ℕ} (found : Option ℕ) (found_is : (k : ℕ) → has node (list_of v k) ≡ is_at k found) (some : found ≡ Some h) where
+module _ (node : ℕ) (v : LinksState) {h : ℕ} (found : Option ℕ) (found_is : (k : ℕ) → has node (list_of v k) ≡ is_at k found) (some : found ≡ Some h) where
   -- a node that has a home is in a list
   pub home-linked : has node (list_of v h) ≡ true
   home-linked = found_is h ∙ (ap (is_at h) some ∙ eq-eqb h h refl)
@@ -29,8 +29,8 @@ module _ (node : ℕ) (v : Linked) {h : ℕ} (found : Option ℕ) (found_is : (k
   pub free-home : ((k : ℕ) → has node (list_of v k) ≡ false) → ⊥
   free-home free = both_ways (has node (list_of v h)) (free h) home-linked
 
-module _ {most : ℕ} {next prev len : List ℕ} {v : Linked} (raw : List ℕ) (tied : IsRinged most next prev (homes_of most raw) len)
-    (view_is : ◌≡◌ {A = Linked} (record { lists = lists_of next (homes_of most raw) len; nodes = length raw }) v) where
+module _ {most : ℕ} {next prev len : List ℕ} {v : LinksState} (raw : List ℕ) (tied : IsRinged most next prev (homes_of most raw) len)
+    (view_is : ◌≡◌ {A = LinksState} (record { lists = lists_of next (homes_of most raw) len; nodes = length raw }) v) where
   abbrev home : List (Option ℕ)
   home = homes_of most raw
 
@@ -38,10 +38,10 @@ module _ {most : ℕ} {next prev len : List ℕ} {v : Linked} (raw : List ℕ) (
   ls = v.lists
 
   t : Tied most next prev home len ls
-  t = subst (Tied most next prev home len) (ap (λ (w : Linked). w.lists) view_is) tied
+  t = subst (Tied most next prev home len) (ap (λ (w : LinksState). w.lists) view_is) tied
 
   nodes_are : length home ≡ v.nodes
-  nodes_are = length-map raw (home_of most) ∙ ap (λ (w : Linked). w.nodes) view_is
+  nodes_are = length-map raw (home_of most) ∙ ap (λ (w : LinksState). w.nodes) view_is
 
   module _ (head node gate last : ℕ) (head_below : head < length ls) (node_below : node < v.nodes) (free : (h : ℕ) → has node (list_of v h) ≡ false)
       (gate_is : gate ≡ v.nodes + head) (last_is : last ≡ slice_index_or prev gate last) where
@@ -183,7 +183,7 @@ module _ {most : ℕ} {next prev len : List ℕ} {v : Linked} (raw : List ℕ) (
   module _ (node head : ℕ) (node_below : node < v.nodes) (head_is : head ≡ slice_index_or raw node head) where
     home_read : slice_index_or home node None ≡ home_of most head
     home_read =
-        let inside : node < length raw = let n = ap (λ (w : Linked). w.nodes) view_is in omega arith in
+        let inside : node < length raw = let n = ap (λ (w : LinksState). w.nodes) view_is in omega arith in
         let default = get_or_default raw node head most inside in
         ap (λ o. slice_index_or home node o) (sym (home-none most))
         ∙ (get_or-map (home_of most) raw node most ∙ ap (home_of most) (sym (head_is ∙ default)))

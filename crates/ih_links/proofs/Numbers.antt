@@ -3,7 +3,7 @@ use Rattle.std.proofs.Common.{◌≡◌, ℕ, ◌<◌, ap, ◌∙◌, sym, subst
 use Rattle.std.specs.Prelude.{map, slice_index_or, slice_set}
 use Rattle.std.proofs.lemmas.List.{map-set, map-append, length-map}
 use Rattle.std.proofs.Math.ListN.{get_or-map}
-use Rattle.ih_links.specs.Lists.{Linked}
+use Rattle.ih_links.specs.Lists.{LinksState}
 
 module _ {W : Type 0} (number : W → ℕ) where
   -- what is read at a place
@@ -25,10 +25,10 @@ module _ {W : Type 0} (number : W → ℕ) where
   number-push xs ys w n more is = ap (map number) more ∙ (map-append number xs (w ∷ []) ∙ ap (λ k. map number xs ++ k ∷ []) is)
 
   -- what is seen of them, with as many nodes as there are numbers
-  pub numbers-seen : (ls : List (List ℕ)) (xs : List W) (v : Linked) → ◌≡◌ {A = Linked} (record { lists = ls; nodes = length xs }) v
-      → ◌≡◌ {A = Linked} (record { lists = ls; nodes = length (map number xs) }) v
+  pub numbers-seen : (ls : List (List ℕ)) (xs : List W) (v : LinksState) → ◌≡◌ {A = LinksState} (record { lists = ls; nodes = length xs }) v
+      → ◌≡◌ {A = LinksState} (record { lists = ls; nodes = length (map number xs) }) v
   numbers-seen ls xs v seen =
-      subst (λ n. ◌≡◌ {A = Linked} (record { lists = ls; nodes = n }) v) (sym (length-map xs number)) seen
+      subst (λ n. ◌≡◌ {A = LinksState} (record { lists = ls; nodes = n }) v) (sym (length-map xs number)) seen
 
   -- a place among them
   pub number-below : (xs : List W) (i : ℕ) → i < length (map number xs) → i < length xs

@@ -2,12 +2,12 @@
 use Rattle.std.specs.Prelude.{◌≡◌, ◌<◌, ℕ, Bool, true, false, ◌||◌, ◌==◌, if◌then◌else◌, List, [], ◌∷◌, ◌++◌, Option, Some, None, slice_index_or}
 
 -- The list of each head, and how many nodes there are.
-pub record Linked : Type 0 where
+pub record LinksState : Type 0 where
   pub lists : List (List ℕ)
   pub nodes : ℕ
 
 -- the list of a head
-abbrev pub list_of : Linked → ℕ → List ℕ
+abbrev pub list_of : LinksState → ℕ → List ℕ
 list_of v h = slice_index_or v.lists h []
 
 -- x is in the list

@@ -29,10 +29,10 @@ pub type CompactLinks = Links<u16>;
 
 impl<W: Width> Model for Links<W> {
     ghost use Rattle.std.specs.Prelude.{length, map};
-    ghost use Rattle.ih_links.specs.Lists.{Linked};
+    ghost use Rattle.ih_links.specs.Lists.{LinksState};
     ghost use Rattle.ih_links.specs.Ring.{lists_of, homes_of, IsRinged};
 
-    ghost Value = { Linked };
+    ghost Value = { LinksState };
 
     ghost view = { λ a. record {
       lists = lists_of (map W.number a.next.items) (homes_of W.most (map W.number a.home.items))

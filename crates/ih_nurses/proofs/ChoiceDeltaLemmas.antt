@@ -8,7 +8,7 @@ use Rattle.ih_tables.specs.declared.ids.RoomNo.{RoomNo}
 use Rattle.ih_tables.specs.declared.ids.Shift.{Shift}
 use Rattle.ih_tables.specs.declared.ids.NurseNo.{NurseNo}
 use Rattle.ih_tables.specs.Sizes.{person_count, room_count, shift_count, nurse_count}
-use Rattle.ih_links.specs.Lists.{Linked, list_of}
+use Rattle.ih_links.specs.Lists.{LinksState, list_of}
 use Rattle.ih_plan.specs.declared.moves.Write.TheVariants.{SetCare}
 use Rattle.ih_plan.specs.Timetable.{Timetable, IsPlanOf, care_of, choice_of}
 use Rattle.ih_plan.specs.Writes.{put}
@@ -194,7 +194,7 @@ module _ (I : Draft) (P : Timetable) (r : RoomNo) (k : Shift) (new : Option Nurs
   unfolding entry_of admission_of
   skills-same xs = refl
 
-  module _ (here : List Linked) (day : Linked) (list : IsRoomList I P here day r.0 k.0) where
+  module _ (here : List LinksState) (day : LinksState) (list : IsRoomList I P here day r.0 k.0) where
     alike : AreAlike (list_of day r.0) (present I P r.0 (day_of k.0))
     alike = list-alike I P here day r.0 k.0 list
 

@@ -10,7 +10,7 @@ use Rattle.ih_tables.specs.declared.ids.Shift.{Shift}
 use Rattle.ih_tables.specs.declared.ids.NurseNo.{NurseNo}
 use Rattle.ih_tables.specs.declared.cells.Cell.TheVariants.{Care}
 use Rattle.ih_tables.specs.Sizes.{person_count, room_count, shift_count, nurse_count}
-use Rattle.ih_links.specs.Lists.{Linked}
+use Rattle.ih_links.specs.Lists.{LinksState}
 use Rattle.ih_tables.specs.BillNumbers.{continuity_of_care}
 use Rattle.ih_plan.specs.declared.moves.Write.TheVariants.{SetCare}
 use Rattle.ih_plan.specs.Timetable.{Timetable, IsPlanOf, care_of, choice_of}
@@ -164,7 +164,7 @@ module _ (I : Draft) (P : Timetable) (r : RoomNo) (k : Shift) (new : Option Nurs
       (omega (arith, come_is, gone_is, a, b, p, q, moves, left, right))
 
 -- an increase that is told of the timetable that is kept, as a signed number of 64 bits, is one at each that it stands for
-pub increase-for : {I : Draft} {P plan : Timetable} {here : List Linked} {loads : List NurseLoad} {counts : List ℕ} → IsTied I P plan here loads counts
+pub increase-for : {I : Draft} {P plan : Timetable} {here : List LinksState} {loads : List NurseLoad} {counts : List ℕ} → IsTied I P plan here loads counts
     → (r : RoomNo) (k : Shift) (new : Option NurseNo) (f : Timetable → Timetable → ℕ) (z : ℤ) → FitsSigned w64 z → z ≡ increase_by_choice plan r k new (f plan)
     → to_z w64 (of_z w64 z) ≡ increase_by_choice P r k new (f P)
 increase-for known r k new f z fits e = subst (λ (S : Timetable). to_z w64 (of_z w64 z) ≡ increase_by_choice S r k new (f S)) known.plan_is (to_z-of_z w64 z fits ∙ e)

@@ -7,14 +7,14 @@ use Rattle.std.proofs.lemmas.Grind.{get_or-set_at}
 use Rattle.std.proofs.Math.ListN.{get_or-map}
 use Rattle.ih_tables.specs.declared.drafts.Draft.{Draft}
 use Rattle.ih_tables.specs.Sizes.{room_count}
-use Rattle.ih_links.specs.Lists.{Linked, list_of, has, without}
+use Rattle.ih_links.specs.Lists.{LinksState, list_of, has, without}
 use Rattle.ih_links.specs.Days.{on_day}
 use Rattle.ih_links.proofs.Members.{has-append, has-without_self, has-without_other}
 use Rattle.ih_links.proofs.Ties.{or-false}
 use Rattle.ih_plan.specs.Presence.{in_span}
 use Rattle.ih_nurses.specs.Here.{is_here, AreSized}
 
-abbrev no_lists : Linked
+abbrev no_lists : LinksState
 no_lists = record { lists = []; nodes = 0 }
 
 pub and-all : (b c : Bool) → c ≡ true → (b && c) ≡ b
@@ -22,11 +22,11 @@ and-all true c e = e
 and-all false c e = refl
 
 -- a room that isn't there has nobody
-past-lists : (day : Linked) (s x : ℕ) → length day.lists ≤ s → has x (list_of day s) ≡ false
+past-lists : (day : LinksState) (s x : ℕ) → length day.lists ≤ s → has x (list_of day s) ≡ false
 past-lists day s x h = rw (get_or_past day.lists s [] h) refl
 
 -- one day is written
-module _ (here : List Linked) (d : ℕ) (past old new : Linked) (inside : d < length here) (old_is : old ≡ slice_index_or here d past) where
+module _ (here : List LinksState) (d : ℕ) (past old new : LinksState) (inside : d < length here) (old_is : old ≡ slice_index_or here d past) where
   written-here : (e : ℕ) → e ≡ d → on_day (slice_set here d new) e ≡ new
   written-here e same = get_or-set_at here d e new no_lists same inside
 
@@ -38,8 +38,8 @@ module _ (here : List Linked) (d : ℕ) (past old new : Linked) (inside : d < le
 
   pub free-lists : (I : Draft) (x : ℕ) → AreSized I here → d < I.days → ((s : ℕ) → s < room_count I → is_here here s d x ≡ false) → (s : ℕ) → has x (list_of old s) ≡ false
   free-lists I x sized day free s = elim (cases_lt s (room_count I)) [
-    | inl below ↦ ap (λ (l : Linked). has x (list_of l s)) (sym read-here) ∙ free s below
-    | inr past ↦ past-lists old s x (let n = sized.rooms d day in let m = ap (λ (l : Linked). length l.lists) read-here in omega (arith, n, m))
+    | inl below ↦ ap (λ (l : LinksState). has x (list_of l s)) (sym read-here) ∙ free s below
+    | inr past ↦ past-lists old s x (let n = sized.rooms d day in let m = ap (λ (l : LinksState). length l.lists) read-here in omega (arith, n, m))
   ]
 
   module _ (r x : ℕ) (room : r < length old.lists) (lists : new.lists ≡ slice_set old.lists r (list_of old r ++ x ∷ [])) where
@@ -82,11 +82,11 @@ module _ (here : List Linked) (d : ℕ) (past old new : Linked) (inside : d < le
 -- ---- days in a row
 
 -- entered on the days so far
-pub record AreEntered (I : Draft) (old here : List Linked) (r from to x : ℕ) : Type 0 where
+pub record AreEntered (I : Draft) (old here : List LinksState) (r from to x : ℕ) : Type 0 where
   pub sized : AreSized I here
   pub each : (s e y : ℕ) → is_here here s e y ≡ (is_here old s e y || ((r == s) && (in_span from to e && (x == y))))
 
 -- left on the days so far
-pub record AreLeft (I : Draft) (old here : List Linked) (from to x : ℕ) : Type 0 where
+pub record AreLeft (I : Draft) (old here : List LinksState) (from to x : ℕ) : Type 0 where
   pub sized : AreSized I here
   pub each : (s e y : ℕ) → is_here here s e y ≡ (is_here old s e y && not (in_span from to e && (x == y)))

@@ -6,7 +6,7 @@ use Rattle.ih_tables.specs.declared.drafts.Draft.{Draft}
 use Rattle.ih_tables.specs.declared.ids.NurseNo.{NurseNo}
 use Rattle.ih_tables.specs.declared.ids.PatientNo.{PatientNo}
 use Rattle.ih_tables.specs.Sizes.{patient_count, room_count, nurse_count, shift_count}
-use Rattle.ih_links.specs.Lists.{Linked}
+use Rattle.ih_links.specs.Lists.{LinksState}
 use Rattle.ih_plan.specs.declared.moves.Placement.{Placement}
 use Rattle.ih_plan.specs.declared.moves.Write.{Write}
 use Rattle.ih_plan.specs.declared.moves.Write.TheVariants.{SetStay}
@@ -57,7 +57,7 @@ without-own false true false e = refl
 without-own false false m e = refl
 
 module _ {I : Draft} {P Q : Timetable} {p : ℕ} {at : Placement} (a : IsAdmission I P Q p at) where
-  pub here-entered : (old new : List Linked) → AreHere I P old → AreSized I new
+  pub here-entered : (old new : List LinksState) → AreHere I P old → AreSized I new
       → ((s e y : ℕ) → is_here new s e y ≡ (is_here old s e y || ((at.room.0 == s) && (in_span at.day.0 (end_of I p at) e && (p == y)))))
       → AreHere I Q new
   here-entered old new known sized each = record {
@@ -73,7 +73,7 @@ module _ {I : Draft} {P Q : Timetable} {p : ℕ} {at : Placement} (a : IsAdmissi
     each = λ n k nh kh. each n k nh kh ∙ rw (known.each n k nh kh) (sym (load-more a n k));
   }
 
-  pub here-left : (old new : List Linked) → AreHere I Q old → AreSized I new
+  pub here-left : (old new : List LinksState) → AreHere I Q old → AreSized I new
       → ((s e y : ℕ) → is_here new s e y ≡ (is_here old s e y && not (in_span at.day.0 (end_of I p at) e && (p == y))))
       → AreHere I P new
   here-left old new known sized each = record {
@@ -103,7 +103,7 @@ module _ {I : Draft} {P Q : Timetable} {p : ℕ} {at : Placement} (a : IsAdmissi
       omega arith
 
   -- on the days of the stay the patient is in the room
-  pub here-there : (old : List Linked) → AreHere I Q old → (e : ℕ) → in_span at.day.0 (end_of I p at) e ≡ true → is_here old at.room.0 e p ≡ true
+  pub here-there : (old : List LinksState) → AreHere I Q old → (e : ℕ) → in_span at.day.0 (end_of I p at) e ≡ true → is_here old at.room.0 e p ≡ true
   here-there old known e h =
       let inside = span-inside at.day.0 (end_of I p at) e h in
       let day : e < I.days = omega arith in
@@ -111,13 +111,13 @@ module _ {I : Draft} {P Q : Timetable} {p : ℕ} {at : Placement} (a : IsAdmissi
       let covered = sym (span-covers at.day.0 (person_of I p).length_of_stay I.days e day) ∙ h in
       known.each at.room.0 e p a.placed.room day (omega arith) ∙ rw (somewhere I Q p at.room.0 e at a.patient a.after, eq-eqb at.room.0 at.room.0 refl) covered
 
-module _ {I : Draft} {P plan : Timetable} {here : List Linked} {loads : List NurseLoad} {counts : List ℕ} (known : IsTied I P plan here loads counts) where
+module _ {I : Draft} {P plan : Timetable} {here : List LinksState} {loads : List NurseLoad} {counts : List ℕ} (known : IsTied I P plan here loads counts) where
   -- a ledger stands for its own timetable
   pub stands-own : IsTied I plan plan here loads counts
   stands-own = subst (λ (S : Timetable). IsTied I S plan here loads counts) (sym known.plan_is) known
 
   -- tables that fit its own timetable after a write make it stand for each that it stood for, after that write
-  pub stands-for : (w : Write) {next : Timetable} {new_here kept_here : List Linked} {new_loads kept_loads : List NurseLoad} {new_counts kept_counts : List ℕ}
+  pub stands-for : (w : Write) {next : Timetable} {new_here kept_here : List LinksState} {new_loads kept_loads : List NurseLoad} {new_counts kept_counts : List ℕ}
       → kept_here ≡ new_here → kept_loads ≡ new_loads → kept_counts ≡ new_counts → next ≡ put w plan → IsPlanOf I (put w plan)
       → AreHere I (put w plan) new_here → AreLoads I (put w plan) new_loads → AreCounts I (put w plan) new_counts
       → IsTied I (put w P) next kept_here kept_loads kept_counts

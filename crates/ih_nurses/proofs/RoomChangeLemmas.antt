@@ -6,7 +6,7 @@ use Rattle.ih_tables.specs.declared.ids.RoomNo.{RoomNo}
 use Rattle.ih_tables.specs.declared.ids.Shift.{Shift}
 use Rattle.ih_tables.specs.declared.cells.Cell.TheVariants.{RoomShift}
 use Rattle.ih_tables.specs.Sizes.{person_count, room_count, shift_count}
-use Rattle.ih_links.specs.Lists.{Linked, list_of, AreNodes, without}
+use Rattle.ih_links.specs.Lists.{LinksState, list_of, AreNodes, without}
 use Rattle.ih_links.specs.Days.{on_day}
 use Rattle.ih_plan.specs.Timetable.{Timetable, care_of}
 use Rattle.ih_plan.specs.Presence.{present, day_of, skill_of}
@@ -35,7 +35,7 @@ abbrev pub has_others : Draft → Timetable → ℕ → ℕ → ℕ → Bool
 has_others I P p r k = not (is_empty (without p (present I P r (day_of k))))
 
 -- the list of a room and a day that the ledger keeps
-pub record IsRoomList (I : Draft) (P : Timetable) (here : List Linked) (day : Linked) (r k : ℕ) : Type 0 where
+pub record IsRoomList (I : Draft) (P : Timetable) (here : List LinksState) (day : LinksState) (r k : ℕ) : Type 0 where
   pub known : AreHere I P here
   pub room : r < room_count I
   pub shift : k < shift_count I
@@ -43,24 +43,24 @@ pub record IsRoomList (I : Draft) (P : Timetable) (here : List Linked) (day : Li
   pub nodes : AreNodes day.nodes (list_of day r)
 
 -- the lists of a day are over the persons
-module _ (I : Draft) (P : Timetable) (here : List Linked) (day : Linked) (k : ℕ) (known : AreHere I P here) (shift : k < shift_count I) (day_is : day ≡ slice_index_or here (day_of k) day) where
+module _ (I : Draft) (P : Timetable) (here : List LinksState) (day : LinksState) (k : ℕ) (known : AreHere I P here) (shift : k < shift_count I) (day_is : day ≡ slice_index_or here (day_of k) day) where
   read : on_day here (day_of k) ≡ day
   read = let days = known.sized.days in read-here here (day_of k) day day day (omega (arith, days, shift)) day_is
 
   pub day-persons : day.nodes ≡ person_count I
-  day-persons = ap (λ (d : Linked). d.nodes) (sym read) ∙ known.sized.persons (day_of k) (omega (arith, shift))
+  day-persons = ap (λ (d : LinksState). d.nodes) (sym read) ∙ known.sized.persons (day_of k) (omega (arith, shift))
 
-pub list-alike : (I : Draft) (P : Timetable) (here : List Linked) (day : Linked) (r k : ℕ) → IsRoomList I P here day r k → AreAlike (list_of day r) (present I P r (day_of k))
+pub list-alike : (I : Draft) (P : Timetable) (here : List LinksState) (day : LinksState) (r k : ℕ) → IsRoomList I P here day r k → AreAlike (list_of day r) (present I P r (day_of k))
 list-alike I P here day r k l =
     λ f. sum-in_list I P here day r k f l.known l.room l.shift l.day_is
     (subst (λ m. AreNodes m (list_of day r)) (day-persons I P here day k l.known l.shift l.day_is) l.nodes)
 
-pub choice-part : (I : Draft) (P : Timetable) (here : List Linked) (day : Linked) (r : RoomNo) (k : Shift) (a : NursingCosts) → IsRoomList I P here day r.0 k.0
+pub choice-part : (I : Draft) (P : Timetable) (here : List LinksState) (day : LinksState) (r : RoomNo) (k : Shift) (a : NursingCosts) → IsRoomList I P here day r.0 k.0
     → AreChoiceCosts I P (list_of day r.0) k.0 (care_of P r.0 k.0) a → bill_in a ≡ as_bill (part_at I P (RoomShift r k))
 choice-part I P here day r k a l costs =
     rw (costs.seen, costs.overload)
     (room_list-part I P here day r k (care_of P r.0 k.0) a.off a.uncovered a.missing_skill l.known l.room l.shift l.day_is l.nodes refl costs.off costs.uncovered costs.missing_skill)
 
 -- the others in the list of a room and a day are those of the timetable
-pub others-in : {I : Draft} {P : Timetable} {here : List Linked} {day : Linked} {r k : ℕ} (p : ℕ) → IsRoomList I P here day r k → not (is_empty (without p (list_of day r))) ≡ has_others I P p r k
+pub others-in : {I : Draft} {P : Timetable} {here : List LinksState} {day : LinksState} {r k : ℕ} (p : ℕ) → IsRoomList I P here day r k → not (is_empty (without p (list_of day r))) ≡ has_others I P p r k
 others-in {I} {P} {here} {day} {r} {k} p l = others-alike p (list_of day r) (present I P r (day_of k)) (list-alike I P here day r k l)

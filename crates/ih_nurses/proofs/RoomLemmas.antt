@@ -7,7 +7,7 @@ use Rattle.ih_tables.specs.declared.ids.RoomNo.{RoomNo}
 use Rattle.ih_tables.specs.declared.ids.Shift.{Shift}
 use Rattle.ih_tables.specs.declared.cells.Cell.TheVariants.{RoomShift}
 use Rattle.ih_tables.specs.Sizes.{person_count, room_count, shift_count}
-use Rattle.ih_links.specs.Lists.{Linked, list_of, AreNodes}
+use Rattle.ih_links.specs.Lists.{LinksState, list_of, AreNodes}
 use Rattle.ih_plan.specs.Timetable.{Timetable, care_of}
 use Rattle.ih_plan.specs.Persons.{person_of}
 use Rattle.ih_plan.specs.Presence.{present, day_of, skill_of, entry_of}
@@ -58,14 +58,14 @@ room-part I P r k off uncovered missing o u m =
     rw (o, u, m, skills, empties) refl
 
 -- the same where the persons are those of the room's list
-pub room_list-part : (I : Draft) (P : Timetable) (here : List Linked) (day : Linked) (r : RoomNo) (k : Shift) (n : Option ℕ) (off uncovered missing : ℕ) → AreHere I P here → r.0 < room_count I
+pub room_list-part : (I : Draft) (P : Timetable) (here : List LinksState) (day : LinksState) (r : RoomNo) (k : Shift) (n : Option ℕ) (off uncovered missing : ℕ) → AreHere I P here → r.0 < room_count I
     → k.0 < shift_count I → day ≡ slice_index_or here (day_of k.0) day → AreNodes day.nodes (list_of day r.0) → n ≡ care_of P r.0 k.0 → off ≡ bit (not_working I k.0 n)
     → uncovered ≡ bit (is_none n && not (is_empty (list_of day r.0))) → missing ≡ skill_missing I n (map (skill_of I P k.0) (list_of day r.0))
     → nursing off uncovered missing 0 0 ≡ as_bill (part_at I P (RoomShift r k))
 room_list-part I P here day r k n off uncovered missing known rh kh day_is nodes nurse o u m =
     let days = known.sized.days in
     let read = read-here here (day_of k.0) day day day (omega (arith, days, kh)) day_is in
-    let persons : day.nodes ≡ person_count I = ap (λ (l : Linked). l.nodes) (sym read) ∙ known.sized.persons (day_of k.0) (omega (arith, kh)) in
+    let persons : day.nodes ≡ person_count I = ap (λ (l : LinksState). l.nodes) (sym read) ∙ known.sized.persons (day_of k.0) (omega (arith, kh)) in
     let alike : AreAlike (list_of day r.0) (present I P r.0 (day_of k.0)) = λ f. sum-in_list I P here day r.0 k.0 f known rh kh day_is (subst (λ m. AreNodes m (list_of day r.0)) persons nodes) in
     let empties = alike-empty (list_of day r.0) (present I P r.0 (day_of k.0)) alike in
     let skills = alike-missing I n (skill_of I P k.0) (list_of day r.0) (present I P r.0 (day_of k.0)) alike in

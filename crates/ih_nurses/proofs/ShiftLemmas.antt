@@ -7,7 +7,7 @@ use Rattle.ih_tables.specs.declared.ids.RoomNo.{RoomNo}
 use Rattle.ih_tables.specs.declared.ids.Shift.{Shift}
 use Rattle.ih_tables.specs.declared.ids.NurseNo.{NurseNo}
 use Rattle.ih_tables.specs.Sizes.{person_count, room_count, nurse_count, shift_count}
-use Rattle.ih_links.specs.Lists.{Linked, list_of, has, AreNodes}
+use Rattle.ih_links.specs.Lists.{LinksState, list_of, has, AreNodes}
 use Rattle.ih_links.specs.Days.{on_day}
 use Rattle.ih_plan.specs.declared.moves.Write.TheVariants.{SetCare}
 use Rattle.ih_plan.specs.Timetable.{Timetable, IsPlanOf, choice_of}
@@ -24,7 +24,7 @@ use Rattle.ih_nurses.proofs.WalkLemmas.{sum-listed}
 use Rattle.ih_nurses.proofs.CareLemmas.{present-kept}
 
 -- a sum over a room's list is one over the persons present
-pub sum-present : (I : Draft) (P : Timetable) (here : List Linked) (r d : ℕ) (f : ℕ → ℕ) → AreHere I P here → r < room_count I → d < I.days
+pub sum-present : (I : Draft) (P : Timetable) (here : List LinksState) (r d : ℕ) (f : ℕ → ℕ) → AreHere I P here → r < room_count I → d < I.days
     → AreNodes (person_count I) (list_of (on_day here d) r) → sum_by f (list_of (on_day here d) r) ≡ sum_by f (present I P r d)
 unfolding present
 sum-present I P here r d f known rh dh nodes =
@@ -64,14 +64,14 @@ module _ (I : Draft) (P : Timetable) (r : RoomNo) (k : Shift) (n prev : Option N
     ];
   }
 
-pub here-kept : (I : Draft) (P : Timetable) (r : RoomNo) (k : Shift) (n : Option NurseNo) (here : List Linked) → AreHere I P here → AreHere I (put (SetCare r k n) P) here
+pub here-kept : (I : Draft) (P : Timetable) (r : RoomNo) (k : Shift) (n : Option NurseNo) (here : List LinksState) → AreHere I P here → AreHere I (put (SetCare r k n) P) here
 here-kept I P r k n here known = record {
   sized = known.sized;
   each = λ s d x sh dh xh. known.each s d x sh dh xh ∙ sym (present-kept I P r k n s d x);
 }
 
 -- the same of the list as a call reads it
-pub sum-in_list : (I : Draft) (P : Timetable) (here : List Linked) (day : Linked) (r k : ℕ) (f : ℕ → ℕ) → AreHere I P here → r < room_count I → k < shift_count I
+pub sum-in_list : (I : Draft) (P : Timetable) (here : List LinksState) (day : LinksState) (r k : ℕ) (f : ℕ → ℕ) → AreHere I P here → r < room_count I → k < shift_count I
     → day ≡ slice_index_or here (day_of k) day → AreNodes (person_count I) (list_of day r) → sum_by f (list_of day r) ≡ sum_by f (present I P r (day_of k))
 sum-in_list I P here day r k f known rh kh day_is nodes =
     let days = known.sized.days in
@@ -79,17 +79,17 @@ sum-in_list I P here day r k f known rh kh day_is nodes =
     let on : k / 3 < I.days = omega arith in
     let read : on_day here (day_of k) ≡ day = read-here here (k / 3) day day day inside day_is in
     let listed : AreNodes (person_count I) (list_of (on_day here (day_of k)) r) = rw read nodes in
-    ap (λ (l : Linked). sum_by f (list_of l r)) (sym read) ∙ sum-present I P here r (day_of k) f known rh on listed
+    ap (λ (l : LinksState). sum_by f (list_of l r)) (sym read) ∙ sum-present I P here r (day_of k) f known rh on listed
 
 -- the list of a room as a call reads it has who is present
-pub list-there : (I : Draft) (P : Timetable) (here : List Linked) (day : Linked) (r k : ℕ) → AreHere I P here → r < room_count I → k < shift_count I
+pub list-there : (I : Draft) (P : Timetable) (here : List LinksState) (day : LinksState) (r k : ℕ) → AreHere I P here → r < room_count I → k < shift_count I
     → day ≡ slice_index_or here (day_of k) day → (x : ℕ) → x < person_count I → has x (list_of day r) ≡ is_present I P r (day_of k) x
 list-there I P here day r k known rh kh day_is x xh =
     let days = known.sized.days in
     let inside : k / 3 < length here = omega arith in
     let on : k / 3 < I.days = omega arith in
     let read : on_day here (day_of k) ≡ day = read-here here (k / 3) day day day inside day_is in
-    ap (λ (l : Linked). has x (list_of l r)) (sym read) ∙ known.each r (day_of k) x rh on xh
+    ap (λ (l : LinksState). has x (list_of l r)) (sym read) ∙ known.each r (day_of k) x rh on xh
 
 -- the old nurse has the room's load
 pub load-enough : (I : Draft) (P : Timetable) (r : RoomNo) (k : Shift) (prev : Option NurseNo) (load : ℕ) (old : List NurseLoad) → IsPlanOf I P → r.0 < room_count I → k.0 < shift_count I

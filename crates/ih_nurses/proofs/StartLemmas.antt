@@ -7,7 +7,7 @@ use Rattle.std.proofs.Math.ListN.{length-replicate}
 use Rattle.ih_tables.specs.declared.drafts.Draft.{Draft}
 use Rattle.ih_tables.specs.declared.drafts.Occupant.{Occupant}
 use Rattle.ih_tables.specs.Sizes.{patient_count, person_count, room_count, nurse_count, shift_count}
-use Rattle.ih_links.specs.Lists.{Linked}
+use Rattle.ih_links.specs.Lists.{LinksState}
 use Rattle.ih_links.specs.Days.{empty_lists}
 use Rattle.ih_links.proofs.EmptyDays.{empty-day, empty-list}
 use Rattle.ih_links.proofs.Ties.{or-false}
@@ -79,7 +79,7 @@ counts-none I counts e = record {
 -- ---- the occupants, one after the other
 
 -- nobody is in any list of days that are empty
-pub filled-none : (I : Draft) (here : List Linked) → here ≡ replicate I.days (empty_lists (room_count I) (person_count I)) → AreFilled I here 0
+pub filled-none : (I : Draft) (here : List LinksState) → here ≡ replicate I.days (empty_lists (room_count I) (person_count I)) → AreFilled I here 0
 filled-none I here e = record {
   sized = record {
     days = rw e (length-replicate I.days (empty_lists (room_count I) (person_count I)));
@@ -116,7 +116,7 @@ module _ (I : Draft) (k : ℕ) (o : Occupant) (is : slice_get I.occupants k ≡ 
       (and_right (o.room_id.0 == r) (in_span 0 (end_from I 0 o.length_of_stay) d && false) (and_right (in_span 0 (end_from I 0 o.length_of_stay) d) false refl)))
 
   -- with the next occupant
-  pub filled-more : (here new : List Linked) → AreFilled I here k → AreSized I new
+  pub filled-more : (here new : List LinksState) → AreFilled I here k → AreSized I new
       → ((r d x : ℕ) → is_here new r d x ≡ (is_here here r d x || ((o.room_id.0 == r) && (in_span 0 (end_from I 0 o.length_of_stay) d && ((patient_count I + k) == x))))) → AreFilled I new (k + 1)
   filled-more here new filled sized each = record {
     sized = sized;

@@ -4,7 +4,7 @@ use Rattle.ih_tables.specs.declared.drafts.Draft.{Draft}
 use Rattle.ih_tables.specs.declared.bills.Bill.{Bill}
 use Rattle.ih_tables.specs.declared.cells.Cell.{Cell}
 use Rattle.ih_tables.specs.Bills.{IsWithin}
-use Rattle.ih_links.specs.Lists.{Linked}
+use Rattle.ih_links.specs.Lists.{LinksState}
 use Rattle.ih_plan.specs.Timetable.{Timetable, IsPlanOf}
 use Rattle.ih_plan.specs.BillOf.{as_bill}
 use Rattle.ih_plan.specs.Cells.{part_at}
@@ -16,7 +16,7 @@ use Rattle.ih_nurses.specs.Counts.{AreCounts}
 
 -- The timetable P is the one that is kept, the lists of each day have just the persons who are present, and the tables
 -- have each nurse's workload, and for each person how many of its shifts each nurse has.
-pub record IsTied (I : Draft) (P plan : Timetable) (here : List Linked) (loads : List NurseLoad)
+pub record IsTied (I : Draft) (P plan : Timetable) (here : List LinksState) (loads : List NurseLoad)
     (counts : List ℕ) : Type 0 where
   pub plan_is : plan ≡ P
   pub fits : IsPlanOf I P

@@ -4,7 +4,7 @@ ghost use Rattle.std.specs.Prelude.{◌≡◌, ◌<◌, ◌≤◌, ℤ, List, le
 ghost use Rattle.ih_tables.specs.declared.drafts.Draft.{Draft};
 ghost use Rattle.ih_plan.specs.declared.moves.Write.{Write};
 ghost use Rattle.ih_fill.specs.FirstLeast.{AnyPlace};
-ghost use Rattle.ih_fill.specs.{Choices.IsChoiceOf, Choices.candidates, Scoring.value_in};
+ghost use Rattle.ih_fill.specs.{Choices.IsChoiceOf, Choices.candidates, ScorerState.value_in};
 ghost use Rattle.ih_parfill.specs.Shares.{HaveFound, IsOfShare, IsShare};
 
 use crate::nurses::least_nurse_of_share;

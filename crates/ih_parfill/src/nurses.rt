@@ -2,7 +2,7 @@
 
 ghost use Rattle.std.specs.Prelude.{◌≡◌, ◌<◌};
 ghost use Rattle.ih_tables.specs.Sizes.{room_count, shift_count};
-ghost use Rattle.ih_fill.specs.{Candidates.care_writes, Scoring.care_value};
+ghost use Rattle.ih_fill.specs.{Candidates.care_writes, ScorerState.care_value};
 ghost use Rattle.ih_parfill.specs.Shares.{IsOfShare, IsShare};
 
 use crate::walkers::{Found, Walker};

@@ -3,7 +3,7 @@
 ghost use Rattle.std.specs.Prelude.{◌≡◌, ◌<◌, ◌≤◌, ◌+◌, ◌^◌, List, [], ◌∷◌, ◌++◌, Some, None, slice_get};
 ghost use Rattle.ih_tables.specs.Sizes.{patient_count, room_count, theatre_count};
 ghost use Rattle.ih_plan.specs.{declared.moves.Write.Write, declared.moves.Write.TheVariants.SetStay};
-ghost use Rattle.ih_fill.specs.{Candidates.stay_writes, Candidates.stays_in, Candidates.stays_on, Scoring.stay_value};
+ghost use Rattle.ih_fill.specs.{Candidates.stay_writes, Candidates.stays_in, Candidates.stays_on, ScorerState.stay_value};
 ghost use Rattle.ih_parfill.specs.Shares.{HasLooked, IsOfShare, IsShare};
 
 use crate::walkers::{Found, Walker};

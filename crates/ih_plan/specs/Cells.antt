@@ -6,7 +6,7 @@ use Rattle.ih_tables.specs.declared.cells.Cell.{Cell}
 use Rattle.ih_tables.specs.declared.cells.Cell.TheVariants.{Stay, RoomDay, TheatreDay, SurgeonDay, RoomShift, NurseShift, Care}
 use Rattle.ih_tables.specs.declared.ids.PatientNo.{PatientNo}
 use Rattle.ih_tables.specs.Bills.{sub_bills}
-use Rattle.ih_tables.specs.Sizes.{Sizes, sizes_of}
+use Rattle.ih_tables.specs.Sizes.{NumberingState, sizes_of}
 use Rattle.ih_tables.specs.Works.{max_load}
 use Rattle.ih_plan.specs.declared.moves.Placement.{Placement}
 use Rattle.ih_plan.specs.declared.moves.Write.TheVariants.{SetStay}
@@ -23,30 +23,30 @@ use Rattle.ih_tables.specs.Listed.{listed}
 -- its first index, then its second
 
 -- where the numbers of each kind begin
-abbrev pub room_days_from : Sizes → ℕ
+abbrev pub room_days_from : NumberingState → ℕ
 room_days_from z = z.patients
 
-abbrev pub theatre_days_from : Sizes → ℕ
+abbrev pub theatre_days_from : NumberingState → ℕ
 theatre_days_from z = room_days_from z + z.rooms * z.days
 
-abbrev pub surgeon_days_from : Sizes → ℕ
+abbrev pub surgeon_days_from : NumberingState → ℕ
 surgeon_days_from z = theatre_days_from z + z.theatres * z.days
 
-abbrev pub room_shifts_from : Sizes → ℕ
+abbrev pub room_shifts_from : NumberingState → ℕ
 room_shifts_from z = surgeon_days_from z + z.surgeons * z.days
 
-abbrev pub nurse_shifts_from : Sizes → ℕ
+abbrev pub nurse_shifts_from : NumberingState → ℕ
 nurse_shifts_from z = room_shifts_from z + z.rooms * (3 * z.days)
 
-abbrev pub cares_from : Sizes → ℕ
+abbrev pub cares_from : NumberingState → ℕ
 cares_from z = nurse_shifts_from z + z.nurses * (3 * z.days)
 
 -- how many cells there are
-abbrev pub count_in : Sizes → ℕ
+abbrev pub count_in : NumberingState → ℕ
 count_in z = cares_from z + (z.patients + z.occupants)
 
 -- the number of a cell
-abbrev pub number_in : Sizes → Cell → ℕ
+abbrev pub number_in : NumberingState → Cell → ℕ
 number_in z (Stay p) = p.0
 number_in z (RoomDay r d) = room_days_from z + r.0 * z.days + d.0
 number_in z (TheatreDay t d) = theatre_days_from z + t.0 * z.days + d.0
@@ -56,7 +56,7 @@ number_in z (NurseShift n k) = nurse_shifts_from z + n.0 * (3 * z.days) + k.0
 number_in z (Care x) = cares_from z + x.0
 
 -- the cell is in range
-abbrev pub IsCellIn : Sizes → Cell → Type 0
+abbrev pub IsCellIn : NumberingState → Cell → Type 0
 IsCellIn z (Stay p) = p.0 < z.patients
 IsCellIn z (RoomDay r d) = (r.0 < z.rooms) × (d.0 < z.days)
 IsCellIn z (TheatreDay t d) = (t.0 < z.theatres) × (d.0 < z.days)
@@ -70,7 +70,7 @@ abbrev pub in_row : {A : Type 0} → (ℕ → ℕ → A) → ℕ → ℕ → A
 in_row cell m d = cell (m / d) (m % d)
 
 -- the cell with a number
-unfoldable pub cell_in : Sizes → ℕ → Cell
+unfoldable pub cell_in : NumberingState → ℕ → Cell
 cell_in z n =
     if nat_lt n (room_days_from z) then Stay (record { 0 = n })
     else if nat_lt n (theatre_days_from z) then

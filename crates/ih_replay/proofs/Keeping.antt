@@ -17,7 +17,7 @@ use Rattle.ih_journal.specs.Legal.{AreLegal, IsLegal}
 use Rattle.ih_journal.proofs.Growth.{last_by-other, last_by-own, legal-more, length-more}
 use Rattle.ih_cellbook.specs.Offers.{HasSeenOwn}
 use Rattle.ih_cellbook.specs.Replicas.{IsReplicaIn, IsReplicaOf}
-use Rattle.ih_cellbook.specs.Snapshot.{Snapshot}
+use Rattle.ih_cellbook.specs.ReplicaState.{ReplicaState}
 use Rattle.ih_cellbook.proofs.Within.{stands-behind}
 use Rattle.ih_cellbook.proofs.Staying.{new-within}
 use Rattle.ih_replay.specs.declared.workers.ReplayWorker.{ReplayWorker}
@@ -74,7 +74,7 @@ worker-other b H e w x other kept = record {
 }
 
 -- another replica that stands in the same history, or in one that is equal
-pub worker-moved : (b c : Base) (H G : List Tried) (w : ℕ) (x : ReplayWorker) (s : Snapshot) → IsWorkerIn b H w x → c ≡ b → G ≡ H → IsReplicaIn c G s → s.worker ≡ w
+pub worker-moved : (b c : Base) (H G : List Tried) (w : ℕ) (x : ReplayWorker) (s : ReplicaState) → IsWorkerIn b H w x → c ≡ b → G ≡ H → IsReplicaIn c G s → s.worker ≡ w
     → IsWorkerIn c G w (record x { replica = s })
 worker-moved b c H G w x s kept base same stands own =
     let y : ReplayWorker = record x { replica = s } in

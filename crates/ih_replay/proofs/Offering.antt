@@ -18,7 +18,7 @@ use Rattle.ih_cellbook.specs.Laws.{HasNoneBy}
 use Rattle.ih_cellbook.specs.Offers.{HasSeenOwn, IsRightOffer, entry_of, next_number}
 use Rattle.ih_cellbook.proofs.Committing.{attempt-is}
 use Rattle.ih_cellbook.specs.Replicas.{IsOfferAfter, IsOfferOf, IsReplicaIn, IsRightFor}
-use Rattle.ih_cellbook.specs.Snapshot.{Snapshot}
+use Rattle.ih_cellbook.specs.ReplicaState.{ReplicaState}
 use Rattle.ih_cellbook.proofs.Within.{offered-right}
 use Rattle.ih_replay.specs.Refusals.{FitsIn, of_attempt, of_entry}
 
@@ -43,7 +43,7 @@ legal-of b H e fits all = record {
 none-behind : (H : List Tried) (w n : ℕ) → HasSeenOwn H w n → HasNoneBy w (drop n H)
 none-behind H w n seen k e there own = let less = seen (n + k) e (sym (get-drop n H k) ∙ there) own in absurd (omega (arith, less))
 
-module _ (b : Base) (H : List Tried) (r : Snapshot) (stands : IsReplicaIn b H r) (e : Entry) (o : Offered) (offered : IsOfferOf r e.number (e.mv ∷ []) o)
+module _ (b : Base) (H : List Tried) (r : ReplicaState) (stands : IsReplicaIn b H r) (e : Entry) (o : Offered) (offered : IsOfferOf r e.number (e.mv ∷ []) o)
     (at : r.seen ≡ e.seen) (own : r.worker ≡ e.worker) (all : AllByRecursion (FitsIn b H (length H) e) of_attempt) where
   there : IsOfferAfter b (take r.seen H) r.worker e.number (e.mv ∷ []) o
   there = offered b (take r.seen H) stands

@@ -14,9 +14,9 @@ use Rattle.ih_journal.specs.Texts.{line_text}
 use Rattle.ih_journal.proofs.Growth.{legal-more, next-legal}
 use Rattle.ih_journal.proofs.Mapped.{attempt-one, map-more}
 use Rattle.ih_cellbook.specs.Keeping.{IsBase}
-use Rattle.ih_cellbook.specs.Recorded.{Recorded}
+use Rattle.ih_cellbook.specs.BookState.{BookState}
 use Rattle.ih_replay.specs.Refusals.{IsNextLine}
-use Rattle.ih_replay.specs.Replayed.{Replayed, first_of, replayed_of, single, singles}
+use Rattle.ih_replay.specs.ReplayState.{ReplayState, first_of, replayed_of, single, singles}
 use Rattle.ih_replay.proofs.Lines.{line-of}
 
 -- ---- what is tried, and its entry
@@ -63,23 +63,23 @@ next-line-of b H valid base legal line e next =
 -- ---- what is seen of a replay
 
 -- what holds of the book's history holds of the entries that were taken
-pub as-taken : (P : Base → List Tried → Type 0) (v : Recorded) (A : Replayed) → AreLegal v.base 1 v.entries → replayed_of v ≡ A → P v.base v.entries
+pub as-taken : (P : Base → List Tried → Type 0) (v : BookState) (A : ReplayState) → AreLegal v.base 1 v.entries → replayed_of v ≡ A → P v.base v.entries
     → P A.base (tries A.entries)
 as-taken P v A legal view h =
-    subst (λ (s : Replayed). P s.base (tries s.entries)) view (subst (P v.base) (sym (legal-singles v.base v.entries legal)) h)
+    subst (λ (s : ReplayState). P s.base (tries s.entries)) view (subst (P v.base) (sym (legal-singles v.base v.entries legal)) h)
 
 -- the book's entries, by what each stands for
-pub entries-taken : (v : Recorded) (A : Replayed) (es : List Entry) → replayed_of v ≡ A → tries es ≡ v.entries → es ≡ A.entries
-entries-taken v A es view is = sym (singles-tries es) ∙ (ap singles is ∙ ap (λ (s : Replayed). s.entries) view)
+pub entries-taken : (v : BookState) (A : ReplayState) (es : List Entry) → replayed_of v ≡ A → tries es ≡ v.entries → es ≡ A.entries
+entries-taken v A es view is = sym (singles-tries es) ∙ (ap singles is ∙ ap (λ (s : ReplayState). s.entries) view)
 
 -- a book that was left as it was
-pub stays-taken : (v w : Recorded) (A : Replayed) → replayed_of v ≡ A → w.base ≡ v.base → w.entries ≡ v.entries → replayed_of w ≡ A
+pub stays-taken : (v w : BookState) (A : ReplayState) → replayed_of v ≡ A → w.base ≡ v.base → w.entries ≡ v.entries → replayed_of w ≡ A
 stays-taken v w A view base same =
-    ap (λ (c : Base). let s : Replayed = record { base = c; entries = singles w.entries } in s) base
-    ∙ (ap (λ (es : List Tried). let s : Replayed = record { base = v.base; entries = singles es } in s) same ∙ view)
+    ap (λ (c : Base). let s : ReplayState = record { base = c; entries = singles w.entries } in s) base
+    ∙ (ap (λ (es : List Tried). let s : ReplayState = record { base = v.base; entries = singles es } in s) same ∙ view)
 
 -- one entry more
-pub more-taken : (v w : Recorded) (A : Replayed) (line : List ℕ) → AreLegal v.base 1 v.entries → replayed_of v ≡ A → w.base ≡ v.base
+pub more-taken : (v w : BookState) (A : ReplayState) (line : List ℕ) → AreLegal v.base 1 v.entries → replayed_of v ≡ A → w.base ≡ v.base
     → ((e : Entry) × IsLegal v.base 1 v.entries (tried e) × (line ≡ line_text v.base.options (length v.entries) e) × (w.entries ≡ v.entries ++ tried e ∷ []))
     → (e : Entry) × IsNextLine A.base A.entries line e × (replayed_of w ≡ record A { entries = A.entries ++ e ∷ [] })
 more-taken v w A line history view base (e, legal, text, added) =
@@ -89,15 +89,15 @@ more-taken v w A line history view base (e, legal, text, added) =
     } in
     let entries : singles w.entries ≡ singles v.entries ++ e ∷ [] = ap singles added ∙ map-more single v.entries (tried e) in
     let new : replayed_of w ≡ record (replayed_of v) { entries = singles v.entries ++ e ∷ [] } =
-    ap (λ (c : Base). let s : Replayed = record { base = c; entries = singles w.entries } in s) base
-    ∙ ap (λ (es : List Entry). let s : Replayed = record { base = v.base; entries = es } in s) entries in
-    subst (λ (s : Replayed). (f : Entry) × IsNextLine s.base s.entries line f × (replayed_of w ≡ record s { entries = s.entries ++ f ∷ [] })) view (e, next, new)
+    ap (λ (c : Base). let s : ReplayState = record { base = c; entries = singles w.entries } in s) base
+    ∙ ap (λ (es : List Entry). let s : ReplayState = record { base = v.base; entries = es } in s) entries in
+    subst (λ (s : ReplayState). (f : Entry) × IsNextLine s.base s.entries line f × (replayed_of w ≡ record s { entries = s.entries ++ f ∷ [] })) view (e, next, new)
 
 -- what isn't the next line of the book is none of the replay
-pub never-taken : (v : Recorded) (A : Replayed) (line : List ℕ) → AreLegal v.base 1 v.entries → replayed_of v ≡ A
+pub never-taken : (v : BookState) (A : ReplayState) (line : List ℕ) → AreLegal v.base 1 v.entries → replayed_of v ≡ A
     → ((e : Entry) → IsLegal v.base 1 v.entries (tried e) → line ≡ line_text v.base.options (length v.entries) e → ⊥)
     → (e : Entry) → IsNextLine A.base A.entries line e → ⊥
 never-taken v A line history view never =
-    subst (λ (s : Replayed). (e : Entry) → IsNextLine s.base s.entries line e → ⊥) view
+    subst (λ (s : ReplayState). (e : Entry) → IsNextLine s.base s.entries line e → ⊥) view
     (λ e next. never e (subst (λ G. IsLegal v.base 1 G (tried e)) (legal-singles v.base v.entries history) next.legal)
     (next.text ∙ ap (λ n. line_text v.base.options n e) (length-map v.entries single)))

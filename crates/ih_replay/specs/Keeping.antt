@@ -10,7 +10,7 @@ use Rattle.ih_journal.specs.Base.{Base}
 use Rattle.ih_journal.specs.Legal.{AreLegal}
 use Rattle.ih_cellbook.specs.Keeping.{IsBase}
 use Rattle.ih_cellbook.specs.Offers.{HasSeenOwn}
-use Rattle.ih_cellbook.specs.Recorded.{Recorded}
+use Rattle.ih_cellbook.specs.BookState.{BookState}
 use Rattle.ih_cellbook.specs.Replicas.{IsReplicaIn}
 use Rattle.ih_replay.specs.declared.workers.ReplayWorker.{ReplayWorker}
 
@@ -45,7 +45,7 @@ pub record IsReplayed (b : Base) (H : List Tried) (xs : List ReplayWorker) : Typ
   pub each : (w : ℕ) (x : ReplayWorker) → slice_get xs w ≡ Some x → IsWorkerIn b H w x
 
 -- What a replay keeps beside its book is of the search over that instance, start and options.
-pub record IsReplay (I : Draft) (P : Timetable) (o : Options) (v : Recorded) (xs : List ReplayWorker) : Type 0 where
+pub record IsReplay (I : Draft) (P : Timetable) (o : Options) (v : BookState) (xs : List ReplayWorker) : Type 0 where
   pub instance : v.base.instance ≡ I
   pub start : v.base.start ≡ P
   pub options : v.base.options ≡ o

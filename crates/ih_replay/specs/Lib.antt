@@ -2,4 +2,4 @@ pub mod Bests
 pub mod Keeping
 pub mod Laws
 pub mod Refusals
-pub mod Replayed
+pub mod ReplayState

@@ -26,9 +26,9 @@ pub struct Replay<'a> {
 }
 
 impl<'a> Model for Replay<'a> {
-    ghost use Rattle.ih_replay.specs.{Keeping.IsReplay, Replayed.Replayed, Replayed.replayed_of};
+    ghost use Rattle.ih_replay.specs.{Keeping.IsReplay, ReplayState.ReplayState, ReplayState.replayed_of};
 
-    ghost Value = { Replayed };
+    ghost Value = { ReplayState };
 
     ghost view = { λ r. replayed_of r.book };
 

@@ -3,7 +3,7 @@ use Rattle.std.proofs.Common.{◌≡◌, ℕ, ◌+◌, ◌<◌, ◌≤◌, refl,
 use Rattle.std.specs.Prelude.{◌||◌, ◌&&◌, ◌==◌, slice_index_or, slice_set}
 use Rattle.std.proofs.lemmas.Bool.{cases_eq, eq-eqb, ne_eqb, eqb-true, or_cases}
 use Rattle.std.proofs.lemmas.List.{get_or-set_same, get_or-set_other, length-set}
-use Rattle.ih_links.specs.Lists.{Linked, has, list_of}
+use Rattle.ih_links.specs.Lists.{LinksState, has, list_of}
 use Rattle.ih_links.specs.Days.{on_day}
 use Rattle.ih_links.proofs.Members.{has-append, once-append}
 use Rattle.ih_roomdays.specs.declared.room_lists.RoomLists.{RoomLists}
@@ -16,9 +16,9 @@ use Rattle.ih_plan.proofs.TestLemmas.{equal-swap}
 
 -- Person x is put behind the last of room's list of day k.
 module _ (v : RoomLists) (rows : AreRoomLists v) (room x k : ℕ) (room_below : room < v.rooms) (k_below : k < v.days) (x_below : x < v.persons) (nowhere : (r : ℕ) → is_at v r k x ≡ false)
-    (old day : Linked) (old_is : old ≡ on_day v.links.items k) where
+    (old day : LinksState) (old_is : old ≡ on_day v.links.items k) where
   pub free : (r : ℕ) → has x (list_of old r) ≡ false
-  free r = ap (λ (l : Linked). has x (list_of l r)) old_is ∙ nowhere r
+  free r = ap (λ (l : LinksState). has x (list_of l r)) old_is ∙ nowhere r
 
   abbrev longer : List ℕ
   longer = persons_at v room k ++ x ∷ []
@@ -30,7 +30,7 @@ module _ (v : RoomLists) (rows : AreRoomLists v) (room x k : ℕ) (room_below : 
     pub longer-day : IsDay v room k longer day
     longer-day = record {
       heads = ap length lists-now ∙ (length-set (on_day v.links.items k).lists room longer ∙ rows.each_room k k_below);
-      numbers = nodes_are ∙ (ap (λ (l : Linked). l.nodes) old_is ∙ rows.numbers k k_below);
+      numbers = nodes_are ∙ (ap (λ (l : LinksState). l.nodes) old_is ∙ rows.numbers k k_below);
       here = ap (λ ls. slice_index_or ls room []) lists-now ∙ get_or-set_same (on_day v.links.items k).lists room longer [] (rw (rows.each_room k k_below) room_below);
       others = λ r ne. ap (λ ls. slice_index_or ls r []) lists-now ∙ get_or-set_other (on_day v.links.items k).lists room r longer [] ne;
       once = once-append (persons_at v room k) x (rows.once room k k_below) (nowhere room);

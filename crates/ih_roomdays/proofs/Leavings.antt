@@ -4,7 +4,7 @@ use Rattle.std.specs.Prelude.{◌&&◌, ◌||◌, ◌==◌, not, slice_index_or}
 use Rattle.std.proofs.lemmas.Bool.{cases_eq, eq-eqb, ne_eqb}
 use Rattle.std.proofs.lemmas.List.{length-map}
 use Rattle.std.proofs.Math.ListN.{get_or-map}
-use Rattle.ih_links.specs.Lists.{Linked, has, list_of, without}
+use Rattle.ih_links.specs.Lists.{LinksState, has, list_of, without}
 use Rattle.ih_links.specs.Days.{on_day}
 use Rattle.ih_links.proofs.Members.{apart, has-without_self, has-without_other, length-without, once-without, without-none}
 use Rattle.ih_roomdays.specs.declared.room_lists.RoomLists.{RoomLists}
@@ -18,7 +18,7 @@ use Rattle.ih_plan.specs.Presence.{in_span}
 
 -- Person x is taken out of the room's list of day k; it is in no other.
 module _ (v : RoomLists) (rows : AreRoomLists v) (room x k : ℕ) (k_below : k < v.days) (there : (r : ℕ) → is_at v r k x ≡ (room == r))
-    (old day : Linked) (old_is : old ≡ on_day v.links.items k) (lists_are : day.lists ≡ map (without x) old.lists) (nodes_are : day.nodes ≡ old.nodes) where
+    (old day : LinksState) (old_is : old ≡ on_day v.links.items k) (lists_are : day.lists ≡ map (without x) old.lists) (nodes_are : day.nodes ≡ old.nodes) where
   lists-now : day.lists ≡ map (without x) (on_day v.links.items k).lists
   lists-now = rw old_is at lists_are
 
@@ -28,7 +28,7 @@ module _ (v : RoomLists) (rows : AreRoomLists v) (room x k : ℕ) (k_below : k <
   pub shorter-day : IsDay v room k (without x (persons_at v room k)) day
   shorter-day = record {
     heads = ap length lists-now ∙ (length-map (on_day v.links.items k).lists (without x) ∙ rows.each_room k k_below);
-    numbers = nodes_are ∙ (ap (λ (l : Linked). l.nodes) old_is ∙ rows.numbers k k_below);
+    numbers = nodes_are ∙ (ap (λ (l : LinksState). l.nodes) old_is ∙ rows.numbers k k_below);
     here = all-left room;
     others = λ r ne. all-left r ∙ without-none x (persons_at v r k) (there r ∙ ne_eqb room r (λ e. ne (sym e)));
     once = once-without x (persons_at v room k) (rows.once room k k_below);
@@ -81,5 +81,5 @@ there-yet old v room x a k so_far below there r =
     so_far.each r k x below ∙ (ap (λ b. is_at old r k x && not ((x == x) && b)) (span-past a k) ∙ (rw (and-false (x == x)) (and-true (is_at old r k x)) ∙ there r))
 
 -- so it is in a list of the day
-pub linked : (v : RoomLists) (room x k : ℕ) → ((r : ℕ) → is_at v r k x ≡ (room == r)) → (old : Linked) → old ≡ on_day v.links.items k → (r : ℕ) × (has x (list_of old r) ≡ true)
-linked v room x k there old old_is = (room, ap (λ (l : Linked). has x (list_of l room)) old_is ∙ (there room ∙ eq-eqb room room refl))
+pub linked : (v : RoomLists) (room x k : ℕ) → ((r : ℕ) → is_at v r k x ≡ (room == r)) → (old : LinksState) → old ≡ on_day v.links.items k → (r : ℕ) × (has x (list_of old r) ≡ true)
+linked v room x k there old old_is = (room, ap (λ (l : LinksState). has x (list_of l room)) old_is ∙ (there room ∙ eq-eqb room room refl))

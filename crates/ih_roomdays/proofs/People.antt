@@ -5,7 +5,7 @@ use Rattle.std.specs.List.{IsDistinct, AllByRecursion}
 use Rattle.std.proofs.lemmas.Bool.{cases_lt, ne_eqb, false_from_ne_true}
 use Rattle.std.proofs.lemmas.List.{get_or_read}
 use Rattle.std.proofs.lemmas.Nat.{mul-add-lt}
-use Rattle.ih_links.specs.Lists.{Linked, has, IsOnce}
+use Rattle.ih_links.specs.Lists.{LinksState, has, IsOnce}
 use Rattle.ih_links.specs.Days.{on_day}
 use Rattle.ih_links.proofs.Members.{lacks, length-once, once-append}
 use Rattle.ih_plan.proofs.ListedBelow.{has as has_number, has-which_below, which_below-has, has-listed}
@@ -26,7 +26,7 @@ pub has-is_listed : (x : ℕ) (xs : List ℕ) → has x xs ≡ is_listed x xs
 has-is_listed x xs = has-number x xs ∙ has-listed x xs
 
 -- what is read of a day is its lists
-pub day-read : (v : RoomLists) (d : ℕ) (day : Linked) → AreRoomLists v → d < v.days → day ≡ get_or v.links.items d day → day ≡ on_day v.links.items d
+pub day-read : (v : RoomLists) (d : ℕ) (day : LinksState) → AreRoomLists v → d < v.days → day ≡ get_or v.links.items d day → day ≡ on_day v.links.items d
 day-read v d day rows below e = get_or_read v.links.items d day (rw rows.each_day below) e (record { lists = []; nodes = 0 })
 
 -- a room and a day have a place among what is kept

@@ -1,7 +1,7 @@
 -- The i-th of a list, by a walk from the first.
 use Rattle.std.proofs.Common.{◌≡◌, ℕ, zero, suc, ◌+◌, ◌<◌, refl, arith, add-one, sym, ap, subst, ◌∙◌, true, List, [], ◌∷◌, length, drop, get_or, Some, None}
 use Rattle.std.specs.Prelude.{slice_index}
-use Rattle.ih_links.specs.Lists.{Linked, has, following, first_of, list_of, IsOnce}
+use Rattle.ih_links.specs.Lists.{LinksState, has, following, first_of, list_of, IsOnce}
 use Rattle.ih_links.specs.Days.{on_day}
 use Rattle.ih_links.proofs.Members.{has-here, has-there}
 use Rattle.ih_links.proofs.Walks.{following-index}
@@ -43,12 +43,12 @@ step-past xs k e = rw add-one (past xs k e)
     past (x ∷ xs) (suc k) e = past xs k e
 
 -- The lists that are read are those of day d, so the one that is met after i steps is the i-th of those who are there.
-module _ (v w : RoomLists) (r d i : ℕ) (day : Linked) (same : v ≡ w) (rows : AreRoomLists v) (below : d < w.days) (read : day ≡ get_or v.links.items d day) where
+module _ (v w : RoomLists) (r d i : ℕ) (day : LinksState) (same : v ≡ w) (rows : AreRoomLists v) (below : d < w.days) (read : day ≡ get_or v.links.items d day) where
   day-is : day ≡ on_day w.links.items d
   day-is = day-read w d day (subst (λ u. AreRoomLists u) same rows) below (subst (λ (u : RoomLists). day ≡ get_or u.links.items d day) same read)
 
   pub told-person : (x : ℕ) → first_of (drop i (list_of day r)) ≡ Some x → x ≡ slice_index (persons_at w r d) i
-  told-person x e = (met (list_of day r) i x e).1 ∙ ap (λ (l : Linked). get_or (list_of l r) i 0) day-is
+  told-person x e = (met (list_of day r) i x e).1 ∙ ap (λ (l : LinksState). get_or (list_of l r) i 0) day-is
 
   pub told-someone : i < length (persons_at w r d) → first_of (drop i (list_of day r)) ≡ None → ⊥
-  told-someone inside none = none-past (list_of day r) i (subst (λ (l : Linked). i < length (list_of l r)) (sym day-is) inside) none
+  told-someone inside none = none-past (list_of day r) i (subst (λ (l : LinksState). i < length (list_of l r)) (sym day-is) inside) none

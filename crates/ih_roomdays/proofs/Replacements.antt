@@ -5,7 +5,7 @@ use Rattle.std.specs.Global.{Vec}
 use Rattle.std.proofs.lemmas.Bool.{cases_eq}
 use Rattle.std.proofs.lemmas.List.{get_or-set_same, get_or-set_other, length-set}
 use Rattle.std.proofs.lemmas.Nat.{same_from_place}
-use Rattle.ih_links.specs.Lists.{Linked, has, list_of, IsOnce}
+use Rattle.ih_links.specs.Lists.{LinksState, has, list_of, IsOnce}
 use Rattle.ih_links.specs.Days.{on_day}
 use Rattle.ih_roomdays.specs.declared.occupancies.Crowd.{Crowd}
 use Rattle.ih_roomdays.specs.declared.room_lists.RoomLists.{RoomLists}
@@ -14,7 +14,7 @@ use Rattle.ih_roomdays.specs.RoomLists.{AreRoomLists, AreChanged, persons_at, cr
 use Rattle.ih_roomdays.proofs.People.{place-inside}
 
 -- A day's lists that differ from those before in the room's list alone: that is xs, whose persons are known, each once.
-pub record IsDay (v : RoomLists) (room k : ℕ) (xs : List ℕ) (day : Linked) : Type 0 where
+pub record IsDay (v : RoomLists) (room k : ℕ) (xs : List ℕ) (day : LinksState) : Type 0 where
   pub heads : length day.lists ≡ v.rooms
   pub numbers : day.nodes ≡ v.persons
   pub here : list_of day room ≡ xs
@@ -55,8 +55,8 @@ everywhere room k days A this others r d below = elim (cases_eq r room) [
 ]
 
 -- These are the lists of day k now, and this is the summary of xs.
-module _ (v : RoomLists) (rows : AreRoomLists v) (room k : ℕ) (room_below : room < v.rooms) (k_below : k < v.days) (xs : List ℕ) (day : Linked) (is_day : IsDay v room k xs day)
-    (links : Vec Linked) (links_are : links.items ≡ slice_set v.links.items k day)
+module _ (v : RoomLists) (rows : AreRoomLists v) (room k : ℕ) (room_below : room < v.rooms) (k_below : k < v.days) (xs : List ℕ) (day : LinksState) (is_day : IsDay v room k xs day)
+    (links : Vec LinksState) (links_are : links.items ≡ slice_set v.links.items k day)
     (crowds : Vec Crowd) (crowd : Crowd) (told : IsCrowd v.profiles xs crowd) (crowds_are : crowds.items ≡ slice_set v.crowds.items (room * v.days + k) crowd) where
   abbrev after : RoomLists
   after = record v { links = links; crowds = crowds }
@@ -67,19 +67,19 @@ module _ (v : RoomLists) (rows : AreRoomLists v) (room k : ℕ) (room_below : ro
   other-day : (d : ℕ) → (d ≡ k → ⊥) → on_day after.links.items d ≡ on_day v.links.items d
   other-day d ne = ap (λ ls. on_day ls d) links_are ∙ get_or-set_other v.links.items k d day (record { lists = []; nodes = 0 }) ne
 
-  every-day : (A : Linked → Type 0) → A day → ((d : ℕ) → d < v.days → A (on_day v.links.items d)) → (d : ℕ) → d < v.days → A (on_day after.links.items d)
+  every-day : (A : LinksState → Type 0) → A day → ((d : ℕ) → d < v.days → A (on_day v.links.items d)) → (d : ℕ) → d < v.days → A (on_day after.links.items d)
   every-day A this others d below = elim (cases_eq d k) [
     | inl same ↦ subst (λ e. A (on_day after.links.items e)) (sym same) (subst A (sym today) this)
     | inr other ↦ subst A (sym (other-day d other)) (others d below)
   ]
 
   here : persons_at after room k ≡ xs
-  here = ap (λ (l : Linked). list_of l room) today ∙ is_day.here
+  here = ap (λ (l : LinksState). list_of l room) today ∙ is_day.here
 
   elsewhere : (r d : ℕ) → (r ≡ room → d ≡ k → ⊥) → persons_at after r d ≡ persons_at v r d
   elsewhere r d ne = elim (cases_eq d k) [
-    | inl same ↦ subst (λ e. persons_at after r e ≡ persons_at v r e) (sym same) (ap (λ (l : Linked). list_of l r) today ∙ is_day.others r (λ e. ne e same))
-    | inr other ↦ ap (λ (l : Linked). list_of l r) (other-day d other)
+    | inl same ↦ subst (λ e. persons_at after r e ≡ persons_at v r e) (sym same) (ap (λ (l : LinksState). list_of l r) today ∙ is_day.others r (λ e. ne e same))
+    | inr other ↦ ap (λ (l : LinksState). list_of l r) (other-day d other)
   ]
 
   crowd-here : crowd_at after room k ≡ crowd

@@ -18,9 +18,9 @@ pub struct Noted<S> {
 
 impl<S> Model for Noted<S> {
     ghost use Rattle.std.specs.Prelude.{map};
-    ghost use Rattle.ih_rounds.specs.Answers.{Answered};
+    ghost use Rattle.ih_rounds.specs.Answers.{NotedState};
 
-    ghost Value = { Answered S };
+    ghost Value = { NotedState S };
 
     ghost view = { λ n. record { searcher = n.searcher; answers = map (λ v. v.items) n.answers.items } };
 }

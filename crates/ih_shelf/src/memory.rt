@@ -18,9 +18,9 @@ pub struct MemShelf {
 }
 
 impl Model for MemShelf {
-    ghost use Rattle.ih_shelf.specs.Memory.{MemoryShelf};
+    ghost use Rattle.ih_shelf.specs.Memory.{MemShelfState};
 
-    ghost Value = { MemoryShelf };
+    ghost Value = { MemShelfState };
 
     ghost view = { λ s. record { files = s.files; reads = s.reads; writes = s.writes } };
 }

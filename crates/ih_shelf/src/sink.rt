@@ -15,9 +15,9 @@ pub struct MemSink {
 }
 
 impl Model for MemSink {
-    ghost use Rattle.ih_shelf.specs.Memory.{MemorySink};
+    ghost use Rattle.ih_shelf.specs.Memory.{MemSinkState};
 
-    ghost Value = { MemorySink };
+    ghost Value = { MemSinkState };
 
     ghost view = { λ s. record { text = s.text.items; puts = s.puts; lacks = s.lacks } };
 }

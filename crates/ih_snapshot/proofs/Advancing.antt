@@ -22,7 +22,7 @@ use Rattle.ih_cellbook.proofs.EntryLimits.{legal-few}
 use Rattle.ih_cellbook.proofs.Versions.{version-more, version-most}
 use Rattle.ih_snapshot.specs.Keeping.{CanTake, HasTaken, IsOwnRead}
 use Rattle.ih_cellbook.specs.Replicas.{IsReplicaOf, IsReadFrom}
-use Rattle.ih_cellbook.specs.Snapshot.{Snapshot}
+use Rattle.ih_cellbook.specs.ReplicaState.{ReplicaState}
 use Rattle.ih_snapshot.proofs.Touching.{keys}
 
 -- ---- entries that follow
@@ -34,7 +34,7 @@ legal-next b H es k e legal there =
 
 -- ---- what can be taken over
 
-module _ (H : List Tried) (r : Snapshot) (stands : IsReplicaOf r.base H r) where
+module _ (H : List Tried) (r : ReplicaState) (stands : IsReplicaOf r.base H r) where
   short : length H ≤ 10 ^ 6
   short = let few = (legal-few r.base H stands.legal).most in let most = stands.lawful.lawful.entries in omega (arith, few, most)
 
@@ -69,7 +69,7 @@ module _ (H : List Tried) (r : Snapshot) (stands : IsReplicaOf r.base H r) where
       own = own;
     }
 
-    module _ (s : Snapshot) (taken : HasTaken r e s) where
+    module _ (s : ReplicaState) (taken : HasTaken r e s) where
       each-more : (n : ℕ) → n < cell_count r.base.instance → slice_index s.versions n ≡ version r.base (H ++ e ∷ []) (cell_at r.base.instance n)
       each-more n h =
           taken.each n h
@@ -102,27 +102,27 @@ module _ (H : List Tried) (r : Snapshot) (stands : IsReplicaOf r.base H r) where
 
 -- ---- the same with the search by its own name
 
-own-base : (b : Base) (H : List Tried) (r : Snapshot) → IsReplicaOf b H r → IsReplicaOf r.base H r
+own-base : (b : Base) (H : List Tried) (r : ReplicaState) → IsReplicaOf b H r → IsReplicaOf r.base H r
 own-base b H r stands = subst (λ c. IsReplicaOf c H r) (sym stands.base) stands
 
-pub can-take : (b : Base) (H : List Tried) (r : Snapshot) (e : Tried) → IsReplicaOf b H r → IsLegalButDraw b H e → CanTake r e
+pub can-take : (b : Base) (H : List Tried) (r : ReplicaState) (e : Tried) → IsReplicaOf b H r → IsLegalButDraw b H e → CanTake r e
 can-take b H r e stands legal = can H r (own-base b H r stands) e (subst (λ c. IsLegalButDraw c H e) (sym stands.base) legal)
 
-pub stands-more : (b : Base) (H : List Tried) (r : Snapshot) (e : Tried) (s : Snapshot) → IsReplicaOf b H r → IsLegalButDraw b H e → HasTaken r e s
+pub stands-more : (b : Base) (H : List Tried) (r : ReplicaState) (e : Tried) (s : ReplicaState) → IsReplicaOf b H r → IsLegalButDraw b H e → HasTaken r e s
     → IsReplicaOf b (H ++ e ∷ []) s
 stands-more b H r e s stands legal taken =
     subst (λ c. IsReplicaOf c (H ++ e ∷ []) s) stands.base (more H r (own-base b H r stands) e (subst (λ c. IsLegalButDraw c H e) (sym stands.base) legal) s taken)
 
 -- ---- one of the entries that follow
 
-module _ (b : Base) (H es : List Tried) (k : ℕ) (d : Tried) (r : Snapshot) (stands : IsReplicaOf b (H ++ take k es) r) (legal : AreLegalButDraws b (H ++ es)) (h : k < length es) where
+module _ (b : Base) (H es : List Tried) (k : ℕ) (d : Tried) (r : ReplicaState) (stands : IsReplicaOf b (H ++ take k es) r) (legal : AreLegalButDraws b (H ++ es)) (h : k < length es) where
   next : IsLegalButDraw b (H ++ take k es) (slice_index_or es k d)
   next = legal-next b H es k (slice_index_or es k d) legal (slice_get-get_or es k d h)
 
   pub can-next : CanTake r (slice_index_or es k d)
   can-next = can-take b (H ++ take k es) r (slice_index_or es k d) stands next
 
-  pub stands-next : (s : Snapshot) → HasTaken r (slice_index_or es k d) s → IsReplicaOf b (H ++ take (k + 1) es) s
+  pub stands-next : (s : ReplicaState) → HasTaken r (slice_index_or es k d) s → IsReplicaOf b (H ++ take (k + 1) es) s
   stands-next s taken =
       let longer : (H ++ take k es) ++ slice_index_or es k d ∷ [] ≡ H ++ take (k + 1) es =
       append_assoc H (take k es) (slice_index_or es k d ∷ []) ∙ ap (λ xs. H ++ xs) (sym (take_more es k d h)) in

@@ -11,7 +11,7 @@ use Rattle.ih_cellbook.specs.Keeping.{IsBase, AreVersions}
 use Rattle.ih_cellbook.proofs.Committing.{legal_but-none}
 use Rattle.ih_cellbook.proofs.BookKeeping.{kept-none}
 use Rattle.ih_cellbook.specs.Replicas.{IsReplicaOf}
-use Rattle.ih_cellbook.specs.Snapshot.{Snapshot}
+use Rattle.ih_cellbook.specs.ReplicaState.{ReplicaState}
 use Rattle.std.proofs.Common.{None}
 
 -- each version is 0
@@ -20,7 +20,7 @@ zero-versions b vs base zeros =
     (kept-none b vs (replicate b.options.workers 0) (bill_of b.instance b.start)
     (best_with None 0 (feasible (bill_of b.instance b.start)) (cost b.instance.weights (bill_of b.instance b.start))) base zeros refl refl refl).versions
 
-pub stands-empty : (b : Base) (r : Snapshot) → IsBase b → r.base ≡ b → r.seen ≡ 0 → r.plan ≡ b.start → r.versions ≡ replicate (cell_count b.instance) 0
+pub stands-empty : (b : Base) (r : ReplicaState) → IsBase b → r.base ≡ b → r.seen ≡ 0 → r.plan ≡ b.start → r.versions ≡ replicate (cell_count b.instance) 0
     → r.last.seen ≡ 0 → r.last.reads.pairs ≡ [] → IsReplicaOf b [] r
 unfolding after_entries
 stands-empty b r base own seen plan zeros last_seen none = record {

@@ -16,15 +16,15 @@ use Rattle.ih_journal.specs.Base.{Base}
 use Rattle.ih_journal.specs.Frozen.{is_frozen, is_frozen_write}
 use Rattle.ih_journal.specs.History.{plan_after, version}
 use Rattle.ih_cellbook.specs.Counters.{is_compared}
-use Rattle.ih_cellbook.specs.Noted.{Noted}
+use Rattle.ih_cellbook.specs.ReadsState.{ReadsState}
 use Rattle.ih_cellbook.specs.Offered.{Offered}
 use Rattle.ih_cellbook.specs.Offers.{IsRightOffer, next_number, reads_after}
 use Rattle.ih_cellbook.proofs.Committing.{footprint-below}
 use Rattle.ih_snapshot.specs.Noting.{asks_reads, offer_of, offer_with, priced_of, reads_of}
 use Rattle.ih_cellbook.specs.Replicas.{IsReplicaOf, IsOfferAfter, IsPricedAfter}
-use Rattle.ih_cellbook.specs.Snapshot.{Snapshot}
+use Rattle.ih_cellbook.specs.ReplicaState.{ReplicaState}
 
-module _ (b : Base) (H : List Tried) (r : Snapshot) (n : ℕ) (m : List Move) (stands : IsReplicaOf b H r) where
+module _ (b : Base) (H : List Tried) (r : ReplicaState) (n : ℕ) (m : List Move) (stands : IsReplicaOf b H r) where
   reads-are : reads_of r m ≡ reads_after b H m
   reads-are =
       ap (λ c. tagged (slice_index r.versions) (footprint_of_all c.instance r.plan m)) stands.base
@@ -131,11 +131,11 @@ module _ (b : Base) (H : List Tried) (r : Snapshot) (n : ℕ) (m : List Move) (s
 -- ---- how it is read off
 
 -- a replica of these parts
-abbrev pub replica_with : Base → ℕ → ℕ → Timetable → List ℕ → Offered → Snapshot
+abbrev pub replica_with : Base → ℕ → ℕ → Timetable → List ℕ → Offered → ReplicaState
 replica_with b worker seen plan versions last = record { base = b; worker = worker; seen = seen; plan = plan; versions = versions; last = last }
 
 -- a replica whose last offer has these parts
-pub filled : (r : Snapshot) (n : ℕ) (m : List Move) (P : Timetable) (price : Bill) (reads : Noted) (frozen : Bool) → P ≡ r.plan
+pub filled : (r : ReplicaState) (n : ℕ) (m : List Move) (P : Timetable) (price : Bill) (reads : ReadsState) (frozen : Bool) → P ≡ r.plan
     → price ≡ price_of_all r.base.instance r.plan m → reads ≡ record r.last.reads { pairs = [] } → frozen ≡ is_frozen r.base r.plan m
     → record r { plan = P; last = record { worker = r.worker; number = n; seen = r.seen; moves = m; price = price; reads = reads; frozen = frozen } } ≡ record r { last = offer_with r n m [] }
 filled r n m P price reads frozen plan priced read free = rw (plan, priced, read, free) refl
@@ -145,7 +145,7 @@ unfolding is_frozen
 frozen-here b Q P m frozen tested same = tested ∙ ap (λ R. list_any (is_frozen_write b.start b.freeze) (expand_all b.instance R m)) same
 
 -- a replica whose last offer has these cells
-pub read-there : (r : Snapshot) (m : List Move) (P : Timetable) (reads : Noted) (wanted : Bool) → wanted ≡ true → P ≡ r.plan → reads ≡ record r.last.reads { pairs = reads_of r m }
+pub read-there : (r : ReplicaState) (m : List Move) (P : Timetable) (reads : ReadsState) (wanted : Bool) → wanted ≡ true → P ≡ r.plan → reads ≡ record r.last.reads { pairs = reads_of r m }
     → record r { plan = P; last = record r.last { reads = reads } }
     ≡ record r { last = record r.last { reads = record r.last.reads { pairs = if wanted then reads_of r m else r.last.reads.pairs } } }
 read-there r m P reads wanted on plan read = rw (on, plan, read) refl

@@ -1,6 +1,6 @@
 -- What a replica keeps, and one entry more.
 use Rattle.std.specs.Prelude.{◌≡◌, ℕ, ◌+◌, ◌<◌, ◌≤◌, ◌^◌, true, List, length, map, slice_index}
-use Rattle.ih_tables.specs.Sizes.{Sizes, sizes_of}
+use Rattle.ih_tables.specs.Sizes.{NumberingState, sizes_of}
 use Rattle.ih_tables.specs.declared.drafts.Draft.{Draft}
 use Rattle.ih_plan.specs.Timetable.{Timetable}
 use Rattle.ih_plan.specs.Cells.{cell_at, cell_count}
@@ -9,13 +9,13 @@ use Rattle.ih_plan.specs.Series.{AreMoves, footprint_of_all}
 use Rattle.ih_journal.specs.Tried.{Tried}
 use Rattle.ih_journal.specs.Base.{Base}
 use Rattle.ih_journal.specs.History.{after_entry, touches_accepted, is_accepted}
-use Rattle.ih_costs.specs.Standing.{Standing}
+use Rattle.ih_costs.specs.LedgersState.{LedgersState}
 use Rattle.ih_cellbook.specs.Offered.{Offered}
 use Rattle.ih_cellbook.specs.Keeping.{IsBase}
-use Rattle.ih_cellbook.specs.Snapshot.{Snapshot}
+use Rattle.ih_cellbook.specs.ReplicaState.{ReplicaState}
 
 -- The ledgers, the versions, the list of cells and the room for reads are of the instance.
-pub record IsOfBase (b : Base) (l : Standing) (vs : List ℕ) (z : Sizes) (o : Offered) : Type 0 where
+pub record IsOfBase (b : Base) (l : LedgersState) (vs : List ℕ) (z : NumberingState) (o : Offered) : Type 0 where
   pub base : IsBase b
   pub instance : l.instance ≡ b.instance
   pub versions : length vs ≡ cell_count b.instance
@@ -29,7 +29,7 @@ IsOwnRead I P last e = 0 < length last.reads.pairs → e.seen ≡ last.seen → 
     → map (λ (r : ℕ × ℕ). r.0) last.reads.pairs ≡ footprint_of_all I P e.moves
 
 -- The entry can be taken over: its move is in range, the counts stay small, and what is the worker's own was read off.
-pub record CanTake (r : Snapshot) (e : Tried) : Type 0 where
+pub record CanTake (r : ReplicaState) (e : Tried) : Type 0 where
   pub move : AreMoves r.base.instance e.moves
   pub seen : r.seen + 1 < 2 ^ 32
   pub small : (n : ℕ) → slice_index r.versions n ≤ 10 ^ 6
@@ -37,7 +37,7 @@ pub record CanTake (r : Snapshot) (e : Tried) : Type 0 where
 
 -- The second is the first after one entry more: the timetable after it, and versions raised where it is accepted and
 -- touches.
-pub record HasTaken (r : Snapshot) (e : Tried) (s : Snapshot) : Type 0 where
+pub record HasTaken (r : ReplicaState) (e : Tried) (s : ReplicaState) : Type 0 where
   pub base : s.base ≡ r.base
   pub worker : s.worker ≡ r.worker
   pub last : s.last ≡ r.last

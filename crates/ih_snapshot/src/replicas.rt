@@ -39,10 +39,10 @@ pub struct Replica<'a, E: Logged = Entry> {
 
 impl<'a, E: Logged> Model for Replica<'a, E> {
     ghost use Rattle.std.specs.Prelude.{◌≤◌};
-    ghost use Rattle.ih_cellbook.specs.{Keeping.base_with, Snapshot.Snapshot};
+    ghost use Rattle.ih_cellbook.specs.{Keeping.base_with, ReplicaState.ReplicaState};
     ghost use Rattle.ih_snapshot.specs.Keeping.{IsOfBase};
 
-    ghost Value = { Snapshot };
+    ghost Value = { ReplicaState };
 
     ghost view = { λ r. record {
       base = base_with r.inst.now.draft r.start r.options r.freeze;

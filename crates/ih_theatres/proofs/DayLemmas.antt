@@ -10,7 +10,7 @@ use Rattle.std.proofs.lemmas.List.Sums.{sum_by-cons}
 use Rattle.std.proofs.Math.Bool.{or-false}
 use Rattle.ih_tables.specs.declared.drafts.Draft.{Draft}
 use Rattle.ih_tables.specs.Sizes.{patient_count}
-use Rattle.ih_links.specs.Lists.{Linked, AreNodes, IsOnce, list_of, has, without, is_at}
+use Rattle.ih_links.specs.Lists.{LinksState, AreNodes, IsOnce, list_of, has, without, is_at}
 use Rattle.ih_links.proofs.Members.{has-append, has-here, has-there, has-cases, has-without_self, has-without_other, once-append, once-without, apart}
 use Rattle.ih_plan.specs.Sums.{sum_below, which_below}
 use Rattle.ih_plan.specs.Costs.{is_empty}
@@ -39,7 +39,7 @@ nodes-without {n} {xs} p known = record {
 
 -- ---- the lists of all days
 
-module _ {I : Draft} {n : ℕ} {day : ℕ → Option ℕ} {v : Linked} (a : AreDays I n day v) where
+module _ {I : Draft} {n : ℕ} {day : ℕ → Option ℕ} {v : LinksState} (a : AreDays I n day v) where
   -- who has no day is in no list
   pub days-free : (p : ℕ) → day p ≡ None → (h : ℕ) → has p (list_of v h) ≡ false
   days-free p none h = a.each h p ∙ ap (is_at h) none
@@ -56,7 +56,7 @@ module _ {I : Draft} {n : ℕ} {day : ℕ → Option ℕ} {v : Linked} (a : AreD
   pub days-linked : (p h : ℕ) → day p ≡ Some h → (g : ℕ) × (has p (list_of v g) ≡ true)
   days-linked p h some = (h, days-there p h some)
 
-  module _ {later : ℕ → Option ℕ} {w : Linked} (p : ℕ) (others : (x : ℕ) → (x ≡ p → ⊥) → later x ≡ day x) (nodes : w.nodes ≡ v.nodes) where
+  module _ {later : ℕ → Option ℕ} {w : LinksState} (p : ℕ) (others : (x : ℕ) → (x ≡ p → ⊥) → later x ≡ day x) (nodes : w.nodes ≡ v.nodes) where
     -- a patient enters one of the days
     pub days-entered : (h : ℕ) → p < patient_count I → h < n * I.days → day p ≡ None → later p ≡ Some h → w.lists ≡ slice_set v.lists h (list_of v h ++ p ∷ []) → AreDays I n later w
     days-entered h inside below none some lists = record {

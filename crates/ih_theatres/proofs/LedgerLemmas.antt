@@ -13,7 +13,7 @@ use Rattle.ih_tables.specs.declared.ids.PatientNo.{PatientNo}
 use Rattle.ih_tables.specs.declared.ids.TheatreNo.{TheatreNo}
 use Rattle.ih_tables.specs.Sizes.{patient_count, theatre_count, surgeon_count}
 use Rattle.ih_tables.specs.Valid.{IsValid, IsPatient}
-use Rattle.ih_links.specs.Lists.{Linked, list_of, has, without, is_at}
+use Rattle.ih_links.specs.Lists.{LinksState, list_of, has, without, is_at}
 use Rattle.ih_plan.specs.declared.moves.Placement.{Placement}
 use Rattle.ih_plan.specs.declared.moves.Write.TheVariants.{SetStay}
 use Rattle.ih_plan.specs.Timetable.{Timetable, empty, stay_of, IsPlacement}
@@ -53,7 +53,7 @@ nowhere : (n : ℕ) → replicate n None ≡ map theatre_in (replicate n None)
 nowhere zero = refl
 nowhere (suc n) = ap (λ ts. None ∷ ts) (nowhere n)
 
-days-none : (I : Draft) (n : ℕ) (day : ℕ → Option ℕ) (v : Linked) → ((x : ℕ) → day x ≡ None) → v.lists ≡ replicate (n * I.days) [] → v.nodes ≡ patient_count I → AreDays I n day v
+days-none : (I : Draft) (n : ℕ) (day : ℕ → Option ℕ) (v : LinksState) → ((x : ℕ) → day x ≡ None) → v.lists ≡ replicate (n * I.days) [] → v.nodes ≡ patient_count I → AreDays I n day v
 days-none I n day v none lists nodes = record {
   heads = ap length lists ∙ length-replicate (n * I.days) [];
   nodes = nodes;

@@ -7,7 +7,7 @@ use Rattle.std.proofs.lemmas.Bool.{cases_eq}
 use Rattle.ih_tables.specs.declared.drafts.Draft.{Draft}
 use Rattle.ih_tables.specs.Sizes.{patient_count}
 use Rattle.ih_tables.specs.Valid.{IsValid}
-use Rattle.ih_links.specs.Lists.{Linked, list_of, without}
+use Rattle.ih_links.specs.Lists.{LinksState, list_of, without}
 use Rattle.ih_plan.specs.Costs.{duration_of, minutes}
 use Rattle.ih_plan.proofs.ReadLemmas.{index-copies}
 use Rattle.ih_theatres.specs.Days.{AreDays, AreMinutes}
@@ -16,13 +16,13 @@ use Rattle.ih_theatres.proofs.DayLemmas.{nodes-append, days-free, days-there, da
 use Rattle.ih_theatres.proofs.OtherPatients.{minutes-there, minutes-away, more-minutes}
 
 -- nobody is in any list
-pub minutes-none : (I : Draft) (n : ℕ) (v : Linked) (kept : List ℕ) → v.lists ≡ replicate n [] → kept ≡ replicate n 0 → AreMinutes I v kept
+pub minutes-none : (I : Draft) (n : ℕ) (v : LinksState) (kept : List ℕ) → v.lists ≡ replicate n [] → kept ≡ replicate n 0 → AreMinutes I v kept
 minutes-none I n v kept lists zeros = record {
   len = ap length zeros ∙ (length-replicate n 0 ∙ sym (ap length lists ∙ length-replicate n []));
   sums = λ h. ap (λ ms. slice_index ms h) zeros ∙ (index-copies n h 0 ∙ sym (ap (λ ls. minutes I (slice_index_or ls h [])) lists ∙ ap (minutes I) (index-copies n h [])));
 }
 
-module _ {I : Draft} {n : ℕ} {day : ℕ → Option ℕ} {v : Linked} {kept : List ℕ} (days : AreDays I n day v) (a : AreMinutes I v kept) (h : ℕ) (below : h < n * I.days) where
+module _ {I : Draft} {n : ℕ} {day : ℕ → Option ℕ} {v : LinksState} {kept : List ℕ} (days : AreDays I n day v) (a : AreMinutes I v kept) (h : ℕ) (below : h < n * I.days) where
   pub kept-below : h < length kept
   kept-below = let e = a.len ∙ days.heads in omega arith
 
@@ -55,7 +55,7 @@ module _ {I : Draft} {n : ℕ} {day : ℕ → Option ℕ} {v : Linked} {kept : L
           omega arith
 
       -- a patient enters the list
-      pub minutes-entered : {w : Linked} {later : List ℕ} → w.lists ≡ slice_set v.lists h (list_of v h ++ p ∷ []) → later ≡ slice_set kept h (x + d) → AreMinutes I w later
+      pub minutes-entered : {w : LinksState} {later : List ℕ} → w.lists ≡ slice_set v.lists h (list_of v h ++ p ∷ []) → later ≡ slice_set kept h (x + d) → AreMinutes I w later
       minutes-entered {w} {later} lists added = record {
         len = ap length added ∙ (length-set kept h (x + d) ∙ (a.len ∙ sym (ap length lists ∙ length-set v.lists h (list_of v h ++ p ∷ []))));
         sums = λ g. ap (λ ms. slice_index ms g) added ∙ (elim (cases_eq g h) [
@@ -71,7 +71,7 @@ module _ {I : Draft} {n : ℕ} {day : ℕ → Option ℕ} {v : Linked} {kept : L
               get_or-set_same kept h (x + d) 0 kept-below ∙ omega arith
 
       -- a patient leaves the list
-      pub minutes-left : {w : Linked} {later : List ℕ} → day p ≡ Some h → w.lists ≡ map (without p) v.lists → later ≡ slice_set kept h (x - d) → AreMinutes I w later
+      pub minutes-left : {w : LinksState} {later : List ℕ} → day p ≡ Some h → w.lists ≡ map (without p) v.lists → later ≡ slice_set kept h (x - d) → AreMinutes I w later
       minutes-left {w} {later} some lists taken = record {
         len = ap length taken ∙ (length-set kept h (x - d) ∙ (a.len ∙ sym (ap length lists ∙ length-map v.lists (without p))));
         sums = λ g. ap (λ ms. slice_index ms g) taken ∙ (elim (cases_eq g h) [

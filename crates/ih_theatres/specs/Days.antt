@@ -3,7 +3,7 @@ use Rattle.std.specs.Prelude.{◌≡◌, ℕ, ◌+◌, ◌*◌, List, Option, So
 use Rattle.ih_tables.specs.declared.drafts.Draft.{Draft}
 use Rattle.ih_tables.specs.declared.ids.TheatreNo.{TheatreNo}
 use Rattle.ih_tables.specs.Sizes.{patient_count}
-use Rattle.ih_links.specs.Lists.{AreNodes, Linked, list_of, has, is_at}
+use Rattle.ih_links.specs.Lists.{AreNodes, LinksState, list_of, has, is_at}
 use Rattle.ih_plan.specs.declared.moves.Placement.{Placement}
 use Rattle.ih_plan.specs.Costs.{minutes}
 
@@ -24,14 +24,14 @@ surgeon_day I (Some s) (Some at) = Some (day_number I s at.day.0)
 
 -- There is a list of patients for each day of n theatres or surgeons,
 -- and each patient is in the list of the patient's day, once, and in no other.
-pub record AreDays (I : Draft) (n : ℕ) (day : ℕ → Option ℕ) (v : Linked) : Type 0 where
+pub record AreDays (I : Draft) (n : ℕ) (day : ℕ → Option ℕ) (v : LinksState) : Type 0 where
   pub heads : length v.lists ≡ n * I.days
   pub nodes : v.nodes ≡ patient_count I
   pub each : (h x : ℕ) → has x (list_of v h) ≡ is_at h (day x)
   pub known : (h : ℕ) → AreNodes (patient_count I) (list_of v h)
 
 -- For each list, the minutes of surgery of its patients.
-pub record AreMinutes (I : Draft) (v : Linked) (kept : List ℕ) : Type 0 where
+pub record AreMinutes (I : Draft) (v : LinksState) (kept : List ℕ) : Type 0 where
   pub len : length kept ≡ length v.lists
   pub sums : (h : ℕ) → slice_index kept h ≡ minutes I (list_of v h)
 

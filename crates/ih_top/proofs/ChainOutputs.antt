@@ -16,7 +16,7 @@ use Rattle.ih_cellbook.proofs.Unfrozen.{none-before}
 use Rattle.ih_chain.specs.declared.entries.ChainEntry.{ChainEntry}
 use Rattle.ih_chain.specs.Entries.{chain_tried, chain_tries}
 use Rattle.ih_chain.specs.Texts.{chain_journal}
-use Rattle.ih_chain.specs.Runs.{IsRunOf, Ran, best_plan}
+use Rattle.ih_chain.specs.Runs.{IsRunOf, ChainRunState, best_plan}
 use Rattle.ih_solution.specs.Solution.{solution}
 use Rattle.ih_top.specs.declared.output.BestOutput.{BestOutput}
 use Rattle.ih_top.specs.declared.output.Output.{Output}
@@ -40,7 +40,7 @@ run-agrees b H free k = agrees-free b (plan_at b (chain_tries H) k) free
 
 -- ---- its best
 
-run-best : (b : Base) (each : ℕ) (r : Ran) (best : Option BestOutput) → IsRunOf b each r
+run-best : (b : Base) (each : ℕ) (r : ChainRunState) (best : Option BestOutput) → IsRunOf b each r
     → IsBestOfRun b.instance r.best r.plan (length r.entries) best → HasBestOutput b (chain_tries r.entries) best
 run-best b each r best is said = by_case r.best r.plan best is.best is.plan said
   where
@@ -66,7 +66,7 @@ run-best b each r best is said = by_case r.best r.plan best is.best is.plan said
 -- ---- all that it makes
 
 -- with nothing frozen
-chain-made : (I : Draft) (P : Timetable) (o : Options) (freeze each : ℕ) (r : Ran) (out : Output) → IsPlanOf I P → IsLawful o → o.seed < 2 ^ 64
+chain-made : (I : Draft) (P : Timetable) (o : Options) (freeze each : ℕ) (r : ChainRunState) (out : Output) → IsPlanOf I P → IsLawful o → o.seed < 2 ^ 64
     → freeze ≡ 0 → IsRunOf (base_with I P o 0) each r → out.journal.items ≡ chain_journal r.options r.each r.entries
     → IsBestOfRun I r.best r.plan (length r.entries) out.best → IsOutput (of_chains each) (base_with I P o freeze) out
 chain-made I P o freeze each r out fits lawful seed free is journal best =
@@ -81,7 +81,7 @@ chain-made I P o freeze each r out fits lawful seed free is journal best =
     })
 
 -- the same where memory may have run out
-pub chain-result : {E : Type 0} (I : Draft) (P : Timetable) (o : Options) (freeze each : ℕ) (r : Ran) (made : Result Output E) → IsPlanOf I P
+pub chain-result : {E : Type 0} (I : Draft) (P : Timetable) (o : Options) (freeze each : ℕ) (r : ChainRunState) (made : Result Output E) → IsPlanOf I P
     → IsLawful o → o.seed < 2 ^ 64 → freeze ≡ 0 → IsRunOf (base_with I P o 0) each r
     → IfOk made (λ out. out.journal.items ≡ chain_journal r.options r.each r.entries)
     → IfOk made (λ out. IsBestOfRun I r.best r.plan (length r.entries) out.best)

@@ -31,5 +31,5 @@ pub use laws::{
     whole_lines_are_salvaged,
 };
 pub use limits::MAX_JOURNAL;
-pub use rounds_output::search_at_desk;
+pub use rounds_output::history_at_desk;
 pub use running::run;

@@ -76,7 +76,7 @@ fn best_of_rounds(
 }
 
 /// The history of one search at a desk, in which nothing is frozen.
-pub fn search_at_desk<R: Threads + Wait + Sync, G: Gate>(
+pub fn history_at_desk<R: Threads + Wait + Sync, G: Gate>(
     rt: &R,
     alloc: Global,
     inst: &Instance,
@@ -123,7 +123,7 @@ pub fn make_rounds_output<R: Threads + Wait + Sync, G: Gate>(
     >
         requires { IsPlanOf inst.now.draft start.now × IsLawful options.now }
         ensures { IfOk result (λ v. IsFullFrom inst.entry.now.draft start.entry.now options.entry.now v.items) }
-    { search_at_desk(rt, alloc, inst, start, options, gate) };
+    { history_at_desk(rt, alloc, inst, start, options, gate) };
     let mut journal = Vec::new(alloc);
     let end = rounds_by(
         rt,

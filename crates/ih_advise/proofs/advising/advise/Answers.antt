@@ -2,7 +2,7 @@ use Rattle.std.proofs.Common.{◌∙◌, sym, ap, length}
 use Rattle.std.specs.Prelude.{filter_map}
 use Rattle.std.specs.Int.{div_ceil}
 use Rattle.std.proofs.lemmas.Result.{IfOk-weaker}
-use Rattle.ih_fill.specs.Scoring.{Scoring}
+use Rattle.ih_fill.specs.ScorerState.{ScorerState}
 use Rattle.ih_advise.specs.Advising.{advice_on}
 use Rattle.ih_advise.proofs.Places.{all-ready}
 use Rattle.ih_advise.proofs.advising.advise.Goals as goal
@@ -20,6 +20,6 @@ returns g c =
     let I = c.args.inst.now.draft in
     IfOk-weaker c.advise_by.result _ _
     (λ v same. same
-    ∙ (ap (λ (F : Scoring). filter_map (advice_on I F.hard F.plan) c.as_slice.result.now) c.in_ok-scorer.ensures
+    ∙ (ap (λ (F : ScorerState). filter_map (advice_on I F.hard F.plan) c.as_slice.result.now) c.in_ok-scorer.ensures
     ∙ ap (filter_map (advice_on I c.args.hard c.args.plan.now)) (c.as_slice.ensures.value ∙ c.in_ok-choices.ensures.all)))
     c.advise_by.ensures

@@ -5,7 +5,7 @@ use Rattle.ih_plan.specs.declared.moves.Write.{Write}
 use Rattle.ih_plan.specs.declared.moves.Write.TheVariants.{SetStay}
 use Rattle.ih_fill.specs.declared.candidates.Candidate.{Candidate}
 use Rattle.ih_fill.specs.Candidates.{cheapest, stay_writes, valued}
-use Rattle.ih_fill.specs.Scoring.{stay_value}
+use Rattle.ih_fill.specs.ScorerState.{stay_value}
 use Rattle.ih_fill.specs.declared.choices.Choice.{Choice}
 use Rattle.ih_advise.specs.Advising.{best_of, best_write, value_of}
 use Rattle.ih_advise.proofs.Choices.{stay-whole}

@@ -4,7 +4,7 @@ use Rattle.ih_plan.specs.declared.moves.Write.{Write}
 use Rattle.ih_plan.specs.Sums.{is_listed}
 use Rattle.ih_plan.specs.Expand.{expand}
 use Rattle.ih_plan.specs.Cells.{IsCellIn}
-use Rattle.ih_footprint.specs.Gathered.{Gathers}
+use Rattle.ih_footprint.specs.CellsState.{Gathers}
 use Rattle.ih_footprint.proofs.LookLemmas.{looks-inside}
 use Rattle.ih_costs.specs.CellLedgers.{timetable_of}
 use Rattle.ih_costs.specs.AtOnce.{touch_at_once}

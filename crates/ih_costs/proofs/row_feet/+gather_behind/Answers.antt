@@ -3,7 +3,7 @@ use Rattle.std.proofs.lemmas.List.{nil_from_length}
 use Rattle.ih_plan.specs.declared.moves.Write.{Write}
 use Rattle.ih_plan.specs.Timetable.{Timetable}
 use Rattle.ih_plan.specs.Writes.{put, put_all}
-use Rattle.ih_footprint.specs.Gathered.{Gathers}
+use Rattle.ih_footprint.specs.CellsState.{Gathers}
 use Rattle.ih_plan.specs.Series.{AreMoves, all_touch}
 use Rattle.ih_costs.specs.CellLedgers.{timetable_of}
 use Rattle.ih_costs.proofs.RowLemmas.{alone, gathers-behind, gathers-no-moves, gathers-one-move}

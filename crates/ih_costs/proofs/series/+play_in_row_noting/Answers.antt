@@ -3,7 +3,7 @@ use Rattle.std.proofs.lemmas.List.{nil_from_length}
 use Rattle.ih_plan.specs.declared.moves.Move.{Move}
 use Rattle.ih_plan.specs.Writes.{put_all}
 use Rattle.ih_plan.specs.Expand.{after, expand}
-use Rattle.ih_footprint.specs.Gathered.{Gathers}
+use Rattle.ih_footprint.specs.CellsState.{Gathers}
 use Rattle.ih_plan.specs.Series.{after_all, all_touch}
 use Rattle.ih_costs.specs.CellLedgers.{AreLedgersOf, timetable_of}
 use Rattle.ih_costs.proofs.RowLemmas.{after-none, after-more, gathers-no-moves, gathers-more-moves}

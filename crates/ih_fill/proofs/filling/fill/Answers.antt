@@ -1,7 +1,7 @@
 use Rattle.std.proofs.Common.{◌≡◌, ◌∙◌, sym, ap, subst}
 use Rattle.std.proofs.lemmas.Result.{IfOk-weaker}
 use Rattle.ih_plan.specs.Timetable.{IsPlanOf}
-use Rattle.ih_fill.specs.Scoring.{Scoring}
+use Rattle.ih_fill.specs.ScorerState.{ScorerState}
 use Rattle.ih_fill.proofs.PassLemmas.{fill-made}
 use Rattle.ih_fill.proofs.filling.fill.Goals as goal
 
@@ -15,6 +15,6 @@ pub returns-clause-fits : goal.returns-clause-fits
 returns-clause-fits c =
     let end = c.make_all.new.scorer in
     let instance : end.instance ≡ c.args.inst.now.draft =
-    ap (λ (f : Scoring). f.instance) c.make_all.ensures ∙ ap (λ (f : Scoring). f.instance) c.in_ok-scorer.ensures in
+    ap (λ (f : ScorerState). f.instance) c.make_all.ensures ∙ ap (λ (f : ScorerState). f.instance) c.in_ok-scorer.ensures in
     let fits = subst (λ I. IsPlanOf I end.plan) instance c.plan.ensures.fits in
     IfOk-weaker c.try_clone.result _ _ (λ p same. subst (λ P. IsPlanOf c.args.inst.now.draft P) (sym (same ∙ c.plan.ensures.value)) fits) c.try_clone.ensures

@@ -4,7 +4,7 @@ use Rattle.ih_plan.specs.Timetable.{Timetable}
 use Rattle.ih_fill.specs.Candidates.{least_of}
 use Rattle.ih_fill.specs.Choices.{candidates}
 use Rattle.ih_fill.specs.Fill.{is_open, with_choice}
-use Rattle.ih_fill.specs.Scoring.{value_in}
+use Rattle.ih_fill.specs.ScorerState.{value_in}
 use Rattle.ih_fill.proofs.PassLemmas.{choice-made, choice-closed}
 use Rattle.ih_fill.proofs.making.make_choice.Goals as goal
 

@@ -8,7 +8,7 @@ use Rattle.ih_plan.specs.declared.moves.Write.TheVariants.{SetCare}
 use Rattle.ih_plan.specs.Writes.{IsWriteOf}
 use Rattle.ih_fill.specs.declared.candidates.Candidate.{Candidate}
 use Rattle.ih_fill.specs.Candidates.{valued, least_of}
-use Rattle.ih_fill.specs.Scoring.{care_value}
+use Rattle.ih_fill.specs.ScorerState.{care_value}
 use Rattle.ih_fill.proofs.CandidateLemmas.{next-of, least_with, cheaper-either, care-fits}
 use Rattle.ih_fill.proofs.ListLemmas.{nurse-more, nurse-same}
 use Rattle.ih_fill.proofs.nurses.cheapest_nurse.Goals as goal

@@ -4,7 +4,7 @@ use Rattle.ih_tables.specs.Works.{first_nurses, is_working}
 use Rattle.ih_plan.specs.declared.moves.Write.TheVariants.{SetCare}
 use Rattle.ih_plan.specs.Writes.{IsWriteOf}
 use Rattle.ih_fill.specs.Candidates.{least_of}
-use Rattle.ih_fill.specs.Scoring.{care_value}
+use Rattle.ih_fill.specs.ScorerState.{care_value}
 use Rattle.ih_fill.proofs.nurses.cheapest_nurse.Given as goal
 
 abbrev pub invariant-loop-n : goal.invariant-loop-n

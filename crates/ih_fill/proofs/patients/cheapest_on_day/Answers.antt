@@ -6,7 +6,7 @@ use Rattle.ih_plan.specs.declared.moves.Write.TheVariants.{SetStay}
 use Rattle.ih_plan.specs.Writes.{IsWriteOf}
 use Rattle.ih_fill.specs.declared.candidates.Candidate.{Candidate}
 use Rattle.ih_fill.specs.Candidates.{cheapest, rooms_for, stays_in, suits, valued}
-use Rattle.ih_fill.specs.Scoring.{stay_value}
+use Rattle.ih_fill.specs.ScorerState.{stay_value}
 use Rattle.ih_fill.proofs.CandidateLemmas.{then-least, cheaper-either, stay-fits}
 use Rattle.ih_fill.proofs.FirstLeast.{first-counts}
 use Rattle.ih_fill.proofs.TheatreLemmas.{cheaper-one, no-stays, theatre-inside}

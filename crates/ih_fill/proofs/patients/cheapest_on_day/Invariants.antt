@@ -1,6 +1,6 @@
 use Rattle.std.proofs.Common.{◌≡◌}
 use Rattle.ih_plan.specs.Writes.{IsWriteOf}
-use Rattle.ih_fill.specs.Scoring.{stay_value}
+use Rattle.ih_fill.specs.ScorerState.{stay_value}
 use Rattle.ih_fill.specs.Candidates.{cheapest, valued, stays_on}
 use Rattle.ih_fill.proofs.patients.cheapest_on_day.Given as goal
 

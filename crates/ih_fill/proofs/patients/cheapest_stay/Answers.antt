@@ -5,7 +5,7 @@ use Rattle.ih_tables.specs.Sizes.{room_count}
 use Rattle.ih_plan.specs.declared.moves.Write.{Write}
 use Rattle.ih_plan.specs.Draws.{window_len}
 use Rattle.ih_fill.specs.Candidates.{cheapest, valued, stays_on}
-use Rattle.ih_fill.specs.Scoring.{stay_value}
+use Rattle.ih_fill.specs.ScorerState.{stay_value}
 use Rattle.ih_fill.proofs.CandidateLemmas.{then-least}
 use Rattle.ih_fill.proofs.ListLemmas.{flat-more, stays-are}
 use Rattle.ih_fill.proofs.patients.cheapest_stay.Goals as goal

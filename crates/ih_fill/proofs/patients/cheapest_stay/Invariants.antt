@@ -3,7 +3,7 @@ use Rattle.std.specs.List.{range_with_len}
 use Rattle.ih_tables.specs.Sizes.{room_count}
 use Rattle.std.proofs.Common.{◌≡◌}
 use Rattle.ih_plan.specs.Writes.{IsWriteOf}
-use Rattle.ih_fill.specs.Scoring.{stay_value}
+use Rattle.ih_fill.specs.ScorerState.{stay_value}
 use Rattle.ih_fill.specs.Candidates.{cheapest, valued, stays_on}
 use Rattle.ih_fill.proofs.patients.cheapest_stay.Given as goal
 

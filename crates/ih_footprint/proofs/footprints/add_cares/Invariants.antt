@@ -1,4 +1,4 @@
-use Rattle.ih_footprint.specs.Gathered.{Gathers}
+use Rattle.ih_footprint.specs.CellsState.{Gathers}
 use Rattle.std.proofs.Common.{take}
 use Rattle.ih_footprint.specs.Pieces.{in_cares}
 use Rattle.ih_footprint.proofs.footprints.add_cares.Given as goal

@@ -1,4 +1,4 @@
-use Rattle.ih_footprint.specs.Gathered.{Gathers}
+use Rattle.ih_footprint.specs.CellsState.{Gathers}
 use Rattle.ih_footprint.specs.Pieces.{in_nurse_shifts}
 use Rattle.ih_footprint.proofs.footprints.add_nurse_shifts.Given as goal
 

@@ -1,6 +1,6 @@
 use Rattle.std.proofs.Common.{subst}
 use Rattle.ih_plan.specs.Cells.{IsCellIn}
-use Rattle.ih_footprint.specs.Gathered.{Gathers}
+use Rattle.ih_footprint.specs.CellsState.{Gathers}
 use Rattle.ih_footprint.specs.Pieces.{in_days}
 use Rattle.ih_footprint.proofs.GatherLemmas.{gathers-like, gathers-both}
 use Rattle.ih_footprint.proofs.FootLemmas.{placement-pieces}

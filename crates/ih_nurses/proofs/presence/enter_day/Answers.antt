@@ -1,5 +1,5 @@
 use Rattle.std.proofs.Common.{arith, refl, ◌<◌, length, slice_index_or}
-use Rattle.ih_links.specs.Lists.{Linked}
+use Rattle.ih_links.specs.Lists.{LinksState}
 use Rattle.ih_nurses.proofs.HereLemmas.{free-lists, entered, read-here}
 use Rattle.ih_nurses.proofs.presence.enter_day.Goals as goal
 
@@ -12,7 +12,7 @@ push_back-requires-clause-free c =
 pub returns-clause-each : goal.returns-clause-each
 returns-clause-each c =
     let days = c.requires.sized.days in
-    let old : Linked = slice_index_or c.args.here.now c.args.d c.index-here-d.result in
+    let old : LinksState = slice_index_or c.args.here.now c.args.d c.index-here-d.result in
     let inside : c.args.d < length c.args.here.now = omega arith in
     let rooms = c.requires.sized.rooms c.args.d c.requires.day in
     let room : c.args.r.0 < length old.lists = rw (← read-here c.args.here.now c.args.d c.index-here-d.result old old inside refl, rooms) c.requires.room in

@@ -5,7 +5,7 @@ use Rattle.ih_plan.specs.Writes.{IsWriteOf}
 use Rattle.ih_fill.specs.Candidates.{least_of}
 use Rattle.ih_fill.specs.Choices.{candidates}
 use Rattle.ih_fill.specs.Fill.{is_open, with_choice}
-use Rattle.ih_fill.specs.Scoring.{value_in}
+use Rattle.ih_fill.specs.ScorerState.{value_in}
 use Rattle.ih_fill.proofs.PassLemmas.{choice-made, choice-closed}
 use Rattle.ih_parfill.proofs.Least.{as-many, least-none, least-found}
 use Rattle.ih_parfill.proofs.filling.make_dealt.Goals as goal

@@ -6,7 +6,7 @@ use Rattle.ih_tables.specs.Works.{first_nurses, is_working}
 use Rattle.ih_plan.specs.declared.moves.Write.{Write}
 use Rattle.ih_plan.specs.declared.moves.Write.TheVariants.{SetCare}
 use Rattle.ih_fill.specs.Candidates.{care_writes}
-use Rattle.ih_fill.specs.Scoring.{care_value}
+use Rattle.ih_fill.specs.ScorerState.{care_value}
 use Rattle.ih_fill.proofs.CandidateLemmas.{care-fits}
 use Rattle.ih_fill.proofs.ListLemmas.{nurse-more, nurse-same}
 use Rattle.ih_parfill.specs.declared.walkers.Walker.{Walker}

@@ -2,7 +2,7 @@ use Rattle.std.proofs.Common.{◌≡◌, ◌≤◌, Some, map}
 use Rattle.std.specs.Prelude.{filter}
 use Rattle.ih_tables.specs.Works.{first_nurses, is_working}
 use Rattle.ih_plan.specs.declared.moves.Write.TheVariants.{SetCare}
-use Rattle.ih_fill.specs.Scoring.{care_value}
+use Rattle.ih_fill.specs.ScorerState.{care_value}
 use Rattle.ih_parfill.specs.Shares.{HasLooked}
 use Rattle.ih_parfill.proofs.nurses.least_nurse_of_share.Given as goal
 

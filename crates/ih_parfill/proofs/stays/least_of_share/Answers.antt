@@ -7,7 +7,7 @@ use Rattle.ih_plan.specs.declared.moves.Write.{Write}
 use Rattle.ih_plan.specs.declared.moves.Write.TheVariants.{SetStay}
 use Rattle.ih_plan.specs.Draws.{window_len}
 use Rattle.ih_fill.specs.Candidates.{stay_writes, stays_on}
-use Rattle.ih_fill.specs.Scoring.{stay_value}
+use Rattle.ih_fill.specs.ScorerState.{stay_value}
 use Rattle.ih_fill.proofs.ListLemmas.{flat-more, stays-are}
 use Rattle.ih_parfill.specs.declared.walkers.Walker.{Walker}
 use Rattle.ih_parfill.specs.Shares.{HasLooked}

@@ -1,7 +1,7 @@
 use Rattle.std.proofs.Common.{[]}
 use Rattle.ih_plan.specs.declared.moves.Write.TheVariants.{SetStay}
 use Rattle.std.proofs.Common.{None}
-use Rattle.ih_fill.specs.Scoring.{stay_value}
+use Rattle.ih_fill.specs.ScorerState.{stay_value}
 use Rattle.ih_fill.proofs.CandidateLemmas.{out-fits}
 use Rattle.ih_parfill.proofs.Least.{looked-none}
 use Rattle.ih_parfill.proofs.stays.look_at_none.Goals as goal

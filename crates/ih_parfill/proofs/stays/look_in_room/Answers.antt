@@ -4,7 +4,7 @@ use Rattle.ih_tables.specs.Sizes.{theatre_count}
 use Rattle.ih_plan.specs.declared.moves.Write.{Write}
 use Rattle.ih_plan.specs.declared.moves.Write.TheVariants.{SetStay}
 use Rattle.ih_fill.specs.Candidates.{stays_in}
-use Rattle.ih_fill.specs.Scoring.{stay_value}
+use Rattle.ih_fill.specs.ScorerState.{stay_value}
 use Rattle.ih_fill.proofs.CandidateLemmas.{stay-fits}
 use Rattle.ih_parfill.specs.Shares.{HasLooked}
 use Rattle.ih_parfill.specs.declared.walkers.Walker.{Walker}

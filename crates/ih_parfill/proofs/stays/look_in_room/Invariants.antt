@@ -1,7 +1,7 @@
 use Rattle.std.proofs.Common.{◌≡◌, ◌+◌, ◌++◌, List}
 use Rattle.ih_plan.specs.declared.moves.Write.{Write}
 use Rattle.ih_fill.specs.Candidates.{stays_in}
-use Rattle.ih_fill.specs.Scoring.{stay_value}
+use Rattle.ih_fill.specs.ScorerState.{stay_value}
 use Rattle.ih_parfill.specs.Shares.{HasLooked}
 use Rattle.ih_parfill.proofs.stays.look_in_room.Given as goal
 

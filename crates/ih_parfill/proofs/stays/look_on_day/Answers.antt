@@ -3,7 +3,7 @@ use Rattle.std.proofs.lemmas.List.{append-nil}
 use Rattle.ih_tables.specs.Sizes.{theatre_count}
 use Rattle.ih_plan.specs.declared.moves.Write.{Write}
 use Rattle.ih_fill.specs.Candidates.{stays_in, stays_on, suits}
-use Rattle.ih_fill.specs.Scoring.{stay_value}
+use Rattle.ih_fill.specs.ScorerState.{stay_value}
 use Rattle.ih_parfill.specs.Shares.{HasLooked}
 use Rattle.ih_parfill.proofs.CandidateLists.{room-more, room-same}
 use Rattle.ih_parfill.proofs.stays.look_on_day.Goals as goal

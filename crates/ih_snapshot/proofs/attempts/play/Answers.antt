@@ -2,7 +2,7 @@ use Rattle.ih_plan.specs.Series.{footprint_of_all}
 use Rattle.std.proofs.Common.{◌≡◌, ◌+◌, ◌∙◌, arith, ap}
 use Rattle.std.specs.Prelude.{slice_index}
 use Rattle.ih_cellbook.specs.Counters.{times_read}
-use Rattle.ih_cellbook.specs.Noted.{Noted}
+use Rattle.ih_cellbook.specs.ReadsState.{ReadsState}
 use Rattle.ih_snapshot.specs.Noting.{times_listed}
 use Rattle.ih_snapshot.proofs.Touching.{keys, foot-below, foot-short, foot-times, reads-below, reads-short, reads-times}
 use Rattle.ih_snapshot.proofs.attempts.play.Goals as goal
@@ -43,7 +43,7 @@ returns-then-is_own-clause-each g c n h =
     let own : keys (g.E.Offer.Offers.offered c.args.last.now).reads.pairs ≡ footprint_of_all v.instance v.plan (g.E.Logged.tried c.args.entry.now).moves = c.requires.own same.0 same.1 same.2 in
     c.raise_read.ensures.each n
     ∙ ap (λ k. slice_index c.args.versions.now n + k)
-    (ap (times_read n) (c.as_slice.ensures ∙ ap (λ (r : Noted). r.pairs) c.reads.ensures)
+    (ap (times_read n) (c.as_slice.ensures ∙ ap (λ (r : ReadsState). r.pairs) c.reads.ensures)
     ∙ reads-times v.instance v.plan (g.E.Logged.tried c.args.entry.now).moves (g.E.Offer.Offers.offered c.args.last.now).reads.pairs own n h)
 
 pub returns-else-is_own-clause-each : goal.returns-else-is_own-clause-each

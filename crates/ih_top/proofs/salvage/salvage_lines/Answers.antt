@@ -4,7 +4,7 @@ use Rattle.ih_journal.specs.declared.entries.Entry.{Entry}
 use Rattle.ih_journal.specs.Base.{Base}
 use Rattle.ih_journal.specs.Tried.{tried, tries}
 use Rattle.ih_journal.specs.Legal.{AreLegal}
-use Rattle.ih_replay.specs.Replayed.{Replayed}
+use Rattle.ih_replay.specs.ReplayState.{ReplayState}
 use Rattle.ih_top.specs.Outputs.{HasBestOutput}
 use Rattle.ih_desk.specs.Searching.{base_given}
 use Rattle.ih_top.proofs.TakenHistories.{salvaged-best, salvaged-lines}
@@ -12,12 +12,12 @@ use Rattle.ih_top.proofs.salvage.salvage_lines.Goals as goal
 
 pub best_of-requires-clause-legal : goal.best_of-requires-clause-legal
 best_of-requires-clause-legal c =
-    let same : c.take_lines.new.replay.base ≡ base_given c.args.given.now = c.take_lines.ensures.base ∙ ap (λ (r : Replayed). r.base) c.in_ok-replay.ensures in
+    let same : c.take_lines.new.replay.base ≡ base_given c.args.given.now = c.take_lines.ensures.base ∙ ap (λ (r : ReplayState). r.base) c.in_ok-replay.ensures in
     rw c.entries-entries.ensures.entries (subst (λ (b : Base). AreLegal b 1 (tries c.take_lines.new.replay.entries)) same c.entries-entries.ensures.legal)
 
 pub returns-in-Some : goal.returns-in-Some
 returns-in-Some c =
-    let same : c.take_lines.new.replay.base ≡ base_given c.args.given.now = c.take_lines.ensures.base ∙ ap (λ (r : Replayed). r.base) c.in_ok-replay.ensures in
+    let same : c.take_lines.new.replay.base ≡ base_given c.args.given.now = c.take_lines.ensures.base ∙ ap (λ (r : ReplayState). r.base) c.in_ok-replay.ensures in
     let begins = c.take_lines.ensures.begins in
     let best : HasBestOutput (base_given c.args.given.now) (tries c.take_lines.new.replay.entries) (Some c.in-Some.best) =
     subst (λ (H : List Entry). HasBestOutput (base_given c.args.given.now) (tries H) (Some c.in-Some.best)) c.entries-entries.ensures.entries
@@ -30,7 +30,7 @@ returns-in-Some c =
 
 pub returns : goal.returns
 returns c =
-    let same : c.take_lines.new.replay.base ≡ base_given c.args.given.now = c.take_lines.ensures.base ∙ ap (λ (r : Replayed). r.base) c.in_ok-replay.ensures in
+    let same : c.take_lines.new.replay.base ≡ base_given c.args.given.now = c.take_lines.ensures.base ∙ ap (λ (r : ReplayState). r.base) c.in_ok-replay.ensures in
     let begins = c.take_lines.ensures.begins in
     let none : HasBestOutput (base_given c.args.given.now) (tries c.take_lines.new.replay.entries) None =
     subst (λ (H : List Entry). HasBestOutput (base_given c.args.given.now) (tries H) None) c.entries-entries.ensures.entries

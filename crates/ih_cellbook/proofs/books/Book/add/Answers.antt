@@ -9,9 +9,9 @@ use Rattle.ih_journal.specs.Best.{best_with}
 use Rattle.ih_journal.specs.History.{is_accepted, plan_after}
 use Rattle.ih_cellbook.specs.Counters.{times_read}
 use Rattle.ih_cellbook.specs.Keeping.{base_with}
-use Rattle.ih_cellbook.specs.Noted.{Noted}
+use Rattle.ih_cellbook.specs.ReadsState.{ReadsState}
 use Rattle.ih_cellbook.specs.Offers.{IsJudged, entry_of, entry_with}
-use Rattle.ih_cellbook.specs.Recorded.{Recorded}
+use Rattle.ih_cellbook.specs.BookState.{BookState}
 use Rattle.ih_cellbook.proofs.BookKeeping.{IsAdding, accepted-in, accepted-rise, again-within, best-stays, bill_next, bill-next-in, exact-next, grown, has-room, history-short, kept-more, sum-small}
 use Rattle.ih_cellbook.proofs.books.Book.add.Given.{Over}
 use Rattle.ih_cellbook.proofs.books.Book.add.Goals.{After-deref_mut-parts}
@@ -25,7 +25,7 @@ adding g c = record {
   valid = c.deref_mut-parts.result.now.inst.now.valid;
   kept = rw (← c.deref_mut-parts.ensures.value) at c.self.invariant.0;
   judged = rw (← c.deref_mut-parts.ensures.value) at
-      (subst (λ (k : Recorded). IsJudged k.base k.entries (g.E.Offer.Offers.offered c.args.offer.now) c.args.verdict) (sym c.self.view_is) c.requires);
+      (subst (λ (k : BookState). IsJudged k.base k.entries (g.E.Offer.Offers.offered c.args.offer.now) c.args.verdict) (sym c.self.view_is) c.requires);
 }
 
 pub raise_where-requires-clause-reads : goal.raise_where-requires-clause-reads
@@ -104,7 +104,7 @@ invariant_of-self g c =
           (record {
             len = c.raise_where.ensures.len;
             counters = λ n. c.raise_where.ensures.each n
-                ∙ ap (λ (r : Noted). slice_index p.counters.items n + (if is_accepted c.args.verdict then times_read n r.pairs else 0)) c.reads.ensures;
+                ∙ ap (λ (r : ReadsState). slice_index p.counters.items n + (if is_accepted c.args.verdict then times_read n r.pairs else 0)) c.reads.ensures;
             again = ap (λ w. slice_set p.again.items w c.again_after.result) c.worker.ensures
                 ∙ ap (slice_set p.again.items o.worker)
                 (c.again_after.ensures o ∙ ap (λ n. (try_after p.options (Some (entry_with o n c.args.verdict))).again) c.again_of-again.ensures);
@@ -120,7 +120,7 @@ pub returns-clause-entries : goal.returns-clause-entries
 returns-clause-entries g c =
     let o = g.E.Offer.Offers.offered c.args.offer.now in
     let at = adding g (goal.at.returns-clause-entries g c).After-deref_mut-parts in
-    subst (λ (k : Recorded). map g.E.Logged.tried c.push_reserved.new.self.items ≡ k.entries ++ entry_of k.base k.entries o c.args.verdict ∷ [])
+    subst (λ (k : BookState). map g.E.Logged.tried c.push_reserved.new.self.items ≡ k.entries ++ entry_of k.base k.entries o c.args.verdict ∷ [])
     (rw (← c.deref_mut-parts.ensures.value) at c.self.view_is)
     (grown _ _ _ _ _ _ _ _ at g.E.Logged.tried _ _ _ _ refl c.push_reserved.ensures.items c.entry_from.ensures c.again_of-again.ensures)
 
@@ -129,7 +129,7 @@ returns-clause-exact g c =
     let o = g.E.Offer.Offers.offered c.args.offer.now in
     let at = adding g (goal.at.returns-clause-exact g c).After-deref_mut-parts in
     let grows = grown _ _ _ _ _ _ _ _ at g.E.Logged.tried _ _ _ _ refl c.push_reserved.ensures.items c.entry_from.ensures c.again_of-again.ensures in
-    subst (λ (k : Recorded). c.args.verdict ≡ Accepted
+    subst (λ (k : BookState). c.args.verdict ≡ Accepted
     → o.price ≡ change_of_bill k.base.instance (plan_after k.base k.entries) (plan_after k.base (map g.E.Logged.tried c.push_reserved.new.self.items)))
     (rw (← c.deref_mut-parts.ensures.value) at c.self.view_is)
     (rw grows (exact-next _ _ _ _ _ _ _ _ at))

@@ -1,5 +1,5 @@
 use Rattle.std.proofs.Common.{◌≡◌, ◌∙◌, ap, map, take, drop, List}
-use Rattle.ih_cellbook.specs.Copied.{Copied, most_copied}
+use Rattle.ih_cellbook.specs.BufferState.{BufferState, most_copied}
 use Rattle.ih_cellbook.proofs.Copies.{rest-copied}
 use Rattle.ih_journal.proofs.Mapped.{map-drop, map-take}
 use Rattle.ih_journal.specs.Tried.{Tried}
@@ -13,4 +13,4 @@ returns-clause-copied g c =
     ap (map g.E.Logged.tried) copied
     ∙ (map-take g.E.Logged.tried most_copied (drop c.args.from c.args.entries.now)
     ∙ ap (take most_copied) (map-drop g.E.Logged.tried c.args.from c.args.entries.now)) in
-    ap (λ (xs : List Tried). let copy : Copied = record { from = c.args.from; entries = xs; front = c.args.front } in copy) mapped
+    ap (λ (xs : List Tried). let copy : BufferState = record { from = c.args.from; entries = xs; front = c.args.front } in copy) mapped

@@ -1,8 +1,8 @@
 use Rattle.std.proofs.Common.{◌≡◌, subst}
-use Rattle.ih_cellbook.specs.Snapshot.{Snapshot}
+use Rattle.ih_cellbook.specs.ReplicaState.{ReplicaState}
 use Rattle.ih_snapshot.specs.Noting.{offer_of}
 use Rattle.ih_chain.proofs.replicas.ChainReplica.prepare_offer.Goals as goal
 
 pub returns-clause-made : goal.returns-clause-made
 returns-clause-made c =
-    subst (λ (s : Snapshot). c.prepare_offer.new.self ≡ record s { last = offer_of s c.args.number c.args.moves.now }) c.self.view_is c.prepare_offer.ensures.made
+    subst (λ (s : ReplicaState). c.prepare_offer.new.self ≡ record s { last = offer_of s c.args.number c.args.moves.now }) c.self.view_is c.prepare_offer.ensures.made

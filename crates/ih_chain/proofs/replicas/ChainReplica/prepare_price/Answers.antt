@@ -1,8 +1,8 @@
 use Rattle.std.proofs.Common.{◌≡◌, subst}
-use Rattle.ih_cellbook.specs.Snapshot.{Snapshot}
+use Rattle.ih_cellbook.specs.ReplicaState.{ReplicaState}
 use Rattle.ih_snapshot.specs.Noting.{priced_of}
 use Rattle.ih_chain.proofs.replicas.ChainReplica.prepare_price.Goals as goal
 
 pub returns-clause-made : goal.returns-clause-made
 returns-clause-made c =
-    subst (λ (s : Snapshot). c.prepare_price.new.self ≡ record s { last = priced_of s c.args.number c.args.moves.now }) c.self.view_is c.prepare_price.ensures.made
+    subst (λ (s : ReplicaState). c.prepare_price.new.self ≡ record s { last = priced_of s c.args.number c.args.moves.now }) c.self.view_is c.prepare_price.ensures.made

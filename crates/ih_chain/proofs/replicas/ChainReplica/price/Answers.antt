@@ -3,7 +3,7 @@ use Rattle.ih_tables.specs.Bills.{IsWithin}
 use Rattle.ih_cellbook.specs.Offered.{Offered}
 use Rattle.ih_cellbook.specs.Offers.{IsRightOffer}
 use Rattle.ih_cellbook.specs.Replicas.{IsReplicaOf, IsPricedAfter}
-use Rattle.ih_cellbook.specs.Snapshot.{Snapshot}
+use Rattle.ih_cellbook.specs.ReplicaState.{ReplicaState}
 use Rattle.ih_snapshot.specs.Noting.{priced_of}
 use Rattle.ih_snapshot.proofs.Pricing.{priced-after, priced-right, stands-priced}
 use Rattle.ih_chain.specs.Entries.{chain_offered}
@@ -15,13 +15,13 @@ returns c =
     let n = c.args.number in
     let m = c.args.moves.now in
     let priced = c.prepare_price.ensures.made in
-    let made : chain_offered c.last.result.now ≡ priced_of r n m = c.last.ensures ∙ ap (λ (s : Snapshot). s.last) priced in (
+    let made : chain_offered c.last.result.now ≡ priced_of r n m = c.last.ensures ∙ ap (λ (s : ReplicaState). s.last) priced in (
       (
         refl,
         λ x. tt,
         (
-          ap (λ (s : Snapshot). s.base) priced,
-          ap (λ (s : Snapshot). s.worker) priced,
+          ap (λ (s : ReplicaState). s.base) priced,
+          ap (λ (s : ReplicaState). s.worker) priced,
           λ b H stands. subst (IsReplicaOf b H) (sym priced) (stands-priced b H r n m stands),
         ),
       ),

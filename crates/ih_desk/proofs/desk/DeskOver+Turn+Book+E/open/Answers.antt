@@ -1,5 +1,5 @@
 use Rattle.std.proofs.Common.{◌∙◌, ap, arith, sym}
-use Rattle.ih_cellbook.specs.Recorded.{Recorded}
+use Rattle.ih_cellbook.specs.BookState.{BookState}
 use Rattle.ih_turn.specs.Seats.{number_of}
 use Rattle.ih_desk.proofs.HistoryLemmas.{index-map, legal-none}
 use Rattle.std.specs.Prelude.{slice_index_or}
@@ -13,8 +13,8 @@ returns-in-Ok-clause-fresh g c = λ k d l.
     let seats = c.in-Ok.ensures.turn.1 in
     let number = sym (index-map number_of c.in-Ok.seats.items k d l) ∙ c.in-Ok.ensures.numbers.1 k (omega (arith, count)) in
     let opened = c.in-Ok.ensures.turn.0 in
-    let empty = ap (λ (b : Recorded). b.entries) opened ∙ c.requires.empty in
-    let all = seats ∙ (c.requires.workers ∙ sym (ap (λ (b : Recorded). b.base.options.workers) opened)) in (
+    let empty = ap (λ (b : BookState). b.entries) opened ∙ c.requires.empty in
+    let all = seats ∙ (c.requires.workers ∙ sym (ap (λ (b : BookState). b.base.options.workers) opened)) in (
       record {
         stands = record { opened = empty; workers = all };
         own = fresh.0;

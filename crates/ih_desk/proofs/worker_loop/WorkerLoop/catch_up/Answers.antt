@@ -5,7 +5,7 @@ use Rattle.ih_cellbook.specs.Replicas.{MayFollowUpTo, StandsUpTo}
 use Rattle.ih_cellbook.proofs.Within.{told-follow, told-further}
 use Rattle.ih_desk.specs.Desks.{base_of}
 use Rattle.ih_turn.specs.Rule.{GoesOn}
-use Rattle.ih_desk.specs.Progress.{Progress}
+use Rattle.ih_desk.specs.WorkerLoopState.{WorkerLoopState}
 use Rattle.ih_desk.specs.WorkerLoops.{IsToldOf, IsWithin}
 use Rattle.ih_desk.proofs.Attempting.{same-within}
 use Rattle.ih_desk.proofs.CatchingUp.{further, goes-length, goes_on-further, goes_on-none, own-all, own-goes_on, own-later}
@@ -17,8 +17,8 @@ follow-requires g c =
     let H = history c.args.seat in
     let r = g.C.Replicates.copied c.self.inside.replica in
     let n = c.self.inside.news in
-    let within = subst (λ (x : Progress). IsWithin b c.args.self.now.moves_each (number_of c.args.seat) H x) (sym c.self.view_is) c.requires.within in
-    let told = subst (λ (x : Progress). IsToldOf H x) (sym c.self.view_is) c.requires.told in
+    let within = subst (λ (x : WorkerLoopState). IsWithin b c.args.self.now.moves_each (number_of c.args.seat) H x) (sym c.self.view_is) c.requires.within in
+    let told = subst (λ (x : WorkerLoopState). IsToldOf H x) (sym c.self.view_is) c.requires.told in
     subst (λ es. MayFollowUpTo r es c.until.result) (sym c.accepted.ensures)
     (subst (MayFollowUpTo r n.accepted) (sym c.until.ensures) (told-follow b H r within.replica n c.requires.own.legal told))
 
@@ -30,14 +30,14 @@ loop-self-init g c =
     let r = g.C.Replicates.copied c.self.inside.replica in
     let s = g.C.Replicates.copied c.follow.new.self in
     let n = c.self.inside.news in
-    let within = subst (λ (x : Progress). IsWithin b c.args.self.now.moves_each w H x) (sym c.self.view_is) c.requires.within in
-    let told = subst (λ (x : Progress). IsToldOf H x) (sym c.self.view_is) c.requires.told in
+    let within = subst (λ (x : WorkerLoopState). IsWithin b c.args.self.now.moves_each w H x) (sym c.self.view_is) c.requires.within in
+    let told = subst (λ (x : WorkerLoopState). IsToldOf H x) (sym c.self.view_is) c.requires.told in
     let goal-is : c.front-goal.result ≡ length H = c.front-goal.ensures ∙ told.front in
     let later = subst (λ es. StandsUpTo r es n.until s) c.accepted.ensures
     (subst (λ k. StandsUpTo r (map g.C.Entry.Logged.tried c.accepted.result.now) k s) c.until.ensures c.follow.ensures.replica) in
-    let new = subst (λ (x : Progress). x.replica.seen < length H) (sym c.self.view_is) c.requires.new in
+    let new = subst (λ (x : WorkerLoopState). x.replica.seen < length H) (sym c.self.view_is) c.requires.new in
     let more : r.seen < s.seen = further b H r n s within.replica c.requires.own.legal told later new in
-    let before = ap (λ (x : Progress). x.replica.seen) c.self.view_is in
+    let before = ap (λ (x : WorkerLoopState). x.replica.seen) c.self.view_is in
     let own = within.own in
     record {
       own = c.requires.own;
@@ -50,7 +50,7 @@ loop-self-init g c =
       seen = subst (HasSeenOwn H w) (sym goal-is) (own-all w H);
       reached = omega (arith, goal-is);
       turns = omega (arith, more, before);
-      stream = ap (λ (x : Progress). x.stream) c.self.view_is;
+      stream = ap (λ (x : WorkerLoopState). x.stream) c.self.view_is;
     }
 
 pub loop-self-preserved : goal.loop-self-preserved
@@ -65,7 +65,7 @@ loop-self-preserved g c =
     let reached = before.reached in
     let used = look.turns in
     let had = before.turns in
-    let same = ap (λ (x : Progress). x.replica.seen) c.self-in-loop-self.view_is in
+    let same = ap (λ (x : WorkerLoopState). x.replica.seen) c.self-in-loop-self.view_is in
     record {
       own = look.own;
       number = look.number ∙ before.number;
@@ -80,6 +80,6 @@ loop-self-preserved g c =
 pub returns-clause-caught_up : goal.returns-clause-caught_up
 returns-clause-caught_up g c =
     let before = c.loop-self.invariant in
-    let same = c.seen.ensures ∙ ap (λ (x : Progress). x.replica.seen) c.self-in-loop-self.view_is in
+    let same = c.seen.ensures ∙ ap (λ (x : WorkerLoopState). x.replica.seen) c.self-in-loop-self.view_is in
     let past : c.front-goal.result ≤ c.loop-self.self.replica.seen = subst (λ k. c.front-goal.result ≤ k) same c.loop-self-test.false in
     record { within = before.within; seen = own-later (number_of c.args.seat) c.front-goal.result c.loop-self.self.replica.seen (history c.loop-self.next) before.seen past }

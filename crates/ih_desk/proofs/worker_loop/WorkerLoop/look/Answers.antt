@@ -4,7 +4,7 @@ use Rattle.ih_cellbook.specs.Replicas.{IsReplicaIn, MayFollowUpTo}
 use Rattle.ih_cellbook.specs.News.{TellsOf}
 use Rattle.ih_cellbook.proofs.Within.{seen-within, told-follow}
 use Rattle.ih_desk.specs.Desks.{base_of}
-use Rattle.ih_desk.specs.Progress.{Progress}
+use Rattle.ih_desk.specs.WorkerLoopState.{WorkerLoopState}
 use Rattle.ih_desk.specs.WorkerLoops.{IsLoopOf, IsWithin}
 use Rattle.ih_desk.proofs.CatchingUp.{has-turn, stays, taken-over}
 use Rattle.ih_desk.proofs.worker_loop.WorkerLoop.look.Given.{Over}
@@ -15,7 +15,7 @@ look_for_news-seat-requires g c =
     let b = base_of c.args.desk.now in
     let H = history c.args.seat in
     let r = g.C.Replicates.copied c.self.inside.replica in
-    let within = subst (λ (x : Progress). IsWithin b c.args.self.now.moves_each (number_of c.args.seat) H x) (sym c.self.view_is) c.requires.within in
+    let within = subst (λ (x : WorkerLoopState). IsWithin b c.args.self.now.moves_each (number_of c.args.seat) H x) (sym c.self.view_is) c.requires.within in
     record {
       may = record {
         own = c.requires.own;
@@ -29,7 +29,7 @@ follow-requires g c =
     let b = base_of c.args.desk.now in
     let H = history c.look_for_news-seat.result in
     let r = g.C.Replicates.copied c.self.inside.replica in
-    let within = subst (λ (x : Progress). IsWithin b c.args.self.now.moves_each (number_of c.args.seat) (history c.args.seat) x) (sym c.self.view_is) c.requires.within in
+    let within = subst (λ (x : WorkerLoopState). IsWithin b c.args.self.now.moves_each (number_of c.args.seat) (history c.args.seat) x) (sym c.self.view_is) c.requires.within in
     let n = c.look_for_news-seat.new.news in
     let told = subst (λ k. TellsOf H k n) c.seen.ensures c.look_for_news-seat.ensures.told in
     let stands = stays b (number_of c.args.seat) (history c.args.seat) H r c.look_for_news-seat.ensures.looked.goes_on within.replica in
@@ -45,7 +45,7 @@ taken g c =
     let b = base_of c.args.desk.now in
     let H = history c.args.seat in
     let r = g.C.Replicates.copied c.self.inside.replica in
-    let within = subst (λ (x : Progress). IsWithin b c.args.self.now.moves_each (number_of c.args.seat) H x) (sym c.self.view_is) c.requires.within in
+    let within = subst (λ (x : WorkerLoopState). IsWithin b c.args.self.now.moves_each (number_of c.args.seat) H x) (sym c.self.view_is) c.requires.within in
     let look = c.look_for_news-seat.ensures in
     taken-over b (number_of c.args.seat) H (history c.look_for_news-seat.result) r c.look_for_news-seat.new.news _ c.until.result _ (g.C.Replicates.copied c.follow.new.self)
     c.seen.ensures c.accepted.ensures c.until.ensures within.replica look.looked.goes_on look.looked.own.legal look.told c.follow.ensures.replica
@@ -60,8 +60,8 @@ returns-clause-within g c =
 
 pub returns-clause-further : goal.returns-clause-further
 returns-clause-further g c =
-    let new = subst (λ (x : Progress). x.replica.seen < length (history c.args.seat)) (sym c.self.view_is) c.requires.new in
-    subst (λ (x : Progress). x.replica.seen < (g.C.Replicates.copied c.follow.new.self).seen) c.self.view_is ((taken g c).1 new)
+    let new = subst (λ (x : WorkerLoopState). x.replica.seen < length (history c.args.seat)) (sym c.self.view_is) c.requires.new in
+    subst (λ (x : WorkerLoopState). x.replica.seen < (g.C.Replicates.copied c.follow.new.self).seen) c.self.view_is ((taken g c).1 new)
 
 pub returns-clause-turns : goal.returns-clause-turns
 returns-clause-turns g c =

@@ -6,7 +6,7 @@ use Rattle.ih_journal.specs.declared.settings.Options.{Options}
 use Rattle.ih_turn.specs.Seats.{history, number_of}
 use Rattle.ih_cellbook.specs.Offers.{next_number}
 use Rattle.ih_desk.specs.Desks.{base_of}
-use Rattle.ih_desk.specs.Progress.{Progress}
+use Rattle.ih_desk.specs.WorkerLoopState.{WorkerLoopState}
 use Rattle.ih_desk.proofs.Attempting.{drawn-attempt, next-move, next-number, next-try, same-attempted, same-caught_up}
 use Rattle.ih_desk.proofs.worker_loop.WorkerLoop.make_attempt.Goals as goal
 use Rattle.ih_desk.proofs.worker_loop.WorkerLoop.make_attempt.Goals.{then-not-is_stale-via-then-not-is_stale, then-not-is_stale-via-else-not-is_stale+then-again-self}
@@ -19,7 +19,7 @@ try_once-tried-requires-clause-next g c =
 pub returns-then-not-is_stale-clause-made : goal.returns-then-not-is_stale-clause-made
 returns-then-not-is_stale-clause-made g c =
     let o = (base_of c.args.desk.now).options in
-    let same = ap (λ (x : Progress). x.options) c.self.view_is ∙ c.try_once-tried.ensures.caught_up.within.own.options in
+    let same = ap (λ (x : WorkerLoopState). x.options) c.self.view_is ∙ c.try_once-tried.ensures.caught_up.within.own.options in
     let ends : (is_stale c.try_once-tried.result.1 ≡ false) ⊎ (o.retries ≤ c.loop-tried.again) = elim c.then-not-is_stale.branch [
       | then-not-is_stale-via-then-not-is_stale w ↦ inl (sym c.is_stale.ensures ∙ w.if-not-is_stale.true)
       | then-not-is_stale-via-else-not-is_stale+then-again-self w ↦
@@ -39,7 +39,7 @@ loop-tried-preserved g c =
     let before = c.loop-tried.invariant in
     let after = c.try_once-tried.ensures in
     let tried = same-attempted _ _ _ _ _ _ _ _ before.number after.attempted in
-    let most = ap (λ (o : Options). o.retries) (ap (λ (x : Progress). x.options) c.self.view_is ∙ after.caught_up.within.own.options) in
+    let most = ap (λ (o : Options). o.retries) (ap (λ (x : WorkerLoopState). x.options) c.self.view_is ∙ after.caught_up.within.own.options) in
     let few = before.few in
     let left : c.loop-tried.again < b.options.retries = elim (cases_lt c.loop-tried.again b.options.retries) [
       | inl below ↦ below

@@ -6,7 +6,7 @@ use Rattle.ih_journal.proofs.Growth.{has_made-all}
 use Rattle.ih_turn.specs.Seats.{history, number_of}
 use Rattle.ih_desk.specs.Desks.{base_of}
 use Rattle.ih_desk.specs.Finishing.{AreDrawn}
-use Rattle.ih_desk.specs.Progress.{Progress}
+use Rattle.ih_desk.specs.WorkerLoopState.{WorkerLoopState}
 use Rattle.ih_desk.proofs.Attempting.{drawn-none, made-none, none-drawn, one-later, same-caught_up}
 use Rattle.ih_desk.proofs.CatchingUp.{own-none}
 use Rattle.ih_desk.proofs.worker_loop.WorkerLoop.run.Goals as goal
@@ -42,10 +42,10 @@ loop-number-preserved g c =
     let after = c.make_attempt-next.ensures in
     let had = before.turns in
     let used = after.turns in
-    let seen = ap (λ (x : Progress). x.replica.seen) c.self-in-loop-number.view_is in
+    let seen = ap (λ (x : WorkerLoopState). x.replica.seen) c.self-in-loop-number.view_is in
     let each = c.args.self.now.moves_each in
-    let same = ap (λ (x : Progress). x.moves_each) c.self-in-loop-number.view_is ∙ before.caught_up.within.own.each_is in
-    let drawn = c.drawn-attempt.ensures.drawn o.seed n (c.loop-number.number * each) (ap (λ (x : Progress). x.stream) c.self-in-loop-number.view_is ∙ before.stream) in
+    let same = ap (λ (x : WorkerLoopState). x.moves_each) c.self-in-loop-number.view_is ∙ before.caught_up.within.own.each_is in
+    let drawn = c.drawn-attempt.ensures.drawn o.seed n (c.loop-number.number * each) (ap (λ (x : WorkerLoopState). x.stream) c.self-in-loop-number.view_is ∙ before.stream) in
     record {
       own = after.own;
       same = after.number ∙ before.same;
@@ -62,7 +62,7 @@ returns-clause-finished g c =
     let n = number_of c.args.seat in
     let H = history c.loop-number.next in
     let before = c.loop-number.invariant in
-    let past = subst (λ (o : Options). o.moves ≤ c.loop-number.number) (ap (λ (x : Progress). x.options) c.self.view_is ∙ c.requires.new.own.options) c.loop-number-test.false in
-    let most = subst (λ (o : Options). c.loop-number.number ≤ o.moves) (ap (λ (x : Progress). x.options) c.self.view_is ∙ c.requires.new.own.options) c.loop-number.auto.number-end in
+    let past = subst (λ (o : Options). o.moves ≤ c.loop-number.number) (ap (λ (x : WorkerLoopState). x.options) c.self.view_is ∙ c.requires.new.own.options) c.loop-number-test.false in
+    let most = subst (λ (o : Options). c.loop-number.number ≤ o.moves) (ap (λ (x : WorkerLoopState). x.options) c.self.view_is ∙ c.requires.new.own.options) c.loop-number.auto.number-end in
     let all : c.loop-number.number ≡ b.options.moves = omega (arith, past, most) in
     record { legal = before.own.legal; drawn = before.drawn; done = has_made-all b H n (subst (λ k. HasMade b.options H n k) all before.made) }

@@ -8,7 +8,7 @@ use Rattle.ih_desk.specs.Desks.{base_of}
 use Rattle.ih_cellbook.specs.Replicas.{IsReplicaIn}
 use Rattle.ih_cellbook.specs.News.{TellsOf}
 use Rattle.ih_cellbook.proofs.Within.{offered-right, seen-within, stands-behind, stands-same}
-use Rattle.ih_desk.specs.Progress.{Progress}
+use Rattle.ih_desk.specs.WorkerLoopState.{WorkerLoopState}
 use Rattle.ih_desk.specs.WorkerLoops.{IsLoopOf, IsWithin}
 use Rattle.ih_desk.proofs.Attempting.{attempted, attempted-later}
 use Rattle.ih_desk.proofs.CatchingUp.{ends-longer, has-turn, none-past}
@@ -20,10 +20,10 @@ offer_and_look-seat-requires g c =
     let b = base_of c.args.desk.now in
     let H = history c.args.seat in
     let r = g.C.Replicates.copied c.self.inside.replica in
-    let within = subst (λ (x : Progress). IsWithin b c.args.self.now.moves_each (number_of c.args.seat) H x) (sym c.self.view_is) c.requires.may.caught_up.within in
+    let within = subst (λ (x : WorkerLoopState). IsWithin b c.args.self.now.moves_each (number_of c.args.seat) H x) (sym c.self.view_is) c.requires.may.caught_up.within in
     let o = (g.C.Replicates.copied c.offer.new.self).last in
     let stands = within.replica in
-    let seen = subst (λ (x : Progress). HasSeenOwn H (number_of c.args.seat) x.replica.seen) (sym c.self.view_is) c.requires.may.caught_up.seen in
+    let seen = subst (λ (x : WorkerLoopState). HasSeenOwn H (number_of c.args.seat) x.replica.seen) (sym c.self.view_is) c.requires.may.caught_up.seen in
     let offered = c.offer.ensures.offer b (take r.seen H) stands in
     let own = sym (offered.worker ∙ within.own.worker) in
     let right = offered-right b H r stands c.args.number (g.C.Entry.Attempt.Attempted.moves c.args.attempt.now) o c.offer.ensures.offer c.offer.ensures.right (
@@ -42,7 +42,7 @@ offer_and_look-seat-requires g c =
 
 -- where the replica stood
 stood : (g : Over) (c : goal.After-catch_up-arg-1 g) → IsReplicaIn (base_of c.args.desk.now) (history c.args.seat) (g.C.Replicates.copied c.self.inside.replica)
-stood g c = subst (λ (x : Progress). IsReplicaIn (base_of c.args.desk.now) (history c.args.seat) x.replica) (sym c.self.view_is) c.requires.may.caught_up.within.replica
+stood g c = subst (λ (x : WorkerLoopState). IsReplicaIn (base_of c.args.desk.now) (history c.args.seat) x.replica) (sym c.self.view_is) c.requires.may.caught_up.within.replica
 
 pub catch_up-seat-requires-clause-within : goal.catch_up-seat-requires-clause-within
 catch_up-seat-requires-clause-within g c =
@@ -77,15 +77,15 @@ catch_up-seat-requires-clause-new g c =
 pub catch_up-seat-requires-clause-turns : goal.catch_up-seat-requires-clause-turns
 catch_up-seat-requires-clause-turns g c =
     let same = (c.offer.ensures.same _ _ (stood g c)).seen ∙ sym (stood g c).seen in
-    let before = ap (λ (x : Progress). x.replica.seen) c.self.view_is in
+    let before = ap (λ (x : WorkerLoopState). x.replica.seen) c.self.view_is in
     let used = c.offer_and_look-seat.ensures.offered.left in
     omega (arith, same, before, used)
 
 pub returns-clause-attempted : goal.returns-clause-attempted
 returns-clause-attempted g c =
-    let within = subst (λ (x : Progress). IsReplicaIn (base_of c.args.desk.now) (history c.args.seat) x.replica) (sym c.self.view_is) c.requires.may.caught_up.within.replica in
+    let within = subst (λ (x : WorkerLoopState). IsReplicaIn (base_of c.args.desk.now) (history c.args.seat) x.replica) (sym c.self.view_is) c.requires.may.caught_up.within.replica in
     let offered = c.offer.ensures.offer _ _ within in
-    let own = ap (λ (x : Progress). x.replica.worker) c.self.view_is ∙ c.requires.may.caught_up.within.own.worker in
+    let own = ap (λ (x : WorkerLoopState). x.replica.worker) c.self.view_is ∙ c.requires.may.caught_up.within.own.worker in
     let G = history c.offer_and_look-seat.result.0 in
     let F = history c.catch_up-seat.result in
     attempted-later (base_of c.args.desk.now).options (number_of c.args.seat) c.args.number _ c.offer_and_look-seat.result.1 (history c.args.seat) G F

@@ -2,7 +2,7 @@ use Rattle.std.proofs.Common.{◌∙◌, ap}
 use Rattle.ih_tables.specs.declared.drafts.Draft.{Draft}
 use Rattle.ih_plan.specs.Writes.{put}
 use Rattle.ih_plan.specs.BillOf.{change_of_bill}
-use Rattle.ih_fill.specs.Scoring.{Scoring}
+use Rattle.ih_fill.specs.ScorerState.{ScorerState}
 use Rattle.ih_fill.proofs.scoring.Scorer.price.Goals as goal
 
 pub returns : goal.returns
@@ -11,4 +11,4 @@ returns c =
     let w = c.args.w.now in
     c.price_write.ensures.price
     ∙ (ap (λ (I : Draft). change_of_bill I here.ledgers.plan (put w here.ledgers.plan)) c.self.invariant.of_instance
-    ∙ ap (λ (G : Scoring). change_of_bill G.instance G.plan (put w G.plan)) c.self.view_is)
+    ∙ ap (λ (G : ScorerState). change_of_bill G.instance G.plan (put w G.plan)) c.self.view_is)

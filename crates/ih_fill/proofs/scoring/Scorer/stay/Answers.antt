@@ -3,7 +3,7 @@ use Rattle.ih_plan.specs.declared.moves.Write.{Write}
 use Rattle.ih_plan.specs.declared.moves.Write.TheVariants.{SetStay}
 use Rattle.ih_fill.specs.Fill.{write_score}
 use Rattle.ih_fill.specs.Candidates.{valued}
-use Rattle.ih_fill.specs.Scoring.{Scoring, view_of}
+use Rattle.ih_fill.specs.ScorerState.{ScorerState, view_of}
 use Rattle.ih_fill.proofs.CandidateLemmas.{stay-fits}
 use Rattle.ih_fill.proofs.ValueLemmas.{stay-is}
 use Rattle.ih_fill.proofs.scoring.Scorer.stay.Goals as goal
@@ -15,4 +15,4 @@ pub returns : goal.returns
 returns c =
     let F = c.args.self.now in
     let w : Write = SetStay c.args.p (Some c.args.at) in
-    c.valued.ensures ∙ (ap (λ (G : Scoring). valued (write_score F.instance F.hard (view_of G.counts_uncovered) F.plan) w) c.self.view_is ∙ stay-is F w)
+    c.valued.ensures ∙ (ap (λ (G : ScorerState). valued (write_score F.instance F.hard (view_of G.counts_uncovered) F.plan) w) c.self.view_is ∙ stay-is F w)

@@ -4,7 +4,7 @@ use Rattle.ih_tables.specs.Valid.{IsValid}
 use Rattle.ih_journal.specs.declared.refusals.JournalRefusal.{JournalRefusal}
 use Rattle.ih_journal.specs.Base.{Base}
 use Rattle.ih_replay.specs.Keeping.{IsReplayed}
-use Rattle.ih_replay.specs.Replayed.{Replayed}
+use Rattle.ih_replay.specs.ReplayState.{ReplayState}
 use Rattle.ih_replay.specs.Refusals.{IsFirstOf, IsRefusedFor, Passes, in_order}
 use Rattle.ih_replay.proofs.Lines.{next-passes}
 use Rattle.ih_replay.proofs.Singles.{as-taken, more-taken, never-taken, stays-taken}
@@ -42,7 +42,7 @@ returns-in-Err-clause-refused c =
     let v = c.self.inside.book in
     let A = c.args.self.now in
     let same = stays-taken v c.take_line-taken.new.book A c.self.view_is c.take_line-taken.ensures.base c.in-Err.ensures.same in (
-      ap (λ (r : JournalRefusal). r.line) c.refusal.ensures ∙ ap (λ (s : Replayed). length s.entries + 2) same,
+      ap (λ (r : JournalRefusal). r.line) c.refusal.ensures ∙ ap (λ (s : ReplayState). length s.entries + 2) same,
       subst (IsRefusedFor A.base A.entries c.args.line.now) (sym (ap (λ (r : JournalRefusal). r.reason) c.refusal.ensures))
           (as-taken (λ b H. IsFirstOf (Passes b H c.args.line.now) in_order c.in-Err.reason) v A c.self.invariant.kept.legal c.self.view_is c.in-Err.ensures.err),
     )

@@ -2,7 +2,7 @@ use Rattle.std.proofs.Common.{◌≡◌, ◌<◌, ◌∙◌, arith, ap, refl, sy
 use Rattle.std.proofs.Math.ListN.{get_or-map}
 use Rattle.std.proofs.lemmas.List.{drop_all, length-map}
 use Rattle.ih_cellbook.specs.Replicas.{IsReplicaOf}
-use Rattle.ih_cellbook.specs.Snapshot.{Snapshot}
+use Rattle.ih_cellbook.specs.ReplicaState.{ReplicaState}
 use Rattle.ih_snapshot.specs.Keeping.{CanTake, HasTaken}
 use Rattle.ih_snapshot.proofs.Following.{HasCome, come-all, come-can, come-more, come-none}
 use Rattle.ih_snapshot.proofs.replicas.Replica.follow.Goals as goal
@@ -49,5 +49,5 @@ returns-clause-replica g c es up_to b H stands legal =
     let seen = stands.seen in
     let until = up_to.place in
     let place : length (H ++ es) ≡ c.args.until = omega (arith, both, seen, until) in
-    subst (λ (s : Snapshot). IsReplicaOf b (H ++ es) (record s { seen = c.args.until })) (sym c.self.view_is)
+    subst (λ (s : ReplicaState). IsReplicaOf b (H ++ es) (record s { seen = c.args.until })) (sym c.self.view_is)
     (subst (λ n. IsReplicaOf b (H ++ es) (record c.loop-entry.self { seen = n })) place (come-all b (H ++ es) legal c.loop-entry.self come))

@@ -2,8 +2,8 @@ use Rattle.std.proofs.Common.{◌∙◌, refl, ap}
 use Rattle.std.specs.Prelude.{replicate}
 use Rattle.ih_plan.specs.Cells.{count_in}
 use Rattle.ih_cellbook.specs.Keeping.{base_with}
-use Rattle.ih_cellbook.specs.Noted.{Noted}
-use Rattle.ih_costs.specs.Standing.{Standing}
+use Rattle.ih_cellbook.specs.ReadsState.{ReadsState}
+use Rattle.ih_costs.specs.LedgersState.{LedgersState}
 use Rattle.ih_snapshot.proofs.Empty.{stands-empty}
 use Rattle.ih_snapshot.proofs.replicas.Replica.new.Goals as goal
 
@@ -14,7 +14,7 @@ returns-clause-replica g c =
     (record { start = c.requires.start; lawful = c.requires.lawful })
     (ap (λ P. base_with I P c.args.options.now c.args.freeze) c.in_ok-try_clone.ensures)
     refl
-    (ap (λ (s : Standing). s.plan) c.in_ok-new.ensures)
+    (ap (λ (s : LedgersState). s.plan) c.in_ok-new.ensures)
     (c.in_ok-vec.ensures.items_if_clones_equal (λ y e. e) ∙ ap (λ n. replicate n 0) (c.count-cells.ensures.count ∙ ap count_in c.of-numbering.ensures))
     c.in_ok-blank.ensures.seen
-    (ap (λ (v : Noted). v.pairs) c.in_ok-blank.ensures.reads)
+    (ap (λ (v : ReadsState). v.pairs) c.in_ok-blank.ensures.reads)

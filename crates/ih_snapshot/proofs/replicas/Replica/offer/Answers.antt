@@ -4,7 +4,7 @@ use Rattle.ih_cellbook.specs.Offered.{Offered}
 use Rattle.ih_cellbook.specs.Offers.{IsRightOffer}
 use Rattle.ih_snapshot.specs.Noting.{offer_of}
 use Rattle.ih_cellbook.specs.Replicas.{IsReplicaOf, IsOfferAfter}
-use Rattle.ih_cellbook.specs.Snapshot.{Snapshot}
+use Rattle.ih_cellbook.specs.ReplicaState.{ReplicaState}
 use Rattle.ih_snapshot.proofs.Pricing.{offer-after, offer-right, stands-offered}
 use Rattle.ih_snapshot.proofs.replicas.Replica.offer.Goals as goal
 
@@ -14,13 +14,13 @@ returns g c =
     let n = c.args.number in
     let m = g.E.Attempt.Attempted.moves c.args.attempt.now in
     let priced = c.prepare_offer.ensures.made in
-    let made : g.E.Offer.Offers.offered c.last.result.now ≡ offer_of r n m = c.last.ensures ∙ ap (λ (s : Snapshot). s.last) priced in (
+    let made : g.E.Offer.Offers.offered c.last.result.now ≡ offer_of r n m = c.last.ensures ∙ ap (λ (s : ReplicaState). s.last) priced in (
       (
         refl,
         λ x. tt,
         (
-          ap (λ (s : Snapshot). s.base) priced,
-          ap (λ (s : Snapshot). s.worker) priced,
+          ap (λ (s : ReplicaState). s.base) priced,
+          ap (λ (s : ReplicaState). s.worker) priced,
           λ b H stands. subst (IsReplicaOf b H) (sym priced) (stands-offered b H r n m stands),
         ),
       ),

@@ -4,7 +4,7 @@ use Rattle.ih_cellbook.specs.Offered.{Offered}
 use Rattle.ih_cellbook.specs.Offers.{IsRightOffer}
 use Rattle.ih_snapshot.specs.Noting.{priced_of}
 use Rattle.ih_cellbook.specs.Replicas.{IsReplicaOf, IsPricedAfter}
-use Rattle.ih_cellbook.specs.Snapshot.{Snapshot}
+use Rattle.ih_cellbook.specs.ReplicaState.{ReplicaState}
 use Rattle.ih_snapshot.proofs.Pricing.{priced-after, priced-right, stands-priced}
 use Rattle.ih_snapshot.proofs.replicas.Replica.price.Goals as goal
 
@@ -14,13 +14,13 @@ returns g c =
     let n = c.args.number in
     let m = g.E.Attempt.Attempted.moves c.args.attempt.now in
     let priced = c.prepare_price.ensures.made in
-    let made : g.E.Offer.Offers.offered c.last.result.now ≡ priced_of r n m = c.last.ensures ∙ ap (λ (s : Snapshot). s.last) priced in (
+    let made : g.E.Offer.Offers.offered c.last.result.now ≡ priced_of r n m = c.last.ensures ∙ ap (λ (s : ReplicaState). s.last) priced in (
       (
         refl,
         λ x. tt,
         (
-          ap (λ (s : Snapshot). s.base) priced,
-          ap (λ (s : Snapshot). s.worker) priced,
+          ap (λ (s : ReplicaState). s.base) priced,
+          ap (λ (s : ReplicaState). s.worker) priced,
           λ b H stands. subst (IsReplicaOf b H) (sym priced) (stands-priced b H r n m stands),
         ),
       ),

@@ -11,9 +11,9 @@ use Rattle.ih_journal.specs.Frozen.{is_frozen, is_frozen_write}
 use Rattle.ih_cellbook.specs.Counters.{is_compared}
 use Rattle.ih_cellbook.specs.Keeping.{base_with}
 use Rattle.ih_cellbook.specs.Offered.{Offered}
-use Rattle.ih_costs.specs.Standing.{Standing}
+use Rattle.ih_costs.specs.LedgersState.{LedgersState}
 use Rattle.ih_snapshot.specs.Noting.{asks_reads, offer_with}
-use Rattle.ih_cellbook.specs.Snapshot.{Snapshot}
+use Rattle.ih_cellbook.specs.ReplicaState.{ReplicaState}
 use Rattle.ih_cellbook.proofs.Unfrozen.{none-frozen}
 use Rattle.ih_snapshot.proofs.Pricing.{filled, frozen-here, replica_with}
 use Rattle.ih_snapshot.proofs.replicas.Replica.price_into_last.Goals as goal
@@ -53,16 +53,16 @@ returns-clause-made g c =
     let m = g.E.Attempt.Attempted.moves c.args.attempt.now in
     let r = replica_with (base_with I c.self.inside.start c.self.inside.options c.self.inside.freeze) c.self.inside.worker c.self.inside.seen
     v.plan c.self.inside.versions.items (g.E.Offer.Offers.offered c.self.inside.last) in
-    let plan : c.price_all_alone-price.new.self.plan ≡ v.plan = ap (λ (s : Standing). s.plan) c.price_all_alone-price.ensures.same in
+    let plan : c.price_all_alone-price.new.self.plan ≡ v.plan = ap (λ (s : LedgersState). s.plan) c.price_all_alone-price.ensures.same in
     let price : c.price_all_alone-price.result ≡ price_of_all I v.plan m =
     c.price_all_alone-price.ensures.price ∙ (ap (price_of_all v.instance v.plan) c.as_slice-moves.ensures ∙ ap (λ J. price_of_all J v.plan m) c.self.invariant.0.instance) in
     let frozen = frozen-here r.base c.plan.result.now v.plan m c.touches_frozen-frozen.result (tested c.self.inside.start c.self.inside.freeze c.self.inside.inst.now.draft c.plan.result.now c.as_slice-moves.result.now (g.E.Attempt.Attempted.moves c.args.attempt.now) c.touches_frozen-frozen.result
     c.touches_frozen-frozen.ensures c.as_slice-moves.ensures) (c.plan.ensures.value ∙ plan) in
     let made = filled r c.args.number m c.price_all_alone-price.new.self.plan c.price_all_alone-price.result (record r.last.reads { pairs = [] }) c.touches_frozen-frozen.result plan price refl frozen in
-    let mine : (let s : Snapshot = record r { plan = c.price_all_alone-price.new.self.plan; last = g.E.Offer.Offers.offered c.become_offer.new.self } in s)
+    let mine : (let s : ReplicaState = record r { plan = c.price_all_alone-price.new.self.plan; last = g.E.Offer.Offers.offered c.become_offer.new.self } in s)
     ≡ record r { last = offer_with r c.args.number m [] } =
-    ap (λ (o : Offered). let s : Snapshot = record r { plan = c.price_all_alone-price.new.self.plan; last = o } in s) c.become_offer.ensures ∙ made in
-    subst (λ (s : Snapshot). (let t : Snapshot = record r { plan = c.price_all_alone-price.new.self.plan; last = g.E.Offer.Offers.offered c.become_offer.new.self } in t)
+    ap (λ (o : Offered). let s : ReplicaState = record r { plan = c.price_all_alone-price.new.self.plan; last = o } in s) c.become_offer.ensures ∙ made in
+    subst (λ (s : ReplicaState). (let t : ReplicaState = record r { plan = c.price_all_alone-price.new.self.plan; last = g.E.Offer.Offers.offered c.become_offer.new.self } in t)
     ≡ record s { last = offer_with s c.args.number m [] }) c.self.view_is mine
 
 pub returns-clause-compared : goal.returns-clause-compared
@@ -73,12 +73,12 @@ returns-clause-compared g c =
     let o = c.self.inside.options in
     let n = c.args.number in
     let base = base_with I c.self.inside.start o c.self.inside.freeze in
-    let plan : c.price_all_alone-price.new.self.plan ≡ v.plan = ap (λ (s : Standing). s.plan) c.price_all_alone-price.ensures.same in
+    let plan : c.price_all_alone-price.new.self.plan ≡ v.plan = ap (λ (s : LedgersState). s.plan) c.price_all_alone-price.ensures.same in
     let price : c.price_all_alone-price.result ≡ price_of_all I v.plan m =
     c.price_all_alone-price.ensures.price ∙ (ap (price_of_all v.instance v.plan) c.as_slice-moves.ensures ∙ ap (λ J. price_of_all J v.plan m) c.self.invariant.0.instance) in
     let frozen = frozen-here base c.plan.result.now v.plan m c.touches_frozen-frozen.result (tested c.self.inside.start c.self.inside.freeze c.self.inside.inst.now.draft c.plan.result.now c.as_slice-moves.result.now (g.E.Attempt.Attempted.moves c.args.attempt.now) c.touches_frozen-frozen.result
     c.touches_frozen-frozen.ensures c.as_slice-moves.ensures) (c.plan.ensures.value ∙ plan) in
-    subst (λ (s : Snapshot). c.is_compared.result ≡ asks_reads s n m) c.self.view_is
+    subst (λ (s : ReplicaState). c.is_compared.result ≡ asks_reads s n m) c.self.view_is
     (c.is_compared.ensures ∙ ap (λ f. is_compared I o f n c.price_all_alone-price.result) frozen ∙ ap (λ (p : Bill). is_compared I o (is_frozen base v.plan m) n p) price)
 
 pub returns-clause-within : goal.returns-clause-within

@@ -2,25 +2,25 @@
 use Rattle.std.specs.Prelude.{◌≡◌, ℕ, ◌==◌, ◌&&◌, ◌||◌, Bool, false, List}
 use Rattle.ih_tables.specs.declared.cells.Cell.{Cell}
 use Rattle.ih_tables.specs.declared.cells.Cell.TheVariants.{Stay, RoomDay, TheatreDay, SurgeonDay, RoomShift, NurseShift, Care}
-use Rattle.ih_tables.specs.Sizes.{Sizes}
+use Rattle.ih_tables.specs.Sizes.{NumberingState}
 use Rattle.ih_plan.specs.Cells.{number_in, count_in, IsCellIn}
 use Rattle.ih_plan.specs.Sums.{which_below, is_listed}
 
 -- The numbers of cells that were gathered, and the sizes by which the cells are numbered.
-pub record Gathered : Type 0 where
-  pub sizes : Sizes
+pub record CellsState : Type 0 where
+  pub sizes : NumberingState
   pub cells : List ℕ
 
 -- the cell is in the list
-abbrev pub holds : Gathered → Cell → Bool
+abbrev pub holds : CellsState → Cell → Bool
 holds v c = is_listed (number_in v.sizes c) v.cells
 
 -- the numbers of the list, rising
-abbrev pub settled : Gathered → List ℕ
+abbrev pub settled : CellsState → List ℕ
 settled v = which_below (count_in v.sizes) (λ n. is_listed n v.cells)
 
 -- The cells afterwards are those before and those that pass.
-pub record Gathers (before after : Gathered) (passes : Cell → Bool) : Type 0 where
+pub record Gathers (before after : CellsState) (passes : Cell → Bool) : Type 0 where
   pub sizes : after.sizes ≡ before.sizes
   pub cells : (c : Cell) → IsCellIn before.sizes c → holds after c ≡ (holds before c || passes c)
 

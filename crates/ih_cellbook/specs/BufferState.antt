@@ -3,7 +3,7 @@ use Rattle.std.specs.Prelude.{ℕ, List}
 use Rattle.ih_journal.specs.Tried.{Tried}
 
 -- The entries from a place on, and how many the book had when they were copied.
-pub record Copied : Type 0 where
+pub record BufferState : Type 0 where
   pub from : ℕ
   pub entries : List Tried
   pub front : ℕ

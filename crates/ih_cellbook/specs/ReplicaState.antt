@@ -5,7 +5,7 @@ use Rattle.ih_journal.specs.Base.{Base}
 use Rattle.ih_cellbook.specs.Offered.{Offered}
 
 -- One worker's own copy of a search, as far as it has seen it.
-pub record Snapshot : Type 0 where
+pub record ReplicaState : Type 0 where
   pub base : Base
   pub worker : ℕ
   -- how many entries it stands for

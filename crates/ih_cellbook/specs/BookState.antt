@@ -4,6 +4,6 @@ use Rattle.ih_journal.specs.Tried.{Tried}
 use Rattle.ih_journal.specs.Base.{Base}
 
 -- What the search was begun with, and the entries so far.
-pub record Recorded : Type 0 where
+pub record BookState : Type 0 where
   pub base : Base
   pub entries : List Tried

@@ -5,10 +5,10 @@ use Rattle.ih_plan.specs.declared.moves.Move.TheVariants.{Idle}
 use Rattle.ih_journal.specs.declared.entries.Entry.{Entry}
 use Rattle.ih_journal.specs.Tried.{Tried}
 use Rattle.ih_journal.specs.Base.{Base}
-use Rattle.ih_cellbook.specs.Recorded.{Recorded}
+use Rattle.ih_cellbook.specs.BookState.{BookState}
 
 -- What the replay was begun with, and the entries that were taken so far.
-pub record Replayed : Type 0 where
+pub record ReplayState : Type 0 where
   pub base : Base
   pub entries : List Entry
 
@@ -33,5 +33,5 @@ abbrev pub singles : List Tried → List Entry
 singles es = map single es
 
 -- the replay over a book of single moves
-abbrev pub replayed_of : Recorded → Replayed
+abbrev pub replayed_of : BookState → ReplayState
 replayed_of v = record { base = v.base; entries = singles v.entries }
