@@ -3,9 +3,9 @@ use Rattle.std.proofs.Common.{◌≡◌, ℕ, suc, refl, sym, ap, ◌∙◌, sub
 use Rattle.std.specs.Prelude.{slice_get, Some}
 use Rattle.ih_plan.specs.Timetable.{Timetable}
 use Rattle.ih_improve.specs.Better.{best_of}
-use Rattle.ih_improve.specs.Improving.{Improving, Leads, led_to, setout}
+use Rattle.ih_improve.specs.ImproverState.{ImproverState, Leads, led_to, setout}
 use Rattle.ih_improve.specs.Laws.{IsDetermined, Lead}
-use Rattle.ih_improve.specs.Legs.{Setout}
+use Rattle.ih_improve.specs.Legs.{LegState}
 
 -- lists of one length are equal that are equal at each place
 same-lists : {A : Type 0} (xs ys : List A) → length xs ≡ length ys
@@ -18,15 +18,15 @@ same-lists (x ∷ xs) (y ∷ ys) len each =
     let tail : xs ≡ ys = same-lists xs ys (omega (arith, len)) (λ k a b ha hb. each (suc k) a b ha hb) in
     ap (λ z. z ∷ xs) head ∙ ap (λ zs. y ∷ zs) tail
 
-module _ (leaves : Setout → ℕ → Timetable → Type 0) (determined : IsDetermined leaves) where
-  one-round : (v : Improving) (P Q : Timetable) → Leads leaves v P → Leads leaves v Q → P ≡ Q
+module _ (leaves : LegState → ℕ → Timetable → Type 0) (determined : IsDetermined leaves) where
+  one-round : (v : ImproverState) (P Q : Timetable) → Leads leaves v P → Leads leaves v Q → P ≡ Q
   one-round v P Q first second =
       let same : first.left ≡ second.left =
       same-lists first.left second.left (first.each_worker ∙ sym second.each_worker)
       (λ k x y hx hy. determined (setout v) k x y (first.leaves k x hx) (second.leaves k y hy)) in
       first.best ∙ (ap (best_of v.instance v.settings.hard v.kept) same ∙ sym second.best)
 
-  pub all-rounds : (v : Improving) (Ps Qs : List Timetable) → length Ps ≡ length Qs → Lead leaves v Ps → Lead leaves v Qs → Ps ≡ Qs
+  pub all-rounds : (v : ImproverState) (Ps Qs : List Timetable) → length Ps ≡ length Qs → Lead leaves v Ps → Lead leaves v Qs → Ps ≡ Qs
   all-rounds v [] [] len first second = refl
   all-rounds v [] (Q ∷ Qs) len first second = absurd (omega (arith, len))
   all-rounds v (P ∷ Ps) [] len first second = absurd (omega (arith, len))

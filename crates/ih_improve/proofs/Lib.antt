@@ -2,6 +2,6 @@ pub mod BetterLemmas
 pub mod Determined
 pub mod WalkerBills
 pub mod FrozenMoves
-pub mod HeatLemmas
+pub mod WeightLemmas
 pub mod RoundLemmas
 pub mod Underway

@@ -11,7 +11,7 @@ use Rattle.ih_plan.specs.BillOf.{bill_of}
 use Rattle.ih_improve.specs.declared.workers.ImproveWorker.{ImproveWorker}
 use Rattle.ih_improve.specs.Better.{best_of, better_of}
 use Rattle.ih_improve.specs.Following.{IsNoDearer, MayFollow}
-use Rattle.ih_improve.specs.Improving.{Improving, Leads, led_to, setout}
+use Rattle.ih_improve.specs.ImproverState.{ImproverState, Leads, led_to, setout}
 use Rattle.ih_improve.specs.Keeping.{IsKeeping, IsOf, best_met}
 use Rattle.ih_improve.specs.Legs.{IsSetout, Leaves}
 use Rattle.ih_improve.proofs.BetterLemmas.{best-follows, follows-through, no_dearer-same}
@@ -42,7 +42,7 @@ best-more I hard P ws i x h is =
     ∙ fold_push (better_of I hard) P (map best_met (take i ws)) (best_met x))
 
 -- what a round begins with
-pub begins : (v : Improving) (bill : Bill) (ws : List ImproveWorker) → IsKeeping v bill ws → v.rounds < v.settings.rounds → IsSetout (setout v) bill
+pub begins : (v : ImproverState) (bill : Bill) (ws : List ImproveWorker) → IsKeeping v bill ws → v.rounds < v.settings.rounds → IsSetout (setout v) bill
 begins v bill ws keeping more = record {
   lawful = keeping.sound.lawful;
   round = more;
@@ -51,7 +51,7 @@ begins v bill ws keeping more = record {
   bill_is = keeping.bill_is;
 }
 
-module _ (v : Improving) (bill : Bill) (old new : List ImproveWorker) (keeping : IsKeeping v bill old) (len : length new ≡ length old)
+module _ (v : ImproverState) (bill : Bill) (old new : List ImproveWorker) (keeping : IsKeeping v bill old) (len : length new ≡ length old)
     (same : (k : ℕ) (d : ImproveWorker) → k < length old → (slice_index_or new k d).walker.instance ≡ v.instance)
     (left : (k : ℕ) (d : ImproveWorker) → k < length old → Leaves (setout v) k (best_met (slice_index_or new k d))) where
   pub all-of : All (IsOf v.instance) new

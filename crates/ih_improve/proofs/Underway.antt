@@ -6,12 +6,12 @@ use Rattle.ih_plan.specs.Series.{AreMoves, after_all}
 use Rattle.ih_plan.proofs.Series.{after_all-plan}
 use Rattle.ih_journal.specs.Frozen.{KeepsFrozen}
 use Rattle.ih_improve.specs.Better.{better_of}
-use Rattle.ih_improve.specs.Legs.{Setout}
-use Rattle.ih_improve.specs.Walking.{IsUnderway, Walking}
+use Rattle.ih_improve.specs.Legs.{LegState}
+use Rattle.ih_improve.specs.WalkerState.{IsUnderway, WalkerState}
 use Rattle.ih_improve.proofs.BetterLemmas.{better-follows}
 
 -- moves that keep the frozen choices are made, and the better of the best before and where they lead is the best
-pub underway-more : (s : Setout) (v w : Walking) (ms : List Move) → IsUnderway s v → AreMoves s.instance ms
+pub underway-more : (s : LegState) (v w : WalkerState) (ms : List Move) → IsUnderway s v → AreMoves s.instance ms
     → KeepsFrozen s.instance s.start s.settings.freeze (after_all s.instance v.now ms)
     → w.instance ≡ v.instance → w.now ≡ after_all v.instance v.now ms → w.best ≡ better_of v.instance s.settings.hard v.best w.now
     → IsUnderway s w

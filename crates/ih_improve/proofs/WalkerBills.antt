@@ -12,9 +12,9 @@ use Rattle.ih_plan.proofs.Series.{after_all-plan}
 use Rattle.ih_plan.specs.BillOf.{bill_of, change_of_bill}
 use Rattle.ih_plan.proofs.BillBounds.{bill-within, change-within}
 use Rattle.ih_plan.proofs.BillSums.{add-change, sum-within}
-use Rattle.ih_costs.specs.Standing.{Standing}
+use Rattle.ih_costs.specs.LedgersState.{LedgersState}
 use Rattle.ih_improve.specs.Better.{better_of, is_better}
-use Rattle.ih_improve.specs.Walking.{AreBills, best_at, kept_with}
+use Rattle.ih_improve.specs.WalkerState.{AreBills, best_at, kept_with}
 
 -- the bill after a change whose price is known
 pub bill-small : (I : Draft) (P Q : Timetable) (now price : Bill) → IsValid I → IsPlanOf I P → IsPlanOf I Q → now ≡ bill_of I P → price ≡ change_of_bill I P Q
@@ -29,12 +29,12 @@ pub best-fits : (I : Draft) (here : Bool) (now kept : Timetable) → IsPlanOf I 
 best-fits I true now kept p q = p
 best-fits I false now kept p q = q
 
-pub best-within : (I : Draft) (l : Standing) (kept : Timetable) (here : Bool) (bill best : Bill) → IsValid I → AreBills I l kept here bill best → IsWithin (10 ^ 11) best
+pub best-within : (I : Draft) (l : LedgersState) (kept : Timetable) (here : Bool) (bill best : Bill) → IsValid I → AreBills I l kept here bill best → IsWithin (10 ^ 11) best
 best-within I l kept here bill best valid are =
     rw are.best_is (bill-within I (best_at here l.plan kept) valid (best-fits I here l.plan kept are.now are.kept_fits))
 
 -- moves in a row with a price, made where the ledgers stand
-module _ (I : Draft) (valid : IsValid I) (hard : ℕ) (l : Standing) (kept : Timetable) (here : Bool) (bill best : Bill) (are : AreBills I l kept here bill best)
+module _ (I : Draft) (valid : IsValid I) (hard : ℕ) (l : LedgersState) (kept : Timetable) (here : Bool) (bill best : Bill) (are : AreBills I l kept here bill best)
     (ms : List Move) (inside : AreMoves I ms) (price : Bill) (priced : price ≡ price_of_all I l.plan ms) where
   next-plan : IsPlanOf I (after_all I l.plan ms)
   next-plan = after_all-plan I l.plan ms are.now inside
@@ -63,7 +63,7 @@ module _ (I : Draft) (valid : IsValid I) (hard : ℕ) (l : Standing) (kept : Tim
           by_case true false = refl
           by_case false false = refl
 
-      pub bills-after : (m : Standing) → m ≡ record l { plan = after_all I l.plan ms } → AreBills I m (kept_with here better l.plan kept) better next (if better then next else best)
+      pub bills-after : (m : LedgersState) → m ≡ record l { plan = after_all I l.plan ms } → AreBills I m (kept_with here better l.plan kept) better next (if better then next else best)
       bills-after m is = rw is (record {
         instance = are.instance;
         now = next-plan;

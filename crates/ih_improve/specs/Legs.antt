@@ -9,7 +9,7 @@ use Rattle.ih_improve.specs.Following.{MayFollow}
 use Rattle.ih_improve.specs.Settings.{IsLawful}
 
 -- All that a worker goes by in a round, beside its own number: which round it is, and from which timetable it goes on.
-pub record Setout : Type 0 where
+pub record LegState : Type 0 where
   pub instance : Draft
   pub start : Timetable
   pub settings : Settings
@@ -17,7 +17,7 @@ pub record Setout : Type 0 where
   pub from : Timetable
 
 -- Another round is to come, and it goes on from a timetable that may take the start's place, with this bill.
-pub record IsSetout (s : Setout) (bill : Bill) : Type 0 where
+pub record IsSetout (s : LegState) (bill : Bill) : Type 0 where
   pub lawful : IsLawful s.settings
   pub round : s.round < s.settings.rounds
   pub start : IsPlanOf s.instance s.start
@@ -25,5 +25,5 @@ pub record IsSetout (s : Setout) (bill : Bill) : Type 0 where
   pub bill_is : bill ≡ bill_of s.instance s.from
 
 -- what a worker may leave: whatever may take the place of the timetable from which it went on
-abbrev pub Leaves : Setout → ℕ → Timetable → Type 0
+abbrev pub Leaves : LegState → ℕ → Timetable → Type 0
 Leaves s worker P = MayFollow s.instance s.start s.settings.freeze s.from P

@@ -1,10 +1,10 @@
 pub mod Better
+pub mod Defaults
 pub mod Following
 pub mod Frozen
-pub mod Heats
-pub mod Improving
+pub mod ImproverState
 pub mod Keeping
 pub mod Laws
 pub mod Legs
 pub mod Settings
-pub mod Walking
+pub mod WalkerState

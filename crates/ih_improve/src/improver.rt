@@ -35,9 +35,9 @@ pub struct Improver<'a> {
 }
 
 impl<'a> Model for Improver<'a> {
-    ghost use Rattle.ih_improve.specs.Improving.{Improving};
+    ghost use Rattle.ih_improve.specs.ImproverState.{ImproverState};
 
-    ghost Value = { Improving };
+    ghost Value = { ImproverState };
 
     ghost use Rattle.ih_improve.specs.Keeping.{IsKeeping};
 
@@ -50,7 +50,7 @@ impl<'a> Model for Improver<'a> {
     } };
 
     ghost invariant = { λ m.
-        let v : Improving = record {
+        let v : ImproverState = record {
           instance = m.inst.now.draft;
           start = m.start;
           settings = m.settings;
@@ -125,7 +125,7 @@ impl<'a> Improver<'a> {
     ghost use Rattle.ih_plan.specs.Timetable.{IsPlanOf};
     ghost use Rattle.ih_plan.specs.BillOf.{bill_of};
     ghost use Rattle.ih_improve.specs.Better.{is_better};
-    ghost use Rattle.ih_improve.specs.Improving.{IsSound, Leads, led_to};
+    ghost use Rattle.ih_improve.specs.ImproverState.{IsSound, Leads, led_to};
     ghost use Rattle.ih_improve.specs.Following.{IsNoDearer};
     ghost use Rattle.ih_improve.specs.Legs.{Leaves};
     ghost use Rattle.ih_improve.specs.Settings.{IsLawful, attempts_through};

@@ -1,6 +1,6 @@
-//! Laws of rounds, each on a function that does nothing.
+//! Laws of searches, each on a function that does nothing.
 
-ghost use Rattle.ih_improve.specs.Laws.{RoundsAreDetermined};
+ghost use Rattle.ih_improve.specs.Laws.{DefaultsAreDetermined, RoundsAreDetermined};
 
 use crate::rounds::Walks;
 
@@ -8,4 +8,9 @@ use crate::rounds::Walks;
 /// same beginning lead to the same timetables, however many workers there are and whatever the threads do.
 pub fn determined_workers_make_determined_rounds<W: Walks>()
     ensures { RoundsAreDetermined W.leaves }
+{}
+
+/// An instance has one set of defaults.
+pub fn defaults_are_determined()
+    ensures { DefaultsAreDetermined }
 {}

@@ -18,9 +18,9 @@ pub struct Leg<'b> {
 }
 
 impl<'b> Model for Leg<'b> {
-    ghost use Rattle.ih_improve.specs.Legs.{IsSetout, Setout};
+    ghost use Rattle.ih_improve.specs.Legs.{IsSetout, LegState};
 
-    ghost Value = { Setout };
+    ghost Value = { LegState };
 
     ghost view = { λ l. record {
       instance = l.inst.now.draft;
@@ -31,7 +31,7 @@ impl<'b> Model for Leg<'b> {
     } };
 
     ghost invariant = { λ l.
-        let s : Setout = record {
+        let s : LegState = record {
           instance = l.inst.now.draft;
           start = l.start.now;
           settings = l.settings;
@@ -43,7 +43,7 @@ impl<'b> Model for Leg<'b> {
 impl<'b> Leg<'b> {
     ghost use Rattle.std.specs.Prelude.{◌≡◌};
     ghost use Rattle.ih_plan.specs.BillOf.{bill_of};
-    ghost use Rattle.ih_improve.specs.Legs.{IsSetout, Setout};
+    ghost use Rattle.ih_improve.specs.Legs.{IsSetout, LegState};
 
     /// What a round of a search begins with.
     pub(crate) fn new(
@@ -54,7 +54,7 @@ impl<'b> Leg<'b> {
         from: &'b Plan,
         bill: &Bill,
     ) -> Leg<'b>
-        requires { let s : Setout = record {
+        requires { let s : LegState = record {
           instance = inst.now.draft;
           start = start.now;
           settings = settings.now;

@@ -3,6 +3,7 @@
 
 mod accepting;
 mod comparing;
+mod defaults;
 mod freezing;
 mod heats;
 mod improver;
@@ -14,9 +15,9 @@ mod settings;
 mod walkers;
 mod workers;
 
-pub use heats::default_heats;
+pub use defaults::Defaults;
 pub use improver::Improver;
-pub use laws::determined_workers_make_determined_rounds;
+pub use laws::{defaults_are_determined, determined_workers_make_determined_rounds};
 pub use legs::Leg;
 pub use rounds::Walks;
 pub use settings::{MAX_ATTEMPTS, MAX_ROUNDS, Settings};

@@ -13,7 +13,7 @@ pub trait Walks {
     ghost use Rattle.std.specs.Prelude.{◌≡◌, ◌<◌, ℕ};
     ghost use Rattle.ih_tables.specs.declared.drafts.Draft.{Draft};
     ghost use Rattle.ih_plan.specs.Timetable.{Timetable};
-    ghost use Rattle.ih_improve.specs.Legs.{Setout};
+    ghost use Rattle.ih_improve.specs.Legs.{LegState};
 
     /// The instance on which it works.
     ghost instance: { Self → Draft };
@@ -22,7 +22,7 @@ pub trait Walks {
     ghost best: { Self → Timetable };
 
     /// What it may leave behind a round: by what the round begins with, and its number.
-    ghost leaves: { Setout → ℕ → Timetable → Type 0 };
+    ghost leaves: { LegState → ℕ → Timetable → Type 0 };
 
     /// Goes on from the round's timetable.
     fn walk(&mut self, leg: &Leg<'_>, number: usize)

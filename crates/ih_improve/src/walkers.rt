@@ -5,7 +5,7 @@ ghost use Rattle.ih_tables.specs.Bills.{IsWithin};
 ghost use Rattle.ih_plan.specs.Timetable.{IsPlanOf};
 ghost use Rattle.ih_plan.specs.BillOf.{bill_of};
 ghost use Rattle.ih_plan.specs.Series.{AreMoves, after_all, price_of_all};
-ghost use Rattle.ih_improve.specs.{Better.better_of, Walking.kept_with};
+ghost use Rattle.ih_improve.specs.{Better.better_of, WalkerState.kept_with};
 
 use crate::comparing::is_better;
 use ih_costs::Ledgers;
@@ -30,9 +30,9 @@ pub(crate) struct Walker<'a> {
 }
 
 impl<'a> Model for Walker<'a> {
-    ghost use Rattle.ih_improve.specs.Walking.{AreBills, Walking, best_at};
+    ghost use Rattle.ih_improve.specs.WalkerState.{AreBills, WalkerState, best_at};
 
-    ghost Value = { Walking };
+    ghost Value = { WalkerState };
 
     ghost view = { λ w. record {
       instance = w.inst.now.draft;

@@ -28,7 +28,7 @@ impl<'a> ImproveWorker<'a> {
     ghost use Rattle.std.specs.Prelude.{◌≡◌, ◌≤◌, ◌^◌, IfOk};
     ghost use Rattle.ih_plan.specs.Timetable.{IsPlanOf};
     ghost use Rattle.ih_plan.specs.BillOf.{bill_of};
-    ghost use Rattle.ih_improve.specs.Walking.{IsUnderway};
+    ghost use Rattle.ih_improve.specs.WalkerState.{IsUnderway};
 
     /// A worker that stands on a timetable with this bill.
     pub(crate) fn new(

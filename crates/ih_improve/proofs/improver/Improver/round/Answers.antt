@@ -3,16 +3,16 @@ use Rattle.std.specs.Prelude.{slice_index_or}
 use Rattle.ih_improve.specs.declared.workers.ImproveWorker.{ImproveWorker}
 use Rattle.ih_improve.specs.Better.{best_of}
 use Rattle.ih_improve.specs.Following.{IsNoDearer}
-use Rattle.ih_improve.specs.Improving.{Improving, Leads, led_to, setout}
+use Rattle.ih_improve.specs.ImproverState.{ImproverState, Leads, led_to, setout}
 use Rattle.ih_improve.specs.Keeping.{IsKeeping, best_met}
-use Rattle.ih_improve.specs.Legs.{Leaves, Setout}
+use Rattle.ih_improve.specs.Legs.{Leaves, LegState}
 use Rattle.ih_improve.proofs.RoundLemmas.{keeps, leads, no_dearer, written-back}
 use Rattle.ih_improve.proofs.improver.Improver.round.Given.{Over}
 use Rattle.ih_improve.proofs.improver.Improver.round.Goals.{After-take_best}
 use Rattle.ih_improve.proofs.improver.Improver.round.Goals as goal
 
 -- the search before the round
-abbrev search : (g : Over) → After-take_best g → Improving
+abbrev search : (g : Over) → After-take_best g → ImproverState
 search g c = record {
   instance = c.self.inside.inst.now.draft;
   start = c.self.inside.start;
@@ -33,12 +33,12 @@ many g c = c.walk_all.auto.workers ∙ ap length c.as_mut_slice.ensures.value
 
 same : (g : Over) (c : After-take_best g) (k : ℕ) (d : ImproveWorker) → k < length (workers g c)
     → (slice_index_or (later g c) k d).walker.instance ≡ (search g c).instance
-same g c k d h = c.walk_all.ensures.same k d (rw c.as_mut_slice.ensures.value h) ∙ ap (λ (s : Setout). s.instance) c.new-leg.ensures
+same g c k d h = c.walk_all.ensures.same k d (rw c.as_mut_slice.ensures.value h) ∙ ap (λ (s : LegState). s.instance) c.new-leg.ensures
 
 left : (g : Over) (c : After-take_best g) (k : ℕ) (d : ImproveWorker) → k < length (workers g c)
     → Leaves (setout (search g c)) k (best_met (slice_index_or (later g c) k d))
 left g c k d h =
-    subst (λ (s : Setout). Leaves s k (best_met (slice_index_or (later g c) k d))) c.new-leg.ensures
+    subst (λ (s : LegState). Leaves s k (best_met (slice_index_or (later g c) k d))) c.new-leg.ensures
     (c.walk_all.ensures.left k d (rw c.as_mut_slice.ensures.value h))
 
 whole : (g : Over) (c : After-take_best g) → take c.self.inside.workers.len (later g c ++ drop (length (later g c)) (workers g c)) ≡ later g c
@@ -50,12 +50,12 @@ best g c = rw (c.as_slice.ensures.value, whole g c) at c.take_best.ensures.kept
 
 pub returns-clause-best : goal.returns-clause-best
 returns-clause-best g c =
-    subst (λ (v : Improving). Leads Leaves v c.take_best.new.kept) c.self.view_is
+    subst (λ (v : ImproverState). Leads Leaves v c.take_best.new.kept) c.self.view_is
     (leads (search g c) c.self.inside.bill (workers g c) (later g c) c.self.invariant (many g c) (same g c) (left g c) c.take_best.new.kept (best g c))
 
 pub returns-clause-no_dearer : goal.returns-clause-no_dearer
 returns-clause-no_dearer g c =
-    subst (λ (v : Improving). IsNoDearer v.instance v.kept c.take_best.new.kept) c.self.view_is
+    subst (λ (v : ImproverState). IsNoDearer v.instance v.kept c.take_best.new.kept) c.self.view_is
     (no_dearer (search g c) c.self.inside.bill (workers g c) (later g c) c.self.invariant (many g c) (same g c) (left g c) c.take_best.new.kept (best g c))
 
 pub invariant_of-self : goal.invariant_of-self

@@ -2,8 +2,8 @@ use Rattle.std.proofs.Common.{◌∙◌, ◌≡◌, ap}
 use Rattle.ih_tables.specs.declared.drafts.Draft.{Draft}
 use Rattle.ih_plan.specs.Timetable.{Timetable}
 use Rattle.ih_plan.specs.Series.{AreMoves, after_all, price_of_all}
-use Rattle.ih_costs.specs.Standing.{Standing}
-use Rattle.ih_improve.specs.Walking.{kept_with}
+use Rattle.ih_costs.specs.LedgersState.{LedgersState}
+use Rattle.ih_improve.specs.WalkerState.{kept_with}
 use Rattle.ih_improve.proofs.WalkerBills.{best-after, best-within, bills-after, next-within, sum-small}
 use Rattle.ih_improve.proofs.walkers.Walker.make_moves.Goals as goal
 
@@ -35,7 +35,7 @@ invariant_of-self c =
     let I = w.inst.now.draft in
     let ms : AreMoves I c.args.moves.now = rw (← c.self.view_is) at c.requires.moves in
     let price : c.args.price.now ≡ price_of_all I w.ledgers.plan c.args.moves.now = rw (← c.self.view_is) at c.requires.price in
-    let m : Standing = c.play_all.new.self in
+    let m : LedgersState = c.play_all.new.self in
     let made : m ≡ record w.ledgers { plan = after_all I w.ledgers.plan c.args.moves.now } =
     c.play_all.ensures ∙ ap (λ (J : Draft). record w.ledgers { plan = after_all J w.ledgers.plan c.args.moves.now }) c.self.invariant.instance in
     let after = bills-after I w.inst.now.valid c.args.hard w.ledgers w.kept w.stands_on_best w.bill w.best_bill c.self.invariant c.args.moves.now ms c.args.price.now price

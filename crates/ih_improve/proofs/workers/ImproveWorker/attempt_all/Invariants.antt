@@ -1,5 +1,5 @@
 use Rattle.std.proofs.Common.{◌≤◌, ◌^◌}
-use Rattle.ih_improve.specs.Walking.{IsUnderway}
+use Rattle.ih_improve.specs.WalkerState.{IsUnderway}
 use Rattle.ih_improve.proofs.workers.ImproveWorker.attempt_all.Given as goal
 
 abbrev pub invariant-loop-number : goal.invariant-loop-number

@@ -5,12 +5,12 @@ use Rattle.ih_tables.specs.declared.drafts.Draft.{Draft}
 use Rattle.ih_plan.specs.Timetable.{Timetable, IsPlanOf}
 use Rattle.ih_plan.specs.BillOf.{bill_of}
 use Rattle.ih_journal.specs.Frozen.{KeepsFrozen}
-use Rattle.ih_costs.specs.Standing.{Standing}
+use Rattle.ih_costs.specs.LedgersState.{LedgersState}
 use Rattle.ih_improve.specs.Following.{MayFollow}
-use Rattle.ih_improve.specs.Legs.{Setout}
+use Rattle.ih_improve.specs.Legs.{LegState}
 
 -- Where a worker stands, and the best timetable that it has met.
-pub record Walking : Type 0 where
+pub record WalkerState : Type 0 where
   pub instance : Draft
   pub now : Timetable
   pub best : Timetable
@@ -24,7 +24,7 @@ abbrev pub kept_with : Bool → Bool → Timetable → Timetable → Timetable
 kept_with stands_on_best is_bettered now kept = if stands_on_best && not is_bettered then now else kept
 
 -- the bills that a worker keeps are those of the timetable where it stands and of the best
-pub record AreBills (I : Draft) (l : Standing) (kept : Timetable) (stands_on_best : Bool) (bill best_bill : Bill)
+pub record AreBills (I : Draft) (l : LedgersState) (kept : Timetable) (stands_on_best : Bool) (bill best_bill : Bill)
     : Type 0 where
   pub instance : l.instance ≡ I
   pub now : IsPlanOf I l.plan
@@ -34,7 +34,7 @@ pub record AreBills (I : Draft) (l : Standing) (kept : Timetable) (stands_on_bes
 
 -- On its way in a round a worker stands on a timetable of the instance that keeps the start's choices before the freeze
 -- day, and its best may take the place of the timetable from which it went on.
-pub record IsUnderway (s : Setout) (w : Walking) : Type 0 where
+pub record IsUnderway (s : LegState) (w : WalkerState) : Type 0 where
   pub instance : w.instance ≡ s.instance
   pub now : IsPlanOf s.instance w.now
   pub frozen : KeepsFrozen s.instance s.start s.settings.freeze w.now

@@ -5,11 +5,11 @@ use Rattle.ih_plan.specs.Timetable.{Timetable, IsPlanOf}
 use Rattle.ih_improve.specs.declared.settings.Settings.{Settings}
 use Rattle.ih_improve.specs.Better.{best_of}
 use Rattle.ih_improve.specs.Following.{MayFollow}
-use Rattle.ih_improve.specs.Legs.{Setout}
+use Rattle.ih_improve.specs.Legs.{LegState}
 use Rattle.ih_improve.specs.Settings.{IsLawful}
 
 -- A search over a start, how many rounds are over, and the best timetable so far.
-pub record Improving : Type 0 where
+pub record ImproverState : Type 0 where
   pub instance : Draft
   pub start : Timetable
   pub settings : Settings
@@ -18,23 +18,23 @@ pub record Improving : Type 0 where
 
 -- Between rounds: the best so far fits the instance, keeps the start's choices before the freeze day, and is no dearer
 -- than the start.
-pub record IsSound (v : Improving) : Type 0 where
+pub record IsSound (v : ImproverState) : Type 0 where
   pub lawful : IsLawful v.settings
   pub rounds : v.rounds ≤ v.settings.rounds
   pub start : IsPlanOf v.instance v.start
   pub kept : MayFollow v.instance v.start v.settings.freeze v.start v.kept
 
 -- what the workers go by in the next round
-abbrev pub setout : Improving → Setout
+abbrev pub setout : ImproverState → LegState
 setout v = record { instance = v.instance; start = v.start; settings = v.settings; round = v.rounds; from = v.kept }
 
 -- one round more, which led to P
-abbrev pub led_to : Improving → Timetable → Improving
+abbrev pub led_to : ImproverState → Timetable → ImproverState
 led_to v P = record v { rounds = v.rounds + 1; kept = P }
 
 -- A round leads to P: each worker leaves a timetable, as a worker with its number may that goes by no more than what the
 -- round begins with, and P is the best of these and of the one before it, the first on a tie.
-pub record Leads (may_leave : Setout → ℕ → Timetable → Type 0) (v : Improving) (P : Timetable) : Type 0 where
+pub record Leads (may_leave : LegState → ℕ → Timetable → Type 0) (v : ImproverState) (P : Timetable) : Type 0 where
   pub left : List Timetable
   pub each_worker : length left ≡ v.settings.workers
   pub leaves : (w : ℕ) (Q : Timetable) → slice_get left w ≡ Some Q → may_leave (setout v) w Q
