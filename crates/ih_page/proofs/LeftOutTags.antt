@@ -1,28 +1,26 @@
--- The tags of the patients who are left out are the page's own.
+-- The tags of the patients who are left out are the page's own, and each item gives its patient's id.
 use Rattle.std.proofs.Common.{ℕ, Bool, true, false, refl, Option, Some, None}
-use Rattle.ih_tables.specs.declared.drafts.Draft.{Draft}
+use Rattle.ih_dates.specs.declared.dates.Date.{Date}
 use Rattle.ih_tables.specs.declared.drafts.Patient.{Patient}
-use Rattle.ih_plan.specs.Timetable.{Timetable}
-use Rattle.ih_page.specs.Html.{labelled, numbered}
-use Rattle.ih_page.specs.LeftOut.{last_day, need_text, window_text, left_out_item, left_out_of, left_out}
-use Rattle.ih_page.proofs.Scans.{Own, all-below, if-any, by_pieces}
-use Rattle.ih_page.proofs.NamesAndNumbers.{number, names_and_numbers}
+use Rattle.ih_page.specs.Html.{numbered}
+use Rattle.ih_page.specs.LeftOut.{last_day, left_out_item, need_text, window_text}
+use Rattle.ih_page.proofs.Scans.{GivesId, Own, by_pieces}
+use Rattle.ih_page.proofs.NamesAndNumbers.{names_and_numbers}
+use Rattle.ih_page.proofs.IdNumbers.{one_number}
+use Rattle.ih_page.proofs.DayTags.{day-in-line, last-day-in-line}
 
-last-day : (d : Option ℕ) → Own (last_day d)
-last-day None = refl
-last-day (Some d) = number d
+last-day : (first : Option Date) (d : Option ℕ) → Own (last_day first d)
+last-day first None ids = refl
+last-day first (Some d) ids = last-day-in-line first d ids
 
 need : (b : Bool) → Own (need_text b)
-need true = refl
-need false = refl
+need true ids = refl
+need false ids = refl
 
-item : (p : ℕ) (a : Patient) → Own (left_out_item p a)
-unfolding numbered labelled window_text
-item p a = simp (by_pieces, names_and_numbers, need, last-day) refl
+window : (first : Option Date) (a : Patient) → Own (window_text first a)
+unfolding window_text
+window first a ids = simp (by_pieces, day-in-line, last-day) refl
 
-of : (I : Draft) (P : Timetable) (p : ℕ) → Own (left_out_of I P p)
-of I P p = simp (by_pieces, if-any (left_out_item p) (item p)) refl
-
-pub left-out-own : (I : Draft) (P : Timetable) → Own (left_out I P)
-unfolding left_out
-left-out-own I P = simp (by_pieces, all-below (left_out_of I P) (of I P)) refl
+pub left-out-item : (first : Option Date) (p : ℕ) (a : Patient) → GivesId (one_number 112 p) (left_out_item first p a)
+unfolding numbered
+left-out-item first p a ids = simp (by_pieces, names_and_numbers, need, window) refl

@@ -7,7 +7,10 @@ pub mod OrderLemmas
 pub mod ListSums
 pub mod Scans
 pub mod NamesAndNumbers
+pub mod OpenedIds
 pub mod OwnTags
+pub mod IdNumbers
+pub mod IdPlaces
 pub mod SummaryTags
 pub mod LeftOutTags
 pub mod DayTags
@@ -18,6 +21,8 @@ pub mod WrongTags
 pub mod OverviewTags
 pub mod IndexTags
 pub mod ChangeTags
+pub mod RoomIds
+pub mod SectionIds
 pub mod PageTags
 pub mod Parts
 pub mod LinkPlaces

@@ -1,6 +1,6 @@
--- The cells and rows to which links lead stand in the page.
-use Rattle.std.proofs.Common.{◌≡◌, ℕ, ◌+◌, ◌*◌, ◌/◌, ◌%◌, ◌<◌, arith, refl, subst, sym, List, [], ◌++◌, codes, Option, Some, None}
-use Rattle.std.specs.Prelude.{◌==◌, is_none, slice_get, if◌then◌else◌}
+-- What links lead to stands in the page.
+use Rattle.std.proofs.Common.{◌≡◌, ◌∙◌, ap, ℕ, ◌+◌, ◌*◌, ◌/◌, ◌%◌, ◌<◌, arith, refl, subst, sym, List, [], ◌∷◌, codes, Option, Some, None}
+use Rattle.std.specs.Prelude.{◌==◌, ◌≢◌, is_none, pos, slice_get, slice_index, sum_by, if◌then◌else◌}
 use Rattle.std.specs.Option.{option_map_or}
 use Rattle.std.proofs.lemmas.Bool.{eq-eqb}
 use Rattle.ih_dates.specs.declared.dates.Date.{Date}
@@ -15,23 +15,70 @@ use Rattle.ih_validate.specs.Report.{lines_below}
 use Rattle.ih_validate.specs.Surgery.{count_of, one_of}
 use Rattle.ih_validate.specs.declared.surgery.ResourceKind.{ResourceKind}
 use Rattle.ih_validate.specs.declared.surgery.ResourceKind.TheVariants.{Theatres, Surgeons}
+use Rattle.ih_page.specs.BillLines.{IsLine, number_in}
 use Rattle.ih_page.specs.DayHeads.{heads_and_days}
 use Rattle.ih_page.specs.LeftOut.{left_out_item, left_out_of, left_out}
-use Rattle.ih_page.specs.Nursing.{load_td, nurse_head, nurse_row, nurses_text}
+use Rattle.ih_page.specs.Nursing.{load_td, nurse_head, nurse_row, nurses_text, shift_heads}
+use Rattle.ih_page.specs.Order.{dearest_first}
 use Rattle.ih_page.specs.Page.{opening, top, tables, page_of}
+use Rattle.ih_page.specs.PatientIndex.{patient_index}
 use Rattle.ih_page.specs.Places.{IsPartOf, LinksLead, person_text}
 use Rattle.ih_page.specs.Rooms.{patient_row, patient_in, admitted_rows, nurse_td, occupant_in, occupant_row, shift_row, shift_type_name, count_td, room_head, count_row, person_rows, room_text, legend, rooms_text}
 use Rattle.ih_page.specs.Summary.{summary}
 use Rattle.ih_page.specs.Surgery.{resource_name, surgery_td, surgery_row, heads_of, surgery_text}
-use Rattle.ih_page.specs.Wrong.{wrong_text}
+use Rattle.ih_page.specs.Wrong.{amounts, line_list, line_lists, list_head, list_if_any, list_of, wrong_text}
+use Rattle.ih_page.specs.declared.bill_lines.Line.{Line}
+use Rattle.ih_page.specs.declared.bill_lines.Line.TheVariants.{Rule, Cost}
+use Rattle.ih_page.proofs.ListSums.{lists-sum}
 use Rattle.ih_page.proofs.Parts.{whole, in-first, in-rest, in-lines, in-some}
 
 module _ (I : Draft) (first : Option Date) (older : Option Timetable) (P : Timetable) where
   in-tables : (part : List ℕ) → IsPartOf part (tables I first P) → IsPartOf part (page_of I first older P)
   unfolding page_of
   in-tables part h =
-      in-rest part opening _ (in-rest part (top I first older P) _ (in-rest part (summary I.weights (bill_of I P)) _
-      (in-rest part (wrong_text I P) _ (in-first part (tables I first P) (codes "</main>\n") h))))
+      in-rest part (opening I.weights (bill_of I P)) _ (in-rest part (top I first older P) _ (in-rest part (summary I.weights (bill_of I P)) _
+      (in-rest part (wrong_text I first P) _ (in-first part (tables I first P) (codes "</main>\n") h))))
+
+  -- ---- what breaks rules and what costs
+
+  in-wrong : (part : List ℕ) → IsPartOf part (wrong_text I first P) → IsPartOf part (page_of I first older P)
+  unfolding page_of
+  in-wrong part h =
+      in-rest part (opening I.weights (bill_of I P)) _ (in-rest part (top I first older P) _ (in-rest part (summary I.weights (bill_of I P)) _
+      (in-first part (wrong_text I first P) _ h)))
+
+  wrong-head : IsPartOf (codes "<h2 id=wrong>") (wrong_text I first P)
+  unfolding wrong_text
+  wrong-head =
+      in-first (codes "<h2 id=wrong>") (codes "<h2 id=wrong>What breaks rules, what costs, and where</h2>\n") _
+      (record { before = []; after = codes "What breaks rules, what costs, and where</h2>\n"; is = refl })
+
+  some-listed : (l : Line) → IsLine l → number_in (bill_of I P) l ≢ pos 0 → dearest_first (amounts I P l) ≢ []
+  some-listed l h some none =
+      let sum = slice_index (amounts I P l) in
+      some (sym (lists-sum I P l h) ∙ ap pos (ap (sum_by sum) none))
+
+  list-shown : (l : Line) (xs ns : List ℕ) → ns ≢ [] → IsPartOf (list_head (bill_of I P) l) (list_if_any I first P l xs ns)
+  unfolding list_of
+  list-shown l xs [] some = absurd (some refl)
+  list-shown l xs (n ∷ ns) some = let part = list_head (bill_of I P) l in in-first part part _ (whole part)
+
+  line-shown : (l : Line) → IsLine l → number_in (bill_of I P) l ≢ pos 0 → IsPartOf (list_head (bill_of I P) l) (line_list I first P l)
+  line-shown l h some = list-shown l (amounts I P l) (dearest_first (amounts I P l)) (some-listed l h some)
+
+  among-lists : (l : Line) → IsLine l → number_in (bill_of I P) l ≢ pos 0 → IsPartOf (list_head (bill_of I P) l) (line_lists I first P)
+  among-lists (Rule i) h some =
+      let part = list_head (bill_of I P) (Rule i) in
+      let lists = λ (j : ℕ). line_list I first P (Rule j) in
+      in-first part (lines_below 9 lists) _ (in-lines part lists i 9 h (line-shown (Rule i) h some))
+  among-lists (Cost i) h some =
+      let part = list_head (bill_of I P) (Cost i) in
+      let lists = λ (j : ℕ). line_list I first P (Cost j) in
+      in-rest part (lines_below 9 (λ j. line_list I first P (Rule j))) _ (in-lines part lists i 8 h (line-shown (Cost i) h some))
+
+  list-of-line : (l : Line) → IsLine l → number_in (bill_of I P) l ≢ pos 0 → IsPartOf (list_head (bill_of I P) l) (page_of I first older P)
+  unfolding wrong_text
+  list-of-line l h some = let part = list_head (bill_of I P) l in in-wrong part (in-rest part (codes "<h2 id=wrong>What breaks rules, what costs, and where</h2>\n") _ (among-lists l h some))
 
   -- ---- rooms
 
@@ -43,7 +90,7 @@ module _ (I : Draft) (first : Option Date) (older : Option Timetable) (P : Timet
 
   in-rooms : (part : List ℕ) → IsPartOf part (rooms_text I first P) → IsPartOf part (tables I first P)
   unfolding tables
-  in-rooms part h = in-rest part (left_out I P) _ (in-first part (rooms_text I first P) _ h)
+  in-rooms part h = in-rest part (left_out I first P) _ (in-first part (rooms_text I first P) _ h)
 
   count : (r d : ℕ) → d < I.days → IsPartOf (count_td I P r d) (count_row I P r)
   unfolding count_row
@@ -144,28 +191,28 @@ module _ (I : Draft) (first : Option Date) (older : Option Timetable) (P : Timet
   -- ---- those who are left out
 
   out : (p : ℕ) (a : Patient) (o : Option Placement) → None ≡ o → slice_get I.patients p ≡ Some a
-      → IsPartOf (left_out_item p a) (if is_none o then option_map_or (left_out_item p) (slice_get I.patients p) [] else [])
+      → IsPartOf (left_out_item first p a) (if is_none o then option_map_or (left_out_item first p) (slice_get I.patients p) [] else [])
   out p a o none known =
-      let item = λ (z : Option Placement). if is_none z then option_map_or (left_out_item p) (slice_get I.patients p) [] else [] in
-      subst (λ (z : Option Placement). IsPartOf (left_out_item p a) (item z)) none
-      (in-some (left_out_item p a) (left_out_item p) (slice_get I.patients p) a known (whole (left_out_item p a)))
+      let item = λ (z : Option Placement). if is_none z then option_map_or (left_out_item first p) (slice_get I.patients p) [] else [] in
+      subst (λ (z : Option Placement). IsPartOf (left_out_item first p a) (item z)) none
+      (in-some (left_out_item first p a) (left_out_item first p) (slice_get I.patients p) a known (whole (left_out_item first p a)))
 
   among-left-out : (p : ℕ) (a : Patient) → p < patient_count I → stay_of P p ≡ None → slice_get I.patients p ≡ Some a
-      → IsPartOf (left_out_item p a) (left_out I P)
+      → IsPartOf (left_out_item first p a) (left_out I first P)
   unfolding left_out
   among-left-out p a h none known =
-      let part = left_out_item p a in
+      let part = left_out_item first p a in
       in-rest part (codes "<h2 id=left>Patients who are left out</h2>\n<ul>\n") _
-      (in-first part (lines_below (patient_count I) (left_out_of I P)) (codes "</ul>\n")
-      (in-lines part (left_out_of I P) p (patient_count I) h (out p a (stay_of P p) (sym none) known)))
+      (in-first part (lines_below (patient_count I) (left_out_of I first P)) _
+      (in-lines part (left_out_of I first P) p (patient_count I) h (out p a (stay_of P p) (sym none) known)))
 
-  in-left-out : (part : List ℕ) → IsPartOf part (left_out I P) → IsPartOf part (tables I first P)
+  in-left-out : (part : List ℕ) → IsPartOf part (left_out I first P) → IsPartOf part (tables I first P)
   unfolding tables
-  in-left-out part h = in-first part (left_out I P) _ h
+  in-left-out part h = in-first part (left_out I first P) _ h
 
   person : (p : ℕ) (a : Patient) (o : Option Placement) → IsPlanOf I P → p < patient_count I → stay_of P p ≡ o → slice_get I.patients p ≡ Some a
-      → IsPartOf (person_text I p a o) (page_of I first older P)
-  person p a None plan h stay known = in-tables (left_out_item p a) (in-left-out (left_out_item p a) (among-left-out p a h stay known))
+      → IsPartOf (person_text I first p a o) (page_of I first older P)
+  person p a None plan h stay known = in-tables (left_out_item first p a) (in-left-out (left_out_item first p a) (among-left-out p a h stay known))
   person p a (Some at) plan h stay known =
       let part = patient_row I p at a in
       let placed : IsPlacement I at = plan.placed p at stay in
@@ -192,7 +239,7 @@ module _ (I : Draft) (first : Option Date) (older : Option Timetable) (P : Timet
   in-theatres : (part : List ℕ) → IsPartOf part (surgery_text I first P Theatres) → IsPartOf part (tables I first P)
   unfolding tables
   in-theatres part h =
-      in-rest part (left_out I P) _ (in-rest part (rooms_text I first P) _ (in-first part (surgery_text I first P Theatres) _ h))
+      in-rest part (left_out I first P) _ (in-rest part (rooms_text I first P) _ (in-first part (surgery_text I first P Theatres) _ h))
 
   theatre-cell : (t d : ℕ) → t < theatre_count I → d < I.days → IsPartOf (surgery_td I P (one_of Theatres t) d) (page_of I first older P)
   theatre-cell t d h k =
@@ -202,7 +249,7 @@ module _ (I : Draft) (first : Option Date) (older : Option Timetable) (P : Timet
   in-surgeons : (part : List ℕ) → IsPartOf part (surgery_text I first P Surgeons) → IsPartOf part (tables I first P)
   unfolding tables
   in-surgeons part h =
-      in-rest part (left_out I P) _ (in-rest part (rooms_text I first P) _
+      in-rest part (left_out I first P) _ (in-rest part (rooms_text I first P) _
       (in-rest part (surgery_text I first P Theatres) _ (in-first part (surgery_text I first P Surgeons) _ h)))
 
   surgeon-cell : (s d : ℕ) → s < surgeon_count I → d < I.days → IsPartOf (surgery_td I P (one_of Surgeons s) d) (page_of I first older P)
@@ -220,19 +267,40 @@ module _ (I : Draft) (first : Option Date) (older : Option Timetable) (P : Timet
   nurse : (part : List ℕ) (n : ℕ) → n < nurse_count I → IsPartOf part (nurse_row I P n) → IsPartOf part (nurses_text I first P)
   unfolding nurses_text
   nurse part n h k =
-      in-rest part _ _ (in-first part (lines_below (nurse_count I) (nurse_row I P)) (codes "</table></div>\n")
-      (in-lines part (nurse_row I P) n (nurse_count I) h k))
+      in-rest part _ _ (in-rest part (shift_heads I) _
+      (in-first part (lines_below (nurse_count I) (nurse_row I P)) (codes "</table></div>\n")
+      (in-lines part (nurse_row I P) n (nurse_count I) h k)))
 
   in-nurses : (part : List ℕ) → IsPartOf part (nurses_text I first P) → IsPartOf part (tables I first P)
   unfolding tables
   in-nurses part h =
-      in-rest part (left_out I P) _ (in-rest part (rooms_text I first P) _ (in-rest part (surgery_text I first P Theatres) _
+      in-rest part (left_out I first P) _ (in-rest part (rooms_text I first P) _ (in-rest part (surgery_text I first P Theatres) _
       (in-rest part (surgery_text I first P Surgeons) _ (in-first part (nurses_text I first P) _ h))))
 
   nurse-cell : (n k : ℕ) → n < nurse_count I → k < shift_count I → IsPartOf (load_td I P n k) (page_of I first older P)
   nurse-cell n k h l =
       let part = load_td I P n k in
       in-tables part (in-nurses part (nurse part n h (load n k l)))
+
+  -- ---- heads
+
+  left-head : IsPartOf (codes "<h2 id=left>") (left_out I first P)
+  unfolding left_out
+  left-head =
+      in-first (codes "<h2 id=left>") (codes "<h2 id=left>Patients who are left out</h2>\n<ul>\n") _
+      (record { before = []; after = codes "Patients who are left out</h2>\n<ul>\n"; is = refl })
+
+  index-head : IsPartOf (codes "<h2 id=index>") (patient_index I first P)
+  unfolding patient_index
+  index-head =
+      in-first (codes "<h2 id=index>") (codes "<h2 id=index>Patients</h2>\n<ul>\n") _
+      (record { before = []; after = codes "Patients</h2>\n<ul>\n"; is = refl })
+
+  in-index : (part : List ℕ) → IsPartOf part (patient_index I first P) → IsPartOf part (tables I first P)
+  unfolding tables
+  in-index part h =
+      in-rest part (left_out I first P) _ (in-rest part (rooms_text I first P) _ (in-rest part (surgery_text I first P Theatres) _
+      (in-rest part (surgery_text I first P Surgeons) _ (in-rest part (nurses_text I first P) _ h))))
 
   pub links-lead : IsPlanOf I P → LinksLead I first older P
   links-lead plan = record {
@@ -243,4 +311,8 @@ module _ (I : Draft) (first : Option Date) (older : Option Timetable) (P : Timet
     nurses = nurse-cell;
     patients = λ p a h known. person p a (stay_of P p) plan h refl known;
     occupants = occupant;
+    lists = list-of-line;
+    wrong = in-wrong (codes "<h2 id=wrong>") wrong-head;
+    left = in-tables (codes "<h2 id=left>") (in-left-out (codes "<h2 id=left>") left-head);
+    index = in-tables (codes "<h2 id=index>") (in-index (codes "<h2 id=index>") index-head);
   }

@@ -1,5 +1,6 @@
--- The tags of the nurses are the page's own.
-use Rattle.std.proofs.Common.{ℕ, ◌++◌, codes, refl, Option, Some, None}
+-- The tags of the nurses are the page's own, and each cell gives its id.
+use Rattle.std.proofs.Common.{ℕ, [], ◌++◌, codes, refl, Option, Some, None}
+use Rattle.std.specs.Option.{option_map_or}
 use Rattle.ih_dates.specs.declared.dates.Date.{Date}
 use Rattle.ih_tables.specs.declared.drafts.Draft.{Draft}
 use Rattle.ih_tables.specs.declared.drafts.Nurse.{Nurse}
@@ -8,28 +9,35 @@ use Rattle.ih_plan.specs.Timetable.{Timetable}
 use Rattle.ih_plan.specs.Costs.{load_of}
 use Rattle.ih_page.specs.DayHeads.{day_head, heads_and_days}
 use Rattle.ih_page.specs.Rooms.{marked, anchor_text, td_at}
-use Rattle.ih_page.specs.Nursing.{given_rooms, load_text, load_td, nurse_head, nurse_row, nurses_text}
-use Rattle.ih_page.proofs.Scans.{Own, all-below, if-any, by_pieces}
+use Rattle.ih_page.specs.Nursing.{given_rooms, load_text, load_td, nurse_head, shift_head, shift_heads}
+use Rattle.ih_page.proofs.Scans.{GivesId, Own, all-below, if-any, by_pieces}
 use Rattle.ih_page.proofs.NamesAndNumbers.{names_and_numbers}
+use Rattle.ih_page.proofs.IdNumbers.{two_numbers}
 use Rattle.ih_page.proofs.DayTags.{wide-day}
+use Rattle.ih_page.proofs.RoomTags.{shift-name}
 
-cell-of : (most : Option ℕ) (n k rooms load : ℕ) → Own (td_at (codes "n") n k ++ load_text most rooms load)
+cell-of : (most : Option ℕ) (n k rooms load : ℕ) → GivesId (two_numbers 110 n k) (td_at (codes "n") n k ++ load_text most rooms load)
 unfolding td_at marked anchor_text
-cell-of None n k rooms load = simp (by_pieces, names_and_numbers) refl
-cell-of (Some most) n k rooms load = simp (by_pieces, names_and_numbers) refl
+cell-of None n k rooms load ids = simp (by_pieces, names_and_numbers) refl
+cell-of (Some most) n k rooms load ids = simp (by_pieces, names_and_numbers) refl
 
-cell : (I : Draft) (P : Timetable) (n k : ℕ) → Own (load_td I P n k)
+pub cell : (I : Draft) (P : Timetable) (n k : ℕ) → GivesId (two_numbers 110 n k) (load_td I P n k)
 cell I P n k = cell-of (max_load I n k) n k (given_rooms I P n k) (load_of I P n k)
 
 head : (a : Nurse) → Own (nurse_head a)
 unfolding nurse_head
-head a = simp (by_pieces, names_and_numbers) refl
+head a ids = simp (by_pieces, names_and_numbers) refl
 
-row : (I : Draft) (P : Timetable) (n : ℕ) → Own (nurse_row I P n)
-unfolding nurse_row
-row I P n = simp (by_pieces, if-any nurse_head head, all-below (load_td I P n) (cell I P n)) refl
+pub nurse-head : (o : Option Nurse) → Own (option_map_or nurse_head o [])
+nurse-head o = if-any nurse_head head o
 
-pub nurses-own : (I : Draft) (first : Option Date) (P : Timetable) → Own (nurses_text I first P)
-unfolding nurses_text heads_and_days
-nurses-own I first P =
-    simp (by_pieces, all-below (day_head first (codes "<th colspan=3>")) (wide-day first), all-below (nurse_row I P) (row I P)) refl
+shift : (I : Draft) (k : ℕ) → Own (shift_head I k)
+shift I k ids = simp (by_pieces, shift-name) refl
+
+pub nurse-heads : (I : Draft) (first : Option Date) → Own (heads_and_days I first (codes "<h2>Nurses by shifts: workload of the maximum</h2>\n<div><table><tr><th>nurse<th>skill") (codes "<th colspan=3>"))
+unfolding heads_and_days
+nurse-heads I first ids = simp (by_pieces, all-below (day_head first (codes "<th colspan=3>")) (wide-day first)) refl
+
+pub shift-heads : (I : Draft) → Own (shift_heads I)
+unfolding shift_heads
+shift-heads I ids = simp (by_pieces, all-below (shift_head I) (shift I)) refl

@@ -22,46 +22,46 @@ use Rattle.ih_page.proofs.WrongTags.{room}
 
 room-cell : (I : Draft) (P : Timetable) (r d : ℕ) → Own (room_share I P r d)
 unfolding share_td quarter_td used_text anchor_text labelled
-room-cell I P r d = simp (by_pieces, names_and_numbers) refl
+room-cell I P r d ids = simp (by_pieces, names_and_numbers) refl
 
 room-row : (I : Draft) (P : Timetable) (r : ℕ) → Own (room_shares I P r)
 unfolding room_shares
-room-row I P r = simp (by_pieces, room, all-below (room_share I P r) (room-cell I P r)) refl
+room-row I P r ids = simp (by_pieces, room, all-below (room_share I P r) (room-cell I P r)) refl
 
 surgery-cell : (I : Draft) (P : Timetable) (w : Resource) (d : ℕ) → Own (surgery_share I P w d)
 unfolding share_td quarter_td used_text anchor_text labelled
-surgery-cell I P (OfTheatre t) d = simp (by_pieces, names_and_numbers) refl
-surgery-cell I P (OfSurgeon s) d = simp (by_pieces, names_and_numbers) refl
+surgery-cell I P (OfTheatre t) d ids = simp (by_pieces, names_and_numbers) refl
+surgery-cell I P (OfSurgeon s) d ids = simp (by_pieces, names_and_numbers) refl
 
 surgery-row : (I : Draft) (P : Timetable) (w : Resource) → Own (surgery_shares I P w)
 unfolding surgery_shares
-surgery-row I P w = simp (by_pieces, resource, all-below (surgery_share I P w) (surgery-cell I P w)) refl
+surgery-row I P w ids = simp (by_pieces, resource, all-below (surgery_share I P w) (surgery-cell I P w)) refl
 
 excess : (I : Draft) (n k x : ℕ) → Own (excess_text I n k x)
 unfolding excess_text nurse_link anchor_text
-excess I n k x = simp (by_pieces, names_and_numbers, nurse-name) refl
+excess I n k x ids = simp (by_pieces, names_and_numbers, nurse-name) refl
 
 above-if : (I : Draft) (n k load : ℕ) (most : Option ℕ) → Own (above_text I n k load most)
-above-if I n k load None = refl
-above-if I n k load (Some most) = simp (by_pieces, excess) refl
+above-if I n k load None ids = refl
+above-if I n k load (Some most) ids = simp (by_pieces, excess) refl
 
 above-cell : (I : Draft) (P : Timetable) (k : ℕ) → Own (above_td I P k)
 unfolding above_td
-above-cell I P k =
+above-cell I P k ids =
     simp (by_pieces, all-below (above_of I P k) (λ n. above-if I n k (load_of I P n k) (max_load I n k))) refl
 
 above-cells : (I : Draft) (P : Timetable) (j : ℕ) → Own (above_row I P j)
 unfolding above_row
-above-cells I P j =
+above-cells I P j ids =
     simp (by_pieces, shift-name, all-below (λ d. above_td I P (3 * d + j)) (λ d. above-cell I P (3 * d + j))) refl
 
 rooms : (I : Draft) (first : Option Date) (P : Timetable) → Own (rooms_overview I first P)
 unfolding rooms_overview heads_and_days
-rooms I first P = simp (by_pieces, all-below (day_head first (codes "<th>")) (day first), all-below (room_shares I P) (room-row I P)) refl
+rooms I first P ids = simp (by_pieces, all-below (day_head first (codes "<th>")) (day first), all-below (room_shares I P) (room-row I P)) refl
 
 theatres : (I : Draft) (first : Option Date) (P : Timetable) → Own (theatres_overview I first P)
 unfolding theatres_overview heads_and_days
-theatres I first P =
+theatres I first P ids =
     simp (
       by_pieces,
       all-below (day_head first (codes "<th>")) (day first),
@@ -70,8 +70,8 @@ theatres I first P =
 
 nurses : (I : Draft) (first : Option Date) (P : Timetable) → Own (nurses_overview I first P)
 unfolding nurses_overview heads_and_days
-nurses I first P = simp (by_pieces, all-below (day_head first (codes "<th>")) (day first), all-below (above_row I P) (above-cells I P)) refl
+nurses I first P ids = simp (by_pieces, all-below (day_head first (codes "<th>")) (day first), all-below (above_row I P) (above-cells I P)) refl
 
 pub overview-own : (I : Draft) (first : Option Date) (P : Timetable) → Own (overview I first P)
 unfolding overview
-overview-own I first P = simp (by_pieces, rooms, theatres, nurses) refl
+overview-own I first P ids = simp (by_pieces, rooms, theatres, nurses) refl

@@ -11,27 +11,27 @@ use Rattle.ih_page.proofs.NamesAndNumbers.{names_and_numbers}
 
 pub rule-name : (i : ℕ) → Own (rule_name i)
 unfolding rule_name
-rule-name i = simp by_pieces refl
+rule-name i ids = simp by_pieces refl
 
 pub cost-name : (i : ℕ) → Own (cost_name i)
 unfolding cost_name
-cost-name i = simp by_pieces refl
+cost-name i ids = simp by_pieces refl
 
 rule-row : (i : ℕ) (x : ℤ) → Own (rule_row i x)
 unfolding line_head line_link line_text hard_text
-rule-row i x = simp (by_pieces, names_and_numbers, rule-name) refl
+rule-row i x ids = simp (by_pieces, names_and_numbers, rule-name) refl
 
 cost-row : (i : ℕ) (x w : ℤ) → Own (cost_row i x w)
 unfolding line_head line_link line_text product_text
-cost-row i x w = simp (by_pieces, names_and_numbers, cost-name) refl
+cost-row i x w ids = simp (by_pieces, names_and_numbers, cost-name) refl
 
 verdict : (b : Bool) → Own (feasible_text b)
-verdict true = refl
-verdict false = refl
+verdict true ids = refl
+verdict false ids = refl
 
 pub verdict-of : (w : Weights) (b : Bill) → Own (headline w b)
 unfolding headline
-verdict-of w b = simp (by_pieces, names_and_numbers, verdict) refl
+verdict-of w b ids = simp (by_pieces, names_and_numbers, verdict) refl
 
 rule-rows : (b : Bill) → Own (rule_rows b)
 unfolding rule_rows
@@ -43,14 +43,14 @@ cost-rows w b = all-below _ (λ i. cost-row i (at b.s i) (at w.w i)) 8
 
 pub summary-own : (w : Weights) (b : Bill) → Own (summary w b)
 unfolding summary
-summary-own w b = simp (by_pieces, rule-rows, cost-rows) refl
+summary-own w b ids = simp (by_pieces, rule-rows, cost-rows) refl
 
 part : (i share : ℕ) → Own (part_if i share)
 unfolding part_td part_name line_text line_link
-part i share = simp (by_pieces, names_and_numbers, cost-name) refl
+part i share ids = simp (by_pieces, names_and_numbers, cost-name) refl
 
 pub cost-bar : (w : Weights) (b : Bill) → Own (cost_bar w b)
 unfolding cost_bar
-cost-bar w b =
+cost-bar w b ids =
     let whole = unsigned_abs (cost w b) in
     simp (by_pieces, all-below (cost_part w b whole) (λ i. part i (share_of whole (unsigned_abs (at b.s i *ℤ at w.w i))))) refl

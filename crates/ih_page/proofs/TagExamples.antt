@@ -1,13 +1,16 @@
 -- The tags of some texts, and which of them a page may have.
 use Rattle.std.proofs.Common.{◌≡◌, refl, true, false, [], ◌∷◌, ◌++◌, codes}
 use Rattle.ih_page.specs.Html.{escaped, isolated}
-use Rattle.ih_page.specs.Tags.{tags, form, is_own}
+use Rattle.ih_page.specs.Tags.{ids, tags, form, is_own}
 
 pub read_in_order : tags (codes "<tr><th>1 > 0<td id=d3-14>a</table>") ≡ codes "tr" ∷ codes "th" ∷ codes "td id=d3-14" ∷ codes "/table" ∷ []
 read_in_order = refl
 
 pub cut_off_is_seen : tags (codes "a<b>c<td") ≡ codes "b" ∷ codes "<td" ∷ []
 cut_off_is_seen = refl
+
+pub ids_in_order : ids (codes "<tr class=o id=p12><th>no id=p3<td id=d3-14 class=x>") ≡ codes "p12" ∷ codes "d3-14" ∷ []
+ids_in_order = refl
 
 pub numbers_as_nines : form (codes "tr class=o id=p1207") ≡ codes "tr class=o id=p9"
 numbers_as_nines = refl

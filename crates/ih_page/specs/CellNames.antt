@@ -1,6 +1,7 @@
 -- What a cell is called, and where it stands in the page.
-use Rattle.std.specs.Prelude.{ℕ, ◌-◌, ◌/◌, ◌%◌, Some, List, [], ◌++◌, nat_lt, codes, slice_get, if◌then◌else◌}
+use Rattle.std.specs.Prelude.{ℕ, ◌-◌, ◌/◌, ◌%◌, Option, Some, List, [], ◌++◌, nat_lt, codes, slice_get, if◌then◌else◌}
 use Rattle.std.specs.Option.{option_map_or}
+use Rattle.ih_dates.specs.declared.dates.Date.{Date}
 use Rattle.ih_tables.specs.declared.cells.Cell.{Cell}
 use Rattle.ih_tables.specs.declared.cells.Cell.TheVariants.{Stay, RoomDay, TheatreDay, SurgeonDay, RoomShift, NurseShift, Care}
 use Rattle.ih_tables.specs.declared.drafts.Draft.{Draft}
@@ -8,6 +9,7 @@ use Rattle.ih_tables.specs.declared.drafts.Occupant.{Occupant}
 use Rattle.ih_tables.specs.declared.drafts.Patient.{Patient}
 use Rattle.ih_tables.specs.declared.drafts.Room.{Room}
 use Rattle.ih_tables.specs.Sizes.{patient_count}
+use Rattle.ih_page.specs.DayHeads.{day_text}
 use Rattle.ih_page.specs.Html.{isolated, labelled}
 use Rattle.ih_page.specs.Rooms.{theatre_name, surgeon_name, anchor_text, shift_type_name, nurse_name}
 
@@ -41,17 +43,14 @@ person_name I x =
 unfoldable pub room_name : Draft → ℕ → List ℕ
 room_name I r = option_map_or room_label (slice_get I.rooms r) []
 
-abbrev pub day_text : ℕ → List ℕ
-day_text d = labelled (codes ", day ") d
+unfoldable pub shift_name : Draft → Option Date → ℕ → List ℕ
+shift_name I first k = day_text first (k / 3) ++ (codes ", " ++ shift_type_name I (k % 3))
 
-unfoldable pub shift_name : Draft → ℕ → List ℕ
-shift_name I k = day_text (k / 3) ++ (codes ", " ++ shift_type_name I (k % 3))
-
-abbrev pub cell_text : Draft → Cell → List ℕ
-cell_text I (Stay p) = person_name I p.0
-cell_text I (RoomDay r d) = room_name I r.0 ++ day_text d.0
-cell_text I (TheatreDay t d) = codes "theatre " ++ (theatre_name I t.0 ++ day_text d.0)
-cell_text I (SurgeonDay s d) = codes "surgeon " ++ (surgeon_name I s.0 ++ day_text d.0)
-cell_text I (RoomShift r k) = room_name I r.0 ++ shift_name I k.0
-cell_text I (NurseShift n k) = codes "nurse " ++ (nurse_name I (Some n.0) ++ shift_name I k.0)
-cell_text I (Care x) = person_name I x.0
+abbrev pub cell_text : Draft → Option Date → Cell → List ℕ
+cell_text I first (Stay p) = person_name I p.0
+cell_text I first (RoomDay r d) = room_name I r.0 ++ day_text first d.0
+cell_text I first (TheatreDay t d) = codes "theatre " ++ (theatre_name I t.0 ++ day_text first d.0)
+cell_text I first (SurgeonDay s d) = codes "surgeon " ++ (surgeon_name I s.0 ++ day_text first d.0)
+cell_text I first (RoomShift r k) = room_name I r.0 ++ shift_name I first k.0
+cell_text I first (NurseShift n k) = codes "nurse " ++ (nurse_name I (Some n.0) ++ shift_name I first k.0)
+cell_text I first (Care x) = person_name I x.0

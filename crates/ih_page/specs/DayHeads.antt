@@ -1,4 +1,4 @@
--- The heads of tables with a column for each day: its number, and its date where the first day's is known.
+-- Days: their numbers, and their dates where the first day's is known, in the heads of tables and in lines.
 use Rattle.std.specs.Prelude.{ℕ, List, [], ◌++◌, Option, Some, None, codes, decimal}
 use Rattle.ih_dates.specs.declared.dates.Date.{Date}
 use Rattle.ih_dates.specs.Calendar.{days_after, weekday_after}
@@ -13,12 +13,30 @@ date_text date = decimal date.day ++ (codes " " ++ month_name date.month)
 
 -- the date d days after the first, with its day of the week
 unfoldable pub dated_text : Date → ℕ → List ℕ
-dated_text first d =
-    codes "<br>" ++ (weekday_name (weekday_after first d) ++ (codes " " ++ date_text (days_after first d)))
+dated_text first d = weekday_name (weekday_after first d) ++ (codes " " ++ date_text (days_after first d))
+
+-- the same in a line of its own
+unfoldable pub dated_below : Date → ℕ → List ℕ
+dated_below first d = codes "<br>" ++ dated_text first d
 
 abbrev pub dated_if : Option Date → ℕ → List ℕ
 dated_if None d = []
-dated_if (Some first) d = dated_text first d
+dated_if (Some first) d = dated_below first d
+
+-- the same in brackets
+unfoldable pub dated_beside : Date → ℕ → List ℕ
+dated_beside first d = codes " (" ++ (dated_text first d ++ codes ")")
+
+abbrev pub beside_if : Option Date → ℕ → List ℕ
+beside_if None d = []
+beside_if (Some first) d = dated_beside first d
+
+-- a day in a line: its number behind a text, and its date if that is known
+unfoldable pub day_behind : List ℕ → Option Date → ℕ → List ℕ
+day_behind text first d = labelled text d ++ beside_if first d
+
+abbrev pub day_text : Option Date → ℕ → List ℕ
+day_text first d = day_behind (codes ", day ") first d
 
 -- a day's number behind a tag, and its date if that is known
 unfoldable pub day_head : Option Date → List ℕ → ℕ → List ℕ

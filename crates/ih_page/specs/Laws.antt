@@ -1,5 +1,5 @@
 -- Laws of pages.
-use Rattle.std.specs.Prelude.{ℕ, ◌≡◌, ◌==◌, ◌||◌, not, pos, Bool, true, Option, List, [], ◌∷◌, ◌++◌, codes, length, take, slice_index, sum_by}
+use Rattle.std.specs.Prelude.{ℕ, ◌≡◌, ◌==◌, ◌||◌, ◌≤◌, not, pos, Bool, true, Option, List, [], ◌∷◌, ◌++◌, codes, length, take, slice_index, sum_by, count_by}
 use Rattle.std.specs.List.{AllByRecursion, list_any}
 use Rattle.std.specs.Str.{bytes_eq}
 use Rattle.ih_dates.specs.declared.dates.Date.{Date}
@@ -12,7 +12,7 @@ use Rattle.ih_page.specs.BillLines.{IsLine, number_in}
 use Rattle.ih_page.specs.Order.{dearest_first}
 use Rattle.ih_page.specs.Wrong.{amounts}
 use Rattle.ih_page.specs.Page.{opening, page_of}
-use Rattle.ih_page.specs.Tags.{tags, opening_tags, is_own}
+use Rattle.ih_page.specs.Tags.{ids, tags, opening_tags, is_own}
 
 -- a byte that is none of < > " and '
 abbrev pub is_plain : ℕ → Bool
@@ -44,11 +44,19 @@ listed_sum I P l = sum_by (slice_index (amounts I P l)) (dearest_first (amounts 
 abbrev pub ListsSum : Draft → Timetable → Type 0
 ListsSum I P = (l : Line) → IsLine l → pos (listed_sum I P l) ≡ number_in (bill_of I P) l
 
--- A page is the opening, which is one for all timetables and has its few tags, and behind it a text whose tags are the
+-- A page is the opening, which has its few tags, and behind it a text whose tags are the
 -- page's own: so no text of a file, such as an id, makes a tag, and within one it could stand at most as digits where
 -- the page has a number.
 pub record TagsAreOwn (I : Draft) (first : Option Date) (older : Option Timetable) (P : Timetable) : Type 0 where
   pub rest : List ℕ
-  pub page : page_of I first older P ≡ opening ++ rest
+  pub page : page_of I first older P ≡ opening I.weights (bill_of I P) ++ rest
   pub begins : tags (page_of I first older P) ≡ opening_tags ++ tags rest
   pub own : AllByRecursion (λ tag. is_own tag ≡ true) (tags rest)
+
+-- how often a text stands in a list of texts
+abbrev pub times : List ℕ → List (List ℕ) → ℕ
+times text texts = count_by (bytes_eq text) texts
+
+-- No two tags of a page have the same id: each text stands at most once among the ids of its tags.
+abbrev pub IdsAreUnique : Draft → Option Date → Option Timetable → Timetable → Type 0
+IdsAreUnique I first older P = (id : List ℕ) → times id (ids (page_of I first older P)) ≤ 1

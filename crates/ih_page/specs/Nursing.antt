@@ -1,5 +1,5 @@
 -- Nurses by shifts: each one's workload beside its maximum.
-use Rattle.std.specs.Prelude.{ℕ, List, [], ◌++◌, Option, Some, None, ◌==◌, codes, decimal, slice_get, if◌then◌else◌}
+use Rattle.std.specs.Prelude.{ℕ, ◌%◌, List, [], ◌++◌, Option, Some, None, ◌==◌, codes, decimal, slice_get, if◌then◌else◌}
 use Rattle.std.specs.Option.{option_map_or}
 use Rattle.ih_dates.specs.declared.dates.Date.{Date}
 use Rattle.ih_tables.specs.declared.drafts.Draft.{Draft}
@@ -12,7 +12,7 @@ use Rattle.ih_plan.specs.Sums.{count_below}
 use Rattle.ih_validate.specs.Report.{lines_below}
 use Rattle.ih_page.specs.Html.{isolated}
 use Rattle.ih_page.specs.DayHeads.{heads_and_days}
-use Rattle.ih_page.specs.Rooms.{marked, td_at}
+use Rattle.ih_page.specs.Rooms.{marked, shift_type_name, td_at}
 
 -- how many rooms nurse n is given in shift k
 abbrev pub given_rooms : Draft → Timetable → ℕ → ℕ → ℕ
@@ -43,9 +43,17 @@ unfoldable pub nurse_row : Draft → Timetable → ℕ → List ℕ
 nurse_row I P n =
     option_map_or nurse_head (slice_get I.nurses n) [] ++ (lines_below (shift_count I) (load_td I P n) ++ codes "\n")
 
+-- the type of shift k
+abbrev pub shift_head : Draft → ℕ → List ℕ
+shift_head I k = codes "<th>" ++ shift_type_name I (k % 3)
+
+-- the names of the three columns of each day
+unfoldable pub shift_heads : Draft → List ℕ
+shift_heads I = codes "<tr><th>shift<th>" ++ (lines_below (shift_count I) (shift_head I) ++ codes "\n")
+
 unfoldable pub nurses_text : Draft → Option Date → Timetable → List ℕ
 nurses_text I first P =
     heads_and_days I first
     (codes "<h2>Nurses by shifts: workload of the maximum</h2>\n<div><table><tr><th>nurse<th>skill")
     (codes "<th colspan=3>")
-    ++ (lines_below (nurse_count I) (nurse_row I P) ++ codes "</table></div>\n")
+    ++ (shift_heads I ++ (lines_below (nurse_count I) (nurse_row I P) ++ codes "</table></div>\n"))

@@ -1,6 +1,10 @@
 -- The page of a timetable.
 use Rattle.std.specs.Prelude.{ℕ, List, ◌++◌, Option, codes}
+use Rattle.std.specs.Fmt.{signed_decimal}
 use Rattle.ih_dates.specs.declared.dates.Date.{Date}
+use Rattle.ih_tables.specs.declared.bills.Bill.{Bill}
+use Rattle.ih_tables.specs.declared.bills.Weights.{Weights}
+use Rattle.ih_tables.specs.Bills.{cost}
 use Rattle.ih_tables.specs.declared.drafts.Draft.{Draft}
 use Rattle.ih_plan.specs.Timetable.{Timetable}
 use Rattle.ih_plan.specs.BillOf.{bill_of}
@@ -16,32 +20,40 @@ use Rattle.ih_page.specs.Nursing.{nurses_text}
 use Rattle.ih_page.specs.PatientIndex.{patient_index}
 use Rattle.ih_page.specs.Wrong.{wrong_text}
 
--- what comes before all that the timetable gives: the kind of the text, and how it looks on screens and on paper
-unfoldable pub opening : List ℕ
-opening = codes "<!DOCTYPE html>\n<html lang=en><meta charset=utf-8><meta name=viewport content='width=device-width,initial-scale=1'><title>Timetable</title><style>\n:root{color-scheme:light dark;--fg:#111;--bg:#fff;--line:#bbb;--bar:#0072b2;--bar2:#8a5a00;--on:#fff;--bad:#b34700;--f1:#0072b21f;--f2:#0072b23d;--f3:#0072b266;--f4:#0072b294}\n@media(prefers-color-scheme:dark){:root{--fg:#eee;--bg:#121212;--line:#555;--bar:#56b4e9;--bar2:#e69f00;--on:#000;--bad:#f0a030;--f1:#56b4e929;--f2:#56b4e947;--f3:#56b4e966;--f4:#56b4e985}}\nbody{font:14px/1.4 sans-serif;color:var(--fg);background:var(--bg);margin:1rem}\na{color:inherit}\ndiv{overflow-x:auto}\ntable{border-collapse:collapse;font-variant-numeric:tabular-nums}\nth,td{border:1px solid var(--line);padding:1px 4px;text-align:left;vertical-align:top;white-space:nowrap}\ntr>th:first-child{position:sticky;left:0;background:var(--bg)}\n.s td,.s th{white-space:normal}\n.s td:nth-child(n+3),.v td,td[id^=d],td[id^=n]{text-align:right}\n.v a{text-decoration:none}\n.v [class] a{display:block}\n.f1{background:var(--f1)}\n.f2{background:var(--f2)}\n.f3{background:var(--f3)}\n.f4{background:var(--f4)}\n.c,.c tbody{display:block}\n.c tr{display:flex;flex-wrap:wrap}\n.c td{white-space:normal;box-sizing:border-box;min-width:7em;color:#000}\n.c1{background:#56b4e9}\n.c2{background:#e69f00}\n.c3{background:#4cc39a}\n.c4{background:#f0e442}\n.c5{background:#dd9cbd}\n.c6{background:#e8813a}\n.c7{background:#bbb}\n.c8{background:#a9b8ff}\n.b{background:var(--bar);color:var(--on)}\n.g .b{background:var(--bar2)}\n.o .b,.q .b{background:none;color:inherit;border:2px dashed var(--bar)}\n.q .b{border-color:var(--bar2)}\n.w{background:linear-gradient(var(--bad),var(--bad)) center/100% 2px no-repeat}\n.x{font-weight:bold;outline:2px solid var(--bad);outline-offset:-2px}\ni{display:block;height:4px;background:var(--bar)}\nul{columns:24em;column-gap:2em;margin:.3rem 0;padding:0;list-style:none}\nli{break-inside:avoid}\nsummary{font-weight:bold}\n:target{outline:3px solid var(--bad)}\n@media(max-width:600px){body{font-size:12px;margin:.5rem}.v th:first-child{white-space:normal;min-width:7em}}\n@media print{body{font-size:7pt;margin:0;print-color-adjust:exact}div{overflow:visible}h2,h3{break-after:avoid}section,tr{break-inside:avoid}}\n</style>\n<main>\n"
+-- the kind of the text, and the beginning of its title
+unfoldable pub kind_of_text : List ℕ
+kind_of_text = codes "<!DOCTYPE html>\n<html lang=en><meta charset=utf-8><meta name=viewport content='width=device-width,initial-scale=1'><title>Timetable: cost "
+
+-- the end of the title, and how the page looks on screens and on paper
+unfoldable pub look : List ℕ
+look = codes "</title><style>\n:root{color-scheme:light dark;--fg:#111;--bg:#fff;--line:#bbb;--bar:#0072b2;--bar2:#8a5a00;--on:#fff;--bad:#b34700;--f1:#0072b21f;--f2:#0072b23d;--f3:#0072b266;--f4:#0072b294}\n@media(prefers-color-scheme:dark){:root{--fg:#eee;--bg:#121212;--line:#555;--bar:#56b4e9;--bar2:#e69f00;--on:#000;--bad:#f0a030;--f1:#56b4e929;--f2:#56b4e947;--f3:#56b4e966;--f4:#56b4e985}}\nbody{font:14px/1.4 sans-serif;color:var(--fg);background:var(--bg);margin:1rem}\na{color:inherit}\ndiv{overflow-x:auto}\ntable{border-collapse:collapse;font-variant-numeric:tabular-nums}\nth,td{border:1px solid var(--line);padding:1px 4px;text-align:left;vertical-align:top;white-space:nowrap}\ntr>th:first-child{position:sticky;left:0;background:var(--bg)}\n.s td,.s th{white-space:normal}\n.s td:nth-child(n+3),.v td,td[id^=d],td[id^=n]{text-align:right}\n.v a{text-decoration:none}\n.v [class] a{display:block}\n.f1{background:var(--f1)}\n.f2{background:var(--f2)}\n.f3{background:var(--f3)}\n.f4{background:var(--f4)}\n.c,.c tbody{display:block}\n.c tr{display:flex;flex-wrap:wrap}\n.c td{white-space:normal;box-sizing:border-box;min-width:7em;color:#000}\n.c1{background:#56b4e9}\n.c2{background:#e69f00}\n.c3{background:#4cc39a}\n.c4{background:#f0e442}\n.c5{background:#dd9cbd}\n.c6{background:#e8813a}\n.c7{background:#bbb}\n.c8{background:#a9b8ff}\n.b{background:var(--bar);color:var(--on)}\n.g .b{background:var(--bar2)}\n.o .b,.q .b{background:none;color:inherit;border:2px dashed var(--bar)}\n.q .b{border-color:var(--bar2)}\n.w{background:linear-gradient(var(--bad),var(--bad)) center/100% 2px no-repeat}\n.x{font-weight:bold;outline:2px solid var(--bad);outline-offset:-2px}\ni{display:block;height:4px;background:var(--bar)}\nul{columns:24em;column-gap:2em;margin:.3rem 0;padding:0;list-style:none}\nli{break-inside:avoid}\nsummary{font-weight:bold}\n.m{opacity:.7}\n:target{outline:3px solid var(--bad)}\n@media(max-width:600px){body{font-size:12px;margin:.5rem}.v th:first-child{white-space:normal;min-width:7em}}\n@page{size:landscape}\n@media print{body{font-size:7pt;margin:0;print-color-adjust:exact}div{overflow:visible}h2,h3{break-after:avoid}section,tr{break-inside:avoid}}\n</style>\n<main>\n"
+
+-- What comes before all else. The cost in the title tells two pages apart.
+unfoldable pub opening : Weights → Bill → List ℕ
+opening w b = kind_of_text ++ (signed_decimal (cost w b) ++ look)
 
 -- who is left out, rooms, theatres, surgeons, nurses and the index
 unfoldable pub tables : Draft → Option Date → Timetable → List ℕ
 tables I first P =
-    left_out I P ++ (rooms_text I first P
+    left_out I first P ++ (rooms_text I first P
     ++ (surgery_text I first P Theatres ++ (surgery_text I first P Surgeons
-    ++ (nurses_text I first P ++ patient_index I P))))
+    ++ (nurses_text I first P ++ patient_index I first P))))
 
 -- links to the lists of the page
 unfoldable pub jumps : List ℕ
 jumps =
-    codes "<p><a href=#wrong>What is wrong</a>, <a href=#left>who is left out</a>, <a href=#index>patients</a></p>\n"
+    codes "<p><a href=#wrong>What breaks rules and what costs</a>, <a href=#left>who is left out</a>, <a href=#index>patients</a></p>\n"
 
 -- whether it is feasible, where its cost comes from, what changed since the older timetable if there is one, and the
 -- overview by days
 unfoldable pub top : Draft → Option Date → Option Timetable → Timetable → List ℕ
 top I first older P =
     headline I.weights (bill_of I P)
-    ++ (cost_bar I.weights (bill_of I P) ++ (jumps ++ (changes_since I older P ++ overview I first P)))
+    ++ (cost_bar I.weights (bill_of I P) ++ (jumps ++ (changes_since I first older P ++ overview I first P)))
 
--- The page: the top, its numbers, what is wrong, and the tables. The date of the first day may be known, and there may
--- be an older timetable.
+-- The page: the top, its numbers, where they come from, and the tables. The date of the first day may be known, and
+-- there may be an older timetable.
 unfoldable pub page_of : Draft → Option Date → Option Timetable → Timetable → List ℕ
 page_of I first older P =
-    opening
-    ++ (top I first older P ++ (summary I.weights (bill_of I P) ++ (wrong_text I P ++ (tables I first P ++ codes "</main>\n"))))
+    opening I.weights (bill_of I P)
+    ++ (top I first older P ++ (summary I.weights (bill_of I P) ++ (wrong_text I first P ++ (tables I first P ++ codes "</main>\n"))))

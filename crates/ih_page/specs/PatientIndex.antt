@@ -1,29 +1,31 @@
 -- The index of patients: where each is in the timetable, and where it stands in the page.
 use Rattle.std.specs.Prelude.{ℕ, List, ◌++◌, Option, Some, None, codes}
+use Rattle.ih_dates.specs.declared.dates.Date.{Date}
 use Rattle.ih_tables.specs.declared.drafts.Draft.{Draft}
 use Rattle.ih_tables.specs.Sizes.{patient_count}
 use Rattle.ih_plan.specs.declared.moves.Placement.{Placement}
 use Rattle.ih_plan.specs.Timetable.{Timetable, stay_of}
 use Rattle.ih_validate.specs.Report.{lines_below}
-use Rattle.ih_page.specs.CellNames.{day_text, room_name}
+use Rattle.ih_page.specs.CellNames.{room_name}
+use Rattle.ih_page.specs.DayHeads.{day_text}
 use Rattle.ih_page.specs.Rooms.{theatre_name}
 use Rattle.ih_page.specs.Surgery.{patient_link}
 
 -- a room, a day and a theatre
-unfoldable pub placement_text : Draft → Placement → List ℕ
-placement_text I at =
-    room_name I at.room.0 ++ (day_text at.day.0 ++ (codes ", theatre " ++ (theatre_name I at.theatre.0 ++ codes "\n")))
+unfoldable pub placement_text : Draft → Option Date → Placement → List ℕ
+placement_text I first at =
+    room_name I at.room.0 ++ (day_text first at.day.0 ++ (codes ", theatre " ++ (theatre_name I at.theatre.0 ++ codes "\n")))
 
 -- the same of a patient who is admitted
-abbrev pub place_text : Draft → Option Placement → List ℕ
-place_text I None = codes "left out\n"
-place_text I (Some at) = placement_text I at
+abbrev pub place_text : Draft → Option Date → Option Placement → List ℕ
+place_text I first None = codes "left out\n"
+place_text I first (Some at) = placement_text I first at
 
 -- patient p's name, which leads to where it stands, and its place
-abbrev pub index_item : Draft → Timetable → ℕ → List ℕ
-index_item I P p = codes "<li>" ++ (patient_link I p ++ (codes ": " ++ place_text I (stay_of P p)))
+abbrev pub index_item : Draft → Option Date → Timetable → ℕ → List ℕ
+index_item I first P p = codes "<li>" ++ (patient_link I p ++ (codes ": " ++ place_text I first (stay_of P p)))
 
-unfoldable pub patient_index : Draft → Timetable → List ℕ
-patient_index I P =
+unfoldable pub patient_index : Draft → Option Date → Timetable → List ℕ
+patient_index I first P =
     codes "<h2 id=index>Patients</h2>\n<ul>\n"
-    ++ (lines_below (patient_count I) (index_item I P) ++ codes "</ul>\n")
+    ++ (lines_below (patient_count I) (index_item I first P) ++ codes "</ul>\n")

@@ -1,21 +1,26 @@
 //! What changed since an older timetable.
 
-ghost use Rattle.std.specs.Prelude.{[], ◌≡◌, ◌<◌, ◌^◌, ◌++◌, IfSome, OnOk, if◌then◌else◌, not, option_map};
+ghost use Rattle.std.specs.Prelude.{[], ◌≡◌, ◌<◌, ◌≤ℤ◌, ◌*◌, ◌^◌, ◌++◌, pos, neg_ℤ, IfSome, OnOk, if◌then◌else◌, option_map};
 ghost use Rattle.ih_tables.specs.declared.ids.NurseNo.{NurseNo};
 ghost use Rattle.ih_tables.specs.{Bills.IsWithin, Sizes.patient_count, Sizes.room_count, Sizes.shift_count};
-ghost use Rattle.ih_plan.specs.{BillOf.bill_of, Timetable.IsPlanOf, Timetable.care_of};
-ghost use Rattle.ih_page.specs.Changes.{change_item, changed_costs, changed_list, changed_nurses, changed_shifts};
-ghost use Rattle.ih_page.specs.Changes.{changes, changes_since, cost_td, costs_text, is_changed, is_same_nurse};
-ghost use Rattle.ih_page.specs.Changes.{is_same_stay, part_row, part_rows, shifts_if, shifts_item};
+ghost use Rattle.ih_plan.specs.{BillOf.bill_of, Timetable.IsPlanOf};
+ghost use Rattle.ih_page.specs.Changes.{broken, broken_row, change_item, changed_costs, changed_list, changed_nurses};
+ghost use Rattle.ih_page.specs.Changes.{changed_patient_count, changed_room_count, changed_shift_count, changes};
+ghost use Rattle.ih_page.specs.Changes.{changes_head, changes_since, cost_td, costs_text, counts_or_nothing};
+ghost use Rattle.ih_page.specs.Changes.{counts_text, fold_of, has_another, is_changed, is_changed_room, is_same_nurse};
+ghost use Rattle.ih_page.specs.Changes.{is_same_stay, part_row, part_rows, shift_item, shift_items, shifts_head};
+ghost use Rattle.ih_page.specs.Changes.{shifts_if, shifts_list};
 
 use crate::cell_names::put_room;
 use crate::patient_index::put_place;
+use crate::rooms::put_nurse_in;
 use crate::shown::{Compared, Priced};
 use crate::summaries::{cost_name, put_line};
 use crate::surgery::put_link;
 use crate::texts::{Put, put, put_number, put_signed};
+use crate::wrong::put_cell_link;
 use ih_plan::{Placement, Plan};
-use ih_tables::{Bill, Instance, NurseNo, PatientNo, RoomNo, Shift, times};
+use ih_tables::{Bill, Cell, Instance, NurseNo, PatientNo, RoomNo, Shift, times};
 use ih_validate::{bill, bit};
 
 // Whether the day, the room and the theatre are the same, or the patient is left out both times.
@@ -35,15 +40,15 @@ fn is_same_stay(was: Option<Placement>, is: Option<Placement>) -> bool
 fn put_change(out: &mut Vec<u8>, both: &Compared<'_>, p: u32) -> Put
     requires { p < patient_count both.now.shown.now.inst.now.draft }
     ensures { let shown = both.now.shown.now in OnOk result
-        (out.new.items ≡ out.old.items ++ change_item shown.inst.now.draft both.now.older.now shown.plan.now p) }
+        (out.new.items ≡ out.old.items ++ change_item shown.inst.now.draft shown.first both.now.older.now shown.plan.now p) }
 {
     let shown = both.shown;
     put(out, "<li>")?;
     put_link(out, shown.inst, p)?;
     put(out, ": was ")?;
-    put_place(out, shown.inst, both.older, p)?;
+    put_place(out, shown, both.older, p)?;
     put(out, "<br>now ")?;
-    put_place(out, shown.inst, shown.plan, p)
+    put_place(out, shown, shown.plan, p)
 }
 
 // Whether the patient has another day, room or theatre.
@@ -57,12 +62,25 @@ fn is_changed(both: &Compared<'_>, p: u32) -> bool
     )
 }
 
+// How many patients have another day, room or theatre.
+#[tactic(auto, using(ih_plan::proofs::SumLemmas::sum_steps))]
+fn changed_patient_count(both: &Compared<'_>) -> u64
+    ensures { let shown = both.now.shown.now in
+        result ≡ changed_patient_count shown.inst.now.draft both.now.older.now shown.plan.now }
+{
+    let mut count = 0;
+    for p in 0..both.shown.inst.patients() {
+        count += bit(is_changed(both, p));
+    }
+    count
+}
+
 // The places of a patient who has another.
 fn put_change_if(out: &mut Vec<u8>, both: &Compared<'_>, p: u32) -> Put
     requires { p < patient_count both.now.shown.now.inst.now.draft }
     ensures { let shown = both.now.shown.now in OnOk result (out.new.items ≡ out.old.items
         ++ (if is_changed both.now.older.now shown.plan.now p
-        then change_item shown.inst.now.draft both.now.older.now shown.plan.now p else [])) }
+        then change_item shown.inst.now.draft shown.first both.now.older.now shown.plan.now p else [])) }
 {
     if is_changed(both, p) {
         put_change(out, both, p)
@@ -75,7 +93,7 @@ fn put_change_if(out: &mut Vec<u8>, both: &Compared<'_>, p: u32) -> Put
 #[tactic(auto, unfolding(crate::specs::Changes::changed_list))]
 fn put_patients(out: &mut Vec<u8>, both: &Compared<'_>) -> Put
     ensures { let shown = both.now.shown.now in OnOk result
-        (out.new.items ≡ out.old.items ++ changed_list shown.inst.now.draft both.now.older.now shown.plan.now) }
+        (out.new.items ≡ out.old.items ++ changed_list shown.inst.now.draft shown.first both.now.older.now shown.plan.now) }
 {
     for p in 0..both.shown.inst.patients() {
         put_change_if(out, both, p)?;
@@ -98,8 +116,7 @@ fn is_same_nurse(was: Option<NurseNo>, is: Option<NurseNo>) -> bool
 fn has_another(both: &Compared<'_>, r: u32, k: u32) -> bool
     requires room { r < room_count both.now.shown.now.inst.now.draft }
     requires shift { k < shift_count both.now.shown.now.inst.now.draft }
-    ensures { result
-        ≡ not (is_same_nurse (care_of both.now.older.now r k) (care_of both.now.shown.now.plan.now r k)) }
+    ensures { result ≡ has_another both.now.older.now both.now.shown.now.plan.now r k }
 {
     let was = both.older.care(RoomNo(r), Shift(k));
     let is = both.shown.plan.care(RoomNo(r), Shift(k));
@@ -108,10 +125,10 @@ fn has_another(both: &Compared<'_>, r: u32, k: u32) -> bool
 
 // In how many shifts the room has another nurse.
 #[tactic(auto, using(ih_plan::proofs::SumLemmas::sum_steps))]
-fn changed_shifts(both: &Compared<'_>, r: u32) -> u64
+fn changed_shift_count(both: &Compared<'_>, r: u32) -> u64
     requires { r < room_count both.now.shown.now.inst.now.draft }
     ensures { let shown = both.now.shown.now in
-        result ≡ changed_shifts shown.inst.now.draft both.now.older.now shown.plan.now r }
+        result ≡ changed_shift_count shown.inst.now.draft both.now.older.now shown.plan.now r }
 {
     let mut count = 0;
     for k in 0..both.shown.inst.shifts() {
@@ -120,40 +137,143 @@ fn changed_shifts(both: &Compared<'_>, r: u32) -> u64
     count
 }
 
-#[tactic(auto, unfolding(crate::specs::Changes::shifts_item))]
-fn put_shifts(out: &mut Vec<u8>, inst: &Instance, r: u32, n: u64) -> Put
-    requires { r < room_count inst.now.draft }
-    ensures { OnOk result (out.new.items ≡ out.old.items ++ shifts_item inst.now.draft r n) }
+fn is_changed_room(both: &Compared<'_>, r: u32) -> bool
+    requires { r < room_count both.now.shown.now.inst.now.draft }
+    ensures { let shown = both.now.shown.now in
+        result ≡ is_changed_room shown.inst.now.draft both.now.older.now shown.plan.now r }
 {
-    put(out, "<li>")?;
-    put_room(out, inst, RoomNo(r))?;
-    put(out, ": ")?;
-    put_number(out, n)?;
+    changed_shift_count(both, r) != 0
+}
+
+// In how many rooms there is a shift with another nurse.
+#[tactic(auto, using(ih_plan::proofs::SumLemmas::sum_steps))]
+fn changed_room_count(both: &Compared<'_>) -> u64
+    ensures { let shown = both.now.shown.now in
+        result ≡ changed_room_count shown.inst.now.draft both.now.older.now shown.plan.now }
+{
+    let mut count = 0;
+    for r in 0..both.shown.inst.rooms() {
+        count += bit(is_changed_room(both, r));
+    }
+    count
+}
+
+// The nurse of the room in the shift before, and the nurse now.
+fn put_shift(out: &mut Vec<u8>, both: &Compared<'_>, r: u32, k: u32) -> Put
+    requires room { r < room_count both.now.shown.now.inst.now.draft }
+    requires shift { k < shift_count both.now.shown.now.inst.now.draft }
+    ensures { let shown = both.now.shown.now in OnOk result (out.new.items ≡ out.old.items
+        ++ shift_item shown.inst.now.draft shown.first both.now.older.now shown.plan.now r k) }
+{
+    let shown = both.shown;
+    put_cell_link(out, shown, Cell::RoomShift(RoomNo(r), Shift(k)))?;
+    put(out, "was ")?;
+    put_nurse_in(out, shown.inst, both.older, r, k)?;
+    put(out, ", now ")?;
+    put_nurse_in(out, shown.inst, shown.plan, r, k)?;
     put(out, "\n")
 }
 
-// The room, where it has another nurse in some shifts.
-fn put_shifts_if(out: &mut Vec<u8>, inst: &Instance, r: u32, n: u64) -> Put
-    requires { r < room_count inst.now.draft }
-    ensures { OnOk result (out.new.items ≡ out.old.items ++ shifts_if inst.now.draft r n) }
+// The nurses of a shift in which the room has another.
+fn put_shift_if(out: &mut Vec<u8>, both: &Compared<'_>, r: u32, k: u32) -> Put
+    requires room { r < room_count both.now.shown.now.inst.now.draft }
+    requires shift { k < shift_count both.now.shown.now.inst.now.draft }
+    ensures { let shown = both.now.shown.now in OnOk result (out.new.items ≡ out.old.items
+        ++ (if has_another both.now.older.now shown.plan.now r k
+        then shift_item shown.inst.now.draft shown.first both.now.older.now shown.plan.now r k else [])) }
 {
-    if n == 0 {
+    if has_another(both, r, k) {
+        put_shift(out, both, r, k)
+    } else {
+        Ok(())
+    }
+}
+
+// The shifts in which the room has another nurse.
+#[tactic(auto, unfolding(crate::specs::Changes::shift_items))]
+fn put_shifts(out: &mut Vec<u8>, both: &Compared<'_>, r: u32) -> Put
+    requires room { r < room_count both.now.shown.now.inst.now.draft }
+    ensures { let shown = both.now.shown.now in OnOk result (out.new.items ≡ out.old.items
+        ++ shift_items shown.inst.now.draft shown.first both.now.older.now shown.plan.now r) }
+{
+    for k in 0..both.shown.inst.shifts() {
+        put_shift_if(out, both, r, k)?;
+    }
+    Ok(())
+}
+
+// A short list lies open, a longer one is folded.
+fn fold_of(count: u64) -> &'static str
+    ensures { result.now ≡ fold_of count }
+{
+    if count <= 3 {
+        "<details open><summary>"
+    } else {
+        "<details><summary>"
+    }
+}
+
+#[tactic(auto, unfolding(crate::specs::Changes::shifts_head))]
+fn put_shifts_head(out: &mut Vec<u8>, inst: &Instance, r: u32, count: u64) -> Put
+    requires { r < room_count inst.now.draft }
+    ensures { OnOk result (out.new.items ≡ out.old.items ++ shifts_head inst.now.draft r count) }
+{
+    put(out, fold_of(count))?;
+    put_room(out, inst, RoomNo(r))?;
+    put(out, ": ")?;
+    put_number(out, count)?;
+    put(out, "</summary><ul>\n")
+}
+
+#[tactic(auto, unfolding(crate::specs::Changes::shifts_list))]
+fn put_shifts_list(out: &mut Vec<u8>, both: &Compared<'_>, r: u32, count: u64) -> Put
+    requires { r < room_count both.now.shown.now.inst.now.draft }
+    ensures { let shown = both.now.shown.now in OnOk result (out.new.items ≡ out.old.items
+        ++ shifts_list shown.inst.now.draft shown.first both.now.older.now shown.plan.now r count) }
+{
+    put_shifts_head(out, both.shown.inst, r, count)?;
+    put_shifts(out, both, r)?;
+    put(out, "</ul></details>\n")
+}
+
+// The room, where it has another nurse in some shifts.
+fn put_shifts_if(out: &mut Vec<u8>, both: &Compared<'_>, r: u32, count: u64) -> Put
+    requires { r < room_count both.now.shown.now.inst.now.draft }
+    ensures { let shown = both.now.shown.now in OnOk result (out.new.items ≡ out.old.items
+        ++ shifts_if shown.inst.now.draft shown.first both.now.older.now shown.plan.now r count) }
+{
+    if count == 0 {
         Ok(())
     } else {
-        put_shifts(out, inst, r, n)
+        put_shifts_list(out, both, r, count)
     }
 }
 
 // The rooms that have another nurse in some shifts.
 #[tactic(auto, unfolding(crate::specs::Changes::changed_nurses))]
 fn put_nurses(out: &mut Vec<u8>, both: &Compared<'_>) -> Put
-    ensures { let shown = both.now.shown.now in OnOk result
-        (out.new.items ≡ out.old.items ++ changed_nurses shown.inst.now.draft both.now.older.now shown.plan.now) }
+    ensures { let shown = both.now.shown.now in OnOk result (out.new.items ≡ out.old.items
+        ++ changed_nurses shown.inst.now.draft shown.first both.now.older.now shown.plan.now) }
 {
     for r in 0..both.shown.inst.rooms() {
-        put_shifts_if(out, both.shown.inst, r, changed_shifts(both, r))?;
+        put_shifts_if(out, both, r, changed_shift_count(both, r))?;
     }
     Ok(())
+}
+
+// How often the hard rules are broken.
+#[tactic(auto, using(ih_tables::proofs::BillLemmas::signed_steps))]
+fn broken(bill: &Bill) -> i64
+    requires { IsWithin (10 ^ 11) bill.now }
+    ensures sum { result ≡ broken bill.now }
+    ensures low { neg_ℤ (pos (9 * 10 ^ 11)) ≤ℤ result }
+    ensures high { result ≤ℤ pos (9 * 10 ^ 11) }
+{
+    let mut sum = 0;
+    for i in 0..9 {
+        sum += bill.v[i];
+    }
+    sum
 }
 
 #[tactic(auto, unfolding(crate::specs::Changes::cost_td))]
@@ -197,6 +317,19 @@ fn put_parts(out: &mut Vec<u8>, inst: &Instance, before: &Bill, after: &Bill) ->
     Ok(())
 }
 
+#[tactic(auto, unfolding(crate::specs::Changes::broken_row))]
+fn put_broken(out: &mut Vec<u8>, before: &Bill, after: &Bill) -> Put
+    requires before { IsWithin (10 ^ 11) before.now }
+    requires after { IsWithin (10 ^ 11) after.now }
+    ensures { OnOk result (out.new.items ≡ out.old.items ++ broken_row before.now after.now) }
+{
+    put(
+        out,
+        "<table class=s><tr><th>line<th>what it counts<th>was<th>now\n<tr><th>rules<td>hard rules broken",
+    )?;
+    put_two(out, broken(before), broken(after))
+}
+
 #[tactic(auto, unfolding(crate::specs::Changes::changed_costs))]
 fn put_costs(out: &mut Vec<u8>, inst: &Instance, before: &Bill, after: &Bill) -> Put
     requires before { IsWithin (10 ^ 11) before.now }
@@ -204,14 +337,41 @@ fn put_costs(out: &mut Vec<u8>, inst: &Instance, before: &Bill, after: &Bill) ->
     ensures { OnOk result (out.new.items ≡ out.old.items ++ changed_costs inst.now.draft.weights before.now after.now) }
 {
     let weights = inst.weights();
-    put(
-        out,
-        "<table class=s><tr><th>line<th>what it counts<th>was<th>now\n",
-    )?;
+    put_broken(out, before, after)?;
     put_parts(out, inst, before, after)?;
     put(out, "<tr><th>cost<td>all parts")?;
     put_two(out, before.cost(weights), after.cost(weights))?;
     put(out, "</table>\n")
+}
+
+#[tactic(auto, unfolding(crate::specs::Changes::counts_text))]
+fn put_counts(out: &mut Vec<u8>, patients: u64, rooms: u64) -> Put
+    ensures { OnOk result (out.new.items ≡ out.old.items ++ counts_text patients rooms) }
+{
+    put(out, "<p>Patients with another day, room or theatre: ")?;
+    put_number(out, patients)?;
+    put(out, "<br>Rooms with another nurse: ")?;
+    put_number(out, rooms)?;
+    put(out, "</p>\n")
+}
+
+fn put_counts_or_nothing(out: &mut Vec<u8>, patients: u64, rooms: u64) -> Put
+    ensures { OnOk result (out.new.items ≡ out.old.items ++ counts_or_nothing patients rooms) }
+{
+    if patients == 0 && rooms == 0 {
+        put(out, "<p class=m>Nothing changed.</p>\n")
+    } else {
+        put_counts(out, patients, rooms)
+    }
+}
+
+#[tactic(auto, unfolding(crate::specs::Changes::changes_head))]
+fn put_head(out: &mut Vec<u8>, both: &Compared<'_>) -> Put
+    ensures { let shown = both.now.shown.now in OnOk result
+        (out.new.items ≡ out.old.items ++ changes_head shown.inst.now.draft both.now.older.now shown.plan.now) }
+{
+    put(out, "<h2 id=changes>What changed</h2>\n")?;
+    put_counts_or_nothing(out, changed_patient_count(both), changed_room_count(both))
 }
 
 // The bills are those of the older timetable and of the one that is shown.
@@ -222,19 +382,16 @@ fn put_changes(out: &mut Vec<u8>, both: &Compared<'_>, before: &Bill, after: &Bi
     requires before { IsWithin (10 ^ 11) before.now }
     requires after { IsWithin (10 ^ 11) after.now }
     ensures { let shown = both.now.shown.now in OnOk result
-        (out.new.items ≡ out.old.items ++ changes shown.inst.now.draft both.now.older.now shown.plan.now) }
+        (out.new.items ≡ out.old.items ++ changes shown.inst.now.draft shown.first both.now.older.now shown.plan.now) }
 {
+    put_head(out, both)?;
     put(
         out,
-        "<h2 id=changes>What changed</h2>\n<h3>Patients with another day, room or theatre</h3>\n<ul>\n",
+        "<h3>Patients with another day, room or theatre</h3>\n<ul>\n",
     )?;
     put_patients(out, both)?;
-    put(
-        out,
-        "</ul>\n<h3>Shifts with another nurse, by room</h3>\n<ul>\n",
-    )?;
+    put(out, "</ul>\n<h3>Shifts with another nurse, by room</h3>\n")?;
     put_nurses(out, both)?;
-    put(out, "</ul>\n")?;
     put_costs(out, both.shown.inst, before, after)
 }
 
@@ -242,7 +399,7 @@ fn put_changes(out: &mut Vec<u8>, both: &Compared<'_>, before: &Bill, after: &Bi
 pub fn put_changes_since(out: &mut Vec<u8>, priced: &Priced<'_>, older: Option<&Plan>) -> Put
     requires { IfSome older (λ o. IsPlanOf priced.now.shown.now.inst.now.draft o.now) }
     ensures { let shown = priced.now.shown.now in OnOk result (out.new.items ≡ out.old.items
-        ++ changes_since shown.inst.now.draft (option_map (λ o. o.now) older.entry) shown.plan.now) }
+        ++ changes_since shown.inst.now.draft shown.first (option_map (λ o. o.now) older.entry) shown.plan.now) }
 {
     let Some(older) = older else {
         return Ok(());

@@ -1,8 +1,9 @@
-//! The heads of tables with a column for each day.
+//! Days, in the heads of tables and in lines.
 
 ghost use Rattle.std.specs.Prelude.{◌≡◌, ◌++◌, OnOk};
 ghost use Rattle.ih_dates.specs.Calendar.{IsDate};
-ghost use Rattle.ih_page.specs.DayHeads.{date_text, dated_if, dated_text, day_head, heads_and_days};
+ghost use Rattle.ih_page.specs.DayHeads.{beside_if, date_text, dated_below, dated_beside, dated_if, dated_text};
+ghost use Rattle.ih_page.specs.DayHeads.{day_behind, day_head, day_text, heads_and_days};
 
 use crate::shown::Shown;
 use crate::texts::{Put, put, put_labelled, put_number};
@@ -23,10 +24,18 @@ fn put_dated(out: &mut Vec<u8>, first: Date, d: u32) -> Put
     requires { IsDate first }
     ensures { OnOk result (out.new.items ≡ out.old.items ++ dated_text first d) }
 {
-    put(out, "<br>")?;
     put(out, weekday_name(weekday_after(first, d)))?;
     put(out, " ")?;
     put_date(out, days_after(first, d))
+}
+
+#[tactic(auto, unfolding(crate::specs::DayHeads::dated_below))]
+fn put_dated_below(out: &mut Vec<u8>, first: Date, d: u32) -> Put
+    requires { IsDate first }
+    ensures { OnOk result (out.new.items ≡ out.old.items ++ dated_below first d) }
+{
+    put(out, "<br>")?;
+    put_dated(out, first, d)
 }
 
 fn put_dated_if(out: &mut Vec<u8>, shown: &Shown<'_>, d: u32) -> Put
@@ -34,12 +43,47 @@ fn put_dated_if(out: &mut Vec<u8>, shown: &Shown<'_>, d: u32) -> Put
 {
     match shown.first {
         None => Ok(()),
-        Some(first) => put_dated(out, first, d),
+        Some(first) => put_dated_below(out, first, d),
     }
 }
 
+#[tactic(auto, unfolding(crate::specs::DayHeads::dated_beside))]
+fn put_dated_beside(out: &mut Vec<u8>, first: Date, d: u32) -> Put
+    requires { IsDate first }
+    ensures { OnOk result (out.new.items ≡ out.old.items ++ dated_beside first d) }
+{
+    put(out, " (")?;
+    put_dated(out, first, d)?;
+    put(out, ")")
+}
+
+fn put_beside_if(out: &mut Vec<u8>, shown: &Shown<'_>, d: u32) -> Put
+    ensures { OnOk result (out.new.items ≡ out.old.items ++ beside_if shown.now.first d) }
+{
+    match shown.first {
+        None => Ok(()),
+        Some(first) => put_dated_beside(out, first, d),
+    }
+}
+
+/// Appends a day in a line: its number behind a text, and its date where that is known.
+#[tactic(auto, unfolding(crate::specs::DayHeads::day_behind))]
+pub fn put_day_behind(out: &mut Vec<u8>, shown: &Shown<'_>, text: &str, d: u32) -> Put
+    ensures { OnOk result (out.new.items ≡ out.old.items ++ day_behind text.now shown.now.first d) }
+{
+    put_labelled(out, text, d)?;
+    put_beside_if(out, shown, d)
+}
+
+/// The same behind what comes before it.
+pub fn put_day(out: &mut Vec<u8>, shown: &Shown<'_>, d: u32) -> Put
+    ensures { OnOk result (out.new.items ≡ out.old.items ++ day_text shown.now.first d) }
+{
+    put_day_behind(out, shown, ", day ", d)
+}
+
 #[tactic(auto, unfolding(crate::specs::DayHeads::day_head))]
-fn put_day(out: &mut Vec<u8>, shown: &Shown<'_>, tag: &str, d: u32) -> Put
+fn put_day_head(out: &mut Vec<u8>, shown: &Shown<'_>, tag: &str, d: u32) -> Put
     ensures { OnOk result (out.new.items ≡ out.old.items ++ day_head shown.now.first tag.now d) }
 {
     put_labelled(out, tag, d)?;
@@ -54,7 +98,7 @@ pub fn put_heads_and_days(out: &mut Vec<u8>, shown: &Shown<'_>, heads: &str, tag
 {
     put(out, heads)?;
     for d in 0..shown.inst.days() {
-        put_day(out, shown, tag, d)?;
+        put_day_head(out, shown, tag, d)?;
     }
     put(out, "\n")
 }

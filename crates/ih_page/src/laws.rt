@@ -3,7 +3,8 @@
 ghost use Rattle.std.specs.Prelude.{ℕ, List, Option};
 ghost use Rattle.ih_dates.specs.declared.dates.Date.{Date};
 ghost use Rattle.ih_plan.specs.Timetable.{IsPlanOf, Timetable};
-ghost use Rattle.ih_page.specs.{ChangeLaws.ChangesAreListed, Laws.ListsSum, Laws.NamesHaveNoTags, Laws.TagsAreOwn, Places.LinksLead};
+ghost use Rattle.ih_page.specs.{ChangeLaws.ChangesAreListed, Laws.IdsAreUnique, Laws.ListsSum, Laws.NamesHaveNoTags, Laws.TagsAreOwn};
+ghost use Rattle.ih_page.specs.Places.{LinksLead};
 
 use ih_tables::Instance;
 
@@ -24,14 +25,21 @@ pub fn lists_sum(_inst: &Instance)
     ensures { (P : Timetable) → ListsSum _inst.now.draft P }
 {}
 
-/// Each link that names a cell, a patient or an occupant leads there: the cell or the row of that id stands in the page.
-/// Such are the links of the overview, of what is wrong, of what changed, of the surgeries and of the index.
+/// No two tags of a page have the same id, so a link leads to one place.
+pub fn ids_are_unique(_inst: &Instance)
+    ensures { (first : Option Date) (older : Option Timetable) (P : Timetable)
+        → IdsAreUnique _inst.now.draft first older P }
+{}
+
+/// Each link leads: what has that id stands in the page. The links are those to cells, patients and occupants, to the
+/// list of a line of the report whose number isn't 0, and to the heads of three lists.
 pub fn links_lead(_inst: &Instance)
     ensures { (first : Option Date) (older : Option Timetable) (P : Timetable) → IsPlanOf _inst.now.draft P
         → LinksLead _inst.now.draft first older P }
 {}
 
-/// The page since an older timetable lists exactly the patients whose day, room or theatre differ.
+/// The page since an older timetable lists exactly the patients whose day, room or theatre differ, and for each room
+/// exactly the shifts in which its nurse differs.
 pub fn changes_are_listed(_inst: &Instance)
     ensures { (first : Option Date) (O P : Timetable) → ChangesAreListed _inst.now.draft first O P }
 {}

@@ -2,11 +2,14 @@
 
 ghost use Rattle.std.specs.Prelude.{◌≡◌, ◌<◌, ◌++◌, OnOk};
 ghost use Rattle.ih_tables.specs.Sizes.{patient_count};
-ghost use Rattle.ih_page.specs.LeftOut.{last_day, need_text, window_text, left_out_item, left_out_of, left_out};
+ghost use Rattle.ih_page.specs.LeftOut.{is_left_out, last_day, left_out, left_out_count, left_out_item, left_out_of};
+ghost use Rattle.ih_page.specs.LeftOut.{need_text, nobody_if, window_text};
 
+use crate::day_heads::{put_day, put_day_behind};
 use crate::shown::Shown;
-use crate::texts::{Put, put, put_labelled, put_number, put_numbered};
+use crate::texts::{Put, put, put_numbered};
 use ih_tables::{Patient, PatientNo};
+use ih_validate::bit;
 
 fn need_text(mandatory: bool) -> &'static str
     ensures { result.now ≡ need_text mandatory }
@@ -18,52 +21,84 @@ fn need_text(mandatory: bool) -> &'static str
     }
 }
 
-fn put_last_day(out: &mut Vec<u8>, due: Option<u32>) -> Put
-    ensures { OnOk result (out.new.items ≡ out.old.items ++ last_day due) }
+fn put_last_day(out: &mut Vec<u8>, shown: &Shown<'_>, due: Option<u32>) -> Put
+    ensures { OnOk result (out.new.items ≡ out.old.items ++ last_day shown.now.first due) }
 {
     match due {
-        None => put(out, "end"),
-        Some(d) => put_number(out, d as u64),
+        None => put(out, " to end"),
+        Some(d) => put_day_behind(out, shown, " to ", d),
     }
 }
 
 #[tactic(auto, unfolding(crate::specs::LeftOut::window_text))]
-fn put_window(out: &mut Vec<u8>, a: &Patient) -> Put
-    ensures { OnOk result (out.new.items ≡ out.old.items ++ window_text a.now) }
+fn put_window(out: &mut Vec<u8>, shown: &Shown<'_>, a: &Patient) -> Put
+    ensures { OnOk result (out.new.items ≡ out.old.items ++ window_text shown.now.first a.now) }
 {
-    put_labelled(out, ", day ", a.surgery_release_day)?;
-    put(out, " to ")?;
-    put_last_day(out, a.surgery_due_day)?;
+    put_day(out, shown, a.surgery_release_day)?;
+    put_last_day(out, shown, a.surgery_due_day)?;
     put(out, "\n")
 }
 
-fn put_item(out: &mut Vec<u8>, p: u32, a: &Patient) -> Put
-    ensures { OnOk result (out.new.items ≡ out.old.items ++ left_out_item p a.now) }
+fn put_item(out: &mut Vec<u8>, shown: &Shown<'_>, p: u32, a: &Patient) -> Put
+    ensures { OnOk result (out.new.items ≡ out.old.items ++ left_out_item shown.now.first p a.now) }
 {
     put_numbered(out, "<li id=p", p, ">", a.id.as_str())?;
     put(out, ": ")?;
     put(out, need_text(a.mandatory))?;
-    put_window(out, a)
+    put_window(out, shown, a)
 }
 
 fn put_item_of(out: &mut Vec<u8>, shown: &Shown<'_>, p: u32) -> Put
     requires patient { p < patient_count shown.now.inst.now.draft }
-    ensures { OnOk result (out.new.items ≡ out.old.items ++ left_out_of shown.now.inst.now.draft shown.now.plan.now p) }
+    ensures { OnOk result
+        (out.new.items ≡ out.old.items ++ left_out_of shown.now.inst.now.draft shown.now.first shown.now.plan.now p) }
 {
     match shown.plan.stay(PatientNo(p)) {
-        None => put_item(out, p, shown.inst.patient(PatientNo(p))),
+        None => put_item(out, shown, p, shown.inst.patient(PatientNo(p))),
         Some(_) => Ok(()),
+    }
+}
+
+fn is_left_out(shown: &Shown<'_>, p: u32) -> bool
+    requires patient { p < patient_count shown.now.inst.now.draft }
+    ensures { result ≡ is_left_out shown.now.plan.now p }
+{
+    shown.plan.stay(PatientNo(p)).is_none()
+}
+
+// How many patients are left out.
+#[tactic(auto, using(ih_plan::proofs::SumLemmas::sum_steps))]
+fn left_out_count(shown: &Shown<'_>) -> u64
+    ensures { result ≡ left_out_count shown.now.inst.now.draft shown.now.plan.now }
+{
+    let mut count = 0;
+    for p in 0..shown.inst.patients() {
+        count += bit(is_left_out(shown, p));
+    }
+    count
+}
+
+// What stands under an empty list.
+fn nobody_if(count: u64) -> &'static str
+    ensures { result.now ≡ nobody_if count }
+{
+    if count == 0 {
+        "<p class=m>Nobody.</p>\n"
+    } else {
+        ""
     }
 }
 
 /// Appends the list of the patients who are left out.
 #[tactic(auto, unfolding(crate::specs::LeftOut::left_out))]
 pub fn put_left_out(out: &mut Vec<u8>, shown: &Shown<'_>) -> Put
-    ensures { OnOk result (out.new.items ≡ out.old.items ++ left_out shown.now.inst.now.draft shown.now.plan.now) }
+    ensures { OnOk result
+        (out.new.items ≡ out.old.items ++ left_out shown.now.inst.now.draft shown.now.first shown.now.plan.now) }
 {
     put(out, "<h2 id=left>Patients who are left out</h2>\n<ul>\n")?;
     for p in 0..shown.inst.patients() {
         put_item_of(out, shown, p)?;
     }
-    put(out, "</ul>\n")
+    put(out, "</ul>\n")?;
+    put(out, nobody_if(left_out_count(shown)))
 }

@@ -23,5 +23,7 @@ mod surgery;
 mod texts;
 mod wrong;
 
-pub use laws::{changes_are_listed, links_lead, lists_sum, names_have_no_tags, tags_are_own};
+pub use laws::{
+    changes_are_listed, ids_are_unique, links_lead, lists_sum, names_have_no_tags, tags_are_own,
+};
 pub use pages::page;

@@ -3,10 +3,11 @@
 ghost use Rattle.std.specs.Prelude.{◌≡◌, ◌<◌, ◌++◌, OnOk};
 ghost use Rattle.ih_tables.specs.Sizes.{nurse_count, shift_count};
 ghost use Rattle.ih_page.specs.Nursing.{off_text, worked_text, load_text, load_td, nurse_head, nurse_row, nurses_text};
+ghost use Rattle.ih_page.specs.Nursing.{shift_head, shift_heads};
 
 use crate::day_heads::put_heads_and_days;
 use crate::loads::{given_rooms, load_of};
-use crate::names::{put_marked, put_td_at};
+use crate::names::{put_marked, put_shift_type, put_td_at};
 use crate::shown::Shown;
 use crate::texts::{Put, put, put_isolated, put_number};
 use ih_tables::{Nurse, NurseNo, Shift};
@@ -75,6 +76,25 @@ fn put_row(out: &mut Vec<u8>, shown: &Shown<'_>, n: u32) -> Put
     put(out, "\n")
 }
 
+fn put_shift_head(out: &mut Vec<u8>, shown: &Shown<'_>, k: u32) -> Put
+    ensures { OnOk result (out.new.items ≡ out.old.items ++ shift_head shown.now.inst.now.draft k) }
+{
+    put(out, "<th>")?;
+    put_shift_type(out, shown.inst, k % 3)
+}
+
+// The names of the three columns of each day.
+#[tactic(auto, unfolding(crate::specs::Nursing::shift_heads))]
+fn put_shift_heads(out: &mut Vec<u8>, shown: &Shown<'_>) -> Put
+    ensures { OnOk result (out.new.items ≡ out.old.items ++ shift_heads shown.now.inst.now.draft) }
+{
+    put(out, "<tr><th>shift<th>")?;
+    for k in 0..shown.inst.shifts() {
+        put_shift_head(out, shown, k)?;
+    }
+    put(out, "\n")
+}
+
 /// Appends the table of the nurses.
 #[tactic(auto, unfolding(crate::specs::Nursing::nurses_text))]
 pub fn put_nurses(out: &mut Vec<u8>, shown: &Shown<'_>) -> Put
@@ -86,6 +106,7 @@ pub fn put_nurses(out: &mut Vec<u8>, shown: &Shown<'_>) -> Put
         "<h2>Nurses by shifts: workload of the maximum</h2>\n<div><table><tr><th>nurse<th>skill",
         "<th colspan=3>",
     )?;
+    put_shift_heads(out, shown)?;
     for n in 0..shown.inst.nurses() {
         put_row(out, shown, n)?;
     }

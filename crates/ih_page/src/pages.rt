@@ -1,9 +1,10 @@
 //! The page of a timetable.
 
-ghost use Rattle.std.specs.Prelude.{◌≡◌, ◌++◌, OnOk, IfOk, IfSome, option_map};
+ghost use Rattle.std.specs.Prelude.{◌≡◌, ◌^◌, ◌++◌, OnOk, IfOk, IfSome, option_map};
 ghost use Rattle.ih_dates.specs.Calendar.{IsDate};
+ghost use Rattle.ih_tables.specs.Bills.{IsWithin};
 ghost use Rattle.ih_plan.specs.Timetable.{IsPlanOf};
-ghost use Rattle.ih_page.specs.Page.{opening, jumps, top, tables, page_of};
+ghost use Rattle.ih_page.specs.Page.{kind_of_text, look, opening, jumps, top, tables, page_of};
 
 use crate::changes::put_changes_since;
 use crate::cost_bar::put_cost_bar;
@@ -15,23 +16,30 @@ use crate::rooms::put_rooms;
 use crate::shown::{Priced, Shown};
 use crate::summaries::{put_headline, put_summary};
 use crate::surgery::put_surgery_of;
-use crate::texts::{Put, put};
+use crate::texts::{Put, put, put_signed};
 use crate::wrong::put_wrong;
 use ih_costs::Ledgers;
 use ih_dates::Date;
 use ih_plan::Plan;
-use ih_tables::Instance;
+use ih_tables::{Bill, Instance};
 use ih_validate::{ResourceKind, bill};
 use std::alloc::{AllocError, Global};
 
-#[tactic(auto, unfolding(crate::specs::Page::opening))]
-fn put_opening(out: &mut Vec<u8>) -> Put
-    ensures { OnOk result (out.new.items ≡ out.old.items ++ opening) }
+// The kind of the text, and the beginning of its title.
+#[tactic(auto, unfolding(crate::specs::Page::kind_of_text))]
+fn kind_of_text() -> &'static str
+    ensures { result.now ≡ kind_of_text }
 {
-    put(
-        out,
-        "<!DOCTYPE html>\n\
-<html lang=en><meta charset=utf-8><meta name=viewport content='width=device-width,initial-scale=1'><title>Timetable</title><style>\n\
+    "<!DOCTYPE html>\n\
+<html lang=en><meta charset=utf-8><meta name=viewport content='width=device-width,initial-scale=1'><title>Timetable: cost "
+}
+
+// The end of the title, and how the page looks on screens and on paper.
+#[tactic(auto, unfolding(crate::specs::Page::look))]
+fn look() -> &'static str
+    ensures { result.now ≡ look }
+{
+    "</title><style>\n\
 :root{color-scheme:light dark;--fg:#111;--bg:#fff;--line:#bbb;--bar:#0072b2;--bar2:#8a5a00;--on:#fff;--bad:#b34700;--f1:#0072b21f;--f2:#0072b23d;--f3:#0072b266;--f4:#0072b294}\n\
 @media(prefers-color-scheme:dark){:root{--fg:#eee;--bg:#121212;--line:#555;--bar:#56b4e9;--bar2:#e69f00;--on:#000;--bad:#f0a030;--f1:#56b4e929;--f2:#56b4e947;--f3:#56b4e966;--f4:#56b4e985}}\n\
 body{font:14px/1.4 sans-serif;color:var(--fg);background:var(--bg);margin:1rem}\n\
@@ -69,12 +77,23 @@ i{display:block;height:4px;background:var(--bar)}\n\
 ul{columns:24em;column-gap:2em;margin:.3rem 0;padding:0;list-style:none}\n\
 li{break-inside:avoid}\n\
 summary{font-weight:bold}\n\
+.m{opacity:.7}\n\
 :target{outline:3px solid var(--bad)}\n\
 @media(max-width:600px){body{font-size:12px;margin:.5rem}.v th:first-child{white-space:normal;min-width:7em}}\n\
+@page{size:landscape}\n\
 @media print{body{font-size:7pt;margin:0;print-color-adjust:exact}div{overflow:visible}h2,h3{break-after:avoid}section,tr{break-inside:avoid}}\n\
 </style>\n\
-<main>\n",
-    )
+<main>\n"
+}
+
+#[tactic(auto, unfolding(crate::specs::Page::opening))]
+fn put_opening(out: &mut Vec<u8>, inst: &Instance, bill: &Bill) -> Put
+    requires { IsWithin (10 ^ 11) bill.now }
+    ensures { OnOk result (out.new.items ≡ out.old.items ++ opening inst.now.draft.weights bill.now) }
+{
+    put(out, kind_of_text())?;
+    put_signed(out, bill.cost(inst.weights()))?;
+    put(out, look())
 }
 
 #[tactic(auto, unfolding(crate::specs::Page::tables))]
@@ -94,7 +113,7 @@ fn put_tables(out: &mut Vec<u8>, shown: &Shown<'_>) -> Put
 fn jumps() -> &'static str
     ensures { result.now ≡ jumps }
 {
-    "<p><a href=#wrong>What is wrong</a>, <a href=#left>who is left out</a>, <a href=#index>patients</a></p>\n"
+    "<p><a href=#wrong>What breaks rules and what costs</a>, <a href=#left>who is left out</a>, <a href=#index>patients</a></p>\n"
 }
 
 #[tactic(auto, unfolding(crate::specs::Page::top))]
@@ -116,7 +135,7 @@ fn put_page(alloc: Global, out: &mut Vec<u8>, priced: &Priced<'_>, older: Option
     ensures { let shown = priced.now.shown.now in OnOk result
         (out.new.items ≡ out.old.items ++ page_of shown.inst.now.draft shown.first (option_map (λ o. o.now) older.entry) shown.plan.now) }
 {
-    put_opening(out)?;
+    put_opening(out, priced.shown.inst, priced.bill)?;
     put_top(out, priced, older)?;
     put_summary(out, priced.shown.inst, priced.bill)?;
     put_wrong(alloc, out, priced)?;

@@ -6,51 +6,54 @@ ghost use Rattle.ih_plan.specs.Timetable.{IsPlacement, IsPlanOf, stay_of};
 ghost use Rattle.ih_page.specs.PatientIndex.{index_item, patient_index, place_text, placement_text};
 
 use crate::cell_names::put_room;
+use crate::day_heads::put_day;
 use crate::names::put_theatre;
 use crate::shown::Shown;
 use crate::surgery::put_link;
-use crate::texts::{Put, put, put_labelled};
+use crate::texts::{Put, put};
 use ih_plan::{Placement, Plan};
-use ih_tables::{Instance, PatientNo};
+use ih_tables::PatientNo;
 
 #[tactic(auto, unfolding(crate::specs::PatientIndex::placement_text))]
-fn put_placement(out: &mut Vec<u8>, inst: &Instance, at: Placement) -> Put
-    requires { IsPlacement inst.now.draft at }
-    ensures { OnOk result (out.new.items ≡ out.old.items ++ placement_text inst.now.draft at) }
+fn put_placement(out: &mut Vec<u8>, shown: &Shown<'_>, at: Placement) -> Put
+    requires { IsPlacement shown.now.inst.now.draft at }
+    ensures { OnOk result
+        (out.new.items ≡ out.old.items ++ placement_text shown.now.inst.now.draft shown.now.first at) }
 {
-    put_room(out, inst, at.room)?;
-    put_labelled(out, ", day ", at.day.0)?;
+    put_room(out, shown.inst, at.room)?;
+    put_day(out, shown, at.day.0)?;
     put(out, ", theatre ")?;
-    put_theatre(out, inst, at.theatre)?;
+    put_theatre(out, shown.inst, at.theatre)?;
     put(out, "\n")
 }
 
 /// Appends where the patient is in a timetable: its room, day and theatre, or that it is left out.
-pub fn put_place(out: &mut Vec<u8>, inst: &Instance, plan: &Plan, p: u32) -> Put
-    requires plan { IsPlanOf inst.now.draft plan.now }
-    requires patient { p < patient_count inst.now.draft }
-    ensures { OnOk result (out.new.items ≡ out.old.items ++ place_text inst.now.draft (stay_of plan.now p)) }
+pub fn put_place(out: &mut Vec<u8>, shown: &Shown<'_>, plan: &Plan, p: u32) -> Put
+    requires plan { IsPlanOf shown.now.inst.now.draft plan.now }
+    requires patient { p < patient_count shown.now.inst.now.draft }
+    ensures { OnOk result (out.new.items
+        ≡ out.old.items ++ place_text shown.now.inst.now.draft shown.now.first (stay_of plan.now p)) }
 {
     match plan.stay(PatientNo(p)) {
         None => put(out, "left out\n"),
-        Some(at) => put_placement(out, inst, at),
+        Some(at) => put_placement(out, shown, at),
     }
 }
 
 fn put_item(out: &mut Vec<u8>, shown: &Shown<'_>, p: u32) -> Put
     requires patient { p < patient_count shown.now.inst.now.draft }
-    ensures { OnOk result (out.new.items ≡ out.old.items ++ index_item shown.now.inst.now.draft shown.now.plan.now p) }
+    ensures { OnOk result (out.new.items ≡ out.old.items ++ index_item shown.now.inst.now.draft shown.now.first shown.now.plan.now p) }
 {
     put(out, "<li>")?;
     put_link(out, shown.inst, p)?;
     put(out, ": ")?;
-    put_place(out, shown.inst, shown.plan, p)
+    put_place(out, shown, shown.plan, p)
 }
 
 /// Appends the index: each patient's room, day and theatre, and a link to where it stands.
 #[tactic(auto, unfolding(crate::specs::PatientIndex::patient_index))]
 pub fn put_patient_index(out: &mut Vec<u8>, shown: &Shown<'_>) -> Put
-    ensures { OnOk result (out.new.items ≡ out.old.items ++ patient_index shown.now.inst.now.draft shown.now.plan.now) }
+    ensures { OnOk result (out.new.items ≡ out.old.items ++ patient_index shown.now.inst.now.draft shown.now.first shown.now.plan.now) }
 {
     put(out, "<h2 id=index>Patients</h2>\n<ul>\n")?;
     for p in 0..shown.inst.patients() {

@@ -2,11 +2,11 @@
 
 ghost use Rattle.std.specs.Prelude.{◌≡◌, ◌<◌, ◌+◌, ◌*◌, ◌++◌, OnOk};
 ghost use Rattle.ih_tables.specs.Sizes.{patient_count, occupant_count, room_count, shift_count};
-ghost use Rattle.ih_plan.specs.Timetable.{IsPlacement, stay_of};
+ghost use Rattle.ih_plan.specs.Timetable.{IsPlacement, IsPlanOf, care_of, stay_of};
 ghost use Rattle.ih_page.specs.Rooms.{wide_td, gap_text, delay_td, delay_text, bar_end, bar_td, bar_text, person_tds};
 ghost use Rattle.ih_page.specs.Rooms.{is_first_gender, patient_tag, occupant_tag, mandatory_mark, patient_head};
 ghost use Rattle.ih_page.specs.Rooms.{patient_row, occupant_row, begins_in, patient_in, admitted_rows, occupant_in};
-ghost use Rattle.ih_page.specs.Rooms.{count_td, nurse_td, shift_row, room_title, room_head, count_row};
+ghost use Rattle.ih_page.specs.Rooms.{count_td, nurse_name, nurse_td, shift_row, room_title, room_head, count_row};
 ghost use Rattle.ih_page.specs.Rooms.{person_rows, room_text, legend, rooms_text};
 
 use crate::day_heads::put_heads_and_days;
@@ -14,7 +14,7 @@ use crate::names::{put_age, put_marked, put_nurse, put_shift_type, put_td_at, pu
 use crate::presence::head_count;
 use crate::shown::Shown;
 use crate::texts::{Put, put, put_isolated, put_labelled, put_numbered};
-use ih_plan::Placement;
+use ih_plan::{Placement, Plan};
 use ih_tables::{Instance, Occupant, Patient, PatientNo, Room, RoomNo, Shift};
 
 #[tactic(auto, unfolding(crate::specs::Rooms::wide_td))]
@@ -203,6 +203,17 @@ fn put_count(out: &mut Vec<u8>, shown: &Shown<'_>, r: u32, d: u32) -> Put
     )
 }
 
+/// Appends the name of the nurse whom a timetable gives the room in the shift, where there is one.
+pub fn put_nurse_in(out: &mut Vec<u8>, inst: &Instance, plan: &Plan, r: u32, k: u32) -> Put
+    requires plan { IsPlanOf inst.now.draft plan.now }
+    requires room { r < room_count inst.now.draft }
+    requires shift { k < shift_count inst.now.draft }
+    ensures { OnOk result
+        (out.new.items ≡ out.old.items ++ nurse_name inst.now.draft (care_of plan.now r k)) }
+{
+    put_nurse(out, inst, plan.care(RoomNo(r), Shift(k)))
+}
+
 fn put_care(out: &mut Vec<u8>, shown: &Shown<'_>, r: u32, k: u32) -> Put
     requires room { r < room_count shown.now.inst.now.draft }
     requires shift { k < shift_count shown.now.inst.now.draft }
@@ -211,7 +222,7 @@ fn put_care(out: &mut Vec<u8>, shown: &Shown<'_>, r: u32, k: u32) -> Put
 {
     put_td_at(out, "s", r, k)?;
     put(out, ">")?;
-    put_nurse(out, shown.inst, shown.plan.care(RoomNo(r), Shift(k)))
+    put_nurse_in(out, shown.inst, shown.plan, r, k)
 }
 
 fn put_shift(out: &mut Vec<u8>, shown: &Shown<'_>, r: u32, j: u32) -> Put

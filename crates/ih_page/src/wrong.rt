@@ -1,4 +1,4 @@
-//! What is wrong, and where.
+//! What breaks rules, what costs, and where.
 
 ghost use Rattle.std.specs.Prelude.{◌≡◌, ◌<◌, ◌^◌, ◌++◌, OnOk, IfOk, All, length};
 ghost use Rattle.ih_tables.specs.Sizes.{patient_count};
@@ -16,7 +16,7 @@ use crate::order::dearest_first;
 use crate::shown::{Priced, Shown};
 use crate::texts::{Put, put, put_signed};
 use ih_footprint::Numbering;
-use ih_tables::{Bill, Cell, Instance, PatientNo};
+use ih_tables::{Bill, Cell, PatientNo};
 use std::alloc::{AllocError, Global};
 
 // How much of the line's number the cell has.
@@ -71,24 +71,25 @@ fn is_early(shown: &Shown<'_>, c: Cell) -> bool
     }
 }
 
+/// Appends a cell's name, which leads to its anchor.
 #[tactic(auto, unfolding(crate::specs::Wrong::cell_link))]
-fn put_link(out: &mut Vec<u8>, inst: &Instance, c: Cell) -> Put
-    requires { IsCellOf inst.now.draft c }
-    ensures { OnOk result (out.new.items ≡ out.old.items ++ cell_link inst.now.draft c) }
+pub fn put_cell_link(out: &mut Vec<u8>, shown: &Shown<'_>, c: Cell) -> Put
+    requires { IsCellOf shown.now.inst.now.draft c }
+    ensures { OnOk result (out.new.items ≡ out.old.items ++ cell_link shown.now.inst.now.draft shown.now.first c) }
 {
     put(out, "<li><a href=#")?;
     put_cell_anchor(out, c)?;
     put(out, ">")?;
-    put_cell(out, inst, c)?;
+    put_cell(out, shown, c)?;
     put(out, "</a>: ")
 }
 
 #[tactic(auto, unfolding(crate::specs::Wrong::item))]
 fn put_item(out: &mut Vec<u8>, shown: &Shown<'_>, line: Line, c: Cell, x: u64) -> Put
     requires cell { IsCellOf shown.now.inst.now.draft c }
-    ensures { OnOk result (out.new.items ≡ out.old.items ++ item shown.now.inst.now.draft shown.now.plan.now line c x) }
+    ensures { OnOk result (out.new.items ≡ out.old.items ++ item shown.now.inst.now.draft shown.now.first shown.now.plan.now line c x) }
 {
-    put_link(out, shown.inst, c)?;
+    put_cell_link(out, shown, c)?;
     put_amount(out, line, is_early(shown, c), x)?;
     put(out, "\n")
 }
@@ -98,7 +99,8 @@ fn put_items(out: &mut Vec<u8>, shown: &Shown<'_>, line: Line, xs: &[u64], order
     requires all { length xs.now ≡ cell_count shown.now.inst.now.draft }
     requires inside { All (λ n. n < length xs.now) order.now }
     ensures { OnOk result
-        (out.new.items ≡ out.old.items ++ items_of shown.now.inst.now.draft shown.now.plan.now line xs.now order.now) }
+        (out.new.items ≡ out.old.items
+        ++ items_of shown.now.inst.now.draft shown.now.first shown.now.plan.now line xs.now order.now) }
 {
     let cells = Numbering::of(shown.inst);
     for n in order {
@@ -137,7 +139,7 @@ fn put_list(out: &mut Vec<u8>, priced: &Priced<'_>, line: Line, xs: &[u64], orde
     requires all { length xs.now ≡ cell_count priced.now.shown.now.inst.now.draft }
     requires inside { All (λ n. n < length xs.now) order.now }
     ensures { let shown = priced.now.shown.now in OnOk result
-        (out.new.items ≡ out.old.items ++ list_of shown.inst.now.draft shown.plan.now line xs.now order.now) }
+        (out.new.items ≡ out.old.items ++ list_of shown.inst.now.draft shown.first shown.plan.now line xs.now order.now) }
 {
     put_list_head(out, priced.bill, line)?;
     put_items(out, priced.shown, line, xs, order)?;
@@ -148,7 +150,7 @@ fn put_list(out: &mut Vec<u8>, priced: &Priced<'_>, line: Line, xs: &[u64], orde
 fn put_line_list(alloc: Global, out: &mut Vec<u8>, priced: &Priced<'_>, line: Line) -> Put
     requires { IsLine line }
     ensures { let shown = priced.now.shown.now in OnOk result
-        (out.new.items ≡ out.old.items ++ line_list shown.inst.now.draft shown.plan.now line) }
+        (out.new.items ≡ out.old.items ++ line_list shown.inst.now.draft shown.first shown.plan.now line) }
 {
     let xs = amounts(alloc, priced, line)?;
     let order = dearest_first(alloc, xs.as_slice())?;
@@ -161,7 +163,7 @@ fn put_line_list(alloc: Global, out: &mut Vec<u8>, priced: &Priced<'_>, line: Li
 // The lists of the rules, then those of the costs.
 fn put_line_lists(alloc: Global, out: &mut Vec<u8>, priced: &Priced<'_>) -> Put
     ensures { let shown = priced.now.shown.now in OnOk result
-        (out.new.items ≡ out.old.items ++ line_lists shown.inst.now.draft shown.plan.now) }
+        (out.new.items ≡ out.old.items ++ line_lists shown.inst.now.draft shown.first shown.plan.now) }
 {
     for i in 0..9 {
         put_line_list(alloc, out, priced, Line::Rule(i))?;
@@ -172,12 +174,15 @@ fn put_line_lists(alloc: Global, out: &mut Vec<u8>, priced: &Priced<'_>) -> Put
     Ok(())
 }
 
-/// Appends the lists of what is wrong, and where.
+/// Appends the lists of what breaks rules and of what costs, with the cells.
 #[tactic(auto, unfolding(crate::specs::Wrong::wrong_text))]
 pub fn put_wrong(alloc: Global, out: &mut Vec<u8>, priced: &Priced<'_>) -> Put
     ensures { let shown = priced.now.shown.now in OnOk result
-        (out.new.items ≡ out.old.items ++ wrong_text shown.inst.now.draft shown.plan.now) }
+        (out.new.items ≡ out.old.items ++ wrong_text shown.inst.now.draft shown.first shown.plan.now) }
 {
-    put(out, "<h2 id=wrong>What is wrong, and where</h2>\n")?;
+    put(
+        out,
+        "<h2 id=wrong>What breaks rules, what costs, and where</h2>\n",
+    )?;
     put_line_lists(alloc, out, priced)
 }

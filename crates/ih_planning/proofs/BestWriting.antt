@@ -9,7 +9,7 @@ use Rattle.ih_plan.specs.Timetable.{IsPlanOf, Timetable}
 use Rattle.ih_plan.specs.BillOf.{bill_of}
 use Rattle.ih_shelf.specs.Outside.{IfTold, IsWritten, Names}
 use Rattle.ih_solution.specs.Solution.{solution}
-use Rattle.ih_improve.specs.Improving.{Improving, IsSound}
+use Rattle.ih_improve.specs.ImproverState.{ImproverState, IsSound}
 use Rattle.ih_answers.specs.declared.answer.Answer.{Answer}
 use Rattle.ih_answers.specs.Answers.{Answers}
 use Rattle.ih_answers.specs.Ends.{Unchanged}
@@ -21,7 +21,7 @@ use Rattle.ih_planning.specs.Searching.{BestEnds, KeepsFileCurrent, WriteEnds}
 -- ---- the write
 
 -- the best fits the instance
-pub best-fits : (v : Improving) (I : Draft) (P : Timetable) → IsSound v → v.instance ≡ I → P ≡ v.kept → IsPlanOf I P
+pub best-fits : (v : ImproverState) (I : Draft) (P : Timetable) → IsSound v → v.instance ≡ I → P ≡ v.kept → IsPlanOf I P
 best-fits v I P sound here is = subst (λ (J : Draft). IsPlanOf J P) here (subst (IsPlanOf v.instance) (sym is) sound.kept.plan)
 
 -- by whether it was asked for
@@ -31,7 +31,7 @@ by-flag b P Q is h = subst (λ (t : Bool). MatchBool t P Q) (sym is) h
 pub by-no-flag : (b : Bool) (P Q : Type 0) → b ≡ false → Q → MatchBool b P Q
 by-no-flag b P Q is h = subst (λ (t : Bool). MatchBool t P Q) (sym is) h
 
-module _ (out : List ℕ) (v : Improving) (I : Draft) (P : Timetable) (old new : Option Names) (here : v.instance ≡ I) (is : P ≡ v.kept)
+module _ (out : List ℕ) (v : ImproverState) (I : Draft) (P : Timetable) (old new : Option Names) (here : v.instance ≡ I) (is : P ≡ v.kept)
     (works : feasible (bill_of v.instance v.kept) ≡ true) where
   same-text : solution I P ≡ solution v.instance v.kept
   same-text = ap₂ solution (sym here) is
@@ -57,7 +57,7 @@ module _ (out : List ℕ) (v : Improving) (I : Draft) (P : Timetable) (old new :
       (λ s t h. (works, subst (λ (x : List ℕ). WriteEnds out x old new s t) same-text h)) a)
 
 -- no feasible one is known, and nothing is written
-pub none-written : {X : Type 0} (out : List ℕ) (v : Improving) (names : X → Option Names) (shelf : X) (b : Bool)
+pub none-written : {X : Type 0} (out : List ℕ) (v : ImproverState) (names : X → Option Names) (shelf : X) (b : Bool)
     → feasible (bill_of v.instance v.kept) ≡ false → MatchBool b (IfTold (WritesBest out v) (names shelf) (names shelf)) (shelf ≡ shelf)
 none-written out v names shelf true lacks =
     told-weaker Unchanged (WritesBest out v) (names shelf) (names shelf)
@@ -66,7 +66,7 @@ none-written out v names shelf true lacks =
 none-written out v names shelf false lacks = refl
 
 -- a round leaves the file right, by whether its best was to be written
-pub file-current : {X : Type 0} (out : List ℕ) (w v : Improving) (names : X → Option Names) (old new : X) (b : Bool) → (b ≡ false → 0 < w.rounds)
+pub file-current : {X : Type 0} (out : List ℕ) (w v : ImproverState) (names : X → Option Names) (old new : X) (b : Bool) → (b ≡ false → 0 < w.rounds)
     → (b ≡ false → v.kept ≡ w.kept) → MatchBool b (IfTold (WritesBest out v) (names old) (names new)) (new ≡ old)
     → KeepsFileCurrent out w v (names old) (names new)
 file-current out w v names old new true later same h = inl h

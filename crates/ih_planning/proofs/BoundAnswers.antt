@@ -16,13 +16,13 @@ use Rattle.ih_answers.specs.Answers.{Answers, HasFileCause, IsSaid}
 use Rattle.ih_answers.specs.Ends.{Unchanged}
 use Rattle.ih_answers.proofs.Files.{told-same}
 use Rattle.ih_answers.proofs.Saying.{IsAnswerable, said-answer, said-status, unsaid-by}
-use Rattle.ih_answers.proofs.Stopping.{unread-memory}
 use Rattle.ih_bound.specs.Bounds.{AddUp, HoldsOfAll}
 use Rattle.ih_bound.specs.declared.outcomes.Outcome.{Outcome}
 use Rattle.ih_bound.specs.declared.outcomes.Outcome.TheVariants.{Infeasible, AtLeast}
 use Rattle.ih_planning.specs.Bound.{BoundCall, bound_inputs}
 use Rattle.ih_planning.specs.BoundTexts.{above, bound_text}
 use Rattle.ih_planning.specs.Bounding.{BoundEnds, HasGap, bound_status, cost_of, no_infeasibility, judged_of}
+use Rattle.ih_planning.proofs.Unread.{unread-memory}
 
 -- ---- how far from the best
 

@@ -8,11 +8,11 @@ use Rattle.ih_answers.specs.declared.status.Status.TheVariants.{OutOfMemory}
 use Rattle.ih_answers.specs.Texts.{memory_text}
 use Rattle.ih_answers.proofs.Files.{told-same}
 use Rattle.ih_answers.proofs.Saying.{IsAnswerable, memory-ended, unsaid-by}
-use Rattle.ih_answers.proofs.Stopping.{unread-memory}
 use Rattle.ih_planning.specs.Ends.{CallEnds, IsUntouched, Leaves, NoCallEnds}
 use Rattle.ih_planning.specs.Bound.{bound_inputs}
 use Rattle.ih_planning.specs.Words.{Call, bound, improve, view}
 use Rattle.ih_planning.proofs.SearchEnding.{improve-memory}
+use Rattle.ih_planning.proofs.Unread.{unread-memory}
 
 pub no_call-answerable : (words : List Text) → IsAnswerable (NoCallEnds words)
 no_call-answerable words = record {

@@ -14,13 +14,14 @@ use Rattle.ih_answers.specs.declared.status.Status.{Status}
 use Rattle.ih_answers.specs.declared.status.Status.TheVariants.{Done, Infeasible, ReadFault, StartRefused, NoneFound, WriteFault, OutOfMemory, TooLong}
 use Rattle.ih_answers.specs.declared.status.Role.TheVariants.{Solution}
 use Rattle.ih_answers.specs.Ends.{Ends, HasCause}
-use Rattle.ih_answers.specs.Inputs.{EndsUnread, unread_status}
+use Rattle.ih_answers.specs.Inputs.{unread_status}
 use Rattle.ih_planning.specs.Bound.{BoundCall, bound_inputs}
 use Rattle.ih_planning.specs.Bounding.{BoundEnds}
 use Rattle.ih_planning.specs.Ends.{CallEnds, HasFiles, IsAnswered, IsComplete, Leaves}
 use Rattle.ih_planning.specs.Improve.{ImproveCall, improve_inputs}
 use Rattle.ih_planning.specs.Older.{EndsOlderUnread, HasOlder}
 use Rattle.ih_planning.specs.Searching.{ImproveEnds}
+use Rattle.ih_planning.specs.Unread.{EndsUnread}
 use Rattle.ih_planning.specs.View.{ViewCall, view_inputs}
 use Rattle.ih_planning.specs.Viewing.{ViewEnds}
 use Rattle.ih_planning.specs.Words.{Call, bound, improve, view}
@@ -72,7 +73,7 @@ module _ (files : Names) (r : InputFiles) (I : Draft) (P : Timetable) (has : Has
   by-error NoRoom calm h = refl
 
   accepted : (status : Status) (text : List ℕ) → HasNoFault status → EndsUnread (Some files) r status text → status ≡ OutOfMemory
-  accepted status text calm (e, is, said, why) = is ∙ by-error e (subst HasNoFault is calm) why
+  accepted status text calm (unnamed, (e, is, said, why), named) = is ∙ by-error e (subst HasNoFault is calm) why
 
 -- ---- the commands
 

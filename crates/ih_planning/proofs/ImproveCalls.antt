@@ -1,23 +1,20 @@
 -- How a call of improve ends, step by step: its files are read, its search begins, and it ends.
 use Rattle.std.proofs.Common.{◌≡◌, ◌≤◌, ℕ, refl, subst, inl, inr, List, Option}
 use Rattle.std.specs.Prelude.{◌⊎◌}
-use Rattle.ih_tables.specs.declared.drafts.Draft.{Draft}
-use Rattle.ih_plan.specs.Timetable.{Timetable}
 use Rattle.ih_shelf.specs.Outside.{IfTold, Names}
-use Rattle.ih_improve.specs.Improving.{Improving}
-use Rattle.ih_improve.specs.declared.settings.Settings.{Settings}
+use Rattle.ih_improve.specs.ImproverState.{ImproverState}
 use Rattle.ih_answers.specs.declared.answer.Answer.{Answer}
 use Rattle.ih_answers.specs.declared.status.Status.{Status}
 use Rattle.ih_answers.specs.declared.status.Status.TheVariants.{OutOfMemory}
 use Rattle.ih_answers.specs.Answers.{Answers, HasFileCause, IsConcluded}
 use Rattle.ih_answers.specs.Ends.{Ends, Unchanged}
-use Rattle.ih_answers.specs.Inputs.{EndsUnread}
 use Rattle.ih_answers.specs.Texts.{memory_text}
 use Rattle.ih_answers.proofs.Files.{told-same}
 use Rattle.ih_answers.proofs.Later.{file-cause-from}
 use Rattle.ih_answers.proofs.Saying.{answers-weaker, ended, memory-ended}
 use Rattle.ih_planning.specs.Improve.{ImproveCall, improve_inputs}
-use Rattle.ih_planning.specs.Searching.{AreSettingsOf, BegunEnds, ImproveEnds, SearchEnds, new_search}
+use Rattle.ih_planning.specs.Searching.{BegunEnds, ImproveEnds, SearchEnds}
+use Rattle.ih_planning.specs.Unread.{EndsUnread}
 use Rattle.ih_planning.proofs.SearchEnding.{Unread, ends-as, improve-memory, improve-unread, improve-unread-answerable}
 
 module _ (c : ImproveCall) (received part : List ℕ → Type 0) (status : Status) where
@@ -45,13 +42,12 @@ module _ (c : ImproveCall) (received part : List ℕ → Type 0) (status : Statu
 
     -- ---- the search
 
-    -- it began from a start, with settings of the call
-    pub searched-ended : (old new : Option Names) (I : Draft) (start : Timetable) (s : Settings) (v : Improving) → v ≡ new_search I start s
-        → AreSettingsOf c s → Ends (SearchEnds c.out v old new) cause received part status
-        → Ends (BegunEnds c I start old new) cause received part status
-    searched-ended old new I start s v is settings =
-        ends-as (SearchEnds c.out v old new) (BegunEnds c I start old new) cause cause received part
-        (λ k t h. inr (s, settings, subst (λ (x : Improving). SearchEnds c.out x old new k t) is h)) (λ k e. e) status
+    -- it began
+    pub searched-ended : (old new : Option Names) (v w : ImproverState) → v ≡ w → Ends (SearchEnds c.out v old new) cause received part status
+        → Ends (BegunEnds c.out w old new) cause received part status
+    searched-ended old new v w is =
+        ends-as (SearchEnds c.out v old new) (BegunEnds c.out w old new) cause cause received part
+        (λ k t h. inr (subst (λ (x : ImproverState). SearchEnds c.out x old new k t) is h)) (λ k e. e) status
 
 -- memory ran out before it began
 pub unbegun-ended : (c : ImproveCall) (received part : List ℕ → Type 0) (cause : Status → Type 0) (files : Option Names) → cause OutOfMemory
@@ -59,8 +55,7 @@ pub unbegun-ended : (c : ImproveCall) (received part : List ℕ → Type 0) (cau
 unbegun-ended c received part cause files why said =
     memory-ended (ImproveEnds c files files) cause received part (improve-memory c files files (told-same files files refl)) why said
 
-pub unstarted-ended : (c : ImproveCall) (received part : List ℕ → Type 0) (cause : Status → Type 0) (files : Option Names) (I : Draft)
-    (start : Timetable) → cause OutOfMemory → received memory_text ⊎ part memory_text
-    → Ends (BegunEnds c I start files files) cause received part OutOfMemory
-unstarted-ended c received part cause files I start why said =
-    memory-ended (BegunEnds c I start files files) cause received part (inl (refl, told-same files files refl, refl)) why said
+pub unstarted-ended : (out : List ℕ) (v : ImproverState) (received part : List ℕ → Type 0) (cause : Status → Type 0) (files : Option Names)
+    → cause OutOfMemory → received memory_text ⊎ part memory_text → Ends (BegunEnds out v files files) cause received part OutOfMemory
+unstarted-ended out v received part cause files why said =
+    memory-ended (BegunEnds out v files files) cause received part (inl (refl, told-same files files refl, refl)) why said

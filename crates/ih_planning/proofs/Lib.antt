@@ -10,7 +10,8 @@ pub mod Promises
 pub mod PutCounts
 pub mod RoundSteps
 pub mod SameRounds
+pub mod SameSearches
 pub mod SearchEnding
 pub mod SettingsRead
-pub mod ViewCalls
+pub mod Unread
 pub mod WordsRead

@@ -15,10 +15,10 @@ use Rattle.ih_answers.specs.Ends.{Unchanged}
 use Rattle.ih_answers.specs.Texts.{memory_text}
 use Rattle.ih_answers.proofs.Files.{begun}
 use Rattle.ih_answers.proofs.Saying.{IsAnswerable, unsaid-by}
-use Rattle.ih_answers.proofs.Stopping.{unread-only}
 use Rattle.ih_planning.specs.Older.{EndsOlderUnread, IsOlderUnread}
 use Rattle.ih_planning.specs.View.{ViewCall, view_inputs}
 use Rattle.ih_planning.specs.Viewing.{HasPage, ViewEnds}
+use Rattle.ih_planning.proofs.Unread.{unread-only}
 
 module _ (v : ViewCall) (old new : Option Names) where
   page-begun : HasPage IsWritten v old new → HasPage MayBeWritten v old new

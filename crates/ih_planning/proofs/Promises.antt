@@ -7,15 +7,15 @@ use Rattle.ih_shelf.specs.Outside.{IfTold, IsWritten, Names}
 use Rattle.ih_solution.specs.Solution.{solution}
 use Rattle.ih_validate.specs.Report.{report}
 use Rattle.ih_improve.specs.Following.{MayFollow}
-use Rattle.ih_improve.specs.Improving.{Improving}
+use Rattle.ih_improve.specs.ImproverState.{ImproverState}
 use Rattle.ih_answers.specs.declared.status.Status.TheVariants.{Done}
 use Rattle.ih_answers.specs.Ends.{Unchanged}
 use Rattle.ih_answers.proofs.Files.{told-weaker}
-use Rattle.ih_answers.proofs.Stopping.{unread-only}
 use Rattle.ih_planning.specs.Improve.{ImproveCall, improve_inputs}
 use Rattle.ih_planning.specs.Laws.{DoneCallsHaveImproved, IsImproved, NoneFoundChangesNothing}
 use Rattle.ih_planning.specs.Rounds.{AreRounds, HoldsBest, Round, kept_after, progress}
 use Rattle.ih_planning.specs.Searching.{IsSearch}
+use Rattle.ih_planning.proofs.Unread.{unread-only}
 
 -- the file by whether the best is feasible
 by-yes : (b : Bool) (P Q : Type 0) → b ≡ true → MatchBool b P Q → P
@@ -24,13 +24,13 @@ by-yes b P Q is h = subst (λ (t : Bool). MatchBool t P Q) is h
 by-no : (b : Bool) (P Q : Type 0) → b ≡ false → MatchBool b P Q → Q
 by-no b P Q is h = subst (λ (t : Bool). MatchBool t P Q) is h
 
-module _ (c : ImproveCall) (old new : Option Names) (text : List ℕ) (v : Improving) (is : IsSearch old c v) where
+module _ (c : ImproveCall) (old new : Option Names) (text : List ℕ) (v : ImproverState) (is : IsSearch old c v) where
   -- there is at least one round
   some-round : 1 ≤ v.settings.rounds
   some-round = is.settings.lawful.some_round
 
   freeze-is : v.settings.freeze ≡ c.start.freeze
-  freeze-is = ap (λ s. s.freeze) is.settings.asked
+  freeze-is = ap (λ s. s.freeze) is.settings.are
 
   improved : (rs : List Round) → length rs ≡ v.settings.rounds → AreRounds v rs → IfTold (HoldsBest c.out v rs) old new
       → feasible (bill_of v.instance (kept_after v rs)) ≡ true
@@ -40,6 +40,8 @@ module _ (c : ImproveCall) (old new : Option Names) (text : List ℕ) (v : Impro
     instance = v.instance;
     given = is.given;
     inputs = is.inputs;
+    settings = v.settings;
+    are_settings = is.settings;
     start = v.start;
     started = is.start;
     best = r.kept;

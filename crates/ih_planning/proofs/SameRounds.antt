@@ -10,9 +10,9 @@ use Rattle.ih_plan.specs.Timetable.{Timetable}
 use Rattle.ih_plan.specs.BillOf.{bill_of}
 use Rattle.ih_shelf.specs.Outside.{IsWritten, Names}
 use Rattle.ih_solution.specs.Solution.{solution}
-use Rattle.ih_improve.specs.Improving.{Improving, Leads}
+use Rattle.ih_improve.specs.ImproverState.{ImproverState, Leads}
 use Rattle.ih_improve.specs.Laws.{IsDetermined}
-use Rattle.ih_improve.specs.Legs.{Setout}
+use Rattle.ih_improve.specs.Legs.{LegState}
 use Rattle.ih_improve.proofs.Determined.{all-rounds}
 use Rattle.ih_answers.specs.Ends.{Unchanged}
 use Rattle.ih_planning.specs.Laws.{RoundsLeaveTheSame}
@@ -46,7 +46,7 @@ bests rs = map (λ r. r.kept) rs
 abbrev heats : List Round → List ℕ
 heats rs = map (λ r. r.heat) rs
 
-module _ (v : Improving) where
+module _ (v : ImproverState) where
   kept-last : (rs : List Round) → kept_after v rs ≡ last-of v.kept (bests rs)
   kept-last [] = refl
   kept-last (r ∷ rs) = refl
@@ -54,8 +54,8 @@ module _ (v : Improving) where
   same-after : (rs ss : List Round) → length rs ≡ length ss → bests rs ≡ bests ss → after_rounds v rs ≡ after_rounds v ss
   same-after rs ss count same =
       let kept : kept_after v rs ≡ kept_after v ss = kept-last rs ∙ ap (last-of v.kept) same ∙ sym (kept-last ss) in
-      ap (λ (n : ℕ). let x : Improving = record v { rounds = n; kept = kept_after v rs } in x) count
-      ∙ ap (λ (P : Timetable). let x : Improving = record v { rounds = length ss; kept = P } in x) kept
+      ap (λ (n : ℕ). let x : ImproverState = record v { rounds = n; kept = kept_after v rs } in x) count
+      ∙ ap (λ (P : Timetable). let x : ImproverState = record v { rounds = length ss; kept = P } in x) kept
 
   same-file : (rs ss : List Round) → length rs ≡ length ss → bests rs ≡ bests ss → (out : List ℕ) (old new other : Names)
       → HoldsBest out v rs old new → HoldsBest out v ss old other → Unchanged new other
@@ -78,8 +78,8 @@ module _ (v : Improving) where
       ap₂ (λ (x y : List ℕ). x ++ y) (same-lines rs ss (omega (arith, count)) earlier before)
       (ap₂ round_line (same-after (r ∷ rs) (s ∷ ss) count same) heat)
 
-  module _ (may_leave : Setout → ℕ → Timetable → Type 0) (determined : IsDetermined may_leave) where
-    one-round : (x : Improving) (P Q : Timetable) → Leads may_leave x P → Leads may_leave x Q → P ≡ Q
+  module _ (may_leave : LegState → ℕ → Timetable → Type 0) (determined : IsDetermined may_leave) where
+    one-round : (x : ImproverState) (P Q : Timetable) → Leads may_leave x P → Leads may_leave x Q → P ≡ Q
     one-round x P Q first second =
         let same : P ∷ [] ≡ Q ∷ [] = all-rounds may_leave determined x (P ∷ []) (Q ∷ []) refl (first, tt) (second, tt) in cc
 
@@ -91,10 +91,10 @@ module _ (v : Improving) where
         let fewer : length rs ≡ length ss = omega (arith, count) in
         let same : bests rs ≡ bests ss = same-bests rs ss fewer before earlier in
         let head : r.kept ≡ s.kept = one-round (after_rounds v ss) r.kept s.kept
-        (subst (λ (x : Improving). Leads may_leave x r.kept) (same-after rs ss fewer same) led) follows in
+        (subst (λ (x : ImproverState). Leads may_leave x r.kept) (same-after rs ss fewer same) led) follows in
         ap₂ (λ (P : Timetable) (Ps : List Timetable). P ∷ Ps) head same
 
-pub rounds-same : (may_leave : Setout → ℕ → Timetable → Type 0) → RoundsLeaveTheSame may_leave
+pub rounds-same : (may_leave : LegState → ℕ → Timetable → Type 0) → RoundsLeaveTheSame may_leave
 rounds-same may_leave determined v rs ss count first second =
     let same = same-bests v may_leave determined rs ss count first second in
     (same, same-file v rs ss count same, same-lines v rs ss count same)

@@ -10,22 +10,23 @@ use Rattle.ih_inputs.specs.Reading.{HasInputs}
 use Rattle.ih_shelf.specs.Outside.{IfTold, MayBeAppended, Names, Rose}
 use Rattle.ih_solution.specs.Solution.{solution}
 use Rattle.ih_validate.specs.Report.{report}
-use Rattle.ih_improve.specs.Improving.{Improving}
+use Rattle.ih_improve.specs.ImproverState.{ImproverState}
+use Rattle.ih_improve.specs.declared.settings.Settings.{Settings}
 use Rattle.ih_answers.specs.declared.status.Status.{Status}
 use Rattle.ih_answers.specs.declared.status.Status.TheVariants.{Done, NoneFound, WriteFault, OutOfMemory}
 use Rattle.ih_answers.specs.declared.status.Role.TheVariants.{Out}
 use Rattle.ih_answers.specs.declared.answer.Answer.{Answer}
 use Rattle.ih_answers.specs.Answers.{HasFileCause, HasPutCause, IsConcluded, IsSaid}
 use Rattle.ih_answers.specs.Ends.{Ends, HasCause, Received, Unchanged}
-use Rattle.ih_answers.specs.Inputs.{EndsUnread}
 use Rattle.ih_answers.specs.Texts.{ReceivedPart, memory_text, none_found_text}
 use Rattle.ih_answers.proofs.Files.{nothing-written}
 use Rattle.ih_answers.proofs.Later.{cause-from, ends-later, part-later, part-longer, received-later}
 use Rattle.ih_answers.proofs.Saying.{IsAnswerable, beside, ended, has-cause, memory-ended, said-answer, said-status, unsaid-by}
-use Rattle.ih_answers.proofs.Stopping.{unread-answerable, unread-memory}
 use Rattle.ih_planning.specs.Improve.{ImproveCall, improve_inputs}
-use Rattle.ih_planning.specs.Searching.{AllOver, AreOver, BegunEnds, BestEnds, HasRounds, ImproveEnds, IsSearch, KeepsFileCurrent, LineEnds, RoundEnds, SearchEnds, StopsEarly, WriteEnds, ending_status, ending_text, new_search, searched, told}
+use Rattle.ih_planning.specs.Searching.{AllOver, AreOver, AreSettingsOf, BegunEnds, BestEnds, HasRounds, ImproveEnds, IsSearch, KeepsFileCurrent, LineEnds, RoundEnds, SearchEnds, StopsEarly, WriteEnds, ending_status, ending_text, new_search, searched, told}
 use Rattle.ih_planning.specs.Rounds.{round_line}
+use Rattle.ih_planning.specs.Unread.{EndsUnread}
+use Rattle.ih_planning.proofs.Unread.{unread-answerable, unread-memory}
 
 -- ---- one round
 
@@ -45,7 +46,7 @@ write-answerable out solution old new = record {
 pub write-unbegun : (out solution : List ℕ) (files : Option Names) → WriteEnds out solution files files OutOfMemory memory_text
 write-unbegun out solution files = (nothing-written out solution files, refl)
 
-pub best-answerable : (out : List ℕ) (v : Improving) (old new : Option Names) → IsAnswerable (BestEnds out v old new)
+pub best-answerable : (out : List ℕ) (v : ImproverState) (old new : Option Names) → IsAnswerable (BestEnds out v old new)
 best-answerable out v old new = beside (feasible (bill_of v.instance v.kept) ≡ true) (WriteEnds out (solution v.instance v.kept) old new)
     (write-answerable out (solution v.instance v.kept) old new)
 
@@ -56,7 +57,7 @@ pub ends-as : (small large : Status → List ℕ → Type 0) (cause cause' : Sta
 ends-as small large cause cause' received part ends why =
     ends-later small large (λ t. t) cause cause' received part received part ends why (λ t h. h) (λ t h. h)
 
-module _ (out : List ℕ) (w v : Improving) (old new : Option Names) (cause : Status → Type 0) (received part : List ℕ → Type 0) where
+module _ (out : List ℕ) (w v : ImproverState) (old new : Option Names) (cause : Status → Type 0) (received part : List ℕ → Type 0) where
   -- a round in which the write ended the call
   pub best-ended : (status : Status) → Ends (BestEnds out v old new) cause received part status → Ends (RoundEnds out w v old new) cause received part status
   best-ended = ends-as (BestEnds out v old new) (RoundEnds out w v old new) cause cause received part (λ s t h. inl h) (λ s h. h)
@@ -69,18 +70,18 @@ module _ (out : List ℕ) (w v : Improving) (old new : Option Names) (cause : St
       (λ s is. subst cause (sym is) why)
 
 -- memory ran out before the line was made
-pub line-unmade : (v : Improving) (heat : ℕ) (received part : List ℕ → Type 0) → received memory_text ⊎ part memory_text
+pub line-unmade : (v : ImproverState) (heat : ℕ) (received part : List ℕ → Type 0) → received memory_text ⊎ part memory_text
     → Ends (LineEnds v heat) (λ s. s ≡ OutOfMemory) received part OutOfMemory
 line-unmade v heat received part said = memory-ended (LineEnds v heat) (λ s. s ≡ OutOfMemory) received part (inl refl) refl said
 
 -- the line couldn't be put out
-pub line-fault : (v : Improving) (heat : ℕ) (old new : Option (List ℕ)) (faults faults' : ℕ) (part : List ℕ → Type 0) → Rose faults faults'
+pub line-fault : (v : ImproverState) (heat : ℕ) (old new : Option (List ℕ)) (faults faults' : ℕ) (part : List ℕ → Type 0) → Rose faults faults'
     → IfTold (MayBeAppended (round_line v heat)) old new
     → Ends (LineEnds v heat) (λ s. s ≡ OutOfMemory) (Received (WriteFault None) old new faults faults') part (WriteFault None)
 line-fault v heat old new faults faults' part rose begun = (round_line v heat, refl, inr (refl, rose, begun))
 
 -- memory ran out as the line was put out
-pub line-part : (v : Improving) (heat : ℕ) (old new : Option (List ℕ)) (lacks lacks' : ℕ) (received : List ℕ → Type 0) → Rose lacks lacks'
+pub line-part : (v : ImproverState) (heat : ℕ) (old new : Option (List ℕ)) (lacks lacks' : ℕ) (received : List ℕ → Type 0) → Rose lacks lacks'
     → IfTold (MayBeAppended (round_line v heat)) old new
     → Ends (LineEnds v heat) (λ s. s ≡ OutOfMemory) received (ReceivedPart old new lacks lacks') OutOfMemory
 line-part v heat old new lacks lacks' received rose part =
@@ -94,7 +95,7 @@ line-cause reads reads' writes writes' puts puts' status (inr (is, rose)) = subs
 
 -- ---- the end of all rounds
 
-module _ (out : List ℕ) (v : Improving) (old new : Option Names) (h : HasRounds out v old new) where
+module _ (out : List ℕ) (v : ImproverState) (old new : Option Names) (h : HasRounds out v old new) where
   -- an end whose text comes behind the lines of the rounds
   abbrev pub Behind : Status → List ℕ → Type 0
   Behind status text = SearchEnds out v old new status (told h ++ text)
@@ -106,9 +107,9 @@ module _ (out : List ℕ) (v : Improving) (old new : Option Names) (h : HasRound
   }
 
   -- the best is feasible or isn't
-  pub behind-is : (w : Improving) → w ≡ searched h → AllOver h → Behind (ending_status w) (ending_text w)
+  pub behind-is : (w : ImproverState) → w ≡ searched h → AllOver h → Behind (ending_status w) (ending_text w)
   behind-is w is all =
-      subst (λ (x : Improving). Behind (ending_status x) (ending_text x)) (sym is)
+      subst (λ (x : ImproverState). Behind (ending_status x) (ending_text x)) (sym is)
       (by_test (feasible (bill_of v.instance (searched h).kept)) refl)
     where
       by_test : (b : Bool) → feasible (bill_of v.instance (searched h).kept) ≡ b
@@ -117,7 +118,7 @@ module _ (out : List ℕ) (v : Improving) (old new : Option Names) (h : HasRound
       by_test false lacks = (h, all, lacks, refl)
 
 -- what holds of both ends of rounds holds of the one that is reached
-ending-either : (P : Status → Type 0) → P Done → P NoneFound → (w : Improving) → P (ending_status w)
+ending-either : (P : Status → Type 0) → P Done → P NoneFound → (w : ImproverState) → P (ending_status w)
 ending-either P done none w = by_test (feasible (bill_of w.instance w.kept))
   where
     by_test : (b : Bool) → P (if b then Done else NoneFound)
@@ -125,7 +126,7 @@ ending-either P done none w = by_test (feasible (bill_of w.instance w.kept))
     by_test false = none
 
 -- all rounds are over, and what is left was said
-pub over-ends : (out : List ℕ) (v w : Improving) (old new : Option Names) (said now after : Option (List ℕ)) → AreOver out v w old new said now
+pub over-ends : (out : List ℕ) (v w : ImproverState) (old new : Option Names) (said now after : Option (List ℕ)) → AreOver out v w old new said now
     → (reads reads' writes writes' faults mid-faults faults' lacks mid-lacks lacks' : ℕ) → faults ≤ mid-faults → lacks ≤ mid-lacks → (a : Answer)
     → IsSaid (ending_status w) (ending_text w) a → (result : Status)
     → IsConcluded a.status a.text.items (Received result now after mid-faults faults') (ReceivedPart now after mid-lacks lacks') result
@@ -143,7 +144,7 @@ over-ends out v w old new said now after (h, is, all, line) reads reads' writes 
     (ended (Behind out v old new h) able cause (Received result now after mid-faults faults') (ReceivedPart now after mid-lacks lacks') a result answers why put)
 
 -- and that has its cause
-pub over-cause : (reads reads' writes writes' faults mid-faults faults' lacks lacks' : ℕ) → faults ≤ mid-faults → (w : Improving) (a : Answer)
+pub over-cause : (reads reads' writes writes' faults mid-faults faults' lacks lacks' : ℕ) → faults ≤ mid-faults → (w : ImproverState) (a : Answer)
     → IsSaid (ending_status w) (ending_text w) a → (result : Status) → HasPutCause a.status mid-faults faults' lacks lacks' result
     → HasCause reads reads' writes writes' faults faults' result
 over-cause reads reads' writes writes' faults mid-faults faults' lacks lacks' f w a ends result put =
@@ -153,7 +154,7 @@ over-cause reads reads' writes writes' faults mid-faults faults' lacks lacks' f 
     (has-cause reads reads' writes writes' mid-faults faults' lacks lacks' a.status result why put)
 
 -- a search that stopped has ended
-pub stopped-ends : (out : List ℕ) (v : Improving) (old new : Option Names) (status : Status) (text : List ℕ) → StopsEarly out v old new status text
+pub stopped-ends : (out : List ℕ) (v : ImproverState) (old new : Option Names) (status : Status) (text : List ℕ) → StopsEarly out v old new status text
     → SearchEnds out v old new status text
 stopped-ends out v old new Done text h = absurd h
 stopped-ends out v old new NoneFound text h = absurd h
@@ -177,22 +178,23 @@ module _ (c : ImproveCall) (old new : Option Names) where
   pub improve-memory : IfTold Unchanged old new → ImproveEnds c old new OutOfMemory memory_text
   improve-memory same = inl (same, unread-memory old (improve_inputs c))
 
-  pub improve-searched : (v : Improving) → IsSearch old c v → (status : Status) (text : List ℕ) → SearchEnds c.out v old new status text
+  pub improve-searched : (v : ImproverState) → IsSearch old c v → (status : Status) (text : List ℕ) → SearchEnds c.out v old new status text
       → ImproveEnds c old new status text
   improve-searched v is status text h = inr (v, is, h)
 
   -- the search that began is that of the files and the words
-  pub begun-ends : (I J : Draft) (P start : Timetable) → HasInputs old (improve_inputs c) I P → J ≡ I → start ≡ started c.start.fill c.hard I P
-      → (status : Status) (text : List ℕ) → BegunEnds c J start old new status text → ImproveEnds c old new status text
-  begun-ends I J P start has same is status text (inl (ran, kept, said)) =
-      subst (λ (s : Status). ImproveEnds c old new s text) (sym ran) (subst (ImproveEnds c old new OutOfMemory) (sym said) (improve-memory kept))
-  begun-ends I J P start has same is status text (inr (s, settings, h)) =
+  pub begun-ends : (I J : Draft) (P start : Timetable) (s : Settings) → HasInputs old (improve_inputs c) I P → J ≡ I → AreSettingsOf I c s
+      → start ≡ started c.start.fill s.hard I P
+      → (status : Status) (text : List ℕ) → BegunEnds c.out (new_search J start s) old new status text → ImproveEnds c old new status text
+  begun-ends I J P start s has same settings is status text (inl (ran, kept, said)) =
+      subst (λ (k : Status). ImproveEnds c old new k text) (sym ran) (subst (ImproveEnds c old new OutOfMemory) (sym said) (improve-memory kept))
+  begun-ends I J P start s has same settings is status text (inr h) =
       improve-searched (new_search J start s)
       (record {
         given = P;
         inputs = subst (λ (X : Draft). HasInputs old (improve_inputs c) X P) (sym same) has;
-        start = is ∙ ap (λ (X : Draft). started c.start.fill c.hard X P) (sym same);
+        settings = subst (λ (X : Draft). AreSettingsOf X c s) (sym same) settings;
+        start = is ∙ ap (λ (X : Draft). started c.start.fill s.hard X P) (sym same);
         is_new = refl;
-        settings = settings;
       })
       status text h

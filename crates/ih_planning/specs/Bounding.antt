@@ -8,7 +8,7 @@ use Rattle.ih_shelf.specs.Outside.{Names}
 use Rattle.ih_inputs.specs.Reading.{HasInputs}
 use Rattle.ih_answers.specs.declared.status.Status.{Status}
 use Rattle.ih_answers.specs.declared.status.Status.TheVariants.{Done, Infeasible as NotFeasible, WriteFault}
-use Rattle.ih_answers.specs.Inputs.{EndsUnread}
+use Rattle.ih_planning.specs.Unread.{EndsUnread}
 use Rattle.ih_bound.specs.Bounds.{AddUp, HoldsOfAll, IsFeasible}
 use Rattle.ih_bound.specs.declared.outcomes.Outcome.{Outcome}
 use Rattle.ih_bound.specs.declared.outcomes.Outcome.TheVariants.{Infeasible, AtLeast}

@@ -26,7 +26,7 @@ CallEnds (improve c) old new status text = ImproveEnds c old new status text
 CallEnds (view v) old new status text = ViewEnds v old new status text
 CallEnds (bound b) old new status text = IfTold Unchanged old new × BoundEnds b old status text
 
--- The words name no call: help is said, where they may ask for that, or why they name none. These texts are `clap`'s.
+-- The words name no call: help is said, where they may ask for that, or why they name none. No clause says these texts.
 abbrev pub NoCallEnds : List Text → Status → List ℕ → Type 0
 NoCallEnds words Done text = MayAskForHelp (app_for words) words
 NoCallEnds words Usage text = MayBeRefused (app_for words) words

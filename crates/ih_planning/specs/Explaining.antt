@@ -1,4 +1,4 @@
--- What is said where the words of a command line name no call: help, or why they name none. The texts are `clap`'s.
+-- What is said where the words of a command line name no call: help, or why they name none. No clause says their texts.
 use Rattle.std.specs.Prelude.{◌≡◌, ◌≢◌, ◌⊎◌, true, List, Option, Some, None, Result, Ok, Err, codes, if◌then◌else◌, slice_get}
 use Rattle.std.specs.Option.{option_map_or}
 use Rattle.std.specs.Str.{bytes_eq}

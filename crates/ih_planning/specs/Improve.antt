@@ -12,7 +12,7 @@ use Rattle.ih_improve.specs.Settings.{IsLawful}
 use Rattle.ih_improve.specs.declared.settings.Settings.{Settings}
 use Rattle.ih_improve.specs.declared.settings.TheConstants.{MAX_ATTEMPTS, MAX_ROUNDS}
 use Rattle.ih_planning.specs.declared.improve_words.Improve.{Improve}
-use Rattle.ih_planning.specs.declared.improve_words.TheConstants.{DEFAULT_HARD, DEFAULT_ROUNDS}
+use Rattle.ih_planning.specs.declared.improve_words.TheConstants.{DEFAULT_ROUNDS}
 
 -- improve INSTANCE OUT --seed N --workers N --attempts N
 abbrev pub required_app : App
@@ -41,10 +41,10 @@ pub record ImproveCall : Type 0 where
   -- of each worker
   pub attempts : ℕ
   pub rounds : ℕ
-  -- the heats of the first and of the last attempt, where they are given
+  -- the heats of the first and of the last attempt and the weight of a broken rule, where they are given
   pub hot : Option ℕ
   pub cold : Option ℕ
-  pub hard : ℕ
+  pub hard : Option ℕ
   pub start : StartCall
 
 -- the call that the values of improve stand for
@@ -66,7 +66,7 @@ improve_call i = record {
 abbrev pub improve_inputs : ImproveCall → InputFiles
 improve_inputs c = record { instance = c.instance; solution = c.start.file }
 
--- its settings, with the widest heats where none are given
+-- its settings, with the widest heats and the greatest weight of a broken rule where none are given
 abbrev pub widest_settings : ImproveCall → Settings
 widest_settings c = record {
   seed = c.seed;
@@ -75,7 +75,7 @@ widest_settings c = record {
   rounds = c.rounds;
   hot = unwrap_or c.hot MAX_HEAT;
   cold = unwrap_or c.cold 0;
-  hard = c.hard;
+  hard = unwrap_or c.hard MAX_HARD;
   freeze = c.start.freeze;
 }
 
@@ -110,7 +110,7 @@ improve_in rows = record {
   rounds = unwrap_or (number_if_given (codes "rounds") rows) DEFAULT_ROUNDS;
   hot = number_if_given (codes "hot") rows;
   cold = number_if_given (codes "cold") rows;
-  hard = unwrap_or (number_if_given (codes "hard") rows) DEFAULT_HARD;
+  hard = number_if_given (codes "hard") rows;
   start = start_in rows;
 }
 

@@ -1,5 +1,5 @@
 -- Laws of calls of the program.
-use Rattle.std.specs.Prelude.{◌≡◌, ℕ, true, List, ◌++◌, length, map, Option}
+use Rattle.std.specs.Prelude.{◌≡◌, ℕ, true, List, ◌++◌, length, map, Option, Some}
 use Rattle.ih_tables.specs.declared.drafts.Draft.{Draft}
 use Rattle.ih_tables.specs.Bills.{feasible}
 use Rattle.ih_plan.specs.Timetable.{Timetable}
@@ -10,14 +10,15 @@ use Rattle.ih_solution.specs.Solution.{solution}
 use Rattle.ih_validate.specs.Report.{report}
 use Rattle.ih_inputs.specs.Reading.{HasInputs}
 use Rattle.ih_improve.specs.Following.{MayFollow}
-use Rattle.ih_improve.specs.Improving.{Improving}
+use Rattle.ih_improve.specs.ImproverState.{ImproverState}
 use Rattle.ih_improve.specs.Laws.{IsDetermined}
-use Rattle.ih_improve.specs.Legs.{Setout}
+use Rattle.ih_improve.specs.Legs.{LegState}
+use Rattle.ih_improve.specs.declared.settings.Settings.{Settings}
 use Rattle.ih_answers.specs.declared.status.Status.TheVariants.{Done, NoneFound}
 use Rattle.ih_answers.specs.Ends.{Unchanged}
 use Rattle.ih_planning.specs.Improve.{ImproveCall, improve_inputs}
 use Rattle.ih_planning.specs.Rounds.{AreLed, HoldsBest, Round, progress}
-use Rattle.ih_planning.specs.Searching.{ImproveEnds}
+use Rattle.ih_planning.specs.Searching.{AreSettingsOf, ImproveEnds, IsSearch}
 
 -- OUT has the solution of a feasible timetable that keeps the start's choices before the freeze day and, where the
 -- start is feasible, costs at most as much; and what was told ends with the report on it, by its full bill.
@@ -25,8 +26,10 @@ pub record IsImproved (c : ImproveCall) (old new : Option Names) (text : List �
   pub instance : Draft
   pub given : Timetable
   pub inputs : HasInputs old (improve_inputs c) instance given
+  pub settings : Settings
+  pub are_settings : AreSettingsOf instance c settings
   pub start : Timetable
-  pub started : start ≡ started c.start.fill c.hard instance given
+  pub started : start ≡ started c.start.fill settings.hard instance given
   pub best : Timetable
   pub feasible : feasible (bill_of instance best) ≡ true
   pub follows : MayFollow instance start c.start.freeze start best
@@ -47,11 +50,16 @@ NoneFoundChangesNothing =
 
 -- As many rounds of one search, each led by determined workers, have the same bests and leave the same in each file;
 -- and what is told of them differs at most in the heats.
-abbrev pub RoundsLeaveTheSame : (may_leave : Setout → ℕ → Timetable → Type 0) → Type 0
+abbrev pub RoundsLeaveTheSame : (may_leave : LegState → ℕ → Timetable → Type 0) → Type 0
 RoundsLeaveTheSame may_leave =
-    IsDetermined may_leave → (v : Improving) (rs ss : List Round) → length rs ≡ length ss → AreLed may_leave v rs
+    IsDetermined may_leave → (v : ImproverState) (rs ss : List Round) → length rs ≡ length ss → AreLed may_leave v rs
     → AreLed may_leave v ss
     → (map (λ r. r.kept) rs ≡ map (λ r. r.kept) ss)
     × ((out : List ℕ) (old new other : Names) → HoldsBest out v rs old new → HoldsBest out v ss old other
     → Unchanged new other)
     × (map (λ r. r.heat) rs ≡ map (λ r. r.heat) ss → progress v rs ≡ progress v ss)
+
+-- the words and the files determine the search of a call: its instance, its start and its settings
+abbrev pub SearchesAreDetermined : Type 0
+SearchesAreDetermined =
+    (c : ImproveCall) (files : Names) (v w : ImproverState) → IsSearch (Some files) c v → IsSearch (Some files) c w → v ≡ w

@@ -8,6 +8,7 @@ pub mod Laws
 pub mod Older
 pub mod Rounds
 pub mod Searching
+pub mod Unread
 pub mod View
 pub mod Viewing
 pub mod Words

@@ -13,6 +13,7 @@ use Rattle.ih_answers.specs.declared.status.Status.{Status}
 use Rattle.ih_answers.specs.declared.status.Status.TheVariants.{ReadFault, StartRefused, OutOfMemory, TooLong}
 use Rattle.ih_answers.specs.Answers.{Answers}
 use Rattle.ih_answers.specs.Texts.{memory_text, too_long_text, unread_text}
+use Rattle.ih_planning.specs.Unread.{behind_name}
 
 -- the timetable of the older solution's file, where one is named
 abbrev pub HasOlder : Option Names → Option Text → Draft → Option Timetable → Type 0
@@ -20,16 +21,16 @@ HasOlder files None I older = older ≡ None
 HasOlder files (Some name) I None = ⊥
 HasOlder files (Some name) I (Some O) = IfSome files (HasSolution name I O)
 
--- an older solution's fault, and its place
-abbrev pub older_refused_text : Refusal → List ℕ
-older_refused_text r = codes "older solution refused: " ++ (refusal_text r ++ codes "\n")
+-- an older solution's fault, and its place, behind the file's name
+abbrev pub older_refused_text : List ℕ → Refusal → List ℕ
+older_refused_text name r = behind_name name (codes "older solution refused: " ++ (refusal_text r ++ codes "\n"))
 
 -- Why the older solution of an instance can't be had: the status and the text say it.
 abbrev pub EndsOlderUnread : Option Names → Text → Draft → Status → List ℕ → Type 0
 EndsOlderUnread files name I (ReadFault Solution) text = text ≡ unread_text name
 EndsOlderUnread files name I (TooLong Solution) text = (text ≡ too_long_text name) × IfSome files (IsLong name)
 EndsOlderUnread files name I (StartRefused e) text =
-    (text ≡ older_refused_text e) × IfSome files (IsSolutionRefused name I e)
+    (text ≡ older_refused_text name e) × IfSome files (IsSolutionRefused name I e)
 EndsOlderUnread files name I OutOfMemory text = text ≡ memory_text
 EndsOlderUnread files name I status text = ⊥
 

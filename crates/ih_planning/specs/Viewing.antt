@@ -10,7 +10,7 @@ use Rattle.ih_answers.specs.declared.status.Status.{Status}
 use Rattle.ih_answers.specs.declared.status.Status.TheVariants.{Done, WriteFault, OutOfMemory}
 use Rattle.ih_answers.specs.declared.status.Role.TheVariants.{Out}
 use Rattle.ih_answers.specs.Ends.{Unchanged}
-use Rattle.ih_answers.specs.Inputs.{EndsUnread}
+use Rattle.ih_planning.specs.Unread.{EndsUnread}
 use Rattle.ih_answers.specs.Texts.{memory_text, unwritten_text}
 use Rattle.ih_planning.specs.Older.{EndsOlderUnread, HasOlder}
 use Rattle.ih_planning.specs.View.{ViewCall, view_inputs}

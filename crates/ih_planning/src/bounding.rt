@@ -10,7 +10,8 @@ ghost use Rattle.ih_planning.specs.Bounding.{BoundEnds, bound_status, no_infeasi
 
 use crate::bound_texts::{Judged, bound_text};
 use crate::bound_words::Bound;
-use ih_answers::{Answer, Status, out_of_memory, read_or_answer};
+use crate::reading::read_or_answer;
+use ih_answers::{Answer, Status, out_of_memory};
 use ih_bound::{Outcome, bound};
 use ih_inputs::Inputs;
 use ih_shelf::Shelf;

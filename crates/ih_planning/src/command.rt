@@ -84,7 +84,7 @@ fn read_named<'a>(alloc: Global, name: &str, words: &'a [String]) -> Result<Comm
 ///
 /// - `Help` where the words ask for help, and `Refused` where no command has them: the first word is no command's name,
 ///   `clap` finds a fault, two file names are equal, a freeze day comes without the file of a start or with `--fill`,
-///   the heat would rise, or the workers together would make more than `MAX_ATTEMPTS` attempts.
+///   the heat would rise, the workers together would make more than `MAX_ATTEMPTS` attempts, or `--from` names no day.
 /// - `OutOfMemory` where memory ran out.
 pub fn read_words<'a>(alloc: Global, words: &'a [String]) -> Result<Command<'a>, NoCall>
     ensures ok { IfOk result (λ c. call_of (map string_bytes words.entry.now) ≡ Some (command_call c)) }

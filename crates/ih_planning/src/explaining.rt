@@ -1,5 +1,6 @@
-//! What is said where the words name no call: `clap`'s help, or an error that names the offending word. The texts are
-//! `clap`'s, so no clause says what they are. Which of the two it is follows from the kind of `clap`'s error.
+//! What is said where the words name no call: `clap`'s help, or an error that names the offending word. The error is
+//! the program's own if `clap` finds no fault. No clause says what these texts are. Which of the two it is follows from
+//! the kind of `clap`'s error.
 
 ghost use Rattle.std.specs.Prelude.{◌≡◌};
 ghost use Rattle.clap.specs.Words.{kind_of};

@@ -27,8 +27,6 @@ use std::alloc::{AllocError, Global};
 
 /// How many rounds there are where no number is given.
 pub const DEFAULT_ROUNDS: u32 = 20;
-/// The weight of a broken hard rule where none is given.
-pub const DEFAULT_HARD: u32 = 1000;
 
 /// `improve INSTANCE OUT` with its options.
 #[derive(Clone, Copy, Debug)]
@@ -49,8 +47,8 @@ pub struct Improve<'a> {
     pub hot: Option<u32>,
     /// The heat of the last attempt. Without it the weights decide.
     pub cold: Option<u32>,
-    /// The weight of a broken hard rule in a score.
-    pub hard: u32,
+    /// The weight of a broken hard rule in a score. Without it the weights decide.
+    pub hard: Option<u32>,
     /// What the search starts from.
     pub start: Start<'a>,
 }
@@ -155,7 +153,7 @@ pub fn improve_description<'a>(alloc: Global) -> Result<Command<'a>, AllocError>
         cold,
         with_help(
             optional_number(alloc, "hard", MAX_HARD),
-            "The weight of a broken hard rule [default: 1000]",
+            "The weight of a broken hard rule [default: by the weights]",
         ),
     );
     start_description(alloc, hard)
@@ -176,7 +174,7 @@ fn improve_in<'a>(matches: &ArgMatches<'a>) -> Improve<'a>
         rounds: number_if_given(matches, "rounds").unwrap_or(DEFAULT_ROUNDS),
         hot: number_if_given(matches, "hot"),
         cold: number_if_given(matches, "cold"),
-        hard: number_if_given(matches, "hard").unwrap_or(DEFAULT_HARD),
+        hard: number_if_given(matches, "hard"),
         start: start_in(matches),
     }
 }
@@ -210,7 +208,7 @@ fn are_settings_lawful(improve: &Improve) -> bool
         rounds: improve.rounds,
         hot: improve.hot.unwrap_or(MAX_HEAT),
         cold: improve.cold.unwrap_or(0),
-        hard: improve.hard,
+        hard: improve.hard.unwrap_or(MAX_HARD),
         freeze: improve.start.freeze,
     };
     settings.is_lawful()

@@ -10,14 +10,13 @@ ghost use Rattle.ih_improve.specs.Settings.{IsLawful};
 ghost use Rattle.ih_planning.specs.Improve.{improve_call, improve_inputs, widest_settings};
 ghost use Rattle.ih_planning.specs.Rounds.{ArePutsAtMost};
 ghost use Rattle.ih_planning.specs.Searching.{AreOver, AreSettingsOf, BegunEnds, ImproveEnds, SearchEnds, StopsEarly};
-ghost use Rattle.ih_planning.specs.Searching.{ending_status, ending_text};
+ghost use Rattle.ih_planning.specs.Searching.{ending_status, ending_text, new_search};
 
 use crate::improve_words::Improve;
+use crate::reading::read_or_answer;
 use crate::rounds::one_round;
-use ih_answers::{
-    Answer, Status, conclude, conclude_memory, none_found, out_of_memory, read_or_answer,
-};
-use ih_improve::{Improver, Settings, default_heats};
+use ih_answers::{Answer, Status, conclude, conclude_memory, none_found, out_of_memory};
+use ih_improve::{Defaults, Improver, Settings};
 use ih_inputs::Inputs;
 use ih_parfill::{Begun, begin};
 use ih_shelf::{Shelf, Sink};
@@ -28,22 +27,25 @@ use std::rt::Files;
 use std::sync::Wait;
 use std::thread::Threads;
 
-// The settings of the search. A heat that isn't given comes from the weights, but lies on the right side of one that
-// is.
+// The settings of the search. What isn't given comes from the weights. If one heat is given, the other lies on the right
+// side of it.
 fn settings_of(inst: &Instance, call: &Improve<'_>) -> Settings
     requires { IsLawful (widest_settings (improve_call call.now)) }
-    ensures { AreSettingsOf (improve_call call.now) result }
+    ensures { AreSettingsOf inst.now.draft (improve_call call.now) result }
 {
-    let (hot, cold) = default_heats(inst);
-    let hot = call.hot.unwrap_or(hot.max(call.cold.unwrap_or(0)));
+    let usual = Defaults::by_weights(inst);
     Settings {
         seed: call.seed,
         workers: call.workers,
         attempts: call.attempts,
         rounds: call.rounds,
-        hot,
-        cold: call.cold.unwrap_or(cold.min(hot)),
-        hard: call.hard,
+        hot: call
+            .hot
+            .unwrap_or(usual.hot.max(call.cold.unwrap_or(usual.cold))),
+        cold: call
+            .cold
+            .unwrap_or(usual.cold.min(call.hot.unwrap_or(usual.hot))),
+        hard: call.hard.unwrap_or(usual.hard),
         freeze: call.start.freeze,
     }
 }
@@ -135,12 +137,15 @@ fn search_begun<R: Files + Print + Threads + Sync, S: Shelf, O: Sink>(
     alloc: Global,
     call: &Improve<'_>,
     begun: &Begun,
+    settings: &Settings,
     shelf: &mut S,
     out: &mut O,
 ) -> Status
-    requires lawful { IsLawful (widest_settings (improve_call call.now)) }
     requires plan { IsPlanOf begun.now.inst.value.draft begun.now.start }
-    ensures ends { Ends (BegunEnds (improve_call call.now) begun.now.inst.value.draft begun.now.start
+    requires lawful { IsLawful settings.now }
+    requires rounds { call.now.rounds ≡ settings.now.rounds }
+    ensures ends { Ends (BegunEnds call.now.out.now
+        (new_search begun.now.inst.value.draft begun.now.start settings.now)
         (S.names shelf.old) (S.names shelf.new)) (HasShelfCause S.Shelf shelf.old shelf.new)
         (Received result (O.text out.old) (O.text out.new) (O.faults out.old) (O.faults out.new))
         (ReceivedPart (O.text out.old) (O.text out.new) (O.lacks out.old) (O.lacks out.new)) result }
@@ -149,8 +154,7 @@ fn search_begun<R: Files + Print + Threads + Sync, S: Shelf, O: Sink>(
         (S.write_faults shelf.new) (O.faults out.old) (O.faults out.new) result }
 {
     let inst = &*begun.inst;
-    let settings = settings_of(inst, call);
-    match Improver::new(alloc, inst, &begun.start, &settings) {
+    match Improver::new(alloc, inst, &begun.start, settings) {
         Ok(mut improver) => search(rt, alloc, inst, call, &mut improver, shelf, out),
         Err(_) => conclude_memory(rt, out),
     }
@@ -177,14 +181,23 @@ fn search_from<R: Files + Print + Threads + Wait + Sync, S: Shelf, O: Sink>(
     ensures cause { HasCause (S.read_faults shelf.old) (S.read_faults shelf.new) (S.write_faults shelf.old)
         (S.write_faults shelf.new) (O.faults out.old) (O.faults out.new) result }
 {
-    match begin(rt, alloc, inputs, call.start.fill, call.hard, call.workers) {
-        Ok(begun) => search_begun(rt, alloc, call, &begun, shelf, out),
+    let inst = &*inputs.inst;
+    let settings = settings_of(inst, call);
+    match begin(
+        rt,
+        alloc,
+        inputs,
+        call.start.fill,
+        settings.hard,
+        settings.workers,
+    ) {
+        Ok(begun) => search_begun(rt, alloc, call, &begun, &settings, shelf, out),
         Err(_) => conclude_memory(rt, out),
     }
 }
 
-/// Reads the instance and the start, searches in rounds, and writes the best so far after the first of them and
-/// each that found better.
+/// Reads the instance and the start, and searches in rounds. Writes the best so far after the first round that has a
+/// feasible one, and after each that found a cheaper one.
 pub fn improve<R: Files + Print + Threads + Wait + Sync, S: Shelf, O: Sink>(
     rt: &R,
     alloc: Global,

@@ -1,6 +1,7 @@
 //! Laws of calls, each on a function that does nothing.
 
-ghost use Rattle.ih_planning.specs.Laws.{DoneCallsHaveImproved, RoundsLeaveTheSame, NoneFoundChangesNothing};
+ghost use Rattle.ih_planning.specs.Laws.{DoneCallsHaveImproved, NoneFoundChangesNothing, RoundsLeaveTheSame};
+ghost use Rattle.ih_planning.specs.Laws.{SearchesAreDetermined};
 
 use ih_improve::Walks;
 
@@ -12,7 +13,14 @@ pub fn done_calls_have_improved()
 {}
 
 /// Where what each worker leaves in a round follows from what the round begins with and from the worker's number, so
-/// does all that the rounds of a search leave, however many workers there are and whatever the threads do.
+/// does all that the rounds of a search leave but the heats in their lines, however many workers there are and whatever
+/// the threads do.
 pub fn determined_workers_leave_the_same<W: Walks>()
     ensures { RoundsLeaveTheSame W.leaves }
+{}
+
+/// What a call of `improve` searches follows from its words and its files: the instance, the start, and the settings
+/// with what comes from the weights.
+pub fn searches_are_determined()
+    ensures { SearchesAreDetermined }
 {}

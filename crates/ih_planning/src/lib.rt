@@ -11,10 +11,13 @@ mod improve_words;
 mod improving;
 mod laws;
 mod older;
+mod reading;
 mod rounds;
 mod running;
 mod view_words;
 mod viewing;
 
-pub use laws::{determined_workers_leave_the_same, done_calls_have_improved};
+pub use laws::{
+    determined_workers_leave_the_same, done_calls_have_improved, searches_are_determined,
+};
 pub use running::run_planner;

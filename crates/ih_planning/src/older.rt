@@ -18,10 +18,10 @@ use std::alloc::Global;
 use std::rt::Files;
 
 // The older solution is refused.
-fn older_refused(alloc: Global, refusal: Refusal) -> Answer
-    ensures { IsSaid (StartRefused refusal) (older_refused_text refusal) result }
+fn older_refused(alloc: Global, name: &str, refusal: Refusal) -> Answer
+    ensures { IsSaid (StartRefused refusal) (older_refused_text name.now refusal) result }
 {
-    let text = format!(in alloc; "older solution refused: {refusal}\n");
+    let text = format!(in alloc; "{name}: older solution refused: {refusal}\n");
     said(alloc, Status::StartRefused(refusal), text)
 }
 
@@ -42,7 +42,7 @@ fn read_named<R: Files, S: Shelf>(
     match shelf.read(rt, alloc, name, MAX_FILE) {
         Ok(bytes) => match read_solution(alloc, inst, bytes.as_slice()) {
             Ok(plan) => Ok(plan),
-            Err(SolutionError::Refused(refusal)) => Err(older_refused(alloc, refusal)),
+            Err(SolutionError::Refused(refusal)) => Err(older_refused(alloc, name, refusal)),
             Err(SolutionError::OutOfMemory) => Err(out_of_memory(alloc)),
         },
         Err(error) => Err(unread_file(alloc, Role::Solution, name, error)),

@@ -7,7 +7,7 @@ ghost use Rattle.ih_shelf.specs.Outside.{IfTold, IsAppended, IsOnePutAtMost, IsW
 ghost use Rattle.ih_solution.specs.Solution.{solution};
 ghost use Rattle.ih_answers.specs.{Answers.Answers, Answers.HasShelfCause, Ends.Ends, Ends.HasCause, Ends.Received};
 ghost use Rattle.ih_answers.specs.{Texts.ReceivedPart};
-ghost use Rattle.ih_improve.specs.{Following.IsNoDearer, Improving.IsSound, Improving.Leads, Improving.led_to};
+ghost use Rattle.ih_improve.specs.{Following.IsNoDearer, ImproverState.IsSound, ImproverState.Leads, ImproverState.led_to};
 ghost use Rattle.ih_improve.specs.Legs.{Leaves};
 ghost use Rattle.ih_planning.specs.{Rounds.WritesBest, Rounds.best_text, Rounds.round_line, Searching.BestEnds};
 ghost use Rattle.ih_planning.specs.Searching.{GoesOn, LineEnds, RoundEnds, WriteEnds};

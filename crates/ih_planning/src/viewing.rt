@@ -8,8 +8,9 @@ ghost use Rattle.ih_answers.specs.Answers.{Answers, HasShelfCause};
 ghost use Rattle.ih_planning.specs.{Older.HasOlder, View.view_call, View.view_inputs, Viewing.ViewEnds};
 
 use crate::older::read_older;
+use crate::reading::read_or_answer;
 use crate::view_words::View;
-use ih_answers::{Answer, Role, Status, out_of_memory, read_or_answer, unwritten};
+use ih_answers::{Answer, Role, Status, out_of_memory, unwritten};
 use ih_inputs::Inputs;
 use ih_page::page;
 use ih_plan::Plan;

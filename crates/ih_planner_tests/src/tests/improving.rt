@@ -266,6 +266,40 @@ fn workers_leave_the_same(rt: HostRuntime) {
     assert!(rt; goes(&rt, rt.alloc(), &ALIKE));
 }
 
+// A theatre costs more than the broken rule of a mandatory patient who stays out, if that weighs 1000. So only twice the
+// greatest weight finds a plan: the optional patient stays out. The middle weight is 5.
+const DEAR_THEATRES: [Event<'static>; 6] = [
+    Change(
+        "i",
+        TWO_PATIENTS,
+        "\"open_operating_theater\":30",
+        "\"open_operating_theater\":30000",
+    ),
+    EndsLike(
+        "improve i o --seed 7 --workers 1 --attempts 2000 --rounds 2",
+        Status::Done,
+        "round 1 of 2: 1000 attempts, cost ",
+        "\ncost 30108\n",
+    ),
+    Alike(
+        "improve i o --seed 7 --workers 1 --attempts 2000 --rounds 2",
+        "improve i p --seed 7 --workers 1 --attempts 2000 --rounds 2 --hot 10 --cold 1 --hard 60000",
+    ),
+    Same("o", "p"),
+    EndsLike(
+        "improve i o --seed 7 --workers 1 --attempts 2000 --rounds 2 --hard 1000",
+        Status::NoneFound,
+        "round 1 of 2: 1000 attempts, none yet, heat ",
+        "\nnone found\n",
+    ),
+    Same("o", "p"),
+];
+
+#[test]
+fn weights_decide_what_is_not_given(rt: HostRuntime) {
+    assert!(rt; goes(&rt, rt.alloc(), &DEAR_THEATRES));
+}
+
 // Words that name no call of improve: the heat would rise, a number is one too great, a freeze day without a start.
 const NO_CALLS: [&str; 12] = [
     "improve i o --seed 0 --workers 1 --attempts 1 --hot 1 --cold 2",

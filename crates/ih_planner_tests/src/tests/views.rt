@@ -48,14 +48,14 @@ const NO_PAGES: [Row; 4] = [
         COVERED_SOLUTION,
         "view i s p",
         Status::InstanceRefused(NOT_JSON),
-        "instance refused: NotJson at $\n",
+        "i: instance refused: NotJson at $\n",
     ),
     (
         WARD,
         "",
         "view i s p",
         Status::StartRefused(NOT_JSON),
-        "solution refused: NotJson at $\n",
+        "s: solution refused: NotJson at $\n",
     ),
 ];
 

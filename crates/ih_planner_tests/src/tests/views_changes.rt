@@ -21,8 +21,10 @@ const CHANGES: [Since; 3] = [
         "\"admission_day\":0",
         "\"admission_day\":1",
         &[
+            "changed</h2>\n<p>Patients with another day, room or theatre: 1<br>Rooms with another nurse: 0</p>\n<h3>",
             "<ul>\n<li> <a href=#p0><bdi>p0</bdi></a>: was room <bdi>r0</bdi>, day 1, theatre <bdi>t0</bdi>\n<br>now room <bdi>r0</bdi>, day 0, theatre <bdi>t0</bdi>\n</ul>\n<h3>Shifts",
-            "by room</h3>\n<ul>\n</ul>\n",
+            "by room</h3>\n<table class=s>",
+            "was<th>now\n<tr><th>rules<td>hard rules broken<td>0<td>0\n",
             "<tr><th>S7<td>days of delay<td>4<td>0\n",
         ],
     ),
@@ -31,13 +33,16 @@ const CHANGES: [Since; 3] = [
         "",
         &[
             "theatre</h3>\n<ul>\n</ul>\n<h3>Shifts",
-            "by room</h3>\n<ul>\n<li>room <bdi>r0</bdi>: 1\n</ul>\n",
+            "<br>Rooms with another nurse: 1</p>\n",
+            "by room</h3>\n<details open><summary>room <bdi>r0</bdi>: 1</summary><ul>\n<li><a href=#s0-1>room <bdi>r0</bdi>, day 0, <bdi>late</bdi></a>: was -, now <bdi>n0</bdi>\n</ul></details>\n",
+            "<tr><th>rules<td>hard rules broken<td>1<td>0\n",
         ],
     ),
     (
         NOTHING,
         "",
         &[
+            "changed</h2>\n<p class=m>Nothing changed.</p>\n<h3>Patients",
             "theatre</h3>\n<ul>\n</ul>\n<h3>Shifts",
             "<tr><th>cost<td>all parts<td>159<td>159\n",
         ],
@@ -77,7 +82,13 @@ fn what_changed(rt: HostRuntime) {
 const DATED: [Event<'static>; 5] = [
     Lay(TWO_PATIENTS, ONE_ADMITTED),
     Ends("view i s p --from 2028-02-29", Status::Done, ""),
-    Shows("p", &["theatre<th>0<br>Tue 29 Feb<th>1<br>Wed 1 Mar\n<tr"]),
+    Shows(
+        "p",
+        &[
+            "theatre<th>0<br>Tue 29 Feb<th>1<br>Wed 1 Mar\n<tr",
+            "<bdi>p0</bdi></a>: room <bdi>r0</bdi>, day 0 (Tue 29 Feb), theatre <bdi>t0</bdi>\n",
+        ],
+    ),
     Ends("view i s p --from 2026-12-31", Status::Done, ""),
     Shows(
         "p",
@@ -102,7 +113,7 @@ const REFUSED: [Event<'static>; 9] = [
     Ends(
         "view i s p --since o",
         Status::StartRefused(NOT_JSON),
-        "older solution refused: NotJson at $\n",
+        "o: older solution refused: NotJson at $\n",
     ),
     EndsLike(
         "view i s p --since s",

@@ -3,7 +3,7 @@
 /// The page of the timetable in which the nurse has the room in all shifts. Nobody is left out, and the night's nurse
 /// has a skill level less than the occupant needs.
 pub const WARD_PAGE: &str = r"<!DOCTYPE html>
-<html lang=en><meta charset=utf-8><meta name=viewport content='width=device-width,initial-scale=1'><title>Timetable</title><style>
+<html lang=en><meta charset=utf-8><meta name=viewport content='width=device-width,initial-scale=1'><title>Timetable: cost 12</title><style>
 :root{color-scheme:light dark;--fg:#111;--bg:#fff;--line:#bbb;--bar:#0072b2;--bar2:#8a5a00;--on:#fff;--bad:#b34700;--f1:#0072b21f;--f2:#0072b23d;--f3:#0072b266;--f4:#0072b294}
 @media(prefers-color-scheme:dark){:root{--fg:#eee;--bg:#121212;--line:#555;--bar:#56b4e9;--bar2:#e69f00;--on:#000;--bad:#f0a030;--f1:#56b4e929;--f2:#56b4e947;--f3:#56b4e966;--f4:#56b4e985}}
 body{font:14px/1.4 sans-serif;color:var(--fg);background:var(--bg);margin:1rem}
@@ -41,8 +41,10 @@ i{display:block;height:4px;background:var(--bar)}
 ul{columns:24em;column-gap:2em;margin:.3rem 0;padding:0;list-style:none}
 li{break-inside:avoid}
 summary{font-weight:bold}
+.m{opacity:.7}
 :target{outline:3px solid var(--bad)}
 @media(max-width:600px){body{font-size:12px;margin:.5rem}.v th:first-child{white-space:normal;min-width:7em}}
+@page{size:landscape}
 @media print{body{font-size:7pt;margin:0;print-color-adjust:exact}div{overflow:visible}h2,h3{break-after:avoid}section,tr{break-inside:avoid}}
 </style>
 <main>
@@ -50,7 +52,7 @@ summary{font-weight:bold}
 <p>Cost 12</p>
 <table class=c><tr>
 <td class=c2 style=width:83%><a href=#S2>S2</a> missing skill 83%<td class=c3 style=width:16%><a href=#S3>S3</a> nurses of a stay 16%</table>
-<p><a href=#wrong>What is wrong</a>, <a href=#left>who is left out</a>, <a href=#index>patients</a></p>
+<p><a href=#wrong>What breaks rules and what costs</a>, <a href=#left>who is left out</a>, <a href=#index>patients</a></p>
 <h2>Overview by days</h2>
 <div><table class=v><tr><th>rooms: persons of capacity<th>0
 <tr><th>room <bdi>r0</bdi><td class=f2><a href=#d0-0>1/2</a>
@@ -80,7 +82,7 @@ summary{font-weight:bold}
 <tr><th>S7<td>days of delay<td>0<td>4<td>0
 <tr><th>S8<td>optional patient left out<td>0<td>100<td>0
 </table>
-<h2 id=wrong>What is wrong, and where</h2>
+<h2 id=wrong>What breaks rules, what costs, and where</h2>
 <details id=S2><summary>S2 missing skill: 1</summary><ul>
 <li><a href=#s0-2>room <bdi>r0</bdi>, day 0, <bdi>night</bdi></a>: 1 skill level missing
 </ul></details>
@@ -90,6 +92,7 @@ summary{font-weight:bold}
 <h2 id=left>Patients who are left out</h2>
 <ul>
 </ul>
+<p class=m>Nobody.</p>
 <h2>Rooms by days</h2>
 <p>* mandatory; bar: days of stay and gender; &rarr; past the last day; thin line: delay since release</p>
 <section><h3 id=r0><bdi>r0</bdi>, capacity 2</h3>
@@ -108,6 +111,7 @@ summary{font-weight:bold}
 </table></div>
 <h2>Nurses by shifts: workload of the maximum</h2>
 <div><table><tr><th>nurse<th>skill<th colspan=3>0
+<tr><th>shift<th><th><bdi>early</bdi><th><bdi>late</bdi><th><bdi>night</bdi>
 <tr><th><bdi>n0</bdi><td>1<td id=n0-0>2/2<td id=n0-1>1/2<td id=n0-2>1/2
 </table></div>
 <h2 id=index>Patients</h2>

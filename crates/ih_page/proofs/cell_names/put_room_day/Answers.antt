@@ -3,4 +3,4 @@ use Rattle.ih_page.proofs.Joins.{joins2}
 use Rattle.ih_page.proofs.cell_names.put_room_day.Goals as goal
 
 pub returns : goal.returns
-returns c = on_ok_weaker c.put_labelled.result (λ d. joins2 _ _ _ _ _ c.in_ok-put_room.ensures d) c.put_labelled.ensures
+returns c = on_ok_weaker c.put_day.result (λ d. joins2 _ _ _ _ _ c.in_ok-put_room.ensures d) c.put_day.ensures

@@ -5,4 +5,4 @@ use Rattle.ih_page.proofs.cell_names.put_shift.Goals as goal
 
 pub returns : goal.returns
 unfolding shift_name
-returns c = on_ok_weaker c.put_shift_type.result (λ d. joins3 _ _ _ _ _ _ _ c.in_ok-put_labelled.ensures c.in_ok-put.ensures d) c.put_shift_type.ensures
+returns c = on_ok_weaker c.put_shift_type.result (λ d. joins3 _ _ _ _ _ _ _ c.in_ok-put_day.ensures c.in_ok-put.ensures d) c.put_shift_type.ensures

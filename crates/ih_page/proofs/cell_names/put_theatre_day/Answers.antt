@@ -3,4 +3,4 @@ use Rattle.ih_page.proofs.Joins.{joins3}
 use Rattle.ih_page.proofs.cell_names.put_theatre_day.Goals as goal
 
 pub returns : goal.returns
-returns c = on_ok_weaker c.put_labelled.result (λ d. joins3 _ _ _ _ _ _ _ c.in_ok-put.ensures c.in_ok-put_theatre.ensures d) c.put_labelled.ensures
+returns c = on_ok_weaker c.put_day.result (λ d. joins3 _ _ _ _ _ _ _ c.in_ok-put.ensures c.in_ok-put_theatre.ensures d) c.put_day.ensures

@@ -7,6 +7,6 @@ use Rattle.ih_page.proofs.changes.put_costs.Goals as goal
 pub returns : goal.returns
 unfolding changed_costs
 returns c =
-    on_ok_weaker c.put-3.result
-    (λ d. joins5 _ _ _ _ _ _ _ _ _ _ _ c.in_ok-put.ensures c.in_ok-put_parts.ensures c.in_ok-put-2.ensures
-    (c.in_ok-put_two.ensures ∙ search rules) d) c.put-3.ensures
+    on_ok_weaker c.put-2.result
+    (λ d. joins5 _ _ _ _ _ _ _ _ _ _ _ c.in_ok-put_broken.ensures c.in_ok-put_parts.ensures c.in_ok-put.ensures
+    (c.in_ok-put_two.ensures ∙ search rules) d) c.put-2.ensures

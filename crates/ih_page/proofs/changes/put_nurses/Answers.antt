@@ -8,8 +8,9 @@ loop-r-init c = no-lines _ _
 
 pub loop-r-preserved : goal.loop-r-preserved
 loop-r-preserved c =
-    let counted = λ (n : ℕ). c.loop-r.out.items ++ shifts_if c.args.both.now.shown.now.inst.now.draft c.loop-r.r n in
-    some-more _ _ _ _ _ c.loop-r.invariant (c.in_ok-put_shifts_if.ensures ∙ ap counted c.changed_shifts.ensures)
+    let shown = c.args.both.now.shown.now in
+    let counted = λ (n : ℕ). c.loop-r.out.items ++ shifts_if shown.inst.now.draft shown.first c.args.both.now.older.now shown.plan.now c.loop-r.r n in
+    some-more _ _ _ _ _ c.loop-r.invariant (c.in_ok-put_shifts_if.ensures ∙ ap counted c.changed_shift_count.ensures)
 
 pub returns : goal.returns
 unfolding changed_nurses

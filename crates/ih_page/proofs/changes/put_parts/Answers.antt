@@ -1,5 +1,5 @@
-use Rattle.std.proofs.Common.{◌∙◌, refl, rules}
-use Rattle.ih_page.proofs.Lines.{no-lines, some-more, all-lines}
+use Rattle.std.proofs.Common.{◌∙◌, rules}
+use Rattle.ih_page.proofs.Lines.{no-lines, some-more}
 use Rattle.ih_page.proofs.changes.put_parts.Goals as goal
 
 pub loop-i-init : goal.loop-i-init

@@ -8,4 +8,4 @@ abbrev pub invariant-loop-p : goal.invariant-loop-p
 invariant-loop-p l =
     let O = l.both.older.now in
     let P = l.both.shown.now.plan.now in
-    l.out.items ≡ l.initial.out.items ++ flat_map (change_item l.both.shown.now.inst.now.draft O P) (which_below l.p (is_changed O P))
+    l.out.items ≡ l.initial.out.items ++ flat_map (change_item l.both.shown.now.inst.now.draft l.both.shown.now.first O P) (which_below l.p (is_changed O P))

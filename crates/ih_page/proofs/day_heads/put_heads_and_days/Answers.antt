@@ -8,7 +8,7 @@ pub loop-d-init : goal.loop-d-init
 loop-d-init c = no-lines _ _
 
 pub loop-d-preserved : goal.loop-d-preserved
-loop-d-preserved c = some-more _ _ _ _ _ c.loop-d.invariant c.in_ok-put_day.ensures
+loop-d-preserved c = some-more _ _ _ _ _ c.loop-d.invariant c.in_ok-put_day_head.ensures
 
 pub returns : goal.returns
 unfolding heads_and_days

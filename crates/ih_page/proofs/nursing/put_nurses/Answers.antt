@@ -1,6 +1,6 @@
 use Rattle.std.proofs.lemmas.Result.{on_ok_weaker}
 use Rattle.ih_page.specs.Nursing.{nurses_text}
-use Rattle.ih_page.proofs.Joins.{joins3}
+use Rattle.ih_page.proofs.Joins.{joins4}
 use Rattle.ih_page.proofs.Lines.{no-lines, some-more, all-lines}
 use Rattle.ih_page.proofs.nursing.put_nurses.Goals as goal
 
@@ -13,5 +13,5 @@ loop-n-preserved c = some-more _ _ _ _ _ c.loop-n.invariant c.in_ok-put_row.ensu
 pub returns : goal.returns
 unfolding nurses_text
 returns c =
-    on_ok_weaker c.put.result (λ d. joins3 _ _ _ _ _ _ _ c.in_ok-put_heads_and_days.ensures (all-lines _ _ _ _ _ _ c.loop-n.invariant c.loop-n.auto.n-end c.loop-n-test.false c.nurses-n-end.ensures) d)
+    on_ok_weaker c.put.result (λ d. joins4 _ _ _ _ _ _ _ _ _ c.in_ok-put_heads_and_days.ensures c.in_ok-put_shift_heads.ensures (all-lines _ _ _ _ _ _ c.loop-n.invariant c.loop-n.auto.n-end c.loop-n-test.false c.nurses-n-end.ensures) d)
     c.put.ensures

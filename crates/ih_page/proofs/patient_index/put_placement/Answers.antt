@@ -7,5 +7,5 @@ pub returns : goal.returns
 unfolding placement_text
 returns c =
     on_ok_weaker c.put-2.result
-    (λ d. joins5 _ _ _ _ _ _ _ _ _ _ _ c.in_ok-put_room.ensures c.in_ok-put_labelled.ensures c.in_ok-put.ensures c.in_ok-put_theatre.ensures d)
+    (λ d. joins5 _ _ _ _ _ _ _ _ _ _ _ c.in_ok-put_room.ensures c.in_ok-put_day.ensures c.in_ok-put.ensures c.in_ok-put_theatre.ensures d)
     c.put-2.ensures

@@ -16,7 +16,7 @@ returns-clause-limits c = λ few cool.
       rounds = c.unwrap_or.result;
       hot = c.number_if_given-2.result;
       cold = c.number_if_given-3.result;
-      hard = c.unwrap_or-2.result;
+      hard = c.number_if_given-4.result;
       start = c.start_in.result;
     } in
     let is : improve_call i ≡ improve_in (rows_of (found_of c.args.matches.now)) = search rules in

@@ -1,5 +1,5 @@
 use Rattle.std.proofs.Common.{◌∙◌, ◌+◌, ap, arith}
-use Rattle.ih_improve.specs.Improving.{Improving}
+use Rattle.ih_improve.specs.ImproverState.{ImproverState}
 use Rattle.ih_answers.specs.Answers.{HasShelfCause}
 use Rattle.ih_planning.specs.Searching.{SearchEnds, StopsEarly}
 use Rattle.ih_planning.proofs.PutCounts.{puts-then, puts-within}
@@ -9,7 +9,7 @@ use Rattle.ih_planning.proofs.improving.search.Goals as goal
 pub ending-requires : goal.ending-requires
 ending-requires g c =
     let over = c.in-None.ensures.over in
-    ap (λ (v : Improving). v.instance) over.1 ∙ c.requires.instance
+    ap (λ (v : ImproverState). v.instance) over.1 ∙ c.requires.instance
 
 pub returns-in-Some-clause-ends : goal.returns-in-Some-clause-ends
 returns-in-Some-clause-ends g c =

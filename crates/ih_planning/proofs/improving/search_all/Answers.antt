@@ -1,5 +1,5 @@
 use Rattle.std.proofs.Common.{◌≡◌, ◌∙◌, ℕ, ◌+◌, arith, ap, sym}
-use Rattle.ih_improve.specs.Improving.{Improving}
+use Rattle.ih_improve.specs.ImproverState.{ImproverState}
 use Rattle.ih_answers.proofs.Later.{cause-from}
 use Rattle.ih_planning.proofs.PutCounts.{no-puts, puts-then, puts-within}
 use Rattle.ih_planning.proofs.RoundSteps.{stopped, underway-begins, underway-next}
@@ -17,14 +17,14 @@ loop-init g c = record {
 }
 
 pub one_round-requires-clause-instance : goal.one_round-requires-clause-instance
-one_round-requires-clause-instance g c κs within = ap (λ (v : Improving). v.instance) c.loop.invariant.underway.is ∙ c.requires.instance
+one_round-requires-clause-instance g c κs within = ap (λ (v : ImproverState). v.instance) c.loop.invariant.underway.is ∙ c.requires.instance
 
 pub one_round-requires-clause-rounds : goal.one_round-requires-clause-rounds
-one_round-requires-clause-rounds g c κs within = c.requires.rounds ∙ sym (ap (λ (v : Improving). v.settings.rounds) c.loop.invariant.underway.is)
+one_round-requires-clause-rounds g c κs within = c.requires.rounds ∙ sym (ap (λ (v : ImproverState). v.settings.rounds) c.loop.invariant.underway.is)
 
 pub one_round-requires-clause-next : goal.one_round-requires-clause-next
 one_round-requires-clause-next g c =
-    let same = ap (λ (v : Improving). v.settings.rounds) c.loop.invariant.underway.is in
+    let same = ap (λ (v : ImproverState). v.settings.rounds) c.loop.invariant.underway.is in
     let asked = c.requires.rounds in
     let count = c.loop.invariant.count in
     omega (arith, same, asked, count)
@@ -33,7 +33,7 @@ pub loop-preserved : goal.loop-preserved
 loop-preserved g c =
     let i = c.loop.invariant in
     record {
-      count = ap (λ (v : Improving). v.rounds) c.one_round.ensures.search ∙ ap (λ (n : ℕ). n + 1) i.count;
+      count = ap (λ (v : ImproverState). v.rounds) c.one_round.ensures.search ∙ ap (λ (n : ℕ). n + 1) i.count;
       underway = underway-next c.args.name.now c.args.improver.now c.loop.improver c.one_round.new.improver (g.S.Shelf.names c.args.shelf.now)
           (g.S.Shelf.names c.loop.shelf) (g.O.Sink.text c.args.out.now) (g.O.Sink.text c.loop.out) i.underway c.one_round.ensures.search
           c.one_round.ensures.best c.one_round.ensures.no_dearer c.one_round.ensures.sound (g.S.Shelf.names c.one_round.new.shelf)
@@ -78,4 +78,4 @@ pub returns-clause-over : goal.returns-clause-over
 returns-clause-over g c =
     let u = c.loop.invariant.underway in
     let all : c.loop.counter ≡ c.args.rounds = omega arith in
-    (u.rounds, u.is, sym (ap (λ (v : Improving). v.rounds) u.is) ∙ c.loop.invariant.count ∙ all ∙ c.requires.rounds, u.lines)
+    (u.rounds, u.is, sym (ap (λ (v : ImproverState). v.rounds) u.is) ∙ c.loop.invariant.count ∙ all ∙ c.requires.rounds, u.lines)

@@ -1,7 +1,6 @@
 use Rattle.std.proofs.Common.{◌≡◌, ◌∙◌, ap, subst, sym}
 use Rattle.ih_tables.specs.declared.drafts.Draft.{Draft}
-use Rattle.ih_improve.specs.Improving.{Improving}
-use Rattle.ih_improve.specs.declared.settings.Settings.{Settings}
+use Rattle.ih_improve.specs.ImproverState.{ImproverState}
 use Rattle.ih_answers.specs.Answers.{HasShelfCause}
 use Rattle.ih_answers.specs.Ends.{Ends, Received}
 use Rattle.ih_answers.specs.Texts.{ReceivedPart}
@@ -12,30 +11,29 @@ use Rattle.ih_planning.proofs.PutCounts.{one-within}
 use Rattle.ih_planning.proofs.improving.search_begun.Goals as goal
 
 pub search-requires-clause-rounds : goal.search-requires-clause-rounds
-search-requires-clause-rounds g c κs within =
-    sym (ap (λ (v : Improving). v.settings.rounds) c.in-Ok.ensures ∙ ap (λ (s : Settings). s.rounds) c.settings_of-settings.ensures.asked)
+search-requires-clause-rounds g c κs within = c.requires.rounds ∙ sym (ap (λ (v : ImproverState). v.settings.rounds) c.in-Ok.ensures)
 
 pub returns-in-Ok-clause-ends : goal.returns-in-Ok-clause-ends
 returns-in-Ok-clause-ends g c =
     let call : ImproveCall = improve_call c.args.call.now in
     let same : c.deref-inst.result.now.draft ≡ c.args.begun.now.inst.value.draft = cc in
     searched-ended call _ _ c.search.result (HasShelfCause g.S.Shelf c.args.shelf.now c.search.new.shelf) (g.S.Shelf.names c.args.shelf.now)
-    (g.S.Shelf.names c.search.new.shelf) c.args.begun.now.inst.value.draft c.args.begun.now.start c.settings_of-settings.result c.in-Ok.improver
-    (c.in-Ok.ensures ∙ ap (λ (J : Draft). new_search J c.args.begun.now.start c.settings_of-settings.result) same) c.settings_of-settings.ensures c.search.ensures.ends
+    (g.S.Shelf.names c.search.new.shelf) c.in-Ok.improver
+    (new_search c.args.begun.now.inst.value.draft c.args.begun.now.start c.args.settings.now)
+    (c.in-Ok.ensures ∙ ap (λ (J : Draft). new_search J c.args.begun.now.start c.args.settings.now) same) c.search.ensures.ends
 
 pub returns-in-Err-clause-ends : goal.returns-in-Err-clause-ends
 returns-in-Err-clause-ends g c =
-    let call : ImproveCall = improve_call c.args.call.now in
+    let out = c.args.call.now.out.now in
+    let v : ImproverState = new_search c.args.begun.now.inst.value.draft c.args.begun.now.start c.args.settings.now in
     let files = g.S.Shelf.names c.args.shelf.now in
     let cause = HasShelfCause g.S.Shelf c.args.shelf.now c.args.shelf.now in
     let before = g.O.Sink.text c.args.out.now in
     let after = g.O.Sink.text c.conclude_memory.new.out in
     let received = Received c.conclude_memory.result before after (g.O.Sink.faults c.args.out.now) (g.O.Sink.faults c.conclude_memory.new.out) in
     let part = ReceivedPart before after (g.O.Sink.lacks c.args.out.now) (g.O.Sink.lacks c.conclude_memory.new.out) in
-    let I = c.args.begun.now.inst.value.draft in
-    let start = c.args.begun.now.start in
-    subst (Ends (BegunEnds call I start files files) cause received part) (sym c.conclude_memory.ensures.status)
-    (unstarted-ended call received part cause files I start tt c.conclude_memory.ensures.said)
+    subst (Ends (BegunEnds out v files files) cause received part) (sym c.conclude_memory.ensures.status)
+    (unstarted-ended out v received part cause files tt c.conclude_memory.ensures.said)
 
 pub returns-in-Err-clause-few : goal.returns-in-Err-clause-few
 returns-in-Err-clause-few g c = one-within _ _ _ c.conclude_memory.ensures.once

@@ -1,25 +1,33 @@
-use Rattle.std.proofs.Common.{subst, sym}
+use Rattle.std.proofs.Common.{◌≡◌, ap, subst, sym}
+use Rattle.ih_tables.specs.declared.drafts.Draft.{Draft}
+use Rattle.ih_improve.specs.declared.settings.Settings.{Settings}
 use Rattle.ih_answers.specs.Answers.{HasShelfCause}
 use Rattle.ih_answers.specs.Ends.{Ends, Received}
 use Rattle.ih_answers.specs.Texts.{ReceivedPart}
 use Rattle.ih_planning.specs.Improve.{ImproveCall, improve_call}
-use Rattle.ih_planning.specs.Searching.{BegunEnds, ImproveEnds}
+use Rattle.ih_planning.specs.Searching.{AreSettingsOf, BegunEnds, ImproveEnds, new_search}
 use Rattle.ih_planning.proofs.ImproveCalls.{unbegun-ended}
 use Rattle.ih_planning.proofs.PutCounts.{one-within}
 use Rattle.ih_planning.proofs.SearchEnding.{begun-ends, ends-as}
 use Rattle.ih_planning.proofs.improving.search_from.Goals as goal
 
+pub search_begun-requires-clause-rounds : goal.search_begun-requires-clause-rounds
+search_begun-requires-clause-rounds g c κs within = sym (ap (λ (s : Settings). s.rounds) c.settings_of-settings.ensures.are)
+
 pub returns-in-Ok-clause-ends : goal.returns-in-Ok-clause-ends
 returns-in-Ok-clause-ends g c =
     let call : ImproveCall = improve_call c.args.call.now in
+    let s : Settings = c.settings_of-settings.result in
     let old = g.S.Shelf.names c.args.shelf.now in
     let new = g.S.Shelf.names c.search_begun.new.shelf in
     let cause = HasShelfCause g.S.Shelf c.args.shelf.now c.search_begun.new.shelf in
     let I = c.args.inputs.inst.value.draft in
     let J = c.in-Ok.begun.inst.value.draft in
     let start = c.in-Ok.begun.start in
-    ends-as (BegunEnds call J start old new) (ImproveEnds call old new) cause cause _ _
-    (begun-ends call old new I J c.args.inputs.plan start c.requires.read c.in-Ok.ensures.instance c.in-Ok.ensures.start) (λ s h. h)
+    let same : c.deref-inst.result.now.draft ≡ I = cc in
+    let settings = subst (λ (X : Draft). AreSettingsOf X call s) same c.settings_of-settings.ensures in
+    ends-as (BegunEnds call.out (new_search J start s) old new) (ImproveEnds call old new) cause cause _ _
+    (begun-ends call old new I J c.args.inputs.plan start s c.requires.read c.in-Ok.ensures.instance settings c.in-Ok.ensures.start) (λ k h. h)
     c.search_begun.result c.search_begun.ensures.ends
 
 pub returns-in-Err-clause-ends : goal.returns-in-Err-clause-ends

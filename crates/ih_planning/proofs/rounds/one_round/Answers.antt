@@ -5,17 +5,17 @@ use Rattle.ih_answers.specs.Answers.{HasShelfCause}
 use Rattle.ih_answers.specs.Ends.{Received}
 use Rattle.ih_answers.specs.Texts.{ReceivedPart}
 use Rattle.ih_answers.proofs.Saying.{ended, has-cause}
-use Rattle.ih_improve.specs.Improving.{Improving}
+use Rattle.ih_improve.specs.ImproverState.{ImproverState}
 use Rattle.ih_planning.specs.Searching.{BestEnds, KeepsFileCurrent}
 use Rattle.ih_planning.proofs.BestWriting.{file-current}
 use Rattle.ih_planning.proofs.SearchEnding.{best-answerable, best-ended, line-cause, line-ended}
 use Rattle.ih_planning.proofs.rounds.one_round.Goals as goal
 
 pub write_best-requires : goal.write_best-requires
-write_best-requires g c = ap (λ (v : Improving). v.instance) c.search_on-is_new.ensures.search ∙ c.requires.instance
+write_best-requires g c = ap (λ (v : ImproverState). v.instance) c.search_on-is_new.ensures.search ∙ c.requires.instance
 
 pub put_line-requires : goal.put_line-requires
-put_line-requires g c = c.requires.rounds ∙ sym (ap (λ (v : Improving). v.settings.rounds) c.search_on-is_new.ensures.search)
+put_line-requires g c = c.requires.rounds ∙ sym (ap (λ (v : ImproverState). v.settings.rounds) c.search_on-is_new.ensures.search)
 
 -- what is said where the call goes on
 goes-on : {A : Type 0} (P Q : Type 0) (o : Option A) → (P → Q) → IfNone o P → IfNone o Q
@@ -49,8 +49,8 @@ pub returns-in-Err-clause-ends : goal.returns-in-Err-clause-ends
 returns-in-Err-clause-ends g c =
     let old = c.args.shelf.now in
     let new = c.write_best.new.shelf in
-    let w : Improving = c.args.improver.now in
-    let v : Improving = c.search_on-is_new.new.improver in
+    let w : ImproverState = c.args.improver.now in
+    let v : ImproverState = c.search_on-is_new.new.improver in
     let before = g.O.Sink.text c.args.out.now in
     let after = g.O.Sink.text c.conclude.new.out in
     let received = Received c.conclude.result before after (g.O.Sink.faults c.args.out.now) (g.O.Sink.faults c.conclude.new.out) in

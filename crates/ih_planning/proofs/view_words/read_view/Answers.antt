@@ -1,11 +1,10 @@
-use Rattle.std.proofs.Common.{◌∙◌, ap, codes, option_map, refl, sym}
-use Rattle.clap.specs.Words.{found_of, rows_of}
+use Rattle.std.proofs.Common.{codes, refl}
 use Rattle.clap.proofs.OnLiterals.{clap_on_literals}
 use Rattle.ih_words.specs.Arguments.{named}
 use Rattle.ih_words.specs.Distinct.{all_differ}
 use Rattle.ih_words.proofs.DescriptionRules.{requires_name}
-use Rattle.ih_planning.specs.View.{ViewCall, lawful_view, names_a_day, view_app, view_call, view_files, view_in}
-use Rattle.ih_planning.proofs.WordsRead.{explained-read, refused-read}
+use Rattle.ih_planning.specs.View.{lawful_view, view_app}
+use Rattle.ih_planning.proofs.WordsRead.{explained-read}
 use Rattle.ih_planning.proofs.view_words.read_view.Goals as goal
 
 pub matched-requires : goal.matched-requires

@@ -1,7 +1,7 @@
 use Rattle.std.proofs.lemmas.Result.{on_ok_weaker}
 use Rattle.ih_page.specs.Wrong.{cell_link}
 use Rattle.ih_page.proofs.Joins.{joins5}
-use Rattle.ih_page.proofs.wrong.put_link.Goals as goal
+use Rattle.ih_page.proofs.wrong.put_cell_link.Goals as goal
 
 pub returns : goal.returns
 unfolding cell_link

@@ -1,7 +1,7 @@
 use Rattle.std.proofs.lemmas.Result.{on_ok_weaker}
 use Rattle.ih_page.specs.DayHeads.{day_head}
 use Rattle.ih_page.proofs.Joins.{joins2}
-use Rattle.ih_page.proofs.day_heads.put_day.Goals as goal
+use Rattle.ih_page.proofs.day_heads.put_day_head.Goals as goal
 
 pub returns : goal.returns
 unfolding day_head

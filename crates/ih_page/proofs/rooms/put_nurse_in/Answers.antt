@@ -5,7 +5,7 @@ use Rattle.ih_tables.specs.declared.ids.NurseNo.{NurseNo}
 use Rattle.ih_tables.specs.Sizes.{nurse_count}
 use Rattle.ih_plan.specs.Timetable.{Timetable, IsPlanOf, choice_of}
 use Rattle.ih_plan.proofs.PlanRanges.{choice-inside}
-use Rattle.ih_page.proofs.rooms.put_care.Goals as goal
+use Rattle.ih_page.proofs.rooms.put_nurse_in.Goals as goal
 
 -- a nurse who is chosen is one of the instance's
 known : (I : Draft) (P : Timetable) (r k : ℕ) (o : Option NurseNo) → IsPlanOf I P → o ≡ choice_of P r k → IfSome o (λ a. a.0 < nurse_count I)
@@ -13,7 +13,7 @@ known I P r k None plan e = tt
 known I P r k (Some n) plan e = plan.nursed r k n.0 (ap (option_map (λ (m : NurseNo). m.0)) (sym e))
 
 pub care-requires : goal.care-requires
-care-requires c = choice-inside c.args.shown.now.inst.now.draft c.args.shown.now.plan.now c.args.r c.args.k c.args.shown.now.plan_fits c.requires.room c.requires.shift
+care-requires c = choice-inside c.args.inst.now.draft c.args.plan.now c.args.r c.args.k c.requires.plan c.requires.room c.requires.shift
 
 pub put_nurse-requires : goal.put_nurse-requires
-put_nurse-requires c = known c.args.shown.now.inst.now.draft c.args.shown.now.plan.now c.args.r c.args.k c.care.result c.args.shown.now.plan_fits c.care.ensures
+put_nurse-requires c = known c.args.inst.now.draft c.args.plan.now c.args.r c.args.k c.care.result c.requires.plan c.care.ensures
