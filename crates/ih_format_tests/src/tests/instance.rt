@@ -48,8 +48,8 @@ fn is_change_answered(alloc: Global, text: &str, row: &str) -> bool {
     }
 }
 
-/// Tries each row of a table: what stands in a text, what is put in its place, and what is then answered.
-pub(crate) fn each_is_answered<R: Abort>(rt: &R, alloc: Global, text: &str, table: &str) {
+// Tries each row of a table: what stands in a text, what is put in its place, and what is then answered.
+fn each_is_answered<R: Abort>(rt: &R, alloc: Global, text: &str, table: &str) {
     each_row(rt, table, |row| is_change_answered(alloc, text, row));
 }
 
@@ -72,6 +72,9 @@ const NAMES: &str = r#"
 "nurse_eccessive_workload":1, |  | Missing at $.weights.nurse_eccessive_workload
 "room_id":"r0" | "room_id":"" | Range at $.occupants[0].room_id
 "shift":"night" | "shift":"late" | Duplicate at $.nurses[0].working_shifts[2]
+"late","night"] | "late"] | Length at $.shift_types
+"late","night"] | "late","night","x"] | Length at $.shift_types
+"day":0 | "day":1 | Range at $.nurses[0].working_shifts[0].day
 "#;
 
 // Changes of patients.

@@ -1,69 +1,62 @@
 //! The greatest number, the longest name and the longest list at each key of an instance file, and one more.
 
-use crate::tests::instance::{each_is_answered, is_answered};
+use crate::tests::instance::is_answered;
 use crate::tests::rows::each_row;
 use ih_fixtures::{TWO_PATIENTS, WARD};
 use std::alloc::{AllocError, Global};
 
-// Numbers of the ward of one day. A shift has three types.
+// Numbers of the ward of one day: what stands in the file, what has the greatest number in its place, what has one more,
+// and how that is refused.
 const IN_THE_WARD: &str = r#"
-"days":1 | "days":56 | accepted
-"days":1 | "days":57 | Range at $.days
-"skill_levels":3 | "skill_levels":1000 | accepted
-"skill_levels":3 | "skill_levels":1001 | Range at $.skill_levels
-"late","night"] | "late"] | Length at $.shift_types
-"late","night"] | "late","night","x"] | Length at $.shift_types
-"room_mixed_age":5 | "room_mixed_age":100000 | accepted
-"room_mixed_age":5 | "room_mixed_age":100001 | Range at $.weights.room_mixed_age
-"room_nurse_skill":10 | "room_nurse_skill":100000 | accepted
-"room_nurse_skill":10 | "room_nurse_skill":100001 | Range at $.weights.room_nurse_skill
-"continuity_of_care":2 | "continuity_of_care":100000 | accepted
-"continuity_of_care":2 | "continuity_of_care":100001 | Range at $.weights.continuity_of_care
-"nurse_eccessive_workload":1 | "nurse_eccessive_workload":100000 | accepted
-"nurse_eccessive_workload":1 | "nurse_eccessive_workload":100001 | Range at $.weights.nurse_eccessive_workload
-"open_operating_theater":30 | "open_operating_theater":100000 | accepted
-"open_operating_theater":30 | "open_operating_theater":100001 | Range at $.weights.open_operating_theater
-"surgeon_transfer":7 | "surgeon_transfer":100000 | accepted
-"surgeon_transfer":7 | "surgeon_transfer":100001 | Range at $.weights.surgeon_transfer
-"patient_delay":4 | "patient_delay":100000 | accepted
-"patient_delay":4 | "patient_delay":100001 | Range at $.weights.patient_delay
-"unscheduled_optional":100 | "unscheduled_optional":100000 | accepted
-"unscheduled_optional":100 | "unscheduled_optional":100001 | Range at $.weights.unscheduled_optional
-"capacity":2 | "capacity":1000 | accepted
-"capacity":2 | "capacity":1001 | Range at $.rooms[0].capacity
-"skill_level":1 | "skill_level":1000 | accepted
-"skill_level":1 | "skill_level":1001 | Range at $.nurses[0].skill_level
-"early","max_load":2 | "early","max_load":100000 | accepted
-"early","max_load":2 | "early","max_load":100001 | Range at $.nurses[0].working_shifts[0].max_load
-"day":0 | "day":1 | Range at $.nurses[0].working_shifts[0].day
-"length_of_stay":1 | "length_of_stay":100 | accepted
-"length_of_stay":1 | "length_of_stay":101 | Range at $.occupants[0].length_of_stay
-[2,1,1] | [100000,1,1] | accepted
-[2,1,1] | [100001,1,1] | Range at $.occupants[0].workload_produced[0]
-[1,0,2] | [1000,0,2] | accepted
-[1,0,2] | [1001,0,2] | Range at $.occupants[0].skill_level_required[0]
+"days":1 | "days":56 | "days":57 | Range at $.days
+"skill_levels":3 | "skill_levels":1000 | "skill_levels":1001 | Range at $.skill_levels
+"room_mixed_age":5 | "room_mixed_age":100000 | "room_mixed_age":100001 | Range at $.weights.room_mixed_age
+"room_nurse_skill":10 | "room_nurse_skill":100000 | "room_nurse_skill":100001 | Range at $.weights.room_nurse_skill
+"continuity_of_care":2 | "continuity_of_care":100000 | "continuity_of_care":100001 | Range at $.weights.continuity_of_care
+"nurse_eccessive_workload":1 | "nurse_eccessive_workload":100000 | "nurse_eccessive_workload":100001 | Range at $.weights.nurse_eccessive_workload
+"open_operating_theater":30 | "open_operating_theater":100000 | "open_operating_theater":100001 | Range at $.weights.open_operating_theater
+"surgeon_transfer":7 | "surgeon_transfer":100000 | "surgeon_transfer":100001 | Range at $.weights.surgeon_transfer
+"patient_delay":4 | "patient_delay":100000 | "patient_delay":100001 | Range at $.weights.patient_delay
+"unscheduled_optional":100 | "unscheduled_optional":100000 | "unscheduled_optional":100001 | Range at $.weights.unscheduled_optional
+"capacity":2 | "capacity":1000 | "capacity":1001 | Range at $.rooms[0].capacity
+"skill_level":1 | "skill_level":1000 | "skill_level":1001 | Range at $.nurses[0].skill_level
+"early","max_load":2 | "early","max_load":100000 | "early","max_load":100001 | Range at $.nurses[0].working_shifts[0].max_load
+"length_of_stay":1 | "length_of_stay":100 | "length_of_stay":101 | Range at $.occupants[0].length_of_stay
+[2,1,1] | [100000,1,1] | [100001,1,1] | Range at $.occupants[0].workload_produced[0]
+[1,0,2] | [1000,0,2] | [1001,0,2] | Range at $.occupants[0].skill_level_required[0]
 "#;
 
 // Numbers of the ward of two patients.
 const OF_PATIENTS: &str = r#"
-"length_of_stay":5 | "length_of_stay":100 | accepted
-"length_of_stay":5 | "length_of_stay":101 | Range at $.patients[0].length_of_stay
-"surgery_release_day":0 | "surgery_release_day":1000 | accepted
-"surgery_release_day":0 | "surgery_release_day":1001 | Range at $.patients[0].surgery_release_day
-"surgery_due_day":1 | "surgery_due_day":1000 | accepted
-"surgery_due_day":1 | "surgery_due_day":1001 | Range at $.patients[0].surgery_due_day
-"surgery_duration":60 | "surgery_duration":100000 | accepted
-"surgery_duration":60 | "surgery_duration":100001 | Range at $.patients[0].surgery_duration
-[100,100] | [100,100000] | accepted
-[100,100] | [100,100001] | Range at $.surgeons[0].max_surgery_time[1]
-[60,60] | [60,100000] | accepted
-[60,60] | [60,100001] | Range at $.operating_theaters[0].availability[1]
+"length_of_stay":5 | "length_of_stay":100 | "length_of_stay":101 | Range at $.patients[0].length_of_stay
+"surgery_release_day":0 | "surgery_release_day":1000 | "surgery_release_day":1001 | Range at $.patients[0].surgery_release_day
+"surgery_due_day":1 | "surgery_due_day":1000 | "surgery_due_day":1001 | Range at $.patients[0].surgery_due_day
+"surgery_duration":60 | "surgery_duration":100000 | "surgery_duration":100001 | Range at $.patients[0].surgery_duration
+[100,100] | [100,100000] | [100,100001] | Range at $.surgeons[0].max_surgery_time[1]
+[60,60] | [60,100000] | [60,100001] | Range at $.operating_theaters[0].availability[1]
 "#;
+
+// Whether a row's greatest number is accepted in a file, and one more is refused as the row says.
+fn is_greatest(alloc: Global, file: &str, row: &str) -> bool {
+    let mut fields = row.split(" | ");
+    match (fields.next(), fields.next(), fields.next(), fields.next()) {
+        (Some(old), Some(most), Some(more), Some(refusal)) => {
+            is_answered(alloc, file, old, most, "accepted")
+                && is_answered(alloc, file, old, more, refusal)
+        }
+        _ => false,
+    }
+}
 
 #[test]
 fn greatest_numbers(rt: HostRuntime) {
-    each_is_answered(&rt, rt.alloc(), WARD, IN_THE_WARD);
-    each_is_answered(&rt, rt.alloc(), TWO_PATIENTS, OF_PATIENTS);
+    let alloc = rt.alloc();
+    each_row(&rt, IN_THE_WARD, |row| is_greatest(alloc, WARD, row));
+    each_row(
+        &rt,
+        OF_PATIENTS,
+        |row| is_greatest(alloc, TWO_PATIENTS, row),
+    );
 }
 
 // A list of a file: what stands in the file, how more items begin and end in its place, an item's text before and

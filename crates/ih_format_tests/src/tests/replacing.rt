@@ -58,12 +58,14 @@ fn is_whole_in_a_shut_folder<R: Files>(rt: &R, alloc: Global, shelf: &mut FileSh
         }
 }
 
+fn replaces<R: Files>(rt: &R, alloc: Global, shelf: &mut FileShelf) -> bool {
+    leaves_others(rt, alloc, shelf)
+        && follows_links(rt, alloc, shelf)
+        && keeps_permissions(rt, shelf)
+        && is_whole_in_a_shut_folder(rt, alloc, shelf)
+}
+
 #[test]
 fn files_are_replaced(rt: HostRuntime) {
-    let alloc = rt.alloc();
-    let mut shelf = FileShelf::new();
-    assert!(rt; leaves_others(&rt, alloc, &mut shelf));
-    assert!(rt; follows_links(&rt, alloc, &mut shelf));
-    assert!(rt; keeps_permissions(&rt, &mut shelf));
-    assert!(rt; is_whole_in_a_shut_folder(&rt, alloc, &mut shelf));
+    assert!(rt; replaces(&rt, rt.alloc(), &mut FileShelf::new()));
 }

@@ -8,7 +8,6 @@ use std::alloc::{AllocError, Global};
 use std::fs;
 use std::rt::Files;
 use std::sync::Wait;
-use std::test::Fail;
 
 // Whether just these bytes are read under a name.
 fn reads<R: Files, S: Shelf>(
@@ -72,12 +71,16 @@ fn holding(alloc: Global, bytes: &[u8]) -> Result<MemShelf, AllocError> {
     Ok(shelf)
 }
 
+fn gives_and_takes<R: Files>(rt: &R, alloc: Global) -> bool {
+    match holding(alloc, b"abcd") {
+        Ok(mut shelf) => gives_four(rt, alloc, &mut shelf) && takes_two(rt, &mut shelf),
+        Err(_) => false,
+    }
+}
+
 #[test]
-fn memory_shelf(rt: HostRuntime) -> Result<(), Fail> {
-    let mut shelf = holding(rt.alloc(), b"abcd")?;
-    assert!(rt; gives_four(&rt, rt.alloc(), &mut shelf));
-    assert!(rt; takes_two(&rt, &mut shelf));
-    Ok(())
+fn memory_shelf(rt: HostRuntime) {
+    assert!(rt; gives_and_takes(&rt, rt.alloc()));
 }
 
 // Three reads were made when the fifth is planned to fail. After the fault, reads go on as before.
@@ -93,11 +96,16 @@ fn faults_once<R: Files>(rt: &R, alloc: Global, shelf: &mut MemShelf) -> bool {
     shelf.faults() == 1
 }
 
+fn has_one_fault<R: Files>(rt: &R, alloc: Global) -> bool {
+    match holding(alloc, b"x") {
+        Ok(mut shelf) => faults_once(rt, alloc, &mut shelf),
+        Err(_) => false,
+    }
+}
+
 #[test]
-fn planned_fault_comes_once(rt: HostRuntime) -> Result<(), Fail> {
-    let mut shelf = holding(rt.alloc(), b"x")?;
-    assert!(rt; faults_once(&rt, rt.alloc(), &mut shelf));
-    Ok(())
+fn planned_fault_comes_once(rt: HostRuntime) {
+    assert!(rt; has_one_fault(&rt, rt.alloc()));
 }
 
 // Whether a shelf that never fails has four bytes under one name, and nothing under any other.
@@ -109,13 +117,14 @@ fn has_four<R: Files>(rt: &R, alloc: Global, shelf: &mut NeverFails) -> bool {
         && comes_back(rt, alloc, shelf, "a")
 }
 
-#[test]
-fn shelf_that_never_fails(rt: HostRuntime) -> Result<(), Fail> {
-    let alloc = rt.alloc();
+fn never_fails<R: Files>(rt: &R, alloc: Global) -> bool {
     let mut shelf = NeverFails::new(alloc);
-    shelf.store("a", b"abcd")?;
-    assert!(rt; has_four(&rt, alloc, &mut shelf));
-    Ok(())
+    shelf.store("a", b"abcd").is_ok() && has_four(rt, alloc, &mut shelf)
+}
+
+#[test]
+fn shelf_that_never_fails(rt: HostRuntime) {
+    assert!(rt; never_fails(&rt, rt.alloc()));
 }
 
 // Whether a file of over a million bytes, which is read in many pieces, comes back where that many are allowed, and is
@@ -135,17 +144,20 @@ fn writes_fault<R: Files>(rt: &R, shelf: &mut FileShelf) -> bool {
         && shelf.write(rt, ".", b"x") == Err(WriteError::Fault)
 }
 
+// Whether a file is read as it was written, and faults once it is gone.
+fn keeps_a_file<R: Files>(rt: &R, alloc: Global, shelf: &mut FileShelf, name: &str) -> bool {
+    comes_back(rt, alloc, shelf, name)
+        && is_too_long(rt, alloc, shelf, name, 4)
+        && is_long(rt, alloc, shelf, name)
+        && fs::remove_file(rt, name).is_ok()
+        && faults(rt, alloc, shelf, name)
+        && faults(rt, alloc, shelf, ".")
+}
+
 #[test]
 fn real_files(rt: HostRuntime) {
-    let alloc = rt.alloc();
-    let name = "ih_shelf_test_file";
     let mut shelf = FileShelf::new();
-    assert!(rt; comes_back(&rt, alloc, &mut shelf, name));
-    assert!(rt; is_too_long(&rt, alloc, &mut shelf, name, 4));
-    assert!(rt; is_long(&rt, alloc, &mut shelf, name));
-    assert!(rt; fs::remove_file(&rt, name).is_ok());
-    assert!(rt; faults(&rt, alloc, &mut shelf, name));
-    assert!(rt; faults(&rt, alloc, &mut shelf, "."));
+    assert!(rt; keeps_a_file(&rt, rt.alloc(), &mut shelf, "ih_shelf_test_file"));
     assert!(rt; writes_fault(&rt, &mut shelf));
 }
 

@@ -69,22 +69,21 @@ fn rooms(alloc: Global, capacity: u32) -> Result<List<Room>, AllocError> {
 
 // A ward of nothing but a room of so many beds.
 fn ward(alloc: Global, beds: u32) -> Result<Draft, AllocError> {
-    let mut draft = Draft {
+    let shift_types = names(alloc, &["early", "late", "night"])?;
+    let rooms = rooms(alloc, beds)?;
+    Ok(Draft {
         days: 1,
         skill_levels: 1,
-        shift_types: List::new(Vec::new(alloc)),
+        shift_types,
         age_groups: List::new(Vec::new(alloc)),
         weights: Weights { w: [0; 8] },
         surgeons: List::new(Vec::new(alloc)),
         operating_theaters: List::new(Vec::new(alloc)),
-        rooms: List::new(Vec::new(alloc)),
+        rooms,
         nurses: List::new(Vec::new(alloc)),
         occupants: List::new(Vec::new(alloc)),
         patients: List::new(Vec::new(alloc)),
-    };
-    draft.shift_types = names(alloc, &["early", "late", "night"])?;
-    draft.rooms = rooms(alloc, beds)?;
-    Ok(draft)
+    })
 }
 
 // Whether such a ward is valid, where that is said.

@@ -10,7 +10,7 @@ use ih_plan::{Move, Plan};
 use ih_rounds::{Noted, RoundsEnd, Searcher, rounds};
 use ih_shelf::OpenGate;
 use ih_tables::{Day, Instance, NurseNo, RoomNo, Shift};
-use ih_top::search_at_desk;
+use ih_top::history_at_desk;
 use std::alloc::{AllocError, Global};
 use std::sync::Wait;
 use std::thread::Threads;
@@ -41,7 +41,7 @@ impl Searcher for AtDesk {
         start: &Plan,
         options: &Options,
     ) -> Result<Vec<Entry>, AllocError> {
-        search_at_desk(rt, alloc, inst, start, options, &OpenGate)
+        history_at_desk(rt, alloc, inst, start, options, &OpenGate)
     }
 }
 

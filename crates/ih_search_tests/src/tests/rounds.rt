@@ -5,7 +5,7 @@ ghost use Rattle.ih_tables.specs.Bills.{IsWithin};
 ghost use Rattle.ih_plan.specs.Expand.{IsMoveOf};
 ghost use Rattle.ih_journal.specs.Attempts.{try_after, is_done_after, is_retried, last_by};
 ghost use Rattle.ih_journal.specs.Tried.{tried, tries};
-ghost use Rattle.ih_cellbook.specs.{Laws.HasNoneBy, Offers.next_number, Replicas.IsReplicaIn, Snapshot.Snapshot};
+ghost use Rattle.ih_cellbook.specs.{Laws.HasNoneBy, Offers.next_number, Replicas.IsReplicaIn, ReplicaState.ReplicaState};
 
 use ih_cellbook::{Book, Buffer, News, Offer};
 use ih_journal::{Entry, Options, Verdict};
@@ -87,7 +87,7 @@ pub(crate) fn offer(
     requires move_in { IsMoveOf book.old.base.instance mv.now }
     ensures base { book.new.base ≡ book.old.base }
     ensures replica { IsReplicaIn book.old.base book.new.entries replica.new }
-    ensures others { (r : Snapshot) → IsReplicaIn book.old.base book.old.entries r
+    ensures others { (r : ReplicaState) → IsReplicaIn book.old.base book.old.entries r
         → IsReplicaIn book.old.base book.new.entries r }
 {
     let offer = replica.offer(mv, number);

@@ -3,7 +3,7 @@
 ghost use Rattle.std.specs.Prelude.{◌≡◌, ◌≤◌, [], IfOk};
 ghost use Rattle.ih_plan.specs.{Timetable.IsPlanOf, Cells.cell_count};
 ghost use Rattle.ih_journal.specs.Settings.{IsLawful};
-ghost use Rattle.ih_cellbook.specs.{Keeping.base_with, Replicas.IsReplicaIn, Snapshot.Snapshot};
+ghost use Rattle.ih_cellbook.specs.{Keeping.base_with, Replicas.IsReplicaIn, ReplicaState.ReplicaState};
 
 use crate::tests::rounds::{Priced, advance, catch_up, is_priced, offer};
 use crate::tests::steps::{
@@ -68,7 +68,7 @@ fn act(
     requires replica { IsReplicaIn book.old.base book.old.entries replica.old }
     ensures base { book.new.base ≡ book.old.base }
     ensures replica { IsReplicaIn book.old.base book.new.entries replica.new }
-    ensures others { (r : Snapshot) → IsReplicaIn book.old.base book.old.entries r
+    ensures others { (r : ReplicaState) → IsReplicaIn book.old.base book.old.entries r
         → IsReplicaIn book.old.base book.new.entries r }
 {
     match *step {

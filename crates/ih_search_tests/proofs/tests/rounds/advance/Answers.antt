@@ -1,5 +1,5 @@
 use Rattle.std.proofs.Common.{◌≤◌, ◌∙◌, ap, drop, length, subst, sym, take}
-use Rattle.ih_cellbook.specs.Copied.{Copied}
+use Rattle.ih_cellbook.specs.BufferState.{BufferState}
 use Rattle.ih_cellbook.specs.Replicas.{MayFollow, StandsAfter}
 use Rattle.ih_cellbook.proofs.Within.{next-follow, seen-within, stands-further}
 use Rattle.ih_search_tests.proofs.tests.rounds.advance.Goals as goal
@@ -13,7 +13,7 @@ pub advance-requires : goal.advance-requires
 advance-requires c =
     let v = c.args.book.now in
     let r = c.args.replica.now in
-    let shown = ap (λ (x : Copied). x.entries) c.copy_since.ensures.copied ∙ ap (λ k. take 256 (drop k v.entries)) c.seen.ensures in
+    let shown = ap (λ (x : BufferState). x.entries) c.copy_since.ensures.copied ∙ ap (λ k. take 256 (drop k v.entries)) c.seen.ensures in
     record { follow = subst (MayFollow r) (sym (c.entries-2.ensures ∙ shown)) (next-follow v.base v.entries r c.requires.replica 256 c.entries.ensures.legal) }
 
 pub returns : goal.returns
@@ -21,6 +21,6 @@ returns c =
     let v = c.args.book.now in
     let r = c.args.replica.now in
     let s = c.advance.new.self in
-    let shown = ap (λ (x : Copied). x.entries) c.copy_since.ensures.copied ∙ ap (λ k. take 256 (drop k v.entries)) c.seen.ensures in
+    let shown = ap (λ (x : BufferState). x.entries) c.copy_since.ensures.copied ∙ ap (λ k. take 256 (drop k v.entries)) c.seen.ensures in
     let later = subst (λ es. StandsAfter r es s) (c.entries-2.ensures ∙ shown) c.advance.ensures.replica in
     stands-further v.base v.entries r c.requires.replica 256 s c.entries.ensures.legal later
