@@ -7,9 +7,10 @@
 # given.
 #   --start FILE        begins with this plan; without it and a plan in OUT, with the greedy fill
 #   --start-anew        forgets what OUT has
+#   --freeze DAY        changes no choice of a day before DAY; with --start, or a plan in OUT to go on from
 #   --workers N         how many search side by side (one for each processor)
 #   --hot N, --cold N   the heat at first and at last (by the weights; with --journal 60 and 3)
-#   --hard N            the weight of a broken rule (1000; with --journal and --replay 100000)
+#   --hard N            the weight of a broken rule (by the weights; with --journal and --replay 100000)
 #   --seed N            where random numbers begin (1)
 #   --bound             first says what no feasible plan costs less than, then of each better plan how many percent it
 #                       is at most above the best; this comes before SECONDS begin
@@ -47,7 +48,7 @@ usage() {
   exit 2
 }
 
-way=improve anew='' bounded='' keep='' hosts='' start='' plot=''
+way=improve anew='' bounded='' keep='' hosts='' start='' freeze='' plot=''
 workers='' hot='' cold='' hard='' seed='' stretch='' moves=''
 while [ $# -gt 0 ]; do
   case $1 in
@@ -56,7 +57,7 @@ while [ $# -gt 0 ]; do
     --journal | --replay)
       [ "$way" = improve ] || fail "--journal and --replay are two ways to search: name one"
       way=${1#--} ;;
-    --start | --workers | --hot | --cold | --hard | --seed | --plot | --hosts | --stretch | --keep | --moves)
+    --start | --freeze | --workers | --hot | --cold | --hard | --seed | --plot | --hosts | --stretch | --keep | --moves)
       [ $# -ge 2 ] || fail "$1 wants a value"
       [ -n "$2" ] || fail "the value of $1 is empty"
       printf -v "${1#--}" %s "$2"
@@ -95,12 +96,14 @@ number() { # the option, the least, the greatest, its usual value
   printf -v "$1" %s "$value"
 }
 case $way in
-  improve) seconds=$(whole SECONDS 1 "$3") || exit 2; usual=(10 1 1000) ;;
+  improve) seconds=$(whole SECONDS 1 "$3") || exit 2; usual=(10 1 '') ;;
   journal) seconds=$(whole SECONDS 1 "$3") || exit 2; usual=(60 3 100000) ;;
   replay) jobs=$(whole JOBS 1 "$3") || exit 2; usual=(20 1 100000) ;;
 esac
 number workers 1 64 "$(nproc)"
-number hard 0 1000000 "${usual[2]}"
+# without one `improve` goes by the weights
+[ -z "$hard${usual[2]}" ] || number hard 0 1000000 "${usual[2]}"
+[ -z "$freeze" ] || number freeze 0 56 0
 number seed 0 100000000000000000 1
 [ -z "$stretch" ] || number stretch 1 1000000 30
 [ "$way" != replay ] || number moves 0 1000000 1000000
@@ -116,11 +119,13 @@ program() { # the program, what names it
 ih=$(program "$ih" IH) || exit 2
 if [ "$way" = improve ] || [ -n "$bounded" ]; then planner=$(program "$planner" PLANNER) || exit 2; fi
 if [ -n "$hosts" ]; then open_hosts; elif [ "$way" = replay ]; then need_parallel; fi
+named=$start
 open_out
+[ -z "$freeze" ] || check_freeze
 [ -z "$plot" ] || open_plot
 [ -z "$keep" ] || open_keep
 
-# Without heats the weights decide, as in `improve`.
+# without heats the weights decide, as in `improve`
 if [ "$way" = improve ]; then
   middle=$(middle_weight)
   usual=($((2 * middle)) $(((middle + 5) / 10)))

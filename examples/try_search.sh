@@ -54,7 +54,7 @@ expect 2 'cannot read ' search "$room/a b" out.json 5
 expect 2 'SECONDS is at least 1' search "in st.json" out.json 0
 expect 2 "SECONDS is a whole number, and not '5.5'" search "in st.json" out.json 5.5
 expect 2 "JOBS is a whole number" search --replay "in st.json" out.json x
-for option in workers hot cold hard seed stretch moves; do
+for option in workers hot cold hard seed freeze stretch moves; do
   more=()
   [ $option != stretch ] || more=(--hosts :)
   [ $option != moves ] || more=(--replay)
@@ -67,6 +67,8 @@ expect 2 'workers is at most 64' search --workers 0065 "in st.json" out.json 5
 expect 2 'workers is at least 1' search --workers 00 "in st.json" out.json 5
 expect 2 'hot is at most 1000000' search --hot 1000001 "in st.json" out.json 5
 expect 2 'cold is at most --hot' search --hot 3 --cold 5 "in st.json" out.json 5
+expect 2 'freeze is at most 56' search --freeze 57 "in st.json" out.json 5
+expect 2 'freeze goes with --start' search --freeze 3 "in st.json" out.json 5
 expect 2 'two ways' search --journal --replay "in st.json" out.json 5
 expect 2 'keep goes with' search --keep x "in st.json" out.json 5
 expect 2 'moves goes with' search --moves 5 "in st.json" out.json 5
@@ -106,9 +108,34 @@ expect 2 'OUT and the start are one file' search --start "o ut.json" "in st.json
 expect 0 "best plan so far, cost $first" search --workers 1 --hot 1 --cold 1 "in st.json" "o ut.json" 1
 expect 0 '' test "$(cost "o ut.json")" -le "$first"
 "$PLANNER" improve "in st.json" dear.json --seed 1 --workers 1 --attempts 0 --rounds 1 --fill >/dev/null || exit 2
+cat >"$room/teller" <<TELLER
+#!/usr/bin/env bash
+echo "\$*" >>"$room/calls"
+exec "$PLANNER" "\$@"
+TELLER
+chmod +x "$room/teller"
+expect 0 'has the best plan' env PLANNER="$room/teller" bash "$here/search.sh" --workers 2 "in st.json" "la st.json" 4
+expect 0 '--hot 0 --cold 0 .*--start ' tail -n 1 "$room/calls"
+expect 1 '' grep -e --hard "$room/calls"
 cp dear.json "o ut.json"
 expect 0 'has the best plan' search --start-anew --start "fi rst.json" --workers 2 "in st.json" "o ut.json" 2
 expect 0 '' test "$(cost "o ut.json")" -le "$first"
+nothing_left
+
+echo "frozen days"
+early() { tr '}' '\n' <"$1" | grep -E '"(admission_)?day":[0-2],'; }
+expect 2 'may have other choices' search --freeze 3 --start "fi rst.json" "in st.json" "o ut.json" 5
+for way in --workers --journal; do
+  words=(--workers 2)
+  [ $way = --workers ] || words+=(--journal)
+  expect 0 'has the best plan' \
+    search --freeze 3 --start dear.json --start-anew "${words[@]}" "in st.json" "fro zen.json" 4
+  expect 0 '' diff <(early dear.json) <(early "fro zen.json")
+  expect 1 '' cmp -s dear.json "fro zen.json"
+  # it goes on from there
+  expect 0 'has the best plan' search --freeze 3 "${words[@]}" "in st.json" "fro zen.json" 2
+  expect 0 '' diff <(early dear.json) <(early "fro zen.json")
+done
 nothing_left
 
 echo "journals"

@@ -51,8 +51,8 @@ lay_out() {
 
 # The words of search.sh for one stretch on a host: plain ones, so that no shell reads them otherwise.
 words_for() { # the host, seconds, heat at first, heat at last
-  echo "--seed $((seed + 1000 * next)) --hot $3 --cold $4 --hard $hard ${width[$1]:+--workers ${width[$1]}}" \
-    "${start:+--start start.json} --start-anew -- instance.json plan.json $2"
+  echo "--seed $((seed + 1000 * next)) --hot $3 --cold $4 ${hard:+--hard $hard} ${width[$1]:+--workers ${width[$1]}}" \
+    "${start:+--start start.json} ${freeze:+--freeze $freeze} --start-anew -- instance.json plan.json $2"
 }
 
 # Runs in the background: one stretch of a host. One that takes too long is ended, with all that belongs to it.

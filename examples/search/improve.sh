@@ -31,12 +31,12 @@ take_left() {
 # how long it took. One that takes much longer than there is time is cut off: it loses a round.
 call() {
   local status before from=(--fill) cost most
-  [ -z "$start" ] || from=(--start "$start")
+  [ -z "$start" ] || from=(--start "$start" ${freeze:+--freeze "$freeze"})
   rm -f "$work/call.json"
   before=$(passed)
   most=$(awk -v t="$before" -v all="$seconds" 'BEGIN { m = 1.01 * all - t; printf "%.2f", (m < 0.5 ? 0.5 : m) }')
   timeout "$most" "$planner" improve "$instance" "$work/call.json" --seed "$seed" --workers "$workers" \
-    --attempts "$1" --hot "$2" --cold "$3" --rounds "$4" --hard "$hard" "${from[@]}" >"$work/said" 2>&1 &
+    --attempts "$1" --hot "$2" --cold "$3" --rounds "$4" ${hard:+--hard "$hard"} "${from[@]}" >"$work/said" 2>&1 &
   wait $!
   status=$?
   took=$(awk -v a="$before" -v b="$(passed)" 'BEGIN { printf "%.3f", b - a }')
@@ -61,11 +61,11 @@ call() {
   rm -f "$work/said"
 }
 
-# How many seconds the next call is to take: a twentieth of the time, at least 5; the last one takes what is left. If
-# next to nothing is left, the status is 1.
+# How many seconds the next call is to take: a twentieth of the time, at least 5; the last one with heat takes what is
+# left but for so much. If next to nothing is left, the status is 1.
 next_aim() {
-  awk -v t="$(passed)" -v all="$seconds" 'BEGIN {
-    left = all - t; step = all / 20; if (step < 5) step = 5
+  awk -v t="$(passed)" -v all="$seconds" -v kept="$1" 'BEGIN {
+    left = all - t - kept; step = all / 20; if (step < 5) step = 5
     if (left < 0.3 || left < all / 200) exit 1
     printf "%.3f", (left < 1.5 * step ? 0.97 * left : step) }'
 }
@@ -78,16 +78,20 @@ attempts_for() {
 }
 
 search_by_improve() {
-  local attempts=20000 aim heat=$hot next
+  local attempts=20000 aim heat=$hot next last
+  # a last call without heat gets a fortieth of the time, at most 5 seconds
+  last=$(awk -v all="$seconds" 'BEGIN { print (all < 200 ? all / 40 : 5) }')
   # short calls tell how many attempts fit into a second: the first has the start of the program in it
   call $attempts "$heat" "$heat" 1
   attempts=$(attempts_for $attempts "$(awk -v all="$seconds" 'BEGIN { print (all < 50 ? all / 100 : 0.5) }')")
   call "$attempts" "$heat" "$heat" 1
-  while aim=$(next_aim); do
+  while aim=$(next_aim "$last"); do
     attempts=$(attempts_for "$attempts" "$aim")
     # the heat goes on where the last call ended
     next=$(heat_after "$(awk -v a="$(passed)" -v b="$aim" 'BEGIN { print a + b }')")
     call "$attempts" "$heat" "$next" 20
     heat=$next
   done
+  # it takes most single changes of the best plan that still help
+  [ -z "$start" ] || call "$(attempts_for "$attempts" "$last")" 0 0 20
 }

@@ -13,7 +13,10 @@ claim() {
   cp "$work/$winner.json" "$work/claim.json" && mv "$work/$winner.journal" "$work/claim.journal" || exit 1
   given=(--fill)
   rm -f "$work/claim.start.json"
-  [ -z "$start" ] || { cp "$start" "$work/claim.start.json"; given=(--start "$work/claim.start.json"); }
+  if [ -n "$start" ]; then
+    cp "$start" "$work/claim.start.json"
+    given=(--start "$work/claim.start.json" ${freeze:+--freeze "$freeze"})
+  fi
   claimed=$won claim_step=$step claim_begun=$EPOCHREALTIME
   "$ih" replay "$instance" "$work/claim.journal" "$work/again.json" "${given[@]}" >"$work/again.report" 2>&1 &
   checking=$!
@@ -48,7 +51,7 @@ settle() {
 # as they are known to have lost.
 search_step() {
   local pids=() failed=0 w status cost from=(--fill)
-  [ -z "$start" ] || from=(--start "$start")
+  [ -z "$start" ] || from=(--start "$start" ${freeze:+--freeze "$freeze"})
   for ((w = 0; w < workers; w++)); do
     "$ih" solve "$instance" "$work/$w.json" "$work/$w.journal" --seed $((seed + step * workers + w)) --workers 1 \
       --moves "$moves" --heat "$heat" --hard "$hard" "${from[@]}" >"$work/$w.report" 2>&1 &

@@ -74,6 +74,13 @@ go_on() {
   cp -- "$out" "$work/start.json" && start=$out || exit 2
 }
 
+# Frozen days go by the plan from which the search begins, so a plan that OUT has from elsewhere can't count.
+check_freeze() {
+  [ -n "$start" ] || fail "--freeze goes with --start, or with a feasible plan in OUT to go on from"
+  [ -z "$named" ] || [ -z "$best" ] ||
+    fail "$out may have other choices before day $freeze than $named: name another file, or --start-anew"
+}
+
 # Another program may have written OUT meanwhile: what it has now counts.
 look_at_out() {
   local cost=''

@@ -9,7 +9,7 @@ lay_out_portfolio() {
   mkdir "$work/jobs" && cp -- "$ih" "$work/ih" && cp -- "$instance" "$work/instance.json" || exit 1
   given=(--basefile ih --basefile instance.json)
   if [ -n "$start" ]; then
-    from='--start start.json'
+    from="--start start.json${freeze:+ --freeze $freeze}"
     given+=(--basefile start.json)
   fi
   cp -- "$work/ih" "$work"/*.json "$work/jobs/" || exit 1
