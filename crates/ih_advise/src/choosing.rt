@@ -18,14 +18,14 @@ pub struct Advice {
 }
 
 // The best nurse of a room in a shift, or none: the first on a tie.
-fn best_nurse(inst: &Instance, scorer: &Scorer<'_>, r: RoomNo, k: Shift) -> Candidate
+fn best_nurse(inst: &Instance, scorer: &Scorer<'_>, room: RoomNo, shift: Shift) -> Candidate
     requires instance { scorer.now.instance ≡ inst.now.draft }
-    requires inside { IsChoiceOf inst.now.draft (Choice.Nurse r k) }
-    ensures best { result ≡ best_of inst.now.draft scorer.now.hard scorer.now.plan (Choice.Nurse r k) }
+    requires inside { IsChoiceOf inst.now.draft (Choice.Nurse room shift) }
+    ensures best { result ≡ best_of inst.now.draft scorer.now.hard scorer.now.plan (Choice.Nurse room shift) }
     ensures fits { IsWriteOf inst.now.draft result.write }
 {
-    let none = scorer.no_nurse(r, k);
-    match cheapest_nurse(inst, scorer, r, k) {
+    let none = scorer.no_nurse(room, shift);
+    match cheapest_nurse(inst, scorer, room, shift) {
         None => none,
         Some(nurse) => cheaper(none, nurse),
     }

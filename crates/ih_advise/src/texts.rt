@@ -17,10 +17,10 @@ fn put(out: &mut Vec<u8>, text: &str) -> Result<(), AllocError>
 }
 
 // Writes a write by its name and its numbers.
-fn put_write(out: &mut Vec<u8>, w: &Write) -> Result<(), AllocError>
-    ensures { OnOk result (out.new.items ≡ out.old.items ++ write_text w.now) }
+fn put_write(out: &mut Vec<u8>, write: &Write) -> Result<(), AllocError>
+    ensures { OnOk result (out.new.items ≡ out.old.items ++ write_text write.now) }
 {
-    match *w {
+    match *write {
         Write::SetStay(p, Some(at)) => {
             named_text("setstay", p.0, &[at.day.0, at.room.0, at.theatre.0], out)
         }
@@ -37,14 +37,14 @@ fn put_write(out: &mut Vec<u8>, w: &Write) -> Result<(), AllocError>
 }
 
 // Writes a line of advice.
-fn put_line(out: &mut Vec<u8>, a: &Advice) -> Result<(), AllocError>
-    ensures { OnOk result (out.new.items ≡ out.old.items ++ advice_line a.now) }
+fn put_line(out: &mut Vec<u8>, advice: &Advice) -> Result<(), AllocError>
+    ensures { OnOk result (out.new.items ≡ out.old.items ++ advice_line advice.now) }
 {
-    put_write(out, &a.write)?;
+    put_write(out, &advice.write)?;
     put(out, " ")?;
-    put(out, Buffer::new().format(a.score))?;
+    put(out, Buffer::new().format(advice.score))?;
     put(out, " ")?;
-    price_text(&a.price, out)?;
+    price_text(&advice.price, out)?;
     put(out, "\n")
 }
 

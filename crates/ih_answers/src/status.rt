@@ -10,7 +10,7 @@ use ih_tables::Refusal;
 #[derive(Clone, Copy, Debug, PartialEq, Eq)]
 pub enum Role {
     Instance,
-    /// A start, or a solution that is to be checked.
+    /// A solution that a command reads: where it starts, or what it checks, shows or compares with.
     Solution,
     Journal,
     Out,
@@ -25,11 +25,11 @@ pub enum Status {
     Usage,
     /// A file couldn't be read.
     ReadFault(Role),
-    /// The instance's first refusal.
+    /// The instance is refused. This is its first fault.
     InstanceRefused(Refusal),
-    /// The first refusal of a solution file: the start, or the one that is to be checked.
+    /// A solution that a command reads is refused, whether it is a start or not. This is its first fault.
     StartRefused(Refusal),
-    /// No timetable of the history is feasible.
+    /// The search, or the history of the journal, met no feasible timetable.
     NoneFound,
     /// A file could not be written; with no role, it is the text that could not be put out.
     WriteFault(Option<Role>),
@@ -37,7 +37,7 @@ pub enum Status {
     OutOfMemory,
     /// The journal's first line that isn't the legal next one, and why.
     JournalRefused(JournalRefusal),
-    /// The checked solution breaks a hard rule.
+    /// The solution that was judged breaks a hard rule, or no timetable is feasible.
     Infeasible,
     /// A file is longer than its limit.
     TooLong(Role),

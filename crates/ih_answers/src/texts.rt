@@ -61,7 +61,7 @@ pub fn instance_refused(alloc: Global, refusal: Refusal) -> Answer
     said(alloc, Status::InstanceRefused(refusal), text)
 }
 
-/// The start is refused, or the solution that is to be checked.
+/// A solution that the command reads is refused.
 #[tactic(auto, using(crate::proofs::Saying::said_by))]
 pub fn solution_refused(alloc: Global, refusal: Refusal) -> Answer
     ensures { IsSaid (Status.StartRefused refusal) (solution_refused_text refusal) result }

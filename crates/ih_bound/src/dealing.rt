@@ -39,19 +39,27 @@ fn least_of(
     rates: &Rates,
     prices: &Prices,
     floors: &Floors,
-    x: u32,
+    person: u32,
     scratch: &mut Scratch,
     demand: &mut Demand,
 ) -> u64
     requires floors { AreFloors inst.now.draft rates.now floors.now.list.items }
-    requires person { x < person_count inst.now.draft }
-    ensures { BoundsPerson inst.now.draft rates.now (tariff_of inst.now.draft rates.now prices.now) x result }
+    requires person { person < person_count inst.now.draft }
+    ensures { BoundsPerson inst.now.draft rates.now (tariff_of inst.now.draft rates.now prices.now) person result }
 {
     let patients = inst.patients();
-    if x < patients {
-        return least_of_patient(inst, rates, prices, floors, PatientNo(x), scratch, demand);
+    if person < patients {
+        return least_of_patient(
+            inst,
+            rates,
+            prices,
+            floors,
+            PatientNo(person),
+            scratch,
+            demand,
+        );
     }
-    least_of_occupant(inst, rates, prices, x - patients, scratch, demand)
+    least_of_occupant(inst, rates, prices, person - patients, scratch, demand)
 }
 
 impl BoundWorker {
@@ -72,18 +80,18 @@ impl BoundWorker {
         inst: &Instance,
         rates: &Rates,
         prices: &Prices,
-        x: u32,
+        person: u32,
         workers: usize,
         worker: usize,
     ) -> u64
         requires floors { HasFloors inst.now.draft rates.now self.old }
         requires worker { worker < workers }
-        requires person { x < person_count inst.now.draft }
+        requires person { person < person_count inst.now.draft }
         ensures floors { self.new.floors ≡ self.old.floors }
         ensures least { (P : Timetable) → IsFeasible inst.now.draft P → result ≤ dealt_paid inst.now.draft rates.now
-            (tariff_of inst.now.draft rates.now prices.now) P workers worker x }
+            (tariff_of inst.now.draft rates.now prices.now) P workers worker person }
     {
-        if x as usize % workers != worker {
+        if person as usize % workers != worker {
             return 0;
         }
         least_of(
@@ -91,7 +99,7 @@ impl BoundWorker {
             rates,
             prices,
             &self.floors,
-            x,
+            person,
             &mut self.scratch,
             &mut self.demand,
         )
@@ -110,7 +118,8 @@ impl BoundWorker {
         requires floors { HasFloors inst.now.draft rates.now self.old }
         requires worker { worker < workers }
         ensures floors { HasFloors inst.now.draft rates.now self.new }
-        ensures least { BoundsDealt inst.now.draft rates.now (tariff_of inst.now.draft rates.now prices.now) workers worker
+        ensures least { BoundsDealt inst.now.draft rates.now
+            (tariff_of inst.now.draft rates.now prices.now) workers worker
             self.new.sum }
     {
         self.demand.clear();
@@ -205,7 +214,8 @@ fn sum_all<R: Threads + Sync>(
 
 // What they found, added up.
 fn sum_of(workers: &[BoundWorker]) -> u64
-    ensures { (f : ℕ → ℕ) → ((k : ℕ) (d : BoundWorker) → k < length workers.now → (slice_index_or workers.now k d).sum ≤ f k)
+    ensures { (f : ℕ → ℕ)
+        → ((k : ℕ) (d : BoundWorker) → k < length workers.now → (slice_index_or workers.now k d).sum ≤ f k)
         → result ≤ sum_below (length workers.now) f }
 {
     let mut sum: u64 = 0;

@@ -69,8 +69,8 @@ fn clear(list: &mut [u64]) {
 }
 
 #[inline(always)]
-fn add(list: &mut [u64], i: usize, by: u64) {
-    if let Some(x) = list.get_mut(i) {
+fn add(list: &mut [u64], index: usize, by: u64) {
+    if let Some(x) = list.get_mut(index) {
         *x = x.saturating_add(by);
     }
 }
@@ -82,12 +82,12 @@ fn add_list(list: &mut [u64], other: &[u64]) {
 }
 
 // The theatre with the cheapest minute on a day, of those that are available for so long.
-fn cheapest_theatre(inst: &Instance, prices: &Prices, d: u32, minutes: u32) -> u32 {
+fn cheapest_theatre(inst: &Instance, prices: &Prices, day: u32, minutes: u32) -> u32 {
     let mut least = u64::MAX;
     let mut best = 0;
     for t in 0..inst.theatres() {
-        if limit_of(inst, Resource::OfTheatre(TheatreNo(t)), d) >= minutes as u64 {
-            let price = prices.theatre_on(inst.days(), t, d);
+        if limit_of(inst, Resource::OfTheatre(TheatreNo(t)), day) >= minutes as u64 {
+            let price = prices.theatre_on(inst.days(), t, day);
             if price < least {
                 least = price;
                 best = t;
@@ -189,27 +189,27 @@ impl Demand {
         inst: &Instance,
         rates: &Rates,
         prices: &Prices,
-        q: &Patient,
-        a: u32,
+        patient: &Patient,
+        day: u32,
     ) {
-        for d in a..end_from(inst, a, q.length_of_stay) {
+        for d in day..end_from(inst, day, patient.length_of_stay) {
             add(self.bed.as_mut_slice(), d as usize, 1);
         }
         let days = inst.days();
-        let minutes = q.surgery_duration;
-        let t = cheapest_theatre(inst, prices, a, minutes);
+        let minutes = patient.surgery_duration;
+        let t = cheapest_theatre(inst, prices, day, minutes);
         add(
             self.surgeon.as_mut_slice(),
-            place(days, q.surgeon_id.0, a),
+            place(days, patient.surgeon_id.0, day),
             minutes as u64,
         );
         add(
             self.theatre.as_mut_slice(),
-            place(days, t, a),
+            place(days, t, day),
             minutes as u64,
         );
-        let wait = a.saturating_sub(q.surgery_release_day) as u64;
-        let opening = opening(inst, rates, t, a);
+        let wait = day.saturating_sub(patient.surgery_release_day) as u64;
+        let opening = opening(inst, rates, t, day);
         self.spent.add(&Spent {
             delay: rates.delay.saturating_mul(wait),
             left_out: 0,

@@ -21,19 +21,19 @@ fn floor_of(
     inst: &Instance,
     rates: &Rates,
     free: &Prices,
-    p: PatientNo,
-    a: u32,
+    patient: PatientNo,
+    day: u32,
     scratch: &mut Scratch,
 ) -> u64
     requires free { free.now.work.items ≡ [] }
-    requires patient { p.0 < patient_count inst.now.draft }
-    requires day { a < inst.now.draft.days }
-    ensures { BoundsFloor inst.now.draft rates.now p.0 a result }
+    requires patient { patient.0 < patient_count inst.now.draft }
+    requires day { day < inst.now.draft.days }
+    ensures { BoundsFloor inst.now.draft rates.now patient.0 day result }
 {
-    if a < inst.patient(p).surgery_release_day || a >= window_end(inst, p) {
+    if day < inst.patient(patient).surgery_release_day || day >= window_end(inst, patient) {
         return 0;
     }
-    patient_care(inst, rates, free, p, a, scratch)
+    patient_care(inst, rates, free, patient, day, scratch)
 }
 
 impl Floors {
@@ -48,10 +48,10 @@ impl Floors {
 
     /// That of a patient on a day.
     #[inline(always)]
-    pub fn of(&self, inst: &Instance, p: PatientNo, a: u32) -> u64
-        ensures { result ≡ slice_index self.now.list.items (inst.now.draft.days * p.0 + a) }
+    pub fn of(&self, inst: &Instance, patient: PatientNo, day: u32) -> u64
+        ensures { result ≡ slice_index self.now.list.items (inst.now.draft.days * patient.0 + day) }
     {
-        at(self.list.as_slice(), place(inst.days(), p.0, a))
+        at(self.list.as_slice(), place(inst.days(), patient.0, day))
     }
 
     /// Raises those of the patients who are dealt to a worker.
@@ -80,24 +80,24 @@ impl Floors {
         inst: &Instance,
         rates: &Rates,
         free: &Prices,
-        i: u32,
+        index: u32,
         workers: usize,
         worker: usize,
         scratch: &mut Scratch,
     )
         requires free { free.now.work.items ≡ [] }
         requires worker { worker < workers }
-        requires place { i < inst.now.draft.days * patient_count inst.now.draft }
+        requires place { index < inst.now.draft.days * patient_count inst.now.draft }
         requires floors { AreFloors inst.now.draft rates.now self.old.list.items }
         ensures { AreFloors inst.now.draft rates.now self.new.list.items }
     {
         let days = inst.days();
-        let p = i / days;
+        let p = index / days;
         if p as usize % workers != worker {
             return;
         }
-        let floor = floor_of(inst, rates, free, PatientNo(p), i % days, scratch);
-        let place = i as usize;
+        let floor = floor_of(inst, rates, free, PatientNo(p), index % days, scratch);
+        let place = index as usize;
         if place < self.list.len() {
             self.list[place] = floor;
         }

@@ -14,7 +14,8 @@ use ih_validate::{Resource, limit_of};
 // At least the sum of what each number below the count gives at least.
 fn total<F: Fn(u32) -> u64>(count: u32, each: F) -> u64
     requires { (i : ℕ) → i < count → F.pre each i }
-    ensures { (f : ℕ → ℕ) → ((i x : ℕ) → i < count → F.post each i x → AtLeast (f i) x) → AtLeast (sum_below count f) result }
+    ensures { (f : ℕ → ℕ) → ((i x : ℕ) → i < count → F.post each i x → AtLeast (f i) x)
+        → AtLeast (sum_below count f) result }
 {
     let mut sum: u64 = 0;
     for i in 0..count {
@@ -42,15 +43,16 @@ fn bed_income(inst: &Instance, rates: &Rates, prices: &Prices) -> u64
 }
 
 // Of one surgeon.
-fn income_of_surgeon(inst: &Instance, rates: &Rates, prices: &Prices, s: u32) -> u64
-    requires { s < surgeon_count inst.now.draft }
+fn income_of_surgeon(inst: &Instance, rates: &Rates, prices: &Prices, surgeon: u32) -> u64
+    requires { surgeon < surgeon_count inst.now.draft }
     ensures { AtLeast (sum_below inst.now.draft.days (λ d.
-        (tariff_of inst.now.draft rates.now prices.now).surgeon s d * surgeon_maximum inst.now.draft s d)) result }
+        (tariff_of inst.now.draft rates.now prices.now).surgeon surgeon d * surgeon_maximum inst.now.draft surgeon d))
+        result }
 {
     let days = inst.days();
     total(days, |d| {
-        let minutes = limit_of(inst, Resource::OfSurgeon(SurgeonNo(s)), d);
-        prices.surgeon_on(days, s, d).saturating_mul(minutes)
+        let minutes = limit_of(inst, Resource::OfSurgeon(SurgeonNo(surgeon)), d);
+        prices.surgeon_on(days, surgeon, d).saturating_mul(minutes)
     })
 }
 
@@ -74,15 +76,16 @@ fn above_opening(price: u64, minutes: u64, opening: u64) -> u64
 }
 
 // Of one theatre, above what it is worth to open it.
-fn income_of_theatre(inst: &Instance, rates: &Rates, prices: &Prices, t: u32) -> u64
-    requires { t < theatre_count inst.now.draft }
-    ensures { AtLeast (sum_below inst.now.draft.days (λ d. (tariff_of inst.now.draft rates.now prices.now).theatre t d
-        * theatre_availability inst.now.draft t d - rates.now.theatre)) result }
+fn income_of_theatre(inst: &Instance, rates: &Rates, prices: &Prices, theatre: u32) -> u64
+    requires { theatre < theatre_count inst.now.draft }
+    ensures { AtLeast (sum_below inst.now.draft.days
+        (λ d. (tariff_of inst.now.draft rates.now prices.now).theatre theatre d
+        * theatre_availability inst.now.draft theatre d - rates.now.theatre)) result }
 {
     let days = inst.days();
     total(days, |d| {
-        let minutes = limit_of(inst, Resource::OfTheatre(TheatreNo(t)), d);
-        above_opening(prices.theatre_on(days, t, d), minutes, rates.theatre)
+        let minutes = limit_of(inst, Resource::OfTheatre(TheatreNo(theatre)), d);
+        above_opening(prices.theatre_on(days, theatre, d), minutes, rates.theatre)
     })
 }
 
@@ -95,28 +98,28 @@ fn theatre_income(inst: &Instance, rates: &Rates, prices: &Prices) -> u64
     )
 }
 
-fn load_limit(inst: &Instance, n: u32, k: u32) -> u64
-    requires nurse { n < nurse_count inst.now.draft }
-    requires shift { k < shift_count inst.now.draft }
-    ensures { result ≡ load_limit inst.now.draft n k }
+fn load_limit(inst: &Instance, nurse: u32, shift: u32) -> u64
+    requires nurse { nurse < nurse_count inst.now.draft }
+    requires shift { shift < shift_count inst.now.draft }
+    ensures { result ≡ load_limit inst.now.draft nurse shift }
 {
-    match inst.works(NurseNo(n), Shift(k)) {
+    match inst.works(NurseNo(nurse), Shift(shift)) {
         None => 0,
         Some(most) => most as u64,
     }
 }
 
 // Of one nurse.
-fn income_of_nurse(inst: &Instance, rates: &Rates, prices: &Prices, n: u32) -> u64
-    requires { n < nurse_count inst.now.draft }
+fn income_of_nurse(inst: &Instance, rates: &Rates, prices: &Prices, nurse: u32) -> u64
+    requires { nurse < nurse_count inst.now.draft }
     ensures { AtLeast (sum_below (shift_count inst.now.draft) (λ k.
-        (tariff_of inst.now.draft rates.now prices.now).work n k * load_limit inst.now.draft n k)) result }
+        (tariff_of inst.now.draft rates.now prices.now).work nurse k * load_limit inst.now.draft nurse k)) result }
 {
     let shifts = inst.shifts();
     total(shifts, |k| {
         prices
-            .work_in(rates, shifts, n, k)
-            .saturating_mul(load_limit(inst, n, k))
+            .work_in(rates, shifts, nurse, k)
+            .saturating_mul(load_limit(inst, nurse, k))
     })
 }
 

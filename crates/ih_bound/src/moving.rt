@@ -44,8 +44,8 @@ fn stills(alloc: Global, count: usize) -> Result<Vec<Direction>, AllocError> {
     Ok(list)
 }
 
-fn direction_at(list: &[Direction], i: usize) -> Direction {
-    match list.get(i) {
+fn direction_at(list: &[Direction], index: usize) -> Direction {
+    match list.get(index) {
         Some(x) => *x,
         None => STILL,
     }
@@ -54,14 +54,14 @@ fn direction_at(list: &[Direction], i: usize) -> Direction {
 // Keeps so many parts of the old direction and adds so many times what is asked for above what there is.
 fn smooth(
     list: &mut [Direction],
-    i: usize,
+    index: usize,
     asked: u64,
     supply: u64,
     keep: u64,
     of: u64,
     times: u64,
 ) {
-    let old = direction_at(list, i);
+    let old = direction_at(list, index);
     let up = (old.up.saturating_mul(keep) / of.max(1)).saturating_add(
         asked.saturating_sub(supply).saturating_mul(times),
     );
@@ -69,7 +69,7 @@ fn smooth(
         supply.saturating_sub(asked).saturating_mul(times),
     );
     let both = up.min(down);
-    if let Some(x) = list.get_mut(i) {
+    if let Some(x) = list.get_mut(index) {
         *x = Direction {
             up: up.saturating_sub(both),
             down: down.saturating_sub(both),
@@ -78,17 +78,17 @@ fn smooth(
 }
 
 // The square of a direction, and 0 where the price can't move further.
-fn square(x: Direction, price: u64, low: u64, high: u64) -> u64 {
-    if (price <= low && x.down > 0) || (price >= high && x.up > 0) {
+fn square(direction: Direction, price: u64, low: u64, high: u64) -> u64 {
+    if (price <= low && direction.down > 0) || (price >= high && direction.up > 0) {
         return 0;
     }
-    let size = x.up.max(x.down);
+    let size = direction.up.max(direction.down);
     size.saturating_mul(size)
 }
 
-fn moved(price: u64, x: Direction, step: Step, low: u64, high: u64) -> u64 {
-    let up = x.up.saturating_mul(step.by) / step.of.max(1);
-    let down = x.down.saturating_mul(step.by) / step.of.max(1);
+fn moved(price: u64, direction: Direction, step: Step, low: u64, high: u64) -> u64 {
+    let up = direction.up.saturating_mul(step.by) / step.of.max(1);
+    let down = direction.down.saturating_mul(step.by) / step.of.max(1);
     price
         .saturating_add(up)
         .min(high)
@@ -146,17 +146,17 @@ impl Directions {
     }
 
     // The minutes of all theatres on a day: asked for, and available.
-    fn turn_theatres(&mut self, inst: &Instance, demand: &Demand, d: u32) {
+    fn turn_theatres(&mut self, inst: &Instance, demand: &Demand, day: u32) {
         let mut asked: u64 = 0;
         let mut supply: u64 = 0;
         for t in 0..inst.theatres() {
-            asked = asked.saturating_add(at(demand.theatre.as_slice(), place(inst.days(), t, d)));
-            supply = supply.saturating_add(limit_of(inst, Resource::OfTheatre(TheatreNo(t)), d));
+            asked = asked.saturating_add(at(demand.theatre.as_slice(), place(inst.days(), t, day)));
+            supply = supply.saturating_add(limit_of(inst, Resource::OfTheatre(TheatreNo(t)), day));
         }
         let list = self.theatre.as_mut_slice();
         smooth(
             list,
-            d as usize,
+            day as usize,
             asked / MINUTES,
             supply / MINUTES,
             3,

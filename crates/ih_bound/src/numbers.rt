@@ -13,21 +13,21 @@ const PASSES: u64 = 4;
 
 // Where the costs of a shift of the stay begin.
 #[inline(always)]
-fn row(inst: &Instance, stay: &Stay<'_>, k: u32) -> usize {
-    inst.nurses() as usize * k.saturating_sub(stay.first) as usize
+fn row(inst: &Instance, stay: &Stay<'_>, shift: u32) -> usize {
+    inst.nurses() as usize * shift.saturating_sub(stay.first) as usize
 }
 
 /// Writes an entry of a list, where it has one there.
 #[inline(always)]
-pub fn put(list: &mut [u64], i: usize, x: u64) {
-    if let Some(y) = list.get_mut(i) {
-        *y = x;
+pub fn put(list: &mut [u64], index: usize, value: u64) {
+    if let Some(y) = list.get_mut(index) {
+        *y = value;
     }
 }
 
 #[inline(always)]
-fn lower(list: &mut [u64], i: usize, by: u64) {
-    if let Some(y) = list.get_mut(i) {
+fn lower(list: &mut [u64], index: usize, by: u64) {
+    if let Some(y) = list.get_mut(index) {
         *y = y.saturating_sub(by);
     }
 }
@@ -39,24 +39,24 @@ fn begin_shift(
     rates: &Rates,
     prices: &Prices,
     stay: &Stay<'_>,
-    k: u32,
+    shift: u32,
     scratch: &mut Scratch,
 )
-    requires first { stay.now.first ≤ k }
-    requires shift { k < shift_count inst.now.draft }
+    requires first { stay.now.first ≤ shift }
+    requires shift { shift < shift_count inst.now.draft }
 {
     let mut least = u64::MAX;
-    let mut i = row(inst, stay, k);
-    for n in inst.working(Shift(k)) {
+    let mut i = row(inst, stay, shift);
+    for n in inst.working(Shift(shift)) {
         if n.0 < inst.nurses() {
-            let cost = care_price(inst, rates, prices, stay, *n, k);
+            let cost = care_price(inst, rates, prices, stay, *n, shift);
             put(scratch.costs.as_mut_slice(), i, cost);
             put(scratch.slack.as_mut_slice(), n.0 as usize, rates.nurse);
             least = least.min(cost);
         }
         i = i.wrapping_add(1);
     }
-    put(scratch.numbers.as_mut_slice(), k as usize, least);
+    put(scratch.numbers.as_mut_slice(), shift as usize, least);
 }
 
 // How far a shift's number may rise: to where a nurse's slack ends; and which nurse's.
@@ -91,18 +91,22 @@ fn take_slack(working: &[NurseNo], row: usize, old: u64, new: u64, scratch: &mut
 }
 
 // Raises the number of a shift, by the limit at most.
-fn raise(inst: &Instance, stay: &Stay<'_>, k: u32, limit: u64, scratch: &mut Scratch)
-    requires { k < shift_count inst.now.draft }
+fn raise(inst: &Instance, stay: &Stay<'_>, shift: u32, limit: u64, scratch: &mut Scratch)
+    requires { shift < shift_count inst.now.draft }
 {
-    let working = inst.working(Shift(k));
-    let old = at(scratch.numbers.as_slice(), k as usize);
-    let row = row(inst, stay, k);
+    let working = inst.working(Shift(shift));
+    let old = at(scratch.numbers.as_slice(), shift as usize);
+    let row = row(inst, stay, shift);
     let (end, holder) = highest(working, row, old, scratch);
-    put(scratch.holders.as_mut_slice(), k as usize, holder as u64);
+    put(
+        scratch.holders.as_mut_slice(),
+        shift as usize,
+        holder as u64,
+    );
     let new = end.min(old.saturating_add(limit));
     if new > old {
         take_slack(working, row, old, new, scratch);
-        put(scratch.numbers.as_mut_slice(), k as usize, new);
+        put(scratch.numbers.as_mut_slice(), shift as usize, new);
     }
 }
 

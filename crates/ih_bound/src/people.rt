@@ -9,7 +9,16 @@ ghost use Rattle.ih_plan.specs.Presence.{end_from};
 ghost use Rattle.ih_bound.specs.Bounds.{IsFeasible};
 ghost use Rattle.ih_bound.specs.Tariffs.{Tariff, tariff_of, price_in};
 ghost use Rattle.ih_bound.specs.Paid.{paid};
-ghost use Rattle.ih_bound.specs.Least.{BoundsPerson, BoundsAdmitted, BoundsBase, BoundsCareFrom, IsBefore, IsTried, AreFloors, bed_cost};
+ghost use Rattle.ih_bound.specs.Least.{
+  BoundsPerson,
+  BoundsAdmitted,
+  BoundsBase,
+  BoundsCareFrom,
+  IsBefore,
+  IsTried,
+  AreFloors,
+  bed_cost,
+};
 
 use crate::demand::Demand;
 use crate::floors::Floors;
@@ -25,77 +34,78 @@ use ih_validate::{Resource, limit_of};
 const MOST_PAID: u64 = 1 << 50;
 
 // At most the price of a minute in each theatre that is available for so long on the day.
-fn theatre_price(inst: &Instance, prices: &Prices, d: u32, minutes: u32) -> u64
-    requires { d < inst.now.draft.days }
-    ensures { (i : ℕ) → i < theatre_count inst.now.draft → minutes ≤ theatre_availability inst.now.draft i d
-        → result ≤ price_in prices.now.theatre.items (inst.now.draft.days * i + d) (2 ^ 29) }
+fn theatre_price(inst: &Instance, prices: &Prices, day: u32, minutes: u32) -> u64
+    requires { day < inst.now.draft.days }
+    ensures { (i : ℕ) → i < theatre_count inst.now.draft → minutes ≤ theatre_availability inst.now.draft i day
+        → result ≤ price_in prices.now.theatre.items (inst.now.draft.days * i + day) (2 ^ 29) }
 {
     let mut least = u64::MAX;
     for t in 0..inst.theatres() {
-        if limit_of(inst, Resource::OfTheatre(TheatreNo(t)), d) >= minutes as u64 {
-            least = least.min(prices.theatre_on(inst.days(), t, d));
+        if limit_of(inst, Resource::OfTheatre(TheatreNo(t)), day) >= minutes as u64 {
+            least = least.min(prices.theatre_on(inst.days(), t, day));
         }
     }
     least
 }
 
 // At most what surgery on the day costs in each theatre that is available for long enough.
-fn surgery_cost(inst: &Instance, prices: &Prices, q: &Patient, d: u32) -> u64
-    requires day { d < inst.now.draft.days }
-    requires surgeon { q.now.surgeon_id.0 < surgeon_count inst.now.draft }
+fn surgery_cost(inst: &Instance, prices: &Prices, patient: &Patient, day: u32) -> u64
+    requires day { day < inst.now.draft.days }
+    requires surgeon { patient.now.surgeon_id.0 < surgeon_count inst.now.draft }
     ensures { (i : ℕ) → i < theatre_count inst.now.draft
-        → q.now.surgery_duration ≤ theatre_availability inst.now.draft i d
-        → q.now.surgery_duration ≤ surgeon_maximum inst.now.draft q.now.surgeon_id.0 d
-        → result ≤ q.now.surgery_duration * price_in prices.now.surgeon.items (inst.now.draft.days * q.now.surgeon_id.0 + d) (2 ^ 29)
-        + q.now.surgery_duration * price_in prices.now.theatre.items (inst.now.draft.days * i + d) (2 ^ 29) }
+        → patient.now.surgery_duration ≤ theatre_availability inst.now.draft i day
+        → patient.now.surgery_duration ≤ surgeon_maximum inst.now.draft patient.now.surgeon_id.0 day
+        → result ≤ patient.now.surgery_duration * price_in prices.now.surgeon.items
+        (inst.now.draft.days * patient.now.surgeon_id.0 + day) (2 ^ 29)
+        + patient.now.surgery_duration * price_in prices.now.theatre.items (inst.now.draft.days * i + day) (2 ^ 29) }
 {
-    let minutes = q.surgery_duration as u64;
-    if limit_of(inst, Resource::OfSurgeon(q.surgeon_id), d) < minutes {
+    let minutes = patient.surgery_duration as u64;
+    if limit_of(inst, Resource::OfSurgeon(patient.surgeon_id), day) < minutes {
         return u64::MAX;
     }
-    let surgeon = prices.surgeon_on(inst.days(), q.surgeon_id.0, d);
-    let theatre = theatre_price(inst, prices, d, q.surgery_duration);
+    let surgeon = prices.surgeon_on(inst.days(), patient.surgeon_id.0, day);
+    let theatre = theatre_price(inst, prices, day, patient.surgery_duration);
     minutes
         .saturating_mul(surgeon)
         .saturating_add(minutes.saturating_mul(theatre))
 }
 
 // At most what beds cost for so many days from a day on.
-fn bed_cost(inst: &Instance, prices: &Prices, rates: &Rates, a: u32, len: u32) -> u64
-    requires { a < inst.now.draft.days }
-    ensures { result ≤ bed_cost inst.now.draft (tariff_of inst.now.draft rates.now prices.now) a len }
+fn bed_cost(inst: &Instance, prices: &Prices, rates: &Rates, day: u32, len: u32) -> u64
+    requires { day < inst.now.draft.days }
+    ensures { result ≤ bed_cost inst.now.draft (tariff_of inst.now.draft rates.now prices.now) day len }
 {
-    let end = end_from(inst, a, len);
+    let end = end_from(inst, day, len);
     let mut sum: u64 = 0;
-    for d in a..end {
+    for d in day..end {
         sum = sum.saturating_add(prices.bed_on(d));
     }
     sum
 }
 
 // At most what a patient who is admitted on a day pays besides care.
-fn base_cost(inst: &Instance, rates: &Rates, prices: &Prices, p: PatientNo, a: u32) -> u64
-    requires patient { p.0 < patient_count inst.now.draft }
-    requires day { a < inst.now.draft.days }
-    ensures { BoundsBase inst.now.draft rates.now (tariff_of inst.now.draft rates.now prices.now) p.0 a result }
+fn base_cost(inst: &Instance, rates: &Rates, prices: &Prices, patient: PatientNo, day: u32) -> u64
+    requires patient { patient.0 < patient_count inst.now.draft }
+    requires day { day < inst.now.draft.days }
+    ensures { BoundsBase inst.now.draft rates.now (tariff_of inst.now.draft rates.now prices.now) patient.0 day result }
 {
-    let q = inst.patient(p);
+    let q = inst.patient(patient);
     let wait = rates
         .delay
-        .saturating_mul(a.saturating_sub(q.surgery_release_day) as u64);
-    let surgery = surgery_cost(inst, prices, q, a);
-    let beds = bed_cost(inst, prices, rates, a, q.length_of_stay);
+        .saturating_mul(day.saturating_sub(q.surgery_release_day) as u64);
+    let surgery = surgery_cost(inst, prices, q, day);
+    let beds = bed_cost(inst, prices, rates, day, q.length_of_stay);
     wait.saturating_add(surgery).saturating_add(beds)
 }
 
 /// The day after the last on which a patient may be admitted.
-pub fn window_end(inst: &Instance, p: PatientNo) -> u32
-    requires { p.0 < patient_count inst.now.draft }
+pub fn window_end(inst: &Instance, patient: PatientNo) -> u32
+    requires { patient.0 < patient_count inst.now.draft }
     ensures days { result ≤ inst.now.draft.days }
-    ensures window { (P : Timetable) (at : Placement) → IsFeasible inst.now.draft P → stay_of P p.0 ≡ Some at
+    ensures window { (P : Timetable) (at : Placement) → IsFeasible inst.now.draft P → stay_of P patient.0 ≡ Some at
         → at.day.0 < result }
 {
-    let q = inst.patient(p);
+    let q = inst.patient(patient);
     let days = inst.days();
     if q.mandatory {
         match q.surgery_due_day {
@@ -108,19 +118,19 @@ pub fn window_end(inst: &Instance, p: PatientNo) -> u32
 }
 
 // What a stay of so many days from a day on asks for.
-fn stay_from<'a>(inst: &Instance, skill: &'a [u32], load: &'a [u32], a: u32, len: u32) -> Stay<'a>
-    requires { a < inst.now.draft.days }
+fn stay_from<'a>(inst: &Instance, skill: &'a [u32], load: &'a [u32], day: u32, len: u32) -> Stay<'a>
+    requires { day < inst.now.draft.days }
     ensures lists { (result.skill.now ≡ skill.now) × (result.load.now ≡ load.now) }
-    ensures first { result.first ≡ 3 * a }
-    ensures last { result.last ≡ 3 * end_from inst.now.draft a len }
+    ensures first { result.first ≡ 3 * day }
+    ensures last { result.last ≡ 3 * end_from inst.now.draft day len }
     ensures order { result.first ≤ result.last }
     ensures horizon { result.last ≤ shift_count inst.now.draft }
 {
     Stay {
         skill,
         load,
-        first: 3 * a,
-        last: 3 * end_from(inst, a, len),
+        first: 3 * day,
+        last: 3 * end_from(inst, day, len),
     }
 }
 
@@ -129,18 +139,19 @@ pub fn patient_care(
     inst: &Instance,
     rates: &Rates,
     prices: &Prices,
-    p: PatientNo,
-    a: u32,
+    patient: PatientNo,
+    day: u32,
     scratch: &mut Scratch,
 ) -> u64
-    requires patient { p.0 < patient_count inst.now.draft }
-    requires day { a < inst.now.draft.days }
-    ensures { BoundsCareFrom inst.now.draft rates.now (tariff_of inst.now.draft rates.now prices.now) p.0 a result }
+    requires patient { patient.0 < patient_count inst.now.draft }
+    requires day { day < inst.now.draft.days }
+    ensures { BoundsCareFrom inst.now.draft rates.now
+        (tariff_of inst.now.draft rates.now prices.now) patient.0 day result }
 {
-    let q = inst.patient(p);
+    let q = inst.patient(patient);
     let skill = q.skill_level_required.as_slice();
     let load = q.workload_produced.as_slice();
-    let stay = stay_from(inst, skill, load, a, q.length_of_stay);
+    let stay = stay_from(inst, skill, load, day, q.length_of_stay);
     care(inst, rates, prices, &stay, scratch)
 }
 
@@ -150,28 +161,29 @@ fn lower_by(
     rates: &Rates,
     prices: &Prices,
     floors: &Floors,
-    p: PatientNo,
-    a: u32,
+    patient: PatientNo,
+    day: u32,
     so_far: u64,
     scratch: &mut Scratch,
 ) -> u64
     requires floors { AreFloors inst.now.draft rates.now floors.now.list.items }
-    requires patient { p.0 < patient_count inst.now.draft }
-    requires day { a < inst.now.draft.days }
+    requires patient { patient.0 < patient_count inst.now.draft }
+    requires day { day < inst.now.draft.days }
     ensures no_more { result ≤ so_far }
-    ensures day { (P : Timetable) (at : Placement) → IsFeasible inst.now.draft P → stay_of P p.0 ≡ Some at → at.day.0 ≡ a
-        → result ≤ paid inst.now.draft rates.now (tariff_of inst.now.draft rates.now prices.now) P p.0 }
+    ensures day { (P : Timetable) (at : Placement) → IsFeasible inst.now.draft P → stay_of P patient.0 ≡ Some at
+        → at.day.0 ≡ day
+        → result ≤ paid inst.now.draft rates.now (tariff_of inst.now.draft rates.now prices.now) P patient.0 }
 {
-    let base = base_cost(inst, rates, prices, p, a);
-    let floor = floors.of(inst, p, a);
+    let base = base_cost(inst, rates, prices, patient, day);
+    let floor = floors.of(inst, patient, day);
     if base.saturating_add(floor) >= so_far {
         return so_far;
     }
-    let care = patient_care(inst, rates, prices, p, a, scratch).max(floor);
-    scratch.numbered = Some(a);
+    let care = patient_care(inst, rates, prices, patient, day, scratch).max(floor);
+    scratch.numbered = Some(day);
     let all = base.saturating_add(care);
     if all < so_far {
-        scratch.day = Some(a);
+        scratch.day = Some(day);
         all
     } else {
         so_far
@@ -184,23 +196,24 @@ fn lower_first(
     rates: &Rates,
     prices: &Prices,
     floors: &Floors,
-    p: PatientNo,
+    patient: PatientNo,
     hint: Option<u32>,
     end: u32,
     so_far: u64,
     scratch: &mut Scratch,
 ) -> u64
     requires floors { AreFloors inst.now.draft rates.now floors.now.list.items }
-    requires patient { p.0 < patient_count inst.now.draft }
+    requires patient { patient.0 < patient_count inst.now.draft }
     requires end { end ≤ inst.now.draft.days }
     ensures no_more { result ≤ so_far }
-    ensures day { IsTried inst.now.draft rates.now (tariff_of inst.now.draft rates.now prices.now) p.0 end hint result }
+    ensures day { IsTried inst.now.draft rates.now
+        (tariff_of inst.now.draft rates.now prices.now) patient.0 end hint result }
 {
     match hint {
         None => so_far,
         Some(a) => {
             if a < end {
-                lower_by(inst, rates, prices, floors, p, a, so_far, scratch)
+                lower_by(inst, rates, prices, floors, patient, a, so_far, scratch)
             } else {
                 so_far
             }
@@ -214,24 +227,26 @@ fn lower_next(
     rates: &Rates,
     prices: &Prices,
     floors: &Floors,
-    p: PatientNo,
+    patient: PatientNo,
     hint: Option<u32>,
-    a: u32,
+    day: u32,
     so_far: u64,
     scratch: &mut Scratch,
 ) -> u64
     requires floors { AreFloors inst.now.draft rates.now floors.now.list.items }
-    requires patient { p.0 < patient_count inst.now.draft }
-    requires day { a < inst.now.draft.days }
-    requires tried { IsTried inst.now.draft rates.now (tariff_of inst.now.draft rates.now prices.now) p.0 (a + 1) hint so_far }
+    requires patient { patient.0 < patient_count inst.now.draft }
+    requires day { day < inst.now.draft.days }
+    requires tried { IsTried inst.now.draft rates.now (tariff_of inst.now.draft rates.now prices.now) patient.0 (day
+        + 1) hint so_far }
     ensures no_more { result ≤ so_far }
-    ensures day { (P : Timetable) (at : Placement) → IsFeasible inst.now.draft P → stay_of P p.0 ≡ Some at → at.day.0 ≡ a
-        → result ≤ paid inst.now.draft rates.now (tariff_of inst.now.draft rates.now prices.now) P p.0 }
+    ensures day { (P : Timetable) (at : Placement) → IsFeasible inst.now.draft P → stay_of P patient.0 ≡ Some at
+        → at.day.0 ≡ day
+        → result ≤ paid inst.now.draft rates.now (tariff_of inst.now.draft rates.now prices.now) P patient.0 }
 {
-    if hint == Some(a) {
+    if hint == Some(day) {
         so_far
     } else {
-        lower_by(inst, rates, prices, floors, p, a, so_far, scratch)
+        lower_by(inst, rates, prices, floors, patient, day, so_far, scratch)
     }
 }
 
@@ -241,34 +256,38 @@ fn least_admitted(
     rates: &Rates,
     prices: &Prices,
     floors: &Floors,
-    p: PatientNo,
+    patient: PatientNo,
     most: u64,
     scratch: &mut Scratch,
 ) -> u64
     requires floors { AreFloors inst.now.draft rates.now floors.now.list.items }
-    requires patient { p.0 < patient_count inst.now.draft }
+    requires patient { patient.0 < patient_count inst.now.draft }
     ensures no_more { result ≤ most }
-    ensures admitted { BoundsAdmitted inst.now.draft rates.now (tariff_of inst.now.draft rates.now prices.now) p.0
+    ensures admitted { BoundsAdmitted inst.now.draft rates.now (tariff_of inst.now.draft rates.now prices.now) patient.0
         (IsBefore inst.now.draft.days) result }
 {
-    let first = inst.patient(p).surgery_release_day;
-    let end = window_end(inst, p);
-    let hint = scratch.begin(p);
-    let mut least = lower_first(inst, rates, prices, floors, p, hint, end, most, scratch);
+    let first = inst.patient(patient).surgery_release_day;
+    let end = window_end(inst, patient);
+    let hint = scratch.begin(patient);
+    let mut least = lower_first(
+        inst, rates, prices, floors, patient, hint, end, most, scratch,
+    );
     for a in first..end {
-        least = lower_next(inst, rates, prices, floors, p, hint, a, least, scratch);
+        least = lower_next(
+            inst, rates, prices, floors, patient, hint, a, least, scratch,
+        );
     }
-    scratch.end(p);
+    scratch.end(patient);
     least
 }
 
 // At most what a patient pays who is left out.
-fn left_out_cost(inst: &Instance, rates: &Rates, p: PatientNo) -> u64
-    requires { p.0 < patient_count inst.now.draft }
-    ensures { (P : Timetable) (t : Tariff) → IsFeasible inst.now.draft P → stay_of P p.0 ≡ None
-        → result ≤ paid inst.now.draft rates.now t P p.0 }
+fn left_out_cost(inst: &Instance, rates: &Rates, patient: PatientNo) -> u64
+    requires { patient.0 < patient_count inst.now.draft }
+    ensures { (P : Timetable) (t : Tariff) → IsFeasible inst.now.draft P → stay_of P patient.0 ≡ None
+        → result ≤ paid inst.now.draft rates.now t P patient.0 }
 {
-    if inst.patient(p).mandatory {
+    if inst.patient(patient).mandatory {
         return MOST_PAID;
     }
     rates.left_out.min(MOST_PAID)
@@ -279,14 +298,14 @@ fn add_demand(
     inst: &Instance,
     rates: &Rates,
     prices: &Prices,
-    p: PatientNo,
+    patient: PatientNo,
     scratch: &mut Scratch,
     demand: &mut Demand,
 )
-    requires { p.0 < patient_count inst.now.draft }
+    requires { patient.0 < patient_count inst.now.draft }
 {
     let days = inst.days();
-    let q = inst.patient(p);
+    let q = inst.patient(patient);
     match scratch.day {
         Some(a) => {
             if a < days {
@@ -310,17 +329,17 @@ pub fn least_of_patient(
     rates: &Rates,
     prices: &Prices,
     floors: &Floors,
-    p: PatientNo,
+    patient: PatientNo,
     scratch: &mut Scratch,
     demand: &mut Demand,
 ) -> u64
     requires floors { AreFloors inst.now.draft rates.now floors.now.list.items }
-    requires patient { p.0 < patient_count inst.now.draft }
-    ensures { BoundsPerson inst.now.draft rates.now (tariff_of inst.now.draft rates.now prices.now) p.0 result }
+    requires patient { patient.0 < patient_count inst.now.draft }
+    ensures { BoundsPerson inst.now.draft rates.now (tariff_of inst.now.draft rates.now prices.now) patient.0 result }
 {
-    let most = left_out_cost(inst, rates, p);
-    let least = least_admitted(inst, rates, prices, floors, p, most, scratch);
-    add_demand(inst, rates, prices, p, scratch, demand);
+    let most = left_out_cost(inst, rates, patient);
+    let least = least_admitted(inst, rates, prices, floors, patient, most, scratch);
+    add_demand(inst, rates, prices, patient, scratch, demand);
     least
 }
 
@@ -329,16 +348,16 @@ pub fn least_of_occupant(
     inst: &Instance,
     rates: &Rates,
     prices: &Prices,
-    o: u32,
+    occupant: u32,
     scratch: &mut Scratch,
     demand: &mut Demand,
 ) -> u64
-    requires { o < occupant_count inst.now.draft }
+    requires { occupant < occupant_count inst.now.draft }
     ensures { BoundsPerson inst.now.draft rates.now (tariff_of inst.now.draft rates.now prices.now)
-        (patient_count inst.now.draft + o) result }
+        (patient_count inst.now.draft + occupant) result }
 {
     let _days = inst.days();
-    let q = inst.occupant(o);
+    let q = inst.occupant(occupant);
     let skill = q.skill_level_required.as_slice();
     let load = q.workload_produced.as_slice();
     let stay = stay_from(inst, skill, load, 0, q.length_of_stay);

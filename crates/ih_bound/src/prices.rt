@@ -40,10 +40,10 @@ pub struct Prices {
 
 /// What stands at a place of a list, and 0 past its end.
 #[inline(always)]
-pub fn at(list: &[u64], i: usize) -> u64
-    ensures { result ≡ slice_index list.now i }
+pub fn at(list: &[u64], index: usize) -> u64
+    ensures { result ≡ slice_index list.now index }
 {
-    match list.get(i) {
+    match list.get(index) {
         Some(x) => *x,
         None => 0,
     }
@@ -55,20 +55,20 @@ pub const MOST_FOR_BED: u64 = 1 << 36;
 pub const MOST_FOR_MINUTE: u64 = 1 << 29;
 
 // The weight of a cost.
-fn weight(inst: &Instance, k: usize) -> u64
-    requires { k < 8 }
-    ensures { result ≡ weight inst.now.draft k }
+fn weight(inst: &Instance, index: usize) -> u64
+    requires { index < 8 }
+    ensures { result ≡ weight inst.now.draft index }
 {
-    inst.weights().w[k].unsigned_abs()
+    inst.weights().w[index].unsigned_abs()
 }
 
 // The weight of a cost, in parts.
-fn rate(inst: &Instance, k: usize) -> u64
-    requires { k < 8 }
-    ensures value { result ≡ 4096 * weight inst.now.draft k }
+fn rate(inst: &Instance, index: usize) -> u64
+    requires { index < 8 }
+    ensures value { result ≡ 4096 * weight inst.now.draft index }
     ensures bound { result ≤ 409600000 }
 {
-    4096 * weight(inst, k)
+    4096 * weight(inst, index)
 }
 
 impl Rates {
@@ -133,43 +133,43 @@ impl Prices {
 
     /// The price of a bed on a day.
     #[inline(always)]
-    pub fn bed_on(&self, d: u32) -> u64
-        ensures { result ≡ price_in self.now.bed.items d (2 ^ 36) }
+    pub fn bed_on(&self, day: u32) -> u64
+        ensures { result ≡ price_in self.now.bed.items day (2 ^ 36) }
     {
-        at(self.bed.as_slice(), d as usize).min(MOST_FOR_BED)
+        at(self.bed.as_slice(), day as usize).min(MOST_FOR_BED)
     }
 
     /// The price of a surgeon's minute on a day.
     #[inline(always)]
-    pub fn surgeon_on(&self, days: u32, s: u32, d: u32) -> u64
-        ensures { result ≡ price_in self.now.surgeon.items (days * s + d) (2 ^ 29) }
+    pub fn surgeon_on(&self, days: u32, surgeon: u32, day: u32) -> u64
+        ensures { result ≡ price_in self.now.surgeon.items (days * surgeon + day) (2 ^ 29) }
     {
-        at(self.surgeon.as_slice(), place(days, s, d)).min(MOST_FOR_MINUTE)
+        at(self.surgeon.as_slice(), place(days, surgeon, day)).min(MOST_FOR_MINUTE)
     }
 
     /// The price of a theatre's minute on a day.
     #[inline(always)]
-    pub fn theatre_on(&self, days: u32, t: u32, d: u32) -> u64
-        ensures { result ≡ price_in self.now.theatre.items (days * t + d) (2 ^ 29) }
+    pub fn theatre_on(&self, days: u32, theatre: u32, day: u32) -> u64
+        ensures { result ≡ price_in self.now.theatre.items (days * theatre + day) (2 ^ 29) }
     {
-        at(self.theatre.as_slice(), place(days, t, d)).min(MOST_FOR_MINUTE)
+        at(self.theatre.as_slice(), place(days, theatre, day)).min(MOST_FOR_MINUTE)
     }
 
     /// The price of a unit of a nurse's workload in a shift, which is at most that of an overload.
     #[inline(always)]
-    pub fn work_in(&self, rates: &Rates, shifts: u32, n: u32, k: u32) -> u64
-        ensures { result ≡ price_in self.now.work.items (shifts * n + k) rates.now.load }
+    pub fn work_in(&self, rates: &Rates, shifts: u32, nurse: u32, shift: u32) -> u64
+        ensures { result ≡ price_in self.now.work.items (shifts * nurse + shift) rates.now.load }
     {
-        at(self.work.as_slice(), place(shifts, n, k)).min(rates.load)
+        at(self.work.as_slice(), place(shifts, nurse, shift)).min(rates.load)
     }
 }
 
 /// What it is worth to open a theatre, by minute of a day.
-pub fn opening(inst: &Instance, rates: &Rates, t: u32, d: u32) -> u64 {
-    if t >= inst.theatres() {
+pub fn opening(inst: &Instance, rates: &Rates, theatre: u32, day: u32) -> u64 {
+    if theatre >= inst.theatres() {
         return 0;
     }
-    let minutes = limit_of(inst, Resource::OfTheatre(TheatreNo(t)), d);
+    let minutes = limit_of(inst, Resource::OfTheatre(TheatreNo(theatre)), day);
     if minutes == 0 {
         0
     } else {
@@ -177,10 +177,10 @@ pub fn opening(inst: &Instance, rates: &Rates, t: u32, d: u32) -> u64 {
     }
 }
 
-/// Where entry `j` of row `i` stands.
+/// Where entry `column` of row `row` stands.
 #[inline(always)]
-pub fn place(width: u32, i: u32, j: u32) -> usize
-    ensures { result ≡ width * i + j }
+pub fn place(width: u32, row: u32, column: u32) -> usize
+    ensures { result ≡ width * row + column }
 {
-    width as usize * i as usize + j as usize
+    width as usize * row as usize + column as usize
 }

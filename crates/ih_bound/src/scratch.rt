@@ -55,10 +55,10 @@ impl Scratch {
     }
 
     /// Begins with a patient: the day on which it paid least before, where one is known.
-    pub fn begin(&mut self, p: PatientNo) -> Option<u32> {
+    pub fn begin(&mut self, patient: PatientNo) -> Option<u32> {
         self.day = None;
         self.numbered = None;
-        match self.hints.get(p.0 as usize) {
+        match self.hints.get(patient.0 as usize) {
             Some(0) => None,
             Some(after) => Some((*after - 1).min(1000) as u32),
             None => None,
@@ -66,12 +66,12 @@ impl Scratch {
     }
 
     /// Ends with a patient.
-    pub fn end(&mut self, p: PatientNo) {
+    pub fn end(&mut self, patient: PatientNo) {
         let hint = match self.day {
             Some(day) => day as u64 + 1,
             None => 0,
         };
-        if let Some(x) = self.hints.get_mut(p.0 as usize) {
+        if let Some(x) = self.hints.get_mut(patient.0 as usize) {
             *x = hint;
         }
     }

@@ -23,10 +23,10 @@ pub struct Stay<'a> {
 
 /// What stands at a place of a list, and 0 past its end.
 #[inline(always)]
-pub fn need_at(list: &[u32], i: u32) -> u32
-    ensures { result ≡ slice_index list.now i }
+pub fn need_at(list: &[u32], index: u32) -> u32
+    ensures { result ≡ slice_index list.now index }
 {
-    match list.get(i as usize) {
+    match list.get(index as usize) {
         Some(x) => *x,
         None => 0,
     }
@@ -39,17 +39,18 @@ pub fn care_price(
     rates: &Rates,
     prices: &Prices,
     stay: &Stay<'_>,
-    n: NurseNo,
-    k: u32,
+    nurse: NurseNo,
+    shift: u32,
 ) -> u64
-    requires nurse { n.0 < nurse_count inst.now.draft }
-    requires shift { stay.now.first ≤ k }
+    requires nurse { nurse.0 < nurse_count inst.now.draft }
+    requires shift { stay.now.first ≤ shift }
     ensures { result ≤ care_price inst.now.draft rates.now (tariff_of inst.now.draft rates.now prices.now)
-        (slice_index stay.now.skill.now (k - stay.now.first)) (slice_index stay.now.load.now (k - stay.now.first)) k n.0 }
+        (slice_index stay.now.skill.now (shift - stay.now.first)) (slice_index stay.now.load.now (shift
+        - stay.now.first)) shift nurse.0 }
 {
-    let j = k - stay.first;
-    let missing = need_at(stay.skill, j).saturating_sub(inst.nurse(n).skill_level);
-    let work = prices.work_in(rates, inst.shifts(), n.0, k);
+    let j = shift - stay.first;
+    let missing = need_at(stay.skill, j).saturating_sub(inst.nurse(nurse).skill_level);
+    let work = prices.work_in(rates, inst.shifts(), nurse.0, shift);
     rates
         .skill
         .saturating_mul(missing as u64)
@@ -60,10 +61,10 @@ const MOST_NUMBER: u64 = 1 << 50;
 
 // The number of a shift, kept in range.
 #[inline(always)]
-fn number(numbers: &[u64], k: u32) -> u64
-    ensures { result ≡ min (slice_index numbers.now k) (2 ^ 50) }
+fn number(numbers: &[u64], shift: u32) -> u64
+    ensures { result ≡ min (slice_index numbers.now shift) (2 ^ 50) }
 {
-    at(numbers, k as usize).min(MOST_NUMBER)
+    at(numbers, shift as usize).min(MOST_NUMBER)
 }
 
 // By how much a shift's number is above what care by a nurse costs, where the nurse works then.
@@ -74,20 +75,22 @@ fn spared_in(
     prices: &Prices,
     stay: &Stay<'_>,
     numbers: &[u64],
-    n: NurseNo,
-    k: u32,
+    nurse: NurseNo,
+    shift: u32,
 ) -> u64
-    requires nurse { n.0 < nurse_count inst.now.draft }
-    requires first { stay.now.first ≤ k }
-    requires last { k < stay.now.last }
+    requires nurse { nurse.0 < nurse_count inst.now.draft }
+    requires first { stay.now.first ≤ shift }
+    requires last { shift < stay.now.last }
     requires horizon { stay.now.last ≤ shift_count inst.now.draft }
     ensures least { spared_in inst.now.draft rates.now (tariff_of inst.now.draft rates.now prices.now)
-        (asked stay.now.skill.now stay.now.load.now stay.now.first stay.now.last) numbers.now n.0 k ≤ result }
+        (asked stay.now.skill.now stay.now.load.now stay.now.first stay.now.last) numbers.now nurse.0 shift ≤ result }
     ensures most { result ≤ 2 ^ 50 }
 {
-    match inst.works(n, Shift(k)) {
+    match inst.works(nurse, Shift(shift)) {
         None => 0,
-        Some(_) => number(numbers, k).saturating_sub(care_price(inst, rates, prices, stay, n, k)),
+        Some(_) => number(numbers, shift).saturating_sub(care_price(
+            inst, rates, prices, stay, nurse, shift,
+        )),
     }
 }
 
@@ -98,18 +101,18 @@ fn spared(
     prices: &Prices,
     stay: &Stay<'_>,
     numbers: &[u64],
-    n: NurseNo,
+    nurse: NurseNo,
 ) -> u64
-    requires nurse { n.0 < nurse_count inst.now.draft }
+    requires nurse { nurse.0 < nurse_count inst.now.draft }
     requires order { stay.now.first ≤ stay.now.last }
     requires horizon { stay.now.last ≤ shift_count inst.now.draft }
     ensures { sum_below (shift_count inst.now.draft) (spared_in inst.now.draft rates.now
         (tariff_of inst.now.draft rates.now prices.now)
-        (asked stay.now.skill.now stay.now.load.now stay.now.first stay.now.last) numbers.now n.0) ≤ result }
+        (asked stay.now.skill.now stay.now.load.now stay.now.first stay.now.last) numbers.now nurse.0) ≤ result }
 {
     let mut sum = 0;
     for k in stay.first..stay.last {
-        sum += spared_in(inst, rates, prices, stay, numbers, n, k);
+        sum += spared_in(inst, rates, prices, stay, numbers, nurse, k);
     }
     sum
 }

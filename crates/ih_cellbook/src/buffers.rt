@@ -45,10 +45,10 @@ impl<E: Logged> Buffer<E> {
     }
 
     /// Sets the place from which the next copy is wanted.
-    pub fn set_from(&mut self, n: u32)
-        ensures { self.new ≡ record self.old { from = n } }
+    pub fn set_from(&mut self, number: u32)
+        ensures { self.new ≡ record self.old { from = number } }
     {
-        self.from = n;
+        self.from = number;
     }
 
     /// The place of the first entry.

@@ -13,16 +13,16 @@ use ih_plan::Move;
 use itoa::Buffer;
 use std::alloc::{AllocError, Global};
 
-fn heading_made(alloc: Global, o: &Options, length: u32) -> Result<String, AllocError>
-    ensures { IfOk result (λ s. string_bytes s ≡ ended (chain_heading o.now length)) }
+fn heading_made(alloc: Global, options: &Options, length: u32) -> Result<String, AllocError>
+    ensures { IfOk result (λ s. string_bytes s ≡ ended (chain_heading options.now length)) }
 {
     let mut made = String::with_capacity(alloc, 128)?;
     made.push_str("ihchain 1")?;
-    put_option(&mut made, "seed", o.seed)?;
-    put_option(&mut made, "workers", o.workers as u64)?;
-    put_option(&mut made, "moves", o.moves as u64)?;
-    put_option(&mut made, "heat", o.heat as u64)?;
-    put_option(&mut made, "hard", o.hard as u64)?;
+    put_option(&mut made, "seed", options.seed)?;
+    put_option(&mut made, "workers", options.workers as u64)?;
+    put_option(&mut made, "moves", options.moves as u64)?;
+    put_option(&mut made, "heat", options.heat as u64)?;
+    put_option(&mut made, "hard", options.hard as u64)?;
     put_option(&mut made, "length", length as u64)?;
     made.push_str("\n")?;
     Ok(made)
@@ -31,11 +31,11 @@ fn heading_made(alloc: Global, o: &Options, length: u32) -> Result<String, Alloc
 /// Appends the heading of a journal of chains of this length, with its line feed. Where memory runs out, `out` holds
 /// what it held, followed by a prefix of that line.
 #[tactic(auto, using(ih_journal::proofs::Parts::part_none))]
-pub fn chain_head_line(o: &Options, length: u32, out: &mut Vec<u8>) -> Result<(), AllocError>
-    ensures ok { OnOk result (out.new.items ≡ out.old.items ++ ended (chain_heading o.now length)) }
-    ensures err { OnErr result (IsPart out.old.items out.new.items (ended (chain_heading o.now length))) }
+pub fn chain_head_line(options: &Options, length: u32, out: &mut Vec<u8>) -> Result<(), AllocError>
+    ensures ok { OnOk result (out.new.items ≡ out.old.items ++ ended (chain_heading options.now length)) }
+    ensures err { OnErr result (IsPart out.old.items out.new.items (ended (chain_heading options.now length))) }
 {
-    let made = heading_made(*out.allocator(), o, length)?;
+    let made = heading_made(*out.allocator(), options, length)?;
     out.extend_from_slice(made.as_bytes())
 }
 
@@ -65,10 +65,10 @@ pub fn chain_text(chain: &Chain, out: &mut Vec<u8>) -> Result<(), AllocError>
 }
 
 // Appends a number with a space behind it.
-fn put_field(n: u32, out: &mut Vec<u8>) -> Result<(), AllocError>
-    ensures { OnOk result (out.new.items ≡ out.old.items ++ (decimal n ++ 32 ∷ [])) }
+fn put_field(number: u32, out: &mut Vec<u8>) -> Result<(), AllocError>
+    ensures { OnOk result (out.new.items ≡ out.old.items ++ (decimal number ++ 32 ∷ [])) }
 {
-    out.extend_from_slice(Buffer::new().format(n).as_bytes())?;
+    out.extend_from_slice(Buffer::new().format(number).as_bytes())?;
     out.extend_from_slice(b" ")
 }
 

@@ -45,57 +45,57 @@ impl CellLedgers {
     }
 
     // Takes out a patient, where admitted.
-    fn take_out(&mut self, inst: &Instance, p: PatientNo)
+    fn take_out(&mut self, inst: &Instance, patient: PatientNo)
         requires stands { AreLedgers inst.now.draft self.old }
-        requires patient { p.0 < patient_count inst.now.draft }
-        ensures { AreLedgersOf inst.now.draft (put (SetStay p None) (timetable_of self.old)) self.new }
+        requires patient { patient.0 < patient_count inst.now.draft }
+        ensures { AreLedgersOf inst.now.draft (put (SetStay patient None) (timetable_of self.old)) self.new }
     {
-        if let Some(at) = self.plan().stay(p) {
-            self.room_days.leave(inst, p, at);
-            self.theatres.leave(inst, p, at);
-            self.nurses.leave(inst, p, at);
+        if let Some(at) = self.plan().stay(patient) {
+            self.room_days.leave(inst, patient, at);
+            self.theatres.leave(inst, patient, at);
+            self.nurses.leave(inst, patient, at);
         }
     }
 
     // Admits a patient who isn't admitted, where there is a placement.
-    fn bring_in(&mut self, inst: &Instance, p: PatientNo, stay: Option<Placement>)
+    fn bring_in(&mut self, inst: &Instance, patient: PatientNo, stay: Option<Placement>)
         requires stands { AreLedgers inst.now.draft self.old }
-        requires patient { p.0 < patient_count inst.now.draft }
+        requires patient { patient.0 < patient_count inst.now.draft }
         requires placement { (at : Placement) → stay ≡ Some at → IsPlacement inst.now.draft at }
-        requires out { stay_of (timetable_of self.old) p.0 ≡ None }
-        ensures { AreLedgersOf inst.now.draft (put (SetStay p stay) (timetable_of self.old)) self.new }
+        requires out { stay_of (timetable_of self.old) patient.0 ≡ None }
+        ensures { AreLedgersOf inst.now.draft (put (SetStay patient stay) (timetable_of self.old)) self.new }
     {
         if let Some(at) = stay {
-            self.room_days.enter(inst, p, at);
-            self.theatres.enter(inst, p, at);
-            self.nurses.enter(inst, p, at);
+            self.room_days.enter(inst, patient, at);
+            self.theatres.enter(inst, patient, at);
+            self.nurses.enter(inst, patient, at);
         }
     }
 
-    fn set_stay(&mut self, inst: &Instance, p: PatientNo, stay: Option<Placement>)
+    fn set_stay(&mut self, inst: &Instance, patient: PatientNo, stay: Option<Placement>)
         requires stands { AreLedgers inst.now.draft self.old }
-        requires write { IsWriteOf inst.now.draft (SetStay p stay) }
-        ensures { AreLedgersOf inst.now.draft (put (SetStay p stay) (timetable_of self.old)) self.new }
+        requires write { IsWriteOf inst.now.draft (SetStay patient stay) }
+        ensures { AreLedgersOf inst.now.draft (put (SetStay patient stay) (timetable_of self.old)) self.new }
     {
-        self.take_out(inst, p);
-        self.bring_in(inst, p, stay);
+        self.take_out(inst, patient);
+        self.bring_in(inst, patient, stay);
     }
 
-    fn set_care(&mut self, inst: &Instance, r: RoomNo, k: Shift, n: Option<NurseNo>)
+    fn set_care(&mut self, inst: &Instance, room: RoomNo, shift: Shift, nurse: Option<NurseNo>)
         requires stands { AreLedgers inst.now.draft self.old }
-        requires write { IsWriteOf inst.now.draft (SetCare r k n) }
-        ensures { AreLedgersOf inst.now.draft (put (SetCare r k n) (timetable_of self.old)) self.new }
+        requires write { IsWriteOf inst.now.draft (SetCare room shift nurse) }
+        ensures { AreLedgersOf inst.now.draft (put (SetCare room shift nurse) (timetable_of self.old)) self.new }
     {
-        self.nurses.set_care(inst, r, k, n);
+        self.nurses.set_care(inst, room, shift, nurse);
     }
 
     /// Makes a write.
-    pub fn put(&mut self, inst: &Instance, w: &Write)
+    pub fn put(&mut self, inst: &Instance, write: &Write)
         requires stands { AreLedgers inst.now.draft self.old }
-        requires write { IsWriteOf inst.now.draft w.now }
-        ensures { AreLedgersOf inst.now.draft (put w.now (timetable_of self.old)) self.new }
+        requires write { IsWriteOf inst.now.draft write.now }
+        ensures { AreLedgersOf inst.now.draft (put write.now (timetable_of self.old)) self.new }
     {
-        match *w {
+        match *write {
             Write::SetStay(p, stay) => self.set_stay(inst, p, stay),
             Write::SetCare(r, k, n) => self.set_care(inst, r, k, n),
         }

@@ -10,17 +10,23 @@ use ih_tables::{Bill, Instance, NurseNo, RoomNo, Shift};
 
 impl CellLedgers {
     /// What another choice of nurse for a room's shift, or none, changes in the bill. It isn't made.
-    pub fn choice_price(&self, inst: &Instance, r: RoomNo, k: Shift, new: Option<NurseNo>) -> Bill
+    pub fn choice_price(
+        &self,
+        inst: &Instance,
+        room: RoomNo,
+        shift: Shift,
+        new: Option<NurseNo>,
+    ) -> Bill
         requires stands { AreLedgers inst.now.draft self.now }
-        requires write { IsWriteOf inst.now.draft (SetCare r k new) }
+        requires write { IsWriteOf inst.now.draft (SetCare room shift new) }
         ensures { result ≡ change_of_bill inst.now.draft (timetable_of self.now)
-            (put (SetCare r k new) (timetable_of self.now)) }
+            (put (SetCare room shift new) (timetable_of self.now)) }
     {
-        let old = self.plan().care(r, k);
+        let old = self.plan().care(room, shift);
         if new == old {
             return Bill::zero();
         }
-        let delta = self.nurses.choice_delta(inst, r, k, new);
+        let delta = self.nurses.choice_delta(inst, room, shift, new);
         Bill {
             v: [0, 0, 0, 0, 0, 0, 0, delta.off, delta.uncovered],
             s: [

@@ -23,20 +23,20 @@ fn copy_stays(inst: &Instance, ledgers: &mut CellLedgers, plan: &Plan)
 }
 
 // The nurses of a room, where those of the rooms before it are there.
-fn copy_room(inst: &Instance, ledgers: &mut CellLedgers, plan: &Plan, r: RoomNo)
+fn copy_room(inst: &Instance, ledgers: &mut CellLedgers, plan: &Plan, room: RoomNo)
     requires stands { AreLedgers inst.now.draft ledgers.old }
     requires plan { IsPlanOf inst.now.draft plan.now }
-    requires room { r.0 < room_count inst.now.draft }
-    requires before { take (shift_count inst.now.draft * r.0) (timetable_of ledgers.old).cares
-        ≡ take (shift_count inst.now.draft * r.0) plan.now.cares }
+    requires room { room.0 < room_count inst.now.draft }
+    requires before { take (shift_count inst.now.draft * room.0) (timetable_of ledgers.old).cares
+        ≡ take (shift_count inst.now.draft * room.0) plan.now.cares }
     ensures stands { AreLedgers inst.now.draft ledgers.new }
     ensures stays { (timetable_of ledgers.new).stays ≡ (timetable_of ledgers.old).stays }
-    ensures cares { take (shift_count inst.now.draft * (r.0 + 1)) (timetable_of ledgers.new).cares
-        ≡ take (shift_count inst.now.draft * (r.0 + 1)) plan.now.cares }
+    ensures cares { take (shift_count inst.now.draft * (room.0 + 1)) (timetable_of ledgers.new).cares
+        ≡ take (shift_count inst.now.draft * (room.0 + 1)) plan.now.cares }
 {
     for k in 0..inst.shifts() {
         let k = Shift(k);
-        ledgers.put(inst, &Write::SetCare(r, k, plan.care(r, k)));
+        ledgers.put(inst, &Write::SetCare(room, k, plan.care(room, k)));
     }
 }
 

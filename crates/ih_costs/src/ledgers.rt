@@ -2,9 +2,9 @@
 
 use crate::cell_ledgers::CellLedgers;
 use crate::copies::copy_plan;
-use crate::feet::foot_of;
+use crate::footprints::foot_of;
 use crate::pricing::{expand_here, price_of, price_of_write, put_all};
-use crate::row_feet::gather_behind;
+use crate::row_footprints::gather_behind;
 use crate::row_prices::change_behind;
 use crate::scratch::Scratch;
 use crate::series::{play_in_row, play_in_row_noting};
@@ -91,12 +91,12 @@ impl<'a> Ledgers<'a> {
     }
 
     /// Whether somebody is in a room on a day.
-    pub fn is_occupied(&self, r: RoomNo, d: Day) -> bool
-        requires room { r.0 < room_count self.now.instance }
-        requires day { d.0 < self.now.instance.days }
-        ensures { result ≡ not (is_empty (present self.now.instance self.now.plan r.0 d.0)) }
+    pub fn is_occupied(&self, room: RoomNo, day: Day) -> bool
+        requires room { room.0 < room_count self.now.instance }
+        requires day { day.0 < self.now.instance.days }
+        ensures { result ≡ not (is_empty (present self.now.instance self.now.plan room.0 day.0)) }
     {
-        self.cells.room_days.count(r, d) > 0
+        self.cells.room_days.count(room, day) > 0
     }
 
     /// The bill of the whole timetable, summed over all of it. Each number is at most 10^11.
@@ -108,11 +108,11 @@ impl<'a> Ledgers<'a> {
     }
 
     /// A cell's part of that bill: the parts of all cells sum to it, number by number.
-    pub fn part(&self, c: Cell) -> Bill
-        requires { IsCellOf self.now.instance c }
-        ensures { result ≡ as_bill (part_at self.now.instance self.now.plan c) }
+    pub fn part(&self, cell: Cell) -> Bill
+        requires { IsCellOf self.now.instance cell }
+        ensures { result ≡ as_bill (part_at self.now.instance self.now.plan cell) }
     {
-        self.cells.part(self.inst, c)
+        self.cells.part(self.inst, cell)
     }
 
     /// Makes the ledgers stand for a timetable, which fits the instance, in place of theirs. In time of the whole
@@ -125,20 +125,20 @@ impl<'a> Ledgers<'a> {
     }
 
     /// Makes a write.
-    pub fn put(&mut self, w: &Write)
-        requires { IsWriteOf self.old.instance w.now }
-        ensures { self.new ≡ record self.old { plan = put w.now self.old.plan } }
+    pub fn put(&mut self, write: &Write)
+        requires { IsWriteOf self.old.instance write.now }
+        ensures { self.new ≡ record self.old { plan = put write.now self.old.plan } }
     {
-        self.cells.put(self.inst, w);
+        self.cells.put(self.inst, write);
     }
 
     /// What a write would add to the bill, number by number: each is at most 10^11 in magnitude. It isn't made.
-    pub fn price_write(&self, w: &Write) -> Bill
-        requires { IsWriteOf self.now.instance w.now }
-        ensures price { result ≡ change_of_bill self.now.instance self.now.plan (put w.now self.now.plan) }
+    pub fn price_write(&self, write: &Write) -> Bill
+        requires { IsWriteOf self.now.instance write.now }
+        ensures price { result ≡ change_of_bill self.now.instance self.now.plan (put write.now self.now.plan) }
         ensures within { IsWithin (10 ^ 11) result }
     {
-        price_of_write(self.inst, &self.cells, w)
+        price_of_write(self.inst, &self.cells, write)
     }
 
     /// Makes a move.

@@ -5,12 +5,12 @@
 mod cell_ledgers;
 mod choice_prices;
 mod copies;
-mod feet;
+mod footprints;
 mod laws;
 mod ledgers;
 mod parts;
 mod pricing;
-mod row_feet;
+mod row_footprints;
 mod row_prices;
 mod scratch;
 mod series;

@@ -10,21 +10,21 @@ use crate::stays::stay_bill;
 use ih_tables::{Bill, Cell, Instance, PatientNo};
 
 impl CellLedgers {
-    fn stay_part(&self, inst: &Instance, p: PatientNo) -> Bill
+    fn stay_part(&self, inst: &Instance, patient: PatientNo) -> Bill
         requires stands { AreLedgers inst.now.draft self.now }
-        requires patient { p.0 < patient_count inst.now.draft }
-        ensures { result ≡ as_bill (part_at inst.now.draft (timetable_of self.now) (Stay p)) }
+        requires patient { patient.0 < patient_count inst.now.draft }
+        ensures { result ≡ as_bill (part_at inst.now.draft (timetable_of self.now) (Stay patient)) }
     {
-        stay_bill(inst.patient(p), self.plan().stay(p))
+        stay_bill(inst.patient(patient), self.plan().stay(patient))
     }
 
     /// A cell's part of the bill: the bills of all cells sum to that of the timetable.
-    pub fn part(&self, inst: &Instance, c: Cell) -> Bill
+    pub fn part(&self, inst: &Instance, cell: Cell) -> Bill
         requires stands { AreLedgers inst.now.draft self.now }
-        requires cell { IsCellOf inst.now.draft c }
-        ensures { result ≡ as_bill (part_at inst.now.draft (timetable_of self.now) c) }
+        requires cell { IsCellOf inst.now.draft cell }
+        ensures { result ≡ as_bill (part_at inst.now.draft (timetable_of self.now) cell) }
     {
-        match c {
+        match cell {
             Cell::Stay(p) => self.stay_part(inst, p),
             Cell::RoomDay(r, d) => self.room_days.cell_bill(inst, r, d),
             Cell::TheatreDay(t, d) => self.theatres.theatre_bill(inst, t, d),

@@ -26,12 +26,12 @@ pub fn expand_here(inst: &Instance, ledgers: &CellLedgers, mv: &Move, writes: &m
 }
 
 // The write that brings back what a write replaces.
-fn undo_of(inst: &Instance, plan: &Plan, w: &Write) -> Write
+fn undo_of(inst: &Instance, plan: &Plan, write: &Write) -> Write
     requires plan { IsPlanOf inst.now.draft plan.now }
-    requires write { IsWriteOf inst.now.draft w.now }
-    ensures { result ≡ undo_of plan.now w.now }
+    requires write { IsWriteOf inst.now.draft write.now }
+    ensures { result ≡ undo_of plan.now write.now }
 {
-    match *w {
+    match *write {
         Write::SetStay(p, _) => Write::SetStay(p, plan.stay(p)),
         Write::SetCare(r, k, _) => Write::SetCare(r, k, plan.care(r, k)),
     }
@@ -39,15 +39,15 @@ fn undo_of(inst: &Instance, plan: &Plan, w: &Write) -> Write
 
 /// Makes a write, and tells the one that takes it back.
 #[inline(always)]
-pub fn put_for_now(inst: &Instance, ledgers: &mut CellLedgers, w: &Write) -> Write
+pub fn put_for_now(inst: &Instance, ledgers: &mut CellLedgers, write: &Write) -> Write
     requires stands { AreLedgers inst.now.draft ledgers.old }
-    requires write { IsWriteOf inst.now.draft w.now }
-    ensures stands { AreLedgersOf inst.now.draft (put w.now (timetable_of ledgers.old)) ledgers.new }
-    ensures undo { result ≡ undo_of (timetable_of ledgers.old) w.now }
+    requires write { IsWriteOf inst.now.draft write.now }
+    ensures stands { AreLedgersOf inst.now.draft (put write.now (timetable_of ledgers.old)) ledgers.new }
+    ensures undo { result ≡ undo_of (timetable_of ledgers.old) write.now }
     ensures fits { IsWriteOf inst.now.draft result }
 {
-    let undo = undo_of(inst, ledgers.plan(), w);
-    ledgers.put(inst, w);
+    let undo = undo_of(inst, ledgers.plan(), write);
+    ledgers.put(inst, write);
     undo
 }
 
@@ -63,14 +63,14 @@ pub fn put_all(inst: &Instance, ledgers: &mut CellLedgers, writes: &[Write])
 }
 
 /// What a write changes in the bill. It isn't made, and its cells aren't listed.
-pub fn price_of_write(inst: &Instance, ledgers: &CellLedgers, w: &Write) -> Bill
+pub fn price_of_write(inst: &Instance, ledgers: &CellLedgers, write: &Write) -> Bill
     requires stands { AreLedgers inst.now.draft ledgers.now }
-    requires write { IsWriteOf inst.now.draft w.now }
+    requires write { IsWriteOf inst.now.draft write.now }
     ensures price { result
-        ≡ change_of_bill inst.now.draft (timetable_of ledgers.now) (put w.now (timetable_of ledgers.now)) }
+        ≡ change_of_bill inst.now.draft (timetable_of ledgers.now) (put write.now (timetable_of ledgers.now)) }
     ensures within { IsWithin (10 ^ 11) result }
 {
-    match *w {
+    match *write {
         Write::SetStay(p, stay) => ledgers.stay_price(inst, p, stay),
         Write::SetCare(r, k, n) => ledgers.choice_price(inst, r, k, n),
     }
@@ -78,20 +78,20 @@ pub fn price_of_write(inst: &Instance, ledgers: &CellLedgers, w: &Write) -> Bill
 
 // What writes change in the bill, the first of them and the rest. Each but the last is made, so that the next is priced
 // behind it, and taken back.
-fn change_in_turn(inst: &Instance, ledgers: &mut CellLedgers, w: &Write, rest: &[Write]) -> Bill
+fn change_in_turn(inst: &Instance, ledgers: &mut CellLedgers, write: &Write, rest: &[Write]) -> Bill
     requires stands { AreLedgers inst.now.draft ledgers.old }
-    requires write { IsWriteOf inst.now.draft w.now }
+    requires write { IsWriteOf inst.now.draft write.now }
     requires writes { AreWritesOf inst.now.draft rest.now }
     ensures stands { AreLedgersOf inst.now.draft (timetable_of ledgers.old) ledgers.new }
     ensures change { result
         ≡ change_of_bill inst.now.draft (timetable_of ledgers.old)
-        (put_all (w.now ∷ rest.now) (timetable_of ledgers.old)) }
+        (put_all (write.now ∷ rest.now) (timetable_of ledgers.old)) }
 {
-    let here = price_of_write(inst, ledgers, w);
+    let here = price_of_write(inst, ledgers, write);
     match rest.split_first() {
         None => here,
         Some((next, later)) => {
-            let undo = put_for_now(inst, ledgers, w);
+            let undo = put_for_now(inst, ledgers, write);
             let further = change_in_turn(inst, ledgers, next, later);
             ledgers.put(inst, &undo);
             here.add(&further)

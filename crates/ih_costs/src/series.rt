@@ -7,7 +7,7 @@ ghost use Rattle.ih_plan.specs.Series.{AreMoves, after_all, all_touch};
 ghost use Rattle.ih_costs.specs.CellLedgers.{AreLedgers, AreLedgersOf, timetable_of};
 
 use crate::cell_ledgers::CellLedgers;
-use crate::feet::gather_move;
+use crate::footprints::gather_move;
 use crate::pricing::{expand_here, put_all};
 use crate::scratch::Scratch;
 use ih_footprint::CellList;

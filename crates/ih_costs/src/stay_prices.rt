@@ -167,56 +167,83 @@ impl CellLedgers {
     fn delta_of_stay(
         &self,
         inst: &Instance,
-        p: PatientNo,
+        patient: PatientNo,
         old: Option<Placement>,
         stay: Option<Placement>,
     ) -> Bill
         requires stands { AreLedgers inst.now.draft self.now }
-        requires write { IsWriteOf inst.now.draft (SetStay p stay) }
-        requires old_stay { stay_of (timetable_of self.now) p.0 ≡ old }
-        ensures delta { result ≡ stay_delta inst.now.draft (timetable_of self.now) p stay }
+        requires write { IsWriteOf inst.now.draft (SetStay patient stay) }
+        requires old_stay { stay_of (timetable_of self.now) patient.0 ≡ old }
+        ensures delta { result ≡ stay_delta inst.now.draft (timetable_of self.now) patient stay }
         ensures within { IsWithin (10 ^ 11) result }
     {
         match stay {
             None => Bill::zero(),
-            Some(at) => self.delta(inst, &Trial { p, old, at }),
+            Some(at) => self.delta(
+                inst,
+                &Trial {
+                    p: patient,
+                    old,
+                    at,
+                },
+            ),
         }
     }
 
     // What another theatre changes in the bill: the patient keeps the room and the day of the stay so far, `from`.
-    fn theatre_price(&self, inst: &Instance, p: PatientNo, from: Placement, to: Placement) -> Bill
+    fn theatre_price(
+        &self,
+        inst: &Instance,
+        patient: PatientNo,
+        from: Placement,
+        to: Placement,
+    ) -> Bill
         requires stands { AreLedgers inst.now.draft self.now }
-        requires write { IsWriteOf inst.now.draft (SetStay p (Some to)) }
-        requires stay { stay_of (timetable_of self.now) p.0 ≡ Some from }
+        requires write { IsWriteOf inst.now.draft (SetStay patient (Some to)) }
+        requires stay { stay_of (timetable_of self.now) patient.0 ≡ Some from }
         requires room { to.room ≡ from.room }
         requires day { to.day ≡ from.day }
         ensures { result ≡ change_of_bill inst.now.draft (timetable_of self.now)
-            (put (SetStay p (Some to)) (timetable_of self.now)) }
+            (put (SetStay patient (Some to)) (timetable_of self.now)) }
     {
         let old = Some(from);
-        let after = self.surgery_delta(inst, &Trial { p, old, at: to });
-        let before = self.surgery_delta(inst, &Trial { p, old, at: from });
+        let after = self.surgery_delta(
+            inst,
+            &Trial {
+                p: patient,
+                old,
+                at: to,
+            },
+        );
+        let before = self.surgery_delta(
+            inst,
+            &Trial {
+                p: patient,
+                old,
+                at: from,
+            },
+        );
         after.sub(&before)
     }
 
     /// What another stay of a patient, or none, changes in the bill. It isn't made.
-    pub fn stay_price(&self, inst: &Instance, p: PatientNo, new: Option<Placement>) -> Bill
+    pub fn stay_price(&self, inst: &Instance, patient: PatientNo, new: Option<Placement>) -> Bill
         requires stands { AreLedgers inst.now.draft self.now }
-        requires write { IsWriteOf inst.now.draft (SetStay p new) }
+        requires write { IsWriteOf inst.now.draft (SetStay patient new) }
         ensures { result ≡ change_of_bill inst.now.draft (timetable_of self.now)
-            (put (SetStay p new) (timetable_of self.now)) }
+            (put (SetStay patient new) (timetable_of self.now)) }
     {
-        let old = self.plan().stay(p);
+        let old = self.plan().stay(patient);
         if new == old {
             return Bill::zero();
         }
         match (old, new) {
             (Some(from), Some(to)) if to.room == from.room && to.day == from.day => {
-                self.theatre_price(inst, p, from, to)
+                self.theatre_price(inst, patient, from, to)
             }
             _ => {
-                let after = self.delta_of_stay(inst, p, old, new);
-                let before = self.delta_of_stay(inst, p, old, old);
+                let after = self.delta_of_stay(inst, patient, old, new);
+                let before = self.delta_of_stay(inst, patient, old, old);
                 after.sub(&before)
             }
         }

@@ -30,29 +30,29 @@ fn delay_increase(new: u64, old: u64) -> i64
 }
 
 // Whether a mandatory patient is left out.
-fn is_out(a: &Patient, stay: Option<Placement>) -> bool
-    ensures { result ≡ (a.now.mandatory && is_none stay) }
+fn is_out(patient: &Patient, stay: Option<Placement>) -> bool
+    ensures { result ≡ (patient.now.mandatory && is_none stay) }
 {
-    a.mandatory && stay.is_none()
+    patient.mandatory && stay.is_none()
 }
 
 // Whether an optional patient is left out.
-fn is_left(a: &Patient, stay: Option<Placement>) -> bool
-    ensures { result ≡ (not a.now.mandatory && is_none stay) }
+fn is_left(patient: &Patient, stay: Option<Placement>) -> bool
+    ensures { result ≡ (not patient.now.mandatory && is_none stay) }
 {
-    !a.mandatory && stay.is_none()
+    !patient.mandatory && stay.is_none()
 }
 
 /// What a stay of a patient, or none, costs by itself.
-pub fn stay_bill(a: &Patient, stay: Option<Placement>) -> Bill
+pub fn stay_bill(patient: &Patient, stay: Option<Placement>) -> Bill
     requires { IfSome stay (λ at. at.day.0 < 56) }
-    ensures { result ≡ as_bill (stay_part a.now stay) }
+    ensures { result ≡ as_bill (stay_part patient.now stay) }
 {
-    let bad = bit(in_bad_room(a, stay)) as i64;
-    let out = bit(is_out(a, stay)) as i64;
-    let outside = bit(outside_window(a, stay)) as i64;
-    let late = delay(a, stay) as i64;
-    let left = bit(is_left(a, stay)) as i64;
+    let bad = bit(in_bad_room(patient, stay)) as i64;
+    let out = bit(is_out(patient, stay)) as i64;
+    let outside = bit(outside_window(patient, stay)) as i64;
+    let late = delay(patient, stay) as i64;
+    let left = bit(is_left(patient, stay)) as i64;
     Bill {
         v: [0, bad, 0, 0, out, outside, 0, 0, 0],
         s: [0, 0, 0, 0, 0, 0, late, left],
@@ -60,16 +60,16 @@ pub fn stay_bill(a: &Patient, stay: Option<Placement>) -> Bill
 }
 
 /// What a placement of a patient costs by itself, less what it costs to leave the patient out.
-pub fn stay_change(a: &Patient, at: Placement) -> Bill
+pub fn stay_change(patient: &Patient, at: Placement) -> Bill
     requires { at.day.0 < 56 }
-    ensures { result ≡ sub_bills (as_bill (stay_part a.now (Some at))) (as_bill (stay_part a.now None)) }
+    ensures { result ≡ sub_bills (as_bill (stay_part patient.now (Some at))) (as_bill (stay_part patient.now None)) }
 {
     let stay = Some(at);
-    let bad = mark_increase(in_bad_room(a, stay), false);
-    let out = mark_increase(is_out(a, stay), is_out(a, None));
-    let outside = mark_increase(outside_window(a, stay), false);
-    let late = delay_increase(delay(a, stay), 0);
-    let left = mark_increase(is_left(a, stay), is_left(a, None));
+    let bad = mark_increase(in_bad_room(patient, stay), false);
+    let out = mark_increase(is_out(patient, stay), is_out(patient, None));
+    let outside = mark_increase(outside_window(patient, stay), false);
+    let late = delay_increase(delay(patient, stay), 0);
+    let left = mark_increase(is_left(patient, stay), is_left(patient, None));
     Bill {
         v: [0, bad, 0, 0, out, outside, 0, 0, 0],
         s: [0, 0, 0, 0, 0, 0, late, left],

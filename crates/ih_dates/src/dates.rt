@@ -4,7 +4,7 @@ ghost use Rattle.std.specs.Prelude.{◌≡◌, ◌+◌, ◌<◌, ◌≤◌, ◌*
 ghost use Rattle.ih_dates.specs.Calendar.{IsDate, days_after, days_before, days_before_year, days_of_months, is_leap};
 ghost use Rattle.ih_dates.specs.Calendar.{month_length, next_day, weekday_after, year_length};
 
-/// A day of a month, which has a number from 1 to 12.
+/// A date of the Gregorian calendar: the month counts from 1 to 12, the day from 1.
 #[derive(Clone, Copy, Debug, PartialEq, Eq)]
 pub struct Date {
     pub year: u64,

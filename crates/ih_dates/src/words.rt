@@ -6,11 +6,11 @@ ghost use Rattle.ih_dates.specs.Words.{date_in, has_two_digits, is_day, is_writt
 
 use crate::dates::{Date, month_length};
 
-fn has_two_digits(word: &[u8], i: usize) -> bool
-    requires { i + 1 < length word.now }
-    ensures { result ≡ has_two_digits word.now i }
+fn has_two_digits(word: &[u8], index: usize) -> bool
+    requires { index + 1 < length word.now }
+    ensures { result ≡ has_two_digits word.now index }
 {
-    word[i].is_ascii_digit() && word[i + 1].is_ascii_digit()
+    word[index].is_ascii_digit() && word[index + 1].is_ascii_digit()
 }
 
 // Whether the word is four digits, a hyphen, two digits, a hyphen and two digits.
@@ -25,13 +25,13 @@ fn is_written(word: &[u8]) -> bool
 }
 
 // The number that two digits write.
-fn two_digits(word: &[u8], i: usize) -> u32
-    requires inside { i + 1 < length word.now }
-    requires digits { has_two_digits word.now i ≡ true }
-    ensures number { result ≡ two_digits word.now i }
+fn two_digits(word: &[u8], index: usize) -> u32
+    requires inside { index + 1 < length word.now }
+    requires digits { has_two_digits word.now index ≡ true }
+    ensures number { result ≡ two_digits word.now index }
     ensures most { result ≤ 99 }
 {
-    10 * (word[i] as u32 - 48) + (word[i + 1] as u32 - 48)
+    10 * (word[index] as u32 - 48) + (word[index + 1] as u32 - 48)
 }
 
 // The year, the month and the day that the word writes.
@@ -48,10 +48,11 @@ fn written(word: &[u8]) -> Date
 }
 
 // Whether there is a day with these numbers.
-fn is_day(d: Date) -> bool
-    ensures { result ≡ is_day d }
+fn is_day(date: Date) -> bool
+    ensures { result ≡ is_day date }
 {
-    1 <= d.month && (d.month <= 12 && (1 <= d.day && d.day <= month_length(d.year, d.month)))
+    1 <= date.month
+        && (date.month <= 12 && (1 <= date.day && date.day <= month_length(date.year, date.month)))
 }
 
 /// The day that a word names, as 2026-01-05, if it names one.

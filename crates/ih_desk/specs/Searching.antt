@@ -8,7 +8,7 @@ use Rattle.ih_desk.specs.declared.given.Given.{Given}
 use Rattle.ih_desk.specs.Desks.{Desk, DeskSeat, IsDesk, IsSeatAt, base_of, worker_count}
 use Rattle.ih_desk.specs.Workers.{HasWorked, Holds, Worker, enough_turns}
 
--- what a search is over that is given this
+-- what a search works on that is given this
 abbrev pub base_given : Given → Base
 base_given g = base_with g.inst.now.draft g.start.now g.options g.freeze
 

@@ -4,7 +4,7 @@ use ih_journal::Options;
 use ih_plan::Plan;
 use ih_tables::Instance;
 
-/// What a search is over (in clauses: `base_given`): the instance, the start, the options, and the first day whose
+/// What a search works on (in clauses: `base_given`): the instance, the start, the options, and the first day whose
 /// choices may change, which is 0 where all may.
 #[derive(Drop)]
 pub struct Given<'a> {

@@ -49,8 +49,8 @@ impl<'a, C: Opens<'a>> WorkerOn<'a, C> {
         }
     }
 
-    /// A worker with this seat, in a search over a start by single moves. It has drawn and seen nothing. For users of the
-    /// crate: `search` seats its workers by itself.
+    /// A worker with this seat, in a search over a start by single moves. It has drawn and seen nothing. For users of
+    /// the crate: `search_at_desk` seats its workers by itself.
     ///
     /// # Errors
     /// The seat, where memory runs out.

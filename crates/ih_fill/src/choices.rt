@@ -34,12 +34,12 @@ fn push_stays(choices: &mut Vec<Choice>, inst: &Instance) -> Result<(), AllocErr
 }
 
 // Whether the patient isn't admitted in the timetable, and is of the mandatory or of the optional ones.
-fn is_waiting(inst: &Instance, plan: &Plan, p: PatientNo, mandatory: bool) -> bool
+fn is_waiting(inst: &Instance, plan: &Plan, patient: PatientNo, mandatory: bool) -> bool
     requires plan { IsPlanOf inst.now.draft plan.now }
-    requires patient { p.0 < patient_count inst.now.draft }
-    ensures { result ≡ is_waiting inst.now.draft plan.now mandatory p.0 }
+    requires patient { patient.0 < patient_count inst.now.draft }
+    ensures { result ≡ is_waiting inst.now.draft plan.now mandatory patient.0 }
 {
-    plan.stay(p).is_none() && inst.patient(p).mandatory == mandatory
+    plan.stay(patient).is_none() && inst.patient(patient).mandatory == mandatory
 }
 
 // Appends the stays of the mandatory or of the optional patients who aren't admitted, in their order.
@@ -65,15 +65,19 @@ fn push_waiting(
 }
 
 // Appends the nurses of the rooms in a shift.
-fn push_nurses_in(choices: &mut Vec<Choice>, inst: &Instance, k: Shift) -> Result<(), AllocError>
-    requires shift { k.0 < shift_count inst.now.draft }
+fn push_nurses_in(
+    choices: &mut Vec<Choice>,
+    inst: &Instance,
+    shift: Shift,
+) -> Result<(), AllocError>
+    requires shift { shift.0 < shift_count inst.now.draft }
     requires inside { All (IsChoiceOf inst.now.draft) choices.old.items }
     ensures more { OnOk result (choices.new.items
-        ≡ choices.old.items ++ nurses_in k.0 (room_count inst.now.draft)) }
+        ≡ choices.old.items ++ nurses_in shift.0 (room_count inst.now.draft)) }
     ensures inside { OnOk result (All (IsChoiceOf inst.now.draft) choices.new.items) }
 {
     for r in 0..inst.rooms() {
-        choices.push(Choice::Nurse(RoomNo(r), k))?;
+        choices.push(Choice::Nurse(RoomNo(r), shift))?;
     }
     Ok(())
 }

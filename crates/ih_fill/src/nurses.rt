@@ -13,20 +13,20 @@ use ih_tables::{Instance, NurseNo, RoomNo, Shift};
 pub fn cheapest_nurse(
     inst: &Instance,
     scorer: &Scorer<'_>,
-    r: RoomNo,
-    k: Shift,
+    room: RoomNo,
+    shift: Shift,
 ) -> Option<Candidate>
     requires instance { scorer.now.instance ≡ inst.now.draft }
-    requires room { r.0 < room_count inst.now.draft }
-    requires shift { k.0 < shift_count inst.now.draft }
-    ensures least { result ≡ least_of (care_value scorer.now) (care_writes inst.now.draft r.0 k.0) }
+    requires room { room.0 < room_count inst.now.draft }
+    requires shift { shift.0 < shift_count inst.now.draft }
+    ensures least { result ≡ least_of (care_value scorer.now) (care_writes inst.now.draft room.0 shift.0) }
     ensures fits { IfSome result (λ best. IsWriteOf inst.now.draft best.write) }
 {
     let mut best = None;
     for n in 0..inst.nurses() {
         let n = NurseNo(n);
-        if inst.works(n, k).is_some() {
-            let candidate = scorer.care(r, k, n);
+        if inst.works(n, shift).is_some() {
+            let candidate = scorer.care(room, shift, n);
             best = match best {
                 None => Some(candidate),
                 Some(first) => Some(cheaper(first, candidate)),
@@ -37,11 +37,11 @@ pub fn cheapest_nurse(
 }
 
 /// Whether the room has persons and no nurse in the shift.
-pub(crate) fn is_uncovered(scorer: &Scorer<'_>, r: RoomNo, k: Shift) -> bool
-    requires room { r.0 < room_count scorer.now.instance }
-    requires shift { k.0 < shift_count scorer.now.instance }
-    ensures { result ≡ (is_none (care_of scorer.now.plan r.0 k.0)
-        && not (is_empty (present scorer.now.instance scorer.now.plan r.0 (day_of k.0)))) }
+pub(crate) fn is_uncovered(scorer: &Scorer<'_>, room: RoomNo, shift: Shift) -> bool
+    requires room { room.0 < room_count scorer.now.instance }
+    requires shift { shift.0 < shift_count scorer.now.instance }
+    ensures { result ≡ (is_none (care_of scorer.now.plan room.0 shift.0)
+        && not (is_empty (present scorer.now.instance scorer.now.plan room.0 (day_of shift.0)))) }
 {
-    scorer.plan().care(r, k).is_none() && scorer.is_occupied(r, k)
+    scorer.plan().care(room, shift).is_none() && scorer.is_occupied(room, shift)
 }

@@ -25,19 +25,19 @@ pub fn suits(patient: &Patient, room: RoomNo) -> bool
 }
 
 // What a stay in the first room from a day on adds to the score, with surgery in a theatre.
-fn theatre_value(scorer: &Scorer<'_>, p: PatientNo, day: Day, theatre: u32) -> i64
-    requires patient { p.0 < patient_count scorer.now.instance }
+fn theatre_value(scorer: &Scorer<'_>, patient: PatientNo, day: Day, theatre: u32) -> i64
+    requires patient { patient.0 < patient_count scorer.now.instance }
     requires day { day.0 < scorer.now.instance.days }
     requires room { 0 < room_count scorer.now.instance }
     requires theatre { theatre < theatre_count scorer.now.instance }
-    ensures { result ≡ theatre_value scorer.now p day.0 0 theatre }
+    ensures { result ≡ theatre_value scorer.now patient day.0 0 theatre }
 {
     let at = Placement {
         day,
         room: RoomNo(0),
         theatre: TheatreNo(theatre),
     };
-    scorer.stay(p, at).value
+    scorer.stay(patient, at).value
 }
 
 // The theatre in which a stay from a day on adds least to the score, the first of equal ones, where there is any. What
@@ -45,14 +45,14 @@ fn theatre_value(scorer: &Scorer<'_>, p: PatientNo, day: Day, theatre: u32) -> i
 fn cheapest_theatre(
     inst: &Instance,
     scorer: &Scorer<'_>,
-    p: PatientNo,
+    patient: PatientNo,
     day: Day,
 ) -> Option<TheatreNo>
     requires instance { scorer.now.instance ≡ inst.now.draft }
-    requires patient { p.0 < patient_count inst.now.draft }
+    requires patient { patient.0 < patient_count inst.now.draft }
     requires day { day.0 < inst.now.draft.days }
     ensures least { IfSome result
-        (λ t. (r : ℕ) → IsFirstTheatre scorer.now p day.0 r (theatre_count inst.now.draft) t.0) }
+        (λ t. (r : ℕ) → IsFirstTheatre scorer.now patient day.0 r (theatre_count inst.now.draft) t.0) }
     ensures none { IfNone result (theatre_count inst.now.draft ≡ 0) }
 {
     // For the proof alone.
@@ -61,9 +61,9 @@ fn cheapest_theatre(
         return None;
     }
     let mut best = 0;
-    let mut least = theatre_value(scorer, p, day, 0);
+    let mut least = theatre_value(scorer, patient, day, 0);
     for t in 1..inst.theatres() {
-        let value = theatre_value(scorer, p, day, t);
+        let value = theatre_value(scorer, patient, day, t);
         if value < least {
             best = t;
             least = value;
@@ -76,23 +76,23 @@ fn cheapest_theatre(
 fn cheapest_on_day(
     inst: &Instance,
     scorer: &Scorer<'_>,
-    p: PatientNo,
+    patient_no: PatientNo,
     patient: &Patient,
     day: Day,
     before: Candidate,
 ) -> Candidate
     requires instance { scorer.now.instance ≡ inst.now.draft }
-    requires patient { p.0 < patient_count inst.now.draft }
+    requires patient { patient_no.0 < patient_count inst.now.draft }
     requires day { day.0 < inst.now.draft.days }
     requires before { before ≡ valued (stay_value scorer.now) before.write }
     requires fits { IsWriteOf inst.now.draft before.write }
     ensures least { result
         ≡ valued (stay_value scorer.now)
         (cheapest (stay_value scorer.now) before.write
-        (stays_on inst.now.draft p patient.now day.0 (room_count inst.now.draft))) }
+        (stays_on inst.now.draft patient_no patient.now day.0 (room_count inst.now.draft))) }
     ensures fits { IsWriteOf inst.now.draft result.write }
 {
-    let Some(theatre) = cheapest_theatre(inst, scorer, p, day) else {
+    let Some(theatre) = cheapest_theatre(inst, scorer, patient_no, day) else {
         return before;
     };
     let mut best = before;
@@ -100,7 +100,7 @@ fn cheapest_on_day(
         let room = RoomNo(r);
         if suits(patient, room) {
             let at = Placement { day, room, theatre };
-            best = cheaper(best, scorer.stay(p, at));
+            best = cheaper(best, scorer.stay(patient_no, at));
         }
     }
     best
@@ -110,23 +110,23 @@ fn cheapest_on_day(
 pub fn cheapest_stay(
     inst: &Instance,
     scorer: &Scorer<'_>,
-    p: PatientNo,
+    patient_no: PatientNo,
     patient: &Patient,
     before: Candidate,
 ) -> Candidate
     requires instance { scorer.now.instance ≡ inst.now.draft }
-    requires patient { slice_get inst.now.draft.patients p.0 ≡ Some patient.now }
+    requires patient { slice_get inst.now.draft.patients patient_no.0 ≡ Some patient.now }
     requires before { before ≡ valued (stay_value scorer.now) before.write }
     requires fits { IsWriteOf inst.now.draft before.write }
     ensures least { result
         ≡ valued (stay_value scorer.now)
-        (cheapest (stay_value scorer.now) before.write (stay_writes inst.now.draft p.0)) }
+        (cheapest (stay_value scorer.now) before.write (stay_writes inst.now.draft patient_no.0)) }
     ensures fits { IsWriteOf inst.now.draft result.write }
 {
     let mut best = before;
     for later in 0..window_len(inst, patient) {
         let day = Day(patient.surgery_release_day + later);
-        best = cheapest_on_day(inst, scorer, p, patient, day, best);
+        best = cheapest_on_day(inst, scorer, patient_no, patient, day, best);
     }
     best
 }

@@ -111,28 +111,29 @@ impl<'a> Scorer<'a> {
     }
 
     /// Whether the room has a person in the shift.
-    pub fn is_occupied(&self, r: RoomNo, k: Shift) -> bool
-        requires room { r.0 < room_count self.now.instance }
-        requires shift { k.0 < shift_count self.now.instance }
-        ensures { result ≡ not (is_empty (present self.now.instance self.now.plan r.0 (day_of k.0))) }
+    pub fn is_occupied(&self, room: RoomNo, shift: Shift) -> bool
+        requires room { room.0 < room_count self.now.instance }
+        requires shift { shift.0 < shift_count self.now.instance }
+        ensures { result ≡ not (is_empty (present self.now.instance self.now.plan room.0 (day_of shift.0))) }
     {
-        self.ledgers.is_occupied(r, Day(k.0 / 3))
+        self.ledgers.is_occupied(room, Day(shift.0 / 3))
     }
 
     /// What a write would add to the bill, number by number.
-    pub fn price(&self, w: &Write) -> Bill
-        requires { IsWriteOf self.now.instance w.now }
-        ensures { result ≡ change_of_bill self.now.instance self.now.plan (put w.now self.now.plan) }
+    pub fn price(&self, write: &Write) -> Bill
+        requires { IsWriteOf self.now.instance write.now }
+        ensures { result ≡ change_of_bill self.now.instance self.now.plan (put write.now self.now.plan) }
     {
-        self.ledgers.price_write(w)
+        self.ledgers.price_write(write)
     }
 
     // What a write would add to the score, where rooms without nurses count or don't.
-    fn score(&self, w: &Write, counts_uncovered: bool) -> i64
-        requires { IsWriteOf self.now.instance w.now }
-        ensures { result ≡ write_score self.now.instance self.now.hard (view_of counts_uncovered) self.now.plan w.now }
+    fn score(&self, write: &Write, counts_uncovered: bool) -> i64
+        requires { IsWriteOf self.now.instance write.now }
+        ensures { result ≡ write_score self.now.instance self.now.hard
+            (view_of counts_uncovered) self.now.plan write.now }
     {
-        let price = self.ledgers.price_write(w);
+        let price = self.ledgers.price_write(write);
         if counts_uncovered {
             score_of(self.inst, self.hard, &price)
         } else {
@@ -151,46 +152,46 @@ impl<'a> Scorer<'a> {
     }
 
     /// That a patient is out, as a candidate.
-    pub fn left_out(&self, p: PatientNo) -> Candidate
-        requires { p.0 < patient_count self.now.instance }
-        ensures { result ≡ valued (stay_value self.now) (SetStay p None) }
+    pub fn left_out(&self, patient: PatientNo) -> Candidate
+        requires { patient.0 < patient_count self.now.instance }
+        ensures { result ≡ valued (stay_value self.now) (SetStay patient None) }
     {
-        self.valued(Write::SetStay(p, None), self.counts_uncovered)
+        self.valued(Write::SetStay(patient, None), self.counts_uncovered)
     }
 
     /// A patient's stay as a candidate.
-    pub fn stay(&self, p: PatientNo, at: Placement) -> Candidate
-        requires patient { p.0 < patient_count self.now.instance }
+    pub fn stay(&self, patient: PatientNo, at: Placement) -> Candidate
+        requires patient { patient.0 < patient_count self.now.instance }
         requires placed { IsPlacement self.now.instance at }
-        ensures { result ≡ valued (stay_value self.now) (SetStay p (Some at)) }
+        ensures { result ≡ valued (stay_value self.now) (SetStay patient (Some at)) }
     {
-        self.valued(Write::SetStay(p, Some(at)), self.counts_uncovered)
+        self.valued(Write::SetStay(patient, Some(at)), self.counts_uncovered)
     }
 
     /// That a room has no nurse in a shift, as a candidate.
-    pub fn no_nurse(&self, r: RoomNo, k: Shift) -> Candidate
-        requires room { r.0 < room_count self.now.instance }
-        requires shift { k.0 < shift_count self.now.instance }
-        ensures { result ≡ valued (care_value self.now) (SetCare r k None) }
+    pub fn no_nurse(&self, room: RoomNo, shift: Shift) -> Candidate
+        requires room { room.0 < room_count self.now.instance }
+        requires shift { shift.0 < shift_count self.now.instance }
+        ensures { result ≡ valued (care_value self.now) (SetCare room shift None) }
     {
-        self.valued(Write::SetCare(r, k, None), true)
+        self.valued(Write::SetCare(room, shift, None), true)
     }
 
     /// A room's nurse in a shift as a candidate.
-    pub fn care(&self, r: RoomNo, k: Shift, n: NurseNo) -> Candidate
-        requires room { r.0 < room_count self.now.instance }
-        requires shift { k.0 < shift_count self.now.instance }
-        requires nurse { n.0 < nurse_count self.now.instance }
-        ensures { result ≡ valued (care_value self.now) (SetCare r k (Some n)) }
+    pub fn care(&self, room: RoomNo, shift: Shift, nurse: NurseNo) -> Candidate
+        requires room { room.0 < room_count self.now.instance }
+        requires shift { shift.0 < shift_count self.now.instance }
+        requires nurse { nurse.0 < nurse_count self.now.instance }
+        ensures { result ≡ valued (care_value self.now) (SetCare room shift (Some nurse)) }
     {
-        self.valued(Write::SetCare(r, k, Some(n)), true)
+        self.valued(Write::SetCare(room, shift, Some(nurse)), true)
     }
 
     /// Makes a write.
-    pub fn put(&mut self, w: &Write)
-        requires { IsWriteOf self.old.instance w.now }
-        ensures { self.new ≡ record self.old { plan = put w.now self.old.plan } }
+    pub fn put(&mut self, write: &Write)
+        requires { IsWriteOf self.old.instance write.now }
+        ensures { self.new ≡ record self.old { plan = put write.now self.old.plan } }
     {
-        self.ledgers.put(w);
+        self.ledgers.put(write);
     }
 }

@@ -99,21 +99,21 @@ impl Numbering {
 
     /// The number of a cell, from which `cell` gives the cell back.
     #[inline(always)]
-    pub fn number(&self, c: Cell) -> u32
-        requires { IsCellIn self.now c }
-        ensures number { result ≡ number_in self.now c }
+    pub fn number(&self, cell: Cell) -> u32
+        requires { IsCellIn self.now cell }
+        ensures number { result ≡ number_in self.now cell }
         ensures below { result < count_in self.now }
-        ensures back { cell_in self.now result ≡ c }
+        ensures back { cell_in self.now result ≡ cell }
     {
-        self.number_by_kind(c)
+        self.number_by_kind(cell)
     }
 
     #[inline(always)]
-    fn number_by_kind(&self, c: Cell) -> u32
-        requires { IsCellIn self.now c }
-        ensures { result ≡ number_in self.now c }
+    fn number_by_kind(&self, cell: Cell) -> u32
+        requires { IsCellIn self.now cell }
+        ensures { result ≡ number_in self.now cell }
     {
-        match c {
+        match cell {
             Cell::Stay(p) => p.0,
             Cell::RoomDay(r, d) => self.patients + r.0 * self.days + d.0,
             Cell::TheatreDay(t, d) => self.first_theatre_day + t.0 * self.days + d.0,
@@ -126,63 +126,63 @@ impl Numbering {
 
     /// Where the numbers of a room's days begin.
     #[inline(always)]
-    pub(crate) fn row_of_days(&self, r: RoomNo) -> u32
-        requires { r.0 < self.now.rooms }
-        ensures row { result ≡ room_days_from self.now + r.0 * self.now.days }
+    pub(crate) fn row_of_days(&self, room: RoomNo) -> u32
+        requires { room.0 < self.now.rooms }
+        ensures row { result ≡ room_days_from self.now + room.0 * self.now.days }
         ensures limited { AreLimited self.now }
     {
-        self.patients + r.0 * self.days
+        self.patients + room.0 * self.days
     }
 
     /// Where those of its shifts begin.
     #[inline(always)]
-    pub(crate) fn row_of_shifts(&self, r: RoomNo) -> u32
-        requires { r.0 < self.now.rooms }
-        ensures row { result ≡ room_shifts_from self.now + r.0 * (3 * self.now.days) }
+    pub(crate) fn row_of_shifts(&self, room: RoomNo) -> u32
+        requires { room.0 < self.now.rooms }
+        ensures row { result ≡ room_shifts_from self.now + room.0 * (3 * self.now.days) }
         ensures limited { AreLimited self.now }
     {
-        self.first_room_shift + r.0 * (3 * self.days)
+        self.first_room_shift + room.0 * (3 * self.days)
     }
 
     /// The cell of a number, from which `number` gives the number back.
-    pub fn cell(&self, n: u32) -> Cell
-        requires { n < count_in self.now }
-        ensures cell { result ≡ cell_in self.now n }
+    pub fn cell(&self, number: u32) -> Cell
+        requires { number < count_in self.now }
+        ensures cell { result ≡ cell_in self.now number }
         ensures inside { IsCellIn self.now result }
-        ensures back { number_in self.now result ≡ n }
+        ensures back { number_in self.now result ≡ number }
     {
-        self.cell_by_kind(n)
+        self.cell_by_kind(number)
     }
 
     #[tactic(auto, unfolding(ih_plan::specs::Cells::cell_in))]
-    fn cell_by_kind(&self, n: u32) -> Cell
-        requires { n < count_in self.now }
-        ensures { result ≡ cell_in self.now n }
+    fn cell_by_kind(&self, number: u32) -> Cell
+        requires { number < count_in self.now }
+        ensures { result ≡ cell_in self.now number }
     {
-        if n < self.patients {
-            return Cell::Stay(PatientNo(n));
+        if number < self.patients {
+            return Cell::Stay(PatientNo(number));
         }
-        if n < self.first_theatre_day {
-            let m = n - self.patients;
+        if number < self.first_theatre_day {
+            let m = number - self.patients;
             return Cell::RoomDay(RoomNo(m / self.days), Day(m % self.days));
         }
-        if n < self.first_surgeon_day {
-            let m = n - self.first_theatre_day;
+        if number < self.first_surgeon_day {
+            let m = number - self.first_theatre_day;
             return Cell::TheatreDay(TheatreNo(m / self.days), Day(m % self.days));
         }
-        if n < self.first_room_shift {
-            let m = n - self.first_surgeon_day;
+        if number < self.first_room_shift {
+            let m = number - self.first_surgeon_day;
             return Cell::SurgeonDay(SurgeonNo(m / self.days), Day(m % self.days));
         }
         let shifts = 3 * self.days;
-        if n < self.first_nurse_shift {
-            let m = n - self.first_room_shift;
+        if number < self.first_nurse_shift {
+            let m = number - self.first_room_shift;
             return Cell::RoomShift(RoomNo(m / shifts), Shift(m % shifts));
         }
-        if n < self.first_care {
-            let m = n - self.first_nurse_shift;
+        if number < self.first_care {
+            let m = number - self.first_nurse_shift;
             return Cell::NurseShift(NurseNo(m / shifts), Shift(m % shifts));
         }
-        Cell::Care(PersonNo(n - self.first_care))
+        Cell::Care(PersonNo(number - self.first_care))
     }
 }

@@ -5,7 +5,7 @@ ghost use Rattle.ih_tables.specs.{Places.whole, declared.refusals.Fault.TheVaria
 ghost use Rattle.ih_format.specs.{Checks.or_else, Documents.value_of, Gives.Gives};
 
 use crate::errors::FormatError;
-use crate::kinds;
+use crate::json_values;
 use ih_tables::{Fault, Place};
 use serde_json::Value;
 use std::alloc::Global;
@@ -21,7 +21,7 @@ pub fn value_of(alloc: Global, bytes: &[u8]) -> Result<Value, FormatError>
             if e.is_memory() {
                 return Err(FormatError::OutOfMemory);
             }
-            Err(FormatError::Refused(kinds::refusal(Fault::NotJson, Place::whole())))
+            Err(FormatError::Refused(json_values::refusal(Fault::NotJson, Place::whole())))
         }
     }
 }

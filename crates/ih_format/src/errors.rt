@@ -21,8 +21,8 @@ pub enum FormatError {
 impl From<Refusal> for FormatError {
     ghost from_gives = { λ r e. e ≡ Refused r };
 
-    fn from(r: Refusal) -> FormatError {
-        FormatError::Refused(r)
+    fn from(refusal: Refusal) -> FormatError {
+        FormatError::Refused(refusal)
     }
 }
 

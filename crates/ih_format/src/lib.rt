@@ -3,8 +3,8 @@
 
 pub mod documents;
 mod errors;
+pub mod json_values;
 pub mod keys;
-pub mod kinds;
 pub mod reads;
 mod rows;
 mod vectors;

@@ -8,7 +8,7 @@ ghost use Rattle.ih_format.specs.Gives.{Gives};
 ghost use Rattle.ih_format.specs.Checks.{Check, each_named, named, under};
 
 use crate::errors::FormatError;
-use crate::kinds;
+use crate::json_values;
 use crate::rows::Row;
 use ih_tables::{HasId, Key, List, Names, Place};
 use serde_json::Value;
@@ -73,9 +73,9 @@ pub fn under<R: Reads>(
     ensures gives { Gives (λ x. x.0) result
         (under at (view object.now) key (named low high R.Item.id (R.reading reader.now))) }
 {
-    let value = kinds::value_of(object, key, at)?;
+    let value = json_values::value_of(object, key, at)?;
     let at = at.key(key);
-    let values = kinds::list_of(value, low, high, at)?;
+    let values = json_values::list_of(value, low, high, at)?;
     each(alloc, reader, values, at)
 }
 

@@ -7,7 +7,7 @@ ghost use Rattle.ih_format.specs.Gives.{Gives};
 ghost use Rattle.ih_format.specs.Checks.{new_id, under, vector};
 
 use crate::errors::FormatError;
-use crate::{kinds, vectors};
+use crate::{json_values, vectors};
 use ih_tables::{Key, List, Name, Names, Place};
 use serde_json::Value;
 use std::alloc::Global;
@@ -27,9 +27,9 @@ impl<'a> Row<'a> {
         ensures gives { Gives (λ s. s) result
             (new_id (finds self.now.earlier.now) self.now.at (view self.now.value.now)) }
     {
-        let _ = kinds::object(self.value, self.at)?;
-        let value = kinds::value_of(self.value, Key::Id, self.at)?;
-        let text = kinds::new_name(value, self.earlier, self.at.key(Key::Id))?;
+        let _ = json_values::object(self.value, self.at)?;
+        let value = json_values::value_of(self.value, Key::Id, self.at)?;
+        let text = json_values::new_name(value, self.earlier, self.at.key(Key::Id))?;
         Ok(Name::new(String::from_str(alloc, text)?))
     }
 
@@ -38,13 +38,13 @@ impl<'a> Row<'a> {
         &self,
         alloc: Global,
         key: Key,
-        n: usize,
+        length: usize,
         high: u32,
     ) -> Result<List<u32>, FormatError>
-        requires { n < 2 ^ 32 }
-        ensures { Gives (λ xs. xs) result (under self.now.at (view self.now.value.now) key (vector n high)) }
+        requires { length < 2 ^ 32 }
+        ensures { Gives (λ xs. xs) result (under self.now.at (view self.now.value.now) key (vector length high)) }
     {
-        let value = kinds::value_of(self.value, key, self.at)?;
-        vectors::vector(alloc, value, n, high, self.at.key(key))
+        let value = json_values::value_of(self.value, key, self.at)?;
+        vectors::vector(alloc, value, length, high, self.at.key(key))
     }
 }

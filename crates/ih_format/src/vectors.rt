@@ -6,7 +6,7 @@ ghost use Rattle.ih_format.specs.Gives.{Gives};
 ghost use Rattle.ih_format.specs.Checks.{number, vector, each};
 
 use crate::errors::FormatError;
-use crate::kinds;
+use crate::json_values;
 use ih_tables::{List, Place};
 use serde_json::Value;
 use std::alloc::Global;
@@ -19,7 +19,7 @@ fn numbers(alloc: Global, values: &[Value], high: u32, at: Place) -> Result<List
     let mut read = Vec::new(alloc);
     let mut i = 0;
     for value in values {
-        read.push(kinds::number(value, 0, high, at.item(i))?)?;
+        read.push(json_values::number(value, 0, high, at.item(i))?)?;
         i += 1;
     }
     Ok(List::new(read))
@@ -28,13 +28,13 @@ fn numbers(alloc: Global, values: &[Value], high: u32, at: Place) -> Result<List
 pub(crate) fn vector(
     alloc: Global,
     value: &Value,
-    n: usize,
+    length: usize,
     high: u32,
     at: Place,
 ) -> Result<List<u32>, FormatError>
-    requires { n < 2 ^ 32 }
-    ensures { Gives (λ xs. xs) result (vector n high at (view value.now)) }
+    requires { length < 2 ^ 32 }
+    ensures { Gives (λ xs. xs) result (vector length high at (view value.now)) }
 {
-    let values = kinds::first_items(value, n, at)?;
+    let values = json_values::first_items(value, length, at)?;
     numbers(alloc, values, high, at)
 }

@@ -21,10 +21,10 @@ fn each_day(alloc: Global, days: u32, minutes: u32) -> Result<Value, AllocError>
 }
 
 // A thing with an id alone.
-fn named_value(alloc: Global, letter: &str, n: u32) -> Result<Value, AllocError>
-    ensures { IsMade (named_data letter.now n) result }
+fn named_value(alloc: Global, letter: &str, number: u32) -> Result<Value, AllocError>
+    ensures { IsMade (named_data letter.now number) result }
 {
-    let id = id_value(alloc, letter, n)?;
+    let id = id_value(alloc, letter, number)?;
     json!(in alloc; {"id": id})
 }
 

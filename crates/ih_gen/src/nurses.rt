@@ -26,15 +26,15 @@ fn worked_values(
     alloc: Global,
     picks: &mut Picks,
     days: u32,
-    n: u32,
+    number: u32,
 ) -> Result<Vec<Value>, AllocError>
     ensures values { IfOk result
-        (λ v. map view v.items ≡ map (worked_data n picks.old) (which_below days (works n))) }
-    ensures rest { OnOk result (picks.new ≡ state_after (count_below days (works n)) picks.old) }
+        (λ v. map view v.items ≡ map (worked_data number picks.old) (which_below days (works number))) }
+    ensures rest { OnOk result (picks.new ≡ state_after (count_below days (works number)) picks.old) }
 {
     let mut values = Vec::new(alloc);
     for day in 0..days {
-        let turn = ((u64::from(n) + u64::from(day)) % 4) as u32;
+        let turn = ((u64::from(number) + u64::from(day)) % 4) as u32;
         if turn < 3 {
             let load = 5 + picks.pick(11);
             values.push(shift_value(alloc, day, turn, load)?)?;
@@ -54,10 +54,15 @@ impl Makes for Nurses {
     ghost words = { λ kind. nurse_words kind.days };
 
     #[tactic(auto, using(crate::proofs::Streams::stream_steps))]
-    fn make_item(&self, alloc: Global, picks: &mut Picks, n: u32) -> Result<Value, AllocError> {
+    fn make_item(
+        &self,
+        alloc: Global,
+        picks: &mut Picks,
+        number: u32,
+    ) -> Result<Value, AllocError> {
         let skill = picks.pick(3);
-        let shifts = worked_values(alloc, picks, self.days, n)?;
-        let id = id_value(alloc, "n", n)?;
+        let shifts = worked_values(alloc, picks, self.days, number)?;
+        let id = id_value(alloc, "n", number)?;
         json!(in alloc; {"id": id, "skill_level": skill, "working_shifts": shifts})
     }
 }

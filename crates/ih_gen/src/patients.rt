@@ -45,19 +45,19 @@ fn patient_picks(picks: &mut Picks) -> PatientPicks
 // The patient with these picks, without a due day.
 fn picked_value(
     alloc: Global,
-    p: u32,
+    patient: u32,
     picked: &PatientPicks,
     needs: Needs,
 ) -> Result<Value, AllocError>
     ensures { IsMade (object
-        (patient_members p picked.now None (map view needs.skills.items) (map view needs.workloads.items))) result }
+        (patient_members patient picked.now None (map view needs.skills.items) (map view needs.workloads.items))) result }
 {
-    let person = person_value(alloc, "p", p, &picked.person, needs)?;
+    let person = person_value(alloc, "p", patient, &picked.person, needs)?;
     let room = id_value(alloc, "r", picked.incompatible_room)?;
     let rooms = json!(in alloc; [room])?;
     let barred = with_member(alloc, person, "incompatible_room_ids", rooms)?;
-    let graded = with_member(alloc, barred, "mandatory", Value::Bool(p % 20 == 0))?;
-    let surgeon = id_value(alloc, "s", (p / 20 + p % 20) % 10)?;
+    let graded = with_member(alloc, barred, "mandatory", Value::Bool(patient % 20 == 0))?;
+    let surgeon = id_value(alloc, "s", (patient / 20 + patient % 20) % 10)?;
     let assigned = with_member(alloc, graded, "surgeon_id", surgeon)?;
     let duration = Value::from(picked.duration);
     let timed = with_member(alloc, assigned, "surgery_duration", duration)?;
@@ -77,11 +77,16 @@ impl Makes for Patients {
     ghost words = { λ _. patient_words };
 
     #[tactic(auto, using(crate::proofs::Streams::stream_steps))]
-    fn make_item(&self, alloc: Global, picks: &mut Picks, p: u32) -> Result<Value, AllocError> {
+    fn make_item(
+        &self,
+        alloc: Global,
+        picks: &mut Picks,
+        patient: u32,
+    ) -> Result<Value, AllocError> {
         let picked = patient_picks(picks);
         let needs = pick_needs(alloc, picks, 3 * picked.person.length_of_stay)?;
-        let value = picked_value(alloc, p, &picked, needs)?;
-        if p % 20 == 0 {
+        let value = picked_value(alloc, patient, &picked, needs)?;
+        if patient % 20 == 0 {
             let due = (picked.release_day + picked.slack).min(self.days - 1);
             with_member(alloc, value, "surgery_due_day", Value::from(due))
         } else {

@@ -34,14 +34,14 @@ impl Picks {
         }
     }
 
-    /// A choice among n, from 0: the next word modulo n.
+    /// A choice among `count`, from 0: the next word modulo `count`.
     #[tactic(auto, unfolding(crate::specs::Words::pick, ih_plan::specs::Draws::state_after))]
-    pub fn pick(&mut self, n: u32) -> u32
-        requires { 0 < n }
-        ensures value { result ≡ pick self.old 0 n }
-        ensures below { result < n }
+    pub fn pick(&mut self, count: u32) -> u32
+        requires { 0 < count }
+        ensures value { result ≡ pick self.old 0 count }
+        ensures below { result < count }
         ensures rest { self.new ≡ state_after 1 self.old }
     {
-        (self.words.next_word() % n as u64) as u32
+        (self.words.next_word() % count as u64) as u32
     }
 }

@@ -16,9 +16,9 @@ impl Makes for Rooms {
 
     ghost words = { λ _. room_words };
 
-    fn make_item(&self, alloc: Global, picks: &mut Picks, r: u32) -> Result<Value, AllocError> {
+    fn make_item(&self, alloc: Global, picks: &mut Picks, room: u32) -> Result<Value, AllocError> {
         let capacity = 1 + picks.pick(3);
-        let id = id_value(alloc, "r", r)?;
+        let id = id_value(alloc, "r", room)?;
         json!(in alloc; {"capacity": capacity, "id": id})
     }
 }

@@ -17,9 +17,9 @@ pub trait Makes {
     // How many of these words it takes.
     ghost words: { Self → ℕ → List ℕ → ℕ };
 
-    fn make_item(&self, alloc: Global, picks: &mut Picks, n: u32) -> Result<Value, AllocError>
-        ensures value { IsMade (thing self.now n picks.old) result }
-        ensures rest { OnOk result (picks.new ≡ state_after (words self.now n picks.old) picks.old) };
+    fn make_item(&self, alloc: Global, picks: &mut Picks, number: u32) -> Result<Value, AllocError>
+        ensures value { IsMade (thing self.now number picks.old) result }
+        ensures rest { OnOk result (picks.new ≡ state_after (words self.now number picks.old) picks.old) };
 }
 
 /// The first `count` things.

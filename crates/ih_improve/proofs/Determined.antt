@@ -3,7 +3,7 @@ use Rattle.std.proofs.Common.{◌≡◌, ℕ, suc, refl, sym, ap, ◌∙◌, sub
 use Rattle.std.specs.Prelude.{slice_get, Some}
 use Rattle.ih_plan.specs.Timetable.{Timetable}
 use Rattle.ih_improve.specs.Better.{best_of}
-use Rattle.ih_improve.specs.ImproverState.{ImproverState, Leads, led_to, setout}
+use Rattle.ih_improve.specs.ImproverState.{ImproverState, Leads, led_to, leg_of}
 use Rattle.ih_improve.specs.Laws.{IsDetermined, Lead}
 use Rattle.ih_improve.specs.Legs.{LegState}
 
@@ -23,7 +23,7 @@ module _ (leaves : LegState → ℕ → Timetable → Type 0) (determined : IsDe
   one-round v P Q first second =
       let same : first.left ≡ second.left =
       same-lists first.left second.left (first.each_worker ∙ sym second.each_worker)
-      (λ k x y hx hy. determined (setout v) k x y (first.leaves k x hx) (second.leaves k y hy)) in
+      (λ k x y hx hy. determined (leg_of v) k x y (first.leaves k x hx) (second.leaves k y hy)) in
       first.best ∙ (ap (best_of v.instance v.settings.hard v.kept) same ∙ sym second.best)
 
   pub all-rounds : (v : ImproverState) (Ps Qs : List Timetable) → length Ps ≡ length Qs → Lead leaves v Ps → Lead leaves v Qs → Ps ≡ Qs

@@ -11,9 +11,9 @@ use Rattle.ih_plan.specs.BillOf.{bill_of}
 use Rattle.ih_improve.specs.declared.workers.ImproveWorker.{ImproveWorker}
 use Rattle.ih_improve.specs.Better.{best_of, better_of}
 use Rattle.ih_improve.specs.Following.{IsNoDearer, MayFollow}
-use Rattle.ih_improve.specs.ImproverState.{ImproverState, Leads, led_to, setout}
+use Rattle.ih_improve.specs.ImproverState.{ImproverState, Leads, led_to, leg_of}
 use Rattle.ih_improve.specs.Keeping.{IsKeeping, IsOf, best_met}
-use Rattle.ih_improve.specs.Legs.{IsSetout, Leaves}
+use Rattle.ih_improve.specs.Legs.{IsLeg, Leaves}
 use Rattle.ih_improve.proofs.BetterLemmas.{best-follows, follows-through, no_dearer-same}
 
 -- what holds at each place holds of all
@@ -42,7 +42,7 @@ best-more I hard P ws i x h is =
     ∙ fold_push (better_of I hard) P (map best_met (take i ws)) (best_met x))
 
 -- what a round begins with
-pub begins : (v : ImproverState) (bill : Bill) (ws : List ImproveWorker) → IsKeeping v bill ws → v.rounds < v.settings.rounds → IsSetout (setout v) bill
+pub begins : (v : ImproverState) (bill : Bill) (ws : List ImproveWorker) → IsKeeping v bill ws → v.rounds < v.settings.rounds → IsLeg (leg_of v) bill
 begins v bill ws keeping more = record {
   lawful = keeping.sound.lawful;
   round = more;
@@ -53,14 +53,14 @@ begins v bill ws keeping more = record {
 
 module _ (v : ImproverState) (bill : Bill) (old new : List ImproveWorker) (keeping : IsKeeping v bill old) (len : length new ≡ length old)
     (same : (k : ℕ) (d : ImproveWorker) → k < length old → (slice_index_or new k d).walker.instance ≡ v.instance)
-    (left : (k : ℕ) (d : ImproveWorker) → k < length old → Leaves (setout v) k (best_met (slice_index_or new k d))) where
+    (left : (k : ℕ) (d : ImproveWorker) → k < length old → Leaves (leg_of v) k (best_met (slice_index_or new k d))) where
   pub all-of : All (IsOf v.instance) new
   all-of = all-each (IsOf v.instance) new (λ k d h. same k d (omega (arith, h, len)))
 
-  leaves-each : (w : ℕ) (Q : Timetable) → slice_get (map best_met new) w ≡ Some Q → Leaves (setout v) w Q
+  leaves-each : (w : ℕ) (Q : Timetable) → slice_get (map best_met new) w ≡ Some Q → Leaves (leg_of v) w Q
   leaves-each w Q there =
       let x = at-map best_met new w Q there in
-      subst (Leaves (setout v) w) (ap best_met x.2 ∙ x.3) (left w x.0 (omega (arith, x.1, len)))
+      subst (Leaves (leg_of v) w) (ap best_met x.2 ∙ x.3) (left w x.0 (omega (arith, x.1, len)))
 
   pub leads : (P : Timetable) → P ≡ best_of v.instance v.settings.hard v.kept (map best_met new) → Leads Leaves v P
   leads P best = record {

@@ -14,7 +14,7 @@ use Rattle.ih_plan.proofs.BillBounds.{bill-within, change-within}
 use Rattle.ih_plan.proofs.BillSums.{add-change, sum-within}
 use Rattle.ih_costs.specs.LedgersState.{LedgersState}
 use Rattle.ih_improve.specs.Better.{better_of, is_better}
-use Rattle.ih_improve.specs.WalkerState.{AreBills, best_at, kept_with}
+use Rattle.ih_improve.specs.WalkerState.{AreBills, best_at, left_best_with}
 
 -- the bill after a change whose price is known
 pub bill-small : (I : Draft) (P Q : Timetable) (now price : Bill) → IsValid I → IsPlanOf I P → IsPlanOf I Q → now ≡ bill_of I P → price ≡ change_of_bill I P Q
@@ -25,16 +25,16 @@ bill-small I P Q now price valid p q is priced =
 pub bill-after : (I : Draft) (P Q : Timetable) (now price next : Bill) → now ≡ bill_of I P → price ≡ change_of_bill I P Q → next ≡ add_bills now price → next ≡ bill_of I Q
 bill-after I P Q now price next is priced sum = sum ∙ rw (is, priced) (add-change I P Q)
 
-pub best-fits : (I : Draft) (here : Bool) (now kept : Timetable) → IsPlanOf I now → IsPlanOf I kept → IsPlanOf I (best_at here now kept)
-best-fits I true now kept p q = p
-best-fits I false now kept p q = q
+pub best-fits : (I : Draft) (here : Bool) (now left_best : Timetable) → IsPlanOf I now → IsPlanOf I left_best → IsPlanOf I (best_at here now left_best)
+best-fits I true now left_best p q = p
+best-fits I false now left_best p q = q
 
-pub best-within : (I : Draft) (l : LedgersState) (kept : Timetable) (here : Bool) (bill best : Bill) → IsValid I → AreBills I l kept here bill best → IsWithin (10 ^ 11) best
-best-within I l kept here bill best valid are =
-    rw are.best_is (bill-within I (best_at here l.plan kept) valid (best-fits I here l.plan kept are.now are.kept_fits))
+pub best-within : (I : Draft) (l : LedgersState) (left_best : Timetable) (here : Bool) (bill best : Bill) → IsValid I → AreBills I l left_best here bill best → IsWithin (10 ^ 11) best
+best-within I l left_best here bill best valid are =
+    rw are.best_is (bill-within I (best_at here l.plan left_best) valid (best-fits I here l.plan left_best are.now are.left_best_fits))
 
 -- moves in a row with a price, made where the ledgers stand
-module _ (I : Draft) (valid : IsValid I) (hard : ℕ) (l : LedgersState) (kept : Timetable) (here : Bool) (bill best : Bill) (are : AreBills I l kept here bill best)
+module _ (I : Draft) (valid : IsValid I) (hard : ℕ) (l : LedgersState) (left_best : Timetable) (here : Bool) (bill best : Bill) (are : AreBills I l left_best here bill best)
     (ms : List Move) (inside : AreMoves I ms) (price : Bill) (priced : price ≡ price_of_all I l.plan ms) where
   next-plan : IsPlanOf I (after_all I l.plan ms)
   next-plan = after_all-plan I l.plan ms are.now inside
@@ -50,35 +50,35 @@ module _ (I : Draft) (valid : IsValid I) (hard : ℕ) (l : LedgersState) (kept :
     next-within = rw next-is (bill-within I (after_all I l.plan ms) valid next-plan)
 
     module _ (better : Bool) (judged : better ≡ is_better hard I.weights next best) where
-      pub best-after : best_at better (after_all I l.plan ms) (kept_with here better l.plan kept) ≡ better_of I hard (best_at here l.plan kept) (after_all I l.plan ms)
+      pub best-after : best_at better (after_all I l.plan ms) (left_best_with here better l.plan left_best) ≡ better_of I hard (best_at here l.plan left_best) (after_all I l.plan ms)
       unfolding better_of
       best-after =
           by_case here better
-          ∙ ap (λ (t : Bool). if t then after_all I l.plan ms else best_at here l.plan kept)
+          ∙ ap (λ (t : Bool). if t then after_all I l.plan ms else best_at here l.plan left_best)
           (judged ∙ (ap (λ (b : Bill). is_better hard I.weights b best) next-is ∙ ap (is_better hard I.weights (bill_of I (after_all I l.plan ms))) are.best_is))
         where
-          by_case : (s t : Bool) → best_at t (after_all I l.plan ms) (kept_with s t l.plan kept) ≡ (if t then after_all I l.plan ms else best_at s l.plan kept)
+          by_case : (s t : Bool) → best_at t (after_all I l.plan ms) (left_best_with s t l.plan left_best) ≡ (if t then after_all I l.plan ms else best_at s l.plan left_best)
           by_case true true = refl
           by_case false true = refl
           by_case true false = refl
           by_case false false = refl
 
-      pub bills-after : (m : LedgersState) → m ≡ record l { plan = after_all I l.plan ms } → AreBills I m (kept_with here better l.plan kept) better next (if better then next else best)
+      pub bills-after : (m : LedgersState) → m ≡ record l { plan = after_all I l.plan ms } → AreBills I m (left_best_with here better l.plan left_best) better next (if better then next else best)
       bills-after m is = rw is (record {
         instance = are.instance;
         now = next-plan;
-        kept_fits = kept-fits here better;
+        left_best_fits = left_best-fits here better;
         bill_is = next-is;
         best_is = best-bill here better are.best_is;
       })
         where
-          kept-fits : (s t : Bool) → IsPlanOf I (kept_with s t l.plan kept)
-          kept-fits true true = are.kept_fits
-          kept-fits true false = are.now
-          kept-fits false t = are.kept_fits
+          left_best-fits : (s t : Bool) → IsPlanOf I (left_best_with s t l.plan left_best)
+          left_best-fits true true = are.left_best_fits
+          left_best-fits true false = are.now
+          left_best-fits false t = are.left_best_fits
 
-          best-bill : (s t : Bool) → best ≡ bill_of I (best_at s l.plan kept)
-              → (if t then next else best) ≡ bill_of I (best_at t (after_all I l.plan ms) (kept_with s t l.plan kept))
+          best-bill : (s t : Bool) → best ≡ bill_of I (best_at s l.plan left_best)
+              → (if t then next else best) ≡ bill_of I (best_at t (after_all I l.plan ms) (left_best_with s t l.plan left_best))
           best-bill s true was = next-is
           best-bill true false was = was
           best-bill false false was = was

@@ -7,7 +7,8 @@ use Rattle.ih_tables.specs.Bills.{cost, feasible, score}
 use Rattle.ih_plan.specs.Timetable.{Timetable}
 use Rattle.ih_plan.specs.BillOf.{bill_of}
 
--- of two feasible bills the first is the cheaper; a feasible one is better than one that isn't; else scores decide
+-- Bill a is better than bill b. A feasible one is better than one that isn't. Of two feasible ones the cheaper is
+-- better, of two others the one with the lower score.
 abbrev pub is_better : ℕ → Weights → Bill → Bill → Bool
 is_better hard w a b =
     if feasible a

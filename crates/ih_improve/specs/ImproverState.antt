@@ -25,17 +25,17 @@ pub record IsSound (v : ImproverState) : Type 0 where
   pub kept : MayFollow v.instance v.start v.settings.freeze v.start v.kept
 
 -- what the workers go by in the next round
-abbrev pub setout : ImproverState → LegState
-setout v = record { instance = v.instance; start = v.start; settings = v.settings; round = v.rounds; from = v.kept }
+abbrev pub leg_of : ImproverState → LegState
+leg_of v = record { instance = v.instance; start = v.start; settings = v.settings; round = v.rounds; from = v.kept }
 
 -- one round more, which led to P
 abbrev pub led_to : ImproverState → Timetable → ImproverState
 led_to v P = record v { rounds = v.rounds + 1; kept = P }
 
--- A round leads to P: each worker leaves a timetable, as a worker with its number may that goes by no more than what the
--- round begins with, and P is the best of these and of the one before it, the first on a tie.
+-- A round leads to P. Each worker leaves a timetable that `may_leave` allows, by what the round begins with and the
+-- worker's number. P is the best of the timetable before the round and of these, the first on a tie.
 pub record Leads (may_leave : LegState → ℕ → Timetable → Type 0) (v : ImproverState) (P : Timetable) : Type 0 where
   pub left : List Timetable
   pub each_worker : length left ≡ v.settings.workers
-  pub leaves : (w : ℕ) (Q : Timetable) → slice_get left w ≡ Some Q → may_leave (setout v) w Q
+  pub leaves : (w : ℕ) (Q : Timetable) → slice_get left w ≡ Some Q → may_leave (leg_of v) w Q
   pub best : P ≡ best_of v.instance v.settings.hard v.kept left

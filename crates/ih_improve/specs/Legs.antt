@@ -17,7 +17,7 @@ pub record LegState : Type 0 where
   pub from : Timetable
 
 -- Another round is to come, and it goes on from a timetable that may take the start's place, with this bill.
-pub record IsSetout (s : LegState) (bill : Bill) : Type 0 where
+pub record IsLeg (s : LegState) (bill : Bill) : Type 0 where
   pub lawful : IsLawful s.settings
   pub round : s.round < s.settings.rounds
   pub start : IsPlanOf s.instance s.start

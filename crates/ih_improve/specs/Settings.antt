@@ -4,7 +4,7 @@ use Rattle.ih_journal.specs.declared.settings.TheConstants.{MAX_HARD, MAX_HEAT, 
 use Rattle.ih_improve.specs.declared.settings.Settings.{Settings}
 use Rattle.ih_improve.specs.declared.settings.TheConstants.{MAX_ATTEMPTS, MAX_ROUNDS}
 
--- each setting is within its limits, and so are the attempts of all workers
+-- Each setting is within its limits, and so are the attempts of all workers. The seed and the freeze day have none.
 pub record IsLawful (s : Settings) : Type 0 where
   pub some_worker : 1 ≤ s.workers
   pub workers : s.workers ≤ MAX_WORKERS

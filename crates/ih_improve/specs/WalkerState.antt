@@ -15,22 +15,23 @@ pub record WalkerState : Type 0 where
   pub now : Timetable
   pub best : Timetable
 
--- where the worker stands, if that is the best; else what was kept
+-- the best: where the worker stands, or else the best that it has left
 abbrev pub best_at : Bool → Timetable → Timetable → Timetable
-best_at stands_on_best now kept = if stands_on_best then now else kept
+best_at stands_on_best now left_best = if stands_on_best then now else left_best
 
--- what is kept once the worker goes on: where it stood, if that was the best and isn't bettered
-abbrev pub kept_with : Bool → Bool → Timetable → Timetable → Timetable
-kept_with stands_on_best is_bettered now kept = if stands_on_best && not is_bettered then now else kept
+-- The best left once the worker goes on: where it stood, if that was the best and isn't bettered. It is out of date
+-- while the worker stands on the best.
+abbrev pub left_best_with : Bool → Bool → Timetable → Timetable → Timetable
+left_best_with stands_on_best is_bettered now left_best = if stands_on_best && not is_bettered then now else left_best
 
 -- the bills that a worker keeps are those of the timetable where it stands and of the best
-pub record AreBills (I : Draft) (l : LedgersState) (kept : Timetable) (stands_on_best : Bool) (bill best_bill : Bill)
-    : Type 0 where
+pub record AreBills (I : Draft) (l : LedgersState) (left_best : Timetable) (stands_on_best : Bool)
+    (bill best_bill : Bill) : Type 0 where
   pub instance : l.instance ≡ I
   pub now : IsPlanOf I l.plan
-  pub kept_fits : IsPlanOf I kept
+  pub left_best_fits : IsPlanOf I left_best
   pub bill_is : bill ≡ bill_of I l.plan
-  pub best_is : best_bill ≡ bill_of I (best_at stands_on_best l.plan kept)
+  pub best_is : best_bill ≡ bill_of I (best_at stands_on_best l.plan left_best)
 
 -- On its way in a round a worker stands on a timetable of the instance that keeps the start's choices before the freeze
 -- day, and its best may take the place of the timetable from which it went on.

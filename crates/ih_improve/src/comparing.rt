@@ -6,7 +6,7 @@ ghost use Rattle.ih_improve.specs.Better.{is_better};
 
 use ih_tables::{Bill, Instance};
 
-/// The score of a bill.
+/// The score of a bill: the weighted costs, and `hard` for each unit of a broken hard rule.
 pub(crate) fn score_of(inst: &Instance, hard: u32, bill: &Bill) -> i64
     requires hard { hard ≤ 1000000 }
     requires within { IsWithin (10 ^ 11) bill.now }
@@ -17,16 +17,16 @@ pub(crate) fn score_of(inst: &Instance, hard: u32, bill: &Bill) -> i64
 
 /// Whether the first bill is better than the second: a feasible one is better than one that isn't, two feasible ones go
 /// by their costs, and two others by their scores.
-pub(crate) fn is_better(inst: &Instance, hard: u32, a: &Bill, b: &Bill) -> bool
+pub(crate) fn is_better(inst: &Instance, hard: u32, first: &Bill, second: &Bill) -> bool
     requires hard { hard ≤ 1000000 }
-    requires first { IsWithin (10 ^ 11) a.now }
-    requires second { IsWithin (10 ^ 11) b.now }
-    ensures { result ≡ is_better hard inst.now.draft.weights a.now b.now }
+    requires first { IsWithin (10 ^ 11) first.now }
+    requires second { IsWithin (10 ^ 11) second.now }
+    ensures { result ≡ is_better hard inst.now.draft.weights first.now second.now }
 {
-    match (a.feasible(), b.feasible()) {
-        (true, true) => a.cost(inst.weights()) < b.cost(inst.weights()),
+    match (first.feasible(), second.feasible()) {
+        (true, true) => first.cost(inst.weights()) < second.cost(inst.weights()),
         (true, false) => true,
         (false, true) => false,
-        (false, false) => score_of(inst, hard, a) < score_of(inst, hard, b),
+        (false, false) => score_of(inst, hard, first) < score_of(inst, hard, second),
     }
 }

@@ -90,11 +90,15 @@ fn greatest_of(weights: &[u64]) -> u64
 }
 
 // The lesser of two weights, where at least half of those above 0 are at most as large as the second; else the first.
-fn lesser(weights: &[u64], m: u64, w: u64) -> u64
+fn lesser(weights: &[u64], least: u64, weight: u64) -> u64
     requires { length weights.now ≡ 8 }
-    ensures { result ≡ (if has_half weights.now w then min m w else m) }
+    ensures { result ≡ (if has_half weights.now weight then min least weight else least) }
 {
-    if has_half(weights, w) { m.min(w) } else { m }
+    if has_half(weights, weight) {
+        least.min(weight)
+    } else {
+        least
+    }
 }
 
 // The middle one of the weights above 0, the lower of two; 0 where there is none.

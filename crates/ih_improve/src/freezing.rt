@@ -13,12 +13,12 @@ use ih_plan::{Move, Plan, Write};
 use ih_tables::{Instance, PatientNo};
 
 // Whether the start admits the patient before the freeze day.
-fn is_early(inst: &Instance, start: &Plan, freeze: u32, p: PatientNo) -> bool
+fn is_early(inst: &Instance, start: &Plan, freeze: u32, patient: PatientNo) -> bool
     requires start { IsPlanOf inst.now.draft start.now }
-    requires patient { p.0 < patient_count inst.now.draft }
-    ensures { result ≡ is_before freeze (stay_of start.now p.0) }
+    requires patient { patient.0 < patient_count inst.now.draft }
+    ensures { result ≡ is_before freeze (stay_of start.now patient.0) }
 {
-    frozen(start, freeze, &Write::SetStay(p, None))
+    frozen(start, freeze, &Write::SetStay(patient, None))
 }
 
 // Whether the move may change a choice before the freeze day.
@@ -42,8 +42,9 @@ fn may_be_frozen(inst: &Instance, start: &Plan, freeze: u32, mv: &Move) -> bool
     }
 }
 
-/// Whether one of the moves may change a choice before the freeze day. It goes by the start and the moves alone. Where
-/// it answers no, the moves keep the start's choices of these days on every timetable that has kept them.
+/// Whether one of the moves may change a choice before the freeze day, judged by the start and the moves alone. After
+/// `false` the moves keep the start's choices of these days on every timetable that has kept them. Of `true` nothing is
+/// promised: the moves may keep them too.
 pub(crate) fn any_frozen(inst: &Instance, start: &Plan, freeze: u32, moves: &[Move]) -> bool
     requires start { IsPlanOf inst.now.draft start.now }
     requires inside { AreMoves inst.now.draft moves.now }

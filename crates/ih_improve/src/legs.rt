@@ -18,7 +18,7 @@ pub struct Leg<'b> {
 }
 
 impl<'b> Model for Leg<'b> {
-    ghost use Rattle.ih_improve.specs.Legs.{IsSetout, LegState};
+    ghost use Rattle.ih_improve.specs.Legs.{IsLeg, LegState};
 
     ghost Value = { LegState };
 
@@ -37,13 +37,13 @@ impl<'b> Model for Leg<'b> {
           settings = l.settings;
           round = l.round;
           from = l.from.now;
-        } in IsSetout s l.bill };
+        } in IsLeg s l.bill };
 }
 
 impl<'b> Leg<'b> {
     ghost use Rattle.std.specs.Prelude.{◌≡◌};
     ghost use Rattle.ih_plan.specs.BillOf.{bill_of};
-    ghost use Rattle.ih_improve.specs.Legs.{IsSetout, LegState};
+    ghost use Rattle.ih_improve.specs.Legs.{IsLeg, LegState};
 
     /// What a round of a search begins with.
     pub(crate) fn new(
@@ -60,7 +60,7 @@ impl<'b> Leg<'b> {
           settings = settings.now;
           round = round;
           from = from.now;
-        } in IsSetout s bill.now }
+        } in IsLeg s bill.now }
         ensures { result ≡ record {
           instance = inst.entry.now.draft;
           start = start.entry.now;
@@ -79,7 +79,7 @@ impl<'b> Leg<'b> {
         }
     }
 
-    /// The instance.
+    /// The instance on which the search works.
     pub(crate) fn instance(&self) -> &Instance
         ensures { result.now.draft ≡ self.now.instance }
     {
@@ -100,7 +100,7 @@ impl<'b> Leg<'b> {
         &self.settings
     }
 
-    /// The number of the round.
+    /// The number of the round, from 0.
     pub(crate) fn round(&self) -> u32
         ensures { result ≡ self.now.round }
     {
@@ -114,7 +114,7 @@ impl<'b> Leg<'b> {
         self.from
     }
 
-    /// Its bill.
+    /// The bill of the timetable from which the round goes on.
     pub(crate) fn bill(&self) -> &Bill
         ensures { result.now ≡ bill_of self.now.instance self.now.from }
     {
@@ -122,8 +122,8 @@ impl<'b> Leg<'b> {
     }
 
     /// A fact for the caller's proof: the timetables fit the instance, and the settings are lawful.
-    pub(crate) fn is_setout(&self)
-        ensures { IsSetout self.now (bill_of self.now.instance self.now.from) }
+    pub(crate) fn know_leg(&self)
+        ensures { IsLeg self.now (bill_of self.now.instance self.now.from) }
     {
         let _ = &self.bill;
     }

@@ -52,10 +52,10 @@ const POWERS: [u32; 256] = [
 ];
 
 /// The binary logarithm of a number, in 65536ths. Of 0 it is that of 1.
-pub(crate) fn logarithm(x: u64) -> u64
+pub(crate) fn logarithm(value: u64) -> u64
     ensures { result < 2 ^ 22 }
 {
-    let x = x.max(1);
+    let x = value.max(1);
     let whole = x.ilog2();
     // The leading bit, and the eight behind it.
     let leading = (x << (63 - whole)) >> 55;
@@ -64,10 +64,10 @@ pub(crate) fn logarithm(x: u64) -> u64
 }
 
 /// Two to the power of so many 65536ths, at most 2^37.
-pub(crate) fn power(x: u64) -> u64
+pub(crate) fn power(value: u64) -> u64
     ensures { result ≤ 2 ^ 37 }
 {
-    let whole = (x / 65536).min(40);
-    let part = u64::from(POWERS[(x / 256 % 256) as usize]);
+    let whole = (value / 65536).min(40);
+    let part = u64::from(POWERS[(value / 256 % 256) as usize]);
     ((part << whole) >> 16).min(1 << 37)
 }

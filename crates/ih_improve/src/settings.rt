@@ -33,7 +33,8 @@ impl Settings {
     ghost use Rattle.std.specs.Prelude.{◌↔◌, ◌≡◌, ◌≤◌, IsTrue};
     ghost use Rattle.ih_improve.specs.Settings.{IsLawful, attempts_through};
 
-    /// Whether each setting is within its limits, and all workers together make at most `MAX_ATTEMPTS` attempts.
+    /// Whether each setting is within its limits, and all workers together make at most `MAX_ATTEMPTS` attempts. The
+    /// seed and the freeze day have no limits.
     pub fn is_lawful(&self) -> bool
         ensures { IsTrue result ↔ IsLawful self.now }
     {

@@ -5,7 +5,7 @@ ghost use Rattle.ih_tables.specs.Bills.{IsWithin};
 ghost use Rattle.ih_plan.specs.Timetable.{IsPlanOf};
 ghost use Rattle.ih_plan.specs.BillOf.{bill_of};
 ghost use Rattle.ih_plan.specs.Series.{AreMoves, after_all, price_of_all};
-ghost use Rattle.ih_improve.specs.{Better.better_of, WalkerState.kept_with};
+ghost use Rattle.ih_improve.specs.{Better.better_of, WalkerState.left_best_with};
 
 use crate::comparing::is_better;
 use ih_costs::Ledgers;
@@ -24,7 +24,7 @@ pub(crate) struct Walker<'a> {
     bill: Bill,
     // The best timetable, unless the ledgers stand on it: it is copied as they leave it, so what is bettered at once
     // is never copied.
-    kept: Plan,
+    left_best: Plan,
     stands_on_best: bool,
     best_bill: Bill,
 }
@@ -37,21 +37,27 @@ impl<'a> Model for Walker<'a> {
     ghost view = { λ w. record {
       instance = w.inst.now.draft;
       now = w.ledgers.plan;
-      best = best_at w.stands_on_best w.ledgers.plan w.kept;
+      best = best_at w.stands_on_best w.ledgers.plan w.left_best;
     } };
 
-    ghost invariant = { λ w. AreBills w.inst.now.draft w.ledgers w.kept w.stands_on_best w.bill w.best_bill };
+    ghost invariant = { λ w. AreBills w.inst.now.draft w.ledgers w.left_best w.stands_on_best w.bill w.best_bill };
 }
 
 // Keeps the timetable where the ledgers stand, if that is the best and won't be bettered as they leave it.
-fn keep_left(inst: &Instance, kept: &mut Plan, here: &Plan, stands_on_best: bool, is_bettered: bool)
-    requires kept { IsPlanOf inst.now.draft kept.old }
+fn keep_left(
+    inst: &Instance,
+    left_best: &mut Plan,
+    here: &Plan,
+    stands_on_best: bool,
+    is_bettered: bool,
+)
+    requires left_best { IsPlanOf inst.now.draft left_best.old }
     requires here { IsPlanOf inst.now.draft here.now }
-    ensures { kept.new ≡ kept_with stands_on_best is_bettered here.now kept.old }
+    ensures { left_best.new ≡ left_best_with stands_on_best is_bettered here.now left_best.old }
 {
     let _ = inst.days();
     if stands_on_best && !is_bettered {
-        kept.copy_from(here);
+        left_best.copy_from(here);
     }
 }
 
@@ -79,7 +85,7 @@ impl<'a> Walker<'a> {
             inst,
             ledgers: Ledgers::new(alloc, inst, plan)?,
             bill: *bill,
-            kept: plan.try_clone(alloc)?,
+            left_best: plan.try_clone(alloc)?,
             stands_on_best: true,
             best_bill: *bill,
         })
@@ -129,7 +135,7 @@ impl<'a> Walker<'a> {
         let is_best = is_better(self.inst, hard, &next, &self.best_bill);
         keep_left(
             self.inst,
-            &mut self.kept,
+            &mut self.left_best,
             self.ledgers.plan(),
             self.stands_on_best,
             is_best,
@@ -148,7 +154,7 @@ impl<'a> Walker<'a> {
         if self.stands_on_best {
             self.ledgers.plan()
         } else {
-            &self.kept
+            &self.left_best
         }
     }
 

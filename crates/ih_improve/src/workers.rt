@@ -56,7 +56,7 @@ impl<'a> ImproveWorker<'a> {
     {
         let inst = leg.instance();
         let settings = leg.settings();
-        leg.is_setout();
+        leg.know_leg();
         propose(
             inst,
             settings.hard,
@@ -76,13 +76,13 @@ impl<'a> ImproveWorker<'a> {
         }
     }
 
-    // So many attempts, the first of them behind so many.
+    // The attempts from number `done` up to `until`. The heat is that of the first, and a new one each 1024th.
     fn attempt_all(&mut self, leg: &Leg<'_>, done: u64, until: u64)
         requires underway { IsUnderway leg.now self.old.walker }
         requires until { until ≤ leg.now.settings.attempts }
         ensures { IsUnderway leg.now self.new.walker }
     {
-        leg.is_setout();
+        leg.know_leg();
         let mut heat = heat_at(leg.settings(), done.min(until));
         for number in done..until {
             if number % ATTEMPTS_AT_A_HEAT == 0 {
@@ -103,7 +103,7 @@ impl<'a> Walks for ImproveWorker<'a> {
     ghost leaves = { Leaves };
 
     fn walk(&mut self, leg: &Leg<'_>, number: usize) {
-        leg.is_setout();
+        leg.know_leg();
         self.words = RandomWords::new(leg.settings().seed, leg.round(), number as u32);
         self.walker.go_to(leg.from(), leg.bill());
         let done = leg.settings().attempts_through(leg.round());

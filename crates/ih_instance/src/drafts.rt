@@ -12,7 +12,7 @@ use crate::rooms::Rooms;
 use crate::surgery::{Surgeons, Theatres};
 use crate::weights;
 use crate::words::Words;
-use ih_format::{FormatError, documents, keys, kinds, reads};
+use ih_format::{FormatError, documents, json_values, keys, reads};
 use ih_tables::{Draft, Instance, Key, Place};
 use serde_json::Value;
 use std::alloc::Global;
@@ -22,7 +22,7 @@ use std::alloc::Global;
 fn draft(alloc: Global, value: &Value, at: Place) -> Result<Draft, FormatError>
     ensures { Gives (λ d. d) result (draft at (view value.now)) }
 {
-    let _ = kinds::object(value, at)?;
+    let _ = json_values::object(value, at)?;
     let days = keys::number(value, Key::Days, 1, 56, at)?;
     let skill_levels = keys::number(value, Key::SkillLevels, 1, 1000, at)?;
     let types = reads::under(alloc, &Words, value, Key::ShiftTypes, 3, 3, at)?;

@@ -7,7 +7,7 @@ ghost use Rattle.ih_format.specs.{Gives.Gives, Checks.under};
 ghost use Rattle.ih_instance.specs.Instance.{worked, each_worked, worked_shifts, nurse};
 
 use ih_format::reads::Reads;
-use ih_format::{FormatError, Row, keys, kinds};
+use ih_format::{FormatError, Row, json_values, keys};
 use ih_tables::{Day, Fault, Key, List, Names, Nurse, Place, Refusal, WorkedShift};
 use serde_json::Value;
 use std::alloc::Global;
@@ -32,12 +32,12 @@ impl<'a> Nurses<'a> {
         ensures gives { result
             ≡ worked self.now.days (finds self.now.types.now) (is_marked taken.now) at (view value.now) }
     {
-        let _ = kinds::object(value, at)?;
+        let _ = json_values::object(value, at)?;
         let day = keys::number(value, Key::Day, 0, self.days - 1, at)?;
         let shift = keys::reference(value, Key::Shift, self.types, at)?;
         let max_load = keys::number(value, Key::MaxLoad, 0, 100_000, at)?;
         if taken[(3 * day + shift) as usize] {
-            return Err(kinds::refusal(Fault::Duplicate, at));
+            return Err(json_values::refusal(Fault::Duplicate, at));
         }
         Ok(WorkedShift {
             day: Day(day),
@@ -74,8 +74,8 @@ impl<'a> Nurses<'a> {
             (worked_shifts self.now.days (finds self.now.types.now))) }
     {
         let at = row.at.key(Key::WorkingShifts);
-        let value = kinds::value_of(row.value, Key::WorkingShifts, row.at)?;
-        let values = kinds::list(value, at)?;
+        let value = json_values::value_of(row.value, Key::WorkingShifts, row.at)?;
+        let values = json_values::list(value, at)?;
         self.each_worked(alloc, values, at)
     }
 }

@@ -7,7 +7,7 @@ ghost use Rattle.ih_format.specs.{Gives.Gives, Checks.each, Checks.under};
 ghost use Rattle.ih_instance.specs.Instance.{patient, due_day, room_number, room_numbers};
 
 use ih_format::reads::Reads;
-use ih_format::{FormatError, Row, keys, kinds};
+use ih_format::{FormatError, Row, json_values, keys};
 use ih_tables::{Key, List, Names, Patient, Place, Refusal, RoomNo, SurgeonNo};
 use serde_json::Value;
 use std::alloc::Global;
@@ -26,7 +26,7 @@ fn due_day(object: &Value, mandatory: bool, at: Place) -> Result<Option<u32>, Re
 fn room_number(value: &Value, rooms: &Names, at: Place) -> Result<RoomNo, Refusal>
     ensures { result ≡ room_number (finds rooms.now) at (view value.now) }
 {
-    let n = kinds::reference(value, rooms, at)?;
+    let n = json_values::reference(value, rooms, at)?;
     Ok(RoomNo(n))
 }
 
@@ -57,7 +57,7 @@ fn room_numbers(
 ) -> Result<List<RoomNo>, FormatError>
     ensures { Gives (λ xs. xs) result (room_numbers (finds rooms.now) at (view value.now)) }
 {
-    let values = kinds::list_of(value, 0, 1024, at)?;
+    let values = json_values::list_of(value, 0, 1024, at)?;
     each_number(alloc, values, rooms, at)
 }
 
@@ -70,7 +70,7 @@ fn closed_rooms(
     ensures { Gives (λ xs. xs) result
         (under at (view object.now) Key.IncompatibleRoomIds (room_numbers (finds rooms.now))) }
 {
-    let value = kinds::value_of(object, Key::IncompatibleRoomIds, at)?;
+    let value = json_values::value_of(object, Key::IncompatibleRoomIds, at)?;
     room_numbers(alloc, value, rooms, at.key(Key::IncompatibleRoomIds))
 }
 

@@ -50,6 +50,10 @@ impl<'a> People<'a> {
         reads::items_under(self.alloc, reader, self.object, key, high, self.at)
     }
 
+    /// The nurses, at most 512, in the order of the file. Their shifts are within the horizon.
+    ///
+    /// # Errors
+    /// The first refusal of the list, or that memory ran out.
     pub fn nurses(&self) -> Result<List<Nurse>, FormatError>
         ensures { Gives (λ xs. xs) result
             (under self.now.at (view self.now.object.now) Key.Nurses (nurses self.now.days self.now.types.now.0)) }
@@ -61,6 +65,11 @@ impl<'a> People<'a> {
         self.listed(&reader, Key::Nurses, 512)
     }
 
+    /// The occupants, at most 512, in the order of the file. Their rooms and age groups are numbers in lists that were
+    /// read before.
+    ///
+    /// # Errors
+    /// The first refusal of the list, or that memory ran out.
     pub fn occupants(&self) -> Result<List<Occupant>, FormatError>
         ensures { Gives (λ xs. xs) result (under self.now.at (view self.now.object.now) Key.Occupants
             (occupants self.now.days self.now.groups.now.0 self.now.rooms.now.0)) }
@@ -73,6 +82,11 @@ impl<'a> People<'a> {
         self.listed(&reader, Key::Occupants, 512)
     }
 
+    /// The patients, at most 2048, in the order of the file. Their rooms, surgeons and age groups are numbers in lists
+    /// that were read before.
+    ///
+    /// # Errors
+    /// The first refusal of the list, or that memory ran out.
     pub fn patients(&self) -> Result<List<Patient>, FormatError>
         ensures { Gives (λ xs. xs) result (under self.now.at (view self.now.object.now) Key.Patients
             (patients self.now.days self.now.groups.now.0 self.now.surgeons.now.0 self.now.rooms.now.0)) }

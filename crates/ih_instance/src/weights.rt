@@ -5,7 +5,7 @@ ghost use Rattle.serde_json.specs.View.{view};
 ghost use Rattle.ih_format.specs.Checks.{under};
 ghost use Rattle.ih_instance.specs.Instance.{has, one_spelling, weight, weights};
 
-use ih_format::{keys, kinds};
+use ih_format::{json_values, keys};
 use ih_tables::{Fault, Key, Place, Refusal, Weights};
 use serde_json::Value;
 
@@ -43,7 +43,7 @@ fn weight(object: &Value, key: Key, at: Place) -> Result<u32, Refusal>
 fn weights(value: &Value, at: Place) -> Result<Weights, Refusal>
     ensures { result ≡ weights at (view value.now) }
 {
-    let _ = kinds::object(value, at)?;
+    let _ = json_values::object(value, at)?;
     let mixed_age = weight(value, Key::RoomMixedAge, at)?;
     let skill = weight(value, Key::RoomNurseSkill, at)?;
     let continuity = weight(value, Key::ContinuityOfCare, at)?;
@@ -71,6 +71,6 @@ fn weights(value: &Value, at: Place) -> Result<Weights, Refusal>
 pub fn under(object: &Value, at: Place) -> Result<Weights, Refusal>
     ensures { result ≡ under at (view object.now) Key.Weights weights }
 {
-    let value = kinds::value_of(object, Key::Weights, at)?;
+    let value = json_values::value_of(object, Key::Weights, at)?;
     weights(value, at.key(Key::Weights))
 }

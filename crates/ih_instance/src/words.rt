@@ -4,7 +4,7 @@ ghost use Rattle.std.specs.Prelude.{◌<◌};
 ghost use Rattle.ih_format.specs.{Checks.new_name};
 
 use ih_format::reads::Reads;
-use ih_format::{FormatError, Row, kinds};
+use ih_format::{FormatError, Row, json_values};
 use ih_tables::Name;
 use std::alloc::Global;
 
@@ -18,7 +18,7 @@ impl Reads for Words {
     ghost reading = { λ _. new_name };
 
     fn read(&self, alloc: Global, row: Row) -> Result<Name, FormatError> {
-        let text = kinds::new_name(row.value, row.earlier, row.at)?;
+        let text = json_values::new_name(row.value, row.earlier, row.at)?;
         Ok(Name::new(String::from_str(alloc, text)?))
     }
 }

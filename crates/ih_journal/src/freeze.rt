@@ -17,11 +17,11 @@ fn before(stay: Option<Placement>, freeze: u32) -> bool
 
 /// Whether a write is of a choice of a day before `freeze`, or makes one: a nurse of such a day, a stay that begins
 /// there in the start, or a stay that would begin there.
-pub fn frozen(start: &Plan, freeze: u32, w: &Write) -> bool
-    requires { IsInside start.now w.now }
-    ensures { result ≡ is_frozen_write start.now freeze w.now }
+pub fn frozen(start: &Plan, freeze: u32, write: &Write) -> bool
+    requires { IsInside start.now write.now }
+    ensures { result ≡ is_frozen_write start.now freeze write.now }
 {
-    match *w {
+    match *write {
         Write::SetStay(p, new) => before(start.stay(p), freeze) || before(new, freeze),
         Write::SetCare(_, k, _) => k.0 / 3 < freeze,
     }

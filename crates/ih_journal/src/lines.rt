@@ -15,13 +15,13 @@ use itoa::Buffer;
 use std::alloc::{AllocError, Global};
 
 /// Appends an option with a space before it.
-pub fn put_option(out: &mut String, name: &str, n: u64) -> Result<(), AllocError>
-    ensures { OnOk result (string_bytes out.new ≡ string_bytes out.old ++ 32 ∷ option_text name.now n) }
+pub fn put_option(out: &mut String, name: &str, number: u64) -> Result<(), AllocError>
+    ensures { OnOk result (string_bytes out.new ≡ string_bytes out.old ++ 32 ∷ option_text name.now number) }
 {
     out.push_str(" ")?;
     out.push_str(name)?;
     out.push_str("=")?;
-    out.push_str(Buffer::new().format(n))
+    out.push_str(Buffer::new().format(number))
 }
 
 fn put_retries(out: &mut String, retries: u32) -> Result<(), AllocError>
@@ -43,18 +43,18 @@ pub fn version(retries: u32) -> &'static str
     }
 }
 
-fn heading_made(alloc: Global, o: &Options) -> Result<String, AllocError>
-    ensures { IfOk result (λ s. string_bytes s ≡ ended (heading o.now)) }
+fn heading_made(alloc: Global, options: &Options) -> Result<String, AllocError>
+    ensures { IfOk result (λ s. string_bytes s ≡ ended (heading options.now)) }
 {
     let mut made = String::with_capacity(alloc, 128)?;
     made.push_str("ihjournal ")?;
-    made.push_str(version(o.retries))?;
-    put_option(&mut made, "seed", o.seed)?;
-    put_option(&mut made, "workers", o.workers as u64)?;
-    put_option(&mut made, "moves", o.moves as u64)?;
-    put_option(&mut made, "heat", o.heat as u64)?;
-    put_option(&mut made, "hard", o.hard as u64)?;
-    put_retries(&mut made, o.retries)?;
+    made.push_str(version(options.retries))?;
+    put_option(&mut made, "seed", options.seed)?;
+    put_option(&mut made, "workers", options.workers as u64)?;
+    put_option(&mut made, "moves", options.moves as u64)?;
+    put_option(&mut made, "heat", options.heat as u64)?;
+    put_option(&mut made, "hard", options.hard as u64)?;
+    put_retries(&mut made, options.retries)?;
     made.push_str("\n")?;
     Ok(made)
 }
@@ -62,11 +62,11 @@ fn heading_made(alloc: Global, o: &Options) -> Result<String, AllocError>
 /// Appends the heading with its line feed. Where memory runs out, `out` holds what it held, followed by a prefix of
 /// that line.
 #[tactic(auto, using(crate::proofs::Parts::part_none))]
-pub fn head_line(o: &Options, out: &mut Vec<u8>) -> Result<(), AllocError>
-    ensures ok { OnOk result (out.new.items ≡ out.old.items ++ ended (heading o.now)) }
-    ensures err { OnErr result (IsPart out.old.items out.new.items (ended (heading o.now))) }
+pub fn head_line(options: &Options, out: &mut Vec<u8>) -> Result<(), AllocError>
+    ensures ok { OnOk result (out.new.items ≡ out.old.items ++ ended (heading options.now)) }
+    ensures err { OnErr result (IsPart out.old.items out.new.items (ended (heading options.now))) }
 {
-    let made = heading_made(*out.allocator(), o)?;
+    let made = heading_made(*out.allocator(), options)?;
     out.extend_from_slice(made.as_bytes())
 }
 
@@ -75,13 +75,13 @@ const LINE_ROOM: usize = 704;
 
 // A number with a space before it.
 #[inline(always)]
-fn put_field(room: &mut [u8], at: usize, n: u32) -> usize
+fn put_field(room: &mut [u8], at: usize, number: u32) -> usize
     requires { at + 21 ≤ length room.old }
-    ensures text { take result room.new ≡ take at room.old ++ 32 ∷ decimal n }
+    ensures text { take result room.new ≡ take at room.old ++ 32 ∷ decimal number }
     ensures within { result ≤ at + 21 }
 {
     let end = put_byte(room, at, b' ');
-    put_number(room, end, u64::from(n))
+    put_number(room, end, u64::from(number))
 }
 
 #[inline(always)]
@@ -97,22 +97,22 @@ fn put_again(room: &mut [u8], at: usize, retries: u32, again: u32) -> usize
 }
 
 // Writes the line of the entry at a place from the beginning of the room on.
-fn put_line(room: &mut [u8], options: &Options, place: u32, e: &Entry) -> usize
+fn put_line(room: &mut [u8], options: &Options, place: u32, entry: &Entry) -> usize
     requires { LINE_ROOM ≤ length room.old }
-    ensures text { take result room.new ≡ ended (line_text options.now place e.now) }
+    ensures text { take result room.new ≡ ended (line_text options.now place entry.now) }
     ensures within { result ≤ LINE_ROOM }
 {
     let end = put_number(room, 0, u64::from(place));
-    let end = put_field(room, end, e.worker);
-    let end = put_field(room, end, e.number);
-    let end = put_again(room, end, options.retries, e.again);
-    let end = put_field(room, end, e.seen);
+    let end = put_field(room, end, entry.worker);
+    let end = put_field(room, end, entry.number);
+    let end = put_again(room, end, options.retries, entry.again);
+    let end = put_field(room, end, entry.seen);
     let end = put_byte(room, end, b' ');
-    let end = put_move(room, end, &e.mv);
+    let end = put_move(room, end, &entry.mv);
     let end = put_byte(room, end, b' ');
-    let end = put_price(room, end, &e.price);
+    let end = put_price(room, end, &entry.price);
     let end = put_byte(room, end, b' ');
-    let end = put_verdict(room, end, &e.verdict);
+    let end = put_verdict(room, end, &entry.verdict);
     put_byte(room, end, b'\n')
 }
 
@@ -140,24 +140,30 @@ impl LineRoom {
         &mut self,
         options: &Options,
         place: u32,
-        e: &Entry,
+        entry: &Entry,
         out: &mut Vec<u8>,
     ) -> Result<(), AllocError>
-        requires { IsWithin (10 ^ 11) e.now.price }
-        ensures ok { OnOk result (out.new.items ≡ out.old.items ++ ended (line_text options.now place e.now)) }
-        ensures err { OnErr result (IsPart out.old.items out.new.items (ended (line_text options.now place e.now))) }
+        requires { IsWithin (10 ^ 11) entry.now.price }
+        ensures ok { OnOk result (out.new.items ≡ out.old.items ++ ended (line_text options.now place entry.now)) }
+        ensures err { OnErr result
+            (IsPart out.old.items out.new.items (ended (line_text options.now place entry.now))) }
     {
-        let len = put_line(&mut self.bytes, options, place, e);
+        let len = put_line(&mut self.bytes, options, place, entry);
         out.extend_from_slice(&self.bytes[..len])
     }
 }
 
 /// Appends the line of the entry at a place, with its line feed. Where memory runs out, `out` holds what it held,
 /// followed by a prefix of that line.
-pub fn line(options: &Options, place: u32, e: &Entry, out: &mut Vec<u8>) -> Result<(), AllocError>
-    requires { IsWithin (10 ^ 11) e.now.price }
-    ensures ok { OnOk result (out.new.items ≡ out.old.items ++ ended (line_text options.now place e.now)) }
-    ensures err { OnErr result (IsPart out.old.items out.new.items (ended (line_text options.now place e.now))) }
+pub fn line(
+    options: &Options,
+    place: u32,
+    entry: &Entry,
+    out: &mut Vec<u8>,
+) -> Result<(), AllocError>
+    requires { IsWithin (10 ^ 11) entry.now.price }
+    ensures ok { OnOk result (out.new.items ≡ out.old.items ++ ended (line_text options.now place entry.now)) }
+    ensures err { OnErr result (IsPart out.old.items out.new.items (ended (line_text options.now place entry.now))) }
 {
-    LineRoom::new().put(options, place, e, out)
+    LineRoom::new().put(options, place, entry, out)
 }

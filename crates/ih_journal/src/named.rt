@@ -3,7 +3,14 @@
 ghost use Rattle.std.specs.Prelude.{◌≡◌, ◌↔◌, IsTrue};
 ghost use Rattle.std.specs.Str.{bytes_eq};
 ghost use Rattle.ih_plan.specs.{Expand.IsMoveOf, Cells.IsCellOf};
-ghost use Rattle.ih_journal.specs.Names.{by_name, moves_of_one, moves_of_two, moves_of_three, moves_of_four, move_named};
+ghost use Rattle.ih_journal.specs.Names.{
+  by_name,
+  moves_of_one,
+  moves_of_two,
+  moves_of_three,
+  moves_of_four,
+  move_named,
+};
 ghost use Rattle.ih_journal.specs.Names.{cells_of_one, cells_of_two, cell_named};
 
 use ih_plan::{Move, Placement};
@@ -18,56 +25,56 @@ pub fn is(name: &[u8], text: &str) -> bool
     name == text.as_bytes()
 }
 
-fn move_of_one(name: &[u8], a: u32) -> Option<Move>
-    ensures { result ≡ by_name name.now (moves_of_one a) }
+fn move_of_one(name: &[u8], first: u32) -> Option<Move>
+    ensures { result ≡ by_name name.now (moves_of_one first) }
 {
     if is(name, "withdraw") {
-        Some(Move::Withdraw(PatientNo(a)))
+        Some(Move::Withdraw(PatientNo(first)))
     } else {
         None
     }
 }
 
-fn move_of_two(name: &[u8], a: u32, b: u32) -> Option<Move>
-    ensures { result ≡ by_name name.now (moves_of_two a b) }
+fn move_of_two(name: &[u8], first: u32, second: u32) -> Option<Move>
+    ensures { result ≡ by_name name.now (moves_of_two first second) }
 {
     if is(name, "setday") {
-        Some(Move::SetDay(PatientNo(a), Day(b)))
+        Some(Move::SetDay(PatientNo(first), Day(second)))
     } else if is(name, "setroom") {
-        Some(Move::SetRoom(PatientNo(a), RoomNo(b)))
+        Some(Move::SetRoom(PatientNo(first), RoomNo(second)))
     } else if is(name, "settheatre") {
-        Some(Move::SetTheatre(PatientNo(a), TheatreNo(b)))
+        Some(Move::SetTheatre(PatientNo(first), TheatreNo(second)))
     } else if is(name, "swaprooms") {
-        Some(Move::SwapRooms(PatientNo(a), PatientNo(b)))
+        Some(Move::SwapRooms(PatientNo(first), PatientNo(second)))
     } else {
         None
     }
 }
 
-fn move_of_three(name: &[u8], a: u32, b: u32, c: u32) -> Option<Move>
-    ensures { result ≡ by_name name.now (moves_of_three a b c) }
+fn move_of_three(name: &[u8], first: u32, second: u32, third: u32) -> Option<Move>
+    ensures { result ≡ by_name name.now (moves_of_three first second third) }
 {
     if is(name, "nurse") {
-        Some(Move::Nurse(RoomNo(a), Shift(b), NurseNo(c)))
+        Some(Move::Nurse(RoomNo(first), Shift(second), NurseNo(third)))
     } else if is(name, "swapnurses") {
-        Some(Move::SwapNurses(Shift(a), RoomNo(b), RoomNo(c)))
+        Some(Move::SwapNurses(Shift(first), RoomNo(second), RoomNo(third)))
     } else {
         None
     }
 }
 
-fn move_of_four(name: &[u8], a: u32, b: u32, c: u32, d: u32) -> Option<Move>
-    ensures { result ≡ by_name name.now (moves_of_four a b c d) }
+fn move_of_four(name: &[u8], first: u32, second: u32, third: u32, fourth: u32) -> Option<Move>
+    ensures { result ≡ by_name name.now (moves_of_four first second third fourth) }
 {
     if is(name, "place") {
         let at = Placement {
-            day: Day(b),
-            room: RoomNo(c),
-            theatre: TheatreNo(d),
+            day: Day(second),
+            room: RoomNo(third),
+            theatre: TheatreNo(fourth),
         };
-        Some(Move::Place(PatientNo(a), at))
+        Some(Move::Place(PatientNo(first), at))
     } else if is(name, "nurserun") {
-        Some(Move::NurseRun(NurseNo(a), RoomNo(b), Day(c), d))
+        Some(Move::NurseRun(NurseNo(first), RoomNo(second), Day(third), fourth))
     } else {
         None
     }
@@ -87,31 +94,31 @@ pub fn move_named(name: &[u8], ns: &[u32]) -> Option<Move>
     }
 }
 
-fn cell_of_one(name: &[u8], a: u32) -> Option<Cell>
-    ensures { result ≡ by_name name.now (cells_of_one a) }
+fn cell_of_one(name: &[u8], first: u32) -> Option<Cell>
+    ensures { result ≡ by_name name.now (cells_of_one first) }
 {
     if is(name, "stay") {
-        Some(Cell::Stay(PatientNo(a)))
+        Some(Cell::Stay(PatientNo(first)))
     } else if is(name, "care") {
-        Some(Cell::Care(PersonNo(a)))
+        Some(Cell::Care(PersonNo(first)))
     } else {
         None
     }
 }
 
-fn cell_of_two(name: &[u8], a: u32, b: u32) -> Option<Cell>
-    ensures { result ≡ by_name name.now (cells_of_two a b) }
+fn cell_of_two(name: &[u8], first: u32, second: u32) -> Option<Cell>
+    ensures { result ≡ by_name name.now (cells_of_two first second) }
 {
     if is(name, "roomday") {
-        Some(Cell::RoomDay(RoomNo(a), Day(b)))
+        Some(Cell::RoomDay(RoomNo(first), Day(second)))
     } else if is(name, "theatreday") {
-        Some(Cell::TheatreDay(TheatreNo(a), Day(b)))
+        Some(Cell::TheatreDay(TheatreNo(first), Day(second)))
     } else if is(name, "surgeonday") {
-        Some(Cell::SurgeonDay(SurgeonNo(a), Day(b)))
+        Some(Cell::SurgeonDay(SurgeonNo(first), Day(second)))
     } else if is(name, "roomshift") {
-        Some(Cell::RoomShift(RoomNo(a), Shift(b)))
+        Some(Cell::RoomShift(RoomNo(first), Shift(second)))
     } else if is(name, "nurseshift") {
-        Some(Cell::NurseShift(NurseNo(a), Shift(b)))
+        Some(Cell::NurseShift(NurseNo(first), Shift(second)))
     } else {
         None
     }

@@ -49,12 +49,12 @@ impl Options {
                 <= MAX_ENTRIES
     }
 
-    /// The greatest score at which a worker's move `i` is accepted: the heat, falling to 0 with the moves.
-    pub fn theta(&self, i: u32) -> i64
+    /// The greatest score at which a worker's move `index` is accepted: the heat, falling to 0 with the moves.
+    pub fn theta(&self, index: u32) -> i64
         requires lawful { IsLawful self.now }
-        requires below { i < self.now.moves }
-        ensures { result ≡ theta self.now i }
+        requires below { index < self.now.moves }
+        ensures { result ≡ theta self.now index }
     {
-        (self.heat as u64 * (self.moves - i) as u64 / self.moves as u64) as i64
+        (self.heat as u64 * (self.moves - index) as u64 / self.moves as u64) as i64
     }
 }

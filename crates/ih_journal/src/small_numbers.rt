@@ -41,12 +41,12 @@ static TEXTS: [u8; 3000] = *b"\
     992993994995996997998999";
 
 #[inline(always)]
-fn digit_count(n: u64) -> usize
-    requires { n < 1000 }
-    ensures count { result ≡ length (decimal n) }
+fn digit_count(number: u64) -> usize
+    requires { number < 1000 }
+    ensures count { result ≡ length (decimal number) }
     ensures few { result ≤ 3 }
 {
-    1 + (n >= 10) as usize + (n >= 100) as usize
+    1 + (number >= 10) as usize + (number >= 100) as usize
 }
 
 // Three bytes, of which the text has the first ones.
@@ -64,12 +64,12 @@ fn put_three(room: &mut [u8], at: usize, from: usize)
 
 /// Writes a number of at most three digits. Up to two bytes behind its text are spoilt.
 #[inline(always)]
-pub(crate) fn put_small(room: &mut [u8], at: usize, n: u64) -> usize
+pub(crate) fn put_small(room: &mut [u8], at: usize, number: u64) -> usize
     requires room { at + 3 ≤ length room.old }
-    requires small { n < 1000 }
-    ensures text { take result room.new ≡ take at room.old ++ decimal n }
+    requires small { number < 1000 }
+    ensures text { take result room.new ≡ take at room.old ++ decimal number }
     ensures within { result ≤ at + 3 }
 {
-    put_three(room, at, 3 * n as usize);
-    at + digit_count(n)
+    put_three(room, at, 3 * number as usize);
+    at + digit_count(number)
 }

@@ -8,12 +8,12 @@ use itoa::Buffer;
 
 /// Writes a byte.
 #[inline(always)]
-pub(crate) fn put_byte(room: &mut [u8], at: usize, b: u8) -> usize
+pub(crate) fn put_byte(room: &mut [u8], at: usize, byte: u8) -> usize
     requires { at < length room.old }
-    ensures text { take result room.new ≡ take at room.old ++ b ∷ [] }
+    ensures text { take result room.new ≡ take at room.old ++ byte ∷ [] }
     ensures end { result ≡ at + 1 }
 {
-    room[at] = b;
+    room[at] = byte;
     at + 1
 }
 
@@ -35,31 +35,31 @@ pub(crate) fn put_text(room: &mut [u8], at: usize, text: &str) -> usize
 
 /// Writes a number.
 #[inline(always)]
-pub(crate) fn put_number(room: &mut [u8], at: usize, n: u64) -> usize
+pub(crate) fn put_number(room: &mut [u8], at: usize, number: u64) -> usize
     requires { at + 20 ≤ length room.old }
-    ensures text { take result room.new ≡ take at room.old ++ decimal n }
+    ensures text { take result room.new ≡ take at room.old ++ decimal number }
     ensures within { result ≤ at + 20 }
 {
-    if n < 1000 {
-        put_small(room, at, n)
+    if number < 1000 {
+        put_small(room, at, number)
     } else {
-        put_text(room, at, Buffer::new().format(n))
+        put_text(room, at, Buffer::new().format(number))
     }
 }
 
 /// Writes a number with its sign. Most of those of a price are 0.
 #[inline(always)]
-pub(crate) fn put_signed(room: &mut [u8], at: usize, x: i64) -> usize
+pub(crate) fn put_signed(room: &mut [u8], at: usize, value: i64) -> usize
     requires { at + 21 ≤ length room.old }
-    ensures text { take result room.new ≡ take at room.old ++ signed_decimal x }
+    ensures text { take result room.new ≡ take at room.old ++ signed_decimal value }
     ensures within { result ≤ at + 21 }
 {
-    if x == 0 {
+    if value == 0 {
         put_byte(room, at, b'0')
-    } else if x < 0 {
+    } else if value < 0 {
         let end = put_byte(room, at, b'-');
-        put_number(room, end, x.unsigned_abs())
+        put_number(room, end, value.unsigned_abs())
     } else {
-        put_number(room, at, x.unsigned_abs())
+        put_number(room, at, value.unsigned_abs())
     }
 }

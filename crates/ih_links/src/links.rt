@@ -58,13 +58,13 @@ fn lone_places<W: Width>(alloc: Global, count: u64) -> Result<Vec<W>, AllocError
 }
 
 // So often the same number.
-fn repeated<W: Width>(alloc: Global, n: u32, times: u32) -> Result<Vec<W>, AllocError>
-    requires { n ≤ W.most }
-    ensures { IfOk result (λ all. map W.number all.items ≡ replicate times n) }
+fn repeated<W: Width>(alloc: Global, first: u32, times: u32) -> Result<Vec<W>, AllocError>
+    requires { first ≤ W.most }
+    ensures { IfOk result (λ all. map W.number all.items ≡ replicate times first) }
 {
     let mut all = Vec::with_capacity(alloc, times as usize)?;
     for _ in 0..times {
-        all.push(W::of(n))?;
+        all.push(W::of(first))?;
     }
     Ok(all)
 }

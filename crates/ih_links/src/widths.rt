@@ -14,9 +14,9 @@ pub trait Width: Copy {
         ensures { result ≡ most };
 
     /// The number as one of them.
-    fn of(n: u32) -> Self
-        requires { n ≤ most }
-        ensures { number result ≡ n };
+    fn of(value: u32) -> Self
+        requires { value ≤ most }
+        ensures { number result ≡ value };
 
     /// The number that it is.
     fn get(self) -> u32
@@ -40,8 +40,8 @@ impl Width for u16 {
     }
 
     #[inline(always)]
-    fn of(n: u32) -> u16 {
-        n as u16
+    fn of(number: u32) -> u16 {
+        number as u16
     }
 
     #[inline(always)]
@@ -66,8 +66,8 @@ impl Width for u32 {
     }
 
     #[inline(always)]
-    fn of(n: u32) -> u32 {
-        n
+    fn of(number: u32) -> u32 {
+        number
     }
 
     #[inline(always)]

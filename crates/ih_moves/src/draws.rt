@@ -79,35 +79,41 @@ impl Stream {
 }
 
 // The word modulo n.
-fn choose(u: u64, n: u32) -> Option<u32>
-    ensures value { result ≡ choose u n }
-    ensures below { IfSome result (λ i. i < n) }
+fn choose(word: u64, count: u32) -> Option<u32>
+    ensures value { result ≡ choose word count }
+    ensures below { IfSome result (λ i. i < count) }
 {
-    if n == 0 {
+    if count == 0 {
         None
     } else {
-        Some((u % n as u64) as u32)
+        Some((word % count as u64) as u32)
     }
 }
 
 // Two choices, each among so many by a word of its own.
-fn choose_two(u: u64, m: u32, v: u64, n: u32) -> Option<(u32, u32)>
-    ensures none { result ≡ None → (choose u m ≡ None) ⊎ (choose v n ≡ None) }
-    ensures both { (i j : ℕ) → result ≡ Some (i, j) → (choose u m ≡ Some i) × (choose v n ≡ Some j) }
-    ensures below { IfSome result (λ c. (c.0 < m) × (c.1 < n)) }
+fn choose_two(
+    first_word: u64,
+    first_count: u32,
+    second_word: u64,
+    second_count: u32,
+) -> Option<(u32, u32)>
+    ensures none { result ≡ None → (choose first_word first_count ≡ None) ⊎ (choose second_word second_count ≡ None) }
+    ensures both { (i j : ℕ) → result ≡ Some (i, j)
+        → (choose first_word first_count ≡ Some i) × (choose second_word second_count ≡ Some j) }
+    ensures below { IfSome result (λ c. (c.0 < first_count) × (c.1 < second_count)) }
 {
-    let i = choose(u, m)?;
-    let j = choose(v, n)?;
+    let i = choose(first_word, first_count)?;
+    let j = choose(second_word, second_count)?;
     Some((i, j))
 }
 
-fn last_day(inst: &Instance, a: &Patient) -> u32
-    ensures value { result ≡ last_day inst.now.draft a.now }
+fn last_day(inst: &Instance, patient: &Patient) -> u32
+    ensures value { result ≡ last_day inst.now.draft patient.now }
     ensures below { result < inst.now.draft.days }
 {
     let last = inst.days() - 1;
-    if a.mandatory {
-        a.surgery_due_day.unwrap_or(0).min(last)
+    if patient.mandatory {
+        patient.surgery_due_day.unwrap_or(0).min(last)
     } else {
         last
     }
@@ -115,20 +121,20 @@ fn last_day(inst: &Instance, a: &Patient) -> u32
 
 /// How many days, from the release day on, a patient may be admitted on: up to the due day of a mandatory one, cut at
 /// the horizon's end.
-pub fn window_len(inst: &Instance, a: &Patient) -> u32
-    ensures value { result ≡ window_len inst.now.draft a.now }
-    ensures inside { 0 < result → a.now.surgery_release_day + result ≤ inst.now.draft.days }
+pub fn window_len(inst: &Instance, patient: &Patient) -> u32
+    ensures value { result ≡ window_len inst.now.draft patient.now }
+    ensures inside { 0 < result → patient.now.surgery_release_day + result ≤ inst.now.draft.days }
 {
-    (last_day(inst, a) + 1).saturating_sub(a.surgery_release_day)
+    (last_day(inst, patient) + 1).saturating_sub(patient.surgery_release_day)
 }
 
-fn choose_day(inst: &Instance, u: u64, p: u32) -> Option<u32>
-    requires { p < patient_count inst.now.draft }
-    ensures value { result ≡ choose_day inst.now.draft u p }
+fn choose_day(inst: &Instance, word: u64, patient: u32) -> Option<u32>
+    requires { patient < patient_count inst.now.draft }
+    ensures value { result ≡ choose_day inst.now.draft word patient }
     ensures below { IfSome result (λ d. d < inst.now.draft.days) }
 {
-    let a = inst.patient(PatientNo(p));
-    match choose(u, window_len(inst, a)) {
+    let a = inst.patient(PatientNo(patient));
+    match choose(word, window_len(inst, a)) {
         None => None,
         Some(j) => Some(a.surgery_release_day + j),
     }
@@ -238,12 +244,12 @@ fn draw(inst: &Instance, u0: u64, u1: u64, u2: u64, u3: u64, u4: u64) -> Move
     }
 }
 
-fn choose_nurse(inst: &Instance, u: u64, k: u32) -> Option<NurseNo>
-    requires { k < shift_count inst.now.draft }
-    ensures value { result ≡ choose_nurse inst.now.draft u k }
+fn choose_nurse(inst: &Instance, word: u64, shift: u32) -> Option<NurseNo>
+    requires { shift < shift_count inst.now.draft }
+    ensures value { result ≡ choose_nurse inst.now.draft word shift }
     ensures below { IfSome result (λ n. n.0 < nurse_count inst.now.draft) }
 {
-    let working = inst.working(Shift(k));
-    let place = choose(u, working.len() as u32)?;
+    let working = inst.working(Shift(shift));
+    let place = choose(word, working.len() as u32)?;
     Some(working[place as usize])
 }

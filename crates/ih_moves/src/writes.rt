@@ -54,65 +54,65 @@ impl Writes {
         self.len = 0;
     }
 
-    fn push(&mut self, w: Write)
+    fn push(&mut self, write: Write)
         requires { length self.old < 64 }
-        ensures { self.new ≡ self.old ++ w ∷ [] }
+        ensures { self.new ≡ self.old ++ write ∷ [] }
     {
-        self.items[self.len] = w;
+        self.items[self.len] = write;
         self.len += 1;
     }
 }
 
-fn is_in_run(inst: &Instance, n: NurseNo, d: Day, len: u32, k: u32) -> bool
-    requires nurse { n.0 < nurse_count inst.now.draft }
-    requires day { d.0 < inst.now.draft.days }
+fn is_in_run(inst: &Instance, nurse: NurseNo, day: Day, len: u32, shift: u32) -> bool
+    requires nurse { nurse.0 < nurse_count inst.now.draft }
+    requires day { day.0 < inst.now.draft.days }
     requires len { len ≤ 7 }
-    requires shift { k < shift_count inst.now.draft }
-    ensures { result ≡ in_run inst.now.draft n d.0 len k }
+    requires shift { shift < shift_count inst.now.draft }
+    ensures { result ≡ in_run inst.now.draft nurse day.0 len shift }
 {
-    inst.works(n, Shift(k)).is_some() && d.0 <= k / 3 && k / 3 < d.0 + len
+    inst.works(nurse, Shift(shift)).is_some() && day.0 <= shift / 3 && shift / 3 < day.0 + len
 }
 
 #[tactic(auto, using(crate::proofs::RunLemmas::run_steps))]
-fn put_run(inst: &Instance, n: NurseNo, r: RoomNo, d: Day, len: u32, out: &mut Writes)
-    requires nurse { n.0 < nurse_count inst.now.draft }
-    requires day { d.0 < inst.now.draft.days }
+fn put_run(inst: &Instance, nurse: NurseNo, room: RoomNo, day: Day, len: u32, out: &mut Writes)
+    requires nurse { nurse.0 < nurse_count inst.now.draft }
+    requires day { day.0 < inst.now.draft.days }
     requires len { len ≤ 7 }
     requires empty { out.old ≡ [] }
-    ensures made { out.new ≡ run_below inst.now.draft n r d.0 len (shift_count inst.now.draft) }
+    ensures made { out.new ≡ run_below inst.now.draft nurse room day.0 len (shift_count inst.now.draft) }
     ensures few { length out.new ≤ 21 }
 {
-    let end = (3 * (d.0 + len)).min(inst.shifts());
-    for k in 3 * d.0..end {
+    let end = (3 * (day.0 + len)).min(inst.shifts());
+    for k in 3 * day.0..end {
         put_where(
-            is_in_run(inst, n, d, len, k),
-            Write::SetCare(r, Shift(k), Some(n)),
+            is_in_run(inst, nurse, day, len, k),
+            Write::SetCare(room, Shift(k), Some(nurse)),
             out,
         );
     }
 }
 
-fn put_where(b: bool, w: Write, out: &mut Writes)
+fn put_where(wanted: bool, write: Write, out: &mut Writes)
     requires { length out.old < 64 }
-    ensures made { out.new ≡ (if b then out.old ++ w ∷ [] else out.old) }
+    ensures made { out.new ≡ (if wanted then out.old ++ write ∷ [] else out.old) }
     ensures few { length out.new ≤ length out.old + 1 }
 {
-    if b {
-        out.push(w);
+    if wanted {
+        out.push(write);
     }
 }
 
-fn put_swapped_rooms(plan: &Plan, p: PatientNo, q: PatientNo, out: &mut Writes)
-    requires first { p.0 < length plan.now.stays }
-    requires second { q.0 < length plan.now.stays }
+fn put_swapped_rooms(plan: &Plan, patient: PatientNo, other: PatientNo, out: &mut Writes)
+    requires first { patient.0 < length plan.now.stays }
+    requires second { other.0 < length plan.now.stays }
     requires empty { out.old ≡ [] }
-    ensures made { out.new ≡ swap_stays p q (stay_of plan.now p.0) (stay_of plan.now q.0) }
+    ensures made { out.new ≡ swap_stays patient other (stay_of plan.now patient.0) (stay_of plan.now other.0) }
     ensures few { length out.new ≤ 2 }
 {
-    match (plan.stay(p), plan.stay(q)) {
+    match (plan.stay(patient), plan.stay(other)) {
         (Some(a), Some(b)) => {
-            out.push(Write::SetStay(p, Some(in_room(a, b.room))));
-            out.push(Write::SetStay(q, Some(in_room(b, a.room))));
+            out.push(Write::SetStay(patient, Some(in_room(a, b.room))));
+            out.push(Write::SetStay(other, Some(in_room(b, a.room))));
         }
         _ => {}
     }

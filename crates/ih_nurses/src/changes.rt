@@ -28,15 +28,15 @@ fn nursed(nurses_seen: u32) -> NursingCosts
 impl Nurses {
     /// How many nurses more a patient sees with a placement than without one. Each number is at most 10^11 in
     /// magnitude.
-    pub fn care_delta(&self, inst: &Instance, p: PatientNo, at: Placement) -> Bill
-        requires patient { p.0 < patient_count inst.now.draft }
+    pub fn care_delta(&self, inst: &Instance, patient: PatientNo, at: Placement) -> Bill
+        requires patient { patient.0 < patient_count inst.now.draft }
         requires placement { IsPlacement inst.now.draft at }
         requires stands { (P : Timetable) × IsLedgerOf inst.now.draft P self.now }
         ensures delta { (P : Timetable) → IsLedgerOf inst.now.draft P self.now
-            → result ≡ delta_at inst.now.draft P p at (Care (record { 0 = p.0 })) }
+            → result ≡ delta_at inst.now.draft P patient at (Care (record { 0 = patient.0 })) }
         ensures within { IsWithin (10 ^ 11) result }
     {
-        let shift_span = stay_shift_span(inst, p, Some(at));
+        let shift_span = stay_shift_span(inst, patient, Some(at));
         difference(
             nursed(distinct_nurses_over(inst, &self.plan, shift_span)),
             nursed(0),

@@ -38,31 +38,31 @@ impl Nurses {
     fn loads_change(
         &self,
         inst: &Instance,
-        r: RoomNo,
-        k: Shift,
+        room: RoomNo,
+        shift: Shift,
         old: Option<NurseNo>,
         new: Option<NurseNo>,
         work: u32,
     ) -> i64
-        requires room { r.0 < room_count inst.now.draft }
-        requires shift { k.0 < shift_count inst.now.draft }
-        requires old { old ≡ choice_of (plan_of self.now) r.0 k.0 }
+        requires room { room.0 < room_count inst.now.draft }
+        requires shift { shift.0 < shift_count inst.now.draft }
+        requires old { old ≡ choice_of (plan_of self.now) room.0 shift.0 }
         requires old_nurse { IfSome old (λ a. a.0 < nurse_count inst.now.draft) }
         requires nurse { (a : NurseNo) → new ≡ Some a → a.0 < nurse_count inst.now.draft }
         requires stands { (P : Timetable) × IsLedgerOf inst.now.draft P self.now }
         requires other { (P : Timetable) → IsLedgerOf inst.now.draft P self.now
-            → care_of P r.0 k.0 ≢ option_map (λ (a : NurseNo). a.0) new }
-        requires work { work ≡ sum_by (workload_of inst.now.draft (plan_of self.now) k.0)
-            (present inst.now.draft (plan_of self.now) r.0 (day_of k.0)) }
+            → care_of P room.0 shift.0 ≢ option_map (λ (a : NurseNo). a.0) new }
+        requires work { work ≡ sum_by (workload_of inst.now.draft (plan_of self.now) shift.0)
+            (present inst.now.draft (plan_of self.now) room.0 (day_of shift.0)) }
         requires bound { work ≤ 256000000 }
         ensures { (P : Timetable) → IsLedgerOf inst.now.draft P self.now
-            → result ≡ increase_by_choice P r k new
-            (λ Q. excess_of inst.now.draft Q k.0 (care_of P r.0 k.0) + excess_of inst.now.draft Q k.0
+            → result ≡ increase_by_choice P room shift new
+            (λ Q. excess_of inst.now.draft Q shift.0 (care_of P room.0 shift.0) + excess_of inst.now.draft Q shift.0
             (option_map (λ (a : NurseNo). a.0) new)) }
     {
         let loads = self.loads.as_slice();
-        let gone = excess_change(inst, loads, old, k, work, 0);
-        let come = excess_change(inst, loads, new, k, 0, work);
+        let gone = excess_change(inst, loads, old, shift, work, 0);
+        let come = excess_change(inst, loads, new, shift, 0, work);
         gone + come
     }
 
@@ -72,40 +72,40 @@ impl Nurses {
     pub fn choice_delta(
         &self,
         inst: &Instance,
-        r: RoomNo,
-        k: Shift,
+        room: RoomNo,
+        shift: Shift,
         new: Option<NurseNo>,
     ) -> ChoiceDelta
-        requires room { r.0 < room_count inst.now.draft }
-        requires shift { k.0 < shift_count inst.now.draft }
+        requires room { room.0 < room_count inst.now.draft }
+        requires shift { shift.0 < shift_count inst.now.draft }
         requires nurse { (a : NurseNo) → new ≡ Some a → a.0 < nurse_count inst.now.draft }
         requires stands { (P : Timetable) × IsLedgerOf inst.now.draft P self.now }
         requires other { (P : Timetable) → IsLedgerOf inst.now.draft P self.now
-            → care_of P r.0 k.0 ≢ option_map (λ (a : NurseNo). a.0) new }
+            → care_of P room.0 shift.0 ≢ option_map (λ (a : NurseNo). a.0) new }
         ensures off { (P : Timetable) → IsLedgerOf inst.now.draft P self.now
-            → result.off ≡ increase_by_choice P r k new (λ Q. off_in inst.now.draft Q r k) }
+            → result.off ≡ increase_by_choice P room shift new (λ Q. off_in inst.now.draft Q room shift) }
         ensures uncovered { (P : Timetable) → IsLedgerOf inst.now.draft P self.now
-            → result.uncovered ≡ increase_by_choice P r k new (λ Q. uncovered_in inst.now.draft Q r k) }
+            → result.uncovered ≡ increase_by_choice P room shift new (λ Q. uncovered_in inst.now.draft Q room shift) }
         ensures missing_skill { (P : Timetable) → IsLedgerOf inst.now.draft P self.now
-            → result.missing_skill ≡ increase_by_choice P r k new (λ Q. missing_in inst.now.draft Q r k) }
+            → result.missing_skill ≡ increase_by_choice P room shift new (λ Q. missing_in inst.now.draft Q room shift) }
         ensures nurses_seen { (P : Timetable) → IsLedgerOf inst.now.draft P self.now
-            → result.nurses_seen ≡ increase_by_choice P r k new
-            (λ Q. seen_by inst.now.draft Q (present inst.now.draft P r.0 (day_of k.0))) }
+            → result.nurses_seen ≡ increase_by_choice P room shift new
+            (λ Q. seen_by inst.now.draft Q (present inst.now.draft P room.0 (day_of shift.0))) }
         ensures overload { (P : Timetable) → IsLedgerOf inst.now.draft P self.now
-            → result.overload ≡ increase_by_choice P r k new
-            (λ Q. excess_of inst.now.draft Q k.0 (care_of P r.0 k.0) + excess_of inst.now.draft Q k.0
+            → result.overload ≡ increase_by_choice P room shift new
+            (λ Q. excess_of inst.now.draft Q shift.0 (care_of P room.0 shift.0) + excess_of inst.now.draft Q shift.0
             (option_map (λ (a : NurseNo). a.0) new)) }
     {
-        let persons = &self.here[(k.0 / 3) as usize];
-        let old = nurse_at(inst, &self.plan, r, k);
+        let persons = &self.here[(shift.0 / 3) as usize];
+        let old = nurse_at(inst, &self.plan, room, shift);
         let counts = self.counts.as_slice();
-        let sums = room_sums(inst, &self.plan, counts, persons, r, k, new, old);
+        let sums = room_sums(inst, &self.plan, counts, persons, room, shift, new, old);
         ChoiceDelta {
-            off: increase(nurse_off(inst, new, k), nurse_off(inst, old, k)),
-            uncovered: increase(uncovered(persons, r, new), uncovered(persons, r, old)),
+            off: increase(nurse_off(inst, new, shift), nurse_off(inst, old, shift)),
+            uncovered: increase(uncovered(persons, room, new), uncovered(persons, room, old)),
             missing_skill: increase(sums.new_missing, sums.old_missing),
             nurses_seen: increase(sums.come, sums.gone),
-            overload: self.loads_change(inst, r, k, old, new, sums.work),
+            overload: self.loads_change(inst, room, shift, old, new, sums.work),
         }
     }
 }

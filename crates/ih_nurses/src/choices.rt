@@ -7,11 +7,11 @@ ghost use Rattle.ih_plan.specs.Costs.{is_number};
 use ih_tables::NurseNo;
 
 /// Whether the choice is this nurse.
-pub fn is_nurse(choice: Option<NurseNo>, n: NurseNo) -> bool
-    ensures { result ≡ is_number (option_map (λ (a : NurseNo). a.0) choice) n.0 }
+pub fn is_nurse(choice: Option<NurseNo>, nurse: NurseNo) -> bool
+    ensures { result ≡ is_number (option_map (λ (a : NurseNo). a.0) choice) nurse.0 }
 {
     match choice {
         None => false,
-        Some(a) => a.0 == n.0,
+        Some(a) => a.0 == nurse.0,
     }
 }

@@ -16,95 +16,101 @@ use ih_tables::{Instance, NurseNo, RoomNo, Shift};
 
 // Where a nurse's count for a person stands.
 #[inline(always)]
-fn place(inst: &Instance, x: u32, n: NurseNo) -> usize
-    requires person { x < person_count inst.now.draft }
-    requires nurse { n.0 < nurse_count inst.now.draft }
-    ensures value { result ≡ x * nurse_count inst.now.draft + n.0 }
+fn place(inst: &Instance, person: u32, nurse: NurseNo) -> usize
+    requires person { person < person_count inst.now.draft }
+    requires nurse { nurse.0 < nurse_count inst.now.draft }
+    ensures value { result ≡ person * nurse_count inst.now.draft + nurse.0 }
     ensures inside { result < person_count inst.now.draft * nurse_count inst.now.draft }
 {
-    x as usize * inst.nurses() as usize + n.0 as usize
+    person as usize * inst.nurses() as usize + nurse.0 as usize
 }
 
 /// How many counted shifts of a person's stay a nurse has.
 #[inline(always)]
-pub fn count(inst: &Instance, counts: &[u8], x: u32, n: NurseNo) -> u8
+pub fn count(inst: &Instance, counts: &[u8], person: u32, nurse: NurseNo) -> u8
     requires table { length counts.now ≡ person_count inst.now.draft * nurse_count inst.now.draft }
-    requires person { x < person_count inst.now.draft }
-    requires nurse { n.0 < nurse_count inst.now.draft }
-    ensures { result ≡ count_at inst.now.draft counts.now x n.0 }
+    requires person { person < person_count inst.now.draft }
+    requires nurse { nurse.0 < nurse_count inst.now.draft }
+    ensures { result ≡ count_at inst.now.draft counts.now person nurse.0 }
 {
-    counts[place(inst, x, n)]
+    counts[place(inst, person, nurse)]
 }
 
 // Counts a shift more of a person for a nurse, where there is one.
 #[inline(always)]
-fn add_count(inst: &Instance, counts: &mut [u8], x: u32, n: Option<NurseNo>)
+fn add_count(inst: &Instance, counts: &mut [u8], person: u32, nurse: Option<NurseNo>)
     requires table { length counts.old ≡ person_count inst.now.draft * nurse_count inst.now.draft }
-    requires person { x < person_count inst.now.draft }
-    requires nurse { IfSome n (λ a. a.0 < nurse_count inst.now.draft) }
-    requires fits { (m : ℕ) → m < nurse_count inst.now.draft → count_at inst.now.draft counts.old x m < 255 }
+    requires person { person < person_count inst.now.draft }
+    requires nurse { IfSome nurse (λ a. a.0 < nurse_count inst.now.draft) }
+    requires fits { (m : ℕ) → m < nurse_count inst.now.draft → count_at inst.now.draft counts.old person m < 255 }
     ensures len { length counts.new ≡ length counts.old }
     ensures each { (y m : ℕ) → m < nurse_count inst.now.draft
-        → count_at inst.now.draft counts.new y m ≡ count_at inst.now.draft counts.old y m + one_of x n y m }
+        → count_at inst.now.draft counts.new y m ≡ count_at inst.now.draft counts.old y m + one_of person nurse y m }
 {
-    match n {
+    match nurse {
         None => {}
-        Some(a) => counts[place(inst, x, a)] += 1,
+        Some(a) => counts[place(inst, person, a)] += 1,
     }
 }
 
 // Counts a shift less of a person for a nurse, where there is one.
 #[inline(always)]
-fn take_count(inst: &Instance, counts: &mut [u8], x: u32, n: Option<NurseNo>)
+fn take_count(inst: &Instance, counts: &mut [u8], person: u32, nurse: Option<NurseNo>)
     requires table { length counts.old ≡ person_count inst.now.draft * nurse_count inst.now.draft }
-    requires person { x < person_count inst.now.draft }
-    requires nurse { IfSome n (λ a. a.0 < nurse_count inst.now.draft) }
+    requires person { person < person_count inst.now.draft }
+    requires nurse { IfSome nurse (λ a. a.0 < nurse_count inst.now.draft) }
     requires enough { (m : ℕ) → m < nurse_count inst.now.draft
-        → one_of x n x m ≤ count_at inst.now.draft counts.old x m }
+        → one_of person nurse person m ≤ count_at inst.now.draft counts.old person m }
     ensures len { length counts.new ≡ length counts.old }
     ensures each { (y m : ℕ) → m < nurse_count inst.now.draft
-        → count_at inst.now.draft counts.new y m + one_of x n y m ≡ count_at inst.now.draft counts.old y m }
+        → count_at inst.now.draft counts.new y m + one_of person nurse y m ≡ count_at inst.now.draft counts.old y m }
 {
-    match n {
+    match nurse {
         None => {}
-        Some(a) => counts[place(inst, x, a)] -= 1,
+        Some(a) => counts[place(inst, person, a)] -= 1,
     }
 }
 
 /// Counts the shifts of a person who has none so far.
-pub fn add_shift_span(inst: &Instance, plan: &Plan, counts: &mut [u8], x: u32, s: ShiftSpan)
+pub fn add_shift_span(inst: &Instance, plan: &Plan, counts: &mut [u8], person: u32, span: ShiftSpan)
     requires plan { IsPlanOf inst.now.draft plan.now }
-    requires person { x < person_count inst.now.draft }
-    requires shift_span { IsShiftSpan inst.now.draft s }
+    requires person { person < person_count inst.now.draft }
+    requires shift_span { IsShiftSpan inst.now.draft span }
     requires table { length counts.old ≡ person_count inst.now.draft * nurse_count inst.now.draft }
-    requires none { (m : ℕ) → m < nurse_count inst.now.draft → count_at inst.now.draft counts.old x m ≡ 0 }
+    requires none { (m : ℕ) → m < nurse_count inst.now.draft → count_at inst.now.draft counts.old person m ≡ 0 }
     ensures len { length counts.new ≡ length counts.old }
     ensures each { (y m : ℕ) → m < nurse_count inst.now.draft
         → count_at inst.now.draft counts.new y m
-        ≡ count_at inst.now.draft counts.old y m + (if x == y then nursed_in plan.now (Some s) m else 0) }
+        ≡ count_at inst.now.draft counts.old y m + (if person == y then nursed_in plan.now (Some span) m else 0) }
 {
-    for j in 0..s.len {
-        let nurse = nurse_at(inst, plan, s.room, Shift(s.from + j));
-        add_count(inst, counts, x, nurse);
+    for j in 0..span.len {
+        let nurse = nurse_at(inst, plan, span.room, Shift(span.from + j));
+        add_count(inst, counts, person, nurse);
     }
 }
 
 /// Takes the shifts of a person from its counts.
-pub fn take_shift_span(inst: &Instance, plan: &Plan, counts: &mut [u8], x: u32, s: ShiftSpan)
+pub fn take_shift_span(
+    inst: &Instance,
+    plan: &Plan,
+    counts: &mut [u8],
+    person: u32,
+    span: ShiftSpan,
+)
     requires plan { IsPlanOf inst.now.draft plan.now }
-    requires person { x < person_count inst.now.draft }
-    requires shift_span { IsShiftSpan inst.now.draft s }
+    requires person { person < person_count inst.now.draft }
+    requires shift_span { IsShiftSpan inst.now.draft span }
     requires table { length counts.old ≡ person_count inst.now.draft * nurse_count inst.now.draft }
     requires enough { (m : ℕ) → m < nurse_count inst.now.draft
-        → nursed_in plan.now (Some s) m ≤ count_at inst.now.draft counts.old x m }
+        → nursed_in plan.now (Some span) m ≤ count_at inst.now.draft counts.old person m }
     ensures len { length counts.new ≡ length counts.old }
     ensures each { (y m : ℕ) → m < nurse_count inst.now.draft
-        → count_at inst.now.draft counts.new y m + (if x == y then nursed_in plan.now (Some s) m else 0)
+        → count_at inst.now.draft counts.new y m + (if person == y then nursed_in plan.now (Some span) m else 0)
         ≡ count_at inst.now.draft counts.old y m }
 {
-    for j in 0..s.len {
-        let nurse = nurse_at(inst, plan, s.room, Shift(s.from + j));
-        take_count(inst, counts, x, nurse);
+    for j in 0..span.len {
+        let nurse = nurse_at(inst, plan, span.room, Shift(span.from + j));
+        take_count(inst, counts, person, nurse);
     }
 }
 
@@ -114,23 +120,23 @@ pub fn move_counts(
     plan: &Plan,
     counts: &mut [u8],
     persons: &CompactLinks,
-    r: RoomNo,
-    k: Shift,
+    room: RoomNo,
+    shift: Shift,
     new: Option<NurseNo>,
 )
     requires plan { IsPlanOf inst.now.draft plan.now }
-    requires room { r.0 < room_count inst.now.draft }
-    requires shift { k.0 < shift_count inst.now.draft }
+    requires room { room.0 < room_count inst.now.draft }
+    requires shift { shift.0 < shift_count inst.now.draft }
     requires nurse { IfSome new (λ a. a.0 < nurse_count inst.now.draft) }
-    requires list { r.0 < length persons.now.lists }
+    requires list { room.0 < length persons.now.lists }
     requires persons { persons.now.nodes ≡ person_count inst.now.draft }
     requires there { (x : ℕ) → x < person_count inst.now.draft
-        → has x (list_of persons.now r.0) ≡ is_present inst.now.draft plan.now r.0 (day_of k.0) x }
+        → has x (list_of persons.now room.0) ≡ is_present inst.now.draft plan.now room.0 (day_of shift.0) x }
     requires counts { AreCounts inst.now.draft plan.now counts.old }
-    ensures { AreCounts inst.now.draft (put (SetCare r k new) plan.now) counts.new }
+    ensures { AreCounts inst.now.draft (put (SetCare room shift new) plan.now) counts.new }
 {
-    let old = nurse_at(inst, plan, r, k);
-    let mut at = persons.first(r.0);
+    let old = nurse_at(inst, plan, room, shift);
+    let mut at = persons.first(room.0);
     while let Some(x) = at {
         take_count(inst, counts, x, old);
         add_count(inst, counts, x, new);

@@ -17,24 +17,24 @@ pub struct NurseLoad {
 }
 
 // Where a nurse's load in a shift stands.
-fn place(inst: &Instance, n: NurseNo, k: Shift) -> usize
-    requires nurse { n.0 < nurse_count inst.now.draft }
-    requires shift { k.0 < shift_count inst.now.draft }
-    ensures value { result ≡ n.0 * shift_count inst.now.draft + k.0 }
+fn place(inst: &Instance, nurse: NurseNo, shift: Shift) -> usize
+    requires nurse { nurse.0 < nurse_count inst.now.draft }
+    requires shift { shift.0 < shift_count inst.now.draft }
+    ensures value { result ≡ nurse.0 * shift_count inst.now.draft + shift.0 }
     ensures inside { result < nurse_count inst.now.draft * shift_count inst.now.draft }
 {
-    n.0 as usize * inst.shifts() as usize + k.0 as usize
+    nurse.0 as usize * inst.shifts() as usize + shift.0 as usize
 }
 
 /// A nurse's load in a shift.
-pub fn load(inst: &Instance, loads: &[NurseLoad], n: NurseNo, k: Shift) -> NurseLoad
+pub fn load(inst: &Instance, loads: &[NurseLoad], nurse: NurseNo, shift: Shift) -> NurseLoad
     requires table { IsTable inst.now.draft loads.now }
-    requires nurse { n.0 < nurse_count inst.now.draft }
-    requires shift { k.0 < shift_count inst.now.draft }
-    ensures work { result.work ≡ load_at inst.now.draft loads.now n.0 k.0 }
-    ensures most { result.most ≡ most_of (max_load inst.now.draft n.0 k.0) }
+    requires nurse { nurse.0 < nurse_count inst.now.draft }
+    requires shift { shift.0 < shift_count inst.now.draft }
+    ensures work { result.work ≡ load_at inst.now.draft loads.now nurse.0 shift.0 }
+    ensures most { result.most ≡ most_of (max_load inst.now.draft nurse.0 shift.0) }
 {
-    loads[place(inst, n, k)]
+    loads[place(inst, nurse, shift)]
 }
 
 /// A workload above the most that it may be, and 0 where the nurse doesn't work the shift.
@@ -45,36 +45,48 @@ pub fn overload(load: NurseLoad, work: u32) -> u32
 }
 
 /// Adds to the load of a nurse, where there is one.
-pub fn add_load(inst: &Instance, loads: &mut [NurseLoad], n: Option<NurseNo>, k: Shift, load: u32)
+pub fn add_load(
+    inst: &Instance,
+    loads: &mut [NurseLoad],
+    nurse: Option<NurseNo>,
+    shift: Shift,
+    load: u32,
+)
     requires table { IsTable inst.now.draft loads.old }
-    requires nurse { IfSome n (λ a. a.0 < nurse_count inst.now.draft) }
-    requires shift { k.0 < shift_count inst.now.draft }
+    requires nurse { IfSome nurse (λ a. a.0 < nurse_count inst.now.draft) }
+    requires shift { shift.0 < shift_count inst.now.draft }
     requires fits { (m : ℕ) → m < nurse_count inst.now.draft
-        → load_at inst.now.draft loads.old m k.0 + load < 2 ^ 32 }
+        → load_at inst.now.draft loads.old m shift.0 + load < 2 ^ 32 }
     ensures table { IsTable inst.now.draft loads.new }
     ensures each { (m j : ℕ) → m < nurse_count inst.now.draft → j < shift_count inst.now.draft
-        → load_at inst.now.draft loads.new m j ≡ load_at inst.now.draft loads.old m j + share n k.0 load m j }
+        → load_at inst.now.draft loads.new m j ≡ load_at inst.now.draft loads.old m j + share nurse shift.0 load m j }
 {
-    match n {
+    match nurse {
         None => {}
-        Some(a) => loads[place(inst, a, k)].work += load,
+        Some(a) => loads[place(inst, a, shift)].work += load,
     }
 }
 
 /// Takes from the load of a nurse, where there is one.
-pub fn take_load(inst: &Instance, loads: &mut [NurseLoad], n: Option<NurseNo>, k: Shift, load: u32)
+pub fn take_load(
+    inst: &Instance,
+    loads: &mut [NurseLoad],
+    nurse: Option<NurseNo>,
+    shift: Shift,
+    load: u32,
+)
     requires table { IsTable inst.now.draft loads.old }
-    requires nurse { IfSome n (λ a. a.0 < nurse_count inst.now.draft) }
-    requires shift { k.0 < shift_count inst.now.draft }
+    requires nurse { IfSome nurse (λ a. a.0 < nurse_count inst.now.draft) }
+    requires shift { shift.0 < shift_count inst.now.draft }
     requires enough { (m : ℕ) → m < nurse_count inst.now.draft
-        → share n k.0 load m k.0 ≤ load_at inst.now.draft loads.old m k.0 }
+        → share nurse shift.0 load m shift.0 ≤ load_at inst.now.draft loads.old m shift.0 }
     ensures table { IsTable inst.now.draft loads.new }
     ensures each { (m j : ℕ) → m < nurse_count inst.now.draft → j < shift_count inst.now.draft
-        → load_at inst.now.draft loads.new m j + share n k.0 load m j ≡ load_at inst.now.draft loads.old m j }
+        → load_at inst.now.draft loads.new m j + share nurse shift.0 load m j ≡ load_at inst.now.draft loads.old m j }
 {
-    match n {
+    match nurse {
         None => {}
-        Some(a) => loads[place(inst, a, k)].work -= load,
+        Some(a) => loads[place(inst, a, shift)].work -= load,
     }
 }
 
@@ -84,25 +96,25 @@ pub fn move_load(
     loads: &mut [NurseLoad],
     from: Option<NurseNo>,
     to: Option<NurseNo>,
-    k: Shift,
+    shift: Shift,
     load: u32,
 )
     requires table { IsTable inst.now.draft loads.old }
     requires from { IfSome from (λ a. a.0 < nurse_count inst.now.draft) }
     requires to { IfSome to (λ a. a.0 < nurse_count inst.now.draft) }
-    requires shift { k.0 < shift_count inst.now.draft }
+    requires shift { shift.0 < shift_count inst.now.draft }
     requires small { (m : ℕ) → m < nurse_count inst.now.draft
-        → load_at inst.now.draft loads.old m k.0 ≤ 256000000 }
+        → load_at inst.now.draft loads.old m shift.0 ≤ 256000000 }
     requires load { load ≤ 256000000 }
     requires enough { (m : ℕ) → m < nurse_count inst.now.draft
-        → share from k.0 load m k.0 ≤ load_at inst.now.draft loads.old m k.0 }
+        → share from shift.0 load m shift.0 ≤ load_at inst.now.draft loads.old m shift.0 }
     ensures table { IsTable inst.now.draft loads.new }
     ensures each { (m j : ℕ) → m < nurse_count inst.now.draft → j < shift_count inst.now.draft
-        → load_at inst.now.draft loads.new m j + share from k.0 load m j
-        ≡ load_at inst.now.draft loads.old m j + share to k.0 load m j }
+        → load_at inst.now.draft loads.new m j + share from shift.0 load m j
+        ≡ load_at inst.now.draft loads.old m j + share to shift.0 load m j }
 {
-    take_load(inst, loads, from, k, load);
-    add_load(inst, loads, to, k, load);
+    take_load(inst, loads, from, shift, load);
+    add_load(inst, loads, to, shift, load);
 }
 
 /// What changes in the workload above its maximum of a nurse, where there is one, when one load goes and another comes.
@@ -110,24 +122,24 @@ pub fn move_load(
 pub fn excess_change(
     inst: &Instance,
     loads: &[NurseLoad],
-    n: Option<NurseNo>,
-    k: Shift,
+    nurse: Option<NurseNo>,
+    shift: Shift,
     less: u32,
     more: u32,
 ) -> i64
     requires table { IsTable inst.now.draft loads.now }
-    requires nurse { IfSome n (λ a. a.0 < nurse_count inst.now.draft) }
-    requires shift { k.0 < shift_count inst.now.draft }
-    requires enough { IfSome n (λ a. less ≤ load_at inst.now.draft loads.now a.0 k.0) }
-    requires fits { IfSome n (λ a. load_at inst.now.draft loads.now a.0 k.0 - less + more < 2 ^ 32) }
-    ensures increase { result ≡ excess_increase inst.now.draft loads.now n k.0 (λ load. load - less + more) }
+    requires nurse { IfSome nurse (λ a. a.0 < nurse_count inst.now.draft) }
+    requires shift { shift.0 < shift_count inst.now.draft }
+    requires enough { IfSome nurse (λ a. less ≤ load_at inst.now.draft loads.now a.0 shift.0) }
+    requires fits { IfSome nurse (λ a. load_at inst.now.draft loads.now a.0 shift.0 - less + more < 2 ^ 32) }
+    ensures increase { result ≡ excess_increase inst.now.draft loads.now nurse shift.0 (λ load. load - less + more) }
     ensures low { neg_ℤ (pos (10 ^ 11)) ≤ℤ result }
     ensures high { result ≤ℤ pos (10 ^ 11) }
 {
-    let Some(a) = n else {
+    let Some(a) = nurse else {
         return 0;
     };
-    let before = load(inst, loads, a, k);
+    let before = load(inst, loads, a, shift);
     increase(
         overload(before, before.work - less + more),
         overload(before, before.work),

@@ -64,81 +64,107 @@ impl Nurses {
     }
 
     /// Enters a patient who isn't admitted. It takes no memory.
-    pub fn enter(&mut self, inst: &Instance, p: PatientNo, at: Placement)
-        requires patient { p.0 < patient_count inst.now.draft }
+    pub fn enter(&mut self, inst: &Instance, patient: PatientNo, at: Placement)
+        requires patient { patient.0 < patient_count inst.now.draft }
         requires placement { IsPlacement inst.now.draft at }
-        requires stands { (P : Timetable) × IsLedgerOf inst.now.draft P self.old × (stay_of P p.0 ≡ None) }
+        requires stands { (P : Timetable) × IsLedgerOf inst.now.draft P self.old × (stay_of P patient.0 ≡ None) }
         ensures { (P : Timetable) → IsLedgerOf inst.now.draft P self.old
-            → IsLedgerOf inst.now.draft (put (SetStay p (Some at)) P) self.new }
+            → IsLedgerOf inst.now.draft (put (SetStay patient (Some at)) P) self.new }
     {
-        let end = end_of(inst, p, at);
-        enter_days(inst, self.here.as_mut_slice(), at.room, at.day.0, end, p.0);
-        add_stay(inst, &self.plan, self.loads.as_mut_slice(), p, at);
-        let shifts = placed_shift_span(inst, p, at);
-        add_shift_span(inst, &self.plan, self.counts.as_mut_slice(), p.0, shifts);
-        self.plan.put(&Write::SetStay(p, Some(at)));
+        let end = end_of(inst, patient, at);
+        enter_days(
+            inst,
+            self.here.as_mut_slice(),
+            at.room,
+            at.day.0,
+            end,
+            patient.0,
+        );
+        add_stay(inst, &self.plan, self.loads.as_mut_slice(), patient, at);
+        let shifts = placed_shift_span(inst, patient, at);
+        add_shift_span(
+            inst,
+            &self.plan,
+            self.counts.as_mut_slice(),
+            patient.0,
+            shifts,
+        );
+        self.plan.put(&Write::SetStay(patient, Some(at)));
     }
 
     /// Takes out a patient who is admitted there. It takes no memory.
-    pub fn leave(&mut self, inst: &Instance, p: PatientNo, at: Placement)
-        requires patient { p.0 < patient_count inst.now.draft }
+    pub fn leave(&mut self, inst: &Instance, patient: PatientNo, at: Placement)
+        requires patient { patient.0 < patient_count inst.now.draft }
         requires placement { IsPlacement inst.now.draft at }
-        requires stands { (P : Timetable) × IsLedgerOf inst.now.draft P self.old × (stay_of P p.0 ≡ Some at) }
+        requires stands { (P : Timetable) × IsLedgerOf inst.now.draft P self.old × (stay_of P patient.0 ≡ Some at) }
         ensures { (P : Timetable) → IsLedgerOf inst.now.draft P self.old
-            → IsLedgerOf inst.now.draft (put (SetStay p None) P) self.new }
+            → IsLedgerOf inst.now.draft (put (SetStay patient None) P) self.new }
     {
-        let end = end_of(inst, p, at);
-        leave_days(inst, self.here.as_mut_slice(), at.room, at.day.0, end, p.0);
-        take_stay(inst, &self.plan, self.loads.as_mut_slice(), p, at);
-        let shifts = placed_shift_span(inst, p, at);
-        take_shift_span(inst, &self.plan, self.counts.as_mut_slice(), p.0, shifts);
-        self.plan.put(&Write::SetStay(p, None));
+        let end = end_of(inst, patient, at);
+        leave_days(
+            inst,
+            self.here.as_mut_slice(),
+            at.room,
+            at.day.0,
+            end,
+            patient.0,
+        );
+        take_stay(inst, &self.plan, self.loads.as_mut_slice(), patient, at);
+        let shifts = placed_shift_span(inst, patient, at);
+        take_shift_span(
+            inst,
+            &self.plan,
+            self.counts.as_mut_slice(),
+            patient.0,
+            shifts,
+        );
+        self.plan.put(&Write::SetStay(patient, None));
     }
 
     /// Replaces the nurse of a room in a shift. It goes over the persons who are in the room on that day, and takes no
     /// memory.
-    pub fn set_care(&mut self, inst: &Instance, r: RoomNo, k: Shift, n: Option<NurseNo>)
-        requires room { r.0 < room_count inst.now.draft }
-        requires shift { k.0 < shift_count inst.now.draft }
-        requires nurse { (a : NurseNo) → n ≡ Some a → a.0 < nurse_count inst.now.draft }
+    pub fn set_care(&mut self, inst: &Instance, room: RoomNo, shift: Shift, nurse: Option<NurseNo>)
+        requires room { room.0 < room_count inst.now.draft }
+        requires shift { shift.0 < shift_count inst.now.draft }
+        requires nurse { (a : NurseNo) → nurse ≡ Some a → a.0 < nurse_count inst.now.draft }
         requires stands { (P : Timetable) × IsLedgerOf inst.now.draft P self.old }
         ensures { (P : Timetable) → IsLedgerOf inst.now.draft P self.old
-            → IsLedgerOf inst.now.draft (put (SetCare r k n) P) self.new }
+            → IsLedgerOf inst.now.draft (put (SetCare room shift nurse) P) self.new }
     {
-        let persons = &self.here[(k.0 / 3) as usize];
-        let load = workload_in(inst, &self.plan, persons, r, k);
-        let old = nurse_at(inst, &self.plan, r, k);
-        move_load(inst, self.loads.as_mut_slice(), old, n, k, load);
+        let persons = &self.here[(shift.0 / 3) as usize];
+        let load = workload_in(inst, &self.plan, persons, room, shift);
+        let old = nurse_at(inst, &self.plan, room, shift);
+        move_load(inst, self.loads.as_mut_slice(), old, nurse, shift, load);
         let counts = self.counts.as_mut_slice();
-        move_counts(inst, &self.plan, counts, persons, r, k, n);
-        self.plan.put(&Write::SetCare(r, k, n));
+        move_counts(inst, &self.plan, counts, persons, room, shift, nurse);
+        self.plan.put(&Write::SetCare(room, shift, nurse));
     }
 
     /// A room's part of the bill in a shift: whether its nurse doesn't work the shift, whether persons are present
     /// without a nurse, and the required skill above the nurse's. Each number is at most 10^11.
-    pub fn room_shift_bill(&self, inst: &Instance, r: RoomNo, k: Shift) -> Bill
-        requires room { r.0 < room_count inst.now.draft }
-        requires shift { k.0 < shift_count inst.now.draft }
+    pub fn room_shift_bill(&self, inst: &Instance, room: RoomNo, shift: Shift) -> Bill
+        requires room { room.0 < room_count inst.now.draft }
+        requires shift { shift.0 < shift_count inst.now.draft }
         requires stands { (P : Timetable) × IsLedgerOf inst.now.draft P self.now }
-        ensures { TellsPart inst.now.draft self.now (RoomShift r k) result }
+        ensures { TellsPart inst.now.draft self.now (RoomShift room shift) result }
     {
-        let persons = &self.here[(k.0 / 3) as usize];
-        let nurse = nurse_at(inst, &self.plan, r, k);
+        let persons = &self.here[(shift.0 / 3) as usize];
+        let nurse = nurse_at(inst, &self.plan, room, shift);
         let counts = self.counts.as_slice();
         // One choice alone: it stands as the old one and as the new one.
-        let sums = room_sums(inst, &self.plan, counts, persons, r, k, nurse, nurse);
-        bill_of(choice_costs(inst, persons, r, k, nurse, sums.new_missing))
+        let sums = room_sums(inst, &self.plan, counts, persons, room, shift, nurse, nurse);
+        bill_of(choice_costs(inst, persons, room, shift, nurse, sums.new_missing))
     }
 
     /// A nurse's part of the bill in a shift: the workload above the maximum, where the shift is worked. Each number is
     /// at most 10^11.
-    pub fn nurse_shift_bill(&self, inst: &Instance, n: NurseNo, k: Shift) -> Bill
-        requires nurse { n.0 < nurse_count inst.now.draft }
-        requires shift { k.0 < shift_count inst.now.draft }
+    pub fn nurse_shift_bill(&self, inst: &Instance, nurse: NurseNo, shift: Shift) -> Bill
+        requires nurse { nurse.0 < nurse_count inst.now.draft }
+        requires shift { shift.0 < shift_count inst.now.draft }
         requires stands { (P : Timetable) × IsLedgerOf inst.now.draft P self.now }
-        ensures { TellsPart inst.now.draft self.now (NurseShift n k) result }
+        ensures { TellsPart inst.now.draft self.now (NurseShift nurse shift) result }
     {
-        let load = load(inst, self.loads.as_slice(), n, k);
+        let load = load(inst, self.loads.as_slice(), nurse, shift);
         bill_of(NursingCosts {
             off: 0,
             uncovered: 0,
@@ -149,10 +175,10 @@ impl Nurses {
     }
 
     /// A person's part of the bill: the distinct nurses of its stay. Each number is at most 10^11.
-    pub fn care_bill(&self, inst: &Instance, x: PersonNo) -> Bill
-        requires person { x.0 < person_count inst.now.draft }
+    pub fn care_bill(&self, inst: &Instance, person: PersonNo) -> Bill
+        requires person { person.0 < person_count inst.now.draft }
         requires stands { (P : Timetable) × IsLedgerOf inst.now.draft P self.now }
-        ensures { TellsPart inst.now.draft self.now (Care x) result }
+        ensures { TellsPart inst.now.draft self.now (Care person) result }
     {
         bill_of(NursingCosts {
             off: 0,
@@ -161,7 +187,7 @@ impl Nurses {
             nurses_seen: distinct_nurses_over(
                 inst,
                 &self.plan,
-                shift_span_of(inst, &self.plan, x.0),
+                shift_span_of(inst, &self.plan, person.0),
             ),
             overload: 0,
         })

@@ -11,21 +11,21 @@ use ih_tables::{Instance, NurseNo, PatientNo, Shift};
 
 /// What a list with an entry for each shift of a stay has for a shift.
 #[inline(always)]
-pub fn entry(list: &[u32], at: Placement, k: Shift) -> u32
-    requires begun { 3 * at.day.0 ≤ k.0 }
-    requires inside { k.0 - 3 * at.day.0 < length list.now }
-    ensures { result ≡ slice_index list.now (k.0 - 3 * at.day.0) }
+pub fn entry(list: &[u32], at: Placement, shift: Shift) -> u32
+    requires begun { 3 * at.day.0 ≤ shift.0 }
+    requires inside { shift.0 - 3 * at.day.0 < length list.now }
+    ensures { result ≡ slice_index list.now (shift.0 - 3 * at.day.0) }
 {
-    list[(k.0 - 3 * at.day.0) as usize]
+    list[(shift.0 - 3 * at.day.0) as usize]
 }
 
 // The same, and 0 past the list's end.
 #[inline(always)]
-fn entry_or_none(list: &[u32], at: Placement, k: Shift) -> u32
-    requires { 3 * at.day.0 ≤ k.0 }
-    ensures { result ≡ slice_index list.now (k.0 - 3 * at.day.0) }
+fn entry_or_none(list: &[u32], at: Placement, shift: Shift) -> u32
+    requires { 3 * at.day.0 ≤ shift.0 }
+    ensures { result ≡ slice_index list.now (shift.0 - 3 * at.day.0) }
 {
-    let place = (k.0 - 3 * at.day.0) as usize;
+    let place = (shift.0 - 3 * at.day.0) as usize;
     list.get(place).copied().unwrap_or(0)
 }
 
@@ -34,22 +34,22 @@ fn entry_or_none(list: &[u32], at: Placement, k: Shift) -> u32
 pub fn stay_load(
     inst: &Instance,
     plan: &Plan,
-    p: PatientNo,
+    patient: PatientNo,
     workload: &[u32],
     at: Placement,
-    n: NurseNo,
-    k: Shift,
+    nurse: NurseNo,
+    shift: Shift,
 ) -> u32
     requires plan { IsPlanOf inst.now.draft plan.now }
-    requires patient { p.0 < patient_count inst.now.draft }
-    requires workload { workload.now ≡ (person_of inst.now.draft p.0).workload }
+    requires patient { patient.0 < patient_count inst.now.draft }
+    requires workload { workload.now ≡ (person_of inst.now.draft patient.0).workload }
     requires placement { IsPlacement inst.now.draft at }
-    requires shift { k.0 < shift_count inst.now.draft }
-    ensures value { result ≡ stay_load inst.now.draft plan.now p.0 at n.0 k.0 }
+    requires shift { shift.0 < shift_count inst.now.draft }
+    ensures value { result ≡ stay_load inst.now.draft plan.now patient.0 at nurse.0 shift.0 }
     ensures bound { result ≤ 100000 }
 {
-    if 3 * at.day.0 <= k.0 && is_nurse(nurse_at(inst, plan, at.room, k), n) {
-        entry_or_none(workload, at, k)
+    if 3 * at.day.0 <= shift.0 && is_nurse(nurse_at(inst, plan, at.room, shift), nurse) {
+        entry_or_none(workload, at, shift)
     } else {
         0
     }

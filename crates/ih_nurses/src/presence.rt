@@ -9,61 +9,76 @@ use ih_links::CompactLinks;
 use ih_tables::{Instance, RoomNo};
 
 // Lists a person in a room on a day.
-fn enter_day(inst: &Instance, here: &mut [CompactLinks], r: RoomNo, d: u32, x: u32)
+fn enter_day(inst: &Instance, here: &mut [CompactLinks], room: RoomNo, day: u32, person: u32)
     requires sized { AreSized inst.now.draft here.old }
-    requires room { r.0 < room_count inst.now.draft }
-    requires day { d < inst.now.draft.days }
-    requires person { x < person_count inst.now.draft }
-    requires free { (s : ℕ) → s < room_count inst.now.draft → is_here here.old s d x ≡ false }
+    requires room { room.0 < room_count inst.now.draft }
+    requires day { day < inst.now.draft.days }
+    requires person { person < person_count inst.now.draft }
+    requires free { (s : ℕ) → s < room_count inst.now.draft → is_here here.old s day person ≡ false }
     ensures sized { AreSized inst.now.draft here.new }
     ensures each { (s e y : ℕ) → is_here here.new s e y
-        ≡ (is_here here.old s e y || ((r.0 == s) && ((d == e) && (x == y)))) }
+        ≡ (is_here here.old s e y || ((room.0 == s) && ((day == e) && (person == y)))) }
 {
-    here[d as usize].push_back(r.0, x);
+    here[day as usize].push_back(room.0, person);
 }
 
 /// Lists a person in a room from day `from` on and before day `to`.
-pub fn enter_days(inst: &Instance, here: &mut [CompactLinks], r: RoomNo, from: u32, to: u32, x: u32)
+pub fn enter_days(
+    inst: &Instance,
+    here: &mut [CompactLinks],
+    room: RoomNo,
+    from: u32,
+    to: u32,
+    person: u32,
+)
     requires sized { AreSized inst.now.draft here.old }
-    requires room { r.0 < room_count inst.now.draft }
+    requires room { room.0 < room_count inst.now.draft }
     requires order { from ≤ to }
     requires days { to ≤ inst.now.draft.days }
-    requires person { x < person_count inst.now.draft }
+    requires person { person < person_count inst.now.draft }
     requires free { (s e : ℕ) → s < room_count inst.now.draft → e < inst.now.draft.days
-        → is_here here.old s e x ≡ false }
+        → is_here here.old s e person ≡ false }
     ensures sized { AreSized inst.now.draft here.new }
     ensures each { (s e y : ℕ) → is_here here.new s e y
-        ≡ (is_here here.old s e y || ((r.0 == s) && (in_span from to e && (x == y)))) }
+        ≡ (is_here here.old s e y || ((room.0 == s) && (in_span from to e && (person == y)))) }
 {
     for d in from..to {
-        enter_day(inst, here, r, d, x);
+        enter_day(inst, here, room, d, person);
     }
 }
 
 // Takes a person out of the lists of a day.
-fn leave_day(inst: &Instance, here: &mut [CompactLinks], r: RoomNo, d: u32, x: u32)
+fn leave_day(inst: &Instance, here: &mut [CompactLinks], room: RoomNo, day: u32, person: u32)
     requires sized { AreSized inst.now.draft here.old }
-    requires day { d < inst.now.draft.days }
-    requires person { x < person_count inst.now.draft }
-    requires there { is_here here.old r.0 d x ≡ true }
+    requires day { day < inst.now.draft.days }
+    requires person { person < person_count inst.now.draft }
+    requires there { is_here here.old room.0 day person ≡ true }
     ensures sized { AreSized inst.now.draft here.new }
-    ensures each { (s e y : ℕ) → is_here here.new s e y ≡ (is_here here.old s e y && not ((d == e) && (x == y))) }
+    ensures each { (s e y : ℕ)
+        → is_here here.new s e y ≡ (is_here here.old s e y && not ((day == e) && (person == y))) }
 {
-    here[d as usize].remove(x);
+    here[day as usize].remove(person);
 }
 
 /// Takes a person, who is in a room on these days, out of their lists.
-pub fn leave_days(inst: &Instance, here: &mut [CompactLinks], r: RoomNo, from: u32, to: u32, x: u32)
+pub fn leave_days(
+    inst: &Instance,
+    here: &mut [CompactLinks],
+    room: RoomNo,
+    from: u32,
+    to: u32,
+    person: u32,
+)
     requires sized { AreSized inst.now.draft here.old }
     requires order { from ≤ to }
     requires days { to ≤ inst.now.draft.days }
-    requires person { x < person_count inst.now.draft }
-    requires there { (e : ℕ) → in_span from to e ≡ true → is_here here.old r.0 e x ≡ true }
+    requires person { person < person_count inst.now.draft }
+    requires there { (e : ℕ) → in_span from to e ≡ true → is_here here.old room.0 e person ≡ true }
     ensures sized { AreSized inst.now.draft here.new }
     ensures each { (s e y : ℕ) → is_here here.new s e y
-        ≡ (is_here here.old s e y && not (in_span from to e && (x == y))) }
+        ≡ (is_here here.old s e y && not (in_span from to e && (person == y))) }
 {
     for d in from..to {
-        leave_day(inst, here, r, d, x);
+        leave_day(inst, here, room, d, person);
     }
 }

@@ -28,12 +28,12 @@ pub struct RoomSums {
 
 // The skill of a choice of nurse. Nobody requires more than that of no nurse.
 #[inline(always)]
-fn level_of(inst: &Instance, n: Option<NurseNo>) -> u32
-    requires { IfSome n (λ a. a.0 < nurse_count inst.now.draft) }
+fn level_of(inst: &Instance, nurse: Option<NurseNo>) -> u32
+    requires { IfSome nurse (λ a. a.0 < nurse_count inst.now.draft) }
     ensures { (skill : ℕ) → skill ≤ 1000
-        → skill - result ≡ skill_missing inst.now.draft (option_map (λ (a : NurseNo). a.0) n) (skill ∷ []) }
+        → skill - result ≡ skill_missing inst.now.draft (option_map (λ (a : NurseNo). a.0) nurse) (skill ∷ []) }
 {
-    match n {
+    match nurse {
         None => u32::MAX,
         Some(a) => inst.nurse(a).skill_level,
     }
@@ -41,17 +41,17 @@ fn level_of(inst: &Instance, n: Option<NurseNo>) -> u32
 
 // 1 where there is a nurse who has so many counted shifts of a person's stay, and 0 where not.
 #[inline(always)]
-fn has_just(inst: &Instance, counts: &[u8], shifts: u8, n: Option<NurseNo>, x: u32) -> u32
+fn has_just(inst: &Instance, counts: &[u8], shifts: u8, nurse: Option<NurseNo>, person: u32) -> u32
     requires table { length counts.now ≡ person_count inst.now.draft * nurse_count inst.now.draft }
-    requires nurse { IfSome n (λ a. a.0 < nurse_count inst.now.draft) }
-    requires person { x < person_count inst.now.draft }
-    ensures value { result ≡ has_just inst.now.draft counts.now shifts n x }
+    requires nurse { IfSome nurse (λ a. a.0 < nurse_count inst.now.draft) }
+    requires person { person < person_count inst.now.draft }
+    ensures value { result ≡ has_just inst.now.draft counts.now shifts nurse person }
     ensures bound { result ≤ 1 }
 {
-    match n {
+    match nurse {
         None => 0,
         Some(a) => {
-            if count(inst, counts, x, a) == shifts {
+            if count(inst, counts, person, a) == shifts {
                 1
             } else {
                 0
@@ -67,26 +67,26 @@ pub fn room_sums(
     plan: &Plan,
     counts: &[u8],
     persons: &CompactLinks,
-    r: RoomNo,
-    k: Shift,
+    room: RoomNo,
+    shift: Shift,
     new: Option<NurseNo>,
     old: Option<NurseNo>,
 ) -> RoomSums
     requires plan { IsPlanOf inst.now.draft plan.now }
     requires table { length counts.now ≡ person_count inst.now.draft * nurse_count inst.now.draft }
-    requires room { r.0 < length persons.now.lists }
+    requires room { room.0 < length persons.now.lists }
     requires persons { persons.now.nodes ≡ person_count inst.now.draft }
     requires new { IfSome new (λ a. a.0 < nurse_count inst.now.draft) }
     requires old { IfSome old (λ a. a.0 < nurse_count inst.now.draft) }
-    ensures work { result.work ≡ sum_by (workload_of inst.now.draft plan.now k.0) (list_of persons.now r.0) }
+    ensures work { result.work ≡ sum_by (workload_of inst.now.draft plan.now shift.0) (list_of persons.now room.0) }
     ensures new_missing { result.new_missing ≡ skill_missing inst.now.draft (option_map (λ (a : NurseNo). a.0) new)
-        (map (skill_of inst.now.draft plan.now k.0) (list_of persons.now r.0)) }
+        (map (skill_of inst.now.draft plan.now shift.0) (list_of persons.now room.0)) }
     ensures old_missing { result.old_missing ≡ skill_missing inst.now.draft (option_map (λ (a : NurseNo). a.0) old)
-        (map (skill_of inst.now.draft plan.now k.0) (list_of persons.now r.0)) }
-    ensures come { result.come ≡ sum_by (has_just inst.now.draft counts.now 0 new) (list_of persons.now r.0) }
-    ensures gone { result.gone ≡ sum_by (has_just inst.now.draft counts.now 1 old) (list_of persons.now r.0) }
+        (map (skill_of inst.now.draft plan.now shift.0) (list_of persons.now room.0)) }
+    ensures come { result.come ≡ sum_by (has_just inst.now.draft counts.now 0 new) (list_of persons.now room.0) }
+    ensures gone { result.gone ≡ sum_by (has_just inst.now.draft counts.now 1 old) (list_of persons.now room.0) }
     ensures bound { result.work ≤ 256000000 }
-    ensures nodes { AreNodes (person_count inst.now.draft) (list_of persons.now r.0) }
+    ensures nodes { AreNodes (person_count inst.now.draft) (list_of persons.now room.0) }
 {
     let new_level = level_of(inst, new);
     let old_level = level_of(inst, old);
@@ -95,9 +95,9 @@ pub fn room_sums(
     let mut old_missing = 0;
     let mut come = 0;
     let mut gone = 0;
-    let mut at = persons.first(r.0);
+    let mut at = persons.first(room.0);
     while let Some(x) = at {
-        let asked = care_need_of(inst, plan, x, k.0);
+        let asked = care_need_of(inst, plan, x, shift.0);
         work += asked.workload;
         new_missing += asked.skill.saturating_sub(new_level);
         old_missing += asked.skill.saturating_sub(old_level);

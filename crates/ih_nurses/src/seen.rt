@@ -21,25 +21,25 @@ fn unmet(met: bool) -> u32
 
 // Whether a bit of a word is 1.
 #[inline(always)]
-fn is_set(word: u64, i: u32) -> bool
-    requires { i < 64 }
-    ensures { result ≡ (bit_at word i == 1) }
+fn is_set(word: u64, index: u32) -> bool
+    requires { index < 64 }
+    ensures { result ≡ (bit_at word index == 1) }
 {
-    (word >> i) & 1 == 1
+    (word >> index) & 1 == 1
 }
 
 // Marks a nurse, where there is one, and tells how many are new: 1 or 0.
 #[inline(always)]
-fn meet(seen: &mut [u64], n: Option<NurseNo>) -> u32
-    requires { IfSome n (λ a. a.0 < 64 * length seen.old) }
+fn meet(seen: &mut [u64], nurse: Option<NurseNo>) -> u32
+    requires { IfSome nurse (λ a. a.0 < 64 * length seen.old) }
     ensures len { length seen.new ≡ length seen.old }
     ensures each { (i : ℕ) → is_marked seen.new i
-        ≡ (is_marked seen.old i || is_number (option_map (λ (a : NurseNo). a.0) n) i) }
-    ensures count { (m : ℕ) → IfSome n (λ a. a.0 < m)
+        ≡ (is_marked seen.old i || is_number (option_map (λ (a : NurseNo). a.0) nurse) i) }
+    ensures count { (m : ℕ) → IfSome nurse (λ a. a.0 < m)
         → count_below m (is_marked seen.new) ≡ count_below m (is_marked seen.old) + result }
     ensures bound { result ≤ 1 }
 {
-    match n {
+    match nurse {
         None => 0,
         Some(a) => {
             let place = (a.0 / 64) as usize;
@@ -51,17 +51,17 @@ fn meet(seen: &mut [u64], n: Option<NurseNo>) -> u32
 }
 
 // The distinct nurses of a room in the shifts from `from` on.
-fn seen_in(inst: &Instance, plan: &Plan, r: RoomNo, from: u32, len: u32) -> u32
+fn seen_in(inst: &Instance, plan: &Plan, room: RoomNo, from: u32, len: u32) -> u32
     requires plan { IsPlanOf inst.now.draft plan.now }
-    requires room { r.0 < room_count inst.now.draft }
+    requires room { room.0 < room_count inst.now.draft }
     requires shifts { from + len ≤ shift_count inst.now.draft }
-    ensures { result ≡ distinct_nurses inst.now.draft (map (care_of plan.now r.0) (range_with_len from len)) }
+    ensures { result ≡ distinct_nurses inst.now.draft (map (care_of plan.now room.0) (range_with_len from len)) }
 {
     // One bit for each nurse that an instance may have.
     let mut seen = [0u64; 8];
     let mut count = 0;
     for j in 0..len {
-        count += meet(&mut seen, nurse_at(inst, plan, r, Shift(from + j)));
+        count += meet(&mut seen, nurse_at(inst, plan, room, Shift(from + j)));
     }
     count
 }

@@ -31,45 +31,46 @@ pub struct ShiftDelta {
 
 // The skill above the nurse's that the patient requires in a shift of the placement.
 #[inline(always)]
-fn skill_delta(inst: &Instance, n: NurseNo, k: Shift, at: Placement, skill: &[u32]) -> u32
-    requires nurse { n.0 < nurse_count inst.now.draft }
-    requires begun { 3 * at.day.0 ≤ k.0 }
-    requires inside { k.0 - 3 * at.day.0 < length skill.now }
-    ensures { result ≡ slice_index skill.now (k.0 - 3 * at.day.0) - skill_level inst.now.draft n.0 }
+fn skill_delta(inst: &Instance, nurse: NurseNo, shift: Shift, at: Placement, skill: &[u32]) -> u32
+    requires nurse { nurse.0 < nurse_count inst.now.draft }
+    requires begun { 3 * at.day.0 ≤ shift.0 }
+    requires inside { shift.0 - 3 * at.day.0 < length skill.now }
+    ensures { result ≡ slice_index skill.now (shift.0 - 3 * at.day.0) - skill_level inst.now.draft nurse.0 }
 {
-    entry(skill, at, k).saturating_sub(inst.nurse(n).skill_level)
+    entry(skill, at, shift).saturating_sub(inst.nurse(nurse).skill_level)
 }
 
 impl Nurses {
     // 1 where nobody but the patient is in the room, and 0 where not.
     #[inline(always)]
-    fn alone_delta(&self, inst: &Instance, r: RoomNo, k: Shift, p: PatientNo) -> u32
-        requires room { r.0 < room_count inst.now.draft }
-        requires shift { k.0 < shift_count inst.now.draft }
+    fn alone_delta(&self, inst: &Instance, room: RoomNo, shift: Shift, patient: PatientNo) -> u32
+        requires room { room.0 < room_count inst.now.draft }
+        requires shift { shift.0 < shift_count inst.now.draft }
         requires stands { (P : Timetable) × IsLedgerOf inst.now.draft P self.now }
         ensures { (P : Timetable) → IsLedgerOf inst.now.draft P self.now
-            → result ≡ bit (is_empty (without p.0 (present inst.now.draft P r.0 (day_of k.0)))) }
+            → result ≡ bit (is_empty (without patient.0 (present inst.now.draft P room.0 (day_of shift.0)))) }
     {
-        bit(!has_others(&self.here[(k.0 / 3) as usize], r, p.0))
+        bit(!has_others(&self.here[(shift.0 / 3) as usize], room, patient.0))
     }
 
     // The workload above the maximum that comes with the patient to the nurse who has the room in the shift.
     #[inline(always)]
-    fn load_delta(&self, inst: &Instance, n: NurseNo, k: Shift, visit: &Visit<'_>) -> u32
-        requires nurse { n.0 < nurse_count inst.now.draft }
-        requires shift { k.0 < shift_count inst.now.draft }
-        requires counted { has_day inst.now.draft (patient_of visit.now).0 (Some (placement_of visit.now)) (day_of k.0)
+    fn load_delta(&self, inst: &Instance, nurse: NurseNo, shift: Shift, visit: &Visit<'_>) -> u32
+        requires nurse { nurse.0 < nurse_count inst.now.draft }
+        requires shift { shift.0 < shift_count inst.now.draft }
+        requires counted { has_day inst.now.draft (patient_of visit.now).0 (Some (placement_of visit.now))
+            (day_of shift.0)
             ≡ true }
         requires stands { (P : Timetable) × IsLedgerOf inst.now.draft P self.now
-            × (care_of P (placement_of visit.now).room.0 k.0 ≡ Some n.0) }
+            × (care_of P (placement_of visit.now).room.0 shift.0 ≡ Some nurse.0) }
         requires visit { IsVisitOf inst.now.draft (stay_of (plan_of self.now) (patient_of visit.now).0) visit.now }
         ensures { (P : Timetable) → IsLedgerOf inst.now.draft P self.now
             → pos result ≡ increase_by_placement P (patient_of visit.now) (placement_of visit.now)
-            (λ Q. overload_in inst.now.draft Q n k) }
+            (λ Q. overload_in inst.now.draft Q nurse shift) }
     {
-        let all = load(inst, self.loads.as_slice(), n, k);
-        let come = entry(visit.workload, visit.at, k);
-        let gone = present_stay_load(inst, &self.plan, visit, n, k, come);
+        let all = load(inst, self.loads.as_slice(), nurse, shift);
+        let come = entry(visit.workload, visit.at, shift);
+        let gone = present_stay_load(inst, &self.plan, visit, nurse, shift, come);
         let without = all.work - gone;
         let with = without + come;
         overload(all, with) - overload(all, without)
@@ -77,32 +78,33 @@ impl Nurses {
 
     /// What a shift of a placement's room costs more with the patient there than without.
     #[inline(always)]
-    pub fn shift_delta(&self, inst: &Instance, k: Shift, visit: &Visit<'_>) -> ShiftDelta
-        requires shift { k.0 < shift_count inst.now.draft }
-        requires counted { has_day inst.now.draft (patient_of visit.now).0 (Some (placement_of visit.now)) (day_of k.0)
+    pub fn shift_delta(&self, inst: &Instance, shift: Shift, visit: &Visit<'_>) -> ShiftDelta
+        requires shift { shift.0 < shift_count inst.now.draft }
+        requires counted { has_day inst.now.draft (patient_of visit.now).0 (Some (placement_of visit.now))
+            (day_of shift.0)
             ≡ true }
         requires stands { (P : Timetable) × IsLedgerOf inst.now.draft P self.now }
         requires visit { IsVisitOf inst.now.draft (stay_of (plan_of self.now) (patient_of visit.now).0) visit.now }
         ensures uncovered { (P : Timetable) → IsLedgerOf inst.now.draft P self.now
             → pos result.uncovered ≡ increase_by_placement P (patient_of visit.now) (placement_of visit.now)
-            (λ Q. uncovered_in inst.now.draft Q (placement_of visit.now).room k) }
+            (λ Q. uncovered_in inst.now.draft Q (placement_of visit.now).room shift) }
         ensures missing_skill { (P : Timetable) → IsLedgerOf inst.now.draft P self.now
             → pos result.missing_skill ≡ increase_by_placement P (patient_of visit.now) (placement_of visit.now)
-            (λ Q. missing_in inst.now.draft Q (placement_of visit.now).room k) }
+            (λ Q. missing_in inst.now.draft Q (placement_of visit.now).room shift) }
         ensures overload { (P : Timetable) → IsLedgerOf inst.now.draft P self.now
             → pos result.overload ≡ increase_by_placement P (patient_of visit.now) (placement_of visit.now)
-            (λ Q. excess_in inst.now.draft Q (placement_of visit.now).room k) }
+            (λ Q. excess_in inst.now.draft Q (placement_of visit.now).room shift) }
     {
-        match nurse_at(inst, &self.plan, visit.at.room, k) {
+        match nurse_at(inst, &self.plan, visit.at.room, shift) {
             None => ShiftDelta {
-                uncovered: self.alone_delta(inst, visit.at.room, k, visit.p),
+                uncovered: self.alone_delta(inst, visit.at.room, shift, visit.p),
                 missing_skill: 0,
                 overload: 0,
             },
             Some(n) => ShiftDelta {
                 uncovered: 0,
-                missing_skill: skill_delta(inst, n, k, visit.at, visit.skill),
-                overload: self.load_delta(inst, n, k, visit),
+                missing_skill: skill_delta(inst, n, shift, visit.at, visit.skill),
+                overload: self.load_delta(inst, n, shift, visit),
             },
         }
     }

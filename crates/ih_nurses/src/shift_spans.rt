@@ -21,14 +21,14 @@ pub struct ShiftSpan {
 
 /// The counted shifts of a patient's placement.
 #[tactic(auto, unfolding(ih_plan::specs::Persons::person_of))]
-pub fn placed_shift_span(inst: &Instance, p: PatientNo, at: Placement) -> ShiftSpan
-    requires patient { p.0 < patient_count inst.now.draft }
+pub fn placed_shift_span(inst: &Instance, patient: PatientNo, at: Placement) -> ShiftSpan
+    requires patient { patient.0 < patient_count inst.now.draft }
     requires placement { IsPlacement inst.now.draft at }
     ensures shift_span { Some result
-        ≡ shift_span_in inst.now.draft (Some (placed_at at)) (person_of inst.now.draft p.0).length_of_stay }
+        ≡ shift_span_in inst.now.draft (Some (placed_at at)) (person_of inst.now.draft patient.0).length_of_stay }
     ensures inside { IsShiftSpan inst.now.draft result }
 {
-    let a = inst.patient(p);
+    let a = inst.patient(patient);
     ShiftSpan {
         room: at.room,
         from: 3 * at.day.0,
@@ -38,30 +38,34 @@ pub fn placed_shift_span(inst: &Instance, p: PatientNo, at: Placement) -> ShiftS
 
 /// The counted shifts of a patient's stay, where there is one.
 #[tactic(auto, unfolding(ih_plan::specs::Persons::person_of))]
-pub fn stay_shift_span(inst: &Instance, p: PatientNo, stay: Option<Placement>) -> Option<ShiftSpan>
-    requires patient { p.0 < patient_count inst.now.draft }
+pub fn stay_shift_span(
+    inst: &Instance,
+    patient: PatientNo,
+    stay: Option<Placement>,
+) -> Option<ShiftSpan>
+    requires patient { patient.0 < patient_count inst.now.draft }
     requires stay { IfSome stay (IsPlacement inst.now.draft) }
     ensures shift_span { result
-        ≡ shift_span_in inst.now.draft (option_map placed_at stay) (person_of inst.now.draft p.0).length_of_stay }
+        ≡ shift_span_in inst.now.draft (option_map placed_at stay) (person_of inst.now.draft patient.0).length_of_stay }
     ensures inside { IfSome result (IsShiftSpan inst.now.draft) }
 {
     match stay {
         None => None,
-        Some(at) => Some(placed_shift_span(inst, p, at)),
+        Some(at) => Some(placed_shift_span(inst, patient, at)),
     }
 }
 
 // The counted shifts of an occupant.
 #[tactic(auto, unfolding(ih_plan::specs::Persons::person_of, ih_plan::specs::Presence::admission_of))]
-fn occupant_shift_span(inst: &Instance, plan: &Plan, x: u32) -> Option<ShiftSpan>
-    requires occupant { patient_count inst.now.draft ≤ x }
-    requires person { x < person_count inst.now.draft }
+fn occupant_shift_span(inst: &Instance, plan: &Plan, person: u32) -> Option<ShiftSpan>
+    requires occupant { patient_count inst.now.draft ≤ person }
+    requires person { person < person_count inst.now.draft }
     ensures shift_span { result
-        ≡ shift_span_in inst.now.draft (admission_of inst.now.draft plan.now x)
-        (person_of inst.now.draft x).length_of_stay }
+        ≡ shift_span_in inst.now.draft (admission_of inst.now.draft plan.now person)
+        (person_of inst.now.draft person).length_of_stay }
     ensures inside { IfSome result (IsShiftSpan inst.now.draft) }
 {
-    let o = inst.occupant(x - inst.patients());
+    let o = inst.occupant(person - inst.patients());
     Some(ShiftSpan {
         room: o.room_id,
         from: 0,
@@ -70,17 +74,17 @@ fn occupant_shift_span(inst: &Instance, plan: &Plan, x: u32) -> Option<ShiftSpan
 }
 
 /// The counted shifts of a person's stay, and none where the person isn't admitted.
-pub fn shift_span_of(inst: &Instance, plan: &Plan, x: u32) -> Option<ShiftSpan>
+pub fn shift_span_of(inst: &Instance, plan: &Plan, person: u32) -> Option<ShiftSpan>
     requires plan { IsPlanOf inst.now.draft plan.now }
-    requires person { x < person_count inst.now.draft }
+    requires person { person < person_count inst.now.draft }
     ensures shift_span { result
-        ≡ shift_span_in inst.now.draft (admission_of inst.now.draft plan.now x)
-        (person_of inst.now.draft x).length_of_stay }
+        ≡ shift_span_in inst.now.draft (admission_of inst.now.draft plan.now person)
+        (person_of inst.now.draft person).length_of_stay }
     ensures inside { IfSome result (IsShiftSpan inst.now.draft) }
 {
-    if x < inst.patients() {
-        stay_shift_span(inst, PatientNo(x), plan.stay(PatientNo(x)))
+    if person < inst.patients() {
+        stay_shift_span(inst, PatientNo(person), plan.stay(PatientNo(person)))
     } else {
-        occupant_shift_span(inst, plan, x)
+        occupant_shift_span(inst, plan, person)
     }
 }

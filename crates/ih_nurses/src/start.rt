@@ -48,14 +48,21 @@ pub fn no_counts(alloc: Global, inst: &Instance) -> Result<Vec<u8>, AllocError>
 }
 
 // Lists an occupant in its room from day 0 on, within the horizon.
-fn enter_occupant(inst: &Instance, here: &mut [CompactLinks], o: u32)
-    requires occupant { o < occupant_count inst.now.draft }
-    requires so_far { AreFilled inst.now.draft here.old o }
-    ensures { AreFilled inst.now.draft here.new (o + 1) }
+fn enter_occupant(inst: &Instance, here: &mut [CompactLinks], occupant_no: u32)
+    requires occupant { occupant_no < occupant_count inst.now.draft }
+    requires so_far { AreFilled inst.now.draft here.old occupant_no }
+    ensures { AreFilled inst.now.draft here.new (occupant_no + 1) }
 {
-    let occupant = inst.occupant(o);
+    let occupant = inst.occupant(occupant_no);
     let end = end_from(inst, 0, occupant.length_of_stay);
-    enter_days(inst, here, occupant.room_id, 0, end, inst.patients() + o);
+    enter_days(
+        inst,
+        here,
+        occupant.room_id,
+        0,
+        end,
+        inst.patients() + occupant_no,
+    );
 }
 
 // Lists each occupant.

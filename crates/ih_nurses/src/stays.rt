@@ -11,14 +11,14 @@ use ih_tables::{Instance, PatientNo, Shift};
 
 /// The workload that a patient makes in a shift of its stay.
 #[tactic(auto, unfolding(ih_plan::specs::Persons::person_of))]
-pub fn workload(inst: &Instance, p: PatientNo, at: Placement, k: u32) -> u32
-    requires patient { p.0 < patient_count inst.now.draft }
-    requires begun { 3 * at.day.0 ≤ k }
-    ensures value { result ≡ slice_index (person_of inst.now.draft p.0).workload (k - 3 * at.day.0) }
+pub fn workload(inst: &Instance, patient: PatientNo, at: Placement, shift: u32) -> u32
+    requires patient { patient.0 < patient_count inst.now.draft }
+    requires begun { 3 * at.day.0 ≤ shift }
+    ensures value { result ≡ slice_index (person_of inst.now.draft patient.0).workload (shift - 3 * at.day.0) }
     ensures bound { result ≤ 100000 }
 {
-    let place = (k - 3 * at.day.0) as usize;
-    let a = inst.patient(p);
+    let place = (shift - 3 * at.day.0) as usize;
+    let a = inst.patient(patient);
     a.workload_produced
         .as_slice()
         .get(place)
@@ -27,38 +27,50 @@ pub fn workload(inst: &Instance, p: PatientNo, at: Placement, k: u32) -> u32
 }
 
 /// Adds a stay to the loads of its room's nurses.
-pub fn add_stay(inst: &Instance, plan: &Plan, loads: &mut [NurseLoad], p: PatientNo, at: Placement)
-    requires stay { IsStayOf inst.now.draft plan.now p at }
+pub fn add_stay(
+    inst: &Instance,
+    plan: &Plan,
+    loads: &mut [NurseLoad],
+    patient: PatientNo,
+    at: Placement,
+)
+    requires stay { IsStayOf inst.now.draft plan.now patient at }
     requires table { IsTable inst.now.draft loads.old }
     requires small { (m j : ℕ) → m < nurse_count inst.now.draft → j < shift_count inst.now.draft
         → load_at inst.now.draft loads.old m j ≤ 256000000 }
     ensures table { IsTable inst.now.draft loads.new }
     ensures each { (m j : ℕ) → m < nurse_count inst.now.draft → j < shift_count inst.now.draft
         → load_at inst.now.draft loads.new m j
-        ≡ load_at inst.now.draft loads.old m j + stay_load inst.now.draft plan.now p.0 at m j }
+        ≡ load_at inst.now.draft loads.old m j + stay_load inst.now.draft plan.now patient.0 at m j }
 {
-    let end = end_of(inst, p, at);
+    let end = end_of(inst, patient, at);
     for k in 3 * at.day.0..3 * end {
-        let load = workload(inst, p, at, k);
+        let load = workload(inst, patient, at, k);
         let nurse = nurse_at(inst, plan, at.room, Shift(k));
         add_load(inst, loads, nurse, Shift(k), load);
     }
 }
 
 /// Takes a stay from the loads of its room's nurses.
-pub fn take_stay(inst: &Instance, plan: &Plan, loads: &mut [NurseLoad], p: PatientNo, at: Placement)
-    requires stay { IsStayOf inst.now.draft plan.now p at }
+pub fn take_stay(
+    inst: &Instance,
+    plan: &Plan,
+    loads: &mut [NurseLoad],
+    patient: PatientNo,
+    at: Placement,
+)
+    requires stay { IsStayOf inst.now.draft plan.now patient at }
     requires table { IsTable inst.now.draft loads.old }
     requires enough { (m j : ℕ) → m < nurse_count inst.now.draft → j < shift_count inst.now.draft
-        → stay_load inst.now.draft plan.now p.0 at m j ≤ load_at inst.now.draft loads.old m j }
+        → stay_load inst.now.draft plan.now patient.0 at m j ≤ load_at inst.now.draft loads.old m j }
     ensures table { IsTable inst.now.draft loads.new }
     ensures each { (m j : ℕ) → m < nurse_count inst.now.draft → j < shift_count inst.now.draft
-        → load_at inst.now.draft loads.new m j + stay_load inst.now.draft plan.now p.0 at m j
+        → load_at inst.now.draft loads.new m j + stay_load inst.now.draft plan.now patient.0 at m j
         ≡ load_at inst.now.draft loads.old m j }
 {
-    let end = end_of(inst, p, at);
+    let end = end_of(inst, patient, at);
     for k in 3 * at.day.0..3 * end {
-        let load = workload(inst, p, at, k);
+        let load = workload(inst, patient, at, k);
         let nurse = nurse_at(inst, plan, at.room, Shift(k));
         take_load(inst, loads, nurse, Shift(k), load);
     }

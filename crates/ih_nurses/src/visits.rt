@@ -36,13 +36,18 @@ pub struct Visit<'a> {
 
 // How a patient's present stay lies to a placement.
 #[tactic(auto, unfolding(ih_plan::specs::Persons::person_of))]
-fn present_stay(inst: &Instance, p: PatientNo, old: Option<Placement>, at: Placement) -> Before
-    requires patient { p.0 < patient_count inst.now.draft }
+fn present_stay(
+    inst: &Instance,
+    patient: PatientNo,
+    old: Option<Placement>,
+    at: Placement,
+) -> Before
+    requires patient { patient.0 < patient_count inst.now.draft }
     requires old { IfSome old (IsPlacement inst.now.draft) }
     requires placement { IsPlacement inst.now.draft at }
-    ensures { IsBefore inst.now.draft p.0 old at result }
+    ensures { IsBefore inst.now.draft patient.0 old at result }
 {
-    let len = inst.patient(p).length_of_stay;
+    let len = inst.patient(patient).length_of_stay;
     match old {
         None => Before::Apart,
         Some(stay) => {
@@ -60,21 +65,26 @@ fn present_stay(inst: &Instance, p: PatientNo, old: Option<Placement>, at: Place
 impl<'a> Visit<'a> {
     /// What is the same in every shift of a placement of a patient, whose stay is `old` so far.
     #[tactic(auto, unfolding(ih_plan::specs::Persons::person_of))]
-    pub fn new(inst: &'a Instance, p: PatientNo, old: Option<Placement>, at: Placement) -> Visit<'a>
-        requires patient { p.0 < patient_count inst.now.draft }
+    pub fn new(
+        inst: &'a Instance,
+        patient: PatientNo,
+        old: Option<Placement>,
+        at: Placement,
+    ) -> Visit<'a>
+        requires patient { patient.0 < patient_count inst.now.draft }
         requires old { IfSome old (IsPlacement inst.now.draft) }
         requires placement { IsPlacement inst.now.draft at }
-        ensures patient { patient_of result ≡ p }
+        ensures patient { patient_of result ≡ patient }
         ensures placement { placement_of result ≡ at }
         ensures visit { IsVisitOf inst.now.draft old result }
     {
-        let a = inst.patient(p);
+        let a = inst.patient(patient);
         Visit {
-            p,
+            p: patient,
             at,
             workload: a.workload_produced.as_slice(),
             skill: a.skill_level_required.as_slice(),
-            before: present_stay(inst, p, old, at),
+            before: present_stay(inst, patient, old, at),
         }
     }
 }
@@ -86,25 +96,25 @@ pub fn present_stay_load(
     inst: &Instance,
     plan: &Plan,
     visit: &Visit<'_>,
-    n: NurseNo,
-    k: Shift,
+    nurse: NurseNo,
+    shift: Shift,
     come: u32,
 ) -> u32
     requires plan { IsPlanOf inst.now.draft plan.now }
-    requires counted { has_day inst.now.draft visit.now.p.0 (Some visit.now.at) (day_of k.0) ≡ true }
-    requires shift { k.0 < shift_count inst.now.draft }
-    requires nurse { care_of plan.now visit.now.at.room.0 k.0 ≡ Some n.0 }
+    requires counted { has_day inst.now.draft visit.now.p.0 (Some visit.now.at) (day_of shift.0) ≡ true }
+    requires shift { shift.0 < shift_count inst.now.draft }
+    requires nurse { care_of plan.now visit.now.at.room.0 shift.0 ≡ Some nurse.0 }
     requires visit { IsVisitOf inst.now.draft (stay_of plan.now visit.now.p.0) visit.now }
     requires come { come
-        ≡ slice_index (person_of inst.now.draft visit.now.p.0).workload (k.0 - 3 * visit.now.at.day.0) }
+        ≡ slice_index (person_of inst.now.draft visit.now.p.0).workload (shift.0 - 3 * visit.now.at.day.0) }
     requires small { come ≤ 100000 }
     ensures value { result
-        ≡ load_of_stay inst.now.draft plan.now visit.now.p.0 (stay_of plan.now visit.now.p.0) n.0 k.0 }
+        ≡ load_of_stay inst.now.draft plan.now visit.now.p.0 (stay_of plan.now visit.now.p.0) nurse.0 shift.0 }
     ensures bound { result ≤ 100000 }
 {
     match visit.before {
         Before::Apart => 0,
         Before::Same => come,
-        Before::Other(stay) => stay_load(inst, plan, visit.p, visit.workload, stay, n, k),
+        Before::Other(stay) => stay_load(inst, plan, visit.p, visit.workload, stay, nurse, shift),
     }
 }

@@ -14,8 +14,8 @@ use Rattle.ih_fill.specs.Candidates.{valued, least_of}
 use Rattle.ih_fill.specs.FirstLeast.{AnyPlace, IsBefore}
 use Rattle.ih_fill.proofs.FirstLeast.{before-trans, first-cheapest}
 use Rattle.ih_fill.proofs.ListLemmas.{get-front, get-behind}
-use Rattle.ih_parfill.specs.declared.walkers.Found.{Found}
-use Rattle.ih_parfill.specs.declared.walkers.Walker.{Walker}
+use Rattle.ih_parfill.specs.declared.scans.Found.{Found}
+use Rattle.ih_parfill.specs.declared.scans.ShareScan.{ShareScan}
 use Rattle.ih_parfill.specs.Shares.{HaveFound, HasLooked, IsFirstOf, IsLeastOf, IsLower, IsOfShare, IsShare}
 
 module _ (v : Write → ℤ) where
@@ -124,9 +124,9 @@ module _ (v : Write → ℤ) where
         };
       }
 
-  pub walker_passes : (I : Draft) (ws : List Write) (x : Write) (s t : Walker) → t ≡ record s { passed = s.passed + 1 } → (s.passed % s.workers ≡ s.worker → ⊥) → HasLooked I v ws s
+  pub scan_passes : (I : Draft) (ws : List Write) (x : Write) (s t : ShareScan) → t ≡ record s { passed = s.passed + 1 } → (s.passed % s.workers ≡ s.worker → ⊥) → HasLooked I v ws s
       → HasLooked I v (ws ++ x ∷ []) t
-  walker_passes I ws x s t e other looked =
+  scan_passes I ws x s t e other looked =
       let passed = looked.passed in
       let len : length (ws ++ x ∷ []) ≡ length ws + 1 = length-append ws (x ∷ []) in
       rw e (record {
@@ -141,9 +141,9 @@ module _ (v : Write → ℤ) where
   lower-either Q (Some a) (Some b) r (inl h) p q = rw h.0 p
   lower-either Q (Some a) (Some b) r (inr h) p q = rw h.0 q
 
-  pub walker-looks : (I : Draft) (ws : List Write) (x : Write) (s t : Walker) (f : Found) → IsShare s.workers s.worker s.passed → f.place ≡ s.passed → f.candidate ≡ valued v x → IsWriteOf I x
+  pub scan-looks : (I : Draft) (ws : List Write) (x : Write) (s t : ShareScan) (f : Found) → IsShare s.workers s.worker s.passed → f.place ≡ s.passed → f.candidate ≡ valued v x → IsWriteOf I x
       → IsLower s.best (Some f) t.best → t.passed ≡ s.passed + 1 → t.workers ≡ s.workers → t.worker ≡ s.worker → HasLooked I v ws s → HasLooked I v (ws ++ x ∷ []) t
-  walker-looks I ws x s t f mine place is fits low more workers worker looked =
+  scan-looks I ws x s t f mine place is fits low more workers worker looked =
       let passed = looked.passed in
       let len : length (ws ++ x ∷ []) ≡ length ws + 1 = length-append ws (x ∷ []) in
       let S : ℕ → Type 0 = λ k. IsShare s.workers s.worker k × (k < length ws) in
@@ -166,7 +166,7 @@ module _ (v : Write → ℤ) where
             (subst (IsWriteOf I) (sym (ap (λ (c : Candidate). c.write) is)) fits);
       }
 
-  pub looked-none : (I : Draft) (s : Walker) → s.passed ≡ 0 → s.best ≡ None → HasLooked I v [] s
+  pub looked-none : (I : Draft) (s : ShareScan) → s.passed ≡ 0 → s.best ≡ None → HasLooked I v [] s
   looked-none I s none nothing = record {
     passed = none;
     least = rw nothing (λ k x own there. let no : None ≡ Some x = there in cc);
@@ -174,7 +174,7 @@ module _ (v : Write → ℤ) where
   }
 
   -- all candidates lie behind the worker
-  pub of-share : (I : Draft) (ws xs : List Write) (s : Walker) (n w : ℕ) → HasLooked I v ws s → ws ≡ xs → s.workers ≡ n → s.worker ≡ w → IsOfShare I v xs (IsShare n w) s.best
+  pub of-share : (I : Draft) (ws xs : List Write) (s : ShareScan) (n w : ℕ) → HasLooked I v ws s → ws ≡ xs → s.workers ≡ n → s.worker ≡ w → IsOfShare I v xs (IsShare n w) s.best
   of-share I ws xs s n w looked all workers worker =
       rw (sym workers, sym worker) (subst (λ ys. IsOfShare I v ys (IsShare s.workers s.worker) s.best) all (record { least = looked.least; fits = looked.fits }))
 

@@ -5,8 +5,8 @@ use Rattle.ih_plan.specs.declared.moves.Write.{Write}
 use Rattle.ih_plan.specs.Writes.{IsWriteOf}
 use Rattle.ih_fill.specs.Candidates.{valued}
 use Rattle.ih_fill.specs.FirstLeast.{IsBefore, IsFirstLeast}
-use Rattle.ih_parfill.specs.declared.walkers.Found.{Found}
-use Rattle.ih_parfill.specs.declared.walkers.Walker.{Walker}
+use Rattle.ih_parfill.specs.declared.scans.Found.{Found}
+use Rattle.ih_parfill.specs.declared.scans.ShareScan.{ShareScan}
 
 -- it is the first least of the candidates at these places, with its value
 pub record IsFirstOf (v : Write → ℤ) (ws : List Write) (places : ℕ → Type 0) (f : Found) : Type 0 where
@@ -23,7 +23,7 @@ abbrev pub IsShare : ℕ → ℕ → ℕ → Type 0
 IsShare n w k = k % n ≡ w
 
 -- what a worker has found among the candidates that lie behind it
-pub record HasLooked (I : Draft) (v : Write → ℤ) (ws : List Write) (s : Walker) : Type 0 where
+pub record HasLooked (I : Draft) (v : Write → ℤ) (ws : List Write) (s : ShareScan) : Type 0 where
   pub passed : s.passed ≡ length ws
   pub least : IsLeastOf v ws (IsShare s.workers s.worker) s.best
   pub fits : IfSome s.best (λ f. IsWriteOf I f.candidate.write)

@@ -5,7 +5,7 @@ ghost use Rattle.ih_plan.specs.Timetable.{IsPlanOf};
 ghost use Rattle.ih_fill.specs.{Choices.IsChoiceOf, Fill.fill, Fill.with_choice, Fill.with_choices};
 
 use crate::joining::{deal, lowest};
-use crate::walkers::Found;
+use crate::scans::Found;
 use ih_fill::{Choice, Scorer, fill, fill_choices, is_open, make_choice};
 use ih_plan::Plan;
 use ih_shelf::Gate;

@@ -8,8 +8,8 @@ ghost use Rattle.ih_fill.specs.{Choices.IsChoiceOf, Choices.candidates, ScorerSt
 ghost use Rattle.ih_parfill.specs.Shares.{HaveFound, IsOfShare, IsShare};
 
 use crate::nurses::least_nurse_of_share;
+use crate::scans::{Found, lower};
 use crate::stays::least_of_share;
-use crate::walkers::{Found, lower};
 use ih_fill::{Choice, Scorer};
 use ih_shelf::Gate;
 use ih_tables::Instance;

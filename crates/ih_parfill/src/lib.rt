@@ -5,9 +5,9 @@
 mod filling;
 mod joining;
 mod nurses;
+mod scans;
 mod starts;
 mod stays;
-mod walkers;
 
 pub use filling::par_fill;
 pub use starts::{Begun, begin};

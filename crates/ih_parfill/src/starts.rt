@@ -13,7 +13,7 @@ use std::alloc::{AllocError, Global};
 use std::sync::Wait;
 use std::thread::Threads;
 
-/// What a search is over.
+/// What a search works on.
 #[derive(Drop)]
 pub struct Begun {
     pub inst: Box<Instance>,
@@ -21,8 +21,8 @@ pub struct Begun {
     pub start: Plan,
 }
 
-/// What a search of these inputs is over: it starts from their timetable, or from its greedy fill. `hard` is the weight
-/// of a broken hard rule in a score, `workers` how many fill side by side.
+/// What a search of these inputs works on: it starts from their timetable, or from its greedy fill. `hard` is the
+/// weight of a broken hard rule in a score, `workers` how many fill side by side.
 pub fn begin<R: Threads + Wait + Sync>(
     rt: &R,
     alloc: Global,

@@ -65,7 +65,7 @@ nurses_off I P = over_room_shifts I P (λ k n xs. bit (not_working I k n))
 unfoldable pub uncovered : Draft → Timetable → ℕ
 uncovered I P = over_room_shifts I P (λ k n xs. bit (is_none n && not (is_empty xs)))
 
--- the greatest less the least age group in each room on each day
+-- oldest minus youngest age group, by room and day
 unfoldable pub mixed_ages : Draft → Timetable → ℕ
 mixed_ages I P = over_room_days I P (λ r xs. age_spread I xs)
 
@@ -73,7 +73,7 @@ mixed_ages I P = over_room_days I P (λ r xs. age_spread I xs)
 unfoldable pub missing_skill : Draft → Timetable → ℕ
 missing_skill I P = over_room_shifts I P (λ k n xs. skill_missing I n (map (skill_of I P k) xs))
 
--- distinct nurses of each person's stay
+-- different nurses each person sees
 unfoldable pub nurses_seen : Draft → Timetable → ℕ
 nurses_seen I P =
     sum_below (person_count I) (λ x. distinct_nurses I (map (nurse_for P (room_of I P x)) (shifts_of I P x)))

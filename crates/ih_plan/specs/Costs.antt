@@ -64,7 +64,7 @@ capacity_of I r = option_map_or (λ (a : Room). a.capacity) (slice_get I.rooms r
 abbrev pub ages : Draft → List ℕ → List ℕ
 ages I xs = map (λ x. (person_of I x).age_group) xs
 
--- the greatest less the least of their age groups
+-- oldest minus youngest of their age groups
 abbrev pub age_spread : Draft → List ℕ → ℕ
 age_spread I xs = greatest (ages I xs) - least (ages I xs)
 

@@ -14,15 +14,15 @@ pub trait Members {
     ghost persons: { Self → ℕ → ℕ → List ℕ };
 
     /// How many persons are in a room on a day.
-    fn count(&self, r: RoomNo, d: Day) -> u32
-        requires room { r.0 < rooms self.now }
-        requires day { d.0 < days self.now }
-        ensures { result ≡ length (persons self.now r.0 d.0) };
+    fn count(&self, room: RoomNo, day: Day) -> u32
+        requires room { room.0 < rooms self.now }
+        requires day { day.0 < days self.now }
+        ensures { result ≡ length (persons self.now room.0 day.0) };
 
     /// The i-th of them, from 0.
-    fn member(&self, r: RoomNo, d: Day, i: u32) -> PersonNo
-        requires room { r.0 < rooms self.now }
-        requires day { d.0 < days self.now }
-        requires place { i < length (persons self.now r.0 d.0) }
-        ensures { result.0 ≡ slice_index (persons self.now r.0 d.0) i };
+    fn member(&self, room: RoomNo, day: Day, index: u32) -> PersonNo
+        requires room { room.0 < rooms self.now }
+        requires day { day.0 < days self.now }
+        requires place { index < length (persons self.now room.0 day.0) }
+        ensures { result.0 ≡ slice_index (persons self.now room.0 day.0) index };
 }

@@ -70,35 +70,35 @@ impl Plan {
     }
 
     /// The placement of a patient, and none where the patient is not admitted.
-    pub fn stay(&self, p: PatientNo) -> Option<Placement>
-        requires { p.0 < length self.now.stays }
-        ensures { result ≡ stay_of self.now p.0 }
+    pub fn stay(&self, patient: PatientNo) -> Option<Placement>
+        requires { patient.0 < length self.now.stays }
+        ensures { result ≡ stay_of self.now patient.0 }
     {
-        self.stays[p.0 as usize]
+        self.stays[patient.0 as usize]
     }
 
     // Where a room's nurse in a shift stands.
-    fn place(&self, r: RoomNo, k: Shift) -> usize
-        requires { care_place self.now r.0 k.0 < length self.now.cares }
-        ensures { result ≡ care_place self.now r.0 k.0 }
+    fn place(&self, room: RoomNo, shift: Shift) -> usize
+        requires { care_place self.now room.0 shift.0 < length self.now.cares }
+        ensures { result ≡ care_place self.now room.0 shift.0 }
     {
-        self.shifts as usize * r.0 as usize + k.0 as usize
+        self.shifts as usize * room.0 as usize + shift.0 as usize
     }
 
     /// The nurse of a room in a shift, where the room has one.
-    pub fn care(&self, r: RoomNo, k: Shift) -> Option<NurseNo>
-        requires { care_place self.now r.0 k.0 < length self.now.cares }
-        ensures { result ≡ choice_of self.now r.0 k.0 }
+    pub fn care(&self, room: RoomNo, shift: Shift) -> Option<NurseNo>
+        requires { care_place self.now room.0 shift.0 < length self.now.cares }
+        ensures { result ≡ choice_of self.now room.0 shift.0 }
     {
-        self.cares[self.place(r, k)]
+        self.cares[self.place(room, shift)]
     }
 
     /// Replaces the one entry that the write names; all others stay. It takes no memory.
-    pub fn put(&mut self, w: &Write)
-        requires { IsInside self.old w.now }
-        ensures { self.new ≡ put w.now self.old }
+    pub fn put(&mut self, write: &Write)
+        requires { IsInside self.old write.now }
+        ensures { self.new ≡ put write.now self.old }
     {
-        match *w {
+        match *write {
             Write::SetStay(patient, stay) => self.stays[patient.0 as usize] = stay,
             Write::SetCare(r, k, care) => {
                 let place = self.place(r, k);

@@ -23,11 +23,11 @@ fn put(out: &mut Vec<u8>, text: &str) -> Result<(), AllocError>
 }
 
 // Appends a name and a number.
-fn put_number(out: &mut Vec<u8>, name: &str, n: u64) -> Result<(), AllocError>
-    ensures { OnOk result (out.new.items ≡ out.old.items ++ (name.now ++ decimal n)) }
+fn put_number(out: &mut Vec<u8>, name: &str, number: u64) -> Result<(), AllocError>
+    ensures { OnOk result (out.new.items ≡ out.old.items ++ (name.now ++ decimal number)) }
 {
     put(out, name)?;
-    put(out, Buffer::new().format(n))
+    put(out, Buffer::new().format(number))
 }
 
 fn put_parts(out: &mut Vec<u8>, parts: &Parts) -> Result<(), AllocError>
@@ -62,20 +62,20 @@ fn above(cost: u64, least: u64) -> u128
     (cost.saturating_sub(least) as u128 * 1000).div_ceil(least as u128)
 }
 
-fn put_percent(out: &mut Vec<u8>, n: u128) -> Result<(), AllocError>
-    ensures { OnOk result (out.new.items ≡ out.old.items ++ percent_text n) }
+fn put_percent(out: &mut Vec<u8>, number: u128) -> Result<(), AllocError>
+    ensures { OnOk result (out.new.items ≡ out.old.items ++ percent_text number) }
 {
-    put(out, Buffer::new().format(n / 10))?;
+    put(out, Buffer::new().format(number / 10))?;
     put(out, ".")?;
-    put(out, Buffer::new().format(n % 10))?;
+    put(out, Buffer::new().format(number % 10))?;
     put(out, " %")
 }
 
-fn put_share(out: &mut Vec<u8>, n: u128) -> Result<(), AllocError>
-    ensures { OnOk result (out.new.items ≡ out.old.items ++ share_text n) }
+fn put_share(out: &mut Vec<u8>, number: u128) -> Result<(), AllocError>
+    ensures { OnOk result (out.new.items ≡ out.old.items ++ share_text number) }
 {
     put(out, ", at most ")?;
-    put_percent(out, n)?;
+    put_percent(out, number)?;
     put(out, " above the best")
 }
 

@@ -59,7 +59,7 @@ fn required_description<'a>(alloc: Global) -> Result<Command<'a>, AllocError>
 {
     let empty = Command::new(alloc, "improve")
         .about(
-            "Searches for a better plan, and writes the best so far after each round that found one",
+            "Searches for a better plan, and writes the best so far after each round that improved it",
         )
         .bin_name("ih_planner improve")?;
     let instance = with(
@@ -75,7 +75,7 @@ fn required_description<'a>(alloc: Global) -> Result<Command<'a>, AllocError>
     );
     let seed = with(
         out,
-        with_help(seed_option(alloc), "The same seed gives the same plans"),
+        with_help(seed_option(alloc), "Where the random numbers begin"),
     );
     let workers = with(
         seed,

@@ -74,9 +74,9 @@ fn search_all<R: Files + Print + Threads + Sync, S: Shelf, O: Sink>(
     ensures few { IfTold (ArePutsAtMost rounds) (O.puts out.old) (O.puts out.new) }
     ensures cause { IfSome result (HasCause (S.read_faults shelf.old) (S.read_faults shelf.new)
         (S.write_faults shelf.old) (S.write_faults shelf.new) (O.faults out.old) (O.faults out.new)) }
-    ensures reads { IfNone result (S.read_faults shelf.old ≤ S.read_faults shelf.new) }
-    ensures writes { IfNone result (S.write_faults shelf.old ≤ S.write_faults shelf.new) }
-    ensures puts { IfNone result (O.faults out.old ≤ O.faults out.new) }
+    ensures read_faults { IfNone result (S.read_faults shelf.old ≤ S.read_faults shelf.new) }
+    ensures write_faults { IfNone result (S.write_faults shelf.old ≤ S.write_faults shelf.new) }
+    ensures put_faults { IfNone result (O.faults out.old ≤ O.faults out.new) }
     ensures lacks { IfNone result (O.lacks out.old ≤ O.lacks out.new) }
 {
     for _ in 0..rounds {
@@ -105,7 +105,7 @@ fn ending(alloc: Global, inst: &Instance, improver: &Improver<'_>) -> Answer
 }
 
 // Searches, and says how the call ended.
-fn search<R: Files + Print + Threads + Sync, S: Shelf, O: Sink>(
+fn search_and_conclude<R: Files + Print + Threads + Sync, S: Shelf, O: Sink>(
     rt: &R,
     alloc: Global,
     inst: &Instance,
@@ -155,7 +155,7 @@ fn search_begun<R: Files + Print + Threads + Sync, S: Shelf, O: Sink>(
 {
     let inst = &*begun.inst;
     match Improver::new(alloc, inst, &begun.start, settings) {
-        Ok(mut improver) => search(rt, alloc, inst, call, &mut improver, shelf, out),
+        Ok(mut improver) => search_and_conclude(rt, alloc, inst, call, &mut improver, shelf, out),
         Err(_) => conclude_memory(rt, out),
     }
 }

@@ -66,22 +66,22 @@ fn write_plan<R: Files, S: Shelf>(
     alloc: Global,
     inst: &Instance,
     plan: &Plan,
-    out: &str,
+    name: &str,
     shelf: &mut S,
 ) -> Result<(), Answer>
     requires { IsPlanOf inst.now.draft plan.now }
     ensures ok { OnOk result
-        (IfTold (IsWritten out.now (solution inst.now.draft plan.now)) (S.names shelf.old) (S.names shelf.new)) }
+        (IfTold (IsWritten name.now (solution inst.now.draft plan.now)) (S.names shelf.old) (S.names shelf.new)) }
     ensures ends { IfErr result (Answers
-        (WriteEnds out.now (solution inst.now.draft plan.now) (S.names shelf.old) (S.names shelf.new))) }
+        (WriteEnds name.now (solution inst.now.draft plan.now) (S.names shelf.old) (S.names shelf.new))) }
     ensures cause { IfErr result (λ a. HasShelfCause S.Shelf shelf.old shelf.new a.status) }
     ensures count { S.write_faults shelf.old ≤ S.write_faults shelf.new }
     ensures other_count { S.read_faults shelf.new ≡ S.read_faults shelf.old }
 {
     match write_solution(alloc, inst, plan) {
-        Ok(solution) => match shelf.write(rt, out, solution.as_slice()) {
+        Ok(solution) => match shelf.write(rt, name, solution.as_slice()) {
             Ok(()) => Ok(()),
-            Err(error) => Err(unwritten(alloc, Role::Out, out, error)),
+            Err(error) => Err(unwritten(alloc, Role::Out, name, error)),
         },
         Err(_) => Err(out_of_memory(alloc)),
     }
@@ -92,7 +92,7 @@ fn write_best<R: Files, S: Shelf>(
     rt: &R,
     alloc: Global,
     inst: &Instance,
-    out: &str,
+    name: &str,
     is_new: bool,
     improver: &Improver<'_>,
     shelf: &mut S,
@@ -100,8 +100,8 @@ fn write_best<R: Files, S: Shelf>(
     requires { improver.now.instance ≡ inst.now.draft }
     ensures sound { IsSound improver.now }
     ensures ok { OnOk result (MatchBool is_new
-        (IfTold (WritesBest out.now improver.now) (S.names shelf.old) (S.names shelf.new)) (shelf.new ≡ shelf.old)) }
-    ensures ends { IfErr result (Answers (BestEnds out.now improver.now (S.names shelf.old) (S.names shelf.new))) }
+        (IfTold (WritesBest name.now improver.now) (S.names shelf.old) (S.names shelf.new)) (shelf.new ≡ shelf.old)) }
+    ensures ends { IfErr result (Answers (BestEnds name.now improver.now (S.names shelf.old) (S.names shelf.new))) }
     ensures cause { IfErr result (λ a. HasShelfCause S.Shelf shelf.old shelf.new a.status) }
     ensures count { S.write_faults shelf.old ≤ S.write_faults shelf.new }
     ensures other_count { S.read_faults shelf.new ≡ S.read_faults shelf.old }
@@ -110,7 +110,7 @@ fn write_best<R: Files, S: Shelf>(
         return Ok(());
     };
     if is_new {
-        write_plan(rt, alloc, inst, plan, out, shelf)
+        write_plan(rt, alloc, inst, plan, name, shelf)
     } else {
         Ok(())
     }
@@ -191,9 +191,9 @@ pub fn one_round<R: Files + Print + Threads + Sync, S: Shelf, O: Sink>(
     ensures once { IfTold IsOnePutAtMost (O.puts out.old) (O.puts out.new) }
     ensures cause { IfSome result (HasCause (S.read_faults shelf.old) (S.read_faults shelf.new)
         (S.write_faults shelf.old) (S.write_faults shelf.new) (O.faults out.old) (O.faults out.new)) }
-    ensures reads { IfNone result (S.read_faults shelf.old ≤ S.read_faults shelf.new) }
-    ensures writes { IfNone result (S.write_faults shelf.old ≤ S.write_faults shelf.new) }
-    ensures puts { IfNone result (O.faults out.old ≤ O.faults out.new) }
+    ensures read_faults { IfNone result (S.read_faults shelf.old ≤ S.read_faults shelf.new) }
+    ensures write_faults { IfNone result (S.write_faults shelf.old ≤ S.write_faults shelf.new) }
+    ensures put_faults { IfNone result (O.faults out.old ≤ O.faults out.new) }
     ensures lacks { IfNone result (O.lacks out.old ≤ O.lacks out.new) }
 {
     let is_new = search_on(rt, improver);

@@ -104,11 +104,12 @@ impl Attempt {
         moves[place]
     }
 
-    /// Whether one of the moves is of the person: another stay, or none, of a patient of this number.
-    pub fn moves_person(&self, x: PersonNo) -> bool {
+    /// Whether one of the moves is a `Place`, `Withdraw` or `SetRoom` of this person. The other kinds aren't looked at.
+    /// Never true of an occupant, who can't be moved.
+    pub fn moves_person(&self, person: PersonNo) -> bool {
         for mv in self.as_slice() {
             let moved = match *mv {
-                Move::Place(p, _) | Move::Withdraw(p) | Move::SetRoom(p, _) => p.0 == x.0,
+                Move::Place(p, _) | Move::Withdraw(p) | Move::SetRoom(p, _) => p.0 == person.0,
                 _ => false,
             };
             if moved {

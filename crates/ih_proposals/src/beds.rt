@@ -15,32 +15,32 @@ use ih_validate::is_incompatible;
 
 /// The i-th person in a room on a day.
 #[inline(always)]
-pub fn person_at(inst: &Instance, rooms: &RoomDays, r: RoomNo, d: Day, i: u32) -> PersonNo
+pub fn person_at(inst: &Instance, rooms: &RoomDays, room: RoomNo, day: Day, index: u32) -> PersonNo
     requires stands { (P : Timetable) × IsLedgerOf inst.now.draft P rooms.now }
-    requires room { r.0 < room_count inst.now.draft }
-    requires day { d.0 < inst.now.draft.days }
-    requires place { i < length (persons_at rooms.now r.0 d.0) }
+    requires room { room.0 < room_count inst.now.draft }
+    requires day { day.0 < inst.now.draft.days }
+    requires place { index < length (persons_at rooms.now room.0 day.0) }
     ensures { result.0 < person_count inst.now.draft }
 {
-    rooms.member(r, d, i)
+    rooms.member(room, day, index)
 }
 
 // Whether a placement of the patient has the room on the day.
-fn is_there(inst: &Instance, p: PatientNo, at: Placement, r: RoomNo, d: Day) -> bool
-    requires patient { p.0 < patient_count inst.now.draft }
+fn is_there(inst: &Instance, patient: PatientNo, at: Placement, room: RoomNo, day: Day) -> bool
+    requires patient { patient.0 < patient_count inst.now.draft }
     requires placement { IsPlacement inst.now.draft at }
 {
-    at.room == r && at.day.0 <= d.0 && d.0 < end_of(inst, p, at)
+    at.room == room && at.day.0 <= day.0 && day.0 < end_of(inst, patient, at)
 }
 
 // The patient whom a move brings to the room on the day, where it does.
-fn arrival(inst: &Instance, mv: Move, r: RoomNo, d: Day) -> Option<PatientNo>
+fn arrival(inst: &Instance, mv: Move, room: RoomNo, day: Day) -> Option<PatientNo>
     requires { IsMoveOf inst.now.draft mv }
     ensures { IfSome result (λ p. p.0 < patient_count inst.now.draft) }
 {
     match mv {
         Move::Place(p, at) => {
-            if is_there(inst, p, at, r, d) {
+            if is_there(inst, p, at, room, day) {
                 Some(p)
             } else {
                 None
@@ -55,20 +55,20 @@ fn arrival(inst: &Instance, mv: Move, r: RoomNo, d: Day) -> Option<PatientNo>
 fn beds_beside(
     inst: &Instance,
     rooms: &RoomDays,
-    p: PatientNo,
-    r: RoomNo,
-    d: Day,
+    patient: PatientNo,
+    room: RoomNo,
+    day: Day,
     attempt: &Attempt,
     beds: u32,
 ) -> u32
     requires stands { (P : Timetable) × IsLedgerOf inst.now.draft P rooms.now }
-    requires patient { p.0 < patient_count inst.now.draft }
+    requires patient { patient.0 < patient_count inst.now.draft }
     requires moves { AreMoves inst.now.draft attempt.now }
 {
     let mut left = beds;
     for i in 0..attempt.len() {
-        if let Some(other) = arrival(inst, attempt.at(inst, i), r, d) {
-            if left == 0 || !rooms.same_gender(PersonNo(p.0), PersonNo(other.0)) {
+        if let Some(other) = arrival(inst, attempt.at(inst, i), room, day) {
+            if left == 0 || !rooms.same_gender(PersonNo(patient.0), PersonNo(other.0)) {
                 return 0;
             }
             left -= 1;
@@ -82,28 +82,28 @@ fn beds_beside(
 fn has_bed(
     inst: &Instance,
     rooms: &RoomDays,
-    p: PatientNo,
-    r: RoomNo,
-    d: Day,
+    patient: PatientNo,
+    room: RoomNo,
+    day: Day,
     attempt: &Attempt,
 ) -> bool
     requires stands { (P : Timetable) × IsLedgerOf inst.now.draft P rooms.now }
-    requires patient { p.0 < patient_count inst.now.draft }
-    requires room { r.0 < room_count inst.now.draft }
-    requires day { d.0 < inst.now.draft.days }
+    requires patient { patient.0 < patient_count inst.now.draft }
+    requires room { room.0 < room_count inst.now.draft }
+    requires day { day.0 < inst.now.draft.days }
     requires moves { AreMoves inst.now.draft attempt.now }
 {
-    let mut beds = inst.room(r).capacity;
-    for i in 0..rooms.count(r, d) {
-        let x = person_at(inst, rooms, r, d, i);
-        if x.0 != p.0 && !attempt.moves_person(x) {
-            if beds == 0 || !rooms.same_gender(PersonNo(p.0), x) {
+    let mut beds = inst.room(room).capacity;
+    for i in 0..rooms.count(room, day) {
+        let x = person_at(inst, rooms, room, day, i);
+        if x.0 != patient.0 && !attempt.moves_person(x) {
+            if beds == 0 || !rooms.same_gender(PersonNo(patient.0), x) {
                 return false;
             }
             beds -= 1;
         }
     }
-    beds_beside(inst, rooms, p, r, d, attempt, beds) > 0
+    beds_beside(inst, rooms, patient, room, day, attempt, beds) > 0
 }
 
 /// Whether the placement's room suits the patient and has a bed for the patient on each of its days once the attempt is
@@ -111,20 +111,27 @@ fn has_bed(
 pub fn fits(
     inst: &Instance,
     ledgers: &Ledgers<'_>,
-    p: PatientNo,
+    patient: PatientNo,
     at: Placement,
     attempt: &Attempt,
 ) -> bool
     requires instance { ledgers.now.instance ≡ inst.now.draft }
-    requires patient { p.0 < patient_count inst.now.draft }
+    requires patient { patient.0 < patient_count inst.now.draft }
     requires placement { IsPlacement inst.now.draft at }
     requires moves { AreMoves inst.now.draft attempt.now }
 {
-    if is_incompatible(inst.patient(p), at.room) {
+    if is_incompatible(inst.patient(patient), at.room) {
         return false;
     }
-    for d in at.day.0..end_of(inst, p, at) {
-        if !has_bed(inst, rooms_of(inst, ledgers), p, at.room, Day(d), attempt) {
+    for d in at.day.0..end_of(inst, patient, at) {
+        if !has_bed(
+            inst,
+            rooms_of(inst, ledgers),
+            patient,
+            at.room,
+            Day(d),
+            attempt,
+        ) {
             return false;
         }
     }

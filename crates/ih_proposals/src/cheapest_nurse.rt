@@ -21,20 +21,20 @@ fn value_of(
     inst: &Instance,
     hard: u32,
     ledgers: &Ledgers<'_>,
-    r: RoomNo,
-    k: Shift,
+    room: RoomNo,
+    shift: Shift,
     nurse: NurseNo,
 ) -> i64
     requires instance { ledgers.now.instance ≡ inst.now.draft }
     requires hard { hard ≤ 1000000 }
-    requires room { r.0 < room_count inst.now.draft }
-    requires shift { k.0 < shift_count inst.now.draft }
+    requires room { room.0 < room_count inst.now.draft }
+    requires shift { shift.0 < shift_count inst.now.draft }
     requires nurse { nurse.0 < nurse_count inst.now.draft }
 {
-    if nurse_in(inst, ledgers, r, k) == Some(nurse) {
+    if nurse_in(inst, ledgers, room, shift) == Some(nurse) {
         return i64::MAX;
     }
-    let price = ledgers.price_write(&Write::SetCare(r, k, Some(nurse)));
+    let price = ledgers.price_write(&Write::SetCare(room, shift, Some(nurse)));
     score_of(inst, hard, &price)
 }
 

@@ -1,4 +1,5 @@
-//! Two rooms that exchange a patient, whom the patient disturbs there, whom these disturb, and so on.
+//! A Kempe move. A patient goes to another room. Who is in its way there goes to the room that it left; who is in their
+//! way goes the other way, and so on.
 
 ghost use Rattle.std.specs.Prelude.{◌≡◌, ◌<◌, IfSome};
 ghost use Rattle.ih_tables.specs.Sizes.{patient_count, room_count};
@@ -21,14 +22,14 @@ use ih_validate::is_incompatible;
 const MOST: usize = 8;
 
 // How many persons of the room on the day the attempt moves.
-fn count_moved(inst: &Instance, rooms: &RoomDays, r: RoomNo, d: Day, attempt: &Attempt) -> u32
+fn count_moved(inst: &Instance, rooms: &RoomDays, room: RoomNo, day: Day, attempt: &Attempt) -> u32
     requires stands { (P : Timetable) × IsLedgerOf inst.now.draft P rooms.now }
-    requires room { r.0 < room_count inst.now.draft }
-    requires day { d.0 < inst.now.draft.days }
+    requires room { room.0 < room_count inst.now.draft }
+    requires day { day.0 < inst.now.draft.days }
 {
     let mut moved = 0;
-    for i in 0..rooms.count(r, d) {
-        if attempt.moves_person(person_at(inst, rooms, r, d, i)) {
+    for i in 0..rooms.count(room, day) {
+        if attempt.moves_person(person_at(inst, rooms, room, day, i)) {
             moved += 1;
         }
     }
@@ -36,18 +37,18 @@ fn count_moved(inst: &Instance, rooms: &RoomDays, r: RoomNo, d: Day, attempt: &A
 }
 
 // Brings a person to a room; false where it is an occupant, the room doesn't suit, or enough have moved.
-fn bring(inst: &Instance, x: PersonNo, r: RoomNo, attempt: &mut Attempt) -> bool
-    requires room { r.0 < room_count inst.now.draft }
+fn bring(inst: &Instance, person: PersonNo, room: RoomNo, attempt: &mut Attempt) -> bool
+    requires room { room.0 < room_count inst.now.draft }
     requires moves { AreMoves inst.now.draft attempt.old }
     ensures { AreMoves inst.now.draft attempt.new }
 {
-    if x.0 >= inst.patients() || attempt.is_full() {
+    if person.0 >= inst.patients() || attempt.is_full() {
         return false;
     }
-    if is_incompatible(inst.patient(PatientNo(x.0)), r) {
+    if is_incompatible(inst.patient(PatientNo(person.0)), room) {
         return false;
     }
-    attempt.add(inst, Move::SetRoom(PatientNo(x.0), r));
+    attempt.add(inst, Move::SetRoom(PatientNo(person.0), room));
     true
 }
 
@@ -57,24 +58,24 @@ fn make_way_on(
     inst: &Instance,
     ledgers: &Ledgers<'_>,
     words: &mut RandomWords,
-    p: PatientNo,
+    patient: PatientNo,
     at: Placement,
     to: RoomNo,
-    d: Day,
+    day: Day,
     attempt: &mut Attempt,
 ) -> bool
     requires instance { ledgers.now.instance ≡ inst.now.draft }
-    requires patient { p.0 < patient_count inst.now.draft }
+    requires patient { patient.0 < patient_count inst.now.draft }
     requires placement { IsPlacement inst.now.draft at }
     requires room { to.0 < room_count inst.now.draft }
-    requires day { d.0 < inst.now.draft.days }
+    requires day { day.0 < inst.now.draft.days }
     requires moves { AreMoves inst.now.draft attempt.old }
     ensures { AreMoves inst.now.draft attempt.new }
 {
     let rooms = rooms_of(inst, ledgers);
     'leaving: for _ in 0..MOST {
-        let coming = count_moved(inst, rooms, at.room, d, attempt);
-        match one_to_leave(inst, rooms, words, p, to, d, coming, attempt) {
+        let coming = count_moved(inst, rooms, at.room, day, attempt);
+        match one_to_leave(inst, rooms, words, patient, to, day, coming, attempt) {
             Leaving::Nobody => return true,
             Leaving::TooMany => return false,
             Leaving::One(x) => {
@@ -92,21 +93,21 @@ fn make_way(
     inst: &Instance,
     ledgers: &Ledgers<'_>,
     words: &mut RandomWords,
-    p: PatientNo,
+    patient: PatientNo,
     to: RoomNo,
     attempt: &mut Attempt,
 ) -> bool
     requires instance { ledgers.now.instance ≡ inst.now.draft }
-    requires patient { p.0 < patient_count inst.now.draft }
+    requires patient { patient.0 < patient_count inst.now.draft }
     requires room { to.0 < room_count inst.now.draft }
     requires moves { AreMoves inst.now.draft attempt.old }
     ensures { AreMoves inst.now.draft attempt.new }
 {
-    let Some(at) = stay_of(inst, ledgers, p) else {
+    let Some(at) = stay_of(inst, ledgers, patient) else {
         return false;
     };
-    for d in at.day.0..end_of(inst, p, at) {
-        if !make_way_on(inst, ledgers, words, p, at, to, Day(d), attempt) {
+    for d in at.day.0..end_of(inst, patient, at) {
+        if !make_way_on(inst, ledgers, words, patient, at, to, Day(d), attempt) {
             return false;
         }
     }

@@ -28,24 +28,24 @@ pub fn one_to_leave(
     inst: &Instance,
     rooms: &RoomDays,
     words: &mut RandomWords,
-    p: PatientNo,
-    r: RoomNo,
-    d: Day,
+    patient: PatientNo,
+    room: RoomNo,
+    day: Day,
     coming: u32,
     attempt: &Attempt,
 ) -> Leaving
     requires stands { (P : Timetable) × IsLedgerOf inst.now.draft P rooms.now }
-    requires patient { p.0 < patient_count inst.now.draft }
-    requires room { r.0 < room_count inst.now.draft }
-    requires day { d.0 < inst.now.draft.days }
+    requires patient { patient.0 < patient_count inst.now.draft }
+    requires room { room.0 < room_count inst.now.draft }
+    requires day { day.0 < inst.now.draft.days }
 {
-    let beds = inst.room(r).capacity;
+    let beds = inst.room(room).capacity;
     let mut drawn = None;
     let mut staying = 0;
-    for i in 0..rooms.count(r, d) {
-        let x = person_at(inst, rooms, r, d, i);
+    for i in 0..rooms.count(room, day) {
+        let x = person_at(inst, rooms, room, day, i);
         if !attempt.moves_person(x) {
-            if !rooms.same_gender(PersonNo(p.0), x) {
+            if !rooms.same_gender(PersonNo(patient.0), x) {
                 return Leaving::One(x);
             }
             staying += 1;

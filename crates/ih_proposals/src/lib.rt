@@ -4,8 +4,8 @@
 mod attempts;
 mod beds;
 mod blind;
-mod chain;
 mod cheapest_nurse;
+mod ejection;
 mod kempe;
 mod leaving;
 mod looks;

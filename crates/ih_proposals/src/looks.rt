@@ -14,24 +14,29 @@ use ih_theatres::Theatres;
 
 /// The stay of a patient, where the patient is admitted.
 #[inline(always)]
-pub fn stay_of(inst: &Instance, ledgers: &Ledgers<'_>, p: PatientNo) -> Option<Placement>
+pub fn stay_of(inst: &Instance, ledgers: &Ledgers<'_>, patient: PatientNo) -> Option<Placement>
     requires instance { ledgers.now.instance ≡ inst.now.draft }
-    requires patient { p.0 < patient_count inst.now.draft }
-    ensures value { stay_of ledgers.now.plan p.0 ≡ result }
+    requires patient { patient.0 < patient_count inst.now.draft }
+    ensures value { stay_of ledgers.now.plan patient.0 ≡ result }
     ensures inside { IfSome result (IsPlacement inst.now.draft) }
 {
-    ledgers.plan().stay(p)
+    ledgers.plan().stay(patient)
 }
 
 /// The nurse of a room in a shift, where it has one.
 #[inline(always)]
-pub fn nurse_in(inst: &Instance, ledgers: &Ledgers<'_>, r: RoomNo, k: Shift) -> Option<NurseNo>
+pub fn nurse_in(
+    inst: &Instance,
+    ledgers: &Ledgers<'_>,
+    room: RoomNo,
+    shift: Shift,
+) -> Option<NurseNo>
     requires instance { ledgers.now.instance ≡ inst.now.draft }
-    requires room { r.0 < room_count inst.now.draft }
-    requires shift { k.0 < shift_count inst.now.draft }
+    requires room { room.0 < room_count inst.now.draft }
+    requires shift { shift.0 < shift_count inst.now.draft }
     ensures { IfSome result (λ n. n.0 < nurse_count inst.now.draft) }
 {
-    nurse_at(inst, ledgers.plan(), r, k)
+    nurse_at(inst, ledgers.plan(), room, shift)
 }
 
 /// Who is in each room on each day.

@@ -12,7 +12,7 @@ pub enum Kind {
     /// A nurse of a person's stay in one more of its shifts.
     NurseOfStay,
     /// A patient anywhere: who has to leave gets another place.
-    Chain,
+    Ejection,
     /// Two rooms exchange whom a patient disturbs.
     Kempe,
     /// One nurse over a person's stay.
@@ -29,7 +29,7 @@ const SHARES: [(Kind, u32); 9] = [
     (Kind::Place, 60),
     (Kind::Swap, 36),
     (Kind::NurseOfStay, 16),
-    (Kind::Chain, 16),
+    (Kind::Ejection, 16),
     (Kind::Kempe, 12),
     (Kind::NurseRun, 16),
     (Kind::NurseSwap, 16),

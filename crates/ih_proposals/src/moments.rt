@@ -26,21 +26,21 @@ pub struct Moment {
 }
 
 // The stay of a person, where it has one.
-fn days_of(inst: &Instance, ledgers: &Ledgers<'_>, x: u32) -> Option<StayDays>
+fn days_of(inst: &Instance, ledgers: &Ledgers<'_>, person: u32) -> Option<StayDays>
     requires instance { ledgers.now.instance ≡ inst.now.draft }
-    requires person { x < person_count inst.now.draft }
+    requires person { person < person_count inst.now.draft }
     ensures { IfSome result (AreDays inst.now.draft) }
 {
     let patients = inst.patients();
-    if x < patients {
-        let at = stay_of(inst, ledgers, PatientNo(x))?;
+    if person < patients {
+        let at = stay_of(inst, ledgers, PatientNo(person))?;
         Some(StayDays {
             room: at.room,
             from: at.day.0,
-            to: end_of(inst, PatientNo(x), at),
+            to: end_of(inst, PatientNo(person), at),
         })
     } else {
-        let occupant = inst.occupant(x - patients);
+        let occupant = inst.occupant(person - patients);
         Some(StayDays {
             room: occupant.room_id,
             from: 0,

@@ -28,16 +28,16 @@ fn pair_at(
     ledgers: &Ledgers<'_>,
     room: RoomNo,
     other_room: RoomNo,
-    k: Shift,
+    shift: Shift,
 ) -> Option<Pair>
     requires instance { ledgers.now.instance ≡ inst.now.draft }
     requires room { room.0 < room_count inst.now.draft }
     requires other { other_room.0 < room_count inst.now.draft }
-    requires shift { k.0 < shift_count inst.now.draft }
+    requires shift { shift.0 < shift_count inst.now.draft }
     ensures { IfSome result (IsPair inst.now.draft) }
 {
-    let nurse = nurse_in(inst, ledgers, room, k)?;
-    let other_nurse = nurse_in(inst, ledgers, other_room, k)?;
+    let nurse = nurse_in(inst, ledgers, room, shift)?;
+    let other_nurse = nurse_in(inst, ledgers, other_room, shift)?;
     if nurse == other_nurse {
         return None;
     }
@@ -51,19 +51,19 @@ fn pair_at(
 
 // What puts the other nurse into the room in a shift in which the room has its nurse: the rooms exchange them where the
 // other room has the other nurse, and otherwise that nurse comes too, if the nurse works the shift.
-fn exchange_at(inst: &Instance, ledgers: &Ledgers<'_>, pair: Pair, k: Shift) -> Option<Move>
+fn exchange_at(inst: &Instance, ledgers: &Ledgers<'_>, pair: Pair, shift: Shift) -> Option<Move>
     requires instance { ledgers.now.instance ≡ inst.now.draft }
     requires pair { IsPair inst.now.draft pair }
-    requires shift { k.0 < shift_count inst.now.draft }
+    requires shift { shift.0 < shift_count inst.now.draft }
     ensures { IfSome result (IsMoveOf inst.now.draft) }
 {
-    if nurse_in(inst, ledgers, pair.room, k) != Some(pair.nurse) {
+    if nurse_in(inst, ledgers, pair.room, shift) != Some(pair.nurse) {
         return None;
     }
-    if nurse_in(inst, ledgers, pair.other_room, k) == Some(pair.other_nurse) {
-        Some(Move::SwapNurses(k, pair.room, pair.other_room))
-    } else if inst.works(pair.other_nurse, k).is_some() {
-        Some(Move::Nurse(pair.room, k, pair.other_nurse))
+    if nurse_in(inst, ledgers, pair.other_room, shift) == Some(pair.other_nurse) {
+        Some(Move::SwapNurses(shift, pair.room, pair.other_room))
+    } else if inst.works(pair.other_nurse, shift).is_some() {
+        Some(Move::Nurse(pair.room, shift, pair.other_nurse))
     } else {
         None
     }

@@ -9,34 +9,34 @@ use ih_tables::{Instance, NurseNo, Shift};
 
 /// The nurse at a place in the list of those who work a shift.
 #[inline(always)]
-pub fn working_at(inst: &Instance, k: Shift, place: usize) -> NurseNo
-    requires shift { k.0 < shift_count inst.now.draft }
-    requires place { place < length (working inst.now.draft k.0) }
+pub fn working_at(inst: &Instance, shift: Shift, place: usize) -> NurseNo
+    requires shift { shift.0 < shift_count inst.now.draft }
+    requires place { place < length (working inst.now.draft shift.0) }
     ensures { result.0 < nurse_count inst.now.draft }
 {
-    let working = inst.working(k);
+    let working = inst.working(shift);
     working[place]
 }
 
 /// How many nurses work a shift.
 #[inline(always)]
-pub fn count_working(inst: &Instance, k: Shift) -> u32
-    requires { k.0 < shift_count inst.now.draft }
-    ensures { result ≡ length (working inst.now.draft k.0) }
+pub fn count_working(inst: &Instance, shift: Shift) -> u32
+    requires { shift.0 < shift_count inst.now.draft }
+    ensures { result ≡ length (working inst.now.draft shift.0) }
 {
-    let working = inst.working(k);
+    let working = inst.working(shift);
     working.len() as u32
 }
 
 /// A nurse who works a shift, by a random word, where there is one.
-pub fn draw_working(inst: &Instance, words: &mut RandomWords, k: Shift) -> Option<NurseNo>
-    requires { k.0 < shift_count inst.now.draft }
+pub fn draw_working(inst: &Instance, words: &mut RandomWords, shift: Shift) -> Option<NurseNo>
+    requires { shift.0 < shift_count inst.now.draft }
     ensures { IfSome result (λ n. n.0 < nurse_count inst.now.draft) }
 {
-    let count = count_working(inst, k);
+    let count = count_working(inst, shift);
     if count == 0 {
         None
     } else {
-        Some(working_at(inst, k, words.below(count) as usize))
+        Some(working_at(inst, shift, words.below(count) as usize))
     }
 }

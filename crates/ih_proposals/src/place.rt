@@ -19,12 +19,12 @@ pub fn find_place(
     hard: u32,
     ledgers: &Ledgers<'_>,
     words: &mut RandomWords,
-    p: PatientNo,
+    patient: PatientNo,
     attempt: &Attempt,
 ) -> Option<Placement>
     requires instance { ledgers.now.instance ≡ inst.now.draft }
     requires hard { hard ≤ 1000000 }
-    requires patient { p.0 < patient_count inst.now.draft }
+    requires patient { patient.0 < patient_count inst.now.draft }
     requires moves { AreMoves inst.now.draft attempt.now }
     ensures { IfSome result (IsPlacement inst.now.draft) }
 {
@@ -32,9 +32,16 @@ pub fn find_place(
     if theatres == 0 {
         return None;
     }
-    let day = draw_day(inst, words, p)?;
-    let room = first_fit(inst, ledgers, p, day, words.below(inst.rooms()), attempt)?;
-    let theatre = cheapest_theatre(inst, hard, ledgers, p, day, words.below(theatres));
+    let day = draw_day(inst, words, patient)?;
+    let room = first_fit(
+        inst,
+        ledgers,
+        patient,
+        day,
+        words.below(inst.rooms()),
+        attempt,
+    )?;
+    let theatre = cheapest_theatre(inst, hard, ledgers, patient, day, words.below(theatres));
     Some(Placement { day, room, theatre })
 }
 

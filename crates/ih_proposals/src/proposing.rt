@@ -5,8 +5,8 @@ ghost use Rattle.ih_plan.specs.{Series.AreMoves};
 
 use crate::attempts::Attempt;
 use crate::blind::draw_blindly;
-use crate::chain::chain;
 use crate::cheapest_nurse::cheapest_nurse;
+use crate::ejection::ejection;
 use crate::kempe::kempe;
 use crate::mix::{Kind, kind_of};
 use crate::nurse_of_stay::nurse_of_stay;
@@ -37,7 +37,7 @@ fn propose_kind(
         Kind::Place => place(inst, hard, ledgers, words, attempt),
         Kind::Swap => swap(inst, ledgers, words, attempt),
         Kind::NurseOfStay => nurse_of_stay(inst, ledgers, words, attempt),
-        Kind::Chain => chain(inst, hard, ledgers, words, attempt),
+        Kind::Ejection => ejection(inst, hard, ledgers, words, attempt),
         Kind::Kempe => kempe(inst, ledgers, words, attempt),
         Kind::NurseRun => nurse_run(inst, ledgers, words, attempt),
         Kind::NurseSwap => nurse_swap(inst, ledgers, words, attempt),

@@ -26,11 +26,11 @@ pub fn draw_patient(inst: &Instance, words: &mut RandomWords) -> Option<PatientN
 }
 
 /// A day on which the patient may be admitted, by random words: every other time one of the first four.
-pub fn draw_day(inst: &Instance, words: &mut RandomWords, p: PatientNo) -> Option<Day>
-    requires { p.0 < patient_count inst.now.draft }
+pub fn draw_day(inst: &Instance, words: &mut RandomWords, patient_no: PatientNo) -> Option<Day>
+    requires { patient_no.0 < patient_count inst.now.draft }
     ensures { IfSome result (λ d. d.0 < inst.now.draft.days) }
 {
-    let patient = inst.patient(p);
+    let patient = inst.patient(patient_no);
     let days = window_len(inst, patient);
     if days == 0 {
         return None;
@@ -43,14 +43,14 @@ pub fn draw_day(inst: &Instance, words: &mut RandomWords, p: PatientNo) -> Optio
     Some(Day(patient.surgery_release_day + words.below(most)))
 }
 
-/// The number so many places behind another one of n, cyclically.
+/// The number so many places after another one of `count`, cyclically.
 #[inline(always)]
-pub fn cyclic(first: u32, behind: u32, n: u32) -> u32
-    requires first { first < n }
-    requires behind { behind < n }
-    ensures { result < n }
+pub fn cyclic(first: u32, behind: u32, count: u32) -> u32
+    requires first { first < count }
+    requires behind { behind < count }
+    ensures { result < count }
 {
-    let rest = n - first;
+    let rest = count - first;
     if behind < rest {
         first + behind
     } else {
@@ -66,18 +66,18 @@ fn is_in(stay: Option<Placement>, day: Day, room: RoomNo) -> bool {
     }
 }
 
-/// The first room, cyclically from one on, that the patient fits into from a day on, and isn't in from that day on,
-/// beside those who are there once the attempt is made.
+/// The first room that the patient fits into from a day on, beside those who are there once the attempt is made. Rooms
+/// are tried from `first` on, then from 0. Not the room that the patient has already, if it comes on that day.
 pub fn first_fit(
     inst: &Instance,
     ledgers: &Ledgers<'_>,
-    p: PatientNo,
+    patient: PatientNo,
     day: Day,
     first: u32,
     attempt: &Attempt,
 ) -> Option<RoomNo>
     requires instance { ledgers.now.instance ≡ inst.now.draft }
-    requires patient { p.0 < patient_count inst.now.draft }
+    requires patient { patient.0 < patient_count inst.now.draft }
     requires day { day.0 < inst.now.draft.days }
     requires first { first < room_count inst.now.draft }
     requires theatres { 0 < theatre_count inst.now.draft }
@@ -85,7 +85,7 @@ pub fn first_fit(
     ensures { IfSome result (λ r. r.0 < room_count inst.now.draft) }
 {
     let rooms = inst.rooms();
-    let old = stay_of(inst, ledgers, p);
+    let old = stay_of(inst, ledgers, patient);
     for i in 0..rooms {
         let room = RoomNo(cyclic(first, i, rooms));
         let at = Placement {
@@ -93,7 +93,7 @@ pub fn first_fit(
             room,
             theatre: TheatreNo(0),
         };
-        if !is_in(old, day, room) && fits(inst, ledgers, p, at, attempt) {
+        if !is_in(old, day, room) && fits(inst, ledgers, patient, at, attempt) {
             return Some(room);
         }
     }

@@ -17,61 +17,64 @@ use ih_validate::{is_incompatible, outside_window};
 const LOOKS: u32 = 64;
 
 // Whether the patient may be admitted with the placement: the day and the room are allowed.
-fn is_allowed(inst: &Instance, p: PatientNo, at: Placement) -> bool
-    requires { p.0 < patient_count inst.now.draft }
+fn is_allowed(inst: &Instance, patient_no: PatientNo, at: Placement) -> bool
+    requires { patient_no.0 < patient_count inst.now.draft }
 {
-    let patient = inst.patient(p);
+    let patient = inst.patient(patient_no);
     !outside_window(patient, Some(at)) && !is_incompatible(patient, at.room)
 }
 
-// Whether p, where it isn't admitted, may take the place of q for good: q is optional, and stays as long or longer.
-fn may_replace(inst: &Instance, p: PatientNo, q: PatientNo) -> bool
-    requires first { p.0 < patient_count inst.now.draft }
-    requires second { q.0 < patient_count inst.now.draft }
+// Whether a patient who isn't admitted may take the place of another for good: the other is optional, and stays as
+// long or longer.
+fn may_replace(inst: &Instance, patient: PatientNo, second: PatientNo) -> bool
+    requires first { patient.0 < patient_count inst.now.draft }
+    requires second { second.0 < patient_count inst.now.draft }
 {
-    let other = inst.patient(q);
-    !other.mandatory && inst.patient(p).length_of_stay <= other.length_of_stay
+    let other = inst.patient(second);
+    !other.mandatory && inst.patient(patient).length_of_stay <= other.length_of_stay
 }
 
-// Whether p, admitted with a placement, and q, with another one, may exchange them: both stay equally long.
+// Whether two admitted patients may exchange their placements: both stay equally long.
 fn may_exchange(
     inst: &Instance,
-    p: PatientNo,
+    patient: PatientNo,
     mine: Placement,
-    q: PatientNo,
+    other: PatientNo,
     theirs: Placement,
 ) -> bool
-    requires first { p.0 < patient_count inst.now.draft }
-    requires second { q.0 < patient_count inst.now.draft }
+    requires first { patient.0 < patient_count inst.now.draft }
+    requires second { other.0 < patient_count inst.now.draft }
 {
     let differ = mine.day.0 != theirs.day.0 || mine.room.0 != theirs.room.0;
     differ
-        && inst.patient(p).length_of_stay == inst.patient(q).length_of_stay
-        && is_allowed(inst, q, mine)
+        && inst.patient(patient).length_of_stay == inst.patient(other).length_of_stay
+        && is_allowed(inst, other, mine)
 }
 
-// The placement of q that p may take, whose stay is `mine`.
+// The placement of the other that the patient may take, whose own is `mine`.
 fn place_of_other(
     inst: &Instance,
     ledgers: &Ledgers<'_>,
-    p: PatientNo,
+    patient: PatientNo,
     mine: Option<Placement>,
-    q: PatientNo,
+    other: PatientNo,
 ) -> Option<Placement>
     requires instance { ledgers.now.instance ≡ inst.now.draft }
-    requires first { p.0 < patient_count inst.now.draft }
-    requires second { q.0 < patient_count inst.now.draft }
+    requires first { patient.0 < patient_count inst.now.draft }
+    requires second { other.0 < patient_count inst.now.draft }
     ensures { IfSome result (IsPlacement inst.now.draft) }
 {
-    let theirs = stay_of(inst, ledgers, q)?;
-    if p.0 == q.0 || !rooms_of(inst, ledgers).same_gender(PersonNo(p.0), PersonNo(q.0)) {
+    let theirs = stay_of(inst, ledgers, other)?;
+    if patient.0 == other.0
+        || !rooms_of(inst, ledgers).same_gender(PersonNo(patient.0), PersonNo(other.0))
+    {
         return None;
     }
     let may = match mine {
-        None => may_replace(inst, p, q),
-        Some(at) => may_exchange(inst, p, at, q, theirs),
+        None => may_replace(inst, patient, other),
+        Some(at) => may_exchange(inst, patient, at, other, theirs),
     };
-    if may && is_allowed(inst, p, theirs) {
+    if may && is_allowed(inst, patient, theirs) {
         Some(theirs)
     } else {
         None
@@ -79,14 +82,14 @@ fn place_of_other(
 }
 
 // The move of a patient whose place another one takes: to the other's place, or out where that one isn't admitted.
-fn move_away(_inst: &Instance, q: PatientNo, to: Option<Placement>) -> Move
-    requires patient { q.0 < patient_count _inst.now.draft }
+fn move_away(_inst: &Instance, patient: PatientNo, to: Option<Placement>) -> Move
+    requires patient { patient.0 < patient_count _inst.now.draft }
     requires placement { IfSome to (IsPlacement _inst.now.draft) }
     ensures { IsMoveOf _inst.now.draft result }
 {
     match to {
-        None => Move::Withdraw(q),
-        Some(at) => Move::Place(q, at),
+        None => Move::Withdraw(patient),
+        Some(at) => Move::Place(patient, at),
     }
 }
 

@@ -11,7 +11,7 @@ use ih_costs::Ledgers;
 use ih_plan::Placement;
 use ih_tables::{Bill, Day, Instance, PatientNo, RoomNo, TheatreNo};
 
-/// The score of a bill.
+/// The score of a bill, or of a change of one: the weighted costs, and `hard` for each unit of a broken hard rule.
 #[inline(always)]
 pub fn score_of(inst: &Instance, hard: u32, bill: &Bill) -> i64
     requires hard { hard ≤ 1000000 }
@@ -28,20 +28,20 @@ fn surgery_score(
     inst: &Instance,
     hard: u32,
     ledgers: &Ledgers<'_>,
-    p: PatientNo,
+    patient: PatientNo,
     old: Option<Placement>,
     at: Placement,
 ) -> i64
     requires instance { ledgers.now.instance ≡ inst.now.draft }
     requires hard { hard ≤ 1000000 }
-    requires patient { p.0 < patient_count inst.now.draft }
-    requires old { stay_of ledgers.now.plan p.0 ≡ old }
+    requires patient { patient.0 < patient_count inst.now.draft }
+    requires old { stay_of ledgers.now.plan patient.0 ≡ old }
     requires placement { IsPlacement inst.now.draft at }
 {
-    let surgeon = inst.patient(p).surgeon_id;
+    let surgeon = inst.patient(patient).surgeon_id;
     let theatres = theatres_of(inst, ledgers);
-    let of_theatre = theatres.theatre_delta(inst, p, old, at);
-    let of_surgeon = theatres.surgeon_delta(inst, surgeon, p, old, at);
+    let of_theatre = theatres.theatre_delta(inst, patient, old, at);
+    let of_surgeon = theatres.surgeon_delta(inst, surgeon, patient, old, at);
     score_of(inst, hard, &of_theatre) + score_of(inst, hard, &of_surgeon)
 }
 
@@ -51,19 +51,19 @@ pub fn cheapest_theatre(
     inst: &Instance,
     hard: u32,
     ledgers: &Ledgers<'_>,
-    p: PatientNo,
+    patient: PatientNo,
     day: Day,
     first: u32,
 ) -> TheatreNo
     requires instance { ledgers.now.instance ≡ inst.now.draft }
     requires hard { hard ≤ 1000000 }
-    requires patient { p.0 < patient_count inst.now.draft }
+    requires patient { patient.0 < patient_count inst.now.draft }
     requires day { day.0 < inst.now.draft.days }
     requires first { first < theatre_count inst.now.draft }
     ensures { result.0 < theatre_count inst.now.draft }
 {
     let theatres = inst.theatres();
-    let old = stay_of(inst, ledgers, p);
+    let old = stay_of(inst, ledgers, patient);
     let mut best = first;
     let mut least = i64::MAX;
     for i in 0..theatres {
@@ -73,7 +73,7 @@ pub fn cheapest_theatre(
             room: RoomNo(0),
             theatre: TheatreNo(t),
         };
-        let value = surgery_score(inst, hard, ledgers, p, old, at);
+        let value = surgery_score(inst, hard, ledgers, patient, old, at);
         if value < least {
             least = value;
             best = t;

@@ -29,12 +29,12 @@ impl RandomWords {
         self.stream.word()
     }
 
-    /// A choice among n, from 0: the next word modulo n.
-    pub fn below(&mut self, n: u32) -> u32
-        requires { 0 < n }
-        ensures { result < n }
+    /// A choice among `count`, from 0: the next word modulo `count`.
+    pub fn below(&mut self, count: u32) -> u32
+        requires { 0 < count }
+        ensures { result < count }
     {
-        (self.next() % n as u64) as u32
+        (self.next() % count as u64) as u32
     }
 
     /// A move in range that looks at nothing: the stream's next draw.

@@ -54,25 +54,25 @@ fn read(inst: &Instance, options: &Options, book: &Book<'_>, line: &[u8]) -> Res
 }
 
 // For the proof alone: `==` of two moves, prices or verdicts, with what its answer tells as clauses.
-fn is_same_move(a: &Move, b: &Move) -> bool
-    ensures yes { IsTrue result → a.now ≡ b.now }
-    ensures no { IsFalse result → a.now ≢ b.now }
+fn is_same_move(first: &Move, second: &Move) -> bool
+    ensures yes { IsTrue result → first.now ≡ second.now }
+    ensures no { IsFalse result → first.now ≢ second.now }
 {
-    a == b
+    first == second
 }
 
-fn is_same_price(a: &Bill, b: &Bill) -> bool
-    ensures yes { IsTrue result → a.now ≡ b.now }
-    ensures no { IsFalse result → a.now ≢ b.now }
+fn is_same_price(first: &Bill, second: &Bill) -> bool
+    ensures yes { IsTrue result → first.now ≡ second.now }
+    ensures no { IsFalse result → first.now ≢ second.now }
 {
-    a == b
+    first == second
 }
 
-fn is_same_verdict(a: &Verdict, b: &Verdict) -> bool
-    ensures yes { IsTrue result → a.now ≡ b.now }
-    ensures no { IsFalse result → a.now ≢ b.now }
+fn is_same_verdict(first: &Verdict, second: &Verdict) -> bool
+    ensures yes { IsTrue result → first.now ≡ second.now }
+    ensures no { IsFalse result → first.now ≢ second.now }
 {
-    a == b
+    first == second
 }
 
 // Whether the worker can have seen as many entries as its entry says, its own last one among them.

@@ -11,18 +11,18 @@ use ih_tables::Instance;
 use std::alloc::{AllocError, Global};
 
 // The first person of x's gender.
-fn first_alike(inst: &Instance, x: u32) -> u32
-    requires { x < person_count inst.now.draft }
-    ensures same { bytes_eq (person_of inst.now.draft x).gender (person_of inst.now.draft result).gender ≡ true }
+fn first_alike(inst: &Instance, person: u32) -> u32
+    requires { person < person_count inst.now.draft }
+    ensures same { bytes_eq (person_of inst.now.draft person).gender (person_of inst.now.draft result).gender ≡ true }
     ensures first { (y : ℕ) → y < result
-        → bytes_eq (person_of inst.now.draft x).gender (person_of inst.now.draft y).gender ≡ false }
+        → bytes_eq (person_of inst.now.draft person).gender (person_of inst.now.draft y).gender ≡ false }
 {
-    for y in 0..x {
-        if same_gender(inst, x, y) {
+    for y in 0..person {
+        if same_gender(inst, person, y) {
             return y;
         }
     }
-    x
+    person
 }
 
 /// A number of each person's gender: that of the first person who has it.

@@ -44,10 +44,10 @@ pub const NOBODY: Crowd = Crowd {
 };
 
 // The number times itself.
-fn square(n: u32) -> u64
-    ensures { result ≡ n * n }
+fn square(number: u32) -> u64
+    ensures { result ≡ number * number }
 {
-    n as u64 * n as u64
+    number as u64 * number as u64
 }
 
 impl Occupancy {

@@ -32,29 +32,29 @@ pub struct Profile {
 impl Profiles {
     /// The profile of person x.
     #[inline(always)]
-    pub fn of(&self, x: u32) -> Profile
+    pub fn of(&self, person: u32) -> Profile
         requires profiles { AreInRange (length self.now.genders.items) self.now }
-        requires person { x < length self.now.genders.items }
-        ensures value { result ≡ profile_of self.now x }
+        requires person { person < length self.now.genders.items }
+        ensures value { result ≡ profile_of self.now person }
         ensures gender { result.gender < most_persons }
         ensures age { result.age < 64 }
     {
         Profile {
-            gender: self.genders[x as usize],
-            age: self.ages[x as usize],
+            gender: self.genders[person as usize],
+            age: self.ages[person as usize],
         }
     }
 
     /// Whether two persons have one gender.
     #[inline(always)]
-    pub fn same_gender(&self, x: u32, y: u32) -> bool
-        requires first { x < length self.now.genders.items }
-        requires second { y < length self.now.genders.items }
+    pub fn same_gender(&self, person: u32, other: u32) -> bool
+        requires first { person < length self.now.genders.items }
+        requires second { other < length self.now.genders.items }
         ensures { (I : Draft) → AreProfiles I self.now
-            → result ≡ bytes_eq (person_of I x).gender (person_of I y).gender }
+            → result ≡ bytes_eq (person_of I person).gender (person_of I other).gender }
     {
         let genders = self.genders.as_slice();
-        genders[x as usize] == genders[y as usize]
+        genders[person as usize] == genders[other as usize]
     }
 }
 

@@ -52,40 +52,40 @@ impl RoomDays {
     }
 
     /// The patient is admitted; nobody else's stay changes.
-    pub fn enter(&mut self, inst: &Instance, p: PatientNo, at: Placement)
-        requires patient { p.0 < patient_count inst.now.draft }
+    pub fn enter(&mut self, inst: &Instance, patient: PatientNo, at: Placement)
+        requires patient { patient.0 < patient_count inst.now.draft }
         requires placement { IsPlacement inst.now.draft at }
-        requires stands { (P : Timetable) × IsLedgerOf inst.now.draft P self.old × (stay_of P p.0 ≡ None) }
-        ensures { (P : Timetable) → IsLedgerOf inst.now.draft P self.old → stay_of P p.0 ≡ None
-            → IsLedgerOf inst.now.draft (put (SetStay p (Some at)) P) self.new }
+        requires stands { (P : Timetable) × IsLedgerOf inst.now.draft P self.old × (stay_of P patient.0 ≡ None) }
+        ensures { (P : Timetable) → IsLedgerOf inst.now.draft P self.old → stay_of P patient.0 ≡ None
+            → IsLedgerOf inst.now.draft (put (SetStay patient (Some at)) P) self.new }
     {
-        let to = end_of(inst, p, at);
-        self.rows.enter(at.room.0, p.0, at.day.0, to);
+        let to = end_of(inst, patient, at);
+        self.rows.enter(at.room.0, patient.0, at.day.0, to);
     }
 
     /// The patient isn't admitted any more; nobody else's stay changes.
-    pub fn leave(&mut self, inst: &Instance, p: PatientNo, at: Placement)
-        requires patient { p.0 < patient_count inst.now.draft }
-        requires stands { (P : Timetable) × IsLedgerOf inst.now.draft P self.old × (stay_of P p.0 ≡ Some at) }
-        ensures { (P : Timetable) → IsLedgerOf inst.now.draft P self.old → stay_of P p.0 ≡ Some at
-            → IsLedgerOf inst.now.draft (put (SetStay p None) P) self.new }
+    pub fn leave(&mut self, inst: &Instance, patient: PatientNo, at: Placement)
+        requires patient { patient.0 < patient_count inst.now.draft }
+        requires stands { (P : Timetable) × IsLedgerOf inst.now.draft P self.old × (stay_of P patient.0 ≡ Some at) }
+        ensures { (P : Timetable) → IsLedgerOf inst.now.draft P self.old → stay_of P patient.0 ≡ Some at
+            → IsLedgerOf inst.now.draft (put (SetStay patient None) P) self.new }
     {
-        let to = end_of(inst, p, at);
-        self.rows.leave(at.room.0, p.0, at.day.0, to);
+        let to = end_of(inst, patient, at);
+        self.rows.leave(at.room.0, patient.0, at.day.0, to);
     }
 
     /// The part of the bill that the room has on the day: mixed genders, persons above the capacity, and the spread of
     /// ages.
-    pub fn cell_bill(&self, inst: &Instance, r: RoomNo, d: Day) -> Bill
-        requires room { r.0 < room_count inst.now.draft }
-        requires day { d.0 < inst.now.draft.days }
+    pub fn cell_bill(&self, inst: &Instance, room: RoomNo, day: Day) -> Bill
+        requires room { room.0 < room_count inst.now.draft }
+        requires day { day.0 < inst.now.draft.days }
         requires stands { (P : Timetable) × IsLedgerOf inst.now.draft P self.now }
         ensures value { (P : Timetable) → IsLedgerOf inst.now.draft P self.now
-            → result ≡ as_bill (part_at inst.now.draft P (RoomDay r d)) }
+            → result ≡ as_bill (part_at inst.now.draft P (RoomDay room day)) }
         ensures within { IsWithin (10 ^ 11) result }
     {
-        let head = r.0 * self.rows.days + d.0;
-        room_day_bill(room_counts(inst, r, self.rows.crowds[head as usize].occupancy))
+        let head = room.0 * self.rows.days + day.0;
+        room_day_bill(room_counts(inst, room, self.rows.crowds[head as usize].occupancy))
     }
 
     /// How much more a placement's room breaks and costs on one of its days with the patient there than without, whose
@@ -93,34 +93,34 @@ impl RoomDays {
     pub fn day_delta(
         &self,
         inst: &Instance,
-        p: PatientNo,
+        patient: PatientNo,
         old: Option<Placement>,
         at: Placement,
-        d: Day,
+        day: Day,
     ) -> Bill
-        requires patient { p.0 < patient_count inst.now.draft }
+        requires patient { patient.0 < patient_count inst.now.draft }
         requires placement { IsPlacement inst.now.draft at }
-        requires day { d.0 < inst.now.draft.days }
-        requires counted { covers at.day.0 (person_of inst.now.draft p.0).length_of_stay d.0 ≡ true }
-        requires stands { (P : Timetable) × IsLedgerOf inst.now.draft P self.now × (stay_of P p.0 ≡ old) }
-        ensures delta { (P : Timetable) → IsLedgerOf inst.now.draft P self.now → stay_of P p.0 ≡ old
-            → result ≡ delta_at inst.now.draft P p at (RoomDay at.room d) }
+        requires day { day.0 < inst.now.draft.days }
+        requires counted { covers at.day.0 (person_of inst.now.draft patient.0).length_of_stay day.0 ≡ true }
+        requires stands { (P : Timetable) × IsLedgerOf inst.now.draft P self.now × (stay_of P patient.0 ≡ old) }
+        ensures delta { (P : Timetable) → IsLedgerOf inst.now.draft P self.now → stay_of P patient.0 ≡ old
+            → result ≡ delta_at inst.now.draft P patient at (RoomDay at.room day) }
         ensures within { IsWithin (10 ^ 11) result }
     {
-        let was = is_there(inst, p, old, at.room, d);
-        let (without, with) = without_and_with(inst, &self.rows, at.room, d, p, was);
+        let was = is_there(inst, patient, old, at.room, day);
+        let (without, with) = without_and_with(inst, &self.rows, at.room, day, patient, was);
         room_day_change(with, without)
     }
 
     /// Whether two persons have one gender, by a table, without a look at the instance.
     #[inline(always)]
-    pub fn same_gender(&self, x: PersonNo, y: PersonNo) -> bool
-        requires first { x.0 < self.now.persons }
-        requires second { y.0 < self.now.persons }
+    pub fn same_gender(&self, person: PersonNo, other: PersonNo) -> bool
+        requires first { person.0 < self.now.persons }
+        requires second { other.0 < self.now.persons }
         ensures { (I : Draft) (P : Timetable) → IsLedgerOf I P self.now
-            → result ≡ bytes_eq (person_of I x.0).gender (person_of I y.0).gender }
+            → result ≡ bytes_eq (person_of I person.0).gender (person_of I other.0).gender }
     {
-        self.rows.profiles.same_gender(x.0, y.0)
+        self.rows.profiles.same_gender(person.0, other.0)
     }
 }
 
@@ -133,14 +133,14 @@ impl Members for RoomDays {
 
     ghost persons = { λ v. persons_at v };
 
-    fn count(&self, r: RoomNo, d: Day) -> u32 {
-        self.rows.links[d.0 as usize].len(r.0)
+    fn count(&self, room: RoomNo, day: Day) -> u32 {
+        self.rows.links[day.0 as usize].len(room.0)
     }
 
-    fn member(&self, r: RoomNo, d: Day, i: u32) -> PersonNo {
-        let day = &self.rows.links[d.0 as usize];
-        let mut at = day.first(r.0);
-        for _ in 0..i {
+    fn member(&self, room: RoomNo, day_no: Day, index: u32) -> PersonNo {
+        let day = &self.rows.links[day_no.0 as usize];
+        let mut at = day.first(room.0);
+        for _ in 0..index {
             at = match at {
                 Some(x) => day.next(x),
                 None => None,

@@ -49,29 +49,29 @@ impl RoomLists {
     }
 
     /// Brings a person into a room, from one day on and before another.
-    pub fn enter(&mut self, room: u32, x: u32, from: u32, to: u32)
-        requires span { HasSpan self.old room x from to }
-        requires nowhere { (r d : ℕ) → d < self.old.days → is_at self.old r d x ≡ false }
-        ensures { IsEntered self.old self.new room x from to }
+    pub fn enter(&mut self, room: u32, person: u32, from: u32, to: u32)
+        requires span { HasSpan self.old room person from to }
+        requires nowhere { (r d : ℕ) → d < self.old.days → is_at self.old r d person ≡ false }
+        ensures { IsEntered self.old self.new room person from to }
     {
-        let who = self.profiles.of(x);
+        let who = self.profiles.of(person);
         for d in from..to {
             let place = (room * self.days + d) as usize;
-            self.links[d as usize].push_back(room, x);
+            self.links[d as usize].push_back(room, person);
             self.crowds[place] = self.crowds[place].with(who);
         }
     }
 
     /// Takes a person out of the room that it is in, from one day on and before another.
-    pub fn leave(&mut self, room: u32, x: u32, from: u32, to: u32)
-        requires span { HasSpan self.old room x from to }
-        requires there { (r d : ℕ) → from ≤ d → d < to → is_at self.old r d x ≡ (room == r) }
-        ensures { IsLeft self.old self.new x from to }
+    pub fn leave(&mut self, room: u32, person: u32, from: u32, to: u32)
+        requires span { HasSpan self.old room person from to }
+        requires there { (r d : ℕ) → from ≤ d → d < to → is_at self.old r d person ≡ (room == r) }
+        ensures { IsLeft self.old self.new person from to }
     {
         for d in from..to {
             let place = (room * self.days + d) as usize;
             let day = &mut self.links[d as usize];
-            day.remove(x);
+            day.remove(person);
             self.crowds[place] = crowd_of(&self.profiles, day, room);
         }
     }

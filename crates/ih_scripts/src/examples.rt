@@ -19,6 +19,7 @@ pub const COVERED_START: &str =
 pub const COVERED_SOLUTION: &str =
     r#"{"nurses":[{"assignments":[{"day":0,"rooms":["r0"],"shift":"early"},{"day":0,"rooms":["r0"],"shift":"late"},{"day":0,"rooms":["r0"],"shift":"night"}],"id":"n0"}],"patients":[]}"#;
 
+/// What the first program says of words that name no call.
 pub const USAGE: &str =
     "usage: solve INSTANCE OUT JOURNAL, replay INSTANCE JOURNAL OUT, salvage INSTANCE JOURNAL OUT, check INSTANCE SOLUTION, advise INSTANCE SOLUTION, chain INSTANCE OUT JOURNAL, rounds INSTANCE OUT JOURNAL, gen NUMBER OUT or demo NUMBER\n";
 

@@ -45,6 +45,7 @@ impl FaultPlan {
     ghost use Rattle.std.specs.Prelude.{◌≡◌, ◌≤◌, OnOk, OnErr};
     ghost use Rattle.ih_shelf.specs.Faults.{no_faults, planned, due, called, failed};
 
+    /// A plan under which no call fails, before the first call. It takes no memory.
     pub fn new(alloc: Global) -> FaultPlan
         ensures { result ≡ no_faults }
     {

@@ -38,6 +38,7 @@ impl Model for FileShelf {
 impl FileShelf {
     ghost use Rattle.std.specs.Prelude.{◌≡◌};
 
+    /// The shelf of the real files. No failure is counted yet. It takes no memory.
     pub fn new() -> FileShelf
         ensures { result ≡ record { reads = 0; writes = 0 } }
     {
@@ -115,6 +116,7 @@ impl Model for OutSink {
 impl OutSink {
     ghost use Rattle.std.specs.Prelude.{◌≡◌};
 
+    /// The real standard output. No failure is counted yet.
     pub fn new() -> OutSink
         ensures { result ≡ 0 }
     {

@@ -14,15 +14,15 @@ use std::alloc::{AllocError, Global};
 
 // Whether the nurse has the room in the shift.
 #[tactic(auto, using(crate::proofs::ListedValues::place_steps))]
-fn is_nurse_of(inst: &Instance, plan: &Plan, n: NurseNo, r: RoomNo, k: Shift) -> bool
+fn is_nurse_of(inst: &Instance, plan: &Plan, nurse: NurseNo, room: RoomNo, shift: Shift) -> bool
     requires plan { IsPlanOf inst.now.draft plan.now }
-    requires room { r.0 < room_count inst.now.draft }
-    requires shift { k.0 < shift_count inst.now.draft }
-    ensures { result ≡ is_number (care_of plan.now r.0 k.0) n.0 }
+    requires room { room.0 < room_count inst.now.draft }
+    requires shift { shift.0 < shift_count inst.now.draft }
+    ensures { result ≡ is_number (care_of plan.now room.0 shift.0) nurse.0 }
 {
-    match plan.care(r, k) {
+    match plan.care(room, shift) {
         None => false,
-        Some(m) => m.0 == n.0,
+        Some(m) => m.0 == nurse.0,
     }
 }
 
@@ -32,18 +32,18 @@ fn room_values(
     alloc: Global,
     inst: &Instance,
     plan: &Plan,
-    n: NurseNo,
-    k: Shift,
+    nurse: NurseNo,
+    shift: Shift,
 ) -> Result<Vec<Value>, AllocError>
     requires plan { IsPlanOf inst.now.draft plan.now }
-    requires shift { k.0 < shift_count inst.now.draft }
-    ensures ids { IfOk result (λ v. map view v.items ≡ rooms_data inst.now.draft plan.now n.0 k.0) }
-    ensures none { IfOk result (λ v. (vec_len v == 0) ≡ is_empty (rooms_of inst.now.draft plan.now n.0 k.0)) }
+    requires shift { shift.0 < shift_count inst.now.draft }
+    ensures ids { IfOk result (λ v. map view v.items ≡ rooms_data inst.now.draft plan.now nurse.0 shift.0) }
+    ensures none { IfOk result (λ v. (vec_len v == 0) ≡ is_empty (rooms_of inst.now.draft plan.now nurse.0 shift.0)) }
 {
     let mut values = Vec::new(alloc);
     for r in 0..inst.rooms() {
         let r = RoomNo(r);
-        if is_nurse_of(inst, plan, n, r, k) {
+        if is_nurse_of(inst, plan, nurse, r, shift) {
             let id = inst.room(r).id.as_str();
             values.push(Value::try_from_str(alloc, id)?)?;
         }
@@ -55,14 +55,14 @@ fn room_values(
 fn assignment_value(
     alloc: Global,
     inst: &Instance,
-    k: Shift,
+    shift_no: Shift,
     rooms: Vec<Value>,
 ) -> Result<Value, AllocError>
-    requires { k.0 < shift_count inst.now.draft }
-    ensures { IfOk result (λ v. view v ≡ assignment_data inst.now.draft k.0 (map view rooms.items)) }
+    requires { shift_no.0 < shift_count inst.now.draft }
+    ensures { IfOk result (λ v. view v ≡ assignment_data inst.now.draft shift_no.0 (map view rooms.items)) }
 {
-    let shift = inst.shift_type(k.0 % 3).as_str();
-    json!(in alloc; {"day": k.0 / 3, "rooms": rooms, "shift": shift})
+    let shift = inst.shift_type(shift_no.0 % 3).as_str();
+    json!(in alloc; {"day": shift_no.0 / 3, "rooms": rooms, "shift": shift})
 }
 
 // A nurse's assignments: one for each shift in which the nurse has a room, rising.
@@ -71,15 +71,15 @@ fn assignment_values(
     alloc: Global,
     inst: &Instance,
     plan: &Plan,
-    n: NurseNo,
+    nurse: NurseNo,
 ) -> Result<Vec<Value>, AllocError>
     requires { IsPlanOf inst.now.draft plan.now }
-    ensures { IfOk result (λ v. map view v.items ≡ assignments_data inst.now.draft plan.now n.0) }
+    ensures { IfOk result (λ v. map view v.items ≡ assignments_data inst.now.draft plan.now nurse.0) }
 {
     let mut values = Vec::new(alloc);
     for k in 0..inst.shifts() {
         let k = Shift(k);
-        let rooms = room_values(alloc, inst, plan, n, k)?;
+        let rooms = room_values(alloc, inst, plan, nurse, k)?;
         if !rooms.is_empty() {
             values.push(assignment_value(alloc, inst, k, rooms)?)?;
         }
@@ -88,13 +88,18 @@ fn assignment_values(
 }
 
 // A nurse's id and assignments.
-fn nurse_value(alloc: Global, inst: &Instance, plan: &Plan, n: NurseNo) -> Result<Value, AllocError>
+fn nurse_value(
+    alloc: Global,
+    inst: &Instance,
+    plan: &Plan,
+    nurse: NurseNo,
+) -> Result<Value, AllocError>
     requires plan { IsPlanOf inst.now.draft plan.now }
-    requires nurse { n.0 < nurse_count inst.now.draft }
-    ensures { IfOk result (λ v. view v ≡ nurse_data inst.now.draft plan.now n.0) }
+    requires nurse { nurse.0 < nurse_count inst.now.draft }
+    ensures { IfOk result (λ v. view v ≡ nurse_data inst.now.draft plan.now nurse.0) }
 {
-    let assignments = assignment_values(alloc, inst, plan, n)?;
-    let id = inst.nurse(n).id.as_str();
+    let assignments = assignment_values(alloc, inst, plan, nurse)?;
+    let id = inst.nurse(nurse).id.as_str();
     json!(in alloc; {"assignments": assignments, "id": id})
 }
 

@@ -15,14 +15,14 @@ use std::alloc::{AllocError, Global};
 fn stay_value(
     alloc: Global,
     inst: &Instance,
-    p: PatientNo,
+    patient: PatientNo,
     stay: Option<Placement>,
 ) -> Result<Value, AllocError>
-    requires patient { p.0 < patient_count inst.now.draft }
+    requires patient { patient.0 < patient_count inst.now.draft }
     requires placed { IfSome stay (IsPlacement inst.now.draft) }
-    ensures { IfOk result (λ v. view v ≡ stay_data inst.now.draft p.0 stay) }
+    ensures { IfOk result (λ v. view v ≡ stay_data inst.now.draft patient.0 stay) }
 {
-    let id = inst.patient(p).id.as_str();
+    let id = inst.patient(patient).id.as_str();
     match stay {
         None => json!(in alloc; {"admission_day": "none", "id": id}),
         Some(at) => {

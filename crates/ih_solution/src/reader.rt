@@ -14,7 +14,7 @@ ghost use Rattle.ih_plan.specs.Timetable.{IsPlanOf};
 ghost use Rattle.ih_format.specs.Gives.{Gives};
 ghost use Rattle.ih_solution.specs.Reading.{listed_plan, plan_in};
 
-use ih_format::{FormatError, documents, kinds};
+use ih_format::{FormatError, documents, json_values};
 use ih_plan::Plan;
 use ih_tables::{Instance, Place};
 use serde_json::Value;
@@ -31,7 +31,7 @@ fn listed_plan(
     ensures plan { IfOk result (IsPlanOf inst.now.draft) }
     ensures gives { Gives (λ p. p) result (listed_plan inst.now.draft at (view value.now)) }
 {
-    let _ = kinds::object(value, at)?;
+    let _ = json_values::object(value, at)?;
     let plan = patients::stays(alloc, inst, value, at)?;
     nurses::cares(alloc, inst, plan, value, at)
 }

@@ -41,7 +41,7 @@ uncovered_room = 8
 
 -- ---- in s, the costs
 
--- the greatest less the least age group in a room on a day
+-- oldest minus youngest age group, by room and day
 abbrev pub mixed_age : ℕ
 mixed_age = 0
 
@@ -49,7 +49,7 @@ mixed_age = 0
 abbrev pub nurse_skill : ℕ
 nurse_skill = 1
 
--- distinct nurses of a person's stay
+-- different nurses each person sees
 abbrev pub continuity_of_care : ℕ
 continuity_of_care = 2
 
@@ -61,7 +61,7 @@ excess_workload = 3
 abbrev pub open_theatre : ℕ
 open_theatre = 4
 
--- a surgeon's distinct theatres of a day less one
+-- a surgeon's different theatres of a day, minus one
 abbrev pub surgeon_transfer : ℕ
 surgeon_transfer = 5
 

@@ -23,11 +23,11 @@ pub const UNCOVERED_ROOM: usize = 8;
 
 // In `Bill::s` and `Weights::w`, the costs.
 
-/// The greatest less the least age group in a room on a day.
+/// Oldest minus youngest age group, by room and day.
 pub const MIXED_AGE: usize = 0;
 /// Required skill above the nurse's.
 pub const NURSE_SKILL: usize = 1;
-/// Distinct nurses of a person's stay.
+/// Different nurses each person sees.
 pub const CONTINUITY_OF_CARE: usize = 2;
 /// Workload above a nurse's maximum of a shift.
 pub const EXCESS_WORKLOAD: usize = 3;

@@ -26,53 +26,53 @@ pub struct Bill {
     pub s: [i64; 8],
 }
 
-fn add_each(a: &mut [i64], b: &[i64])
-    requires same { length b.now ≡ length a.old }
-    requires fits { (k : ℕ) → k < length a.old → FitsSigned w64 (at a.old k +ℤ at b.now k) }
-    ensures { a.new ≡ listed (length a.old) (λ k. at a.old k +ℤ at b.now k) }
+fn add_each(sums: &mut [i64], added: &[i64])
+    requires same { length added.now ≡ length sums.old }
+    requires fits { (k : ℕ) → k < length sums.old → FitsSigned w64 (at sums.old k +ℤ at added.now k) }
+    ensures { sums.new ≡ listed (length sums.old) (λ k. at sums.old k +ℤ at added.now k) }
 {
-    for i in 0..a.len() {
-        a[i] += b[i];
+    for i in 0..sums.len() {
+        sums[i] += added[i];
     }
 }
 
-fn sub_each(a: &[i64], b: &[i64], out: &mut [i64])
-    requires first { length a.now ≡ length out.old }
-    requires second { length b.now ≡ length out.old }
-    requires fits { (k : ℕ) → k < length out.old → FitsSigned w64 (at a.now k -ℤ at b.now k) }
-    ensures { out.new ≡ listed (length out.old) (λ k. at a.now k -ℤ at b.now k) }
+fn sub_each(left: &[i64], right: &[i64], out: &mut [i64])
+    requires first { length left.now ≡ length out.old }
+    requires second { length right.now ≡ length out.old }
+    requires fits { (k : ℕ) → k < length out.old → FitsSigned w64 (at left.now k -ℤ at right.now k) }
+    ensures { out.new ≡ listed (length out.old) (λ k. at left.now k -ℤ at right.now k) }
 {
     for i in 0..out.len() {
-        out[i] = a[i] - b[i];
+        out[i] = left[i] - right[i];
     }
 }
 
 #[tactic(auto, using(crate::proofs::BillLemmas::signed_steps))]
-fn total(a: &[i64]) -> i64
-    requires short { length a.now ≤ 9 }
-    requires within { AreWithin (10 ^ 11) (length a.now) a.now }
-    ensures sum { result ≡ signed_sum (length a.now) (at a.now) }
+fn total(values: &[i64]) -> i64
+    requires short { length values.now ≤ 9 }
+    requires within { AreWithin (10 ^ 11) (length values.now) values.now }
+    ensures sum { result ≡ signed_sum (length values.now) (at values.now) }
     ensures low { neg_ℤ (pos (9 * 10 ^ 11)) ≤ℤ result }
     ensures high { result ≤ℤ pos (9 * 10 ^ 11) }
 {
     let mut sum = 0;
-    for i in 0..a.len() {
-        sum += a[i];
+    for i in 0..values.len() {
+        sum += values[i];
     }
     sum
 }
 
 /// A number of a bill times its weight.
-pub fn times(x: i64, w: i64) -> i64
-    requires low { neg_ℤ (pos (10 ^ 11)) ≤ℤ x }
-    requires high { x ≤ℤ pos (10 ^ 11) }
-    requires weight_low { pos 0 ≤ℤ w }
-    requires weight_high { w ≤ℤ pos 100000 }
-    ensures product { result ≡ x *ℤ w }
+pub fn times(value: i64, weight: i64) -> i64
+    requires low { neg_ℤ (pos (10 ^ 11)) ≤ℤ value }
+    requires high { value ≤ℤ pos (10 ^ 11) }
+    requires weight_low { pos 0 ≤ℤ weight }
+    requires weight_high { weight ≤ℤ pos 100000 }
+    ensures product { result ≡ value *ℤ weight }
     ensures least { neg_ℤ (pos (10 ^ 16)) ≤ℤ result }
     ensures most { result ≤ℤ pos (10 ^ 16) }
 {
-    x * w
+    value * weight
 }
 
 fn for_rules(hard: u32, broken: i64) -> i64
@@ -86,27 +86,27 @@ fn for_rules(hard: u32, broken: i64) -> i64
     hard as i64 * broken
 }
 
-fn plus(a: i64, b: i64) -> i64
-    requires fits { FitsSigned w64 (a +ℤ b) }
-    ensures { result ≡ a +ℤ b }
+fn plus(left: i64, right: i64) -> i64
+    requires fits { FitsSigned w64 (left +ℤ right) }
+    ensures { result ≡ left +ℤ right }
 {
-    a + b
+    left + right
 }
 
 // The costs times their weights, summed.
 #[tactic(auto, using(crate::proofs::BillLemmas::signed_steps))]
-fn weighted(s: &[i64], w: &[i64]) -> i64
-    requires short { length s.now ≤ 8 }
-    requires same { length w.now ≡ length s.now }
-    requires within { AreWithin (10 ^ 11) (length s.now) s.now }
-    requires weights { (k : ℕ) → k < length s.now → (pos 0 ≤ℤ at w.now k) × (at w.now k ≤ℤ pos 100000) }
-    ensures sum { result ≡ signed_sum (length s.now) (λ k. at s.now k *ℤ at w.now k) }
+fn weighted(costs: &[i64], weights: &[i64]) -> i64
+    requires short { length costs.now ≤ 8 }
+    requires same { length weights.now ≡ length costs.now }
+    requires within { AreWithin (10 ^ 11) (length costs.now) costs.now }
+    requires weights { (k : ℕ) → k < length costs.now → (pos 0 ≤ℤ at weights.now k) × (at weights.now k ≤ℤ pos 100000) }
+    ensures sum { result ≡ signed_sum (length costs.now) (λ k. at costs.now k *ℤ at weights.now k) }
     ensures low { neg_ℤ (pos (8 * 10 ^ 16)) ≤ℤ result }
     ensures high { result ≤ℤ pos (8 * 10 ^ 16) }
 {
     let mut sum = 0;
-    for i in 0..s.len() {
-        sum += times(s[i], w[i]);
+    for i in 0..costs.len() {
+        sum += times(costs[i], weights[i]);
     }
     sum
 }
@@ -156,26 +156,29 @@ impl Bill {
 
     /// The costs times their weights, summed: below 10^18 in magnitude. Each number of the bill is at most 10^11 in
     /// magnitude.
-    pub fn cost(&self, w: &Weights) -> i64
+    pub fn cost(&self, weights: &Weights) -> i64
         requires within { IsWithin (10 ^ 11) self.now }
-        requires weights { (k : ℕ) → k < 8 → (pos 0 ≤ℤ at w.now.w k) × (at w.now.w k ≤ℤ pos 100000) }
-        ensures cost { result ≡ cost w.now self.now }
+        requires weights { (k : ℕ) → k < 8 → (pos 0 ≤ℤ at weights.now.w k) × (at weights.now.w k ≤ℤ pos 100000) }
+        ensures cost { result ≡ cost weights.now self.now }
         ensures low { neg_ℤ (pos (10 ^ 18)) <ℤ result }
         ensures high { result <ℤ pos (10 ^ 18) }
     {
-        weighted(&self.s, &w.w)
+        weighted(&self.s, &weights.w)
     }
 
     /// The weighed costs, and the hard weight for each broken rule: below 10^18 in magnitude.
-    pub fn score(&self, hard: u32, w: &Weights) -> i64
+    pub fn score(&self, hard: u32, weights: &Weights) -> i64
         requires within { IsWithin (10 ^ 11) self.now }
-        requires weights { (k : ℕ) → k < 8 → (pos 0 ≤ℤ at w.now.w k) × (at w.now.w k ≤ℤ pos 100000) }
+        requires weights { (k : ℕ) → k < 8 → (pos 0 ≤ℤ at weights.now.w k) × (at weights.now.w k ≤ℤ pos 100000) }
         requires hard { hard ≤ 1000000 }
-        ensures score { result ≡ score hard w.now self.now }
+        ensures score { result ≡ score hard weights.now self.now }
         ensures low { neg_ℤ (pos (10 ^ 18)) <ℤ result }
         ensures high { result <ℤ pos (10 ^ 18) }
     {
-        plus(for_rules(hard, total(&self.v)), weighted(&self.s, &w.w))
+        plus(
+            for_rules(hard, total(&self.v)),
+            weighted(&self.s, &weights.w),
+        )
     }
 
     /// Whether no hard rule is broken.

@@ -6,10 +6,10 @@ ghost use Rattle.ih_tables.specs.Valid.{IsVector, Between, IsName, IsListed};
 use crate::lookups::HasId;
 
 /// Whether a number is from `low` to `high`.
-pub fn between(low: usize, high: usize, n: usize) -> bool
-    ensures { IsTrue result ↔ Between low high n }
+pub fn between(low: usize, high: usize, length: usize) -> bool
+    ensures { IsTrue result ↔ Between low high length }
 {
-    low <= n && n <= high
+    low <= length && length <= high
 }
 
 /// Whether a text has 1 to 100 bytes.
@@ -26,11 +26,11 @@ pub fn are_at_most(high: u32, xs: &[u32]) -> bool
     xs.iter().all(|x| *x <= high)
 }
 
-/// Whether there are `n` numbers, each at most `high`.
-pub fn is_vector(n: usize, high: u32, xs: &[u32]) -> bool
-    ensures { IsTrue result ↔ IsVector n high xs.now }
+/// Whether there are `length` numbers, each at most `high`.
+pub fn is_vector(length: usize, high: u32, xs: &[u32]) -> bool
+    ensures { IsTrue result ↔ IsVector length high xs.now }
 {
-    xs.len() == n && are_at_most(high, xs)
+    xs.len() == length && are_at_most(high, xs)
 }
 
 /// Whether there are from `low` to `high` items, whose ids are names, no two the same.

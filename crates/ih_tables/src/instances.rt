@@ -175,19 +175,19 @@ impl Instance {
     }
 
     /// A patient's data.
-    pub fn patient(&self, p: PatientNo) -> &Patient
-        requires { p.0 < patient_count self.now.draft }
-        ensures { slice_get self.now.draft.patients p.0 ≡ Some result.now }
+    pub fn patient(&self, patient: PatientNo) -> &Patient
+        requires { patient.0 < patient_count self.now.draft }
+        ensures { slice_get self.now.draft.patients patient.0 ≡ Some result.now }
     {
-        &self.draft.patients.as_slice()[p.0 as usize]
+        &self.draft.patients.as_slice()[patient.0 as usize]
     }
 
     /// An occupant's data; occupants are numbered from 0 among themselves.
-    pub fn occupant(&self, o: u32) -> &Occupant
-        requires { o < occupant_count self.now.draft }
-        ensures { slice_get self.now.draft.occupants o ≡ Some result.now }
+    pub fn occupant(&self, occupant: u32) -> &Occupant
+        requires { occupant < occupant_count self.now.draft }
+        ensures { slice_get self.now.draft.occupants occupant ≡ Some result.now }
     {
-        &self.draft.occupants.as_slice()[o as usize]
+        &self.draft.occupants.as_slice()[occupant as usize]
     }
 
     /// How many rooms there are.
@@ -198,19 +198,19 @@ impl Instance {
     }
 
     /// A room's data.
-    pub fn room(&self, r: RoomNo) -> &Room
-        requires { r.0 < room_count self.now.draft }
-        ensures { slice_get self.now.draft.rooms r.0 ≡ Some result.now }
+    pub fn room(&self, room: RoomNo) -> &Room
+        requires { room.0 < room_count self.now.draft }
+        ensures { slice_get self.now.draft.rooms room.0 ≡ Some result.now }
     {
-        &self.draft.rooms.as_slice()[r.0 as usize]
+        &self.draft.rooms.as_slice()[room.0 as usize]
     }
 
     /// A nurse's data.
-    pub fn nurse(&self, n: NurseNo) -> &Nurse
-        requires { n.0 < nurse_count self.now.draft }
-        ensures { slice_get self.now.draft.nurses n.0 ≡ Some result.now }
+    pub fn nurse(&self, nurse: NurseNo) -> &Nurse
+        requires { nurse.0 < nurse_count self.now.draft }
+        ensures { slice_get self.now.draft.nurses nurse.0 ≡ Some result.now }
     {
-        &self.draft.nurses.as_slice()[n.0 as usize]
+        &self.draft.nurses.as_slice()[nurse.0 as usize]
     }
 
     /// How many nurses there are.
@@ -235,35 +235,35 @@ impl Instance {
     }
 
     /// A surgeon's data.
-    pub fn surgeon(&self, s: SurgeonNo) -> &Surgeon
-        requires { s.0 < surgeon_count self.now.draft }
-        ensures { slice_get self.now.draft.surgeons s.0 ≡ Some result.now }
+    pub fn surgeon(&self, surgeon: SurgeonNo) -> &Surgeon
+        requires { surgeon.0 < surgeon_count self.now.draft }
+        ensures { slice_get self.now.draft.surgeons surgeon.0 ≡ Some result.now }
     {
-        &self.draft.surgeons.as_slice()[s.0 as usize]
+        &self.draft.surgeons.as_slice()[surgeon.0 as usize]
     }
 
     /// An operating theatre's data.
-    pub fn theatre(&self, t: TheatreNo) -> &Theatre
-        requires { t.0 < theatre_count self.now.draft }
-        ensures { slice_get self.now.draft.operating_theaters t.0 ≡ Some result.now }
+    pub fn theatre(&self, theatre: TheatreNo) -> &Theatre
+        requires { theatre.0 < theatre_count self.now.draft }
+        ensures { slice_get self.now.draft.operating_theaters theatre.0 ≡ Some result.now }
     {
-        &self.draft.operating_theaters.as_slice()[t.0 as usize]
+        &self.draft.operating_theaters.as_slice()[theatre.0 as usize]
     }
 
     /// The maximum load of a nurse in a shift; none exactly where the nurse doesn't work it.
-    pub fn works(&self, n: NurseNo, k: Shift) -> Option<u32>
-        requires nurse { n.0 < nurse_count self.now.draft }
-        requires shift { k.0 < shift_count self.now.draft }
-        ensures { result ≡ max_load self.now.draft n.0 k.0 }
+    pub fn works(&self, nurse: NurseNo, shift: Shift) -> Option<u32>
+        requires nurse { nurse.0 < nurse_count self.now.draft }
+        requires shift { shift.0 < shift_count self.now.draft }
+        ensures { result ≡ max_load self.now.draft nurse.0 shift.0 }
     {
-        self.loads.as_slice()[n.0 as usize * self.shifts() as usize + k.0 as usize]
+        self.loads.as_slice()[nurse.0 as usize * self.shifts() as usize + shift.0 as usize]
     }
 
     /// The nurses who work a shift, rising.
-    pub fn working(&self, k: Shift) -> &[NurseNo]
-        requires { k.0 < shift_count self.now.draft }
-        ensures { result.now ≡ working self.now.draft k.0 }
+    pub fn working(&self, shift: Shift) -> &[NurseNo]
+        requires { shift.0 < shift_count self.now.draft }
+        ensures { result.now ≡ working self.now.draft shift.0 }
     {
-        self.rosters.as_slice()[k.0 as usize].as_slice()
+        self.rosters.as_slice()[shift.0 as usize].as_slice()
     }
 }

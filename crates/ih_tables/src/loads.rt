@@ -21,11 +21,14 @@ fn load_in(worked: &[WorkedShift], shift: usize) -> Option<u32>
 }
 
 /// A nurse's maximum load in a shift; none where the nurse doesn't work it.
-pub fn max_load(draft: &Draft, n: usize, shift: usize) -> Option<u32>
-    requires { n < nurse_count draft.now }
-    ensures { result ≡ max_load draft.now n shift }
+pub fn max_load(draft: &Draft, nurse: usize, shift: usize) -> Option<u32>
+    requires { nurse < nurse_count draft.now }
+    ensures { result ≡ max_load draft.now nurse shift }
 {
-    load_in(draft.nurses.as_slice()[n].working_shifts.as_slice(), shift)
+    load_in(
+        draft.nurses.as_slice()[nurse].working_shifts.as_slice(),
+        shift,
+    )
 }
 
 // The maximum load at a place of the table.

@@ -129,11 +129,11 @@ impl Place {
     }
 
     /// The place of an item, below a list's.
-    pub fn item(self, i: u32) -> Place
-        ensures { result ≡ at_item i self }
+    pub fn item(self, index: u32) -> Place
+        ensures { result ≡ at_item index self }
     {
         Place {
-            last: Some(i),
+            last: Some(index),
             ..self
         }
     }

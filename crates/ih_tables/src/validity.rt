@@ -11,10 +11,10 @@ use crate::checks::{are_at_most, between, is_listed, is_name, is_vector};
 use crate::drafts::{Draft, Nurse, Occupant, Patient, Room, Surgeon, Theatre, WorkedShift};
 use crate::ids::RoomNo;
 
-fn are_weights(w: &[i64]) -> bool
-    ensures { IsTrue result ↔ All (λ x. (pos 0 ≤ℤ x) × (x ≤ℤ pos 100000)) w.now }
+fn are_weights(weights: &[i64]) -> bool
+    ensures { IsTrue result ↔ All (λ x. (pos 0 ≤ℤ x) × (x ≤ℤ pos 100000)) weights.now }
 {
-    w.iter().all(|x| 0 <= *x && *x <= 100_000)
+    weights.iter().all(|x| 0 <= *x && *x <= 100_000)
 }
 
 fn have_minutes(days: u32, surgeons: &[Surgeon]) -> bool
@@ -35,10 +35,10 @@ fn have_capacity(rooms: &[Room]) -> bool
     rooms.iter().all(|r| r.capacity <= 1000)
 }
 
-fn is_worked(inst: &Draft, w: &WorkedShift) -> bool
-    ensures { IsTrue result ↔ IsWorked inst.now w.now }
+fn is_worked(inst: &Draft, worked: &WorkedShift) -> bool
+    ensures { IsTrue result ↔ IsWorked inst.now worked.now }
 {
-    w.day.0 < inst.days && w.shift < 3 && w.max_load <= 100_000
+    worked.day.0 < inst.days && worked.shift < 3 && worked.max_load <= 100_000
 }
 
 fn are_worked(inst: &Draft, ws: &[WorkedShift]) -> bool
@@ -47,10 +47,10 @@ fn are_worked(inst: &Draft, ws: &[WorkedShift]) -> bool
     ws.iter().all(|w| is_worked(inst, w))
 }
 
-fn shift_of(w: &WorkedShift) -> u64
-    ensures { result ≡ shift_of w.now }
+fn shift_of(worked: &WorkedShift) -> u64
+    ensures { result ≡ shift_of worked.now }
 {
-    3 * w.day.0 as u64 + w.shift as u64
+    3 * worked.day.0 as u64 + worked.shift as u64
 }
 
 fn works_shift(ws: &[WorkedShift], shift: u64) -> bool
@@ -70,11 +70,11 @@ fn are_worked_once(ws: &[WorkedShift]) -> bool
     true
 }
 
-fn is_nurse(inst: &Draft, n: &Nurse) -> bool
-    ensures { IsTrue result ↔ IsNurse inst.now n.now }
+fn is_nurse(inst: &Draft, nurse: &Nurse) -> bool
+    ensures { IsTrue result ↔ IsNurse inst.now nurse.now }
 {
-    let shifts = n.working_shifts.as_slice();
-    n.skill_level <= 1000 && are_worked(inst, shifts) && are_worked_once(shifts)
+    let shifts = nurse.working_shifts.as_slice();
+    nurse.skill_level <= 1000 && are_worked(inst, shifts) && are_worked_once(shifts)
 }
 
 fn are_nurses(inst: &Draft, ns: &[Nurse]) -> bool
@@ -103,14 +103,19 @@ fn is_asked(inst: &Draft, stay: u32, workload: &[u32], skill: &[u32]) -> bool
     is_vector(entries, 100_000, workload) && is_vector(entries, 1000, skill)
 }
 
-fn is_occupant(inst: &Draft, o: &Occupant) -> bool
-    ensures { IsTrue result ↔ IsOccupant inst.now o.now }
+fn is_occupant(inst: &Draft, occupant: &Occupant) -> bool
+    ensures { IsTrue result ↔ IsOccupant inst.now occupant.now }
 {
-    let stay = o.length_of_stay;
-    let workload = o.workload_produced.as_slice();
-    is_person(inst, o.gender.as_str(), o.age_group, stay)
-        && is_asked(inst, stay, workload, o.skill_level_required.as_slice())
-        && (o.room_id.0 as usize) < inst.rooms.as_slice().len()
+    let stay = occupant.length_of_stay;
+    let workload = occupant.workload_produced.as_slice();
+    is_person(inst, occupant.gender.as_str(), occupant.age_group, stay)
+        && is_asked(
+            inst,
+            stay,
+            workload,
+            occupant.skill_level_required.as_slice(),
+        )
+        && (occupant.room_id.0 as usize) < inst.rooms.as_slice().len()
 }
 
 fn are_occupants(inst: &Draft, os: &[Occupant]) -> bool
@@ -135,19 +140,24 @@ fn are_rooms(inst: &Draft, rs: &[RoomNo]) -> bool
     rs.iter().all(|r| (r.0 as usize) < rooms)
 }
 
-fn is_patient(inst: &Draft, p: &Patient) -> bool
-    ensures { IsTrue result ↔ IsPatient inst.now p.now }
+fn is_patient(inst: &Draft, patient: &Patient) -> bool
+    ensures { IsTrue result ↔ IsPatient inst.now patient.now }
 {
-    let stay = p.length_of_stay;
-    let workload = p.workload_produced.as_slice();
-    is_person(inst, p.gender.as_str(), p.age_group, stay)
-        && p.surgery_release_day <= 1000
-        && is_due_right(p.mandatory, p.surgery_due_day)
-        && p.surgery_duration <= 100_000
-        && (p.surgeon_id.0 as usize) < inst.surgeons.as_slice().len()
-        && p.incompatible_room_ids.as_slice().len() <= 1024
-        && are_rooms(inst, p.incompatible_room_ids.as_slice())
-        && is_asked(inst, stay, workload, p.skill_level_required.as_slice())
+    let stay = patient.length_of_stay;
+    let workload = patient.workload_produced.as_slice();
+    is_person(inst, patient.gender.as_str(), patient.age_group, stay)
+        && patient.surgery_release_day <= 1000
+        && is_due_right(patient.mandatory, patient.surgery_due_day)
+        && patient.surgery_duration <= 100_000
+        && (patient.surgeon_id.0 as usize) < inst.surgeons.as_slice().len()
+        && patient.incompatible_room_ids.as_slice().len() <= 1024
+        && are_rooms(inst, patient.incompatible_room_ids.as_slice())
+        && is_asked(
+            inst,
+            stay,
+            workload,
+            patient.skill_level_required.as_slice(),
+        )
 }
 
 fn are_patients(inst: &Draft, ps: &[Patient]) -> bool

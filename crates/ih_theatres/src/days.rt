@@ -21,12 +21,12 @@ pub fn day_count(inst: &Instance, rows: u32) -> u32
 
 /// The number of a day of theatre or surgeon `row`.
 #[inline(always)]
-pub fn day_number(inst: &Instance, row: u32, d: Day) -> u32
+pub fn day_number(inst: &Instance, row: u32, day: Day) -> u32
     requires row { row < 128 }
-    requires day { d.0 < inst.now.draft.days }
-    ensures { result ≡ day_number inst.now.draft row d.0 }
+    requires day { day.0 < inst.now.draft.days }
+    ensures { result ≡ day_number inst.now.draft row day.0 }
 {
-    row * inst.days() + d.0
+    row * inst.days() + day.0
 }
 
 /// Whether anyone is in the list.

@@ -9,21 +9,21 @@ use ih_tables::TheatreNo;
 
 /// The number is marked.
 #[inline(always)]
-pub fn is_marked(marks: u64, i: u32) -> bool
-    requires { i < 64 }
-    ensures { result ≡ is_marked marks i }
+pub fn is_marked(marks: u64, index: u32) -> bool
+    requires { index < 64 }
+    ensures { result ≡ is_marked marks index }
 {
-    (marks >> i) & 1 == 1
+    (marks >> index) & 1 == 1
 }
 
 /// The marks, and one on the theatre, where there is one.
 #[inline(always)]
-pub fn mark(marks: u64, t: Option<TheatreNo>) -> u64
-    requires { IfSome t (λ m. m.0 < 64) }
+pub fn mark(marks: u64, theatre: Option<TheatreNo>) -> u64
+    requires { IfSome theatre (λ m. m.0 < 64) }
     ensures { (i : ℕ) → is_marked result i
-        ≡ (is_marked marks i || is_number (option_map (λ (m : TheatreNo). m.0) t) i) }
+        ≡ (is_marked marks i || is_number (option_map (λ (m : TheatreNo). m.0) theatre) i) }
 {
-    match t {
+    match theatre {
         None => marks,
         Some(m) => marks | (1 << m.0),
     }

@@ -35,30 +35,30 @@ pub struct Theatres {
     surgeon_minutes: Vec<u32>,
 }
 
-/// The minutes that a theatre is available on a day.
-fn theatre_availability(inst: &Instance, t: TheatreNo, d: Day) -> u32
-    requires { t.0 < theatre_count inst.now.draft }
-    ensures { result ≡ theatre_availability inst.now.draft t.0 d.0 }
+// The minutes that a theatre is open on a day: none past the last day.
+fn theatre_availability(inst: &Instance, theatre_no: TheatreNo, day: Day) -> u32
+    requires { theatre_no.0 < theatre_count inst.now.draft }
+    ensures { result ≡ theatre_availability inst.now.draft theatre_no.0 day.0 }
 {
-    let theatre = inst.theatre(t);
+    let theatre = inst.theatre(theatre_no);
     theatre
         .availability
         .as_slice()
-        .get(d.0 as usize)
+        .get(day.0 as usize)
         .copied()
         .unwrap_or(0)
 }
 
-/// The minutes that a surgeon may operate on a day.
-fn surgeon_maximum(inst: &Instance, s: SurgeonNo, d: Day) -> u32
-    requires { s.0 < surgeon_count inst.now.draft }
-    ensures { result ≡ surgeon_maximum inst.now.draft s.0 d.0 }
+// The minutes that a surgeon may operate on a day: none past the last day.
+fn surgeon_maximum(inst: &Instance, surgeon_no: SurgeonNo, day: Day) -> u32
+    requires { surgeon_no.0 < surgeon_count inst.now.draft }
+    ensures { result ≡ surgeon_maximum inst.now.draft surgeon_no.0 day.0 }
 {
-    let surgeon = inst.surgeon(s);
+    let surgeon = inst.surgeon(surgeon_no);
     surgeon
         .max_surgery_time
         .as_slice()
-        .get(d.0 as usize)
+        .get(day.0 as usize)
         .copied()
         .unwrap_or(0)
 }
@@ -86,73 +86,73 @@ impl Theatres {
     }
 
     /// Admits a patient who is not admitted.
-    pub fn enter(&mut self, inst: &Instance, p: PatientNo, at: Placement)
-        requires patient { p.0 < patient_count inst.now.draft }
+    pub fn enter(&mut self, inst: &Instance, patient_no: PatientNo, at: Placement)
+        requires patient { patient_no.0 < patient_count inst.now.draft }
         requires placement { IsPlacement inst.now.draft at }
         requires stands { (P : Timetable) × IsLedgerOf inst.now.draft P self.old
-            × (stay_of P p.0 ≡ None) }
+            × (stay_of P patient_no.0 ≡ None) }
         ensures { (P : Timetable) → IsLedgerOf inst.now.draft P self.old
-            → stay_of P p.0 ≡ None
-            → IsLedgerOf inst.now.draft (put (SetStay p (Some at)) P) self.new }
+            → stay_of P patient_no.0 ≡ None
+            → IsLedgerOf inst.now.draft (put (SetStay patient_no (Some at)) P) self.new }
     {
-        let patient = inst.patient(p);
+        let patient = inst.patient(patient_no);
         let theatre_day = day_number(inst, at.theatre.0, at.day);
         let surgeon_day = day_number(inst, patient.surgeon_id.0, at.day);
-        self.theatre_days.push_back(theatre_day, p.0);
-        self.surgeon_days.push_back(surgeon_day, p.0);
+        self.theatre_days.push_back(theatre_day, patient_no.0);
+        self.surgeon_days.push_back(surgeon_day, patient_no.0);
         self.theatre_minutes[theatre_day as usize] += patient.surgery_duration;
         self.surgeon_minutes[surgeon_day as usize] += patient.surgery_duration;
-        self.theatres[p.0 as usize] = Some(at.theatre);
+        self.theatres[patient_no.0 as usize] = Some(at.theatre);
     }
 
     /// Takes out a patient who is admitted with this placement.
-    pub fn leave(&mut self, inst: &Instance, p: PatientNo, at: Placement)
-        requires patient { p.0 < patient_count inst.now.draft }
+    pub fn leave(&mut self, inst: &Instance, patient_no: PatientNo, at: Placement)
+        requires patient { patient_no.0 < patient_count inst.now.draft }
         requires stands { (P : Timetable) × IsLedgerOf inst.now.draft P self.old
-            × (stay_of P p.0 ≡ Some at) }
+            × (stay_of P patient_no.0 ≡ Some at) }
         ensures { (P : Timetable) → IsLedgerOf inst.now.draft P self.old
-            → stay_of P p.0 ≡ Some at
-            → IsLedgerOf inst.now.draft (put (SetStay p None) P) self.new }
+            → stay_of P patient_no.0 ≡ Some at
+            → IsLedgerOf inst.now.draft (put (SetStay patient_no None) P) self.new }
     {
-        let patient = inst.patient(p);
+        let patient = inst.patient(patient_no);
         let theatre_day = day_number(inst, at.theatre.0, at.day);
         let surgeon_day = day_number(inst, patient.surgeon_id.0, at.day);
-        self.theatre_days.remove(p.0);
-        self.surgeon_days.remove(p.0);
+        self.theatre_days.remove(patient_no.0);
+        self.surgeon_days.remove(patient_no.0);
         self.theatre_minutes[theatre_day as usize] -= patient.surgery_duration;
         self.surgeon_minutes[surgeon_day as usize] -= patient.surgery_duration;
-        self.theatres[p.0 as usize] = None;
+        self.theatres[patient_no.0 as usize] = None;
     }
 
     /// What a theatre's day costs: the minutes of surgery above the theatre's availability, and 1 where there is
     /// surgery.
-    pub fn theatre_bill(&self, inst: &Instance, t: TheatreNo, d: Day) -> Bill
-        requires theatre { t.0 < theatre_count inst.now.draft }
-        requires day { d.0 < inst.now.draft.days }
+    pub fn theatre_bill(&self, inst: &Instance, theatre: TheatreNo, day: Day) -> Bill
+        requires theatre { theatre.0 < theatre_count inst.now.draft }
+        requires day { day.0 < inst.now.draft.days }
         requires stands { (P : Timetable) × IsLedgerOf inst.now.draft P self.now }
         ensures part { (P : Timetable) → IsLedgerOf inst.now.draft P self.now
-            → result ≡ as_bill (part_at inst.now.draft P (TheatreDay t d)) }
+            → result ≡ as_bill (part_at inst.now.draft P (TheatreDay theatre day)) }
         ensures within { IsWithin (10 ^ 11) result }
     {
-        let today = day_number(inst, t.0, d);
+        let today = day_number(inst, theatre.0, day);
         let planned = self.theatre_minutes[today as usize];
-        let over = planned.saturating_sub(theatre_availability(inst, t, d));
+        let over = planned.saturating_sub(theatre_availability(inst, theatre, day));
         theatre_day_bill(over, bit(is_used(&self.theatre_days, today)))
     }
 
     /// What a surgeon's day costs: the minutes of surgery above the surgeon's maximum, and the theatres of that day
     /// less one.
-    pub fn surgeon_bill(&self, inst: &Instance, s: SurgeonNo, d: Day) -> Bill
-        requires surgeon { s.0 < surgeon_count inst.now.draft }
-        requires day { d.0 < inst.now.draft.days }
+    pub fn surgeon_bill(&self, inst: &Instance, surgeon: SurgeonNo, day: Day) -> Bill
+        requires surgeon { surgeon.0 < surgeon_count inst.now.draft }
+        requires day { day.0 < inst.now.draft.days }
         requires stands { (P : Timetable) × IsLedgerOf inst.now.draft P self.now }
         ensures part { (P : Timetable) → IsLedgerOf inst.now.draft P self.now
-            → result ≡ as_bill (part_at inst.now.draft P (SurgeonDay s d)) }
+            → result ≡ as_bill (part_at inst.now.draft P (SurgeonDay surgeon day)) }
         ensures within { IsWithin (10 ^ 11) result }
     {
-        let today = day_number(inst, s.0, d);
+        let today = day_number(inst, surgeon.0, day);
         let planned = self.surgeon_minutes[today as usize];
-        let over = planned.saturating_sub(surgeon_maximum(inst, s, d));
+        let over = planned.saturating_sub(surgeon_maximum(inst, surgeon, day));
         let marks = marks_of_theatres(&self.surgeon_days, today, self.theatres.as_slice());
         let used = count_marked(marks);
         surgeon_day_bill(over, used.saturating_sub(1))
@@ -164,27 +164,27 @@ impl Theatres {
     pub fn theatre_delta(
         &self,
         inst: &Instance,
-        p: PatientNo,
+        patient: PatientNo,
         old: Option<Placement>,
         at: Placement,
     ) -> Bill
-        requires patient { p.0 < patient_count inst.now.draft }
+        requires patient { patient.0 < patient_count inst.now.draft }
         requires placement { IsPlacement inst.now.draft at }
         requires stands { (P : Timetable) × IsLedgerOf inst.now.draft P self.now
-            × (stay_of P p.0 ≡ old) }
+            × (stay_of P patient.0 ≡ old) }
         ensures delta { (P : Timetable) → IsLedgerOf inst.now.draft P self.now
-            → stay_of P p.0 ≡ old
-            → result ≡ delta_at inst.now.draft P p at (TheatreDay at.theatre at.day) }
+            → stay_of P patient.0 ≡ old
+            → result ≡ delta_at inst.now.draft P patient at (TheatreDay at.theatre at.day) }
         ensures within { IsWithin (10 ^ 11) result }
     {
         let was = is_operated_in(old, at.theatre, at.day);
         let today = day_number(inst, at.theatre.0, at.day);
         let most = theatre_availability(inst, at.theatre, at.day);
         let planned = self.theatre_minutes[today as usize];
-        let others = minutes_but(inst, planned, p, was);
-        let used = is_used_by_others(&self.theatre_days, today, p, was);
-        let without = theatre_counts(inst, others, used, p, false, most);
-        let with = theatre_counts(inst, others, used, p, true, most);
+        let others = minutes_but(inst, planned, patient, was);
+        let used = is_used_by_others(&self.theatre_days, today, patient, was);
+        let without = theatre_counts(inst, others, used, patient, false, most);
+        let with = theatre_counts(inst, others, used, patient, true, most);
         theatre_change(with, without)
     }
 
@@ -194,30 +194,35 @@ impl Theatres {
     pub fn surgeon_delta(
         &self,
         inst: &Instance,
-        s: SurgeonNo,
-        p: PatientNo,
+        surgeon: SurgeonNo,
+        patient: PatientNo,
         old: Option<Placement>,
         at: Placement,
     ) -> Bill
-        requires surgeon { s.0 < surgeon_count inst.now.draft }
-        requires patient { p.0 < patient_count inst.now.draft }
-        requires own { surgeon_of inst.now.draft p.0 ≡ Some s.0 }
+        requires surgeon { surgeon.0 < surgeon_count inst.now.draft }
+        requires patient { patient.0 < patient_count inst.now.draft }
+        requires own { surgeon_of inst.now.draft patient.0 ≡ Some surgeon.0 }
         requires placement { IsPlacement inst.now.draft at }
         requires stands { (P : Timetable) × IsLedgerOf inst.now.draft P self.now
-            × (stay_of P p.0 ≡ old) }
+            × (stay_of P patient.0 ≡ old) }
         ensures delta { (P : Timetable) → IsLedgerOf inst.now.draft P self.now
-            → stay_of P p.0 ≡ old
-            → result ≡ delta_at inst.now.draft P p at (SurgeonDay s at.day) }
+            → stay_of P patient.0 ≡ old
+            → result ≡ delta_at inst.now.draft P patient at (SurgeonDay surgeon at.day) }
         ensures within { IsWithin (10 ^ 11) result }
     {
-        let was = is_operated_by(inst, p, old, s, at.day);
-        let today = day_number(inst, s.0, at.day);
-        let most = surgeon_maximum(inst, s, at.day);
+        let was = is_operated_by(inst, patient, old, surgeon, at.day);
+        let today = day_number(inst, surgeon.0, at.day);
+        let most = surgeon_maximum(inst, surgeon, at.day);
         let planned = self.surgeon_minutes[today as usize];
-        let others = minutes_but(inst, planned, p, was);
-        let used = marks_of_theatres_but(&self.surgeon_days, today, self.theatres.as_slice(), p);
-        let without = surgeon_counts(inst, others, used, p, false, None, most);
-        let with = surgeon_counts(inst, others, used, p, true, Some(at), most);
+        let others = minutes_but(inst, planned, patient, was);
+        let used = marks_of_theatres_but(
+            &self.surgeon_days,
+            today,
+            self.theatres.as_slice(),
+            patient,
+        );
+        let without = surgeon_counts(inst, others, used, patient, false, None, most);
+        let with = surgeon_counts(inst, others, used, patient, true, Some(at), most);
         surgeon_change(with, without)
     }
 }

@@ -18,7 +18,7 @@ use ih_parfill::par_fill;
 use ih_plan::Plan;
 use ih_shelf::{Gate, OpenGate};
 use ih_tables::Instance;
-use ih_workers::search;
+use ih_workers::search_by_moves;
 use itoa::Buffer;
 use std::alloc::{AllocError, Global};
 use std::sync::Wait;
@@ -145,7 +145,7 @@ fn search_from_fill<R: Threads + Wait + Sync, G: Gate>(
         options,
         freeze: 0,
     };
-    let book = search(rt, alloc, &given, gate)?;
+    let book = search_by_moves(rt, alloc, &given, gate)?;
     let entries = book.entries();
     match best_of(alloc, &given, entries, book.best())? {
         None => Ok(None),

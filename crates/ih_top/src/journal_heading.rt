@@ -21,7 +21,7 @@ use std::thread::Threads;
 /// A journal whose heading was read.
 #[derive(Drop)]
 pub struct Headed<'a> {
-    /// What its search is over.
+    /// What its search works on.
     pub begun: Begun,
     pub options: Options,
     /// The bytes behind the heading.

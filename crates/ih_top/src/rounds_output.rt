@@ -17,7 +17,7 @@ use ih_rounds::{RoundsEnd, rounds_by};
 use ih_shelf::Gate;
 use ih_solution::write_solution;
 use ih_tables::Instance;
-use ih_workers::search;
+use ih_workers::search_by_moves;
 use itoa::Buffer;
 use std::alloc::{AllocError, Global};
 use std::sync::Wait;
@@ -94,7 +94,7 @@ pub fn history_at_desk<R: Threads + Wait + Sync, G: Gate>(
         options: *options,
         freeze: 0,
     };
-    let book = search(rt, alloc, &given, gate)?;
+    let book = search_by_moves(rt, alloc, &given, gate)?;
     let mut entries = Vec::new(alloc);
     entries.extend_from_slice(book.entries())?;
     Ok(entries)

@@ -9,7 +9,7 @@ use crate::output::{Output, best_of, seed_of};
 use ih_desk::Given;
 use ih_history::journal_text;
 use ih_shelf::Gate;
-use ih_workers::search;
+use ih_workers::search_by_moves;
 use std::alloc::{AllocError, Global};
 use std::sync::Wait;
 use std::thread::Threads;
@@ -26,7 +26,7 @@ pub fn make_output<R: Threads + Wait + Sync, G: Gate>(
 {
     // For the proof alone: the seed has 64 bits.
     let _seed = seed_of(&given.options);
-    let book = search(rt, alloc, given, gate)?;
+    let book = search_by_moves(rt, alloc, given, gate)?;
     let entries = book.entries();
     let journal = journal_text(alloc, &given.options, entries)?;
     let best = best_of(alloc, given, entries, book.best())?;

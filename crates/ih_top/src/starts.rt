@@ -12,7 +12,7 @@ use std::alloc::{AllocError, Global};
 use std::sync::Wait;
 use std::thread::Threads;
 
-/// What the call's search is over.
+/// What the call's search works on.
 pub fn begin_search<R: Threads + Wait + Sync>(
     rt: &R,
     alloc: Global,

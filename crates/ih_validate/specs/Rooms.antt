@@ -14,7 +14,7 @@ gender_mix I P r d = bit (genders_differ I (present I P r d))
 abbrev pub crowding : Draft → Timetable → ℕ → ℕ → ℕ
 crowding I P r d = length (present I P r d) - capacity_of I r
 
--- the greatest less the least age group
+-- oldest minus youngest age group
 abbrev pub age_mix : Draft → Timetable → ℕ → ℕ → ℕ
 age_mix I P r d = age_spread I (present I P r d)
 

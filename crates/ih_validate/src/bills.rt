@@ -11,11 +11,11 @@ use crate::{loads, nurses, rooms, shifts, surgeons, theatres};
 use ih_plan::Plan;
 use ih_tables::{Bill, Instance};
 
-fn signed(n: u64) -> i64
-    requires { n < 2 ^ 63 }
-    ensures { result ≡ pos n }
+fn signed(number: u64) -> i64
+    requires { number < 2 ^ 63 }
+    ensures { result ≡ pos number }
 {
-    n as i64
+    number as i64
 }
 
 #[tactic(auto, unfolding(ih_plan::specs::BillOf::bill_of))]

@@ -8,14 +8,14 @@ ghost use Rattle.ih_plan.specs.{Persons.person_of, Costs.genders_differ, Costs.a
 use ih_plan::{age_group, same_gender};
 use ih_tables::Instance;
 
-fn differs(inst: &Instance, x: u32, others: &[u32]) -> bool
-    requires first { x < person_count inst.now.draft }
+fn differs(inst: &Instance, person: u32, others: &[u32]) -> bool
+    requires first { person < person_count inst.now.draft }
     requires others { All (λ y. y < person_count inst.now.draft) others.now }
     ensures { result ≡ list_any
-        (λ y. not (bytes_eq (person_of inst.now.draft x).gender (person_of inst.now.draft y).gender)) others.now }
+        (λ y. not (bytes_eq (person_of inst.now.draft person).gender (person_of inst.now.draft y).gender)) others.now }
 {
     for y in others {
-        if !same_gender(inst, x, *y) {
+        if !same_gender(inst, person, *y) {
             return true;
         }
     }
@@ -39,7 +39,7 @@ fn lower(found: bool, low: u32, age: u32) -> u32
     if found { low.min(age) } else { age }
 }
 
-/// The greatest less the least of their age groups, and 0 where nobody is here.
+/// Oldest minus youngest age group of those who are here. 0 if nobody is.
 pub fn age_spread(inst: &Instance, here: &[u32]) -> u64
     requires { All (λ y. y < person_count inst.now.draft) here.now }
     ensures value { result ≡ age_spread inst.now.draft here.now }

@@ -58,11 +58,11 @@ impl NumberList {
     }
 
     /// Adds a number at the end.
-    pub fn push(&mut self, x: u32)
+    pub fn push(&mut self, person: u32)
         requires { length self.old < 2560 }
-        ensures { self.new ≡ self.old ++ x ∷ [] }
+        ensures { self.new ≡ self.old ++ person ∷ [] }
     {
-        self.numbers[self.len] = x;
+        self.numbers[self.len] = person;
         self.len += 1;
     }
 

@@ -1,4 +1,4 @@
-//! How many distinct nurses each person has over its stay.
+//! How many different nurses each person sees.
 
 ghost use Rattle.std.specs.Prelude.{◌≡◌, ◌<◌, ◌≤◌, ◌-◌, ◌+◌, ◌*◌, map};
 ghost use Rattle.std.specs.List.{range_with_len};
@@ -13,33 +13,33 @@ use ih_plan::{Plan, counted_shifts};
 use ih_tables::{Instance, PatientNo, RoomNo};
 
 #[tactic(auto, using(ih_plan::proofs::ListSteps::range_steps))]
-fn seen_in(inst: &Instance, plan: &Plan, r: RoomNo, from: u32, len: u32) -> u64
+fn seen_in(inst: &Instance, plan: &Plan, room: RoomNo, from: u32, len: u32) -> u64
     requires plan { IsPlanOf inst.now.draft plan.now }
-    requires room { r.0 < room_count inst.now.draft }
+    requires room { room.0 < room_count inst.now.draft }
     requires shifts { from + len ≤ shift_count inst.now.draft }
-    ensures count { result ≡ distinct_nurses inst.now.draft (map (care_of plan.now r.0) (range_with_len from len)) }
+    ensures count { result ≡ distinct_nurses inst.now.draft (map (care_of plan.now room.0) (range_with_len from len)) }
     ensures bound { result ≤ 512 }
 {
     let mut seen = [false; 512];
     for j in 0..len {
-        mark(&mut seen, nurse_at(inst, plan, r, from + j));
+        mark(&mut seen, nurse_at(inst, plan, room, from + j));
     }
     count_marked(&seen, inst.nurses())
 }
 
 #[tactic(auto, using(ih_plan::proofs::ListSteps::none_steps), unfolding(ih_plan::specs::Presence::admission_of, ih_plan::specs::Presence::shifts_of, ih_plan::specs::Persons::person_of))]
-fn nurses_of(inst: &Instance, plan: &Plan, x: u32) -> u64
+fn nurses_of(inst: &Instance, plan: &Plan, person: u32) -> u64
     requires plan { IsPlanOf inst.now.draft plan.now }
-    requires person { x < person_count inst.now.draft }
+    requires person { person < person_count inst.now.draft }
     ensures value { result
         ≡ distinct_nurses inst.now.draft
-        (map (nurse_for plan.now (room_of inst.now.draft plan.now x)) (shifts_of inst.now.draft plan.now x)) }
+        (map (nurse_for plan.now (room_of inst.now.draft plan.now person)) (shifts_of inst.now.draft plan.now person)) }
     ensures bound { result ≤ 512 }
 {
     let patients = inst.patients();
-    if x < patients {
-        let a = inst.patient(PatientNo(x));
-        match plan.stay(PatientNo(x)) {
+    if person < patients {
+        let a = inst.patient(PatientNo(person));
+        match plan.stay(PatientNo(person)) {
             None => 0,
             Some(at) => {
                 let count = counted_shifts(inst, at.day.0, a.length_of_stay);
@@ -47,12 +47,14 @@ fn nurses_of(inst: &Instance, plan: &Plan, x: u32) -> u64
             }
         }
     } else {
-        let o = inst.occupant(x - patients);
+        let o = inst.occupant(person - patients);
         let count = counted_shifts(inst, 0, o.length_of_stay);
         seen_in(inst, plan, o.room_id, 0, count)
     }
 }
 
+/// The number of different nurses each person sees, summed over the occupants and the admitted patients. Shifts after
+/// the last day don't count.
 #[tactic(auto, unfolding(ih_plan::specs::BillOf::nurses_seen))]
 pub fn nurses_seen(inst: &Instance, plan: &Plan) -> u64
     requires { IsPlanOf inst.now.draft plan.now }

@@ -25,14 +25,14 @@ fn minutes(inst: &Instance, patients: &[u32]) -> u64
 }
 
 #[tactic(auto, unfolding(crate::specs::Surgery::overtime_of))]
-fn overtime_of(inst: &Instance, plan: &Plan, w: Resource) -> u64
+fn overtime_of(inst: &Instance, plan: &Plan, resource: Resource) -> u64
     requires plan { IsPlanOf inst.now.draft plan.now }
-    requires resource { IsResourceOf inst.now.draft w }
-    ensures value { result ≡ overtime_of inst.now.draft plan.now w }
+    requires resource { IsResourceOf inst.now.draft resource }
+    ensures value { result ≡ overtime_of inst.now.draft plan.now resource }
     ensures bound { result ≤ 615726511554560 }
 {
-    sum_days(inst, plan, w, 4294967296 * 2560, |d, today| {
-        minutes(inst, today).saturating_sub(limit_of(inst, w, d))
+    sum_days(inst, plan, resource, 4294967296 * 2560, |d, today| {
+        minutes(inst, today).saturating_sub(limit_of(inst, resource, d))
     })
 }
 

@@ -25,7 +25,7 @@ pub struct RoomCosts {
     pub over_capacity: u64,
     /// Occupied rooms and shifts without a nurse.
     pub uncovered: u64,
-    /// The greatest less the least age group in each room on each day.
+    /// Oldest minus youngest age group, by room and day.
     pub mixed_ages: u64,
     /// Required skill above the nurse's.
     pub missing_skill: u64,
@@ -48,38 +48,38 @@ fn nothing() -> RoomCosts
 fn costs_of(
     inst: &Instance,
     plan: &Plan,
-    r: RoomNo,
+    room: RoomNo,
     residents: &[u32],
     here: &mut NumberList,
 ) -> RoomCosts
     requires plan { IsPlanOf inst.now.draft plan.now }
-    requires room { r.0 < room_count inst.now.draft }
-    requires residents { residents.now ≡ residents_of inst.now.draft plan.now r.0 }
+    requires room { room.0 < room_count inst.now.draft }
+    requires residents { residents.now ≡ residents_of inst.now.draft plan.now room.0 }
     ensures gender_mixes { result.gender_mixes
-        ≡ sum_below inst.now.draft.days (gender_mix inst.now.draft plan.now r.0) }
+        ≡ sum_below inst.now.draft.days (gender_mix inst.now.draft plan.now room.0) }
     ensures over_capacity { result.over_capacity
-        ≡ sum_below inst.now.draft.days (crowding inst.now.draft plan.now r.0) }
+        ≡ sum_below inst.now.draft.days (crowding inst.now.draft plan.now room.0) }
     ensures uncovered { result.uncovered
-        ≡ sum_below (shift_count inst.now.draft) (bare_shift inst.now.draft plan.now r.0) }
-    ensures mixed_ages { result.mixed_ages ≡ sum_below inst.now.draft.days (age_mix inst.now.draft plan.now r.0) }
+        ≡ sum_below (shift_count inst.now.draft) (bare_shift inst.now.draft plan.now room.0) }
+    ensures mixed_ages { result.mixed_ages ≡ sum_below inst.now.draft.days (age_mix inst.now.draft plan.now room.0) }
     ensures missing_skill { result.missing_skill
-        ≡ sum_below (shift_count inst.now.draft) (skill_gap inst.now.draft plan.now r.0) }
+        ≡ sum_below (shift_count inst.now.draft) (skill_gap inst.now.draft plan.now room.0) }
     ensures few_mixes { result.gender_mixes ≤ 56 }
     ensures few_over { result.over_capacity ≤ 143360 }
     ensures few_uncovered { result.uncovered ≤ 168 }
     ensures few_ages { result.mixed_ages ≤ 3584 }
     ensures few_skills { result.missing_skill ≤ 430080000 }
 {
-    let capacity = inst.room(r).capacity as u64;
+    let capacity = inst.room(room).capacity as u64;
     let mut costs = nothing();
     for d in 0..inst.days() {
-        list_present(inst, plan, residents, r, d, here);
+        list_present(inst, plan, residents, room, d, here);
         let here = here.as_slice();
         costs.gender_mixes += bit(genders_differ(inst, here));
         costs.over_capacity += (here.len() as u64).saturating_sub(capacity);
-        costs.uncovered += uncovered_on(inst, plan, r, d, here);
+        costs.uncovered += uncovered_on(inst, plan, room, d, here);
         costs.mixed_ages += age_spread(inst, here);
-        costs.missing_skill += missing_skill_on(inst, plan, r, d, here);
+        costs.missing_skill += missing_skill_on(inst, plan, room, d, here);
     }
     costs
 }

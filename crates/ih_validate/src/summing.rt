@@ -4,10 +4,10 @@ ghost use Rattle.std.specs.Prelude.{◌≡◌, ◌<◌, ◌≤◌, ◌*◌, ◌^
 ghost use Rattle.ih_plan.specs.Sums.{sum_below, bit};
 
 /// 1 where it holds, else 0.
-pub fn bit(b: bool) -> u64
-    ensures { result ≡ bit b }
+pub fn bit(flag: bool) -> u64
+    ensures { result ≡ bit flag }
 {
-    if b { 1 } else { 0 }
+    if flag { 1 } else { 0 }
 }
 
 /// The sum of what each number below the count gives, each at most so much.

@@ -11,11 +11,11 @@ use crate::surgery::{Resource, sum_days};
 use ih_plan::Plan;
 use ih_tables::{Instance, PatientNo, SurgeonNo};
 
-fn theatre_at(plan: &Plan, p: PatientNo) -> Option<u32>
-    requires { p.0 < length plan.now.stays }
-    ensures { result ≡ theatre_of plan.now p.0 }
+fn theatre_at(plan: &Plan, patient: PatientNo) -> Option<u32>
+    requires { patient.0 < length plan.now.stays }
+    ensures { result ≡ theatre_of plan.now patient.0 }
 {
-    match plan.stay(p) {
+    match plan.stay(patient) {
         None => None,
         Some(at) => Some(at.theatre.0),
     }
@@ -35,14 +35,14 @@ fn theatres_used(inst: &Instance, plan: &Plan, patients: &[u32]) -> u64
     count_marked(&used, inst.theatres())
 }
 
-fn transfers_of(inst: &Instance, plan: &Plan, s: SurgeonNo) -> u64
+fn transfers_of(inst: &Instance, plan: &Plan, surgeon: SurgeonNo) -> u64
     requires { IsPlanOf inst.now.draft plan.now }
     ensures sum { result ≡ sum_below inst.now.draft.days
         (λ d. theatres_used inst.now.draft
-        (map (theatre_of plan.now) (operated_by inst.now.draft plan.now s.0 d)) - 1) }
+        (map (theatre_of plan.now) (operated_by inst.now.draft plan.now surgeon.0 d)) - 1) }
     ensures bound { result ≤ 3584 }
 {
-    sum_days(inst, plan, Resource::OfSurgeon(s), 64, |_d, today| {
+    sum_days(inst, plan, Resource::OfSurgeon(surgeon), 64, |_d, today| {
         theatres_used(inst, plan, today).saturating_sub(1)
     })
 }

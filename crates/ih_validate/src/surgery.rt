@@ -3,7 +3,15 @@
 ghost use Rattle.std.specs.Prelude.{◌≡◌, ◌<◌, ◌≤◌, ◌*◌, ◌^◌, ℕ, length, slice_index};
 ghost use Rattle.ih_tables.specs.Sizes.{patient_count};
 ghost use Rattle.ih_plan.specs.{Timetable.IsPlanOf, Sums.sum_below};
-ghost use Rattle.ih_validate.specs.Surgery.{AreOperated, IsResourceOf, count_of, has_surgery, is_patient_of, limit_of, one_of};
+ghost use Rattle.ih_validate.specs.Surgery.{
+  AreOperated,
+  IsResourceOf,
+  count_of,
+  has_surgery,
+  is_patient_of,
+  limit_of,
+  one_of,
+};
 ghost use Rattle.ih_validate.specs.Surgery.{operated_on, patients_of};
 
 use crate::number_lists::NumberList;
@@ -44,63 +52,69 @@ pub fn one_of(kind: ResourceKind, number: u32) -> Resource
     }
 }
 
-fn is_patient_of(inst: &Instance, plan: &Plan, w: Resource, p: PatientNo) -> bool
+fn is_patient_of(inst: &Instance, plan: &Plan, resource: Resource, patient: PatientNo) -> bool
     requires plan { IsPlanOf inst.now.draft plan.now }
-    requires patient { p.0 < patient_count inst.now.draft }
-    ensures { result ≡ is_patient_of inst.now.draft plan.now w p.0 }
+    requires patient { patient.0 < patient_count inst.now.draft }
+    ensures { result ≡ is_patient_of inst.now.draft plan.now resource patient.0 }
 {
-    match w {
-        Resource::OfTheatre(t) => match plan.stay(p) {
+    match resource {
+        Resource::OfTheatre(t) => match plan.stay(patient) {
             None => false,
             Some(at) => at.theatre.0 == t.0,
         },
-        Resource::OfSurgeon(s) => inst.patient(p).surgeon_id.0 == s.0,
+        Resource::OfSurgeon(s) => inst.patient(patient).surgeon_id.0 == s.0,
     }
 }
 
 /// Whether the patient has surgery there, or by the surgeon, on the day.
-pub fn has_surgery(inst: &Instance, plan: &Plan, w: Resource, d: u32, p: PatientNo) -> bool
+pub fn has_surgery(
+    inst: &Instance,
+    plan: &Plan,
+    resource: Resource,
+    day: u32,
+    patient: PatientNo,
+) -> bool
     requires plan { IsPlanOf inst.now.draft plan.now }
-    requires patient { p.0 < patient_count inst.now.draft }
-    ensures { result ≡ has_surgery inst.now.draft plan.now w d p.0 }
+    requires patient { patient.0 < patient_count inst.now.draft }
+    ensures { result ≡ has_surgery inst.now.draft plan.now resource day patient.0 }
 {
-    match plan.stay(p) {
-        None => match w {
+    match plan.stay(patient) {
+        None => match resource {
             Resource::OfTheatre(_) => false,
             Resource::OfSurgeon(_) => false,
         },
-        Some(at) => match w {
-            Resource::OfTheatre(t) => at.theatre.0 == t.0 && at.day.0 == d,
-            Resource::OfSurgeon(s) => inst.patient(p).surgeon_id.0 == s.0 && at.day.0 == d,
+        Some(at) => match resource {
+            Resource::OfTheatre(t) => at.theatre.0 == t.0 && at.day.0 == day,
+            Resource::OfSurgeon(s) => inst.patient(patient).surgeon_id.0 == s.0 && at.day.0 == day,
         },
     }
 }
 
-fn on_day(numbers: &[u32], d: u32) -> u64
-    ensures { result ≡ slice_index numbers.now d }
+fn on_day(numbers: &[u32], day: u32) -> u64
+    ensures { result ≡ slice_index numbers.now day }
 {
-    numbers.get(d as usize).copied().unwrap_or(0) as u64
+    numbers.get(day as usize).copied().unwrap_or(0) as u64
 }
 
 /// The minutes of surgery that there may be on the day.
-pub fn limit_of(inst: &Instance, w: Resource, d: u32) -> u64
-    requires { IsResourceOf inst.now.draft w }
-    ensures { result ≡ limit_of inst.now.draft w d }
+pub fn limit_of(inst: &Instance, resource: Resource, day: u32) -> u64
+    requires { IsResourceOf inst.now.draft resource }
+    ensures { result ≡ limit_of inst.now.draft resource day }
 {
-    match w {
-        Resource::OfTheatre(t) => on_day(inst.theatre(t).availability.as_slice(), d),
-        Resource::OfSurgeon(s) => on_day(inst.surgeon(s).max_surgery_time.as_slice(), d),
+    match resource {
+        Resource::OfTheatre(t) => on_day(inst.theatre(t).availability.as_slice(), day),
+        Resource::OfSurgeon(s) => on_day(inst.surgeon(s).max_surgery_time.as_slice(), day),
     }
 }
 
 // Lists the patients whom it has at all.
-fn list_own(inst: &Instance, plan: &Plan, w: Resource, own: &mut NumberList)
+fn list_own(inst: &Instance, plan: &Plan, resource: Resource, own: &mut NumberList)
     requires { IsPlanOf inst.now.draft plan.now }
-    ensures { own.new ≡ patients_of inst.now.draft plan.now w }
+    ensures { own.new ≡ patients_of inst.now.draft plan.now resource }
 {
     own.list_below(
         inst.patients(),
-        |p| is_patient_of(inst, plan, w, PatientNo(p)),
+        |p| is_patient_of(inst, plan, resource, PatientNo(p)),
     );
 }
 
@@ -108,17 +122,20 @@ fn list_own(inst: &Instance, plan: &Plan, w: Resource, own: &mut NumberList)
 fn list_today(
     inst: &Instance,
     plan: &Plan,
-    w: Resource,
-    d: u32,
+    resource: Resource,
+    day: u32,
     own: &[u32],
     today: &mut NumberList,
 )
     requires plan { IsPlanOf inst.now.draft plan.now }
-    requires own { own.now ≡ patients_of inst.now.draft plan.now w }
+    requires own { own.now ≡ patients_of inst.now.draft plan.now resource }
     requires few { length own.now ≤ 2560 }
-    ensures { today.new ≡ operated_on inst.now.draft plan.now w d }
+    ensures { today.new ≡ operated_on inst.now.draft plan.now resource day }
 {
-    today.list_among(own, |p| has_surgery(inst, plan, w, d, PatientNo(p)));
+    today.list_among(
+        own,
+        |p| has_surgery(inst, plan, resource, day, PatientNo(p)),
+    );
 }
 
 /// The sum of what each day costs by who has surgery then, each at most so much. All patients are looked through once,
@@ -126,25 +143,26 @@ fn list_today(
 pub fn sum_days<F: Fn(u32, &[u32]) -> u64>(
     inst: &Instance,
     plan: &Plan,
-    w: Resource,
+    resource: Resource,
     most: u64,
     each: F,
 ) -> u64
     requires plan { IsPlanOf inst.now.draft plan.now }
-    requires callable { (d : ℕ) (ps : _) → AreOperated inst.now.draft plan.now w d ps.now → F.pre each d ps }
+    requires callable { (d : ℕ) (ps : _) → AreOperated inst.now.draft plan.now resource d ps.now → F.pre each d ps }
     requires few { (d : ℕ) (ps : _) (x : ℕ) → F.post each d ps x → x ≤ most }
     requires fits { inst.now.draft.days * most < 2 ^ 64 }
     ensures sum { (f : ℕ → ℕ)
-        → ((d : ℕ) (ps : _) (x : ℕ) → AreOperated inst.now.draft plan.now w d ps.now → F.post each d ps x → x ≡ f d)
+        → ((d : ℕ) (ps : _) (x : ℕ) → AreOperated inst.now.draft plan.now resource d ps.now → F.post each d ps x
+        → x ≡ f d)
         → result ≡ sum_below inst.now.draft.days f }
     ensures bound { result ≤ inst.now.draft.days * most }
 {
     let mut own = NumberList::new();
     let mut today = NumberList::new();
-    list_own(inst, plan, w, &mut own);
+    list_own(inst, plan, resource, &mut own);
     let mut sum = 0;
     for d in 0..inst.days() {
-        list_today(inst, plan, w, d, own.as_slice(), &mut today);
+        list_today(inst, plan, resource, d, own.as_slice(), &mut today);
         sum += each(d, today.as_slice());
     }
     sum

@@ -9,16 +9,16 @@ use crate::surgery::{Resource, sum_days};
 use ih_plan::Plan;
 use ih_tables::{Instance, TheatreNo};
 
-fn open_days(inst: &Instance, plan: &Plan, t: TheatreNo) -> u64
+fn open_days(inst: &Instance, plan: &Plan, theatre: TheatreNo) -> u64
     requires { IsPlanOf inst.now.draft plan.now }
     ensures count { result
-        ≡ count_below inst.now.draft.days (λ d. not (is_empty (operated inst.now.draft plan.now t.0 d))) }
+        ≡ count_below inst.now.draft.days (λ d. not (is_empty (operated inst.now.draft plan.now theatre.0 d))) }
     ensures bound { result ≤ 56 }
 {
     sum_days(
         inst,
         plan,
-        Resource::OfTheatre(t),
+        Resource::OfTheatre(theatre),
         1,
         |_d, today| bit(!today.is_empty()),
     )

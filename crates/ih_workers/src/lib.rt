@@ -3,4 +3,4 @@
 
 mod searching;
 
-pub use searching::{Worker, run_workers, search};
+pub use searching::{Worker, run_workers, search_by_moves};

@@ -19,7 +19,7 @@ pub type Worker<'a> = WorkerOn<'a, Replica<'a>>;
 
 /// Runs each worker in a call of its own: each makes its draws in order, each tried again exactly after a stale try,
 /// as often as `retries` says. Where a thread can't be started the caller does that worker's search itself. It takes no
-/// memory. For users of the crate: `search` runs its workers by the same body.
+/// memory. For users of the crate: `search_by_moves` runs its workers by the same body.
 pub fn run_workers<'a, R: Threads + Wait + Sync, G: Gate>(
     rt: &R,
     desk: &Desk<'a>,
@@ -42,7 +42,7 @@ fn freeze_of(given: &Given<'_>) -> u32
 
 /// The whole search by single moves, as a book with a full history. Between its opening and its end no call answers
 /// lack of memory.
-pub fn search<'a, R: Threads + Wait + Sync, G: Gate>(
+pub fn search_by_moves<'a, R: Threads + Wait + Sync, G: Gate>(
     rt: &R,
     alloc: Global,
     given: &Given<'a>,

@@ -4,7 +4,7 @@ ghost use Rattle.std.specs.Prelude.{◌≡◌, ◌<◌, ◌^◌, false, map, len
 ghost use Rattle.serde_json.specs.View.{view};
 ghost use Rattle.ih_format.specs.{Gives.Gives, Checks.list};
 
-use ih_format::{FormatError, kinds};
+use ih_format::{FormatError, json_values};
 use ih_tables::Place;
 use serde_json::Value;
 use std::alloc::{AllocError, Global};
@@ -14,16 +14,16 @@ pub fn items(value: &Value, at: Place) -> Result<&[Value], FormatError>
     ensures few { IfOk result (λ s. length s.now < 2 ^ 32) }
     ensures gives { Gives (λ s. map view s.now) result (list at (view value.now)) }
 {
-    let values = kinds::list(value, at)?;
+    let values = json_values::list(value, at)?;
     if values.len() > u32::MAX as usize {
         return Err(FormatError::OutOfMemory);
     }
     Ok(values)
 }
 
-/// A flag for each number below n, none of them set.
-pub fn no_flags(alloc: Global, n: u32) -> Result<Vec<bool>, AllocError>
-    ensures { IfOk result (λ v. v.items ≡ replicate n false) }
+/// A flag for each number below `number`, none of them set.
+pub fn no_flags(alloc: Global, number: u32) -> Result<Vec<bool>, AllocError>
+    ensures { IfOk result (λ v. v.items ≡ replicate number false) }
 {
-    vec![in alloc; false; n as usize]
+    vec![in alloc; false; number as usize]
 }

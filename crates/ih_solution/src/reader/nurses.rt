@@ -13,7 +13,7 @@ ghost use Rattle.ih_solution.specs.Reading.{nurse_rows, nurses, cares_of};
 use crate::reader::assigned::assign_all;
 use crate::reader::rows::{Assignment, ListedNurse};
 use crate::reader::{lists, references};
-use ih_format::{FormatError, keys, kinds};
+use ih_format::{FormatError, json_values, keys};
 use ih_plan::Plan;
 use ih_tables::{Fault, Instance, Key, List, Place, Refusal, RoomNo, Shift};
 use serde_json::Value;
@@ -30,49 +30,55 @@ struct Reader<'a> {
 impl<'a> Reader<'a> {
     /// A room that no nurse has in the shift; else TwoNurses.
     #[tactic(auto, using(crate::proofs::ListedValues::place_steps))]
-    fn free_room(&self, k: Shift, value: &Value, at: Place) -> Result<RoomNo, Refusal>
+    fn free_room(&self, shift: Shift, value: &Value, at: Place) -> Result<RoomNo, Refusal>
         requires plan { IsPlanOf self.now.inst.now.draft self.now.plan.now }
-        requires shift { k.0 < shift_count self.now.inst.now.draft }
-        ensures free { IfOk result (IsFree self.now.inst.now.draft self.now.plan.now k.0) }
+        requires shift { shift.0 < shift_count self.now.inst.now.draft }
+        ensures free { IfOk result (IsFree self.now.inst.now.draft self.now.plan.now shift.0) }
         ensures gives { result
-            ≡ free_room self.now.inst.now.draft (has_nurse self.now.plan.now) k.0 at (view value.now) }
+            ≡ free_room self.now.inst.now.draft (has_nurse self.now.plan.now) shift.0 at (view value.now) }
     {
         let room = references::room(self.inst, value, at)?;
-        if self.plan.care(room, k).is_some() {
-            return Err(kinds::refusal(Fault::TwoNurses, at));
+        if self.plan.care(room, shift).is_some() {
+            return Err(json_values::refusal(Fault::TwoNurses, at));
         }
         Ok(room)
     }
 
     #[tactic(auto, using(crate::proofs::References::reading_all))]
-    fn each_room(&self, k: Shift, values: &[Value], at: Place) -> Result<List<RoomNo>, FormatError>
+    fn each_room(
+        &self,
+        shift: Shift,
+        values: &[Value],
+        at: Place,
+    ) -> Result<List<RoomNo>, FormatError>
         requires few { length values.now < 2 ^ 32 }
         requires plan { IsPlanOf self.now.inst.now.draft self.now.plan.now }
-        requires shift { k.0 < shift_count self.now.inst.now.draft }
-        ensures free { IfOk result (All (IsFree self.now.inst.now.draft self.now.plan.now k.0)) }
+        requires shift { shift.0 < shift_count self.now.inst.now.draft }
+        ensures free { IfOk result (All (IsFree self.now.inst.now.draft self.now.plan.now shift.0)) }
         ensures gives { Gives (λ xs. xs) result
-            (each (λ _. free_room self.now.inst.now.draft (has_nurse self.now.plan.now) k.0) at (map view values.now)) }
+            (each (λ _. free_room self.now.inst.now.draft (has_nurse self.now.plan.now) shift.0) at
+            (map view values.now)) }
     {
         let mut rooms = Vec::new(self.alloc);
         let mut i = 0;
         for value in values {
-            rooms.push(self.free_room(k, value, at.item(i))?)?;
+            rooms.push(self.free_room(shift, value, at.item(i))?)?;
             i += 1;
         }
         Ok(List::new(rooms))
     }
 
-    fn rooms(&self, k: Shift, object: &Value, at: Place) -> Result<List<RoomNo>, FormatError>
+    fn rooms(&self, shift: Shift, object: &Value, at: Place) -> Result<List<RoomNo>, FormatError>
         requires plan { IsPlanOf self.now.inst.now.draft self.now.plan.now }
-        requires shift { k.0 < shift_count self.now.inst.now.draft }
-        ensures free { IfOk result (All (IsFree self.now.inst.now.draft self.now.plan.now k.0)) }
+        requires shift { shift.0 < shift_count self.now.inst.now.draft }
+        ensures free { IfOk result (All (IsFree self.now.inst.now.draft self.now.plan.now shift.0)) }
         ensures gives { Gives (λ xs. xs) result
             (under at (view object.now) Key.Rooms
-            (free_rooms self.now.inst.now.draft (has_nurse self.now.plan.now) k.0)) }
+            (free_rooms self.now.inst.now.draft (has_nurse self.now.plan.now) shift.0)) }
     {
-        let value = kinds::value_of(object, Key::Rooms, at)?;
+        let value = json_values::value_of(object, Key::Rooms, at)?;
         let at = at.key(Key::Rooms);
-        self.each_room(k, lists::items(value, at)?, at)
+        self.each_room(shift, lists::items(value, at)?, at)
     }
 
     #[tactic(auto, unfolding(crate::specs::Reading::assignment))]
@@ -82,9 +88,9 @@ impl<'a> Reader<'a> {
         ensures gives { Gives (λ a. a) result
             (assignment self.now.inst.now.draft (has_nurse self.now.plan.now) at (view value.now)) }
     {
-        let _ = kinds::object(value, at)?;
+        let _ = json_values::object(value, at)?;
         let day = keys::number(value, Key::Day, 0, self.inst.days() - 1, at)?;
-        let shift = kinds::value_of(value, Key::Shift, at)?;
+        let shift = json_values::value_of(value, Key::Shift, at)?;
         let shift = references::shift_type(self.inst, shift, at.key(Key::Shift))?;
         let shift = Shift(3 * day + shift);
         let rooms = self.rooms(shift, value, at)?;
@@ -115,7 +121,7 @@ impl<'a> Reader<'a> {
             (under at (view object.now) Key.Assignments
             (assignments self.now.inst.now.draft (has_nurse self.now.plan.now))) }
     {
-        let value = kinds::value_of(object, Key::Assignments, at)?;
+        let value = json_values::value_of(object, Key::Assignments, at)?;
         let at = at.key(Key::Assignments);
         self.each_assignment(lists::items(value, at)?, at)
     }
@@ -136,11 +142,11 @@ impl<'a> Reader<'a> {
             (nurse_row self.now.inst.now.draft (is_marked earlier.now)
             (has_nurse self.now.plan.now) at (view value.now)) }
     {
-        let _ = kinds::object(value, at)?;
-        let id = kinds::value_of(value, Key::Id, at)?;
+        let _ = json_values::object(value, at)?;
+        let id = json_values::value_of(value, Key::Id, at)?;
         let nurse = references::nurse(self.inst, id, at.key(Key::Id))?;
         if earlier[nurse.0 as usize] {
-            let refusal = kinds::refusal(Fault::Duplicate, at.key(Key::Id));
+            let refusal = json_values::refusal(Fault::Duplicate, at.key(Key::Id));
             return Err(FormatError::Refused(refusal));
         }
         let assignments = self.assignments(value, at)?;
@@ -195,7 +201,7 @@ pub fn cares(
         (seen (λ rows. record plan { cares = cares_of inst.now.draft rows })
         (under at (view object.now) Key.Nurses (nurses inst.now.draft))) }
 {
-    let value = kinds::value_of(object, Key::Nurses, at)?;
+    let value = json_values::value_of(object, Key::Nurses, at)?;
     let at = at.key(Key::Nurses);
     each_nurse(alloc, inst, plan, lists::items(value, at)?, at)
 }

@@ -10,7 +10,7 @@ ghost use Rattle.ih_solution.specs.Reading.{timetable_of};
 
 use crate::reader::rows::ListedStay;
 use crate::reader::{lists, references};
-use ih_format::{FormatError, kinds};
+use ih_format::{FormatError, json_values};
 use ih_plan::{Placement, Plan, Write};
 use ih_tables::{Day, Fault, Instance, Key, Place, Refusal};
 use serde_json::Value;
@@ -21,7 +21,7 @@ fn no_day(text: &str, at: Place) -> Result<Option<u32>, Refusal>
     ensures { result ≡ no_day at text.now }
 {
     if text != "none" {
-        return Err(kinds::refusal(Fault::Kind, at));
+        return Err(json_values::refusal(Fault::Kind, at));
     }
     Ok(None)
 }
@@ -34,7 +34,7 @@ fn admission_day(inst: &Instance, value: &Value, at: Place) -> Result<Option<u32
     if let Some(text) = value.as_str() {
         return no_day(text, at);
     }
-    let day = kinds::number(value, 0, inst.days() - 1, at)?;
+    let day = json_values::number(value, 0, inst.days() - 1, at)?;
     Ok(Some(day))
 }
 
@@ -52,9 +52,9 @@ fn placement_on(
     let Some(day) = day else {
         return Ok(None);
     };
-    let value = kinds::value_of(object, Key::Room, at)?;
+    let value = json_values::value_of(object, Key::Room, at)?;
     let room = references::room(inst, value, at.key(Key::Room))?;
-    let value = kinds::value_of(object, Key::OperatingTheater, at)?;
+    let value = json_values::value_of(object, Key::OperatingTheater, at)?;
     let theatre = references::theatre(inst, value, at.key(Key::OperatingTheater))?;
     Ok(Some(Placement {
         day: Day(day),
@@ -77,13 +77,13 @@ fn patient_row(
     ensures placed { IfOk result (λ row. IfSome row.stay (IsPlacement inst.now.draft)) }
     ensures gives { result ≡ patient_row inst.now.draft (is_marked earlier.now) at (view value.now) }
 {
-    let _ = kinds::object(value, at)?;
-    let id = kinds::value_of(value, Key::Id, at)?;
+    let _ = json_values::object(value, at)?;
+    let id = json_values::value_of(value, Key::Id, at)?;
     let patient = references::patient(inst, id, at.key(Key::Id))?;
     if earlier[patient.0 as usize] {
-        return Err(kinds::refusal(Fault::Duplicate, at.key(Key::Id)));
+        return Err(json_values::refusal(Fault::Duplicate, at.key(Key::Id)));
     }
-    let day = kinds::value_of(value, Key::AdmissionDay, at)?;
+    let day = json_values::value_of(value, Key::AdmissionDay, at)?;
     let day = admission_day(inst, day, at.key(Key::AdmissionDay))?;
     let stay = placement_on(inst, value, day, at)?;
     Ok(ListedStay { patient, stay })
@@ -120,7 +120,7 @@ pub fn stays(alloc: Global, inst: &Instance, object: &Value, at: Place) -> Resul
         (seen (λ rows. timetable_of inst.now.draft rows [])
         (under at (view object.now) Key.Patients (patients inst.now.draft))) }
 {
-    let value = kinds::value_of(object, Key::Patients, at)?;
+    let value = json_values::value_of(object, Key::Patients, at)?;
     let at = at.key(Key::Patients);
     each_stay(alloc, inst, lists::items(value, at)?, at)
 }

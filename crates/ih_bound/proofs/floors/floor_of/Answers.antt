@@ -3,4 +3,4 @@ use Rattle.ih_bound.proofs.FloorLemmas.{floor-free}
 use Rattle.ih_bound.proofs.floors.floor_of.Goals as goal
 
 pub returns : goal.returns
-returns c = floor-free c.args.inst.now.draft c.args.rates.now c.args.free.now c.args.p.0 c.args.a c.patient_care.result c.requires.free c.patient_care.ensures
+returns c = floor-free c.args.inst.now.draft c.args.rates.now c.args.free.now c.args.patient.0 c.args.day c.patient_care.result c.requires.free c.patient_care.ensures

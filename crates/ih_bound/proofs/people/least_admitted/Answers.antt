@@ -6,7 +6,7 @@ use Rattle.ih_bound.proofs.people.least_admitted.Goals as goal
 pub loop-a-init : goal.loop-a-init
 loop-a-init c = record {
   no_more = omega (arith, c.lower_first-least.ensures.no_more);
-  admitted = λ P at feasible is early. absurd (omega (arith, early, from-release c.args.inst.now.draft P feasible c.args.p.0 c.patient.result.now at c.requires.patient c.patient.ensures is));
+  admitted = λ P at feasible is early. absurd (omega (arith, early, from-release c.args.inst.now.draft P feasible c.args.patient.0 c.patient.result.now at c.requires.patient c.patient.ensures is));
   tried = c.lower_first-least.ensures.day;
 }
 

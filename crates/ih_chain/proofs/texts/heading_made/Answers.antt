@@ -15,4 +15,4 @@ returns c =
       c.in_ok-push_str.ensures.bytes,
       c.in_ok-made.ensures.bytes,
     )
-    (sym (heading-pieces c.args.o.now c.args.length))
+    (sym (heading-pieces c.args.options.now c.args.length))

@@ -8,5 +8,5 @@ abbrev pub invariant-loop-k : goal.invariant-loop-k
 invariant-loop-k l = record {
   stands : AreLedgers l.inst.draft l.ledgers;
   stays : (timetable_of l.ledgers).stays ≡ (timetable_of l.fn.ledgers).stays;
-  copied : take (shift_count l.inst.draft * l.r.0 + l.k) (timetable_of l.ledgers).cares ≡ take (shift_count l.inst.draft * l.r.0 + l.k) l.plan.cares;
+  copied : take (shift_count l.inst.draft * l.room.0 + l.k) (timetable_of l.ledgers).cares ≡ take (shift_count l.inst.draft * l.room.0 + l.k) l.plan.cares;
 }

@@ -16,34 +16,34 @@ pub add-requires : goal.add-requires
 add-requires t c =
     let I = c.args.inst.now.draft in
     let P = timetable_of c.args.ledgers.now in
-    let Q = put c.args.w.now P in
+    let Q = put c.args.write.now P in
     let ws = c.in-Some.next.now ∷ c.in-Some.later.now in
     let R = put_all ws Q in
     let valid = c.args.inst.now.valid in
     let plan = plan-fits I P c.args.ledgers.now c.requires.stands in
     let made = kept I Q c.put_for_now-undo.new.ledgers c.put_for_now-undo.ensures.stands in
     let further = c.change_in_turn-further.ensures.change ∙ ap (λ T. change_of_bill I T (put_all ws T)) made in
-    let writes : AreWritesOf I (c.args.w.now ∷ ws) = (c.requires.write, subst (AreWritesOf I) c.in-Some.ensures.cases.0 c.requires.writes) in
+    let writes : AreWritesOf I (c.args.write.now ∷ ws) = (c.requires.write, subst (AreWritesOf I) c.in-Some.ensures.cases.0 c.requires.writes) in
     rw (c.price_of_write-here.ensures.price, further, change-then I P Q R)
-    (within-more (10 ^ 11) (10 ^ 12) (change_of_bill I P R) (omega arith) (change-within I P R valid plan (put_all-plan I P (c.args.w.now ∷ ws) plan writes)))
+    (within-more (10 ^ 11) (10 ^ 12) (change_of_bill I P R) (omega arith) (change-within I P R valid plan (put_all-plan I P (c.args.write.now ∷ ws) plan writes)))
 
 pub returns-in-None-clause-change : goal.returns-in-None-clause-change
 returns-in-None-clause-change t c =
     let I = c.args.inst.now.draft in
     let P = timetable_of c.args.ledgers.now in
-    let w = c.args.w.now in
+    let w = c.args.write.now in
     let none : c.args.rest.now ≡ [] = nil_from_length c.args.rest.now c.in-None.ensures.cases in
     c.price_of_write-here.ensures.price ∙ ap (λ ws. change_of_bill I P (put_all (w ∷ ws) P)) (sym none)
 
 pub returns-in-Some-clause-stands : goal.returns-in-Some-clause-stands
 returns-in-Some-clause-stands t c =
-    taken-back c.args.w.now c.put_for_now-undo.ensures.stands c.change_in_turn-further.ensures.stands c.put_for_now-undo.ensures.undo c.put.ensures
+    taken-back c.args.write.now c.put_for_now-undo.ensures.stands c.change_in_turn-further.ensures.stands c.put_for_now-undo.ensures.undo c.put.ensures
 
 pub returns-in-Some-clause-change : goal.returns-in-Some-clause-change
 returns-in-Some-clause-change t c =
     let I = c.args.inst.now.draft in
     let P = timetable_of c.args.ledgers.now in
-    let w = c.args.w.now in
+    let w = c.args.write.now in
     let ws = c.in-Some.next.now ∷ c.in-Some.later.now in
     let made = kept I (put w P) c.put_for_now-undo.new.ledgers c.put_for_now-undo.ensures.stands in
     let further = c.change_in_turn-further.ensures.change ∙ ap (λ T. change_of_bill I T (put_all ws T)) made in

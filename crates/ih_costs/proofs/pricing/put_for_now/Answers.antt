@@ -7,4 +7,4 @@ pub returns-clause-fits : goal.returns-clause-fits
 returns-clause-fits c =
     let I = c.args.inst.now.draft in
     let P = timetable_of c.args.ledgers.now in
-    rw (c.undo_of-undo.ensures, c.plan.ensures) (undo-write I P c.args.w.now (plan-fits I P c.args.ledgers.now c.requires.stands) c.requires.write)
+    rw (c.undo_of-undo.ensures, c.plan.ensures) (undo-write I P c.args.write.now (plan-fits I P c.args.ledgers.now c.requires.stands) c.requires.write)

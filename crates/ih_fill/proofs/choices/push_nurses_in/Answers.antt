@@ -11,7 +11,7 @@ pub loop-r-preserved : goal.loop-r-preserved
 loop-r-preserved c =
     let I = c.args.inst.now.draft in
     let r = c.loop-r.r in
-    let f : ℕ → Choice = λ r. Nurse (record { 0 = r }) c.args.k in
+    let f : ℕ → Choice = λ r. Nurse (record { 0 = r }) c.args.shift in
     let before = c.loop-r.invariant in
     let below = c.loop-r-test.true in
     let count = c.rooms-r-end.ensures in

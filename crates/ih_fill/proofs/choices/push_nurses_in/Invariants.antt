@@ -5,6 +5,6 @@ use Rattle.ih_fill.proofs.choices.push_nurses_in.Given as goal
 
 abbrev pub invariant-loop-r : goal.invariant-loop-r
 invariant-loop-r l = record {
-  more : l.choices.items ≡ l.fn.choices.items ++ nurses_in l.k.0 l.r;
+  more : l.choices.items ≡ l.fn.choices.items ++ nurses_in l.shift.0 l.r;
   inside : All (IsChoiceOf l.inst.draft) l.choices.items;
 }

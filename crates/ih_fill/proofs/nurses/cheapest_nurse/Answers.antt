@@ -23,15 +23,15 @@ loop-n-preserved c =
     let F = c.args.scorer.now in
     let n = c.loop-n.n in
     let nurse : NurseNo = record { 0 = n } in
-    let f : NurseNo → Write = λ m. SetCare c.args.r c.args.k (Some m) in
-    let works : NurseNo → Bool = is_working I c.args.k.0 in
+    let f : NurseNo → Write = λ m. SetCare c.args.room c.args.shift (Some m) in
+    let works : NurseNo → Bool = is_working I c.args.shift.0 in
     let before = map f (filter works (first_nurses n)) in
     let least = c.loop-n.invariant.least in
     let answered : works nurse ≡ c.is_some.result = ap is_some (sym c.works.ensures) ∙ sym c.is_some.ensures in
     let below = c.loop-n-test.true in
     let count = c.nurses-n-end.ensures in
     let inside : n < nurse_count I = omega (arith, below, count) in
-    let fits : IsWriteOf I (f nurse) = care-fits I c.args.r c.args.k nurse c.requires.room c.requires.shift inside in
+    let fits : IsWriteOf I (f nurse) = care-fits I c.args.room c.args.shift nurse c.requires.room c.requires.shift inside in
     elim c.if-is_some.branch [
       | then-is_some+in-None w ↦
           let more : map f (filter works (first_nurses (n + 1))) ≡ before ++ f nurse ∷ [] = nurse-more f n works (answered ∙ w.if-is_some.true) in

@@ -9,6 +9,6 @@ use Rattle.ih_fill.proofs.nurses.cheapest_nurse.Given as goal
 
 abbrev pub invariant-loop-n : goal.invariant-loop-n
 invariant-loop-n l = record {
-  least : l.best ≡ least_of (care_value l.scorer) (map (λ n. SetCare l.r l.k (Some n)) (filter (is_working l.inst.draft l.k.0) (first_nurses l.n)));
+  least : l.best ≡ least_of (care_value l.scorer) (map (λ n. SetCare l.room l.shift (Some n)) (filter (is_working l.inst.draft l.shift.0) (first_nurses l.n)));
   fits : IfSome l.best (λ best. IsWriteOf l.inst.draft best.write);
 }

@@ -19,7 +19,7 @@ stay-requires-clause-placed c =
     let below = c.loop-r-test.true in
     let count = c.rooms-r-end.ensures in
     let inside : c.loop-r.r < room_count c.args.inst.now.draft = omega (arith, below, count) in
-    rw c.requires.instance (record { day = c.requires.day; room = inside; theatre = theatre-inside c.args.scorer.now c.args.p c.args.day.0 c.loop-r.r _ _ (c.in-Some.ensures.least c.loop-r.r) })
+    rw c.requires.instance (record { day = c.requires.day; room = inside; theatre = theatre-inside c.args.scorer.now c.args.patient_no c.args.day.0 c.loop-r.r _ _ (c.in-Some.ensures.least c.loop-r.r) })
 
 pub loop-r-preserved : goal.loop-r-preserved
 loop-r-preserved c =
@@ -27,12 +27,12 @@ loop-r-preserved c =
     let F = c.args.scorer.now in
     let a = c.args.patient.now in
     let r = c.loop-r.r in
-    let f : ℕ → List Write = λ r. stays_in c.args.p c.args.day.0 r (theatre_count I) in
+    let f : ℕ → List Write = λ r. stays_in c.args.patient_no c.args.day.0 r (theatre_count I) in
     let before = c.args.before.write in
     elim c.if-suits.branch [
       | then-suits w ↦
           let yes : suits a r ≡ true = sym c.suits.ensures ∙ w.if-suits.true in
-          let at : ℕ → Write = λ t. SetStay c.args.p (Some (record { day = c.args.day; room = record { 0 = r }; theatre = record { 0 = t } })) in
+          let at : ℕ → Write = λ t. SetStay c.args.patient_no (Some (record { day = c.args.day; room = record { 0 = r }; theatre = record { 0 = t } })) in
           let t = c.in-Some.theatre.0 in
           let second : w.stay.result ≡ valued (stay_value F) (at t) = w.stay.ensures in
           let one : w.cheaper-best.result ≡ valued (stay_value F) (cheapest (stay_value F) c.loop-r.best.write (at t ∷ [])) =
@@ -43,8 +43,8 @@ loop-r-preserved c =
           let below = c.loop-r-test.true in
           let count = c.rooms-r-end.ensures in
           let inside : r < room_count I = omega (arith, below, count) in
-          let theatre = theatre-inside F c.args.p c.args.day.0 r _ _ (c.in-Some.ensures.least r) in
-          let fits : IsWriteOf I (at t) = stay-fits I c.args.p _ c.requires.patient (record { day = c.requires.day; room = inside; theatre = theatre }) in
+          let theatre = theatre-inside F c.args.patient_no c.args.day.0 r _ _ (c.in-Some.ensures.least r) in
+          let fits : IsWriteOf I (at t) = stay-fits I c.args.patient_no _ c.requires.patient (record { day = c.requires.day; room = inside; theatre = theatre }) in
           record {
             least = w.best-is ∙ (then-least (stay_value F) before (flat_map f (rooms_for a r)) (f r) c.loop-r.best w.cheaper-best.result c.loop-r.invariant.least found
                 ∙ ap (λ ws. valued (stay_value F) (cheapest (stay_value F) before ws)) (sym (on-more f a r yes)));
@@ -64,4 +64,4 @@ returns-in_default-clause-least c =
     let I = c.args.inst.now.draft in
     let none = c.in_default.ensures.none in
     c.requires.before
-    ∙ ap (λ ws. valued (stay_value c.args.scorer.now) (cheapest (stay_value c.args.scorer.now) c.args.before.write ws)) (sym (no-stays I c.args.p c.args.patient.now c.args.day.0 (room_count I) none))
+    ∙ ap (λ ws. valued (stay_value c.args.scorer.now) (cheapest (stay_value c.args.scorer.now) c.args.before.write ws)) (sym (no-stays I c.args.patient_no c.args.patient.now c.args.day.0 (room_count I) none))

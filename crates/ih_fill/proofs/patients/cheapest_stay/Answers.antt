@@ -16,7 +16,7 @@ loop-later-preserved c =
     let a = c.args.patient.now in
     let n = c.loop-later.later in
     let from = a.surgery_release_day in
-    let f : ℕ → List Write = λ d. stays_on c.args.inst.now.draft c.args.p a d (room_count c.args.inst.now.draft) in
+    let f : ℕ → List Write = λ d. stays_on c.args.inst.now.draft c.args.patient_no a d (room_count c.args.inst.now.draft) in
     let before = c.args.before.write in
     record {
       least = then-least (stay_value F) before (flat_map f (range_with_len from n))
@@ -34,7 +34,7 @@ returns-clause-least c =
     let end = c.loop-later.auto.later-end in
     let count = c.window_len-later-end.ensures.value in
     let all : c.loop-later.later ≡ window_len I a = omega (arith, last, end, count) in
-    let f : ℕ → List Write = λ d. stays_on I c.args.p a d (room_count I) in
+    let f : ℕ → List Write = λ d. stays_on I c.args.patient_no a d (room_count I) in
     c.loop-later.invariant.least
     ∙ ap (λ ws. valued (stay_value F) (cheapest (stay_value F) c.args.before.write ws))
-    (ap (λ n. flat_map f (range_with_len a.surgery_release_day n)) all ∙ stays-are I c.args.p a c.requires.patient)
+    (ap (λ n. flat_map f (range_with_len a.surgery_release_day n)) all ∙ stays-are I c.args.patient_no a c.requires.patient)

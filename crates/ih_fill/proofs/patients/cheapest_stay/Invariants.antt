@@ -10,6 +10,6 @@ use Rattle.ih_fill.proofs.patients.cheapest_stay.Given as goal
 abbrev pub invariant-loop-later : goal.invariant-loop-later
 invariant-loop-later l = record {
   least : l.best ≡ valued (stay_value l.scorer) (cheapest (stay_value l.scorer) l.fn.before.write
-      (flat_map (λ d. stays_on l.inst.draft l.p l.patient d (room_count l.inst.draft)) (range_with_len l.patient.surgery_release_day l.later)));
+      (flat_map (λ d. stays_on l.inst.draft l.patient_no l.patient d (room_count l.inst.draft)) (range_with_len l.patient.surgery_release_day l.later)));
   fits : IsWriteOf l.inst.draft l.best.write;
 }

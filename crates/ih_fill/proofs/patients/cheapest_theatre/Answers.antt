@@ -16,17 +16,17 @@ loop-t-preserved c =
     elim c.if-value-least.branch [
       | then-value-least w ↦
           let test = w.if-value-least.true in
-          let less : theatre_value F c.args.p c.args.day.0 0 c.loop-t.t <ℤ theatre_value F c.args.p c.args.day.0 0 c.loop-t.best = omega (arith, ints) in
+          let less : theatre_value F c.args.patient c.args.day.0 0 c.loop-t.t <ℤ theatre_value F c.args.patient c.args.day.0 0 c.loop-t.best = omega (arith, ints) in
           rw w.best-is (record {
             least = omega (arith, ints, w.least-is, value);
-            first = theatre-falls F c.args.p c.args.day.0 0 c.loop-t.t c.loop-t.best less c.loop-t.invariant.first;
+            first = theatre-falls F c.args.patient c.args.day.0 0 c.loop-t.t c.loop-t.best less c.loop-t.invariant.first;
           })
       | else-value-least w ↦
           let test = w.if-value-least.false in
-          let most : theatre_value F c.args.p c.args.day.0 0 c.loop-t.best ≤ℤ theatre_value F c.args.p c.args.day.0 0 c.loop-t.t = omega (arith, ints) in
+          let most : theatre_value F c.args.patient c.args.day.0 0 c.loop-t.best ≤ℤ theatre_value F c.args.patient c.args.day.0 0 c.loop-t.t = omega (arith, ints) in
           rw w.best-is (record {
             least = w.least-is ∙ least;
-            first = theatre-stays F c.args.p c.args.day.0 0 c.loop-t.t c.loop-t.best most c.loop-t.invariant.first;
+            first = theatre-stays F c.args.patient c.args.day.0 0 c.loop-t.t c.loop-t.best most c.loop-t.invariant.first;
           })
     ]
 
@@ -38,6 +38,6 @@ returns-clause-least c =
     let count = c.theatres-t-end.ensures in
     let some = c.if-theatres-eq0.false in
     let all : c.loop-t.t ≡ theatre_count c.args.inst.now.draft = omega (arith, last, end, count, some) in
-    let patient = subst (λ (I : Draft). c.args.p.0 < patient_count I) (sym c.requires.instance) c.requires.patient in
-    every-room F c.args.p c.fits.ensures patient c.args.day.0 0 (theatre_count c.args.inst.now.draft) c.loop-t.best
-    (subst (λ n. IsFirstTheatre F c.args.p c.args.day.0 0 n c.loop-t.best) all c.loop-t.invariant.first)
+    let patient = subst (λ (I : Draft). c.args.patient.0 < patient_count I) (sym c.requires.instance) c.requires.patient in
+    every-room F c.args.patient c.fits.ensures patient c.args.day.0 0 (theatre_count c.args.inst.now.draft) c.loop-t.best
+    (subst (λ n. IsFirstTheatre F c.args.patient c.args.day.0 0 n c.loop-t.best) all c.loop-t.invariant.first)

@@ -4,6 +4,6 @@ use Rattle.ih_fill.proofs.patients.cheapest_theatre.Given as goal
 
 abbrev pub invariant-loop-t : goal.invariant-loop-t
 invariant-loop-t l = record {
-  least : l.least ≡ theatre_value l.scorer l.p l.day.0 0 l.best;
-  first : IsFirstTheatre l.scorer l.p l.day.0 0 l.t l.best;
+  least : l.least ≡ theatre_value l.scorer l.patient l.day.0 0 l.best;
+  first : IsFirstTheatre l.scorer l.patient l.day.0 0 l.t l.best;
 }

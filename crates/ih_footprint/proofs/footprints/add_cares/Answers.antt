@@ -8,11 +8,11 @@ loop-i-init g c = gathers-none cares-none
 
 pub add_cell-requires : goal.add_cell-requires
 add_cell-requires g c =
-    member-in c.args.inst.now.draft c.args.plan.now c.requires.members c.args.r.0 c.args.d.0 c.requires.room c.requires.day c.loop-i.i c.member.result.0 c.loop-i.out.sizes
+    member-in c.args.inst.now.draft c.args.plan.now c.requires.members c.args.room.0 c.args.day.0 c.requires.room c.requires.day c.loop-i.i c.member.result.0 c.loop-i.out.sizes
     (c.loop-i.invariant.sizes ∙ c.requires.sizes) (omega (arith, c.loop-i-test.true, c.count-i-end.ensures)) c.member.ensures
 
 pub loop-i-preserved : goal.loop-i-preserved
 loop-i-preserved g c =
-    gathers-like (λ e range. cares-next (g.M.Members.persons c.args.members.now c.args.r.0 c.args.d.0) c.loop-i.i c.member.result
+    gathers-like (λ e range. cares-next (g.M.Members.persons c.args.members.now c.args.room.0 c.args.day.0) c.loop-i.i c.member.result
     (omega (arith, c.loop-i-test.true, c.count-i-end.ensures)) c.member.ensures e)
     (gathers-both c.loop-i.invariant c.add_cell.ensures)

@@ -5,4 +5,4 @@ use Rattle.ih_footprint.proofs.footprints.add_cares.Given as goal
 
 -- the persons so far are gathered
 abbrev pub invariant-loop-i : goal.invariant-loop-i
-invariant-loop-i g l = let persons = g.M.Members.persons in Gathers l.fn.out l.out (in_cares (take l.i (persons l.members l.r.0 l.d.0)))
+invariant-loop-i g l = let persons = g.M.Members.persons in Gathers l.fn.out l.out (in_cares (take l.i (persons l.members l.room.0 l.day.0)))

@@ -3,7 +3,7 @@ use Rattle.ih_footprint.proofs.FootLemmas.{nurse-none, nurse-some}
 use Rattle.ih_footprint.proofs.footprints.add_nurse.Goals as goal
 
 pub returns-in-Some : goal.returns-in-Some
-returns-in-Some c = gathers-like (λ e range. nurse-some c.in-Some.m c.args.k c.args.n c.in-Some.is e) c.add_cell.ensures
+returns-in-Some c = gathers-like (λ e range. nurse-some c.in-Some.m c.args.shift c.args.nurse c.in-Some.is e) c.add_cell.ensures
 
 pub returns-in-None : goal.returns-in-None
-returns-in-None c = gathers-none (nurse-none c.args.k c.args.n c.in-None.is)
+returns-in-None c = gathers-none (nurse-none c.args.shift c.args.nurse c.in-None.is)

@@ -4,13 +4,13 @@ use Rattle.ih_footprint.proofs.LookLemmas.{swap_rooms-pieces, swap_rooms-none, s
 use Rattle.ih_footprint.proofs.footprints.add_stays.Goals as goal
 
 pub add_cell-requires : goal.add_cell-requires
-add_cell-requires c = c.requires (Stay c.args.p) (swap_rooms-first c.args.p c.args.q c.if-p-q.true)
+add_cell-requires c = c.requires (Stay c.args.patient) (swap_rooms-first c.args.patient c.args.other c.if-patient-other.true)
 
-pub add_cell-requires-then-p-q : goal.add_cell-requires-then-p-q
-add_cell-requires-then-p-q c = rw c.add_cell.ensures.sizes (c.requires (Stay c.args.q) (swap_rooms-second c.args.p c.args.q c.if-p-q.true))
+pub add_cell-requires-then-patient-other : goal.add_cell-requires-then-patient-other
+add_cell-requires-then-patient-other c = rw c.add_cell.ensures.sizes (c.requires (Stay c.args.other) (swap_rooms-second c.args.patient c.args.other c.if-patient-other.true))
 
-pub returns-then-p-q : goal.returns-then-p-q
-returns-then-p-q c = gathers-like (λ e range. swap_rooms-pieces c.args.p c.args.q c.if-p-q.true e) (gathers-both c.add_cell.ensures c.add_cell-then-p-q.ensures)
+pub returns-then-patient-other : goal.returns-then-patient-other
+returns-then-patient-other c = gathers-like (λ e range. swap_rooms-pieces c.args.patient c.args.other c.if-patient-other.true e) (gathers-both c.add_cell.ensures c.add_cell-then-patient-other.ensures)
 
-pub returns-else-p-q : goal.returns-else-p-q
-returns-else-p-q c = gathers-none (swap_rooms-none c.args.p c.args.q c.if-p-q.false)
+pub returns-else-patient-other : goal.returns-else-patient-other
+returns-else-patient-other c = gathers-none (swap_rooms-none c.args.patient c.args.other c.if-patient-other.false)

@@ -38,7 +38,7 @@ returns-clause-cells g c =
     rw (whole-slice c.out.inside.room.len write.new.room c.out.inside.room.items c.out.inside.room.ok.0 (same-len g c), ← c.out.view_is)
     (gathers-relisted (record { sizes = c.out.inside.set.sizes; cells = take c.out.inside.len c.out.inside.room.items }) c.add_all.new.self c.gather.new.out
     (record { sizes = write.new.self.sizes; cells = take write.result write.new.room }) c.add_all.ensures.sizes (own g c) write.ensures.sizes write.ensures.room
-    (write_touches c.args.inst.now.draft c.args.plan.now c.args.w.now) c.gather.ensures)
+    (write_touches c.args.inst.now.draft c.args.plan.now c.args.write.now) c.gather.ensures)
 
 pub returns-clause-rising : goal.returns-clause-rising
 returns-clause-rising g c =

@@ -7,6 +7,6 @@ use Rattle.ih_gen.proofs.nurses.worked_values.Given as goal
 
 abbrev pub invariant-loop-day : goal.invariant-loop-day
 invariant-loop-day l = record {
-  values : map view l.values.items ≡ map (worked_data l.n l.fn.picks) (which_below l.day (works l.n));
-  rest : l.picks ≡ state_after (count_below l.day (works l.n)) l.fn.picks;
+  values : map view l.values.items ≡ map (worked_data l.number l.fn.picks) (which_below l.day (works l.number));
+  rest : l.picks ≡ state_after (count_below l.day (works l.number)) l.fn.picks;
 }

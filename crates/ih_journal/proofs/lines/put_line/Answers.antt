@@ -19,4 +19,4 @@ returns-clause-text c =
       c.put_number-end.ensures.text,
       c.from.ensures,
     )
-    (sym (line-pieces c.args.options.now c.args.place c.args.e.now))
+    (sym (line-pieces c.args.options.now c.args.place c.args.entry.now))

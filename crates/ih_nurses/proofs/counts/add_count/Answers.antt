@@ -8,5 +8,5 @@ pub returns-in-Some-clause-each : goal.returns-in-Some-clause-each
 returns-in-Some-clause-each c =
     let nurse = subst (λ n. IfSome n (λ a. a.0 < nurse_count c.args.inst.now.draft)) c.in-Some.is c.requires.nurse in
     rw (c.in-Some.is)
-    (count-added c.args.inst.now.draft c.args.counts.now c.args.x c.in-Some.a c.place.result c.requires.table c.requires.person nurse
+    (count-added c.args.inst.now.draft c.args.counts.now c.args.person c.in-Some.a c.place.result c.requires.table c.requires.person nurse
     c.place.ensures.value (slice_index_or c.args.counts.now c.place.result 0 + 1) refl)

@@ -3,7 +3,7 @@ use Rattle.ih_nurses.proofs.CountLemmas.{counted-none, counted-fits, counted-mor
 use Rattle.ih_nurses.proofs.counts.add_shift_span.Goals as goal
 
 pub loop-j-init : goal.loop-j-init
-loop-j-init c = counted-none c.args.inst.now.draft c.args.plan.now c.args.x c.args.s c.args.counts.now
+loop-j-init c = counted-none c.args.inst.now.draft c.args.plan.now c.args.person c.args.span c.args.counts.now
 
 pub add_count-requires-clause-fits : goal.add_count-requires-clause-fits
 add_count-requires-clause-fits c = λ m mh.

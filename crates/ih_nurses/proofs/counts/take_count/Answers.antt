@@ -10,9 +10,9 @@ returns-in-Some-clause-each c =
     let I = c.args.inst.now.draft in
     let counts = c.args.counts.now in
     let nurse = subst (λ n. IfSome n (λ a. a.0 < nurse_count I)) c.in-Some.is c.requires.nurse in
-    let enough = subst (λ n. one_of c.args.x n c.args.x c.in-Some.a.0 ≤ count_at I counts c.args.x c.in-Some.a.0) c.in-Some.is (c.requires.enough c.in-Some.a.0 nurse) in
-    let whole = one-here I counts c.args.x c.in-Some.a c.place.result c.requires.table c.requires.person nurse c.place.ensures.value in
-    let there = read-count I counts c.args.x c.in-Some.a c.place.result c.requires.table c.requires.person nurse c.place.ensures.value in
+    let enough = subst (λ n. one_of c.args.person n c.args.person c.in-Some.a.0 ≤ count_at I counts c.args.person c.in-Some.a.0) c.in-Some.is (c.requires.enough c.in-Some.a.0 nurse) in
+    let whole = one-here I counts c.args.person c.in-Some.a c.place.result c.requires.table c.requires.person nurse c.place.ensures.value in
+    let there = read-count I counts c.args.person c.in-Some.a c.place.result c.requires.table c.requires.person nurse c.place.ensures.value in
     rw (c.in-Some.is)
-    (count-taken I counts c.args.x c.in-Some.a c.place.result c.requires.table c.requires.person nurse
+    (count-taken I counts c.args.person c.in-Some.a c.place.result c.requires.table c.requires.person nurse
     c.place.ensures.value (slice_index_or counts c.place.result 0 - 1) (omega (arith, enough, whole, there)))

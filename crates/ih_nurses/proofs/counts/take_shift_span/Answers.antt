@@ -3,7 +3,7 @@ use Rattle.ih_nurses.proofs.CountLemmas.{uncounted-none, uncounted-enough, uncou
 use Rattle.ih_nurses.proofs.counts.take_shift_span.Goals as goal
 
 pub loop-j-init : goal.loop-j-init
-loop-j-init c = uncounted-none c.args.inst.now.draft c.args.plan.now c.args.x c.args.s c.args.counts.now
+loop-j-init c = uncounted-none c.args.inst.now.draft c.args.plan.now c.args.person c.args.span c.args.counts.now
 
 pub take_count-requires-clause-enough : goal.take_count-requires-clause-enough
 take_count-requires-clause-enough c =

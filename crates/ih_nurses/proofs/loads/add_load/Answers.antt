@@ -10,5 +10,5 @@ returns-in-Some-clause-each c =
     let nurse = subst (λ n. IfSome n (λ a. a.0 < nurse_count c.args.inst.now.draft)) c.in-Some.is c.requires.nurse in
     let old : NurseLoad = slice_index_or c.args.loads.now c.place.result (record { work = 0; most = 0 }) in
     rw (c.in-Some.is)
-    (added c.args.inst.now.draft c.args.loads.now c.in-Some.a c.args.k.0 c.place.result old c.requires.table nurse c.requires.shift
+    (added c.args.inst.now.draft c.args.loads.now c.in-Some.a c.args.shift.0 c.place.result old c.requires.table nurse c.requires.shift
     c.place.ensures.value refl c.args.load (record { work = old.work + c.args.load; most = old.most }) refl)

@@ -3,7 +3,7 @@ use Rattle.ih_nurses.proofs.loads.move_load.Goals as goal
 
 pub add_load-requires-clause-fits : goal.add_load-requires-clause-fits
 add_load-requires-clause-fits c = λ m mh.
-    let taken = c.take_load.ensures.each m c.args.k.0 mh c.requires.shift in
+    let taken = c.take_load.ensures.each m c.args.shift.0 mh c.requires.shift in
     let small = c.requires.small m mh in
     omega (arith, taken, small, c.requires.load)
 

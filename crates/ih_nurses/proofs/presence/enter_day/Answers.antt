@@ -6,14 +6,14 @@ use Rattle.ih_nurses.proofs.presence.enter_day.Goals as goal
 pub push_back-requires-clause-free : goal.push_back-requires-clause-free
 push_back-requires-clause-free c =
     let days = c.requires.sized.days in
-    free-lists c.args.here.now c.args.d c.index-here-d.result (slice_index_or c.args.here.now c.args.d c.index-here-d.result) c.index-here-d.result (omega arith) refl
-    c.args.inst.now.draft c.args.x c.requires.sized c.requires.day c.requires.free
+    free-lists c.args.here.now c.args.day c.index-here-day.result (slice_index_or c.args.here.now c.args.day c.index-here-day.result) c.index-here-day.result (omega arith) refl
+    c.args.inst.now.draft c.args.person c.requires.sized c.requires.day c.requires.free
 
 pub returns-clause-each : goal.returns-clause-each
 returns-clause-each c =
     let days = c.requires.sized.days in
-    let old : LinksState = slice_index_or c.args.here.now c.args.d c.index-here-d.result in
-    let inside : c.args.d < length c.args.here.now = omega arith in
-    let rooms = c.requires.sized.rooms c.args.d c.requires.day in
-    let room : c.args.r.0 < length old.lists = rw (← read-here c.args.here.now c.args.d c.index-here-d.result old old inside refl, rooms) c.requires.room in
-    entered c.args.here.now c.args.d c.index-here-d.result old c.push_back.new.self inside refl c.args.r.0 c.args.x room c.push_back.ensures.lists
+    let old : LinksState = slice_index_or c.args.here.now c.args.day c.index-here-day.result in
+    let inside : c.args.day < length c.args.here.now = omega arith in
+    let rooms = c.requires.sized.rooms c.args.day c.requires.day in
+    let room : c.args.room.0 < length old.lists = rw (← read-here c.args.here.now c.args.day c.index-here-day.result old old inside refl, rooms) c.requires.room in
+    entered c.args.here.now c.args.day c.index-here-day.result old c.push_back.new.self inside refl c.args.room.0 c.args.person room c.push_back.ensures.lists

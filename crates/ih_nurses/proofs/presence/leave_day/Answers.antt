@@ -5,4 +5,4 @@ use Rattle.ih_nurses.proofs.presence.leave_day.Goals as goal
 pub returns-clause-each : goal.returns-clause-each
 returns-clause-each c =
     let days = c.requires.sized.days in
-    left c.args.here.now c.args.d c.index-here-d.result (slice_index_or c.args.here.now c.args.d c.index-here-d.result) c.remove.new.self (omega arith) refl c.args.x c.remove.ensures.lists
+    left c.args.here.now c.args.day c.index-here-day.result (slice_index_or c.args.here.now c.args.day c.index-here-day.result) c.remove.new.self (omega arith) refl c.args.person c.remove.ensures.lists

@@ -11,8 +11,8 @@ use Rattle.ih_plan.proofs.BillBounds.{few-persons}
 
 pub loop-at-init : goal.loop-at-init
 loop-at-init c =
-    room-begins c.args.inst.now.draft c.args.plan.now c.args.counts.now c.args.k.0 c.args.new c.args.old (list_of c.args.persons.now c.args.r.0) c.first-at.result
-    (subst (λ n. AreNodes n (list_of c.args.persons.now c.args.r.0)) c.requires.persons c.first-at.ensures.nodes) c.first-at.ensures.first
+    room-begins c.args.inst.now.draft c.args.plan.now c.args.counts.now c.args.shift.0 c.args.new c.args.old (list_of c.args.persons.now c.args.room.0) c.first-at.result
+    (subst (λ n. AreNodes n (list_of c.args.persons.now c.args.room.0)) c.requires.persons c.first-at.ensures.nodes) c.first-at.ensures.first
 
 pub care_need_of-asked-requires-clause-person : goal.care_need_of-asked-requires-clause-person
 care_need_of-asked-requires-clause-person c = walk-below c.loop-at.invariant.work_is.walk c.in-Some.is
@@ -55,11 +55,11 @@ next-at-requires c = let below = walk-below c.loop-at.invariant.work_is.walk c.i
 pub loop-at-smaller : goal.loop-at-smaller
 loop-at-smaller c =
     let walk = c.loop-at.invariant.work_is in
-    walk-shrinks walk.walk c.in-Some.is (c.next-at.ensures.linked c.args.r.0 (walk-inside walk.walk c.in-Some.is))
+    walk-shrinks walk.walk c.in-Some.is (c.next-at.ensures.linked c.args.room.0 (walk-inside walk.walk c.in-Some.is))
 
 pub loop-at-preserved : goal.loop-at-preserved
 loop-at-preserved c =
-    let step = c.next-at.ensures.linked c.args.r.0 (walk-inside c.loop-at.invariant.work_is.walk c.in-Some.is) in
+    let step = c.next-at.ensures.linked c.args.room.0 (walk-inside c.loop-at.invariant.work_is.walk c.in-Some.is) in
     let missing = λ (n : Option NurseNo). ap (λ s. skill_missing c.args.inst.now.draft (option_map (λ (a : NurseNo). a.0) n) (s ∷ [])) c.care_need_of-asked.ensures.skill in
     record {
       work_is = sum-goes_on c.loop-at.invariant.work_is c.in-Some.is step c.care_need_of-asked.result.workload c.care_need_of-asked.ensures.workload c.care_need_of-asked.ensures.workload_bound;
@@ -79,12 +79,12 @@ returns-clause-work c = sum-ends c.loop-at.invariant.work_is c.in_default.is
 pub returns-clause-new_missing : goal.returns-clause-new_missing
 returns-clause-new_missing c =
     sum-ends c.loop-at.invariant.new_is c.in_default.is
-    ∙ lack-all c.args.inst.now.draft c.args.plan.now c.args.k.0 c.args.new (list_of c.args.persons.now c.args.r.0)
+    ∙ lack-all c.args.inst.now.draft c.args.plan.now c.args.shift.0 c.args.new (list_of c.args.persons.now c.args.room.0)
 
 pub returns-clause-old_missing : goal.returns-clause-old_missing
 returns-clause-old_missing c =
     sum-ends c.loop-at.invariant.old_is c.in_default.is
-    ∙ lack-all c.args.inst.now.draft c.args.plan.now c.args.k.0 c.args.old (list_of c.args.persons.now c.args.r.0)
+    ∙ lack-all c.args.inst.now.draft c.args.plan.now c.args.shift.0 c.args.old (list_of c.args.persons.now c.args.room.0)
 
 pub returns-clause-come : goal.returns-clause-come
 returns-clause-come c = sum-ends c.loop-at.invariant.come_is c.in_default.is

@@ -5,5 +5,5 @@ use Rattle.ih_nurses.proofs.rooms.has_others.Goals as goal
 
 pub next-requires : goal.next-requires
 next-requires c = record {
-  node = c.first.ensures.nodes.below c.in-Some.y (subst (λ a. IsAt a (list_of c.args.persons.now c.args.r.0)) (sym c.in-Some.ensures.first) (starts (list_of c.args.persons.now c.args.r.0)));
+  node = c.first.ensures.nodes.below c.in-Some.y (subst (λ a. IsAt a (list_of c.args.persons.now c.args.room.0)) (sym c.in-Some.ensures.first) (starts (list_of c.args.persons.now c.args.room.0)));
 }

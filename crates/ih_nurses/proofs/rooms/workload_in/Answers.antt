@@ -9,8 +9,8 @@ use Rattle.ih_plan.proofs.BillBounds.{few-persons}
 
 pub loop-at-init : goal.loop-at-init
 loop-at-init c =
-    sum-begins (person_count c.args.inst.now.draft) 100000 (workload_of c.args.inst.now.draft c.args.plan.now c.args.k.0) (list_of c.args.persons.now c.args.r.0) c.first-at.result
-    (subst (λ n. AreNodes n (list_of c.args.persons.now c.args.r.0)) c.requires.persons c.first-at.ensures.nodes) c.first-at.ensures.first
+    sum-begins (person_count c.args.inst.now.draft) 100000 (workload_of c.args.inst.now.draft c.args.plan.now c.args.shift.0) (list_of c.args.persons.now c.args.room.0) c.first-at.result
+    (subst (λ n. AreNodes n (list_of c.args.persons.now c.args.room.0)) c.requires.persons c.first-at.ensures.nodes) c.first-at.ensures.first
 
 pub care_need_of-asked-requires-clause-person : goal.care_need_of-asked-requires-clause-person
 care_need_of-asked-requires-clause-person c = walk-below c.loop-at.invariant.walk c.in-Some.is
@@ -23,11 +23,11 @@ pub next-at-requires : goal.next-at-requires
 next-at-requires c = let below = walk-below c.loop-at.invariant.walk c.in-Some.is in record { node = rw c.requires.persons below }
 
 pub loop-at-smaller : goal.loop-at-smaller
-loop-at-smaller c = walk-shrinks c.loop-at.invariant.walk c.in-Some.is (c.next-at.ensures.linked c.args.r.0 (walk-inside c.loop-at.invariant.walk c.in-Some.is))
+loop-at-smaller c = walk-shrinks c.loop-at.invariant.walk c.in-Some.is (c.next-at.ensures.linked c.args.room.0 (walk-inside c.loop-at.invariant.walk c.in-Some.is))
 
 pub loop-at-preserved : goal.loop-at-preserved
 loop-at-preserved c =
-    sum-goes_on c.loop-at.invariant c.in-Some.is (c.next-at.ensures.linked c.args.r.0 (walk-inside c.loop-at.invariant.walk c.in-Some.is))
+    sum-goes_on c.loop-at.invariant c.in-Some.is (c.next-at.ensures.linked c.args.room.0 (walk-inside c.loop-at.invariant.walk c.in-Some.is))
     c.care_need_of-asked.result.workload c.care_need_of-asked.ensures.workload c.care_need_of-asked.ensures.workload_bound
 
 pub returns-clause-sum : goal.returns-clause-sum

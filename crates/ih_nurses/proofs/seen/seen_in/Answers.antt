@@ -4,7 +4,7 @@ use Rattle.ih_nurses.proofs.SeenLemmas.{seen-none, seen-more, seen-all}
 use Rattle.ih_nurses.proofs.seen.seen_in.Goals as goal
 
 pub loop-j-init : goal.loop-j-init
-loop-j-init c = seen-none c.args.inst.now.draft c.args.plan.now c.args.r.0 c.args.from
+loop-j-init c = seen-none c.args.inst.now.draft c.args.plan.now c.args.room.0 c.args.from
 
 pub loop-j-preserved : goal.loop-j-preserved
 loop-j-preserved c =

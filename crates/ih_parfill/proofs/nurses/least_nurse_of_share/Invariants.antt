@@ -8,8 +8,8 @@ use Rattle.ih_parfill.proofs.nurses.least_nurse_of_share.Given as goal
 
 abbrev pub invariant-loop-n : goal.invariant-loop-n
 invariant-loop-n l = record {
-  looked : HasLooked l.inst.draft (care_value l.scorer) (map (λ n. SetCare l.r l.k (Some n)) (filter (is_working l.inst.draft l.k.0) (first_nurses l.n))) l.walker;
-  passed : l.walker.passed ≤ l.n;
-  workers : l.walker.workers ≡ l.workers;
-  worker : l.walker.worker ≡ l.worker;
+  looked : HasLooked l.inst.draft (care_value l.scorer) (map (λ n. SetCare l.room l.shift (Some n)) (filter (is_working l.inst.draft l.shift.0) (first_nurses l.n))) l.scan;
+  passed : l.scan.passed ≤ l.n;
+  workers : l.scan.workers ≡ l.workers;
+  worker : l.scan.worker ≡ l.worker;
 }

@@ -11,8 +11,8 @@ use Rattle.ih_parfill.proofs.stays.least_of_share.Given as goal
 abbrev pub invariant-loop-later : goal.invariant-loop-later
 invariant-loop-later l = record {
   looked : HasLooked l.inst.draft (stay_value l.scorer)
-      (SetStay l.p None ∷ flat_map (λ d. stays_on l.inst.draft l.p l.patient d (room_count l.inst.draft)) (range_with_len l.patient.surgery_release_day l.later)) l.walker;
-  passed : l.walker.passed ≤ 1 + 8192 * l.later;
-  workers : l.walker.workers ≡ l.workers;
-  worker : l.walker.worker ≡ l.worker;
+      (SetStay l.patient_no None ∷ flat_map (λ d. stays_on l.inst.draft l.patient_no l.patient d (room_count l.inst.draft)) (range_with_len l.patient.surgery_release_day l.later)) l.scan;
+  passed : l.scan.passed ≤ 1 + 8192 * l.later;
+  workers : l.scan.workers ≡ l.workers;
+  worker : l.scan.worker ≡ l.worker;
 }

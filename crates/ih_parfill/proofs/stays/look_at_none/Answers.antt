@@ -10,10 +10,10 @@ pub returns-then-is_own-clause-looked : goal.returns-then-is_own-clause-looked
 returns-then-is_own-clause-looked c =
     let I = c.args.scorer.now.instance in
     let v = stay_value c.args.scorer.now in
-    c.look.ensures.looked I v [] (SetStay c.args.p None) (looked-none v I c.args.walker.now c.requires.first c.requires.none) c.left_out.ensures (out-fits I c.args.p c.requires.patient)
+    c.look.ensures.looked I v [] (SetStay c.args.patient None) (looked-none v I c.args.scan.now c.requires.first c.requires.none) c.left_out.ensures (out-fits I c.args.patient c.requires.patient)
 
 pub returns-else-is_own-clause-looked : goal.returns-else-is_own-clause-looked
 returns-else-is_own-clause-looked c =
     let I = c.args.scorer.now.instance in
     let v = stay_value c.args.scorer.now in
-    c.pass.ensures.looked I v [] (SetStay c.args.p None) (looked-none v I c.args.walker.now c.requires.first c.requires.none)
+    c.pass.ensures.looked I v [] (SetStay c.args.patient None) (looked-none v I c.args.scan.now c.requires.first c.requires.none)

@@ -23,7 +23,7 @@ loop-r-preserved c =
     let v = stay_value c.args.scorer.now in
     let a = c.args.patient.now in
     let r = c.loop-r.r in
-    let f : ℕ → List Write = λ r. stays_in c.args.p c.args.day.0 r (theatre_count I) in
+    let f : ℕ → List Write = λ r. stays_in c.args.patient_no c.args.day.0 r (theatre_count I) in
     let before = c.loop-r.invariant in
     let passed = before.passed in
     elim c.if-suits.branch [
@@ -31,20 +31,20 @@ loop-r-preserved c =
           let yes : suits a r ≡ true = sym c.suits.ensures ∙ w.if-suits.true in
           let more = w.look_in_room.ensures.passed in
           record {
-            looked = λ ws looked. subst (HasLooked I v (ws ++ stays_on I c.args.p a c.args.day.0 (r + 1))) (sym w.walker-is)
-                (subst (λ xs. HasLooked I v xs w.look_in_room.new.walker) (room-more ws f a r yes)
-                (w.look_in_room.ensures.looked (ws ++ stays_on I c.args.p a c.args.day.0 r) (before.looked ws looked)));
-            passed = rw w.walker-is (omega (arith, passed, more));
-            workers = rw w.walker-is (w.look_in_room.ensures.workers ∙ before.workers);
-            worker = rw w.walker-is (w.look_in_room.ensures.worker ∙ before.worker);
+            looked = λ ws looked. subst (HasLooked I v (ws ++ stays_on I c.args.patient_no a c.args.day.0 (r + 1))) (sym w.scan-is)
+                (subst (λ xs. HasLooked I v xs w.look_in_room.new.scan) (room-more ws f a r yes)
+                (w.look_in_room.ensures.looked (ws ++ stays_on I c.args.patient_no a c.args.day.0 r) (before.looked ws looked)));
+            passed = rw w.scan-is (omega (arith, passed, more));
+            workers = rw w.scan-is (w.look_in_room.ensures.workers ∙ before.workers);
+            worker = rw w.scan-is (w.look_in_room.ensures.worker ∙ before.worker);
           }
       | else-suits w ↦
           let no : suits a r ≡ false = sym c.suits.ensures ∙ w.if-suits.false in
           record {
-            looked = λ ws looked. subst (HasLooked I v (ws ++ stays_on I c.args.p a c.args.day.0 (r + 1))) (sym w.walker-is)
-                (subst (λ xs. HasLooked I v xs c.loop-r.walker) (room-same ws f a r no) (before.looked ws looked));
-            passed = rw w.walker-is (omega (arith, passed));
-            workers = rw w.walker-is before.workers;
-            worker = rw w.walker-is before.worker;
+            looked = λ ws looked. subst (HasLooked I v (ws ++ stays_on I c.args.patient_no a c.args.day.0 (r + 1))) (sym w.scan-is)
+                (subst (λ xs. HasLooked I v xs c.loop-r.scan) (room-same ws f a r no) (before.looked ws looked));
+            passed = rw w.scan-is (omega (arith, passed));
+            workers = rw w.scan-is before.workers;
+            worker = rw w.scan-is before.worker;
           }
     ]

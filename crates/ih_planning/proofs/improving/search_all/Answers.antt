@@ -9,9 +9,9 @@ pub loop-init : goal.loop-init
 loop-init g c = record {
   count = c.requires.no_round;
   underway = underway-begins c.args.name.now c.args.improver.now (g.S.Shelf.names c.args.shelf.now) (g.O.Sink.text c.args.out.now) c.requires.no_round;
-  reads = omega arith;
-  writes = omega arith;
-  puts = omega arith;
+  read_faults = omega arith;
+  write_faults = omega arith;
+  put_faults = omega arith;
   few = no-puts (g.O.Sink.puts c.args.out.now);
   lacks = omega arith;
 }
@@ -38,9 +38,9 @@ loop-preserved g c =
           (g.S.Shelf.names c.loop.shelf) (g.O.Sink.text c.args.out.now) (g.O.Sink.text c.loop.out) i.underway c.one_round.ensures.search
           c.one_round.ensures.best c.one_round.ensures.no_dearer c.one_round.ensures.sound (g.S.Shelf.names c.one_round.new.shelf)
           (g.O.Sink.text c.one_round.new.out) c.in_default.ensures.goes;
-      reads = omega (arith, i.reads, c.in_default.ensures.reads);
-      writes = omega (arith, i.writes, c.in_default.ensures.writes);
-      puts = omega (arith, i.puts, c.in_default.ensures.puts);
+      read_faults = omega (arith, i.read_faults, c.in_default.ensures.read_faults);
+      write_faults = omega (arith, i.write_faults, c.in_default.ensures.write_faults);
+      put_faults = omega (arith, i.put_faults, c.in_default.ensures.put_faults);
       few = puts-then c.loop.counter (g.O.Sink.puts c.args.out.now) (g.O.Sink.puts c.loop.out) (g.O.Sink.puts c.one_round.new.out) i.few
           c.one_round.ensures.once;
       lacks = omega (arith, i.lacks, c.in_default.ensures.lacks);
@@ -54,15 +54,15 @@ returns-in-Some-clause-stops g c =
     c.one_round.ensures.sound (g.S.Shelf.read_faults c.args.shelf.now) (g.S.Shelf.read_faults c.loop.shelf) (g.S.Shelf.read_faults c.one_round.new.shelf)
     (g.S.Shelf.write_faults c.args.shelf.now) (g.S.Shelf.write_faults c.loop.shelf) (g.S.Shelf.write_faults c.one_round.new.shelf)
     (g.O.Sink.faults c.args.out.now) (g.O.Sink.faults c.loop.out) (g.O.Sink.faults c.one_round.new.out) (g.O.Sink.lacks c.args.out.now)
-    (g.O.Sink.lacks c.loop.out) (g.O.Sink.lacks c.one_round.new.out) i.reads i.writes i.puts i.lacks (g.S.Shelf.names c.one_round.new.shelf)
+    (g.O.Sink.lacks c.loop.out) (g.O.Sink.lacks c.one_round.new.out) i.read_faults i.write_faults i.put_faults i.lacks (g.S.Shelf.names c.one_round.new.shelf)
     (g.O.Sink.text c.one_round.new.out) c.in-Some.status c.in-Some.ensures.ends
 
 pub returns-in-Some-clause-cause : goal.returns-in-Some-clause-cause
 returns-in-Some-clause-cause g c =
     let i = c.loop.invariant in
     cause-from (g.S.Shelf.read_faults c.args.shelf.now) (g.S.Shelf.read_faults c.loop.shelf) (g.S.Shelf.read_faults c.one_round.new.shelf)
-    (g.S.Shelf.write_faults c.args.shelf.now) (g.S.Shelf.write_faults c.loop.shelf) (g.S.Shelf.write_faults c.one_round.new.shelf) i.reads i.writes
-    (g.O.Sink.faults c.args.out.now) (g.O.Sink.faults c.loop.out) (g.O.Sink.faults c.one_round.new.out) i.puts c.in-Some.status c.in-Some.ensures.cause
+    (g.S.Shelf.write_faults c.args.shelf.now) (g.S.Shelf.write_faults c.loop.shelf) (g.S.Shelf.write_faults c.one_round.new.shelf) i.read_faults i.write_faults
+    (g.O.Sink.faults c.args.out.now) (g.O.Sink.faults c.loop.out) (g.O.Sink.faults c.one_round.new.out) i.put_faults c.in-Some.status c.in-Some.ensures.cause
 
 pub returns-in-Some-clause-few : goal.returns-in-Some-clause-few
 returns-in-Some-clause-few g c =

@@ -10,17 +10,17 @@ use Rattle.ih_planning.proofs.ImproveCalls.{searched-ended, unstarted-ended}
 use Rattle.ih_planning.proofs.PutCounts.{one-within}
 use Rattle.ih_planning.proofs.improving.search_begun.Goals as goal
 
-pub search-requires-clause-rounds : goal.search-requires-clause-rounds
-search-requires-clause-rounds g c κs within = c.requires.rounds ∙ sym (ap (λ (v : ImproverState). v.settings.rounds) c.in-Ok.ensures)
+pub search_and_conclude-requires-clause-rounds : goal.search_and_conclude-requires-clause-rounds
+search_and_conclude-requires-clause-rounds g c κs within = c.requires.rounds ∙ sym (ap (λ (v : ImproverState). v.settings.rounds) c.in-Ok.ensures)
 
 pub returns-in-Ok-clause-ends : goal.returns-in-Ok-clause-ends
 returns-in-Ok-clause-ends g c =
     let call : ImproveCall = improve_call c.args.call.now in
     let same : c.deref-inst.result.now.draft ≡ c.args.begun.now.inst.value.draft = cc in
-    searched-ended call _ _ c.search.result (HasShelfCause g.S.Shelf c.args.shelf.now c.search.new.shelf) (g.S.Shelf.names c.args.shelf.now)
-    (g.S.Shelf.names c.search.new.shelf) c.in-Ok.improver
+    searched-ended call _ _ c.search_and_conclude.result (HasShelfCause g.S.Shelf c.args.shelf.now c.search_and_conclude.new.shelf) (g.S.Shelf.names c.args.shelf.now)
+    (g.S.Shelf.names c.search_and_conclude.new.shelf) c.in-Ok.improver
     (new_search c.args.begun.now.inst.value.draft c.args.begun.now.start c.args.settings.now)
-    (c.in-Ok.ensures ∙ ap (λ (J : Draft). new_search J c.args.begun.now.start c.args.settings.now) same) c.search.ensures.ends
+    (c.in-Ok.ensures ∙ ap (λ (J : Draft). new_search J c.args.begun.now.start c.args.settings.now) same) c.search_and_conclude.ensures.ends
 
 pub returns-in-Err-clause-ends : goal.returns-in-Err-clause-ends
 returns-in-Err-clause-ends g c =

@@ -6,4 +6,4 @@ use Rattle.ih_proposals.proofs.beds.person_at.Goals as goal
 pub returns : goal.returns
 returns c =
     subst (λ x. x < person_count c.args.inst.now.draft) (sym c.member.ensures)
-    (person-known c.args.inst.now.draft c.requires.stands.0 c.args.rooms.now c.args.r.0 c.args.d.0 c.args.i c.requires.stands.1 c.requires.day c.requires.place)
+    (person-known c.args.inst.now.draft c.requires.stands.0 c.args.rooms.now c.args.room.0 c.args.day.0 c.args.index c.requires.stands.1 c.requires.day c.requires.place)

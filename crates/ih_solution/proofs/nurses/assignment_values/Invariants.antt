@@ -8,4 +8,4 @@ use Rattle.ih_solution.proofs.nurses.assignment_values.Given as goal
 
 abbrev pub invariant-loop-k : goal.invariant-loop-k
 invariant-loop-k l = map view l.values.items
-    ≡ map (λ k. assignment_data l.inst.draft k (rooms_data l.inst.draft l.plan l.n.0 k)) (which_below l.k (λ k. not (is_empty (rooms_of l.inst.draft l.plan l.n.0 k))))
+    ≡ map (λ k. assignment_data l.inst.draft k (rooms_data l.inst.draft l.plan l.nurse.0 k)) (which_below l.k (λ k. not (is_empty (rooms_of l.inst.draft l.plan l.nurse.0 k))))

@@ -8,4 +8,4 @@ use Rattle.ih_solution.specs.Solution.{room_id}
 use Rattle.ih_solution.proofs.nurses.room_values.Given as goal
 
 abbrev pub invariant-loop-r : goal.invariant-loop-r
-invariant-loop-r l = map view l.values.items ≡ map (λ r. string (room_id l.inst.draft r)) (which_below l.r (λ r. is_number (care_of l.plan r l.k.0) l.n.0))
+invariant-loop-r l = map view l.values.items ≡ map (λ r. string (room_id l.inst.draft r)) (which_below l.r (λ r. is_number (care_of l.plan r l.shift.0) l.nurse.0))

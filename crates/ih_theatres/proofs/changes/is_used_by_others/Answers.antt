@@ -8,4 +8,4 @@ pub returns : goal.returns
 returns c =
     let xs = list_of c.args.links.now c.args.head in
     ap (λ n. nat_lt n c.len.result) (c.bit.ensures.value ∙ ap bit c.requires.there)
-    ∙ (ap (λ n. nat_lt (bit (has c.args.p.0 xs)) n) c.len.ensures ∙ others-there c.args.p.0 xs c.requires.once)
+    ∙ (ap (λ n. nat_lt (bit (has c.args.patient.0 xs)) n) c.len.ensures ∙ others-there c.args.patient.0 xs c.requires.once)

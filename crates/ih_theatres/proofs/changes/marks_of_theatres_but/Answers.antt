@@ -18,9 +18,9 @@ loop-at-smaller c =
 pub loop-at-preserved : goal.loop-at-preserved
 loop-at-preserved c =
     with-goes_on c.loop-at.invariant c.in-Some.is (c.next-at.ensures.linked c.args.head (walk-inside c.loop-at.invariant.walk c.in-Some.is))
-    (λ told met. met-more c.loop-at.used c.mark-used.result (other_theatre c.args.theatres.now c.args.p.0) told c.in-Some.x met
+    (λ told met. met-more c.loop-at.used c.mark-used.result (other_theatre c.args.theatres.now c.args.patient.0) told c.in-Some.x met
     (λ t. c.mark-used.ensures t ∙ ap (λ o. is_marked c.loop-at.used t || is_number (option_map (λ (m : TheatreNo). m.0) o) t) c.theatre_but.ensures))
 
 pub returns : goal.returns
 returns c = λ t.
-    with-ends c.loop-at.invariant c.in_default.is t ∙ met-without c.args.theatres.now c.args.p.0 (list_of c.args.links.now c.args.head) t
+    with-ends c.loop-at.invariant c.in_default.is t ∙ met-without c.args.theatres.now c.args.patient.0 (list_of c.args.links.now c.args.head) t

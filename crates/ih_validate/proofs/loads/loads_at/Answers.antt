@@ -4,7 +4,7 @@ use Rattle.ih_validate.proofs.LoadLemmas.{are_loads-none, are_loads-more, load-b
 use Rattle.ih_validate.proofs.loads.loads_at.Goals as goal
 
 pub loop-x-init : goal.loop-x-init
-loop-x-init c = are_loads-none c.args.inst.now.draft c.args.plan.now c.args.k
+loop-x-init c = are_loads-none c.args.inst.now.draft c.args.plan.now c.args.shift
 
 pub loop-x-preserved : goal.loop-x-preserved
 loop-x-preserved c =
@@ -14,4 +14,4 @@ loop-x-preserved c =
 pub returns-clause-each : goal.returns-clause-each
 returns-clause-each c = λ n.
     let whole : c.loop-x.x ≡ person_count c.args.inst.now.draft = omega arith in
-    c.loop-x.invariant.each n ∙ rw whole (load-by_person c.args.inst.now.draft c.args.plan.now n c.args.k c.args.inst.now.valid c.requires.plan)
+    c.loop-x.invariant.each n ∙ rw whole (load-by_person c.args.inst.now.draft c.args.plan.now n c.args.shift c.args.inst.now.valid c.requires.plan)

@@ -6,4 +6,4 @@ use Rattle.ih_validate.proofs.nurses.nurses_of.Goals as goal
 
 pub returns-in-None-clause-value : goal.returns-in-None-clause-value
 returns-in-None-clause-value c =
-    rw (no-shifts c.args.inst.now.draft c.args.plan.now c.args.x (omega arith) (sym c.in-None.ensures)) (sym (sum_below-none (nurse_count c.args.inst.now.draft)))
+    rw (no-shifts c.args.inst.now.draft c.args.plan.now c.args.person (omega arith) (sym c.in-None.ensures)) (sym (sum_below-none (nurse_count c.args.inst.now.draft)))

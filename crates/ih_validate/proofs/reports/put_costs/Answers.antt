@@ -13,8 +13,8 @@ loop-i-init c = simp (lines_below-zero, append-nil)
 
 pub loop-i-preserved : goal.loop-i-preserved
 loop-i-preserved c =
-    let fits : FitsSigned w64 (at c.args.s.now c.loop-i.i) = search rules in
-    let fits_too : FitsSigned w64 (at c.args.w.now c.loop-i.i) = search rules in
-    one-more c.loop-i.i (λ (i : ℕ). cost_line (i + 1) (at c.args.s.now i) (at c.args.w.now i)) (string_bytes c.args.out.now)
+    let fits : FitsSigned w64 (at c.args.costs.now c.loop-i.i) = search rules in
+    let fits_too : FitsSigned w64 (at c.args.weights.now c.loop-i.i) = search rules in
+    one-more c.loop-i.i (λ (i : ℕ). cost_line (i + 1) (at c.args.costs.now i) (at c.args.weights.now i)) (string_bytes c.args.out.now)
     (string_bytes c.loop-i.out) c.as_str.result.now (string_bytes c.in_ok-line.line) (string_bytes c.push_str.new.self)
     c.in_ok-push_str.ensures.bytes c.as_str.ensures.value c.loop-i.invariant (simp to_z-of_z at c.in_ok-line.ensures)

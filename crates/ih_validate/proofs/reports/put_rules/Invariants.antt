@@ -4,4 +4,4 @@ use Rattle.ih_validate.specs.Report.{lines_below, rule_line}
 use Rattle.ih_validate.proofs.reports.put_rules.Given as goal
 
 abbrev pub invariant-loop-i : goal.invariant-loop-i
-invariant-loop-i l = string_bytes l.out ≡ string_bytes l.fn.out ++ lines_below l.i (λ i. rule_line (i + 1) (at l.v i))
+invariant-loop-i l = string_bytes l.out ≡ string_bytes l.fn.out ++ lines_below l.i (λ i. rule_line (i + 1) (at l.rules i))

@@ -10,28 +10,28 @@ use Rattle.ih_validate.proofs.rooms.costs_of.Goals as goal
 
 pub loop-d-init : goal.loop-d-init
 loop-d-init c = rw c.nothing-costs.ensures (record {
-  mixes = is_sum-none 1 (gender_mix c.args.inst.now.draft c.args.plan.now c.args.r.0);
-  over = is_sum-none 2560 (crowding c.args.inst.now.draft c.args.plan.now c.args.r.0);
-  uncovered = is_sum-none 1 (bare_shift c.args.inst.now.draft c.args.plan.now c.args.r.0);
-  ages = is_sum-none 64 (age_mix c.args.inst.now.draft c.args.plan.now c.args.r.0);
-  skills = is_sum-none 2560000 (skill_gap c.args.inst.now.draft c.args.plan.now c.args.r.0);
+  mixes = is_sum-none 1 (gender_mix c.args.inst.now.draft c.args.plan.now c.args.room.0);
+  over = is_sum-none 2560 (crowding c.args.inst.now.draft c.args.plan.now c.args.room.0);
+  uncovered = is_sum-none 1 (bare_shift c.args.inst.now.draft c.args.plan.now c.args.room.0);
+  ages = is_sum-none 64 (age_mix c.args.inst.now.draft c.args.plan.now c.args.room.0);
+  skills = is_sum-none 2560000 (skill_gap c.args.inst.now.draft c.args.plan.now c.args.room.0);
 })
 
 pub genders_differ-requires : goal.genders_differ-requires
 genders_differ-requires c =
-    All-same (λ x. x < person_count c.args.inst.now.draft) c.as_slice-here.result.now (present c.args.inst.now.draft c.args.plan.now c.args.r.0 c.loop-d.d)
+    All-same (λ x. x < person_count c.args.inst.now.draft) c.as_slice-here.result.now (present c.args.inst.now.draft c.args.plan.now c.args.room.0 c.loop-d.d)
     (c.as_slice-here.ensures.value ∙ c.list_present.ensures)
-    (present-persons c.args.inst.now.draft c.args.plan.now c.args.r.0 c.loop-d.d)
+    (present-persons c.args.inst.now.draft c.args.plan.now c.args.room.0 c.loop-d.d)
 
 pub age_spread-requires : goal.age_spread-requires
 age_spread-requires c =
-    All-same (λ x. x < person_count c.args.inst.now.draft) c.as_slice-here.result.now (present c.args.inst.now.draft c.args.plan.now c.args.r.0 c.loop-d.d)
+    All-same (λ x. x < person_count c.args.inst.now.draft) c.as_slice-here.result.now (present c.args.inst.now.draft c.args.plan.now c.args.room.0 c.loop-d.d)
     (c.as_slice-here.ensures.value ∙ c.list_present.ensures)
-    (present-persons c.args.inst.now.draft c.args.plan.now c.args.r.0 c.loop-d.d)
+    (present-persons c.args.inst.now.draft c.args.plan.now c.args.room.0 c.loop-d.d)
 
 pub loop-d-preserved : goal.loop-d-preserved
 loop-d-preserved c =
-    let here : c.as_slice-here.result.now ≡ present c.args.inst.now.draft c.args.plan.now c.args.r.0 c.loop-d.d = c.as_slice-here.ensures.value ∙ c.list_present.ensures in
+    let here : c.as_slice-here.result.now ≡ present c.args.inst.now.draft c.args.plan.now c.args.room.0 c.loop-d.d = c.as_slice-here.ensures.value ∙ c.list_present.ensures in
     record {
       mixes = is_sum-more c.bit.result c.loop-d.invariant.mixes (c.bit.ensures ∙ rw (c.genders_differ.ensures, here) refl) (rw c.bit.ensures (bit-most c.genders_differ.result));
       over =

@@ -7,5 +7,5 @@ use Rattle.ih_validate.proofs.shifts.missing_skill_on.Goals as goal
 
 pub skill_missing-sum-requires-clause-persons : goal.skill_missing-sum-requires-clause-persons
 skill_missing-sum-requires-clause-persons c =
-    All-same (λ x. x < person_count c.args.inst.now.draft) c.args.here.now (present c.args.inst.now.draft c.args.plan.now c.args.r.0 c.args.d) c.requires.here
-    (present-persons c.args.inst.now.draft c.args.plan.now c.args.r.0 c.args.d)
+    All-same (λ x. x < person_count c.args.inst.now.draft) c.args.here.now (present c.args.inst.now.draft c.args.plan.now c.args.room.0 c.args.day) c.requires.here
+    (present-persons c.args.inst.now.draft c.args.plan.now c.args.room.0 c.args.day)

@@ -5,8 +5,8 @@ use Rattle.ih_plan.proofs.PlanRanges.{choice-inside}
 use Rattle.ih_validate.proofs.shifts.nurse_at.Goals as goal
 
 pub care-requires : goal.care-requires
-care-requires c = choice-inside c.args.inst.now.draft c.args.plan.now c.args.r.0 c.args.k c.requires.plan c.requires.room c.requires.shift
+care-requires c = choice-inside c.args.inst.now.draft c.args.plan.now c.args.room.0 c.args.shift c.requires.plan c.requires.room c.requires.shift
 
 pub returns-in-Some-clause-nurse : goal.returns-in-Some-clause-nurse
 returns-in-Some-clause-nurse c =
-    c.requires.plan.nursed c.args.r.0 c.args.k c.in-Some.n.0 (ap (option_map (λ (n : NurseNo). n.0)) (sym c.care.ensures ∙ c.in-Some.is))
+    c.requires.plan.nursed c.args.room.0 c.args.shift c.in-Some.n.0 (ap (option_map (λ (n : NurseNo). n.0)) (sym c.care.ensures ∙ c.in-Some.is))

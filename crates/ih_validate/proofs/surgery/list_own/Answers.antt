@@ -5,5 +5,5 @@ use Rattle.ih_validate.proofs.surgery.list_own.Goals as goal
 
 pub returns : goal.returns
 returns c =
-    let member = is_patient_of c.args.inst.now.draft c.args.plan.now c.args.w in
+    let member = is_patient_of c.args.inst.now.draft c.args.plan.now c.args.resource in
     c.list_below.ensures member (search rules) ∙ ap (λ n. which_below n member) c.patients.ensures

@@ -7,11 +7,11 @@ use Rattle.ih_validate.proofs.surgery.list_today.Goals as goal
 pub list_among-requires-clause-callable : goal.list_among-requires-clause-callable
 list_among-requires-clause-callable c =
     let I = c.args.inst.now.draft in
-    let own = all-among (patient_count I) (is_patient_of I c.args.plan.now c.args.w) c.args.own.now c.requires.own in
+    let own = all-among (patient_count I) (is_patient_of I c.args.plan.now c.args.resource) c.args.own.now c.requires.own in
     (patient_count I, own, λ i known. search rules)
 
 pub returns : goal.returns
 returns c =
     let I = c.args.inst.now.draft in
-    c.list_among.ensures (has_surgery I c.args.plan.now c.args.w c.args.d) (search rules)
-    ∙ rw c.requires.own (operated-among I c.args.plan.now c.args.w c.args.d)
+    c.list_among.ensures (has_surgery I c.args.plan.now c.args.resource c.args.day) (search rules)
+    ∙ rw c.requires.own (operated-among I c.args.plan.now c.args.resource c.args.day)

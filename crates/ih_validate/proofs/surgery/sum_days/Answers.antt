@@ -6,7 +6,7 @@ use Rattle.ih_validate.proofs.surgery.sum_days.Goals as goal
 pub each-sum-requires : goal.each-sum-requires
 each-sum-requires g c =
     c.requires.callable _ _
-    (are-operated c.args.inst.now.draft c.args.plan.now c.args.w c.loop-d.d _ _ c.list_today.ensures c.as_slice-in-loop-d.ensures.value c.as_slice-in-loop-d.ensures.few)
+    (are-operated c.args.inst.now.draft c.args.plan.now c.args.resource c.loop-d.d _ _ c.list_today.ensures c.as_slice-in-loop-d.ensures.value c.as_slice-in-loop-d.ensures.few)
 
 pub loop-d-init : goal.loop-d-init
 loop-d-init g c = record { sum = λ f h. sym (sum_below-zero f); bound = omega arith }
@@ -14,7 +14,7 @@ loop-d-init g c = record { sum = λ f h. sym (sum_below-zero f); bound = omega a
 pub loop-d-preserved : goal.loop-d-preserved
 loop-d-preserved g c =
     let d = c.loop-d.d in
-    let are = are-operated c.args.inst.now.draft c.args.plan.now c.args.w d _ _ c.list_today.ensures c.as_slice-in-loop-d.ensures.value c.as_slice-in-loop-d.ensures.few in
+    let are = are-operated c.args.inst.now.draft c.args.plan.now c.args.resource d _ _ c.list_today.ensures c.as_slice-in-loop-d.ensures.value c.as_slice-in-loop-d.ensures.few in
     record {
       sum =
           λ f h.

@@ -7,7 +7,7 @@ abbrev pub invariant-loop-d : goal.invariant-loop-d
 invariant-loop-d g l = record {
   sum :
       (f : ℕ → ℕ)
-      → ((d : ℕ) (ps : _) (x : ℕ) → AreOperated l.inst.draft l.plan l.w d ps.now → goal.F-post g l.each d ps x → x ≡ f d)
+      → ((d : ℕ) (ps : _) (x : ℕ) → AreOperated l.inst.draft l.plan l.resource d ps.now → goal.F-post g l.each d ps x → x ≡ f d)
       → l.sum ≡ sum_below l.d f;
   bound : l.sum ≤ l.d * l.most;
 }

@@ -8,7 +8,7 @@ returns c =
     let P = timetable_of c.args.self.now in
     let stands = c.requires.stands in
     record {
-      room_days = room_days-care I P c.args.self.now.room_days c.args.r c.args.k c.args.n c.requires.write stands.room_days;
-      theatres = theatres-care I P c.args.self.now.theatres c.args.r c.args.k c.args.n c.requires.write stands.theatres;
+      room_days = room_days-care I P c.args.self.now.room_days c.args.room c.args.shift c.args.nurse c.requires.write stands.room_days;
+      theatres = theatres-care I P c.args.self.now.theatres c.args.room c.args.shift c.args.nurse c.requires.write stands.theatres;
       nurses = c.set_care.ensures P stands.nurses;
     }

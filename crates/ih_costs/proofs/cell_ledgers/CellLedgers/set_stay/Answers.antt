@@ -11,5 +11,5 @@ returns c =
     let I = c.args.inst.now.draft in
     let P = timetable_of c.args.self.now in
     subst (λ Q. AreLedgersOf I Q c.bring_in.new.self)
-    (ap (put (SetStay c.args.p c.args.stay)) (kept I (put (SetStay c.args.p None) P) c.take_out.new.self c.take_out.ensures) ∙ stay-twice P c.args.p None c.args.stay)
+    (ap (put (SetStay c.args.patient c.args.stay)) (kept I (put (SetStay c.args.patient None) P) c.take_out.new.self c.take_out.ensures) ∙ stay-twice P c.args.patient None c.args.stay)
     c.bring_in.ensures

@@ -10,7 +10,7 @@ pub returns : goal.returns
 returns c =
     let I = c.args.inst.now.draft in
     let P = timetable_of c.args.self.now in
-    let stay : c.stay.result ≡ stay_of P c.args.p.0 = rw c.plan.ensures at c.stay.ensures in
+    let stay : c.stay.result ≡ stay_of P c.args.patient.0 = rw c.plan.ensures at c.stay.ensures in
     c.stay_bill.ensures
     ∙ (ap (λ s. as_bill (stay_part c.patient.result.now s)) stay
-    ∙ ap as_bill (sym (stay-is I P c.args.p c.patient.result.now c.patient.ensures)))
+    ∙ ap as_bill (sym (stay-is I P c.args.patient c.patient.result.now c.patient.ensures)))

@@ -23,7 +23,7 @@ surgery_delta-before-requires c =
     record {
       stands = c.requires.stands;
       patient = c.requires.write.0;
-      placement = plan.placed c.args.p.0 c.args.from c.requires.stay;
+      placement = plan.placed c.args.patient.0 c.args.from c.requires.stay;
       stay = c.requires.stay;
     }
 
@@ -31,7 +31,7 @@ pub sub-requires : goal.sub-requires
 sub-requires c =
     let I = c.args.inst.now.draft in
     let P = timetable_of c.args.self.now in
-    let p = c.args.p in
+    let p = c.args.patient in
     let valid = c.args.inst.now.valid in
     let plan = plan-fits I P c.args.self.now c.requires.stands in
     let known = c.requires.write.0 in
@@ -44,7 +44,7 @@ pub returns : goal.returns
 returns c =
     let I = c.args.inst.now.draft in
     let P = timetable_of c.args.self.now in
-    let p = c.args.p in
+    let p = c.args.patient in
     let plan = plan-fits I P c.args.self.now c.requires.stands in
     c.sub.ensures
     ∙ (ap (λ b. sub_bills b c.surgery_delta-before.result) c.surgery_delta-after.ensures

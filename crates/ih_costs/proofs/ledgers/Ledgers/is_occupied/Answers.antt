@@ -12,8 +12,8 @@ pub returns : goal.returns
 returns c =
     let I = c.self.inside.inst.now.draft in
     let P = timetable_of c.self.inside.cells in
-    let r = c.args.r.0 in
-    let d = c.args.d.0 in
+    let r = c.args.room.0 in
+    let d = c.args.day.0 in
     let room : r < room_count I = subst (λ (s : LedgersState). r < room_count s.instance) (sym c.self.view_is) c.requires.room in
     let day : d < I.days = subst (λ (s : LedgersState). d < s.instance.days) (sym c.self.view_is) c.requires.day in
     ap (λ n. nat_lt 0 n) c.count.ensures

@@ -12,7 +12,7 @@ returns-then-counts_uncovered c =
     let fits : FitsSigned w64 c.score_of.result = search rules in
     rw (c.if-counts_uncovered.true, to_z-of_z w64 c.score_of.result fits)
     (c.score_of.ensures
-    ∙ score-is c.args.self.now here.inst.now.draft here.ledgers here.hard here.counts_uncovered true c.args.w.now
+    ∙ score-is c.args.self.now here.inst.now.draft here.ledgers here.hard here.counts_uncovered true c.args.write.now
     c.price_write-price.result c.self.view_is c.self.invariant.of_instance c.price_write-price.ensures.price)
 
 pub returns-else-counts_uncovered : goal.returns-else-counts_uncovered
@@ -21,5 +21,5 @@ returns-else-counts_uncovered c =
     let fits : FitsSigned w64 c.score_of-else-counts_uncovered.result = search rules in
     rw (c.if-counts_uncovered.false, to_z-of_z w64 c.score_of-else-counts_uncovered.result fits)
     (c.score_of-else-counts_uncovered.ensures ∙ ap (score here.hard here.inst.now.draft.weights) c.without_uncovered.ensures.value
-    ∙ score-is c.args.self.now here.inst.now.draft here.ledgers here.hard here.counts_uncovered false c.args.w.now
+    ∙ score-is c.args.self.now here.inst.now.draft here.ledgers here.hard here.counts_uncovered false c.args.write.now
     c.price_write-price.result c.self.view_is c.self.invariant.of_instance c.price_write-price.ensures.price)

@@ -9,10 +9,10 @@ use Rattle.ih_fill.proofs.ValueLemmas.{stay-is}
 use Rattle.ih_fill.proofs.scoring.Scorer.stay.Goals as goal
 
 pub valued-requires : goal.valued-requires
-valued-requires c = let I = c.args.self.now.instance in stay-fits I c.args.p c.args.at c.requires.patient c.requires.placed
+valued-requires c = let I = c.args.self.now.instance in stay-fits I c.args.patient c.args.at c.requires.patient c.requires.placed
 
 pub returns : goal.returns
 returns c =
     let F = c.args.self.now in
-    let w : Write = SetStay c.args.p (Some c.args.at) in
+    let w : Write = SetStay c.args.patient (Some c.args.at) in
     c.valued.ensures ∙ (ap (λ (G : ScorerState). valued (write_score F.instance F.hard (view_of G.counts_uncovered) F.plan) w) c.self.view_is ∙ stay-is F w)

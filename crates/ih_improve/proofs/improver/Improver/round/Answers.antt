@@ -3,7 +3,7 @@ use Rattle.std.specs.Prelude.{slice_index_or}
 use Rattle.ih_improve.specs.declared.workers.ImproveWorker.{ImproveWorker}
 use Rattle.ih_improve.specs.Better.{best_of}
 use Rattle.ih_improve.specs.Following.{IsNoDearer}
-use Rattle.ih_improve.specs.ImproverState.{ImproverState, Leads, led_to, setout}
+use Rattle.ih_improve.specs.ImproverState.{ImproverState, Leads, led_to, leg_of}
 use Rattle.ih_improve.specs.Keeping.{IsKeeping, best_met}
 use Rattle.ih_improve.specs.Legs.{Leaves, LegState}
 use Rattle.ih_improve.proofs.RoundLemmas.{keeps, leads, no_dearer, written-back}
@@ -36,7 +36,7 @@ same : (g : Over) (c : After-take_best g) (k : ℕ) (d : ImproveWorker) → k < 
 same g c k d h = c.walk_all.ensures.same k d (rw c.as_mut_slice.ensures.value h) ∙ ap (λ (s : LegState). s.instance) c.new-leg.ensures
 
 left : (g : Over) (c : After-take_best g) (k : ℕ) (d : ImproveWorker) → k < length (workers g c)
-    → Leaves (setout (search g c)) k (best_met (slice_index_or (later g c) k d))
+    → Leaves (leg_of (search g c)) k (best_met (slice_index_or (later g c) k d))
 left g c k d h =
     subst (λ (s : LegState). Leaves s k (best_met (slice_index_or (later g c) k d))) c.new-leg.ensures
     (c.walk_all.ensures.left k d (rw c.as_mut_slice.ensures.value h))

@@ -15,7 +15,7 @@ pub returns-clause-delta : goal.returns-clause-delta
 returns-clause-delta c = λ P known.
     let I = c.args.inst.now.draft in
     let plan = c.args.self.now.plan in
-    let p = c.args.p in
+    let p = c.args.patient in
     let own = stands-own known in
     subst (λ (S : Timetable). c.difference.result
     ≡ sub_bills (as_bill (part_at I (put (SetStay p (Some c.args.at)) S) (Care (record { 0 = p.0 }))))

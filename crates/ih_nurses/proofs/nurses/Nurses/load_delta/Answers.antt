@@ -17,12 +17,12 @@ entry-come-requires-clause-inside c =
     let I = c.args.inst.now.draft in
     let person = person_of I c.args.visit.now.p.0 in
     let len = workload-len I c.args.visit.now.p.0 c.args.inst.now.valid in
-    rw c.requires.visit.workload_is (entry-inside I c.args.visit.now.at.day.0 person.length_of_stay c.args.k.0 (length person.workload) len c.requires.counted c.requires.shift)
+    rw c.requires.visit.workload_is (entry-inside I c.args.visit.now.at.day.0 person.length_of_stay c.args.shift.0 (length person.workload) len c.requires.counted c.requires.shift)
 
 pub present_stay_load-gone-requires-clause-small : goal.present_stay_load-gone-requires-clause-small
 present_stay_load-gone-requires-clause-small c =
     let I = c.args.inst.now.draft in
-    let place = c.args.k.0 - 3 * c.args.visit.now.at.day.0 in
+    let place = c.args.shift.0 - 3 * c.args.visit.now.at.day.0 in
     let come : c.entry-come.result ≡ slice_index (person_of I c.args.visit.now.p.0).workload place = c.entry-come.ensures ∙ ap (λ list. slice_index list place) c.requires.visit.workload_is in
     omega (arith, come, workload-most I c.args.visit.now.p.0 place c.args.inst.now.valid)
 
@@ -31,8 +31,8 @@ overflow_sub-without c =
     let own = stands-own c.requires.stands.1 in
     let I = c.args.inst.now.draft in
     let plan = c.args.self.now.plan in
-    let n = c.args.n.0 in
-    let k = c.args.k.0 in
+    let n = c.args.nurse.0 in
+    let k = c.args.shift.0 in
     let all = c.load-all.ensures.work ∙ (ap (λ ls. load_at I ls n k) c.as_slice.ensures.value ∙ own.loads_are.each n k c.requires.nurse c.requires.shift) in
     omega (arith, all, c.present_stay_load-gone.ensures.value, load-has I plan c.args.visit.now.p own.fits c.requires.visit.patient n k)
 
@@ -40,8 +40,8 @@ pub overflow_add-with : goal.overflow_add-with
 overflow_add-with c =
     let own = stands-own c.requires.stands.1 in
     let I = c.args.inst.now.draft in
-    let n = c.args.n.0 in
-    let k = c.args.k.0 in
+    let n = c.args.nurse.0 in
+    let k = c.args.shift.0 in
     let all = c.load-all.ensures.work ∙ (ap (λ ls. load_at I ls n k) c.as_slice.ensures.value ∙ own.loads_are.each n k c.requires.nurse c.requires.shift) in
     let place = k - 3 * c.args.visit.now.at.day.0 in
     let come : c.entry-come.result ≡ slice_index (person_of I c.args.visit.now.p.0).workload place = c.entry-come.ensures ∙ ap (λ list. slice_index list place) c.requires.visit.workload_is in
@@ -52,8 +52,8 @@ returns c = λ P known.
     let I = c.args.inst.now.draft in
     let plan = c.args.self.now.plan in
     let p = c.args.visit.now.p in
-    let n = c.args.n in
-    let k = c.args.k in
+    let n = c.args.nurse in
+    let k = c.args.shift in
     let own = stands-own known in
     let nurse : care_of plan c.args.visit.now.at.room.0 k.0 ≡ Some n.0 = ap (λ (S : Timetable). care_of S c.args.visit.now.at.room.0 k.0) c.requires.stands.1.plan_is ∙ c.requires.stands.2 in
     let all = c.load-all.ensures.work ∙ (ap (λ ls. load_at I ls n.0 k.0) c.as_slice.ensures.value ∙ own.loads_are.each n.0 k.0 c.requires.nurse c.requires.shift) in

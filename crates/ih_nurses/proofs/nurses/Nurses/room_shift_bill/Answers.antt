@@ -14,7 +14,7 @@ pub returns : goal.returns
 returns c = record {
   part = λ P known.
       let own = stands-own known in
-      let costs = subst (λ n. AreChoiceCosts c.args.inst.now.draft c.args.self.now.plan (list_of c.index-persons.result.now c.args.r.0) c.args.k.0 n c.choice_costs.result)
+      let costs = subst (λ n. AreChoiceCosts c.args.inst.now.draft c.args.self.now.plan (list_of c.index-persons.result.now c.args.room.0) c.args.shift.0 n c.choice_costs.result)
       (ap (option_map (λ (a : NurseNo). a.0)) c.nurse_at-nurse.ensures.choice)
       (record {
         off = c.choice_costs.ensures.off;
@@ -23,9 +23,9 @@ returns c = record {
         seen = c.choice_costs.ensures.seen;
         overload = c.choice_costs.ensures.overload;
       }) in
-      subst (λ (S : Timetable). c.bill_of.result ≡ as_bill (part_at c.args.inst.now.draft S (RoomShift c.args.r c.args.k))) known.plan_is
+      subst (λ (S : Timetable). c.bill_of.result ≡ as_bill (part_at c.args.inst.now.draft S (RoomShift c.args.room c.args.shift))) known.plan_is
       (c.bill_of.ensures.value
-      ∙ choice-part c.args.inst.now.draft c.args.self.now.plan c.args.self.now.here.items c.index-persons.result.now c.args.r c.args.k c.choice_costs.result
+      ∙ choice-part c.args.inst.now.draft c.args.self.now.plan c.args.self.now.here.items c.index-persons.result.now c.args.room c.args.shift c.choice_costs.result
       (record { known = own.here_are; room = c.requires.room; shift = c.requires.shift; day_is = c.index-persons.ensures; nodes = c.choice_costs.ensures.nodes }) costs);
   within = c.bill_of.ensures.within;
 }

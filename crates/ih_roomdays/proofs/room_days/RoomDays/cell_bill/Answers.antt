@@ -13,17 +13,17 @@ room_counts-requires-clause-small c =
     let I = c.args.inst.now.draft in
     let v = c.self.inside.rows in
     let stands = subst (λ w. IsLedgerOf I c.requires.stands.0 w) (sym c.self.view_is) c.requires.stands.1 in
-    let place = place-known I c.requires.stands.0 v stands c.args.r c.args.d c.requires.room c.requires.day in
-    subst (λ k. IsSmall k.occupancy) (sym (crowd-read v c.args.r.0 c.args.d.0 c.index.result.now stands.rows place.0 place.1 c.index.ensures)) (crowd-small v c.args.r.0 c.args.d.0 stands.rows place.1)
+    let place = place-known I c.requires.stands.0 v stands c.args.room c.args.day c.requires.room c.requires.day in
+    subst (λ k. IsSmall k.occupancy) (sym (crowd-read v c.args.room.0 c.args.day.0 c.index.result.now stands.rows place.0 place.1 c.index.ensures)) (crowd-small v c.args.room.0 c.args.day.0 stands.rows place.1)
 
 pub returns-clause-value : goal.returns-clause-value
 returns-clause-value c = λ P stands.
     let I = c.args.inst.now.draft in
     let v = c.self.inside.rows in
     let now = subst (λ w. IsLedgerOf I P w) (sym c.self.view_is) stands in
-    let place = place-known I P v now c.args.r c.args.d c.requires.room c.requires.day in
-    let is = crowd-read v c.args.r.0 c.args.d.0 c.index.result.now now.rows place.0 place.1 c.index.ensures in
-    let kept = subst (λ k. IsOccupancy v.profiles (persons_at v c.args.r.0 c.args.d.0) k.occupancy) (sym is) (now.rows.kept c.args.r.0 c.args.d.0 place.1).occupancy in
+    let place = place-known I P v now c.args.room c.args.day c.requires.room c.requires.day in
+    let is = crowd-read v c.args.room.0 c.args.day.0 c.index.result.now now.rows place.0 place.1 c.index.ensures in
+    let kept = subst (λ k. IsOccupancy v.profiles (persons_at v c.args.room.0 c.args.day.0) k.occupancy) (sym is) (now.rows.kept c.args.room.0 c.args.day.0 place.1).occupancy in
     c.room_day_bill.ensures.value
-    ∙ ap (λ k. as_bill (room_day_part k)) (c.room_counts.ensures v.profiles (persons_at v c.args.r.0 c.args.d.0) now.profiles (persons-known I P v now c.args.r.0 c.args.d.0 place.1) kept)
-    ∙ ap as_bill (cell-part I P v now c.args.r c.args.d c.requires.day)
+    ∙ ap (λ k. as_bill (room_day_part k)) (c.room_counts.ensures v.profiles (persons_at v c.args.room.0 c.args.day.0) now.profiles (persons-known I P v now c.args.room.0 c.args.day.0 place.1) kept)
+    ∙ ap as_bill (cell-part I P v now c.args.room c.args.day c.requires.day)

@@ -10,11 +10,11 @@ enter-requires-clause-nowhere c = λ r d below.
     let I = c.args.inst.now.draft in
     let P = c.requires.stands.0 in
     let stands = subst (λ w. IsLedgerOf I P w) (sym c.self.view_is) c.requires.stands.1 in
-    stands.each r d c.args.p.0 (rw (← stands.days) below) ∙ nowhere I P c.args.p.0 r d c.requires.patient c.requires.stands.2
+    stands.each r d c.args.patient.0 (rw (← stands.days) below) ∙ nowhere I P c.args.patient.0 r d c.requires.patient c.requires.stands.2
 
 pub returns : goal.returns
 returns c = λ P stands none.
     let I = c.args.inst.now.draft in
     let now = subst (λ w. IsLedgerOf I P w) (sym c.self.view_is) stands in
-    let entered = subst (λ to. IsEntered c.self.inside.rows c.enter.new.self c.args.at.room.0 c.args.p.0 c.args.at.day.0 to) c.end_of-to.ensures.value c.enter.ensures in
-    entered-stands I P c.self.inside.rows c.enter.new.self c.args.p c.args.at now c.requires.patient none c.requires.placement entered
+    let entered = subst (λ to. IsEntered c.self.inside.rows c.enter.new.self c.args.at.room.0 c.args.patient.0 c.args.at.day.0 to) c.end_of-to.ensures.value c.enter.ensures in
+    entered-stands I P c.self.inside.rows c.enter.new.self c.args.patient c.args.at now c.requires.patient none c.requires.placement entered

@@ -5,8 +5,8 @@ use Rattle.ih_roomdays.proofs.room_days.RoomDays.same_gender.Goals as goal
 
 pub same_gender-requires : goal.same_gender-requires
 same_gender-requires c = record {
-  first = rw c.self.invariant.profiles.genders_len (subst (λ (w : RoomLists). c.args.x.0 < w.persons) (sym c.self.view_is) c.requires.first);
-  second = rw c.self.invariant.profiles.genders_len (subst (λ (w : RoomLists). c.args.y.0 < w.persons) (sym c.self.view_is) c.requires.second);
+  first = rw c.self.invariant.profiles.genders_len (subst (λ (w : RoomLists). c.args.person.0 < w.persons) (sym c.self.view_is) c.requires.first);
+  second = rw c.self.invariant.profiles.genders_len (subst (λ (w : RoomLists). c.args.other.0 < w.persons) (sym c.self.view_is) c.requires.second);
 }
 
 pub returns : goal.returns

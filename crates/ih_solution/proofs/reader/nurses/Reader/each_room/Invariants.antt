@@ -6,6 +6,6 @@ use Rattle.ih_solution.specs.Reading.{has_nurse, free_room}
 use Rattle.ih_solution.proofs.reader.nurses.Reader.each_room.Given as goal
 
 abbrev pub invariant-loop-value : goal.invariant-loop-value
-invariant-loop-value l = AreRead (λ _. free_room l.self.inst.now.draft (has_nurse l.self.plan.now) l.k.0) l.at l.values l.value-index l.rooms.items
-    × All (IsFree l.self.inst.now.draft l.self.plan.now l.k.0) l.rooms.items
+invariant-loop-value l = AreRead (λ _. free_room l.self.inst.now.draft (has_nurse l.self.plan.now) l.shift.0) l.at l.values l.value-index l.rooms.items
+    × All (IsFree l.self.inst.now.draft l.self.plan.now l.shift.0) l.rooms.items
     × (l.i ≡ l.value-index)

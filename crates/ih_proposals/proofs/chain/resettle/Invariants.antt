@@ -1,5 +1,0 @@
-use Rattle.ih_plan.specs.Series.{AreMoves}
-use Rattle.ih_proposals.proofs.chain.resettle.Given as goal
-
-abbrev pub invariant-loop-i : goal.invariant-loop-i
-invariant-loop-i l = AreMoves l.inst.draft l.attempt
