@@ -105,7 +105,7 @@ changed_nurses I first O P = lines_below (room_count I) (λ r. shifts_if I first
 
 -- ---- costs
 
--- how often hard rules are broken
+-- the nine counts of broken hard rules, summed
 abbrev pub broken : Bill → ℤ
 broken b = signed_sum 9 (at b.v)
 
@@ -123,7 +123,7 @@ part_row i x y = line_text (codes "<tr><th>S") i ++ (codes "<td>" ++ (cost_name 
 abbrev pub part_rows : Weights → Bill → Bill → List ℕ
 part_rows w b c = lines_below 8 (λ i. part_row i (at b.s i *ℤ at w.w i) (at c.s i *ℤ at w.w i))
 
--- how often hard rules were broken and are now
+-- that sum before and now
 unfoldable pub broken_row : Bill → Bill → List ℕ
 broken_row b c =
     codes "<table class=s><tr><th>line<th>what it counts<th>was<th>now\n<tr><th>rules<td>hard rules broken"

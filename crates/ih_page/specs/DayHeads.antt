@@ -15,7 +15,7 @@ date_text date = decimal date.day ++ (codes " " ++ month_name date.month)
 unfoldable pub dated_text : Date → ℕ → List ℕ
 dated_text first d = weekday_name (weekday_after first d) ++ (codes " " ++ date_text (days_after first d))
 
--- the same in a line of its own
+-- that date in a line of its own
 unfoldable pub dated_below : Date → ℕ → List ℕ
 dated_below first d = codes "<br>" ++ dated_text first d
 
@@ -23,7 +23,7 @@ abbrev pub dated_if : Option Date → ℕ → List ℕ
 dated_if None d = []
 dated_if (Some first) d = dated_below first d
 
--- the same in brackets
+-- that date in brackets behind a number
 unfoldable pub dated_beside : Date → ℕ → List ℕ
 dated_beside first d = codes " (" ++ (dated_text first d ++ codes ")")
 

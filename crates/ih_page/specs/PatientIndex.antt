@@ -11,12 +11,12 @@ use Rattle.ih_page.specs.DayHeads.{day_text}
 use Rattle.ih_page.specs.Rooms.{theatre_name}
 use Rattle.ih_page.specs.Surgery.{patient_link}
 
--- a room, a day and a theatre
+-- where an admitted patient is: a room, a day and a theatre
 unfoldable pub placement_text : Draft → Option Date → Placement → List ℕ
 placement_text I first at =
     room_name I at.room.0 ++ (day_text first at.day.0 ++ (codes ", theatre " ++ (theatre_name I at.theatre.0 ++ codes "\n")))
 
--- the same of a patient who is admitted
+-- that place, or that the patient is left out
 abbrev pub place_text : Draft → Option Date → Option Placement → List ℕ
 place_text I first None = codes "left out\n"
 place_text I first (Some at) = placement_text I first at

@@ -70,10 +70,10 @@ pub fn put_fold(out: &mut Vec<u8>, line: Line) -> Put
 
 // A rule that is broken once in a cell; early: a patient before the release day.
 #[tactic(auto, unfolding(crate::specs::BillLines::rule_one))]
-fn rule_one(i: usize, early: bool) -> &'static str
-    ensures { result.now ≡ rule_one i early }
+fn rule_one(index: usize, early: bool) -> &'static str
+    ensures { result.now ≡ rule_one index early }
 {
-    match i {
+    match index {
         0 => "two genders",
         1 => "incompatible room",
         4 => "mandatory, but left out",
@@ -92,10 +92,10 @@ fn rule_one(i: usize, early: bool) -> &'static str
 }
 
 #[tactic(auto, unfolding(crate::specs::BillLines::cost_one))]
-fn cost_one(i: usize) -> &'static str
-    ensures { result.now ≡ cost_one i }
+fn cost_one(index: usize) -> &'static str
+    ensures { result.now ≡ cost_one index }
 {
-    match i {
+    match index {
         0 => "1 age group apart",
         1 => "1 skill level missing",
         2 => "1 nurse",
@@ -108,20 +108,20 @@ fn cost_one(i: usize) -> &'static str
 }
 
 #[tactic(auto, unfolding(crate::specs::BillLines::rule_many))]
-fn rule_many(i: usize) -> &'static str
-    ensures { result.now ≡ rule_many i }
+fn rule_many(index: usize) -> &'static str
+    ensures { result.now ≡ rule_many index }
 {
-    match i {
+    match index {
         6 => " persons above the capacity",
         _ => " minutes over",
     }
 }
 
 #[tactic(auto, unfolding(crate::specs::BillLines::cost_many))]
-fn cost_many(i: usize) -> &'static str
-    ensures { result.now ≡ cost_many i }
+fn cost_many(index: usize) -> &'static str
+    ensures { result.now ≡ cost_many index }
 {
-    match i {
+    match index {
         0 => " age groups apart",
         1 => " skill levels missing",
         2 => " nurses",
@@ -151,12 +151,12 @@ fn many_text(line: Line) -> &'static str
 
 /// Appends a cell's amount in plain words.
 #[tactic(auto, unfolding(crate::specs::BillLines::amount_text))]
-pub fn put_amount(out: &mut Vec<u8>, line: Line, early: bool, x: u64) -> Put
-    ensures { OnOk result (out.new.items ≡ out.old.items ++ amount_text line early x) }
+pub fn put_amount(out: &mut Vec<u8>, line: Line, early: bool, value: u64) -> Put
+    ensures { OnOk result (out.new.items ≡ out.old.items ++ amount_text line early value) }
 {
-    if x == 1 {
+    if value == 1 {
         return put(out, one_text(line, early));
     }
-    put_number(out, x)?;
+    put_number(out, value)?;
     put(out, many_text(line))
 }

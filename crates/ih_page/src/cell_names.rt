@@ -14,10 +14,10 @@ use crate::texts::{Put, put, put_isolated, put_labelled};
 use ih_tables::{Cell, Day, Instance, NurseNo, PatientNo, RoomNo, Shift, SurgeonNo, TheatreNo};
 
 /// Appends the anchor of a cell of the timetable.
-pub fn put_cell_anchor(out: &mut Vec<u8>, c: Cell) -> Put
-    ensures { OnOk result (out.new.items ≡ out.old.items ++ cell_anchor c) }
+pub fn put_cell_anchor(out: &mut Vec<u8>, cell: Cell) -> Put
+    ensures { OnOk result (out.new.items ≡ out.old.items ++ cell_anchor cell) }
 {
-    match c {
+    match cell {
         Cell::Stay(p) => put_labelled(out, "p", p.0),
         Cell::RoomDay(r, d) => put_anchor(out, "d", r.0, d.0),
         Cell::TheatreDay(t, d) => put_anchor(out, "t", t.0, d.0),
@@ -29,92 +29,99 @@ pub fn put_cell_anchor(out: &mut Vec<u8>, c: Cell) -> Put
 }
 
 #[tactic(auto, unfolding(crate::specs::CellNames::person_name))]
-fn put_person(out: &mut Vec<u8>, inst: &Instance, x: u32) -> Put
-    requires { x < person_count inst.now.draft }
-    ensures { OnOk result (out.new.items ≡ out.old.items ++ person_name inst.now.draft x) }
+fn put_person(out: &mut Vec<u8>, inst: &Instance, person: u32) -> Put
+    requires { person < person_count inst.now.draft }
+    ensures { OnOk result (out.new.items ≡ out.old.items ++ person_name inst.now.draft person) }
 {
     let patients = inst.patients();
-    if x < patients {
+    if person < patients {
         put(out, "patient ")?;
-        put_isolated(out, inst.patient(PatientNo(x)).id.as_str())
+        put_isolated(out, inst.patient(PatientNo(person)).id.as_str())
     } else {
         put(out, "occupant ")?;
-        put_isolated(out, inst.occupant(x - patients).id.as_str())
+        put_isolated(out, inst.occupant(person - patients).id.as_str())
     }
 }
 
 /// Appends the name of a room.
 #[tactic(auto, unfolding(crate::specs::CellNames::room_name))]
-pub fn put_room(out: &mut Vec<u8>, inst: &Instance, r: RoomNo) -> Put
-    requires { r.0 < room_count inst.now.draft }
-    ensures { OnOk result (out.new.items ≡ out.old.items ++ room_name inst.now.draft r.0) }
+pub fn put_room(out: &mut Vec<u8>, inst: &Instance, room: RoomNo) -> Put
+    requires { room.0 < room_count inst.now.draft }
+    ensures { OnOk result (out.new.items ≡ out.old.items ++ room_name inst.now.draft room.0) }
 {
     put(out, "room ")?;
-    put_isolated(out, inst.room(r).id.as_str())
+    put_isolated(out, inst.room(room).id.as_str())
 }
 
 #[tactic(auto, unfolding(crate::specs::CellNames::shift_name))]
-fn put_shift(out: &mut Vec<u8>, shown: &Shown<'_>, k: u32) -> Put
-    ensures { OnOk result (out.new.items ≡ out.old.items ++ shift_name shown.now.inst.now.draft shown.now.first k) }
+fn put_shift(out: &mut Vec<u8>, shown: &Shown<'_>, shift: u32) -> Put
+    ensures { OnOk result (out.new.items ≡ out.old.items ++ shift_name shown.now.inst.now.draft shown.now.first shift) }
 {
-    put_day(out, shown, k / 3)?;
+    put_day(out, shown, shift / 3)?;
     put(out, ", ")?;
-    put_shift_type(out, shown.inst, k % 3)
+    put_shift_type(out, shown.inst, shift % 3)
 }
 
-fn put_room_day(out: &mut Vec<u8>, shown: &Shown<'_>, r: RoomNo, d: Day) -> Put
-    requires { r.0 < room_count shown.now.inst.now.draft }
-    ensures { OnOk result (out.new.items ≡ out.old.items ++ (room_name shown.now.inst.now.draft r.0 ++ day_text shown.now.first d.0)) }
-{
-    put_room(out, shown.inst, r)?;
-    put_day(out, shown, d.0)
-}
-
-fn put_theatre_day(out: &mut Vec<u8>, shown: &Shown<'_>, t: TheatreNo, d: Day) -> Put
-    requires { t.0 < theatre_count shown.now.inst.now.draft }
+fn put_room_day(out: &mut Vec<u8>, shown: &Shown<'_>, room: RoomNo, day: Day) -> Put
+    requires { room.0 < room_count shown.now.inst.now.draft }
     ensures { OnOk result (out.new.items
-        ≡ out.old.items ++ (codes "theatre " ++ (theatre_name shown.now.inst.now.draft t.0 ++ day_text shown.now.first d.0))) }
+        ≡ out.old.items ++ (room_name shown.now.inst.now.draft room.0 ++ day_text shown.now.first day.0)) }
+{
+    put_room(out, shown.inst, room)?;
+    put_day(out, shown, day.0)
+}
+
+fn put_theatre_day(out: &mut Vec<u8>, shown: &Shown<'_>, theatre: TheatreNo, day: Day) -> Put
+    requires { theatre.0 < theatre_count shown.now.inst.now.draft }
+    ensures { OnOk result (out.new.items
+        ≡ out.old.items
+        ++ (codes "theatre " ++ (theatre_name shown.now.inst.now.draft theatre.0 ++ day_text shown.now.first day.0))) }
 {
     put(out, "theatre ")?;
-    put_theatre(out, shown.inst, t)?;
-    put_day(out, shown, d.0)
+    put_theatre(out, shown.inst, theatre)?;
+    put_day(out, shown, day.0)
 }
 
-fn put_surgeon_day(out: &mut Vec<u8>, shown: &Shown<'_>, s: SurgeonNo, d: Day) -> Put
-    requires { s.0 < surgeon_count shown.now.inst.now.draft }
+fn put_surgeon_day(out: &mut Vec<u8>, shown: &Shown<'_>, surgeon: SurgeonNo, day: Day) -> Put
+    requires { surgeon.0 < surgeon_count shown.now.inst.now.draft }
     ensures { OnOk result (out.new.items
-        ≡ out.old.items ++ (codes "surgeon " ++ (surgeon_name shown.now.inst.now.draft s.0 ++ day_text shown.now.first d.0))) }
+        ≡ out.old.items
+        ++ (codes "surgeon " ++ (surgeon_name shown.now.inst.now.draft surgeon.0 ++ day_text shown.now.first day.0))) }
 {
     put(out, "surgeon ")?;
-    put_surgeon(out, shown.inst, s)?;
-    put_day(out, shown, d.0)
+    put_surgeon(out, shown.inst, surgeon)?;
+    put_day(out, shown, day.0)
 }
 
-fn put_room_shift(out: &mut Vec<u8>, shown: &Shown<'_>, r: RoomNo, k: Shift) -> Put
-    requires { r.0 < room_count shown.now.inst.now.draft }
+fn put_room_shift(out: &mut Vec<u8>, shown: &Shown<'_>, room: RoomNo, shift: Shift) -> Put
+    requires { room.0 < room_count shown.now.inst.now.draft }
     ensures { OnOk result
-        (out.new.items ≡ out.old.items ++ (room_name shown.now.inst.now.draft r.0 ++ shift_name shown.now.inst.now.draft shown.now.first k.0)) }
+        (out.new.items
+        ≡ out.old.items
+        ++ (room_name shown.now.inst.now.draft room.0 ++ shift_name shown.now.inst.now.draft shown.now.first shift.0)) }
 {
-    put_room(out, shown.inst, r)?;
-    put_shift(out, shown, k.0)
+    put_room(out, shown.inst, room)?;
+    put_shift(out, shown, shift.0)
 }
 
-fn put_nurse_shift(out: &mut Vec<u8>, shown: &Shown<'_>, n: NurseNo, k: Shift) -> Put
-    requires { n.0 < nurse_count shown.now.inst.now.draft }
+fn put_nurse_shift(out: &mut Vec<u8>, shown: &Shown<'_>, nurse: NurseNo, shift: Shift) -> Put
+    requires { nurse.0 < nurse_count shown.now.inst.now.draft }
     ensures { OnOk result (out.new.items ≡ out.old.items
-        ++ (codes "nurse " ++ (nurse_name shown.now.inst.now.draft (Some n.0) ++ shift_name shown.now.inst.now.draft shown.now.first k.0))) }
+        ++ (codes "nurse "
+        ++ (nurse_name shown.now.inst.now.draft (Some nurse.0)
+        ++ shift_name shown.now.inst.now.draft shown.now.first shift.0))) }
 {
     put(out, "nurse ")?;
-    put_nurse(out, shown.inst, Some(n))?;
-    put_shift(out, shown, k.0)
+    put_nurse(out, shown.inst, Some(nurse))?;
+    put_shift(out, shown, shift.0)
 }
 
 /// Appends the name of a cell.
-pub fn put_cell(out: &mut Vec<u8>, shown: &Shown<'_>, c: Cell) -> Put
-    requires { IsCellOf shown.now.inst.now.draft c }
-    ensures { OnOk result (out.new.items ≡ out.old.items ++ cell_text shown.now.inst.now.draft shown.now.first c) }
+pub fn put_cell(out: &mut Vec<u8>, shown: &Shown<'_>, cell: Cell) -> Put
+    requires { IsCellOf shown.now.inst.now.draft cell }
+    ensures { OnOk result (out.new.items ≡ out.old.items ++ cell_text shown.now.inst.now.draft shown.now.first cell) }
 {
-    match c {
+    match cell {
         Cell::Stay(p) => put_person(out, shown.inst, p.0),
         Cell::RoomDay(r, d) => put_room_day(out, shown, r, d),
         Cell::TheatreDay(t, d) => put_theatre_day(out, shown, t, d),

@@ -1,6 +1,20 @@
 //! What changed since an older timetable.
 
-ghost use Rattle.std.specs.Prelude.{[], ◌≡◌, ◌<◌, ◌≤ℤ◌, ◌*◌, ◌^◌, ◌++◌, pos, neg_ℤ, IfSome, OnOk, if◌then◌else◌, option_map};
+ghost use Rattle.std.specs.Prelude.{
+  [],
+  ◌≡◌,
+  ◌<◌,
+  ◌≤ℤ◌,
+  ◌*◌,
+  ◌^◌,
+  ◌++◌,
+  pos,
+  neg_ℤ,
+  IfSome,
+  OnOk,
+  if◌then◌else◌,
+  option_map,
+};
 ghost use Rattle.ih_tables.specs.declared.ids.NurseNo.{NurseNo};
 ghost use Rattle.ih_tables.specs.{Bills.IsWithin, Sizes.patient_count, Sizes.room_count, Sizes.shift_count};
 ghost use Rattle.ih_plan.specs.{BillOf.bill_of, Timetable.IsPlanOf};
@@ -37,28 +51,29 @@ fn is_same_stay(was: Option<Placement>, is: Option<Placement>) -> bool
 }
 
 // A patient's place before, and its place now.
-fn put_change(out: &mut Vec<u8>, both: &Compared<'_>, p: u32) -> Put
-    requires { p < patient_count both.now.shown.now.inst.now.draft }
+fn put_change(out: &mut Vec<u8>, both: &Compared<'_>, patient: u32) -> Put
+    requires { patient < patient_count both.now.shown.now.inst.now.draft }
     ensures { let shown = both.now.shown.now in OnOk result
-        (out.new.items ≡ out.old.items ++ change_item shown.inst.now.draft shown.first both.now.older.now shown.plan.now p) }
+        (out.new.items
+        ≡ out.old.items ++ change_item shown.inst.now.draft shown.first both.now.older.now shown.plan.now patient) }
 {
     let shown = both.shown;
     put(out, "<li>")?;
-    put_link(out, shown.inst, p)?;
+    put_link(out, shown.inst, patient)?;
     put(out, ": was ")?;
-    put_place(out, shown, both.older, p)?;
+    put_place(out, shown, both.older, patient)?;
     put(out, "<br>now ")?;
-    put_place(out, shown, shown.plan, p)
+    put_place(out, shown, shown.plan, patient)
 }
 
 // Whether the patient has another day, room or theatre.
-fn is_changed(both: &Compared<'_>, p: u32) -> bool
-    requires { p < patient_count both.now.shown.now.inst.now.draft }
-    ensures { result ≡ is_changed both.now.older.now both.now.shown.now.plan.now p }
+fn is_changed(both: &Compared<'_>, patient: u32) -> bool
+    requires { patient < patient_count both.now.shown.now.inst.now.draft }
+    ensures { result ≡ is_changed both.now.older.now both.now.shown.now.plan.now patient }
 {
     !is_same_stay(
-        both.older.stay(PatientNo(p)),
-        both.shown.plan.stay(PatientNo(p)),
+        both.older.stay(PatientNo(patient)),
+        both.shown.plan.stay(PatientNo(patient)),
     )
 }
 
@@ -76,14 +91,14 @@ fn changed_patient_count(both: &Compared<'_>) -> u64
 }
 
 // The places of a patient who has another.
-fn put_change_if(out: &mut Vec<u8>, both: &Compared<'_>, p: u32) -> Put
-    requires { p < patient_count both.now.shown.now.inst.now.draft }
+fn put_change_if(out: &mut Vec<u8>, both: &Compared<'_>, patient: u32) -> Put
+    requires { patient < patient_count both.now.shown.now.inst.now.draft }
     ensures { let shown = both.now.shown.now in OnOk result (out.new.items ≡ out.old.items
-        ++ (if is_changed both.now.older.now shown.plan.now p
-        then change_item shown.inst.now.draft shown.first both.now.older.now shown.plan.now p else [])) }
+        ++ (if is_changed both.now.older.now shown.plan.now patient
+        then change_item shown.inst.now.draft shown.first both.now.older.now shown.plan.now patient else [])) }
 {
-    if is_changed(both, p) {
-        put_change(out, both, p)
+    if is_changed(both, patient) {
+        put_change(out, both, patient)
     } else {
         Ok(())
     }
@@ -93,7 +108,8 @@ fn put_change_if(out: &mut Vec<u8>, both: &Compared<'_>, p: u32) -> Put
 #[tactic(auto, unfolding(crate::specs::Changes::changed_list))]
 fn put_patients(out: &mut Vec<u8>, both: &Compared<'_>) -> Put
     ensures { let shown = both.now.shown.now in OnOk result
-        (out.new.items ≡ out.old.items ++ changed_list shown.inst.now.draft shown.first both.now.older.now shown.plan.now) }
+        (out.new.items
+        ≡ out.old.items ++ changed_list shown.inst.now.draft shown.first both.now.older.now shown.plan.now) }
 {
     for p in 0..both.shown.inst.patients() {
         put_change_if(out, both, p)?;
@@ -113,36 +129,36 @@ fn is_same_nurse(was: Option<NurseNo>, is: Option<NurseNo>) -> bool
 }
 
 // Whether the room has another nurse in the shift.
-fn has_another(both: &Compared<'_>, r: u32, k: u32) -> bool
-    requires room { r < room_count both.now.shown.now.inst.now.draft }
-    requires shift { k < shift_count both.now.shown.now.inst.now.draft }
-    ensures { result ≡ has_another both.now.older.now both.now.shown.now.plan.now r k }
+fn has_another(both: &Compared<'_>, room: u32, shift: u32) -> bool
+    requires room { room < room_count both.now.shown.now.inst.now.draft }
+    requires shift { shift < shift_count both.now.shown.now.inst.now.draft }
+    ensures { result ≡ has_another both.now.older.now both.now.shown.now.plan.now room shift }
 {
-    let was = both.older.care(RoomNo(r), Shift(k));
-    let is = both.shown.plan.care(RoomNo(r), Shift(k));
+    let was = both.older.care(RoomNo(room), Shift(shift));
+    let is = both.shown.plan.care(RoomNo(room), Shift(shift));
     !is_same_nurse(was, is)
 }
 
 // In how many shifts the room has another nurse.
 #[tactic(auto, using(ih_plan::proofs::SumLemmas::sum_steps))]
-fn changed_shift_count(both: &Compared<'_>, r: u32) -> u64
-    requires { r < room_count both.now.shown.now.inst.now.draft }
+fn changed_shift_count(both: &Compared<'_>, room: u32) -> u64
+    requires { room < room_count both.now.shown.now.inst.now.draft }
     ensures { let shown = both.now.shown.now in
-        result ≡ changed_shift_count shown.inst.now.draft both.now.older.now shown.plan.now r }
+        result ≡ changed_shift_count shown.inst.now.draft both.now.older.now shown.plan.now room }
 {
     let mut count = 0;
     for k in 0..both.shown.inst.shifts() {
-        count += bit(has_another(both, r, k));
+        count += bit(has_another(both, room, k));
     }
     count
 }
 
-fn is_changed_room(both: &Compared<'_>, r: u32) -> bool
-    requires { r < room_count both.now.shown.now.inst.now.draft }
+fn is_changed_room(both: &Compared<'_>, room: u32) -> bool
+    requires { room < room_count both.now.shown.now.inst.now.draft }
     ensures { let shown = both.now.shown.now in
-        result ≡ is_changed_room shown.inst.now.draft both.now.older.now shown.plan.now r }
+        result ≡ is_changed_room shown.inst.now.draft both.now.older.now shown.plan.now room }
 {
-    changed_shift_count(both, r) != 0
+    changed_shift_count(both, room) != 0
 }
 
 // In how many rooms there is a shift with another nurse.
@@ -159,31 +175,31 @@ fn changed_room_count(both: &Compared<'_>) -> u64
 }
 
 // The nurse of the room in the shift before, and the nurse now.
-fn put_shift(out: &mut Vec<u8>, both: &Compared<'_>, r: u32, k: u32) -> Put
-    requires room { r < room_count both.now.shown.now.inst.now.draft }
-    requires shift { k < shift_count both.now.shown.now.inst.now.draft }
+fn put_shift(out: &mut Vec<u8>, both: &Compared<'_>, room: u32, shift: u32) -> Put
+    requires room { room < room_count both.now.shown.now.inst.now.draft }
+    requires shift { shift < shift_count both.now.shown.now.inst.now.draft }
     ensures { let shown = both.now.shown.now in OnOk result (out.new.items ≡ out.old.items
-        ++ shift_item shown.inst.now.draft shown.first both.now.older.now shown.plan.now r k) }
+        ++ shift_item shown.inst.now.draft shown.first both.now.older.now shown.plan.now room shift) }
 {
     let shown = both.shown;
-    put_cell_link(out, shown, Cell::RoomShift(RoomNo(r), Shift(k)))?;
+    put_cell_link(out, shown, Cell::RoomShift(RoomNo(room), Shift(shift)))?;
     put(out, "was ")?;
-    put_nurse_in(out, shown.inst, both.older, r, k)?;
+    put_nurse_in(out, shown.inst, both.older, room, shift)?;
     put(out, ", now ")?;
-    put_nurse_in(out, shown.inst, shown.plan, r, k)?;
+    put_nurse_in(out, shown.inst, shown.plan, room, shift)?;
     put(out, "\n")
 }
 
 // The nurses of a shift in which the room has another.
-fn put_shift_if(out: &mut Vec<u8>, both: &Compared<'_>, r: u32, k: u32) -> Put
-    requires room { r < room_count both.now.shown.now.inst.now.draft }
-    requires shift { k < shift_count both.now.shown.now.inst.now.draft }
+fn put_shift_if(out: &mut Vec<u8>, both: &Compared<'_>, room: u32, shift: u32) -> Put
+    requires room { room < room_count both.now.shown.now.inst.now.draft }
+    requires shift { shift < shift_count both.now.shown.now.inst.now.draft }
     ensures { let shown = both.now.shown.now in OnOk result (out.new.items ≡ out.old.items
-        ++ (if has_another both.now.older.now shown.plan.now r k
-        then shift_item shown.inst.now.draft shown.first both.now.older.now shown.plan.now r k else [])) }
+        ++ (if has_another both.now.older.now shown.plan.now room shift
+        then shift_item shown.inst.now.draft shown.first both.now.older.now shown.plan.now room shift else [])) }
 {
-    if has_another(both, r, k) {
-        put_shift(out, both, r, k)
+    if has_another(both, room, shift) {
+        put_shift(out, both, room, shift)
     } else {
         Ok(())
     }
@@ -191,13 +207,13 @@ fn put_shift_if(out: &mut Vec<u8>, both: &Compared<'_>, r: u32, k: u32) -> Put
 
 // The shifts in which the room has another nurse.
 #[tactic(auto, unfolding(crate::specs::Changes::shift_items))]
-fn put_shifts(out: &mut Vec<u8>, both: &Compared<'_>, r: u32) -> Put
-    requires room { r < room_count both.now.shown.now.inst.now.draft }
+fn put_shifts(out: &mut Vec<u8>, both: &Compared<'_>, room: u32) -> Put
+    requires room { room < room_count both.now.shown.now.inst.now.draft }
     ensures { let shown = both.now.shown.now in OnOk result (out.new.items ≡ out.old.items
-        ++ shift_items shown.inst.now.draft shown.first both.now.older.now shown.plan.now r) }
+        ++ shift_items shown.inst.now.draft shown.first both.now.older.now shown.plan.now room) }
 {
     for k in 0..both.shown.inst.shifts() {
-        put_shift_if(out, both, r, k)?;
+        put_shift_if(out, both, room, k)?;
     }
     Ok(())
 }
@@ -214,38 +230,38 @@ fn fold_of(count: u64) -> &'static str
 }
 
 #[tactic(auto, unfolding(crate::specs::Changes::shifts_head))]
-fn put_shifts_head(out: &mut Vec<u8>, inst: &Instance, r: u32, count: u64) -> Put
-    requires { r < room_count inst.now.draft }
-    ensures { OnOk result (out.new.items ≡ out.old.items ++ shifts_head inst.now.draft r count) }
+fn put_shifts_head(out: &mut Vec<u8>, inst: &Instance, room: u32, count: u64) -> Put
+    requires { room < room_count inst.now.draft }
+    ensures { OnOk result (out.new.items ≡ out.old.items ++ shifts_head inst.now.draft room count) }
 {
     put(out, fold_of(count))?;
-    put_room(out, inst, RoomNo(r))?;
+    put_room(out, inst, RoomNo(room))?;
     put(out, ": ")?;
     put_number(out, count)?;
     put(out, "</summary><ul>\n")
 }
 
 #[tactic(auto, unfolding(crate::specs::Changes::shifts_list))]
-fn put_shifts_list(out: &mut Vec<u8>, both: &Compared<'_>, r: u32, count: u64) -> Put
-    requires { r < room_count both.now.shown.now.inst.now.draft }
+fn put_shifts_list(out: &mut Vec<u8>, both: &Compared<'_>, room: u32, count: u64) -> Put
+    requires { room < room_count both.now.shown.now.inst.now.draft }
     ensures { let shown = both.now.shown.now in OnOk result (out.new.items ≡ out.old.items
-        ++ shifts_list shown.inst.now.draft shown.first both.now.older.now shown.plan.now r count) }
+        ++ shifts_list shown.inst.now.draft shown.first both.now.older.now shown.plan.now room count) }
 {
-    put_shifts_head(out, both.shown.inst, r, count)?;
-    put_shifts(out, both, r)?;
+    put_shifts_head(out, both.shown.inst, room, count)?;
+    put_shifts(out, both, room)?;
     put(out, "</ul></details>\n")
 }
 
 // The room, where it has another nurse in some shifts.
-fn put_shifts_if(out: &mut Vec<u8>, both: &Compared<'_>, r: u32, count: u64) -> Put
-    requires { r < room_count both.now.shown.now.inst.now.draft }
+fn put_shifts_if(out: &mut Vec<u8>, both: &Compared<'_>, room: u32, count: u64) -> Put
+    requires { room < room_count both.now.shown.now.inst.now.draft }
     ensures { let shown = both.now.shown.now in OnOk result (out.new.items ≡ out.old.items
-        ++ shifts_if shown.inst.now.draft shown.first both.now.older.now shown.plan.now r count) }
+        ++ shifts_if shown.inst.now.draft shown.first both.now.older.now shown.plan.now room count) }
 {
     if count == 0 {
         Ok(())
     } else {
-        put_shifts_list(out, both, r, count)
+        put_shifts_list(out, both, room, count)
     }
 }
 
@@ -261,7 +277,7 @@ fn put_nurses(out: &mut Vec<u8>, both: &Compared<'_>) -> Put
     Ok(())
 }
 
-// How often the hard rules are broken.
+// The nine counts of broken hard rules, summed.
 #[tactic(auto, using(ih_tables::proofs::BillLemmas::signed_steps))]
 fn broken(bill: &Bill) -> i64
     requires { IsWithin (10 ^ 11) bill.now }
@@ -277,31 +293,31 @@ fn broken(bill: &Bill) -> i64
 }
 
 #[tactic(auto, unfolding(crate::specs::Changes::cost_td))]
-fn put_cost(out: &mut Vec<u8>, x: i64) -> Put
-    ensures { OnOk result (out.new.items ≡ out.old.items ++ cost_td x) }
+fn put_cost(out: &mut Vec<u8>, cost: i64) -> Put
+    ensures { OnOk result (out.new.items ≡ out.old.items ++ cost_td cost) }
 {
     put(out, "<td>")?;
-    put_signed(out, x)
+    put_signed(out, cost)
 }
 
 #[tactic(auto, unfolding(crate::specs::Changes::costs_text))]
-fn put_two(out: &mut Vec<u8>, x: i64, y: i64) -> Put
-    ensures { OnOk result (out.new.items ≡ out.old.items ++ costs_text x y) }
+fn put_two(out: &mut Vec<u8>, before: i64, after: i64) -> Put
+    ensures { OnOk result (out.new.items ≡ out.old.items ++ costs_text before after) }
 {
-    put_cost(out, x)?;
-    put_cost(out, y)?;
+    put_cost(out, before)?;
+    put_cost(out, after)?;
     put(out, "\n")
 }
 
 #[tactic(auto, unfolding(crate::specs::Changes::part_row))]
-fn put_part(out: &mut Vec<u8>, i: usize, x: i64, y: i64) -> Put
-    requires { i < 8 }
-    ensures { OnOk result (out.new.items ≡ out.old.items ++ part_row i x y) }
+fn put_part(out: &mut Vec<u8>, index: usize, before: i64, after: i64) -> Put
+    requires { index < 8 }
+    ensures { OnOk result (out.new.items ≡ out.old.items ++ part_row index before after) }
 {
-    put_line(out, "<tr><th>S", i)?;
+    put_line(out, "<tr><th>S", index)?;
     put(out, "<td>")?;
-    put(out, cost_name(i))?;
-    put_two(out, x, y)
+    put(out, cost_name(index))?;
+    put_two(out, before, after)
 }
 
 fn put_parts(out: &mut Vec<u8>, inst: &Instance, before: &Bill, after: &Bill) -> Put

@@ -19,64 +19,64 @@ fn share_of(whole: u64, part: u64) -> u64
 
 // A part's line, what it counts, and its share.
 #[tactic(auto, unfolding(crate::specs::CostBar::part_name))]
-fn put_name(out: &mut Vec<u8>, i: usize, share: u64) -> Put
-    requires { i < 9 }
-    ensures { OnOk result (out.new.items ≡ out.old.items ++ part_name i share) }
+fn put_name(out: &mut Vec<u8>, index: usize, share: u64) -> Put
+    requires { index < 9 }
+    ensures { OnOk result (out.new.items ≡ out.old.items ++ part_name index share) }
 {
-    put_line_link(out, "S", i)?;
+    put_line_link(out, "S", index)?;
     put(out, " ")?;
-    put(out, cost_name(i))?;
+    put(out, cost_name(index))?;
     put(out, " ")?;
     put_number(out, share)?;
     put(out, "%")
 }
 
 #[tactic(auto, unfolding(crate::specs::CostBar::part_td))]
-fn put_part(out: &mut Vec<u8>, i: usize, share: u64) -> Put
-    requires { i < 9 }
-    ensures { OnOk result (out.new.items ≡ out.old.items ++ part_td i share) }
+fn put_part(out: &mut Vec<u8>, index: usize, share: u64) -> Put
+    requires { index < 9 }
+    ensures { OnOk result (out.new.items ≡ out.old.items ++ part_td index share) }
 {
-    put_line(out, "<td class=c", i)?;
+    put_line(out, "<td class=c", index)?;
     put(out, " style=width:")?;
     put_number(out, share)?;
     put(out, "%>")?;
-    put_name(out, i, share)
+    put_name(out, index, share)
 }
 
-fn put_part_if(out: &mut Vec<u8>, i: usize, share: u64) -> Put
-    requires { i < 9 }
-    ensures { OnOk result (out.new.items ≡ out.old.items ++ part_if i share) }
+fn put_part_if(out: &mut Vec<u8>, index: usize, share: u64) -> Put
+    requires { index < 9 }
+    ensures { OnOk result (out.new.items ≡ out.old.items ++ part_if index share) }
 {
     if share == 0 {
         Ok(())
     } else {
-        put_part(out, i, share)
+        put_part(out, index, share)
     }
 }
 
 // The magnitude of a number of a bill times its weight.
 #[tactic(auto, using(crate::proofs::Magnitudes::abs_most))]
-fn product_of(x: i64, w: i64) -> u64
-    requires low { neg_ℤ (pos (10 ^ 11)) ≤ℤ x }
-    requires high { x ≤ℤ pos (10 ^ 11) }
-    requires weight_low { pos 0 ≤ℤ w }
-    requires weight_high { w ≤ℤ pos 100000 }
-    ensures product { result ≡ unsigned_abs (x *ℤ w) }
+fn product_of(amount: i64, weight: i64) -> u64
+    requires low { neg_ℤ (pos (10 ^ 11)) ≤ℤ amount }
+    requires high { amount ≤ℤ pos (10 ^ 11) }
+    requires weight_low { pos 0 ≤ℤ weight }
+    requires weight_high { weight ≤ℤ pos 100000 }
+    ensures product { result ≡ unsigned_abs (amount *ℤ weight) }
     ensures most { result ≤ 10 ^ 16 }
 {
-    times(x, w).unsigned_abs()
+    times(amount, weight).unsigned_abs()
 }
 
-fn put_cost_part(out: &mut Vec<u8>, i: usize, whole: u64, x: i64, w: i64) -> Put
-    requires place { i < 8 }
-    requires low { neg_ℤ (pos (10 ^ 11)) ≤ℤ x }
-    requires high { x ≤ℤ pos (10 ^ 11) }
-    requires weight_low { pos 0 ≤ℤ w }
-    requires weight_high { w ≤ℤ pos 100000 }
+fn put_cost_part(out: &mut Vec<u8>, index: usize, whole: u64, amount: i64, weight: i64) -> Put
+    requires place { index < 8 }
+    requires low { neg_ℤ (pos (10 ^ 11)) ≤ℤ amount }
+    requires high { amount ≤ℤ pos (10 ^ 11) }
+    requires weight_low { pos 0 ≤ℤ weight }
+    requires weight_high { weight ≤ℤ pos 100000 }
     ensures { OnOk result
-        (out.new.items ≡ out.old.items ++ part_if i (share_of whole (unsigned_abs (x *ℤ w)))) }
+        (out.new.items ≡ out.old.items ++ part_if index (share_of whole (unsigned_abs (amount *ℤ weight)))) }
 {
-    put_part_if(out, i, share_of(whole, product_of(x, w)))
+    put_part_if(out, index, share_of(whole, product_of(amount, weight)))
 }
 
 // The magnitude of the cost.

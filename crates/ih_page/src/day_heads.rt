@@ -20,74 +20,74 @@ fn put_date(out: &mut Vec<u8>, date: Date) -> Put
 
 // The date that many days after the first, with its day of the week.
 #[tactic(auto, unfolding(crate::specs::DayHeads::dated_text))]
-fn put_dated(out: &mut Vec<u8>, first: Date, d: u32) -> Put
+fn put_dated(out: &mut Vec<u8>, first: Date, day: u32) -> Put
     requires { IsDate first }
-    ensures { OnOk result (out.new.items ≡ out.old.items ++ dated_text first d) }
+    ensures { OnOk result (out.new.items ≡ out.old.items ++ dated_text first day) }
 {
-    put(out, weekday_name(weekday_after(first, d)))?;
+    put(out, weekday_name(weekday_after(first, day)))?;
     put(out, " ")?;
-    put_date(out, days_after(first, d))
+    put_date(out, days_after(first, day))
 }
 
 #[tactic(auto, unfolding(crate::specs::DayHeads::dated_below))]
-fn put_dated_below(out: &mut Vec<u8>, first: Date, d: u32) -> Put
+fn put_dated_below(out: &mut Vec<u8>, first: Date, day: u32) -> Put
     requires { IsDate first }
-    ensures { OnOk result (out.new.items ≡ out.old.items ++ dated_below first d) }
+    ensures { OnOk result (out.new.items ≡ out.old.items ++ dated_below first day) }
 {
     put(out, "<br>")?;
-    put_dated(out, first, d)
+    put_dated(out, first, day)
 }
 
-fn put_dated_if(out: &mut Vec<u8>, shown: &Shown<'_>, d: u32) -> Put
-    ensures { OnOk result (out.new.items ≡ out.old.items ++ dated_if shown.now.first d) }
+fn put_dated_if(out: &mut Vec<u8>, shown: &Shown<'_>, day: u32) -> Put
+    ensures { OnOk result (out.new.items ≡ out.old.items ++ dated_if shown.now.first day) }
 {
     match shown.first {
         None => Ok(()),
-        Some(first) => put_dated_below(out, first, d),
+        Some(first) => put_dated_below(out, first, day),
     }
 }
 
 #[tactic(auto, unfolding(crate::specs::DayHeads::dated_beside))]
-fn put_dated_beside(out: &mut Vec<u8>, first: Date, d: u32) -> Put
+fn put_dated_beside(out: &mut Vec<u8>, first: Date, day: u32) -> Put
     requires { IsDate first }
-    ensures { OnOk result (out.new.items ≡ out.old.items ++ dated_beside first d) }
+    ensures { OnOk result (out.new.items ≡ out.old.items ++ dated_beside first day) }
 {
     put(out, " (")?;
-    put_dated(out, first, d)?;
+    put_dated(out, first, day)?;
     put(out, ")")
 }
 
-fn put_beside_if(out: &mut Vec<u8>, shown: &Shown<'_>, d: u32) -> Put
-    ensures { OnOk result (out.new.items ≡ out.old.items ++ beside_if shown.now.first d) }
+fn put_beside_if(out: &mut Vec<u8>, shown: &Shown<'_>, day: u32) -> Put
+    ensures { OnOk result (out.new.items ≡ out.old.items ++ beside_if shown.now.first day) }
 {
     match shown.first {
         None => Ok(()),
-        Some(first) => put_dated_beside(out, first, d),
+        Some(first) => put_dated_beside(out, first, day),
     }
 }
 
 /// Appends a day in a line: its number behind a text, and its date where that is known.
 #[tactic(auto, unfolding(crate::specs::DayHeads::day_behind))]
-pub fn put_day_behind(out: &mut Vec<u8>, shown: &Shown<'_>, text: &str, d: u32) -> Put
-    ensures { OnOk result (out.new.items ≡ out.old.items ++ day_behind text.now shown.now.first d) }
+pub fn put_day_behind(out: &mut Vec<u8>, shown: &Shown<'_>, text: &str, day: u32) -> Put
+    ensures { OnOk result (out.new.items ≡ out.old.items ++ day_behind text.now shown.now.first day) }
 {
-    put_labelled(out, text, d)?;
-    put_beside_if(out, shown, d)
+    put_labelled(out, text, day)?;
+    put_beside_if(out, shown, day)
 }
 
-/// The same behind what comes before it.
-pub fn put_day(out: &mut Vec<u8>, shown: &Shown<'_>, d: u32) -> Put
-    ensures { OnOk result (out.new.items ≡ out.old.items ++ day_text shown.now.first d) }
+/// Appends a day behind a comma, as the next part of a line.
+pub fn put_day(out: &mut Vec<u8>, shown: &Shown<'_>, day: u32) -> Put
+    ensures { OnOk result (out.new.items ≡ out.old.items ++ day_text shown.now.first day) }
 {
-    put_day_behind(out, shown, ", day ", d)
+    put_day_behind(out, shown, ", day ", day)
 }
 
 #[tactic(auto, unfolding(crate::specs::DayHeads::day_head))]
-fn put_day_head(out: &mut Vec<u8>, shown: &Shown<'_>, tag: &str, d: u32) -> Put
-    ensures { OnOk result (out.new.items ≡ out.old.items ++ day_head shown.now.first tag.now d) }
+fn put_day_head(out: &mut Vec<u8>, shown: &Shown<'_>, tag: &str, day: u32) -> Put
+    ensures { OnOk result (out.new.items ≡ out.old.items ++ day_head shown.now.first tag.now day) }
 {
-    put_labelled(out, tag, d)?;
-    put_dated_if(out, shown, d)
+    put_labelled(out, tag, day)?;
+    put_dated_if(out, shown, day)
 }
 
 /// Appends the heads of a table's columns, of which the last are the days, each with this tag.

@@ -31,8 +31,8 @@ pub fn ids_are_unique(_inst: &Instance)
         → IdsAreUnique _inst.now.draft first older P }
 {}
 
-/// Each link leads: what has that id stands in the page. The links are those to cells, patients and occupants, to the
-/// list of a line of the report whose number isn't 0, and to the heads of three lists.
+/// Each of these targets stands in the page: the cells, patients and occupants that links name, the list of a line of
+/// the report whose number isn't 0, and the heads of three lists. That a page has no other links is its definition's.
 pub fn links_lead(_inst: &Instance)
     ensures { (first : Option Date) (older : Option Timetable) (P : Timetable) → IsPlanOf _inst.now.draft P
         → LinksLead _inst.now.draft first older P }

@@ -31,39 +31,40 @@ fn put_last_day(out: &mut Vec<u8>, shown: &Shown<'_>, due: Option<u32>) -> Put
 }
 
 #[tactic(auto, unfolding(crate::specs::LeftOut::window_text))]
-fn put_window(out: &mut Vec<u8>, shown: &Shown<'_>, a: &Patient) -> Put
-    ensures { OnOk result (out.new.items ≡ out.old.items ++ window_text shown.now.first a.now) }
+fn put_window(out: &mut Vec<u8>, shown: &Shown<'_>, patient: &Patient) -> Put
+    ensures { OnOk result (out.new.items ≡ out.old.items ++ window_text shown.now.first patient.now) }
 {
-    put_day(out, shown, a.surgery_release_day)?;
-    put_last_day(out, shown, a.surgery_due_day)?;
+    put_day(out, shown, patient.surgery_release_day)?;
+    put_last_day(out, shown, patient.surgery_due_day)?;
     put(out, "\n")
 }
 
-fn put_item(out: &mut Vec<u8>, shown: &Shown<'_>, p: u32, a: &Patient) -> Put
-    ensures { OnOk result (out.new.items ≡ out.old.items ++ left_out_item shown.now.first p a.now) }
+fn put_item(out: &mut Vec<u8>, shown: &Shown<'_>, patient_no: u32, patient: &Patient) -> Put
+    ensures { OnOk result (out.new.items ≡ out.old.items ++ left_out_item shown.now.first patient_no patient.now) }
 {
-    put_numbered(out, "<li id=p", p, ">", a.id.as_str())?;
+    put_numbered(out, "<li id=p", patient_no, ">", patient.id.as_str())?;
     put(out, ": ")?;
-    put(out, need_text(a.mandatory))?;
-    put_window(out, shown, a)
+    put(out, need_text(patient.mandatory))?;
+    put_window(out, shown, patient)
 }
 
-fn put_item_of(out: &mut Vec<u8>, shown: &Shown<'_>, p: u32) -> Put
-    requires patient { p < patient_count shown.now.inst.now.draft }
+fn put_item_of(out: &mut Vec<u8>, shown: &Shown<'_>, patient: u32) -> Put
+    requires patient { patient < patient_count shown.now.inst.now.draft }
     ensures { OnOk result
-        (out.new.items ≡ out.old.items ++ left_out_of shown.now.inst.now.draft shown.now.first shown.now.plan.now p) }
+        (out.new.items
+        ≡ out.old.items ++ left_out_of shown.now.inst.now.draft shown.now.first shown.now.plan.now patient) }
 {
-    match shown.plan.stay(PatientNo(p)) {
-        None => put_item(out, shown, p, shown.inst.patient(PatientNo(p))),
+    match shown.plan.stay(PatientNo(patient)) {
+        None => put_item(out, shown, patient, shown.inst.patient(PatientNo(patient))),
         Some(_) => Ok(()),
     }
 }
 
-fn is_left_out(shown: &Shown<'_>, p: u32) -> bool
-    requires patient { p < patient_count shown.now.inst.now.draft }
-    ensures { result ≡ is_left_out shown.now.plan.now p }
+fn is_left_out(shown: &Shown<'_>, patient: u32) -> bool
+    requires patient { patient < patient_count shown.now.inst.now.draft }
+    ensures { result ≡ is_left_out shown.now.plan.now patient }
 {
-    shown.plan.stay(PatientNo(p)).is_none()
+    shown.plan.stay(PatientNo(patient)).is_none()
 }
 
 // How many patients are left out.

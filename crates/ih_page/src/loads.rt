@@ -11,42 +11,43 @@ use ih_tables::{Instance, NurseNo, RoomNo, Shift};
 use ih_validate::bit;
 
 // Whether the room is the nurse's in the shift.
-fn is_given(inst: &Instance, plan: &Plan, n: NurseNo, k: u32, r: RoomNo) -> bool
+fn is_given(inst: &Instance, plan: &Plan, nurse: NurseNo, shift: u32, room: RoomNo) -> bool
     requires plan { IsPlanOf inst.now.draft plan.now }
-    requires room { r.0 < room_count inst.now.draft }
-    requires shift { k < shift_count inst.now.draft }
-    ensures { result ≡ is_number (care_of plan.now r.0 k) n.0 }
+    requires room { room.0 < room_count inst.now.draft }
+    requires shift { shift < shift_count inst.now.draft }
+    ensures { result ≡ is_number (care_of plan.now room.0 shift) nurse.0 }
 {
-    match plan.care(r, Shift(k)) {
+    match plan.care(room, Shift(shift)) {
         None => false,
-        Some(m) => m.0 == n.0,
+        Some(m) => m.0 == nurse.0,
     }
 }
 
 /// How many rooms the nurse is given in the shift.
 #[tactic(auto, using(ih_plan::proofs::SumLemmas::sum_steps))]
-pub fn given_rooms(inst: &Instance, plan: &Plan, n: NurseNo, k: u32) -> u64
+pub fn given_rooms(inst: &Instance, plan: &Plan, nurse: NurseNo, shift: u32) -> u64
     requires plan { IsPlanOf inst.now.draft plan.now }
-    requires shift { k < shift_count inst.now.draft }
-    ensures { result ≡ given_rooms inst.now.draft plan.now n.0 k }
+    requires shift { shift < shift_count inst.now.draft }
+    ensures { result ≡ given_rooms inst.now.draft plan.now nurse.0 shift }
 {
     let mut count = 0;
     for r in 0..inst.rooms() {
-        count += bit(is_given(inst, plan, n, k, RoomNo(r)));
+        count += bit(is_given(inst, plan, nurse, shift, RoomNo(r)));
     }
     count
 }
 
 // The workload of the person in the room, where it is there in the shift.
-fn workload_there(inst: &Instance, plan: &Plan, r: RoomNo, k: u32, x: u32) -> u64
+fn workload_there(inst: &Instance, plan: &Plan, room: RoomNo, shift: u32, person: u32) -> u64
     requires plan { IsPlanOf inst.now.draft plan.now }
-    requires person { x < person_count inst.now.draft }
+    requires person { person < person_count inst.now.draft }
     ensures value { result
-        ≡ (if is_present inst.now.draft plan.now r.0 (day_of k) x then workload_of inst.now.draft plan.now k x else 0) }
+        ≡ (if is_present inst.now.draft plan.now room.0
+        (day_of shift) person then workload_of inst.now.draft plan.now shift person else 0) }
     ensures bound { result ≤ 4294967296 }
 {
-    if is_present(inst, plan, r, k / 3, x) {
-        workload_of(inst, plan, x, k) as u64
+    if is_present(inst, plan, room, shift / 3, person) {
+        workload_of(inst, plan, person, shift) as u64
     } else {
         0
     }
@@ -54,31 +55,31 @@ fn workload_there(inst: &Instance, plan: &Plan, r: RoomNo, k: u32, x: u32) -> u6
 
 // The workload of a room in a shift.
 #[tactic(auto, using(ih_plan::proofs::SumLemmas::sum_steps), unfolding(ih_plan::specs::Presence::present))]
-fn room_load(inst: &Instance, plan: &Plan, r: RoomNo, k: u32) -> u64
+fn room_load(inst: &Instance, plan: &Plan, room: RoomNo, shift: u32) -> u64
     requires { IsPlanOf inst.now.draft plan.now }
-    ensures sum { result ≡ sum_by (workload_of inst.now.draft plan.now k)
-        (present inst.now.draft plan.now r.0 (day_of k)) }
+    ensures sum { result ≡ sum_by (workload_of inst.now.draft plan.now shift)
+        (present inst.now.draft plan.now room.0 (day_of shift)) }
     ensures bound { result ≤ 4294967296 * 2560 }
 {
     let mut sum = 0;
     for x in 0..inst.persons() {
-        sum += workload_there(inst, plan, r, k, x);
+        sum += workload_there(inst, plan, room, shift, x);
     }
     sum
 }
 
 // The workload of a room in a shift, where it is the nurse's.
-fn share_of(inst: &Instance, plan: &Plan, n: NurseNo, k: u32, r: RoomNo) -> u64
+fn share_of(inst: &Instance, plan: &Plan, nurse: NurseNo, shift: u32, room: RoomNo) -> u64
     requires plan { IsPlanOf inst.now.draft plan.now }
-    requires room { r.0 < room_count inst.now.draft }
-    requires shift { k < shift_count inst.now.draft }
+    requires room { room.0 < room_count inst.now.draft }
+    requires shift { shift < shift_count inst.now.draft }
     ensures value { result
-        ≡ (if is_number (care_of plan.now r.0 k) n.0 then sum_by (workload_of inst.now.draft plan.now k)
-        (present inst.now.draft plan.now r.0 (day_of k)) else 0) }
+        ≡ (if is_number (care_of plan.now room.0 shift) nurse.0 then sum_by (workload_of inst.now.draft plan.now shift)
+        (present inst.now.draft plan.now room.0 (day_of shift)) else 0) }
     ensures bound { result ≤ 4294967296 * 2560 }
 {
-    if is_given(inst, plan, n, k, r) {
-        room_load(inst, plan, r, k)
+    if is_given(inst, plan, nurse, shift, room) {
+        room_load(inst, plan, room, shift)
     } else {
         0
     }
@@ -86,14 +87,14 @@ fn share_of(inst: &Instance, plan: &Plan, n: NurseNo, k: u32, r: RoomNo) -> u64
 
 /// The workload of the nurse's rooms in the shift.
 #[tactic(auto, using(ih_plan::proofs::SumLemmas::sum_steps), unfolding(ih_plan::specs::Costs::load_of))]
-pub fn load_of(inst: &Instance, plan: &Plan, n: NurseNo, k: u32) -> u64
+pub fn load_of(inst: &Instance, plan: &Plan, nurse: NurseNo, shift: u32) -> u64
     requires plan { IsPlanOf inst.now.draft plan.now }
-    requires shift { k < shift_count inst.now.draft }
-    ensures { result ≡ load_of inst.now.draft plan.now n.0 k }
+    requires shift { shift < shift_count inst.now.draft }
+    ensures { result ≡ load_of inst.now.draft plan.now nurse.0 shift }
 {
     let mut sum = 0;
     for r in 0..inst.rooms() {
-        sum += share_of(inst, plan, n, k, RoomNo(r));
+        sum += share_of(inst, plan, nurse, shift, RoomNo(r));
     }
     sum
 }

@@ -40,47 +40,49 @@ fn put_load(out: &mut Vec<u8>, most: Option<u32>, rooms: u64, load: u64) -> Put
     }
 }
 
-fn put_td(out: &mut Vec<u8>, shown: &Shown<'_>, n: u32, k: u32) -> Put
-    requires nurse { n < nurse_count shown.now.inst.now.draft }
-    requires shift { k < shift_count shown.now.inst.now.draft }
-    ensures { OnOk result (out.new.items ≡ out.old.items ++ load_td shown.now.inst.now.draft shown.now.plan.now n k) }
+fn put_td(out: &mut Vec<u8>, shown: &Shown<'_>, nurse: u32, shift: u32) -> Put
+    requires nurse { nurse < nurse_count shown.now.inst.now.draft }
+    requires shift { shift < shift_count shown.now.inst.now.draft }
+    ensures { OnOk result (out.new.items
+        ≡ out.old.items ++ load_td shown.now.inst.now.draft shown.now.plan.now nurse shift) }
 {
-    put_td_at(out, "n", n, k)?;
+    put_td_at(out, "n", nurse, shift)?;
     put_load(
         out,
-        shown.inst.works(NurseNo(n), Shift(k)),
-        given_rooms(shown.inst, shown.plan, NurseNo(n), k),
-        load_of(shown.inst, shown.plan, NurseNo(n), k),
+        shown.inst.works(NurseNo(nurse), Shift(shift)),
+        given_rooms(shown.inst, shown.plan, NurseNo(nurse), shift),
+        load_of(shown.inst, shown.plan, NurseNo(nurse), shift),
     )
 }
 
 #[tactic(auto, unfolding(crate::specs::Nursing::nurse_head))]
-fn put_head(out: &mut Vec<u8>, a: &Nurse) -> Put
-    ensures { OnOk result (out.new.items ≡ out.old.items ++ nurse_head a.now) }
+fn put_head(out: &mut Vec<u8>, nurse: &Nurse) -> Put
+    ensures { OnOk result (out.new.items ≡ out.old.items ++ nurse_head nurse.now) }
 {
     put(out, "<tr><th>")?;
-    put_isolated(out, a.id.as_str())?;
+    put_isolated(out, nurse.id.as_str())?;
     put(out, "<td>")?;
-    put_number(out, a.skill_level as u64)
+    put_number(out, nurse.skill_level as u64)
 }
 
 #[tactic(auto, unfolding(crate::specs::Nursing::nurse_row))]
-fn put_row(out: &mut Vec<u8>, shown: &Shown<'_>, n: u32) -> Put
-    requires nurse { n < nurse_count shown.now.inst.now.draft }
-    ensures { OnOk result (out.new.items ≡ out.old.items ++ nurse_row shown.now.inst.now.draft shown.now.plan.now n) }
+fn put_row(out: &mut Vec<u8>, shown: &Shown<'_>, nurse: u32) -> Put
+    requires nurse { nurse < nurse_count shown.now.inst.now.draft }
+    ensures { OnOk result (out.new.items
+        ≡ out.old.items ++ nurse_row shown.now.inst.now.draft shown.now.plan.now nurse) }
 {
-    put_head(out, shown.inst.nurse(NurseNo(n)))?;
+    put_head(out, shown.inst.nurse(NurseNo(nurse)))?;
     for k in 0..shown.inst.shifts() {
-        put_td(out, shown, n, k)?;
+        put_td(out, shown, nurse, k)?;
     }
     put(out, "\n")
 }
 
-fn put_shift_head(out: &mut Vec<u8>, shown: &Shown<'_>, k: u32) -> Put
-    ensures { OnOk result (out.new.items ≡ out.old.items ++ shift_head shown.now.inst.now.draft k) }
+fn put_shift_head(out: &mut Vec<u8>, shown: &Shown<'_>, shift: u32) -> Put
+    ensures { OnOk result (out.new.items ≡ out.old.items ++ shift_head shown.now.inst.now.draft shift) }
 {
     put(out, "<th>")?;
-    put_shift_type(out, shown.inst, k % 3)
+    put_shift_type(out, shown.inst, shift % 3)
 }
 
 // The names of the three columns of each day.
@@ -98,7 +100,8 @@ fn put_shift_heads(out: &mut Vec<u8>, shown: &Shown<'_>) -> Put
 /// Appends the table of the nurses.
 #[tactic(auto, unfolding(crate::specs::Nursing::nurses_text))]
 pub fn put_nurses(out: &mut Vec<u8>, shown: &Shown<'_>) -> Put
-    ensures { OnOk result (out.new.items ≡ out.old.items ++ nurses_text shown.now.inst.now.draft shown.now.first shown.now.plan.now) }
+    ensures { OnOk result (out.new.items
+        ≡ out.old.items ++ nurses_text shown.now.inst.now.draft shown.now.first shown.now.plan.now) }
 {
     put_heads_and_days(
         out,

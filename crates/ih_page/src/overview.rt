@@ -20,14 +20,14 @@ use ih_tables::{Instance, NurseNo, RoomNo, Shift};
 use ih_validate::{Resource, ResourceKind, count_of, limit_of, one_of};
 
 // How full it is, in quarters.
-fn quarter_of(limit: u64, n: u64) -> u32
-    requires { n ≤ 4294967296 * 2048 }
-    ensures { result ≡ quarter_of limit n }
+fn quarter_of(limit: u64, amount: u64) -> u32
+    requires { amount ≤ 4294967296 * 2048 }
+    ensures { result ≡ quarter_of limit amount }
 {
-    if n == 0 {
+    if amount == 0 {
         0
     } else {
-        ((percent_of(limit, n) + 24) / 25) as u32
+        ((percent_of(limit, amount) + 24) / 25) as u32
     }
 }
 
@@ -39,122 +39,122 @@ fn put_quarter(out: &mut Vec<u8>, quarter: u32) -> Put
     put(out, ">")
 }
 
-fn put_shade(out: &mut Vec<u8>, limit: u64, n: u64) -> Put
-    requires { n ≤ 4294967296 * 2048 }
-    ensures { OnOk result (out.new.items ≡ out.old.items ++ shade_td limit n) }
+fn put_shade(out: &mut Vec<u8>, limit: u64, amount: u64) -> Put
+    requires { amount ≤ 4294967296 * 2048 }
+    ensures { OnOk result (out.new.items ≡ out.old.items ++ shade_td limit amount) }
 {
-    if limit < n {
+    if limit < amount {
         put(out, "<td class=x>")
     } else {
-        put_quarter(out, quarter_of(limit, n))
+        put_quarter(out, quarter_of(limit, amount))
     }
 }
 
-fn over_mark(limit: u64, n: u64) -> &'static str
-    ensures { result.now ≡ over_mark limit n }
+fn over_mark(limit: u64, amount: u64) -> &'static str
+    ensures { result.now ≡ over_mark limit amount }
 {
-    if limit < n { ">!" } else { ">" }
+    if limit < amount { ">!" } else { ">" }
 }
 
 #[tactic(auto, unfolding(crate::specs::Overview::used_text))]
-fn put_used(out: &mut Vec<u8>, limit: u64, n: u64) -> Put
-    ensures { OnOk result (out.new.items ≡ out.old.items ++ used_text limit n) }
+fn put_used(out: &mut Vec<u8>, limit: u64, amount: u64) -> Put
+    ensures { OnOk result (out.new.items ≡ out.old.items ++ used_text limit amount) }
 {
-    put(out, over_mark(limit, n))?;
-    put_number(out, n)?;
+    put(out, over_mark(limit, amount))?;
+    put_number(out, amount)?;
     put(out, "/")?;
     put_number(out, limit)
 }
 
 // A number of its limit, shaded, which leads to an anchor.
 #[tactic(auto, unfolding(crate::specs::Overview::share_td))]
-fn put_share(out: &mut Vec<u8>, letter: &str, i: u32, j: u32, limit: u64, n: u64) -> Put
-    requires { n ≤ 4294967296 * 2048 }
-    ensures { OnOk result (out.new.items ≡ out.old.items ++ share_td letter.now i j limit n) }
+fn put_share(out: &mut Vec<u8>, letter: &str, row: u32, column: u32, limit: u64, amount: u64) -> Put
+    requires { amount ≤ 4294967296 * 2048 }
+    ensures { OnOk result (out.new.items ≡ out.old.items ++ share_td letter.now row column limit amount) }
 {
-    put_shade(out, limit, n)?;
+    put_shade(out, limit, amount)?;
     put(out, "<a href=#")?;
-    put_anchor(out, letter, i, j)?;
-    put_used(out, limit, n)?;
+    put_anchor(out, letter, row, column)?;
+    put_used(out, limit, amount)?;
     put(out, "</a>")
 }
 
-fn put_room_share(out: &mut Vec<u8>, shown: &Shown<'_>, r: u32, d: u32) -> Put
-    requires room { r < room_count shown.now.inst.now.draft }
+fn put_room_share(out: &mut Vec<u8>, shown: &Shown<'_>, room: u32, day: u32) -> Put
+    requires room { room < room_count shown.now.inst.now.draft }
     ensures { OnOk result
-        (out.new.items ≡ out.old.items ++ room_share shown.now.inst.now.draft shown.now.plan.now r d) }
+        (out.new.items ≡ out.old.items ++ room_share shown.now.inst.now.draft shown.now.plan.now room day) }
 {
     put_share(
         out,
         "d",
-        r,
-        d,
-        shown.inst.room(RoomNo(r)).capacity as u64,
-        head_count(shown.inst, shown.plan, RoomNo(r), d),
+        room,
+        day,
+        shown.inst.room(RoomNo(room)).capacity as u64,
+        head_count(shown.inst, shown.plan, RoomNo(room), day),
     )
 }
 
 #[tactic(auto, unfolding(crate::specs::Overview::room_shares))]
-fn put_room_shares(out: &mut Vec<u8>, shown: &Shown<'_>, r: u32) -> Put
-    requires room { r < room_count shown.now.inst.now.draft }
+fn put_room_shares(out: &mut Vec<u8>, shown: &Shown<'_>, room: u32) -> Put
+    requires room { room < room_count shown.now.inst.now.draft }
     ensures { OnOk result
-        (out.new.items ≡ out.old.items ++ room_shares shown.now.inst.now.draft shown.now.plan.now r) }
+        (out.new.items ≡ out.old.items ++ room_shares shown.now.inst.now.draft shown.now.plan.now room) }
 {
     put(out, "<tr><th>")?;
-    put_room(out, shown.inst, RoomNo(r))?;
+    put_room(out, shown.inst, RoomNo(room))?;
     for d in 0..shown.inst.days() {
-        put_room_share(out, shown, r, d)?;
+        put_room_share(out, shown, room, d)?;
     }
     put(out, "\n")
 }
 
-fn put_surgery_share(out: &mut Vec<u8>, shown: &Shown<'_>, w: Resource, d: u32) -> Put
-    requires resource { IsResourceOf shown.now.inst.now.draft w }
+fn put_surgery_share(out: &mut Vec<u8>, shown: &Shown<'_>, resource: Resource, day: u32) -> Put
+    requires resource { IsResourceOf shown.now.inst.now.draft resource }
     ensures { OnOk result
-        (out.new.items ≡ out.old.items ++ surgery_share shown.now.inst.now.draft shown.now.plan.now w d) }
+        (out.new.items ≡ out.old.items ++ surgery_share shown.now.inst.now.draft shown.now.plan.now resource day) }
 {
     put_share(
         out,
-        letter_of(w),
-        number_of(w),
-        d,
-        limit_of(shown.inst, w, d),
-        planned(shown, w, d),
+        letter_of(resource),
+        number_of(resource),
+        day,
+        limit_of(shown.inst, resource, day),
+        planned(shown, resource, day),
     )
 }
 
 #[tactic(auto, unfolding(crate::specs::Overview::surgery_shares))]
-fn put_surgery_shares(out: &mut Vec<u8>, shown: &Shown<'_>, w: Resource) -> Put
-    requires resource { IsResourceOf shown.now.inst.now.draft w }
+fn put_surgery_shares(out: &mut Vec<u8>, shown: &Shown<'_>, resource: Resource) -> Put
+    requires resource { IsResourceOf shown.now.inst.now.draft resource }
     ensures { OnOk result
-        (out.new.items ≡ out.old.items ++ surgery_shares shown.now.inst.now.draft shown.now.plan.now w) }
+        (out.new.items ≡ out.old.items ++ surgery_shares shown.now.inst.now.draft shown.now.plan.now resource) }
 {
     put(out, "<tr><th>theatre ")?;
-    put_resource(out, shown.inst, w)?;
+    put_resource(out, shown.inst, resource)?;
     for d in 0..shown.inst.days() {
-        put_surgery_share(out, shown, w, d)?;
+        put_surgery_share(out, shown, resource, d)?;
     }
     put(out, "\n")
 }
 
 #[tactic(auto, unfolding(crate::specs::Overview::nurse_link))]
-fn put_nurse_link(out: &mut Vec<u8>, inst: &Instance, n: u32, k: u32) -> Put
-    requires nurse { n < nurse_count inst.now.draft }
-    ensures { OnOk result (out.new.items ≡ out.old.items ++ nurse_link inst.now.draft n k) }
+fn put_nurse_link(out: &mut Vec<u8>, inst: &Instance, nurse: u32, shift: u32) -> Put
+    requires nurse { nurse < nurse_count inst.now.draft }
+    ensures { OnOk result (out.new.items ≡ out.old.items ++ nurse_link inst.now.draft nurse shift) }
 {
     put(out, "<a href=#")?;
-    put_anchor(out, "n", n, k)?;
+    put_anchor(out, "n", nurse, shift)?;
     put(out, ">")?;
-    put_nurse(out, inst, Some(NurseNo(n)))?;
+    put_nurse(out, inst, Some(NurseNo(nurse)))?;
     put(out, "</a>")
 }
 
 #[tactic(auto, unfolding(crate::specs::Overview::excess_text))]
-fn put_excess(out: &mut Vec<u8>, inst: &Instance, n: u32, k: u32, excess: u64) -> Put
-    requires nurse { n < nurse_count inst.now.draft }
-    ensures { OnOk result (out.new.items ≡ out.old.items ++ excess_text inst.now.draft n k excess) }
+fn put_excess(out: &mut Vec<u8>, inst: &Instance, nurse: u32, shift: u32, excess: u64) -> Put
+    requires nurse { nurse < nurse_count inst.now.draft }
+    ensures { OnOk result (out.new.items ≡ out.old.items ++ excess_text inst.now.draft nurse shift excess) }
 {
-    put_nurse_link(out, inst, n, k)?;
+    put_nurse_link(out, inst, nurse, shift)?;
     put(out, " +")?;
     put_number(out, excess)?;
     put(out, "<br>")
@@ -163,19 +163,19 @@ fn put_excess(out: &mut Vec<u8>, inst: &Instance, n: u32, k: u32, excess: u64) -
 fn put_if_above(
     out: &mut Vec<u8>,
     inst: &Instance,
-    n: u32,
-    k: u32,
+    nurse: u32,
+    shift: u32,
     load: u64,
     most: Option<u32>,
 ) -> Put
-    requires nurse { n < nurse_count inst.now.draft }
-    ensures { OnOk result (out.new.items ≡ out.old.items ++ above_text inst.now.draft n k load most) }
+    requires nurse { nurse < nurse_count inst.now.draft }
+    ensures { OnOk result (out.new.items ≡ out.old.items ++ above_text inst.now.draft nurse shift load most) }
 {
     match most {
         None => Ok(()),
         Some(most) => {
             if (most as u64) < load {
-                put_excess(out, inst, n, k, load - most as u64)
+                put_excess(out, inst, nurse, shift, load - most as u64)
             } else {
                 Ok(())
             }
@@ -183,42 +183,45 @@ fn put_if_above(
     }
 }
 
-fn put_above(out: &mut Vec<u8>, shown: &Shown<'_>, k: u32, n: u32) -> Put
-    requires nurse { n < nurse_count shown.now.inst.now.draft }
-    requires shift { k < shift_count shown.now.inst.now.draft }
-    ensures { OnOk result (out.new.items ≡ out.old.items ++ above_of shown.now.inst.now.draft shown.now.plan.now k n) }
+fn put_above(out: &mut Vec<u8>, shown: &Shown<'_>, shift: u32, nurse: u32) -> Put
+    requires nurse { nurse < nurse_count shown.now.inst.now.draft }
+    requires shift { shift < shift_count shown.now.inst.now.draft }
+    ensures { OnOk result (out.new.items
+        ≡ out.old.items ++ above_of shown.now.inst.now.draft shown.now.plan.now shift nurse) }
 {
     put_if_above(
         out,
         shown.inst,
-        n,
-        k,
-        load_of(shown.inst, shown.plan, NurseNo(n), k),
-        shown.inst.works(NurseNo(n), Shift(k)),
+        nurse,
+        shift,
+        load_of(shown.inst, shown.plan, NurseNo(nurse), shift),
+        shown.inst.works(NurseNo(nurse), Shift(shift)),
     )
 }
 
 #[tactic(auto, unfolding(crate::specs::Overview::above_td))]
-fn put_above_td(out: &mut Vec<u8>, shown: &Shown<'_>, k: u32) -> Put
-    requires shift { k < shift_count shown.now.inst.now.draft }
-    ensures { OnOk result (out.new.items ≡ out.old.items ++ above_td shown.now.inst.now.draft shown.now.plan.now k) }
+fn put_above_td(out: &mut Vec<u8>, shown: &Shown<'_>, shift: u32) -> Put
+    requires shift { shift < shift_count shown.now.inst.now.draft }
+    ensures { OnOk result (out.new.items
+        ≡ out.old.items ++ above_td shown.now.inst.now.draft shown.now.plan.now shift) }
 {
     put(out, "<td>")?;
     for n in 0..shown.inst.nurses() {
-        put_above(out, shown, k, n)?;
+        put_above(out, shown, shift, n)?;
     }
     Ok(())
 }
 
 #[tactic(auto, unfolding(crate::specs::Overview::above_row))]
-fn put_above_row(out: &mut Vec<u8>, shown: &Shown<'_>, j: u32) -> Put
-    requires { j < 3 }
-    ensures { OnOk result (out.new.items ≡ out.old.items ++ above_row shown.now.inst.now.draft shown.now.plan.now j) }
+fn put_above_row(out: &mut Vec<u8>, shown: &Shown<'_>, shift_type: u32) -> Put
+    requires { shift_type < 3 }
+    ensures { OnOk result (out.new.items
+        ≡ out.old.items ++ above_row shown.now.inst.now.draft shown.now.plan.now shift_type) }
 {
     put(out, "<tr><th>")?;
-    put_shift_type(out, shown.inst, j)?;
+    put_shift_type(out, shown.inst, shift_type)?;
     for d in 0..shown.inst.days() {
-        put_above_td(out, shown, 3 * d + j)?;
+        put_above_td(out, shown, 3 * d + shift_type)?;
     }
     put(out, "\n")
 }
@@ -243,7 +246,8 @@ fn put_rooms_overview(out: &mut Vec<u8>, shown: &Shown<'_>) -> Put
 #[tactic(auto, unfolding(crate::specs::Overview::theatres_overview))]
 fn put_theatres_overview(out: &mut Vec<u8>, shown: &Shown<'_>) -> Put
     ensures { OnOk result
-        (out.new.items ≡ out.old.items ++ theatres_overview shown.now.inst.now.draft shown.now.first shown.now.plan.now) }
+        (out.new.items
+        ≡ out.old.items ++ theatres_overview shown.now.inst.now.draft shown.now.first shown.now.plan.now) }
 {
     put_heads_and_days(
         out,
@@ -277,7 +281,8 @@ fn put_nurses_overview(out: &mut Vec<u8>, shown: &Shown<'_>) -> Put
 /// Appends the overview: rooms, theatres and nurses, in one table with a column for each day.
 #[tactic(auto, unfolding(crate::specs::Overview::overview))]
 pub fn put_overview(out: &mut Vec<u8>, shown: &Shown<'_>) -> Put
-    ensures { OnOk result (out.new.items ≡ out.old.items ++ overview shown.now.inst.now.draft shown.now.first shown.now.plan.now) }
+    ensures { OnOk result (out.new.items
+        ≡ out.old.items ++ overview shown.now.inst.now.draft shown.now.first shown.now.plan.now) }
 {
     put_rooms_overview(out, shown)?;
     put_theatres_overview(out, shown)?;

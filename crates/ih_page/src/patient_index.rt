@@ -28,32 +28,34 @@ fn put_placement(out: &mut Vec<u8>, shown: &Shown<'_>, at: Placement) -> Put
 }
 
 /// Appends where the patient is in a timetable: its room, day and theatre, or that it is left out.
-pub fn put_place(out: &mut Vec<u8>, shown: &Shown<'_>, plan: &Plan, p: u32) -> Put
+pub fn put_place(out: &mut Vec<u8>, shown: &Shown<'_>, plan: &Plan, patient: u32) -> Put
     requires plan { IsPlanOf shown.now.inst.now.draft plan.now }
-    requires patient { p < patient_count shown.now.inst.now.draft }
+    requires patient { patient < patient_count shown.now.inst.now.draft }
     ensures { OnOk result (out.new.items
-        ≡ out.old.items ++ place_text shown.now.inst.now.draft shown.now.first (stay_of plan.now p)) }
+        ≡ out.old.items ++ place_text shown.now.inst.now.draft shown.now.first (stay_of plan.now patient)) }
 {
-    match plan.stay(PatientNo(p)) {
+    match plan.stay(PatientNo(patient)) {
         None => put(out, "left out\n"),
         Some(at) => put_placement(out, shown, at),
     }
 }
 
-fn put_item(out: &mut Vec<u8>, shown: &Shown<'_>, p: u32) -> Put
-    requires patient { p < patient_count shown.now.inst.now.draft }
-    ensures { OnOk result (out.new.items ≡ out.old.items ++ index_item shown.now.inst.now.draft shown.now.first shown.now.plan.now p) }
+fn put_item(out: &mut Vec<u8>, shown: &Shown<'_>, patient: u32) -> Put
+    requires patient { patient < patient_count shown.now.inst.now.draft }
+    ensures { OnOk result (out.new.items
+        ≡ out.old.items ++ index_item shown.now.inst.now.draft shown.now.first shown.now.plan.now patient) }
 {
     put(out, "<li>")?;
-    put_link(out, shown.inst, p)?;
+    put_link(out, shown.inst, patient)?;
     put(out, ": ")?;
-    put_place(out, shown, shown.plan, p)
+    put_place(out, shown, shown.plan, patient)
 }
 
 /// Appends the index: each patient's room, day and theatre, and a link to where it stands.
 #[tactic(auto, unfolding(crate::specs::PatientIndex::patient_index))]
 pub fn put_patient_index(out: &mut Vec<u8>, shown: &Shown<'_>) -> Put
-    ensures { OnOk result (out.new.items ≡ out.old.items ++ patient_index shown.now.inst.now.draft shown.now.first shown.now.plan.now) }
+    ensures { OnOk result (out.new.items
+        ≡ out.old.items ++ patient_index shown.now.inst.now.draft shown.now.first shown.now.plan.now) }
 {
     put(out, "<h2 id=index>Patients</h2>\n<ul>\n")?;
     for p in 0..shown.inst.patients() {

@@ -10,14 +10,14 @@ use ih_validate::bit;
 
 /// How many persons are in the room on the day.
 #[tactic(auto, using(ih_plan::proofs::SumLemmas::sum_steps))]
-pub fn head_count(inst: &Instance, plan: &Plan, r: RoomNo, d: u32) -> u64
+pub fn head_count(inst: &Instance, plan: &Plan, room: RoomNo, day: u32) -> u64
     requires { IsPlanOf inst.now.draft plan.now }
-    ensures value { result ≡ head_count inst.now.draft plan.now r.0 d }
+    ensures value { result ≡ head_count inst.now.draft plan.now room.0 day }
     ensures few { result ≤ 2560 }
 {
     let mut count = 0;
     for x in 0..inst.persons() {
-        count += bit(is_present(inst, plan, r, d, x));
+        count += bit(is_present(inst, plan, room, day, x));
     }
     count
 }

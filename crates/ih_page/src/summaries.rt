@@ -11,10 +11,10 @@ use ih_tables::{Bill, Instance, times};
 
 /// What a hard rule counts.
 #[tactic(auto, unfolding(crate::specs::Summary::rule_name))]
-pub fn rule_name(i: usize) -> &'static str
-    ensures { result.now ≡ rule_name i }
+pub fn rule_name(index: usize) -> &'static str
+    ensures { result.now ≡ rule_name index }
 {
-    match i {
+    match index {
         0 => "two genders in a room",
         1 => "incompatible room",
         2 => "surgeon: minutes over",
@@ -29,10 +29,10 @@ pub fn rule_name(i: usize) -> &'static str
 
 /// What a cost counts.
 #[tactic(auto, unfolding(crate::specs::Summary::cost_name))]
-pub fn cost_name(i: usize) -> &'static str
-    ensures { result.now ≡ cost_name i }
+pub fn cost_name(index: usize) -> &'static str
+    ensures { result.now ≡ cost_name index }
 {
-    match i {
+    match index {
         0 => "mixed ages",
         1 => "missing skill",
         2 => "nurses of a stay",
@@ -46,46 +46,46 @@ pub fn cost_name(i: usize) -> &'static str
 
 /// Appends the name of a line of the report.
 #[tactic(auto, unfolding(crate::specs::Summary::line_text))]
-pub fn put_line(out: &mut Vec<u8>, letter: &str, i: usize) -> Put
-    requires { i < 9 }
-    ensures { OnOk result (out.new.items ≡ out.old.items ++ line_text letter.now i) }
+pub fn put_line(out: &mut Vec<u8>, letter: &str, index: usize) -> Put
+    requires { index < 9 }
+    ensures { OnOk result (out.new.items ≡ out.old.items ++ line_text letter.now index) }
 {
     put(out, letter)?;
-    put_number(out, i as u64 + 1)
+    put_number(out, index as u64 + 1)
 }
 
 /// The same, as a link to the line's list.
 #[tactic(auto, unfolding(crate::specs::Summary::line_link))]
-pub fn put_line_link(out: &mut Vec<u8>, letter: &str, i: usize) -> Put
-    requires { i < 9 }
-    ensures { OnOk result (out.new.items ≡ out.old.items ++ line_link letter.now i) }
+pub fn put_line_link(out: &mut Vec<u8>, letter: &str, index: usize) -> Put
+    requires { index < 9 }
+    ensures { OnOk result (out.new.items ≡ out.old.items ++ line_link letter.now index) }
 {
     put(out, "<a href=#")?;
-    put_line(out, letter, i)?;
+    put_line(out, letter, index)?;
     put(out, ">")?;
-    put_line(out, letter, i)?;
+    put_line(out, letter, index)?;
     put(out, "</a>")
 }
 
 // The name leads to the line's list, where there is one.
-fn put_line_name(out: &mut Vec<u8>, letter: &str, i: usize, x: i64) -> Put
-    requires { i < 9 }
-    ensures { OnOk result (out.new.items ≡ out.old.items ++ line_name letter.now i x) }
+fn put_line_name(out: &mut Vec<u8>, letter: &str, index: usize, value: i64) -> Put
+    requires { index < 9 }
+    ensures { OnOk result (out.new.items ≡ out.old.items ++ line_name letter.now index value) }
 {
-    if x == 0 {
-        put_line(out, letter, i)
+    if value == 0 {
+        put_line(out, letter, index)
     } else {
-        put_line_link(out, letter, i)
+        put_line_link(out, letter, index)
     }
 }
 
 #[tactic(auto, unfolding(crate::specs::Summary::line_head))]
-fn put_head(out: &mut Vec<u8>, letter: &str, i: usize, name: &str, x: i64) -> Put
-    requires { i < 9 }
-    ensures { OnOk result (out.new.items ≡ out.old.items ++ line_head letter.now i name.now x) }
+fn put_head(out: &mut Vec<u8>, letter: &str, index: usize, name: &str, value: i64) -> Put
+    requires { index < 9 }
+    ensures { OnOk result (out.new.items ≡ out.old.items ++ line_head letter.now index name.now value) }
 {
     put(out, "<tr><th>")?;
-    put_line_name(out, letter, i, x)?;
+    put_line_name(out, letter, index, value)?;
     put(out, "<td>")?;
     put(out, name)
 }
@@ -97,53 +97,53 @@ fn hard_text() -> &'static str
     "<td>hard rule<td>\n"
 }
 
-fn put_rule(out: &mut Vec<u8>, i: usize, x: i64) -> Put
-    requires { i < 9 }
-    ensures { OnOk result (out.new.items ≡ out.old.items ++ rule_row i x) }
+fn put_rule(out: &mut Vec<u8>, index: usize, value: i64) -> Put
+    requires { index < 9 }
+    ensures { OnOk result (out.new.items ≡ out.old.items ++ rule_row index value) }
 {
-    put_head(out, "V", i, rule_name(i), x)?;
+    put_head(out, "V", index, rule_name(index), value)?;
     put(out, "<td>")?;
-    put_signed(out, x)?;
+    put_signed(out, value)?;
     put(out, hard_text())
 }
 
 #[tactic(auto, unfolding(crate::specs::Summary::product_text))]
-fn put_product(out: &mut Vec<u8>, x: i64, w: i64) -> Put
-    requires low { neg_ℤ (pos (10 ^ 11)) ≤ℤ x }
-    requires high { x ≤ℤ pos (10 ^ 11) }
-    requires weight_low { pos 0 ≤ℤ w }
-    requires weight_high { w ≤ℤ pos 100000 }
-    ensures { OnOk result (out.new.items ≡ out.old.items ++ product_text x w) }
+fn put_product(out: &mut Vec<u8>, amount: i64, weight: i64) -> Put
+    requires low { neg_ℤ (pos (10 ^ 11)) ≤ℤ amount }
+    requires high { amount ≤ℤ pos (10 ^ 11) }
+    requires weight_low { pos 0 ≤ℤ weight }
+    requires weight_high { weight ≤ℤ pos 100000 }
+    ensures { OnOk result (out.new.items ≡ out.old.items ++ product_text amount weight) }
 {
-    put_signed(out, w)?;
+    put_signed(out, weight)?;
     put(out, "<td>")?;
-    put_signed(out, times(x, w))?;
+    put_signed(out, times(amount, weight))?;
     put(out, "\n")
 }
 
-fn put_weighed(out: &mut Vec<u8>, x: i64, w: i64) -> Put
-    requires low { neg_ℤ (pos (10 ^ 11)) ≤ℤ x }
-    requires high { x ≤ℤ pos (10 ^ 11) }
-    requires weight_low { pos 0 ≤ℤ w }
-    requires weight_high { w ≤ℤ pos 100000 }
-    ensures { OnOk result (out.new.items ≡ out.old.items ++ weighed_text x w) }
+fn put_weighed(out: &mut Vec<u8>, amount: i64, weight: i64) -> Put
+    requires low { neg_ℤ (pos (10 ^ 11)) ≤ℤ amount }
+    requires high { amount ≤ℤ pos (10 ^ 11) }
+    requires weight_low { pos 0 ≤ℤ weight }
+    requires weight_high { weight ≤ℤ pos 100000 }
+    ensures { OnOk result (out.new.items ≡ out.old.items ++ weighed_text amount weight) }
 {
     put(out, "<td>")?;
-    put_signed(out, x)?;
+    put_signed(out, amount)?;
     put(out, "<td>")?;
-    put_product(out, x, w)
+    put_product(out, amount, weight)
 }
 
-fn put_cost(out: &mut Vec<u8>, i: usize, x: i64, w: i64) -> Put
-    requires place { i < 8 }
-    requires low { neg_ℤ (pos (10 ^ 11)) ≤ℤ x }
-    requires high { x ≤ℤ pos (10 ^ 11) }
-    requires weight_low { pos 0 ≤ℤ w }
-    requires weight_high { w ≤ℤ pos 100000 }
-    ensures { OnOk result (out.new.items ≡ out.old.items ++ cost_row i x w) }
+fn put_cost(out: &mut Vec<u8>, index: usize, amount: i64, weight: i64) -> Put
+    requires place { index < 8 }
+    requires low { neg_ℤ (pos (10 ^ 11)) ≤ℤ amount }
+    requires high { amount ≤ℤ pos (10 ^ 11) }
+    requires weight_low { pos 0 ≤ℤ weight }
+    requires weight_high { weight ≤ℤ pos 100000 }
+    ensures { OnOk result (out.new.items ≡ out.old.items ++ cost_row index amount weight) }
 {
-    put_head(out, "S", i, cost_name(i), x)?;
-    put_weighed(out, x, w)
+    put_head(out, "S", index, cost_name(index), amount)?;
+    put_weighed(out, amount, weight)
 }
 
 #[tactic(auto, unfolding(crate::specs::Summary::rule_rows))]

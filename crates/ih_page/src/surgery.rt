@@ -15,13 +15,13 @@ use ih_tables::{Instance, Patient, PatientNo};
 use ih_validate::{Resource, ResourceKind, bit, count_of, has_surgery, limit_of, one_of};
 
 // The minutes of the patient's surgery, where it is there on the day.
-fn minutes_of(shown: &Shown<'_>, w: Resource, d: u32, p: u32) -> u64
-    requires patient { p < patient_count shown.now.inst.now.draft }
-    ensures value { result ≡ minutes_of shown.now.inst.now.draft shown.now.plan.now w d p }
+fn minutes_of(shown: &Shown<'_>, resource: Resource, day: u32, patient: u32) -> u64
+    requires patient { patient < patient_count shown.now.inst.now.draft }
+    ensures value { result ≡ minutes_of shown.now.inst.now.draft shown.now.plan.now resource day patient }
     ensures bound { result ≤ 4294967296 }
 {
-    if has_surgery(shown.inst, shown.plan, w, d, PatientNo(p)) {
-        shown.inst.patient(PatientNo(p)).surgery_duration as u64
+    if has_surgery(shown.inst, shown.plan, resource, day, PatientNo(patient)) {
+        shown.inst.patient(PatientNo(patient)).surgery_duration as u64
     } else {
         0
     }
@@ -29,70 +29,70 @@ fn minutes_of(shown: &Shown<'_>, w: Resource, d: u32, p: u32) -> u64
 
 /// The minutes of surgery of a day.
 #[tactic(auto, using(ih_plan::proofs::SumLemmas::sum_steps))]
-pub fn planned(shown: &Shown<'_>, w: Resource, d: u32) -> u64
-    ensures sum { result ≡ planned shown.now.inst.now.draft shown.now.plan.now w d }
+pub fn planned(shown: &Shown<'_>, resource: Resource, day: u32) -> u64
+    ensures sum { result ≡ planned shown.now.inst.now.draft shown.now.plan.now resource day }
     ensures bound { result ≤ 4294967296 * 2048 }
 {
     let mut sum = 0;
     for p in 0..shown.inst.patients() {
-        sum += minutes_of(shown, w, d, p);
+        sum += minutes_of(shown, resource, day, p);
     }
     sum
 }
 
 // How many patients have surgery on the day.
 #[tactic(auto, using(ih_plan::proofs::SumLemmas::sum_steps))]
-fn surgery_count(shown: &Shown<'_>, w: Resource, d: u32) -> u64
-    ensures { result ≡ surgery_count shown.now.inst.now.draft shown.now.plan.now w d }
+fn surgery_count(shown: &Shown<'_>, resource: Resource, day: u32) -> u64
+    ensures { result ≡ surgery_count shown.now.inst.now.draft shown.now.plan.now resource day }
 {
     let mut count = 0;
     for p in 0..shown.inst.patients() {
-        count += bit(has_surgery(shown.inst, shown.plan, w, d, PatientNo(p)));
+        count += bit(has_surgery(shown.inst, shown.plan, resource, day, PatientNo(p)));
     }
     count
 }
 
 /// The letter of its anchors.
-pub fn letter_of(w: Resource) -> &'static str
-    ensures { result.now ≡ letter_of w }
+pub fn letter_of(resource: Resource) -> &'static str
+    ensures { result.now ≡ letter_of resource }
 {
-    match w {
+    match resource {
         Resource::OfTheatre(_) => "t",
         Resource::OfSurgeon(_) => "g",
     }
 }
 
 /// Its number.
-pub fn number_of(w: Resource) -> u32
-    ensures { result ≡ number_of w }
+pub fn number_of(resource: Resource) -> u32
+    ensures { result ≡ number_of resource }
 {
-    match w {
+    match resource {
         Resource::OfTheatre(t) => t.0,
         Resource::OfSurgeon(s) => s.0,
     }
 }
 
 /// Appends its name.
-pub fn put_resource(out: &mut Vec<u8>, inst: &Instance, w: Resource) -> Put
-    requires { IsResourceOf inst.now.draft w }
-    ensures { OnOk result (out.new.items ≡ out.old.items ++ resource_name inst.now.draft w) }
+pub fn put_resource(out: &mut Vec<u8>, inst: &Instance, resource: Resource) -> Put
+    requires { IsResourceOf inst.now.draft resource }
+    ensures { OnOk result (out.new.items ≡ out.old.items ++ resource_name inst.now.draft resource) }
 {
-    match w {
+    match resource {
         Resource::OfTheatre(t) => put_theatre(out, inst, t),
         Resource::OfSurgeon(s) => put_surgeon(out, inst, s),
     }
 }
 
 /// How much of its limit a number is, in percent up to 100.
-pub fn percent_of(limit: u64, n: u64) -> u64
-    requires { n ≤ 4294967296 * 2048 }
-    ensures value { result ≡ percent_of limit n }
+pub fn percent_of(limit: u64, amount: u64) -> u64
+    requires { amount ≤ 4294967296 * 2048 }
+    ensures value { result ≡ percent_of limit amount }
     ensures most { result ≤ 100 }
 {
     if limit == 0 {
         100
     } else {
-        (100 * n / limit).min(100)
+        (100 * amount / limit).min(100)
     }
 }
 
@@ -106,85 +106,108 @@ fn put_share(out: &mut Vec<u8>, percent: u64) -> Put
 }
 
 #[tactic(auto, unfolding(crate::specs::Surgery::minutes_text))]
-fn put_minutes(out: &mut Vec<u8>, limit: u64, n: u64) -> Put
-    requires { n ≤ 4294967296 * 2048 }
-    ensures { OnOk result (out.new.items ≡ out.old.items ++ minutes_text limit n) }
+fn put_minutes(out: &mut Vec<u8>, limit: u64, amount: u64) -> Put
+    requires { amount ≤ 4294967296 * 2048 }
+    ensures { OnOk result (out.new.items ≡ out.old.items ++ minutes_text limit amount) }
 {
-    put_marked(out, limit, n)?;
+    put_marked(out, limit, amount)?;
     put(out, "/")?;
     put_number(out, limit)?;
-    put_share(out, percent_of(limit, n))
+    put_share(out, percent_of(limit, amount))
 }
 
 #[tactic(auto, unfolding(crate::specs::Surgery::name_link))]
-fn put_name(out: &mut Vec<u8>, p: u32, a: &Patient) -> Put
-    ensures { OnOk result (out.new.items ≡ out.old.items ++ name_link p a.now) }
+fn put_name(out: &mut Vec<u8>, patient_no: u32, patient: &Patient) -> Put
+    ensures { OnOk result (out.new.items ≡ out.old.items ++ name_link patient_no patient.now) }
 {
-    put_numbered(out, " <a href=#p", p, ">", a.id.as_str())?;
+    put_numbered(out, " <a href=#p", patient_no, ">", patient.id.as_str())?;
     put(out, "</a>")
 }
 
 /// Appends the name of a patient, which leads to where it stands.
-pub fn put_link(out: &mut Vec<u8>, inst: &Instance, p: u32) -> Put
-    requires { p < patient_count inst.now.draft }
-    ensures { OnOk result (out.new.items ≡ out.old.items ++ patient_link inst.now.draft p) }
+pub fn put_link(out: &mut Vec<u8>, inst: &Instance, patient: u32) -> Put
+    requires { patient < patient_count inst.now.draft }
+    ensures { OnOk result (out.new.items ≡ out.old.items ++ patient_link inst.now.draft patient) }
 {
-    put_name(out, p, inst.patient(PatientNo(p)))
+    put_name(out, patient, inst.patient(PatientNo(patient)))
 }
 
-fn put_operation(out: &mut Vec<u8>, shown: &Shown<'_>, w: Resource, d: u32, p: u32) -> Put
-    requires patient { p < patient_count shown.now.inst.now.draft }
+fn put_operation(
+    out: &mut Vec<u8>,
+    shown: &Shown<'_>,
+    resource: Resource,
+    day: u32,
+    patient: u32,
+) -> Put
+    requires patient { patient < patient_count shown.now.inst.now.draft }
     ensures { OnOk result
-        (out.new.items ≡ out.old.items ++ operation shown.now.inst.now.draft shown.now.plan.now w d p) }
+        (out.new.items ≡ out.old.items ++ operation shown.now.inst.now.draft shown.now.plan.now resource day patient) }
 {
-    if has_surgery(shown.inst, shown.plan, w, d, PatientNo(p)) {
-        put_link(out, shown.inst, p)
+    if has_surgery(shown.inst, shown.plan, resource, day, PatientNo(patient)) {
+        put_link(out, shown.inst, patient)
     } else {
         Ok(())
     }
 }
 
-fn put_operations(out: &mut Vec<u8>, shown: &Shown<'_>, w: Resource, d: u32) -> Put
+fn put_operations(out: &mut Vec<u8>, shown: &Shown<'_>, resource: Resource, day: u32) -> Put
     ensures { OnOk result (out.new.items ≡ out.old.items ++ lines_below (patient_count shown.now.inst.now.draft)
-        (operation shown.now.inst.now.draft shown.now.plan.now w d)) }
+        (operation shown.now.inst.now.draft shown.now.plan.now resource day)) }
 {
     for p in 0..shown.inst.patients() {
-        put_operation(out, shown, w, d, p)?;
+        put_operation(out, shown, resource, day, p)?;
     }
     Ok(())
 }
 
-fn put_surgery(out: &mut Vec<u8>, shown: &Shown<'_>, w: Resource, d: u32, count: u64) -> Put
-    requires { IsResourceOf shown.now.inst.now.draft w }
+fn put_surgery(
+    out: &mut Vec<u8>,
+    shown: &Shown<'_>,
+    resource: Resource,
+    day: u32,
+    count: u64,
+) -> Put
+    requires { IsResourceOf shown.now.inst.now.draft resource }
     ensures { OnOk result
-        (out.new.items ≡ out.old.items ++ surgery_of shown.now.inst.now.draft shown.now.plan.now w d count) }
+        (out.new.items ≡ out.old.items ++ surgery_of shown.now.inst.now.draft shown.now.plan.now resource day count) }
 {
     if count == 0 {
         return put(out, ">");
     }
-    put_minutes(out, limit_of(shown.inst, w, d), planned(shown, w, d))?;
-    put_operations(out, shown, w, d)
+    put_minutes(
+        out,
+        limit_of(shown.inst, resource, day),
+        planned(shown, resource, day),
+    )?;
+    put_operations(out, shown, resource, day)
 }
 
 #[tactic(auto, unfolding(crate::specs::Surgery::surgery_td))]
-fn put_td(out: &mut Vec<u8>, shown: &Shown<'_>, w: Resource, d: u32) -> Put
-    requires resource { IsResourceOf shown.now.inst.now.draft w }
+fn put_td(out: &mut Vec<u8>, shown: &Shown<'_>, resource: Resource, day: u32) -> Put
+    requires resource { IsResourceOf shown.now.inst.now.draft resource }
     ensures { OnOk result
-        (out.new.items ≡ out.old.items ++ surgery_td shown.now.inst.now.draft shown.now.plan.now w d) }
+        (out.new.items ≡ out.old.items ++ surgery_td shown.now.inst.now.draft shown.now.plan.now resource day) }
 {
-    put_td_at(out, letter_of(w), number_of(w), d)?;
-    put_surgery(out, shown, w, d, surgery_count(shown, w, d))
+    put_td_at(out, letter_of(resource), number_of(resource), day)?;
+    put_surgery(
+        out,
+        shown,
+        resource,
+        day,
+        surgery_count(shown, resource, day),
+    )
 }
 
 #[tactic(auto, unfolding(crate::specs::Surgery::surgery_row))]
-fn put_row(out: &mut Vec<u8>, shown: &Shown<'_>, w: Resource) -> Put
-    requires resource { IsResourceOf shown.now.inst.now.draft w }
-    ensures { OnOk result (out.new.items ≡ out.old.items ++ surgery_row shown.now.inst.now.draft shown.now.plan.now w) }
+fn put_row(out: &mut Vec<u8>, shown: &Shown<'_>, resource: Resource) -> Put
+    requires resource { IsResourceOf shown.now.inst.now.draft resource }
+    ensures { OnOk result (out.new.items
+        ≡ out.old.items ++ surgery_row shown.now.inst.now.draft shown.now.plan.now resource) }
 {
     put(out, "<tr><th>")?;
-    put_resource(out, shown.inst, w)?;
+    put_resource(out, shown.inst, resource)?;
     for d in 0..shown.inst.days() {
-        put_td(out, shown, w, d)?;
+        put_td(out, shown, resource, d)?;
     }
     put(out, "\n")
 }
@@ -204,7 +227,8 @@ fn heads_of(kind: ResourceKind) -> &'static str
 #[tactic(auto, unfolding(crate::specs::Surgery::surgery_text))]
 pub fn put_surgery_of(out: &mut Vec<u8>, shown: &Shown<'_>, kind: ResourceKind) -> Put
     ensures { OnOk result
-        (out.new.items ≡ out.old.items ++ surgery_text shown.now.inst.now.draft shown.now.first shown.now.plan.now kind) }
+        (out.new.items
+        ≡ out.old.items ++ surgery_text shown.now.inst.now.draft shown.now.first shown.now.plan.now kind) }
 {
     put_heads_and_days(out, shown, heads_of(kind), "<th>")?;
     for i in 0..count_of(shown.inst, kind) {

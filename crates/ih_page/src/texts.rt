@@ -17,24 +17,24 @@ pub fn put(out: &mut Vec<u8>, text: &str) -> Put
     out.extend_from_slice(text.as_bytes())
 }
 
-/// Appends a number.
-pub fn put_number(out: &mut Vec<u8>, n: u64) -> Put
-    ensures { OnOk result (out.new.items ≡ out.old.items ++ decimal n) }
+/// Appends a number in decimal digits.
+pub fn put_number(out: &mut Vec<u8>, number: u64) -> Put
+    ensures { OnOk result (out.new.items ≡ out.old.items ++ decimal number) }
 {
-    put(out, Buffer::new().format(n))
+    put(out, Buffer::new().format(number))
 }
 
-/// Appends a number with its sign.
-pub fn put_signed(out: &mut Vec<u8>, n: i64) -> Put
-    ensures { OnOk result (out.new.items ≡ out.old.items ++ signed_decimal n) }
+/// Appends a number in decimal digits, behind a minus if it is below 0.
+pub fn put_signed(out: &mut Vec<u8>, number: i64) -> Put
+    ensures { OnOk result (out.new.items ≡ out.old.items ++ signed_decimal number) }
 {
-    put(out, Buffer::new().format(n))
+    put(out, Buffer::new().format(number))
 }
 
-fn put_byte(out: &mut Vec<u8>, b: u8) -> Put
-    ensures { OnOk result (out.new.items ≡ out.old.items ++ escaped_byte b) }
+fn put_byte(out: &mut Vec<u8>, byte: u8) -> Put
+    ensures { OnOk result (out.new.items ≡ out.old.items ++ escaped_byte byte) }
 {
-    match b {
+    match byte {
         38 => put(out, "&amp;"),
         60 => put(out, "&lt;"),
         62 => put(out, "&gt;"),
@@ -69,20 +69,20 @@ pub fn put_isolated(out: &mut Vec<u8>, text: &str) -> Put
 
 /// Appends a text of the page's own, and a number.
 #[tactic(auto, unfolding(crate::specs::Html::labelled))]
-pub fn put_labelled(out: &mut Vec<u8>, text: &str, n: u32) -> Put
-    ensures { OnOk result (out.new.items ≡ out.old.items ++ labelled text.now n) }
+pub fn put_labelled(out: &mut Vec<u8>, text: &str, number: u32) -> Put
+    ensures { OnOk result (out.new.items ≡ out.old.items ++ labelled text.now number) }
 {
     put(out, text)?;
-    put_number(out, n as u64)
+    put_number(out, number as u64)
 }
 
 /// Appends a name from a file behind a tag with a number.
 #[tactic(auto, unfolding(crate::specs::Html::numbered))]
-pub fn put_numbered(out: &mut Vec<u8>, tag: &str, n: u32, rest: &str, name: &str) -> Put
-    ensures { OnOk result (out.new.items ≡ out.old.items ++ numbered tag.now n rest.now name.now) }
+pub fn put_numbered(out: &mut Vec<u8>, tag: &str, number: u32, rest: &str, name: &str) -> Put
+    ensures { OnOk result (out.new.items ≡ out.old.items ++ numbered tag.now number rest.now name.now) }
 {
     put(out, tag)?;
-    put_number(out, n as u64)?;
+    put_number(out, number as u64)?;
     put(out, rest)?;
     put_isolated(out, name)
 }

@@ -20,13 +20,13 @@ use ih_tables::{Bill, Cell, PatientNo};
 use std::alloc::{AllocError, Global};
 
 // How much of the line's number the cell has.
-fn amount(priced: &Priced<'_>, line: Line, c: Cell) -> u64
-    requires cell { IsCellOf priced.now.shown.now.inst.now.draft c }
+fn amount(priced: &Priced<'_>, line: Line, cell: Cell) -> u64
+    requires cell { IsCellOf priced.now.shown.now.inst.now.draft cell }
     requires line { IsLine line }
     ensures { let shown = priced.now.shown.now in result
-        ≡ count_in (part_at shown.inst.now.draft shown.plan.now c) line }
+        ≡ count_in (part_at shown.inst.now.draft shown.plan.now cell) line }
 {
-    magnitude(&priced.ledgers.part(c), line)
+    magnitude(&priced.ledgers.part(cell), line)
 }
 
 // How much of the line's number the cells have, in the order of the cells.
@@ -46,21 +46,21 @@ fn amounts(alloc: Global, priced: &Priced<'_>, line: Line) -> Result<Vec<u64>, A
     Ok(found)
 }
 
-fn before_release(shown: &Shown<'_>, p: PatientNo) -> bool
-    requires patient { p.0 < patient_count shown.now.inst.now.draft }
-    ensures { result ≡ before_release shown.now.inst.now.draft p.0 (stay_of shown.now.plan.now p.0) }
+fn before_release(shown: &Shown<'_>, patient: PatientNo) -> bool
+    requires patient { patient.0 < patient_count shown.now.inst.now.draft }
+    ensures { result ≡ before_release shown.now.inst.now.draft patient.0 (stay_of shown.now.plan.now patient.0) }
 {
-    match shown.plan.stay(p) {
+    match shown.plan.stay(patient) {
         None => false,
-        Some(at) => at.day.0 < shown.inst.patient(p).surgery_release_day,
+        Some(at) => at.day.0 < shown.inst.patient(patient).surgery_release_day,
     }
 }
 
-fn is_early(shown: &Shown<'_>, c: Cell) -> bool
-    requires cell { IsCellOf shown.now.inst.now.draft c }
-    ensures { result ≡ is_early shown.now.inst.now.draft shown.now.plan.now c }
+fn is_early(shown: &Shown<'_>, cell: Cell) -> bool
+    requires cell { IsCellOf shown.now.inst.now.draft cell }
+    ensures { result ≡ is_early shown.now.inst.now.draft shown.now.plan.now cell }
 {
-    match c {
+    match cell {
         Cell::Stay(p) => before_release(shown, p),
         Cell::RoomDay(..) => false,
         Cell::TheatreDay(..) => false,
@@ -73,24 +73,25 @@ fn is_early(shown: &Shown<'_>, c: Cell) -> bool
 
 /// Appends a cell's name, which leads to its anchor.
 #[tactic(auto, unfolding(crate::specs::Wrong::cell_link))]
-pub fn put_cell_link(out: &mut Vec<u8>, shown: &Shown<'_>, c: Cell) -> Put
-    requires { IsCellOf shown.now.inst.now.draft c }
-    ensures { OnOk result (out.new.items ≡ out.old.items ++ cell_link shown.now.inst.now.draft shown.now.first c) }
+pub fn put_cell_link(out: &mut Vec<u8>, shown: &Shown<'_>, cell: Cell) -> Put
+    requires { IsCellOf shown.now.inst.now.draft cell }
+    ensures { OnOk result (out.new.items ≡ out.old.items ++ cell_link shown.now.inst.now.draft shown.now.first cell) }
 {
     put(out, "<li><a href=#")?;
-    put_cell_anchor(out, c)?;
+    put_cell_anchor(out, cell)?;
     put(out, ">")?;
-    put_cell(out, shown, c)?;
+    put_cell(out, shown, cell)?;
     put(out, "</a>: ")
 }
 
 #[tactic(auto, unfolding(crate::specs::Wrong::item))]
-fn put_item(out: &mut Vec<u8>, shown: &Shown<'_>, line: Line, c: Cell, x: u64) -> Put
-    requires cell { IsCellOf shown.now.inst.now.draft c }
-    ensures { OnOk result (out.new.items ≡ out.old.items ++ item shown.now.inst.now.draft shown.now.first shown.now.plan.now line c x) }
+fn put_item(out: &mut Vec<u8>, shown: &Shown<'_>, line: Line, cell: Cell, value: u64) -> Put
+    requires cell { IsCellOf shown.now.inst.now.draft cell }
+    ensures { OnOk result (out.new.items
+        ≡ out.old.items ++ item shown.now.inst.now.draft shown.now.first shown.now.plan.now line cell value) }
 {
-    put_cell_link(out, shown, c)?;
-    put_amount(out, line, is_early(shown, c), x)?;
+    put_cell_link(out, shown, cell)?;
+    put_amount(out, line, is_early(shown, cell), value)?;
     put(out, "\n")
 }
 
@@ -139,7 +140,8 @@ fn put_list(out: &mut Vec<u8>, priced: &Priced<'_>, line: Line, xs: &[u64], orde
     requires all { length xs.now ≡ cell_count priced.now.shown.now.inst.now.draft }
     requires inside { All (λ n. n < length xs.now) order.now }
     ensures { let shown = priced.now.shown.now in OnOk result
-        (out.new.items ≡ out.old.items ++ list_of shown.inst.now.draft shown.first shown.plan.now line xs.now order.now) }
+        (out.new.items
+        ≡ out.old.items ++ list_of shown.inst.now.draft shown.first shown.plan.now line xs.now order.now) }
 {
     put_list_head(out, priced.bill, line)?;
     put_items(out, priced.shown, line, xs, order)?;

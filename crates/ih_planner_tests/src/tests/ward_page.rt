@@ -20,23 +20,24 @@ tr>th:first-child{position:sticky;left:0;background:var(--bg)}
 .f2{background:var(--f2)}
 .f3{background:var(--f3)}
 .f4{background:var(--f4)}
-.c,.c tbody{display:block}
-.c tr{display:flex;flex-wrap:wrap}
-.c td{white-space:normal;box-sizing:border-box;min-width:7em;color:#000}
-.c1{background:#56b4e9}
-.c2{background:#e69f00}
-.c3{background:#4cc39a}
-.c4{background:#f0e442}
-.c5{background:#dd9cbd}
-.c6{background:#e8813a}
-.c7{background:#bbb}
-.c8{background:#a9b8ff}
+.c,.c tbody,.c tr,.c td{display:block}
+.c tr{columns:17em}
+.c td{border-width:0 0 6px;padding:0;break-inside:avoid}
+.c1{border-color:#56b4e9}
+.c2{border-color:#e69f00}
+.c3{border-color:#4cc39a}
+.c4{border-color:#f0e442}
+.c5{border-color:#dd9cbd}
+.c6{border-color:#e8813a}
+.c7{border-color:#bbb}
+.c8{border-color:#a9b8ff}
 .b{background:var(--bar);color:var(--on)}
 .g .b{background:var(--bar2)}
 .o .b,.q .b{background:none;color:inherit;border:2px dashed var(--bar)}
 .q .b{border-color:var(--bar2)}
 .w{background:linear-gradient(var(--bad),var(--bad)) center/100% 2px no-repeat}
 .x{font-weight:bold;outline:2px solid var(--bad);outline-offset:-2px}
+td[id^=n]:nth-child(3n+2){border-right-color:var(--fg)}
 i{display:block;height:4px;background:var(--bar)}
 ul{columns:24em;column-gap:2em;margin:.3rem 0;padding:0;list-style:none}
 li{break-inside:avoid}
@@ -44,8 +45,13 @@ summary{font-weight:bold}
 .m{opacity:.7}
 :target{outline:3px solid var(--bad)}
 @media(max-width:600px){body{font-size:12px;margin:.5rem}.v th:first-child{white-space:normal;min-width:7em}}
-@page{size:landscape}
-@media print{body{font-size:7pt;margin:0;print-color-adjust:exact}div{overflow:visible}h2,h3{break-after:avoid}section,tr{break-inside:avoid}}
+@page{size:landscape;margin:9mm}
+@media print{body{font-size:7.5pt;line-height:1.25;margin:0;print-color-adjust:exact}div{overflow:visible}ul{columns:22em;column-gap:1em}h1,h2,h3,summary,main>p,.v tr:has(th+th){break-after:avoid}section,tr,.c,.s{break-inside:avoid}details::details-content{content-visibility:visible;display:block}
+div table{table-layout:fixed;width:100%}div td,div th{white-space:normal;overflow-wrap:anywhere;text-wrap:balance;padding:0 1px}td[id^=t],td[id^=g],.v [class] a{word-break:break-all}td[id] a{word-break:normal}
+div tbody{display:contents}div tr:first-child{display:table-header-group;break-inside:avoid}tr:first-child>th:first-child{width:7em}.v tr:first-child>th:first-child{width:10em}section th:nth-child(-n+4){width:5em}th:nth-child(2):has(+[colspan]){width:2em}
+body:has(.v th:nth-child(9)){td[id^=n],tr:nth-child(2)>th+th,th:nth-child(2):has(+[colspan]){writing-mode:vertical-rl;white-space:nowrap;text-align:left}}
+body:has(.v th:nth-child(16)) div table{font-size:7pt}
+body:has(.v th:nth-child(30)){.v td,td[id^=s],td[id^=t],td[id^=g]{writing-mode:vertical-rl;text-align:left}i{display:none}div th+th{font-size:5pt}table:has([id^=n]){display:block;tr{display:grid;grid-template-columns:7em 2em repeat(84,1fr)}th,td{min-width:0}[colspan]{grid-column:span 3}tr>:nth-child(-n+2){grid-row:1/3}}}}
 </style>
 <main>
 <h1>Feasible timetable</h1>

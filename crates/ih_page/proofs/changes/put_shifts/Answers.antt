@@ -7,14 +7,14 @@ pub loop-k-init : goal.loop-k-init
 loop-k-init c =
     let shown = c.args.both.now.shown.now in
     let O = c.args.both.now.older.now in
-    no-pieces c.args.out.now.items (shift_item shown.inst.now.draft shown.first O shown.plan.now c.args.r) (has_another O shown.plan.now c.args.r)
+    no-pieces c.args.out.now.items (shift_item shown.inst.now.draft shown.first O shown.plan.now c.args.room) (has_another O shown.plan.now c.args.room)
 
 pub loop-k-preserved : goal.loop-k-preserved
 loop-k-preserved c =
     let shown = c.args.both.now.shown.now in
     let O = c.args.both.now.older.now in
-    let another = has_another O shown.plan.now c.args.r in
-    piece-put _ _ _ (shift_item shown.inst.now.draft shown.first O shown.plan.now c.args.r) another c.loop-k.k (another c.loop-k.k) c.loop-k.invariant
+    let another = has_another O shown.plan.now c.args.room in
+    piece-put _ _ _ (shift_item shown.inst.now.draft shown.first O shown.plan.now c.args.room) another c.loop-k.k (another c.loop-k.k) c.loop-k.invariant
     refl c.in_ok-put_shift_if.ensures
 
 pub returns : goal.returns
@@ -22,5 +22,5 @@ unfolding shift_items
 returns c =
     let shown = c.args.both.now.shown.now in
     let O = c.args.both.now.older.now in
-    pieces-done _ _ (shift_item shown.inst.now.draft shown.first O shown.plan.now c.args.r) (has_another O shown.plan.now c.args.r) _ _ _
+    pieces-done _ _ (shift_item shown.inst.now.draft shown.first O shown.plan.now c.args.room) (has_another O shown.plan.now c.args.room) _ _ _
     c.loop-k.invariant c.loop-k.auto.k-end c.loop-k-test.false c.shifts-k-end.ensures

@@ -8,4 +8,4 @@ abbrev pub invariant-loop-k : goal.invariant-loop-k
 invariant-loop-k l =
     let O = l.both.older.now in
     let P = l.both.shown.now.plan.now in
-    l.out.items ≡ l.initial.out.items ++ flat_map (shift_item l.both.shown.now.inst.now.draft l.both.shown.now.first O P l.r) (which_below l.k (has_another O P l.r))
+    l.out.items ≡ l.initial.out.items ++ flat_map (shift_item l.both.shown.now.inst.now.draft l.both.shown.now.first O P l.room) (which_below l.k (has_another O P l.room))

@@ -5,4 +5,4 @@ use Rattle.ih_plan.specs.Sums.{count_below}
 use Rattle.ih_page.proofs.loads.given_rooms.Given as goal
 
 abbrev pub invariant-loop-r : goal.invariant-loop-r
-invariant-loop-r l = (l.count ≡ count_below l.r (λ r. is_number (care_of l.plan r l.k) l.n.0)) × (l.count ≤ 1 * l.r)
+invariant-loop-r l = (l.count ≡ count_below l.r (λ r. is_number (care_of l.plan r l.shift) l.nurse.0)) × (l.count ≤ 1 * l.r)

@@ -8,5 +8,5 @@ use Rattle.ih_page.proofs.loads.load_of.Given as goal
 
 abbrev pub invariant-loop-r : goal.invariant-loop-r
 invariant-loop-r l =
-    (l.sum ≡ sum_below l.r (λ r. if is_number (care_of l.plan r l.k) l.n.0 then sum_by (workload_of l.inst.draft l.plan l.k) (present l.inst.draft l.plan r (day_of l.k)) else 0))
+    (l.sum ≡ sum_below l.r (λ r. if is_number (care_of l.plan r l.shift) l.nurse.0 then sum_by (workload_of l.inst.draft l.plan l.shift) (present l.inst.draft l.plan r (day_of l.shift)) else 0))
     × (l.sum ≤ 4294967296 * 2560 * l.r)

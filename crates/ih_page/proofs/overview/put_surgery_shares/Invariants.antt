@@ -4,4 +4,4 @@ use Rattle.ih_page.specs.Overview.{surgery_share}
 use Rattle.ih_page.proofs.overview.put_surgery_shares.Given as goal
 
 abbrev pub invariant-loop-d : goal.invariant-loop-d
-invariant-loop-d l = l.out.items ≡ l.initial.out.items ++ lines_below l.d (surgery_share l.shown.inst.now.draft l.shown.plan.now l.w)
+invariant-loop-d l = l.out.items ≡ l.initial.out.items ++ lines_below l.d (surgery_share l.shown.inst.now.draft l.shown.plan.now l.resource)

@@ -13,7 +13,7 @@ known I P r k None plan e = tt
 known I P r k (Some n) plan e = plan.nursed r k n.0 (ap (option_map (λ (m : NurseNo). m.0)) (sym e))
 
 pub care-requires : goal.care-requires
-care-requires c = choice-inside c.args.inst.now.draft c.args.plan.now c.args.r c.args.k c.requires.plan c.requires.room c.requires.shift
+care-requires c = choice-inside c.args.inst.now.draft c.args.plan.now c.args.room c.args.shift c.requires.plan c.requires.room c.requires.shift
 
 pub put_nurse-requires : goal.put_nurse-requires
-put_nurse-requires c = known c.args.inst.now.draft c.args.plan.now c.args.r c.args.k c.care.result c.requires.plan c.care.ensures
+put_nurse-requires c = known c.args.inst.now.draft c.args.plan.now c.args.room c.args.shift c.care.result c.requires.plan c.care.ensures

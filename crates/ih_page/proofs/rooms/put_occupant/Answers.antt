@@ -7,9 +7,9 @@ use Rattle.ih_page.proofs.rooms.put_occupant.Goals as goal
 
 pub returns : goal.returns
 returns c =
-    let a = c.args.a.now in
+    let a = c.args.occupant.now in
     let tag = occupant_tag (is_first_gender c.args.inst.now.draft a.gender) in
-    let headed : c.put_numbered.new.out.items ≡ c.args.out.now.items ++ numbered tag c.args.x (codes "><th>") a.id
+    let headed : c.put_numbered.new.out.items ≡ c.args.out.now.items ++ numbered tag c.args.person (codes "><th>") a.id
     = cc (c.in_ok-put_numbered.ensures) in
     let told = λ (t : List ℕ). c.put_numbered.new.out.items ++ person_tds c.args.inst.now.draft t a.age_group in
     let barred = λ (t : List ℕ). c.put.new.out.items ++ bar_text c.days.result 0 0 a.length_of_stay t in

@@ -8,8 +8,8 @@ use Rattle.ih_page.proofs.rooms.put_patient_head.Goals as goal
 pub returns : goal.returns
 unfolding patient_head
 returns c =
-    let tag = patient_tag (is_first_gender c.args.inst.now.draft c.args.a.now.gender) in
-    let headed : c.put_numbered.new.out.items ≡ c.args.out.now.items ++ numbered tag c.args.p (codes "><th>") c.args.a.now.id
+    let tag = patient_tag (is_first_gender c.args.inst.now.draft c.args.patient.now.gender) in
+    let headed : c.put_numbered.new.out.items ≡ c.args.out.now.items ++ numbered tag c.args.patient_no (codes "><th>") c.args.patient.now.id
     = cc (c.in_ok-put_numbered.ensures) in
     let marked = λ (t : List ℕ). c.put_numbered.new.out.items ++ t in
     on_ok_weaker c.put.result

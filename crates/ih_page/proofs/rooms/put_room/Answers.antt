@@ -16,7 +16,7 @@ loop-j-preserved c = some-more _ _ _ _ _ c.loop-j.invariant c.in_ok-put_shift.en
 pub returns : goal.returns
 unfolding room_text
 returns c =
-    let named = λ (o : Option Room). c.args.out.now.items ++ option_map_or (room_head c.args.shown.now.inst.now.draft c.args.shown.now.first c.args.r) o [] in
+    let named = λ (o : Option Room). c.args.out.now.items ++ option_map_or (room_head c.args.shown.now.inst.now.draft c.args.shown.now.first c.args.room) o [] in
     on_ok_weaker c.put.result
     (λ d. joins5 _ _ _ _ _ _ _ _ _ _ _ (c.in_ok-put_room_head.ensures ∙ ap named (sym c.room.ensures)) c.in_ok-put_persons.ensures
     c.in_ok-put_count_row.ensures (all-lines _ _ _ _ _ _ c.loop-j.invariant c.loop-j.auto.j-end c.loop-j-test.false refl) d) c.put.ensures

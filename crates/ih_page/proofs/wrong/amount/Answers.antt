@@ -11,7 +11,7 @@ use Rattle.ih_page.proofs.wrong.amount.Goals as goal
 pub returns : goal.returns
 returns c =
     let l = c.args.line in
-    let part = λ (s : LedgersState). as_bill (part_at s.instance s.plan c.args.c) in
+    let part = λ (s : LedgersState). as_bill (part_at s.instance s.plan c.args.cell) in
     c.magnitude.ensures
     ∙ ap unsigned_abs (ap (λ (b : Bill). number_in b l) (c.part.ensures ∙ ap part c.args.priced.now.ledgers_are)
-    ∙ counted (part_at c.args.priced.now.shown.now.inst.now.draft c.args.priced.now.shown.now.plan.now c.args.c) l)
+    ∙ counted (part_at c.args.priced.now.shown.now.inst.now.draft c.args.priced.now.shown.now.plan.now c.args.cell) l)
